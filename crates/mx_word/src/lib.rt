@@ -1,0 +1,17 @@
+//! Octas, tetras and the small lists that every other crate stands on.
+//!
+//! An octa is a whole number below 2^64 and a tetra one below 2^32; in memory and in objects both
+//! stand from the high end (MMIXware, section 1; TAOCP 1, Fascicle 1, section 1.3.1').
+#![tactic(auto)]
+
+mod bytes;
+mod memory;
+mod symbols;
+mod waits;
+mod words;
+
+pub use bytes::Bytes;
+pub use memory::NoMemory;
+pub use symbols::{Symbol, Symbols, Value};
+pub use waits::{Awaited, Wait, WaitKind, Waits};
+pub use words::{octa_bytes, octa_of, product, quotient, signed, tetra_bytes, tetra_of};
