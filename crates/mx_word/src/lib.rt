@@ -7,6 +7,8 @@
 mod bytes;
 mod memory;
 mod symbols;
+#[cfg(test)]
+mod tests;
 mod waits;
 mod words;
 

@@ -1,0 +1,86 @@
+//! Values from outside.
+
+use crate::{
+    Awaited, Bytes, NoMemory, Symbol, Symbols, Value, Wait, WaitKind, Waits, octa_bytes, octa_of,
+    product, quotient, signed, tetra_bytes, tetra_of,
+};
+use std::alloc::Global;
+
+#[test]
+fn products_and_quotients(rt: HostRuntime) {
+    let most = u64::MAX;
+    // products at the edges, and one of mixed digits
+    for (x, y, want) in [
+        (0, most, (0, 0)),
+        (most, most, (0xffff_ffff_ffff_fffe, 1)),
+        (
+            0x0123_4567_89ab_cdef,
+            0xfedc_ba98_7654_3210,
+            (0x0121_fa00_ad77_d742, 0x2236_d88f_e561_8cf0),
+        ),
+    ] {
+        assert_eq!(rt; product(x, y), want, "{x} times {y}");
+    }
+    // the divisor at, below and above the high half of the dividend
+    for (d, y, z, want) in [
+        (1, 0, 2, Some((1 << 63, 0))),
+        (2, 0, 2, None),
+        (0, 0, 0, None),
+        (0, 7, 2, Some((3, 1))),
+        (5, 7, 11, Some((8_384_883_669_867_978_007, 10))),
+    ] {
+        assert_eq!(rt; quotient(d, y, z), want, "{d} and {y} by {z}");
+    }
+}
+
+#[test]
+fn bytes_of_words(rt: HostRuntime) {
+    assert_eq!(rt;
+        octa_bytes(0x0102_0304_0506_07f8),
+        [1, 2, 3, 4, 5, 6, 7, 0xf8]
+    );
+    assert_eq!(rt; octa_of([1, 2, 3, 4, 5, 6, 7, 0xf8]), 0x0102_0304_0506_07f8);
+    assert_eq!(rt; tetra_bytes(0xf5ff_ff01), [0xf5, 0xff, 0xff, 1]);
+    assert_eq!(rt; tetra_of([0xf5, 0xff, 0xff, 1]), 0xf5ff_ff01);
+    for (x, want) in [
+        (5, 5),
+        (u64::MAX, -1),
+        (1 << 63, i64::MIN),
+        ((1 << 63) - 1, i64::MAX),
+    ] {
+        assert_eq!(rt; signed(x), want, "{x}");
+    }
+}
+
+/// The lists, built with ample memory.
+fn lists(alloc: Global) -> Result<(Bytes, Symbols, Waits), NoMemory> {
+    let mut bytes = Bytes::copy(alloc, b"ab")?;
+    bytes.push(99)?;
+    bytes.extend(b"de")?;
+    bytes.overwrite(7, b"z")?;
+    let mut symbols = Symbols::new(alloc);
+    symbols.push(Symbol {
+        name: Bytes::copy(alloc, b":a")?,
+        value: Value::Reg(1),
+        serial: 1,
+    })?;
+    let mut waits = Waits::new(alloc);
+    waits.push(Wait {
+        who: Awaited::Local(2),
+        at: 256,
+        line: 3,
+        kind: WaitKind::Near,
+    })?;
+    Ok((bytes, symbols, waits))
+}
+
+#[test]
+fn lists_with_ample_memory(rt: HostRuntime) {
+    let Ok((bytes, symbols, waits)) = lists(rt.alloc()) else {
+        assert!(rt; false, "want of memory");
+        return;
+    };
+    assert!(rt; bytes.as_slice() == b"abcde\0\0z".as_slice());
+    assert_eq!(rt; symbols.as_slice().len(), 1);
+    assert_eq!(rt; waits.as_slice().len(), 1);
+}
