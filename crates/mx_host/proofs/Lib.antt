@@ -1,0 +1,3 @@
+pub mod FaultCount
+pub mod Names
+pub mod Start

@@ -1,0 +1,12 @@
+//! The files of a host that tells its contents.
+
+use mx_word::Bytes;
+
+/// A file and its name.
+#[derive(Drop)]
+pub struct StoredFile {
+    /// The name, which is any bytes.
+    pub name: Bytes,
+    /// The bytes that the file holds.
+    pub bytes: Bytes,
+}

@@ -1,0 +1,102 @@
+//! The outside, as a trait.
+
+ghost use Rattle.std.specs.Prelude.{IsTrue, ◌≡◌, ◌≢◌, ◌≤◌, ℕ, Option, Ok, Err, IfOk, IfErr, length, take, drop};
+ghost use Rattle.mx_word.specs.Results.{map_ok};
+ghost use Rattle.mx_host.specs.HostModel.{HostModel, counted, tells, contents, Rose};
+ghost use Rattle.mx_host.specs.HostAnswer.{open_answer, close_answer, read_answer, write_answer, seek_answer, tell_answer};
+
+use crate::faults::{HostFault, OpenFault};
+use crate::slots::Mode;
+
+/// What is outside: files and streams, each call on a slot from 0 to 260.
+///
+/// Slots 0 to 255 are the program's, 256 and 257 the tool's input and output file, and 258, 259 and
+/// 260 the tool's standard input, output and error.
+///
+/// Over a host that tells its contents each call answers and leaves what the rules say, or answers
+/// that there was no memory and leaves all but the number of calls. Over every host Failed comes
+/// only where the count of faults rose in that call, and over a host that tells nothing so do
+/// Absent and Misused. A count at 2^64 - 1 counts as risen.
+pub trait Host {
+    /// The contents, where the host tells them.
+    ghost told: { Self → Option HostModel };
+
+    /// How many calls have failed; it never falls.
+    ghost faults: { Self → ℕ };
+
+    /// Opens a file on a slot from 0 to 257, which is closed first if it is open.
+    ///
+    /// The modes for reading only answer Absent where the name is missing; the others make the file
+    /// or empty it. The place is 0.
+    fn open_file(&mut self, slot: u16, name: &[u8], mode: Mode) -> Result<(), OpenFault>
+        requires { slot ≤ 257 }
+        ensures answers { IsTrue (tells (told self.old)) → result ≢ Err OpenFault.OutOfMemory → (result, contents (told self.new)) ≡ open_answer (contents (told self.old)) slot name.now mode }
+        ensures memory { IsTrue (tells (told self.old)) → result ≡ Err OpenFault.OutOfMemory → contents (told self.new) ≡ counted (contents (told self.old)) }
+        ensures keeps { tells (told self.new) ≡ tells (told self.old) }
+        ensures failed { result ≡ Err OpenFault.Failed → Rose (faults self.old) (faults self.new) }
+        ensures absent { ¬ IsTrue (tells (told self.old)) → result ≡ Err OpenFault.Absent → Rose (faults self.old) (faults self.new) }
+        ensures never_falls { faults self.old ≤ faults self.new };
+
+    /// Closes a slot. Misused where it is not open.
+    fn close_slot(&mut self, slot: u16) -> Result<(), HostFault>
+        requires { slot ≤ 260 }
+        ensures answers { IsTrue (tells (told self.old)) → result ≢ Err HostFault.OutOfMemory → (result, contents (told self.new)) ≡ close_answer (contents (told self.old)) slot }
+        ensures memory { IsTrue (tells (told self.old)) → result ≡ Err HostFault.OutOfMemory → contents (told self.new) ≡ counted (contents (told self.old)) }
+        ensures keeps { tells (told self.new) ≡ tells (told self.old) }
+        ensures failed { result ≡ Err HostFault.Failed → Rose (faults self.old) (faults self.new) }
+        ensures misused { ¬ IsTrue (tells (told self.old)) → result ≡ Err HostFault.Misused → Rose (faults self.old) (faults self.new) }
+        ensures never_falls { faults self.old ≤ faults self.new };
+
+    /// Puts the next bytes at the front of `into`, moves the place past them and gives their number,
+    /// which is below the length of `into` only at the end of the input.
+    ///
+    /// Misused where the slot is not open or is for writing only.
+    fn read_slot(&mut self, slot: u16, into: &mut [u8]) -> Result<usize, HostFault>
+        requires { slot ≤ 260 }
+        ensures count { IfOk result (λ n. n ≤ length into.old) }
+        ensures answers { IsTrue (tells (told self.old)) → result ≢ Err HostFault.OutOfMemory → (map_ok (λ n. take n into.new) result, contents (told self.new)) ≡ read_answer (contents (told self.old)) slot (length into.old) }
+        ensures rest { IsTrue (tells (told self.old)) → IfOk result (λ n. drop n into.new ≡ drop n into.old) }
+        ensures unread { IsTrue (tells (told self.old)) → IfErr result (λ _. into.new ≡ into.old) }
+        ensures memory { IsTrue (tells (told self.old)) → result ≡ Err HostFault.OutOfMemory → contents (told self.new) ≡ counted (contents (told self.old)) }
+        ensures keeps { tells (told self.new) ≡ tells (told self.old) }
+        ensures failed { result ≡ Err HostFault.Failed → Rose (faults self.old) (faults self.new) }
+        ensures misused { ¬ IsTrue (tells (told self.old)) → result ≡ Err HostFault.Misused → Rose (faults self.old) (faults self.new) }
+        ensures never_falls { faults self.old ≤ faults self.new };
+
+    /// Writes all these bytes at the place and moves the place past them; on standard output and
+    /// error it appends them. A gap before the place is filled with zeros.
+    ///
+    /// Misused where the slot is not open or is for reading only.
+    fn write_slot(&mut self, slot: u16, from: &[u8]) -> Result<(), HostFault>
+        requires { slot ≤ 260 }
+        ensures answers { IsTrue (tells (told self.old)) → result ≢ Err HostFault.OutOfMemory → (result, contents (told self.new)) ≡ write_answer (contents (told self.old)) slot from.now }
+        ensures memory { IsTrue (tells (told self.old)) → result ≡ Err HostFault.OutOfMemory → contents (told self.new) ≡ counted (contents (told self.old)) }
+        ensures keeps { tells (told self.new) ≡ tells (told self.old) }
+        ensures failed { result ≡ Err HostFault.Failed → Rose (faults self.old) (faults self.new) }
+        ensures misused { ¬ IsTrue (tells (told self.old)) → result ≡ Err HostFault.Misused → Rose (faults self.old) (faults self.new) }
+        ensures never_falls { faults self.old ≤ faults self.new };
+
+    /// Moves the place to `to` where it is at least 0, and otherwise to length + to + 1, so that -1
+    /// means the end.
+    ///
+    /// Misused where the slot is not a file in a binary mode or the new place would lie outside 0 to
+    /// the length.
+    fn seek_slot(&mut self, slot: u16, to: i64) -> Result<(), HostFault>
+        requires { slot ≤ 260 }
+        ensures answers { IsTrue (tells (told self.old)) → result ≢ Err HostFault.OutOfMemory → (result, contents (told self.new)) ≡ seek_answer (contents (told self.old)) slot to }
+        ensures memory { IsTrue (tells (told self.old)) → result ≡ Err HostFault.OutOfMemory → contents (told self.new) ≡ counted (contents (told self.old)) }
+        ensures keeps { tells (told self.new) ≡ tells (told self.old) }
+        ensures failed { result ≡ Err HostFault.Failed → Rose (faults self.old) (faults self.new) }
+        ensures misused { ¬ IsTrue (tells (told self.old)) → result ≡ Err HostFault.Misused → Rose (faults self.old) (faults self.new) }
+        ensures never_falls { faults self.old ≤ faults self.new };
+
+    /// The place, in bytes from the start. Misused where the slot is not a file in a binary mode.
+    fn tell_slot(&mut self, slot: u16) -> Result<u64, HostFault>
+        requires { slot ≤ 260 }
+        ensures answers { IsTrue (tells (told self.old)) → result ≢ Err HostFault.OutOfMemory → (result, contents (told self.new)) ≡ tell_answer (contents (told self.old)) slot }
+        ensures memory { IsTrue (tells (told self.old)) → result ≡ Err HostFault.OutOfMemory → contents (told self.new) ≡ counted (contents (told self.old)) }
+        ensures keeps { tells (told self.new) ≡ tells (told self.old) }
+        ensures failed { result ≡ Err HostFault.Failed → Rose (faults self.old) (faults self.new) }
+        ensures misused { ¬ IsTrue (tells (told self.old)) → result ≡ Err HostFault.Misused → Rose (faults self.old) (faults self.new) }
+        ensures never_falls { faults self.old ≤ faults self.new };
+}
