@@ -56,7 +56,7 @@ opened false m slot name mode None =
 opened false m slot name mode (Some at) =
     (Ok tt, with_slot (record m { files = with_bytes m.files at [] }) slot (Open (File at) mode 0))
 
-abbrev pub open_answer : HostModel → ℕ → List ℕ → Mode → Then (Result (Unit {0}) OpenFault)
+unfoldable pub open_answer : HostModel → ℕ → List ℕ → Mode → Then (Result (Unit {0}) OpenFault)
 open_answer m slot name mode =
     if is_failing m then (Err opening.Failed, counted m)
     else opened (is_read_only mode) (counted m) slot name mode (place_of m.files name)
@@ -65,7 +65,7 @@ abbrev pub closed : HostModel → ℕ → Slot → Then (Result (Unit {0}) HostF
 closed m slot Closed = (Err Misused, m)
 closed m slot (Open lead mode place) = (Ok tt, with_slot m slot Closed)
 
-abbrev pub close_answer : HostModel → ℕ → Then (Result (Unit {0}) HostFault)
+unfoldable pub close_answer : HostModel → ℕ → Then (Result (Unit {0}) HostFault)
 close_answer m slot = if is_failing m then (Err Failed, counted m) else closed (counted m) slot (slot_at m slot)
 
 -- ---- reading and writing
@@ -84,7 +84,7 @@ read_from m slot len Closed = (Err Misused, m)
 read_from m slot len (Open lead mode place) =
     if is_write_only mode then (Err Misused, m) else read_lead m slot len lead mode place
 
-abbrev pub read_answer : HostModel → ℕ → ℕ → Then (Result (List ℕ) HostFault)
+unfoldable pub read_answer : HostModel → ℕ → ℕ → Then (Result (List ℕ) HostFault)
 read_answer m slot len = if is_failing m then (Err Failed, counted m) else read_from (counted m) slot len (slot_at m slot)
 
 -- a file's bytes are replaced at the place, and extended; a stream's are appended
@@ -100,7 +100,7 @@ write_to m slot from Closed = (Err Misused, m)
 write_to m slot from (Open lead mode place) =
     if is_read_only mode then (Err Misused, m) else write_lead m slot from lead mode place
 
-abbrev pub write_answer : HostModel → ℕ → List ℕ → Then (Result (Unit {0}) HostFault)
+unfoldable pub write_answer : HostModel → ℕ → List ℕ → Then (Result (Unit {0}) HostFault)
 write_answer m slot from = if is_failing m then (Err Failed, counted m) else write_to (counted m) slot from (slot_at m slot)
 
 -- ---- the place
@@ -125,7 +125,7 @@ abbrev pub seek_in : HostModel → ℕ → ℤ → Slot → Then (Result (Unit {
 seek_in m slot to Closed = (Err Misused, m)
 seek_in m slot to (Open lead mode place) = if is_binary mode then seek_lead m slot to lead mode else (Err Misused, m)
 
-abbrev pub seek_answer : HostModel → ℕ → ℤ → Then (Result (Unit {0}) HostFault)
+unfoldable pub seek_answer : HostModel → ℕ → ℤ → Then (Result (Unit {0}) HostFault)
 seek_answer m slot to = if is_failing m then (Err Failed, counted m) else seek_in (counted m) slot to (slot_at m slot)
 
 abbrev pub place_told : Lead → ℕ → Result ℕ HostFault
@@ -138,7 +138,7 @@ abbrev pub place_in : Slot → Result ℕ HostFault
 place_in Closed = Err Misused
 place_in (Open lead mode place) = if is_binary mode then place_told lead place else Err Misused
 
-abbrev pub tell_answer : HostModel → ℕ → Then (Result ℕ HostFault)
+unfoldable pub tell_answer : HostModel → ℕ → Then (Result ℕ HostFault)
 tell_answer m slot = if is_failing m then (Err Failed, counted m) else (place_in (slot_at m slot), counted m)
 
 -- ---- files that are put there and looked at, which are no calls

@@ -24,11 +24,11 @@ pub record HostModel : Type 0 where
   pub failing : List ℕ
 
 -- whether a host of which this is told tells its contents
-abbrev pub tells : Option HostModel → Bool
+unfoldable pub tells : Option HostModel → Bool
 tells told = is_some told
 
 -- the contents that are told; where there are none, a model that stands for nothing
-abbrev pub contents : Option HostModel → HostModel
+unfoldable pub contents : Option HostModel → HostModel
 contents (Some m) = m
 contents None = record { files = []; slots = []; input = []; output = []; errors = []; calls = 0; failing = [] }
 

@@ -9,6 +9,7 @@ use crate::faults::{HostFault, OpenFault};
 use crate::host::Host;
 use crate::slots::{Lead, Mode, Slot};
 
+#[tactic(auto, unfolding(crate::specs::HostModel::tells, crate::specs::HostModel::contents, crate::specs::HostAnswer::open_answer, crate::specs::HostAnswer::close_answer, crate::specs::HostAnswer::read_answer, crate::specs::HostAnswer::write_answer, crate::specs::HostAnswer::seek_answer, crate::specs::HostAnswer::tell_answer))]
 impl Host for MemHost {
     ghost told = { λ h. Some h };
 
