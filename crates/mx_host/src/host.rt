@@ -30,21 +30,28 @@ pub trait Host {
     /// or empty it. The place is 0.
     fn open_file(&mut self, slot: u16, name: &[u8], mode: Mode) -> Result<(), OpenFault>
         requires { slot ≤ 257 }
-        ensures answers { IsTrue (tells (told self.old)) → result ≢ Err OpenFault.OutOfMemory → (result, contents (told self.new)) ≡ open_answer (contents (told self.old)) slot name.now mode }
-        ensures memory { IsTrue (tells (told self.old)) → result ≡ Err OpenFault.OutOfMemory → contents (told self.new) ≡ counted (contents (told self.old)) }
+        ensures answers { IsTrue (tells (told self.old)) → result ≢ Err OpenFault.OutOfMemory →
+            (result, contents (told self.new))
+            ≡ open_answer (contents (told self.old)) slot name.now mode }
+        ensures memory { IsTrue (tells (told self.old)) → result ≡ Err OpenFault.OutOfMemory →
+            contents (told self.new) ≡ counted (contents (told self.old)) }
         ensures keeps { tells (told self.new) ≡ tells (told self.old) }
         ensures failed { result ≡ Err OpenFault.Failed → Rose (faults self.old) (faults self.new) }
-        ensures absent { ¬ IsTrue (tells (told self.old)) → result ≡ Err OpenFault.Absent → Rose (faults self.old) (faults self.new) }
+        ensures absent { ¬ IsTrue (tells (told self.old)) → result ≡ Err OpenFault.Absent →
+            Rose (faults self.old) (faults self.new) }
         ensures never_falls { faults self.old ≤ faults self.new };
 
     /// Closes a slot. Misused where it is not open.
     fn close_slot(&mut self, slot: u16) -> Result<(), HostFault>
         requires { slot ≤ 260 }
-        ensures answers { IsTrue (tells (told self.old)) → result ≢ Err HostFault.OutOfMemory → (result, contents (told self.new)) ≡ close_answer (contents (told self.old)) slot }
-        ensures memory { IsTrue (tells (told self.old)) → result ≡ Err HostFault.OutOfMemory → contents (told self.new) ≡ counted (contents (told self.old)) }
+        ensures answers { IsTrue (tells (told self.old)) → result ≢ Err HostFault.OutOfMemory →
+            (result, contents (told self.new)) ≡ close_answer (contents (told self.old)) slot }
+        ensures memory { IsTrue (tells (told self.old)) → result ≡ Err HostFault.OutOfMemory →
+            contents (told self.new) ≡ counted (contents (told self.old)) }
         ensures keeps { tells (told self.new) ≡ tells (told self.old) }
         ensures failed { result ≡ Err HostFault.Failed → Rose (faults self.old) (faults self.new) }
-        ensures misused { ¬ IsTrue (tells (told self.old)) → result ≡ Err HostFault.Misused → Rose (faults self.old) (faults self.new) }
+        ensures misused { ¬ IsTrue (tells (told self.old)) → result ≡ Err HostFault.Misused →
+            Rose (faults self.old) (faults self.new) }
         ensures never_falls { faults self.old ≤ faults self.new };
 
     /// Puts the next bytes at the front of `into`, moves the place past them and gives their number,
@@ -54,13 +61,18 @@ pub trait Host {
     fn read_slot(&mut self, slot: u16, into: &mut [u8]) -> Result<usize, HostFault>
         requires { slot ≤ 260 }
         ensures count { IfOk result (λ n. n ≤ length into.old) }
-        ensures answers { IsTrue (tells (told self.old)) → result ≢ Err HostFault.OutOfMemory → (map_ok (λ n. take n into.new) result, contents (told self.new)) ≡ read_answer (contents (told self.old)) slot (length into.old) }
-        ensures rest { IsTrue (tells (told self.old)) → IfOk result (λ n. drop n into.new ≡ drop n into.old) }
+        ensures answers { IsTrue (tells (told self.old)) → result ≢ Err HostFault.OutOfMemory →
+            (map_ok (λ n. take n into.new) result, contents (told self.new))
+            ≡ read_answer (contents (told self.old)) slot (length into.old) }
+        ensures rest { IsTrue (tells (told self.old)) →
+            IfOk result (λ n. drop n into.new ≡ drop n into.old) }
         ensures unread { IsTrue (tells (told self.old)) → IfErr result (λ _. into.new ≡ into.old) }
-        ensures memory { IsTrue (tells (told self.old)) → result ≡ Err HostFault.OutOfMemory → contents (told self.new) ≡ counted (contents (told self.old)) }
+        ensures memory { IsTrue (tells (told self.old)) → result ≡ Err HostFault.OutOfMemory →
+            contents (told self.new) ≡ counted (contents (told self.old)) }
         ensures keeps { tells (told self.new) ≡ tells (told self.old) }
         ensures failed { result ≡ Err HostFault.Failed → Rose (faults self.old) (faults self.new) }
-        ensures misused { ¬ IsTrue (tells (told self.old)) → result ≡ Err HostFault.Misused → Rose (faults self.old) (faults self.new) }
+        ensures misused { ¬ IsTrue (tells (told self.old)) → result ≡ Err HostFault.Misused →
+            Rose (faults self.old) (faults self.new) }
         ensures never_falls { faults self.old ≤ faults self.new };
 
     /// Writes all these bytes at the place and moves the place past them; on standard output and
@@ -69,11 +81,15 @@ pub trait Host {
     /// Misused where the slot is not open or is for reading only.
     fn write_slot(&mut self, slot: u16, from: &[u8]) -> Result<(), HostFault>
         requires { slot ≤ 260 }
-        ensures answers { IsTrue (tells (told self.old)) → result ≢ Err HostFault.OutOfMemory → (result, contents (told self.new)) ≡ write_answer (contents (told self.old)) slot from.now }
-        ensures memory { IsTrue (tells (told self.old)) → result ≡ Err HostFault.OutOfMemory → contents (told self.new) ≡ counted (contents (told self.old)) }
+        ensures answers { IsTrue (tells (told self.old)) → result ≢ Err HostFault.OutOfMemory →
+            (result, contents (told self.new))
+            ≡ write_answer (contents (told self.old)) slot from.now }
+        ensures memory { IsTrue (tells (told self.old)) → result ≡ Err HostFault.OutOfMemory →
+            contents (told self.new) ≡ counted (contents (told self.old)) }
         ensures keeps { tells (told self.new) ≡ tells (told self.old) }
         ensures failed { result ≡ Err HostFault.Failed → Rose (faults self.old) (faults self.new) }
-        ensures misused { ¬ IsTrue (tells (told self.old)) → result ≡ Err HostFault.Misused → Rose (faults self.old) (faults self.new) }
+        ensures misused { ¬ IsTrue (tells (told self.old)) → result ≡ Err HostFault.Misused →
+            Rose (faults self.old) (faults self.new) }
         ensures never_falls { faults self.old ≤ faults self.new };
 
     /// Moves the place to `to` where it is at least 0, and otherwise to length + to + 1, so that -1
@@ -83,20 +99,26 @@ pub trait Host {
     /// the length.
     fn seek_slot(&mut self, slot: u16, to: i64) -> Result<(), HostFault>
         requires { slot ≤ 260 }
-        ensures answers { IsTrue (tells (told self.old)) → result ≢ Err HostFault.OutOfMemory → (result, contents (told self.new)) ≡ seek_answer (contents (told self.old)) slot to }
-        ensures memory { IsTrue (tells (told self.old)) → result ≡ Err HostFault.OutOfMemory → contents (told self.new) ≡ counted (contents (told self.old)) }
+        ensures answers { IsTrue (tells (told self.old)) → result ≢ Err HostFault.OutOfMemory →
+            (result, contents (told self.new)) ≡ seek_answer (contents (told self.old)) slot to }
+        ensures memory { IsTrue (tells (told self.old)) → result ≡ Err HostFault.OutOfMemory →
+            contents (told self.new) ≡ counted (contents (told self.old)) }
         ensures keeps { tells (told self.new) ≡ tells (told self.old) }
         ensures failed { result ≡ Err HostFault.Failed → Rose (faults self.old) (faults self.new) }
-        ensures misused { ¬ IsTrue (tells (told self.old)) → result ≡ Err HostFault.Misused → Rose (faults self.old) (faults self.new) }
+        ensures misused { ¬ IsTrue (tells (told self.old)) → result ≡ Err HostFault.Misused →
+            Rose (faults self.old) (faults self.new) }
         ensures never_falls { faults self.old ≤ faults self.new };
 
     /// The place, in bytes from the start. Misused where the slot is not a file in a binary mode.
     fn tell_slot(&mut self, slot: u16) -> Result<u64, HostFault>
         requires { slot ≤ 260 }
-        ensures answers { IsTrue (tells (told self.old)) → result ≢ Err HostFault.OutOfMemory → (result, contents (told self.new)) ≡ tell_answer (contents (told self.old)) slot }
-        ensures memory { IsTrue (tells (told self.old)) → result ≡ Err HostFault.OutOfMemory → contents (told self.new) ≡ counted (contents (told self.old)) }
+        ensures answers { IsTrue (tells (told self.old)) → result ≢ Err HostFault.OutOfMemory →
+            (result, contents (told self.new)) ≡ tell_answer (contents (told self.old)) slot }
+        ensures memory { IsTrue (tells (told self.old)) → result ≡ Err HostFault.OutOfMemory →
+            contents (told self.new) ≡ counted (contents (told self.old)) }
         ensures keeps { tells (told self.new) ≡ tells (told self.old) }
         ensures failed { result ≡ Err HostFault.Failed → Rose (faults self.old) (faults self.new) }
-        ensures misused { ¬ IsTrue (tells (told self.old)) → result ≡ Err HostFault.Misused → Rose (faults self.old) (faults self.new) }
+        ensures misused { ¬ IsTrue (tells (told self.old)) → result ≡ Err HostFault.Misused →
+            Rose (faults self.old) (faults self.new) }
         ensures never_falls { faults self.old ≤ faults self.new };
 }

@@ -134,8 +134,11 @@ impl MemHost {
     fn next_call(&mut self) -> bool
         ensures fails { result ≡ is_failing self.old }
         ensures counts { self.new ≡ counted self.old }
-        ensures never_falls { fault_count self.old.calls self.old.failing ≤ fault_count self.new.calls self.new.failing }
-        ensures rises { result ≡ true → fault_count self.old.calls self.old.failing < fault_count self.new.calls self.new.failing }
+        ensures never_falls { fault_count self.old.calls self.old.failing
+            ≤ fault_count self.new.calls self.new.failing }
+        ensures rises { result ≡ true →
+            fault_count self.old.calls self.old.failing
+            < fault_count self.new.calls self.new.failing }
     {
         if self.calls == u64::MAX {
             return false;

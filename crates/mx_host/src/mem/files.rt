@@ -45,8 +45,10 @@ impl MemHost {
         requires at { at < length self.now.files }
         requires place { place < 2 ^ 63 }
         ensures fits { place + result < 2 ^ 63 }
-        ensures count { result ≡ length (take (length into.old) (drop place (spec.bytes_at self.now.files at))) }
-        ensures bytes { into.new ≡ take (length into.old) (drop place (spec.bytes_at self.now.files at)) ++ drop result into.old }
+        ensures count { result
+            ≡ length (take (length into.old) (drop place (spec.bytes_at self.now.files at))) }
+        ensures bytes { into.new
+            ≡ take (length into.old) (drop place (spec.bytes_at self.now.files at)) ++ drop result into.old }
     {
         let bytes = self.files[at].bytes.as_slice();
         copy_front(bytes, place, into)
@@ -64,7 +66,12 @@ impl MemHost {
         requires slot { slot ≤ 260 }
         requires at { at < length self.old.files }
         requires place { place < 2 ^ 63 }
-        ensures ok { OnOk result (self.new ≡ with_slot (record self.old { files = spec.with_bytes self.old.files at (overwritten (spec.bytes_at self.old.files at) place from.now) }) slot (Slot.Open (Lead.File at) mode (place + length from.now))) }
+        ensures ok { OnOk result (self.new ≡ with_slot
+            (record self.old {
+              files = spec.with_bytes self.old.files at
+                  (overwritten (spec.bytes_at self.old.files at) place from.now);
+            })
+            slot (Slot.Open (Lead.File at) mode (place + length from.now))) }
         ensures err { IfErr result (λ e. (e ≡ HostFault.OutOfMemory) × (self.new ≡ self.old)) }
     {
         if from.len() >= (1 << 63) - place {
@@ -109,7 +116,8 @@ impl MemHost {
     #[tactic(auto, using(crate::proofs::Names::distinct))]
     pub(super) fn add_file(&mut self, name: &[u8], bytes: Bytes) -> Result<(), NoMemory>
         requires { place_of self.old.files name.now ≡ None }
-        ensures ok { OnOk result (self.new ≡ record self.old { files = self.old.files ++ record { name = name.now; bytes = bytes } ∷ [] }) }
+        ensures ok { OnOk result (self.new ≡ record self.old
+            { files = self.old.files ++ record { name = name.now; bytes = bytes } ∷ [] }) }
         ensures err { OnErr result (self.new ≡ self.old) }
     {
         let name = Bytes::copy(self.alloc, name)?;
@@ -123,7 +131,9 @@ impl MemHost {
     pub(super) fn make(&mut self, slot: u16, name: &[u8], mode: Mode) -> Result<(), OpenFault>
         requires slot { slot ≤ 260 }
         requires missing { place_of self.old.files name.now ≡ None }
-        ensures ok { OnOk result (self.new ≡ with_slot (record self.old { files = self.old.files ++ spec.empty_file name.now ∷ [] }) slot (Slot.Open (Lead.File (length self.old.files)) mode 0)) }
+        ensures ok { OnOk result (self.new ≡ with_slot
+            (record self.old { files = self.old.files ++ spec.empty_file name.now ∷ [] })
+            slot (Slot.Open (Lead.File (length self.old.files)) mode 0)) }
         ensures err { IfErr result (λ e. (e ≡ OpenFault.OutOfMemory) × (self.new ≡ self.old)) }
     {
         let at = self.files.len();
