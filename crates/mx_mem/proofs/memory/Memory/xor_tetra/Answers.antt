@@ -1,6 +1,4 @@
-use Rattle.std.proofs.Common.{◌≡◌, ◌∙◌, ap, sym, bit_xor}
 use Rattle.std.proofs.lemmas.Result.{on_ok_weaker}
-use Rattle.mx_mem.specs.Memory.{octa_at, stored_at, joined}
 use Rattle.mx_mem.proofs.Joins.{stored-joined, joined-bytes}
 use Rattle.mx_mem.proofs.memory.Memory.xor_tetra.Goals as goal
 
