@@ -1,7 +1,6 @@
 //! Memory as an ordered map of octas and a set of pages.
 
-ghost use Rattle.std.specs.Prelude.{◌≡◌, ◌≢◌, ◌↔◌, ◌≤◌, ◌<◌, ◌+◌, ◌/◌, ◌^◌, ℕ, false, IsTrue, OnOk, OnErr, if◌then◌else◌};
-ghost use Rattle.std.specs.Prelude.{◌==◌};
+ghost use Rattle.std.specs.Prelude.{◌≡◌, ◌≢◌, ◌↔◌, ◌≤◌, ◌<◌, ◌+◌, ◌/◌, ◌^◌, ◌==◌, ℕ, false, IsTrue, OnOk, OnErr, if◌then◌else◌};
 ghost use Rattle.std.specs.Ordering.{nat_cmp};
 ghost use Rattle.std.specs.BTreeMap.{get};
 ghost use Rattle.mx_mem.specs.Memory.{octa_at, byte_at, has_page, page_count, is_refused, with_page, stored_at, in_half, joined, joined_bytes, IsNextNonzero};
