@@ -1,0 +1,8 @@
+#![tactic(auto)]
+
+mod answer;
+mod arithmetic;
+mod names;
+
+pub use answer::{Answer, Event, Extra};
+pub use names::{Arithmetic, Bitwise, Condition, Wyde};
