@@ -2,6 +2,7 @@
 
 mod answer;
 mod arithmetic;
+mod bitwise;
 mod names;
 
 pub use answer::{Answer, Event, Extra};
