@@ -2,8 +2,8 @@
 use Rattle.std.proofs.Common.{◌≡◌, ℕ, ◌+◌, ◌-◌, ◌*◌, ◌/◌, ◌%◌, ◌^◌, ◌<◌, ◌≤◌, zero, suc, min, max, Bool, true, false, cond, eqb, refl, sym, ◌∙◌, ap, arith, bit_or, bit_xor, bit_and, one-mul}
 use Rattle.std.specs.Prelude.{not, ◌||◌, ◌&&◌}
 use Rattle.std.proofs.lemmas.Grind.{common_steps}
-use Rattle.std.proofs.lemmas.Nat.{or_lt, xor_lt, and_le_l, ones_cat}
-use Rattle.std.proofs.lemmas.Nat.Bits.{bit_at_and, bit_at_or, bit_at_xor, bit_at_not, bit_at-lt}
+use Rattle.std.proofs.lemmas.Nat.{or_lt, xor_lt, and_le_l, ones_cat, shr_split}
+use Rattle.std.proofs.lemmas.Nat.Bits.{bit_at_and, bit_at_or, bit_at_xor, bit_at_not, bit_at-lt, bit_at_cat_low}
 use Rattle.std.specs.Int.{bit_at, bit_not, w64}
 use lib.Count.{ones, ones_in}
 use Rattle.mx_alu.specs.Numbers.{field, fields, count_of, bit, of_bits}
@@ -138,3 +138,18 @@ pub sadd-is : (y z : ℕ) → y < 2 ^ 64 → z < 2 ^ 64 → ones (bit_and y (2 ^
 sadd-is y z l k = ap ones (andn-is y z l k) ∙ ones-fields 64 (λ i. bit y i && not (bit z i))
 
 pub ruleset logic = (or-is, orn-is, nor-is, xor-is, and-is, andn-is, nand-is, nxor-is, mux-is, sadd-is)
+
+-- only the low 64 bits count
+low-bit : (v i : ℕ) → i < 64 → bit (v % 2 ^ 64) i ≡ bit v i
+low-bit v i h = ap (λ d. eqb d 1) (sym (bit_at_cat_low (v / 2 ^ 64) 64 (v % 2 ^ 64) i h) ∙ ap (λ n. bit_at n i) (shr_split v 64))
+
+each-low : (f : Bool → Bool → Bool) (y v : ℕ) → each_bit f y (v % 2 ^ 64) ≡ each_bit f y v
+each-low f y v = fields-same 1 64 _ _ (λ i h. ap (λ c. cond (f (bit y i) c) 1 0) (low-bit v i h))
+
+pub or-wyde : (x v : ℕ) → x < 2 ^ 64 → bit_or x (v % 2 ^ 64) ≡ each_bit (λ b c. b || c) x v
+or-wyde x v l = or-is x (v % 2 ^ 64) l (omega arith) ∙ each-low (λ b c. b || c) x v
+
+pub andn-wyde : (x v : ℕ) → x < 2 ^ 64 → bit_and x (2 ^ 64 - 1 - v % 2 ^ 64) ≡ each_bit (λ b c. b && not c) x v
+andn-wyde x v l = andn-is x (v % 2 ^ 64) l (omega arith) ∙ each-low (λ b c. b && not c) x v
+
+pub ruleset wydes = (or-wyde, andn-wyde)
