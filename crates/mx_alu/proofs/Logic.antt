@@ -110,8 +110,8 @@ chosen-bit false false false = refl
 pub mux-is : (m y z : ℕ) → m < 2 ^ 64 → y < 2 ^ 64 → z < 2 ^ 64 → bit_or (bit_and y m) (bit_and z (2 ^ 64 - 1 - m)) ≡ of_bits (λ i. cond (bit m i) (bit y i) (bit z i))
 mux-is m y z lm ly lz = bits-is _ _ (or_lt 64 _ _ (and-lt y _ ly) (and-lt z _ lz))
     (λ i h. bit-or _ _ i ∙ ap (λ b. b || bit (bit_and z (2 ^ 64 - 1 - m)) i) (bit-and y m i)
-        ∙ ap (λ c. (bit y i && bit m i) || c) (bit-and z _ i ∙ ap (λ c. bit z i && c) (bit-not m i lm h))
-        ∙ chosen-bit (bit m i) (bit y i) (bit z i))
+    ∙ ap (λ c. (bit y i && bit m i) || c) (bit-and z _ i ∙ ap (λ c. bit z i && c) (bit-not m i lm h))
+    ∙ chosen-bit (bit m i) (bit y i) (bit z i))
 
 ones-digit : (b : Bool) → ones (cond b 1 0) ≡ cond b 1 0
 unfolding ones ones_in

@@ -35,7 +35,7 @@ at_place code z = z * 2 ^ (48 - 16 * (code % 4))
 
 -- What a code gives: y and z are $Y and $Z or Z; at NEG and NEGU y is the byte Y; at a wyde y is the old $X
 -- and z is YZ.
-abbrev pub alu : ℕ → ℕ → ℕ → Extra → Answer
+unfoldable pub alu : ℕ → ℕ → ℕ → Extra → Answer
 alu code y z e =
     if nat_lt code 0xc0 then arithmetic (arithmetic_name code) y z e.d
     else if nat_lt code 0xe0 then alone (bitwise (bitwise_name code) y z e.m)

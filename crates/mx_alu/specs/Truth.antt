@@ -20,5 +20,5 @@ abbrev pub condition : ℕ → Condition
 condition code = slice_index_or (Negative ∷ Zero ∷ Positive ∷ Odd ∷ NotNegative ∷ NotZero ∷ NotPositive ∷ Even ∷ []) (code / 2 % 8) Negative
 
 -- whether the condition of a code holds of the signed value of an octa
-abbrev pub truth : ℕ → ℕ → Bool
+unfoldable pub truth : ℕ → ℕ → Bool
 truth code x = holds (condition code) (signed_value x)

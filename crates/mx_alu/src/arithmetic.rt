@@ -7,7 +7,8 @@ ghost use Rattle.mx_alu.specs.Answers.{checked};
 ghost use Rattle.mx_alu.specs.Numbers.{octa, floor_by, floor_quotient};
 
 use crate::answer::{low, overflow};
-use crate::{Answer, Arithmetic, Event};
+use crate::names::Arithmetic;
+use crate::{Answer, Event};
 use mx_word::{product, quotient, signed};
 use std::cmp::Ordering;
 
@@ -88,7 +89,11 @@ fn floor(y: u64, z: u64) -> i128
 {
     let a = value(y);
     let b = value(z);
-    if b < 0 { (-a).div_euclid(-b) } else { a.div_euclid(b) }
+    if b < 0 {
+        (-a).div_euclid(-b)
+    } else {
+        a.div_euclid(b)
+    }
 }
 
 /// The quotient of the long dividend of rD and y, with the remainder in rR, where the quotient is

@@ -4,7 +4,7 @@ ghost use Rattle.std.specs.Prelude.{◌≡◌, ◌+◌, ◌*◌, ◌/◌, ◌%�
 ghost use Rattle.mx_alu.specs.Bits as spec;
 ghost use Rattle.mx_alu.specs.Numbers.{bit, field, fields};
 
-use crate::Bitwise;
+use crate::names::Bitwise;
 
 /// The octa that the instruction of this name gives; m is rM.
 #[tactic(auto, using(crate::proofs::Logic::logic))]

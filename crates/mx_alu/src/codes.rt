@@ -4,13 +4,13 @@ ghost use Rattle.std.specs.Prelude.{◌≡◌, ◌≤◌, IsTrue};
 ghost use Rattle.mx_alu.specs.Codes as spec;
 ghost use Rattle.mx_alu.specs.Truth as conditions;
 
-use crate::names::{ARITHMETIC, BITWISE, CONDITIONS, WYDES};
-use crate::{Answer, Arithmetic, Bitwise, Condition, Extra, Wyde};
-use crate::{arithmetic, bitwise, wyde};
+use crate::names::{ARITHMETIC, Arithmetic, BITWISE, Bitwise, CONDITIONS, Condition, WYDES, Wyde};
+use crate::{Answer, Extra, arithmetic, bitwise, wyde};
 use mx_word::signed;
 
 /// What the instruction of this code, from #18 to #3f or from #c0 to #ef, gives: y and z are $Y and
 /// $Z or Z. At NEG and NEGU y is the byte Y; from #e0 on y is the old $X and z is YZ.
+#[tactic(auto, unfolding(crate::specs::Codes::alu))]
 pub fn alu(code: u8, y: u64, z: u64, extra: Extra) -> Answer
     requires { IsTrue (spec.is_alu code) }
     ensures { result ≡ spec.alu code y z extra }
@@ -59,6 +59,7 @@ fn condition(code: u8) -> Condition
 }
 
 /// Whether the condition of a code from #40 to #7f holds of the signed value of an octa.
+#[tactic(auto, unfolding(crate::specs::Truth::truth))]
 pub fn truth(code: u8, x: u64) -> bool
     requires low { 0x40 ≤ code }
     requires high { code ≤ 0x7f }

@@ -10,8 +10,9 @@ mod arithmetic;
 mod bitwise;
 mod codes;
 mod names;
+#[cfg(test)]
+mod tests;
 mod wyde;
 
 pub use answer::{Answer, Event, Extra};
 pub use codes::{alu, truth};
-pub use names::{Arithmetic, Bitwise, Condition, Wyde};

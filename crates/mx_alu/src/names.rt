@@ -2,7 +2,7 @@
 
 /// The names from #18 to #3f, each with two codes.
 #[derive(Clone, Copy, Debug, PartialEq, Eq)]
-pub enum Arithmetic {
+pub(crate) enum Arithmetic {
     Mul,
     Mulu,
     Div,
@@ -27,7 +27,7 @@ pub enum Arithmetic {
 
 /// The names from #c0 to #df, each with two codes.
 #[derive(Clone, Copy, Debug, PartialEq, Eq)]
-pub enum Bitwise {
+pub(crate) enum Bitwise {
     Or,
     Orn,
     Nor,
@@ -49,7 +49,7 @@ pub enum Bitwise {
 /// The names from #e0 to #ef without the wyde that they mean, each with four codes: for the high
 /// wyde, the medium high, the medium low and the low one.
 #[derive(Clone, Copy, Debug, PartialEq, Eq)]
-pub enum Wyde {
+pub(crate) enum Wyde {
     Set,
     Inc,
     OrIn,
@@ -58,7 +58,7 @@ pub enum Wyde {
 
 /// The conditions of the branches, in the order of their codes: each has two in a row of sixteen.
 #[derive(Clone, Copy, Debug, PartialEq, Eq)]
-pub enum Condition {
+pub(crate) enum Condition {
     Negative,
     Zero,
     Positive,

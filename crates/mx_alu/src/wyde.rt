@@ -3,7 +3,7 @@
 ghost use Rattle.std.specs.Prelude.{◌≡◌, ◌*◌, ◌^◌, ◌<◌};
 ghost use Rattle.mx_alu.specs.Wydes as spec;
 
-use crate::Wyde;
+use crate::names::Wyde;
 
 /// The octa that the instruction of this name makes of the old $X and of its wyde, which stands at
 /// a place.
