@@ -1,9 +1,8 @@
 -- Numbers made of fields.
-use Rattle.std.proofs.Common.{◌≡◌, ℕ, ◌+◌, ◌-◌, ◌*◌, ◌/◌, ◌%◌, ◌^◌, ◌<◌, ◌≤◌, zero, suc, Bool, true, false, cond, eqb, refl, sym, ◌∙◌, ap, subst, arith, add-zero, add-one, add_comm, bit_or, bit_xor, bit_and}
-use Rattle.std.proofs.lemmas.Grind.{common_steps}
-use Rattle.std.proofs.lemmas.Nat.{pow-add, pow_pos, mod-pow-add, mul-le, mul-add-lt, shr-shr, and_mask, or_lt, xor_lt, or_shifted, ones_cat, shl_whole}
-use Rattle.std.proofs.Math.Nat.{mul_assoc, mul_comm, mul-suc, suc-mul, mul-zero, add-mul}
-use Rattle.mx_alu.specs.Numbers.{field, fields, joined, count_of, bit, of_bits}
+use Rattle.std.proofs.Common.{◌≡◌, ℕ, ◌+◌, ◌*◌, ◌/◌, ◌%◌, ◌^◌, ◌<◌, zero, suc, refl, sym, ◌∙◌, ap, arith, add-one, add_comm}
+use Rattle.std.proofs.lemmas.Nat.{pow-add, mod-pow-add, mul-add-lt}
+use Rattle.std.proofs.Math.Nat.{mul-suc, mul-zero, add-mul}
+use Rattle.mx_alu.specs.Numbers.{field, fields}
 
 -- fields that agree make one number
 pub fields-same : (w n : ℕ) (f g : ℕ → ℕ) → ((i : ℕ) → i < n → f i ≡ g i) → fields w n f ≡ fields w n g

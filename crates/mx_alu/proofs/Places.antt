@@ -1,6 +1,5 @@
 -- Fields of words by shifts and masks, and matrices of bits.
-use Rattle.std.proofs.Common.{◌≡◌, ℕ, ◌+◌, ◌-◌, ◌*◌, ◌/◌, ◌%◌, ◌^◌, ◌<◌, ◌≤◌, zero, suc, Bool, true, false, cond, eqb, refl, sym, ◌∙◌, ap, subst, ⊎_elim, arith, add-zero, add-one, add_comm, bit_or, bit_xor, bit_and, zero-mul, one-mul}
-use Rattle.std.proofs.lemmas.Grind.{common_steps}
+use Rattle.std.proofs.Common.{◌≡◌, ℕ, ◌+◌, ◌-◌, ◌*◌, ◌/◌, ◌%◌, ◌^◌, ◌<◌, ◌≤◌, zero, suc, Bool, true, false, cond, refl, sym, ◌∙◌, ap, subst, ⊎_elim, arith, add-one, add_comm, bit_or, bit_xor, bit_and, zero-mul, one-mul}
 use Rattle.std.proofs.lemmas.Nat.{or_lt, xor_lt, or_comm, or_shifted, or_block, xor_block, and_block, and_mask, shl_whole, shr-shr, shr_le, mod_below, pow_pos}
 use Rattle.std.proofs.lemmas.Nat.Bits.{ones_shr, bit_at-lt}
 use Rattle.mx_alu.specs.Numbers.{field, fields, joined, bit}

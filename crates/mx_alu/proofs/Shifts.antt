@@ -1,16 +1,13 @@
 -- Shifts by 64 and more, and signed shifts.
-use Rattle.std.proofs.Common.{◌≡◌, ◌≢◌, ℕ, ◌+◌, ◌-◌, ◌*◌, ◌/◌, ◌%◌, ◌^◌, ◌<◌, ◌≤◌, zero, suc, min, Bool, true, false, refl, sym, ◌∙◌, ap, subst, arith, add-zero, None, Some, ltb, ⊎_elim}
-use Rattle.std.proofs.lemmas.Grind.{common_steps}
+use Rattle.std.proofs.Common.{◌≡◌, ◌≢◌, ℕ, ◌+◌, ◌-◌, ◌*◌, ◌/◌, ◌%◌, ◌^◌, ◌<◌, ◌≤◌, zero, suc, min, true, false, refl, sym, ◌∙◌, ap, arith, None, Some, ltb, ⊎_elim}
 use Rattle.std.specs.Prelude.{ℤ, pos, negsuc, neg_ℤ, ◌*ℤ◌}
 use Rattle.std.proofs.lemmas.Bool.{cases_lt}
-use lib.IntN.{pos-*ℤ-pos, negsuc-*ℤ-pos}
 use lib.Signed.{shr_z}
 use mir.Val.{of_z}
 use mir.Syntax.{w64}
 use Rattle.std.proofs.lemmas.Nat.{pow-add, shr_le, mul-le}
 use Rattle.std.proofs.Math.Nat.{mul_assoc, lt_of_le_of_lt, div-eq_of_lt, pow-le-pow_right}
 use Rattle.std.proofs.lemmas.Bool.Decides.{nat_tests}
-use Rattle.mx_alu.specs.declared.answer.Answer.{Answer}
 use Rattle.mx_alu.specs.declared.answer.Event.TheVariants.{Overflow}
 use Rattle.mx_alu.specs.Answers.{checked}
 use Rattle.mx_alu.specs.Numbers.{octa, is_signed, floor_by}

@@ -1,5 +1,5 @@
 -- The meanings of the whole-number instructions: a row for each name.
-use Rattle.std.specs.Prelude.{ℕ, ◌+◌, ◌-◌, ◌*◌, ◌/◌, ◌%◌, ◌^◌, ◌<◌, ◌==◌, ℤ, pos, negsuc, ◌+ℤ◌, ◌-ℤ◌, ◌*ℤ◌, unsigned_abs, nat_lt, Option, None, Some, if◌then◌else◌}
+use Rattle.std.specs.Prelude.{ℕ, ◌+◌, ◌*◌, ◌/◌, ◌%◌, ◌^◌, ◌==◌, ℤ, pos, negsuc, ◌+ℤ◌, ◌-ℤ◌, ◌*ℤ◌, nat_lt, None, Some, if◌then◌else◌}
 use Rattle.std.specs.Ordering.{nat_cmp, int_cmp}
 use Rattle.std.specs.declared.cmp.Ordering.{Ordering}
 use Rattle.std.specs.declared.cmp.Ordering.TheVariants.{Less, Equal, Greater}
@@ -55,7 +55,3 @@ arithmetic Sl y z d = checked (s y *ℤ pos (2 ^ z))
 arithmetic Slu y z d = plain (pos (y * 2 ^ z))
 arithmetic Sr y z d = plain (floor_by (s y) (2 ^ z))
 arithmetic Sru y z d = plain (pos (y / 2 ^ z))
-
--- a dividend that the code takes in a word of 128 bits
-abbrev pub IsDividend : ℤ → Type 0
-IsDividend a = unsigned_abs a < 2 ^ 126

@@ -1,5 +1,5 @@
 -- The whole-number instructions by their codes.
-use Rattle.std.specs.Prelude.{ℕ, ◌-◌, ◌*◌, ◌/◌, ◌%◌, ◌^◌, Bool, ◌&&◌, ◌||◌, nat_lt, nat_le, if◌then◌else◌, List, [], ◌∷◌, slice_index_or}
+use Rattle.std.specs.Prelude.{ℕ, ◌-◌, ◌*◌, ◌/◌, ◌%◌, ◌^◌, Bool, ◌&&◌, ◌||◌, nat_lt, nat_le, if◌then◌else◌, [], ◌∷◌, slice_index_or}
 use Rattle.mx_alu.specs.declared.answer.Answer.{Answer}
 use Rattle.mx_alu.specs.declared.answer.Extra.{Extra}
 use Rattle.mx_alu.specs.declared.names.Arithmetic.{Arithmetic}

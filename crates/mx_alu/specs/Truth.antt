@@ -1,5 +1,5 @@
 -- The conditions of the branches.
-use Rattle.std.specs.Prelude.{ℕ, ◌/◌, ◌%◌, ℤ, pos, Bool, not, ◌==◌, int_lt, unsigned_abs, List, [], ◌∷◌, slice_index_or}
+use Rattle.std.specs.Prelude.{ℕ, ◌/◌, ◌%◌, ℤ, pos, Bool, not, ◌==◌, int_lt, unsigned_abs, [], ◌∷◌, slice_index_or}
 use Rattle.mx_word.specs.Words.{signed_value}
 use Rattle.mx_alu.specs.declared.names.Condition.{Condition}
 use Rattle.mx_alu.specs.declared.names.Condition.TheVariants.{Negative, Zero, Positive, Odd, NotNegative, NotZero, NotPositive, Even}

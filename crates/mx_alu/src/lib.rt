@@ -1,8 +1,7 @@
 //! The whole-number instructions of MMIX, and the conditions of its branches.
 //!
-//! Each meaning is a row of whole numbers, floors and single bits (MMIXware, sections 8 to 14 of
-//! the description of MMIX; TAOCP 1, Fascicle 1, section 1.3.1'); the code computes in words of 64
-//! and 128 bits, and takes no memory.
+//! Each meaning is a row of whole numbers, floors and single bits (MMIXware, LNCS 1750; TAOCP 1,
+//! Fascicle 1, section 1.3.1'). The code computes in words of 64 and 128 bits, and takes no memory.
 #![tactic(auto)]
 
 mod answer;

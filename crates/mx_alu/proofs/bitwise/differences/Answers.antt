@@ -1,4 +1,4 @@
-use Rattle.std.proofs.Common.{refl, ◌∙◌, sym}
+use Rattle.std.proofs.Common.{refl}
 use Rattle.mx_alu.specs.Numbers.{fields}
 use Rattle.mx_alu.proofs.Places.{differences-next, room}
 use Rattle.mx_alu.proofs.bitwise.differences.Goals as goal
