@@ -6,7 +6,7 @@ use Rattle.std.proofs.lemmas.Nat.Bits.{bit_at_and, bit_at_or, bit_at_xor, bit_at
 use Rattle.std.specs.Int.{bit_at, w64}
 use lib.Count.{ones, ones_in}
 use Rattle.mx_alu.specs.Numbers.{field, fields, count_of, bit, of_bits}
-use Rattle.mx_alu.specs.Bits.{each_bit, differ}
+use Rattle.mx_alu.specs.Bitwise.{each_bit, differ}
 use Rattle.mx_alu.proofs.Fields.{fields-same, fields-of, fields-below}
 
 -- a bit as a number

@@ -3,7 +3,7 @@ use Rattle.std.proofs.Common.{◌≡◌, ℕ, ◌+◌, ◌-◌, ◌*◌, ◌/◌
 use Rattle.std.proofs.lemmas.Nat.{or_lt, xor_lt, or_comm, or_shifted, or_block, xor_block, and_block, and_mask, shl_whole, shr-shr, shr_le, mod_below, pow_pos}
 use Rattle.std.proofs.lemmas.Nat.Bits.{ones_shr, bit_at-lt}
 use Rattle.mx_alu.specs.Numbers.{field, fields, joined, bit}
-use Rattle.mx_alu.specs.Bits.{IsFieldWidth}
+use Rattle.mx_alu.specs.Bitwise.{IsFieldWidth}
 use Rattle.std.specs.Int.{bit_at}
 use Rattle.mx_alu.proofs.Logic.{digit}
 use Rattle.mx_alu.proofs.Fields.{fields-same, fields-of, fields-below, fields-next, fields-times, fields-join}

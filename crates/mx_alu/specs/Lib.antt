@@ -1,7 +1,7 @@
 pub mod Numbers
 pub mod Answers
-pub mod Alu
-pub mod Bits
+pub mod Arithmetic
+pub mod Bitwise
 pub mod Wydes
-pub mod Codes
+pub mod Alu
 pub mod Truth

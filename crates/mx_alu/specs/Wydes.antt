@@ -2,9 +2,9 @@
 use Rattle.std.specs.Prelude.{ℕ, ◌+◌, ◌%◌, ◌^◌, ◌&&◌, ◌||◌, not}
 use Rattle.mx_alu.specs.declared.names.Wyde.{Wyde}
 use Rattle.mx_alu.specs.declared.names.Wyde.TheVariants.{Set, Inc, OrIn, AndNot}
-use Rattle.mx_alu.specs.Bits.{each_bit}
+use Rattle.mx_alu.specs.Bitwise.{each_bit}
 
--- SET, INC, OR and ANDN: x is the old $X, and v the wyde at its place
+-- SET, INC, OR and ANDN, with H, MH, ML or L: x is the old $X, and v is YZ at the place that the letter means
 abbrev pub wyde : Wyde → ℕ → ℕ → ℕ
 wyde Set x v = v % 2 ^ 64
 wyde Inc x v = (x + v) % 2 ^ 64

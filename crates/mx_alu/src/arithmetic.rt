@@ -2,7 +2,7 @@
 
 ghost use Rattle.std.specs.Prelude.{◌≡◌, ◌≢◌, ◌+◌, ◌*◌, ◌/◌, ◌%◌, ◌^◌, ◌<◌, pos, ◌-ℤ◌, ◌*ℤ◌};
 ghost use Rattle.mx_word.specs.Words.{signed_value};
-ghost use Rattle.mx_alu.specs.Alu as spec;
+ghost use Rattle.mx_alu.specs.Arithmetic as spec;
 ghost use Rattle.mx_alu.specs.Answers.{checked};
 ghost use Rattle.mx_alu.specs.Numbers.{octa, floor_by, floor_quotient};
 

@@ -1,7 +1,7 @@
 //! Logic, differences of fields, and matrices of bits.
 
 ghost use Rattle.std.specs.Prelude.{◌≡◌, ◌+◌, ◌*◌, ◌/◌, ◌%◌, ◌^◌, ◌<◌, ◌≤◌, bit_or, bit_xor, if◌then◌else◌};
-ghost use Rattle.mx_alu.specs.Bits as spec;
+ghost use Rattle.mx_alu.specs.Bitwise as spec;
 ghost use Rattle.mx_alu.specs.Numbers.{bit, field, fields};
 
 use crate::names::Bitwise;

@@ -1,7 +1,7 @@
 //! Instructions and conditions by their codes.
 
 ghost use Rattle.std.specs.Prelude.{◌≡◌, ◌≤◌, IsTrue};
-ghost use Rattle.mx_alu.specs.Codes as spec;
+ghost use Rattle.mx_alu.specs.Alu as spec;
 ghost use Rattle.mx_alu.specs.Truth as conditions;
 
 use crate::names::{ARITHMETIC, Arithmetic, BITWISE, Bitwise, CONDITIONS, Condition, WYDES, Wyde};
@@ -10,7 +10,7 @@ use mx_word::signed;
 
 /// What the instruction of this code, from #18 to #3f or from #c0 to #ef, gives: y and z are $Y and
 /// $Z or Z. At NEG and NEGU y is the byte Y; from #e0 on y is the old $X and z is YZ.
-#[tactic(auto, unfolding(crate::specs::Codes::alu))]
+#[tactic(auto, unfolding(crate::specs::Alu::alu))]
 pub fn alu(code: u8, y: u64, z: u64, extra: Extra) -> Answer
     requires { IsTrue (spec.is_alu code) }
     ensures { result ≡ spec.alu code y z extra }

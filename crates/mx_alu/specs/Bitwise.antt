@@ -12,7 +12,7 @@ differ b c = if b then not c else c
 abbrev pub each_bit : (Bool → Bool → Bool) → ℕ → ℕ → ℕ
 each_bit f y z = of_bits (λ i. f (bit y i) (bit z i))
 
--- in each field of w bits the difference, or 0 where it is negative
+-- in each field of w bits the difference, or 0 where it is negative (`-` stops at 0)
 abbrev pub differences : ℕ → ℕ → ℕ → ℕ
 differences w y z = fields w (64 / w) (λ i. field w y i - field w z i)
 
