@@ -1,0 +1,5 @@
+pub mod Shifts
+pub mod Floors
+pub mod Fields
+pub mod Logic
+pub mod Places

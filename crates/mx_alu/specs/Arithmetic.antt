@@ -1,0 +1,57 @@
+-- Sums, products, quotients, comparisons and shifts: a row for each name.
+use Rattle.std.specs.Prelude.{ℕ, ◌+◌, ◌*◌, ◌/◌, ◌%◌, ◌^◌, ◌==◌, ℤ, pos, negsuc, ◌+ℤ◌, ◌-ℤ◌, ◌*ℤ◌, nat_lt, None, Some, if◌then◌else◌}
+use Rattle.std.specs.Ordering.{nat_cmp, int_cmp}
+use Rattle.std.specs.declared.cmp.Ordering.{Ordering}
+use Rattle.std.specs.declared.cmp.Ordering.TheVariants.{Less, Equal, Greater}
+use Rattle.mx_word.specs.Words.{signed_value as s}
+use Rattle.mx_alu.specs.declared.answer.Answer.{Answer}
+use Rattle.mx_alu.specs.declared.answer.Event.TheVariants.{Divide}
+use Rattle.mx_alu.specs.declared.names.Arithmetic.{Arithmetic}
+use Rattle.mx_alu.specs.declared.names.Arithmetic.TheVariants.{Mul, Mulu, Div, Divu, Add, Addu, Sub, Subu, TwoAddu, FourAddu, EightAddu, SixteenAddu, Cmp, Cmpu, Neg, Negu, Sl, Slu, Sr, Sru}
+use Rattle.mx_alu.specs.Answers.{plain, checked, overflow}
+use Rattle.mx_alu.specs.Numbers.{octa, floor_by, floor_quotient}
+
+-- -1, 0 or 1 for what a comparison tells
+abbrev pub sign : Ordering → ℤ
+sign Less = negsuc 0
+sign Equal = pos 0
+sign Greater = pos 1
+
+-- the quotient q of a by b, with the remainder in rR
+abbrev pub divided : ℤ → ℤ → ℤ → Answer
+divided a b q = record { x = octa q; h = None; r = Some (octa (a -ℤ b *ℤ q)); event = overflow q }
+
+-- DIV: the floor of the signed quotient; by 0 it is 0, and y is the remainder
+abbrev pub divide : ℕ → ℕ → Answer
+divide y z = if z == 0 then record { x = 0; h = None; r = Some y; event = Some Divide } else divided (s y) (s z) (floor_quotient (s y) (s z))
+
+-- DIVU: the quotient of 2^64 d + y, where it is an octa
+abbrev pub divide_long : ℕ → ℕ → ℕ → Answer
+divide_long d y z = if nat_lt d z then record { x = (2 ^ 64 * d + y) / z; h = None; r = Some ((2 ^ 64 * d + y) % z); event = None } else record { x = d; h = None; r = Some y; event = None }
+
+-- MULU: the low half of the product, with the high half in rH
+abbrev pub multiply : ℕ → ℕ → Answer
+multiply y z = record { x = y * z % 2 ^ 64; h = Some (y * z / 2 ^ 64); r = None; event = None }
+
+-- the names from #18 to #3f: y is $Y, or at NEG and NEGU the byte Y; z is $Z or Z; s is the signed value, and d is rD
+abbrev pub arithmetic : Arithmetic → ℕ → ℕ → ℕ → Answer
+arithmetic Mul y z d = checked (s y *ℤ s z)
+arithmetic Mulu y z d = multiply y z
+arithmetic Div y z d = divide y z
+arithmetic Divu y z d = divide_long d y z
+arithmetic Add y z d = checked (s y +ℤ s z)
+arithmetic Addu y z d = plain (pos (y + z))
+arithmetic Sub y z d = checked (s y -ℤ s z)
+arithmetic Subu y z d = plain (pos y -ℤ pos z)
+arithmetic TwoAddu y z d = plain (pos (2 * y + z))
+arithmetic FourAddu y z d = plain (pos (4 * y + z))
+arithmetic EightAddu y z d = plain (pos (8 * y + z))
+arithmetic SixteenAddu y z d = plain (pos (16 * y + z))
+arithmetic Cmp y z d = plain (sign (int_cmp (s y) (s z)))
+arithmetic Cmpu y z d = plain (sign (nat_cmp y z))
+arithmetic Neg y z d = checked (pos y -ℤ s z)
+arithmetic Negu y z d = plain (pos y -ℤ pos z)
+arithmetic Sl y z d = checked (s y *ℤ pos (2 ^ z))
+arithmetic Slu y z d = plain (pos (y * 2 ^ z))
+arithmetic Sr y z d = plain (floor_by (s y) (2 ^ z))
+arithmetic Sru y z d = plain (pos (y / 2 ^ z))

@@ -1,0 +1,7 @@
+pub mod Numbers
+pub mod Answers
+pub mod Arithmetic
+pub mod Bitwise
+pub mod Wydes
+pub mod Alu
+pub mod Truth

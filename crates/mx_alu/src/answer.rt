@@ -1,0 +1,71 @@
+//! What an instruction is given beside its operands, and what it gives.
+
+ghost use Rattle.std.specs.Prelude.{◌≡◌};
+ghost use Rattle.mx_alu.specs.Answers as spec;
+ghost use Rattle.mx_alu.specs.Numbers.{octa};
+
+/// What an instruction raises: a division by zero, or a result that is no signed octa.
+#[derive(Clone, Copy, Debug, PartialEq, Eq)]
+pub enum Event {
+    Divide,
+    Overflow,
+}
+
+/// The special registers that an instruction reads: the dividend's high half rD and the mask rM.
+#[derive(Clone, Copy, Debug, PartialEq, Eq)]
+pub struct Extra {
+    pub d: u64,
+    pub m: u64,
+}
+
+/// The result, the new rH and rR where the instruction sets them, and what it raises.
+#[derive(Clone, Copy, Debug, PartialEq, Eq)]
+pub struct Answer {
+    pub x: u64,
+    pub h: Option<u64>,
+    pub r: Option<u64>,
+    pub event: Option<Event>,
+}
+
+impl Answer {
+    /// A result alone.
+    pub(crate) fn alone(x: u64) -> Answer
+        ensures { result ≡ spec.alone x }
+    {
+        Answer {
+            x,
+            h: None,
+            r: None,
+            event: None,
+        }
+    }
+
+    /// A result modulo 2^64, with overflow where it does not lie from -2^63 to 2^63 - 1.
+    pub(crate) fn checked(v: i128) -> Answer
+        ensures { result ≡ spec.checked v }
+    {
+        Answer {
+            x: low(v),
+            h: None,
+            r: None,
+            event: overflow(v),
+        }
+    }
+}
+
+/// What is left of a number modulo 2^64.
+pub(crate) fn low(v: i128) -> u64
+    ensures { result ≡ octa v }
+{
+    (v.cast_unsigned() & 0xffff_ffff_ffff_ffff) as u64
+}
+
+/// Overflow where a number does not lie from -2^63 to 2^63 - 1.
+pub(crate) fn overflow(v: i128) -> Option<Event>
+    ensures { result ≡ spec.overflow v }
+{
+    match i64::try_from(v) {
+        Ok(_) => None,
+        Err(_) => Some(Event::Overflow),
+    }
+}

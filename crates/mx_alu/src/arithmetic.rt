@@ -1,0 +1,169 @@
+//! Sums, products, quotients, comparisons and shifts.
+
+ghost use Rattle.std.specs.Prelude.{◌≡◌, ◌≢◌, ◌+◌, ◌*◌, ◌/◌, ◌%◌, ◌^◌, ◌<◌, pos, ◌-ℤ◌, ◌*ℤ◌};
+ghost use Rattle.mx_word.specs.Words.{signed_value};
+ghost use Rattle.mx_alu.specs.Arithmetic as spec;
+ghost use Rattle.mx_alu.specs.Answers.{checked};
+ghost use Rattle.mx_alu.specs.Numbers.{octa, floor_by, floor_quotient};
+
+use crate::answer::{low, overflow};
+use crate::names::Arithmetic;
+use crate::{Answer, Event};
+use mx_word::{product, quotient, signed};
+use std::cmp::Ordering;
+
+/// What the instruction of this name gives; d is rD.
+pub(crate) fn perform(name: Arithmetic, y: u64, z: u64, d: u64) -> Answer
+    ensures { result ≡ spec.arithmetic name y z d }
+{
+    match name {
+        Arithmetic::Mul => Answer::checked(value(y) * value(z)),
+        Arithmetic::Mulu => multiply(y, z),
+        Arithmetic::Div => divide(y, z),
+        Arithmetic::Divu => divide_long(d, y, z),
+        Arithmetic::Add => Answer::checked(value(y) + value(z)),
+        Arithmetic::Addu => Answer::alone(y.wrapping_add(z)),
+        Arithmetic::Sub => Answer::checked(value(y) - value(z)),
+        Arithmetic::Subu => Answer::alone(subtract(y, z)),
+        Arithmetic::TwoAddu => Answer::alone((y << 1).wrapping_add(z)),
+        Arithmetic::FourAddu => Answer::alone((y << 2).wrapping_add(z)),
+        Arithmetic::EightAddu => Answer::alone((y << 3).wrapping_add(z)),
+        Arithmetic::SixteenAddu => Answer::alone((y << 4).wrapping_add(z)),
+        Arithmetic::Cmp => Answer::alone(sign(signed(y).cmp(&signed(z)))),
+        Arithmetic::Cmpu => Answer::alone(sign(y.cmp(&z))),
+        Arithmetic::Neg => Answer::checked(i128::from(y) - value(z)),
+        Arithmetic::Negu => Answer::alone(subtract(y, z)),
+        Arithmetic::Sl => shift_left_signed(y, z),
+        Arithmetic::Slu => Answer::alone(shift_left(y, z)),
+        Arithmetic::Sr => Answer::alone(shift_right_signed(y, z)),
+        Arithmetic::Sru => Answer::alone(shift_right(y, z)),
+    }
+}
+
+/// The signed value of an octa, in a word that holds sums and products of two of them.
+fn value(x: u64) -> i128
+    ensures { result ≡ signed_value x }
+{
+    i128::from(signed(x))
+}
+
+/// The low half of a product of unsigned octas, with the high half in rH.
+fn multiply(y: u64, z: u64) -> Answer
+    ensures { result ≡ spec.multiply y z }
+{
+    let (high, x) = product(y, z);
+    Answer {
+        x,
+        h: Some(high),
+        r: None,
+        event: None,
+    }
+}
+
+/// The floor of a signed quotient, with the remainder in rR.
+fn divide(y: u64, z: u64) -> Answer
+    ensures { result ≡ spec.divide y z }
+{
+    if z == 0 {
+        return Answer {
+            x: 0,
+            h: None,
+            r: Some(y),
+            event: Some(Event::Divide),
+        };
+    }
+    let q = floor(y, z);
+    Answer {
+        x: low(q),
+        h: None,
+        r: Some(low(value(y) - value(z) * q)),
+        event: overflow(q),
+    }
+}
+
+/// The floor of a signed quotient. A negative divisor and its dividend change their signs together.
+#[tactic(auto, using(crate::proofs::Floors::floors))]
+fn floor(y: u64, z: u64) -> i128
+    requires { z ≢ 0 }
+    ensures { result ≡ floor_quotient (signed_value y) (signed_value z) }
+{
+    let a = value(y);
+    let b = value(z);
+    if b < 0 {
+        (-a).div_euclid(-b)
+    } else {
+        a.div_euclid(b)
+    }
+}
+
+/// The quotient of the long dividend of rD and y, with the remainder in rR, where the quotient is
+/// an octa; else rD, with y in rR.
+fn divide_long(d: u64, y: u64, z: u64) -> Answer
+    ensures { result ≡ spec.divide_long d y z }
+{
+    let (x, r) = quotient(d, y, z).unwrap_or((d, y));
+    Answer {
+        x,
+        h: None,
+        r: Some(r),
+        event: None,
+    }
+}
+
+/// A difference modulo 2^64.
+fn subtract(y: u64, z: u64) -> u64
+    ensures { result ≡ octa (pos y -ℤ pos z) }
+{
+    y.wrapping_sub(z)
+}
+
+/// -1, 0 or 1 as an octa.
+fn sign(order: Ordering) -> u64
+    ensures { result ≡ octa (spec.sign order) }
+{
+    match order {
+        Ordering::Less => 0xffff_ffff_ffff_ffff,
+        Ordering::Equal => 0,
+        Ordering::Greater => 1,
+    }
+}
+
+/// A signed octa times 2^z.
+#[tactic(auto, using(crate::proofs::Shifts::signed_shifts))]
+fn shift_left_signed(y: u64, z: u64) -> Answer
+    ensures { result ≡ checked (signed_value y *ℤ pos (2 ^ z)) }
+{
+    if z < 64 {
+        return Answer::checked(value(y) * i128::from(1u64 << z));
+    }
+    Answer {
+        x: 0,
+        h: None,
+        r: None,
+        event: if y == 0 { None } else { Some(Event::Overflow) },
+    }
+}
+
+/// An octa times 2^z, modulo 2^64.
+#[tactic(auto, using(crate::proofs::Shifts::high))]
+fn shift_left(y: u64, z: u64) -> u64
+    ensures { result ≡ octa (pos (y * 2 ^ z)) }
+{
+    if z < 64 { y << z } else { 0 }
+}
+
+/// The floor of a signed octa by 2^z, as an octa.
+#[tactic(auto, using(crate::proofs::Shifts::signed_shifts))]
+fn shift_right_signed(y: u64, z: u64) -> u64
+    ensures { result ≡ octa (floor_by (signed_value y) (2 ^ z)) }
+{
+    (signed(y) >> z.min(63)).cast_unsigned()
+}
+
+/// The floor of an octa by 2^z.
+#[tactic(auto, using(crate::proofs::Shifts::high))]
+fn shift_right(y: u64, z: u64) -> u64
+    ensures { result ≡ octa (pos (y / 2 ^ z)) }
+{
+    if z < 64 { y >> z } else { 0 }
+}
