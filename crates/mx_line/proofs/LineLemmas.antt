@@ -1,0 +1,53 @@
+-- The lines of a source, line by line.
+use Rattle.std.proofs.Common.{◌≡◌, ℕ, ◌+◌, ◌<◌, List, [], ◌∷◌, length, Bool, true, false, cond, refl, ap, ◌∙◌, arith, ◌++◌, take, take_at, append_assoc, sum_by}
+use Rattle.std.proofs.lemmas.List.{length_push}
+use Rattle.std.proofs.lemmas.List.Sums.{sum_by-append}
+use Rattle.std.specs.Prelude.{◌==◌}
+use Rattle.mx_line.specs.Lines.{lines_of, without_empty_last, size_up_to}
+use Rattle.std.specs.List.{onto_first, slice_split}
+use Rattle.mx_line.specs.Pieces.{split}
+
+pub no-lines : lines_of [] ≡ []
+unfolding lines_of split
+no-lines = refl
+
+onto-before : (line : List ℕ) (b : ℕ) (pieces : List (List ℕ)) → without_empty_last (line ∷ onto_first b pieces) ≡ line ∷ without_empty_last (onto_first b pieces)
+onto-before [] b [] = refl
+onto-before [] b (p ∷ ps) = refl
+onto-before (x ∷ xs) b [] = refl
+onto-before (x ∷ xs) b (p ∷ ps) = refl
+
+more-before : (t : Bool) (line : List ℕ) (b : ℕ) (pieces : List (List ℕ)) → without_empty_last (line ∷ cond t ([] ∷ pieces) (onto_first b pieces)) ≡ line ∷ without_empty_last (cond t ([] ∷ pieces) (onto_first b pieces))
+more-before true [] b pieces = refl
+more-before true (x ∷ xs) b pieces = refl
+more-before false line b pieces = onto-before line b pieces
+
+-- a line before another piece
+before : (line rest : List ℕ) → without_empty_last (line ∷ split 10 rest) ≡ line ∷ without_empty_last (split 10 rest)
+unfolding split
+before [] [] = refl
+before (x ∷ xs) [] = refl
+before line (b ∷ bs) = more-before (b == 10) line b (slice_split (λ x. x == 10) bs)
+
+pub first-line : (text line rest : List ℕ) → split 10 text ≡ line ∷ split 10 rest → lines_of text ≡ line ∷ lines_of rest
+unfolding lines_of
+first-line text line rest h = rw h (before line rest)
+
+last : (line : List ℕ) → 0 < length line → without_empty_last (line ∷ []) ≡ line ∷ []
+last [] h = absurd (omega arith)
+last (b ∷ bs) h = refl
+
+pub last-line : (text line : List ℕ) → split 10 text ≡ line ∷ [] → 0 < length line → lines_of text ≡ line ∷ lines_of []
+unfolding lines_of split
+last-line text line h l = rw h (last line l)
+
+pub ruleset lines = (first-line, last-line)
+
+-- how many bytes the lines up to the one after these have, with the newlines between them
+pub size-next : (before : List (List ℕ)) (line : List ℕ) (after : List (List ℕ)) → size_up_to (length before + 1) (before ++ line ∷ after) ≡ sum_by length before + length before + length line
+size-next before line after =
+    let two : before ++ line ∷ after ≡ (before ++ line ∷ []) ++ after = simp append_assoc in
+    let front : take (length before + 1) (before ++ line ∷ after) ≡ before ++ line ∷ [] = ap (take (length before + 1)) two ∙ take_at (before ++ line ∷ []) after (length before + 1) (length_push before line) in
+    let one : sum_by length (line ∷ []) ≡ length line = omega arith in
+    let sums : sum_by length (take (length before + 1) (before ++ line ∷ after)) ≡ sum_by length before + length line = ap (sum_by length) front ∙ sum_by-append length before (line ∷ []) ∙ ap (λ n. sum_by length before + n) one in
+    omega (arith, sums)
