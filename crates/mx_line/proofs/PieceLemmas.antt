@@ -6,6 +6,7 @@ use Rattle.std.proofs.lemmas.List.Splits.{slice_split_first, join_with_byte-slic
 use Rattle.std.specs.Option.{option_map}
 use Rattle.std.proofs.lemmas.Grind.{common_steps}
 use Rattle.std.proofs.lemmas.List.Folds.{length-prefix_len}
+use Rattle.mx_line.proofs.Choices.{same-some}
 use Rattle.mx_line.specs.Pieces.{split, two_of, three_of}
 
 pub none-length : (at : ℕ) (xs : List ℕ) → position (λ x. x == at) xs ≡ None → length xs ≡ position_or_len (λ x. x == at) xs
@@ -75,9 +76,6 @@ not-three at text first rest h k = rw (h, three-two first (split at rest), ← k
 pub join-split : (at : ℕ) (text : List ℕ) → join_with_byte at (split at text) ≡ text
 unfolding split
 join-split at text = join_with_byte-slice_split at text
-
-pub same-some : {A : Type 0} (x y : A) → Some x ≡ Some y → x ≡ y
-same-some x y h = cc
 
 two-join : (at : ℕ) (pieces : List (List ℕ)) (first second : List ℕ) → two_of pieces ≡ Some (first, second) → join_with_byte at pieces ≡ first ++ at ∷ second
 two-join at [] first second h = cc

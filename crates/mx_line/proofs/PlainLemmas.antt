@@ -1,5 +1,5 @@
 -- Where the parts of a plain line stand.
-use Rattle.std.proofs.Common.{◌≡◌, ℕ, ◌+◌, ◌-◌, List, [], ◌∷◌, ◌++◌, length, take, drop, Bool, true, false, cond, arith, refl, sym, subst, ◌∙◌, ap, Some, None, Option, IfSome, codes, length-append, drop_at, append_assoc, append-nil, take_at}
+use Rattle.std.proofs.Common.{◌≡◌, ℕ, ◌+◌, ◌-◌, List, [], ◌∷◌, ◌++◌, length, take, drop, Bool, true, arith, refl, sym, subst, ◌∙◌, ap, Some, None, Option, IfSome, codes, length-append, drop_at, append_assoc, append-nil, take_at}
 use Rattle.std.specs.Str.{bytes_eq}
 use Rattle.mx_line.specs.declared.spans.Span.{Span}
 use Rattle.mx_line.specs.declared.plain_lines.Plain.{Plain}
@@ -7,12 +7,8 @@ use Rattle.mx_line.specs.declared.plain_lines.Plain.TheVariants.{Geta}
 use Rattle.mx_line.specs.Pieces.{split, two_of, three_of}
 use Rattle.mx_line.specs.Numbers.{number_of, are_numbers, address_of, register_of, is_label}
 use Rattle.mx_line.specs.Plain.{span, label_of, loc_with, loc_of, geta_with, geta_of, trap_with, trap_of, named, labelled, fields_plain, plain_of, part, Stands, LabelStands, AllStand}
-use Rattle.mx_line.proofs.PieceLemmas.{same-some, two-text, three-text}
-
--- a fact of a choice, from what holds of either side
-chosen : {X : Type 0} (P : X → Type 0) (b : Bool) (x y : X) → (b ≡ true → P x) → (b ≡ false → P y) → P (cond b x y)
-chosen P true x y h k = h refl
-chosen P false x y h k = k refl
+use Rattle.mx_line.proofs.Choices.{chosen, same-some}
+use Rattle.mx_line.proofs.PieceLemmas.{two-text, three-text}
 
 -- what stands between two parts of a text
 middle : (before bytes after : List ℕ) → part (before ++ (bytes ++ after)) (span (length before) bytes) ≡ bytes

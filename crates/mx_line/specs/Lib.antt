@@ -1,4 +1,10 @@
+pub mod Bytes
+pub mod Cutting
+pub mod Faults
+pub mod Fields
 pub mod Lines
 pub mod Numbers
 pub mod Pieces
 pub mod Plain
+pub mod Source
+pub mod Statements

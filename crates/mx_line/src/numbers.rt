@@ -3,15 +3,11 @@
 ghost use Rattle.std.specs.Prelude.{◌≡◌, ◌≤◌, ◌<◌, ◌+◌, ◌*◌, ◌^◌, ◌∷◌, length, IfSome};
 ghost use Rattle.std.specs.List.{list_all};
 ghost use Rattle.std.specs.Option.{option_map};
+ghost use Rattle.mx_line.specs.Bytes.{is_digit};
 ghost use Rattle.mx_line.specs.Numbers as spec;
 
+use crate::kinds::is_digit;
 use crate::pieces::cut;
-
-fn is_digit(b: u8) -> bool
-    ensures { result ≡ spec.is_digit b }
-{
-    48 <= b && b <= 57
-}
 
 fn is_hexadecimal(b: u8) -> bool
     ensures { result ≡ spec.is_hexadecimal b }
@@ -36,7 +32,7 @@ fn digit_value(b: u8) -> u8
 }
 
 fn all_digits(text: &[u8]) -> bool
-    ensures { result ≡ list_all spec.is_digit text.now }
+    ensures { result ≡ list_all is_digit text.now }
 {
     text.iter().all(|b| is_digit(*b))
 }

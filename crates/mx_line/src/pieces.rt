@@ -13,7 +13,7 @@ fn place(at: u8, text: &[u8]) -> Option<usize>
 }
 
 /// How long the first piece is.
-fn first_length(at: u8, text: &[u8]) -> usize
+pub fn first_length(at: u8, text: &[u8]) -> usize
     ensures within { result ≤ length text.now }
     ensures value { result ≡ position_or_len (λ b. b == at) text.now }
 {

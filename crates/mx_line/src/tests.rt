@@ -1,6 +1,10 @@
 //! Rows from the rules of the language.
 
-use crate::{Plain, Span, cut_line, next_number, number, part, plain_statement};
+use crate::{
+    Cut, LineFault, Plain, Span, cut_line, next_number, next_statement, number, one_list, part,
+    plain_statement,
+};
+use std::alloc::Global;
 
 /// A span, by its two places.
 fn span(from: usize, to: usize) -> Span {
@@ -128,4 +132,143 @@ fn lines_and_numbers(rt: HostRuntime) {
         part(b"Main BYTE 1", Span { from: 5, to: 9 }),
         b"BYTE".as_slice()
     );
+}
+
+/// A statement, by the places of its fields.
+fn cut(label: Option<Span>, op: Span, operands: Span, next: usize) -> Cut {
+    Cut {
+        label,
+        op,
+        operands,
+        next,
+    }
+}
+
+#[test]
+fn statements_of_lines(rt: HostRuntime) {
+    let blank: Option<Span> = None;
+    let line = "a SET 1;b SET 2 ;c";
+    for (line, at, label, op, operands, next) in [
+        // two statements, each before a `;`
+        (line, 0, Some(span(0, 1)), span(2, 5), span(6, 7), 8),
+        (line, 8, Some(span(8, 9)), span(10, 13), span(14, 15), 17),
+        // a string and character constants hold blanks, `;` and quotes
+        (" BYTE \"a; b\",1;x", 0, blank, span(1, 5), span(6, 14), 15),
+        (
+            " BYTE ';',' ','\"',''' y",
+            0,
+            blank,
+            span(1, 5),
+            span(6, 21),
+            23,
+        ),
+        // after the operands a comment
+        (
+            "2H SWYM 1,2 note",
+            0,
+            Some(span(0, 2)),
+            span(3, 7),
+            span(8, 11),
+            16,
+        ),
+        // bytes above 126 are letters, and 13 is a blank
+        (
+            "\u{7f}\u{e9}:_9\rOP\r5\r",
+            0,
+            Some(span(0, 6)),
+            span(7, 9),
+            span(10, 11),
+            12,
+        ),
+    ] {
+        if at <= line.len() {
+            assert_eq!(rt;
+                next_statement(line.as_bytes(), at),
+                Ok(Some(cut(label, op, operands, next))),
+                "{line} at {at}"
+            );
+        }
+    }
+    one_list();
+}
+
+#[test]
+fn statements_without_operands(rt: HostRuntime) {
+    for (line, next) in [
+        (" SWYM", 5),
+        (" SWYM;SWYM", 6),
+        (" SWYM  ; SWYM", 8),
+        // the rest is no statement
+        (" SWYM; ;SWYM", 6),
+    ] {
+        let found = next_statement(line.as_bytes(), 0);
+        let empty = matches!(&found, Ok(Some(cut)) if cut.operands.from == cut.operands.to);
+        assert!(rt; empty, "{line}");
+        let after = matches!(&found, Ok(Some(cut)) if cut.op.to == 5 && cut.next == next);
+        assert!(rt; after, "{line}");
+    }
+    for (line, at) in [
+        ("", 0),
+        ("* note", 0),
+        ("  ", 0),
+        (" ;SWYM", 0),
+        (" *", 0),
+        ("# line 3", 0),
+        (" SWYM;;SWYM", 6),
+        (" SWYM; ;SWYM", 6),
+        (" SWYM;", 6),
+    ] {
+        if at <= line.len() {
+            assert_eq!(rt;
+                next_statement(line.as_bytes(), at),
+                Ok(None),
+                "{line} at {at}"
+            );
+        }
+    }
+}
+
+#[test]
+fn faulty_lines(rt: HostRuntime) {
+    for (line, at, fault, number) in [
+        ("a;", 0, LineFault::BadLabel, 2),
+        ("2H, SWYM", 0, LineFault::BadLabel, 2),
+        ("2X SWYM", 0, LineFault::BadLocal, 3),
+        ("2X, SWYM", 0, LineFault::BadLocal, 3),
+        ("22H SWYM", 0, LineFault::BadLocal, 3),
+        (" SWYM+ \"", 0, LineFault::BadOpcode, 4),
+        (" SWYM \"x", 0, LineFault::OpenString, 5),
+        (" SWYM \"x;'", 0, LineFault::OpenString, 5),
+        (" SWYM isn't", 0, LineFault::OpenChar, 6),
+        (" SWYM 'x", 0, LineFault::OpenChar, 6),
+        (" SWYM '\"x", 0, LineFault::OpenChar, 6),
+        ("a", 0, LineFault::NoOpcode, 7),
+        ("a *x", 0, LineFault::NoOpcode, 7),
+        ("a ;", 0, LineFault::NoOpcode, 7),
+        ("a SET 1;b SET 2 ;c", 17, LineFault::NoOpcode, 7),
+    ] {
+        if at <= line.len() {
+            assert_eq!(rt;
+                next_statement(line.as_bytes(), at),
+                Err(fault),
+                "{line} at {at}"
+            );
+        }
+        assert_eq!(rt; fault.number(), number, "{line}");
+    }
+}
+
+/// The answer for a line of so many stars, with ample memory.
+fn stars(alloc: Global, count: usize) -> Option<Result<Option<Cut>, LineFault>> {
+    match vec![in alloc; 42; count] {
+        Ok(line) => Some(next_statement(line.as_slice(), 0)),
+        Err(_) => None,
+    }
+}
+
+#[test]
+fn long_lines(rt: HostRuntime) {
+    assert_eq!(rt; stars(rt.alloc(), 4096), Some(Ok(None)));
+    assert_eq!(rt; stars(rt.alloc(), 4097), Some(Err(LineFault::TooLong)));
+    assert_eq!(rt; LineFault::TooLong.number(), 1);
 }

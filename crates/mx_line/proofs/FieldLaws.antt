@@ -1,0 +1,229 @@
+-- Operand fields: what the rules spell is what is measured, and what is measured is spelled so.
+use Rattle.std.proofs.Common.{◌≡◌, ℕ, suc, ◌+◌, List, [], ◌∷◌, ◌++◌, length, Bool, true, false, cond, not, Result, Ok, Err, refl, sym, ap, ◌∙◌, arith, subst, append_assoc, length-append, inl, inr}
+use Rattle.std.specs.Prelude.{◌==◌, ◌||◌}
+use Rattle.std.specs.List.{list_all}
+use Rattle.std.proofs.lemmas.Bool.{eqb-true}
+use Rattle.std.proofs.lemmas.Bool.Decides.{eqb_tells}
+use Rattle.mx_line.specs.declared.faults.LineFault.{LineFault}
+use Rattle.mx_line.specs.declared.faults.LineFault.TheVariants.{TooLong, BadLabel, BadLocal, BadOpcode, OpenString, OpenChar, NoOpcode}
+use Rattle.mx_line.specs.Fields.{Within, field_from, field_length, more, ends_field, ends_here}
+use Rattle.mx_line.specs.Fields.Within.{nothing, string, constant, closing}
+use Rattle.mx_line.specs.Statements.{begins, is_no_quote, is_other, IsField, closes}
+use Rattle.mx_line.specs.Statements.IsField.{empty, string_first, constant_first, byte_first}
+use Rattle.mx_line.proofs.Choices.{chosen}
+use Rattle.mx_line.proofs.RunLaws.{and-both}
+use Rattle.mx_line.proofs.FieldLemmas.{more-more}
+
+is-eq : (b n : ℕ) → (b == n) ≡ true → b ≡ n
+is-eq b n h = eqb-true b n h
+
+-- a byte that passes a test is no byte that does not
+not-at : (n b : ℕ) (test : ℕ → Bool) → test n ≡ false → test b ≡ true → (b == n) ≡ false
+not-at n b test h k = elim (eqb_tells b n) [ inl (t, e) ↦ (let same = ap test e in absurd (cc)) | inr (f, e) ↦ f ]
+
+zero-more : (r : Result ℕ LineFault) → more 0 r ≡ r
+zero-more (Ok n) = let e : 0 + n ≡ n = omega arith in ap (λ m. Ok m) e
+zero-more (Err f) = refl
+
+passed : {X : Type 0} (t : Bool) (x y : X) → not t ≡ true → cond t x y ≡ y
+passed true x y h = absurd (cc)
+passed false x y h = refl
+
+-- What the rules spell is measured, whatever follows it.
+quoted : (inner rest : List ℕ) → list_all is_no_quote inner ≡ true → field_from string (inner ++ 34 ∷ rest) ≡ more (length inner + 1) (field_from nothing rest)
+unfolding field_from
+quoted [] rest h = refl
+quoted (b ∷ bs) rest h =
+    let both = and-both (is_no_quote b) (list_all is_no_quote bs) h in
+    let e : 1 + (length bs + 1) ≡ suc (length bs) + 1 = omega arith in
+    passed (b == 34) _ _ both.0 ∙ ap (more 1) (quoted bs rest both.1) ∙ more-more 1 (length bs + 1) (field_from nothing rest) ∙ ap (λ n. more n (field_from nothing rest)) e
+
+unquoted : (inner : List ℕ) → list_all is_no_quote inner ≡ true → field_from string inner ≡ Err OpenString
+unfolding field_from
+unquoted [] h = refl
+unquoted (b ∷ bs) h = let both = and-both (is_no_quote b) (list_all is_no_quote bs) h in passed (b == 34) _ _ both.0 ∙ ap (more 1) (unquoted bs both.1)
+
+none-of : (x y z : Bool) → not (x || y || z) ≡ true → (x ≡ false) × (y ≡ false) × (z ≡ false)
+none-of false false false h = (refl, refl, refl)
+none-of true y z h = absurd (cc)
+none-of false true z h = absurd (cc)
+none-of false false true h = absurd (cc)
+
+other-byte : (b : ℕ) (rest : List ℕ) → is_other b ≡ true → field_length (b ∷ rest) ≡ more 1 (field_length rest)
+unfolding field_from
+other-byte b rest h = let none = none-of (b == 34) (b == 39) (ends_field b) h in rw (none.0, none.1, none.2) refl
+
+one-more : (n : ℕ) (r : Result ℕ LineFault) → more 1 (more n r) ≡ more (suc n) r
+one-more n r = let e : 1 + n ≡ suc n = omega arith in more-more 1 n r ∙ ap (λ m. more m r) e
+
+pub measured : (front : List ℕ) → IsField front → (rest : List ℕ) → field_length (front ++ rest) ≡ more (length front) (field_length rest)
+unfolding field_from
+measured [] empty rest = sym (zero-more (field_length rest))
+measured _ (string_first inner after h f) rest =
+    let lengths : suc (length inner + 1 + length after) ≡ suc (length (inner ++ 34 ∷ after)) = omega (arith, length-append inner (34 ∷ after)) in
+    ap (λ t. more 1 (field_from string t)) (append_assoc inner (34 ∷ after) rest) ∙ ap (more 1) (quoted inner (after ++ rest) h)
+    ∙ ap (λ r. more 1 (more (length inner + 1) r)) (measured after f rest) ∙ ap (more 1) (more-more (length inner + 1) (length after) (field_length rest))
+    ∙ one-more (length inner + 1 + length after) (field_length rest) ∙ ap (λ n. more n (field_length rest)) lengths
+measured _ (constant_first b after f) rest =
+    ap (λ r. more 1 (more 1 (more 1 r))) (measured after f rest) ∙ ap (λ r. more 1 (more 1 r)) (one-more (length after) (field_length rest))
+    ∙ ap (more 1) (one-more (suc (length after)) (field_length rest)) ∙ one-more (suc (suc (length after))) (field_length rest)
+measured _ (byte_first b after h f) rest = other-byte b (after ++ rest) h ∙ ap (more 1) (measured after f rest) ∙ one-more (length after) (field_length rest)
+
+ended-step : (x y t : Bool) (p q r : Result ℕ LineFault) → x ≡ false → y ≡ false → t ≡ true → cond x p (cond y q (cond t (Ok 0) r)) ≡ Ok 0
+ended-step x y t p q r e f g = rw (e, f, g) refl
+
+pub ended : (rest : List ℕ) → ends_here rest ≡ true → field_length rest ≡ Ok 0
+unfolding field_from
+ended [] h = refl
+ended (b ∷ bs) h = ended-step (b == 34) (b == 39) (ends_field b) _ _ _ (not-at 34 b ends_field refl h) (not-at 39 b ends_field refl h) h
+
+pub whole-field : (front rest : List ℕ) → IsField front → ends_here rest ≡ true → field_length (front ++ rest) ≡ Ok (length front)
+whole-field front rest f h =
+    let e : length front + 0 ≡ length front = omega arith in
+    measured front f rest ∙ ap (more (length front)) (ended rest h) ∙ ap (λ n. Ok n) e
+
+pub open-string : (front inner : List ℕ) → IsField front → list_all is_no_quote inner ≡ true → field_length (front ++ 34 ∷ inner) ≡ Err OpenString
+unfolding field_from
+open-string front inner f h = measured front f (34 ∷ inner) ∙ ap (λ r. more (length front) (more 1 r)) (unquoted inner h)
+
+unclosed : (after : List ℕ) → closes after ≡ false → field_from constant after ≡ Err OpenChar
+unfolding field_from
+unclosed [] h = refl
+unclosed (b ∷ []) h = refl
+unclosed (b ∷ c ∷ bs) h = ap (λ t. more 1 (cond t (more 1 (field_from nothing bs)) (Err OpenChar))) h
+
+pub open-char : (front after : List ℕ) → IsField front → closes after ≡ false → field_length (front ++ 39 ∷ after) ≡ Err OpenChar
+unfolding field_from
+open-char front after f h = measured front f (39 ∷ after) ∙ ap (λ r. more (length front) (more 1 r)) (unclosed after h)
+
+-- What is measured is spelled by the rules: what is left of a field, by where it stands.
+pub record InString (bytes : List ℕ) : Type 0 where
+  pub inner : List ℕ
+  pub rest : List ℕ
+  pub spelled : bytes ≡ inner ++ 34 ∷ rest
+  pub free : list_all is_no_quote inner ≡ true
+  pub field : IsField rest
+
+pub record InConstant (bytes : List ℕ) : Type 0 where
+  pub byte : ℕ
+  pub rest : List ℕ
+  pub spelled : bytes ≡ byte ∷ 39 ∷ rest
+  pub field : IsField rest
+
+pub record InClosing (bytes : List ℕ) : Type 0 where
+  pub rest : List ℕ
+  pub spelled : bytes ≡ 39 ∷ rest
+  pub field : IsField rest
+
+abbrev pub IsLeft : Within → List ℕ → Type 0
+IsLeft nothing bytes = IsField bytes
+IsLeft string bytes = InString bytes
+IsLeft constant bytes = InConstant bytes
+IsLeft closing bytes = InClosing bytes
+
+pub record Whole (w : Within) (text : List ℕ) (count : ℕ) : Type 0 where
+  pub bytes : List ℕ
+  pub after : List ℕ
+  pub spelled : text ≡ bytes ++ after
+  pub counted : length bytes ≡ count
+  pub left : IsLeft w bytes
+  pub ends : ends_here after ≡ true
+
+pub data OpenedString (w : Within) (text : List ℕ) : Type 0 where
+  opened : (bytes inner : List ℕ) → text ≡ bytes ++ 34 ∷ inner → IsLeft w bytes → list_all is_no_quote inner ≡ true → OpenedString w text
+  inside : w ≡ string → list_all is_no_quote text ≡ true → OpenedString w text
+
+pub data OpenedChar (w : Within) (text : List ℕ) : Type 0 where
+  opened_char : (bytes after : List ℕ) → text ≡ bytes ++ 39 ∷ after → IsLeft w bytes → closes after ≡ false → OpenedChar w text
+  at_byte : w ≡ constant → closes text ≡ false → OpenedChar w text
+  at_close : w ≡ closing → begins (λ b. b == 39) text ≡ false → OpenedChar w text
+
+abbrev pub Spelled : Within → List ℕ → Result ℕ LineFault → Type 0
+Spelled w text (Ok count) = Whole w text count
+Spelled w text (Err OpenString) = OpenedString w text
+Spelled w text (Err OpenChar) = OpenedChar w text
+Spelled w text (Err TooLong) = ⊥
+Spelled w text (Err BadLabel) = ⊥
+Spelled w text (Err BadLocal) = ⊥
+Spelled w text (Err BadOpcode) = ⊥
+Spelled w text (Err NoOpcode) = ⊥
+
+-- one byte before what is left
+grown : (v w : Within) (b : ℕ) (bs : List ℕ) → ((bytes : List ℕ) → IsLeft v bytes → IsLeft w (b ∷ bytes)) →
+    (v ≡ string → list_all is_no_quote bs ≡ true → OpenedString w (b ∷ bs)) → (v ≡ constant → closes bs ≡ false → OpenedChar w (b ∷ bs)) →
+    (v ≡ closing → begins (λ c. c == 39) bs ≡ false → OpenedChar w (b ∷ bs)) → (r : Result ℕ LineFault) → Spelled v bs r → Spelled w (b ∷ bs) (more 1 r)
+grown v w b bs grow s c d (Ok n) h = record { bytes = b ∷ h.bytes; after = h.after; spelled = ap (λ t. b ∷ t) h.spelled; counted = omega (arith, h.counted); left = grow h.bytes h.left; ends = h.ends }
+grown v w b bs grow s c d (Err OpenString) (opened bytes inner e l f) = opened (b ∷ bytes) inner (ap (λ t. b ∷ t) e) (grow bytes l) f
+grown v w b bs grow s c d (Err OpenString) (inside e f) = s e f
+grown v w b bs grow s c d (Err OpenChar) (opened_char bytes after e l f) = opened_char (b ∷ bytes) after (ap (λ t. b ∷ t) e) (grow bytes l) f
+grown v w b bs grow s c d (Err OpenChar) (at_byte e f) = c e f
+grown v w b bs grow s c d (Err OpenChar) (at_close e f) = d e f
+grown v w b bs grow s c d (Err TooLong) h = h
+grown v w b bs grow s c d (Err BadLabel) h = h
+grown v w b bs grow s c d (Err BadLocal) h = h
+grown v w b bs grow s c d (Err BadOpcode) h = h
+grown v w b bs grow s c d (Err NoOpcode) h = h
+
+from-quote : (bs : List ℕ) → Spelled string bs (field_from string bs) → Spelled nothing (34 ∷ bs) (more 1 (field_from string bs))
+from-quote bs h =
+    grown string nothing 34 bs (λ bytes l. subst (λ t. IsField (34 ∷ t)) (sym l.spelled) (string_first l.inner l.rest l.free l.field))
+    (λ e f. opened [] bs refl empty f) (λ e f. absurd (cc)) (λ e f. absurd (cc)) (field_from string bs) h
+
+from-apostrophe : (bs : List ℕ) → Spelled constant bs (field_from constant bs) → Spelled nothing (39 ∷ bs) (more 1 (field_from constant bs))
+from-apostrophe bs h =
+    grown constant nothing 39 bs (λ bytes l. subst (λ t. IsField (39 ∷ t)) (sym l.spelled) (constant_first l.byte l.rest l.field))
+    (λ e f. absurd (cc)) (λ e f. opened_char [] bs refl empty f) (λ e f. absurd (cc)) (field_from constant bs) h
+
+from-byte : (b : ℕ) (bs : List ℕ) → is_other b ≡ true → Spelled nothing bs (field_from nothing bs) → Spelled nothing (b ∷ bs) (more 1 (field_from nothing bs))
+from-byte b bs o h =
+    grown nothing nothing b bs (λ bytes l. byte_first b bytes o l) (λ e f. absurd (cc)) (λ e f. absurd (cc)) (λ e f. absurd (cc)) (field_from nothing bs) h
+
+string-ends : (bs : List ℕ) → Spelled nothing bs (field_from nothing bs) → Spelled string (34 ∷ bs) (more 1 (field_from nothing bs))
+string-ends bs h =
+    grown nothing string 34 bs (λ bytes l. record { inner = []; rest = bytes; spelled = refl; free = refl; field = l }) (λ e f. absurd (cc)) (λ e f. absurd (cc)) (λ e f. absurd (cc)) (field_from nothing bs) h
+
+free-more : (b : ℕ) (bs : List ℕ) → (b == 34) ≡ false → list_all is_no_quote bs ≡ true → list_all is_no_quote (b ∷ bs) ≡ true
+free-more b bs e f = rw (e, f) refl
+
+string-goes : (b : ℕ) (bs : List ℕ) → (b == 34) ≡ false → Spelled string bs (field_from string bs) → Spelled string (b ∷ bs) (more 1 (field_from string bs))
+string-goes b bs n h =
+    grown string string b bs (λ bytes l. record { inner = b ∷ l.inner; rest = l.rest; spelled = ap (λ t. b ∷ t) l.spelled; free = free-more b l.inner n l.free; field = l.field })
+    (λ e f. inside refl (free-more b bs n f)) (λ e f. absurd (cc)) (λ e f. absurd (cc)) (field_from string bs) h
+
+unclosed-byte : (b : ℕ) (bs : List ℕ) → begins (λ c. c == 39) bs ≡ false → closes (b ∷ bs) ≡ false
+unclosed-byte b [] h = refl
+unclosed-byte b (c ∷ cs) h = h
+
+constant-goes : (b : ℕ) (bs : List ℕ) → Spelled closing bs (field_from closing bs) → Spelled constant (b ∷ bs) (more 1 (field_from closing bs))
+constant-goes b bs h =
+    grown closing constant b bs (λ bytes l. record { byte = b; rest = l.rest; spelled = ap (λ t. b ∷ t) l.spelled; field = l.field })
+    (λ e f. absurd (cc)) (λ e f. absurd (cc)) (λ e f. at_byte refl (unclosed-byte b bs f)) (field_from closing bs) h
+
+constant-ends : (bs : List ℕ) → Spelled nothing bs (field_from nothing bs) → Spelled closing (39 ∷ bs) (more 1 (field_from nothing bs))
+constant-ends bs h =
+    grown nothing closing 39 bs (λ bytes l. record { rest = bytes; spelled = refl; field = l }) (λ e f. absurd (cc)) (λ e f. absurd (cc)) (λ e f. absurd (cc)) (field_from nothing bs) h
+
+is-other : (b : ℕ) → (b == 34) ≡ false → (b == 39) ≡ false → ends_field b ≡ false → is_other b ≡ true
+is-other b e f g = rw (e, f, g) refl
+
+pub spelled-is : (w : Within) (text : List ℕ) → Spelled w text (field_from w text)
+unfolding field_from
+spelled-is nothing [] = record { bytes = []; after = []; spelled = refl; counted = refl; left = empty; ends = refl }
+spelled-is string [] = inside refl refl
+spelled-is constant [] = at_byte refl refl
+spelled-is closing [] = at_close refl refl
+spelled-is nothing (b ∷ bs) =
+    let P : Result ℕ LineFault → Type 0 = Spelled nothing (b ∷ bs) in
+    chosen P (b == 34) _ _ (λ e. subst (λ c. Spelled nothing (c ∷ bs) (more 1 (field_from string bs))) (sym (is-eq b 34 e)) (from-quote bs (spelled-is string bs))) (λ e.
+    chosen P (b == 39) _ _ (λ f. subst (λ c. Spelled nothing (c ∷ bs) (more 1 (field_from constant bs))) (sym (is-eq b 39 f)) (from-apostrophe bs (spelled-is constant bs))) (λ f.
+    chosen P (ends_field b) _ _ (λ g. record { bytes = []; after = b ∷ bs; spelled = refl; counted = refl; left = empty; ends = g })
+    (λ g. from-byte b bs (is-other b e f g) (spelled-is nothing bs))))
+spelled-is string (b ∷ bs) =
+    let P : Result ℕ LineFault → Type 0 = Spelled string (b ∷ bs) in
+    chosen P (b == 34) _ _ (λ e. subst (λ c. Spelled string (c ∷ bs) (more 1 (field_from nothing bs))) (sym (is-eq b 34 e)) (string-ends bs (spelled-is nothing bs)))
+    (λ e. string-goes b bs e (spelled-is string bs))
+spelled-is constant (b ∷ bs) = constant-goes b bs (spelled-is closing bs)
+spelled-is closing (b ∷ bs) =
+    let P : Result ℕ LineFault → Type 0 = Spelled closing (b ∷ bs) in
+    chosen P (b == 39) _ _ (λ e. subst (λ c. Spelled closing (c ∷ bs) (more 1 (field_from nothing bs))) (sym (is-eq b 39 e)) (constant-ends bs (spelled-is nothing bs)))
+    (λ e. at_close refl e)

@@ -1,0 +1,136 @@
+-- Operand fields by what stands first in them.
+use Rattle.std.proofs.Common.{◌≡◌, ◌≢◌, ℕ, zero, suc, ◌+◌, ◌<◌, ◌≤◌, List, [], ◌∷◌, length, drop, get_or, Bool, true, false, cond, not, Some, None, Result, Ok, Err, IfOk, arith, refl, sym, ap, ◌∙◌, add-one}
+use Rattle.std.specs.Prelude.{◌==◌}
+use Rattle.std.proofs.lemmas.Bool.Decides.{nat_tests}
+use Rattle.std.specs.List.{position_or_len}
+use Rattle.std.proofs.lemmas.List.{drop-drop}
+use Rattle.mx_line.specs.declared.faults.LineFault.{LineFault}
+use Rattle.mx_line.specs.declared.faults.LineFault.TheVariants.{OpenString, OpenChar}
+use Rattle.mx_line.proofs.Choices.{chosen, chosen-last}
+use Rattle.mx_line.specs.Fields.{Within, field_from, field_length, after_first, more, ends_field}
+use Rattle.mx_line.specs.Fields.Within.{nothing, string, constant, closing}
+
+pub more-more : (a b : ℕ) (r : Result ℕ LineFault) → more a (more b r) ≡ more (a + b) r
+more-more a b (Ok n) = let e : a + (b + n) ≡ a + b + n = omega arith in ap (λ m. Ok m) e
+more-more a b (Err f) = refl
+
+-- a field without bytes
+pub empty-field : (text : List ℕ) → length text ≡ 0 → field_length text ≡ Ok 0
+unfolding field_from
+empty-field [] h = refl
+empty-field (b ∷ bs) h = absurd (omega arith)
+
+-- the field's length, where something stands first
+after-some : (text : List ℕ) (count : ℕ) → 0 < count → more count (field_length (drop count text)) ≡ after_first text (Ok count)
+after-some text count h = chosen-last (count == 0) (Ok 0) (more count (field_length (drop count text))) (grind (arith, nat_tests))
+
+-- the string is closed at the first quote
+string-step : (t : Bool) (b n : ℕ) (bs : List ℕ) → (t ≡ false → n < length bs → field_from string bs ≡ more (n + 1) (field_from nothing (drop (n + 1) bs))) →
+    cond (not t) (1 + n) 0 < 1 + length bs →
+    cond t (more 1 (field_from nothing bs)) (more 1 (field_from string bs)) ≡ more (cond (not t) (1 + n) 0 + 1) (field_from nothing (drop (cond (not t) (1 + n) 0 + 1) (b ∷ bs)))
+string-step true b n bs h l = refl
+string-step false b n bs h l =
+    let e : 1 + n + 1 ≡ suc (n + 1) = omega arith in
+    let f : 1 + (n + 1) ≡ suc (n + 1) = omega arith in
+    let inner : n < length bs = omega arith in
+    rw e (ap (more 1) (h refl inner) ∙ more-more 1 (n + 1) (field_from nothing (drop (n + 1) bs)) ∙ ap (λ k. more k (field_from nothing (drop (n + 1) bs))) f)
+
+string-closed : (xs : List ℕ) → position_or_len (λ x. x == 34) xs < length xs →
+    field_from string xs ≡ more (position_or_len (λ x. x == 34) xs + 1) (field_from nothing (drop (position_or_len (λ x. x == 34) xs + 1) xs))
+unfolding field_from
+string-closed [] h = absurd (omega arith)
+string-closed (b ∷ bs) h = string-step (b == 34) b (position_or_len (λ x. x == 34) bs) bs (λ _ l. string-closed bs l) (omega arith)
+
+pub string-first : (xs : List ℕ) (n : ℕ) → n ≡ position_or_len (λ x. x == 34) xs → n < length xs → field_length (34 ∷ xs) ≡ after_first (34 ∷ xs) (Ok (n + 2))
+unfolding field_from
+string-first xs n e l =
+    let f : 1 + (n + 1) ≡ n + 2 = omega arith in
+    let g : n + 2 ≡ suc (n + 1) = omega arith in
+    let closed : field_from string xs ≡ more (n + 1) (field_from nothing (drop (n + 1) xs)) = rw e (string-closed xs (rw e at l)) in
+    let same : more (1 + (n + 1)) (field_from nothing (drop (n + 1) xs)) ≡ more (n + 2) (field_length (drop (n + 2) (34 ∷ xs))) = rw (f, g) refl in
+    ap (more 1) closed ∙ more-more 1 (n + 1) (field_from nothing (drop (n + 1) xs)) ∙ same ∙ after-some (34 ∷ xs) (n + 2) (omega arith)
+
+string-open-step : (t : Bool) (b n : ℕ) (bs : List ℕ) → (n ≡ length bs → field_from string bs ≡ Err OpenString) → cond (not t) (1 + n) 0 ≡ 1 + length bs →
+    cond t (more 1 (field_from nothing bs)) (more 1 (field_from string bs)) ≡ Err OpenString
+string-open-step true b n bs h l = absurd (omega arith)
+string-open-step false b n bs h l = ap (more 1) (h (omega arith))
+
+string-open : (xs : List ℕ) → position_or_len (λ x. x == 34) xs ≡ length xs → field_from string xs ≡ Err OpenString
+unfolding field_from
+string-open [] h = refl
+string-open (b ∷ bs) h = string-open-step (b == 34) b (position_or_len (λ x. x == 34) bs) bs (λ e. string-open bs e) (omega arith)
+
+pub string-none : (xs : List ℕ) (n : ℕ) → n ≡ position_or_len (λ x. x == 34) xs → n ≤ length xs → length xs ≤ n → field_length (34 ∷ xs) ≡ Err OpenString
+unfolding field_from
+string-none xs n e l m = ap (more 1) (string-open xs (omega arith))
+
+-- a character constant, by the bytes after its apostrophe
+pub constant-short : (xs : List ℕ) → length xs < 2 → field_length (39 ∷ xs) ≡ Err OpenChar
+unfolding field_from
+constant-short [] h = refl
+constant-short (x ∷ []) h = refl
+constant-short (x ∷ y ∷ ys) h = absurd (omega arith)
+
+pub constant-closed : (xs : List ℕ) → 2 ≤ length xs → get_or xs 1 0 ≡ 39 → field_length (39 ∷ xs) ≡ more 3 (field_length (drop 2 xs))
+unfolding field_from
+constant-closed [] h e = absurd (omega arith)
+constant-closed (x ∷ []) h e = absurd (omega arith)
+constant-closed (x ∷ y ∷ ys) h e = rw e (ap (more 1) (more-more 1 1 (field_from nothing ys)) ∙ more-more 1 2 (field_from nothing ys))
+
+open-step : (t : Bool) (ys : List ℕ) → t ≡ false → more 1 (more 1 (cond t (more 1 (field_from nothing ys)) (Err OpenChar))) ≡ Err OpenChar
+open-step t ys e = rw e refl
+
+pub constant-open : (xs : List ℕ) → 2 ≤ length xs → get_or xs 1 0 ≢ 39 → field_length (39 ∷ xs) ≡ Err OpenChar
+unfolding field_from
+constant-open [] h e = absurd (omega arith)
+constant-open (x ∷ []) h e = absurd (omega arith)
+constant-open (x ∷ y ∷ ys) h e = open-step (y == 39) ys (grind (arith, nat_tests))
+
+-- another byte
+other-step : (s t u : Bool) (r q p : Result ℕ LineFault) → s ≡ false → t ≡ false → cond s r (cond t q (cond u (Ok 0) p)) ≡ cond u (Ok 0) p
+other-step s t u r q p e f = rw (e, f) refl
+
+other : (b : ℕ) (xs : List ℕ) → b ≢ 34 → b ≢ 39 → field_length (b ∷ xs) ≡ cond (ends_field b) (Ok 0) (more 1 (field_length xs))
+unfolding field_from
+other b xs h k = other-step (b == 34) (b == 39) (ends_field b) _ _ _ (grind (arith, nat_tests)) (grind (arith, nat_tests))
+
+pub field-ends : (b : ℕ) (xs : List ℕ) → b ≢ 34 → b ≢ 39 → ends_field b ≡ true → field_length (b ∷ xs) ≡ Ok 0
+field-ends b xs h k e = other b xs h k ∙ ap (λ t. cond t (Ok 0) (more 1 (field_length xs))) e
+
+pub field-more : (b : ℕ) (xs : List ℕ) → b ≢ 34 → b ≢ 39 → ends_field b ≡ false → field_length (b ∷ xs) ≡ more 1 (field_length xs)
+field-more b xs h k e = other b xs h k ∙ ap (λ t. cond t (Ok 0) (more 1 (field_length xs))) e
+
+-- a field is no longer than its text
+more-few : (r : Result ℕ LineFault) (k : ℕ) → IfOk r (λ n. n ≤ k) → IfOk (more 1 r) (λ n. n ≤ suc k)
+more-few (Ok n) k h = omega arith
+more-few (Err f) k h = tt
+
+field-few : (w : Within) (text : List ℕ) → IfOk (field_from w text) (λ n. n ≤ length text)
+unfolding field_from
+field-few nothing [] = omega arith
+field-few string [] = tt
+field-few constant [] = tt
+field-few closing [] = tt
+field-few nothing (b ∷ bs) =
+    let P : Result ℕ LineFault → Type 0 = λ r. IfOk r (λ n. n ≤ suc (length bs)) in
+    chosen P (b == 34) _ _ (λ _. more-few (field_from string bs) (length bs) (field-few string bs)) (λ _.
+    chosen P (b == 39) _ _ (λ _. more-few (field_from constant bs) (length bs) (field-few constant bs)) (λ _.
+    chosen P (ends_field b) _ _ (λ _. omega arith) (λ _. more-few (field_from nothing bs) (length bs) (field-few nothing bs))))
+field-few string (b ∷ bs) =
+    let P : Result ℕ LineFault → Type 0 = λ r. IfOk r (λ n. n ≤ suc (length bs)) in
+    chosen P (b == 34) _ _ (λ _. more-few (field_from nothing bs) (length bs) (field-few nothing bs)) (λ _. more-few (field_from string bs) (length bs) (field-few string bs))
+field-few constant (b ∷ bs) = more-few (field_from closing bs) (length bs) (field-few closing bs)
+field-few closing (b ∷ bs) =
+    let P : Result ℕ LineFault → Type 0 = λ r. IfOk r (λ n. n ≤ suc (length bs)) in
+    chosen P (b == 39) _ _ (λ _. more-few (field_from nothing bs) (length bs) (field-few nothing bs)) (λ _. tt)
+
+pub field_length-few : (text : List ℕ) → IfOk (field_length text) (λ n. n ≤ length text)
+field_length-few text = field-few nothing text
+
+pub ruleset strings = (string-first, string-none)
+
+pub ruleset constants = (constant-short, constant-closed, constant-open)
+
+pub ruleset firsts = (empty-field, field-ends, field-more)
+
+pub ruleset fields = (more-more, drop-drop)

@@ -1,0 +1,105 @@
+//! Operand fields.
+
+ghost use Rattle.std.specs.Prelude.{◌≡◌, ◌≤◌, ◌+◌, ◌==◌, ◌∷◌, length, IfOk};
+ghost use Rattle.mx_line.specs.Bytes.{is_blank};
+ghost use Rattle.mx_line.specs.Fields as spec;
+
+use crate::LineFault;
+use crate::kinds::is_blank;
+use crate::pieces::first_length;
+
+/// Whether a byte ends an operand field, and an opcode.
+fn ends_field(b: u8) -> bool
+    ensures { result ≡ spec.ends_field b }
+{
+    is_blank(b) || b == 59
+}
+
+/// Whether an operand field or an opcode ends before a text.
+pub fn ends_here(rest: &[u8]) -> bool
+    ensures { result ≡ spec.ends_here rest.now }
+{
+    match rest {
+        [] => true,
+        [b, ..] => ends_field(*b),
+    }
+}
+
+/// How many bytes a string has that opens before a text.
+#[tactic(auto, using(crate::proofs::FieldLemmas::strings))]
+fn string_length(rest: &[u8]) -> Result<usize, LineFault>
+    ensures within { IfOk result (λ count. count ≤ length rest.now + 1) }
+    ensures field { spec.field_length (34 ∷ rest.now) ≡ spec.after_first (34 ∷ rest.now) result }
+{
+    let count = first_length(34, rest);
+    if count < rest.len() {
+        Ok(count + 2)
+    } else {
+        Err(LineFault::OpenString)
+    }
+}
+
+/// How many bytes a character constant has that opens before a text.
+#[tactic(auto, using(crate::proofs::FieldLemmas::constants))]
+fn constant_length(rest: &[u8]) -> Result<usize, LineFault>
+    ensures within { IfOk result (λ count. count ≤ length rest.now + 1) }
+    ensures field { spec.field_length (39 ∷ rest.now) ≡ spec.after_first (39 ∷ rest.now) result }
+{
+    match rest {
+        [_, close, ..] => {
+            if *close == 39 {
+                Ok(3)
+            } else {
+                Err(LineFault::OpenChar)
+            }
+        }
+        _ => Err(LineFault::OpenChar),
+    }
+}
+
+/// How many bytes stand first in a field, by its first byte.
+#[tactic(auto, using(crate::proofs::FieldLemmas::firsts))]
+fn part_from(b: u8, rest: &[u8]) -> Result<usize, LineFault>
+    ensures within { IfOk result (λ count. count ≤ length rest.now + 1) }
+    ensures field { spec.field_length (b ∷ rest.now) ≡ spec.after_first (b ∷ rest.now) result }
+{
+    if b == 34 {
+        string_length(rest)
+    } else if b == 39 {
+        constant_length(rest)
+    } else if ends_field(b) {
+        Ok(0)
+    } else {
+        Ok(1)
+    }
+}
+
+/// How many bytes stand first in a field: those of a string, of a character constant, or one
+/// other; none where the field ends.
+#[tactic(auto, using(crate::proofs::FieldLemmas::firsts))]
+fn part_length(text: &[u8]) -> Result<usize, LineFault>
+    ensures within { IfOk result (λ count. count ≤ length text.now) }
+    ensures field { spec.field_length text.now ≡ spec.after_first text.now result }
+{
+    match text {
+        [] => Ok(0),
+        [b, rest @ ..] => part_from(*b, rest),
+    }
+}
+
+/// How many bytes the operand field at the front of a text has.
+#[tactic(auto, using(crate::proofs::FieldLemmas::fields))]
+pub fn field_length(text: &[u8]) -> Result<usize, LineFault>
+    ensures within { IfOk result (λ count. count ≤ length text.now) }
+    ensures field { result ≡ spec.field_length text.now }
+{
+    let mut count = 0;
+    'field: loop {
+        let (_, rest) = text.split_at(count);
+        match part_length(rest) {
+            Err(fault) => return Err(fault),
+            Ok(0) => return Ok(count),
+            Ok(more) => count += more,
+        }
+    }
+}

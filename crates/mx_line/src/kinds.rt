@@ -1,0 +1,61 @@
+//! The kinds of bytes of the source language (MMIXAL, format of lines: MMIXware, LNCS 1750).
+
+ghost use Rattle.std.specs.Prelude.{◌≡◌, ◌+◌, length};
+ghost use Rattle.mx_line.specs.Bytes as spec;
+
+pub fn is_blank(b: u8) -> bool
+    ensures { result ≡ spec.is_blank b }
+{
+    b == 9 || b == 11 || b == 12 || b == 13 || b == 32
+}
+
+pub fn is_digit(b: u8) -> bool
+    ensures { result ≡ spec.is_digit b }
+{
+    48 <= b && b <= 57
+}
+
+fn is_letter(b: u8) -> bool
+    ensures { result ≡ spec.is_letter b }
+{
+    (65 <= b && b <= 90) || (97 <= b && b <= 122) || b == 58 || b == 95 || b > 126
+}
+
+/// Whether a byte is a letter or a digit.
+pub fn is_word(b: u8) -> bool
+    ensures { result ≡ spec.is_word b }
+{
+    is_letter(b) || is_digit(b)
+}
+
+fn blank_count(text: &[u8]) -> usize
+    ensures { result ≡ length (spec.run spec.is_blank text.now) }
+{
+    text.iter().take_while(|b| is_blank(**b)).count()
+}
+
+fn word_count(text: &[u8]) -> usize
+    ensures { result ≡ length (spec.run spec.is_word text.now) }
+{
+    text.iter().take_while(|b| is_word(**b)).count()
+}
+
+/// The blanks at the front of a text, and what follows them.
+#[tactic(auto, using(crate::proofs::KindLemmas::runs))]
+pub fn blanks(text: &[u8]) -> (&[u8], &[u8])
+    ensures front { result.0.now ≡ spec.run spec.is_blank text.now }
+    ensures rest { result.1.now ≡ spec.past spec.is_blank text.now }
+    ensures whole { length result.0.now + length result.1.now ≡ length text.now }
+{
+    text.split_at(blank_count(text))
+}
+
+/// The letters and digits at the front of a text, and what follows them.
+#[tactic(auto, using(crate::proofs::KindLemmas::runs))]
+pub fn word(text: &[u8]) -> (&[u8], &[u8])
+    ensures front { result.0.now ≡ spec.run spec.is_word text.now }
+    ensures rest { result.1.now ≡ spec.past spec.is_word text.now }
+    ensures whole { length result.0.now + length result.1.now ≡ length text.now }
+{
+    text.split_at(word_count(text))
+}
