@@ -1,0 +1,46 @@
+//! Runs the program on the real files and streams.
+#![tactic(auto)]
+
+mod help;
+mod opening;
+mod real;
+mod streams;
+#[cfg(test)]
+mod tests;
+
+use crate::help::{HELP, VERSION, answered};
+use crate::real::RealHost;
+use mx_top::mmixware;
+use std::env;
+use std::process::ExitCode;
+
+/// The statuses of what goes wrong before the program's own work.
+const FAULTY_WORDS: u8 = 64;
+
+const OUT_OF_MEMORY: u8 = 71;
+
+fn main(rt: HostRuntime) -> ExitCode {
+    let alloc = rt.alloc();
+    let Ok(args) = env::args(&rt) else {
+        return ExitCode::from(FAULTY_WORDS);
+    };
+    let Ok(all) = args.collect::<Vec<String>>(alloc) else {
+        return ExitCode::from(OUT_OF_MEMORY);
+    };
+    let words = match all.as_slice() {
+        [] => &[],
+        [_program, words @ ..] => words,
+    };
+    if let [word] = words {
+        match word.as_str() {
+            "--help" => return answered(&rt, HELP),
+            "--version" => return answered(&rt, VERSION),
+            _ => {}
+        }
+    }
+    let Some(mut host) = RealHost::new(rt) else {
+        return ExitCode::from(OUT_OF_MEMORY);
+    };
+    let outcome = mmixware(alloc, words, &mut host);
+    ExitCode::from(outcome.status())
+}

@@ -1,0 +1,13 @@
+pub mod Digits
+pub mod Fronts
+pub mod Gather
+pub mod Lines
+pub mod Locals
+pub mod Passes
+pub mod Placed
+pub mod PutPieces
+pub mod ReadPieces
+pub mod ReadText
+pub mod Sources
+pub mod Turns
+pub mod Writes

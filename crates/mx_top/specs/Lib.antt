@@ -1,0 +1,16 @@
+pub mod FileTraps
+pub mod Held
+pub mod ListMachine
+pub mod Lists
+pub mod Memory
+pub mod Messages
+pub mod Names
+pub mod OnePass
+pub mod Product
+pub mod Registers
+pub mod Runs
+pub mod Source
+pub mod Status
+pub mod Step
+pub mod TwoPass
+pub mod Words

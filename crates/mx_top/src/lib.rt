@@ -1,0 +1,27 @@
+//! The program: what it does with the words of its command line.
+#![tactic(auto)]
+
+mod assemble;
+mod assembler;
+mod assembly;
+mod end;
+mod labels;
+mod machine;
+mod memory;
+mod message;
+mod names;
+mod outcome;
+mod registers;
+mod run;
+mod searches;
+mod source;
+#[cfg(test)]
+mod tests;
+mod texts;
+mod top;
+mod traps;
+mod words;
+
+pub use names::{fault_name, usage_name};
+pub use outcome::{Outcome, WordsFault};
+pub use top::mmixware;

@@ -1,0 +1,98 @@
+//! The file that holds the source, as it is read.
+
+ghost use Rattle.std.specs.Prelude.{IsTrue, ◌≡◌, ◌≢◌, ◌≤◌, ◌++◌, [], ℕ, Some, None, Ok, Err, OnOk, OnErr, IfOk, IfErr, nat_lt, length};
+ghost use Rattle.mx_host.specs.HostModel.{tells, contents, slot_at, Rose};
+ghost use Rattle.mx_host.specs.HostAnswer.{close_answer};
+ghost use Rattle.mx_word.specs.Results.{map_ok};
+ghost use Rattle.mx_top.specs.Source.{pieces, source_of};
+ghost use Rattle.mx_top.specs.Source as spec;
+
+use crate::outcome::Outcome;
+use mx_host::{Host, HostFault, Mode, OpenFault};
+use mx_word::Bytes;
+use std::alloc::Global;
+
+/// Reads one piece to the end of what was got, and says whether it was a whole one.
+#[tactic(auto, unfolding(mx_host::specs::HostAnswer::read_answer))]
+fn one_piece<H: Host>(host: &mut H, got: &mut Bytes, piece: &mut [u8]) -> Result<bool, Outcome>
+    requires { length piece.old ≡ 4096 }
+    ensures told { IsTrue (tells (H.told host.old)) → result ≢ Err Outcome.OutOfMemory → (map_ok (λ whole. (got.new, whole)) result, contents (H.told host.new)) ≡ spec.one_piece got.old (contents (H.told host.old)) }
+    ensures errors { IfErr result (λ e. e ≢ Outcome.OutOfMemory → e ≡ Outcome.HostFault) }
+    ensures output { IsTrue (tells (H.told host.old)) → (contents (H.told host.new)).output ≡ (contents (H.told host.old)).output }
+    ensures messages { IsTrue (tells (H.told host.old)) → slot_at (contents (H.told host.new)) 260 ≡ slot_at (contents (H.told host.old)) 260 }
+    ensures keeps { tells (H.told host.new) ≡ tells (H.told host.old) }
+    ensures rose { ¬ IsTrue (tells (H.told host.old)) → result ≡ Err Outcome.HostFault → Rose (H.faults host.old) (H.faults host.new) }
+    ensures never_falls { H.faults host.old ≤ H.faults host.new }
+{
+    match host.read_slot(256, piece) {
+        Ok(count) => match got.extend(&piece[..count]) {
+            Ok(()) => Ok(count == 4096),
+            Err(_) => Err(Outcome::OutOfMemory),
+        },
+        Err(HostFault::OutOfMemory) => Err(Outcome::OutOfMemory),
+        Err(_) => Err(Outcome::HostFault),
+    }
+}
+
+/// Reads the whole of the input file, or more than 2^22 bytes of it.
+#[tactic(auto, using(crate::proofs::ReadPieces::reading))]
+fn pieces<H: Host>(alloc: Global, host: &mut H) -> Result<Bytes, Outcome>
+    ensures told { IsTrue (tells (H.told host.old)) → result ≢ Err Outcome.OutOfMemory → (result, contents (H.told host.new)) ≡ spec.pieces 1025 [] (contents (H.told host.old)) }
+    ensures errors { IfErr result (λ e. e ≢ Outcome.OutOfMemory → e ≡ Outcome.HostFault) }
+    ensures output { IsTrue (tells (H.told host.old)) → (contents (H.told host.new)).output ≡ (contents (H.told host.old)).output }
+    ensures messages { IsTrue (tells (H.told host.old)) → slot_at (contents (H.told host.new)) 260 ≡ slot_at (contents (H.told host.old)) 260 }
+    ensures keeps { tells (H.told host.new) ≡ tells (H.told host.old) }
+    ensures rose { ¬ IsTrue (tells (H.told host.old)) → result ≡ Err Outcome.HostFault → Rose (H.faults host.old) (H.faults host.new) }
+    ensures never_falls { H.faults host.old ≤ H.faults host.new }
+{
+    let mut got = Bytes::new(alloc);
+    let mut piece = [0u8; 4096];
+    for turn in 0..1025u32 {
+        match one_piece(host, &mut got, &mut piece) {
+            Ok(true) => {}
+            Ok(false) => return Ok(got),
+            Err(e) => return Err(e),
+        }
+    }
+    Ok(got)
+}
+
+/// Closes the input file.
+#[tactic(auto, unfolding(mx_host::specs::HostAnswer::close_answer))]
+fn close<H: Host>(host: &mut H, bytes: Bytes) -> Result<Bytes, Outcome>
+    ensures told { IsTrue (tells (H.told host.old)) → result ≢ Err Outcome.OutOfMemory → (result, contents (H.told host.new)) ≡ spec.closed_with bytes (close_answer (contents (H.told host.old)) 256) }
+    ensures errors { IfErr result (λ e. e ≢ Outcome.OutOfMemory → e ≡ Outcome.HostFault) }
+    ensures output { IsTrue (tells (H.told host.old)) → (contents (H.told host.new)).output ≡ (contents (H.told host.old)).output }
+    ensures messages { IsTrue (tells (H.told host.old)) → slot_at (contents (H.told host.new)) 260 ≡ slot_at (contents (H.told host.old)) 260 }
+    ensures keeps { tells (H.told host.new) ≡ tells (H.told host.old) }
+    ensures rose { ¬ IsTrue (tells (H.told host.old)) → result ≡ Err Outcome.HostFault → Rose (H.faults host.old) (H.faults host.new) }
+    ensures never_falls { H.faults host.old ≤ H.faults host.new }
+{
+    match host.close_slot(256) {
+        Ok(()) => Ok(bytes),
+        Err(HostFault::OutOfMemory) => Err(Outcome::OutOfMemory),
+        Err(_) => Err(Outcome::HostFault),
+    }
+}
+
+/// Reads the file of this name.
+#[tactic(auto, unfolding(mx_host::specs::HostAnswer::open_answer))]
+pub fn read_source<H: Host>(alloc: Global, host: &mut H, name: &[u8]) -> Result<Bytes, Outcome>
+    ensures told { IsTrue (tells (H.told host.old)) → result ≢ Err Outcome.OutOfMemory → (result, contents (H.told host.new)) ≡ spec.source_of name.now (contents (H.told host.old)) }
+    ensures output { IsTrue (tells (H.told host.old)) → (contents (H.told host.new)).output ≡ (contents (H.told host.old)).output }
+    ensures messages { IsTrue (tells (H.told host.old)) → slot_at (contents (H.told host.new)) 260 ≡ slot_at (contents (H.told host.old)) 260 }
+    ensures keeps { tells (H.told host.new) ≡ tells (H.told host.old) }
+    ensures rose { ¬ IsTrue (tells (H.told host.old)) → result ≡ Err Outcome.HostFault → Rose (H.faults host.old) (H.faults host.new) }
+    ensures no_file { ¬ IsTrue (tells (H.told host.old)) → result ≡ Err Outcome.NoFile → Rose (H.faults host.old) (H.faults host.new) }
+    ensures never_falls { H.faults host.old ≤ H.faults host.new }
+{
+    match host.open_file(256, name, Mode::BinaryRead) {
+        Err(OpenFault::Absent) => Err(Outcome::NoFile),
+        Err(OpenFault::Failed) => Err(Outcome::HostFault),
+        Err(OpenFault::OutOfMemory) => Err(Outcome::OutOfMemory),
+        Ok(()) => match pieces(alloc, host) {
+            Ok(bytes) => close(host, bytes),
+            Err(e) => Err(e),
+        },
+    }
+}

@@ -1,0 +1,56 @@
+//! ReadText in memory.
+
+ghost use Rattle.std.specs.Prelude.{◌≡◌, ◌≢◌, Err, ◌^◌};
+ghost use Rattle.mx_top.specs.Memory.{byte_at};
+ghost use Rattle.mx_top.specs.FileTraps as spec;
+
+use crate::memory::Memory;
+use mx_word::Bytes;
+use std::alloc::Global;
+
+/// Why a text cannot be read.
+#[derive(Clone, Copy, Debug, PartialEq, Eq)]
+pub enum TextFault {
+    /// A byte of it has an address of 2^63 or more.
+    Negative,
+    /// It has more than 2^24 bytes.
+    TooLarge,
+    OutOfMemory,
+}
+
+/// The byte of a text at an address, and nothing at its end.
+fn text_byte(memory: &Memory, a: u64) -> Result<Option<u8>, TextFault>
+    ensures { result ≡ spec.text_byte (byte_at memory.now) a }
+{
+    if a >= 1 << 63 {
+        return Err(TextFault::Negative);
+    }
+    let byte = memory.byte(a);
+    if byte == 0 { Ok(None) } else { Ok(Some(byte)) }
+}
+
+/// The text at an address: its bytes up to the first zero byte.
+#[tactic(auto, using(crate::proofs::ReadText::reading))]
+pub fn text_at(alloc: Global, memory: &Memory, a: u64) -> Result<Bytes, TextFault>
+    ensures { result ≢ Err TextFault.OutOfMemory → result ≡ spec.text_at (byte_at memory.now) a }
+{
+    let mut text = Bytes::new(alloc);
+    let mut at = a;
+    for turn in 0..16_777_216u32 {
+        match text_byte(memory, at) {
+            Err(e) => return Err(e),
+            Ok(None) => return Ok(text),
+            Ok(Some(b)) => {
+                if text.push(b).is_err() {
+                    return Err(TextFault::OutOfMemory);
+                }
+                at += 1;
+            }
+        }
+    }
+    match text_byte(memory, at) {
+        Err(e) => Err(e),
+        Ok(None) => Ok(text),
+        Ok(Some(_)) => Err(TextFault::TooLarge),
+    }
+}
