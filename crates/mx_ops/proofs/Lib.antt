@@ -1,0 +1,5 @@
+pub mod Search
+pub mod Places
+pub mod Tables
+pub mod Computed
+pub mod Laws

@@ -1,0 +1,4 @@
+pub mod Tables
+pub mod Opcodes
+pub mod Shapes
+pub mod Predefined

@@ -1,0 +1,12 @@
+//! The tables of the assembly language: operations, operand shapes, predefined symbols.
+#![tactic(auto)]
+
+mod lookup;
+mod op;
+mod symbols;
+mod table;
+#[cfg(test)]
+mod tests;
+
+pub use lookup::{find, name, predefined, shape_of};
+pub use op::{Op, Pseudo, Shape};
