@@ -1,0 +1,17 @@
+use Rattle.std.proofs.Common.{rules, arith, ◌≡◌, ◌+◌, ℕ, List, length, is_some, Some, None, refl, sym, ◌∙◌, ap}
+use Rattle.std.specs.Option.{option_map}
+use Rattle.mx_ops.specs.Predefined.{predefined_value}
+use Rattle.mx_names.specs.Names.{value_in, value_of_name, with_symbol, first_value, pure_of}
+use Rattle.mx_names.proofs.Entries.{found, table-put, in-order, value-defined, not-some, some-mapped, length-inserted}
+use Rattle.std.proofs.lemmas.Result.{on_ok_weaker}
+use Rattle.mx_names.proofs.names.Names.define.Goals as goal
+
+pub returns-clause-looked_up : goal.returns-clause-looked_up
+returns-clause-looked_up c =
+    let absent : value_in c.args.full c.args.self.now.symbols ≡ None = ap (λ n. value_in n c.args.self.now.symbols) (sym c.as_slice-2.ensures) ∙ not-some _ (sym c.if-is_defined.ensures) in
+    on_ok_weaker c.put.result
+    (λ same name. ap (λ t. value_of_name t name) same ∙ ap (λ n. value_of_name (with_symbol c.args.self.now n c.args.v) name) c.as_slice-3.ensures ∙ value-defined c.args.self.now c.args.full c.args.v name absent)
+    c.put.ensures.ok
+
+pub returns-clause-count : goal.returns-clause-count
+returns-clause-count c = on_ok_weaker c.put.result (λ same. ap (λ t. length t.symbols) same ∙ length-inserted _ _) c.put.ensures.ok

@@ -1,0 +1,77 @@
+-- The names of a source: the defined symbols, the prefix, and the last label of each local one.
+use Rattle.std.specs.Prelude.{ℕ, ◌+◌, ◌==◌, Bool, nat_lt, List, [], ◌∷◌, ◌++◌, length, map, replicate, slice_index, slice_index_or, Option, None, Some, is_some, Result, Ok, Err, bytes_eq, if◌then◌else◌}
+use Rattle.std.specs.Ordering.{nat_cmp, is_lt}
+use Rattle.std.specs.Cmp.Lexicographic.{slice_cmp}
+use Rattle.std.specs.List.Sorted.{IsStrictlySortedBy}
+use Rattle.mx_word.specs.declared.symbols.Value.{Value}
+use Rattle.mx_word.specs.declared.symbols.Value.TheVariants.{Pure}
+use Rattle.mx_word.specs.declared.symbols.Symbol.{Symbol}
+use Rattle.mx_ops.specs.Predefined.{predefined_value}
+use Rattle.mx_names.specs.declared.fault.NameFault.{NameFault}
+use Rattle.mx_names.specs.declared.fault.NameFault.TheVariants.{Twice, Predefined, NameTooLong}
+
+-- The defined symbols in byte order of their names, the prefix, and the values of the last labels 0H to 9H.
+pub record NameTable : Type 0 where
+  pub symbols : List Symbol
+  pub prefix : List ℕ
+  pub backs : List Value
+
+-- before the first statement: nothing is defined, the prefix is a colon, and each local label is 0
+abbrev pub start : NameTable
+start = record { symbols = []; prefix = 58 ∷ []; backs = replicate 10 (Pure 0) }
+
+-- a symbol that begins with a colon is complete
+abbrev pub is_complete : List ℕ → Bool
+is_complete name = slice_index name 0 == 58
+
+-- the complete form of a symbol: itself, or the prefix followed by it
+abbrev pub complete : List ℕ → List ℕ → List ℕ
+complete prefix name = if is_complete name then name else prefix ++ name
+
+-- a complete form that is not too long
+abbrev pub fitting : List ℕ → Result (List ℕ) NameFault
+fitting full = if nat_lt 1024 (length full) then Err NameTooLong else Ok full
+
+-- the value of a symbol among those that are defined
+abbrev pub value_in : List ℕ → List Symbol → Option Value
+value_in name [] = None
+value_in name (symbol ∷ symbols) = if bytes_eq name symbol.name then Some symbol.value else value_in name symbols
+
+-- a predefined symbol is pure
+abbrev pub pure_of : Option ℕ → Option Value
+pure_of None = None
+pure_of (Some value) = Some (Pure value)
+
+-- the first of two values that is there
+abbrev pub first_value : Option Value → Option Value → Option Value
+first_value None other = other
+first_value (Some value) other = Some value
+
+-- the value of a complete name that is defined or predefined
+abbrev pub value_of_name : NameTable → List ℕ → Option Value
+value_of_name table name = first_value (value_in name table.symbols) (pure_of (predefined_value name))
+
+-- symbols in byte order with one more
+abbrev pub inserted : Symbol → List Symbol → List Symbol
+inserted new [] = new ∷ []
+inserted new (symbol ∷ symbols) = if is_lt (slice_cmp nat_cmp new.name symbol.name) then new ∷ symbol ∷ symbols else symbol ∷ inserted new symbols
+
+-- each name is below the next one, byte by byte
+abbrev pub InByteOrder : List Symbol → Type 0
+InByteOrder symbols = IsStrictlySortedBy (slice_cmp nat_cmp) (map (λ (s : Symbol). s.name) symbols)
+
+-- whether a name may be defined
+abbrev pub define_answer : NameTable → List ℕ → Result (Unit {0}) NameFault
+define_answer table name =
+    if is_some (predefined_value name) then Err Predefined
+    else if is_some (value_in name table.symbols) then Err Twice
+    else Ok tt
+
+-- the names with one more symbol, whose serial number is the count of symbols with it
+abbrev pub with_symbol : NameTable → List ℕ → Value → NameTable
+with_symbol table name value =
+    record table { symbols = inserted (record { name = name; value = value; serial = length table.symbols + 1 }) table.symbols }
+
+-- the last label dH, or pure 0 before any
+abbrev pub back_of : NameTable → ℕ → Value
+back_of table d = slice_index_or table.backs d (Pure 0)

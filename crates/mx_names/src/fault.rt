@@ -1,0 +1,31 @@
+//! What is wrong with a name.
+
+ghost use Rattle.std.specs.Prelude.{◌≡◌};
+ghost use Rattle.mx_names.specs.Numbers.{number_of};
+
+/// Why a name is refused.
+#[derive(Clone, Copy, Debug, PartialEq, Eq)]
+pub enum NameFault {
+    /// The name is defined already.
+    Twice,
+    /// The name is predefined.
+    Predefined,
+    /// The complete name has more than 1,024 bytes.
+    NameTooLong,
+    /// There was no memory.
+    OutOfMemory,
+}
+
+impl NameFault {
+    /// The number of the fault; 0 for want of memory, which has none.
+    pub fn number(&self) -> u16
+        ensures { result ≡ number_of self.now }
+    {
+        match self {
+            NameFault::Twice => 30,
+            NameFault::Predefined => 31,
+            NameFault::NameTooLong => 33,
+            NameFault::OutOfMemory => 0,
+        }
+    }
+}
