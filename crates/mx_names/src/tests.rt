@@ -1,5 +1,8 @@
 //! Names, prefixes and local labels, in the order in which a source gives them.
 
+ghost use Rattle.std.specs.Prelude.{◌+◌, ◌<◌, ◌≤◌, length, IsTrue};
+ghost use Rattle.mx_names.specs.Names.{is_complete};
+
 use crate::{NameFault, Names};
 use mx_word::{Bytes, NoMemory, Value};
 use std::alloc::Global;
@@ -81,22 +84,82 @@ fn long_names(rt: HostRuntime) {
     );
 }
 
-/// Three symbols, with definitions that are refused between them.
-fn defined(alloc: Global, names: &mut Names) -> Result<[Result<(), NameFault>; 5], NameFault>
-    requires { names.old.symbols ≡ [] }
+/// Defines a name given by its text.
+fn put(alloc: Global, names: &mut Names, text: &[u8], v: Value) -> Result<(), NameFault>
+    requires complete { IsTrue (is_complete text.now) }
+    requires short { length text.now ≤ 1024 }
+    requires room { length names.old.symbols < 100 }
+    ensures { length names.new.symbols ≤ length names.old.symbols + 1 }
 {
-    let name = |text: &[u8]| Bytes::copy(alloc, text).map_err(|_| NameFault::OutOfMemory);
-    Ok([
-        names.define(name(b":b")?, Value::Pure(7)),
-        names.define(name(b":a")?, Value::Reg(254)),
-        names.define(name(b":b")?, Value::Pure(8)),
-        names.define(name(b":rA")?, Value::Pure(9)),
-        names.define(name(b":aa")?, Value::Pure(u64::MAX)),
-    ])
+    match Bytes::copy(alloc, text) {
+        Ok(full) => names.define(full, v),
+        Err(_) => Err(NameFault::OutOfMemory),
+    }
+}
+
+/// Whether the defined symbols are these.
+fn sorted_as(names: &Names, want: &[(&[u8], Value, u32)]) -> bool {
+    let Ok(symbols) = names.sorted() else {
+        return false;
+    };
+    let symbols = symbols.as_slice();
+    if symbols.len() != want.len() {
+        return false;
+    }
+    for (symbol, row) in symbols.iter().zip(want) {
+        if symbol.name.as_slice() != row.0 || symbol.value != row.1 || symbol.serial != row.2 {
+            return false;
+        }
+    }
+    true
 }
 
 #[test]
 fn definitions(rt: HostRuntime) {
+    let Ok(mut names) = Names::new(rt.alloc()) else {
+        assert!(rt; false, "want of memory");
+        return;
+    };
+    assert_eq!(rt; put(rt.alloc(), &mut names, b":b", Value::Pure(7)), Ok(()));
+    assert_eq!(rt; put(rt.alloc(), &mut names, b":a", Value::Reg(254)), Ok(()));
+    assert_eq!(rt;
+        put(rt.alloc(), &mut names, b":b", Value::Pure(8)),
+        Err(NameFault::Twice)
+    );
+    assert_eq!(rt;
+        put(rt.alloc(), &mut names, b":rA", Value::Pure(9)),
+        Err(NameFault::Predefined)
+    );
+    assert_eq!(rt;
+        put(rt.alloc(), &mut names, b":aa", Value::Pure(u64::MAX)),
+        Ok(())
+    );
+    assert_eq!(rt;
+        names.lookup(b":b"),
+        Some(Value::Pure(7)),
+        "as first defined"
+    );
+    assert_eq!(rt; names.lookup(b":rA"), Some(Value::Pure(21)), "predefined");
+    assert_eq!(rt; names.lookup(b":c"), None, "neither");
+    // in byte order, with the serials of the order of definition
+    let want: [(&[u8], Value, u32); 3] = [
+        (b":a", Value::Reg(254), 2),
+        (b":aa", Value::Pure(u64::MAX), 3),
+        (b":b", Value::Pure(7), 1),
+    ];
+    assert!(rt; sorted_as(&names, want.as_slice()));
+    for (fault, number) in [
+        (NameFault::Twice, 30),
+        (NameFault::Predefined, 31),
+        (NameFault::NameTooLong, 33),
+        (NameFault::OutOfMemory, 0),
+    ] {
+        assert_eq!(rt; fault.number(), number);
+    }
+}
+
+#[test]
+fn local_labels(rt: HostRuntime) {
     let Ok(mut names) = Names::new(rt.alloc()) else {
         assert!(rt; false, "want of memory");
         return;

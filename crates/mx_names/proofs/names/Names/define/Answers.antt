@@ -1,8 +1,6 @@
-use Rattle.std.proofs.Common.{rules, arith, ◌≡◌, ◌+◌, ℕ, List, length, is_some, Some, None, refl, sym, ◌∙◌, ap}
-use Rattle.std.specs.Option.{option_map}
-use Rattle.mx_ops.specs.Predefined.{predefined_value}
-use Rattle.mx_names.specs.Names.{value_in, value_of_name, with_symbol, first_value, pure_of}
-use Rattle.mx_names.proofs.Entries.{found, table-put, in-order, value-defined, not-some, some-mapped, length-inserted}
+use Rattle.std.proofs.Common.{◌≡◌, length, None, sym, ◌∙◌, ap}
+use Rattle.mx_names.specs.Names.{value_in, value_of_name, with_symbol}
+use Rattle.mx_names.proofs.Entries.{value-defined, not-some, length-inserted}
 use Rattle.std.proofs.lemmas.Result.{on_ok_weaker}
 use Rattle.mx_names.proofs.names.Names.define.Goals as goal
 

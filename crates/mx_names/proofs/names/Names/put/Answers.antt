@@ -1,9 +1,5 @@
-use Rattle.std.proofs.Common.{rules, arith, ◌≡◌, ◌+◌, ℕ, List, length, is_some, Some, None, refl, sym, ◌∙◌, ap}
-use Rattle.std.specs.Option.{option_map}
-use Rattle.mx_ops.specs.Predefined.{predefined_value}
-use Rattle.mx_names.specs.Names.{value_in, value_of_name, with_symbol, first_value, pure_of}
-use Rattle.mx_names.proofs.Entries.{found, table-put, in-order, value-defined, not-some, some-mapped}
-use Rattle.std.proofs.lemmas.Result.{on_ok_weaker}
+use Rattle.std.proofs.Common.{◌+◌, ap}
+use Rattle.mx_names.proofs.Entries.{table-put}
 use Rattle.mx_names.proofs.names.Names.put.Goals as goal
 
 pub returns-clause-ok : goal.returns-clause-ok
