@@ -1,0 +1,22 @@
+-- What a change of the arrays does to the list of registers.
+use Rattle.std.proofs.Common.{◌≡◌, ℕ, ◌+◌, ◌-◌, ◌≤◌, ◌<◌, List, [], ◌∷◌, ◌++◌, length, take, drop, replicate, set, cond, arith, refl, sym, ◌∙◌, ap}
+use Rattle.std.proofs.lemmas.Grind.{common_steps}
+use Rattle.std.proofs.lemmas.List.{drop-set-add}
+use Rattle.std.proofs.Math.Seq.{take-set-lt}
+use Rattle.mx_ring.specs.RegisterList.{RegisterList, with_register}
+use Rattle.mx_ring.specs.RingParts.{parts}
+use Rattle.mx_ring.specs.Window.{as_list}
+use Rattle.mx_ring.specs.declared.ring.Ring.TheInside.{Inside}
+
+drop-set-from : (xs : List ℕ) (g k x : ℕ) → g ≤ k → drop g (set xs k x) ≡ set (drop g xs) (k - g) x
+drop-set-from xs g k x h = let e : g + (k - g) ≡ k = omega arith in ap (λ n. drop g (set xs n x)) (sym e) ∙ drop-set-add g xs (k - g) x
+
+-- a value for a global register
+pub set-global : (i : Inside) (k x : ℕ) → i.first_global ≤ k → as_list (parts (record i { globals = set i.globals k x })) ≡ with_register (as_list (parts i)) k x
+unfolding as_list
+set-global i k x h = grind (arith, common_steps, drop-set-from i.globals i.first_global k x h)
+
+-- a value for a local register
+pub set-local : (i : Inside) (k x : ℕ) → i.local_count ≤ length i.locals → k < i.first_global → k < i.local_count → as_list (parts (record i { locals = set i.locals k x })) ≡ with_register (as_list (parts i)) k x
+unfolding as_list
+set-local i k x f g l = grind (arith, common_steps, take-set-lt i.local_count i.locals k x l)

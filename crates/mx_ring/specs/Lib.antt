@@ -1,0 +1,4 @@
+pub mod RegisterList
+pub mod RingFaults
+pub mod RingParts
+pub mod Window

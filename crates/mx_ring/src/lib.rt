@@ -1,0 +1,18 @@
+//! The register stack of MMIX: local, global and hidden registers, and the operations on them.
+//!
+//! The rules are those of MMIXware (LNCS 1750; the part on MMIX, "The register stack") and of
+//! TAOCP 1, Fascicle 1, section 1.4.1'.
+#![tactic(auto)]
+
+mod fault;
+mod pieces;
+mod ring;
+mod saved;
+mod size;
+#[cfg(test)]
+mod tests;
+
+pub use fault::RingFault;
+pub use ring::Ring;
+pub use saved::Saved;
+pub use size::RingSize;

@@ -1,0 +1,179 @@
+//! The registers: the locals and the globals in arrays, and a list of the hidden ones.
+
+ghost use Rattle.std.specs.Prelude.{◌≡◌, ◌≤◌, ◌<◌, ◌+◌, ◌^◌, IfOk, OnOk, OnErr, length, nat_le, nat_lt, take, drop, replicate, ◌++◌, ◌∷◌, []};
+ghost use Rattle.mx_ring.specs.RegisterList.{IsInBounds, no_registers, stack_address, register, set_overfills, with_register, cut_to, with_global_start, push_overfills, pushed, pop_underflows, popped};
+ghost use Rattle.mx_ring.specs.RingFaults.{refused_where};
+ghost use Rattle.mx_ring.specs.RingParts.{grown_to, with_local};
+ghost use Rattle.mx_ring.specs.Window.{as_list};
+
+use crate::pieces::clear;
+use crate::{RingFault, RingSize, Saved};
+use std::alloc::Global;
+use std::marker::Model;
+
+/// How many hidden and local registers there may be.
+const ROOM: usize = 1 << 20;
+
+/// The address of the octa where the first hidden register goes: the start of Stack_Segment.
+const BASE: u64 = 0x6000_0000_0000_0000;
+
+/// The 256 registers and the hidden ones.
+#[derive(Drop)]
+pub struct Ring {
+    hidden: Vec<u64>,
+    locals: [u64; 256],
+    local_count: usize,
+    globals: [u64; 256],
+    first_global: usize,
+}
+
+impl Model for Ring {
+    ghost use Rattle.mx_ring.specs.RegisterList.{RegisterList};
+
+    ghost Value = { RegisterList };
+
+    ghost use Rattle.mx_ring.specs.RingParts.{parts, Holds};
+
+    ghost view = { parts };
+
+    ghost invariant = { Holds };
+}
+
+#[tactic(auto, unfolding(crate::specs::Window::as_list))]
+impl Ring {
+    /// Registers at the start of the machine: none is local or hidden, and $255 alone is global. The
+    /// room for all registers is taken at once; no other call takes memory.
+    ///
+    /// Errors: want of memory.
+    pub fn with_size(alloc: Global, _size: RingSize) -> Result<Ring, RingFault>
+        ensures begin { IfOk result (λ r. as_list r ≡ no_registers) }
+        ensures memory { OnErr result (result ≡ Err RingFault.OutOfMemory) }
+    {
+        match Vec::with_capacity(alloc, ROOM) {
+            Ok(hidden) => Ok(Ring {
+                hidden,
+                locals: [0; 256],
+                local_count: 0,
+                globals: [0; 256],
+                first_global: 255,
+            }),
+            Err(_) => Err(RingFault::OutOfMemory),
+        }
+    }
+
+    /// L, the number of local registers, at most G.
+    pub fn l(&self) -> u8
+        ensures value { result ≡ length (as_list self.now).locals }
+        ensures bounds { IsInBounds (as_list self.now) }
+    {
+        self.local_count as u8
+    }
+
+    /// G, the number of the first global register, from 32 to 255.
+    pub fn g(&self) -> u8
+        ensures value { result ≡ (as_list self.now).first_global }
+        ensures bounds { IsInBounds (as_list self.now) }
+    {
+        self.first_global as u8
+    }
+
+    /// The number of hidden registers, at most 2^20 less L.
+    pub fn hidden(&self) -> u32
+        ensures value { result ≡ length (as_list self.now).hidden }
+        ensures bounds { IsInBounds (as_list self.now) }
+    {
+        self.hidden.len() as u32
+    }
+
+    /// rO: the address where the next hidden register goes.
+    pub fn ro(&self) -> u64
+        ensures { result ≡ stack_address (length (as_list self.now).hidden) }
+    {
+        BASE + 8 * self.hidden.len() as u64
+    }
+
+    /// The value of $k: 0 where it is neither local nor global.
+    pub fn get(&self, k: u8) -> u64
+        ensures { result ≡ register (as_list self.now) k }
+    {
+        let k = usize::from(k);
+        if k >= self.first_global {
+            self.globals[k]
+        } else if k < self.local_count {
+            self.locals[k]
+        } else {
+            0
+        }
+    }
+
+    /// Gives $k a value. A register that is neither local nor global becomes local, and those below
+    /// it with the value 0.
+    ///
+    /// Errors: `StackFull` exactly where that would make hidden and local registers pass 2^20; then
+    /// nothing changed.
+    pub fn set(&mut self, k: u8, x: u64) -> Result<(), RingFault>
+        ensures answer { result ≡ refused_where (set_overfills (as_list self.old) k) RingFault.StackFull }
+        ensures ok { OnOk result (as_list self.new ≡ with_register (as_list self.old) k x) }
+        ensures err { OnErr result (as_list self.new ≡ as_list self.old) }
+    {
+        let k = usize::from(k);
+        if k >= self.first_global {
+            self.globals[k] = x;
+            return Ok(());
+        }
+        if k < self.local_count {
+            self.locals[k] = x;
+            return Ok(());
+        }
+        if self.hidden.len() + k + 1 > ROOM {
+            return Err(RingFault::StackFull);
+        }
+        self.grow_to(k);
+        self.add_local(x);
+        Ok(())
+    }
+
+    /// Makes `l` registers local, the new ones with the value 0.
+    fn grow_to(&mut self, l: usize)
+        requires more { length (as_list self.old).locals ≤ l }
+        requires below { l ≤ (as_list self.old).first_global }
+        requires room { length (as_list self.old).hidden + l ≤ 2 ^ 20 }
+        ensures { as_list self.new ≡ grown_to (as_list self.old) l }
+    {
+        clear(&mut self.locals, self.local_count, l);
+        self.local_count = l;
+    }
+
+    /// Makes one more register local, with this value.
+    fn add_local(&mut self, x: u64)
+        requires below { length (as_list self.old).locals < (as_list self.old).first_global }
+        requires room { length (as_list self.old).hidden + length (as_list self.old).locals < 2 ^ 20 }
+        ensures { as_list self.new ≡ with_local (as_list self.old) x }
+    {
+        self.locals[self.local_count] = x;
+        self.local_count += 1;
+    }
+
+    /// L falls to `l`.
+    pub fn cut_locals(&mut self, l: u8)
+        requires { l ≤ length (as_list self.old).locals }
+        ensures { as_list self.new ≡ cut_to (as_list self.old) l }
+    {
+        self.local_count = usize::from(l);
+    }
+
+    /// G becomes `g`. A register that is global only before or only afterwards is 0.
+    pub fn set_global_start(&mut self, g: u8)
+        requires least { 32 ≤ g }
+        requires not_local { length (as_list self.old).locals ≤ g }
+        ensures { as_list self.new ≡ with_global_start (as_list self.old) g }
+    {
+        let g = usize::from(g);
+        if g >= self.first_global {
+            self.first_global = g;
+            return;
+        }
+        clear(&mut self.globals, g, self.first_global);
+        self.first_global = g;
+    }
+}
