@@ -37,3 +37,7 @@ grown_to r l = record r { locals = r.locals ++ replicate (l - length r.locals) 0
 -- one more local
 abbrev pub with_local : RegisterList → ℕ → RegisterList
 with_local r x = record r { locals = r.locals ++ x ∷ [] }
+
+-- the first n locals and the number n are hidden; what follows the next local stays
+abbrev pub hiding : RegisterList → ℕ → RegisterList
+hiding r n = record r { hidden = r.hidden ++ take n r.locals ++ n ∷ []; locals = drop (n + 1) r.locals }

@@ -1,12 +1,12 @@
 //! The registers: the locals and the globals in arrays, and a list of the hidden ones.
 
 ghost use Rattle.std.specs.Prelude.{◌≡◌, ◌≤◌, ◌<◌, ◌+◌, ◌^◌, IfOk, OnOk, OnErr, length, nat_le, nat_lt, take, drop, replicate, ◌++◌, ◌∷◌, []};
-ghost use Rattle.mx_ring.specs.RegisterList.{IsInBounds, no_registers, stack_address, register, set_overfills, with_register, cut_to, with_global_start, push_overfills, pushed, pop_underflows, popped};
+ghost use Rattle.mx_ring.specs.RegisterList.{IsInBounds, no_registers, stack_address, register, set_overfills, with_register, cut_to, with_global_start, overfills, push_overfills, pushed, pushed_marginal, pop_underflows, popped};
 ghost use Rattle.mx_ring.specs.RingFaults.{refused_where};
-ghost use Rattle.mx_ring.specs.RingParts.{grown_to, with_local};
+ghost use Rattle.mx_ring.specs.RingParts.{grown_to, with_local, hiding};
 ghost use Rattle.mx_ring.specs.Window.{as_list};
 
-use crate::pieces::clear;
+use crate::pieces::{append, clear, copy};
 use crate::{RingFault, RingSize, Saved};
 use std::alloc::Global;
 use std::marker::Model;
@@ -152,6 +152,56 @@ impl Ring {
     {
         self.locals[self.local_count] = x;
         self.local_count += 1;
+    }
+
+    /// PUSHJ and PUSHGO: hides the registers below $X and the number X. Where $X is global, all
+    /// locals are hidden, and their number.
+    ///
+    /// Errors: `StackFull` exactly where that would make hidden and local registers pass 2^20; then
+    /// nothing changed.
+    pub fn push(&mut self, x: u8) -> Result<(), RingFault>
+        ensures answer { result ≡ refused_where (push_overfills (as_list self.old) x) RingFault.StackFull }
+        ensures ok { OnOk result (as_list self.new ≡ pushed (as_list self.old) x) }
+        ensures err { OnErr result (as_list self.new ≡ as_list self.old) }
+    {
+        let x = usize::from(x);
+        if x < self.local_count {
+            self.hide(x);
+            return Ok(());
+        }
+        if x < self.first_global {
+            return self.hide_all(x);
+        }
+        self.hide_all(self.local_count)
+    }
+
+    /// Hides the locals, zeros up to `count` octas, and that number.
+    fn hide_all(&mut self, count: usize) -> Result<(), RingFault>
+        requires more { length (as_list self.old).locals ≤ count }
+        requires below { count ≤ (as_list self.old).first_global }
+        ensures answer { result ≡ refused_where (overfills (as_list self.old) (count + 1)) RingFault.StackFull }
+        ensures ok { OnOk result (as_list self.new ≡ pushed_marginal (as_list self.old) count) }
+        ensures err { OnErr result (as_list self.new ≡ as_list self.old) }
+    {
+        if self.hidden.len() + count + 1 > ROOM {
+            return Err(RingFault::StackFull);
+        }
+        self.grow_to(count);
+        self.hide(count);
+        Ok(())
+    }
+
+    /// Hides the first `count` locals and that number. The locals after the next one stay.
+    fn hide(&mut self, count: usize)
+        requires locals { count ≤ length (as_list self.old).locals }
+        requires room { length (as_list self.old).hidden + count < 2 ^ 20 }
+        ensures { as_list self.new ≡ hiding (as_list self.old) count }
+    {
+        append(&mut self.hidden, &self.locals[..count]);
+        append(&mut self.hidden, &[count as u64]);
+        let next = self.local_count.min(count + 1);
+        copy(&mut self.locals, next, self.local_count, 0);
+        self.local_count -= next;
     }
 
     /// L falls to `l`.
