@@ -108,10 +108,6 @@ hole r = slice_index r.hidden (length r.hidden - 1) % 256
 abbrev pub pop_underflows : RegisterList → Bool
 pop_underflows r = nat_le (length r.hidden) (hole r)
 
--- how many octas POP leaves hidden
-abbrev pub hidden_below : RegisterList → ℕ
-hidden_below r = length r.hidden - (hole r + 1)
-
 -- the results of POP X,YZ among the locals, the one for the hole first: none for X = 0, $(X-1) and then $0 to
 -- $(X-2), or where X is above L a 0 and all locals
 abbrev pub results : List ℕ → ℕ → List ℕ
@@ -120,11 +116,14 @@ results locals x =
     else if nat_le x (length locals) then slice_index locals (x - 1) ∷ take (x - 1) locals
     else 0 ∷ locals
 
--- POP: the hidden locals come back, the results follow them, and at most G registers are local
+-- k + 1 octas leave the hidden ones: k locals come back and the results follow them, at most G registers in all
+abbrev pub brought_back : RegisterList → ℕ → ℕ → RegisterList
+brought_back r k x = record r {
+  hidden = take (length r.hidden - (k + 1)) r.hidden;
+  locals = take r.first_global (take k (drop (length r.hidden - (k + 1)) r.hidden) ++ results r.locals x) }
+
 abbrev pub popped : RegisterList → ℕ → RegisterList
-popped r x = record r {
-  hidden = take (hidden_below r) r.hidden;
-  locals = take r.first_global (take (hole r) (drop (hidden_below r) r.hidden) ++ results r.locals x) }
+popped r x = brought_back r (hole r) x
 
 -- SAVE
 

@@ -6,6 +6,7 @@
 
 mod fault;
 mod pieces;
+mod results;
 mod ring;
 mod saved;
 mod size;

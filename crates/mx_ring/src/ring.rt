@@ -1,12 +1,13 @@
 //! The registers: the locals and the globals in arrays, and a list of the hidden ones.
 
-ghost use Rattle.std.specs.Prelude.{◌≡◌, ◌≤◌, ◌<◌, ◌+◌, ◌^◌, IfOk, OnOk, OnErr, length, nat_le, nat_lt, take, drop, replicate, ◌++◌, ◌∷◌, []};
-ghost use Rattle.mx_ring.specs.RegisterList.{IsInBounds, no_registers, stack_address, register, set_overfills, with_register, cut_to, with_global_start, overfills, push_overfills, pushed, pushed_marginal, pop_underflows, popped};
+ghost use Rattle.std.specs.Prelude.{◌≡◌, ◌≤◌, ◌<◌, ◌+◌, ◌^◌, if◌then◌else◌, None, Some, IfOk, OnOk, OnErr, length, nat_le, nat_lt, take, drop, replicate, ◌++◌, ◌∷◌, []};
+ghost use Rattle.mx_ring.specs.RegisterList.{IsInBounds, no_registers, stack_address, register, set_overfills, with_register, cut_to, with_global_start, overfills, push_overfills, pushed, pushed_marginal, pop_underflows, popped, hole, brought_back};
 ghost use Rattle.mx_ring.specs.RingFaults.{refused_where};
 ghost use Rattle.mx_ring.specs.RingParts.{grown_to, with_local, hiding};
 ghost use Rattle.mx_ring.specs.Window.{as_list};
 
-use crate::pieces::{append, clear, copy};
+use crate::pieces::{append, clear, copy, put};
+use crate::results::put_results;
 use crate::{RingFault, RingSize, Saved};
 use std::alloc::Global;
 use std::marker::Model;
@@ -202,6 +203,55 @@ impl Ring {
         let next = self.local_count.min(count + 1);
         copy(&mut self.locals, next, self.local_count, 0);
         self.local_count -= next;
+    }
+
+    /// POP: the registers that were hidden last come back, and X results follow them. The first
+    /// result is the last of them that was given, and stands where the number was. Afterwards L is
+    /// at most G.
+    ///
+    /// Errors: `Underflow` exactly where nothing is hidden, or less than the number says; then
+    /// nothing changed.
+    pub fn pop(&mut self, x: u8) -> Result<(), RingFault>
+        ensures answer { result ≡ refused_where (pop_underflows (as_list self.old)) RingFault.Underflow }
+        ensures ok { OnOk result (as_list self.new ≡ popped (as_list self.old) x) }
+        ensures err { OnErr result (as_list self.new ≡ as_list self.old) }
+    {
+        match self.hole() {
+            Some(hole) => {
+                self.bring_back(hole, usize::from(x));
+                Ok(())
+            }
+            None => Err(RingFault::Underflow),
+        }
+    }
+
+    /// How many locals the last hidden octa says that were hidden before it; nothing where there
+    /// are fewer.
+    fn hole(&self) -> Option<usize>
+        ensures { result ≡ (if pop_underflows (as_list self.now) then None else Some (hole (as_list self.now))) }
+    {
+        if self.hidden.is_empty() {
+            return None;
+        }
+        let hole = (self.hidden[self.hidden.len() - 1] % 256) as usize;
+        if self.hidden.len() <= hole {
+            return None;
+        }
+        Some(hole)
+    }
+
+    /// Brings `hole` hidden locals back, without the octa that is hidden after them. The results of
+    /// POP with `x` follow.
+    fn bring_back(&mut self, hole: usize, x: usize)
+        requires byte { hole < 256 }
+        requires hidden { hole < length (as_list self.old).hidden }
+        ensures { as_list self.new ≡ brought_back (as_list self.old) hole x }
+    {
+        let below = self.hidden.len() - (hole + 1);
+        let count = put_results(&mut self.locals, self.local_count, x, hole);
+        put(&mut self.locals, 0, &self.hidden[below..below + hole]);
+        self.local_count = self.first_global.min(hole + count);
+        self.hidden.truncate(below);
     }
 
     /// L falls to `l`.
