@@ -142,12 +142,13 @@ frame r s = r.locals ++ length r.locals ∷ r.globals ++ saved_specials s ++ (2 
 abbrev pub save_overfills : RegisterList → Bool
 save_overfills r = overfills r (frame_length r.first_global (length r.locals))
 
--- SAVE: all registers are hidden, and a global $X becomes the address of the last octa
+-- a frame of all registers is hidden, and none is local
+abbrev pub framed : RegisterList → Saved → RegisterList
+framed r s = record r { hidden = r.hidden ++ frame r s; locals = [] }
+
+-- SAVE: a global $X becomes the address of the frame's last octa
 abbrev pub saved : RegisterList → ℕ → Saved → RegisterList
-saved r x s = record r {
-  hidden = r.hidden ++ frame r s;
-  locals = [];
-  globals = slice_set r.globals (x - r.first_global) (stack_address (length (r.hidden ++ frame r s) - 1)) }
+saved r x s = with_register (framed r s) x (stack_address (length (framed r s).hidden - 1))
 
 -- UNSAVE, from the octa at index i downwards
 
@@ -187,11 +188,18 @@ frame_specials r i = record {
   h = octa_below r i 9; e = octa_below r i 10; d = octa_below r i 11; b = octa_below r i 12;
   a = octa_below r i 0 % 2 ^ 18 }
 
--- UNSAVE: the globals are those of the frame, from its own G on; what stays hidden ends below the saved locals,
--- of which at most G become local
+-- G becomes g and the globals are those of the frame, above the index of its octa of L; what stays hidden ends
+-- below its l locals, of which at most g become local
+abbrev pub restored : RegisterList → ℕ → ℕ → ℕ → RegisterList
+restored r g l middle = record {
+  hidden = take (middle - l) r.hidden;
+  locals = take (min g l) (drop (middle - l) r.hidden);
+  first_global = g;
+  globals = take (256 - g) (drop (middle + 1) r.hidden) }
+
 abbrev pub unsaved : RegisterList → ℕ → RegisterList
-unsaved r i = record {
-  hidden = take (frame_middle r i - frame_locals r i) r.hidden;
-  locals = take (min (frame_global r i) (frame_locals r i)) (drop (frame_middle r i - frame_locals r i) r.hidden);
-  first_global = frame_global r i;
-  globals = take (256 - frame_global r i) (drop (frame_middle r i + 1) r.hidden) }
+unsaved r i = restored r (frame_global r i) (frame_locals r i) (frame_middle r i)
+
+-- whether UNSAVE at an address is refused
+abbrev pub unsave_refused : RegisterList → ℕ → Bool
+unsave_refused r a = not (in_stack_area a) || is_bad_frame r (stack_index a)

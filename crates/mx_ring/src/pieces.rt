@@ -16,6 +16,17 @@ pub(crate) fn append(list: &mut Vec<u64>, items: &[u64])
     };
 }
 
+/// Appends the items from a place on to a list that has room for them.
+pub(crate) fn append_from(list: &mut Vec<u64>, items: &[u64], from: usize)
+    requires room { vec_len list.old + (length items.now - from) ≤ vec_capacity list.old }
+    requires inside { from ≤ length items.now }
+    ensures items { list.new.items ≡ list.old.items ++ drop from items.now }
+    ensures len { vec_len list.new ≡ vec_len list.old + (length items.now - from) }
+    ensures capacity { vec_capacity list.old ≤ vec_capacity list.new }
+{
+    append(list, &items[from..]);
+}
+
 /// Zeros in place of what stands from `from` up to `to`.
 pub(crate) fn clear(items: &mut [u64], from: usize, to: usize)
     requires forward { from ≤ to }

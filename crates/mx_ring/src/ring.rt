@@ -1,12 +1,12 @@
 //! The registers: the locals and the globals in arrays, and a list of the hidden ones.
 
-ghost use Rattle.std.specs.Prelude.{◌≡◌, ◌≤◌, ◌<◌, ◌+◌, ◌^◌, if◌then◌else◌, None, Some, IfOk, OnOk, OnErr, length, nat_le, nat_lt, take, drop, replicate, ◌++◌, ◌∷◌, []};
-ghost use Rattle.mx_ring.specs.RegisterList.{IsInBounds, no_registers, stack_address, register, set_overfills, with_register, cut_to, with_global_start, overfills, push_overfills, pushed, pushed_marginal, pop_underflows, popped, hole, brought_back};
+ghost use Rattle.std.specs.Prelude.{◌≡◌, ◌*◌, IsTrue, IfSome, ◌≤◌, ◌<◌, ◌+◌, ◌^◌, if◌then◌else◌, None, Some, IfOk, OnOk, OnErr, length, nat_le, nat_lt, take, drop, replicate, ◌++◌, ◌∷◌, []};
+ghost use Rattle.mx_ring.specs.RegisterList.{IsInBounds, no_registers, stack_address, register, set_overfills, with_register, cut_to, with_global_start, overfills, push_overfills, pushed, pushed_marginal, pop_underflows, popped, hole, brought_back, save_overfills, frame_length, saved_specials, framed, saved, in_stack_area, stack_index, is_bad_frame, frame_global, frame_locals, frame_specials, restored, unsaved, unsave_refused};
 ghost use Rattle.mx_ring.specs.RingFaults.{refused_where};
 ghost use Rattle.mx_ring.specs.RingParts.{grown_to, with_local, hiding};
 ghost use Rattle.mx_ring.specs.Window.{as_list};
 
-use crate::pieces::{append, clear, copy, put};
+use crate::pieces::{append, append_from, clear, copy, put};
 use crate::results::put_results;
 use crate::{RingFault, RingSize, Saved};
 use std::alloc::Global;
@@ -17,6 +17,9 @@ const ROOM: usize = 1 << 20;
 
 /// The address of the octa where the first hidden register goes: the start of Stack_Segment.
 const BASE: u64 = 0x6000_0000_0000_0000;
+
+/// The address behind the octas where hidden registers go.
+const END: u64 = 0x6000_0000_0080_0000;
 
 /// The 256 registers and the hidden ones.
 #[derive(Drop)]
@@ -119,7 +122,7 @@ impl Ring {
     {
         let k = usize::from(k);
         if k >= self.first_global {
-            self.globals[k] = x;
+            self.set_global(k, x);
             return Ok(());
         }
         if k < self.local_count {
@@ -132,6 +135,15 @@ impl Ring {
         self.grow_to(k);
         self.add_local(x);
         Ok(())
+    }
+
+    /// Gives the global register $k a value.
+    fn set_global(&mut self, k: usize, x: u64)
+        requires global { (as_list self.old).first_global ≤ k }
+        requires register { k < 256 }
+        ensures { as_list self.new ≡ with_register (as_list self.old) k x }
+    {
+        self.globals[k] = x;
     }
 
     /// Makes `l` registers local, the new ones with the value 0.
@@ -254,6 +266,135 @@ impl Ring {
         self.hidden.truncate(below);
     }
 
+    /// SAVE: hides a frame with all local and global registers and these special ones. Afterwards L
+    /// is 0, and the global register $X has the address of the frame's last octa.
+    ///
+    /// Errors: `StackFull` exactly where the frame would make the hidden registers pass 2^20; then
+    /// nothing changed.
+    pub fn save(&mut self, x: u8, s: &Saved) -> Result<(), RingFault>
+        requires global { (as_list self.old).first_global ≤ x }
+        requires event_bits { s.now.a < 2 ^ 18 }
+        ensures answer { result ≡ refused_where (save_overfills (as_list self.old)) RingFault.StackFull }
+        ensures ok { OnOk result (as_list self.new ≡ saved (as_list self.old) x s.now) }
+        ensures err { OnErr result (as_list self.new ≡ as_list self.old) }
+    {
+        if self.hidden.len() + self.local_count + 270 - self.first_global > ROOM {
+            return Err(RingFault::StackFull);
+        }
+        self.hide_frame(s);
+        let last = self.ro() - 8;
+        self.set_global(usize::from(x), last);
+        Ok(())
+    }
+
+    /// Hides a frame with all local and global registers and these special ones.
+    fn hide_frame(&mut self, s: &Saved)
+        requires event_bits { s.now.a < 2 ^ 18 }
+        requires room { length (as_list self.old).hidden + frame_length (as_list self.old).first_global (length (as_list self.old).locals) ≤ 2 ^ 20 }
+        ensures frame { as_list self.new ≡ framed (as_list self.old) s.now }
+        ensures some { 0 < length (as_list self.new).hidden }
+    {
+        append(&mut self.hidden, &self.locals[..self.local_count]);
+        append(&mut self.hidden, &[self.local_count as u64]);
+        append_from(&mut self.hidden, &self.globals, self.first_global);
+        append(&mut self.hidden, &frame_top(s, self.first_global));
+        self.local_count = 0;
+    }
+
+    /// UNSAVE: brings the registers of the frame back whose last octa holds an address, and gives
+    /// its special registers. What is hidden ends below the frame. Where the frame has more locals
+    /// than its G, the first G become local.
+    ///
+    /// Errors: `BadFrame` exactly where the address is not in the stack area, which is the 2^23 bytes
+    /// from Stack_Segment on, or the frame reaches below it, or has a G below 32; then nothing changed.
+    pub fn unsave(&mut self, a: u64) -> Result<Saved, RingFault>
+        requires { IsTrue (in_stack_area a) → stack_index a < length (as_list self.old).hidden }
+        ensures answer { result ≡ (if unsave_refused (as_list self.old) a then Err RingFault.BadFrame else Ok (frame_specials (as_list self.old) (stack_index a))) }
+        ensures ok { OnOk result (as_list self.new ≡ unsaved (as_list self.old) (stack_index a)) }
+        ensures err { OnErr result (as_list self.new ≡ as_list self.old) }
+    {
+        if a < BASE || a >= END {
+            return Err(RingFault::BadFrame);
+        }
+        self.unsave_at(((a - BASE) / 8) as usize)
+    }
+
+    /// Brings the registers of the frame back whose last octa is hidden at an index.
+    fn unsave_at(&mut self, i: usize) -> Result<Saved, RingFault>
+        requires { i < length (as_list self.old).hidden }
+        ensures answer { result ≡ (if is_bad_frame (as_list self.old) i then Err RingFault.BadFrame else Ok (frame_specials (as_list self.old) i)) }
+        ensures ok { OnOk result (as_list self.new ≡ unsaved (as_list self.old) i) }
+        ensures err { OnErr result (as_list self.new ≡ as_list self.old) }
+    {
+        match self.frame_at(i) {
+            Some((g, l)) => {
+                let specials = self.specials_at(i);
+                self.restore(g, l, i - (269 - g));
+                Ok(specials)
+            }
+            None => Err(RingFault::BadFrame),
+        }
+    }
+
+    /// G and L of the frame whose last octa is hidden at an index; nothing where it is no frame.
+    fn frame_at(&self, i: usize) -> Option<(usize, usize)>
+        requires { i < length (as_list self.now).hidden }
+        ensures value { result ≡ (if is_bad_frame (as_list self.now) i then None else Some (frame_global (as_list self.now) i, frame_locals (as_list self.now) i)) }
+        ensures bounds { IfSome result (λ f. (32 ≤ f.0) × (f.0 ≤ 255) × (f.1 + 269 ≤ i + f.0)) }
+    {
+        let g = (self.hidden[i] >> 56) as usize;
+        if g < 32 || i + g < 269 {
+            return None;
+        }
+        let l = (self.hidden[i + g - 269] % 256) as usize;
+        if i + g < 269 + l {
+            return None;
+        }
+        Some((g, l))
+    }
+
+    /// The special registers of the frame whose last octa is hidden at an index.
+    fn specials_at(&self, i: usize) -> Saved
+        requires hidden { i < length (as_list self.now).hidden }
+        requires room { 12 ≤ i }
+        ensures { result ≡ frame_specials (as_list self.now) i }
+    {
+        let octas = &self.hidden[i - 12..=i];
+        Saved {
+            b: octas[0],
+            d: octas[1],
+            e: octas[2],
+            h: octas[3],
+            j: octas[4],
+            m: octas[5],
+            r: octas[6],
+            p: octas[7],
+            w: octas[8],
+            x: octas[9],
+            y: octas[10],
+            z: octas[11],
+            a: octas[12] % (1 << 18),
+        }
+    }
+
+    /// Makes G `g`, and brings back the globals above the place of a frame's octa of L and the `l`
+    /// locals below it.
+    fn restore(&mut self, g: usize, l: usize, middle: usize)
+        requires least { 32 ≤ g }
+        requires most { g ≤ 255 }
+        requires locals { l ≤ middle }
+        requires globals { middle + 257 ≤ length (as_list self.old).hidden + g }
+        ensures { as_list self.new ≡ restored (as_list self.old) g l middle }
+    {
+        let bottom = middle - l;
+        let count = g.min(l);
+        put(&mut self.globals, g, &self.hidden[middle + 1..middle + 257 - g]);
+        put(&mut self.locals, 0, &self.hidden[bottom..bottom + count]);
+        self.first_global = g;
+        self.local_count = count;
+        self.hidden.truncate(bottom);
+    }
+
     /// L falls to `l`.
     pub fn cut_locals(&mut self, l: u8)
         requires { l ≤ length (as_list self.old).locals }
@@ -276,4 +417,16 @@ impl Ring {
         clear(&mut self.globals, g, self.first_global);
         self.first_global = g;
     }
+}
+
+/// The upper octas of a frame: the special registers, and last G and rA in one octa.
+fn frame_top(s: &Saved, g: usize) -> [u64; 13]
+    requires event_bits { s.now.a < 2 ^ 18 }
+    requires most { g ≤ 255 }
+    ensures { result ≡ saved_specials s.now ++ (2 ^ 56 * g + s.now.a) ∷ [] }
+{
+    let last = ((g as u64) << 56) + s.a;
+    [
+        s.b, s.d, s.e, s.h, s.j, s.m, s.r, s.p, s.w, s.x, s.y, s.z, last,
+    ]
 }

@@ -1,11 +1,6 @@
 use Rattle.std.proofs.Common.{◌≤◌, ◌<◌, length, arith}
-use Rattle.mx_ring.proofs.Parts.{set-global, set-local}
+use Rattle.mx_ring.proofs.Parts.{set-local}
 use Rattle.mx_ring.proofs.ring.Ring.set.Goals as goal
-
-pub returns-then-k-self-clause-ok : goal.returns-then-k-self-clause-ok
-returns-then-k-self-clause-ok c =
-    let h : c.self.inside.first_global ≤ c.from-k.result = omega arith in
-    rw (← c.self.view_is, ← c.from-k.ensures) (set-global c.self.inside c.from-k.result c.args.x h)
 
 pub returns-then-k-self-2-clause-ok : goal.returns-then-k-self-2-clause-ok
 returns-then-k-self-2-clause-ok c =
