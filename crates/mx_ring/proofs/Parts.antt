@@ -13,10 +13,10 @@ drop-set-from xs g k x h = let e : g + (k - g) ≡ k = omega arith in ap (λ n. 
 
 -- a value for a global register
 pub set-global : (i : Inside) (k x : ℕ) → i.first_global ≤ k → as_list (parts (record i { globals = set i.globals k x })) ≡ with_register (as_list (parts i)) k x
-unfolding as_list
+unfolding as_list with_register
 set-global i k x h = grind (arith, common_steps, drop-set-from i.globals i.first_global k x h)
 
 -- a value for a local register
 pub set-local : (i : Inside) (k x : ℕ) → i.local_count ≤ length i.locals → k < i.first_global → k < i.local_count → as_list (parts (record i { locals = set i.locals k x })) ≡ with_register (as_list (parts i)) k x
-unfolding as_list
+unfolding as_list with_register
 set-local i k x f g l = grind (arith, common_steps, take-set-lt i.local_count i.locals k x l)

@@ -39,7 +39,7 @@ results-follow ys zs rs g k count lg lk lz lr p =
     let j : ℕ = min g (k + count) in
     let q : ℕ = min count (256 - k) in
     let whole : take (length zs + q) (zs ++ drop k ys) ≡ take (length zs + (256 - k)) (zs ++ rs) =
-        take-append-add zs (drop k ys) q ∙ ap (λ ws. zs ++ ws) p ∙ sym (take-append-add zs rs (256 - k)) in
+    take-append-add zs (drop k ys) q ∙ ap (λ ws. zs ++ ws) p ∙ sym (take-append-add zs rs (256 - k)) in
     let below : j ≤ length zs + q = omega arith in
     let above : j ≤ length zs + (256 - k) = omega arith in
     let all : j ≡ min g (length (zs ++ rs)) = omega (arith, length-append zs rs) in

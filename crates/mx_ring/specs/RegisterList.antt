@@ -38,7 +38,7 @@ overfills r n = nat_lt (2 ^ 20) (length r.hidden + n)
 -- GET AND SET
 
 -- what $k has
-abbrev pub register : RegisterList → ℕ → ℕ
+unfoldable pub register : RegisterList → ℕ → ℕ
 register r k =
     if nat_le r.first_global k then slice_index r.globals (k - r.first_global)
     else if nat_lt k (length r.locals) then slice_index r.locals k
@@ -49,12 +49,12 @@ abbrev pub is_marginal : RegisterList → ℕ → Bool
 is_marginal r k = nat_lt k r.first_global && nat_le (length r.locals) k
 
 -- whether a value for $k is refused: $k would become local, and there is no room
-abbrev pub set_overfills : RegisterList → ℕ → Bool
+unfoldable pub set_overfills : RegisterList → ℕ → Bool
 set_overfills r k = is_marginal r k && overfills r (k + 1)
 
 -- the registers once $k is given a value: a register that was neither local nor global becomes local,
 -- with zeros between
-abbrev pub with_register : RegisterList → ℕ → ℕ → RegisterList
+unfoldable pub with_register : RegisterList → ℕ → ℕ → RegisterList
 with_register r k x =
     if nat_le r.first_global k then record r { globals = slice_set r.globals (k - r.first_global) x }
     else if nat_lt k (length r.locals) then record r { locals = slice_set r.locals k x }
@@ -63,11 +63,11 @@ with_register r k x =
 -- PUT TO rL AND rG
 
 -- L falls to l
-abbrev pub cut_to : RegisterList → ℕ → RegisterList
+unfoldable pub cut_to : RegisterList → ℕ → RegisterList
 cut_to r l = record r { locals = take l r.locals }
 
 -- G becomes g: a register that is global only afterwards is 0, and so is one that was global only before
-abbrev pub with_global_start : RegisterList → ℕ → RegisterList
+unfoldable pub with_global_start : RegisterList → ℕ → RegisterList
 with_global_start r g =
     record r { first_global = g; globals = replicate (r.first_global - g) 0 ++ drop (g - r.first_global) r.globals }
 
@@ -85,14 +85,14 @@ pushed_marginal r x = record r { hidden = r.hidden ++ (r.locals ++ replicate (x 
 abbrev pub pushed_global : RegisterList → RegisterList
 pushed_global r = record r { hidden = r.hidden ++ r.locals ++ length r.locals ∷ []; locals = [] }
 
-abbrev pub pushed : RegisterList → ℕ → RegisterList
+unfoldable pub pushed : RegisterList → ℕ → RegisterList
 pushed r x =
     if nat_lt x (length r.locals) then pushed_local r x
     else if nat_lt x r.first_global then pushed_marginal r x
     else pushed_global r
 
 -- whether PUSH is refused: it needs room for one octa more than there are registers to hide
-abbrev pub push_overfills : RegisterList → ℕ → Bool
+unfoldable pub push_overfills : RegisterList → ℕ → Bool
 push_overfills r x =
     if nat_lt x (length r.locals) then false
     else if nat_lt x r.first_global then overfills r (x + 1)
@@ -105,7 +105,7 @@ abbrev pub hole : RegisterList → ℕ
 hole r = slice_index r.hidden (length r.hidden - 1) % 256
 
 -- whether POP is refused: nothing is hidden, or too little
-abbrev pub pop_underflows : RegisterList → Bool
+unfoldable pub pop_underflows : RegisterList → Bool
 pop_underflows r = nat_le (length r.hidden) (hole r)
 
 -- the results of POP X,YZ among the locals, the one for the hole first: none for X = 0, $(X-1) and then $0 to
@@ -120,9 +120,10 @@ results locals x =
 abbrev pub brought_back : RegisterList → ℕ → ℕ → RegisterList
 brought_back r k x = record r {
   hidden = take (length r.hidden - (k + 1)) r.hidden;
-  locals = take r.first_global (take k (drop (length r.hidden - (k + 1)) r.hidden) ++ results r.locals x) }
+  locals = take r.first_global (take k (drop (length r.hidden - (k + 1)) r.hidden) ++ results r.locals x);
+}
 
-abbrev pub popped : RegisterList → ℕ → RegisterList
+unfoldable pub popped : RegisterList → ℕ → RegisterList
 popped r x = brought_back r (hole r) x
 
 -- SAVE
@@ -139,7 +140,7 @@ abbrev pub frame : RegisterList → Saved → List ℕ
 frame r s = r.locals ++ length r.locals ∷ r.globals ++ saved_specials s ++ (2 ^ 56 * r.first_global + s.a) ∷ []
 
 -- whether SAVE is refused
-abbrev pub save_overfills : RegisterList → Bool
+unfoldable pub save_overfills : RegisterList → Bool
 save_overfills r = overfills r (frame_length r.first_global (length r.locals))
 
 -- a frame of all registers is hidden, and none is local
@@ -147,7 +148,7 @@ abbrev pub framed : RegisterList → Saved → RegisterList
 framed r s = record r { hidden = r.hidden ++ frame r s; locals = [] }
 
 -- SAVE: a global $X becomes the address of the frame's last octa
-abbrev pub saved : RegisterList → ℕ → Saved → RegisterList
+unfoldable pub saved : RegisterList → ℕ → Saved → RegisterList
 saved r x s = with_register (framed r s) x (stack_address (length (framed r s).hidden - 1))
 
 -- UNSAVE, from the octa at index i downwards
@@ -181,12 +182,22 @@ is_bad_frame r i =
     nat_lt (frame_global r i) 32 || nat_lt (i + 1) (frame_length (frame_global r i) (frame_locals r i))
 
 -- the special registers of the frame; rA is the low 18 bits of its last octa
-abbrev pub frame_specials : RegisterList → ℕ → Saved
+unfoldable pub frame_specials : RegisterList → ℕ → Saved
 frame_specials r i = record {
-  z = octa_below r i 1; y = octa_below r i 2; x = octa_below r i 3; w = octa_below r i 4;
-  p = octa_below r i 5; r = octa_below r i 6; m = octa_below r i 7; j = octa_below r i 8;
-  h = octa_below r i 9; e = octa_below r i 10; d = octa_below r i 11; b = octa_below r i 12;
-  a = octa_below r i 0 % 2 ^ 18 }
+  z = octa_below r i 1;
+  y = octa_below r i 2;
+  x = octa_below r i 3;
+  w = octa_below r i 4;
+  p = octa_below r i 5;
+  r = octa_below r i 6;
+  m = octa_below r i 7;
+  j = octa_below r i 8;
+  h = octa_below r i 9;
+  e = octa_below r i 10;
+  d = octa_below r i 11;
+  b = octa_below r i 12;
+  a = octa_below r i 0 % 2 ^ 18;
+}
 
 -- G becomes g and the globals are those of the frame, above the index of its octa of L; what stays hidden ends
 -- below its l locals, of which at most g become local
@@ -195,11 +206,12 @@ restored r g l middle = record {
   hidden = take (middle - l) r.hidden;
   locals = take (min g l) (drop (middle - l) r.hidden);
   first_global = g;
-  globals = take (256 - g) (drop (middle + 1) r.hidden) }
+  globals = take (256 - g) (drop (middle + 1) r.hidden);
+}
 
-abbrev pub unsaved : RegisterList → ℕ → RegisterList
+unfoldable pub unsaved : RegisterList → ℕ → RegisterList
 unsaved r i = restored r (frame_global r i) (frame_locals r i) (frame_middle r i)
 
 -- whether UNSAVE at an address is refused
-abbrev pub unsave_refused : RegisterList → ℕ → Bool
+unfoldable pub unsave_refused : RegisterList → ℕ → Bool
 unsave_refused r a = not (in_stack_area a) || is_bad_frame r (stack_index a)

@@ -10,7 +10,8 @@ parts r = record {
   hidden = r.hidden.items;
   locals = take r.local_count r.locals;
   first_global = r.first_global;
-  globals = drop r.first_global r.globals }
+  globals = drop r.first_global r.globals;
+}
 
 -- L is at most G, which is from 32 to 255, and there is memory for all octas that may be hidden
 pub record Holds (r : Inside) : Type 0 where

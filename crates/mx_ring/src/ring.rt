@@ -43,7 +43,7 @@ impl Model for Ring {
     ghost invariant = { Holds };
 }
 
-#[tactic(auto, unfolding(crate::specs::Window::as_list))]
+#[tactic(auto, unfolding(crate::specs::Window::as_list, crate::specs::RegisterList::register, crate::specs::RegisterList::set_overfills, crate::specs::RegisterList::with_register, crate::specs::RegisterList::cut_to, crate::specs::RegisterList::with_global_start, crate::specs::RegisterList::pushed, crate::specs::RegisterList::push_overfills, crate::specs::RegisterList::popped, crate::specs::RegisterList::pop_underflows, crate::specs::RegisterList::saved, crate::specs::RegisterList::save_overfills, crate::specs::RegisterList::unsaved, crate::specs::RegisterList::unsave_refused, crate::specs::RegisterList::frame_specials))]
 impl Ring {
     /// Registers at the start of the machine: none is local or hidden, and $255 alone is global. The
     /// room for all registers is taken at once; no other call takes memory.
@@ -388,7 +388,11 @@ impl Ring {
     {
         let bottom = middle - l;
         let count = g.min(l);
-        put(&mut self.globals, g, &self.hidden[middle + 1..middle + 257 - g]);
+        put(
+            &mut self.globals,
+            g,
+            &self.hidden[middle + 1..middle + 257 - g],
+        );
         put(&mut self.locals, 0, &self.hidden[bottom..bottom + count]);
         self.first_global = g;
         self.local_count = count;
