@@ -1,7 +1,7 @@
 -- A frame that is hidden piece by piece.
-use Rattle.std.proofs.Common.{◌≡◌, ℕ, ◌+◌, ◌*◌, ◌^◌, ◌≤◌, List, [], ◌∷◌, ◌++◌, length, take, drop, refl, sym, ◌∙◌, ap}
+use Rattle.std.proofs.Common.{◌≡◌, ℕ, ◌+◌, ◌*◌, ◌^◌, ◌≤◌, List, [], ◌∷◌, ◌++◌, length, take, drop, sym, ap}
 use Rattle.std.proofs.lemmas.List.{append_assoc, length-take-le}
-use Rattle.mx_ring.specs.RegisterList.{RegisterList, saved_specials, framed}
+use Rattle.mx_ring.specs.RegisterList.{saved_specials, framed}
 use Rattle.mx_ring.specs.RingParts.{parts}
 use Rattle.mx_ring.specs.Window.{as_list}
 use Rattle.mx_ring.specs.declared.ring.Ring.TheInside.{Inside}

@@ -1,9 +1,9 @@
 -- What a change of the arrays does to the list of registers.
-use Rattle.std.proofs.Common.{◌≡◌, ℕ, ◌+◌, ◌-◌, ◌≤◌, ◌<◌, List, [], ◌∷◌, ◌++◌, length, take, drop, replicate, set, cond, arith, refl, sym, ◌∙◌, ap}
+use Rattle.std.proofs.Common.{◌≡◌, ℕ, ◌+◌, ◌-◌, ◌≤◌, ◌<◌, List, length, drop, set, arith, sym, ◌∙◌, ap}
 use Rattle.std.proofs.lemmas.Grind.{common_steps}
 use Rattle.std.proofs.lemmas.List.{drop-set-add}
 use Rattle.std.proofs.Math.Seq.{take-set-lt}
-use Rattle.mx_ring.specs.RegisterList.{RegisterList, with_register}
+use Rattle.mx_ring.specs.RegisterList.{with_register}
 use Rattle.mx_ring.specs.RingParts.{parts}
 use Rattle.mx_ring.specs.Window.{as_list}
 use Rattle.mx_ring.specs.declared.ring.Ring.TheInside.{Inside}

@@ -1,5 +1,5 @@
 -- The results of POP among the locals.
-use Rattle.std.proofs.Common.{◌≡◌, ℕ, ◌+◌, ◌-◌, ◌≤◌, ◌<◌, List, [], ◌∷◌, ◌++◌, length, take, drop, set, min, arith, refl, sym, ◌∙◌, ap, ⊎_elim, suc}
+use Rattle.std.proofs.Common.{◌≡◌, ℕ, ◌+◌, ◌-◌, ◌≤◌, ◌<◌, List, ◌∷◌, ◌++◌, length, take, drop, set, min, arith, refl, sym, ◌∙◌, ap, ⊎_elim, suc}
 use Rattle.std.proofs.lemmas.Bool.{cases_lt}
 use Rattle.std.proofs.lemmas.List.{length-take, length-take-le, length-drop, length-append, take_at, take_all, take-take, take_min, drop_at, drop-set, append_assoc}
 use Rattle.std.proofs.Math.Seq.{take-append-add}

@@ -1,6 +1,5 @@
 use Rattle.std.proofs.Common.{◌≤◌, length, arith}
 use Rattle.std.proofs.lemmas.Grind.{common_steps}
-use Rattle.std.proofs.lemmas.List.{take-take}
 use Rattle.mx_ring.proofs.Moves.{moved-down}
 use Rattle.mx_ring.specs.Window.{as_list}
 use Rattle.mx_ring.proofs.ring.Ring.hide.Goals as goal

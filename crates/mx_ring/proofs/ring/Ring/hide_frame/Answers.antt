@@ -1,4 +1,4 @@
-use Rattle.std.proofs.Common.{◌≡◌, ◌≤◌, ◌-◌, ◌++◌, length, take, arith}
+use Rattle.std.proofs.Common.{◌≤◌, length, arith}
 use Rattle.mx_ring.proofs.Frames.{frame-hidden}
 use Rattle.mx_ring.specs.Window.{as_list}
 use Rattle.mx_ring.proofs.ring.Ring.hide_frame.Goals as goal
