@@ -215,3 +215,10 @@ unsaved r i = restored r (frame_global r i) (frame_locals r i) (frame_middle r i
 -- whether UNSAVE at an address is refused
 unfoldable pub unsave_refused : RegisterList → ℕ → Bool
 unsave_refused r a = not (in_stack_area a) || is_bad_frame r (stack_index a)
+
+-- The frame whose last octa is at index i keeps these registers and special registers: UNSAVE there is not refused,
+-- and brings them back.
+pub record KeepsFrame (now : RegisterList) (i : ℕ) (kept : RegisterList) (specials : Saved) : Type 0 where
+  pub is_frame : is_bad_frame now i ≡ false
+  pub gives_registers : unsaved now i ≡ kept
+  pub gives_specials : frame_specials now i ≡ specials

@@ -1,7 +1,7 @@
 //! The registers: the locals and the globals in arrays, and a list of the hidden ones.
 
-ghost use Rattle.std.specs.Prelude.{◌≡◌, ◌*◌, IsTrue, IfSome, ◌≤◌, ◌<◌, ◌+◌, ◌^◌, if◌then◌else◌, None, Some, IfOk, OnOk, OnErr, length, nat_le, nat_lt, take, drop, replicate, ◌++◌, ◌∷◌, []};
-ghost use Rattle.mx_ring.specs.RegisterList.{IsInBounds, no_registers, stack_address, register, set_overfills, with_register, cut_to, with_global_start, overfills, push_overfills, pushed, pushed_marginal, pop_underflows, popped, hole, brought_back, save_overfills, frame_length, saved_specials, framed, saved, in_stack_area, stack_index, is_bad_frame, frame_global, frame_locals, frame_specials, restored, unsaved, unsave_refused};
+ghost use Rattle.std.specs.Prelude.{◌≡◌, ◌*◌, IsTrue, IfSome, ◌≤◌, ◌<◌, ◌+◌, ◌-◌, ◌^◌, if◌then◌else◌, None, Some, IfOk, OnOk, OnErr, length, nat_le, nat_lt, take, drop, replicate, ◌++◌, ◌∷◌, []};
+ghost use Rattle.mx_ring.specs.RegisterList.{IsInBounds, no_registers, stack_address, register, set_overfills, with_register, cut_to, with_global_start, overfills, push_overfills, pushed, pushed_marginal, pop_underflows, popped, hole, brought_back, save_overfills, frame_length, saved_specials, framed, saved, in_stack_area, stack_index, is_bad_frame, frame_global, frame_locals, frame_specials, restored, unsaved, unsave_refused, KeepsFrame};
 ghost use Rattle.mx_ring.specs.RingFaults.{refused_where};
 ghost use Rattle.mx_ring.specs.RingParts.{grown_to, with_local, hiding};
 ghost use Rattle.mx_ring.specs.Window.{as_list};
@@ -167,6 +167,29 @@ impl Ring {
         self.local_count += 1;
     }
 
+    /// L falls to `l`.
+    pub fn cut_locals(&mut self, l: u8)
+        requires { l ≤ length (as_list self.old).locals }
+        ensures { as_list self.new ≡ cut_to (as_list self.old) l }
+    {
+        self.local_count = usize::from(l);
+    }
+
+    /// G becomes `g`. A register that is global only before or only afterwards is 0.
+    pub fn set_global_start(&mut self, g: u8)
+        requires least { 32 ≤ g }
+        requires not_local { length (as_list self.old).locals ≤ g }
+        ensures { as_list self.new ≡ with_global_start (as_list self.old) g }
+    {
+        let g = usize::from(g);
+        if g >= self.first_global {
+            self.first_global = g;
+            return;
+        }
+        clear(&mut self.globals, g, self.first_global);
+        self.first_global = g;
+    }
+
     /// PUSHJ and PUSHGO: hides the registers below $X and the number X. Where $X is global, all
     /// locals are hidden, and their number.
     ///
@@ -267,7 +290,8 @@ impl Ring {
     }
 
     /// SAVE: hides a frame with all local and global registers and these special ones. Afterwards L
-    /// is 0, and the global register $X has the address of the frame's last octa.
+    /// is 0, and the global register $X has the address of the frame's last octa. UNSAVE there brings
+    /// all of them back.
     ///
     /// Errors: `StackFull` exactly where the frame would make the hidden registers pass 2^20; then
     /// nothing changed.
@@ -276,6 +300,7 @@ impl Ring {
         requires event_bits { s.now.a < 2 ^ 18 }
         ensures answer { result ≡ refused_where (save_overfills (as_list self.old)) RingFault.StackFull }
         ensures ok { OnOk result (as_list self.new ≡ saved (as_list self.old) x s.now) }
+        ensures comes_back { OnOk result (KeepsFrame (as_list self.new) (length (as_list self.new).hidden - 1) (as_list self.old) s.now) }
         ensures err { OnErr result (as_list self.new ≡ as_list self.old) }
     {
         if self.hidden.len() + self.local_count + 270 - self.first_global > ROOM {
@@ -397,29 +422,6 @@ impl Ring {
         self.first_global = g;
         self.local_count = count;
         self.hidden.truncate(bottom);
-    }
-
-    /// L falls to `l`.
-    pub fn cut_locals(&mut self, l: u8)
-        requires { l ≤ length (as_list self.old).locals }
-        ensures { as_list self.new ≡ cut_to (as_list self.old) l }
-    {
-        self.local_count = usize::from(l);
-    }
-
-    /// G becomes `g`. A register that is global only before or only afterwards is 0.
-    pub fn set_global_start(&mut self, g: u8)
-        requires least { 32 ≤ g }
-        requires not_local { length (as_list self.old).locals ≤ g }
-        ensures { as_list self.new ≡ with_global_start (as_list self.old) g }
-    {
-        let g = usize::from(g);
-        if g >= self.first_global {
-            self.first_global = g;
-            return;
-        }
-        clear(&mut self.globals, g, self.first_global);
-        self.first_global = g;
     }
 }
 
