@@ -1,0 +1,13 @@
+//! Object files in the mmo format: what stands in them, how it is written and how it is read.
+//!
+//! An object is a sequence of tetras. One whose first byte is #98 is a lopcode, which says what the
+//! tetras after it are; any other tetra is loaded (MMIXware, "MMIX Object Format" in MMIXAL).
+#![tactic(auto)]
+
+mod faults;
+mod items;
+mod lists;
+
+pub use faults::MmoFault;
+pub use items::{Item, Tail};
+pub use lists::{Items, Octas, Words};
