@@ -1,1 +1,7 @@
 pub mod Faults
+pub mod Image
+pub mod Meaning
+pub mod Object
+pub mod Spelling
+pub mod Tetras
+pub mod Valid
