@@ -4,6 +4,7 @@
 //! tetras after it are; any other tetra is loaded (MMIXware, "MMIX Object Format" in MMIXAL).
 #![tactic(auto)]
 
+mod due;
 mod faults;
 mod items;
 mod lists;
