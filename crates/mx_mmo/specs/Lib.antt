@@ -3,6 +3,7 @@ pub mod Image
 pub mod Meaning
 pub mod Object
 pub mod Reading
+pub mod Replies
 pub mod Spelling
 pub mod Tetras
 pub mod Valid

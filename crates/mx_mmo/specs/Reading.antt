@@ -1,5 +1,5 @@
 -- What stands first in bytes: an item and how many bytes it takes, a fault, or nothing that is whole.
-use Rattle.std.specs.Prelude.{ℕ, ◌+◌, ◌-◌, ◌*◌, ◌/◌, ◌%◌, ◌^◌, ◌==◌, ◌&&◌, nat_le, nat_lt, List, [], ◌∷◌, length, take, drop, Option, Some, None, Result, Ok, Err, if◌then◌else◌}
+use Rattle.std.specs.Prelude.{ℕ, ◌+◌, ◌-◌, ◌*◌, ◌/◌, ◌%◌, ◌^◌, ◌==◌, ◌&&◌, ◌<◌, ◌≤◌, nat_le, nat_lt, List, [], ◌∷◌, length, take, drop, Option, Some, None, Result, Ok, Err, if◌then◌else◌}
 use Rattle.mx_word.specs.Words.{tetra_from_bytes, octa_from_bytes}
 use Rattle.mx_mmo.specs.declared.items.Item.{Item}
 use Rattle.mx_mmo.specs.declared.items.Item.TheVariants.{Load, Loc, Pre, Post, Stab}
@@ -67,3 +67,8 @@ due_item Ended at a code y z more = Ok None
 abbrev pub first_item : Phase → ℕ → List ℕ → Due
 first_item phase at (a ∷ code ∷ y ∷ z ∷ more) = due_item phase at a code y z more
 first_item phase at _ = Ok None
+
+-- an item takes some bytes, and no more than these
+abbrev pub IsWithin : Due → ℕ → Type 0
+IsWithin (Ok (Some (item, size))) n = (0 < size) × (size ≤ n)
+IsWithin _ n = Unit {0}

@@ -1,7 +1,8 @@
 //! The item that stands first in what was fed.
 
-ghost use Rattle.std.specs.Prelude.{◌≡◌, ◌≢◌};
+ghost use Rattle.std.specs.Prelude.{◌≡◌, ◌≢◌, length};
 ghost use Rattle.mx_mmo.specs.Reading as spec;
+ghost use Rattle.mx_mmo.specs.Reading.{IsWithin};
 
 use crate::{Item, MmoFault, Octas, Words};
 use mx_word::{octa_of, tetra_of};
@@ -137,7 +138,8 @@ fn lop_item(alloc: Global, at: u64, code: u8, y: u8, z: u8, more: &[u8]) -> Due
 
 /// The item that stands first in bytes that begin at a byte place.
 pub fn first_item(alloc: Global, phase: Phase, at: u64, rest: &[u8]) -> Due
-    ensures { result ≢ Err MmoFault.OutOfMemory → result ≡ spec.first_item phase at rest.now }
+    ensures item { result ≢ Err MmoFault.OutOfMemory → result ≡ spec.first_item phase at rest.now }
+    ensures within { IsWithin result (length rest.now) }
 {
     let [a, code, y, z, more @ ..] = rest else {
         return Ok(None);

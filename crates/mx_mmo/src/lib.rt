@@ -8,7 +8,11 @@ mod due;
 mod faults;
 mod items;
 mod lists;
+mod reader;
+mod tail;
 
+pub use due::Phase;
 pub use faults::MmoFault;
 pub use items::{Item, Tail};
 pub use lists::{Items, Octas, Words};
+pub use reader::Reader;
