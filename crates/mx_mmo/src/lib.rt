@@ -9,10 +9,13 @@ mod faults;
 mod items;
 mod lists;
 mod reader;
+mod spell;
 mod tail;
+mod writer;
 
 pub use due::Phase;
 pub use faults::MmoFault;
 pub use items::{Item, Tail};
 pub use lists::{Items, Octas, Words};
 pub use reader::Reader;
+pub use writer::Writer;
