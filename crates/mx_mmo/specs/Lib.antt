@@ -7,3 +7,4 @@ pub mod Replies
 pub mod Spelling
 pub mod Tetras
 pub mod Valid
+pub mod Whole

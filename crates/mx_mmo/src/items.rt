@@ -1,6 +1,6 @@
 //! What stands in an object.
 
-use crate::{Octas, Words};
+use crate::{Items, Octas, Words};
 use mx_word::Bytes;
 
 /// One item of an object. Lambda is the address where the next tetra is loaded.
@@ -38,4 +38,11 @@ pub enum Item {
 pub struct Tail {
     pub trie: Bytes,
     pub place: u64,
+}
+
+/// A whole object: its items, `stab` the last of them, and what stands behind that.
+#[derive(Drop)]
+pub struct Object {
+    pub items: Items,
+    pub tail: Tail,
 }

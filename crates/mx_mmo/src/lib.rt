@@ -15,7 +15,7 @@ mod writer;
 
 pub use due::Phase;
 pub use faults::MmoFault;
-pub use items::{Item, Tail};
+pub use items::{Item, Object, Tail};
 pub use lists::{Items, Octas, Words};
 pub use reader::Reader;
 pub use writer::Writer;
