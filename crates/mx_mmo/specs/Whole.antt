@@ -1,7 +1,7 @@
 -- What whole byte lists are: an object, or the first fault.
 use Rattle.std.specs.Prelude.{ℕ, zero, suc, ◌+◌, ◌^◌, nat_lt, List, [], ◌∷◌, ◌++◌, length, drop, Option, Some, None, Result, Ok, Err, if◌then◌else◌}
 use Rattle.mx_mmo.specs.Reading.{Due, first_item}
-use Rattle.mx_mmo.specs.Replies.{phase_after, tail_of, limit}
+use Rattle.mx_mmo.specs.Replies.{ReaderModel, phase_after, tail_of, limit}
 use Rattle.mx_mmo.specs.declared.items.Item.{Item}
 use Rattle.mx_mmo.specs.declared.items.Tail.{Tail}
 use Rattle.mx_mmo.specs.declared.items.Object.{Object}
@@ -62,3 +62,14 @@ object_fault bytes = fault_in (object_of bytes)
 -- items before those of a walk
 abbrev pub onto : List Item → Walk → Walk
 onto items w = (items ++ w.0, w.1)
+
+-- the items that were given, and those that a reader still gives
+abbrev pub ahead : List Item → ReaderModel → Walk
+ahead items m = onto items (items_of m.phase m.at m.rest)
+
+abbrev pub left_of : ReaderModel → Left
+left_of m = record { phase = m.phase; at = m.at; rest = m.rest }
+
+-- how many bytes were fed
+abbrev pub fed : ReaderModel → ℕ
+fed m = m.at + length m.rest

@@ -1,6 +1,6 @@
 //! Reading an object in pieces.
 
-ghost use Rattle.std.specs.Prelude.{◌≡◌, ◌≢◌, ◌≤◌, ◌+◌, ◌++◌, ◌^◌, length, drop, OnOk, OnErr, IfErr};
+ghost use Rattle.std.specs.Prelude.{◌≡◌, ◌≢◌, ◌≤◌, ◌+◌, ◌++◌, ◌^◌, length, drop, ◌<◌, IfOk, OnOk, OnErr, OnSome, IfErr};
 ghost use Rattle.mx_mmo.specs.Replies as spec;
 
 use crate::due::{Phase, first_item};
@@ -96,6 +96,7 @@ impl Reader {
     pub fn next(&mut self) -> Result<Option<Item>, MmoFault>
         ensures answers { result ≢ Err MmoFault.OutOfMemory → (result, self.new) ≡ spec.next_answer self.old }
         ensures memory { result ≡ Err MmoFault.OutOfMemory → self.new ≡ self.old }
+        ensures shorter { IfOk result (λ item. OnSome item (length self.new.rest < length self.old.rest)) }
     {
         if let Some(fault) = self.fault {
             return Err(fault);
