@@ -1,5 +1,5 @@
 -- What whole byte lists are: an object, or the first fault.
-use Rattle.std.specs.Prelude.{ℕ, zero, suc, ◌+◌, ◌^◌, nat_lt, List, [], ◌∷◌, ◌++◌, length, drop, Option, Some, None, Result, Ok, Err, if◌then◌else◌}
+use Rattle.std.specs.Prelude.{◌≡◌, ◌⊎◌, ◌<◌, ℕ, zero, suc, ◌+◌, ◌^◌, nat_lt, List, [], ◌∷◌, ◌++◌, length, drop, Option, Some, None, Result, Ok, Err, if◌then◌else◌}
 use Rattle.mx_mmo.specs.Reading.{Due, first_item}
 use Rattle.mx_mmo.specs.Replies.{ReaderModel, phase_after, tail_of, limit}
 use Rattle.mx_mmo.specs.declared.items.Item.{Item}
@@ -73,3 +73,11 @@ left_of m = record { phase = m.phase; at = m.at; rest = m.rest }
 -- how many bytes were fed
 abbrev pub fed : ReaderModel → ℕ
 fed m = m.at + length m.rest
+
+-- a reader that was fed more
+abbrev pub with_more : ReaderModel → List ℕ → ReaderModel
+with_more m more = record m { rest = m.rest ++ more }
+
+-- a fault of so many bytes with these items: there are too many, or an item has it
+abbrev pub IsFaultOf : MmoFault → ℕ → Walk → Type 0
+IsFaultOf fault size w = ((limit < size) × (fault ≡ TooLong limit)) ⊎ (w.1 ≡ Err fault)

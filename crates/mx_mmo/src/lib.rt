@@ -11,6 +11,7 @@ mod lists;
 mod reader;
 mod spell;
 mod tail;
+mod whole;
 mod writer;
 
 pub use due::Phase;
@@ -18,4 +19,5 @@ pub use faults::MmoFault;
 pub use items::{Item, Object, Tail};
 pub use lists::{Items, Octas, Words};
 pub use reader::Reader;
+pub use whole::read;
 pub use writer::Writer;
