@@ -1,4 +1,5 @@
 pub mod Firsts
 pub mod Nexts
+pub mod Pieces
 pub mod Splits
 pub mod Walks

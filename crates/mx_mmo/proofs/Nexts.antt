@@ -2,9 +2,10 @@
 use Rattle.std.proofs.Common.{◌≡◌, ◌≢◌, ℕ, zero, suc, ◌+◌, ◌-◌, ◌*◌, ◌<◌, ◌≤◌, length, List, [], ◌∷◌, ◌++◌, take, drop, arith, refl, sym, ◌∙◌, ap, subst, Ok, Err, Some, None, length-drop, length-append, append_assoc}
 use Rattle.std.specs.Prelude.{Result, Option}
 use Rattle.mx_mmo.specs.Reading.{Due, IsWithin, first_item}
-use Rattle.mx_mmo.specs.Replies.{ReaderModel, phase_after, next_item, next_due, next_answer, given}
+use Rattle.mx_mmo.specs.Replies.{ReaderModel, phase_after, next_item, next_due, next_answer, given, tail_of, finished, finish_next, finish_answer}
 use Rattle.mx_mmo.specs.Whole.{Left, Walk, behind, items_of, onto, ahead, left_of, fed}
 use Rattle.mx_mmo.specs.declared.items.Item.{Item}
+use Rattle.mx_mmo.specs.declared.items.Tail.{Tail}
 use Rattle.mx_mmo.specs.declared.faults.MmoFault.{MmoFault}
 use Rattle.mx_mmo.proofs.Firsts.{first-within}
 use Rattle.mx_mmo.proofs.Walks.{items-more, items-none, items-fault}
@@ -68,3 +69,12 @@ fault-step m n fault (Ok (Some (other, size))) e h = let r = result-is _ _ h in 
 
 pub next-fault : (m n : ReaderModel) (fault : MmoFault) → m.fault ≡ None → (Err fault, n) ≡ next_answer m → items_of m.phase m.at m.rest ≡ ([], Err fault)
 next-fault m n fault well h = fault-step m n fault (first_item m.phase m.at m.rest) refl (h ∙ next-is m well)
+
+finish-step : (m n : ReaderModel) (fault : MmoFault) (r : Result Tail MmoFault) → (Err fault, n) ≡ finished m r → r ≡ Err fault
+finish-step m n fault (Ok tail) h = let r = result-is _ _ h in absurd (cc)
+finish-step m n fault (Err other) h =
+    let r : ◌≡◌ {A = Result Tail MmoFault} (Err fault) (Err other) = result-is _ _ h in
+    sym r
+
+pub finish-fault : (m n : ReaderModel) (fault : MmoFault) → m.fault ≡ None → (Err fault, n) ≡ finish_answer m → tail_of m.phase m.at m.rest ≡ Err fault
+finish-fault m n fault well h = finish-step m n fault (tail_of m.phase m.at m.rest) (h ∙ ap (λ f. finish_next f m) well)
