@@ -57,3 +57,12 @@ pub record IsObject (bytes : List ℕ) (items : List Item) (trie : List ℕ) : T
   pub counted : length trie ≡ 4 * count
   pub most : count < 2 ^ 16
   pub whole : bytes ≡ front ++ trie ++ wide_lop 12 count
+
+-- the items that are read so far; any other is refused as not built
+abbrev pub IsBuilt : Item → Type 0
+IsBuilt (Load t) = Unit {0}
+IsBuilt (Loc a) = Unit {0}
+IsBuilt (Pre words) = Unit {0}
+IsBuilt (Post g values) = Unit {0}
+IsBuilt Stab = Unit {0}
+IsBuilt _ = ⊥
