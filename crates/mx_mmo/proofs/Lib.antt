@@ -1,3 +1,4 @@
+pub mod Complete
 pub mod Firsts
 pub mod Nexts
 pub mod Phases

@@ -46,7 +46,7 @@ pub fault-of-more : (front rest : List ℕ) (fault : MmoFault) → IsFaultOf fau
 fault-of-more front rest fault (inl h) = inl (omega (arith, h.0, length-append front rest), h.1)
 fault-of-more front rest fault (inr h) = inr (fault-stays front rest fault h)
 
-not-long : (bytes : List ℕ) → length bytes ≤ limit → object_of bytes ≡ object_behind (items_of Start 0 bytes).0 (items_of Start 0 bytes).1
+pub not-long : (bytes : List ℕ) → length bytes ≤ limit → object_of bytes ≡ object_behind (items_of Start 0 bytes).0 (items_of Start 0 bytes).1
 not-long bytes h = let e : nat_lt limit (length bytes) ≡ false = grind (arith, nat_tests) in rw e refl
 
 pub fault-of-all : (bytes : List ℕ) (fault : MmoFault) → IsFaultOf fault (length bytes) (items_of Start 0 bytes) → length bytes ≤ limit → object_of bytes ≡ Err fault
