@@ -5,4 +5,5 @@ pub mod Phases
 pub mod Pieces
 pub mod Spelt
 pub mod Splits
+pub mod Told
 pub mod Walks
