@@ -3,6 +3,7 @@ pub mod Firsts
 pub mod Nexts
 pub mod Phases
 pub mod Pieces
+pub mod Sound
 pub mod Spelt
 pub mod Splits
 pub mod Told

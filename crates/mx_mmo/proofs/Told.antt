@@ -182,14 +182,14 @@ post-tells code y g more d e f k h = cond-tells (nat_lt (length more) (8 * (256 
         same-lop 10 0 g code y g _ _ d e refl w.whole ∙ sym (take-four (8 * (256 - g)) 0x98 code y g more) in
     record { is = record { spells = spelled-as (Post g values) _ _ bytes (post g values f k count w.each); suits = tt; fits = (f, k, count, w.each) } })
 
-both-true : (b c : Bool) → (b && c) ≡ true → (b ≡ true) × (c ≡ true)
+pub both-true : (b c : Bool) → (b && c) ≡ true → (b ≡ true) × (c ≡ true)
 both-true true c h = (refl, h)
 both-true false c h = absurd (cc)
 
-same-number : (m n : ℕ) → (m == n) ≡ true → m ≡ n
+pub same-number : (m n : ℕ) → (m == n) ≡ true → m ≡ n
 same-number m n h = grind (arith, nat_tests)
 
-both-tests : (m n k l : ℕ) → (m == n && k == l) ≡ true → (m ≡ n) × (k ≡ l)
+pub both-tests : (m n k l : ℕ) → (m == n && k == l) ≡ true → (m ≡ n) × (k ≡ l)
 both-tests m n k l h = let t = both-true (m == n) (k == l) h in (same-number m n t.0, same-number k l t.1)
 
 all-tests : (m n k l i j : ℕ) → (m == n && k == l && i == j) ≡ true → (m ≡ n) × (k ≡ l) × (i ≡ j)

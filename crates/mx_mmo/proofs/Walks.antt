@@ -10,7 +10,7 @@ use Rattle.mx_mmo.specs.declared.faults.MmoFault.{MmoFault}
 use Rattle.mx_mmo.specs.declared.due.Phase.{Phase}
 use Rattle.mx_mmo.proofs.Firsts.{Grows, first-grows, first-within}
 
-shorter : (size : ℕ) (bytes : List ℕ) → 0 < size → size ≤ length bytes → length (drop size bytes) < length bytes
+pub shorter : (size : ℕ) (bytes : List ℕ) → 0 < size → size ≤ length bytes → length (drop size bytes) < length bytes
 shorter size bytes p q = omega (arith, length-drop size bytes)
 
 walk_on-same : (f g : Phase → ℕ → List ℕ → Walk) (phase : Phase) (at : ℕ) (bytes : List ℕ) (d : Due) → IsWithin d (length bytes) →
