@@ -8,7 +8,7 @@ use Rattle.mx_mmo.specs.Object.{Spells, Spelled, IsObject, IsBuilt}
 use Rattle.mx_mmo.specs.Object.Spelled.{none, next}
 use Rattle.mx_mmo.specs.Reading.{first_item}
 use Rattle.mx_mmo.specs.Replies.{limit, phase_after, tail_of}
-use Rattle.mx_mmo.specs.Whole.{Left, Walk, behind, items_of, object_of, object_behind, onto, with_tail}
+use Rattle.mx_mmo.specs.Whole.{Left, Walk, behind, items_of, SpellsObject, object_of, object_behind, onto, with_tail}
 use Rattle.mx_mmo.specs.declared.items.Item.{Item}
 use Rattle.mx_mmo.specs.declared.items.Tail.{Tail}
 use Rattle.mx_mmo.specs.declared.items.Object.{Object}
@@ -65,14 +65,20 @@ items-read items front sp r =
     ∙ ap (λ (n : ℕ). onto items (items_of (phase_end Start items) n (wide_lop 12 0))) (zero-add (length front))
     ∙ ap (onto items) (ended-none (length front) (phase_end Start items) r.end) ∙ onto-none items (left_behind (length front))
 
-whole-bytes : (bytes front : List ℕ) (count : ℕ) → bytes ≡ front ++ [] ++ wide_lop 12 count → 0 ≡ 4 * count → bytes ≡ front ++ wide_lop 12 0
-whole-bytes bytes front count e z =
-    let none : count ≡ 0 = omega arith in
-    e ∙ ap (λ f. f ++ wide_lop 12 count) (append-nil front) ∙ ap (λ (n : ℕ). front ++ wide_lop 12 n) none
+whole-bytes : (bytes front trie : List ℕ) (count : ℕ) → trie ≡ [] → bytes ≡ front ++ trie ++ wide_lop 12 count → length trie ≡ 4 * count → bytes ≡ front ++ wide_lop 12 0
+whole-bytes bytes front trie count t e z =
+    let none : count ≡ 0 = omega (arith, ap (λ (x : List ℕ). length x) t) in
+    e ∙ ap (λ x. front ++ x ++ wide_lop 12 count) t ∙ ap (λ f. f ++ wide_lop 12 count) (append-nil front) ∙ ap (λ (n : ℕ). front ++ wide_lop 12 n) none
 
-pub object-read : (bytes : List ℕ) (items : List Item) (o : IsObject bytes items []) → AllByRecursion IsBuilt items → length bytes ≤ limit →
-    object_of bytes ≡ Ok (record { items = items; tail = record { trie = []; place = length o.front } })
-object-read bytes items o b l =
+same-object : (object : Object) (place : ℕ) → object.tail.trie ≡ [] → object.tail.place ≡ place →
+    ◌≡◌ {A = Object} (record { items = object.items; tail = record { trie = []; place = place } }) object
+same-object object place e f = rw (← e, ← f) refl
+
+pub object-only : (bytes : List ℕ) (object : Object) → SpellsObject bytes object → AllByRecursion IsBuilt object.items → object.tail.trie ≡ [] → length bytes ≤ limit →
+    object_of bytes ≡ Ok object
+object-only bytes object s b e l =
+    let o = s.spelled in
     not-long bytes l
-    ∙ ap (λ (bs : List ℕ). object_behind (items_of Start 0 bs).0 (items_of Start 0 bs).1) (whole-bytes bytes o.front o.count o.whole o.counted)
-    ∙ ap (λ (w : Walk). object_behind w.0 w.1) (items-read items o.front o.spelled (placed-reaches items o.valid.placed b))
+    ∙ ap (λ (bs : List ℕ). object_behind (items_of Start 0 bs).0 (items_of Start 0 bs).1) (whole-bytes bytes o.front object.tail.trie o.count e o.whole o.counted)
+    ∙ ap (λ (w : Walk). object_behind w.0 w.1) (items-read object.items o.front o.spelled (placed-reaches object.items o.valid.placed b))
+    ∙ ap Ok (same-object object (length o.front) e s.place)

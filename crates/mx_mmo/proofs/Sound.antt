@@ -10,7 +10,7 @@ use Rattle.mx_mmo.specs.Object.{Spells, Spelled, IsObject}
 use Rattle.mx_mmo.specs.Object.Spelled.{none, next}
 use Rattle.mx_mmo.specs.Reading.{Due, IsWithin, first_item}
 use Rattle.mx_mmo.specs.Replies.{limit, phase_after, tail_of, tail_behind, counted_tail, end_count}
-use Rattle.mx_mmo.specs.Whole.{Left, Walk, behind, walk_on, items_of, object_of, object_behind, onto, with_tail}
+use Rattle.mx_mmo.specs.Whole.{Left, Walk, behind, walk_on, items_of, SpellsObject, object_of, object_behind, onto, with_tail}
 use Rattle.mx_mmo.specs.declared.items.Item.{Item}
 use Rattle.mx_mmo.specs.declared.items.Tail.{Tail}
 use Rattle.mx_mmo.specs.declared.items.Object.{Object}
@@ -130,3 +130,42 @@ behind-tells _ at rest = refused-tail _ _ _ _
 tail-tells : (phase : Phase) (at : ℕ) (rest : List ℕ) → TailTold phase at rest (tail_of phase at rest)
 tail-tells phase at rest =
     cond-tail (length rest % 4 == 0) phase at rest _ _ (λ _. behind-tells phase at rest) (λ _. refused-tail _ _ _ (NotTetras (at + length rest - length rest % 4)))
+
+-- an object that is read is one of the grammar
+abbrev IsRead : List ℕ → Result Object MmoFault → Type 0
+IsRead bytes (Ok object) = SpellsObject bytes object
+IsRead bytes (Err fault) = Unit {0}
+
+with-tail-stands : (bytes : List ℕ) (items : List Item) (left : Left) (r : Result Tail MmoFault) → Stood Start 0 bytes items left → TailTells left.phase left.at left.rest r →
+    IsRead bytes (with_tail items r)
+with-tail-stands bytes items left (Err fault) s t = tt
+with-tail-stands bytes items left (Ok tail) s t =
+    let reaches : Reaches Start items = record { suit = s.suit; end = sym s.end ∙ t.ended } in
+    let whole : bytes ≡ s.front ++ tail.trie ++ wide_lop 12 0 =
+        s.whole ∙ ap (λ r. s.front ++ r) t.whole ∙ ap (λ f. f ++ wide_lop 12 0) (sym (append-nil s.front) ∙ ap (λ x. s.front ++ x) (sym t.trie)) in
+    record {
+      spelled = record {
+        front = s.front;
+        count = 0;
+        valid = record { placed = placed-items items reaches; fits = s.fits; specs = specs-end Start items s.suit };
+        spelled = s.spelled;
+        counted = ap (λ (x : List ℕ). length x) t.trie;
+        most = omega arith;
+        whole = whole;
+      };
+      place = t.place ∙ s.place ∙ zero-add (length s.front);
+    }
+
+behind-read : (bytes : List ℕ) (w : Walk) → Stands Start 0 bytes w → IsRead bytes (object_behind w.0 w.1)
+behind-read bytes (items, Err fault) s = tt
+behind-read bytes (items, Ok left) s = with-tail-stands bytes items left (tail_of left.phase left.at left.rest) s (tail-tells left.phase left.at left.rest).is
+
+cond-read : (b : Bool) (bytes : List ℕ) (fault : MmoFault) (r : Result Object MmoFault) → IsRead bytes r → IsRead bytes (cond b (Err fault) r)
+cond-read true bytes fault r h = tt
+cond-read false bytes fault r h = h
+
+is-read : (bytes : List ℕ) → AreBytes bytes → IsRead bytes (object_of bytes)
+is-read bytes b = cond-read (nat_lt limit (length bytes)) bytes (TooLong limit) _ (behind-read bytes (items_of Start 0 bytes) (stands bytes b))
+
+pub object-stands : (bytes : List ℕ) (object : Object) → AreBytes bytes → object_of bytes ≡ Ok object → SpellsObject bytes object
+object-stands bytes object b e = subst (λ (r : Result Object MmoFault). IsRead bytes r) e (is-read bytes b)

@@ -1,5 +1,6 @@
 -- What whole byte lists are: an object, or the first fault.
 use Rattle.std.specs.Prelude.{◌≡◌, ◌⊎◌, ◌<◌, ℕ, zero, suc, ◌+◌, ◌^◌, nat_lt, List, [], ◌∷◌, ◌++◌, length, drop, Option, Some, None, Result, Ok, Err, if◌then◌else◌}
+use Rattle.mx_mmo.specs.Object.{IsObject}
 use Rattle.mx_mmo.specs.Reading.{Due, first_item}
 use Rattle.mx_mmo.specs.Replies.{ReaderModel, phase_after, tail_of, limit}
 use Rattle.mx_mmo.specs.declared.items.Item.{Item}
@@ -81,3 +82,8 @@ with_more m more = record m { rest = m.rest ++ more }
 -- a fault of so many bytes with these items: there are too many, or an item has it
 abbrev pub IsFaultOf : MmoFault → ℕ → Walk → Type 0
 IsFaultOf fault size w = ((limit < size) × (fault ≡ TooLong limit)) ⊎ (w.1 ≡ Err fault)
+
+-- the bytes are this object in the grammar, and its trie begins where the items end
+pub record SpellsObject (bytes : List ℕ) (object : Object) : Type 0 where
+  pub spelled : IsObject bytes object.items object.tail.trie
+  pub place : object.tail.place ≡ length spelled.front

@@ -1,9 +1,12 @@
 //! Reading a whole object.
 
-ghost use Rattle.std.specs.Prelude.{◌≡◌, ◌≢◌, ◌<◌, ◌≤◌, ◌+◌, None, true, false, length, IfErr, OnOk, IsErrAnd};
-ghost use Rattle.std.specs.List.{concat};
+ghost use Rattle.std.specs.Prelude.{◌≡◌, ◌≢◌, ◌<◌, ◌≤◌, ◌+◌, None, true, false, length, [], Some, IfOk, IfErr, OnOk, IsErrAnd};
+ghost use Rattle.std.specs.List.{AllByRecursion, concat};
+ghost use Rattle.mx_mmo.specs.Object.{IsBuilt};
 ghost use Rattle.mx_mmo.specs.Replies.{limit};
-ghost use Rattle.mx_mmo.specs.Whole.{IsFaultOf, ahead, fed, items_of, left_of, object_of, with_more};
+ghost use Rattle.mx_mmo.specs.Valid.{AreBytes};
+ghost use Rattle.mx_mmo.specs.declared.items.Object.{Object};
+ghost use Rattle.mx_mmo.specs.Whole.{IsFaultOf, SpellsObject, ahead, fed, items_of, left_of, object_fault, object_of, with_more};
 
 use crate::{Items, MmoFault, Object, Phase, Reader};
 use mx_word::Bytes;
@@ -53,6 +56,7 @@ fn take_piece(reader: &mut Reader, items: &mut Items, piece: &[u8]) -> Result<()
     ensures well { OnOk result (reader.new.fault ≡ None) }
     ensures end { OnOk result (fed reader.new ≡ fed reader.old + length piece.now) }
     ensures most { OnOk result (fed reader.old + length piece.now ≤ limit) }
+    ensures bytes { AreBytes piece.now }
     ensures fault { result ≢ Err MmoFault.OutOfMemory → IfErr result (λ f. IsFaultOf f (fed reader.old + length piece.now) (ahead items.old (with_more reader.old piece.now))) }
 {
     match reader.feed(piece) {
@@ -61,13 +65,12 @@ fn take_piece(reader: &mut Reader, items: &mut Items, piece: &[u8]) -> Result<()
     }
 }
 
-/// The object that comes in these pieces, or the first fault.
-pub fn read(alloc: Global, pieces: &[Bytes]) -> Result<Object, MmoFault>
-    // However the bytes are cut into pieces, the object is that of all bytes, and so is the fault.
+/// Reads the pieces from first to last.
+fn read_pieces(alloc: Global, pieces: &[Bytes]) -> Result<Object, MmoFault>
     ensures exact { length (concat pieces.now) ≤ limit → result ≢ Err MmoFault.OutOfMemory → result ≡ object_of (concat pieces.now) }
-    // Too many bytes are refused as such, unless an item before has a fault.
     ensures long { limit < length (concat pieces.now) → result ≢ Err MmoFault.OutOfMemory →
         IsErrAnd result (λ f. IsFaultOf f (length (concat pieces.now)) (items_of Phase.Start 0 (concat pieces.now))) }
+    ensures bytes { OnOk result (AreBytes (concat pieces.now)) }
 {
     let mut reader = Reader::new(alloc);
     let mut items = Items::new(alloc);
@@ -81,4 +84,22 @@ pub fn read(alloc: Global, pieces: &[Bytes]) -> Result<Object, MmoFault>
         Ok(tail) => Ok(Object { items, tail }),
         Err(fault) => Err(fault),
     }
+}
+
+/// The object that comes in these pieces, or the first fault.
+pub fn read(alloc: Global, pieces: &[Bytes]) -> Result<Object, MmoFault>
+    // However the bytes are cut into pieces, the object is that of all bytes, and so is the fault.
+    ensures exact { length (concat pieces.now) ≤ limit → result ≢ Err MmoFault.OutOfMemory → result ≡ object_of (concat pieces.now) }
+    // Too many bytes are refused as such, unless an item before has a fault.
+    ensures long { limit < length (concat pieces.now) → result ≢ Err MmoFault.OutOfMemory →
+        IsErrAnd result (λ f. IsFaultOf f (length (concat pieces.now)) (items_of Phase.Start 0 (concat pieces.now))) }
+    // What is read is in the grammar of objects.
+    ensures found { IfOk result (λ object. SpellsObject (concat pieces.now) object) }
+    // What is in the grammar is read, as long as all of it is read so far.
+    ensures only { (object : Object) → SpellsObject (concat pieces.now) object → AllByRecursion IsBuilt object.items → object.tail.trie ≡ [] →
+        length (concat pieces.now) ≤ limit → result ≢ Err MmoFault.OutOfMemory → result ≡ Ok object }
+    // A fault is the first one.
+    ensures fault { length (concat pieces.now) ≤ limit → result ≢ Err MmoFault.OutOfMemory → IfErr result (λ f. object_fault (concat pieces.now) ≡ Some f) }
+{
+    read_pieces(alloc, pieces)
 }

@@ -1,41 +1,27 @@
-use Rattle.std.proofs.Common.{ap, sym, ◌∙◌, Ok, Err, length, refl, arith, take, ◌≡◌, ◌+◌}
+use Rattle.std.proofs.Common.{ap, sym, ◌∙◌, ◌≡◌, ◌≢◌, ◌<◌, ◌≤◌, ℕ, List, length, Ok, Err, inl, inr, ◌⊎◌}
+use Rattle.std.specs.Prelude.{Result, IfOk, OnOk, IsErrAnd}
 use Rattle.std.specs.List.{concat}
-use Rattle.mx_mmo.specs.Replies.{ReaderModel}
-use Rattle.mx_mmo.specs.Whole.{items_of, left_of, with_tail, fed}
-use Rattle.mx_mmo.specs.declared.due.Phase.TheVariants.{Start}
-use Rattle.mx_mmo.proofs.Nexts.{finish-fault}
-use Rattle.mx_mmo.proofs.Pieces.{nothing-yet, fault-of-piece, fault-of-all, items-of-piece, length-of-piece, all-pieces, object-of-all}
+use Rattle.std.proofs.lemmas.Bool.{cases_lt}
+use Rattle.mx_mmo.specs.Replies.{limit}
+use Rattle.mx_mmo.specs.Valid.{AreBytes}
+use Rattle.mx_mmo.specs.Whole.{SpellsObject, object_of}
+use Rattle.mx_mmo.specs.declared.items.Object.{Object}
+use Rattle.mx_mmo.specs.declared.faults.MmoFault.{MmoFault}
+use Rattle.mx_mmo.specs.declared.faults.MmoFault.TheVariants.{OutOfMemory}
+use Rattle.mx_mmo.proofs.Complete.{object-only}
+use Rattle.mx_mmo.proofs.Sound.{object-stands}
 use Rattle.mx_mmo.proofs.whole.read.Goals as goal
 
-pub loop-piece-init : goal.loop-piece-init
-loop-piece-init c = rw (c.new-reader.ensures, c.new-items.ensures) (record { well = refl; same = nothing-yet; end = refl; most = omega arith })
+found-of : (bytes : List ℕ) (P : MmoFault → Type 0) (r : Result Object MmoFault) → (length bytes ≤ limit → r ≢ Err OutOfMemory → r ≡ object_of bytes) →
+    (limit < length bytes → r ≢ Err OutOfMemory → IsErrAnd r P) → OnOk r (AreBytes bytes) → IfOk r (λ object. SpellsObject bytes object)
+found-of bytes P (Err fault) exact long b = tt
+found-of bytes P (Ok object) exact long b = elim (cases_lt limit (length bytes)) [
+  inl far ↦ absurd (long far (λ e. cc))
+  | inr near ↦ object-stands bytes object b (sym (exact near (λ e. cc)))
+]
 
-pub returns-in-Err-clause-exact : goal.returns-in-Err-clause-exact
-returns-in-Err-clause-exact c = λ l ne.
-    sym (fault-of-all (concat c.args.pieces.now) c.in-Err.fault
-    (fault-of-piece c.args.pieces.now c.loop-piece.piece-index c.as_slice.result.now c.piece-item.result c.loop-piece.items c.loop-piece.reader c.in-Err.fault
-    c.loop-piece-test.true (c.as_slice.ensures ∙ c.piece-item.is) c.loop-piece.invariant.same c.loop-piece.invariant.end (c.in-Err.ensures.fault (λ e. ne (cc)))) l)
+pub returns-clause-found : goal.returns-clause-found
+returns-clause-found c = found-of (concat c.args.pieces.now) _ c.read_pieces.result c.read_pieces.ensures.exact c.read_pieces.ensures.long c.read_pieces.ensures.bytes
 
-pub returns-in-Err-clause-long : goal.returns-in-Err-clause-long
-returns-in-Err-clause-long c = λ l ne.
-    fault-of-piece c.args.pieces.now c.loop-piece.piece-index c.as_slice.result.now c.piece-item.result c.loop-piece.items c.loop-piece.reader c.in-Err.fault
-    c.loop-piece-test.true (c.as_slice.ensures ∙ c.piece-item.is) c.loop-piece.invariant.same c.loop-piece.invariant.end (c.in-Err.ensures.fault (λ e. ne (cc)))
-
-pub loop-piece-preserved : goal.loop-piece-preserved
-loop-piece-preserved c =
-    let is = c.as_slice.ensures ∙ c.piece-item.is in
-    record {
-      well = c.in-Ok.ensures.well;
-      same = items-of-piece c.args.pieces.now c.loop-piece.piece-index c.as_slice.result.now c.piece-item.result c.loop-piece.items c.take_piece.new.items c.loop-piece.reader
-          c.take_piece.new.reader c.loop-piece-test.true is c.loop-piece.invariant.same c.in-Ok.ensures.last;
-      end = c.in-Ok.ensures.end ∙ ap (λ n. n + length c.as_slice.result.now) c.loop-piece.invariant.end
-          ∙ sym (length-of-piece c.args.pieces.now c.loop-piece.piece-index c.as_slice.result.now c.piece-item.result c.loop-piece-test.true is);
-      most = omega (arith, c.in-Ok.ensures.end, c.in-Ok.ensures.most);
-    }
-
-pub returns-clause-exact : goal.returns-clause-exact
-returns-clause-exact c = λ l ne.
-    let all : items_of Start 0 (concat c.args.pieces.now) ≡ (c.loop-piece.items, Ok (left_of c.loop-piece.reader)) =
-        ap (items_of Start 0) (sym (all-pieces c.args.pieces.now c.loop-piece.piece-index c.loop-piece-test.false)) ∙ c.loop-piece.invariant.same in
-    let fault = finish-fault c.loop-piece.reader c.finish.new.self c.in-Err-finish.fault c.loop-piece.invariant.well (c.in-Err-finish.ensures.answers (λ e. ne (cc))) in
-    sym (object-of-all (concat c.args.pieces.now) c.loop-piece.items c.loop-piece.reader all l ∙ ap (with_tail c.loop-piece.items) fault)
+pub returns-clause-only : goal.returns-clause-only
+returns-clause-only c = λ object s b e l ne. c.read_pieces.ensures.exact l ne ∙ object-only (concat c.args.pieces.now) object s b e l
