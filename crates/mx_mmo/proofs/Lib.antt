@@ -8,3 +8,4 @@ pub mod Spelt
 pub mod Splits
 pub mod Told
 pub mod Walks
+pub mod Written

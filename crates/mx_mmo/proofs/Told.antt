@@ -117,7 +117,7 @@ bytes-front (suc n) (b ∷ bytes) h = (h.0, bytes-front n bytes h.1)
 take-four : (n a b c d : ℕ) (more : List ℕ) → take (4 + n) (a ∷ b ∷ c ∷ d ∷ more) ≡ a ∷ b ∷ c ∷ d ∷ take n more
 take-four n a b c d more = let e : 4 + n ≡ suc (suc (suc (suc n))) = omega arith in rw e refl
 
-spelled-as : (item : Item) (bytes others : List ℕ) → bytes ≡ others → Spells item bytes → Spells item others
+pub spelled-as : (item : Item) (bytes others : List ℕ) → bytes ≡ others → Spells item bytes → Spells item others
 spelled-as item bytes others e s = subst (λ (b : List ℕ). Spells item b) e s
 
 same-lop : (code y z code' y' z' : ℕ) (more more' : List ℕ) → code' ≡ code → y' ≡ y → z' ≡ z → more ≡ more' → lop code y z ++ more ≡ 0x98 ∷ code' ∷ y' ∷ z' ∷ more'
@@ -219,7 +219,7 @@ lop-tells at a code y z more d p q h =
 top-byte : (a b c d : ℕ) → b < 256 → c < 256 → d < 256 → tetra_from_bytes (a ∷ b ∷ c ∷ d ∷ []) / 2 ^ 24 ≡ a
 top-byte a b c d q r s = omega arith
 
-other-number : (m n : ℕ) → (m == n) ≡ false → m ≢ n
+pub other-number : (m n : ℕ) → (m == n) ≡ false → m ≢ n
 other-number m n h = grind (arith, nat_tests)
 
 plain-tells : (a b c d : ℕ) (more : List ℕ) → (a == 0x98) ≡ false → a < 256 → b < 256 → c < 256 → d < 256 →

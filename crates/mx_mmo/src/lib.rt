@@ -19,5 +19,5 @@ pub use faults::MmoFault;
 pub use items::{Item, Object, Tail};
 pub use lists::{Items, Octas, Words};
 pub use reader::Reader;
-pub use whole::read;
+pub use whole::{read, reading_is_the_grammar, written_is_read};
 pub use writer::Writer;

@@ -1,10 +1,12 @@
 //! Reading a whole object.
 
-ghost use Rattle.std.specs.Prelude.{◌≡◌, ◌≢◌, ◌<◌, ◌≤◌, ◌+◌, None, true, false, length, [], Some, IfOk, IfErr, OnOk, IsErrAnd};
+ghost use Rattle.std.specs.Prelude.{◌≡◌, ◌≢◌, ◌<◌, ◌≤◌, ◌+◌, None, true, false, length, [], Some, IfOk, IfErr, OnOk, IsErrAnd, List, ℕ, ◌++◌};
 ghost use Rattle.std.specs.List.{AllByRecursion, concat};
 ghost use Rattle.mx_mmo.specs.Object.{IsBuilt};
 ghost use Rattle.mx_mmo.specs.Replies.{limit};
-ghost use Rattle.mx_mmo.specs.Valid.{AreBytes};
+ghost use Rattle.mx_mmo.specs.Spelling.{ending, written};
+ghost use Rattle.mx_mmo.specs.Valid.{AreBytes, Valid};
+ghost use Rattle.mx_mmo.specs.declared.items.Item.{Item};
 ghost use Rattle.mx_mmo.specs.declared.items.Object.{Object};
 ghost use Rattle.mx_mmo.specs.Whole.{IsFaultOf, SpellsObject, ahead, fed, items_of, left_of, object_fault, object_of, with_more};
 
@@ -102,4 +104,21 @@ pub fn read(alloc: Global, pieces: &[Bytes]) -> Result<Object, MmoFault>
     ensures fault { length (concat pieces.now) ≤ limit → result ≢ Err MmoFault.OutOfMemory → IfErr result (λ f. object_fault (concat pieces.now) ≡ Some f) }
 {
     read_pieces(alloc, pieces)
+}
+
+/// What a writer writes of valid items is read again as these items and this trie, as long as all
+/// of it is read so far.
+pub fn written_is_read()
+    ensures { (items : List Item) (trie : List ℕ) → Valid items → AllByRecursion IsBuilt items → trie ≡ [] → length (written items ++ ending trie) ≤ limit →
+        object_of (written items ++ ending trie) ≡ Ok (record { items = items; tail = record { trie = trie; place = length (written items) } }) }
+{
+}
+
+/// What is read is in the grammar of objects, and what is in the grammar is read, as long as all of
+/// it is read so far.
+pub fn reading_is_the_grammar()
+    ensures found { (bytes : List ℕ) (object : Object) → AreBytes bytes → object_of bytes ≡ Ok object → SpellsObject bytes object }
+    ensures only { (bytes : List ℕ) (object : Object) → SpellsObject bytes object → AllByRecursion IsBuilt object.items → object.tail.trie ≡ [] → length bytes ≤ limit →
+        object_of bytes ≡ Ok object }
+{
 }

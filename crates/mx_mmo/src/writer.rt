@@ -1,8 +1,10 @@
 //! Writing an object.
 
 ghost use Rattle.std.specs.Prelude.{◌≡◌, [], ◌++◌, ◌+◌, ◌*◌, ◌/◌, ◌%◌, ◌<◌, ◌≤◌, ◌^◌, length, take, IfOk, IfErr, OnOk, OnErr, ℕ, List};
+ghost use Rattle.mx_mmo.specs.Object.{IsObject};
 ghost use Rattle.mx_mmo.specs.Spelling.{bytes_of, ending, written};
 ghost use Rattle.mx_mmo.specs.Valid.{Fits, Valid};
+ghost use Rattle.mx_mmo.specs.declared.items.Item.{Item};
 
 use crate::spell::{append_end, append_item};
 use crate::{Item, MmoFault};
@@ -58,6 +60,8 @@ impl Writer {
         requires whole { length trie.now % 4 ≡ 0 }
         requires most { length trie.now / 4 < 2 ^ 16 }
         ensures bytes { IfOk result (λ bytes. bytes ≡ self ++ ending trie.now) }
+        // What is written from valid items is an object of these items and this trie.
+        ensures object { IfOk result (λ bytes. (items : List Item) → Valid items → self ≡ written items → IsObject bytes items trie.now) }
         ensures only { IfErr result (λ e. e ≡ MmoFault.OutOfMemory) }
     {
         let mut bytes = self.bytes;
