@@ -11,6 +11,8 @@ mod lists;
 mod reader;
 mod spell;
 mod tail;
+#[cfg(test)]
+mod tests;
 mod whole;
 mod writer;
 
