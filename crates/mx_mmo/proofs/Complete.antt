@@ -1,18 +1,15 @@
 -- An object is read as its items and its trie.
-use Rattle.std.proofs.Common.{◌≡◌, ◌≢◌, ℕ, zero, suc, ◌+◌, ◌-◌, ◌*◌, ◌/◌, ◌%◌, ◌^◌, ◌<◌, ◌≤◌, length, List, [], ◌∷◌, ◌++◌, take, drop, arith, refl, sym, ◌∙◌, ap, subst, Ok, Err, Some, None, length-append, append_assoc, append-nil, add-zero, zero-add}
-use Rattle.std.specs.Prelude.{Result, Option}
+use Rattle.std.proofs.Common.{◌≡◌, ℕ, ◌+◌, ◌*◌, ◌≤◌, length, List, [], ◌∷◌, ◌++◌, drop, arith, refl, ◌∙◌, ap, Ok, None, length-append, append_assoc, append-nil, add-zero, zero-add}
 use Rattle.std.specs.List.{AllByRecursion}
 use Rattle.std.proofs.lemmas.Grind.{common_steps}
 use Rattle.mx_mmo.specs.Tetras.{wide_lop}
-use Rattle.mx_mmo.specs.Object.{Spells, Spelled, IsObject, IsBuilt}
+use Rattle.mx_mmo.specs.Object.{Spells, Spelled, IsBuilt}
 use Rattle.mx_mmo.specs.Object.Spelled.{none, next}
 use Rattle.mx_mmo.specs.Reading.{first_item}
 use Rattle.mx_mmo.specs.Replies.{limit, phase_after, tail_of}
-use Rattle.mx_mmo.specs.Whole.{Left, Walk, behind, items_of, SpellsObject, object_of, object_behind, onto, with_tail}
+use Rattle.mx_mmo.specs.Whole.{Left, Walk, behind, items_of, SpellsObject, object_of, object_behind, onto}
 use Rattle.mx_mmo.specs.declared.items.Item.{Item}
-use Rattle.mx_mmo.specs.declared.items.Tail.{Tail}
 use Rattle.mx_mmo.specs.declared.items.Object.{Object}
-use Rattle.mx_mmo.specs.declared.faults.MmoFault.{MmoFault}
 use Rattle.mx_mmo.specs.declared.due.Phase.{Phase}
 use Rattle.mx_mmo.specs.declared.due.Phase.TheVariants.{Start, Ended}
 use Rattle.mx_mmo.proofs.Phases.{Suit, Reaches, phase_end, placed-reaches}

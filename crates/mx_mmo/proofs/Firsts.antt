@@ -1,6 +1,6 @@
 -- What stands first in bytes does not depend on what comes later.
-use Rattle.std.proofs.Common.{◌≡◌, ◌≢◌, ℕ, ◌+◌, ◌-◌, ◌*◌, ◌<◌, ◌≤◌, length, List, [], ◌∷◌, ◌++◌, take, drop, Bool, true, false, cond, arith, refl, sym, ◌∙◌, ap, subst, Ok, Err, Some, None}
-use Rattle.std.specs.Prelude.{Result, Option, nat_lt, nat_le, ◌==◌, ◌&&◌}
+use Rattle.std.proofs.Common.{◌≡◌, ℕ, ◌+◌, ◌-◌, ◌*◌, ◌<◌, ◌≤◌, length, List, [], ◌∷◌, ◌++◌, take, Bool, true, false, cond, arith, refl, ap, subst, Ok, Err, Some, None}
+use Rattle.std.specs.Prelude.{nat_lt, nat_le, ◌==◌, ◌&&◌}
 use Rattle.std.proofs.lemmas.Bool.Decides.{nat_tests}
 use Rattle.std.proofs.lemmas.Grind.{common_steps}
 use Rattle.mx_mmo.specs.Reading.{Due, IsWithin, first_item, due_item, lop_item, quoted_item, short_loc, long_loc, pre_item, post_item, words_of, octas_of}

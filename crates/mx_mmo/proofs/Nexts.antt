@@ -1,9 +1,9 @@
 -- What an answer of a reader says of the items that it still gives.
-use Rattle.std.proofs.Common.{◌≡◌, ◌≢◌, ℕ, zero, suc, ◌+◌, ◌-◌, ◌*◌, ◌<◌, ◌≤◌, length, List, [], ◌∷◌, ◌++◌, take, drop, arith, refl, sym, ◌∙◌, ap, subst, Ok, Err, Some, None, length-drop, length-append, append_assoc}
+use Rattle.std.proofs.Common.{◌≡◌, ℕ, ◌+◌, ◌<◌, ◌≤◌, length, List, [], ◌∷◌, ◌++◌, drop, arith, refl, sym, ◌∙◌, ap, subst, Ok, Err, Some, None, length-drop, append_assoc}
 use Rattle.std.specs.Prelude.{Result, Option}
 use Rattle.mx_mmo.specs.Reading.{Due, IsWithin, first_item}
 use Rattle.mx_mmo.specs.Replies.{ReaderModel, phase_after, next_item, next_due, next_answer, given, tail_of, finished, finish_next, finish_answer}
-use Rattle.mx_mmo.specs.Whole.{Left, Walk, behind, items_of, onto, ahead, left_of, fed}
+use Rattle.mx_mmo.specs.Whole.{Walk, behind, items_of, onto, ahead, left_of, fed}
 use Rattle.mx_mmo.specs.declared.items.Item.{Item}
 use Rattle.mx_mmo.specs.declared.items.Tail.{Tail}
 use Rattle.mx_mmo.specs.declared.faults.MmoFault.{MmoFault}

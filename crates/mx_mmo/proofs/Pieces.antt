@@ -1,17 +1,14 @@
 -- Reading goes on over more pieces.
-use Rattle.std.proofs.Common.{◌≡◌, ◌≢◌, ℕ, zero, suc, ◌+◌, ◌-◌, ◌*◌, ◌^◌, ◌<◌, ◌≤◌, length, List, [], ◌∷◌, ◌++◌, take, drop, get_or, arith, refl, sym, ◌∙◌, ap, subst, Ok, Err, Some, None, length-drop, length-append, append_assoc, append-nil, ◌⊎◌, inl, inr, true, false, add-one}
-use Rattle.std.specs.Prelude.{Result, Option, nat_lt}
+use Rattle.std.proofs.Common.{◌≡◌, ℕ, zero, suc, ◌+◌, ◌^◌, ◌<◌, ◌≤◌, length, List, [], ◌∷◌, ◌++◌, take, drop, get_or, arith, refl, sym, ◌∙◌, ap, subst, Ok, Err, length-append, append_assoc, append-nil, inl, inr, false, add-one}
+use Rattle.std.specs.Prelude.{nat_lt}
 use Rattle.std.specs.List.{concat}
 use Rattle.std.proofs.lemmas.Grind.{common_steps}
 use Rattle.std.proofs.lemmas.Bool.Decides.{nat_tests}
 use Rattle.mx_mmo.specs.Valid.{AreBytes}
-use Rattle.mx_mmo.specs.Reading.{Due, first_item}
 use Rattle.mx_mmo.specs.Replies.{ReaderModel, limit, fresh, tail_of}
-use Rattle.mx_mmo.specs.Whole.{IsFaultOf, Left, Walk, ahead, fed, items_of, left_of, object_of, object_behind, with_tail, with_more, onto}
+use Rattle.mx_mmo.specs.Whole.{IsFaultOf, Walk, ahead, fed, items_of, left_of, object_of, object_behind, with_tail, with_more}
 use Rattle.mx_mmo.specs.declared.items.Item.{Item}
-use Rattle.mx_mmo.specs.declared.items.Tail.{Tail}
 use Rattle.mx_mmo.specs.declared.faults.MmoFault.{MmoFault}
-use Rattle.mx_mmo.specs.declared.faults.MmoFault.TheVariants.{TooLong}
 use Rattle.mx_mmo.specs.declared.due.Phase.TheVariants.{Start}
 use Rattle.mx_mmo.proofs.Walks.{items-none, extended, extends}
 
@@ -19,7 +16,7 @@ use Rattle.mx_mmo.proofs.Walks.{items-none, extended, extends}
 pub concat-more : (pieces : List (List ℕ)) (i : ℕ) (d : List ℕ) → i < length pieces → concat (take (i + 1) pieces) ≡ concat (take i pieces) ++ get_or pieces i d
 concat-more [] i d h = absurd (omega arith)
 concat-more (p ∷ ps) zero d h = append-nil p
-concat-more (p ∷ ps) (suc i) d h = 
+concat-more (p ∷ ps) (suc i) d h =
     rw add-one (ap (λ k. p ++ concat (take k ps)) (sym (add-one i)) ∙ ap (λ l. p ++ l) (concat-more ps i d (omega arith)) ∙ sym (append_assoc p (concat (take i ps)) (get_or ps i d)))
 
 pub concat-rest : (pieces : List (List ℕ)) (i : ℕ) → concat pieces ≡ concat (take i pieces) ++ concat (drop i pieces)
@@ -67,7 +64,7 @@ fault-of-piece pieces i piece d items m fault l is same end h =
     let front = concat (take i pieces) in
     let grown : concat (take (i + 1) pieces) ≡ front ++ piece = concat-more pieces i d l ∙ ap (λ p. front ++ p) (sym is) in
     let here : IsFaultOf fault (length (front ++ piece)) (items_of Start 0 (front ++ piece)) =
-        rw (goes-on front piece items m same, length-append, ← end) h in
+    rw (goes-on front piece items m same, length-append, ← end) h in
     let all : concat pieces ≡ (front ++ piece) ++ concat (drop (i + 1) pieces) = concat-rest pieces (i + 1) ∙ ap (λ f. f ++ concat (drop (i + 1) pieces)) grown in
     subst (λ (b : List ℕ). IsFaultOf fault (length b) (items_of Start 0 b)) (sym all) (fault-of-more (front ++ piece) (concat (drop (i + 1) pieces)) fault here)
 

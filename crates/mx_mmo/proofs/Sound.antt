@@ -1,25 +1,24 @@
 -- What is read is in the grammar.
-use Rattle.std.proofs.Common.{◌≡◌, ◌≢◌, ℕ, zero, suc, ◌+◌, ◌-◌, ◌*◌, ◌/◌, ◌%◌, ◌^◌, ◌<◌, ◌≤◌, length, List, [], ◌∷◌, ◌++◌, take, drop, arith, refl, sym, ◌∙◌, ap, subst, Ok, Err, Some, None, Bool, true, false, cond, length-append, append_assoc, append-nil, add-zero, zero-add, length-take, length-drop}
+use Rattle.std.proofs.Common.{◌≡◌, ℕ, zero, suc, ◌+◌, ◌-◌, ◌*◌, ◌/◌, ◌%◌, ◌<◌, ◌≤◌, length, List, [], ◌∷◌, ◌++◌, take, drop, arith, refl, sym, ◌∙◌, ap, subst, Ok, Err, Some, None, Bool, true, false, cond, length-append, append_assoc, append-nil, add-zero, zero-add, length-take}
 use Rattle.std.specs.Prelude.{Result, Option, nat_lt, ◌==◌, ◌&&◌}
 use Rattle.std.specs.List.{AllByRecursion}
 use Rattle.std.proofs.lemmas.List.{take-append-drop}
-use Rattle.std.proofs.lemmas.Grind.{common_steps}
-use Rattle.mx_mmo.specs.Tetras.{lop, wide_lop}
-use Rattle.mx_mmo.specs.Valid.{AreBytes, Fits, Valid}
-use Rattle.mx_mmo.specs.Object.{Spells, Spelled, IsObject}
+use Rattle.mx_mmo.specs.Tetras.{wide_lop}
+use Rattle.mx_mmo.specs.Valid.{AreBytes, Fits}
+use Rattle.mx_mmo.specs.Object.{Spelled}
 use Rattle.mx_mmo.specs.Object.Spelled.{none, next}
 use Rattle.mx_mmo.specs.Reading.{Due, IsWithin, first_item}
 use Rattle.mx_mmo.specs.Replies.{limit, phase_after, tail_of, tail_behind, counted_tail, end_count}
-use Rattle.mx_mmo.specs.Whole.{Left, Walk, behind, walk_on, items_of, SpellsObject, object_of, object_behind, onto, with_tail}
+use Rattle.mx_mmo.specs.Whole.{Left, Walk, behind, walk_on, items_of, SpellsObject, object_of, object_behind, with_tail}
 use Rattle.mx_mmo.specs.declared.items.Item.{Item}
 use Rattle.mx_mmo.specs.declared.items.Tail.{Tail}
 use Rattle.mx_mmo.specs.declared.items.Object.{Object}
 use Rattle.mx_mmo.specs.declared.faults.MmoFault.{MmoFault}
 use Rattle.mx_mmo.specs.declared.faults.MmoFault.TheVariants.{TooLong, NotTetras, BadFields, NotBuilt}
 use Rattle.mx_mmo.specs.declared.due.Phase.{Phase}
-use Rattle.mx_mmo.specs.declared.due.Phase.TheVariants.{Start, Middle, Posted, Ended}
+use Rattle.mx_mmo.specs.declared.due.Phase.TheVariants.{Start, Ended}
 use Rattle.mx_mmo.proofs.Firsts.{first-within}
-use Rattle.mx_mmo.proofs.Phases.{Suits, Suit, Reaches, phase_end, placed-items, specs-end}
+use Rattle.mx_mmo.proofs.Phases.{Suit, Reaches, phase_end, placed-items, specs-end}
 use Rattle.mx_mmo.proofs.Told.{Found, Tells, first-tells, same-number, both-tests}
 use Rattle.mx_mmo.proofs.Walks.{items-step, shorter}
 
@@ -142,7 +141,7 @@ with-tail-stands bytes items left (Err fault) s t = tt
 with-tail-stands bytes items left (Ok tail) s t =
     let reaches : Reaches Start items = record { suit = s.suit; end = sym s.end ∙ t.ended } in
     let whole : bytes ≡ s.front ++ tail.trie ++ wide_lop 12 0 =
-        s.whole ∙ ap (λ r. s.front ++ r) t.whole ∙ ap (λ f. f ++ wide_lop 12 0) (sym (append-nil s.front) ∙ ap (λ x. s.front ++ x) (sym t.trie)) in
+    s.whole ∙ ap (λ r. s.front ++ r) t.whole ∙ ap (λ f. f ++ wide_lop 12 0) (sym (append-nil s.front) ∙ ap (λ x. s.front ++ x) (sym t.trie)) in
     record {
       spelled = record {
         front = s.front;

@@ -1,22 +1,20 @@
 -- What is spelled so is read so.
-use Rattle.std.proofs.Common.{◌≡◌, ◌≢◌, ℕ, zero, suc, ◌+◌, ◌-◌, ◌*◌, ◌/◌, ◌%◌, ◌^◌, ◌<◌, ◌≤◌, length, List, [], ◌∷◌, ◌++◌, take, drop, arith, refl, sym, ◌∙◌, ap, subst, Ok, Err, Some, None, Bool, true, false, cond, length-append, append_assoc}
-use Rattle.std.specs.Prelude.{Result, Option, nat_lt, nat_le, ◌==◌, ◌&&◌}
+use Rattle.std.proofs.Common.{◌≡◌, ◌≢◌, ℕ, ◌+◌, ◌-◌, ◌*◌, ◌/◌, ◌%◌, ◌^◌, ◌<◌, length, List, [], ◌∷◌, ◌++◌, take, arith, refl, ◌∙◌, ap, Ok, Some, true, false, length-append}
+use Rattle.std.specs.Prelude.{nat_lt, nat_le, ◌==◌}
 use Rattle.std.specs.List.{flat_map}
-use Rattle.std.specs.Int.{w32, w64, to_be_bytes, from_be_bytes}
 use Rattle.std.proofs.lemmas.Grind.{common_steps}
 use Rattle.std.proofs.lemmas.Bool.Decides.{nat_tests}
 use Rattle.std.proofs.lemmas.Nat.{from_be_bytes-to_be_bytes_4, from_be_bytes-to_be_bytes_8}
 use Rattle.mx_word.specs.Words.{tetra_to_bytes, octa_to_bytes, tetra_from_bytes, octa_from_bytes}
-use Rattle.mx_mmo.specs.Tetras.{lop, wide_lop}
 use Rattle.mx_mmo.specs.Valid.{AreTetras, AreOctas}
-use Rattle.mx_mmo.specs.Object.{IsPlain, SpellsAddress, Spells, Spelled}
+use Rattle.mx_mmo.specs.Object.{IsPlain, Spells}
 use Rattle.mx_mmo.specs.Object.SpellsAddress.{by_tetra, by_octa}
-use Rattle.mx_mmo.specs.Object.Spells.{plain, quoted, loc, skip, fixo, fixr, fixrx, selected, named, line, spec, pre, post, stab}
-use Rattle.mx_mmo.specs.Reading.{Due, first_item, words_of, octas_of, short_loc, long_loc, quoted_item, pre_item, post_item, lop_item, due_item}
+use Rattle.mx_mmo.specs.Object.Spells.{plain, quoted, loc, pre, post, stab}
+use Rattle.mx_mmo.specs.Reading.{Due, first_item, words_of, octas_of, short_loc, long_loc, quoted_item, pre_item, post_item}
 use Rattle.mx_mmo.specs.declared.items.Item.{Item}
-use Rattle.mx_mmo.specs.declared.items.Item.TheVariants.{Load, Loc, Skip, FixOcta, FixNear, FixFar, File, Line, Spec, Pre, Post, Stab}
+use Rattle.mx_mmo.specs.declared.items.Item.TheVariants.{Load, Loc, Pre, Post}
 use Rattle.mx_mmo.specs.declared.due.Phase.{Phase}
-use Rattle.mx_mmo.specs.declared.due.Phase.TheVariants.{Start, Middle, Posted, Ended}
+use Rattle.mx_mmo.specs.declared.due.Phase.TheVariants.{Start, Middle, Posted}
 use Rattle.mx_mmo.proofs.Phases.{Suits}
 
 tetra-back : (t : ℕ) → t < 2 ^ 32 → tetra_from_bytes (tetra_to_bytes t) ≡ t

@@ -1,5 +1,5 @@
 -- The octas of bytes, one octa at a time.
-use Rattle.std.proofs.Common.{◌≡◌, ℕ, ◌+◌, ◌-◌, ◌≤◌, length, List, [], ◌∷◌, ◌++◌, get_or, take, drop, arith, refl, sym, ◌∙◌, ap, rules}
+use Rattle.std.proofs.Common.{◌≡◌, ℕ, ◌+◌, ◌-◌, ◌≤◌, length, List, [], ◌∷◌, get_or, take, drop, arith, refl}
 use Rattle.std.proofs.lemmas.Grind.{common_steps}
 use Rattle.mx_word.specs.Words.{octa_from_bytes}
 use Rattle.mx_mmo.specs.Reading.{octas_of}

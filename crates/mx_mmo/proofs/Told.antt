@@ -1,19 +1,18 @@
 -- What is read stands there: the item that is read is spelled by the bytes that it takes.
-use Rattle.std.proofs.Common.{◌≡◌, ◌≢◌, ℕ, zero, suc, ◌+◌, ◌-◌, ◌*◌, ◌/◌, ◌%◌, ◌^◌, ◌<◌, ◌≤◌, length, List, [], ◌∷◌, ◌++◌, take, drop, get_or, arith, refl, sym, ◌∙◌, ap, subst, Ok, Err, Some, None, Bool, true, false, cond, length-append, append_assoc, length-take}
-use Rattle.std.specs.Prelude.{Result, Option, nat_lt, nat_le, ◌==◌, ◌&&◌}
-use Rattle.std.specs.List.{flat_map, AllByRecursion}
-use Rattle.std.proofs.lemmas.Grind.{common_steps}
+use Rattle.std.proofs.Common.{◌≡◌, ◌≢◌, ℕ, zero, suc, ◌+◌, ◌-◌, ◌*◌, ◌/◌, ◌%◌, ◌^◌, ◌<◌, ◌≤◌, length, List, [], ◌∷◌, ◌++◌, take, get_or, arith, refl, sym, ◌∙◌, ap, subst, Ok, Err, Some, None, Bool, true, false, cond, length-take}
+use Rattle.std.specs.Prelude.{nat_lt, nat_le, ◌==◌, ◌&&◌}
+use Rattle.std.specs.List.{flat_map}
 use Rattle.std.proofs.lemmas.Bool.Decides.{nat_tests}
 use Rattle.std.proofs.lemmas.Nat.{be_bytes_4, be_bytes_8}
 use Rattle.mx_word.specs.Words.{tetra_to_bytes, octa_to_bytes, tetra_from_bytes, octa_from_bytes}
-use Rattle.mx_mmo.specs.Tetras.{lop, wide_lop}
+use Rattle.mx_mmo.specs.Tetras.{lop}
 use Rattle.mx_mmo.specs.Valid.{AreBytes, AreTetras, AreOctas, Fits}
-use Rattle.mx_mmo.specs.Object.{IsPlain, SpellsAddress, Spells, Spelled}
+use Rattle.mx_mmo.specs.Object.{Spells}
 use Rattle.mx_mmo.specs.Object.SpellsAddress.{by_tetra, by_octa}
 use Rattle.mx_mmo.specs.Object.Spells.{plain, quoted, loc, pre, post, stab}
 use Rattle.mx_mmo.specs.Reading.{Due, first_item, words_of, octas_of, short_loc, long_loc, quoted_item, pre_item, post_item, lop_item, due_item}
 use Rattle.mx_mmo.specs.declared.items.Item.{Item}
-use Rattle.mx_mmo.specs.declared.items.Item.TheVariants.{Load, Loc, Skip, FixOcta, FixNear, FixFar, File, Line, Spec, Pre, Post, Stab}
+use Rattle.mx_mmo.specs.declared.items.Item.TheVariants.{Load, Loc, Pre, Post, Stab}
 use Rattle.mx_mmo.specs.declared.faults.MmoFault.{MmoFault}
 use Rattle.mx_mmo.specs.declared.faults.MmoFault.TheVariants.{NoPre, BadLop, BadFields, NotBuilt}
 use Rattle.mx_mmo.specs.declared.due.Phase.{Phase}
@@ -88,7 +87,7 @@ words-told (suc n) (a ∷ b ∷ c ∷ d ∷ more) l h =
     record {
       count = ap suc w.count;
       whole = ap (λ f. f ++ flat_map tetra_to_bytes (words_of more)) (four-bytes a b c d h.0 h.1.0 h.1.1.0 h.1.1.1.0) ∙ ap (λ m. a ∷ b ∷ c ∷ d ∷ m) w.whole;
-      each = (four-fit a b c d h.0 h.1.0 h.1.1.0 h.1.1.1.0, w.each)
+      each = (four-fit a b c d h.0 h.1.0 h.1.1.0 h.1.1.1.0, w.each);
     }
 words-told n _ l h = absurd (omega arith)
 
@@ -105,7 +104,7 @@ octas-told (suc n) (a ∷ b ∷ c ∷ d ∷ e ∷ f ∷ g ∷ h ∷ more) l s =
     record {
       count = ap suc w.count;
       whole = ap (λ x. x ++ flat_map octa_to_bytes (octas_of more)) (eight-bytes a b c d e f g h t) ∙ ap (λ m. a ∷ b ∷ c ∷ d ∷ e ∷ f ∷ g ∷ h ∷ m) w.whole;
-      each = (eight-fit a b c d e f g h t, w.each)
+      each = (eight-fit a b c d e f g h t, w.each);
     }
 octas-told n _ l s = absurd (omega arith)
 
@@ -139,10 +138,13 @@ short-tells code y z (a ∷ b ∷ c ∷ d ∷ more) e f g h =
     let t = tetra_from_bytes (a ∷ b ∷ c ∷ d ∷ []) in
     let fit : t < 2 ^ 32 = four-fit a b c d h.0 h.1.0 h.1.1.0 h.1.1.1.0 in
     let bytes = four-bytes a b c d h.0 h.1.0 h.1.1.0 h.1.1.1.0 in
-    record { is = record {
-      spells = spelled-as (Loc (y * 2 ^ 56 + t)) _ _ (same-lop 1 y 1 code y z _ _ e refl g bytes) (loc (y * 2 ^ 56 + t) (lop 1 y 1 ++ tetra_to_bytes t) (by_tetra 1 y t f fit));
-      suits = tt;
-      fits = loc-fit y t f fit } }
+    record {
+      is = record {
+        spells = spelled-as (Loc (y * 2 ^ 56 + t)) _ _ (same-lop 1 y 1 code y z _ _ e refl g bytes) (loc (y * 2 ^ 56 + t) (lop 1 y 1 ++ tetra_to_bytes t) (by_tetra 1 y t f fit));
+        suits = tt;
+        fits = loc-fit y t f fit;
+      };
+    }
 short-tells code y z _ e f g h = nothing-tells _ _
 
 mod-fit : (n : ℕ) → n % 2 ^ 64 < 2 ^ 64
@@ -154,11 +156,14 @@ long-tells code y z (a ∷ b ∷ c ∷ d ∷ e ∷ f ∷ g ∷ h ∷ more) p q r
     let x = octa_from_bytes (a ∷ b ∷ c ∷ d ∷ e ∷ f ∷ g ∷ h ∷ []) in
     let fit : x < 2 ^ 64 = eight-fit a b c d e f g h t in
     let bytes = eight-bytes a b c d e f g h t in
-    record { is = record {
-      spells = spelled-as (Loc ((y * 2 ^ 56 + x) % 2 ^ 64)) _ _ (same-lop 1 y 2 code y z _ _ p refl r bytes)
-          (loc ((y * 2 ^ 56 + x) % 2 ^ 64) (lop 1 y 2 ++ octa_to_bytes x) (by_octa 1 y x q fit));
-      suits = tt;
-      fits = mod-fit (y * 2 ^ 56 + x) } }
+    record {
+      is = record {
+        spells = spelled-as (Loc ((y * 2 ^ 56 + x) % 2 ^ 64)) _ _ (same-lop 1 y 2 code y z _ _ p refl r bytes)
+            (loc ((y * 2 ^ 56 + x) % 2 ^ 64) (lop 1 y 2 ++ octa_to_bytes x) (by_octa 1 y x q fit));
+        suits = tt;
+        fits = mod-fit (y * 2 ^ 56 + x);
+      };
+    }
 long-tells code y z _ p q r s = nothing-tells _ _
 
 there : (n : ℕ) (more : List ℕ) → nat_lt (length more) n ≡ false → length (take n more) ≡ n
@@ -170,7 +175,7 @@ pre-tells a code y z more d e f g h = cond-tells (nat_lt (length more) (4 * z)) 
     let words = words_of (take (4 * z) more) in
     let few : length words < 2 ^ 8 = rw (w.count) g in
     let bytes : lop 9 1 (length words) ++ flat_map tetra_to_bytes words ≡ take (4 + 4 * z) (a ∷ code ∷ y ∷ z ∷ more) =
-        same-lop 9 1 (length words) code y z _ _ e f (sym w.count) w.whole ∙ ap (λ (b : ℕ). b ∷ code ∷ y ∷ z ∷ take (4 * z) more) (sym d) ∙ sym (take-four (4 * z) a code y z more) in
+    same-lop 9 1 (length words) code y z _ _ e f (sym w.count) w.whole ∙ ap (λ (b : ℕ). b ∷ code ∷ y ∷ z ∷ take (4 * z) more) (sym d) ∙ sym (take-four (4 * z) a code y z more) in
     record { is = record { spells = spelled-as (Pre words) _ _ bytes (pre words few w.each); suits = tt; fits = (few, w.each) } })
 
 post-tells : (code y g : ℕ) (more : List ℕ) → code ≡ 10 → y ≡ 0 → 32 ≤ g → g < 2 ^ 8 → AreBytes more → Told Middle (0x98 ∷ code ∷ y ∷ g ∷ more) (post_item g more)
@@ -179,7 +184,7 @@ post-tells code y g more d e f k h = cond-tells (nat_lt (length more) (8 * (256 
     let values = octas_of (take (8 * (256 - g)) more) in
     let count : length values + g ≡ 256 = omega (arith, w.count) in
     let bytes : lop 10 0 g ++ flat_map octa_to_bytes values ≡ take (4 + 8 * (256 - g)) (0x98 ∷ code ∷ y ∷ g ∷ more) =
-        same-lop 10 0 g code y g _ _ d e refl w.whole ∙ sym (take-four (8 * (256 - g)) 0x98 code y g more) in
+    same-lop 10 0 g code y g _ _ d e refl w.whole ∙ sym (take-four (8 * (256 - g)) 0x98 code y g more) in
     record { is = record { spells = spelled-as (Post g values) _ _ bytes (post g values f k count w.each); suits = tt; fits = (f, k, count, w.each) } })
 
 pub both-true : (b c : Bool) → (b && c) ≡ true → (b ≡ true) × (c ≡ true)
@@ -207,13 +212,13 @@ zero-and-least y z h = let t = both-true (y == 0) (nat_le 32 z) h in (same-numbe
 lop-tells : (at a code y z : ℕ) (more : List ℕ) → a ≡ 0x98 → y < 2 ^ 8 → z < 2 ^ 8 → AreBytes more → Told Middle (0x98 ∷ code ∷ y ∷ z ∷ more) (lop_item at code y z more)
 lop-tells at a code y z more d p q h =
     cond-tells (code == 0) Middle _ _ _ (λ e. cond-tells (y == 0 && z == 1) Middle _ _ _
-        (λ f. let t = both-tests y 0 z 1 f in quoted-tells code y z more (same-number code 0 e) t.0 t.1 h) (λ _. fault-tells _ _ (BadFields at)))
+    (λ f. let t = both-tests y 0 z 1 f in quoted-tells code y z more (same-number code 0 e) t.0 t.1 h) (λ _. fault-tells _ _ (BadFields at)))
     (λ _. cond-tells (code == 1) Middle _ _ _ (λ e. cond-tells (z == 1) Middle _ _ _
-        (λ f. short-tells code y z more (same-number code 1 e) p (same-number z 1 f) h)
-        (λ _. cond-tells (z == 2) Middle _ _ _ (λ f. long-tells code y z more (same-number code 1 e) p (same-number z 2 f) h) (λ _. fault-tells _ _ (BadFields at))))
+    (λ f. short-tells code y z more (same-number code 1 e) p (same-number z 1 f) h)
+    (λ _. cond-tells (z == 2) Middle _ _ _ (λ f. long-tells code y z more (same-number code 1 e) p (same-number z 2 f) h) (λ _. fault-tells _ _ (BadFields at))))
     (λ _. cond-tells (nat_le code 8) Middle _ _ _ (λ _. fault-tells _ _ (NotBuilt at))
     (λ _. cond-tells (code == 10) Middle _ _ _ (λ e. cond-tells (y == 0 && nat_le 32 z) Middle _ _ _
-        (λ f. let t = zero-and-least y z f in post-tells code y z more (same-number code 10 e) t.0 t.1 q h) (λ _. fault-tells _ _ (BadFields at)))
+    (λ f. let t = zero-and-least y z f in post-tells code y z more (same-number code 10 e) t.0 t.1 q h) (λ _. fault-tells _ _ (BadFields at)))
     (λ _. fault-tells _ _ (BadLop at)))))
 
 top-byte : (a b c d : ℕ) → b < 256 → c < 256 → d < 256 → tetra_from_bytes (a ∷ b ∷ c ∷ d ∷ []) / 2 ^ 24 ≡ a
@@ -239,11 +244,11 @@ due-tells Start at a code y z more p q r s h = cond-tells (a == 0x98 && code == 
     (λ e. let t = all-tests a 0x98 code 9 y 1 e in pre-tells a code y z more t.0 t.1 t.2 s h) (λ _. fault-tells _ _ (NoPre at))
 due-tells Middle at a code y z more p q r s h = cond-tells (a == 0x98) Middle _ _ _
     (λ e. let is = same-number a 0x98 e in
-        subst (λ (b : ℕ). Told Middle (b ∷ code ∷ y ∷ z ∷ more) (lop_item at code y z more)) (sym is) (lop-tells at a code y z more is r s h))
+    subst (λ (b : ℕ). Told Middle (b ∷ code ∷ y ∷ z ∷ more) (lop_item at code y z more)) (sym is) (lop-tells at a code y z more is r s h))
     (λ e. plain-tells a code y z more e p q r s)
 due-tells Posted at a code y z more p q r s h = cond-tells (a == 0x98 && code == 11) Posted _ _ _
     (λ e. cond-tells (y == 0 && z == 0) Posted _ _ _ (λ f. let t = both-tests a 0x98 code 11 e in let u = both-tests y 0 z 0 f in stab-tells a code y z more t.0 t.1 u.0 u.1)
-        (λ _. fault-tells _ _ (BadFields at)))
+    (λ _. fault-tells _ _ (BadFields at)))
     (λ _. fault-tells _ _ (BadLop at))
 due-tells Ended at a code y z more p q r s h = nothing-tells _ _
 

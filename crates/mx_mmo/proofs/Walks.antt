@@ -1,10 +1,9 @@
 -- The items of bytes: one step, and what more bytes add.
-use Rattle.std.proofs.Common.{◌≡◌, ◌≢◌, ℕ, zero, suc, ◌+◌, ◌-◌, ◌*◌, ◌<◌, ◌≤◌, length, List, [], ◌∷◌, ◌++◌, take, drop, arith, refl, sym, ◌∙◌, ap, subst, Ok, Err, Some, None, length-drop, length-append}
-use Rattle.std.specs.Prelude.{Result, Option}
+use Rattle.std.proofs.Common.{◌≡◌, ℕ, zero, suc, ◌+◌, ◌<◌, ◌≤◌, length, List, [], ◌∷◌, ◌++◌, drop, arith, refl, sym, ◌∙◌, ap, Ok, Err, Some, None, length-drop}
 use Rattle.std.proofs.lemmas.Grind.{common_steps}
 use Rattle.mx_mmo.specs.Reading.{Due, IsWithin, first_item}
 use Rattle.mx_mmo.specs.Replies.{phase_after}
-use Rattle.mx_mmo.specs.Whole.{Left, Walk, behind, walk_on, walk, items_of, onto}
+use Rattle.mx_mmo.specs.Whole.{Walk, behind, walk_on, walk, items_of, onto}
 use Rattle.mx_mmo.specs.declared.items.Item.{Item}
 use Rattle.mx_mmo.specs.declared.faults.MmoFault.{MmoFault}
 use Rattle.mx_mmo.specs.declared.due.Phase.{Phase}

@@ -1,20 +1,18 @@
 -- What is written is in the grammar.
-use Rattle.std.proofs.Common.{◌≡◌, ◌≢◌, ℕ, zero, suc, ◌+◌, ◌-◌, ◌*◌, ◌/◌, ◌%◌, ◌^◌, ◌<◌, ◌≤◌, length, List, [], ◌∷◌, ◌++◌, arith, refl, sym, ◌∙◌, ap, subst, Some, None, Bool, true, false, cond, append_assoc, replicate, Ok}
+use Rattle.std.proofs.Common.{◌≡◌, ◌≢◌, ℕ, ◌+◌, ◌-◌, ◌*◌, ◌/◌, ◌%◌, ◌^◌, ◌<◌, ◌≤◌, length, List, [], ◌∷◌, ◌++◌, arith, refl, sym, ap, subst, Some, None, Bool, true, false, cond, append_assoc, replicate, Ok}
 use Rattle.std.specs.Prelude.{Option, ◌==◌}
-use Rattle.std.specs.List.{AllByRecursion, flat_map}
-use Rattle.std.proofs.lemmas.Bool.Decides.{nat_tests}
+use Rattle.std.specs.List.{AllByRecursion}
 use Rattle.mx_word.specs.Words.{tetra_to_bytes, octa_to_bytes}
-use Rattle.mx_mmo.specs.Tetras.{lop, wide_lop, address, tetras_for, padded}
-use Rattle.mx_mmo.specs.Spelling.{bytes_of, loaded, file, written, ending}
-use Rattle.mx_mmo.specs.Valid.{Fits, IsName, Valid}
-use Rattle.mx_mmo.specs.Object.{IsPlain, IsObject, SpellsAddress, Spells, Spelled}
+use Rattle.mx_mmo.specs.Tetras.{lop, wide_lop, tetras_for}
+use Rattle.mx_mmo.specs.Spelling.{bytes_of, file, written, ending}
+use Rattle.mx_mmo.specs.Valid.{Fits, Valid}
+use Rattle.mx_mmo.specs.Object.{IsObject, SpellsAddress, Spells, Spelled}
 use Rattle.mx_mmo.specs.Object.{IsSkipped}
 use Rattle.mx_mmo.specs.declared.items.Item.{Item}
 use Rattle.mx_mmo.specs.declared.items.Item.TheVariants.{Load, Loc, Skip, FixOcta, FixNear, FixFar, File, Line, Spec, Pre, Post, Stab}
 use Rattle.mx_mmo.specs.Object.{IsBuilt}
 use Rattle.mx_mmo.specs.Replies.{limit}
-use Rattle.mx_mmo.specs.Whole.{SpellsObject, object_of}
-use Rattle.mx_mmo.specs.declared.items.Object.{Object}
+use Rattle.mx_mmo.specs.Whole.{object_of}
 use Rattle.mx_mmo.proofs.Complete.{object-only}
 use Rattle.mx_mmo.proofs.Told.{same-number, other-number, spelled-as}
 

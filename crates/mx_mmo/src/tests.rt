@@ -1,5 +1,7 @@
 //! Objects from outside.
 
+ghost use Rattle.std.specs.Prelude.{◌<◌};
+
 use crate::{Item, Items, MmoFault, Object, Octas, Reader, Words, Writer, read};
 use mx_word::{Bytes, NoMemory, tetra_bytes};
 use std::alloc::Global;
@@ -85,7 +87,10 @@ fn small_object_in_pieces(rt: HostRuntime) {
     for size in [52, 1, 7] {
         let pieces = pieces(alloc, bytes.as_slice(), size).expect(&rt, "memory");
         let found = read(alloc, pieces.as_slice());
-        assert!(rt; found.is_ok_and(|object| is_small(&object)), "in pieces of {size}");
+        assert!(rt;
+            found.is_ok_and(|object| is_small(&object)),
+            "in pieces of {size}"
+        );
     }
 }
 
@@ -108,20 +113,39 @@ fn first_faults(rt: HostRuntime) {
         (&[pre, 0x9801_0003], &[], 63, 4),
         (&[pre, 0x9800_0002], &[], 63, 4),
         (&[pre, 0x980a_001f], &[], 63, 4),
-        (&[pre, 0x980a_00ff, 0, 0, 0x980b_0000, 0x980c_0001], &[], 63, 20),
+        (
+            &[pre, 0x980a_00ff, 0, 0, 0x980b_0000, 0x980c_0001],
+            &[],
+            63,
+            20,
+        ),
         // a byte over; an item that is cut off; a tetra behind `end`
         (&[0x9809_0101, 0], &[0x98], 60, 8),
         (&[pre, 0x980a_00ff, 0], &[], 64, 12),
-        (&[pre, 0x980a_00ff, 0, 0, 0x980b_0000, 0x980c_0000, 0], &[], 64, 28),
+        (
+            &[pre, 0x980a_00ff, 0, 0, 0x980b_0000, 0x980c_0000, 0],
+            &[],
+            64,
+            28,
+        ),
         // an item that is not read yet; a trie
         (&[pre, 0x9807_0001], &[], 132, 4),
-        (&[pre, 0x980a_00ff, 0, 0, 0x980b_0000, 0, 0x980c_0001], &[], 132, 20),
+        (
+            &[pre, 0x980a_00ff, 0, 0, 0x980b_0000, 0, 0x980c_0001],
+            &[],
+            132,
+            20,
+        ),
     ];
     for (tetras, more, number, place) in rows {
         let bytes = object(alloc, tetras, more).expect(&rt, "memory");
         for size in [100, 1, 7] {
             let found = refusal(alloc, bytes.as_slice(), size).expect(&rt, "memory");
-            assert_eq!(rt; found, Some((number, Some(place))), "{number} at {place}, in pieces of {size}");
+            assert_eq!(rt;
+                found,
+                Some((number, Some(place))),
+                "{number} at {place}, in pieces of {size}"
+            );
         }
     }
 }

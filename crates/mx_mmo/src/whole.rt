@@ -111,8 +111,7 @@ pub fn read(alloc: Global, pieces: &[Bytes]) -> Result<Object, MmoFault>
 pub fn written_is_read()
     ensures { (items : List Item) (trie : List ℕ) → Valid items → AllByRecursion IsBuilt items → trie ≡ [] → length (written items ++ ending trie) ≤ limit →
         object_of (written items ++ ending trie) ≡ Ok (record { items = items; tail = record { trie = trie; place = length (written items) } }) }
-{
-}
+{}
 
 /// What is read is in the grammar of objects, and what is in the grammar is read, as long as all of
 /// it is read so far.
@@ -120,5 +119,4 @@ pub fn reading_is_the_grammar()
     ensures found { (bytes : List ℕ) (object : Object) → AreBytes bytes → object_of bytes ≡ Ok object → SpellsObject bytes object }
     ensures only { (bytes : List ℕ) (object : Object) → SpellsObject bytes object → AllByRecursion IsBuilt object.items → object.tail.trie ≡ [] → length bytes ≤ limit →
         object_of bytes ≡ Ok object }
-{
-}
+{}

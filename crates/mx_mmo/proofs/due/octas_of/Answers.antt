@@ -1,4 +1,4 @@
-use Rattle.std.proofs.Common.{◌≡◌, ◌++◌, sym, ◌∙◌, ap, append_assoc}
+use Rattle.std.proofs.Common.{◌++◌, sym, ◌∙◌, ap, append_assoc}
 use Rattle.mx_mmo.proofs.Splits.{octas-next}
 use Rattle.mx_mmo.proofs.due.octas_of.Goals as goal
 

@@ -1,4 +1,4 @@
-use Rattle.std.proofs.Common.{ap, sym, ◌∙◌, ◌≡◌, ◌≢◌, ◌<◌, ◌≤◌, ℕ, List, length, Ok, Err, inl, inr, ◌⊎◌}
+use Rattle.std.proofs.Common.{sym, ◌∙◌, ◌≡◌, ◌≢◌, ◌<◌, ◌≤◌, ℕ, List, length, Ok, Err, inl, inr}
 use Rattle.std.specs.Prelude.{Result, IfOk, OnOk, IsErrAnd}
 use Rattle.std.specs.List.{concat}
 use Rattle.std.proofs.lemmas.Bool.{cases_lt}
@@ -16,7 +16,7 @@ found-of : (bytes : List ℕ) (P : MmoFault → Type 0) (r : Result Object MmoFa
     (limit < length bytes → r ≢ Err OutOfMemory → IsErrAnd r P) → OnOk r (AreBytes bytes) → IfOk r (λ object. SpellsObject bytes object)
 found-of bytes P (Err fault) exact long b = tt
 found-of bytes P (Ok object) exact long b = elim (cases_lt limit (length bytes)) [
-  inl far ↦ absurd (long far (λ e. cc))
+  | inl far ↦ absurd (long far (λ e. cc))
   | inr near ↦ object-stands bytes object b (sym (exact near (λ e. cc)))
 ]
 

@@ -1,7 +1,6 @@
-use Rattle.std.proofs.Common.{ap, sym, ◌∙◌, Ok, Err, length, refl, arith, take, ◌≡◌, ◌+◌}
+use Rattle.std.proofs.Common.{ap, sym, ◌∙◌, Ok, length, refl, arith, ◌≡◌, ◌+◌}
 use Rattle.std.specs.List.{concat}
-use Rattle.mx_mmo.specs.Replies.{ReaderModel}
-use Rattle.mx_mmo.specs.Whole.{items_of, left_of, with_tail, fed}
+use Rattle.mx_mmo.specs.Whole.{items_of, left_of, with_tail}
 use Rattle.mx_mmo.specs.declared.due.Phase.TheVariants.{Start}
 use Rattle.mx_mmo.proofs.Nexts.{finish-fault}
 use Rattle.mx_mmo.proofs.Pieces.{nothing-yet, fault-of-piece, fault-of-all, items-of-piece, length-of-piece, all-pieces, object-of-all, bytes-of-piece, all-bytes}
@@ -37,7 +36,7 @@ loop-piece-preserved c =
 pub returns-clause-exact : goal.returns-clause-exact
 returns-clause-exact c = λ l ne.
     let all : items_of Start 0 (concat c.args.pieces.now) ≡ (c.loop-piece.items, Ok (left_of c.loop-piece.reader)) =
-        ap (items_of Start 0) (sym (all-pieces c.args.pieces.now c.loop-piece.piece-index c.loop-piece-test.false)) ∙ c.loop-piece.invariant.same in
+    ap (items_of Start 0) (sym (all-pieces c.args.pieces.now c.loop-piece.piece-index c.loop-piece-test.false)) ∙ c.loop-piece.invariant.same in
     let fault = finish-fault c.loop-piece.reader c.finish.new.self c.in-Err-finish.fault c.loop-piece.invariant.well (c.in-Err-finish.ensures.answers (λ e. ne (cc))) in
     sym (object-of-all (concat c.args.pieces.now) c.loop-piece.items c.loop-piece.reader all l ∙ ap (with_tail c.loop-piece.items) fault)
 
