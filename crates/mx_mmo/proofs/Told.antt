@@ -1,6 +1,6 @@
 -- What is read stands there: the item that is read is spelled by the bytes that it takes.
 use Rattle.std.proofs.Common.{◌≡◌, ◌≢◌, ℕ, zero, suc, ◌+◌, ◌-◌, ◌*◌, ◌/◌, ◌%◌, ◌^◌, ◌<◌, ◌≤◌, length, List, [], ◌∷◌, ◌++◌, take, get_or, arith, refl, sym, ◌∙◌, ap, subst, Ok, Err, Some, None, Bool, true, false, cond, length-take}
-use Rattle.std.specs.Prelude.{nat_lt, nat_le, ◌==◌, ◌&&◌}
+use Rattle.std.specs.Prelude.{nat_lt, nat_le, ◌==◌, ◌&&◌, IfOk, IfSome}
 use Rattle.std.specs.List.{flat_map}
 use Rattle.std.proofs.lemmas.Bool.Decides.{nat_tests}
 use Rattle.std.proofs.lemmas.Nat.{be_bytes_4, be_bytes_8}
@@ -14,7 +14,7 @@ use Rattle.mx_mmo.specs.Reading.{Due, first_item, words_of, octas_of, short_loc,
 use Rattle.mx_mmo.specs.declared.items.Item.{Item}
 use Rattle.mx_mmo.specs.declared.items.Item.TheVariants.{Load, Loc, Pre, Post, Stab}
 use Rattle.mx_mmo.specs.declared.faults.MmoFault.{MmoFault}
-use Rattle.mx_mmo.specs.declared.faults.MmoFault.TheVariants.{NoPre, BadLop, BadFields, NotBuilt}
+use Rattle.mx_mmo.specs.declared.faults.MmoFault.TheVariants.{NoPre, BadLop, BadFields, NotBuilt, OutOfMemory}
 use Rattle.mx_mmo.specs.declared.due.Phase.{Phase}
 use Rattle.mx_mmo.specs.declared.due.Phase.TheVariants.{Start, Middle, Posted, Ended}
 use Rattle.mx_mmo.proofs.Phases.{Suits}
@@ -258,3 +258,14 @@ first-tells phase at [] h = tt
 first-tells phase at (a ∷ []) h = tt
 first-tells phase at (a ∷ b ∷ []) h = tt
 first-tells phase at (a ∷ b ∷ c ∷ []) h = tt
+
+tells-fits : (phase : Phase) (bytes : List ℕ) (d : Due) → Tells phase bytes d → IfOk d (λ due. IfSome due (λ found. Fits found.0))
+tells-fits phase bytes (Ok (Some (item, size))) t = t.fits
+tells-fits phase bytes (Ok None) t = tt
+tells-fits phase bytes (Err fault) t = tt
+
+-- what is given where memory does not run out fits
+pub given-fits : (phase : Phase) (bytes : List ℕ) (given due : Due) → (given ≢ Err OutOfMemory → given ≡ due) → Tells phase bytes due →
+    IfOk given (λ due. IfSome due (λ found. Fits found.0))
+given-fits phase bytes (Err fault) due h t = tt
+given-fits phase bytes (Ok found) due h t = tells-fits phase bytes (Ok found) (subst (λ (d : Due). Tells phase bytes d) (sym (h (λ e. cc))) t)

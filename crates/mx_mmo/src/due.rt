@@ -1,8 +1,9 @@
 //! The item that stands first in what was fed.
 
-ghost use Rattle.std.specs.Prelude.{◌≡◌, ◌≢◌, length};
+ghost use Rattle.std.specs.Prelude.{◌≡◌, ◌≢◌, IfOk, IfSome, length};
 ghost use Rattle.mx_mmo.specs.Reading as spec;
 ghost use Rattle.mx_mmo.specs.Reading.{IsWithin};
+ghost use Rattle.mx_mmo.specs.Valid.{Fits};
 
 use crate::{Item, MmoFault, Octas, Words};
 use mx_word::{octa_of, tetra_of};
@@ -136,8 +137,8 @@ fn lop_item(alloc: Global, at: u64, code: u8, y: u8, z: u8, more: &[u8]) -> Due
     }
 }
 
-/// The item that stands first in bytes that begin at a byte place.
-pub fn first_item(alloc: Global, phase: Phase, at: u64, rest: &[u8]) -> Due
+/// The item that a first tetra begins.
+fn due_item(alloc: Global, phase: Phase, at: u64, rest: &[u8]) -> Due
     ensures item { result ≢ Err MmoFault.OutOfMemory → result ≡ spec.first_item phase at rest.now }
     ensures within { IsWithin result (length rest.now) }
 {
@@ -154,4 +155,13 @@ pub fn first_item(alloc: Global, phase: Phase, at: u64, rest: &[u8]) -> Due
         Phase::Posted => Ok(Some((Item::Stab, 4))),
         Phase::Ended => Ok(None),
     }
+}
+
+/// The item that stands first in bytes that begin at a byte place.
+pub fn first_item(alloc: Global, phase: Phase, at: u64, rest: &[u8]) -> Due
+    ensures item { result ≢ Err MmoFault.OutOfMemory → result ≡ spec.first_item phase at rest.now }
+    ensures within { IsWithin result (length rest.now) }
+    ensures fits { IfOk result (λ due. IfSome due (λ found. Fits found.0)) }
+{
+    due_item(alloc, phase, at, rest)
 }

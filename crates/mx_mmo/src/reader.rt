@@ -1,7 +1,8 @@
 //! Reading an object in pieces.
 
-ghost use Rattle.std.specs.Prelude.{◌≡◌, ◌≢◌, ◌≤◌, ◌+◌, ◌++◌, ◌^◌, length, drop, ◌<◌, IfOk, OnOk, OnErr, OnSome, IfErr};
+ghost use Rattle.std.specs.Prelude.{◌≡◌, ◌≢◌, ◌≤◌, ◌+◌, ◌++◌, ◌^◌, length, drop, ◌<◌, IfOk, IfErr, IfSome, OnOk, OnErr, OnSome};
 ghost use Rattle.mx_mmo.specs.Replies as spec;
+ghost use Rattle.mx_mmo.specs.Valid.{Fits};
 
 use crate::due::{Phase, first_item};
 use crate::tail::tail_of;
@@ -80,6 +81,7 @@ impl Reader {
     pub fn feed(&mut self, piece: &[u8]) -> Result<(), MmoFault>
         ensures answers { result ≢ Err MmoFault.OutOfMemory → (result, self.new) ≡ spec.feed_answer self.old piece.now }
         ensures memory { result ≡ Err MmoFault.OutOfMemory → self.new ≡ self.old }
+        ensures again { IfSome self.old.fault (λ fault. result ≡ Err fault) }
     {
         if let Some(fault) = self.fault {
             return Err(fault);
@@ -96,6 +98,8 @@ impl Reader {
     pub fn next(&mut self) -> Result<Option<Item>, MmoFault>
         ensures answers { result ≢ Err MmoFault.OutOfMemory → (result, self.new) ≡ spec.next_answer self.old }
         ensures memory { result ≡ Err MmoFault.OutOfMemory → self.new ≡ self.old }
+        ensures again { IfSome self.old.fault (λ fault. result ≡ Err fault) }
+        ensures fits { IfOk result (λ item. IfSome item Fits) }
         ensures shorter { IfOk result (λ item. OnSome item (length self.new.rest < length self.old.rest)) }
     {
         if let Some(fault) = self.fault {
@@ -123,6 +127,7 @@ impl Reader {
     pub fn finish(&mut self) -> Result<Tail, MmoFault>
         ensures answers { result ≢ Err MmoFault.OutOfMemory → (result, self.new) ≡ spec.finish_answer self.old }
         ensures memory { result ≡ Err MmoFault.OutOfMemory → self.new ≡ self.old }
+        ensures again { IfSome self.old.fault (λ fault. result ≡ Err fault) }
     {
         if let Some(fault) = self.fault {
             return Err(fault);
