@@ -1,3 +1,4 @@
+pub use Rattle.mx_word.specs.Words
 pub mod Faults
 pub mod Image
 pub mod Meaning

@@ -23,7 +23,8 @@ Due = Result (Option (Item × ℕ)) MmoFault
 
 -- `pre` with so many tetras
 abbrev pub pre_item : ℕ → List ℕ → Due
-pre_item z more = if nat_lt (length more) (4 * z) then Ok None else Ok (Some (Pre (words_of (take (4 * z) more)), 4 + 4 * z))
+pre_item z more =
+    if nat_lt (length more) (4 * z) then Ok None else Ok (Some (Pre (words_of (take (4 * z) more)), 4 + 4 * z))
 
 -- a quoted tetra
 abbrev pub quoted_item : List ℕ → Due
@@ -50,17 +51,22 @@ post_item g more =
 abbrev pub lop_item : ℕ → ℕ → ℕ → ℕ → List ℕ → Due
 lop_item at code y z more =
     if code == 0 then (if y == 0 && z == 1 then quoted_item more else Err (BadFields at))
-    else if code == 1 then (if z == 1 then short_loc y more else if z == 2 then long_loc y more else Err (BadFields at))
+    else if code == 1 then
+    (if z == 1 then short_loc y more else if z == 2 then long_loc y more else Err (BadFields at))
     else if nat_le code 8 then Err (NotBuilt at)
     else if code == 10 then (if y == 0 && nat_le 32 z then post_item z more else Err (BadFields at))
     else Err (BadLop at)
 
 -- what a first tetra tells, with the bytes that follow it
 abbrev pub due_item : Phase → ℕ → ℕ → ℕ → ℕ → ℕ → List ℕ → Due
-due_item Start at a code y z more = if a == 0x98 && code == 9 && y == 1 then pre_item z more else Err (NoPre at)
-due_item Middle at a code y z more = if a == 0x98 then lop_item at code y z more else Ok (Some (Load (tetra_from_bytes (a ∷ code ∷ y ∷ z ∷ [])), 4))
+due_item Start at a code y z more =
+    if a == 0x98 && code == 9 && y == 1 then pre_item z more else Err (NoPre at)
+due_item Middle at a code y z more =
+    if a == 0x98 then lop_item at code y z more
+    else Ok (Some (Load (tetra_from_bytes (a ∷ code ∷ y ∷ z ∷ [])), 4))
 due_item Posted at a code y z more =
-    if a == 0x98 && code == 11 then (if y == 0 && z == 0 then Ok (Some (Stab, 4)) else Err (BadFields at)) else Err (BadLop at)
+    if a == 0x98 && code == 11 then (if y == 0 && z == 0 then Ok (Some (Stab, 4)) else Err (BadFields at))
+    else Err (BadLop at)
 due_item Ended at a code y z more = Ok None
 
 -- the item that stands first in bytes that begin at a place

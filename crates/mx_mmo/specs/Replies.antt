@@ -38,7 +38,8 @@ limit = 2 ^ 26
 abbrev pub feed_next : Option MmoFault → ReaderModel → List ℕ → Then (Unit {0})
 feed_next (Some fault) m piece = (Err fault, m)
 feed_next None m piece =
-    if nat_lt limit (m.at + length m.rest + length piece) then refused m (TooLong limit) else (Ok tt, record m { rest = m.rest ++ piece })
+    if nat_lt limit (m.at + length m.rest + length piece) then refused m (TooLong limit)
+    else (Ok tt, record m { rest = m.rest ++ piece })
 
 abbrev pub feed_answer : ReaderModel → List ℕ → Then (Unit {0})
 feed_answer m piece = feed_next m.fault m piece
@@ -52,7 +53,8 @@ phase_after _ phase = phase
 
 -- an item that takes so many bytes is given
 abbrev pub given : ReaderModel → Item → ℕ → ReaderModel
-given m item size = record m { rest = drop size m.rest; phase = phase_after item m.phase; at = m.at + size; place = m.at }
+given m item size =
+    record m { rest = drop size m.rest; phase = phase_after item m.phase; at = m.at + size; place = m.at }
 
 abbrev pub next_item : ReaderModel → Due → Then (Option Item)
 next_item m (Ok None) = (Ok None, m)
@@ -76,7 +78,8 @@ abbrev pub counted_tail : ℕ → List ℕ → Option ℕ → Result Tail MmoFau
 counted_tail at rest None = Err (Truncated (at + length rest))
 counted_tail at rest (Some count) =
     if count == length rest / 4 - 1
-    then (if length rest == 4 then Ok (record { trie = take (length rest - 4) rest; place = at }) else Err (NotBuilt at))
+    then (if length rest == 4 then Ok (record { trie = take (length rest - 4) rest; place = at })
+    else Err (NotBuilt at))
     else Err (BadFields (at + length rest - 4))
 
 -- what stands behind the items that were given
@@ -86,7 +89,9 @@ tail_behind _ at rest = Err (Truncated (at + length rest))
 
 -- no more comes: first of all the bytes are whole tetras
 abbrev pub tail_of : Phase → ℕ → List ℕ → Result Tail MmoFault
-tail_of phase at rest = if length rest % 4 == 0 then tail_behind phase at rest else Err (NotTetras (at + length rest - length rest % 4))
+tail_of phase at rest =
+    if length rest % 4 == 0 then tail_behind phase at rest
+    else Err (NotTetras (at + length rest - length rest % 4))
 
 abbrev pub finished : ReaderModel → Result Tail MmoFault → Then Tail
 finished m (Ok tail) = (Ok tail, m)

@@ -13,7 +13,8 @@ wide_lop code n = lop code (n / 256) (n % 256)
 -- a lopcode with an address: the top byte and a tetra, where these tell it; else an octa
 abbrev pub address : ℕ → ℕ → List ℕ
 address code a =
-    if a / 2 ^ 32 % 2 ^ 24 == 0 then lop code (a / 2 ^ 56) 1 ++ tetra_to_bytes (a % 2 ^ 32) else lop code 0 2 ++ octa_to_bytes a
+    if a / 2 ^ 32 % 2 ^ 24 == 0 then lop code (a / 2 ^ 56) 1 ++ tetra_to_bytes (a % 2 ^ 32)
+    else lop code 0 2 ++ octa_to_bytes a
 
 -- how many tetras so many bytes fill, and bytes with the zeros that complete the last of them
 abbrev pub tetras_for : ℕ → ℕ

@@ -27,7 +27,8 @@ behind item w = (item ∷ w.0, w.1)
 -- an item and those that follow it, by `others`; a fault; or nothing more
 abbrev pub walk_on : (Phase → ℕ → List ℕ → Walk) → Phase → ℕ → List ℕ → Due → Walk
 walk_on others phase at bytes (Ok None) = ([], Ok (record { phase = phase; at = at; rest = bytes }))
-walk_on others phase at bytes (Ok (Some (item, size))) = behind item (others (phase_after item phase) (at + size) (drop size bytes))
+walk_on others phase at bytes (Ok (Some (item, size))) =
+    behind item (others (phase_after item phase) (at + size) (drop size bytes))
 walk_on others phase at bytes (Err fault) = ([], Err fault)
 
 -- at most so many items
@@ -50,7 +51,9 @@ object_behind items (Err fault) = Err fault
 -- the object that bytes are, or the first fault: too many bytes; then the fault of the first item
 -- that has one; then what is wrong at the end
 abbrev pub object_of : List ℕ → Result Object MmoFault
-object_of bytes = if nat_lt limit (length bytes) then Err (TooLong limit) else (let w = items_of Start 0 bytes in object_behind w.0 w.1)
+object_of bytes =
+    if nat_lt limit (length bytes) then Err (TooLong limit)
+    else (let w = items_of Start 0 bytes in object_behind w.0 w.1)
 
 abbrev pub fault_in : Result Object MmoFault → Option MmoFault
 fault_in (Ok object) = None

@@ -35,9 +35,16 @@ impl Model for Reader {
 
     ghost Value = { ReaderModel };
 
-    ghost view = { λ r. record { rest = drop r.start r.buffer.items; phase = r.phase; at = r.at; place = r.place; fault = r.fault } };
+    ghost view = { λ r. record {
+      rest = drop r.start r.buffer.items;
+      phase = r.phase;
+      at = r.at;
+      place = r.place;
+      fault = r.fault;
+    } };
 
-    ghost invariant = { λ r. (r.start ≤ length r.buffer.items) × (r.at + length r.buffer.items ≤ 2 ^ 26 + r.start) };
+    ghost invariant = { λ r. (r.start ≤ length r.buffer.items) ×
+        (r.at + length r.buffer.items ≤ 2 ^ 26 + r.start) };
 }
 
 /// Takes away the bytes before a place.
@@ -79,7 +86,8 @@ impl Reader {
 
     /// Takes the next piece of the object. The pieces are at most 2^26 bytes together.
     pub fn feed(&mut self, piece: &[u8]) -> Result<(), MmoFault>
-        ensures answers { result ≢ Err MmoFault.OutOfMemory → (result, self.new) ≡ spec.feed_answer self.old piece.now }
+        ensures answers { result ≢ Err MmoFault.OutOfMemory →
+            (result, self.new) ≡ spec.feed_answer self.old piece.now }
         ensures memory { result ≡ Err MmoFault.OutOfMemory → self.new ≡ self.old }
         ensures again { IfSome self.old.fault (λ fault. result ≡ Err fault) }
     {
@@ -96,7 +104,8 @@ impl Reader {
     /// The next whole item; nothing where neither a whole item nor a fault stands next, and always
     /// after `stab`.
     pub fn next(&mut self) -> Result<Option<Item>, MmoFault>
-        ensures answers { result ≢ Err MmoFault.OutOfMemory → (result, self.new) ≡ spec.next_answer self.old }
+        ensures answers { result ≢ Err MmoFault.OutOfMemory →
+            (result, self.new) ≡ spec.next_answer self.old }
         ensures memory { result ≡ Err MmoFault.OutOfMemory → self.new ≡ self.old }
         ensures again { IfSome self.old.fault (λ fault. result ≡ Err fault) }
         ensures fits { IfOk result (λ item. IfSome item Fits) }
@@ -125,7 +134,8 @@ impl Reader {
 
     /// Says that no more comes, once `next` gives nothing, and gives what stands behind `stab`.
     pub fn finish(&mut self) -> Result<Tail, MmoFault>
-        ensures answers { result ≢ Err MmoFault.OutOfMemory → (result, self.new) ≡ spec.finish_answer self.old }
+        ensures answers { result ≢ Err MmoFault.OutOfMemory →
+            (result, self.new) ≡ spec.finish_answer self.old }
         ensures memory { result ≡ Err MmoFault.OutOfMemory → self.new ≡ self.old }
         ensures again { IfSome self.old.fault (λ fault. result ≡ Err fault) }
     {

@@ -159,7 +159,8 @@ fn append_file(bytes: &mut Vec<u8>, number: u8, name: &Option<Bytes>) -> Result<
 /// Adds a lopcode that is followed by tetras.
 fn append_pre(bytes: &mut Vec<u8>, words: &[u32]) -> Result<(), NoMemory>
     requires { length words.now < 2 ^ 8 }
-    ensures ok { OnOk result (bytes.new.items ≡ bytes.old.items ++ (lop 9 1 (length words.now) ++ flat_map tetra_to_bytes words.now)) }
+    ensures ok { OnOk result (bytes.new.items ≡
+        bytes.old.items ++ (lop 9 1 (length words.now) ++ flat_map tetra_to_bytes words.now)) }
     ensures err { OnErr result (take (length bytes.old.items) bytes.new.items ≡ bytes.old.items) }
 {
     append_lop(bytes, 9, 1, words.len() as u8)?;
@@ -168,7 +169,8 @@ fn append_pre(bytes: &mut Vec<u8>, words: &[u32]) -> Result<(), NoMemory>
 
 /// Adds the values of the global registers from one on.
 fn append_post(bytes: &mut Vec<u8>, g: u8, values: &[u64]) -> Result<(), NoMemory>
-    ensures ok { OnOk result (bytes.new.items ≡ bytes.old.items ++ (lop 10 0 g ++ flat_map octa_to_bytes values.now)) }
+    ensures ok { OnOk result (bytes.new.items ≡
+        bytes.old.items ++ (lop 10 0 g ++ flat_map octa_to_bytes values.now)) }
     ensures err { OnErr result (take (length bytes.old.items) bytes.new.items ≡ bytes.old.items) }
 {
     append_lop(bytes, 10, 0, g)?;

@@ -18,11 +18,13 @@ use std::alloc::Global;
 fn take_one(reader: &mut Reader, items: &mut Items) -> Result<bool, MmoFault>
     requires { reader.old.fault ≡ None }
     ensures same { result ≡ Ok true → ahead items.new reader.new ≡ ahead items.old reader.old }
-    ensures last { result ≡ Ok false → ahead items.old reader.old ≡ (items.new, Ok (left_of reader.new)) }
+    ensures last { result ≡ Ok false →
+        ahead items.old reader.old ≡ (items.new, Ok (left_of reader.new)) }
     ensures less { result ≡ Ok true → length reader.new.rest < length reader.old.rest }
     ensures well { OnOk result (reader.new.fault ≡ None) }
     ensures end { OnOk result (fed reader.new ≡ fed reader.old) }
-    ensures fault { result ≢ Err MmoFault.OutOfMemory → IfErr result (λ f. (ahead items.old reader.old).1 ≡ Err f) }
+    ensures fault { result ≢ Err MmoFault.OutOfMemory →
+        IfErr result (λ f. (ahead items.old reader.old).1 ≡ Err f) }
 {
     match reader.next() {
         Ok(Some(item)) => match items.push(item) {
@@ -40,7 +42,8 @@ fn take_all(reader: &mut Reader, items: &mut Items) -> Result<(), MmoFault>
     ensures last { OnOk result (ahead items.old reader.old ≡ (items.new, Ok (left_of reader.new))) }
     ensures well { OnOk result (reader.new.fault ≡ None) }
     ensures end { OnOk result (fed reader.new ≡ fed reader.old) }
-    ensures fault { result ≢ Err MmoFault.OutOfMemory → IfErr result (λ f. (ahead items.old reader.old).1 ≡ Err f) }
+    ensures fault { result ≢ Err MmoFault.OutOfMemory →
+        IfErr result (λ f. (ahead items.old reader.old).1 ≡ Err f) }
 {
     loop {
         match take_one(reader, items) {
@@ -54,12 +57,15 @@ fn take_all(reader: &mut Reader, items: &mut Items) -> Result<(), MmoFault>
 /// Feeds the next piece, and takes all items that are whole then.
 fn take_piece(reader: &mut Reader, items: &mut Items, piece: &[u8]) -> Result<(), MmoFault>
     requires { reader.old.fault ≡ None }
-    ensures last { OnOk result (ahead items.old (with_more reader.old piece.now) ≡ (items.new, Ok (left_of reader.new))) }
+    ensures last { OnOk result (ahead items.old (with_more reader.old piece.now)
+        ≡ (items.new, Ok (left_of reader.new))) }
     ensures well { OnOk result (reader.new.fault ≡ None) }
     ensures end { OnOk result (fed reader.new ≡ fed reader.old + length piece.now) }
     ensures most { OnOk result (fed reader.old + length piece.now ≤ limit) }
     ensures bytes { AreBytes piece.now }
-    ensures fault { result ≢ Err MmoFault.OutOfMemory → IfErr result (λ f. IsFaultOf f (fed reader.old + length piece.now) (ahead items.old (with_more reader.old piece.now))) }
+    ensures fault { result ≢ Err MmoFault.OutOfMemory →
+        IfErr result (λ f. IsFaultOf f (fed reader.old + length piece.now)
+        (ahead items.old (with_more reader.old piece.now))) }
 {
     match reader.feed(piece) {
         Ok(()) => take_all(reader, items),
@@ -69,9 +75,11 @@ fn take_piece(reader: &mut Reader, items: &mut Items, piece: &[u8]) -> Result<()
 
 /// Reads the pieces from first to last.
 fn read_pieces(alloc: Global, pieces: &[Bytes]) -> Result<Object, MmoFault>
-    ensures exact { length (concat pieces.now) ≤ limit → result ≢ Err MmoFault.OutOfMemory → result ≡ object_of (concat pieces.now) }
+    ensures exact { length (concat pieces.now) ≤ limit → result ≢ Err MmoFault.OutOfMemory →
+        result ≡ object_of (concat pieces.now) }
     ensures long { limit < length (concat pieces.now) → result ≢ Err MmoFault.OutOfMemory →
-        IsErrAnd result (λ f. IsFaultOf f (length (concat pieces.now)) (items_of Phase.Start 0 (concat pieces.now))) }
+        IsErrAnd result (λ f. IsFaultOf f (length (concat pieces.now))
+        (items_of Phase.Start 0 (concat pieces.now))) }
     ensures bytes { OnOk result (AreBytes (concat pieces.now)) }
 {
     let mut reader = Reader::new(alloc);
@@ -91,17 +99,21 @@ fn read_pieces(alloc: Global, pieces: &[Bytes]) -> Result<Object, MmoFault>
 /// The object that comes in these pieces, or the first fault.
 pub fn read(alloc: Global, pieces: &[Bytes]) -> Result<Object, MmoFault>
     // However the bytes are cut into pieces, the object is that of all bytes, and so is the fault.
-    ensures exact { length (concat pieces.now) ≤ limit → result ≢ Err MmoFault.OutOfMemory → result ≡ object_of (concat pieces.now) }
+    ensures exact { length (concat pieces.now) ≤ limit → result ≢ Err MmoFault.OutOfMemory →
+        result ≡ object_of (concat pieces.now) }
     // Too many bytes are refused as such, unless an item before has a fault.
     ensures long { limit < length (concat pieces.now) → result ≢ Err MmoFault.OutOfMemory →
-        IsErrAnd result (λ f. IsFaultOf f (length (concat pieces.now)) (items_of Phase.Start 0 (concat pieces.now))) }
+        IsErrAnd result (λ f. IsFaultOf f (length (concat pieces.now))
+        (items_of Phase.Start 0 (concat pieces.now))) }
     // What is read is in the grammar of objects.
     ensures found { IfOk result (λ object. SpellsObject (concat pieces.now) object) }
     // What is in the grammar is read, as long as all of it is read so far.
-    ensures only { (object : Object) → SpellsObject (concat pieces.now) object → AllByRecursion IsBuilt object.items → object.tail.trie ≡ [] →
+    ensures only { (object : Object) → SpellsObject (concat pieces.now) object →
+        AllByRecursion IsBuilt object.items → object.tail.trie ≡ [] →
         length (concat pieces.now) ≤ limit → result ≢ Err MmoFault.OutOfMemory → result ≡ Ok object }
     // A fault is the first one.
-    ensures fault { length (concat pieces.now) ≤ limit → result ≢ Err MmoFault.OutOfMemory → IfErr result (λ f. object_fault (concat pieces.now) ≡ Some f) }
+    ensures fault { length (concat pieces.now) ≤ limit → result ≢ Err MmoFault.OutOfMemory →
+        IfErr result (λ f. object_fault (concat pieces.now) ≡ Some f) }
 {
     read_pieces(alloc, pieces)
 }
@@ -109,14 +121,20 @@ pub fn read(alloc: Global, pieces: &[Bytes]) -> Result<Object, MmoFault>
 /// What a writer writes of valid items is read again as these items and this trie, as long as all
 /// of it is read so far.
 pub fn written_is_read()
-    ensures { (items : List Item) (trie : List ℕ) → Valid items → AllByRecursion IsBuilt items → trie ≡ [] → length (written items ++ ending trie) ≤ limit →
-        object_of (written items ++ ending trie) ≡ Ok (record { items = items; tail = record { trie = trie; place = length (written items) } }) }
+    ensures { (items : List Item) (trie : List ℕ) → Valid items → AllByRecursion IsBuilt items →
+        trie ≡ [] → length (written items ++ ending trie) ≤ limit →
+        object_of (written items ++ ending trie) ≡ Ok (record {
+          items = items;
+          tail = record { trie = trie; place = length (written items) };
+        }) }
 {}
 
 /// What is read is in the grammar of objects, and what is in the grammar is read, as long as all of
 /// it is read so far.
 pub fn reading_is_the_grammar()
-    ensures found { (bytes : List ℕ) (object : Object) → AreBytes bytes → object_of bytes ≡ Ok object → SpellsObject bytes object }
-    ensures only { (bytes : List ℕ) (object : Object) → SpellsObject bytes object → AllByRecursion IsBuilt object.items → object.tail.trie ≡ [] → length bytes ≤ limit →
+    ensures found { (bytes : List ℕ) (object : Object) → AreBytes bytes →
+        object_of bytes ≡ Ok object → SpellsObject bytes object }
+    ensures only { (bytes : List ℕ) (object : Object) → SpellsObject bytes object →
+        AllByRecursion IsBuilt object.items → object.tail.trie ≡ [] → length bytes ≤ limit →
         object_of bytes ≡ Ok object }
 {}

@@ -61,7 +61,8 @@ impl Writer {
         requires most { length trie.now / 4 < 2 ^ 16 }
         ensures bytes { IfOk result (λ bytes. bytes ≡ self ++ ending trie.now) }
         // What is written from valid items is an object of these items and this trie.
-        ensures object { IfOk result (λ bytes. (items : List Item) → Valid items → self ≡ written items → IsObject bytes items trie.now) }
+        ensures object { IfOk result (λ bytes. (items : List Item) → Valid items →
+            self ≡ written items → IsObject bytes items trie.now) }
         ensures only { IfErr result (λ e. e ≡ MmoFault.OutOfMemory) }
     {
         let mut bytes = self.bytes;
