@@ -1,0 +1,11 @@
+pub mod Complete
+pub mod Firsts
+pub mod Nexts
+pub mod Phases
+pub mod Pieces
+pub mod Sound
+pub mod Spelt
+pub mod Splits
+pub mod Told
+pub mod Walks
+pub mod Written

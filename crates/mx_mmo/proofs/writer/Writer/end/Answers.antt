@@ -1,0 +1,11 @@
+use Rattle.std.proofs.Common.{◌++◌, List, ℕ, ap, sym, ◌∙◌, subst}
+use Rattle.mx_mmo.specs.Object.{IsObject}
+use Rattle.mx_mmo.specs.Spelling.{ending}
+use Rattle.mx_mmo.proofs.Written.{written-object}
+use Rattle.mx_mmo.proofs.writer.Writer.end.Goals as goal
+
+pub returns-in-Ok-clause-object : goal.returns-in-Ok-clause-object
+returns-in-Ok-clause-object c = λ items v e.
+    let put = c.self.view_is ∙ e in
+    let all = c.from_vec.ensures ∙ c.in-Ok.ensures ∙ ap (λ (b : List ℕ). b ++ ending c.args.trie.now) put in
+    subst (λ (b : List ℕ). IsObject b items c.args.trie.now) (sym all) (written-object items c.args.trie.now v c.requires.whole c.requires.most)

@@ -1,0 +1,11 @@
+pub use Rattle.mx_word.specs.Words
+pub mod Faults
+pub mod Image
+pub mod Meaning
+pub mod Object
+pub mod Reading
+pub mod Replies
+pub mod Spelling
+pub mod Tetras
+pub mod Valid
+pub mod Whole

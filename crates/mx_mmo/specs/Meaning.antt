@@ -1,0 +1,147 @@
+-- What a list of items means, item by item.
+use Rattle.std.specs.Prelude.{ℕ, ◌+◌, ◌-◌, ◌*◌, ◌/◌, ◌%◌, ◌^◌, ◌==◌, ◌&&◌, Bool, true, false, not, nat_le, List, [], ◌∷◌, Option, Some, None, Result, Ok, Err, slice_index, bit_xor, if◌then◌else◌}
+use Rattle.mx_mmo.specs.Image.{Image}
+use Rattle.mx_mmo.specs.declared.items.Item.{Item}
+use Rattle.mx_mmo.specs.declared.items.Item.TheVariants.{Load, Loc, Skip, FixOcta, FixNear, FixFar, File, Line, Spec, Pre, Post, Stab}
+
+-- why items have no meaning: a tetra would need page 65,537, or would lie in the stack segment or
+-- above it, or a line or a file number came before its file
+pub data Meaningless : Type 0 where
+  PagesFull : Meaningless
+  BadPlace : Meaningless
+  NoFile : Meaningless
+
+-- what stands so far: the image, lambda, the line in force, whether a file is selected, and the
+-- numbers of the files that were named
+pub record Loading : Type 0 where
+  pub image : Image
+  pub lambda : ℕ
+  pub line : ℕ
+  pub selected : Bool
+  pub named : ℕ → Bool
+
+-- before the first item nothing stands anywhere
+abbrev pub nothing : Loading
+nothing = record {
+  image = record { memory = λ a. 0; pages = λ p. false; page_count = 0; line_of = λ a. 0; g = 255; global = λ k. 0 };
+  lambda = 0;
+  line = 0;
+  selected = false;
+  named = λ n. false;
+}
+
+-- the tetra that holds an address, as the octa's part that it is
+abbrev pub in_octa : ℕ → ℕ → ℕ
+in_octa a t = if a / 4 % 2 == 0 then t * 2 ^ 32 else t
+
+-- memory with a tetra joined by exclusive or to the one that holds an address
+abbrev pub joined : (ℕ → ℕ) → ℕ → ℕ → ℕ → ℕ
+joined memory a t q = if q / 8 == a / 8 then bit_xor (memory q) (in_octa a t) else memory q
+
+abbrev pub with_page : (ℕ → Bool) → ℕ → ℕ → Bool
+with_page pages page p = if p == page then true else pages p
+
+-- a page that stands already is not counted again, and there are at most 65,536
+abbrev pub paged : Image → ℕ → Result Image Meaningless
+paged m page =
+    if m.pages page then Ok m
+    else if nat_le 65536 m.page_count then Err PagesFull
+    else Ok (record m { pages = with_page m.pages page; page_count = m.page_count + 1 })
+
+-- whether the tetra that holds an address may stand there: it lies below the stack segment
+abbrev pub is_below : ℕ → Bool
+is_below a = not (nat_le 0x6000_0000_0000_0000 a)
+
+abbrev pub joined_on : ℕ → ℕ → Result Image Meaningless → Result Image Meaningless
+joined_on a t (Ok m) = Ok (record m { memory = joined m.memory a t })
+joined_on a t (Err e) = Err e
+
+-- a tetra is joined at an address, on the page that it lies on
+abbrev pub join : Image → ℕ → ℕ → Result Image Meaningless
+join m a t = if is_below a then joined_on a t (paged m (a / 4096)) else Err BadPlace
+
+abbrev pub then_join : ℕ → ℕ → Result Image Meaningless → Result Image Meaningless
+then_join a t (Ok m) = join m a t
+then_join a t (Err e) = Err e
+
+-- an octa is joined as two tetras, the first at the tetra that holds the address; both have to lie
+-- below the stack segment before either is joined
+abbrev pub join_octa : Image → ℕ → ℕ → Result Image Meaningless
+join_octa m a x =
+    let high = 4 * (a / 4) in
+    let low = (high + 4) % 2 ^ 64 in
+    if is_below high && is_below low then then_join low (x % 2 ^ 32) (join m high (x / 2 ^ 32)) else Err BadPlace
+
+-- the address so many tetras before another, modulo 2^64; the number of tetras is ahead less back
+abbrev pub back : ℕ → ℕ → ℕ → ℕ
+back a ahead behind = (a + 2 ^ 64 - 4 * ahead + 4 * behind) % 2 ^ 64
+
+-- the distance that the word of a far fix tells, as what it has ahead and behind
+abbrev pub far_back : ℕ → ℕ → ℕ → ℕ
+far_back a bits word = if nat_le (2 ^ 24) word then back a (word % 2 ^ 24) (2 ^ bits) else back a word 0
+
+-- the image after a change, and all else as it was
+abbrev pub with_image : Loading → Result Image Meaningless → Result Loading Meaningless
+with_image s (Ok m) = Ok (record s { image = m })
+with_image s (Err e) = Err e
+
+-- the line of a loaded tetra
+abbrev pub lined : (ℕ → ℕ) → ℕ → ℕ → ℕ → ℕ
+lined line_of a line q = if q / 4 == a / 4 then line else line_of q
+
+abbrev pub noted : Loading → Image → Image
+noted s m = if s.line == 0 then m else record m { line_of = lined m.line_of s.lambda s.line }
+
+-- after a tetra lambda is the next multiple of 4, and a line in force that is not 0 grows by 1
+abbrev pub after_load : Loading → Result Image Meaningless → Result Loading Meaningless
+after_load s (Ok m) =
+    Ok (record s {
+      image = noted s m;
+      lambda = (4 * (s.lambda / 4) + 4) % 2 ^ 64;
+      line = if s.line == 0 then 0 else s.line + 1;
+    })
+after_load s (Err e) = Err e
+
+abbrev pub with_name : (ℕ → Bool) → ℕ → ℕ → Bool
+with_name named number n = if n == number then true else named n
+
+-- a file is selected: one with a name is named, and one without has to have been named
+abbrev pub select : Loading → ℕ → Option (List ℕ) → Result Loading Meaningless
+select s number (Some name) = Ok (record s { selected = true; named = with_name s.named number })
+select s number None = if s.named number then Ok (record s { selected = true }) else Err NoFile
+
+-- $g to $255 have the values in order
+abbrev pub value_at : ℕ → List ℕ → ℕ → ℕ
+value_at g values k = slice_index values (k - g)
+
+abbrev pub with_globals : Image → ℕ → List ℕ → Image
+with_globals m g values = record m { g = g; global = value_at g values }
+
+-- what stands after one item more
+abbrev pub take_item : Loading → Item → Result Loading Meaningless
+take_item s (Load t) = after_load s (join s.image s.lambda t)
+take_item s (Loc a) = Ok (record s { lambda = a })
+take_item s (Skip n) = Ok (record s { lambda = (s.lambda + n) % 2 ^ 64 })
+take_item s (FixOcta a) = with_image s (join_octa s.image a s.lambda)
+take_item s (FixNear n) = with_image s (join s.image (back s.lambda n 0) n)
+take_item s (FixFar bits word) = with_image s (join s.image (far_back s.lambda bits word) word)
+take_item s (File number name) = select s number name
+take_item s (Line n) = if s.selected then Ok (record s { line = n }) else Err NoFile
+take_item s (Spec n) = Ok s
+take_item s (Pre words) = Ok s
+take_item s (Post g values) = Ok (record s { image = with_globals s.image g values })
+take_item s Stab = Ok s
+
+-- what stands after items, from the left; the first that has no meaning counts
+abbrev pub take_items : List Item → Result Loading Meaningless → Result Loading Meaningless
+take_items [] (Ok s) = Ok s
+take_items (item ∷ items) (Ok s) = take_items items (take_item s item)
+take_items items (Err e) = Err e
+
+abbrev pub image_in : Result Loading Meaningless → Result Image Meaningless
+image_in (Ok s) = Ok s.image
+image_in (Err e) = Err e
+
+-- the meaning of items: the image that they set up
+abbrev pub meaning : List Item → Result Image Meaningless
+meaning items = image_in (take_items items (Ok nothing))

@@ -1,0 +1,92 @@
+-- What whole byte lists are: an object, or the first fault.
+use Rattle.std.specs.Prelude.{◌≡◌, ◌⊎◌, ◌<◌, ℕ, zero, suc, ◌+◌, nat_lt, List, [], ◌∷◌, ◌++◌, length, drop, Option, Some, None, Result, Ok, Err, if◌then◌else◌}
+use Rattle.mx_mmo.specs.Object.{IsObject}
+use Rattle.mx_mmo.specs.Reading.{Due, first_item}
+use Rattle.mx_mmo.specs.Replies.{ReaderModel, phase_after, tail_of, limit}
+use Rattle.mx_mmo.specs.declared.items.Item.{Item}
+use Rattle.mx_mmo.specs.declared.items.Tail.{Tail}
+use Rattle.mx_mmo.specs.declared.items.Object.{Object}
+use Rattle.mx_mmo.specs.declared.faults.MmoFault.{MmoFault}
+use Rattle.mx_mmo.specs.declared.faults.MmoFault.TheVariants.{TooLong}
+use Rattle.mx_mmo.specs.declared.due.Phase.{Phase}
+use Rattle.mx_mmo.specs.declared.due.Phase.TheVariants.{Start}
+
+-- what is left where no whole item stands first, and how far the items before it went
+pub record Left : Type 0 where
+  pub phase : Phase
+  pub at : ℕ
+  pub rest : List ℕ
+
+-- items from the left, and then the first fault or what is left
+abbrev pub Walk : Type 0
+Walk = List Item × Result Left MmoFault
+
+abbrev pub behind : Item → Walk → Walk
+behind item w = (item ∷ w.0, w.1)
+
+-- an item and those that follow it, by `others`; a fault; or nothing more
+abbrev pub walk_on : (Phase → ℕ → List ℕ → Walk) → Phase → ℕ → List ℕ → Due → Walk
+walk_on others phase at bytes (Ok None) = ([], Ok (record { phase = phase; at = at; rest = bytes }))
+walk_on others phase at bytes (Ok (Some (item, size))) =
+    behind item (others (phase_after item phase) (at + size) (drop size bytes))
+walk_on others phase at bytes (Err fault) = ([], Err fault)
+
+-- at most so many items
+unfoldable pub walk : ℕ → Phase → ℕ → List ℕ → Walk
+walk zero phase at bytes = ([], Ok (record { phase = phase; at = at; rest = bytes }))
+walk (suc n) phase at bytes = walk_on (walk n) phase at bytes (first_item phase at bytes)
+
+-- all items of bytes that begin at a place: each takes a byte, so there are no more than bytes
+unfoldable pub items_of : Phase → ℕ → List ℕ → Walk
+items_of phase at bytes = walk (length bytes) phase at bytes
+
+abbrev pub with_tail : List Item → Result Tail MmoFault → Result Object MmoFault
+with_tail items (Ok tail) = Ok (record { items = items; tail = tail })
+with_tail items (Err fault) = Err fault
+
+abbrev pub object_behind : List Item → Result Left MmoFault → Result Object MmoFault
+object_behind items (Ok left) = with_tail items (tail_of left.phase left.at left.rest)
+object_behind items (Err fault) = Err fault
+
+-- the object that bytes are, or the first fault: too many bytes; then the fault of the first item
+-- that has one; then what is wrong at the end
+abbrev pub object_of : List ℕ → Result Object MmoFault
+object_of bytes =
+    if nat_lt limit (length bytes) then Err (TooLong limit)
+    else (let w = items_of Start 0 bytes in object_behind w.0 w.1)
+
+abbrev pub fault_in : Result Object MmoFault → Option MmoFault
+fault_in (Ok object) = None
+fault_in (Err fault) = Some fault
+
+-- the first fault of bytes, where they are no object
+abbrev pub object_fault : List ℕ → Option MmoFault
+object_fault bytes = fault_in (object_of bytes)
+
+-- items before those of a walk
+abbrev pub onto : List Item → Walk → Walk
+onto items w = (items ++ w.0, w.1)
+
+-- the items that were given, and those that a reader still gives
+abbrev pub ahead : List Item → ReaderModel → Walk
+ahead items m = onto items (items_of m.phase m.at m.rest)
+
+abbrev pub left_of : ReaderModel → Left
+left_of m = record { phase = m.phase; at = m.at; rest = m.rest }
+
+-- how many bytes were fed
+abbrev pub fed : ReaderModel → ℕ
+fed m = m.at + length m.rest
+
+-- a reader that was fed more
+abbrev pub with_more : ReaderModel → List ℕ → ReaderModel
+with_more m more = record m { rest = m.rest ++ more }
+
+-- a fault of so many bytes with these items: there are too many, or an item has it
+abbrev pub IsFaultOf : MmoFault → ℕ → Walk → Type 0
+IsFaultOf fault size w = ((limit < size) × (fault ≡ TooLong limit)) ⊎ (w.1 ≡ Err fault)
+
+-- the bytes are this object in the grammar, and its trie begins where the items end
+pub record SpellsObject (bytes : List ℕ) (object : Object) : Type 0 where
+  pub spelled : IsObject bytes object.items object.tail.trie
+  pub place : object.tail.place ≡ length spelled.front

@@ -1,0 +1,25 @@
+//! Object files in the mmo format: what stands in them, how it is written and how it is read.
+//!
+//! An object is a sequence of tetras. One whose first byte is #98 is a lopcode, which says what the
+//! tetras after it are; any other tetra is loaded (MMIXware, "MMIX Object Format" in MMIXAL).
+#![tactic(auto)]
+
+mod due;
+mod faults;
+mod items;
+mod lists;
+mod reader;
+mod spell;
+mod tail;
+#[cfg(test)]
+mod tests;
+mod whole;
+mod writer;
+
+pub use due::Phase;
+pub use faults::MmoFault;
+pub use items::{Item, Object, Tail};
+pub use lists::{Items, Octas, Words};
+pub use reader::Reader;
+pub use whole::{read, reading_is_the_grammar, written_is_read};
+pub use writer::Writer;

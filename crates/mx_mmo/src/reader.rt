@@ -1,0 +1,202 @@
+//! Reading an object in pieces.
+
+ghost use Rattle.std.specs.Prelude.{◌≡◌, ◌≢◌, ◌≤◌, ◌+◌, ◌++◌, ◌^◌, length, drop, ◌<◌, IfOk, IfErr, IfSome, OnOk, OnErr, OnSome};
+ghost use Rattle.mx_mmo.specs.Replies as spec;
+ghost use Rattle.mx_mmo.specs.Valid.{Fits};
+
+use crate::due::{Phase, first_item};
+use crate::tail::tail_of;
+use crate::{Item, MmoFault, Tail};
+use std::alloc::Global;
+use std::marker::Model;
+
+/// The longest object, in bytes.
+const LIMIT: u64 = 1 << 26;
+
+/// Reads an object whose bytes come in pieces, and gives its items one by one.
+///
+/// After a fault other than want of memory each call answers that fault again; after want of memory
+/// the reader is as it was.
+#[derive(Drop)]
+pub struct Reader {
+    alloc: Global,
+    /// What was fed; the bytes before `start` were given.
+    buffer: Vec<u8>,
+    start: usize,
+    phase: Phase,
+    at: u64,
+    place: u64,
+    fault: Option<MmoFault>,
+}
+
+impl Model for Reader {
+    ghost use Rattle.std.specs.Prelude.{◌≤◌, ◌+◌, ◌^◌, length, drop};
+    ghost use Rattle.mx_mmo.specs.Replies.{ReaderModel};
+
+    ghost Value = { ReaderModel };
+
+    ghost view = { λ r. record {
+      rest = drop r.start r.buffer.items;
+      phase = r.phase;
+      at = r.at;
+      place = r.place;
+      fault = r.fault;
+    } };
+
+    ghost invariant = { λ r. (r.start ≤ length r.buffer.items) ×
+        (r.at + length r.buffer.items ≤ 2 ^ 26 + r.start) };
+}
+
+/// Takes away the bytes before a place.
+fn drop_front(bytes: &mut Vec<u8>, count: usize)
+    requires { count ≤ length bytes.old.items }
+    ensures { bytes.new.items ≡ drop count bytes.old.items }
+{
+    bytes.copy_within(count.., 0);
+    bytes.truncate(bytes.len() - count);
+}
+
+/// How far a reader has come after an item.
+fn phase_after(item: &Item, phase: Phase) -> Phase
+    ensures { result ≡ spec.phase_after item.now phase }
+{
+    match item {
+        Item::Pre(_) => Phase::Middle,
+        Item::Post { .. } => Phase::Posted,
+        Item::Stab => Phase::Ended,
+        _ => phase,
+    }
+}
+
+impl Reader {
+    /// A reader that nothing was fed. It takes no memory.
+    pub fn new(alloc: Global) -> Reader
+        ensures { result ≡ spec.fresh }
+    {
+        Reader {
+            alloc,
+            buffer: Vec::new(alloc),
+            start: 0,
+            phase: Phase::Start,
+            at: 0,
+            place: 0,
+            fault: None,
+        }
+    }
+
+    /// Takes the next piece of the object. The pieces are at most 2^26 bytes together.
+    pub fn feed(&mut self, piece: &[u8]) -> Result<(), MmoFault>
+        ensures answers { result ≢ Err MmoFault.OutOfMemory →
+            (result, self.new) ≡ spec.feed_answer self.old piece.now }
+        ensures memory { result ≡ Err MmoFault.OutOfMemory → self.new ≡ self.old }
+        ensures again { IfSome self.old.fault (λ fault. result ≡ Err fault) }
+    {
+        if let Some(fault) = self.fault {
+            return Err(fault);
+        }
+        if self.end() + piece.len() as u64 > LIMIT {
+            return self.refuse(MmoFault::TooLong(LIMIT));
+        }
+        self.make_room();
+        self.hold(piece)
+    }
+
+    /// The next whole item; nothing where neither a whole item nor a fault stands next, and always
+    /// after `stab`.
+    pub fn next(&mut self) -> Result<Option<Item>, MmoFault>
+        ensures answers { result ≢ Err MmoFault.OutOfMemory →
+            (result, self.new) ≡ spec.next_answer self.old }
+        ensures memory { result ≡ Err MmoFault.OutOfMemory → self.new ≡ self.old }
+        ensures again { IfSome self.old.fault (λ fault. result ≡ Err fault) }
+        ensures fits { IfOk result (λ item. IfSome item Fits) }
+        ensures shorter { IfOk result (λ item. OnSome item (length self.new.rest < length self.old.rest)) }
+    {
+        if let Some(fault) = self.fault {
+            return Err(fault);
+        }
+        match first_item(self.alloc, self.phase, self.at, &self.buffer[self.start..]) {
+            Ok(None) => Ok(None),
+            Ok(Some((item, size))) => {
+                self.advance(&item, size);
+                Ok(Some(item))
+            }
+            Err(MmoFault::OutOfMemory) => Err(MmoFault::OutOfMemory),
+            Err(fault) => self.refuse(fault),
+        }
+    }
+
+    /// The byte place of the item given last; 0 where none was given.
+    pub fn place(&self) -> u64
+        ensures { result ≡ self.now.place }
+    {
+        self.place
+    }
+
+    /// Says that no more comes, once `next` gives nothing, and gives what stands behind `stab`.
+    pub fn finish(&mut self) -> Result<Tail, MmoFault>
+        ensures answers { result ≢ Err MmoFault.OutOfMemory →
+            (result, self.new) ≡ spec.finish_answer self.old }
+        ensures memory { result ≡ Err MmoFault.OutOfMemory → self.new ≡ self.old }
+        ensures again { IfSome self.old.fault (λ fault. result ≡ Err fault) }
+    {
+        if let Some(fault) = self.fault {
+            return Err(fault);
+        }
+        match tail_of(self.alloc, self.phase, self.at, &self.buffer[self.start..]) {
+            Ok(tail) => Ok(tail),
+            Err(MmoFault::OutOfMemory) => Err(MmoFault::OutOfMemory),
+            Err(fault) => self.refuse(fault),
+        }
+    }
+
+    /// Answers a fault and keeps it.
+    fn refuse<T>(&mut self, fault: MmoFault) -> Result<T, MmoFault>
+        ensures { (result, self.new) ≡ spec.refused self.old fault }
+    {
+        self.fault = Some(fault);
+        Err(fault)
+    }
+
+    /// Goes on behind an item that was given.
+    fn advance(&mut self, item: &Item, size: usize)
+        requires { size ≤ length self.old.rest }
+        ensures { self.new ≡ spec.given self.old item.now size }
+    {
+        self.start += size;
+        self.place = self.at;
+        self.at += size as u64;
+        self.phase = phase_after(item, self.phase);
+    }
+
+    /// How many bytes were fed.
+    fn end(&self) -> u64
+        ensures count { result ≡ self.now.at + length self.now.rest }
+        ensures most { result ≤ 2 ^ 26 }
+    {
+        self.at + (self.buffer.len() - self.start) as u64
+    }
+
+    /// Holds a piece more.
+    fn hold(&mut self, piece: &[u8]) -> Result<(), MmoFault>
+        requires { self.old.at + length self.old.rest + length piece.now ≤ 2 ^ 26 }
+        ensures ok { OnOk result (self.new ≡ record self.old { rest = self.old.rest ++ piece.now }) }
+        ensures err { OnErr result (self.new ≡ self.old) }
+        ensures memory { IfErr result (λ e. e ≡ MmoFault.OutOfMemory) }
+    {
+        match self.buffer.extend_from_slice(piece) {
+            Ok(()) => Ok(()),
+            Err(_) => Err(MmoFault::OutOfMemory),
+        }
+    }
+
+    /// Lets go of the bytes that were given, once they are half of what is held, so that all moves
+    /// together cost no more than the input.
+    fn make_room(&mut self)
+        ensures { self.new ≡ self.old }
+    {
+        if self.start >= self.buffer.len() - self.start {
+            drop_front(&mut self.buffer, self.start);
+            self.start = 0;
+        }
+    }
+}
