@@ -1,6 +1,7 @@
 //! What the items of an object set up.
 
 ghost use Rattle.std.specs.Prelude.{◌≡◌, ◌≢◌, ◌≤◌, ◌<◌, ◌/◌, ◌==◌, [], Ok, Err, OnOk, OnErr, IfErr, if◌then◌else◌};
+ghost use Rattle.mx_mem.specs.Memory.{page_count};
 ghost use Rattle.mx_mmo.specs.Meaning as spec;
 ghost use Rattle.mx_mmo.specs.Meaning.{nothing, lined, with_globals};
 ghost use Rattle.mx_load.specs.Faults.{told, given};
@@ -45,16 +46,18 @@ impl Model for Image {
 }
 
 impl Image {
-    /// The memory. It takes no memory.
+    /// The memory.
     pub fn memory(&self) -> &Memory
-        ensures { result.now ≡ self.now.memory }
+        ensures value { result.now ≡ self.now.memory }
+        ensures few { page_count self.now.memory ≤ 65536 }
     {
         &self.memory
     }
 
-    /// The memory, without the rest.
+    /// The memory, without the rest. It takes no memory.
     pub fn into_memory(self) -> Memory
-        ensures { result ≡ self.memory }
+        ensures value { result ≡ self.memory }
+        ensures few { page_count result ≤ 65536 }
     {
         self.memory
     }
@@ -69,7 +72,7 @@ impl Image {
 
     /// The number of the first global register.
     pub fn g(&self) -> u8
-        ensures { result ≡ self.now.g }
+        ensures { result ≡ (image_of self.now).g }
     {
         self.g
     }
@@ -99,7 +102,7 @@ impl Image {
 /// What building an image needs.
 impl Image {
     /// The image before the first item.
-    pub fn empty(alloc: Global) -> Image
+    pub(crate) fn empty(alloc: Global) -> Image
         ensures { image_of result ≡ nothing.image }
     {
         Image {
@@ -112,7 +115,7 @@ impl Image {
     }
 
     /// Joins a tetra to the one that holds an address.
-    pub fn join(&mut self, a: u64, t: u32) -> Result<(), LoadFault>
+    pub(crate) fn join(&mut self, a: u64, t: u32) -> Result<(), LoadFault>
         ensures { result ≢ Err LoadFault.OutOfMemory →
             given result (image_of self.new) ≡ told (spec.join (image_of self.old) a t) }
     {
@@ -127,7 +130,7 @@ impl Image {
     }
 
     /// Joins an octa to the tetra that holds an address and the next one.
-    pub fn join_octa(&mut self, a: u64, x: u64) -> Result<(), LoadFault>
+    pub(crate) fn join_octa(&mut self, a: u64, x: u64) -> Result<(), LoadFault>
         ensures { result ≢ Err LoadFault.OutOfMemory →
             given result (image_of self.new) ≡ told (spec.join_octa (image_of self.old) a x) }
     {
@@ -143,7 +146,7 @@ impl Image {
     }
 
     /// Notes the line of the tetra at an address.
-    pub fn note(&mut self, a: u64, line: u32) -> Result<(), LoadFault>
+    pub(crate) fn note(&mut self, a: u64, line: u32) -> Result<(), LoadFault>
         requires { line ≢ 0 }
         ensures ok { OnOk result (image_of self.new ≡ record (image_of self.old) { line_of = lined (image_of self.old).line_of a line }) }
         ensures err { IfErr result (λ fault. fault ≡ LoadFault.OutOfMemory) }
@@ -152,7 +155,7 @@ impl Image {
     }
 
     /// Gives $g to $255 their values.
-    pub fn set_globals(&mut self, g: u8, values: &[u64]) -> Result<(), LoadFault>
+    pub(crate) fn set_globals(&mut self, g: u8, values: &[u64]) -> Result<(), LoadFault>
         ensures ok { OnOk result (image_of self.new ≡ with_globals (image_of self.old) g values.now) }
         ensures err { IfErr result (λ fault. fault ≡ LoadFault.OutOfMemory) }
     {
@@ -167,7 +170,7 @@ impl Image {
     }
 
     /// The image with these symbols.
-    pub fn with_symbols(self, symbols: Symbols) -> Image
+    pub(crate) fn with_symbols(self, symbols: Symbols) -> Image
         ensures image { image_of result ≡ image_of self }
         ensures symbols { result.symbols ≡ symbols }
     {
