@@ -7,6 +7,7 @@ use crate::{Image, LoadFault, Loader, load};
 use mx_mmo::{Item, Octas, Words};
 use mx_word::{Bytes, Symbol, Symbols, Value};
 use std::alloc::Global;
+use std::process::Abort;
 
 /// An item of a row.
 #[derive(Clone, Copy)]
@@ -112,6 +113,14 @@ fn small(alloc: Global) -> Option<Image> {
     load(alloc, &items, symbols).ok()
 }
 
+/// Whether the only symbol has the value of the small program's Main.
+fn is_main(symbols: &[Symbol]) -> bool {
+    match symbols {
+        [symbol] => symbol.value == Value::Pure(0x104),
+        _ => false,
+    }
+}
+
 #[test]
 fn small_program(rt: HostRuntime) {
     let image = small(rt.alloc()).expect(&rt, "memory");
@@ -123,17 +132,23 @@ fn small_program(rt: HostRuntime) {
         (image.g(), image.global(255), image.global(254)),
         (255, 0x104, 0)
     );
-    assert!(rt;
-        matches!(
-            image.symbols().as_slice(),
-            [Symbol {
-                value: Value::Pure(0x104),
-                serial: 1,
-                ..
-            }]
-        )
-    );
+    assert!(rt; is_main(image.symbols().as_slice()));
     assert_eq!(rt; image.into_memory().load(0x10f), 0x0000_0701_0000_0000);
+}
+
+/// Sees that an image has these octas at these addresses.
+fn has_octas(rt: &impl Abort, image: &Image, octas: &[(u64, u64)]) {
+    for (a, x) in octas {
+        assert!(rt; *a < 1 << 63);
+        assert_eq!(rt; image.memory().load(*a), *x, "at {a}");
+    }
+}
+
+/// Sees that an image has these lines at these addresses.
+fn has_lines(rt: &impl Abort, image: &Image, lines: &[(u64, u32)]) {
+    for (a, line) in lines {
+        assert_eq!(rt; image.line_of(*a), *line, "of {a}");
+    }
 }
 
 #[test]
@@ -262,16 +277,15 @@ fn images(rt: HostRuntime) {
     let alloc = rt.alloc();
     for (rows, octas, pages, lines) in rows {
         let image = image_of_rows(alloc, rows).expect(&rt, "no fault");
-        for (a, x) in octas {
-            assert!(rt; *a < 1 << 63);
-            assert_eq!(rt; image.memory().load(*a), *x, "at {a}");
-        }
+        has_octas(&rt, &image, octas);
         assert_eq!(rt; image.memory().pages(), pages);
-        for (a, line) in lines {
-            assert_eq!(rt; image.line_of(*a), *line, "of {a}");
-        }
+        has_lines(&rt, &image, lines);
     }
-    let image = image_of_rows(alloc, &[Post(7, 0x100)]).expect(&rt, "no fault");
+}
+
+#[test]
+fn registers(rt: HostRuntime) {
+    let image = image_of_rows(rt.alloc(), &[Post(7, 0x100)]).expect(&rt, "no fault");
     assert_eq!(rt; image.g(), 254);
     for (k, x) in [(253, 0), (254, 7), (255, 0x100)] {
         assert_eq!(rt; image.global(k), x, "in {k}");
