@@ -5,7 +5,6 @@ use Rattle.std.specs.List.{AllByRecursion}
 use Rattle.std.proofs.lemmas.List.{drop_more}
 use Rattle.mx_mmo.specs.Meaning as spec
 use Rattle.mx_mmo.specs.Meaning.{Loading, Meaningless, meaning, nothing, take_item, take_items}
-use Rattle.mx_mmo.specs.Image.{Image}
 use Rattle.mx_mmo.specs.Valid.{Fits}
 use Rattle.mx_mmo.specs.declared.items.Item.{Item}
 use Rattle.mx_load.specs.Faults.{told}

@@ -1,3 +1,4 @@
+pub use Rattle.mx_word.specs.Results
 pub use Rattle.mx_mmo.specs.Image
 pub use Rattle.mx_mmo.specs.Meaning
 pub use Rattle.mx_mmo.specs.Valid

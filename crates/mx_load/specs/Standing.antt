@@ -6,7 +6,7 @@ use Rattle.mx_mmo.specs.Image.{Image}
 use Rattle.mx_mmo.specs.Meaning.{Loading, take_item}
 use Rattle.mx_mmo.specs.declared.items.Item.{Item}
 use Rattle.mx_load.specs.Faults.{told}
-use Rattle.mx_load.specs.Kept.{Kept, image_of}
+use Rattle.mx_load.specs.Kept.{image_of}
 use Rattle.mx_load.specs.declared.fault.LoadFault.{LoadFault}
 use Rattle.mx_load.specs.declared.progress.Progress.{Progress}
 
@@ -25,6 +25,7 @@ pub record Held : Type 0 where
   pub progress : Progress
   pub fault : Option LoadFault
 
+-- a value, unless there was a fault
 abbrev pub unless : {A : Type 0} → Option LoadFault → A → Result A LoadFault
 unless None x = Ok x
 unless (Some fault) x = Err fault

@@ -1,8 +1,8 @@
 //! The image that the items of an object set up: memory, the lines of its tetras, and the global
 //! registers.
 //!
-//! Tetras are joined to memory by exclusive or, in any order (MMIXware, "MMIX Object Format" in
-//! MMIXAL and "Loading an object file" in MMMIX).
+//! Tetras are joined to memory by exclusive or, so that what fixes them may come later (MMIXware,
+//! "Binary MMO output" in MMIXAL and "Loading an object file" in MMIX-SIM).
 #![tactic(auto)]
 
 mod fault;
