@@ -147,8 +147,8 @@ impl Image {
 
     /// Notes the line of the tetra at an address.
     pub(crate) fn note(&mut self, a: u64, line: u32) -> Result<(), LoadFault>
-        requires { line ≢ 0 }
-        ensures ok { OnOk result (image_of self.new ≡ record (image_of self.old) { line_of = lined (image_of self.old).line_of a line }) }
+        ensures ok { let m = image_of self.old in
+            OnOk result (image_of self.new ≡ record m { line_of = lined m.line_of a line }) }
         ensures err { IfErr result (λ fault. fault ≡ LoadFault.OutOfMemory) }
     {
         put_line(&mut self.lines, a, line)

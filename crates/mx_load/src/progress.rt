@@ -5,7 +5,6 @@ ghost use Rattle.mx_mmo.specs.Meaning as spec;
 ghost use Rattle.mx_mmo.specs.Meaning.{nothing, after_load, with_image, with_name, noted, take_item};
 ghost use Rattle.mx_mmo.specs.Valid.{Fits};
 ghost use Rattle.mx_load.specs.Faults.{told, given};
-ghost use Rattle.mx_load.specs.Kept.{image_of};
 ghost use Rattle.mx_load.specs.Standing.{loading_of};
 
 use crate::{Image, LoadFault};
@@ -84,8 +83,8 @@ impl Progress {
 
     /// Goes on behind the tetra that was joined at lambda.
     fn advance(&mut self) -> Result<(), LoadFault>
-        ensures { result ≢ Err LoadFault.OutOfMemory → given result (loading_of self.new)
-            ≡ told (after_load (loading_of self.old) (Ok (image_of self.old.image))) }
+        ensures { let s = loading_of self.old in result ≢ Err LoadFault.OutOfMemory →
+            given result (loading_of self.new) ≡ told (after_load s (Ok s.image)) }
     {
         match self.count_line() {
             Ok(()) => {
@@ -98,8 +97,8 @@ impl Progress {
 
     /// Loads a tetra at lambda.
     fn load(&mut self, t: u32) -> Result<(), LoadFault>
-        ensures { result ≢ Err LoadFault.OutOfMemory → given result (loading_of self.new)
-            ≡ told (after_load (loading_of self.old) (spec.join (image_of self.old.image) self.old.lambda t)) }
+        ensures { let s = loading_of self.old in result ≢ Err LoadFault.OutOfMemory →
+            given result (loading_of self.new) ≡ told (after_load s (spec.join s.image s.lambda t)) }
     {
         match self.image.join(self.lambda, t) {
             Ok(()) => self.advance(),
@@ -109,16 +108,16 @@ impl Progress {
 
     /// Joins a tetra at an address.
     fn fix(&mut self, a: u64, t: u32) -> Result<(), LoadFault>
-        ensures { result ≢ Err LoadFault.OutOfMemory → given result (loading_of self.new)
-            ≡ told (with_image (loading_of self.old) (spec.join (image_of self.old.image) a t)) }
+        ensures { let s = loading_of self.old in result ≢ Err LoadFault.OutOfMemory →
+            given result (loading_of self.new) ≡ told (with_image s (spec.join s.image a t)) }
     {
         self.image.join(a, t)
     }
 
     /// Joins lambda, as an octa, at an address.
     fn fix_octa(&mut self, a: u64) -> Result<(), LoadFault>
-        ensures { result ≢ Err LoadFault.OutOfMemory → given result (loading_of self.new)
-            ≡ told (with_image (loading_of self.old) (spec.join_octa (image_of self.old.image) a self.old.lambda)) }
+        ensures { let s = loading_of self.old in result ≢ Err LoadFault.OutOfMemory → given result
+            (loading_of self.new) ≡ told (with_image s (spec.join_octa s.image a s.lambda)) }
     {
         self.image.join_octa(a, self.lambda)
     }
@@ -157,8 +156,8 @@ impl Progress {
 
     /// Sets the line in force, for which a file has to be selected.
     fn set_line(&mut self, n: u16) -> Result<(), LoadFault>
-        ensures { let s = loading_of self.old in
-            given result (loading_of self.new) ≡ told (if s.selected then Ok (record s { line = n }) else Err spec.NoFile) }
+        ensures { let s = loading_of self.old in given result (loading_of self.new)
+            ≡ told (if s.selected then Ok (record s { line = n }) else Err spec.NoFile) }
     {
         if !self.selected {
             return Err(LoadFault::NoFile);
