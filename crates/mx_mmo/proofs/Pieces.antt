@@ -6,11 +6,11 @@ use Rattle.std.proofs.lemmas.Grind.{common_steps}
 use Rattle.std.proofs.lemmas.Bool.Decides.{nat_tests}
 use Rattle.mx_mmo.specs.Valid.{AreBytes}
 use Rattle.mx_mmo.specs.Replies.{ReaderModel, limit, fresh, tail_of}
-use Rattle.mx_mmo.specs.Whole.{IsFaultOf, Walk, ahead, fed, items_of, left_of, object_of, object_behind, with_tail, with_more}
+use Rattle.mx_mmo.specs.Whole.{IsFaultOf, Walk, ahead, fed, items_of, left_of, object_of, object_behind, with_tail, with_more, extended}
 use Rattle.mx_mmo.specs.declared.items.Item.{Item}
 use Rattle.mx_mmo.specs.declared.faults.MmoFault.{MmoFault}
 use Rattle.mx_mmo.specs.declared.due.Phase.TheVariants.{Start}
-use Rattle.mx_mmo.proofs.Walks.{items-none, extended, extends}
+use Rattle.mx_mmo.proofs.Walks.{items-none, extends}
 
 -- one piece more, and all pieces from those so far
 pub concat-more : (pieces : List (List ℕ)) (i : ℕ) (d : List ℕ) → i < length pieces → concat (take (i + 1) pieces) ≡ concat (take i pieces) ++ get_or pieces i d

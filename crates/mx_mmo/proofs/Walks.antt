@@ -3,7 +3,7 @@ use Rattle.std.proofs.Common.{◌≡◌, ℕ, zero, suc, ◌+◌, ◌<◌, ◌�
 use Rattle.std.proofs.lemmas.Grind.{common_steps}
 use Rattle.mx_mmo.specs.Reading.{Due, IsWithin, first_item}
 use Rattle.mx_mmo.specs.Replies.{phase_after}
-use Rattle.mx_mmo.specs.Whole.{Walk, behind, walk_on, walk, items_of, onto}
+use Rattle.mx_mmo.specs.Whole.{Walk, behind, walk_on, walk, items_of, extended}
 use Rattle.mx_mmo.specs.declared.items.Item.{Item}
 use Rattle.mx_mmo.specs.declared.faults.MmoFault.{MmoFault}
 use Rattle.mx_mmo.specs.declared.due.Phase.{Phase}
@@ -47,11 +47,6 @@ items-none phase at bytes e = items-step phase at bytes ∙ ap (walk_on items_of
 pub items-fault : (phase : Phase) (at : ℕ) (bytes : List ℕ) (fault : MmoFault) → first_item phase at bytes ≡ Err fault →
     items_of phase at bytes ≡ ([], Err fault)
 items-fault phase at bytes fault e = items-step phase at bytes ∙ ap (walk_on items_of phase at bytes) e
-
--- a walk goes on in bytes that come later, unless it met a fault
-abbrev pub extended : Walk → List ℕ → Walk
-extended (items, Err fault) ys = (items, Err fault)
-extended (items, Ok left) ys = onto items (items_of left.phase left.at (left.rest ++ ys))
 
 extended-behind : (item : Item) (w : Walk) (ys : List ℕ) → extended (behind item w) ys ≡ behind item (extended w ys)
 extended-behind item (items, Err fault) ys = refl

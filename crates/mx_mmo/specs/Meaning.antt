@@ -110,9 +110,9 @@ abbrev pub select : Loading → ℕ → Option (List ℕ) → Result Loading Mea
 select s number (Some name) = Ok (record s { selected = true; named = with_name s.named number })
 select s number None = if s.named number then Ok (record s { selected = true }) else Err NoFile
 
--- $g to $255 have the values in order
+-- $g to $255 have the values in order; a lower register is not global and has none, here 0
 abbrev pub value_at : ℕ → List ℕ → ℕ → ℕ
-value_at g values k = slice_index values (k - g)
+value_at g values k = if nat_le g k then slice_index values (k - g) else 0
 
 abbrev pub with_globals : Image → ℕ → List ℕ → Image
 with_globals m g values = record m { g = g; global = value_at g values }

@@ -67,6 +67,11 @@ object_fault bytes = fault_in (object_of bytes)
 abbrev pub onto : List Item → Walk → Walk
 onto items w = (items ++ w.0, w.1)
 
+-- a walk goes on in bytes that come later, unless it met a fault
+abbrev pub extended : Walk → List ℕ → Walk
+extended (items, Err fault) more = (items, Err fault)
+extended (items, Ok left) more = onto items (items_of left.phase left.at (left.rest ++ more))
+
 -- the items that were given, and those that a reader still gives
 abbrev pub ahead : List Item → ReaderModel → Walk
 ahead items m = onto items (items_of m.phase m.at m.rest)

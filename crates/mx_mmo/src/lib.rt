@@ -21,5 +21,5 @@ pub use faults::MmoFault;
 pub use items::{Item, Object, Tail};
 pub use lists::{Items, Octas, Words};
 pub use reader::Reader;
-pub use whole::{read, reading_is_the_grammar, written_is_read};
+pub use whole::{items_come_in_turn, read, reading_is_the_grammar, written_is_read};
 pub use writer::Writer;

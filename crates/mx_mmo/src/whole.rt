@@ -3,12 +3,14 @@
 ghost use Rattle.std.specs.Prelude.{◌≡◌, ◌≢◌, ◌<◌, ◌≤◌, ◌+◌, None, true, false, length, [], Some, IfOk, IfErr, OnOk, IsErrAnd, List, ℕ, ◌++◌};
 ghost use Rattle.std.specs.List.{AllByRecursion, concat};
 ghost use Rattle.mx_mmo.specs.Object.{IsBuilt};
+ghost use Rattle.mx_mmo.specs.Reading.{first_item};
 ghost use Rattle.mx_mmo.specs.Replies.{limit};
 ghost use Rattle.mx_mmo.specs.Spelling.{ending, written};
 ghost use Rattle.mx_mmo.specs.Valid.{AreBytes, Valid};
 ghost use Rattle.mx_mmo.specs.declared.items.Item.{Item};
 ghost use Rattle.mx_mmo.specs.declared.items.Object.{Object};
-ghost use Rattle.mx_mmo.specs.Whole.{IsFaultOf, SpellsObject, ahead, fed, items_of, left_of, object_fault, object_of, with_more};
+ghost use Rattle.mx_mmo.specs.declared.due.Phase.{Phase};
+ghost use Rattle.mx_mmo.specs.Whole.{IsFaultOf, SpellsObject, ahead, extended, fed, items_of, left_of, object_fault, object_of, walk_on, with_more};
 
 use crate::{Items, MmoFault, Object, Phase, Reader};
 use mx_word::Bytes;
@@ -137,4 +139,13 @@ pub fn reading_is_the_grammar()
     ensures only { (bytes : List ℕ) (object : Object) → SpellsObject bytes object →
         AllByRecursion IsBuilt object.items → object.tail.trie ≡ [] → length bytes ≤ limit →
         object_of bytes ≡ Ok object }
+{}
+
+/// The items of bytes are the first one and those of the bytes behind it; and where more bytes come,
+/// the items before stay, and the walk goes on with what was left.
+pub fn items_come_in_turn()
+    ensures first { (phase : Phase) (at : ℕ) (bytes : List ℕ) →
+        items_of phase at bytes ≡ walk_on items_of phase at bytes (first_item phase at bytes) }
+    ensures more { (phase : Phase) (at : ℕ) (front more : List ℕ) →
+        items_of phase at (front ++ more) ≡ extended (items_of phase at front) more }
 {}

@@ -2,6 +2,7 @@ pub mod Digits
 pub mod Fronts
 pub mod Gather
 pub mod Lines
+pub mod LongSources
 pub mod Locals
 pub mod Passes
 pub mod Placed

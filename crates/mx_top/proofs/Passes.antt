@@ -30,7 +30,7 @@ same_function f g h = λ i x. h x i
 abbrev early : List Line → List (ℕ × ℕ)
 early lines = gather (λ before line. placements_of_line (labels_of before) before line) [] lines
 
-abbrev size_of : List Line → ℕ
+abbrev pub size_of : List Line → ℕ
 size_of lines = sum_by length lines + length lines
 
 abbrev known_at : List Line → Known
@@ -147,7 +147,7 @@ known_at-push before line = same-known _ _
     size-push before line = simp (sum_by-append, length-append) (omega arith)
 
 -- the size that a line is too far by
-far-size : (before : List Line) (line : Line) → size_up_to (length before + 1) (before ++ line ∷ []) ≡ size_of before + length line
+pub far-size : (before : List Line) (line : Line) → size_up_to (length before + 1) (before ++ line ∷ []) ≡ size_of before + length line
 far-size before line =
     let whole : take (length before + 1) (before ++ line ∷ []) ≡ before ++ line ∷ [] =
     ap (λ n. take n (before ++ line ∷ [])) (sym (length-append before (line ∷ []))) ∙ take-length (before ++ line ∷ []) in

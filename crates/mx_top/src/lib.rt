@@ -6,6 +6,7 @@ mod assembler;
 mod assembly;
 mod end;
 mod labels;
+mod laws;
 mod machine;
 mod memory;
 mod message;
@@ -22,6 +23,7 @@ mod top;
 mod traps;
 mod words;
 
+pub use laws::front_decides;
 pub use names::{fault_name, usage_name};
 pub use outcome::{Outcome, WordsFault};
 pub use top::mmixware;

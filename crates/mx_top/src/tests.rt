@@ -1,6 +1,6 @@
 //! Whole runs over a host in memory.
 
-use crate::{Outcome, WordsFault, fault_name, mmixware, usage_name};
+use crate::{Outcome, WordsFault, fault_name, front_decides, mmixware, usage_name};
 use mx_host::MemHost;
 use std::alloc::Global;
 use std::test::Fail;
@@ -259,6 +259,7 @@ fn words_and_files(rt: HostRuntime) -> Result<(), Fail> {
 
 #[test]
 fn names_and_statuses(rt: HostRuntime) {
+    front_decides();
     for (number, name) in [
         (7, "NoOpcode"),
         (21, "RegisterNumber"),
