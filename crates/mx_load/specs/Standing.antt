@@ -1,0 +1,45 @@
+-- What stands after the items that a loader took.
+use Rattle.std.specs.Prelude.{Option, Some, None, Result, Ok, Err}
+use Rattle.std.specs.Ordering.{nat_cmp}
+use Rattle.std.specs.BTreeSet.{contains}
+use Rattle.mx_mmo.specs.Image.{Image}
+use Rattle.mx_mmo.specs.Meaning.{Loading, take_item}
+use Rattle.mx_mmo.specs.declared.items.Item.{Item}
+use Rattle.mx_load.specs.Faults.{told}
+use Rattle.mx_load.specs.Kept.{image_of}
+use Rattle.mx_load.specs.declared.fault.LoadFault.{LoadFault}
+use Rattle.mx_load.specs.declared.progress.Progress.{Progress}
+
+-- what the parts of a loader stand for
+abbrev pub loading_of : Progress → Loading
+loading_of p = record {
+  image = image_of p.image;
+  lambda = p.lambda;
+  line = p.line;
+  selected = p.selected;
+  named = contains nat_cmp p.named;
+}
+
+-- a loader: how far it has come, and the fault that it answered
+pub record Held : Type 0 where
+  pub progress : Progress
+  pub fault : Option LoadFault
+
+-- a value, unless there was a fault
+abbrev pub unless : {A : Type 0} → Option LoadFault → A → Result A LoadFault
+unless None x = Ok x
+unless (Some fault) x = Err fault
+
+-- what stands after the items that were taken, or the fault that was answered
+abbrev pub standing : Held → Result Loading LoadFault
+standing h = unless h.fault (loading_of h.progress)
+
+-- what stands after one item more; a fault stays
+abbrev pub after : Result Loading LoadFault → Item → Result Loading LoadFault
+after (Ok s) item = told (take_item s item)
+after (Err fault) item = Err fault
+
+-- the image in what stands
+abbrev pub image_in : Result Loading LoadFault → Result Image LoadFault
+image_in (Ok s) = Ok s.image
+image_in (Err fault) = Err fault

@@ -1,0 +1,31 @@
+//! Why items are refused.
+
+ghost use Rattle.std.specs.Prelude.{◌≡◌};
+ghost use Rattle.mx_load.specs.Faults.{number_of};
+
+/// Why an item is refused.
+#[derive(Clone, Copy, Debug, PartialEq, Eq)]
+pub enum LoadFault {
+    /// Memory would have more than 65,536 pages.
+    PagesFull,
+    /// A tetra would lie at #6000000000000000 or above.
+    BadPlace,
+    /// A line before any file, or a file without a name whose number was never named.
+    NoFile,
+    /// There was no memory, or no room for a line above 4,294,967,295.
+    OutOfMemory,
+}
+
+impl LoadFault {
+    /// The number of the fault; 0 for want of memory.
+    pub fn number(&self) -> u16
+        ensures { result ≡ number_of self.now }
+    {
+        match self {
+            LoadFault::PagesFull => 90,
+            LoadFault::BadPlace => 95,
+            LoadFault::NoFile => 96,
+            LoadFault::OutOfMemory => 0,
+        }
+    }
+}

@@ -1,0 +1,201 @@
+//! What the items of an object set up.
+
+ghost use Rattle.std.specs.Prelude.{◌≡◌, ◌≢◌, ◌≤◌, ◌<◌, ◌/◌, ◌==◌, [], Ok, Err, OnOk, OnErr, IfErr, if◌then◌else◌};
+ghost use Rattle.mx_mem.specs.Memory.{page_count};
+ghost use Rattle.mx_mmo.specs.Meaning as spec;
+ghost use Rattle.mx_mmo.specs.Meaning.{nothing, lined, with_globals};
+ghost use Rattle.mx_load.specs.Faults.{told, given};
+ghost use Rattle.mx_load.specs.Kept.{image_of, line_at};
+
+use crate::LoadFault;
+use mx_mem::{MemFault, Memory};
+use mx_word::Symbols;
+use std::alloc::Global;
+use std::collections::BTreeMap;
+use std::marker::Model;
+
+/// Where the stack segment begins.
+const STACK: u64 = 0x6000_0000_0000_0000;
+
+/// Memory, the lines of its tetras, the global registers and the symbols of an object.
+#[derive(Drop)]
+pub struct Image {
+    memory: Memory,
+    lines: BTreeMap<u64, u32>,
+    g: u8,
+    globals: Vec<u64>,
+    symbols: Symbols,
+}
+
+impl Model for Image {
+    ghost use Rattle.std.specs.Prelude.{◌≤◌};
+    ghost use Rattle.mx_mem.specs.Memory.{page_count};
+    ghost use Rattle.mx_load.specs.Kept.{Kept};
+
+    ghost Value = { Kept };
+
+    ghost view = { λ m. record {
+      memory = m.memory;
+      lines = m.lines.entries;
+      g = m.g;
+      globals = m.globals.items;
+      symbols = m.symbols;
+    } };
+
+    ghost invariant = { λ m. page_count m.memory ≤ 65536 };
+}
+
+impl Image {
+    /// The memory.
+    pub fn memory(&self) -> &Memory
+        ensures value { result.now ≡ self.now.memory }
+        ensures few { page_count self.now.memory ≤ 65536 }
+    {
+        &self.memory
+    }
+
+    /// The memory, without the rest. It takes no memory.
+    pub fn into_memory(self) -> Memory
+        ensures value { result ≡ self.memory }
+        ensures few { page_count result ≤ 65536 }
+    {
+        self.memory
+    }
+
+    /// The line of the source that the tetra at an address came from; 0 where none is known. An
+    /// address within a tetra means that tetra.
+    pub fn line_of(&self, a: u64) -> u32
+        ensures { result ≡ (image_of self.now).line_of a }
+    {
+        line_in(&self.lines, a)
+    }
+
+    /// The number of the first global register.
+    pub fn g(&self) -> u8
+        ensures { result ≡ (image_of self.now).g }
+    {
+        self.g
+    }
+
+    /// The value of the global register $k; 0 where $k is not global.
+    pub fn global(&self, k: u8) -> u64
+        ensures value { self.now.g ≤ k → result ≡ (image_of self.now).global k }
+        ensures other { k < self.now.g → result ≡ 0 }
+    {
+        if k < self.g {
+            return 0;
+        }
+        self.globals
+            .get(usize::from(k - self.g))
+            .copied()
+            .unwrap_or(0)
+    }
+
+    /// The symbols.
+    pub fn symbols(&self) -> &Symbols
+        ensures { result.now ≡ self.now.symbols }
+    {
+        &self.symbols
+    }
+}
+
+/// What building an image needs.
+impl Image {
+    /// The image before the first item.
+    pub(crate) fn empty(alloc: Global) -> Image
+        ensures { image_of result ≡ nothing.image }
+    {
+        Image {
+            memory: Memory::new(alloc),
+            lines: BTreeMap::new(alloc),
+            g: 255,
+            globals: Vec::new(alloc),
+            symbols: Symbols::new(alloc),
+        }
+    }
+
+    /// Joins a tetra to the one that holds an address.
+    pub(crate) fn join(&mut self, a: u64, t: u32) -> Result<(), LoadFault>
+        ensures { result ≢ Err LoadFault.OutOfMemory →
+            given result (image_of self.new) ≡ told (spec.join (image_of self.old) a t) }
+    {
+        if a >= STACK {
+            return Err(LoadFault::BadPlace);
+        }
+        match self.memory.xor_tetra(a, t) {
+            Ok(()) => Ok(()),
+            Err(MemFault::PagesFull) => Err(LoadFault::PagesFull),
+            Err(MemFault::OutOfMemory) => Err(LoadFault::OutOfMemory),
+        }
+    }
+
+    /// Joins an octa to the tetra that holds an address and the next one.
+    pub(crate) fn join_octa(&mut self, a: u64, x: u64) -> Result<(), LoadFault>
+        ensures { result ≢ Err LoadFault.OutOfMemory →
+            given result (image_of self.new) ≡ told (spec.join_octa (image_of self.old) a x) }
+    {
+        let high = 4 * (a / 4);
+        let low = high.wrapping_add(4);
+        if high >= STACK || low >= STACK {
+            return Err(LoadFault::BadPlace);
+        }
+        match self.join(high, (x >> 32) as u32) {
+            Ok(()) => self.join(low, (x % (1 << 32)) as u32),
+            Err(fault) => Err(fault),
+        }
+    }
+
+    /// Notes the line of the tetra at an address.
+    pub(crate) fn note(&mut self, a: u64, line: u32) -> Result<(), LoadFault>
+        ensures ok { let m = image_of self.old in
+            OnOk result (image_of self.new ≡ record m { line_of = lined m.line_of a line }) }
+        ensures err { IfErr result (λ fault. fault ≡ LoadFault.OutOfMemory) }
+    {
+        put_line(&mut self.lines, a, line)
+    }
+
+    /// Gives $g to $255 their values.
+    pub(crate) fn set_globals(&mut self, g: u8, values: &[u64]) -> Result<(), LoadFault>
+        ensures ok { OnOk result (image_of self.new ≡ with_globals (image_of self.old) g values.now) }
+        ensures err { IfErr result (λ fault. fault ≡ LoadFault.OutOfMemory) }
+    {
+        self.globals.clear();
+        match self.globals.extend_from_slice(values) {
+            Ok(()) => {
+                self.g = g;
+                Ok(())
+            }
+            Err(_) => Err(LoadFault::OutOfMemory),
+        }
+    }
+
+    /// The image with these symbols.
+    pub(crate) fn with_symbols(self, symbols: Symbols) -> Image
+        ensures image { image_of result ≡ image_of self }
+        ensures symbols { result.symbols ≡ symbols }
+    {
+        let mut image = self;
+        image.symbols = symbols;
+        image
+    }
+}
+
+/// The line of the tetra that holds an address.
+#[tactic(auto, unfolding(crate::specs::Kept::line_at))]
+fn line_in(lines: &BTreeMap<u64, u32>, a: u64) -> u32
+    ensures { result ≡ line_at lines.now.entries a }
+{
+    lines.get(&(a / 4)).copied().unwrap_or(0)
+}
+
+/// Puts the line of the tetra that holds an address.
+#[tactic(auto, unfolding(crate::specs::Kept::line_at))]
+fn put_line(lines: &mut BTreeMap<u64, u32>, a: u64, line: u32) -> Result<(), LoadFault>
+    ensures ok { OnOk result (line_at lines.new.entries ≡ lined (line_at lines.old.entries) a line) }
+    ensures err { IfErr result (λ fault. fault ≡ LoadFault.OutOfMemory) }
+{
+    match lines.insert(a / 4, line) {
+        Ok(_) => Ok(()),
+        Err(_) => Err(LoadFault::OutOfMemory),
+    }
+}

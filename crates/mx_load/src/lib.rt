@@ -1,0 +1,19 @@
+//! The image that the items of an object set up: memory, the lines of its tetras, and the global
+//! registers.
+//!
+//! Tetras are joined to memory by exclusive or, so that what fixes them may come later (MMIXware,
+//! "Binary MMO output" in MMIXAL and "Loading an object file" in MMIX-SIM).
+#![tactic(auto)]
+
+mod fault;
+mod image;
+mod loader;
+mod progress;
+#[cfg(test)]
+mod tests;
+mod whole;
+
+pub use fault::LoadFault;
+pub use image::Image;
+pub use loader::Loader;
+pub use whole::load;

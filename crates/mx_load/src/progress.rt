@@ -1,0 +1,197 @@
+//! How far loading has come.
+
+ghost use Rattle.std.specs.Prelude.{◌≡◌, ◌≢◌, ◌≤◌, ◌+◌, ◌==◌, true, Ok, Err, if◌then◌else◌};
+ghost use Rattle.mx_mmo.specs.Meaning as spec;
+ghost use Rattle.mx_mmo.specs.Meaning.{nothing, after_load, with_image, with_name, noted, take_item};
+ghost use Rattle.mx_mmo.specs.Valid.{Fits};
+ghost use Rattle.mx_load.specs.Faults.{told, given};
+ghost use Rattle.mx_load.specs.Standing.{loading_of};
+
+use crate::{Image, LoadFault};
+use mx_mmo::Item;
+use mx_word::Bytes;
+use std::alloc::Global;
+use std::collections::BTreeSet;
+
+/// How far loading has come: the image so far, lambda, the line in force, whether a file is
+/// selected, and the numbers of the files that were named.
+#[derive(Drop)]
+pub struct Progress {
+    pub image: Image,
+    pub lambda: u64,
+    pub line: u32,
+    pub selected: bool,
+    pub named: BTreeSet<u8>,
+}
+
+/// The address so many tetras before another.
+fn back(a: u64, ahead: u32, behind: u32) -> u64
+    ensures { result ≡ spec.back a ahead behind }
+{
+    a.wrapping_sub(4 * u64::from(ahead))
+        .wrapping_add(4 * u64::from(behind))
+}
+
+/// The address that the word of a far fix tells.
+fn far_back(a: u64, bits: u8, word: u32) -> u64
+    requires { bits ≤ 24 }
+    ensures { result ≡ spec.far_back a bits word }
+{
+    if word >= 1 << 24 {
+        back(a, word % (1 << 24), 1 << bits)
+    } else {
+        back(a, word, 0)
+    }
+}
+
+impl Progress {
+    /// Nothing was taken so far.
+    pub fn new(alloc: Global) -> Progress
+        ensures { loading_of result ≡ nothing }
+    {
+        Progress {
+            image: Image::empty(alloc),
+            lambda: 0,
+            line: 0,
+            selected: false,
+            named: BTreeSet::new(alloc),
+        }
+    }
+
+    /// Notes the line in force for the tetra at lambda, and goes on to the next line.
+    fn count_line(&mut self) -> Result<(), LoadFault>
+        ensures { let s = loading_of self.old in result ≢ Err LoadFault.OutOfMemory →
+            given result (loading_of self.new) ≡ Ok (record s {
+              image = noted s s.image;
+              line = (if s.line == 0 then 0 else s.line + 1);
+            }) }
+    {
+        if self.line == 0 {
+            return Ok(());
+        }
+        if self.line == u32::MAX {
+            return Err(LoadFault::OutOfMemory);
+        }
+        match self.image.note(self.lambda, self.line) {
+            Ok(()) => {
+                self.line += 1;
+                Ok(())
+            }
+            Err(fault) => Err(fault),
+        }
+    }
+
+    /// Goes on behind the tetra that was joined at lambda.
+    fn advance(&mut self) -> Result<(), LoadFault>
+        ensures { let s = loading_of self.old in result ≢ Err LoadFault.OutOfMemory →
+            given result (loading_of self.new) ≡ told (after_load s (Ok s.image)) }
+    {
+        match self.count_line() {
+            Ok(()) => {
+                self.lambda = (4 * (self.lambda / 4)).wrapping_add(4);
+                Ok(())
+            }
+            Err(fault) => Err(fault),
+        }
+    }
+
+    /// Loads a tetra at lambda.
+    fn load(&mut self, t: u32) -> Result<(), LoadFault>
+        ensures { let s = loading_of self.old in result ≢ Err LoadFault.OutOfMemory →
+            given result (loading_of self.new) ≡ told (after_load s (spec.join s.image s.lambda t)) }
+    {
+        match self.image.join(self.lambda, t) {
+            Ok(()) => self.advance(),
+            Err(fault) => Err(fault),
+        }
+    }
+
+    /// Joins a tetra at an address.
+    fn fix(&mut self, a: u64, t: u32) -> Result<(), LoadFault>
+        ensures { let s = loading_of self.old in result ≢ Err LoadFault.OutOfMemory →
+            given result (loading_of self.new) ≡ told (with_image s (spec.join s.image a t)) }
+    {
+        self.image.join(a, t)
+    }
+
+    /// Joins lambda, as an octa, at an address.
+    fn fix_octa(&mut self, a: u64) -> Result<(), LoadFault>
+        ensures { let s = loading_of self.old in result ≢ Err LoadFault.OutOfMemory → given result
+            (loading_of self.new) ≡ told (with_image s (spec.join_octa s.image a s.lambda)) }
+    {
+        self.image.join_octa(a, self.lambda)
+    }
+
+    /// Selects a file that is named here.
+    fn select_named(&mut self, number: u8) -> Result<(), LoadFault>
+        ensures { let s = loading_of self.old in result ≢ Err LoadFault.OutOfMemory →
+            given result (loading_of self.new) ≡ Ok (record s {
+              selected = true;
+              named = with_name s.named number;
+            }) }
+    {
+        match self.named.insert(number) {
+            Ok(_) => {
+                self.selected = true;
+                Ok(())
+            }
+            Err(_) => Err(LoadFault::OutOfMemory),
+        }
+    }
+
+    /// Selects a file, which is named here or has to have been named before.
+    fn select(&mut self, number: u8, name: &Option<Bytes>) -> Result<(), LoadFault>
+        ensures { result ≢ Err LoadFault.OutOfMemory → given result (loading_of self.new)
+            ≡ told (spec.select (loading_of self.old) number name.now) }
+    {
+        if name.is_some() {
+            return self.select_named(number);
+        }
+        if !self.named.contains(&number) {
+            return Err(LoadFault::NoFile);
+        }
+        self.selected = true;
+        Ok(())
+    }
+
+    /// Sets the line in force, for which a file has to be selected.
+    fn set_line(&mut self, n: u16) -> Result<(), LoadFault>
+        ensures { let s = loading_of self.old in given result (loading_of self.new)
+            ≡ told (if s.selected then Ok (record s { line = n }) else Err spec.NoFile) }
+    {
+        if !self.selected {
+            return Err(LoadFault::NoFile);
+        }
+        self.line = u32::from(n);
+        Ok(())
+    }
+
+    /// Takes the next item.
+    pub fn take(&mut self, item: &Item) -> Result<(), LoadFault>
+        requires { Fits item.now }
+        ensures { result ≢ Err LoadFault.OutOfMemory →
+            given result (loading_of self.new) ≡ told (take_item (loading_of self.old) item.now) }
+    {
+        match item {
+            Item::Load(t) => self.load(*t),
+            Item::Loc(a) => {
+                self.lambda = *a;
+                Ok(())
+            }
+            Item::Skip(n) => {
+                self.lambda = self.lambda.wrapping_add(u64::from(*n));
+                Ok(())
+            }
+            Item::FixOcta(a) => self.fix_octa(*a),
+            Item::FixNear(n) => {
+                let n = u32::from(*n);
+                self.fix(back(self.lambda, n, 0), n)
+            }
+            Item::FixFar { bits, word } => self.fix(far_back(self.lambda, *bits, *word), *word),
+            Item::File { number, name } => self.select(*number, name),
+            Item::Line(n) => self.set_line(*n),
+            Item::Post { g, values } => self.image.set_globals(*g, values.as_slice()),
+            Item::Spec(_) | Item::Pre(_) | Item::Stab => Ok(()),
+        }
+    }
+}

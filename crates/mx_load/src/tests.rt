@@ -1,0 +1,355 @@
+//! Items from outside; octas and addresses were computed with another tool.
+
+ghost use Rattle.std.specs.Prelude.{◌≡◌, ◌∷◌, [], IfSome};
+ghost use Rattle.mx_mmo.specs.Valid.{Fits};
+
+use crate::{Image, LoadFault, Loader, load};
+use mx_mmo::{Item, Octas, Words};
+use mx_word::{Bytes, Symbol, Symbols, Value};
+use std::alloc::Global;
+use std::process::Abort;
+
+/// An item of a row.
+#[derive(Clone, Copy)]
+enum Row {
+    Load(u32),
+    Loc(u64),
+    Skip(u16),
+    FixOcta(u64),
+    FixNear(u16),
+    /// Of 16 and of 24 bits.
+    Fix16(u32),
+    Fix24(u32),
+    /// A file without a name, and one with a name.
+    File(u8),
+    Named(u8),
+    Line(u16),
+    Spec(u16),
+    Pre,
+    /// The values of $254 and $255.
+    Post(u64, u64),
+    Stab,
+}
+
+use Row::*;
+
+/// The item of a row; nothing where there is no memory, or where the word of a far fix is too big.
+fn item_of(alloc: Global, row: Row) -> Option<Item>
+    ensures { IfSome result Fits }
+{
+    Some(match row {
+        Load(t) => Item::Load(t),
+        Loc(a) => Item::Loc(a),
+        Skip(n) => Item::Skip(n),
+        FixOcta(a) => Item::FixOcta(a),
+        FixNear(n) => Item::FixNear(n),
+        Fix16(word) if word < 1 << 25 => Item::FixFar { bits: 16, word },
+        Fix24(word) if word < 1 << 25 => Item::FixFar { bits: 24, word },
+        Fix16(_) | Fix24(_) => return None,
+        File(number) => Item::File { number, name: None },
+        Named(number) => {
+            let name = Bytes::copy(alloc, b"a").ok()?;
+            Item::File {
+                number,
+                name: Some(name),
+            }
+        }
+        Line(n) => Item::Line(n),
+        Spec(n) => Item::Spec(n),
+        Pre => Item::Pre(Words::new(alloc)),
+        Post(x, y) => Item::Post {
+            g: 254,
+            values: two(alloc, x, y)?,
+        },
+        Stab => Item::Stab,
+    })
+}
+
+/// A list of two octas.
+fn two(alloc: Global, x: u64, y: u64) -> Option<Octas>
+    ensures { IfSome result (λ octas. octas ≡ x ∷ y ∷ []) }
+{
+    let mut octas = Octas::new(alloc);
+    octas.push(x).ok()?;
+    octas.push(y).ok()?;
+    Some(octas)
+}
+
+/// The image of rows.
+fn image_of_rows(alloc: Global, rows: &[Row]) -> Result<Image, LoadFault> {
+    let mut loader = Loader::new(alloc);
+    for row in rows {
+        match item_of(alloc, *row) {
+            Some(item) => loader.take(&item)?,
+            None => return Err(LoadFault::OutOfMemory),
+        }
+    }
+    loader.finish(Symbols::new(alloc))
+}
+
+/// The image of a small program: `hi` and a newline at #100, and three instructions.
+fn small(alloc: Global) -> Option<Image> {
+    let mut values = Octas::new(alloc);
+    values.push(0x104).ok()?;
+    let mut symbols = Symbols::new(alloc);
+    let name = Bytes::copy(alloc, b":Main").ok()?;
+    symbols
+        .push(Symbol {
+            name,
+            value: Value::Pure(0x104),
+            serial: 1,
+        })
+        .ok()?;
+    let items = [
+        Item::Pre(Words::new(alloc)),
+        Item::Loc(0x100),
+        Item::Load(0x6869_0a00),
+        Item::Load(0xf5ff_ffff),
+        Item::Load(0x0000_0701),
+        Item::Load(0),
+        Item::Post { g: 255, values },
+        Item::Stab,
+    ];
+    load(alloc, &items, symbols).ok()
+}
+
+/// Whether the only symbol has the value of the small program's Main.
+fn is_main(symbols: &[Symbol]) -> bool {
+    match symbols {
+        [symbol] => symbol.value == Value::Pure(0x104),
+        _ => false,
+    }
+}
+
+#[test]
+fn small_program(rt: HostRuntime) {
+    let image = small(rt.alloc()).expect(&rt, "memory");
+    assert_eq!(rt; image.memory().load(0x100), 0x6869_0a00_f5ff_ffff);
+    assert_eq!(rt; image.memory().load(0x108), 0x0000_0701_0000_0000);
+    assert_eq!(rt; image.memory().pages(), 1);
+    assert_eq!(rt; image.line_of(0x104), 0);
+    assert_eq!(rt;
+        (image.g(), image.global(255), image.global(254)),
+        (255, 0x104, 0)
+    );
+    assert!(rt; is_main(image.symbols().as_slice()));
+    assert_eq!(rt; image.into_memory().load(0x10f), 0x0000_0701_0000_0000);
+}
+
+/// Sees that an image has these octas at these addresses.
+fn has_octas(rt: &impl Abort, image: &Image, octas: &[(u64, u64)]) {
+    for (a, x) in octas {
+        assert!(rt; *a < 1 << 63);
+        assert_eq!(rt; image.memory().load(*a), *x, "at {a}");
+    }
+}
+
+/// Sees that an image has these lines at these addresses.
+fn has_lines(rt: &impl Abort, image: &Image, lines: &[(u64, u32)]) {
+    for (a, line) in lines {
+        assert_eq!(rt; image.line_of(*a), *line, "of {a}");
+    }
+}
+
+#[test]
+fn images(rt: HostRuntime) {
+    // items; octas by their addresses; pages; lines by addresses
+    let rows: [(&[Row], &[(u64, u64)], u32, &[(u64, u32)]); 14] = [
+        // tetras at one place are joined, and after an odd place the next tetra is loaded
+        (
+            &[
+                Loc(0x2000_0000_0000_0001),
+                Load(0x0100_0000),
+                Loc(0x2000_0000_0000_0002),
+                Load(0x0300_0000),
+                Load(0xff),
+            ],
+            &[(0x2000_0000_0000_0000, 0x0200_0000_0000_00ff)],
+            1,
+            &[],
+        ),
+        (
+            &[Loc(0xfff), Load(1), Load(2), Skip(9), Load(3)],
+            &[(0xff8, 1), (0x1000, 0x2_0000_0000), (0x1008, 3)],
+            2,
+            &[],
+        ),
+        // lambda, as an octa, at a tetra and the next
+        (
+            &[Loc(0x1234_5678_9abc_def0), FixOcta(0x106)],
+            &[(0x100, 0x1234_5678), (0x108, 0x9abc_def0_0000_0000)],
+            1,
+            &[],
+        ),
+        // a fix changes neither lambda nor the lines
+        (
+            &[Named(1), Line(7), Loc(0x110), FixOcta(0x100), Load(5)],
+            &[(0x100, 0x110), (0x110, 0x5_0000_0000)],
+            1,
+            &[(0x100, 0), (0x104, 0), (0x110, 7)],
+        ),
+        // two tetras back; three back; one ahead; two ahead; ahead over the end of all addresses
+        (
+            &[Loc(0x110), FixNear(2)],
+            &[(0x108, 0x2_0000_0000), (0x110, 0)],
+            1,
+            &[],
+        ),
+        (&[Loc(0x110), Fix24(3)], &[(0x100, 3)], 1, &[]),
+        (
+            &[Loc(0x100), Fix24(0x01ff_ffff)],
+            &[(0x100, 0x01ff_ffff)],
+            1,
+            &[],
+        ),
+        (
+            &[Loc(0x100), Fix16(0x0100_fffe)],
+            &[(0x108, 0x0100_fffe_0000_0000)],
+            1,
+            &[],
+        ),
+        (
+            &[Loc(0xffff_ffff_ffff_fff8), Fix24(0x01ff_fffe)],
+            &[(0, 0x01ff_fffe_0000_0000)],
+            1,
+            &[],
+        ),
+        // the line in force grows by 1 with each tetra; line 0 is none
+        (
+            &[
+                Named(1),
+                Line(5),
+                Loc(0x102),
+                Load(1),
+                Load(2),
+                Line(0),
+                Load(3),
+            ],
+            &[(0x100, 0x1_0000_0002), (0x108, 0x3_0000_0000)],
+            1,
+            &[
+                (0xff, 0),
+                (0x100, 5),
+                (0x103, 5),
+                (0x104, 6),
+                (0x107, 6),
+                (0x108, 0),
+            ],
+        ),
+        // the last line of a tetra counts, and no line keeps the one before
+        (
+            &[
+                Named(1),
+                Line(5),
+                Load(1),
+                Loc(0),
+                Line(9),
+                Load(2),
+                Loc(0),
+                Line(0),
+                Load(4),
+            ],
+            &[(0, 0x7_0000_0000)],
+            1,
+            &[(0, 9)],
+        ),
+        // a file that was named is selected again; a tetra of 0 begins its page
+        (
+            &[Named(3), Named(4), File(3), Line(1), Load(0)],
+            &[(0, 0)],
+            1,
+            &[(0, 1)],
+        ),
+        // items that change nothing
+        (&[Pre, Spec(80), Stab], &[], 0, &[]),
+        // the last tetra below the stack segment
+        (
+            &[
+                Loc(0x5fff_ffff_ffff_ffff),
+                Load(1),
+                FixOcta(0x5fff_ffff_ffff_fff8),
+            ],
+            &[(0x5fff_ffff_ffff_fff8, 0x6000_0000_0000_0001)],
+            1,
+            &[],
+        ),
+    ];
+    let alloc = rt.alloc();
+    for (rows, octas, pages, lines) in rows {
+        let image = image_of_rows(alloc, rows).expect(&rt, "no fault");
+        has_octas(&rt, &image, octas);
+        assert_eq!(rt; image.memory().pages(), pages);
+        has_lines(&rt, &image, lines);
+    }
+}
+
+#[test]
+fn registers(rt: HostRuntime) {
+    let image = image_of_rows(rt.alloc(), &[Post(7, 0x100)]).expect(&rt, "no fault");
+    assert_eq!(rt; image.g(), 254);
+    for (k, x) in [(253, 0), (254, 7), (255, 0x100)] {
+        assert_eq!(rt; image.global(k), x, "in {k}");
+    }
+}
+
+#[test]
+fn faults(rt: HostRuntime) {
+    let rows: [(&[Row], u16); 9] = [
+        // in the stack segment: at its first tetra, loaded behind the last tetra below it, by half
+        // of an octa, and at the end of all addresses
+        (&[Loc(0x6000_0000_0000_0000), Load(0)], 95),
+        (&[Loc(0x5fff_ffff_ffff_ffff), Load(1), Load(2)], 95),
+        (&[FixOcta(0x5fff_ffff_ffff_fffc)], 95),
+        (&[FixOcta(0xffff_ffff_ffff_ffff)], 95),
+        (&[FixNear(1)], 95),
+        // a line before any file; a file that was never named
+        (&[Line(1), Named(1)], 96),
+        (&[Line(0)], 96),
+        (&[File(0)], 96),
+        (&[Named(1), File(2)], 96),
+    ];
+    let alloc = rt.alloc();
+    for (rows, number) in rows {
+        let fault = image_of_rows(alloc, rows).err().expect(&rt, "a fault");
+        assert_eq!(rt; fault.number(), number);
+    }
+    assert_eq!(rt;
+        (
+            LoadFault::PagesFull.number(),
+            LoadFault::OutOfMemory.number()
+        ),
+        (90, 0)
+    );
+}
+
+/// A loader whose memory has as many pages as there may be.
+fn full(alloc: Global) -> Result<Loader, LoadFault> {
+    let mut loader = Loader::new(alloc);
+    for page in 0..65536 {
+        loader.take(&Item::Loc(page * 4096))?;
+        loader.take(&Item::Load(1))?;
+    }
+    Ok(loader)
+}
+
+#[test]
+fn full_memory(rt: HostRuntime) {
+    let alloc = rt.alloc();
+    let mut loader = full(alloc).expect(&rt, "memory");
+    assert_eq!(rt; loader.take(&Item::Load(2)), Ok(()));
+    assert_eq!(rt; loader.take(&Item::Loc(1 << 40)), Ok(()));
+    assert_eq!(rt; loader.take(&Item::Load(0)), Err(LoadFault::PagesFull));
+    // the fault is answered again
+    assert_eq!(rt; loader.take(&Item::Loc(0)), Err(LoadFault::PagesFull));
+    assert_eq!(rt; loader.take(&Item::Line(1)), Err(LoadFault::PagesFull));
+    assert_eq!(rt;
+        loader.finish(Symbols::new(alloc)).err(),
+        Some(LoadFault::PagesFull)
+    );
+    // an octa that would lie in the stack segment by half is refused for that
+    let mut loader = full(alloc).expect(&rt, "memory");
+    assert_eq!(rt;
+        loader.take(&Item::FixOcta(0x5fff_ffff_ffff_fffc)),
+        Err(LoadFault::BadPlace)
+    );
+}
