@@ -2,10 +2,15 @@
 #![tactic(auto)]
 
 mod faults;
+mod joining;
+mod kinds;
 mod known;
 mod operators;
+mod parsing;
+mod reader;
 mod tree;
 mod valuing;
+mod waiting;
 
 pub use faults::ExprFault;
 pub use known::Known;
