@@ -1,10 +1,10 @@
 -- Reading goes on byte by byte.
-use Rattle.std.proofs.Common.{◌≡◌, ℕ, zero, suc, ◌+◌, ◌<◌, ◌≤◌, List, [], ◌∷◌, ◌++◌, Result, Ok, Err, refl, ap, sym, ◌∙◌, arith, length, drop, get_or, add-one}
+use Rattle.std.proofs.Common.{◌≡◌, ℕ, ◌+◌, ◌<◌, ◌≤◌, List, [], ◌∷◌, Ok, Err, refl, ap, sym, ◌∙◌, arith, length, drop, get_or, add-one}
 use Rattle.std.proofs.Math.Seq.{drop-cons}
 use Rattle.std.proofs.Math.ListN.{drop_of_length-le}
 use Rattle.mx_expr.specs.Tree.{Tree}
 use Rattle.mx_expr.specs.declared.faults.ExprFault.{ExprFault}
-use Rattle.mx_expr.specs.Reading.{Mode, Waiting, bounded, finished, reading, State, Read, step, steps, and_then, start}
+use Rattle.mx_expr.specs.Reading.{Mode, Waiting, bounded, finished, reading, State, step, steps, start}
 
 pub steps-more : (s t : State) (xs : List ℕ) (i : ℕ) → i < length xs → step s (get_or xs i 0) ≡ Ok t → steps s (drop i xs) ≡ steps t (drop (i + 1) xs)
 unfolding steps

@@ -1,6 +1,5 @@
 -- What is left to do while an expression is valued, from what comes last to what comes next.
 use Rattle.std.specs.Prelude.{◌≡◌, ◌≢◌, ℕ, ◌+◌, ◌≤◌, List, [], ◌∷◌, Result, Ok, Err}
-use Rattle.mx_word.specs.declared.symbols.Value.{Value}
 use Rattle.mx_expr.specs.declared.faults.ExprFault.{ExprFault}
 use Rattle.mx_expr.specs.declared.faults.ExprFault.TheVariants.{OutOfMemory}
 use Rattle.mx_expr.specs.declared.valuing.Frame.{Frame}

@@ -1,5 +1,5 @@
 -- What is kept while a field is read, without where it lies in memory.
-use Rattle.std.specs.Prelude.{ℕ, List, [], ◌∷◌, map, Bool, true, false, Option, None, Some, Result, Ok, Err}
+use Rattle.std.specs.Prelude.{List, [], ◌∷◌, map, Bool, true, false, Option, None, Some, Result, Ok, Err}
 use Rattle.mx_expr.specs.declared.faults.ExprFault.{ExprFault}
 use Rattle.mx_expr.specs.declared.tree.Expr.{Expr}
 use Rattle.mx_expr.specs.declared.tree.UnOp.{UnOp}

@@ -8,11 +8,14 @@ mod known;
 mod operators;
 mod parsing;
 mod reader;
+#[cfg(test)]
+mod tests;
 mod tree;
 mod valuing;
 mod waiting;
 
 pub use faults::ExprFault;
 pub use known::Known;
+pub use parsing::{one_fault, one_list, parse_list};
 pub use tree::{BinOp, Expr, Exprs, UnOp};
 pub use valuing::value;

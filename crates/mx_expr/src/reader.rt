@@ -221,7 +221,7 @@ impl Reader {
     }
 
     /// One more byte, where it passes no bound.
-    pub(crate) fn take(&mut self, mode: Mode, b: u8) -> Result<Mode, ExprFault>
+    fn take(&mut self, mode: Mode, b: u8) -> Result<Mode, ExprFault>
         requires { spec.passes (mode_of mode) self.old.depth b ≡ None }
         ensures { result ≢ Err ExprFault.OutOfMemory → reading_of result self.new ≡ spec.moved (mode_of mode) (all_waiting self.old.waiting) self.old.depth (trees_of self.old.done) b }
     {
@@ -229,65 +229,107 @@ impl Reader {
             Mode::Operand => self.begin(b),
             Mode::Whole(e) => self.after(e, b),
             Mode::Digit(n) => self.take_digit(n, b),
-            Mode::Decimal(n) => {
-                if is_digit(b) {
-                    Ok(Mode::Decimal(n * 10 + u64::from(b - b'0')))
-                } else {
-                    self.beyond(Expr::Number(n), b)
-                }
-            }
-            Mode::Hash => {
-                if is_hexadecimal(b) {
-                    Ok(Mode::Hexadecimal(u64::from(digit_value(b))))
-                } else {
-                    Err(ExprFault::Syntax)
-                }
-            }
-            Mode::Hexadecimal(n) => {
-                if is_hexadecimal(b) {
-                    Ok(Mode::Hexadecimal(n * 16 + u64::from(digit_value(b))))
-                } else {
-                    self.beyond(Expr::Number(n), b)
-                }
-            }
+            Mode::Decimal(n) => self.take_decimal(n, b),
+            Mode::Hash => self.take_hash(b),
+            Mode::Hexadecimal(n) => self.take_hexadecimal(n, b),
             Mode::Quote => Ok(Mode::Character(b)),
-            Mode::Character(c) => {
-                if b == b'\'' {
-                    self.complete(Expr::Number(u64::from(c)))
-                } else {
-                    Err(ExprFault::Syntax)
-                }
-            }
-            Mode::Symbol(text) => {
-                if is_word(b) {
-                    self.lengthen(text, b)
-                } else {
-                    self.beyond(Expr::Name(text), b)
-                }
-            }
+            Mode::Character(c) => self.take_character(c, b),
+            Mode::Symbol(text) => self.take_symbol(text, b),
             Mode::Slash(e) => self.take_slash(e, b),
-            Mode::Less(e) => {
-                if b == b'<' {
-                    self.wait(Waiting::Strong(BinOp::Left, e))
-                } else {
-                    Err(ExprFault::Syntax)
-                }
-            }
-            Mode::Greater(e) => {
-                if b == b'>' {
-                    self.wait(Waiting::Strong(BinOp::Right, e))
-                } else {
-                    Err(ExprFault::Syntax)
-                }
-            }
+            Mode::Less(e) => self.take_less(e, b),
+            Mode::Greater(e) => self.take_greater(e, b),
             Mode::String(_) => self.take_string(b),
-            Mode::Closed => {
-                if b == b',' {
-                    Ok(Mode::Operand)
-                } else {
-                    Err(ExprFault::Syntax)
-                }
-            }
+            Mode::Closed => self.take_comma(b),
+        }
+    }
+
+    /// A byte in a decimal constant, or after it.
+    fn take_decimal(&mut self, n: u64, b: u8) -> Result<Mode, ExprFault>
+        requires { spec.passes (spec.decimal n) self.old.depth b ≡ None }
+        ensures { result ≢ Err ExprFault.OutOfMemory → reading_of result self.new ≡ spec.moved (spec.decimal n) (all_waiting self.old.waiting) self.old.depth (trees_of self.old.done) b }
+    {
+        if is_digit(b) {
+            Ok(Mode::Decimal(n * 10 + u64::from(b - b'0')))
+        } else {
+            self.beyond(Expr::Number(n), b)
+        }
+    }
+
+    /// The first hexadecimal digit.
+    fn take_hash(&mut self, b: u8) -> Result<Mode, ExprFault>
+        ensures { result ≢ Err ExprFault.OutOfMemory → reading_of result self.new ≡ spec.moved spec.hash (all_waiting self.old.waiting) self.old.depth (trees_of self.old.done) b }
+    {
+        if is_hexadecimal(b) {
+            Ok(Mode::Hexadecimal(u64::from(digit_value(b))))
+        } else {
+            Err(ExprFault::Syntax)
+        }
+    }
+
+    /// A byte in a hexadecimal constant, or after it.
+    fn take_hexadecimal(&mut self, n: u64, b: u8) -> Result<Mode, ExprFault>
+        requires { spec.passes (spec.hexadecimal n) self.old.depth b ≡ None }
+        ensures { result ≢ Err ExprFault.OutOfMemory → reading_of result self.new ≡ spec.moved (spec.hexadecimal n) (all_waiting self.old.waiting) self.old.depth (trees_of self.old.done) b }
+    {
+        if is_hexadecimal(b) {
+            Ok(Mode::Hexadecimal(n * 16 + u64::from(digit_value(b))))
+        } else {
+            self.beyond(Expr::Number(n), b)
+        }
+    }
+
+    /// The end of a character constant.
+    fn take_character(&mut self, c: u8, b: u8) -> Result<Mode, ExprFault>
+        ensures { result ≢ Err ExprFault.OutOfMemory → reading_of result self.new ≡ spec.moved (spec.character c) (all_waiting self.old.waiting) self.old.depth (trees_of self.old.done) b }
+    {
+        if b == b'\'' {
+            self.complete(Expr::Number(u64::from(c)))
+        } else {
+            Err(ExprFault::Syntax)
+        }
+    }
+
+    /// A byte in a symbol, or after it.
+    fn take_symbol(&mut self, text: Bytes, b: u8) -> Result<Mode, ExprFault>
+        ensures { result ≢ Err ExprFault.OutOfMemory → reading_of result self.new ≡ spec.moved (spec.symbol text) (all_waiting self.old.waiting) self.old.depth (trees_of self.old.done) b }
+    {
+        if is_word(b) {
+            self.lengthen(text, b)
+        } else {
+            self.beyond(Expr::Name(text), b)
+        }
+    }
+
+    /// The second byte of `<<`.
+    fn take_less(&mut self, left: Expr, b: u8) -> Result<Mode, ExprFault>
+        ensures { result ≢ Err ExprFault.OutOfMemory → reading_of result self.new ≡ spec.moved (spec.less (tree_of left)) (all_waiting self.old.waiting) self.old.depth (trees_of self.old.done) b }
+    {
+        if b == b'<' {
+            self.wait(Waiting::Strong(BinOp::Left, left))
+        } else {
+            Err(ExprFault::Syntax)
+        }
+    }
+
+    /// The second byte of `>>`.
+    fn take_greater(&mut self, left: Expr, b: u8) -> Result<Mode, ExprFault>
+        ensures { result ≢ Err ExprFault.OutOfMemory → reading_of result self.new ≡ spec.moved (spec.greater (tree_of left)) (all_waiting self.old.waiting) self.old.depth (trees_of self.old.done) b }
+    {
+        if b == b'>' {
+            self.wait(Waiting::Strong(BinOp::Right, left))
+        } else {
+            Err(ExprFault::Syntax)
+        }
+    }
+
+    /// The comma after a string.
+    fn take_comma(&mut self, b: u8) -> Result<Mode, ExprFault>
+        ensures { result ≢ Err ExprFault.OutOfMemory → reading_of result self.new ≡ spec.moved spec.closed (all_waiting self.old.waiting) self.old.depth (trees_of self.old.done) b }
+    {
+        if b == b',' {
+            Ok(Mode::Operand)
+        } else {
+            Err(ExprFault::Syntax)
         }
     }
 

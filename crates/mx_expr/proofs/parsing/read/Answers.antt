@@ -1,4 +1,4 @@
-use Rattle.std.proofs.Common.{◌≡◌, sym}
+use Rattle.std.proofs.Common.{sym}
 use Rattle.mx_expr.proofs.StepLaws.{reading-stop}
 use Rattle.mx_expr.proofs.parsing.read.Goals as goal
 

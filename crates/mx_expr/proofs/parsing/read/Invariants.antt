@@ -1,4 +1,4 @@
-use Rattle.std.proofs.Common.{◌≡◌, Ok, drop}
+use Rattle.std.proofs.Common.{◌≡◌, drop}
 use Rattle.mx_expr.specs.Tree.{trees_of}
 use Rattle.mx_expr.specs.Reading.{steps, start}
 use Rattle.mx_expr.specs.Machine.{mode_of, all_waiting}
