@@ -1,0 +1,156 @@
+-- The bounds: where one is passed, and what it does to reading.
+use Rattle.std.proofs.Common.{◌≡◌, ℕ, ◌+◌, ◌-◌, ◌*◌, ◌^◌, ◌≤◌, List, [], ◌∷◌, ◌++◌, length, Bool, true, false, cond, Option, Some, None, Ok, refl, sym, ap, ◌∙◌, arith, append_assoc, subst, length-append}
+use Rattle.std.specs.Prelude.{◌==◌, ◌&&◌, nat_le}
+use Rattle.std.proofs.lemmas.Bool.{eqb-true, leb-true}
+use Rattle.mx_expr.specs.declared.faults.ExprFault.{ExprFault}
+use Rattle.mx_expr.specs.declared.faults.ExprFault.TheVariants.{TooWide, TooDeep, EmptyString}
+use Rattle.mx_expr.specs.declared.tree.BinOp.TheVariants.{Div}
+use Rattle.mx_expr.specs.Tree.{Tree}
+use Rattle.mx_expr.specs.Bytes.{is_digit, is_hexadecimal, digit_value}
+use Rattle.mx_expr.specs.Reading.{Waiting, strong, parenthesis, Mode, operand, whole, digit, decimal, hash, hexadecimal, quote, character, symbol, slash, less, greater, string, closed, State, passes, too_wide, too_deep}
+use Rattle.mx_expr.specs.Spelling.{digits_value, Constant, Before, FaultAt}
+use Rattle.mx_expr.specs.Spelling.Constant.{decimal as decimal_digits, hexadecimal as hexadecimal_digits}
+use Rattle.mx_expr.specs.Spelling.StrongOperator.{div}
+use Rattle.mx_expr.specs.Spelling.FaultAt.{too_wide as stands_wide, too_deep as stands_deep, empty_string as stands_empty}
+use Rattle.mx_expr.proofs.Moves.{st, move}
+use Rattle.mx_expr.proofs.Partial.{Partial, partial-before}
+use Rattle.mx_expr.proofs.Holds.{Digits, Hashed, is_empty, At, Holds, Place, value-of-digit}
+use Rattle.mx_expr.proofs.Steps.{digits-longer}
+
+-- where a bound is passed
+pub record Passed (field front : List ℕ) (f : ExprFault) : Type 0 where
+  pub place : ℕ
+  pub stands : FaultAt field f place
+  pub near : place ≤ length front
+  pub before_quote : f ≡ EmptyString → place + 1 ≤ length front
+  pub wide : f ≡ TooWide → (d : ℕ) × (before : List ℕ) × (text : List ℕ) × Before d before × (front ≡ before ++ text) × (place ≡ length before)
+
+some-when : (c : Bool) (x y : ExprFault) → cond c (Some x) None ≡ Some y → (c ≡ true) × (x ≡ y)
+some-when true x y h = (refl, cc)
+some-when false x y h = absurd (cc)
+
+and-first : (a b : Bool) → (a && b) ≡ true → a ≡ true
+and-first true b h = refl
+and-first false b h = h
+
+and-second : (a b : Bool) → (a && b) ≡ true → b ≡ true
+and-second true b h = h
+and-second false b h = absurd (cc)
+
+deep-passed : (front rest : List ℕ) (d b : ℕ) (f : ExprFault) → Before d front → too_deep d b ≡ Some f → Passed (front ++ b ∷ rest) front f
+deep-passed front rest d b f h e =
+    let w = some-when (b == 40 && nat_le 255 d) TooDeep f e in
+    let byte : b ≡ 40 = eqb-true b 40 (and-first (b == 40) (nat_le 255 d) w.0) in
+    let deep : 255 ≤ d = leb-true 255 d (and-second (b == 40) (nat_le 255 d) w.0) in
+    let same : TooDeep ≡ f = w.1 in
+    subst (λ x. Passed (front ++ b ∷ rest) front x) same
+    (record {
+      place = length front;
+      stands = subst (λ x. FaultAt (front ++ x ∷ rest) TooDeep (length front)) (sym byte) (stands_deep front rest d h deep);
+      near = omega arith;
+      before_quote = λ q. absurd (cc);
+      wide = λ q. absurd (cc);
+    })
+
+wide-passed : (front text f q rest : List ℕ) (es : List Tree) (k : List Waiting) (d b n : ℕ) (fault : ExprFault) (part : List ℕ) → Place front text part es → Partial k d f → part ≡ f ++ q → Constant (q ++ b ∷ []) n → too_wide n ≡ Some fault →
+    Passed (front ++ b ∷ rest) front fault
+wide-passed front text f q rest es k d b n fault part p h s c e =
+    let w = some-when (nat_le (2 ^ 64) n) TooWide fault e in
+    let wide : 2 ^ 64 ≤ n = leb-true (2 ^ 64) n w.0 in
+    let whole : front ≡ (text ++ f) ++ q = p.spelled ∙ ap (λ t. text ++ t) s ∙ sym (append_assoc text f q) in
+    let field : (text ++ f) ++ ((q ++ b ∷ []) ++ rest) ≡ front ++ b ∷ rest = ap (λ t. (text ++ f) ++ t) (append_assoc q (b ∷ []) rest) ∙ sym (append_assoc (text ++ f) q (b ∷ rest)) ∙ ap (λ t. t ++ b ∷ rest) (sym whole) in
+    let before : Before d (text ++ f) = partial-before text es p.before k d f h in
+    subst (λ x. Passed (front ++ b ∷ rest) front x) w.1
+    (record {
+      place = length (text ++ f);
+      stands = subst (λ x. FaultAt x TooWide (length (text ++ f))) field (stands_wide (text ++ f) (q ++ b ∷ []) rest d n before c wide);
+      near = omega (arith, ap length whole, length-append (text ++ f) q);
+      before_quote = λ u. absurd (cc);
+      wide = λ u. (d, text ++ f, q, before, whole, refl);
+    })
+
+decimal-constant : (n b : ℕ) (q : List ℕ) → Digits is_digit 10 n q → is_digit b ≡ true → Constant (q ++ b ∷ []) (n * 10 + (b - 48))
+decimal-constant n b q h k =
+    let l = digits-longer is_digit 10 n b q h k in
+    let e : digits_value 10 (q ++ b ∷ []) ≡ n * 10 + (b - 48) = sym l.value ∙ ap (λ v. n * 10 + v) (sym (value-of-digit b k)) in
+    subst (Constant (q ++ b ∷ [])) e (decimal_digits (q ++ b ∷ []) l.some l.all)
+
+hexadecimal-constant : (n b : ℕ) (q : List ℕ) → Hashed n q → is_hexadecimal b ≡ true → Constant (q ++ b ∷ []) (n * 16 + digit_value b)
+hexadecimal-constant n b q h k =
+    let l = digits-longer is_hexadecimal 16 n b h.digits h.are k in
+    subst (λ t. Constant (t ++ b ∷ []) (n * 16 + digit_value b)) (sym h.spelled) (subst (Constant (35 ∷ (h.digits ++ b ∷ []))) (sym l.value) (hexadecimal_digits (h.digits ++ b ∷ []) l.some l.all))
+
+quote-passed : (front text rest bytes : List ℕ) (es : List Tree) (b : ℕ) (f : ExprFault) (part : List ℕ) → Place front text part es → part ≡ 34 ∷ bytes → true ≡ is_empty bytes → cond (b == 34) (Some EmptyString) None ≡ Some f → Passed (front ++ b ∷ rest) front f
+quote-passed front text rest [] es b f part p s e h =
+    let w = some-when (b == 34) EmptyString f h in
+    let byte : b ≡ 34 = eqb-true b 34 w.0 in
+    let whole : front ≡ text ++ 34 ∷ [] = p.spelled ∙ ap (λ t. text ++ t) s in
+    let field : text ++ 34 ∷ 34 ∷ rest ≡ front ++ b ∷ rest = sym (append_assoc text (34 ∷ []) (34 ∷ rest)) ∙ ap (λ t. t ++ 34 ∷ rest) (sym whole) ∙ ap (λ x. front ++ x ∷ rest) (sym byte) in
+    subst (λ x. Passed (front ++ b ∷ rest) front x) w.1
+    (record {
+      place = length text;
+      stands = subst (λ x. FaultAt x EmptyString (length text)) field (stands_empty text rest es p.before);
+      near = omega (arith, ap length whole, length-append text (34 ∷ []));
+      before_quote = λ q. omega (arith, ap length whole, length-append text (34 ∷ []));
+      wide = λ q. absurd (cc);
+    })
+quote-passed front text rest (x ∷ xs) es b f part p s e h = absurd (cc)
+
+chosen-some : (c : Bool) (o : Option ExprFault) (f : ExprFault) → cond c o None ≡ Some f → (c ≡ true) × (o ≡ Some f)
+chosen-some true o f h = (refl, h)
+chosen-some false o f h = absurd (cc)
+
+passed-at : (mode : Mode) (front text part rest : List ℕ) (es done : List Tree) (k : List Waiting) (d b : ℕ) (f : ExprFault) → Place front text part es → At mode k d done es part → passes mode d b ≡ Some f → Passed (front ++ b ∷ rest) front f
+passed-at operand front text part rest es done k d b f p a e = deep-passed front rest d b f (subst (Before d) (sym p.spelled) (partial-before text es p.before k d part a.1)) e
+passed-at (whole x) front text part rest es done k d b f p a e = absurd (cc)
+passed-at (digit n) front text part rest es done k d b f p a e = absurd (cc)
+passed-at (decimal n) front text part rest es done k d b f p a e =
+    let w = chosen-some (is_digit b) (too_wide (n * 10 + (b - 48))) f e in
+    let o = a.1 in
+    wide-passed front text o.front o.part rest es k d b (n * 10 + (b - 48)) f part p o.before o.spelled (decimal-constant n b o.part o.shape w.0) w.1
+passed-at hash front text part rest es done k d b f p a e = absurd (cc)
+passed-at (hexadecimal n) front text part rest es done k d b f p a e =
+    let w = chosen-some (is_hexadecimal b) (too_wide (n * 16 + digit_value b)) f e in
+    let o = a.1 in
+    wide-passed front text o.front o.part rest es k d b (n * 16 + digit_value b) f part p o.before o.spelled (hexadecimal-constant n b o.part o.shape w.0) w.1
+passed-at quote front text part rest es done k d b f p a e = absurd (cc)
+passed-at (character c) front text part rest es done k d b f p a e = absurd (cc)
+passed-at (symbol t) front text part rest es done k d b f p a e = absurd (cc)
+passed-at (slash x) front text part rest es done k d b f p a e =
+    let o = a.2 in
+    let before : Before d (text ++ part) =
+    partial-before text es p.before (strong Div x ∷ k) d part
+    (record { plain = a.1; front = o.front; part = o.shape.part; word = 47 ∷ []; whole = o.shape.whole; operator = div; before = o.before; spelled = o.spelled ∙ ap (λ t. o.front ++ t) o.shape.spelled }) in
+    deep-passed front rest d b f (subst (Before d) (sym p.spelled) before) e
+passed-at (less x) front text part rest es done k d b f p a e = absurd (cc)
+passed-at (greater x) front text part rest es done k d b f p a e = absurd (cc)
+passed-at (string true) front text part rest es done k d b f p a e = quote-passed front text rest a.bytes es b f part p a.shape.0 a.shape.1 e
+passed-at (string false) front text part rest es done k d b f p a e = absurd (cc)
+passed-at closed front text part rest es done k d b f p a e = absurd (cc)
+
+pub passed : (s : State) (front rest : List ℕ) (b : ℕ) (f : ExprFault) → Holds s front → passes s.mode s.depth b ≡ Some f → Passed (front ++ b ∷ rest) front f
+passed s front rest b f h e = passed-at s.mode front h.text h.part rest h.es s.done s.waiting s.depth b f (record { before = h.before; spelled = h.spelled }) h.stands e
+
+deep-byte : (d b : ℕ) (f : ExprFault) → too_deep d b ≡ Some f → b ≡ 40
+deep-byte d b f e = let w = some-when (b == 40 && nat_le 255 d) TooDeep f e in eqb-true b 40 (and-first (b == 40) (nat_le 255 d) w.0)
+
+deep-moves : (mode : Mode) (k : List Waiting) (d b : ℕ) (es : List Tree) (t : State) → b ≡ 40 → move (st mode k d es) 40 ≡ Ok t → (u : State) × (move (st mode k d es) b ≡ Ok u)
+deep-moves mode k d b es t e h = (t, ap (move (st mode k d es)) e ∙ h)
+
+-- A byte that passes a bound would be read without it.
+pub passes-moves : (mode : Mode) (k : List Waiting) (d : ℕ) (es : List Tree) (b : ℕ) (f : ExprFault) → passes mode d b ≡ Some f → (t : State) × (move (st mode k d es) b ≡ Ok t)
+passes-moves operand k d es b f e = deep-moves operand k d b es (st operand (parenthesis ∷ k) (d + 1) es) (deep-byte d b f e) refl
+passes-moves (whole x) k d es b f e = absurd (cc)
+passes-moves (digit n) k d es b f e = absurd (cc)
+passes-moves (decimal n) k d es b f e = let w = chosen-some (is_digit b) (too_wide (n * 10 + (b - 48))) f e in let h : is_digit b ≡ true = w.0 in (st (decimal (n * 10 + (b - 48))) k d es, rw h refl)
+passes-moves hash k d es b f e = absurd (cc)
+passes-moves (hexadecimal n) k d es b f e = let w = chosen-some (is_hexadecimal b) (too_wide (n * 16 + digit_value b)) f e in let h : is_hexadecimal b ≡ true = w.0 in (st (hexadecimal (n * 16 + digit_value b)) k d es, rw h refl)
+passes-moves quote k d es b f e = absurd (cc)
+passes-moves (character c) k d es b f e = absurd (cc)
+passes-moves (symbol t) k d es b f e = absurd (cc)
+passes-moves (slash x) k d es b f e = deep-moves (slash x) k d b es (st operand (parenthesis ∷ strong Div x ∷ k) (d + 1) es) (deep-byte d b f e) refl
+passes-moves (less x) k d es b f e = absurd (cc)
+passes-moves (greater x) k d es b f e = absurd (cc)
+passes-moves (string true) k d es b f e = let w = some-when (b == 34) EmptyString f e in let h : (b == 34) ≡ true = w.0 in (st closed k d es, rw h refl)
+passes-moves (string false) k d es b f e = absurd (cc)
+passes-moves closed k d es b f e = absurd (cc)

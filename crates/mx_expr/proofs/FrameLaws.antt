@@ -1,0 +1,38 @@
+-- One more frame at the end of a list of them.
+use Rattle.std.proofs.Common.{◌≡◌, ◌+◌, List, [], ◌∷◌, ◌++◌, Err, refl, ap, ◌∙◌, arith}
+use Rattle.mx_expr.specs.declared.faults.ExprFault.{ExprFault}
+use Rattle.mx_expr.specs.declared.valuing.Frame.{Frame}
+use Rattle.mx_expr.specs.declared.valuing.Frame.TheVariants.{Operand, Left, Right}
+use Rattle.mx_expr.specs.Value.{Valued, Knowledge}
+use Rattle.mx_expr.specs.Frames.{passed, finished, nodes_of, nodes_left, FrameHasDigits, AllHaveDigits}
+
+pub finished-push : (k : Knowledge) (fs : List Frame) (f : Frame) (x : Valued) → finished k (fs ++ f ∷ []) x ≡ finished k fs (passed k f x)
+finished-push k [] f x = refl
+finished-push k (e ∷ fs) f x = ap (passed k e) (finished-push k fs f x)
+
+passed-err : (k : Knowledge) (f : Frame) (e : ExprFault) → passed k f (Err e) ≡ Err e
+passed-err k (Operand op) e = refl
+passed-err k (Left op right) e = refl
+passed-err k (Right op left) e = refl
+
+pub finished-err : (k : Knowledge) (fs : List Frame) (e : ExprFault) → finished k fs (Err e) ≡ Err e
+finished-err k [] e = refl
+finished-err k (f ∷ fs) e = ap (passed k f) (finished-err k fs e) ∙ passed-err k f e
+
+pub left-push : (fs : List Frame) (f : Frame) → nodes_left (fs ++ f ∷ []) ≡ nodes_left fs + nodes_of f
+left-push [] f = omega arith
+left-push (e ∷ fs) f = omega (arith, left-push fs f)
+
+pub digits-push : (fs : List Frame) (f : Frame) → AllHaveDigits fs → FrameHasDigits f → AllHaveDigits (fs ++ f ∷ [])
+digits-push [] f all h = (h, tt)
+digits-push (e ∷ fs) f all h = (all.0, digits-push fs f all.1 h)
+
+pub digits-front : (fs : List Frame) (f : Frame) → AllHaveDigits (fs ++ f ∷ []) → AllHaveDigits fs
+digits-front [] f all = tt
+digits-front (e ∷ fs) f all = (all.0, digits-front fs f all.1)
+
+pub digits-last : (fs : List Frame) (f : Frame) → AllHaveDigits (fs ++ f ∷ []) → FrameHasDigits f
+digits-last [] f all = all.0
+digits-last (e ∷ fs) f all = digits-last fs f all.1
+
+pub ruleset frames = (finished-push, finished-err, left-push, digits-push, digits-front, digits-last)

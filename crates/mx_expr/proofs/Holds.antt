@@ -1,0 +1,245 @@
+-- What was read up to a state.
+use Rattle.std.proofs.Common.{◌≡◌, ℕ, ◌+◌, ◌-◌, ◌<◌, List, [], ◌∷◌, ◌++◌, length, map, Bool, true, false, cond, Option, Some, Ok, Err, refl, sym, ap, ◌∙◌, arith, append_assoc, append-nil, subst}
+use Rattle.std.specs.Prelude.{◌==◌}
+use Rattle.std.specs.List.{list_all}
+use Rattle.std.proofs.lemmas.Bool.{eqb-true}
+use Rattle.mx_expr.specs.declared.faults.ExprFault.TheVariants.{Syntax}
+use Rattle.mx_expr.specs.declared.tree.UnOp.{UnOp}
+use Rattle.mx_expr.specs.declared.tree.UnOp.TheVariants.{Plus, Minus, Not, Register}
+use Rattle.mx_expr.specs.declared.tree.BinOp.{BinOp}
+use Rattle.mx_expr.specs.declared.tree.BinOp.TheVariants.{Mul, Rem, And, Add, Sub, Or, Xor}
+use Rattle.mx_expr.specs.Tree.{Tree, number, here}
+use Rattle.mx_expr.specs.Bytes.{is_digit, is_hexadecimal, is_letter, is_word, is_no_quote, digit_value}
+use Rattle.mx_expr.specs.Reading.{settled, summed, Waiting, sign, strong, weak, parenthesis, Mode, operand, whole, digit, decimal, hash, hexadecimal, quote, character, symbol, slash, less, greater, string, closed, State, Read, wanted, wanted_mark, quoted, signed, completed, weakly, enclosed, listed, next_operand, weakly_or_end, strongly, after, beyond}
+use Rattle.mx_expr.specs.Spelling.{digits_value, Sign, StrongOperator, WeakOperator, Primary, Product, Sum, Operands}
+use Rattle.mx_expr.specs.Spelling.Sign.{plus, minus, not as not_sign, register}
+use Rattle.mx_expr.specs.Spelling.StrongOperator.{mul, rem, and}
+use Rattle.mx_expr.specs.Spelling.WeakOperator.{add, sub, or, xor}
+use Rattle.mx_expr.specs.Spelling.Primary.{place, enclosed as spelled_enclosed}
+use Rattle.mx_expr.specs.Spelling.Operand.{expression}
+use Rattle.mx_expr.specs.Spelling.Operands.{more as one_more}
+use Rattle.mx_expr.proofs.Moves.{st}
+use Rattle.mx_expr.proofs.Forward.{Plain}
+use Rattle.mx_expr.proofs.Partial.{Partial, SumIs, settle-is, sum-is}
+
+-- a text of a shape after what waits
+pub record After (k : List Waiting) (d : ℕ) (Shape : List ℕ → Type 0) (text : List ℕ) : Type 0 where
+  pub front : List ℕ
+  pub part : List ℕ
+  pub before : Partial k d front
+  pub shape : Shape part
+  pub spelled : text ≡ front ++ part
+
+-- digits to a base
+pub record Digits (kind : ℕ → Bool) (base n : ℕ) (text : List ℕ) : Type 0 where
+  pub some : 0 < length text
+  pub all : list_all kind text ≡ true
+  pub value : n ≡ digits_value base text
+
+pub record Hashed (n : ℕ) (text : List ℕ) : Type 0 where
+  pub digits : List ℕ
+  pub are : Digits is_hexadecimal 16 n digits
+  pub spelled : text ≡ 35 ∷ digits
+
+pub record OneDigit (n : ℕ) (text : List ℕ) : Type 0 where
+  pub b : ℕ
+  pub is : is_digit b ≡ true
+  pub value : n ≡ digit_value b
+  pub spelled : text ≡ b ∷ []
+
+pub record Letters (word text : List ℕ) : Type 0 where
+  pub b : ℕ
+  pub bs : List ℕ
+  pub is : is_letter b ≡ true
+  pub all : list_all is_word bs ≡ true
+  pub value : word ≡ b ∷ bs
+  pub spelled : text ≡ b ∷ bs
+
+pub record Operating (e : Tree) (b : ℕ) (text : List ℕ) : Type 0 where
+  pub part : List ℕ
+  pub whole : Product part e
+  pub spelled : text ≡ part ++ b ∷ []
+
+-- whether a text has no byte
+abbrev pub is_empty : List ℕ → Bool
+is_empty [] = true
+is_empty (b ∷ bs) = false
+
+pub record Quoted (k : List Waiting) (d : ℕ) (done es : List Tree) (Shape : List ℕ → List ℕ → Type 0) (text : List ℕ) : Type 0 where
+  pub nothing : k ≡ []
+  pub shallow : d ≡ 0
+  pub bytes : List ℕ
+  pub all : list_all is_no_quote bytes ≡ true
+  pub listed : done ≡ es ++ map number bytes
+  pub shape : Shape bytes text
+
+abbrev pub At : Mode → List Waiting → ℕ → List Tree → List Tree → List ℕ → Type 0
+At operand k d done es text = (done ≡ es) × Partial k d text
+At (whole e) k d done es text = (done ≡ es) × Plain k × After k d (λ t. Product t e) text
+At (digit n) k d done es text = (done ≡ es) × After k d (OneDigit n) text
+At (decimal n) k d done es text = (done ≡ es) × After k d (Digits is_digit 10 n) text
+At hash k d done es text = (done ≡ es) × After k d (λ t. t ≡ 35 ∷ []) text
+At (hexadecimal n) k d done es text = (done ≡ es) × After k d (Hashed n) text
+At quote k d done es text = (done ≡ es) × After k d (λ t. t ≡ 39 ∷ []) text
+At (character c) k d done es text = (done ≡ es) × After k d (λ t. t ≡ 39 ∷ c ∷ []) text
+At (symbol word) k d done es text = (done ≡ es) × After k d (Letters word) text
+At (slash e) k d done es text = (done ≡ es) × Plain k × After k d (Operating e 47) text
+At (less e) k d done es text = (done ≡ es) × Plain k × After k d (Operating e 60) text
+At (greater e) k d done es text = (done ≡ es) × Plain k × After k d (Operating e 62) text
+At (string fresh) k d done es text = Quoted k d done es (λ bytes t. (t ≡ 34 ∷ bytes) × (fresh ≡ is_empty bytes)) text
+At closed k d done es text = Quoted k d done es (λ bytes t. t ≡ 34 ∷ (bytes ++ 34 ∷ [])) text
+
+pub record Holds (s : State) (front : List ℕ) : Type 0 where
+  pub text : List ℕ
+  pub es : List Tree
+  pub part : List ℕ
+  pub before : Operands text es
+  pub stands : At s.mode s.waiting s.depth s.done es part
+  pub spelled : front ≡ text ++ part
+
+abbrev pub Good : Read → List ℕ → Type 0
+Good (Err f) front = f ≡ Syntax
+Good (Ok s) front = Holds s front
+
+-- from what holds of either side of a choice
+pub chosen : {X : Type 0} (P : X → Type 0) (b : Bool) (x y : X) → (b ≡ true → P x) → (b ≡ false → P y) → P (cond b x y)
+chosen P true x y h k = h refl
+chosen P false x y h k = k refl
+
+is-byte : (b c : ℕ) → (b == c) ≡ true → c ≡ b
+is-byte b c h = sym (eqb-true b c h)
+
+-- operands, and the text of the last one
+pub record Place (front : List ℕ) (text part : List ℕ) (es : List Tree) : Type 0 where
+  pub before : Operands text es
+  pub spelled : front ≡ text ++ part
+
+pub holds : (front text part : List ℕ) (es done : List Tree) (mode : Mode) (k : List Waiting) (d : ℕ) → Place front text part es → At mode k d done es part → Holds (st mode k d done) front
+holds front text part es done mode k d p a = record { text = text; es = es; part = part; before = p.before; stands = a; spelled = p.spelled }
+
+pub grown : (f q tail text : List ℕ) → text ≡ f ++ q → text ++ tail ≡ f ++ (q ++ tail)
+grown f q tail text e = ap (λ t. t ++ tail) e ∙ append_assoc f q tail
+
+-- one more byte of a token
+pub longer : (k : List Waiting) (d : ℕ) (Shape Other : List ℕ → Type 0) (text : List ℕ) (b : ℕ) (h : After k d Shape text) → Other (h.part ++ b ∷ []) → After k d Other (text ++ b ∷ [])
+longer k d Shape Other text b h o = record { front = h.front; part = h.part ++ b ∷ []; before = h.before; shape = o; spelled = grown h.front h.part (b ∷ []) text h.spelled }
+
+begun : (k : List Waiting) (d : ℕ) (Shape : List ℕ → Type 0) (text : List ℕ) (b : ℕ) → Partial k d text → Shape (b ∷ []) → After k d Shape (text ++ b ∷ [])
+begun k d Shape text b h o = record { front = text; part = b ∷ []; before = h; shape = o; spelled = refl }
+
+-- a primary that is complete
+pub completes : (front text part : List ℕ) (es : List Tree) (k : List Waiting) (d : ℕ) (e : Tree) → Place front text part es → After k d (λ t. Primary t e) part → Good (completed e k d es) front
+completes front text part es k d e p a =
+    let s = settle-is k d a.front a.part e a.before a.shape in
+    holds front text part es es (whole (settled k e).0) (settled k e).1 d p (refl, s.plain, record { front = s.front; part = s.part; before = s.before; shape = s.whole; spelled = a.spelled ∙ s.spelled })
+
+-- where a primary is wanted
+sign-good : (front text part : List ℕ) (es : List Tree) (k : List Waiting) (d b : ℕ) (op : UnOp) → Place front text (part ++ b ∷ []) es → Partial k d part → Sign b op → Good (signed (Some op) k d es) front
+sign-good front text part es k d b op p h s =
+    holds front text (part ++ b ∷ []) es es operand (sign op ∷ k) d p (refl, record { front = part; b = b; operator = s; before = h; spelled = refl })
+
+quoted-good : (front text part : List ℕ) (es : List Tree) (k : List Waiting) (d : ℕ) → Place front text (part ++ 34 ∷ []) es → Partial k d part → Good (quoted k d es) front
+quoted-good front text part es [] d p h =
+    holds front text (part ++ 34 ∷ []) es es (string true) [] d p
+    (record { nothing = refl; shallow = h.0; bytes = []; all = refl; listed = sym (append-nil es); shape = (ap (λ t. t ++ 34 ∷ []) h.1, refl) })
+quoted-good front text part es (w ∷ k) d p h = refl
+
+pub at-byte : (front text part : List ℕ) (es : List Tree) (b c : ℕ) → (b == c) ≡ true → Place front text (part ++ b ∷ []) es → Place front text (part ++ c ∷ []) es
+at-byte front text part es b c h p = subst (λ x. Place front text (part ++ x ∷ []) es) (eqb-true b c h) p
+
+mark-good : (front text part : List ℕ) (es : List Tree) (k : List Waiting) (d b : ℕ) → Place front text (part ++ b ∷ []) es → Partial k d part → Good (wanted_mark b k d es) front
+mark-good front text part es k d b p h =
+    let P : Read → Type 0 = λ r. Good r front in
+    let Q : Option UnOp → Type 0 = λ o. Good (signed o k d es) front in
+    chosen P (b == 35) _ _ (λ t. holds front text (part ++ 35 ∷ []) es es hash k d (at-byte front text part es b 35 t p) (refl, begun k d (λ t. t ≡ 35 ∷ []) part 35 h refl)) (λ _.
+    chosen P (b == 39) _ _ (λ t. holds front text (part ++ 39 ∷ []) es es quote k d (at-byte front text part es b 39 t p) (refl, begun k d (λ t. t ≡ 39 ∷ []) part 39 h refl)) (λ _.
+    chosen P (b == 64) _ _ (λ t. completes front text (part ++ 64 ∷ []) es k d here (at-byte front text part es b 64 t p) (begun k d (λ t. Primary t here) part 64 h place)) (λ _.
+    chosen P (b == 40) _ _ (λ t. holds front text (part ++ 40 ∷ []) es es operand (parenthesis ∷ k) (d + 1) (at-byte front text part es b 40 t p) (refl, record { below = d; deeper = refl; front = part; before = h; spelled = refl })) (λ _.
+    chosen P (b == 34) _ _ (λ t. quoted-good front text part es k d (at-byte front text part es b 34 t p) h) (λ _.
+    chosen Q (b == 43) _ _ (λ t. sign-good front text part es k d 43 Plus (at-byte front text part es b 43 t p) h plus) (λ _.
+    chosen Q (b == 45) _ _ (λ t. sign-good front text part es k d 45 Minus (at-byte front text part es b 45 t p) h minus) (λ _.
+    chosen Q (b == 126) _ _ (λ t. sign-good front text part es k d 126 Not (at-byte front text part es b 126 t p) h not_sign) (λ _.
+    chosen Q (b == 36) _ _ (λ t. sign-good front text part es k d 36 Register (at-byte front text part es b 36 t p) h register) (λ _. refl)))))))))
+
+pub value-of-digit : (b : ℕ) → is_digit b ≡ true → b - 48 ≡ digit_value b
+value-of-digit b h = rw h refl
+
+pub wanted-good : (front text part : List ℕ) (es : List Tree) (k : List Waiting) (d b : ℕ) → Place front text (part ++ b ∷ []) es → Partial k d part → Good (wanted b k d es) front
+wanted-good front text part es k d b p h =
+    let P : Read → Type 0 = λ r. Good r front in
+    chosen P (is_digit b) _ _ (λ t. holds front text (part ++ b ∷ []) es es (digit (b - 48)) k d p (refl, begun k d (OneDigit (b - 48)) part b h (record { b = b; is = t; value = value-of-digit b t; spelled = refl }))) (λ _.
+    chosen P (is_letter b) _ _ (λ t. holds front text (part ++ b ∷ []) es es (symbol (b ∷ [])) k d p (refl, begun k d (Letters (b ∷ [])) part b h (record { b = b; bs = []; is = t; all = refl; value = refl; spelled = refl }))) (λ _.
+    mark-good front text part es k d b p h))
+
+-- after a product
+strong-good : (front text part : List ℕ) (es : List Tree) (k : List Waiting) (d b : ℕ) (e : Tree) (op : BinOp) → Place front text (part ++ b ∷ []) es → Plain k → After k d (λ t. Product t e) part → StrongOperator (b ∷ []) op →
+    Holds (st operand (strong op e ∷ k) d es) front
+strong-good front text part es k d b e op p n a w =
+    holds front text (part ++ b ∷ []) es es operand (strong op e ∷ k) d p
+    (refl, record { plain = n; front = a.front; part = a.part; word = b ∷ []; whole = a.shape; operator = w; before = a.before; spelled = grown a.front a.part (b ∷ []) part a.spelled })
+
+operating : (k : List Waiting) (d b : ℕ) (e : Tree) (part : List ℕ) → After k d (λ t. Product t e) part → After k d (Operating e b) (part ++ b ∷ [])
+operating k d b e part a = longer k d (λ t. Product t e) (Operating e b) part b a (record { part = a.part; whole = a.shape; spelled = refl })
+
+weakly-good : (front text part : List ℕ) (es : List Tree) (d b : ℕ) (op : BinOp) (q : Tree × List Waiting) → Place front text (part ++ b ∷ []) es → SumIs d part q → WeakOperator b op → Good (weakly op q d es) front
+weakly-good front text part es d b op q p s w =
+    holds front text (part ++ b ∷ []) es es operand (weak op q.0 ∷ q.1) d p
+    (refl, record { level = s.level; front = s.front; part = s.part; b = b; whole = s.whole; operator = w; before = s.before; spelled = grown s.front s.part (b ∷ []) part s.spelled })
+
+enclosed-good : (front text part : List ℕ) (es : List Tree) (d : ℕ) (x : Tree) (k : List Waiting) → Place front text (part ++ 41 ∷ []) es → SumIs d part (x, k) → Good (enclosed (x, k) d es) front
+enclosed-good front text part es d x [] p s = refl
+enclosed-good front text part es d x (sign op ∷ k) p s = refl
+enclosed-good front text part es d x (strong op l ∷ k) p s = refl
+enclosed-good front text part es d x (weak op l ∷ k) p s = refl
+enclosed-good front text part es d x (parenthesis ∷ k) p s =
+    let o = s.before in
+    let less : d - 1 ≡ o.below = omega (arith, o.deeper) in
+    subst (λ n. Good (completed x k n es) front) (sym less)
+    (completes front text (part ++ 41 ∷ []) es k o.below x p
+    (record {
+      front = o.front;
+      part = 40 ∷ (s.part ++ 41 ∷ []);
+      before = o.before;
+      shape = spelled_enclosed s.part x s.whole;
+      spelled = grown s.front s.part (41 ∷ []) part s.spelled ∙ ap (λ t. t ++ (s.part ++ 41 ∷ [])) o.spelled ∙ append_assoc o.front (40 ∷ []) (s.part ++ 41 ∷ []);
+    }))
+
+pub whole-sum : (d : ℕ) (part : List ℕ) (x : Tree) → SumIs d part (x, []) → Sum part x
+whole-sum d part x s = subst (λ t. Sum t x) (sym (s.spelled ∙ ap (λ t. t ++ s.part) s.before.1)) s.whole
+
+next-good : (front text part : List ℕ) (es : List Tree) (d : ℕ) (x : Tree) (k : List Waiting) → Place front text (part ++ 44 ∷ []) es → SumIs d part (x, k) → Good (next_operand d (listed (x, k) es)) front
+next-good front text part es d x [] p s =
+    record {
+      text = text ++ (part ++ 44 ∷ []);
+      es = es ++ x ∷ [];
+      part = [];
+      before = one_more text part es (x ∷ []) p.before (expression part x (whole-sum d part x s));
+      stands = (refl, (s.before.0, refl));
+      spelled = p.spelled ∙ sym (append-nil (text ++ (part ++ 44 ∷ [])));
+    }
+next-good front text part es d x (w ∷ k) p s = refl
+
+pub after-good : (front text part : List ℕ) (es : List Tree) (k : List Waiting) (d b : ℕ) (e : Tree) → Place front text (part ++ b ∷ []) es → Plain k → After k d (λ t. Product t e) part → Good (after b (e, k) d es) front
+after-good front text part es k d b e p n a =
+    let P : Read → Type 0 = λ r. Good r front in
+    let S : Option BinOp → Type 0 = λ o. Good (strongly o b e k d es) front in
+    let q : Tree × List Waiting = summed k e in
+    let W : Option BinOp → Type 0 = λ o. Good (weakly_or_end o b q d es) front in
+    let s : SumIs d part q = subst (λ t. SumIs d t q) (sym a.spelled) (sum-is k d a.front a.part e a.before n a.shape) in
+    chosen S (b == 42) _ _ (λ t. strong-good front text part es k d 42 e Mul (at-byte front text part es b 42 t p) n a mul) (λ _.
+    chosen S (b == 37) _ _ (λ t. strong-good front text part es k d 37 e Rem (at-byte front text part es b 37 t p) n a rem) (λ _.
+    chosen S (b == 38) _ _ (λ t. strong-good front text part es k d 38 e And (at-byte front text part es b 38 t p) n a and) (λ _.
+    chosen P (b == 47) _ _ (λ t. holds front text (part ++ 47 ∷ []) es es (slash e) k d (at-byte front text part es b 47 t p) (refl, n, operating k d 47 e part a)) (λ _.
+    chosen P (b == 60) _ _ (λ t. holds front text (part ++ 60 ∷ []) es es (less e) k d (at-byte front text part es b 60 t p) (refl, n, operating k d 60 e part a)) (λ _.
+    chosen P (b == 62) _ _ (λ t. holds front text (part ++ 62 ∷ []) es es (greater e) k d (at-byte front text part es b 62 t p) (refl, n, operating k d 62 e part a)) (λ _.
+    chosen W (b == 43) _ _ (λ t. weakly-good front text part es d 43 Add q (at-byte front text part es b 43 t p) s add) (λ _.
+    chosen W (b == 45) _ _ (λ t. weakly-good front text part es d 45 Sub q (at-byte front text part es b 45 t p) s sub) (λ _.
+    chosen W (b == 124) _ _ (λ t. weakly-good front text part es d 124 Or q (at-byte front text part es b 124 t p) s or) (λ _.
+    chosen W (b == 94) _ _ (λ t. weakly-good front text part es d 94 Xor q (at-byte front text part es b 94 t p) s xor) (λ _.
+    chosen P (b == 41) _ _ (λ t. enclosed-good front text part es d q.0 q.1 (at-byte front text part es b 41 t p) s) (λ _.
+    chosen P (b == 44) _ _ (λ t. next-good front text part es d q.0 q.1 (at-byte front text part es b 44 t p) s) (λ _. refl))))))))))))
+
+pub beyond-good : (front text part : List ℕ) (es : List Tree) (k : List Waiting) (d b : ℕ) (e : Tree) → Place front text (part ++ b ∷ []) es → After k d (λ t. Primary t e) part → Good (beyond b e k d es) front
+beyond-good front text part es k d b e p a =
+    let s = settle-is k d a.front a.part e a.before a.shape in
+    after-good front text part es (settled k e).1 d b (settled k e).0 p s.plain (record { front = s.front; part = s.part; before = s.before; shape = s.whole; spelled = a.spelled ∙ s.spelled })

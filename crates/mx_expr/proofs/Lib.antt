@@ -1,0 +1,14 @@
+pub mod FrameLaws
+pub mod StepLaws
+pub mod Moves
+pub mod Forward
+pub mod Fields
+pub mod Partial
+pub mod Holds
+pub mod Steps
+pub mod Endings
+pub mod Bounds
+pub mod Stops
+pub mod Marks
+pub mod Exact
+pub mod Parsed

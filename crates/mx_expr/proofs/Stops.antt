@@ -1,0 +1,143 @@
+-- Where reading stops.
+use Rattle.std.proofs.Common.{◌≡◌, ℕ, ◌+◌, ◌-◌, ◌*◌, ◌^◌, ◌<◌, ◌≤◌, List, [], ◌∷◌, ◌++◌, Bool, true, false, Option, Some, None, Ok, Err, refl, sym, ap, ◌∙◌, arith, subst, ⊎_elim}
+use Rattle.std.proofs.Common.{inl, inr}
+use Rattle.std.specs.Prelude.{◌&&◌, nat_le, fold, ◌⊎◌}
+use Rattle.std.specs.List.{list_all}
+use Rattle.std.proofs.lemmas.Bool.{le-leb, cases_lt}
+use Rattle.std.proofs.lemmas.Bool.Decides.{nat_tests}
+use Rattle.mx_expr.specs.declared.faults.ExprFault.{ExprFault}
+use Rattle.mx_expr.specs.declared.faults.ExprFault.TheVariants.{TooWide}
+use Rattle.mx_expr.specs.Tree.{Tree}
+use Rattle.mx_expr.specs.Bytes.{is_digit, is_hexadecimal, digit_value}
+use Rattle.mx_expr.specs.Reading.{Waiting, decimal, hexadecimal, State, Read, passes, step, steps, within, and_then}
+use Rattle.mx_expr.proofs.Moves.{st, move, moves}
+use Rattle.mx_expr.proofs.Holds.{value-of-digit}
+
+and-then-then : (r : Read) (f g : State → Read) → and_then (and_then r f) g ≡ and_then r (λ s. and_then (f s) g)
+and-then-then (Ok s) f g = refl
+and-then-then (Err e) f g = refl
+
+and-then-same : (r : Read) (f g : State → Read) → ((s : State) → f s ≡ g s) → and_then r f ≡ and_then r g
+and-then-same (Ok s) f g h = h s
+and-then-same (Err e) f g h = refl
+
+pub steps-append : (s : State) (xs ys : List ℕ) → steps s (xs ++ ys) ≡ and_then (steps s xs) (λ t. steps t ys)
+unfolding steps
+steps-append s [] ys = refl
+steps-append s (b ∷ bs) ys = and-then-same (step s b) _ _ (λ t. steps-append t bs ys) ∙ sym (and-then-then (step s b) (λ t. steps t bs) (λ t. steps t ys))
+
+pub steps-on : (s t : State) (xs ys : List ℕ) → steps s xs ≡ Ok t → steps s (xs ++ ys) ≡ steps t ys
+steps-on s t xs ys e = steps-append s xs ys ∙ ap (λ r. and_then r (λ u. steps u ys)) e
+
+pub steps-first : (s t : State) (b : ℕ) (bs : List ℕ) → step s b ≡ Ok t → steps s (b ∷ bs) ≡ steps t bs
+unfolding steps
+steps-first s t b bs e = rw e refl
+
+pub steps-refused : (s : State) (f : ExprFault) (b : ℕ) (bs : List ℕ) → step s b ≡ Err f → steps s (b ∷ bs) ≡ Err f
+unfolding steps
+steps-refused s f b bs e = rw e refl
+
+pub steps-none : (s : State) → steps s [] ≡ Ok s
+unfolding steps
+steps-none s = refl
+
+-- a front of what is read is read
+pub record Front (s t : State) (xs ys : List ℕ) : Type 0 where
+  pub state : State
+  pub read : steps s xs ≡ Ok state
+  pub later : steps state ys ≡ Ok t
+
+front-of : (s t : State) (xs ys : List ℕ) (r : Read) → steps s xs ≡ r → and_then r (λ u. steps u ys) ≡ Ok t → Front s t xs ys
+front-of s t xs ys (Ok u) e h = record { state = u; read = e; later = h }
+front-of s t xs ys (Err f) e h = absurd (cc)
+
+pub front-read : (s t : State) (xs ys : List ℕ) → steps s (xs ++ ys) ≡ Ok t → Front s t xs ys
+front-read s t xs ys e = front-of s t xs ys (steps s xs) refl (sym (steps-append s xs ys) ∙ e)
+
+-- one byte with its bound
+pub within-ok : (o : Option ExprFault) (r : Read) (t : State) → within o r ≡ Ok t → (o ≡ None) × (r ≡ Ok t)
+within-ok None r t h = (refl, h)
+within-ok (Some f) r t h = absurd (cc)
+
+pub within-err : (o : Option ExprFault) (r : Read) (f : ExprFault) → within o r ≡ Err f → (o ≡ Some f) ⊎ ((o ≡ None) × (r ≡ Err f))
+within-err None r f h = inr (refl, h)
+within-err (Some g) r f h = inl (cc)
+
+steps-moves-on : (s t : State) (b : ℕ) (bs : List ℕ) (r : Read) → step s b ≡ r → ((u : State) → steps u bs ≡ Ok t → moves u bs ≡ Ok t) → and_then r (λ u. steps u bs) ≡ Ok t → and_then (move s b) (λ u. moves u bs) ≡ Ok t
+steps-moves-on s t b bs (Ok u) e f h = let w = within-ok (passes s.mode s.depth b) (move s b) u e in ap (λ r. and_then r (λ x. moves x bs)) w.1 ∙ f u h
+steps-moves-on s t b bs (Err g) e f h = absurd (cc)
+
+pub steps-moves : (s t : State) (xs : List ℕ) → steps s xs ≡ Ok t → moves s xs ≡ Ok t
+unfolding steps moves
+steps-moves s t [] h = h
+steps-moves s t (b ∷ bs) h = steps-moves-on s t b bs (step s b) refl (λ u e. steps-moves u t bs e) h
+
+-- where a fault comes
+pub record Stops (s : State) (xs : List ℕ) (f : ExprFault) : Type 0 where
+  pub front : List ℕ
+  pub b : ℕ
+  pub rest : List ℕ
+  pub state : State
+  pub spelled : xs ≡ front ++ b ∷ rest
+  pub read : steps s front ≡ Ok state
+  pub stop : step state b ≡ Err f
+
+stops-on : (s : State) (b : ℕ) (bs : List ℕ) (f : ExprFault) (r : Read) → step s b ≡ r → ((u : State) → steps u bs ≡ Err f → Stops u bs f) → and_then r (λ u. steps u bs) ≡ Err f → Stops s (b ∷ bs) f
+stops-on s b bs f (Ok u) e g h =
+    let q = g u h in
+    record { front = b ∷ q.front; b = q.b; rest = q.rest; state = q.state; spelled = ap (λ t. b ∷ t) q.spelled; read = steps-first s u b q.front e ∙ q.read; stop = q.stop }
+stops-on s b bs f (Err g) e k h = record { front = []; b = b; rest = bs; state = s; spelled = refl; read = steps-none s; stop = e ∙ h }
+
+pub stops : (s : State) (xs : List ℕ) (f : ExprFault) → steps s xs ≡ Err f → Stops s xs f
+unfolding steps
+stops s [] f h = absurd (cc)
+stops s (b ∷ bs) f h = stops-on s b bs f (step s b) refl (λ u e. stops u bs f e) h
+
+-- a wide constant is refused
+and-first : (a b : Bool) → (a && b) ≡ true → a ≡ true
+and-first true b h = refl
+and-first false b h = h
+
+and-second : (a b : Bool) → (a && b) ≡ true → b ≡ true
+and-second true b h = h
+and-second false b h = absurd (cc)
+
+decimal-refused : (n b : ℕ) (k : List Waiting) (d : ℕ) (es : List Tree) → is_digit b ≡ true → 2 ^ 64 ≤ n * 10 + digit_value b → step (st (decimal n) k d es) b ≡ Err TooWide
+decimal-refused n b k d es h w =
+    let t : nat_le (2 ^ 64) (n * 10 + (b - 48)) ≡ true = le-leb (2 ^ 64) (n * 10 + (b - 48)) (omega (arith, w, value-of-digit b h)) in
+    rw (h, t) refl
+
+not-wide : (n : ℕ) → n < 2 ^ 64 → nat_le (2 ^ 64) n ≡ false
+not-wide n h = grind (arith, nat_tests)
+
+decimal-taken : (n b : ℕ) (k : List Waiting) (d : ℕ) (es : List Tree) → is_digit b ≡ true → n * 10 + digit_value b < 2 ^ 64 → step (st (decimal n) k d es) b ≡ Ok (st (decimal (n * 10 + digit_value b)) k d es)
+decimal-taken n b k d es h w =
+    let t : nat_le (2 ^ 64) (n * 10 + (b - 48)) ≡ false = not-wide (n * 10 + (b - 48)) (omega (arith, w, value-of-digit b h)) in
+    let e : b - 48 ≡ digit_value b = value-of-digit b h in
+    subst (λ v. step (st (decimal n) k d es) b ≡ Ok (st (decimal (n * 10 + v)) k d es)) e (rw (h, t) refl)
+
+pub wide-decimal : (n : ℕ) (bs rest : List ℕ) (k : List Waiting) (d : ℕ) (es : List Tree) → list_all is_digit bs ≡ true → n < 2 ^ 64 → 2 ^ 64 ≤ fold (λ v b. v * 10 + digit_value b) n bs →
+    steps (st (decimal n) k d es) (bs ++ rest) ≡ Err TooWide
+wide-decimal n [] rest k d es a l w = absurd (omega (arith, l, w))
+wide-decimal n (b ∷ bs) rest k d es a l w =
+    let h : is_digit b ≡ true = and-first _ _ a in
+    ⊎_elim
+    (λ less. steps-first _ _ b (bs ++ rest) (decimal-taken n b k d es h less) ∙ wide-decimal (n * 10 + digit_value b) bs rest k d es (and-second _ _ a) less w)
+    (λ more. steps-refused _ TooWide b (bs ++ rest) (decimal-refused n b k d es h more))
+    (cases_lt (n * 10 + digit_value b) (2 ^ 64))
+
+hexadecimal-refused : (n b : ℕ) (k : List Waiting) (d : ℕ) (es : List Tree) → is_hexadecimal b ≡ true → 2 ^ 64 ≤ n * 16 + digit_value b → step (st (hexadecimal n) k d es) b ≡ Err TooWide
+hexadecimal-refused n b k d es h w = let t : nat_le (2 ^ 64) (n * 16 + digit_value b) ≡ true = le-leb (2 ^ 64) (n * 16 + digit_value b) w in rw (h, t) refl
+
+hexadecimal-taken : (n b : ℕ) (k : List Waiting) (d : ℕ) (es : List Tree) → is_hexadecimal b ≡ true → n * 16 + digit_value b < 2 ^ 64 → step (st (hexadecimal n) k d es) b ≡ Ok (st (hexadecimal (n * 16 + digit_value b)) k d es)
+hexadecimal-taken n b k d es h w = let t : nat_le (2 ^ 64) (n * 16 + digit_value b) ≡ false = not-wide (n * 16 + digit_value b) w in rw (h, t) refl
+
+pub wide-hexadecimal : (n : ℕ) (bs rest : List ℕ) (k : List Waiting) (d : ℕ) (es : List Tree) → list_all is_hexadecimal bs ≡ true → n < 2 ^ 64 → 2 ^ 64 ≤ fold (λ v b. v * 16 + digit_value b) n bs →
+    steps (st (hexadecimal n) k d es) (bs ++ rest) ≡ Err TooWide
+wide-hexadecimal n [] rest k d es a l w = absurd (omega (arith, l, w))
+wide-hexadecimal n (b ∷ bs) rest k d es a l w =
+    let h : is_hexadecimal b ≡ true = and-first _ _ a in
+    ⊎_elim
+    (λ less. steps-first _ _ b (bs ++ rest) (hexadecimal-taken n b k d es h less) ∙ wide-hexadecimal (n * 16 + digit_value b) bs rest k d es (and-second _ _ a) less w)
+    (λ more. steps-refused _ TooWide b (bs ++ rest) (hexadecimal-refused n b k d es h more))
+    (cases_lt (n * 16 + digit_value b) (2 ^ 64))

@@ -1,0 +1,251 @@
+-- How an operand field is read, byte by byte.
+use Rattle.std.specs.Prelude.{ℕ, ◌+◌, ◌-◌, ◌*◌, ◌^◌, List, [], ◌∷◌, ◌++◌, Bool, true, false, ◌==◌, ◌&&◌, nat_le, if◌then◌else◌, Option, None, Some, Result, Ok, Err}
+use Rattle.mx_expr.specs.declared.faults.ExprFault.{ExprFault}
+use Rattle.mx_expr.specs.declared.faults.ExprFault.TheVariants.{Syntax, TooWide, TooDeep, EmptyString}
+use Rattle.mx_expr.specs.declared.tree.UnOp.{UnOp}
+use Rattle.mx_expr.specs.declared.tree.UnOp.TheVariants.{Plus, Minus, Not, Register}
+use Rattle.mx_expr.specs.declared.tree.BinOp.{BinOp}
+use Rattle.mx_expr.specs.declared.tree.BinOp.TheVariants.{Mul, Div, Fraction, Rem, Left, Right, And, Add, Sub, Or, Xor}
+use Rattle.mx_expr.specs.Tree.{Tree, number, name, back, ahead, here, unary, binary}
+use Rattle.mx_expr.specs.Bytes.{is_digit, is_hexadecimal, is_letter, is_word, digit_value}
+
+-- what waits for the expression that is being read, the last first
+pub data Waiting : Type 0 where
+  sign : (op : UnOp) → Waiting
+  strong : (op : BinOp) (left : Tree) → Waiting
+  weak : (op : BinOp) (left : Tree) → Waiting
+  parenthesis : Waiting
+
+-- where reading stands
+pub data Mode : Type 0 where
+  operand : Mode  -- a primary comes next
+  whole : (e : Tree) → Mode  -- after a primary, which is joined with the strong operators before it
+  digit : (n : ℕ) → Mode  -- after the first decimal digit
+  decimal : (n : ℕ) → Mode
+  hash : Mode  -- after `#`
+  hexadecimal : (n : ℕ) → Mode
+  quote : Mode  -- after an apostrophe
+  character : (c : ℕ) → Mode  -- after an apostrophe and a byte
+  symbol : (text : List ℕ) → Mode
+  slash : (e : Tree) → Mode  -- after `/`, `<` and `>`, the first byte of an operator
+  less : (e : Tree) → Mode
+  greater : (e : Tree) → Mode
+  string : (empty : Bool) → Mode  -- in a string
+  closed : Mode  -- after a string
+
+pub record State : Type 0 where
+  pub mode : Mode
+  pub waiting : List Waiting
+  pub depth : ℕ
+  pub done : List Tree
+
+abbrev pub Read : Type 0
+Read = Result State ExprFault
+
+-- A primary takes the unary operators that wait for it, and the strong operator.
+abbrev pub settled : List Waiting → Tree → Tree × List Waiting
+settled [] e = (e, [])
+settled (sign op ∷ k) e = settled k (unary op e)
+settled (strong op left ∷ k) e = (binary op left e, k)
+settled (weak op left ∷ k) e = (e, weak op left ∷ k)
+settled (parenthesis ∷ k) e = (e, parenthesis ∷ k)
+
+-- A product takes the weak operator that waits for it.
+abbrev pub summed : List Waiting → Tree → Tree × List Waiting
+summed [] e = (e, [])
+summed (sign op ∷ k) e = (e, sign op ∷ k)
+summed (strong op left ∷ k) e = (e, strong op left ∷ k)
+summed (weak op left ∷ k) e = (binary op left e, k)
+summed (parenthesis ∷ k) e = (e, parenthesis ∷ k)
+
+abbrev pub at : Mode → List Waiting → ℕ → List Tree → Read
+at mode k depth done = Ok (record { mode = mode; waiting = k; depth = depth; done = done })
+
+-- after a primary
+abbrev pub with_settled : Tree × List Waiting → ℕ → List Tree → Read
+with_settled (e, k) depth done = at (whole e) k depth done
+
+abbrev pub completed : Tree → List Waiting → ℕ → List Tree → Read
+completed e k depth done = with_settled (settled k e) depth done
+
+-- A string is an operand: nothing waits for it.
+abbrev pub quoted : List Waiting → ℕ → List Tree → Read
+quoted [] depth done = at (string true) [] depth done
+quoted (w ∷ k) depth done = Err Syntax
+
+abbrev pub sign_of : ℕ → Option UnOp
+sign_of b = if b == 43 then Some Plus else if b == 45 then Some Minus else if b == 126 then Some Not else if b == 36 then Some Register else None
+
+abbrev pub signed : Option UnOp → List Waiting → ℕ → List Tree → Read
+signed None k depth done = Err Syntax
+signed (Some op) k depth done = at operand (sign op ∷ k) depth done
+
+-- a byte where a primary comes next
+abbrev pub wanted_mark : ℕ → List Waiting → ℕ → List Tree → Read
+wanted_mark b k depth done =
+    if b == 35 then at hash k depth done
+    else if b == 39 then at quote k depth done
+    else if b == 64 then completed here k depth done
+    else if b == 40 then at operand (parenthesis ∷ k) (depth + 1) done
+    else if b == 34 then quoted k depth done
+    else signed (sign_of b) k depth done
+
+abbrev pub wanted : ℕ → List Waiting → ℕ → List Tree → Read
+wanted b k depth done =
+    if is_digit b then at (digit (b - 48)) k depth done
+    else if is_letter b then at (symbol (b ∷ [])) k depth done
+    else wanted_mark b k depth done
+
+-- operators of one byte
+abbrev pub strong_of : ℕ → Option BinOp
+strong_of b = if b == 42 then Some Mul else if b == 37 then Some Rem else if b == 38 then Some And else None
+
+abbrev pub weak_of : ℕ → Option BinOp
+weak_of b = if b == 43 then Some Add else if b == 45 then Some Sub else if b == 124 then Some Or else if b == 94 then Some Xor else None
+
+-- the end of a sum: a weak operator, `)` or `,`
+abbrev pub weakly : BinOp → Tree × List Waiting → ℕ → List Tree → Read
+weakly op (e, k) depth done = at operand (weak op e ∷ k) depth done
+
+abbrev pub enclosed : Tree × List Waiting → ℕ → List Tree → Read
+enclosed (e, []) depth done = Err Syntax
+enclosed (e, sign op ∷ k) depth done = Err Syntax
+enclosed (e, strong op left ∷ k) depth done = Err Syntax
+enclosed (e, weak op left ∷ k) depth done = Err Syntax
+enclosed (e, parenthesis ∷ k) depth done = completed e k (depth - 1) done
+
+abbrev pub listed : Tree × List Waiting → List Tree → Result (List Tree) ExprFault
+listed (e, []) done = Ok (done ++ e ∷ [])
+listed (e, w ∷ k) done = Err Syntax
+
+abbrev pub next_operand : ℕ → Result (List Tree) ExprFault → Read
+next_operand depth (Ok done) = at operand [] depth done
+next_operand depth (Err fault) = Err fault
+
+abbrev pub ends_sum : ℕ → Tree × List Waiting → ℕ → List Tree → Read
+ends_sum b sum depth done =
+    if b == 41 then enclosed sum depth done
+    else if b == 44 then next_operand depth (listed sum done)
+    else Err Syntax
+
+abbrev pub weakly_or_end : Option BinOp → ℕ → Tree × List Waiting → ℕ → List Tree → Read
+weakly_or_end (Some op) b sum depth done = weakly op sum depth done
+weakly_or_end None b sum depth done = ends_sum b sum depth done
+
+abbrev pub strongly : Option BinOp → ℕ → Tree → List Waiting → ℕ → List Tree → Read
+strongly (Some op) b e k depth done = at operand (strong op e ∷ k) depth done
+strongly None b e k depth done =
+    if b == 47 then at (slash e) k depth done
+    else if b == 60 then at (less e) k depth done
+    else if b == 62 then at (greater e) k depth done
+    else weakly_or_end (weak_of b) b (summed k e) depth done
+
+-- a byte after a product
+abbrev pub after : ℕ → Tree × List Waiting → ℕ → List Tree → Read
+after b (e, k) depth done = strongly (strong_of b) b e k depth done
+
+-- a byte after a primary that it does not go on
+abbrev pub beyond : ℕ → Tree → List Waiting → ℕ → List Tree → Read
+beyond b e k depth done = after b (settled k e) depth done
+
+-- a byte in a string: each is an operand
+abbrev pub in_string : ℕ → List Waiting → ℕ → List Tree → Read
+in_string b k depth done = if b == 34 then at closed k depth done else at (string false) k depth (done ++ number b ∷ [])
+
+-- what a byte leads to, where constants and parentheses have no bound
+abbrev pub moved : Mode → List Waiting → ℕ → List Tree → ℕ → Read
+moved operand k depth done b = wanted b k depth done
+moved (whole e) k depth done b = after b (e, k) depth done
+moved (digit n) k depth done b =
+    if is_digit b then at (decimal (n * 10 + (b - 48))) k depth done
+    else if b == 66 then completed (back n) k depth done
+    else if b == 70 then completed (ahead n) k depth done
+    else beyond b (number n) k depth done
+moved (decimal n) k depth done b =
+    if is_digit b then at (decimal (n * 10 + (b - 48))) k depth done else beyond b (number n) k depth done
+moved hash k depth done b = if is_hexadecimal b then at (hexadecimal (digit_value b)) k depth done else Err Syntax
+moved (hexadecimal n) k depth done b =
+    if is_hexadecimal b then at (hexadecimal (n * 16 + digit_value b)) k depth done else beyond b (number n) k depth done
+moved quote k depth done b = at (character b) k depth done
+moved (character c) k depth done b = if b == 39 then completed (number c) k depth done else Err Syntax
+moved (symbol text) k depth done b =
+    if is_word b then at (symbol (text ++ b ∷ [])) k depth done else beyond b (name text) k depth done
+moved (slash e) k depth done b =
+    if b == 47 then at operand (strong Fraction e ∷ k) depth done else wanted b (strong Div e ∷ k) depth done
+moved (less e) k depth done b = if b == 60 then at operand (strong Left e ∷ k) depth done else Err Syntax
+moved (greater e) k depth done b = if b == 62 then at operand (strong Right e ∷ k) depth done else Err Syntax
+moved (string empty) k depth done b = in_string b k depth done
+moved closed k depth done b = if b == 44 then at operand k depth done else Err Syntax
+
+-- the bounds that a byte would pass
+abbrev pub too_wide : ℕ → Option ExprFault
+too_wide n = if nat_le (2 ^ 64) n then Some TooWide else None
+
+abbrev pub too_deep : ℕ → ℕ → Option ExprFault
+too_deep depth b = if b == 40 && nat_le 255 depth then Some TooDeep else None
+
+abbrev pub passes : Mode → ℕ → ℕ → Option ExprFault
+passes operand depth b = too_deep depth b
+passes (whole e) depth b = None
+passes (digit n) depth b = None
+passes (decimal n) depth b = if is_digit b then too_wide (n * 10 + (b - 48)) else None
+passes hash depth b = None
+passes (hexadecimal n) depth b = if is_hexadecimal b then too_wide (n * 16 + digit_value b) else None
+passes quote depth b = None
+passes (character c) depth b = None
+passes (symbol text) depth b = None
+passes (slash e) depth b = too_deep depth b
+passes (less e) depth b = None
+passes (greater e) depth b = None
+passes (string true) depth b = if b == 34 then Some EmptyString else None
+passes (string false) depth b = None
+passes closed depth b = None
+
+-- one byte
+abbrev pub within : Option ExprFault → Read → Read
+within (Some fault) read = Err fault
+within None read = read
+
+abbrev pub bounded : Mode → List Waiting → ℕ → List Tree → ℕ → Read
+bounded mode k depth done b = within (passes mode depth b) (moved mode k depth done b)
+
+abbrev pub step : State → ℕ → Read
+step s b = bounded s.mode s.waiting s.depth s.done b
+
+-- the bytes one after another
+abbrev pub and_then : Read → (State → Read) → Read
+and_then (Err fault) f = Err fault
+and_then (Ok s) f = f s
+
+unfoldable pub steps : State → List ℕ → Read
+steps s [] = Ok s
+steps s (b ∷ bs) = and_then (step s b) (λ t. steps t bs)
+
+-- the list, at the end of the field
+abbrev pub finish : Mode → List Waiting → List Tree → Result (List Tree) ExprFault
+finish operand k done = Err Syntax
+finish (whole e) k done = listed (summed k e) done
+finish (digit n) k done = let p = settled k (number n) in listed (summed p.1 p.0) done
+finish (decimal n) k done = let p = settled k (number n) in listed (summed p.1 p.0) done
+finish hash k done = Err Syntax
+finish (hexadecimal n) k done = let p = settled k (number n) in listed (summed p.1 p.0) done
+finish quote k done = Err Syntax
+finish (character c) k done = Err Syntax
+finish (symbol text) k done = let p = settled k (name text) in listed (summed p.1 p.0) done
+finish (slash e) k done = Err Syntax
+finish (less e) k done = Err Syntax
+finish (greater e) k done = Err Syntax
+finish (string empty) k done = Err Syntax
+finish closed k done = Ok done
+
+abbrev pub finished : Read → Result (List Tree) ExprFault
+finished (Err fault) = Err fault
+finished (Ok s) = finish s.mode s.waiting s.done
+
+abbrev pub start : State
+start = record { mode = operand; waiting = []; depth = 0; done = [] }
+
+-- An empty field counts as `0`.
+abbrev pub reading : List ℕ → Result (List Tree) ExprFault
+reading [] = Ok (number 0 ∷ [])
+reading (b ∷ bs) = finished (steps start (b ∷ bs))

@@ -1,0 +1,102 @@
+-- The value of an expression, by whole numbers.
+use Rattle.std.specs.Prelude.{ℕ, ◌+◌, ◌-◌, ◌*◌, ◌/◌, ◌%◌, ◌^◌, ◌==◌, nat_lt, nat_le, if◌then◌else◌, List, Option, None, Some, Result, Ok, Err, bit_and, bit_or, bit_xor}
+use Rattle.mx_word.specs.declared.symbols.Value.{Value}
+use Rattle.mx_word.specs.declared.symbols.Value.TheVariants.{Pure, Reg}
+use Rattle.mx_expr.specs.declared.faults.ExprFault.{ExprFault}
+use Rattle.mx_expr.specs.declared.faults.ExprFault.TheVariants.{DivZero, FractionTooBig, PureOnly, TwoRegisters, RegisterFromPure, Future, RegisterNumber}
+use Rattle.mx_expr.specs.declared.tree.UnOp.{UnOp}
+use Rattle.mx_expr.specs.declared.tree.UnOp.TheVariants.{Plus, Minus, Not, Register}
+use Rattle.mx_expr.specs.declared.tree.BinOp.{BinOp}
+use Rattle.mx_expr.specs.declared.tree.BinOp.TheVariants.{Mul, Div, Fraction, Rem, Left, Right, And, Add, Sub, Or, Xor}
+use Rattle.mx_expr.specs.Tree.{Tree, number, name, back, ahead, here, unary, binary}
+
+abbrev pub Valued : Type 0
+Valued = Result Value ExprFault
+
+-- what is known: the value of each symbol as it is written, that of each `dB`, and the place
+pub record Knowledge : Type 0 where
+  pub symbols : List ℕ → Result (Option Value) ExprFault
+  pub backs : ℕ → Value
+  pub at : ℕ
+
+abbrev pub knows : (List ℕ → Result (Option Value) ExprFault) → (ℕ → Value) → ℕ → Knowledge
+knows symbols backs at = record { symbols = symbols; backs = backs; at = at }
+
+-- A register has a number of 0 to 255.
+abbrev pub register : ℕ → Valued
+register n = if nat_le n 255 then Ok (Reg n) else Err RegisterNumber
+
+-- a difference modulo 2^64
+abbrev pub difference : ℕ → ℕ → ℕ
+difference x y = (x + (2 ^ 64 - y)) % 2 ^ 64
+
+-- A shift by 64 or more gives 0.
+abbrev pub shifted_left : ℕ → ℕ → ℕ
+shifted_left x y = if nat_lt y 64 then x * 2 ^ y % 2 ^ 64 else 0
+
+abbrev pub shifted_right : ℕ → ℕ → ℕ
+shifted_right x y = if nat_lt y 64 then x / 2 ^ y else 0
+
+-- an operator on a value: `+` takes any, the others only a pure one
+abbrev pub applied : UnOp → Value → Valued
+applied Plus x = Ok x
+applied Minus (Pure x) = Ok (Pure (difference 0 x))
+applied Not (Pure x) = Ok (Pure (2 ^ 64 - 1 - x))
+applied Register (Pure x) = register x
+applied Minus (Reg x) = Err PureOnly
+applied Not (Reg x) = Err PureOnly
+applied Register (Reg x) = Err PureOnly
+
+-- an operator on two pure values, modulo 2^64
+abbrev pub pure_combined : BinOp → ℕ → ℕ → Valued
+pure_combined Mul x y = Ok (Pure (x * y % 2 ^ 64))
+pure_combined Div x y = if y == 0 then Err DivZero else Ok (Pure (x / y))
+pure_combined Fraction x y = if nat_le y x then Err FractionTooBig else Ok (Pure (2 ^ 64 * x / y))
+pure_combined Rem x y = if y == 0 then Err DivZero else Ok (Pure (x % y))
+pure_combined Left x y = Ok (Pure (shifted_left x y))
+pure_combined Right x y = Ok (Pure (shifted_right x y))
+pure_combined And x y = Ok (Pure (bit_and x y))
+pure_combined Add x y = Ok (Pure ((x + y) % 2 ^ 64))
+pure_combined Sub x y = Ok (Pure (difference x y))
+pure_combined Or x y = Ok (Pure (bit_or x y))
+pure_combined Xor x y = Ok (Pure (bit_xor x y))
+
+-- Register plus or minus pure and pure plus register are registers, register minus register is
+-- pure, and every other operator takes pure values alone.
+abbrev pub combined : BinOp → Value → Value → Valued
+combined op (Pure x) (Pure y) = pure_combined op x y
+combined Add (Reg x) (Pure y) = register ((x + y) % 2 ^ 64)
+combined Add (Pure x) (Reg y) = register ((x + y) % 2 ^ 64)
+combined Add (Reg x) (Reg y) = Err TwoRegisters
+combined Sub (Reg x) (Pure y) = register (difference x y)
+combined Sub (Reg x) (Reg y) = Ok (Pure (difference x y))
+combined Sub (Pure x) (Reg y) = Err RegisterFromPure
+combined op x y = Err PureOnly
+
+-- The left side's fault comes first, then the right side's, then the operator's.
+abbrev pub after_operand : UnOp → Valued → Valued
+after_operand op (Err fault) = Err fault
+after_operand op (Ok x) = applied op x
+
+abbrev pub after_right : BinOp → Value → Valued → Valued
+after_right op x (Err fault) = Err fault
+after_right op x (Ok y) = combined op x y
+
+abbrev pub after_both : BinOp → Valued → Valued → Valued
+after_both op (Err fault) right = Err fault
+after_both op (Ok x) right = after_right op x right
+
+-- A symbol that is not known has no value yet.
+abbrev pub of_symbol : Result (Option Value) ExprFault → Valued
+of_symbol (Err fault) = Err fault
+of_symbol (Ok None) = Err Future
+of_symbol (Ok (Some x)) = Ok x
+
+abbrev pub value_of : Knowledge → Tree → Valued
+value_of known (number n) = Ok (Pure n)
+value_of known (name text) = of_symbol (known.symbols text)
+value_of known (back d) = Ok (known.backs d)
+value_of known (ahead d) = Err Future
+value_of known here = Ok (Pure known.at)
+value_of known (unary op e) = after_operand op (value_of known e)
+value_of known (binary op l r) = after_both op (value_of known l) (value_of known r)

@@ -1,0 +1,125 @@
+//! The value of an expression, found with a list of what is left to do in place of recursion.
+
+ghost use Rattle.std.specs.Prelude.{◌≡◌, ◌≢◌, ◌+◌, ◌<◌, ◌≤◌, [], ◌∷◌, ◌++◌, Result, Ok, Err, IfOk, IfErr, OnOk, MatchResult};
+ghost use Rattle.mx_expr.specs.Tree.{tree_of, HasDigits};
+ghost use Rattle.mx_expr.specs.Value.{Knowledge, value_of, knows, of_symbol};
+ghost use Rattle.mx_expr.specs.Frames.{finished, nodes, nodes_left, AllHaveDigits, Goes, LeftBy, NextHasDigits};
+
+use crate::operators::{apply, combine};
+use crate::{BinOp, Expr, ExprFault, Known, UnOp};
+use mx_word::{Bytes, Value};
+use std::alloc::Global;
+
+/// What is left to do once the part before it has a value.
+#[derive(Clone, Copy)]
+enum Frame<'a> {
+    /// An operator takes the value.
+    Operand(UnOp),
+    /// The value is the left side of an operator, whose right side comes next.
+    Left(BinOp, &'a Expr),
+    /// The value is the right side of an operator; this is the left one.
+    Right(BinOp, Value),
+}
+
+/// What comes next after a value.
+#[derive(Clone, Copy)]
+enum Next<'a> {
+    Done(Value),
+    Right(&'a Expr),
+}
+
+/// The value of an expression. A fault of the left side comes first, then one of the right side,
+/// then one of the operator.
+#[tactic(auto, using(crate::proofs::FrameLaws::frames))]
+pub fn value<E: Known>(alloc: Global, e: &Expr, env: &E) -> Result<Value, ExprFault>
+    requires { HasDigits (tree_of e.now) }
+    ensures { result ≢ Err ExprFault.OutOfMemory → result ≡ value_of (knows (E.symbols env.now) (E.backs env.now) (E.at env.now)) (tree_of e.now) }
+{
+    let mut frames = Vec::new(alloc);
+    let mut at = e;
+    loop {
+        let first = match down(&mut frames, at, env) {
+            Ok(first) => first,
+            Err(fault) => return Err(fault),
+        };
+        match up(&mut frames, first) {
+            Ok(Next::Done(value)) => return Ok(value),
+            Ok(Next::Right(right)) => at = right,
+            Err(fault) => return Err(fault),
+        }
+    }
+}
+
+/// Goes down the left sides to a leaf, and gives its value.
+#[tactic(auto, using(crate::proofs::FrameLaws::frames))]
+fn down<'a, E: Known>(frames: &mut Vec<Frame<'a>>, e: &'a Expr, env: &E) -> Result<Value, ExprFault>
+    requires digits { HasDigits (tree_of e.now) }
+    requires all_digits { AllHaveDigits frames.old.items }
+    ensures value { let known = knows (E.symbols env.now) (E.backs env.now) (E.at env.now) in result ≢ Err ExprFault.OutOfMemory → finished known frames.new.items result ≡ finished known frames.old.items (value_of known (tree_of e.now)) }
+    ensures digits { AllHaveDigits frames.new.items }
+    ensures less { nodes_left frames.new.items < nodes_left frames.old.items + nodes (tree_of e.now) }
+{
+    let mut at = e;
+    loop {
+        match at {
+            Expr::Unary(op, operand) => {
+                if frames.push(Frame::Operand(*op)).is_err() {
+                    return Err(ExprFault::OutOfMemory);
+                }
+                at = operand;
+            }
+            Expr::Binary(op, left, right) => {
+                if frames.push(Frame::Left(*op, right)).is_err() {
+                    return Err(ExprFault::OutOfMemory);
+                }
+                at = left;
+            }
+            Expr::Number(n) => return Ok(Value::Pure(*n)),
+            Expr::Name(name) => return symbol(name, env),
+            Expr::Back(d) => return Ok(env.back(*d)),
+            Expr::Ahead(_) => return Err(ExprFault::Future),
+            Expr::Here => return Ok(Value::Pure(env.place())),
+        }
+    }
+}
+
+/// The value of a symbol.
+fn symbol<E: Known>(name: &Bytes, env: &E) -> Result<Value, ExprFault>
+    ensures { result ≢ Err ExprFault.OutOfMemory → result ≡ of_symbol (E.symbols env.now name.now) }
+{
+    match env.symbol(name.as_slice()) {
+        Ok(Some(value)) => Ok(value),
+        Ok(None) => Err(ExprFault::Future),
+        Err(fault) => Err(fault),
+    }
+}
+
+/// Passes a value on, until it is the whole expression's or a right side comes next.
+#[tactic(auto, using(crate::proofs::FrameLaws::frames))]
+fn up<'a>(frames: &mut Vec<Frame<'a>>, first: Value) -> Result<Next<'a>, ExprFault>
+    requires all_digits { AllHaveDigits frames.old.items }
+    ensures value { (known : Knowledge) → Goes known frames.new.items result (finished known frames.old.items (Ok first)) }
+    ensures digits { NextHasDigits result × AllHaveDigits frames.new.items }
+    ensures left { LeftBy frames.new.items result (nodes_left frames.old.items) }
+{
+    let mut value = first;
+    while let Some(frame) = frames.pop() {
+        match frame {
+            Frame::Operand(op) => match apply(op, value) {
+                Ok(x) => value = x,
+                Err(fault) => return Err(fault),
+            },
+            Frame::Left(op, right) => {
+                return match frames.push(Frame::Right(op, value)) {
+                    Ok(()) => Ok(Next::Right(right)),
+                    Err(_) => Err(ExprFault::OutOfMemory),
+                };
+            }
+            Frame::Right(op, left) => match combine(op, left, value) {
+                Ok(x) => value = x,
+                Err(fault) => return Err(fault),
+            },
+        }
+    }
+    Ok(Next::Done(value))
+}
