@@ -1,4 +1,4 @@
-//! Items from outside; octas and addresses were computed with another tool.
+//! Items with what they come to; octas and addresses were worked out by hand from the format's rules.
 
 ghost use Rattle.std.specs.Prelude.{◌≡◌, ◌∷◌, [], IfSome};
 ghost use Rattle.mx_mmo.specs.Valid.{Fits};
