@@ -22,7 +22,7 @@ grouped-first at s (t ∷ ts) =
     let rest = grouped-first at t ts in
     ap (joined at s) rest ∙
     group-step (next_byte at t == next_byte at s) at s t ts (run_length at (next_byte at s) ts) (run_length at (next_byte at t) ts)
-      (λ e. ap (λ x. run_length at x ts) (same-byte (next_byte at t) (next_byte at s) e)) rest
+    (λ e. ap (λ x. run_length at x ts) (same-byte (next_byte at t) (next_byte at s) e)) rest
 
 stands-joined : (at : ℕ) (s : Symbol) (groups : List (List Symbol)) → stands (joined at s groups) ≡ true
 stands-joined at s [] = refl
@@ -39,17 +39,17 @@ stands-grouped at (s ∷ more) = stands-joined at s (grouped at more)
 
 nodes-first : (deep at : ℕ) (symbols : List Symbol) → 0 < length symbols →
     trie (suc deep) at symbols ≡ front at (take (group_size at symbols) symbols) (stands (drop (group_size at symbols) symbols))
-      ++ trie deep (at + 1) (inner at (take (group_size at symbols) symbols)) ++ trie (suc deep) at (drop (group_size at symbols) symbols)
+    ++ trie deep (at + 1) (inner at (take (group_size at symbols) symbols)) ++ trie (suc deep) at (drop (group_size at symbols) symbols)
 unfolding trie
 nodes-first deep at [] h = absurd (omega arith)
 nodes-first deep at (s ∷ more) h =
     ap (nodes (trie deep (at + 1)) at) (grouped-first at s more) ∙
     ap (λ b. front at (s ∷ take (run_length at (next_byte at s) more) more) b ++ trie deep (at + 1) (inner at (s ∷ take (run_length at (next_byte at s) more) more)) ++ trie (suc deep) at (drop (run_length at (next_byte at s) more) more))
-      (stands-grouped at (drop (run_length at (next_byte at s) more) more))
+    (stands-grouped at (drop (run_length at (next_byte at s) more) more))
 
 pub first-node : (at : ℕ) (symbols : List Symbol) → at < 1024 → 0 < length symbols →
     trie_from at symbols ≡ front at (take (group_size at symbols) symbols) (stands (drop (group_size at symbols) symbols))
-      ++ trie_from (at + 1) (inner at (take (group_size at symbols) symbols)) ++ trie_from at (drop (group_size at symbols) symbols)
+    ++ trie_from (at + 1) (inner at (take (group_size at symbols) symbols)) ++ trie_from at (drop (group_size at symbols) symbols)
 first-node at symbols l h =
     let deep : longest - at ≡ suc (longest - (at + 1)) = omega arith in
     rw deep (nodes-first (longest - (at + 1)) at symbols h)
@@ -106,10 +106,10 @@ node-taken b c at k symbols g o below s a d e l n hk hg ho hs hb hc hd he =
     let group : g ≡ take (group_size at symbols) symbols = hg ∙ ap (λ i. take i symbols) hk in
     let others : o ≡ drop (group_size at symbols) symbols = ho ∙ ap (λ i. drop i symbols) hk in
     taken b c (front at (take size symbols) (stands (drop size symbols))) (trie_from at symbols) (trie_from (at + 1) (inner at (take size symbols))) (trie_from at (drop size symbols)) a d e
-      (first-node at symbols l (some-symbol symbols n))
-      (hc ∙ ap (λ x. b ++ front at x s) group ∙ ap (λ x. b ++ front at (take size symbols) x) (hs ∙ ap (λ x. stands x) others))
-      (hd ∙ ap (λ x. trie_from at x ++ a) others)
-      (he ∙ ap (λ x. trie_from (at + 1) x ++ d) (hb ∙ ap (inner at) group))
+    (first-node at symbols l (some-symbol symbols n))
+    (hc ∙ ap (λ x. b ++ front at x s) group ∙ ap (λ x. b ++ front at (take size symbols) x) (hs ∙ ap (λ x. stands x) others))
+    (hd ∙ ap (λ x. trie_from at x ++ a) others)
+    (he ∙ ap (λ x. trie_from (at + 1) x ++ d) (hb ∙ ap (inner at) group))
 
 pub less-noted : (b c : List ℕ) (before after whole : List Pending) (p : Pending) →
     c ++ ahead after ≡ b ++ trie_from p.at p.symbols.now ++ ahead before → whole ≡ before ++ p ∷ [] → length after + length b ≤ length before + length c →

@@ -1,5 +1,5 @@
 -- The grammar of symbol tries.
-use Rattle.std.specs.Prelude.{◌≡◌, ◌≢◌, ℕ, ◌+◌, ◌*◌, ◌^◌, ◌<◌, ◌≤◌, ◌⊎◌, List, [], ◌∷◌, ◌++◌, length, replicate}
+use Rattle.std.specs.Prelude.{◌≢◌, ℕ, ◌+◌, ◌*◌, ◌^◌, ◌<◌, ◌≤◌, List, [], ◌∷◌, ◌++◌, length, replicate}
 use Rattle.std.specs.List.{AllByRecursion}
 use Rattle.mx_word.specs.declared.symbols.Symbol.{Symbol}
 use Rattle.mx_word.specs.declared.symbols.Value.{Value}
@@ -49,7 +49,7 @@ pub data IsSubtrie : ℕ → List ℕ → List ℕ → List Symbol → Type 0 wh
       SpellsCharacter wide name character → length (path ++ name) ≤ 1024 →
       IsSubtrie l path left before → IsSubtrie 1 (path ++ name) middle below → IsSubtrie r path right after →
       IsSubtrie 1 path ((wide + 0x40 * l + 0x20 + 0x10 * r) ∷ left ++ character ++ middle ++ right)
-        (before ++ below ++ after)
+      (before ++ below ++ after)
   -- a node where a name ends
   symbol : (path name character : List ℕ) (wide l m r kind serial : ℕ) (value : Value)
       (left told counted middle right : List ℕ) (before below after : List Symbol) →
@@ -57,7 +57,7 @@ pub data IsSubtrie : ℕ → List ℕ → List ℕ → List Symbol → Type 0 wh
       SpellsValue kind value told → SpellsSerial serial counted →
       IsSubtrie l path left before → IsSubtrie m (path ++ name) middle below → IsSubtrie r path right after →
       IsSubtrie 1 path ((wide + 0x40 * l + 0x20 * m + 0x10 * r + kind) ∷ left ++ character ++ told ++ counted ++ middle ++ right)
-        (before ++ record { name = path ++ name; value = value; serial = serial } ∷ below ++ after)
+      (before ++ record { name = path ++ name; value = value; serial = serial } ∷ below ++ after)
 
 -- no name stands twice
 abbrev pub AreDistinct : List Symbol → Type 0

@@ -36,7 +36,7 @@ bit weight is = if is then weight else 0
 abbrev pub front_of : ℕ → Symbol → Bool → Bool → List ℕ
 front_of at s goes_on others =
     if ends at s then
-      (bit 0x20 goes_on + bit 0x10 others + kind s.value) ∷ next_byte at s ∷ value_bytes s.value ++ serial_bytes s.serial
+    (bit 0x20 goes_on + bit 0x10 others + kind s.value) ∷ next_byte at s ∷ value_bytes s.value ++ serial_bytes s.serial
     else (bit 0x20 goes_on + bit 0x10 others) ∷ next_byte at s ∷ []
 
 -- whether anything stands in a list

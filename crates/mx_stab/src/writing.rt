@@ -126,7 +126,12 @@ fn append_front_of(
 }
 
 /// Adds the front of a group's node.
-fn append_front(bytes: &mut Vec<u8>, at: usize, group: &[Symbol], others: bool) -> Result<(), NoMemory>
+fn append_front(
+    bytes: &mut Vec<u8>,
+    at: usize,
+    group: &[Symbol],
+    others: bool,
+) -> Result<(), NoMemory>
     requires { at ≤ 1024 }
     ensures { OnOk result (bytes.new.items ≡ bytes.old.items ++ spec.front at group.now others) }
 {

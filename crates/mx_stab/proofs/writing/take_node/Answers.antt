@@ -1,6 +1,4 @@
-use Rattle.std.proofs.Common.{◌≡◌, ◌+◌, ◌<◌, ap, ◌∙◌, sym, length, arith, [], ◌∷◌, ◌++◌, List, take, drop}
-use Rattle.mx_stab.specs.Trie as spec
-use Rattle.mx_stab.specs.Writing.{ahead, group_size}
+use Rattle.std.proofs.Common.{◌∙◌, sym}
 use Rattle.mx_stab.proofs.Groups.{node-taken, nothing-taken, trie-deep, trie-empty}
 use Rattle.mx_stab.proofs.writing.take_node.Goals as goal
 

@@ -1,4 +1,3 @@
-use Rattle.std.proofs.Common.{◌≡◌}
 use Rattle.mx_stab.proofs.Groups.{all-noted, less-noted}
 use Rattle.mx_stab.proofs.writing.write_all.Goals as goal
 
