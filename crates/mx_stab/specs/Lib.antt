@@ -4,3 +4,4 @@ pub mod Grammar
 pub mod Numbers
 pub mod Trie
 pub mod Writing
+pub mod Order

@@ -7,10 +7,12 @@
 #![tactic(auto)]
 
 mod faults;
+mod laws;
 mod numbers;
 #[cfg(test)]
 mod tests;
 mod writing;
 
 pub use faults::StabFault;
+pub use laws::writing_is_the_grammar;
 pub use writing::write;

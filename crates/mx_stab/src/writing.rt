@@ -4,6 +4,9 @@ ghost use Rattle.std.specs.Prelude.{◌≡◌, ◌≢◌, ◌≤◌, ◌<◌, �
 ghost use Rattle.mx_stab.specs.Trie as spec;
 ghost use Rattle.mx_stab.specs.Writing as writing;
 ghost use Rattle.mx_stab.specs.Writing.{ahead};
+ghost use Rattle.mx_stab.specs.Grammar.{IsTrie};
+ghost use Rattle.mx_stab.specs.Order.{AreInOrder, IsNamed};
+ghost use Rattle.std.specs.List.{AllByRecursion};
 
 use crate::StabFault;
 use crate::numbers::{append_serial, append_value, kind};
@@ -180,9 +183,12 @@ fn take_node<'a>(
     Ok(())
 }
 
-/// The trie of symbols that stand in the order of their names.
+/// The trie of symbols that stand in the order of their names, each of 1 to 1,024 bytes: no left
+/// subtries, right subtries in ascending order of their characters, and the fewest bytes for each
+/// value and serial number. It is refused only for want of memory.
 pub fn write(alloc: Global, symbols: &Symbols) -> Result<Bytes, StabFault>
     ensures trie { IfOk result (λ bytes. bytes ≡ spec.trie_of symbols.now) }
+    ensures grammar { AreInOrder symbols.now → AllByRecursion IsNamed symbols.now → IfOk result (λ bytes. IsTrie bytes symbols.now) }
     ensures refusal { IfErr result (λ f. f ≡ StabFault.OutOfMemory) }
 {
     match write_all(alloc, symbols.as_slice()) {
