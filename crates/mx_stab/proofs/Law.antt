@@ -1,15 +1,14 @@
 -- What is written is in the grammar.
-use Rattle.std.proofs.Common.{◌≡◌, ◌≢◌, ℕ, zero, suc, ◌+◌, ◌-◌, ◌*◌, ◌<◌, ◌≤◌, ◌⊎◌, ◌==◌, Bool, true, false, cond, List, [], ◌∷◌, ◌++◌, length, take, arith, refl, sym, ap, ◌∙◌, subst, inl, inr, length-append, append-nil, replicate}
-use Rattle.std.specs.Prelude.{nat_le, slice_index_or}
+use Rattle.std.proofs.Common.{◌≡◌, ℕ, zero, suc, ◌+◌, ◌*◌, ◌<◌, ◌≤◌, ◌==◌, Bool, true, false, cond, List, [], ◌∷◌, ◌++◌, length, take, arith, refl, sym, ap, ◌∙◌, subst, inl, inr, length-append, append-nil}
+use Rattle.std.specs.Prelude.{slice_index_or}
 use Rattle.std.specs.List.{AllByRecursion}
-use Rattle.std.proofs.Math.Seq.{take-suc, take-length}
+use Rattle.std.proofs.Math.Seq.{take-suc}
 use Rattle.std.proofs.lemmas.Bool.{eqb-true, leb-true, leb-false, cases_lt}
 use Rattle.mx_word.specs.declared.symbols.Symbol.{Symbol}
-use Rattle.mx_word.specs.declared.symbols.Value.{Value}
 use Rattle.mx_stab.specs.Numbers.{value_bytes, kind, serial_bytes}
-use Rattle.mx_stab.specs.Trie.{next_byte, ends, joined, grouped, inner, bit, front, front_of, stands, nodes, trie, trie_of}
+use Rattle.mx_stab.specs.Trie.{next_byte, ends, joined, grouped, bit, stands, nodes, trie, trie_of}
 use Rattle.mx_stab.specs.Order.{Before, AreInOrder, IsNamed}
-use Rattle.mx_stab.specs.Grammar.{IsSubtrie, IsTrie, AreDistinct, SpellsCharacter}
+use Rattle.mx_stab.specs.Grammar.{IsSubtrie, IsTrie}
 use Rattle.mx_stab.specs.Grammar.IsSubtrie.{none, passed, symbol}
 use Rattle.mx_stab.specs.Grammar.IsTrie.{empty, whole}
 use Rattle.mx_stab.specs.Grammar.SpellsCharacter.{byte}
@@ -132,7 +131,7 @@ holds-below : (deep : ℕ) → Holds deep → (path : List ℕ) (c : ℕ) (symbo
 holds-below deep holds path c symbols n u o =
     let long : length (path ++ c ∷ []) ≡ length path + 1 = length-append path (c ∷ []) in
     subst (λ at. IsSubtrie (flag (stands symbols)) (path ++ c ∷ []) (trie deep at symbols) symbols) long
-      (holds (path ++ c ∷ []) symbols (omega (arith, long, n)) u o)
+    (holds (path ++ c ∷ []) symbols (omega (arith, long, n)) u o)
 
 own-name : (path : List ℕ) (s : Symbol) → Under path s → length s.name ≤ length path + 1 → path ++ next_byte (length path) s ∷ [] ≡ s.name
 own-name path s u l = sym (next-path path s u) ∙ take-whole (length path + 1) s.name l
@@ -151,10 +150,10 @@ node-ends : (path : List ℕ) (s : Symbol) (more others : List Symbol) (r : Bool
 node-ends path s more others r middle right u l m o =
     let c = next_byte (length path) s in
     let built = symbol path (c ∷ []) (c ∷ []) 0 0 (flag (stands more)) (flag r) (kind s.value) s.serial s.value [] (value_bytes s.value) (serial_bytes s.serial) middle right [] more others
-        (byte c (byte-below s.name (length path) u.named.bytes u.longer)) (path-fits path s u) (spell-value s.value u.named.value) (spell-serial s.serial u.named.serial)
-        (none path) m o in
+    (byte c (byte-below s.name (length path) u.named.bytes u.longer)) (path-fits path s u) (spell-value s.value u.named.value) (spell-serial s.serial u.named.serial)
+    (none path) m o in
     let named = subst (λ name. IsSubtrie 1 path (((0 + 0x40 * 0 + 0x20 * flag (stands more) + 0x10 * flag r + kind s.value) ∷ c ∷ value_bytes s.value ++ serial_bytes s.serial) ++ middle ++ right)
-        ((record { name = name; value = s.value; serial = s.serial } ∷ more) ++ others)) (own-name path s u l) built in
+    ((record { name = name; value = s.value; serial = s.serial } ∷ more) ++ others)) (own-name path s u l) built in
     subst (λ b. IsSubtrie 1 path ((b ∷ c ∷ value_bytes s.value ++ serial_bytes s.serial) ++ middle ++ right) ((s ∷ more) ++ others)) (byte-symbol (stands more) r (kind s.value)) named
 
 node-passes : (path : List ℕ) (s : Symbol) (more others : List Symbol) (r : Bool) (middle right : List ℕ) → Under path s →
@@ -163,7 +162,7 @@ node-passes : (path : List ℕ) (s : Symbol) (more others : List Symbol) (r : Bo
 node-passes path s more others r middle right u m o =
     let c = next_byte (length path) s in
     let built = passed path (c ∷ []) (c ∷ []) 0 0 (flag r) [] middle right [] (s ∷ more) others
-        (byte c (byte-below s.name (length path) u.named.bytes u.longer)) (path-fits path s u) (none path) m o in
+    (byte c (byte-below s.name (length path) u.named.bytes u.longer)) (path-fits path s u) (none path) m o in
     subst (λ b. IsSubtrie 1 path ((b ∷ c ∷ []) ++ middle ++ right) ((s ∷ more) ++ others)) (byte-passed r) built
 
 -- a node: its name ends here or goes on
@@ -172,17 +171,17 @@ node-is : (e : Bool) (deep : ℕ) → Holds deep → (path : List ℕ) (s : Symb
     length path + suc deep ≡ 1024 → AreUnder path (s ∷ more) → IsGroup (length path) (s ∷ more) → AreInOrder (s ∷ more) →
     IsSubtrie (flag r) path right others →
     IsSubtrie 1 path
-      (cond e ((bit 0x20 (stands (cond e more (s ∷ more))) + bit 0x10 r + kind s.value) ∷ next_byte (length path) s ∷ value_bytes s.value ++ serial_bytes s.serial)
-          ((bit 0x20 (stands (cond e more (s ∷ more))) + bit 0x10 r) ∷ next_byte (length path) s ∷ [])
-        ++ trie deep (length path + 1) (cond e more (s ∷ more)) ++ right)
-      ((s ∷ more) ++ others)
+    (cond e ((bit 0x20 (stands (cond e more (s ∷ more))) + bit 0x10 r + kind s.value) ∷ next_byte (length path) s ∷ value_bytes s.value ++ serial_bytes s.serial)
+    ((bit 0x20 (stands (cond e more (s ∷ more))) + bit 0x10 r) ∷ next_byte (length path) s ∷ [])
+    ++ trie deep (length path + 1) (cond e more (s ∷ more)) ++ right)
+    ((s ∷ more) ++ others)
 node-is true deep holds path s more others r right t f n u g o k =
     node-ends path s more others r _ right u.0 (t refl)
-      (holds-below deep holds path (next_byte (length path) s) more n (more-below path s more u.0 u.1 g o.0) o.1) k
+    (holds-below deep holds path (next_byte (length path) s) more n (more-below path s more u.0 u.1 g o.0) o.1) k
 node-is false deep holds path s more others r right t f n u g o k =
     node-passes path s more others r _ right u.0
-      (holds-below deep holds path (next_byte (length path) s) (s ∷ more) n
-        (below-path path (next_byte (length path) s) s u.0 refl (f refl), more-below path s more u.0 u.1 g o.0) o) k
+    (holds-below deep holds path (next_byte (length path) s) (s ∷ more) n
+    (below-path path (next_byte (length path) s) s u.0 refl (f refl), more-below path s more u.0 u.1 g o.0) o) k
 
 ends-true : (at : ℕ) (s : Symbol) → ends at s ≡ true → length s.name ≤ at + 1
 ends-true at s h = leb-true (length s.name) (at + 1) h
@@ -197,8 +196,8 @@ nodes-are deep holds path [] n g u o = none path
 nodes-are deep holds path ([] ∷ groups) n g u o = absurd (g.0)
 nodes-are deep holds path ((s ∷ more) ∷ groups) n g u o =
     node-is (ends (length path) s) deep holds path s more (all-of groups) (stands groups) (nodes (trie deep (length path + 1)) (length path) groups)
-      (ends-true (length path) s) (ends-false (length path) s) n (all-front (Under path) (s ∷ more) (all-of groups) u) g.0 (order-front (s ∷ more) (all-of groups) o)
-      (nodes-are deep holds path groups n g.1 (all-back (Under path) (s ∷ more) (all-of groups) u) (order-back (s ∷ more) (all-of groups) o))
+    (ends-true (length path) s) (ends-false (length path) s) n (all-front (Under path) (s ∷ more) (all-of groups) u) g.0 (order-front (s ∷ more) (all-of groups) o)
+    (nodes-are deep holds path groups n g.1 (all-back (Under path) (s ∷ more) (all-of groups) u) (order-back (s ∷ more) (all-of groups) o))
 
 too-deep : (path : List ℕ) (symbols : List Symbol) → length path + zero ≡ 1024 → AreUnder path symbols → symbols ≡ []
 too-deep path [] n u = refl
@@ -211,7 +210,7 @@ holds-all (suc deep) path symbols n u o =
     let all = concat-grouped (length path) symbols in
     let found = nodes-are deep (holds-all deep) path (grouped (length path) symbols) n (are-groups (length path) symbols) (subst (AreUnder path) (sym all) u) (subst AreInOrder (sym all) o) in
     subst (λ b. IsSubtrie (flag b) path (nodes (trie deep (length path + 1)) (length path) (grouped (length path) symbols)) symbols) (stands-grouped (length path) symbols)
-      (subst (λ ss. IsSubtrie (flag (stands (grouped (length path) symbols))) path (nodes (trie deep (length path + 1)) (length path) (grouped (length path) symbols)) ss) all found)
+    (subst (λ ss. IsSubtrie (flag (stands (grouped (length path) symbols))) path (nodes (trie deep (length path + 1)) (length path) (grouped (length path) symbols)) ss) all found)
 
 under-none : (symbols : List Symbol) → AllByRecursion IsNamed symbols → AreUnder [] symbols
 under-none [] h = tt
@@ -221,4 +220,4 @@ pub written-is-trie : (symbols : List Symbol) → AreInOrder symbols → AllByRe
 written-is-trie [] o h = subst (λ bytes. IsTrie bytes []) (sym (trie-none 1024 0)) empty
 written-is-trie (s ∷ more) o h =
     subst (λ bytes. IsTrie bytes (s ∷ more)) (append-nil (trie_of (s ∷ more)))
-      (whole (trie_of (s ∷ more)) 0 (s ∷ more) (holds-all 1024 [] (s ∷ more) refl (under-none (s ∷ more) h) o) (omega arith) (in-order-distinct (s ∷ more) o))
+    (whole (trie_of (s ∷ more)) 0 (s ∷ more) (holds-all 1024 [] (s ∷ more) refl (under-none (s ∷ more) h) o) (omega arith) (in-order-distinct (s ∷ more) o))

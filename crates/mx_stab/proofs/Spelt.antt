@@ -1,7 +1,6 @@
 -- Values and serial numbers as they are written.
-use Rattle.std.proofs.Common.{◌≡◌, ℕ, zero, suc, ◌+◌, ◌-◌, ◌*◌, ◌/◌, ◌%◌, ◌^◌, ◌<◌, ◌≤◌, ◌==◌, Bool, true, false, cond, List, [], ◌∷◌, ◌++◌, length, arith, refl, sym, ap, ◌∙◌, subst}
+use Rattle.std.proofs.Common.{◌≡◌, ℕ, ◌+◌, ◌-◌, ◌*◌, ◌/◌, ◌%◌, ◌^◌, ◌<◌, ◌≤◌, ◌==◌, Bool, true, false, cond, List, [], ◌∷◌, ◌++◌, length, arith, refl, sym, ap, ◌∙◌, subst}
 use Rattle.std.specs.Prelude.{nat_le, nat_lt, ◌&&◌}
-use Rattle.std.specs.List.{AllByRecursion}
 use Rattle.std.proofs.lemmas.Bool.{eqb-true, leb-true, ltb-true}
 use Rattle.mx_word.specs.Words.{octa_to_bytes}
 use Rattle.mx_word.specs.declared.symbols.Value.{Value}
@@ -61,7 +60,7 @@ octa-short x h =
     let first : x / 2 ^ 56 % 256 ≡ 0 = omega (arith, h) in
     let second : x / 2 ^ 48 % 256 ≡ 0 = omega (arith, h) in
     two-zeros (x / 2 ^ 56 % 256) (x / 2 ^ 48 % 256) (x / 2 ^ 40 % 256)
-      ((x / 2 ^ 32 % 256) ∷ (x / 2 ^ 24 % 256) ∷ (x / 2 ^ 16 % 256) ∷ (x / 2 ^ 8 % 256) ∷ (x % 256) ∷ []) first second
+    ((x / 2 ^ 32 % 256) ∷ (x / 2 ^ 24 % 256) ∷ (x / 2 ^ 16 % 256) ∷ (x / 2 ^ 8 % 256) ∷ (x % 256) ∷ []) first second
 
 some-length : (ds : List ℕ) → 0 < length ds → (1 ≤ length (fewest ds)) × (length (fewest ds) ≤ length ds)
 some-length [] h = absurd (omega (arith, h))
@@ -74,7 +73,7 @@ spell-pure : (b : Bool) (x : ℕ) → (b ≡ true → (2 ^ 61 ≤ x) × (x < 2 ^
     SpellsValue (cond b (8 + length (octa_digits (x - 2 ^ 61))) (length (octa_digits x))) (Pure x) (cond b (octa_digits (x - 2 ^ 61)) (octa_digits x))
 spell-pure false x h l =
     subst (λ y. SpellsValue (length (octa_digits x)) (Pure y) (octa_digits x)) (fewest-same 256 (octa_to_bytes x) ∙ octa-number x l)
-      (pure (octa_digits x) (fewest-below 256 (octa_to_bytes x) (octa-below x)) ((octa-length x).0) ((octa-length x).1))
+    (pure (octa_digits x) (fewest-below 256 (octa_to_bytes x) (octa-below x)) ((octa-length x).0) ((octa-length x).1))
 spell-pure true x h l =
     let y = x - 2 ^ 61 in
     let low = (h refl).0 in
@@ -83,7 +82,7 @@ spell-pure true x h l =
     let octa : y < 2 ^ 64 = omega (arith, small) in
     let back : 2 ^ 61 + number 256 (octa_digits y) ≡ x = omega (arith, low, fewest-same 256 (octa_to_bytes y) ∙ octa-number y octa) in
     subst (λ z. SpellsValue (8 + length (octa_digits y)) (Pure z) (octa_digits y)) back
-      (offset (octa_digits y) (fewest-below 256 (octa_to_bytes y) (octa-below y)) ((octa-length y).0) (octa-short y small))
+    (offset (octa_digits y) (fewest-below 256 (octa_to_bytes y) (octa-below y)) ((octa-length y).0) (octa-short y small))
 
 and-both : (p q : Bool) → (p && q) ≡ true → (p ≡ true) × (q ≡ true)
 and-both true true h = (refl, refl)
@@ -140,5 +139,5 @@ spell-serial x h =
     let s = shortened (serial-front x) (x % 128) (serial-below x h) in
     let back : number 128 (s.short ++ (x % 128) ∷ []) ≡ x = s.tells ∙ serial-number x in
     subst (λ y. SpellsSerial y (serial_bytes x)) back
-      (subst (λ bs. SpellsSerial (number 128 (s.short ++ (x % 128) ∷ [])) bs) (sym s.same)
-        (digits s.short (x % 128) s.below (omega arith) (omega (arith, back, h))))
+    (subst (λ bs. SpellsSerial (number 128 (s.short ++ (x % 128) ∷ [])) bs) (sym s.same)
+    (digits s.short (x % 128) s.below (omega arith) (omega (arith, back, h))))

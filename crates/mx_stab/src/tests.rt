@@ -1,6 +1,6 @@
 //! Tries from outside.
 
-use crate::{StabFault, write};
+use crate::{StabFault, write, writing_is_the_grammar};
 use mx_word::{Bytes, NoMemory, Symbol, Symbols, Value};
 use std::alloc::Global;
 
@@ -30,6 +30,7 @@ fn is_written(alloc: Global, of: &[(&[u8], Value, u32)], want: &[u8]) -> bool {
 
 #[test]
 fn symbols_are_written(rt: HostRuntime) {
+    writing_is_the_grammar();
     let alloc = rt.alloc();
     assert!(rt; is_written(alloc, &[], b"",), "no symbols");
     assert!(rt;
