@@ -1,0 +1,71 @@
+-- The grammar of symbol tries.
+use Rattle.std.specs.Prelude.{◌≢◌, ℕ, ◌+◌, ◌*◌, ◌^◌, ◌<◌, ◌≤◌, List, [], ◌∷◌, ◌++◌, length, replicate}
+use Rattle.std.specs.List.{AllByRecursion}
+use Rattle.mx_word.specs.declared.symbols.Symbol.{Symbol}
+use Rattle.mx_word.specs.declared.symbols.Value.{Value}
+use Rattle.mx_word.specs.declared.symbols.Value.TheVariants.{Pure, Reg}
+
+-- digits of a base that come behind a number
+abbrev pub behind : ℕ → ℕ → List ℕ → ℕ
+behind base x [] = x
+behind base x (d ∷ more) = behind base (x * base + d) more
+
+-- the number of digits from the high end
+abbrev pub number : ℕ → List ℕ → ℕ
+number base digits = behind base 0 digits
+
+-- digits below a bound
+abbrev pub AreBelow : ℕ → List ℕ → Type 0
+AreBelow bound digits = AllByRecursion (λ d. d < bound) digits
+
+-- a value of a kind: 1 to 8 are pure in so many bytes, 9 to 14 are pure and 2^61 more than what 1 to 6
+-- bytes tell, 15 is a register
+pub data SpellsValue : ℕ → Value → List ℕ → Type 0 where
+  pure : (bytes : List ℕ) → AreBelow 256 bytes → 1 ≤ length bytes → length bytes ≤ 8 →
+      SpellsValue (length bytes) (Pure (number 256 bytes)) bytes
+  offset : (bytes : List ℕ) → AreBelow 256 bytes → 1 ≤ length bytes → length bytes ≤ 6 →
+      SpellsValue (8 + length bytes) (Pure (2 ^ 61 + number 256 bytes)) bytes
+  register : (k : ℕ) → k < 256 → SpellsValue 15 (Reg k) (k ∷ [])
+
+-- a serial number in base 128 from the high end, zeros in front allowed; #80 is added to its last digit
+pub data SpellsSerial : ℕ → List ℕ → Type 0 where
+  digits : (front : List ℕ) (last : ℕ) → AreBelow 128 front → last < 128 →
+      number 128 (front ++ last ∷ []) < 2 ^ 32 →
+      SpellsSerial (number 128 (front ++ last ∷ [])) (front ++ (last + 128) ∷ [])
+
+-- a character of a name, with the bit that it puts into a node's byte m: one byte stands for itself
+pub data SpellsCharacter : ℕ → List ℕ → List ℕ → Type 0 where
+  byte : (c : ℕ) → c < 256 → SpellsCharacter 0 (c ∷ []) (c ∷ [])
+
+-- whether a subtrie is there, the name on the way to it, its bytes, and its symbols in their order
+pub data IsSubtrie : ℕ → List ℕ → List ℕ → List Symbol → Type 0 where
+  none : (path : List ℕ) → IsSubtrie 0 path [] []
+  -- a node without a character
+  bare : (path : List ℕ) (l r : ℕ) (left right : List ℕ) (before after : List Symbol) →
+      IsSubtrie l path left before → IsSubtrie r path right after →
+      IsSubtrie 1 path ((0x40 * l + 0x10 * r) ∷ left ++ right) (before ++ after)
+  -- a node with a character where no name ends
+  passed : (path name character : List ℕ) (wide l r : ℕ) (left middle right : List ℕ) (before below after : List Symbol) →
+      SpellsCharacter wide name character → length (path ++ name) ≤ 1024 →
+      IsSubtrie l path left before → IsSubtrie 1 (path ++ name) middle below → IsSubtrie r path right after →
+      IsSubtrie 1 path ((wide + 0x40 * l + 0x20 + 0x10 * r) ∷ left ++ character ++ middle ++ right)
+      (before ++ below ++ after)
+  -- a node where a name ends
+  symbol : (path name character : List ℕ) (wide l m r kind serial : ℕ) (value : Value)
+      (left told counted middle right : List ℕ) (before below after : List Symbol) →
+      SpellsCharacter wide name character → length (path ++ name) ≤ 1024 →
+      SpellsValue kind value told → SpellsSerial serial counted →
+      IsSubtrie l path left before → IsSubtrie m (path ++ name) middle below → IsSubtrie r path right after →
+      IsSubtrie 1 path ((wide + 0x40 * l + 0x20 * m + 0x10 * r + kind) ∷ left ++ character ++ told ++ counted ++ middle ++ right)
+      (before ++ record { name = path ++ name; value = value; serial = serial } ∷ below ++ after)
+
+-- no name stands twice
+abbrev pub AreDistinct : List Symbol → Type 0
+AreDistinct [] = Unit {0}
+AreDistinct (s ∷ more) = AllByRecursion (λ (t : Symbol). s.name ≢ t.name) more × AreDistinct more
+
+-- a trie with its symbols: no bytes tell none; behind a trie stand at most three zeros
+pub data IsTrie : List ℕ → List Symbol → Type 0 where
+  empty : IsTrie [] []
+  whole : (trie : List ℕ) (zeros : ℕ) (symbols : List Symbol) → IsSubtrie 1 [] trie symbols → zeros ≤ 3 →
+      AreDistinct symbols → IsTrie (trie ++ replicate zeros 0) symbols

@@ -1,0 +1,18 @@
+//! Symbol tries of object files.
+//!
+//! A trie tells the complete names of a program's symbols with their values and serial numbers. A
+//! node is a byte m, a left subtrie, a character, a value with a serial number where a name ends
+//! with that character, a middle subtrie of longer names, and a right subtrie (MMIXware, "The
+//! symbol table" in MMIXAL).
+#![tactic(auto)]
+
+mod faults;
+mod laws;
+mod numbers;
+#[cfg(test)]
+mod tests;
+mod writing;
+
+pub use faults::StabFault;
+pub use laws::writing_is_the_grammar;
+pub use writing::write;
