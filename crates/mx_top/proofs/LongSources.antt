@@ -1,10 +1,10 @@
 -- A source that is too long is refused as a front of it is.
-use Rattle.std.proofs.Common.{◌≡◌, ◌≢◌, ℕ, ◌+◌, ◌-◌, ◌^◌, ◌<◌, ◌≤◌, List, [], ◌∷◌, ◌++◌, length, Bool, true, false, cond, nat_lt, refl, sym, ◌∙◌, ap, subst, arith, append_assoc, append-nil, Some, None, length-append}
-use Rattle.std.specs.Prelude.{Option, ◌==◌, sum_by}
+use Rattle.std.proofs.Common.{◌≡◌, ℕ, ◌+◌, ◌^◌, ◌<◌, ◌≤◌, List, [], ◌∷◌, ◌++◌, length, Bool, true, false, cond, nat_lt, refl, sym, ◌∙◌, ap, subst, arith, append_assoc, append-nil, Some, None, length-append}
+use Rattle.std.specs.Prelude.{Option, ◌==◌}
 use Rattle.std.specs.List.{onto_first, slice_split}
 use Rattle.std.proofs.lemmas.List.Sums.{sum_by-append}
 use Rattle.std.proofs.lemmas.Bool.Decides.{nat_tests}
-use Rattle.mx_line.specs.Lines.{lines_of, without_empty_last, is_too_far, size_up_to}
+use Rattle.mx_line.specs.Lines.{lines_of, without_empty_last, is_too_far}
 use Rattle.mx_line.specs.Pieces.{split}
 use Rattle.mx_top.proofs.Passes.{size_of, far-size}
 use Rattle.mx_top.specs.TwoPass.{Line, gather, faults_of_line, faults, stays_plain, source_too_long, not_built, refusal, refusal_among}

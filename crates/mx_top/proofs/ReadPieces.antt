@@ -1,12 +1,9 @@
 -- One piece of a source after another.
-use Rattle.std.proofs.Common.{◌≡◌, ℕ, suc, ◌+◌, ◌-◌, ◌<◌, ◌≤◌, List, true, false, arith, refl, Ok, Err}
+use Rattle.std.proofs.Common.{◌≡◌, ℕ, ◌+◌, ◌-◌, ◌<◌, ◌≤◌, List, true, false, arith, refl, Ok, Err}
 use Rattle.mx_host.specs.HostModel.{HostModel}
+use Rattle.mx_top.proofs.Counting.{left-after}
 use Rattle.mx_top.specs.Source.{pieces, one_piece}
 use Rattle.mx_top.specs.declared.outcome.Outcome.{Outcome}
-
--- the turns that are left after one of them
-left-after : (k i : ℕ) → i < k → k - i ≡ suc (k - (i + 1))
-left-after k i h = omega arith
 
 pub pieces-failed : (k i : ℕ) (got : List ℕ) (n after : HostModel) (e : Outcome) → i < k → (Err e, after) ≡ one_piece got n → pieces (k - i) got n ≡ (Err e, after)
 unfolding pieces

@@ -3,6 +3,7 @@ use Rattle.std.proofs.Common.{◌≡◌, ℕ, suc, zero, ◌+◌, ◌-◌, ◌<�
 use Rattle.std.specs.Prelude.{Result}
 use Rattle.std.proofs.Common.{append-nil}
 use Rattle.mx_word.specs.Results.{map_ok}
+use Rattle.mx_top.proofs.Counting.{left-after}
 use Rattle.mx_top.specs.FileTraps.{text_byte, text_from}
 use Rattle.mx_top.specs.declared.texts.TextFault.{TextFault}
 use Rattle.mx_top.specs.declared.texts.TextFault.TheVariants.{TooLarge}
@@ -10,9 +11,6 @@ use Rattle.mx_top.specs.declared.texts.TextFault.TheVariants.{TooLarge}
 -- bytes that were read stand before what is left to read
 abbrev pub after_front : List ℕ → Result (List ℕ) TextFault → Result (List ℕ) TextFault
 after_front front rest = map_ok (λ bs. front ++ bs) rest
-
-left-after : (k i : ℕ) → i < k → k - i ≡ suc (k - (i + 1))
-left-after k i h = omega arith
 
 after_front-push : (front : List ℕ) (b : ℕ) (rest : Result (List ℕ) TextFault) → after_front front (map_ok (λ bs. b ∷ bs) rest) ≡ after_front (front ++ b ∷ []) rest
 after_front-push front b (Ok bs) = ap Ok (sym (append_assoc front (b ∷ []) bs))

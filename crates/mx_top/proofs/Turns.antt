@@ -1,7 +1,8 @@
 -- A run goes on by one step.
-use Rattle.std.proofs.Common.{◌≡◌, ℕ, suc, ◌+◌, ◌-◌, ◌<◌, ◌≤◌, arith, refl, Ok, Err, List}
+use Rattle.std.proofs.Common.{◌≡◌, ℕ, ◌+◌, ◌-◌, ◌<◌, ◌≤◌, arith, refl, Ok, Err, List}
 use Rattle.std.specs.Prelude.{Result}
 use Rattle.mx_host.specs.HostModel.{HostModel}
+use Rattle.mx_top.proofs.Counting.{left-after}
 use Rattle.mx_top.specs.ListMachine.{ListMachine}
 use Rattle.mx_top.specs.Lists.{IsFront}
 use Rattle.mx_top.specs.Step.{step, output_after}
@@ -9,10 +10,6 @@ use Rattle.mx_top.specs.Runs.{run, run_after, stepped_of}
 use Rattle.mx_top.specs.declared.end.End.{End}
 use Rattle.mx_top.specs.declared.end.End.TheVariants.{Spent}
 use Rattle.mx_top.proofs.Fronts.{ended-front}
-
--- the turns that are left after one of them
-pub left-after : (k i : ℕ) → i < k → k - i ≡ suc (k - (i + 1))
-left-after k i h = omega arith
 
 -- what follows a step that the code made
 run-given : (k i : ℕ) (s t : ListMachine) (m n : HostModel) (r : Result (Unit {0}) End) → i < k → stepped_of r t n ≡ step s m → run (k - i) s m ≡ run_after (run (k - (i + 1))) (stepped_of r t n)

@@ -1,5 +1,6 @@
 //! Whole runs over a host in memory.
 
+use crate::assemble::assemble;
 use crate::{Outcome, WordsFault, fault_name, front_decides, mmixware, usage_name};
 use mx_host::MemHost;
 use std::alloc::Global;
@@ -110,6 +111,28 @@ fn runs(rt: HostRuntime) -> Result<(), Fail> {
         b" LOC #100\nText BYTE 66,0\n LOC #40100\nMain GETA $255,Text\n TRAP 0,7,1\n TRAP 0,0,0";
     assert!(rt; gives(alloc, far, &[], done(1, b"B"))?);
     Ok(())
+}
+
+#[test]
+fn the_first_image(rt: HostRuntime) {
+    let Ok(program) = assemble(rt.alloc(), FIRST) else {
+        assert!(rt; false, "the first program is refused");
+        return;
+    };
+    assert_eq!(rt; program.main, 0x104);
+    // the text at #100, and GETA one tetra back at #104
+    for (address, byte) in [
+        (0x100, 104),
+        (0x102, 10),
+        (0x104, 0xf5),
+        (0x105, 0xff),
+        (0x106, 0xff),
+        (0x107, 0xff),
+        (0x108, 0),
+        (0x10a, 7),
+    ] {
+        assert_eq!(rt; program.memory.byte(address), byte, "at {address}");
+    }
 }
 
 #[test]
