@@ -4,7 +4,7 @@ use Rattle.std.proofs.lemmas.Grind.{common_steps}
 use Rattle.std.proofs.lemmas.Nat.{xor_shr, xor_mod}
 use Rattle.std.proofs.lemmas.Bool.{cases_eq}
 use Rattle.std.specs.Int.Bits.{xor_zero_r}
-use Rattle.mx_mem.specs.Memory.{Stored, octa_at, byte_at, stored_at, joined, in_half, tetra_byte, joined_bytes}
+use Rattle.mx_mem.specs.Memory.{Stored, octa_at, byte_at, byte_in, stored_at, joined, in_half, tetra_byte, joined_bytes}
 
 -- two addresses in one octa have the same octa
 same-octa : (m : Stored) (q a : ℕ) → q / 8 ≡ a / 8 → octa_at m q ≡ octa_at m a
@@ -73,6 +73,11 @@ byte-joined f a t q l = ⊎_elim (λ e. inside e) (λ ne. outside ne) (cases_eq 
         let apart : q / 4 ≡ a / 4 → ⊥ = omega arith in
         let none : tetra_byte a t q ≡ 0 = grind (arith, common_steps) in
         ap (λ n. byte_of n (q % 8)) whole ∙ sym (ap (bit_xor (byte_of (f q) (q % 8))) none ∙ xor_zero_r (byte_of (f q) (q % 8)))
+
+-- the same for the octas at all addresses
+pub byte_in-joined : (f : ℕ → ℕ) (a t : ℕ) → t < 2 ^ 32 → byte_in (joined f a t) ≡ joined_bytes (byte_in f) a t
+unfolding byte_of
+byte_in-joined f a t l = λ i q. byte-joined f a t q l i
 
 pub joined-bytes : (m n : Stored) (a t : ℕ) → t < 2 ^ 32 → octa_at n ≡ joined (octa_at m) a t → byte_at n ≡ joined_bytes (byte_at m) a t
 unfolding byte_of

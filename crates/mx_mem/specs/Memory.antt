@@ -15,9 +15,16 @@ pub record Stored : Type 0 where
 unfoldable pub octa_at : Stored → ℕ → ℕ
 octa_at m a = unwrap_or (lookup (is_at (nat_cmp (a / 8))) m.octas) 0
 
--- the byte at an address: the eight bytes of an octa stand from its high end
+-- the byte of an address in the octa that holds it: the eight bytes of an octa stand from its high end
+abbrev pub byte_of : ℕ → ℕ → ℕ
+byte_of x a = x / 2 ^ (8 * (7 - a % 8)) % 256
+
+-- the byte at an address, by the octas at all addresses
+abbrev pub byte_in : (ℕ → ℕ) → ℕ → ℕ
+byte_in octas a = byte_of (octas a) a
+
 abbrev pub byte_at : Stored → ℕ → ℕ
-byte_at m a = octa_at m a / 2 ^ (8 * (7 - a % 8)) % 256
+byte_at m a = byte_in (octa_at m) a
 
 -- whether a page is there; page p has the addresses from 4096 p up to 4096 p + 4095
 unfoldable pub has_page : Stored → ℕ → Bool
@@ -38,6 +45,10 @@ with_page pages p q = if q == p then true else pages q
 -- the octas, with another in place of the one that holds an address
 abbrev pub stored_at : (ℕ → ℕ) → ℕ → ℕ → ℕ → ℕ
 stored_at octas a x q = if q / 8 == a / 8 then x else octas q
+
+-- the bytes, with those of an octa in place of the octa that holds an address
+abbrev pub stored_bytes : (ℕ → ℕ) → ℕ → ℕ → ℕ → ℕ
+stored_bytes bytes a x q = if q / 8 == a / 8 then byte_of x q else bytes q
 
 -- a tetra in the half of its octa where the address lies
 abbrev pub in_half : ℕ → ℕ → ℕ

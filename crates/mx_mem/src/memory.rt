@@ -3,7 +3,7 @@
 ghost use Rattle.std.specs.Prelude.{◌≡◌, ◌≢◌, ◌↔◌, ◌≤◌, ◌<◌, ◌+◌, ◌/◌, ◌^◌, ◌==◌, ℕ, false, IsTrue, OnOk, OnErr, if◌then◌else◌};
 ghost use Rattle.std.specs.Ordering.{nat_cmp};
 ghost use Rattle.std.specs.BTreeMap.{get};
-ghost use Rattle.mx_mem.specs.Memory.{octa_at, byte_at, has_page, page_count, is_refused, with_page, stored_at, in_half, joined, joined_bytes, IsNextNonzero};
+ghost use Rattle.mx_mem.specs.Memory.{octa_at, byte_at, has_page, page_count, is_refused, with_page, stored_at, stored_bytes, in_half, joined, joined_bytes, IsNextNonzero};
 ghost use Rattle.mx_mem.specs.Stands.{nonzero};
 
 use crate::MemFault;
@@ -78,9 +78,13 @@ impl Memory {
 
     /// Stores an octa in place of the one that holds an address. Its page is there afterwards, also
     /// for an octa of 0.
-    fn store(&mut self, a: u64, x: u64) -> Result<(), MemFault>
+    ///
+    /// Errors: `PagesFull` where that would be one page too many, and want of memory; then nothing
+    /// changed.
+    pub fn store(&mut self, a: u64, x: u64) -> Result<(), MemFault>
         requires { a < 2 ^ 63 }
         ensures octas { OnOk result (octa_at self.new ≡ stored_at (octa_at self.old) a x) }
+        ensures bytes { OnOk result (byte_at self.new ≡ stored_bytes (byte_at self.old) a x) }
         ensures pages { OnOk result (has_page self.new ≡ with_page (has_page self.old) (a / 4096)) }
         ensures count { OnOk result (page_count self.new ≡ page_count self.old + (if has_page self.old (a / 4096) then 0 else 1)) }
         ensures full { IsTrue (is_refused self.old (a / 4096)) ↔ (result ≡ Err MemFault.PagesFull) }

@@ -1,11 +1,15 @@
+pub use Rattle.mx_word.specs.Results
 pub mod FileTraps
 pub mod Held
+pub mod Image
 pub mod ListMachine
 pub mod Lists
 pub mod Memory
 pub mod Messages
 pub mod Names
+pub mod Objects
 pub mod OnePass
+pub mod Pool
 pub mod Product
 pub mod Registers
 pub mod Runs
@@ -13,4 +17,5 @@ pub mod Source
 pub mod Status
 pub mod Step
 pub mod TwoPass
+pub mod Whole
 pub mod Words

@@ -1,6 +1,10 @@
 -- The list machine: MMIX, with its registers as lists and its memory as a function of addresses.
 -- (MMIXware, the part on MMIX; TAOCP volume 1, fascicle 1, section 1.3.1'.)
-use Rattle.std.specs.Prelude.{ℕ, ◌+◌, ◌*◌, ◌/◌, ◌%◌, ◌^◌, List, [], ◌∷◌, ◌++◌, replicate}
+use Rattle.std.specs.Prelude.{ℕ, ◌+◌, ◌*◌, ◌/◌, ◌%◌, ◌^◌, List, [], ◌∷◌, map, Option}
+use Rattle.std.specs.Option.{option_map}
+use Rattle.std.specs.List.{range_with_len}
+use Rattle.mx_top.specs.Image.{Image, main_in}
+use Rattle.mx_top.specs.Pool.{pool, with_argument}
 use Rattle.mx_top.specs.Registers.{Registers}
 
 pub record ListMachine : Type 0 where
@@ -37,23 +41,35 @@ start_special =
     0 ∷ 0 ∷ 0 ∷ 0 ∷ 0 ∷ 0 ∷ 0 ∷ 0 ∷ 0 ∷ 0x0100_0000_0000_0000 ∷ 0 ∷ 0 ∷ 0 ∷ 0x8000_0005_0000_0000 ∷ 0x8000_0006_0000_0000 ∷ 0xffff_ffff_ffff_ffff
     ∷ 0 ∷ 0 ∷ 0x369c_2004_0000_0000 ∷ 0 ∷ 0 ∷ 0 ∷ 0 ∷ 0 ∷ 0 ∷ 0 ∷ 0 ∷ 0 ∷ 0 ∷ 0 ∷ 0 ∷ 0 ∷ []
 
--- the registers at the start: $0 is the number of arguments, $1 leads to them, and $255 is Main
-abbrev pub start_registers : ℕ → Registers
-start_registers main = record {
-  locals = 1 ∷ 0x4000_0000_0000_0008 ∷ [];
-  first_global = 255;
-  globals = replicate 255 0 ++ main ∷ [];
+-- the values of $0 to $255, of which those that are global count
+unfoldable pub global_list : (ℕ → ℕ) → List ℕ
+global_list global = map global (range_with_len 0 256)
+
+-- the registers at the start: $0 is the number of arguments, $1 leads to them, and those of the image are global
+abbrev pub start_registers : Image → Registers
+start_registers image = record {
+  locals = 1 ∷ (pool + 8) ∷ [];
+  first_global = image.g;
+  globals = global_list image.global;
 }
 
--- the machine at the start, with this memory, about to go to the instruction at Main
-abbrev pub start : (ℕ → ℕ) → ℕ → ListMachine
-start memory main = record {
-  pc = main / 4 * 4;
-  memory = memory;
-  registers = start_registers main;
+-- the address of the first instruction
+abbrev pub start_address : Image → ℕ
+start_address image = main_in image / 4 * 4
+
+-- the machine with this image, about to go to the instruction at Main
+abbrev pub started : Image → ListMachine
+started image = record {
+  pc = start_address image;
+  memory = image.memory;
+  registers = start_registers image;
   special = start_special;
   steps = 0;
 }
+
+-- the machine at the start of a program with this argument; nothing where the pages are full
+abbrev pub start : Image → List ℕ → Option ListMachine
+start image argument = option_map started (with_argument argument image)
 
 -- the machine after one more step, at the instruction that follows
 abbrev pub onward : ListMachine → ListMachine

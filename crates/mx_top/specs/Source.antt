@@ -1,4 +1,4 @@
--- The file that holds the source, as it is read.
+-- The file that holds a source or an object, as it is read.
 use Rattle.std.specs.Prelude.{ℕ, suc, zero, Bool, List, [], ◌++◌, length, Result, Ok, Err, ◌==◌, if◌then◌else◌}
 use Rattle.mx_host.specs.HostModel.{HostModel}
 use Rattle.mx_host.specs.HostAnswer.{Then, open_answer, read_answer, close_answer}
@@ -31,9 +31,13 @@ unfoldable pub pieces : ℕ → List ℕ → HostModel → Then (Result (List �
 pieces zero got m = (Ok got, m)
 pieces (suc left) got m = next_piece (pieces left) (one_piece got m)
 
--- a source is read up to a shorter piece, or until more than 2^22 bytes were taken
+-- a source is read up to a shorter piece, or until more than 2^22 bytes were taken, and an object until more than 2^26
+-- were
 abbrev pub source_pieces : ℕ
 source_pieces = 1025
+
+abbrev pub object_pieces : ℕ
+object_pieces = 16385
 
 -- what follows the bytes that were read: the file is closed
 abbrev pub closed_with : List ℕ → Then (Result (Unit {0}) HostFault) → Then (Result (List ℕ) Outcome)
@@ -45,12 +49,12 @@ closed_after (Err e, m) = (Err e, m)
 closed_after (Ok bytes, m) = closed_with bytes (close_answer m input_slot)
 
 -- what follows the opening of the input file
-abbrev pub read_after : Then (Result (Unit {0}) OpenFault) → Then (Result (List ℕ) Outcome)
-read_after (Err opening.Absent, m) = (Err NoFile, m)
-read_after (Err opening.Failed, m) = (Err Broken, m)
-read_after (Err opening.OutOfMemory, m) = (Err OutOfMemory, m)
-read_after (Ok u, m) = closed_after (pieces source_pieces [] m)
+abbrev pub read_after : ℕ → Then (Result (Unit {0}) OpenFault) → Then (Result (List ℕ) Outcome)
+read_after most (Err opening.Absent, m) = (Err NoFile, m)
+read_after most (Err opening.Failed, m) = (Err Broken, m)
+read_after most (Err opening.OutOfMemory, m) = (Err OutOfMemory, m)
+read_after most (Ok u, m) = closed_after (pieces most [] m)
 
--- the bytes of the file of this name
-abbrev pub source_of : List ℕ → HostModel → Then (Result (List ℕ) Outcome)
-source_of name m = read_after (open_answer m input_slot name BinaryRead)
+-- the bytes of the file of this name, in at most so many pieces
+abbrev pub file_bytes : ℕ → List ℕ → HostModel → Then (Result (List ℕ) Outcome)
+file_bytes most name m = read_after most (open_answer m input_slot name BinaryRead)

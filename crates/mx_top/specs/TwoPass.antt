@@ -10,6 +10,8 @@ use Rattle.mx_line.specs.Numbers.{numbers_of}
 use Rattle.mx_line.specs.declared.spans.Span.{Span}
 use Rattle.mx_line.specs.declared.plain_lines.Plain.{Plain}
 use Rattle.mx_line.specs.declared.plain_lines.Plain.TheVariants.{Empty, Loc, Byte, Geta, Trap}
+use Rattle.mx_mmo.specs.Meaning.{value_at}
+use Rattle.mx_top.specs.Image.{Image, pages_of, pages_in}
 use Rattle.mx_top.specs.Memory.{placed, from_place}
 use Rattle.mx_top.specs.declared.labels.Label.{Label}
 
@@ -121,10 +123,6 @@ placements_of_line labels before line =
 abbrev pub placements : List Line → List (ℕ × ℕ)
 placements lines = gather (placements_of_line (labels_of lines)) [] lines
 
--- the image: at each address the exclusive or of all bytes placed there
-abbrev pub image : List Line → ℕ → ℕ
-image lines = placed (placements lines)
-
 -- the address where execution starts
 abbrev pub main_name : List ℕ
 main_name = codes "Main"
@@ -194,14 +192,20 @@ refusal lines = refusal_among (faults lines) lines
 
 -- ---- the meaning of a source
 
--- what a run starts from
-pub record Image : Type 0 where
-  pub memory : ℕ → ℕ
-  pub main : ℕ
+-- the image of a source: at each address the exclusive or of all bytes placed there, the pages that they are placed
+-- on, and Main in $255, the only global register
+abbrev pub image : List Line → Image
+image lines = record {
+  memory = placed (placements lines);
+  pages = pages_of (placements lines);
+  page_count = pages_in (pages_of (placements lines));
+  g = 255;
+  global = value_at 255 (main_of lines ∷ []);
+}
 
 abbrev pub meaning_with : Option (ℕ × ℕ) → List Line → Result Image (ℕ × ℕ)
 meaning_with (Some fault) lines = Err fault
-meaning_with None lines = Ok (record { memory = image lines; main = main_of lines })
+meaning_with None lines = Ok (image lines)
 
 -- the refusal of a source, by line number and fault, or its image
 abbrev pub meaning_of : List Line → Result Image (ℕ × ℕ)
