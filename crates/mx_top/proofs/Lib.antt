@@ -3,6 +3,7 @@ pub mod Digits
 pub mod Fronts
 pub mod Gather
 pub mod Lines
+pub mod Loading
 pub mod LongSources
 pub mod Locals
 pub mod Passes
@@ -10,6 +11,7 @@ pub mod Placed
 pub mod PutPieces
 pub mod ReadPieces
 pub mod ReadText
+pub mod SourceImages
 pub mod Sources
 pub mod Turns
 pub mod Writes

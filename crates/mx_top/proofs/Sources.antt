@@ -6,21 +6,28 @@ use Rattle.mx_host.specs.HostAnswer.{Then, open_answer, opened, read_answer, rea
 use Rattle.mx_host.specs.declared.slots.Slot.{Slot}
 use Rattle.mx_host.specs.declared.slots.Slot.TheVariants.{Closed, Open}
 use Rattle.mx_host.specs.declared.slots.Mode.{Mode}
-use Rattle.mx_host.specs.declared.slots.Mode.TheVariants.{BinaryRead}
+use Rattle.mx_host.specs.declared.slots.Mode.TheVariants.{BinaryRead, BinaryWrite}
 use Rattle.mx_host.specs.declared.slots.Lead.{Lead}
 use Rattle.mx_host.specs.declared.slots.Lead.TheVariants.{Input, Output, Errors, File}
 use Rattle.mx_host.specs.declared.faults.HostFault.{HostFault as SlotFault}
 use Rattle.mx_host.specs.declared.faults.OpenFault.{OpenFault}
 use Rattle.mx_host.specs.declared.faults.OpenFault.TheVariants as opening
-use Rattle.mx_top.specs.Lists.{IsFront}
-use Rattle.mx_top.specs.ListMachine.{start}
 use Rattle.mx_line.specs.Lines.{lines_of}
+use Rattle.mx_mmo.specs.declared.items.Item.{Item}
+use Rattle.mx_top.specs.FileTraps.{put_text}
+use Rattle.mx_top.specs.Image.{Image}
+use Rattle.mx_top.specs.Lists.{IsFront}
+use Rattle.mx_top.specs.ListMachine.{ListMachine, start, start_address}
 use Rattle.mx_top.specs.Messages.{message_of}
-use Rattle.mx_top.specs.Source.{pieces, one_piece, piece_read, next_piece, closed_with, closed_after, read_after, source_of}
-use Rattle.mx_top.specs.TwoPass.{Image, meaning_of}
-use Rattle.mx_top.specs.Product.{after_meaning, after_source, with_message, message_told, step_bound}
+use Rattle.mx_top.specs.Objects.{object_bytes, object_image}
+use Rattle.mx_top.specs.Pool.{argument_of}
+use Rattle.mx_top.specs.Source.{pieces, one_piece, piece_read, next_piece, closed_with, closed_after, read_after, file_bytes}
+use Rattle.mx_top.specs.TwoPass.{meaning_of}
+use Rattle.mx_top.specs.Whole.{assembled}
+use Rattle.mx_top.specs.Product.{image_run, run_from, after_meaning, after_source, after_loading, after_object, closed_object, written_object, object_put, after_opening, after_reading, with_message, message_told, step_bound}
 use Rattle.mx_top.specs.declared.outcome.Outcome.{Outcome}
 use Rattle.mx_top.specs.declared.outcome.Outcome.TheVariants.{Done, Usage, NoFile, HostFault, Refused, BadObject, Stopped, StepsSpent, Quit, ConsoleLimit, OutOfMemory}
+use Rattle.mx_top.proofs.PutPieces.{text-front}
 use Rattle.mx_top.proofs.Writes.{front-self, front-through, write-front}
 use Rattle.mx_top.proofs.Fronts.{run-front}
 
@@ -87,26 +94,80 @@ closing-quiet : (m : HostModel) (t : Then (Result (List ℕ) Outcome)) → Quiet
 closing-quiet m (Err e, n) h = h
 closing-quiet m (Ok bytes, n) h = with-quiet n bytes (close_answer n 256) (close-quiet n 256) ∙ h
 
-reading-quiet : (m : HostModel) (t : Then (Result (Unit {0}) OpenFault)) → Quiet m t → Quiet m (read_after t)
-reading-quiet m (Err opening.Absent, n) h = h
-reading-quiet m (Err opening.Failed, n) h = h
-reading-quiet m (Err opening.OutOfMemory, n) h = h
-reading-quiet m (Ok u, n) h = closing-quiet n (pieces 1025 [] n) (pieces-quiet 1025 [] n) ∙ h
+reading-quiet : (most : ℕ) (m : HostModel) (t : Then (Result (Unit {0}) OpenFault)) → Quiet m t → Quiet m (read_after most t)
+reading-quiet most m (Err opening.Absent, n) h = h
+reading-quiet most m (Err opening.Failed, n) h = h
+reading-quiet most m (Err opening.OutOfMemory, n) h = h
+reading-quiet most m (Ok u, n) h = closing-quiet n (pieces most [] n) (pieces-quiet most [] n) ∙ h
 
-source-quiet : (m : HostModel) (name : List ℕ) → Quiet m (source_of name m)
-source-quiet m name = reading-quiet m (open_answer m 256 name BinaryRead) (open-quiet m 256 name BinaryRead)
+file-quiet : (most : ℕ) (m : HostModel) (name : List ℕ) → Quiet m (file_bytes most name m)
+file-quiet most m name = reading-quiet most m (open_answer m 256 name BinaryRead) (open-quiet m 256 name BinaryRead)
 
 -- a run only adds to standard output
-pub meaning-front : (r : Result Image (ℕ × ℕ)) (m : HostModel) → IsFront m.output (after_meaning r m).1.output
-meaning-front (Err (line, fault)) m = front-self m.output
-meaning-front (Ok image) m = run-front step_bound (start image.memory image.main) m
+from-front : (pc : ℕ) (r : Option ListMachine) (m : HostModel) → IsFront m.output (run_from pc r m).1.output
+from-front pc None m = front-self m.output
+from-front pc (Some s) m = run-front step_bound s m
 
-after-front : (m : HostModel) (t : Then (Result (List ℕ) Outcome)) → Quiet m t → IsFront m.output (after_source t).1.output
-after-front m (Err e, n) h = ([], h ∙ sym (append-nil m.output))
-after-front m (Ok source, n) h = subst (λ xs. IsFront xs (after_source (Ok source, n)).1.output) h (meaning-front (meaning_of (lines_of source)) n)
+pub image-front : (word : List ℕ) (image : Image) (m : HostModel) → IsFront m.output (image_run word image m).1.output
+image-front word image m = from-front (start_address image) (start image (argument_of word)) m
 
-pub source-front : (m : HostModel) (name : List ℕ) → IsFront m.output (after_source (source_of name m)).1.output
-source-front m name = after-front m (source_of name m) (source-quiet m name)
+pub meaning-front : (word : List ℕ) (r : Result Image (ℕ × ℕ)) (m : HostModel) → IsFront m.output (after_meaning word r m).1.output
+meaning-front word (Err (line, fault)) m = front-self m.output
+meaning-front word (Ok image) m = image-front word image m
+
+pub loading-front : (word : List ℕ) (r : Result Image (ℕ × ℕ)) (m : HostModel) → IsFront m.output (after_loading word r m).1.output
+loading-front word (Err (place, fault)) m = front-self m.output
+loading-front word (Ok image) m = image-front word image m
+
+-- closing the object file writes nothing, and writing it only adds
+closed-quiet-object : (outcome : Outcome) (m : HostModel) (t : Then (Result (Unit {0}) SlotFault)) → Quiet m t → Quiet m (closed_object outcome t)
+closed-quiet-object outcome m (Err e, n) h = h
+closed-quiet-object outcome m (Ok u, n) h = h
+
+pub shut-front : (m : HostModel) → IsFront m.output (closed_object (Done 0) (close_answer m 257)).1.output
+shut-front m = subst (IsFront m.output) (sym (closed-quiet-object (Done 0) m (close_answer m 257) (close-quiet m 257))) (front-self m.output)
+
+pub written-front : (xs : List ℕ) (t : Then Bool) → IsFront xs t.1.output → IsFront xs (written_object t).1.output
+written-front xs (true, n) h = subst (IsFront xs) (sym (closed-quiet-object (Done 0) n (close_answer n 257) (close-quiet n 257))) h
+written-front xs (false, n) h = h
+
+quiet-front : {A : Type 0} (m : HostModel) (t : Then A) → Quiet m t → IsFront m.output t.1.output
+quiet-front m t h = ([], h ∙ sym (append-nil m.output))
+
+pub put-front : (r : Result (List Item) (ℕ × ℕ)) (m : HostModel) → IsFront m.output (object_put r m).1.output
+put-front (Err (line, fault)) m = quiet-front m (closed_object (Refused line fault 0) (close_answer m 257)) (closed-quiet-object (Refused line fault 0) m (close_answer m 257) (close-quiet m 257))
+put-front (Ok items) m = written-front m.output (put_text 257 (object_bytes items) m) (text-front 257 (object_bytes items) m)
+
+opening-front : (source : List ℕ) (m : HostModel) (t : Then (Result (Unit {0}) OpenFault)) → Quiet m t → IsFront m.output (after_opening source t).1.output
+opening-front source m (Err opening.Absent, n) h = quiet-front m (HostFault, n) h
+opening-front source m (Err opening.Failed, n) h = quiet-front m (HostFault, n) h
+opening-front source m (Err opening.OutOfMemory, n) h = quiet-front m (OutOfMemory, n) h
+opening-front source m (Ok u, n) h = subst (λ xs. IsFront xs (after_opening source (Ok u, n)).1.output) h (put-front (assembled (lines_of source)) n)
+
+pub opened-front : (source : List ℕ) (m : HostModel) (object : List ℕ) → IsFront m.output (after_opening source (open_answer m 257 object BinaryWrite)).1.output
+opened-front source m object = opening-front source m (open_answer m 257 object BinaryWrite) (open-quiet m 257 object BinaryWrite)
+
+after-source-front : (word : List ℕ) (m : HostModel) (t : Then (Result (List ℕ) Outcome)) → Quiet m t → IsFront m.output (after_source word t).1.output
+after-source-front word m (Err e, n) h = quiet-front m (e, n) h
+after-source-front word m (Ok source, n) h = subst (λ xs. IsFront xs (after_source word (Ok source, n)).1.output) h (meaning-front word (meaning_of (lines_of source)) n)
+
+after-object-front : (word : List ℕ) (m : HostModel) (t : Then (Result (List ℕ) Outcome)) → Quiet m t → IsFront m.output (after_object word t).1.output
+after-object-front word m (Err e, n) h = quiet-front m (e, n) h
+after-object-front word m (Ok bytes, n) h = subst (λ xs. IsFront xs (after_object word (Ok bytes, n)).1.output) h (loading-front word (object_image bytes) n)
+
+after-reading-front : (object : List ℕ) (m : HostModel) (t : Then (Result (List ℕ) Outcome)) → Quiet m t → IsFront m.output (after_reading object t).1.output
+after-reading-front object m (Err e, n) h = quiet-front m (e, n) h
+after-reading-front object m (Ok source, n) h = subst (λ xs. IsFront xs (after_reading object (Ok source, n)).1.output) h (opened-front source n object)
+
+-- what was written before want of memory is a front of what is written in all
+pub source-front : (m : HostModel) (name : List ℕ) → IsFront m.output (after_source name (file_bytes 1025 name m)).1.output
+source-front m name = after-source-front name m (file_bytes 1025 name m) (file-quiet 1025 m name)
+
+pub object-front : (m : HostModel) (name : List ℕ) → IsFront m.output (after_object name (file_bytes 16385 name m)).1.output
+object-front m name = after-object-front name m (file_bytes 16385 name m) (file-quiet 16385 m name)
+
+pub reading-front : (m : HostModel) (source object : List ℕ) → IsFront m.output (after_reading object (file_bytes 1025 source m)).1.output
+reading-front m source object = after-reading-front object m (file_bytes 1025 source m) (file-quiet 1025 m source)
 
 told-front : (outcome : Outcome) (text : List ℕ) (m : HostModel) → IsFront m.output (message_told outcome text m).1.output
 told-front outcome [] m = front-self m.output

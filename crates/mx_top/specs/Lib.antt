@@ -1,4 +1,5 @@
 pub use Rattle.mx_word.specs.Results
+pub mod Answers
 pub mod FileTraps
 pub mod Held
 pub mod Image

@@ -19,23 +19,24 @@ use Rattle.mx_top.specs.Image.{Image, of_object}
 abbrev pub fault_at : MmoFault → ℕ × ℕ
 fault_at fault = (unwrap_or (objects.place_of fault) 0, objects.number_of fault)
 
--- an item that means nothing is a fault at the place where it begins
-abbrev pub meaningless_at : ℕ → Meaningless → ℕ × ℕ
-meaningless_at place e = (place, loads.number_of (loads.fault_of e))
+-- what stands after an item that begins at a place, or the fault there
+abbrev pub taken : ℕ → Result Loading Meaningless → Result Loading (ℕ × ℕ)
+taken place (Ok s) = Ok s
+taken place (Err e) = Err (place, loads.number_of (loads.fault_of e))
 
 -- what stands once items were loaded, with what is left behind them; or the place and the number of the first fault
 abbrev pub Loaded : Type 0
 Loaded = Result (Loading × Left) (ℕ × ℕ)
 
 -- what follows an item of so many bytes
-abbrev pub item_loaded : (Loading → Phase → ℕ → List ℕ → Loaded) → Phase → ℕ → List ℕ → Item → ℕ → Result Loading Meaningless → Loaded
-item_loaded others phase at bytes item size (Err e) = Err (meaningless_at at e)
+abbrev pub item_loaded : (Loading → Phase → ℕ → List ℕ → Loaded) → Phase → ℕ → List ℕ → Item → ℕ → Result Loading (ℕ × ℕ) → Loaded
+item_loaded others phase at bytes item size (Err fault) = Err fault
 item_loaded others phase at bytes item size (Ok s) = others s (phase_after item phase) (at + size) (drop size bytes)
 
 -- the item that stands first: its own fault, then that of its meaning, and then the items that follow, by `others`
 abbrev pub first_loaded : (Loading → Phase → ℕ → List ℕ → Loaded) → Loading → Phase → ℕ → List ℕ → Due → Loaded
 first_loaded others s phase at bytes (Ok None) = Ok (s, record { phase = phase; at = at; rest = bytes })
-first_loaded others s phase at bytes (Ok (Some (item, size))) = item_loaded others phase at bytes item size (take_item s item)
+first_loaded others s phase at bytes (Ok (Some (item, size))) = item_loaded others phase at bytes item size (taken at (take_item s item))
 first_loaded others s phase at bytes (Err fault) = Err (fault_at fault)
 
 -- items of bytes from the left, fewer than so many; each takes a byte

@@ -47,10 +47,13 @@ outcome_of NoRoom = OutOfMemory
 abbrev pub after_run : Ran → Then Outcome
 after_run ran = (outcome_of ran.end, ran.model)
 
+abbrev pub machine_run : ListMachine → HostModel → Then Outcome
+machine_run s m = after_run (run step_bound s m)
+
 -- an image is run by the list machine from its start, where its pages are not full
 abbrev pub run_from : ℕ → Option ListMachine → HostModel → Then Outcome
 run_from pc None m = (Stopped pc pages_full, m)
-run_from pc (Some s) m = after_run (run step_bound s m)
+run_from pc (Some s) m = machine_run s m
 
 -- an image is run with the word that names its file
 abbrev pub image_run : List ℕ → Image → HostModel → Then Outcome

@@ -4,6 +4,7 @@
 mod assemble;
 mod assembler;
 mod assembly;
+mod emit;
 mod end;
 mod labels;
 mod laws;
@@ -11,6 +12,7 @@ mod machine;
 mod memory;
 mod message;
 mod names;
+mod objects;
 mod outcome;
 mod registers;
 mod run;

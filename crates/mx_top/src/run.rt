@@ -1,25 +1,34 @@
-//! A source that is run.
+//! A source that is run, and what runs once it is loaded.
 
-ghost use Rattle.std.specs.Prelude.{IsTrue, ◌≡◌, ◌≢◌, ◌≤◌, Ok};
+ghost use Rattle.std.specs.Prelude.{IsTrue, ◌≡◌, ◌≢◌, ◌≤◌, Err};
 ghost use Rattle.mx_host.specs.HostModel.{tells, contents, slot_at, Rose};
 ghost use Rattle.mx_line.specs.Lines.{lines_of};
+ghost use Rattle.mx_load.specs.Kept.{image_of};
+ghost use Rattle.mx_top.specs.Image.{of_object};
 ghost use Rattle.mx_top.specs.Lists.{IsFront};
-ghost use Rattle.mx_top.specs.OnePass.{image_of};
-ghost use Rattle.mx_top.specs.Source.{source_of};
+ghost use Rattle.mx_top.specs.Answers.{image_from};
+ghost use Rattle.mx_top.specs.Held.{state_of};
+ghost use Rattle.mx_top.specs.Source.{file_bytes};
 ghost use Rattle.mx_top.specs.TwoPass.{meaning_of};
 ghost use Rattle.mx_top.specs.Product as spec;
 
 use crate::assemble::assemble;
-use crate::assembly::{AssemblyFault, Program};
+use crate::assembly::AssemblyFault;
 use crate::end::End;
 use crate::machine::Machine;
 use crate::outcome::Outcome;
-use crate::source::read_source;
+use crate::pool::argument_of;
+use crate::source::read_file;
 use mx_host::Host;
+use mx_load::{Image, load};
+use mx_word::Symbols;
 use std::alloc::Global;
 
 /// A run makes at most so many steps.
 const STEP_BOUND: u64 = 1_000_000_000;
+
+/// A source is read in at most so many pieces: more than 2^22 bytes.
+pub const SOURCE_PIECES: u32 = 1025;
 
 /// The outcome of a run by its end.
 fn outcome_of(end: End) -> Outcome
@@ -33,34 +42,63 @@ fn outcome_of(end: End) -> Outcome
     }
 }
 
-/// Runs a program from its start.
-fn run_program<H: Host>(alloc: Global, host: &mut H, program: Program) -> Outcome
-    ensures told { IsTrue (tells (H.told host.old)) → result ≢ Outcome.OutOfMemory → (result, contents (H.told host.new)) ≡ spec.after_meaning (image_of (Ok program)) (contents (H.told host.old)) }
-    ensures written { IsTrue (tells (H.told host.old)) → result ≡ Outcome.OutOfMemory → IsFront (contents (H.told host.new)).output (spec.after_meaning (image_of (Ok program)) (contents (H.told host.old))).1.output }
+/// Runs a machine that was started.
+fn run_machine<H: Host>(host: &mut H, machine: Machine) -> Outcome
+    ensures told { IsTrue (tells (H.told host.old)) → result ≢ Outcome.OutOfMemory → (result, contents (H.told host.new)) ≡ spec.machine_run (state_of machine) (contents (H.told host.old)) }
+    ensures written { IsTrue (tells (H.told host.old)) → result ≡ Outcome.OutOfMemory → IsFront (contents (H.told host.new)).output (spec.machine_run (state_of machine) (contents (H.told host.old))).1.output }
     ensures messages { IsTrue (tells (H.told host.old)) → slot_at (contents (H.told host.new)) 260 ≡ slot_at (contents (H.told host.old)) 260 }
     ensures no_fault { result ≢ Outcome.HostFault }
     ensures present { result ≢ Outcome.NoFile }
     ensures keeps { tells (H.told host.new) ≡ tells (H.told host.old) }
     ensures never_falls { H.faults host.old ≤ H.faults host.new }
 {
-    let Program { memory, main } = program;
-    let mut machine = Machine::start(alloc, memory, main);
+    let mut machine = machine;
     let end = machine.run(host, STEP_BOUND);
     outcome_of(end)
 }
 
-/// Runs a source, or says why it is refused.
-fn run_source<H: Host>(alloc: Global, host: &mut H, text: &[u8]) -> Outcome
-    ensures told { IsTrue (tells (H.told host.old)) → result ≢ Outcome.OutOfMemory → (result, contents (H.told host.new)) ≡ spec.after_meaning (meaning_of (lines_of text.now)) (contents (H.told host.old)) }
-    ensures written { IsTrue (tells (H.told host.old)) → result ≡ Outcome.OutOfMemory → IsFront (contents (H.told host.new)).output (spec.after_meaning (meaning_of (lines_of text.now)) (contents (H.told host.old))).1.output }
+/// Runs an image from its start, with the word that names its file.
+pub fn run_image<H: Host>(alloc: Global, host: &mut H, image: Image, word: &[u8]) -> Outcome
+    ensures told { IsTrue (tells (H.told host.old)) → result ≢ Outcome.OutOfMemory → (result, contents (H.told host.new)) ≡ spec.image_run word.now (of_object (image_of image)) (contents (H.told host.old)) }
+    ensures written { IsTrue (tells (H.told host.old)) → result ≡ Outcome.OutOfMemory → IsFront (contents (H.told host.new)).output (spec.image_run word.now (of_object (image_of image)) (contents (H.told host.old))).1.output }
     ensures messages { IsTrue (tells (H.told host.old)) → slot_at (contents (H.told host.new)) 260 ≡ slot_at (contents (H.told host.old)) 260 }
     ensures no_fault { result ≢ Outcome.HostFault }
     ensures present { result ≢ Outcome.NoFile }
     ensures keeps { tells (H.told host.new) ≡ tells (H.told host.old) }
     ensures never_falls { H.faults host.old ≤ H.faults host.new }
 {
+    match Machine::start(alloc, image, argument_of(word)) {
+        Ok(machine) => run_machine(host, machine),
+        Err(end) => outcome_of(end),
+    }
+}
+
+/// Assembles a source and loads its items.
+fn source_image(alloc: Global, text: &[u8]) -> Result<Image, AssemblyFault>
+    ensures { result ≢ Err AssemblyFault.OutOfMemory → image_from result ≡ meaning_of (lines_of text.now) }
+{
     match assemble(alloc, text) {
-        Ok(program) => run_program(alloc, host, program),
+        Ok(items) => match load(alloc, items.as_slice(), Symbols::new(alloc)) {
+            Ok(image) => Ok(image),
+            // The items of a source have a meaning, so that this is want of memory.
+            Err(_) => Err(AssemblyFault::OutOfMemory),
+        },
+        Err(fault) => Err(fault),
+    }
+}
+
+/// Runs a source, or says why it is refused.
+fn run_source<H: Host>(alloc: Global, host: &mut H, text: &[u8], word: &[u8]) -> Outcome
+    ensures told { IsTrue (tells (H.told host.old)) → result ≢ Outcome.OutOfMemory → (result, contents (H.told host.new)) ≡ spec.after_meaning word.now (meaning_of (lines_of text.now)) (contents (H.told host.old)) }
+    ensures written { IsTrue (tells (H.told host.old)) → result ≡ Outcome.OutOfMemory → IsFront (contents (H.told host.new)).output (spec.after_meaning word.now (meaning_of (lines_of text.now)) (contents (H.told host.old))).1.output }
+    ensures messages { IsTrue (tells (H.told host.old)) → slot_at (contents (H.told host.new)) 260 ≡ slot_at (contents (H.told host.old)) 260 }
+    ensures no_fault { result ≢ Outcome.HostFault }
+    ensures present { result ≢ Outcome.NoFile }
+    ensures keeps { tells (H.told host.new) ≡ tells (H.told host.old) }
+    ensures never_falls { H.faults host.old ≤ H.faults host.new }
+{
+    match source_image(alloc, text) {
+        Ok(image) => run_image(alloc, host, image, word),
         Err(AssemblyFault::Refused { line, fault }) => Outcome::Refused {
             line,
             fault,
@@ -72,16 +110,16 @@ fn run_source<H: Host>(alloc: Global, host: &mut H, text: &[u8]) -> Outcome
 
 /// Runs the source in the file of this name.
 pub fn run_file<H: Host>(alloc: Global, host: &mut H, name: &[u8]) -> Outcome
-    ensures told { IsTrue (tells (H.told host.old)) → result ≢ Outcome.OutOfMemory → (result, contents (H.told host.new)) ≡ spec.after_source (source_of name.now (contents (H.told host.old))) }
-    ensures written { IsTrue (tells (H.told host.old)) → result ≡ Outcome.OutOfMemory → IsFront (contents (H.told host.new)).output (spec.after_source (source_of name.now (contents (H.told host.old)))).1.output }
+    ensures told { IsTrue (tells (H.told host.old)) → result ≢ Outcome.OutOfMemory → (result, contents (H.told host.new)) ≡ spec.after_source name.now (file_bytes 1025 name.now (contents (H.told host.old))) }
+    ensures written { IsTrue (tells (H.told host.old)) → result ≡ Outcome.OutOfMemory → IsFront (contents (H.told host.new)).output (spec.after_source name.now (file_bytes 1025 name.now (contents (H.told host.old)))).1.output }
     ensures messages { IsTrue (tells (H.told host.old)) → slot_at (contents (H.told host.new)) 260 ≡ slot_at (contents (H.told host.old)) 260 }
     ensures rose { ¬ IsTrue (tells (H.told host.old)) → result ≡ Outcome.HostFault → Rose (H.faults host.old) (H.faults host.new) }
     ensures no_file { ¬ IsTrue (tells (H.told host.old)) → result ≡ Outcome.NoFile → Rose (H.faults host.old) (H.faults host.new) }
     ensures keeps { tells (H.told host.new) ≡ tells (H.told host.old) }
     ensures never_falls { H.faults host.old ≤ H.faults host.new }
 {
-    match read_source(alloc, host, name) {
-        Ok(text) => run_source(alloc, host, text.as_slice()),
+    match read_file(alloc, host, name, SOURCE_PIECES) {
+        Ok(text) => run_source(alloc, host, text.as_slice(), name),
         Err(outcome) => outcome,
     }
 }

@@ -1,10 +1,10 @@
-//! The file that holds the source, as it is read.
+//! The file that holds a source or an object, as it is read.
 
 ghost use Rattle.std.specs.Prelude.{IsTrue, ◌≡◌, ◌≢◌, ◌≤◌, ◌++◌, [], ℕ, Some, None, Ok, Err, OnOk, OnErr, IfOk, IfErr, nat_lt, length};
 ghost use Rattle.mx_host.specs.HostModel.{tells, contents, slot_at, Rose};
 ghost use Rattle.mx_host.specs.HostAnswer.{close_answer};
 ghost use Rattle.mx_word.specs.Results.{map_ok};
-ghost use Rattle.mx_top.specs.Source.{pieces, source_of};
+ghost use Rattle.mx_top.specs.Source.{pieces, file_bytes};
 ghost use Rattle.mx_top.specs.Source as spec;
 
 use crate::outcome::Outcome;
@@ -34,10 +34,10 @@ fn one_piece<H: Host>(host: &mut H, got: &mut Bytes, piece: &mut [u8]) -> Result
     }
 }
 
-/// Reads the whole of the input file, or more than 2^22 bytes of it.
+/// Reads the input file in pieces up to a shorter one, at most so many.
 #[tactic(auto, using(crate::proofs::ReadPieces::reading))]
-fn pieces<H: Host>(alloc: Global, host: &mut H) -> Result<Bytes, Outcome>
-    ensures told { IsTrue (tells (H.told host.old)) → result ≢ Err Outcome.OutOfMemory → (result, contents (H.told host.new)) ≡ spec.pieces 1025 [] (contents (H.told host.old)) }
+fn pieces<H: Host>(alloc: Global, host: &mut H, most: u32) -> Result<Bytes, Outcome>
+    ensures told { IsTrue (tells (H.told host.old)) → result ≢ Err Outcome.OutOfMemory → (result, contents (H.told host.new)) ≡ spec.pieces most [] (contents (H.told host.old)) }
     ensures errors { IfErr result (λ e. e ≢ Outcome.OutOfMemory → e ≡ Outcome.HostFault) }
     ensures output { IsTrue (tells (H.told host.old)) → (contents (H.told host.new)).output ≡ (contents (H.told host.old)).output }
     ensures messages { IsTrue (tells (H.told host.old)) → slot_at (contents (H.told host.new)) 260 ≡ slot_at (contents (H.told host.old)) 260 }
@@ -47,7 +47,7 @@ fn pieces<H: Host>(alloc: Global, host: &mut H) -> Result<Bytes, Outcome>
 {
     let mut got = Bytes::new(alloc);
     let mut piece = [0u8; 4096];
-    for turn in 0..1025u32 {
+    for turn in 0..most {
         match one_piece(host, &mut got, &mut piece) {
             Ok(true) => {}
             Ok(false) => return Ok(got),
@@ -75,10 +75,15 @@ fn close<H: Host>(host: &mut H, bytes: Bytes) -> Result<Bytes, Outcome>
     }
 }
 
-/// Reads the file of this name.
+/// Reads the file of this name, in at most so many pieces of 4,096 bytes.
 #[tactic(auto, unfolding(mx_host::specs::HostAnswer::open_answer))]
-pub fn read_source<H: Host>(alloc: Global, host: &mut H, name: &[u8]) -> Result<Bytes, Outcome>
-    ensures told { IsTrue (tells (H.told host.old)) → result ≢ Err Outcome.OutOfMemory → (result, contents (H.told host.new)) ≡ spec.source_of name.now (contents (H.told host.old)) }
+pub fn read_file<H: Host>(
+    alloc: Global,
+    host: &mut H,
+    name: &[u8],
+    most: u32,
+) -> Result<Bytes, Outcome>
+    ensures told { IsTrue (tells (H.told host.old)) → result ≢ Err Outcome.OutOfMemory → (result, contents (H.told host.new)) ≡ spec.file_bytes most name.now (contents (H.told host.old)) }
     ensures output { IsTrue (tells (H.told host.old)) → (contents (H.told host.new)).output ≡ (contents (H.told host.old)).output }
     ensures messages { IsTrue (tells (H.told host.old)) → slot_at (contents (H.told host.new)) 260 ≡ slot_at (contents (H.told host.old)) 260 }
     ensures keeps { tells (H.told host.new) ≡ tells (H.told host.old) }
@@ -90,7 +95,7 @@ pub fn read_source<H: Host>(alloc: Global, host: &mut H, name: &[u8]) -> Result<
         Err(OpenFault::Absent) => Err(Outcome::NoFile),
         Err(OpenFault::Failed) => Err(Outcome::HostFault),
         Err(OpenFault::OutOfMemory) => Err(Outcome::OutOfMemory),
-        Ok(()) => match pieces(alloc, host) {
+        Ok(()) => match pieces(alloc, host, most) {
             Ok(bytes) => close(host, bytes),
             Err(e) => Err(e),
         },

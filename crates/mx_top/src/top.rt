@@ -3,15 +3,70 @@
 ghost use Rattle.std.specs.Prelude.{IsTrue, ◌≡◌, ◌≢◌, ◌≤◌, None, map, string_bytes};
 ghost use Rattle.mx_host.specs.HostModel.{tells, contents, slot_at, to_errors, Rose};
 ghost use Rattle.mx_top.specs.Lists.{IsFront};
-ghost use Rattle.mx_top.specs.Words.{order_of};
+ghost use Rattle.mx_top.specs.Words.{order_of, one_file, two_files};
 ghost use Rattle.mx_top.specs.Product.{ordered, product, with_message, not_built};
 
+use crate::emit::assemble_file;
 use crate::message::message;
+use crate::objects::sim_file;
 use crate::outcome::{Outcome, WordsFault};
 use crate::run::run_file;
-use crate::words::source_word;
+use crate::words::is_option;
 use mx_host::{Host, HostFault};
 use std::alloc::Global;
+
+/// The outcome of words that are no order.
+fn no_order() -> Outcome
+    ensures { result ≡ Outcome.Usage not_built }
+{
+    Outcome::Usage(WordsFault { kind: 9, word: 0 })
+}
+
+/// Does what a command orders of one file.
+fn with_file<H: Host>(alloc: Global, host: &mut H, command: &String, file: &String) -> Outcome
+    ensures told { IsTrue (tells (H.told host.old)) → result ≢ Outcome.OutOfMemory → (result, contents (H.told host.new)) ≡ ordered (one_file (string_bytes command.now) (string_bytes file.now)) (contents (H.told host.old)) }
+    ensures written { IsTrue (tells (H.told host.old)) → result ≡ Outcome.OutOfMemory → IsFront (contents (H.told host.new)).output (ordered (one_file (string_bytes command.now) (string_bytes file.now)) (contents (H.told host.old))).1.output }
+    ensures messages { IsTrue (tells (H.told host.old)) → slot_at (contents (H.told host.new)) 260 ≡ slot_at (contents (H.told host.old)) 260 }
+    ensures usage { one_file (string_bytes command.now) (string_bytes file.now) ≡ None → result ≡ Outcome.Usage not_built }
+    ensures rose { ¬ IsTrue (tells (H.told host.old)) → result ≡ Outcome.HostFault → Rose (H.faults host.old) (H.faults host.new) }
+    ensures no_file { ¬ IsTrue (tells (H.told host.old)) → result ≡ Outcome.NoFile → Rose (H.faults host.old) (H.faults host.new) }
+    ensures keeps { tells (H.told host.new) ≡ tells (H.told host.old) }
+    ensures never_falls { H.faults host.old ≤ H.faults host.new }
+{
+    if is_option(file) {
+        return no_order();
+    }
+    if command.as_str() == "run" {
+        return run_file(alloc, host, file.as_bytes());
+    }
+    if command.as_str() == "sim" {
+        return sim_file(alloc, host, file.as_bytes());
+    }
+    no_order()
+}
+
+/// Does what a command orders of two files.
+fn with_files<H: Host>(
+    alloc: Global,
+    host: &mut H,
+    command: &String,
+    source: &String,
+    object: &String,
+) -> Outcome
+    ensures told { IsTrue (tells (H.told host.old)) → result ≢ Outcome.OutOfMemory → (result, contents (H.told host.new)) ≡ ordered (two_files (string_bytes command.now) (string_bytes source.now) (string_bytes object.now)) (contents (H.told host.old)) }
+    ensures written { IsTrue (tells (H.told host.old)) → result ≡ Outcome.OutOfMemory → IsFront (contents (H.told host.new)).output (ordered (two_files (string_bytes command.now) (string_bytes source.now) (string_bytes object.now)) (contents (H.told host.old))).1.output }
+    ensures messages { IsTrue (tells (H.told host.old)) → slot_at (contents (H.told host.new)) 260 ≡ slot_at (contents (H.told host.old)) 260 }
+    ensures usage { two_files (string_bytes command.now) (string_bytes source.now) (string_bytes object.now) ≡ None → result ≡ Outcome.Usage not_built }
+    ensures rose { ¬ IsTrue (tells (H.told host.old)) → result ≡ Outcome.HostFault → Rose (H.faults host.old) (H.faults host.new) }
+    ensures no_file { ¬ IsTrue (tells (H.told host.old)) → result ≡ Outcome.NoFile → Rose (H.faults host.old) (H.faults host.new) }
+    ensures keeps { tells (H.told host.new) ≡ tells (H.told host.old) }
+    ensures never_falls { H.faults host.old ≤ H.faults host.new }
+{
+    if is_option(source) || is_option(object) || command.as_str() != "asm" {
+        return no_order();
+    }
+    assemble_file(alloc, host, source.as_bytes(), object.as_bytes())
+}
 
 /// Does what the words order, without the message.
 fn carry_out<H: Host>(alloc: Global, words: &[String], host: &mut H) -> Outcome
@@ -24,9 +79,10 @@ fn carry_out<H: Host>(alloc: Global, words: &[String], host: &mut H) -> Outcome
     ensures keeps { tells (H.told host.new) ≡ tells (H.told host.old) }
     ensures never_falls { H.faults host.old ≤ H.faults host.new }
 {
-    match source_word(words) {
-        None => Outcome::Usage(WordsFault { kind: 9, word: 0 }),
-        Some(name) => run_file(alloc, host, name.as_bytes()),
+    match words {
+        [command, file] => with_file(alloc, host, command, file),
+        [command, source, object] => with_files(alloc, host, command, source, object),
+        _ => no_order(),
     }
 }
 
@@ -55,9 +111,10 @@ fn tell<H: Host>(alloc: Global, host: &mut H, outcome: Outcome) -> Outcome
 /// Does what the words of the command line order, the program's name left out, and answers the
 /// outcome.
 ///
-/// The words `run SRC` assemble the source in the file SRC and run it. All else that a user sees
-/// comes by the host: the program's own output, and a message line on slot 260 where the outcome
-/// is none of a program that is done.
+/// The words `run SRC` assemble the source in the file SRC and run it, `asm SRC OBJ` assemble it
+/// into the object file OBJ, and `sim OBJ` run an object file. All else that a user sees comes by
+/// the host: the object file, the program's own output, and a message line on slot 260 where the
+/// outcome is none of a program or of a tool that is done.
 ///
 /// Over a host that tells its contents the outcome and all that the host then holds are those of
 /// `product`. Where memory runs out, standard output has been given a front of what `product` gives.

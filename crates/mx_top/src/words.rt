@@ -1,21 +1,11 @@
 //! The words of the command line.
 
-ghost use Rattle.std.specs.Prelude.{◌≡◌, map, string_bytes};
-ghost use Rattle.std.specs.Option.{option_map};
-ghost use Rattle.mx_top.specs.Words.{order_of};
+ghost use Rattle.std.specs.Prelude.{◌≡◌, string_bytes};
+ghost use Rattle.mx_top.specs.Words as spec;
 
-/// The word that names the source, where the words are `run SRC` and SRC does not begin with a dash.
-pub fn source_word(words: &[String]) -> Option<&String>
-    ensures { order_of (map string_bytes words.now) ≡ option_map (λ w. string_bytes w.now) result }
+/// Whether a word is an option: it begins with a dash.
+pub fn is_option(word: &String) -> bool
+    ensures { result ≡ spec.is_option (string_bytes word.now) }
 {
-    match words {
-        [command, name] => {
-            if command.as_str() == "run" && name.as_bytes().first() != Some(&b'-') {
-                Some(name)
-            } else {
-                None
-            }
-        }
-        _ => None,
-    }
+    word.as_bytes().first() == Some(&b'-')
 }

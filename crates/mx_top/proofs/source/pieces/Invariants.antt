@@ -7,7 +7,7 @@ use Rattle.mx_top.proofs.source.pieces.Given as goal
 abbrev pub invariant-loop-turn : goal.invariant-loop-turn
 invariant-loop-turn g l = record {
   told : IsTrue (tells (g.H.Host.told l.fn.host)) →
-      pieces 1025 [] (contents (g.H.Host.told l.fn.host)) ≡ pieces (1025 - l.turn) l.got (contents (g.H.Host.told l.host));
+      pieces l.fn.most [] (contents (g.H.Host.told l.fn.host)) ≡ pieces (l.fn.most - l.turn) l.got (contents (g.H.Host.told l.host));
   output : IsTrue (tells (g.H.Host.told l.fn.host)) → (contents (g.H.Host.told l.host)).output ≡ (contents (g.H.Host.told l.fn.host)).output;
   messages : IsTrue (tells (g.H.Host.told l.fn.host)) →
       slot_at (contents (g.H.Host.told l.host)) 260 ≡ slot_at (contents (g.H.Host.told l.fn.host)) 260;
