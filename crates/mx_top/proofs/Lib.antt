@@ -4,12 +4,15 @@ pub mod Fronts
 pub mod Gather
 pub mod Lines
 pub mod LongSources
+pub mod Loads
 pub mod Locals
+pub mod PageCounts
 pub mod Passes
 pub mod Placed
 pub mod PutPieces
 pub mod ReadPieces
 pub mod ReadText
 pub mod Sources
+pub mod Tetras
 pub mod Turns
 pub mod Writes
