@@ -1,0 +1,136 @@
+-- Lines with no fault: their bytes, and how far they reach.
+use Rattle.std.proofs.Common.{◌≡◌, ℕ, zero, suc, ◌+◌, ◌-◌, ◌*◌, ◌/◌, ◌%◌, ◌^◌, ◌<◌, ◌≤◌, List, [], ◌∷◌, ◌++◌, length, take, Bool, true, false, cond, arith, refl, sym, ◌∙◌, ap, subst, lit≤, inl, inr, ◌⊎◌, bit_xor, Option, Some, None, Result, Ok, Err, unwrap_or, length-append, append_assoc, append-nil}
+use Rattle.std.specs.Prelude.{◌==◌, ◌||◌, ◌&&◌, nat_lt, nat_le, find, fold, sum_by}
+use Rattle.std.specs.Int.Bits.{xor_zero_r, xor_zero_l}
+use Rattle.std.specs.Option.{option_or, option_map}
+use Rattle.std.specs.Str.{bytes_eq}
+use Rattle.std.specs.List.{list_any}
+use Rattle.std.proofs.lemmas.Bool.Decides.{nat_tests}
+use Rattle.std.proofs.lemmas.List.Folds.{find-append, list_any-append}
+use Rattle.std.proofs.lemmas.List.Sums.{fold-append, sum_by-append}
+use Rattle.std.proofs.Math.Seq.{take-length}
+use Rattle.mx_word.specs.Results.{map_ok}
+use Rattle.mx_mem.specs.Memory.{byte_in}
+use Rattle.mx_line.specs.Lines.{is_too_far, size_up_to}
+use Rattle.mx_line.specs.Plain.{plain_of, part}
+use Rattle.mx_line.specs.Numbers.{numbers_of}
+use Rattle.mx_line.specs.declared.spans.Span.{Span}
+use Rattle.mx_line.specs.declared.plain_lines.Plain.{Plain}
+use Rattle.mx_line.specs.declared.plain_lines.Plain.TheVariants.{Empty, Loc as LocStatement, Byte, Geta, Trap}
+use Rattle.mx_line.proofs.NumberLaws.{numbers-some}
+use Rattle.mx_mmo.specs.Meaning.{Loading, Meaningless, nothing, take_item, take_items, image_in, meaning}
+use Rattle.mx_mmo.specs.declared.items.Item.{Item}
+use Rattle.mx_mmo.specs.declared.items.Item.TheVariants.{Load, Loc, Pre, Post, Stab}
+use Rattle.mx_top.specs.Image.{Image, of_object, pages_of, pages_below, pages_in}
+use Rattle.mx_top.specs.Memory.{placed, from_place}
+use Rattle.mx_top.specs.TwoPass.{Line, gather, raised, start_of, end_of, place_after, place_of_line, label_span, name_of, labelled, labels_of, is_defined, value_in, is_near, geta_bytes, geta_to, bytes_of, placements_of_line, placements, main_of, main_name, is_new, reaches, has_target, stays_plain, faults_of_line, faults, last_line, refusal_among, refusal, source_too_long, not_built, image}
+use Rattle.mx_top.specs.Whole.{lowered, located, placing, places, tetras_end, lambda_after, items_of_line, items_of_lines, opening, closing, whole}
+use Rattle.mx_top.specs.declared.labels.Label.{Label}
+use Rattle.mx_top.proofs.Placed.{placed-append}
+use Rattle.mx_top.proofs.Gather.{gather-append, gather-push}
+use Rattle.mx_top.proofs.PageCounts.{IsLow, few-pages, pages-run}
+use Rattle.mx_top.proofs.Loads.{standing, AreBytes}
+use Rattle.mx_top.proofs.Paddings.{octas_then, take-append, placing-bytes, placing-is}
+use Rattle.mx_top.proofs.StatementBounds.{IsSmall, plain-small, numbers-short, numbers-bytes}
+
+-- ---- labels of earlier lines
+
+
+-- what stands once items were taken: bytes were placed, on low pages, and lambda is a multiple of 4
+record Taken (n : ℕ) (items : List Item) (s : Loading) (ps : List (ℕ × ℕ)) (lambda : ℕ) : Type 0 where
+  octas : ℕ → ℕ
+  taken : take_items items (Ok s) ≡ Ok (standing n octas (pages_of ps) lambda)
+  bytes : (q : ℕ) → byte_in octas q ≡ placed ps q
+  low : IsLow 32768 (pages_of ps)
+  fours : lambda % 4 ≡ 0
+
+-- ---- one line
+
+-- lambda after one line more
+lambda-push : (before : List Line) (line : Line) (t : Bool) → places (plain_of line) ≡ t →
+    lambda_after (before ++ line ∷ []) ≡ cond t (raised (end_of line (plain_of line) (place_after before))) (lambda_after before)
+lambda-push before line t e =
+    ap (fold (λ (lambda end : ℕ). end) 0) (gather-push tetras_end before line)
+    ∙ fold-append (λ (lambda end : ℕ). end) 0 (gather tetras_end [] before) (tetras_end before line)
+    ∙ on t e
+  where
+    on : (t : Bool) → places (plain_of line) ≡ t →
+        fold (λ (lambda end : ℕ). end) (lambda_after before) (tetras_end before line) ≡ cond t (raised (end_of line (plain_of line) (place_after before))) (lambda_after before)
+    on true e = rw e refl
+    on false e = rw e refl
+
+raised-fours : (a : ℕ) → raised a % 4 ≡ 0
+raised-fours a = omega arith
+
+-- bytes from a place on lie on low pages
+run-low : (a : ℕ) (xs : List ℕ) → a + length xs ≤ 134217728 → IsLow 32768 (pages_of (from_place a xs))
+run-low a [] l p h = refl
+run-low a (x ∷ xs) l p h =
+    let apart : (a / 4096 == p) ≡ false = grind (arith, nat_tests) in
+    rw apart (run-low (a + 1) xs (omega arith) p h)
+
+more-low : (ps qs : List (ℕ × ℕ)) → IsLow 32768 (pages_of ps) → IsLow 32768 (pages_of qs) → IsLow 32768 (pages_of (ps ++ qs))
+more-low ps qs low more p h = list_any-append (λ q. q.0 / 4096 == p) ps qs ∙ rw (low p h, more p h) refl
+
+same_pages : (f g : ℕ → Bool) → ((p : ℕ) → f p ≡ g p) → f ≡ g
+same_pages f g h = λ i p. h p i
+
+pages-two : (ps qs : List (ℕ × ℕ)) → (λ p. pages_of ps p || pages_of qs p) ≡ pages_of (ps ++ qs)
+pages-two ps qs = same_pages _ _ (λ p. sym (list_any-append (λ q. q.0 / 4096 == p) ps qs))
+
+-- a line with bytes
+bytes-taken : (n : ℕ) (octas : ℕ → ℕ) (ps : List (ℕ × ℕ)) (lambda start end : ℕ) (bytes : List ℕ) → 32768 ≤ n →
+    ((q : ℕ) → byte_in octas q ≡ placed ps q) → IsLow 32768 (pages_of ps) → lambda % 4 ≡ 0 →
+    AreBytes bytes → 0 < length bytes → start + length bytes ≡ end → end < 134217724 →
+    Taken n (placing lambda start bytes) (standing n octas (pages_of ps) lambda) (ps ++ from_place start bytes) (raised end)
+bytes-taken n octas ps lambda start end bytes big h low m are some ends l =
+    let near : start + length bytes < 134217724 = omega (arith, ends) in
+    record {
+      octas = octas_then octas start bytes;
+      taken =
+          placing-is n octas (pages_of ps) lambda start bytes big m near some low
+          ∙ ap (λ (f : ℕ → Bool). Ok (standing n (octas_then octas start bytes) f (raised (start + length bytes)))) (pages-two ps (from_place start bytes))
+          ∙ ap (λ k. Ok (standing n (octas_then octas start bytes) (pages_of (ps ++ from_place start bytes)) (raised k))) ends;
+      bytes = λ q. placing-bytes octas start bytes q are ∙ ap (λ x. bit_xor x (placed (from_place start bytes) q)) (h q) ∙ sym (placed-append ps (from_place start bytes) q);
+      low = more-low ps (from_place start bytes) low (run-low start bytes (omega arith));
+      fours = raised-fours end;
+    }
+
+-- the end of a line lies below 2^27
+end-low : (end size : ℕ) → end ≤ 16777216 + 8 * size → size ≤ 4194305 → end < 134217724
+end-low end size h l = omega arith
+
+line-taken : (n : ℕ) (labels : List Label) (before : List Line) (line : Line) (octas : ℕ → ℕ) (ps : List (ℕ × ℕ)) → 32768 ≤ n →
+    IsBelow (before ++ line ∷ []) → size_of (before ++ line ∷ []) ≤ 4194305 →
+    has_target labels line (plain_of line) (place_of_line before line) ≡ true →
+    ((q : ℕ) → byte_in octas q ≡ placed ps q) → IsLow 32768 (pages_of ps) → lambda_after before % 4 ≡ 0 →
+    Taken n (items_of_line labels before line) (standing n octas (pages_of ps) (lambda_after before)) (ps ++ placements_of_line labels before line) (lambda_after (before ++ line ∷ []))
+line-taken n labels before line octas ps big below size target h low m = on (places (plain_of line)) refl
+  where
+    Goal : List Item → ℕ → Type 0
+    Goal items lambda = Taken n items (standing n octas (pages_of ps) (lambda_after before)) (ps ++ placements_of_line labels before line) lambda
+
+    start : ℕ
+    start = place_of_line before line
+
+    bytes : List ℕ
+    bytes = bytes_of labels line (plain_of line) (place_of_line before line)
+
+    end-is : place_after (before ++ line ∷ []) < 134217724
+    end-is = end-low (place_after (before ++ line ∷ [])) (size_of (before ++ line ∷ [])) below size
+
+    with-bytes : Spelt line (plain_of line) (bytes_of labels line (plain_of line) (place_of_line before line)) (place_after before) → places (plain_of line) ≡ true →
+        Taken n (items_of_line labels before line) (standing n octas (pages_of ps) (lambda_after before)) (ps ++ placements_of_line labels before line) (lambda_after (before ++ line ∷ []))
+    with-bytes sp e =
+        let done = bytes-taken n octas ps (lambda_after before) (place_of_line before line) (end_of line (plain_of line) (place_after before)) (bytes_of labels line (plain_of line) (place_of_line before line)) big h low m
+            sp.are sp.some sp.ends (subst (λ k. k < 134217724) (place-push before line) end-is) in
+        rw (e, lambda-push before line true e) done
+
+    on : (t : Bool) → places (plain_of line) ≡ t →
+        Taken n (items_of_line labels before line) (standing n octas (pages_of ps) (lambda_after before)) (ps ++ placements_of_line labels before line) (lambda_after (before ++ line ∷ []))
+    on true e = with-bytes (spelt labels line (plain_of line) (place_after before) (plain-small line) target e) e
+    on false e =
+        let none : ps ++ placements_of_line labels before line ≡ ps = ap (λ bs. ps ++ from_place (place_of_line before line) bs) (silent labels line (plain_of line) (place_of_line before line) e) ∙ append-nil ps in
+        rw (e, none, lambda-push before line false e) (record { octas = octas; taken = refl; bytes = h; low = low; fours = m })
+
+pub ruleset lines = (line-taken)
