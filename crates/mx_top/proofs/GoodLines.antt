@@ -80,15 +80,6 @@ near-backward from to h l = grind (arith, nat_tests)
 geta-are : (from reg to : ℕ) → reg < 256 → is_near from to ≡ true → AreBytes (geta_bytes from reg to) × (length (geta_bytes from reg to) ≡ 4)
 geta-are from reg to r h = on (nat_le from to) refl
   where
-    Four : List ℕ → Type 0
-    Four bytes = AreBytes bytes × (length bytes ≡ 4)
-
-    forward : ℕ → List ℕ
-    forward d = 0xf4 ∷ reg ∷ d / 256 ∷ d % 256 ∷ []
-
-    backward : ℕ → List ℕ
-    backward d = 0xf5 ∷ reg ∷ d / 256 ∷ d % 256 ∷ []
-
     on : (t : Bool) → nat_le from to ≡ t → AreBytes (geta_bytes from reg to) × (length (geta_bytes from reg to) ≡ 4)
     on true e = rw e (with-bytes 0xf4 reg ((to - from) / 4) (omega arith) r (near-forward from to h e), refl)
     on false e = rw e (with-bytes 0xf5 reg (65536 - (from - to) / 4) (omega arith) r (near-backward from to h e), refl)
@@ -138,7 +129,7 @@ far-size before line =
     ap (λ n. take n (before ++ line ∷ [])) (sym (length-append before (line ∷ []))) ∙ take-length (before ++ line ∷ []) in
     ap (λ lines. sum_by length lines + (length before + 1 - 1)) all ∙ simp sum_by-append (omega arith)
 
-size-push : (before : List Line) (line : Line) → size_of (before ++ line ∷ []) ≡ size_of before + length line + 1
+pub size-push : (before : List Line) (line : Line) → size_of (before ++ line ∷ []) ≡ size_of before + length line + 1
 size-push before line = simp (sum_by-append, length-append) (omega arith)
 
 pub place-push : (before : List Line) (line : Line) → place_after (before ++ line ∷ []) ≡ end_of line (plain_of line) (place_after before)
@@ -180,4 +171,3 @@ good-line before line later h =
       near = near-size (size_of before + length line) (subst (λ n. nat_lt (2 ^ 22) n ≡ false) (far-size before line) none.0);
       target = and-second _ _ none.1;
     }, none.2)
-pub ruleset lines = (good-line)

@@ -18,7 +18,7 @@ use Rattle.mx_line.specs.declared.spans.Span.{Span}
 use Rattle.mx_line.specs.declared.plain_lines.Plain.{Plain}
 use Rattle.mx_line.specs.declared.plain_lines.Plain.TheVariants.{Empty, Loc as LocStatement, Byte, Geta, Trap}
 use Rattle.mx_line.proofs.NumberLaws.{numbers-some}
-use Rattle.mx_mmo.specs.Meaning.{Loading, Meaningless, nothing, take_item, take_items, image_in, meaning}
+use Rattle.mx_mmo.specs.Meaning.{Loading, Meaningless, nothing, take_item, take_items, image_in, meaning, value_at}
 use Rattle.mx_mmo.specs.declared.items.Item.{Item}
 use Rattle.mx_mmo.specs.declared.items.Item.TheVariants.{Load, Loc, Pre, Post, Stab}
 use Rattle.mx_top.specs.Image.{Image, of_object, pages_of, pages_below, pages_in}
@@ -31,7 +31,8 @@ use Rattle.mx_top.proofs.Gather.{gather-append, gather-push}
 use Rattle.mx_top.proofs.PageCounts.{IsLow, few-pages, pages-run}
 use Rattle.mx_top.proofs.Loads.{standing, AreBytes}
 use Rattle.mx_top.proofs.Paddings.{octas_then, take-append, placing-bytes, placing-is}
-use Rattle.mx_top.proofs.StatementBounds.{IsSmall, plain-small, numbers-short, numbers-bytes}
+use Rattle.mx_top.proofs.StatementBounds.{plain-small}
+use Rattle.mx_top.proofs.GoodLines.{Spelt, spelt, silent, size_of, place-push, IsBelow, below-push, size-push, target-later, Good, good-line}
 
 -- ---- labels of earlier lines
 
@@ -107,15 +108,6 @@ line-taken : (n : ℕ) (labels : List Label) (before : List Line) (line : Line) 
     Taken n (items_of_line labels before line) (standing n octas (pages_of ps) (lambda_after before)) (ps ++ placements_of_line labels before line) (lambda_after (before ++ line ∷ []))
 line-taken n labels before line octas ps big below size target h low m = on (places (plain_of line)) refl
   where
-    Goal : List Item → ℕ → Type 0
-    Goal items lambda = Taken n items (standing n octas (pages_of ps) (lambda_after before)) (ps ++ placements_of_line labels before line) lambda
-
-    start : ℕ
-    start = place_of_line before line
-
-    bytes : List ℕ
-    bytes = bytes_of labels line (plain_of line) (place_of_line before line)
-
     end-is : place_after (before ++ line ∷ []) < 134217724
     end-is = end-low (place_after (before ++ line ∷ [])) (size_of (before ++ line ∷ [])) below size
 
@@ -133,4 +125,105 @@ line-taken n labels before line octas ps big below size target h low m = on (pla
         let none : ps ++ placements_of_line labels before line ≡ ps = ap (λ bs. ps ++ from_place (place_of_line before line) bs) (silent labels line (plain_of line) (place_of_line before line) e) ∙ append-nil ps in
         rw (e, none, lambda-push before line false e) (record { octas = octas; taken = refl; bytes = h; low = low; fours = m })
 
-pub ruleset lines = (line-taken)
+-- ---- all lines
+
+no-more : (n : ℕ) (items : List Item) (s : Loading) (ps qs : List (ℕ × ℕ)) (k l : ℕ) → ps ≡ qs → k ≡ l → Taken n items s ps k → Taken n items s qs l
+no-more n items s ps qs k l e f h = subst (λ rs. Taken n items s rs l) e (subst (λ m. Taken n items s ps m) f h)
+
+-- items after items
+both-taken : (n : ℕ) (xs ys : List Item) (s : Loading) (ps qs : List (ℕ × ℕ)) (lambda last : ℕ) → (first : Taken n xs s ps lambda) →
+    Taken n ys (standing n first.octas (pages_of ps) lambda) qs last → Taken n (xs ++ ys) s qs last
+both-taken n xs ys s ps qs lambda last first second = record {
+  octas = second.octas;
+  taken = take-append xs ys (Ok s) ∙ ap (take_items ys) first.taken ∙ second.taken;
+  bytes = second.bytes;
+  low = second.low;
+  fours = second.fours;
+}
+
+lines-taken : (n : ℕ) (lines before all : List Line) (octas : ℕ → ℕ) (ps : List (ℕ × ℕ)) → 32768 ≤ n → all ≡ before ++ lines →
+    gather faults_of_line before lines ≡ [] → IsBelow before → ((q : ℕ) → byte_in octas q ≡ placed ps q) → IsLow 32768 (pages_of ps) → lambda_after before % 4 ≡ 0 →
+    Taken n (gather (items_of_line (labels_of all)) before lines) (standing n octas (pages_of ps) (lambda_after before)) (ps ++ gather (placements_of_line (labels_of all)) before lines) (lambda_after all)
+unfolding gather
+lines-taken n [] before all octas ps big e f below h low m =
+    no-more n [] (standing n octas (pages_of ps) (lambda_after before)) ps (ps ++ []) (lambda_after before) (lambda_after all) (sym (append-nil ps)) (ap lambda_after (sym (e ∙ append-nil before)))
+    (record { octas = octas; taken = refl; bytes = h; low = low; fours = m })
+lines-taken n (line ∷ lines) before all octas ps big e f below h low m =
+    let good = good-line before line (gather faults_of_line (before ++ line ∷ []) lines) f in
+    let value = λ (before : List Line) (line : Line). labelled (name_of line) (place_of_line before line) in
+    let labels : labels_of all ≡ labels_of before ++ gather value before (line ∷ lines) = ap labels_of e ∙ gather-append value [] before (line ∷ lines) in
+    let target : has_target (labels_of all) line (plain_of line) (place_of_line before line) ≡ true =
+    ap (λ ls. has_target ls line (plain_of line) (place_of_line before line)) labels
+    ∙ target-later (labels_of before) (gather value before (line ∷ lines)) line (plain_of line) (place_of_line before line) good.0.target in
+    let size : size_of (before ++ line ∷ []) ≤ 4194305 = omega (arith, size-push before line, good.0.near) in
+    let next = below-push before line below in
+    let first = line-taken n (labels_of all) before line octas ps big next size target h low m in
+    let rest = lines-taken n lines (before ++ line ∷ []) all first.octas (ps ++ placements_of_line (labels_of all) before line) big
+    (e ∙ sym (append_assoc before (line ∷ []) lines)) good.1 next first.bytes first.low first.fours in
+    no-more n _ (standing n octas (pages_of ps) (lambda_after before)) _ _ (lambda_after all) (lambda_after all)
+    (append_assoc ps (placements_of_line (labels_of all) before line) (gather (placements_of_line (labels_of all)) (before ++ line ∷ []) lines)) refl
+    (both-taken n (items_of_line (labels_of all) before line) (gather (items_of_line (labels_of all)) (before ++ line ∷ []) lines) (standing n octas (pages_of ps) (lambda_after before))
+    (ps ++ placements_of_line (labels_of all) before line) _ (lambda_after (before ++ line ∷ [])) (lambda_after all) first rest)
+
+-- ---- the law
+
+no-faults : (lines : List Line) → refusal lines ≡ None → faults lines ≡ []
+no-faults lines h = on (faults lines) h
+  where
+    on : (found : List (ℕ × ℕ)) → refusal_among found lines ≡ None → found ≡ []
+    on [] h = refl
+    on (fault ∷ later) h = absurd (cc)
+
+-- before the first item nothing stands
+nothing-is : (n : ℕ) → nothing ≡ standing n (λ a. 0) (pages_of []) 0
+nothing-is n =
+    let count : 0 ≡ pages_below n (pages_of []) = omega (arith, few-pages n 0 (pages_of []) (λ p h. refl)) in
+    λ i. record {
+      image = record { memory = λ a. 0; pages = λ p. false; page_count = count i; line_of = λ a. 0; g = 255; global = λ k. 0 };
+      lambda = 0;
+      line = 0;
+      selected = false;
+      named = λ k. false;
+    }
+
+no-byte : (q : ℕ) → byte_in (λ a. 0) q ≡ 0
+no-byte q = omega arith
+
+-- the image of these lines, with the pages counted below a number
+image-below : (n : ℕ) (lines : List Line) → Image
+image-below n lines = record {
+  memory = placed (placements lines);
+  pages = pages_of (placements lines);
+  page_count = pages_below n (pages_of (placements lines));
+  g = 255;
+  global = value_at 255 (main_of lines ∷ []);
+}
+
+items-taken : (n : ℕ) (lines : List Line) → 32768 ≤ n → faults lines ≡ [] →
+    Taken n (items_of_lines lines) (standing n (λ a. 0) (pages_of []) 0) (placements lines) (lambda_after lines)
+unfolding gather
+items-taken n lines big h = lines-taken n lines [] lines (λ a. 0) [] big refl h (omega arith) (λ q. no-byte q) (λ p h. refl) (omega arith)
+
+ended-by : (n : ℕ) (lines : List Line) → Taken n (items_of_lines lines) (standing n (λ a. 0) (pages_of []) 0) (placements lines) (lambda_after lines) →
+    map_ok of_object (meaning (whole lines)) ≡ Ok (image-below n lines)
+unfolding image-below
+ended-by n lines t =
+    let last = λ (r : Result Loading Meaningless). map_ok of_object (image_in (take_items (closing (main_of lines)) r)) in
+    let start = take-append (items_of_lines lines) (closing (main_of lines)) (Ok nothing) in
+    let bytes : byte_in t.octas ≡ placed (placements lines) = λ i q. t.bytes q i in
+    ap (λ r. map_ok of_object (image_in r)) start
+    ∙ ap (λ s. last (take_items (items_of_lines lines) (Ok s))) (nothing-is n)
+    ∙ ap last t.taken
+    ∙ (λ i. Ok (record {
+      memory = bytes i;
+      pages = pages_of (placements lines);
+      page_count = pages_below n (pages_of (placements lines));
+      g = 255;
+      global = value_at 255 (main_of lines ∷ []);
+    }))
+
+pub items-mean : (lines : List Line) → refusal lines ≡ None → map_ok of_object (meaning (whole lines)) ≡ Ok (image lines)
+unfolding image-below
+items-mean lines h = ended-by (2 ^ 51) lines (items-taken (2 ^ 51) lines (lit≤ tt) (no-faults lines h))
+
+pub ruleset meanings = (items-mean)

@@ -17,7 +17,7 @@ pub fn front_decides()
 {}
 
 /// The items of a source that is accepted set up its image: memory, pages and registers.
-#[tactic(auto, using(crate::proofs::LoadedLines::lines))]
+#[tactic(auto, using(crate::proofs::LoadedLines::meanings))]
 pub fn items_mean_the_image()
     ensures { (lines : List (List ℕ)) → refusal lines ≡ None → map_ok of_object (meaning (whole lines)) ≡ Ok (image lines) }
 {}
