@@ -1,36 +1,22 @@
 -- Lines with no fault: their bytes, and how far they reach.
-use Rattle.std.proofs.Common.{◌≡◌, ℕ, zero, suc, ◌+◌, ◌-◌, ◌*◌, ◌/◌, ◌%◌, ◌^◌, ◌<◌, ◌≤◌, List, [], ◌∷◌, ◌++◌, length, take, Bool, true, false, cond, arith, refl, sym, ◌∙◌, ap, subst, lit≤, inl, inr, ◌⊎◌, bit_xor, Option, Some, None, Result, Ok, Err, unwrap_or, length-append, append_assoc, append-nil}
-use Rattle.std.specs.Prelude.{◌==◌, ◌||◌, ◌&&◌, nat_lt, nat_le, find, fold, sum_by}
-use Rattle.std.specs.Int.Bits.{xor_zero_r, xor_zero_l}
+use Rattle.std.proofs.Common.{◌≡◌, ℕ, ◌+◌, ◌-◌, ◌*◌, ◌/◌, ◌%◌, ◌^◌, ◌<◌, ◌≤◌, List, [], ◌∷◌, ◌++◌, length, take, Bool, true, false, cond, arith, refl, sym, ◌∙◌, ap, subst, inl, inr, ◌⊎◌, Option, Some, None, length-append}
+use Rattle.std.specs.Prelude.{◌&&◌, nat_lt, nat_le, find, sum_by}
 use Rattle.std.specs.Option.{option_or, option_map}
 use Rattle.std.specs.Str.{bytes_eq}
-use Rattle.std.specs.List.{list_any}
 use Rattle.std.proofs.lemmas.Bool.Decides.{nat_tests}
-use Rattle.std.proofs.lemmas.List.Folds.{find-append, list_any-append}
+use Rattle.std.proofs.lemmas.List.Folds.{find-append}
 use Rattle.std.proofs.lemmas.List.Sums.{fold-append, sum_by-append}
 use Rattle.std.proofs.Math.Seq.{take-length}
-use Rattle.mx_word.specs.Results.{map_ok}
-use Rattle.mx_mem.specs.Memory.{byte_in}
 use Rattle.mx_line.specs.Lines.{is_too_far, size_up_to}
 use Rattle.mx_line.specs.Plain.{plain_of, part}
-use Rattle.mx_line.specs.Numbers.{numbers_of}
 use Rattle.mx_line.specs.declared.spans.Span.{Span}
 use Rattle.mx_line.specs.declared.plain_lines.Plain.{Plain}
 use Rattle.mx_line.specs.declared.plain_lines.Plain.TheVariants.{Empty, Loc as LocStatement, Byte, Geta, Trap}
 use Rattle.mx_line.proofs.NumberLaws.{numbers-some}
-use Rattle.mx_mmo.specs.Meaning.{Loading, Meaningless, nothing, take_item, take_items, image_in, meaning}
-use Rattle.mx_mmo.specs.declared.items.Item.{Item}
-use Rattle.mx_mmo.specs.declared.items.Item.TheVariants.{Load, Loc, Pre, Post, Stab}
-use Rattle.mx_top.specs.Image.{Image, of_object, pages_of, pages_below, pages_in}
-use Rattle.mx_top.specs.Memory.{placed, from_place}
-use Rattle.mx_top.specs.TwoPass.{Line, gather, raised, start_of, end_of, place_after, place_of_line, label_span, name_of, labelled, labels_of, is_defined, value_in, is_near, geta_bytes, geta_to, bytes_of, placements_of_line, placements, main_of, main_name, is_new, reaches, has_target, stays_plain, faults_of_line, faults, last_line, refusal_among, refusal, source_too_long, not_built, image}
-use Rattle.mx_top.specs.Whole.{lowered, located, placing, places, tetras_end, lambda_after, items_of_line, items_of_lines, opening, closing, whole}
+use Rattle.mx_top.specs.TwoPass.{Line, raised, start_of, end_of, place_after, place_of_line, labels_of, value_in, is_near, geta_bytes, geta_to, bytes_of, reaches, has_target, stays_plain, faults_of_line, source_too_long, not_built}
+use Rattle.mx_top.specs.Whole.{places}
 use Rattle.mx_top.specs.declared.labels.Label.{Label}
-use Rattle.mx_top.proofs.Placed.{placed-append}
-use Rattle.mx_top.proofs.Gather.{gather-append, gather-push}
-use Rattle.mx_top.proofs.PageCounts.{IsLow, few-pages, pages-run}
-use Rattle.mx_top.proofs.Loads.{standing, AreBytes}
-use Rattle.mx_top.proofs.Paddings.{octas_then, take-append, placing-bytes, placing-is}
+use Rattle.mx_top.proofs.Loads.{AreBytes}
 use Rattle.mx_top.proofs.StatementBounds.{IsSmall, plain-small, numbers-short, numbers-bytes}
 
 -- ---- labels of earlier lines
@@ -166,8 +152,10 @@ near-size n h = grind (arith, nat_tests)
 
 pub good-line : (before : List Line) (line : Line) (later : List (ℕ × ℕ)) → faults_of_line before line ++ later ≡ [] → Good before line × (later ≡ [])
 good-line before line later h =
-    let none = none-of (is_too_far (before ++ line ∷ []) (length before + 1)) (stays_plain before line) (length before + 1) later h in
-    (record {
-      near = near-size (size_of before + length line) (subst (λ n. nat_lt (2 ^ 22) n ≡ false) (far-size before line) none.0);
-      target = and-second _ _ none.1;
-    }, none.2)
+    let none = none-of (is_too_far (before ++ line ∷ []) (length before + 1)) (stays_plain before line) (length before + 1) later h in (
+      record {
+        near = near-size (size_of before + length line) (subst (λ n. nat_lt (2 ^ 22) n ≡ false) (far-size before line) none.0);
+        target = and-second _ _ none.1;
+      },
+      none.2,
+    )

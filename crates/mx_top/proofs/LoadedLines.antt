@@ -1,41 +1,28 @@
 -- Lines with no fault: their bytes, and how far they reach.
-use Rattle.std.proofs.Common.{◌≡◌, ℕ, zero, suc, ◌+◌, ◌-◌, ◌*◌, ◌/◌, ◌%◌, ◌^◌, ◌<◌, ◌≤◌, List, [], ◌∷◌, ◌++◌, length, take, Bool, true, false, cond, arith, refl, sym, ◌∙◌, ap, subst, lit≤, inl, inr, ◌⊎◌, bit_xor, Option, Some, None, Result, Ok, Err, unwrap_or, length-append, append_assoc, append-nil}
-use Rattle.std.specs.Prelude.{◌==◌, ◌||◌, ◌&&◌, nat_lt, nat_le, find, fold, sum_by}
-use Rattle.std.specs.Int.Bits.{xor_zero_r, xor_zero_l}
-use Rattle.std.specs.Option.{option_or, option_map}
-use Rattle.std.specs.Str.{bytes_eq}
-use Rattle.std.specs.List.{list_any}
+use Rattle.std.proofs.Common.{◌≡◌, ℕ, ◌+◌, ◌*◌, ◌/◌, ◌%◌, ◌^◌, ◌<◌, ◌≤◌, List, [], ◌∷◌, ◌++◌, length, Bool, true, false, cond, arith, refl, sym, ◌∙◌, ap, subst, lit≤, bit_xor, None, Result, Ok, append_assoc, append-nil}
+use Rattle.std.specs.Prelude.{◌==◌, ◌||◌, fold}
 use Rattle.std.proofs.lemmas.Bool.Decides.{nat_tests}
-use Rattle.std.proofs.lemmas.List.Folds.{find-append, list_any-append}
-use Rattle.std.proofs.lemmas.List.Sums.{fold-append, sum_by-append}
-use Rattle.std.proofs.Math.Seq.{take-length}
+use Rattle.std.proofs.lemmas.List.Folds.{list_any-append}
+use Rattle.std.proofs.lemmas.List.Sums.{fold-append}
 use Rattle.mx_word.specs.Results.{map_ok}
 use Rattle.mx_mem.specs.Memory.{byte_in}
-use Rattle.mx_line.specs.Lines.{is_too_far, size_up_to}
-use Rattle.mx_line.specs.Plain.{plain_of, part}
-use Rattle.mx_line.specs.Numbers.{numbers_of}
-use Rattle.mx_line.specs.declared.spans.Span.{Span}
-use Rattle.mx_line.specs.declared.plain_lines.Plain.{Plain}
-use Rattle.mx_line.specs.declared.plain_lines.Plain.TheVariants.{Empty, Loc as LocStatement, Byte, Geta, Trap}
-use Rattle.mx_line.proofs.NumberLaws.{numbers-some}
-use Rattle.mx_mmo.specs.Meaning.{Loading, Meaningless, nothing, take_item, take_items, image_in, meaning, value_at}
+use Rattle.mx_line.specs.Plain.{plain_of}
+use Rattle.mx_mmo.specs.Meaning.{Loading, Meaningless, nothing, take_items, image_in, meaning, value_at}
 use Rattle.mx_mmo.specs.declared.items.Item.{Item}
-use Rattle.mx_mmo.specs.declared.items.Item.TheVariants.{Load, Loc, Pre, Post, Stab}
-use Rattle.mx_top.specs.Image.{Image, of_object, pages_of, pages_below, pages_in}
+use Rattle.mx_top.specs.Image.{Image, of_object, pages_of, pages_below}
 use Rattle.mx_top.specs.Memory.{placed, from_place}
-use Rattle.mx_top.specs.TwoPass.{Line, gather, raised, start_of, end_of, place_after, place_of_line, label_span, name_of, labelled, labels_of, is_defined, value_in, is_near, geta_bytes, geta_to, bytes_of, placements_of_line, placements, main_of, main_name, is_new, reaches, has_target, stays_plain, faults_of_line, faults, last_line, refusal_among, refusal, source_too_long, not_built, image}
-use Rattle.mx_top.specs.Whole.{lowered, located, placing, places, tetras_end, lambda_after, items_of_line, items_of_lines, opening, closing, whole}
+use Rattle.mx_top.specs.TwoPass.{Line, gather, raised, end_of, place_after, place_of_line, name_of, labelled, labels_of, bytes_of, placements_of_line, placements, main_of, has_target, faults_of_line, faults, refusal_among, refusal, image}
+use Rattle.mx_top.specs.Whole.{placing, places, tetras_end, lambda_after, items_of_line, items_of_lines, closing, whole}
 use Rattle.mx_top.specs.declared.labels.Label.{Label}
 use Rattle.mx_top.proofs.Placed.{placed-append}
 use Rattle.mx_top.proofs.Gather.{gather-append, gather-push}
-use Rattle.mx_top.proofs.PageCounts.{IsLow, few-pages, pages-run}
+use Rattle.mx_top.proofs.PageCounts.{IsLow, few-pages}
 use Rattle.mx_top.proofs.Loads.{standing, AreBytes}
 use Rattle.mx_top.proofs.Paddings.{octas_then, take-append, placing-bytes, placing-is}
 use Rattle.mx_top.proofs.StatementBounds.{plain-small}
-use Rattle.mx_top.proofs.GoodLines.{Spelt, spelt, silent, size_of, place-push, IsBelow, below-push, size-push, target-later, Good, good-line}
+use Rattle.mx_top.proofs.GoodLines.{Spelt, spelt, silent, size_of, place-push, IsBelow, below-push, size-push, target-later, good-line}
 
 -- ---- labels of earlier lines
-
 
 -- what stands once items were taken: bytes were placed, on low pages, and lambda is a multiple of 4
 record Taken (n : ℕ) (items : List Item) (s : Loading) (ps : List (ℕ × ℕ)) (lambda : ℕ) : Type 0 where
@@ -115,7 +102,7 @@ line-taken n labels before line octas ps big below size target h low m = on (pla
         Taken n (items_of_line labels before line) (standing n octas (pages_of ps) (lambda_after before)) (ps ++ placements_of_line labels before line) (lambda_after (before ++ line ∷ []))
     with-bytes sp e =
         let done = bytes-taken n octas ps (lambda_after before) (place_of_line before line) (end_of line (plain_of line) (place_after before)) (bytes_of labels line (plain_of line) (place_of_line before line)) big h low m
-            sp.are sp.some sp.ends (subst (λ k. k < 134217724) (place-push before line) end-is) in
+        sp.are sp.some sp.ends (subst (λ k. k < 134217724) (place-push before line) end-is) in
         rw (e, lambda-push before line true e) done
 
     on : (t : Bool) → places (plain_of line) ≡ t →
@@ -127,8 +114,9 @@ line-taken n labels before line octas ps big below size target h low m = on (pla
 
 -- ---- all lines
 
-no-more : (n : ℕ) (items : List Item) (s : Loading) (ps qs : List (ℕ × ℕ)) (k l : ℕ) → ps ≡ qs → k ≡ l → Taken n items s ps k → Taken n items s qs l
-no-more n items s ps qs k l e f h = subst (λ rs. Taken n items s rs l) e (subst (λ m. Taken n items s ps m) f h)
+-- the same in other words
+same-taken : (n : ℕ) (items : List Item) (s : Loading) (ps qs : List (ℕ × ℕ)) (k l : ℕ) → ps ≡ qs → k ≡ l → Taken n items s ps k → Taken n items s qs l
+same-taken n items s ps qs k l e f h = subst (λ rs. Taken n items s rs l) e (subst (λ m. Taken n items s ps m) f h)
 
 -- items after items
 both-taken : (n : ℕ) (xs ys : List Item) (s : Loading) (ps qs : List (ℕ × ℕ)) (lambda last : ℕ) → (first : Taken n xs s ps lambda) →
@@ -146,7 +134,7 @@ lines-taken : (n : ℕ) (lines before all : List Line) (octas : ℕ → ℕ) (ps
     Taken n (gather (items_of_line (labels_of all)) before lines) (standing n octas (pages_of ps) (lambda_after before)) (ps ++ gather (placements_of_line (labels_of all)) before lines) (lambda_after all)
 unfolding gather
 lines-taken n [] before all octas ps big e f below h low m =
-    no-more n [] (standing n octas (pages_of ps) (lambda_after before)) ps (ps ++ []) (lambda_after before) (lambda_after all) (sym (append-nil ps)) (ap lambda_after (sym (e ∙ append-nil before)))
+    same-taken n [] (standing n octas (pages_of ps) (lambda_after before)) ps (ps ++ []) (lambda_after before) (lambda_after all) (sym (append-nil ps)) (ap lambda_after (sym (e ∙ append-nil before)))
     (record { octas = octas; taken = refl; bytes = h; low = low; fours = m })
 lines-taken n (line ∷ lines) before all octas ps big e f below h low m =
     let good = good-line before line (gather faults_of_line (before ++ line ∷ []) lines) f in
@@ -160,7 +148,7 @@ lines-taken n (line ∷ lines) before all octas ps big e f below h low m =
     let first = line-taken n (labels_of all) before line octas ps big next size target h low m in
     let rest = lines-taken n lines (before ++ line ∷ []) all first.octas (ps ++ placements_of_line (labels_of all) before line) big
     (e ∙ sym (append_assoc before (line ∷ []) lines)) good.1 next first.bytes first.low first.fours in
-    no-more n _ (standing n octas (pages_of ps) (lambda_after before)) _ _ (lambda_after all) (lambda_after all)
+    same-taken n _ (standing n octas (pages_of ps) (lambda_after before)) _ _ (lambda_after all) (lambda_after all)
     (append_assoc ps (placements_of_line (labels_of all) before line) (gather (placements_of_line (labels_of all)) (before ++ line ∷ []) lines)) refl
     (both-taken n (items_of_line (labels_of all) before line) (gather (items_of_line (labels_of all)) (before ++ line ∷ []) lines) (standing n octas (pages_of ps) (lambda_after before))
     (ps ++ placements_of_line (labels_of all) before line) _ (lambda_after (before ++ line ∷ [])) (lambda_after all) first rest)

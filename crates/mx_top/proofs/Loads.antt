@@ -1,23 +1,18 @@
 -- Tetras that are loaded one after another.
-use Rattle.std.proofs.Common.{◌≡◌, ℕ, zero, suc, ◌+◌, ◌-◌, ◌*◌, ◌/◌, ◌%◌, ◌^◌, ◌<◌, ◌≤◌, List, [], ◌∷◌, ◌++◌, length, map, Bool, true, false, cond, arith, refl, sym, ◌∙◌, ap, subst, bit_xor, Result, Ok, Err, replicate, length-append}
-use Rattle.std.specs.Prelude.{◌==◌, ◌||◌, ◌&&◌, nat_lt, nat_le}
-use Rattle.std.specs.Int.Bits.{xor_assoc, xor_zero_r, xor_zero_l}
+use Rattle.std.proofs.Common.{◌≡◌, ℕ, ◌+◌, ◌*◌, ◌/◌, ◌%◌, ◌^◌, ◌<◌, ◌≤◌, List, [], ◌∷◌, ◌++◌, length, map, Bool, true, false, cond, arith, refl, sym, ◌∙◌, ap, bit_xor, Ok}
+use Rattle.std.specs.Prelude.{◌==◌, ◌||◌, nat_le}
+use Rattle.std.specs.Int.Bits.{xor_assoc, xor_zero_r}
 use Rattle.std.proofs.lemmas.Bool.Decides.{nat_tests}
-use Rattle.std.proofs.lemmas.Grind.{common_steps}
-use Rattle.std.proofs.lemmas.List.{length-replicate}
 use Rattle.mx_word.specs.Words.{tetra_from_bytes}
 use Rattle.mx_mem.specs.Memory.{byte_in}
-use Rattle.mx_mmo.specs.Image.{Image as ObjectImage}
-use Rattle.mx_mmo.specs.Meaning.{Loading, Meaningless, nothing, joined, joined_on, join, is_below, with_page, paged, after_load, take_item, take_items}
+use Rattle.mx_mmo.specs.Meaning.{Loading, joined, is_below, with_page, take_item, take_items}
 use Rattle.mx_mmo.specs.Reading.{words_of}
-use Rattle.mx_mmo.specs.declared.items.Item.{Item}
-use Rattle.mx_mmo.specs.declared.items.Item.TheVariants.{Load, Loc}
-use Rattle.mx_top.specs.Image.{pages_of, pages_below, pages_in}
+use Rattle.mx_mmo.specs.declared.items.Item.TheVariants.{Load}
+use Rattle.mx_top.specs.Image.{pages_of, pages_below}
 use Rattle.mx_top.specs.Memory.{placed, from_place}
-use Rattle.mx_top.specs.Whole.{lowered, zeros_after, covering, located, placing}
 use Rattle.mx_top.proofs.Placed.{placed-append}
-use Rattle.mx_top.proofs.Tetras.{joined-placed, four, below-none, above-none}
-use Rattle.mx_top.proofs.PageCounts.{IsLow, page-low, paged-is, pages-run}
+use Rattle.mx_top.proofs.Tetras.{joined-placed, four}
+use Rattle.mx_top.proofs.PageCounts.{IsLow, page-low, paged-is}
 
 -- what stands once tetras were loaded: the octas and the pages, counted below a number, and lambda
 abbrev pub standing : ℕ → (ℕ → ℕ) → (ℕ → Bool) → ℕ → Loading
@@ -29,7 +24,8 @@ standing n octas pages lambda = record {
   named = λ k. false;
 }
 
--- one tetra, with the place as a number, once its page is counted
+-- ---- one tetra
+
 below-stack : (a : ℕ) → a < 134217728 → is_below a ≡ true
 below-stack a l = let low : nat_le 0x6000_0000_0000_0000 a ≡ false = grind (arith, nat_tests) in rw low refl
 
@@ -42,6 +38,8 @@ load-is n octas pages a t big m l low =
     let s = standing n octas pages a in
     let paging = paged-is n s.image (a / 4096) (omega arith) big low refl in
     rw (below-stack a l, paging, next-lambda a m l) refl
+
+-- ---- tetras one after another
 
 -- the octas and the pages once tetras were loaded from a place on
 abbrev pub octas_with : (ℕ → ℕ) → ℕ → List ℕ → ℕ → ℕ
@@ -125,5 +123,3 @@ words-length (b ∷ []) l = absurd (omega arith)
 words-length (b ∷ c ∷ []) l = absurd (omega arith)
 words-length (b ∷ c ∷ d ∷ []) l = absurd (omega arith)
 words-length (b ∷ c ∷ d ∷ e ∷ more) l = omega (arith, words-length more (omega arith))
-
-pub ruleset loads = (loads-are, bytes-with, pages-with, words-length)

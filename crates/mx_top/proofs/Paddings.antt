@@ -1,12 +1,11 @@
 -- Bytes from a place on, with the zeros that complete their tetras.
-use Rattle.std.proofs.Common.{◌≡◌, ℕ, zero, suc, ◌+◌, ◌-◌, ◌*◌, ◌/◌, ◌%◌, ◌^◌, ◌<◌, ◌≤◌, List, [], ◌∷◌, ◌++◌, length, map, Bool, true, false, cond, arith, refl, sym, ◌∙◌, ap, subst, bit_xor, Result, Ok, Err, replicate, length-append}
-use Rattle.std.specs.Prelude.{◌==◌, ◌||◌, ◌&&◌, nat_lt, nat_le}
-use Rattle.std.specs.Int.Bits.{xor_assoc, xor_zero_r, xor_zero_l}
+use Rattle.std.proofs.Common.{◌≡◌, ℕ, zero, suc, ◌+◌, ◌-◌, ◌*◌, ◌/◌, ◌%◌, ◌<◌, ◌≤◌, List, [], ◌∷◌, ◌++◌, length, map, Bool, true, false, cond, arith, refl, sym, ◌∙◌, ap, bit_xor, Result, Ok, Err, replicate, length-append}
+use Rattle.std.specs.Prelude.{◌==◌, ◌||◌, ◌&&◌, nat_le}
+use Rattle.std.specs.Int.Bits.{xor_zero_r, xor_zero_l}
 use Rattle.std.proofs.lemmas.List.{length-replicate}
 use Rattle.mx_mem.specs.Memory.{byte_in}
 use Rattle.std.proofs.lemmas.Bool.{eqb-true}
 use Rattle.mx_mmo.specs.Meaning.{Loading, Meaningless, take_item, take_items}
-use Rattle.mx_mmo.specs.Reading.{words_of}
 use Rattle.mx_mmo.specs.declared.items.Item.{Item}
 use Rattle.mx_mmo.specs.declared.items.Item.TheVariants.{Load, Loc}
 use Rattle.mx_top.specs.Image.{pages_of}
@@ -151,5 +150,3 @@ placing-is n octas pages lambda start bytes big m l some low =
     ∙ loads-are n (covering start bytes) octas pages (lowered start) big (omega arith) (omega (arith, end)) low
     ∙ ap (λ (f : ℕ → Bool). Ok (standing n (octas_then octas start bytes) f (lowered start + 4 * length (covering start bytes)))) (same_pages _ _ (λ p. pages-then pages start bytes p some))
     ∙ ap (λ k. Ok (standing n (octas_then octas start bytes) (λ p. pages p || pages_of (from_place start bytes) p) k)) end
-
-pub ruleset placements = (take-append, placing-bytes, placing-is)

@@ -1,13 +1,11 @@
 -- How many pages there are, and one page more.
-use Rattle.std.proofs.Common.{◌≡◌, ℕ, zero, suc, ◌+◌, ◌/◌, ◌%◌, ◌^◌, ◌<◌, ◌≤◌, List, [], ◌∷◌, ◌++◌, length, Bool, true, false, cond, arith, refl, sym, ◌∙◌, ap, ⊎_elim, inl, inr, subst, add-zero, Result, Ok, Err}
-use Rattle.std.specs.Prelude.{◌==◌, ◌||◌, ◌&&◌, nat_lt, nat_le}
+use Rattle.std.proofs.Common.{◌≡◌, ℕ, zero, suc, ◌+◌, ◌/◌, ◌<◌, ◌≤◌, List, [], ◌∷◌, length, Bool, true, false, cond, arith, refl, sym, ◌∙◌, ap, ⊎_elim, subst, add-zero, Ok}
+use Rattle.std.specs.Prelude.{◌==◌, ◌||◌, ◌&&◌, nat_le}
 use Rattle.std.proofs.lemmas.Bool.Decides.{nat_tests}
 use Rattle.std.proofs.lemmas.Bool.{cases_eq, cases_lt}
-use Rattle.std.proofs.lemmas.Grind.{common_steps}
-use Rattle.mx_mmo.specs.Meaning.{with_page, paged, Meaningless, joined, joined_on, join, is_below}
-use Rattle.mx_mmo.specs.Meaning.Meaningless.{PagesFull, BadPlace}
+use Rattle.mx_mmo.specs.Meaning.{with_page, paged}
 use Rattle.mx_mmo.specs.Image.{Image as ObjectImage}
-use Rattle.mx_top.specs.Image.{pages_of, pages_below, pages_in}
+use Rattle.mx_top.specs.Image.{pages_of, pages_below}
 use Rattle.mx_top.specs.Memory.{from_place}
 
 -- no page from a number on
@@ -109,5 +107,3 @@ pages-run a x (y ∷ ys) p =
     let e : (a + 1) + length ys ≡ a + length (y ∷ ys) = omega arith in
     ap (λ t. a / 4096 == p || t) (pages-run (a + 1) y ys p ∙ ap (λ n. nat_le ((a + 1) / 4096) p && nat_le p (n / 4096)) e)
     ∙ next-page (a / 4096) ((a + 1) / 4096) ((a + length (y ∷ ys)) / 4096) p (omega arith) (omega arith) (omega arith)
-
-pub ruleset pages = (paged-is, pages-run)

@@ -1,21 +1,19 @@
 -- The numbers of plain statements are small: addresses, registers, and the bytes that are placed.
-use Rattle.std.proofs.Common.{◌≡◌, ℕ, zero, suc, ◌+◌, ◌-◌, ◌*◌, ◌/◌, ◌%◌, ◌^◌, ◌<◌, ◌≤◌, List, [], ◌∷◌, ◌++◌, length, take, drop, Bool, true, false, cond, arith, refl, sym, ◌∙◌, ap, subst, lit≤, lit<, Option, Some, None, length-append}
-use Rattle.std.specs.Prelude.{◌==◌, ◌||◌, ◌&&◌, nat_lt, nat_le, fold, unwrap_or, slice_range, codes}
+use Rattle.std.proofs.Common.{◌≡◌, ℕ, zero, suc, ◌+◌, ◌*◌, ◌^◌, ◌<◌, ◌≤◌, List, [], ◌∷◌, length, take, drop, Bool, true, false, cond, arith, refl, ◌∙◌, ap, subst, lit≤, lit<, Option, Some, None}
+use Rattle.std.specs.Prelude.{◌==◌, ◌&&◌, nat_lt, nat_le, fold, codes}
 use Rattle.std.specs.Str.{bytes_eq}
 use Rattle.std.specs.List.{All, list_all}
 use Rattle.std.proofs.lemmas.Bool.Decides.{nat_tests}
 use Rattle.std.proofs.lemmas.Grind.{common_steps, pow_more}
-use Rattle.std.proofs.lemmas.List.{length-take}
 use Rattle.std.proofs.lemmas.List.Elements.{All-tail}
 use Rattle.std.proofs.Math.Nat.{pow-le-pow_right, mul_assoc}
-use Rattle.mx_line.specs.Bytes.{is_digit}
 use Rattle.mx_line.specs.Pieces.{split, two_of, three_of}
-use Rattle.mx_line.specs.Numbers.{number_of, numbers_of, is_number, are_numbers, address_of, is_address, is_hexadecimal, register_of, is_label, digit_value, value_of}
-use Rattle.mx_line.specs.Plain.{plain_of, part, label_of, loc_with, loc_of, byte_of, geta_with, geta_of, trap_with, trap_of, named, labelled, fields_plain}
+use Rattle.mx_line.specs.Numbers.{number_of, numbers_of, is_number, are_numbers, is_address, is_hexadecimal, register_of, is_label, digit_value, value_of}
+use Rattle.mx_line.specs.Plain.{plain_of, part, label_of, loc_with, loc_of, geta_with, geta_of, trap_with, trap_of, named, labelled, fields_plain}
 use Rattle.mx_line.specs.declared.spans.Span.{Span}
 use Rattle.mx_line.specs.declared.plain_lines.Plain.{Plain}
 use Rattle.mx_line.specs.declared.plain_lines.Plain.TheVariants.{Empty, Loc, Byte, Geta, Trap}
-use Rattle.mx_line.proofs.NumberLaws.{numbers-some, numbers-few, numbers-small}
+use Rattle.mx_line.proofs.NumberLaws.{numbers-few, numbers-small}
 use Rattle.mx_top.proofs.Loads.{AreBytes}
 
 -- what the numbers of a statement are
@@ -64,7 +62,9 @@ and-second false t h = absurd (cc)
 
 address-small : (digits : List ℕ) → is_address digits ≡ true → value_of 16 digits < 16777216
 address-small digits h =
-    let short : length digits ≤ 6 = few (length digits) (and-second _ _ (and-first _ _ h)) in
+    let tested : nat_le (length digits) 6 ≡ true =
+    and-second (nat_lt 0 (length digits)) (nat_le (length digits) 6) (and-first (nat_lt 0 (length digits) && nat_le (length digits) 6) (list_all is_hexadecimal digits) h) in
+    let short : length digits ≤ 6 = few (length digits) tested in
     let most : 16 ^ length digits ≤ 16 ^ 6 = pow-le-pow_right (lit< tt) short in
     let bound : 16 ^ 6 ≤ 16777216 = lit≤ tt in
     let one : 0 < 1 = omega arith in
@@ -172,5 +172,3 @@ all-bytes (x ∷ xs) h = (h 0 0 (omega arith), all-bytes xs (All-tail (λ n. n <
 
 pub numbers-bytes : (field : List ℕ) → AreBytes (numbers_of field)
 numbers-bytes field = all-bytes (numbers_of field) (numbers-small field)
-
-pub ruleset bounds = (plain-small, numbers-short, numbers-bytes)

@@ -1,12 +1,12 @@
 -- A tetra that is joined to memory, as four bytes that are placed.
-use Rattle.std.proofs.Common.{◌≡◌, ℕ, zero, suc, ◌+◌, ◌-◌, ◌*◌, ◌/◌, ◌%◌, ◌^◌, ◌<◌, ◌≤◌, List, [], ◌∷◌, ◌++◌, length, Bool, true, false, cond, arith, refl, sym, ◌∙◌, ap, bit_xor, ⊎_elim, ◌⊎◌, inl, inr}
-use Rattle.std.specs.Prelude.{◌==◌, nat_lt}
+use Rattle.std.proofs.Common.{◌≡◌, ℕ, zero, suc, ◌+◌, ◌-◌, ◌*◌, ◌/◌, ◌%◌, ◌^◌, ◌<◌, ◌≤◌, List, [], ◌∷◌, length, Bool, true, false, cond, arith, refl, sym, ◌∙◌, ap, bit_xor, ⊎_elim, ◌⊎◌, inl, inr}
+use Rattle.std.specs.Prelude.{◌==◌}
 use Rattle.std.specs.Int.Bits.{xor_zero_r}
 use Rattle.std.proofs.lemmas.Grind.{common_steps}
 use Rattle.std.proofs.lemmas.Bool.Decides.{nat_tests}
 use Rattle.std.proofs.lemmas.Bool.{cases_eq, cases_lt}
 use Rattle.mx_word.specs.Words.{tetra_from_bytes}
-use Rattle.mx_mem.specs.Memory.{byte_in, tetra_byte, joined as octas_joined, in_half, joined_bytes}
+use Rattle.mx_mem.specs.Memory.{byte_in, tetra_byte, joined as octas_joined, in_half}
 use Rattle.mx_mem.proofs.Joins.{byte_in-joined}
 use Rattle.mx_mmo.specs.Meaning.{joined, in_octa}
 use Rattle.mx_top.specs.Memory.{placed, from_place}
@@ -49,7 +49,7 @@ tetra-inside a b c d x q la lb lc ld e =
 tetra-outside : (x t q : ℕ) → (q / 4 ≡ x / 4 → ⊥) → tetra_byte x t q ≡ 0
 tetra-outside x t q ne = grind (arith, common_steps)
 
--- four tests of an address in a row
+-- a test of an address
 first-test : (t : Bool) (x r : ℕ) → t ≡ false → cond t (bit_xor x r) r ≡ r
 first-test t x r e = rw e refl
 
@@ -64,9 +64,6 @@ no-test q x ne = grind (arith, nat_tests)
 
 yes-test : (q x : ℕ) → q ≡ x → (q == x) ≡ true
 yes-test q x e = grind (arith, nat_tests)
-
-one-outside : (x y q : ℕ) → (q ≡ x → ⊥) → placed ((x, y) ∷ []) q ≡ 0
-one-outside x y q ne = first-test (q == x) y 0 (no-test q x ne)
 
 -- at an address outside, placements one after another
 next-placed : (x y q : ℕ) (ps : List (ℕ × ℕ)) → (q ≡ x → ⊥) → placed ((x, y) ∷ ps) q ≡ placed ps q
@@ -123,5 +120,3 @@ joined-placed f x a b c d q m la lb lc ld =
     ap (λ (g : ℕ → ℕ). byte_in g q) (joined-is f x t)
     ∙ ap (λ (g : ℕ → ℕ). g q) (byte_in-joined f x t (tetra-small a b c d la lb lc ld))
     ∙ ap (bit_xor (byte_in f q)) (tetra-placed x a b c d q m la lb lc ld)
-
-pub ruleset tetras = (joined-placed)
