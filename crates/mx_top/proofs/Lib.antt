@@ -5,7 +5,12 @@ pub mod Gather
 pub mod Lines
 pub mod Loading
 pub mod LongSources
+pub mod Loads
+pub mod GoodLines
+pub mod LoadedLines
 pub mod Locals
+pub mod PageCounts
+pub mod Paddings
 pub mod Passes
 pub mod Placed
 pub mod PutPieces
@@ -13,5 +18,7 @@ pub mod ReadPieces
 pub mod ReadText
 pub mod SourceImages
 pub mod Sources
+pub mod StatementBounds
+pub mod Tetras
 pub mod Turns
 pub mod Writes

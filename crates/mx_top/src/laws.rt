@@ -1,8 +1,12 @@
 //! Laws of the definitions that the top call rests on.
 
-ghost use Rattle.std.specs.Prelude.{◌≡◌, ◌<◌, ◌+◌, ◌^◌, ◌++◌, List, ℕ, length};
+ghost use Rattle.std.specs.Prelude.{◌≡◌, ◌<◌, ◌+◌, ◌^◌, ◌++◌, List, ℕ, length, None, Ok};
+ghost use Rattle.mx_word.specs.Results.{map_ok};
 ghost use Rattle.mx_line.specs.Lines.{lines_of};
-ghost use Rattle.mx_top.specs.TwoPass.{refusal};
+ghost use Rattle.mx_mmo.specs.Meaning.{meaning};
+ghost use Rattle.mx_top.specs.Image.{of_object};
+ghost use Rattle.mx_top.specs.TwoPass.{refusal, image};
+ghost use Rattle.mx_top.specs.Whole.{whole};
 
 /// A source of more than 2^22 + 1 bytes is refused as its front is, whatever follows. So a source
 /// that is too long need not be read whole to name its first faulty line.
@@ -10,4 +14,10 @@ ghost use Rattle.mx_top.specs.TwoPass.{refusal};
 pub fn front_decides()
     ensures { (front rest : List ℕ) → 2 ^ 22 + 1 < length front →
         refusal (lines_of (front ++ rest)) ≡ refusal (lines_of front) }
+{}
+
+/// The items of a source that is accepted set up its image: memory, pages and registers.
+#[tactic(auto, using(crate::proofs::LoadedLines::meanings))]
+pub fn items_mean_the_image()
+    ensures { (lines : List (List ℕ)) → refusal lines ≡ None → map_ok of_object (meaning (whole lines)) ≡ Ok (image lines) }
 {}
