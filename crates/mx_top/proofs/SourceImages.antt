@@ -10,10 +10,7 @@ use Rattle.mx_word.specs.Results.{map_ok}
 use Rattle.mx_top.specs.Image.{Image, of_object}
 use Rattle.mx_top.specs.TwoPass.{Line, refusal, image, meaning_of, meaning_with}
 use Rattle.mx_top.specs.Whole.{whole, assembled, assembled_with}
-
--- the law of items: those of a source without a refusal mean its image
-abbrev pub Law : Type 0
-Law = (lines : List Line) → refusal lines ≡ None → map_ok of_object (meaning (whole lines)) ≡ Ok (image lines)
+use Rattle.mx_top.proofs.LoadedLines.{items-mean}
 
 -- the refusal of a source is that of its items
 refused-by : (lines : List Line) (r : Option (ℕ × ℕ)) (fault : ℕ × ℕ) → Err fault ≡ assembled_with r lines → Err fault ≡ meaning_with r lines
@@ -28,14 +25,14 @@ told-image : (k : ObjectImage) (r : Result ObjectImage Meaningless) → Ok k ≡
 told-image k (Ok m) h = let same : k ≡ m = cc in ap (λ (n : ObjectImage). Ok (of_object n)) (sym same)
 told-image k (Err e) h = absurd (cc)
 
-accepted-by : Law → (lines : List Line) (r : Option (ℕ × ℕ)) (items : List Item) (k : ObjectImage) → refusal lines ≡ r → Ok items ≡ assembled_with r lines →
+accepted-by : (lines : List Line) (r : Option (ℕ × ℕ)) (items : List Item) (k : ObjectImage) → refusal lines ≡ r → Ok items ≡ assembled_with r lines →
     Ok k ≡ told (meaning items) → Ok (of_object k) ≡ meaning_with r lines
-accepted-by law lines (Some f) items k e h g = absurd (cc)
-accepted-by law lines None items k e h g =
+accepted-by lines (Some f) items k e h g = absurd (cc)
+accepted-by lines None items k e h g =
     let same : items ≡ whole lines = cc in
-    let both : ◌≡◌ {A = Result Image Meaningless} (Ok (of_object k)) (Ok (image lines)) = sym (told-image k (meaning items) g) ∙ ap (λ is. map_ok of_object (meaning is)) same ∙ law lines e in
+    let both : ◌≡◌ {A = Result Image Meaningless} (Ok (of_object k)) (Ok (image lines)) = sym (told-image k (meaning items) g) ∙ ap (λ is. map_ok of_object (meaning is)) same ∙ items-mean lines e in
     let one : of_object k ≡ image lines = cc in
     ap Ok one
 
-pub source-accepted : Law → (lines : List Line) (items : List Item) (k : Kept) → Ok items ≡ assembled lines → Ok (image_of k) ≡ told (meaning items) → Ok (of_object (image_of k)) ≡ meaning_of lines
-source-accepted law lines items k h g = accepted-by law lines (refusal lines) items (image_of k) refl h g
+pub source-accepted : (lines : List Line) (items : List Item) (k : Kept) → Ok items ≡ assembled lines → Ok (image_of k) ≡ told (meaning items) → Ok (of_object (image_of k)) ≡ meaning_of lines
+source-accepted lines items k h g = accepted-by lines (refusal lines) items (image_of k) refl h g

@@ -1,5 +1,6 @@
 pub use Rattle.mx_word.specs.Results
 pub mod Answers
+pub mod Detour
 pub mod FileTraps
 pub mod Held
 pub mod Image
