@@ -213,6 +213,16 @@ impl Assembler {
         }
     }
 
+    /// Counts a line.
+    fn count_line(&mut self, line: &[u8])
+        requires { self.old.size + length line.now ≤ 2 ^ 22 }
+        ensures known { self.new ≡ spec.counted self.old line.now }
+        ensures room { self.new.at + 8192 ≤ 2 ^ 32 + 8192 * self.new.count }
+    {
+        self.size += line.len() + 1;
+        self.count += 1;
+    }
+
     /// Takes the next line.
     pub fn take_line(&mut self, line: &[u8]) -> Result<(), Refusal>
         ensures known { result ≢ Err Refusal.OutOfMemory → known_after result self.new ≡ spec.line_taken self.old line.now }
@@ -226,8 +236,7 @@ impl Assembler {
         let Some(plain) = plain_statement(line) else {
             return Err(Refusal::Fault(130));
         };
-        self.size += line.len() + 1;
-        self.count += 1;
+        self.count_line(line);
         self.take_statement(line, plain)
     }
 }
