@@ -1,5 +1,5 @@
 -- Items that fit.
-use Rattle.std.proofs.Common.{◌≡◌, ℕ, List, [], ◌∷◌, ◌++◌}
+use Rattle.std.proofs.Common.{List, [], ◌∷◌, ◌++◌}
 use Rattle.std.specs.List.{AllByRecursion}
 use Rattle.mx_mmo.specs.Valid.{Fits}
 use Rattle.mx_mmo.specs.declared.items.Item.{Item}

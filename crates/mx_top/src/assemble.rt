@@ -1,10 +1,10 @@
 //! The assembly of a plain source, line by line.
 
-ghost use Rattle.std.specs.Prelude.{◌≡◌, ◌≢◌, ◌≤◌, Ok, Err, IfOk};
+ghost use Rattle.std.specs.Prelude.{◌≡◌, ◌≢◌, Ok, Err, IfOk};
 ghost use Rattle.std.specs.List.{AllByRecursion};
 ghost use Rattle.mx_line.specs.Lines.{lines_of};
 ghost use Rattle.mx_mmo.specs.Valid.{Fits};
-ghost use Rattle.mx_top.specs.OnePass.{items_in, one_pass, finished, lines_taken};
+ghost use Rattle.mx_top.specs.OnePass.{items_in, one_pass};
 ghost use Rattle.mx_top.specs.OnePass as spec;
 ghost use Rattle.mx_top.specs.Whole.{assembled};
 

@@ -1,11 +1,11 @@
 //! The assembler of plain sources, which takes one line after another.
 
-ghost use Rattle.std.specs.Prelude.{◌≡◌, ◌≢◌, ◌≤◌, ◌<◌, ◌+◌, ◌*◌, ◌^◌, ◌++◌, ◌∷◌, [], Ok, Err, IfOk, IfSome, Some, true, length};
+ghost use Rattle.std.specs.Prelude.{◌≡◌, ◌≢◌, ◌≤◌, ◌<◌, ◌+◌, ◌*◌, ◌^◌, ◌++◌, Ok, Err, IfOk, true, length};
 ghost use Rattle.mx_line.specs.Numbers.{numbers_of};
-ghost use Rattle.mx_line.specs.Plain.{plain_of, part as bytes_at, AllStand, LabelStands};
+ghost use Rattle.mx_line.specs.Plain.{AllStand, LabelStands};
 ghost use Rattle.std.specs.List.{AllByRecursion};
 ghost use Rattle.mx_mmo.specs.Valid.{Fits};
-ghost use Rattle.mx_top.specs.OnePass.{Known, known_after};
+ghost use Rattle.mx_top.specs.OnePass.{known_after};
 ghost use Rattle.mx_top.specs.OnePass as spec;
 ghost use Rattle.mx_top.specs.TwoPass as meaning;
 ghost use Rattle.mx_top.specs.Whole.{closing};
