@@ -1,5 +1,6 @@
 pub mod Counting
 pub mod Digits
+pub mod Fitting
 pub mod Fronts
 pub mod Gather
 pub mod Lines

@@ -4,7 +4,7 @@ use Rattle.std.specs.Prelude.{Result}
 use Rattle.mx_line.specs.Lines.{lines_of}
 use Rattle.mx_line.specs.Pieces.{split}
 use Rattle.mx_top.specs.TwoPass.{Line}
-use Rattle.mx_top.specs.OnePass.{Known, known_after, image_of, finished, refused_at, line_taken, lines_taken}
+use Rattle.mx_top.specs.OnePass.{Known, known_after, items_in, finished, refused_at, line_taken, lines_taken}
 use Rattle.mx_top.specs.declared.labels.Refusal.{Refusal}
 use Rattle.mx_top.specs.declared.labels.Refusal.TheVariants.{Fault, OutOfMemory as NoRoom}
 use Rattle.mx_top.specs.declared.assembly.AssemblyFault.{AssemblyFault}
@@ -13,7 +13,7 @@ use Rattle.mx_top.specs.declared.assembly.AssemblyFault.TheVariants.{OutOfMemory
 -- what the code answers of a faulty line
 pub taken-refused : (k n : Known) (line : Line) (lines : List Line) (number : ℕ) (r : Refusal) (f : AssemblyFault) → number ≡ k.count + 1 → f ≡ refused_at number r → f ≢ OutOfMemory →
     (◌≢◌ {A = Result (Unit {0}) Refusal} (Err r) (Err NoRoom) → known_after (Err r) n ≡ line_taken k line) →
-    image_of (Err f) ≡ finished (lines_taken (line ∷ lines) k)
+    items_in (Err f) ≡ finished (lines_taken (line ∷ lines) k)
 unfolding lines_taken
 taken-refused k n line lines number (Fault fault) f e d ne h = rw (d, e, ← (h (λ x. cc))) refl
 taken-refused k n line lines number NoRoom f e d ne h = absurd (ne d)

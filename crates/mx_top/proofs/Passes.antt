@@ -1,7 +1,6 @@
 -- One pass comes to what two passes come to.
-use Rattle.std.proofs.Common.{◌≡◌, ℕ, ◌+◌, ◌-◌, ◌^◌, List, [], ◌∷◌, ◌++◌, length, take, Bool, true, false, cond, nat_lt, nat_le, refl, sym, ◌∙◌, ap, arith, append_assoc, append-nil, Some, None, Ok, Err, bit_xor, unwrap_or, length-append}
-use Rattle.std.specs.Int.Bits.{xor_zero_r}
-use Rattle.std.specs.Prelude.{Option, Result, find, sum_by, not, ◌&&◌, ◌||◌, is_some}
+use Rattle.std.proofs.Common.{◌≡◌, ℕ, ◌+◌, ◌-◌, ◌^◌, List, [], ◌∷◌, ◌++◌, length, take, Bool, true, false, cond, nat_lt, nat_le, refl, sym, ◌∙◌, ap, arith, append_assoc, append-nil, Some, None, Ok, Err, unwrap_or, length-append}
+use Rattle.std.specs.Prelude.{Option, Result, find, fold, sum_by, not, ◌&&◌, ◌||◌, is_some}
 use Rattle.std.proofs.lemmas.List.Folds.{find-append}
 use Rattle.std.specs.Option.{option_or}
 use Rattle.std.specs.Option.{option_map}
@@ -14,21 +13,18 @@ use Rattle.mx_line.specs.Plain.{plain_of, part}
 use Rattle.mx_line.specs.declared.spans.Span.{Span}
 use Rattle.mx_line.specs.declared.plain_lines.Plain.{Plain}
 use Rattle.mx_line.specs.declared.plain_lines.Plain.TheVariants.{Empty, Loc, Byte, Geta, Trap}
-use Rattle.mx_top.specs.Memory.{placed, from_place}
-use Rattle.mx_top.specs.TwoPass.{Line, gather, raised, start_of, end_of, place_after, place_of_line, label_span, name_of, labelled, labels_of, is_defined, value_in, is_near, geta_bytes, geta_to, bytes_of, placements_of_line, placements, image, main_name, is_new, reaches, has_target, stays_plain, faults_of_line, faults, last_line, refusal_among, main_undefined, source_too_long, not_built, Image, meaning_with, meaning_of}
+use Rattle.mx_mmo.specs.declared.items.Item.{Item}
+use Rattle.mx_top.specs.TwoPass.{Line, gather, raised, start_of, end_of, place_after, place_of_line, label_span, name_of, labelled, labels_of, is_defined, value_in, is_near, geta_bytes, geta_to, bytes_of, main_name, is_new, reaches, has_target, stays_plain, faults_of_line, faults, last_line, refusal_among, main_undefined, source_too_long, not_built}
+use Rattle.mx_top.specs.Whole.{placing, places, tetras_end, lambda_after, items_of_line, items_of_lines, opening, closing, assembled_with, assembled}
 use Rattle.mx_top.specs.OnePass.{Known, defined, joined, joined_after, reached, stated, counted, plain_taken, line_taken, taken_after, lines_taken, at_first, last_counted, started_at, finished, one_pass}
 use Rattle.mx_top.specs.declared.labels.Label.{Label}
-use Rattle.mx_top.proofs.Placed.{placed-append}
 use Rattle.mx_top.proofs.Gather.{gather-append, gather-push}
-
-same_function : {A B : Type 0} (f g : A → B) → ((x : A) → f x ≡ g x) → f ≡ g
-same_function f g h = λ i x. h x i
 
 -- ---- what is known after some lines
 
--- the placements, each by the labels of the lines before
-abbrev early : List Line → List (ℕ × ℕ)
-early lines = gather (λ before line. placements_of_line (labels_of before) before line) [] lines
+-- the items, those of each line by the labels of the lines before
+abbrev early : List Line → List Item
+early lines = gather (λ before line. items_of_line (labels_of before) before line) [] lines
 
 abbrev pub size_of : List Line → ℕ
 size_of lines = sum_by length lines + length lines
@@ -37,7 +33,8 @@ abbrev known_at : List Line → Known
 known_at lines = record {
   at = place_after lines;
   labels = labels_of lines;
-  memory = placed (early lines);
+  items = opening ∷ early lines;
+  lambda = lambda_after lines;
   size = size_of lines;
   count = length lines;
 }
@@ -49,7 +46,8 @@ abbrev after_plain : Known → Line → Option Plain → Known
 after_plain k line plain = record k {
   at = end_of line plain k.at;
   labels = k.labels ++ labelled (option_map (part line) (label_span plain)) (start_of plain k.at);
-  memory = λ q. bit_xor (k.memory q) (placed (from_place (start_of plain k.at) (bytes_of k.labels line plain (start_of plain k.at))) q);
+  items = k.items ++ cond (places plain) (placing k.lambda (start_of plain k.at) (bytes_of k.labels line plain (start_of plain k.at))) [];
+  lambda = cond (places plain) (raised (end_of line plain k.at)) k.lambda;
 }
 
 abbrev is_good : Known → Line → Option Plain → Bool
@@ -80,12 +78,11 @@ with-true : (b : Bool) (k : Known) → when b k ≡ when (b && true) k
 with-true true k = refl
 with-true false k = refl
 
-xor-nothing : (k : Known) (at : ℕ) (labels : List Label) → record k { at = at; labels = labels } ≡ record k { at = at; labels = labels; memory = λ q. bit_xor (k.memory q) 0 }
-xor-nothing k at labels = ap (λ m. record k { at = at; labels = labels; memory = m }) (same_function _ _ (λ q. sym (xor_zero_r (k.memory q))))
-
 -- no bytes and no label
-unlabelled : (k : Known) (at : ℕ) → ◌≡◌ {A = Result Known ℕ} (Ok (record k { at = at })) (Ok (record k { at = at; labels = k.labels ++ []; memory = λ q. bit_xor (k.memory q) 0 }))
-unlabelled k at = ap Ok (ap (λ labels. record k { at = at; labels = labels }) (sym (append-nil k.labels)) ∙ xor-nothing k at (k.labels ++ []))
+unlabelled : (k : Known) (at : ℕ) → ◌≡◌ {A = Result Known ℕ} (Ok (record k { at = at })) (Ok (record k { at = at; labels = k.labels ++ []; items = k.items ++ [] }))
+unlabelled k at =
+    ap (λ labels. Ok (record k { at = at; labels = labels })) (sym (append-nil k.labels))
+    ∙ ap (λ items. Ok (record k { at = at; labels = k.labels ++ []; items = items })) (sym (append-nil k.items))
 
 geta-length : (from reg to : ℕ) → length (geta_bytes from reg to) ≡ 4
 geta-length from reg to = four (nat_le from to) _ _ refl refl
@@ -95,15 +92,16 @@ geta-length from reg to = four (nat_le from to) _ _ refl refl
     four false xs ys h g = g
 
 -- four bytes are joined
-four-joined : (k : Known) (a : ℕ) (bytes : List ℕ) → length bytes ≡ 4 → joined k a bytes ≡ record k { at = a + 4; memory = λ q. bit_xor (k.memory q) (placed (from_place a bytes) q) }
-four-joined k a bytes h = ap (λ n. record k { at = a + n; memory = λ q. bit_xor (k.memory q) (placed (from_place a bytes) q) }) h
+four-joined : (k : Known) (a : ℕ) (bytes : List ℕ) → length bytes ≡ 4 → joined k a bytes ≡ record k { at = a + 4; items = k.items ++ placing k.lambda a bytes; lambda = raised (a + 4) }
+four-joined k a bytes h = ap (λ n. record k { at = a + n; items = k.items ++ placing k.lambda a bytes; lambda = raised (a + n) }) h
 
 reached-is : (k : Known) (line : Line) (label : Option Span) (reg : ℕ) (target : Option ℕ) →
     reached k line label reg target ≡ when (is_new k.labels (option_map (part line) label) && reaches (raised k.at) target)
     (record k {
       at = raised k.at + 4;
       labels = k.labels ++ labelled (option_map (part line) label) (raised k.at);
-      memory = λ q. bit_xor (k.memory q) (placed (from_place (raised k.at) (geta_to (raised k.at) reg target)) q);
+      items = k.items ++ placing k.lambda (raised k.at) (geta_to (raised k.at) reg target);
+      lambda = raised (raised k.at + 4);
     })
 reached-is k line label reg None = refused (is_new k.labels (option_map (part line) label)) _
   where
@@ -129,17 +127,27 @@ stated-is k line (Byte label numbers) = placed-by k line label k.at _ ∙ with-t
 stated-is k line (Geta label reg target) = reached-is k line label reg (value_in k.labels (part line target))
 stated-is k line (Trap label x y z) = placed-by k line label (raised k.at) (0 ∷ x ∷ y ∷ z ∷ []) ∙ with-true _ _
 
-same-known : (a b : Known) → a.at ≡ b.at → a.labels ≡ b.labels → a.memory ≡ b.memory → a.size ≡ b.size → a.count ≡ b.count → a ≡ b
-same-known a b at labels memory size count = λ i. record { at = at i; labels = labels i; memory = memory i; size = size i; count = count i }
+same-known : (a b : Known) → a.at ≡ b.at → a.labels ≡ b.labels → a.items ≡ b.items → a.lambda ≡ b.lambda → a.size ≡ b.size → a.count ≡ b.count → a ≡ b
+same-known a b at labels items lambda size count = λ i. record { at = at i; labels = labels i; items = items i; lambda = lambda i; size = size i; count = count i }
+
+-- lambda after one more line
+lambda-push : (before : List Line) (line : Line) → lambda_after (before ++ line ∷ []) ≡ cond (places (plain_of line)) (raised (end_of line (plain_of line) (place_after before))) (lambda_after before)
+lambda-push before line =
+    ap (fold (λ lambda end. end) 0) (gather-push tetras_end before line)
+    ∙ fold-append (λ lambda end. end) 0 (gather tetras_end [] before) (tetras_end before line)
+    ∙ last (places (plain_of line)) (lambda_after before) (raised (end_of line (plain_of line) (place_after before)))
+  where
+    last : (b : Bool) (lambda end : ℕ) → fold (λ lambda end. end) lambda (cond b (end ∷ []) []) ≡ cond b end lambda
+    last true lambda end = refl
+    last false lambda end = refl
 
 -- what is known after one more line
 known_at-push : (before : List Line) (line : Line) → known_at (before ++ line ∷ []) ≡ after_plain (counted (known_at before) line) line (plain_of line)
 known_at-push before line = same-known _ _
     (fold-append (λ a line. end_of line (plain_of line) a) 0 before (line ∷ []))
     (gather-push (λ before line. labelled (name_of line) (place_of_line before line)) before line)
-    (same_function _ _ (λ q.
-    ap (λ ps. placed ps q) (gather-push (λ before line. placements_of_line (labels_of before) before line) before line)
-    ∙ placed-append (early before) (placements_of_line (labels_of before) before line) q))
+    (ap (λ items. opening ∷ items) (gather-push (λ before line. items_of_line (labels_of before) before line) before line))
+    (lambda-push before line)
     (size-push before line)
     (length-append before (line ∷ []))
   where
@@ -241,7 +249,7 @@ last-true false b h = absurd (cc)
 
 -- the labels of the lines before serve as well as those of the whole source
 early-is : (lines before whole : List Line) → whole ≡ before ++ lines → gather faults_of_line before lines ≡ [] →
-    gather (placements_of_line (labels_of whole)) before lines ≡ gather (λ before line. placements_of_line (labels_of before) before line) before lines
+    gather (items_of_line (labels_of whole)) before lines ≡ gather (λ before line. items_of_line (labels_of before) before line) before lines
 unfolding gather
 early-is [] before whole e h = refl
 early-is (line ∷ lines) before whole e h =
@@ -251,8 +259,8 @@ early-is (line ∷ lines) before whole e h =
     ap labels_of e ∙ gather-append (λ before line. labelled (name_of line) (place_of_line before line)) [] before (line ∷ lines) in
     let bytes : bytes_of (labels_of whole) line (plain_of line) at ≡ bytes_of (labels_of before) line (plain_of line) at =
     ap (λ ls. bytes_of ls line (plain_of line) at) labels ∙ bytes-same (labels_of before) _ line (plain_of line) at (last-true _ _ none.0) in
-    ap (λ bs. from_place at bs ++ gather (placements_of_line (labels_of whole)) (before ++ line ∷ []) lines) bytes
-    ∙ ap (λ ps. placements_of_line (labels_of before) before line ++ ps) (early-is lines (before ++ line ∷ []) whole (e ∙ sym (append_assoc before (line ∷ []) lines)) none.1)
+    ap (λ bs. cond (places (plain_of line)) (placing (lambda_after before) at bs) [] ++ gather (items_of_line (labels_of whole)) (before ++ line ∷ []) lines) bytes
+    ∙ ap (λ items. items_of_line (labels_of before) before line ++ items) (early-is lines (before ++ line ∷ []) whole (e ∙ sym (append_assoc before (line ∷ []) lines)) none.1)
 
 -- ---- the law
 
@@ -261,16 +269,16 @@ last-is [] = refl
 last-is (line ∷ lines) = refl
 
 -- after the last line, by the value of Main
-without_fault : List Line → Option ℕ → Result Image (ℕ × ℕ)
+without_fault : List Line → Option ℕ → Result (List Item) (ℕ × ℕ)
 without_fault lines None = Err (last_line lines, main_undefined)
-without_fault lines (Some main) = Ok (record { memory = image lines; main = main })
+without_fault lines (Some main) = Ok (opening ∷ items_of_lines lines ++ closing main)
 
-ended-is : (lines : List Line) (main : Option ℕ) → early lines ≡ placements lines → started_at (known_at lines) main ≡ without_fault lines main
+ended-is : (lines : List Line) (main : Option ℕ) → early lines ≡ items_of_lines lines → started_at (known_at lines) main ≡ without_fault lines main
 unfolding without_fault
 ended-is lines None h = ap (λ n. Err (n, main_undefined)) (last-is lines)
-ended-is lines (Some main) h = ap (λ ps. Ok (record { memory = placed ps; main = main })) h
+ended-is lines (Some main) h = ap (λ items. Ok (opening ∷ items ++ closing main)) h
 
-refused-is : (lines : List Line) (main : Option ℕ) → value_in (labels_of lines) main_name ≡ main → without_fault lines main ≡ meaning_with (refusal_among [] lines) lines
+refused-is : (lines : List Line) (main : Option ℕ) → value_in (labels_of lines) main_name ≡ main → without_fault lines main ≡ assembled_with (refusal_among [] lines) lines
 unfolding without_fault
 refused-is lines None e =
     let undefined : is_defined (labels_of lines) main_name ≡ false = find-is_some (labels_of lines) main_name ∙ ap is_some e in
@@ -278,20 +286,20 @@ refused-is lines None e =
 refused-is lines (Some main) e =
     let defined : is_defined (labels_of lines) main_name ≡ true = find-is_some (labels_of lines) main_name ∙ ap is_some e in
     let value : unwrap_or (value_in (labels_of lines) main_name) 0 ≡ main = ap (λ o. unwrap_or o 0) e in
-    ap (λ n. Ok (record { memory = image lines; main = n })) (sym value) ∙ sym (ap (λ b. meaning_with (cond b None (Some (last_line lines, main_undefined))) lines) defined)
+    ap (λ n. Ok (opening ∷ items_of_lines lines ++ closing n)) (sym value) ∙ sym (ap (λ b. assembled_with (cond b None (Some (last_line lines, main_undefined))) lines) defined)
 
 -- one pass by the faults of all lines
-by-faults : (lines : List Line) (found : List (ℕ × ℕ)) → faults lines ≡ found → finished (first_or found (known_at lines)) ≡ meaning_with (refusal_among found lines) lines
+by-faults : (lines : List Line) (found : List (ℕ × ℕ)) → faults lines ≡ found → finished (first_or found (known_at lines)) ≡ assembled_with (refusal_among found lines) lines
 by-faults lines [] e =
     ended-is lines (value_in (labels_of lines) main_name) (sym (early-is lines [] lines refl e)) ∙ refused-is lines (value_in (labels_of lines) main_name) refl
 by-faults lines (fault ∷ later) e = refl
 
 first-known : at_first ≡ known_at []
 unfolding gather
-first-known = same-known _ _ refl refl (same_function _ _ (λ q. refl)) refl refl
+first-known = same-known _ _ refl refl refl refl refl refl
 
--- the lines taken one by one come to the two-pass meaning of all lines
-pub one-pass-is : (lines : List Line) → one_pass lines ≡ meaning_of lines
+-- the lines taken one by one come to what two passes come to
+pub one-pass-is : (lines : List Line) → one_pass lines ≡ assembled lines
 one-pass-is lines = ap (λ k. finished (lines_taken lines k)) first-known ∙ ap finished (lines-are lines []) ∙ by-faults lines (faults lines) refl
 
 pub ruleset passes = (one-pass-is)

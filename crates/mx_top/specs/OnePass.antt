@@ -1,16 +1,16 @@
 -- The same in one pass: each line by what is known when it comes.
-use Rattle.std.specs.Prelude.{ℕ, zero, suc, ◌+◌, List, [], ◌∷◌, ◌++◌, length, Option, None, Some, Result, Ok, Err, nat_lt, ◌^◌, if◌then◌else◌, bit_xor}
+use Rattle.std.specs.Prelude.{ℕ, zero, suc, ◌+◌, List, [], ◌∷◌, ◌++◌, length, Option, None, Some, Result, Ok, Err, nat_lt, ◌^◌, if◌then◌else◌}
 use Rattle.mx_line.specs.Plain.{plain_of, part}
 use Rattle.mx_line.specs.Numbers.{numbers_of}
 use Rattle.mx_line.specs.declared.spans.Span.{Span}
 use Rattle.mx_line.specs.declared.plain_lines.Plain.{Plain}
 use Rattle.mx_line.specs.declared.plain_lines.Plain.TheVariants.{Empty, Loc, Byte, Geta, Trap}
-use Rattle.mx_top.specs.Memory.{Stored, byte_at, placed, from_place}
-use Rattle.mx_top.specs.TwoPass.{Line, raised, is_defined, value_in, is_near, geta_bytes, not_built, source_too_long, main_undefined, main_name, Image}
+use Rattle.mx_mmo.specs.declared.items.Item.{Item}
+use Rattle.mx_top.specs.TwoPass.{Line, raised, is_defined, value_in, is_near, geta_bytes, not_built, source_too_long, main_undefined, main_name}
+use Rattle.mx_top.specs.Whole.{placing, opening, closing}
 use Rattle.mx_top.specs.declared.labels.Label.{Label}
 use Rattle.mx_top.specs.declared.labels.Refusal.{Refusal}
 use Rattle.mx_top.specs.declared.labels.Refusal.TheVariants.{Fault, OutOfMemory as NoRoom}
-use Rattle.mx_top.specs.declared.assembly.Program.{Program}
 use Rattle.mx_top.specs.declared.assembly.AssemblyFault.{AssemblyFault}
 use Rattle.mx_top.specs.declared.assembly.AssemblyFault.TheVariants.{Refused, OutOfMemory}
 
@@ -19,7 +19,9 @@ pub record Known : Type 0 where
   -- `@`
   pub at : ℕ
   pub labels : List Label
-  pub memory : ℕ → ℕ
+  -- the items of the object so far, and where the next tetra is loaded
+  pub items : List Item
+  pub lambda : ℕ
   -- the bytes of these lines, with a newline after each, and how many lines they are
   pub size : ℕ
   pub count : ℕ
@@ -31,9 +33,9 @@ defined k line (Some span) value =
     if is_defined k.labels (part line span) then Err not_built
     else Ok (record k { labels = k.labels ++ record { name = part line span; value = value } ∷ [] })
 
--- bytes are joined to memory from an address on, and `@` is the address after them
+-- bytes are placed from an address on, and `@` is the address after them
 abbrev pub joined : Known → ℕ → List ℕ → Known
-joined k a bytes = record k { at = a + length bytes; memory = λ q. bit_xor (k.memory q) (placed (from_place a bytes) q) }
+joined k a bytes = record k { at = a + length bytes; items = k.items ++ placing k.lambda a bytes; lambda = raised (a + length bytes) }
 
 abbrev pub joined_after : Result Known ℕ → ℕ → List ℕ → Result Known ℕ
 joined_after (Err fault) a bytes = Err fault
@@ -78,7 +80,7 @@ lines_taken (line ∷ lines) k = taken_after (k.count + 1) (lines_taken lines) (
 
 -- before the first line
 abbrev pub at_first : Known
-at_first = record { at = 0; labels = []; memory = λ q. 0; size = 0; count = 0 }
+at_first = record { at = 0; labels = []; items = opening ∷ []; lambda = 0; size = 0; count = 0 }
 
 -- the last line's number, and 1 where there was no line
 abbrev pub last_counted : ℕ → ℕ
@@ -86,27 +88,16 @@ last_counted zero = 1
 last_counted (suc n) = suc n
 
 -- what follows the last line: execution starts at Main
-abbrev pub started_at : Known → Option ℕ → Result Image (ℕ × ℕ)
+abbrev pub started_at : Known → Option ℕ → Result (List Item) (ℕ × ℕ)
 started_at k None = Err (last_counted k.count, main_undefined)
-started_at k (Some main) = Ok (record { memory = k.memory; main = main })
+started_at k (Some main) = Ok (k.items ++ closing main)
 
-abbrev pub finished : Result Known (ℕ × ℕ) → Result Image (ℕ × ℕ)
+abbrev pub finished : Result Known (ℕ × ℕ) → Result (List Item) (ℕ × ℕ)
 finished (Err fault) = Err fault
 finished (Ok k) = started_at k (value_in k.labels main_name)
 
-abbrev pub one_pass : List Line → Result Image (ℕ × ℕ)
+abbrev pub one_pass : List Line → Result (List Item) (ℕ × ℕ)
 one_pass lines = finished (lines_taken lines at_first)
-
--- what the parts of the code's assembler are seen as
-pub record HeldKnown : Type 0 where
-  pub stored : Stored
-  pub labels : List Label
-  pub at : ℕ
-  pub size : ℕ
-  pub count : ℕ
-
-abbrev pub known_of : HeldKnown → Known
-known_of h = record { at = h.at; labels = h.labels; memory = byte_at h.stored; size = h.size; count = h.count }
 
 -- what the code's assembler answers of a line, and what it then knows
 abbrev pub known_after : Result (Unit {0}) Refusal → Known → Result Known ℕ
@@ -115,10 +106,10 @@ known_after (Err (Fault number)) k = Err number
 known_after (Err NoRoom) k = Err 0
 
 -- what the code answers of a source
-abbrev pub image_of : Result Program AssemblyFault → Result Image (ℕ × ℕ)
-image_of (Ok program) = Ok (record { memory = byte_at program.memory; main = program.main })
-image_of (Err (Refused line fault)) = Err (line, fault)
-image_of (Err OutOfMemory) = Err (0, 0)
+abbrev pub items_in : Result (List Item) AssemblyFault → Result (List Item) (ℕ × ℕ)
+items_in (Ok items) = Ok items
+items_in (Err (Refused line fault)) = Err (line, fault)
+items_in (Err OutOfMemory) = Err (0, 0)
 
 abbrev pub refused_at : ℕ → Refusal → AssemblyFault
 refused_at line (Fault fault) = Refused line fault

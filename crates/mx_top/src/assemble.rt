@@ -1,30 +1,34 @@
 //! The assembly of a plain source, line by line.
 
-ghost use Rattle.std.specs.Prelude.{◌≡◌, ◌≢◌, ◌≤◌, Ok, Err};
+ghost use Rattle.std.specs.Prelude.{◌≡◌, ◌≢◌, Ok, Err, IfOk};
+ghost use Rattle.std.specs.List.{AllByRecursion};
 ghost use Rattle.mx_line.specs.Lines.{lines_of};
-ghost use Rattle.mx_top.specs.OnePass.{image_of, one_pass, finished, lines_taken, known_of};
+ghost use Rattle.mx_mmo.specs.Valid.{Fits};
+ghost use Rattle.mx_top.specs.OnePass.{items_in, one_pass};
 ghost use Rattle.mx_top.specs.OnePass as spec;
-ghost use Rattle.mx_top.specs.TwoPass.{meaning_of};
+ghost use Rattle.mx_top.specs.Whole.{assembled};
 
 use crate::assembler::Assembler;
-use crate::assembly::{AssemblyFault, Program};
+use crate::assembly::AssemblyFault;
 use crate::labels::Refusal;
 use mx_line::cut_line;
+use mx_mmo::Items;
 use std::alloc::Global;
 
 /// Ends the assembly after the last line.
-fn finish(assembler: Assembler) -> Result<Program, AssemblyFault>
-    ensures { image_of result ≡ spec.finished (Ok (known_of assembler)) }
+fn finish(assembler: Assembler) -> Result<Items, AssemblyFault>
+    ensures items { result ≢ Err AssemblyFault.OutOfMemory → items_in result ≡ spec.finished (Ok assembler) }
+    ensures fits { IfOk result (λ items. AllByRecursion Fits items) }
 {
-    match assembler.main() {
-        Some(main) => Ok(Program {
-            memory: assembler.into_memory(),
-            main,
-        }),
-        None => Err(AssemblyFault::Refused {
+    let Some(main) = assembler.main() else {
+        return Err(AssemblyFault::Refused {
             line: assembler.last_number(),
             fault: 82,
-        }),
+        });
+    };
+    match assembler.into_items(main) {
+        Ok(items) => Ok(items),
+        Err(_) => Err(AssemblyFault::OutOfMemory),
     }
 }
 
@@ -40,10 +44,13 @@ fn refused(line: u32, refusal: Refusal) -> AssemblyFault
 
 /// Takes the lines one after another.
 #[tactic(auto, using(crate::proofs::Lines::taking))]
-fn take_lines(alloc: Global, text: &[u8]) -> Result<Program, AssemblyFault>
-    ensures { result ≢ Err AssemblyFault.OutOfMemory → image_of result ≡ one_pass (lines_of text.now) }
+fn take_lines(alloc: Global, text: &[u8]) -> Result<Items, AssemblyFault>
+    ensures items { result ≢ Err AssemblyFault.OutOfMemory → items_in result ≡ one_pass (lines_of text.now) }
+    ensures fits { IfOk result (λ items. AllByRecursion Fits items) }
 {
-    let mut assembler = Assembler::new(alloc);
+    let Ok(mut assembler) = Assembler::new(alloc) else {
+        return Err(AssemblyFault::OutOfMemory);
+    };
     let mut rest = text;
     while !rest.is_empty() {
         let (line, others) = cut_line(rest);
@@ -57,10 +64,11 @@ fn take_lines(alloc: Global, text: &[u8]) -> Result<Program, AssemblyFault>
     finish(assembler)
 }
 
-/// Assembles a plain source: its memory and where it starts, or the first faulty line.
+/// Assembles a plain source: the items of its object, or the first faulty line.
 #[tactic(auto, using(crate::proofs::Passes::passes))]
-pub fn assemble(alloc: Global, text: &[u8]) -> Result<Program, AssemblyFault>
-    ensures { result ≢ Err AssemblyFault.OutOfMemory → image_of result ≡ meaning_of (lines_of text.now) }
+pub fn assemble(alloc: Global, text: &[u8]) -> Result<Items, AssemblyFault>
+    ensures items { result ≢ Err AssemblyFault.OutOfMemory → items_in result ≡ assembled (lines_of text.now) }
+    ensures fits { IfOk result (λ items. AllByRecursion Fits items) }
 {
     take_lines(alloc, text)
 }

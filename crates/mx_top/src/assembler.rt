@@ -1,16 +1,20 @@
 //! The assembler of plain sources, which takes one line after another.
 
-ghost use Rattle.std.specs.Prelude.{◌≡◌, ◌≢◌, ◌≤◌, ◌<◌, ◌+◌, ◌*◌, ◌^◌, ◌++◌, ◌∷◌, [], Ok, Err, IfOk, IfSome, Some, true, length};
+ghost use Rattle.std.specs.Prelude.{◌≡◌, ◌≢◌, ◌≤◌, ◌<◌, ◌+◌, ◌*◌, ◌^◌, ◌++◌, Ok, Err, IfOk, true, length};
 ghost use Rattle.mx_line.specs.Numbers.{numbers_of};
-ghost use Rattle.mx_line.specs.Plain.{plain_of, part as bytes_at, AllStand, LabelStands};
-ghost use Rattle.mx_top.specs.OnePass.{Known, known_of, known_after};
+ghost use Rattle.mx_line.specs.Plain.{AllStand, LabelStands};
+ghost use Rattle.std.specs.List.{AllByRecursion};
+ghost use Rattle.mx_mmo.specs.Valid.{Fits};
+ghost use Rattle.mx_top.specs.OnePass.{known_after};
 ghost use Rattle.mx_top.specs.OnePass as spec;
 ghost use Rattle.mx_top.specs.TwoPass as meaning;
+ghost use Rattle.mx_top.specs.Whole.{closing};
 
 use crate::labels::{Label, Refusal};
-use crate::memory::Memory;
 use crate::searches::{is_among, value};
+use crate::tetras::Tetras;
 use mx_line::{Plain, Span, next_number, part, plain_statement};
+use mx_mmo::Items;
 use mx_word::{Bytes, NoMemory};
 use std::alloc::Global;
 use std::marker::Model;
@@ -22,7 +26,8 @@ const SOURCE_LIMIT: usize = 4_194_304;
 #[derive(Drop)]
 pub struct Assembler {
     alloc: Global,
-    memory: Memory,
+    tetras: Tetras,
+    lambda: u64,
     labels: Vec<Label>,
     at: u64,
     size: usize,
@@ -31,14 +36,15 @@ pub struct Assembler {
 
 impl Model for Assembler {
     ghost use Rattle.std.specs.Prelude.{◌≤◌, ◌+◌, ◌*◌, ◌^◌};
-    ghost use Rattle.mx_top.specs.OnePass.{HeldKnown};
+    ghost use Rattle.mx_top.specs.OnePass.{Known};
 
-    ghost Value = { HeldKnown };
+    ghost Value = { Known };
 
     ghost view = { λ a. record {
-      stored = a.memory;
-      labels = a.labels.items;
       at = a.at;
+      labels = a.labels.items;
+      items = a.tetras;
+      lambda = a.lambda;
       size = a.size;
       count = a.count;
     } };
@@ -48,17 +54,19 @@ impl Model for Assembler {
 
 impl Assembler {
     /// Before the first line.
-    pub fn new(alloc: Global) -> Assembler
-        ensures { known_of result ≡ spec.at_first }
+    pub fn new(alloc: Global) -> Result<Assembler, NoMemory>
+        ensures { IfOk result (λ a. a ≡ spec.at_first) }
     {
-        Assembler {
+        let tetras = Tetras::new(alloc)?;
+        Ok(Assembler {
             alloc,
-            memory: Memory::new(alloc),
+            tetras,
+            lambda: 0,
             labels: Vec::new(alloc),
             at: 0,
             size: 0,
             count: 0,
-        }
+        })
     }
 
     /// The number of the next line.
@@ -82,17 +90,18 @@ impl Assembler {
         value(self.labels.as_slice(), b"Main")
     }
 
-    /// The memory with all bytes that were placed.
-    pub fn into_memory(self) -> Memory
-        ensures { result ≡ self.stored }
+    /// All items, where execution starts at an address.
+    pub fn into_items(self, main: u64) -> Result<Items, NoMemory>
+        ensures items { IfOk result (λ items. items ≡ self.items ++ closing main) }
+        ensures fits { IfOk result (λ items. AllByRecursion Fits items) }
     {
-        self.memory
+        self.tetras.close(self.alloc, main)
     }
 
     /// Defines a label, if the line has one.
     fn define(&mut self, line: &[u8], label: Option<Span>, value: u64) -> Result<(), Refusal>
         requires { LabelStands line.now label }
-        ensures known { result ≢ Err Refusal.OutOfMemory → known_after result (known_of self.new) ≡ spec.defined (known_of self.old) line.now label value }
+        ensures known { result ≢ Err Refusal.OutOfMemory → known_after result self.new ≡ spec.defined self.old line.now label value }
         ensures place { self.new.at ≡ self.old.at }
         ensures count { self.new.count ≡ self.old.count }
     {
@@ -112,14 +121,15 @@ impl Assembler {
         }
     }
 
-    /// Joins bytes to memory from an address on, and goes on after them.
+    /// Places bytes from an address on, and goes on after them.
     fn join(&mut self, a: u64, bytes: &[u8]) -> Result<(), Refusal>
         requires { a + length bytes.now ≤ 2 ^ 32 + 8192 * self.old.count }
-        ensures known { result ≢ Err Refusal.OutOfMemory → known_after result (known_of self.new) ≡ Ok (spec.joined (known_of self.old) a bytes.now) }
+        ensures known { result ≢ Err Refusal.OutOfMemory → known_after result self.new ≡ Ok (spec.joined self.old a bytes.now) }
     {
-        match self.memory.place(a, bytes) {
+        match self.tetras.place(self.alloc, self.lambda, a, bytes) {
             Ok(()) => {
                 self.at = a + bytes.len() as u64;
+                self.lambda = raised(self.at);
                 Ok(())
             }
             Err(_) => Err(Refusal::OutOfMemory),
@@ -131,7 +141,7 @@ impl Assembler {
         requires label { LabelStands line.now label }
         requires few { length field.now ≤ 4096 }
         requires room { self.old.at + 8192 ≤ 2 ^ 32 + 8192 * self.old.count }
-        ensures known { result ≢ Err Refusal.OutOfMemory → known_after result (known_of self.new) ≡ spec.joined_after (spec.defined (known_of self.old) line.now label self.old.at) self.old.at (numbers_of field.now) }
+        ensures known { result ≢ Err Refusal.OutOfMemory → known_after result self.new ≡ spec.joined_after (spec.defined self.old line.now label self.old.at) self.old.at (numbers_of field.now) }
     {
         let at = self.at;
         let Ok(bytes) = numbers(self.alloc, field) else {
@@ -150,7 +160,7 @@ impl Assembler {
     ) -> Result<(), Refusal>
         requires label { LabelStands line.now label }
         requires room { self.old.at + 8192 ≤ 2 ^ 32 + 8192 * self.old.count }
-        ensures known { result ≢ Err Refusal.OutOfMemory → known_after result (known_of self.new) ≡ spec.joined_after (spec.defined (known_of self.old) line.now label (meaning.raised self.old.at)) (meaning.raised self.old.at) tetra }
+        ensures known { result ≢ Err Refusal.OutOfMemory → known_after result self.new ≡ spec.joined_after (spec.defined self.old line.now label (meaning.raised self.old.at)) (meaning.raised self.old.at) tetra }
     {
         let at = raised(self.at);
         self.define(line, label, at)?;
@@ -167,7 +177,7 @@ impl Assembler {
     ) -> Result<(), Refusal>
         requires label { LabelStands line.now label }
         requires room { self.old.at + 8192 ≤ 2 ^ 32 + 8192 * self.old.count }
-        ensures known { result ≢ Err Refusal.OutOfMemory → known_after result (known_of self.new) ≡ spec.reached (known_of self.old) line.now label reg (meaning.value_in self.old.labels target.now) }
+        ensures known { result ≢ Err Refusal.OutOfMemory → known_after result self.new ≡ spec.reached self.old line.now label reg (meaning.value_in self.old.labels target.now) }
     {
         let Some(to) = value(self.labels.as_slice(), target) else {
             return Err(Refusal::Fault(130));
@@ -184,7 +194,7 @@ impl Assembler {
         requires stands { AllStand line.now plain }
         requires few { length line.now ≤ 4096 }
         requires room { self.old.at + 8192 ≤ 2 ^ 32 + 8192 * self.old.count }
-        ensures known { result ≢ Err Refusal.OutOfMemory → known_after result (known_of self.new) ≡ spec.stated (known_of self.old) line.now plain }
+        ensures known { result ≢ Err Refusal.OutOfMemory → known_after result self.new ≡ spec.stated self.old line.now plain }
     {
         match plain {
             Plain::Empty => Ok(()),
@@ -203,9 +213,19 @@ impl Assembler {
         }
     }
 
+    /// Counts a line.
+    fn count_line(&mut self, line: &[u8])
+        requires { self.old.size + length line.now ≤ 2 ^ 22 }
+        ensures known { self.new ≡ spec.counted self.old line.now }
+        ensures room { self.new.at + 8192 ≤ 2 ^ 32 + 8192 * self.new.count }
+    {
+        self.size += line.len() + 1;
+        self.count += 1;
+    }
+
     /// Takes the next line.
     pub fn take_line(&mut self, line: &[u8]) -> Result<(), Refusal>
-        ensures known { result ≢ Err Refusal.OutOfMemory → known_after result (known_of self.new) ≡ spec.line_taken (known_of self.old) line.now }
+        ensures known { result ≢ Err Refusal.OutOfMemory → known_after result self.new ≡ spec.line_taken self.old line.now }
     {
         if line.len() > SOURCE_LIMIT || self.size > SOURCE_LIMIT - line.len() {
             return Err(Refusal::Fault(88));
@@ -216,8 +236,7 @@ impl Assembler {
         let Some(plain) = plain_statement(line) else {
             return Err(Refusal::Fault(130));
         };
-        self.size += line.len() + 1;
-        self.count += 1;
+        self.count_line(line);
         self.take_statement(line, plain)
     }
 }

@@ -1,14 +1,5 @@
 //! What the assembly of a source comes to.
 
-use crate::memory::Memory;
-
-/// What a run starts from: memory, and the address of the first instruction.
-#[derive(Drop)]
-pub struct Program {
-    pub memory: Memory,
-    pub main: u64,
-}
-
 /// Why a source is not assembled.
 #[derive(Clone, Copy, Debug, PartialEq, Eq)]
 pub enum AssemblyFault {

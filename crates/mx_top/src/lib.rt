@@ -20,6 +20,7 @@ mod searches;
 mod source;
 #[cfg(test)]
 mod tests;
+mod tetras;
 mod texts;
 mod top;
 mod traps;

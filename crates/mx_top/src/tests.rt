@@ -3,6 +3,7 @@
 use crate::assemble::assemble;
 use crate::{Outcome, WordsFault, fault_name, front_decides, mmixware, usage_name};
 use mx_host::MemHost;
+use mx_mmo::Item;
 use std::alloc::Global;
 use std::test::Fail;
 
@@ -114,25 +115,27 @@ fn runs(rt: HostRuntime) -> Result<(), Fail> {
 }
 
 #[test]
-fn the_first_image(rt: HostRuntime) {
-    let Ok(program) = assemble(rt.alloc(), FIRST) else {
+fn the_first_items(rt: HostRuntime) {
+    let Ok(items) = assemble(rt.alloc(), FIRST) else {
         assert!(rt; false, "the first program is refused");
         return;
     };
-    assert_eq!(rt; program.main, 0x104);
-    // the text at #100, and GETA one tetra back at #104
-    for (address, byte) in [
-        (0x100, 104),
-        (0x102, 10),
-        (0x104, 0xf5),
-        (0x105, 0xff),
-        (0x106, 0xff),
-        (0x107, 0xff),
-        (0x108, 0),
-        (0x10a, 7),
-    ] {
-        assert_eq!(rt; program.memory.byte(address), byte, "at {address}");
-    }
+    let [
+        Item::Pre(time),
+        Item::Loc(0x100),
+        Item::Load(0x6869_0a00),
+        Item::Load(0xf5ff_ffff),
+        Item::Load(0x0000_0701),
+        Item::Load(0),
+        Item::Post { g: 255, values },
+        Item::Stab,
+    ] = items.as_slice()
+    else {
+        assert!(rt; false, "the first program has other items");
+        return;
+    };
+    assert!(rt; time.as_slice() == [0].as_slice());
+    assert!(rt; values.as_slice() == [0x104].as_slice());
 }
 
 #[test]
