@@ -12,6 +12,9 @@ mod memory;
 mod message;
 mod names;
 mod outcome;
+mod pool;
+#[cfg(test)]
+mod pool_tests;
 mod registers;
 mod run;
 mod searches;
