@@ -18,6 +18,7 @@ pub mod Runs
 pub mod Source
 pub mod Status
 pub mod Step
+pub mod Stores
 pub mod TwoPass
 pub mod Whole
 pub mod Words

@@ -1,20 +1,5 @@
--- Memory as a function of addresses, and what stands in it once bytes were placed.
-use Rattle.std.specs.Prelude.{ℕ, ◌+◌, List, [], ◌∷◌, ◌==◌, if◌then◌else◌, unwrap_or, bit_xor}
-use Rattle.std.specs.Ordering.{nat_cmp}
-use Rattle.std.specs.Map.{lookup}
-use Rattle.std.specs.BTreeMap.{is_at}
-
--- the entries of a map from addresses to bytes, in their order
-abbrev pub Stored : Type 0
-Stored = List (ℕ × ℕ)
-
--- the byte at an address: 0 where nothing was stored
-abbrev pub byte_at : Stored → ℕ → ℕ
-byte_at m a = unwrap_or (lookup (is_at (nat_cmp a)) m) 0
-
--- a function with another value at one place
-abbrev pub changed : (ℕ → ℕ) → ℕ → ℕ → ℕ → ℕ
-changed f a x q = if q == a then x else f q
+-- Bytes that are placed in memory, each at an address.
+use Rattle.std.specs.Prelude.{ℕ, ◌+◌, List, [], ◌∷◌, ◌==◌, if◌then◌else◌, bit_xor}
 
 -- the exclusive or of all bytes that a list of placements, each an address and a byte, has at an address
 abbrev pub placed : List (ℕ × ℕ) → ℕ → ℕ

@@ -14,7 +14,7 @@ use Rattle.mx_top.specs.ListMachine.{ListMachine, start, start_address}
 use Rattle.mx_top.specs.Messages.{message_of}
 use Rattle.mx_top.specs.Objects.{object_bytes, object_image}
 use Rattle.mx_top.specs.Pool.{argument_of}
-use Rattle.mx_top.specs.Runs.{Ran, run}
+use Rattle.mx_top.specs.Runs.{Ran, run, pages_full}
 use Rattle.mx_top.specs.Source.{file_bytes, source_pieces, object_pieces}
 use Rattle.mx_top.specs.TwoPass.{meaning_of}
 use Rattle.mx_top.specs.Whole.{assembled}
@@ -28,10 +28,6 @@ use Rattle.mx_top.specs.declared.outcome.Outcome.TheVariants.{Done, Usage, HostF
 -- a run makes at most so many steps
 abbrev pub step_bound : ℕ
 step_bound = 1000000000
-
--- the reason of a stop at the start of a run, where the pages are full
-abbrev pub pages_full : ℕ
-pages_full = 118
 
 -- the slot of the tool's object file
 abbrev pub object_slot : ℕ

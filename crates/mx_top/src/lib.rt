@@ -9,11 +9,13 @@ mod end;
 mod labels;
 mod laws;
 mod machine;
-mod memory;
 mod message;
 mod names;
 mod objects;
 mod outcome;
+mod pool;
+#[cfg(test)]
+mod pool_tests;
 mod registers;
 mod run;
 mod searches;

@@ -3,21 +3,25 @@
 ghost use Rattle.std.specs.Prelude.{IsTrue, ◌≡◌, ◌≢◌, ◌≤◌, ◌<◌, ◌+◌, ◌*◌, ◌-◌, ◌^◌, ◌%◌, Ok, Err, OnErr, IfOk, IfErr, length};
 ghost use Rattle.mx_host.specs.HostModel.{tells, contents, slot_at};
 ghost use Rattle.mx_top.specs.Lists.{IsFront};
-ghost use Rattle.mx_top.specs.Memory.{byte_at};
-ghost use Rattle.mx_top.specs.ListMachine.{start, onward, start_special};
+ghost use Rattle.mx_load.specs.Kept.{image_of};
+ghost use Rattle.mx_top.specs.Image.{of_object};
+ghost use Rattle.mx_top.specs.ListMachine.{start, start_address, onward, start_special};
+ghost use Rattle.mx_word.specs.Results.{map_ok};
 ghost use Rattle.mx_top.specs.ListMachine as spec;
-ghost use Rattle.mx_top.specs.Held.{state_of};
+ghost use Rattle.mx_top.specs.Held.{bytes_in, state_of};
 ghost use Rattle.mx_top.specs.Registers.{register};
 ghost use Rattle.mx_top.specs.FileTraps as traps;
 ghost use Rattle.mx_top.specs.Step as step_spec;
 ghost use Rattle.mx_top.specs.Runs as runs;
 
 use crate::end::End;
-use crate::memory::Memory;
-use crate::registers::GeneralRegisters;
-use crate::texts::{TextFault, text_at};
+use crate::pool::put_argument;
+use crate::registers::{GeneralRegisters, global_in};
+use crate::texts::{TextFault, byte_of, text_at};
 use crate::traps::put_text;
 use mx_host::Host;
+use mx_load::Image;
+use mx_mem::{MemFault, Memory};
 use std::alloc::Global;
 use std::marker::Model;
 
@@ -35,6 +39,9 @@ const Z_OPERAND: usize = 31;
 /// A backward address is so far below a forward one, modulo 2^64.
 const BACKWARD: u64 = 0xffff_ffff_fffc_0000;
 
+/// The reason of a stop at the start of a run, where the pages are full.
+const PAGES_FULL: u16 = 118;
+
 /// The machine.
 #[derive(Drop)]
 pub struct Machine {
@@ -47,6 +54,7 @@ pub struct Machine {
 }
 
 impl Model for Machine {
+    ghost use Rattle.std.specs.Prelude.{◌≡◌, ◌%◌};
     ghost use Rattle.mx_top.specs.Held.{Held};
 
     ghost Value = { Held };
@@ -58,6 +66,8 @@ impl Model for Machine {
       pc = m.pc;
       steps = m.steps;
     } };
+
+    ghost invariant = { λ m. m.pc % 4 ≡ 0 };
 }
 
 /// An instruction, byte by byte.
@@ -70,33 +80,49 @@ struct Instruction {
 }
 
 impl Machine {
-    /// The machine at the start of a program.
-    pub fn start(alloc: Global, memory: Memory, main: u64) -> Machine
-        ensures { state_of result ≡ start (byte_at memory) main }
+    /// The machine at the start of a program with one argument, which is put into the pool.
+    ///
+    /// Errors: `Stopped` at the first instruction with reason 118 where the argument needs a page
+    /// too many or an address of 2^63 or more, and want of memory.
+    pub fn start(alloc: Global, image: Image, argument: &[u8]) -> Result<Machine, End>
+        ensures { let from = of_object (image_of image) in
+            result ≢ Err End.OutOfMemory → map_ok state_of result ≡ runs.start_answer (start_address from) (start from argument.now) }
     {
-        Machine {
-            alloc,
-            memory,
-            registers: GeneralRegisters::at_start(main),
-            special: at_start(),
-            pc: main / 4 * 4,
-            steps: 0,
+        let pc = global_in(&image, 255) / 4 * 4;
+        let registers = GeneralRegisters::at_start(&image);
+        let mut memory = image.into_memory();
+        match put_argument(alloc, &mut memory, argument) {
+            Ok(()) => Ok(Machine {
+                alloc,
+                memory,
+                registers,
+                special: at_start(),
+                pc,
+                steps: 0,
+            }),
+            Err(MemFault::PagesFull) => Err(End::Stopped {
+                pc,
+                reason: PAGES_FULL,
+            }),
+            Err(MemFault::OutOfMemory) => Err(End::OutOfMemory),
         }
     }
 
     /// The next instruction.
+    #[tactic(auto, using(crate::proofs::Fetches::fetching), unfolding(crate::specs::Held::bytes_in))]
     fn fetch(&self) -> Instruction
         requires { self.now.pc < 2 ^ 63 }
-        ensures opcode { result.opcode ≡ byte_at self.now.stored self.now.pc }
-        ensures x { result.x ≡ byte_at self.now.stored (self.now.pc + 1) }
-        ensures y { result.y ≡ byte_at self.now.stored (self.now.pc + 2) }
-        ensures z { result.z ≡ byte_at self.now.stored (self.now.pc + 3) }
+        ensures opcode { result.opcode ≡ bytes_in self.now.stored self.now.pc }
+        ensures x { result.x ≡ bytes_in self.now.stored (self.now.pc + 1) }
+        ensures y { result.y ≡ bytes_in self.now.stored (self.now.pc + 2) }
+        ensures z { result.z ≡ bytes_in self.now.stored (self.now.pc + 3) }
     {
+        let octa = self.memory.load(self.pc);
         Instruction {
-            opcode: self.memory.byte(self.pc),
-            x: self.memory.byte(self.pc + 1),
-            y: self.memory.byte(self.pc + 2),
-            z: self.memory.byte(self.pc + 3),
+            opcode: byte_of(octa, self.pc),
+            x: byte_of(octa, self.pc + 1),
+            y: byte_of(octa, self.pc + 2),
+            z: byte_of(octa, self.pc + 3),
         }
     }
 

@@ -1,9 +1,13 @@
 //! The general registers.
 
 ghost use Rattle.std.specs.Prelude.{◌≡◌, ◌≤◌, ◌<◌, ◌-◌, ◌++◌, ◌∷◌, [], length, replicate, slice_set};
-ghost use Rattle.mx_top.specs.ListMachine.{start_registers};
+ghost use Rattle.mx_load.specs.Kept.{image_of};
+ghost use Rattle.mx_top.specs.Image.{of_object};
+ghost use Rattle.mx_top.specs.ListMachine.{start_registers, global_list};
 ghost use Rattle.mx_top.specs.Registers.{register, with_register};
 
+use crate::pool::POOL;
+use mx_load::Image;
 use std::marker::Model;
 
 /// The general registers: L local ones from $0 on, and the global ones from G on.
@@ -27,24 +31,22 @@ impl Model for GeneralRegisters {
       globals = r.globals;
     } };
 
-    ghost invariant = { λ r. (r.local_count ≤ r.first_global) × (r.first_global ≤ 255) };
+    ghost invariant = { λ r. (r.local_count ≤ 256) × (r.first_global ≤ 255) };
 }
 
 impl GeneralRegisters {
     /// The registers as a program with one argument starts with them.
-    pub fn at_start(main: u64) -> GeneralRegisters
-        ensures { result ≡ start_registers main }
+    pub fn at_start(image: &Image) -> GeneralRegisters
+        ensures { result ≡ start_registers (of_object (image_of image.now)) }
     {
         let mut locals = [0; 256];
         locals[0] = 1;
-        locals[1] = 0x4000_0000_0000_0008;
-        let mut globals = [0; 256];
-        globals[255] = main;
+        locals[1] = POOL + 8;
         GeneralRegisters {
             locals,
             local_count: 2,
-            globals,
-            first_global: 255,
+            globals: globals_of(image),
+            first_global: usize::from(image.g()),
         }
     }
 
@@ -95,4 +97,22 @@ impl GeneralRegisters {
         self.locals[k] = x;
         self.local_count = k + 1;
     }
+}
+
+/// The values of $0 to $255, of which those that are global count.
+fn globals_of(image: &Image) -> [u64; 256]
+    ensures { result ≡ global_list (image_of image.now).global }
+{
+    let mut globals = [0; 256];
+    for k in 0..256usize {
+        globals[k] = global_in(image, k as u8);
+    }
+    globals
+}
+
+/// The value of the global register $k; 0 where $k is not global.
+pub fn global_in(image: &Image, k: u8) -> u64
+    ensures { result ≡ (image_of image.now).global k }
+{
+    image.global(k)
 }

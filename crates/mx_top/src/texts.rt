@@ -1,10 +1,11 @@
 //! ReadText in memory.
 
-ghost use Rattle.std.specs.Prelude.{◌≡◌, ◌≢◌, Err, ◌^◌};
-ghost use Rattle.mx_top.specs.Memory.{byte_at};
+ghost use Rattle.std.specs.Prelude.{◌≡◌, ◌≢◌, ◌<◌, Err, ◌^◌};
+ghost use Rattle.mx_mem.specs.Memory as memory_spec;
 ghost use Rattle.mx_top.specs.FileTraps as spec;
+ghost use Rattle.mx_top.specs.Held.{bytes_in};
 
-use crate::memory::Memory;
+use mx_mem::Memory;
 use mx_word::Bytes;
 use std::alloc::Global;
 
@@ -18,21 +19,29 @@ pub enum TextFault {
     OutOfMemory,
 }
 
+/// The byte of an address in the octa that holds it.
+pub fn byte_of(octa: u64, a: u64) -> u8
+    ensures { result ≡ memory_spec.byte_of octa a }
+{
+    (octa >> (8 * (7 - a % 8)) & 255) as u8
+}
+
 /// The byte of a text at an address, and nothing at its end.
+#[tactic(auto, unfolding(crate::specs::Held::bytes_in))]
 fn text_byte(memory: &Memory, a: u64) -> Result<Option<u8>, TextFault>
-    ensures { result ≡ spec.text_byte (byte_at memory.now) a }
+    ensures { result ≡ spec.text_byte (bytes_in memory.now) a }
 {
     if a >= 1 << 63 {
         return Err(TextFault::Negative);
     }
-    let byte = memory.byte(a);
+    let byte = byte_of(memory.load(a), a);
     if byte == 0 { Ok(None) } else { Ok(Some(byte)) }
 }
 
 /// The text at an address: its bytes up to the first zero byte.
 #[tactic(auto, using(crate::proofs::ReadText::reading))]
 pub fn text_at(alloc: Global, memory: &Memory, a: u64) -> Result<Bytes, TextFault>
-    ensures { result ≢ Err TextFault.OutOfMemory → result ≡ spec.text_at (byte_at memory.now) a }
+    ensures { result ≢ Err TextFault.OutOfMemory → result ≡ spec.text_at (bytes_in memory.now) a }
 {
     let mut text = Bytes::new(alloc);
     let mut at = a;
