@@ -24,6 +24,6 @@ pub mod SourceImages
 pub mod Sources
 pub mod Starts
 pub mod StatementBounds
-pub mod Tetras
+pub mod JoinedTetras
 pub mod Turns
 pub mod Writes

@@ -11,7 +11,7 @@ use Rattle.mx_mmo.specs.declared.items.Item.TheVariants.{Load}
 use Rattle.mx_top.specs.Image.{pages_of, pages_below}
 use Rattle.mx_top.specs.Memory.{placed, from_place}
 use Rattle.mx_top.proofs.Placed.{placed-append}
-use Rattle.mx_top.proofs.Tetras.{joined-placed, four}
+use Rattle.mx_top.proofs.JoinedTetras.{joined-placed, four}
 use Rattle.mx_top.proofs.PageCounts.{IsLow, page-low, paged-is}
 
 -- what stands once tetras were loaded: the octas and the pages, counted below a number, and lambda

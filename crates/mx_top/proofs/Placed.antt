@@ -1,10 +1,8 @@
 -- Bytes placed one after another.
-use Rattle.std.proofs.Common.{◌≡◌, ℕ, ◌+◌, ◌<◌, List, [], ◌∷◌, ◌++◌, length, take, get_or, Bool, true, false, cond, arith, refl, sym, ◌∙◌, ap, bit_xor, add-zero}
+use Rattle.std.proofs.Common.{◌≡◌, ℕ, List, [], ◌∷◌, ◌++◌, Bool, true, false, cond, sym, bit_xor}
 use Rattle.std.specs.Prelude.{◌==◌}
-use Rattle.std.proofs.lemmas.Grind.{common_steps}
-use Rattle.std.proofs.lemmas.List.{take_more}
-use Rattle.std.specs.Int.Bits.{xor_assoc, xor_zero_r, xor_zero_l}
-use Rattle.mx_top.specs.Memory.{placed, from_place, changed}
+use Rattle.std.specs.Int.Bits.{xor_assoc, xor_zero_l}
+use Rattle.mx_top.specs.Memory.{placed}
 
 pub placed-append : (ps qs : List (ℕ × ℕ)) (a : ℕ) → placed (ps ++ qs) a ≡ bit_xor (placed ps a) (placed qs a)
 placed-append [] qs a = sym (xor_zero_l (placed qs a))

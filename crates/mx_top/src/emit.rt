@@ -130,12 +130,7 @@ fn assemble_into<H: Host>(alloc: Global, host: &mut H, text: &[u8], object: &[u8
 }
 
 /// Assembles the source in a file into the object file of this name.
-pub fn assemble_file<H: Host>(
-    alloc: Global,
-    host: &mut H,
-    source: &[u8],
-    object: &[u8],
-) -> Outcome
+pub fn assemble_file<H: Host>(alloc: Global, host: &mut H, source: &[u8], object: &[u8]) -> Outcome
     ensures told { IsTrue (tells (H.told host.old)) → result ≢ Outcome.OutOfMemory → (result, contents (H.told host.new)) ≡ spec.after_reading object.now (file_bytes 1025 source.now (contents (H.told host.old))) }
     ensures written { IsTrue (tells (H.told host.old)) → result ≡ Outcome.OutOfMemory → IsFront (contents (H.told host.new)).output (spec.after_reading object.now (file_bytes 1025 source.now (contents (H.told host.old)))).1.output }
     ensures messages { IsTrue (tells (H.told host.old)) → slot_at (contents (H.told host.new)) 260 ≡ slot_at (contents (H.told host.old)) 260 }

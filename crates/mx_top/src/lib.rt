@@ -11,6 +11,8 @@ mod laws;
 mod machine;
 mod message;
 mod names;
+#[cfg(test)]
+mod object_tests;
 mod objects;
 mod outcome;
 mod pool;
@@ -28,7 +30,7 @@ mod top;
 mod traps;
 mod words;
 
-pub use laws::{front_decides, items_mean_the_image, objects_hold_the_image, objects_run_as_their_sources};
+pub use laws::{front_decides, items_mean_the_image};
 pub use names::{fault_name, usage_name};
 pub use outcome::{Outcome, WordsFault};
 pub use top::mmixware;

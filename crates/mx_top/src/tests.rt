@@ -1,14 +1,16 @@
 //! Whole runs over a host in memory.
 
 use crate::assemble::assemble;
-use crate::{Outcome, WordsFault, fault_name, front_decides, mmixware, usage_name};
+use crate::{
+    Outcome, WordsFault, fault_name, front_decides, items_mean_the_image, mmixware, usage_name,
+};
 use mx_host::MemHost;
 use mx_mmo::Item;
 use std::alloc::Global;
 use std::test::Fail;
 
 /// Words for a call.
-fn words(alloc: Global, all: &[&str]) -> Result<Vec<String>, Fail> {
+pub fn words(alloc: Global, all: &[&str]) -> Result<Vec<String>, Fail> {
     let mut made = Vec::new(alloc);
     for word in all {
         made.push(String::from_str(alloc, word)?)?;
@@ -48,7 +50,7 @@ fn refused(line: u32, fault: u16) -> Outcome {
     }
 }
 
-const FIRST: &[u8] =
+pub const FIRST: &[u8] =
     b" LOC #100\nText BYTE 104,105,10,0\nMain GETA $255,Text\n TRAP 0,7,1\n TRAP 0,0,0\n";
 
 /// What is due of a source that is refused.
@@ -260,7 +262,7 @@ fn words_and_files(rt: HostRuntime) -> Result<(), Fail> {
     let alloc = rt.alloc();
     let not_built = Outcome::Usage(WordsFault { kind: 9, word: 0 });
     let none: &[&str] = &[];
-    let cases: [(&[&str], Outcome, &[u8]); 4] = [
+    let cases: [(&[&str], Outcome, &[u8]); 8] = [
         (none, not_built, b"usage fault 9 NotBuilt at word 0\n"),
         (
             &["run", "-x"],
@@ -273,6 +275,22 @@ fn words_and_files(rt: HostRuntime) -> Result<(), Fail> {
             b"usage fault 9 NotBuilt at word 0\n",
         ),
         (&["run", "none.mms"], Outcome::NoFile, b"no file\n"),
+        (&["sim", "none.mmo"], Outcome::NoFile, b"no file\n"),
+        (
+            &["asm", "none.mms", "none.mmo"],
+            Outcome::NoFile,
+            b"no file\n",
+        ),
+        (
+            &["asm", "a.mms"],
+            not_built,
+            b"usage fault 9 NotBuilt at word 0\n",
+        ),
+        (
+            &["asm", "a.mms", "-x"],
+            not_built,
+            b"usage fault 9 NotBuilt at word 0\n",
+        ),
     ];
     for (all, want, message) in cases {
         let mut host = host(alloc, FIRST, &[])?;
@@ -286,6 +304,7 @@ fn words_and_files(rt: HostRuntime) -> Result<(), Fail> {
 #[test]
 fn names_and_statuses(rt: HostRuntime) {
     front_decides();
+    items_mean_the_image();
     for (number, name) in [
         (7, "NoOpcode"),
         (21, "RegisterNumber"),
