@@ -5,6 +5,7 @@ ghost use Rattle.mx_word.specs.Results.{map_ok};
 ghost use Rattle.mx_line.specs.Lines.{lines_of};
 ghost use Rattle.mx_mmo.specs.Meaning.{meaning};
 ghost use Rattle.mx_top.specs.Image.{of_object};
+ghost use Rattle.mx_top.specs.Objects.{object_bytes, object_image};
 ghost use Rattle.mx_top.specs.TwoPass.{refusal, image};
 ghost use Rattle.mx_top.specs.Whole.{whole};
 
@@ -20,4 +21,10 @@ pub fn front_decides()
 #[tactic(auto, using(crate::proofs::LoadedLines::meanings))]
 pub fn items_mean_the_image()
     ensures { (lines : List (List ℕ)) → refusal lines ≡ None → map_ok of_object (meaning (whole lines)) ≡ Ok (image lines) }
+{}
+
+/// The object that an accepted source is assembled into sets up the source's image.
+#[tactic(auto, using(crate::proofs::ObjectImages::holdings))]
+pub fn objects_hold_the_image()
+    ensures { (lines : List (List ℕ)) → refusal lines ≡ None → object_image (object_bytes (whole lines)) ≡ Ok (image lines) }
 {}

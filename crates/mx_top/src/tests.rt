@@ -2,7 +2,8 @@
 
 use crate::assemble::assemble;
 use crate::{
-    Outcome, WordsFault, fault_name, front_decides, items_mean_the_image, mmixware, usage_name,
+    Outcome, WordsFault, fault_name, front_decides, items_mean_the_image, mmixware,
+    objects_hold_the_image, usage_name,
 };
 use mx_host::MemHost;
 use mx_mmo::Item;
@@ -305,6 +306,7 @@ fn words_and_files(rt: HostRuntime) -> Result<(), Fail> {
 fn names_and_statuses(rt: HostRuntime) {
     front_decides();
     items_mean_the_image();
+    objects_hold_the_image();
     for (number, name) in [
         (7, "NoOpcode"),
         (21, "RegisterNumber"),
@@ -313,6 +315,7 @@ fn names_and_statuses(rt: HostRuntime) {
         (120, "ResumeInsert"),
         (119, ""),
         (124, "UnknownTrap"),
+        (132, "NotBuilt"),
     ] {
         assert!(rt; fault_name(number) == name);
     }
