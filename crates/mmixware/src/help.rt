@@ -5,8 +5,11 @@ use std::process::ExitCode;
 /// What `--help` prints.
 pub const HELP: &str = "\
 usage: mmixware run SRC
+       mmixware asm SRC OBJ
+       mmixware sim OBJ
 
-Assembles the MMIXAL source in the file SRC and runs it. The exit status is that
+`run` assembles the MMIXAL source in the file SRC and runs it, `asm` assembles it
+into the object file OBJ, and `sim` runs an object file. The exit status is that
 of the program that was run; 64 and above may be the tool's own (see README.md).
 
        mmixware --help

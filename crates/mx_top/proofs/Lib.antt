@@ -1,4 +1,5 @@
 pub mod Counting
+pub mod Detours
 pub mod Digits
 pub mod FairLines
 pub mod Fetches
@@ -7,6 +8,7 @@ pub mod Fronts
 pub mod Gather
 pub mod Globals
 pub mod GoodLines
+pub mod IdleFiles
 pub mod JoinedTetras
 pub mod Lines
 pub mod LoadedLines
@@ -14,6 +16,7 @@ pub mod Loading
 pub mod Loads
 pub mod Locals
 pub mod LongSources
+pub mod NamedFiles
 pub mod ObjectImages
 pub mod ObjectItems
 pub mod Paddings
@@ -28,6 +31,8 @@ pub mod SourceImages
 pub mod Sources
 pub mod Starts
 pub mod StatementBounds
+pub mod Steady
+pub mod Still
 pub mod Turns
 pub mod WalkLoads
 pub mod Writes

@@ -117,4 +117,8 @@ objects-hold lines h = on (meaning (whole lines)) refl (items-mean lines h)
         (written-read (whole lines) [] (whole-valid (items_of_lines lines) (main_of lines) fine (main-low lines f)) (whole-built (items_of_lines lines) (main_of lines) fine) refl (whole-short lines f)) m
         ∙ ap Ok same
 
+-- an object is read whole
+pub objects-fit : (lines : List Line) → refusal lines ≡ None → length (object_bytes (whole lines)) ≤ limit
+objects-fit lines h = whole-short lines (without-faults lines h)
+
 pub ruleset holdings = (objects-hold)

@@ -30,7 +30,9 @@ mod top;
 mod traps;
 mod words;
 
-pub use laws::{front_decides, items_mean_the_image, objects_hold_the_image};
+pub use laws::{
+    front_decides, items_mean_the_image, objects_hold_the_image, objects_run_as_their_sources,
+};
 pub use names::{fault_name, usage_name};
 pub use outcome::{Outcome, WordsFault};
 pub use top::mmixware;

@@ -3,7 +3,7 @@
 use crate::assemble::assemble;
 use crate::{
     Outcome, WordsFault, fault_name, front_decides, items_mean_the_image, mmixware,
-    objects_hold_the_image, usage_name,
+    objects_hold_the_image, objects_run_as_their_sources, usage_name,
 };
 use mx_host::MemHost;
 use mx_mmo::Item;
@@ -307,6 +307,7 @@ fn names_and_statuses(rt: HostRuntime) {
     front_decides();
     items_mean_the_image();
     objects_hold_the_image();
+    objects_run_as_their_sources();
     for (number, name) in [
         (7, "NoOpcode"),
         (21, "RegisterNumber"),
