@@ -16,7 +16,7 @@ use Rattle.mx_mmo.specs.declared.faults.MmoFault.TheVariants.{NotTetras, NoPre, 
 use Rattle.mx_top.specs.Answers.{ahead, follow, item_answer, unread, unloaded, place_and_number}
 use Rattle.mx_top.specs.Objects.{Loaded, item_loaded, first_loaded, items_loaded, taken, fault_at}
 use Rattle.mx_top.specs.declared.objects.ObjectFault.{ObjectFault}
-use Rattle.mx_top.specs.declared.objects.ObjectFault.TheVariants.{Bad, OutOfMemory}
+use Rattle.mx_top.specs.declared.objects.ObjectFault.TheVariants.{OutOfMemory}
 
 -- the faults of reading and of loading keep their place and number
 pub unread-is : (f : MmoFault) → unread f ≢ OutOfMemory → place_and_number (unread f) ≡ fault_at f

@@ -1,5 +1,5 @@
 -- Objects as they are loaded and as they are written.
-use Rattle.std.specs.Prelude.{ℕ, zero, suc, ◌+◌, List, [], ◌++◌, length, drop, Option, None, Some, Result, Ok, Err, nat_lt, unwrap_or, if◌then◌else◌}
+use Rattle.std.specs.Prelude.{ℕ, zero, suc, ◌+◌, List, [], ◌++◌, length, drop, None, Some, Result, Ok, Err, nat_lt, unwrap_or, if◌then◌else◌}
 use Rattle.mx_mmo.specs.Meaning.{Loading, Meaningless, nothing, take_item}
 use Rattle.mx_mmo.specs.Reading.{Due, first_item}
 use Rattle.mx_mmo.specs.Replies.{limit, phase_after, tail_of}

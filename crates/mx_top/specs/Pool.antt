@@ -1,6 +1,6 @@
 -- The arguments of a program in the pool segment (MMIXware, MMIX-SIM, "Getting and putting the command line
 -- arguments" at the start of a run).
-use Rattle.std.specs.Prelude.{ℕ, ◌+◌, ◌-◌, ◌*◌, ◌/◌, ◌%◌, ◌^◌, ◌==◌, ◌||◌, nat_le, Bool, List, [], ◌∷◌, ◌++◌, length, take, drop, replicate, codes, Option, None, Some, if◌then◌else◌}
+use Rattle.std.specs.Prelude.{ℕ, ◌+◌, ◌-◌, ◌*◌, ◌/◌, ◌%◌, ◌^◌, ◌==◌, ◌||◌, nat_le, List, [], ◌∷◌, ◌++◌, length, take, drop, replicate, codes, Option, None, Some, if◌then◌else◌}
 use Rattle.std.specs.Str.{bytes_eq}
 use Rattle.mx_mem.specs.Memory.{stored_bytes, with_page}
 use Rattle.mx_mmo.specs.Reading.{octas_of}

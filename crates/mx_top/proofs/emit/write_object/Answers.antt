@@ -1,4 +1,4 @@
-use Rattle.std.proofs.Common.{refl, sym, ◌∙◌, ap, subst}
+use Rattle.std.proofs.Common.{sym, ap, subst}
 use Rattle.std.specs.Prelude.{IsTrue}
 use Rattle.mx_host.specs.HostModel.{contents}
 use Rattle.mx_top.specs.FileTraps.{put_text}

@@ -1,4 +1,4 @@
-use Rattle.std.proofs.Common.{ap, Ok, Err}
+use Rattle.std.proofs.Common.{ap, Ok}
 use Rattle.mx_top.proofs.Loading.{left-next, left-last}
 use Rattle.mx_top.proofs.objects.load_items.Goals as goal
 

@@ -1,4 +1,4 @@
-use Rattle.std.proofs.Common.{◌≡◌, ◌≢◌, ◌∙◌, sym, ap, Err}
+use Rattle.std.proofs.Common.{◌≢◌, ◌∙◌, sym, ap, Err}
 use Rattle.mx_mmo.specs.declared.faults.MmoFault.TheVariants.{OutOfMemory as ReadWant}
 use Rattle.mx_top.specs.Answers.{unread, place_and_number}
 use Rattle.mx_top.specs.declared.objects.ObjectFault.TheVariants.{OutOfMemory}
