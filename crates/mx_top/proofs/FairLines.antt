@@ -11,7 +11,8 @@ use Rattle.mx_line.specs.declared.plain_lines.Plain.TheVariants.{Empty, Loc, Byt
 use Rattle.mx_top.specs.TwoPass.{Line, gather, start_of, place_after, place_of_line, name_of, labelled, labels_of, value_in, main_name, main_of, has_target, faults_of_line, faults, refusal_among, refusal}
 use Rattle.mx_top.specs.declared.labels.Label.{Label}
 use Rattle.mx_top.proofs.Gather.{gather-append}
-use Rattle.mx_top.proofs.GoodLines.{size_of, size-push, IsBelow, below-push, target-later, Good, good-line}
+use Rattle.mx_top.proofs.MoreLines.{size_of, size-push}
+use Rattle.mx_top.proofs.GoodLines.{IsBelow, below-push, target-later, Good, good-line}
 
 -- ---- one line of a source without a fault
 

@@ -1,38 +1,21 @@
 -- Lines with no fault: their bytes, and how far they reach.
-use Rattle.std.proofs.Common.{◌≡◌, ℕ, ◌+◌, ◌-◌, ◌*◌, ◌/◌, ◌%◌, ◌^◌, ◌<◌, ◌≤◌, List, [], ◌∷◌, ◌++◌, length, take, Bool, true, false, cond, arith, refl, sym, ◌∙◌, ap, subst, inl, inr, ◌⊎◌, Option, Some, None, length-append}
-use Rattle.std.specs.Prelude.{◌&&◌, nat_lt, nat_le, find, sum_by}
-use Rattle.std.specs.Option.{option_or, option_map}
-use Rattle.std.specs.Str.{bytes_eq}
+use Rattle.std.proofs.Common.{◌≡◌, ℕ, ◌+◌, ◌-◌, ◌*◌, ◌/◌, ◌%◌, ◌^◌, ◌<◌, ◌≤◌, List, [], ◌∷◌, ◌++◌, length, Bool, true, false, arith, refl, ◌∙◌, ap, subst, inl, inr, ◌⊎◌, Option, Some, None}
+use Rattle.std.specs.Prelude.{nat_lt, nat_le}
 use Rattle.std.proofs.lemmas.Bool.Decides.{nat_tests}
-use Rattle.std.proofs.lemmas.List.Folds.{find-append}
-use Rattle.std.proofs.lemmas.List.Sums.{fold-append, sum_by-append}
-use Rattle.std.proofs.Math.Seq.{take-length}
-use Rattle.mx_line.specs.Lines.{is_too_far, size_up_to}
+use Rattle.mx_line.specs.Lines.{is_too_far}
 use Rattle.mx_line.specs.Plain.{plain_of, part}
 use Rattle.mx_line.specs.declared.spans.Span.{Span}
 use Rattle.mx_line.specs.declared.plain_lines.Plain.{Plain}
 use Rattle.mx_line.specs.declared.plain_lines.Plain.TheVariants.{Empty, Loc as LocStatement, Byte, Geta, Trap}
 use Rattle.mx_line.proofs.NumberLaws.{numbers-some}
-use Rattle.mx_top.specs.TwoPass.{Line, raised, start_of, end_of, place_after, place_of_line, labels_of, value_in, is_near, geta_bytes, geta_to, bytes_of, reaches, has_target, stays_plain, faults_of_line, source_too_long, not_built}
+use Rattle.mx_top.specs.TwoPass.{Line, raised, start_of, end_of, place_after, place_of_line, labels_of, value_in, is_near, geta_bytes, geta_to, bytes_of, reaches, has_target, stays_plain, faults_of_line}
 use Rattle.mx_top.specs.Whole.{places}
 use Rattle.mx_top.specs.declared.labels.Label.{Label}
 use Rattle.mx_top.proofs.Loads.{AreBytes}
+use Rattle.mx_top.proofs.MoreLines.{size_of, size-push, far-size, place-push, near-labels, none-of, last-true}
 use Rattle.mx_top.proofs.StatementBounds.{IsSmall, plain-small, numbers-short, numbers-bytes}
 
 -- ---- labels of earlier lines
-
-later-labels : (xs ys : List Label) (name : List ℕ) (value : ℕ) → value_in xs name ≡ Some value → value_in (xs ++ ys) name ≡ Some value
-later-labels xs ys name value h =
-    ap (option_map (λ (label : Label). label.value)) (find-append (λ (label : Label). bytes_eq label.name name) xs ys)
-    ∙ kept (find (λ (label : Label). bytes_eq label.name name) xs) (find (λ (label : Label). bytes_eq label.name name) ys) h
-  where
-    kept : (r s : Option Label) → option_map (λ (label : Label). label.value) r ≡ Some value → option_map (λ (label : Label). label.value) (option_or r s) ≡ Some value
-    kept None s h = absurd (cc)
-    kept (Some label) s h = h
-
-near-labels : (from : ℕ) (xs ys : List Label) (name : List ℕ) (to : Option ℕ) → value_in xs name ≡ to → reaches from to ≡ true → value_in (xs ++ ys) name ≡ to
-near-labels from xs ys name None e h = absurd (cc)
-near-labels from xs ys name (Some to) e h = later-labels xs ys name to e
 
 pub target-later : (xs ys : List Label) (line : Line) (plain : Option Plain) (from : ℕ) → has_target xs line plain from ≡ true → has_target (xs ++ ys) line plain from ≡ true
 target-later xs ys line None from h = h
@@ -106,21 +89,6 @@ end-most line (Some (Trap label x y z)) at h = inl (omega arith)
 
 -- ---- the sizes of lines
 
-abbrev pub size_of : List Line → ℕ
-size_of lines = sum_by length lines + length lines
-
-far-size : (before : List Line) (line : Line) → size_up_to (length before + 1) (before ++ line ∷ []) ≡ size_of before + length line
-far-size before line =
-    let all : take (length before + 1) (before ++ line ∷ []) ≡ before ++ line ∷ [] =
-    ap (λ n. take n (before ++ line ∷ [])) (sym (length-append before (line ∷ []))) ∙ take-length (before ++ line ∷ []) in
-    ap (λ lines. sum_by length lines + (length before + 1 - 1)) all ∙ simp sum_by-append (omega arith)
-
-pub size-push : (before : List Line) (line : Line) → size_of (before ++ line ∷ []) ≡ size_of before + length line + 1
-size-push before line = simp (sum_by-append, length-append) (omega arith)
-
-pub place-push : (before : List Line) (line : Line) → place_after (before ++ line ∷ []) ≡ end_of line (plain_of line) (place_after before)
-place-push before line = fold-append (λ a line. end_of line (plain_of line) a) 0 before (line ∷ [])
-
 -- `@` lies no higher than this after lines of so many bytes
 abbrev pub IsBelow : List Line → Type 0
 IsBelow lines = place_after lines ≤ 16777216 + 8 * size_of lines
@@ -138,15 +106,6 @@ pub record Good (before : List Line) (line : Line) : Type 0 where
   pub near : size_of before + length line ≤ 4194304
   pub target : has_target (labels_of before) line (plain_of line) (place_of_line before line) ≡ true
 
-and-second : (s t : Bool) → (s && t) ≡ true → t ≡ true
-and-second true t h = h
-and-second false t h = absurd (cc)
-
-none-of : (far plain : Bool) (number : ℕ) (later : List (ℕ × ℕ)) → cond far ((number, source_too_long) ∷ []) (cond plain [] ((number, not_built) ∷ [])) ++ later ≡ [] → (far ≡ false) × (plain ≡ true) × (later ≡ [])
-none-of true plain number later h = absurd (cc)
-none-of false true number later h = (refl, refl, h)
-none-of false false number later h = absurd (cc)
-
 near-size : (n : ℕ) → nat_lt (2 ^ 22) n ≡ false → n ≤ 4194304
 near-size n h = grind (arith, nat_tests)
 
@@ -155,7 +114,7 @@ good-line before line later h =
     let none = none-of (is_too_far (before ++ line ∷ []) (length before + 1)) (stays_plain before line) (length before + 1) later h in (
       record {
         near = near-size (size_of before + length line) (subst (λ n. nat_lt (2 ^ 22) n ≡ false) (far-size before line) none.0);
-        target = and-second _ _ none.1;
+        target = last-true _ _ none.1;
       },
       none.2,
     )

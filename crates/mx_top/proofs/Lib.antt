@@ -16,6 +16,7 @@ pub mod Loading
 pub mod Loads
 pub mod Locals
 pub mod LongSources
+pub mod MoreLines
 pub mod NamedFiles
 pub mod ObjectImages
 pub mod ObjectItems

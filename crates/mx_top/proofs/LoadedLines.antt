@@ -1,9 +1,8 @@
 -- Lines with no fault: their bytes, and how far they reach.
-use Rattle.std.proofs.Common.{◌≡◌, ℕ, ◌+◌, ◌*◌, ◌/◌, ◌%◌, ◌^◌, ◌<◌, ◌≤◌, List, [], ◌∷◌, ◌++◌, length, Bool, true, false, cond, arith, refl, sym, ◌∙◌, ap, subst, lit≤, bit_xor, None, Result, Ok, append_assoc, append-nil}
-use Rattle.std.specs.Prelude.{◌==◌, ◌||◌, fold}
+use Rattle.std.proofs.Common.{◌≡◌, ℕ, ◌+◌, ◌*◌, ◌/◌, ◌%◌, ◌^◌, ◌<◌, ◌≤◌, List, [], ◌∷◌, ◌++◌, length, Bool, true, false, arith, refl, sym, ◌∙◌, ap, subst, lit≤, bit_xor, None, Result, Ok, append_assoc, append-nil}
+use Rattle.std.specs.Prelude.{◌==◌, ◌||◌}
 use Rattle.std.proofs.lemmas.Bool.Decides.{nat_tests}
 use Rattle.std.proofs.lemmas.List.Folds.{list_any-append}
-use Rattle.std.proofs.lemmas.List.Sums.{fold-append}
 use Rattle.mx_word.specs.Results.{map_ok}
 use Rattle.mx_mem.specs.Memory.{byte_in}
 use Rattle.mx_line.specs.Plain.{plain_of}
@@ -12,17 +11,16 @@ use Rattle.mx_mmo.specs.declared.items.Item.{Item}
 use Rattle.mx_top.specs.Image.{Image, of_object, pages_of, pages_below}
 use Rattle.mx_top.specs.Memory.{placed, from_place}
 use Rattle.mx_top.specs.TwoPass.{Line, gather, raised, end_of, place_after, place_of_line, name_of, labelled, labels_of, bytes_of, placements_of_line, placements, main_of, has_target, faults_of_line, faults, refusal_among, refusal, image}
-use Rattle.mx_top.specs.Whole.{placing, places, tetras_end, lambda_after, items_of_line, items_of_lines, closing, whole}
+use Rattle.mx_top.specs.Whole.{placing, places, lambda_after, items_of_line, items_of_lines, closing, whole}
 use Rattle.mx_top.specs.declared.labels.Label.{Label}
 use Rattle.mx_top.proofs.Placed.{placed-append}
-use Rattle.mx_top.proofs.Gather.{gather-append, gather-push}
+use Rattle.mx_top.proofs.Gather.{gather-append}
 use Rattle.mx_top.proofs.PageCounts.{IsLow, few-pages}
 use Rattle.mx_top.proofs.Loads.{standing, AreBytes}
 use Rattle.mx_top.proofs.Paddings.{octas_then, take-append, placing-bytes, placing-is}
 use Rattle.mx_top.proofs.StatementBounds.{plain-small}
-use Rattle.mx_top.proofs.GoodLines.{Spelt, spelt, silent, size_of, place-push, IsBelow, below-push, size-push, target-later, good-line}
-
--- ---- labels of earlier lines
+use Rattle.mx_top.proofs.MoreLines.{size_of, size-push, place-push, lambda-push}
+use Rattle.mx_top.proofs.GoodLines.{Spelt, spelt, silent, IsBelow, below-push, target-later, good-line}
 
 -- what stands once items were taken: bytes were placed, on low pages, and lambda is a multiple of 4
 record Taken (n : ℕ) (items : List Item) (s : Loading) (ps : List (ℕ × ℕ)) (lambda : ℕ) : Type 0 where
@@ -35,18 +33,6 @@ record Taken (n : ℕ) (items : List Item) (s : Loading) (ps : List (ℕ × ℕ)
 -- ---- one line
 
 -- lambda after one line more
-lambda-push : (before : List Line) (line : Line) (t : Bool) → places (plain_of line) ≡ t →
-    lambda_after (before ++ line ∷ []) ≡ cond t (raised (end_of line (plain_of line) (place_after before))) (lambda_after before)
-lambda-push before line t e =
-    ap (fold (λ (lambda end : ℕ). end) 0) (gather-push tetras_end before line)
-    ∙ fold-append (λ (lambda end : ℕ). end) 0 (gather tetras_end [] before) (tetras_end before line)
-    ∙ on t e
-  where
-    on : (t : Bool) → places (plain_of line) ≡ t →
-        fold (λ (lambda end : ℕ). end) (lambda_after before) (tetras_end before line) ≡ cond t (raised (end_of line (plain_of line) (place_after before))) (lambda_after before)
-    on true e = rw e refl
-    on false e = rw e refl
-
 raised-fours : (a : ℕ) → raised a % 4 ≡ 0
 raised-fours a = omega arith
 
@@ -103,14 +89,14 @@ line-taken n labels before line octas ps big below size target h low m = on (pla
     with-bytes sp e =
         let done = bytes-taken n octas ps (lambda_after before) (place_of_line before line) (end_of line (plain_of line) (place_after before)) (bytes_of labels line (plain_of line) (place_of_line before line)) big h low m
         sp.are sp.some sp.ends (subst (λ k. k < 134217724) (place-push before line) end-is) in
-        rw (e, lambda-push before line true e) done
+        rw (lambda-push before line, e) done
 
     on : (t : Bool) → places (plain_of line) ≡ t →
         Taken n (items_of_line labels before line) (standing n octas (pages_of ps) (lambda_after before)) (ps ++ placements_of_line labels before line) (lambda_after (before ++ line ∷ []))
     on true e = with-bytes (spelt labels line (plain_of line) (place_after before) (plain-small line) target e) e
     on false e =
         let none : ps ++ placements_of_line labels before line ≡ ps = ap (λ bs. ps ++ from_place (place_of_line before line) bs) (silent labels line (plain_of line) (place_of_line before line) e) ∙ append-nil ps in
-        rw (e, none, lambda-push before line false e) (record { octas = octas; taken = refl; bytes = h; low = low; fours = m })
+        rw (lambda-push before line, e, none) (record { octas = octas; taken = refl; bytes = h; low = low; fours = m })
 
 -- ---- all lines
 

@@ -6,7 +6,7 @@ use Rattle.std.proofs.lemmas.List.Sums.{sum_by-append}
 use Rattle.std.proofs.lemmas.Bool.Decides.{nat_tests}
 use Rattle.mx_line.specs.Lines.{lines_of, without_empty_last, is_too_far}
 use Rattle.mx_line.specs.Pieces.{split}
-use Rattle.mx_top.proofs.Passes.{size_of, far-size}
+use Rattle.mx_top.proofs.MoreLines.{size_of, far-size}
 use Rattle.mx_top.specs.TwoPass.{Line, gather, faults_of_line, faults, stays_plain, source_too_long, not_built, refusal, refusal_among}
 
 -- ---- lines, byte by byte

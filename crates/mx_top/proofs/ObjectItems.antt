@@ -18,7 +18,8 @@ use Rattle.mx_top.specs.Whole.{lowered, covering, located, placing, places, lamb
 use Rattle.mx_top.proofs.Loads.{AreBytes, words-length}
 use Rattle.mx_top.proofs.Paddings.{padding, padding-length}
 use Rattle.mx_top.proofs.StatementBounds.{plain-small, numbers-short}
-use Rattle.mx_top.proofs.GoodLines.{Spelt, spelt, size_of}
+use Rattle.mx_top.proofs.MoreLines.{size_of}
+use Rattle.mx_top.proofs.GoodLines.{Spelt, spelt}
 use Rattle.mx_top.proofs.JoinedTetras.{tetra-small}
 use Rattle.mx_top.proofs.FairLines.{Fair, all-two, fair-lines, fair-start}
 

@@ -1,33 +1,28 @@
 -- One pass comes to what two passes come to.
-use Rattle.std.proofs.Common.{◌≡◌, ℕ, ◌+◌, ◌-◌, ◌^◌, List, [], ◌∷◌, ◌++◌, length, take, Bool, true, false, cond, nat_lt, nat_le, refl, sym, ◌∙◌, ap, arith, append_assoc, append-nil, Some, None, Ok, Err, unwrap_or, length-append}
-use Rattle.std.specs.Prelude.{Option, Result, find, fold, sum_by, not, ◌&&◌, ◌||◌, is_some}
-use Rattle.std.proofs.lemmas.List.Folds.{find-append}
-use Rattle.std.specs.Option.{option_or}
+use Rattle.std.proofs.Common.{◌≡◌, ℕ, ◌+◌, ◌^◌, List, [], ◌∷◌, ◌++◌, length, Bool, true, false, cond, nat_lt, nat_le, refl, sym, ◌∙◌, ap, arith, append_assoc, append-nil, Some, None, Ok, Err, unwrap_or, length-append}
+use Rattle.std.specs.Prelude.{Option, Result, not, ◌&&◌, ◌||◌, is_some}
 use Rattle.std.specs.Option.{option_map}
 use Rattle.std.specs.Str.{bytes_eq}
-use Rattle.std.proofs.lemmas.List.Sums.{fold-append, sum_by-append}
-use Rattle.std.proofs.Math.Seq.{take-length}
+use Rattle.std.proofs.lemmas.List.Sums.{fold-append}
 use Rattle.std.proofs.lemmas.Bool.Decides.{nat_tests}
-use Rattle.mx_line.specs.Lines.{is_too_far, size_up_to}
+use Rattle.mx_line.specs.Lines.{is_too_far}
 use Rattle.mx_line.specs.Plain.{plain_of, part}
 use Rattle.mx_line.specs.declared.spans.Span.{Span}
 use Rattle.mx_line.specs.declared.plain_lines.Plain.{Plain}
 use Rattle.mx_line.specs.declared.plain_lines.Plain.TheVariants.{Empty, Loc, Byte, Geta, Trap}
 use Rattle.mx_mmo.specs.declared.items.Item.{Item}
 use Rattle.mx_top.specs.TwoPass.{Line, gather, raised, start_of, end_of, place_after, place_of_line, label_span, name_of, labelled, labels_of, is_defined, value_in, is_near, geta_bytes, geta_to, bytes_of, main_name, is_new, reaches, has_target, stays_plain, faults_of_line, faults, last_line, refusal_among, main_undefined, source_too_long, not_built}
-use Rattle.mx_top.specs.Whole.{placing, places, tetras_end, lambda_after, items_of_line, items_of_lines, opening, closing, assembled_with, assembled}
+use Rattle.mx_top.specs.Whole.{placing, places, lambda_after, items_of_line, items_of_lines, opening, closing, assembled_with, assembled}
 use Rattle.mx_top.specs.OnePass.{Known, defined, joined, joined_after, reached, stated, counted, plain_taken, line_taken, taken_after, lines_taken, at_first, last_counted, started_at, finished, one_pass}
 use Rattle.mx_top.specs.declared.labels.Label.{Label}
 use Rattle.mx_top.proofs.Gather.{gather-append, gather-push}
+use Rattle.mx_top.proofs.MoreLines.{size_of, size-push, far-size, lambda-push, near-labels, none-of, last-true}
 
 -- ---- what is known after some lines
 
 -- the items, those of each line by the labels of the lines before
 abbrev early : List Line → List Item
 early lines = gather (λ before line. items_of_line (labels_of before) before line) [] lines
-
-abbrev pub size_of : List Line → ℕ
-size_of lines = sum_by length lines + length lines
 
 abbrev known_at : List Line → Known
 known_at lines = record {
@@ -130,17 +125,6 @@ stated-is k line (Trap label x y z) = placed-by k line label (raised k.at) (0 �
 same-known : (a b : Known) → a.at ≡ b.at → a.labels ≡ b.labels → a.items ≡ b.items → a.lambda ≡ b.lambda → a.size ≡ b.size → a.count ≡ b.count → a ≡ b
 same-known a b at labels items lambda size count = λ i. record { at = at i; labels = labels i; items = items i; lambda = lambda i; size = size i; count = count i }
 
--- lambda after one more line
-lambda-push : (before : List Line) (line : Line) → lambda_after (before ++ line ∷ []) ≡ cond (places (plain_of line)) (raised (end_of line (plain_of line) (place_after before))) (lambda_after before)
-lambda-push before line =
-    ap (fold (λ lambda end. end) 0) (gather-push tetras_end before line)
-    ∙ fold-append (λ lambda end. end) 0 (gather tetras_end [] before) (tetras_end before line)
-    ∙ last (places (plain_of line)) (lambda_after before) (raised (end_of line (plain_of line) (place_after before)))
-  where
-    last : (b : Bool) (lambda end : ℕ) → fold (λ lambda end. end) lambda (cond b (end ∷ []) []) ≡ cond b end lambda
-    last true lambda end = refl
-    last false lambda end = refl
-
 -- what is known after one more line
 known_at-push : (before : List Line) (line : Line) → known_at (before ++ line ∷ []) ≡ after_plain (counted (known_at before) line) line (plain_of line)
 known_at-push before line = same-known _ _
@@ -150,16 +134,6 @@ known_at-push before line = same-known _ _
     (lambda-push before line)
     (size-push before line)
     (length-append before (line ∷ []))
-  where
-    size-push : (before : List Line) (line : Line) → size_of (before ++ line ∷ []) ≡ size_of before + length line + 1
-    size-push before line = simp (sum_by-append, length-append) (omega arith)
-
--- the size that a line is too far by
-pub far-size : (before : List Line) (line : Line) → size_up_to (length before + 1) (before ++ line ∷ []) ≡ size_of before + length line
-far-size before line =
-    let whole : take (length before + 1) (before ++ line ∷ []) ≡ before ++ line ∷ [] =
-    ap (λ n. take n (before ++ line ∷ [])) (sym (length-append before (line ∷ []))) ∙ take-length (before ++ line ∷ []) in
-    ap (λ lines. sum_by length lines + (length before + 1 - 1)) whole ∙ simp sum_by-append (omega arith)
 
 plain-is : (k : Known) (line : Line) (plain : Option Plain) → plain_taken k line plain ≡ when (is_good k line plain) (after_plain (counted k line) line plain)
 plain-is k line None = refl
@@ -215,20 +189,6 @@ find-is_some (label ∷ labels) name = one (bytes_eq label.name name) label _ _ 
     one true label d r h = refl
     one false label d r h = h
 
--- a label among earlier ones is the same among all
-later-labels : (xs ys : List Label) (name : List ℕ) (value : ℕ) → value_in xs name ≡ Some value → value_in (xs ++ ys) name ≡ Some value
-later-labels xs ys name value h =
-    ap (option_map (λ (label : Label). label.value)) (find-append (λ (label : Label). bytes_eq label.name name) xs ys)
-    ∙ kept (find (λ (label : Label). bytes_eq label.name name) xs) (find (λ (label : Label). bytes_eq label.name name) ys) h
-  where
-    kept : (r s : Option Label) → option_map (λ (label : Label). label.value) r ≡ Some value → option_map (λ (label : Label). label.value) (option_or r s) ≡ Some value
-    kept None s h = absurd (cc)
-    kept (Some label) s h = h
-
-near-labels : (from : ℕ) (xs ys : List Label) (name : List ℕ) (to : Option ℕ) → value_in xs name ≡ to → reaches from to ≡ true → value_in (xs ++ ys) name ≡ to
-near-labels from xs ys name None e h = absurd (cc)
-near-labels from xs ys name (Some to) e h = later-labels xs ys name to e
-
 bytes-same : (xs ys : List Label) (line : Line) (plain : Option Plain) (from : ℕ) → has_target xs line plain from ≡ true → bytes_of (xs ++ ys) line plain from ≡ bytes_of xs line plain from
 bytes-same xs ys line None from h = refl
 bytes-same xs ys line (Some Empty) from h = refl
@@ -236,16 +196,6 @@ bytes-same xs ys line (Some (Loc address)) from h = refl
 bytes-same xs ys line (Some (Byte label numbers)) from h = refl
 bytes-same xs ys line (Some (Geta label reg target)) from h = ap (geta_to from reg) (near-labels from xs ys (part line target) (value_in xs (part line target)) refl h)
 bytes-same xs ys line (Some (Trap label x y z)) from h = refl
-
--- a line with no fault stays plain, and no fault follows
-none-of : (far plain : Bool) (number : ℕ) (later : List (ℕ × ℕ)) → cond far ((number, source_too_long) ∷ []) (cond plain [] ((number, not_built) ∷ [])) ++ later ≡ [] → (plain ≡ true) × (later ≡ [])
-none-of true plain number later h = absurd (cc)
-none-of false true number later h = (refl, h)
-none-of false false number later h = absurd (cc)
-
-last-true : (a b : Bool) → (a && b) ≡ true → b ≡ true
-last-true true b h = h
-last-true false b h = absurd (cc)
 
 -- the labels of the lines before serve as well as those of the whole source
 early-is : (lines before whole : List Line) → whole ≡ before ++ lines → gather faults_of_line before lines ≡ [] →
@@ -258,9 +208,9 @@ early-is (line ∷ lines) before whole e h =
     let labels : labels_of whole ≡ labels_of before ++ gather (λ before line. labelled (name_of line) (place_of_line before line)) before (line ∷ lines) =
     ap labels_of e ∙ gather-append (λ before line. labelled (name_of line) (place_of_line before line)) [] before (line ∷ lines) in
     let bytes : bytes_of (labels_of whole) line (plain_of line) at ≡ bytes_of (labels_of before) line (plain_of line) at =
-    ap (λ ls. bytes_of ls line (plain_of line) at) labels ∙ bytes-same (labels_of before) _ line (plain_of line) at (last-true _ _ none.0) in
+    ap (λ ls. bytes_of ls line (plain_of line) at) labels ∙ bytes-same (labels_of before) _ line (plain_of line) at (last-true _ _ none.1) in
     ap (λ bs. cond (places (plain_of line)) (placing (lambda_after before) at bs) [] ++ gather (items_of_line (labels_of whole)) (before ++ line ∷ []) lines) bytes
-    ∙ ap (λ items. items_of_line (labels_of before) before line ++ items) (early-is lines (before ++ line ∷ []) whole (e ∙ sym (append_assoc before (line ∷ []) lines)) none.1)
+    ∙ ap (λ items. items_of_line (labels_of before) before line ++ items) (early-is lines (before ++ line ∷ []) whole (e ∙ sym (append_assoc before (line ∷ []) lines)) none.2)
 
 -- ---- the law
 
