@@ -3,3 +3,7 @@ pub mod Groups
 pub mod Orders
 pub mod Spelt
 pub mod Law
+pub mod Kept
+pub mod Told
+pub mod Parts
+pub mod Steps
