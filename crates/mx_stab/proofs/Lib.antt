@@ -7,3 +7,4 @@ pub mod Kept
 pub mod Told
 pub mod Parts
 pub mod Steps
+pub mod Whole
