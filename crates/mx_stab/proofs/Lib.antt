@@ -8,3 +8,4 @@ pub mod Told
 pub mod Parts
 pub mod Steps
 pub mod Whole
+pub mod Sound

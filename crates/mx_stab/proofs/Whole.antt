@@ -1,13 +1,13 @@
 -- What is in the grammar is read.
-use Rattle.std.proofs.Common.{◌≡◌, ◌≢◌, ℕ, zero, suc, ◌+◌, ◌-◌, ◌*◌, ◌/◌, ◌%◌, ◌^◌, ◌≤◌, ◌<◌, ◌==◌, Bool, true, false, cond, ◌||◌, not, List, [], ◌∷◌, ◌++◌, length, take, drop, replicate, Option, Some, None, Ok, Err, arith, refl, sym, ap, ◌∙◌, subst, bytes_eq, append_assoc, append-nil, length-append}
-use Rattle.std.specs.Prelude.{nat_le, nat_lt, slice_index, ◌&&◌}
+use Rattle.std.proofs.Common.{◌≡◌, ◌≢◌, ℕ, zero, suc, ◌+◌, ◌-◌, ◌*◌, ◌/◌, ◌%◌, ◌^◌, ◌≤◌, ◌<◌, ◌==◌, Bool, true, false, cond, ◌||◌, not, List, [], ◌∷◌, ◌++◌, length, take, drop, replicate, Some, Ok, Err, arith, refl, sym, ap, ◌∙◌, subst, bytes_eq, append_assoc, append-nil, length-append}
+use Rattle.std.specs.Prelude.{nat_le, nat_lt}
 use Rattle.std.specs.List.{AllByRecursion}
 use Rattle.std.proofs.lemmas.Bool.{lt-leb, lt-ltb, le-ltb, le-leb, eqb-true}
 use Rattle.std.proofs.lemmas.Slice.Eq.{bytes_eq-Decides}
 use Rattle.mx_word.specs.declared.symbols.Symbol.{Symbol}
 use Rattle.mx_word.specs.declared.symbols.Value.{Value}
-use Rattle.mx_word.specs.declared.symbols.Value.TheVariants.{Pure, Reg}
-use Rattle.mx_stab.specs.Reading.{Reading, Answer, and_then, part_if, is_among, value_size, value_of, serial_behind, counted, symbol, has, has_character, spelled, character, node, next_subtrie, are_zeros, is_padding, finished, unread, read_of}
+use Rattle.mx_word.specs.declared.symbols.Value.TheVariants.{Pure}
+use Rattle.mx_stab.specs.Reading.{Reading, Answer, and_then, part_if, is_among, value_size, value_of, serial_behind, counted, symbol, has, has_character, character, node, next_subtrie, is_padding, finished, unread, read_of}
 use Rattle.mx_stab.specs.Grammar as grammar
 use Rattle.mx_stab.specs.Grammar.{AreBelow, AreDistinct, IsSubtrie, IsTrie, SpellsValue, SpellsSerial, behind, number}
 use Rattle.mx_stab.proofs.Parts.{next-node}
@@ -123,6 +123,7 @@ not-among (s ∷ found) new more d = one (bytes_eq new.name s.name) (λ e. apart
     apart : (found : List Symbol) → AllByRecursion (λ (t : Symbol). s.name ≢ t.name) (found ++ new ∷ more) → s.name ≡ new.name → ⊥
     apart [] h = h.0
     apart (t ∷ found) h = apart found h.1
+
     one : (b : Bool) → (b ≡ true → ⊥) → is_among new.name found ≡ false → (b || is_among new.name found) ≡ false
     one true h k = absurd (h refl)
     one false h k = k

@@ -3,7 +3,9 @@
 ghost use Rattle.std.specs.Prelude.{◌≡◌, ◌≢◌, ◌≤◌, ◌<◌, ◌+◌, ◌*◌, ◌^◌, [], ◌∷◌, ◌++◌, length, List, Err, Ok, Some, IfOk, OnOk, IfSome, IfNone, OnSome, drop, nat_le};
 ghost use Rattle.std.specs.Option.{option_map};
 ghost use Rattle.mx_word.specs.Results.{map_ok};
+ghost use Rattle.mx_word.specs.declared.symbols.Symbol.{Symbol};
 ghost use Rattle.mx_stab.specs.Grammar as grammar;
+ghost use Rattle.mx_stab.specs.Grammar.{IsTrie};
 ghost use Rattle.mx_stab.specs.Reading as spec;
 ghost use Rattle.mx_stab.specs.Due as notes;
 ghost use Rattle.mx_stab.specs.Due.{along, and_on, given, stepped, take_all, take_due, weight};
@@ -372,9 +374,9 @@ fn read_all<'a>(alloc: Global, bytes: &'a [u8]) -> Result<Reader<'a>, StabFault>
     Ok(reader)
 }
 
-/// The symbols of a trie, in its order.
-pub fn read(alloc: Global, bytes: &[u8]) -> Result<Symbols, StabFault>
-    ensures answer { result ≢ Err StabFault.OutOfMemory → result ≡ spec.read_of bytes.now }
+/// The symbols of a trie; no bytes tell none.
+fn symbols_of(alloc: Global, bytes: &[u8]) -> Result<Symbols, StabFault>
+    ensures { result ≢ Err StabFault.OutOfMemory → result ≡ spec.read_of bytes.now }
 {
     if bytes.is_empty() {
         return Ok(Symbols::new(alloc));
@@ -383,4 +385,20 @@ pub fn read(alloc: Global, bytes: &[u8]) -> Result<Symbols, StabFault>
         Ok(reader) => reader.finish(),
         Err(fault) => Err(fault),
     }
+}
+
+/// The symbols of a trie, in its order: first those of a left subtrie, then a node's own, then
+/// those of its middle and of its right subtrie. No bytes tell no symbols. It takes no more stack
+/// for a deeper trie, and notes no more than three parts for a byte.
+///
+/// Errors: the first fault that is met where the bytes are read from the left. A node is refused as
+/// `Wide` at its byte m, as `TooLong` at its character, and as `BadSerial` and then as `Twice` at the
+/// end of its serial number; a missing byte is `Truncated` at once, and what stands behind the trie
+/// is `Padding` last. Want of memory is `OutOfMemory`.
+pub fn read(alloc: Global, bytes: &[u8]) -> Result<Symbols, StabFault>
+    ensures answer { result ≢ Err StabFault.OutOfMemory → result ≡ spec.read_of bytes.now }
+    ensures grammar { IfOk result (λ symbols. IsTrie bytes.now symbols) }
+    ensures only { (symbols : List Symbol) → IsTrie bytes.now symbols → result ≢ Err StabFault.OutOfMemory → result ≡ Ok symbols }
+{
+    symbols_of(alloc, bytes)
 }

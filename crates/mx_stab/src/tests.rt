@@ -1,6 +1,8 @@
 //! Tries from outside.
 
-use crate::{StabFault, read, write, writing_is_the_grammar};
+use crate::{
+    StabFault, read, reading_is_the_grammar, what_is_written_is_read, write, writing_is_the_grammar,
+};
 use mx_word::{Bytes, NoMemory, Symbol, Symbols, Value};
 use std::alloc::Global;
 
@@ -22,13 +24,9 @@ fn is_read(alloc: Global, bytes: &[u8], of: &[(&[u8], Value, u32)]) -> bool {
     match read(alloc, bytes) {
         Ok(symbols) => {
             symbols.as_slice().len() == of.len()
-                && symbols
-                    .as_slice()
-                    .iter()
-                    .zip(of)
-                    .all(|(s, (name, value, serial))| {
-                        s.name.as_slice() == *name && s.value == *value && s.serial == *serial
-                    })
+                && symbols.as_slice().iter().zip(of).all(|(s, (name, value, serial))| {
+                    s.name.as_slice() == *name && s.value == *value && s.serial == *serial
+                })
         }
         Err(_) => false,
     }
@@ -48,6 +46,7 @@ fn is_written(alloc: Global, of: &[(&[u8], Value, u32)], want: &[u8]) -> bool {
 #[test]
 fn symbols_are_written(rt: HostRuntime) {
     writing_is_the_grammar();
+    what_is_written_is_read();
     let alloc = rt.alloc();
     assert!(rt; is_written(alloc, &[], b"",), "no symbols");
     assert!(rt;
@@ -161,6 +160,7 @@ fn faults_tell_their_number_and_place(rt: HostRuntime) {
 
 #[test]
 fn tries_are_read(rt: HostRuntime) {
+    reading_is_the_grammar();
     let alloc = rt.alloc();
     assert!(rt;
         is_read(
@@ -208,12 +208,16 @@ fn tries_are_read(rt: HostRuntime) {
         is_read(
             alloc,
             &[
-                0x29, 0x3a, 0x00, 0x80, 0x1e, 0x61, 0xff, 0xff, 0xff, 0xff, 0xff, 0xff, 0x83, 0x2f,
-                0x61, 0xff, 0x84, 0x00, 0x00, 0x00
+                0x29, 0x3a, 0x00, 0x80, 0x1e, 0x61, 0xff, 0xff, 0xff, 0xff, 0xff, 0xff, 0x83, 0x0f,
+                0x62, 0xff, 0x84
             ],
-            &[(b":", Value::Pure(0x2000000000000000), 0)],
-        ) == false,
-        "a name twice, and a middle subtrie that is cut off"
+            &[
+                (b":", Value::Pure(0x2000000000000000), 0),
+                (b":a", Value::Pure(0x2000ffffffffffff), 3),
+                (b":b", Value::Reg(255), 4)
+            ],
+        ),
+        "values from 2^61 on, and a register"
     );
 }
 
@@ -252,7 +256,11 @@ fn faults_are_met_in_their_order(rt: HostRuntime) {
             StabFault::BadSerial(4),
         ),
     ] {
-        assert!(rt; read(alloc, bytes).err() == Some(fault), "fault {}", fault.number());
+        assert!(rt;
+            read(alloc, bytes).err() == Some(fault),
+            "fault {}",
+            fault.number()
+        );
     }
 }
 
