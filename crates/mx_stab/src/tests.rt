@@ -219,6 +219,23 @@ fn tries_are_read(rt: HostRuntime) {
         ),
         "values from 2^61 on, and a register"
     );
+    assert!(rt;
+        is_read(
+            alloc,
+            &[
+                0x13, 0x61, 0x01, 0x02, 0x03, 0x81, 0x15, 0x62, 0x01, 0x02, 0x03, 0x04, 0x05, 0x82,
+                0x16, 0x63, 0x01, 0x02, 0x03, 0x04, 0x05, 0x06, 0x83, 0x07, 0x64, 0x01, 0x02, 0x03,
+                0x04, 0x05, 0x06, 0x07, 0x84
+            ],
+            &[
+                (b"a", Value::Pure(0x10203), 1),
+                (b"b", Value::Pure(0x102030405), 2),
+                (b"c", Value::Pure(0x10203040506), 3),
+                (b"d", Value::Pure(0x1020304050607), 4)
+            ],
+        ),
+        "values of three to seven bytes"
+    );
 }
 
 #[test]
