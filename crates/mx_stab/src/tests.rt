@@ -307,6 +307,10 @@ fn long_tries_are_read(rt: HostRuntime) {
         "left and right subtries"
     );
     assert!(rt;
+        of_many(alloc, &[0x70], 262140) == Some(StabFault::Truncated(262140)),
+        "subtries of every kind"
+    );
+    assert!(rt;
         of_many(alloc, &[0x20, 0x61], 1024) == Some(StabFault::Truncated(2048)),
         "a path of 1,024 bytes"
     );
