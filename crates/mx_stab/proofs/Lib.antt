@@ -9,3 +9,4 @@ pub mod Parts
 pub mod Steps
 pub mod Whole
 pub mod Sound
+pub mod Places

@@ -33,15 +33,15 @@ reads-if true part r s = r s
 reads-if false part r s = omega arith
 
 -- a serial number leaves less
-abbrev LeavesBehind : ℕ → Option (ℕ × List ℕ) → Type 0
+abbrev pub LeavesBehind : ℕ → Option (ℕ × List ℕ) → Type 0
 LeavesBehind n None = Unit {0}
 LeavesBehind n (Some (serial, more)) = length more ≤ n
 
-behind-more : (n m : ℕ) (r : Option (ℕ × List ℕ)) → n ≤ m → LeavesBehind n r → LeavesBehind m r
+pub behind-more : (n m : ℕ) (r : Option (ℕ × List ℕ)) → n ≤ m → LeavesBehind n r → LeavesBehind m r
 behind-more n m None l h = tt
 behind-more n m (Some (serial, more)) l h = omega (arith, l, h)
 
-serial-leaves : (x : ℕ) (bytes : List ℕ) → LeavesBehind (length bytes) (serial_behind x bytes)
+pub serial-leaves : (x : ℕ) (bytes : List ℕ) → LeavesBehind (length bytes) (serial_behind x bytes)
 serial-leaves x [] = tt
 serial-leaves x (b ∷ more) = one (nat_lt b 128) (serial-leaves (x * 128 + b) more)
   where

@@ -1,9 +1,10 @@
 //! The symbols of a trie.
 
-ghost use Rattle.std.specs.Prelude.{◌≡◌, ◌≢◌, ◌≤◌, ◌<◌, ◌+◌, ◌*◌, ◌^◌, [], ◌∷◌, ◌++◌, length, List, Err, Ok, Some, IfOk, OnOk, IfSome, IfNone, OnSome, drop, nat_le};
+ghost use Rattle.std.specs.Prelude.{◌≡◌, ◌≢◌, ◌≤◌, ◌<◌, ◌+◌, ◌*◌, ◌^◌, [], ◌∷◌, ◌++◌, length, List, Err, Ok, Some, IfErr, IfOk, OnOk, IfSome, IfNone, OnSome, drop, nat_le};
 ghost use Rattle.std.specs.Option.{option_map};
 ghost use Rattle.mx_word.specs.Results.{map_ok};
 ghost use Rattle.mx_word.specs.declared.symbols.Symbol.{Symbol};
+ghost use Rattle.mx_stab.specs.Faults.{IsPlaced};
 ghost use Rattle.mx_stab.specs.Grammar as grammar;
 ghost use Rattle.mx_stab.specs.Grammar.{IsTrie};
 ghost use Rattle.mx_stab.specs.Reading as spec;
@@ -394,10 +395,12 @@ fn symbols_of(alloc: Global, bytes: &[u8]) -> Result<Symbols, StabFault>
 /// Errors: the first fault that is met where the bytes are read from the left. A node is refused as
 /// `Wide` at its byte m, as `TooLong` at its character, and as `BadSerial` and then as `Twice` at the
 /// end of its serial number; a missing byte is `Truncated` at once, and what stands behind the trie
-/// is `Padding` last. Want of memory is `OutOfMemory`.
+/// is `Padding` last. The place of a missing byte is the length, and every other place is that of a
+/// byte. Want of memory is `OutOfMemory`.
 pub fn read(alloc: Global, bytes: &[u8]) -> Result<Symbols, StabFault>
     ensures answer { result ≢ Err StabFault.OutOfMemory → result ≡ spec.read_of bytes.now }
     ensures grammar { IfOk result (λ symbols. IsTrie bytes.now symbols) }
+    ensures places { IfErr result (IsPlaced (length bytes.now)) }
     ensures only { (symbols : List Symbol) → IsTrie bytes.now symbols → result ≢ Err StabFault.OutOfMemory → result ≡ Ok symbols }
 {
     symbols_of(alloc, bytes)
