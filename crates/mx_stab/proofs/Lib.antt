@@ -3,3 +3,10 @@ pub mod Groups
 pub mod Orders
 pub mod Spelt
 pub mod Law
+pub mod Kept
+pub mod Told
+pub mod Parts
+pub mod Steps
+pub mod Whole
+pub mod Sound
+pub mod Places

@@ -1,5 +1,5 @@
 -- The numbers and places of the faults of symbol tries.
-use Rattle.std.specs.Prelude.{ℕ, Option, Some, None}
+use Rattle.std.specs.Prelude.{◌≡◌, ℕ, ◌<◌, Option, Some, None}
 use Rattle.mx_stab.specs.declared.faults.StabFault.{StabFault}
 use Rattle.mx_stab.specs.declared.faults.StabFault.TheVariants.{Truncated, Padding, Wide, Twice, TooLong, BadSerial, OutOfMemory}
 
@@ -22,3 +22,13 @@ place_of (Twice place) = Some place
 place_of (TooLong place) = Some place
 place_of (BadSerial place) = Some place
 place_of OutOfMemory = None
+
+-- a missing byte is missed at the length, and every other fault stands at a byte
+abbrev pub IsPlaced : ℕ → StabFault → Type 0
+IsPlaced length (Truncated place) = place ≡ length
+IsPlaced length (Padding place) = place < length
+IsPlaced length (Wide place) = place < length
+IsPlaced length (Twice place) = place < length
+IsPlaced length (TooLong place) = place < length
+IsPlaced length (BadSerial place) = place < length
+IsPlaced length OutOfMemory = Unit {0}

@@ -5,3 +5,5 @@ pub mod Numbers
 pub mod Trie
 pub mod Writing
 pub mod Order
+pub mod Reading
+pub mod Due

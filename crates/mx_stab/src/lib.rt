@@ -7,12 +7,15 @@
 #![tactic(auto)]
 
 mod faults;
+mod found;
 mod laws;
 mod numbers;
+mod reading;
 #[cfg(test)]
 mod tests;
 mod writing;
 
 pub use faults::StabFault;
-pub use laws::writing_is_the_grammar;
+pub use laws::{reading_is_the_grammar, what_is_written_is_read, writing_is_the_grammar};
+pub use reading::read;
 pub use writing::write;
