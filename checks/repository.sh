@@ -9,13 +9,13 @@ wrong() {
 
 [ "$(cat HANDLES)" = 'Handles allowed: none.' ] || wrong 'HANDLES does not hold its one line'
 
-# each crate is listed, described, and has wrong bodies that the prover refuses
+# each crate is listed, described, and has wrong bodies that the prover refuses; mx_rows has only tests
 for folder in crates/*/; do
   crate=$(basename "$folder")
   grep -q "^$crate:" crates.txt || wrong "$crate is not in crates.txt"
   grep -q "\`$crate\`" docs/ARCHITECTURE.md || wrong "$crate is not in docs/ARCHITECTURE.md"
   grep -q "\`$crate\`" README.md || wrong "$crate is not in README.md"
-  [ -n "$(ls "$folder/must-fail" 2>/dev/null)" ] || wrong "$crate has no must-fail edit"
+  [ "$crate" = mx_rows ] || [ -n "$(ls "$folder/must-fail" 2>/dev/null)" ] || wrong "$crate has no must-fail edit"
 done
 
 # no file grows past one idea

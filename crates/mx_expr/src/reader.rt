@@ -8,10 +8,10 @@ ghost use Rattle.mx_expr.specs.Reading as spec;
 ghost use Rattle.mx_expr.specs.Machine.{all_waiting, mode_of, waiting_of, reading_of, listing_of};
 
 use crate::joining::{settle, sum};
-use crate::kinds::{digit_value, is_digit, is_hexadecimal, is_letter, is_word};
+use crate::kinds::digit_value;
 use crate::waiting::{Stack, Waiting};
 use crate::{BinOp, Expr, ExprFault, Exprs, UnOp};
-use mx_word::Bytes;
+use mx_word::{Bytes, is_digit, is_hexadecimal, is_letter, is_word};
 use std::alloc::Global;
 
 /// Where reading stands, with the expression or the token that is being read.

@@ -2,11 +2,8 @@
 use Rattle.std.specs.Prelude.{ℕ, ◌+◌, ◌-◌, ◌*◌, List, [], ◌∷◌, length, take, drop, map, Bool, ◌==◌, ◌&&◌, ◌||◌, nat_le, nat_lt, if◌then◌else◌, Option, None, Some, is_some, unwrap_or, fold, codes}
 use Rattle.std.specs.List.{list_all}
 use Rattle.std.specs.Str.{bytes_eq}
-use Rattle.mx_line.specs.Bytes.{is_digit}
+pub use Rattle.mx_word.specs.Kinds.{is_digit, is_hexadecimal}
 use Rattle.mx_line.specs.Pieces.{split}
-
-abbrev pub is_hexadecimal : ℕ → Bool
-is_hexadecimal b = is_digit b || (nat_le 97 b && nat_le b 102) || (nat_le 65 b && nat_le b 70)
 
 -- what a digit counts: `a` to `f` and `A` to `F` count 10 to 15, and another byte counts 0
 abbrev pub digit_value : ℕ → ℕ

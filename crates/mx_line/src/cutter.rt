@@ -6,8 +6,9 @@ ghost use Rattle.mx_line.specs.Fields.{field_length};
 ghost use Rattle.mx_line.specs.Statements.{Found, StatementOf, Statements};
 
 use crate::fields::{ends_here, field_length};
-use crate::kinds::{blanks, is_blank, is_digit, is_word, word};
+use crate::kinds::{blanks, is_blank, word};
 use crate::{LineFault, Span};
+use mx_word::{is_digit, is_word};
 
 /// A statement, as the places of its fields in the line, and the place where the next statement
 /// begins, or the line's length.

@@ -1,31 +1,14 @@
-//! The kinds of bytes of the source language (MMIXAL, format of lines: MMIXware, LNCS 1750).
+//! Runs of bytes of a kind (MMIXAL, format of lines: MMIXware, LNCS 1750).
 
 ghost use Rattle.std.specs.Prelude.{◌≡◌, ◌+◌, length};
 ghost use Rattle.mx_line.specs.Bytes as spec;
+
+use mx_word::is_word;
 
 pub fn is_blank(b: u8) -> bool
     ensures { result ≡ spec.is_blank b }
 {
     b == 9 || b == 11 || b == 12 || b == 13 || b == 32
-}
-
-pub fn is_digit(b: u8) -> bool
-    ensures { result ≡ spec.is_digit b }
-{
-    48 <= b && b <= 57
-}
-
-fn is_letter(b: u8) -> bool
-    ensures { result ≡ spec.is_letter b }
-{
-    (65 <= b && b <= 90) || (97 <= b && b <= 122) || b == 58 || b == 95 || b > 126
-}
-
-/// Whether a byte is a letter or a digit.
-pub fn is_word(b: u8) -> bool
-    ensures { result ≡ spec.is_word b }
-{
-    is_letter(b) || is_digit(b)
 }
 
 fn blank_count(text: &[u8]) -> usize

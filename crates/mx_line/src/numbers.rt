@@ -6,14 +6,8 @@ ghost use Rattle.std.specs.Option.{option_map};
 ghost use Rattle.mx_line.specs.Bytes.{is_digit};
 ghost use Rattle.mx_line.specs.Numbers as spec;
 
-use crate::kinds::is_digit;
 use crate::pieces::cut;
-
-fn is_hexadecimal(b: u8) -> bool
-    ensures { result ≡ spec.is_hexadecimal b }
-{
-    is_digit(b) || (97 <= b && b <= 102) || (65 <= b && b <= 70)
-}
+use mx_word::{is_digit, is_hexadecimal};
 
 /// What a digit counts.
 fn digit_value(b: u8) -> u8

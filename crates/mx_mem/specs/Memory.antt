@@ -1,6 +1,7 @@
 -- Memory as contracts see it: the octas by their addresses, and the pages that are there.
 use Rattle.std.specs.Prelude.{ℕ, ◌-◌, ◌*◌, ◌/◌, ◌%◌, ◌^◌, Bool, true, ◌==◌, ◌&&◌, not, nat_lt, if◌then◌else◌, List, length, Option, None, Some, unwrap_or, bit_xor, ◌≡◌, ◌≢◌, ◌≤◌, ◌<◌}
 use Rattle.std.specs.List.{list_any}
+pub use Rattle.mx_word.specs.Octas.{byte_of, byte_in, in_half, joined, with_page}
 use Rattle.std.specs.Map.{lookup}
 use Rattle.std.specs.Ordering.{nat_cmp}
 use Rattle.std.specs.BTreeMap.{is_at}
@@ -15,14 +16,7 @@ pub record Stored : Type 0 where
 unfoldable pub octa_at : Stored → ℕ → ℕ
 octa_at m a = unwrap_or (lookup (is_at (nat_cmp (a / 8))) m.octas) 0
 
--- the byte of an address in the octa that holds it: the eight bytes of an octa stand from its high end
-abbrev pub byte_of : ℕ → ℕ → ℕ
-byte_of x a = x / 2 ^ (8 * (7 - a % 8)) % 256
-
--- the byte at an address, by the octas at all addresses
-abbrev pub byte_in : (ℕ → ℕ) → ℕ → ℕ
-byte_in octas a = byte_of (octas a) a
-
+-- the byte at an address
 abbrev pub byte_at : Stored → ℕ → ℕ
 byte_at m a = byte_in (octa_at m) a
 
@@ -38,10 +32,6 @@ page_count m = length m.pages
 abbrev pub is_refused : Stored → ℕ → Bool
 is_refused m p = not (has_page m p) && page_count m == 65536
 
--- the pages with one more
-abbrev pub with_page : (ℕ → Bool) → ℕ → ℕ → Bool
-with_page pages p q = if q == p then true else pages q
-
 -- the octas, with another in place of the one that holds an address
 abbrev pub stored_at : (ℕ → ℕ) → ℕ → ℕ → ℕ → ℕ
 stored_at octas a x q = if q / 8 == a / 8 then x else octas q
@@ -49,14 +39,6 @@ stored_at octas a x q = if q / 8 == a / 8 then x else octas q
 -- the bytes, with those of an octa in place of the octa that holds an address
 abbrev pub stored_bytes : (ℕ → ℕ) → ℕ → ℕ → ℕ → ℕ
 stored_bytes bytes a x q = if q / 8 == a / 8 then byte_of x q else bytes q
-
--- a tetra in the half of its octa where the address lies
-abbrev pub in_half : ℕ → ℕ → ℕ
-in_half a t = if nat_lt (a % 8) 4 then t * 2 ^ 32 else t
-
--- the octas, with a tetra joined bit by bit to the tetra that holds an address
-abbrev pub joined : (ℕ → ℕ) → ℕ → ℕ → ℕ → ℕ
-joined octas a t q = if q / 8 == a / 8 then bit_xor (octas q) (in_half a t) else octas q
 
 -- what a tetra at the multiple of 4 at or below a has at the address q; 0 elsewhere
 abbrev pub tetra_byte : ℕ → ℕ → ℕ → ℕ

@@ -1,5 +1,6 @@
 -- What a list of items means, item by item.
 use Rattle.std.specs.Prelude.{ℕ, ◌+◌, ◌-◌, ◌*◌, ◌/◌, ◌%◌, ◌^◌, ◌==◌, ◌&&◌, Bool, true, false, not, nat_le, List, [], ◌∷◌, Option, Some, None, Result, Ok, Err, slice_index, bit_xor, if◌then◌else◌}
+pub use Rattle.mx_word.specs.Octas.{joined, with_page}
 use Rattle.mx_mmo.specs.Image.{Image}
 use Rattle.mx_mmo.specs.declared.items.Item.{Item}
 use Rattle.mx_mmo.specs.declared.items.Item.TheVariants.{Load, Loc, Skip, FixOcta, FixNear, FixFar, File, Line, Spec, Pre, Post, Stab}
@@ -29,17 +30,6 @@ nothing = record {
   selected = false;
   named = λ n. false;
 }
-
--- the tetra that holds an address, as the octa's part that it is
-abbrev pub in_octa : ℕ → ℕ → ℕ
-in_octa a t = if a / 4 % 2 == 0 then t * 2 ^ 32 else t
-
--- memory with a tetra joined by exclusive or to the one that holds an address
-abbrev pub joined : (ℕ → ℕ) → ℕ → ℕ → ℕ → ℕ
-joined memory a t q = if q / 8 == a / 8 then bit_xor (memory q) (in_octa a t) else memory q
-
-abbrev pub with_page : (ℕ → Bool) → ℕ → ℕ → Bool
-with_page pages page p = if p == page then true else pages p
 
 -- a page that stands already is not counted again, and there are at most 65,536
 abbrev pub paged : Image → ℕ → Result Image Meaningless

@@ -6,10 +6,10 @@ use Rattle.std.proofs.lemmas.Grind.{common_steps}
 use Rattle.std.proofs.lemmas.Bool.Decides.{nat_tests}
 use Rattle.std.proofs.lemmas.Bool.{cases_eq, cases_lt}
 use Rattle.mx_word.specs.Words.{tetra_from_bytes}
-use Rattle.mx_mem.specs.Memory.{byte_in, tetra_byte, joined as octas_joined, in_half}
+use Rattle.mx_mem.specs.Memory.{byte_in, tetra_byte}
 use Rattle.mx_mem.proofs.Joins.{byte_in-joined}
-use Rattle.mx_mmo.specs.Meaning.{joined, in_octa}
-use Rattle.mx_top.specs.Memory.{placed, from_place}
+use Rattle.mx_mmo.specs.Meaning.{joined}
+use Rattle.mx_top.specs.Placements.{placed, from_place}
 
 -- the four bytes of a tetra, by their places
 abbrev pub pick : ℕ → ℕ → ℕ → ℕ → ℕ → ℕ
@@ -30,13 +30,6 @@ digit a b c d t (suc zero) la lb lc ld e l = omega arith
 digit a b c d t (suc (suc zero)) la lb lc ld e l = omega arith
 digit a b c d t (suc (suc (suc zero))) la lb lc ld e l = omega arith
 digit a b c d t (suc (suc (suc (suc i)))) la lb lc ld e l = absurd (omega arith)
-
--- the same octas in other words
-in-octa-is : (a t : ℕ) → in_octa a t ≡ in_half a t
-in-octa-is a t = grind (arith, common_steps)
-
-joined-is : (f : ℕ → ℕ) (a t : ℕ) → joined f a t ≡ octas_joined f a t
-joined-is f a t = λ i q. cond (q / 8 == a / 8) (bit_xor (f q) (in-octa-is a t i)) (f q)
 
 -- a tetra's byte at an address in it, and at an address outside it
 tetra-inside : (a b c d x q : ℕ) → a < 256 → b < 256 → c < 256 → d < 256 → q / 4 ≡ x / 4 →
@@ -117,6 +110,5 @@ pub joined-placed : (f : ℕ → ℕ) (x a b c d q : ℕ) → x % 4 ≡ 0 → a 
     byte_in (joined f x (tetra_from_bytes (a ∷ b ∷ c ∷ d ∷ []))) q ≡ bit_xor (byte_in f q) (placed (four x a b c d) q)
 joined-placed f x a b c d q m la lb lc ld =
     let t = tetra_from_bytes (a ∷ b ∷ c ∷ d ∷ []) in
-    ap (λ (g : ℕ → ℕ). byte_in g q) (joined-is f x t)
-    ∙ ap (λ (g : ℕ → ℕ). g q) (byte_in-joined f x t (tetra-small a b c d la lb lc ld))
+    ap (λ (g : ℕ → ℕ). g q) (byte_in-joined f x t (tetra-small a b c d la lb lc ld))
     ∙ ap (bit_xor (byte_in f q)) (tetra-placed x a b c d q m la lb lc ld)

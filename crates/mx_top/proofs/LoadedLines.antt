@@ -9,7 +9,7 @@ use Rattle.mx_line.specs.Plain.{plain_of}
 use Rattle.mx_mmo.specs.Meaning.{Loading, Meaningless, nothing, take_items, image_in, meaning, value_at}
 use Rattle.mx_mmo.specs.declared.items.Item.{Item}
 use Rattle.mx_top.specs.Image.{Image, of_object, pages_of, pages_below}
-use Rattle.mx_top.specs.Memory.{placed, from_place}
+use Rattle.mx_top.specs.Placements.{placed, from_place}
 use Rattle.mx_top.specs.TwoPass.{Line, gather, raised, end_of, place_after, place_of_line, name_of, labelled, labels_of, bytes_of, placements_of_line, placements, main_of, has_target, faults_of_line, faults, refusal_among, refusal, image}
 use Rattle.mx_top.specs.Whole.{placing, places, lambda_after, items_of_line, items_of_lines, closing, whole}
 use Rattle.mx_top.specs.declared.labels.Label.{Label}

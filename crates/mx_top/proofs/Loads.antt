@@ -9,7 +9,7 @@ use Rattle.mx_mmo.specs.Meaning.{Loading, joined, is_below, with_page, take_item
 use Rattle.mx_mmo.specs.Reading.{words_of}
 use Rattle.mx_mmo.specs.declared.items.Item.TheVariants.{Load}
 use Rattle.mx_top.specs.Image.{pages_of, pages_below}
-use Rattle.mx_top.specs.Memory.{placed, from_place}
+use Rattle.mx_top.specs.Placements.{placed, from_place}
 use Rattle.mx_top.proofs.Placed.{placed-append}
 use Rattle.mx_top.proofs.JoinedTetras.{joined-placed, four}
 use Rattle.mx_top.proofs.PageCounts.{IsLow, page-low, paged-is}

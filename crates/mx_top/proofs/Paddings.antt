@@ -9,7 +9,7 @@ use Rattle.mx_mmo.specs.Meaning.{Loading, Meaningless, take_item, take_items}
 use Rattle.mx_mmo.specs.declared.items.Item.{Item}
 use Rattle.mx_mmo.specs.declared.items.Item.TheVariants.{Load, Loc}
 use Rattle.mx_top.specs.Image.{pages_of}
-use Rattle.mx_top.specs.Memory.{placed, from_place}
+use Rattle.mx_top.specs.Placements.{placed, from_place}
 use Rattle.mx_top.specs.TwoPass.{raised}
 use Rattle.mx_top.specs.Whole.{lowered, zeros_after, covering, located, placing}
 use Rattle.mx_top.proofs.Placed.{placed-append}

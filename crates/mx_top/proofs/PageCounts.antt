@@ -6,7 +6,7 @@ use Rattle.std.proofs.lemmas.Bool.{cases_eq, cases_lt}
 use Rattle.mx_mmo.specs.Meaning.{with_page, paged}
 use Rattle.mx_mmo.specs.Image.{Image as ObjectImage}
 use Rattle.mx_top.specs.Image.{pages_of, pages_below}
-use Rattle.mx_top.specs.Memory.{from_place}
+use Rattle.mx_top.specs.Placements.{from_place}
 
 -- no page from a number on
 abbrev pub IsLow : ℕ → (ℕ → Bool) → Type 0

@@ -2,7 +2,7 @@
 use Rattle.std.proofs.Common.{◌≡◌, ℕ, List, [], ◌∷◌, ◌++◌, Bool, true, false, cond, sym, bit_xor}
 use Rattle.std.specs.Prelude.{◌==◌}
 use Rattle.std.specs.Int.Bits.{xor_assoc, xor_zero_l}
-use Rattle.mx_top.specs.Memory.{placed}
+use Rattle.mx_top.specs.Placements.{placed}
 
 pub placed-append : (ps qs : List (ℕ × ℕ)) (a : ℕ) → placed (ps ++ qs) a ≡ bit_xor (placed ps a) (placed qs a)
 placed-append [] qs a = sym (xor_zero_l (placed qs a))

@@ -6,7 +6,7 @@ pub mod Held
 pub mod Image
 pub mod ListMachine
 pub mod Lists
-pub mod Memory
+pub mod Placements
 pub mod Messages
 pub mod Names
 pub mod Objects

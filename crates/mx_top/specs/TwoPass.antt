@@ -12,7 +12,7 @@ use Rattle.mx_line.specs.declared.plain_lines.Plain.{Plain}
 use Rattle.mx_line.specs.declared.plain_lines.Plain.TheVariants.{Empty, Loc, Byte, Geta, Trap}
 use Rattle.mx_mmo.specs.Meaning.{value_at}
 use Rattle.mx_top.specs.Image.{Image, pages_of, pages_in}
-use Rattle.mx_top.specs.Memory.{placed, from_place}
+use Rattle.mx_top.specs.Placements.{placed, from_place}
 use Rattle.mx_top.specs.declared.labels.Label.{Label}
 
 abbrev pub Line : Type 0

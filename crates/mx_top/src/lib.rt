@@ -11,19 +11,13 @@ mod laws;
 mod machine;
 mod message;
 mod names;
-#[cfg(test)]
-mod object_tests;
 mod objects;
 mod outcome;
 mod pool;
-#[cfg(test)]
-mod pool_tests;
 mod registers;
 mod run;
 mod searches;
 mod source;
-#[cfg(test)]
-mod tests;
 mod tetras;
 mod texts;
 mod top;

@@ -1,3 +1,5 @@
+pub mod Kinds
 pub mod Lists
+pub mod Octas
 pub mod Results
 pub mod Words

@@ -5,6 +5,7 @@
 #![tactic(auto)]
 
 mod bytes;
+mod kinds;
 mod memory;
 mod symbols;
 #[cfg(test)]
@@ -13,6 +14,7 @@ mod waits;
 mod words;
 
 pub use bytes::Bytes;
+pub use kinds::{is_digit, is_hexadecimal, is_letter, is_word};
 pub use memory::NoMemory;
 pub use symbols::{Symbol, Symbols, Value};
 pub use waits::{Awaited, Wait, WaitKind, Waits};

@@ -1,8 +1,9 @@
 //! Values from outside.
 
 use crate::{
-    Awaited, Bytes, NoMemory, Symbol, Symbols, Value, Wait, WaitKind, Waits, octa_bytes, octa_of,
-    product, quotient, signed, tetra_bytes, tetra_of,
+    Awaited, Bytes, NoMemory, Symbol, Symbols, Value, Wait, WaitKind, Waits, is_digit,
+    is_hexadecimal, is_letter, is_word, octa_bytes, octa_of, product, quotient, signed,
+    tetra_bytes, tetra_of,
 };
 use std::alloc::Global;
 
@@ -30,6 +31,39 @@ fn products_and_quotients(rt: HostRuntime) {
         (5, 7, 11, Some((8_384_883_669_867_978_007, 10))),
     ] {
         assert_eq!(rt; quotient(d, y, z), want, "{d} and {y} by {z}");
+    }
+}
+
+#[test]
+fn kinds_of_bytes(rt: HostRuntime) {
+    // a byte, and whether it is a digit, a hexadecimal digit, a letter, a letter or a digit
+    for (byte, digit, hexadecimal, letter, word) in [
+        (b'/', false, false, false, false),
+        (b'0', true, true, false, true),
+        (b'9', true, true, false, true),
+        (b':', false, false, true, true),
+        (b'@', false, false, false, false),
+        (b'F', false, true, true, true),
+        (b'G', false, false, true, true),
+        (b'[', false, false, false, false),
+        (b'_', false, false, true, true),
+        (b'f', false, true, true, true),
+        (b'g', false, false, true, true),
+        (b'{', false, false, false, false),
+        (126, false, false, false, false),
+        (127, false, false, true, true),
+        (255, false, false, true, true),
+    ] {
+        assert_eq!(rt;
+            (
+                is_digit(byte),
+                is_hexadecimal(byte),
+                is_letter(byte),
+                is_word(byte)
+            ),
+            (digit, hexadecimal, letter, word),
+            "byte {byte}"
+        );
     }
 }
 

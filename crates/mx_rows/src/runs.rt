@@ -1,12 +1,10 @@
 //! Whole runs over a host in memory.
 
-use crate::assemble::assemble;
-use crate::{
+use mx_host::MemHost;
+use mx_top::{
     Outcome, WordsFault, fault_name, front_decides, items_mean_the_image, mmixware,
     objects_hold_the_image, objects_run_as_their_sources, usage_name,
 };
-use mx_host::MemHost;
-use mx_mmo::Item;
 use std::alloc::Global;
 use std::test::Fail;
 
@@ -115,30 +113,6 @@ fn runs(rt: HostRuntime) -> Result<(), Fail> {
         b" LOC #100\nText BYTE 66,0\n LOC #40100\nMain GETA $255,Text\n TRAP 0,7,1\n TRAP 0,0,0";
     assert!(rt; gives(alloc, far, &[], done(1, b"B"))?);
     Ok(())
-}
-
-#[test]
-fn the_first_items(rt: HostRuntime) {
-    let Ok(items) = assemble(rt.alloc(), FIRST) else {
-        assert!(rt; false, "the first program is refused");
-        return;
-    };
-    let [
-        Item::Pre(time),
-        Item::Loc(0x100),
-        Item::Load(0x6869_0a00),
-        Item::Load(0xf5ff_ffff),
-        Item::Load(0x0000_0701),
-        Item::Load(0),
-        Item::Post { g: 255, values },
-        Item::Stab,
-    ] = items.as_slice()
-    else {
-        assert!(rt; false, "the first program has other items");
-        return;
-    };
-    assert!(rt; time.as_slice() == [0].as_slice());
-    assert!(rt; values.as_slice() == [0x104].as_slice());
 }
 
 #[test]

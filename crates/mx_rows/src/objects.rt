@@ -1,9 +1,9 @@
 //! Objects that are written and run, over a host in memory. The tetras of the objects were put
 //! together by hand from the table of the format.
 
-use crate::tests::{FIRST, words};
-use crate::{Outcome, mmixware};
+use crate::runs::{FIRST, words};
 use mx_host::MemHost;
+use mx_top::{Outcome, mmixware};
 use std::alloc::Global;
 use std::test::Fail;
 
@@ -200,26 +200,42 @@ fn bad_objects(rt: HostRuntime) -> Result<(), Fail> {
     Ok(())
 }
 
+/// An object in the pool segment that prints argument 0.
+const PRINTING: [u32; 12] = [
+    0x9809_0101,
+    0,
+    0x9801_4001,
+    0x0000_0100,
+    0xf5ff_ffc6,
+    0x0000_0701,
+    0x0000_0000,
+    0x980a_00ff,
+    0x4000_0000,
+    0x0000_0100,
+    0x980b_0000,
+    0x980c_0000,
+];
+
 #[test]
 fn the_argument_stands_in_the_pool(rt: HostRuntime) -> Result<(), Fail> {
     let alloc = rt.alloc();
-    // a program in the pool segment prints argument 0, the name without `.mmo`
-    let printing = [
-        0x9809_0101,
-        0,
-        0x9801_4001,
-        0x0000_0100,
-        0xf5ff_ffc6,
-        0x0000_0701,
-        0x0000_0000,
-        0x980a_00ff,
-        0x4000_0000,
-        0x0000_0100,
-        0x980b_0000,
-        0x980c_0000,
+    // a last `.mms` or `.mmo` is cut off, and nothing else
+    let cases: [(&str, &[u8]); 6] = [
+        ("b.mmo", b"b"),
+        ("b.mms", b"b"),
+        ("b.mmx", b"b.mmx"),
+        ("d.mms.mmo", b"d.mms"),
+        (".mms", b""),
+        ("mmo", b"mmo"),
     ];
-    let object = bytes(alloc, &printing, b"")?;
-    assert!(rt; sim(alloc, object, &[], (Outcome::Done(1), b"a", b""))?);
+    for (word, argument) in cases {
+        let mut host = host(alloc, Vec::new(alloc), &[])?;
+        host.put_file(word.as_bytes(), bytes(alloc, &PRINTING, b"")?)?;
+        let words = words(alloc, &["sim", word])?;
+        let outcome = mmixware(alloc, words.as_slice(), &mut host);
+        assert_eq!(rt; outcome, Outcome::Done(argument.len() as u8));
+        assert!(rt; host.output() == argument);
+    }
     // the zero octa behind the pointers replaces what the object has there; 0 halts
     let replaced = [
         0x9809_0101,

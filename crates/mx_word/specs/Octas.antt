@@ -1,0 +1,22 @@
+-- Memory octa by octa: each address gives the octa that holds it. Octas, tetras and bytes stand from the high end.
+use Rattle.std.specs.Prelude.{ℕ, ◌-◌, ◌*◌, ◌/◌, ◌%◌, ◌^◌, Bool, true, ◌==◌, nat_lt, if◌then◌else◌, bit_xor}
+
+-- the byte of an address in the octa that holds it
+abbrev pub byte_of : ℕ → ℕ → ℕ
+byte_of x a = x / 2 ^ (8 * (7 - a % 8)) % 256
+
+-- the byte at an address
+abbrev pub byte_in : (ℕ → ℕ) → ℕ → ℕ
+byte_in octas a = byte_of (octas a) a
+
+-- a tetra in the half of its octa where the address lies
+abbrev pub in_half : ℕ → ℕ → ℕ
+in_half a t = if nat_lt (a % 8) 4 then t * 2 ^ 32 else t
+
+-- the octas, with a tetra joined bit by bit to the tetra that holds an address
+abbrev pub joined : (ℕ → ℕ) → ℕ → ℕ → ℕ → ℕ
+joined octas a t q = if q / 8 == a / 8 then bit_xor (octas q) (in_half a t) else octas q
+
+-- the pages with one more
+abbrev pub with_page : (ℕ → Bool) → ℕ → ℕ → Bool
+with_page pages p q = if q == p then true else pages q
