@@ -3,7 +3,8 @@
 use mx_host::MemHost;
 use mx_top::{
     Outcome, WordsFault, fault_name, front_decides, items_mean_the_image, mmixware,
-    objects_hold_the_image, objects_run_as_their_sources, usage_name,
+    objects_are_loaded_as_they_mean, objects_hold_the_image, objects_run_as_their_sources,
+    usage_name,
 };
 use std::alloc::Global;
 use std::test::Fail;
@@ -280,6 +281,7 @@ fn words_and_files(rt: HostRuntime) -> Result<(), Fail> {
 fn names_and_statuses(rt: HostRuntime) {
     front_decides();
     items_mean_the_image();
+    objects_are_loaded_as_they_mean();
     objects_hold_the_image();
     objects_run_as_their_sources();
     for (number, name) in [

@@ -1,10 +1,10 @@
 -- Objects as they are loaded and as they are written.
-use Rattle.std.specs.Prelude.{ℕ, zero, suc, ◌+◌, List, [], ◌++◌, length, drop, None, Some, Result, Ok, Err, nat_lt, unwrap_or, if◌then◌else◌}
-use Rattle.mx_mmo.specs.Meaning.{Loading, Meaningless, nothing, take_item}
+use Rattle.std.specs.Prelude.{◌≡◌, ℕ, zero, suc, ◌+◌, List, [], ◌++◌, length, drop, None, Some, Result, Ok, Err, nat_lt, unwrap_or, if◌then◌else◌}
+use Rattle.mx_mmo.specs.Meaning.{Loading, Meaningless, nothing, take_item, take_items}
 use Rattle.mx_mmo.specs.Reading.{Due, first_item}
 use Rattle.mx_mmo.specs.Replies.{limit, phase_after, tail_of}
 use Rattle.mx_mmo.specs.Spelling.{written, ending}
-use Rattle.mx_mmo.specs.Whole.{Left}
+use Rattle.mx_mmo.specs.Whole.{Left, walk}
 use Rattle.mx_mmo.specs.Faults as objects
 use Rattle.mx_mmo.specs.declared.items.Item.{Item}
 use Rattle.mx_mmo.specs.declared.items.Tail.{Tail}
@@ -59,6 +59,17 @@ abbrev pub object_image : List ℕ → Result Image (ℕ × ℕ)
 object_image bytes =
     if nat_lt limit (length bytes) then Err (fault_at (TooLong limit))
     else loaded_whole (items_loaded (length bytes + 1) nothing Start 0 bytes)
+
+-- the first item of bytes that means nothing, and why: so many items mean something, and one more does not, which begins
+-- at the place where those end
+pub record MeansNothing (bytes : List ℕ) (place : ℕ) (e : Meaningless) : Type 0 where
+  pub count : ℕ
+  pub before : Loading
+  pub left : Left
+  pub walked : (walk count Start 0 bytes).1 ≡ Ok left
+  pub meant : take_items (walk count Start 0 bytes).0 (Ok nothing) ≡ Ok before
+  pub next : take_items (walk (suc count) Start 0 bytes).0 (Ok nothing) ≡ Err e
+  pub begins : place ≡ left.at
 
 -- the bytes of the object with these items, whose trie is empty
 abbrev pub object_bytes : List Item → List ℕ
