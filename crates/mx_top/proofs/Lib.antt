@@ -36,4 +36,5 @@ pub mod Steady
 pub mod Still
 pub mod Turns
 pub mod WalkLoads
+pub mod WholeFiles
 pub mod Writes

@@ -141,7 +141,7 @@ reading-case most (Err opening.Failed) m h = (refl, h)
 reading-case most (Err opening.OutOfMemory) m h = (refl, h)
 reading-case most (Ok u) m h = then closed_after (pieces most [] m) (pieces most [] (still m)) closing-case (pieces-steady most [] m h)
 
-file-steady : (most : ℕ) (name : List ℕ) (m : HostModel) → m.failing ≡ [] → Steady (file_bytes most name m) (file_bytes most name (still m))
+pub file-steady : (most : ℕ) (name : List ℕ) (m : HostModel) → m.failing ≡ [] → Steady (file_bytes most name m) (file_bytes most name (still m))
 file-steady most name m h = then (read_after most) (open_answer m 256 name BinaryRead) (open_answer (still m) 256 name BinaryRead) (reading-case most) (open-still m 256 name BinaryRead h)
 
 -- ---- the three commands

@@ -19,6 +19,7 @@ mod run;
 mod searches;
 mod source;
 mod tetras;
+mod text_laws;
 mod texts;
 mod top;
 mod traps;
@@ -30,4 +31,5 @@ pub use laws::{
 };
 pub use names::{fault_name, usage_name};
 pub use outcome::{Outcome, WordsFault};
+pub use text_laws::{files_are_read_whole};
 pub use top::mmixware;
