@@ -34,6 +34,7 @@ pub mod Starts
 pub mod StatementBounds
 pub mod Steady
 pub mod Still
+pub mod TextEnds
 pub mod Turns
 pub mod WalkLoads
 pub mod WholeFiles

@@ -1,5 +1,5 @@
 -- The file trap Fputs (MMIXware, MMIX-SIM, "Simulating a simple operating system").
-use Rattle.std.specs.Prelude.{ℕ, zero, suc, ◌+◌, ◌-◌, ◌/◌, ◌^◌, Bool, true, false, List, [], ◌∷◌, length, take, drop, Option, None, Some, Result, Ok, Err, nat_le, ◌==◌, if◌then◌else◌}
+use Rattle.std.specs.Prelude.{ℕ, zero, suc, ◌≡◌, ◌≢◌, ◌<◌, ◌≤◌, ◌+◌, ◌-◌, ◌/◌, ◌^◌, Bool, true, false, List, [], ◌∷◌, length, take, drop, slice_get, Option, None, Some, Result, Ok, Err, nat_le, ◌==◌, if◌then◌else◌}
 use Rattle.mx_word.specs.Results.{map_ok}
 use Rattle.mx_host.specs.HostModel.{HostModel}
 use Rattle.mx_host.specs.HostAnswer.{Then, write_answer}
@@ -39,6 +39,15 @@ text_from (suc room) memory a = next_byte (text_from room memory (a + 1)) (text_
 
 abbrev pub text_at : (ℕ → ℕ) → ℕ → Result (List ℕ) TextFault
 text_at memory a = text_from text_limit memory a
+
+-- What such a text is: the bytes from the address on, none of them zero, up to a zero byte. All of these lie below
+-- 2^63, and the text has at most so many bytes.
+pub record IsText (most : ℕ) (memory : ℕ → ℕ) (a : ℕ) (text : List ℕ) : Type 0 where
+  pub bytes : (i : ℕ) → i < length text → slice_get text i ≡ Some (memory (a + i))
+  pub nonzero : (i : ℕ) → i < length text → memory (a + i) ≢ 0
+  pub end : memory (a + length text) ≡ 0
+  pub below : a + length text < 2 ^ 63
+  pub few : length text ≤ most
 
 -- whether a piece was written
 abbrev pub piece_put : Then (Result (Unit {0}) HostFault) → Then Bool
