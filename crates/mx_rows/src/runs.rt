@@ -2,8 +2,9 @@
 
 use mx_host::MemHost;
 use mx_top::{
-    Outcome, WordsFault, fault_name, front_decides, items_mean_the_image, mmixware,
-    objects_are_loaded_as_they_mean, objects_hold_the_image, objects_run_as_their_sources,
+    Outcome, WordsFault, fault_name, files_are_read_whole, front_decides, items_mean_the_image,
+    mmixware, objects_are_loaded_as_they_mean, objects_hold_the_image,
+    objects_run_as_their_sources, pieces_come_to_one_write, texts_end_at_the_first_zero,
     usage_name,
 };
 use std::alloc::Global;
@@ -279,11 +280,14 @@ fn words_and_files(rt: HostRuntime) -> Result<(), Fail> {
 
 #[test]
 fn names_and_statuses(rt: HostRuntime) {
+    files_are_read_whole();
     front_decides();
     items_mean_the_image();
     objects_are_loaded_as_they_mean();
     objects_hold_the_image();
     objects_run_as_their_sources();
+    pieces_come_to_one_write();
+    texts_end_at_the_first_zero();
     for (number, name) in [
         (7, "NoOpcode"),
         (21, "RegisterNumber"),

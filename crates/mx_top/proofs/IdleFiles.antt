@@ -28,7 +28,7 @@ use Rattle.mx_top.proofs.NamedFiles.{home, Lies, at-home, put-put, overwritten-e
 abbrev pub idle : List StoredFile → List Slot → HostModel → HostModel
 idle files slots m = record m { files = files; slots = slots; calls = last_call; failing = [] }
 
-slot-set : (slots : List Slot) (k : ℕ) (s d : Slot) → k < length slots → unwrap_or (slice_get (slice_set slots k s) k) d ≡ s
+pub slot-set : (slots : List Slot) (k : ℕ) (s d : Slot) → k < length slots → unwrap_or (slice_get (slice_set slots k s) k) d ≡ s
 slot-set slots k s d h = unwrap_or-slice_get (slice_set slots k s) k d ∙ get_or-set_same slots k s d h
 
 -- a slot that is open is closed

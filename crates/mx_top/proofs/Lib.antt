@@ -10,6 +10,7 @@ pub mod Globals
 pub mod GoodLines
 pub mod IdleFiles
 pub mod JoinedTetras
+pub mod JoinedWrites
 pub mod Lines
 pub mod LoadedLines
 pub mod Loading

@@ -37,7 +37,7 @@ put-case : (r : Result (Unit {0}) SlotFault) (m : HostModel) → m.failing ≡ [
 put-case (Ok u) m h = (refl, h)
 put-case (Err e) m h = (refl, h)
 
-piece-steady : (slot : ℕ) (piece : List ℕ) (m : HostModel) → m.failing ≡ [] → Steady (put_piece slot piece m) (put_piece slot piece (still m))
+pub piece-steady : (slot : ℕ) (piece : List ℕ) (m : HostModel) → m.failing ≡ [] → Steady (put_piece slot piece m) (put_piece slot piece (still m))
 piece-steady slot piece m h = then piece_put (write_answer m slot piece) (write_answer (still m) slot piece) put-case (write-still m slot piece h)
 
 after-case : (more : HostModel → Then Bool) → ((m : HostModel) → m.failing ≡ [] → Steady (more m) (more (still m))) →

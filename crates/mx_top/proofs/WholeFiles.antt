@@ -1,5 +1,5 @@
 -- Where no call fails, a file is read whole, as far as the pieces reach.
-use Rattle.std.proofs.Common.{◌≡◌, ℕ, ◌*◌, ◌<◌, List, [], length, take, Some, None, Ok, Err, refl, ◌∙◌, ap, arith}
+use Rattle.std.proofs.Common.{◌≡◌, ℕ, ◌*◌, List, [], length, take, Some, None, Ok, Err, ◌∙◌, ap, arith}
 use Rattle.mx_host.specs.HostModel.{HostModel, HasStartSlots, place_of}
 use Rattle.mx_host.specs.HostAnswer.{Then, bytes_at}
 use Rattle.std.specs.Prelude.{Result}
@@ -7,7 +7,6 @@ use Rattle.mx_host.proofs.Start.{start_slots-length}
 use Rattle.mx_top.specs.Source.{file_bytes}
 use Rattle.mx_top.specs.declared.outcome.Outcome.{Outcome}
 use Rattle.mx_top.specs.declared.outcome.Outcome.TheVariants.{NoFile}
-use Rattle.mx_top.proofs.Still.{still}
 use Rattle.mx_top.proofs.Steady.{file-steady}
 use Rattle.mx_top.proofs.IdleFiles.{idle, file-idle, file-absent}
 

@@ -70,6 +70,15 @@ put_pieces (suc more) slot text m = pieces_after (put_pieces more slot (drop pie
 abbrev pub put_text : ℕ → List ℕ → HostModel → Then Bool
 put_text slot text m = put_pieces ((length text - 1) / piece_size) slot text m
 
+-- Two answers to the writing of a text are the same, and so are the models after them but for the count of calls.
+pub record SameWritten (a b : Then Bool) : Type 0 where
+  pub written : a.0 ≡ b.0
+  pub files : a.1.files ≡ b.1.files
+  pub slots : a.1.slots ≡ b.1.slots
+  pub input : a.1.input ≡ b.1.input
+  pub output : a.1.output ≡ b.1.output
+  pub errors : a.1.errors ≡ b.1.errors
+
 -- the octa -1
 abbrev pub minus_one : ℕ
 minus_one = 2 ^ 64 - 1

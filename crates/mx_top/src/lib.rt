@@ -31,5 +31,5 @@ pub use laws::{
 };
 pub use names::{fault_name, usage_name};
 pub use outcome::{Outcome, WordsFault};
-pub use text_laws::{files_are_read_whole, texts_end_at_the_first_zero};
+pub use text_laws::{files_are_read_whole, pieces_come_to_one_write, texts_end_at_the_first_zero};
 pub use top::mmixware;

@@ -3,7 +3,7 @@
 ghost use Rattle.std.specs.Prelude.{◌≡◌, ◌≢◌, ◌<◌, ◌≤◌, ◌+◌, ◌*◌, ◌^◌, List, ℕ, None, Some, Ok, Err, [], take};
 ghost use Rattle.mx_host.specs.HostModel.{HostModel, HasStartSlots, place_of};
 ghost use Rattle.mx_host.specs.HostAnswer.{bytes_at};
-ghost use Rattle.mx_top.specs.FileTraps.{IsText, text_at, text_limit};
+ghost use Rattle.mx_top.specs.FileTraps.{IsText, SameWritten, put_piece, put_text, text_at, text_limit};
 ghost use Rattle.mx_top.specs.Source.{file_bytes};
 ghost use Rattle.mx_top.specs.declared.outcome.Outcome.{Outcome};
 ghost use Rattle.mx_top.specs.declared.texts.TextFault.{TextFault};
@@ -30,4 +30,11 @@ pub fn texts_end_at_the_first_zero()
         (n : ℕ) × (n ≤ text_limit) × (2 ^ 63 ≤ a + n) × ((i : ℕ) → i < n → memory (a + i) ≢ 0) }
     ensures large { (memory : ℕ → ℕ) (a : ℕ) → text_at memory a ≡ Err TextFault.TooLarge →
         (i : ℕ) → i ≤ text_limit → (memory (a + i) ≢ 0) × (a + i < 2 ^ 63) }
+{}
+
+/// Where no call fails, a text that goes out in pieces of 4,096 bytes comes to the same as one that goes
+/// out in one write: the same answer, and the same files, slots and streams.
+#[tactic(auto, using(crate::proofs::JoinedWrites::joined))]
+pub fn pieces_come_to_one_write()
+    ensures { (slot : ℕ) (text : List ℕ) (m : HostModel) → m.failing ≡ [] → SameWritten (put_text slot text m) (put_piece slot text m) }
 {}

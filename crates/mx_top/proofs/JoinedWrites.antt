@@ -1,0 +1,196 @@
+-- Where no call fails, a text that goes out in pieces comes to the same as one that goes out in one write.
+use Rattle.std.proofs.Common.{◌≡◌, ℕ, suc, zero, ◌+◌, ◌-◌, ◌/◌, ◌<◌, ◌≤◌, Bool, true, false, cond, nat_lt, List, [], ◌∷◌, ◌++◌, length, take, drop, Some, Err, refl, sym, ◌∙◌, ap, arith, append-nil, append_assoc}
+use Rattle.std.specs.Prelude.{slice_get, slice_set, replicate, unwrap_or}
+use Rattle.std.proofs.lemmas.Bool.Decides.{nat_tests}
+use Rattle.std.proofs.lemmas.List.{length-append, length-take, length-drop, length-replicate, set-set, take_at, drop_at, drop-drop, take-append-le, drop-append-le, take-append-drop, replicate-append-replicate}
+use Rattle.std.proofs.lemmas.Option.{slice_get_past}
+use Rattle.mx_word.specs.Lists.{padded, replaced, overwritten}
+use Rattle.mx_host.specs.declared.files.StoredFile.{StoredFile}
+use Rattle.mx_host.specs.declared.slots.Slot.{Slot}
+use Rattle.mx_host.specs.declared.slots.Slot.TheVariants.{Closed, Open}
+use Rattle.mx_host.specs.declared.slots.Mode.{Mode}
+use Rattle.mx_host.specs.declared.slots.Lead.{Lead}
+use Rattle.mx_host.specs.declared.slots.Lead.TheVariants.{Input, Output, Errors, File}
+use Rattle.mx_host.specs.declared.faults.HostFault.TheVariants.{Misused}
+use Rattle.mx_host.specs.HostModel.{HostModel, slot_at, is_read_only}
+use Rattle.mx_host.specs.HostAnswer.{Then, write_answer, write_to, write_lead, changed_at, with_bytes, bytes_at}
+use Rattle.mx_top.specs.FileTraps.{SameWritten, put_piece, piece_put, pieces_after, put_pieces, put_text}
+use Rattle.mx_top.proofs.Still.{still}
+use Rattle.mx_top.proofs.Steady.{piece-steady, text-steady}
+use Rattle.mx_top.proofs.NamedFiles.{at-home, put-put}
+use Rattle.mx_top.proofs.IdleFiles.{slot-set}
+
+-- ---- bytes that are written, and others behind them
+
+zeros-joined : (old : List ℕ) (b c d : ℕ) → b + c ≡ d → old ++ replicate b 0 ++ replicate c 0 ≡ old ++ replicate d 0
+zeros-joined old b c d e = append_assoc old (replicate b 0) (replicate c 0) ∙ ap (λ zs. old ++ zs) (replicate-append-replicate b c 0 ∙ ap (λ k. replicate k 0) e)
+
+padded-length : (old : List ℕ) (to : ℕ) → length (padded old to) ≡ length old + (to - length old)
+padded-length old to = length-append old (replicate (to - length old) 0) ∙ ap (λ k. length old + k) (length-replicate (to - length old) 0)
+
+padded-twice : (old : List ℕ) (near far : ℕ) → near ≤ far → padded (padded old near) far ≡ padded old far
+padded-twice old near far l =
+    zeros-joined old (near - length old) (far - length (padded old near)) (far - length old) (omega (arith, padded-length old near))
+
+padded-long : (old : List ℕ) (to : ℕ) → to ≤ length (padded old to)
+padded-long old to = omega (arith, padded-length old to)
+
+replaced-length : (old from : List ℕ) (place : ℕ) → place + length from ≤ length old → length (replaced old place from) ≡ length old
+replaced-length old from place l = grind (arith, length-append, length-take, length-drop)
+
+-- a front, and the bytes behind it, in place of as many
+replaced-joined : (old zeros front back : List ℕ) (place : ℕ) → place + length front ≤ length old →
+    replaced (old ++ zeros) place (front ++ back) ≡ replaced (replaced old place front ++ zeros) (place + length front) back
+replaced-joined old zeros front back place l =
+    let n : ℕ = place + length front in
+    let a : List ℕ = take place old in
+    let d : List ℕ = drop n old in
+    let left : List ℕ = drop (length back) (d ++ zeros) in
+    let size : place + length (front ++ back) ≡ n + length back = omega (arith, length-append front back) in
+    let few : length a ≡ place = grind (arith, length-take place old) in
+    let seam : length (a ++ front) ≡ n = length-append a front ∙ ap (λ k. k + length front) few in
+    let before : take place (old ++ zeros) ≡ a = take-append-le place old zeros (omega arith) in
+    let after : drop (place + length (front ++ back)) (old ++ zeros) ≡ left =
+    ap (λ k. drop k (old ++ zeros)) size ∙ sym (drop-drop (length back) n (old ++ zeros)) ∙ ap (drop (length back)) (drop-append-le n old zeros l) in
+    let cut : replaced old place front ++ zeros ≡ a ++ front ++ (d ++ zeros) = append_assoc (a ++ front) d zeros in
+    let head : take n (a ++ front ++ (d ++ zeros)) ≡ a ++ front = take_at (a ++ front) (d ++ zeros) n seam in
+    let tail : drop (n + length back) (a ++ front ++ (d ++ zeros)) ≡ left =
+    sym (drop-drop (length back) n (a ++ front ++ (d ++ zeros))) ∙ ap (drop (length back)) (drop_at (a ++ front) (d ++ zeros) n seam) in
+    ap (λ xs. xs ++ (front ++ back) ++ drop (place + length (front ++ back)) (old ++ zeros)) before
+    ∙ ap (λ xs. a ++ (front ++ back) ++ xs) after
+    ∙ ap (λ xs. xs ++ left) (sym (append_assoc a front back))
+    ∙ ap (λ xs. xs ++ back ++ left) (sym head)
+    ∙ ap (λ xs. take n (a ++ front ++ (d ++ zeros)) ++ back ++ xs) (sym tail)
+    ∙ ap (λ xs. take n xs ++ back ++ drop (n + length back) xs) (sym cut)
+
+padded-joined : (old front back : List ℕ) (place : ℕ) →
+    replaced (padded old (place + length (front ++ back))) place (front ++ back)
+    ≡ replaced (padded (replaced (padded old (place + length front)) place front) (place + length front + length back)) (place + length front) back
+padded-joined old front back place =
+    let n : ℕ = place + length front in
+    let p : List ℕ = padded old n in
+    let zeros : List ℕ = replicate (n + length back - length p) 0 in
+    let size : place + length (front ++ back) ≡ n + length back = omega (arith, length-append front back) in
+    let long : n ≤ length p = padded-long old n in
+    ap (λ k. replaced (padded old k) place (front ++ back)) size
+    ∙ ap (λ xs. replaced xs place (front ++ back)) (sym (padded-twice old n (n + length back) (omega arith)))
+    ∙ replaced-joined p zeros front back place long
+    ∙ ap (λ k. replaced (replaced p place front ++ replicate (n + length back - k) 0) n back) (sym (replaced-length p front place long))
+
+overwritten-joined : (old : List ℕ) (place : ℕ) (front back : List ℕ) →
+    overwritten old place (front ++ back) ≡ overwritten (overwritten old place front) (place + length front) back
+overwritten-joined old place [] back = let here : place ≡ place + 0 = omega arith in ap (λ k. overwritten old k back) here
+overwritten-joined old place (x ∷ xs) [] = ap (overwritten old place) (append-nil (x ∷ xs))
+overwritten-joined old place (x ∷ xs) (y ∷ ys) = padded-joined old (x ∷ xs) (y ∷ ys) place
+
+-- ---- a slot that is written to twice
+
+files-joined : (files : List StoredFile) (at place : ℕ) (front back : List ℕ) →
+    let once : List StoredFile = with_bytes files at (overwritten (bytes_at files at) place front) in
+    with_bytes once at (overwritten (bytes_at once at) (place + length front) back) ≡ with_bytes files at (overwritten (bytes_at files at) place (front ++ back))
+files-joined files at place front back = on (nat_lt at (length files)) refl
+  where
+    on : (b : Bool) → nat_lt at (length files) ≡ b →
+        let once : List StoredFile = with_bytes files at (overwritten (bytes_at files at) place front) in
+        with_bytes once at (overwritten (bytes_at once at) (place + length front) back) ≡ with_bytes files at (overwritten (bytes_at files at) place (front ++ back))
+    on true e =
+        let there : at < length files = grind (arith, nat_tests) in
+        let x : List ℕ = overwritten (bytes_at files at) place front in
+        ap (λ xs. with_bytes (with_bytes files at x) at (overwritten xs (place + length front) back)) (at-home files [] x (Some at) there)
+        ∙ put-put files [] x (overwritten x (place + length front) back) (Some at) there
+        ∙ ap (with_bytes files at) (sym (overwritten-joined (bytes_at files at) place front back))
+    on false e =
+        let past : length files ≤ at = grind (arith, nat_tests) in
+        let same : (xs : List ℕ) → with_bytes files at xs ≡ files = λ xs. ap (changed_at files at xs) (slice_get_past files at past) in
+        ap (λ fs. with_bytes fs at (overwritten (bytes_at fs at) (place + length front) back)) (same (overwritten (bytes_at files at) place front))
+        ∙ same (overwritten (bytes_at files at) (place + length front) back) ∙ sym (same (overwritten (bytes_at files at) place (front ++ back)))
+
+-- a slot that is open is one of the list
+within : (slots : List Slot) (k : ℕ) (l : Lead) (mode : Mode) (place : ℕ) → unwrap_or (slice_get slots k) Closed ≡ Open l mode place → k < length slots
+within slots k l mode place e = on (nat_lt k (length slots)) refl
+  where
+    on : (b : Bool) → nat_lt k (length slots) ≡ b → k < length slots
+    on true t = grind (arith, nat_tests)
+    on false t =
+        let past : length slots ≤ k = grind (arith, nat_tests) in
+        let closed : Closed ≡ Open l mode place = sym (ap (λ o. unwrap_or o Closed) (slice_get_past slots k past)) ∙ e in
+        absurd (cc)
+
+write-open : (m : HostModel) (slot : ℕ) (from : List ℕ) (l : Lead) (mode : Mode) (place : ℕ) → slot_at m slot ≡ Open l mode place → is_read_only mode ≡ false →
+    put_piece slot from (still m) ≡ piece_put (write_lead (still m) slot from l mode place)
+unfolding write_answer
+write-open m slot from l mode place e w =
+    ap (λ s. piece_put (write_to (still m) slot from s)) e ∙ ap (λ b. piece_put (cond b (Err Misused, still m) (write_lead (still m) slot from l mode place))) w
+
+lead-joined : (m : HostModel) (slot : ℕ) (front back : List ℕ) (l : Lead) (mode : Mode) (place : ℕ) → slot_at m slot ≡ Open l mode place → is_read_only mode ≡ false →
+    pieces_after (put_piece slot back) (piece_put (write_lead (still m) slot front l mode place)) ≡ piece_put (write_lead (still m) slot (front ++ back) l mode place)
+lead-joined m slot front back Input mode place e w = refl
+lead-joined m slot front back Output mode place e w =
+    write-open (record m { output = m.output ++ front }) slot back Output mode place e w ∙ ap (λ xs. (true, record (still m) { output = xs })) (append_assoc m.output front back)
+lead-joined m slot front back Errors mode place e w =
+    write-open (record m { errors = m.errors ++ front }) slot back Errors mode place e w ∙ ap (λ xs. (true, record (still m) { errors = xs })) (append_assoc m.errors front back)
+lead-joined m slot front back (File at) mode place e w =
+    let to : ℕ → Slot = λ k. Open (File at) mode k in
+    let once : List StoredFile = with_bytes m.files at (overwritten (bytes_at m.files at) place front) in
+    let size : place + length front + length back ≡ place + length (front ++ back) = omega (arith, length-append front back) in
+    write-open (record m { files = once; slots = slice_set m.slots slot (to (place + length front)) }) slot back (File at) mode (place + length front)
+    (slot-set m.slots slot (to (place + length front)) Closed (within m.slots slot (File at) mode place e)) w
+    ∙ ap (λ fs. (true, record (still m) { files = fs; slots = slice_set (slice_set m.slots slot (to (place + length front))) slot (to (place + length front + length back)) })) (files-joined m.files at place front back)
+    ∙ ap (λ ss. (true, record (still m) { files = with_bytes m.files at (overwritten (bytes_at m.files at) place (front ++ back)); slots = ss }))
+    (set-set m.slots slot (to (place + length front)) (to (place + length front + length back)) ∙ ap (λ k. slice_set m.slots slot (to k)) size)
+
+slot-joined : (m : HostModel) (slot : ℕ) (front back : List ℕ) (s : Slot) → slot_at m slot ≡ s →
+    pieces_after (put_piece slot back) (piece_put (write_to (still m) slot front s)) ≡ piece_put (write_to (still m) slot (front ++ back) s)
+slot-joined m slot front back Closed e = refl
+slot-joined m slot front back (Open l mode place) e = on (is_read_only mode) refl
+  where
+    on : (b : Bool) → is_read_only mode ≡ b →
+        pieces_after (put_piece slot back) (piece_put (cond b (Err Misused, still m) (write_lead (still m) slot front l mode place)))
+        ≡ piece_put (cond b (Err Misused, still m) (write_lead (still m) slot (front ++ back) l mode place))
+    on true w = refl
+    on false w = lead-joined m slot front back l mode place e w
+
+-- two pieces
+piece-joined : (m : HostModel) (slot : ℕ) (front back : List ℕ) → pieces_after (put_piece slot back) (put_piece slot front (still m)) ≡ put_piece slot (front ++ back) (still m)
+unfolding write_answer
+piece-joined m slot front back = slot-joined m slot front back (slot_at m slot) refl
+
+-- ---- all pieces
+
+behind : (more one : HostModel → Then Bool) → ((n : HostModel) → more (still n) ≡ one (still n)) → (b : Bool) (n : HostModel) → pieces_after more (b, still n) ≡ pieces_after one (b, still n)
+behind more one h true n = h n
+behind more one h false n = refl
+
+pieces-joined : (k slot : ℕ) (text : List ℕ) (m : HostModel) → put_pieces k slot text (still m) ≡ put_piece slot text (still m)
+unfolding put_pieces
+pieces-joined zero slot text m = refl
+pieces-joined (suc k) slot text m =
+    let first : List ℕ = take 4096 text in
+    let others : List ℕ = drop 4096 text in
+    let t : Then Bool = put_piece slot first (still m) in
+    let is : (t.0, still t.1) ≡ t = (piece-steady slot first (still m) refl).0 in
+    ap (pieces_after (put_pieces k slot others)) (sym is)
+    ∙ behind (put_pieces k slot others) (put_piece slot others) (λ n. pieces-joined k slot others n) t.0 t.1
+    ∙ ap (pieces_after (put_piece slot others)) is
+    ∙ piece-joined m slot first others
+    ∙ ap (λ xs. put_piece slot xs (still m)) (take-append-drop 4096 text)
+
+-- what comes to the same in the still model
+same-written : (a b v : Then Bool) → (a.0, still a.1) ≡ v → (b.0, still b.1) ≡ v → SameWritten a b
+same-written a b v h k =
+    let e = h ∙ sym k in
+    record {
+      written = ap (λ (t : Then Bool). t.0) e;
+      files = ap (λ (t : Then Bool). t.1.files) e;
+      slots = ap (λ (t : Then Bool). t.1.slots) e;
+      input = ap (λ (t : Then Bool). t.1.input) e;
+      output = ap (λ (t : Then Bool). t.1.output) e;
+      errors = ap (λ (t : Then Bool). t.1.errors) e;
+    }
+
+pub text-joined : (slot : ℕ) (text : List ℕ) (m : HostModel) → m.failing ≡ [] → SameWritten (put_text slot text m) (put_piece slot text m)
+text-joined slot text m h =
+    same-written (put_text slot text m) (put_piece slot text m) (put_piece slot text (still m))
+    ((text-steady slot text m h).0 ∙ pieces-joined ((length text - 1) / 4096) slot text m) (piece-steady slot text m h).0
+
+pub ruleset joined = (text-joined)
