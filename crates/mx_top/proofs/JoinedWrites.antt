@@ -15,7 +15,7 @@ use Rattle.mx_host.specs.declared.faults.HostFault.TheVariants.{Misused}
 use Rattle.mx_host.specs.HostModel.{HostModel, slot_at, is_read_only}
 use Rattle.mx_host.specs.HostAnswer.{Then, write_answer, write_to, write_lead, changed_at, with_bytes, bytes_at}
 use Rattle.mx_top.specs.FileTraps.{SameWritten, put_piece, piece_put, pieces_after, put_pieces, put_text}
-use Rattle.mx_top.proofs.Still.{still}
+use Rattle.mx_top.proofs.Still.{still, Steady}
 use Rattle.mx_top.proofs.Steady.{piece-steady, text-steady}
 use Rattle.mx_top.proofs.NamedFiles.{at-home, put-put}
 use Rattle.mx_top.proofs.IdleFiles.{slot-set}
@@ -176,9 +176,9 @@ pieces-joined (suc k) slot text m =
     ∙ ap (λ xs. put_piece slot xs (still m)) (take-append-drop 4096 text)
 
 -- what comes to the same in the still model
-same-written : (a b v : Then Bool) → (a.0, still a.1) ≡ v → (b.0, still b.1) ≡ v → SameWritten a b
+same-written : (a b v : Then Bool) → Steady a v → Steady b v → SameWritten a b
 same-written a b v h k =
-    let e = h ∙ sym k in
+    let e = h.0 ∙ sym k.0 in
     record {
       written = ap (λ (t : Then Bool). t.0) e;
       files = ap (λ (t : Then Bool). t.1.files) e;
@@ -186,11 +186,13 @@ same-written a b v h k =
       input = ap (λ (t : Then Bool). t.1.input) e;
       output = ap (λ (t : Then Bool). t.1.output) e;
       errors = ap (λ (t : Then Bool). t.1.errors) e;
+      failing = h.1 ∙ sym k.1;
     }
 
 pub text-joined : (slot : ℕ) (text : List ℕ) (m : HostModel) → m.failing ≡ [] → SameWritten (put_text slot text m) (put_piece slot text m)
 text-joined slot text m h =
+    let pieces = text-steady slot text m h in
     same-written (put_text slot text m) (put_piece slot text m) (put_piece slot text (still m))
-    ((text-steady slot text m h).0 ∙ pieces-joined ((length text - 1) / 4096) slot text m) (piece-steady slot text m h).0
+    (pieces.0 ∙ pieces-joined ((length text - 1) / 4096) slot text m, pieces.1) (piece-steady slot text m h)
 
 pub ruleset joined = (text-joined)

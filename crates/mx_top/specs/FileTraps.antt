@@ -78,6 +78,7 @@ pub record SameWritten (a b : Then Bool) : Type 0 where
   pub input : a.1.input ≡ b.1.input
   pub output : a.1.output ≡ b.1.output
   pub errors : a.1.errors ≡ b.1.errors
+  pub failing : a.1.failing ≡ b.1.failing
 
 -- the octa -1
 abbrev pub minus_one : ℕ

@@ -19,9 +19,9 @@ pub fn files_are_read_whole()
 {}
 
 /// The text at an address is what stands there up to the first zero byte, where all of it and that
-/// byte lie below 2^63 and it has at most 2^24 bytes. It is negative where at most 2^24 bytes, none of
-/// them zero, lead up to an address of 2^63 or more, and too large where none of 2^24 + 1 bytes is zero
-/// and all of them lie below 2^63.
+/// byte lie below 2^63 and it has at most 2^24 bytes. It is negative only where at most 2^24 bytes,
+/// none of them zero, lead up to an address of 2^63 or more, and too large only where none of 2^24 + 1
+/// bytes is zero and all of them lie below 2^63.
 #[tactic(auto, using(crate::proofs::TextEnds::ends))]
 pub fn texts_end_at_the_first_zero()
     ensures found { (memory : ℕ → ℕ) (a : ℕ) (text : List ℕ) → text_at memory a ≡ Ok text → IsText text_limit memory a text }
