@@ -7,7 +7,7 @@ use Rattle.mx_expr.specs.declared.tree.UnOp.{UnOp}
 use Rattle.mx_expr.specs.declared.tree.BinOp.{BinOp}
 use Rattle.mx_expr.specs.declared.tree.BinOp.TheVariants.{Div}
 use Rattle.mx_expr.specs.Tree.{Tree, number, name, back, ahead, here}
-use Rattle.mx_expr.specs.Bytes.{is_digit, is_hexadecimal, is_letter, is_word, digit_value}
+use Rattle.mx_expr.specs.Bytes.{is_digit, is_hexadecimal, is_letter, is_name_byte, digit_value}
 use Rattle.mx_expr.specs.Reading as reading
 use Rattle.mx_expr.specs.Reading.{Waiting, sign, strong, weak, parenthesis, Mode, operand, whole, slash, State, Read, settled, summed, moved, completed, after, and_then, finish, start}
 use Rattle.mx_expr.specs.Spelling.{digits_value, Constant, Sign, StrongOperator, WeakOperator, Primary, Product, Sum}
@@ -51,11 +51,11 @@ in-hexadecimal n (b ∷ bs) k d es h =
     let step : move (st (reading.hexadecimal n) k d es) b ≡ Ok (st (reading.hexadecimal (n * 16 + digit_value b)) k d es) = rw digit refl in
     moves-first _ _ b bs step ∙ in-hexadecimal (n * 16 + digit_value b) bs k d es (and-second _ _ h)
 
-pub in-symbol : (text bs : List ℕ) (k : List Waiting) (d : ℕ) (es : List Tree) → list_all is_word bs ≡ true →
+pub in-symbol : (text bs : List ℕ) (k : List Waiting) (d : ℕ) (es : List Tree) → list_all is_name_byte bs ≡ true →
     moves (st (reading.symbol text) k d es) bs ≡ Ok (st (reading.symbol (text ++ bs)) k d es)
 in-symbol text [] k d es h = moves-none _ ∙ ap (λ t. Ok (st (reading.symbol t) k d es)) (sym (append-nil text))
 in-symbol text (b ∷ bs) k d es h =
-    let word : is_word b ≡ true = and-first _ _ h in
+    let word : is_name_byte b ≡ true = and-first _ _ h in
     let step : move (st (reading.symbol text) k d es) b ≡ Ok (st (reading.symbol (text ++ b ∷ [])) k d es) = rw word refl in
     moves-first _ _ b bs step ∙ in-symbol (text ++ b ∷ []) bs k d es (and-second _ _ h) ∙ ap (λ t. Ok (st (reading.symbol t) k d es)) (append_assoc text (b ∷ []) bs)
 
@@ -106,7 +106,7 @@ constant-ended text n k d es (hexadecimal_digits (b ∷ bs) some all) =
       ending = refl;
     }
 
-symbol-ended : (b : ℕ) (bs : List ℕ) (k : List Waiting) (d : ℕ) (es : List Tree) → is_letter b ≡ true → list_all is_word bs ≡ true → Ended k d es (b ∷ bs) (settled k (name (b ∷ bs)))
+symbol-ended : (b : ℕ) (bs : List ℕ) (k : List Waiting) (d : ℕ) (es : List Tree) → is_letter b ≡ true → list_all is_name_byte bs ≡ true → Ended k d es (b ∷ bs) (settled k (name (b ∷ bs)))
 symbol-ended b bs k d es h a =
     let first : move (st operand k d es) b ≡ Ok (st (reading.symbol (b ∷ [])) k d es) = rw (letter-no-digit b h, h) refl in
     record { mode = reading.symbol (b ∷ bs); rest = k; read = moves-first _ _ b bs first ∙ in-symbol (b ∷ []) bs k d es a; ending = refl }

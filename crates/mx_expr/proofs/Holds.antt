@@ -9,7 +9,7 @@ use Rattle.mx_expr.specs.declared.tree.UnOp.TheVariants.{Plus, Minus, Not, Regis
 use Rattle.mx_expr.specs.declared.tree.BinOp.{BinOp}
 use Rattle.mx_expr.specs.declared.tree.BinOp.TheVariants.{Mul, Rem, And, Add, Sub, Or, Xor}
 use Rattle.mx_expr.specs.Tree.{Tree, number, here}
-use Rattle.mx_expr.specs.Bytes.{is_digit, is_hexadecimal, is_letter, is_word, is_no_quote, digit_value}
+use Rattle.mx_expr.specs.Bytes.{is_digit, is_hexadecimal, is_letter, is_name_byte, is_no_quote, digit_value}
 use Rattle.mx_expr.specs.Reading.{settled, summed, Waiting, sign, strong, weak, parenthesis, Mode, operand, whole, digit, decimal, hash, hexadecimal, quote, character, symbol, slash, less, greater, string, closed, State, Read, wanted, wanted_mark, quoted, signed, completed, weakly, enclosed, listed, next_operand, weakly_or_end, strongly, after, beyond}
 use Rattle.mx_expr.specs.Spelling.{digits_value, Sign, StrongOperator, WeakOperator, Primary, Product, Sum, Operands}
 use Rattle.mx_expr.specs.Spelling.Sign.{plus, minus, not as not_sign, register}
@@ -51,7 +51,7 @@ pub record Letters (word text : List ℕ) : Type 0 where
   pub b : ℕ
   pub bs : List ℕ
   pub is : is_letter b ≡ true
-  pub all : list_all is_word bs ≡ true
+  pub all : list_all is_name_byte bs ≡ true
   pub value : word ≡ b ∷ bs
   pub spelled : text ≡ b ∷ bs
 

@@ -3,7 +3,7 @@ use Rattle.std.proofs.Common.{◌≡◌, ℕ, List, [], ◌∷◌, ◌++◌, fal
 use Rattle.std.specs.Prelude.{◌==◌}
 use Rattle.std.proofs.lemmas.Bool.Decides.{nat_tests}
 use Rattle.mx_expr.specs.Tree.{Tree, number, name}
-use Rattle.mx_expr.specs.Bytes.{is_digit, is_hexadecimal, is_word}
+use Rattle.mx_expr.specs.Bytes.{is_digit, is_hexadecimal, is_name_byte}
 use Rattle.mx_expr.specs.Reading.{Waiting, Mode, operand, whole, digit, decimal, hash, hexadecimal, quote, character, symbol, slash, less, greater, string, closed, State, Read, and_then, moved, settled, summed, after, listed, finish}
 
 abbrev pub st : Mode → List Waiting → ℕ → List Tree → State
@@ -69,20 +69,20 @@ ends closed k = None
 same-some : {A : Type 0} (x y : A) → Some x ≡ Some y → x ≡ y
 same-some x y h = cc
 
-no-digit : (b : ℕ) → is_word b ≡ false → is_digit b ≡ false
+no-digit : (b : ℕ) → is_name_byte b ≡ false → is_digit b ≡ false
 no-digit b h = grind (arith, nat_tests)
 
-no-hexadecimal : (b : ℕ) → is_word b ≡ false → is_hexadecimal b ≡ false
+no-hexadecimal : (b : ℕ) → is_name_byte b ≡ false → is_hexadecimal b ≡ false
 no-hexadecimal b h = grind (arith, nat_tests)
 
-no-last : (b : ℕ) → is_word b ≡ false → (b == 66) ≡ false
+no-last : (b : ℕ) → is_name_byte b ≡ false → (b == 66) ≡ false
 no-last b h = grind (arith, nat_tests)
 
-no-next : (b : ℕ) → is_word b ≡ false → (b == 70) ≡ false
+no-next : (b : ℕ) → is_name_byte b ≡ false → (b == 70) ≡ false
 no-next b h = grind (arith, nat_tests)
 
 -- A byte that is no letter and no digit ends a primary.
-pub goes-beyond : (mode : Mode) (k : List Waiting) (p : Tree × List Waiting) (d : ℕ) (es : List Tree) (b : ℕ) → ends mode k ≡ Some p → is_word b ≡ false → moved mode k d es b ≡ after b p d es
+pub goes-beyond : (mode : Mode) (k : List Waiting) (p : Tree × List Waiting) (d : ℕ) (es : List Tree) (b : ℕ) → ends mode k ≡ Some p → is_name_byte b ≡ false → moved mode k d es b ≡ after b p d es
 goes-beyond operand k p d es b e w = absurd (cc)
 goes-beyond (whole x) k p d es b e w = ap (λ q. after b q d es) (same-some _ _ e)
 goes-beyond (digit n) k p d es b e w = rw (no-digit b w, no-last b w, no-next b w) (ap (λ q. after b q d es) (same-some _ _ e))

@@ -6,7 +6,7 @@ use Rattle.std.proofs.lemmas.Grind.{fold-append}
 use Rattle.mx_expr.specs.declared.tree.BinOp.{BinOp}
 use Rattle.mx_expr.specs.declared.tree.BinOp.TheVariants.{Div, Fraction, Left, Right}
 use Rattle.mx_expr.specs.Tree.{Tree, number, name, back, ahead}
-use Rattle.mx_expr.specs.Bytes.{is_digit, is_hexadecimal, is_word, is_no_quote, digit_value}
+use Rattle.mx_expr.specs.Bytes.{is_digit, is_hexadecimal, is_name_byte, is_no_quote, digit_value}
 use Rattle.mx_expr.specs.Reading.{Waiting, strong, Mode, operand, whole, digit, decimal, hash, hexadecimal, quote, character, symbol, slash, less, greater, string, closed, State, Read, wanted, moved, in_string, start, and_then}
 use Rattle.mx_expr.specs.Spelling.{digits_value, StrongOperator, Primary, Operand}
 use Rattle.mx_expr.specs.Spelling.Constant.{decimal as decimal_digits, hexadecimal as hexadecimal_digits}
@@ -78,9 +78,9 @@ first-hexadecimal b t k e =
 more-hexadecimal : (n b : ℕ) (t : List ℕ) → is_hexadecimal b ≡ true → Hashed n t → Hashed (n * 16 + digit_value b) (t ++ b ∷ [])
 more-hexadecimal n b t k h = record { digits = h.digits ++ b ∷ []; are = digits-longer is_hexadecimal 16 n b h.digits h.are k; spelled = ap (λ x. x ++ b ∷ []) h.spelled }
 
-more-letters : (b : ℕ) (word t : List ℕ) → is_word b ≡ true → Letters word t → Letters (word ++ b ∷ []) (t ++ b ∷ [])
+more-letters : (b : ℕ) (word t : List ℕ) → is_name_byte b ≡ true → Letters word t → Letters (word ++ b ∷ []) (t ++ b ∷ [])
 more-letters b word t k h =
-    record { b = h.b; bs = h.bs ++ b ∷ []; is = h.is; all = all-longer is_word h.bs b h.all k; value = ap (λ x. x ++ b ∷ []) h.value; spelled = ap (λ x. x ++ b ∷ []) h.spelled }
+    record { b = h.b; bs = h.bs ++ b ∷ []; is = h.is; all = all-longer is_name_byte h.bs b h.all k; value = ap (λ x. x ++ b ∷ []) h.value; spelled = ap (λ x. x ++ b ∷ []) h.spelled }
 
 closing-character : (c : ℕ) (t : List ℕ) → t ≡ 39 ∷ c ∷ [] → Primary (t ++ 39 ∷ []) (number c)
 closing-character c t e = subst (λ x. Primary (x ++ 39 ∷ []) (number c)) (sym e) (spelled_character c)
@@ -192,7 +192,7 @@ moved-good (character c) front text part es done k d b p a =
 moved-good (symbol word) front text part es done k d b p a =
     let P : Read → Type 0 = λ r. Good r front in
     subst (λ x. Good (moved (symbol word) k d x b) front) (sym a.0)
-    (chosen P (is_word b) _ _
+    (chosen P (is_name_byte b) _ _
     (λ t. holds front text (part ++ b ∷ []) es es (symbol (word ++ b ∷ [])) k d p (refl, longer-by k d (Letters word) (Letters (word ++ b ∷ [])) part b (λ x h. more-letters b word x t h) a.1))
     (λ _. beyond-good front text part es k d b (name word) p (reshaped k d (Letters word) (λ x. Primary x (name word)) part (λ x h. symbol-primary word x h) a.1)))
 moved-good (slash e) front text part es done k d b p a =

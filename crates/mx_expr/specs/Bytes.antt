@@ -1,6 +1,6 @@
 -- What hexadecimal digits count, and the bytes of strings.
 use Rattle.std.specs.Prelude.{ℕ, ◌-◌, Bool, not, ◌==◌, ◌&&◌, nat_le, if◌then◌else◌}
-pub use Rattle.mx_word.specs.Kinds.{is_digit, is_hexadecimal, is_letter, is_word}
+pub use Rattle.mx_word.specs.Kinds.{is_digit, is_hexadecimal, is_letter, is_name_byte}
 
 -- what a digit counts: `a` to `f` and `A` to `F` count 10 to 15
 abbrev pub digit_value : ℕ → ℕ

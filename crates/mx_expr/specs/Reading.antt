@@ -7,7 +7,7 @@ use Rattle.mx_expr.specs.declared.tree.UnOp.TheVariants.{Plus, Minus, Not, Regis
 use Rattle.mx_expr.specs.declared.tree.BinOp.{BinOp}
 use Rattle.mx_expr.specs.declared.tree.BinOp.TheVariants.{Mul, Div, Fraction, Rem, Left, Right, And, Add, Sub, Or, Xor}
 use Rattle.mx_expr.specs.Tree.{Tree, number, name, back, ahead, here, unary, binary}
-use Rattle.mx_expr.specs.Bytes.{is_digit, is_hexadecimal, is_letter, is_word, digit_value}
+use Rattle.mx_expr.specs.Bytes.{is_digit, is_hexadecimal, is_letter, is_name_byte, digit_value}
 
 -- what waits for the expression that is being read, the last first
 pub data Waiting : Type 0 where
@@ -169,7 +169,7 @@ moved (hexadecimal n) k depth done b =
 moved quote k depth done b = at (character b) k depth done
 moved (character c) k depth done b = if b == 39 then completed (number c) k depth done else Err Syntax
 moved (symbol text) k depth done b =
-    if is_word b then at (symbol (text ++ b ∷ [])) k depth done else beyond b (name text) k depth done
+    if is_name_byte b then at (symbol (text ++ b ∷ [])) k depth done else beyond b (name text) k depth done
 moved (slash e) k depth done b =
     if b == 47 then at operand (strong Fraction e ∷ k) depth done else wanted b (strong Div e ∷ k) depth done
 moved (less e) k depth done b = if b == 60 then at operand (strong Left e ∷ k) depth done else Err Syntax

@@ -9,7 +9,7 @@ use Rattle.mx_expr.specs.declared.tree.UnOp.TheVariants.{Plus, Minus, Not, Regis
 use Rattle.mx_expr.specs.declared.tree.BinOp.{BinOp}
 use Rattle.mx_expr.specs.declared.tree.BinOp.TheVariants.{Mul, Div, Fraction, Rem, Left, Right, And, Add, Sub, Or, Xor}
 use Rattle.mx_expr.specs.Tree.{Tree, number, name, back, ahead, here, unary, binary}
-use Rattle.mx_expr.specs.Bytes.{is_digit, is_hexadecimal, is_letter, is_word, digit_value, is_no_quote}
+use Rattle.mx_expr.specs.Bytes.{is_digit, is_hexadecimal, is_letter, is_name_byte, digit_value, is_no_quote}
 
 -- the value of digits to a base
 abbrev pub digits_value : ℕ → List ℕ → ℕ
@@ -47,7 +47,7 @@ mutual
   pub data Primary : List ℕ → Tree → Type 0 where
     constant : (text : List ℕ) (n : ℕ) → Constant text n → Primary text (number n)
     character : (c : ℕ) → Primary (39 ∷ c ∷ 39 ∷ []) (number c)
-    symbol : (b : ℕ) (text : List ℕ) → is_letter b ≡ true → list_all is_word text ≡ true → Primary (b ∷ text) (name (b ∷ text))
+    symbol : (b : ℕ) (text : List ℕ) → is_letter b ≡ true → list_all is_name_byte text ≡ true → Primary (b ∷ text) (name (b ∷ text))
     last_label : (b : ℕ) → is_digit b ≡ true → Primary (b ∷ 66 ∷ []) (back (digit_value b))
     next_label : (b : ℕ) → is_digit b ≡ true → Primary (b ∷ 70 ∷ []) (ahead (digit_value b))
     place : Primary (64 ∷ []) here

@@ -11,7 +11,7 @@ use crate::joining::{settle, sum};
 use crate::kinds::digit_value;
 use crate::waiting::{Stack, Waiting};
 use crate::{BinOp, Expr, ExprFault, Exprs, UnOp};
-use mx_word::{Bytes, is_digit, is_hexadecimal, is_letter, is_word};
+use mx_word::{Bytes, is_digit, is_hexadecimal, is_letter, is_name_byte};
 use std::alloc::Global;
 
 /// Where reading stands, with the expression or the token that is being read.
@@ -293,7 +293,7 @@ impl Reader {
     fn take_symbol(&mut self, text: Bytes, b: u8) -> Result<Mode, ExprFault>
         ensures { result ≢ Err ExprFault.OutOfMemory → reading_of result self.new ≡ spec.moved (spec.symbol text) (all_waiting self.old.waiting) self.old.depth (trees_of self.old.done) b }
     {
-        if is_word(b) {
+        if is_name_byte(b) {
             self.lengthen(text, b)
         } else {
             self.beyond(Expr::Name(text), b)

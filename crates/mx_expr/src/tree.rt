@@ -1,11 +1,10 @@
 //! Expressions as trees, and lists of them.
 
-ghost use Rattle.std.specs.Prelude.{◌≡◌, [], ◌∷◌, ◌++◌, ◌+◌, ◌<◌, OnOk, OnErr};
+ghost use Rattle.std.specs.Prelude.{◌≡◌, ◌+◌, ◌<◌};
 ghost use Rattle.mx_expr.specs.Tree.{tree_of, weight};
 
-use mx_word::{Bytes, NoMemory};
+use mx_word::{Bytes, Sequence};
 use std::alloc::Global;
-use std::marker::Model;
 use std::mem;
 
 /// An operator before an operand.
@@ -120,51 +119,5 @@ impl Expr {
     }
 }
 
-/// A list of expressions, which contracts see as that list.
-#[derive(Drop)]
-pub struct Exprs {
-    exprs: Vec<Expr>,
-}
-
-impl Model for Exprs {
-    ghost use Rattle.std.specs.Prelude.{List};
-    ghost use Rattle.mx_expr.specs.declared.tree.Expr.{Expr};
-
-    ghost Value = { List Expr };
-
-    ghost use Rattle.std.specs.Coded.{codes};
-    ghost use Rattle.mx_expr.specs.contracts.tree.Expr as e;
-
-    ghost coded = { Prim.hlevel (codes, e.the_row.coded) };
-
-    ghost view = { λ e. e.exprs.items };
-}
-
-impl Exprs {
-    /// The empty list. It takes no memory.
-    pub fn new(alloc: Global) -> Exprs
-        ensures { result ≡ [] }
-    {
-        Exprs {
-            exprs: Vec::new(alloc),
-        }
-    }
-
-    /// Adds an expression at the end. Where there is no memory it is dropped, and nothing changes.
-    pub fn push(&mut self, x: Expr) -> Result<(), NoMemory>
-        ensures ok { OnOk result (self.new ≡ self.old ++ x ∷ []) }
-        ensures err { OnErr result (self.new ≡ self.old) }
-    {
-        match self.exprs.push(x) {
-            Ok(()) => Ok(()),
-            Err(_) => Err(NoMemory),
-        }
-    }
-
-    /// The expressions.
-    pub fn as_slice(&self) -> &[Expr]
-        ensures { result.now ≡ self.now }
-    {
-        self.exprs.as_slice()
-    }
-}
+/// A list of expressions.
+pub type Exprs = Sequence<Expr>;

@@ -2,7 +2,7 @@
 -- A call that finds no memory is not spoken of here: it answers that and leaves `counted`.
 use Rattle.std.specs.Prelude.{ℕ, ◌+◌, ◌-◌, ℤ, pos, negsuc, Bool, false, true, List, [], ◌∷◌, ◌++◌, length, take, drop, slice_get, slice_set, Option, None, Some, Result, Ok, Err, nat_le, if◌then◌else◌}
 use Rattle.std.specs.Option.{option_map}
-use Rattle.mx_word.specs.Lists.{overwritten}
+use Rattle.mx_word.specs.Lists.{with_written}
 use Rattle.mx_host.specs.HostModel.{HostModel, counted, is_failing, is_read_only, is_write_only, is_binary, slot_at, with_slot, place_of}
 use Rattle.mx_host.specs.declared.files.StoredFile.{StoredFile}
 use Rattle.mx_host.specs.declared.slots.Mode.{Mode}
@@ -87,13 +87,13 @@ read_from m slot len (Open lead mode place) =
 unfoldable pub read_answer : HostModel → ℕ → ℕ → Then (Result (List ℕ) HostFault)
 read_answer m slot len = if is_failing m then (Err Failed, counted m) else read_from (counted m) slot len (slot_at m slot)
 
--- a file's bytes are replaced at the place, and extended; a stream's are appended
+-- a file's bytes are with_part at the place, and extended; a stream's are appended
 abbrev pub write_lead : HostModel → ℕ → List ℕ → Lead → Mode → ℕ → Then (Result (Unit {0}) HostFault)
 write_lead m slot from Input mode place = (Err Misused, m)
 write_lead m slot from Output mode place = (Ok tt, record m { output = m.output ++ from })
 write_lead m slot from Errors mode place = (Ok tt, record m { errors = m.errors ++ from })
 write_lead m slot from (File at) mode place =
-    (Ok tt, with_slot (record m { files = with_bytes m.files at (overwritten (bytes_at m.files at) place from) }) slot (Open (File at) mode (place + length from)))
+    (Ok tt, with_slot (record m { files = with_bytes m.files at (with_written (bytes_at m.files at) place from) }) slot (Open (File at) mode (place + length from)))
 
 abbrev pub write_to : HostModel → ℕ → List ℕ → Slot → Then (Result (Unit {0}) HostFault)
 write_to m slot from Closed = (Err Misused, m)

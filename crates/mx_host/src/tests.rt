@@ -73,7 +73,7 @@ const WRITING: [Row; 15] = [
     ),
     (Write(5, b"abcdef"), Done, "it is extended"),
     (Seek(5, 1), Done, "inside"),
-    (Write(5, b"XY"), Done, "bytes are replaced"),
+    (Write(5, b"XY"), Done, "bytes are with_part"),
     (Read(5), Bytes(3, *b"def."), "and what follows stays"),
     (
         Open(6, b"out", Mode::BinaryWrite),

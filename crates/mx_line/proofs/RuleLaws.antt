@@ -6,7 +6,7 @@ use Rattle.std.proofs.lemmas.Bool.Decides.{nat_tests}
 use Rattle.mx_line.specs.declared.spans.Span.{Span}
 use Rattle.mx_line.specs.declared.faults.LineFault.{LineFault}
 use Rattle.mx_line.specs.declared.faults.LineFault.TheVariants.{TooLong, BadLabel, BadLocal, BadOpcode, OpenString, OpenChar, NoOpcode}
-use Rattle.mx_line.specs.Bytes.{is_blank, is_word, run, past}
+use Rattle.mx_line.specs.Bytes.{is_blank, is_name_byte, run, past}
 use Rattle.mx_line.specs.Fields.{field_length, ends_here}
 use Rattle.mx_line.specs.Fields.Within.{nothing}
 use Rattle.mx_line.specs.Plain.{span}
@@ -61,9 +61,9 @@ with-is label op place text gap rest run (Err NoOpcode) h = absurd h
 operands-are : (label : Option Span) (op : Span) (place : ℕ) (text : List ℕ) → Operands label op place text (operands_at label op place text)
 operands-are label op place text = with-is label op place text (run is_blank text) (past is_blank text) (run-is is_blank text) (field_length (past is_blank text)) (spelled-is nothing (past is_blank text))
 
-opcode-is : (label : Option Span) (place : ℕ) (text gap rest op after : List ℕ) → Run is_blank text gap rest → Run is_word rest op after → Operation label place text (opcode_at label (place + length gap) op after)
-opcode-is None place text gap rest [] after r q = only_blanks gap rest r (ap (begins is_word) q.spelled ∙ q.ends) refl
-opcode-is (Some s) place text gap rest [] after r q = only_label gap rest s r (ap (begins is_word) q.spelled ∙ q.ends) refl
+opcode-is : (label : Option Span) (place : ℕ) (text gap rest op after : List ℕ) → Run is_blank text gap rest → Run is_name_byte rest op after → Operation label place text (opcode_at label (place + length gap) op after)
+opcode-is None place text gap rest [] after r q = only_blanks gap rest r (ap (begins is_name_byte) q.spelled ∙ q.ends) refl
+opcode-is (Some s) place text gap rest [] after r q = only_label gap rest s r (ap (begins is_name_byte) q.spelled ∙ q.ends) refl
 opcode-is label place text gap rest (b ∷ bs) after r q =
     chosen (Operation label place text) (ends_here after) _ _
     (λ e. named gap rest (b ∷ bs) after _ r q (omega arith) e (operands-are label (span (place + length gap) (b ∷ bs)) (place + length gap + length (b ∷ bs)) after))
@@ -71,9 +71,9 @@ opcode-is label place text gap rest (b ∷ bs) after r q =
 
 operation-is : (label : Option Span) (place : ℕ) (text : List ℕ) → Operation label place text (operation_at label place text)
 operation-is label place text =
-    opcode-is label place text (run is_blank text) (past is_blank text) (run is_word (past is_blank text)) (past is_word (past is_blank text)) (run-is is_blank text) (run-is is_word (past is_blank text))
+    opcode-is label place text (run is_blank text) (past is_blank text) (run is_name_byte (past is_blank text)) (past is_name_byte (past is_blank text)) (run-is is_blank text) (run-is is_name_byte (past is_blank text))
 
-labelled-is : (place : ℕ) (text label rest : List ℕ) → Run is_word text label rest → 0 < length label → Statement place text (labelled_at place label rest)
+labelled-is : (place : ℕ) (text label rest : List ℕ) → Run is_name_byte text label rest → 0 < length label → Statement place text (labelled_at place label rest)
 labelled-is place text label rest r l =
     chosen (Statement place text) (is_bad_local label) _ _ (λ b. bad_local label rest r l b) (λ b.
     chosen (Statement place text) (ends_label rest) _ _ (λ e. labelled label rest _ r l b e (operation-is (Some (span place label)) (place + length label) rest)) (λ e. bad_label label rest r l b e))
@@ -81,7 +81,7 @@ labelled-is place text label rest r l =
 statement-is : (place : ℕ) (text : List ℕ) → Statement place text (statement_at place text)
 statement-is place [] = comment refl refl
 statement-is place (b ∷ bs) =
-    chosen (Statement place (b ∷ bs)) (is_word b) _ _ (λ w. labelled-is place (b ∷ bs) (run is_word (b ∷ bs)) (past is_word (b ∷ bs)) (run-is is_word (b ∷ bs)) (some-run is_word b bs w)) (λ w.
+    chosen (Statement place (b ∷ bs)) (is_name_byte b) _ _ (λ w. labelled-is place (b ∷ bs) (run is_name_byte (b ∷ bs)) (past is_name_byte (b ∷ bs)) (run-is is_name_byte (b ∷ bs)) (some-run is_name_byte b bs w)) (λ w.
     chosen (Statement place (b ∷ bs)) (is_blank b) _ _ (λ k. unlabelled _ w k (operation-is None place (b ∷ bs))) (λ k. comment w k))
 
 long-true : (line : List ℕ) (place : ℕ) → is_too_long line place ≡ true → (place ≡ 0) × (4096 < length line)
@@ -135,12 +135,12 @@ operands-only label op place text _ (open_string gap rest front inner r e f h) =
 operands-only label op place text _ (open_char gap rest front after r e f h) =
     operands-after-gap label op place text gap rest r ∙ ap (with_field label op (place + length gap) rest) (ap field_length e ∙ open-char front after f h)
 
-operation-after-gap : (label : Option Span) (place : ℕ) (text gap rest op after : List ℕ) → Run is_blank text gap rest → Run is_word rest op after → operation_at label place text ≡ opcode_at label (place + length gap) op after
+operation-after-gap : (label : Option Span) (place : ℕ) (text gap rest op after : List ℕ) → Run is_blank text gap rest → Run is_name_byte rest op after → operation_at label place text ≡ opcode_at label (place + length gap) op after
 operation-after-gap label place text gap rest op after r q =
-    ap (λ g. opcode_at label (place + length g) (run is_word (past is_blank text)) (past is_word (past is_blank text))) (run-only is_blank text gap rest r)
-    ∙ ap (λ t. opcode_at label (place + length gap) (run is_word t) (past is_word t)) (past-only is_blank text gap rest r)
-    ∙ ap (λ o. opcode_at label (place + length gap) o (past is_word rest)) (run-only is_word rest op after q)
-    ∙ ap (opcode_at label (place + length gap) op) (past-only is_word rest op after q)
+    ap (λ g. opcode_at label (place + length g) (run is_name_byte (past is_blank text)) (past is_name_byte (past is_blank text))) (run-only is_blank text gap rest r)
+    ∙ ap (λ t. opcode_at label (place + length gap) (run is_name_byte t) (past is_name_byte t)) (past-only is_blank text gap rest r)
+    ∙ ap (λ o. opcode_at label (place + length gap) o (past is_name_byte rest)) (run-only is_name_byte rest op after q)
+    ∙ ap (opcode_at label (place + length gap) op) (past-only is_name_byte rest op after q)
 
 -- without a letter or digit there is an empty opcode
 empty-run : (kind : ℕ → Bool) (text : List ℕ) → begins kind text ≡ false → Run kind text [] text
@@ -157,32 +157,32 @@ operation-only label place text found (named gap rest op after _ r q l e h) =
 operation-only label place text _ (bad_opcode gap rest op after r q l e) =
     operation-after-gap label place text gap rest op after r q ∙ opcode-chosen label (place + length gap) op after false l e
 operation-only label place text _ (only_blanks gap rest r h e) =
-    operation-after-gap label place text gap rest [] rest r (empty-run is_word rest h) ∙ ap no_opcode e
+    operation-after-gap label place text gap rest [] rest r (empty-run is_name_byte rest h) ∙ ap no_opcode e
 operation-only label place text _ (only_label gap rest before r h e) =
-    operation-after-gap label place text gap rest [] rest r (empty-run is_word rest h) ∙ ap no_opcode e
+    operation-after-gap label place text gap rest [] rest r (empty-run is_name_byte rest h) ∙ ap no_opcode e
 
 -- a text that begins with a label
-word-first : (text label rest : List ℕ) → Run is_word text label rest → 0 < length label → begins is_word text ≡ true
+word-first : (text label rest : List ℕ) → Run is_name_byte text label rest → 0 < length label → begins is_name_byte text ≡ true
 word-first text [] rest r l = absurd (omega arith)
-word-first text (b ∷ bs) rest r l = ap (begins is_word) r.spelled ∙ (and-both (is_word b) _ r.all).0
+word-first text (b ∷ bs) rest r l = ap (begins is_name_byte) r.spelled ∙ (and-both (is_name_byte b) _ r.all).0
 
-at-label : (place : ℕ) (text : List ℕ) → begins is_word text ≡ true → statement_at place text ≡ labelled_at place (run is_word text) (past is_word text)
+at-label : (place : ℕ) (text : List ℕ) → begins is_name_byte text ≡ true → statement_at place text ≡ labelled_at place (run is_name_byte text) (past is_name_byte text)
 at-label place [] h = absurd (cc)
 at-label place (b ∷ bs) h = rw h refl
 
-statement-after-label : (place : ℕ) (text label rest : List ℕ) → Run is_word text label rest → 0 < length label → statement_at place text ≡ labelled_at place label rest
+statement-after-label : (place : ℕ) (text label rest : List ℕ) → Run is_name_byte text label rest → 0 < length label → statement_at place text ≡ labelled_at place label rest
 statement-after-label place text label rest r l =
-    at-label place text (word-first text label rest r l) ∙ ap (λ w. labelled_at place w (past is_word text)) (run-only is_word text label rest r) ∙ ap (labelled_at place label) (past-only is_word text label rest r)
+    at-label place text (word-first text label rest r l) ∙ ap (λ w. labelled_at place w (past is_name_byte text)) (run-only is_name_byte text label rest r) ∙ ap (labelled_at place label) (past-only is_name_byte text label rest r)
 
 label-chosen : (place : ℕ) (label rest : List ℕ) (s t : Bool) → is_bad_local label ≡ s → ends_label rest ≡ t →
     labelled_at place label rest ≡ cond s (Err BadLocal) (cond t (operation_at (Some (span place label)) (place + length label) rest) (Err BadLabel))
 label-chosen place label rest s t e f = rw (e, f) refl
 
-no-label : (place : ℕ) (text : List ℕ) → begins is_word text ≡ false → begins is_blank text ≡ true → statement_at place text ≡ operation_at None place text
+no-label : (place : ℕ) (text : List ℕ) → begins is_name_byte text ≡ false → begins is_blank text ≡ true → statement_at place text ≡ operation_at None place text
 no-label place [] w k = absurd (cc)
 no-label place (b ∷ bs) w k = rw (w, k) refl
 
-no-statement : (place : ℕ) (text : List ℕ) → begins is_word text ≡ false → begins is_blank text ≡ false → statement_at place text ≡ Ok None
+no-statement : (place : ℕ) (text : List ℕ) → begins is_name_byte text ≡ false → begins is_blank text ≡ false → statement_at place text ≡ Ok None
 no-statement place [] w k = refl
 no-statement place (b ∷ bs) w k = rw (w, k) refl
 

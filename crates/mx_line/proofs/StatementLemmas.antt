@@ -5,7 +5,7 @@ use Rattle.std.specs.List.{prefix_len}
 use Rattle.mx_line.specs.declared.spans.Span.{Span}
 use Rattle.mx_line.specs.declared.faults.LineFault.{LineFault}
 use Rattle.mx_line.specs.declared.cutter.Cut.{Cut}
-use Rattle.mx_line.specs.Bytes.{is_blank, is_word, run, past}
+use Rattle.mx_line.specs.Bytes.{is_blank, is_name_byte, run, past}
 use Rattle.mx_line.specs.Fields.{ends_here, field_length}
 use Rattle.mx_line.specs.Plain.{span}
 use Rattle.mx_line.specs.Cutting.{next_from, with_field, operands_at, no_opcode, opcode_at, operation_at, ends_label, is_bad_local, labelled_at, statement_at, is_too_long, statement_of, listed, cuts_within, cuts_from, LabelBefore, CutInOrder}
@@ -46,8 +46,8 @@ label-later start (Some s) place more (a, b, d) = (a, b, omega arith)
 operation-order : (start end place : ℕ) (label : Option Span) (text : List ℕ) → ((n : ℕ) → n ≡ place + length (run is_blank text) → LabelBefore start label n) → place + length text ≡ end →
     CutInOrder start end (operation_at label place text)
 operation-order start end place label text l e =
-    opcode-order start end (place + length (run is_blank text)) label (run is_word (past is_blank text)) (past is_word (past is_blank text)) (l _ refl)
-    (omega (arith, run-whole is_blank text, run-whole is_word (past is_blank text)))
+    opcode-order start end (place + length (run is_blank text)) label (run is_name_byte (past is_blank text)) (past is_name_byte (past is_blank text)) (l _ refl)
+    (omega (arith, run-whole is_blank text, run-whole is_name_byte (past is_blank text)))
 
 some-step : (t : Bool) (n : ℕ) → t ≡ true → 0 < cond t (1 + n) 0
 some-step t n h = rw h (omega arith)
@@ -69,7 +69,7 @@ labelled-order start end label rest s e =
 statement_at-order : (start end : ℕ) (text : List ℕ) → start + length text ≡ end → CutInOrder start end (statement_at start text)
 statement_at-order start end [] e = tt
 statement_at-order start end (b ∷ bs) e =
-    chosen (CutInOrder start end) (is_word b) _ _ (λ h. labelled-order start end (run is_word (b ∷ bs)) (past is_word (b ∷ bs)) (some-run is_word b bs h) (omega (arith, run-whole is_word (b ∷ bs)))) (λ _.
+    chosen (CutInOrder start end) (is_name_byte b) _ _ (λ h. labelled-order start end (run is_name_byte (b ∷ bs)) (past is_name_byte (b ∷ bs)) (some-run is_name_byte b bs h) (omega (arith, run-whole is_name_byte (b ∷ bs)))) (λ _.
     chosen (CutInOrder start end) (is_blank b) _ _ (λ h. let some = some-run is_blank b bs h in operation-order start end start None (b ∷ bs) (λ n k. omega arith) e) (λ _. tt))
 
 pub statement-order : (line : List ℕ) (place : ℕ) → place ≤ length line → CutInOrder place (length line) (statement_of line place)

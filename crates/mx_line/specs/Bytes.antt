@@ -1,6 +1,6 @@
 -- Blanks, and runs of bytes of a kind.
 use Rattle.std.specs.Prelude.{ℕ, List, length, drop, Bool, ◌==◌, ◌||◌, take_while}
-pub use Rattle.mx_word.specs.Kinds.{is_digit, is_letter, is_word}
+pub use Rattle.mx_word.specs.Kinds.{is_digit, is_letter, is_name_byte}
 
 abbrev pub is_blank : ℕ → Bool
 is_blank b = b == 9 || b == 11 || b == 12 || b == 13 || b == 32

@@ -5,7 +5,7 @@ use Rattle.mx_line.specs.declared.spans.Span.{Span}
 use Rattle.mx_line.specs.declared.faults.LineFault.{LineFault}
 use Rattle.mx_line.specs.declared.faults.LineFault.TheVariants.{TooLong, BadLabel, BadLocal, BadOpcode, NoOpcode}
 use Rattle.mx_line.specs.declared.cutter.Cut.{Cut}
-use Rattle.mx_line.specs.Bytes.{is_blank, is_digit, is_word, run, past}
+use Rattle.mx_line.specs.Bytes.{is_blank, is_digit, is_name_byte, run, past}
 use Rattle.mx_line.specs.Fields.{ends_here, field_length}
 use Rattle.mx_line.specs.Plain.{span}
 
@@ -43,7 +43,7 @@ opcode_at label place (b ∷ bs) rest =
 -- It follows the blanks after the label, or at the front of a statement without a label.
 abbrev pub operation_at : Option Span → ℕ → List ℕ → Result (Option Cut) LineFault
 operation_at label place text =
-    opcode_at label (place + length (run is_blank text)) (run is_word (past is_blank text)) (past is_word (past is_blank text))
+    opcode_at label (place + length (run is_blank text)) (run is_name_byte (past is_blank text)) (past is_name_byte (past is_blank text))
 
 -- A label is followed by a blank or the end of the line.
 abbrev pub ends_label : List ℕ → Bool
@@ -67,7 +67,7 @@ labelled_at place label rest =
 abbrev pub statement_at : ℕ → List ℕ → Result (Option Cut) LineFault
 statement_at place [] = Ok None
 statement_at place (b ∷ bs) =
-    if is_word b then labelled_at place (run is_word (b ∷ bs)) (past is_word (b ∷ bs))
+    if is_name_byte b then labelled_at place (run is_name_byte (b ∷ bs)) (past is_name_byte (b ∷ bs))
     else if is_blank b then operation_at None place (b ∷ bs)
     else Ok None
 

@@ -6,7 +6,7 @@ use Rattle.mx_line.specs.declared.spans.Span.{Span}
 use Rattle.mx_line.specs.declared.faults.LineFault.{LineFault}
 use Rattle.mx_line.specs.declared.faults.LineFault.TheVariants.{TooLong, BadLabel, BadLocal, BadOpcode, OpenString, OpenChar, NoOpcode}
 use Rattle.mx_line.specs.declared.cutter.Cut.{Cut}
-use Rattle.mx_line.specs.Bytes.{is_blank, is_word}
+use Rattle.mx_line.specs.Bytes.{is_blank, is_name_byte}
 use Rattle.mx_line.specs.Fields.{ends_field, ends_here}
 use Rattle.mx_line.specs.Plain.{span}
 use Rattle.mx_line.specs.Cutting.{is_bad_local, ends_label}
@@ -63,22 +63,22 @@ pub data Operands (label : Option Span) (op : Span) (place : ℕ) (text : List �
 -- The opcode is a run of letters and digits, and ends at a blank, at `;` or at the end of the
 -- line. Without one, the rest of the line is a comment, but a label wants an opcode.
 pub data Operation (label : Option Span) (place : ℕ) (text : List ℕ) : Found → Type 0 where
-  named : (gap rest op after : List ℕ) (found : Found) → Run is_blank text gap rest → Run is_word rest op after → 0 < length op → ends_here after ≡ true →
+  named : (gap rest op after : List ℕ) (found : Found) → Run is_blank text gap rest → Run is_name_byte rest op after → 0 < length op → ends_here after ≡ true →
       Operands label (span (place + length gap) op) (place + length gap + length op) after found → Operation label place text found
-  bad_opcode : (gap rest op after : List ℕ) → Run is_blank text gap rest → Run is_word rest op after → 0 < length op → ends_here after ≡ false →
+  bad_opcode : (gap rest op after : List ℕ) → Run is_blank text gap rest → Run is_name_byte rest op after → 0 < length op → ends_here after ≡ false →
       Operation label place text (Err BadOpcode)
-  only_blanks : (gap rest : List ℕ) → Run is_blank text gap rest → begins is_word rest ≡ false → label ≡ None → Operation label place text (Ok None)
-  only_label : (gap rest : List ℕ) (before : Span) → Run is_blank text gap rest → begins is_word rest ≡ false → label ≡ Some before → Operation label place text (Err NoOpcode)
+  only_blanks : (gap rest : List ℕ) → Run is_blank text gap rest → begins is_name_byte rest ≡ false → label ≡ None → Operation label place text (Ok None)
+  only_label : (gap rest : List ℕ) (before : Span) → Run is_blank text gap rest → begins is_name_byte rest ≡ false → label ≡ Some before → Operation label place text (Err NoOpcode)
 
 -- A statement begins with a blank, or with a label, a run of letters and digits that is followed
 -- by a blank or the end of the line. Anything else is a comment.
 pub data Statement (place : ℕ) (text : List ℕ) : Found → Type 0 where
-  comment : begins is_word text ≡ false → begins is_blank text ≡ false → Statement place text (Ok None)
-  unlabelled : (found : Found) → begins is_word text ≡ false → begins is_blank text ≡ true → Operation None place text found → Statement place text found
-  labelled : (label rest : List ℕ) (found : Found) → Run is_word text label rest → 0 < length label → is_bad_local label ≡ false → ends_label rest ≡ true →
+  comment : begins is_name_byte text ≡ false → begins is_blank text ≡ false → Statement place text (Ok None)
+  unlabelled : (found : Found) → begins is_name_byte text ≡ false → begins is_blank text ≡ true → Operation None place text found → Statement place text found
+  labelled : (label rest : List ℕ) (found : Found) → Run is_name_byte text label rest → 0 < length label → is_bad_local label ≡ false → ends_label rest ≡ true →
       Operation (Some (span place label)) (place + length label) rest found → Statement place text found
-  bad_local : (label rest : List ℕ) → Run is_word text label rest → 0 < length label → is_bad_local label ≡ true → Statement place text (Err BadLocal)
-  bad_label : (label rest : List ℕ) → Run is_word text label rest → 0 < length label → is_bad_local label ≡ false → ends_label rest ≡ false → Statement place text (Err BadLabel)
+  bad_local : (label rest : List ℕ) → Run is_name_byte text label rest → 0 < length label → is_bad_local label ≡ true → Statement place text (Err BadLocal)
+  bad_label : (label rest : List ℕ) → Run is_name_byte text label rest → 0 < length label → is_bad_local label ≡ false → ends_label rest ≡ false → Statement place text (Err BadLabel)
 
 -- A line of more than 4,096 bytes has that fault in place of its statements.
 pub data StatementOf (line : List ℕ) (place : ℕ) : Found → Type 0 where

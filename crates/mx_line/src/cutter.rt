@@ -8,7 +8,7 @@ ghost use Rattle.mx_line.specs.Statements.{Found, StatementOf, Statements};
 use crate::fields::{ends_here, field_length};
 use crate::kinds::{blanks, is_blank, word};
 use crate::{LineFault, Span};
-use mx_word::{is_digit, is_word};
+use mx_word::{is_digit, is_name_byte};
 
 /// A statement, as the places of its fields in the line, and the place where the next statement
 /// begins, or the line's length.
@@ -164,7 +164,7 @@ fn statement_at(place: usize, text: &[u8]) -> Result<Option<Cut>, LineFault>
     match text {
         [] => Ok(None),
         [b, ..] => {
-            if is_word(*b) {
+            if is_name_byte(*b) {
                 let (label, rest) = word(text);
                 labelled_at(place, label, rest)
             } else if is_blank(*b) {

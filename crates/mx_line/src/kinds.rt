@@ -3,7 +3,7 @@
 ghost use Rattle.std.specs.Prelude.{◌≡◌, ◌+◌, length};
 ghost use Rattle.mx_line.specs.Bytes as spec;
 
-use mx_word::is_word;
+use mx_word::is_name_byte;
 
 pub fn is_blank(b: u8) -> bool
     ensures { result ≡ spec.is_blank b }
@@ -18,9 +18,9 @@ fn blank_count(text: &[u8]) -> usize
 }
 
 fn word_count(text: &[u8]) -> usize
-    ensures { result ≡ length (spec.run spec.is_word text.now) }
+    ensures { result ≡ length (spec.run spec.is_name_byte text.now) }
 {
-    text.iter().take_while(|b| is_word(**b)).count()
+    text.iter().take_while(|b| is_name_byte(**b)).count()
 }
 
 /// The blanks at the front of a text, and what follows them.
@@ -36,8 +36,8 @@ pub fn blanks(text: &[u8]) -> (&[u8], &[u8])
 /// The letters and digits at the front of a text, and what follows them.
 #[tactic(auto, using(crate::proofs::KindLemmas::runs))]
 pub fn word(text: &[u8]) -> (&[u8], &[u8])
-    ensures front { result.0.now ≡ spec.run spec.is_word text.now }
-    ensures rest { result.1.now ≡ spec.past spec.is_word text.now }
+    ensures front { result.0.now ≡ spec.run spec.is_name_byte text.now }
+    ensures rest { result.1.now ≡ spec.past spec.is_name_byte text.now }
     ensures whole { length result.0.now + length result.1.now ≡ length text.now }
 {
     text.split_at(word_count(text))

@@ -1,7 +1,7 @@
 -- Memory as contracts see it: the octas by their addresses, and the pages that are there.
 use Rattle.std.specs.Prelude.{ℕ, ◌-◌, ◌*◌, ◌/◌, ◌%◌, ◌^◌, Bool, true, ◌==◌, ◌&&◌, not, nat_lt, if◌then◌else◌, List, length, Option, None, Some, unwrap_or, bit_xor, ◌≡◌, ◌≢◌, ◌≤◌, ◌<◌}
 use Rattle.std.specs.List.{list_any}
-pub use Rattle.mx_word.specs.Octas.{byte_of, byte_in, in_half, joined, with_page}
+pub use Rattle.mx_word.specs.Octas.{byte_of, byte_in, in_half, with_tetra, with_page}
 use Rattle.std.specs.Map.{lookup}
 use Rattle.std.specs.Ordering.{nat_cmp}
 use Rattle.std.specs.BTreeMap.{is_at}

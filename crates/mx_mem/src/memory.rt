@@ -3,7 +3,7 @@
 ghost use Rattle.std.specs.Prelude.{◌≡◌, ◌≢◌, ◌↔◌, ◌≤◌, ◌<◌, ◌+◌, ◌/◌, ◌^◌, ◌==◌, ℕ, false, IsTrue, OnOk, OnErr, if◌then◌else◌};
 ghost use Rattle.std.specs.Ordering.{nat_cmp};
 ghost use Rattle.std.specs.BTreeMap.{get};
-ghost use Rattle.mx_mem.specs.Memory.{octa_at, byte_at, has_page, page_count, is_refused, with_page, stored_at, stored_bytes, in_half, joined, joined_bytes, IsNextNonzero};
+ghost use Rattle.mx_mem.specs.Memory.{octa_at, byte_at, has_page, page_count, is_refused, with_page, stored_at, stored_bytes, in_half, with_tetra, joined_bytes, IsNextNonzero};
 ghost use Rattle.mx_mem.specs.Stands.{nonzero};
 
 use crate::MemFault;
@@ -66,7 +66,7 @@ impl Memory {
     /// changed.
     pub fn xor_tetra(&mut self, a: u64, t: u32) -> Result<(), MemFault>
         requires { a < 2 ^ 63 }
-        ensures octas { OnOk result (octa_at self.new ≡ joined (octa_at self.old) a t) }
+        ensures octas { OnOk result (octa_at self.new ≡ with_tetra (octa_at self.old) a t) }
         ensures bytes { OnOk result (byte_at self.new ≡ joined_bytes (byte_at self.old) a t) }
         ensures pages { OnOk result (has_page self.new ≡ with_page (has_page self.old) (a / 4096)) }
         ensures count { OnOk result (page_count self.new ≡ page_count self.old + (if has_page self.old (a / 4096) then 0 else 1)) }

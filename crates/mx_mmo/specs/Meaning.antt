@@ -1,6 +1,6 @@
 -- What a list of items means, item by item.
 use Rattle.std.specs.Prelude.{ℕ, ◌+◌, ◌-◌, ◌*◌, ◌/◌, ◌%◌, ◌^◌, ◌==◌, ◌&&◌, Bool, true, false, not, nat_le, List, [], ◌∷◌, Option, Some, None, Result, Ok, Err, slice_index, bit_xor, if◌then◌else◌}
-pub use Rattle.mx_word.specs.Octas.{joined, with_page}
+pub use Rattle.mx_word.specs.Octas.{with_tetra, with_page}
 use Rattle.mx_mmo.specs.Image.{Image}
 use Rattle.mx_mmo.specs.declared.items.Item.{Item}
 use Rattle.mx_mmo.specs.declared.items.Item.TheVariants.{Load, Loc, Skip, FixOcta, FixNear, FixFar, File, Line, Spec, Pre, Post, Stab}
@@ -43,7 +43,7 @@ abbrev pub is_below : ℕ → Bool
 is_below a = not (nat_le 0x6000_0000_0000_0000 a)
 
 abbrev pub joined_on : ℕ → ℕ → Result Image Meaningless → Result Image Meaningless
-joined_on a t (Ok m) = Ok (record m { memory = joined m.memory a t })
+joined_on a t (Ok m) = Ok (record m { memory = with_tetra m.memory a t })
 joined_on a t (Err e) = Err e
 
 -- a tetra is joined at an address, on the page that it lies on

@@ -14,7 +14,7 @@ use Rattle.mx_host.specs.declared.slots.Lead.{Lead}
 use Rattle.mx_host.specs.declared.slots.Lead.TheVariants.{File}
 use Rattle.mx_host.specs.HostModel.{HostModel, last_call, place_of}
 use Rattle.mx_host.specs.HostAnswer.{Then, open_answer, opened, read_answer, read_from, write_answer, write_to, close_answer, closed, with_bytes, bytes_at, put_at}
-use Rattle.mx_word.specs.Lists.{overwritten}
+use Rattle.mx_word.specs.Lists.{with_written}
 use Rattle.mx_mmo.specs.declared.items.Item.{Item}
 use Rattle.mx_top.specs.FileTraps.{piece_put, pieces_after, put_pieces}
 use Rattle.mx_top.specs.Objects.{object_bytes}
@@ -131,7 +131,7 @@ unfolding write_answer
 write-idle files slots m name p bytes from h l =
     let s : Slot = Open (File (home files p)) BinaryWrite (length bytes) in
     let place : ℕ → Slot = λ k. Open (File (home files p)) BinaryWrite k in
-    let longer : List ℕ → List ℕ = λ xs. overwritten xs (length bytes) from in
+    let longer : List ℕ → List ℕ = λ xs. with_written xs (length bytes) from in
     let held : bytes_at (put_at files name bytes p) (home files p) ≡ bytes = at-home files name bytes p l in
     let put : with_bytes (put_at files name bytes p) (home files p) (longer (bytes_at (put_at files name bytes p) (home files p))) ≡ put_at files name (bytes ++ from) p =
     ap (λ xs. with_bytes (put_at files name bytes p) (home files p) (longer xs)) held ∙ put-put files name bytes (longer bytes) p l ∙ ap (λ xs. put_at files name xs p) (overwritten-end bytes from) in

@@ -7,8 +7,8 @@ use Rattle.std.proofs.lemmas.Bool.Decides.{nat_tests}
 use Rattle.std.proofs.lemmas.Bool.{cases_eq, cases_lt}
 use Rattle.mx_word.specs.Words.{tetra_from_bytes}
 use Rattle.mx_mem.specs.Memory.{byte_in, tetra_byte}
-use Rattle.mx_mem.proofs.Joins.{byte_in-joined}
-use Rattle.mx_mmo.specs.Meaning.{joined}
+use Rattle.mx_word.proofs.JoinedTetra.{byte_in-joined}
+use Rattle.mx_mmo.specs.Meaning.{with_tetra}
 use Rattle.mx_top.specs.Placements.{placed, from_place}
 
 -- the four bytes of a tetra, by their places
@@ -107,7 +107,7 @@ tetra-placed x a b c d q m la lb lc ld = ⊎_elim (λ e. inside e) (λ ne. outsi
 
 -- a tetra that is joined places its bytes
 pub joined-placed : (f : ℕ → ℕ) (x a b c d q : ℕ) → x % 4 ≡ 0 → a < 256 → b < 256 → c < 256 → d < 256 →
-    byte_in (joined f x (tetra_from_bytes (a ∷ b ∷ c ∷ d ∷ []))) q ≡ bit_xor (byte_in f q) (placed (four x a b c d) q)
+    byte_in (with_tetra f x (tetra_from_bytes (a ∷ b ∷ c ∷ d ∷ []))) q ≡ bit_xor (byte_in f q) (placed (four x a b c d) q)
 joined-placed f x a b c d q m la lb lc ld =
     let t = tetra_from_bytes (a ∷ b ∷ c ∷ d ∷ []) in
     ap (λ (g : ℕ → ℕ). g q) (byte_in-joined f x t (tetra-small a b c d la lb lc ld))

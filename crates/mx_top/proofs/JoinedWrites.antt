@@ -4,7 +4,7 @@ use Rattle.std.specs.Prelude.{slice_get, slice_set, replicate, unwrap_or}
 use Rattle.std.proofs.lemmas.Bool.Decides.{nat_tests}
 use Rattle.std.proofs.lemmas.List.{length-append, length-take, length-drop, length-replicate, set-set, take_at, drop_at, drop-drop, take-append-le, drop-append-le, take-append-drop, replicate-append-replicate}
 use Rattle.std.proofs.lemmas.Option.{slice_get_past}
-use Rattle.mx_word.specs.Lists.{padded, replaced, overwritten}
+use Rattle.mx_word.specs.Lists.{with_zeros, with_part, with_written}
 use Rattle.mx_host.specs.declared.files.StoredFile.{StoredFile}
 use Rattle.mx_host.specs.declared.slots.Slot.{Slot}
 use Rattle.mx_host.specs.declared.slots.Slot.TheVariants.{Closed, Open}
@@ -25,22 +25,22 @@ use Rattle.mx_top.proofs.IdleFiles.{slot-set}
 zeros-joined : (old : List ℕ) (b c d : ℕ) → b + c ≡ d → old ++ replicate b 0 ++ replicate c 0 ≡ old ++ replicate d 0
 zeros-joined old b c d e = append_assoc old (replicate b 0) (replicate c 0) ∙ ap (λ zs. old ++ zs) (replicate-append-replicate b c 0 ∙ ap (λ k. replicate k 0) e)
 
-padded-length : (old : List ℕ) (to : ℕ) → length (padded old to) ≡ length old + (to - length old)
+padded-length : (old : List ℕ) (to : ℕ) → length (with_zeros old to) ≡ length old + (to - length old)
 padded-length old to = length-append old (replicate (to - length old) 0) ∙ ap (λ k. length old + k) (length-replicate (to - length old) 0)
 
-padded-twice : (old : List ℕ) (near far : ℕ) → near ≤ far → padded (padded old near) far ≡ padded old far
+padded-twice : (old : List ℕ) (near far : ℕ) → near ≤ far → with_zeros (with_zeros old near) far ≡ with_zeros old far
 padded-twice old near far l =
-    zeros-joined old (near - length old) (far - length (padded old near)) (far - length old) (omega (arith, padded-length old near))
+    zeros-joined old (near - length old) (far - length (with_zeros old near)) (far - length old) (omega (arith, padded-length old near))
 
-padded-long : (old : List ℕ) (to : ℕ) → to ≤ length (padded old to)
+padded-long : (old : List ℕ) (to : ℕ) → to ≤ length (with_zeros old to)
 padded-long old to = omega (arith, padded-length old to)
 
-replaced-length : (old from : List ℕ) (place : ℕ) → place + length from ≤ length old → length (replaced old place from) ≡ length old
+replaced-length : (old from : List ℕ) (place : ℕ) → place + length from ≤ length old → length (with_part old place from) ≡ length old
 replaced-length old from place l = grind (arith, length-append, length-take, length-drop)
 
 -- a front, and the bytes behind it, in place of as many
 replaced-joined : (old zeros front back : List ℕ) (place : ℕ) → place + length front ≤ length old →
-    replaced (old ++ zeros) place (front ++ back) ≡ replaced (replaced old place front ++ zeros) (place + length front) back
+    with_part (old ++ zeros) place (front ++ back) ≡ with_part (with_part old place front ++ zeros) (place + length front) back
 replaced-joined old zeros front back place l =
     let n : ℕ = place + length front in
     let a : List ℕ = take place old in
@@ -52,7 +52,7 @@ replaced-joined old zeros front back place l =
     let before : take place (old ++ zeros) ≡ a = take-append-le place old zeros (omega arith) in
     let after : drop (place + length (front ++ back)) (old ++ zeros) ≡ left =
     ap (λ k. drop k (old ++ zeros)) size ∙ sym (drop-drop (length back) n (old ++ zeros)) ∙ ap (drop (length back)) (drop-append-le n old zeros l) in
-    let cut : replaced old place front ++ zeros ≡ a ++ front ++ (d ++ zeros) = append_assoc (a ++ front) d zeros in
+    let cut : with_part old place front ++ zeros ≡ a ++ front ++ (d ++ zeros) = append_assoc (a ++ front) d zeros in
     let head : take n (a ++ front ++ (d ++ zeros)) ≡ a ++ front = take_at (a ++ front) (d ++ zeros) n seam in
     let tail : drop (n + length back) (a ++ front ++ (d ++ zeros)) ≡ left =
     sym (drop-drop (length back) n (a ++ front ++ (d ++ zeros))) ∙ ap (drop (length back)) (drop_at (a ++ front) (d ++ zeros) n seam) in
@@ -64,46 +64,46 @@ replaced-joined old zeros front back place l =
     ∙ ap (λ xs. take n xs ++ back ++ drop (n + length back) xs) (sym cut)
 
 padded-joined : (old front back : List ℕ) (place : ℕ) →
-    replaced (padded old (place + length (front ++ back))) place (front ++ back)
-    ≡ replaced (padded (replaced (padded old (place + length front)) place front) (place + length front + length back)) (place + length front) back
+    with_part (with_zeros old (place + length (front ++ back))) place (front ++ back)
+    ≡ with_part (with_zeros (with_part (with_zeros old (place + length front)) place front) (place + length front + length back)) (place + length front) back
 padded-joined old front back place =
     let n : ℕ = place + length front in
-    let p : List ℕ = padded old n in
+    let p : List ℕ = with_zeros old n in
     let zeros : List ℕ = replicate (n + length back - length p) 0 in
     let size : place + length (front ++ back) ≡ n + length back = omega (arith, length-append front back) in
     let long : n ≤ length p = padded-long old n in
-    ap (λ k. replaced (padded old k) place (front ++ back)) size
-    ∙ ap (λ xs. replaced xs place (front ++ back)) (sym (padded-twice old n (n + length back) (omega arith)))
+    ap (λ k. with_part (with_zeros old k) place (front ++ back)) size
+    ∙ ap (λ xs. with_part xs place (front ++ back)) (sym (padded-twice old n (n + length back) (omega arith)))
     ∙ replaced-joined p zeros front back place long
-    ∙ ap (λ k. replaced (replaced p place front ++ replicate (n + length back - k) 0) n back) (sym (replaced-length p front place long))
+    ∙ ap (λ k. with_part (with_part p place front ++ replicate (n + length back - k) 0) n back) (sym (replaced-length p front place long))
 
 overwritten-joined : (old : List ℕ) (place : ℕ) (front back : List ℕ) →
-    overwritten old place (front ++ back) ≡ overwritten (overwritten old place front) (place + length front) back
-overwritten-joined old place [] back = let here : place ≡ place + 0 = omega arith in ap (λ k. overwritten old k back) here
-overwritten-joined old place (x ∷ xs) [] = ap (overwritten old place) (append-nil (x ∷ xs))
+    with_written old place (front ++ back) ≡ with_written (with_written old place front) (place + length front) back
+overwritten-joined old place [] back = let here : place ≡ place + 0 = omega arith in ap (λ k. with_written old k back) here
+overwritten-joined old place (x ∷ xs) [] = ap (with_written old place) (append-nil (x ∷ xs))
 overwritten-joined old place (x ∷ xs) (y ∷ ys) = padded-joined old (x ∷ xs) (y ∷ ys) place
 
 -- ---- a slot that is written to twice
 
 files-joined : (files : List StoredFile) (at place : ℕ) (front back : List ℕ) →
-    let once : List StoredFile = with_bytes files at (overwritten (bytes_at files at) place front) in
-    with_bytes once at (overwritten (bytes_at once at) (place + length front) back) ≡ with_bytes files at (overwritten (bytes_at files at) place (front ++ back))
+    let once : List StoredFile = with_bytes files at (with_written (bytes_at files at) place front) in
+    with_bytes once at (with_written (bytes_at once at) (place + length front) back) ≡ with_bytes files at (with_written (bytes_at files at) place (front ++ back))
 files-joined files at place front back = on (nat_lt at (length files)) refl
   where
     on : (b : Bool) → nat_lt at (length files) ≡ b →
-        let once : List StoredFile = with_bytes files at (overwritten (bytes_at files at) place front) in
-        with_bytes once at (overwritten (bytes_at once at) (place + length front) back) ≡ with_bytes files at (overwritten (bytes_at files at) place (front ++ back))
+        let once : List StoredFile = with_bytes files at (with_written (bytes_at files at) place front) in
+        with_bytes once at (with_written (bytes_at once at) (place + length front) back) ≡ with_bytes files at (with_written (bytes_at files at) place (front ++ back))
     on true e =
         let there : at < length files = grind (arith, nat_tests) in
-        let x : List ℕ = overwritten (bytes_at files at) place front in
-        ap (λ xs. with_bytes (with_bytes files at x) at (overwritten xs (place + length front) back)) (at-home files [] x (Some at) there)
-        ∙ put-put files [] x (overwritten x (place + length front) back) (Some at) there
+        let x : List ℕ = with_written (bytes_at files at) place front in
+        ap (λ xs. with_bytes (with_bytes files at x) at (with_written xs (place + length front) back)) (at-home files [] x (Some at) there)
+        ∙ put-put files [] x (with_written x (place + length front) back) (Some at) there
         ∙ ap (with_bytes files at) (sym (overwritten-joined (bytes_at files at) place front back))
     on false e =
         let past : length files ≤ at = grind (arith, nat_tests) in
         let same : (xs : List ℕ) → with_bytes files at xs ≡ files = λ xs. ap (changed_at files at xs) (slice_get_past files at past) in
-        ap (λ fs. with_bytes fs at (overwritten (bytes_at fs at) (place + length front) back)) (same (overwritten (bytes_at files at) place front))
-        ∙ same (overwritten (bytes_at files at) (place + length front) back) ∙ sym (same (overwritten (bytes_at files at) place (front ++ back)))
+        ap (λ fs. with_bytes fs at (with_written (bytes_at fs at) (place + length front) back)) (same (with_written (bytes_at files at) place front))
+        ∙ same (with_written (bytes_at files at) (place + length front) back) ∙ sym (same (with_written (bytes_at files at) place (front ++ back)))
 
 -- a slot that is open is one of the list
 within : (slots : List Slot) (k : ℕ) (l : Lead) (mode : Mode) (place : ℕ) → unwrap_or (slice_get slots k) Closed ≡ Open l mode place → k < length slots
@@ -131,12 +131,12 @@ lead-joined m slot front back Errors mode place e w =
     write-open (record m { errors = m.errors ++ front }) slot back Errors mode place e w ∙ ap (λ xs. (true, record (still m) { errors = xs })) (append_assoc m.errors front back)
 lead-joined m slot front back (File at) mode place e w =
     let to : ℕ → Slot = λ k. Open (File at) mode k in
-    let once : List StoredFile = with_bytes m.files at (overwritten (bytes_at m.files at) place front) in
+    let once : List StoredFile = with_bytes m.files at (with_written (bytes_at m.files at) place front) in
     let size : place + length front + length back ≡ place + length (front ++ back) = omega (arith, length-append front back) in
     write-open (record m { files = once; slots = slice_set m.slots slot (to (place + length front)) }) slot back (File at) mode (place + length front)
     (slot-set m.slots slot (to (place + length front)) Closed (within m.slots slot (File at) mode place e)) w
     ∙ ap (λ fs. (true, record (still m) { files = fs; slots = slice_set (slice_set m.slots slot (to (place + length front))) slot (to (place + length front + length back)) })) (files-joined m.files at place front back)
-    ∙ ap (λ ss. (true, record (still m) { files = with_bytes m.files at (overwritten (bytes_at m.files at) place (front ++ back)); slots = ss }))
+    ∙ ap (λ ss. (true, record (still m) { files = with_bytes m.files at (with_written (bytes_at m.files at) place (front ++ back)); slots = ss }))
     (set-set m.slots slot (to (place + length front)) (to (place + length front + length back)) ∙ ap (λ k. slice_set m.slots slot (to k)) size)
 
 slot-joined : (m : HostModel) (slot : ℕ) (front back : List ℕ) (s : Slot) → slot_at m slot ≡ s →

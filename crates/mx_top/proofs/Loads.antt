@@ -5,7 +5,7 @@ use Rattle.std.specs.Int.Bits.{xor_assoc, xor_zero_r}
 use Rattle.std.proofs.lemmas.Bool.Decides.{nat_tests}
 use Rattle.mx_word.specs.Words.{tetra_from_bytes}
 use Rattle.mx_mem.specs.Memory.{byte_in}
-use Rattle.mx_mmo.specs.Meaning.{Loading, joined, is_below, with_page, take_item, take_items}
+use Rattle.mx_mmo.specs.Meaning.{Loading, with_tetra, is_below, with_page, take_item, take_items}
 use Rattle.mx_mmo.specs.Reading.{words_of}
 use Rattle.mx_mmo.specs.declared.items.Item.TheVariants.{Load}
 use Rattle.mx_top.specs.Image.{pages_of, pages_below}
@@ -33,7 +33,7 @@ next-lambda : (a : ℕ) → a % 4 ≡ 0 → a < 134217728 → (4 * (a / 4) + 4) 
 next-lambda a m l = omega arith
 
 load-is : (n : ℕ) (octas : ℕ → ℕ) (pages : ℕ → Bool) (a t : ℕ) → 32768 ≤ n → a % 4 ≡ 0 → a < 134217728 → IsLow 32768 pages →
-    take_item (standing n octas pages a) (Load t) ≡ Ok (standing n (joined octas a t) (with_page pages (a / 4096)) (a + 4))
+    take_item (standing n octas pages a) (Load t) ≡ Ok (standing n (with_tetra octas a t) (with_page pages (a / 4096)) (a + 4))
 load-is n octas pages a t big m l low =
     let s = standing n octas pages a in
     let paging = paged-is n s.image (a / 4096) (omega arith) big low refl in
@@ -44,7 +44,7 @@ load-is n octas pages a t big m l low =
 -- the octas and the pages once tetras were loaded from a place on
 abbrev pub octas_with : (ℕ → ℕ) → ℕ → List ℕ → ℕ → ℕ
 octas_with octas a [] = octas
-octas_with octas a (t ∷ ts) = octas_with (joined octas a t) (a + 4) ts
+octas_with octas a (t ∷ ts) = octas_with (with_tetra octas a t) (a + 4) ts
 
 abbrev pub pages_with : (ℕ → Bool) → ℕ → List ℕ → ℕ → Bool
 pages_with pages a [] = pages
@@ -55,7 +55,7 @@ pub loads-are : (n : ℕ) (ts : List ℕ) (octas : ℕ → ℕ) (pages : ℕ →
 loads-are n [] octas pages a big m l low = ap (λ k. Ok (standing n octas pages k)) (omega arith)
 loads-are n (t ∷ ts) octas pages a big m l low =
     ap (take_items (map Load ts)) (load-is n octas pages a t big m (omega arith) low)
-    ∙ loads-are n ts (joined octas a t) (with_page pages (a / 4096)) (a + 4) big (omega arith) (omega arith) (page-low pages (a / 4096) 32768 (omega arith) low)
+    ∙ loads-are n ts (with_tetra octas a t) (with_page pages (a / 4096)) (a + 4) big (omega arith) (omega arith) (page-low pages (a / 4096) 32768 (omega arith) low)
     ∙ ap (λ k. Ok (standing n (octas_with octas a (t ∷ ts)) (pages_with pages a (t ∷ ts)) k)) (omega arith)
 
 -- ---- the bytes of tetras
@@ -81,7 +81,7 @@ bytes-with (b ∷ c ∷ []) octas a q m l h = absurd (omega arith)
 bytes-with (b ∷ c ∷ d ∷ []) octas a q m l h = absurd (omega arith)
 bytes-with (b ∷ c ∷ d ∷ e ∷ more) octas a q m l h =
     let t = tetra_from_bytes (b ∷ c ∷ d ∷ e ∷ []) in
-    bytes-with more (joined octas a t) (a + 4) q (omega arith) (omega arith) h.1.1.1.1
+    bytes-with more (with_tetra octas a t) (a + 4) q (omega arith) (omega arith) h.1.1.1.1
     ∙ ap (λ x. bit_xor x (placed (from_place (a + 4) more) q)) (joined-placed octas a b c d e q m h.0 h.1.0 h.1.1.0 h.1.1.1.0)
     ∙ xor_assoc (byte_in octas q) (placed (four a b c d e) q) (placed (from_place (a + 4) more) q)
     ∙ ap (bit_xor (byte_in octas q)) (sym (ap (λ ps. placed ps q) (four-more a b c d e more) ∙ placed-append (four a b c d e) (from_place (a + 4) more) q))

@@ -11,7 +11,7 @@ use Rattle.std.proofs.lemmas.List.Folds.{position_or_len-set, position_or_len_pu
 use Rattle.std.proofs.lemmas.List.Quantifiers.{position-Some}
 use Rattle.std.proofs.lemmas.List.Sums.{prefix_len-le-length}
 use Rattle.std.proofs.lemmas.Option.{slice_get-get_or}
-use Rattle.mx_word.specs.Lists.{overwritten}
+use Rattle.mx_word.specs.Lists.{with_written}
 use Rattle.mx_host.specs.declared.files.StoredFile.{StoredFile}
 use Rattle.mx_host.specs.HostModel.{place_of}
 use Rattle.mx_host.specs.HostAnswer.{changed_at, with_bytes, empty_file, bytes_of, bytes_at, file_at, put_at}
@@ -81,7 +81,7 @@ ended b zeros from h =
     rw (take_at b zeros (length b) refl, drop_all (length b + length from) (b ++ zeros) short, append-nil (b ++ from)) refl
 
 -- bytes that are written at the end of others
-pub overwritten-end : (b from : List ℕ) → overwritten b (length b) from ≡ b ++ from
+pub overwritten-end : (b from : List ℕ) → with_written b (length b) from ≡ b ++ from
 overwritten-end b [] = sym (append-nil b)
 overwritten-end b (x ∷ xs) =
     let k : ℕ = length b + length (x ∷ xs) - length b in

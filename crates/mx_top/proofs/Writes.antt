@@ -3,7 +3,7 @@ use Rattle.std.proofs.Common.{◌+◌, length, take, drop, ◌≡◌, ◌≢◌,
 use Rattle.std.specs.Prelude.{slice_set, Result, Ok, Err, OnErr}
 use Rattle.std.proofs.lemmas.Option.{unwrap_or-slice_get}
 use Rattle.std.proofs.lemmas.List.{get_or-set_other}
-use Rattle.mx_word.specs.Lists.{overwritten}
+use Rattle.mx_word.specs.Lists.{with_written}
 use Rattle.mx_host.specs.HostModel.{HostModel, counted, is_failing, slot_at, with_slot, is_read_only, is_write_only}
 use Rattle.mx_host.specs.HostAnswer.{Then, with_bytes, bytes_at, write_answer, write_to, write_lead, read_answer, read_from, read_lead}
 use Rattle.mx_host.specs.declared.slots.Slot.{Slot}
@@ -26,7 +26,7 @@ lead-slot : (m : HostModel) (slot other : ℕ) (from : List ℕ) (l : Lead) (mod
 lead-slot m slot other from Input mode place h = refl
 lead-slot m slot other from Output mode place h = refl
 lead-slot m slot other from Errors mode place h = refl
-lead-slot m slot other from (File at) mode place h = slot_at-with_slot (record m { files = with_bytes m.files at (overwritten (bytes_at m.files at) place from) }) slot other _ h
+lead-slot m slot other from (File at) mode place h = slot_at-with_slot (record m { files = with_bytes m.files at (with_written (bytes_at m.files at) place from) }) slot other _ h
 
 to-slot : (m : HostModel) (slot other : ℕ) (from : List ℕ) (s : Slot) → slot ≢ other → slot_at (write_to m slot from s).1 other ≡ slot_at m other
 to-slot m slot other from Closed h = refl

@@ -1,5 +1,7 @@
 pub mod Kinds
 pub mod Lists
 pub mod Octas
+pub mod Ranges
 pub mod Results
+pub mod Waits
 pub mod Words

@@ -6,7 +6,8 @@
 
 mod bytes;
 mod kinds;
-mod memory;
+mod no_memory;
+mod sequence;
 mod symbols;
 #[cfg(test)]
 mod tests;
@@ -14,8 +15,9 @@ mod waits;
 mod words;
 
 pub use bytes::Bytes;
-pub use kinds::{is_digit, is_hexadecimal, is_letter, is_word};
-pub use memory::NoMemory;
+pub use kinds::{is_digit, is_hexadecimal, is_letter, is_name_byte};
+pub use no_memory::NoMemory;
+pub use sequence::Sequence;
 pub use symbols::{Symbol, Symbols, Value};
 pub use waits::{Awaited, Wait, WaitKind, Waits};
 pub use words::{octa_bytes, octa_of, product, quotient, signed, tetra_bytes, tetra_of};

@@ -2,7 +2,7 @@
 
 use crate::{
     Awaited, Bytes, NoMemory, Symbol, Symbols, Value, Wait, WaitKind, Waits, is_digit,
-    is_hexadecimal, is_letter, is_word, octa_bytes, octa_of, product, quotient, signed,
+    is_hexadecimal, is_letter, is_name_byte, octa_bytes, octa_of, product, quotient, signed,
     tetra_bytes, tetra_of,
 };
 use std::alloc::Global;
@@ -59,7 +59,7 @@ fn kinds_of_bytes(rt: HostRuntime) {
                 is_digit(byte),
                 is_hexadecimal(byte),
                 is_letter(byte),
-                is_word(byte)
+                is_name_byte(byte)
             ),
             (digit, hexadecimal, letter, word),
             "byte {byte}"
@@ -111,10 +111,26 @@ fn lists(alloc: Global) -> Result<(Bytes, Symbols, Waits), NoMemory> {
 #[test]
 fn lists_with_ample_memory(rt: HostRuntime) {
     let Ok((bytes, symbols, waits)) = lists(rt.alloc()) else {
-        assert!(rt; false, "want of memory");
+        assert!(rt; false, "out of memory");
         return;
     };
     assert!(rt; bytes.as_slice() == b"abcde\0\0z".as_slice());
-    assert_eq!(rt; symbols.as_slice().len(), 1);
-    assert_eq!(rt; waits.as_slice().len(), 1);
+    let [symbol] = symbols.as_slice() else {
+        assert!(rt; false, "one symbol");
+        return;
+    };
+    assert!(rt; symbol.name.as_slice() == b":a".as_slice());
+    assert_eq!(rt; (symbol.value, symbol.serial), (Value::Reg(1), 1));
+    let [wait] = waits.as_slice() else {
+        assert!(rt; false, "one reference");
+        return;
+    };
+    assert_eq!(rt; (wait.at, wait.line, wait.kind), (256, 3, WaitKind::Near));
+    assert!(rt; wait.who.is_same(&Awaited::Local(2)));
+    assert!(rt; !wait.who.is_same(&Awaited::Local(3)));
+    assert!(rt;
+        !wait
+            .who
+            .is_same(&Awaited::Name(symbols.into_vec().remove(0).name))
+    );
 }

@@ -1,16 +1,28 @@
-//! References to names that are defined later.
+//! Future references: to names, and to local labels, that are defined later.
 
-ghost use Rattle.std.specs.Prelude.{◌≡◌, [], ◌∷◌, ◌++◌, OnOk, OnErr};
+ghost use Rattle.std.specs.Prelude.{◌≡◌};
+ghost use Rattle.mx_word.specs.Waits.{same_awaited};
 
-use crate::{Bytes, NoMemory};
-use std::alloc::Global;
-use std::marker::Model;
+use crate::{Bytes, Sequence};
 
 /// What a reference waits for: a complete name, or the next definition of a local label.
 #[derive(Drop)]
 pub enum Awaited {
     Name(Bytes),
     Local(u8),
+}
+
+impl Awaited {
+    /// Whether both are the same name, or the same local label.
+    pub fn is_same(&self, other: &Awaited) -> bool
+        ensures { result ≡ same_awaited self.now other.now }
+    {
+        match (self, other) {
+            (Awaited::Name(name), Awaited::Name(wanted)) => name.as_slice() == wanted.as_slice(),
+            (Awaited::Local(label), Awaited::Local(wanted)) => label == wanted,
+            _ => false,
+        }
+    }
 }
 
 /// Where the value of a reference goes: into an octa, or into the relative address of a branch
@@ -31,46 +43,5 @@ pub struct Wait {
     pub kind: WaitKind,
 }
 
-/// A list of waiting references, which contracts see as that list.
-#[derive(Drop)]
-pub struct Waits {
-    waits: Vec<Wait>,
-}
-
-impl Model for Waits {
-    ghost use Rattle.std.specs.Prelude.{List};
-    ghost use Rattle.mx_word.specs.declared.waits.Wait.{Wait};
-
-    ghost Value = { List Wait };
-
-    ghost view = { λ w. w.waits.items };
-}
-
-impl Waits {
-    /// The empty list. It takes no memory.
-    pub fn new(alloc: Global) -> Waits
-        ensures { result ≡ [] }
-    {
-        Waits {
-            waits: Vec::new(alloc),
-        }
-    }
-
-    /// Adds a reference at the end. Where there is no memory it is dropped, and nothing changes.
-    pub fn push(&mut self, x: Wait) -> Result<(), NoMemory>
-        ensures ok { OnOk result (self.new ≡ self.old ++ x ∷ []) }
-        ensures err { OnErr result (self.new ≡ self.old) }
-    {
-        match self.waits.push(x) {
-            Ok(()) => Ok(()),
-            Err(_) => Err(NoMemory),
-        }
-    }
-
-    /// The references.
-    pub fn as_slice(&self) -> &[Wait]
-        ensures { result.now ≡ self.now }
-    {
-        self.waits.as_slice()
-    }
-}
+/// A list of waiting references.
+pub type Waits = Sequence<Wait>;

@@ -1,7 +1,7 @@
 //! The files and the slots of a host in memory.
 
 ghost use Rattle.std.specs.Prelude.{◌≡◌, ◌<◌, ◌≤◌, ◌+◌, ◌^◌, [], ◌∷◌, ◌++◌, None, OnOk, OnErr, IfErr, IfSome, length, take, drop};
-ghost use Rattle.mx_word.specs.Lists.{overwritten};
+ghost use Rattle.mx_word.specs.Lists.{with_written};
 ghost use Rattle.mx_host.specs.HostModel.{Leads, place_of, slot_at, with_slot};
 ghost use Rattle.mx_host.specs.HostAnswer as spec;
 
@@ -69,7 +69,7 @@ impl MemHost {
         ensures ok { OnOk result (self.new ≡ with_slot
             (record self.old {
               files = spec.with_bytes self.old.files at
-                  (overwritten (spec.bytes_at self.old.files at) place from.now);
+                  (with_written (spec.bytes_at self.old.files at) place from.now);
             })
             slot (Slot.Open (Lead.File at) mode (place + length from.now))) }
         ensures err { IfErr result (λ e. (e ≡ HostFault.OutOfMemory) × (self.new ≡ self.old)) }

@@ -1,0 +1,3 @@
+pub mod JoinedTetra
+pub mod Ranges
+pub mod Tetras
