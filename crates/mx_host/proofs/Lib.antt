@@ -1,3 +1,5 @@
 pub mod FaultCount
+pub mod NamedFiles
 pub mod Names
 pub mod Start
+pub mod Still

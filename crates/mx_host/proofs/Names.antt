@@ -12,7 +12,8 @@ use Rattle.std.proofs.lemmas.Grind.{common_steps}
 use Rattle.std.proofs.Math.Seq.{map-set_same}
 use Rattle.mx_host.specs.declared.files.StoredFile.{StoredFile}
 use Rattle.mx_host.specs.declared.slots.Slot.{Slot}
-use Rattle.mx_host.specs.HostModel.{place_of, names_of, HasDistinctNames, IsSound}
+use Rattle.mx_host.specs.HostModel.{place_of, names_of, HasDistinctNames, IsSound, Leads}
+use Rattle.std.proofs.lemmas.List.Elements.{All-set}
 
 -- two names are equal as lists of numbers are
 bytes_eq_equiv : IsEquivalence bytes_eq
@@ -28,6 +29,10 @@ HasDistinctNames-set files at f d h e =
 pub IsSound-set : (files : List StoredFile) (slots : List Slot) (at : ℕ) (f d : StoredFile) → IsSound files slots → f.name ≡ (get_or files at d).name → IsSound (slice_set files at f) slots
 IsSound-set files slots at f d h e =
     (h.0, HasDistinctNames-set files at f d h.1 e, rw (length-set files at f) h.2)
+
+-- another value in a slot, which leads somewhere
+pub IsSound-slot : (files : List StoredFile) (slots : List Slot) (at : ℕ) (to : Slot) → IsSound files slots → Leads (length files) to → IsSound files (slice_set slots at to)
+IsSound-slot files slots at to h l = (rw (length-set slots at to) h.0, h.1, All-set (Leads (length files)) slots at to l h.2)
 
 -- where the search for a name goes past the end, no file has it
 past : (files : List StoredFile) (name : List ℕ) → length files ≤ position_or_len (λ f. bytes_eq f.name name) files → list_any (bytes_eq name) (names_of files) ≡ false

@@ -1,6 +1,6 @@
 -- What a host that tells its contents is seen as: files, slots, the standard streams, and calls that
 -- are numbered from 0.
-use Rattle.std.specs.Prelude.{ℕ, ◌≡◌, ◌+◌, ◌<◌, ◌^◌, ◌⊎◌, Bool, false, true, List, [], ◌∷◌, ◌++◌, length, map, replicate, All, slice_get, slice_set, nat_lt, is_some, unwrap_or, Option, None, Some, ◌&&◌, ◌==◌, if◌then◌else◌}
+use Rattle.std.specs.Prelude.{ℕ, ◌≡◌, ◌+◌, ◌<◌, ◌^◌, ◌⊎◌, Bool, false, true, not, List, [], ◌∷◌, ◌++◌, length, map, replicate, All, slice_get, slice_set, nat_lt, is_some, unwrap_or, Option, None, Some, ◌&&◌, ◌==◌, if◌then◌else◌}
 use Rattle.std.specs.List.{IsDistinct, list_any, position}
 use Rattle.std.specs.Str.{bytes_eq}
 use Rattle.mx_host.specs.declared.files.StoredFile.{StoredFile}
@@ -68,14 +68,18 @@ last_call = 0xffff_ffff_ffff_ffff
 abbrev pub counted : HostModel → HostModel
 counted m = record m { calls = if nat_lt m.calls last_call then m.calls + 1 else m.calls }
 
+-- whether a call number is in a failing list
+abbrev pub is_listed : ℕ → List ℕ → Bool
+is_listed call failing = list_any (λ k. k == call) failing
+
 -- whether the next call is one that fails
 abbrev pub is_failing : HostModel → Bool
-is_failing m = nat_lt m.calls last_call && list_any (λ k. k == m.calls) m.failing
+is_failing m = nat_lt m.calls last_call && is_listed m.calls m.failing
 
--- how many entries of a failing list are below a number of calls
+-- how many of the calls below a number failed: the numbers in the failing list, each of them once
 unfoldable pub fault_count : ℕ → List ℕ → ℕ
 fault_count calls [] = 0
-fault_count calls (k ∷ ks) = (if nat_lt k calls then 1 else 0) + fault_count calls ks
+fault_count calls (k ∷ ks) = (if nat_lt k calls && not (is_listed k ks) then 1 else 0) + fault_count calls ks
 
 -- a count rose; one that cannot rise counts as risen
 abbrev pub Rose : ℕ → ℕ → Type 0
@@ -128,14 +132,16 @@ names_of files = map (λ f. f.name) files
 unfoldable pub HasDistinctNames : List StoredFile → Type 0
 HasDistinctNames files = IsDistinct bytes_eq (names_of files)
 
--- a slot that leads to a file leads to one of the first n, at a place that a list can have
+-- a slot leads to a stream in the stream's mode, or to one of the first n files at a place that a
+-- list can have
 abbrev pub Leads : ℕ → Slot → Type 0
 Leads n Closed = Unit {0}
-Leads n (Open Input mode place) = Unit {0}
-Leads n (Open Output mode place) = Unit {0}
-Leads n (Open Errors mode place) = Unit {0}
+Leads n (Open Input mode place) = mode ≡ TextRead
+Leads n (Open Output mode place) = mode ≡ TextWrite
+Leads n (Open Errors mode place) = mode ≡ TextWrite
 Leads n (Open (File at) mode place) = (at < n) × (place < 2 ^ 63)
 
--- what every call keeps: 261 slots, distinct names, and no slot that leads nowhere
+-- what holds of the files and slots of every model that a host in memory tells: 261 slots, distinct
+-- names, and no slot that leads nowhere
 abbrev pub IsSound : List StoredFile → List Slot → Type 0
 IsSound files slots = (length slots ≡ 261) × HasDistinctNames files × All (Leads (length files)) slots

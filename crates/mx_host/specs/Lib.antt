@@ -1,4 +1,5 @@
 pub mod HostModel
 pub mod HostAnswer
+pub mod Keeping
 pub use Rattle.mx_word.specs.Lists
 pub use Rattle.mx_word.specs.Results

@@ -1,5 +1,8 @@
 //! How a call of a host can fail.
 
+ghost use Rattle.std.specs.Prelude.{◌≡◌};
+
+use mx_word::NoMemory;
 use thiserror::Error;
 
 /// Why a file was not opened.
@@ -16,6 +19,16 @@ pub enum OpenFault {
     OutOfMemory,
 }
 
+impl From<NoMemory> for OpenFault {
+    ghost use Rattle.mx_host.specs.declared.faults.OpenFault.TheVariants.{OutOfMemory};
+
+    ghost from_gives = { λ _ e. e ≡ OutOfMemory };
+
+    fn from(_error: NoMemory) -> OpenFault {
+        OpenFault::OutOfMemory
+    }
+}
+
 /// Why a call on a slot did nothing.
 #[derive(Clone, Copy, Debug, PartialEq, Eq, Error)]
 pub enum HostFault {
@@ -28,4 +41,14 @@ pub enum HostFault {
     /// There was no memory; only the number of calls changed.
     #[error("out of memory")]
     OutOfMemory,
+}
+
+impl From<NoMemory> for HostFault {
+    ghost use Rattle.mx_host.specs.declared.faults.HostFault.TheVariants.{OutOfMemory};
+
+    ghost from_gives = { λ _ e. e ≡ OutOfMemory };
+
+    fn from(_error: NoMemory) -> HostFault {
+        HostFault::OutOfMemory
+    }
 }

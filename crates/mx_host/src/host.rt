@@ -2,7 +2,8 @@
 
 ghost use Rattle.std.specs.Prelude.{IsTrue, ◌≡◌, ◌≢◌, ◌≤◌, ℕ, Option, Ok, Err, IfOk, IfErr, length, take, drop};
 ghost use Rattle.mx_word.specs.Results.{map_ok};
-ghost use Rattle.mx_host.specs.HostModel.{HostModel, counted, tells, contents, Rose};
+ghost use Rattle.mx_host.specs.HostModel.{HostModel, tells, contents, Rose};
+ghost use Rattle.mx_host.specs.Keeping.{Answers, LeavesCounted, ComesByFault, Keeps};
 ghost use Rattle.mx_host.specs.HostAnswer.{open_answer, close_answer, read_answer, write_answer, seek_answer, tell_answer};
 
 use crate::faults::{HostFault, OpenFault};
@@ -21,7 +22,7 @@ pub trait Host {
     /// The contents, where the host tells them.
     ghost told: { Self → Option HostModel };
 
-    /// How many calls have failed; it never falls.
+    /// How many calls have failed; it never falls, and stays at 2^64 - 1.
     ghost faults: { Self → ℕ };
 
     /// Opens a file on a slot from 0 to 257, which is closed first if it is open.
@@ -30,29 +31,24 @@ pub trait Host {
     /// or empty it. The place is 0.
     fn open_file(&mut self, slot: u16, name: &[u8], mode: Mode) -> Result<(), OpenFault>
         requires { slot ≤ 257 }
-        ensures answers { IsTrue (tells (told self.old)) → result ≢ Err OpenFault.OutOfMemory →
-            (result, contents (told self.new))
-            ≡ open_answer (contents (told self.old)) slot name.now mode }
-        ensures memory { IsTrue (tells (told self.old)) → result ≡ Err OpenFault.OutOfMemory →
-            contents (told self.new) ≡ counted (contents (told self.old)) }
-        ensures keeps { tells (told self.new) ≡ tells (told self.old) }
+        ensures answers { Answers (told self.old) (told self.new) (Err OpenFault.OutOfMemory) result
+            (λ m. open_answer m slot name.now mode) }
+        ensures memory { LeavesCounted (told self.old) (told self.new) (Err OpenFault.OutOfMemory) result }
         ensures failed { result ≡ Err OpenFault.Failed → Rose (faults self.old) (faults self.new) }
-        ensures absent { ¬ IsTrue (tells (told self.old)) → result ≡ Err OpenFault.Absent →
-            Rose (faults self.old) (faults self.new) }
-        ensures never_falls { faults self.old ≤ faults self.new };
+        ensures absent { ComesByFault (told self.old) (Err OpenFault.Absent) result (faults self.old) (faults self.new) }
+        ensures keeps { Keeps (told self.old) (told self.new) (faults self.old) (faults self.new) };
 
     /// Closes a slot. Misused where it is not open.
     fn close_slot(&mut self, slot: u16) -> Result<(), HostFault>
         requires { slot ≤ 260 }
-        ensures answers { IsTrue (tells (told self.old)) → result ≢ Err HostFault.OutOfMemory →
-            (result, contents (told self.new)) ≡ close_answer (contents (told self.old)) slot }
-        ensures memory { IsTrue (tells (told self.old)) → result ≡ Err HostFault.OutOfMemory →
-            contents (told self.new) ≡ counted (contents (told self.old)) }
-        ensures keeps { tells (told self.new) ≡ tells (told self.old) }
+        ensures answers { Answers (told self.old) (told self.new) (Err HostFault.OutOfMemory) result
+            (λ m. close_answer m slot) }
+        ensures memory { LeavesCounted (told self.old) (told self.new) (Err HostFault.OutOfMemory) result }
         ensures failed { result ≡ Err HostFault.Failed → Rose (faults self.old) (faults self.new) }
-        ensures misused { ¬ IsTrue (tells (told self.old)) → result ≡ Err HostFault.Misused →
-            Rose (faults self.old) (faults self.new) }
-        ensures never_falls { faults self.old ≤ faults self.new };
+        ensures misused { ComesByFault (told self.old) (Err HostFault.Misused) result (faults self.old) (faults self.new) }
+        ensures tells { tells (told self.new) ≡ tells (told self.old) }
+        ensures never_falls { faults self.old ≤ faults self.new }
+        ensures keeps { slot ≤ 257 → Keeps (told self.old) (told self.new) (faults self.old) (faults self.new) };
 
     /// Puts the next bytes at the front of `into`, moves the place past them and gives their number,
     /// which is below the length of `into` only at the end of the input.
@@ -67,13 +63,10 @@ pub trait Host {
         ensures rest { IsTrue (tells (told self.old)) →
             IfOk result (λ n. drop n into.new ≡ drop n into.old) }
         ensures unread { IsTrue (tells (told self.old)) → IfErr result (λ _. into.new ≡ into.old) }
-        ensures memory { IsTrue (tells (told self.old)) → result ≡ Err HostFault.OutOfMemory →
-            contents (told self.new) ≡ counted (contents (told self.old)) }
-        ensures keeps { tells (told self.new) ≡ tells (told self.old) }
+        ensures memory { LeavesCounted (told self.old) (told self.new) (Err HostFault.OutOfMemory) result }
         ensures failed { result ≡ Err HostFault.Failed → Rose (faults self.old) (faults self.new) }
-        ensures misused { ¬ IsTrue (tells (told self.old)) → result ≡ Err HostFault.Misused →
-            Rose (faults self.old) (faults self.new) }
-        ensures never_falls { faults self.old ≤ faults self.new };
+        ensures misused { ComesByFault (told self.old) (Err HostFault.Misused) result (faults self.old) (faults self.new) }
+        ensures keeps { Keeps (told self.old) (told self.new) (faults self.old) (faults self.new) };
 
     /// Writes all these bytes at the place and moves the place past them; on standard output and
     /// error it appends them. A gap before the place is filled with zeros.
@@ -81,16 +74,12 @@ pub trait Host {
     /// Misused where the slot is not open or is for reading only.
     fn write_slot(&mut self, slot: u16, from: &[u8]) -> Result<(), HostFault>
         requires { slot ≤ 260 }
-        ensures answers { IsTrue (tells (told self.old)) → result ≢ Err HostFault.OutOfMemory →
-            (result, contents (told self.new))
-            ≡ write_answer (contents (told self.old)) slot from.now }
-        ensures memory { IsTrue (tells (told self.old)) → result ≡ Err HostFault.OutOfMemory →
-            contents (told self.new) ≡ counted (contents (told self.old)) }
-        ensures keeps { tells (told self.new) ≡ tells (told self.old) }
+        ensures answers { Answers (told self.old) (told self.new) (Err HostFault.OutOfMemory) result
+            (λ m. write_answer m slot from.now) }
+        ensures memory { LeavesCounted (told self.old) (told self.new) (Err HostFault.OutOfMemory) result }
         ensures failed { result ≡ Err HostFault.Failed → Rose (faults self.old) (faults self.new) }
-        ensures misused { ¬ IsTrue (tells (told self.old)) → result ≡ Err HostFault.Misused →
-            Rose (faults self.old) (faults self.new) }
-        ensures never_falls { faults self.old ≤ faults self.new };
+        ensures misused { ComesByFault (told self.old) (Err HostFault.Misused) result (faults self.old) (faults self.new) }
+        ensures keeps { Keeps (told self.old) (told self.new) (faults self.old) (faults self.new) };
 
     /// Moves the place to `to` where it is at least 0, and otherwise to length + to + 1, so that -1
     /// means the end.
@@ -99,26 +88,20 @@ pub trait Host {
     /// the length.
     fn seek_slot(&mut self, slot: u16, to: i64) -> Result<(), HostFault>
         requires { slot ≤ 260 }
-        ensures answers { IsTrue (tells (told self.old)) → result ≢ Err HostFault.OutOfMemory →
-            (result, contents (told self.new)) ≡ seek_answer (contents (told self.old)) slot to }
-        ensures memory { IsTrue (tells (told self.old)) → result ≡ Err HostFault.OutOfMemory →
-            contents (told self.new) ≡ counted (contents (told self.old)) }
-        ensures keeps { tells (told self.new) ≡ tells (told self.old) }
+        ensures answers { Answers (told self.old) (told self.new) (Err HostFault.OutOfMemory) result
+            (λ m. seek_answer m slot to) }
+        ensures memory { LeavesCounted (told self.old) (told self.new) (Err HostFault.OutOfMemory) result }
         ensures failed { result ≡ Err HostFault.Failed → Rose (faults self.old) (faults self.new) }
-        ensures misused { ¬ IsTrue (tells (told self.old)) → result ≡ Err HostFault.Misused →
-            Rose (faults self.old) (faults self.new) }
-        ensures never_falls { faults self.old ≤ faults self.new };
+        ensures misused { ComesByFault (told self.old) (Err HostFault.Misused) result (faults self.old) (faults self.new) }
+        ensures keeps { Keeps (told self.old) (told self.new) (faults self.old) (faults self.new) };
 
     /// The place, in bytes from the start. Misused where the slot is not a file in a binary mode.
     fn tell_slot(&mut self, slot: u16) -> Result<u64, HostFault>
         requires { slot ≤ 260 }
-        ensures answers { IsTrue (tells (told self.old)) → result ≢ Err HostFault.OutOfMemory →
-            (result, contents (told self.new)) ≡ tell_answer (contents (told self.old)) slot }
-        ensures memory { IsTrue (tells (told self.old)) → result ≡ Err HostFault.OutOfMemory →
-            contents (told self.new) ≡ counted (contents (told self.old)) }
-        ensures keeps { tells (told self.new) ≡ tells (told self.old) }
+        ensures answers { Answers (told self.old) (told self.new) (Err HostFault.OutOfMemory) result
+            (λ m. tell_answer m slot) }
+        ensures memory { LeavesCounted (told self.old) (told self.new) (Err HostFault.OutOfMemory) result }
         ensures failed { result ≡ Err HostFault.Failed → Rose (faults self.old) (faults self.new) }
-        ensures misused { ¬ IsTrue (tells (told self.old)) → result ≡ Err HostFault.Misused →
-            Rose (faults self.old) (faults self.new) }
-        ensures never_falls { faults self.old ≤ faults self.new };
+        ensures misused { ComesByFault (told self.old) (Err HostFault.Misused) result (faults self.old) (faults self.new) }
+        ensures keeps { Keeps (told self.old) (told self.new) (faults self.old) (faults self.new) };
 }

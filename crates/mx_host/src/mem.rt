@@ -2,7 +2,7 @@
 
 ghost use Rattle.std.specs.Prelude.{true, ◌≡◌, ◌≤◌, ◌<◌, OnOk, IfOk, IfErr, IfSome, IsOkUnless, length};
 ghost use Rattle.std.specs.Option.{option_map};
-ghost use Rattle.mx_host.specs.HostModel.{counted, is_failing, fault_count, place_of, start_model, HasDistinctNames};
+ghost use Rattle.mx_host.specs.HostModel.{counted, is_failing, fault_count, place_of, start_model, IsSound};
 ghost use Rattle.mx_host.specs.HostAnswer.{file_of, with_file};
 
 mod calls;
@@ -20,9 +20,9 @@ use std::marker::Model;
 
 /// A host that keeps its files and streams in memory and tells them.
 ///
-/// Contracts see it as its model. No two of its files have one name, and each slot that leads to a
-/// file leads to one that exists. A call fails exactly where its number, from 0, is in the failing
-/// list.
+/// Contracts see it as its model. No two of its files have one name, each slot that leads to a file
+/// leads to one that exists, and a stream has its own mode. A call fails exactly where its number,
+/// from 0, is in the failing list.
 #[derive(Drop)]
 pub struct MemHost {
     alloc: Global,
@@ -62,13 +62,10 @@ impl MemHost {
         ensures model { IfOk result (λ h. h ≡ start_model input.items failing.items) }
         ensures memory { IsOkUnless result HostFault.OutOfMemory }
     {
-        let Ok(slots) = slots_at_start(alloc) else {
-            return Err(HostFault::OutOfMemory);
-        };
         Ok(MemHost {
             alloc,
             files: Vec::new(alloc),
-            slots,
+            slots: slots_at_start(alloc)?,
             input,
             input_place: 0,
             output: Bytes::new(alloc),
@@ -90,17 +87,14 @@ impl MemHost {
                 self.set_bytes(at, bytes);
                 Ok(())
             }
-            None => match self.add_file(name, bytes) {
-                Ok(()) => Ok(()),
-                Err(_) => Err(HostFault::OutOfMemory),
-            },
+            None => Ok(self.add_file(name, bytes)?),
         }
     }
 
     /// The bytes of the file of this name; none where the name is missing.
     pub fn file(&self, name: &[u8]) -> Option<&[u8]>
         ensures bytes { option_map (λ b. b.now) result ≡ file_of self.now name.now }
-        ensures distinct { HasDistinctNames self.now.files }
+        ensures sound { IsSound self.now.files self.now.slots }
     {
         match self.find(name) {
             Some(at) => Some(self.files[at].bytes.as_slice()),

@@ -26,9 +26,9 @@ use Rattle.mx_top.specs.declared.outcome.Outcome.{Outcome}
 use Rattle.mx_top.specs.declared.outcome.Outcome.TheVariants.{Done, Usage, NoFile, Refused}
 use Rattle.mx_top.specs.Messages.{message_of}
 use Rattle.mx_top.proofs.ObjectImages.{objects-hold, objects-fit}
-use Rattle.mx_top.proofs.Still.{still}
+use Rattle.mx_host.proofs.Still.{still}
 use Rattle.mx_top.proofs.Steady.{product-steady}
-use Rattle.mx_top.proofs.NamedFiles.{home, lies, at-home, put-there, place-home, place-other, bytes-other}
+use Rattle.mx_host.proofs.NamedFiles.{home, lies, at-home, put-there, place-home, place-other, bytes-other}
 use Rattle.mx_top.proofs.IdleFiles.{idle, file-idle, file-absent, writing, open-object, put-idle, refused-idle}
 
 -- ---- words and messages

@@ -22,7 +22,7 @@ use Rattle.mx_top.specs.Product.{closed_object, written_object, object_put}
 use Rattle.mx_top.specs.Source.{pieces, piece_read, next_piece, closed_with, closed_after, read_after, file_bytes}
 use Rattle.mx_top.specs.declared.outcome.Outcome.{Outcome}
 use Rattle.mx_top.specs.declared.outcome.Outcome.TheVariants.{Done, NoFile, Refused}
-use Rattle.mx_top.proofs.NamedFiles.{home, Lies, at-home, put-put, overwritten-end}
+use Rattle.mx_host.proofs.NamedFiles.{home, Lies, at-home, put-put, overwritten-end}
 
 -- the model with no call that fails, and with these files and slots
 abbrev pub idle : List StoredFile → List Slot → HostModel → HostModel

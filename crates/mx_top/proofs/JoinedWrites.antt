@@ -15,9 +15,9 @@ use Rattle.mx_host.specs.declared.faults.HostFault.TheVariants.{Misused}
 use Rattle.mx_host.specs.HostModel.{HostModel, slot_at, is_read_only}
 use Rattle.mx_host.specs.HostAnswer.{Then, write_answer, write_to, write_lead, changed_at, with_bytes, bytes_at}
 use Rattle.mx_top.specs.FileTraps.{SameWritten, put_piece, piece_put, pieces_after, put_pieces, put_text}
-use Rattle.mx_top.proofs.Still.{still, Steady}
+use Rattle.mx_host.proofs.Still.{still, Steady}
 use Rattle.mx_top.proofs.Steady.{piece-steady, text-steady}
-use Rattle.mx_top.proofs.NamedFiles.{at-home, put-put}
+use Rattle.mx_host.proofs.NamedFiles.{at-home, put-put}
 use Rattle.mx_top.proofs.IdleFiles.{slot-set}
 
 -- ---- bytes that are written, and others behind them

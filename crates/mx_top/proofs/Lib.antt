@@ -18,7 +18,6 @@ pub mod Loads
 pub mod Locals
 pub mod LongSources
 pub mod MoreLines
-pub mod NamedFiles
 pub mod ObjectImages
 pub mod ObjectItems
 pub mod Paddings
@@ -34,7 +33,6 @@ pub mod Sources
 pub mod Starts
 pub mod StatementBounds
 pub mod Steady
-pub mod Still
 pub mod TextEnds
 pub mod Turns
 pub mod WalkLoads

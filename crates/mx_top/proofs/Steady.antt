@@ -29,7 +29,7 @@ use Rattle.mx_top.specs.declared.outcome.Outcome.{Outcome}
 use Rattle.mx_top.specs.declared.outcome.Outcome.TheVariants.{Done, Refused}
 use Rattle.mx_top.specs.declared.texts.TextFault.{TextFault}
 use Rattle.mx_top.specs.declared.texts.TextFault.TheVariants.{Negative, TooLarge, OutOfMemory as NoRoom}
-use Rattle.mx_top.proofs.Still.{still, Steady, then, open-still, read-still, write-still, close-still}
+use Rattle.mx_host.proofs.Still.{still, Steady, then, open-still, read-still, write-still, close-still}
 
 -- ---- a text that is written
 

@@ -121,10 +121,8 @@ impl MemHost {
         ensures err { OnErr result (self.new ≡ self.old) }
     {
         let name = Bytes::copy(self.alloc, name)?;
-        match self.files.push(StoredFile { name, bytes }) {
-            Ok(()) => Ok(()),
-            Err(_) => Err(NoMemory),
-        }
+        self.files.push(StoredFile { name, bytes })?;
+        Ok(())
     }
 
     /// Adds an empty file of this name, which no file has yet, and opens it.
@@ -138,13 +136,9 @@ impl MemHost {
     {
         let at = self.files.len();
         let none = Bytes::new(self.alloc);
-        match self.add_file(name, none) {
-            Ok(()) => {
-                self.set_slot(slot, opened(at, mode));
-                Ok(())
-            }
-            Err(_) => Err(OpenFault::OutOfMemory),
-        }
+        self.add_file(name, none)?;
+        self.set_slot(slot, opened(at, mode));
+        Ok(())
     }
 }
 

@@ -27,10 +27,8 @@ fn add_streams(slots: &mut Vec<Slot>) -> Result<(), NoMemory>
         stream(Lead::Output, Mode::TextWrite),
         stream(Lead::Errors, Mode::TextWrite),
     ];
-    match slots.extend_from_slice(&streams) {
-        Ok(()) => Ok(()),
-        Err(_) => Err(NoMemory),
-    }
+    slots.extend_from_slice(&streams)?;
+    Ok(())
 }
 
 /// A slot on a stream.
@@ -49,9 +47,7 @@ fn add_closed(slots: &mut Vec<Slot>, count: usize) -> Result<(), NoMemory>
     ensures { OnOk result (slots.new.items ≡ slots.old.items ++ replicate count Slot.Closed) }
 {
     for _at in 0..count {
-        if slots.push(Slot::Closed).is_err() {
-            return Err(NoMemory);
-        }
+        slots.push(Slot::Closed)?;
     }
     Ok(())
 }

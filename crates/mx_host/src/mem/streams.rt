@@ -22,10 +22,8 @@ impl MemHost {
         ensures ok { OnOk result (self.new ≡ record self.old { output = self.old.output ++ from.now }) }
         ensures err { IfErr result (λ e. (e ≡ HostFault.OutOfMemory) × (self.new ≡ self.old)) }
     {
-        match self.output.extend(from) {
-            Ok(()) => Ok(()),
-            Err(_) => Err(HostFault::OutOfMemory),
-        }
+        self.output.extend(from)?;
+        Ok(())
     }
 
     /// Adds bytes to standard error.
@@ -33,10 +31,8 @@ impl MemHost {
         ensures ok { OnOk result (self.new ≡ record self.old { errors = self.old.errors ++ from.now }) }
         ensures err { IfErr result (λ e. (e ≡ HostFault.OutOfMemory) × (self.new ≡ self.old)) }
     {
-        match self.errors.extend(from) {
-            Ok(()) => Ok(()),
-            Err(_) => Err(HostFault::OutOfMemory),
-        }
+        self.errors.extend(from)?;
+        Ok(())
     }
 }
 

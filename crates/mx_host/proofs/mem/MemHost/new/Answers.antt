@@ -5,4 +5,4 @@ use Rattle.mx_host.proofs.mem.MemHost.new.Goals as goal
 
 -- the slots at the start lead to no file
 pub invariant_of-result : goal.invariant_of-result
-invariant_of-result c = (omega arith, rw c.in-Ok.ensures (start_slots-length, rw c.new.ensures.items HasDistinctNames-nil, start_slots-leads _))
+invariant_of-result c = (omega arith, rw c.in_ok-slots_at_start.ensures (start_slots-length, rw c.new.ensures.items HasDistinctNames-nil, start_slots-leads _))

@@ -1,0 +1,32 @@
+-- What stands in the clauses of every function over a host: what it keeps, what it answers and
+-- leaves, and when it may answer a failure. `old` and `new` are what the host told before and after,
+-- `before` and `after` its counts of faults.
+use Rattle.std.specs.Prelude.{ℕ, IsTrue, ◌≡◌, ◌≢◌, ◌≤◌, Option}
+use Rattle.mx_host.specs.HostModel.{HostModel, tells, contents, counted, slot_at, to_input, to_output, to_errors, Rose}
+use Rattle.mx_host.specs.HostAnswer.{Then}
+
+-- slots 258, 259 and 260 lead to the standard streams
+pub record HasToolStreams (m : HostModel) : Type 0 where
+  pub input : slot_at m 258 ≡ to_input
+  pub output : slot_at m 259 ≡ to_output
+  pub errors : slot_at m 260 ≡ to_errors
+
+-- what a function always keeps: whether the host tells its contents, a count of faults that never
+-- falls, and the tool's streams
+pub record Keeps (old new : Option HostModel) (before after : ℕ) : Type 0 where
+  pub telling : tells new ≡ tells old
+  pub counting : before ≤ after
+  pub streams : IsTrue (tells old) → HasToolStreams (contents old) → HasToolStreams (contents new)
+
+-- over a host that tells its contents, the answer and what the host then holds are those of f, unless
+-- the answer is `none`, which is that of no memory
+abbrev pub Answers : {A : Type 0} → Option HostModel → Option HostModel → A → A → (HostModel → Then A) → Type 0
+Answers old new none result f = IsTrue (tells old) → result ≢ none → (result, contents new) ≡ f (contents old)
+
+-- over a host that tells its contents, an answer of no memory leaves all but the number of calls
+abbrev pub LeavesCounted : {A : Type 0} → Option HostModel → Option HostModel → A → A → Type 0
+LeavesCounted old new none result = IsTrue (tells old) → result ≡ none → contents new ≡ counted (contents old)
+
+-- over a host that tells nothing, this answer comes only where the count of faults rose
+abbrev pub ComesByFault : {A : Type 0} → Option HostModel → A → A → ℕ → ℕ → Type 0
+ComesByFault old answer result before after = ¬ IsTrue (tells old) → result ≡ answer → Rose before after
