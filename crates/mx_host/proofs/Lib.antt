@@ -1,4 +1,5 @@
 pub mod FaultCount
+pub mod Keeping
 pub mod NamedFiles
 pub mod Names
 pub mod Start

@@ -2,6 +2,7 @@
 -- leaves, and when it may answer a failure. `old` and `new` are what the host told before and after,
 -- `before` and `after` its counts of faults.
 use Rattle.std.specs.Prelude.{ℕ, IsTrue, ◌≡◌, ◌≢◌, ◌≤◌, Option}
+use Rattle.mx_word.specs.Lists.{IsFront}
 use Rattle.mx_host.specs.HostModel.{HostModel, tells, contents, counted, slot_at, to_input, to_output, to_errors, Rose}
 use Rattle.mx_host.specs.HostAnswer.{Then}
 
@@ -22,6 +23,15 @@ pub record Keeps (old new : Option HostModel) (before after : ℕ) : Type 0 wher
 -- the answer is `none`, which is that of no memory
 abbrev pub Answers : {A : Type 0} → Option HostModel → Option HostModel → A → A → (HostModel → Then A) → Type 0
 Answers old new none result f = IsTrue (tells old) → result ≢ none → (result, contents new) ≡ f (contents old)
+
+-- over a host that tells its contents, where the answer is `none`, what standard output then holds is a
+-- front of what f gives it
+abbrev pub WritesFront : {A : Type 0} → Option HostModel → Option HostModel → A → A → (HostModel → Then A) → Type 0
+WritesFront old new none result f = IsTrue (tells old) → result ≡ none → IsFront (contents new).output (f (contents old)).1.output
+
+-- over a host that tells its contents, standard output is as it was
+abbrev pub KeepsOutput : Option HostModel → Option HostModel → Type 0
+KeepsOutput old new = IsTrue (tells old) → (contents new).output ≡ (contents old).output
 
 -- over a host that tells its contents, an answer of no memory leaves all but the number of calls
 abbrev pub LeavesCounted : {A : Type 0} → Option HostModel → Option HostModel → A → A → Type 0

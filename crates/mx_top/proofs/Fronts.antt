@@ -3,7 +3,7 @@ use Rattle.std.proofs.Common.{ℕ, suc, zero, ◌+◌, List, Bool, true, false, 
 use Rattle.std.specs.Prelude.{Result, Ok, Err, nat_le, ◌==◌, ◌&&◌, ◌^◌}
 use Rattle.mx_host.specs.HostModel.{HostModel}
 use Rattle.mx_host.specs.HostAnswer.{Then}
-use Rattle.mx_top.specs.Lists.{IsFront}
+use Rattle.mx_word.specs.Lists.{IsFront}
 use Rattle.mx_top.specs.Registers.{register}
 use Rattle.mx_top.specs.ListMachine.{ListMachine}
 use Rattle.mx_top.specs.FileTraps.{text_at, put_text}

@@ -4,7 +4,7 @@ use Rattle.mx_host.specs.HostModel.{HostModel}
 use Rattle.std.specs.Prelude.{Result, Ok, Err}
 use Rattle.mx_host.specs.HostAnswer.{Then, write_answer}
 use Rattle.mx_host.specs.declared.faults.HostFault.{HostFault}
-use Rattle.mx_top.specs.Lists.{IsFront}
+use Rattle.mx_word.specs.Lists.{IsFront}
 use Rattle.mx_top.specs.FileTraps.{put_piece, put_pieces, pieces_after, piece_put, put_text}
 use Rattle.mx_top.proofs.Writes.{front-through, write-front}
 

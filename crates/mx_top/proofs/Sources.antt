@@ -16,7 +16,7 @@ use Rattle.mx_line.specs.Lines.{lines_of}
 use Rattle.mx_mmo.specs.declared.items.Item.{Item}
 use Rattle.mx_top.specs.FileTraps.{put_text}
 use Rattle.mx_top.specs.Image.{Image}
-use Rattle.mx_top.specs.Lists.{IsFront}
+use Rattle.mx_word.specs.Lists.{IsFront}
 use Rattle.mx_top.specs.ListMachine.{ListMachine, start, start_address}
 use Rattle.mx_top.specs.Messages.{message_of}
 use Rattle.mx_top.specs.Objects.{object_bytes, object_image}

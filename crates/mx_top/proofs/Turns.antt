@@ -4,7 +4,7 @@ use Rattle.std.specs.Prelude.{Result}
 use Rattle.mx_host.specs.HostModel.{HostModel}
 use Rattle.mx_top.proofs.Counting.{left-after}
 use Rattle.mx_top.specs.ListMachine.{ListMachine}
-use Rattle.mx_top.specs.Lists.{IsFront}
+use Rattle.mx_word.specs.Lists.{IsFront}
 use Rattle.mx_top.specs.Step.{step, output_after}
 use Rattle.mx_top.specs.Runs.{run, run_after, stepped_of}
 use Rattle.mx_top.specs.declared.end.End.{End}

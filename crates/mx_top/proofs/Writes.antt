@@ -11,7 +11,7 @@ use Rattle.mx_host.specs.declared.slots.Slot.TheVariants.{Closed, Open}
 use Rattle.mx_host.specs.declared.slots.Mode.{Mode}
 use Rattle.mx_host.specs.declared.slots.Lead.{Lead}
 use Rattle.mx_host.specs.declared.slots.Lead.TheVariants.{Input, Output, Errors, File}
-use Rattle.mx_top.specs.Lists.{IsFront}
+use Rattle.mx_word.specs.Lists.{IsFront}
 
 -- another slot stays as it is
 pub slot_at-with_slot : (m : HostModel) (slot other : ℕ) (s : Slot) → slot ≢ other → slot_at (with_slot m slot s) other ≡ slot_at m other

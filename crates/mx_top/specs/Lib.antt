@@ -5,7 +5,6 @@ pub mod FileTraps
 pub mod Held
 pub mod Image
 pub mod ListMachine
-pub mod Lists
 pub mod Placements
 pub mod Messages
 pub mod Names

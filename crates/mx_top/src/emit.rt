@@ -2,12 +2,11 @@
 
 ghost use Rattle.std.specs.Prelude.{IsTrue, ◌≡◌, ◌≢◌, ◌≤◌, Ok, Err, IfOk};
 ghost use Rattle.std.specs.List.{AllByRecursion};
-ghost use Rattle.mx_host.specs.HostModel.{tells, contents, slot_at, Rose};
+ghost use Rattle.mx_host.specs.Keeping.{Answers, ComesByFault, Keeps, KeepsOutput, WritesFront};
 ghost use Rattle.mx_host.specs.HostAnswer.{open_answer, close_answer};
 ghost use Rattle.mx_host.specs.declared.slots.Mode.{Mode};
 ghost use Rattle.mx_line.specs.Lines.{lines_of};
 ghost use Rattle.mx_mmo.specs.Valid.{Fits};
-ghost use Rattle.mx_top.specs.Lists.{IsFront};
 ghost use Rattle.mx_top.specs.Objects as objects;
 ghost use Rattle.mx_top.specs.Source.{file_bytes};
 ghost use Rattle.mx_top.specs.Whole.{assembled};
@@ -51,13 +50,12 @@ fn object_bytes(alloc: Global, items: &[Item]) -> Result<Bytes, NoMemory>
 fn close_object<H: Host>(host: &mut H, outcome: Outcome) -> Outcome
     requires present { outcome ≢ Outcome.NoFile }
     requires well { outcome ≢ Outcome.HostFault }
-    ensures told { IsTrue (tells (H.told host.old)) → result ≢ Outcome.OutOfMemory → (result, contents (H.told host.new)) ≡ spec.closed_object outcome (close_answer (contents (H.told host.old)) 257) }
-    ensures output { IsTrue (tells (H.told host.old)) → (contents (H.told host.new)).output ≡ (contents (H.told host.old)).output }
-    ensures messages { IsTrue (tells (H.told host.old)) → slot_at (contents (H.told host.new)) 260 ≡ slot_at (contents (H.told host.old)) 260 }
-    ensures rose { ¬ IsTrue (tells (H.told host.old)) → result ≡ Outcome.HostFault → Rose (H.faults host.old) (H.faults host.new) }
+    ensures told { Answers (H.told host.old) (H.told host.new) Outcome.OutOfMemory result
+        (λ m. spec.closed_object outcome (close_answer m 257)) }
+    ensures output { KeepsOutput (H.told host.old) (H.told host.new) }
+    ensures rose { ComesByFault (H.told host.old) Outcome.HostFault result (H.faults host.old) (H.faults host.new) }
     ensures present { result ≢ Outcome.NoFile }
-    ensures keeps { tells (H.told host.new) ≡ tells (H.told host.old) }
-    ensures never_falls { H.faults host.old ≤ H.faults host.new }
+    ensures keeps { Keeps (H.told host.old) (H.told host.new) (H.faults host.old) (H.faults host.new) }
 {
     match host.close_slot(OBJECT_SLOT) {
         Ok(()) => outcome,
@@ -68,13 +66,13 @@ fn close_object<H: Host>(host: &mut H, outcome: Outcome) -> Outcome
 
 /// Writes the bytes of an object and closes its file.
 fn write_object<H: Host>(host: &mut H, bytes: &[u8]) -> Outcome
-    ensures told { IsTrue (tells (H.told host.old)) → result ≢ Outcome.OutOfMemory → (result, contents (H.told host.new)) ≡ spec.written_object (text_put 257 bytes.now (contents (H.told host.old))) }
-    ensures written { IsTrue (tells (H.told host.old)) → result ≡ Outcome.OutOfMemory → IsFront (contents (H.told host.new)).output (spec.written_object (text_put 257 bytes.now (contents (H.told host.old)))).1.output }
-    ensures messages { IsTrue (tells (H.told host.old)) → slot_at (contents (H.told host.new)) 260 ≡ slot_at (contents (H.told host.old)) 260 }
-    ensures rose { ¬ IsTrue (tells (H.told host.old)) → result ≡ Outcome.HostFault → Rose (H.faults host.old) (H.faults host.new) }
+    ensures told { Answers (H.told host.old) (H.told host.new) Outcome.OutOfMemory result
+        (λ m. spec.written_object (text_put 257 bytes.now m)) }
+    ensures written { WritesFront (H.told host.old) (H.told host.new) Outcome.OutOfMemory result
+        (λ m. spec.written_object (text_put 257 bytes.now m)) }
+    ensures rose { ComesByFault (H.told host.old) Outcome.HostFault result (H.faults host.old) (H.faults host.new) }
     ensures present { result ≢ Outcome.NoFile }
-    ensures keeps { tells (H.told host.new) ≡ tells (H.told host.old) }
-    ensures never_falls { H.faults host.old ≤ H.faults host.new }
+    ensures keeps { Keeps (H.told host.old) (H.told host.new) (H.faults host.old) (H.faults host.new) }
 {
     match put_text(host, OBJECT_SLOT, bytes) {
         Ok(true) => close_object(host, Outcome::Done(0)),
@@ -86,13 +84,13 @@ fn write_object<H: Host>(host: &mut H, bytes: &[u8]) -> Outcome
 /// Assembles a source into the object file, which is open. The file of a source that is refused
 /// stays empty.
 fn put_object<H: Host>(alloc: Global, host: &mut H, text: &[u8]) -> Outcome
-    ensures told { IsTrue (tells (H.told host.old)) → result ≢ Outcome.OutOfMemory → (result, contents (H.told host.new)) ≡ spec.object_put (assembled (lines_of text.now)) (contents (H.told host.old)) }
-    ensures written { IsTrue (tells (H.told host.old)) → result ≡ Outcome.OutOfMemory → IsFront (contents (H.told host.new)).output (spec.object_put (assembled (lines_of text.now)) (contents (H.told host.old))).1.output }
-    ensures messages { IsTrue (tells (H.told host.old)) → slot_at (contents (H.told host.new)) 260 ≡ slot_at (contents (H.told host.old)) 260 }
-    ensures rose { ¬ IsTrue (tells (H.told host.old)) → result ≡ Outcome.HostFault → Rose (H.faults host.old) (H.faults host.new) }
+    ensures told { Answers (H.told host.old) (H.told host.new) Outcome.OutOfMemory result
+        (λ m. spec.object_put (assembled (lines_of text.now)) m) }
+    ensures written { WritesFront (H.told host.old) (H.told host.new) Outcome.OutOfMemory result
+        (λ m. spec.object_put (assembled (lines_of text.now)) m) }
+    ensures rose { ComesByFault (H.told host.old) Outcome.HostFault result (H.faults host.old) (H.faults host.new) }
     ensures present { result ≢ Outcome.NoFile }
-    ensures keeps { tells (H.told host.new) ≡ tells (H.told host.old) }
-    ensures never_falls { H.faults host.old ≤ H.faults host.new }
+    ensures keeps { Keeps (H.told host.old) (H.told host.new) (H.faults host.old) (H.faults host.new) }
 {
     match assemble(alloc, text) {
         Ok(items) => match object_bytes(alloc, items.as_slice()) {
@@ -114,13 +112,13 @@ fn put_object<H: Host>(alloc: Global, host: &mut H, text: &[u8]) -> Outcome
 /// Assembles a source into the file of this name.
 #[tactic(auto, unfolding(mx_host::specs::HostAnswer::open_answer))]
 fn assemble_into<H: Host>(alloc: Global, host: &mut H, text: &[u8], object: &[u8]) -> Outcome
-    ensures told { IsTrue (tells (H.told host.old)) → result ≢ Outcome.OutOfMemory → (result, contents (H.told host.new)) ≡ spec.after_opening text.now (open_answer (contents (H.told host.old)) 257 object.now Mode.BinaryWrite) }
-    ensures written { IsTrue (tells (H.told host.old)) → result ≡ Outcome.OutOfMemory → IsFront (contents (H.told host.new)).output (spec.after_opening text.now (open_answer (contents (H.told host.old)) 257 object.now Mode.BinaryWrite)).1.output }
-    ensures messages { IsTrue (tells (H.told host.old)) → slot_at (contents (H.told host.new)) 260 ≡ slot_at (contents (H.told host.old)) 260 }
-    ensures rose { ¬ IsTrue (tells (H.told host.old)) → result ≡ Outcome.HostFault → Rose (H.faults host.old) (H.faults host.new) }
+    ensures told { Answers (H.told host.old) (H.told host.new) Outcome.OutOfMemory result
+        (λ m. spec.after_opening text.now (open_answer m 257 object.now Mode.BinaryWrite)) }
+    ensures written { WritesFront (H.told host.old) (H.told host.new) Outcome.OutOfMemory result
+        (λ m. spec.after_opening text.now (open_answer m 257 object.now Mode.BinaryWrite)) }
+    ensures rose { ComesByFault (H.told host.old) Outcome.HostFault result (H.faults host.old) (H.faults host.new) }
     ensures present { result ≢ Outcome.NoFile }
-    ensures keeps { tells (H.told host.new) ≡ tells (H.told host.old) }
-    ensures never_falls { H.faults host.old ≤ H.faults host.new }
+    ensures keeps { Keeps (H.told host.old) (H.told host.new) (H.faults host.old) (H.faults host.new) }
 {
     match host.open_file(OBJECT_SLOT, object, Mode::BinaryWrite) {
         Ok(()) => put_object(alloc, host, text),
@@ -131,13 +129,13 @@ fn assemble_into<H: Host>(alloc: Global, host: &mut H, text: &[u8], object: &[u8
 
 /// Assembles the source in a file into the object file of this name.
 pub fn assemble_file<H: Host>(alloc: Global, host: &mut H, source: &[u8], object: &[u8]) -> Outcome
-    ensures told { IsTrue (tells (H.told host.old)) → result ≢ Outcome.OutOfMemory → (result, contents (H.told host.new)) ≡ spec.after_reading object.now (file_bytes 1025 source.now (contents (H.told host.old))) }
-    ensures written { IsTrue (tells (H.told host.old)) → result ≡ Outcome.OutOfMemory → IsFront (contents (H.told host.new)).output (spec.after_reading object.now (file_bytes 1025 source.now (contents (H.told host.old)))).1.output }
-    ensures messages { IsTrue (tells (H.told host.old)) → slot_at (contents (H.told host.new)) 260 ≡ slot_at (contents (H.told host.old)) 260 }
-    ensures rose { ¬ IsTrue (tells (H.told host.old)) → result ≡ Outcome.HostFault → Rose (H.faults host.old) (H.faults host.new) }
-    ensures no_file { ¬ IsTrue (tells (H.told host.old)) → result ≡ Outcome.NoFile → Rose (H.faults host.old) (H.faults host.new) }
-    ensures keeps { tells (H.told host.new) ≡ tells (H.told host.old) }
-    ensures never_falls { H.faults host.old ≤ H.faults host.new }
+    ensures told { Answers (H.told host.old) (H.told host.new) Outcome.OutOfMemory result
+        (λ m. spec.after_reading object.now (file_bytes 1025 source.now m)) }
+    ensures written { WritesFront (H.told host.old) (H.told host.new) Outcome.OutOfMemory result
+        (λ m. spec.after_reading object.now (file_bytes 1025 source.now m)) }
+    ensures rose { ComesByFault (H.told host.old) Outcome.HostFault result (H.faults host.old) (H.faults host.new) }
+    ensures no_file { ComesByFault (H.told host.old) Outcome.NoFile result (H.faults host.old) (H.faults host.new) }
+    ensures keeps { Keeps (H.told host.old) (H.told host.new) (H.faults host.old) (H.faults host.new) }
 {
     match read_file(alloc, host, source, SOURCE_PIECES) {
         Ok(text) => assemble_into(alloc, host, text.as_slice(), object),

@@ -1,8 +1,9 @@
 //! The machine, one instruction at a time.
 
 ghost use Rattle.std.specs.Prelude.{IsTrue, ◌≡◌, ◌≢◌, ◌≤◌, ◌<◌, ◌+◌, ◌*◌, ◌-◌, ◌^◌, ◌%◌, Ok, Err, OnErr, IfOk, IfErr, length};
-ghost use Rattle.mx_host.specs.HostModel.{tells, contents, slot_at};
-ghost use Rattle.mx_top.specs.Lists.{IsFront};
+ghost use Rattle.mx_host.specs.Keeping.{Keeps};
+ghost use Rattle.mx_host.specs.HostModel.{tells, contents};
+ghost use Rattle.mx_word.specs.Lists.{IsFront};
 ghost use Rattle.mx_load.specs.Kept.{image_of};
 ghost use Rattle.mx_top.specs.Image.{of_object};
 ghost use Rattle.mx_top.specs.ListMachine.{start, start_address, onward, start_special};
@@ -185,9 +186,7 @@ impl Machine {
     fn put_string<H: Host>(&mut self, host: &mut H, z: u8) -> Result<(), End>
         ensures told { IsTrue (tells (H.told host.old)) → result ≢ Err End.OutOfMemory → runs.stepped_of result (state_of self.new) (contents (H.told host.new)) ≡ step_spec.fputs (state_of self.old) (contents (H.told host.old)) z }
         ensures memory { IsTrue (tells (H.told host.old)) → result ≡ Err End.OutOfMemory → IsFront (contents (H.told host.new)).output (step_spec.output_after (step_spec.fputs (state_of self.old) (contents (H.told host.old)) z)) }
-        ensures messages { IsTrue (tells (H.told host.old)) → slot_at (contents (H.told host.new)) 260 ≡ slot_at (contents (H.told host.old)) 260 }
-        ensures keeps { tells (H.told host.new) ≡ tells (H.told host.old) }
-        ensures never_falls { H.faults host.old ≤ H.faults host.new }
+        ensures keeps { Keeps (H.told host.old) (H.told host.new) (H.faults host.old) (H.faults host.new) }
     {
         let text = match text_at(self.alloc, &self.memory, self.registers.get(255)) {
             Ok(text) => text,
@@ -217,9 +216,7 @@ impl Machine {
     fn trap<H: Host>(&mut self, host: &mut H, x: u8, y: u8, z: u8) -> Result<(), End>
         ensures told { IsTrue (tells (H.told host.old)) → result ≢ Err End.OutOfMemory → runs.stepped_of result (state_of self.new) (contents (H.told host.new)) ≡ step_spec.trap (state_of self.old) (contents (H.told host.old)) x y z }
         ensures memory { IsTrue (tells (H.told host.old)) → result ≡ Err End.OutOfMemory → IsFront (contents (H.told host.new)).output (step_spec.output_after (step_spec.trap (state_of self.old) (contents (H.told host.old)) x y z)) }
-        ensures messages { IsTrue (tells (H.told host.old)) → slot_at (contents (H.told host.new)) 260 ≡ slot_at (contents (H.told host.old)) 260 }
-        ensures keeps { tells (H.told host.new) ≡ tells (H.told host.old) }
-        ensures never_falls { H.faults host.old ≤ H.faults host.new }
+        ensures keeps { Keeps (H.told host.old) (H.told host.new) (H.faults host.old) (H.faults host.new) }
     {
         match (x, y, z) {
             (0, 7, _) => self.put_string(host, z),
@@ -232,9 +229,7 @@ impl Machine {
     fn perform<H: Host>(&mut self, host: &mut H, opcode: u8, x: u8, y: u8, z: u8) -> Result<(), End>
         ensures told { IsTrue (tells (H.told host.old)) → result ≢ Err End.OutOfMemory → runs.stepped_of result (state_of self.new) (contents (H.told host.new)) ≡ step_spec.performed (state_of self.old) (contents (H.told host.old)) opcode x y z }
         ensures memory { IsTrue (tells (H.told host.old)) → result ≡ Err End.OutOfMemory → IsFront (contents (H.told host.new)).output (step_spec.output_after (step_spec.performed (state_of self.old) (contents (H.told host.old)) opcode x y z)) }
-        ensures messages { IsTrue (tells (H.told host.old)) → slot_at (contents (H.told host.new)) 260 ≡ slot_at (contents (H.told host.old)) 260 }
-        ensures keeps { tells (H.told host.new) ≡ tells (H.told host.old) }
-        ensures never_falls { H.faults host.old ≤ H.faults host.new }
+        ensures keeps { Keeps (H.told host.old) (H.told host.new) (H.faults host.old) (H.faults host.new) }
     {
         match opcode {
             0 => self.trap(host, x, y, z),
@@ -254,9 +249,7 @@ impl Machine {
     fn step<H: Host>(&mut self, host: &mut H) -> Result<(), End>
         ensures told { IsTrue (tells (H.told host.old)) → result ≢ Err End.OutOfMemory → runs.stepped_of result (state_of self.new) (contents (H.told host.new)) ≡ step_spec.step (state_of self.old) (contents (H.told host.old)) }
         ensures memory { IsTrue (tells (H.told host.old)) → result ≡ Err End.OutOfMemory → IsFront (contents (H.told host.new)).output (step_spec.output_after (step_spec.step (state_of self.old) (contents (H.told host.old)))) }
-        ensures messages { IsTrue (tells (H.told host.old)) → slot_at (contents (H.told host.new)) 260 ≡ slot_at (contents (H.told host.old)) 260 }
-        ensures keeps { tells (H.told host.new) ≡ tells (H.told host.old) }
-        ensures never_falls { H.faults host.old ≤ H.faults host.new }
+        ensures keeps { Keeps (H.told host.old) (H.told host.new) (H.faults host.old) (H.faults host.new) }
     {
         if self.pc >= 1 << 63 {
             return Err(self.stop(113));
@@ -269,9 +262,7 @@ impl Machine {
     pub fn run<H: Host>(&mut self, host: &mut H, steps: u64) -> End
         ensures told { IsTrue (tells (H.told host.old)) → result ≢ End.OutOfMemory → record { end = result; state = state_of self.new; model = contents (H.told host.new) } ≡ runs.run steps (state_of self.old) (contents (H.told host.old)) }
         ensures written { IsTrue (tells (H.told host.old)) → result ≡ End.OutOfMemory → IsFront (contents (H.told host.new)).output (runs.run steps (state_of self.old) (contents (H.told host.old))).model.output }
-        ensures messages { IsTrue (tells (H.told host.old)) → slot_at (contents (H.told host.new)) 260 ≡ slot_at (contents (H.told host.old)) 260 }
-        ensures keeps { tells (H.told host.new) ≡ tells (H.told host.old) }
-        ensures never_falls { H.faults host.old ≤ H.faults host.new }
+        ensures keeps { Keeps (H.told host.old) (H.told host.new) (H.faults host.old) (H.faults host.new) }
     {
         for turn in 0..steps {
             match self.step(host) {

@@ -1,10 +1,9 @@
 //! An object that is loaded and run.
 
 ghost use Rattle.std.specs.Prelude.{IsTrue, ◌≡◌, ◌≢◌, ◌≤◌, ◌<◌, ◌+◌, Ok, Err, None, true, false, suc, ℕ, length, OnOk, IfErr};
-ghost use Rattle.mx_host.specs.HostModel.{tells, contents, slot_at, Rose};
+ghost use Rattle.mx_host.specs.Keeping.{Answers, ComesByFault, Keeps, WritesFront};
 ghost use Rattle.mx_mmo.specs.Whole.{left_of};
 ghost use Rattle.mx_load.specs.Standing.{loading_of};
-ghost use Rattle.mx_top.specs.Lists.{IsFront};
 ghost use Rattle.mx_top.specs.Answers as spec;
 ghost use Rattle.mx_top.specs.Objects.{loaded_whole, object_image, taken};
 ghost use Rattle.mx_mmo.specs.Valid.{Fits};
@@ -144,13 +143,13 @@ fn load_object(alloc: Global, bytes: &[u8]) -> Result<Image, ObjectFault>
 
 /// Runs an object, or says why it is refused.
 fn run_object<H: Host>(alloc: Global, host: &mut H, bytes: &[u8], word: &[u8]) -> Outcome
-    ensures told { IsTrue (tells (H.told host.old)) → result ≢ Outcome.OutOfMemory → (result, contents (H.told host.new)) ≡ product.after_loading word.now (object_image bytes.now) (contents (H.told host.old)) }
-    ensures written { IsTrue (tells (H.told host.old)) → result ≡ Outcome.OutOfMemory → IsFront (contents (H.told host.new)).output (product.after_loading word.now (object_image bytes.now) (contents (H.told host.old))).1.output }
-    ensures messages { IsTrue (tells (H.told host.old)) → slot_at (contents (H.told host.new)) 260 ≡ slot_at (contents (H.told host.old)) 260 }
+    ensures told { Answers (H.told host.old) (H.told host.new) Outcome.OutOfMemory result
+        (λ m. product.after_loading word.now (object_image bytes.now) m) }
+    ensures written { WritesFront (H.told host.old) (H.told host.new) Outcome.OutOfMemory result
+        (λ m. product.after_loading word.now (object_image bytes.now) m) }
     ensures no_fault { result ≢ Outcome.HostFault }
     ensures present { result ≢ Outcome.NoFile }
-    ensures keeps { tells (H.told host.new) ≡ tells (H.told host.old) }
-    ensures never_falls { H.faults host.old ≤ H.faults host.new }
+    ensures keeps { Keeps (H.told host.old) (H.told host.new) (H.faults host.old) (H.faults host.new) }
 {
     match load_object(alloc, bytes) {
         Ok(image) => run_image(alloc, host, image, word),
@@ -161,13 +160,13 @@ fn run_object<H: Host>(alloc: Global, host: &mut H, bytes: &[u8], word: &[u8]) -
 
 /// Runs the object in the file of this name.
 pub fn sim_file<H: Host>(alloc: Global, host: &mut H, name: &[u8]) -> Outcome
-    ensures told { IsTrue (tells (H.told host.old)) → result ≢ Outcome.OutOfMemory → (result, contents (H.told host.new)) ≡ product.after_object name.now (file_bytes 16385 name.now (contents (H.told host.old))) }
-    ensures written { IsTrue (tells (H.told host.old)) → result ≡ Outcome.OutOfMemory → IsFront (contents (H.told host.new)).output (product.after_object name.now (file_bytes 16385 name.now (contents (H.told host.old)))).1.output }
-    ensures messages { IsTrue (tells (H.told host.old)) → slot_at (contents (H.told host.new)) 260 ≡ slot_at (contents (H.told host.old)) 260 }
-    ensures rose { ¬ IsTrue (tells (H.told host.old)) → result ≡ Outcome.HostFault → Rose (H.faults host.old) (H.faults host.new) }
-    ensures no_file { ¬ IsTrue (tells (H.told host.old)) → result ≡ Outcome.NoFile → Rose (H.faults host.old) (H.faults host.new) }
-    ensures keeps { tells (H.told host.new) ≡ tells (H.told host.old) }
-    ensures never_falls { H.faults host.old ≤ H.faults host.new }
+    ensures told { Answers (H.told host.old) (H.told host.new) Outcome.OutOfMemory result
+        (λ m. product.after_object name.now (file_bytes 16385 name.now m)) }
+    ensures written { WritesFront (H.told host.old) (H.told host.new) Outcome.OutOfMemory result
+        (λ m. product.after_object name.now (file_bytes 16385 name.now m)) }
+    ensures rose { ComesByFault (H.told host.old) Outcome.HostFault result (H.faults host.old) (H.faults host.new) }
+    ensures no_file { ComesByFault (H.told host.old) Outcome.NoFile result (H.faults host.old) (H.faults host.new) }
+    ensures keeps { Keeps (H.told host.old) (H.told host.new) (H.faults host.old) (H.faults host.new) }
 {
     match read_file(alloc, host, name, OBJECT_PIECES) {
         Ok(bytes) => run_object(alloc, host, bytes.as_slice(), name),

@@ -1,11 +1,10 @@
 //! A source that is run, and what runs once it is loaded.
 
 ghost use Rattle.std.specs.Prelude.{IsTrue, ◌≡◌, ◌≢◌, ◌≤◌, Err};
-ghost use Rattle.mx_host.specs.HostModel.{tells, contents, slot_at, Rose};
+ghost use Rattle.mx_host.specs.Keeping.{Answers, ComesByFault, Keeps, WritesFront};
 ghost use Rattle.mx_line.specs.Lines.{lines_of};
 ghost use Rattle.mx_load.specs.Kept.{image_of};
 ghost use Rattle.mx_top.specs.Image.{of_object};
-ghost use Rattle.mx_top.specs.Lists.{IsFront};
 ghost use Rattle.mx_top.specs.Answers.{image_from};
 ghost use Rattle.mx_top.specs.Held.{state_of};
 ghost use Rattle.mx_top.specs.Source.{file_bytes};
@@ -44,13 +43,13 @@ fn outcome_of(end: End) -> Outcome
 
 /// Runs a machine that was started.
 fn run_machine<H: Host>(host: &mut H, machine: Machine) -> Outcome
-    ensures told { IsTrue (tells (H.told host.old)) → result ≢ Outcome.OutOfMemory → (result, contents (H.told host.new)) ≡ spec.machine_run (state_of machine) (contents (H.told host.old)) }
-    ensures written { IsTrue (tells (H.told host.old)) → result ≡ Outcome.OutOfMemory → IsFront (contents (H.told host.new)).output (spec.machine_run (state_of machine) (contents (H.told host.old))).1.output }
-    ensures messages { IsTrue (tells (H.told host.old)) → slot_at (contents (H.told host.new)) 260 ≡ slot_at (contents (H.told host.old)) 260 }
+    ensures told { Answers (H.told host.old) (H.told host.new) Outcome.OutOfMemory result
+        (λ m. spec.machine_run (state_of machine) m) }
+    ensures written { WritesFront (H.told host.old) (H.told host.new) Outcome.OutOfMemory result
+        (λ m. spec.machine_run (state_of machine) m) }
     ensures no_fault { result ≢ Outcome.HostFault }
     ensures present { result ≢ Outcome.NoFile }
-    ensures keeps { tells (H.told host.new) ≡ tells (H.told host.old) }
-    ensures never_falls { H.faults host.old ≤ H.faults host.new }
+    ensures keeps { Keeps (H.told host.old) (H.told host.new) (H.faults host.old) (H.faults host.new) }
 {
     let mut machine = machine;
     let end = machine.run(host, STEP_BOUND);
@@ -59,13 +58,13 @@ fn run_machine<H: Host>(host: &mut H, machine: Machine) -> Outcome
 
 /// Runs an image from its start, with the word that names its file.
 pub fn run_image<H: Host>(alloc: Global, host: &mut H, image: Image, word: &[u8]) -> Outcome
-    ensures told { IsTrue (tells (H.told host.old)) → result ≢ Outcome.OutOfMemory → (result, contents (H.told host.new)) ≡ spec.image_run word.now (of_object (image_of image)) (contents (H.told host.old)) }
-    ensures written { IsTrue (tells (H.told host.old)) → result ≡ Outcome.OutOfMemory → IsFront (contents (H.told host.new)).output (spec.image_run word.now (of_object (image_of image)) (contents (H.told host.old))).1.output }
-    ensures messages { IsTrue (tells (H.told host.old)) → slot_at (contents (H.told host.new)) 260 ≡ slot_at (contents (H.told host.old)) 260 }
+    ensures told { Answers (H.told host.old) (H.told host.new) Outcome.OutOfMemory result
+        (λ m. spec.image_run word.now (of_object (image_of image)) m) }
+    ensures written { WritesFront (H.told host.old) (H.told host.new) Outcome.OutOfMemory result
+        (λ m. spec.image_run word.now (of_object (image_of image)) m) }
     ensures no_fault { result ≢ Outcome.HostFault }
     ensures present { result ≢ Outcome.NoFile }
-    ensures keeps { tells (H.told host.new) ≡ tells (H.told host.old) }
-    ensures never_falls { H.faults host.old ≤ H.faults host.new }
+    ensures keeps { Keeps (H.told host.old) (H.told host.new) (H.faults host.old) (H.faults host.new) }
 {
     match Machine::start(alloc, image, argument_of(word)) {
         Ok(machine) => run_machine(host, machine),
@@ -89,13 +88,13 @@ fn source_image(alloc: Global, text: &[u8]) -> Result<Image, AssemblyFault>
 
 /// Runs a source, or says why it is refused.
 fn run_source<H: Host>(alloc: Global, host: &mut H, text: &[u8], word: &[u8]) -> Outcome
-    ensures told { IsTrue (tells (H.told host.old)) → result ≢ Outcome.OutOfMemory → (result, contents (H.told host.new)) ≡ spec.after_meaning word.now (meaning_of (lines_of text.now)) (contents (H.told host.old)) }
-    ensures written { IsTrue (tells (H.told host.old)) → result ≡ Outcome.OutOfMemory → IsFront (contents (H.told host.new)).output (spec.after_meaning word.now (meaning_of (lines_of text.now)) (contents (H.told host.old))).1.output }
-    ensures messages { IsTrue (tells (H.told host.old)) → slot_at (contents (H.told host.new)) 260 ≡ slot_at (contents (H.told host.old)) 260 }
+    ensures told { Answers (H.told host.old) (H.told host.new) Outcome.OutOfMemory result
+        (λ m. spec.after_meaning word.now (meaning_of (lines_of text.now)) m) }
+    ensures written { WritesFront (H.told host.old) (H.told host.new) Outcome.OutOfMemory result
+        (λ m. spec.after_meaning word.now (meaning_of (lines_of text.now)) m) }
     ensures no_fault { result ≢ Outcome.HostFault }
     ensures present { result ≢ Outcome.NoFile }
-    ensures keeps { tells (H.told host.new) ≡ tells (H.told host.old) }
-    ensures never_falls { H.faults host.old ≤ H.faults host.new }
+    ensures keeps { Keeps (H.told host.old) (H.told host.new) (H.faults host.old) (H.faults host.new) }
 {
     match source_image(alloc, text) {
         Ok(image) => run_image(alloc, host, image, word),
@@ -110,13 +109,13 @@ fn run_source<H: Host>(alloc: Global, host: &mut H, text: &[u8], word: &[u8]) ->
 
 /// Runs the source in the file of this name.
 pub fn run_file<H: Host>(alloc: Global, host: &mut H, name: &[u8]) -> Outcome
-    ensures told { IsTrue (tells (H.told host.old)) → result ≢ Outcome.OutOfMemory → (result, contents (H.told host.new)) ≡ spec.after_source name.now (file_bytes 1025 name.now (contents (H.told host.old))) }
-    ensures written { IsTrue (tells (H.told host.old)) → result ≡ Outcome.OutOfMemory → IsFront (contents (H.told host.new)).output (spec.after_source name.now (file_bytes 1025 name.now (contents (H.told host.old)))).1.output }
-    ensures messages { IsTrue (tells (H.told host.old)) → slot_at (contents (H.told host.new)) 260 ≡ slot_at (contents (H.told host.old)) 260 }
-    ensures rose { ¬ IsTrue (tells (H.told host.old)) → result ≡ Outcome.HostFault → Rose (H.faults host.old) (H.faults host.new) }
-    ensures no_file { ¬ IsTrue (tells (H.told host.old)) → result ≡ Outcome.NoFile → Rose (H.faults host.old) (H.faults host.new) }
-    ensures keeps { tells (H.told host.new) ≡ tells (H.told host.old) }
-    ensures never_falls { H.faults host.old ≤ H.faults host.new }
+    ensures told { Answers (H.told host.old) (H.told host.new) Outcome.OutOfMemory result
+        (λ m. spec.after_source name.now (file_bytes 1025 name.now m)) }
+    ensures written { WritesFront (H.told host.old) (H.told host.new) Outcome.OutOfMemory result
+        (λ m. spec.after_source name.now (file_bytes 1025 name.now m)) }
+    ensures rose { ComesByFault (H.told host.old) Outcome.HostFault result (H.faults host.old) (H.faults host.new) }
+    ensures no_file { ComesByFault (H.told host.old) Outcome.NoFile result (H.faults host.old) (H.faults host.new) }
+    ensures keeps { Keeps (H.told host.old) (H.told host.new) (H.faults host.old) (H.faults host.new) }
 {
     match read_file(alloc, host, name, SOURCE_PIECES) {
         Ok(text) => run_source(alloc, host, text.as_slice(), name),

@@ -1,7 +1,8 @@
 //! The file that holds a source or an object, as it is read.
 
 ghost use Rattle.std.specs.Prelude.{IsTrue, ◌≡◌, ◌≢◌, ◌≤◌, ◌++◌, [], ℕ, Some, None, Ok, Err, OnOk, OnErr, IfOk, IfErr, nat_lt, length};
-ghost use Rattle.mx_host.specs.HostModel.{tells, contents, slot_at, Rose};
+ghost use Rattle.mx_host.specs.Keeping.{Answers, ComesByFault, Keeps, KeepsOutput};
+ghost use Rattle.mx_host.specs.HostModel.{tells, contents};
 ghost use Rattle.mx_host.specs.HostAnswer.{close_answer};
 ghost use Rattle.mx_word.specs.Results.{map_ok};
 ghost use Rattle.mx_top.specs.Source.{pieces, file_bytes};
@@ -18,11 +19,9 @@ fn one_piece<H: Host>(host: &mut H, got: &mut Bytes, piece: &mut [u8]) -> Result
     requires { length piece.old ≡ 4096 }
     ensures told { IsTrue (tells (H.told host.old)) → result ≢ Err Outcome.OutOfMemory → (map_ok (λ whole. (got.new, whole)) result, contents (H.told host.new)) ≡ spec.one_piece got.old (contents (H.told host.old)) }
     ensures errors { IfErr result (λ e. e ≢ Outcome.OutOfMemory → e ≡ Outcome.HostFault) }
-    ensures output { IsTrue (tells (H.told host.old)) → (contents (H.told host.new)).output ≡ (contents (H.told host.old)).output }
-    ensures messages { IsTrue (tells (H.told host.old)) → slot_at (contents (H.told host.new)) 260 ≡ slot_at (contents (H.told host.old)) 260 }
-    ensures keeps { tells (H.told host.new) ≡ tells (H.told host.old) }
-    ensures rose { ¬ IsTrue (tells (H.told host.old)) → result ≡ Err Outcome.HostFault → Rose (H.faults host.old) (H.faults host.new) }
-    ensures never_falls { H.faults host.old ≤ H.faults host.new }
+    ensures output { KeepsOutput (H.told host.old) (H.told host.new) }
+    ensures rose { ComesByFault (H.told host.old) (Err Outcome.HostFault) result (H.faults host.old) (H.faults host.new) }
+    ensures keeps { Keeps (H.told host.old) (H.told host.new) (H.faults host.old) (H.faults host.new) }
 {
     match host.read_slot(256, piece) {
         Ok(count) => match got.extend(&piece[..count]) {
@@ -37,13 +36,12 @@ fn one_piece<H: Host>(host: &mut H, got: &mut Bytes, piece: &mut [u8]) -> Result
 /// Reads the input file in pieces up to a shorter one, at most so many.
 #[tactic(auto, using(crate::proofs::ReadPieces::reading))]
 fn pieces<H: Host>(alloc: Global, host: &mut H, most: u32) -> Result<Bytes, Outcome>
-    ensures told { IsTrue (tells (H.told host.old)) → result ≢ Err Outcome.OutOfMemory → (result, contents (H.told host.new)) ≡ spec.pieces most [] (contents (H.told host.old)) }
+    ensures told { Answers (H.told host.old) (H.told host.new) (Err Outcome.OutOfMemory) result
+        (λ m. spec.pieces most [] m) }
     ensures errors { IfErr result (λ e. e ≢ Outcome.OutOfMemory → e ≡ Outcome.HostFault) }
-    ensures output { IsTrue (tells (H.told host.old)) → (contents (H.told host.new)).output ≡ (contents (H.told host.old)).output }
-    ensures messages { IsTrue (tells (H.told host.old)) → slot_at (contents (H.told host.new)) 260 ≡ slot_at (contents (H.told host.old)) 260 }
-    ensures keeps { tells (H.told host.new) ≡ tells (H.told host.old) }
-    ensures rose { ¬ IsTrue (tells (H.told host.old)) → result ≡ Err Outcome.HostFault → Rose (H.faults host.old) (H.faults host.new) }
-    ensures never_falls { H.faults host.old ≤ H.faults host.new }
+    ensures output { KeepsOutput (H.told host.old) (H.told host.new) }
+    ensures rose { ComesByFault (H.told host.old) (Err Outcome.HostFault) result (H.faults host.old) (H.faults host.new) }
+    ensures keeps { Keeps (H.told host.old) (H.told host.new) (H.faults host.old) (H.faults host.new) }
 {
     let mut got = Bytes::new(alloc);
     let mut piece = [0u8; 4096];
@@ -60,13 +58,12 @@ fn pieces<H: Host>(alloc: Global, host: &mut H, most: u32) -> Result<Bytes, Outc
 /// Closes the input file.
 #[tactic(auto, unfolding(mx_host::specs::HostAnswer::close_answer))]
 fn close<H: Host>(host: &mut H, bytes: Bytes) -> Result<Bytes, Outcome>
-    ensures told { IsTrue (tells (H.told host.old)) → result ≢ Err Outcome.OutOfMemory → (result, contents (H.told host.new)) ≡ spec.closed_with bytes (close_answer (contents (H.told host.old)) 256) }
+    ensures told { Answers (H.told host.old) (H.told host.new) (Err Outcome.OutOfMemory) result
+        (λ m. spec.closed_with bytes (close_answer m 256)) }
     ensures errors { IfErr result (λ e. e ≢ Outcome.OutOfMemory → e ≡ Outcome.HostFault) }
-    ensures output { IsTrue (tells (H.told host.old)) → (contents (H.told host.new)).output ≡ (contents (H.told host.old)).output }
-    ensures messages { IsTrue (tells (H.told host.old)) → slot_at (contents (H.told host.new)) 260 ≡ slot_at (contents (H.told host.old)) 260 }
-    ensures keeps { tells (H.told host.new) ≡ tells (H.told host.old) }
-    ensures rose { ¬ IsTrue (tells (H.told host.old)) → result ≡ Err Outcome.HostFault → Rose (H.faults host.old) (H.faults host.new) }
-    ensures never_falls { H.faults host.old ≤ H.faults host.new }
+    ensures output { KeepsOutput (H.told host.old) (H.told host.new) }
+    ensures rose { ComesByFault (H.told host.old) (Err Outcome.HostFault) result (H.faults host.old) (H.faults host.new) }
+    ensures keeps { Keeps (H.told host.old) (H.told host.new) (H.faults host.old) (H.faults host.new) }
 {
     match host.close_slot(256) {
         Ok(()) => Ok(bytes),
@@ -83,13 +80,12 @@ pub fn read_file<H: Host>(
     name: &[u8],
     most: u32,
 ) -> Result<Bytes, Outcome>
-    ensures told { IsTrue (tells (H.told host.old)) → result ≢ Err Outcome.OutOfMemory → (result, contents (H.told host.new)) ≡ spec.file_bytes most name.now (contents (H.told host.old)) }
-    ensures output { IsTrue (tells (H.told host.old)) → (contents (H.told host.new)).output ≡ (contents (H.told host.old)).output }
-    ensures messages { IsTrue (tells (H.told host.old)) → slot_at (contents (H.told host.new)) 260 ≡ slot_at (contents (H.told host.old)) 260 }
-    ensures keeps { tells (H.told host.new) ≡ tells (H.told host.old) }
-    ensures rose { ¬ IsTrue (tells (H.told host.old)) → result ≡ Err Outcome.HostFault → Rose (H.faults host.old) (H.faults host.new) }
-    ensures no_file { ¬ IsTrue (tells (H.told host.old)) → result ≡ Err Outcome.NoFile → Rose (H.faults host.old) (H.faults host.new) }
-    ensures never_falls { H.faults host.old ≤ H.faults host.new }
+    ensures told { Answers (H.told host.old) (H.told host.new) (Err Outcome.OutOfMemory) result
+        (λ m. spec.file_bytes most name.now m) }
+    ensures output { KeepsOutput (H.told host.old) (H.told host.new) }
+    ensures rose { ComesByFault (H.told host.old) (Err Outcome.HostFault) result (H.faults host.old) (H.faults host.new) }
+    ensures no_file { ComesByFault (H.told host.old) (Err Outcome.NoFile) result (H.faults host.old) (H.faults host.new) }
+    ensures keeps { Keeps (H.told host.old) (H.told host.new) (H.faults host.old) (H.faults host.new) }
 {
     match host.open_file(256, name, Mode::BinaryRead) {
         Err(OpenFault::Absent) => Err(Outcome::NoFile),

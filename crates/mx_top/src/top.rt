@@ -1,8 +1,8 @@
 //! The top call.
 
 ghost use Rattle.std.specs.Prelude.{IsTrue, ◌≡◌, ◌≢◌, ◌≤◌, None, map, string_bytes};
-ghost use Rattle.mx_host.specs.HostModel.{tells, contents, slot_at, to_errors, Rose};
-ghost use Rattle.mx_top.specs.Lists.{IsFront};
+ghost use Rattle.mx_host.specs.Keeping.{Answers, ComesByFault, HasToolStreams, Keeps, KeepsOutput, WritesFront};
+ghost use Rattle.mx_host.specs.HostModel.{tells, contents};
 ghost use Rattle.mx_top.specs.Words.{order_of, one_file, two_files};
 ghost use Rattle.mx_top.specs.Product.{ordered, product, with_message, not_built};
 
@@ -24,14 +24,14 @@ fn no_order() -> Outcome
 
 /// Does what a command orders of one file.
 fn with_file<H: Host>(alloc: Global, host: &mut H, command: &String, file: &String) -> Outcome
-    ensures told { IsTrue (tells (H.told host.old)) → result ≢ Outcome.OutOfMemory → (result, contents (H.told host.new)) ≡ ordered (one_file (string_bytes command.now) (string_bytes file.now)) (contents (H.told host.old)) }
-    ensures written { IsTrue (tells (H.told host.old)) → result ≡ Outcome.OutOfMemory → IsFront (contents (H.told host.new)).output (ordered (one_file (string_bytes command.now) (string_bytes file.now)) (contents (H.told host.old))).1.output }
-    ensures messages { IsTrue (tells (H.told host.old)) → slot_at (contents (H.told host.new)) 260 ≡ slot_at (contents (H.told host.old)) 260 }
+    ensures told { Answers (H.told host.old) (H.told host.new) Outcome.OutOfMemory result
+        (λ m. ordered (one_file (string_bytes command.now) (string_bytes file.now)) m) }
+    ensures written { WritesFront (H.told host.old) (H.told host.new) Outcome.OutOfMemory result
+        (λ m. ordered (one_file (string_bytes command.now) (string_bytes file.now)) m) }
     ensures usage { one_file (string_bytes command.now) (string_bytes file.now) ≡ None → result ≡ Outcome.Usage not_built }
-    ensures rose { ¬ IsTrue (tells (H.told host.old)) → result ≡ Outcome.HostFault → Rose (H.faults host.old) (H.faults host.new) }
-    ensures no_file { ¬ IsTrue (tells (H.told host.old)) → result ≡ Outcome.NoFile → Rose (H.faults host.old) (H.faults host.new) }
-    ensures keeps { tells (H.told host.new) ≡ tells (H.told host.old) }
-    ensures never_falls { H.faults host.old ≤ H.faults host.new }
+    ensures rose { ComesByFault (H.told host.old) Outcome.HostFault result (H.faults host.old) (H.faults host.new) }
+    ensures no_file { ComesByFault (H.told host.old) Outcome.NoFile result (H.faults host.old) (H.faults host.new) }
+    ensures keeps { Keeps (H.told host.old) (H.told host.new) (H.faults host.old) (H.faults host.new) }
 {
     if is_option(file) {
         return no_order();
@@ -53,14 +53,14 @@ fn with_files<H: Host>(
     source: &String,
     object: &String,
 ) -> Outcome
-    ensures told { IsTrue (tells (H.told host.old)) → result ≢ Outcome.OutOfMemory → (result, contents (H.told host.new)) ≡ ordered (two_files (string_bytes command.now) (string_bytes source.now) (string_bytes object.now)) (contents (H.told host.old)) }
-    ensures written { IsTrue (tells (H.told host.old)) → result ≡ Outcome.OutOfMemory → IsFront (contents (H.told host.new)).output (ordered (two_files (string_bytes command.now) (string_bytes source.now) (string_bytes object.now)) (contents (H.told host.old))).1.output }
-    ensures messages { IsTrue (tells (H.told host.old)) → slot_at (contents (H.told host.new)) 260 ≡ slot_at (contents (H.told host.old)) 260 }
+    ensures told { Answers (H.told host.old) (H.told host.new) Outcome.OutOfMemory result
+        (λ m. ordered (two_files (string_bytes command.now) (string_bytes source.now) (string_bytes object.now)) m) }
+    ensures written { WritesFront (H.told host.old) (H.told host.new) Outcome.OutOfMemory result
+        (λ m. ordered (two_files (string_bytes command.now) (string_bytes source.now) (string_bytes object.now)) m) }
     ensures usage { two_files (string_bytes command.now) (string_bytes source.now) (string_bytes object.now) ≡ None → result ≡ Outcome.Usage not_built }
-    ensures rose { ¬ IsTrue (tells (H.told host.old)) → result ≡ Outcome.HostFault → Rose (H.faults host.old) (H.faults host.new) }
-    ensures no_file { ¬ IsTrue (tells (H.told host.old)) → result ≡ Outcome.NoFile → Rose (H.faults host.old) (H.faults host.new) }
-    ensures keeps { tells (H.told host.new) ≡ tells (H.told host.old) }
-    ensures never_falls { H.faults host.old ≤ H.faults host.new }
+    ensures rose { ComesByFault (H.told host.old) Outcome.HostFault result (H.faults host.old) (H.faults host.new) }
+    ensures no_file { ComesByFault (H.told host.old) Outcome.NoFile result (H.faults host.old) (H.faults host.new) }
+    ensures keeps { Keeps (H.told host.old) (H.told host.new) (H.faults host.old) (H.faults host.new) }
 {
     if is_option(source) || is_option(object) || command.as_str() != "asm" {
         return no_order();
@@ -70,14 +70,14 @@ fn with_files<H: Host>(
 
 /// Does what the words order, without the message.
 fn carry_out<H: Host>(alloc: Global, words: &[String], host: &mut H) -> Outcome
-    ensures told { IsTrue (tells (H.told host.old)) → result ≢ Outcome.OutOfMemory → (result, contents (H.told host.new)) ≡ ordered (order_of (map string_bytes words.now)) (contents (H.told host.old)) }
-    ensures written { IsTrue (tells (H.told host.old)) → result ≡ Outcome.OutOfMemory → IsFront (contents (H.told host.new)).output (ordered (order_of (map string_bytes words.now)) (contents (H.told host.old))).1.output }
-    ensures messages { IsTrue (tells (H.told host.old)) → slot_at (contents (H.told host.new)) 260 ≡ slot_at (contents (H.told host.old)) 260 }
+    ensures told { Answers (H.told host.old) (H.told host.new) Outcome.OutOfMemory result
+        (λ m. ordered (order_of (map string_bytes words.now)) m) }
+    ensures written { WritesFront (H.told host.old) (H.told host.new) Outcome.OutOfMemory result
+        (λ m. ordered (order_of (map string_bytes words.now)) m) }
     ensures usage { order_of (map string_bytes words.now) ≡ None → result ≡ Outcome.Usage not_built }
-    ensures rose { ¬ IsTrue (tells (H.told host.old)) → result ≡ Outcome.HostFault → Rose (H.faults host.old) (H.faults host.new) }
-    ensures no_file { ¬ IsTrue (tells (H.told host.old)) → result ≡ Outcome.NoFile → Rose (H.faults host.old) (H.faults host.new) }
-    ensures keeps { tells (H.told host.new) ≡ tells (H.told host.old) }
-    ensures never_falls { H.faults host.old ≤ H.faults host.new }
+    ensures rose { ComesByFault (H.told host.old) Outcome.HostFault result (H.faults host.old) (H.faults host.new) }
+    ensures no_file { ComesByFault (H.told host.old) Outcome.NoFile result (H.faults host.old) (H.faults host.new) }
+    ensures keeps { Keeps (H.told host.old) (H.told host.new) (H.faults host.old) (H.faults host.new) }
 {
     match words {
         [command, file] => with_file(alloc, host, command, file),
@@ -90,11 +90,11 @@ fn carry_out<H: Host>(alloc: Global, words: &[String], host: &mut H) -> Outcome
 /// nothing; where there is no memory for the line or its write, that is the outcome.
 #[tactic(auto, unfolding(mx_host::specs::HostAnswer::write_answer))]
 fn tell<H: Host>(alloc: Global, host: &mut H, outcome: Outcome) -> Outcome
-    ensures told { IsTrue (tells (H.told host.old)) → result ≢ Outcome.OutOfMemory → (result, contents (H.told host.new)) ≡ with_message (outcome, contents (H.told host.old)) }
+    ensures told { Answers (H.told host.old) (H.told host.new) Outcome.OutOfMemory result
+        (λ m. with_message (outcome, contents (H.told host.old))) }
     ensures same { result ≢ Outcome.OutOfMemory → result ≡ outcome }
-    ensures output { IsTrue (tells (H.told host.old)) → slot_at (contents (H.told host.old)) 260 ≡ to_errors → (contents (H.told host.new)).output ≡ (contents (H.told host.old)).output }
-    ensures keeps { tells (H.told host.new) ≡ tells (H.told host.old) }
-    ensures never_falls { H.faults host.old ≤ H.faults host.new }
+    ensures output { HasToolStreams (contents (H.told host.old)) → KeepsOutput (H.told host.old) (H.told host.new) }
+    ensures keeps { Keeps (H.told host.old) (H.told host.new) (H.faults host.old) (H.faults host.new) }
 {
     let Ok(text) = message(alloc, outcome) else {
         return Outcome::OutOfMemory;
@@ -119,17 +119,18 @@ fn tell<H: Host>(alloc: Global, host: &mut H, outcome: Outcome) -> Outcome
 /// Over a host that tells its contents the outcome and all that the host then holds are those of
 /// `product`. Where memory runs out, standard output has been given a front of what `product` gives.
 pub fn mmixware<H: Host>(alloc: Global, words: &[String], host: &mut H) -> Outcome
-    ensures product { IsTrue (tells (H.told host.old)) → result ≢ Outcome.OutOfMemory → (result, contents (H.told host.new)) ≡ product (map string_bytes words.now) (contents (H.told host.old)) }
-    ensures written { IsTrue (tells (H.told host.old)) → slot_at (contents (H.told host.old)) 260 ≡ to_errors → result ≡ Outcome.OutOfMemory → IsFront (contents (H.told host.new)).output (product (map string_bytes words.now) (contents (H.told host.old))).1.output }
+    ensures product { Answers (H.told host.old) (H.told host.new) Outcome.OutOfMemory result
+        (λ m. product (map string_bytes words.now) m) }
+    ensures written { HasToolStreams (contents (H.told host.old)) →
+        WritesFront (H.told host.old) (H.told host.new) Outcome.OutOfMemory result (λ m. product (map string_bytes words.now) m) }
 
     // Words that are no order are told apart for every host.
     ensures usage { order_of (map string_bytes words.now) ≡ None → result ≢ Outcome.OutOfMemory → result ≡ Outcome.Usage not_built }
 
     // Over a host that tells nothing, a file is missing or fails only where a call failed.
-    ensures host_fault { ¬ IsTrue (tells (H.told host.old)) → result ≡ Outcome.HostFault → Rose (H.faults host.old) (H.faults host.new) }
-    ensures no_file { ¬ IsTrue (tells (H.told host.old)) → result ≡ Outcome.NoFile → Rose (H.faults host.old) (H.faults host.new) }
-    ensures keeps { tells (H.told host.new) ≡ tells (H.told host.old) }
-    ensures never_falls { H.faults host.old ≤ H.faults host.new }
+    ensures host_fault { ComesByFault (H.told host.old) Outcome.HostFault result (H.faults host.old) (H.faults host.new) }
+    ensures no_file { ComesByFault (H.told host.old) Outcome.NoFile result (H.faults host.old) (H.faults host.new) }
+    ensures keeps { Keeps (H.told host.old) (H.told host.new) (H.faults host.old) (H.faults host.new) }
 {
     let outcome = carry_out(alloc, words, host);
     tell(alloc, host, outcome)

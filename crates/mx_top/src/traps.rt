@@ -1,8 +1,9 @@
 //! Writing bytes piece by piece, as the file trap that writes a text does.
 
 ghost use Rattle.std.specs.Prelude.{IsTrue, ◌≡◌, ◌≢◌, ◌≤◌, ◌/◌, ◌-◌, IfOk, Ok, OnErr, false};
-ghost use Rattle.mx_host.specs.HostModel.{tells, contents, slot_at, Rose};
-ghost use Rattle.mx_top.specs.Lists.{IsFront};
+ghost use Rattle.mx_host.specs.Keeping.{ComesByFault, Keeps};
+ghost use Rattle.mx_host.specs.HostModel.{tells, contents};
+ghost use Rattle.mx_word.specs.Lists.{IsFront};
 ghost use Rattle.mx_top.specs.FileTraps as spec;
 
 use mx_host::{Host, HostFault};
@@ -14,10 +15,8 @@ fn put_piece<H: Host>(host: &mut H, slot: u16, piece: &[u8]) -> Result<bool, NoM
     requires { slot ≤ 257 }
     ensures told { IsTrue (tells (H.told host.old)) → IfOk result (λ written. (written, contents (H.told host.new)) ≡ spec.put_piece slot piece.now (contents (H.told host.old))) }
     ensures memory { IsTrue (tells (H.told host.old)) → OnErr result ((contents (H.told host.new)).output ≡ (contents (H.told host.old)).output) }
-    ensures messages { IsTrue (tells (H.told host.old)) → slot_at (contents (H.told host.new)) 260 ≡ slot_at (contents (H.told host.old)) 260 }
-    ensures keeps { tells (H.told host.new) ≡ tells (H.told host.old) }
-    ensures rose { ¬ IsTrue (tells (H.told host.old)) → result ≡ Ok false → Rose (H.faults host.old) (H.faults host.new) }
-    ensures never_falls { H.faults host.old ≤ H.faults host.new }
+    ensures rose { ComesByFault (H.told host.old) (Ok false) result (H.faults host.old) (H.faults host.new) }
+    ensures keeps { Keeps (H.told host.old) (H.told host.new) (H.faults host.old) (H.faults host.new) }
 {
     match host.write_slot(slot, piece) {
         Ok(()) => Ok(true),
@@ -32,10 +31,8 @@ pub fn put_text<H: Host>(host: &mut H, slot: u16, text: &[u8]) -> Result<bool, N
     requires { slot ≤ 257 }
     ensures told { IsTrue (tells (H.told host.old)) → IfOk result (λ written. (written, contents (H.told host.new)) ≡ spec.put_text slot text.now (contents (H.told host.old))) }
     ensures memory { IsTrue (tells (H.told host.old)) → OnErr result (IsFront (contents (H.told host.new)).output (spec.put_text slot text.now (contents (H.told host.old))).1.output) }
-    ensures messages { IsTrue (tells (H.told host.old)) → slot_at (contents (H.told host.new)) 260 ≡ slot_at (contents (H.told host.old)) 260 }
-    ensures keeps { tells (H.told host.new) ≡ tells (H.told host.old) }
-    ensures rose { ¬ IsTrue (tells (H.told host.old)) → result ≡ Ok false → Rose (H.faults host.old) (H.faults host.new) }
-    ensures never_falls { H.faults host.old ≤ H.faults host.new }
+    ensures rose { ComesByFault (H.told host.old) (Ok false) result (H.faults host.old) (H.faults host.new) }
+    ensures keeps { Keeps (H.told host.old) (H.told host.new) (H.faults host.old) (H.faults host.new) }
 {
     let mut rest = text;
     while rest.len() > 4096 {

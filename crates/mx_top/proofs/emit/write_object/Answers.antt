@@ -13,7 +13,7 @@ returns-in-Ok-true-clause-written g c = λ t oom.
     let here = contents (g.H.Host.told c.args.host.now) in
     let put = contents (g.H.Host.told c.put_text.new.host) in
     let said = rw c.in-Ok-true.field-0-test at (c.in-Ok-true.ensures.told t) in
-    front-of put.output _ _ _ (c.close_object.ensures.output (subst IsTrue (sym c.put_text.ensures.keeps) t)) (ap (λ p. (written_object p).1.output) (sym said))
+    front-of put.output _ _ _ (c.close_object.ensures.output (subst IsTrue (sym c.put_text.ensures.keeps.telling) t)) (ap (λ p. (written_object p).1.output) (sym said))
     (shut-front put)
 
 pub returns-in-Err-clause-written : goal.returns-in-Err-clause-written

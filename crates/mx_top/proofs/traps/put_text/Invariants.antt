@@ -1,6 +1,6 @@
-use Rattle.std.proofs.Common.{IsTrue, ◌≡◌, ◌≤◌, length}
+use Rattle.std.proofs.Common.{IsTrue, ◌≡◌, length}
+use Rattle.mx_host.specs.Keeping.{Keeps}
 use Rattle.mx_host.specs.HostModel.{tells, contents}
-use Rattle.mx_host.specs.HostModel.{slot_at}
 use Rattle.mx_top.specs.FileTraps.{put_text}
 use Rattle.mx_top.proofs.traps.put_text.Given as goal
 
@@ -8,10 +8,7 @@ abbrev pub invariant-loop-rest : goal.invariant-loop-rest
 invariant-loop-rest g l = record {
   told : IsTrue (tells (g.H.Host.told l.fn.host)) →
       put_text l.fn.slot l.text (contents (g.H.Host.told l.fn.host)) ≡ put_text l.fn.slot l.rest (contents (g.H.Host.told l.host));
-  messages : IsTrue (tells (g.H.Host.told l.fn.host)) →
-      slot_at (contents (g.H.Host.told l.host)) 260 ≡ slot_at (contents (g.H.Host.told l.fn.host)) 260;
-  keeps : tells (g.H.Host.told l.host) ≡ tells (g.H.Host.told l.fn.host);
-  never_falls : g.H.Host.faults l.fn.host ≤ g.H.Host.faults l.host;
+  keeps : Keeps (g.H.Host.told l.fn.host) (g.H.Host.told l.host) (g.H.Host.faults l.fn.host) (g.H.Host.faults l.host);
 }
 
 abbrev pub decreases-loop-rest : goal.decreases-loop-rest

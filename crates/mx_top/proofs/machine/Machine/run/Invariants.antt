@@ -1,5 +1,6 @@
-use Rattle.std.proofs.Common.{IsTrue, ◌≡◌, ◌≤◌, ◌-◌}
-use Rattle.mx_host.specs.HostModel.{tells, contents, slot_at}
+use Rattle.std.proofs.Common.{IsTrue, ◌≡◌, ◌-◌}
+use Rattle.mx_host.specs.Keeping.{Keeps}
+use Rattle.mx_host.specs.HostModel.{tells, contents}
 use Rattle.mx_top.specs.Held.{state_of}
 use Rattle.mx_top.specs.Runs.{run}
 use Rattle.mx_top.proofs.machine.Machine.run.Given as goal
@@ -8,8 +9,5 @@ abbrev pub invariant-loop-turn : goal.invariant-loop-turn
 invariant-loop-turn g l = record {
   told : IsTrue (tells (g.H.Host.told l.fn.host)) →
       run l.fn.steps (state_of l.fn.self) (contents (g.H.Host.told l.fn.host)) ≡ run (l.fn.steps - l.turn) (state_of l.self) (contents (g.H.Host.told l.host));
-  messages : IsTrue (tells (g.H.Host.told l.fn.host)) →
-      slot_at (contents (g.H.Host.told l.host)) 260 ≡ slot_at (contents (g.H.Host.told l.fn.host)) 260;
-  keeps : tells (g.H.Host.told l.host) ≡ tells (g.H.Host.told l.fn.host);
-  never_falls : g.H.Host.faults l.fn.host ≤ g.H.Host.faults l.host;
+  keeps : Keeps (g.H.Host.told l.fn.host) (g.H.Host.told l.host) (g.H.Host.faults l.fn.host) (g.H.Host.faults l.host);
 }

@@ -1,0 +1,17 @@
+-- What is kept by two steps is kept by both, one behind the other.
+use Rattle.std.proofs.Common.{◌≡◌, ◌≤◌, ℕ, ◌∙◌, refl, IsTrue, subst, sym, arith}
+use Rattle.std.specs.Prelude.{Option}
+use Rattle.mx_host.specs.HostModel.{HostModel}
+use Rattle.mx_host.specs.Keeping.{Keeps}
+
+pub keeps-then : (a b c : Option HostModel) (k m n : ℕ) → Keeps a b k m → Keeps b c m n → Keeps a c k n
+keeps-then a b c k m n first second = record {
+  telling = second.telling ∙ first.telling;
+  counting = omega (arith, first.counting, second.counting);
+  streams = λ t h. second.streams (subst IsTrue (sym first.telling) t) (first.streams t h);
+}
+
+pub keeps-all : (a : Option HostModel) (k : ℕ) → Keeps a a k k
+keeps-all a k = record { telling = refl; counting = omega arith; streams = λ t h. h }
+
+pub ruleset keeping = (keeps-then, keeps-all)
