@@ -1,5 +1,5 @@
 -- What is kept by two steps is kept by both, one behind the other.
-use Rattle.std.proofs.Common.{◌≡◌, ◌≤◌, ℕ, ◌∙◌, refl, IsTrue, subst, sym, arith}
+use Rattle.std.proofs.Common.{ℕ, ◌∙◌, refl, IsTrue, subst, sym, arith}
 use Rattle.std.specs.Prelude.{Option}
 use Rattle.mx_host.specs.HostModel.{HostModel}
 use Rattle.mx_host.specs.Keeping.{Keeps}

@@ -2,5 +2,6 @@ pub mod FaultCount
 pub mod Keeping
 pub mod NamedFiles
 pub mod Names
+pub mod Output
 pub mod Start
 pub mod Still

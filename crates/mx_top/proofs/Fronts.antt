@@ -11,7 +11,7 @@ use Rattle.mx_top.specs.Step.{Stepped, went, ended, output_after, fputs, fputs_o
 use Rattle.mx_top.specs.Runs.{run, run_after}
 use Rattle.mx_top.specs.declared.texts.TextFault.{TextFault}
 use Rattle.mx_top.specs.declared.texts.TextFault.TheVariants.{Negative, TooLarge, OutOfMemory as NoRoom}
-use Rattle.mx_top.proofs.Writes.{front-self, front-through}
+use Rattle.mx_word.proofs.Fronts.{front-self, front-through}
 use Rattle.mx_top.proofs.PutPieces.{text-front}
 
 one-of : (xs : List ℕ) (b : Bool) (x y : Stepped) → IsFront xs (output_after x) → IsFront xs (output_after y) → IsFront xs (output_after (cond b x y))

@@ -2,6 +2,7 @@
 use Rattle.std.proofs.Common.{◌≡◌, ℕ, ◌+◌, ◌-◌, ◌*◌, ◌/◌, ◌%◌, ◌^◌, ◌<◌, ◌≤◌, List, [], ◌∷◌, ◌++◌, length, Bool, true, false, arith, refl, ◌∙◌, ap, subst, inl, inr, ◌⊎◌, Option, Some, None}
 use Rattle.std.specs.Prelude.{nat_lt, nat_le}
 use Rattle.std.proofs.lemmas.Bool.Decides.{nat_tests}
+use Rattle.std.proofs.lemmas.Bool.{and_parts}
 use Rattle.mx_line.specs.Lines.{is_too_far}
 use Rattle.mx_line.specs.Plain.{plain_of, part}
 use Rattle.mx_line.specs.declared.spans.Span.{Span}
@@ -11,8 +12,8 @@ use Rattle.mx_line.proofs.NumberLaws.{numbers-some}
 use Rattle.mx_top.specs.TwoPass.{Line, raised, start_of, end_of, place_after, place_of_line, labels_of, value_in, is_near, geta_bytes, geta_to, bytes_of, reaches, has_target, stays_plain, faults_of_line}
 use Rattle.mx_top.specs.Whole.{places}
 use Rattle.mx_top.specs.declared.labels.Label.{Label}
-use Rattle.mx_top.proofs.Loads.{AreBytes}
-use Rattle.mx_top.proofs.MoreLines.{size_of, size-push, far-size, place-push, near-labels, none-of, last-true}
+use Rattle.mx_word.specs.Ranges.{AreBytes}
+use Rattle.mx_top.proofs.MoreLines.{size_of, size-push, far-size, place-push, near-labels, none-of}
 use Rattle.mx_top.proofs.StatementBounds.{IsSmall, plain-small, numbers-short, numbers-bytes}
 
 -- ---- labels of earlier lines
@@ -114,7 +115,7 @@ good-line before line later h =
     let none = none-of (is_too_far (before ++ line ∷ []) (length before + 1)) (stays_plain before line) (length before + 1) later h in (
       record {
         near = near-size (size_of before + length line) (subst (λ n. nat_lt (2 ^ 22) n ≡ false) (far-size before line) none.0);
-        target = last-true _ _ none.1;
+        target = (and_parts _ _ none.1).1;
       },
       none.2,
     )

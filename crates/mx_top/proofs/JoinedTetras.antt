@@ -8,6 +8,7 @@ use Rattle.std.proofs.lemmas.Bool.{cases_eq, cases_lt}
 use Rattle.mx_word.specs.Words.{tetra_from_bytes}
 use Rattle.mx_mem.specs.Memory.{byte_in, tetra_byte}
 use Rattle.mx_word.proofs.JoinedTetra.{byte_in-joined}
+use Rattle.mx_word.proofs.Tetras.{tetra-sum, tetra-small}
 use Rattle.mx_mmo.specs.Meaning.{with_tetra}
 use Rattle.mx_top.specs.Placements.{placed, from_place}
 
@@ -17,12 +18,6 @@ pick a b c d zero = a
 pick a b c d (suc zero) = b
 pick a b c d (suc (suc zero)) = c
 pick a b c d (suc (suc (suc n))) = d
-
-tetra-sum : (a b c d : ℕ) → tetra_from_bytes (a ∷ b ∷ c ∷ d ∷ []) ≡ a * 16777216 + b * 65536 + c * 256 + d
-tetra-sum a b c d = omega arith
-
-pub tetra-small : (a b c d : ℕ) → a < 256 → b < 256 → c < 256 → d < 256 → tetra_from_bytes (a ∷ b ∷ c ∷ d ∷ []) < 2 ^ 32
-tetra-small a b c d la lb lc ld = omega (arith, tetra-sum a b c d)
 
 digit : (a b c d t i : ℕ) → a < 256 → b < 256 → c < 256 → d < 256 → t ≡ a * 16777216 + b * 65536 + c * 256 + d → i < 4 → t / 2 ^ (8 * (3 - i)) % 256 ≡ pick a b c d i
 digit a b c d t zero la lb lc ld e l = omega arith

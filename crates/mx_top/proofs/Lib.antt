@@ -37,4 +37,3 @@ pub mod TextEnds
 pub mod Turns
 pub mod WalkLoads
 pub mod WholeFiles
-pub mod Writes

@@ -1,8 +1,8 @@
 -- Lines are taken one after another.
 use Rattle.std.proofs.Common.{◌≡◌, ◌≢◌, ℕ, ◌+◌, List, [], ◌∷◌, length, arith, refl, Ok, Err}
 use Rattle.std.specs.Prelude.{Result}
+use Rattle.mx_line.proofs.LineLemmas.{no-lines}
 use Rattle.mx_line.specs.Lines.{lines_of}
-use Rattle.mx_line.specs.Pieces.{split}
 use Rattle.mx_top.specs.TwoPass.{Line}
 use Rattle.mx_top.specs.OnePass.{Known, known_after, items_in, finished, refused_at, line_taken, lines_taken}
 use Rattle.mx_top.specs.declared.labels.Refusal.{Refusal}
@@ -21,10 +21,6 @@ taken-refused k n line lines number NoRoom f e d ne h = absurd (ne d)
 pub taken-next : (k n : Known) (line : Line) (lines : List Line) → Ok n ≡ line_taken k line → lines_taken (line ∷ lines) k ≡ lines_taken lines n
 unfolding lines_taken
 taken-next k n line lines h = rw (← h) refl
-
-no-lines : lines_of [] ≡ []
-unfolding lines_of split
-no-lines = refl
 
 pub taken-all : (k : Known) (text : List ℕ) → length text ≡ 0 → lines_taken (lines_of text) k ≡ Ok k
 unfolding lines_taken

@@ -16,7 +16,8 @@ use Rattle.mx_top.specs.declared.labels.Label.{Label}
 use Rattle.mx_top.proofs.Placed.{placed-append}
 use Rattle.mx_top.proofs.Gather.{gather-append}
 use Rattle.mx_top.proofs.PageCounts.{IsLow, few-pages}
-use Rattle.mx_top.proofs.Loads.{standing, AreBytes}
+use Rattle.mx_word.specs.Ranges.{AreBytes}
+use Rattle.mx_top.proofs.Loads.{standing}
 use Rattle.mx_top.proofs.Paddings.{octas_then, take-append, placing-bytes, placing-is}
 use Rattle.mx_top.proofs.StatementBounds.{plain-small}
 use Rattle.mx_top.proofs.MoreLines.{size_of, size-push, place-push, lambda-push}

@@ -3,6 +3,7 @@ use Rattle.std.proofs.Common.{◌≡◌, ℕ, ◌+◌, ◌*◌, ◌/◌, ◌%◌
 use Rattle.std.specs.Prelude.{◌==◌, ◌||◌, nat_le}
 use Rattle.std.specs.Int.Bits.{xor_assoc, xor_zero_r}
 use Rattle.std.proofs.lemmas.Bool.Decides.{nat_tests}
+use Rattle.mx_word.specs.Ranges.{AreBytes}
 use Rattle.mx_word.specs.Words.{tetra_from_bytes}
 use Rattle.mx_mem.specs.Memory.{byte_in}
 use Rattle.mx_mmo.specs.Meaning.{Loading, with_tetra, is_below, with_page, take_item, take_items}
@@ -59,10 +60,6 @@ loads-are n (t ∷ ts) octas pages a big m l low =
     ∙ ap (λ k. Ok (standing n (octas_with octas a (t ∷ ts)) (pages_with pages a (t ∷ ts)) k)) (omega arith)
 
 -- ---- the bytes of tetras
-
-abbrev pub AreBytes : List ℕ → Type 0
-AreBytes [] = Unit {0}
-AreBytes (b ∷ bs) = (b < 256) × AreBytes bs
 
 pub from_place-append : (a : ℕ) (xs ys : List ℕ) → from_place a (xs ++ ys) ≡ from_place a xs ++ from_place (a + length xs) ys
 from_place-append a [] ys = ap (λ n. from_place n ys) (omega arith)

@@ -2,8 +2,9 @@
 use Rattle.std.proofs.Common.{◌≡◌, ℕ, ◌+◌, ◌^◌, ◌<◌, ◌≤◌, List, [], ◌∷◌, ◌++◌, length, Bool, true, false, cond, nat_lt, refl, sym, ◌∙◌, ap, subst, arith, append_assoc, append-nil, Some, None, length-append}
 use Rattle.std.specs.Prelude.{Option, ◌==◌}
 use Rattle.std.specs.List.{onto_first, slice_split}
-use Rattle.std.proofs.lemmas.List.Sums.{sum_by-append}
 use Rattle.std.proofs.lemmas.Bool.Decides.{nat_tests}
+use Rattle.mx_line.proofs.LineLemmas.{no-lines}
+use Rattle.mx_top.proofs.MoreLines.{size-push}
 use Rattle.mx_line.specs.Lines.{lines_of, without_empty_last, is_too_far}
 use Rattle.mx_line.specs.Pieces.{split}
 use Rattle.mx_top.proofs.MoreLines.{size_of, far-size}
@@ -41,10 +42,6 @@ line-by-byte b bs =
     let there = parts bs in
     subst (λ s. without_empty_last (cond (b == 10) ([] ∷ s) (onto_first b s)) ≡ cond (b == 10) ([] ∷ without_empty_last s) (onto (b ∷ []) (without_empty_last s)))
     (sym there.2) (line-step (b == 10) b there.0 there.1)
-
-no-lines : lines_of [] ≡ []
-unfolding lines_of split
-no-lines = refl
 
 onto-onto : (p : List ℕ) (b : ℕ) (lines : List Line) → onto p (onto (b ∷ []) lines) ≡ onto (p ++ b ∷ []) lines
 onto-onto [] b [] = refl
@@ -101,9 +98,6 @@ whole-line true plain number xs ys later = ((number, source_too_long), refl, ref
 whole-line false false number xs ys later = ((number, not_built), refl, refl)
 whole-line false true number xs ys later = later refl
 
-push-size : (before : List Line) (line : Line) → size_of (before ++ line ∷ []) ≡ size_of before + length line + 1
-push-size before line = simp (sum_by-append, length-append) (omega arith)
-
 -- a newline ends a line; another byte is one more of it
 by-byte : (t : Bool) (before : List Line) (p : Line) (b : ℕ) (xs ys : List Line) →
     (is_too_far (before ++ p ∷ []) (length before + 1) ≡ false → Both (before ++ p ∷ []) xs ys) →
@@ -120,7 +114,7 @@ same-first : (front rest : List ℕ) (p : Line) (before : List Line) → size_of
 same-first [] rest [] before h l = absurd (omega arith)
 same-first [] rest (b ∷ bs) before h l = subst (λ ls. Both before (onto (b ∷ bs) ls) (onto (b ∷ bs) (lines_of rest))) (sym no-lines) (cut-line before b bs (lines_of rest) (omega arith))
 same-first (b ∷ bs) rest p before h l =
-    let size : (line : Line) → size_of (before ++ line ∷ []) ≡ size_of before + length line + 1 = λ line. push-size before line in
+    let size : (line : Line) → size_of (before ++ line ∷ []) ≡ size_of before + length line + 1 = λ line. size-push before line in
     let pushed : length (p ++ b ∷ []) ≡ length p + 1 = length-append p (b ∷ []) in
     subst (λ ls. Both before (onto p ls) (onto p (lines_of ((b ∷ bs) ++ rest)))) (sym (line-by-byte b bs))
     (subst (λ ls. Both before (onto p (cond (b == 10) ([] ∷ lines_of bs) (onto (b ∷ []) (lines_of bs)))) (onto p ls)) (sym (line-by-byte b (bs ++ rest)))

@@ -1,6 +1,6 @@
 -- What one more line adds, and what is known among earlier lines.
 use Rattle.std.proofs.Common.{◌≡◌, ℕ, ◌+◌, ◌-◌, List, [], ◌∷◌, ◌++◌, length, take, Bool, true, false, cond, arith, refl, sym, ◌∙◌, ap, Option, Some, None, length-append}
-use Rattle.std.specs.Prelude.{◌&&◌, find, fold, sum_by}
+use Rattle.std.specs.Prelude.{find, fold, sum_by}
 use Rattle.std.specs.Option.{option_or, option_map}
 use Rattle.std.specs.Str.{bytes_eq}
 use Rattle.std.proofs.lemmas.List.Folds.{find-append}
@@ -67,7 +67,3 @@ pub none-of : (far plain : Bool) (number : ℕ) (later : List (ℕ × ℕ)) →
 none-of true plain number later h = absurd (cc)
 none-of false true number later h = (refl, refl, h)
 none-of false false number later h = absurd (cc)
-
-pub last-true : (a b : Bool) → (a && b) ≡ true → b ≡ true
-last-true true b h = h
-last-true false b h = absurd (cc)

@@ -1,5 +1,5 @@
 -- The items of lines without a fault: what they are, and how many bytes they are written as.
-use Rattle.std.proofs.Common.{◌≡◌, ℕ, zero, suc, ◌+◌, ◌-◌, ◌*◌, ◌/◌, ◌%◌, ◌^◌, ◌<◌, ◌≤◌, List, [], ◌∷◌, ◌++◌, length, map, replicate, Bool, true, false, cond, arith, refl, ◌∙◌, ap, lit≤, Option, None, Some, length-append}
+use Rattle.std.proofs.Common.{◌≡◌, ℕ, ◌+◌, ◌*◌, ◌/◌, ◌%◌, ◌^◌, ◌<◌, ◌≤◌, List, [], ◌∷◌, ◌++◌, length, map, Bool, true, false, cond, arith, refl, ◌∙◌, ap, lit≤, Option, None, Some, length-append}
 use Rattle.std.specs.Prelude.{◌==◌}
 use Rattle.std.specs.List.{AllByRecursion}
 use Rattle.std.proofs.lemmas.Grind.{flat_map-append}
@@ -15,12 +15,14 @@ use Rattle.mx_mmo.specs.declared.items.Item.TheVariants.{Load, Loc}
 use Rattle.mx_word.specs.Words.{tetra_to_bytes, octa_to_bytes}
 use Rattle.mx_top.specs.TwoPass.{Line, raised, start_of, place_after, place_of_line, labels_of, bytes_of, faults}
 use Rattle.mx_top.specs.Whole.{lowered, covering, located, placing, places, lambda_after, items_of_line, items_of_lines}
-use Rattle.mx_top.proofs.Loads.{AreBytes, words-length}
+use Rattle.mx_word.specs.Ranges.{AreBytes}
+use Rattle.mx_top.proofs.Loads.{words-length}
 use Rattle.mx_top.proofs.Paddings.{padding, padding-length}
 use Rattle.mx_top.proofs.StatementBounds.{plain-small, numbers-short}
 use Rattle.mx_top.proofs.MoreLines.{size_of}
 use Rattle.mx_top.proofs.GoodLines.{Spelt, spelt}
-use Rattle.mx_top.proofs.JoinedTetras.{tetra-small}
+use Rattle.mx_word.proofs.Tetras.{tetra-small}
+use Rattle.mx_top.proofs.Paddings.{padding-bytes}
 use Rattle.mx_top.proofs.FairLines.{Fair, all-two, fair-lines, fair-start}
 
 -- tetras that are loaded, and addresses
@@ -78,18 +80,6 @@ loads-fine (t ∷ ts) h =
 
 -- ---- the tetras of bytes
 
-bytes-two : (xs ys : List ℕ) → AreBytes xs → AreBytes ys → AreBytes (xs ++ ys)
-bytes-two [] ys h k = k
-bytes-two (x ∷ xs) ys h k = (h.0, bytes-two xs ys h.1 k)
-
-zeros-bytes : (n : ℕ) → AreBytes (replicate n 0)
-zeros-bytes zero = tt
-zeros-bytes (suc n) = (omega arith, zeros-bytes n)
-
-padded-bytes : (start : ℕ) (bytes : List ℕ) → AreBytes bytes → AreBytes (padding start bytes)
-padded-bytes start bytes h =
-    bytes-two (replicate (start % 4) 0 ++ bytes) _ (bytes-two (replicate (start % 4) 0) bytes (zeros-bytes (start % 4)) h) (zeros-bytes ((4 - (start + length bytes) % 4) % 4))
-
 words-small : (bytes : List ℕ) → AreBytes bytes → AllByRecursion (λ t. t < 2 ^ 32) (words_of bytes)
 words-small [] h = tt
 words-small (a ∷ []) h = tt
@@ -108,7 +98,7 @@ placing-fine lambda start bytes most l h room =
     let words : 4 * length (covering start bytes) ≡ length (padding start bytes) = words-length (padding start bytes) (covered start (length bytes) (length (padding start bytes)) all) in
     fine-most (placing lambda start bytes) (12 + 8 * length (covering start bytes)) most (omega (arith, all, words, room))
     (fine-two (located lambda start) (map Load (covering start bytes)) 12 (8 * length (covering start bytes)) (located-fine lambda start l)
-    (loads-fine (covering start bytes) (words-small (padding start bytes) (padded-bytes start bytes h))))
+    (loads-fine (covering start bytes) (words-small (padding start bytes) (padding-bytes start bytes h))))
 
 -- ---- one line
 

@@ -3,6 +3,7 @@ use Rattle.std.proofs.Common.{◌≡◌, ℕ, zero, suc, ◌+◌, ◌-◌, ◌*�
 use Rattle.std.specs.Prelude.{◌==◌, ◌||◌, ◌&&◌, nat_le}
 use Rattle.std.specs.Int.Bits.{xor_zero_r, xor_zero_l}
 use Rattle.std.proofs.lemmas.List.{length-replicate}
+use Rattle.mx_word.proofs.Ranges.{bytes-append, bytes-zeros}
 use Rattle.mx_mem.specs.Memory.{byte_in}
 use Rattle.std.proofs.lemmas.Bool.{eqb-true}
 use Rattle.mx_mmo.specs.Meaning.{Loading, Meaningless, take_item, take_items}
@@ -14,7 +15,8 @@ use Rattle.mx_top.specs.TwoPass.{raised}
 use Rattle.mx_top.specs.Whole.{lowered, zeros_after, covering, located, placing}
 use Rattle.mx_top.proofs.Placed.{placed-append}
 use Rattle.mx_top.proofs.PageCounts.{IsLow, pages-run}
-use Rattle.mx_top.proofs.Loads.{standing, AreBytes, octas_with, pages_with, loads-are, from_place-append, bytes-with, pages-with, words-length}
+use Rattle.mx_word.specs.Ranges.{AreBytes}
+use Rattle.mx_top.proofs.Loads.{standing, octas_with, pages_with, loads-are, from_place-append, bytes-with, pages-with, words-length}
 
 -- zeros that are placed change no byte
 zeros-none : (n a q : ℕ) → placed (from_place a (replicate n 0)) q ≡ 0
@@ -84,17 +86,9 @@ padded-pages start bytes p l =
     pages-same (lowered start) start (raised (start + length bytes) - 1) (start + length bytes - 1) (padding start bytes) bytes p (omega (arith, whole)) l (omega (arith, whole)) (omega arith) first last
 
 -- all of these are bytes
-bytes-two : (xs ys : List ℕ) → AreBytes xs → AreBytes ys → AreBytes (xs ++ ys)
-bytes-two [] ys h k = k
-bytes-two (x ∷ xs) ys h k = (h.0, bytes-two xs ys h.1 k)
-
-zeros-bytes : (n : ℕ) → AreBytes (replicate n 0)
-zeros-bytes zero = tt
-zeros-bytes (suc n) = (omega arith, zeros-bytes n)
-
-padding-bytes : (start : ℕ) (bytes : List ℕ) → AreBytes bytes → AreBytes (padding start bytes)
+pub padding-bytes : (start : ℕ) (bytes : List ℕ) → AreBytes bytes → AreBytes (padding start bytes)
 padding-bytes start bytes h =
-    bytes-two (replicate (start % 4) 0 ++ bytes) _ (bytes-two (replicate (start % 4) 0) bytes (zeros-bytes (start % 4)) h) (zeros-bytes ((4 - (start + length bytes) % 4) % 4))
+    bytes-append (replicate (start % 4) 0 ++ bytes) _ (bytes-append (replicate (start % 4) 0) bytes (bytes-zeros (start % 4)) h) (bytes-zeros ((4 - (start + length bytes) % 4) % 4))
 
 -- ---- the items of bytes that are placed from a place on
 

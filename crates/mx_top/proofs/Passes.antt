@@ -5,6 +5,7 @@ use Rattle.std.specs.Option.{option_map}
 use Rattle.std.specs.Str.{bytes_eq}
 use Rattle.std.proofs.lemmas.List.Sums.{fold-append}
 use Rattle.std.proofs.lemmas.Bool.Decides.{nat_tests}
+use Rattle.std.proofs.lemmas.Bool.{and_parts}
 use Rattle.mx_line.specs.Lines.{is_too_far}
 use Rattle.mx_line.specs.Plain.{plain_of, part}
 use Rattle.mx_line.specs.declared.spans.Span.{Span}
@@ -16,7 +17,7 @@ use Rattle.mx_top.specs.Whole.{placing, places, lambda_after, items_of_line, ite
 use Rattle.mx_top.specs.OnePass.{Known, defined, joined, joined_after, reached, stated, counted, plain_taken, line_taken, taken_after, lines_taken, at_first, last_counted, started_at, finished, one_pass}
 use Rattle.mx_top.specs.declared.labels.Label.{Label}
 use Rattle.mx_top.proofs.Gather.{gather-append, gather-push}
-use Rattle.mx_top.proofs.MoreLines.{size_of, size-push, far-size, lambda-push, near-labels, none-of, last-true}
+use Rattle.mx_top.proofs.MoreLines.{size_of, size-push, far-size, lambda-push, near-labels, none-of}
 
 -- ---- what is known after some lines
 
@@ -208,7 +209,7 @@ early-is (line ∷ lines) before whole e h =
     let labels : labels_of whole ≡ labels_of before ++ gather (λ before line. labelled (name_of line) (place_of_line before line)) before (line ∷ lines) =
     ap labels_of e ∙ gather-append (λ before line. labelled (name_of line) (place_of_line before line)) [] before (line ∷ lines) in
     let bytes : bytes_of (labels_of whole) line (plain_of line) at ≡ bytes_of (labels_of before) line (plain_of line) at =
-    ap (λ ls. bytes_of ls line (plain_of line) at) labels ∙ bytes-same (labels_of before) _ line (plain_of line) at (last-true _ _ none.1) in
+    ap (λ ls. bytes_of ls line (plain_of line) at) labels ∙ bytes-same (labels_of before) _ line (plain_of line) at (and_parts _ _ none.1).1 in
     ap (λ bs. cond (places (plain_of line)) (placing (lambda_after before) at bs) [] ++ gather (items_of_line (labels_of whole)) (before ++ line ∷ []) lines) bytes
     ∙ ap (λ items. items_of_line (labels_of before) before line ++ items) (early-is lines (before ++ line ∷ []) whole (e ∙ sym (append_assoc before (line ∷ []) lines)) none.2)
 

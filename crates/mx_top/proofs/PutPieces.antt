@@ -6,7 +6,8 @@ use Rattle.mx_host.specs.HostAnswer.{Then, write_answer}
 use Rattle.mx_host.specs.declared.faults.HostFault.{HostFault}
 use Rattle.mx_word.specs.Lists.{IsFront}
 use Rattle.mx_top.specs.FileTraps.{put_piece, put_pieces, pieces_after, piece_put, put_text}
-use Rattle.mx_top.proofs.Writes.{front-through, write-front}
+use Rattle.mx_word.proofs.Fronts.{front-through}
+use Rattle.mx_host.proofs.Output.{write-front}
 
 -- one piece more than of what follows the first
 more-pieces : (n : ℕ) → 4096 < n → (n - 1) / 4096 ≡ suc ((n - 4096 - 1) / 4096)

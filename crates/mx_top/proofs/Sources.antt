@@ -28,7 +28,8 @@ use Rattle.mx_top.specs.Product.{image_run, run_from, after_meaning, after_sourc
 use Rattle.mx_top.specs.declared.outcome.Outcome.{Outcome}
 use Rattle.mx_top.specs.declared.outcome.Outcome.TheVariants.{Done, Usage, NoFile, HostFault, Refused, BadObject, Stopped, StepsSpent, Quit, ConsoleLimit, OutOfMemory}
 use Rattle.mx_top.proofs.PutPieces.{text-front}
-use Rattle.mx_top.proofs.Writes.{front-self, front-through, write-front}
+use Rattle.mx_word.proofs.Fronts.{front-self, front-through}
+use Rattle.mx_host.proofs.Output.{write-front}
 use Rattle.mx_top.proofs.Fronts.{run-front}
 
 -- an answer leaves standard output as it was

@@ -7,6 +7,7 @@ use Rattle.std.proofs.lemmas.Bool.Decides.{nat_tests}
 use Rattle.std.proofs.lemmas.Grind.{common_steps, pow_more}
 use Rattle.std.proofs.lemmas.List.Elements.{All-tail}
 use Rattle.std.proofs.Math.Nat.{pow-le-pow_right, mul_assoc}
+use Rattle.std.proofs.lemmas.Bool.{and_parts}
 use Rattle.mx_line.specs.Pieces.{split, two_of, three_of}
 use Rattle.mx_line.specs.Numbers.{number_of, numbers_of, is_number, are_numbers, is_address, is_hexadecimal, register_of, is_label, digit_value, value_of}
 use Rattle.mx_line.specs.Plain.{plain_of, part, label_of, loc_with, loc_of, geta_with, geta_of, trap_with, trap_of, named, labelled, fields_plain}
@@ -14,7 +15,7 @@ use Rattle.mx_line.specs.declared.spans.Span.{Span}
 use Rattle.mx_line.specs.declared.plain_lines.Plain.{Plain}
 use Rattle.mx_line.specs.declared.plain_lines.Plain.TheVariants.{Empty, Loc, Byte, Geta, Trap}
 use Rattle.mx_line.proofs.NumberLaws.{numbers-few, numbers-small}
-use Rattle.mx_top.proofs.Loads.{AreBytes}
+use Rattle.mx_word.specs.Ranges.{AreBytes}
 
 -- what the numbers of a statement are
 abbrev pub IsSmall : Option Plain → Type 0
@@ -52,18 +53,10 @@ value-small (b ∷ bs) v k l =
     times : (k n : ℕ) → k * 16 * 16 ^ n ≡ k * 16 ^ suc n
     times k n = order k (16 ^ n) ∙ ap (λ m. k * m) (more n)
 
-and-first : (s t : Bool) → (s && t) ≡ true → s ≡ true
-and-first true t h = refl
-and-first false t h = absurd (cc)
-
-and-second : (s t : Bool) → (s && t) ≡ true → t ≡ true
-and-second true t h = h
-and-second false t h = absurd (cc)
-
 address-small : (digits : List ℕ) → is_address digits ≡ true → value_of 16 digits < 16777216
 address-small digits h =
     let tested : nat_le (length digits) 6 ≡ true =
-    and-second (nat_lt 0 (length digits)) (nat_le (length digits) 6) (and-first (nat_lt 0 (length digits) && nat_le (length digits) 6) (list_all is_hexadecimal digits) h) in
+    (and_parts (nat_lt 0 (length digits)) (nat_le (length digits) 6) (and_parts (nat_lt 0 (length digits) && nat_le (length digits) 6) (list_all is_hexadecimal digits) h).0).1 in
     let short : length digits ≤ 6 = few (length digits) tested in
     let most : 16 ^ length digits ≤ 16 ^ 6 = pow-le-pow_right (lit< tt) short in
     let bound : 16 ^ 6 ≤ 16777216 = lit≤ tt in

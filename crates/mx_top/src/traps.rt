@@ -10,7 +10,6 @@ use mx_host::{Host, HostFault};
 use mx_word::NoMemory;
 
 /// Writes one piece, and says whether it was written.
-#[tactic(auto, using(crate::proofs::Writes::writing))]
 fn put_piece<H: Host>(host: &mut H, slot: u16, piece: &[u8]) -> Result<bool, NoMemory>
     requires { slot ≤ 257 }
     ensures told { IsTrue (tells (H.told host.old)) → IfOk result (λ written. (written, contents (H.told host.new)) ≡ spec.put_piece slot piece.now (contents (H.told host.old))) }

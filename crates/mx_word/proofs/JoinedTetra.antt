@@ -1,5 +1,5 @@
 -- What a tetra that is joined to memory does to the bytes.
-use Rattle.std.proofs.Common.{◌≡◌, ℕ, ◌-◌, ◌*◌, ◌/◌, ◌%◌, ◌^◌, ◌<◌, cond, ltb, arith, refl, sym, ◌∙◌, ap, bit_xor, zero, suc, ⊎_elim}
+use Rattle.std.proofs.Common.{◌≡◌, ℕ, ◌-◌, ◌*◌, ◌/◌, ◌%◌, ◌^◌, ◌<◌, cond, ltb, arith, sym, ◌∙◌, ap, bit_xor, zero, suc, ⊎_elim}
 use Rattle.std.proofs.lemmas.Grind.{common_steps}
 use Rattle.std.proofs.lemmas.Nat.{xor_shr, xor_mod}
 use Rattle.std.proofs.lemmas.Bool.{cases_eq}

@@ -1,3 +1,4 @@
+pub mod Fronts
 pub mod JoinedTetra
 pub mod Ranges
 pub mod Tetras

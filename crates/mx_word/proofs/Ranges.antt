@@ -1,5 +1,5 @@
 -- Lists of bytes, put together.
-use Rattle.std.proofs.Common.{◌≡◌, ℕ, zero, suc, ◌<◌, ◌^◌, List, [], ◌∷◌, ◌++◌, get_or, replicate, arith}
+use Rattle.std.proofs.Common.{ℕ, zero, suc, ◌<◌, ◌^◌, List, [], ◌∷◌, ◌++◌, get_or, replicate, arith}
 use Rattle.mx_word.specs.Ranges.{AreBytes}
 
 -- two lists of bytes, one behind the other

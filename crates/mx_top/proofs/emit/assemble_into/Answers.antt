@@ -1,7 +1,7 @@
 use Rattle.std.proofs.Common.{refl, ap, Err}
 use Rattle.mx_host.specs.HostModel.{HostModel, contents}
 use Rattle.mx_top.proofs.Sources.{opened-front}
-use Rattle.mx_top.proofs.Writes.{front-of}
+use Rattle.mx_word.proofs.Fronts.{front-of}
 use Rattle.mx_top.proofs.emit.assemble_into.Goals as goal
 
 -- a file that is not opened wrote nothing

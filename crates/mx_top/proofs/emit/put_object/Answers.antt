@@ -3,7 +3,7 @@ use Rattle.mx_host.specs.HostModel.{contents}
 use Rattle.mx_line.specs.Lines.{lines_of}
 use Rattle.mx_top.specs.Whole.{assembled}
 use Rattle.mx_top.proofs.Sources.{put-front}
-use Rattle.mx_top.proofs.Writes.{front-of}
+use Rattle.mx_word.proofs.Fronts.{front-of}
 use Rattle.mx_top.proofs.emit.put_object.Goals as goal
 
 pub returns-in-Ok-clause-written : goal.returns-in-Ok-clause-written

@@ -4,7 +4,7 @@ use Rattle.mx_host.specs.HostModel.{contents}
 use Rattle.mx_top.specs.FileTraps.{put_text}
 use Rattle.mx_top.specs.Product.{written_object}
 use Rattle.mx_top.proofs.Sources.{written-front, shut-front}
-use Rattle.mx_top.proofs.Writes.{front-of}
+use Rattle.mx_word.proofs.Fronts.{front-of}
 use Rattle.mx_top.proofs.emit.write_object.Goals as goal
 
 -- closing the file writes nothing more

@@ -1,7 +1,7 @@
 use Rattle.std.proofs.Common.{refl}
 use Rattle.mx_host.specs.HostModel.{contents}
 use Rattle.mx_top.proofs.Sources.{object-front}
-use Rattle.mx_top.proofs.Writes.{front-of}
+use Rattle.mx_word.proofs.Fronts.{front-of}
 use Rattle.mx_top.proofs.objects.sim_file.Goals as goal
 
 -- reading wrote nothing, and a run only adds

@@ -4,7 +4,7 @@ use Rattle.mx_host.specs.HostModel.{contents}
 use Rattle.mx_top.specs.Words.{order_of}
 use Rattle.mx_top.specs.Product.{ordered}
 use Rattle.mx_top.proofs.Sources.{spoken-front}
-use Rattle.mx_top.proofs.Writes.{front-of}
+use Rattle.mx_word.proofs.Fronts.{front-of}
 use Rattle.mx_top.proofs.top.mmixware.Goals as goal
 
 -- the message goes to standard error, so what was written before it is still a front

@@ -3,7 +3,7 @@ use Rattle.mx_host.specs.HostModel.{contents}
 use Rattle.mx_host.proofs.Keeping.{keeps-then}
 use Rattle.mx_top.specs.FileTraps.{put_piece, put_text}
 use Rattle.mx_top.proofs.PutPieces.{text-next, text-ended, text-front}
-use Rattle.mx_top.proofs.Writes.{front-of, front-on_err}
+use Rattle.mx_word.proofs.Fronts.{front-of, front-on_err}
 use Rattle.mx_top.proofs.traps.put_text.Goals as goal
 
 pub returns-in-Ok-false-clause-told : goal.returns-in-Ok-false-clause-told
