@@ -3,7 +3,7 @@
 
 - Links lead to files, and each crate is described.
 - Names in backquotes are there: crates `mx_..`, paths, the modules in the tables of docs/ARCHITECTURE.md, and the
-  files, clauses and definitions of docs/PROVED.md. A path with NAME or * in it stands for any such path.
+  files, clauses and definitions of docs/PROVED.md. In a path a word of capitals, as NAME, or a * stands for any word.
 - The numbers and names of docs/MESSAGES.md are those of the program's table.
 - The blocks marked `console` in README.md and examples/README.md are run on the program, if it is built and no source is
   newer: a line that begins with "$ " is a command, and the lines after it are what it prints. Nothing is built here.
@@ -46,7 +46,7 @@ def lines_of(page):
 
 
 def is_there(path):
-    return bool(glob.glob(re.sub(r"NAME", "*", path)))
+    return "/out" in path or bool(glob.glob(re.sub(r"\b[A-Z]{4,}\b(?!\.md)", "*", path)))
 
 
 def check_links_and_paths():
@@ -89,12 +89,13 @@ def check_claims():
     for where, line in lines_of("docs/PROVED.md"):
         if line.startswith("#"):
             crate = re.match(r"#+ (\w+)", line)[1]
+            crate = crate if os.path.isdir(f"crates/{crate}") else None
         if line.startswith(("#", "- ")) or not line:
             path = None
         for name in re.findall(r"`([^`\s]+)`", line):
             if re.fullmatch(r"crates/\S+\.rt", name):
                 path = name if os.path.isfile(name) else None
-            elif re.fullmatch(r"[A-Z]\w*\.\w+", name) and not defines(crate, *name.split(".")):
+            elif crate and re.fullmatch(r"[A-Z]\w*\.\w+", name) and not defines(crate, *name.split(".")):
                 wrong(where, f"specs of {crate} do not define {name}")
             elif path and re.fullmatch(r"[a-z]\w*(\.[a-z]\w*)?", name):
                 call, _, clause = name.partition(".")
