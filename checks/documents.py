@@ -2,8 +2,8 @@
 """Checks what the documents say against the repository, and prints only what is wrong.
 
 - Links lead to files, and each crate is described.
-- Names in backquotes are there: crates `mx_..`, paths, the modules in the tables of docs/ARCHITECTURE.md, and the
-  files, clauses and definitions of docs/PROVED.md. In a path a word of capitals, as NAME, or a * stands for any word.
+- Names in backquotes are there: crates `mx_..`, paths, the modules that docs/ARCHITECTURE.md names, and the files,
+  clauses and definitions of docs/PROVED.md. In a path a word of capitals, as NAME, or a * stands for any word.
 - The numbers and names of docs/MESSAGES.md are those of the program's table.
 - The blocks marked `console` in README.md and examples/README.md are run on the program, if it is built and no source is
   newer: a line that begins with "$ " is a command, and the lines after it are what it prints. Nothing is built here.
@@ -62,14 +62,29 @@ def check_links_and_paths():
                     wrong(where, f"there is no {name}")
 
 
-def check_modules():
-    """In the tables of the architecture a crate is followed by modules of its specs or its source."""
+def crates():
+    """The crates of crates.txt, each with what it stands on."""
+    rows = re.findall(r"^(\w+)[^:\n]*:(.*)", text_of("crates.txt"), re.M)
+    return {crate: below.split() for crate, below in rows}
+
+
+def check_architecture():
+    """A crate's row says what it stands on; in the other tables a crate is followed by modules of its specs."""
+    listed = crates()
     for where, line in lines_of("docs/ARCHITECTURE.md"):
+        names = re.findall(r"`(\w+)`", line)
+        row = re.match(r"\| `(\w+)` \|([^|]*)\|", line)
+        if row and row[1] in listed:
+            for below in re.findall(r"`(\w+)`", row[2]):
+                if below not in listed[row[1]]:
+                    wrong(where, f"{row[1]} does not stand on {below} in crates.txt")
+            continue
         crate = None
-        for name in re.findall(r"`(\w+)`", line) if line.startswith("|") else []:
-            crate = name if re.match(r"mx_|mmixware$", name) else crate
-            if crate and name[0].isupper() and not os.path.isfile(f"crates/{crate}/specs/{name}.antt"):
-                wrong(where, f"{crate} has no specs/{name}.antt")
+        for name in names:
+            crate = name if name in listed else crate
+            folder = f"crates/{crate}" if crate and line.startswith("|") else "crates/*"
+            if name[0].isupper() and not glob.glob(f"{folder}/specs/{name}.antt") + glob.glob(f"{folder}/proofs/{name}.antt"):
+                wrong(where, f"{folder} has no module {name}")
 
 
 def defines(crate, module, name):
@@ -113,9 +128,8 @@ def check_messages():
 
 
 def check_crates():
-    listed = re.findall(r"^(\w+)[^:\n]*:", text_of("crates.txt"), re.M)
     for page in ("docs/ARCHITECTURE.md", "docs/PROVED.md"):
-        for crate in listed:
+        for crate in crates():
             if not re.search(rf"\b{crate}\b", text_of(page)):
                 wrong(page, f"{crate} is not described")
 
@@ -156,7 +170,7 @@ def check_sessions():
 
 def main():
     os.chdir(TOP)
-    for check in (check_links_and_paths, check_modules, check_claims, check_messages, check_crates, check_sessions):
+    for check in (check_links_and_paths, check_architecture, check_claims, check_messages, check_crates, check_sessions):
         check()
     for it in wrongs:
         print(f"checks/documents.py: {it}", file=sys.stderr)
