@@ -1,7 +1,7 @@
 #!/usr/bin/env python3
 """Checks what the documents say against the repository, and prints only what is wrong.
 
-- Links lead to files, and each crate is described.
+- Links lead to files. Each crate is described, and what it offers stands in docs/PROVED.md.
 - Names in backquotes are there: crates `mx_..`, paths, the modules that docs/ARCHITECTURE.md names, and the files,
   clauses and definitions of docs/PROVED.md. In a path a word of capitals, as NAME, or a * stands for any word.
 - The numbers and names of docs/MESSAGES.md are those of the program's table.
@@ -128,10 +128,17 @@ def check_messages():
 
 
 def check_crates():
-    for page in ("docs/ARCHITECTURE.md", "docs/PROVED.md"):
-        for crate in crates():
+    """Each crate is described, and each function that it offers stands among the claims."""
+    proved = text_of("docs/PROVED.md")
+    for crate in crates():
+        for page in ("docs/ARCHITECTURE.md", "docs/PROVED.md"):
             if not re.search(rf"\b{crate}\b", text_of(page)):
                 wrong(page, f"{crate} is not described")
+        root = f"crates/{crate}/src/lib.rt"
+        for offered in re.findall(r"^pub use (.*?);", text_of(root), re.M | re.S) if os.path.isfile(root) else []:
+            for name in re.findall(r"\b([a-z]\w*)\b(?!::)", offered):
+                if not re.search(rf"`{name}[.`]", proved):
+                    wrong("docs/PROVED.md", f"{name} of {crate} is not among the claims")
 
 
 def printed(commands, room):
