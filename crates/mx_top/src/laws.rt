@@ -31,13 +31,15 @@ pub fn front_decides()
 /// The items of a source that is accepted set up its image: memory, pages and registers.
 #[tactic(auto, using(crate::proofs::LoadedLines::meanings))]
 pub fn items_mean_the_image()
-    ensures { (lines : List (List ℕ)) → refusal lines ≡ None → map_ok of_object (meaning (whole lines)) ≡ Ok (image lines) }
+    ensures { (lines : List (List ℕ)) → refusal lines ≡ None →
+        map_ok of_object (meaning (whole lines)) ≡ Ok (image lines) }
 {}
 
 /// The object that an accepted source is assembled into sets up the source's image.
 #[tactic(auto, using(crate::proofs::ObjectImages::holdings))]
 pub fn objects_hold_the_image()
-    ensures { (lines : List (List ℕ)) → refusal lines ≡ None → object_image (object_bytes (whole lines)) ≡ Ok (image lines) }
+    ensures { (lines : List (List ℕ)) → refusal lines ≡ None →
+        object_image (object_bytes (whole lines)) ≡ Ok (image lines) }
 {}
 
 /// Where no call fails, `sim` of an object file runs as `run` of the source that it was assembled
@@ -58,9 +60,11 @@ pub fn objects_are_loaded_as_they_mean()
         meaning object.items ≡ Ok m → object_image bytes ≡ Ok (of_object m) }
     ensures only { (bytes : List ℕ) (image : Image) → object_image bytes ≡ Ok image →
         (object : Object) × (m : ObjectImage) × (object_of bytes ≡ Ok object) × (meaning object.items ≡ Ok m) × (image ≡ of_object m) }
-    ensures reading { (bytes : List ℕ) (s : Loading) (fault : MmoFault) → length bytes ≤ limit → object_of bytes ≡ Err fault →
+    ensures reading { (bytes : List ℕ) (s : Loading) (fault : MmoFault) → length bytes ≤ limit →
+        object_of bytes ≡ Err fault →
         take_items (items_of Phase.Start 0 bytes).0 (Ok nothing) ≡ Ok s → object_image bytes ≡ Err (fault_at fault) }
-    ensures long { (bytes : List ℕ) → limit < length bytes → object_image bytes ≡ Err (fault_at (MmoFault.TooLong limit)) }
+    ensures long { (bytes : List ℕ) → limit < length bytes →
+        object_image bytes ≡ Err (fault_at (MmoFault.TooLong limit)) }
     ensures loading { (bytes : List ℕ) (e : Meaningless) → length bytes ≤ limit →
         take_items (items_of Phase.Start 0 bytes).0 (Ok nothing) ≡ Err e →
         (place : ℕ) × MeansNothing bytes place e × (object_image bytes ≡ Err (place, loads.number_of (loads.fault_of e))) }

@@ -63,7 +63,9 @@ fn unloaded(place: u64, fault: LoadFault) -> ObjectFault
 fn load_item(loader: &mut Loader, item: &Item, place: u64) -> Result<bool, ObjectFault>
     requires fits { Fits item.now }
     requires loaded { loader.old.fault ≡ None }
-    ensures taken { result ≢ Err ObjectFault.OutOfMemory → spec.item_answer result (loading_of loader.new.progress) ≡ taken place (take_item (loading_of loader.old.progress) item.now) }
+    ensures taken { result ≢ Err ObjectFault.OutOfMemory →
+        spec.item_answer result (loading_of loader.new.progress)
+        ≡ taken place (take_item (loading_of loader.old.progress) item.now) }
     ensures more { result ≢ Ok false }
     ensures loaded { OnOk result (loader.new.fault ≡ None) }
 {
@@ -78,12 +80,15 @@ fn load_item(loader: &mut Loader, item: &Item, place: u64) -> Result<bool, Objec
 fn load_next(reader: &mut Reader, loader: &mut Loader) -> Result<bool, ObjectFault>
     requires read { reader.old.fault ≡ None }
     requires loaded { loader.old.fault ≡ None }
-    ensures next { result ≡ Ok true → (n : ℕ) → spec.ahead (suc n) loader.old reader.old ≡ spec.ahead n loader.new reader.new }
+    ensures next { result ≡ Ok true → (n : ℕ) →
+        spec.ahead (suc n) loader.old reader.old ≡ spec.ahead n loader.new reader.new }
     ensures less { result ≡ Ok true → length reader.new.rest < length reader.old.rest }
-    ensures last { result ≡ Ok false → (n : ℕ) → spec.ahead (suc n) loader.old reader.old ≡ Ok (loading_of loader.new.progress, left_of reader.new) }
+    ensures last { result ≡ Ok false → (n : ℕ) →
+        spec.ahead (suc n) loader.old reader.old ≡ Ok (loading_of loader.new.progress, left_of reader.new) }
     ensures read { OnOk result (reader.new.fault ≡ None) }
     ensures loaded { OnOk result (loader.new.fault ≡ None) }
-    ensures fault { result ≢ Err ObjectFault.OutOfMemory → IfErr result (λ f. (n : ℕ) → spec.ahead (suc n) loader.old reader.old ≡ Err (spec.place_and_number f)) }
+    ensures fault { result ≢ Err ObjectFault.OutOfMemory →
+        IfErr result (λ f. (n : ℕ) → spec.ahead (suc n) loader.old reader.old ≡ Err (spec.place_and_number f)) }
 {
     match reader.next() {
         Ok(None) => Ok(false),
@@ -96,10 +101,13 @@ fn load_next(reader: &mut Reader, loader: &mut Loader) -> Result<bool, ObjectFau
 fn load_items(reader: &mut Reader, loader: &mut Loader) -> Result<(), ObjectFault>
     requires read { reader.old.fault ≡ None }
     requires loaded { loader.old.fault ≡ None }
-    ensures last { OnOk result (spec.ahead (length reader.old.rest + 1) loader.old reader.old ≡ Ok (loading_of loader.new.progress, left_of reader.new)) }
+    ensures last { OnOk result (spec.ahead (length reader.old.rest + 1) loader.old reader.old
+        ≡ Ok (loading_of loader.new.progress, left_of reader.new)) }
     ensures read { OnOk result (reader.new.fault ≡ None) }
     ensures loaded { OnOk result (loader.new.fault ≡ None) }
-    ensures fault { result ≢ Err ObjectFault.OutOfMemory → IfErr result (λ f. spec.ahead (length reader.old.rest + 1) loader.old reader.old ≡ Err (spec.place_and_number f)) }
+    ensures fault { result ≢ Err ObjectFault.OutOfMemory →
+        IfErr result (λ f. spec.ahead (length reader.old.rest + 1) loader.old reader.old
+        ≡ Err (spec.place_and_number f)) }
 {
     loop {
         match load_next(reader, loader) {
@@ -114,7 +122,8 @@ fn load_items(reader: &mut Reader, loader: &mut Loader) -> Result<(), ObjectFaul
 fn finish(alloc: Global, reader: Reader, loader: Loader) -> Result<Image, ObjectFault>
     requires read { reader.fault ≡ None }
     requires loaded { loader.fault ≡ None }
-    ensures { result ≢ Err ObjectFault.OutOfMemory → spec.image_in result ≡ loaded_whole (Ok (loading_of loader.progress, left_of reader)) }
+    ensures { result ≢ Err ObjectFault.OutOfMemory →
+        spec.image_in result ≡ loaded_whole (Ok (loading_of loader.progress, left_of reader)) }
 {
     let mut reader = reader;
     match reader.finish() {
