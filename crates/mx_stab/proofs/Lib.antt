@@ -1,12 +1,11 @@
 pub mod Fewest
 pub mod Groups
-pub mod Orders
-pub mod Spelt
-pub mod Law
-pub mod Kept
 pub mod Told
+pub mod Weights
+pub mod Orders
+pub mod Distinct
+pub mod NameSets
 pub mod Parts
 pub mod Steps
 pub mod Whole
 pub mod Sound
-pub mod Places
