@@ -1,4 +1,5 @@
 pub mod Fewest
+pub mod Digits
 pub mod Groups
 pub mod Told
 pub mod Weights
@@ -9,3 +10,8 @@ pub mod Parts
 pub mod Steps
 pub mod Whole
 pub mod Sound
+pub mod Places
+pub mod Spelt
+pub mod Law
+pub mod NamesLaw
+pub mod FewestLaw

@@ -20,8 +20,8 @@ use Rattle.mx_stab.proofs.Orders.{all-back, all-front}
 
 -- a reading and a later one, with the bytes and the symbols between them
 pub record Between (s t : Reading) (bytes : List ℕ) (symbols : List Symbol) : Type 0 where
-  split : s.rest ≡ bytes ++ t.rest
-  place : t.at ≡ s.at + length bytes
+  pub split : s.rest ≡ bytes ++ t.rest
+  pub place : t.at ≡ s.at + length bytes
   grown : t.found ≡ s.found ++ symbols
   distinct : AreDistinct s.found → AreDistinct t.found
 
@@ -198,10 +198,10 @@ byte-is m l =
 
 -- a subtrie that was read
 pub record Tells (l : ℕ) (path : List ℕ) (s t : Reading) : Type 0 where
-  bytes : List ℕ
-  symbols : List Symbol
-  between : Between s t bytes symbols
-  is : IsSubtrie l path bytes symbols
+  pub bytes : List ℕ
+  pub symbols : List Symbol
+  pub between : Between s t bytes symbols
+  pub is : IsSubtrie l path bytes symbols
 
 abbrev Sounds : (List ℕ → Reading → Answer) → Type 0
 Sounds inner = (path : List ℕ) (s t : Reading) → AreBytes s.rest → inner path s ≡ Ok t → Tells 1 path s t
