@@ -1,7 +1,7 @@
 -- What a reader notes on its way: one part for each node that is not read to its end.
-use Rattle.std.specs.Prelude.{ℕ, ◌+◌, ◌*◌, ◌%◌, ◌^◌, Bool, true, false, nat_lt, List, [], ◌∷◌, ◌++◌, length, take, drop, Option, Some, None, Result, Ok, Err, min, if◌then◌else◌}
+use Rattle.std.specs.Prelude.{◌≡◌, ◌≢◌, ℕ, ◌+◌, ◌*◌, ◌%◌, ◌^◌, Bool, true, false, nat_lt, List, [], ◌∷◌, ◌++◌, length, take, drop, Option, Some, None, Result, Ok, Err, min, if◌then◌else◌}
 use Rattle.mx_stab.specs.declared.faults.StabFault.{StabFault}
-use Rattle.mx_stab.specs.declared.faults.StabFault.TheVariants.{TooLong}
+use Rattle.mx_stab.specs.declared.faults.StabFault.TheVariants.{TooLong, OutOfMemory}
 use Rattle.mx_stab.specs.declared.due.Due.{Due}
 use Rattle.mx_stab.specs.declared.due.Due.TheVariants.{Subtrie, Rest, Right}
 use Rattle.mx_stab.specs.Reading.{Reading, Answer, Character, part_if, symbol, has, node_rest, next_subtrie}
@@ -25,14 +25,16 @@ with_path path (Err fault) = Err fault
 
 -- one byte further
 abbrev pub next_point : Point → Point
-next_point p = record p { reading = record { at = p.reading.at + 1; rest = drop 1 p.reading.rest; found = p.reading.found } }
+next_point p =
+    record p { reading = record { at = p.reading.at + 1; rest = drop 1 p.reading.rest; found = p.reading.found } }
 
 -- behind a part that is due: a subtrie; what stands in a node behind its left subtrie; or a right subtrie, whose
 -- path has so many bytes
 abbrev pub after_due : Due → Point → Progress
 after_due Subtrie p = with_path p.path (next_subtrie p.path p.reading)
 after_due (Rest node m) p = with_path p.path (node_rest next_subtrie node m p.path p.reading)
-after_due (Right depth m) p = with_path (take depth p.path) (part_if (has 0x10 m) (next_subtrie (take depth p.path)) p.reading)
+after_due (Right depth m) p =
+    with_path (take depth p.path) (part_if (has 0x10 m) (next_subtrie (take depth p.path)) p.reading)
 
 -- behind all that is due, the last noted first
 abbrev pub after_all : List Due → Point → Progress
@@ -62,10 +64,14 @@ abbrev pub longer_path : List ℕ → Result Character StabFault → Progress
 longer_path path (Ok c) = Ok (record { path = path ++ c.name; reading = c.behind })
 longer_path path (Err fault) = Err fault
 
--- what stands after a step, unless it was refused
+-- the progress after a step, unless it was refused
 abbrev pub progress_of : Result (Unit {0}) StabFault → Progress → Progress
 progress_of (Ok u) came = came
 progress_of (Err fault) came = Err fault
+
+-- a step leads where it has to, unless it is out of memory
+abbrev pub LeadsTo : Result (Unit {0}) StabFault → Progress → Progress → Type 0
+LeadsTo result came due = result ≢ Err OutOfMemory → progress_of result came ≡ due
 
 abbrev pub reading_of : Progress → Answer
 reading_of (Ok p) = Ok p.reading

@@ -51,7 +51,8 @@ pub data IsSubtrie : ℕ → List ℕ → List ℕ → List Symbol → Type 0 wh
       IsSubtrie l path left before → IsSubtrie r path right after →
       IsSubtrie 1 path ((0x40 * l + 0x10 * r) ∷ left ++ right) (before ++ after)
   -- a node with a character where no name ends
-  passage : (path name character : List ℕ) (wide l r : ℕ) (left middle right : List ℕ) (before below after : List Symbol) →
+  passage : (path name character : List ℕ) (wide l r : ℕ)
+      (left middle right : List ℕ) (before below after : List Symbol) →
       SpellsCharacter wide name character → length (path ++ name) ≤ 1024 →
       IsSubtrie l path left before → IsSubtrie 1 (path ++ name) middle below → IsSubtrie r path right after →
       IsSubtrie 1 path ((wide + 0x40 * l + 0x20 + 0x10 * r) ∷ left ++ character ++ middle ++ right)
@@ -62,7 +63,8 @@ pub data IsSubtrie : ℕ → List ℕ → List ℕ → List Symbol → Type 0 wh
       SpellsCharacter wide name character → length (path ++ name) ≤ 1024 →
       SpellsValue kind value told → SpellsSerial serial counted →
       IsSubtrie l path left before → IsSubtrie m (path ++ name) middle below → IsSubtrie r path right after →
-      IsSubtrie 1 path ((wide + 0x40 * l + 0x20 * m + 0x10 * r + kind) ∷ left ++ character ++ told ++ counted ++ middle ++ right)
+      IsSubtrie 1 path
+      ((wide + 0x40 * l + 0x20 * m + 0x10 * r + kind) ∷ left ++ character ++ told ++ counted ++ middle ++ right)
       (before ++ record { name = path ++ name; value = value; serial = serial } ∷ below ++ after)
 
 -- no name stands twice

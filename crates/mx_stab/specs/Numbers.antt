@@ -30,4 +30,5 @@ kind (Reg k) = 15
 
 -- a serial number in base 128 from the high end; #80 is added to its last digit
 abbrev pub serial_bytes : ℕ → List ℕ
-serial_bytes x = fewest_digits ((x / 2 ^ 28) ∷ (x / 2 ^ 21 % 128) ∷ (x / 2 ^ 14 % 128) ∷ (x / 2 ^ 7 % 128) ∷ (x % 128 + 128) ∷ [])
+serial_bytes x =
+    fewest_digits ((x / 2 ^ 28) ∷ (x / 2 ^ 21 % 128) ∷ (x / 2 ^ 14 % 128) ∷ (x / 2 ^ 7 % 128) ∷ (x % 128 + 128) ∷ [])

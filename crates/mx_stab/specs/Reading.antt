@@ -69,7 +69,8 @@ abbrev pub symbol : ℕ → ℕ → List ℕ → Reading → Answer
 symbol kind node name s =
     if kind == 0 then Ok s
     else if nat_lt (length s.rest) (value_size kind) then Err (Truncated (end_of s))
-    else symbol_with node name (value_of kind (take (value_size kind) s.rest)) s (serial_behind 0 (drop (value_size kind) s.rest))
+    else symbol_with node name (value_of kind (take (value_size kind) s.rest)) s
+    (serial_behind 0 (drop (value_size kind) s.rest))
 
 -- whether a byte m has a bit
 abbrev pub has : ℕ → ℕ → Bool
@@ -91,7 +92,8 @@ pub record Character : Type 0 where
 -- a character of one byte
 abbrev pub one_byte : ℕ → List Symbol → List ℕ → Result Character StabFault
 one_byte at found [] = Err (Truncated at)
-one_byte at found (c ∷ rest) = Ok (record { name = c ∷ []; behind = record { at = at + 1; rest = rest; found = found } })
+one_byte at found (c ∷ rest) =
+    Ok (record { name = c ∷ []; behind = record { at = at + 1; rest = rest; found = found } })
 
 -- a character of two bytes
 abbrev pub two_bytes : ℕ → ℕ → List Symbol → List ℕ → Result Character StabFault
@@ -99,12 +101,21 @@ two_bytes node at found [] = Err (Truncated at)
 two_bytes node at found (high ∷ []) = Err (Truncated (at + 1))
 two_bytes node at found (high ∷ low ∷ rest) =
     if is_wide_character (wide_number high low)
-    then Ok (record { name = encode_utf8 (wide_number high low); behind = record { at = at + 2; rest = rest; found = found } })
+    then Ok (record {
+      name = encode_utf8 (wide_number high low);
+      behind = record { at = at + 2; rest = rest; found = found };
+    })
     else Err (Wide node)
+
+abbrev pub one_byte_of : Reading → Result Character StabFault
+one_byte_of s = one_byte s.at s.found s.rest
+
+abbrev pub two_bytes_of : ℕ → Reading → Result Character StabFault
+two_bytes_of node s = two_bytes node s.at s.found s.rest
 
 -- the character of a node at a place with the byte m
 abbrev pub character_of : ℕ → ℕ → Reading → Result Character StabFault
-character_of node m s = if has 0x80 m then two_bytes node s.at s.found s.rest else one_byte s.at s.found s.rest
+character_of node m s = if has 0x80 m then two_bytes_of node s else one_byte_of s
 
 -- what belongs to the character of a node: the symbol that ends with it, and the middle subtrie
 abbrev pub character_part : (List ℕ → Reading → Answer) → ℕ → ℕ → List ℕ → Character → Answer
@@ -130,7 +141,8 @@ abbrev pub node : (List ℕ → Reading → Answer) → List ℕ → ℕ → Lis
 node inner path at found [] = Err (Truncated at)
 node inner path at found (m ∷ rest) =
     if is_wide_bare m then Err (Wide at)
-    else and_then (node_rest inner at m path) (part_if (has 0x40 m) (inner path) (record { at = at + 1; rest = rest; found = found }))
+    else and_then (node_rest inner at m path)
+    (part_if (has 0x40 m) (inner path) (record { at = at + 1; rest = rest; found = found }))
 
 -- the subtrie below a path, of no more nodes than so many; each has a byte at least
 unfoldable pub subtrie : ℕ → List ℕ → Reading → Answer

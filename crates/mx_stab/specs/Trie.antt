@@ -52,7 +52,8 @@ node_front at (s ∷ more) others = front_of at s (has_symbols (symbols_below at
 -- one node for each group, the middle subtrie of each behind its front, and then its right subtrie
 abbrev pub nodes : (List Symbol → List ℕ) → ℕ → List (List Symbol) → List ℕ
 nodes middle at [] = []
-nodes middle at (group ∷ groups) = node_front at group (has_symbols groups) ++ middle (symbols_below at group) ++ nodes middle at groups
+nodes middle at (group ∷ groups) =
+    node_front at group (has_symbols groups) ++ middle (symbols_below at group) ++ nodes middle at groups
 
 -- the trie of symbols whose names agree up to a place; it is no deeper than so many nodes
 unfoldable pub trie : ℕ → ℕ → List Symbol → List ℕ

@@ -30,7 +30,8 @@ impl Model for Found {
 
     ghost view = { λ f. f.symbols };
 
-    ghost invariant = { λ f. ForNone f.names (InByteOrder f.symbols) × ForSome f.names (λ names. HasNames names f.symbols) };
+    ghost invariant = { λ f.
+        ForNone f.names (InByteOrder f.symbols) × ForSome f.names (λ names. HasNames names f.symbols) };
 }
 
 /// Whether a name is above the last of these symbols, in byte order.
@@ -59,7 +60,8 @@ fn is_among(symbols: &[Symbol], name: &[u8]) -> bool
 
 /// Adds a copy of a name to a set.
 fn add(alloc: Global, names: &mut BTreeSet<Vec<u8>>, name: &[u8]) -> Result<(), NoMemory>
-    ensures { OnOk result ((q : List ℕ) → is_key q names.new ≡ (is_key q names.old || bytes_eq q name.now)) }
+    ensures { OnOk result (
+        (q : List ℕ) → is_key q names.new ≡ (is_key q names.old || bytes_eq q name.now)) }
 {
     names.insert(Vec::from_slice(alloc, name)?)?;
     Ok(())
@@ -123,7 +125,8 @@ impl Found {
 
     /// Adds a symbol at the end. Out of memory, nothing is kept.
     pub fn push(&mut self, name: &[u8], value: Value, serial: u32) -> Result<(), NoMemory>
-        ensures { OnOk result (self.new ≡ self.old ++ record { name = name.now; value = value; serial = serial } ∷ []) }
+        ensures { OnOk result (
+            self.new ≡ self.old ++ record { name = name.now; value = value; serial = serial } ∷ []) }
     {
         let symbol = Symbol {
             name: Bytes::copy(self.alloc, name)?,

@@ -19,8 +19,9 @@ mod writing;
 
 pub use faults::StabFault;
 pub use laws::{
-    fewest_bytes_are_written, names_of_a_trie_are_distinct, reading_is_the_grammar,
-    what_is_written_is_read, writing_is_the_grammar,
+    a_trie_has_no_fault, a_trie_tells_one_list, fewest_bytes_are_written,
+    names_of_a_trie_are_distinct, reading_is_the_grammar, what_is_written_is_read,
+    writing_is_the_grammar,
 };
 pub use reading::read;
 pub use writing::write;

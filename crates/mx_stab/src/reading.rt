@@ -1,17 +1,17 @@
 //! The symbols of a trie.
 
-ghost use Rattle.std.specs.Prelude.{◌≡◌, ◌≢◌, ◌≤◌, ◌<◌, ◌+◌, ◌^◌, [], ◌∷◌, ◌++◌, length, List, Err, Ok, Some, IfErr, IfOk, OnOk, IfSome, IfNone, OnSome, drop, take};
-ghost use Rattle.std.specs.Char.{encode_utf8};
+ghost use Rattle.std.specs.Prelude.{◌≡◌, ◌≢◌, ◌≤◌, ◌<◌, ◌+◌, [], ◌∷◌, ◌++◌, List, length, drop, take};
+ghost use Rattle.std.specs.Prelude.{Err, Ok, Some, IfErr, IfOk, IfNone, IfSome, OnOk, OnSome};
 ghost use Rattle.std.specs.List.{AllByRecursion};
 ghost use Rattle.mx_word.specs.Results.{map_ok};
 ghost use Rattle.mx_word.specs.declared.symbols.Symbol.{Symbol};
-ghost use Rattle.mx_stab.specs.Characters.{wide_number, wide_character};
+ghost use Rattle.mx_stab.specs.Characters.{wide_character, wide_number};
+ghost use Rattle.mx_stab.specs.Due.{after_all, after_character, after_due, and_next, due_weight};
+ghost use Rattle.mx_stab.specs.Due.{longer_path, next_point, weight, with_path, LeadsTo};
 ghost use Rattle.mx_stab.specs.Faults.{IsPlaced};
 ghost use Rattle.mx_stab.specs.Grammar.{AreDistinct, IsTrie};
 ghost use Rattle.mx_stab.specs.Order.{IsNamed};
 ghost use Rattle.mx_stab.specs.Reading as spec;
-ghost use Rattle.mx_stab.specs.Due as notes;
-ghost use Rattle.mx_stab.specs.Due.{after_all, after_character, after_due, all_weight, and_next, longer_path, next_point, progress_of, weight, with_path};
 
 use crate::StabFault;
 use crate::due::{Due, has, has_character, note_node, note_subtrie, note_symbol};
@@ -40,7 +40,9 @@ impl<'a> Model for Reader<'a> {
 
     ghost Value = { Point };
 
-    ghost view = { λ r. record { path = r.path.items; reading = record { at = r.at; rest = r.rest.now; found = r.found } } };
+    ghost view = { λ r. record {
+        path = r.path.items;
+        reading = record { at = r.at; rest = r.rest.now; found = r.found } } };
 
     ghost invariant = { λ r. r.at + length r.rest.now < 2 ^ 63 };
 }
@@ -109,7 +111,8 @@ impl<'a> Reader<'a> {
 
     /// Reads the byte m of a node, and notes what stands behind it.
     fn take_node(&mut self, due: &mut Vec<Due>) -> Result<(), StabFault>
-        ensures same { result ≢ Err StabFault.OutOfMemory → progress_of result (after_all due.new.items self.new) ≡ and_next (after_all due.old.items) (after_due Due.Subtrie self.old) }
+        ensures same { LeadsTo result (after_all due.new.items self.new)
+            (and_next (after_all due.old.items) (after_due Due.Subtrie self.old)) }
         ensures less { OnOk result (weight self.new due.new.items ≤ weight self.old due.old.items) }
     {
         let node = self.place();
@@ -136,7 +139,8 @@ impl<'a> Reader<'a> {
 
     /// Reads a character of one byte into the path.
     fn take_byte(&mut self) -> Result<(), StabFault>
-        ensures same { result ≢ Err StabFault.OutOfMemory → progress_of result (Ok self.new) ≡ longer_path self.old.path (spec.one_byte self.old.reading.at self.old.reading.found self.old.reading.rest) }
+        ensures same { LeadsTo result (Ok self.new)
+            (longer_path self.old.path (spec.one_byte_of self.old.reading)) }
         ensures fewer { OnOk result (length self.new.reading.rest < length self.old.reading.rest) }
     {
         let Some(c) = self.next_byte() else {
@@ -147,7 +151,8 @@ impl<'a> Reader<'a> {
 
     /// Reads a character of two bytes into the path, in its UTF-8 form.
     fn take_wide(&mut self, node: u64) -> Result<(), StabFault>
-        ensures same { result ≢ Err StabFault.OutOfMemory → progress_of result (Ok self.new) ≡ longer_path self.old.path (spec.two_bytes node self.old.reading.at self.old.reading.found self.old.reading.rest) }
+        ensures same { LeadsTo result (Ok self.new)
+            (longer_path self.old.path (spec.two_bytes_of node self.old.reading)) }
         ensures fewer { OnOk result (length self.new.reading.rest < length self.old.reading.rest) }
     {
         let bytes = self.rest;
@@ -164,7 +169,8 @@ impl<'a> Reader<'a> {
 
     /// Reads the character of a node into the path.
     fn take_character(&mut self, node: u64, m: u8) -> Result<(), StabFault>
-        ensures same { result ≢ Err StabFault.OutOfMemory → progress_of result (Ok self.new) ≡ longer_path self.old.path (spec.character_of node m self.old.reading) }
+        ensures same { LeadsTo result (Ok self.new)
+            (longer_path self.old.path (spec.character_of node m self.old.reading)) }
         ensures fewer { OnOk result (length self.new.reading.rest < length self.old.reading.rest) }
     {
         if has(0x80, m) {
@@ -176,7 +182,8 @@ impl<'a> Reader<'a> {
 
     /// Reads what stands in a node behind its left subtrie, and notes its other subtries.
     fn take_rest(&mut self, due: &mut Vec<Due>, node: u64, m: u8) -> Result<(), StabFault>
-        ensures same { result ≢ Err StabFault.OutOfMemory → progress_of result (after_all due.new.items self.new) ≡ and_next (after_all due.old.items) (after_due (Due.Rest node m) self.old) }
+        ensures same { LeadsTo result (after_all due.new.items self.new)
+            (and_next (after_all due.old.items) (after_due (Due.Rest node m) self.old)) }
         ensures less { OnOk result (weight self.new due.new.items ≤ weight self.old due.old.items + 1) }
     {
         if !has_character(m) {
@@ -191,7 +198,8 @@ impl<'a> Reader<'a> {
     /// Reads the symbol that ends with the path's last character, and notes the middle and the right
     /// subtrie of its node.
     fn take_named(&mut self, due: &mut Vec<Due>, depth: usize, node: u64, m: u8) -> Result<(), StabFault>
-        ensures same { result ≢ Err StabFault.OutOfMemory → progress_of result (after_all due.new.items self.new) ≡ and_next (after_all due.old.items) (after_character depth node m self.old) }
+        ensures same { LeadsTo result (after_all due.new.items self.new)
+            (and_next (after_all due.old.items) (after_character depth node m self.old)) }
         ensures less { OnOk result (weight self.new due.new.items ≤ weight self.old due.old.items + 3) }
     {
         if self.depth() > LONGEST {
@@ -205,7 +213,8 @@ impl<'a> Reader<'a> {
     /// Reads a value with its serial number, where a symbol ends.
     fn take_symbol(&mut self, node: u64, kind: u8) -> Result<(), StabFault>
         requires { kind < 16 }
-        ensures same { result ≢ Err StabFault.OutOfMemory → progress_of result (Ok self.new) ≡ with_path self.old.path (spec.symbol kind node self.old.path self.old.reading) }
+        ensures same { LeadsTo result (Ok self.new)
+            (with_path self.old.path (spec.symbol kind node self.old.path self.old.reading)) }
         ensures fewer { length self.new.reading.rest ≤ length self.old.reading.rest }
     {
         if kind == 0 {
@@ -226,7 +235,8 @@ impl<'a> Reader<'a> {
     /// Adds the symbol whose name is the path, and goes on behind it.
     fn add(&mut self, node: u64, value: Value, serial: u64, rest: &'a [u8]) -> Result<(), StabFault>
         requires { length rest.now ≤ length self.old.reading.rest }
-        ensures same { result ≢ Err StabFault.OutOfMemory → progress_of result (Ok self.new) ≡ with_path self.old.path (spec.symbol_with node self.old.path value self.old.reading (Some (serial, rest.now))) }
+        ensures same { LeadsTo result (Ok self.new)
+            (with_path self.old.path (spec.symbol_with node self.old.path value self.old.reading (Some (serial, rest.now)))) }
         ensures fewer { length self.new.reading.rest ≤ length self.old.reading.rest }
     {
         if serial >= TOO_LARGE {
@@ -243,8 +253,9 @@ impl<'a> Reader<'a> {
 
     /// Reads what is due next.
     fn take(&mut self, due: &mut Vec<Due>, next: Due) -> Result<(), StabFault>
-        ensures same { result ≢ Err StabFault.OutOfMemory → progress_of result (after_all due.new.items self.new) ≡ and_next (after_all due.old.items) (after_due next self.old) }
-        ensures less { OnOk result (weight self.new due.new.items < weight self.old due.old.items + notes.due_weight next) }
+        ensures same { LeadsTo result (after_all due.new.items self.new)
+            (and_next (after_all due.old.items) (after_due next self.old)) }
+        ensures less { OnOk result (weight self.new due.new.items < weight self.old due.old.items + due_weight next) }
     {
         match next {
             Due::Subtrie => self.take_node(due),
@@ -285,7 +296,8 @@ fn are_zeros(bytes: &[u8]) -> bool
 
 /// Reads the whole trie.
 fn read_all<'a>(alloc: Global, bytes: &'a [u8]) -> Result<Reader<'a>, StabFault>
-    ensures { result ≢ Err StabFault.OutOfMemory → map_ok (λ p. p.reading) result ≡ spec.next_subtrie [] (spec.start bytes.now) }
+    ensures { result ≢ Err StabFault.OutOfMemory →
+        map_ok (λ p. p.reading) result ≡ spec.next_subtrie [] (spec.start bytes.now) }
 {
     let mut reader = Reader {
         at: 0,
@@ -323,7 +335,8 @@ fn symbols_of(alloc: Global, bytes: &[u8]) -> Result<Symbols, StabFault>
 pub fn read(alloc: Global, bytes: &[u8]) -> Result<Symbols, StabFault>
     ensures answer { result ≢ Err StabFault.OutOfMemory → result ≡ spec.trie_answer bytes.now }
     ensures grammar { IfOk result (λ symbols. IsTrie bytes.now symbols) }
-    ensures only { (symbols : List Symbol) → IsTrie bytes.now symbols → result ≢ Err StabFault.OutOfMemory → result ≡ Ok symbols }
+    ensures only { result ≢ Err StabFault.OutOfMemory →
+        (symbols : List Symbol) → IsTrie bytes.now symbols → result ≡ Ok symbols }
     ensures names { IfOk result (λ symbols. AreDistinct symbols × AllByRecursion IsNamed symbols) }
     ensures places { IfErr result (IsPlaced bytes.now) }
 {

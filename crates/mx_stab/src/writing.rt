@@ -1,6 +1,6 @@
 //! The trie of symbols.
 
-ghost use Rattle.std.specs.Prelude.{◌≡◌, ◌≢◌, ◌≤◌, ◌<◌, ◌+◌, [], ◌∷◌, ◌++◌, length, IfOk, IfErr, OnOk};
+ghost use Rattle.std.specs.Prelude.{◌≡◌, ◌≤◌, ◌<◌, ◌+◌, [], ◌∷◌, ◌++◌, length, IfOk, IfErr, OnOk};
 ghost use Rattle.mx_stab.specs.Trie as spec;
 ghost use Rattle.mx_stab.specs.Writing as writing;
 ghost use Rattle.mx_stab.specs.Writing.{bytes_due};
@@ -148,7 +148,8 @@ fn note<'a>(
     at: usize,
     symbols: &'a [Symbol],
 ) -> Result<(), NoMemory>
-    ensures due { OnOk result (bytes_due pending.new.items ≡ spec.trie_from at symbols.now ++ bytes_due pending.old.items) }
+    ensures due { OnOk result (
+        bytes_due pending.new.items ≡ spec.trie_from at symbols.now ++ bytes_due pending.old.items) }
     ensures more { OnOk result (length pending.new.items ≡ length pending.old.items + 1) }
 {
     pending.push(Pending { symbols, at })?;
@@ -163,8 +164,10 @@ fn take_node<'a>(
     at: usize,
     symbols: &'a [Symbol],
 ) -> Result<(), NoMemory>
-    ensures same { OnOk result (bytes.new.items ++ bytes_due pending.new.items ≡ bytes.old.items ++ spec.trie_from at symbols.now ++ bytes_due pending.old.items) }
-    ensures noted { OnOk result (length pending.new.items + length bytes.old.items ≤ length pending.old.items + length bytes.new.items) }
+    ensures same { OnOk result (bytes.new.items ++ bytes_due pending.new.items ≡
+        bytes.old.items ++ spec.trie_from at symbols.now ++ bytes_due pending.old.items) }
+    ensures noted { OnOk result (
+        length pending.new.items + length bytes.old.items ≤ length pending.old.items + length bytes.new.items) }
 {
     if LONGEST <= at {
         return Ok(());
@@ -184,7 +187,8 @@ fn take_node<'a>(
 /// value and serial number. It is refused only out of memory.
 pub fn write(alloc: Global, symbols: &Symbols) -> Result<Bytes, StabFault>
     ensures trie { IfOk result (λ bytes. bytes ≡ spec.trie_of symbols.now) }
-    ensures grammar { InByteOrder symbols.now → AllByRecursion IsNamed symbols.now → IfOk result (λ bytes. IsTrie bytes symbols.now) }
+    ensures grammar { InByteOrder symbols.now → AllByRecursion IsNamed symbols.now →
+        IfOk result (λ bytes. IsTrie bytes symbols.now) }
     ensures refusal { IfErr result (λ f. f ≡ StabFault.OutOfMemory) }
 {
     Ok(Bytes::from_vec(write_all(alloc, symbols.as_slice())?))

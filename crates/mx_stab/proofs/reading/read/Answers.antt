@@ -23,7 +23,7 @@ pub returns-clause-grammar : goal.returns-clause-grammar
 returns-clause-grammar c = well-read c.args.bytes.now _ (bytes-each c.args.bytes.now (λ i. omega (arith, c.type_inv.bytes i))) c.symbols_of.ensures
 
 pub returns-clause-only : goal.returns-clause-only
-returns-clause-only c = λ symbols h ne. c.symbols_of.ensures ne ∙ trie-read c.args.bytes.now symbols h
+returns-clause-only c = λ ne symbols h. c.symbols_of.ensures ne ∙ trie-read c.args.bytes.now symbols h
 
 well-named : (bytes : List ℕ) (r : Result (List Symbol) StabFault) → IfOk r (λ symbols. IsTrie bytes symbols) → IfOk r (λ symbols. AreDistinct symbols × AllByRecursion IsNamed symbols)
 well-named bytes (Ok symbols) h = trie-named bytes symbols h
