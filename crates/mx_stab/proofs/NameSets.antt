@@ -85,7 +85,6 @@ module _ {K : Type 0} (bytes : K → List ℕ) where
   keyed-more q k [] = or_comm (is_eq (slice_cmp nat_cmp q (bytes k))) false ∙ is_eq-slice_cmp q (bytes k)
   keyed-more q k (x ∷ xs) = put-step q k x xs (slice_cmp nat_cmp (bytes k) (bytes x)) refl (keyed-more q k xs)
 
-
 -- a name more in a set
 pub key-more : {Z : Type 0} (k : Vec ℕ Z) (old new : BTreeSet (Vec ℕ Z)) (name : List ℕ) → new.keys ≡ insert_key (λ a b. slice_cmp nat_cmp a.items b.items) old.keys k → k.items ≡ name →
     (q : List ℕ) → is_key q new ≡ (is_key q old || bytes_eq q name)

@@ -65,9 +65,10 @@ byte-of [] m rest = refl
 byte-of (b ∷ front) m rest = byte-of front m rest
 
 has-byte : (bytes : List ℕ) (is : ℕ → Type 0) (front : List ℕ) (m place : ℕ) (rest : List ℕ) → bytes ≡ front ++ m ∷ rest → place ≡ length front → is m → HasByteAt is bytes place
-has-byte bytes is front m place rest e p h =
-    (omega (arith, p, ap length e, length-append front (m ∷ rest)),
-    subst is (sym (ap (λ bs. slice_index bs place) e ∙ ap (slice_index (front ++ m ∷ rest)) p ∙ byte-of front m rest)) h)
+has-byte bytes is front m place rest e p h = (
+  omega (arith, p, ap length e, length-append front (m ∷ rest)),
+  subst is (sym (ap (λ bs. slice_index bs place) e ∙ ap (slice_index (front ++ m ∷ rest)) p ∙ byte-of front m rest)) h,
+)
 
 -- the faults of a node with the byte m stand there
 abbrev IsNode : List ℕ → ℕ → ℕ → Type 0
@@ -194,9 +195,11 @@ behind-trie bytes t w false e =
     let split : bytes ≡ w.bytes ++ t.rest = w.between.split in
     let place : length w.bytes ≡ t.at = omega (arith, w.between.place) in
     let left : drop t.at bytes ≡ t.rest = ap (drop t.at) split ∙ drop_at w.bytes t.rest t.at place in
-    let taken : take t.at bytes ≡ w.bytes = ap (take t.at) split ∙ take_at w.bytes t.rest t.at place in
-    (omega (arith, place, ap length split, length-append w.bytes t.rest, some-left t.rest e),
-    ap is_padding left ∙ e, (w.symbols, subst (λ bs. IsSubtrie 1 [] bs w.symbols) (sym taken) w.is))
+    let taken : take t.at bytes ≡ w.bytes = ap (take t.at) split ∙ take_at w.bytes t.rest t.at place in (
+      omega (arith, place, ap length split, length-append w.bytes t.rest, some-left t.rest e),
+      ap is_padding left ∙ e,
+      (w.symbols, subst (λ bs. IsSubtrie 1 [] bs w.symbols) (sym taken) w.is),
+    )
 
 ended-placed : (bytes : List ℕ) (k : ℕ) (a : Answer) → ((t : Reading) → a ≡ Ok t → Tells 1 [] (start bytes) t) → Placed bytes k a → Answered bytes (symbols_at_end a)
 ended-placed bytes k (Ok t) h p = behind-trie bytes t (h t refl) (is_padding t.rest) refl

@@ -79,7 +79,12 @@ fn names_of(alloc: Global, symbols: &[Symbol]) -> Result<BTreeSet<Vec<u8>>, NoMe
 }
 
 /// Adds a symbol at the end, and its name to the set of all names.
-fn push_named(alloc: Global, names: &mut BTreeSet<Vec<u8>>, symbols: &mut Symbols, symbol: Symbol) -> Result<(), NoMemory>
+fn push_named(
+    alloc: Global,
+    names: &mut BTreeSet<Vec<u8>>,
+    symbols: &mut Symbols,
+    symbol: Symbol,
+) -> Result<(), NoMemory>
     ensures names { HasNames names.old symbols.old → OnOk result (HasNames names.new symbols.new) }
     ensures ok { OnOk result (symbols.new ≡ symbols.old ++ symbol ∷ []) }
     ensures err { OnErr result (symbols.new ≡ symbols.old) }
@@ -89,7 +94,11 @@ fn push_named(alloc: Global, names: &mut BTreeSet<Vec<u8>>, symbols: &mut Symbol
 }
 
 /// Adds a symbol at the end, and gives the set of all names.
-fn with_names(alloc: Global, symbols: &mut Symbols, symbol: Symbol) -> Result<BTreeSet<Vec<u8>>, NoMemory>
+fn with_names(
+    alloc: Global,
+    symbols: &mut Symbols,
+    symbol: Symbol,
+) -> Result<BTreeSet<Vec<u8>>, NoMemory>
     ensures names { IfOk result (λ names. HasNames names symbols.new) }
     ensures ok { OnOk result (symbols.new ≡ symbols.old ++ symbol ∷ []) }
     ensures err { OnErr result (symbols.new ≡ symbols.old) }

@@ -41,8 +41,9 @@ impl<'a> Model for Reader<'a> {
     ghost Value = { Point };
 
     ghost view = { λ r. record {
-        path = r.path.items;
-        reading = record { at = r.at; rest = r.rest.now; found = r.found } } };
+      path = r.path.items;
+      reading = record { at = r.at; rest = r.rest.now; found = r.found };
+    } };
 
     ghost invariant = { λ r. r.at + length r.rest.now < 2 ^ 63 };
 }
@@ -197,7 +198,13 @@ impl<'a> Reader<'a> {
 
     /// Reads the symbol that ends with the path's last character, and notes the middle and the right
     /// subtrie of its node.
-    fn take_named(&mut self, due: &mut Vec<Due>, depth: usize, node: u64, m: u8) -> Result<(), StabFault>
+    fn take_named(
+        &mut self,
+        due: &mut Vec<Due>,
+        depth: usize,
+        node: u64,
+        m: u8,
+    ) -> Result<(), StabFault>
         ensures same { LeadsTo result (after_all due.new.items self.new)
             (and_next (after_all due.old.items) (after_character depth node m self.old)) }
         ensures less { OnOk result (weight self.new due.new.items ≤ weight self.old due.old.items + 3) }

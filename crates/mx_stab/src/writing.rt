@@ -138,7 +138,13 @@ fn append_front(
 {
     match group {
         [] => Ok(()),
-        [first, ..] => append_front_of(bytes, at, first, has_symbols(symbols_below(at, group)), others),
+        [first, ..] => append_front_of(
+            bytes,
+            at,
+            first,
+            has_symbols(symbols_below(at, group)),
+            others,
+        ),
     }
 }
 
