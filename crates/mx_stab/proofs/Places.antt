@@ -1,6 +1,6 @@
 -- Each fault stands at its place.
 use Rattle.std.proofs.Common.{◌≡◌, ℕ, zero, suc, ◌+◌, ◌-◌, ◌*◌, ◌^◌, ◌≤◌, ◌<◌, ◌==◌, ◌%◌, ◌/◌, Bool, true, false, cond, not, List, [], ◌∷◌, ◌++◌, length, take, drop, Option, Some, None, Ok, Err, Result, arith, refl, sym, ap, ◌∙◌, subst, length-append, append_assoc}
-use Rattle.std.specs.Prelude.{nat_le, nat_lt, slice_index, ◌&&◌}
+use Rattle.std.specs.Prelude.{nat_le, nat_lt, slice_index}
 use Rattle.std.specs.Char.{encode_utf8}
 use Rattle.std.proofs.lemmas.Bool.{and_parts, eqb-true, eqb-false}
 use Rattle.std.proofs.lemmas.List.{take_at, drop_at, take-append-drop}
@@ -10,11 +10,11 @@ use Rattle.mx_word.specs.declared.symbols.Value.{Value}
 use Rattle.mx_stab.specs.declared.faults.StabFault.{StabFault}
 use Rattle.mx_stab.specs.declared.faults.StabFault.TheVariants.{Truncated, Padding, Wide, Twice, TooLong, BadSerial}
 use Rattle.mx_stab.specs.Characters.{wide_number, is_wide_character}
-use Rattle.mx_stab.specs.Faults.{HasByteAt, EndsBefore, IsPlaced}
+use Rattle.mx_stab.specs.Faults.{HasByteAt, IsPlaced}
 use Rattle.mx_stab.specs.Grammar.{IsSubtrie}
 use Rattle.mx_stab.specs.Reading as reading
 use Rattle.mx_stab.specs.Reading.{Reading, Answer, Character, and_then, part_if, is_among, value_size, value_of, serial_behind, symbol_with, symbol, has, has_character, is_wide_bare, character_of, character_part, with_character, node_rest, node, subtrie, next_subtrie, is_padding, symbols_at_end, start, trie_answer}
-use Rattle.mx_stab.proofs.Sound.{Between, Tells, subtrie-sounds}
+use Rattle.mx_stab.proofs.Sound.{Tells, subtrie-sounds}
 
 -- a reading within these bytes, with no more than k of them left
 record Within (bytes : List ℕ) (k : ℕ) (s : Reading) : Type 0 where

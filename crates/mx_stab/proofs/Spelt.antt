@@ -1,12 +1,12 @@
 -- Values and serial numbers as they are written.
-use Rattle.std.proofs.Common.{◌≡◌, ℕ, ◌+◌, ◌-◌, ◌*◌, ◌/◌, ◌%◌, ◌^◌, ◌<◌, ◌≤◌, ◌==◌, Bool, true, false, cond, List, [], ◌∷◌, ◌++◌, length, arith, refl, sym, ap, ◌∙◌, subst}
+use Rattle.std.proofs.Common.{◌≡◌, ℕ, ◌+◌, ◌-◌, ◌/◌, ◌%◌, ◌^◌, ◌<◌, ◌≤◌, ◌==◌, Bool, true, false, cond, List, [], ◌∷◌, ◌++◌, length, arith, refl, sym, ap, ◌∙◌, subst}
 use Rattle.std.specs.Prelude.{nat_le, nat_lt, ◌&&◌}
 use Rattle.std.proofs.lemmas.Bool.{and_parts, eqb-true, leb-true, ltb-true}
 use Rattle.mx_word.specs.Words.{octa_to_bytes}
 use Rattle.mx_word.specs.declared.symbols.Value.{Value}
 use Rattle.mx_word.specs.declared.symbols.Value.TheVariants.{Pure, Reg}
 use Rattle.mx_stab.specs.Numbers.{fewest_digits, octa_digits, is_offset, value_bytes, kind, serial_bytes}
-use Rattle.mx_stab.specs.Grammar.{number, number_behind, AreBelow, SpellsValue, SpellsSerial}
+use Rattle.mx_stab.specs.Grammar.{number, AreBelow, SpellsValue, SpellsSerial}
 use Rattle.mx_stab.specs.Grammar.SpellsValue.{pure, offset, register}
 use Rattle.mx_stab.specs.Grammar.SpellsSerial.{digits}
 use Rattle.mx_stab.specs.Order.{IsValue}

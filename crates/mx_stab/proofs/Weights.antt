@@ -1,5 +1,5 @@
 -- How much is due.
-use Rattle.std.proofs.Common.{◌≡◌, ℕ, zero, ◌+◌, ◌≤◌, List, [], ◌∷◌, ◌++◌, Bool, true, false, arith, refl, add_assoc}
+use Rattle.std.proofs.Common.{◌≡◌, ℕ, ◌+◌, ◌≤◌, List, [], ◌∷◌, ◌++◌, Bool, true, false, arith}
 use Rattle.mx_stab.specs.Due.{due_weight, all_weight, due_if}
 use Rattle.mx_stab.specs.declared.due.Due.{Due}
 use Rattle.mx_stab.specs.declared.due.Due.TheVariants.{Subtrie}

@@ -1,4 +1,3 @@
-use Rattle.std.proofs.Common.{sym, ap, ◌∙◌}
 use Rattle.mx_stab.proofs.NameSets.{names-next}
 use Rattle.mx_stab.proofs.found.names_of.Goals as goal
 

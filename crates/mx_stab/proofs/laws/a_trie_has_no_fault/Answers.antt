@@ -1,4 +1,4 @@
-use Rattle.std.proofs.Common.{◌≡◌, ℕ, List, None, Ok, Err, Result, ap, refl, ◌∙◌}
+use Rattle.std.proofs.Common.{◌≡◌, ℕ, List, None, Ok, Err, Result, ap, refl}
 use Rattle.mx_word.specs.Ranges.{AreBytes}
 use Rattle.mx_word.specs.declared.symbols.Symbol.{Symbol}
 use Rattle.mx_stab.specs.declared.faults.StabFault.{StabFault}

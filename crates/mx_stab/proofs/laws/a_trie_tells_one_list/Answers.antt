@@ -1,4 +1,4 @@
-use Rattle.std.proofs.Common.{◌≡◌, List, Ok, Err, Result, sym, ◌∙◌}
+use Rattle.std.proofs.Common.{◌≡◌, List, Ok, Result, sym, ◌∙◌}
 use Rattle.mx_word.specs.declared.symbols.Symbol.{Symbol}
 use Rattle.mx_stab.specs.declared.faults.StabFault.{StabFault}
 use Rattle.mx_stab.proofs.Whole.{trie-read}

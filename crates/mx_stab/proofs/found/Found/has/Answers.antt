@@ -1,4 +1,4 @@
-use Rattle.std.proofs.Common.{ap, sym, ◌∙◌}
+use Rattle.std.proofs.Common.{ap, ◌∙◌}
 use Rattle.mx_stab.specs.Names.{is_above}
 use Rattle.mx_stab.specs.Reading.{is_among}
 use Rattle.mx_stab.proofs.NameSets.{above-not-among}
