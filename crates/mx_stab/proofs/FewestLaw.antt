@@ -1,6 +1,7 @@
 -- No fewer bytes tell a value or a serial number than those that are written.
 use Rattle.std.proofs.Common.{◌≡◌, ℕ, ◌+◌, ◌-◌, ◌%◌, ◌^◌, ◌<◌, ◌≤◌, Bool, true, false, cond, List, [], ◌∷◌, ◌++◌, length, arith, ap, ◌∙◌, subst, length-append}
 use Rattle.std.specs.Prelude.{◌&&◌}
+use Rattle.std.specs.Cmp.Derive.{both_true}
 use Rattle.std.proofs.lemmas.Bool.{le-leb, lt-ltb}
 use Rattle.mx_word.specs.Words.{octa_to_bytes}
 use Rattle.mx_word.specs.declared.symbols.Value.{Value}
@@ -22,11 +23,8 @@ offset-least : (b : Bool) (y n : ℕ) → b ≡ true → y < 2 ^ 48 → 1 ≤ n 
 offset-least true y n e l some h = octa-least (2 ^ 61 + y - 2 ^ 61) n (omega (arith, l)) some (omega (arith, h))
 offset-least false y n e l some h = absurd (cc)
 
-and-true : (p q : Bool) → p ≡ true → q ≡ true → (p && q) ≡ true
-and-true p q h k = ap (λ b. b && q) h ∙ k
-
 offset-is : (y : ℕ) → y < 2 ^ 48 → is_offset (2 ^ 61 + y) ≡ true
-offset-is y l = and-true _ _ (le-leb (2 ^ 61) (2 ^ 61 + y) (omega arith)) (lt-ltb (2 ^ 61 + y) (2 ^ 61 + 2 ^ 48) (omega (arith, l)))
+offset-is y l = both_true (le-leb (2 ^ 61) (2 ^ 61 + y) (omega arith)) (lt-ltb (2 ^ 61 + y) (2 ^ 61 + 2 ^ 48) (omega (arith, l)))
 
 pub values-fewest : (kind : ℕ) (value : Value) (bytes : List ℕ) → SpellsValue kind value bytes → length (value_bytes value) ≤ length bytes
 values-fewest _ _ _ (grammar.SpellsValue.pure bytes b least most) =

@@ -12,9 +12,6 @@ group-step : (b : Bool) (at : ℕ) (s t : Symbol) (ts : List Symbol) (r q : ℕ)
 group-step true at s t ts r q h k = rw (h refl) refl
 group-step false at s t ts r q h k = ap (λ g. (s ∷ []) ∷ g) (sym k)
 
-same-byte : (x y : ℕ) → (x == y) ≡ true → x ≡ y
-same-byte x y h = eqb-true x y h
-
 pub groups_of-first : (at : ℕ) (s : Symbol) (more : List Symbol) →
     groups_of at (s ∷ more) ≡ (s ∷ take (run_length at (next_byte at s) more) more) ∷ groups_of at (drop (run_length at (next_byte at s) more) more)
 groups_of-first at s [] = refl
@@ -22,7 +19,7 @@ groups_of-first at s (t ∷ ts) =
     let rest = groups_of-first at t ts in
     ap (groups_with at s) rest ∙
     group-step (next_byte at t == next_byte at s) at s t ts (run_length at (next_byte at s) ts) (run_length at (next_byte at t) ts)
-    (λ e. ap (λ x. run_length at x ts) (same-byte (next_byte at t) (next_byte at s) e)) rest
+    (λ e. ap (λ x. run_length at x ts) (eqb-true (next_byte at t) (next_byte at s) e)) rest
 
 has_symbols-groups_with : (at : ℕ) (s : Symbol) (groups : List (List Symbol)) → has_symbols (groups_with at s groups) ≡ true
 has_symbols-groups_with at s [] = refl

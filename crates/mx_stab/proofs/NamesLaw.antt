@@ -61,4 +61,4 @@ subtrie-named (grammar.IsSubtrie.symbol path name character wide l m r kind seri
 
 pub trie-named : (bytes : List ℕ) (symbols : List Symbol) → IsTrie bytes symbols → AreDistinct symbols × AllByRecursion IsNamed symbols
 trie-named _ _ grammar.IsTrie.empty = (tt, tt)
-trie-named _ _ (grammar.IsTrie.whole trie zeros symbols h few distinct) = (distinct, subtrie-named h tt)
+trie-named _ _ (grammar.IsTrie.whole trie n symbols h few distinct) = (distinct, subtrie-named h tt)

@@ -1,6 +1,7 @@
 -- What is in the grammar is read.
 use Rattle.std.proofs.Common.{◌≡◌, ℕ, zero, suc, ◌+◌, ◌-◌, ◌*◌, ◌/◌, ◌%◌, ◌^◌, ◌≤◌, ◌<◌, ◌==◌, Bool, true, false, cond, ◌&&◌, ◌||◌, not, List, [], ◌∷◌, ◌++◌, length, take, drop, replicate, Some, Ok, Err, arith, refl, sym, ap, ◌∙◌, subst, append_assoc, append-nil, length-append}
 use Rattle.std.specs.Prelude.{nat_le, nat_lt}
+use Rattle.std.proofs.Math.Bool.{and-false}
 use Rattle.std.proofs.lemmas.Bool.{lt-leb, lt-ltb, le-ltb, le-leb, ne_eqb}
 use Rattle.std.proofs.lemmas.List.{take_at, drop_at}
 use Rattle.mx_word.specs.declared.symbols.Symbol.{Symbol}
@@ -155,10 +156,6 @@ flag-fits (grammar.IsSubtrie.symbol path name character wide l m r kind serial v
 -- whether a node has a character, by its kind and its bit for a middle subtrie
 abbrev spells : ℕ → ℕ → Bool
 spells kind m = not (kind == 0) || m == 1
-
-and-false : (b : Bool) → (b && false) ≡ false
-and-false true = refl
-and-false false = refl
 
 -- a node from its parts
 node-tells : (l r byte : ℕ) (path left inside right : List ℕ) (before own after : List Symbol) → is_wide_bare byte ≡ false → byte / 0x40 % 2 ≡ l → byte / 0x10 % 2 ≡ r →
