@@ -4,12 +4,12 @@ use Rattle.std.proofs.lemmas.Grind.{common_steps}
 use Rattle.std.proofs.lemmas.Nat.{xor_shr, xor_mod}
 use Rattle.std.proofs.lemmas.Bool.{cases_eq}
 use Rattle.std.specs.Int.Bits.{xor_zero_r}
-use Rattle.mx_mem.specs.Memory.{Stored, octa_at, byte_at, byte_in, stored_at, with_tetra, in_half, tetra_byte, joined_bytes}
+use Rattle.mx_mem.specs.Memory.{Stored, octa_at, byte_at, byte_in, stored_at, with_tetra, in_half, tetra_byte, bytes_with_tetra}
 
 -- two addresses in one octa have the same octa
-same-octa : (m : Stored) (q a : ℕ) → q / 8 ≡ a / 8 → octa_at m q ≡ octa_at m a
+pub same-octa : (m : Stored) (q a : ℕ) → q / 8 ≡ a / 8 → octa_at m q ≡ octa_at m a
 unfolding octa_at
-same-octa m q a e = rw e refl
+same-octa m q a e = let page : q / 4096 ≡ a / 4096 = omega arith in rw (page, e) refl
 
 stored-joined-at : (m : Stored) (a t q : ℕ) → stored_at (octa_at m) a (bit_xor (octa_at m a) (in_half a t)) q ≡ with_tetra (octa_at m) a t q
 stored-joined-at m a t q = grind (arith, common_steps, same-octa m q a)
@@ -75,10 +75,10 @@ byte-joined f a t q l = ⊎_elim (λ e. inside e) (λ ne. outside ne) (cases_eq 
         ap (λ n. byte_of n (q % 8)) whole ∙ sym (ap (bit_xor (byte_of (f q) (q % 8))) none ∙ xor_zero_r (byte_of (f q) (q % 8)))
 
 -- the same for the octas at all addresses
-pub byte_in-joined : (f : ℕ → ℕ) (a t : ℕ) → t < 2 ^ 32 → byte_in (with_tetra f a t) ≡ joined_bytes (byte_in f) a t
+pub byte_in-joined : (f : ℕ → ℕ) (a t : ℕ) → t < 2 ^ 32 → byte_in (with_tetra f a t) ≡ bytes_with_tetra (byte_in f) a t
 unfolding byte_of
 byte_in-joined f a t l = λ i q. byte-joined f a t q l i
 
-pub joined-bytes : (m n : Stored) (a t : ℕ) → t < 2 ^ 32 → octa_at n ≡ with_tetra (octa_at m) a t → byte_at n ≡ joined_bytes (byte_at m) a t
+pub joined-bytes : (m n : Stored) (a t : ℕ) → t < 2 ^ 32 → octa_at n ≡ with_tetra (octa_at m) a t → byte_at n ≡ bytes_with_tetra (byte_at m) a t
 unfolding byte_of
 joined-bytes m n a t l e = λ i q. (ap (λ (f : ℕ → ℕ). byte_of (f q) (q % 8)) e ∙ byte-joined (octa_at m) a t q l) i
