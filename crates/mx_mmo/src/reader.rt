@@ -144,6 +144,7 @@ impl Reader {
             (result, self.new) ≡ spec.finish_answer self.old }
         ensures memory { result ≡ Err MmoFault.OutOfMemory → self.new ≡ self.old }
         ensures again { IfSome self.old.fault (λ fault. result ≡ Err fault) }
+        ensures place { IfOk result (λ tail. tail.place ≤ 2 ^ 26) }
     {
         if let Some(fault) = self.fault {
             return Err(fault);

@@ -2,7 +2,7 @@
 use Rattle.std.proofs.Common.{◌≡◌, ℕ, zero, suc, ◌+◌, ◌<◌, ◌≤◌, List, [], ◌∷◌, length, drop, Bool, true, false, cond, Some, None, Ok, Err, refl, sym, ◌∙◌, ap, subst, arith}
 use Rattle.std.specs.Prelude.{Result, nat_lt}
 use Rattle.std.proofs.lemmas.Bool.Decides.{nat_tests}
-use Rattle.mx_mmo.specs.Image.{Image as ObjectImage}
+use Rattle.mx_mmo.specs.Image.{Image}
 use Rattle.mx_mmo.specs.Meaning.{Loading, Meaningless, nothing, take_item, take_items, image_in, meaning}
 use Rattle.mx_mmo.specs.Reading.{Due, IsWithin, first_item}
 use Rattle.mx_mmo.specs.Replies.{limit, phase_after, tail_of}
@@ -17,8 +17,10 @@ use Rattle.mx_mmo.specs.declared.due.Phase.TheVariants.{Start}
 use Rattle.mx_mmo.proofs.Firsts.{first-within}
 use Rattle.mx_mmo.proofs.Walks.{shorter}
 use Rattle.mx_load.specs.Faults as loads
-use Rattle.mx_top.specs.Image.{Image, of_object}
-use Rattle.mx_top.specs.Objects.{MeansNothing, fault_at, Loaded, item_loaded, first_loaded, items_loaded, taken, ended_by, loaded_whole, object_image}
+use Rattle.mx_load.specs.Objects.{MeansNothing, fault_at, Loaded, item_loaded, first_loaded, items_loaded, taken, trie_read, tail_read, with_symbols, whole_loaded, object_loaded}
+use Rattle.mx_stab.specs.Reading.{trie_answer}
+use Rattle.mx_stab.specs.declared.faults.StabFault.{StabFault}
+use Rattle.mx_word.specs.declared.symbols.Symbol.{Symbol}
 
 -- ---- the items
 
@@ -126,8 +128,8 @@ all-come s phase at bytes =
 -- ---- objects
 
 -- what an object is loaded to, by what its items mean and by what was read
-abbrev Gives : List ℕ → Result Loading Meaningless → Result Object MmoFault → Result Image (ℕ × ℕ) → Type 0
-Gives bytes (Ok t) (Ok object) image = image ≡ Ok (of_object t.image)
+abbrev Gives : List ℕ → Result Loading Meaningless → Result Object MmoFault → Result (Image × List Symbol) (ℕ × ℕ) → Type 0
+Gives bytes (Ok t) (Ok object) image = image ≡ with_symbols t.image (trie_read object.tail.place (trie_answer object.tail.trie))
 Gives bytes (Ok t) (Err fault) image = image ≡ Err (fault_at fault)
 Gives bytes (Err e) object image =
     (place : ℕ) × MeansNothing bytes place e × (image ≡ Err (place, loads.number_of (loads.fault_of e)))
@@ -144,7 +146,7 @@ whole-holds : (items : List Item) (end : Result Left MmoFault) → Holds items (
 whole-holds items (Ok left) = tail-holds items (tail_of left.phase left.at left.rest)
 whole-holds items (Err fault) = tt
 
-tail-gives : (bytes : List ℕ) (items : List Item) (t : Loading) (tail : Result Tail MmoFault) → Gives bytes (Ok t) (with_tail items tail) (ended_by t tail)
+tail-gives : (bytes : List ℕ) (items : List Item) (t : Loading) (tail : Result Tail MmoFault) → Gives bytes (Ok t) (with_tail items tail) (with_symbols t.image (tail_read tail))
 tail-gives bytes items t (Ok tail) = refl
 tail-gives bytes items t (Err fault) = refl
 
@@ -160,22 +162,22 @@ means-nothing bytes place e s = record {
 }
 
 whole-gives : (bytes : List ℕ) (items : List Item) (r : Result Loading Meaningless) (end : Result Left MmoFault) (loaded : Loaded) →
-    Comes nothing Start 0 bytes r end loaded → Gives bytes r (object_behind items end) (loaded_whole loaded)
+    Comes nothing Start 0 bytes r end loaded → Gives bytes r (object_behind items end) (whole_loaded loaded)
 whole-gives bytes items (Ok t) (Ok left) loaded c =
-    subst (λ l. Gives bytes (Ok t) (object_behind items (Ok left)) (loaded_whole l)) (sym c) (tail-gives bytes items t (tail_of left.phase left.at left.rest))
-whole-gives bytes items (Ok t) (Err fault) loaded c = ap loaded_whole c
-whole-gives bytes items (Err e) end loaded (place, stops, c) = (place, means-nothing bytes place e stops, ap loaded_whole c)
+    subst (λ l. Gives bytes (Ok t) (object_behind items (Ok left)) (whole_loaded l)) (sym c) (tail-gives bytes items t (tail_of left.phase left.at left.rest))
+whole-gives bytes items (Ok t) (Err fault) loaded c = ap whole_loaded c
+whole-gives bytes items (Err e) end loaded (place, stops, c) = (place, means-nothing bytes place e stops, ap whole_loaded c)
 
 -- bytes are too many, or reading and meaning apart tell what they are loaded to
-record Told (bytes : List ℕ) (object : Result Object MmoFault) (image : Result Image (ℕ × ℕ)) : Type 0 where
+record Told (bytes : List ℕ) (object : Result Object MmoFault) (image : Result (Image × List Symbol) (ℕ × ℕ)) : Type 0 where
   holds : Holds (items_of Start 0 bytes).0 object
   gives : Gives bytes (take_items (items_of Start 0 bytes).0 (Ok nothing)) object image
 
-abbrev Either : List ℕ → Bool → Result Object MmoFault → Result Image (ℕ × ℕ) → Type 0
+abbrev Either : List ℕ → Bool → Result Object MmoFault → Result (Image × List Symbol) (ℕ × ℕ) → Type 0
 Either bytes true object image = (object ≡ Err (TooLong limit)) × (image ≡ Err (fault_at (TooLong limit)))
 Either bytes false object image = Told bytes object image
 
-either : (bytes : List ℕ) → Either bytes (nat_lt limit (length bytes)) (object_of bytes) (object_image bytes)
+either : (bytes : List ℕ) → Either bytes (nat_lt limit (length bytes)) (object_of bytes) (object_loaded bytes)
 either bytes = on (nat_lt limit (length bytes))
   where
     w : Walk
@@ -184,67 +186,85 @@ either bytes = on (nat_lt limit (length bytes))
     loaded : Loaded
     loaded = items_loaded (length bytes + 1) nothing Start 0 bytes
 
-    on : (far : Bool) → Either bytes far (cond far (Err (TooLong limit)) (object_behind w.0 w.1)) (cond far (Err (fault_at (TooLong limit))) (loaded_whole loaded))
+    on : (far : Bool) → Either bytes far (cond far (Err (TooLong limit)) (object_behind w.0 w.1)) (cond far (Err (fault_at (TooLong limit))) (whole_loaded loaded))
     on true = (refl, refl)
     on false = record { holds = whole-holds w.0 w.1; gives = whole-gives bytes w.0 (take_items w.0 (Ok nothing)) w.1 loaded (all-come nothing Start 0 bytes) }
 
-near : (bytes : List ℕ) → length bytes ≤ limit → Told bytes (object_of bytes) (object_image bytes)
+near : (bytes : List ℕ) → length bytes ≤ limit → Told bytes (object_of bytes) (object_loaded bytes)
 near bytes l =
     let is : nat_lt limit (length bytes) ≡ false = grind (arith, nat_tests) in
-    subst (λ far. Either bytes far (object_of bytes) (object_image bytes)) is (either bytes)
+    subst (λ far. Either bytes far (object_of bytes) (object_loaded bytes)) is (either bytes)
 
 -- ---- the law
 
-loaded-by : (bytes : List ℕ) (object : Object) (m : ObjectImage) (r : Result Loading Meaningless) (image : Result Image (ℕ × ℕ)) → image_in r ≡ Ok m →
-    Gives bytes r (Ok object) image → image ≡ Ok (of_object m)
+-- what is loaded of an object whose items mean an image
+abbrev pub loaded_with : Image → Object → Result (Image × List Symbol) (ℕ × ℕ)
+loaded_with m object = with_symbols m (trie_read object.tail.place (trie_answer object.tail.trie))
+
+loaded-by : (bytes : List ℕ) (object : Object) (m : Image) (r : Result Loading Meaningless) (image : Result (Image × List Symbol) (ℕ × ℕ)) → image_in r ≡ Ok m →
+    Gives bytes r (Ok object) image → image ≡ loaded_with m object
 loaded-by bytes object m (Err e) image h given = absurd (cc)
 loaded-by bytes object m (Ok t) image h given =
     let is : t.image ≡ m = cc in
-    given ∙ ap (λ k. Ok (of_object k)) is
+    given ∙ ap (λ k. loaded_with k object) is
 
-pub object-holds : (bytes : List ℕ) (object : Object) (m : ObjectImage) → object_of bytes ≡ Ok object → meaning object.items ≡ Ok m → object_image bytes ≡ Ok (of_object m)
+pub object-holds : (bytes : List ℕ) (object : Object) (m : Image) → object_of bytes ≡ Ok object → meaning object.items ≡ Ok m → object_loaded bytes ≡ loaded_with m object
 object-holds bytes object m e h = on (nat_lt limit (length bytes)) (either bytes)
   where
-    on : (far : Bool) → Either bytes far (object_of bytes) (object_image bytes) → object_image bytes ≡ Ok (of_object m)
+    on : (far : Bool) → Either bytes far (object_of bytes) (object_loaded bytes) → object_loaded bytes ≡ loaded_with m object
     on true t = let is = t.0 in absurd (cc)
     on false t =
-        let told : Told bytes (Ok object) (object_image bytes) = subst (λ o. Told bytes o (object_image bytes)) e t in
-        loaded-by bytes object m (take_items (items_of Start 0 bytes).0 (Ok nothing)) (object_image bytes)
+        let told : Told bytes (Ok object) (object_loaded bytes) = subst (λ o. Told bytes o (object_loaded bytes)) e t in
+        loaded-by bytes object m (take_items (items_of Start 0 bytes).0 (Ok nothing)) (object_loaded bytes)
         (ap meaning (sym told.holds) ∙ h) told.gives
 
-abbrev Means : List ℕ → Image → Type 0
-Means bytes image = (object : Object) × (m : ObjectImage) × (object_of bytes ≡ Ok object) × (meaning object.items ≡ Ok m) × (image ≡ of_object m)
+abbrev Means : List ℕ → Image → List Symbol → Type 0
+Means bytes m symbols = (object : Object) × (object_of bytes ≡ Ok object) × (meaning object.items ≡ Ok m) × (trie_answer object.tail.trie ≡ Ok symbols)
 
-means-by : (bytes : List ℕ) (items : List Item) (image : Image) (r : Result Loading Meaningless) (o : Result Object MmoFault) (x : Result Image (ℕ × ℕ)) →
-    take_items items (Ok nothing) ≡ r → object_of bytes ≡ o → Holds items o → Gives bytes r o x → x ≡ Ok image → Means bytes image
-means-by bytes items image (Ok t) (Ok object) x g e holds given h =
-    let is : image ≡ of_object t.image = cc in
-    (object, t.image, e, ap meaning holds ∙ ap image_in g, is)
-means-by bytes items image (Ok t) (Err fault) x g e holds given h = absurd (cc)
-means-by bytes items image (Err bad) o x g e holds (place, nowhere, given) h = absurd (cc)
+-- an image is loaded with the symbols of the trie
+record Tells (t m : Image) (trie : Result (List Symbol) StabFault) (symbols : List Symbol) : Type 0 where
+  image : t ≡ m
+  tells : trie ≡ Ok symbols
 
-pub loaded-means : (bytes : List ℕ) (image : Image) → object_image bytes ≡ Ok image → Means bytes image
-loaded-means bytes image h = on (nat_lt limit (length bytes)) (either bytes)
+trie-tells : (t m : Image) (place : ℕ) (trie : Result (List Symbol) StabFault) (symbols : List Symbol) →
+    with_symbols t (trie_read place trie) ≡ Ok (m, symbols) → Tells t m trie symbols
+trie-tells t m place (Ok found) symbols h =
+    let loaded : Image × List Symbol = (t, found) in
+    let wanted : Image × List Symbol = (m, symbols) in
+    let pair : loaded ≡ wanted = cc in
+    record { image = ap (λ (p : Image × List Symbol). p.0) pair; tells = ap (λ (p : Image × List Symbol). Ok p.1) pair }
+trie-tells t m place (Err fault) symbols h = absurd (cc)
+
+means-by : (bytes : List ℕ) (items : List Item) (m : Image) (symbols : List Symbol) (r : Result Loading Meaningless) (o : Result Object MmoFault) (x : Result (Image × List Symbol) (ℕ × ℕ)) →
+    take_items items (Ok nothing) ≡ r → object_of bytes ≡ o → Holds items o → Gives bytes r o x → x ≡ Ok (m, symbols) → Means bytes m symbols
+means-by bytes items m symbols (Ok t) (Ok object) x g e holds given h =
+    let told = trie-tells t.image m object.tail.place (trie_answer object.tail.trie) symbols (sym given ∙ h) in
+    (object, e, ap meaning holds ∙ ap image_in g ∙ ap Ok told.image, told.tells)
+means-by bytes items m symbols (Ok t) (Err fault) x g e holds given h = absurd (cc)
+means-by bytes items m symbols (Err bad) o x g e holds (place, nowhere, given) h = absurd (cc)
+
+pub loaded-means : (bytes : List ℕ) (m : Image) (symbols : List Symbol) → object_loaded bytes ≡ Ok (m, symbols) → Means bytes m symbols
+loaded-means bytes m symbols h = on (nat_lt limit (length bytes)) (either bytes)
   where
-    on : (far : Bool) → Either bytes far (object_of bytes) (object_image bytes) → Means bytes image
+    on : (far : Bool) → Either bytes far (object_of bytes) (object_loaded bytes) → Means bytes m symbols
     on true t = let is = t.1 in absurd (cc)
     on false t =
-        means-by bytes (items_of Start 0 bytes).0 image (take_items (items_of Start 0 bytes).0 (Ok nothing)) (object_of bytes) (object_image bytes) refl refl
+        means-by bytes (items_of Start 0 bytes).0 m symbols (take_items (items_of Start 0 bytes).0 (Ok nothing)) (object_of bytes) (object_loaded bytes) refl refl
         t.holds t.gives h
 
 pub fault-of-reading : (bytes : List ℕ) (s : Loading) (fault : MmoFault) → length bytes ≤ limit → object_of bytes ≡ Err fault →
-    take_items (items_of Start 0 bytes).0 (Ok nothing) ≡ Ok s → object_image bytes ≡ Err (fault_at fault)
+    take_items (items_of Start 0 bytes).0 (Ok nothing) ≡ Ok s → object_loaded bytes ≡ Err (fault_at fault)
 fault-of-reading bytes s fault l e h =
-    subst (λ r. Gives bytes r (Err fault) (object_image bytes)) h
-    (subst (λ o. Gives bytes (take_items (items_of Start 0 bytes).0 (Ok nothing)) o (object_image bytes)) e (near bytes l).gives)
+    subst (λ r. Gives bytes r (Err fault) (object_loaded bytes)) h
+    (subst (λ o. Gives bytes (take_items (items_of Start 0 bytes).0 (Ok nothing)) o (object_loaded bytes)) e (near bytes l).gives)
 
-pub too-long : (bytes : List ℕ) → limit < length bytes → object_image bytes ≡ Err (fault_at (TooLong limit))
+pub too-long : (bytes : List ℕ) → limit < length bytes → object_loaded bytes ≡ Err (fault_at (TooLong limit))
 too-long bytes l =
     let is : nat_lt limit (length bytes) ≡ true = grind (arith, nat_tests) in
-    (subst (λ far. Either bytes far (object_of bytes) (object_image bytes)) is (either bytes)).1
+    (subst (λ far. Either bytes far (object_of bytes) (object_loaded bytes)) is (either bytes)).1
 
 pub fault-of-meaning : (bytes : List ℕ) (e : Meaningless) → length bytes ≤ limit → take_items (items_of Start 0 bytes).0 (Ok nothing) ≡ Err e →
-    (place : ℕ) × MeansNothing bytes place e × (object_image bytes ≡ Err (place, loads.number_of (loads.fault_of e)))
-fault-of-meaning bytes e l h = subst (λ r. Gives bytes r (object_of bytes) (object_image bytes)) h (near bytes l).gives
+    (place : ℕ) × MeansNothing bytes place e × (object_loaded bytes ≡ Err (place, loads.number_of (loads.fault_of e)))
+fault-of-meaning bytes e l h = subst (λ r. Gives bytes r (object_of bytes) (object_loaded bytes)) h (near bytes l).gives
 
 pub ruleset apart = (object-holds, loaded-means, fault-of-reading, too-long, fault-of-meaning)
