@@ -11,6 +11,8 @@ mod files;
 mod host;
 mod mem;
 mod slots;
+#[cfg(test)]
+mod tests;
 
 pub use faults::{HostFault, OpenFault};
 pub use files::StoredFile;

@@ -9,6 +9,8 @@ mod kinds;
 mod no_memory;
 mod sequence;
 mod symbols;
+#[cfg(test)]
+mod tests;
 mod waits;
 mod words;
 
