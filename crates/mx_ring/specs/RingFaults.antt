@@ -3,7 +3,7 @@ use Rattle.std.specs.Prelude.{ℕ, Bool, Result, Ok, Err, if◌then◌else◌}
 use Rattle.mx_ring.specs.declared.fault.RingFault.{RingFault}
 use Rattle.mx_ring.specs.declared.fault.RingFault.TheVariants.{StackFull, Underflow, BadFrame, OutOfMemory}
 
--- want of memory has no number
+-- out of memory has no number
 abbrev pub fault_number : RingFault → ℕ
 fault_number StackFull = 100
 fault_number Underflow = 101

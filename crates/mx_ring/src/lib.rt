@@ -5,13 +5,14 @@
 #![tactic(auto)]
 
 mod fault;
-mod pieces;
+mod frame;
+mod hidden;
 mod results;
 mod ring;
 mod saved;
 mod size;
-#[cfg(test)]
-mod tests;
+mod slices;
+mod visible;
 
 pub use fault::RingFault;
 pub use ring::Ring;
