@@ -150,6 +150,14 @@ impl Hidden {
         self.spilled = end;
     }
 
+    /// All octas that are not in the stack area go there.
+    pub(crate) fn spill_all(&mut self)
+        ensures { self.new ≡ with_spilled self.old (length self.old.resident) }
+    {
+        let n = self.octas.len() - self.spilled;
+        self.spill(n);
+    }
+
     /// Only the first `n` octas stay hidden.
     #[inline]
     pub(crate) fn keep_first(&mut self, n: usize)

@@ -1,11 +1,13 @@
 //! The register stack: the registers that an instruction sees, and the hidden ones.
 
-ghost use Rattle.std.specs.Prelude.{◌≡◌, IsTrue, ◌≤◌, ◌<◌, ◌+◌, ◌-◌, ◌^◌, if◌then◌else◌, None, Some, Ok, Err, IfOk, OnOk, OnErr, true, length, nat_le};
-ghost use Rattle.mx_ring.specs.Bounds.{IsRing};
+ghost use Rattle.std.specs.Prelude.{◌≡◌, ◌≤◌, ◌<◌, ◌+◌, ◌-◌, ◌^◌, if◌then◌else◌, None, Some, Ok, Err, IfOk, OnOk, OnErr, true, false, length, nat_le};
+ghost use Rattle.mx_ring.specs.Bounds.{AreInBounds, IsRing};
+ghost use Rattle.mx_ring.specs.Frames.{frame, frame_length, is_bad_frame};
+ghost use Rattle.mx_ring.specs.HiddenPart.{octas_of, with_hidden};
 ghost use Rattle.mx_ring.specs.Kept.{KeepsFrame};
 ghost use Rattle.mx_ring.specs.Registers.{is_marginal};
 ghost use Rattle.mx_ring.specs.RingFaults.{refused_where};
-ghost use Rattle.mx_ring.specs.Stack.{windowed, as_listed, hidden_count, local_count, spilled_count, frame_top, register, set_overfills, with_register, cut_to, with_global_start, push_overfills, pushed, with_pushed, hole_in, pop_underflows, popped, stack_address, in_stack_area, stack_index, stack_octa, with_stack_octa, save_overfills, saved, unsave_refused, unsaved_specials, unsaved};
+ghost use Rattle.mx_ring.specs.Stack.{windowed, as_listed, hidden_count, local_count, spilled_count, register, set_overfills, with_register, cut_to, with_global_start, push_overfills, pushed, with_pushed, hole_in, pop_underflows, popped, with_popped, stack_address, in_stack_area, stack_index, stack_octa, with_stack_octa, frame_top, save_overfills, saved, unsave_refused, octas_to, unsaved_specials, unsaved};
 ghost use Rattle.mx_ring.specs.Window.{first_window};
 
 use crate::frame::{frame_at, frame_top, specials_at};
@@ -201,4 +203,162 @@ impl Ring {
         self.hidden
             .make_room(self.visible.local_count(), self.size);
     }
+
+    /// POP: the registers that were hidden last come back, and X results follow them. The first
+    /// result is the last of them that was given, and stands where the number was. Afterwards L is
+    /// at most G.
+    ///
+    /// Errors: `Underflow` exactly where nothing is hidden, or less than the number says; then
+    /// nothing changed.
+    pub fn pop(&mut self, x: u8) -> Result<(), RingFault>
+        ensures answer { result ≡ refused_where (pop_underflows (windowed self.old)) RingFault.Underflow }
+        ensures ok { OnOk result (windowed self.new ≡ popped (windowed self.old) x) }
+        ensures err { OnErr result (self.new ≡ self.old) }
+    {
+        match hole_in(self.hidden.octas()) {
+            Some(hole) => {
+                self.bring_back(hole, usize::from(x));
+                Ok(())
+            }
+            None => Err(RingFault::Underflow),
+        }
+    }
+
+    /// Brings `hole` hidden registers back, without the octa that is hidden after them. The results
+    /// of POP with `x` follow.
+    #[inline]
+    fn bring_back(&mut self, hole: usize, x: usize)
+        requires { hole < hidden_count (windowed self.old) }
+        ensures { windowed self.new ≡ with_popped (windowed self.old) hole x }
+    {
+        let below = self.hidden.len() - (hole + 1);
+        self.visible
+            .bring_back(&self.hidden.octas()[below..below + hole], x);
+        self.hidden.keep_first(below);
+    }
+
+    /// The octa of the stack area at an index below 2^20, whose address is 8 times the index above
+    /// the start of Stack_Segment.
+    pub fn stack_octa(&self, i: u32) -> u64
+        requires { i < 2 ^ 20 }
+        ensures { result ≡ stack_octa (windowed self.now) i }
+    {
+        self.hidden.stack()[i as usize]
+    }
+
+    /// Overwrites that octa.
+    pub fn set_stack_octa(&mut self, i: u32, x: u64)
+        requires { i < 2 ^ 20 }
+        ensures { windowed self.new ≡ with_stack_octa (windowed self.old) i x }
+    {
+        self.hidden.set_octa(i as usize, x);
+    }
+
+    /// SAVE: hides a frame with all local and global registers and these special ones, and moves all
+    /// that is hidden to the stack area. Afterwards L is 0, and the global register $X has the
+    /// address of the frame's last octa. UNSAVE there brings all of them back.
+    ///
+    /// Errors: `StackFull` exactly where the frame would make the hidden registers pass 2^20; then
+    /// nothing changed.
+    pub fn save(&mut self, x: u8, s: &Saved) -> Result<(), RingFault>
+        requires global { self.old.visible.first_global ≤ x }
+        requires event_bits { s.now.a < 2 ^ 18 }
+        ensures answer { result ≡ refused_where (save_overfills (windowed self.old)) RingFault.StackFull }
+        ensures ok { OnOk result (windowed self.new ≡ saved (windowed self.old) x s.now) }
+        ensures err { OnErr result (self.new ≡ self.old) }
+    {
+        let l = self.visible.local_count();
+        let end = self.hidden.len() + l + 270 - self.visible.first_global();
+        if end > ROOM {
+            return Err(RingFault::StackFull);
+        }
+        self.hide_frame(x, s, end - 1);
+        Ok(())
+    }
+
+    /// Hides a frame with all local and global registers and these special ones, in the stack area.
+    /// Its last octa is at the index `last`.
+    fn hide_frame(&mut self, x: u8, s: &Saved, last: usize)
+        requires global { self.old.visible.first_global ≤ x }
+        requires event_bits { s.now.a < 2 ^ 18 }
+        requires top { last ≡ frame_top (windowed self.old) }
+        requires room { last < 2 ^ 20 }
+        ensures { windowed self.new ≡ saved (windowed self.old) x s.now }
+    {
+        hide_registers(&mut self.hidden, &self.visible, s);
+        self.hidden.spill_all();
+        self.visible.cut(0);
+        self.visible.set(x, BASE + 8 * last as u64);
+    }
+
+    /// UNSAVE: brings the registers of the frame back whose last octa holds an address, and gives
+    /// its special registers. It reads the stack area. What is hidden ends below the frame. Where
+    /// the frame has more locals than its G, the first G become local.
+    ///
+    /// Errors: `BadFrame` exactly where the address is not in the stack area, which is the 2^23 bytes
+    /// from Stack_Segment on, or the frame reaches below it, or has a G below 32; then nothing changed.
+    pub fn unsave(&mut self, a: u64) -> Result<Saved, RingFault>
+        ensures answer { result ≡ (if unsave_refused (windowed self.old) a then Err RingFault.BadFrame else Ok (unsaved_specials (windowed self.old) (stack_index a))) }
+        ensures ok { OnOk result (windowed self.new ≡ unsaved (windowed self.old) (stack_index a)) }
+        ensures err { OnErr result (self.new ≡ self.old) }
+    {
+        if a < BASE || a >= END {
+            return Err(RingFault::BadFrame);
+        }
+        self.unsave_at(((a - BASE) / 8) as usize)
+    }
+
+    /// Brings the registers of the frame back whose last octa is at an index of the stack area.
+    fn unsave_at(&mut self, i: usize) -> Result<Saved, RingFault>
+        requires { i < 2 ^ 20 }
+        ensures answer { result ≡ (if is_bad_frame (octas_to (windowed self.old) i) i then Err RingFault.BadFrame else Ok (unsaved_specials (windowed self.old) i)) }
+        ensures ok { OnOk result (windowed self.new ≡ unsaved (windowed self.old) i) }
+        ensures err { OnErr result (self.new ≡ self.old) }
+    {
+        let octas = &self.hidden.stack()[..i + 1];
+        match frame_at(octas, i) {
+            Some((g, l)) => {
+                let specials = specials_at(octas, i);
+                let middle = i - (269 - g);
+                self.visible.restore(
+                    g,
+                    &octas[middle - l..middle],
+                    &octas[middle + 1..middle + 257 - g],
+                );
+                self.hidden.take_stack(middle - l);
+                Ok(specials)
+            }
+            None => Err(RingFault::BadFrame),
+        }
+    }
+}
+
+/// How many octas below the last one are registers that POP brings back; nothing where there are
+/// fewer octas, or none.
+#[inline(always)]
+fn hole_in(octas: &[u64]) -> Option<usize>
+    ensures { result ≡ (if nat_le (length octas.now) (hole_in octas.now) then None else Some (hole_in octas.now)) }
+{
+    if octas.is_empty() {
+        return None;
+    }
+    let hole = (octas[octas.len() - 1] % 256) as usize;
+    if octas.len() <= hole {
+        return None;
+    }
+    Some(hole)
+}
+
+/// Hides a frame with all local and global registers and these special ones.
+fn hide_registers(hidden: &mut Hidden, visible: &Visible, s: &Saved)
+    requires event_bits { s.now.a < 2 ^ 18 }
+    requires bounds { AreInBounds visible.now }
+    requires room { length (octas_of hidden.old) + frame_length visible.now.first_global (length visible.now.locals) ≤ 2 ^ 20 }
+    ensures { hidden.new ≡ with_hidden hidden.old (frame visible.now s.now) }
+{
+    let l = visible.local_count();
+    hidden.append(visible.below(l));
+    hidden.append(&[l as u64]);
+    hidden.append(visible.globals());
+    hidden.append(&frame_top(s, visible.first_global()));
 }
