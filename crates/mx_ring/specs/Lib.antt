@@ -2,6 +2,7 @@ pub mod Bounds
 pub mod Frames
 pub mod HiddenPart
 pub mod Kept
+pub mod Laws
 pub mod Parts
 pub mod RegisterList
 pub mod Registers

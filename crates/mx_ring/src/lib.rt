@@ -7,6 +7,7 @@
 mod fault;
 mod frame;
 mod hidden;
+mod laws;
 mod results;
 mod ring;
 mod saved;
@@ -15,6 +16,9 @@ mod slices;
 mod visible;
 
 pub use fault::RingFault;
+pub use laws::{
+    calls_go_as_lists, frames_go_as_lists, refusals_are_those_of_lists, writes_go_as_lists,
+};
 pub use ring::Ring;
 pub use saved::Saved;
 pub use size::RingSize;

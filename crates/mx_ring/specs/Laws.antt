@@ -1,0 +1,13 @@
+-- The forms of the laws on windows.
+use Rattle.std.specs.Prelude.{◌≡◌}
+use Rattle.mx_ring.specs.Bounds.{IsRing}
+use Rattle.mx_ring.specs.Stack.{Stack, windowed, as_listed}
+use Rattle.mx_ring.specs.Window.{Window}
+
+-- The list that the window stands for goes through an operation as a list does.
+abbrev pub GoesAsList : Window → (Stack → Stack) → Type 0
+GoesAsList w operation = as_listed (operation (windowed w)) ≡ operation (as_listed (windowed w))
+
+-- What an operation makes of the window is a ring.
+abbrev pub BecomesRing : Window → (Stack → Stack) → Type 0
+BecomesRing w operation = (v : Window) → windowed v ≡ operation (windowed w) → IsRing v
