@@ -15,7 +15,7 @@ use Rattle.mx_ring.specs.declared.saved.Saved.{Saved}
 pub fits-of : (w : Window) → IsRing w → Fits w.hidden (2 ^ 20)
 fits-of w r = record { area = r.area; spilled_are_hidden = r.spilled_are_hidden; has_room = omega (arith, r.has_room) }
 
-ring-of : (size : ℕ) (h : HiddenPart) (v : Registers) → 256 ≤ size → Fits h (2 ^ 20) → AreInBounds v → length h.resident + length v.locals < size → length (octas_of h) + length v.locals ≤ 2 ^ 20 → IsRing (record { size = size; hidden = h; visible = v })
+pub ring-of : (size : ℕ) (h : HiddenPart) (v : Registers) → 256 ≤ size → Fits h (2 ^ 20) → AreInBounds v → length h.resident + length v.locals < size → length (octas_of h) + length v.locals ≤ 2 ^ 20 → IsRing (record { size = size; hidden = h; visible = v })
 ring-of size h v s f b short room = record {
   least_size = s;
   area = f.area;

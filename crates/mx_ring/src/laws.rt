@@ -3,10 +3,11 @@
 
 ghost use Rattle.std.specs.Prelude.{◌≡◌, ◌≤◌, ◌<◌, ◌^◌, ℕ, Bool, true, false, min, take};
 ghost use Rattle.mx_ring.specs.Bounds.{IsRing};
+ghost use Rattle.mx_ring.specs.Frames.{is_bad_frame};
 ghost use Rattle.mx_ring.specs.Kept.{KeepsFrame};
 ghost use Rattle.mx_ring.specs.Laws.{GoesAsList, BecomesRing};
-ghost use Rattle.mx_ring.specs.Stack.{windowed, as_listed, visible, hidden_octas, hidden_count, local_count, spilled_count, register, set_overfills, with_register, cut_to, with_global_start, push_overfills, pushed, pop_underflows, popped, in_stack_area, stack_index, stack_octa, with_stack_octa, frame_top, save_overfills, saved, unsave_refused, unsaved_specials, unsaved};
-ghost use Rattle.mx_ring.specs.Window.{Window};
+ghost use Rattle.mx_ring.specs.Stack.{windowed, as_listed, visible, hidden_octas, hidden_count, local_count, spilled_count, register, set_overfills, with_register, cut_to, with_global_start, push_overfills, pushed, pop_underflows, popped, in_stack_area, stack_index, stack_octa, with_stack_octa, frame_top, save_overfills, saved, octas_to, unsave_refused, unsaved_specials, unsaved};
+ghost use Rattle.mx_ring.specs.Window.{Window, as_list};
 ghost use Rattle.mx_ring.specs.declared.saved.Saved.{Saved};
 
 /// A register has the same value, and writes to registers, L and G do the same, for a ring and for
@@ -39,4 +40,40 @@ pub fn refusals_are_those_of_lists()
     ensures pop { (w : Window) → pop_underflows (as_listed (windowed w)) ≡ pop_underflows (windowed w) }
     ensures save { (w : Window) → save_overfills (as_listed (windowed w)) ≡ save_overfills (windowed w) }
     ensures unsave { (w : Window) (a : ℕ) → IsRing w → (in_stack_area a ≡ true → stack_index a < spilled_count (windowed w)) → unsave_refused (as_listed (windowed w)) a ≡ unsave_refused (windowed w) a }
+{}
+
+/// Writes that are not refused keep what holds of a ring.
+pub fn writes_keep_rings()
+    ensures set { (w : Window) (k x : ℕ) → IsRing w → set_overfills (windowed w) k ≡ false → BecomesRing w (λ s. with_register s k x) }
+    ensures cut { (w : Window) (l : ℕ) → IsRing w → l ≤ local_count (windowed w) → BecomesRing w (λ s. cut_to s l) }
+    ensures globals { (w : Window) (g : ℕ) → IsRing w → local_count (windowed w) ≤ g → 32 ≤ g → g ≤ 255 → BecomesRing w (λ s. with_global_start s g) }
+    ensures stack_octa { (w : Window) (i x : ℕ) → IsRing w → BecomesRing w (λ s. with_stack_octa s i x) }
+{}
+
+/// So do PUSH and POP where they are not refused.
+pub fn calls_keep_rings()
+    ensures push { (w : Window) (x : ℕ) → IsRing w → push_overfills (windowed w) x ≡ false → BecomesRing w (λ s. pushed s x) }
+    ensures pop { (w : Window) (x : ℕ) → IsRing w → pop_underflows (windowed w) ≡ false → BecomesRing w (λ s. popped s x) }
+{}
+
+/// So do SAVE and UNSAVE where they are not refused; the octa that UNSAVE reads first is below 2^64,
+/// as each octa of a machine is.
+pub fn frames_keep_rings()
+    ensures save { (w : Window) (x : ℕ) (specials : Saved) → IsRing w → w.visible.first_global ≤ x → save_overfills (windowed w) ≡ false → BecomesRing w (λ s. saved s x specials) }
+    ensures unsave { (w : Window) (i : ℕ) → IsRing w → i < 2 ^ 20 → stack_octa (windowed w) i < 2 ^ 64 → is_bad_frame (octas_to (windowed w) i) i ≡ false → BecomesRing w (λ s. unsaved s i) }
+{}
+
+/// How many octas are spilled: a write or PUSH never lowers the number, POP cuts it to the number of
+/// hidden octas, and after SAVE and UNSAVE all hidden octas are spilled.
+pub fn spilled_octas_are_counted()
+    ensures set { (w : Window) (k x : ℕ) → spilled_count (windowed w) ≤ spilled_count (with_register (windowed w) k x) }
+    ensures push { (w : Window) (x : ℕ) → spilled_count (windowed w) ≤ spilled_count (pushed (windowed w) x) }
+    ensures pop { (w : Window) (x : ℕ) → IsRing w → spilled_count (popped (windowed w) x) ≡ min (spilled_count (windowed w)) (hidden_count (popped (windowed w) x)) }
+    ensures save { (w : Window) (x : ℕ) (specials : Saved) → IsRing w → save_overfills (windowed w) ≡ false → spilled_count (saved (windowed w) x specials) ≡ hidden_count (saved (windowed w) x specials) }
+    ensures unsave { (w : Window) (i : ℕ) → IsRing w → i < 2 ^ 20 → spilled_count (unsaved (windowed w) i) ≡ hidden_count (unsaved (windowed w) i) }
+{}
+
+/// The first octas of the stack area, up to the number of spilled ones, are the first hidden octas.
+pub fn spilled_octas_are_hidden()
+    ensures { (w : Window) (m : ℕ) → IsRing w → m ≤ spilled_count (windowed w) → take m (as_list w).hidden ≡ take m w.hidden.stack }
 {}

@@ -17,7 +17,9 @@ mod visible;
 
 pub use fault::RingFault;
 pub use laws::{
-    calls_go_as_lists, frames_go_as_lists, refusals_are_those_of_lists, writes_go_as_lists,
+    calls_go_as_lists, calls_keep_rings, frames_go_as_lists, frames_keep_rings,
+    refusals_are_those_of_lists, spilled_octas_are_counted, spilled_octas_are_hidden,
+    writes_go_as_lists, writes_keep_rings,
 };
 pub use ring::Ring;
 pub use saved::Saved;
