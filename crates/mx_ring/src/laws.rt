@@ -2,11 +2,12 @@
 //! for go the same way: what a program sees does not depend on what was spilled.
 
 ghost use Rattle.std.specs.Prelude.{◌≡◌, ◌≤◌, ◌<◌, ◌^◌, ℕ, Bool, true, false, min, take};
-ghost use Rattle.mx_ring.specs.Bounds.{IsRing};
+ghost use Rattle.mx_ring.specs.Bounds.{AreInBounds, IsRing};
 ghost use Rattle.mx_ring.specs.Frames.{is_bad_frame};
 ghost use Rattle.mx_ring.specs.Kept.{KeepsFrame};
 ghost use Rattle.mx_ring.specs.Laws.{GoesAsList, BecomesRing};
-ghost use Rattle.mx_ring.specs.Stack.{windowed, as_listed, visible, hidden_octas, hidden_count, local_count, spilled_count, register, set_overfills, with_register, cut_to, with_global_start, push_overfills, pushed, pop_underflows, popped, in_stack_area, stack_index, stack_octa, with_stack_octa, frame_top, save_overfills, saved, octas_to, unsave_refused, unsaved_specials, unsaved};
+ghost use Rattle.mx_ring.specs.RegisterList.{RegisterList};
+ghost use Rattle.mx_ring.specs.Stack.{listed, windowed, as_listed, visible, hidden_octas, hidden_count, local_count, spilled_count, register, set_overfills, with_register, cut_to, with_global_start, push_overfills, pushed, pop_underflows, popped, in_stack_area, stack_index, stack_octa, with_stack_octa, frame_top, save_overfills, saved, octas_to, unsave_refused, unsaved_specials, unsaved};
 ghost use Rattle.mx_ring.specs.Window.{Window, as_list};
 ghost use Rattle.mx_ring.specs.declared.saved.Saved.{Saved};
 
@@ -76,4 +77,11 @@ pub fn spilled_octas_are_counted()
 /// The first octas of the stack area, up to the number of spilled ones, are the first hidden octas.
 pub fn spilled_octas_are_hidden()
     ensures { (w : Window) (m : ℕ) → IsRing w → m ≤ spilled_count (windowed w) → take m (as_list w).hidden ≡ take m w.hidden.stack }
+{}
+
+/// What SAVE hides comes back: UNSAVE at the last octa of the frame gives the same special registers,
+/// and the stack that was saved, as a list.
+pub fn frames_come_back()
+    ensures ring { (w : Window) (x : ℕ) (specials : Saved) → IsRing w → specials.a < 2 ^ 18 → save_overfills (windowed w) ≡ false → KeepsFrame (windowed w) (saved (windowed w) x specials) (frame_top (windowed w)) specials }
+    ensures list { (r : RegisterList) (x : ℕ) (specials : Saved) → AreInBounds r.visible → specials.a < 2 ^ 18 → save_overfills (listed r) ≡ false → KeepsFrame (listed r) (saved (listed r) x specials) (frame_top (listed r)) specials }
 {}
