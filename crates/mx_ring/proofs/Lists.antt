@@ -1,5 +1,5 @@
 -- The list that a window stands for goes through each operation as a list does.
-use Rattle.std.proofs.Common.{◌≡◌, ℕ, ◌+◌, ◌-◌, ◌*◌, ◌^◌, ◌≤◌, ◌<◌, Bool, true, false, not, ◌||◌, ◌&&◌, List, [], ◌∷◌, ◌++◌, length, take, drop, max, cond, arith, refl, sym, subst, ◌∙◌, ap, ⊎_elim}
+use Rattle.std.proofs.Common.{◌≡◌, ℕ, ◌+◌, ◌-◌, ◌*◌, ◌^◌, ◌≤◌, ◌<◌, Bool, true, false, not, ◌||◌, ◌&&◌, List, [], ◌∷◌, ◌++◌, length, take, drop, max, cond, Option, Some, None, if◌then◌else◌, arith, refl, sym, subst, ◌∙◌, ap, ⊎_elim}
 use Rattle.std.proofs.lemmas.Bool.{cases_Bool}
 use Rattle.std.proofs.lemmas.Bool.Decides.{nat_tests}
 use Rattle.std.proofs.lemmas.List.{append_assoc, append-nil, length-append, length-take-le, take_at, take-take, take-append-le, length_push}
@@ -21,6 +21,11 @@ room-left n e = grind (arith, nat_tests)
 
 bounded : (size : ℕ) (v : Registers) → 256 ≤ size → AreInBounds v → length v.locals < size
 bounded size v s b = omega (arith, b.locals_below_globals, b.one_is_global)
+
+-- the value of a test's answer
+pub value-is : (b : Bool) (n m : ℕ) → Some n ≡ (if b then None else Some m) → n ≡ m
+value-is true n m e = cc
+value-is false n m e = cc
 
 -- SET
 

@@ -44,7 +44,7 @@ impl Model for Ring {
     ghost invariant = { λ i. IsRing (window_in i) };
 }
 
-#[tactic(auto, unfolding(crate::specs::Stack::register, crate::specs::Stack::set_overfills, crate::specs::Stack::with_register, crate::specs::Stack::cut_to, crate::specs::Stack::with_global_start, crate::specs::Stack::push_overfills, crate::specs::Stack::pushed, crate::specs::Stack::pop_underflows, crate::specs::Stack::popped, crate::specs::Stack::stack_octa, crate::specs::Stack::with_stack_octa, crate::specs::Stack::save_overfills, crate::specs::Stack::saved, crate::specs::Stack::unsave_refused, crate::specs::Stack::unsaved_specials, crate::specs::Stack::unsaved))]
+#[tactic(auto, unfolding(crate::specs::Stack::register, crate::specs::Stack::set_overfills, crate::specs::Stack::with_register, crate::specs::Stack::cut_to, crate::specs::Stack::with_global_start, crate::specs::Stack::push_overfills, crate::specs::Stack::pushed, crate::specs::Stack::pop_underflows, crate::specs::Stack::popped, crate::specs::Stack::stack_octa, crate::specs::Stack::with_stack_octa, crate::specs::Stack::save_overfills, crate::specs::Stack::saved, crate::specs::Stack::unsave_refused, crate::specs::Stack::unsaved_specials, crate::specs::Stack::unsaved, crate::specs::Window::as_list))]
 impl Ring {
     /// Registers at the start of the machine: none is local or hidden, and $255 alone is global. The
     /// room for all registers and the stack area is taken at once; no other call takes memory.
@@ -80,6 +80,7 @@ impl Ring {
     /// The number of hidden registers, at most 2^20 less L.
     pub fn hidden(&self) -> u32
         ensures value { result ≡ hidden_count (windowed self.now) }
+        ensures list { result ≡ hidden_count (as_listed (windowed self.now)) }
         ensures bounds { IsRing self.now }
     {
         self.hidden.len() as u32
@@ -95,7 +96,8 @@ impl Ring {
 
     /// rO: the address where the next hidden register goes.
     pub fn ro(&self) -> u64
-        ensures { result ≡ stack_address (hidden_count (windowed self.now)) }
+        ensures value { result ≡ stack_address (hidden_count (windowed self.now)) }
+        ensures list { result ≡ stack_address (hidden_count (as_listed (windowed self.now))) }
     {
         BASE + 8 * self.hidden.len() as u64
     }
@@ -125,6 +127,8 @@ impl Ring {
     pub fn set(&mut self, k: u8, x: u64) -> Result<(), RingFault>
         ensures answer { result ≡ refused_where (set_overfills (windowed self.old) k) RingFault.StackFull }
         ensures ok { OnOk result (windowed self.new ≡ with_register (windowed self.old) k x) }
+        ensures list_answer { result ≡ refused_where (set_overfills (as_listed (windowed self.old)) k) RingFault.StackFull }
+        ensures list { OnOk result (as_listed (windowed self.new) ≡ with_register (as_listed (windowed self.old)) k x) }
         ensures err { OnErr result (self.new ≡ self.old) }
     {
         if self.visible.is_marginal(k) {
@@ -140,6 +144,8 @@ impl Ring {
         requires { is_marginal self.old.visible k ≡ true }
         ensures answer { result ≡ refused_where (set_overfills (windowed self.old) k) RingFault.StackFull }
         ensures ok { OnOk result (windowed self.new ≡ with_register (windowed self.old) k x) }
+        ensures list_answer { result ≡ refused_where (set_overfills (as_listed (windowed self.old)) k) RingFault.StackFull }
+        ensures list { OnOk result (as_listed (windowed self.new) ≡ with_register (as_listed (windowed self.old)) k x) }
         ensures err { OnErr result (self.new ≡ self.old) }
     {
         if self.hidden.len() + usize::from(k) + 1 > ROOM {
@@ -154,7 +160,8 @@ impl Ring {
     /// L falls to `l`.
     pub fn cut_locals(&mut self, l: u8)
         requires { l ≤ local_count (windowed self.old) }
-        ensures { windowed self.new ≡ cut_to (windowed self.old) l }
+        ensures window { windowed self.new ≡ cut_to (windowed self.old) l }
+        ensures list { as_listed (windowed self.new) ≡ cut_to (as_listed (windowed self.old)) l }
     {
         self.visible.cut(usize::from(l));
     }
@@ -163,7 +170,8 @@ impl Ring {
     pub fn set_global_start(&mut self, g: u8)
         requires least { 32 ≤ g }
         requires not_local { local_count (windowed self.old) ≤ g }
-        ensures { windowed self.new ≡ with_global_start (windowed self.old) g }
+        ensures window { windowed self.new ≡ with_global_start (windowed self.old) g }
+        ensures list { as_listed (windowed self.new) ≡ with_global_start (as_listed (windowed self.old)) g }
     {
         self.visible.set_globals_from(usize::from(g));
     }
@@ -176,14 +184,12 @@ impl Ring {
     pub fn push(&mut self, x: u8) -> Result<(), RingFault>
         ensures answer { result ≡ refused_where (push_overfills (windowed self.old) x) RingFault.StackFull }
         ensures ok { OnOk result (windowed self.new ≡ pushed (windowed self.old) x) }
+        ensures list_answer { result ≡ refused_where (push_overfills (as_listed (windowed self.old)) x) RingFault.StackFull }
+        ensures list { OnOk result (as_listed (windowed self.new) ≡ pushed (as_listed (windowed self.old)) x) }
         ensures err { OnErr result (self.new ≡ self.old) }
     {
-        let l = self.visible.local_count();
-        let mut count = usize::from(x);
-        if count >= self.visible.first_global() {
-            count = l;
-        }
-        if self.hidden.len() + l.max(count + 1) > ROOM {
+        let count = self.visible.push_number(x);
+        if self.hidden.len() + self.visible.local_count().max(count + 1) > ROOM {
             return Err(RingFault::StackFull);
         }
         self.hide(count);
@@ -213,6 +219,8 @@ impl Ring {
     pub fn pop(&mut self, x: u8) -> Result<(), RingFault>
         ensures answer { result ≡ refused_where (pop_underflows (windowed self.old)) RingFault.Underflow }
         ensures ok { OnOk result (windowed self.new ≡ popped (windowed self.old) x) }
+        ensures list_answer { result ≡ refused_where (pop_underflows (as_listed (windowed self.old))) RingFault.Underflow }
+        ensures list { OnOk result (as_listed (windowed self.new) ≡ popped (as_listed (windowed self.old)) x) }
         ensures err { OnErr result (self.new ≡ self.old) }
     {
         match hole_in(self.hidden.octas()) {
@@ -265,6 +273,9 @@ impl Ring {
         requires event_bits { s.now.a < 2 ^ 18 }
         ensures answer { result ≡ refused_where (save_overfills (windowed self.old)) RingFault.StackFull }
         ensures ok { OnOk result (windowed self.new ≡ saved (windowed self.old) x s.now) }
+        ensures list_answer { result ≡ refused_where (save_overfills (as_listed (windowed self.old))) RingFault.StackFull }
+        ensures list { OnOk result (as_listed (windowed self.new) ≡ saved (as_listed (windowed self.old)) x s.now) }
+        ensures comes_back { OnOk result (KeepsFrame (windowed self.old) (windowed self.new) (frame_top (windowed self.old)) s.now) }
         ensures err { OnErr result (self.new ≡ self.old) }
     {
         let l = self.visible.local_count();

@@ -2,7 +2,7 @@
 
 ghost use Rattle.std.specs.Prelude.{◌≡◌, ◌≤◌, ◌<◌, ◌+◌, true, false, length, take};
 ghost use Rattle.mx_ring.specs.Bounds.{AreInBounds};
-ghost use Rattle.mx_ring.specs.Registers.{first_registers_of_all, is_marginal, value_of, with_value, with_locals_cut, with_globals_from, registers_below, registers_from, with_returned};
+ghost use Rattle.mx_ring.specs.Registers.{first_registers_of_all, is_marginal, value_of, with_value, with_locals_cut, with_globals_from, push_number, registers_below, registers_from, with_returned};
 
 use crate::results::bring_back;
 use crate::slices::{clear, copy, put};
@@ -114,6 +114,20 @@ impl Visible {
         let end = g.max(self.first_global);
         clear(&mut self.values, self.first_global, end);
         self.first_global = g;
+    }
+
+    /// The number that PUSH with `x` hides, which is also how many registers it hides below it.
+    #[inline(always)]
+    pub(crate) fn push_number(&self, x: u8) -> usize
+        ensures number { result ≡ push_number self.now x }
+        ensures below { result ≤ self.now.first_global }
+    {
+        let x = usize::from(x);
+        if x < self.first_global {
+            x
+        } else {
+            self.local_count
+        }
     }
 
     /// The first `n` registers.
