@@ -1,7 +1,7 @@
 -- The forms of the laws on windows.
-use Rattle.std.specs.Prelude.{◌≡◌}
+use Rattle.std.specs.Prelude.{ℕ, ◌≡◌, ◌<◌, true}
 use Rattle.mx_ring.specs.Bounds.{IsRing}
-use Rattle.mx_ring.specs.Stack.{Stack, windowed, as_listed}
+use Rattle.mx_ring.specs.Stack.{Stack, windowed, as_listed, in_stack_area, stack_index, spilled_count}
 use Rattle.mx_ring.specs.Window.{Window}
 
 -- The list that the window stands for goes through an operation as a list does.
@@ -11,3 +11,7 @@ GoesAsList w operation = as_listed (operation (windowed w)) ≡ operation (as_li
 -- What an operation makes of the window is a ring.
 abbrev pub BecomesRing : Window → (Stack → Stack) → Type 0
 BecomesRing w operation = (v : Window) → windowed v ≡ operation (windowed w) → IsRing v
+
+-- The address lies outside the stack area, or the octa there is spilled.
+abbrev pub IsOutsideOrSpilled : Window → ℕ → Type 0
+IsOutsideOrSpilled w a = in_stack_area a ≡ true → stack_index a < spilled_count (windowed w)

@@ -1,13 +1,13 @@
 //! What holds of the register stack over its definitions alone. A window and the list that it stands
 //! for go the same way: what a program sees does not depend on what was spilled.
 
-ghost use Rattle.std.specs.Prelude.{◌≡◌, ◌≤◌, ◌<◌, ◌^◌, ℕ, Bool, true, false, min, take};
+ghost use Rattle.std.specs.Prelude.{◌≡◌, ◌≤◌, ◌<◌, ◌^◌, ℕ, false, min, take};
 ghost use Rattle.mx_ring.specs.Bounds.{AreInBounds, IsRing};
 ghost use Rattle.mx_ring.specs.Frames.{is_bad_frame};
 ghost use Rattle.mx_ring.specs.Kept.{KeepsFrame};
-ghost use Rattle.mx_ring.specs.Laws.{GoesAsList, BecomesRing};
+ghost use Rattle.mx_ring.specs.Laws.{GoesAsList, BecomesRing, IsOutsideOrSpilled};
 ghost use Rattle.mx_ring.specs.RegisterList.{RegisterList};
-ghost use Rattle.mx_ring.specs.Stack.{listed, windowed, as_listed, visible, hidden_octas, hidden_count, local_count, spilled_count, register, set_overfills, with_register, cut_to, with_global_start, push_overfills, pushed, pop_underflows, popped, in_stack_area, stack_index, stack_octa, with_stack_octa, frame_top, save_overfills, saved, octas_to, unsave_refused, unsaved_specials, unsaved};
+ghost use Rattle.mx_ring.specs.Stack.{listed, windowed, as_listed, hidden_count, local_count, spilled_count, register, set_overfills, with_register, cut_to, with_global_start, push_overfills, pushed, pop_underflows, popped, stack_octa, with_stack_octa, frame_top, save_overfills, saved, octas_to, unsave_refused, unsaved_specials, unsaved};
 ghost use Rattle.mx_ring.specs.Window.{Window, as_list};
 ghost use Rattle.mx_ring.specs.declared.saved.Saved.{Saved};
 
@@ -40,7 +40,7 @@ pub fn refusals_are_those_of_lists()
     ensures push { (w : Window) (x : ℕ) → push_overfills (as_listed (windowed w)) x ≡ push_overfills (windowed w) x }
     ensures pop { (w : Window) → pop_underflows (as_listed (windowed w)) ≡ pop_underflows (windowed w) }
     ensures save { (w : Window) → save_overfills (as_listed (windowed w)) ≡ save_overfills (windowed w) }
-    ensures unsave { (w : Window) (a : ℕ) → IsRing w → (in_stack_area a ≡ true → stack_index a < spilled_count (windowed w)) → unsave_refused (as_listed (windowed w)) a ≡ unsave_refused (windowed w) a }
+    ensures unsave { (w : Window) (a : ℕ) → IsRing w → IsOutsideOrSpilled w a → unsave_refused (as_listed (windowed w)) a ≡ unsave_refused (windowed w) a }
 {}
 
 /// Writes that are not refused keep what holds of a ring.

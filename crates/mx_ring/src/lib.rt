@@ -13,6 +13,8 @@ mod ring;
 mod saved;
 mod size;
 mod slices;
+#[cfg(test)]
+mod tests;
 mod visible;
 
 pub use fault::RingFault;

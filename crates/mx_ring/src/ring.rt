@@ -5,6 +5,7 @@ ghost use Rattle.mx_ring.specs.Bounds.{AreInBounds, IsRing};
 ghost use Rattle.mx_ring.specs.Frames.{frame, frame_length, is_bad_frame};
 ghost use Rattle.mx_ring.specs.HiddenPart.{octas_of, with_hidden};
 ghost use Rattle.mx_ring.specs.Kept.{KeepsFrame};
+ghost use Rattle.mx_ring.specs.Laws.{IsOutsideOrSpilled};
 ghost use Rattle.mx_ring.specs.Registers.{is_marginal};
 ghost use Rattle.mx_ring.specs.RingFaults.{refused_where};
 ghost use Rattle.mx_ring.specs.Stack.{windowed, as_listed, hidden_count, local_count, spilled_count, register, set_overfills, with_register, cut_to, with_global_start, push_overfills, pushed, with_pushed, hole_in, pop_underflows, popped, with_popped, stack_address, in_stack_area, stack_index, stack_octa, with_stack_octa, frame_top, save_overfills, saved, unsave_refused, octas_to, unsaved_specials, unsaved};
@@ -311,6 +312,8 @@ impl Ring {
     pub fn unsave(&mut self, a: u64) -> Result<Saved, RingFault>
         ensures answer { result ≡ (if unsave_refused (windowed self.old) a then Err RingFault.BadFrame else Ok (unsaved_specials (windowed self.old) (stack_index a))) }
         ensures ok { OnOk result (windowed self.new ≡ unsaved (windowed self.old) (stack_index a)) }
+        ensures list_answer { IsOutsideOrSpilled self.old a → result ≡ (if unsave_refused (as_listed (windowed self.old)) a then Err RingFault.BadFrame else Ok (unsaved_specials (as_listed (windowed self.old)) (stack_index a))) }
+        ensures list { IsOutsideOrSpilled self.old a → OnOk result (as_listed (windowed self.new) ≡ unsaved (as_listed (windowed self.old)) (stack_index a)) }
         ensures err { OnErr result (self.new ≡ self.old) }
     {
         if a < BASE || a >= END {
@@ -324,6 +327,8 @@ impl Ring {
         requires { i < 2 ^ 20 }
         ensures answer { result ≡ (if is_bad_frame (octas_to (windowed self.old) i) i then Err RingFault.BadFrame else Ok (unsaved_specials (windowed self.old) i)) }
         ensures ok { OnOk result (windowed self.new ≡ unsaved (windowed self.old) i) }
+        ensures list_answer { i < spilled_count (windowed self.old) → result ≡ (if is_bad_frame (octas_to (as_listed (windowed self.old)) i) i then Err RingFault.BadFrame else Ok (unsaved_specials (as_listed (windowed self.old)) i)) }
+        ensures list { i < spilled_count (windowed self.old) → OnOk result (as_listed (windowed self.new) ≡ unsaved (as_listed (windowed self.old)) i) }
         ensures err { OnErr result (self.new ≡ self.old) }
     {
         let octas = &self.hidden.stack()[..i + 1];
