@@ -1,7 +1,8 @@
 -- The forms of the laws on windows.
-use Rattle.std.specs.Prelude.{ℕ, ◌≡◌, ◌<◌, true}
+use Rattle.std.specs.Prelude.{ℕ, ◌≡◌, ◌<◌, true, List, ◌++◌}
 use Rattle.mx_ring.specs.Bounds.{IsRing}
-use Rattle.mx_ring.specs.Stack.{Stack, windowed, as_listed, in_stack_area, stack_index, spilled_count}
+use Rattle.mx_ring.specs.RegisterList.{RegisterList}
+use Rattle.mx_ring.specs.Stack.{Stack, listed, windowed, as_listed, in_stack_area, stack_index, spilled_count, pushed}
 use Rattle.mx_ring.specs.Window.{Window}
 
 -- The list that the window stands for goes through an operation as a list does.
@@ -15,3 +16,8 @@ BecomesRing w operation = (v : Window) → windowed v ≡ operation (windowed w)
 -- The address lies outside the stack area, or the octa there is spilled.
 abbrev pub IsOutsideOrSpilled : Window → ℕ → Type 0
 IsOutsideOrSpilled w a = in_stack_area a ≡ true → stack_index a < spilled_count (windowed w)
+
+-- PUSH X,YZ hides these octas of the list, and leaves these locals.
+abbrev pub HidesLocals : RegisterList → ℕ → List ℕ → List ℕ → Type 0
+HidesLocals r x octas locals =
+    pushed (listed r) x ≡ listed (record { hidden = r.hidden ++ octas; visible = record r.visible { locals = locals } })

@@ -1,7 +1,7 @@
 -- The register stack as an unbounded list (MMIXware, the part on MMIX, "The register stack"; TAOCP 1, Fascicle 1,
 -- section 1.4.1').
 use Rattle.std.specs.Prelude.{ℕ, List, []}
-use Rattle.mx_ring.specs.Registers.{Registers, first_registers_of_all}
+use Rattle.mx_ring.specs.Registers.{Registers, registers_at_start}
 
 pub record RegisterList : Type 0 where
   -- the hidden octas, the oldest first
@@ -10,5 +10,5 @@ pub record RegisterList : Type 0 where
   pub visible : Registers
 
 -- at the start nothing is hidden
-abbrev pub first_list : RegisterList
-first_list = record { hidden = []; visible = first_registers_of_all }
+abbrev pub list_at_start : RegisterList
+list_at_start = record { hidden = []; visible = registers_at_start }

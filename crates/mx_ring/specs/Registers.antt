@@ -12,8 +12,8 @@ pub record Registers : Type 0 where
   pub globals : List ℕ
 
 -- at the start L is 0 and G is 255
-abbrev pub first_registers_of_all : Registers
-first_registers_of_all = record { locals = []; first_global = 255; globals = 0 ∷ [] }
+abbrev pub registers_at_start : Registers
+registers_at_start = record { locals = []; first_global = 255; globals = 0 ∷ [] }
 
 -- GET AND SET
 

@@ -3,7 +3,7 @@
 use Rattle.std.specs.Prelude.{ℕ, ◌^◌, []}
 use Rattle.mx_ring.specs.HiddenPart.{HiddenPart, octas_of, zeros}
 use Rattle.mx_ring.specs.RegisterList.{RegisterList}
-use Rattle.mx_ring.specs.Registers.{Registers, first_registers_of_all}
+use Rattle.mx_ring.specs.Registers.{Registers, registers_at_start}
 
 pub record Window : Type 0 where
   -- how many registers the ring has; hidden and local ones in it are always fewer
@@ -14,9 +14,9 @@ pub record Window : Type 0 where
   pub visible : Registers
 
 -- at the start nothing is hidden, and the stack area has zeros
-abbrev pub first_window : ℕ → Window
-first_window size =
-    record { size = size; hidden = record { stack = zeros (2 ^ 20); spilled = 0; resident = [] }; visible = first_registers_of_all }
+abbrev pub window_at_start : ℕ → Window
+window_at_start size =
+    record { size = size; hidden = record { stack = zeros (2 ^ 20); spilled = 0; resident = [] }; visible = registers_at_start }
 
 -- the list that a window stands for
 unfoldable pub as_list : Window → RegisterList

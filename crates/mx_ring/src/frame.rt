@@ -6,7 +6,7 @@ ghost use Rattle.mx_ring.specs.Frames.{saved_specials, is_bad_frame, frame_globa
 use crate::Saved;
 
 /// The upper octas of a frame: the special registers, and last G and rA in one octa.
-pub(crate) fn frame_top(s: &Saved, g: usize) -> [u64; 13]
+pub(crate) fn upper_octas(s: &Saved, g: usize) -> [u64; 13]
     requires event_bits { s.now.a < 2 ^ 18 }
     requires most { g ≤ 255 }
     ensures { result ≡ saved_specials s.now ++ (2 ^ 56 * g + s.now.a) ∷ [] }

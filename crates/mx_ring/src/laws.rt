@@ -1,12 +1,13 @@
 //! What holds of the register stack over its definitions alone. A window and the list that it stands
 //! for go the same way: what a program sees does not depend on what was spilled.
 
-ghost use Rattle.std.specs.Prelude.{◌≡◌, ◌≤◌, ◌<◌, ◌^◌, ℕ, false, min, take};
+ghost use Rattle.std.specs.Prelude.{◌≡◌, ◌≤◌, ◌<◌, ◌^◌, ℕ, ◌+◌, ◌-◌, true, false, min, List, [], ◌∷◌, ◌++◌, length, take, drop, replicate};
 ghost use Rattle.mx_ring.specs.Bounds.{AreInBounds, IsRing};
 ghost use Rattle.mx_ring.specs.Frames.{is_bad_frame};
 ghost use Rattle.mx_ring.specs.Kept.{KeepsFrame};
-ghost use Rattle.mx_ring.specs.Laws.{GoesAsList, BecomesRing, IsOutsideOrSpilled};
+ghost use Rattle.mx_ring.specs.Laws.{GoesAsList, BecomesRing, IsOutsideOrSpilled, HidesLocals};
 ghost use Rattle.mx_ring.specs.RegisterList.{RegisterList};
+ghost use Rattle.mx_ring.specs.Registers.{is_marginal};
 ghost use Rattle.mx_ring.specs.Stack.{listed, windowed, as_listed, hidden_count, local_count, spilled_count, register, set_overfills, with_register, cut_to, with_global_start, push_overfills, pushed, pop_underflows, popped, stack_octa, with_stack_octa, frame_top, save_overfills, saved, octas_to, unsave_refused, unsaved_specials, unsaved};
 ghost use Rattle.mx_ring.specs.Window.{Window, as_list};
 ghost use Rattle.mx_ring.specs.declared.saved.Saved.{Saved};
@@ -84,4 +85,13 @@ pub fn spilled_octas_are_hidden()
 pub fn frames_come_back()
     ensures ring { (w : Window) (x : ℕ) (specials : Saved) → IsRing w → specials.a < 2 ^ 18 → save_overfills (windowed w) ≡ false → KeepsFrame (windowed w) (saved (windowed w) x specials) (frame_top (windowed w)) specials }
     ensures list { (r : RegisterList) (x : ℕ) (specials : Saved) → AreInBounds r.visible → specials.a < 2 ^ 18 → save_overfills (listed r) ≡ false → KeepsFrame (listed r) (saved (listed r) x specials) (frame_top (listed r)) specials }
+{}
+
+/// PUSH by the place of $X. A local one: the locals below it and X are hidden, and those above it
+/// stay. One between L and G: the locals, zeros up to X octas, and X are hidden. A global one: the
+/// locals and their number are hidden.
+pub fn pushes_go_by_place()
+    ensures local { (r : RegisterList) (x : ℕ) → AreInBounds r.visible → x < length r.visible.locals → HidesLocals r x (take x r.visible.locals ++ x ∷ []) (drop (x + 1) r.visible.locals) }
+    ensures marginal { (r : RegisterList) (x : ℕ) → is_marginal r.visible x ≡ true → HidesLocals r x (r.visible.locals ++ replicate (x - length r.visible.locals) 0 ++ x ∷ []) [] }
+    ensures global { (r : RegisterList) (x : ℕ) → r.visible.first_global ≤ x → HidesLocals r x (r.visible.locals ++ length r.visible.locals ∷ []) [] }
 {}

@@ -9,9 +9,9 @@ ghost use Rattle.mx_ring.specs.Laws.{IsOutsideOrSpilled};
 ghost use Rattle.mx_ring.specs.Registers.{is_marginal};
 ghost use Rattle.mx_ring.specs.RingFaults.{refused_where};
 ghost use Rattle.mx_ring.specs.Stack.{windowed, as_listed, hidden_count, local_count, spilled_count, register, set_overfills, with_register, cut_to, with_global_start, push_overfills, pushed, with_pushed, hole_in, pop_underflows, popped, with_popped, stack_address, in_stack_area, stack_index, stack_octa, with_stack_octa, frame_top, save_overfills, saved, unsave_refused, octas_to, unsaved_specials, unsaved};
-ghost use Rattle.mx_ring.specs.Window.{first_window};
+ghost use Rattle.mx_ring.specs.Window.{window_at_start};
 
-use crate::frame::{frame_at, frame_top, specials_at};
+use crate::frame::{frame_at, specials_at, upper_octas};
 use crate::hidden::{Hidden, ROOM};
 use crate::visible::Visible;
 use crate::{RingFault, RingSize, Saved};
@@ -52,7 +52,7 @@ impl Ring {
     ///
     /// Errors: `OutOfMemory` alone.
     pub fn with_size(alloc: Global, r: RingSize) -> Result<Ring, RingFault>
-        ensures begin { IfOk result (λ w. w ≡ first_window r) }
+        ensures begin { IfOk result (λ w. w ≡ window_at_start r) }
         ensures memory { OnErr result (result ≡ Err RingFault.OutOfMemory) }
     {
         Ok(Ring {
@@ -224,7 +224,7 @@ impl Ring {
         ensures list { OnOk result (as_listed (windowed self.new) ≡ popped (as_listed (windowed self.old)) x) }
         ensures err { OnErr result (self.new ≡ self.old) }
     {
-        match hole_in(self.hidden.octas()) {
+        match hole(self.hidden.octas()) {
             Some(hole) => {
                 self.bring_back(hole, usize::from(x));
                 Ok(())
@@ -352,7 +352,7 @@ impl Ring {
 /// How many octas below the last one are registers that POP brings back; nothing where there are
 /// fewer octas, or none.
 #[inline(always)]
-fn hole_in(octas: &[u64]) -> Option<usize>
+fn hole(octas: &[u64]) -> Option<usize>
     ensures { result ≡ (if nat_le (length octas.now) (hole_in octas.now) then None else Some (hole_in octas.now)) }
 {
     if octas.is_empty() {
@@ -376,5 +376,5 @@ fn hide_registers(hidden: &mut Hidden, visible: &Visible, s: &Saved)
     hidden.append(visible.below(l));
     hidden.append(&[l as u64]);
     hidden.append(visible.globals());
-    hidden.append(&frame_top(s, visible.first_global()));
+    hidden.append(&upper_octas(s, visible.first_global()));
 }

@@ -2,7 +2,7 @@
 
 ghost use Rattle.std.specs.Prelude.{◌≡◌, ◌≤◌, ◌<◌, ◌+◌, true, false, length, take};
 ghost use Rattle.mx_ring.specs.Bounds.{AreInBounds};
-ghost use Rattle.mx_ring.specs.Registers.{first_registers_of_all, is_marginal, value_of, with_value, with_locals_cut, with_globals_from, push_number, registers_below, registers_from, with_returned};
+ghost use Rattle.mx_ring.specs.Registers.{registers_at_start, is_marginal, value_of, with_value, with_locals_cut, with_globals_from, push_number, registers_below, registers_from, with_returned};
 
 use crate::results::bring_back;
 use crate::slices::{clear, copy, put};
@@ -32,7 +32,7 @@ impl Model for Visible {
 impl Visible {
     /// None is local, and $255 alone is global.
     pub(crate) fn new() -> Visible
-        ensures { result ≡ first_registers_of_all }
+        ensures { result ≡ registers_at_start }
     {
         Visible {
             values: [0; 256],

@@ -8,6 +8,6 @@ pub returns-in-Some-clause-list : goal.returns-in-Some-clause-list
 unfolding popped
 returns-in-Some-clause-list c =
     let w = window_in c.self.inside in
-    let hole : c.in-Some.hole ≡ hole_in c.octas.result.now = value-is (nat_le (length c.octas.result.now) (hole_in c.octas.result.now)) c.in-Some.hole (hole_in c.octas.result.now) (sym c.in-Some.is ∙ c.hole_in.ensures) in
+    let hole : c.in-Some.hole ≡ hole_in c.octas.result.now = value-is (nat_le (length c.octas.result.now) (hole_in c.octas.result.now)) c.in-Some.hole (hole_in c.octas.result.now) (sym c.in-Some.is ∙ c.hole.ensures) in
     let e : windowed c.bring_back.new.self ≡ popped (windowed w) c.args.x = rw (← c.self.view_is, hole, c.octas.ensures, c.from.ensures) at c.bring_back.ensures in
     rw (← c.self.view_is) (ap as_listed e ∙ popped-list w c.args.x c.self.invariant)
