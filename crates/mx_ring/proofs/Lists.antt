@@ -4,7 +4,7 @@ use Rattle.std.proofs.lemmas.Bool.{cases_Bool}
 use Rattle.std.proofs.lemmas.Bool.Decides.{nat_tests}
 use Rattle.std.proofs.lemmas.List.{append_assoc, append-nil, length-append, length-take-le, take_at, take-take, take-append-le, length_push}
 use Rattle.mx_ring.proofs.Octas.{Fits, length-octas, spilled-below, room-octas, spilled-octas, first-octas, hidden-octas, hidden-fits}
-use Rattle.mx_ring.proofs.Rings.{fits-of, length-below, length-frame}
+use Rattle.mx_ring.proofs.Rings.{fits-of, grown-count, length-below, length-frame}
 use Rattle.mx_ring.proofs.Values.{with_value-bounds, from-bounds}
 use Rattle.mx_ring.specs.Bounds.{AreInBounds, IsRing}
 use Rattle.mx_ring.specs.Frames.{frame, frame_length, frame_bottom, frame_registers, frame_specials, is_bad_frame}
@@ -73,6 +73,12 @@ cut-list w l = refl
 pub globals-list : (w : Window) (g : ℕ) → as_listed (with_global_start (windowed w) g) ≡ with_global_start (as_listed (windowed w)) g
 unfolding with_global_start as_list
 globals-list w g = refl
+
+-- a register that grew, part by part
+pub grown-is : (w : Window) (k x n : ℕ) (h : HiddenPart) (v : Registers) → is_marginal w.visible k ≡ true → n ≡ k → v ≡ with_value w.visible k x → h ≡ with_room w.hidden (n + 1) w.size → windowed (record { size = w.size; hidden = h; visible = v }) ≡ with_register (windowed w) k x
+grown-is w k x n h v m en ev eh =
+    let count : n + 1 ≡ length (with_value w.visible k x).locals = omega (arith, grown-count w.visible k x m) in
+    rw (eh, ev, count) (sym (register-grown (windowed w) k x m))
 
 -- PUSH
 

@@ -41,11 +41,15 @@ set-ring w k x r m =
     let local : k < w.visible.first_global → k < length w.visible.locals = grind (arith, nat_tests) in
     visible-ring w _ r (with_value-bounds w.visible k x r.registers) (omega (arith, locals-kept w.visible k x local))
 
+pub grown-count : (v : Registers) (k x : ℕ) → is_marginal v k ≡ true → length (with_value v k x).locals ≡ k + 1
+grown-count v k x m =
+    let below : k < v.first_global = grind (arith, nat_tests) in
+    let above : length v.locals ≤ k = grind (arith, nat_tests) in
+    locals-grown v k x below above
+
 pub grow-ring : (w : Window) (k x : ℕ) → IsRing w → is_marginal w.visible k ≡ true → length (octas_of w.hidden) + (k + 1) ≤ 2 ^ 20 → IsRing (record w { hidden = with_room w.hidden (length (with_value w.visible k x).locals) w.size; visible = with_value w.visible k x })
 grow-ring w k x r m f =
-    let below : k < w.visible.first_global = grind (arith, nat_tests) in
-    let above : length w.visible.locals ≤ k = grind (arith, nat_tests) in
-    room-ring w.size w.hidden (with_value w.visible k x) r.least_size (fits-of w r) (with_value-bounds w.visible k x r.registers) (omega (arith, locals-grown w.visible k x below above))
+    room-ring w.size w.hidden (with_value w.visible k x) r.least_size (fits-of w r) (with_value-bounds w.visible k x r.registers) (omega (arith, grown-count w.visible k x m))
 
 pub cut-ring : (w : Window) (l : ℕ) → IsRing w → l ≤ length w.visible.locals → IsRing (record w { visible = with_locals_cut w.visible l })
 cut-ring w l r f = visible-ring w _ r (cut-bounds w.visible l r.registers f) (omega (arith, length-take-le l w.visible.locals f))

@@ -153,8 +153,7 @@ impl Ring {
             return Err(RingFault::StackFull);
         }
         self.visible.add(k, x);
-        self.hidden
-            .make_room(self.visible.local_count(), self.size);
+        self.hidden.make_room(usize::from(k) + 1, self.size);
         Ok(())
     }
 
