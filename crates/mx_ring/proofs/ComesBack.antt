@@ -1,7 +1,7 @@
 -- UNSAVE brings back what SAVE has hidden.
-use Rattle.std.proofs.Common.{◌≡◌, ℕ, ◌+◌, ◌-◌, ◌*◌, ◌/◌, ◌^◌, ◌≤◌, ◌<◌, Bool, true, false, not, ◌||◌, ◌&&◌, List, [], ◌∷◌, ◌++◌, length, take, drop, arith, refl, sym, subst, ◌∙◌, ap}
+use Rattle.std.proofs.Common.{◌≡◌, ℕ, ◌+◌, ◌^◌, ◌≤◌, ◌<◌, Bool, true, false, not, ◌||◌, List, ◌++◌, length, take, arith, refl, sym, ◌∙◌, ap}
 use Rattle.std.proofs.lemmas.Bool.Decides.{nat_tests}
-use Rattle.std.proofs.lemmas.List.{append_assoc, append-nil, length-append, length-take-le, take_at, take_all, take-take}
+use Rattle.std.proofs.lemmas.List.{append_assoc, append-nil, length-append, take_at, take_all, take-take}
 use Rattle.mx_ring.proofs.Frames.{IsFrame, frame-read}
 use Rattle.mx_ring.proofs.Lists.{room-left, save-room}
 use Rattle.mx_ring.proofs.Octas.{length-octas, spilled-below}
@@ -9,8 +9,8 @@ use Rattle.mx_ring.proofs.Rings.{fits-of, length-frame}
 use Rattle.mx_ring.proofs.Spilled.{take-with_part}
 use Rattle.mx_word.specs.Lists.{with_part}
 use Rattle.mx_ring.specs.Bounds.{AreInBounds, IsRing}
-use Rattle.mx_ring.specs.Frames.{frame, frame_length, frame_bottom, frame_registers, frame_specials, is_bad_frame}
-use Rattle.mx_ring.specs.HiddenPart.{octas_of, with_hidden, with_spilled}
+use Rattle.mx_ring.specs.Frames.{frame, frame_length, frame_registers, is_bad_frame}
+use Rattle.mx_ring.specs.HiddenPart.{octas_of, with_spilled}
 use Rattle.mx_ring.specs.Kept.{KeepsFrame}
 use Rattle.mx_ring.specs.RegisterList.{RegisterList}
 use Rattle.mx_ring.specs.Registers.{Registers}

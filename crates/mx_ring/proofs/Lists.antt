@@ -1,16 +1,16 @@
 -- The list that a window stands for goes through each operation as a list does.
-use Rattle.std.proofs.Common.{◌≡◌, ℕ, ◌+◌, ◌-◌, ◌*◌, ◌^◌, ◌≤◌, ◌<◌, Bool, true, false, not, ◌||◌, ◌&&◌, List, [], ◌∷◌, ◌++◌, length, take, drop, max, cond, Option, Some, None, if◌then◌else◌, arith, refl, sym, subst, ◌∙◌, ap, ⊎_elim}
+use Rattle.std.proofs.Common.{◌≡◌, ℕ, ◌+◌, ◌-◌, ◌^◌, ◌≤◌, ◌<◌, Bool, true, false, not, ◌||◌, ◌&&◌, List, [], ◌∷◌, ◌++◌, length, take, drop, max, cond, Some, None, if◌then◌else◌, arith, refl, sym, ◌∙◌, ap, ⊎_elim}
 use Rattle.std.proofs.lemmas.Bool.{cases_Bool}
 use Rattle.std.proofs.lemmas.Bool.Decides.{nat_tests}
-use Rattle.std.proofs.lemmas.List.{append_assoc, append-nil, length-append, length-take-le, take_at, take-take, take-append-le, length_push}
-use Rattle.mx_ring.proofs.Octas.{Fits, length-octas, spilled-below, room-octas, spilled-octas, first-octas, hidden-octas, hidden-fits}
+use Rattle.std.proofs.lemmas.List.{append-nil, length-take-le, take-take, take-append-le, length_push}
+use Rattle.mx_ring.proofs.Octas.{Fits, spilled-below, room-octas, spilled-octas, first-octas, hidden-octas, hidden-fits}
 use Rattle.mx_ring.proofs.Rings.{fits-of, grown-count, length-below, length-frame}
 use Rattle.mx_ring.proofs.Values.{with_value-bounds, from-bounds}
 use Rattle.mx_ring.specs.Bounds.{AreInBounds, IsRing}
 use Rattle.mx_ring.specs.Frames.{frame, frame_length, frame_bottom, frame_registers, frame_specials, is_bad_frame}
-use Rattle.mx_ring.specs.HiddenPart.{HiddenPart, octas_of, with_hidden, with_room, with_spilled, with_first}
+use Rattle.mx_ring.specs.HiddenPart.{HiddenPart, octas_of, with_hidden, with_room}
 use Rattle.mx_ring.specs.Registers.{Registers, is_marginal, with_value, with_locals_cut, push_number, registers_below, registers_from, with_returned}
-use Rattle.mx_ring.specs.Stack.{Stack, listed, windowed, as_listed, visible, hidden_octas, hidden_count, local_count, with_visible, after_growth, is_too_many, register, pop_underflows, set_overfills, with_register, cut_to, with_global_start, push_overfills, pushed, hole_in, popped, save_overfills, saved, frame_top, stack_address, stack_index, in_stack_area, octas_to, with_read_back, unsave_refused, unsaved_specials, unsaved}
+use Rattle.mx_ring.specs.Stack.{Stack, listed, windowed, as_listed, visible, with_visible, after_growth, is_too_many, register, pop_underflows, set_overfills, with_register, cut_to, with_global_start, push_overfills, pushed, hole_in, popped, save_overfills, saved, frame_top, stack_address, stack_index, in_stack_area, octas_to, with_read_back, unsave_refused, unsaved_specials, unsaved}
 use Rattle.mx_ring.specs.Window.{Window, as_list}
 use Rattle.mx_ring.specs.declared.saved.Saved.{Saved}
 

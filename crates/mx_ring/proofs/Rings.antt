@@ -1,13 +1,12 @@
 -- Each operation keeps what holds of a ring at all times.
-use Rattle.std.proofs.Common.{◌≡◌, ℕ, ◌+◌, ◌-◌, ◌*◌, ◌^◌, ◌≤◌, ◌<◌, List, [], ◌∷◌, ◌++◌, length, take, drop, set, min, true, false, arith, refl, sym, subst, ◌∙◌, ap, ⊎_elim}
-use Rattle.std.proofs.lemmas.Bool.{cases_lt}
+use Rattle.std.proofs.Common.{◌≡◌, ℕ, ◌+◌, ◌-◌, ◌*◌, ◌^◌, ◌≤◌, ◌<◌, List, [], ◌∷◌, ◌++◌, length, take, drop, min, true, false, arith, refl, ◌∙◌, ap}
 use Rattle.std.proofs.lemmas.Bool.Decides.{nat_tests}
-use Rattle.std.proofs.lemmas.List.{append_assoc, append-nil, length-take, length-take-le, length-drop, length-append, length-replicate, length-set, take_all, drop_all}
+use Rattle.std.proofs.lemmas.List.{append_assoc, append-nil, length-take, length-take-le, length-drop, length-append, length-replicate, take_all}
 use Rattle.mx_ring.proofs.Octas.{Fits, length-octas, length-spilled, room-fits, room-octas, room-shorter, spilled-fits, spilled-octas, first-octas, first-fits, first-resident, hidden-octas, hidden-fits}
-use Rattle.mx_ring.proofs.Values.{with_value-global, with_value-bounds, locals-kept, locals-grown, locals-bounds, cut-bounds, from-bounds, globals-bounds}
+use Rattle.mx_ring.proofs.Values.{with_value-bounds, locals-kept, locals-grown, locals-bounds, cut-bounds, from-bounds, globals-bounds}
 use Rattle.mx_ring.specs.Bounds.{AreInBounds, IsRing}
-use Rattle.mx_ring.specs.Frames.{frame, frame_length, saved_specials, registers_around}
-use Rattle.mx_ring.specs.HiddenPart.{HiddenPart, octas_of, with_spilled, with_room, with_first, with_hidden, with_stack_first, with_octa}
+use Rattle.mx_ring.specs.Frames.{frame, frame_length, saved_specials}
+use Rattle.mx_ring.specs.HiddenPart.{HiddenPart, octas_of, with_spilled, with_room, with_first, with_hidden}
 use Rattle.mx_ring.specs.Registers.{Registers, is_marginal, with_value, with_locals_cut, with_globals_from, registers_below, registers_from, results, with_returned}
 use Rattle.mx_ring.specs.Window.{Window}
 use Rattle.mx_ring.specs.declared.saved.Saved.{Saved}

@@ -1,7 +1,7 @@
 -- The hidden octas after they spill, come back or are read from the stack area.
-use Rattle.std.proofs.Common.{◌≡◌, ℕ, ◌+◌, ◌-◌, ◌≤◌, ◌<◌, List, [], ◌++◌, length, take, drop, min, arith, refl, sym, ◌∙◌, ap, ⊎_elim}
+use Rattle.std.proofs.Common.{◌≡◌, ℕ, ◌+◌, ◌-◌, ◌≤◌, ◌<◌, List, ◌++◌, length, take, drop, min, arith, refl, sym, ◌∙◌, ap, ⊎_elim}
 use Rattle.std.proofs.lemmas.Bool.{cases_lt}
-use Rattle.std.proofs.lemmas.List.{append_assoc, length-take, length-take-le, length-drop, length-append, take-append-drop, take_at, take-take, drop-take, drop_all}
+use Rattle.std.proofs.lemmas.List.{length-take, length-take-le, length-drop, length-append, take-append-drop, take_at, take-take, drop-take, drop_all}
 use Rattle.std.proofs.Math.Seq.{take-append-add}
 use Rattle.mx_word.specs.Lists.{with_part}
 

@@ -1,5 +1,5 @@
 -- What SAVE keeps.
-use Rattle.std.specs.Prelude.{ℕ, ◌≡◌, false}
+use Rattle.std.specs.Prelude.{◌≡◌, false}
 use Rattle.mx_ring.specs.Stack.{Stack, as_listed, frame_top, stack_address, unsave_refused, unsaved, unsaved_specials}
 use Rattle.mx_ring.specs.declared.saved.Saved.{Saved}
 

@@ -206,8 +206,7 @@ impl Ring {
         self.hidden.append(self.visible.below(count));
         self.hidden.append(&[count as u64]);
         self.visible.keep_from(count + 1);
-        self.hidden
-            .make_room(self.visible.local_count(), self.size);
+        self.hidden.make_room(self.visible.local_count(), self.size);
     }
 
     /// POP: the registers that were hidden last come back, and X results follow them. The first

@@ -152,7 +152,12 @@ impl Visible {
         ensures { self.new ≡ registers_from self.old n }
     {
         let count = self.local_count.saturating_sub(n);
-        copy(&mut self.values, self.local_count - count, self.local_count, 0);
+        copy(
+            &mut self.values,
+            self.local_count - count,
+            self.local_count,
+            0,
+        );
         clear(&mut self.values, count, self.local_count);
         self.local_count = count;
     }
