@@ -10,7 +10,7 @@ use Rattle.mx_ring.specs.Bounds.{AreInBounds, IsRing}
 use Rattle.mx_ring.specs.Frames.{frame, frame_length, frame_bottom, frame_registers, frame_specials, is_bad_frame}
 use Rattle.mx_ring.specs.HiddenPart.{HiddenPart, octas_of, with_hidden, with_room}
 use Rattle.mx_ring.specs.Registers.{Registers, is_marginal, with_value, with_locals_cut, push_number, registers_below, registers_from, with_returned}
-use Rattle.mx_ring.specs.Stack.{Stack, listed, windowed, as_listed, visible, with_visible, after_growth, is_too_many, register, pop_underflows, set_overfills, with_register, cut_to, with_global_start, push_overfills, pushed, hole_in, popped, save_overfills, saved, frame_top, stack_address, stack_index, in_stack_area, octas_to, with_read_back, unsave_refused, unsaved_specials, unsaved}
+use Rattle.mx_ring.specs.Stack.{Stack, listed, windowed, as_listed, visible, with_visible, after_growth, is_too_many, register, pop_underflows, set_overfills, with_register, cut_to, with_global_start, push_overfills, pushed, hole_in, popped, save_overfills, saved, frame_top, stack_address, stack_index, in_stack_area, octas_to, with_read_back, unsave_refused, unsaved_specials, unsaved, list_of, hidden_octas}
 use Rattle.mx_ring.specs.Window.{Window, as_list}
 use Rattle.mx_ring.specs.declared.saved.Saved.{Saved}
 
@@ -52,9 +52,13 @@ kept-list : (w : Window) (v : Registers) → with_visible (as_listed (windowed w
 unfolding as_list
 kept-list w v = refl
 
-same-visible : (w : Window) → visible (as_listed (windowed w)) ≡ w.visible
+pub same-visible : (w : Window) → visible (list_of w) ≡ visible (windowed w)
 unfolding as_list
 same-visible w = refl
+
+pub same-hidden : (w : Window) → hidden_octas (list_of w) ≡ hidden_octas (windowed w)
+unfolding as_list
+same-hidden w = refl
 
 pub register-list : (w : Window) (k x : ℕ) → IsRing w → as_listed (with_register (windowed w) k x) ≡ with_register (as_listed (windowed w)) k x
 unfolding as_list

@@ -7,9 +7,15 @@ ghost use Rattle.mx_ring.specs.Frames.{is_bad_frame};
 ghost use Rattle.mx_ring.specs.Laws.{GoesAsList, BecomesRing, IsOutsideOrSpilled, IsAllSpilled, SaveIsUndone, HidesLocals};
 ghost use Rattle.mx_ring.specs.RegisterList.{RegisterList};
 ghost use Rattle.mx_ring.specs.Registers.{is_marginal};
-ghost use Rattle.mx_ring.specs.Stack.{listed, windowed, list_of, hidden_count, local_count, spilled_count, register, set_overfills, with_register, cut_to, with_global_start, push_overfills, pushed, pop_underflows, popped, stack_octa, with_stack_octa, save_overfills, saved, octas_to, unsave_refused, unsaved_specials, unsaved};
+ghost use Rattle.mx_ring.specs.Stack.{listed, windowed, list_of, visible, hidden_octas, hidden_count, local_count, spilled_count, register, set_overfills, with_register, cut_to, with_global_start, push_overfills, pushed, pop_underflows, popped, stack_octa, with_stack_octa, save_overfills, saved, octas_to, unsave_refused, unsaved_specials, unsaved};
 ghost use Rattle.mx_ring.specs.Window.{Window, as_list};
 ghost use Rattle.mx_ring.specs.declared.saved.Saved.{Saved};
+
+/// A ring and the list that it stands for show the same registers, and hide the same octas.
+pub fn lists_show_the_same()
+    ensures visible { (w : Window) → visible (list_of w) ≡ visible (windowed w) }
+    ensures hidden { (w : Window) → hidden_octas (list_of w) ≡ hidden_octas (windowed w) }
+{}
 
 /// A register has the same value, and writes to registers, L and G do the same, for a ring and for
 /// the list that it stands for.
