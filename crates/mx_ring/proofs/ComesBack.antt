@@ -1,7 +1,7 @@
 -- UNSAVE brings back what SAVE has hidden.
-use Rattle.std.proofs.Common.{◌≡◌, ℕ, ◌+◌, ◌-◌, ◌*◌, ◌/◌, ◌^◌, ◌≤◌, ◌<◌, Bool, true, false, not, ◌||◌, ◌&&◌, List, [], ◌∷◌, ◌++◌, length, take, drop, arith, refl, sym, subst, ◌∙◌, ap}
+use Rattle.std.proofs.Common.{◌≡◌, ℕ, ◌+◌, ◌^◌, ◌≤◌, ◌<◌, Bool, true, false, not, ◌||◌, List, ◌++◌, length, take, arith, refl, sym, ◌∙◌, ap}
 use Rattle.std.proofs.lemmas.Bool.Decides.{nat_tests}
-use Rattle.std.proofs.lemmas.List.{append_assoc, append-nil, length-append, length-take-le, take_at, take_all, take-take}
+use Rattle.std.proofs.lemmas.List.{append_assoc, append-nil, length-append, take_at, take_all, take-take}
 use Rattle.mx_ring.proofs.Frames.{IsFrame, frame-read}
 use Rattle.mx_ring.proofs.Lists.{room-left, save-room}
 use Rattle.mx_ring.proofs.Octas.{length-octas, spilled-below}
@@ -9,8 +9,8 @@ use Rattle.mx_ring.proofs.Rings.{fits-of, length-frame}
 use Rattle.mx_ring.proofs.Spilled.{take-with_part}
 use Rattle.mx_word.specs.Lists.{with_part}
 use Rattle.mx_ring.specs.Bounds.{AreInBounds, IsRing}
-use Rattle.mx_ring.specs.Frames.{frame, frame_length, frame_bottom, frame_registers, frame_specials, is_bad_frame}
-use Rattle.mx_ring.specs.HiddenPart.{octas_of, with_hidden, with_spilled}
+use Rattle.mx_ring.specs.Frames.{frame, frame_length, frame_registers, is_bad_frame}
+use Rattle.mx_ring.specs.HiddenPart.{octas_of, with_spilled}
 use Rattle.mx_ring.specs.Kept.{KeepsFrame}
 use Rattle.mx_ring.specs.RegisterList.{RegisterList}
 use Rattle.mx_ring.specs.Registers.{Registers}
@@ -31,9 +31,10 @@ good-frame now i f e =
     ap (λ (b : Bool). not b || is_bad_frame (octas_to now (stack_index (stack_address i))) (stack_index (stack_address i))) (area-address i f) ∙ ap (λ n. is_bad_frame (octas_to now n) n) (address-index i) ∙ e
 
 -- a frame above what was hidden
-kept : (old now : Stack) (i : ℕ) (s : Saved) → AreInBounds (visible old) → s.a < 2 ^ 18 → i < 2 ^ 20 → octas_to now i ≡ hidden_octas old ++ frame (visible old) s → i + 1 ≡ length (octas_to now i) → as_listed (with_read_back now (length (hidden_octas old)) (visible old)) ≡ as_listed old → KeepsFrame old now i s
+kept : (old now : Stack) (s : Saved) → AreInBounds (visible old) → s.a < 2 ^ 18 → frame_top old < 2 ^ 20 → octas_to now (frame_top old) ≡ hidden_octas old ++ frame (visible old) s → frame_top old + 1 ≡ length (octas_to now (frame_top old)) → as_listed (with_read_back now (length (hidden_octas old)) (visible old)) ≡ as_listed old → KeepsFrame old now s
 unfolding unsaved unsaved_specials
-kept old now i s b fa f eo ei back =
+kept old now s b fa f eo ei back =
+    let i : ℕ = frame_top old in
     let read : IsFrame (octas_to now i) i (length (hidden_octas old)) (visible old) s = frame-read (hidden_octas old) (visible old) s (octas_to now i) i b fa eo ei in
     record {
       is_frame = good-frame now i f read.is_good;
@@ -41,7 +42,7 @@ kept old now i s b fa f eo ei back =
       gives_specials = read.specials;
     }
 
-pub window-kept : (w : Window) (x : ℕ) (s : Saved) → IsRing w → s.a < 2 ^ 18 → save_overfills (windowed w) ≡ false → KeepsFrame (windowed w) (saved (windowed w) x s) (frame_top (windowed w)) s
+pub window-kept : (w : Window) (x : ℕ) (s : Saved) → IsRing w → s.a < 2 ^ 18 → save_overfills (windowed w) ≡ false → KeepsFrame (windowed w) (saved (windowed w) x s) s
 unfolding saved with_spilled as_list
 window-kept w x s r fa o =
     let i : ℕ = frame_top (windowed w) in
@@ -61,9 +62,9 @@ window-kept w x s r fa o =
     let end : i + 1 ≡ length (take (i + 1) stack) = sym (ap length read ∙ length-append octas top ∙ omega (arith, r.registers.one_is_global)) in
     let rest : take (length octas) stack ≡ octas =
     sym (take-take (length octas) (i + 1) stack (omega (arith, r.registers.one_is_global))) ∙ ap (take (length octas)) read ∙ take_at octas top (length octas) refl in
-    kept (windowed w) (saved (windowed w) x s) i s r.registers fa (omega (arith, r.registers.one_is_global)) read end (ap (λ (os : List ℕ). listed (record { hidden = os; visible = w.visible })) (append-nil (take (length octas) stack) ∙ rest))
+    kept (windowed w) (saved (windowed w) x s) s r.registers fa (omega (arith, r.registers.one_is_global)) read end (ap (λ (os : List ℕ). listed (record { hidden = os; visible = w.visible })) (append-nil (take (length octas) stack) ∙ rest))
 
-pub list-kept : (l : RegisterList) (x : ℕ) (s : Saved) → AreInBounds l.visible → s.a < 2 ^ 18 → save_overfills (listed l) ≡ false → KeepsFrame (listed l) (saved (listed l) x s) (frame_top (listed l)) s
+pub list-kept : (l : RegisterList) (x : ℕ) (s : Saved) → AreInBounds l.visible → s.a < 2 ^ 18 → save_overfills (listed l) ≡ false → KeepsFrame (listed l) (saved (listed l) x s) s
 unfolding saved save_overfills
 list-kept l x s b fa o =
     let i : ℕ = frame_top (listed l) in
@@ -72,4 +73,4 @@ list-kept l x s b fa o =
     let room : length l.hidden + frame_length l.visible.first_global (length l.visible.locals) ≤ 2 ^ 20 = room-left (length l.hidden + frame_length l.visible.first_global (length l.visible.locals)) o in
     let place : i + 1 ≡ length (l.hidden ++ top) = sym (length-append l.hidden top ∙ omega (arith, b.one_is_global)) in
     let read : take (i + 1) (l.hidden ++ top) ≡ l.hidden ++ top = take_all (i + 1) (l.hidden ++ top) (omega arith) in
-    kept (listed l) (saved (listed l) x s) i s b fa (omega (arith, b.one_is_global)) read (place ∙ ap length (sym read)) (ap (λ (os : List ℕ). listed (record { hidden = os; visible = l.visible })) (take_at l.hidden top (length l.hidden) refl))
+    kept (listed l) (saved (listed l) x s) s b fa (omega (arith, b.one_is_global)) read (place ∙ ap length (sym read)) (ap (λ (os : List ℕ). listed (record { hidden = os; visible = l.visible })) (take_at l.hidden top (length l.hidden) refl))

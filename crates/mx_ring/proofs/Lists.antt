@@ -1,16 +1,16 @@
 -- The list that a window stands for goes through each operation as a list does.
-use Rattle.std.proofs.Common.{◌≡◌, ℕ, ◌+◌, ◌-◌, ◌*◌, ◌^◌, ◌≤◌, ◌<◌, Bool, true, false, not, ◌||◌, ◌&&◌, List, [], ◌∷◌, ◌++◌, length, take, drop, max, cond, Option, Some, None, if◌then◌else◌, arith, refl, sym, subst, ◌∙◌, ap, ⊎_elim}
+use Rattle.std.proofs.Common.{◌≡◌, ℕ, ◌+◌, ◌-◌, ◌^◌, ◌≤◌, ◌<◌, Bool, true, false, not, ◌||◌, ◌&&◌, List, [], ◌∷◌, ◌++◌, length, take, drop, max, cond, Some, None, if◌then◌else◌, arith, refl, sym, ◌∙◌, ap, ⊎_elim}
 use Rattle.std.proofs.lemmas.Bool.{cases_Bool}
 use Rattle.std.proofs.lemmas.Bool.Decides.{nat_tests}
-use Rattle.std.proofs.lemmas.List.{append_assoc, append-nil, length-append, length-take-le, take_at, take-take, take-append-le, length_push}
-use Rattle.mx_ring.proofs.Octas.{Fits, length-octas, spilled-below, room-octas, spilled-octas, first-octas, hidden-octas, hidden-fits}
-use Rattle.mx_ring.proofs.Rings.{fits-of, length-below, length-frame}
+use Rattle.std.proofs.lemmas.List.{append-nil, length-take-le, take-take, take-append-le, length_push}
+use Rattle.mx_ring.proofs.Octas.{Fits, spilled-below, room-octas, spilled-octas, first-octas, hidden-octas, hidden-fits}
+use Rattle.mx_ring.proofs.Rings.{fits-of, grown-count, length-below, length-frame}
 use Rattle.mx_ring.proofs.Values.{with_value-bounds, from-bounds}
 use Rattle.mx_ring.specs.Bounds.{AreInBounds, IsRing}
 use Rattle.mx_ring.specs.Frames.{frame, frame_length, frame_bottom, frame_registers, frame_specials, is_bad_frame}
-use Rattle.mx_ring.specs.HiddenPart.{HiddenPart, octas_of, with_hidden, with_room, with_spilled, with_first}
+use Rattle.mx_ring.specs.HiddenPart.{HiddenPart, octas_of, with_hidden, with_room}
 use Rattle.mx_ring.specs.Registers.{Registers, is_marginal, with_value, with_locals_cut, push_number, registers_below, registers_from, with_returned}
-use Rattle.mx_ring.specs.Stack.{Stack, listed, windowed, as_listed, visible, hidden_octas, hidden_count, local_count, with_visible, after_growth, is_too_many, register, pop_underflows, set_overfills, with_register, cut_to, with_global_start, push_overfills, pushed, hole_in, popped, save_overfills, saved, frame_top, stack_address, stack_index, in_stack_area, octas_to, with_read_back, unsave_refused, unsaved_specials, unsaved}
+use Rattle.mx_ring.specs.Stack.{Stack, listed, windowed, as_listed, visible, with_visible, after_growth, is_too_many, register, pop_underflows, set_overfills, with_register, cut_to, with_global_start, push_overfills, pushed, hole_in, popped, save_overfills, saved, frame_top, stack_address, stack_index, in_stack_area, octas_to, with_read_back, unsave_refused, unsaved_specials, unsaved, list_of, hidden_octas}
 use Rattle.mx_ring.specs.Window.{Window, as_list}
 use Rattle.mx_ring.specs.declared.saved.Saved.{Saved}
 
@@ -52,9 +52,13 @@ kept-list : (w : Window) (v : Registers) → with_visible (as_listed (windowed w
 unfolding as_list
 kept-list w v = refl
 
-same-visible : (w : Window) → visible (as_listed (windowed w)) ≡ w.visible
+pub same-visible : (w : Window) → visible (list_of w) ≡ visible (windowed w)
 unfolding as_list
 same-visible w = refl
+
+pub same-hidden : (w : Window) → hidden_octas (list_of w) ≡ hidden_octas (windowed w)
+unfolding as_list
+same-hidden w = refl
 
 pub register-list : (w : Window) (k x : ℕ) → IsRing w → as_listed (with_register (windowed w) k x) ≡ with_register (as_listed (windowed w)) k x
 unfolding as_list
@@ -73,6 +77,12 @@ cut-list w l = refl
 pub globals-list : (w : Window) (g : ℕ) → as_listed (with_global_start (windowed w) g) ≡ with_global_start (as_listed (windowed w)) g
 unfolding with_global_start as_list
 globals-list w g = refl
+
+-- a register that grew, part by part
+pub grown-is : (w : Window) (k x n : ℕ) (h : HiddenPart) (v : Registers) → is_marginal w.visible k ≡ true → n ≡ k → v ≡ with_value w.visible k x → h ≡ with_room w.hidden (n + 1) w.size → windowed (record { size = w.size; hidden = h; visible = v }) ≡ with_register (windowed w) k x
+grown-is w k x n h v m en ev eh =
+    let count : n + 1 ≡ length (with_value w.visible k x).locals = omega (arith, grown-count w.visible k x m) in
+    rw (eh, ev, count) (sym (register-grown (windowed w) k x m))
 
 -- PUSH
 

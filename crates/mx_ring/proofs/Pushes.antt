@@ -1,12 +1,12 @@
 -- PUSH by the place of its register.
-use Rattle.std.proofs.Common.{◌≡◌, ℕ, ◌+◌, ◌-◌, ◌≤◌, ◌<◌, true, List, [], ◌∷◌, ◌++◌, length, take, drop, replicate, arith, refl, sym, ◌∙◌, ap}
+use Rattle.std.proofs.Common.{◌≡◌, ℕ, ◌+◌, ◌-◌, ◌≤◌, ◌<◌, true, List, [], ◌∷◌, ◌++◌, length, take, drop, replicate, arith, refl, ◌∙◌, ap}
 use Rattle.std.proofs.lemmas.Bool.Decides.{nat_tests}
 use Rattle.std.proofs.lemmas.List.{append-nil, take_all, drop_all}
 use Rattle.mx_ring.specs.Bounds.{AreInBounds}
 use Rattle.mx_ring.specs.Laws.{HidesLocals}
 use Rattle.mx_ring.specs.RegisterList.{RegisterList}
 use Rattle.mx_ring.specs.Registers.{Registers, is_marginal, push_number, registers_below, registers_from}
-use Rattle.mx_ring.specs.Stack.{listed, pushed, with_pushed}
+use Rattle.mx_ring.specs.Stack.{listed, pushed}
 
 number-below : (v : Registers) (x : ℕ) → x < v.first_global → push_number v x ≡ x
 number-below v x f = grind (arith, nat_tests)

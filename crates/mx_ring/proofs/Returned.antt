@@ -1,7 +1,7 @@
 -- The results of POP among the registers below G.
-use Rattle.std.proofs.Common.{◌≡◌, ℕ, ◌+◌, ◌-◌, ◌≤◌, ◌<◌, List, [], ◌∷◌, ◌++◌, length, take, drop, set, replicate, min, arith, refl, sym, ◌∙◌, ap, ⊎_elim, suc}
+use Rattle.std.proofs.Common.{◌≡◌, ℕ, ◌+◌, ◌-◌, ◌≤◌, ◌<◌, List, ◌∷◌, ◌++◌, length, take, drop, set, replicate, min, arith, sym, ◌∙◌, ap, ⊎_elim, suc}
 use Rattle.std.proofs.lemmas.Bool.{cases_lt}
-use Rattle.std.proofs.lemmas.List.{append_assoc, append-nil, length-take, length-take-le, length-drop, length-append, length-replicate, take_at, take_all, take-take, take-append-le, drop_at, drop_all, drop-drop, drop-append-le, drop-replicate, replicate-append-replicate, set_split}
+use Rattle.std.proofs.lemmas.List.{append_assoc, length-take, length-take-le, length-append, take_at, take_all, take-take, take-append-le, drop_at, drop-drop, drop-replicate, replicate-append-replicate, set_split}
 use Rattle.std.proofs.Math.Seq.{take-append-add}
 use Rattle.mx_word.specs.Lists.{with_part, with_zeros}
 use Rattle.mx_ring.specs.Parts.{with_zeros_at}

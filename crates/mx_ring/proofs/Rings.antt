@@ -1,13 +1,12 @@
 -- Each operation keeps what holds of a ring at all times.
-use Rattle.std.proofs.Common.{◌≡◌, ℕ, ◌+◌, ◌-◌, ◌*◌, ◌^◌, ◌≤◌, ◌<◌, List, [], ◌∷◌, ◌++◌, length, take, drop, set, min, true, false, arith, refl, sym, subst, ◌∙◌, ap, ⊎_elim}
-use Rattle.std.proofs.lemmas.Bool.{cases_lt}
+use Rattle.std.proofs.Common.{◌≡◌, ℕ, ◌+◌, ◌-◌, ◌*◌, ◌^◌, ◌≤◌, ◌<◌, List, [], ◌∷◌, ◌++◌, length, take, drop, min, true, false, arith, refl, ◌∙◌, ap}
 use Rattle.std.proofs.lemmas.Bool.Decides.{nat_tests}
-use Rattle.std.proofs.lemmas.List.{append_assoc, append-nil, length-take, length-take-le, length-drop, length-append, length-replicate, length-set, take_all, drop_all}
+use Rattle.std.proofs.lemmas.List.{append_assoc, append-nil, length-take, length-take-le, length-drop, length-append, length-replicate, take_all}
 use Rattle.mx_ring.proofs.Octas.{Fits, length-octas, length-spilled, room-fits, room-octas, room-shorter, spilled-fits, spilled-octas, first-octas, first-fits, first-resident, hidden-octas, hidden-fits}
-use Rattle.mx_ring.proofs.Values.{with_value-global, with_value-bounds, locals-kept, locals-grown, locals-bounds, cut-bounds, from-bounds, globals-bounds}
+use Rattle.mx_ring.proofs.Values.{with_value-bounds, locals-kept, locals-grown, locals-bounds, cut-bounds, from-bounds, globals-bounds}
 use Rattle.mx_ring.specs.Bounds.{AreInBounds, IsRing}
-use Rattle.mx_ring.specs.Frames.{frame, frame_length, saved_specials, registers_around}
-use Rattle.mx_ring.specs.HiddenPart.{HiddenPart, octas_of, with_spilled, with_room, with_first, with_hidden, with_stack_first, with_octa}
+use Rattle.mx_ring.specs.Frames.{frame, frame_length, saved_specials}
+use Rattle.mx_ring.specs.HiddenPart.{HiddenPart, octas_of, with_spilled, with_room, with_first, with_hidden}
 use Rattle.mx_ring.specs.Registers.{Registers, is_marginal, with_value, with_locals_cut, with_globals_from, registers_below, registers_from, results, with_returned}
 use Rattle.mx_ring.specs.Window.{Window}
 use Rattle.mx_ring.specs.declared.saved.Saved.{Saved}
@@ -41,11 +40,15 @@ set-ring w k x r m =
     let local : k < w.visible.first_global → k < length w.visible.locals = grind (arith, nat_tests) in
     visible-ring w _ r (with_value-bounds w.visible k x r.registers) (omega (arith, locals-kept w.visible k x local))
 
+pub grown-count : (v : Registers) (k x : ℕ) → is_marginal v k ≡ true → length (with_value v k x).locals ≡ k + 1
+grown-count v k x m =
+    let below : k < v.first_global = grind (arith, nat_tests) in
+    let above : length v.locals ≤ k = grind (arith, nat_tests) in
+    locals-grown v k x below above
+
 pub grow-ring : (w : Window) (k x : ℕ) → IsRing w → is_marginal w.visible k ≡ true → length (octas_of w.hidden) + (k + 1) ≤ 2 ^ 20 → IsRing (record w { hidden = with_room w.hidden (length (with_value w.visible k x).locals) w.size; visible = with_value w.visible k x })
 grow-ring w k x r m f =
-    let below : k < w.visible.first_global = grind (arith, nat_tests) in
-    let above : length w.visible.locals ≤ k = grind (arith, nat_tests) in
-    room-ring w.size w.hidden (with_value w.visible k x) r.least_size (fits-of w r) (with_value-bounds w.visible k x r.registers) (omega (arith, locals-grown w.visible k x below above))
+    room-ring w.size w.hidden (with_value w.visible k x) r.least_size (fits-of w r) (with_value-bounds w.visible k x r.registers) (omega (arith, grown-count w.visible k x m))
 
 pub cut-ring : (w : Window) (l : ℕ) → IsRing w → l ≤ length w.visible.locals → IsRing (record w { visible = with_locals_cut w.visible l })
 cut-ring w l r f = visible-ring w _ r (cut-bounds w.visible l r.registers f) (omega (arith, length-take-le l w.visible.locals f))

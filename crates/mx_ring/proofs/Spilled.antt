@@ -1,15 +1,9 @@
 -- The hidden octas after they spill, come back or are read from the stack area.
-use Rattle.std.proofs.Common.{◌≡◌, ℕ, ◌+◌, ◌-◌, ◌≤◌, ◌<◌, List, [], ◌++◌, length, take, drop, min, arith, refl, sym, ◌∙◌, ap, ⊎_elim}
+use Rattle.std.proofs.Common.{◌≡◌, ℕ, ◌+◌, ◌-◌, ◌≤◌, ◌<◌, List, ◌++◌, length, take, drop, min, arith, refl, sym, ◌∙◌, ap, ⊎_elim}
 use Rattle.std.proofs.lemmas.Bool.{cases_lt}
-use Rattle.std.proofs.lemmas.List.{append_assoc, length-take, length-take-le, length-drop, length-append, take-append-drop, take_at, take-take, drop-take, drop_all}
-use Rattle.std.proofs.Math.Seq.{take-append-add}
+use Rattle.std.proofs.lemmas.List.{length-take, length-take-le, length-drop, length-append, take_at, take-take, drop-take, drop_all}
+use Rattle.std.proofs.Math.Seq.{take-add}
 use Rattle.mx_word.specs.Lists.{with_part}
-
--- a front in two parts
-pub take-parted : (xs : List ℕ) (s n : ℕ) → s ≤ length xs → take (s + n) xs ≡ take s xs ++ take n (drop s xs)
-take-parted xs s n f =
-    let size : length (take s xs) ≡ s = length-take-le s xs f in
-    ap (take (s + n)) (sym (take-append-drop s xs)) ∙ ap (λ m. take (m + n) (take s xs ++ drop s xs)) (sym size) ∙ take-append-add (take s xs) (drop s xs) n
 
 -- as many items in place of others
 pub length-with_part : (xs ys : List ℕ) (s : ℕ) → s + length ys ≤ length xs → length (with_part xs s ys) ≡ length xs
@@ -23,10 +17,10 @@ take-with_part xs ys s n f e =
     take_at (take s xs ++ ys) (drop (s + length ys) xs) (s + n) size
 
 -- the spilled octas stand in both places
-pub spilled-same : (octas stack stack' : List ℕ) (s n : ℕ) → s ≤ length octas → s ≤ length stack → n ≤ length octas - s → take s octas ≡ take s stack → stack' ≡ with_part stack s (take n (drop s octas)) → take (s + n) octas ≡ take (s + n) stack'
-spilled-same octas stack stack' s n f g h e es =
+pub spilled-same : (octas stack stack' : List ℕ) (s n : ℕ) → s ≤ length stack → n ≤ length octas - s → take s octas ≡ take s stack → stack' ≡ with_part stack s (take n (drop s octas)) → take (s + n) octas ≡ take (s + n) stack'
+spilled-same octas stack stack' s n g h e es =
     let size : n ≡ length (take n (drop s octas)) = sym (length-take-le n (drop s octas) (omega (arith, length-drop s octas))) in
-    rw es (take-parted octas s n f ∙ ap (λ ps. ps ++ take n (drop s octas)) e ∙ sym (take-with_part stack (take n (drop s octas)) s n g size))
+    rw es (take-add s n octas ∙ ap (λ ps. ps ++ take n (drop s octas)) e ∙ sym (take-with_part stack (take n (drop s octas)) s n g size))
 
 -- the resident octas once only the first n stay
 pub resident-first : (octas : List ℕ) (s n : ℕ) → drop (min s n) (take n octas) ≡ take (n - s) (drop s octas)
@@ -50,4 +44,4 @@ stack-read octas stack octas' s n start f es e eo =
     let low : take start octas ≡ take start stack =
     sym (take-take start s octas (omega arith)) ∙ ap (take start) e ∙ take-take start s stack (omega arith) in
     let parted : start + (n - start) ≡ n = omega arith in
-    eo ∙ ap (λ ps. ps ++ take (n - start) (drop start stack)) low ∙ sym (take-parted stack start (n - start) (omega arith)) ∙ ap (λ m. take m stack) parted
+    eo ∙ ap (λ ps. ps ++ take (n - start) (drop start stack)) low ∙ sym (take-add start (n - start) stack) ∙ ap (λ m. take m stack) parted

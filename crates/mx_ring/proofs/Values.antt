@@ -2,7 +2,7 @@
 use Rattle.std.proofs.Common.{◌≡◌, ℕ, ◌+◌, ◌-◌, ◌≤◌, ◌<◌, List, [], ◌∷◌, ◌++◌, length, take, drop, set, replicate, max, false, true, arith, refl, sym, subst, ◌∙◌, ap, ⊎_elim}
 use Rattle.std.proofs.lemmas.Bool.{cases_lt}
 use Rattle.std.proofs.lemmas.Bool.Decides.{nat_tests}
-use Rattle.std.proofs.lemmas.List.{append_assoc, length-append, length-replicate, length-set, length-drop, length-take-le, take_at, drop_at, take-append-le, drop-append-le, drop_all, drop-replicate, drop-drop, replicate-append-replicate, set-append_left, set-append_right, set_at}
+use Rattle.std.proofs.lemmas.List.{append_assoc, length-append, length-replicate, length-set, length-drop, length-take-le, take_at, drop_at, take-append-le, drop-append-le, drop_all, drop-drop, replicate-append-replicate, set-append_left, set-append_right, set_at}
 use Rattle.mx_ring.specs.Bounds.{AreInBounds}
 use Rattle.mx_ring.specs.Parts.{all_values, registers_in, HoldsRegisters, with_zeros_at}
 use Rattle.mx_ring.specs.Registers.{Registers, is_marginal, with_value, with_locals_cut, with_globals_from, registers_from}

@@ -1,5 +1,5 @@
 -- What holds of the registers and of a ring at all times.
-use Rattle.std.specs.Prelude.{ℕ, ◌+◌, ◌^◌, ◌≡◌, ◌≤◌, ◌<◌, length}
+use Rattle.std.specs.Prelude.{◌+◌, ◌^◌, ◌≡◌, ◌≤◌, ◌<◌, length}
 use Rattle.mx_ring.specs.HiddenPart.{octas_of}
 use Rattle.mx_ring.specs.Registers.{Registers}
 use Rattle.mx_ring.specs.Window.{Window}

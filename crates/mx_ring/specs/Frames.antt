@@ -1,5 +1,5 @@
 -- Frames: what SAVE hides and UNSAVE reads back (MMIXware, the part on MMIX, SAVE and UNSAVE).
-use Rattle.std.specs.Prelude.{ℕ, ◌+◌, ◌-◌, ◌*◌, ◌/◌, ◌%◌, ◌^◌, ◌||◌, Bool, nat_lt, if◌then◌else◌, List, [], ◌∷◌, ◌++◌, length, take, drop, slice_index}
+use Rattle.std.specs.Prelude.{ℕ, ◌+◌, ◌-◌, ◌*◌, ◌/◌, ◌%◌, ◌^◌, ◌||◌, Bool, nat_lt, List, [], ◌∷◌, ◌++◌, length, take, drop, slice_index}
 use Rattle.mx_ring.specs.Registers.{Registers}
 use Rattle.mx_ring.specs.declared.saved.Saved.{Saved}
 

@@ -1,6 +1,6 @@
--- The hidden octas of a window: the older ones lie in the stack area, the others in the ring (MMIXware, the part on MMIX,
--- rO and rS).
-use Rattle.std.specs.Prelude.{ℕ, ◌+◌, ◌-◌, min, nat_lt, if◌then◌else◌, List, [], ◌++◌, length, take, drop, replicate, slice_set}
+-- The hidden octas of a window: the older ones lie in the stack area, the others in the ring (MMIXware, the part on
+-- MMIX, rO and rS).
+use Rattle.std.specs.Prelude.{ℕ, ◌+◌, ◌-◌, ◌^◌, min, nat_lt, if◌then◌else◌, List, [], ◌++◌, length, take, drop, replicate, slice_set}
 use Rattle.mx_word.specs.Lists.{with_part}
 
 pub record HiddenPart : Type 0 where
@@ -14,6 +14,10 @@ pub record HiddenPart : Type 0 where
 -- n zeros
 unfoldable pub zeros : ℕ → List ℕ
 zeros n = replicate n 0
+
+-- nothing is hidden, and the stack area has 2^20 zeros
+abbrev pub nothing_hidden : HiddenPart
+nothing_hidden = record { stack = zeros (2 ^ 20); spilled = 0; resident = [] }
 
 -- all hidden octas, the oldest first
 abbrev pub octas_of : HiddenPart → List ℕ

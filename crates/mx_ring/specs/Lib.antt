@@ -1,4 +1,5 @@
 pub mod Bounds
+pub mod Calls
 pub mod Frames
 pub mod HiddenPart
 pub mod Kept

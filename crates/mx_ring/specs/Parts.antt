@@ -1,5 +1,5 @@
 -- How the registers and the hidden octas are kept, and the pieces that the operations on them are made of.
-use Rattle.std.specs.Prelude.{ℕ, ◌+◌, ◌-◌, ◌^◌, ◌≡◌, ◌≤◌, List, ◌++◌, length, take, drop, replicate}
+use Rattle.std.specs.Prelude.{ℕ, ◌-◌, ◌^◌, ◌≡◌, ◌≤◌, List, ◌++◌, length, take, drop, replicate}
 use Rattle.std.specs.Vec.{vec_capacity}
 use Rattle.mx_ring.specs.Bounds.{AreInBounds}
 use Rattle.mx_ring.specs.HiddenPart.{HiddenPart}

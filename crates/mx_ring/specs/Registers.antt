@@ -1,6 +1,6 @@
 -- The 256 registers that an instruction sees (MMIXware, the part on MMIX, "The register stack"; TAOCP 1, Fascicle 1,
 -- section 1.4.1').
-use Rattle.std.specs.Prelude.{ℕ, ◌+◌, ◌-◌, ◌==◌, ◌&&◌, Bool, nat_lt, nat_le, if◌then◌else◌, List, [], ◌∷◌, ◌++◌, length, take, drop, replicate, slice_index, slice_set}
+use Rattle.std.specs.Prelude.{ℕ, ◌-◌, ◌==◌, ◌&&◌, Bool, nat_lt, nat_le, if◌then◌else◌, List, [], ◌∷◌, ◌++◌, length, take, drop, replicate, slice_index, slice_set}
 
 -- $k is global from G on, local below L, which is the number of locals, and otherwise marginal.
 pub record Registers : Type 0 where

@@ -35,10 +35,14 @@ abbrev pub spilled_count : Stack → ℕ
 spilled_count (listed r) = 0
 spilled_count (windowed w) = w.hidden.spilled
 
+-- the list that a window stands for, as a stack
+abbrev pub list_of : Window → Stack
+list_of w = listed (as_list w)
+
 -- the stack as a list
 abbrev pub as_listed : Stack → Stack
 as_listed (listed r) = listed r
-as_listed (windowed w) = listed (as_list w)
+as_listed (windowed w) = list_of w
 
 -- WHAT AN OPERATION CHANGES
 
@@ -106,9 +110,13 @@ with_global_start s g = with_visible s (with_globals_from (visible s) g)
 unfoldable pub push_overfills : Stack → ℕ → Bool
 push_overfills s x = is_too_many (hidden_count s + max (push_number (visible s) x + 1) (local_count s))
 
--- the first n registers and the number n are hidden; $n is gone, and the locals above it become $0 and so on
+-- the octas that PUSH hides, with n the number: the first n registers and n
+abbrev pub pushed_octas : Registers → ℕ → List ℕ
+pushed_octas v n = registers_below v n ++ n ∷ []
+
+-- they are hidden; $n is gone, and the locals above it become $0 and so on
 abbrev pub with_pushed : Stack → ℕ → Stack
-with_pushed s n = after_growth (with_more s (registers_below (visible s) n ++ n ∷ []) (registers_from (visible s) (n + 1)))
+with_pushed s n = after_growth (with_more s (pushed_octas (visible s) n) (registers_from (visible s) (n + 1)))
 
 unfoldable pub pushed : Stack → ℕ → Stack
 pushed s x = with_pushed s (push_number (visible s) x)
@@ -123,10 +131,14 @@ hole_in octas = slice_index octas (length octas - 1) % 256
 unfoldable pub pop_underflows : Stack → Bool
 pop_underflows s = nat_le (hidden_count s) (hole_in (hidden_octas s))
 
--- the last k octas but one are $0 to $(k-1) again, the results follow, and what was below these octas stays hidden
+-- where POP leaves k + 1 octas less hidden, those of them that come back: all but the last
+abbrev pub popped_octas : List ℕ → ℕ → List ℕ
+popped_octas octas k = take k (drop (length octas - (k + 1)) octas)
+
+-- they are $0 to $(k-1) again, and the results follow
 abbrev pub with_popped : Stack → ℕ → ℕ → Stack
 with_popped s k x =
-    with_fewer s (hidden_count s - (k + 1)) (with_returned (visible s) (take k (drop (hidden_count s - (k + 1)) (hidden_octas s))) x)
+    with_fewer s (hidden_count s - (k + 1)) (with_returned (visible s) (popped_octas (hidden_octas s) k) x)
 
 unfoldable pub popped : Stack → ℕ → Stack
 popped s x = with_popped s (hole_in (hidden_octas s)) x
@@ -163,10 +175,13 @@ save_overfills s = is_too_many (hidden_count s + frame_length (visible s).first_
 abbrev pub frame_top : Stack → ℕ
 frame_top s = hidden_count s + frame_length (visible s).first_global (local_count s) - 1
 
--- SAVE: a frame is hidden, no register is local, and the global $X becomes the address of the frame's last octa
+-- SAVE: no register is local, and the global $X becomes the address of the frame's last octa
+abbrev pub saved_registers : Stack → ℕ → Registers
+saved_registers s x = with_value (with_locals_cut (visible s) 0) x (stack_address (frame_top s))
+
+-- the frame is hidden, and lies in memory with all that was hidden before
 unfoldable pub saved : Stack → ℕ → Saved → Stack
-saved s x specials =
-    all_in_memory (with_more s (frame (visible s) specials) (with_value (with_locals_cut (visible s) 0) x (stack_address (frame_top s))))
+saved s x specials = all_in_memory (with_more s (frame (visible s) specials) (saved_registers s x))
 
 -- UNSAVE
 

@@ -1,7 +1,7 @@
 -- The register stack as a window: a ring of so many registers, and a stack area in memory (MMIXware, the part on MMIX,
 -- rO and rS).
-use Rattle.std.specs.Prelude.{ℕ, ◌^◌, []}
-use Rattle.mx_ring.specs.HiddenPart.{HiddenPart, octas_of, zeros}
+use Rattle.std.specs.Prelude.{ℕ}
+use Rattle.mx_ring.specs.HiddenPart.{HiddenPart, octas_of, nothing_hidden}
 use Rattle.mx_ring.specs.RegisterList.{RegisterList}
 use Rattle.mx_ring.specs.Registers.{Registers, registers_at_start}
 
@@ -13,10 +13,9 @@ pub record Window : Type 0 where
   -- the registers that an instruction sees
   pub visible : Registers
 
--- at the start nothing is hidden, and the stack area has zeros
+-- at the start, with so many registers
 abbrev pub window_at_start : ℕ → Window
-window_at_start size =
-    record { size = size; hidden = record { stack = zeros (2 ^ 20); spilled = 0; resident = [] }; visible = registers_at_start }
+window_at_start size = record { size = size; hidden = nothing_hidden; visible = registers_at_start }
 
 -- the list that a window stands for
 unfoldable pub as_list : Window → RegisterList

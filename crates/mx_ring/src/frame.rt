@@ -22,7 +22,8 @@ pub(crate) fn upper_octas(s: &Saved, g: usize) -> [u64; 13]
 pub(crate) fn frame_at(octas: &[u64], i: usize) -> Option<(usize, usize)>
     requires inside { i < length octas.now }
     requires few { i < 2 ^ 20 }
-    ensures value { result ≡ (if is_bad_frame octas.now i then None else Some (frame_global octas.now i, frame_locals octas.now i)) }
+    ensures value { result ≡ (if is_bad_frame octas.now i then None
+        else Some (frame_global octas.now i, frame_locals octas.now i)) }
     ensures bounds { IfSome result (λ f. (32 ≤ f.0) × (f.0 ≤ 255) × (f.1 + 269 ≤ i + f.0)) }
 {
     let g = (octas[i] >> 56) as usize;

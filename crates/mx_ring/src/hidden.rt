@@ -3,7 +3,7 @@
 ghost use Rattle.std.specs.Prelude.{◌≡◌, ◌≤◌, ◌<◌, ◌+◌, ◌-◌, ◌^◌, ◌++◌, [], IfOk, OnErr, Err, length, replicate, slice_index};
 ghost use Rattle.std.specs.Vec.{vec_len, vec_capacity};
 ghost use Rattle.mx_word.specs.Lists.{with_part};
-ghost use Rattle.mx_ring.specs.HiddenPart.{octas_of, with_hidden, with_spilled, with_room, with_first, with_stack_first, with_octa, zeros};
+ghost use Rattle.mx_ring.specs.HiddenPart.{octas_of, with_hidden, with_spilled, with_room, with_first, with_stack_first, with_octa, nothing_hidden, zeros};
 
 use crate::RingFault;
 use crate::slices::put;
@@ -68,7 +68,7 @@ fn zeros(alloc: Global, n: usize) -> Result<Vec<u64>, AllocError>
 impl Hidden {
     /// Nothing is hidden, and the stack area has zeros. The room for all octas is taken at once.
     pub(crate) fn new(alloc: Global) -> Result<Hidden, RingFault>
-        ensures begin { IfOk result (λ h. h ≡ record { stack = zeros (2 ^ 20); spilled = 0; resident = [] }) }
+        ensures begin { IfOk result (λ h. h ≡ nothing_hidden) }
         ensures memory { OnErr result (result ≡ Err RingFault.OutOfMemory) }
     {
         Ok(Hidden {

@@ -20,8 +20,8 @@ mod visible;
 pub use fault::RingFault;
 pub use laws::{
     calls_go_as_lists, calls_keep_rings, frames_come_back, frames_go_as_lists, frames_keep_rings,
-    pushes_go_by_place, refusals_are_those_of_lists, spilled_octas_are_counted, spilled_octas_are_hidden,
-    writes_go_as_lists, writes_keep_rings,
+    lists_show_the_same, pushes_go_by_place, refusals_are_those_of_lists,
+    spilled_octas_are_counted, spilled_octas_are_hidden, writes_go_as_lists, writes_keep_rings,
 };
 pub use ring::Ring;
 pub use saved::Saved;

@@ -12,7 +12,8 @@ pub(crate) fn bring_back(front: &mut [u64], l: usize, octas: &[u64], x: usize) -
     requires locals { l ≤ length front.old }
     requires zeros { front.old ≡ with_zeros (take l front.old) (length front.old) }
     ensures count { result ≡ length (take (length front.old) (octas.now ++ results (take l front.old) x)) }
-    ensures front { front.new ≡ with_zeros (take (length front.old) (octas.now ++ results (take l front.old) x)) (length front.old) }
+    ensures front { front.new
+        ≡ with_zeros (take (length front.old) (octas.now ++ results (take l front.old) x)) (length front.old) }
 {
     let room = front.len();
     if octas.len() >= room {
@@ -33,7 +34,8 @@ fn put_results(front: &mut [u64], l: usize, x: usize, hole: usize) -> usize
     requires locals { l ≤ length front.old }
     requires inside { hole < length front.old }
     ensures count { result ≡ length (take (length front.old - hole) (results (take l front.old) x)) }
-    ensures placed { front.new ≡ with_part front.old hole (take (length front.old - hole) (results (take l front.old) x)) }
+    ensures placed { front.new
+        ≡ with_part front.old hole (take (length front.old - hole) (results (take l front.old) x)) }
 {
     if x == 0 {
         return 0;
@@ -51,7 +53,8 @@ fn put_first(front: &mut [u64], main: u64, count: usize, hole: usize) -> usize
     requires among { count ≤ length front.old }
     requires inside { hole < length front.old }
     ensures count { result ≡ length (take (length front.old - hole) (main ∷ take count front.old)) }
-    ensures placed { front.new ≡ with_part front.old hole (take (length front.old - hole) (main ∷ take count front.old)) }
+    ensures placed { front.new
+        ≡ with_part front.old hole (take (length front.old - hole) (main ∷ take count front.old)) }
 {
     let others = count.min(front.len() - hole - 1);
     copy(front, 0, others, hole + 1);

@@ -2,13 +2,13 @@
 
 ghost use Rattle.std.specs.Prelude.{◌≡◌, ◌≤◌, ◌<◌, ◌+◌, ◌-◌, ◌^◌, if◌then◌else◌, None, Some, Ok, Err, IfOk, OnOk, OnErr, true, false, length, nat_le};
 ghost use Rattle.mx_ring.specs.Bounds.{AreInBounds, IsRing};
+ghost use Rattle.mx_ring.specs.Calls.{set_answer, push_answer, pop_answer, save_answer, frame_answer, unsave_answer};
 ghost use Rattle.mx_ring.specs.Frames.{frame, frame_length, is_bad_frame};
 ghost use Rattle.mx_ring.specs.HiddenPart.{octas_of, with_hidden};
 ghost use Rattle.mx_ring.specs.Kept.{KeepsFrame};
 ghost use Rattle.mx_ring.specs.Laws.{IsOutsideOrSpilled};
 ghost use Rattle.mx_ring.specs.Registers.{is_marginal};
-ghost use Rattle.mx_ring.specs.RingFaults.{refused_where};
-ghost use Rattle.mx_ring.specs.Stack.{windowed, as_listed, hidden_count, local_count, spilled_count, register, set_overfills, with_register, cut_to, with_global_start, push_overfills, pushed, with_pushed, hole_in, pop_underflows, popped, with_popped, stack_address, in_stack_area, stack_index, stack_octa, with_stack_octa, frame_top, save_overfills, saved, unsave_refused, octas_to, unsaved_specials, unsaved};
+ghost use Rattle.mx_ring.specs.Stack.{windowed, list_of, hidden_count, local_count, spilled_count, register, set_overfills, with_register, cut_to, with_global_start, push_overfills, pushed, with_pushed, hole_in, pop_underflows, popped, with_popped, stack_address, in_stack_area, stack_index, stack_octa, with_stack_octa, frame_top, save_overfills, saved, unsave_refused, octas_to, unsaved_specials, unsaved};
 ghost use Rattle.mx_ring.specs.Window.{window_at_start};
 
 use crate::frame::{frame_at, specials_at, upper_octas};
@@ -81,7 +81,7 @@ impl Ring {
     /// The number of hidden registers, at most 2^20 less L.
     pub fn hidden(&self) -> u32
         ensures value { result ≡ hidden_count (windowed self.now) }
-        ensures list { result ≡ hidden_count (as_listed (windowed self.now)) }
+        ensures list { result ≡ hidden_count (list_of self.now) }
         ensures bounds { IsRing self.now }
     {
         self.hidden.len() as u32
@@ -98,7 +98,7 @@ impl Ring {
     /// rO: the address where the next hidden register goes.
     pub fn ro(&self) -> u64
         ensures value { result ≡ stack_address (hidden_count (windowed self.now)) }
-        ensures list { result ≡ stack_address (hidden_count (as_listed (windowed self.now))) }
+        ensures list { result ≡ stack_address (hidden_count (list_of self.now)) }
     {
         BASE + 8 * self.hidden.len() as u64
     }
@@ -114,7 +114,7 @@ impl Ring {
     #[inline(always)]
     pub fn get(&self, k: u8) -> u64
         ensures value { result ≡ register (windowed self.now) k }
-        ensures list { result ≡ register (as_listed (windowed self.now)) k }
+        ensures list { result ≡ register (list_of self.now) k }
     {
         self.visible.get(k)
     }
@@ -126,10 +126,10 @@ impl Ring {
     /// nothing changed.
     #[inline(always)]
     pub fn set(&mut self, k: u8, x: u64) -> Result<(), RingFault>
-        ensures answer { result ≡ refused_where (set_overfills (windowed self.old) k) RingFault.StackFull }
+        ensures answer { result ≡ set_answer (windowed self.old) k }
         ensures ok { OnOk result (windowed self.new ≡ with_register (windowed self.old) k x) }
-        ensures list_answer { result ≡ refused_where (set_overfills (as_listed (windowed self.old)) k) RingFault.StackFull }
-        ensures list { OnOk result (as_listed (windowed self.new) ≡ with_register (as_listed (windowed self.old)) k x) }
+        ensures list_answer { result ≡ set_answer (list_of self.old) k }
+        ensures list { OnOk result (list_of self.new ≡ with_register (list_of self.old) k x) }
         ensures err { OnErr result (self.new ≡ self.old) }
     {
         if self.visible.is_marginal(k) {
@@ -143,18 +143,17 @@ impl Ring {
     #[inline(never)]
     fn grow(&mut self, k: u8, x: u64) -> Result<(), RingFault>
         requires { is_marginal self.old.visible k ≡ true }
-        ensures answer { result ≡ refused_where (set_overfills (windowed self.old) k) RingFault.StackFull }
+        ensures answer { result ≡ set_answer (windowed self.old) k }
         ensures ok { OnOk result (windowed self.new ≡ with_register (windowed self.old) k x) }
-        ensures list_answer { result ≡ refused_where (set_overfills (as_listed (windowed self.old)) k) RingFault.StackFull }
-        ensures list { OnOk result (as_listed (windowed self.new) ≡ with_register (as_listed (windowed self.old)) k x) }
+        ensures list_answer { result ≡ set_answer (list_of self.old) k }
+        ensures list { OnOk result (list_of self.new ≡ with_register (list_of self.old) k x) }
         ensures err { OnErr result (self.new ≡ self.old) }
     {
         if self.hidden.len() + usize::from(k) + 1 > ROOM {
             return Err(RingFault::StackFull);
         }
         self.visible.add(k, x);
-        self.hidden
-            .make_room(self.visible.local_count(), self.size);
+        self.hidden.make_room(usize::from(k) + 1, self.size);
         Ok(())
     }
 
@@ -162,7 +161,7 @@ impl Ring {
     pub fn cut_locals(&mut self, l: u8)
         requires { l ≤ local_count (windowed self.old) }
         ensures window { windowed self.new ≡ cut_to (windowed self.old) l }
-        ensures list { as_listed (windowed self.new) ≡ cut_to (as_listed (windowed self.old)) l }
+        ensures list { list_of self.new ≡ cut_to (list_of self.old) l }
     {
         self.visible.cut(usize::from(l));
     }
@@ -172,7 +171,7 @@ impl Ring {
         requires least { 32 ≤ g }
         requires not_local { local_count (windowed self.old) ≤ g }
         ensures window { windowed self.new ≡ with_global_start (windowed self.old) g }
-        ensures list { as_listed (windowed self.new) ≡ with_global_start (as_listed (windowed self.old)) g }
+        ensures list { list_of self.new ≡ with_global_start (list_of self.old) g }
     {
         self.visible.set_globals_from(usize::from(g));
     }
@@ -183,10 +182,10 @@ impl Ring {
     /// Errors: `StackFull` exactly where that would make hidden and local registers pass 2^20; then
     /// nothing changed.
     pub fn push(&mut self, x: u8) -> Result<(), RingFault>
-        ensures answer { result ≡ refused_where (push_overfills (windowed self.old) x) RingFault.StackFull }
+        ensures answer { result ≡ push_answer (windowed self.old) x }
         ensures ok { OnOk result (windowed self.new ≡ pushed (windowed self.old) x) }
-        ensures list_answer { result ≡ refused_where (push_overfills (as_listed (windowed self.old)) x) RingFault.StackFull }
-        ensures list { OnOk result (as_listed (windowed self.new) ≡ pushed (as_listed (windowed self.old)) x) }
+        ensures list_answer { result ≡ push_answer (list_of self.old) x }
+        ensures list { OnOk result (list_of self.new ≡ pushed (list_of self.old) x) }
         ensures err { OnErr result (self.new ≡ self.old) }
     {
         let count = self.visible.push_number(x);
@@ -207,8 +206,7 @@ impl Ring {
         self.hidden.append(self.visible.below(count));
         self.hidden.append(&[count as u64]);
         self.visible.keep_from(count + 1);
-        self.hidden
-            .make_room(self.visible.local_count(), self.size);
+        self.hidden.make_room(self.visible.local_count(), self.size);
     }
 
     /// POP: the registers that were hidden last come back, and X results follow them. The first
@@ -218,10 +216,10 @@ impl Ring {
     /// Errors: `Underflow` exactly where nothing is hidden, or less than the number says; then
     /// nothing changed.
     pub fn pop(&mut self, x: u8) -> Result<(), RingFault>
-        ensures answer { result ≡ refused_where (pop_underflows (windowed self.old)) RingFault.Underflow }
+        ensures answer { result ≡ pop_answer (windowed self.old) }
         ensures ok { OnOk result (windowed self.new ≡ popped (windowed self.old) x) }
-        ensures list_answer { result ≡ refused_where (pop_underflows (as_listed (windowed self.old))) RingFault.Underflow }
-        ensures list { OnOk result (as_listed (windowed self.new) ≡ popped (as_listed (windowed self.old)) x) }
+        ensures list_answer { result ≡ pop_answer (list_of self.old) }
+        ensures list { OnOk result (list_of self.new ≡ popped (list_of self.old) x) }
         ensures err { OnErr result (self.new ≡ self.old) }
     {
         match hole(self.hidden.octas()) {
@@ -272,11 +270,11 @@ impl Ring {
     pub fn save(&mut self, x: u8, s: &Saved) -> Result<(), RingFault>
         requires global { self.old.visible.first_global ≤ x }
         requires event_bits { s.now.a < 2 ^ 18 }
-        ensures answer { result ≡ refused_where (save_overfills (windowed self.old)) RingFault.StackFull }
+        ensures answer { result ≡ save_answer (windowed self.old) }
         ensures ok { OnOk result (windowed self.new ≡ saved (windowed self.old) x s.now) }
-        ensures list_answer { result ≡ refused_where (save_overfills (as_listed (windowed self.old))) RingFault.StackFull }
-        ensures list { OnOk result (as_listed (windowed self.new) ≡ saved (as_listed (windowed self.old)) x s.now) }
-        ensures comes_back { OnOk result (KeepsFrame (windowed self.old) (windowed self.new) (frame_top (windowed self.old)) s.now) }
+        ensures list_answer { result ≡ save_answer (list_of self.old) }
+        ensures list { OnOk result (list_of self.new ≡ saved (list_of self.old) x s.now) }
+        ensures comes_back { OnOk result (KeepsFrame (windowed self.old) (windowed self.new) s.now) }
         ensures err { OnErr result (self.new ≡ self.old) }
     {
         let l = self.visible.local_count();
@@ -310,10 +308,11 @@ impl Ring {
     /// Errors: `BadFrame` exactly where the address is not in the stack area, which is the 2^23 bytes
     /// from Stack_Segment on, or the frame reaches below it, or has a G below 32; then nothing changed.
     pub fn unsave(&mut self, a: u64) -> Result<Saved, RingFault>
-        ensures answer { result ≡ (if unsave_refused (windowed self.old) a then Err RingFault.BadFrame else Ok (unsaved_specials (windowed self.old) (stack_index a))) }
+        ensures answer { result ≡ unsave_answer (windowed self.old) a }
         ensures ok { OnOk result (windowed self.new ≡ unsaved (windowed self.old) (stack_index a)) }
-        ensures list_answer { IsOutsideOrSpilled self.old a → result ≡ (if unsave_refused (as_listed (windowed self.old)) a then Err RingFault.BadFrame else Ok (unsaved_specials (as_listed (windowed self.old)) (stack_index a))) }
-        ensures list { IsOutsideOrSpilled self.old a → OnOk result (as_listed (windowed self.new) ≡ unsaved (as_listed (windowed self.old)) (stack_index a)) }
+        ensures list_answer { IsOutsideOrSpilled self.old a → result ≡ unsave_answer (list_of self.old) a }
+        ensures list { IsOutsideOrSpilled self.old a
+            → OnOk result (list_of self.new ≡ unsaved (list_of self.old) (stack_index a)) }
         ensures err { OnErr result (self.new ≡ self.old) }
     {
         if a < BASE || a >= END {
@@ -325,10 +324,11 @@ impl Ring {
     /// Brings the registers of the frame back whose last octa is at an index of the stack area.
     fn unsave_at(&mut self, i: usize) -> Result<Saved, RingFault>
         requires { i < 2 ^ 20 }
-        ensures answer { result ≡ (if is_bad_frame (octas_to (windowed self.old) i) i then Err RingFault.BadFrame else Ok (unsaved_specials (windowed self.old) i)) }
+        ensures answer { result ≡ frame_answer (windowed self.old) i }
         ensures ok { OnOk result (windowed self.new ≡ unsaved (windowed self.old) i) }
-        ensures list_answer { i < spilled_count (windowed self.old) → result ≡ (if is_bad_frame (octas_to (as_listed (windowed self.old)) i) i then Err RingFault.BadFrame else Ok (unsaved_specials (as_listed (windowed self.old)) i)) }
-        ensures list { i < spilled_count (windowed self.old) → OnOk result (as_listed (windowed self.new) ≡ unsaved (as_listed (windowed self.old)) i) }
+        ensures list_answer { i < spilled_count (windowed self.old) → result ≡ frame_answer (list_of self.old) i }
+        ensures list { i < spilled_count (windowed self.old)
+            → OnOk result (list_of self.new ≡ unsaved (list_of self.old) i) }
         ensures err { OnErr result (self.new ≡ self.old) }
     {
         let octas = &self.hidden.stack()[..i + 1];
@@ -369,7 +369,8 @@ fn hole(octas: &[u64]) -> Option<usize>
 fn hide_registers(hidden: &mut Hidden, visible: &Visible, s: &Saved)
     requires event_bits { s.now.a < 2 ^ 18 }
     requires bounds { AreInBounds visible.now }
-    requires room { length (octas_of hidden.old) + frame_length visible.now.first_global (length visible.now.locals) ≤ 2 ^ 20 }
+    requires room { length (octas_of hidden.old)
+        + frame_length visible.now.first_global (length visible.now.locals) ≤ 2 ^ 20 }
     ensures { hidden.new ≡ with_hidden hidden.old (frame visible.now s.now) }
 {
     let l = visible.local_count();

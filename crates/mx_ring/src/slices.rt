@@ -26,7 +26,8 @@ pub(crate) fn copy(items: &mut [u64], from: usize, to: usize, place: usize)
     requires forward { from ≤ to }
     requires inside { to ≤ length items.old }
     requires fits { place + (to - from) ≤ length items.old }
-    ensures { items.new ≡ take place items.old ++ take (to - from) (drop from items.old) ++ drop (place + (to - from)) items.old }
+    ensures { items.new
+        ≡ take place items.old ++ take (to - from) (drop from items.old) ++ drop (place + (to - from)) items.old }
 {
     items.copy_within(from..to, place);
 }

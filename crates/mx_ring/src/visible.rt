@@ -152,7 +152,12 @@ impl Visible {
         ensures { self.new ≡ registers_from self.old n }
     {
         let count = self.local_count.saturating_sub(n);
-        copy(&mut self.values, self.local_count - count, self.local_count, 0);
+        copy(
+            &mut self.values,
+            self.local_count - count,
+            self.local_count,
+            0,
+        );
         clear(&mut self.values, count, self.local_count);
         self.local_count = count;
     }
@@ -167,19 +172,19 @@ impl Visible {
         self.local_count = bring_back(&mut self.values[..room], local_count, octas, x);
     }
 
-    /// The registers become those with G = `g`, these globals and these locals, as far as they are
+    /// The registers become those with this G, these globals and these locals, as far as they are
     /// below G.
-    pub(crate) fn restore(&mut self, g: usize, locals: &[u64], globals: &[u64])
-        requires least { 32 ≤ g }
-        requires all { g + length globals.now ≡ 256 }
+    pub(crate) fn restore(&mut self, first_global: usize, locals: &[u64], globals: &[u64])
+        requires least { 32 ≤ first_global }
+        requires all { first_global + length globals.now ≡ 256 }
         requires some { 0 < length globals.now }
-        ensures { self.new ≡ record { locals = take g locals.now; first_global = g; globals = globals.now } }
+        ensures { self.new ≡ record { locals = take first_global locals.now; first_global = first_global; globals = globals.now } }
     {
-        let count = g.min(locals.len());
+        let count = first_global.min(locals.len());
         put(&mut self.values, 0, &locals[..count]);
-        clear(&mut self.values, count, g);
-        put(&mut self.values, g, globals);
-        self.first_global = g;
+        clear(&mut self.values, count, first_global);
+        put(&mut self.values, first_global, globals);
+        self.first_global = first_global;
         self.local_count = count;
     }
 }

@@ -1,4 +1,4 @@
-use Rattle.std.proofs.Common.{◌+◌, length, take, arith, refl}
+use Rattle.std.proofs.Common.{◌+◌, length, take, arith}
 use Rattle.mx_ring.proofs.Returned.{returned-above, returned-below}
 use Rattle.mx_ring.specs.Registers.{results}
 use Rattle.mx_ring.proofs.results.bring_back.Goals as goal

@@ -1,4 +1,4 @@
-use Rattle.std.proofs.Common.{◌≡◌, ◌+◌, ◌*◌, ◌^◌, ◌∷◌, [], ◌++◌, List, ℕ, ◌∙◌, ap}
+use Rattle.std.proofs.Common.{◌≡◌, ◌+◌, ◌*◌, ◌^◌, ◌∷◌, [], ◌++◌}
 use Rattle.mx_ring.proofs.Rings.{frame-hidden}
 use Rattle.mx_ring.specs.Frames.{saved_specials}
 use Rattle.mx_ring.proofs.ring.hide_registers.Goals as goal

@@ -1,5 +1,4 @@
-use Rattle.std.proofs.Common.{arith, refl}
-use Rattle.std.proofs.lemmas.Grind.{common_steps}
+use Rattle.std.proofs.Common.{refl}
 use Rattle.mx_ring.proofs.Spilled.{resident-first}
 use Rattle.mx_ring.specs.HiddenPart.{with_first}
 use Rattle.mx_ring.proofs.hidden.Hidden.keep_first.Goals as goal

@@ -17,7 +17,7 @@ invariant_of-self c =
     let fits : s + length (take c.args.n (drop s octas)) ≤ length stack = omega (arith, c.self.invariant.all_stack, c.self.invariant.has_room, c.self.invariant.spilled_are_hidden) in
     record {
       spilled_are_hidden = omega (arith, c.self.invariant.spilled_are_hidden);
-      same_spilled = spilled-same octas stack _ s c.args.n c.self.invariant.spilled_are_hidden below (omega arith) c.self.invariant.same_spilled part;
+      same_spilled = spilled-same octas stack _ s c.args.n below (omega arith) c.self.invariant.same_spilled part;
       all_stack = omega (arith, ap length part, length-with_part stack (take c.args.n (drop s octas)) s fits, c.self.invariant.all_stack);
       has_room = c.self.invariant.has_room;
       has_memory = c.self.invariant.has_memory;

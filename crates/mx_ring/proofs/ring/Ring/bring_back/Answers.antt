@@ -1,4 +1,4 @@
-use Rattle.std.proofs.Common.{◌≡◌, ◌≤◌, ◌<◌, ◌+◌, ◌-◌, length, take, drop, arith}
+use Rattle.std.proofs.Common.{◌<◌, length, arith}
 use Rattle.std.proofs.lemmas.List.{length-take}
 use Rattle.mx_ring.proofs.Rings.{pop-ring}
 use Rattle.mx_ring.specs.HiddenPart.{octas_of}

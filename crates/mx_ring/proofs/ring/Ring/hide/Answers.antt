@@ -1,7 +1,7 @@
-use Rattle.std.proofs.Common.{◌≡◌, ◌≤◌, ◌+◌, ◌^◌, ◌∷◌, [], ◌++◌, length, arith, ◌∙◌, ap}
+use Rattle.std.proofs.Common.{◌≡◌, ◌≤◌, ◌+◌, ◌^◌, ◌∷◌, [], ◌++◌, length, ◌∙◌, ap}
 use Rattle.std.proofs.lemmas.List.{length_push}
 use Rattle.mx_ring.proofs.Rings.{push-ring, hidden-twice, length-below}
-use Rattle.mx_ring.specs.HiddenPart.{octas_of, with_hidden}
+use Rattle.mx_ring.specs.HiddenPart.{octas_of}
 use Rattle.mx_ring.specs.Registers.{registers_below}
 use Rattle.mx_ring.specs.RingParts.{window_in}
 use Rattle.mx_ring.proofs.ring.Ring.hide.Goals as goal

@@ -1,4 +1,4 @@
-use Rattle.std.proofs.Common.{◌≡◌, ◌≤◌, ◌<◌, ◌+◌, ◌-◌, ◌^◌, length, arith, refl}
+use Rattle.std.proofs.Common.{◌≡◌, ◌≤◌, ◌+◌, ◌-◌, length, arith, refl}
 use Rattle.mx_ring.proofs.Rings.{save-ring, length-frame}
 use Rattle.mx_ring.specs.Frames.{frame, frame_length}
 use Rattle.mx_ring.specs.HiddenPart.{octas_of}

@@ -1,7 +1,6 @@
-use Rattle.std.proofs.Common.{◌≡◌, ◌≤◌, ◌<◌, ◌+◌, ◌^◌, false, max, length, arith, ap, ◌∙◌}
+use Rattle.std.proofs.Common.{◌≡◌, false, arith, ap, ◌∙◌}
 use Rattle.std.proofs.lemmas.Bool.Decides.{nat_tests}
 use Rattle.mx_ring.proofs.Lists.{pushed-list}
-use Rattle.mx_ring.specs.Bounds.{IsRing}
 use Rattle.mx_ring.specs.RingParts.{window_in}
 use Rattle.mx_ring.specs.Stack.{windowed, as_listed, push_overfills, pushed}
 use Rattle.mx_ring.proofs.ring.Ring.push.Goals as goal
