@@ -1,2 +1,5 @@
-pub mod Joins
-pub mod Undone
+pub mod Counts
+pub mod Views
+pub mod Places
+pub mod Stores
+pub mod Additions

@@ -1,3 +1,4 @@
 pub mod Memory
 pub mod Fault
-pub mod Stands
+pub mod Count
+pub mod Held

@@ -1,0 +1,43 @@
+-- What contracts see of the pages and their places.
+use Rattle.std.proofs.Common.{◌≡◌, ◌<◌, ◌/◌, ◌%◌, ℕ, Bool, false, List, length, get_or, Option, Some, None, arith, ap, sym, ◌∙◌, refl, eqb, cond}
+use Rattle.std.specs.Prelude.{is_some}
+use Rattle.std.proofs.Math.ListN.{set}
+use Rattle.std.specs.Option.{option_map}
+use Rattle.std.specs.Ordering.{nat_cmp}
+use Rattle.std.specs.BTreeMap.{BTreeMap, get, is_at}
+use Rattle.std.proofs.lemmas.Grind.{common_steps}
+use Rattle.std.proofs.lemmas.Map.Made.{lookup-map_values}
+use Rattle.std.proofs.lemmas.List.{length-map}
+use Rattle.mx_mem.specs.Memory.{octa_at, octa_in, has_page, page_count}
+use Rattle.mx_mem.specs.Held.{view_of, octas_in, number_in, Indexed, Bounded}
+
+pub octa_at-view : (pages : List (ℕ × List ℕ)) (places : BTreeMap ℕ ℕ) (a : ℕ) → octa_at (view_of pages places.entries) a ≡ octa_in (option_map (octas_in pages) (get nat_cmp places (a / 4096))) (a / 8 % 512)
+unfolding octa_at
+octa_at-view pages places a = ap (λ o. octa_in o (a / 8 % 512)) (lookup-map_values (octas_in pages) (is_at (nat_cmp (a / 4096))) places.entries)
+
+is_some-map : {A B : Type 0} (f : A → B) (o : Option A) → is_some (option_map f o) ≡ is_some o
+is_some-map f None = refl
+is_some-map f (Some x) = refl
+
+pub has_page-view : (pages : List (ℕ × List ℕ)) (places : BTreeMap ℕ ℕ) (p : ℕ) → has_page (view_of pages places.entries) p ≡ is_some (get nat_cmp places p)
+unfolding has_page
+has_page-view pages places p =
+    ap is_some (lookup-map_values (octas_in pages) (is_at (nat_cmp p)) places.entries) ∙ is_some-map (octas_in pages) (get nat_cmp places p)
+
+pub page_count-view : (pages : List (ℕ × List ℕ)) (places : BTreeMap ℕ ℕ) → page_count (view_of pages places.entries) ≡ length places.entries
+unfolding page_count
+page_count-view pages places = simp length-map
+
+-- what is found through a place
+pub octa-found : (pages : List (ℕ × List ℕ)) (places : BTreeMap ℕ ℕ) (m : List (ℕ × List ℕ)) (a : ℕ) (o : Option ℕ) → view_of pages places.entries ≡ m → o ≡ get nat_cmp places (a / 4096) →
+    octa_at m a ≡ octa_in (option_map (octas_in pages) o) (a / 8 % 512)
+octa-found pages places m a o v e =
+    ap (λ s. octa_at s a) (sym v) ∙ octa_at-view pages places a ∙ ap (λ p. octa_in (option_map (octas_in pages) p) (a / 8 % 512)) (sym e)
+
+none-from-is_some : {A : Type 0} (o : Option A) → is_some o ≡ false → o ≡ None
+none-from-is_some None e = refl
+none-from-is_some (Some x) e = absurd (cc)
+
+-- a page that is not there is not found
+pub not-found : (pages : List (ℕ × List ℕ)) (places : BTreeMap ℕ ℕ) (m : List (ℕ × List ℕ)) (n : ℕ) → view_of pages places.entries ≡ m → has_page m n ≡ false → get nat_cmp places n ≡ None
+not-found pages places m n v e = none-from-is_some (get nat_cmp places n) (sym (has_page-view pages places n) ∙ ap (λ s. has_page s n) v ∙ e)
