@@ -1,5 +1,7 @@
 pub mod Counts
 pub mod Views
-pub mod Places
+pub mod Finding
 pub mod Stores
 pub mod Additions
+pub mod Joins
+pub mod Searches

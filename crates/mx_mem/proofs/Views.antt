@@ -1,8 +1,9 @@
 -- What contracts see of the pages and their places.
-use Rattle.std.proofs.Common.{◌≡◌, ◌<◌, ◌/◌, ◌%◌, ℕ, Bool, false, List, length, get_or, Option, Some, None, arith, ap, sym, ◌∙◌, refl, eqb, cond}
-use Rattle.std.specs.Prelude.{is_some}
+use Rattle.std.proofs.Common.{◌≡◌, ◌≢◌, ◌<◌, ◌/◌, ◌%◌, ℕ, Bool, false, List, length, get_or, Option, Some, None, arith, ap, sym, ◌∙◌, refl, eqb, cond}
+use Rattle.std.specs.Prelude.{is_some, IsTrue}
 use Rattle.std.proofs.Math.ListN.{set}
 use Rattle.std.specs.Option.{option_map}
+use Rattle.std.specs.Map.{lookup}
 use Rattle.std.specs.Ordering.{nat_cmp}
 use Rattle.std.specs.BTreeMap.{BTreeMap, get, is_at}
 use Rattle.std.proofs.lemmas.Grind.{common_steps}
@@ -41,3 +42,12 @@ none-from-is_some (Some x) e = absurd (cc)
 -- a page that is not there is not found
 pub not-found : (pages : List (ℕ × List ℕ)) (places : BTreeMap ℕ ℕ) (m : List (ℕ × List ℕ)) (n : ℕ) → view_of pages places.entries ≡ m → has_page m n ≡ false → get nat_cmp places n ≡ None
 not-found pages places m n v e = none-from-is_some (get nat_cmp places n) (sym (has_page-view pages places n) ∙ ap (λ s. has_page s n) v ∙ e)
+
+nonzero-in : (o : Option (List ℕ)) (i : ℕ) → octa_in o i ≢ 0 → IsTrue (is_some o)
+nonzero-in None i ne = absurd (ne refl)
+nonzero-in (Some octas) i ne = refl
+
+-- an octa other than 0 stands on a page that is there
+pub nonzero-paged : (m : List (ℕ × List ℕ)) (a : ℕ) → octa_at m a ≢ 0 → IsTrue (has_page m (a / 4096))
+unfolding octa_at has_page
+nonzero-paged m a ne = nonzero-in (lookup (is_at (nat_cmp (a / 4096))) m) (a / 8 % 512) ne

@@ -1,5 +1,5 @@
 -- How memory is held: pages as they came, and the place of each by its number.
-use Rattle.std.specs.Prelude.{ℕ, ◌<◌, ◌≤◌, ◌^◌, ◌≡◌, List, [], map, length, Some, slice_index_or}
+use Rattle.std.specs.Prelude.{ℕ, ◌<◌, ◌≤◌, ◌^◌, ◌≡◌, List, [], map, length, Option, None, Some, slice_index_or}
 use Rattle.std.specs.Ordering.{nat_cmp}
 use Rattle.std.specs.BTreeMap as tree
 use Rattle.std.specs.BTreeMap.{BTreeMap}
@@ -35,3 +35,8 @@ pub record Holds (m : Inside) : Type 0 where
   pub indexed : Indexed m.pages.items m.places
   pub bounded : Bounded m.pages.items
   pub count : length m.places.entries ≡ length m.pages.items
+
+-- the least number from `number` on that has a place, with its place
+abbrev pub IsNextPage : BTreeMap ℕ ℕ → ℕ → Option (ℕ × ℕ) → Type 0
+IsNextPage places number None = (p : ℕ) → number ≤ p → tree.get nat_cmp places p ≡ None
+IsNextPage places number (Some (n, place)) = (number ≤ n) × (tree.get nat_cmp places n ≡ Some place) × ((p : ℕ) → number ≤ p → p < n → tree.get nat_cmp places p ≡ None)

@@ -1,5 +1,5 @@
 -- Memory as contracts see it: the octas and bytes by their addresses, and the pages that are there.
-use Rattle.std.specs.Prelude.{ℕ, ◌+◌, ◌-◌, ◌*◌, ◌/◌, ◌%◌, ◌^◌, Bool, ◌==◌, ◌&&◌, not, if◌then◌else◌, List, length, Option, None, Some, is_some, slice_index_or, ◌≡◌, ◌≢◌, ◌≤◌, ◌<◌}
+use Rattle.std.specs.Prelude.{ℕ, ◌+◌, ◌-◌, ◌*◌, ◌/◌, ◌%◌, ◌^◌, Bool, ◌==◌, ◌&&◌, not, nat_lt, if◌then◌else◌, List, length, Option, None, Some, is_some, slice_index_or, ◌≡◌, ◌≢◌, ◌≤◌, ◌<◌}
 pub use Rattle.mx_word.specs.Octas.{byte_of, byte_in, in_half, with_tetra, tetra_byte, bytes_with_tetra, with_page}
 use Rattle.std.specs.Map.{lookup}
 use Rattle.std.specs.Ordering.{nat_cmp}
@@ -24,6 +24,14 @@ octa_at m a = octa_in (lookup (is_at (nat_cmp (a / 4096))) m) (a / 8 % 512)
 -- the byte at an address
 abbrev pub byte_at : Stored → ℕ → ℕ
 byte_at m a = byte_in (octa_at m) a
+
+-- the tetra in the half of an octa where an address lies
+abbrev pub tetra_of : ℕ → ℕ → ℕ
+tetra_of x a = if nat_lt (a % 8) 4 then x / 2 ^ 32 else x % 2 ^ 32
+
+-- the tetra that holds an address
+abbrev pub tetra_at : Stored → ℕ → ℕ
+tetra_at m a = tetra_of (octa_at m a) a
 
 -- whether a page is there
 unfoldable pub has_page : Stored → ℕ → Bool

@@ -8,6 +8,7 @@ mod fault;
 mod memory;
 mod page;
 mod part;
+mod places;
 
 pub use fault::MemFault;
 pub use memory::Memory;

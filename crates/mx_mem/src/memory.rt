@@ -1,13 +1,11 @@
 //! Memory as pages that are found by their numbers.
 
 ghost use Rattle.std.specs.Prelude.{◌≡◌, ◌≢◌, ◌↔◌, ◌≤◌, ◌<◌, ◌+◌, ◌/◌, ◌^◌, ◌==◌, ◌++◌, ◌∷◌, [], ℕ, List, length, false, IfSome, IsTrue, IsOk, OnOk, OnErr, if◌then◌else◌};
-ghost use Rattle.std.specs.Ordering.{nat_cmp};
-ghost use Rattle.std.specs.BTreeMap.{get};
-ghost use Rattle.mx_mem.specs.Memory.{octa_at, byte_at, has_page, page_count, is_refused, with_page, count_with_page, stored_at, stored_bytes};
-ghost use Rattle.mx_mem.specs.Held.{Indexed};
+ghost use Rattle.mx_mem.specs.Memory.{octa_at, byte_at, tetra_at, tetra_of, has_page, page_count, is_refused, with_page, count_with_page, stored_at, stored_bytes, in_half, with_tetra, bytes_with_tetra, IsNextNonzero};
 
 use crate::MemFault;
 use crate::page::Page;
+use crate::places::{GUESSES, add, guessed_place, next_page, place_of, slot};
 use std::alloc::Global;
 use std::array;
 use std::cell::Cell;
@@ -19,9 +17,6 @@ const PAGE: u64 = 4096;
 
 /// How many pages there may be: 256 MiB.
 const MOST_PAGES: usize = 65536;
-
-/// How many places of pages with data are remembered.
-const GUESSES: usize = 64;
 
 /// Pages by their numbers, and where pages may stand that were used lately. What is remembered is
 /// tested at each use, so it may be wrong.
@@ -67,12 +62,29 @@ impl Memory {
     #[inline(always)]
     pub fn load(&self, a: u64) -> u64
         requires { a < 2 ^ 63 }
-        ensures { result ≡ octa_at self.now a }
+        ensures value { result ≡ octa_at self.now a }
+        ensures paged { result ≢ 0 → IsTrue (has_page self.now (a / 4096)) }
     {
-        match place_of(&self.pages, &self.places, &self.guesses, a / PAGE) {
-            Some(place) => self.pages[place].octa((a / 8 % 512) as usize),
-            None => 0,
-        }
+        self.octa(&self.guesses[slot(a / PAGE)], a)
+    }
+
+    /// The tetra that holds an address, as an instruction; 0 where nothing stands. Its page is
+    /// remembered apart from those of `load`. It takes no memory.
+    #[inline(always)]
+    pub fn tetra(&self, a: u64) -> u32
+        requires { a < 2 ^ 63 }
+        ensures { result ≡ tetra_at self.now a }
+    {
+        half(self.octa(&self.code, a), a)
+    }
+
+    /// The byte at an address; 0 where nothing stands. It takes no memory.
+    #[inline(always)]
+    pub fn byte(&self, a: u64) -> u8
+        requires { a < 2 ^ 63 }
+        ensures { result ≡ byte_at self.now a }
+    {
+        (self.load(a) >> (8 * (7 - a % 8)) & 0xff) as u8
     }
 
     /// Stores an octa in place of the one that holds an address. Its page is there afterwards, also
@@ -97,6 +109,37 @@ impl Memory {
                 Ok(())
             }
             None => self.begin(a, x),
+        }
+    }
+
+    /// Joins a tetra by exclusive or to the one that holds an address. Its page is there afterwards,
+    /// also for a tetra of 0. It takes no memory where the page is there.
+    ///
+    /// Errors: `PagesFull` where that would be one page too many, and out of memory; then nothing
+    /// changed.
+    #[inline(always)]
+    pub fn xor_tetra(&mut self, a: u64, t: u32) -> Result<(), MemFault>
+        requires { a < 2 ^ 63 }
+        ensures octas { OnOk result (octa_at self.new ≡ with_tetra (octa_at self.old) a t) }
+        ensures bytes { OnOk result (byte_at self.new ≡ bytes_with_tetra (byte_at self.old) a t) }
+        ensures pages { OnOk result (has_page self.new ≡ with_page (has_page self.old) (a / 4096)) }
+        ensures count { OnOk result (page_count self.new ≡ count_with_page self.old (a / 4096)) }
+        ensures there { IsTrue (has_page self.old (a / 4096)) → IsOk result }
+        ensures full { IsTrue (is_refused self.old (a / 4096)) ↔ (result ≡ Err MemFault.PagesFull) }
+        ensures err { OnErr result (self.new ≡ self.old) }
+    {
+        self.store(a, self.load(a) ^ in_its_half(a, t))
+    }
+
+    /// The octa that holds an address, whose page may stand where it is remembered.
+    #[inline(always)]
+    fn octa(&self, guess: &Cell<usize>, a: u64) -> u64
+        requires { a < 2 ^ 63 }
+        ensures { result ≡ octa_at self.now a }
+    {
+        match guessed_place(&self.pages, &self.places, guess, a / PAGE) {
+            Some(place) => self.pages[place].octa((a / 8 % 512) as usize),
+            None => 0,
         }
     }
 
@@ -127,74 +170,45 @@ impl Memory {
     {
         self.pages.len() as u32
     }
-}
 
-/// Adds a page that is not there yet.
-fn add(
-    pages: &mut Vec<Page>,
-    places: &mut BTreeMap<u64, usize>,
-    page: Page,
-) -> Result<(), MemFault>
-    requires { get nat_cmp places.old page.0 ≡ None }
-    ensures pages { OnOk result (pages.new.items ≡ pages.old.items ++ page ∷ []) }
-    ensures places { OnOk result ((p : ℕ) → get nat_cmp places.new p ≡ (if p == page.0 then Some (length pages.old.items) else get nat_cmp places.old p)) }
-    ensures count { OnOk result (length places.new.entries ≡ length places.old.entries + 1) }
-    ensures err { OnErr result ((pages.new.items ≡ pages.old.items) × (places.new.entries ≡ places.old.entries)) }
-    ensures memory { OnErr result (result ≡ Err MemFault.OutOfMemory) }
-{
-    let number = page.number();
-    let place = pages.len();
-    if pages.push(page).is_err() {
-        return Err(MemFault::OutOfMemory);
-    }
-    match places.insert(number, place) {
-        Ok(_) => Ok(()),
-        Err(_) => {
-            pages.pop();
-            Err(MemFault::OutOfMemory)
+    /// The least octa other than 0 whose own address is at or above `from`: its address and its
+    /// value. Nothing where there is none. A page of zeros is passed over as a whole.
+    pub fn next_nonzero(&self, from: u64) -> Option<(u64, u64)>
+        requires { from < 2 ^ 63 }
+        ensures { IsNextNonzero (octa_at self.now) from result }
+    {
+        let mut at = from.div_ceil(8);
+        while let Some((number, place)) = next_page(&self.places, at / 512) {
+            at = at.max(512 * number);
+            if let Some((i, x)) = self.pages[place].next_nonzero((at % 512) as usize) {
+                return Some((PAGE * number + 8 * i as u64, x));
+            }
+            at = 512 * (number + 1);
         }
+        None
     }
 }
 
-/// Which of the remembered places a page has. Pages at the beginning of the four segments, which
-/// are 2^61 bytes apart, have different ones.
+/// The tetra in the half of an octa where the address lies.
 #[inline(always)]
-fn slot(number: u64) -> usize
-    requires { number < 2 ^ 51 }
-    ensures { result < 64 }
+fn half(octa: u64, a: u64) -> u32
+    ensures { result ≡ tetra_of octa a }
 {
-    ((number + (number >> 45)) % 64) as usize
-}
-
-/// The place of the page with a number: the one that is remembered, or else by the map.
-#[inline(always)]
-fn place_of(
-    pages: &[Page],
-    places: &BTreeMap<u64, usize>,
-    guesses: &[Cell<usize>; GUESSES],
-    number: u64,
-) -> Option<usize>
-    requires below { number < 2 ^ 51 }
-    requires indexed { Indexed pages.now places.now }
-    ensures place { result ≡ get nat_cmp places.now number }
-    ensures within { IfSome result (λ place. place < length pages.now) }
-{
-    let guess = &guesses[slot(number)];
-    let place = guess.get();
-    if let Some(page) = pages.get(place) {
-        if page.number() == number {
-            return Some(place);
-        }
+    if a % 8 < 4 {
+        (octa >> 32) as u32
+    } else {
+        (octa & 0xffff_ffff) as u32
     }
-    place_far(places, guess, number)
 }
 
-/// The place by the map, which is remembered.
-#[inline(never)]
-fn place_far(places: &BTreeMap<u64, usize>, guess: &Cell<usize>, number: u64) -> Option<usize>
-    ensures { result ≡ get nat_cmp places.now number }
+/// An octa that has a tetra in the half where the address lies, and 0 in the other.
+#[inline(always)]
+fn in_its_half(a: u64, t: u32) -> u64
+    ensures { result ≡ in_half a t }
 {
-    let place = *places.get(&number)?;
-    guess.set(place);
-    Some(place)
+    if a % 8 < 4 {
+        u64::from(t) << 32
+    } else {
+        u64::from(t)
+    }
 }

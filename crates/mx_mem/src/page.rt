@@ -1,6 +1,7 @@
 //! One page of memory.
 
-ghost use Rattle.std.specs.Prelude.{◌≡◌, ◌<◌, IfOk, replicate, slice_index_or, slice_set};
+ghost use Rattle.std.specs.Prelude.{◌≡◌, ◌≤◌, ◌<◌, IfOk, replicate, slice_index_or, slice_set};
+ghost use Rattle.mx_mem.specs.Count.{IsNextIn};
 
 use mx_word::NoMemory;
 use std::alloc::Global;
@@ -78,5 +79,21 @@ impl Page {
         let before = self.octas[at];
         self.octas[at] = x;
         self.nonzero = self.nonzero + u32::from(x != 0) - u32::from(before != 0);
+    }
+
+    /// The first octa other than 0 from a place on, and its place.
+    pub fn next_nonzero(&self, from: usize) -> Option<(usize, u64)>
+        requires { from ≤ 512 }
+        ensures { IsNextIn self.now.1 from result }
+    {
+        if self.nonzero == 0 {
+            return None;
+        }
+        for at in from..OCTAS {
+            if self.octas[at] != 0 {
+                return Some((at, self.octas[at]));
+            }
+        }
+        None
     }
 }
