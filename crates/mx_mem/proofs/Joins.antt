@@ -7,7 +7,7 @@ use Rattle.std.specs.Int.Bits.{xor_zero_r}
 use Rattle.mx_mem.specs.Memory.{Stored, octa_at, byte_at, byte_in, stored_at, with_tetra, in_half, tetra_byte, bytes_with_tetra}
 
 -- two addresses in one octa have the same octa
-same-octa : (m : Stored) (q a : ℕ) → q / 8 ≡ a / 8 → octa_at m q ≡ octa_at m a
+pub same-octa : (m : Stored) (q a : ℕ) → q / 8 ≡ a / 8 → octa_at m q ≡ octa_at m a
 unfolding octa_at
 same-octa m q a e = let page : q / 4096 ≡ a / 4096 = omega arith in rw (page, e) refl
 

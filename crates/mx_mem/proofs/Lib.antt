@@ -5,3 +5,5 @@ pub mod Stores
 pub mod Additions
 pub mod Joins
 pub mod Searches
+pub mod Fields
+pub mod PartBytes

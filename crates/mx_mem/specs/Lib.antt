@@ -2,3 +2,5 @@ pub mod Memory
 pub mod Fault
 pub mod Count
 pub mod Held
+pub mod Parts
+pub mod Space

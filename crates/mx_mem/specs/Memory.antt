@@ -4,8 +4,6 @@ pub use Rattle.mx_word.specs.Octas.{byte_of, byte_in, in_half, with_tetra, tetra
 use Rattle.std.specs.Map.{lookup}
 use Rattle.std.specs.Ordering.{nat_cmp}
 use Rattle.std.specs.BTreeMap.{is_at}
-use Rattle.mx_mem.specs.declared.part.Part.{Part}
-use Rattle.mx_mem.specs.declared.part.Part.TheVariants.{Byte, Wyde, Tetra, Octa}
 
 -- The pages that are there, in the order of their numbers, each with its 512 octas. Page p has the addresses from 4096 p
 -- up to 4096 p + 4095. Contracts speak of it through `octa_at`, `byte_at`, `has_page` and `page_count` alone.

@@ -9,7 +9,9 @@ mod memory;
 mod page;
 mod part;
 mod places;
+mod space;
 
 pub use fault::MemFault;
 pub use memory::Memory;
 pub use part::Part;
+pub use space::{Space, SpaceFault};

@@ -1,9 +1,12 @@
 //! Memory as pages that are found by their numbers.
 
 ghost use Rattle.std.specs.Prelude.{◌≡◌, ◌≢◌, ◌↔◌, ◌≤◌, ◌<◌, ◌+◌, ◌/◌, ◌^◌, ◌==◌, ◌++◌, ◌∷◌, [], ℕ, List, length, false, IfSome, IsTrue, IsOk, OnOk, OnErr, if◌then◌else◌};
+ghost use Rattle.mx_mem.specs.Parts as spec;
+ghost use Rattle.mx_mem.specs.Parts.{bytes_with_part};
 ghost use Rattle.mx_mem.specs.Memory.{octa_at, byte_at, tetra_at, tetra_of, has_page, page_count, is_refused, with_page, count_with_page, stored_at, stored_bytes, in_half, with_tetra, bytes_with_tetra, IsNextNonzero};
 
-use crate::MemFault;
+use crate::part::with_part;
+use crate::{MemFault, Part};
 use crate::page::Page;
 use crate::places::{GUESSES, add, guessed_place, next_page, place_of, slot};
 use std::alloc::Global;
@@ -96,6 +99,7 @@ impl Memory {
     pub fn store(&mut self, a: u64, x: u64) -> Result<(), MemFault>
         requires { a < 2 ^ 63 }
         ensures octas { OnOk result (octa_at self.new ≡ stored_at (octa_at self.old) a x) }
+        ensures bytes { OnOk result (byte_at self.new ≡ stored_bytes (byte_at self.old) a x) }
         ensures pages { OnOk result (has_page self.new ≡ with_page (has_page self.old) (a / 4096)) }
         ensures count { OnOk result (page_count self.new ≡ count_with_page self.old (a / 4096)) }
         ensures there { IsTrue (has_page self.old (a / 4096)) → IsOk result }
@@ -110,6 +114,25 @@ impl Memory {
             }
             None => self.begin(a, x),
         }
+    }
+
+    /// Stores the low bytes of `x` in place of the part that holds an address. Its page is there
+    /// afterwards. It takes no memory where the page is there.
+    ///
+    /// Errors: `PagesFull` where that would be one page too many, and out of memory; then nothing
+    /// changed.
+    #[inline(always)]
+    pub fn store_part(&mut self, a: u64, part: Part, x: u64) -> Result<(), MemFault>
+        requires { a < 2 ^ 63 }
+        ensures octas { OnOk result (octa_at self.new ≡ stored_at (octa_at self.old) a (spec.with_part part (octa_at self.old a) a x)) }
+        ensures bytes { OnOk result (byte_at self.new ≡ bytes_with_part part (byte_at self.old) a x) }
+        ensures pages { OnOk result (has_page self.new ≡ with_page (has_page self.old) (a / 4096)) }
+        ensures count { OnOk result (page_count self.new ≡ count_with_page self.old (a / 4096)) }
+        ensures there { IsTrue (has_page self.old (a / 4096)) → IsOk result }
+        ensures full { IsTrue (is_refused self.old (a / 4096)) ↔ (result ≡ Err MemFault.PagesFull) }
+        ensures err { OnErr result (self.new ≡ self.old) }
+    {
+        self.store(a, with_part(part, self.load(a), a, x))
     }
 
     /// Joins a tetra by exclusive or to the one that holds an address. Its page is there afterwards,

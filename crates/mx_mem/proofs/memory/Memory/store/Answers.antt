@@ -4,6 +4,8 @@ use Rattle.std.proofs.lemmas.Grind.{common_steps}
 use Rattle.mx_mem.specs.Memory.{octa_at, has_page, page_count}
 use Rattle.mx_mem.specs.Held.{view_of}
 use Rattle.mx_mem.proofs.Stores.{rewritten, rewritten-by, rewritten-indexed, rewritten-bounded, length-kept, stored-octas, stored-pages, stored-count, stored-there, stored-new}
+use Rattle.std.proofs.lemmas.Result.{on_ok_weaker}
+use Rattle.mx_mem.proofs.PartBytes.{octa-bytes}
 use Rattle.mx_mem.proofs.memory.Memory.store.Goals as goal
 
 -- the page that was written to, among the pages
@@ -50,3 +52,9 @@ pub returns-in-None-clause-there : goal.returns-in-None-clause-there
 returns-in-None-clause-there c =
     let new = stored-new c.self.inside.pages.items c.self.inside.places _ (c.args.a / 4096) c.self.view_is c.in-None.ensures.place in
     grind (arith, common_steps)
+
+pub returns-in-Some-clause-bytes : goal.returns-in-Some-clause-bytes
+returns-in-Some-clause-bytes c = octa-bytes c.args.self.now _ c.args.a c.args.x (returns-in-Some-clause-octas c)
+
+pub returns-in-None-clause-bytes : goal.returns-in-None-clause-bytes
+returns-in-None-clause-bytes c = on_ok_weaker c.begin.result (λ e. octa-bytes c.args.self.now _ c.args.a c.args.x e) c.begin.ensures.octas
