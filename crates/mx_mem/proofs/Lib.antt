@@ -7,3 +7,4 @@ pub mod Joins
 pub mod Searches
 pub mod Fields
 pub mod PartBytes
+pub mod Spaces
