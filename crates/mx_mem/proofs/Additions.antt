@@ -1,5 +1,5 @@
 -- What a page that is added does to the octas, to the pages and to their places.
-use Rattle.std.proofs.Common.{◌≡◌, ◌≢◌, ◌<◌, ◌≤◌, ◌/◌, ◌%◌, ◌^◌, ◌+◌, ◌++◌, ◌∷◌, [], ℕ, Bool, true, false, List, length, get_or, Option, Some, None, Result, Ok, Err, arith, ap, sym, ◌∙◌, refl, eqb, cond, replicate, ⊎_elim, subst, length-append}
+use Rattle.std.proofs.Common.{◌≡◌, ◌≢◌, ◌<◌, ◌≤◌, ◌/◌, ◌%◌, ◌^◌, ◌+◌, ◌++◌, ◌∷◌, [], ℕ, true, List, length, get_or, Option, Some, None, Result, Ok, Err, arith, ap, sym, ◌∙◌, refl, eqb, cond, replicate, ⊎_elim, subst, length-append}
 use Rattle.std.specs.Prelude.{is_some, OnOk, OnErr}
 use Rattle.std.proofs.Math.ListN.{set}
 use Rattle.std.proofs.Math.Seq.{get_or-append_seam}
@@ -9,9 +9,9 @@ use Rattle.std.specs.BTreeMap.{BTreeMap, get, is_at}
 use Rattle.std.proofs.lemmas.Bool.{cases_eq, cases_lt}
 use Rattle.std.proofs.lemmas.Grind.{common_steps}
 use Rattle.std.proofs.lemmas.List.{get_or_append_left, get_or-set_same, get_or-set_other, get_or-replicate, length-replicate}
-use Rattle.mx_mem.specs.Memory.{Stored, octa_at, has_page, page_count, stored_at, with_page}
-use Rattle.mx_mem.specs.Held.{view_of, octas_in, number_in, Indexed, Bounded}
-use Rattle.mx_mem.proofs.Views.{octa_at-view, has_page-view, page_count-view}
+use Rattle.mx_mem.specs.Memory.{Stored, octa_at, has_page, stored_at, with_page}
+use Rattle.mx_mem.specs.Held.{view_of, number_in, Indexed, Bounded}
+use Rattle.mx_mem.proofs.Views.{octa_at-view, has_page-view}
 use Rattle.mx_mem.proofs.Stores.{octa_of}
 
 -- the pages with one more at the end
@@ -40,23 +40,29 @@ added-indexed pages places after page ix new ex = record { named = named; placed
   where
     here : number_in (extended pages page) (length pages) ≡ page.0
     here = ap (λ (p : ℕ × List ℕ). p.0) (last-page pages page)
+
     named-earlier : (i : ℕ) → i < length pages → get nat_cmp after (number_in (extended pages page) i) ≡ Some i
     named-earlier i l =
         let same : number_in (extended pages page) i ≡ number_in pages i = ap (λ (p : ℕ × List ℕ). p.0) (earlier-page pages page i l) in
         let apart : number_in pages i ≡ page.0 → ⊥ = λ e. absurd (cc (ap (get nat_cmp places) e, ix.named i l, new)) in
         ap (get nat_cmp after) same ∙ place-other places after page.0 (length pages) (number_in pages i) ex apart ∙ ix.named i l
+
     named-last : (i : ℕ) → i ≡ length pages → get nat_cmp after (number_in (extended pages page) i) ≡ Some i
     named-last i e = ap (λ k. get nat_cmp after (number_in (extended pages page) k)) e ∙ place-same places after page.0 (length pages) _ ex here ∙ ap Some (sym e)
+
     named : (i : ℕ) → i < length (extended pages page) → get nat_cmp after (number_in (extended pages page) i) ≡ Some i
     named i l = ⊎_elim (λ m. named-earlier i m) (λ m. named-last i (omega (arith, l, m, length-append pages (page ∷ [])))) (cases_lt i (length pages))
+
     placed-last : (p i : ℕ) → p ≡ page.0 → get nat_cmp after p ≡ Some i → (i < length (extended pages page)) × (number_in (extended pages page) i ≡ p)
     placed-last p i e f =
         let at : i ≡ length pages = cc (place-same places after page.0 (length pages) p ex e) in
         (omega (arith, at, length-append pages (page ∷ [])), ap (number_in (extended pages page)) at ∙ here ∙ sym e)
+
     placed-earlier : (p i : ℕ) → (p ≡ page.0 → ⊥) → get nat_cmp after p ≡ Some i → (i < length (extended pages page)) × (number_in (extended pages page) i ≡ p)
     placed-earlier p i ne f =
         let old = ix.placed p i (sym (place-other places after page.0 (length pages) p ex ne) ∙ f) in
         (omega (arith, old.0, length-append pages (page ∷ [])), ap (λ (q : ℕ × List ℕ). q.0) (earlier-page pages page i old.0) ∙ old.1)
+
     placed : (p i : ℕ) → get nat_cmp after p ≡ Some i → (i < length (extended pages page)) × (number_in (extended pages page) i ≡ p)
     placed p i f = ⊎_elim (λ e. placed-last p i e f) (λ ne. placed-earlier p i ne f) (cases_eq p page.0)
 
@@ -79,29 +85,36 @@ added-octa pages places after m page a x q ix v new ex made =
   where
     r : ℕ
     r = q / 8 % 512
+
     old : octa_at m q ≡ octa_of pages (get nat_cmp places (q / 4096)) r
     old = ap (λ s. octa_at s q) (sym v) ∙ octa_at-view pages places q
+
     last : octa_of (extended pages page) (Some (length pages)) r ≡ get_or (set (replicate 512 0) (a / 8 % 512) x) r 0
     last = ap (λ octas. get_or octas r 0) (ap (λ (p : ℕ × List ℕ). p.1) (last-page pages page) ∙ made)
+
     here : q / 8 ≡ a / 8 → octa_of (extended pages page) (Some (length pages)) r ≡ stored_at (octa_at m) a x q
     here e =
         let at : r ≡ a / 8 % 512 = ap (λ n. n % 512) e in
         let whole : stored_at (octa_at m) a x q ≡ x = grind (arith, common_steps) in
         let long : a / 8 % 512 < length (replicate {A = ℕ} 512 0) = omega (arith, length-replicate {A = ℕ} 512 0) in
         last ∙ ap (λ i. get_or (set (replicate 512 0) (a / 8 % 512) x) i 0) at ∙ get_or-set_same (replicate 512 0) (a / 8 % 512) x 0 long ∙ sym whole
+
     beside : q / 4096 ≡ a / 4096 → (q / 8 ≡ a / 8 → ⊥) → octa_of (extended pages page) (Some (length pages)) r ≡ stored_at (octa_at m) a x q
     beside e ne =
         let whole : stored_at (octa_at m) a x q ≡ octa_at m q = grind (arith, common_steps) in
         let apart : r ≢ a / 8 % 512 = λ f. absurd (ne (omega (arith, f, e))) in
         let zero : octa_at m q ≡ 0 = old ∙ ap (λ p. octa_of pages (get nat_cmp places p) r) e ∙ ap (λ o. octa_of pages o r) new in
         last ∙ get_or-set_other (replicate 512 0) (a / 8 % 512) r x 0 apart ∙ get_or-replicate 512 r 0 0 (omega arith) ∙ sym (whole ∙ zero)
+
     on-page : q / 4096 ≡ a / 4096 → octa_of (extended pages page) (get nat_cmp after (q / 4096)) r ≡ stored_at (octa_at m) a x q
     on-page e =
         ap (λ o. octa_of (extended pages page) o r) (place-same places after (a / 4096) (length pages) (q / 4096) ex e)
         ∙ ⊎_elim (λ s. here s) (λ ne. beside e ne) (cases_eq (q / 8) (a / 8))
+
     same : (o : Option ℕ) → get nat_cmp places (q / 4096) ≡ o → octa_of (extended pages page) o r ≡ octa_of pages o r
     same None e = refl
     same (Some i) e = ap (λ (p : ℕ × List ℕ). get_or p.1 r 0) (earlier-page pages page i (ix.placed (q / 4096) i e).0)
+
     off-page : (q / 4096 ≡ a / 4096 → ⊥) → octa_of (extended pages page) (get nat_cmp after (q / 4096)) r ≡ stored_at (octa_at m) a x q
     off-page ne =
         let apart : q / 8 ≡ a / 8 → ⊥ = λ e. absurd (ne (omega (arith, e))) in
@@ -118,6 +131,7 @@ added-page pages places after m page n q v ex =
     new e =
         let there : with_page (has_page m) n q ≡ true = grind (arith, common_steps) in
         ap is_some (place-same places after n (length pages) q ex e) ∙ sym there
+
     old : (q ≡ n → ⊥) → is_some (get nat_cmp after q) ≡ with_page (has_page m) n q
     old ne =
         let same : with_page (has_page m) n q ≡ has_page m q = grind (arith, common_steps) in

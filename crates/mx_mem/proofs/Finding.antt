@@ -1,14 +1,10 @@
 -- Pages and their places.
-use Rattle.std.proofs.Common.{◌≡◌, ◌≢◌, ◌<◌, ◌≤◌, ◌/◌, ◌%◌, ◌+◌, ◌++◌, ◌∷◌, [], ℕ, Bool, true, false, List, length, get_or, Option, Some, None, arith, ap, sym, ◌∙◌, refl, eqb, cond, replicate}
+use Rattle.std.proofs.Common.{◌≡◌, ◌<◌, [], ℕ, List, length, Option, Some, None, ap, sym, ◌∙◌}
 use Rattle.std.specs.Prelude.{IfSome, slice_get}
-use Rattle.std.proofs.Math.ListN.{set}
-use Rattle.std.specs.Option.{option_map}
 use Rattle.std.specs.Ordering.{nat_cmp}
 use Rattle.std.specs.BTreeMap.{BTreeMap, get}
-use Rattle.std.proofs.lemmas.Grind.{common_steps}
 use Rattle.std.proofs.lemmas.Option.{slice_get_within, get_or_from_slice_get}
-use Rattle.mx_mem.specs.Memory.{octa_in}
-use Rattle.mx_mem.specs.Held.{octas_in, number_in, Indexed, Bounded}
+use Rattle.mx_mem.specs.Held.{Indexed}
 
 -- the place of a page that stands at a place
 pub place-here : (pages : List (ℕ × List ℕ)) (places : BTreeMap ℕ ℕ) (i : ℕ) (p : ℕ × List ℕ) → Indexed pages places → slice_get pages i ≡ Some p → Some i ≡ get nat_cmp places p.0

@@ -1,12 +1,12 @@
 -- What a part that is stored does to the bytes.
-use Rattle.std.proofs.Common.{◌≡◌, ◌<◌, ◌≤◌, ◌/◌, ◌%◌, ◌*◌, ◌+◌, ◌-◌, ◌^◌, ◌⊎◌, ℕ, inl, inr, eqb, cond, arith, ap, sym, ◌∙◌, ⊎_elim}
+use Rattle.std.proofs.Common.{◌≡◌, ◌<◌, ◌≤◌, ◌/◌, ◌%◌, ◌*◌, ◌+◌, ◌-◌, ◌^◌, ℕ, arith, ap, sym, ◌∙◌, ⊎_elim}
 use Rattle.std.proofs.lemmas.Bool.{cases_eq, cases_lt}
 use Rattle.std.proofs.lemmas.Grind.{common_steps}
 use Rattle.mx_mem.specs.Memory.{Stored, octa_at, byte_at, byte_of, stored_at, stored_bytes}
 use Rattle.mx_mem.specs.Parts.{size_of, bits_below, with_part, bytes_with_part}
 use Rattle.mx_mem.specs.declared.part.Part.{Part}
 use Rattle.mx_mem.specs.declared.part.Part.TheVariants.{Byte, Wyde, Tetra, Octa}
-use Rattle.mx_mem.proofs.Fields.{replaced, byte-below, byte-above, byte-within}
+use Rattle.mx_mem.proofs.Fields.{byte-below, byte-above, byte-within}
 use Rattle.mx_mem.proofs.Joins.{same-octa}
 
 -- where a byte of the part stands in its octa
@@ -48,6 +48,7 @@ byte-beside part octa a x q e ne = ⊎_elim (λ l. before l) (λ l. behind l) (c
   where
     before : q / size_of part < a / size_of part → byte_of (with_part part octa a x) q ≡ byte_of octa q
     before l = byte-above octa (bits_below part a) (8 * size_of part) x (8 * (7 - q % 8)) _ (place-before part a q e l)
+
     behind : a / size_of part ≤ q / size_of part → byte_of (with_part part octa a x) q ≡ byte_of octa q
     behind l =
         let less : a / size_of part < q / size_of part = omega arith in
@@ -58,20 +59,24 @@ part-byte m part a x q = ⊎_elim (λ f. inside f) (λ ne. beside ne) (cases_eq 
   where
     y : ℕ
     y = with_part part (octa_at m a) a x
+
     inside : q / size_of part ≡ a / size_of part → byte_of (stored_at (octa_at m) a y q) q ≡ bytes_with_part part (byte_at m) a x q
     inside f =
         let e = one-octa part a q f in
         let octa : stored_at (octa_at m) a y q ≡ y = grind (arith, common_steps) in
         let byte : bytes_with_part part (byte_at m) a x q ≡ x / 2 ^ (8 * (size_of part - 1 - q % size_of part)) % 256 = grind (arith, common_steps) in
         ap (λ n. byte_of n q) octa ∙ byte-of-part part (octa_at m a) a x q e f ∙ sym byte
+
     same : (q / 8 ≡ a / 8) → (q / size_of part ≡ a / size_of part → ⊥) → byte_of (stored_at (octa_at m) a y q) q ≡ byte_at m q
     same e ne =
         let octa : stored_at (octa_at m) a y q ≡ y = grind (arith, common_steps) in
         ap (λ n. byte_of n q) octa ∙ byte-beside part (octa_at m a) a x q e ne ∙ ap (λ n. byte_of n q) (sym (same-octa m q a e))
+
     other : (q / 8 ≡ a / 8 → ⊥) → byte_of (stored_at (octa_at m) a y q) q ≡ byte_at m q
     other ne =
         let octa : stored_at (octa_at m) a y q ≡ octa_at m q = grind (arith, common_steps) in
         ap (λ n. byte_of n q) octa
+
     beside : (q / size_of part ≡ a / size_of part → ⊥) → byte_of (stored_at (octa_at m) a y q) q ≡ bytes_with_part part (byte_at m) a x q
     beside ne =
         let byte : bytes_with_part part (byte_at m) a x q ≡ byte_at m q = grind (arith, common_steps) in
@@ -89,6 +94,7 @@ octa-byte m a x q = ⊎_elim (λ e. inside e) (λ ne. beside ne) (cases_eq (q / 
         let octa : stored_at (octa_at m) a x q ≡ x = grind (arith, common_steps) in
         let byte : stored_bytes (byte_at m) a x q ≡ byte_of x q = grind (arith, common_steps) in
         ap (λ n. byte_of n q) octa ∙ sym byte
+
     beside : (q / 8 ≡ a / 8 → ⊥) → byte_of (stored_at (octa_at m) a x q) q ≡ stored_bytes (byte_at m) a x q
     beside ne =
         let octa : stored_at (octa_at m) a x q ≡ octa_at m q = grind (arith, common_steps) in

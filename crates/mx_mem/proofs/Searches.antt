@@ -1,9 +1,8 @@
 -- The search for the next octa other than 0.
-use Rattle.std.proofs.Common.{◌≡◌, ◌≢◌, ◌<◌, ◌≤◌, ◌/◌, ◌%◌, ◌*◌, ◌+◌, ◌^◌, ◌⊎◌, ℕ, List, length, get_or, Option, Some, None, arith, ap, sym, ◌∙◌, ⊎_elim}
-use Rattle.std.specs.Option.{option_map}
+use Rattle.std.proofs.Common.{◌≡◌, ◌<◌, ◌≤◌, ◌/◌, ◌%◌, ◌*◌, ◌+◌, ◌⊎◌, ℕ, List, get_or, Some, None, arith, ap, sym, ◌∙◌, ⊎_elim}
 use Rattle.std.specs.Ordering.{nat_cmp}
 use Rattle.std.specs.BTreeMap.{BTreeMap, get}
-use Rattle.std.proofs.lemmas.Bool.{cases_eq, cases_lt}
+use Rattle.std.proofs.lemmas.Bool.{cases_lt}
 use Rattle.mx_mem.specs.Memory.{Stored, octa_at}
 use Rattle.mx_mem.specs.Held.{view_of, octas_in}
 use Rattle.mx_mem.proofs.Views.{octa-found}
@@ -22,7 +21,6 @@ octa-on pages places m q n place v e f = octa-found pages places m q (Some place
 module _ (pages : List (ℕ × List ℕ)) (places : BTreeMap ℕ ℕ) (m : Stored) (from at number place start : ℕ) (v : view_of pages places.entries ≡ m) (zeros : ZeroUpTo m from at)
     (found : get nat_cmp places number ≡ Some place) (later : at / 512 ≤ number) (between : (p : ℕ) → at / 512 ≤ p → p < number → get nat_cmp places p ≡ None)
     (low : at ≤ start) (first : 512 * number ≤ start) (least : (start ≡ at) ⊎ (start ≡ 512 * number)) where
-
   pub zero-before : ZeroUpTo m from (512 * number)
   zero-before q f w l = ⊎_elim (λ s. zeros q f w s) (λ s. octa-zero pages places m q v (between (q / 4096) (omega arith) (omega arith))) (cases_lt (q / 8) at)
 
@@ -31,8 +29,10 @@ module _ (pages : List (ℕ × List ℕ)) (places : BTreeMap ℕ ℕ) (m : Store
     where
       page : 512 * number ≤ q / 8 → q / 4096 ≡ number
       page s = omega arith
+
       reached : 512 * number ≤ q / 8 → at ≤ q / 8 → start % 512 ≤ q / 8 % 512
       reached s t = ⊎_elim (λ e. omega arith) (λ e. omega arith) least
+
       on-page : 512 * number ≤ q / 8 → octa_at m q ≡ 0
       on-page s = ⊎_elim (λ t. zeros q f w t)
           (λ t. octa-on pages places m q number place v found (page s) ∙ none (q / 8 % 512) (reached s t) (omega arith)) (cases_lt (q / 8) at)

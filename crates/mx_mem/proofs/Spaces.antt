@@ -1,13 +1,13 @@
 -- Memory as a space of bytes.
-use Rattle.std.proofs.Common.{◌≡◌, ◌<◌, ◌≤◌, ◌/◌, ◌%◌, ◌*◌, ◌+◌, ◌-◌, ◌^◌, ℕ, Bool, true, false, List, [], ◌∷◌, Result, Ok, Err, eqb, cond, leb, refl, arith, ap, sym, ◌∙◌, ⊎_elim}
-use Rattle.std.specs.Prelude.{IsTrue, not, ◌&&◌, ◌==◌, nat_le, nat_lt}
-use Rattle.std.specs.Int.{w64, to_be_bytes, from_be_bytes}
+use Rattle.std.proofs.Common.{◌≡◌, ◌<◌, ◌/◌, ◌%◌, ◌*◌, ◌+◌, ◌-◌, ◌^◌, ℕ, Bool, true, false, [], ◌∷◌, Result, Ok, eqb, cond, refl, arith, ap, sym, ◌∙◌, ⊎_elim}
+use Rattle.std.specs.Prelude.{IsTrue, not, ◌&&◌, ◌==◌}
+use Rattle.std.specs.Int.{w64, from_be_bytes}
 use Rattle.std.proofs.lemmas.Bool.{cases_eq, cases_Bool, false_from_ne_true}
 use Rattle.std.proofs.lemmas.Grind.{common_steps}
 use Rattle.std.proofs.lemmas.Nat.{from_be_bytes-to_be_bytes_8}
 use Rattle.mx_mem.specs.Memory.{Stored, octa_at, byte_at, has_page, page_count, count_with_page, is_refused, with_page}
 use Rattle.mx_mem.specs.Parts.{bytes_with_part}
-use Rattle.mx_mem.specs.Space.{Contents, memory_contents, octa_of, octa_answer, put_answer, with_byte, with_byte_page}
+use Rattle.mx_mem.specs.Space.{Contents, memory_contents, is_negative, octa_of, octa_answer, put_answer}
 use Rattle.mx_mem.specs.declared.part.Part.TheVariants.{Byte}
 use Rattle.mx_mem.specs.declared.space.SpaceFault.{SpaceFault}
 use Rattle.mx_mem.proofs.Joins.{same-octa}
@@ -49,45 +49,48 @@ one-byte bytes a b q l = ⊎_elim (λ e. here e) (λ ne. other ne) (cases_eq q a
   where
     here : q ≡ a → bytes_with_part Byte bytes a b q ≡ cond (eqb q a) b (bytes q)
     here e = grind (arith, common_steps)
+
     other : (q ≡ a → ⊥) → bytes_with_part Byte bytes a b q ≡ cond (eqb q a) b (bytes q)
     other ne = grind (arith, common_steps)
 
 -- a byte that was stored is a byte that was put
-pub stored-is-put : (m n : Stored) (a b : ℕ) → a < 2 ^ 63 → b < 256 → byte_at n ≡ bytes_with_part Byte (byte_at m) a b → has_page n ≡ with_page (has_page m) (a / 4096) → page_count n ≡ count_with_page m (a / 4096) →
+pub stored-is-put : (m n : Stored) (a b : ℕ) → is_negative a ≡ false → b < 256 → byte_at n ≡ bytes_with_part Byte (byte_at m) a b → has_page n ≡ with_page (has_page m) (a / 4096) → page_count n ≡ count_with_page m (a / 4096) →
     (IsTrue (is_refused m (a / 4096)) → ⊥) → ◌≡◌ {A = Result (Unit {0}) SpaceFault × Contents (Unit {0})} (Ok tt, memory_contents n) (put_answer (memory_contents m) a b)
-stored-is-put m n a b l f bytes pages count free = ⊎_elim (λ t. there t) (λ t. new t) (cases_Bool (has_page m (a / 4096)))
+stored-is-put m n a b low f bytes pages count free = ⊎_elim (λ t. there t) (λ t. new t) (cases_Bool (has_page m (a / 4096)))
   where
-    low : nat_le (2 ^ 63) a ≡ false
-    low = grind (arith, common_steps)
     byte : byte_at n ≡ (λ q. cond (eqb q a) b (byte_at m q))
     byte = bytes ∙ (λ i q. one-byte (byte_at m) a b q f i)
+
     kept : has_page m (a / 4096) ≡ true → (q : ℕ) → with_page (has_page m) (a / 4096) q ≡ has_page m q
     kept t q = ⊎_elim (λ e. at t q e) (λ ne. beside q ne) (cases_eq q (a / 4096))
       where
         at : has_page m (a / 4096) ≡ true → (q : ℕ) → q ≡ a / 4096 → with_page (has_page m) (a / 4096) q ≡ has_page m q
         at t q e = (let one : with_page (has_page m) (a / 4096) q ≡ true = grind (arith, common_steps) in one ∙ sym (ap (has_page m) e ∙ t))
+
         beside : (q : ℕ) → (q ≡ a / 4096 → ⊥) → with_page (has_page m) (a / 4096) q ≡ has_page m q
         beside q ne = grind (arith, common_steps)
+
     equal : {pages' : ℕ → Bool} {count' : ℕ} → has_page n ≡ pages' → page_count n ≡ count' → memory_contents n ≡ contents (λ q. cond (eqb q a) b (byte_at m q)) pages' count'
     equal {pages'} {count'} p c = ap (λ f. contents f (has_page n) (page_count n)) byte ∙ ap (λ f. contents (λ q. cond (eqb q a) b (byte_at m q)) f (page_count n)) p ∙ ap (contents (λ q. cond (eqb q a) b (byte_at m q)) pages') c
+
     there : has_page m (a / 4096) ≡ true → ◌≡◌ {A = Result (Unit {0}) SpaceFault × Contents (Unit {0})} (Ok tt, memory_contents n) (put_answer (memory_contents m) a b)
     there t =
         let known : not (not (has_page m (a / 4096))) ≡ true = ap (λ p. not (not p)) t in
         let same : with_page (has_page m) (a / 4096) ≡ has_page m = λ i q. kept t q i in
         let all : count_with_page m (a / 4096) ≡ page_count m = ap (λ p. cond p (page_count m) (page_count m + 1)) t in
         ap (λ s. (Ok tt, s)) (equal (pages ∙ same) (count ∙ all))
-        ∙ sym (pick-second (nat_le (2 ^ 63) a) (not (not (has_page m (a / 4096)))) (page_count m == 65536) _ _ _ _ low known)
+        ∙ sym (pick-second (is_negative a) (not (not (has_page m (a / 4096)))) (page_count m == 65536) _ _ _ _ low known)
+
     new : has_page m (a / 4096) ≡ false → ◌≡◌ {A = Result (Unit {0}) SpaceFault × Contents (Unit {0})} (Ok tt, memory_contents n) (put_answer (memory_contents m) a b)
     new t =
         let known : not (not (has_page m (a / 4096))) ≡ false = ap (λ p. not (not p)) t in
         let all : count_with_page m (a / 4096) ≡ page_count m + 1 = ap (λ p. cond p (page_count m) (page_count m + 1)) t in
         let room : (page_count m == 65536) ≡ false = false_from_ne_true _ (λ e. free (ap (λ p. not p && page_count m == 65536) t ∙ e)) in
         ap (λ s. (Ok tt, s)) (equal pages (count ∙ all))
-        ∙ sym (pick-last (nat_le (2 ^ 63) a) (not (not (has_page m (a / 4096)))) (page_count m == 65536) _ _ _ _ low known room)
+        ∙ sym (pick-last (is_negative a) (not (not (has_page m (a / 4096)))) (page_count m == 65536) _ _ _ _ low known room)
 
 -- an octa is what a space answers
-pub octa-is-answer : (m : Stored) (a x : ℕ) → a < 2 ^ 63 → x < 2 ^ 64 → x ≡ octa_at m a → ◌≡◌ {A = Result ℕ SpaceFault} (Ok x) (octa_answer (memory_contents m) a)
-octa-is-answer m a x l f e =
-    let low : nat_lt a (2 ^ 63) ≡ true = grind (arith, common_steps) in
+pub octa-is-answer : (m : Stored) (a x : ℕ) → is_negative a ≡ false → x < 2 ^ 64 → x ≡ octa_at m a → ◌≡◌ {A = Result ℕ SpaceFault} (Ok x) (octa_answer (memory_contents m) a)
+octa-is-answer m a x low f e =
     let fits : octa_at m a < 2 ^ 64 = omega (arith, e) in
     rw low (ap Ok (e ∙ sym (octa-of-bytes m a fits)))

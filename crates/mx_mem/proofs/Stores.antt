@@ -1,5 +1,5 @@
 -- What a store does to the octas, to the pages and to their places.
-use Rattle.std.proofs.Common.{◌≡◌, ◌≢◌, ◌<◌, ◌≤◌, ◌/◌, ◌%◌, ◌^◌, ◌+◌, ◌++◌, ◌∷◌, [], ℕ, Bool, true, false, List, length, get_or, Option, Some, None, arith, ap, sym, ◌∙◌, refl, eqb, cond, replicate, ⊎_elim}
+use Rattle.std.proofs.Common.{◌≡◌, ◌≢◌, ◌<◌, ◌/◌, ◌%◌, [], ℕ, true, false, List, length, get_or, Option, Some, None, arith, ap, sym, ◌∙◌, refl, ⊎_elim}
 use Rattle.std.specs.Prelude.{is_some}
 use Rattle.std.proofs.Math.ListN.{set}
 use Rattle.std.specs.Option.{option_map}
@@ -82,6 +82,7 @@ stored-point pages places m a x place q ix b v e = ⊎_elim (λ s. inside s) (λ
   where
     new : List (ℕ × List ℕ)
     new = rewritten pages place (a / 8 % 512) x
+
     inside : q / 8 ≡ a / 8 → octa_at (view_of new places.entries) q ≡ stored_at (octa_at m) a x q
     inside s =
         let l = found-within pages places place (a / 4096) ix e in
@@ -95,6 +96,7 @@ stored-point pages places m a x place q ix b v e = ⊎_elim (λ s. inside s) (λ
         ∙ ap (λ o. octa_of new o (a / 8 % 512)) (sym e)
         ∙ rewritten-here pages place (a / 8 % 512) x l long
         ∙ sym whole
+
     outside : (q / 8 ≡ a / 8 → ⊥) → octa_at (view_of new places.entries) q ≡ stored_at (octa_at m) a x q
     outside ne =
         let l = found-within pages places place (a / 4096) ix e in
@@ -118,12 +120,13 @@ stored-pages-at : (pages : List (ℕ × List ℕ)) (places : BTreeMap ℕ ℕ) (
     has_page (view_of (rewritten pages place i x) places.entries) q ≡ with_page (has_page m) n q
 stored-pages-at pages places m n i x place q v e =
     let same : has_page (view_of (rewritten pages place i x) places.entries) q ≡ has_page m q =
-        has_page-view (rewritten pages place i x) places q ∙ sym (has_page-view pages places q) ∙ ap (λ s. has_page s q) v in
+    has_page-view (rewritten pages place i x) places q ∙ sym (has_page-view pages places q) ∙ ap (λ s. has_page s q) v in
     let there = stored-there pages places m n place v e in
     same ∙ ⊎_elim (λ f. (ap (has_page m) f ∙ there) ∙ sym (with-here f)) (λ ne. sym (with-other ne)) (cases_eq q n)
   where
     with-here : q ≡ n → with_page (has_page m) n q ≡ true
     with-here f = grind (arith, common_steps)
+
     with-other : (q ≡ n → ⊥) → with_page (has_page m) n q ≡ has_page m q
     with-other ne = grind (arith, common_steps)
 

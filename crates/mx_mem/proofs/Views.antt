@@ -1,16 +1,15 @@
 -- What contracts see of the pages and their places.
-use Rattle.std.proofs.Common.{◌≡◌, ◌≢◌, ◌<◌, ◌/◌, ◌%◌, ℕ, Bool, false, List, length, get_or, Option, Some, None, arith, ap, sym, ◌∙◌, refl, eqb, cond}
+use Rattle.std.proofs.Common.{◌≡◌, ◌≢◌, ◌/◌, ◌%◌, ℕ, false, List, length, Option, Some, None, ap, sym, ◌∙◌, refl}
 use Rattle.std.specs.Prelude.{is_some, IsTrue}
-use Rattle.std.proofs.Math.ListN.{set}
 use Rattle.std.specs.Option.{option_map}
-use Rattle.std.specs.Map.{lookup}
+use Rattle.std.specs.Map.{lookup, keys_of}
 use Rattle.std.specs.Ordering.{nat_cmp}
 use Rattle.std.specs.BTreeMap.{BTreeMap, get, is_at}
-use Rattle.std.proofs.lemmas.Grind.{common_steps}
-use Rattle.std.proofs.lemmas.Map.Made.{lookup-map_values}
+use Rattle.std.proofs.lemmas.Map.Made.{is_some-lookup, lookup-map_values, keys_of-map_values}
+use Rattle.std.proofs.lemmas.Map.Entries.{length-keys_of}
 use Rattle.std.proofs.lemmas.List.{length-map}
-use Rattle.mx_mem.specs.Memory.{octa_at, octa_in, has_page, page_count}
-use Rattle.mx_mem.specs.Held.{view_of, octas_in, number_in, Indexed, Bounded}
+use Rattle.mx_mem.specs.Memory.{page_numbers, octa_at, octa_in, has_page, page_count}
+use Rattle.mx_mem.specs.Held.{view_of, octas_in}
 
 pub octa_at-view : (pages : List (ℕ × List ℕ)) (places : BTreeMap ℕ ℕ) (a : ℕ) → octa_at (view_of pages places.entries) a ≡ octa_in (option_map (octas_in pages) (get nat_cmp places (a / 4096))) (a / 8 % 512)
 unfolding octa_at
@@ -23,11 +22,12 @@ is_some-map f (Some x) = refl
 pub has_page-view : (pages : List (ℕ × List ℕ)) (places : BTreeMap ℕ ℕ) (p : ℕ) → has_page (view_of pages places.entries) p ≡ is_some (get nat_cmp places p)
 unfolding has_page
 has_page-view pages places p =
-    ap is_some (lookup-map_values (octas_in pages) (is_at (nat_cmp p)) places.entries) ∙ is_some-map (octas_in pages) (get nat_cmp places p)
+    sym (is_some-lookup (is_at (nat_cmp p)) (view_of pages places.entries))
+    ∙ ap is_some (lookup-map_values (octas_in pages) (is_at (nat_cmp p)) places.entries) ∙ is_some-map (octas_in pages) (get nat_cmp places p)
 
 pub page_count-view : (pages : List (ℕ × List ℕ)) (places : BTreeMap ℕ ℕ) → page_count (view_of pages places.entries) ≡ length places.entries
 unfolding page_count
-page_count-view pages places = simp length-map
+page_count-view pages places = length-keys_of (view_of pages places.entries) ∙ simp length-map
 
 -- what is found through a place
 pub octa-found : (pages : List (ℕ × List ℕ)) (places : BTreeMap ℕ ℕ) (m : List (ℕ × List ℕ)) (a : ℕ) (o : Option ℕ) → view_of pages places.entries ≡ m → o ≡ get nat_cmp places (a / 4096) →
@@ -50,4 +50,8 @@ nonzero-in (Some octas) i ne = refl
 -- an octa other than 0 stands on a page that is there
 pub nonzero-paged : (m : List (ℕ × List ℕ)) (a : ℕ) → octa_at m a ≢ 0 → IsTrue (has_page m (a / 4096))
 unfolding octa_at has_page
-nonzero-paged m a ne = nonzero-in (lookup (is_at (nat_cmp (a / 4096))) m) (a / 8 % 512) ne
+nonzero-paged m a ne = sym (is_some-lookup (is_at (nat_cmp (a / 4096))) m) ∙ nonzero-in (lookup (is_at (nat_cmp (a / 4096))) m) (a / 8 % 512) ne
+
+-- the numbers of the pages are the keys of the places
+pub page_numbers-view : (pages : List (ℕ × List ℕ)) (places : List (ℕ × ℕ)) → page_numbers (view_of pages places) ≡ keys_of places
+page_numbers-view pages places = keys_of-map_values (octas_in pages) places

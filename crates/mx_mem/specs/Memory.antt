@@ -1,12 +1,14 @@
 -- Memory as contracts see it: the octas and bytes by their addresses, and the pages that are there.
-use Rattle.std.specs.Prelude.{ℕ, ◌+◌, ◌-◌, ◌*◌, ◌/◌, ◌%◌, ◌^◌, Bool, ◌==◌, ◌&&◌, not, nat_lt, if◌then◌else◌, List, length, Option, None, Some, is_some, slice_index_or, ◌≡◌, ◌≢◌, ◌≤◌, ◌<◌}
+use Rattle.std.specs.Prelude.{ℕ, ◌+◌, ◌/◌, ◌%◌, ◌^◌, Bool, ◌==◌, ◌&&◌, not, nat_lt, if◌then◌else◌, List, length, Option, None, Some, slice_index_or, ◌≡◌, ◌≢◌, ◌≤◌, ◌<◌}
 pub use Rattle.mx_word.specs.Octas.{byte_of, byte_in, in_half, with_tetra, tetra_byte, bytes_with_tetra, with_page}
-use Rattle.std.specs.Map.{lookup}
+use Rattle.std.specs.List.{list_any}
+use Rattle.std.specs.Map.{lookup, keys_of}
 use Rattle.std.specs.Ordering.{nat_cmp}
 use Rattle.std.specs.BTreeMap.{is_at}
 
 -- The pages that are there, in the order of their numbers, each with its 512 octas. Page p has the addresses from 4096 p
--- up to 4096 p + 4095. Contracts speak of it through `octa_at`, `byte_at`, `has_page` and `page_count` alone.
+-- up to 4096 p + 4095. Contracts speak of it through the functions
+-- below alone.
 abbrev pub Stored : Type 0
 Stored = List (ℕ × List ℕ)
 
@@ -31,13 +33,17 @@ tetra_of x a = if nat_lt (a % 8) 4 then x / 2 ^ 32 else x % 2 ^ 32
 abbrev pub tetra_at : Stored → ℕ → ℕ
 tetra_at m a = tetra_of (octa_at m a) a
 
+-- the numbers of the pages that are there, in their order
+abbrev pub page_numbers : Stored → List ℕ
+page_numbers m = keys_of m
+
 -- whether a page is there
 unfoldable pub has_page : Stored → ℕ → Bool
-has_page m p = is_some (lookup (is_at (nat_cmp p)) m)
+has_page m p = list_any (is_at (nat_cmp p)) (page_numbers m)
 
 -- how many pages are there
 unfoldable pub page_count : Stored → ℕ
-page_count m = length m
+page_count m = length (page_numbers m)
 
 -- whether a store in this page is refused: the page is not there, and no other can begin
 abbrev pub is_refused : Stored → ℕ → Bool

@@ -1,10 +1,10 @@
 -- What a space of bytes is, and what its calls answer.
-use Rattle.std.specs.Prelude.{ℕ, ◌+◌, ◌*◌, ◌/◌, ◌^◌, Bool, true, false, ◌==◌, ◌&&◌, not, nat_le, nat_lt, if◌then◌else◌, List, [], ◌∷◌, Result, Ok, Err}
+use Rattle.std.specs.Prelude.{ℕ, ◌+◌, ◌*◌, ◌/◌, ◌^◌, Bool, false, ◌==◌, ◌&&◌, not, nat_le, nat_lt, if◌then◌else◌, [], ◌∷◌, Result, Ok, Err}
 use Rattle.mx_word.specs.Words.{octa_from_bytes}
 use Rattle.mx_word.specs.Octas.{with_page}
 use Rattle.mx_mem.specs.Memory.{Stored, byte_at, has_page, page_count}
 use Rattle.mx_mem.specs.declared.space.SpaceFault.{SpaceFault}
-use Rattle.mx_mem.specs.declared.space.SpaceFault.TheVariants.{Negative, PagesFull, OutOfMemory}
+use Rattle.mx_mem.specs.declared.space.SpaceFault.TheVariants.{Negative, PagesFull}
 
 -- the bytes by their addresses; the pages that are there, by their numbers, and how many they are; whether the stack area
 -- lies outside the pages; and all else that belongs to the space, of a type that the implementer names
@@ -14,6 +14,10 @@ pub record Contents (Rest : Type 0) : Type 0 where
   pub page_count : ℕ
   pub is_stack_apart : Bool
   pub rest : Rest
+
+-- whether an address is refused
+abbrev pub is_negative : ℕ → Bool
+is_negative a = nat_le (2 ^ 63) a
 
 -- whether an address lies in the stack area, the 2^23 bytes from #6000000000000000 on
 abbrev pub is_in_stack_area : ℕ → Bool
@@ -37,15 +41,15 @@ octa_of bytes a = octa_from_bytes (bytes (8 * (a / 8)) ∷ bytes (8 * (a / 8) + 
 
 -- what the calls answer
 abbrev pub octa_answer : {Rest : Type 0} → Contents Rest → ℕ → Result ℕ SpaceFault
-octa_answer s a = if nat_lt a (2 ^ 63) then Ok (octa_of s.bytes a) else Err Negative
+octa_answer s a = if is_negative a then Err Negative else Ok (octa_of s.bytes a)
 
 abbrev pub byte_answer : {Rest : Type 0} → Contents Rest → ℕ → Result ℕ SpaceFault
-byte_answer s a = if nat_lt a (2 ^ 63) then Ok (s.bytes a) else Err Negative
+byte_answer s a = if is_negative a then Err Negative else Ok (s.bytes a)
 
 -- the answer of `put_byte`, unless it finds no memory, and the contents after it
 abbrev pub put_answer : {Rest : Type 0} → Contents Rest → ℕ → ℕ → Result (Unit {0}) SpaceFault × Contents Rest
 put_answer s a b =
-    if nat_le (2 ^ 63) a then (Err Negative, s)
+    if is_negative a then (Err Negative, s)
     else if not (begins_page s a) then (Ok tt, with_byte s a b)
     else if s.page_count == 65536 then (Err PagesFull, s)
     else (Ok tt, with_byte_page s a b)

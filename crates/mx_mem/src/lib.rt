@@ -10,6 +10,8 @@ mod page;
 mod part;
 mod places;
 mod space;
+#[cfg(test)]
+mod tests;
 
 pub use fault::MemFault;
 pub use memory::Memory;

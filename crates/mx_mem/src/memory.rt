@@ -1,14 +1,16 @@
 //! Memory as pages that are found by their numbers.
 
 ghost use Rattle.std.specs.Prelude.{◌≡◌, ◌≢◌, ◌↔◌, ◌≤◌, ◌<◌, ◌+◌, ◌/◌, ◌^◌, ◌==◌, ◌++◌, ◌∷◌, [], ℕ, List, length, false, IfSome, IsTrue, IsOk, OnOk, OnErr, if◌then◌else◌};
+ghost use Rattle.std.specs.Ordering.{nat_cmp};
+ghost use Rattle.std.specs.List.Sorted.{IsStrictlySortedBy};
 ghost use Rattle.mx_mem.specs.Parts as spec;
 ghost use Rattle.mx_mem.specs.Parts.{bytes_with_part};
-ghost use Rattle.mx_mem.specs.Memory.{octa_at, byte_at, tetra_at, tetra_of, has_page, page_count, is_refused, with_page, count_with_page, stored_at, stored_bytes, in_half, with_tetra, bytes_with_tetra, IsNextNonzero};
+ghost use Rattle.mx_mem.specs.Memory.{octa_at, byte_at, tetra_at, tetra_of, page_numbers, has_page, page_count, is_refused, with_page, count_with_page, stored_at, stored_bytes, in_half, with_tetra, bytes_with_tetra, IsNextNonzero};
 
-use crate::part::with_part;
-use crate::{MemFault, Part};
 use crate::page::Page;
+use crate::part::with_part;
 use crate::places::{GUESSES, add, guessed_place, next_page, place_of, slot};
+use crate::{MemFault, Part};
 use std::alloc::Global;
 use std::array;
 use std::cell::Cell;
@@ -124,7 +126,8 @@ impl Memory {
     #[inline(always)]
     pub fn store_part(&mut self, a: u64, part: Part, x: u64) -> Result<(), MemFault>
         requires { a < 2 ^ 63 }
-        ensures octas { OnOk result (octa_at self.new ≡ stored_at (octa_at self.old) a (spec.with_part part (octa_at self.old a) a x)) }
+        ensures octas { OnOk result
+            (octa_at self.new ≡ stored_at (octa_at self.old) a (spec.with_part part (octa_at self.old a) a x)) }
         ensures bytes { OnOk result (byte_at self.new ≡ bytes_with_part part (byte_at self.old) a x) }
         ensures pages { OnOk result (has_page self.new ≡ with_page (has_page self.old) (a / 4096)) }
         ensures count { OnOk result (page_count self.new ≡ count_with_page self.old (a / 4096)) }
@@ -190,8 +193,9 @@ impl Memory {
     pub fn pages(&self) -> u32
         ensures value { result ≡ page_count self.now }
         ensures few { result ≤ 65536 }
+        ensures distinct { IsStrictlySortedBy nat_cmp (page_numbers self.now) }
     {
-        self.pages.len() as u32
+        self.places.len() as u32
     }
 
     /// The least octa other than 0 whose own address is at or above `from`: its address and its

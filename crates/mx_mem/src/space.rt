@@ -1,6 +1,7 @@
 //! A space of bytes, as file traps see it.
 
 ghost use Rattle.std.specs.Prelude.{◌≡◌, ◌≢◌, ◌<◌, Err, IsTrue, not};
+ghost use Rattle.mx_mem.specs.Space as spec;
 ghost use Rattle.mx_mem.specs.Space.{Contents, octa_answer, byte_answer, put_answer, begins_page, memory_contents};
 
 use crate::{MemFault, Memory, Part};
@@ -53,21 +54,21 @@ impl Space for Memory {
     ghost contents = { memory_contents };
 
     fn octa_at(&self, a: u64) -> Result<u64, SpaceFault> {
-        if a >= 1 << 63 {
+        if is_negative(a) {
             return Err(SpaceFault::Negative);
         }
         Ok(self.load(a))
     }
 
     fn byte_at(&self, a: u64) -> Result<u8, SpaceFault> {
-        if a >= 1 << 63 {
+        if is_negative(a) {
             return Err(SpaceFault::Negative);
         }
         Ok(self.byte(a))
     }
 
     fn put_byte(&mut self, a: u64, b: u8) -> Result<(), SpaceFault> {
-        if a >= 1 << 63 {
+        if is_negative(a) {
             return Err(SpaceFault::Negative);
         }
         match self.store_part(a, Part::Byte, u64::from(b)) {
@@ -76,4 +77,12 @@ impl Space for Memory {
             Err(MemFault::OutOfMemory) => Err(SpaceFault::OutOfMemory),
         }
     }
+}
+
+/// Whether an address is 2^63 or more.
+#[inline(always)]
+fn is_negative(a: u64) -> bool
+    ensures { result ≡ spec.is_negative a }
+{
+    a >= 1 << 63
 }

@@ -1,10 +1,10 @@
-use Rattle.std.proofs.Common.{◌≡◌, ◌<◌, ◌≤◌, ◌/◌, ◌%◌, ◌*◌, ◌+◌, ◌-◌, ◌^◌, ℕ, bit_and, arith, ap, sym, subst, refl, ◌∙◌}
+use Rattle.std.proofs.Common.{◌≡◌, ◌<◌, ◌/◌, ◌%◌, ◌*◌, ◌+◌, ◌-◌, ◌^◌, ℕ, bit_and, arith, ap, sym, subst, refl, ◌∙◌}
 use Rattle.std.proofs.Math.Nat.{mod-eq_of_lt}
 use Rattle.std.proofs.lemmas.Nat.{and_mask}
 use Rattle.mx_mem.specs.Parts.{size_of, bits_below, with_part}
 use Rattle.mx_mem.specs.declared.part.Part.{Part}
 use Rattle.mx_mem.specs.declared.part.Part.TheVariants.{Byte, Wyde, Tetra, Octa}
-use Rattle.mx_mem.proofs.Fields.{replaced, replaced-fits, field-within}
+use Rattle.mx_mem.proofs.Fields.{replaced-fits, field-within}
 use Rattle.mx_mem.proofs.part.with_part.Goals as goal
 
 -- how many bits of an octa stand above a part

@@ -1,4 +1,4 @@
-use Rattle.std.proofs.Common.{ℕ, List, [], length, get_or, ◌<◌, ◌/◌, ◌%◌, ◌^◌, ◌≡◌, Some, None, true, sym, ◌∙◌, ap, subst, arith, replicate}
+use Rattle.std.proofs.Common.{ℕ, List, length, ◌<◌, ◌/◌, ◌%◌, ◌^◌, ◌≡◌, None, ◌∙◌, ap, subst, arith, replicate}
 use Rattle.std.proofs.Math.ListN.{set}
 use Rattle.std.specs.Ordering.{nat_cmp}
 use Rattle.std.specs.BTreeMap.{get}

@@ -1,4 +1,4 @@
-use Rattle.std.proofs.Common.{◌≡◌, ◌≢◌, sym, ◌∙◌}
+use Rattle.std.proofs.Common.{◌∙◌}
 use Rattle.mx_mem.proofs.Views.{nonzero-paged}
 use Rattle.mx_mem.proofs.memory.Memory.load.Goals as goal
 

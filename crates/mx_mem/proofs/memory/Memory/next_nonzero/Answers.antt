@@ -1,8 +1,8 @@
-use Rattle.std.proofs.Common.{◌≡◌, ◌≤◌, ◌<◌, ◌-◌, ◌*◌, ◌^◌, ◌+◌, ◌/◌, ◌%◌, ◌⊎◌, inl, inr, max, ℕ, List, [], length, get_or, arith, ap, sym, ◌∙◌, ⊎_elim}
+use Rattle.std.proofs.Common.{◌≡◌, ◌≤◌, ◌<◌, ◌*◌, ◌^◌, ◌+◌, ◌/◌, ◌%◌, ◌⊎◌, inl, inr, max, ℕ, List, [], length, get_or, arith, ap, sym, ◌∙◌, ⊎_elim}
 use Rattle.std.proofs.lemmas.Bool.{cases_lt}
 use Rattle.std.proofs.lemmas.List.{get_or_read}
 use Rattle.mx_mem.specs.Held.{octas_in}
-use Rattle.mx_mem.proofs.Searches.{ZeroUpTo, zero-on, zero-after, octa-on}
+use Rattle.mx_mem.proofs.Searches.{zero-on, zero-after, octa-on}
 use Rattle.mx_mem.proofs.memory.Memory.next_nonzero.Goals as goal
 
 -- the page that was found
@@ -39,13 +39,14 @@ returns-in-Some-next_nonzero c =
     let at : address / 8 % 512 ≡ c.in-Some-next_nonzero.i = omega arith in
     let page : address / 4096 ≡ c.in-Some.number = omega arith in
     let zeros = zero-on c.self.inside.pages.items c.self.inside.places c.args.self.now c.args.from c.loop-number.at c.in-Some.number c.in-Some.place c.max-at.result c.self.view_is c.loop-number.invariant.zeros
-        found.1 found.0 found.2 start.0 start.1 start.2 c.in-Some-next_nonzero.i (omega arith) (λ k f l. ap (λ octas. get_or octas k 0) (sym read) ∙ here.4 k f l) in
-    ( omega arith,
+    found.1 found.0 found.2 start.0 start.1 start.2 c.in-Some-next_nonzero.i (omega arith) (λ k f l. ap (λ octas. get_or octas k 0) (sym read) ∙ here.4 k f l) in (
+      omega arith,
       omega arith,
       octa-on c.self.inside.pages.items c.self.inside.places c.args.self.now address c.in-Some.number c.in-Some.place c.self.view_is found.1 page
-      ∙ ap (λ i. get_or (octas_in c.self.inside.pages.items c.in-Some.place) i 0) at ∙ ap (λ octas. get_or octas c.in-Some-next_nonzero.i 0) (sym read) ∙ here.2,
+          ∙ ap (λ i. get_or (octas_in c.self.inside.pages.items c.in-Some.place) i 0) at ∙ ap (λ octas. get_or octas c.in-Some-next_nonzero.i 0) (sym read) ∙ here.2,
       here.3,
-      λ q f w l. zeros q f w (omega arith) )
+      λ q f w l. zeros q f w (omega arith),
+    )
 
 pub loop-number-preserved : goal.loop-number-preserved
 loop-number-preserved c =
@@ -55,7 +56,7 @@ loop-number-preserved c =
     let low = c.self.invariant.bounded.below c.in-Some.place in-list.0 in
     let read = page-read c.self.inside.pages.items c.in-Some.place c.index.result.now in-list.0 c.index.ensures in
     let zeros = zero-on c.self.inside.pages.items c.self.inside.places c.args.self.now c.args.from c.loop-number.at c.in-Some.number c.in-Some.place c.max-at.result c.self.view_is c.loop-number.invariant.zeros
-        found.1 found.0 found.2 start.0 start.1 start.2 512 (omega arith) (λ k f l. ap (λ octas. get_or octas k 0) (sym read) ∙ c.in_default-next_nonzero.ensures k f l) in
+    found.1 found.0 found.2 start.0 start.1 start.2 512 (omega arith) (λ k f l. ap (λ octas. get_or octas k 0) (sym read) ∙ c.in_default-next_nonzero.ensures k f l) in
     record {
       reached = omega arith;
       below = omega arith;

@@ -1,4 +1,4 @@
-use Rattle.std.proofs.Common.{◌≡◌, ◌≤◌, ◌<◌, ◌-◌, ◌*◌, ◌^◌, ℕ}
+use Rattle.std.proofs.Common.{◌≤◌, ◌-◌, ◌*◌, ◌^◌}
 use Rattle.mx_mem.proofs.Searches.{ZeroUpTo}
 use Rattle.mx_mem.proofs.memory.Memory.next_nonzero.Given as goal
 

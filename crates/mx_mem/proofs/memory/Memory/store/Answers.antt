@@ -1,4 +1,4 @@
-use Rattle.std.proofs.Common.{ℕ, List, [], length, get_or, ◌<◌, ◌/◌, ◌%◌, ◌≡◌, Some, None, true, sym, ◌∙◌, ap, arith}
+use Rattle.std.proofs.Common.{length, ◌<◌, ◌/◌, ◌%◌, ◌≡◌, true, sym, ◌∙◌, ap, arith}
 use Rattle.std.proofs.Math.ListN.{set}
 use Rattle.std.proofs.lemmas.Grind.{common_steps}
 use Rattle.mx_mem.specs.Memory.{octa_at, has_page, page_count}

@@ -1,0 +1,139 @@
+//! Values from outside: tetras of published programs, and sums done by hand.
+
+use crate::{MemFault, Memory, Part, Space, SpaceFault};
+use std::test::Fail;
+
+/// What is joined, and what the octa there and the count of pages are afterwards.
+const JOINED: [(u64, u32, u64, u32); 11] = [
+    // two bytes 1 and 3 at one address make 2
+    (0, 0x0100_0000, 0x0100_0000_0000_0000, 1),
+    (0, 0x0300_0000, 0x0200_0000_0000_0000, 1),
+    // an address within a tetra means its tetra; the low half
+    (7, 0x0000_0701, 0x0200_0000_0000_0701, 1),
+    // a program at #100
+    (0x100, 0x8fff_0100, 0x8fff_0100_0000_0000, 1),
+    (0x104, 0x0000_0701, 0x8fff_0100_0000_0701, 1),
+    (0x10b, 0xf4ff_0003, 0xf4ff_0003_0000_0000, 1),
+    // a tetra of 0 makes its page and no octa
+    (0x2000_0000_0000_0000, 0, 0, 2),
+    // the last byte of a page and the first of the next
+    (0x1fff, 0x0000_00ff, 0x0000_0000_0000_00ff, 3),
+    (0x2000, 0xff00_0000, 0xff00_0000_0000_0000, 4),
+    // joined twice, nothing is left but the page
+    (0x2000, 0xff00_0000, 0, 4),
+    // the last address
+    (0x7fff_ffff_ffff_ffff, 0xffff_ffff, 0x0000_0000_ffff_ffff, 5),
+];
+
+/// Where to look from, and the octa that is found.
+const NEXT: [(u64, Option<(u64, u64)>); 7] = [
+    (0, Some((0, 0x0200_0000_0000_0701))),
+    // the octa's own address counts
+    (1, Some((0x100, 0x8fff_0100_0000_0701))),
+    (0x100, Some((0x100, 0x8fff_0100_0000_0701))),
+    (0x101, Some((0x108, 0xf4ff_0003_0000_0000))),
+    (0x109, Some((0x1ff8, 0xff))),
+    // over an octa that became 0 and a page of zeros
+    (0x1ff9, Some((0x7fff_ffff_ffff_fff8, 0xffff_ffff))),
+    (0x7fff_ffff_ffff_fff9, None),
+];
+
+/// What part is stored, and what the octa there and the count of pages are afterwards.
+const STORED: [(u64, Part, u64, u64, u32); 9] = [
+    // STB of 384 stores its low byte
+    (
+        0x2000_0000_0000_0001,
+        Part::Byte,
+        384,
+        0x0080_0000_0000_0000,
+        1,
+    ),
+    // bytes 0 and 7 of an octa
+    (0x100, Part::Byte, 0x11, 0x1100_0000_0000_0000, 2),
+    (0x107, Part::Byte, 0x22, 0x1100_0000_0000_0022, 2),
+    // a wyde, a tetra and an octa at odd addresses
+    (0x103, Part::Wyde, 0xa_3344, 0x1100_3344_0000_0022, 2),
+    (0x105, Part::Tetra, 0xb_5566_7788, 0x1100_3344_5566_7788, 2),
+    (0x101, Part::Octa, u64::MAX, u64::MAX, 2),
+    (0x102, Part::Byte, 0, 0xffff_00ff_ffff_ffff, 2),
+    // a store of 0 makes its page
+    (0x3000, Part::Octa, 0, 0, 3),
+    // the last byte there is
+    (0x7fff_ffff_ffff_ffff, Part::Byte, 1, 1, 4),
+];
+
+#[test]
+fn joins_tetras(rt: HostRuntime) -> Result<(), Fail> {
+    let mut memory = Memory::new(rt.alloc());
+    assert_eq!(rt; memory.pages(), 0);
+    assert_eq!(rt; memory.load(0), 0);
+    assert_eq!(rt; memory.next_nonzero(0), None);
+    for (a, t, octa, pages) in JOINED {
+        assert!(rt; a < 1 << 63);
+        memory.xor_tetra(a, t)?;
+        assert_eq!(rt; memory.load(a), octa, "at {a}");
+        assert_eq!(rt; memory.pages(), pages, "after {a}");
+    }
+    for (from, found) in NEXT {
+        assert!(rt; from < 1 << 63);
+        assert_eq!(rt; memory.next_nonzero(from), found, "from {from}");
+    }
+    // a fetch from within the low half
+    assert_eq!(rt; (memory.tetra(0x106), memory.byte(0x107)), (0x0701, 0x01));
+    Ok(())
+}
+
+#[test]
+fn stores_parts(rt: HostRuntime) -> Result<(), Fail> {
+    let mut memory = Memory::new(rt.alloc());
+    for (a, part, x, octa, pages) in STORED {
+        assert!(rt; a < 1 << 63);
+        memory.store_part(a, part, x)?;
+        assert_eq!(rt; memory.load(a), octa, "at {a}");
+        assert_eq!(rt; memory.pages(), pages, "after {a}");
+    }
+    Ok(())
+}
+
+/// Puts a byte at an address, and gives what stands there then.
+fn put_and_read<S: Space>(space: &mut S, a: u64, b: u8) -> Result<(u8, u64), SpaceFault> {
+    space.put_byte(a, b)?;
+    Ok((space.byte_at(a)?, space.octa_at(a)?))
+}
+
+#[test]
+fn is_a_space(rt: HostRuntime) -> Result<(), Fail> {
+    let mut memory = Memory::new(rt.alloc());
+    assert_eq!(rt;
+        put_and_read(&mut memory, 0x6000_0000_0000_0006, 0xab),
+        Ok((0xab, 0xab00))
+    );
+    assert_eq!(rt; put_and_read(&mut memory, (1 << 63) - 1, 7), Ok((7, 7)));
+    assert_eq!(rt;
+        put_and_read(&mut memory, 1 << 63, 7),
+        Err(SpaceFault::Negative)
+    );
+    assert_eq!(rt; memory.pages(), 2);
+    Ok(())
+}
+
+#[test]
+fn refuses_one_page_too_many(rt: HostRuntime) -> Result<(), Fail> {
+    let mut memory = Memory::new(rt.alloc());
+    for page in 0..65536 {
+        memory.store(page * 4096 + 5, 0)?;
+    }
+    assert_eq!(rt; memory.store(1 << 62, 1), Err(MemFault::PagesFull));
+    assert_eq!(rt; memory.put_byte(1 << 62, 1), Err(SpaceFault::PagesFull));
+    assert_eq!(rt; memory.load(1 << 62), 0);
+    assert_eq!(rt; memory.pages(), 65536);
+    assert_eq!(rt; memory.next_nonzero(0), None);
+    // a page that is there is not refused, and its octa is found over all pages of zeros
+    assert_eq!(rt; memory.xor_tetra(65535 * 4096 + 4, 1), Ok(()));
+    assert_eq!(rt; memory.next_nonzero(0), Some((65535 * 4096, 1)));
+    assert_eq!(rt;
+        (MemFault::PagesFull.number(), MemFault::OutOfMemory.number()),
+        (90, 0)
+    );
+    Ok(())
+}
