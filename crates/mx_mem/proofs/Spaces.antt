@@ -19,7 +19,7 @@ byte-in-octa m a q k e f = ap (λ r. octa_at m q / 2 ^ (8 * (7 - r)) % 256) f �
 -- an octa is made of its bytes
 pub octa-of-bytes : (m : Stored) (a : ℕ) → octa_at m a < 2 ^ 64 → octa_of (byte_at m) a ≡ octa_at m a
 octa-of-bytes m a l =
-    let b0 = byte-in-octa m a (8 * (a / 8)) 0 (omega arith) (omega arith) in
+    let b0 = byte-in-octa m a (8 * (a / 8) + 0) 0 (omega arith) (omega arith) in
     let b1 = byte-in-octa m a (8 * (a / 8) + 1) 1 (omega arith) (omega arith) in
     let b2 = byte-in-octa m a (8 * (a / 8) + 2) 2 (omega arith) (omega arith) in
     let b3 = byte-in-octa m a (8 * (a / 8) + 3) 3 (omega arith) (omega arith) in

@@ -12,4 +12,5 @@ nonzero_count octas = sum_by one_unless_zero octas
 -- the first octa other than 0 from a place on, with its place
 abbrev pub IsNextIn : List ℕ → ℕ → Option (ℕ × ℕ) → Type 0
 IsNextIn octas from None = (k : ℕ) → from ≤ k → k < 512 → slice_index_or octas k 0 ≡ 0
-IsNextIn octas from (Some (at, x)) = (from ≤ at) × (at < 512) × (slice_index_or octas at 0 ≡ x) × (x ≢ 0) × ((k : ℕ) → from ≤ k → k < at → slice_index_or octas k 0 ≡ 0)
+IsNextIn octas from (Some (at, x)) = (from ≤ at) × (at < 512) × (slice_index_or octas at 0 ≡ x) × (x ≢ 0)
+    × ((k : ℕ) → from ≤ k → k < at → slice_index_or octas k 0 ≡ 0)

@@ -39,4 +39,5 @@ pub record Holds (m : Inside) : Type 0 where
 -- the least number from `number` on that has a place, with its place
 abbrev pub IsNextPage : BTreeMap ℕ ℕ → ℕ → Option (ℕ × ℕ) → Type 0
 IsNextPage places number None = (p : ℕ) → number ≤ p → tree.get nat_cmp places p ≡ None
-IsNextPage places number (Some (n, place)) = (number ≤ n) × (tree.get nat_cmp places n ≡ Some place) × ((p : ℕ) → number ≤ p → p < n → tree.get nat_cmp places p ≡ None)
+IsNextPage places number (Some (n, place)) = (number ≤ n) × (tree.get nat_cmp places n ≡ Some place)
+    × ((p : ℕ) → number ≤ p → p < n → tree.get nat_cmp places p ≡ None)

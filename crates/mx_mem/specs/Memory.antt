@@ -64,4 +64,5 @@ stored_bytes bytes a x q = if q / 8 == a / 8 then byte_of x q else bytes q
 -- the least octa other than 0 whose own address is at or above `from`, with its address
 abbrev pub IsNextNonzero : (ℕ → ℕ) → ℕ → Option (ℕ × ℕ) → Type 0
 IsNextNonzero octas from None = (q : ℕ) → from ≤ q → q % 8 ≡ 0 → octas q ≡ 0
-IsNextNonzero octas from (Some (a, x)) = (from ≤ a) × (a % 8 ≡ 0) × (octas a ≡ x) × (x ≢ 0) × ((q : ℕ) → from ≤ q → q % 8 ≡ 0 → q < a → octas q ≡ 0)
+IsNextNonzero octas from (Some (a, x)) = (from ≤ a) × (a % 8 ≡ 0) × (octas a ≡ x) × (x ≢ 0)
+    × ((q : ℕ) → from ≤ q → q % 8 ≡ 0 → q < a → octas q ≡ 0)

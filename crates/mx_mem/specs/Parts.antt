@@ -20,8 +20,11 @@ part_of part x a = x / 2 ^ bits_below part a % 2 ^ (8 * size_of part)
 
 -- an octa with the low bytes of x in place of the part where an address lies
 abbrev pub with_part : Part → ℕ → ℕ → ℕ → ℕ
-with_part part octa a x = octa - part_of part octa a * 2 ^ bits_below part a + x % 2 ^ (8 * size_of part) * 2 ^ bits_below part a
+with_part part octa a x =
+    octa - part_of part octa a * 2 ^ bits_below part a + x % 2 ^ (8 * size_of part) * 2 ^ bits_below part a
 
 -- the bytes, with the low bytes of x, from the high end, in place of the part that holds an address
 abbrev pub bytes_with_part : Part → (ℕ → ℕ) → ℕ → ℕ → ℕ → ℕ
-bytes_with_part part bytes a x q = if q / size_of part == a / size_of part then x / 2 ^ (8 * (size_of part - 1 - q % size_of part)) % 256 else bytes q
+bytes_with_part part bytes a x q =
+    if q / size_of part == a / size_of part then x / 2 ^ (8 * (size_of part - 1 - q % size_of part)) % 256
+    else bytes q

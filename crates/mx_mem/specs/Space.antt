@@ -1,5 +1,5 @@
 -- What a space of bytes is, and what its calls answer.
-use Rattle.std.specs.Prelude.{ℕ, ◌+◌, ◌*◌, ◌/◌, ◌^◌, Bool, false, ◌==◌, ◌&&◌, not, nat_le, nat_lt, if◌then◌else◌, [], ◌∷◌, Result, Ok, Err}
+use Rattle.std.specs.Prelude.{ℕ, ◌+◌, ◌*◌, ◌/◌, ◌^◌, Bool, false, ◌==◌, ◌&&◌, not, nat_le, nat_lt, if◌then◌else◌, [], ◌∷◌, map, Result, Ok, Err}
 use Rattle.mx_word.specs.Words.{octa_from_bytes}
 use Rattle.mx_word.specs.Octas.{with_page}
 use Rattle.mx_mem.specs.Memory.{Stored, byte_at, has_page, page_count}
@@ -32,12 +32,12 @@ abbrev pub with_byte : {Rest : Type 0} → Contents Rest → ℕ → ℕ → Con
 with_byte s a b = record s { bytes = λ q. if q == a then b else s.bytes q }
 
 abbrev pub with_byte_page : {Rest : Type 0} → Contents Rest → ℕ → ℕ → Contents Rest
-with_byte_page s a b = record (with_byte s a b) { pages = with_page s.pages (a / 4096); page_count = s.page_count + 1 }
+with_byte_page s a b =
+    record (with_byte s a b) { pages = with_page s.pages (a / 4096); page_count = s.page_count + 1 }
 
 -- the octa that holds an address, of its eight bytes
 abbrev pub octa_of : (ℕ → ℕ) → ℕ → ℕ
-octa_of bytes a = octa_from_bytes (bytes (8 * (a / 8)) ∷ bytes (8 * (a / 8) + 1) ∷ bytes (8 * (a / 8) + 2) ∷ bytes (8 * (a / 8) + 3)
-    ∷ bytes (8 * (a / 8) + 4) ∷ bytes (8 * (a / 8) + 5) ∷ bytes (8 * (a / 8) + 6) ∷ bytes (8 * (a / 8) + 7) ∷ [])
+octa_of bytes a = octa_from_bytes (map (λ k. bytes (8 * (a / 8) + k)) (0 ∷ 1 ∷ 2 ∷ 3 ∷ 4 ∷ 5 ∷ 6 ∷ 7 ∷ []))
 
 -- what the calls answer
 abbrev pub octa_answer : {Rest : Type 0} → Contents Rest → ℕ → Result ℕ SpaceFault
@@ -56,4 +56,10 @@ put_answer s a b =
 
 -- memory as a space: its pages have the stack area, and it has nothing else
 abbrev pub memory_contents : Stored → Contents (Unit {0})
-memory_contents m = record { bytes = byte_at m; pages = has_page m; page_count = page_count m; is_stack_apart = false; rest = tt }
+memory_contents m = record {
+  bytes = byte_at m;
+  pages = has_page m;
+  page_count = page_count m;
+  is_stack_apart = false;
+  rest = tt;
+}

@@ -21,7 +21,8 @@ pub fn add(
 ) -> Result<(), MemFault>
     requires { get nat_cmp places.old page.0 ≡ None }
     ensures pages { OnOk result (pages.new.items ≡ pages.old.items ++ page ∷ []) }
-    ensures places { OnOk result ((p : ℕ) → get nat_cmp places.new p ≡ (if p == page.0 then Some (length pages.old.items) else get nat_cmp places.old p)) }
+    ensures places { OnOk result ((p : ℕ) →
+        get nat_cmp places.new p ≡ (if p == page.0 then Some (length pages.old.items) else get nat_cmp places.old p)) }
     ensures count { OnOk result (length places.new.entries ≡ length places.old.entries + 1) }
     ensures err { OnErr result ((pages.new.items ≡ pages.old.items) × (places.new.entries ≡ places.old.entries)) }
     ensures memory { OnErr result (result ≡ Err MemFault.OutOfMemory) }
