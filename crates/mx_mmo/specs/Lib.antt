@@ -1,3 +1,4 @@
+pub use Rattle.mx_word.specs.Ranges
 pub use Rattle.mx_word.specs.Words
 pub mod Faults
 pub mod Image
@@ -5,6 +6,7 @@ pub mod Meaning
 pub mod Object
 pub mod Reading
 pub mod Replies
+pub mod Skipping
 pub mod Spelling
 pub mod Tetras
 pub mod Valid

@@ -73,8 +73,8 @@ extended (items, Err fault) more = (items, Err fault)
 extended (items, Ok left) more = onto items (items_of left.phase left.at (left.rest ++ more))
 
 -- the items that were given, and those that a reader still gives
-abbrev pub ahead : List Item → ReaderModel → Walk
-ahead items m = onto items (items_of m.phase m.at m.rest)
+abbrev pub with_rest : List Item → ReaderModel → Walk
+with_rest items m = onto items (items_of m.phase m.at m.rest)
 
 abbrev pub left_of : ReaderModel → Left
 left_of m = record { phase = m.phase; at = m.at; rest = m.rest }
