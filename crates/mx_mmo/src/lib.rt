@@ -8,7 +8,10 @@ mod due;
 mod faults;
 mod items;
 mod lists;
+mod lops;
+mod parts;
 mod reader;
+mod skipping;
 mod spell;
 mod tail;
 #[cfg(test)]
@@ -20,6 +23,7 @@ pub use due::Phase;
 pub use faults::MmoFault;
 pub use items::{Item, Object, Tail};
 pub use lists::{Items, Octas, Words};
+pub use lops::Lop;
 pub use reader::Reader;
 pub use whole::{items_come_in_turn, read, reading_is_the_grammar, written_is_read};
 pub use writer::Writer;
