@@ -6,6 +6,7 @@
 
 mod due;
 mod faults;
+mod input;
 mod items;
 mod lists;
 mod lops;

@@ -1,8 +1,7 @@
 //! Reading a whole object.
 
-ghost use Rattle.std.specs.Prelude.{◌≡◌, ◌≢◌, ◌<◌, ◌≤◌, ◌+◌, None, true, false, length, [], Some, IfOk, IfErr, OnOk, IsErrAnd, List, ℕ, ◌++◌};
-ghost use Rattle.std.specs.List.{AllByRecursion, concat};
-ghost use Rattle.mx_mmo.specs.Object.{IsBuilt};
+ghost use Rattle.std.specs.Prelude.{◌≡◌, ◌≢◌, ◌<◌, ◌≤◌, ◌+◌, None, true, false, length, [], Some, IfOk, IfErr, OnOk, IsErrAnd, List, ℕ, ◌++◌, ◌%◌, ◌/◌, ◌^◌};
+ghost use Rattle.std.specs.List.{concat};
 ghost use Rattle.mx_mmo.specs.Reading.{first_item};
 ghost use Rattle.mx_mmo.specs.Replies.{limit};
 ghost use Rattle.mx_mmo.specs.Spelling.{ending, written};
@@ -10,7 +9,7 @@ ghost use Rattle.mx_mmo.specs.Valid.{AreBytes, Valid};
 ghost use Rattle.mx_mmo.specs.declared.items.Item.{Item};
 ghost use Rattle.mx_mmo.specs.declared.items.Object.{Object};
 ghost use Rattle.mx_mmo.specs.declared.due.Phase.{Phase};
-ghost use Rattle.mx_mmo.specs.Whole.{IsFaultOf, SpellsObject, ahead, extended, fed, items_of, left_of, object_fault, object_of, walk_on, with_more};
+ghost use Rattle.mx_mmo.specs.Whole.{IsFaultOf, SpellsObject, extended, fed, items_of, left_of, object_fault, object_of, walk_on, with_more, with_rest};
 
 use crate::{Items, MmoFault, Object, Phase, Reader};
 use mx_word::Bytes;
@@ -19,14 +18,14 @@ use std::alloc::Global;
 /// Takes the next item, where a whole one stands next.
 fn take_one(reader: &mut Reader, items: &mut Items) -> Result<bool, MmoFault>
     requires { reader.old.fault ≡ None }
-    ensures same { result ≡ Ok true → ahead items.new reader.new ≡ ahead items.old reader.old }
+    ensures same { result ≡ Ok true → with_rest items.new reader.new ≡ with_rest items.old reader.old }
     ensures last { result ≡ Ok false →
-        ahead items.old reader.old ≡ (items.new, Ok (left_of reader.new)) }
+        with_rest items.old reader.old ≡ (items.new, Ok (left_of reader.new)) }
     ensures less { result ≡ Ok true → length reader.new.rest < length reader.old.rest }
     ensures well { OnOk result (reader.new.fault ≡ None) }
     ensures end { OnOk result (fed reader.new ≡ fed reader.old) }
     ensures fault { result ≢ Err MmoFault.OutOfMemory →
-        IfErr result (λ f. (ahead items.old reader.old).1 ≡ Err f) }
+        IfErr result (λ f. (with_rest items.old reader.old).1 ≡ Err f) }
 {
     match reader.next() {
         Ok(Some(item)) => match items.push(item) {
@@ -41,11 +40,11 @@ fn take_one(reader: &mut Reader, items: &mut Items) -> Result<bool, MmoFault>
 /// Takes all items that are whole in what was fed.
 fn take_all(reader: &mut Reader, items: &mut Items) -> Result<(), MmoFault>
     requires { reader.old.fault ≡ None }
-    ensures last { OnOk result (ahead items.old reader.old ≡ (items.new, Ok (left_of reader.new))) }
+    ensures last { OnOk result (with_rest items.old reader.old ≡ (items.new, Ok (left_of reader.new))) }
     ensures well { OnOk result (reader.new.fault ≡ None) }
     ensures end { OnOk result (fed reader.new ≡ fed reader.old) }
     ensures fault { result ≢ Err MmoFault.OutOfMemory →
-        IfErr result (λ f. (ahead items.old reader.old).1 ≡ Err f) }
+        IfErr result (λ f. (with_rest items.old reader.old).1 ≡ Err f) }
 {
     loop {
         match take_one(reader, items) {
@@ -59,7 +58,7 @@ fn take_all(reader: &mut Reader, items: &mut Items) -> Result<(), MmoFault>
 /// Feeds the next piece, and takes all items that are whole then.
 fn take_piece(reader: &mut Reader, items: &mut Items, piece: &[u8]) -> Result<(), MmoFault>
     requires { reader.old.fault ≡ None }
-    ensures last { OnOk result (ahead items.old (with_more reader.old piece.now)
+    ensures last { OnOk result (with_rest items.old (with_more reader.old piece.now)
         ≡ (items.new, Ok (left_of reader.new))) }
     ensures well { OnOk result (reader.new.fault ≡ None) }
     ensures end { OnOk result (fed reader.new ≡ fed reader.old + length piece.now) }
@@ -67,7 +66,7 @@ fn take_piece(reader: &mut Reader, items: &mut Items, piece: &[u8]) -> Result<()
     ensures bytes { AreBytes piece.now }
     ensures fault { result ≢ Err MmoFault.OutOfMemory →
         IfErr result (λ f. IsFaultOf f (fed reader.old + length piece.now)
-        (ahead items.old (with_more reader.old piece.now))) }
+        (with_rest items.old (with_more reader.old piece.now))) }
 {
     match reader.feed(piece) {
         Ok(()) => take_all(reader, items),
@@ -109,9 +108,8 @@ pub fn read(alloc: Global, pieces: &[Bytes]) -> Result<Object, MmoFault>
         (items_of Phase.Start 0 (concat pieces.now))) }
     // What is read is in the grammar of objects.
     ensures found { IfOk result (λ object. SpellsObject (concat pieces.now) object) }
-    // What is in the grammar is read, as long as all of it is read so far.
+    // What is in the grammar is read.
     ensures only { (object : Object) → SpellsObject (concat pieces.now) object →
-        AllByRecursion IsBuilt object.items → object.tail.trie ≡ [] →
         length (concat pieces.now) ≤ limit → result ≢ Err MmoFault.OutOfMemory → result ≡ Ok object }
     // A fault is the first one.
     ensures fault { length (concat pieces.now) ≤ limit → result ≢ Err MmoFault.OutOfMemory →
@@ -120,25 +118,22 @@ pub fn read(alloc: Global, pieces: &[Bytes]) -> Result<Object, MmoFault>
     read_pieces(alloc, pieces)
 }
 
-/// What a writer writes of valid items is read again as these items and this trie, as long as all
-/// of it is read so far.
+/// What a writer writes of valid items is read again as these items and this trie.
 pub fn written_is_read()
-    ensures { (items : List Item) (trie : List ℕ) → Valid items → AllByRecursion IsBuilt items →
-        trie ≡ [] → length (written items ++ ending trie) ≤ limit →
+    ensures { (items : List Item) (trie : List ℕ) → Valid items → length trie % 4 ≡ 0 →
+        length trie / 4 < 2 ^ 16 → length (written items ++ ending trie) ≤ limit →
         object_of (written items ++ ending trie) ≡ Ok (record {
           items = items;
           tail = record { trie = trie; place = length (written items) };
         }) }
 {}
 
-/// What is read is in the grammar of objects, and what is in the grammar is read, as long as all of
-/// it is read so far.
+/// What is read is in the grammar of objects, and what is in the grammar is read.
 pub fn reading_is_the_grammar()
     ensures found { (bytes : List ℕ) (object : Object) → AreBytes bytes →
         object_of bytes ≡ Ok object → SpellsObject bytes object }
     ensures only { (bytes : List ℕ) (object : Object) → SpellsObject bytes object →
-        AllByRecursion IsBuilt object.items → object.tail.trie ≡ [] → length bytes ≤ limit →
-        object_of bytes ≡ Ok object }
+        length bytes ≤ limit → object_of bytes ≡ Ok object }
 {}
 
 /// The items of bytes are the first one and those of the bytes behind it; and where more bytes come,
