@@ -1,8 +1,13 @@
+pub mod Bytes
+pub mod Codes
 pub mod Complete
+pub mod Ends
 pub mod Firsts
+pub mod Names
 pub mod Nexts
 pub mod Phases
 pub mod Pieces
+pub mod Skips
 pub mod Sound
 pub mod Spelt
 pub mod Splits

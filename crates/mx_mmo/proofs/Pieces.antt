@@ -6,7 +6,7 @@ use Rattle.std.proofs.lemmas.Grind.{common_steps}
 use Rattle.std.proofs.lemmas.Bool.Decides.{nat_tests}
 use Rattle.mx_mmo.specs.Valid.{AreBytes}
 use Rattle.mx_mmo.specs.Replies.{ReaderModel, limit, fresh, tail_of}
-use Rattle.mx_mmo.specs.Whole.{IsFaultOf, Walk, ahead, fed, items_of, left_of, object_of, object_behind, with_tail, with_more, extended}
+use Rattle.mx_mmo.specs.Whole.{IsFaultOf, Walk, with_rest, fed, items_of, left_of, object_of, object_behind, with_tail, with_more, extended}
 use Rattle.mx_mmo.specs.declared.items.Item.{Item}
 use Rattle.mx_mmo.specs.declared.faults.MmoFault.{MmoFault}
 use Rattle.mx_mmo.specs.declared.due.Phase.TheVariants.{Start}
@@ -29,7 +29,7 @@ pub nothing-yet : items_of Start 0 [] ≡ ([], Ok (left_of fresh))
 nothing-yet = items-none Start 0 [] refl
 
 pub goes-on : (front piece : List ℕ) (items : List Item) (m : ReaderModel) → items_of Start 0 front ≡ (items, Ok (left_of m)) →
-    items_of Start 0 (front ++ piece) ≡ ahead items (with_more m piece)
+    items_of Start 0 (front ++ piece) ≡ with_rest items (with_more m piece)
 goes-on front piece items m h = extends Start 0 front piece ∙ ap (λ w. extended w piece) h
 
 stays : (w : Walk) (rest : List ℕ) (fault : MmoFault) → w.1 ≡ Err fault → (extended w rest).1 ≡ Err fault
@@ -58,7 +58,7 @@ object-of-all bytes items m h l = not-long bytes l ∙ ap (λ (w : Walk). object
 -- the faults of a call that goes on with a piece are those of the bytes up to its end
 pub fault-of-piece : (pieces : List (List ℕ)) (i : ℕ) (piece d : List ℕ) (items : List Item) (m : ReaderModel) (fault : MmoFault) → i < length pieces → piece ≡ get_or pieces i d →
     items_of Start 0 (concat (take i pieces)) ≡ (items, Ok (left_of m)) → fed m ≡ length (concat (take i pieces)) →
-    IsFaultOf fault (fed m + length piece) (ahead items (with_more m piece)) →
+    IsFaultOf fault (fed m + length piece) (with_rest items (with_more m piece)) →
     IsFaultOf fault (length (concat pieces)) (items_of Start 0 (concat pieces))
 fault-of-piece pieces i piece d items m fault l is same end h =
     let front = concat (take i pieces) in
@@ -70,7 +70,7 @@ fault-of-piece pieces i piece d items m fault l is same end h =
 
 -- the items up to the end of a piece
 pub items-of-piece : (pieces : List (List ℕ)) (i : ℕ) (piece d : List ℕ) (items more : List Item) (m n : ReaderModel) → i < length pieces → piece ≡ get_or pieces i d →
-    items_of Start 0 (concat (take i pieces)) ≡ (items, Ok (left_of m)) → ahead items (with_more m piece) ≡ (more, Ok (left_of n)) →
+    items_of Start 0 (concat (take i pieces)) ≡ (items, Ok (left_of m)) → with_rest items (with_more m piece) ≡ (more, Ok (left_of n)) →
     items_of Start 0 (concat (take (i + 1) pieces)) ≡ (more, Ok (left_of n))
 items-of-piece pieces i piece d items more m n l is same h =
     let front = concat (take i pieces) in

@@ -9,5 +9,6 @@ pub mod Replies
 pub mod Skipping
 pub mod Spelling
 pub mod Tetras
+pub mod Turns
 pub mod Valid
 pub mod Whole

@@ -26,6 +26,11 @@ pub data IsSkipped : List ℕ → Type 0 where
   quoted : (t : ℕ) (more : List ℕ) → t < 2 ^ 32 → IsSkipped more →
       IsSkipped (lop 0 0 1 ++ tetra_to_bytes t ++ more)
 
+-- a lopcode that ends a spec: any but a quote with YZ = 1
+abbrev pub EndsSpec : List ℕ → Type 0
+EndsSpec (a ∷ code ∷ y ∷ z ∷ more) = (a ≡ 0x98) × ¬ ((code ≡ 0) × (y ≡ 0) × (z ≡ 1))
+EndsSpec _ = ⊥
+
 -- the bytes that an item may stand as
 pub data Spells : Item → List ℕ → Type 0 where
   bare : (t : ℕ) → IsNoLop t → Spells (Load t) (tetra_to_bytes t)

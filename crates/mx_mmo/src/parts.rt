@@ -47,7 +47,10 @@ fn trimmed(bytes: &[u8]) -> &[u8]
     ensures { result.now ≡ spec.trimmed bytes.now }
 {
     let mut name = bytes;
-    while let [front @ .., 0] = name {
+    while let [front @ .., last] = name {
+        if *last != 0 {
+            return name;
+        }
         name = front;
     }
     name

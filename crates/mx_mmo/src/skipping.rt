@@ -1,6 +1,6 @@
 //! The tetras that a spec skips.
 
-ghost use Rattle.std.specs.Prelude.{◌≡◌, ◌≤◌, ◌-◌, ◌∷◌, [], true, false, Some, length, take, drop};
+ghost use Rattle.std.specs.Prelude.{◌≡◌, ◌≤◌, ◌-◌, ◌∷◌, [], true, false, Some, IfSome, length, take, drop};
 ghost use Rattle.mx_mmo.specs.Skipping as spec;
 
 /// How far the tetras behind a spec were looked through, so that none is looked at twice: so many
@@ -43,6 +43,7 @@ pub fn skip(scan: &mut Scan, more: &[u8]) -> Option<usize>
     requires within { scan.old.size ≤ length more.now }
     requires looked { spec.quoted_behind false (take scan.old.size more.now) ≡ Some scan.old.quoted }
     ensures size { result ≡ spec.skipped false more.now }
+    ensures there { IfSome result (λ size. size ≤ length more.now) }
     ensures within { scan.new.size ≤ length more.now }
     ensures looked { spec.quoted_behind false (take scan.new.size more.now) ≡ Some scan.new.quoted }
 {

@@ -24,4 +24,4 @@ pub returns-clause-found : goal.returns-clause-found
 returns-clause-found c = found-of (concat c.args.pieces.now) _ c.read_pieces.result c.read_pieces.ensures.exact c.read_pieces.ensures.long c.read_pieces.ensures.bytes
 
 pub returns-clause-only : goal.returns-clause-only
-returns-clause-only c = λ object s b e l ne. c.read_pieces.ensures.exact l ne ∙ object-only (concat c.args.pieces.now) object s b e l
+returns-clause-only c = λ object s l ne. c.read_pieces.ensures.exact l ne ∙ object-only (concat c.args.pieces.now) object s l

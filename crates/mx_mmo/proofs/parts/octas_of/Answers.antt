@@ -1,6 +1,6 @@
 use Rattle.std.proofs.Common.{◌++◌, sym, ◌∙◌, ap, append_assoc}
 use Rattle.mx_mmo.proofs.Splits.{octas-next}
-use Rattle.mx_mmo.proofs.due.octas_of.Goals as goal
+use Rattle.mx_mmo.proofs.parts.octas_of.Goals as goal
 
 pub loop-rest-preserved : goal.loop-rest-preserved
 loop-rest-preserved c =

@@ -1,6 +1,6 @@
 use Rattle.std.proofs.Common.{◌≡◌, ◌++◌, length}
 use Rattle.mx_mmo.specs.Reading as spec
-use Rattle.mx_mmo.proofs.due.octas_of.Given as goal
+use Rattle.mx_mmo.proofs.parts.octas_of.Given as goal
 
 -- the octas so far, and those of the bytes that are left, are those of all bytes
 abbrev pub invariant-loop-rest : goal.invariant-loop-rest
