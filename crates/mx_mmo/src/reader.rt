@@ -109,7 +109,13 @@ impl Reader {
             return Err(fault);
         }
         let mut scan = self.scan;
-        let due = first_item(self.alloc, &mut scan, self.phase, self.at, self.input.bytes());
+        let due = first_item(
+            self.alloc,
+            &mut scan,
+            self.phase,
+            self.at,
+            self.input.bytes(),
+        );
         match due {
             Ok(None) => {
                 self.scan = scan;
