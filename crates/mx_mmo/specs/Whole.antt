@@ -87,9 +87,16 @@ fed m = m.at + length m.rest
 abbrev pub with_more : ReaderModel → List ℕ → ReaderModel
 with_more m more = record m { rest = m.rest ++ more }
 
--- a fault of so many bytes with these items: there are too many, or an item has it
-abbrev pub IsFaultOf : MmoFault → ℕ → Walk → Type 0
-IsFaultOf fault size w = ((limit < size) × (fault ≡ TooLong limit)) ⊎ (w.1 ≡ Err fault)
+-- the bytes of the pieces up to the one with which all of them pass 2^26 bytes, where so many came before
+abbrev pub pieces_within : ℕ → List (List ℕ) → List ℕ
+pieces_within n [] = []
+pieces_within n (piece ∷ pieces) =
+    if nat_lt limit (n + length piece) then [] else piece ++ pieces_within (n + length piece) pieces
+
+-- what is answered where the next piece passes 2^26 bytes: the fault of an item that came before, or that there are too many
+abbrev pub passed_limit : Result Left MmoFault → Result Object MmoFault
+passed_limit (Err fault) = Err fault
+passed_limit (Ok left) = Err (TooLong limit)
 
 -- the bytes are this object in the grammar, and its trie begins where the items end
 pub record SpellsObject (bytes : List ℕ) (object : Object) : Type 0 where

@@ -1,6 +1,6 @@
 //! Reading a whole object.
 
-ghost use Rattle.std.specs.Prelude.{◌≡◌, ◌≢◌, ◌<◌, ◌≤◌, ◌+◌, None, true, false, length, [], Some, IfOk, IfErr, OnOk, IsErrAnd, List, ℕ, ◌++◌, ◌%◌, ◌/◌, ◌^◌};
+ghost use Rattle.std.specs.Prelude.{◌≡◌, ◌≢◌, ◌<◌, ◌≤◌, ◌+◌, None, true, false, length, [], Some, IfOk, IfErr, OnOk, List, ℕ, ◌++◌, ◌%◌, ◌/◌, ◌^◌};
 ghost use Rattle.std.specs.List.{concat};
 ghost use Rattle.mx_mmo.specs.Reading.{first_item};
 ghost use Rattle.mx_mmo.specs.Replies.{limit};
@@ -9,7 +9,7 @@ ghost use Rattle.mx_mmo.specs.Valid.{AreBytes, Valid};
 ghost use Rattle.mx_mmo.specs.declared.items.Item.{Item};
 ghost use Rattle.mx_mmo.specs.declared.items.Object.{Object};
 ghost use Rattle.mx_mmo.specs.declared.due.Phase.{Phase};
-ghost use Rattle.mx_mmo.specs.Whole.{IsFaultOf, SpellsObject, extended, fed, items_of, left_of, object_fault, object_of, walk_on, with_more, with_rest};
+ghost use Rattle.mx_mmo.specs.Whole.{SpellsObject, extended, fed, items_of, left_of, object_fault, object_of, passed_limit, pieces_within, walk_on, with_more, with_rest};
 
 use crate::{Items, MmoFault, Object, Phase, Reader};
 use mx_word::Bytes;
@@ -64,9 +64,10 @@ fn take_piece(reader: &mut Reader, items: &mut Items, piece: &[u8]) -> Result<()
     ensures end { OnOk result (fed reader.new ≡ fed reader.old + length piece.now) }
     ensures most { OnOk result (fed reader.old + length piece.now ≤ limit) }
     ensures bytes { AreBytes piece.now }
-    ensures fault { result ≢ Err MmoFault.OutOfMemory →
-        IfErr result (λ f. IsFaultOf f (fed reader.old + length piece.now)
-        (with_rest items.old (with_more reader.old piece.now))) }
+    ensures long { limit < fed reader.old + length piece.now → result ≢ Err MmoFault.OutOfMemory →
+        result ≡ Err (MmoFault.TooLong limit) }
+    ensures fault { fed reader.old + length piece.now ≤ limit → result ≢ Err MmoFault.OutOfMemory →
+        IfErr result (λ f. (with_rest items.old (with_more reader.old piece.now)).1 ≡ Err f) }
 {
     match reader.feed(piece) {
         Ok(()) => take_all(reader, items),
@@ -79,8 +80,7 @@ fn read_pieces(alloc: Global, pieces: &[Bytes]) -> Result<Object, MmoFault>
     ensures exact { length (concat pieces.now) ≤ limit → result ≢ Err MmoFault.OutOfMemory →
         result ≡ object_of (concat pieces.now) }
     ensures long { limit < length (concat pieces.now) → result ≢ Err MmoFault.OutOfMemory →
-        IsErrAnd result (λ f. IsFaultOf f (length (concat pieces.now))
-        (items_of Phase.Start 0 (concat pieces.now))) }
+        result ≡ passed_limit (items_of Phase.Start 0 (pieces_within 0 pieces.now)).1 }
     ensures bytes { OnOk result (AreBytes (concat pieces.now)) }
 {
     let mut reader = Reader::new(alloc);
@@ -102,10 +102,9 @@ pub fn read(alloc: Global, pieces: &[Bytes]) -> Result<Object, MmoFault>
     // However the bytes are cut into pieces, the object is that of all bytes, and so is the fault.
     ensures exact { length (concat pieces.now) ≤ limit → result ≢ Err MmoFault.OutOfMemory →
         result ≡ object_of (concat pieces.now) }
-    // Too many bytes are refused as such, unless an item before has a fault.
+    // Too many bytes are refused as such, unless an item in the pieces before has a fault.
     ensures long { limit < length (concat pieces.now) → result ≢ Err MmoFault.OutOfMemory →
-        IsErrAnd result (λ f. IsFaultOf f (length (concat pieces.now))
-        (items_of Phase.Start 0 (concat pieces.now))) }
+        result ≡ passed_limit (items_of Phase.Start 0 (pieces_within 0 pieces.now)).1 }
     // What is read is in the grammar of objects.
     ensures found { IfOk result (λ object. SpellsObject (concat pieces.now) object) }
     // What is in the grammar is read.
