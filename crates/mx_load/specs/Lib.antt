@@ -5,4 +5,5 @@ pub use Rattle.mx_mmo.specs.Valid
 pub use Rattle.mx_mem.specs.Memory
 pub mod Faults
 pub mod Kept
+pub mod Objects
 pub mod Standing

@@ -1,0 +1,67 @@
+-- What is loaded of the object that bytes are, or its first fault.
+use Rattle.std.specs.Prelude.{ℕ, zero, suc, ◌+◌, List, length, drop, Some, None, Result, Ok, Err, nat_lt, unwrap_or, if◌then◌else◌}
+use Rattle.mx_mmo.specs.Image.{Image}
+use Rattle.mx_mmo.specs.Meaning.{Loading, Meaningless, nothing, take_item}
+use Rattle.mx_mmo.specs.Reading.{Due, first_item}
+use Rattle.mx_mmo.specs.Replies.{limit, phase_after, tail_of}
+use Rattle.mx_mmo.specs.Whole.{Left}
+use Rattle.mx_mmo.specs.Faults as objects
+use Rattle.mx_mmo.specs.declared.items.Item.{Item}
+use Rattle.mx_mmo.specs.declared.items.Tail.{Tail}
+use Rattle.mx_mmo.specs.declared.faults.MmoFault.{MmoFault}
+use Rattle.mx_mmo.specs.declared.faults.MmoFault.TheVariants.{TooLong}
+use Rattle.mx_mmo.specs.declared.due.Phase.{Phase}
+use Rattle.mx_mmo.specs.declared.due.Phase.TheVariants.{Start}
+use Rattle.mx_load.specs.Faults.{fault_of, number_of}
+
+-- the byte place and the number of a fault of the format
+abbrev pub fault_at : MmoFault → ℕ × ℕ
+fault_at fault = (unwrap_or (objects.place_of fault) 0, objects.number_of fault)
+
+-- what stands after an item that begins at a place, or the fault there
+abbrev pub taken : ℕ → Result Loading Meaningless → Result Loading (ℕ × ℕ)
+taken place (Ok s) = Ok s
+taken place (Err e) = Err (place, number_of (fault_of e))
+
+-- what stands once items were loaded, with what is left behind them; or the place and the number of the first fault
+abbrev pub Loaded : Type 0
+Loaded = Result (Loading × Left) (ℕ × ℕ)
+
+-- what follows an item of so many bytes
+abbrev pub item_loaded : (Loading → Phase → ℕ → List ℕ → Loaded) → Phase → ℕ → List ℕ → Item → ℕ → Result Loading (ℕ × ℕ) → Loaded
+item_loaded others phase at bytes item size (Err fault) = Err fault
+item_loaded others phase at bytes item size (Ok s) = others s (phase_after item phase) (at + size) (drop size bytes)
+
+-- the item that stands first: its own fault, then that of its meaning, and then the items that follow, by `others`
+abbrev pub first_loaded : (Loading → Phase → ℕ → List ℕ → Loaded) → Loading → Phase → ℕ → List ℕ → Due → Loaded
+first_loaded others s phase at bytes (Ok None) = Ok (s, record { phase = phase; at = at; rest = bytes })
+first_loaded others s phase at bytes (Ok (Some (item, size))) = item_loaded others phase at bytes item size (taken at (take_item s item))
+first_loaded others s phase at bytes (Err fault) = Err (fault_at fault)
+
+-- items of bytes from the left, fewer than so many; each takes a byte
+unfoldable pub items_loaded : ℕ → Loading → Phase → ℕ → List ℕ → Loaded
+items_loaded zero s phase at bytes = Ok (s, record { phase = phase; at = at; rest = bytes })
+items_loaded (suc n) s phase at bytes = first_loaded (items_loaded n) s phase at bytes (first_item phase at bytes)
+
+-- what a trie tells, or its fault; its bytes are counted from where it stands in the object
+abbrev pub trie_loaded : {S : Type 0} → Image → ℕ → Result S (ℕ × ℕ) → Result (Image × S) (ℕ × ℕ)
+trie_loaded image place (Ok symbols) = Ok (image, symbols)
+trie_loaded image place (Err (at, number)) = Err (place + at, number)
+
+-- what stands behind the items: what is wrong at the end, and then what is wrong in the trie
+abbrev pub end_loaded : {S : Type 0} → (List ℕ → Result S (ℕ × ℕ)) → Loading → Result Tail MmoFault → Result (Image × S) (ℕ × ℕ)
+end_loaded symbols_of s (Ok tail) = trie_loaded s.image tail.place (symbols_of tail.trie)
+end_loaded symbols_of s (Err fault) = Err (fault_at fault)
+
+abbrev pub whole_loaded : {S : Type 0} → (List ℕ → Result S (ℕ × ℕ)) → Loaded → Result (Image × S) (ℕ × ℕ)
+whole_loaded symbols_of (Err fault) = Err fault
+whole_loaded symbols_of (Ok (s, left)) = end_loaded symbols_of s (tail_of left.phase left.at left.rest)
+
+-- the image and the symbols of the object that bytes are, or the place and the number of their first fault: too many bytes;
+-- then the items from the left, each with its own fault and then that of its meaning; then what is wrong at the end; then
+-- the fault of the trie. `symbols_of` tells what the bytes of a trie are: its symbols, or the place in it and the number of
+-- its first fault.
+abbrev pub object_loaded : {S : Type 0} → (List ℕ → Result S (ℕ × ℕ)) → List ℕ → Result (Image × S) (ℕ × ℕ)
+object_loaded symbols_of bytes =
+    if nat_lt limit (length bytes) then Err (fault_at (TooLong limit))
+    else whole_loaded symbols_of (items_loaded (length bytes + 1) nothing Start 0 bytes)
