@@ -54,7 +54,7 @@ ended-first at (a ∷ b ∷ []) = refl
 ended-first at (a ∷ b ∷ c ∷ []) = refl
 
 -- what is left behind the items of an object
-abbrev left_behind : ℕ → List ℕ → Left
+abbrev pub left_behind : ℕ → List ℕ → Left
 left_behind at rest = record { phase = Ended; at = at; rest = rest }
 
 ended-none : (at : ℕ) (phase : Phase) (rest : List ℕ) → phase ≡ Ended → items_of phase at rest ≡ ([], Ok (left_behind at rest))
@@ -77,13 +77,13 @@ items-read items front rest sp r d e =
     ∙ ap (onto items) (ended-none (length front) (phase_end Start items) rest r.end) ∙ onto-none items (left_behind (length front) rest)
 
 -- the lopcode that ends an object tells its count
-end-told : (count : ℕ) → count < 2 ^ 16 → end_count (wide_lop 12 count) ≡ Some count
+pub end-told : (count : ℕ) → count < 2 ^ 16 → end_count (wide_lop 12 count) ≡ Some count
 end-told count m = ap Some (omega arith)
 
 same-test : (n : ℕ) → (n == n) ≡ true
 same-test n = grind (arith, nat_tests)
 
-tail-read : (at count : ℕ) (trie rest : List ℕ) → length trie ≡ 4 * count → count < 2 ^ 16 → rest ≡ trie ++ wide_lop 12 count →
+pub tail-read : (at count : ℕ) (trie rest : List ℕ) → length trie ≡ 4 * count → count < 2 ^ 16 → rest ≡ trie ++ wide_lop 12 count →
     tail_of Ended at rest ≡ Ok (record { trie = trie; place = at })
 tail-read at count trie rest l m e =
     let size : length rest ≡ 4 * count + 4 = ap (λ (x : List ℕ). length x) e ∙ length-append trie (wide_lop 12 count) ∙ ap (λ n. n + 4) l in

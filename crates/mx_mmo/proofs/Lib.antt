@@ -12,5 +12,7 @@ pub mod Sound
 pub mod Spelt
 pub mod Splits
 pub mod Told
+pub mod Table
+pub mod TetraFaults
 pub mod Walks
 pub mod Written

@@ -9,7 +9,7 @@ use Rattle.mx_mmo.specs.Object.{Spelled}
 use Rattle.mx_mmo.specs.Reading.{Due, IsWithin, first_item}
 use Rattle.mx_mmo.specs.Replies.{limit, phase_after, tail_of, tail_behind, counted_tail, end_count}
 use Rattle.mx_mmo.specs.Turns.{ComeInTurn, StandFirst, phase_end}
-use Rattle.mx_mmo.specs.Whole.{Left, Walk, behind, walk_on, walk, items_of, SpellsObject, object_of, object_behind, with_tail}
+use Rattle.mx_mmo.specs.Whole.{Left, StandAt, Walk, behind, walk_on, walk, items_of, SpellsObject, object_of, object_behind, with_tail}
 use Rattle.mx_mmo.specs.declared.items.Item.{Item}
 use Rattle.mx_mmo.specs.declared.items.Tail.{Tail}
 use Rattle.mx_mmo.specs.declared.items.Object.{Object}
@@ -232,3 +232,12 @@ is-read bytes b = cond-read (nat_lt limit (length bytes)) bytes (TooLong limit) 
 
 pub object-stands : (bytes : List ℕ) (object : Object) → AreBytes bytes → object_of bytes ≡ Ok object → SpellsObject bytes object
 object-stands bytes object b e = subst (λ (r : Result Object MmoFault). IsRead bytes r) e (is-read bytes b)
+
+-- the items of a walk stand at their places
+at-places : (bytes : List ℕ) (items : List Item) (left : Left) (w : Walk) → Stands Start 0 bytes w → w ≡ (items, Ok left) → StandAt bytes items left
+at-places bytes items left w s e =
+    let t : Stood Start 0 bytes items left = subst (λ (v : Walk). Stands Start 0 bytes v) e s in
+    record { front = t.front; first = t.first; place = t.place ∙ zero-add (length t.front) }
+
+pub items-at : (count : ℕ) (bytes : List ℕ) (items : List Item) (left : Left) → AreBytes bytes → walk count Start 0 bytes ≡ (items, Ok left) → StandAt bytes items left
+items-at count bytes items left b e = at-places bytes items left (walk count Start 0 bytes) (walk-stands count Start 0 bytes b) e

@@ -43,15 +43,15 @@ octas-back : (values : List ℕ) → AreOctas values → octas_of (flat_map octa
 octas-back [] h = refl
 octas-back (x ∷ values) h = ap (λ u. u ∷ octas_of (flat_map octa_to_bytes values)) (octa-back x h.0) ∙ ap (λ vs. x ∷ vs) (octas-back values h.1)
 
-tetras-length : (tetras : List ℕ) → length (flat_map tetra_to_bytes tetras) ≡ 4 * length tetras
+pub tetras-length : (tetras : List ℕ) → length (flat_map tetra_to_bytes tetras) ≡ 4 * length tetras
 tetras-length [] = refl
 tetras-length (t ∷ tetras) = let e = tetras-length tetras in omega arith
 
-octas-length : (values : List ℕ) → length (flat_map octa_to_bytes values) ≡ 8 * length values
+pub octas-length : (values : List ℕ) → length (flat_map octa_to_bytes values) ≡ 8 * length values
 octas-length [] = refl
 octas-length (x ∷ values) = let e = octas-length values in omega arith
 
-enough-there : (n : ℕ) (front rest : List ℕ) → length front ≡ n → nat_lt (length (front ++ rest)) n ≡ false
+pub enough-there : (n : ℕ) (front rest : List ℕ) → length front ≡ n → nat_lt (length (front ++ rest)) n ≡ false
 enough-there n front rest e = let l = length-append front rest in grind (arith, nat_tests)
 
 front-taken : (n : ℕ) (front rest : List ℕ) → length front ≡ n → take n (front ++ rest) ≡ front

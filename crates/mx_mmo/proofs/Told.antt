@@ -54,7 +54,7 @@ item-tells : (phase : Phase) (bytes spelling : List ℕ) (item : Item) (size : �
 item-tells phase bytes spelling item size e s c f n = record { is = record { spells = spelled-as item spelling (take size bytes) e s; comes = c; fits = f; ends = n } }
 
 -- the tetra and the octa that stand next
-tetra-told : {A : Type 0} (P : DueOf A → Type 0) (due : ℕ → DueOf A) (more : List ℕ) → AreBytes more → P (Ok None) →
+pub tetra-told : {A : Type 0} (P : DueOf A → Type 0) (due : ℕ → DueOf A) (more : List ℕ) → AreBytes more → P (Ok None) →
     ((t : ℕ) → t < 2 ^ 32 → tetra_to_bytes t ≡ take 4 more → P (due t)) → P (on_tetra due more)
 tetra-told P due (a ∷ b ∷ c ∷ d ∷ more) h none some =
     some (tetra_from_bytes (a ∷ b ∷ c ∷ d ∷ [])) (four-fit a b c d h.0 h.1.0 h.1.1.0 h.1.1.1.0) (four-bytes a b c d h.0 h.1.0 h.1.1.0 h.1.1.1.0)
@@ -181,7 +181,7 @@ fixo-tells code bytes (Ok (Some (a, size))) e t =
 fixo-tells code bytes (Ok None) e t = nothing-tells _ _
 fixo-tells code bytes (Err f) e t = fault-tells _ _ _
 
-bits-are : (z : ℕ) → (z == 16 || z == 24) ≡ true → (z ≡ 16) ⊎ (z ≡ 24)
+pub bits-are : (z : ℕ) → (z == 16 || z == 24) ≡ true → (z ≡ 16) ⊎ (z ≡ 24)
 bits-are z h = by (z == 16) z refl h
   where
     by : (b : Bool) (z : ℕ) → (z == 16) ≡ b → (b || z == 24) ≡ true → (z ≡ 16) ⊎ (z ≡ 24)
@@ -196,7 +196,7 @@ far-tells at code y z more e f g h =
     (λ l. let few = is-less t (2 ^ 25) l in item-tells Middle _ _ (FixFar z t) 8 (same-lop 5 0 z code y z _ _ e f refl is) (Spells.fixrx z t g few) tt (g, few) tt)
     (λ _. fault-tells _ _ (BadFields at)))
 
-there : (n : ℕ) (more : List ℕ) → nat_lt (length more) n ≡ false → length (take n more) ≡ n
+pub there : (n : ℕ) (more : List ℕ) → nat_lt (length more) n ≡ false → length (take n more) ≡ n
 there n more h = let l = not-less (length more) n h in omega (arith, length-take n more)
 
 named-tells : (at code y z : ℕ) (more bytes name : List ℕ) → code ≡ 6 → y < 2 ^ 8 → z < 2 ^ 8 → bytes ≡ take (4 * z) more → length bytes ≡ 4 * z → AreBytes bytes → trimmed bytes ≡ name →
@@ -242,7 +242,7 @@ post-tells code y g more d e f k h = cond-tells (nat_lt (length more) (8 * (256 
     same-lop 10 0 g code y g _ _ d e refl w.whole ∙ sym (take-four (8 * (256 - g)) 0x98 code y g more) in
     item-tells Middle _ _ (Post g values) (4 + 8 * (256 - g)) bytes (Spells.post g values f k count w.each) tt (f, k, count, w.each) tt)
 
-zero-and-least : (y z : ℕ) → (y == 0 && nat_le 32 z) ≡ true → (y ≡ 0) × (32 ≤ z)
+pub zero-and-least : (y z : ℕ) → (y == 0 && nat_le 32 z) ≡ true → (y ≡ 0) × (32 ≤ z)
 zero-and-least y z h = let t = both-true (y == 0) (nat_le 32 z) h in (same-number y 0 t.0, is-least 32 z t.1)
 
 -- each lopcode by its code byte

@@ -1,5 +1,6 @@
 pub use Rattle.mx_word.specs.Ranges
 pub use Rattle.mx_word.specs.Words
+pub mod FaultTable
 pub mod Faults
 pub mod Image
 pub mod Meaning

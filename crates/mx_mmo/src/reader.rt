@@ -103,6 +103,7 @@ impl Reader {
         ensures memory { result ≡ Err MmoFault.OutOfMemory → self.new ≡ self.old }
         ensures again { IfSome self.old.fault (λ fault. result ≡ Err fault) }
         ensures fits { IfOk result (λ item. IfSome item Fits) }
+        ensures place { IfOk result (λ item. OnSome item (self.new.place ≡ self.old.at)) }
         ensures shorter { IfOk result (λ item. OnSome item (length self.new.rest < length self.old.rest)) }
     {
         if let Some(fault) = self.fault {

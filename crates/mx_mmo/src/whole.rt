@@ -116,30 +116,3 @@ pub fn read(alloc: Global, pieces: &[Bytes]) -> Result<Object, MmoFault>
 {
     read_pieces(alloc, pieces)
 }
-
-/// What a writer writes of valid items is read again as these items and this trie.
-pub fn written_is_read()
-    ensures { (items : List Item) (trie : List ℕ) → Valid items → length trie % 4 ≡ 0 →
-        length trie / 4 < 2 ^ 16 → length (written items ++ ending trie) ≤ limit →
-        object_of (written items ++ ending trie) ≡ Ok (record {
-          items = items;
-          tail = record { trie = trie; place = length (written items) };
-        }) }
-{}
-
-/// What is read is in the grammar of objects, and what is in the grammar is read.
-pub fn reading_is_the_grammar()
-    ensures found { (bytes : List ℕ) (object : Object) → AreBytes bytes →
-        object_of bytes ≡ Ok object → SpellsObject bytes object }
-    ensures only { (bytes : List ℕ) (object : Object) → SpellsObject bytes object →
-        length bytes ≤ limit → object_of bytes ≡ Ok object }
-{}
-
-/// The items of bytes are the first one and those of the bytes behind it; and where more bytes come,
-/// the items before stay, and the walk goes on with what was left.
-pub fn items_come_in_turn()
-    ensures first { (phase : Phase) (at : ℕ) (bytes : List ℕ) →
-        items_of phase at bytes ≡ walk_on items_of phase at bytes (first_item phase at bytes) }
-    ensures more { (phase : Phase) (at : ℕ) (front more : List ℕ) →
-        items_of phase at (front ++ more) ≡ extended (items_of phase at front) more }
-{}

@@ -1,6 +1,6 @@
 use Rattle.mx_mmo.proofs.Complete.{object-only}
 use Rattle.mx_mmo.proofs.Sound.{object-stands}
-use Rattle.mx_mmo.proofs.whole.reading_is_the_grammar.Goals as goal
+use Rattle.mx_mmo.proofs.laws.reading_is_the_grammar.Goals as goal
 
 pub returns-clause-found : goal.returns-clause-found
 returns-clause-found c = object-stands

@@ -1,5 +1,5 @@
 use Rattle.mx_mmo.proofs.Walks.{extends, items-step}
-use Rattle.mx_mmo.proofs.whole.items_come_in_turn.Goals as goal
+use Rattle.mx_mmo.proofs.laws.items_come_in_turn.Goals as goal
 
 pub returns-clause-first : goal.returns-clause-first
 returns-clause-first c = items-step
