@@ -1,10 +1,8 @@
 -- The tetras that a spec skips, read and spelled.
-use Rattle.std.proofs.Common.{◌≡◌, ℕ, zero, suc, ◌+◌, ◌-◌, ◌*◌, ◌/◌, ◌%◌, ◌^◌, ◌<◌, ◌≤◌, length, List, [], ◌∷◌, ◌++◌, take, drop, get_or, Bool, true, false, cond, arith, refl, sym, ◌∙◌, ap, subst, Some, None, length-append, length-take, length-drop, append_assoc, add-zero, zero-add}
+use Rattle.std.proofs.Common.{◌≡◌, ℕ, zero, suc, ◌+◌, ◌-◌, ◌/◌, ◌^◌, ◌<◌, ◌≤◌, length, List, [], ◌∷◌, ◌++◌, take, drop, get_or, Bool, true, false, cond, arith, refl, sym, ◌∙◌, ap, subst, Some, None, length-take, length-drop, add-zero, zero-add}
 use Rattle.std.specs.Prelude.{Option, ◌==◌, ◌&&◌}
 use Rattle.std.proofs.lemmas.List.{take-append-drop, take_all, drop-drop}
-use Rattle.std.proofs.lemmas.Bool.Decides.{nat_tests}
 use Rattle.mx_word.specs.Words.{tetra_to_bytes, tetra_from_bytes}
-use Rattle.mx_mmo.specs.Tetras.{lop}
 use Rattle.mx_mmo.specs.Valid.{AreBytes}
 use Rattle.mx_mmo.specs.Object.{EndsSpec, IsNoLop, IsSkipped}
 use Rattle.mx_mmo.specs.Skipping.{quote_behind, four_more, skip_on, skipped, quoted_on, quoted_behind}

@@ -8,7 +8,7 @@ use Rattle.mx_mmo.specs.Valid.{AreBytes, Fits}
 use Rattle.mx_mmo.specs.Object.{Spelled}
 use Rattle.mx_mmo.specs.Reading.{Due, IsWithin, first_item}
 use Rattle.mx_mmo.specs.Replies.{limit, phase_after, tail_of, tail_behind, counted_tail, end_count}
-use Rattle.mx_mmo.specs.Turns.{ComeInTurn, StandFirst, phase_end}
+use Rattle.mx_mmo.specs.Turns.{StandFirst, phase_end}
 use Rattle.mx_mmo.specs.Whole.{Left, StandAt, Walk, behind, walk_on, walk, items_of, SpellsObject, object_of, object_behind, with_tail}
 use Rattle.mx_mmo.specs.declared.items.Item.{Item}
 use Rattle.mx_mmo.specs.declared.items.Tail.{Tail}

@@ -18,7 +18,7 @@ use Rattle.mx_mmo.specs.declared.faults.MmoFault.TheVariants.{NoPre, BadLop, Bad
 use Rattle.mx_mmo.specs.declared.due.Phase.{Phase}
 use Rattle.mx_mmo.specs.declared.due.Phase.TheVariants.{Start, Middle, Posted, Ended}
 use Rattle.mx_mmo.proofs.Bytes.{four-bytes, four-fit, eight-bytes, eight-fit, top-byte, bytes-front, same-number, other-number, both-true, both-tests, all-tests, not-less, is-least, is-less}
-use Rattle.mx_mmo.proofs.Codes.{code_of, lop-code}
+use Rattle.mx_mmo.proofs.Codes.{lop-code}
 use Rattle.mx_mmo.proofs.Names.{is-named}
 use Rattle.mx_mmo.proofs.Skips.{skipped-ended}
 
