@@ -1,5 +1,5 @@
 -- Bytes and the numbers that they are, and tests of numbers.
-use Rattle.std.proofs.Common.{◌≡◌, ◌≢◌, ℕ, zero, suc, ◌+◌, ◌-◌, ◌*◌, ◌/◌, ◌%◌, ◌^◌, ◌<◌, ◌≤◌, length, List, [], ◌∷◌, ◌++◌, take, drop, get_or, Bool, true, false, arith, refl}
+use Rattle.std.proofs.Common.{◌≡◌, ◌≢◌, ℕ, zero, suc, ◌+◌, ◌/◌, ◌%◌, ◌^◌, ◌<◌, ◌≤◌, List, [], ◌∷◌, take, drop, get_or, Bool, true, false, arith, refl}
 use Rattle.std.specs.Prelude.{nat_le, nat_lt, ◌==◌, ◌&&◌}
 use Rattle.std.proofs.lemmas.Bool.Decides.{nat_tests}
 use Rattle.std.proofs.lemmas.Nat.{be_bytes_4, be_bytes_8, from_be_bytes-to_be_bytes_4, from_be_bytes-to_be_bytes_8}
@@ -59,6 +59,13 @@ pub bytes-behind : (n : ℕ) (bytes : List ℕ) → AreBytes bytes → AreBytes 
 bytes-behind zero bytes h = h
 bytes-behind (suc n) [] h = tt
 bytes-behind (suc n) (b ∷ bytes) h = bytes-behind n bytes h.1
+
+-- four bytes more, in front
+pub take-four : (n a b c d : ℕ) (more : List ℕ) → take (4 + n) (a ∷ b ∷ c ∷ d ∷ more) ≡ a ∷ b ∷ c ∷ d ∷ take n more
+take-four n a b c d more = let e : 4 + n ≡ suc (suc (suc (suc n))) = omega arith in rw e refl
+
+pub drop-four : (n a b c d : ℕ) (more : List ℕ) → drop (4 + n) (a ∷ b ∷ c ∷ d ∷ more) ≡ drop n more
+drop-four n a b c d more = let e : 4 + n ≡ suc (suc (suc (suc n))) = omega arith in rw e refl
 
 -- tests of numbers
 pub both-true : (b c : Bool) → (b && c) ≡ true → (b ≡ true) × (c ≡ true)

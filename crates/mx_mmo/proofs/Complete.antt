@@ -15,7 +15,6 @@ use Rattle.mx_mmo.specs.declared.items.Item.TheVariants.{Pre, Post, Stab}
 use Rattle.mx_mmo.specs.declared.items.Object.{Object}
 use Rattle.mx_mmo.specs.declared.due.Phase.{Phase}
 use Rattle.mx_mmo.specs.declared.due.Phase.TheVariants.{Start, Ended}
-use Rattle.mx_mmo.proofs.Bytes.{other-test}
 use Rattle.mx_mmo.proofs.Ends.{ends-next}
 use Rattle.mx_mmo.proofs.Phases.{Reaches, placed-reaches}
 use Rattle.mx_mmo.proofs.Pieces.{not-long}

@@ -1,5 +1,5 @@
 -- What follows a spec ends it.
-use Rattle.std.proofs.Common.{◌≡◌, ℕ, ◌+◌, ◌/◌, ◌%◌, ◌^◌, ◌<◌, List, [], ◌∷◌, ◌++◌, arith, refl, sym, subst, append_assoc}
+use Rattle.std.proofs.Common.{ℕ, List, ◌∷◌, ◌++◌, arith, refl, sym, subst, append_assoc}
 use Rattle.mx_word.specs.Words.{tetra_to_bytes}
 use Rattle.mx_mmo.specs.Valid.{MayFollow, SpecsEnd}
 use Rattle.mx_mmo.specs.Object.{EndsSpec, IsNoLop, Spells, SpellsAddress, Spelled}

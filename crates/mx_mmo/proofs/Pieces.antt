@@ -1,11 +1,12 @@
 -- Reading goes on over more pieces.
-use Rattle.std.proofs.Common.{◌≡◌, ℕ, zero, suc, ◌+◌, ◌^◌, ◌<◌, ◌≤◌, length, List, [], ◌∷◌, ◌++◌, take, drop, get_or, arith, refl, sym, ◌∙◌, ap, subst, Ok, Err, length-append, append_assoc, append-nil, Bool, true, false, cond, add-one, add-zero}
+use Rattle.std.proofs.Common.{◌≡◌, ℕ, zero, suc, ◌+◌, ◌^◌, ◌<◌, ◌≤◌, length, List, [], ◌∷◌, ◌++◌, take, drop, get_or, arith, refl, sym, ◌∙◌, ap, Ok, Err, length-append, append_assoc, append-nil, Bool, true, false, cond, add-one, add-zero}
 use Rattle.std.specs.Prelude.{Result, nat_lt}
 use Rattle.mx_mmo.specs.declared.items.Object.{Object}
 use Rattle.mx_mmo.specs.declared.faults.MmoFault.TheVariants.{TooLong}
 use Rattle.std.specs.List.{concat}
 use Rattle.std.proofs.lemmas.Grind.{common_steps}
 use Rattle.std.proofs.lemmas.Bool.Decides.{nat_tests}
+use Rattle.mx_word.proofs.Ranges.{bytes-append}
 use Rattle.mx_mmo.specs.Valid.{AreBytes}
 use Rattle.mx_mmo.specs.Replies.{ReaderModel, limit, fresh, tail_of}
 use Rattle.mx_mmo.specs.Whole.{Walk, passed_limit, pieces_within, with_rest, fed, items_of, left_of, object_of, object_behind, with_tail, with_more, extended}
@@ -143,19 +144,11 @@ pub all-pieces : (pieces : List (List ℕ)) (i : ℕ) → length pieces ≤ i �
 all-pieces pieces i h = let whole : take i pieces ≡ pieces = grind (arith, common_steps) in ap concat whole
 
 -- what holds of each byte of the pieces
-pub bytes-together : (front more : List ℕ) → AreBytes front → AreBytes more → AreBytes (front ++ more)
-bytes-together [] more p q = q
-bytes-together (b ∷ front) more p q = (p.0, bytes-together front more p.1 q)
-
-pub each-byte : (bytes : List ℕ) → ((i : ℕ) → get_or bytes i 0 < 2 ^ 8) → AreBytes bytes
-each-byte [] h = tt
-each-byte (b ∷ bytes) h = (h 0, each-byte bytes (λ i. h (suc i)))
-
 pub bytes-of-piece : (pieces : List (List ℕ)) (i : ℕ) (piece d : List ℕ) → i < length pieces → piece ≡ get_or pieces i d →
     AreBytes (concat (take i pieces)) → AreBytes piece → AreBytes (concat (take (i + 1) pieces))
 bytes-of-piece pieces i piece d l is p q =
     let grown : concat (take (i + 1) pieces) ≡ concat (take i pieces) ++ piece = concat-more pieces i d l ∙ ap (λ x. concat (take i pieces) ++ x) (sym is) in
-    rw grown (bytes-together (concat (take i pieces)) piece p q)
+    rw grown (bytes-append (concat (take i pieces)) piece p q)
 
 pub all-bytes : (pieces : List (List ℕ)) (i : ℕ) → length pieces ≤ i → AreBytes (concat (take i pieces)) → AreBytes (concat pieces)
 all-bytes pieces i h b = rw (← all-pieces pieces i h) b

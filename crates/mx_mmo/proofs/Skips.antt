@@ -1,14 +1,12 @@
 -- The tetras that a spec skips, read and spelled.
-use Rattle.std.proofs.Common.{◌≡◌, ℕ, zero, suc, ◌+◌, ◌-◌, ◌*◌, ◌/◌, ◌%◌, ◌^◌, ◌<◌, ◌≤◌, length, List, [], ◌∷◌, ◌++◌, take, drop, get_or, Bool, true, false, cond, arith, refl, sym, ◌∙◌, ap, subst, Some, None, length-append, length-take, length-drop, append_assoc, add-zero, zero-add}
+use Rattle.std.proofs.Common.{◌≡◌, ℕ, zero, suc, ◌+◌, ◌-◌, ◌/◌, ◌^◌, ◌<◌, ◌≤◌, length, List, [], ◌∷◌, ◌++◌, take, drop, get_or, Bool, true, false, cond, arith, refl, sym, ◌∙◌, ap, subst, Some, None, length-take, length-drop, add-zero, zero-add}
 use Rattle.std.specs.Prelude.{Option, ◌==◌, ◌&&◌}
 use Rattle.std.proofs.lemmas.List.{take-append-drop, take_all, drop-drop}
-use Rattle.std.proofs.lemmas.Bool.Decides.{nat_tests}
 use Rattle.mx_word.specs.Words.{tetra_to_bytes, tetra_from_bytes}
-use Rattle.mx_mmo.specs.Tetras.{lop}
 use Rattle.mx_mmo.specs.Valid.{AreBytes}
 use Rattle.mx_mmo.specs.Object.{EndsSpec, IsNoLop, IsSkipped}
 use Rattle.mx_mmo.specs.Skipping.{quote_behind, four_more, skip_on, skipped, quoted_on, quoted_behind}
-use Rattle.mx_mmo.proofs.Bytes.{all-tests, four-bytes, four-fit, no-lop-first, other-number, same-number, top-byte}
+use Rattle.mx_mmo.proofs.Bytes.{all-tests, four-bytes, four-fit, no-lop-first, other-number, same-number, top-byte, take-four, drop-four}
 
 -- what is skipped stays so, whatever follows
 abbrev pub SkipGrows : Option ℕ → Option ℕ → Type 0
@@ -101,12 +99,6 @@ told : (quoted : Bool) (a code y z : ℕ) → Told quoted a code y z (quote_behi
 told true a code y z = record { is = tt }
 told false a code y z = lop-told (a == 0x98) a code y z refl
 
-four-front : (a b c d n : ℕ) (more : List ℕ) → take (4 + n) (a ∷ b ∷ c ∷ d ∷ more) ≡ a ∷ b ∷ c ∷ d ∷ take n more
-four-front a b c d n more = let e : 4 + n ≡ suc (suc (suc (suc n))) = omega arith in rw e refl
-
-four-rest : (a b c d n : ℕ) (more : List ℕ) → drop (4 + n) (a ∷ b ∷ c ∷ d ∷ more) ≡ drop n more
-four-rest a b c d n more = let e : 4 + n ≡ suc (suc (suc (suc n))) = omega arith in rw e refl
-
 -- one tetra in front of what is skipped
 cons-skips : (quoted q : Bool) (a b c d : ℕ) (front : List ℕ) → a < 256 → b < 256 → c < 256 → d < 256 → Follows quoted a b c d q → SkippedFrom q front →
     SkippedFrom quoted (a ∷ b ∷ c ∷ d ∷ front)
@@ -130,8 +122,8 @@ four-tell : (quoted q : Bool) (a b c d : ℕ) (more : List ℕ) (o : Option ℕ)
     SkipTells quoted (a ∷ b ∷ c ∷ d ∷ more) (four_more o)
 four-tell quoted q a b c d more None k l m n f s = tt
 four-tell quoted q a b c d more (Some size) k l m n f s = record {
-  front = subst (λ (x : List ℕ). SkippedFrom quoted x) (sym (four-front a b c d size more)) (cons-skips quoted q a b c d (take size more) k l m n f s.front);
-  ends = subst (λ (x : List ℕ). EndsSpec x) (sym (four-rest a b c d size more)) s.ends;
+  front = subst (λ (x : List ℕ). SkippedFrom quoted x) (sym (take-four size a b c d more)) (cons-skips quoted q a b c d (take size more) k l m n f s.front);
+  ends = subst (λ (x : List ℕ). EndsSpec x) (sym (drop-four size a b c d more)) s.ends;
 }
 
 on-tell : (quoted : Bool) (a b c d : ℕ) (more : List ℕ) (o : Option Bool) → a < 256 → b < 256 → c < 256 → d < 256 → Tells quoted a b c d o →

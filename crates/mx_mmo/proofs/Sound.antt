@@ -8,7 +8,7 @@ use Rattle.mx_mmo.specs.Valid.{AreBytes, Fits}
 use Rattle.mx_mmo.specs.Object.{Spelled}
 use Rattle.mx_mmo.specs.Reading.{Due, IsWithin, first_item}
 use Rattle.mx_mmo.specs.Replies.{limit, phase_after, tail_of, tail_behind, counted_tail, end_count}
-use Rattle.mx_mmo.specs.Turns.{ComeInTurn, StandFirst, phase_end}
+use Rattle.mx_mmo.specs.Turns.{StandFirst, phase_end}
 use Rattle.mx_mmo.specs.Whole.{Left, StandAt, Walk, behind, walk_on, walk, items_of, SpellsObject, object_of, object_behind, with_tail}
 use Rattle.mx_mmo.specs.declared.items.Item.{Item}
 use Rattle.mx_mmo.specs.declared.items.Tail.{Tail}
@@ -21,7 +21,7 @@ use Rattle.mx_mmo.proofs.Bytes.{bytes-behind, same-number, both-tests}
 use Rattle.mx_mmo.proofs.Ends.{last-cons, specs-cons}
 use Rattle.mx_mmo.proofs.Firsts.{first-within}
 use Rattle.mx_mmo.proofs.Phases.{Reaches, placed-items}
-use Rattle.mx_mmo.proofs.Told.{Found, Tells, first-tells}
+use Rattle.mx_mmo.proofs.Told.{wide-back, Found, Tells, first-tells}
 
 -- these items stand first in bytes, and this is left
 pub record Stood (phase : Phase) (at : ℕ) (bytes : List ℕ) (items : List Item) (left : Left) : Type 0 where
@@ -137,17 +137,11 @@ pub record Counts (last : List ℕ) (count : ℕ) : Type 0 where
   pub is : last ≡ wide_lop 12 count
   pub most : count < 2 ^ 16
 
-wide-back : (y z : ℕ) → z < 256 → wide_lop 12 (256 * y + z) ≡ 0x98 ∷ 12 ∷ y ∷ z ∷ []
-wide-back y z h =
-    let p : (256 * y + z) / 256 ≡ y = omega arith in
-    let q : (256 * y + z) % 256 ≡ z = omega arith in
-    rw (p, q) refl
-
 pub counts : (last : List ℕ) (count : ℕ) → AreBytes last → Some count ≡ end_count last → Counts last count
 counts (a ∷ code ∷ y ∷ z ∷ []) count b e =
     let t = end-tetra (a == 0x98 && code == 12) count (256 * y + z) e in
     let u = both-tests a 0x98 code 12 t.0 in
-    record { is = rw (u.0, u.1, t.1) (sym (wide-back y z b.1.1.1.0)); most = omega (arith, t.1, b.1.1.0, b.1.1.1.0) }
+    record { is = rw (u.0, u.1, t.1) (sym (wide-back 12 y z b.1.1.1.0)); most = omega (arith, t.1, b.1.1.0, b.1.1.1.0) }
 counts [] count b e = absurd (cc)
 counts (a ∷ []) count b e = absurd (cc)
 counts (a ∷ c ∷ []) count b e = absurd (cc)

@@ -1,21 +1,21 @@
 -- What is spelled so is read so.
-use Rattle.std.proofs.Common.{◌≡◌, ◌≢◌, ℕ, zero, suc, ◌+◌, ◌-◌, ◌*◌, ◌/◌, ◌%◌, ◌^◌, ◌<◌, ◌≤◌, ◌⊎◌, length, List, [], ◌∷◌, ◌++◌, take, arith, refl, ◌∙◌, ap, Ok, Some, None, true, false, Bool, cond, inl, inr, length-append, replicate, append_assoc}
+use Rattle.std.proofs.Common.{◌≡◌, ℕ, ◌+◌, ◌-◌, ◌*◌, ◌/◌, ◌%◌, ◌^◌, ◌<◌, length, List, [], ◌∷◌, ◌++◌, take, arith, refl, ◌∙◌, ap, Ok, Some, true, false, inl, inr, length-append, replicate}
 use Rattle.std.specs.Prelude.{nat_lt, nat_le, ◌==◌}
 use Rattle.std.specs.List.{flat_map}
 use Rattle.std.proofs.lemmas.Grind.{common_steps}
 use Rattle.std.proofs.lemmas.List.{take_at}
 use Rattle.std.proofs.lemmas.Bool.Decides.{nat_tests}
-use Rattle.mx_word.specs.Words.{tetra_to_bytes, octa_to_bytes, tetra_from_bytes, octa_from_bytes}
-use Rattle.mx_mmo.specs.Tetras.{lop, wide_lop}
+use Rattle.mx_word.specs.Words.{tetra_to_bytes, octa_to_bytes, tetra_from_bytes}
+use Rattle.mx_mmo.specs.Tetras.{wide_lop}
 use Rattle.mx_mmo.specs.Valid.{AreTetras, AreOctas, IsName}
-use Rattle.mx_mmo.specs.Object.{IsNoLop, Spells, SpellsAddress}
+use Rattle.mx_mmo.specs.Object.{Spells, SpellsAddress}
 use Rattle.mx_mmo.specs.Skipping.{skipped}
-use Rattle.mx_mmo.specs.Reading.{Due, first_item, tetras_of, octas_of, on_tetra, on_octa, quoted_tetra, short_address, long_address, item_due, far_tetra, named_file, file_item, ended_spec, pre_item, post_item, trimmed}
+use Rattle.mx_mmo.specs.Reading.{Due, first_item, tetras_of, octas_of, on_tetra, on_octa, quoted_tetra, short_address, long_address, item_due, far_tetra, named_file, file_item, ended_spec, pre_item, post_item}
 use Rattle.mx_mmo.specs.Turns.{MayCome, EndsItem}
 use Rattle.mx_mmo.specs.declared.items.Item.{Item}
-use Rattle.mx_mmo.specs.declared.items.Item.TheVariants.{Load, Loc, Skip, FixOcta, FixNear, FixFar, File, Line, Spec, Pre, Post, Stab}
+use Rattle.mx_mmo.specs.declared.items.Item.TheVariants.{Load, Loc, Skip, FixOcta, FixNear, FixFar, File, Line, Spec, Pre, Post}
 use Rattle.mx_mmo.specs.declared.due.Phase.{Phase}
-use Rattle.mx_mmo.specs.declared.due.Phase.TheVariants.{Start, Middle, Posted, Ended}
+use Rattle.mx_mmo.specs.declared.due.Phase.TheVariants.{Start, Middle, Posted}
 use Rattle.mx_mmo.proofs.Bytes.{tetra-back, octa-back, no-lop-first}
 use Rattle.mx_mmo.proofs.Names.{name-back}
 use Rattle.mx_mmo.proofs.Skips.{skipped-all}

@@ -1,20 +1,15 @@
 -- The first fault of bytes is the one that the table tells.
-use Rattle.std.proofs.Common.{◌≡◌, ◌≢◌, ℕ, ◌+◌, ◌-◌, ◌*◌, ◌/◌, ◌%◌, ◌^◌, ◌<◌, ◌≤◌, length, List, [], ◌∷◌, ◌++◌, take, drop, arith, refl, sym, ◌∙◌, ap, subst, Ok, Err, Some, None, Bool, true, false, cond, length-append, length-take, length-drop, append_assoc, append-nil, zero-add, replicate}
+use Rattle.std.proofs.Common.{◌≡◌, ◌≢◌, ℕ, ◌+◌, ◌-◌, ◌*◌, ◌/◌, ◌%◌, ◌^◌, ◌<◌, ◌≤◌, length, List, [], ◌++◌, take, drop, arith, refl, sym, ◌∙◌, ap, subst, Ok, Err, Some, None, Bool, true, false, length-append, length-take, zero-add, replicate}
 use Rattle.std.specs.Prelude.{Result, Option, ◌==◌}
-use Rattle.std.specs.List.{flat_map}
-use Rattle.std.proofs.lemmas.Grind.{common_steps}
 use Rattle.std.proofs.lemmas.List.{take-append-drop, drop_at, length-replicate}
-use Rattle.mx_word.specs.Words.{tetra_to_bytes, octa_to_bytes}
 use Rattle.mx_mmo.specs.Tetras.{wide_lop}
 use Rattle.mx_mmo.specs.Valid.{AreBytes}
 use Rattle.mx_mmo.specs.Object.{IsSkipped, Spells, SpellsAddress, Spelled}
-use Rattle.mx_mmo.specs.Reading.{first_item}
 use Rattle.mx_mmo.specs.Replies.{limit, tail_of, tail_behind, counted_tail, end_count}
 use Rattle.mx_mmo.specs.Turns.{StandFirst, phase_end}
 use Rattle.mx_mmo.specs.FaultTable.{TetraFault, ItemFault, EndsWith, FaultOf}
 use Rattle.mx_mmo.specs.Whole.{Left, Walk, items_of, object_of, object_behind, object_fault, fault_in, onto, with_tail}
 use Rattle.mx_mmo.specs.declared.items.Item.{Item}
-use Rattle.mx_mmo.specs.declared.items.Tail.{Tail}
 use Rattle.mx_mmo.specs.declared.items.Object.{Object}
 use Rattle.mx_mmo.specs.declared.faults.MmoFault.{MmoFault}
 use Rattle.mx_mmo.specs.declared.faults.MmoFault.TheVariants.{NotTetras, BadFields, Truncated}
@@ -22,7 +17,6 @@ use Rattle.mx_mmo.specs.declared.due.Phase.{Phase}
 use Rattle.mx_mmo.specs.declared.due.Phase.TheVariants.{Start, Middle, Posted, Ended}
 use Rattle.mx_mmo.proofs.Bytes.{bytes-behind, other-test, same-number, other-number}
 use Rattle.mx_mmo.proofs.Complete.{end-told, items-read, left_behind, tail-read, walk-spelled}
-use Rattle.mx_mmo.proofs.Phases.{Reaches}
 use Rattle.mx_mmo.proofs.Pieces.{not-long}
 use Rattle.mx_mmo.proofs.Sound.{Stood, Stopped, Stands, counts, left-bytes, stands}
 use Rattle.mx_mmo.proofs.Spelt.{tetras-length, octas-length}

@@ -1,19 +1,19 @@
 -- The faults of tetras, found and told.
-use Rattle.std.proofs.Common.{◌≡◌, ◌≢◌, ℕ, ◌+◌, ◌-◌, ◌*◌, ◌/◌, ◌%◌, ◌^◌, ◌<◌, ◌≤◌, ◌⊎◌, length, List, [], ◌∷◌, ◌++◌, take, drop, arith, refl, sym, ◌∙◌, ap, subst, Ok, Err, Some, None, Bool, true, false, cond, inl, inr, replicate}
+use Rattle.std.proofs.Common.{◌≡◌, ◌≢◌, ℕ, ◌+◌, ◌-◌, ◌*◌, ◌^◌, ◌<◌, ◌≤◌, ◌⊎◌, length, List, [], ◌∷◌, ◌++◌, take, drop, arith, refl, sym, ◌∙◌, ap, subst, Ok, Err, Some, None, Bool, true, false, cond, inl, inr, replicate}
 use Rattle.std.specs.Prelude.{Option, nat_lt, nat_le, ◌==◌, ◌&&◌, ◌||◌}
 use Rattle.std.proofs.lemmas.Bool.Decides.{nat_tests}
 use Rattle.std.proofs.lemmas.List.{take-append-drop, take_at, length-replicate}
 use Rattle.mx_word.specs.Words.{tetra_to_bytes, tetra_from_bytes, octa_from_bytes}
 use Rattle.mx_mmo.specs.Valid.{AreBytes}
 use Rattle.mx_mmo.specs.Skipping.{skipped}
-use Rattle.mx_mmo.specs.Reading.{DueOf, Due, first_item, due_item, lop_item, lop_of, on_tetra, on_octa, quoted_tetra, short_address, long_address, address_due, item_due, far_tetra, named_file, file_item, ended_spec, pre_item, post_item, tetras_of, octas_of, trimmed}
+use Rattle.mx_mmo.specs.Reading.{DueOf, Due, first_item, due_item, lop_item, lop_of, on_tetra, on_octa, quoted_tetra, short_address, long_address, address_due, item_due, far_tetra, named_file, file_item, ended_spec, pre_item, post_item, trimmed}
 use Rattle.mx_mmo.specs.FaultTable.{MayStand, HasFields, TetraFault}
 use Rattle.mx_mmo.specs.declared.items.Item.{Item}
 use Rattle.mx_mmo.specs.declared.items.Item.TheVariants as items
 use Rattle.mx_mmo.specs.declared.lops.Lop.{Lop}
 use Rattle.mx_mmo.specs.declared.lops.Lop.TheVariants.{Quote, Loc, Skip, Fixo, Fixr, Fixrx, File, Line, Spec, Pre, Post, Stab, End}
 use Rattle.mx_mmo.specs.declared.faults.MmoFault.{MmoFault}
-use Rattle.mx_mmo.specs.declared.faults.MmoFault.TheVariants.{NoPre, BadLop, BadFields}
+use Rattle.mx_mmo.specs.declared.faults.MmoFault.TheVariants.{BadLop, BadFields}
 use Rattle.mx_mmo.specs.declared.due.Phase.{Phase}
 use Rattle.mx_mmo.specs.declared.due.Phase.TheVariants.{Start, Middle, Posted, Ended}
 use Rattle.mx_mmo.proofs.Bytes.{bytes-front, tetra-back, same-number, other-number, other-test, both-tests, all-tests, both-true, not-less}

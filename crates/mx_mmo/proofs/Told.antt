@@ -17,8 +17,8 @@ use Rattle.mx_mmo.specs.declared.faults.MmoFault.{MmoFault}
 use Rattle.mx_mmo.specs.declared.faults.MmoFault.TheVariants.{NoPre, BadLop, BadFields, OutOfMemory}
 use Rattle.mx_mmo.specs.declared.due.Phase.{Phase}
 use Rattle.mx_mmo.specs.declared.due.Phase.TheVariants.{Start, Middle, Posted, Ended}
-use Rattle.mx_mmo.proofs.Bytes.{four-bytes, four-fit, eight-bytes, eight-fit, top-byte, bytes-front, same-number, other-number, both-true, both-tests, all-tests, not-less, is-least, is-less}
-use Rattle.mx_mmo.proofs.Codes.{code_of, lop-code}
+use Rattle.mx_mmo.proofs.Bytes.{four-bytes, four-fit, eight-bytes, eight-fit, top-byte, bytes-front, same-number, other-number, both-true, both-tests, all-tests, not-less, is-least, is-less, take-four, drop-four}
+use Rattle.mx_mmo.proofs.Codes.{lop-code}
 use Rattle.mx_mmo.proofs.Names.{is-named}
 use Rattle.mx_mmo.proofs.Skips.{skipped-ended}
 
@@ -111,17 +111,11 @@ octas-told (suc n) (a ∷ b ∷ c ∷ d ∷ e ∷ f ∷ g ∷ h ∷ more) l s =
     }
 octas-told n _ l s = absurd (omega arith)
 
-take-four : (n a b c d : ℕ) (more : List ℕ) → take (4 + n) (a ∷ b ∷ c ∷ d ∷ more) ≡ a ∷ b ∷ c ∷ d ∷ take n more
-take-four n a b c d more = let e : 4 + n ≡ suc (suc (suc (suc n))) = omega arith in rw e refl
-
-drop-four : (n a b c d : ℕ) (more : List ℕ) → drop (4 + n) (a ∷ b ∷ c ∷ d ∷ more) ≡ drop n more
-drop-four n a b c d more = let e : 4 + n ≡ suc (suc (suc (suc n))) = omega arith in rw e refl
-
 same-lop : (code y z code' y' z' : ℕ) (more more' : List ℕ) → code' ≡ code → y' ≡ y → z' ≡ z → more ≡ more' → lop code y z ++ more ≡ 0x98 ∷ code' ∷ y' ∷ z' ∷ more'
 same-lop code y z code' y' z' more more' e f g h = rw (e, f, g, h) refl
 
 -- the number of the bytes Y and Z
-wide-back : (code y z : ℕ) → z < 2 ^ 8 → wide_lop code (256 * y + z) ≡ lop code y z
+pub wide-back : (code y z : ℕ) → z < 2 ^ 8 → wide_lop code (256 * y + z) ≡ lop code y z
 wide-back code y z h =
     let p : (256 * y + z) / 256 ≡ y = omega arith in
     let q : (256 * y + z) % 256 ≡ z = omega arith in

@@ -1,12 +1,12 @@
 -- Which bytes have which fault, tetra by tetra.
-use Rattle.std.specs.Prelude.{◌≡◌, ◌≢◌, ℕ, ◌+◌, ◌-◌, ◌*◌, ◌/◌, ◌%◌, ◌^◌, ◌<◌, ◌≤◌, ◌⊎◌, List, [], ◌∷◌, ◌++◌, length, replicate, Option, Some, None}
+use Rattle.std.specs.Prelude.{◌≡◌, ◌≢◌, ℕ, ◌-◌, ◌*◌, ◌/◌, ◌%◌, ◌^◌, ◌<◌, ◌≤◌, ◌⊎◌, List, ◌∷◌, ◌++◌, length, replicate, Option, Some, None}
 use Rattle.mx_word.specs.Words.{tetra_to_bytes}
 use Rattle.mx_mmo.specs.Tetras.{wide_lop}
 use Rattle.mx_mmo.specs.Reading.{lop_of}
 use Rattle.mx_mmo.specs.Turns.{StandFirst, phase_end}
 use Rattle.mx_mmo.specs.declared.items.Item.{Item}
 use Rattle.mx_mmo.specs.declared.lops.Lop.{Lop}
-use Rattle.mx_mmo.specs.declared.lops.Lop.TheVariants.{Quote, Loc, Skip, Fixo, Fixr, Fixrx, File, Line, Spec, Pre, Post, Stab, End}
+use Rattle.mx_mmo.specs.declared.lops.Lop.TheVariants.{Quote, Loc, Fixo, Fixrx, Pre, Post, Stab, End}
 use Rattle.mx_mmo.specs.declared.faults.MmoFault.{MmoFault}
 use Rattle.mx_mmo.specs.declared.faults.MmoFault.TheVariants.{NotTetras, NoPre, BadLop, BadFields, Truncated}
 use Rattle.mx_mmo.specs.declared.due.Phase.{Phase}

@@ -1,5 +1,5 @@
 -- What a list of items means, item by item.
-use Rattle.std.specs.Prelude.{ℕ, ◌+◌, ◌-◌, ◌*◌, ◌/◌, ◌%◌, ◌^◌, ◌==◌, ◌&&◌, Bool, true, false, not, nat_le, List, [], ◌∷◌, Option, Some, None, Result, Ok, Err, slice_index, min, bit_xor, if◌then◌else◌}
+use Rattle.std.specs.Prelude.{ℕ, ◌+◌, ◌-◌, ◌*◌, ◌/◌, ◌%◌, ◌^◌, ◌==◌, ◌&&◌, Bool, true, false, not, nat_le, List, [], ◌∷◌, Option, Some, None, Result, Ok, Err, slice_index, min, if◌then◌else◌}
 pub use Rattle.mx_word.specs.Octas.{with_tetra, with_page}
 use Rattle.mx_mmo.specs.Image.{Image}
 use Rattle.mx_mmo.specs.declared.items.Item.{Item}
@@ -42,13 +42,14 @@ paged m page =
 abbrev pub is_below : ℕ → Bool
 is_below a = not (nat_le 0x6000_0000_0000_0000 a)
 
-abbrev pub joined_on : ℕ → ℕ → Result Image Meaningless → Result Image Meaningless
-joined_on a t (Ok m) = Ok (record m { memory = with_tetra m.memory a t })
-joined_on a t (Err e) = Err e
+-- the image with a tetra joined to memory
+abbrev pub image_with_tetra : ℕ → ℕ → Result Image Meaningless → Result Image Meaningless
+image_with_tetra a t (Ok m) = Ok (record m { memory = with_tetra m.memory a t })
+image_with_tetra a t (Err e) = Err e
 
 -- a tetra is joined at an address, on the page that it lies on
 abbrev pub join : Image → ℕ → ℕ → Result Image Meaningless
-join m a t = if is_below a then joined_on a t (paged m (a / 4096)) else Err BadPlace
+join m a t = if is_below a then image_with_tetra a t (paged m (a / 4096)) else Err BadPlace
 
 abbrev pub then_join : ℕ → ℕ → Result Image Meaningless → Result Image Meaningless
 then_join a t (Ok m) = join m a t

@@ -6,7 +6,7 @@ use Rattle.mx_mmo.specs.Valid.{SpecsEnd}
 use Rattle.mx_mmo.specs.declared.items.Item.{Item}
 use Rattle.mx_mmo.specs.declared.items.Item.TheVariants.{Load, Loc, Skip, FixOcta, FixNear, FixFar, File, Line, Spec, Pre, Post, Stab}
 use Rattle.mx_mmo.specs.declared.due.Phase.{Phase}
-use Rattle.mx_mmo.specs.declared.due.Phase.TheVariants.{Start, Middle, Posted, Ended}
+use Rattle.mx_mmo.specs.declared.due.Phase.TheVariants.{Start, Middle, Posted}
 
 -- the items that may come next
 abbrev pub MayCome : Phase → Item → Type 0
