@@ -1,0 +1,188 @@
+#!/usr/bin/env python3
+"""Checks what the documents say against the repository, and prints only what is wrong.
+
+- Links lead to files. Each crate is described, and what it offers stands in docs/PROVED.md.
+- Names in backquotes are there: crates `mx_..`, paths, the modules that docs/ARCHITECTURE.md names, and the files,
+  clauses and definitions of docs/PROVED.md. In a path a word of capitals, as NAME, or a * stands for any word.
+- The numbers and names of docs/MESSAGES.md are those of the program's table.
+- The blocks marked `console` in README.md and examples/README.md are run on the program, if it is built and no source is
+  newer: a line that begins with "$ " is a command, and the lines after it are what it prints. Nothing is built here.
+"""
+import glob
+import os
+import re
+import shutil
+import subprocess
+import sys
+import tempfile
+
+TOP = os.path.dirname(os.path.dirname(os.path.realpath(__file__)))
+PROGRAM = "crates/mmixware/out/mmixware"
+SESSIONS = ("README.md", "examples/README.md")
+wrongs = []
+
+
+def wrong(where, what):
+    wrongs.append(f"{where}: {what}")
+
+
+def text_of(path):
+    with open(path, encoding="utf-8") as file:
+        return file.read()
+
+
+def pages():
+    return sorted(["README.md", "CONTRIBUTING.md", "CHANGELOG.md", *glob.glob("docs/*.md"), *glob.glob("examples/*.md")])
+
+
+def lines_of(page):
+    """The lines outside of fenced blocks, with their numbers."""
+    is_fenced = False
+    for number, line in enumerate(text_of(page).splitlines(), 1):
+        if line.startswith("```"):
+            is_fenced = not is_fenced
+        elif not is_fenced:
+            yield f"{page}:{number}", line
+
+
+def is_there(path):
+    return "/out" in path or bool(glob.glob(re.sub(r"\b[A-Z]{4,}\b(?!\.md)", "*", path)))
+
+
+def check_links_and_paths():
+    for page in pages():
+        for where, line in lines_of(page):
+            for link in re.findall(r"\]\(([^)#]+)", line):
+                if not link.startswith("http") and not os.path.exists(os.path.join(os.path.dirname(page), link)):
+                    wrong(where, f"the link to {link} leads nowhere")
+            for name in re.findall(r"`([^`\s]+)`", line):
+                if re.fullmatch(r"mx_\w+", name) and not os.path.isdir(f"crates/{name}"):
+                    wrong(where, f"there is no crate {name}")
+                if re.match(r"(crates|docs|examples|checks|bench|\.ci)/", name) and not is_there(name):
+                    wrong(where, f"there is no {name}")
+
+
+def crates():
+    """The crates of crates.txt, each with what it stands on."""
+    rows = re.findall(r"^(\w+)[^:\n]*:(.*)", text_of("crates.txt"), re.M)
+    return {crate: below.split() for crate, below in rows}
+
+
+def check_architecture():
+    """A crate's row says what it stands on; in the other tables a crate is followed by modules of its specs."""
+    listed = crates()
+    for where, line in lines_of("docs/ARCHITECTURE.md"):
+        names = re.findall(r"`(\w+)`", line)
+        row = re.match(r"\| `(\w+)` \|([^|]*)\|", line)
+        if row and row[1] in listed:
+            for below in re.findall(r"`(\w+)`", row[2]):
+                if below not in listed[row[1]]:
+                    wrong(where, f"{row[1]} does not stand on {below} in crates.txt")
+            continue
+        crate = None
+        for name in names:
+            crate = name if name in listed else crate
+            folder = f"crates/{crate}" if crate and line.startswith("|") else "crates/*"
+            if name[0].isupper() and not glob.glob(f"{folder}/specs/{name}.antt") + glob.glob(f"{folder}/proofs/{name}.antt"):
+                wrong(where, f"{folder} has no module {name}")
+
+
+def defines(crate, module, name):
+    path = f"crates/{crate}/specs/{module}.antt"
+    return os.path.isfile(path) and re.search(rf"^ *(\w+ )?pub (data |record )?{name}\b", text_of(path), re.M)
+
+
+def promises(path, call, clause):
+    for body in re.split(r"\bfn ", text_of(path))[1:]:
+        if re.match(rf"{call}\b", body) and re.search(rf"ensures {clause + ' ' if clause else ''}{{", body):
+            return True
+    return False
+
+
+def check_claims():
+    crate = path = None
+    for where, line in lines_of("docs/PROVED.md"):
+        if line.startswith("#"):
+            crate = re.match(r"#+ (\w+)", line)[1]
+            crate = crate if os.path.isdir(f"crates/{crate}") else None
+        if line.startswith(("#", "- ")) or not line:
+            path = None
+        for name in re.findall(r"`([^`\s]+)`", line):
+            if re.fullmatch(r"crates/\S+\.rt", name):
+                path = name if os.path.isfile(name) else None
+            elif crate and re.fullmatch(r"[A-Z]\w*\.\w+", name) and not defines(crate, *name.split(".")):
+                wrong(where, f"specs of {crate} do not define {name}")
+            elif path and re.fullmatch(r"[a-z]\w*(\.[a-z]\w*)?", name):
+                call, _, clause = name.partition(".")
+                if not promises(path, call, clause):
+                    wrong(where, f"{path} has no such clause as {name}")
+
+
+def check_messages():
+    names = text_of("crates/mx_top/specs/Names.antt")
+    fault_names = set(re.findall(r'n == (\d+) then codes "(\w+)"', names))
+    for where, line in lines_of("docs/MESSAGES.md"):
+        row = re.match(r"\| (\d+) \| (\w+) \|", line)
+        if row and row.groups() not in fault_names:
+            wrong(where, f"{row[1]} {row[2]} is not in the program's table of names")
+
+
+def check_crates():
+    """Each crate is described, and each function that it offers stands among the claims."""
+    proved = text_of("docs/PROVED.md")
+    for crate in crates():
+        for page in ("docs/ARCHITECTURE.md", "docs/PROVED.md"):
+            if not re.search(rf"\b{crate}\b", text_of(page)):
+                wrong(page, f"{crate} is not described")
+        root = f"crates/{crate}/src/lib.rt"
+        for offered in re.findall(r"^pub use (.*?);", text_of(root), re.M | re.S) if os.path.isfile(root) else []:
+            for name in re.findall(r"\b([a-z]\w*)\b(?!::)", offered):
+                if not re.search(rf"`{name}[.`]", proved):
+                    wrong("docs/PROVED.md", f"{name} of {crate} is not among the claims")
+
+
+def printed(commands, room):
+    """What a shell prints for commands, each with its line before it."""
+    script = "".join(f"status=$?; printf '%s\\n' '$ {it}'; (exit $status)\n{it}\n" for it in commands)
+    how = {"cwd": room, "stdin": subprocess.DEVNULL, "stdout": subprocess.PIPE, "stderr": subprocess.STDOUT, "timeout": 60}
+    return subprocess.run(["sh", "-c", script], **how).stdout.decode(errors="replace")
+
+
+def is_fresh():
+    if not os.access(PROGRAM, os.X_OK):
+        return False
+    made = os.path.getmtime(PROGRAM)
+    return all(os.path.getmtime(it) <= made for it in glob.glob("crates/*/src/**/*.rt", recursive=True))
+
+
+def check_sessions():
+    shown = ""
+    for page in SESSIONS:
+        for block in re.findall(r"^```console\n(.*?)^```", text_of(page), re.M | re.S):
+            shown += block
+            commands = re.findall(r"^\$ (.*)$", block, re.M)
+            if any("'" in it for it in commands):
+                wrong(page, "a command of a console block has an apostrophe, which this check cannot run")
+            elif is_fresh():
+                with tempfile.TemporaryDirectory() as room:
+                    shutil.copytree("examples", f"{room}/examples")
+                    os.symlink(os.path.realpath(PROGRAM), f"{room}/mmixware")
+                    got = printed(commands, room)
+                if got != block:
+                    wrong(page, f"a session prints\n{got}and the page has\n{block}")
+    for source in sorted(glob.glob("examples/*.mm[so]")):
+        if f" {source}" not in shown:
+            wrong("examples/README.md", f"no session runs {source}")
+
+
+def main():
+    os.chdir(TOP)
+    for check in (check_links_and_paths, check_architecture, check_claims, check_messages, check_crates, check_sessions):
+        check()
+    for it in wrongs:
+        print(f"checks/documents.py: {it}", file=sys.stderr)
+    return 1 if wrongs else 0
+
+
+if __name__ == "__main__":
+    sys.exit(main())
