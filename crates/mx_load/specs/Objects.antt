@@ -1,19 +1,10 @@
 -- What is loaded of the object that bytes are, or its first fault.
-<<<<<<< HEAD
 use Rattle.std.specs.Prelude.{◌≡◌, ℕ, zero, suc, ◌+◌, List, length, drop, Some, None, Result, Ok, Err, nat_lt, unwrap_or, if◌then◌else◌}
 use Rattle.mx_mmo.specs.Image.{Image}
 use Rattle.mx_mmo.specs.Meaning.{Loading, Meaningless, nothing, take_item, take_items}
 use Rattle.mx_mmo.specs.Reading.{Due, first_item}
 use Rattle.mx_mmo.specs.Replies.{limit, phase_after, tail_of}
 use Rattle.mx_mmo.specs.Whole.{Left, walk}
-=======
-use Rattle.std.specs.Prelude.{ℕ, zero, suc, ◌+◌, List, length, drop, Some, None, Result, Ok, Err, nat_lt, unwrap_or, if◌then◌else◌}
-use Rattle.mx_mmo.specs.Image.{Image}
-use Rattle.mx_mmo.specs.Meaning.{Loading, Meaningless, nothing, take_item}
-use Rattle.mx_mmo.specs.Reading.{Due, first_item}
-use Rattle.mx_mmo.specs.Replies.{limit, phase_after, tail_of}
-use Rattle.mx_mmo.specs.Whole.{Left}
->>>>>>> 6b08a43cfb0190ba2dd253cd50a18407812d68c2
 use Rattle.mx_mmo.specs.Faults as objects
 use Rattle.mx_mmo.specs.declared.items.Item.{Item}
 use Rattle.mx_mmo.specs.declared.items.Tail.{Tail}
@@ -21,13 +12,10 @@ use Rattle.mx_mmo.specs.declared.faults.MmoFault.{MmoFault}
 use Rattle.mx_mmo.specs.declared.faults.MmoFault.TheVariants.{TooLong}
 use Rattle.mx_mmo.specs.declared.due.Phase.{Phase}
 use Rattle.mx_mmo.specs.declared.due.Phase.TheVariants.{Start}
-<<<<<<< HEAD
 use Rattle.mx_stab.specs.Reading.{trie_answer}
 use Rattle.mx_stab.specs.Faults as tries
 use Rattle.mx_stab.specs.declared.faults.StabFault.{StabFault}
 use Rattle.mx_word.specs.declared.symbols.Symbol.{Symbol}
-=======
->>>>>>> 6b08a43cfb0190ba2dd253cd50a18407812d68c2
 use Rattle.mx_load.specs.Faults.{fault_of, number_of}
 
 -- the byte place and the number of a fault of the format
@@ -59,7 +47,6 @@ unfoldable pub items_loaded : ℕ → Loading → Phase → ℕ → List ℕ →
 items_loaded zero s phase at bytes = Ok (s, record { phase = phase; at = at; rest = bytes })
 items_loaded (suc n) s phase at bytes = first_loaded (items_loaded n) s phase at bytes (first_item phase at bytes)
 
-<<<<<<< HEAD
 -- the symbols of a trie, or the place and the number of its fault; the bytes of the trie are counted from where it stands in
 -- the object
 abbrev pub trie_read : ℕ → Result (List Symbol) StabFault → Result (List Symbol) (ℕ × ℕ)
@@ -98,27 +85,3 @@ pub record MeansNothing (bytes : List ℕ) (place : ℕ) (e : Meaningless) : Typ
   pub meant : take_items (walk count Start 0 bytes).0 (Ok nothing) ≡ Ok before
   pub next : take_items (walk (suc count) Start 0 bytes).0 (Ok nothing) ≡ Err e
   pub begins : place ≡ left.at
-=======
--- what a trie tells, or its fault; its bytes are counted from where it stands in the object
-abbrev pub trie_loaded : {S : Type 0} → Image → ℕ → Result S (ℕ × ℕ) → Result (Image × S) (ℕ × ℕ)
-trie_loaded image place (Ok symbols) = Ok (image, symbols)
-trie_loaded image place (Err (at, number)) = Err (place + at, number)
-
--- what stands behind the items: what is wrong at the end, and then what is wrong in the trie
-abbrev pub end_loaded : {S : Type 0} → (List ℕ → Result S (ℕ × ℕ)) → Loading → Result Tail MmoFault → Result (Image × S) (ℕ × ℕ)
-end_loaded symbols_of s (Ok tail) = trie_loaded s.image tail.place (symbols_of tail.trie)
-end_loaded symbols_of s (Err fault) = Err (fault_at fault)
-
-abbrev pub whole_loaded : {S : Type 0} → (List ℕ → Result S (ℕ × ℕ)) → Loaded → Result (Image × S) (ℕ × ℕ)
-whole_loaded symbols_of (Err fault) = Err fault
-whole_loaded symbols_of (Ok (s, left)) = end_loaded symbols_of s (tail_of left.phase left.at left.rest)
-
--- the image and the symbols of the object that bytes are, or the place and the number of their first fault: too many bytes;
--- then the items from the left, each with its own fault and then that of its meaning; then what is wrong at the end; then
--- the fault of the trie. `symbols_of` tells what the bytes of a trie are: its symbols, or the place in it and the number of
--- its first fault.
-abbrev pub object_loaded : {S : Type 0} → (List ℕ → Result S (ℕ × ℕ)) → List ℕ → Result (Image × S) (ℕ × ℕ)
-object_loaded symbols_of bytes =
-    if nat_lt limit (length bytes) then Err (fault_at (TooLong limit))
-    else whole_loaded symbols_of (items_loaded (length bytes + 1) nothing Start 0 bytes)
->>>>>>> 6b08a43cfb0190ba2dd253cd50a18407812d68c2
