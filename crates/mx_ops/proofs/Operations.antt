@@ -2,7 +2,7 @@
 use Rattle.std.proofs.Common.{ℕ, zero, suc, ◌+◌, ◌<◌, ◌≤◌, ◌≡◌, Bool, true, false, not, ◌&&◌, cond, List, [], ◌∷◌, ◌++◌, map, length, get_or, Option, Some, None, IsTrue, Decides, refl, sym, ◌∙◌, ap, arith, bytes_eq, ◌⊎◌, inl, inr, drop, eqb, zero-add, take, ◌-◌}
 use Rattle.std.specs.Option.{is_none}
 use Rattle.std.specs.List.{Contains}
-use Rattle.std.proofs.lemmas.Bool.{false≢true, eqb-true}
+use Rattle.std.proofs.lemmas.Bool.{and_parts, false≢true, eqb-true, not-true}
 use Rattle.std.proofs.lemmas.Slice.Eq.{bytes_eq-Decides}
 use Rattle.std.proofs.lemmas.Grind.{common_steps}
 use Rattle.mx_ops.specs.Tables.{first_of, numbered, names_once}
@@ -10,7 +10,7 @@ use Rattle.mx_ops.specs.Opcodes.{instruction, opcode_rows, opcode_names, opcode_
 use Rattle.mx_ops.specs.Predefined.{special_registers, predefined_names, predefined_value}
 use Rattle.mx_ops.specs.declared.op.Op.{Op}
 use Rattle.mx_ops.specs.declared.op.Op.TheVariants.{Code}
-use Rattle.mx_ops.proofs.Tables.{and-left, and-right, not-true, first_of-append, first_of-front, first_of-once}
+use Rattle.mx_ops.proofs.Tables.{first_of-append, first_of-front, first_of-once}
 
 abbrev instructions : ℕ → List (List ℕ) → List (List ℕ × Op)
 instructions place names = map instruction (numbered place names)
@@ -57,12 +57,12 @@ strangers (n ∷ names) table = is_none (first_of n table) && strangers names ta
 
 strangers-at : (names : List (List ℕ)) (table : List (List ℕ × Op)) (j : ℕ) → strangers names table ≡ true → j < length names → first_of (get_or names j []) table ≡ None
 strangers-at [] table j h lt = absurd (omega arith)
-strangers-at (n ∷ names) table zero h lt = none (first_of n table) (and-left _ _ h)
+strangers-at (n ∷ names) table zero h lt = none (first_of n table) (and_parts _ _ h).0
   where
     none : (o : Option Op) → is_none o ≡ true → o ≡ None
     none None h = refl
     none (Some v) h = cc
-strangers-at (n ∷ names) table (suc j) h lt = strangers-at names table j (and-right _ _ h) (omega arith)
+strangers-at (n ∷ names) table (suc j) h lt = strangers-at names table j (and_parts _ _ h).1 (omega arith)
 
 -- no entry is an instruction
 abbrev without_codes : List (List ℕ × Op) → Bool
@@ -71,14 +71,14 @@ without_codes (e ∷ table) = not (is_code e.1) && without_codes table
 
 no-code : (name : List ℕ) (table : List (List ℕ × Op)) → without_codes table ≡ true → is_instruction (first_of name table) ≡ false
 no-code name [] h = refl
-no-code name (e ∷ table) h = either (bytes_eq e.0 name) (is_code e.1) _ (not-true _ (and-left _ _ h)) (no-code name table (and-right _ _ h))
+no-code name (e ∷ table) h = either (bytes_eq e.0 name) (is_code e.1) _ (not-true _ (and_parts _ _ h).0) (no-code name table (and_parts _ _ h).1)
   where
     either : (b c : Bool) (rest : Option Op) → is_code e.1 ≡ false → is_instruction rest ≡ false → is_instruction (cond b (Some e.1) rest) ≡ false
     either true c rest p q = p
     either false c rest p q = q
 
 -- what computes: the rows follow one another, no instruction has the name of another operation, and these have one entry each
-rows : rows_follow 0 opcode_rows ≡ true
+pub rows : rows_follow 0 opcode_rows ≡ true
 unfolding opcode_rows
 rows = refl
 
