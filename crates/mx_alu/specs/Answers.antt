@@ -10,8 +10,8 @@ abbrev pub alone : ℕ → Answer
 alone x = record { x = x; h = None; r = None; event = None }
 
 -- a whole number as the result, modulo 2^64
-abbrev pub plain : ℤ → Answer
-plain v = alone (octa v)
+abbrev pub residue : ℤ → Answer
+residue v = alone (octa v)
 
 -- overflow where a whole number does not lie from -2^63 to 2^63 - 1
 abbrev pub overflow : ℤ → Option Event

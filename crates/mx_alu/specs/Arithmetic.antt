@@ -8,7 +8,7 @@ use Rattle.mx_alu.specs.declared.answer.Answer.{Answer}
 use Rattle.mx_alu.specs.declared.answer.Event.TheVariants.{Divide}
 use Rattle.mx_alu.specs.declared.names.Arithmetic.{Arithmetic}
 use Rattle.mx_alu.specs.declared.names.Arithmetic.TheVariants.{Mul, Mulu, Div, Divu, Add, Addu, Sub, Subu, TwoAddu, FourAddu, EightAddu, SixteenAddu, Cmp, Cmpu, Neg, Negu, Sl, Slu, Sr, Sru}
-use Rattle.mx_alu.specs.Answers.{plain, checked, overflow}
+use Rattle.mx_alu.specs.Answers.{residue, checked, overflow}
 use Rattle.mx_alu.specs.Numbers.{octa, floor_by, floor_quotient}
 
 -- -1, 0 or 1 for what a comparison tells
@@ -18,12 +18,12 @@ sign Equal = pos 0
 sign Greater = pos 1
 
 -- the quotient q of a by b, with the remainder in rR
-abbrev pub divided : ℤ → ℤ → ℤ → Answer
-divided a b q = record { x = octa q; h = None; r = Some (octa (a -ℤ b *ℤ q)); event = overflow q }
+abbrev pub quotient_answer : ℤ → ℤ → ℤ → Answer
+quotient_answer a b q = record { x = octa q; h = None; r = Some (octa (a -ℤ b *ℤ q)); event = overflow q }
 
 -- DIV: the floor of the signed quotient; by 0 it is 0, and y is the remainder
 abbrev pub divide : ℕ → ℕ → Answer
-divide y z = if z == 0 then record { x = 0; h = None; r = Some y; event = Some Divide } else divided (s y) (s z) (floor_quotient (s y) (s z))
+divide y z = if z == 0 then record { x = 0; h = None; r = Some y; event = Some Divide } else quotient_answer (s y) (s z) (floor_quotient (s y) (s z))
 
 -- DIVU: the quotient of 2^64 d + y, where it is an octa
 abbrev pub divide_long : ℕ → ℕ → ℕ → Answer
@@ -40,18 +40,18 @@ arithmetic Mulu y z d = multiply y z
 arithmetic Div y z d = divide y z
 arithmetic Divu y z d = divide_long d y z
 arithmetic Add y z d = checked (s y +ℤ s z)
-arithmetic Addu y z d = plain (pos (y + z))
+arithmetic Addu y z d = residue (pos (y + z))
 arithmetic Sub y z d = checked (s y -ℤ s z)
-arithmetic Subu y z d = plain (pos y -ℤ pos z)
-arithmetic TwoAddu y z d = plain (pos (2 * y + z))
-arithmetic FourAddu y z d = plain (pos (4 * y + z))
-arithmetic EightAddu y z d = plain (pos (8 * y + z))
-arithmetic SixteenAddu y z d = plain (pos (16 * y + z))
-arithmetic Cmp y z d = plain (sign (int_cmp (s y) (s z)))
-arithmetic Cmpu y z d = plain (sign (nat_cmp y z))
+arithmetic Subu y z d = residue (pos y -ℤ pos z)
+arithmetic TwoAddu y z d = residue (pos (2 * y + z))
+arithmetic FourAddu y z d = residue (pos (4 * y + z))
+arithmetic EightAddu y z d = residue (pos (8 * y + z))
+arithmetic SixteenAddu y z d = residue (pos (16 * y + z))
+arithmetic Cmp y z d = residue (sign (int_cmp (s y) (s z)))
+arithmetic Cmpu y z d = residue (sign (nat_cmp y z))
 arithmetic Neg y z d = checked (pos y -ℤ s z)
-arithmetic Negu y z d = plain (pos y -ℤ pos z)
+arithmetic Negu y z d = residue (pos y -ℤ pos z)
 arithmetic Sl y z d = checked (s y *ℤ pos (2 ^ z))
-arithmetic Slu y z d = plain (pos (y * 2 ^ z))
-arithmetic Sr y z d = plain (floor_by (s y) (2 ^ z))
-arithmetic Sru y z d = plain (pos (y / 2 ^ z))
+arithmetic Slu y z d = residue (pos (y * 2 ^ z))
+arithmetic Sr y z d = residue (floor_by (s y) (2 ^ z))
+arithmetic Sru y z d = residue (pos (y / 2 ^ z))
