@@ -27,7 +27,7 @@ fn next_after(place: usize, text: &[u8]) -> usize
 {
     let (gap, rest) = blanks(text);
     match rest {
-        [59, ..] => place + gap.len() + 1,
+        [b';', ..] => place + gap.len() + 1,
         _ => place + gap.len() + rest.len(),
     }
 }
