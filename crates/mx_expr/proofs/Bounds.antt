@@ -1,7 +1,7 @@
 -- The bounds: where one is passed, and what it does to reading.
 use Rattle.std.proofs.Common.{◌≡◌, ℕ, ◌+◌, ◌-◌, ◌*◌, ◌^◌, ◌≤◌, List, [], ◌∷◌, ◌++◌, length, Bool, true, false, cond, Option, Some, None, Ok, refl, sym, ap, ◌∙◌, arith, append_assoc, subst, length-append}
 use Rattle.std.specs.Prelude.{◌==◌, ◌&&◌, nat_le}
-use Rattle.std.proofs.lemmas.Bool.{eqb-true, leb-true}
+use Rattle.std.proofs.lemmas.Bool.{and_parts, eqb-true, leb-true}
 use Rattle.mx_expr.specs.declared.faults.ExprFault.{ExprFault}
 use Rattle.mx_expr.specs.declared.faults.ExprFault.TheVariants.{TooWide, TooDeep, EmptyString}
 use Rattle.mx_expr.specs.declared.tree.BinOp.TheVariants.{Div}
@@ -29,19 +29,11 @@ some-when : (c : Bool) (x y : ExprFault) → cond c (Some x) None ≡ Some y →
 some-when true x y h = (refl, cc)
 some-when false x y h = absurd (cc)
 
-and-first : (a b : Bool) → (a && b) ≡ true → a ≡ true
-and-first true b h = refl
-and-first false b h = h
-
-and-second : (a b : Bool) → (a && b) ≡ true → b ≡ true
-and-second true b h = h
-and-second false b h = absurd (cc)
-
 deep-passed : (front rest : List ℕ) (d b : ℕ) (f : ExprFault) → Before d front → too_deep d b ≡ Some f → Passed (front ++ b ∷ rest) front f
 deep-passed front rest d b f h e =
     let w = some-when (b == 40 && nat_le 255 d) TooDeep f e in
-    let byte : b ≡ 40 = eqb-true b 40 (and-first (b == 40) (nat_le 255 d) w.0) in
-    let deep : 255 ≤ d = leb-true 255 d (and-second (b == 40) (nat_le 255 d) w.0) in
+    let byte : b ≡ 40 = eqb-true b 40 (and_parts (b == 40) (nat_le 255 d) w.0).0 in
+    let deep : 255 ≤ d = leb-true 255 d (and_parts (b == 40) (nat_le 255 d) w.0).1 in
     let same : TooDeep ≡ f = w.1 in
     subst (λ x. Passed (front ++ b ∷ rest) front x) same
     (record {
@@ -132,7 +124,7 @@ pub passed : (s : State) (front rest : List ℕ) (b : ℕ) (f : ExprFault) → H
 passed s front rest b f h e = passed-at s.mode front h.text h.part rest h.es s.done s.waiting s.depth b f (record { before = h.before; spelled = h.spelled }) h.stands e
 
 deep-byte : (d b : ℕ) (f : ExprFault) → too_deep d b ≡ Some f → b ≡ 40
-deep-byte d b f e = let w = some-when (b == 40 && nat_le 255 d) TooDeep f e in eqb-true b 40 (and-first (b == 40) (nat_le 255 d) w.0)
+deep-byte d b f e = let w = some-when (b == 40 && nat_le 255 d) TooDeep f e in eqb-true b 40 (and_parts (b == 40) (nat_le 255 d) w.0).0
 
 deep-moves : (mode : Mode) (k : List Waiting) (d b : ℕ) (es : List Tree) (t : State) → b ≡ 40 → move (st mode k d es) 40 ≡ Ok t → (u : State) × (move (st mode k d es) b ≡ Ok u)
 deep-moves mode k d b es t e h = (t, ap (move (st mode k d es)) e ∙ h)

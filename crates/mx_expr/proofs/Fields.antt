@@ -1,6 +1,7 @@
 -- What is spelled is read: operands, fields, and what stands before a primary.
 use Rattle.std.proofs.Common.{◌≡◌, ℕ, ◌+◌, ◌<◌, List, [], ◌∷◌, ◌++◌, length, map, Bool, true, false, Some, Result, Ok, refl, sym, ap, ◌∙◌, arith, append_assoc, append-nil, length-append}
-use Rattle.std.specs.Prelude.{◌==◌, ◌&&◌, not}
+use Rattle.std.proofs.lemmas.Bool.{and_parts, not-true}
+use Rattle.std.specs.Prelude.{◌==◌}
 use Rattle.std.specs.List.{list_all}
 use Rattle.mx_expr.specs.declared.faults.ExprFault.{ExprFault}
 use Rattle.mx_expr.specs.declared.tree.BinOp.{BinOp}
@@ -20,25 +21,13 @@ use Rattle.mx_expr.specs.Spelling.Before.{first, sign as before_sign, parenthesi
 use Rattle.mx_expr.proofs.Moves.{st, move, moves, moves-on, moves-first, moves-none, moves-one, ends, goes-beyond, finish-ends}
 use Rattle.mx_expr.proofs.Forward.{Headed, primary-ended, sum-ended, primary-headed, sign-step, sign-other, slash-move, weak-step}
 
-and-first : (a b : Bool) → (a && b) ≡ true → a ≡ true
-and-first true b h = refl
-and-first false b h = h
-
-and-second : (a b : Bool) → (a && b) ≡ true → b ≡ true
-and-second true b h = h
-and-second false b h = absurd (cc)
-
-not-true : (a : Bool) → not a ≡ true → a ≡ false
-not-true true h = absurd (cc)
-not-true false h = refl
-
 in-string : (t : Bool) (bytes : List ℕ) (es : List Tree) → list_all is_no_quote bytes ≡ true →
     (u : Bool) × (moves (st (reading.string t) [] 0 es) bytes ≡ Ok (st (reading.string u) [] 0 (es ++ map number bytes)))
 in-string t [] es h = (t, moves-none _ ∙ ap (λ fs. Ok (st (reading.string t) [] 0 fs)) (sym (append-nil es)))
 in-string t (b ∷ bs) es h =
-    let other : (b == 34) ≡ false = not-true _ (and-first _ _ h) in
+    let other : (b == 34) ≡ false = not-true _ (and_parts _ _ h).0 in
     let step : move (st (reading.string t) [] 0 es) b ≡ Ok (st (reading.string false) [] 0 (es ++ number b ∷ [])) = rw other refl in
-    let later = in-string false bs (es ++ number b ∷ []) (and-second _ _ h) in
+    let later = in-string false bs (es ++ number b ∷ []) (and_parts _ _ h).1 in
     (later.0, moves-first _ _ b bs step ∙ later.1 ∙ ap (λ fs. Ok (st (reading.string later.0) [] 0 fs)) (append_assoc es (number b ∷ []) (map number bs)))
 
 -- An operand is read, and the field or the operand may end there.

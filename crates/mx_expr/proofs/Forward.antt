@@ -1,7 +1,8 @@
 -- What is spelled is read, where constants and parentheses have no bound.
-use Rattle.std.proofs.Common.{◌≡◌, ℕ, ◌+◌, ◌-◌, ◌*◌, List, [], ◌∷◌, ◌++◌, Bool, true, false, Some, Ok, refl, sym, ap, ◌∙◌, arith, append_assoc, append-nil, subst}
-use Rattle.std.specs.Prelude.{◌==◌, ◌&&◌, fold}
+use Rattle.std.proofs.Common.{◌≡◌, ℕ, ◌+◌, ◌-◌, ◌*◌, List, [], ◌∷◌, ◌++◌, true, false, Some, Ok, refl, sym, ap, ◌∙◌, arith, append_assoc, append-nil, subst}
+use Rattle.std.specs.Prelude.{◌==◌, fold}
 use Rattle.std.specs.List.{list_all}
+use Rattle.std.proofs.lemmas.Bool.{and_parts}
 use Rattle.std.proofs.lemmas.Bool.Decides.{nat_tests}
 use Rattle.mx_expr.specs.declared.tree.UnOp.{UnOp}
 use Rattle.mx_expr.specs.declared.tree.BinOp.{BinOp}
@@ -21,14 +22,6 @@ use Rattle.mx_expr.specs.Spelling.Sum.{product, plus as sum_plus}
 use Rattle.mx_expr.proofs.Moves.{st, move, moves, moves-on, moves-first, moves-none, moves-one, ends, goes-beyond}
 
 -- constants and symbols
-and-first : (a b : Bool) → (a && b) ≡ true → a ≡ true
-and-first true b h = refl
-and-first false b h = h
-
-and-second : (a b : Bool) → (a && b) ≡ true → b ≡ true
-and-second true b h = h
-and-second false b h = absurd (cc)
-
 value-of-digit : (b : ℕ) → is_digit b ≡ true → digit_value b ≡ b - 48
 value-of-digit b h = rw h refl
 
@@ -39,25 +32,25 @@ pub in-decimal : (n : ℕ) (bs : List ℕ) (k : List Waiting) (d : ℕ) (es : Li
     moves (st (reading.decimal n) k d es) bs ≡ Ok (st (reading.decimal (fold (λ v b. v * 10 + digit_value b) n bs)) k d es)
 in-decimal n [] k d es h = moves-none _
 in-decimal n (b ∷ bs) k d es h =
-    let digit : is_digit b ≡ true = and-first _ _ h in
+    let digit : is_digit b ≡ true = (and_parts _ _ h).0 in
     let step : move (st (reading.decimal n) k d es) b ≡ Ok (st (reading.decimal (n * 10 + digit_value b)) k d es) = rw digit refl in
-    moves-first _ _ b bs step ∙ in-decimal (n * 10 + digit_value b) bs k d es (and-second _ _ h)
+    moves-first _ _ b bs step ∙ in-decimal (n * 10 + digit_value b) bs k d es (and_parts _ _ h).1
 
 pub in-hexadecimal : (n : ℕ) (bs : List ℕ) (k : List Waiting) (d : ℕ) (es : List Tree) → list_all is_hexadecimal bs ≡ true →
     moves (st (reading.hexadecimal n) k d es) bs ≡ Ok (st (reading.hexadecimal (fold (λ v b. v * 16 + digit_value b) n bs)) k d es)
 in-hexadecimal n [] k d es h = moves-none _
 in-hexadecimal n (b ∷ bs) k d es h =
-    let digit : is_hexadecimal b ≡ true = and-first _ _ h in
+    let digit : is_hexadecimal b ≡ true = (and_parts _ _ h).0 in
     let step : move (st (reading.hexadecimal n) k d es) b ≡ Ok (st (reading.hexadecimal (n * 16 + digit_value b)) k d es) = rw digit refl in
-    moves-first _ _ b bs step ∙ in-hexadecimal (n * 16 + digit_value b) bs k d es (and-second _ _ h)
+    moves-first _ _ b bs step ∙ in-hexadecimal (n * 16 + digit_value b) bs k d es (and_parts _ _ h).1
 
 pub in-symbol : (text bs : List ℕ) (k : List Waiting) (d : ℕ) (es : List Tree) → list_all is_name_byte bs ≡ true →
     moves (st (reading.symbol text) k d es) bs ≡ Ok (st (reading.symbol (text ++ bs)) k d es)
 in-symbol text [] k d es h = moves-none _ ∙ ap (λ t. Ok (st (reading.symbol t) k d es)) (sym (append-nil text))
 in-symbol text (b ∷ bs) k d es h =
-    let word : is_name_byte b ≡ true = and-first _ _ h in
+    let word : is_name_byte b ≡ true = (and_parts _ _ h).0 in
     let step : move (st (reading.symbol text) k d es) b ≡ Ok (st (reading.symbol (text ++ b ∷ [])) k d es) = rw word refl in
-    moves-first _ _ b bs step ∙ in-symbol (text ++ b ∷ []) bs k d es (and-second _ _ h) ∙ ap (λ t. Ok (st (reading.symbol t) k d es)) (append_assoc text (b ∷ []) bs)
+    moves-first _ _ b bs step ∙ in-symbol (text ++ b ∷ []) bs k d es (and_parts _ _ h).1 ∙ ap (λ t. Ok (st (reading.symbol t) k d es)) (append_assoc text (b ∷ []) bs)
 
 -- A text is read, and a primary may end there, with this product and what waits then.
 pub record Ended (k : List Waiting) (d : ℕ) (es : List Tree) (text : List ℕ) (p : Tree × List Waiting) : Type 0 where
@@ -78,30 +71,30 @@ decimal-ended b [] k d es h a =
     }
 decimal-ended b (c ∷ bs) k d es h a =
     let first : move (st operand k d es) b ≡ Ok (st (reading.digit (b - 48)) k d es) = rw h refl in
-    let digit : is_digit c ≡ true = and-first _ _ a in
+    let digit : is_digit c ≡ true = (and_parts _ _ a).0 in
     let second : move (st (reading.digit (b - 48)) k d es) c ≡ Ok (st (reading.decimal ((b - 48) * 10 + digit_value c)) k d es) = rw digit refl in
     let e : 0 * 10 + digit_value b ≡ b - 48 = omega (arith, value-of-digit b h) in
     record {
       mode = reading.decimal (digits_value 10 (b ∷ c ∷ bs));
       rest = k;
-      read = moves-first _ _ b (c ∷ bs) first ∙ moves-first _ _ c bs second ∙ in-decimal ((b - 48) * 10 + digit_value c) bs k d es (and-second _ _ a)
+      read = moves-first _ _ b (c ∷ bs) first ∙ moves-first _ _ c bs second ∙ in-decimal ((b - 48) * 10 + digit_value c) bs k d es (and_parts _ _ a).1
           ∙ ap (λ n. Ok (st (reading.decimal (fold (λ v x. v * 10 + digit_value x) (n * 10 + digit_value c) bs)) k d es)) (sym e);
       ending = refl;
     }
 
 pub constant-ended : (text : List ℕ) (n : ℕ) (k : List Waiting) (d : ℕ) (es : List Tree) → Constant text n → Ended k d es text (settled k (number n))
 constant-ended text n k d es (decimal_digits [] some all) = absurd (omega arith)
-constant-ended text n k d es (decimal_digits (b ∷ bs) some all) = decimal-ended b bs k d es (and-first _ _ all) (and-second _ _ all)
+constant-ended text n k d es (decimal_digits (b ∷ bs) some all) = decimal-ended b bs k d es (and_parts _ _ all).0 (and_parts _ _ all).1
 constant-ended text n k d es (hexadecimal_digits [] some all) = absurd (omega arith)
 constant-ended text n k d es (hexadecimal_digits (b ∷ bs) some all) =
     let first : move (st operand k d es) 35 ≡ Ok (st reading.hash k d es) = refl in
-    let digit : is_hexadecimal b ≡ true = and-first _ _ all in
+    let digit : is_hexadecimal b ≡ true = (and_parts _ _ all).0 in
     let second : move (st reading.hash k d es) b ≡ Ok (st (reading.hexadecimal (digit_value b)) k d es) = rw digit refl in
     let e : 0 * 16 + digit_value b ≡ digit_value b = omega arith in
     record {
       mode = reading.hexadecimal (digits_value 16 (b ∷ bs));
       rest = k;
-      read = moves-first _ _ 35 (b ∷ bs) first ∙ moves-first _ _ b bs second ∙ in-hexadecimal (digit_value b) bs k d es (and-second _ _ all)
+      read = moves-first _ _ 35 (b ∷ bs) first ∙ moves-first _ _ b bs second ∙ in-hexadecimal (digit_value b) bs k d es (and_parts _ _ all).1
           ∙ ap (λ n. Ok (st (reading.hexadecimal (fold (λ v x. v * 16 + digit_value x) n bs)) k d es)) (sym e);
       ending = refl;
     }
@@ -173,7 +166,7 @@ sign-other b op register = refl
 
 pub constant-headed : (text : List ℕ) (n : ℕ) → Constant text n → Headed text
 constant-headed text n (decimal_digits [] some all) = absurd (omega arith)
-constant-headed text n (decimal_digits (b ∷ bs) some all) = record { b = b; bs = bs; spelled = refl; other = digit-other b (and-first _ _ all) }
+constant-headed text n (decimal_digits (b ∷ bs) some all) = record { b = b; bs = bs; spelled = refl; other = digit-other b (and_parts _ _ all).0 }
 constant-headed text n (hexadecimal_digits digits some all) = record { b = 35; bs = digits; spelled = refl; other = refl }
 
 pub primary-headed : (text : List ℕ) (e : Tree) → Primary text e → Headed text

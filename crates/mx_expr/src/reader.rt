@@ -74,20 +74,15 @@ impl Reader {
     fn complete(&mut self, primary: Expr) -> Result<Mode, ExprFault>
         ensures { result ≢ Err ExprFault.OutOfMemory → reading_of result self.new ≡ spec.completed (tree_of primary) (all_waiting self.old.waiting) self.old.depth (trees_of self.old.done) }
     {
-        match settle(self.alloc, &mut self.waiting, primary) {
-            Ok(e) => Ok(Mode::Whole(e)),
-            Err(fault) => Err(fault),
-        }
+        Ok(Mode::Whole(settle(self.alloc, &mut self.waiting, primary)?))
     }
 
     /// One more thing waits for the next primary.
     fn wait(&mut self, item: Waiting) -> Result<Mode, ExprFault>
         ensures { result ≢ Err ExprFault.OutOfMemory → reading_of result self.new ≡ spec.at spec.operand (waiting_of item ∷ all_waiting self.old.waiting) self.old.depth (trees_of self.old.done) }
     {
-        match self.waiting.push(item) {
-            Ok(()) => Ok(Mode::Operand),
-            Err(fault) => Err(fault),
-        }
+        self.waiting.push(item)?;
+        Ok(Mode::Operand)
     }
 
     /// The first byte of a primary.
@@ -141,20 +136,16 @@ impl Reader {
         ensures { result ≢ Err ExprFault.OutOfMemory → reading_of result self.new ≡ spec.at (spec.symbol (text ++ b ∷ [])) (all_waiting self.old.waiting) self.old.depth (trees_of self.old.done) }
     {
         let mut text = text;
-        match text.push(b) {
-            Ok(()) => Ok(Mode::Symbol(text)),
-            Err(_) => Err(ExprFault::OutOfMemory),
-        }
+        text.push(b)?;
+        Ok(Mode::Symbol(text))
     }
 
     /// A byte after a primary that it does not go on.
     fn beyond(&mut self, primary: Expr, b: u8) -> Result<Mode, ExprFault>
         ensures { result ≢ Err ExprFault.OutOfMemory → reading_of result self.new ≡ spec.beyond b (tree_of primary) (all_waiting self.old.waiting) self.old.depth (trees_of self.old.done) }
     {
-        match settle(self.alloc, &mut self.waiting, primary) {
-            Ok(product) => self.after(product, b),
-            Err(fault) => Err(fault),
-        }
+        let product = settle(self.alloc, &mut self.waiting, primary)?;
+        self.after(product, b)
     }
 
     /// A byte after a product.
@@ -176,20 +167,17 @@ impl Reader {
     fn after_sum(&mut self, product: Expr, b: u8) -> Result<Mode, ExprFault>
         ensures { result ≢ Err ExprFault.OutOfMemory → reading_of result self.new ≡ spec.weakly_or_end (spec.weak_of b) b (spec.summed (all_waiting self.old.waiting) (tree_of product)) self.old.depth (trees_of self.old.done) }
     {
-        let e = match sum(self.alloc, &mut self.waiting, product) {
-            Ok(e) => e,
-            Err(fault) => return Err(fault),
-        };
+        let e = sum(self.alloc, &mut self.waiting, product)?;
         match b {
             b'+' => self.wait(Waiting::Weak(BinOp::Add, e)),
             b'-' => self.wait(Waiting::Weak(BinOp::Sub, e)),
             b'|' => self.wait(Waiting::Weak(BinOp::Or, e)),
             b'^' => self.wait(Waiting::Weak(BinOp::Xor, e)),
             b')' => self.close(e),
-            b',' => match self.list(e) {
-                Ok(()) => Ok(Mode::Operand),
-                Err(fault) => Err(fault),
-            },
+            b',' => {
+                self.list(e)?;
+                Ok(Mode::Operand)
+            }
             _ => Err(ExprFault::Syntax),
         }
     }
@@ -212,10 +200,7 @@ impl Reader {
         ensures depth { self.new.depth ≡ self.old.depth }
     {
         match self.waiting.top() {
-            None => match self.done.push(e) {
-                Ok(()) => Ok(()),
-                Err(_) => Err(ExprFault::OutOfMemory),
-            },
+            None => Ok(self.done.push(e)?),
             Some(_) => Err(ExprFault::Syntax),
         }
     }
@@ -356,10 +341,8 @@ impl Reader {
         if b == b'/' {
             return self.wait(Waiting::Strong(BinOp::Fraction, left));
         }
-        match self.wait(Waiting::Strong(BinOp::Div, left)) {
-            Ok(_) => self.begin(b),
-            Err(fault) => Err(fault),
-        }
+        self.wait(Waiting::Strong(BinOp::Div, left))?;
+        self.begin(b)
     }
 
     /// A byte in a string.
@@ -369,10 +352,8 @@ impl Reader {
         if b == b'"' {
             return Ok(Mode::Closed);
         }
-        match self.done.push(Expr::Number(u64::from(b))) {
-            Ok(()) => Ok(Mode::String(false)),
-            Err(_) => Err(ExprFault::OutOfMemory),
-        }
+        self.done.push(Expr::Number(u64::from(b)))?;
+        Ok(Mode::String(false))
     }
 
     /// The bound that a byte would pass.
@@ -420,24 +401,17 @@ impl Reader {
     fn end_primary(mut self, primary: Expr) -> Result<Exprs, ExprFault>
         ensures { result ≢ Err ExprFault.OutOfMemory → map_ok trees_of result ≡ (let p = spec.settled (all_waiting self.waiting) (tree_of primary) in spec.listed (spec.summed p.1 p.0) (trees_of self.done)) }
     {
-        match settle(self.alloc, &mut self.waiting, primary) {
-            Ok(product) => self.end(product),
-            Err(fault) => Err(fault),
-        }
+        let product = settle(self.alloc, &mut self.waiting, primary)?;
+        self.end(product)
     }
 
     /// The list, where the field ends with a product.
     fn end(mut self, product: Expr) -> Result<Exprs, ExprFault>
         ensures { result ≢ Err ExprFault.OutOfMemory → map_ok trees_of result ≡ spec.listed (spec.summed (all_waiting self.waiting) (tree_of product)) (trees_of self.done) }
     {
-        let e = match sum(self.alloc, &mut self.waiting, product) {
-            Ok(e) => e,
-            Err(fault) => return Err(fault),
-        };
-        match self.list(e) {
-            Ok(()) => Ok(self.done),
-            Err(fault) => Err(fault),
-        }
+        let e = sum(self.alloc, &mut self.waiting, product)?;
+        self.list(e)?;
+        Ok(self.done)
     }
 }
 

@@ -38,14 +38,10 @@ pub fn value<E: Known>(alloc: Global, e: &Expr, env: &E) -> Result<Value, ExprFa
     let mut frames = Vec::new(alloc);
     let mut at = e;
     loop {
-        let first = match down(&mut frames, at, env) {
-            Ok(first) => first,
-            Err(fault) => return Err(fault),
-        };
-        match up(&mut frames, first) {
-            Ok(Next::Done(value)) => return Ok(value),
-            Ok(Next::Right(right)) => at = right,
-            Err(fault) => return Err(fault),
+        let first = down(&mut frames, at, env)?;
+        match up(&mut frames, first)? {
+            Next::Done(value) => return Ok(value),
+            Next::Right(right) => at = right,
         }
     }
 }
@@ -63,15 +59,11 @@ fn down<'a, E: Known>(frames: &mut Vec<Frame<'a>>, e: &'a Expr, env: &E) -> Resu
     loop {
         match at {
             Expr::Unary(op, operand) => {
-                if frames.push(Frame::Operand(*op)).is_err() {
-                    return Err(ExprFault::OutOfMemory);
-                }
+                frames.push(Frame::Operand(*op))?;
                 at = operand;
             }
             Expr::Binary(op, left, right) => {
-                if frames.push(Frame::Left(*op, right)).is_err() {
-                    return Err(ExprFault::OutOfMemory);
-                }
+                frames.push(Frame::Left(*op, right))?;
                 at = left;
             }
             Expr::Number(n) => return Ok(Value::Pure(*n)),
@@ -87,10 +79,9 @@ fn down<'a, E: Known>(frames: &mut Vec<Frame<'a>>, e: &'a Expr, env: &E) -> Resu
 fn symbol<E: Known>(name: &Bytes, env: &E) -> Result<Value, ExprFault>
     ensures { result ≢ Err ExprFault.OutOfMemory → result ≡ of_symbol (E.symbols env.now name.now) }
 {
-    match env.symbol(name.as_slice()) {
-        Ok(Some(value)) => Ok(value),
-        Ok(None) => Err(ExprFault::Future),
-        Err(fault) => Err(fault),
+    match env.symbol(name.as_slice())? {
+        Some(value) => Ok(value),
+        None => Err(ExprFault::Future),
     }
 }
 
@@ -105,20 +96,12 @@ fn up<'a>(frames: &mut Vec<Frame<'a>>, first: Value) -> Result<Next<'a>, ExprFau
     let mut value = first;
     while let Some(frame) = frames.pop() {
         match frame {
-            Frame::Operand(op) => match apply(op, value) {
-                Ok(x) => value = x,
-                Err(fault) => return Err(fault),
-            },
+            Frame::Operand(op) => value = apply(op, value)?,
             Frame::Left(op, right) => {
-                return match frames.push(Frame::Right(op, value)) {
-                    Ok(()) => Ok(Next::Right(right)),
-                    Err(_) => Err(ExprFault::OutOfMemory),
-                };
+                frames.push(Frame::Right(op, value))?;
+                return Ok(Next::Right(right));
             }
-            Frame::Right(op, left) => match combine(op, left, value) {
-                Ok(x) => value = x,
-                Err(fault) => return Err(fault),
-            },
+            Frame::Right(op, left) => value = combine(op, left, value)?,
         }
     }
     Ok(Next::Done(value))

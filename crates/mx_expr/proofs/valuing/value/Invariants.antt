@@ -4,8 +4,8 @@ use Rattle.mx_expr.specs.Value.{value_of, knows}
 use Rattle.mx_expr.specs.Frames.{finished, nodes, nodes_left, AllHaveDigits}
 use Rattle.mx_expr.proofs.valuing.value.Given as goal
 
-abbrev pub invariant-loop-first : goal.invariant-loop-first
-invariant-loop-first g l =
+abbrev pub invariant-loop-frames : goal.invariant-loop-frames
+invariant-loop-frames g l =
     let known = knows (g.E.Known.symbols l.env) (g.E.Known.backs l.env) (g.E.Known.at l.env) in
     record {
       value : finished known l.frames.items (value_of known (tree_of l.at)) ≡ value_of known (tree_of l.e);
@@ -13,5 +13,5 @@ invariant-loop-first g l =
       all : AllHaveDigits l.frames.items;
     }
 
-abbrev pub decreases-loop-first : goal.decreases-loop-first
-decreases-loop-first g l = nodes_left l.frames.items + nodes (tree_of l.at)
+abbrev pub decreases-loop-frames : goal.decreases-loop-frames
+decreases-loop-frames g l = nodes_left l.frames.items + nodes (tree_of l.at)
