@@ -7,7 +7,7 @@ use Rattle.mx_expr.specs.declared.faults.ExprFault.TheVariants.{TooWide, TooDeep
 use Rattle.mx_expr.specs.declared.tree.BinOp.TheVariants.{Div}
 use Rattle.mx_expr.specs.Tree.{Tree}
 use Rattle.mx_expr.specs.Bytes.{is_digit, is_hexadecimal, digit_value}
-use Rattle.mx_expr.specs.Reading.{Waiting, strong, parenthesis, Mode, operand, whole, digit, decimal, hash, hexadecimal, quote, character, symbol, slash, less, greater, string, closed, State, passes, too_wide, too_deep}
+use Rattle.mx_expr.specs.Reading.{Waiting, strong, parenthesis, Mode, operand, whole, digit, decimal, hash, hexadecimal, quote, character, symbol, slash, less, greater, string, closed, State, passed_bound, too_wide, too_deep}
 use Rattle.mx_expr.specs.Spelling.{digits_value, Constant, Before, FaultAt}
 use Rattle.mx_expr.specs.Spelling.Constant.{decimal as decimal_digits, hexadecimal as hexadecimal_digits}
 use Rattle.mx_expr.specs.Spelling.StrongOperator.{div}
@@ -92,7 +92,7 @@ chosen-some : (c : Bool) (o : Option ExprFault) (f : ExprFault) → cond c o Non
 chosen-some true o f h = (refl, h)
 chosen-some false o f h = absurd (cc)
 
-passed-at : (mode : Mode) (front text part rest : List ℕ) (es done : List Tree) (k : List Waiting) (d b : ℕ) (f : ExprFault) → Place front text part es → At mode k d done es part → passes mode d b ≡ Some f → Passed (front ++ b ∷ rest) front f
+passed-at : (mode : Mode) (front text part rest : List ℕ) (es done : List Tree) (k : List Waiting) (d b : ℕ) (f : ExprFault) → Place front text part es → At mode k d done es part → passed_bound mode d b ≡ Some f → Passed (front ++ b ∷ rest) front f
 passed-at operand front text part rest es done k d b f p a e = deep-passed front rest d b f (subst (Before d) (sym p.spelled) (partial-before text es p.before k d part a.1)) e
 passed-at (whole x) front text part rest es done k d b f p a e = absurd (cc)
 passed-at (digit n) front text part rest es done k d b f p a e = absurd (cc)
@@ -120,7 +120,7 @@ passed-at (string true) front text part rest es done k d b f p a e = quote-passe
 passed-at (string false) front text part rest es done k d b f p a e = absurd (cc)
 passed-at closed front text part rest es done k d b f p a e = absurd (cc)
 
-pub passed : (s : State) (front rest : List ℕ) (b : ℕ) (f : ExprFault) → Holds s front → passes s.mode s.depth b ≡ Some f → Passed (front ++ b ∷ rest) front f
+pub passed : (s : State) (front rest : List ℕ) (b : ℕ) (f : ExprFault) → Holds s front → passed_bound s.mode s.depth b ≡ Some f → Passed (front ++ b ∷ rest) front f
 passed s front rest b f h e = passed-at s.mode front h.text h.part rest h.es s.done s.waiting s.depth b f (record { before = h.before; spelled = h.spelled }) h.stands e
 
 deep-byte : (d b : ℕ) (f : ExprFault) → too_deep d b ≡ Some f → b ≡ 40
@@ -130,7 +130,7 @@ deep-moves : (mode : Mode) (k : List Waiting) (d b : ℕ) (es : List Tree) (t : 
 deep-moves mode k d b es t e h = (t, ap (move (st mode k d es)) e ∙ h)
 
 -- A byte that passes a bound would be read without it.
-pub passes-moves : (mode : Mode) (k : List Waiting) (d : ℕ) (es : List Tree) (b : ℕ) (f : ExprFault) → passes mode d b ≡ Some f → (t : State) × (move (st mode k d es) b ≡ Ok t)
+pub passes-moves : (mode : Mode) (k : List Waiting) (d : ℕ) (es : List Tree) (b : ℕ) (f : ExprFault) → passed_bound mode d b ≡ Some f → (t : State) × (move (st mode k d es) b ≡ Ok t)
 passes-moves operand k d es b f e = deep-moves operand k d b es (st operand (parenthesis ∷ k) (d + 1) es) (deep-byte d b f e) refl
 passes-moves (whole x) k d es b f e = absurd (cc)
 passes-moves (digit n) k d es b f e = absurd (cc)

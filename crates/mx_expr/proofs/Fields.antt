@@ -9,7 +9,7 @@ use Rattle.mx_expr.specs.declared.tree.BinOp.TheVariants.{Div}
 use Rattle.mx_expr.specs.Tree.{Tree, number}
 use Rattle.mx_expr.specs.Bytes.{is_no_quote}
 use Rattle.mx_expr.specs.Reading as reading
-use Rattle.mx_expr.specs.Reading.{settled, Waiting, sign, strong, weak, parenthesis, Mode, operand, slash, closed, State, Read, summed, and_then, finish, finished, start, listed, next_operand}
+use Rattle.mx_expr.specs.Reading.{with_strong, Waiting, sign, strong, weak, parenthesis, Mode, operand, slash, closed, State, Read, with_weak, and_then, field_end, reading_end, start, listed, next_operand}
 use Rattle.mx_expr.specs.Spelling.{StrongOperator, Product, Sum, Operand, Operands, Spells, Before}
 use Rattle.mx_expr.specs.Spelling.StrongOperator.{mul, div, fraction, rem, left, right, and}
 use Rattle.mx_expr.specs.Spelling.Product.{primary, times}
@@ -36,7 +36,7 @@ pub record OperandRead (es : List Tree) (part : List ℕ) (fs : List Tree) : Typ
   pub rest : List Waiting
   pub done : List Tree
   pub read : moves (st operand [] 0 es) part ≡ Ok (st mode rest 0 done)
-  pub list : finish mode rest done ≡ Ok (es ++ fs)
+  pub list : field_end mode rest done ≡ Ok (es ++ fs)
   pub comma : move (st mode rest 0 done) 44 ≡ Ok (st operand [] 0 (es ++ fs))
 
 pub operand-read : {part : List ℕ} {fs : List Tree} → Operand part fs → (es : List Tree) → OperandRead es part fs
@@ -70,9 +70,9 @@ operands-read (more text part es fs h o) =
 -- a field, where constants and parentheses have no bound
 abbrev pub free : List ℕ → Result (List Tree) ExprFault
 free [] = Ok (number 0 ∷ [])
-free (b ∷ bs) = finished (moves start (b ∷ bs))
+free (b ∷ bs) = reading_end (moves start (b ∷ bs))
 
-pub free-some : (xs : List ℕ) → 0 < length xs → free xs ≡ finished (moves start xs)
+pub free-some : (xs : List ℕ) → 0 < length xs → free xs ≡ reading_end (moves start xs)
 free-some [] h = absurd (omega arith)
 free-some (b ∷ bs) h = refl
 
@@ -93,7 +93,7 @@ spelled-free empty = refl
 spelled-free (operands text part es fs h o) =
     let q = operand-read o es in
     let some = operand-some o in
-    free-some (text ++ part) (omega (arith, length-append text part)) ∙ ap finished (moves-on _ _ text part (operands-read h) ∙ q.read) ∙ q.list
+    free-some (text ++ part) (omega (arith, length-append text part)) ∙ ap reading_end (moves-on _ _ text part (operands-read h) ∙ q.read) ∙ q.list
 
 -- A field spells one list at most.
 same-ok : (x y : List Tree) (r : Result (List Tree) ExprFault) → r ≡ Ok x → r ≡ Ok y → x ≡ y
@@ -160,10 +160,10 @@ before-stood (before_parenthesis depth text h) =
 before-stood (before_strong depth text part word e op h g w) =
     let q = before-stood h in
     let p = primary-ended g q.k depth q.es in
-    let a = after-word word op p.mode p.rest (settled q.k e).1 (settled q.k e).0 depth q.es w p.ending in
+    let a = after-word word op p.mode p.rest (with_strong q.k e).1 (with_strong q.k e).0 depth q.es w p.ending in
     record {
       state = a.0;
-      k = strong op (settled q.k e).0 ∷ (settled q.k e).1;
+      k = strong op (with_strong q.k e).0 ∷ (with_strong q.k e).1;
       es = q.es;
       read = moves-on _ _ text (part ++ word) q.read ∙ wants-moves q.wants (part ++ word) (headed-on part word (primary-headed part e g)) ∙ moves-on _ _ part word p.read ∙ a.1;
       wants = a.2;
@@ -171,12 +171,12 @@ before-stood (before_strong depth text part word e op h g w) =
 before-stood (before_weak depth text part b e op h g w) =
     let q = before-stood h in
     let p = primary-ended g q.k depth q.es in
-    let s = summed (settled q.k e).1 (settled q.k e).0 in
+    let s = with_weak (with_strong q.k e).1 (with_strong q.k e).0 in
     record {
       state = st operand (weak op s.0 ∷ s.1) depth q.es;
       k = weak op s.0 ∷ s.1;
       es = q.es;
       read = moves-on _ _ text (part ++ b ∷ []) q.read ∙ wants-moves q.wants (part ++ b ∷ []) (headed-on part (b ∷ []) (primary-headed part e g)) ∙ moves-on _ _ part (b ∷ []) p.read
-          ∙ moves-one _ b ∙ weak-step b op p.mode p.rest (settled q.k e) depth q.es w p.ending;
+          ∙ moves-one _ b ∙ weak-step b op p.mode p.rest (with_strong q.k e) depth q.es w p.ending;
       wants = at_operand _ depth q.es;
     }

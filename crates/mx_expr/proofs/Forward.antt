@@ -10,7 +10,7 @@ use Rattle.mx_expr.specs.declared.tree.BinOp.TheVariants.{Div}
 use Rattle.mx_expr.specs.Tree.{Tree, number, name, back, ahead, here}
 use Rattle.mx_expr.specs.Bytes.{is_digit, is_hexadecimal, is_letter, is_name_byte, digit_value}
 use Rattle.mx_expr.specs.Reading as reading
-use Rattle.mx_expr.specs.Reading.{Waiting, sign, strong, weak, parenthesis, Mode, operand, whole, slash, State, Read, settled, summed, moved, completed, after, and_then, finish, start}
+use Rattle.mx_expr.specs.Reading.{Waiting, sign, strong, weak, parenthesis, Mode, operand, whole, slash, State, Read, with_strong, with_weak, next_reading, primary_end, after, and_then, field_end, start}
 use Rattle.mx_expr.specs.Spelling.{digits_value, Constant, Sign, StrongOperator, WeakOperator, Primary, Product, Sum}
 use Rattle.mx_expr.specs.Spelling.Constant.{decimal as decimal_digits, hexadecimal as hexadecimal_digits}
 use Rattle.mx_expr.specs.Spelling.Sign.{plus, minus, not, register}
@@ -61,13 +61,13 @@ pub record Ended (k : List Waiting) (d : ℕ) (es : List Tree) (text : List ℕ)
 
 -- a constant, from its first byte on
 decimal-ended : (b : ℕ) (bs : List ℕ) (k : List Waiting) (d : ℕ) (es : List Tree) → is_digit b ≡ true → list_all is_digit bs ≡ true →
-    Ended k d es (b ∷ bs) (settled k (number (digits_value 10 (b ∷ bs))))
+    Ended k d es (b ∷ bs) (with_strong k (number (digits_value 10 (b ∷ bs))))
 decimal-ended b [] k d es h a =
     record {
       mode = reading.digit (b - 48);
       rest = k;
       read = moves-one _ b ∙ rw h refl;
-      ending = let e : 0 * 10 + digit_value b ≡ b - 48 = omega (arith, value-of-digit b h) in ap (λ n. Some (settled k (number n))) (sym e);
+      ending = let e : 0 * 10 + digit_value b ≡ b - 48 = omega (arith, value-of-digit b h) in ap (λ n. Some (with_strong k (number n))) (sym e);
     }
 decimal-ended b (c ∷ bs) k d es h a =
     let first : move (st operand k d es) b ≡ Ok (st (reading.digit (b - 48)) k d es) = rw h refl in
@@ -82,7 +82,7 @@ decimal-ended b (c ∷ bs) k d es h a =
       ending = refl;
     }
 
-pub constant-ended : (text : List ℕ) (n : ℕ) (k : List Waiting) (d : ℕ) (es : List Tree) → Constant text n → Ended k d es text (settled k (number n))
+pub constant-ended : (text : List ℕ) (n : ℕ) (k : List Waiting) (d : ℕ) (es : List Tree) → Constant text n → Ended k d es text (with_strong k (number n))
 constant-ended text n k d es (decimal_digits [] some all) = absurd (omega arith)
 constant-ended text n k d es (decimal_digits (b ∷ bs) some all) = decimal-ended b bs k d es (and_parts _ _ all).0 (and_parts _ _ all).1
 constant-ended text n k d es (hexadecimal_digits [] some all) = absurd (omega arith)
@@ -99,15 +99,15 @@ constant-ended text n k d es (hexadecimal_digits (b ∷ bs) some all) =
       ending = refl;
     }
 
-symbol-ended : (b : ℕ) (bs : List ℕ) (k : List Waiting) (d : ℕ) (es : List Tree) → is_letter b ≡ true → list_all is_name_byte bs ≡ true → Ended k d es (b ∷ bs) (settled k (name (b ∷ bs)))
+symbol-ended : (b : ℕ) (bs : List ℕ) (k : List Waiting) (d : ℕ) (es : List Tree) → is_letter b ≡ true → list_all is_name_byte bs ≡ true → Ended k d es (b ∷ bs) (with_strong k (name (b ∷ bs)))
 symbol-ended b bs k d es h a =
     let first : move (st operand k d es) b ≡ Ok (st (reading.symbol (b ∷ [])) k d es) = rw (letter-no-digit b h, h) refl in
     record { mode = reading.symbol (b ∷ bs); rest = k; read = moves-first _ _ b bs first ∙ in-symbol (b ∷ []) bs k d es a; ending = refl }
 
-label-ended : (b c : ℕ) (e : Tree) (k : List Waiting) (d : ℕ) (es : List Tree) → is_digit b ≡ true → move (st (reading.digit (b - 48)) k d es) c ≡ completed e k d es → Ended k d es (b ∷ c ∷ []) (settled k e)
+label-ended : (b c : ℕ) (e : Tree) (k : List Waiting) (d : ℕ) (es : List Tree) → is_digit b ≡ true → move (st (reading.digit (b - 48)) k d es) c ≡ primary_end e k d es → Ended k d es (b ∷ c ∷ []) (with_strong k e)
 label-ended b c e k d es h second =
     let first : move (st operand k d es) b ≡ Ok (st (reading.digit (b - 48)) k d es) = rw h refl in
-    record { mode = whole (settled k e).0; rest = (settled k e).1; read = moves-first _ _ b (c ∷ []) first ∙ moves-one _ c ∙ second; ending = refl }
+    record { mode = whole (with_strong k e).0; rest = (with_strong k e).1; read = moves-first _ _ b (c ∷ []) first ∙ moves-one _ c ∙ second; ending = refl }
 
 -- nothing waits that a primary takes; nothing waits that a product takes
 abbrev pub Plain : List Waiting → Type 0
@@ -124,7 +124,7 @@ Level (strong op l ∷ k) = ⊥
 Level (weak op l ∷ k) = ⊥
 Level (parenthesis ∷ k) = Unit {0}
 
-pub plain-settled : (k : List Waiting) (e : Tree) → Plain k → settled k e ≡ (e, k)
+pub plain-settled : (k : List Waiting) (e : Tree) → Plain k → with_strong k e ≡ (e, k)
 plain-settled [] e h = refl
 plain-settled (sign op ∷ k) e h = absurd h
 plain-settled (strong op l ∷ k) e h = absurd h
@@ -138,7 +138,7 @@ level-plain (strong op l ∷ k) h = absurd h
 level-plain (weak op l ∷ k) h = absurd h
 level-plain (parenthesis ∷ k) h = tt
 
-level-summed : (k : List Waiting) (e : Tree) → Level k → summed k e ≡ (e, k)
+level-summed : (k : List Waiting) (e : Tree) → Level k → with_weak k e ≡ (e, k)
 level-summed [] e h = refl
 level-summed (sign op ∷ k) e h = absurd h
 level-summed (strong op l ∷ k) e h = absurd h
@@ -207,7 +207,7 @@ word-read word op mode rest k l d es part right e h = moves-first _ _ 62 (62 ∷
 word-read word op mode rest k l d es part and e h = moves-first _ _ 38 part (goes-beyond mode rest (l, k) d es 38 e refl)
 
 pub weak-step : (b : ℕ) (op : BinOp) (mode : Mode) (rest : List Waiting) (p : Tree × List Waiting) (d : ℕ) (es : List Tree) → WeakOperator b op → ends mode rest ≡ Some p →
-    move (st mode rest d es) b ≡ reading.weakly op (summed p.1 p.0) d es
+    move (st mode rest d es) b ≡ reading.weakly op (with_weak p.1 p.0) d es
 weak-step b op mode rest p d es add e = goes-beyond mode rest p d es 43 e refl
 weak-step b op mode rest p d es sub e = goes-beyond mode rest p d es 45 e refl
 weak-step b op mode rest p d es or e = goes-beyond mode rest p d es 124 e refl
@@ -220,25 +220,25 @@ pub record Summed (k : List Waiting) (d : ℕ) (es : List Tree) (text : List ℕ
   pub p : Tree × List Waiting
   pub read : moves (st operand k d es) text ≡ Ok (st mode rest d es)
   pub ending : ends mode rest ≡ Some p
-  pub sum : summed p.1 p.0 ≡ (e, k)
+  pub sum : with_weak p.1 p.0 ≡ (e, k)
 
 mutual
-  pub primary-ended : {text : List ℕ} {e : Tree} → Primary text e → (k : List Waiting) (d : ℕ) (es : List Tree) → Ended k d es text (settled k e)
+  pub primary-ended : {text : List ℕ} {e : Tree} → Primary text e → (k : List Waiting) (d : ℕ) (es : List Tree) → Ended k d es text (with_strong k e)
   primary-ended (constant t n h) k d es = constant-ended t n k d es h
   primary-ended (character c) k d es =
-      record { mode = whole (settled k (number c)).0; rest = (settled k (number c)).1; read = moves-first _ _ 39 (c ∷ 39 ∷ []) refl ∙ moves-first _ _ c (39 ∷ []) refl ∙ moves-one _ 39; ending = refl }
+      record { mode = whole (with_strong k (number c)).0; rest = (with_strong k (number c)).1; read = moves-first _ _ 39 (c ∷ 39 ∷ []) refl ∙ moves-first _ _ c (39 ∷ []) refl ∙ moves-one _ 39; ending = refl }
   primary-ended (symbol b t h a) k d es = symbol-ended b t k d es h a
-  primary-ended (last_label b h) k d es = let e : digit_value b ≡ b - 48 = value-of-digit b h in subst (λ n. Ended k d es (b ∷ 66 ∷ []) (settled k (back n))) (sym e) (label-ended b 66 (back (b - 48)) k d es h refl)
-  primary-ended (next_label b h) k d es = let e : digit_value b ≡ b - 48 = value-of-digit b h in subst (λ n. Ended k d es (b ∷ 70 ∷ []) (settled k (ahead n))) (sym e) (label-ended b 70 (ahead (b - 48)) k d es h refl)
-  primary-ended place k d es = record { mode = whole (settled k here).0; rest = (settled k here).1; read = moves-one _ 64; ending = refl }
+  primary-ended (last_label b h) k d es = let e : digit_value b ≡ b - 48 = value-of-digit b h in subst (λ n. Ended k d es (b ∷ 66 ∷ []) (with_strong k (back n))) (sym e) (label-ended b 66 (back (b - 48)) k d es h refl)
+  primary-ended (next_label b h) k d es = let e : digit_value b ≡ b - 48 = value-of-digit b h in subst (λ n. Ended k d es (b ∷ 70 ∷ []) (with_strong k (ahead n))) (sym e) (label-ended b 70 (ahead (b - 48)) k d es h refl)
+  primary-ended place k d es = record { mode = whole (with_strong k here).0; rest = (with_strong k here).1; read = moves-one _ 64; ending = refl }
   primary-ended (enclosed t e h) k d es =
       let s = sum-ended h (parenthesis ∷ k) (d + 1) es tt in
       let less : d + 1 - 1 ≡ d = omega arith in
       record {
-        mode = whole (settled k e).0;
-        rest = (settled k e).1;
+        mode = whole (with_strong k e).0;
+        rest = (with_strong k e).1;
         read = moves-first _ _ 40 (t ++ 41 ∷ []) refl ∙ moves-on _ _ t (41 ∷ []) s.read ∙ moves-one _ 41 ∙ goes-beyond s.mode s.rest s.p (d + 1) es 41 s.ending refl
-            ∙ ap (λ q. reading.enclosed q (d + 1) es) s.sum ∙ ap (λ n. completed e k n es) less;
+            ∙ ap (λ q. reading.enclosed q (d + 1) es) s.sum ∙ ap (λ n. primary_end e k n es) less;
         ending = refl;
       }
   primary-ended (signed b op t e s h) k d es =

@@ -10,7 +10,7 @@ use Rattle.mx_expr.specs.declared.tree.BinOp.{BinOp}
 use Rattle.mx_expr.specs.declared.tree.BinOp.TheVariants.{Mul, Rem, And, Add, Sub, Or, Xor}
 use Rattle.mx_expr.specs.Tree.{Tree, number, here}
 use Rattle.mx_expr.specs.Bytes.{is_digit, is_hexadecimal, is_letter, is_name_byte, is_no_quote, digit_value}
-use Rattle.mx_expr.specs.Reading.{settled, summed, Waiting, sign, strong, weak, parenthesis, Mode, operand, whole, digit, decimal, hash, hexadecimal, quote, character, symbol, slash, less, greater, string, closed, State, Read, wanted, wanted_mark, quoted, signed, completed, weakly, enclosed, listed, next_operand, weakly_or_end, strongly, after, beyond}
+use Rattle.mx_expr.specs.Reading.{with_strong, with_weak, Waiting, sign, strong, weak, parenthesis, Mode, operand, whole, digit, decimal, hash, hexadecimal, quote, character, symbol, slash, less, greater, string, closed, State, Read, primary_start, mark_start, string_start, signed, primary_end, weakly, enclosed, listed, next_operand, weakly_or_end, strongly, after, beyond}
 use Rattle.mx_expr.specs.Spelling.{digits_value, Sign, StrongOperator, WeakOperator, Primary, Product, Sum, Operands}
 use Rattle.mx_expr.specs.Spelling.Sign.{plus, minus, not as not_sign, register}
 use Rattle.mx_expr.specs.Spelling.StrongOperator.{mul, rem, and}
@@ -123,17 +123,17 @@ begun : (k : List Waiting) (d : ℕ) (Shape : List ℕ → Type 0) (text : List 
 begun k d Shape text b h o = record { front = text; part = b ∷ []; before = h; shape = o; spelled = refl }
 
 -- a primary that is complete
-pub completes : (front text part : List ℕ) (es : List Tree) (k : List Waiting) (d : ℕ) (e : Tree) → Place front text part es → After k d (λ t. Primary t e) part → Good (completed e k d es) front
+pub completes : (front text part : List ℕ) (es : List Tree) (k : List Waiting) (d : ℕ) (e : Tree) → Place front text part es → After k d (λ t. Primary t e) part → Good (primary_end e k d es) front
 completes front text part es k d e p a =
     let s = settle-is k d a.front a.part e a.before a.shape in
-    holds front text part es es (whole (settled k e).0) (settled k e).1 d p (refl, s.plain, record { front = s.front; part = s.part; before = s.before; shape = s.whole; spelled = a.spelled ∙ s.spelled })
+    holds front text part es es (whole (with_strong k e).0) (with_strong k e).1 d p (refl, s.plain, record { front = s.front; part = s.part; before = s.before; shape = s.whole; spelled = a.spelled ∙ s.spelled })
 
 -- where a primary is wanted
 sign-good : (front text part : List ℕ) (es : List Tree) (k : List Waiting) (d b : ℕ) (op : UnOp) → Place front text (part ++ b ∷ []) es → Partial k d part → Sign b op → Good (signed (Some op) k d es) front
 sign-good front text part es k d b op p h s =
     holds front text (part ++ b ∷ []) es es operand (sign op ∷ k) d p (refl, record { front = part; b = b; operator = s; before = h; spelled = refl })
 
-quoted-good : (front text part : List ℕ) (es : List Tree) (k : List Waiting) (d : ℕ) → Place front text (part ++ 34 ∷ []) es → Partial k d part → Good (quoted k d es) front
+quoted-good : (front text part : List ℕ) (es : List Tree) (k : List Waiting) (d : ℕ) → Place front text (part ++ 34 ∷ []) es → Partial k d part → Good (string_start k d es) front
 quoted-good front text part es [] d p h =
     holds front text (part ++ 34 ∷ []) es es (string true) [] d p
     (record { nothing = refl; shallow = h.0; bytes = []; all = refl; listed = sym (append-nil es); shape = (ap (λ t. t ++ 34 ∷ []) h.1, refl) })
@@ -142,7 +142,7 @@ quoted-good front text part es (w ∷ k) d p h = refl
 pub at-byte : (front text part : List ℕ) (es : List Tree) (b c : ℕ) → (b == c) ≡ true → Place front text (part ++ b ∷ []) es → Place front text (part ++ c ∷ []) es
 at-byte front text part es b c h p = subst (λ x. Place front text (part ++ x ∷ []) es) (eqb-true b c h) p
 
-mark-good : (front text part : List ℕ) (es : List Tree) (k : List Waiting) (d b : ℕ) → Place front text (part ++ b ∷ []) es → Partial k d part → Good (wanted_mark b k d es) front
+mark-good : (front text part : List ℕ) (es : List Tree) (k : List Waiting) (d b : ℕ) → Place front text (part ++ b ∷ []) es → Partial k d part → Good (mark_start b k d es) front
 mark-good front text part es k d b p h =
     let P : Read → Type 0 = λ r. Good r front in
     let Q : Option UnOp → Type 0 = λ o. Good (signed o k d es) front in
@@ -159,7 +159,7 @@ mark-good front text part es k d b p h =
 pub value-of-digit : (b : ℕ) → is_digit b ≡ true → b - 48 ≡ digit_value b
 value-of-digit b h = rw h refl
 
-pub wanted-good : (front text part : List ℕ) (es : List Tree) (k : List Waiting) (d b : ℕ) → Place front text (part ++ b ∷ []) es → Partial k d part → Good (wanted b k d es) front
+pub wanted-good : (front text part : List ℕ) (es : List Tree) (k : List Waiting) (d b : ℕ) → Place front text (part ++ b ∷ []) es → Partial k d part → Good (primary_start b k d es) front
 wanted-good front text part es k d b p h =
     let P : Read → Type 0 = λ r. Good r front in
     cond_both (is_digit b) _ _ P (λ t. holds front text (part ++ b ∷ []) es es (digit (b - 48)) k d p (refl, begun k d (OneDigit (b - 48)) part b h (record { b = b; is = t; value = value-of-digit b t; spelled = refl }))) (λ _.
@@ -189,7 +189,7 @@ enclosed-good front text part es d x (weak op l ∷ k) p s = refl
 enclosed-good front text part es d x (parenthesis ∷ k) p s =
     let o = s.before in
     let less : d - 1 ≡ o.below = omega (arith, o.deeper) in
-    subst (λ n. Good (completed x k n es) front) (sym less)
+    subst (λ n. Good (primary_end x k n es) front) (sym less)
     (completes front text (part ++ 41 ∷ []) es k o.below x p
     (record {
       front = o.front;
@@ -218,7 +218,7 @@ pub after-good : (front text part : List ℕ) (es : List Tree) (k : List Waiting
 after-good front text part es k d b e p n a =
     let P : Read → Type 0 = λ r. Good r front in
     let S : Option BinOp → Type 0 = λ o. Good (strongly o b e k d es) front in
-    let q : Tree × List Waiting = summed k e in
+    let q : Tree × List Waiting = with_weak k e in
     let W : Option BinOp → Type 0 = λ o. Good (weakly_or_end o b q d es) front in
     let s : SumIs d part q = subst (λ t. SumIs d t q) (sym a.spelled) (sum-is k d a.front a.part e a.before n a.shape) in
     cond_both (b == 42) _ _ S (λ t. strong-good front text part es k d 42 e Mul (at-byte front text part es b 42 t p) n a mul) (λ _.
@@ -237,4 +237,4 @@ after-good front text part es k d b e p n a =
 pub beyond-good : (front text part : List ℕ) (es : List Tree) (k : List Waiting) (d b : ℕ) (e : Tree) → Place front text (part ++ b ∷ []) es → After k d (λ t. Primary t e) part → Good (beyond b e k d es) front
 beyond-good front text part es k d b e p a =
     let s = settle-is k d a.front a.part e a.before a.shape in
-    after-good front text part es (settled k e).1 d b (settled k e).0 p s.plain (record { front = s.front; part = s.part; before = s.before; shape = s.whole; spelled = a.spelled ∙ s.spelled })
+    after-good front text part es (with_strong k e).1 d b (with_strong k e).0 p s.plain (record { front = s.front; part = s.part; before = s.before; shape = s.whole; spelled = a.spelled ∙ s.spelled })

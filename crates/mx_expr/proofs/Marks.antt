@@ -8,7 +8,7 @@ use Rattle.mx_expr.specs.declared.faults.ExprFault.{ExprFault}
 use Rattle.mx_expr.specs.declared.faults.ExprFault.TheVariants.{Syntax, TooWide, TooDeep, EmptyString}
 use Rattle.mx_expr.specs.Tree.{Tree, number}
 use Rattle.mx_expr.specs.Bytes.{is_digit, is_hexadecimal, digit_value}
-use Rattle.mx_expr.specs.Reading.{Waiting, Mode, operand, digit, decimal, hash, hexadecimal, slash, string, State, settled, step, steps, within, start}
+use Rattle.mx_expr.specs.Reading.{Waiting, Mode, operand, digit, decimal, hash, hexadecimal, slash, string, State, with_strong, step, steps, within, start}
 use Rattle.mx_expr.specs.Spelling.{digits_value, Constant, Operands, Spells, Before, Begins, FaultAt}
 use Rattle.mx_expr.specs.Spelling.Constant.{decimal as decimal_digits, hexadecimal as hexadecimal_digits}
 use Rattle.mx_expr.specs.Spelling.FaultAt.{no_front, no_list, too_wide as stands_wide, too_deep as stands_deep, empty_string as stands_empty}
@@ -122,7 +122,7 @@ no-primary {s = s} {t = t} {k = k} {d = d} {es = es} w v text front rest n c e h
     counted (m, q) =
         let o = constant-ended front m k d es q in
         let same : t ≡ st o.mode o.rest d es = same-state t (st o.mode o.rest d es) (moves s front) r (wants-moves w front (constant-headed front m q) ∙ o.read) in
-        let some : ends t.mode t.waiting ≡ Some (settled k (number m)) = ap (λ x. ends x.mode x.waiting) same ∙ o.ending in
+        let some : ends t.mode t.waiting ≡ Some (with_strong k (number m)) = ap (λ x. ends x.mode x.waiting) same ∙ o.ending in
         let none = wants-ends v in
         absurd (cc)
 

@@ -9,7 +9,7 @@ use Rattle.mx_expr.specs.declared.faults.ExprFault.{ExprFault}
 use Rattle.mx_expr.specs.declared.faults.ExprFault.TheVariants.{TooWide}
 use Rattle.mx_expr.specs.Tree.{Tree}
 use Rattle.mx_expr.specs.Bytes.{is_digit, is_hexadecimal, digit_value}
-use Rattle.mx_expr.specs.Reading.{Waiting, decimal, hexadecimal, State, Read, passes, step, steps, within, and_then}
+use Rattle.mx_expr.specs.Reading.{Waiting, decimal, hexadecimal, State, Read, passed_bound, step, steps, within, and_then}
 use Rattle.mx_expr.proofs.Moves.{st, move, moves, and-then-then, and-then-same}
 use Rattle.mx_expr.proofs.Holds.{value-of-digit}
 
@@ -56,7 +56,7 @@ within-err None r f h = inr (refl, h)
 within-err (Some g) r f h = inl (cc)
 
 steps-moves-on : (s t : State) (b : ℕ) (bs : List ℕ) (r : Read) → step s b ≡ r → ((u : State) → steps u bs ≡ Ok t → moves u bs ≡ Ok t) → and_then r (λ u. steps u bs) ≡ Ok t → and_then (move s b) (λ u. moves u bs) ≡ Ok t
-steps-moves-on s t b bs (Ok u) e f h = let w = within-ok (passes s.mode s.depth b) (move s b) u e in ap (λ r. and_then r (λ x. moves x bs)) w.1 ∙ f u h
+steps-moves-on s t b bs (Ok u) e f h = let w = within-ok (passed_bound s.mode s.depth b) (move s b) u e in ap (λ r. and_then r (λ x. moves x bs)) w.1 ∙ f u h
 steps-moves-on s t b bs (Err g) e f h = absurd (cc)
 
 pub steps-moves : (s t : State) (xs : List ℕ) → steps s xs ≡ Ok t → moves s xs ≡ Ok t

@@ -2,8 +2,8 @@
 
 ghost use Rattle.std.specs.Prelude.{◌≡◌, ◌≢◌, ◌+◌, ◌<◌, ◌≤◌, [], ◌∷◌, ◌++◌, Result, Ok, Err, IfOk, IfErr, OnOk, MatchResult};
 ghost use Rattle.mx_expr.specs.Tree.{tree_of, HasDigits};
-ghost use Rattle.mx_expr.specs.Value.{Knowledge, value_of, knows, of_symbol};
-ghost use Rattle.mx_expr.specs.Frames.{finished, nodes, nodes_left, AllHaveDigits, Goes, LeftBy, NextHasDigits};
+ghost use Rattle.mx_expr.specs.Value.{Knowledge, value_of, knowledge, of_symbol};
+ghost use Rattle.mx_expr.specs.Frames.{value_after, nodes, nodes_left, AllHaveDigits, Goes, LeftBy, NextHasDigits};
 
 use crate::operators::{apply, combine};
 use crate::{BinOp, Expr, ExprFault, Known, UnOp};
@@ -33,7 +33,7 @@ enum Next<'a> {
 #[tactic(auto, using(crate::proofs::FrameLaws::frames))]
 pub fn value<E: Known>(alloc: Global, e: &Expr, env: &E) -> Result<Value, ExprFault>
     requires { HasDigits (tree_of e.now) }
-    ensures { result ≢ Err ExprFault.OutOfMemory → result ≡ value_of (knows (E.symbols env.now) (E.backs env.now) (E.at env.now)) (tree_of e.now) }
+    ensures { result ≢ Err ExprFault.OutOfMemory → result ≡ value_of (knowledge (E.symbols env.now) (E.backs env.now) (E.at env.now)) (tree_of e.now) }
 {
     let mut frames = Vec::new(alloc);
     let mut at = e;
@@ -51,7 +51,7 @@ pub fn value<E: Known>(alloc: Global, e: &Expr, env: &E) -> Result<Value, ExprFa
 fn down<'a, E: Known>(frames: &mut Vec<Frame<'a>>, e: &'a Expr, env: &E) -> Result<Value, ExprFault>
     requires digits { HasDigits (tree_of e.now) }
     requires all_digits { AllHaveDigits frames.old.items }
-    ensures value { let known = knows (E.symbols env.now) (E.backs env.now) (E.at env.now) in result ≢ Err ExprFault.OutOfMemory → finished known frames.new.items result ≡ finished known frames.old.items (value_of known (tree_of e.now)) }
+    ensures value { let known = knowledge (E.symbols env.now) (E.backs env.now) (E.at env.now) in result ≢ Err ExprFault.OutOfMemory → value_after known frames.new.items result ≡ value_after known frames.old.items (value_of known (tree_of e.now)) }
     ensures digits { AllHaveDigits frames.new.items }
     ensures less { nodes_left frames.new.items < nodes_left frames.old.items + nodes (tree_of e.now) }
 {
@@ -89,7 +89,7 @@ fn symbol<E: Known>(name: &Bytes, env: &E) -> Result<Value, ExprFault>
 #[tactic(auto, using(crate::proofs::FrameLaws::frames))]
 fn up<'a>(frames: &mut Vec<Frame<'a>>, first: Value) -> Result<Next<'a>, ExprFault>
     requires all_digits { AllHaveDigits frames.old.items }
-    ensures value { (known : Knowledge) → Goes known frames.new.items result (finished known frames.old.items (Ok first)) }
+    ensures value { (known : Knowledge) → Goes known frames.new.items result (value_after known frames.old.items (Ok first)) }
     ensures digits { NextHasDigits result × AllHaveDigits frames.new.items }
     ensures left { LeftBy frames.new.items result (nodes_left frames.old.items) }
 {

@@ -1,4 +1,4 @@
-use Rattle.std.proofs.Common.{◌≡◌, ◌-◌, ◌*◌, ◌/◌, ◌%◌, get_or, ◌∙◌, ap}
+use Rattle.std.proofs.Common.{◌/◌, get_or, ◌∙◌, ap}
 use Rattle.mx_alu.specs.declared.names.TheConstants.{ARITHMETIC}
 use Rattle.mx_alu.specs.declared.names.Arithmetic.TheVariants.{Mul}
 use Rattle.mx_alu.proofs.Named.{arithmetic-at}

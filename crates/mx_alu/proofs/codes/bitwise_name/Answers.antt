@@ -1,4 +1,4 @@
-use Rattle.std.proofs.Common.{◌≡◌, ◌-◌, ◌*◌, ◌/◌, ◌%◌, get_or, ◌∙◌, ap}
+use Rattle.std.proofs.Common.{◌/◌, get_or, ◌∙◌, ap}
 use Rattle.mx_alu.specs.declared.names.TheConstants.{BITWISE}
 use Rattle.mx_alu.specs.declared.names.Bitwise.TheVariants.{Or}
 use Rattle.mx_alu.proofs.Named.{bitwise-at}

@@ -1,4 +1,4 @@
-use Rattle.std.proofs.Common.{◌≡◌, ◌-◌, ◌*◌, ◌/◌, ◌%◌, get_or, ◌∙◌, ap}
+use Rattle.std.proofs.Common.{get_or, ◌∙◌, ap}
 use Rattle.mx_alu.specs.declared.names.TheConstants.{CONDITIONS}
 use Rattle.mx_alu.specs.declared.names.Condition.TheVariants.{Negative}
 use Rattle.mx_alu.proofs.Named.{condition-at}

@@ -1,4 +1,4 @@
-use Rattle.std.proofs.Common.{◌≡◌, ◌-◌, ◌*◌, ◌/◌, ◌%◌, get_or, ◌∙◌, ap}
+use Rattle.std.proofs.Common.{◌-◌, ◌*◌, ◌/◌, get_or, ◌∙◌, ap}
 use Rattle.mx_alu.specs.declared.names.TheConstants.{WYDES}
 use Rattle.mx_alu.specs.declared.names.Wyde.TheVariants.{Set}
 use Rattle.mx_alu.proofs.Named.{wyde-at}
