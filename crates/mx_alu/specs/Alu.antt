@@ -4,7 +4,7 @@ use Rattle.mx_alu.specs.declared.answer.Answer.{Answer}
 use Rattle.mx_alu.specs.declared.answer.Extra.{Extra}
 use Rattle.mx_alu.specs.declared.names.Wyde.{Wyde}
 use Rattle.mx_alu.specs.Arithmetic.{arithmetic}
-use Rattle.mx_alu.specs.Answers.{alone}
+use Rattle.mx_alu.specs.Answers.{lone_answer}
 use Rattle.mx_alu.specs.Bitwise.{bitwise}
 use Rattle.mx_alu.specs.Names.{arithmetic_of, bitwise_of, wyde_of}
 use Rattle.mx_alu.specs.Wydes.{wyde}
@@ -22,5 +22,5 @@ wyde_at (name, place) x z = wyde name x (z * 2 ^ place)
 unfoldable pub alu : ℕ → ℕ → ℕ → Extra → Answer
 alu code y z e =
     if nat_lt code 0xc0 then arithmetic (arithmetic_of code) y z e.d
-    else if nat_lt code 0xe0 then alone (bitwise (bitwise_of code) y z e.m)
-    else alone (wyde_at (wyde_of code) y z)
+    else if nat_lt code 0xe0 then lone_answer (bitwise (bitwise_of code) y z e.m)
+    else lone_answer (wyde_at (wyde_of code) y z)

@@ -31,7 +31,7 @@ impl Answer {
     /// A result alone.
     #[inline(always)]
     pub(crate) fn alone(x: u64) -> Answer
-        ensures { result ≡ spec.alone x }
+        ensures { result ≡ spec.lone_answer x }
     {
         Answer {
             x,
@@ -44,7 +44,7 @@ impl Answer {
     /// A result modulo 2^64, with overflow where it does not lie from -2^63 to 2^63 - 1.
     #[inline(always)]
     pub(crate) fn checked(v: i128) -> Answer
-        ensures { result ≡ spec.checked v }
+        ensures { result ≡ spec.checked_answer v }
     {
         Answer {
             x: low(v),

@@ -3,7 +3,7 @@
 ghost use Rattle.std.specs.Prelude.{◌≡◌, ◌≢◌, ◌+◌, ◌*◌, ◌/◌, ◌%◌, ◌^◌, ◌<◌, pos, ◌-ℤ◌, ◌*ℤ◌};
 ghost use Rattle.mx_word.specs.Words.{signed_value};
 ghost use Rattle.mx_alu.specs.Arithmetic as spec;
-ghost use Rattle.mx_alu.specs.Answers.{checked};
+ghost use Rattle.mx_alu.specs.Answers.{checked_answer};
 ghost use Rattle.mx_alu.specs.Numbers.{octa, floor_by, floor_quotient};
 
 use crate::answer::{low, overflow};
@@ -51,7 +51,7 @@ fn value(x: u64) -> i128
 
 /// The low half of a product of unsigned octas, with the high half in rH.
 fn multiply(y: u64, z: u64) -> Answer
-    ensures { result ≡ spec.multiply y z }
+    ensures { result ≡ spec.whole_product y z }
 {
     let (high, x) = product(y, z);
     Answer {
@@ -64,7 +64,7 @@ fn multiply(y: u64, z: u64) -> Answer
 
 /// The floor of a signed quotient, with the remainder in rR.
 fn divide(y: u64, z: u64) -> Answer
-    ensures { result ≡ spec.divide y z }
+    ensures { result ≡ spec.signed_quotient y z }
 {
     if z == 0 {
         return Answer {
@@ -101,7 +101,7 @@ fn floor(y: u64, z: u64) -> i128
 /// The quotient of the long dividend of rD and y, with the remainder in rR, where the quotient is
 /// an octa; else rD, with y in rR.
 fn divide_long(d: u64, y: u64, z: u64) -> Answer
-    ensures { result ≡ spec.divide_long d y z }
+    ensures { result ≡ spec.long_quotient d y z }
 {
     let (x, r) = quotient(d, y, z).unwrap_or((d, y));
     Answer {
@@ -136,7 +136,7 @@ fn sign(order: Ordering) -> u64
 #[tactic(auto, using(crate::proofs::Shifts::signed_shifts))]
 #[inline(always)]
 fn shift_left_signed(y: u64, z: u64) -> Answer
-    ensures { result ≡ checked (signed_value y *ℤ pos (2 ^ z)) }
+    ensures { result ≡ checked_answer (signed_value y *ℤ pos (2 ^ z)) }
 {
     if z < 64 {
         return Answer::checked(value(y) * i128::from(1u64 << z));

@@ -9,7 +9,7 @@ use Rattle.mx_line.specs.declared.cutter.Cut.{Cut}
 use Rattle.mx_line.specs.Bytes.{is_blank, is_name_byte, run, past}
 use Rattle.mx_line.specs.Fields.{ends_here, field_length}
 use Rattle.mx_line.specs.Plain.{span}
-use Rattle.mx_line.specs.Cutting.{next_from, with_field, operands_at, no_opcode, opcode_at, operation_at, ends_label, is_bad_local, labelled_at, statement_at, is_too_long, statement_of, listed, cuts_within, cuts_from, LabelBefore, CutInOrder}
+use Rattle.mx_line.specs.Cutting.{next_from, with_field, operands_at, no_opcode, opcode_at, operation_at, ends_label, is_bad_local, labelled_at, statement_at, is_too_long, statement_of, list_with, cuts_within, cuts_from, LabelBefore, CutInOrder}
 use Rattle.mx_line.proofs.KindLemmas.{run-whole, run-length}
 use Rattle.mx_line.proofs.FieldLemmas.{field_length-few}
 
@@ -82,7 +82,7 @@ past-label place None op h = h
 past-label place (Some s) op (a, b, d) = omega arith
 
 -- what is listed rests on what stands later
-same-later : (place end : ℕ) (f g : ℕ → List (Result Cut LineFault)) → ((p : ℕ) → place < p → p ≤ end → f p ≡ g p) → (r : Result (Option Cut) LineFault) → CutInOrder place end r → listed f r ≡ listed g r
+same-later : (place end : ℕ) (f g : ℕ → List (Result Cut LineFault)) → ((p : ℕ) → place < p → p ≤ end → f p ≡ g p) → (r : Result (Option Cut) LineFault) → CutInOrder place end r → list_with f r ≡ list_with g r
 same-later place end f g h (Err fault) o = refl
 same-later place end f g h (Ok None) o = refl
 same-later place end f g h (Ok (Some cut)) o = let after = past-label place cut.label cut.op.from o.label in ap (λ l. Ok cut ∷ l) (h cut.next (omega arith) o.within)
@@ -96,7 +96,7 @@ same-list line (suc m) (suc n) place h k l =
     same-later place (length line) (cuts_within m line) (cuts_within n line) (λ p a b. same-list line m n p (omega arith) (omega arith) b) (statement_of line place) (statement-order line place l)
 
 -- the statements of a line from a place on: the first, and those from its end on
-pub list-is : (line : List ℕ) (place : ℕ) → place ≤ length line → cuts_from line place ≡ listed (cuts_from line) (statement_of line place)
+pub list-is : (line : List ℕ) (place : ℕ) → place ≤ length line → cuts_from line place ≡ list_with (cuts_from line) (statement_of line place)
 unfolding cuts_within
 list-is line place h =
     let e : length line + 1 - place ≡ suc (length line - place) = omega arith in

@@ -203,7 +203,7 @@ pub fn next_statement(text: &[u8], at: usize) -> Result<Option<Cut>, LineFault>
     // The same, as a function.
     ensures statement { result ≡ spec.statement_of text.now at }
     ensures order { spec.CutInOrder at (length text.now) result }
-    ensures list { spec.cuts_from text.now at ≡ spec.listed (spec.cuts_from text.now) result }
+    ensures list { spec.cuts_from text.now at ≡ spec.list_with (spec.cuts_from text.now) result }
 {
     statement_of(text, at)
 }
