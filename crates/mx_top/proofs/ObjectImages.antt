@@ -46,7 +46,7 @@ all-as P Q [] f h = tt
 all-as P Q (item ∷ items) f h = (f item h.0, all-as P Q items f h.1)
 
 -- no item of a line is a spec, and neither is the first one or one of the last two
-IsNoSpec : Item → Type 0
+abbrev IsNoSpec : Item → Type 0
 IsNoSpec (Spec n) = ⊥
 IsNoSpec _ = Unit {0}
 
