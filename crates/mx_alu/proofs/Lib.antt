@@ -3,3 +3,4 @@ pub mod Floors
 pub mod Fields
 pub mod Logic
 pub mod Places
+pub mod Named

@@ -6,7 +6,7 @@ use Rattle.std.proofs.lemmas.Nat.Bits.{bit_at_and, bit_at_or, bit_at_xor, bit_at
 use Rattle.std.specs.Int.{bit_at, w64}
 use lib.Count.{ones, ones_in}
 use Rattle.mx_alu.specs.Numbers.{field, fields, count_of, bit, of_bits}
-use Rattle.mx_alu.specs.Bitwise.{each_bit, differ}
+use Rattle.mx_alu.specs.Bitwise.{each_bit, exactly_one}
 use Rattle.mx_alu.proofs.Fields.{fields-same, fields-of, fields-below}
 
 -- a bit as a number
@@ -41,7 +41,7 @@ digits-and (suc zero) (suc zero) l k = refl
 digits-and (suc (suc c)) d l k = absurd (omega arith)
 digits-and c (suc (suc d)) l k = absurd (omega arith)
 
-digits-xor : (c d : ℕ) → c < 2 → d < 2 → eqb ((c + d) % 2) 1 ≡ differ (eqb c 1) (eqb d 1)
+digits-xor : (c d : ℕ) → c < 2 → d < 2 → eqb ((c + d) % 2) 1 ≡ exactly_one (eqb c 1) (eqb d 1)
 digits-xor zero zero l k = refl
 digits-xor zero (suc zero) l k = refl
 digits-xor (suc zero) zero l k = refl
@@ -60,7 +60,7 @@ bit-or x y i = ap (λ d. eqb d 1) (bit_at_or x y i) ∙ digits-or (bit_at x i) (
 bit-and : (x y i : ℕ) → bit (bit_and x y) i ≡ (bit x i && bit y i)
 bit-and x y i = ap (λ d. eqb d 1) (bit_at_and x y i) ∙ digits-and (bit_at x i) (bit_at y i) (bit_at-lt x i) (bit_at-lt y i)
 
-bit-xor : (x y i : ℕ) → bit (bit_xor x y) i ≡ differ (bit x i) (bit y i)
+bit-xor : (x y i : ℕ) → bit (bit_xor x y) i ≡ exactly_one (bit x i) (bit y i)
 bit-xor x y i = ap (λ d. eqb d 1) (bit_at_xor x y i) ∙ digits-xor (bit_at x i) (bit_at y i) (bit_at-lt x i) (bit_at-lt y i)
 
 bit-not : (x i : ℕ) → x < 2 ^ 64 → i < 64 → bit (2 ^ 64 - 1 - x) i ≡ not (bit x i)
@@ -82,7 +82,7 @@ orn-is y z l k = bits-is _ _ (or_lt 64 y _ l (not-lt z)) (λ i h. bit-or y _ i �
 pub nor-is : (y z : ℕ) → y < 2 ^ 64 → z < 2 ^ 64 → 2 ^ 64 - 1 - bit_or y z ≡ each_bit (λ b c. not (b || c)) y z
 nor-is y z l k = bits-is _ _ (not-lt _) (λ i h. bit-not _ i (or_lt 64 y z l k) h ∙ ap not (bit-or y z i))
 
-pub xor-is : (y z : ℕ) → y < 2 ^ 64 → z < 2 ^ 64 → bit_xor y z ≡ each_bit (λ b c. differ b c) y z
+pub xor-is : (y z : ℕ) → y < 2 ^ 64 → z < 2 ^ 64 → bit_xor y z ≡ each_bit (λ b c. exactly_one b c) y z
 xor-is y z l k = bits-is _ _ (xor_lt 64 y z l k) (λ i h. bit-xor y z i)
 
 pub and-is : (y z : ℕ) → y < 2 ^ 64 → bit_and y z ≡ each_bit (λ b c. b && c) y z
@@ -94,7 +94,7 @@ andn-is y z l k = bits-is _ _ (and-lt y _ l) (λ i h. bit-and y _ i ∙ ap (λ c
 pub nand-is : (y z : ℕ) → y < 2 ^ 64 → z < 2 ^ 64 → 2 ^ 64 - 1 - bit_and y z ≡ each_bit (λ b c. not (b && c)) y z
 nand-is y z l k = bits-is _ _ (not-lt _) (λ i h. bit-not _ i (and-lt y z l) h ∙ ap not (bit-and y z i))
 
-pub nxor-is : (y z : ℕ) → y < 2 ^ 64 → z < 2 ^ 64 → 2 ^ 64 - 1 - bit_xor y z ≡ each_bit (λ b c. not (differ b c)) y z
+pub nxor-is : (y z : ℕ) → y < 2 ^ 64 → z < 2 ^ 64 → 2 ^ 64 - 1 - bit_xor y z ≡ each_bit (λ b c. not (exactly_one b c)) y z
 nxor-is y z l k = bits-is _ _ (not-lt _) (λ i h. bit-not _ i (xor_lt 64 y z l k) h ∙ ap not (bit-xor y z i))
 
 chosen-bit : (m y z : Bool) → ((y && m) || (z && not m)) ≡ cond m y z

@@ -2,7 +2,7 @@
 use Rattle.std.proofs.Common.{◌≡◌, ℕ, ◌+◌, ◌-◌, ◌*◌, ◌/◌, ◌%◌, ◌^◌, ◌<◌, ◌≤◌, zero, suc, Bool, true, false, cond, refl, sym, ◌∙◌, ap, subst, ⊎_elim, arith, add-one, add_comm, bit_or, bit_xor, bit_and, zero-mul, one-mul}
 use Rattle.std.proofs.lemmas.Nat.{or_lt, xor_lt, or_comm, or_shifted, or_block, xor_block, and_block, and_mask, shl_whole, shr-shr, shr_le, mod_below, pow_pos}
 use Rattle.std.proofs.lemmas.Nat.Bits.{ones_shr, bit_at-lt}
-use Rattle.mx_alu.specs.Numbers.{field, fields, joined, bit}
+use Rattle.mx_alu.specs.Numbers.{field, fields, combination, bit}
 use Rattle.mx_alu.specs.Bitwise.{IsFieldWidth}
 use Rattle.std.specs.Int.{bit_at}
 use Rattle.mx_alu.proofs.Logic.{digit}
@@ -74,28 +74,28 @@ byte-or-none false y k = omega arith
 pub chosen-below : (y z k : ℕ) → z < 2 ^ 64 → bit_and (z / 2 ^ k) 0x0101_0101_0101_0101 * (y / 2 ^ (8 * k) % 2 ^ 8) < 2 ^ 64
 chosen-below y z k l = rw (chosen-is y z k l) (fields-below 8 8 _ (λ i. byte-or-none (bit z (8 * i + k)) y k))
 
-joined-below : (op : ℕ → ℕ → ℕ) → ((a b : ℕ) → a < 2 ^ 8 → b < 2 ^ 8 → op a b < 2 ^ 8) → (n : ℕ) (f : ℕ → ℕ) → ((i : ℕ) → f i < 2 ^ 8) → joined op n f < 2 ^ 8
-unfolding joined
-joined-below op lt zero f h = omega arith
-joined-below op lt (suc n) f h = lt (joined op n f) (f n) (joined-below op lt n f h) (h n)
+combination-below : (op : ℕ → ℕ → ℕ) → ((a b : ℕ) → a < 2 ^ 8 → b < 2 ^ 8 → op a b < 2 ^ 8) → (n : ℕ) (f : ℕ → ℕ) → ((i : ℕ) → f i < 2 ^ 8) → combination op n f < 2 ^ 8
+unfolding combination
+combination-below op lt zero f h = omega arith
+combination-below op lt (suc n) f h = lt (combination op n f) (f n) (combination-below op lt n f h) (h n)
 
-joined-next : (op : ℕ → ℕ → ℕ) (n : ℕ) (f : ℕ → ℕ) → joined op (n + 1) f ≡ op (joined op n f) (f n)
-unfolding joined
-joined-next op n f = rw add-one refl
+combination-next : (op : ℕ → ℕ → ℕ) (n : ℕ) (f : ℕ → ℕ) → combination op (n + 1) f ≡ op (combination op n f) (f n)
+unfolding combination
+combination-next op n f = rw add-one refl
 
 -- the first n bytes of y, where they are chosen
 abbrev pub matrix_of : (ℕ → ℕ → ℕ) → ℕ → ℕ → ℕ → ℕ
-matrix_of op n y z = fields 8 8 (λ i. joined op n (λ k. cond (bit z (8 * i + k)) (field 8 y k) 0))
+matrix_of op n y z = fields 8 8 (λ i. combination op n (λ k. cond (bit z (8 * i + k)) (field 8 y k) 0))
 
 pub matrix-none : (op : ℕ → ℕ → ℕ) (y z : ℕ) → matrix_of op 0 y z ≡ 0
-unfolding fields joined
+unfolding fields combination
 matrix-none op y z = refl
 
 matrix-next : (op : ℕ → ℕ → ℕ) → op 0 0 ≡ 0 → ((k a b r s : ℕ) → r < 2 ^ k → s < 2 ^ k → op (a * 2 ^ k + r) (b * 2 ^ k + s) ≡ op a b * 2 ^ k + op r s) →
     ((a b : ℕ) → a < 2 ^ 8 → b < 2 ^ 8 → op a b < 2 ^ 8) → (y z n : ℕ) → op (matrix_of op n y z) (fields 8 8 (λ i. cond (bit z (8 * i + n)) (field 8 y n) 0)) ≡ matrix_of op (n + 1) y z
 matrix-next op none block lt y z n =
-    fields-join op none block 8 8 _ _ (λ i. joined-below op lt n _ (λ k. byte-or-none (bit z (8 * i + k)) y k)) (λ i. byte-or-none (bit z (8 * i + n)) y n)
-    ∙ fields-same 8 8 _ _ (λ i h. sym (joined-next op n (λ k. cond (bit z (8 * i + k)) (field 8 y k) 0)))
+    fields-join op none block 8 8 _ _ (λ i. combination-below op lt n _ (λ k. byte-or-none (bit z (8 * i + k)) y k)) (λ i. byte-or-none (bit z (8 * i + n)) y n)
+    ∙ fields-same 8 8 _ _ (λ i h. sym (combination-next op n (λ k. cond (bit z (8 * i + k)) (field 8 y k) 0)))
 
 pub matrix-or-next : (y z n : ℕ) → bit_or (matrix_of bit_or n y z) (fields 8 8 (λ i. cond (bit z (8 * i + n)) (field 8 y n) 0)) ≡ matrix_of bit_or (n + 1) y z
 matrix-or-next y z n = matrix-next bit_or refl or_block (λ a b. or_lt 8 a b) y z n

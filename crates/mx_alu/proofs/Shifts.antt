@@ -9,7 +9,7 @@ use Rattle.std.proofs.lemmas.Nat.{pow-add, shr_le, mul-le}
 use Rattle.std.proofs.Math.Nat.{mul_assoc, lt_of_le_of_lt, div-eq_of_lt, pow-le-pow_right}
 use Rattle.std.proofs.lemmas.Bool.Decides.{nat_tests}
 use Rattle.mx_alu.specs.declared.answer.Event.TheVariants.{Overflow}
-use Rattle.mx_alu.specs.Answers.{checked}
+use Rattle.mx_alu.specs.Answers.{checked_answer}
 use Rattle.mx_alu.specs.Numbers.{octa, is_signed, floor_by}
 
 -- a power that 2^64 divides
@@ -56,19 +56,19 @@ big k z p h =
     let up : 2 ^ 64 ≤ 2 ^ z = pow-le-pow_right {n = 2} (omega arith) {i = 64} {j = z} h in
     mul-le 1 (2 ^ 64) k (2 ^ z) p up
 
-left-of : (n : ℕ) → 2 ^ 64 ≤ n → n % 2 ^ 64 ≡ 0 → checked (pos n) ≡ record { x = 0; h = None; r = None; event = Some Overflow }
+left-of : (n : ℕ) → 2 ^ 64 ≤ n → n % 2 ^ 64 ≡ 0 → checked_answer (pos n) ≡ record { x = 0; h = None; r = None; event = Some Overflow }
 left-of n l z =
     let t : ltb n (2 ^ 63) ≡ false = grind (arith, nat_tests) in
     rw (z, t) refl
 
-left-of-negative : (n : ℕ) → 2 ^ 64 ≤ n → n % 2 ^ 64 ≡ 0 → checked (neg_ℤ (pos n)) ≡ record { x = 0; h = None; r = None; event = Some Overflow }
+left-of-negative : (n : ℕ) → 2 ^ 64 ≤ n → n % 2 ^ 64 ≡ 0 → checked_answer (neg_ℤ (pos n)) ≡ record { x = 0; h = None; r = None; event = Some Overflow }
 left-of-negative zero l z = absurd (omega arith)
 left-of-negative (suc n) l z =
     let r : 2 ^ 64 - 1 - n % 2 ^ 64 ≡ 0 = omega arith in
     let t : ltb n (2 ^ 63) ≡ false = grind (arith, nat_tests) in
     rw (r, t) refl
 
-pub shifted-out : (v : ℤ) (z : ℕ) → 64 ≤ z → v ≢ pos 0 → checked (v *ℤ pos (2 ^ z)) ≡ record { x = 0; h = None; r = None; event = Some Overflow }
+pub shifted-out : (v : ℤ) (z : ℕ) → 64 ≤ z → v ≢ pos 0 → checked_answer (v *ℤ pos (2 ^ z)) ≡ record { x = 0; h = None; r = None; event = Some Overflow }
 shifted-out (pos zero) z h ne = absurd (ne refl)
 shifted-out (pos (suc a)) z h ne = left-of (suc a * 2 ^ z) (big (suc a) z (omega arith) h) (high-left (suc a) z h)
 shifted-out (negsuc a) z h ne = left-of-negative (suc a * 2 ^ z) (big (suc a) z (omega arith) h) (high-left (suc a) z h)

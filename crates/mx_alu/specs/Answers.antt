@@ -6,17 +6,17 @@ use Rattle.mx_alu.specs.declared.answer.Event.TheVariants.{Overflow}
 use Rattle.mx_alu.specs.Numbers.{octa, is_signed}
 
 -- a result alone
-abbrev pub alone : ℕ → Answer
-alone x = record { x = x; h = None; r = None; event = None }
+abbrev pub lone_answer : ℕ → Answer
+lone_answer x = record { x = x; h = None; r = None; event = None }
 
 -- a whole number as the result, modulo 2^64
-abbrev pub plain : ℤ → Answer
-plain v = alone (octa v)
+abbrev pub residue_answer : ℤ → Answer
+residue_answer v = lone_answer (octa v)
 
 -- overflow where a whole number does not lie from -2^63 to 2^63 - 1
 abbrev pub overflow : ℤ → Option Event
 overflow v = if is_signed v then None else Some Overflow
 
 -- a whole number as the result, with overflow
-abbrev pub checked : ℤ → Answer
-checked v = record { x = octa v; h = None; r = None; event = overflow v }
+abbrev pub checked_answer : ℤ → Answer
+checked_answer v = record { x = octa v; h = None; r = None; event = overflow v }

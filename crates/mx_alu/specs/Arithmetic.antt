@@ -8,7 +8,7 @@ use Rattle.mx_alu.specs.declared.answer.Answer.{Answer}
 use Rattle.mx_alu.specs.declared.answer.Event.TheVariants.{Divide}
 use Rattle.mx_alu.specs.declared.names.Arithmetic.{Arithmetic}
 use Rattle.mx_alu.specs.declared.names.Arithmetic.TheVariants.{Mul, Mulu, Div, Divu, Add, Addu, Sub, Subu, TwoAddu, FourAddu, EightAddu, SixteenAddu, Cmp, Cmpu, Neg, Negu, Sl, Slu, Sr, Sru}
-use Rattle.mx_alu.specs.Answers.{plain, checked, overflow}
+use Rattle.mx_alu.specs.Answers.{residue_answer, checked_answer, overflow}
 use Rattle.mx_alu.specs.Numbers.{octa, floor_by, floor_quotient}
 
 -- -1, 0 or 1 for what a comparison tells
@@ -18,40 +18,40 @@ sign Equal = pos 0
 sign Greater = pos 1
 
 -- the quotient q of a by b, with the remainder in rR
-abbrev pub divided : ℤ → ℤ → ℤ → Answer
-divided a b q = record { x = octa q; h = None; r = Some (octa (a -ℤ b *ℤ q)); event = overflow q }
+abbrev pub quotient_answer : ℤ → ℤ → ℤ → Answer
+quotient_answer a b q = record { x = octa q; h = None; r = Some (octa (a -ℤ b *ℤ q)); event = overflow q }
 
 -- DIV: the floor of the signed quotient; by 0 it is 0, and y is the remainder
-abbrev pub divide : ℕ → ℕ → Answer
-divide y z = if z == 0 then record { x = 0; h = None; r = Some y; event = Some Divide } else divided (s y) (s z) (floor_quotient (s y) (s z))
+abbrev pub signed_quotient : ℕ → ℕ → Answer
+signed_quotient y z = if z == 0 then record { x = 0; h = None; r = Some y; event = Some Divide } else quotient_answer (s y) (s z) (floor_quotient (s y) (s z))
 
 -- DIVU: the quotient of 2^64 d + y, where it is an octa
-abbrev pub divide_long : ℕ → ℕ → ℕ → Answer
-divide_long d y z = if nat_lt d z then record { x = (2 ^ 64 * d + y) / z; h = None; r = Some ((2 ^ 64 * d + y) % z); event = None } else record { x = d; h = None; r = Some y; event = None }
+abbrev pub long_quotient : ℕ → ℕ → ℕ → Answer
+long_quotient d y z = if nat_lt d z then record { x = (2 ^ 64 * d + y) / z; h = None; r = Some ((2 ^ 64 * d + y) % z); event = None } else record { x = d; h = None; r = Some y; event = None }
 
 -- MULU: the low half of the product, with the high half in rH
-abbrev pub multiply : ℕ → ℕ → Answer
-multiply y z = record { x = y * z % 2 ^ 64; h = Some (y * z / 2 ^ 64); r = None; event = None }
+abbrev pub whole_product : ℕ → ℕ → Answer
+whole_product y z = record { x = y * z % 2 ^ 64; h = Some (y * z / 2 ^ 64); r = None; event = None }
 
 -- the names from #18 to #3f: y is $Y, or at NEG and NEGU the byte Y; z is $Z or Z; s is the signed value, and d is rD
 abbrev pub arithmetic : Arithmetic → ℕ → ℕ → ℕ → Answer
-arithmetic Mul y z d = checked (s y *ℤ s z)
-arithmetic Mulu y z d = multiply y z
-arithmetic Div y z d = divide y z
-arithmetic Divu y z d = divide_long d y z
-arithmetic Add y z d = checked (s y +ℤ s z)
-arithmetic Addu y z d = plain (pos (y + z))
-arithmetic Sub y z d = checked (s y -ℤ s z)
-arithmetic Subu y z d = plain (pos y -ℤ pos z)
-arithmetic TwoAddu y z d = plain (pos (2 * y + z))
-arithmetic FourAddu y z d = plain (pos (4 * y + z))
-arithmetic EightAddu y z d = plain (pos (8 * y + z))
-arithmetic SixteenAddu y z d = plain (pos (16 * y + z))
-arithmetic Cmp y z d = plain (sign (int_cmp (s y) (s z)))
-arithmetic Cmpu y z d = plain (sign (nat_cmp y z))
-arithmetic Neg y z d = checked (pos y -ℤ s z)
-arithmetic Negu y z d = plain (pos y -ℤ pos z)
-arithmetic Sl y z d = checked (s y *ℤ pos (2 ^ z))
-arithmetic Slu y z d = plain (pos (y * 2 ^ z))
-arithmetic Sr y z d = plain (floor_by (s y) (2 ^ z))
-arithmetic Sru y z d = plain (pos (y / 2 ^ z))
+arithmetic Mul y z d = checked_answer (s y *ℤ s z)
+arithmetic Mulu y z d = whole_product y z
+arithmetic Div y z d = signed_quotient y z
+arithmetic Divu y z d = long_quotient d y z
+arithmetic Add y z d = checked_answer (s y +ℤ s z)
+arithmetic Addu y z d = residue_answer (pos (y + z))
+arithmetic Sub y z d = checked_answer (s y -ℤ s z)
+arithmetic Subu y z d = residue_answer (pos y -ℤ pos z)
+arithmetic TwoAddu y z d = residue_answer (pos (2 * y + z))
+arithmetic FourAddu y z d = residue_answer (pos (4 * y + z))
+arithmetic EightAddu y z d = residue_answer (pos (8 * y + z))
+arithmetic SixteenAddu y z d = residue_answer (pos (16 * y + z))
+arithmetic Cmp y z d = residue_answer (sign (int_cmp (s y) (s z)))
+arithmetic Cmpu y z d = residue_answer (sign (nat_cmp y z))
+arithmetic Neg y z d = checked_answer (pos y -ℤ s z)
+arithmetic Negu y z d = residue_answer (pos y -ℤ pos z)
+arithmetic Sl y z d = checked_answer (s y *ℤ pos (2 ^ z))
+arithmetic Slu y z d = residue_answer (pos (y * 2 ^ z))
+arithmetic Sr y z d = residue_answer (floor_by (s y) (2 ^ z))
+arithmetic Sru y z d = residue_answer (pos (y / 2 ^ z))

@@ -2,11 +2,11 @@
 use Rattle.std.specs.Prelude.{ℕ, ◌+◌, ◌-◌, ◌*◌, ◌/◌, ◌≡◌, ◌⊎◌, Bool, ◌&&◌, ◌||◌, not, bit_or, bit_xor, if◌then◌else◌}
 use Rattle.mx_alu.specs.declared.names.Bitwise.{Bitwise}
 use Rattle.mx_alu.specs.declared.names.Bitwise.TheVariants.{Or, Orn, Nor, Xor, And, Andn, Nand, Nxor, Bdif, Wdif, Tdif, Odif, Mux, Sadd, Mor, Mxor}
-use Rattle.mx_alu.specs.Numbers.{bit, of_bits, field, fields, count_of, joined}
+use Rattle.mx_alu.specs.Numbers.{bit, of_bits, field, fields, count_of, combination}
 
 -- exactly one of two
-abbrev pub differ : Bool → Bool → Bool
-differ b c = if b then not c else c
+abbrev pub exactly_one : Bool → Bool → Bool
+exactly_one b c = if b then not c else c
 
 -- each bit by the bits of y and z at its place
 abbrev pub each_bit : (Bool → Bool → Bool) → ℕ → ℕ → ℕ
@@ -22,18 +22,18 @@ IsFieldWidth w = (w ≡ 8) ⊎ (w ≡ 16) ⊎ (w ≡ 32)
 
 -- byte i is made of the bytes k of y for which bit k of byte i of z is 1
 abbrev pub matrix : (ℕ → ℕ → ℕ) → ℕ → ℕ → ℕ
-matrix join y z = fields 8 8 (λ i. joined join 8 (λ k. if bit z (8 * i + k) then field 8 y k else 0))
+matrix join y z = fields 8 8 (λ i. combination join 8 (λ k. if bit z (8 * i + k) then field 8 y k else 0))
 
 -- the names from #c0 to #df; m is rM
 abbrev pub bitwise : Bitwise → ℕ → ℕ → ℕ → ℕ
 bitwise Or y z m = each_bit (λ b c. b || c) y z
 bitwise Orn y z m = each_bit (λ b c. b || not c) y z
 bitwise Nor y z m = each_bit (λ b c. not (b || c)) y z
-bitwise Xor y z m = each_bit (λ b c. differ b c) y z
+bitwise Xor y z m = each_bit (λ b c. exactly_one b c) y z
 bitwise And y z m = each_bit (λ b c. b && c) y z
 bitwise Andn y z m = each_bit (λ b c. b && not c) y z
 bitwise Nand y z m = each_bit (λ b c. not (b && c)) y z
-bitwise Nxor y z m = each_bit (λ b c. not (differ b c)) y z
+bitwise Nxor y z m = each_bit (λ b c. not (exactly_one b c)) y z
 bitwise Bdif y z m = differences 8 y z
 bitwise Wdif y z m = differences 16 y z
 bitwise Tdif y z m = differences 32 y z

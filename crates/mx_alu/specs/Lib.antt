@@ -1,4 +1,5 @@
 pub mod Numbers
+pub mod Names
 pub mod Answers
 pub mod Arithmetic
 pub mod Bitwise

@@ -43,7 +43,7 @@ unfoldable pub count_of : ℕ → (ℕ → Bool) → ℕ
 count_of zero f = 0
 count_of (suc n) f = (if f n then 1 else 0) + count_of n f
 
--- n numbers, joined one by one
-unfoldable pub joined : (ℕ → ℕ → ℕ) → ℕ → (ℕ → ℕ) → ℕ
-joined join zero f = 0
-joined join (suc n) f = join (joined join n f) (f n)
+-- n numbers combined one after the other
+unfoldable pub combination : (ℕ → ℕ → ℕ) → ℕ → (ℕ → ℕ) → ℕ
+combination combine zero f = 0
+combination combine (suc n) f = combine (combination combine n f) (f n)

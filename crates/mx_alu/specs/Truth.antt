@@ -1,7 +1,8 @@
 -- The conditions of the branches.
-use Rattle.std.specs.Prelude.{ℕ, ◌/◌, ◌%◌, ℤ, pos, Bool, not, ◌==◌, int_lt, unsigned_abs, [], ◌∷◌, slice_index_or}
+use Rattle.std.specs.Prelude.{ℕ, ◌%◌, ℤ, pos, Bool, not, ◌==◌, int_lt, unsigned_abs}
 use Rattle.mx_word.specs.Words.{signed_value}
 use Rattle.mx_alu.specs.declared.names.Condition.{Condition}
+use Rattle.mx_alu.specs.Names.{condition_of}
 use Rattle.mx_alu.specs.declared.names.Condition.TheVariants.{Negative, Zero, Positive, Odd, NotNegative, NotZero, NotPositive, Even}
 
 -- whether a whole number is so
@@ -15,10 +16,6 @@ holds NotZero v = not (unsigned_abs v == 0)
 holds NotPositive v = not (int_lt (pos 0) v)
 holds Even v = not (unsigned_abs v % 2 == 1)
 
--- the condition of a code from #40 to #7f; each has two codes in each sixteen
-abbrev pub condition : ℕ → Condition
-condition code = slice_index_or (Negative ∷ Zero ∷ Positive ∷ Odd ∷ NotNegative ∷ NotZero ∷ NotPositive ∷ Even ∷ []) (code / 2 % 8) Negative
-
--- whether the condition of a code holds of the signed value of an octa
+-- whether the condition that a code from #40 to #7f has in its name holds of the signed value of an octa
 unfoldable pub truth : ℕ → ℕ → Bool
-truth code x = holds (condition code) (signed_value x)
+truth code x = holds (condition_of code) (signed_value x)

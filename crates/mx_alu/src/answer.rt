@@ -29,8 +29,9 @@ pub struct Answer {
 
 impl Answer {
     /// A result alone.
+    #[inline(always)]
     pub(crate) fn alone(x: u64) -> Answer
-        ensures { result ≡ spec.alone x }
+        ensures { result ≡ spec.lone_answer x }
     {
         Answer {
             x,
@@ -41,8 +42,9 @@ impl Answer {
     }
 
     /// A result modulo 2^64, with overflow where it does not lie from -2^63 to 2^63 - 1.
+    #[inline(always)]
     pub(crate) fn checked(v: i128) -> Answer
-        ensures { result ≡ spec.checked v }
+        ensures { result ≡ spec.checked_answer v }
     {
         Answer {
             x: low(v),
@@ -54,6 +56,7 @@ impl Answer {
 }
 
 /// What is left of a number modulo 2^64.
+#[inline(always)]
 pub(crate) fn low(v: i128) -> u64
     ensures { result ≡ octa v }
 {
@@ -61,6 +64,7 @@ pub(crate) fn low(v: i128) -> u64
 }
 
 /// Overflow where a number does not lie from -2^63 to 2^63 - 1.
+#[inline(always)]
 pub(crate) fn overflow(v: i128) -> Option<Event>
     ensures { result ≡ spec.overflow v }
 {

@@ -3,7 +3,7 @@
 ghost use Rattle.std.specs.Prelude.{◌≡◌, ◌≢◌, ◌+◌, ◌*◌, ◌/◌, ◌%◌, ◌^◌, ◌<◌, pos, ◌-ℤ◌, ◌*ℤ◌};
 ghost use Rattle.mx_word.specs.Words.{signed_value};
 ghost use Rattle.mx_alu.specs.Arithmetic as spec;
-ghost use Rattle.mx_alu.specs.Answers.{checked};
+ghost use Rattle.mx_alu.specs.Answers.{checked_answer};
 ghost use Rattle.mx_alu.specs.Numbers.{octa, floor_by, floor_quotient};
 
 use crate::answer::{low, overflow};
@@ -13,6 +13,7 @@ use mx_word::{product, quotient, signed};
 use std::cmp::Ordering;
 
 /// What the instruction of this name gives; d is rD.
+#[inline(always)]
 pub(crate) fn perform(name: Arithmetic, y: u64, z: u64, d: u64) -> Answer
     ensures { result ≡ spec.arithmetic name y z d }
 {
@@ -41,6 +42,7 @@ pub(crate) fn perform(name: Arithmetic, y: u64, z: u64, d: u64) -> Answer
 }
 
 /// The signed value of an octa, in a word that holds sums and products of two of them.
+#[inline(always)]
 fn value(x: u64) -> i128
     ensures { result ≡ signed_value x }
 {
@@ -49,7 +51,7 @@ fn value(x: u64) -> i128
 
 /// The low half of a product of unsigned octas, with the high half in rH.
 fn multiply(y: u64, z: u64) -> Answer
-    ensures { result ≡ spec.multiply y z }
+    ensures { result ≡ spec.whole_product y z }
 {
     let (high, x) = product(y, z);
     Answer {
@@ -62,7 +64,7 @@ fn multiply(y: u64, z: u64) -> Answer
 
 /// The floor of a signed quotient, with the remainder in rR.
 fn divide(y: u64, z: u64) -> Answer
-    ensures { result ≡ spec.divide y z }
+    ensures { result ≡ spec.signed_quotient y z }
 {
     if z == 0 {
         return Answer {
@@ -99,7 +101,7 @@ fn floor(y: u64, z: u64) -> i128
 /// The quotient of the long dividend of rD and y, with the remainder in rR, where the quotient is
 /// an octa; else rD, with y in rR.
 fn divide_long(d: u64, y: u64, z: u64) -> Answer
-    ensures { result ≡ spec.divide_long d y z }
+    ensures { result ≡ spec.long_quotient d y z }
 {
     let (x, r) = quotient(d, y, z).unwrap_or((d, y));
     Answer {
@@ -111,6 +113,7 @@ fn divide_long(d: u64, y: u64, z: u64) -> Answer
 }
 
 /// A difference modulo 2^64.
+#[inline(always)]
 fn subtract(y: u64, z: u64) -> u64
     ensures { result ≡ octa (pos y -ℤ pos z) }
 {
@@ -118,6 +121,7 @@ fn subtract(y: u64, z: u64) -> u64
 }
 
 /// -1, 0 or 1 as an octa.
+#[inline(always)]
 fn sign(order: Ordering) -> u64
     ensures { result ≡ octa (spec.sign order) }
 {
@@ -130,8 +134,9 @@ fn sign(order: Ordering) -> u64
 
 /// A signed octa times 2^z.
 #[tactic(auto, using(crate::proofs::Shifts::signed_shifts))]
+#[inline(always)]
 fn shift_left_signed(y: u64, z: u64) -> Answer
-    ensures { result ≡ checked (signed_value y *ℤ pos (2 ^ z)) }
+    ensures { result ≡ checked_answer (signed_value y *ℤ pos (2 ^ z)) }
 {
     if z < 64 {
         return Answer::checked(value(y) * i128::from(1u64 << z));
@@ -146,6 +151,7 @@ fn shift_left_signed(y: u64, z: u64) -> Answer
 
 /// An octa times 2^z, modulo 2^64.
 #[tactic(auto, using(crate::proofs::Shifts::high))]
+#[inline(always)]
 fn shift_left(y: u64, z: u64) -> u64
     ensures { result ≡ octa (pos (y * 2 ^ z)) }
 {
@@ -154,6 +160,7 @@ fn shift_left(y: u64, z: u64) -> u64
 
 /// The floor of a signed octa by 2^z, as an octa.
 #[tactic(auto, using(crate::proofs::Shifts::signed_shifts))]
+#[inline(always)]
 fn shift_right_signed(y: u64, z: u64) -> u64
     ensures { result ≡ octa (floor_by (signed_value y) (2 ^ z)) }
 {
@@ -162,6 +169,7 @@ fn shift_right_signed(y: u64, z: u64) -> u64
 
 /// The floor of an octa by 2^z.
 #[tactic(auto, using(crate::proofs::Shifts::high))]
+#[inline(always)]
 fn shift_right(y: u64, z: u64) -> u64
     ensures { result ≡ octa (pos (y / 2 ^ z)) }
 {

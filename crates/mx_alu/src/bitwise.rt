@@ -8,6 +8,7 @@ use crate::names::Bitwise;
 
 /// The octa that the instruction of this name gives; m is rM.
 #[tactic(auto, using(crate::proofs::Logic::logic))]
+#[inline(always)]
 pub(crate) fn perform(name: Bitwise, y: u64, z: u64, m: u64) -> u64
     ensures { result ≡ spec.bitwise name y z m }
 {
@@ -64,7 +65,7 @@ fn matrix_or(y: u64, z: u64) -> u64
 {
     let mut x = 0;
     for k in 0..8 {
-        x |= chosen(y, z, k);
+        x |= chosen_bytes(y, z, k);
     }
     x
 }
@@ -76,14 +77,14 @@ fn matrix_xor(y: u64, z: u64) -> u64
 {
     let mut x = 0;
     for k in 0..8 {
-        x ^= chosen(y, z, k);
+        x ^= chosen_bytes(y, z, k);
     }
     x
 }
 
 /// Byte k of y in each byte for which bit k of that byte of z is 1.
 #[tactic(auto, using(crate::proofs::Places::matrix_steps))]
-fn chosen(y: u64, z: u64, k: u32) -> u64
+fn chosen_bytes(y: u64, z: u64, k: u32) -> u64
     requires { k < 8 }
     ensures { result ≡ fields 8 8 (λ i. if bit z (8 * i + k) then field 8 y k else 0) }
 {

@@ -1,7 +1,8 @@
 //! Instructions and conditions by their codes.
 
-ghost use Rattle.std.specs.Prelude.{◌≡◌, ◌≤◌, IsTrue};
+ghost use Rattle.std.specs.Prelude.{◌≡◌, ◌<◌, ◌≤◌, IsTrue};
 ghost use Rattle.mx_alu.specs.Alu as spec;
+ghost use Rattle.mx_alu.specs.Names as names;
 ghost use Rattle.mx_alu.specs.Truth as conditions;
 
 use crate::names::{ARITHMETIC, Arithmetic, BITWISE, Bitwise, CONDITIONS, Condition, WYDES, Wyde};
@@ -11,6 +12,7 @@ use mx_word::signed;
 /// What the instruction of this code, from #18 to #3f or from #c0 to #ef, gives: y and z are $Y and
 /// $Z or Z. At NEG and NEGU y is the byte Y; from #e0 on y is the old $X and z is YZ.
 #[tactic(auto, unfolding(crate::specs::Alu::alu))]
+#[inline(always)]
 pub fn alu(code: u8, y: u64, z: u64, extra: Extra) -> Answer
     requires { IsTrue (spec.is_alu code) }
     ensures { result ≡ spec.alu code y z extra }
@@ -20,46 +22,56 @@ pub fn alu(code: u8, y: u64, z: u64, extra: Extra) -> Answer
     } else if code < 0xe0 {
         Answer::alone(bitwise::perform(bitwise_name(code), y, z, extra.m))
     } else {
-        Answer::alone(wyde::perform(wyde_name(code), y, z, 48 - 16 * u32::from(code % 4)))
+        let (name, place) = wyde_name(code);
+        Answer::alone(wyde::perform(name, y, z, place))
     }
 }
 
 /// The name of a code from #18 to #3f.
+#[inline(always)]
 fn arithmetic_name(code: u8) -> Arithmetic
     requires low { 0x18 ≤ code }
     requires high { code ≤ 0x3f }
-    ensures { result ≡ spec.arithmetic_name code }
+    ensures { result ≡ names.arithmetic_of code }
 {
     ARITHMETIC[usize::from(code - 0x18) / 2]
 }
 
 /// The name of a code from #c0 to #df.
+#[inline(always)]
 fn bitwise_name(code: u8) -> Bitwise
     requires low { 0xc0 ≤ code }
     requires high { code ≤ 0xdf }
-    ensures { result ≡ spec.bitwise_name code }
+    ensures { result ≡ names.bitwise_of code }
 {
     BITWISE[usize::from(code - 0xc0) / 2]
 }
 
-/// The name of a code from #e0 to #ef.
-fn wyde_name(code: u8) -> Wyde
+/// The name of a code from #e0 to #ef without the wyde that it means, and that wyde's lowest bit.
+#[inline(always)]
+fn wyde_name(code: u8) -> (Wyde, u32)
     requires low { 0xe0 ≤ code }
     requires high { code ≤ 0xef }
-    ensures { result ≡ spec.wyde_name code }
+    ensures name { result ≡ names.wyde_of code }
+    ensures place { result.1 < 64 }
 {
-    WYDES[usize::from(code - 0xe0) / 4]
+    let wyde = WYDES[usize::from(code - 0xe0) / 4];
+    (wyde, 48 - 16 * u32::from(code % 4))
 }
 
-/// The condition of a code.
+/// The condition of a code from #40 to #7f.
+#[inline(always)]
 fn condition(code: u8) -> Condition
-    ensures { result ≡ conditions.condition code }
+    requires low { 0x40 ≤ code }
+    requires high { code ≤ 0x7f }
+    ensures { result ≡ names.condition_of code }
 {
     CONDITIONS[usize::from(code / 2 % 8)]
 }
 
 /// Whether the condition of a code from #40 to #7f holds of the signed value of an octa.
 #[tactic(auto, unfolding(crate::specs::Truth::truth))]
+#[inline(always)]
 pub fn truth(code: u8, x: u64) -> bool
     requires low { 0x40 ≤ code }
     requires high { code ≤ 0x7f }

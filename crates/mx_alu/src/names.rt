@@ -70,7 +70,7 @@ pub(crate) enum Condition {
 }
 
 /// The names from #18 on.
-pub(crate) const ARITHMETIC: [Arithmetic; 20] = [
+pub(crate) static ARITHMETIC: [Arithmetic; 20] = [
     Arithmetic::Mul,
     Arithmetic::Mulu,
     Arithmetic::Div,
@@ -94,7 +94,7 @@ pub(crate) const ARITHMETIC: [Arithmetic; 20] = [
 ];
 
 /// The names from #c0 on.
-pub(crate) const BITWISE: [Bitwise; 16] = [
+pub(crate) static BITWISE: [Bitwise; 16] = [
     Bitwise::Or,
     Bitwise::Orn,
     Bitwise::Nor,
@@ -114,10 +114,10 @@ pub(crate) const BITWISE: [Bitwise; 16] = [
 ];
 
 /// The names from #e0 on.
-pub(crate) const WYDES: [Wyde; 4] = [Wyde::Set, Wyde::Inc, Wyde::OrIn, Wyde::AndNot];
+pub(crate) static WYDES: [Wyde; 4] = [Wyde::Set, Wyde::Inc, Wyde::OrIn, Wyde::AndNot];
 
 /// The conditions from a multiple of #10 on.
-pub(crate) const CONDITIONS: [Condition; 8] = [
+pub(crate) static CONDITIONS: [Condition; 8] = [
     Condition::Negative,
     Condition::Zero,
     Condition::Positive,

@@ -8,6 +8,7 @@ use crate::names::Wyde;
 /// The octa that the instruction of this name makes of the old $X and of its wyde, which stands at
 /// a place.
 #[tactic(auto, using(crate::proofs::Logic::wydes))]
+#[inline(always)]
 pub(crate) fn perform(name: Wyde, x: u64, z: u64, place: u32) -> u64
     requires { place < 64 }
     ensures { result ≡ spec.wyde name x (z * 2 ^ place) }

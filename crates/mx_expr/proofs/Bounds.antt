@@ -1,13 +1,13 @@
 -- The bounds: where one is passed, and what it does to reading.
 use Rattle.std.proofs.Common.{◌≡◌, ℕ, ◌+◌, ◌-◌, ◌*◌, ◌^◌, ◌≤◌, List, [], ◌∷◌, ◌++◌, length, Bool, true, false, cond, Option, Some, None, Ok, refl, sym, ap, ◌∙◌, arith, append_assoc, subst, length-append}
 use Rattle.std.specs.Prelude.{◌==◌, ◌&&◌, nat_le}
-use Rattle.std.proofs.lemmas.Bool.{eqb-true, leb-true}
+use Rattle.std.proofs.lemmas.Bool.{and_parts, eqb-true, leb-true}
 use Rattle.mx_expr.specs.declared.faults.ExprFault.{ExprFault}
 use Rattle.mx_expr.specs.declared.faults.ExprFault.TheVariants.{TooWide, TooDeep, EmptyString}
 use Rattle.mx_expr.specs.declared.tree.BinOp.TheVariants.{Div}
 use Rattle.mx_expr.specs.Tree.{Tree}
 use Rattle.mx_expr.specs.Bytes.{is_digit, is_hexadecimal, digit_value}
-use Rattle.mx_expr.specs.Reading.{Waiting, strong, parenthesis, Mode, operand, whole, digit, decimal, hash, hexadecimal, quote, character, symbol, slash, less, greater, string, closed, State, passes, too_wide, too_deep}
+use Rattle.mx_expr.specs.Reading.{Waiting, strong, parenthesis, Mode, operand, whole, digit, decimal, hash, hexadecimal, quote, character, symbol, slash, less, greater, string, closed, State, passed_bound, too_wide, too_deep}
 use Rattle.mx_expr.specs.Spelling.{digits_value, Constant, Before, FaultAt}
 use Rattle.mx_expr.specs.Spelling.Constant.{decimal as decimal_digits, hexadecimal as hexadecimal_digits}
 use Rattle.mx_expr.specs.Spelling.StrongOperator.{div}
@@ -29,19 +29,11 @@ some-when : (c : Bool) (x y : ExprFault) → cond c (Some x) None ≡ Some y →
 some-when true x y h = (refl, cc)
 some-when false x y h = absurd (cc)
 
-and-first : (a b : Bool) → (a && b) ≡ true → a ≡ true
-and-first true b h = refl
-and-first false b h = h
-
-and-second : (a b : Bool) → (a && b) ≡ true → b ≡ true
-and-second true b h = h
-and-second false b h = absurd (cc)
-
 deep-passed : (front rest : List ℕ) (d b : ℕ) (f : ExprFault) → Before d front → too_deep d b ≡ Some f → Passed (front ++ b ∷ rest) front f
 deep-passed front rest d b f h e =
     let w = some-when (b == 40 && nat_le 255 d) TooDeep f e in
-    let byte : b ≡ 40 = eqb-true b 40 (and-first (b == 40) (nat_le 255 d) w.0) in
-    let deep : 255 ≤ d = leb-true 255 d (and-second (b == 40) (nat_le 255 d) w.0) in
+    let byte : b ≡ 40 = eqb-true b 40 (and_parts (b == 40) (nat_le 255 d) w.0).0 in
+    let deep : 255 ≤ d = leb-true 255 d (and_parts (b == 40) (nat_le 255 d) w.0).1 in
     let same : TooDeep ≡ f = w.1 in
     subst (λ x. Passed (front ++ b ∷ rest) front x) same
     (record {
@@ -100,7 +92,7 @@ chosen-some : (c : Bool) (o : Option ExprFault) (f : ExprFault) → cond c o Non
 chosen-some true o f h = (refl, h)
 chosen-some false o f h = absurd (cc)
 
-passed-at : (mode : Mode) (front text part rest : List ℕ) (es done : List Tree) (k : List Waiting) (d b : ℕ) (f : ExprFault) → Place front text part es → At mode k d done es part → passes mode d b ≡ Some f → Passed (front ++ b ∷ rest) front f
+passed-at : (mode : Mode) (front text part rest : List ℕ) (es done : List Tree) (k : List Waiting) (d b : ℕ) (f : ExprFault) → Place front text part es → At mode k d done es part → passed_bound mode d b ≡ Some f → Passed (front ++ b ∷ rest) front f
 passed-at operand front text part rest es done k d b f p a e = deep-passed front rest d b f (subst (Before d) (sym p.spelled) (partial-before text es p.before k d part a.1)) e
 passed-at (whole x) front text part rest es done k d b f p a e = absurd (cc)
 passed-at (digit n) front text part rest es done k d b f p a e = absurd (cc)
@@ -128,17 +120,17 @@ passed-at (string true) front text part rest es done k d b f p a e = quote-passe
 passed-at (string false) front text part rest es done k d b f p a e = absurd (cc)
 passed-at closed front text part rest es done k d b f p a e = absurd (cc)
 
-pub passed : (s : State) (front rest : List ℕ) (b : ℕ) (f : ExprFault) → Holds s front → passes s.mode s.depth b ≡ Some f → Passed (front ++ b ∷ rest) front f
+pub passed : (s : State) (front rest : List ℕ) (b : ℕ) (f : ExprFault) → Holds s front → passed_bound s.mode s.depth b ≡ Some f → Passed (front ++ b ∷ rest) front f
 passed s front rest b f h e = passed-at s.mode front h.text h.part rest h.es s.done s.waiting s.depth b f (record { before = h.before; spelled = h.spelled }) h.stands e
 
 deep-byte : (d b : ℕ) (f : ExprFault) → too_deep d b ≡ Some f → b ≡ 40
-deep-byte d b f e = let w = some-when (b == 40 && nat_le 255 d) TooDeep f e in eqb-true b 40 (and-first (b == 40) (nat_le 255 d) w.0)
+deep-byte d b f e = let w = some-when (b == 40 && nat_le 255 d) TooDeep f e in eqb-true b 40 (and_parts (b == 40) (nat_le 255 d) w.0).0
 
 deep-moves : (mode : Mode) (k : List Waiting) (d b : ℕ) (es : List Tree) (t : State) → b ≡ 40 → move (st mode k d es) 40 ≡ Ok t → (u : State) × (move (st mode k d es) b ≡ Ok u)
 deep-moves mode k d b es t e h = (t, ap (move (st mode k d es)) e ∙ h)
 
 -- A byte that passes a bound would be read without it.
-pub passes-moves : (mode : Mode) (k : List Waiting) (d : ℕ) (es : List Tree) (b : ℕ) (f : ExprFault) → passes mode d b ≡ Some f → (t : State) × (move (st mode k d es) b ≡ Ok t)
+pub passes-moves : (mode : Mode) (k : List Waiting) (d : ℕ) (es : List Tree) (b : ℕ) (f : ExprFault) → passed_bound mode d b ≡ Some f → (t : State) × (move (st mode k d es) b ≡ Ok t)
 passes-moves operand k d es b f e = deep-moves operand k d b es (st operand (parenthesis ∷ k) (d + 1) es) (deep-byte d b f e) refl
 passes-moves (whole x) k d es b f e = absurd (cc)
 passes-moves (digit n) k d es b f e = absurd (cc)

@@ -6,7 +6,7 @@ use Rattle.mx_expr.specs.declared.faults.ExprFault.TheVariants.{Syntax}
 use Rattle.mx_expr.specs.declared.tree.BinOp.TheVariants.{Div, Left, Right}
 use Rattle.mx_expr.specs.Tree.{Tree, number, name, here, binary}
 use Rattle.mx_expr.specs.Bytes.{is_digit}
-use Rattle.mx_expr.specs.Reading.{Waiting, Mode, operand, whole, digit, decimal, hash, hexadecimal, quote, character, symbol, slash, less, greater, string, closed, State, settled, summed, listed, finish}
+use Rattle.mx_expr.specs.Reading.{Waiting, Mode, operand, whole, digit, decimal, hash, hexadecimal, quote, character, symbol, slash, less, greater, string, closed, State, with_strong, with_weak, listed, field_end}
 use Rattle.mx_expr.specs.Spelling.{Primary, Product, Operand, Spells, Begins}
 use Rattle.mx_expr.specs.Spelling.Constant.{hexadecimal as hexadecimal_digits}
 use Rattle.mx_expr.specs.Spelling.StrongOperator.{div, left, right}
@@ -29,29 +29,29 @@ listed-good : (front text part : List ℕ) (es : List Tree) (d : ℕ) (x : Tree)
 listed-good front text part es d x [] p s = subst (λ t. Spells t (es ++ x ∷ [])) (sym p.spelled) (operands text part es (x ∷ []) p.before (expression part x (whole-sum d part x s)))
 listed-good front text part es d x (w ∷ k) p s = refl
 
-product-list : (front text part : List ℕ) (es : List Tree) (k : List Waiting) (d : ℕ) (e : Tree) → Place front text part es → Plain k → After k d (λ t. Product t e) part → GoodList (listed (summed k e) es) front
+product-list : (front text part : List ℕ) (es : List Tree) (k : List Waiting) (d : ℕ) (e : Tree) → Place front text part es → Plain k → After k d (λ t. Product t e) part → GoodList (listed (with_weak k e) es) front
 product-list front text part es k d e p n a =
-    listed-good front text part es d (summed k e).0 (summed k e).1 p (subst (λ t. SumIs d t (summed k e)) (sym a.spelled) (sum-is k d a.front a.part e a.before n a.shape))
+    listed-good front text part es d (with_weak k e).0 (with_weak k e).1 p (subst (λ t. SumIs d t (with_weak k e)) (sym a.spelled) (sum-is k d a.front a.part e a.before n a.shape))
 
-primary-list : (front text part : List ℕ) (es : List Tree) (k : List Waiting) (d : ℕ) (e : Tree) → Place front text part es → After k d (λ t. Primary t e) part → GoodList (listed (summed (settled k e).1 (settled k e).0) es) front
+primary-list : (front text part : List ℕ) (es : List Tree) (k : List Waiting) (d : ℕ) (e : Tree) → Place front text part es → After k d (λ t. Primary t e) part → GoodList (listed (with_weak (with_strong k e).1 (with_strong k e).0) es) front
 primary-list front text part es k d e p a =
     let s = settle-is k d a.front a.part e a.before a.shape in
-    product-list front text part es (settled k e).1 d (settled k e).0 p s.plain (record { front = s.front; part = s.part; before = s.before; shape = s.whole; spelled = a.spelled ∙ s.spelled })
+    product-list front text part es (with_strong k e).1 d (with_strong k e).0 p s.plain (record { front = s.front; part = s.part; before = s.before; shape = s.whole; spelled = a.spelled ∙ s.spelled })
 
-list-good : (mode : Mode) (front text part : List ℕ) (es done : List Tree) (k : List Waiting) (d : ℕ) → Place front text part es → At mode k d done es part → GoodList (finish mode k done) front
+list-good : (mode : Mode) (front text part : List ℕ) (es done : List Tree) (k : List Waiting) (d : ℕ) → Place front text part es → At mode k d done es part → GoodList (field_end mode k done) front
 list-good operand front text part es done k d p a = refl
-list-good (whole e) front text part es done k d p a = subst (λ x. GoodList (listed (summed k e) x) front) (sym a.0) (product-list front text part es k d e p a.1 a.2)
+list-good (whole e) front text part es done k d p a = subst (λ x. GoodList (listed (with_weak k e) x) front) (sym a.0) (product-list front text part es k d e p a.1 a.2)
 list-good (digit n) front text part es done k d p a =
-    subst (λ x. GoodList (finish (digit n) k x) front) (sym a.0) (primary-list front text part es k d (number n) p (reshaped k d (OneDigit n) (λ x. Primary x (number n)) part (λ x h. decimal-primary n x (one-digit n x h)) a.1))
+    subst (λ x. GoodList (field_end (digit n) k x) front) (sym a.0) (primary-list front text part es k d (number n) p (reshaped k d (OneDigit n) (λ x. Primary x (number n)) part (λ x h. decimal-primary n x (one-digit n x h)) a.1))
 list-good (decimal n) front text part es done k d p a =
-    subst (λ x. GoodList (finish (decimal n) k x) front) (sym a.0) (primary-list front text part es k d (number n) p (reshaped k d (Digits is_digit 10 n) (λ x. Primary x (number n)) part (λ x h. decimal-primary n x h) a.1))
+    subst (λ x. GoodList (field_end (decimal n) k x) front) (sym a.0) (primary-list front text part es k d (number n) p (reshaped k d (Digits is_digit 10 n) (λ x. Primary x (number n)) part (λ x h. decimal-primary n x h) a.1))
 list-good hash front text part es done k d p a = refl
 list-good (hexadecimal n) front text part es done k d p a =
-    subst (λ x. GoodList (finish (hexadecimal n) k x) front) (sym a.0) (primary-list front text part es k d (number n) p (reshaped k d (Hashed n) (λ x. Primary x (number n)) part (λ x h. hexadecimal-primary n x h) a.1))
+    subst (λ x. GoodList (field_end (hexadecimal n) k x) front) (sym a.0) (primary-list front text part es k d (number n) p (reshaped k d (Hashed n) (λ x. Primary x (number n)) part (λ x h. hexadecimal-primary n x h) a.1))
 list-good quote front text part es done k d p a = refl
 list-good (character c) front text part es done k d p a = refl
 list-good (symbol word) front text part es done k d p a =
-    subst (λ x. GoodList (finish (symbol word) k x) front) (sym a.0) (primary-list front text part es k d (name word) p (reshaped k d (Letters word) (λ x. Primary x (name word)) part (λ x h. symbol-primary word x h) a.1))
+    subst (λ x. GoodList (field_end (symbol word) k x) front) (sym a.0) (primary-list front text part es k d (name word) p (reshaped k d (Letters word) (λ x. Primary x (name word)) part (λ x h. symbol-primary word x h) a.1))
 list-good (slash e) front text part es done k d p a = refl
 list-good (less e) front text part es done k d p a = refl
 list-good (greater e) front text part es done k d p a = refl
@@ -63,7 +63,7 @@ list-good closed front text part es done k d p a =
 placed : (s : State) (front : List ℕ) (h : Holds s front) → Place front h.text h.part h.es
 placed s front h = record { before = h.before; spelled = h.spelled }
 
-pub finish-good : (s : State) (front : List ℕ) → Holds s front → GoodList (finish s.mode s.waiting s.done) front
+pub finish-good : (s : State) (front : List ℕ) → Holds s front → GoodList (field_end s.mode s.waiting s.done) front
 finish-good s front h = list-good s.mode front h.text h.part h.es s.done s.waiting s.depth (placed s front h) h.stands
 
 -- Some spelled field begins with what was read.

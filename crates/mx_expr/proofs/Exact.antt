@@ -5,7 +5,7 @@ use Rattle.std.proofs.lemmas.Bool.{cases_lt}
 use Rattle.mx_expr.specs.declared.faults.ExprFault.{ExprFault}
 use Rattle.mx_expr.specs.declared.faults.ExprFault.TheVariants.{Syntax, TooWide, EmptyString}
 use Rattle.mx_expr.specs.Tree.{Tree, number}
-use Rattle.mx_expr.specs.Reading.{State, Read, passes, steps, finish, finished, reading, start}
+use Rattle.mx_expr.specs.Reading.{State, Read, passed_bound, steps, field_end, reading_end, reading, start}
 use Rattle.mx_expr.specs.Spelling.{Spells, Before, Begins, FaultAt, IsFirst, Faultless}
 use Rattle.mx_expr.specs.Spelling.Spells.{empty}
 use Rattle.mx_expr.specs.Spelling.FaultAt.{no_front, no_list}
@@ -52,7 +52,7 @@ read-through field t other there e (mark_seen m) =
     let stop = m.stops o.state o.read in
     absurd (cc)
 
-ends-ok : (r : Read) (list : List Tree) → finished r ≡ Ok list → (t : State) × (r ≡ Ok t) × (finish t.mode t.waiting t.done ≡ Ok list)
+ends-ok : (r : Read) (list : List Tree) → reading_end r ≡ Ok list → (t : State) × (r ≡ Ok t) × (field_end t.mode t.waiting t.done ≡ Ok list)
 ends-ok (Ok t) list h = (t, refl, h)
 ends-ok (Err f) list h = absurd (cc)
 
@@ -65,9 +65,9 @@ fault-as : (r : Result (List Tree) ExprFault) (field : List ℕ) (f : ExprFault)
 fault-as (Ok found) field f g e = absurd (cc)
 fault-as (Err x) field f g e = cc
 
-read-ok : (field : List ℕ) (t : State) (list : List Tree) → steps start field ≡ Ok t → finish t.mode t.waiting t.done ≡ Ok list → Spells field list × Faultless field
+read-ok : (field : List ℕ) (t : State) (list : List Tree) → steps start field ≡ Ok t → field_end t.mode t.waiting t.done ≡ Ok list → Spells field list × Faultless field
 read-ok field t list e h =
-    let spelled : Spells field list = listed-as (finish t.mode t.waiting t.done) field list (finish-good t field (held field t e)) h in
+    let spelled : Spells field list = listed-as (field_end t.mode t.waiting t.done) field list (finish-good t field (held field t e)) h in
     (spelled, λ f p g. (read-through field t f p e (seen g)).0 list spelled)
 
 none-at-empty : (f : ExprFault) (p : ℕ) → Seen [] f p → ⊥
@@ -85,13 +85,13 @@ reading-ok [] list h = let same : number 0 ∷ [] ≡ list = cc in (subst (Spell
 reading-ok (b ∷ bs) list h = let w = ends-ok (steps start (b ∷ bs)) list h in read-ok (b ∷ bs) w.0 list w.1 w.2
 
 -- the first fault, where every byte is read
-end-first : (field : List ℕ) (t : State) (f : ExprFault) → 0 < length field → steps start field ≡ Ok t → finish t.mode t.waiting t.done ≡ Err f → IsFirst field f
+end-first : (field : List ℕ) (t : State) (f : ExprFault) → 0 < length field → steps start field ≡ Ok t → field_end t.mode t.waiting t.done ≡ Err f → IsFirst field f
 end-first field t f some e h =
-    let syntax : f ≡ Syntax = fault-as (finish t.mode t.waiting t.done) field f (finish-good t field (held field t e)) h in
+    let syntax : f ≡ Syntax = fault-as (field_end t.mode t.waiting t.done) field f (finish-good t field (held field t e)) h in
     record {
       place = length field;
       stands = subst (λ x. FaultAt field x (length field)) (sym syntax) (no_list field (λ list g.
-          let all : Ok list ≡ finish t.mode t.waiting t.done = sym (spelled-free g) ∙ free-some field some ∙ ap finished (steps-moves start t field e) in
+          let all : Ok list ≡ field_end t.mode t.waiting t.done = sym (spelled-free g) ∙ free-some field some ∙ ap reading_end (steps-moves start t field e) in
           absurd (cc)));
       least = λ other there g. omega (arith, (read-through field t other there e (seen g)).1);
       only = λ other g. inl syntax;
@@ -105,9 +105,9 @@ refused t b more f h = rw h refl
 refused-front : (field front rest : List ℕ) (b : ℕ) (t : State) (f : ExprFault) → steps start front ≡ Ok t → move t b ≡ Err f → Begins (front ++ b ∷ []) → ⊥
 refused-front field front rest b t f e h (more, list, g) =
     let read : moves start ((front ++ b ∷ []) ++ more) ≡ Err f = ap (moves start) (around front more b) ∙ moves-on start t front (b ∷ more) (steps-moves start t front e) ∙ refused t b more f h in
-    let all : Ok list ≡ finished (moves start ((front ++ b ∷ []) ++ more)) =
+    let all : Ok list ≡ reading_end (moves start ((front ++ b ∷ []) ++ more)) =
     sym (spelled-free g) ∙ free-some ((front ++ b ∷ []) ++ more) (omega (arith, ap length (around front more b), length-append front (b ∷ more))) in
-    let none : finished (moves start ((front ++ b ∷ []) ++ more)) ≡ Err f = ap finished read in
+    let none : reading_end (moves start ((front ++ b ∷ []) ++ more)) ≡ Err f = ap reading_end read in
     absurd (cc)
 
 good-syntax : (r : Read) (front : List ℕ) (f : ExprFault) → Good r front → r ≡ Err f → f ≡ Syntax
@@ -148,7 +148,7 @@ good-ok : (r : Read) (front : List ℕ) (t : State) → Good r front → r ≡ O
 good-ok (Ok s) front t g e = let same : s ≡ t = cc in subst (λ x. Holds x front) same g
 good-ok (Err x) front t g e = absurd (cc)
 
-bound-begins : (field : List ℕ) (f : ExprFault) (q : Stops start field f) → passes q.state.mode q.state.depth q.b ≡ Some f → Begins (q.front ++ q.b ∷ [])
+bound-begins : (field : List ℕ) (f : ExprFault) (q : Stops start field f) → passed_bound q.state.mode q.state.depth q.b ≡ Some f → Begins (q.front ++ q.b ∷ [])
 bound-begins field f q e =
     let w = passes-moves q.state.mode q.state.waiting q.state.depth q.state.done q.b f e in
     begins w.0 (q.front ++ q.b ∷ []) (good-ok (move q.state q.b) (q.front ++ q.b ∷ []) w.0 (move-good q.state q.front q.b (held q.front q.state q.read)) w.1)
@@ -185,7 +185,7 @@ bound-only field f q e v p other there g (front_seen front rest b w h i) =
 bound-only field f q e v p other there g (list_seen h i) = absurd (omega (arith, g, i, p.near, ap length q.spelled, length-append q.front (q.b ∷ q.rest)))
 bound-only field f q e v p other there g (mark_seen m) = inr (before-refused field f other there q m e (omega (arith, g, m.place, p.near)))
 
-bound-first : (field : List ℕ) (f : ExprFault) (q : Stops start field f) → steps start field ≡ Err f → passes q.state.mode q.state.depth q.b ≡ Some f → IsFirst field f
+bound-first : (field : List ℕ) (f : ExprFault) (q : Stops start field f) → steps start field ≡ Err f → passed_bound q.state.mode q.state.depth q.b ≡ Some f → IsFirst field f
 bound-first field f q e h =
     let v = bound-begins field f q h in
     let p = passed q.state q.front q.rest q.b f (held q.front q.state q.read) h in
@@ -196,7 +196,7 @@ bound-first field f q e h =
       only = λ other g. bound-only field f q e v p other p.place refl (seen g);
     }
 
-ends-err : (r : Read) (field : List ℕ) (f : ExprFault) → finished r ≡ Err f → ((t : State) × (r ≡ Ok t) × (finish t.mode t.waiting t.done ≡ Err f)) ⊎ (r ≡ Err f)
+ends-err : (r : Read) (field : List ℕ) (f : ExprFault) → reading_end r ≡ Err f → ((t : State) × (r ≡ Ok t) × (field_end t.mode t.waiting t.done ≡ Err f)) ⊎ (r ≡ Err f)
 ends-err (Ok t) field f h = inl (t, refl, h)
 ends-err (Err x) field f h = inr (cc)
 
@@ -204,13 +204,13 @@ pub reading-err : (field : List ℕ) (f : ExprFault) → reading field ≡ Err f
 reading-err [] f h = absurd (cc)
 reading-err (b ∷ bs) f h =
     ⊎_elim
-    (λ (w : (t : State) × (steps start (b ∷ bs) ≡ Ok t) × (finish t.mode t.waiting t.done ≡ Err f)). end-first (b ∷ bs) w.0 f (omega arith) w.1 w.2)
+    (λ (w : (t : State) × (steps start (b ∷ bs) ≡ Ok t) × (field_end t.mode t.waiting t.done ≡ Err f)). end-first (b ∷ bs) w.0 f (omega arith) w.1 w.2)
     (λ (e : steps start (b ∷ bs) ≡ Err f).
     let q = stops start (b ∷ bs) f e in
     ⊎_elim
-    (λ (i : passes q.state.mode q.state.depth q.b ≡ Some f). bound-first (b ∷ bs) f q e i)
-    (λ (i : (passes q.state.mode q.state.depth q.b ≡ None) × (move q.state q.b ≡ Err f)). byte-first (b ∷ bs) f q e i.1)
-    (within-err (passes q.state.mode q.state.depth q.b) (move q.state q.b) f q.stop))
+    (λ (i : passed_bound q.state.mode q.state.depth q.b ≡ Some f). bound-first (b ∷ bs) f q e i)
+    (λ (i : (passed_bound q.state.mode q.state.depth q.b ≡ None) × (move q.state q.b ≡ Err f)). byte-first (b ∷ bs) f q e i.1)
+    (within-err (passed_bound q.state.mode q.state.depth q.b) (move q.state q.b) f q.stop))
     (ends-err (steps start (b ∷ bs)) (b ∷ bs) f h)
 
 -- A field has one first fault at most.

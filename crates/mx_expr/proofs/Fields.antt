@@ -1,6 +1,7 @@
 -- What is spelled is read: operands, fields, and what stands before a primary.
 use Rattle.std.proofs.Common.{◌≡◌, ℕ, ◌+◌, ◌<◌, List, [], ◌∷◌, ◌++◌, length, map, Bool, true, false, Some, Result, Ok, refl, sym, ap, ◌∙◌, arith, append_assoc, append-nil, length-append}
-use Rattle.std.specs.Prelude.{◌==◌, ◌&&◌, not}
+use Rattle.std.proofs.lemmas.Bool.{and_parts, not-true}
+use Rattle.std.specs.Prelude.{◌==◌}
 use Rattle.std.specs.List.{list_all}
 use Rattle.mx_expr.specs.declared.faults.ExprFault.{ExprFault}
 use Rattle.mx_expr.specs.declared.tree.BinOp.{BinOp}
@@ -8,7 +9,7 @@ use Rattle.mx_expr.specs.declared.tree.BinOp.TheVariants.{Div}
 use Rattle.mx_expr.specs.Tree.{Tree, number}
 use Rattle.mx_expr.specs.Bytes.{is_no_quote}
 use Rattle.mx_expr.specs.Reading as reading
-use Rattle.mx_expr.specs.Reading.{settled, Waiting, sign, strong, weak, parenthesis, Mode, operand, slash, closed, State, Read, summed, and_then, finish, finished, start, listed, next_operand}
+use Rattle.mx_expr.specs.Reading.{with_strong, Waiting, sign, strong, weak, parenthesis, Mode, operand, slash, closed, State, Read, with_weak, and_then, field_end, reading_end, start, listed, next_operand}
 use Rattle.mx_expr.specs.Spelling.{StrongOperator, Product, Sum, Operand, Operands, Spells, Before}
 use Rattle.mx_expr.specs.Spelling.StrongOperator.{mul, div, fraction, rem, left, right, and}
 use Rattle.mx_expr.specs.Spelling.Product.{primary, times}
@@ -20,25 +21,13 @@ use Rattle.mx_expr.specs.Spelling.Before.{first, sign as before_sign, parenthesi
 use Rattle.mx_expr.proofs.Moves.{st, move, moves, moves-on, moves-first, moves-none, moves-one, ends, goes-beyond, finish-ends}
 use Rattle.mx_expr.proofs.Forward.{Headed, primary-ended, sum-ended, primary-headed, sign-step, sign-other, slash-move, weak-step}
 
-and-first : (a b : Bool) → (a && b) ≡ true → a ≡ true
-and-first true b h = refl
-and-first false b h = h
-
-and-second : (a b : Bool) → (a && b) ≡ true → b ≡ true
-and-second true b h = h
-and-second false b h = absurd (cc)
-
-not-true : (a : Bool) → not a ≡ true → a ≡ false
-not-true true h = absurd (cc)
-not-true false h = refl
-
 in-string : (t : Bool) (bytes : List ℕ) (es : List Tree) → list_all is_no_quote bytes ≡ true →
     (u : Bool) × (moves (st (reading.string t) [] 0 es) bytes ≡ Ok (st (reading.string u) [] 0 (es ++ map number bytes)))
 in-string t [] es h = (t, moves-none _ ∙ ap (λ fs. Ok (st (reading.string t) [] 0 fs)) (sym (append-nil es)))
 in-string t (b ∷ bs) es h =
-    let other : (b == 34) ≡ false = not-true _ (and-first _ _ h) in
+    let other : (b == 34) ≡ false = not-true _ (and_parts _ _ h).0 in
     let step : move (st (reading.string t) [] 0 es) b ≡ Ok (st (reading.string false) [] 0 (es ++ number b ∷ [])) = rw other refl in
-    let later = in-string false bs (es ++ number b ∷ []) (and-second _ _ h) in
+    let later = in-string false bs (es ++ number b ∷ []) (and_parts _ _ h).1 in
     (later.0, moves-first _ _ b bs step ∙ later.1 ∙ ap (λ fs. Ok (st (reading.string later.0) [] 0 fs)) (append_assoc es (number b ∷ []) (map number bs)))
 
 -- An operand is read, and the field or the operand may end there.
@@ -47,7 +36,7 @@ pub record OperandRead (es : List Tree) (part : List ℕ) (fs : List Tree) : Typ
   pub rest : List Waiting
   pub done : List Tree
   pub read : moves (st operand [] 0 es) part ≡ Ok (st mode rest 0 done)
-  pub list : finish mode rest done ≡ Ok (es ++ fs)
+  pub list : field_end mode rest done ≡ Ok (es ++ fs)
   pub comma : move (st mode rest 0 done) 44 ≡ Ok (st operand [] 0 (es ++ fs))
 
 pub operand-read : {part : List ℕ} {fs : List Tree} → Operand part fs → (es : List Tree) → OperandRead es part fs
@@ -81,9 +70,9 @@ operands-read (more text part es fs h o) =
 -- a field, where constants and parentheses have no bound
 abbrev pub free : List ℕ → Result (List Tree) ExprFault
 free [] = Ok (number 0 ∷ [])
-free (b ∷ bs) = finished (moves start (b ∷ bs))
+free (b ∷ bs) = reading_end (moves start (b ∷ bs))
 
-pub free-some : (xs : List ℕ) → 0 < length xs → free xs ≡ finished (moves start xs)
+pub free-some : (xs : List ℕ) → 0 < length xs → free xs ≡ reading_end (moves start xs)
 free-some [] h = absurd (omega arith)
 free-some (b ∷ bs) h = refl
 
@@ -104,7 +93,7 @@ spelled-free empty = refl
 spelled-free (operands text part es fs h o) =
     let q = operand-read o es in
     let some = operand-some o in
-    free-some (text ++ part) (omega (arith, length-append text part)) ∙ ap finished (moves-on _ _ text part (operands-read h) ∙ q.read) ∙ q.list
+    free-some (text ++ part) (omega (arith, length-append text part)) ∙ ap reading_end (moves-on _ _ text part (operands-read h) ∙ q.read) ∙ q.list
 
 -- A field spells one list at most.
 same-ok : (x y : List Tree) (r : Result (List Tree) ExprFault) → r ≡ Ok x → r ≡ Ok y → x ≡ y
@@ -171,10 +160,10 @@ before-stood (before_parenthesis depth text h) =
 before-stood (before_strong depth text part word e op h g w) =
     let q = before-stood h in
     let p = primary-ended g q.k depth q.es in
-    let a = after-word word op p.mode p.rest (settled q.k e).1 (settled q.k e).0 depth q.es w p.ending in
+    let a = after-word word op p.mode p.rest (with_strong q.k e).1 (with_strong q.k e).0 depth q.es w p.ending in
     record {
       state = a.0;
-      k = strong op (settled q.k e).0 ∷ (settled q.k e).1;
+      k = strong op (with_strong q.k e).0 ∷ (with_strong q.k e).1;
       es = q.es;
       read = moves-on _ _ text (part ++ word) q.read ∙ wants-moves q.wants (part ++ word) (headed-on part word (primary-headed part e g)) ∙ moves-on _ _ part word p.read ∙ a.1;
       wants = a.2;
@@ -182,12 +171,12 @@ before-stood (before_strong depth text part word e op h g w) =
 before-stood (before_weak depth text part b e op h g w) =
     let q = before-stood h in
     let p = primary-ended g q.k depth q.es in
-    let s = summed (settled q.k e).1 (settled q.k e).0 in
+    let s = with_weak (with_strong q.k e).1 (with_strong q.k e).0 in
     record {
       state = st operand (weak op s.0 ∷ s.1) depth q.es;
       k = weak op s.0 ∷ s.1;
       es = q.es;
       read = moves-on _ _ text (part ++ b ∷ []) q.read ∙ wants-moves q.wants (part ++ b ∷ []) (headed-on part (b ∷ []) (primary-headed part e g)) ∙ moves-on _ _ part (b ∷ []) p.read
-          ∙ moves-one _ b ∙ weak-step b op p.mode p.rest (settled q.k e) depth q.es w p.ending;
+          ∙ moves-one _ b ∙ weak-step b op p.mode p.rest (with_strong q.k e) depth q.es w p.ending;
       wants = at_operand _ depth q.es;
     }

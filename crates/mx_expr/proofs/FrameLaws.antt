@@ -4,20 +4,20 @@ use Rattle.mx_expr.specs.declared.faults.ExprFault.{ExprFault}
 use Rattle.mx_expr.specs.declared.valuing.Frame.{Frame}
 use Rattle.mx_expr.specs.declared.valuing.Frame.TheVariants.{Operand, Left, Right}
 use Rattle.mx_expr.specs.Value.{Valued, Knowledge}
-use Rattle.mx_expr.specs.Frames.{passed, finished, nodes_of, nodes_left, FrameHasDigits, AllHaveDigits}
+use Rattle.mx_expr.specs.Frames.{value_through, value_after, nodes_of, nodes_left, FrameHasDigits, AllHaveDigits}
 
-pub finished-push : (k : Knowledge) (fs : List Frame) (f : Frame) (x : Valued) → finished k (fs ++ f ∷ []) x ≡ finished k fs (passed k f x)
+pub finished-push : (k : Knowledge) (fs : List Frame) (f : Frame) (x : Valued) → value_after k (fs ++ f ∷ []) x ≡ value_after k fs (value_through k f x)
 finished-push k [] f x = refl
-finished-push k (e ∷ fs) f x = ap (passed k e) (finished-push k fs f x)
+finished-push k (e ∷ fs) f x = ap (value_through k e) (finished-push k fs f x)
 
-passed-err : (k : Knowledge) (f : Frame) (e : ExprFault) → passed k f (Err e) ≡ Err e
+passed-err : (k : Knowledge) (f : Frame) (e : ExprFault) → value_through k f (Err e) ≡ Err e
 passed-err k (Operand op) e = refl
 passed-err k (Left op right) e = refl
 passed-err k (Right op left) e = refl
 
-pub finished-err : (k : Knowledge) (fs : List Frame) (e : ExprFault) → finished k fs (Err e) ≡ Err e
+pub finished-err : (k : Knowledge) (fs : List Frame) (e : ExprFault) → value_after k fs (Err e) ≡ Err e
 finished-err k [] e = refl
-finished-err k (f ∷ fs) e = ap (passed k f) (finished-err k fs e) ∙ passed-err k f e
+finished-err k (f ∷ fs) e = ap (value_through k f) (finished-err k fs e) ∙ passed-err k f e
 
 pub left-push : (fs : List Frame) (f : Frame) → nodes_left (fs ++ f ∷ []) ≡ nodes_left fs + nodes_of f
 left-push [] f = omega arith

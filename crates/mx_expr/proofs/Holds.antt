@@ -1,8 +1,8 @@
 -- What was read up to a state.
-use Rattle.std.proofs.Common.{◌≡◌, ℕ, ◌+◌, ◌-◌, ◌<◌, List, [], ◌∷◌, ◌++◌, length, map, Bool, true, false, cond, Option, Some, Ok, Err, refl, sym, ap, ◌∙◌, arith, append_assoc, append-nil, subst}
+use Rattle.std.proofs.Common.{◌≡◌, ℕ, ◌+◌, ◌-◌, ◌<◌, List, [], ◌∷◌, ◌++◌, length, map, Bool, true, false, Option, Some, Ok, Err, refl, sym, ap, ◌∙◌, arith, append_assoc, append-nil, subst}
 use Rattle.std.specs.Prelude.{◌==◌}
 use Rattle.std.specs.List.{list_all}
-use Rattle.std.proofs.lemmas.Bool.{eqb-true}
+use Rattle.std.proofs.lemmas.Bool.{cond_both, eqb-true}
 use Rattle.mx_expr.specs.declared.faults.ExprFault.TheVariants.{Syntax}
 use Rattle.mx_expr.specs.declared.tree.UnOp.{UnOp}
 use Rattle.mx_expr.specs.declared.tree.UnOp.TheVariants.{Plus, Minus, Not, Register}
@@ -10,7 +10,7 @@ use Rattle.mx_expr.specs.declared.tree.BinOp.{BinOp}
 use Rattle.mx_expr.specs.declared.tree.BinOp.TheVariants.{Mul, Rem, And, Add, Sub, Or, Xor}
 use Rattle.mx_expr.specs.Tree.{Tree, number, here}
 use Rattle.mx_expr.specs.Bytes.{is_digit, is_hexadecimal, is_letter, is_name_byte, is_no_quote, digit_value}
-use Rattle.mx_expr.specs.Reading.{settled, summed, Waiting, sign, strong, weak, parenthesis, Mode, operand, whole, digit, decimal, hash, hexadecimal, quote, character, symbol, slash, less, greater, string, closed, State, Read, wanted, wanted_mark, quoted, signed, completed, weakly, enclosed, listed, next_operand, weakly_or_end, strongly, after, beyond}
+use Rattle.mx_expr.specs.Reading.{with_strong, with_weak, Waiting, sign, strong, weak, parenthesis, Mode, operand, whole, digit, decimal, hash, hexadecimal, quote, character, symbol, slash, less, greater, string, closed, State, Read, primary_start, mark_start, string_start, signed, primary_end, weakly, enclosed, listed, next_operand, weakly_or_end, strongly, after, beyond}
 use Rattle.mx_expr.specs.Spelling.{digits_value, Sign, StrongOperator, WeakOperator, Primary, Product, Sum, Operands}
 use Rattle.mx_expr.specs.Spelling.Sign.{plus, minus, not as not_sign, register}
 use Rattle.mx_expr.specs.Spelling.StrongOperator.{mul, rem, and}
@@ -101,11 +101,6 @@ abbrev pub Good : Read → List ℕ → Type 0
 Good (Err f) front = f ≡ Syntax
 Good (Ok s) front = Holds s front
 
--- from what holds of either side of a choice
-pub chosen : {X : Type 0} (P : X → Type 0) (b : Bool) (x y : X) → (b ≡ true → P x) → (b ≡ false → P y) → P (cond b x y)
-chosen P true x y h k = h refl
-chosen P false x y h k = k refl
-
 is-byte : (b c : ℕ) → (b == c) ≡ true → c ≡ b
 is-byte b c h = sym (eqb-true b c h)
 
@@ -128,17 +123,17 @@ begun : (k : List Waiting) (d : ℕ) (Shape : List ℕ → Type 0) (text : List 
 begun k d Shape text b h o = record { front = text; part = b ∷ []; before = h; shape = o; spelled = refl }
 
 -- a primary that is complete
-pub completes : (front text part : List ℕ) (es : List Tree) (k : List Waiting) (d : ℕ) (e : Tree) → Place front text part es → After k d (λ t. Primary t e) part → Good (completed e k d es) front
+pub completes : (front text part : List ℕ) (es : List Tree) (k : List Waiting) (d : ℕ) (e : Tree) → Place front text part es → After k d (λ t. Primary t e) part → Good (primary_end e k d es) front
 completes front text part es k d e p a =
     let s = settle-is k d a.front a.part e a.before a.shape in
-    holds front text part es es (whole (settled k e).0) (settled k e).1 d p (refl, s.plain, record { front = s.front; part = s.part; before = s.before; shape = s.whole; spelled = a.spelled ∙ s.spelled })
+    holds front text part es es (whole (with_strong k e).0) (with_strong k e).1 d p (refl, s.plain, record { front = s.front; part = s.part; before = s.before; shape = s.whole; spelled = a.spelled ∙ s.spelled })
 
 -- where a primary is wanted
 sign-good : (front text part : List ℕ) (es : List Tree) (k : List Waiting) (d b : ℕ) (op : UnOp) → Place front text (part ++ b ∷ []) es → Partial k d part → Sign b op → Good (signed (Some op) k d es) front
 sign-good front text part es k d b op p h s =
     holds front text (part ++ b ∷ []) es es operand (sign op ∷ k) d p (refl, record { front = part; b = b; operator = s; before = h; spelled = refl })
 
-quoted-good : (front text part : List ℕ) (es : List Tree) (k : List Waiting) (d : ℕ) → Place front text (part ++ 34 ∷ []) es → Partial k d part → Good (quoted k d es) front
+quoted-good : (front text part : List ℕ) (es : List Tree) (k : List Waiting) (d : ℕ) → Place front text (part ++ 34 ∷ []) es → Partial k d part → Good (string_start k d es) front
 quoted-good front text part es [] d p h =
     holds front text (part ++ 34 ∷ []) es es (string true) [] d p
     (record { nothing = refl; shallow = h.0; bytes = []; all = refl; listed = sym (append-nil es); shape = (ap (λ t. t ++ 34 ∷ []) h.1, refl) })
@@ -147,28 +142,28 @@ quoted-good front text part es (w ∷ k) d p h = refl
 pub at-byte : (front text part : List ℕ) (es : List Tree) (b c : ℕ) → (b == c) ≡ true → Place front text (part ++ b ∷ []) es → Place front text (part ++ c ∷ []) es
 at-byte front text part es b c h p = subst (λ x. Place front text (part ++ x ∷ []) es) (eqb-true b c h) p
 
-mark-good : (front text part : List ℕ) (es : List Tree) (k : List Waiting) (d b : ℕ) → Place front text (part ++ b ∷ []) es → Partial k d part → Good (wanted_mark b k d es) front
+mark-good : (front text part : List ℕ) (es : List Tree) (k : List Waiting) (d b : ℕ) → Place front text (part ++ b ∷ []) es → Partial k d part → Good (mark_start b k d es) front
 mark-good front text part es k d b p h =
     let P : Read → Type 0 = λ r. Good r front in
     let Q : Option UnOp → Type 0 = λ o. Good (signed o k d es) front in
-    chosen P (b == 35) _ _ (λ t. holds front text (part ++ 35 ∷ []) es es hash k d (at-byte front text part es b 35 t p) (refl, begun k d (λ t. t ≡ 35 ∷ []) part 35 h refl)) (λ _.
-    chosen P (b == 39) _ _ (λ t. holds front text (part ++ 39 ∷ []) es es quote k d (at-byte front text part es b 39 t p) (refl, begun k d (λ t. t ≡ 39 ∷ []) part 39 h refl)) (λ _.
-    chosen P (b == 64) _ _ (λ t. completes front text (part ++ 64 ∷ []) es k d here (at-byte front text part es b 64 t p) (begun k d (λ t. Primary t here) part 64 h place)) (λ _.
-    chosen P (b == 40) _ _ (λ t. holds front text (part ++ 40 ∷ []) es es operand (parenthesis ∷ k) (d + 1) (at-byte front text part es b 40 t p) (refl, record { below = d; deeper = refl; front = part; before = h; spelled = refl })) (λ _.
-    chosen P (b == 34) _ _ (λ t. quoted-good front text part es k d (at-byte front text part es b 34 t p) h) (λ _.
-    chosen Q (b == 43) _ _ (λ t. sign-good front text part es k d 43 Plus (at-byte front text part es b 43 t p) h plus) (λ _.
-    chosen Q (b == 45) _ _ (λ t. sign-good front text part es k d 45 Minus (at-byte front text part es b 45 t p) h minus) (λ _.
-    chosen Q (b == 126) _ _ (λ t. sign-good front text part es k d 126 Not (at-byte front text part es b 126 t p) h not_sign) (λ _.
-    chosen Q (b == 36) _ _ (λ t. sign-good front text part es k d 36 Register (at-byte front text part es b 36 t p) h register) (λ _. refl)))))))))
+    cond_both (b == 35) _ _ P (λ t. holds front text (part ++ 35 ∷ []) es es hash k d (at-byte front text part es b 35 t p) (refl, begun k d (λ t. t ≡ 35 ∷ []) part 35 h refl)) (λ _.
+    cond_both (b == 39) _ _ P (λ t. holds front text (part ++ 39 ∷ []) es es quote k d (at-byte front text part es b 39 t p) (refl, begun k d (λ t. t ≡ 39 ∷ []) part 39 h refl)) (λ _.
+    cond_both (b == 64) _ _ P (λ t. completes front text (part ++ 64 ∷ []) es k d here (at-byte front text part es b 64 t p) (begun k d (λ t. Primary t here) part 64 h place)) (λ _.
+    cond_both (b == 40) _ _ P (λ t. holds front text (part ++ 40 ∷ []) es es operand (parenthesis ∷ k) (d + 1) (at-byte front text part es b 40 t p) (refl, record { below = d; deeper = refl; front = part; before = h; spelled = refl })) (λ _.
+    cond_both (b == 34) _ _ P (λ t. quoted-good front text part es k d (at-byte front text part es b 34 t p) h) (λ _.
+    cond_both (b == 43) _ _ Q (λ t. sign-good front text part es k d 43 Plus (at-byte front text part es b 43 t p) h plus) (λ _.
+    cond_both (b == 45) _ _ Q (λ t. sign-good front text part es k d 45 Minus (at-byte front text part es b 45 t p) h minus) (λ _.
+    cond_both (b == 126) _ _ Q (λ t. sign-good front text part es k d 126 Not (at-byte front text part es b 126 t p) h not_sign) (λ _.
+    cond_both (b == 36) _ _ Q (λ t. sign-good front text part es k d 36 Register (at-byte front text part es b 36 t p) h register) (λ _. refl)))))))))
 
 pub value-of-digit : (b : ℕ) → is_digit b ≡ true → b - 48 ≡ digit_value b
 value-of-digit b h = rw h refl
 
-pub wanted-good : (front text part : List ℕ) (es : List Tree) (k : List Waiting) (d b : ℕ) → Place front text (part ++ b ∷ []) es → Partial k d part → Good (wanted b k d es) front
+pub wanted-good : (front text part : List ℕ) (es : List Tree) (k : List Waiting) (d b : ℕ) → Place front text (part ++ b ∷ []) es → Partial k d part → Good (primary_start b k d es) front
 wanted-good front text part es k d b p h =
     let P : Read → Type 0 = λ r. Good r front in
-    chosen P (is_digit b) _ _ (λ t. holds front text (part ++ b ∷ []) es es (digit (b - 48)) k d p (refl, begun k d (OneDigit (b - 48)) part b h (record { b = b; is = t; value = value-of-digit b t; spelled = refl }))) (λ _.
-    chosen P (is_letter b) _ _ (λ t. holds front text (part ++ b ∷ []) es es (symbol (b ∷ [])) k d p (refl, begun k d (Letters (b ∷ [])) part b h (record { b = b; bs = []; is = t; all = refl; value = refl; spelled = refl }))) (λ _.
+    cond_both (is_digit b) _ _ P (λ t. holds front text (part ++ b ∷ []) es es (digit (b - 48)) k d p (refl, begun k d (OneDigit (b - 48)) part b h (record { b = b; is = t; value = value-of-digit b t; spelled = refl }))) (λ _.
+    cond_both (is_letter b) _ _ P (λ t. holds front text (part ++ b ∷ []) es es (symbol (b ∷ [])) k d p (refl, begun k d (Letters (b ∷ [])) part b h (record { b = b; bs = []; is = t; all = refl; value = refl; spelled = refl }))) (λ _.
     mark-good front text part es k d b p h))
 
 -- after a product
@@ -194,7 +189,7 @@ enclosed-good front text part es d x (weak op l ∷ k) p s = refl
 enclosed-good front text part es d x (parenthesis ∷ k) p s =
     let o = s.before in
     let less : d - 1 ≡ o.below = omega (arith, o.deeper) in
-    subst (λ n. Good (completed x k n es) front) (sym less)
+    subst (λ n. Good (primary_end x k n es) front) (sym less)
     (completes front text (part ++ 41 ∷ []) es k o.below x p
     (record {
       front = o.front;
@@ -223,23 +218,23 @@ pub after-good : (front text part : List ℕ) (es : List Tree) (k : List Waiting
 after-good front text part es k d b e p n a =
     let P : Read → Type 0 = λ r. Good r front in
     let S : Option BinOp → Type 0 = λ o. Good (strongly o b e k d es) front in
-    let q : Tree × List Waiting = summed k e in
+    let q : Tree × List Waiting = with_weak k e in
     let W : Option BinOp → Type 0 = λ o. Good (weakly_or_end o b q d es) front in
     let s : SumIs d part q = subst (λ t. SumIs d t q) (sym a.spelled) (sum-is k d a.front a.part e a.before n a.shape) in
-    chosen S (b == 42) _ _ (λ t. strong-good front text part es k d 42 e Mul (at-byte front text part es b 42 t p) n a mul) (λ _.
-    chosen S (b == 37) _ _ (λ t. strong-good front text part es k d 37 e Rem (at-byte front text part es b 37 t p) n a rem) (λ _.
-    chosen S (b == 38) _ _ (λ t. strong-good front text part es k d 38 e And (at-byte front text part es b 38 t p) n a and) (λ _.
-    chosen P (b == 47) _ _ (λ t. holds front text (part ++ 47 ∷ []) es es (slash e) k d (at-byte front text part es b 47 t p) (refl, n, operating k d 47 e part a)) (λ _.
-    chosen P (b == 60) _ _ (λ t. holds front text (part ++ 60 ∷ []) es es (less e) k d (at-byte front text part es b 60 t p) (refl, n, operating k d 60 e part a)) (λ _.
-    chosen P (b == 62) _ _ (λ t. holds front text (part ++ 62 ∷ []) es es (greater e) k d (at-byte front text part es b 62 t p) (refl, n, operating k d 62 e part a)) (λ _.
-    chosen W (b == 43) _ _ (λ t. weakly-good front text part es d 43 Add q (at-byte front text part es b 43 t p) s add) (λ _.
-    chosen W (b == 45) _ _ (λ t. weakly-good front text part es d 45 Sub q (at-byte front text part es b 45 t p) s sub) (λ _.
-    chosen W (b == 124) _ _ (λ t. weakly-good front text part es d 124 Or q (at-byte front text part es b 124 t p) s or) (λ _.
-    chosen W (b == 94) _ _ (λ t. weakly-good front text part es d 94 Xor q (at-byte front text part es b 94 t p) s xor) (λ _.
-    chosen P (b == 41) _ _ (λ t. enclosed-good front text part es d q.0 q.1 (at-byte front text part es b 41 t p) s) (λ _.
-    chosen P (b == 44) _ _ (λ t. next-good front text part es d q.0 q.1 (at-byte front text part es b 44 t p) s) (λ _. refl))))))))))))
+    cond_both (b == 42) _ _ S (λ t. strong-good front text part es k d 42 e Mul (at-byte front text part es b 42 t p) n a mul) (λ _.
+    cond_both (b == 37) _ _ S (λ t. strong-good front text part es k d 37 e Rem (at-byte front text part es b 37 t p) n a rem) (λ _.
+    cond_both (b == 38) _ _ S (λ t. strong-good front text part es k d 38 e And (at-byte front text part es b 38 t p) n a and) (λ _.
+    cond_both (b == 47) _ _ P (λ t. holds front text (part ++ 47 ∷ []) es es (slash e) k d (at-byte front text part es b 47 t p) (refl, n, operating k d 47 e part a)) (λ _.
+    cond_both (b == 60) _ _ P (λ t. holds front text (part ++ 60 ∷ []) es es (less e) k d (at-byte front text part es b 60 t p) (refl, n, operating k d 60 e part a)) (λ _.
+    cond_both (b == 62) _ _ P (λ t. holds front text (part ++ 62 ∷ []) es es (greater e) k d (at-byte front text part es b 62 t p) (refl, n, operating k d 62 e part a)) (λ _.
+    cond_both (b == 43) _ _ W (λ t. weakly-good front text part es d 43 Add q (at-byte front text part es b 43 t p) s add) (λ _.
+    cond_both (b == 45) _ _ W (λ t. weakly-good front text part es d 45 Sub q (at-byte front text part es b 45 t p) s sub) (λ _.
+    cond_both (b == 124) _ _ W (λ t. weakly-good front text part es d 124 Or q (at-byte front text part es b 124 t p) s or) (λ _.
+    cond_both (b == 94) _ _ W (λ t. weakly-good front text part es d 94 Xor q (at-byte front text part es b 94 t p) s xor) (λ _.
+    cond_both (b == 41) _ _ P (λ t. enclosed-good front text part es d q.0 q.1 (at-byte front text part es b 41 t p) s) (λ _.
+    cond_both (b == 44) _ _ P (λ t. next-good front text part es d q.0 q.1 (at-byte front text part es b 44 t p) s) (λ _. refl))))))))))))
 
 pub beyond-good : (front text part : List ℕ) (es : List Tree) (k : List Waiting) (d b : ℕ) (e : Tree) → Place front text (part ++ b ∷ []) es → After k d (λ t. Primary t e) part → Good (beyond b e k d es) front
 beyond-good front text part es k d b e p a =
     let s = settle-is k d a.front a.part e a.before a.shape in
-    after-good front text part es (settled k e).1 d b (settled k e).0 p s.plain (record { front = s.front; part = s.part; before = s.before; shape = s.whole; spelled = a.spelled ∙ s.spelled })
+    after-good front text part es (with_strong k e).1 d b (with_strong k e).0 p s.plain (record { front = s.front; part = s.part; before = s.before; shape = s.whole; spelled = a.spelled ∙ s.spelled })

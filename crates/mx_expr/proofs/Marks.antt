@@ -2,13 +2,13 @@
 use Rattle.std.proofs.Common.{◌≡◌, ℕ, ◌+◌, ◌-◌, ◌*◌, ◌^◌, ◌<◌, ◌≤◌, List, [], ◌∷◌, ◌++◌, length, Bool, true, false, cond, Some, None, Ok, Err, refl, sym, ap, ◌∙◌, arith, append_assoc, subst, ⊎_elim, inl, inr}
 use Rattle.std.specs.Prelude.{◌==◌, ◌&&◌, nat_le, fold, ◌⊎◌}
 use Rattle.std.specs.List.{list_all}
-use Rattle.std.proofs.lemmas.Bool.{le-leb, cases_lt}
+use Rattle.std.proofs.lemmas.Bool.{and_parts, le-leb, cases_lt}
 use Rattle.std.proofs.lemmas.Bool.Decides.{nat_tests}
 use Rattle.mx_expr.specs.declared.faults.ExprFault.{ExprFault}
 use Rattle.mx_expr.specs.declared.faults.ExprFault.TheVariants.{Syntax, TooWide, TooDeep, EmptyString}
 use Rattle.mx_expr.specs.Tree.{Tree, number}
 use Rattle.mx_expr.specs.Bytes.{is_digit, is_hexadecimal, digit_value}
-use Rattle.mx_expr.specs.Reading.{Waiting, Mode, operand, digit, decimal, hash, hexadecimal, slash, string, State, settled, step, steps, within, start}
+use Rattle.mx_expr.specs.Reading.{Waiting, Mode, operand, digit, decimal, hash, hexadecimal, slash, string, State, with_strong, step, steps, within, start}
 use Rattle.mx_expr.specs.Spelling.{digits_value, Constant, Operands, Spells, Before, Begins, FaultAt}
 use Rattle.mx_expr.specs.Spelling.Constant.{decimal as decimal_digits, hexadecimal as hexadecimal_digits}
 use Rattle.mx_expr.specs.Spelling.FaultAt.{no_front, no_list, too_wide as stands_wide, too_deep as stands_deep, empty_string as stands_empty}
@@ -52,21 +52,13 @@ hexadecimal-small b h = grind (arith, nat_tests)
 value-small : (b : ℕ) → digit_value b ≤ b
 value-small b = grind (arith, nat_tests)
 
-and-first : (a b : Bool) → (a && b) ≡ true → a ≡ true
-and-first true b h = refl
-and-first false b h = h
-
-and-second : (a b : Bool) → (a && b) ≡ true → b ≡ true
-and-second true b h = h
-and-second false b h = absurd (cc)
-
 pub wide-stops : {s : State} {k : List Waiting} {d : ℕ} {es : List Tree} → Wants s k d es → (text rest : List ℕ) (n : ℕ) → Constant text n → 2 ^ 64 ≤ n → steps s (text ++ rest) ≡ Err TooWide
 wide-stops w text rest n (decimal_digits [] some all) h = absurd (omega arith)
-wide-stops w text rest n (decimal_digits (b ∷ []) some all) h = let small : digit_value b < 10 = digit-small b (and-first _ _ all) in absurd (omega (arith, h, small))
+wide-stops w text rest n (decimal_digits (b ∷ []) some all) h = let small : digit_value b < 10 = digit-small b (and_parts _ _ all).0 in absurd (omega (arith, h, small))
 wide-stops {s = s} {k = k} {d = d} {es = es} w text rest n (decimal_digits (b ∷ c ∷ bs) some all) h =
-    let one : is_digit b ≡ true = and-first _ _ all in
-    let later : list_all is_digit (c ∷ bs) ≡ true = and-second (is_digit b) (list_all is_digit (c ∷ bs)) all in
-    let two : is_digit c ≡ true = and-first (is_digit c) (list_all is_digit bs) later in
+    let one : is_digit b ≡ true = (and_parts _ _ all).0 in
+    let later : list_all is_digit (c ∷ bs) ≡ true = (and_parts (is_digit b) (list_all is_digit (c ∷ bs)) all).1 in
+    let two : is_digit c ≡ true = (and_parts (is_digit c) (list_all is_digit bs) later).0 in
     let others = digit-is b one in
     let first : step s b ≡ Ok (st (digit (b - 48)) k d es) = step-wants w b others.0 others.1 ∙ rw one refl in
     let e : b - 48 ≡ 0 * 10 + digit_value b = omega (arith, value-of-digit b one) in
@@ -74,17 +66,17 @@ wide-stops {s = s} {k = k} {d = d} {es = es} w text rest n (decimal_digits (b �
     let small : digit_value b < 10 = digit-small b one in
     let small2 : digit_value c < 10 = digit-small c two in
     let h2 : 2 ^ 64 ≤ fold (λ v x. v * 10 + digit_value x) ((b - 48) * 10 + digit_value c) bs = subst (λ v. 2 ^ 64 ≤ fold (λ v x. v * 10 + digit_value x) (v * 10 + digit_value c) bs) (sym e) h in
-    let third : steps (st (decimal ((b - 48) * 10 + digit_value c)) k d es) (bs ++ rest) ≡ Err TooWide = wide-decimal ((b - 48) * 10 + digit_value c) bs rest k d es (and-second _ _ later) (omega (arith, e, small, small2)) h2 in
+    let third : steps (st (decimal ((b - 48) * 10 + digit_value c)) k d es) (bs ++ rest) ≡ Err TooWide = wide-decimal ((b - 48) * 10 + digit_value c) bs rest k d es (and_parts _ _ later).1 (omega (arith, e, small, small2)) h2 in
     steps-first _ _ b (c ∷ (bs ++ rest)) first ∙ steps-first _ _ c (bs ++ rest) second ∙ third
 wide-stops w text rest n (hexadecimal_digits [] some all) h = absurd (omega arith)
 wide-stops {s = s} {k = k} {d = d} {es = es} w text rest n (hexadecimal_digits (b ∷ bs) some all) h =
-    let one : is_hexadecimal b ≡ true = and-first _ _ all in
+    let one : is_hexadecimal b ≡ true = (and_parts _ _ all).0 in
     let first : step s 35 ≡ Ok (st hash k d es) = step-wants w 35 refl refl in
     let second : step (st hash k d es) b ≡ Ok (st (hexadecimal (digit_value b)) k d es) = rw one refl in
     let e : digit_value b ≡ 0 * 16 + digit_value b = omega arith in
     let h2 : 2 ^ 64 ≤ fold (λ v x. v * 16 + digit_value x) (digit_value b) bs = subst (λ v. 2 ^ 64 ≤ fold (λ v x. v * 16 + digit_value x) v bs) (sym e) h in
     steps-first _ _ 35 (b ∷ (bs ++ rest)) first ∙ steps-first _ _ b (bs ++ rest) second
-    ∙ wide-hexadecimal (digit_value b) bs rest k d es (and-second _ _ all) (omega (arith, value-small b, hexadecimal-small b one)) h2
+    ∙ wide-hexadecimal (digit_value b) bs rest k d es (and_parts _ _ all).1 (omega (arith, value-small b, hexadecimal-small b one)) h2
 
 deep-stops : {s : State} {k : List Waiting} {d : ℕ} {es : List Tree} → Wants s k d es → (rest : List ℕ) → 255 ≤ d → steps s (40 ∷ rest) ≡ Err TooDeep
 deep-stops (at_operand k d es) rest h = let t : nat_le 255 d ≡ true = le-leb 255 d h in steps-refused _ TooDeep 40 rest (rw t refl)
@@ -130,7 +122,7 @@ no-primary {s = s} {t = t} {k = k} {d = d} {es = es} w v text front rest n c e h
     counted (m, q) =
         let o = constant-ended front m k d es q in
         let same : t ≡ st o.mode o.rest d es = same-state t (st o.mode o.rest d es) (moves s front) r (wants-moves w front (constant-headed front m q) ∙ o.read) in
-        let some : ends t.mode t.waiting ≡ Some (settled k (number m)) = ap (λ x. ends x.mode x.waiting) same ∙ o.ending in
+        let some : ends t.mode t.waiting ≡ Some (with_strong k (number m)) = ap (λ x. ends x.mode x.waiting) same ∙ o.ending in
         let none = wants-ends v in
         absurd (cc)
 

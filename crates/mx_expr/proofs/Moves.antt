@@ -1,26 +1,27 @@
 -- Reading where constants and parentheses have no bound.
 use Rattle.std.proofs.Common.{◌≡◌, ℕ, List, [], ◌∷◌, ◌++◌, false, Option, Some, None, Ok, Err, refl, sym, ap, ◌∙◌, arith}
+use Rattle.std.proofs.lemmas.Option.{same_Some}
 use Rattle.std.specs.Prelude.{◌==◌}
 use Rattle.std.proofs.lemmas.Bool.Decides.{nat_tests}
 use Rattle.mx_expr.specs.Tree.{Tree, number, name}
 use Rattle.mx_expr.specs.Bytes.{is_digit, is_hexadecimal, is_name_byte}
-use Rattle.mx_expr.specs.Reading.{Waiting, Mode, operand, whole, digit, decimal, hash, hexadecimal, quote, character, symbol, slash, less, greater, string, closed, State, Read, and_then, moved, settled, summed, after, listed, finish}
+use Rattle.mx_expr.specs.Reading.{Waiting, Mode, operand, whole, digit, decimal, hash, hexadecimal, quote, character, symbol, slash, less, greater, string, closed, State, Read, and_then, next_reading, with_strong, with_weak, after, listed, field_end}
 
 abbrev pub st : Mode → List Waiting → ℕ → List Tree → State
 st mode k d es = record { mode = mode; waiting = k; depth = d; done = es }
 
 abbrev pub move : State → ℕ → Read
-move s b = moved s.mode s.waiting s.depth s.done b
+move s b = next_reading s.mode s.waiting s.depth s.done b
 
 unfoldable pub moves : State → List ℕ → Read
 moves s [] = Ok s
 moves s (b ∷ bs) = and_then (move s b) (λ t. moves t bs)
 
-and-then-then : (r : Read) (f g : State → Read) → and_then (and_then r f) g ≡ and_then r (λ s. and_then (f s) g)
+pub and-then-then : (r : Read) (f g : State → Read) → and_then (and_then r f) g ≡ and_then r (λ s. and_then (f s) g)
 and-then-then (Ok s) f g = refl
 and-then-then (Err e) f g = refl
 
-and-then-same : (r : Read) (f g : State → Read) → ((s : State) → f s ≡ g s) → and_then r f ≡ and_then r g
+pub and-then-same : (r : Read) (f g : State → Read) → ((s : State) → f s ≡ g s) → and_then r f ≡ and_then r g
 and-then-same (Ok s) f g h = h s
 and-then-same (Err e) f g h = refl
 
@@ -53,21 +54,18 @@ moves-one s b = one (move s b)
 abbrev pub ends : Mode → List Waiting → Option (Tree × List Waiting)
 ends operand k = None
 ends (whole e) k = Some (e, k)
-ends (digit n) k = Some (settled k (number n))
-ends (decimal n) k = Some (settled k (number n))
+ends (digit n) k = Some (with_strong k (number n))
+ends (decimal n) k = Some (with_strong k (number n))
 ends hash k = None
-ends (hexadecimal n) k = Some (settled k (number n))
+ends (hexadecimal n) k = Some (with_strong k (number n))
 ends quote k = None
 ends (character c) k = None
-ends (symbol text) k = Some (settled k (name text))
+ends (symbol text) k = Some (with_strong k (name text))
 ends (slash e) k = None
 ends (less e) k = None
 ends (greater e) k = None
 ends (string empty) k = None
 ends closed k = None
-
-same-some : {A : Type 0} (x y : A) → Some x ≡ Some y → x ≡ y
-same-some x y h = cc
 
 no-digit : (b : ℕ) → is_name_byte b ≡ false → is_digit b ≡ false
 no-digit b h = grind (arith, nat_tests)
@@ -82,32 +80,32 @@ no-next : (b : ℕ) → is_name_byte b ≡ false → (b == 70) ≡ false
 no-next b h = grind (arith, nat_tests)
 
 -- A byte that is no letter and no digit ends a primary.
-pub goes-beyond : (mode : Mode) (k : List Waiting) (p : Tree × List Waiting) (d : ℕ) (es : List Tree) (b : ℕ) → ends mode k ≡ Some p → is_name_byte b ≡ false → moved mode k d es b ≡ after b p d es
+pub goes-beyond : (mode : Mode) (k : List Waiting) (p : Tree × List Waiting) (d : ℕ) (es : List Tree) (b : ℕ) → ends mode k ≡ Some p → is_name_byte b ≡ false → next_reading mode k d es b ≡ after b p d es
 goes-beyond operand k p d es b e w = absurd (cc)
-goes-beyond (whole x) k p d es b e w = ap (λ q. after b q d es) (same-some _ _ e)
-goes-beyond (digit n) k p d es b e w = rw (no-digit b w, no-last b w, no-next b w) (ap (λ q. after b q d es) (same-some _ _ e))
-goes-beyond (decimal n) k p d es b e w = rw (no-digit b w) (ap (λ q. after b q d es) (same-some _ _ e))
+goes-beyond (whole x) k p d es b e w = ap (λ q. after b q d es) (same_Some _ _ e)
+goes-beyond (digit n) k p d es b e w = rw (no-digit b w, no-last b w, no-next b w) (ap (λ q. after b q d es) (same_Some _ _ e))
+goes-beyond (decimal n) k p d es b e w = rw (no-digit b w) (ap (λ q. after b q d es) (same_Some _ _ e))
 goes-beyond hash k p d es b e w = absurd (cc)
-goes-beyond (hexadecimal n) k p d es b e w = rw (no-hexadecimal b w) (ap (λ q. after b q d es) (same-some _ _ e))
+goes-beyond (hexadecimal n) k p d es b e w = rw (no-hexadecimal b w) (ap (λ q. after b q d es) (same_Some _ _ e))
 goes-beyond quote k p d es b e w = absurd (cc)
 goes-beyond (character c) k p d es b e w = absurd (cc)
-goes-beyond (symbol text) k p d es b e w = rw w (ap (λ q. after b q d es) (same-some _ _ e))
+goes-beyond (symbol text) k p d es b e w = rw w (ap (λ q. after b q d es) (same_Some _ _ e))
 goes-beyond (slash x) k p d es b e w = absurd (cc)
 goes-beyond (less x) k p d es b e w = absurd (cc)
 goes-beyond (greater x) k p d es b e w = absurd (cc)
 goes-beyond (string x) k p d es b e w = absurd (cc)
 goes-beyond closed k p d es b e w = absurd (cc)
 
-pub finish-ends : (mode : Mode) (k : List Waiting) (p : Tree × List Waiting) (es : List Tree) → ends mode k ≡ Some p → finish mode k es ≡ listed (summed p.1 p.0) es
+pub finish-ends : (mode : Mode) (k : List Waiting) (p : Tree × List Waiting) (es : List Tree) → ends mode k ≡ Some p → field_end mode k es ≡ listed (with_weak p.1 p.0) es
 finish-ends operand k p es e = absurd (cc)
-finish-ends (whole x) k p es e = ap (λ (q : Tree × List Waiting). listed (summed q.1 q.0) es) (same-some _ _ e)
-finish-ends (digit n) k p es e = ap (λ (q : Tree × List Waiting). listed (summed q.1 q.0) es) (same-some _ _ e)
-finish-ends (decimal n) k p es e = ap (λ (q : Tree × List Waiting). listed (summed q.1 q.0) es) (same-some _ _ e)
+finish-ends (whole x) k p es e = ap (λ (q : Tree × List Waiting). listed (with_weak q.1 q.0) es) (same_Some _ _ e)
+finish-ends (digit n) k p es e = ap (λ (q : Tree × List Waiting). listed (with_weak q.1 q.0) es) (same_Some _ _ e)
+finish-ends (decimal n) k p es e = ap (λ (q : Tree × List Waiting). listed (with_weak q.1 q.0) es) (same_Some _ _ e)
 finish-ends hash k p es e = absurd (cc)
-finish-ends (hexadecimal n) k p es e = ap (λ (q : Tree × List Waiting). listed (summed q.1 q.0) es) (same-some _ _ e)
+finish-ends (hexadecimal n) k p es e = ap (λ (q : Tree × List Waiting). listed (with_weak q.1 q.0) es) (same_Some _ _ e)
 finish-ends quote k p es e = absurd (cc)
 finish-ends (character c) k p es e = absurd (cc)
-finish-ends (symbol text) k p es e = ap (λ (q : Tree × List Waiting). listed (summed q.1 q.0) es) (same-some _ _ e)
+finish-ends (symbol text) k p es e = ap (λ (q : Tree × List Waiting). listed (with_weak q.1 q.0) es) (same_Some _ _ e)
 finish-ends (slash x) k p es e = absurd (cc)
 finish-ends (less x) k p es e = absurd (cc)
 finish-ends (greater x) k p es e = absurd (cc)

@@ -3,7 +3,7 @@ use Rattle.std.proofs.Common.{◌≡◌, ℕ, ◌+◌, List, [], ◌∷◌, ◌+
 use Rattle.mx_expr.specs.declared.tree.UnOp.{UnOp}
 use Rattle.mx_expr.specs.declared.tree.BinOp.{BinOp}
 use Rattle.mx_expr.specs.Tree.{Tree, unary, binary}
-use Rattle.mx_expr.specs.Reading.{settled, summed, Waiting, sign, strong, weak, parenthesis}
+use Rattle.mx_expr.specs.Reading.{with_strong, with_weak, Waiting, sign, strong, weak, parenthesis}
 use Rattle.mx_expr.specs.Spelling.{Sign, StrongOperator, WeakOperator, Primary, Product, Sum, Operands, Before}
 use Rattle.mx_expr.specs.Spelling.Primary.{enclosed, signed}
 use Rattle.mx_expr.specs.Spelling.Product.{primary, times}
@@ -75,10 +75,10 @@ around front b part text e = sym (ap (λ t. t ++ part) e ∙ append_assoc front 
 regroup : (a b c q : List ℕ) → (a ++ (b ++ c)) ++ q ≡ a ++ (b ++ (c ++ q))
 regroup a b c q = append_assoc a (b ++ c) q ∙ ap (λ t. a ++ t) (append_assoc b c q)
 
-pub settle-is : (k : List Waiting) (d : ℕ) (front part : List ℕ) (e : Tree) → Partial k d front → Primary part e → Settled d (front ++ part) (settled k e)
+pub settle-is : (k : List Waiting) (d : ℕ) (front part : List ℕ) (e : Tree) → Partial k d front → Primary part e → Settled d (front ++ part) (with_strong k e)
 settle-is [] d front part e h g = record { front = []; part = part; before = (h.0, refl); plain = tt; whole = primary part e g; spelled = ap (λ t. t ++ part) h.1 }
 settle-is (sign op ∷ k) d front part e h g =
-    subst (λ t. Settled d t (settled k (unary op e))) (around h.front h.b part front h.spelled) (settle-is k d h.front (h.b ∷ part) (unary op e) h.before (signed h.b op part e h.operator g))
+    subst (λ t. Settled d t (with_strong k (unary op e))) (around h.front h.b part front h.spelled) (settle-is k d h.front (h.b ∷ part) (unary op e) h.before (signed h.b op part e h.operator g))
 settle-is (strong op l ∷ k) d front part e h g =
     record {
       front = h.front;
@@ -91,7 +91,7 @@ settle-is (strong op l ∷ k) d front part e h g =
 settle-is (weak op l ∷ k) d front part e h g = record { front = front; part = part; before = h; plain = tt; whole = primary part e g; spelled = refl }
 settle-is (parenthesis ∷ k) d front part e h g = record { front = front; part = part; before = h; plain = tt; whole = primary part e g; spelled = refl }
 
-pub sum-is : (k : List Waiting) (d : ℕ) (front part : List ℕ) (e : Tree) → Partial k d front → Plain k → Product part e → SumIs d (front ++ part) (summed k e)
+pub sum-is : (k : List Waiting) (d : ℕ) (front part : List ℕ) (e : Tree) → Partial k d front → Plain k → Product part e → SumIs d (front ++ part) (with_weak k e)
 sum-is [] d front part e h p g = record { front = front; part = part; before = h; level = tt; whole = product part e g; spelled = refl }
 sum-is (sign op ∷ k) d front part e h p g = absurd p
 sum-is (strong op l ∷ k) d front part e h p g = absurd p

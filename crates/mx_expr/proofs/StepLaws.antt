@@ -4,7 +4,7 @@ use Rattle.std.proofs.Math.Seq.{drop-cons}
 use Rattle.std.proofs.Math.ListN.{drop_of_length-le}
 use Rattle.mx_expr.specs.Tree.{Tree}
 use Rattle.mx_expr.specs.declared.faults.ExprFault.{ExprFault}
-use Rattle.mx_expr.specs.Reading.{Mode, Waiting, bounded, finished, reading, State, step, steps, start}
+use Rattle.mx_expr.specs.Reading.{Mode, Waiting, bounded_step, reading_end, reading, State, step, steps, start}
 
 pub steps-more : (s t : State) (xs : List ℕ) (i : ℕ) → i < length xs → step s (get_or xs i 0) ≡ Ok t → steps s (drop i xs) ≡ steps t (drop (i + 1) xs)
 unfolding steps
@@ -18,13 +18,13 @@ pub steps-end : (s : State) (xs : List ℕ) (i : ℕ) → length xs ≤ i → st
 unfolding steps
 steps-end s xs i h = rw (drop_of_length-le xs h) refl
 
-pub reading-some : (xs : List ℕ) → 0 < length xs → reading xs ≡ finished (steps start xs)
+pub reading-some : (xs : List ℕ) → 0 < length xs → reading xs ≡ reading_end (steps start xs)
 reading-some [] h = absurd (omega arith)
 reading-some (b ∷ bs) h = refl
 
 pub reading-stop : (mode : Mode) (k : List Waiting) (depth : ℕ) (done : List Tree) (f : ExprFault) (xs : List ℕ) (i : ℕ) → i < length xs →
-    steps (record { mode = mode; waiting = k; depth = depth; done = done }) (drop i xs) ≡ steps start xs → bounded mode k depth done (get_or xs i 0) ≡ Err f → reading xs ≡ Err f
+    steps (record { mode = mode; waiting = k; depth = depth; done = done }) (drop i xs) ≡ steps start xs → bounded_step mode k depth done (get_or xs i 0) ≡ Err f → reading xs ≡ Err f
 reading-stop mode k depth done f xs i h e r =
-    reading-some xs (omega arith) ∙ ap finished (sym e ∙ steps-stop (record { mode = mode; waiting = k; depth = depth; done = done }) f xs i h r)
+    reading-some xs (omega arith) ∙ ap reading_end (sym e ∙ steps-stop (record { mode = mode; waiting = k; depth = depth; done = done }) f xs i h r)
 
 pub ruleset bytes = (steps-more, steps-stop, steps-end)

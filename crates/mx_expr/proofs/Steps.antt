@@ -1,5 +1,6 @@
 -- What was read up to a state, with one more byte.
 use Rattle.std.proofs.Common.{◌≡◌, ℕ, ◌+◌, ◌-◌, ◌*◌, List, [], ◌∷◌, ◌++◌, map, Bool, true, false, Ok, Err, refl, sym, ap, ◌∙◌, arith, append_assoc, append-nil, subst, length-append}
+use Rattle.std.proofs.lemmas.Bool.{cond_both}
 use Rattle.std.specs.Prelude.{◌==◌, ◌&&◌}
 use Rattle.std.specs.List.{list_all}
 use Rattle.std.proofs.lemmas.Grind.{fold-append}
@@ -7,7 +8,7 @@ use Rattle.mx_expr.specs.declared.tree.BinOp.{BinOp}
 use Rattle.mx_expr.specs.declared.tree.BinOp.TheVariants.{Div, Fraction, Left, Right}
 use Rattle.mx_expr.specs.Tree.{Tree, number, name, back, ahead}
 use Rattle.mx_expr.specs.Bytes.{is_digit, is_hexadecimal, is_name_byte, is_no_quote, digit_value}
-use Rattle.mx_expr.specs.Reading.{Waiting, strong, Mode, operand, whole, digit, decimal, hash, hexadecimal, quote, character, symbol, slash, less, greater, string, closed, State, Read, wanted, moved, in_string, start, and_then}
+use Rattle.mx_expr.specs.Reading.{Waiting, strong, Mode, operand, whole, digit, decimal, hash, hexadecimal, quote, character, symbol, slash, less, greater, string, closed, State, Read, primary_start, next_reading, in_string, start, and_then}
 use Rattle.mx_expr.specs.Spelling.{digits_value, StrongOperator, Primary, Operand}
 use Rattle.mx_expr.specs.Spelling.Constant.{decimal as decimal_digits, hexadecimal as hexadecimal_digits}
 use Rattle.mx_expr.specs.Spelling.StrongOperator.{div, fraction, left, right}
@@ -17,7 +18,7 @@ use Rattle.mx_expr.specs.Spelling.Operands.{none as no_operands, more as one_mor
 use Rattle.mx_expr.proofs.Moves.{st, move, moves}
 use Rattle.mx_expr.proofs.Forward.{Plain}
 use Rattle.mx_expr.proofs.Partial.{Partial}
-use Rattle.mx_expr.proofs.Holds.{After, Digits, Hashed, OneDigit, Letters, Operating, is_empty, At, Holds, Good, chosen, Place, holds, grown, longer, completes, wanted-good, after-good, beyond-good, at-byte, value-of-digit}
+use Rattle.mx_expr.proofs.Holds.{After, Digits, Hashed, OneDigit, Letters, Operating, is_empty, At, Holds, Good, Place, holds, grown, longer, completes, wanted-good, after-good, beyond-good, at-byte, value-of-digit}
 
 -- one more byte of a kind
 pub all-longer : (kind : ℕ → Bool) (t : List ℕ) (b : ℕ) → list_all kind t ≡ true → kind b ≡ true → list_all kind (t ++ b ∷ []) ≡ true
@@ -104,7 +105,7 @@ doubled-good front text part es k d b c e op p n a w =
       },
     )
 
-slash-good : (front text part : List ℕ) (es : List Tree) (k : List Waiting) (d b : ℕ) (e : Tree) → Place front text (part ++ b ∷ []) es → Plain k → After k d (Operating e 47) part → Good (wanted b (strong Div e ∷ k) d es) front
+slash-good : (front text part : List ℕ) (es : List Tree) (k : List Waiting) (d b : ℕ) (e : Tree) → Place front text (part ++ b ∷ []) es → Plain k → After k d (Operating e 47) part → Good (primary_start b (strong Div e ∷ k) d es) front
 slash-good front text part es k d b e p n a =
     let o = a.shape in
     wanted-good front text part es (strong Div e ∷ k) d b p
@@ -125,7 +126,7 @@ map-longer (x ∷ xs) b = ap (λ t. number x ∷ t) (map-longer xs b)
 string-good : (front text part : List ℕ) (es done : List Tree) (k : List Waiting) (d b : ℕ) (fresh : Bool) → Place front text (part ++ b ∷ []) es → At (string fresh) k d done es part → Good (in_string b k d done) front
 string-good front text part es done k d b fresh p h =
     let P : Read → Type 0 = λ r. Good r front in
-    chosen P (b == 34) _ _
+    cond_both (b == 34) _ _ P
     (λ t. holds front text (part ++ 34 ∷ []) es done closed k d (at-byte front text part es b 34 t p)
     (record { nothing = h.nothing; shallow = h.shallow; bytes = h.bytes; all = h.all; listed = h.listed; shape = ap (λ x. x ++ 34 ∷ []) h.shape.0 }))
     (λ f. holds front text (part ++ b ∷ []) es (done ++ number b ∷ []) (string false) k d p
@@ -150,69 +151,69 @@ closed-good front text part es done k d p h =
     }
 
 -- one byte
-moved-good : (mode : Mode) (front text part : List ℕ) (es done : List Tree) (k : List Waiting) (d b : ℕ) → Place front text (part ++ b ∷ []) es → At mode k d done es part → Good (moved mode k d done b) front
-moved-good operand front text part es done k d b p a = subst (λ x. Good (wanted b k d x) front) (sym a.0) (wanted-good front text part es k d b p a.1)
-moved-good (whole e) front text part es done k d b p a = subst (λ x. Good (moved (whole e) k d x b) front) (sym a.0) (after-good front text part es k d b e p a.1 a.2)
+moved-good : (mode : Mode) (front text part : List ℕ) (es done : List Tree) (k : List Waiting) (d b : ℕ) → Place front text (part ++ b ∷ []) es → At mode k d done es part → Good (next_reading mode k d done b) front
+moved-good operand front text part es done k d b p a = subst (λ x. Good (primary_start b k d x) front) (sym a.0) (wanted-good front text part es k d b p a.1)
+moved-good (whole e) front text part es done k d b p a = subst (λ x. Good (next_reading (whole e) k d x b) front) (sym a.0) (after-good front text part es k d b e p a.1 a.2)
 moved-good (digit n) front text part es done k d b p a =
     let P : Read → Type 0 = λ r. Good r front in
-    subst (λ x. Good (moved (digit n) k d x b) front) (sym a.0)
-    (chosen P (is_digit b) _ _
+    subst (λ x. Good (next_reading (digit n) k d x b) front) (sym a.0)
+    (cond_both (is_digit b) _ _ P
     (λ t. holds front text (part ++ b ∷ []) es es (decimal (n * 10 + (b - 48))) k d p (refl, longer-by k d (OneDigit n) (Digits is_digit 10 (n * 10 + (b - 48))) part b (λ x h. digits-value n b x (one-digit n x h) t) a.1)) (λ _.
-    chosen P (b == 66) _ _
+    cond_both (b == 66) _ _ P
     (λ t. completes front text (part ++ 66 ∷ []) es k d (back n) (at-byte front text part es b 66 t p) (longer-by k d (OneDigit n) (λ x. Primary x (back n)) part 66 (λ x h. label-back n x h) a.1)) (λ _.
-    chosen P (b == 70) _ _
+    cond_both (b == 70) _ _ P
     (λ t. completes front text (part ++ 70 ∷ []) es k d (ahead n) (at-byte front text part es b 70 t p) (longer-by k d (OneDigit n) (λ x. Primary x (ahead n)) part 70 (λ x h. label-ahead n x h) a.1)) (λ _.
     beyond-good front text part es k d b (number n) p (reshaped k d (OneDigit n) (λ x. Primary x (number n)) part (λ x h. decimal-primary n x (one-digit n x h)) a.1)))))
 moved-good (decimal n) front text part es done k d b p a =
     let P : Read → Type 0 = λ r. Good r front in
-    subst (λ x. Good (moved (decimal n) k d x b) front) (sym a.0)
-    (chosen P (is_digit b) _ _
+    subst (λ x. Good (next_reading (decimal n) k d x b) front) (sym a.0)
+    (cond_both (is_digit b) _ _ P
     (λ t. holds front text (part ++ b ∷ []) es es (decimal (n * 10 + (b - 48))) k d p (refl, longer-by k d (Digits is_digit 10 n) (Digits is_digit 10 (n * 10 + (b - 48))) part b (λ x h. digits-value n b x h t) a.1))
     (λ _. beyond-good front text part es k d b (number n) p (reshaped k d (Digits is_digit 10 n) (λ x. Primary x (number n)) part (λ x h. decimal-primary n x h) a.1)))
 moved-good hash front text part es done k d b p a =
     let P : Read → Type 0 = λ r. Good r front in
-    subst (λ x. Good (moved hash k d x b) front) (sym a.0)
-    (chosen P (is_hexadecimal b) _ _
+    subst (λ x. Good (next_reading hash k d x b) front) (sym a.0)
+    (cond_both (is_hexadecimal b) _ _ P
     (λ t. holds front text (part ++ b ∷ []) es es (hexadecimal (digit_value b)) k d p (refl, longer-by k d (λ x. x ≡ 35 ∷ []) (Hashed (digit_value b)) part b (λ x h. first-hexadecimal b x t h) a.1))
     (λ _. refl))
 moved-good (hexadecimal n) front text part es done k d b p a =
     let P : Read → Type 0 = λ r. Good r front in
-    subst (λ x. Good (moved (hexadecimal n) k d x b) front) (sym a.0)
-    (chosen P (is_hexadecimal b) _ _
+    subst (λ x. Good (next_reading (hexadecimal n) k d x b) front) (sym a.0)
+    (cond_both (is_hexadecimal b) _ _ P
     (λ t. holds front text (part ++ b ∷ []) es es (hexadecimal (n * 16 + digit_value b)) k d p (refl, longer-by k d (Hashed n) (Hashed (n * 16 + digit_value b)) part b (λ x h. more-hexadecimal n b x t h) a.1))
     (λ _. beyond-good front text part es k d b (number n) p (reshaped k d (Hashed n) (λ x. Primary x (number n)) part (λ x h. hexadecimal-primary n x h) a.1)))
 moved-good quote front text part es done k d b p a =
     holds front text (part ++ b ∷ []) es done (character b) k d p (a.0, longer-by k d (λ x. x ≡ 39 ∷ []) (λ x. x ≡ 39 ∷ b ∷ []) part b (λ x h. ap (λ y. y ++ b ∷ []) h) a.1)
 moved-good (character c) front text part es done k d b p a =
     let P : Read → Type 0 = λ r. Good r front in
-    subst (λ x. Good (moved (character c) k d x b) front) (sym a.0)
-    (chosen P (b == 39) _ _
+    subst (λ x. Good (next_reading (character c) k d x b) front) (sym a.0)
+    (cond_both (b == 39) _ _ P
     (λ t. completes front text (part ++ 39 ∷ []) es k d (number c) (at-byte front text part es b 39 t p) (longer-by k d (λ x. x ≡ 39 ∷ c ∷ []) (λ x. Primary x (number c)) part 39 (λ x h. closing-character c x h) a.1))
     (λ _. refl))
 moved-good (symbol word) front text part es done k d b p a =
     let P : Read → Type 0 = λ r. Good r front in
-    subst (λ x. Good (moved (symbol word) k d x b) front) (sym a.0)
-    (chosen P (is_name_byte b) _ _
+    subst (λ x. Good (next_reading (symbol word) k d x b) front) (sym a.0)
+    (cond_both (is_name_byte b) _ _ P
     (λ t. holds front text (part ++ b ∷ []) es es (symbol (word ++ b ∷ [])) k d p (refl, longer-by k d (Letters word) (Letters (word ++ b ∷ [])) part b (λ x h. more-letters b word x t h) a.1))
     (λ _. beyond-good front text part es k d b (name word) p (reshaped k d (Letters word) (λ x. Primary x (name word)) part (λ x h. symbol-primary word x h) a.1)))
 moved-good (slash e) front text part es done k d b p a =
     let P : Read → Type 0 = λ r. Good r front in
-    subst (λ x. Good (moved (slash e) k d x b) front) (sym a.0)
-    (chosen P (b == 47) _ _
+    subst (λ x. Good (next_reading (slash e) k d x b) front) (sym a.0)
+    (cond_both (b == 47) _ _ P
     (λ t. doubled-good front text part es k d 47 47 e Fraction (at-byte front text part es b 47 t p) a.1 a.2 fraction)
     (λ _. slash-good front text part es k d b e p a.1 a.2))
 moved-good (less e) front text part es done k d b p a =
     let P : Read → Type 0 = λ r. Good r front in
-    subst (λ x. Good (moved (less e) k d x b) front) (sym a.0)
-    (chosen P (b == 60) _ _ (λ t. doubled-good front text part es k d 60 60 e Left (at-byte front text part es b 60 t p) a.1 a.2 left) (λ _. refl))
+    subst (λ x. Good (next_reading (less e) k d x b) front) (sym a.0)
+    (cond_both (b == 60) _ _ P (λ t. doubled-good front text part es k d 60 60 e Left (at-byte front text part es b 60 t p) a.1 a.2 left) (λ _. refl))
 moved-good (greater e) front text part es done k d b p a =
     let P : Read → Type 0 = λ r. Good r front in
-    subst (λ x. Good (moved (greater e) k d x b) front) (sym a.0)
-    (chosen P (b == 62) _ _ (λ t. doubled-good front text part es k d 62 62 e Right (at-byte front text part es b 62 t p) a.1 a.2 right) (λ _. refl))
+    subst (λ x. Good (next_reading (greater e) k d x b) front) (sym a.0)
+    (cond_both (b == 62) _ _ P (λ t. doubled-good front text part es k d 62 62 e Right (at-byte front text part es b 62 t p) a.1 a.2 right) (λ _. refl))
 moved-good (string fresh) front text part es done k d b p a = string-good front text part es done k d b fresh p a
 moved-good closed front text part es done k d b p a =
     let P : Read → Type 0 = λ r. Good r front in
-    chosen P (b == 44) _ _ (λ t. closed-good front text part es done k d (at-byte front text part es b 44 t p) a) (λ _. refl)
+    cond_both (b == 44) _ _ P (λ t. closed-good front text part es done k d (at-byte front text part es b 44 t p) a) (λ _. refl)
 
 pub move-good : (s : State) (front : List ℕ) (b : ℕ) → Holds s front → Good (move s b) (front ++ b ∷ [])
 move-good s front b h =

@@ -1,25 +1,17 @@
 -- Where reading stops.
-use Rattle.std.proofs.Common.{◌≡◌, ℕ, ◌+◌, ◌-◌, ◌*◌, ◌^◌, ◌<◌, ◌≤◌, List, [], ◌∷◌, ◌++◌, Bool, true, false, Option, Some, None, Ok, Err, refl, sym, ap, ◌∙◌, arith, subst, ⊎_elim}
+use Rattle.std.proofs.Common.{◌≡◌, ℕ, ◌+◌, ◌-◌, ◌*◌, ◌^◌, ◌<◌, ◌≤◌, List, [], ◌∷◌, ◌++◌, true, false, Option, Some, None, Ok, Err, refl, sym, ap, ◌∙◌, arith, subst, ⊎_elim}
 use Rattle.std.proofs.Common.{inl, inr}
-use Rattle.std.specs.Prelude.{◌&&◌, nat_le, fold, ◌⊎◌}
+use Rattle.std.specs.Prelude.{nat_le, fold, ◌⊎◌}
 use Rattle.std.specs.List.{list_all}
-use Rattle.std.proofs.lemmas.Bool.{le-leb, cases_lt}
+use Rattle.std.proofs.lemmas.Bool.{and_parts, le-leb, cases_lt}
 use Rattle.std.proofs.lemmas.Bool.Decides.{nat_tests}
 use Rattle.mx_expr.specs.declared.faults.ExprFault.{ExprFault}
 use Rattle.mx_expr.specs.declared.faults.ExprFault.TheVariants.{TooWide}
 use Rattle.mx_expr.specs.Tree.{Tree}
 use Rattle.mx_expr.specs.Bytes.{is_digit, is_hexadecimal, digit_value}
-use Rattle.mx_expr.specs.Reading.{Waiting, decimal, hexadecimal, State, Read, passes, step, steps, within, and_then}
-use Rattle.mx_expr.proofs.Moves.{st, move, moves}
+use Rattle.mx_expr.specs.Reading.{Waiting, decimal, hexadecimal, State, Read, passed_bound, step, steps, within, and_then}
+use Rattle.mx_expr.proofs.Moves.{st, move, moves, and-then-then, and-then-same}
 use Rattle.mx_expr.proofs.Holds.{value-of-digit}
-
-and-then-then : (r : Read) (f g : State → Read) → and_then (and_then r f) g ≡ and_then r (λ s. and_then (f s) g)
-and-then-then (Ok s) f g = refl
-and-then-then (Err e) f g = refl
-
-and-then-same : (r : Read) (f g : State → Read) → ((s : State) → f s ≡ g s) → and_then r f ≡ and_then r g
-and-then-same (Ok s) f g h = h s
-and-then-same (Err e) f g h = refl
 
 pub steps-append : (s : State) (xs ys : List ℕ) → steps s (xs ++ ys) ≡ and_then (steps s xs) (λ t. steps t ys)
 unfolding steps
@@ -64,7 +56,7 @@ within-err None r f h = inr (refl, h)
 within-err (Some g) r f h = inl (cc)
 
 steps-moves-on : (s t : State) (b : ℕ) (bs : List ℕ) (r : Read) → step s b ≡ r → ((u : State) → steps u bs ≡ Ok t → moves u bs ≡ Ok t) → and_then r (λ u. steps u bs) ≡ Ok t → and_then (move s b) (λ u. moves u bs) ≡ Ok t
-steps-moves-on s t b bs (Ok u) e f h = let w = within-ok (passes s.mode s.depth b) (move s b) u e in ap (λ r. and_then r (λ x. moves x bs)) w.1 ∙ f u h
+steps-moves-on s t b bs (Ok u) e f h = let w = within-ok (passed_bound s.mode s.depth b) (move s b) u e in ap (λ r. and_then r (λ x. moves x bs)) w.1 ∙ f u h
 steps-moves-on s t b bs (Err g) e f h = absurd (cc)
 
 pub steps-moves : (s t : State) (xs : List ℕ) → steps s xs ≡ Ok t → moves s xs ≡ Ok t
@@ -94,14 +86,6 @@ stops s [] f h = absurd (cc)
 stops s (b ∷ bs) f h = stops-on s b bs f (step s b) refl (λ u e. stops u bs f e) h
 
 -- a wide constant is refused
-and-first : (a b : Bool) → (a && b) ≡ true → a ≡ true
-and-first true b h = refl
-and-first false b h = h
-
-and-second : (a b : Bool) → (a && b) ≡ true → b ≡ true
-and-second true b h = h
-and-second false b h = absurd (cc)
-
 decimal-refused : (n b : ℕ) (k : List Waiting) (d : ℕ) (es : List Tree) → is_digit b ≡ true → 2 ^ 64 ≤ n * 10 + digit_value b → step (st (decimal n) k d es) b ≡ Err TooWide
 decimal-refused n b k d es h w =
     let t : nat_le (2 ^ 64) (n * 10 + (b - 48)) ≡ true = le-leb (2 ^ 64) (n * 10 + (b - 48)) (omega (arith, w, value-of-digit b h)) in
@@ -120,9 +104,9 @@ pub wide-decimal : (n : ℕ) (bs rest : List ℕ) (k : List Waiting) (d : ℕ) (
     steps (st (decimal n) k d es) (bs ++ rest) ≡ Err TooWide
 wide-decimal n [] rest k d es a l w = absurd (omega (arith, l, w))
 wide-decimal n (b ∷ bs) rest k d es a l w =
-    let h : is_digit b ≡ true = and-first _ _ a in
+    let h : is_digit b ≡ true = (and_parts _ _ a).0 in
     ⊎_elim
-    (λ less. steps-first _ _ b (bs ++ rest) (decimal-taken n b k d es h less) ∙ wide-decimal (n * 10 + digit_value b) bs rest k d es (and-second _ _ a) less w)
+    (λ less. steps-first _ _ b (bs ++ rest) (decimal-taken n b k d es h less) ∙ wide-decimal (n * 10 + digit_value b) bs rest k d es (and_parts _ _ a).1 less w)
     (λ more. steps-refused _ TooWide b (bs ++ rest) (decimal-refused n b k d es h more))
     (cases_lt (n * 10 + digit_value b) (2 ^ 64))
 
@@ -136,8 +120,8 @@ pub wide-hexadecimal : (n : ℕ) (bs rest : List ℕ) (k : List Waiting) (d : �
     steps (st (hexadecimal n) k d es) (bs ++ rest) ≡ Err TooWide
 wide-hexadecimal n [] rest k d es a l w = absurd (omega (arith, l, w))
 wide-hexadecimal n (b ∷ bs) rest k d es a l w =
-    let h : is_hexadecimal b ≡ true = and-first _ _ a in
+    let h : is_hexadecimal b ≡ true = (and_parts _ _ a).0 in
     ⊎_elim
-    (λ less. steps-first _ _ b (bs ++ rest) (hexadecimal-taken n b k d es h less) ∙ wide-hexadecimal (n * 16 + digit_value b) bs rest k d es (and-second _ _ a) less w)
+    (λ less. steps-first _ _ b (bs ++ rest) (hexadecimal-taken n b k d es h less) ∙ wide-hexadecimal (n * 16 + digit_value b) bs rest k d es (and_parts _ _ a).1 less w)
     (λ more. steps-refused _ TooWide b (bs ++ rest) (hexadecimal-refused n b k d es h more))
     (cases_lt (n * 16 + digit_value b) (2 ^ 64))

@@ -10,15 +10,15 @@ use Rattle.mx_expr.specs.Tree.{Tree, number, name, back, ahead, here, unary, bin
 use Rattle.mx_expr.specs.Value.{Valued, Knowledge, value_of, after_operand, after_both, after_right}
 
 -- a value that is passed on
-abbrev pub passed : Knowledge → Frame → Valued → Valued
-passed known (Operand op) x = after_operand op x
-passed known (Left op right) x = after_both op x (value_of known (tree_of right.now))
-passed known (Right op left) x = after_right op left x
+abbrev pub value_through : Knowledge → Frame → Valued → Valued
+value_through known (Operand op) x = after_operand op x
+value_through known (Left op right) x = after_both op x (value_of known (tree_of right.now))
+value_through known (Right op left) x = after_right op left x
 
 -- the value of the whole expression, where its part has this value
-abbrev pub finished : Knowledge → List Frame → Valued → Valued
-finished known [] x = x
-finished known (f ∷ fs) x = passed known f (finished known fs x)
+abbrev pub value_after : Knowledge → List Frame → Valued → Valued
+value_after known [] x = x
+value_after known (f ∷ fs) x = value_through known f (value_after known fs x)
 
 -- how many nodes there are, and how many are left
 abbrev pub nodes : Tree → ℕ
@@ -48,10 +48,10 @@ abbrev pub AllHaveDigits : List Frame → Type 0
 AllHaveDigits [] = Unit {0}
 AllHaveDigits (f ∷ fs) = FrameHasDigits f × AllHaveDigits fs
 
--- What comes next finishes to this value; so does a fault, but want of memory.
+-- What comes next finishes to this value; so does a fault, but out of memory.
 abbrev pub Goes : Knowledge → List Frame → Result Next ExprFault → Valued → Type 0
 Goes known frames (Ok (next.Done x)) whole = Ok x ≡ whole
-Goes known frames (Ok (next.Right right)) whole = finished known frames (value_of known (tree_of right.now)) ≡ whole
+Goes known frames (Ok (next.Right right)) whole = value_after known frames (value_of known (tree_of right.now)) ≡ whole
 Goes known frames (Err fault) whole = fault ≢ OutOfMemory → Err fault ≡ whole
 
 -- the nodes of what comes next, with those that are left after it

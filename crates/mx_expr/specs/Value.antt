@@ -19,8 +19,8 @@ pub record Knowledge : Type 0 where
   pub backs : ℕ → Value
   pub at : ℕ
 
-abbrev pub knows : (List ℕ → Result (Option Value) ExprFault) → (ℕ → Value) → ℕ → Knowledge
-knows symbols backs at = record { symbols = symbols; backs = backs; at = at }
+abbrev pub knowledge : (List ℕ → Result (Option Value) ExprFault) → (ℕ → Value) → ℕ → Knowledge
+knowledge symbols backs at = record { symbols = symbols; backs = backs; at = at }
 
 -- A register has a number of 0 to 255.
 abbrev pub register : ℕ → Valued
@@ -31,56 +31,56 @@ abbrev pub difference : ℕ → ℕ → ℕ
 difference x y = (x + (2 ^ 64 - y)) % 2 ^ 64
 
 -- A shift by 64 or more gives 0.
-abbrev pub shifted_left : ℕ → ℕ → ℕ
-shifted_left x y = if nat_lt y 64 then x * 2 ^ y % 2 ^ 64 else 0
+abbrev pub left_shift : ℕ → ℕ → ℕ
+left_shift x y = if nat_lt y 64 then x * 2 ^ y % 2 ^ 64 else 0
 
-abbrev pub shifted_right : ℕ → ℕ → ℕ
-shifted_right x y = if nat_lt y 64 then x / 2 ^ y else 0
+abbrev pub right_shift : ℕ → ℕ → ℕ
+right_shift x y = if nat_lt y 64 then x / 2 ^ y else 0
 
 -- an operator on a value: `+` takes any, the others only a pure one
-abbrev pub applied : UnOp → Value → Valued
-applied Plus x = Ok x
-applied Minus (Pure x) = Ok (Pure (difference 0 x))
-applied Not (Pure x) = Ok (Pure (2 ^ 64 - 1 - x))
-applied Register (Pure x) = register x
-applied Minus (Reg x) = Err PureOnly
-applied Not (Reg x) = Err PureOnly
-applied Register (Reg x) = Err PureOnly
+abbrev pub unary_value : UnOp → Value → Valued
+unary_value Plus x = Ok x
+unary_value Minus (Pure x) = Ok (Pure (difference 0 x))
+unary_value Not (Pure x) = Ok (Pure (2 ^ 64 - 1 - x))
+unary_value Register (Pure x) = register x
+unary_value Minus (Reg x) = Err PureOnly
+unary_value Not (Reg x) = Err PureOnly
+unary_value Register (Reg x) = Err PureOnly
 
 -- an operator on two pure values, modulo 2^64
-abbrev pub pure_combined : BinOp → ℕ → ℕ → Valued
-pure_combined Mul x y = Ok (Pure (x * y % 2 ^ 64))
-pure_combined Div x y = if y == 0 then Err DivZero else Ok (Pure (x / y))
-pure_combined Fraction x y = if nat_le y x then Err FractionTooBig else Ok (Pure (2 ^ 64 * x / y))
-pure_combined Rem x y = if y == 0 then Err DivZero else Ok (Pure (x % y))
-pure_combined Left x y = Ok (Pure (shifted_left x y))
-pure_combined Right x y = Ok (Pure (shifted_right x y))
-pure_combined And x y = Ok (Pure (bit_and x y))
-pure_combined Add x y = Ok (Pure ((x + y) % 2 ^ 64))
-pure_combined Sub x y = Ok (Pure (difference x y))
-pure_combined Or x y = Ok (Pure (bit_or x y))
-pure_combined Xor x y = Ok (Pure (bit_xor x y))
+abbrev pub pure_value : BinOp → ℕ → ℕ → Valued
+pure_value Mul x y = Ok (Pure (x * y % 2 ^ 64))
+pure_value Div x y = if y == 0 then Err DivZero else Ok (Pure (x / y))
+pure_value Fraction x y = if nat_le y x then Err FractionTooBig else Ok (Pure (2 ^ 64 * x / y))
+pure_value Rem x y = if y == 0 then Err DivZero else Ok (Pure (x % y))
+pure_value Left x y = Ok (Pure (left_shift x y))
+pure_value Right x y = Ok (Pure (right_shift x y))
+pure_value And x y = Ok (Pure (bit_and x y))
+pure_value Add x y = Ok (Pure ((x + y) % 2 ^ 64))
+pure_value Sub x y = Ok (Pure (difference x y))
+pure_value Or x y = Ok (Pure (bit_or x y))
+pure_value Xor x y = Ok (Pure (bit_xor x y))
 
 -- Register plus or minus pure and pure plus register are registers, register minus register is
 -- pure, and every other operator takes pure values alone.
-abbrev pub combined : BinOp → Value → Value → Valued
-combined op (Pure x) (Pure y) = pure_combined op x y
-combined Add (Reg x) (Pure y) = register ((x + y) % 2 ^ 64)
-combined Add (Pure x) (Reg y) = register ((x + y) % 2 ^ 64)
-combined Add (Reg x) (Reg y) = Err TwoRegisters
-combined Sub (Reg x) (Pure y) = register (difference x y)
-combined Sub (Reg x) (Reg y) = Ok (Pure (difference x y))
-combined Sub (Pure x) (Reg y) = Err RegisterFromPure
-combined op x y = Err PureOnly
+abbrev pub binary_value : BinOp → Value → Value → Valued
+binary_value op (Pure x) (Pure y) = pure_value op x y
+binary_value Add (Reg x) (Pure y) = register ((x + y) % 2 ^ 64)
+binary_value Add (Pure x) (Reg y) = register ((x + y) % 2 ^ 64)
+binary_value Add (Reg x) (Reg y) = Err TwoRegisters
+binary_value Sub (Reg x) (Pure y) = register (difference x y)
+binary_value Sub (Reg x) (Reg y) = Ok (Pure (difference x y))
+binary_value Sub (Pure x) (Reg y) = Err RegisterFromPure
+binary_value op x y = Err PureOnly
 
 -- The left side's fault comes first, then the right side's, then the operator's.
 abbrev pub after_operand : UnOp → Valued → Valued
 after_operand op (Err fault) = Err fault
-after_operand op (Ok x) = applied op x
+after_operand op (Ok x) = unary_value op x
 
 abbrev pub after_right : BinOp → Value → Valued → Valued
 after_right op x (Err fault) = Err fault
-after_right op x (Ok y) = combined op x y
+after_right op x (Ok y) = binary_value op x y
 
 abbrev pub after_both : BinOp → Valued → Valued → Valued
 after_both op (Err fault) right = Err fault

@@ -3,6 +3,9 @@
 ghost use Rattle.std.specs.Prelude.{◌≡◌};
 ghost use Rattle.mx_expr.specs.Faults.{fault_number};
 
+use mx_word::NoMemory;
+use std::alloc::{AllocError, AllocFailed};
+
 /// A fault of a field or of an expression.
 #[derive(Clone, Copy, Debug, PartialEq, Eq)]
 pub enum ExprFault {
@@ -35,7 +38,7 @@ pub enum ExprFault {
 }
 
 impl ExprFault {
-    /// The fault's number: 10 to 19, 21 or 33, and 0 for want of memory.
+    /// The fault's number: 10 to 19, 21 or 33, and 0 where there was no memory.
     pub fn number(&self) -> u16
         ensures { result ≡ fault_number self.now }
     {
@@ -54,5 +57,35 @@ impl ExprFault {
             ExprFault::NameTooLong => 33,
             ExprFault::OutOfMemory => 0,
         }
+    }
+}
+
+impl From<NoMemory> for ExprFault {
+    ghost use Rattle.mx_expr.specs.declared.faults.ExprFault.TheVariants.{OutOfMemory};
+
+    ghost from_gives = { λ _ fault. fault ≡ OutOfMemory };
+
+    fn from(_error: NoMemory) -> ExprFault {
+        ExprFault::OutOfMemory
+    }
+}
+
+impl From<AllocError> for ExprFault {
+    ghost use Rattle.mx_expr.specs.declared.faults.ExprFault.TheVariants.{OutOfMemory};
+
+    ghost from_gives = { λ _ fault. fault ≡ OutOfMemory };
+
+    fn from(_error: AllocError) -> ExprFault {
+        ExprFault::OutOfMemory
+    }
+}
+
+impl<T: Drop> From<AllocFailed<T>> for ExprFault {
+    ghost use Rattle.mx_expr.specs.declared.faults.ExprFault.TheVariants.{OutOfMemory};
+
+    ghost from_gives = { λ _ fault. fault ≡ OutOfMemory };
+
+    fn from(_failed: AllocFailed<T>) -> ExprFault {
+        ExprFault::OutOfMemory
     }
 }

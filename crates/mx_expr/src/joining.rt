@@ -11,14 +11,11 @@ use std::alloc::Global;
 
 /// A primary with the unary operators that wait for it, and the strong operator before them.
 pub(crate) fn settle(alloc: Global, waiting: &mut Stack, primary: Expr) -> Result<Expr, ExprFault>
-    ensures { result ≢ Err ExprFault.OutOfMemory → settled_as result waiting.new ≡ Ok (spec.settled (all_waiting waiting.old) (tree_of primary)) }
+    ensures { result ≢ Err ExprFault.OutOfMemory → settled_as result waiting.new ≡ Ok (spec.with_strong (all_waiting waiting.old) (tree_of primary)) }
 {
     let mut e = primary;
     while let Some(op) = waiting.pop_sign() {
-        e = match unary(alloc, op, e) {
-            Ok(e) => e,
-            Err(fault) => return Err(fault),
-        };
+        e = unary(alloc, op, e)?;
     }
     match waiting.pop_strong() {
         Some((op, left)) => binary(alloc, op, left, e),
@@ -28,7 +25,7 @@ pub(crate) fn settle(alloc: Global, waiting: &mut Stack, primary: Expr) -> Resul
 
 /// A product with the weak operator that waits for it.
 pub(crate) fn sum(alloc: Global, waiting: &mut Stack, product: Expr) -> Result<Expr, ExprFault>
-    ensures { result ≢ Err ExprFault.OutOfMemory → settled_as result waiting.new ≡ Ok (spec.summed (all_waiting waiting.old) (tree_of product)) }
+    ensures { result ≢ Err ExprFault.OutOfMemory → settled_as result waiting.new ≡ Ok (spec.with_weak (all_waiting waiting.old) (tree_of product)) }
 {
     match waiting.pop_weak() {
         Some((op, left)) => binary(alloc, op, left, product),
@@ -40,22 +37,13 @@ pub(crate) fn sum(alloc: Global, waiting: &mut Stack, product: Expr) -> Result<E
 fn unary(alloc: Global, op: UnOp, e: Expr) -> Result<Expr, ExprFault>
     ensures { MatchResult result (λ x. tree_of x ≡ unary op (tree_of e)) (λ f. f ≡ ExprFault.OutOfMemory) }
 {
-    match Box::new(alloc, e) {
-        Ok(e) => Ok(Expr::Unary(op, e)),
-        Err(_) => Err(ExprFault::OutOfMemory),
-    }
+    Ok(Expr::Unary(op, Box::new(alloc, e)?))
 }
 
 /// An operator with its operands.
 fn binary(alloc: Global, op: BinOp, left: Expr, right: Expr) -> Result<Expr, ExprFault>
     ensures { MatchResult result (λ x. tree_of x ≡ binary op (tree_of left) (tree_of right)) (λ f. f ≡ ExprFault.OutOfMemory) }
 {
-    let left = match Box::new(alloc, left) {
-        Ok(left) => left,
-        Err(_) => return Err(ExprFault::OutOfMemory),
-    };
-    match Box::new(alloc, right) {
-        Ok(right) => Ok(Expr::Binary(op, left, right)),
-        Err(_) => Err(ExprFault::OutOfMemory),
-    }
+    let left = Box::new(alloc, left)?;
+    Ok(Expr::Binary(op, left, Box::new(alloc, right)?))
 }

@@ -12,10 +12,10 @@ pub(crate) fn digit_value(b: u8) -> u8
     ensures few { result < 16 }
 {
     if is_digit(b) {
-        b - 48
-    } else if 97 <= b && b <= 102 {
-        b - 87
+        b - b'0'
+    } else if b'a' <= b && b <= b'f' {
+        b - b'a' + 10
     } else {
-        b - 55
+        b - b'A' + 10
     }
 }

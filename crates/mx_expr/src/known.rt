@@ -17,7 +17,7 @@ pub trait Known {
     ghost at: { Self → ℕ };
 
     /// The value of a symbol as it is written; nothing where it is not known. It refuses with
-    /// `NameTooLong`, exactly where the complete form is too long, or for want of memory.
+    /// `NameTooLong`, exactly where the complete form is too long, or where there is no memory.
     fn symbol(&self, name: &[u8]) -> Result<Option<Value>, ExprFault>
         ensures told { result ≢ Err ExprFault.OutOfMemory → result ≡ symbols self.now name.now }
         ensures refuses { IfErr result (λ e. (e ≡ ExprFault.NameTooLong) ⊎ (e ≡ ExprFault.OutOfMemory)) };

@@ -8,7 +8,7 @@ use mx_word::{Value, quotient};
 
 /// What a unary operator makes of a value.
 pub(crate) fn apply(op: UnOp, x: Value) -> Result<Value, ExprFault>
-    ensures { result ≡ spec.applied op x }
+    ensures { result ≡ spec.unary_value op x }
 {
     match (op, x) {
         (UnOp::Plus, x) => Ok(x),
@@ -32,7 +32,7 @@ fn register(x: u64) -> Result<Value, ExprFault>
 
 /// What a binary operator makes of two values.
 pub(crate) fn combine(op: BinOp, x: Value, y: Value) -> Result<Value, ExprFault>
-    ensures { result ≡ spec.combined op x y }
+    ensures { result ≡ spec.binary_value op x y }
 {
     match op {
         BinOp::Add => add(x, y),
@@ -46,7 +46,7 @@ pub(crate) fn combine(op: BinOp, x: Value, y: Value) -> Result<Value, ExprFault>
 
 /// A sum. One side of it may be a register.
 fn add(x: Value, y: Value) -> Result<Value, ExprFault>
-    ensures { result ≡ spec.combined BinOp.Add x y }
+    ensures { result ≡ spec.binary_value BinOp.Add x y }
 {
     match (x, y) {
         (Value::Pure(x), Value::Pure(y)) => Ok(Value::Pure(x.wrapping_add(y))),
@@ -58,7 +58,7 @@ fn add(x: Value, y: Value) -> Result<Value, ExprFault>
 
 /// A difference. That of two registers is pure.
 fn subtract(x: Value, y: Value) -> Result<Value, ExprFault>
-    ensures { result ≡ spec.combined BinOp.Sub x y }
+    ensures { result ≡ spec.binary_value BinOp.Sub x y }
 {
     match (x, y) {
         (Value::Pure(x), Value::Pure(y)) => Ok(Value::Pure(difference(x, y))),
@@ -79,7 +79,7 @@ fn difference(x: u64, y: u64) -> u64
 
 /// What the other operators make of two pure values.
 fn pure(op: BinOp, x: u64, y: u64) -> Result<Value, ExprFault>
-    ensures { result ≡ spec.pure_combined op x y }
+    ensures { result ≡ spec.pure_value op x y }
 {
     match op {
         BinOp::Mul => Ok(Value::Pure(x.wrapping_mul(y))),
@@ -100,7 +100,7 @@ fn pure(op: BinOp, x: u64, y: u64) -> Result<Value, ExprFault>
 
 /// The octa of a fraction below 1: the floor of 2^64 x / y.
 fn fraction(x: u64, y: u64) -> Result<Value, ExprFault>
-    ensures { result ≡ spec.pure_combined BinOp.Fraction x y }
+    ensures { result ≡ spec.pure_value BinOp.Fraction x y }
 {
     match quotient(x, 0, y) {
         None => Err(ExprFault::FractionTooBig),
@@ -110,14 +110,14 @@ fn fraction(x: u64, y: u64) -> Result<Value, ExprFault>
 
 /// A shift to the left; 0 where it is by 64 or more.
 fn shift_left(x: u64, y: u64) -> u64
-    ensures { result ≡ spec.shifted_left x y }
+    ensures { result ≡ spec.left_shift x y }
 {
     if y < 64 { x << y } else { 0 }
 }
 
 /// A shift to the right; 0 where it is by 64 or more.
 fn shift_right(x: u64, y: u64) -> u64
-    ensures { result ≡ spec.shifted_right x y }
+    ensures { result ≡ spec.right_shift x y }
 {
     if y < 64 { x >> y } else { 0 }
 }

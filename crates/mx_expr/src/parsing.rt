@@ -53,10 +53,8 @@ fn zero(alloc: Global) -> Result<Exprs, ExprFault>
     ensures { result ≢ Err ExprFault.OutOfMemory → map_ok trees_of result ≡ reading [] }
 {
     let mut list = Exprs::new(alloc);
-    match list.push(Expr::Number(0)) {
-        Ok(()) => Ok(list),
-        Err(_) => Err(ExprFault::OutOfMemory),
-    }
+    list.push(Expr::Number(0))?;
+    Ok(list)
 }
 
 /// A field has at most one list.

@@ -72,28 +72,23 @@ impl Reader {
 
     /// A primary is complete.
     fn complete(&mut self, primary: Expr) -> Result<Mode, ExprFault>
-        ensures { result ≢ Err ExprFault.OutOfMemory → reading_of result self.new ≡ spec.completed (tree_of primary) (all_waiting self.old.waiting) self.old.depth (trees_of self.old.done) }
+        ensures { result ≢ Err ExprFault.OutOfMemory → reading_of result self.new ≡ spec.primary_end (tree_of primary) (all_waiting self.old.waiting) self.old.depth (trees_of self.old.done) }
     {
-        match settle(self.alloc, &mut self.waiting, primary) {
-            Ok(e) => Ok(Mode::Whole(e)),
-            Err(fault) => Err(fault),
-        }
+        Ok(Mode::Whole(settle(self.alloc, &mut self.waiting, primary)?))
     }
 
     /// One more thing waits for the next primary.
     fn wait(&mut self, item: Waiting) -> Result<Mode, ExprFault>
         ensures { result ≢ Err ExprFault.OutOfMemory → reading_of result self.new ≡ spec.at spec.operand (waiting_of item ∷ all_waiting self.old.waiting) self.old.depth (trees_of self.old.done) }
     {
-        match self.waiting.push(item) {
-            Ok(()) => Ok(Mode::Operand),
-            Err(fault) => Err(fault),
-        }
+        self.waiting.push(item)?;
+        Ok(Mode::Operand)
     }
 
     /// The first byte of a primary.
     fn begin(&mut self, b: u8) -> Result<Mode, ExprFault>
         requires { b ≡ 40 → self.old.depth < 255 }
-        ensures { result ≢ Err ExprFault.OutOfMemory → reading_of result self.new ≡ spec.wanted b (all_waiting self.old.waiting) self.old.depth (trees_of self.old.done) }
+        ensures { result ≢ Err ExprFault.OutOfMemory → reading_of result self.new ≡ spec.primary_start b (all_waiting self.old.waiting) self.old.depth (trees_of self.old.done) }
     {
         if is_digit(b) {
             Ok(Mode::Digit(b - b'0'))
@@ -107,7 +102,7 @@ impl Reader {
     /// The first byte of a primary that is no digit and no letter.
     fn begin_mark(&mut self, b: u8) -> Result<Mode, ExprFault>
         requires { b ≡ 40 → self.old.depth < 255 }
-        ensures { result ≢ Err ExprFault.OutOfMemory → reading_of result self.new ≡ spec.wanted_mark b (all_waiting self.old.waiting) self.old.depth (trees_of self.old.done) }
+        ensures { result ≢ Err ExprFault.OutOfMemory → reading_of result self.new ≡ spec.mark_start b (all_waiting self.old.waiting) self.old.depth (trees_of self.old.done) }
     {
         match b {
             b'#' => Ok(Mode::Hash),
@@ -128,7 +123,7 @@ impl Reader {
 
     /// The start of a string, which is a whole operand: nothing waits for it.
     fn open_string(&self) -> Result<Mode, ExprFault>
-        ensures { result ≢ Err ExprFault.OutOfMemory → reading_of result self.now ≡ spec.quoted (all_waiting self.now.waiting) self.now.depth (trees_of self.now.done) }
+        ensures { result ≢ Err ExprFault.OutOfMemory → reading_of result self.now ≡ spec.string_start (all_waiting self.now.waiting) self.now.depth (trees_of self.now.done) }
     {
         match self.waiting.top() {
             None => Ok(Mode::String(true)),
@@ -141,20 +136,16 @@ impl Reader {
         ensures { result ≢ Err ExprFault.OutOfMemory → reading_of result self.new ≡ spec.at (spec.symbol (text ++ b ∷ [])) (all_waiting self.old.waiting) self.old.depth (trees_of self.old.done) }
     {
         let mut text = text;
-        match text.push(b) {
-            Ok(()) => Ok(Mode::Symbol(text)),
-            Err(_) => Err(ExprFault::OutOfMemory),
-        }
+        text.push(b)?;
+        Ok(Mode::Symbol(text))
     }
 
     /// A byte after a primary that it does not go on.
     fn beyond(&mut self, primary: Expr, b: u8) -> Result<Mode, ExprFault>
         ensures { result ≢ Err ExprFault.OutOfMemory → reading_of result self.new ≡ spec.beyond b (tree_of primary) (all_waiting self.old.waiting) self.old.depth (trees_of self.old.done) }
     {
-        match settle(self.alloc, &mut self.waiting, primary) {
-            Ok(product) => self.after(product, b),
-            Err(fault) => Err(fault),
-        }
+        let product = settle(self.alloc, &mut self.waiting, primary)?;
+        self.after(product, b)
     }
 
     /// A byte after a product.
@@ -174,22 +165,19 @@ impl Reader {
 
     /// A byte after the last product of a sum.
     fn after_sum(&mut self, product: Expr, b: u8) -> Result<Mode, ExprFault>
-        ensures { result ≢ Err ExprFault.OutOfMemory → reading_of result self.new ≡ spec.weakly_or_end (spec.weak_of b) b (spec.summed (all_waiting self.old.waiting) (tree_of product)) self.old.depth (trees_of self.old.done) }
+        ensures { result ≢ Err ExprFault.OutOfMemory → reading_of result self.new ≡ spec.weakly_or_end (spec.weak_of b) b (spec.with_weak (all_waiting self.old.waiting) (tree_of product)) self.old.depth (trees_of self.old.done) }
     {
-        let e = match sum(self.alloc, &mut self.waiting, product) {
-            Ok(e) => e,
-            Err(fault) => return Err(fault),
-        };
+        let e = sum(self.alloc, &mut self.waiting, product)?;
         match b {
             b'+' => self.wait(Waiting::Weak(BinOp::Add, e)),
             b'-' => self.wait(Waiting::Weak(BinOp::Sub, e)),
             b'|' => self.wait(Waiting::Weak(BinOp::Or, e)),
             b'^' => self.wait(Waiting::Weak(BinOp::Xor, e)),
             b')' => self.close(e),
-            b',' => match self.list(e) {
-                Ok(()) => Ok(Mode::Operand),
-                Err(fault) => Err(fault),
-            },
+            b',' => {
+                self.list(e)?;
+                Ok(Mode::Operand)
+            }
             _ => Err(ExprFault::Syntax),
         }
     }
@@ -212,18 +200,15 @@ impl Reader {
         ensures depth { self.new.depth ≡ self.old.depth }
     {
         match self.waiting.top() {
-            None => match self.done.push(e) {
-                Ok(()) => Ok(()),
-                Err(_) => Err(ExprFault::OutOfMemory),
-            },
+            None => Ok(self.done.push(e)?),
             Some(_) => Err(ExprFault::Syntax),
         }
     }
 
     /// One more byte, where it passes no bound.
     fn take(&mut self, mode: Mode, b: u8) -> Result<Mode, ExprFault>
-        requires { spec.passes (mode_of mode) self.old.depth b ≡ None }
-        ensures { result ≢ Err ExprFault.OutOfMemory → reading_of result self.new ≡ spec.moved (mode_of mode) (all_waiting self.old.waiting) self.old.depth (trees_of self.old.done) b }
+        requires { spec.passed_bound (mode_of mode) self.old.depth b ≡ None }
+        ensures { result ≢ Err ExprFault.OutOfMemory → reading_of result self.new ≡ spec.next_reading (mode_of mode) (all_waiting self.old.waiting) self.old.depth (trees_of self.old.done) b }
     {
         match mode {
             Mode::Operand => self.begin(b),
@@ -245,8 +230,8 @@ impl Reader {
 
     /// A byte in a decimal constant, or after it.
     fn take_decimal(&mut self, n: u64, b: u8) -> Result<Mode, ExprFault>
-        requires { spec.passes (spec.decimal n) self.old.depth b ≡ None }
-        ensures { result ≢ Err ExprFault.OutOfMemory → reading_of result self.new ≡ spec.moved (spec.decimal n) (all_waiting self.old.waiting) self.old.depth (trees_of self.old.done) b }
+        requires { spec.passed_bound (spec.decimal n) self.old.depth b ≡ None }
+        ensures { result ≢ Err ExprFault.OutOfMemory → reading_of result self.new ≡ spec.next_reading (spec.decimal n) (all_waiting self.old.waiting) self.old.depth (trees_of self.old.done) b }
     {
         if is_digit(b) {
             Ok(Mode::Decimal(n * 10 + u64::from(b - b'0')))
@@ -257,7 +242,7 @@ impl Reader {
 
     /// The first hexadecimal digit.
     fn take_hash(&mut self, b: u8) -> Result<Mode, ExprFault>
-        ensures { result ≢ Err ExprFault.OutOfMemory → reading_of result self.new ≡ spec.moved spec.hash (all_waiting self.old.waiting) self.old.depth (trees_of self.old.done) b }
+        ensures { result ≢ Err ExprFault.OutOfMemory → reading_of result self.new ≡ spec.next_reading spec.hash (all_waiting self.old.waiting) self.old.depth (trees_of self.old.done) b }
     {
         if is_hexadecimal(b) {
             Ok(Mode::Hexadecimal(u64::from(digit_value(b))))
@@ -268,8 +253,8 @@ impl Reader {
 
     /// A byte in a hexadecimal constant, or after it.
     fn take_hexadecimal(&mut self, n: u64, b: u8) -> Result<Mode, ExprFault>
-        requires { spec.passes (spec.hexadecimal n) self.old.depth b ≡ None }
-        ensures { result ≢ Err ExprFault.OutOfMemory → reading_of result self.new ≡ spec.moved (spec.hexadecimal n) (all_waiting self.old.waiting) self.old.depth (trees_of self.old.done) b }
+        requires { spec.passed_bound (spec.hexadecimal n) self.old.depth b ≡ None }
+        ensures { result ≢ Err ExprFault.OutOfMemory → reading_of result self.new ≡ spec.next_reading (spec.hexadecimal n) (all_waiting self.old.waiting) self.old.depth (trees_of self.old.done) b }
     {
         if is_hexadecimal(b) {
             Ok(Mode::Hexadecimal(n * 16 + u64::from(digit_value(b))))
@@ -280,7 +265,7 @@ impl Reader {
 
     /// The end of a character constant.
     fn take_character(&mut self, c: u8, b: u8) -> Result<Mode, ExprFault>
-        ensures { result ≢ Err ExprFault.OutOfMemory → reading_of result self.new ≡ spec.moved (spec.character c) (all_waiting self.old.waiting) self.old.depth (trees_of self.old.done) b }
+        ensures { result ≢ Err ExprFault.OutOfMemory → reading_of result self.new ≡ spec.next_reading (spec.character c) (all_waiting self.old.waiting) self.old.depth (trees_of self.old.done) b }
     {
         if b == b'\'' {
             self.complete(Expr::Number(u64::from(c)))
@@ -291,7 +276,7 @@ impl Reader {
 
     /// A byte in a symbol, or after it.
     fn take_symbol(&mut self, text: Bytes, b: u8) -> Result<Mode, ExprFault>
-        ensures { result ≢ Err ExprFault.OutOfMemory → reading_of result self.new ≡ spec.moved (spec.symbol text) (all_waiting self.old.waiting) self.old.depth (trees_of self.old.done) b }
+        ensures { result ≢ Err ExprFault.OutOfMemory → reading_of result self.new ≡ spec.next_reading (spec.symbol text) (all_waiting self.old.waiting) self.old.depth (trees_of self.old.done) b }
     {
         if is_name_byte(b) {
             self.lengthen(text, b)
@@ -302,7 +287,7 @@ impl Reader {
 
     /// The second byte of `<<`.
     fn take_less(&mut self, left: Expr, b: u8) -> Result<Mode, ExprFault>
-        ensures { result ≢ Err ExprFault.OutOfMemory → reading_of result self.new ≡ spec.moved (spec.less (tree_of left)) (all_waiting self.old.waiting) self.old.depth (trees_of self.old.done) b }
+        ensures { result ≢ Err ExprFault.OutOfMemory → reading_of result self.new ≡ spec.next_reading (spec.less (tree_of left)) (all_waiting self.old.waiting) self.old.depth (trees_of self.old.done) b }
     {
         if b == b'<' {
             self.wait(Waiting::Strong(BinOp::Left, left))
@@ -313,7 +298,7 @@ impl Reader {
 
     /// The second byte of `>>`.
     fn take_greater(&mut self, left: Expr, b: u8) -> Result<Mode, ExprFault>
-        ensures { result ≢ Err ExprFault.OutOfMemory → reading_of result self.new ≡ spec.moved (spec.greater (tree_of left)) (all_waiting self.old.waiting) self.old.depth (trees_of self.old.done) b }
+        ensures { result ≢ Err ExprFault.OutOfMemory → reading_of result self.new ≡ spec.next_reading (spec.greater (tree_of left)) (all_waiting self.old.waiting) self.old.depth (trees_of self.old.done) b }
     {
         if b == b'>' {
             self.wait(Waiting::Strong(BinOp::Right, left))
@@ -324,7 +309,7 @@ impl Reader {
 
     /// The comma after a string.
     fn take_comma(&mut self, b: u8) -> Result<Mode, ExprFault>
-        ensures { result ≢ Err ExprFault.OutOfMemory → reading_of result self.new ≡ spec.moved spec.closed (all_waiting self.old.waiting) self.old.depth (trees_of self.old.done) b }
+        ensures { result ≢ Err ExprFault.OutOfMemory → reading_of result self.new ≡ spec.next_reading spec.closed (all_waiting self.old.waiting) self.old.depth (trees_of self.old.done) b }
     {
         if b == b',' {
             Ok(Mode::Operand)
@@ -335,7 +320,7 @@ impl Reader {
 
     /// A byte after the first digit: one more digit, or the letter of a local label.
     fn take_digit(&mut self, n: u8, b: u8) -> Result<Mode, ExprFault>
-        ensures { result ≢ Err ExprFault.OutOfMemory → reading_of result self.new ≡ spec.moved (spec.digit n) (all_waiting self.old.waiting) self.old.depth (trees_of self.old.done) b }
+        ensures { result ≢ Err ExprFault.OutOfMemory → reading_of result self.new ≡ spec.next_reading (spec.digit n) (all_waiting self.old.waiting) self.old.depth (trees_of self.old.done) b }
     {
         if is_digit(b) {
             Ok(Mode::Decimal(u64::from(n) * 10 + u64::from(b - b'0')))
@@ -351,15 +336,13 @@ impl Reader {
     /// A byte after `/`: one more, or the first of a primary.
     fn take_slash(&mut self, left: Expr, b: u8) -> Result<Mode, ExprFault>
         requires { b ≡ 40 → self.old.depth < 255 }
-        ensures { result ≢ Err ExprFault.OutOfMemory → reading_of result self.new ≡ spec.moved (spec.slash (tree_of left)) (all_waiting self.old.waiting) self.old.depth (trees_of self.old.done) b }
+        ensures { result ≢ Err ExprFault.OutOfMemory → reading_of result self.new ≡ spec.next_reading (spec.slash (tree_of left)) (all_waiting self.old.waiting) self.old.depth (trees_of self.old.done) b }
     {
         if b == b'/' {
             return self.wait(Waiting::Strong(BinOp::Fraction, left));
         }
-        match self.wait(Waiting::Strong(BinOp::Div, left)) {
-            Ok(_) => self.begin(b),
-            Err(fault) => Err(fault),
-        }
+        self.wait(Waiting::Strong(BinOp::Div, left))?;
+        self.begin(b)
     }
 
     /// A byte in a string.
@@ -369,15 +352,13 @@ impl Reader {
         if b == b'"' {
             return Ok(Mode::Closed);
         }
-        match self.done.push(Expr::Number(u64::from(b))) {
-            Ok(()) => Ok(Mode::String(false)),
-            Err(_) => Err(ExprFault::OutOfMemory),
-        }
+        self.done.push(Expr::Number(u64::from(b)))?;
+        Ok(Mode::String(false))
     }
 
     /// The bound that a byte would pass.
     fn bound(&self, mode: &Mode, b: u8) -> Option<ExprFault>
-        ensures { result ≡ spec.passes (mode_of mode.now) self.now.depth b }
+        ensures { result ≡ spec.passed_bound (mode_of mode.now) self.now.depth b }
     {
         match mode {
             Mode::Operand | Mode::Slash(_) if b == b'(' && self.depth >= 255 => {
@@ -394,7 +375,7 @@ impl Reader {
 
     /// One more byte.
     pub(crate) fn step(&mut self, mode: Mode, b: u8) -> Result<Mode, ExprFault>
-        ensures { result ≢ Err ExprFault.OutOfMemory → reading_of result self.new ≡ spec.bounded (mode_of mode) (all_waiting self.old.waiting) self.old.depth (trees_of self.old.done) b }
+        ensures { result ≢ Err ExprFault.OutOfMemory → reading_of result self.new ≡ spec.bounded_step (mode_of mode) (all_waiting self.old.waiting) self.old.depth (trees_of self.old.done) b }
     {
         match self.bound(&mode, b) {
             Some(fault) => Err(fault),
@@ -404,7 +385,7 @@ impl Reader {
 
     /// The list, at the end of the field.
     pub(crate) fn finish(self, mode: Mode) -> Result<Exprs, ExprFault>
-        ensures { result ≢ Err ExprFault.OutOfMemory → map_ok trees_of result ≡ spec.finish (mode_of mode) (all_waiting self.waiting) (trees_of self.done) }
+        ensures { result ≢ Err ExprFault.OutOfMemory → map_ok trees_of result ≡ spec.field_end (mode_of mode) (all_waiting self.waiting) (trees_of self.done) }
     {
         match mode {
             Mode::Whole(e) => self.end(e),
@@ -418,26 +399,19 @@ impl Reader {
 
     /// The list, where the field ends with a primary.
     fn end_primary(mut self, primary: Expr) -> Result<Exprs, ExprFault>
-        ensures { result ≢ Err ExprFault.OutOfMemory → map_ok trees_of result ≡ (let p = spec.settled (all_waiting self.waiting) (tree_of primary) in spec.listed (spec.summed p.1 p.0) (trees_of self.done)) }
+        ensures { result ≢ Err ExprFault.OutOfMemory → map_ok trees_of result ≡ (let p = spec.with_strong (all_waiting self.waiting) (tree_of primary) in spec.listed (spec.with_weak p.1 p.0) (trees_of self.done)) }
     {
-        match settle(self.alloc, &mut self.waiting, primary) {
-            Ok(product) => self.end(product),
-            Err(fault) => Err(fault),
-        }
+        let product = settle(self.alloc, &mut self.waiting, primary)?;
+        self.end(product)
     }
 
     /// The list, where the field ends with a product.
     fn end(mut self, product: Expr) -> Result<Exprs, ExprFault>
-        ensures { result ≢ Err ExprFault.OutOfMemory → map_ok trees_of result ≡ spec.listed (spec.summed (all_waiting self.waiting) (tree_of product)) (trees_of self.done) }
+        ensures { result ≢ Err ExprFault.OutOfMemory → map_ok trees_of result ≡ spec.listed (spec.with_weak (all_waiting self.waiting) (tree_of product)) (trees_of self.done) }
     {
-        let e = match sum(self.alloc, &mut self.waiting, product) {
-            Ok(e) => e,
-            Err(fault) => return Err(fault),
-        };
-        match self.list(e) {
-            Ok(()) => Ok(self.done),
-            Err(fault) => Err(fault),
-        }
+        let e = sum(self.alloc, &mut self.waiting, product)?;
+        self.list(e)?;
+        Ok(self.done)
     }
 }
 

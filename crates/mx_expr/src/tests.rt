@@ -270,7 +270,7 @@ fn deep_fields(rt: HostRuntime) {
             middle.as_bytes(),
             last.as_bytes(),
         ) else {
-            assert!(rt; false, "want of memory");
+            assert!(rt; false, "out of memory");
             return;
         };
         assert_eq!(rt;
@@ -299,7 +299,7 @@ fn deep_refusals(rt: HostRuntime) {
             middle.as_bytes(),
             last.as_bytes(),
         ) else {
-            assert!(rt; false, "want of memory");
+            assert!(rt; false, "out of memory");
             return;
         };
         assert_eq!(rt;
@@ -320,7 +320,7 @@ fn listed(alloc: Global) -> Result<Exprs, NoMemory> {
 #[test]
 fn lists(rt: HostRuntime) {
     let Ok(list) = listed(rt.alloc()) else {
-        assert!(rt; false, "want of memory");
+        assert!(rt; false, "out of memory");
         return;
     };
     assert_eq!(rt; list.as_slice().len(), 1);

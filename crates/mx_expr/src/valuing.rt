@@ -2,8 +2,8 @@
 
 ghost use Rattle.std.specs.Prelude.{◌≡◌, ◌≢◌, ◌+◌, ◌<◌, ◌≤◌, [], ◌∷◌, ◌++◌, Result, Ok, Err, IfOk, IfErr, OnOk, MatchResult};
 ghost use Rattle.mx_expr.specs.Tree.{tree_of, HasDigits};
-ghost use Rattle.mx_expr.specs.Value.{Knowledge, value_of, knows, of_symbol};
-ghost use Rattle.mx_expr.specs.Frames.{finished, nodes, nodes_left, AllHaveDigits, Goes, LeftBy, NextHasDigits};
+ghost use Rattle.mx_expr.specs.Value.{Knowledge, value_of, knowledge, of_symbol};
+ghost use Rattle.mx_expr.specs.Frames.{value_after, nodes, nodes_left, AllHaveDigits, Goes, LeftBy, NextHasDigits};
 
 use crate::operators::{apply, combine};
 use crate::{BinOp, Expr, ExprFault, Known, UnOp};
@@ -33,19 +33,15 @@ enum Next<'a> {
 #[tactic(auto, using(crate::proofs::FrameLaws::frames))]
 pub fn value<E: Known>(alloc: Global, e: &Expr, env: &E) -> Result<Value, ExprFault>
     requires { HasDigits (tree_of e.now) }
-    ensures { result ≢ Err ExprFault.OutOfMemory → result ≡ value_of (knows (E.symbols env.now) (E.backs env.now) (E.at env.now)) (tree_of e.now) }
+    ensures { result ≢ Err ExprFault.OutOfMemory → result ≡ value_of (knowledge (E.symbols env.now) (E.backs env.now) (E.at env.now)) (tree_of e.now) }
 {
     let mut frames = Vec::new(alloc);
     let mut at = e;
     loop {
-        let first = match down(&mut frames, at, env) {
-            Ok(first) => first,
-            Err(fault) => return Err(fault),
-        };
-        match up(&mut frames, first) {
-            Ok(Next::Done(value)) => return Ok(value),
-            Ok(Next::Right(right)) => at = right,
-            Err(fault) => return Err(fault),
+        let first = down(&mut frames, at, env)?;
+        match up(&mut frames, first)? {
+            Next::Done(value) => return Ok(value),
+            Next::Right(right) => at = right,
         }
     }
 }
@@ -55,7 +51,7 @@ pub fn value<E: Known>(alloc: Global, e: &Expr, env: &E) -> Result<Value, ExprFa
 fn down<'a, E: Known>(frames: &mut Vec<Frame<'a>>, e: &'a Expr, env: &E) -> Result<Value, ExprFault>
     requires digits { HasDigits (tree_of e.now) }
     requires all_digits { AllHaveDigits frames.old.items }
-    ensures value { let known = knows (E.symbols env.now) (E.backs env.now) (E.at env.now) in result ≢ Err ExprFault.OutOfMemory → finished known frames.new.items result ≡ finished known frames.old.items (value_of known (tree_of e.now)) }
+    ensures value { let known = knowledge (E.symbols env.now) (E.backs env.now) (E.at env.now) in result ≢ Err ExprFault.OutOfMemory → value_after known frames.new.items result ≡ value_after known frames.old.items (value_of known (tree_of e.now)) }
     ensures digits { AllHaveDigits frames.new.items }
     ensures less { nodes_left frames.new.items < nodes_left frames.old.items + nodes (tree_of e.now) }
 {
@@ -63,15 +59,11 @@ fn down<'a, E: Known>(frames: &mut Vec<Frame<'a>>, e: &'a Expr, env: &E) -> Resu
     loop {
         match at {
             Expr::Unary(op, operand) => {
-                if frames.push(Frame::Operand(*op)).is_err() {
-                    return Err(ExprFault::OutOfMemory);
-                }
+                frames.push(Frame::Operand(*op))?;
                 at = operand;
             }
             Expr::Binary(op, left, right) => {
-                if frames.push(Frame::Left(*op, right)).is_err() {
-                    return Err(ExprFault::OutOfMemory);
-                }
+                frames.push(Frame::Left(*op, right))?;
                 at = left;
             }
             Expr::Number(n) => return Ok(Value::Pure(*n)),
@@ -87,10 +79,9 @@ fn down<'a, E: Known>(frames: &mut Vec<Frame<'a>>, e: &'a Expr, env: &E) -> Resu
 fn symbol<E: Known>(name: &Bytes, env: &E) -> Result<Value, ExprFault>
     ensures { result ≢ Err ExprFault.OutOfMemory → result ≡ of_symbol (E.symbols env.now name.now) }
 {
-    match env.symbol(name.as_slice()) {
-        Ok(Some(value)) => Ok(value),
-        Ok(None) => Err(ExprFault::Future),
-        Err(fault) => Err(fault),
+    match env.symbol(name.as_slice())? {
+        Some(value) => Ok(value),
+        None => Err(ExprFault::Future),
     }
 }
 
@@ -98,27 +89,19 @@ fn symbol<E: Known>(name: &Bytes, env: &E) -> Result<Value, ExprFault>
 #[tactic(auto, using(crate::proofs::FrameLaws::frames))]
 fn up<'a>(frames: &mut Vec<Frame<'a>>, first: Value) -> Result<Next<'a>, ExprFault>
     requires all_digits { AllHaveDigits frames.old.items }
-    ensures value { (known : Knowledge) → Goes known frames.new.items result (finished known frames.old.items (Ok first)) }
+    ensures value { (known : Knowledge) → Goes known frames.new.items result (value_after known frames.old.items (Ok first)) }
     ensures digits { NextHasDigits result × AllHaveDigits frames.new.items }
     ensures left { LeftBy frames.new.items result (nodes_left frames.old.items) }
 {
     let mut value = first;
     while let Some(frame) = frames.pop() {
         match frame {
-            Frame::Operand(op) => match apply(op, value) {
-                Ok(x) => value = x,
-                Err(fault) => return Err(fault),
-            },
+            Frame::Operand(op) => value = apply(op, value)?,
             Frame::Left(op, right) => {
-                return match frames.push(Frame::Right(op, value)) {
-                    Ok(()) => Ok(Next::Right(right)),
-                    Err(_) => Err(ExprFault::OutOfMemory),
-                };
+                frames.push(Frame::Right(op, value))?;
+                return Ok(Next::Right(right));
             }
-            Frame::Right(op, left) => match combine(op, left, value) {
-                Ok(x) => value = x,
-                Err(fault) => return Err(fault),
-            },
+            Frame::Right(op, left) => value = combine(op, left, value)?,
         }
     }
     Ok(Next::Done(value))

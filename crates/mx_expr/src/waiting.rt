@@ -53,10 +53,8 @@ impl Stack {
         ensures ok { OnOk result (self.new ≡ item ∷ self.old) }
         ensures err { IfErr result (λ e. e ≡ ExprFault.OutOfMemory) }
     {
-        match self.items.push(item) {
-            Ok(()) => Ok(()),
-            Err(_) => Err(ExprFault::OutOfMemory),
-        }
+        self.items.push(item)?;
+        Ok(())
     }
 
     /// What waits last.

@@ -1,5 +1,6 @@
 -- Operand fields: what the rules spell is what is measured, and what is measured is spelled so.
 use Rattle.std.proofs.Common.{◌≡◌, ℕ, suc, ◌+◌, List, [], ◌∷◌, ◌++◌, length, Bool, true, false, cond, not, Result, Ok, Err, refl, sym, ap, ◌∙◌, arith, subst, append_assoc, length-append, inl, inr}
+use Rattle.std.proofs.lemmas.Bool.{cond_both, and_parts}
 use Rattle.std.specs.Prelude.{◌==◌, ◌||◌}
 use Rattle.std.specs.List.{list_all}
 use Rattle.std.proofs.lemmas.Bool.{eqb-true}
@@ -10,8 +11,6 @@ use Rattle.mx_line.specs.Fields.{Within, field_from, field_length, more, ends_fi
 use Rattle.mx_line.specs.Fields.Within.{nothing, string, constant, closing}
 use Rattle.mx_line.specs.Statements.{begins, is_no_quote, is_other, IsField, closes}
 use Rattle.mx_line.specs.Statements.IsField.{empty, string_first, constant_first, byte_first}
-use Rattle.mx_line.proofs.Choices.{chosen}
-use Rattle.mx_line.proofs.RunLaws.{and-both}
 use Rattle.mx_line.proofs.FieldLemmas.{more-more}
 
 is-eq : (b n : ℕ) → (b == n) ≡ true → b ≡ n
@@ -34,14 +33,14 @@ quoted : (inner rest : List ℕ) → list_all is_no_quote inner ≡ true → fie
 unfolding field_from
 quoted [] rest h = refl
 quoted (b ∷ bs) rest h =
-    let both = and-both (is_no_quote b) (list_all is_no_quote bs) h in
+    let both = and_parts (is_no_quote b) (list_all is_no_quote bs) h in
     let e : 1 + (length bs + 1) ≡ suc (length bs) + 1 = omega arith in
     passed (b == 34) _ _ both.0 ∙ ap (more 1) (quoted bs rest both.1) ∙ more-more 1 (length bs + 1) (field_from nothing rest) ∙ ap (λ n. more n (field_from nothing rest)) e
 
 unquoted : (inner : List ℕ) → list_all is_no_quote inner ≡ true → field_from string inner ≡ Err OpenString
 unfolding field_from
 unquoted [] h = refl
-unquoted (b ∷ bs) h = let both = and-both (is_no_quote b) (list_all is_no_quote bs) h in passed (b == 34) _ _ both.0 ∙ ap (more 1) (unquoted bs both.1)
+unquoted (b ∷ bs) h = let both = and_parts (is_no_quote b) (list_all is_no_quote bs) h in passed (b == 34) _ _ both.0 ∙ ap (more 1) (unquoted bs both.1)
 
 none-of : (x y z : Bool) → not (x || y || z) ≡ true → (x ≡ false) × (y ≡ false) × (z ≡ false)
 none-of false false false h = (refl, refl, refl)
@@ -214,16 +213,16 @@ spelled-is constant [] = at_byte refl refl
 spelled-is closing [] = at_close refl refl
 spelled-is nothing (b ∷ bs) =
     let P : Result ℕ LineFault → Type 0 = Spelled nothing (b ∷ bs) in
-    chosen P (b == 34) _ _ (λ e. subst (λ c. Spelled nothing (c ∷ bs) (more 1 (field_from string bs))) (sym (is-eq b 34 e)) (from-quote bs (spelled-is string bs))) (λ e.
-    chosen P (b == 39) _ _ (λ f. subst (λ c. Spelled nothing (c ∷ bs) (more 1 (field_from constant bs))) (sym (is-eq b 39 f)) (from-apostrophe bs (spelled-is constant bs))) (λ f.
-    chosen P (ends_field b) _ _ (λ g. record { bytes = []; after = b ∷ bs; spelled = refl; counted = refl; left = empty; ends = g })
+    cond_both (b == 34) _ _ P (λ e. subst (λ c. Spelled nothing (c ∷ bs) (more 1 (field_from string bs))) (sym (is-eq b 34 e)) (from-quote bs (spelled-is string bs))) (λ e.
+    cond_both (b == 39) _ _ P (λ f. subst (λ c. Spelled nothing (c ∷ bs) (more 1 (field_from constant bs))) (sym (is-eq b 39 f)) (from-apostrophe bs (spelled-is constant bs))) (λ f.
+    cond_both (ends_field b) _ _ P (λ g. record { bytes = []; after = b ∷ bs; spelled = refl; counted = refl; left = empty; ends = g })
     (λ g. from-byte b bs (is-other b e f g) (spelled-is nothing bs))))
 spelled-is string (b ∷ bs) =
     let P : Result ℕ LineFault → Type 0 = Spelled string (b ∷ bs) in
-    chosen P (b == 34) _ _ (λ e. subst (λ c. Spelled string (c ∷ bs) (more 1 (field_from nothing bs))) (sym (is-eq b 34 e)) (string-ends bs (spelled-is nothing bs)))
+    cond_both (b == 34) _ _ P (λ e. subst (λ c. Spelled string (c ∷ bs) (more 1 (field_from nothing bs))) (sym (is-eq b 34 e)) (string-ends bs (spelled-is nothing bs)))
     (λ e. string-goes b bs e (spelled-is string bs))
 spelled-is constant (b ∷ bs) = constant-goes b bs (spelled-is closing bs)
 spelled-is closing (b ∷ bs) =
     let P : Result ℕ LineFault → Type 0 = Spelled closing (b ∷ bs) in
-    chosen P (b == 39) _ _ (λ e. subst (λ c. Spelled closing (c ∷ bs) (more 1 (field_from nothing bs))) (sym (is-eq b 39 e)) (constant-ends bs (spelled-is nothing bs)))
+    cond_both (b == 39) _ _ P (λ e. subst (λ c. Spelled closing (c ∷ bs) (more 1 (field_from nothing bs))) (sym (is-eq b 39 e)) (constant-ends bs (spelled-is nothing bs)))
     (λ e. at_close refl e)

@@ -1,12 +1,12 @@
 -- Operand fields by what stands first in them.
 use Rattle.std.proofs.Common.{◌≡◌, ◌≢◌, ℕ, zero, suc, ◌+◌, ◌<◌, ◌≤◌, List, [], ◌∷◌, length, drop, get_or, Bool, true, false, cond, not, Some, None, Result, Ok, Err, IfOk, arith, refl, sym, ap, ◌∙◌, add-one}
+use Rattle.std.proofs.lemmas.Bool.{cond-false, cond_both}
 use Rattle.std.specs.Prelude.{◌==◌}
 use Rattle.std.proofs.lemmas.Bool.Decides.{nat_tests}
 use Rattle.std.specs.List.{position_or_len}
 use Rattle.std.proofs.lemmas.List.{drop-drop}
 use Rattle.mx_line.specs.declared.faults.LineFault.{LineFault}
 use Rattle.mx_line.specs.declared.faults.LineFault.TheVariants.{OpenString, OpenChar}
-use Rattle.mx_line.proofs.Choices.{chosen, chosen-last}
 use Rattle.mx_line.specs.Fields.{Within, field_from, field_length, after_first, more, ends_field}
 use Rattle.mx_line.specs.Fields.Within.{nothing, string, constant, closing}
 
@@ -22,7 +22,7 @@ empty-field (b ∷ bs) h = absurd (omega arith)
 
 -- the field's length, where something stands first
 after-some : (text : List ℕ) (count : ℕ) → 0 < count → more count (field_length (drop count text)) ≡ after_first text (Ok count)
-after-some text count h = chosen-last (count == 0) (Ok 0) (more count (field_length (drop count text))) (grind (arith, nat_tests))
+after-some text count h = sym (cond-false (count == 0) (Ok 0) (more count (field_length (drop count text))) (grind (arith, nat_tests)))
 
 -- the string is closed at the first quote
 string-step : (t : Bool) (b n : ℕ) (bs : List ℕ) → (t ≡ false → n < length bs → field_from string bs ≡ more (n + 1) (field_from nothing (drop (n + 1) bs))) →
@@ -113,16 +113,16 @@ field-few constant [] = tt
 field-few closing [] = tt
 field-few nothing (b ∷ bs) =
     let P : Result ℕ LineFault → Type 0 = λ r. IfOk r (λ n. n ≤ suc (length bs)) in
-    chosen P (b == 34) _ _ (λ _. more-few (field_from string bs) (length bs) (field-few string bs)) (λ _.
-    chosen P (b == 39) _ _ (λ _. more-few (field_from constant bs) (length bs) (field-few constant bs)) (λ _.
-    chosen P (ends_field b) _ _ (λ _. omega arith) (λ _. more-few (field_from nothing bs) (length bs) (field-few nothing bs))))
+    cond_both (b == 34) _ _ P (λ _. more-few (field_from string bs) (length bs) (field-few string bs)) (λ _.
+    cond_both (b == 39) _ _ P (λ _. more-few (field_from constant bs) (length bs) (field-few constant bs)) (λ _.
+    cond_both (ends_field b) _ _ P (λ _. omega arith) (λ _. more-few (field_from nothing bs) (length bs) (field-few nothing bs))))
 field-few string (b ∷ bs) =
     let P : Result ℕ LineFault → Type 0 = λ r. IfOk r (λ n. n ≤ suc (length bs)) in
-    chosen P (b == 34) _ _ (λ _. more-few (field_from nothing bs) (length bs) (field-few nothing bs)) (λ _. more-few (field_from string bs) (length bs) (field-few string bs))
+    cond_both (b == 34) _ _ P (λ _. more-few (field_from nothing bs) (length bs) (field-few nothing bs)) (λ _. more-few (field_from string bs) (length bs) (field-few string bs))
 field-few constant (b ∷ bs) = more-few (field_from closing bs) (length bs) (field-few closing bs)
 field-few closing (b ∷ bs) =
     let P : Result ℕ LineFault → Type 0 = λ r. IfOk r (λ n. n ≤ suc (length bs)) in
-    chosen P (b == 39) _ _ (λ _. more-few (field_from nothing bs) (length bs) (field-few nothing bs)) (λ _. tt)
+    cond_both (b == 39) _ _ P (λ _. more-few (field_from nothing bs) (length bs) (field-few nothing bs)) (λ _. tt)
 
 pub field_length-few : (text : List ℕ) → IfOk (field_length text) (λ n. n ≤ length text)
 field_length-few text = field-few nothing text

@@ -1,4 +1,3 @@
-pub mod Choices
 pub mod KindLemmas
 pub mod PieceLemmas
 pub mod LineLemmas

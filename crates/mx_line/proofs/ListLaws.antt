@@ -2,14 +2,14 @@
 use Rattle.std.proofs.Common.{◌≡◌, ℕ, zero, suc, ◌+◌, ◌-◌, ◌<◌, ◌≤◌, List, ◌∷◌, length, Some, None, Result, Ok, Err, sym, ap, ◌∙◌, arith, subst}
 use Rattle.mx_line.specs.declared.faults.LineFault.{LineFault}
 use Rattle.mx_line.specs.declared.cutter.Cut.{Cut}
-use Rattle.mx_line.specs.Cutting.{statement_of, listed, cuts_within, cuts_from, CutInOrder}
+use Rattle.mx_line.specs.Cutting.{statement_of, list_with, cuts_within, cuts_from, CutInOrder}
 use Rattle.mx_line.specs.Statements.{Found, StatementOf, Statements}
 use Rattle.mx_line.specs.Statements.Statements.{none, fault, next}
 use Rattle.mx_line.proofs.StatementLemmas.{past-label, statement-order, list-is}
 use Rattle.mx_line.proofs.RuleLaws.{statement_of-is, statement_of-only}
 
 listed-is : (line : List ℕ) (place : ℕ) (f : ℕ → List (Result Cut LineFault)) → ((p : ℕ) → place < p → p ≤ length line → Statements line p (f p)) →
-    (found : Found) → StatementOf line place found → CutInOrder place (length line) found → Statements line place (listed f found)
+    (found : Found) → StatementOf line place found → CutInOrder place (length line) found → Statements line place (list_with f found)
 listed-is line place f h (Err why) s o = fault place why s
 listed-is line place f h (Ok None) s o = none place s
 listed-is line place f h (Ok (Some cut)) s o = let after = past-label place cut.label cut.op.from o.label in next place cut (f cut.next) s (h cut.next (omega arith) o.within)
@@ -24,8 +24,8 @@ within-is (suc most) line place h l =
 pub list-by-rules : (line : List ℕ) (place : ℕ) → place ≤ length line → Statements line place (cuts_from line place)
 list-by-rules line place h = within-is (length line + 1 - place) line place (omega arith) h
 
-made : (line : List ℕ) (place : ℕ) (found : Found) → place ≤ length line → StatementOf line place found → cuts_from line place ≡ listed (cuts_from line) found
-made line place found h s = list-is line place h ∙ ap (listed (cuts_from line)) (statement_of-only line place found s)
+made : (line : List ℕ) (place : ℕ) (found : Found) → place ≤ length line → StatementOf line place found → cuts_from line place ≡ list_with (cuts_from line) found
+made line place found h s = list-is line place h ∙ ap (list_with (cuts_from line)) (statement_of-only line place found s)
 
 order-of : (line : List ℕ) (place : ℕ) (found : Found) → place ≤ length line → StatementOf line place found → CutInOrder place (length line) found
 order-of line place found h s = subst (CutInOrder place (length line)) (statement_of-only line place found s) (statement-order line place h)

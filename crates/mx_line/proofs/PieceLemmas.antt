@@ -6,7 +6,7 @@ use Rattle.std.proofs.lemmas.List.Splits.{slice_split_first, join_with_byte-slic
 use Rattle.std.specs.Option.{option_map}
 use Rattle.std.proofs.lemmas.Grind.{common_steps}
 use Rattle.std.proofs.lemmas.List.Folds.{length-prefix_len}
-use Rattle.mx_line.proofs.Choices.{same-some}
+use Rattle.std.proofs.lemmas.Option.{same_Some}
 use Rattle.mx_line.specs.Pieces.{split, two_of, three_of}
 
 pub none-length : (at : ℕ) (xs : List ℕ) → position (λ x. x == at) xs ≡ None → length xs ≡ position_or_len (λ x. x == at) xs
@@ -80,7 +80,7 @@ join-split at text = join_with_byte-slice_split at text
 two-join : (at : ℕ) (pieces : List (List ℕ)) (first second : List ℕ) → two_of pieces ≡ Some (first, second) → join_with_byte at pieces ≡ first ++ at ∷ second
 two-join at [] first second h = cc
 two-join at (p ∷ []) first second h = cc
-two-join at (p ∷ q ∷ []) first second h = ap (λ (t : List ℕ × List ℕ). t.0 ++ at ∷ t.1) (same-some _ _ h)
+two-join at (p ∷ q ∷ []) first second h = ap (λ (t : List ℕ × List ℕ). t.0 ++ at ∷ t.1) (same_Some _ _ h)
 two-join at (p ∷ q ∷ r ∷ ps) first second h = cc
 
 pub two-text : (at : ℕ) (text first second : List ℕ) → two_of (split at text) ≡ Some (first, second) → text ≡ first ++ at ∷ second
@@ -90,7 +90,7 @@ three-join : (at : ℕ) (pieces : List (List ℕ)) (first second third : List �
 three-join at [] first second third h = cc
 three-join at (p ∷ []) first second third h = cc
 three-join at (p ∷ q ∷ []) first second third h = cc
-three-join at (p ∷ q ∷ r ∷ []) first second third h = ap (λ (t : List ℕ × List ℕ × List ℕ). t.0 ++ at ∷ (t.1 ++ at ∷ t.2)) (same-some _ _ h)
+three-join at (p ∷ q ∷ r ∷ []) first second third h = ap (λ (t : List ℕ × List ℕ × List ℕ). t.0 ++ at ∷ (t.1 ++ at ∷ t.2)) (same_Some _ _ h)
 three-join at (p ∷ q ∷ r ∷ s ∷ ps) first second third h = cc
 
 pub three-text : (at : ℕ) (text first second third : List ℕ) → three_of (split at text) ≡ Some (first, second, third) → text ≡ first ++ at ∷ (second ++ at ∷ third)

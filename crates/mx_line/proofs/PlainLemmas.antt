@@ -1,5 +1,6 @@
 -- Where the parts of a plain line stand.
 use Rattle.std.proofs.Common.{◌≡◌, ℕ, ◌+◌, ◌-◌, List, [], ◌∷◌, ◌++◌, length, take, drop, Bool, true, arith, refl, sym, subst, ◌∙◌, ap, Some, None, Option, IfSome, codes, length-append, drop_at, append_assoc, append-nil, take_at}
+use Rattle.std.proofs.lemmas.Bool.{cond_both}
 use Rattle.std.specs.Str.{bytes_eq}
 use Rattle.mx_line.specs.declared.spans.Span.{Span}
 use Rattle.mx_line.specs.declared.plain_lines.Plain.{Plain}
@@ -7,7 +8,7 @@ use Rattle.mx_line.specs.declared.plain_lines.Plain.TheVariants.{Geta}
 use Rattle.mx_line.specs.Pieces.{split, two_of, three_of}
 use Rattle.mx_line.specs.Numbers.{number_of, are_numbers, address_of, register_of, is_label}
 use Rattle.mx_line.specs.Plain.{span, label_of, loc_with, loc_of, geta_with, geta_of, trap_with, trap_of, named, labelled, fields_plain, plain_of, part, Stands, LabelStands, AllStand}
-use Rattle.mx_line.proofs.Choices.{chosen, same-some}
+use Rattle.std.proofs.lemmas.Option.{same_Some}
 use Rattle.mx_line.proofs.PieceLemmas.{two-text, three-text}
 
 -- what stands between two parts of a text
@@ -36,8 +37,8 @@ label-cases : (text field rest : List ℕ) → text ≡ field ++ rest → (label
 label-cases text [] rest e None h = tt
 label-cases text [] rest e (Some s) h = cc
 label-cases text (b ∷ bs) rest e label h =
-    chosen (λ (r : Option (Option Span)). r ≡ Some label → LabelStands text label) (is_label (b ∷ bs)) (Some (Some (span 0 (b ∷ bs)))) None
-    (λ t k. subst (LabelStands text) (same-some _ _ k) (stands-middle text [] (b ∷ bs) rest 0 is_label e refl t))
+    cond_both (is_label (b ∷ bs)) (Some (Some (span 0 (b ∷ bs)))) None (λ (r : Option (Option Span)). r ≡ Some label → LabelStands text label)
+    (λ t k. subst (LabelStands text) (same_Some _ _ k) (stands-middle text [] (b ∷ bs) rest 0 is_label e refl t))
     (λ t k. absurd (cc)) h
 
 geta-cases : (text before operands : List ℕ) (label : Option Span) (place : ℕ) → text ≡ before ++ operands → place ≡ length before → LabelStands text label →
@@ -52,7 +53,7 @@ geta-cases text before operands label place e p l (Some (first, second)) h =
         (register : Option ℕ) → IfSome (geta_with label place register target) (AllStand text)
     geta-with text before target label place e p l None = tt
     geta-with text before target label place e p l (Some r) =
-        chosen (λ (r : Option Plain). IfSome r (AllStand text)) (is_label target) (Some (Geta label r (span place target))) None
+        cond_both (is_label target) (Some (Geta label r (span place target))) None (λ (r : Option Plain). IfSome r (AllStand text))
         (λ t. (l, stands-last text before target place is_label e p t)) (λ t. tt)
 
 trap-cases : (text : List ℕ) (label : Option Span) → LabelStands text label → (pieces : Option (List ℕ × List ℕ × List ℕ)) → IfSome (trap_of label pieces) (AllStand text)
@@ -77,11 +78,11 @@ named-stands : (text before name operands : List ℕ) (label : Option Span) (pla
     IfSome (named label name place operands) (AllStand text)
 named-stands text before name operands label place e p l =
     let P : Option Plain → Type 0 = λ r. IfSome r (AllStand text) in
-    chosen P (bytes_eq name (codes "LOC")) _ _ (λ _. loc-cases text label operands) (λ _.
-    chosen P (bytes_eq name (codes "BYTE")) _ _ (λ _.
-    chosen P (are_numbers operands) _ _ (λ t. (l, stands-last text before operands place are_numbers e p t)) (λ _. tt)) (λ _.
-    chosen P (bytes_eq name (codes "GETA")) _ _ (λ _. geta-cases text before operands label place e p l (two_of (split 44 operands)) refl) (λ _.
-    chosen P (bytes_eq name (codes "TRAP")) _ _ (λ _. trap-cases text label l (three_of (split 44 operands))) (λ _. tt))))
+    cond_both (bytes_eq name (codes "LOC")) _ _ P (λ _. loc-cases text label operands) (λ _.
+    cond_both (bytes_eq name (codes "BYTE")) _ _ P (λ _.
+    cond_both (are_numbers operands) _ _ P (λ t. (l, stands-last text before operands place are_numbers e p t)) (λ _. tt)) (λ _.
+    cond_both (bytes_eq name (codes "GETA")) _ _ P (λ _. geta-cases text before operands label place e p l (two_of (split 44 operands)) refl) (λ _.
+    cond_both (bytes_eq name (codes "TRAP")) _ _ P (λ _. trap-cases text label l (three_of (split 44 operands))) (λ _. tt))))
 
 labelled-stands : (text field name operands : List ℕ) → text ≡ field ++ 32 ∷ (name ++ 32 ∷ operands) → (label : Option (Option Span)) → label_of field ≡ label →
     IfSome (labelled label name (length field + length name + 2) operands) (AllStand text)

@@ -1,5 +1,6 @@
 -- What stands at a place by the rules of statements is what is cut there, and nothing else is.
 use Rattle.std.proofs.Common.{◌≡◌, ℕ, zero, suc, ◌+◌, ◌<◌, ◌≤◌, List, [], ◌∷◌, ◌++◌, length, drop, Bool, true, false, cond, Option, Some, None, Result, Ok, Err, refl, sym, ap, ◌∙◌, arith, subst, length-append, drop_at}
+use Rattle.std.proofs.lemmas.Bool.{cond_both, and_parts}
 use Rattle.std.specs.Prelude.{◌==◌, ◌&&◌, nat_lt}
 use Rattle.std.proofs.lemmas.Bool.{eqb-true, eq-eqb}
 use Rattle.std.proofs.lemmas.Bool.Decides.{nat_tests}
@@ -12,8 +13,7 @@ use Rattle.mx_line.specs.Fields.Within.{nothing}
 use Rattle.mx_line.specs.Plain.{span}
 use Rattle.mx_line.specs.Cutting.{next_from, next_after, with_field, operands_at, no_opcode, opcode_at, operation_at, ends_label, is_bad_local, labelled_at, statement_at, is_too_long, statement_of}
 use Rattle.mx_line.specs.Statements.{Found, begins, Run, Next, Operands, Operation, Statement, StatementOf}
-use Rattle.mx_line.proofs.Choices.{chosen}
-use Rattle.mx_line.proofs.RunLaws.{run-is, run-only, past-only, and-both}
+use Rattle.mx_line.proofs.RunLaws.{run-is, run-only, past-only}
 use Rattle.mx_line.proofs.StatementLemmas.{some-run}
 use Rattle.mx_line.proofs.FieldLaws.{Spelled, spelled-is, whole-field, open-string, open-char}
 use Rattle.mx_line.proofs.FieldLaws.OpenedString.{opened, inside}
@@ -31,7 +31,7 @@ next-from-is place text gap [] r =
     subst (Next place text) e (nothing_more gap [] r refl)
 next-from-is place text gap (b ∷ bs) r =
     let e : place + length text ≡ place + length gap + length (b ∷ bs) = omega (arith, ap length r.spelled, length-append gap (b ∷ bs)) in
-    chosen (Next place text) (b == 59) _ _ (λ t. another gap bs (subst (λ c. Run is_blank text gap (c ∷ bs)) (eqb-true b 59 t) r)) (λ f. subst (Next place text) e (nothing_more gap (b ∷ bs) r f))
+    cond_both (b == 59) _ _ (Next place text) (λ t. another gap bs (subst (λ c. Run is_blank text gap (c ∷ bs)) (eqb-true b 59 t) r)) (λ f. subst (Next place text) e (nothing_more gap (b ∷ bs) r f))
 
 next-is : (place : ℕ) (text : List ℕ) → Next place text (next_after place text)
 next-is place text = next-from-is place text (run is_blank text) (past is_blank text) (run-is is_blank text)
@@ -65,7 +65,7 @@ opcode-is : (label : Option Span) (place : ℕ) (text gap rest op after : List �
 opcode-is None place text gap rest [] after r q = only_blanks gap rest r (ap (begins is_name_byte) q.spelled ∙ q.ends) refl
 opcode-is (Some s) place text gap rest [] after r q = only_label gap rest s r (ap (begins is_name_byte) q.spelled ∙ q.ends) refl
 opcode-is label place text gap rest (b ∷ bs) after r q =
-    chosen (Operation label place text) (ends_here after) _ _
+    cond_both (ends_here after) _ _ (Operation label place text)
     (λ e. named gap rest (b ∷ bs) after _ r q (omega arith) e (operands-are label (span (place + length gap) (b ∷ bs)) (place + length gap + length (b ∷ bs)) after))
     (λ e. bad_opcode gap rest (b ∷ bs) after r q (omega arith) e)
 
@@ -75,17 +75,17 @@ operation-is label place text =
 
 labelled-is : (place : ℕ) (text label rest : List ℕ) → Run is_name_byte text label rest → 0 < length label → Statement place text (labelled_at place label rest)
 labelled-is place text label rest r l =
-    chosen (Statement place text) (is_bad_local label) _ _ (λ b. bad_local label rest r l b) (λ b.
-    chosen (Statement place text) (ends_label rest) _ _ (λ e. labelled label rest _ r l b e (operation-is (Some (span place label)) (place + length label) rest)) (λ e. bad_label label rest r l b e))
+    cond_both (is_bad_local label) _ _ (Statement place text) (λ b. bad_local label rest r l b) (λ b.
+    cond_both (ends_label rest) _ _ (Statement place text) (λ e. labelled label rest _ r l b e (operation-is (Some (span place label)) (place + length label) rest)) (λ e. bad_label label rest r l b e))
 
 statement-is : (place : ℕ) (text : List ℕ) → Statement place text (statement_at place text)
 statement-is place [] = comment refl refl
 statement-is place (b ∷ bs) =
-    chosen (Statement place (b ∷ bs)) (is_name_byte b) _ _ (λ w. labelled-is place (b ∷ bs) (run is_name_byte (b ∷ bs)) (past is_name_byte (b ∷ bs)) (run-is is_name_byte (b ∷ bs)) (some-run is_name_byte b bs w)) (λ w.
-    chosen (Statement place (b ∷ bs)) (is_blank b) _ _ (λ k. unlabelled _ w k (operation-is None place (b ∷ bs))) (λ k. comment w k))
+    cond_both (is_name_byte b) _ _ (Statement place (b ∷ bs)) (λ w. labelled-is place (b ∷ bs) (run is_name_byte (b ∷ bs)) (past is_name_byte (b ∷ bs)) (run-is is_name_byte (b ∷ bs)) (some-run is_name_byte b bs w)) (λ w.
+    cond_both (is_blank b) _ _ (Statement place (b ∷ bs)) (λ k. unlabelled _ w k (operation-is None place (b ∷ bs))) (λ k. comment w k))
 
 long-true : (line : List ℕ) (place : ℕ) → is_too_long line place ≡ true → (place ≡ 0) × (4096 < length line)
-long-true line place h = let both = and-both (place == 0) (nat_lt 4096 (length line)) h in (eqb-true place 0 both.0, long both.1)
+long-true line place h = let both = and_parts (place == 0) (nat_lt 4096 (length line)) h in (eqb-true place 0 both.0, long both.1)
   where
     long : nat_lt 4096 (length line) ≡ true → 4096 < length line
     long t = grind (arith, nat_tests)
@@ -101,7 +101,7 @@ placed line (suc n) h = later _ (omega arith) (statement-is (suc n) (drop (suc n
 pub statement_of-is : (line : List ℕ) (place : ℕ) → StatementOf line place (statement_of line place)
 unfolding statement_of
 statement_of-is line place =
-    chosen (StatementOf line place) (is_too_long line place) _ _ (λ t. let long = long-true line place t in too_long long.0 long.1) (placed line place)
+    cond_both (is_too_long line place) _ _ (StatementOf line place) (λ t. let long = long-true line place t in too_long long.0 long.1) (placed line place)
 
 -- Nothing else is cut.
 next-after-gap : (place : ℕ) (text gap rest : List ℕ) → Run is_blank text gap rest → next_after place text ≡ next_from place gap rest
@@ -164,7 +164,7 @@ operation-only label place text _ (only_label gap rest before r h e) =
 -- a text that begins with a label
 word-first : (text label rest : List ℕ) → Run is_name_byte text label rest → 0 < length label → begins is_name_byte text ≡ true
 word-first text [] rest r l = absurd (omega arith)
-word-first text (b ∷ bs) rest r l = ap (begins is_name_byte) r.spelled ∙ (and-both (is_name_byte b) _ r.all).0
+word-first text (b ∷ bs) rest r l = ap (begins is_name_byte) r.spelled ∙ (and_parts (is_name_byte b) _ r.all).0
 
 at-label : (place : ℕ) (text : List ℕ) → begins is_name_byte text ≡ true → statement_at place text ≡ labelled_at place (run is_name_byte text) (past is_name_byte text)
 at-label place [] h = absurd (cc)

@@ -1,6 +1,6 @@
 -- A text is in one way a run of one kind of bytes and a rest.
 use Rattle.std.proofs.Common.{◌≡◌, ℕ, suc, ◌+◌, List, [], ◌∷◌, ◌++◌, length, take, drop, Bool, true, false, cond, refl, sym, ap, ◌∙◌, arith, take-append-drop, take_at, drop_at}
-use Rattle.std.specs.Prelude.{◌&&◌}
+use Rattle.std.proofs.lemmas.Bool.{and_parts}
 use Rattle.std.specs.List.{prefix_len, list_all}
 use Rattle.mx_line.specs.Bytes.{run, past}
 use Rattle.mx_line.specs.Statements.{begins, Run}
@@ -37,14 +37,10 @@ prefix-rest : (kind : ℕ → Bool) (rest : List ℕ) → begins kind rest ≡ f
 prefix-rest kind [] h = refl
 prefix-rest kind (b ∷ bs) h = rw h refl
 
-pub and-both : (s t : Bool) → (s && t) ≡ true → (s ≡ true) × (t ≡ true)
-and-both true t h = (refl, h)
-and-both false t h = absurd (cc)
-
 prefix-front : (kind : ℕ → Bool) (front rest : List ℕ) → list_all kind front ≡ true → begins kind rest ≡ false → prefix_len kind (front ++ rest) ≡ length front
 prefix-front kind [] rest h k = prefix-rest kind rest k
 prefix-front kind (b ∷ bs) rest h k =
-    let both = and-both (kind b) (list_all kind bs) h in
+    let both = and_parts (kind b) (list_all kind bs) h in
     let e : kind b ≡ true = both.0 in
     let f : 1 + length bs ≡ suc (length bs) = omega arith in
     rw (e, prefix-front kind bs rest both.1 k) f

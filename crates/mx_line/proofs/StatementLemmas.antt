@@ -1,5 +1,6 @@
 -- The statements of a line, one after another.
 use Rattle.std.proofs.Common.{◌≡◌, ℕ, zero, suc, ◌+◌, ◌-◌, ◌<◌, ◌≤◌, List, [], ◌∷◌, length, drop, Bool, true, cond, Option, Some, None, Result, Ok, Err, IfOk, arith, refl, ap, length-drop}
+use Rattle.std.proofs.lemmas.Bool.{cond_both}
 use Rattle.std.specs.Prelude.{◌==◌}
 use Rattle.std.specs.List.{prefix_len}
 use Rattle.mx_line.specs.declared.spans.Span.{Span}
@@ -8,15 +9,14 @@ use Rattle.mx_line.specs.declared.cutter.Cut.{Cut}
 use Rattle.mx_line.specs.Bytes.{is_blank, is_name_byte, run, past}
 use Rattle.mx_line.specs.Fields.{ends_here, field_length}
 use Rattle.mx_line.specs.Plain.{span}
-use Rattle.mx_line.specs.Cutting.{next_from, with_field, operands_at, no_opcode, opcode_at, operation_at, ends_label, is_bad_local, labelled_at, statement_at, is_too_long, statement_of, listed, cuts_within, cuts_from, LabelBefore, CutInOrder}
-use Rattle.mx_line.proofs.Choices.{chosen}
+use Rattle.mx_line.specs.Cutting.{next_from, with_field, operands_at, no_opcode, opcode_at, operation_at, ends_label, is_bad_local, labelled_at, statement_at, is_too_long, statement_of, list_with, cuts_within, cuts_from, LabelBefore, CutInOrder}
 use Rattle.mx_line.proofs.KindLemmas.{run-whole, run-length}
 use Rattle.mx_line.proofs.FieldLemmas.{field_length-few}
 
 next-few : (place : ℕ) (gap rest : List ℕ) → (place ≤ next_from place gap rest) × (next_from place gap rest ≤ place + length gap + length rest)
 next-few place gap [] = (omega arith, omega arith)
 next-few place gap (b ∷ bs) =
-    chosen (λ n. (place ≤ n) × (n ≤ place + length gap + length (b ∷ bs))) (b == 59) _ _ (λ _. (omega arith, omega arith)) (λ _. (omega arith, omega arith))
+    cond_both (b == 59) _ _ (λ n. (place ≤ n) × (n ≤ place + length gap + length (b ∷ bs))) (λ _. (omega arith, omega arith)) (λ _. (omega arith, omega arith))
 
 with-order : (start end place : ℕ) (label : Option Span) (op : Span) (text : List ℕ) → LabelBefore start label op.from → op.from < op.to → op.to ≤ place → place + length text ≡ end →
     (r : Result ℕ LineFault) → IfOk r (λ n. n ≤ length text) → CutInOrder start end (with_field label op place text r)
@@ -37,7 +37,7 @@ none-order start end (Some s) = tt
 opcode-order : (start end place : ℕ) (label : Option Span) (op rest : List ℕ) → LabelBefore start label place → place + length op + length rest ≡ end → CutInOrder start end (opcode_at label place op rest)
 opcode-order start end place label [] rest l e = none-order start end label
 opcode-order start end place label (b ∷ bs) rest l e =
-    chosen (CutInOrder start end) (ends_here rest) _ _ (λ _. operands-order start end (place + length (b ∷ bs)) label (span place (b ∷ bs)) rest l (omega arith) (omega arith) (omega arith)) (λ _. tt)
+    cond_both (ends_here rest) _ _ (CutInOrder start end) (λ _. operands-order start end (place + length (b ∷ bs)) label (span place (b ∷ bs)) rest l (omega arith) (omega arith) (omega arith)) (λ _. tt)
 
 label-later : (start : ℕ) (label : Option Span) (place more : ℕ) → LabelBefore start label place → LabelBefore start label (place + more)
 label-later start None place more h = omega arith
@@ -63,26 +63,26 @@ after-order start end place label (b ∷ bs) f o t e h = let some = some-run is_
 
 labelled-order : (start end : ℕ) (label rest : List ℕ) → 0 < length label → start + length label + length rest ≡ end → CutInOrder start end (labelled_at start label rest)
 labelled-order start end label rest s e =
-    chosen (CutInOrder start end) (is_bad_local label) _ _ (λ _. tt) (λ _.
-    chosen (CutInOrder start end) (ends_label rest) _ _ (λ h. after-order start end (start + length label) (span start label) rest refl (omega arith) refl e h) (λ _. tt))
+    cond_both (is_bad_local label) _ _ (CutInOrder start end) (λ _. tt) (λ _.
+    cond_both (ends_label rest) _ _ (CutInOrder start end) (λ h. after-order start end (start + length label) (span start label) rest refl (omega arith) refl e h) (λ _. tt))
 
 statement_at-order : (start end : ℕ) (text : List ℕ) → start + length text ≡ end → CutInOrder start end (statement_at start text)
 statement_at-order start end [] e = tt
 statement_at-order start end (b ∷ bs) e =
-    chosen (CutInOrder start end) (is_name_byte b) _ _ (λ h. labelled-order start end (run is_name_byte (b ∷ bs)) (past is_name_byte (b ∷ bs)) (some-run is_name_byte b bs h) (omega (arith, run-whole is_name_byte (b ∷ bs)))) (λ _.
-    chosen (CutInOrder start end) (is_blank b) _ _ (λ h. let some = some-run is_blank b bs h in operation-order start end start None (b ∷ bs) (λ n k. omega arith) e) (λ _. tt))
+    cond_both (is_name_byte b) _ _ (CutInOrder start end) (λ h. labelled-order start end (run is_name_byte (b ∷ bs)) (past is_name_byte (b ∷ bs)) (some-run is_name_byte b bs h) (omega (arith, run-whole is_name_byte (b ∷ bs)))) (λ _.
+    cond_both (is_blank b) _ _ (CutInOrder start end) (λ h. let some = some-run is_blank b bs h in operation-order start end start None (b ∷ bs) (λ n k. omega arith) e) (λ _. tt))
 
 pub statement-order : (line : List ℕ) (place : ℕ) → place ≤ length line → CutInOrder place (length line) (statement_of line place)
 unfolding statement_of
 statement-order line place h =
-    chosen (CutInOrder place (length line)) (is_too_long line place) _ _ (λ _. tt) (λ _. statement_at-order place (length line) (drop place line) (omega (arith, length-drop place line)))
+    cond_both (is_too_long line place) _ _ (CutInOrder place (length line)) (λ _. tt) (λ _. statement_at-order place (length line) (drop place line) (omega (arith, length-drop place line)))
 
 pub past-label : (place : ℕ) (label : Option Span) (op : ℕ) → LabelBefore place label op → place < op
 past-label place None op h = h
 past-label place (Some s) op (a, b, d) = omega arith
 
 -- what is listed rests on what stands later
-same-later : (place end : ℕ) (f g : ℕ → List (Result Cut LineFault)) → ((p : ℕ) → place < p → p ≤ end → f p ≡ g p) → (r : Result (Option Cut) LineFault) → CutInOrder place end r → listed f r ≡ listed g r
+same-later : (place end : ℕ) (f g : ℕ → List (Result Cut LineFault)) → ((p : ℕ) → place < p → p ≤ end → f p ≡ g p) → (r : Result (Option Cut) LineFault) → CutInOrder place end r → list_with f r ≡ list_with g r
 same-later place end f g h (Err fault) o = refl
 same-later place end f g h (Ok None) o = refl
 same-later place end f g h (Ok (Some cut)) o = let after = past-label place cut.label cut.op.from o.label in ap (λ l. Ok cut ∷ l) (h cut.next (omega arith) o.within)
@@ -96,7 +96,7 @@ same-list line (suc m) (suc n) place h k l =
     same-later place (length line) (cuts_within m line) (cuts_within n line) (λ p a b. same-list line m n p (omega arith) (omega arith) b) (statement_of line place) (statement-order line place l)
 
 -- the statements of a line from a place on: the first, and those from its end on
-pub list-is : (line : List ℕ) (place : ℕ) → place ≤ length line → cuts_from line place ≡ listed (cuts_from line) (statement_of line place)
+pub list-is : (line : List ℕ) (place : ℕ) → place ≤ length line → cuts_from line place ≡ list_with (cuts_from line) (statement_of line place)
 unfolding cuts_within
 list-is line place h =
     let e : length line + 1 - place ≡ suc (length line - place) = omega arith in

@@ -79,15 +79,15 @@ unfoldable pub statement_of : List ℕ → ℕ → Result (Option Cut) LineFault
 statement_of line place = if is_too_long line place then Err TooLong else statement_at place (drop place line)
 
 -- the list that begins with this statement: a fault ends it
-abbrev pub listed : (ℕ → List (Result Cut LineFault)) → Result (Option Cut) LineFault → List (Result Cut LineFault)
-listed later (Err fault) = Err fault ∷ []
-listed later (Ok None) = []
-listed later (Ok (Some cut)) = Ok cut ∷ later cut.next
+abbrev pub list_with : (ℕ → List (Result Cut LineFault)) → Result (Option Cut) LineFault → List (Result Cut LineFault)
+list_with later (Err fault) = Err fault ∷ []
+list_with later (Ok None) = []
+list_with later (Ok (Some cut)) = Ok cut ∷ later cut.next
 
 -- at most so many statements of a line from a place on
 unfoldable pub cuts_within : ℕ → List ℕ → ℕ → List (Result Cut LineFault)
 cuts_within zero line place = []
-cuts_within (suc most) line place = listed (cuts_within most line) (statement_of line place)
+cuts_within (suc most) line place = list_with (cuts_within most line) (statement_of line place)
 
 -- The statements of a line from a place on. Each takes a byte or more, so the bytes left bound them.
 abbrev pub cuts_from : List ℕ → ℕ → List (Result Cut LineFault)

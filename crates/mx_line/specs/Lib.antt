@@ -7,4 +7,5 @@ pub mod Numbers
 pub mod Pieces
 pub mod Plain
 pub mod Source
+pub mod Spans
 pub mod Statements

@@ -1,19 +1,12 @@
 -- Plain lines, by their fields.
-use Rattle.std.specs.Prelude.{◌≡◌, ℕ, ◌+◌, ◌≤◌, List, [], ◌∷◌, length, slice_range, Bool, true, codes, if◌then◌else◌, Option, None, Some}
+use Rattle.std.specs.Prelude.{◌≡◌, ℕ, ◌+◌, ◌≤◌, List, [], ◌∷◌, length, Bool, true, codes, if◌then◌else◌, Option, None, Some}
 use Rattle.std.specs.Str.{bytes_eq}
 use Rattle.mx_line.specs.declared.spans.Span.{Span}
 use Rattle.mx_line.specs.declared.plain_lines.Plain.{Plain}
 use Rattle.mx_line.specs.declared.plain_lines.Plain.TheVariants.{Empty, Loc, Byte, Geta, Trap}
 use Rattle.mx_line.specs.Pieces.{split, two_of, three_of}
+pub use Rattle.mx_line.specs.Spans.{part, span}
 use Rattle.mx_line.specs.Numbers.{number_of, are_numbers, address_of, register_of, is_label}
-
--- the bytes of a line at a span
-abbrev pub part : List ℕ → Span → List ℕ
-part line span = slice_range line span.from span.to
-
--- the span of these bytes, which stand at a place
-abbrev pub span : ℕ → List ℕ → Span
-span from bytes = record { from = from; to = from + length bytes }
 
 -- The label field is empty or a label.
 abbrev pub label_of : List ℕ → Option (Option Span)

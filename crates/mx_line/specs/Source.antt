@@ -4,7 +4,7 @@ use Rattle.std.specs.Option.{option_map}
 use Rattle.mx_line.specs.declared.faults.LineFault.{LineFault}
 use Rattle.mx_line.specs.declared.cutter.Cut.{Cut}
 use Rattle.mx_line.specs.Lines.{lines_of, is_too_far}
-use Rattle.mx_line.specs.Plain.{part}
+use Rattle.mx_line.specs.Spans.{part}
 use Rattle.mx_line.specs.Cutting.{cuts_from}
 
 -- what is listed for a line, which has a number: a statement by its fields, a fault of the line,

@@ -27,7 +27,7 @@ fn next_after(place: usize, text: &[u8]) -> usize
 {
     let (gap, rest) = blanks(text);
     match rest {
-        [59, ..] => place + gap.len() + 1,
+        [b';', ..] => place + gap.len() + 1,
         _ => place + gap.len() + rest.len(),
     }
 }
@@ -203,7 +203,7 @@ pub fn next_statement(text: &[u8], at: usize) -> Result<Option<Cut>, LineFault>
     // The same, as a function.
     ensures statement { result ≡ spec.statement_of text.now at }
     ensures order { spec.CutInOrder at (length text.now) result }
-    ensures list { spec.cuts_from text.now at ≡ spec.listed (spec.cuts_from text.now) result }
+    ensures list { spec.cuts_from text.now at ≡ spec.list_with (spec.cuts_from text.now) result }
 {
     statement_of(text, at)
 }

@@ -12,7 +12,7 @@ use crate::pieces::first_length;
 fn ends_field(b: u8) -> bool
     ensures { result ≡ spec.ends_field b }
 {
-    is_blank(b) || b == 59
+    is_blank(b) || b == b';'
 }
 
 /// Whether an operand field or an opcode ends before a text.
@@ -31,7 +31,7 @@ fn string_length(rest: &[u8]) -> Result<usize, LineFault>
     ensures within { IfOk result (λ count. count ≤ length rest.now + 1) }
     ensures field { spec.field_length (34 ∷ rest.now) ≡ spec.after_first (34 ∷ rest.now) result }
 {
-    let count = first_length(34, rest);
+    let count = first_length(b'"', rest);
     if count < rest.len() {
         Ok(count + 2)
     } else {
@@ -47,7 +47,7 @@ fn constant_length(rest: &[u8]) -> Result<usize, LineFault>
 {
     match rest {
         [_, close, ..] => {
-            if *close == 39 {
+            if *close == b'\'' {
                 Ok(3)
             } else {
                 Err(LineFault::OpenChar)
@@ -63,9 +63,9 @@ fn part_from(b: u8, rest: &[u8]) -> Result<usize, LineFault>
     ensures within { IfOk result (λ count. count ≤ length rest.now + 1) }
     ensures field { spec.field_length (b ∷ rest.now) ≡ spec.after_first (b ∷ rest.now) result }
 {
-    if b == 34 {
+    if b == b'"' {
         string_length(rest)
-    } else if b == 39 {
+    } else if b == b'\'' {
         constant_length(rest)
     } else if ends_field(b) {
         Ok(0)

@@ -8,7 +8,7 @@ use mx_word::is_name_byte;
 pub fn is_blank(b: u8) -> bool
     ensures { result ≡ spec.is_blank b }
 {
-    b == 9 || b == 11 || b == 12 || b == 13 || b == 32
+    b == b'\t' || b == 11 || b == 12 || b == b'\r' || b == b' '
 }
 
 fn blank_count(text: &[u8]) -> usize

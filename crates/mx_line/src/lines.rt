@@ -12,7 +12,7 @@ pub fn cut_line(text: &[u8]) -> (&[u8], &[u8])
     ensures shorter { length result.1.now < length text.now }
     ensures line { lines_of text.now ≡ result.0.now ∷ lines_of result.1.now }
 {
-    let (line, rest) = cut(10, text);
+    let (line, rest) = cut(b'\n', text);
     match rest {
         Some(rest) => (line, rest),
         None => (line, &[]),

@@ -1,7 +1,7 @@
 //! Parts of a line.
 
 ghost use Rattle.std.specs.Prelude.{◌≡◌, ◌≤◌, length};
-ghost use Rattle.mx_line.specs.Plain as spec;
+ghost use Rattle.mx_line.specs.Spans as spec;
 
 /// A part of a line: its bytes from one place up to another.
 #[derive(Clone, Copy, Debug, PartialEq, Eq)]

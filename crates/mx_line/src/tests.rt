@@ -181,13 +181,12 @@ fn statements_of_lines(rt: HostRuntime) {
             12,
         ),
     ] {
-        if at <= line.len() {
-            assert_eq!(rt;
-                next_statement(line.as_bytes(), at),
-                Ok(Some(cut(label, op, operands, next))),
-                "{line} at {at}"
-            );
-        }
+        assert!(rt; at <= line.len(), "{line} has place {at}");
+        assert_eq!(rt;
+            next_statement(line.as_bytes(), at),
+            Ok(Some(cut(label, op, operands, next))),
+            "{line} at {at}"
+        );
     }
     one_list();
 }
@@ -218,13 +217,12 @@ fn statements_without_operands(rt: HostRuntime) {
         (" SWYM; ;SWYM", 6),
         (" SWYM;", 6),
     ] {
-        if at <= line.len() {
-            assert_eq!(rt;
-                next_statement(line.as_bytes(), at),
-                Ok(None),
-                "{line} at {at}"
-            );
-        }
+        assert!(rt; at <= line.len(), "{line} has place {at}");
+        assert_eq!(rt;
+            next_statement(line.as_bytes(), at),
+            Ok(None),
+            "{line} at {at}"
+        );
     }
 }
 
@@ -247,13 +245,12 @@ fn faulty_lines(rt: HostRuntime) {
         ("a ;", 0, LineFault::NoOpcode, 7),
         ("a SET 1;b SET 2 ;c", 17, LineFault::NoOpcode, 7),
     ] {
-        if at <= line.len() {
-            assert_eq!(rt;
-                next_statement(line.as_bytes(), at),
-                Err(fault),
-                "{line} at {at}"
-            );
-        }
+        assert!(rt; at <= line.len(), "{line} has place {at}");
+        assert_eq!(rt;
+            next_statement(line.as_bytes(), at),
+            Err(fault),
+            "{line} at {at}"
+        );
         assert_eq!(rt; fault.number(), number, "{line}");
     }
 }

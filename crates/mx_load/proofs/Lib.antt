@@ -1,1 +1,4 @@
+pub mod Apart
+pub mod Loading
+pub mod Tails
 pub mod Taken

@@ -1,62 +1,58 @@
 -- Items are taken one by one.
-use Rattle.std.proofs.Common.{◌≡◌, refl, sym, ◌∙◌, ap, ℕ, ◌+◌, ◌<◌, length, List, [], ◌∷◌, get_or, drop, Ok, Err, Some, None}
-use Rattle.std.specs.Prelude.{Result, Option}
+use Rattle.std.proofs.Common.{◌≡◌, refl, sym, ◌∙◌, ap, ℕ, ◌+◌, ◌<◌, ◌≤◌, length, List, [], ◌∷◌, get_or, drop, Ok, Err}
+use Rattle.std.specs.Prelude.{Result}
 use Rattle.std.specs.List.{AllByRecursion}
+use Rattle.std.proofs.Math.ListN.{drop_of_length-le}
 use Rattle.std.proofs.lemmas.List.{drop_more}
 use Rattle.mx_mmo.specs.Meaning as spec
 use Rattle.mx_mmo.specs.Meaning.{Loading, Meaningless, meaning, nothing, take_item, take_items}
 use Rattle.mx_mmo.specs.Valid.{Fits}
 use Rattle.mx_mmo.specs.declared.items.Item.{Item}
 use Rattle.mx_load.specs.Faults.{told}
-use Rattle.mx_load.specs.Standing.{Held, after, loading_of, standing, unless}
+use Rattle.mx_load.specs.Standing.{after, answer, image_in}
 use Rattle.mx_load.specs.declared.fault.LoadFault.{LoadFault}
 
--- what a loader answers tells whether it has a fault
-ok-none : (o : Option LoadFault) (u : Unit {0}) → Ok u ≡ unless o tt → o ≡ None
-ok-none None u h = refl
-ok-none (Some fault) u h = absurd (cc)
+-- what stands after items more
+abbrev pub after_all : Result Loading LoadFault → List Item → Result Loading LoadFault
+after_all r [] = r
+after_all r (item ∷ items) = after_all (after r item) items
 
-err-some : (o : Option LoadFault) (fault : LoadFault) → Err fault ≡ unless {A = Unit {0}} o tt → o ≡ Some fault
-err-some None fault h = absurd (cc)
-err-some (Some other) fault h = cc
+stays : (fault : LoadFault) (items : List Item) → after_all (Err fault) items ≡ Err fault
+stays fault [] = refl
+stays fault (item ∷ items) = stays fault items
 
-told-ok : (r : Result Loading Meaningless) (t : Loading) → Ok t ≡ told r → r ≡ Ok t
-told-ok (Ok s) t h = cc
-told-ok (Err e) t h = absurd (cc)
+all-stays : (e : Meaningless) (items : List Item) → take_items items (Err e) ≡ Err e
+all-stays e [] = refl
+all-stays e (item ∷ items) = refl
 
--- once an item has no meaning, none that follows counts
-stays : (items : List Item) (r : Result Loading Meaningless) (fault : LoadFault) → Err fault ≡ told r →
-    Err fault ≡ told (spec.image_in (take_items items r))
-stays items (Ok s) fault h = absurd (cc)
-stays [] (Err e) fault h = cc
-stays (item ∷ items) (Err e) fault h = cc
+step : (items : List Item) (r : Result Loading Meaningless) → told (take_items items r) ≡ after_all (told r) items
+step [] (Ok s) = refl
+step [] (Err e) = refl
+step (item ∷ items) (Ok s) = step items (take_item s item)
+step (item ∷ items) (Err e) = sym (stays _ items)
 
--- the item at a place stands in front of those behind it
-front : (items : List Item) (i : ℕ) (item d : Item) (s : Loading) → i < length items → item ≡ get_or items i d →
-    take_items (drop i items) (Ok s) ≡ take_items (drop (i + 1) items) (take_item s item)
-front items i item d s l e = ap (λ l. take_items l (Ok s)) (drop_more items i d l ∙ ap (λ x. x ∷ drop (i + 1) items) (sym e))
+pub begins : (items : List Item) → told (take_items items (Ok nothing)) ≡ after_all (Ok nothing) items
+begins items = step items (Ok nothing)
 
 pub fits-more : (items : List Item) (i : ℕ) (d : Item) → i < length items → AllByRecursion Fits (drop i items) → AllByRecursion Fits (drop (i + 1) items)
 fits-more items i d l h = (rw (drop_more items i d l) at h).1
 
-step : (old new : Held) (item : Item) → old.fault ≡ None → standing new ≡ after (standing old) item → standing new ≡ told (take_item (loading_of old.progress) item)
-step old new item n h = h ∙ ap (λ o. after (unless o (loading_of old.progress)) item) n
+-- the item at a place stands in front of those behind it
+pub goes-on : (items : List Item) (i : ℕ) (item d : Item) (whole old new : Result Loading LoadFault) → i < length items → item ≡ get_or items i d →
+    whole ≡ after_all old (drop i items) → new ≡ after old item → whole ≡ after_all new (drop (i + 1) items)
+goes-on items i item d whole old new l e same h =
+    same ∙ ap (after_all old) (drop_more items i d l ∙ ap (λ x. x ∷ drop (i + 1) items) (sym e)) ∙ ap (λ r. after_all r (drop (i + 1) items)) (sym h)
 
-pub went : (items : List Item) (i : ℕ) (item d : Item) (old new : Held) (u : Unit {0}) → i < length items → item ≡ get_or items i d → old.fault ≡ None →
-    take_items (drop i items) (Ok (loading_of old.progress)) ≡ take_items items (Ok nothing) → Ok u ≡ unless new.fault tt → standing new ≡ after (standing old) item →
-    take_items (drop (i + 1) items) (Ok (loading_of new.progress)) ≡ take_items items (Ok nothing)
-went items i item d old new u l e n same answer h =
-    let stood : Ok (loading_of new.progress) ≡ told (take_item (loading_of old.progress) item) =
-    ap (λ o. unless o (loading_of new.progress)) (sym (ok-none new.fault u answer)) ∙ step old new item n h in
-    ap (take_items (drop (i + 1) items)) (sym (told-ok _ _ stood)) ∙ sym (front items i item d (loading_of old.progress) l e) ∙ same
+failed : (r : Result Loading LoadFault) (fault : LoadFault) → Err fault ≡ answer r → r ≡ Err fault
+failed (Ok s) fault h = absurd (cc)
+failed (Err other) fault h = cc
 
-pub well : (new : Held) (u : Unit {0}) → Ok u ≡ unless new.fault tt → new.fault ≡ None
-well new u h = ok-none new.fault u h
+pub ends-failed : (items : List Item) (whole new : Result Loading LoadFault) (fault : LoadFault) → whole ≡ after_all new items → Err fault ≡ answer new → whole ≡ Err fault
+ends-failed items whole new fault same h = same ∙ ap (λ r. after_all r items) (failed new fault h) ∙ stays fault items
 
-pub failed : (items : List Item) (i : ℕ) (item d : Item) (old new : Held) (fault : LoadFault) → i < length items → item ≡ get_or items i d → old.fault ≡ None →
-    take_items (drop i items) (Ok (loading_of old.progress)) ≡ take_items items (Ok nothing) → Err fault ≡ unless {A = Unit {0}} new.fault tt → standing new ≡ after (standing old) item →
-    Err fault ≡ told (meaning items)
-failed items i item d old new fault l e n same answer h =
-    let stood : Err fault ≡ told (take_item (loading_of old.progress) item) =
-    ap (λ o. unless o (loading_of new.progress)) (sym (err-some new.fault fault answer)) ∙ step old new item n h in
-    stays (drop (i + 1) items) _ fault stood ∙ ap (λ r. told (spec.image_in r)) (sym (front items i item d (loading_of old.progress) l e) ∙ same)
+pub image-told : (r : Result Loading Meaningless) → image_in (told r) ≡ told (spec.image_in r)
+image-told (Ok s) = refl
+image-told (Err e) = refl
+
+pub ends-well : (items : List Item) (i : ℕ) (whole r : Result Loading LoadFault) → length items ≤ i → whole ≡ after_all r (drop i items) → whole ≡ r
+ends-well items i whole r l same = same ∙ ap (after_all r) (drop_of_length-le items l)

@@ -5,7 +5,7 @@ use Rattle.mx_mmo.specs.Meaning as why
 use Rattle.mx_load.specs.declared.fault.LoadFault.{LoadFault}
 use Rattle.mx_load.specs.declared.fault.LoadFault.TheVariants.{PagesFull, BadPlace, NoFile, OutOfMemory}
 
--- the number of a fault; 0 for want of memory
+-- the number of a fault; 0 for out of memory
 abbrev pub number_of : LoadFault → ℕ
 number_of PagesFull = 90
 number_of BadPlace = 95

@@ -3,6 +3,8 @@ pub use Rattle.mx_mmo.specs.Image
 pub use Rattle.mx_mmo.specs.Meaning
 pub use Rattle.mx_mmo.specs.Valid
 pub use Rattle.mx_mem.specs.Memory
+pub mod Answers
 pub mod Faults
 pub mod Kept
+pub mod Objects
 pub mod Standing

@@ -20,7 +20,7 @@ loading_of p = record {
   named = contains nat_cmp p.named;
 }
 
--- a loader: how far it has come, and the fault that it answered
+-- a loader: how far it has come, and the fault that it answered; contracts speak of it through `standing` alone
 pub record Held : Type 0 where
   pub progress : Progress
   pub fault : Option LoadFault
@@ -31,13 +31,18 @@ unless None x = Ok x
 unless (Some fault) x = Err fault
 
 -- what stands after the items that were taken, or the fault that was answered
-abbrev pub standing : Held → Result Loading LoadFault
+unfoldable pub standing : Held → Result Loading LoadFault
 standing h = unless h.fault (loading_of h.progress)
 
 -- what stands after one item more; a fault stays
 abbrev pub after : Result Loading LoadFault → Item → Result Loading LoadFault
 after (Ok s) item = told (take_item s item)
 after (Err fault) item = Err fault
+
+-- whether it goes on
+abbrev pub answer : Result Loading LoadFault → Result (Unit {0}) LoadFault
+answer (Ok s) = Ok tt
+answer (Err fault) = Err fault
 
 -- the image in what stands
 abbrev pub image_in : Result Loading LoadFault → Result Image LoadFault

@@ -12,12 +12,12 @@ pub enum LoadFault {
     BadPlace,
     /// A line before any file, or a file without a name whose number was never named.
     NoFile,
-    /// There was no memory, or no room for a line above 4,294,967,295.
+    /// There was no memory.
     OutOfMemory,
 }
 
 impl LoadFault {
-    /// The number of the fault; 0 for want of memory.
+    /// The number of the fault; 0 for out of memory.
     pub fn number(&self) -> u16
         ensures { result ≡ number_of self.now }
     {

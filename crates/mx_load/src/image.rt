@@ -79,8 +79,7 @@ impl Image {
 
     /// The value of the global register $k; 0 where $k is not global.
     pub fn global(&self, k: u8) -> u64
-        ensures value { self.now.g ≤ k → result ≡ (image_of self.now).global k }
-        ensures other { k < self.now.g → result ≡ 0 }
+        ensures { result ≡ (image_of self.now).global k }
     {
         if k < self.g {
             return 0;

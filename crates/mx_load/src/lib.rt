@@ -7,7 +7,9 @@
 
 mod fault;
 mod image;
+mod laws;
 mod loader;
+mod objects;
 mod progress;
 #[cfg(test)]
 mod tests;
@@ -15,5 +17,7 @@ mod whole;
 
 pub use fault::LoadFault;
 pub use image::Image;
+pub use laws::objects_are_loaded_as_they_mean;
 pub use loader::Loader;
+pub use objects::{ObjectFault, load_object};
 pub use whole::load;

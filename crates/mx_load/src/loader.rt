@@ -1,11 +1,11 @@
 //! Loading items one after another.
 
-ghost use Rattle.std.specs.Prelude.{◌≡◌, ◌≢◌, Ok, Err, None, Some, IfOk};
+ghost use Rattle.std.specs.Prelude.{◌≡◌, ◌≢◌, Ok, Err, IfOk, IfErr};
 ghost use Rattle.mx_mmo.specs.Meaning.{nothing};
 ghost use Rattle.mx_mmo.specs.Valid.{Fits};
 ghost use Rattle.mx_word.specs.Results.{map_ok};
 ghost use Rattle.mx_load.specs.Kept.{image_of};
-ghost use Rattle.mx_load.specs.Standing.{standing, after, unless, image_in};
+ghost use Rattle.mx_load.specs.Standing.{standing, after, answer, image_in};
 
 use crate::progress::Progress;
 use crate::{Image, LoadFault};
@@ -16,7 +16,7 @@ use std::marker::Model;
 
 /// Takes the items of an object one after another, and gives the image that they set up.
 ///
-/// After a fault, want of memory among them, each call answers that fault again.
+/// After a fault, out of memory among them, each call answers that fault again.
 #[derive(Drop)]
 pub struct Loader {
     progress: Progress,
@@ -33,6 +33,7 @@ impl Model for Loader {
 
 impl Loader {
     /// A loader that took no item. It takes no memory.
+    #[tactic(auto, unfolding(crate::specs::Standing::standing))]
     pub fn new(alloc: Global) -> Loader
         ensures { standing result ≡ Ok nothing }
     {
@@ -45,13 +46,14 @@ impl Loader {
     /// Takes the next item.
     ///
     /// Errors: `PagesFull`, `BadPlace` and `NoFile` where the items so far have no meaning for that
-    /// reason, and want of memory.
+    /// reason, and out of memory.
+    #[tactic(auto, unfolding(crate::specs::Standing::standing))]
     pub fn take(&mut self, item: &Item) -> Result<(), LoadFault>
         requires { Fits item.now }
         ensures meaning { result ≢ Err LoadFault.OutOfMemory →
             standing self.new ≡ after (standing self.old) item.now }
-        ensures answer { result ≡ unless self.new.fault tt }
-        ensures again { self.old.fault ≢ None → self.new ≡ self.old }
+        ensures answer { result ≡ answer (standing self.new) }
+        ensures again { IfErr (standing self.old) (λ fault. standing self.new ≡ Err fault) }
     {
         if let Some(fault) = self.fault {
             return Err(fault);
@@ -68,6 +70,7 @@ impl Loader {
     /// The image that the items set up, with these symbols.
     ///
     /// Errors: the fault that was answered.
+    #[tactic(auto, unfolding(crate::specs::Standing::standing))]
     pub fn finish(self, symbols: Symbols) -> Result<Image, LoadFault>
         ensures meaning { map_ok image_of result ≡ image_in (standing self) }
         ensures symbols { IfOk result (λ image. image.symbols ≡ symbols) }

@@ -25,23 +25,36 @@ pub struct Progress {
 }
 
 /// The address so many tetras before another.
-fn back(a: u64, ahead: u32, behind: u32) -> u64
-    ensures { result ≡ spec.back a ahead behind }
+fn tetras_before(n: u32, a: u64) -> u64
+    ensures { result ≡ spec.tetras_before n a }
 {
-    a.wrapping_sub(4 * u64::from(ahead))
-        .wrapping_add(4 * u64::from(behind))
+    a.wrapping_sub(4 * u64::from(n))
 }
 
-/// The address that the word of a far fix tells.
-fn far_back(a: u64, bits: u8, word: u32) -> u64
-    requires { bits ≤ 24 }
-    ensures { result ≡ spec.far_back a bits word }
+/// The address so many tetras behind another.
+fn tetras_behind(n: u32, a: u64) -> u64
+    ensures { result ≡ spec.tetras_behind n a }
 {
-    if word >= 1 << 24 {
-        back(a, word % (1 << 24), 1 << bits)
+    a.wrapping_add(4 * u64::from(n))
+}
+
+/// The address where a far fix joins its tetra.
+fn far_place(a: u64, bits: u8, t: u32) -> u64
+    requires { bits ≤ 24 }
+    ensures { result ≡ spec.far_place a bits t }
+{
+    if t >= 1 << 24 {
+        tetras_behind(1 << bits, tetras_before(t % (1 << 24), a))
     } else {
-        back(a, word, 0)
+        tetras_before(t, a)
     }
+}
+
+/// The line in force after a tetra.
+fn next_line(line: u32) -> u32
+    ensures { result ≡ spec.next_line line }
+{
+    if line == 0 { 0 } else { line.saturating_add(1) }
 }
 
 impl Progress {
@@ -63,18 +76,15 @@ impl Progress {
         ensures { let s = loading_of self.old in result ≢ Err LoadFault.OutOfMemory →
             given result (loading_of self.new) ≡ Ok (record s {
               image = noted s s.image;
-              line = (if s.line == 0 then 0 else s.line + 1);
+              line = spec.next_line s.line;
             }) }
     {
         if self.line == 0 {
             return Ok(());
         }
-        if self.line == u32::MAX {
-            return Err(LoadFault::OutOfMemory);
-        }
         match self.image.note(self.lambda, self.line) {
             Ok(()) => {
-                self.line += 1;
+                self.line = next_line(self.line);
                 Ok(())
             }
             Err(fault) => Err(fault),
@@ -185,9 +195,9 @@ impl Progress {
             Item::FixOcta(a) => self.fix_octa(*a),
             Item::FixNear(n) => {
                 let n = u32::from(*n);
-                self.fix(back(self.lambda, n, 0), n)
+                self.fix(tetras_before(n, self.lambda), n)
             }
-            Item::FixFar { bits, word } => self.fix(far_back(self.lambda, *bits, *word), *word),
+            Item::FixFar { bits, word } => self.fix(far_place(self.lambda, *bits, *word), *word),
             Item::File { number, name } => self.select(*number, name),
             Item::Line(n) => self.set_line(*n),
             Item::Post { g, values } => self.image.set_globals(*g, values.as_slice()),

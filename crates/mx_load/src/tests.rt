@@ -87,12 +87,13 @@ fn image_of_rows(alloc: Global, rows: &[Row]) -> Result<Image, LoadFault> {
     loader.finish(Symbols::new(alloc))
 }
 
-/// The image of a small program: `hi` and a newline at #100, and three instructions.
+/// The image of `first.mms`: `hi` and a newline at #100, and three instructions.
 fn small(alloc: Global) -> Option<Image> {
     let mut values = Octas::new(alloc);
     values.push(0x104).ok()?;
     let mut symbols = Symbols::new(alloc);
     let name = Bytes::copy(alloc, b":Main").ok()?;
+    let file = Bytes::copy(alloc, b".mms").ok()?;
     symbols
         .push(Symbol {
             name,
@@ -102,7 +103,12 @@ fn small(alloc: Global) -> Option<Image> {
         .ok()?;
     let items = [
         Item::Pre(Words::new(alloc)),
+        Item::File {
+            number: 0,
+            name: Some(file),
+        },
         Item::Loc(0x100),
+        Item::Line(2),
         Item::Load(0x6869_0a00),
         Item::Load(0xf5ff_ffff),
         Item::Load(0x0000_0701),
@@ -127,7 +133,11 @@ fn small_program(rt: HostRuntime) {
     assert_eq!(rt; image.memory().load(0x100), 0x6869_0a00_f5ff_ffff);
     assert_eq!(rt; image.memory().load(0x108), 0x0000_0701_0000_0000);
     assert_eq!(rt; image.memory().pages(), 1);
-    assert_eq!(rt; image.line_of(0x104), 0);
+    has_lines(
+        &rt,
+        &image,
+        &[(0xff, 0), (0x100, 2), (0x107, 3), (0x10c, 5), (0x110, 0)],
+    );
     assert_eq!(rt;
         (image.g(), image.global(255), image.global(254)),
         (255, 0x104, 0)

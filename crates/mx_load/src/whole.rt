@@ -15,7 +15,7 @@ use std::alloc::Global;
 
 /// The image that items set up, with these symbols.
 ///
-/// Errors: the first fault of the items, from the left, and want of memory.
+/// Errors: the first fault of the items, from the left, and out of memory.
 pub fn load(alloc: Global, items: &[Item], symbols: Symbols) -> Result<Image, LoadFault>
     requires { AllByRecursion Fits items.now }
     ensures meaning { result ≢ Err LoadFault.OutOfMemory →

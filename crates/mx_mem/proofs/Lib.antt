@@ -1,2 +1,10 @@
+pub mod Counts
+pub mod Views
+pub mod Finding
+pub mod Stores
+pub mod Additions
 pub mod Joins
-pub mod Undone
+pub mod Searches
+pub mod Fields
+pub mod PartBytes
+pub mod Spaces

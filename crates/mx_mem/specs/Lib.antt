@@ -1,3 +1,6 @@
 pub mod Memory
 pub mod Fault
-pub mod Stands
+pub mod Count
+pub mod Held
+pub mod Parts
+pub mod Space

@@ -1,36 +1,57 @@
--- Memory as contracts see it: the octas by their addresses, and the pages that are there.
-use Rattle.std.specs.Prelude.{ℕ, ◌-◌, ◌*◌, ◌/◌, ◌%◌, ◌^◌, Bool, true, ◌==◌, ◌&&◌, not, nat_lt, if◌then◌else◌, List, length, Option, None, Some, unwrap_or, bit_xor, ◌≡◌, ◌≢◌, ◌≤◌, ◌<◌}
+-- Memory as contracts see it: the octas and bytes by their addresses, and the pages that are there.
+use Rattle.std.specs.Prelude.{ℕ, ◌+◌, ◌/◌, ◌%◌, ◌^◌, Bool, ◌==◌, ◌&&◌, not, nat_lt, if◌then◌else◌, List, length, Option, None, Some, slice_index_or, ◌≡◌, ◌≢◌, ◌≤◌, ◌<◌}
+pub use Rattle.mx_word.specs.Octas.{byte_of, byte_in, in_half, with_tetra, tetra_byte, bytes_with_tetra, with_page}
 use Rattle.std.specs.List.{list_any}
-pub use Rattle.mx_word.specs.Octas.{byte_of, byte_in, in_half, with_tetra, with_page}
-use Rattle.std.specs.Map.{lookup}
+use Rattle.std.specs.Map.{lookup, keys_of}
 use Rattle.std.specs.Ordering.{nat_cmp}
 use Rattle.std.specs.BTreeMap.{is_at}
 
--- What is kept: the octas other than 0, each by an eighth of its own address, and the numbers of the pages.
--- Contracts speak of it through `octa_at`, `byte_at`, `has_page` and `page_count` alone.
-pub record Stored : Type 0 where
-  pub octas : List (ℕ × ℕ)
-  pub pages : List ℕ
+-- The pages that are there, in the order of their numbers, each with its 512 octas. Page p has the addresses from 4096 p
+-- up to 4096 p + 4095. Contracts speak of it through the functions
+-- below alone.
+abbrev pub Stored : Type 0
+Stored = List (ℕ × List ℕ)
+
+-- an octa of a page; 0 where the page is not there
+abbrev pub octa_in : Option (List ℕ) → ℕ → ℕ
+octa_in None i = 0
+octa_in (Some octas) i = slice_index_or octas i 0
 
 -- the octa that holds an address; 0 where nothing stands
 unfoldable pub octa_at : Stored → ℕ → ℕ
-octa_at m a = unwrap_or (lookup (is_at (nat_cmp (a / 8))) m.octas) 0
+octa_at m a = octa_in (lookup (is_at (nat_cmp (a / 4096))) m) (a / 8 % 512)
 
 -- the byte at an address
 abbrev pub byte_at : Stored → ℕ → ℕ
 byte_at m a = byte_in (octa_at m) a
 
--- whether a page is there; page p has the addresses from 4096 p up to 4096 p + 4095
+-- the tetra in the half of an octa where an address lies
+abbrev pub tetra_of : ℕ → ℕ → ℕ
+tetra_of x a = if nat_lt (a % 8) 4 then x / 2 ^ 32 else x % 2 ^ 32
+
+-- the tetra that holds an address
+abbrev pub tetra_at : Stored → ℕ → ℕ
+tetra_at m a = tetra_of (octa_at m a) a
+
+-- the numbers of the pages that are there, in their order
+abbrev pub page_numbers : Stored → List ℕ
+page_numbers m = keys_of m
+
+-- whether a page is there
 unfoldable pub has_page : Stored → ℕ → Bool
-has_page m p = list_any (is_at (nat_cmp p)) m.pages
+has_page m p = list_any (is_at (nat_cmp p)) (page_numbers m)
 
 -- how many pages are there
 unfoldable pub page_count : Stored → ℕ
-page_count m = length m.pages
+page_count m = length (page_numbers m)
 
 -- whether a store in this page is refused: the page is not there, and no other can begin
 abbrev pub is_refused : Stored → ℕ → Bool
 is_refused m p = not (has_page m p) && page_count m == 65536
+
+-- how many pages are there when this one is
+abbrev pub count_with_page : Stored → ℕ → ℕ
+count_with_page m p = if has_page m p then page_count m else page_count m + 1
 
 -- the octas, with another in place of the one that holds an address
 abbrev pub stored_at : (ℕ → ℕ) → ℕ → ℕ → ℕ → ℕ
@@ -40,15 +61,8 @@ stored_at octas a x q = if q / 8 == a / 8 then x else octas q
 abbrev pub stored_bytes : (ℕ → ℕ) → ℕ → ℕ → ℕ → ℕ
 stored_bytes bytes a x q = if q / 8 == a / 8 then byte_of x q else bytes q
 
--- what a tetra at the multiple of 4 at or below a has at the address q; 0 elsewhere
-abbrev pub tetra_byte : ℕ → ℕ → ℕ → ℕ
-tetra_byte a t q = if q / 4 == a / 4 then t / 2 ^ (8 * (3 - q % 4)) % 256 else 0
-
--- the bytes, with those of a tetra joined bit by bit
-abbrev pub joined_bytes : (ℕ → ℕ) → ℕ → ℕ → ℕ → ℕ
-joined_bytes bytes a t q = bit_xor (bytes q) (tetra_byte a t q)
-
 -- the least octa other than 0 whose own address is at or above `from`, with its address
 abbrev pub IsNextNonzero : (ℕ → ℕ) → ℕ → Option (ℕ × ℕ) → Type 0
 IsNextNonzero octas from None = (q : ℕ) → from ≤ q → q % 8 ≡ 0 → octas q ≡ 0
-IsNextNonzero octas from (Some (a, x)) = (from ≤ a) × (a % 8 ≡ 0) × (octas a ≡ x) × (x ≢ 0) × ((q : ℕ) → from ≤ q → q % 8 ≡ 0 → q < a → octas q ≡ 0)
+IsNextNonzero octas from (Some (a, x)) = (from ≤ a) × (a % 8 ≡ 0) × (octas a ≡ x) × (x ≢ 0)
+    × ((q : ℕ) → from ≤ q → q % 8 ≡ 0 → q < a → octas q ≡ 0)

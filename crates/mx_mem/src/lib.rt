@@ -1,13 +1,19 @@
-//! The memory of the machine: octas by their addresses, and the pages that are there.
+//! The memory of the machine: pages of 512 octas by their numbers, and what a space of bytes is.
 //!
-//! Memory is 0 where nothing was stored. Bytes stand in tetras and octas from the high end
+//! Memory is 0 where nothing was stored. Bytes stand in wydes, tetras and octas from the high end
 //! (MMIXware, LNCS 1750; TAOCP 1, Fascicle 1, section 1.3.1').
 #![tactic(auto)]
 
 mod fault;
 mod memory;
+mod page;
+mod part;
+mod places;
+mod space;
 #[cfg(test)]
 mod tests;
 
 pub use fault::MemFault;
 pub use memory::Memory;
+pub use part::Part;
+pub use space::{Space, SpaceFault};

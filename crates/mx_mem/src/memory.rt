@@ -1,14 +1,20 @@
-//! Memory as an ordered map of octas and a set of pages.
+//! Memory as pages that are found by their numbers.
 
-ghost use Rattle.std.specs.Prelude.{◌≡◌, ◌≢◌, ◌↔◌, ◌≤◌, ◌<◌, ◌+◌, ◌/◌, ◌^◌, ◌==◌, ℕ, false, IsTrue, OnOk, OnErr, if◌then◌else◌};
+ghost use Rattle.std.specs.Prelude.{◌≡◌, ◌≢◌, ◌↔◌, ◌≤◌, ◌<◌, ◌+◌, ◌/◌, ◌^◌, ◌==◌, ◌++◌, ◌∷◌, [], ℕ, List, length, false, IfSome, IsTrue, IsOk, OnOk, OnErr, if◌then◌else◌};
 ghost use Rattle.std.specs.Ordering.{nat_cmp};
-ghost use Rattle.std.specs.BTreeMap.{get};
-ghost use Rattle.mx_mem.specs.Memory.{octa_at, byte_at, has_page, page_count, is_refused, with_page, stored_at, stored_bytes, in_half, with_tetra, joined_bytes, IsNextNonzero};
-ghost use Rattle.mx_mem.specs.Stands.{nonzero};
+ghost use Rattle.std.specs.List.Sorted.{IsStrictlySortedBy};
+ghost use Rattle.mx_mem.specs.Parts as spec;
+ghost use Rattle.mx_mem.specs.Parts.{bytes_with_part};
+ghost use Rattle.mx_mem.specs.Memory.{octa_at, byte_at, tetra_at, tetra_of, page_numbers, has_page, page_count, is_refused, with_page, count_with_page, stored_at, stored_bytes, in_half, with_tetra, bytes_with_tetra, IsNextNonzero};
 
-use crate::MemFault;
+use crate::page::Page;
+use crate::part::with_part;
+use crate::places::{GUESSES, add, guessed_place, next_page, place_of, slot};
+use crate::{MemFault, Part};
 use std::alloc::Global;
-use std::collections::{BTreeMap, BTreeSet};
+use std::array;
+use std::cell::Cell;
+use std::collections::BTreeMap;
 use std::marker::Model;
 
 /// The bytes of a page.
@@ -17,11 +23,15 @@ const PAGE: u64 = 4096;
 /// How many pages there may be: 256 MiB.
 const MOST_PAGES: usize = 65536;
 
-/// Octas by their addresses, and the pages that were stored in.
+/// Pages by their numbers, and where pages may stand that were used lately. What is remembered is
+/// tested at each use, so it may be wrong.
 #[derive(Drop)]
 pub struct Memory {
-    octas: BTreeMap<u64, u64>,
-    pages: BTreeSet<u64>,
+    alloc: Global,
+    pages: Vec<Page>,
+    places: BTreeMap<u64, usize>,
+    code: Cell<usize>,
+    guesses: [Cell<usize>; GUESSES],
 }
 
 impl Model for Memory {
@@ -29,11 +39,11 @@ impl Model for Memory {
 
     ghost Value = { Stored };
 
-    ghost use Rattle.mx_mem.specs.Stands.{stored, Stands};
+    ghost use Rattle.mx_mem.specs.Held.{stored, Holds};
 
     ghost view = { stored };
 
-    ghost invariant = { Stands };
+    ghost invariant = { Holds };
 }
 
 #[tactic(auto, unfolding(crate::specs::Memory::octa_at, crate::specs::Memory::has_page, crate::specs::Memory::page_count))]
@@ -45,65 +55,136 @@ impl Memory {
         ensures count { page_count result ≡ 0 }
     {
         Memory {
-            octas: BTreeMap::new(alloc),
-            pages: BTreeSet::new(alloc),
+            alloc,
+            pages: Vec::new(alloc),
+            places: BTreeMap::new(alloc),
+            code: Cell::new(0),
+            guesses: array::from_fn(|_| Cell::new(0)),
         }
     }
 
     /// The octa that holds an address; 0 where nothing stands. It takes no memory.
+    #[inline(always)]
     pub fn load(&self, a: u64) -> u64
         requires { a < 2 ^ 63 }
         ensures value { result ≡ octa_at self.now a }
         ensures paged { result ≢ 0 → IsTrue (has_page self.now (a / 4096)) }
     {
-        self.octas.get(&(a / 8)).copied().unwrap_or(0)
+        self.octa(&self.guesses[slot(a / PAGE)], a)
     }
 
-    /// Joins a tetra, bit by bit, to the one that holds an address. Its page is there afterwards,
-    /// also for a tetra of 0.
+    /// The tetra that holds an address, as an instruction; 0 where nothing stands. Its page is
+    /// remembered apart from those of `load`. It takes no memory.
+    #[inline(always)]
+    pub fn tetra(&self, a: u64) -> u32
+        requires { a < 2 ^ 63 }
+        ensures { result ≡ tetra_at self.now a }
+    {
+        half(self.octa(&self.code, a), a)
+    }
+
+    /// The byte at an address; 0 where nothing stands. It takes no memory.
+    #[inline(always)]
+    pub fn byte(&self, a: u64) -> u8
+        requires { a < 2 ^ 63 }
+        ensures { result ≡ byte_at self.now a }
+    {
+        (self.load(a) >> (8 * (7 - a % 8)) & 0xff) as u8
+    }
+
+    /// Stores an octa in place of the one that holds an address. Its page is there afterwards, also
+    /// for an octa of 0. It takes no memory where the page is there.
     ///
-    /// Errors: `PagesFull` where that would be one page too many, and want of memory; then nothing
+    /// Errors: `PagesFull` where that would be one page too many, and out of memory; then nothing
     /// changed.
+    #[inline(always)]
+    pub fn store(&mut self, a: u64, x: u64) -> Result<(), MemFault>
+        requires { a < 2 ^ 63 }
+        ensures octas { OnOk result (octa_at self.new ≡ stored_at (octa_at self.old) a x) }
+        ensures bytes { OnOk result (byte_at self.new ≡ stored_bytes (byte_at self.old) a x) }
+        ensures pages { OnOk result (has_page self.new ≡ with_page (has_page self.old) (a / 4096)) }
+        ensures count { OnOk result (page_count self.new ≡ count_with_page self.old (a / 4096)) }
+        ensures there { IsTrue (has_page self.old (a / 4096)) → IsOk result }
+        ensures full { IsTrue (is_refused self.old (a / 4096)) ↔ (result ≡ Err MemFault.PagesFull) }
+        ensures err { OnErr result (self.new ≡ self.old) }
+    {
+        let place = place_of(&self.pages, &self.places, &self.guesses, a / PAGE);
+        match place {
+            Some(place) => {
+                self.pages[place].put((a / 8 % 512) as usize, x);
+                Ok(())
+            }
+            None => self.begin(a, x),
+        }
+    }
+
+    /// Stores the low bytes of `x` in place of the part that holds an address. Its page is there
+    /// afterwards. It takes no memory where the page is there.
+    ///
+    /// Errors: `PagesFull` where that would be one page too many, and out of memory; then nothing
+    /// changed.
+    #[inline(always)]
+    pub fn store_part(&mut self, a: u64, part: Part, x: u64) -> Result<(), MemFault>
+        requires { a < 2 ^ 63 }
+        ensures octas { OnOk result
+            (octa_at self.new ≡ stored_at (octa_at self.old) a (spec.with_part part (octa_at self.old a) a x)) }
+        ensures bytes { OnOk result (byte_at self.new ≡ bytes_with_part part (byte_at self.old) a x) }
+        ensures pages { OnOk result (has_page self.new ≡ with_page (has_page self.old) (a / 4096)) }
+        ensures count { OnOk result (page_count self.new ≡ count_with_page self.old (a / 4096)) }
+        ensures there { IsTrue (has_page self.old (a / 4096)) → IsOk result }
+        ensures full { IsTrue (is_refused self.old (a / 4096)) ↔ (result ≡ Err MemFault.PagesFull) }
+        ensures err { OnErr result (self.new ≡ self.old) }
+    {
+        self.store(a, with_part(part, self.load(a), a, x))
+    }
+
+    /// Joins a tetra by exclusive or to the one that holds an address. Its page is there afterwards,
+    /// also for a tetra of 0. It takes no memory where the page is there.
+    ///
+    /// Errors: `PagesFull` where that would be one page too many, and out of memory; then nothing
+    /// changed.
+    #[inline(always)]
     pub fn xor_tetra(&mut self, a: u64, t: u32) -> Result<(), MemFault>
         requires { a < 2 ^ 63 }
         ensures octas { OnOk result (octa_at self.new ≡ with_tetra (octa_at self.old) a t) }
-        ensures bytes { OnOk result (byte_at self.new ≡ joined_bytes (byte_at self.old) a t) }
+        ensures bytes { OnOk result (byte_at self.new ≡ bytes_with_tetra (byte_at self.old) a t) }
         ensures pages { OnOk result (has_page self.new ≡ with_page (has_page self.old) (a / 4096)) }
-        ensures count { OnOk result (page_count self.new ≡ page_count self.old + (if has_page self.old (a / 4096) then 0 else 1)) }
+        ensures count { OnOk result (page_count self.new ≡ count_with_page self.old (a / 4096)) }
+        ensures there { IsTrue (has_page self.old (a / 4096)) → IsOk result }
         ensures full { IsTrue (is_refused self.old (a / 4096)) ↔ (result ≡ Err MemFault.PagesFull) }
         ensures err { OnErr result (self.new ≡ self.old) }
     {
         self.store(a, self.load(a) ^ in_its_half(a, t))
     }
 
-    /// Stores an octa in place of the one that holds an address. Its page is there afterwards, also
-    /// for an octa of 0.
-    ///
-    /// Errors: `PagesFull` where that would be one page too many, and want of memory; then nothing
-    /// changed.
-    pub fn store(&mut self, a: u64, x: u64) -> Result<(), MemFault>
+    /// The octa that holds an address, whose page may stand where it is remembered.
+    #[inline(always)]
+    fn octa(&self, guess: &Cell<usize>, a: u64) -> u64
         requires { a < 2 ^ 63 }
+        ensures { result ≡ octa_at self.now a }
+    {
+        match guessed_place(&self.pages, &self.places, guess, a / PAGE) {
+            Some(place) => self.pages[place].octa((a / 8 % 512) as usize),
+            None => 0,
+        }
+    }
+
+    /// Stores an octa on a page that is not there yet.
+    #[inline(never)]
+    fn begin(&mut self, a: u64, x: u64) -> Result<(), MemFault>
+        requires range { a < 2 ^ 63 }
+        requires new { has_page self.old (a / 4096) ≡ false }
         ensures octas { OnOk result (octa_at self.new ≡ stored_at (octa_at self.old) a x) }
-        ensures bytes { OnOk result (byte_at self.new ≡ stored_bytes (byte_at self.old) a x) }
         ensures pages { OnOk result (has_page self.new ≡ with_page (has_page self.old) (a / 4096)) }
-        ensures count { OnOk result (page_count self.new ≡ page_count self.old + (if has_page self.old (a / 4096) then 0 else 1)) }
+        ensures count { OnOk result (page_count self.new ≡ count_with_page self.old (a / 4096)) }
         ensures full { IsTrue (is_refused self.old (a / 4096)) ↔ (result ≡ Err MemFault.PagesFull) }
         ensures err { OnErr result (self.new ≡ self.old) }
     {
-        if self.pages.contains(&(a / PAGE)) {
-            return put(&mut self.octas, a / 8, x);
-        }
         if self.pages.len() == MOST_PAGES {
             return Err(MemFault::PagesFull);
         }
-        match self.pages.insert(a / PAGE) {
-            Ok(_) => match put(&mut self.octas, a / 8, x) {
-                Ok(()) => Ok(()),
-                Err(fault) => {
-                    self.pages.remove(&(a / PAGE));
-                    Err(fault)
-                }
-            },
+        match Page::with_octa(self.alloc, a / PAGE, (a / 8 % 512) as usize, x) {
+            Ok(page) => add(&mut self.pages, &mut self.places, page),
             Err(_) => Err(MemFault::OutOfMemory),
         }
     }
@@ -112,40 +193,43 @@ impl Memory {
     pub fn pages(&self) -> u32
         ensures value { result ≡ page_count self.now }
         ensures few { result ≤ 65536 }
+        ensures distinct { IsStrictlySortedBy nat_cmp (page_numbers self.now) }
     {
-        self.pages.len() as u32
+        self.places.len() as u32
     }
 
     /// The least octa other than 0 whose own address is at or above `from`: its address and its
-    /// value. Nothing where there is none.
+    /// value. Nothing where there is none. A page of zeros is passed over as a whole.
     pub fn next_nonzero(&self, from: u64) -> Option<(u64, u64)>
         requires { from < 2 ^ 63 }
         ensures { IsNextNonzero (octa_at self.now) from result }
     {
-        match self.octas.range(from.div_ceil(8)..).next() {
-            Some((k, x)) => Some((*k * 8, *x)),
-            None => None,
+        let mut at = from.div_ceil(8);
+        while let Some((number, place)) = next_page(&self.places, at / 512) {
+            at = at.max(512 * number);
+            if let Some((i, x)) = self.pages[place].next_nonzero((at % 512) as usize) {
+                return Some((PAGE * number + 8 * i as u64, x));
+            }
+            at = 512 * (number + 1);
         }
+        None
     }
 }
 
-/// Keeps an octa in the map, or takes its place out where the octa is 0.
-fn put(octas: &mut BTreeMap<u64, u64>, k: u64, x: u64) -> Result<(), MemFault>
-    ensures ok { OnOk result ((q : ℕ) → get nat_cmp octas.new q ≡ (if q == k then nonzero x else get nat_cmp octas.old q)) }
-    ensures err { OnErr result (octas.new.entries ≡ octas.old.entries) }
-    ensures memory { OnErr result (result ≡ Err MemFault.OutOfMemory) }
+/// The tetra in the half of an octa where the address lies.
+#[inline(always)]
+fn half(octa: u64, a: u64) -> u32
+    ensures { result ≡ tetra_of octa a }
 {
-    if x == 0 {
-        octas.remove(&k);
-        return Ok(());
-    }
-    match octas.insert(k, x) {
-        Ok(_) => Ok(()),
-        Err(_) => Err(MemFault::OutOfMemory),
+    if a % 8 < 4 {
+        (octa >> 32) as u32
+    } else {
+        (octa & 0xffff_ffff) as u32
     }
 }
 
 /// An octa that has a tetra in the half where the address lies, and 0 in the other.
+#[inline(always)]
 fn in_its_half(a: u64, t: u32) -> u64
     ensures { result ≡ in_half a t }
 {

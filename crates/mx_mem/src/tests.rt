@@ -1,6 +1,6 @@
 //! Values from outside: tetras of published programs, and sums done by hand.
 
-use crate::{MemFault, Memory};
+use crate::{MemFault, Memory, Part, Space, SpaceFault};
 use std::test::Fail;
 
 /// What is joined, and what the octa there and the count of pages are afterwards.
@@ -38,6 +38,30 @@ const NEXT: [(u64, Option<(u64, u64)>); 7] = [
     (0x7fff_ffff_ffff_fff9, None),
 ];
 
+/// What part is stored, and what the octa there and the count of pages are afterwards.
+const STORED: [(u64, Part, u64, u64, u32); 9] = [
+    // STB of 384 stores its low byte
+    (
+        0x2000_0000_0000_0001,
+        Part::Byte,
+        384,
+        0x0080_0000_0000_0000,
+        1,
+    ),
+    // bytes 0 and 7 of an octa
+    (0x100, Part::Byte, 0x11, 0x1100_0000_0000_0000, 2),
+    (0x107, Part::Byte, 0x22, 0x1100_0000_0000_0022, 2),
+    // a wyde, a tetra and an octa at odd addresses
+    (0x103, Part::Wyde, 0xa_3344, 0x1100_3344_0000_0022, 2),
+    (0x105, Part::Tetra, 0xb_5566_7788, 0x1100_3344_5566_7788, 2),
+    (0x101, Part::Octa, u64::MAX, u64::MAX, 2),
+    (0x102, Part::Byte, 0, 0xffff_00ff_ffff_ffff, 2),
+    // a store of 0 makes its page
+    (0x3000, Part::Octa, 0, 0, 3),
+    // the last byte there is
+    (0x7fff_ffff_ffff_ffff, Part::Byte, 1, 1, 4),
+];
+
 #[test]
 fn joins_tetras(rt: HostRuntime) -> Result<(), Fail> {
     let mut memory = Memory::new(rt.alloc());
@@ -54,6 +78,42 @@ fn joins_tetras(rt: HostRuntime) -> Result<(), Fail> {
         assert!(rt; from < 1 << 63);
         assert_eq!(rt; memory.next_nonzero(from), found, "from {from}");
     }
+    // a fetch from within the low half
+    assert_eq!(rt; (memory.tetra(0x106), memory.byte(0x107)), (0x0701, 0x01));
+    Ok(())
+}
+
+#[test]
+fn stores_parts(rt: HostRuntime) -> Result<(), Fail> {
+    let mut memory = Memory::new(rt.alloc());
+    for (a, part, x, octa, pages) in STORED {
+        assert!(rt; a < 1 << 63);
+        memory.store_part(a, part, x)?;
+        assert_eq!(rt; memory.load(a), octa, "at {a}");
+        assert_eq!(rt; memory.pages(), pages, "after {a}");
+    }
+    Ok(())
+}
+
+/// Puts a byte at an address, and gives what stands there then.
+fn put_and_read<S: Space>(space: &mut S, a: u64, b: u8) -> Result<(u8, u64), SpaceFault> {
+    space.put_byte(a, b)?;
+    Ok((space.byte_at(a)?, space.octa_at(a)?))
+}
+
+#[test]
+fn is_a_space(rt: HostRuntime) -> Result<(), Fail> {
+    let mut memory = Memory::new(rt.alloc());
+    assert_eq!(rt;
+        put_and_read(&mut memory, 0x6000_0000_0000_0006, 0xab),
+        Ok((0xab, 0xab00))
+    );
+    assert_eq!(rt; put_and_read(&mut memory, (1 << 63) - 1, 7), Ok((7, 7)));
+    assert_eq!(rt;
+        put_and_read(&mut memory, 1 << 63, 7),
+        Err(SpaceFault::Negative)
+    );
+    assert_eq!(rt; memory.pages(), 2);
     Ok(())
 }
 
@@ -61,13 +121,16 @@ fn joins_tetras(rt: HostRuntime) -> Result<(), Fail> {
 fn refuses_one_page_too_many(rt: HostRuntime) -> Result<(), Fail> {
     let mut memory = Memory::new(rt.alloc());
     for page in 0..65536 {
-        memory.xor_tetra(page * 4096 + 5, 1)?;
+        memory.store(page * 4096 + 5, 0)?;
     }
-    assert_eq!(rt; memory.xor_tetra(1 << 62, 1), Err(MemFault::PagesFull));
+    assert_eq!(rt; memory.store(1 << 62, 1), Err(MemFault::PagesFull));
+    assert_eq!(rt; memory.put_byte(1 << 62, 1), Err(SpaceFault::PagesFull));
     assert_eq!(rt; memory.load(1 << 62), 0);
     assert_eq!(rt; memory.pages(), 65536);
-    assert_eq!(rt; memory.xor_tetra(4, 1), Ok(()));
-    assert_eq!(rt; memory.load(0), 0);
+    assert_eq!(rt; memory.next_nonzero(0), None);
+    // a page that is there is not refused, and its octa is found over all pages of zeros
+    assert_eq!(rt; memory.xor_tetra(65535 * 4096 + 4, 1), Ok(()));
+    assert_eq!(rt; memory.next_nonzero(0), Some((65535 * 4096, 1)));
     assert_eq!(rt;
         (MemFault::PagesFull.number(), MemFault::OutOfMemory.number()),
         (90, 0)

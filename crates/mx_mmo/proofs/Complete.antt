@@ -1,42 +1,49 @@
 -- An object is read as its items and its trie.
-use Rattle.std.proofs.Common.{◌≡◌, ℕ, ◌+◌, ◌*◌, ◌≤◌, length, List, [], ◌∷◌, ◌++◌, drop, arith, refl, ◌∙◌, ap, Ok, None, length-append, append_assoc, append-nil, add-zero, zero-add}
-use Rattle.std.specs.List.{AllByRecursion}
-use Rattle.std.proofs.lemmas.Grind.{common_steps}
+use Rattle.std.proofs.Common.{◌≡◌, ℕ, ◌+◌, ◌-◌, ◌*◌, ◌/◌, ◌%◌, ◌^◌, ◌<◌, ◌≤◌, length, List, [], ◌∷◌, ◌++◌, take, drop, arith, refl, sym, ◌∙◌, ap, subst, Ok, Some, None, true, length-append, append_assoc, append-nil, add-zero, zero-add}
+use Rattle.std.specs.Prelude.{◌==◌}
+use Rattle.std.proofs.lemmas.Bool.Decides.{nat_tests}
+use Rattle.std.proofs.lemmas.List.{drop_at, take_at}
 use Rattle.mx_mmo.specs.Tetras.{wide_lop}
-use Rattle.mx_mmo.specs.Object.{Spells, Spelled, IsBuilt}
-use Rattle.mx_mmo.specs.Object.Spelled.{none, next}
+use Rattle.mx_mmo.specs.Object.{Spells, Spelled}
+use Rattle.mx_mmo.specs.Valid.{SpecsEnd}
 use Rattle.mx_mmo.specs.Reading.{first_item}
-use Rattle.mx_mmo.specs.Replies.{limit, phase_after, tail_of}
-use Rattle.mx_mmo.specs.Whole.{Left, Walk, behind, items_of, SpellsObject, object_of, object_behind, onto}
+use Rattle.mx_mmo.specs.Replies.{limit, phase_after, tail_of, counted_tail, end_count}
+use Rattle.mx_mmo.specs.Turns.{ComeInTurn, EndsItem, EndsLast, phase_end}
+use Rattle.mx_mmo.specs.Whole.{Left, Walk, behind, items_of, SpellsObject, object_of, object_behind, onto, with_tail}
 use Rattle.mx_mmo.specs.declared.items.Item.{Item}
+use Rattle.mx_mmo.specs.declared.items.Item.TheVariants.{Pre, Post, Stab}
 use Rattle.mx_mmo.specs.declared.items.Object.{Object}
 use Rattle.mx_mmo.specs.declared.due.Phase.{Phase}
 use Rattle.mx_mmo.specs.declared.due.Phase.TheVariants.{Start, Ended}
-use Rattle.mx_mmo.proofs.Phases.{Suit, Reaches, phase_end, placed-reaches}
+use Rattle.mx_mmo.proofs.Ends.{ends-next}
+use Rattle.mx_mmo.proofs.Phases.{Reaches, placed-reaches}
 use Rattle.mx_mmo.proofs.Pieces.{not-long}
 use Rattle.mx_mmo.proofs.Spelt.{spells-first}
 use Rattle.mx_mmo.proofs.Walks.{items-more, items-none}
 
-behind-front : (front rest : List ℕ) → drop (length front) (front ++ rest) ≡ rest
-behind-front front rest = grind (arith, common_steps)
-
-first-item : (phase : Phase) (at : ℕ) (item : Item) (bytes rest : List ℕ) (w : Walk) → Spells item bytes → Suit phase (item ∷ []) →
+first-item : (phase : Phase) (at : ℕ) (item : Item) (bytes rest : List ℕ) (w : Walk) → Spells item bytes → ComeInTurn phase (item ∷ []) → EndsItem item rest →
     items_of (phase_after item phase) (at + length bytes) rest ≡ w → items_of phase at (bytes ++ rest) ≡ behind item w
-first-item phase at item bytes rest w sp s h =
-    items-more phase at (bytes ++ rest) item (length bytes) (spells-first phase at rest sp s.0)
-    ∙ ap (λ b. behind item (items_of (phase_after item phase) (at + length bytes) b)) (behind-front bytes rest) ∙ ap (behind item) h
+first-item phase at item bytes rest w sp s e h =
+    items-more phase at (bytes ++ rest) item (length bytes) (spells-first phase at rest sp s.0 e)
+    ∙ ap (λ b. behind item (items_of (phase_after item phase) (at + length bytes) b)) (drop_at bytes rest (length bytes) refl) ∙ ap (behind item) h
 
-pub walk-spelled : {items : List Item} {front : List ℕ} (phase : Phase) (at : ℕ) (rest : List ℕ) → Spelled items front → Suit phase items →
+specs-rest : (item : Item) (items : List Item) → SpecsEnd (item ∷ items) → SpecsEnd items
+specs-rest item [] s = tt
+specs-rest item (next ∷ items) s = s.1
+
+last-rest : (item : Item) (items : List Item) (rest : List ℕ) → EndsLast (item ∷ items) rest → EndsLast items rest
+last-rest item [] rest e = tt
+last-rest item (next ∷ items) rest e = e
+
+pub walk-spelled : {items : List Item} {front : List ℕ} (phase : Phase) (at : ℕ) (rest : List ℕ) → Spelled items front → ComeInTurn phase items → SpecsEnd items → EndsLast items rest →
     items_of phase at (front ++ rest) ≡ onto items (items_of (phase_end phase items) (at + length front) rest)
-walk-spelled phase at rest none s = rw add-zero refl
-walk-spelled phase at rest (next item items bytes more sp others) s =
+walk-spelled phase at rest Spelled.none s d e = rw add-zero refl
+walk-spelled phase at rest (Spelled.next item items bytes more sp others) s d e =
     let there : at + length bytes + length more ≡ at + length (bytes ++ more) = omega (arith, length-append bytes more) in
     ap (items_of phase at) (append_assoc bytes more rest)
-    ∙ first-item phase at item bytes (more ++ rest) _ sp (s.0, tt) (walk-spelled (phase_after item phase) (at + length bytes) rest others s.1)
+    ∙ first-item phase at item bytes (more ++ rest) _ sp (s.0, tt) (ends-next item rest others d e)
+    (walk-spelled (phase_after item phase) (at + length bytes) rest others s.1 (specs-rest item items d) (last-rest item items rest e))
     ∙ ap (λ (n : ℕ). onto (item ∷ items) (items_of (phase_end phase (item ∷ items)) n rest)) there
-
-end-read : (at : ℕ) → tail_of Ended at (wide_lop 12 0) ≡ Ok (record { trie = []; place = at })
-end-read at = refl
 
 ended-first : (at : ℕ) (bytes : List ℕ) → first_item Ended at bytes ≡ Ok None
 ended-first at (a ∷ b ∷ c ∷ d ∷ more) = refl
@@ -46,36 +53,58 @@ ended-first at (a ∷ b ∷ []) = refl
 ended-first at (a ∷ b ∷ c ∷ []) = refl
 
 -- what is left behind the items of an object
-abbrev left_behind : ℕ → Left
-left_behind at = record { phase = Ended; at = at; rest = wide_lop 12 0 }
+abbrev pub left_behind : ℕ → List ℕ → Left
+left_behind at rest = record { phase = Ended; at = at; rest = rest }
 
-ended-none : (at : ℕ) (phase : Phase) → phase ≡ Ended → items_of phase at (wide_lop 12 0) ≡ ([], Ok (left_behind at))
-ended-none at phase e = rw e (items-none Ended at (wide_lop 12 0) (ended-first at (wide_lop 12 0)))
+ended-none : (at : ℕ) (phase : Phase) (rest : List ℕ) → phase ≡ Ended → items_of phase at rest ≡ ([], Ok (left_behind at rest))
+ended-none at phase rest e = rw e (items-none Ended at rest (ended-first at rest))
 
 onto-none : (items : List Item) (left : Left) → onto items ([], Ok left) ≡ (items, Ok left)
 onto-none items left = rw append-nil refl
 
-items-read : (items : List Item) (front : List ℕ) → Spelled items front → Reaches Start items →
-    items_of Start 0 (front ++ wide_lop 12 0) ≡ (items, Ok (left_behind (length front)))
-items-read items front sp r =
-    walk-spelled Start 0 (wide_lop 12 0) sp r.suit
-    ∙ ap (λ (n : ℕ). onto items (items_of (phase_end Start items) n (wide_lop 12 0))) (zero-add (length front))
-    ∙ ap (onto items) (ended-none (length front) (phase_end Start items) r.end) ∙ onto-none items (left_behind (length front))
+-- the last item of an object is no spec
+stab-last : (items : List Item) (g : ℕ) (values rest : List ℕ) → EndsLast (items ++ Post g values ∷ Stab ∷ []) rest
+stab-last [] g values rest = tt
+stab-last (item ∷ []) g values rest = tt
+stab-last (item ∷ next ∷ items) g values rest = stab-last (next ∷ items) g values rest
 
-whole-bytes : (bytes front trie : List ℕ) (count : ℕ) → trie ≡ [] → bytes ≡ front ++ trie ++ wide_lop 12 count → length trie ≡ 4 * count → bytes ≡ front ++ wide_lop 12 0
-whole-bytes bytes front trie count t e z =
-    let none : count ≡ 0 = omega (arith, ap (λ (x : List ℕ). length x) t) in
-    e ∙ ap (λ x. front ++ x ++ wide_lop 12 count) t ∙ ap (λ f. f ++ wide_lop 12 count) (append-nil front) ∙ ap (λ (n : ℕ). front ++ wide_lop 12 n) none
+pub items-read : (items : List Item) (front rest : List ℕ) → Spelled items front → Reaches Start items → SpecsEnd items → EndsLast items rest →
+    items_of Start 0 (front ++ rest) ≡ (items, Ok (left_behind (length front) rest))
+items-read items front rest sp r d e =
+    walk-spelled Start 0 rest sp r.turn d e
+    ∙ ap (λ (n : ℕ). onto items (items_of (phase_end Start items) n rest)) (zero-add (length front))
+    ∙ ap (onto items) (ended-none (length front) (phase_end Start items) rest r.end) ∙ onto-none items (left_behind (length front) rest)
 
-same-object : (object : Object) (place : ℕ) → object.tail.trie ≡ [] → object.tail.place ≡ place →
-    ◌≡◌ {A = Object} (record { items = object.items; tail = record { trie = []; place = place } }) object
-same-object object place e f = rw (← e, ← f) refl
+-- the lopcode that ends an object tells its count
+pub end-told : (count : ℕ) → count < 2 ^ 16 → end_count (wide_lop 12 count) ≡ Some count
+end-told count m = ap Some (omega arith)
 
-pub object-only : (bytes : List ℕ) (object : Object) → SpellsObject bytes object → AllByRecursion IsBuilt object.items → object.tail.trie ≡ [] → length bytes ≤ limit →
-    object_of bytes ≡ Ok object
-object-only bytes object s b e l =
+same-test : (n : ℕ) → (n == n) ≡ true
+same-test n = grind (arith, nat_tests)
+
+pub tail-read : (at count : ℕ) (trie rest : List ℕ) → length trie ≡ 4 * count → count < 2 ^ 16 → rest ≡ trie ++ wide_lop 12 count →
+    tail_of Ended at rest ≡ Ok (record { trie = trie; place = at })
+tail-read at count trie rest l m e =
+    let size : length rest ≡ 4 * count + 4 = ap (λ (x : List ℕ). length x) e ∙ length-append trie (wide_lop 12 count) ∙ ap (λ n. n + 4) l in
+    let less : length rest - 4 ≡ length trie = omega (arith, size) in
+    let last : drop (length rest - 4) rest ≡ wide_lop 12 count = ap (λ (n : ℕ). drop n rest) less ∙ ap (drop (length trie)) e ∙ drop_at trie (wide_lop 12 count) (length trie) refl in
+    let front : take (length rest - 4) rest ≡ trie = ap (λ (n : ℕ). take n rest) less ∙ ap (take (length trie)) e ∙ take_at trie (wide_lop 12 count) (length trie) refl in
+    let whole : length rest % 4 ≡ 0 = omega (arith, size) in
+    let number : length rest / 4 - 1 ≡ count = omega (arith, size) in
+    rw (whole, last) (ap (counted_tail at rest) (end-told count m) ∙ rw (number, same-test count, front) refl)
+
+same-object : (object : Object) (place : ℕ) → object.tail.place ≡ place →
+    ◌≡◌ {A = Object} (record { items = object.items; tail = record { trie = object.tail.trie; place = place } }) object
+same-object object place f = rw (← f) refl
+
+pub object-only : (bytes : List ℕ) (object : Object) → SpellsObject bytes object → length bytes ≤ limit → object_of bytes ≡ Ok object
+object-only bytes object s l =
     let o = s.spelled in
+    let p = o.valid.placed in
+    let rest = object.tail.trie ++ wide_lop 12 o.count in
+    let ends : EndsLast object.items rest = subst (λ (is : List Item). EndsLast is rest) (sym p.whole) (stab-last (Pre p.tetras ∷ p.middle) p.g p.values rest) in
     not-long bytes l
-    ∙ ap (λ (bs : List ℕ). object_behind (items_of Start 0 bs).0 (items_of Start 0 bs).1) (whole-bytes bytes o.front object.tail.trie o.count e o.whole o.counted)
-    ∙ ap (λ (w : Walk). object_behind w.0 w.1) (items-read object.items o.front o.spelled (placed-reaches object.items o.valid.placed b))
-    ∙ ap Ok (same-object object (length o.front) e s.place)
+    ∙ ap (λ (bs : List ℕ). object_behind (items_of Start 0 bs).0 (items_of Start 0 bs).1) (o.whole ∙ append_assoc o.front object.tail.trie (wide_lop 12 o.count))
+    ∙ ap (λ (w : Walk). object_behind w.0 w.1) (items-read object.items o.front rest o.spelled (placed-reaches object.items p) o.valid.specs ends)
+    ∙ ap (with_tail object.items) (tail-read (length o.front) o.count object.tail.trie rest o.counted o.most refl)
+    ∙ ap Ok (same-object object (length o.front) s.place)

@@ -1,73 +1,76 @@
 -- What stands first in bytes does not depend on what comes later.
-use Rattle.std.proofs.Common.{◌≡◌, ℕ, ◌+◌, ◌-◌, ◌*◌, ◌<◌, ◌≤◌, length, List, [], ◌∷◌, ◌++◌, take, Bool, true, false, cond, arith, refl, ap, subst, Ok, Err, Some, None}
-use Rattle.std.specs.Prelude.{nat_lt, nat_le, ◌==◌, ◌&&◌}
+use Rattle.std.proofs.Common.{◌≡◌, ◌≢◌, sym, ℕ, ◌+◌, ◌-◌, ◌*◌, ◌^◌, ◌<◌, ◌≤◌, length, List, [], ◌∷◌, ◌++◌, take, Bool, true, false, cond, arith, refl, ap, subst, Ok, Err, Some, None}
+use Rattle.std.specs.Prelude.{Option, nat_lt, nat_le, ◌==◌, ◌&&◌, ◌||◌}
 use Rattle.std.proofs.lemmas.Bool.Decides.{nat_tests}
 use Rattle.std.proofs.lemmas.Grind.{common_steps}
-use Rattle.mx_mmo.specs.Reading.{Due, IsWithin, first_item, due_item, lop_item, quoted_item, short_loc, long_loc, pre_item, post_item, words_of, octas_of}
+use Rattle.mx_mmo.specs.Skipping.{skipped}
+use Rattle.mx_mmo.specs.Reading.{DueOf, Due, IsWithin, first_item, due_item, lop_item, lop_of, on_tetra, on_octa, quoted_tetra, short_address, long_address, address_due, item_due, far_tetra, named_file, file_item, ended_spec, pre_item, post_item, tetras_of, octas_of, trimmed}
 use Rattle.mx_mmo.specs.declared.items.Item.{Item}
-use Rattle.mx_mmo.specs.declared.items.Item.TheVariants.{Load, Pre, Post, Stab}
+use Rattle.mx_mmo.specs.declared.items.Item.TheVariants.{Load, Loc, Skip, FixOcta, FixNear, FixFar, File, Line, Spec, Pre, Post, Stab}
+use Rattle.mx_mmo.specs.declared.lops.Lop.{Lop}
+use Rattle.mx_mmo.specs.declared.lops.Lop.TheVariants as lops
 use Rattle.mx_mmo.specs.declared.faults.MmoFault.{MmoFault}
-use Rattle.mx_mmo.specs.declared.faults.MmoFault.TheVariants.{NoPre, BadLop, BadFields, NotBuilt}
-use Rattle.mx_word.specs.Words.{tetra_from_bytes}
+use Rattle.mx_mmo.specs.declared.faults.MmoFault.TheVariants.{NoPre, BadLop, BadFields, OutOfMemory}
+use Rattle.mx_word.specs.Words.{tetra_from_bytes, octa_from_bytes}
 use Rattle.mx_mmo.specs.declared.due.Phase.{Phase}
 use Rattle.mx_mmo.specs.declared.due.Phase.TheVariants.{Start, Middle, Posted, Ended}
+use Rattle.mx_mmo.proofs.Bytes.{not-less}
+use Rattle.mx_mmo.proofs.Skips.{SkipGrows, SkipWithin, skip-grows, skip-within}
 
 -- where something stands first, it stands there too after more bytes came
-abbrev pub Grows : Due → Due → Type 0
+abbrev pub Grows : {A : Type 0} → DueOf A → DueOf A → Type 0
 Grows (Ok None) later = Unit {0}
 Grows first later = later ≡ first
 
-record Grown (first later : Due) : Type 0 where
+record Grown {A : Type 0} (first later : DueOf A) : Type 0 where
   is : Grows first later
 
-record Within (due : Due) (n : ℕ) : Type 0 where
-  is : IsWithin due n
+same-grown : {A : Type 0} (d : DueOf A) → Grown d d
+same-grown (Ok None) = record { is = tt }
+same-grown (Ok (Some x)) = record { is = refl }
+same-grown (Err f) = record { is = refl }
 
-cond-grows : (b : Bool) (x y x' y' : Due) → Grown x x' → Grown y y' → Grown (cond b x y) (cond b x' y')
-cond-grows true x y x' y' p q = p
-cond-grows false x y x' y' p q = q
+none-grown : {A : Type 0} (d : DueOf A) → Grown (Ok None) d
+none-grown d = record { is = tt }
 
-fault-grows : (f : MmoFault) → Grown (Err f) (Err f)
-fault-grows f = record { is = refl }
+cond-grown : {A : Type 0} (b : Bool) (x y x' y' : DueOf A) → Grown x x' → Grown y y' → Grown (cond b x y) (cond b x' y')
+cond-grown true x y x' y' p q = p
+cond-grown false x y x' y' p q = q
 
-item-grows : (item : Item) (n : ℕ) → Grown (Ok (Some (item, n))) (Ok (Some (item, n)))
-item-grows item n = record { is = refl }
+tetra-grown : {A : Type 0} (due : ℕ → DueOf A) (more ys : List ℕ) → Grown (on_tetra due more) (on_tetra due (more ++ ys))
+tetra-grown due (a ∷ b ∷ c ∷ d ∷ more) ys = same-grown (due (tetra_from_bytes (a ∷ b ∷ c ∷ d ∷ [])))
+tetra-grown due [] ys = none-grown _
+tetra-grown due (a ∷ []) ys = none-grown _
+tetra-grown due (a ∷ b ∷ []) ys = none-grown _
+tetra-grown due (a ∷ b ∷ c ∷ []) ys = none-grown _
 
-cond-within : (b : Bool) (x y : Due) (n : ℕ) → Within x n → Within y n → Within (cond b x y) n
-cond-within true x y n p q = p
-cond-within false x y n p q = q
+octa-grown : {A : Type 0} (due : ℕ → DueOf A) (more ys : List ℕ) → Grown (on_octa due more) (on_octa due (more ++ ys))
+octa-grown due (a ∷ b ∷ c ∷ d ∷ e ∷ f ∷ g ∷ h ∷ more) ys = same-grown (due (octa_from_bytes (a ∷ b ∷ c ∷ d ∷ e ∷ f ∷ g ∷ h ∷ [])))
+octa-grown due [] ys = none-grown _
+octa-grown due (a ∷ []) ys = none-grown _
+octa-grown due (a ∷ b ∷ []) ys = none-grown _
+octa-grown due (a ∷ b ∷ c ∷ []) ys = none-grown _
+octa-grown due (a ∷ b ∷ c ∷ d ∷ []) ys = none-grown _
+octa-grown due (a ∷ b ∷ c ∷ d ∷ e ∷ []) ys = none-grown _
+octa-grown due (a ∷ b ∷ c ∷ d ∷ e ∷ f ∷ []) ys = none-grown _
+octa-grown due (a ∷ b ∷ c ∷ d ∷ e ∷ f ∷ g ∷ []) ys = none-grown _
 
-fault-within : (f : MmoFault) (n : ℕ) → Within (Err f) n
-fault-within f n = record { is = tt }
+item-grows : (item : ℕ → Item) (d e : DueOf ℕ) → Grows d e → Grown (item_due item d) (item_due item e)
+item-grows item (Ok None) e h = none-grown _
+item-grows item (Ok (Some (a, size))) e h = rw h (same-grown (Ok (Some (item a, size))))
+item-grows item (Err f) e h = rw h (same-grown (Err f))
 
-quoted-grows : (more ys : List ℕ) → Grows (quoted_item more) (quoted_item (more ++ ys))
-quoted-grows (a ∷ b ∷ c ∷ d ∷ more) ys = refl
-quoted-grows [] ys = tt
-quoted-grows (a ∷ []) ys = tt
-quoted-grows (a ∷ b ∷ []) ys = tt
-quoted-grows (a ∷ b ∷ c ∷ []) ys = tt
+address-grown : (at y z : ℕ) (more ys : List ℕ) → Grown (address_due at y z more) (address_due at y z (more ++ ys))
+address-grown at y z more ys =
+    cond-grown (z == 1) _ _ _ _ (tetra-grown (short_address y) more ys)
+    (cond-grown (z == 2) _ _ _ _ (octa-grown (long_address y) more ys) (same-grown (Err (BadFields at))))
 
-short-grows : (y : ℕ) (more ys : List ℕ) → Grows (short_loc y more) (short_loc y (more ++ ys))
-short-grows y (a ∷ b ∷ c ∷ d ∷ more) ys = refl
-short-grows y [] ys = tt
-short-grows y (a ∷ []) ys = tt
-short-grows y (a ∷ b ∷ []) ys = tt
-short-grows y (a ∷ b ∷ c ∷ []) ys = tt
+loc-grown : (item : ℕ → Item) (at y z : ℕ) (more ys : List ℕ) → Grown (item_due item (address_due at y z more)) (item_due item (address_due at y z (more ++ ys)))
+loc-grown item at y z more ys = item-grows item (address_due at y z more) (address_due at y z (more ++ ys)) (address-grown at y z more ys).is
 
-long-grows : (y : ℕ) (more ys : List ℕ) → Grows (long_loc y more) (long_loc y (more ++ ys))
-long-grows y (a ∷ b ∷ c ∷ d ∷ e ∷ f ∷ g ∷ h ∷ more) ys = refl
-long-grows y [] ys = tt
-long-grows y (a ∷ []) ys = tt
-long-grows y (a ∷ b ∷ []) ys = tt
-long-grows y (a ∷ b ∷ c ∷ []) ys = tt
-long-grows y (a ∷ b ∷ c ∷ d ∷ []) ys = tt
-long-grows y (a ∷ b ∷ c ∷ d ∷ e ∷ []) ys = tt
-long-grows y (a ∷ b ∷ c ∷ d ∷ e ∷ f ∷ []) ys = tt
-long-grows y (a ∷ b ∷ c ∷ d ∷ e ∷ f ∷ g ∷ []) ys = tt
-
-counted-step : (b b' : Bool) (x x' : Item × ℕ) → (b ≡ false → (b' ≡ false) × (x' ≡ x)) → Grows (cond b (Ok None) (Ok (Some x))) (cond b' (Ok None) (Ok (Some x')))
-counted-step true b' x x' h = tt
-counted-step false b' x x' h = let p = h refl in rw (p.0, p.1) refl
+counted-step : {A : Type 0} (b b' : Bool) (x x' : DueOf A) → (b ≡ false → (b' ≡ false) × (x' ≡ x)) → Grown (cond b (Ok None) x) (cond b' (Ok None) x')
+counted-step true b' x x' h = none-grown _
+counted-step false b' x x' h = let p = h refl in rw (p.0, p.1) (same-grown x)
 
 -- a count of bytes that are there are the first ones, whatever follows
 not-more : (n : ℕ) (more ys : List ℕ) → nat_lt (length more) n ≡ false → nat_lt (length (more ++ ys)) n ≡ false
@@ -76,87 +79,159 @@ not-more n more ys h = grind (arith, nat_tests, common_steps)
 same-front : (n : ℕ) (more ys : List ℕ) → nat_lt (length more) n ≡ false → take n (more ++ ys) ≡ take n more
 same-front n more ys h = grind (arith, nat_tests, common_steps)
 
-pre-grows : (z : ℕ) (more ys : List ℕ) → Grows (pre_item z more) (pre_item z (more ++ ys))
-pre-grows z more ys = counted-step _ _ _ _ (λ h. (not-more _ more ys h, ap (λ front. (Pre (words_of front), 4 + 4 * z)) (same-front _ more ys h)))
+counted-grown : {A : Type 0} (n : ℕ) (due : List ℕ → DueOf A) (more ys : List ℕ) →
+    Grown (cond (nat_lt (length more) n) (Ok None) (due (take n more))) (cond (nat_lt (length (more ++ ys)) n) (Ok None) (due (take n (more ++ ys))))
+counted-grown n due more ys = counted-step _ _ _ _ (λ h. (not-more n more ys h, ap due (same-front n more ys h)))
 
-post-grows : (g : ℕ) (more ys : List ℕ) → Grows (post_item g more) (post_item g (more ++ ys))
-post-grows g more ys = counted-step _ _ _ _ (λ h. (not-more _ more ys h, ap (λ front. (Post g (octas_of front), 4 + 8 * (256 - g))) (same-front _ more ys h)))
+pre-grown : (z : ℕ) (more ys : List ℕ) → Grown (pre_item z more) (pre_item z (more ++ ys))
+pre-grown z more ys = counted-grown (4 * z) (λ front. Ok (Some (Pre (tetras_of front), 4 + 4 * z))) more ys
 
-lop-grows : (at code y z : ℕ) (more ys : List ℕ) → Grown (lop_item at code y z more) (lop_item at code y z (more ++ ys))
-lop-grows at code y z more ys =
-    cond-grows (code == 0) _ _ _ _ (cond-grows (y == 0 && z == 1) _ _ _ _ (record { is = quoted-grows more ys }) (fault-grows (BadFields at)))
-    (cond-grows (code == 1) _ _ _ _ (cond-grows (z == 1) _ _ _ _ (record { is = short-grows y more ys }) (cond-grows (z == 2) _ _ _ _ (record { is = long-grows y more ys }) (fault-grows (BadFields at))))
-    (cond-grows (nat_le code 8) _ _ _ _ (fault-grows (NotBuilt at))
-    (cond-grows (code == 10) _ _ _ _ (cond-grows (y == 0 && nat_le 32 z) _ _ _ _ (record { is = post-grows z more ys }) (fault-grows (BadFields at))) (fault-grows (BadLop at)))))
+post-grown : (g : ℕ) (more ys : List ℕ) → Grown (post_item g more) (post_item g (more ++ ys))
+post-grown g more ys = counted-grown (8 * (256 - g)) (λ front. Ok (Some (Post g (octas_of front), 4 + 8 * (256 - g)))) more ys
 
-due-grows : (phase : Phase) (at a code y z : ℕ) (more ys : List ℕ) → Grown (due_item phase at a code y z more) (due_item phase at a code y z (more ++ ys))
-due-grows Start at a code y z more ys = cond-grows (a == 0x98 && code == 9 && y == 1) _ _ _ _ (record { is = pre-grows z more ys }) (fault-grows (NoPre at))
-due-grows Middle at a code y z more ys =
-    cond-grows (a == 0x98) _ _ _ _ (lop-grows at code y z more ys) (item-grows (Load (tetra_from_bytes (a ∷ code ∷ y ∷ z ∷ []))) 4)
-due-grows Posted at a code y z more ys =
-    cond-grows (a == 0x98 && code == 11) _ _ _ _ (cond-grows (y == 0 && z == 0) _ _ _ _ (item-grows Stab 4) (fault-grows (BadFields at))) (fault-grows (BadLop at))
-due-grows Ended at a code y z more ys = record { is = tt }
+file-grown : (at number z : ℕ) (more ys : List ℕ) → Grown (file_item at number z more) (file_item at number z (more ++ ys))
+file-grown at number z more ys =
+    cond-grown (z == 0) _ _ _ _ (same-grown (Ok (Some (File number None, 4)))) (counted-grown (4 * z) (λ front. named_file at number (4 + 4 * z) (trimmed front)) more ys)
+
+ended-grows : (n : ℕ) (first later : Option ℕ) → SkipGrows first later → Grown (ended_spec n first) (ended_spec n later)
+ended-grows n None later h = none-grown _
+ended-grows n (Some size) later h = rw h (same-grown (Ok (Some (Spec n, 4 + size))))
+
+lop-grown : (at : ℕ) (lop : Option Lop) (y z : ℕ) (more ys : List ℕ) → Grown (lop_item at lop y z more) (lop_item at lop y z (more ++ ys))
+lop-grown at (Some lops.Quote) y z more ys = cond-grown (y == 0 && z == 1) _ _ _ _ (tetra-grown quoted_tetra more ys) (same-grown (Err (BadFields at)))
+lop-grown at (Some lops.Loc) y z more ys = loc-grown (λ a. Loc a) at y z more ys
+lop-grown at (Some lops.Skip) y z more ys = same-grown (Ok (Some (Skip (256 * y + z), 4)))
+lop-grown at (Some lops.Fixo) y z more ys = loc-grown (λ a. FixOcta a) at y z more ys
+lop-grown at (Some lops.Fixr) y z more ys = same-grown (Ok (Some (FixNear (256 * y + z), 4)))
+lop-grown at (Some lops.Fixrx) y z more ys = cond-grown (y == 0 && (z == 16 || z == 24)) _ _ _ _ (tetra-grown (far_tetra at z) more ys) (same-grown (Err (BadFields at)))
+lop-grown at (Some lops.File) y z more ys = file-grown at y z more ys
+lop-grown at (Some lops.Line) y z more ys = same-grown (Ok (Some (Line (256 * y + z), 4)))
+lop-grown at (Some lops.Spec) y z more ys = ended-grows (256 * y + z) (skipped false more) (skipped false (more ++ ys)) (skip-grows false more ys)
+lop-grown at (Some lops.Pre) y z more ys = same-grown (Err (BadLop at))
+lop-grown at (Some lops.Post) y z more ys = cond-grown (y == 0 && nat_le 32 z) _ _ _ _ (post-grown z more ys) (same-grown (Err (BadFields at)))
+lop-grown at (Some lops.Stab) y z more ys = same-grown (Err (BadLop at))
+lop-grown at (Some lops.End) y z more ys = same-grown (Err (BadLop at))
+lop-grown at None y z more ys = same-grown (Err (BadLop at))
+
+due-grown : (phase : Phase) (at a code y z : ℕ) (more ys : List ℕ) → Grown (due_item phase at a code y z more) (due_item phase at a code y z (more ++ ys))
+due-grown Start at a code y z more ys = cond-grown (a == 0x98 && code == 9 && y == 1) _ _ _ _ (pre-grown z more ys) (same-grown (Err (NoPre at)))
+due-grown Middle at a code y z more ys =
+    cond-grown (a == 0x98) _ _ _ _ (lop-grown at (lop_of code) y z more ys) (same-grown (Ok (Some (Load (tetra_from_bytes (a ∷ code ∷ y ∷ z ∷ [])), 4))))
+due-grown Posted at a code y z more ys =
+    cond-grown (a == 0x98 && code == 11) _ _ _ _ (cond-grown (y == 0 && z == 0) _ _ _ _ (same-grown (Ok (Some (Stab, 4)))) (same-grown (Err (BadFields at)))) (same-grown (Err (BadLop at)))
+due-grown Ended at a code y z more ys = none-grown _
 
 pub first-grows : (phase : Phase) (at : ℕ) (xs ys : List ℕ) → Grows (first_item phase at xs) (first_item phase at (xs ++ ys))
-first-grows phase at (a ∷ code ∷ y ∷ z ∷ more) ys = (due-grows phase at a code y z more ys).is
+first-grows phase at (a ∷ code ∷ y ∷ z ∷ more) ys = (due-grown phase at a code y z more ys).is
 first-grows phase at [] ys = tt
 first-grows phase at (a ∷ []) ys = tt
 first-grows phase at (a ∷ code ∷ []) ys = tt
 first-grows phase at (a ∷ code ∷ y ∷ []) ys = tt
 
 -- an item takes some of the bytes
-quoted-within : (more : List ℕ) → IsWithin (quoted_item more) (4 + length more)
-quoted-within (a ∷ b ∷ c ∷ d ∷ more) = (omega arith, omega arith)
-quoted-within [] = tt
-quoted-within (a ∷ []) = tt
-quoted-within (a ∷ b ∷ []) = tt
-quoted-within (a ∷ b ∷ c ∷ []) = tt
+record Within {A : Type 0} (due : DueOf A) (n : ℕ) : Type 0 where
+  is : IsWithin due n
 
-short-within : (y : ℕ) (more : List ℕ) → IsWithin (short_loc y more) (4 + length more)
-short-within y (a ∷ b ∷ c ∷ d ∷ more) = (omega arith, omega arith)
-short-within y [] = tt
-short-within y (a ∷ []) = tt
-short-within y (a ∷ b ∷ []) = tt
-short-within y (a ∷ b ∷ c ∷ []) = tt
+cond-within : {A : Type 0} (b : Bool) (x y : DueOf A) (n : ℕ) → Within x n → Within y n → Within (cond b x y) n
+cond-within true x y n p q = p
+cond-within false x y n p q = q
 
-long-within : (y : ℕ) (more : List ℕ) → IsWithin (long_loc y more) (4 + length more)
-long-within y (a ∷ b ∷ c ∷ d ∷ e ∷ f ∷ g ∷ h ∷ more) = (omega arith, omega arith)
-long-within y [] = tt
-long-within y (a ∷ []) = tt
-long-within y (a ∷ b ∷ []) = tt
-long-within y (a ∷ b ∷ c ∷ []) = tt
-long-within y (a ∷ b ∷ c ∷ d ∷ []) = tt
-long-within y (a ∷ b ∷ c ∷ d ∷ e ∷ []) = tt
-long-within y (a ∷ b ∷ c ∷ d ∷ e ∷ f ∷ []) = tt
-long-within y (a ∷ b ∷ c ∷ d ∷ e ∷ f ∷ g ∷ []) = tt
+fault-within : {A : Type 0} (f : MmoFault) (n : ℕ) → Within {A = A} (Err f) n
+fault-within f n = record { is = tt }
 
-counted-within : (b : Bool) (n size m : ℕ) (item : Item) → (b ≡ false → (0 < size) × (size ≤ m)) → IsWithin (cond b (Ok None) (Ok (Some (item, size)))) m
-counted-within true n size m item h = tt
-counted-within false n size m item h = h refl
+none-within : {A : Type 0} (n : ℕ) → Within {A = A} (Ok None) n
+none-within n = record { is = tt }
 
-pre-within : (z : ℕ) (more : List ℕ) → IsWithin (pre_item z more) (4 + length more)
-pre-within z more = counted-within _ (4 * z) _ _ _ (λ h. (omega arith, grind (arith, nat_tests)))
+some-within : {A : Type 0} (x : A) (size n : ℕ) → 0 < size → size ≤ n → Within (Ok (Some (x, size))) n
+some-within x size n p q = record { is = (p, q) }
 
-post-within : (g : ℕ) (more : List ℕ) → IsWithin (post_item g more) (4 + length more)
-post-within g more = counted-within _ (8 * (256 - g)) _ _ _ (λ h. (omega arith, grind (arith, nat_tests)))
+more-within : {A : Type 0} (due : DueOf A) (m n : ℕ) → m ≤ n → Within due m → Within due n
+more-within (Ok None) m n l h = none-within n
+more-within (Ok (Some (x, size))) m n l h = let s = h.is in some-within x size n s.0 (omega (arith, s.1))
+more-within (Err f) m n l h = fault-within f n
 
-lop-within : (at code y z : ℕ) (more : List ℕ) → Within (lop_item at code y z more) (4 + length more)
-lop-within at code y z more =
-    cond-within (code == 0) _ _ _ (cond-within (y == 0 && z == 1) _ _ _ (record { is = quoted-within more }) (fault-within (BadFields at) _))
-    (cond-within (code == 1) _ _ _ (cond-within (z == 1) _ _ _ (record { is = short-within y more }) (cond-within (z == 2) _ _ _ (record { is = long-within y more }) (fault-within (BadFields at) _)))
-    (cond-within (nat_le code 8) _ _ _ (fault-within (NotBuilt at) _)
-    (cond-within (code == 10) _ _ _ (cond-within (y == 0 && nat_le 32 z) _ _ _ (record { is = post-within z more }) (fault-within (BadFields at) _)) (fault-within (BadLop at) _))))
+tetra-within : {A : Type 0} (due : ℕ → DueOf A) (more : List ℕ) → ((t : ℕ) → Within (due t) 8) → Within (on_tetra due more) (4 + length more)
+tetra-within due (a ∷ b ∷ c ∷ d ∷ more) h = more-within (due (tetra_from_bytes (a ∷ b ∷ c ∷ d ∷ []))) 8 _ (omega arith) (h _)
+tetra-within due [] h = none-within _
+tetra-within due (a ∷ []) h = none-within _
+tetra-within due (a ∷ b ∷ []) h = none-within _
+tetra-within due (a ∷ b ∷ c ∷ []) h = none-within _
+
+octa-within : {A : Type 0} (due : ℕ → DueOf A) (more : List ℕ) → ((x : ℕ) → Within (due x) 12) → Within (on_octa due more) (4 + length more)
+octa-within due (a ∷ b ∷ c ∷ d ∷ e ∷ f ∷ g ∷ h ∷ more) w = more-within (due (octa_from_bytes (a ∷ b ∷ c ∷ d ∷ e ∷ f ∷ g ∷ h ∷ []))) 12 _ (omega arith) (w _)
+octa-within due [] w = none-within _
+octa-within due (a ∷ []) w = none-within _
+octa-within due (a ∷ b ∷ []) w = none-within _
+octa-within due (a ∷ b ∷ c ∷ []) w = none-within _
+octa-within due (a ∷ b ∷ c ∷ d ∷ []) w = none-within _
+octa-within due (a ∷ b ∷ c ∷ d ∷ e ∷ []) w = none-within _
+octa-within due (a ∷ b ∷ c ∷ d ∷ e ∷ f ∷ []) w = none-within _
+octa-within due (a ∷ b ∷ c ∷ d ∷ e ∷ f ∷ g ∷ []) w = none-within _
+
+address-within : (at y z : ℕ) (more : List ℕ) → Within (address_due at y z more) (4 + length more)
+address-within at y z more =
+    cond-within (z == 1) _ _ _ (tetra-within (short_address y) more (λ t. some-within _ 8 8 (omega arith) (omega arith)))
+    (cond-within (z == 2) _ _ _ (octa-within (long_address y) more (λ x. some-within _ 12 12 (omega arith) (omega arith))) (fault-within (BadFields at) _))
+
+item-within : (item : ℕ → Item) (d : DueOf ℕ) (n : ℕ) → Within d n → Within (item_due item d) n
+item-within item (Ok None) n h = none-within n
+item-within item (Ok (Some (a, size))) n h = let s = h.is in some-within (item a) size n s.0 s.1
+item-within item (Err f) n h = fault-within f n
 
 four-within : (item : Item) (n : ℕ) → Within (Ok (Some (item, 4))) (4 + n)
-four-within item n = record { is = (omega arith, omega arith) }
+four-within item n = some-within item 4 (4 + n) (omega arith) (omega arith)
+
+far-within : (at bits t : ℕ) → Within (far_tetra at bits t) 8
+far-within at bits t = cond-within (nat_lt t (2 ^ 25)) _ _ _ (some-within (FixFar bits t) 8 8 (omega arith) (omega arith)) (fault-within (BadFields at) _)
+
+counted-step-within : {A : Type 0} (b : Bool) (due : DueOf A) (n m : ℕ) → (b ≡ false → n ≤ m) → Within due n → Within (cond b (Ok None) due) m
+counted-step-within true due n m h w = none-within m
+counted-step-within false due n m h w = more-within due n m (h refl) w
+
+counted-within : {A : Type 0} (n : ℕ) (due : DueOf A) (more : List ℕ) → Within due (4 + n) → Within (cond (nat_lt (length more) n) (Ok None) due) (4 + length more)
+counted-within n due more w = counted-step-within (nat_lt (length more) n) due (4 + n) _ (λ h. let l = not-less (length more) n h in omega (arith, l)) w
+
+pre-within : (z : ℕ) (more : List ℕ) → Within (pre_item z more) (4 + length more)
+pre-within z more = counted-within (4 * z) _ more (some-within _ _ _ (omega arith) (omega arith))
+
+post-within : (g : ℕ) (more : List ℕ) → Within (post_item g more) (4 + length more)
+post-within g more = counted-within (8 * (256 - g)) _ more (some-within _ _ _ (omega arith) (omega arith))
+
+named-within : (at number n : ℕ) (name : List ℕ) → Within (named_file at number (4 + n) name) (4 + n)
+named-within at number n [] = fault-within (BadFields at) _
+named-within at number n (b ∷ name) = some-within _ _ _ (omega arith) (omega arith)
+
+file-within : (at number z : ℕ) (more : List ℕ) → Within (file_item at number z more) (4 + length more)
+file-within at number z more =
+    cond-within (z == 0) _ _ _ (four-within (File number None) _) (counted-within (4 * z) _ more (named-within at number (4 * z) (trimmed (take (4 * z) more))))
+
+spec-within : (n : ℕ) (o : Option ℕ) (m : ℕ) → SkipWithin o m → Within (ended_spec n o) (4 + m)
+spec-within n None m h = none-within _
+spec-within n (Some size) m h = some-within _ _ _ (omega arith) (omega (arith, h))
+
+lop-within : (at : ℕ) (lop : Option Lop) (y z : ℕ) (more : List ℕ) → Within (lop_item at lop y z more) (4 + length more)
+lop-within at (Some lops.Quote) y z more = cond-within (y == 0 && z == 1) _ _ _ (tetra-within quoted_tetra more (λ t. some-within (Load t) 8 8 (omega arith) (omega arith))) (fault-within (BadFields at) _)
+lop-within at (Some lops.Loc) y z more = item-within (λ a. Loc a) (address_due at y z more) _ (address-within at y z more)
+lop-within at (Some lops.Skip) y z more = four-within (Skip (256 * y + z)) _
+lop-within at (Some lops.Fixo) y z more = item-within (λ a. FixOcta a) (address_due at y z more) _ (address-within at y z more)
+lop-within at (Some lops.Fixr) y z more = four-within (FixNear (256 * y + z)) _
+lop-within at (Some lops.Fixrx) y z more = cond-within (y == 0 && (z == 16 || z == 24)) _ _ _ (tetra-within (far_tetra at z) more (λ t. far-within at z t)) (fault-within (BadFields at) _)
+lop-within at (Some lops.File) y z more = file-within at y z more
+lop-within at (Some lops.Line) y z more = four-within (Line (256 * y + z)) _
+lop-within at (Some lops.Spec) y z more = spec-within (256 * y + z) (skipped false more) (length more) (skip-within false more)
+lop-within at (Some lops.Pre) y z more = fault-within (BadLop at) _
+lop-within at (Some lops.Post) y z more = cond-within (y == 0 && nat_le 32 z) _ _ _ (post-within z more) (fault-within (BadFields at) _)
+lop-within at (Some lops.Stab) y z more = fault-within (BadLop at) _
+lop-within at (Some lops.End) y z more = fault-within (BadLop at) _
+lop-within at None y z more = fault-within (BadLop at) _
 
 due-within : (phase : Phase) (at a code y z : ℕ) (more : List ℕ) → Within (due_item phase at a code y z more) (4 + length more)
-due-within Start at a code y z more = cond-within (a == 0x98 && code == 9 && y == 1) _ _ _ (record { is = pre-within z more }) (fault-within (NoPre at) _)
+due-within Start at a code y z more = cond-within (a == 0x98 && code == 9 && y == 1) _ _ _ (pre-within z more) (fault-within (NoPre at) _)
 due-within Middle at a code y z more =
-    cond-within (a == 0x98) _ _ _ (lop-within at code y z more) (four-within (Load (tetra_from_bytes (a ∷ code ∷ y ∷ z ∷ []))) _)
+    cond-within (a == 0x98) _ _ _ (lop-within at (lop_of code) y z more) (four-within (Load (tetra_from_bytes (a ∷ code ∷ y ∷ z ∷ []))) _)
 due-within Posted at a code y z more =
     cond-within (a == 0x98 && code == 11) _ _ _ (cond-within (y == 0 && z == 0) _ _ _ (four-within Stab _) (fault-within (BadFields at) _)) (fault-within (BadLop at) _)
-due-within Ended at a code y z more = record { is = tt }
+due-within Ended at a code y z more = none-within _
 
 four-more : (a b c d n : ℕ) (more : List ℕ) → n ≡ 4 + length more → n ≡ length (a ∷ b ∷ c ∷ d ∷ more)
 four-more a b c d n more h = omega arith
@@ -169,3 +244,8 @@ first-within phase at [] = tt
 first-within phase at (a ∷ []) = tt
 first-within phase at (a ∷ code ∷ []) = tt
 first-within phase at (a ∷ code ∷ y ∷ []) = tt
+
+-- what is given where memory does not run out is within what is there
+pub given-within : (given due : Due) (n : ℕ) → (given ≢ Err OutOfMemory → given ≡ due) → IsWithin due n → IsWithin given n
+given-within (Err fault) due n h w = tt
+given-within (Ok found) due n h w = subst (λ (d : Due). IsWithin d n) (sym (h (λ e. cc))) w

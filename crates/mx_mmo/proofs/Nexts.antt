@@ -3,7 +3,7 @@ use Rattle.std.proofs.Common.{◌≡◌, ℕ, ◌+◌, ◌<◌, ◌≤◌, lengt
 use Rattle.std.specs.Prelude.{Result, Option}
 use Rattle.mx_mmo.specs.Reading.{Due, IsWithin, first_item}
 use Rattle.mx_mmo.specs.Replies.{ReaderModel, phase_after, next_item, next_due, next_answer, given, tail_of, finished, finish_next, finish_answer}
-use Rattle.mx_mmo.specs.Whole.{Walk, behind, items_of, onto, ahead, left_of, fed}
+use Rattle.mx_mmo.specs.Whole.{Walk, behind, items_of, onto, with_rest, left_of, fed}
 use Rattle.mx_mmo.specs.declared.items.Item.{Item}
 use Rattle.mx_mmo.specs.declared.items.Tail.{Tail}
 use Rattle.mx_mmo.specs.declared.faults.MmoFault.{MmoFault}
@@ -18,7 +18,7 @@ pub reader-is : {A : Type 0} (p q : Result A MmoFault × ReaderModel) → p ≡ 
 reader-is {A = A} p q h = ap (λ (p : Result A MmoFault × ReaderModel). p.1) h
 
 pub record Gave (items : List Item) (m n : ReaderModel) (item : Item) : Type 0 where
-  pub same : ahead (items ++ item ∷ []) n ≡ ahead items m
+  pub same : with_rest (items ++ item ∷ []) n ≡ with_rest items m
   pub well : n.fault ≡ None
   pub less : length n.rest < length m.rest
   pub end : fed n ≡ fed m

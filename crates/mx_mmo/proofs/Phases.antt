@@ -1,57 +1,42 @@
--- Which items suit how far a reader has come.
+-- The items of an object come in turn.
 use Rattle.std.proofs.Common.{◌≡◌, ℕ, List, [], ◌∷◌, ◌++◌, refl, sym, ap, subst}
 use Rattle.std.specs.List.{AllByRecursion}
-use Rattle.mx_mmo.specs.Object.{IsBuilt}
-use Rattle.mx_mmo.specs.Valid.{IsMiddle, IsPlaced, MayFollow, SpecsEnd}
-use Rattle.mx_mmo.specs.Replies.{phase_after}
+use Rattle.mx_mmo.specs.Valid.{IsMiddle, IsPlaced}
+use Rattle.mx_mmo.specs.Turns.{MayCome, ComeInTurn, phase_end}
 use Rattle.mx_mmo.specs.declared.items.Item.{Item}
-use Rattle.mx_mmo.specs.declared.items.Item.TheVariants.{Load, Loc, Pre, Post, Stab}
+use Rattle.mx_mmo.specs.declared.items.Item.TheVariants.{Load, Loc, Skip, FixOcta, FixNear, FixFar, File, Line, Spec, Pre, Post, Stab}
 use Rattle.mx_mmo.specs.declared.due.Phase.{Phase}
 use Rattle.mx_mmo.specs.declared.due.Phase.TheVariants.{Start, Middle, Posted, Ended}
 
--- the items that may come next, of those that are read
-abbrev pub Suits : Phase → Item → Type 0
-Suits Start (Pre words) = Unit {0}
-Suits Middle (Load t) = Unit {0}
-Suits Middle (Loc a) = Unit {0}
-Suits Middle (Post g values) = Unit {0}
-Suits Posted Stab = Unit {0}
-Suits _ _ = ⊥
-
-abbrev pub Suit : Phase → List Item → Type 0
-Suit phase [] = Unit {0}
-Suit phase (item ∷ items) = Suits phase item × Suit (phase_after item phase) items
-
--- how far a reader has come after items
-abbrev pub phase_end : Phase → List Item → Phase
-phase_end phase [] = phase
-phase_end phase (item ∷ items) = phase_end (phase_after item phase) items
-
 pub record Reaches (phase : Phase) (items : List Item) : Type 0 where
-  pub suit : Suit phase items
+  pub turn : ComeInTurn phase items
   pub end : phase_end phase items ≡ Ended
 
--- the items of an object suit in turn
-cons-reaches : (item : Item) (items : List Item) → IsMiddle item → IsBuilt item → Reaches Middle items → Reaches Middle (item ∷ items)
-cons-reaches (Load t) items m b r = record { suit = (tt, r.suit); end = r.end }
-cons-reaches (Loc a) items m b r = record { suit = (tt, r.suit); end = r.end }
-cons-reaches (Pre words) items m b r = absurd m
-cons-reaches (Post g values) items m b r = absurd m
-cons-reaches Stab items m b r = absurd m
-cons-reaches _ items m b r = absurd b
+-- the items of an object come in turn
+cons-reaches : (item : Item) (items : List Item) → IsMiddle item → Reaches Middle items → Reaches Middle (item ∷ items)
+cons-reaches (Load t) items m r = record { turn = (tt, r.turn); end = r.end }
+cons-reaches (Loc a) items m r = record { turn = (tt, r.turn); end = r.end }
+cons-reaches (Skip n) items m r = record { turn = (tt, r.turn); end = r.end }
+cons-reaches (FixOcta a) items m r = record { turn = (tt, r.turn); end = r.end }
+cons-reaches (FixNear n) items m r = record { turn = (tt, r.turn); end = r.end }
+cons-reaches (FixFar bits t) items m r = record { turn = (tt, r.turn); end = r.end }
+cons-reaches (File number name) items m r = record { turn = (tt, r.turn); end = r.end }
+cons-reaches (Line n) items m r = record { turn = (tt, r.turn); end = r.end }
+cons-reaches (Spec n) items m r = record { turn = (tt, r.turn); end = r.end }
+cons-reaches (Pre tetras) items m r = absurd m
+cons-reaches (Post g values) items m r = absurd m
+cons-reaches Stab items m r = absurd m
 
-middle-reaches : (middle : List Item) (g : ℕ) (values : List ℕ) → AllByRecursion IsMiddle middle → AllByRecursion IsBuilt (middle ++ Post g values ∷ Stab ∷ []) →
-    Reaches Middle (middle ++ Post g values ∷ Stab ∷ [])
-middle-reaches [] g values m b = record { suit = (tt, (tt, tt)); end = refl }
-middle-reaches (item ∷ items) g values m b = cons-reaches item _ m.0 b.0 (middle-reaches items g values m.1 b.1)
+middle-reaches : (middle : List Item) (g : ℕ) (values : List ℕ) → AllByRecursion IsMiddle middle → Reaches Middle (middle ++ Post g values ∷ Stab ∷ [])
+middle-reaches [] g values m = record { turn = (tt, (tt, tt)); end = refl }
+middle-reaches (item ∷ items) g values m = cons-reaches item _ m.0 (middle-reaches items g values m.1)
 
-pub placed-reaches : (items : List Item) → IsPlaced items → AllByRecursion IsBuilt items → Reaches Start items
-placed-reaches items p b =
-    let built = subst (λ (is : List Item). AllByRecursion IsBuilt is) p.whole b in
-    let r = middle-reaches p.middle p.g p.values p.between built.1 in
-    subst (λ (is : List Item). Reaches Start is) (sym p.whole) (record { suit = (tt, r.suit); end = r.end })
+pub placed-reaches : (items : List Item) → IsPlaced items → Reaches Start items
+placed-reaches items p =
+    let r = middle-reaches p.middle p.g p.values p.between in
+    subst (λ (is : List Item). Reaches Start is) (sym p.whole) (record { turn = (tt, r.turn); end = r.end })
 
--- items that suit in turn up to the end are those of an object
+-- items that come in turn up to the end are those of an object
 record Shaped (items : List Item) : Type 0 where
   middle : List Item
   g : ℕ
@@ -59,12 +44,25 @@ record Shaped (items : List Item) : Type 0 where
   whole : items ≡ middle ++ Post g values ∷ Stab ∷ []
   between : AllByRecursion IsMiddle middle
 
+none-ended : (item : Item) → MayCome Ended item → ⊥
+none-ended (Load t) m = m
+none-ended (Loc a) m = m
+none-ended (Skip n) m = m
+none-ended (FixOcta a) m = m
+none-ended (FixNear n) m = m
+none-ended (FixFar bits t) m = m
+none-ended (File number name) m = m
+none-ended (Line n) m = m
+none-ended (Spec n) m = m
+none-ended (Pre tetras) m = m
+none-ended (Post g values) m = m
+none-ended Stab m = m
+
 stab-alone : (items : List Item) → Reaches Posted items → items ≡ Stab ∷ []
 stab-alone [] r = absurd (cc (r.end))
 stab-alone (Stab ∷ []) r = refl
-stab-alone (Stab ∷ Load t ∷ items) r = absurd r.suit.1.0
-stab-alone (Stab ∷ item ∷ items) r = absurd r.suit.1.0
-stab-alone (item ∷ items) r = absurd r.suit.0
+stab-alone (Stab ∷ item ∷ items) r = absurd (none-ended item r.turn.1.0)
+stab-alone (item ∷ items) r = absurd r.turn.0
 
 cons-shaped : (item : Item) (items : List Item) → IsMiddle item → Shaped items → Shaped (item ∷ items)
 cons-shaped item items m s =
@@ -72,29 +70,23 @@ cons-shaped item items m s =
 
 shaped : (items : List Item) → Reaches Middle items → Shaped items
 shaped [] r = absurd (cc (r.end))
-shaped (Load t ∷ items) r = cons-shaped (Load t) items tt (shaped items (record { suit = r.suit.1; end = r.end }))
-shaped (Loc a ∷ items) r = cons-shaped (Loc a) items tt (shaped items (record { suit = r.suit.1; end = r.end }))
+shaped (Load t ∷ items) r = cons-shaped (Load t) items tt (shaped items (record { turn = r.turn.1; end = r.end }))
+shaped (Loc a ∷ items) r = cons-shaped (Loc a) items tt (shaped items (record { turn = r.turn.1; end = r.end }))
+shaped (Skip n ∷ items) r = cons-shaped (Skip n) items tt (shaped items (record { turn = r.turn.1; end = r.end }))
+shaped (FixOcta a ∷ items) r = cons-shaped (FixOcta a) items tt (shaped items (record { turn = r.turn.1; end = r.end }))
+shaped (FixNear n ∷ items) r = cons-shaped (FixNear n) items tt (shaped items (record { turn = r.turn.1; end = r.end }))
+shaped (FixFar bits t ∷ items) r = cons-shaped (FixFar bits t) items tt (shaped items (record { turn = r.turn.1; end = r.end }))
+shaped (File number name ∷ items) r = cons-shaped (File number name) items tt (shaped items (record { turn = r.turn.1; end = r.end }))
+shaped (Line n ∷ items) r = cons-shaped (Line n) items tt (shaped items (record { turn = r.turn.1; end = r.end }))
+shaped (Spec n ∷ items) r = cons-shaped (Spec n) items tt (shaped items (record { turn = r.turn.1; end = r.end }))
 shaped (Post g values ∷ items) r =
-    record { middle = []; g = g; values = values; whole = ap (λ is. Post g values ∷ is) (stab-alone items (record { suit = r.suit.1; end = r.end })); between = tt }
-shaped (item ∷ items) r = absurd r.suit.0
+    record { middle = []; g = g; values = values; whole = ap (λ is. Post g values ∷ is) (stab-alone items (record { turn = r.turn.1; end = r.end })); between = tt }
+shaped (Pre tetras ∷ items) r = absurd r.turn.0
+shaped (Stab ∷ items) r = absurd r.turn.0
 
 pub placed-items : (items : List Item) → Reaches Start items → IsPlaced items
 placed-items [] r = absurd (cc (r.end))
-placed-items (Pre words ∷ items) r =
-    let s = shaped items (record { suit = r.suit.1; end = r.end }) in
-    record { words = words; middle = s.middle; g = s.g; values = s.values; whole = ap (λ is. Pre words ∷ is) s.whole; between = s.between }
-placed-items (item ∷ items) r = absurd r.suit.0
-
--- none of them is a spec
-may-follow : (phase : Phase) (i j : Item) → Suits phase i → MayFollow i j
-may-follow Middle (Load t) j s = tt
-may-follow Middle (Loc a) j s = tt
-may-follow Middle (Post g values) j s = tt
-may-follow Start (Pre words) j s = tt
-may-follow Posted Stab j s = tt
-may-follow _ _ j s = absurd s
-
-pub specs-end : (phase : Phase) (items : List Item) → Suit phase items → SpecsEnd items
-specs-end phase [] s = tt
-specs-end phase (i ∷ []) s = tt
-specs-end phase (i ∷ j ∷ items) s = (may-follow phase i j s.0, specs-end (phase_after i phase) (j ∷ items) s.1)
+placed-items (Pre tetras ∷ items) r =
+    let s = shaped items (record { turn = r.turn.1; end = r.end }) in
+    record { tetras = tetras; middle = s.middle; g = s.g; values = s.values; whole = ap (λ is. Pre tetras ∷ is) s.whole; between = s.between }
+placed-items (item ∷ items) r = absurd r.turn.0

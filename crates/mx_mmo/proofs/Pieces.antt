@@ -1,12 +1,15 @@
 -- Reading goes on over more pieces.
-use Rattle.std.proofs.Common.{◌≡◌, ℕ, zero, suc, ◌+◌, ◌^◌, ◌<◌, ◌≤◌, length, List, [], ◌∷◌, ◌++◌, take, drop, get_or, arith, refl, sym, ◌∙◌, ap, subst, Ok, Err, length-append, append_assoc, append-nil, inl, inr, false, add-one}
-use Rattle.std.specs.Prelude.{nat_lt}
+use Rattle.std.proofs.Common.{◌≡◌, ℕ, zero, suc, ◌+◌, ◌^◌, ◌<◌, ◌≤◌, length, List, [], ◌∷◌, ◌++◌, take, drop, get_or, arith, refl, sym, ◌∙◌, ap, Ok, Err, length-append, append_assoc, append-nil, Bool, true, false, cond, add-one, add-zero}
+use Rattle.std.specs.Prelude.{Result, nat_lt}
+use Rattle.mx_mmo.specs.declared.items.Object.{Object}
+use Rattle.mx_mmo.specs.declared.faults.MmoFault.TheVariants.{TooLong}
 use Rattle.std.specs.List.{concat}
 use Rattle.std.proofs.lemmas.Grind.{common_steps}
 use Rattle.std.proofs.lemmas.Bool.Decides.{nat_tests}
+use Rattle.mx_word.proofs.Ranges.{bytes-append}
 use Rattle.mx_mmo.specs.Valid.{AreBytes}
 use Rattle.mx_mmo.specs.Replies.{ReaderModel, limit, fresh, tail_of}
-use Rattle.mx_mmo.specs.Whole.{IsFaultOf, Walk, ahead, fed, items_of, left_of, object_of, object_behind, with_tail, with_more, extended}
+use Rattle.mx_mmo.specs.Whole.{Walk, passed_limit, pieces_within, with_rest, fed, items_of, left_of, object_of, object_behind, with_tail, with_more, extended}
 use Rattle.mx_mmo.specs.declared.items.Item.{Item}
 use Rattle.mx_mmo.specs.declared.faults.MmoFault.{MmoFault}
 use Rattle.mx_mmo.specs.declared.due.Phase.TheVariants.{Start}
@@ -29,7 +32,7 @@ pub nothing-yet : items_of Start 0 [] ≡ ([], Ok (left_of fresh))
 nothing-yet = items-none Start 0 [] refl
 
 pub goes-on : (front piece : List ℕ) (items : List Item) (m : ReaderModel) → items_of Start 0 front ≡ (items, Ok (left_of m)) →
-    items_of Start 0 (front ++ piece) ≡ ahead items (with_more m piece)
+    items_of Start 0 (front ++ piece) ≡ with_rest items (with_more m piece)
 goes-on front piece items m h = extends Start 0 front piece ∙ ap (λ w. extended w piece) h
 
 stays : (w : Walk) (rest : List ℕ) (fault : MmoFault) → w.1 ≡ Err fault → (extended w rest).1 ≡ Err fault
@@ -39,66 +42,113 @@ stays (items, Ok left) rest fault h = absurd (cc)
 pub fault-stays : (front rest : List ℕ) (fault : MmoFault) → (items_of Start 0 front).1 ≡ Err fault → (items_of Start 0 (front ++ rest)).1 ≡ Err fault
 fault-stays front rest fault h = ap (λ (w : Walk). w.1) (extends Start 0 front rest) ∙ stays (items_of Start 0 front) rest fault h
 
-pub fault-of-more : (front rest : List ℕ) (fault : MmoFault) → IsFaultOf fault (length front) (items_of Start 0 front) →
-    IsFaultOf fault (length (front ++ rest)) (items_of Start 0 (front ++ rest))
-fault-of-more front rest fault (inl h) = inl (omega (arith, h.0, length-append front rest), h.1)
-fault-of-more front rest fault (inr h) = inr (fault-stays front rest fault h)
-
 pub not-long : (bytes : List ℕ) → length bytes ≤ limit → object_of bytes ≡ object_behind (items_of Start 0 bytes).0 (items_of Start 0 bytes).1
 not-long bytes h = let e : nat_lt limit (length bytes) ≡ false = grind (arith, nat_tests) in rw e refl
-
-pub fault-of-all : (bytes : List ℕ) (fault : MmoFault) → IsFaultOf fault (length bytes) (items_of Start 0 bytes) → length bytes ≤ limit → object_of bytes ≡ Err fault
-fault-of-all bytes fault (inl h) l = absurd (omega (arith, h.0))
-fault-of-all bytes fault (inr h) l = not-long bytes l ∙ ap (object_behind (items_of Start 0 bytes).0) h
 
 pub object-of-all : (bytes : List ℕ) (items : List Item) (m : ReaderModel) → items_of Start 0 bytes ≡ (items, Ok (left_of m)) → length bytes ≤ limit →
     object_of bytes ≡ with_tail items (tail_of m.phase m.at m.rest)
 object-of-all bytes items m h l = not-long bytes l ∙ ap (λ (w : Walk). object_behind w.0 w.1) h
-
--- the faults of a call that goes on with a piece are those of the bytes up to its end
-pub fault-of-piece : (pieces : List (List ℕ)) (i : ℕ) (piece d : List ℕ) (items : List Item) (m : ReaderModel) (fault : MmoFault) → i < length pieces → piece ≡ get_or pieces i d →
-    items_of Start 0 (concat (take i pieces)) ≡ (items, Ok (left_of m)) → fed m ≡ length (concat (take i pieces)) →
-    IsFaultOf fault (fed m + length piece) (ahead items (with_more m piece)) →
-    IsFaultOf fault (length (concat pieces)) (items_of Start 0 (concat pieces))
-fault-of-piece pieces i piece d items m fault l is same end h =
-    let front = concat (take i pieces) in
-    let grown : concat (take (i + 1) pieces) ≡ front ++ piece = concat-more pieces i d l ∙ ap (λ p. front ++ p) (sym is) in
-    let here : IsFaultOf fault (length (front ++ piece)) (items_of Start 0 (front ++ piece)) =
-    rw (goes-on front piece items m same, length-append, ← end) h in
-    let all : concat pieces ≡ (front ++ piece) ++ concat (drop (i + 1) pieces) = concat-rest pieces (i + 1) ∙ ap (λ f. f ++ concat (drop (i + 1) pieces)) grown in
-    subst (λ (b : List ℕ). IsFaultOf fault (length b) (items_of Start 0 b)) (sym all) (fault-of-more (front ++ piece) (concat (drop (i + 1) pieces)) fault here)
-
--- the items up to the end of a piece
-pub items-of-piece : (pieces : List (List ℕ)) (i : ℕ) (piece d : List ℕ) (items more : List Item) (m n : ReaderModel) → i < length pieces → piece ≡ get_or pieces i d →
-    items_of Start 0 (concat (take i pieces)) ≡ (items, Ok (left_of m)) → ahead items (with_more m piece) ≡ (more, Ok (left_of n)) →
-    items_of Start 0 (concat (take (i + 1) pieces)) ≡ (more, Ok (left_of n))
-items-of-piece pieces i piece d items more m n l is same h =
-    let front = concat (take i pieces) in
-    let grown : concat (take (i + 1) pieces) ≡ front ++ piece = concat-more pieces i d l ∙ ap (λ p. front ++ p) (sym is) in
-    ap (items_of Start 0) grown ∙ goes-on front piece items m same ∙ h
 
 pub length-of-piece : (pieces : List (List ℕ)) (i : ℕ) (piece d : List ℕ) → i < length pieces → piece ≡ get_or pieces i d →
     length (concat (take (i + 1) pieces)) ≡ length (concat (take i pieces)) + length piece
 length-of-piece pieces i piece d l is =
     ap (λ (b : List ℕ). length b) (concat-more pieces i d l ∙ ap (λ p. concat (take i pieces) ++ p) (sym is)) ∙ length-append (concat (take i pieces)) piece
 
+-- the pieces so far are within the limit, and so is the next one or not
+cond-false : {A : Type 0} (b : Bool) (x y : A) → b ≡ false → cond b x y ≡ y
+cond-false b x y e = rw e refl
+
+cond-true : {A : Type 0} (b : Bool) (x y : A) → b ≡ true → cond b x y ≡ x
+cond-true b x y e = rw e refl
+
+within-from : (n i : ℕ) (pieces : List (List ℕ)) → n + length (concat (take i pieces)) ≤ limit →
+    pieces_within n pieces ≡ concat (take i pieces) ++ pieces_within (n + length (concat (take i pieces))) (drop i pieces)
+within-from n zero pieces l = ap (λ (k : ℕ). pieces_within k pieces) (sym (add-zero n))
+within-from n (suc i) [] l = ap (λ (k : ℕ). pieces_within k []) (sym (add-zero n))
+within-from n (suc i) (p ∷ ps) l =
+    let front = concat (take i ps) in
+    let size = length-append p front in
+    let few : nat_lt limit (n + length p) ≡ false = grind (arith, nat_tests) in
+    let there : n + length p + length front ≡ n + length (p ++ front) = omega (arith, size) in
+    cond-false (nat_lt limit (n + length p)) [] (p ++ pieces_within (n + length p) ps) few
+    ∙ ap (λ x. p ++ x) (within-from (n + length p) i ps (omega (arith, size)))
+    ∙ sym (append_assoc p front (pieces_within (n + length p + length front) (drop i ps)))
+    ∙ ap (λ (k : ℕ). (p ++ front) ++ pieces_within k (drop i ps)) there
+
+within-passed : (n i : ℕ) (pieces : List (List ℕ)) (d : List ℕ) → i < length pieces → limit < n + length (get_or pieces i d) → pieces_within n (drop i pieces) ≡ []
+within-passed n zero [] d l h = absurd (omega arith)
+within-passed n (suc i) [] d l h = absurd (omega arith)
+within-passed n zero (p ∷ ps) d l h =
+    let many : nat_lt limit (n + length p) ≡ true = grind (arith, nat_tests) in
+    cond-true (nat_lt limit (n + length p)) [] (p ++ pieces_within (n + length p) ps) many
+within-passed n (suc i) (p ∷ ps) d l h = within-passed n i ps d (omega arith) h
+
+-- the fault of an item in the pieces so far, whatever follows
+item-fault : (bytes : List ℕ) (fault : MmoFault) → (items_of Start 0 bytes).1 ≡ Err fault → length bytes ≤ limit → object_of bytes ≡ Err fault
+item-fault bytes fault h l = not-long bytes l ∙ ap (object_behind (items_of Start 0 bytes).0) h
+
+fault-here : (pieces : List (List ℕ)) (i : ℕ) (piece d : List ℕ) (items : List Item) (m : ReaderModel) (fault : MmoFault) → i < length pieces → piece ≡ get_or pieces i d →
+    items_of Start 0 (concat (take i pieces)) ≡ (items, Ok (left_of m)) → (with_rest items (with_more m piece)).1 ≡ Err fault →
+    (items_of Start 0 (concat (take (i + 1) pieces))).1 ≡ Err fault
+fault-here pieces i piece d items m fault l is same h =
+    let front = concat (take i pieces) in
+    let grown : concat (take (i + 1) pieces) ≡ front ++ piece = concat-more pieces i d l ∙ ap (λ p. front ++ p) (sym is) in
+    ap (λ (b : List ℕ). (items_of Start 0 b).1) grown ∙ ap (λ (w : Walk). w.1) (goes-on front piece items m same) ∙ h
+
+fault-after : (front rest whole : List ℕ) (fault : MmoFault) → whole ≡ front ++ rest → (items_of Start 0 front).1 ≡ Err fault → (items_of Start 0 whole).1 ≡ Err fault
+fault-after front rest whole fault e h = ap (λ (b : List ℕ). (items_of Start 0 b).1) e ∙ fault-stays front rest fault h
+
+pub exact-fault : (pieces : List (List ℕ)) (i : ℕ) (piece d : List ℕ) (items : List Item) (m : ReaderModel) (fault : MmoFault) → i < length pieces → piece ≡ get_or pieces i d →
+    items_of Start 0 (concat (take i pieces)) ≡ (items, Ok (left_of m)) → (with_rest items (with_more m piece)).1 ≡ Err fault →
+    length (concat pieces) ≤ limit → Err fault ≡ object_of (concat pieces)
+exact-fault pieces i piece d items m fault l is same h most =
+    sym (item-fault (concat pieces) fault
+    (fault-after (concat (take (i + 1) pieces)) (concat (drop (i + 1) pieces)) (concat pieces) fault (concat-rest pieces (i + 1)) (fault-here pieces i piece d items m fault l is same h)) most)
+
+pub long-fault : (pieces : List (List ℕ)) (i : ℕ) (piece d : List ℕ) (items : List Item) (m : ReaderModel) (fault : MmoFault) → i < length pieces → piece ≡ get_or pieces i d →
+    items_of Start 0 (concat (take i pieces)) ≡ (items, Ok (left_of m)) → (with_rest items (with_more m piece)).1 ≡ Err fault →
+    length (concat (take (i + 1) pieces)) ≤ limit → Err fault ≡ passed_limit (items_of Start 0 (pieces_within 0 pieces)).1
+long-fault pieces i piece d items m fault l is same h most =
+    let front = concat (take (i + 1) pieces) in
+    sym (ap passed_limit (fault-after front (pieces_within (0 + length front) (drop (i + 1) pieces)) (pieces_within 0 pieces) fault (within-from 0 (i + 1) pieces (omega arith))
+    (fault-here pieces i piece d items m fault l is same h)))
+
+pub long-passed : (pieces : List (List ℕ)) (i : ℕ) (piece d : List ℕ) (items : List Item) (m : ReaderModel) → i < length pieces → piece ≡ get_or pieces i d →
+    items_of Start 0 (concat (take i pieces)) ≡ (items, Ok (left_of m)) → fed m ≡ length (concat (take i pieces)) → fed m ≤ limit → limit < fed m + length piece →
+    ◌≡◌ {A = Result Object MmoFault} (Err (TooLong limit)) (passed_limit (items_of Start 0 (pieces_within 0 pieces)).1)
+long-passed pieces i piece d items m l is same end most far =
+    let front = concat (take i pieces) in
+    let p : length (get_or pieces i d) ≡ length piece = ap (λ (x : List ℕ). length x) (sym is) in
+    let all : pieces_within 0 pieces ≡ front =
+    within-from 0 i pieces (omega (arith, end)) ∙ ap (λ x. front ++ x) (within-passed (0 + length front) i pieces d l (omega (arith, end, p))) ∙ append-nil front in
+    sym (ap (λ (b : List ℕ). passed_limit (items_of Start 0 b).1) all ∙ ap (λ (w : Walk). passed_limit w.1) same)
+
+-- where a piece passes the limit, all pieces do
+pub not-passed : (pieces : List (List ℕ)) (i : ℕ) (piece d : List ℕ) (m : ReaderModel) → i < length pieces → piece ≡ get_or pieces i d → fed m ≡ length (concat (take i pieces)) →
+    length (concat pieces) ≤ limit → fed m + length piece ≤ limit
+not-passed pieces i piece d m l is end most =
+    let grown = length-of-piece pieces i piece d l is in
+    let all = ap (λ (b : List ℕ). length b) (concat-rest pieces (i + 1)) ∙ length-append (concat (take (i + 1) pieces)) (concat (drop (i + 1) pieces)) in
+    omega (arith, grown, all, end)
+
+-- the items up to the end of a piece
+pub items-of-piece : (pieces : List (List ℕ)) (i : ℕ) (piece d : List ℕ) (items more : List Item) (m n : ReaderModel) → i < length pieces → piece ≡ get_or pieces i d →
+    items_of Start 0 (concat (take i pieces)) ≡ (items, Ok (left_of m)) → with_rest items (with_more m piece) ≡ (more, Ok (left_of n)) →
+    items_of Start 0 (concat (take (i + 1) pieces)) ≡ (more, Ok (left_of n))
+items-of-piece pieces i piece d items more m n l is same h =
+    let front = concat (take i pieces) in
+    let grown : concat (take (i + 1) pieces) ≡ front ++ piece = concat-more pieces i d l ∙ ap (λ p. front ++ p) (sym is) in
+    ap (items_of Start 0) grown ∙ goes-on front piece items m same ∙ h
+
 pub all-pieces : (pieces : List (List ℕ)) (i : ℕ) → length pieces ≤ i → concat (take i pieces) ≡ concat pieces
 all-pieces pieces i h = let whole : take i pieces ≡ pieces = grind (arith, common_steps) in ap concat whole
 
 -- what holds of each byte of the pieces
-pub bytes-together : (front more : List ℕ) → AreBytes front → AreBytes more → AreBytes (front ++ more)
-bytes-together [] more p q = q
-bytes-together (b ∷ front) more p q = (p.0, bytes-together front more p.1 q)
-
-pub each-byte : (bytes : List ℕ) → ((i : ℕ) → get_or bytes i 0 < 2 ^ 8) → AreBytes bytes
-each-byte [] h = tt
-each-byte (b ∷ bytes) h = (h 0, each-byte bytes (λ i. h (suc i)))
-
 pub bytes-of-piece : (pieces : List (List ℕ)) (i : ℕ) (piece d : List ℕ) → i < length pieces → piece ≡ get_or pieces i d →
     AreBytes (concat (take i pieces)) → AreBytes piece → AreBytes (concat (take (i + 1) pieces))
 bytes-of-piece pieces i piece d l is p q =
     let grown : concat (take (i + 1) pieces) ≡ concat (take i pieces) ++ piece = concat-more pieces i d l ∙ ap (λ x. concat (take i pieces) ++ x) (sym is) in
-    rw grown (bytes-together (concat (take i pieces)) piece p q)
+    rw grown (bytes-append (concat (take i pieces)) piece p q)
 
 pub all-bytes : (pieces : List (List ℕ)) (i : ℕ) → length pieces ≤ i → AreBytes (concat (take i pieces)) → AreBytes (concat pieces)
 all-bytes pieces i h b = rw (← all-pieces pieces i h) b

@@ -1,40 +1,47 @@
 -- What is read is in the grammar.
-use Rattle.std.proofs.Common.{◌≡◌, ℕ, zero, suc, ◌+◌, ◌-◌, ◌*◌, ◌/◌, ◌%◌, ◌<◌, ◌≤◌, length, List, [], ◌∷◌, ◌++◌, take, drop, arith, refl, sym, ◌∙◌, ap, subst, Ok, Err, Some, None, Bool, true, false, cond, length-append, append_assoc, append-nil, add-zero, zero-add, length-take}
+use Rattle.std.proofs.Common.{◌≡◌, ℕ, zero, suc, ◌+◌, ◌-◌, ◌*◌, ◌/◌, ◌%◌, ◌^◌, ◌<◌, ◌≤◌, length, List, [], ◌∷◌, ◌++◌, take, drop, arith, refl, sym, ◌∙◌, ap, subst, Ok, Err, Some, None, Bool, true, false, cond, length-append, append_assoc, add-zero, zero-add, length-take, length-drop}
 use Rattle.std.specs.Prelude.{Result, Option, nat_lt, ◌==◌, ◌&&◌}
 use Rattle.std.specs.List.{AllByRecursion}
 use Rattle.std.proofs.lemmas.List.{take-append-drop}
 use Rattle.mx_mmo.specs.Tetras.{wide_lop}
 use Rattle.mx_mmo.specs.Valid.{AreBytes, Fits}
 use Rattle.mx_mmo.specs.Object.{Spelled}
-use Rattle.mx_mmo.specs.Object.Spelled.{none, next}
 use Rattle.mx_mmo.specs.Reading.{Due, IsWithin, first_item}
 use Rattle.mx_mmo.specs.Replies.{limit, phase_after, tail_of, tail_behind, counted_tail, end_count}
-use Rattle.mx_mmo.specs.Whole.{Left, Walk, behind, walk_on, items_of, SpellsObject, object_of, object_behind, with_tail}
+use Rattle.mx_mmo.specs.Turns.{StandFirst, phase_end}
+use Rattle.mx_mmo.specs.Whole.{Left, StandAt, Walk, behind, walk_on, walk, items_of, SpellsObject, object_of, object_behind, with_tail}
 use Rattle.mx_mmo.specs.declared.items.Item.{Item}
 use Rattle.mx_mmo.specs.declared.items.Tail.{Tail}
 use Rattle.mx_mmo.specs.declared.items.Object.{Object}
 use Rattle.mx_mmo.specs.declared.faults.MmoFault.{MmoFault}
-use Rattle.mx_mmo.specs.declared.faults.MmoFault.TheVariants.{TooLong, NotTetras, BadFields, NotBuilt}
+use Rattle.mx_mmo.specs.declared.faults.MmoFault.TheVariants.{TooLong, NotTetras, BadFields}
 use Rattle.mx_mmo.specs.declared.due.Phase.{Phase}
 use Rattle.mx_mmo.specs.declared.due.Phase.TheVariants.{Start, Ended}
+use Rattle.mx_mmo.proofs.Bytes.{bytes-behind, same-number, both-tests}
+use Rattle.mx_mmo.proofs.Ends.{last-cons, specs-cons}
 use Rattle.mx_mmo.proofs.Firsts.{first-within}
-use Rattle.mx_mmo.proofs.Phases.{Suit, Reaches, phase_end, placed-items, specs-end}
-use Rattle.mx_mmo.proofs.Told.{Found, Tells, first-tells, same-number, both-tests}
-use Rattle.mx_mmo.proofs.Walks.{items-step, shorter}
+use Rattle.mx_mmo.proofs.Phases.{Reaches, placed-items}
+use Rattle.mx_mmo.proofs.Told.{wide-back, Found, Tells, first-tells}
 
 -- these items stand first in bytes, and this is left
-record Stood (phase : Phase) (at : ℕ) (bytes : List ℕ) (items : List Item) (left : Left) : Type 0 where
-  front : List ℕ
-  whole : bytes ≡ front ++ left.rest
-  spelled : Spelled items front
-  suit : Suit phase items
-  fits : AllByRecursion Fits items
-  end : left.phase ≡ phase_end phase items
-  place : left.at ≡ at + length front
+pub record Stood (phase : Phase) (at : ℕ) (bytes : List ℕ) (items : List Item) (left : Left) : Type 0 where
+  pub front : List ℕ
+  pub first : StandFirst phase bytes items front left.rest
+  pub fits : AllByRecursion Fits items
+  pub end : left.phase ≡ phase_end phase items
+  pub place : left.at ≡ at + length front
 
-abbrev Stands : Phase → ℕ → List ℕ → Walk → Type 0
+-- these items stand first in bytes, and what follows has a fault
+pub record Stopped (phase : Phase) (at : ℕ) (bytes : List ℕ) (items : List Item) (fault : MmoFault) : Type 0 where
+  pub front : List ℕ
+  pub rest : List ℕ
+  pub first : StandFirst phase bytes items front rest
+  pub found : first_item (phase_end phase items) (at + length front) rest ≡ Err fault
+  pub each : AreBytes rest
+
+abbrev pub Stands : Phase → ℕ → List ℕ → Walk → Type 0
 Stands phase at bytes (items, Ok left) = Stood phase at bytes items left
-Stands phase at bytes (items, Err fault) = Unit {0}
+Stands phase at bytes (items, Err fault) = Stopped phase at bytes items fault
 
 rejoined : (size : ℕ) (bytes front rest : List ℕ) → drop size bytes ≡ front ++ rest → bytes ≡ (take size bytes ++ front) ++ rest
 rejoined size bytes front rest e = sym (take-append-drop size bytes) ∙ ap (λ b. take size bytes ++ b) e ∙ sym (append_assoc (take size bytes) front rest)
@@ -42,47 +49,69 @@ rejoined size bytes front rest e = sym (take-append-drop size bytes) ∙ ap (λ 
 placed-behind : (at size n : ℕ) (bytes front : List ℕ) → size ≤ length bytes → n ≡ at + size + length front → n ≡ at + length (take size bytes ++ front)
 placed-behind at size n bytes front l e = omega (arith, length-append (take size bytes) front, length-take size bytes)
 
+cons-first : (phase : Phase) (bytes : List ℕ) (item : Item) (size : ℕ) (items : List Item) (front rest : List ℕ) → Found phase bytes item size →
+    StandFirst (phase_after item phase) (drop size bytes) items front rest → StandFirst phase bytes (item ∷ items) (take size bytes ++ front) rest
+cons-first phase bytes item size items front rest f s =
+    let ends = rw s.whole at f.ends in
+    record {
+      whole = rejoined size bytes front rest s.whole;
+      spelled = Spelled.next item items (take size bytes) front f.spells s.spelled;
+      turn = (f.comes, s.turn);
+      specs = specs-cons item rest s.spelled s.specs ends;
+      ended = last-cons item rest s.spelled s.ended ends;
+    }
+
 behind-stands : (phase : Phase) (at : ℕ) (bytes : List ℕ) (item : Item) (size : ℕ) (w : Walk) → Found phase bytes item size → size ≤ length bytes →
     Stands (phase_after item phase) (at + size) (drop size bytes) w → Stands phase at bytes (behind item w)
-behind-stands phase at bytes item size (items, Err fault) f l s = tt
+behind-stands phase at bytes item size (items, Err fault) f l s = record {
+  front = take size bytes ++ s.front;
+  rest = s.rest;
+  first = cons-first phase bytes item size items s.front s.rest f s.first;
+  found = ap (λ (n : ℕ). first_item (phase_end phase (item ∷ items)) n s.rest) (sym (placed-behind at size (at + size + length s.front) bytes s.front l refl)) ∙ s.found;
+  each = s.each;
+}
 behind-stands phase at bytes item size (items, Ok left) f l s = record {
   front = take size bytes ++ s.front;
-  whole = rejoined size bytes s.front left.rest s.whole;
-  spelled = next item items (take size bytes) s.front f.spells s.spelled;
-  suit = (f.suits, s.suit);
+  first = cons-first phase bytes item size items s.front left.rest f s.first;
   fits = (f.fits, s.fits);
   end = s.end;
   place = placed-behind at size left.at bytes s.front l s.place;
 }
 
-bytes-behind : (n : ℕ) (bytes : List ℕ) → AreBytes bytes → AreBytes (drop n bytes)
-bytes-behind zero bytes h = h
-bytes-behind (suc n) [] h = tt
-bytes-behind (suc n) (b ∷ bytes) h = bytes-behind n bytes h.1
+none-first : (phase : Phase) (bytes : List ℕ) → StandFirst phase bytes [] [] bytes
+none-first phase bytes = record { whole = refl; spelled = Spelled.none; turn = tt; specs = tt; ended = tt }
 
-stand-step : (phase : Phase) (at : ℕ) (bytes : List ℕ) (d : Due) → Tells phase bytes d → IsWithin d (length bytes) →
-    ((p : Phase) (a size : ℕ) → 0 < size → size ≤ length bytes → Stands p a (drop size bytes) (items_of p a (drop size bytes))) → Stands phase at bytes (walk_on items_of phase at bytes d)
-stand-step phase at bytes (Ok None) t w h = record { front = []; whole = refl; spelled = none; suit = tt; fits = tt; end = refl; place = sym (add-zero at) }
-stand-step phase at bytes (Err fault) t w h = tt
-stand-step phase at bytes (Ok (Some (item, size))) t w h =
-    behind-stands phase at bytes item size (items_of (phase_after item phase) (at + size) (drop size bytes)) t w.1 (h (phase_after item phase) (at + size) size w.0 w.1)
+nothing-stands : (phase : Phase) (at : ℕ) (bytes : List ℕ) → Stood phase at bytes [] (record { phase = phase; at = at; rest = bytes })
+nothing-stands phase at bytes = record { front = []; first = none-first phase bytes; fits = tt; end = refl; place = sym (add-zero at) }
 
-stands-below : (k : ℕ) (phase : Phase) (at : ℕ) (bytes : List ℕ) → length bytes < k → AreBytes bytes → Stands phase at bytes (items_of phase at bytes)
-stands-below zero phase at bytes l b = absurd (omega arith)
-stands-below (suc k) phase at bytes l b =
-    subst (λ (w : Walk). Stands phase at bytes w) (sym (items-step phase at bytes))
-    (stand-step phase at bytes (first_item phase at bytes) (first-tells phase at bytes b) (first-within phase at bytes)
-    (λ p a size m n. let s = shorter size bytes m n in stands-below k p a (drop size bytes) (omega arith) (bytes-behind size bytes b)))
+stand-step : (others : Phase → ℕ → List ℕ → Walk) (phase : Phase) (at : ℕ) (bytes : List ℕ) (d : Due) → first_item phase at bytes ≡ d → AreBytes bytes → Tells phase bytes d →
+    IsWithin d (length bytes) → ((p : Phase) (a size : ℕ) → Stands p a (drop size bytes) (others p a (drop size bytes))) → Stands phase at bytes (walk_on others phase at bytes d)
+stand-step others phase at bytes (Ok None) e b t w h = nothing-stands phase at bytes
+stand-step others phase at bytes (Err fault) e b t w h =
+    record { front = []; rest = bytes; first = none-first phase bytes; found = ap (λ (n : ℕ). first_item phase n bytes) (add-zero at) ∙ e; each = b }
+stand-step others phase at bytes (Ok (Some (item, size))) e b t w h =
+    behind-stands phase at bytes item size (others (phase_after item phase) (at + size) (drop size bytes)) t w.1 (h (phase_after item phase) (at + size) size)
 
-stands : (bytes : List ℕ) → AreBytes bytes → Stands Start 0 bytes (items_of Start 0 bytes)
-stands bytes b = stands-below (suc (length bytes)) Start 0 bytes (omega arith) b
+-- so many items, or fewer
+pub walk-stands : (n : ℕ) (phase : Phase) (at : ℕ) (bytes : List ℕ) → AreBytes bytes → Stands phase at bytes (walk n phase at bytes)
+unfolding walk
+walk-stands zero phase at bytes b = nothing-stands phase at bytes
+walk-stands (suc n) phase at bytes b =
+    stand-step (walk n) phase at bytes (first_item phase at bytes) refl b (first-tells phase at bytes b) (first-within phase at bytes)
+    (λ p a size. walk-stands n p a (drop size bytes) (bytes-behind size bytes b))
+
+pub stands : (bytes : List ℕ) → AreBytes bytes → Stands Start 0 bytes (items_of Start 0 bytes)
+unfolding items_of
+stands bytes b = walk-stands (length bytes) Start 0 bytes b
 
 -- what stands behind the items
 record Ends (phase : Phase) (at : ℕ) (rest : List ℕ) (tail : Tail) : Type 0 where
+  count : ℕ
   ended : phase ≡ Ended
-  trie : tail.trie ≡ []
   place : tail.place ≡ at
-  whole : rest ≡ wide_lop 12 0
+  counted : length tail.trie ≡ 4 * count
+  most : count < 2 ^ 16
+  whole : rest ≡ tail.trie ++ wide_lop 12 count
 
 abbrev TailTells : Phase → ℕ → List ℕ → Result Tail MmoFault → Type 0
 TailTells phase at rest (Ok tail) = Ends phase at rest tail
@@ -103,32 +132,54 @@ end-tetra : (b : Bool) (count n : ℕ) → ◌≡◌ {A = Option ℕ} (Some coun
 end-tetra true count n e = (refl, cc)
 end-tetra false count n e = absurd (cc)
 
-no-count : (y z : ℕ) → 0 ≡ 256 * y + z → (y ≡ 0) × (z ≡ 0)
-no-count y z e = (omega arith, omega arith)
+-- the lopcode that counts
+pub record Counts (last : List ℕ) (count : ℕ) : Type 0 where
+  pub is : last ≡ wide_lop 12 count
+  pub most : count < 2 ^ 16
 
-four-tail : (at count : ℕ) (rest : List ℕ) → length rest ≡ 4 → Some count ≡ end_count (drop (length rest - 4) rest) → count ≡ length rest / 4 - 1 →
-    Ends Ended at rest (record { trie = take (length rest - 4) rest; place = at })
-four-tail at count (a ∷ code ∷ y ∷ z ∷ []) l e c =
+pub counts : (last : List ℕ) (count : ℕ) → AreBytes last → Some count ≡ end_count last → Counts last count
+counts (a ∷ code ∷ y ∷ z ∷ []) count b e =
     let t = end-tetra (a == 0x98 && code == 12) count (256 * y + z) e in
     let u = both-tests a 0x98 code 12 t.0 in
-    let v = no-count y z (sym c ∙ t.1) in
-    record { ended = refl; trie = refl; place = refl; whole = rw (u.0, u.1, v.0, v.1) refl }
-four-tail at count _ l e c = absurd (omega arith)
+    record { is = rw (u.0, u.1, t.1) (sym (wide-back 12 y z b.1.1.1.0)); most = omega (arith, t.1, b.1.1.0, b.1.1.1.0) }
+counts [] count b e = absurd (cc)
+counts (a ∷ []) count b e = absurd (cc)
+counts (a ∷ c ∷ []) count b e = absurd (cc)
+counts (a ∷ c ∷ y ∷ []) count b e = absurd (cc)
+counts (a ∷ c ∷ y ∷ z ∷ x ∷ more) count b e = absurd (cc)
 
-counted-tells : (at : ℕ) (rest : List ℕ) (o : Option ℕ) → o ≡ end_count (drop (length rest - 4) rest) → TailTold Ended at rest (counted_tail at rest o)
-counted-tells at rest None e = refused-tail _ _ _ _
-counted-tells at rest (Some count) e =
+split-tail : (n : ℕ) (rest last : List ℕ) → drop n rest ≡ last → rest ≡ take n rest ++ last
+split-tail n rest last e = sym (take-append-drop n rest) ∙ ap (λ x. take n rest ++ x) e
+
+trie-tail : (at count : ℕ) (rest : List ℕ) → AreBytes rest → length rest % 4 ≡ 0 → Some count ≡ end_count (drop (length rest - 4) rest) → count ≡ length rest / 4 - 1 →
+    Ends Ended at rest (record { trie = take (length rest - 4) rest; place = at })
+trie-tail at count rest b m e c =
+    let k = counts (drop (length rest - 4) rest) count (bytes-behind (length rest - 4) rest b) e in
+    let four : length (drop (length rest - 4) rest) ≡ 4 = ap (λ (x : List ℕ). length x) k.is in
+    record {
+      count = count;
+      ended = refl;
+      place = refl;
+      counted = omega (arith, length-take (length rest - 4) rest, length-drop (length rest - 4) rest);
+      most = k.most;
+      whole = split-tail (length rest - 4) rest (wide_lop 12 count) k.is;
+    }
+
+counted-tells : (at : ℕ) (rest : List ℕ) (o : Option ℕ) → AreBytes rest → length rest % 4 ≡ 0 → o ≡ end_count (drop (length rest - 4) rest) → TailTold Ended at rest (counted_tail at rest o)
+counted-tells at rest None b m e = refused-tail _ _ _ _
+counted-tells at rest (Some count) b m e =
     cond-tail (count == length rest / 4 - 1) _ _ _ _ _
-    (λ c. cond-tail (length rest == 4) _ _ _ _ _ (λ l. record { is = four-tail at count rest (same-number (length rest) 4 l) e (same-number count (length rest / 4 - 1) c) }) (λ _. refused-tail _ _ _ (NotBuilt at)))
+    (λ c. record { is = trie-tail at count rest b m e (same-number count (length rest / 4 - 1) c) })
     (λ _. refused-tail _ _ _ (BadFields (at + length rest - 4)))
 
-behind-tells : (phase : Phase) (at : ℕ) (rest : List ℕ) → TailTold phase at rest (tail_behind phase at rest)
-behind-tells Ended at rest = counted-tells at rest (end_count (drop (length rest - 4) rest)) refl
-behind-tells _ at rest = refused-tail _ _ _ _
+behind-tells : (phase : Phase) (at : ℕ) (rest : List ℕ) → AreBytes rest → length rest % 4 ≡ 0 → TailTold phase at rest (tail_behind phase at rest)
+behind-tells Ended at rest b m = counted-tells at rest (end_count (drop (length rest - 4) rest)) b m refl
+behind-tells _ at rest b m = refused-tail _ _ _ _
 
-tail-tells : (phase : Phase) (at : ℕ) (rest : List ℕ) → TailTold phase at rest (tail_of phase at rest)
-tail-tells phase at rest =
-    cond-tail (length rest % 4 == 0) phase at rest _ _ (λ _. behind-tells phase at rest) (λ _. refused-tail _ _ _ (NotTetras (at + length rest - length rest % 4)))
+tail-tells : (phase : Phase) (at : ℕ) (rest : List ℕ) → AreBytes rest → TailTold phase at rest (tail_of phase at rest)
+tail-tells phase at rest b =
+    cond-tail (length rest % 4 == 0) phase at rest _ _ (λ m. behind-tells phase at rest b (same-number (length rest % 4) 0 m))
+    (λ _. refused-tail _ _ _ (NotTetras (at + length rest - length rest % 4)))
 
 -- an object that is read is one of the grammar
 abbrev IsRead : List ℕ → Result Object MmoFault → Type 0
@@ -139,32 +190,48 @@ with-tail-stands : (bytes : List ℕ) (items : List Item) (left : Left) (r : Res
     IsRead bytes (with_tail items r)
 with-tail-stands bytes items left (Err fault) s t = tt
 with-tail-stands bytes items left (Ok tail) s t =
-    let reaches : Reaches Start items = record { suit = s.suit; end = sym s.end ∙ t.ended } in
-    let whole : bytes ≡ s.front ++ tail.trie ++ wide_lop 12 0 =
-    s.whole ∙ ap (λ r. s.front ++ r) t.whole ∙ ap (λ f. f ++ wide_lop 12 0) (sym (append-nil s.front) ∙ ap (λ x. s.front ++ x) (sym t.trie)) in
+    let reaches : Reaches Start items = record { turn = s.first.turn; end = sym s.end ∙ t.ended } in
     record {
       spelled = record {
         front = s.front;
-        count = 0;
-        valid = record { placed = placed-items items reaches; fits = s.fits; specs = specs-end Start items s.suit };
-        spelled = s.spelled;
-        counted = ap (λ (x : List ℕ). length x) t.trie;
-        most = omega arith;
-        whole = whole;
+        count = t.count;
+        valid = record { placed = placed-items items reaches; fits = s.fits; specs = s.first.specs };
+        spelled = s.first.spelled;
+        counted = t.counted;
+        most = t.most;
+        whole = s.first.whole ∙ ap (λ r. s.front ++ r) t.whole ∙ sym (append_assoc s.front tail.trie (wide_lop 12 t.count));
       };
       place = t.place ∙ s.place ∙ zero-add (length s.front);
     }
 
-behind-read : (bytes : List ℕ) (w : Walk) → Stands Start 0 bytes w → IsRead bytes (object_behind w.0 w.1)
-behind-read bytes (items, Err fault) s = tt
-behind-read bytes (items, Ok left) s = with-tail-stands bytes items left (tail_of left.phase left.at left.rest) s (tail-tells left.phase left.at left.rest).is
+-- what is left of bytes are bytes
+pub left-bytes : (front rest bytes : List ℕ) → bytes ≡ front ++ rest → AreBytes bytes → AreBytes rest
+left-bytes front rest bytes e b = behind front rest (subst (λ (x : List ℕ). AreBytes x) e b)
+  where
+    behind : (front rest : List ℕ) → AreBytes (front ++ rest) → AreBytes rest
+    behind [] rest b = b
+    behind (x ∷ front) rest b = behind front rest b.1
+
+behind-read : (bytes : List ℕ) (w : Walk) → AreBytes bytes → Stands Start 0 bytes w → IsRead bytes (object_behind w.0 w.1)
+behind-read bytes (items, Err fault) b s = tt
+behind-read bytes (items, Ok left) b s =
+    with-tail-stands bytes items left (tail_of left.phase left.at left.rest) s (tail-tells left.phase left.at left.rest (left-bytes s.front left.rest bytes s.first.whole b)).is
 
 cond-read : (b : Bool) (bytes : List ℕ) (fault : MmoFault) (r : Result Object MmoFault) → IsRead bytes r → IsRead bytes (cond b (Err fault) r)
 cond-read true bytes fault r h = tt
 cond-read false bytes fault r h = h
 
 is-read : (bytes : List ℕ) → AreBytes bytes → IsRead bytes (object_of bytes)
-is-read bytes b = cond-read (nat_lt limit (length bytes)) bytes (TooLong limit) _ (behind-read bytes (items_of Start 0 bytes) (stands bytes b))
+is-read bytes b = cond-read (nat_lt limit (length bytes)) bytes (TooLong limit) _ (behind-read bytes (items_of Start 0 bytes) b (stands bytes b))
 
 pub object-stands : (bytes : List ℕ) (object : Object) → AreBytes bytes → object_of bytes ≡ Ok object → SpellsObject bytes object
 object-stands bytes object b e = subst (λ (r : Result Object MmoFault). IsRead bytes r) e (is-read bytes b)
+
+-- the items of a walk stand at their places
+at-places : (bytes : List ℕ) (items : List Item) (left : Left) (w : Walk) → Stands Start 0 bytes w → w ≡ (items, Ok left) → StandAt bytes items left
+at-places bytes items left w s e =
+    let t : Stood Start 0 bytes items left = subst (λ (v : Walk). Stands Start 0 bytes v) e s in
+    record { front = t.front; first = t.first; place = t.place ∙ zero-add (length t.front) }
+
+pub items-at : (count : ℕ) (bytes : List ℕ) (items : List Item) (left : Left) → AreBytes bytes → walk count Start 0 bytes ≡ (items, Ok left) → StandAt bytes items left
+items-at count bytes items left b e = at-places bytes items left (walk count Start 0 bytes) (walk-stands count Start 0 bytes b) e

@@ -1,63 +1,66 @@
 -- What is spelled so is read so.
-use Rattle.std.proofs.Common.{◌≡◌, ◌≢◌, ℕ, ◌+◌, ◌-◌, ◌*◌, ◌/◌, ◌%◌, ◌^◌, ◌<◌, length, List, [], ◌∷◌, ◌++◌, take, arith, refl, ◌∙◌, ap, Ok, Some, true, false, length-append}
+use Rattle.std.proofs.Common.{◌≡◌, ℕ, ◌+◌, ◌-◌, ◌*◌, ◌/◌, ◌%◌, ◌^◌, ◌<◌, length, List, [], ◌∷◌, ◌++◌, take, arith, refl, ◌∙◌, ap, Ok, Some, true, false, inl, inr, length-append, replicate}
 use Rattle.std.specs.Prelude.{nat_lt, nat_le, ◌==◌}
 use Rattle.std.specs.List.{flat_map}
 use Rattle.std.proofs.lemmas.Grind.{common_steps}
+use Rattle.std.proofs.lemmas.List.{take_at}
 use Rattle.std.proofs.lemmas.Bool.Decides.{nat_tests}
-use Rattle.std.proofs.lemmas.Nat.{from_be_bytes-to_be_bytes_4, from_be_bytes-to_be_bytes_8}
-use Rattle.mx_word.specs.Words.{tetra_to_bytes, octa_to_bytes, tetra_from_bytes, octa_from_bytes}
-use Rattle.mx_mmo.specs.Valid.{AreTetras, AreOctas}
-use Rattle.mx_mmo.specs.Object.{IsPlain, Spells}
-use Rattle.mx_mmo.specs.Object.SpellsAddress.{by_tetra, by_octa}
-use Rattle.mx_mmo.specs.Object.Spells.{plain, quoted, loc, pre, post, stab}
-use Rattle.mx_mmo.specs.Reading.{Due, first_item, words_of, octas_of, short_loc, long_loc, quoted_item, pre_item, post_item}
+use Rattle.mx_word.specs.Words.{tetra_to_bytes, octa_to_bytes, tetra_from_bytes}
+use Rattle.mx_mmo.specs.Tetras.{wide_lop}
+use Rattle.mx_mmo.specs.Valid.{AreTetras, AreOctas, IsName}
+use Rattle.mx_mmo.specs.Object.{Spells, SpellsAddress}
+use Rattle.mx_mmo.specs.Skipping.{skipped}
+use Rattle.mx_mmo.specs.Reading.{Due, first_item, tetras_of, octas_of, on_tetra, on_octa, quoted_tetra, short_address, long_address, item_due, far_tetra, named_file, file_item, ended_spec, pre_item, post_item}
+use Rattle.mx_mmo.specs.Turns.{MayCome, EndsItem}
 use Rattle.mx_mmo.specs.declared.items.Item.{Item}
-use Rattle.mx_mmo.specs.declared.items.Item.TheVariants.{Load, Loc, Pre, Post}
+use Rattle.mx_mmo.specs.declared.items.Item.TheVariants.{Load, Loc, Skip, FixOcta, FixNear, FixFar, File, Line, Spec, Pre, Post}
 use Rattle.mx_mmo.specs.declared.due.Phase.{Phase}
 use Rattle.mx_mmo.specs.declared.due.Phase.TheVariants.{Start, Middle, Posted}
-use Rattle.mx_mmo.proofs.Phases.{Suits}
+use Rattle.mx_mmo.proofs.Bytes.{tetra-back, octa-back, no-lop-first}
+use Rattle.mx_mmo.proofs.Names.{name-back}
+use Rattle.mx_mmo.proofs.Skips.{skipped-all}
 
-tetra-back : (t : ℕ) → t < 2 ^ 32 → tetra_from_bytes (tetra_to_bytes t) ≡ t
-tetra-back t h = from_be_bytes-to_be_bytes_4 t h
+tetra-read : {A : Type 0} (due : ℕ → A) (t : ℕ) → t < 2 ^ 32 → due (tetra_from_bytes (tetra_to_bytes t)) ≡ due t
+tetra-read due t h = ap due (tetra-back t h)
 
-octa-back : (x : ℕ) → x < 2 ^ 64 → octa_from_bytes (octa_to_bytes x) ≡ x
-octa-back x h = from_be_bytes-to_be_bytes_8 x h
+short-read : (item : ℕ → Item) (y t : ℕ) (rest : List ℕ) → t < 2 ^ 32 → item_due item (on_tetra (short_address y) (tetra_to_bytes t ++ rest)) ≡ Ok (Some (item (y * 2 ^ 56 + t), 8))
+short-read item y t rest h = ap (λ u. Ok (Some (item (y * 2 ^ 56 + u), 8))) (tetra-back t h)
 
-quoted-read : (t : ℕ) (rest : List ℕ) → t < 2 ^ 32 → quoted_item (tetra_to_bytes t ++ rest) ≡ Ok (Some (Load t, 8))
-quoted-read t rest h = ap (λ u. Ok (Some (Load u, 8))) (tetra-back t h)
+long-read : (item : ℕ → Item) (y x : ℕ) (rest : List ℕ) → x < 2 ^ 64 →
+    item_due item (on_octa (long_address y) (octa_to_bytes x ++ rest)) ≡ Ok (Some (item ((y * 2 ^ 56 + x) % 2 ^ 64), 12))
+long-read item y x rest h = ap (λ u. Ok (Some (item ((y * 2 ^ 56 + u) % 2 ^ 64), 12))) (octa-back x h)
 
-short-read : (y t : ℕ) (rest : List ℕ) → t < 2 ^ 32 → short_loc y (tetra_to_bytes t ++ rest) ≡ Ok (Some (Loc (y * 2 ^ 56 + t), 8))
-short-read y t rest h = ap (λ u. Ok (Some (Loc (y * 2 ^ 56 + u), 8))) (tetra-back t h)
+far-read : (at bits t : ℕ) (rest : List ℕ) → t < 2 ^ 25 → on_tetra (far_tetra at bits) (tetra_to_bytes t ++ rest) ≡ Ok (Some (FixFar bits t, 8))
+far-read at bits t rest h =
+    let few : nat_lt t (2 ^ 25) ≡ true = grind (arith, nat_tests) in
+    ap (far_tetra at bits) (tetra-back t (omega arith)) ∙ rw few refl
 
-long-read : (y x : ℕ) (rest : List ℕ) → x < 2 ^ 64 → long_loc y (octa_to_bytes x ++ rest) ≡ Ok (Some (Loc ((y * 2 ^ 56 + x) % 2 ^ 64), 12))
-long-read y x rest h = ap (λ u. Ok (Some (Loc ((y * 2 ^ 56 + u) % 2 ^ 64), 12))) (octa-back x h)
-
-words-back : (words : List ℕ) → AreTetras words → words_of (flat_map tetra_to_bytes words) ≡ words
-words-back [] h = refl
-words-back (t ∷ words) h = ap (λ u. u ∷ words_of (flat_map tetra_to_bytes words)) (tetra-back t h.0) ∙ ap (λ ws. t ∷ ws) (words-back words h.1)
+tetras-back : (tetras : List ℕ) → AreTetras tetras → tetras_of (flat_map tetra_to_bytes tetras) ≡ tetras
+tetras-back [] h = refl
+tetras-back (t ∷ tetras) h = ap (λ u. u ∷ tetras_of (flat_map tetra_to_bytes tetras)) (tetra-back t h.0) ∙ ap (λ ts. t ∷ ts) (tetras-back tetras h.1)
 
 octas-back : (values : List ℕ) → AreOctas values → octas_of (flat_map octa_to_bytes values) ≡ values
 octas-back [] h = refl
 octas-back (x ∷ values) h = ap (λ u. u ∷ octas_of (flat_map octa_to_bytes values)) (octa-back x h.0) ∙ ap (λ vs. x ∷ vs) (octas-back values h.1)
 
-words-length : (words : List ℕ) → length (flat_map tetra_to_bytes words) ≡ 4 * length words
-words-length [] = refl
-words-length (t ∷ words) = let e = words-length words in omega arith
+pub tetras-length : (tetras : List ℕ) → length (flat_map tetra_to_bytes tetras) ≡ 4 * length tetras
+tetras-length [] = refl
+tetras-length (t ∷ tetras) = let e = tetras-length tetras in omega arith
 
-octas-length : (values : List ℕ) → length (flat_map octa_to_bytes values) ≡ 8 * length values
+pub octas-length : (values : List ℕ) → length (flat_map octa_to_bytes values) ≡ 8 * length values
 octas-length [] = refl
 octas-length (x ∷ values) = let e = octas-length values in omega arith
 
-enough-there : (n : ℕ) (front rest : List ℕ) → length front ≡ n → nat_lt (length (front ++ rest)) n ≡ false
+pub enough-there : (n : ℕ) (front rest : List ℕ) → length front ≡ n → nat_lt (length (front ++ rest)) n ≡ false
 enough-there n front rest e = let l = length-append front rest in grind (arith, nat_tests)
 
 front-taken : (n : ℕ) (front rest : List ℕ) → length front ≡ n → take n (front ++ rest) ≡ front
-front-taken n front rest e = rw (← e) (grind (arith, common_steps))
+front-taken n front rest e = take_at front rest n e
 
-pre-read : (words rest : List ℕ) → AreTetras words → pre_item (length words) (flat_map tetra_to_bytes words ++ rest) ≡ Ok (Some (Pre words, 4 + 4 * length words))
-pre-read words rest h =
-    let front = flat_map tetra_to_bytes words in
-    rw (enough-there (4 * length words) front rest (words-length words), front-taken (4 * length words) front rest (words-length words), words-back words h) refl
+pre-read : (tetras rest : List ℕ) → AreTetras tetras → pre_item (length tetras) (flat_map tetra_to_bytes tetras ++ rest) ≡ Ok (Some (Pre tetras, 4 + 4 * length tetras))
+pre-read tetras rest h =
+    let front = flat_map tetra_to_bytes tetras in
+    rw (enough-there (4 * length tetras) front rest (tetras-length tetras), front-taken (4 * length tetras) front rest (tetras-length tetras), tetras-back tetras h) refl
 
 post-read : (g : ℕ) (values rest : List ℕ) → length values + g ≡ 256 → AreOctas values →
     post_item g (flat_map octa_to_bytes values ++ rest) ≡ Ok (Some (Post g values, 4 + 8 * (256 - g)))
@@ -66,27 +69,49 @@ post-read g values rest c h =
     let l : length front ≡ 8 * (256 - g) = octas-length values ∙ ap (λ n. 8 * n) (omega arith) in
     rw (enough-there (8 * (256 - g)) front rest l, front-taken (8 * (256 - g)) front rest l, octas-back values h) refl
 
-other-first : (n : ℕ) → n ≢ 0x98 → (n == 0x98) ≡ false
-other-first n h = grind (arith, nat_tests)
+named-some : (at number size : ℕ) (name : List ℕ) → 0 < length name → named_file at number size name ≡ Ok (Some (File number (Some name), size))
+named-some at number size [] h = absurd (omega arith)
+named-some at number size (b ∷ name) h = refl
+
+file-read : (at number tetras zeros : ℕ) (name rest : List ℕ) → IsName name → length name + zeros ≡ 4 * tetras →
+    file_item at number tetras ((name ++ replicate zeros 0) ++ rest) ≡ Ok (Some (File number (Some name), 4 + 4 * tetras))
+file-read at number tetras zeros name rest n c =
+    let front = name ++ replicate zeros 0 in
+    let l : length front ≡ 4 * tetras = grind (arith, common_steps) in
+    let some : (tetras == 0) ≡ false = let p = n.least in grind (arith, nat_tests) in
+    rw (some, enough-there (4 * tetras) front rest l, front-taken (4 * tetras) front rest l, name-back name zeros n) (named-some at number (4 + 4 * tetras) name n.least)
 
 sized : (item : Item) (m n : ℕ) → m ≡ n → ◌≡◌ {A = Due} (Ok (Some (item, m))) (Ok (Some (item, n)))
 sized item m n e = ap (λ (k : ℕ). Ok (Some (item, k))) e
 
-plain-first : (t : ℕ) → IsPlain t → (t / 2 ^ 24 % 2 ^ 8 == 0x98) ≡ false
-plain-first t p =
-    let top : t / 2 ^ 24 % 2 ^ 8 ≡ t / 2 ^ 24 = omega (arith, p.0) in
-    rw top (other-first (t / 2 ^ 24) p.1)
+wide-read : (item : ℕ → Item) (n : ℕ) → ◌≡◌ {A = Due} (Ok (Some (item (256 * (n / 256) + n % 256), 4))) (Ok (Some (item n, 4)))
+wide-read item n = ap (λ (k : ℕ). Ok (Some (item k, 4))) (omega arith)
 
--- an item that suits is read from its bytes, whatever follows
-pub spells-first : {item : Item} {bytes : List ℕ} (phase : Phase) (at : ℕ) (rest : List ℕ) → Spells item bytes → Suits phase item →
+spec-read : (n : ℕ) (front : List ℕ) (o : _) → o ≡ Some (length front) → ◌≡◌ {A = Due} (ended_spec (256 * (n / 256) + n % 256) o) (Ok (Some (Spec n, length (wide_lop 8 n ++ front))))
+spec-read n front o e =
+    ap (λ s. ended_spec (256 * (n / 256) + n % 256) s) e ∙ ap (λ (k : ℕ). Ok (Some (Spec k, 4 + length front))) (omega arith) ∙ sized (Spec n) _ _ (omega arith)
+
+-- an item that may come is read from its bytes, whatever follows, if that ends it
+pub spells-first : {item : Item} {bytes : List ℕ} (phase : Phase) (at : ℕ) (rest : List ℕ) → Spells item bytes → MayCome phase item → EndsItem item rest →
     first_item phase at (bytes ++ rest) ≡ Ok (Some (item, length bytes))
-spells-first Middle at rest (plain t p) s = rw (plain-first t p) (ap (λ (u : ℕ). Ok (Some (Load u, 4))) (tetra-back t p.0))
-spells-first Middle at rest (quoted t h) s = quoted-read t rest h
-spells-first Middle at rest (loc a bytes (by_tetra code y t h k)) s = short-read y t rest k
-spells-first Middle at rest (loc a bytes (by_octa code y x h k)) s = long-read y x rest k
-spells-first Middle at rest (post g values l m c h) s =
+spells-first Middle at rest (Spells.bare t p) s e = rw (no-lop-first t p) (ap (λ (u : ℕ). Ok (Some (Load u, 4))) (tetra-back t p.0))
+spells-first Middle at rest (Spells.quoted t h) s e = tetra-read quoted_tetra t h
+spells-first Middle at rest (Spells.loc a bytes (SpellsAddress.by_tetra code y t h k)) s e = short-read (λ a. Loc a) y t rest k
+spells-first Middle at rest (Spells.loc a bytes (SpellsAddress.by_octa code y x h k)) s e = long-read (λ a. Loc a) y x rest k
+spells-first Middle at rest (Spells.skip n h) s e = wide-read (λ n. Skip n) n
+spells-first Middle at rest (Spells.fixo a bytes (SpellsAddress.by_tetra code y t h k)) s e = short-read (λ a. FixOcta a) y t rest k
+spells-first Middle at rest (Spells.fixo a bytes (SpellsAddress.by_octa code y x h k)) s e = long-read (λ a. FixOcta a) y x rest k
+spells-first Middle at rest (Spells.fixr n h) s e = wide-read (λ n. FixNear n) n
+spells-first Middle at rest (Spells.fixrx bits t (inl b) h) s e = rw b (far-read at 16 t rest h)
+spells-first Middle at rest (Spells.fixrx bits t (inr b) h) s e = rw b (far-read at 24 t rest h)
+spells-first Middle at rest (Spells.selected number h) s e = refl
+spells-first Middle at rest (Spells.named number tetras zeros name h k n c) s e =
+    file-read at number tetras zeros name rest n c ∙ sized (File number (Some name)) _ _ (grind (arith, common_steps))
+spells-first Middle at rest (Spells.line n h) s e = wide-read (λ n. Line n) n
+spells-first Middle at rest (Spells.spec n front h k) s e = spec-read n front (skipped false (front ++ rest)) (skipped-all rest k e)
+spells-first Middle at rest (Spells.post g values l m c h) s e =
     let least : nat_le 32 g ≡ true = grind (arith, nat_tests) in
     rw least (post-read g values rest c h ∙ sized (Post g values) _ _ (let e = octas-length values in omega arith))
-spells-first Start at rest (pre words l h) s = pre-read words rest h ∙ sized (Pre words) _ _ (let e = words-length words in omega arith)
-spells-first Posted at rest stab s = refl
-spells-first _ at rest _ s = absurd s
+spells-first Start at rest (Spells.pre tetras l h) s e = pre-read tetras rest h ∙ sized (Pre tetras) _ _ (let e = tetras-length tetras in omega arith)
+spells-first Posted at rest Spells.stab s e = refl
+spells-first _ at rest _ s e = absurd s

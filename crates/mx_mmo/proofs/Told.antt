@@ -1,28 +1,32 @@
 -- What is read stands there: the item that is read is spelled by the bytes that it takes.
-use Rattle.std.proofs.Common.{◌≡◌, ◌≢◌, ℕ, zero, suc, ◌+◌, ◌-◌, ◌*◌, ◌/◌, ◌%◌, ◌^◌, ◌<◌, ◌≤◌, length, List, [], ◌∷◌, ◌++◌, take, get_or, arith, refl, sym, ◌∙◌, ap, subst, Ok, Err, Some, None, Bool, true, false, cond, length-take}
-use Rattle.std.specs.Prelude.{nat_lt, nat_le, ◌==◌, ◌&&◌, IfOk, IfSome}
+use Rattle.std.proofs.Common.{◌≡◌, ◌≢◌, ℕ, zero, suc, ◌+◌, ◌-◌, ◌*◌, ◌/◌, ◌%◌, ◌^◌, ◌<◌, ◌≤◌, ◌⊎◌, length, List, [], ◌∷◌, ◌++◌, take, drop, arith, refl, sym, ◌∙◌, ap, subst, Ok, Err, Some, None, Bool, true, false, cond, length-take, replicate, inl, inr}
+use Rattle.std.specs.Prelude.{Option, nat_lt, nat_le, ◌==◌, ◌&&◌, ◌||◌, IfOk, IfSome}
 use Rattle.std.specs.List.{flat_map}
-use Rattle.std.proofs.lemmas.Bool.Decides.{nat_tests}
-use Rattle.std.proofs.lemmas.Nat.{be_bytes_4, be_bytes_8}
 use Rattle.mx_word.specs.Words.{tetra_to_bytes, octa_to_bytes, tetra_from_bytes, octa_from_bytes}
-use Rattle.mx_mmo.specs.Tetras.{lop}
+use Rattle.mx_mmo.specs.Tetras.{lop, wide_lop}
 use Rattle.mx_mmo.specs.Valid.{AreBytes, AreTetras, AreOctas, Fits}
-use Rattle.mx_mmo.specs.Object.{Spells}
-use Rattle.mx_mmo.specs.Object.SpellsAddress.{by_tetra, by_octa}
-use Rattle.mx_mmo.specs.Object.Spells.{plain, quoted, loc, pre, post, stab}
-use Rattle.mx_mmo.specs.Reading.{Due, first_item, words_of, octas_of, short_loc, long_loc, quoted_item, pre_item, post_item, lop_item, due_item}
+use Rattle.mx_mmo.specs.Object.{Spells, SpellsAddress, EndsSpec}
+use Rattle.mx_mmo.specs.Skipping.{skipped}
+use Rattle.mx_mmo.specs.Reading.{DueOf, Due, first_item, due_item, lop_item, lop_of, on_tetra, on_octa, quoted_tetra, short_address, long_address, address_due, item_due, far_tetra, named_file, file_item, ended_spec, pre_item, post_item, tetras_of, octas_of, trimmed}
+use Rattle.mx_mmo.specs.Turns.{MayCome, EndsItem}
 use Rattle.mx_mmo.specs.declared.items.Item.{Item}
-use Rattle.mx_mmo.specs.declared.items.Item.TheVariants.{Load, Loc, Pre, Post, Stab}
+use Rattle.mx_mmo.specs.declared.items.Item.TheVariants.{Load, Loc, Skip, FixOcta, FixNear, FixFar, File, Line, Spec, Pre, Post, Stab}
+use Rattle.mx_mmo.specs.declared.lops.Lop.{Lop}
+use Rattle.mx_mmo.specs.declared.lops.Lop.TheVariants as lops
 use Rattle.mx_mmo.specs.declared.faults.MmoFault.{MmoFault}
-use Rattle.mx_mmo.specs.declared.faults.MmoFault.TheVariants.{NoPre, BadLop, BadFields, NotBuilt, OutOfMemory}
+use Rattle.mx_mmo.specs.declared.faults.MmoFault.TheVariants.{NoPre, BadLop, BadFields, OutOfMemory}
 use Rattle.mx_mmo.specs.declared.due.Phase.{Phase}
 use Rattle.mx_mmo.specs.declared.due.Phase.TheVariants.{Start, Middle, Posted, Ended}
-use Rattle.mx_mmo.proofs.Phases.{Suits}
+use Rattle.mx_mmo.proofs.Bytes.{four-bytes, four-fit, eight-bytes, eight-fit, top-byte, bytes-front, same-number, other-number, both-true, both-tests, all-tests, not-less, is-least, is-less, take-four, drop-four}
+use Rattle.mx_mmo.proofs.Codes.{lop-code}
+use Rattle.mx_mmo.proofs.Names.{is-named}
+use Rattle.mx_mmo.proofs.Skips.{skipped-ended}
 
 pub record Found (phase : Phase) (bytes : List ℕ) (item : Item) (size : ℕ) : Type 0 where
   pub spells : Spells item (take size bytes)
-  pub suits : Suits phase item
+  pub comes : MayCome phase item
   pub fits : Fits item
+  pub ends : EndsItem item (drop size bytes)
 
 abbrev pub Tells : Phase → List ℕ → Due → Type 0
 Tells phase bytes (Ok (Some (item, size))) = Found phase bytes item size
@@ -41,55 +45,54 @@ fault-tells phase bytes f = record { is = tt }
 nothing-tells : (phase : Phase) (bytes : List ℕ) → Told phase bytes (Ok None)
 nothing-tells phase bytes = record { is = tt }
 
--- four bytes are the tetra that they tell, and eight the octa
-four-below : (a b c d : ℕ) → a < 256 → b < 256 → c < 256 → d < 256 → (i : ℕ) → get_or (a ∷ b ∷ c ∷ d ∷ []) i 0 < 256
-four-below a b c d p q r s zero = p
-four-below a b c d p q r s (suc zero) = q
-four-below a b c d p q r s (suc (suc zero)) = r
-four-below a b c d p q r s (suc (suc (suc zero))) = s
-four-below a b c d p q r s (suc (suc (suc (suc i)))) = omega arith
+pub spelled-as : (item : Item) (bytes others : List ℕ) → bytes ≡ others → Spells item bytes → Spells item others
+spelled-as item bytes others e s = subst (λ (b : List ℕ). Spells item b) e s
 
-four-bytes : (a b c d : ℕ) → a < 256 → b < 256 → c < 256 → d < 256 → tetra_to_bytes (tetra_from_bytes (a ∷ b ∷ c ∷ d ∷ [])) ≡ a ∷ b ∷ c ∷ d ∷ []
-four-bytes a b c d p q r s = be_bytes_4 (a ∷ b ∷ c ∷ d ∷ []) (tetra_from_bytes (a ∷ b ∷ c ∷ d ∷ [])) refl (four-below a b c d p q r s) refl
+-- an item that is no spec
+item-tells : (phase : Phase) (bytes spelling : List ℕ) (item : Item) (size : ℕ) → spelling ≡ take size bytes → Spells item spelling → MayCome phase item → Fits item →
+    EndsItem item (drop size bytes) → Told phase bytes (Ok (Some (item, size)))
+item-tells phase bytes spelling item size e s c f n = record { is = record { spells = spelled-as item spelling (take size bytes) e s; comes = c; fits = f; ends = n } }
 
-four-fit : (a b c d : ℕ) → a < 256 → b < 256 → c < 256 → d < 256 → tetra_from_bytes (a ∷ b ∷ c ∷ d ∷ []) < 2 ^ 32
-four-fit a b c d p q r s = omega arith
+-- the tetra and the octa that stand next
+pub tetra-told : {A : Type 0} (P : DueOf A → Type 0) (due : ℕ → DueOf A) (more : List ℕ) → AreBytes more → P (Ok None) →
+    ((t : ℕ) → t < 2 ^ 32 → tetra_to_bytes t ≡ take 4 more → P (due t)) → P (on_tetra due more)
+tetra-told P due (a ∷ b ∷ c ∷ d ∷ more) h none some =
+    some (tetra_from_bytes (a ∷ b ∷ c ∷ d ∷ [])) (four-fit a b c d h.0 h.1.0 h.1.1.0 h.1.1.1.0) (four-bytes a b c d h.0 h.1.0 h.1.1.0 h.1.1.1.0)
+tetra-told P due [] h none some = none
+tetra-told P due (a ∷ []) h none some = none
+tetra-told P due (a ∷ b ∷ []) h none some = none
+tetra-told P due (a ∷ b ∷ c ∷ []) h none some = none
 
-eight-below : (a b c d e f g h : ℕ) → AreBytes (a ∷ b ∷ c ∷ d ∷ e ∷ f ∷ g ∷ h ∷ []) → (i : ℕ) → get_or (a ∷ b ∷ c ∷ d ∷ e ∷ f ∷ g ∷ h ∷ []) i 0 < 256
-eight-below a b c d e f g h s zero = s.0
-eight-below a b c d e f g h s (suc zero) = s.1.0
-eight-below a b c d e f g h s (suc (suc zero)) = s.1.1.0
-eight-below a b c d e f g h s (suc (suc (suc zero))) = s.1.1.1.0
-eight-below a b c d e f g h s (suc (suc (suc (suc zero)))) = s.1.1.1.1.0
-eight-below a b c d e f g h s (suc (suc (suc (suc (suc zero))))) = s.1.1.1.1.1.0
-eight-below a b c d e f g h s (suc (suc (suc (suc (suc (suc zero)))))) = s.1.1.1.1.1.1.0
-eight-below a b c d e f g h s (suc (suc (suc (suc (suc (suc (suc zero))))))) = s.1.1.1.1.1.1.1.0
-eight-below a b c d e f g h s (suc (suc (suc (suc (suc (suc (suc (suc i)))))))) = omega arith
-
-eight-bytes : (a b c d e f g h : ℕ) → AreBytes (a ∷ b ∷ c ∷ d ∷ e ∷ f ∷ g ∷ h ∷ []) →
-    octa_to_bytes (octa_from_bytes (a ∷ b ∷ c ∷ d ∷ e ∷ f ∷ g ∷ h ∷ [])) ≡ a ∷ b ∷ c ∷ d ∷ e ∷ f ∷ g ∷ h ∷ []
-eight-bytes a b c d e f g h s =
-    be_bytes_8 (a ∷ b ∷ c ∷ d ∷ e ∷ f ∷ g ∷ h ∷ []) (octa_from_bytes (a ∷ b ∷ c ∷ d ∷ e ∷ f ∷ g ∷ h ∷ [])) refl (eight-below a b c d e f g h s) refl
-
-eight-fit : (a b c d e f g h : ℕ) → AreBytes (a ∷ b ∷ c ∷ d ∷ e ∷ f ∷ g ∷ h ∷ []) → octa_from_bytes (a ∷ b ∷ c ∷ d ∷ e ∷ f ∷ g ∷ h ∷ []) < 2 ^ 64
-eight-fit a b c d e f g h s = omega arith
+octa-told : {A : Type 0} (P : DueOf A → Type 0) (due : ℕ → DueOf A) (more : List ℕ) → AreBytes more → P (Ok None) →
+    ((x : ℕ) → x < 2 ^ 64 → octa_to_bytes x ≡ take 8 more → P (due x)) → P (on_octa due more)
+octa-told P due (a ∷ b ∷ c ∷ d ∷ e ∷ f ∷ g ∷ h ∷ more) s none some =
+    let t : AreBytes (a ∷ b ∷ c ∷ d ∷ e ∷ f ∷ g ∷ h ∷ []) = bytes-front 8 (a ∷ b ∷ c ∷ d ∷ e ∷ f ∷ g ∷ h ∷ more) s in
+    some (octa_from_bytes (a ∷ b ∷ c ∷ d ∷ e ∷ f ∷ g ∷ h ∷ [])) (eight-fit a b c d e f g h t) (eight-bytes a b c d e f g h t)
+octa-told P due [] s none some = none
+octa-told P due (a ∷ []) s none some = none
+octa-told P due (a ∷ b ∷ []) s none some = none
+octa-told P due (a ∷ b ∷ c ∷ []) s none some = none
+octa-told P due (a ∷ b ∷ c ∷ d ∷ []) s none some = none
+octa-told P due (a ∷ b ∷ c ∷ d ∷ e ∷ []) s none some = none
+octa-told P due (a ∷ b ∷ c ∷ d ∷ e ∷ f ∷ []) s none some = none
+octa-told P due (a ∷ b ∷ c ∷ d ∷ e ∷ f ∷ g ∷ []) s none some = none
 
 -- the bytes of tetras and of octas
-record Words (n : ℕ) (bytes : List ℕ) (words : List ℕ) : Type 0 where
-  count : length words ≡ n
-  whole : flat_map tetra_to_bytes words ≡ bytes
-  each : AreTetras words
+record Tetras (n : ℕ) (bytes : List ℕ) (tetras : List ℕ) : Type 0 where
+  count : length tetras ≡ n
+  whole : flat_map tetra_to_bytes tetras ≡ bytes
+  each : AreTetras tetras
 
-words-told : (n : ℕ) (bytes : List ℕ) → length bytes ≡ 4 * n → AreBytes bytes → Words n bytes (words_of bytes)
-words-told zero [] l h = record { count = refl; whole = refl; each = tt }
-words-told (suc n) (a ∷ b ∷ c ∷ d ∷ more) l h =
-    let w = words-told n more (omega arith) h.1.1.1.1 in
+tetras-told : (n : ℕ) (bytes : List ℕ) → length bytes ≡ 4 * n → AreBytes bytes → Tetras n bytes (tetras_of bytes)
+tetras-told zero [] l h = record { count = refl; whole = refl; each = tt }
+tetras-told (suc n) (a ∷ b ∷ c ∷ d ∷ more) l h =
+    let w = tetras-told n more (omega arith) h.1.1.1.1 in
     record {
       count = ap suc w.count;
-      whole = ap (λ f. f ++ flat_map tetra_to_bytes (words_of more)) (four-bytes a b c d h.0 h.1.0 h.1.1.0 h.1.1.1.0) ∙ ap (λ m. a ∷ b ∷ c ∷ d ∷ m) w.whole;
+      whole = ap (λ f. f ++ flat_map tetra_to_bytes (tetras_of more)) (four-bytes a b c d h.0 h.1.0 h.1.1.0 h.1.1.1.0) ∙ ap (λ m. a ∷ b ∷ c ∷ d ∷ m) w.whole;
       each = (four-fit a b c d h.0 h.1.0 h.1.1.0 h.1.1.1.0, w.each);
     }
-words-told n _ l h = absurd (omega arith)
+tetras-told n _ l h = absurd (omega arith)
 
 record Octas (n : ℕ) (bytes : List ℕ) (values : List ℕ) : Type 0 where
   count : length values ≡ n
@@ -108,75 +111,121 @@ octas-told (suc n) (a ∷ b ∷ c ∷ d ∷ e ∷ f ∷ g ∷ h ∷ more) l s =
     }
 octas-told n _ l s = absurd (omega arith)
 
-bytes-front : (n : ℕ) (bytes : List ℕ) → AreBytes bytes → AreBytes (take n bytes)
-bytes-front zero bytes h = tt
-bytes-front (suc n) [] h = tt
-bytes-front (suc n) (b ∷ bytes) h = (h.0, bytes-front n bytes h.1)
-
-take-four : (n a b c d : ℕ) (more : List ℕ) → take (4 + n) (a ∷ b ∷ c ∷ d ∷ more) ≡ a ∷ b ∷ c ∷ d ∷ take n more
-take-four n a b c d more = let e : 4 + n ≡ suc (suc (suc (suc n))) = omega arith in rw e refl
-
-pub spelled-as : (item : Item) (bytes others : List ℕ) → bytes ≡ others → Spells item bytes → Spells item others
-spelled-as item bytes others e s = subst (λ (b : List ℕ). Spells item b) e s
-
 same-lop : (code y z code' y' z' : ℕ) (more more' : List ℕ) → code' ≡ code → y' ≡ y → z' ≡ z → more ≡ more' → lop code y z ++ more ≡ 0x98 ∷ code' ∷ y' ∷ z' ∷ more'
 same-lop code y z code' y' z' more more' e f g h = rw (e, f, g, h) refl
 
-quoted-tells : (code y z : ℕ) (more : List ℕ) → code ≡ 0 → y ≡ 0 → z ≡ 1 → AreBytes more → Told Middle (0x98 ∷ code ∷ y ∷ z ∷ more) (quoted_item more)
-quoted-tells code y z (a ∷ b ∷ c ∷ d ∷ more) e f g h =
-    let t = tetra_from_bytes (a ∷ b ∷ c ∷ d ∷ []) in
-    let fit : t < 2 ^ 32 = four-fit a b c d h.0 h.1.0 h.1.1.0 h.1.1.1.0 in
-    let bytes = four-bytes a b c d h.0 h.1.0 h.1.1.0 h.1.1.1.0 in
-    record { is = record { spells = spelled-as (Load t) _ _ (same-lop 0 0 1 code y z _ _ e f g bytes) (quoted t fit); suits = tt; fits = fit } }
-quoted-tells code y z _ e f g h = nothing-tells _ _
+-- the number of the bytes Y and Z
+pub wide-back : (code y z : ℕ) → z < 2 ^ 8 → wide_lop code (256 * y + z) ≡ lop code y z
+wide-back code y z h =
+    let p : (256 * y + z) / 256 ≡ y = omega arith in
+    let q : (256 * y + z) % 256 ≡ z = omega arith in
+    rw (p, q) refl
 
-loc-fit : (y t : ℕ) → y < 2 ^ 8 → t < 2 ^ 32 → y * 2 ^ 56 + t < 2 ^ 64
-loc-fit y t h k = omega arith
+wide-fit : (y z : ℕ) → y < 2 ^ 8 → z < 2 ^ 8 → 256 * y + z < 2 ^ 16
+wide-fit y z p q = omega arith
 
-short-tells : (code y z : ℕ) (more : List ℕ) → code ≡ 1 → y < 2 ^ 8 → z ≡ 1 → AreBytes more → Told Middle (0x98 ∷ code ∷ y ∷ z ∷ more) (short_loc y more)
-short-tells code y z (a ∷ b ∷ c ∷ d ∷ more) e f g h =
-    let t = tetra_from_bytes (a ∷ b ∷ c ∷ d ∷ []) in
-    let fit : t < 2 ^ 32 = four-fit a b c d h.0 h.1.0 h.1.1.0 h.1.1.1.0 in
-    let bytes = four-bytes a b c d h.0 h.1.0 h.1.1.0 h.1.1.1.0 in
-    record {
-      is = record {
-        spells = spelled-as (Loc (y * 2 ^ 56 + t)) _ _ (same-lop 1 y 1 code y z _ _ e refl g bytes) (loc (y * 2 ^ 56 + t) (lop 1 y 1 ++ tetra_to_bytes t) (by_tetra 1 y t f fit));
-        suits = tt;
-        fits = loc-fit y t f fit;
-      };
-    }
-short-tells code y z _ e f g h = nothing-tells _ _
+same-wide : (code y z code' : ℕ) (more : List ℕ) → z < 2 ^ 8 → code' ≡ code → wide_lop code (256 * y + z) ++ more ≡ 0x98 ∷ code' ∷ y ∷ z ∷ more
+same-wide code y z code' more h e = ap (λ x. x ++ more) (wide-back code y z h) ∙ same-lop code y z code' y z more more e refl refl refl
+
+quoted-tells : (code y z : ℕ) (more : List ℕ) → code ≡ 0 → y ≡ 0 → z ≡ 1 → AreBytes more → Told Middle (0x98 ∷ code ∷ y ∷ z ∷ more) (on_tetra quoted_tetra more)
+quoted-tells code y z more e f g h =
+    tetra-told (Told Middle (0x98 ∷ code ∷ y ∷ z ∷ more)) quoted_tetra more h (nothing-tells _ _)
+    (λ t fit is. item-tells Middle _ _ (Load t) 8 (same-lop 0 0 1 code y z _ _ e f g is) (Spells.quoted t fit) tt fit tt)
+
+-- an address behind a lopcode of this code
+abbrev AddressTells : ℕ → List ℕ → DueOf ℕ → Type 0
+AddressTells code bytes (Ok (Some (a, size))) = SpellsAddress code a (take size bytes) × (a < 2 ^ 64)
+AddressTells code bytes _ = Unit {0}
+
+record AddressTold (code : ℕ) (bytes : List ℕ) (due : DueOf ℕ) : Type 0 where
+  is : AddressTells code bytes due
+
+cond-address : (b : Bool) (code : ℕ) (bytes : List ℕ) (x y : DueOf ℕ) → (b ≡ true → AddressTold code bytes x) → (b ≡ false → AddressTold code bytes y) → AddressTold code bytes (cond b x y)
+cond-address true code bytes x y p q = p refl
+cond-address false code bytes x y p q = q refl
+
+address-as : (code a : ℕ) (bytes others : List ℕ) → bytes ≡ others → SpellsAddress code a bytes → SpellsAddress code a others
+address-as code a bytes others e s = subst (λ (b : List ℕ). SpellsAddress code a b) e s
+
+short-fit : (y t : ℕ) → y < 2 ^ 8 → t < 2 ^ 32 → y * 2 ^ 56 + t < 2 ^ 64
+short-fit y t p q = omega arith
 
 mod-fit : (n : ℕ) → n % 2 ^ 64 < 2 ^ 64
 mod-fit n = omega arith
 
-long-tells : (code y z : ℕ) (more : List ℕ) → code ≡ 1 → y < 2 ^ 8 → z ≡ 2 → AreBytes more → Told Middle (0x98 ∷ code ∷ y ∷ z ∷ more) (long_loc y more)
-long-tells code y z (a ∷ b ∷ c ∷ d ∷ e ∷ f ∷ g ∷ h ∷ more) p q r s =
-    let t : AreBytes (a ∷ b ∷ c ∷ d ∷ e ∷ f ∷ g ∷ h ∷ []) = bytes-front 8 (a ∷ b ∷ c ∷ d ∷ e ∷ f ∷ g ∷ h ∷ more) s in
-    let x = octa_from_bytes (a ∷ b ∷ c ∷ d ∷ e ∷ f ∷ g ∷ h ∷ []) in
-    let fit : x < 2 ^ 64 = eight-fit a b c d e f g h t in
-    let bytes = eight-bytes a b c d e f g h t in
-    record {
-      is = record {
-        spells = spelled-as (Loc ((y * 2 ^ 56 + x) % 2 ^ 64)) _ _ (same-lop 1 y 2 code y z _ _ p refl r bytes)
-            (loc ((y * 2 ^ 56 + x) % 2 ^ 64) (lop 1 y 2 ++ octa_to_bytes x) (by_octa 1 y x q fit));
-        suits = tt;
-        fits = mod-fit (y * 2 ^ 56 + x);
-      };
-    }
-long-tells code y z _ p q r s = nothing-tells _ _
+address-tells : (at code y z : ℕ) (more : List ℕ) → y < 2 ^ 8 → AreBytes more → AddressTold code (0x98 ∷ code ∷ y ∷ z ∷ more) (address_due at y z more)
+address-tells at code y z more f h =
+    cond-address (z == 1) code _ _ _
+    (λ g. tetra-told (AddressTold code (0x98 ∷ code ∷ y ∷ z ∷ more)) (short_address y) more h (record { is = tt })
+    (λ t fit is. record { is = (address-as code (y * 2 ^ 56 + t) _ _ (same-lop code y 1 code y z _ _ refl refl (same-number z 1 g) is) (SpellsAddress.by_tetra code y t f fit), short-fit y t f fit) }))
+    (λ _. cond-address (z == 2) code _ _ _
+    (λ g. octa-told (AddressTold code (0x98 ∷ code ∷ y ∷ z ∷ more)) (long_address y) more h (record { is = tt })
+    (λ x fit is. record { is = (address-as code ((y * 2 ^ 56 + x) % 2 ^ 64) _ _ (same-lop code y 2 code y z _ _ refl refl (same-number z 2 g) is) (SpellsAddress.by_octa code y x f fit), mod-fit (y * 2 ^ 56 + x)) }))
+    (λ _. record { is = tt }))
 
-there : (n : ℕ) (more : List ℕ) → nat_lt (length more) n ≡ false → length (take n more) ≡ n
-there n more h = let l : n ≤ length more = grind (arith, nat_tests) in omega (arith, length-take n more)
+loc-tells : (code : ℕ) (bytes : List ℕ) (due : DueOf ℕ) → code ≡ 1 → AddressTells code bytes due → Told Middle bytes (item_due (λ a. Loc a) due)
+loc-tells code bytes (Ok (Some (a, size))) e t =
+    item-tells Middle bytes (take size bytes) (Loc a) size refl (Spells.loc a (take size bytes) (subst (λ (c : ℕ). SpellsAddress c a (take size bytes)) e t.0)) tt t.1 tt
+loc-tells code bytes (Ok None) e t = nothing-tells _ _
+loc-tells code bytes (Err f) e t = fault-tells _ _ _
+
+fixo-tells : (code : ℕ) (bytes : List ℕ) (due : DueOf ℕ) → code ≡ 3 → AddressTells code bytes due → Told Middle bytes (item_due (λ a. FixOcta a) due)
+fixo-tells code bytes (Ok (Some (a, size))) e t =
+    item-tells Middle bytes (take size bytes) (FixOcta a) size refl (Spells.fixo a (take size bytes) (subst (λ (c : ℕ). SpellsAddress c a (take size bytes)) e t.0)) tt t.1 tt
+fixo-tells code bytes (Ok None) e t = nothing-tells _ _
+fixo-tells code bytes (Err f) e t = fault-tells _ _ _
+
+pub bits-are : (z : ℕ) → (z == 16 || z == 24) ≡ true → (z ≡ 16) ⊎ (z ≡ 24)
+bits-are z h = by (z == 16) z refl h
+  where
+    by : (b : Bool) (z : ℕ) → (z == 16) ≡ b → (b || z == 24) ≡ true → (z ≡ 16) ⊎ (z ≡ 24)
+    by true z e h = inl (same-number z 16 e)
+    by false z e h = inr (same-number z 24 h)
+
+far-tells : (at code y z : ℕ) (more : List ℕ) → code ≡ 5 → y ≡ 0 → (z ≡ 16) ⊎ (z ≡ 24) → AreBytes more →
+    Told Middle (0x98 ∷ code ∷ y ∷ z ∷ more) (on_tetra (far_tetra at z) more)
+far-tells at code y z more e f g h =
+    tetra-told (Told Middle (0x98 ∷ code ∷ y ∷ z ∷ more)) (far_tetra at z) more h (nothing-tells _ _)
+    (λ t fit is. cond-tells (nat_lt t (2 ^ 25)) Middle _ _ _
+    (λ l. let few = is-less t (2 ^ 25) l in item-tells Middle _ _ (FixFar z t) 8 (same-lop 5 0 z code y z _ _ e f refl is) (Spells.fixrx z t g few) tt (g, few) tt)
+    (λ _. fault-tells _ _ (BadFields at)))
+
+pub there : (n : ℕ) (more : List ℕ) → nat_lt (length more) n ≡ false → length (take n more) ≡ n
+there n more h = let l = not-less (length more) n h in omega (arith, length-take n more)
+
+named-tells : (at code y z : ℕ) (more bytes name : List ℕ) → code ≡ 6 → y < 2 ^ 8 → z < 2 ^ 8 → bytes ≡ take (4 * z) more → length bytes ≡ 4 * z → AreBytes bytes → trimmed bytes ≡ name →
+    Told Middle (0x98 ∷ code ∷ y ∷ z ∷ more) (named_file at y (4 + 4 * z) name)
+named-tells at code y z more bytes [] e f g is l h t = fault-tells _ _ _
+named-tells at code y z more bytes (b ∷ name) e f g is l h t =
+    let n = is-named bytes b name h (omega arith) t in
+    let spelling : lop 6 y z ++ (b ∷ name) ++ replicate n.zeros 0 ≡ take (4 + 4 * z) (0x98 ∷ code ∷ y ∷ z ∷ more) =
+    same-lop 6 y z code y z _ _ e refl refl (sym n.whole ∙ is) ∙ sym (take-four (4 * z) 0x98 code y z more) in
+    item-tells Middle _ _ (File y (Some (b ∷ name))) (4 + 4 * z) spelling (Spells.named y z n.zeros (b ∷ name) f g n.good (n.count ∙ l)) tt (f, n.good) tt
+
+file-tells : (at code y z : ℕ) (more : List ℕ) → code ≡ 6 → y < 2 ^ 8 → z < 2 ^ 8 → AreBytes more → Told Middle (0x98 ∷ code ∷ y ∷ z ∷ more) (file_item at y z more)
+file-tells at code y z more e f g h =
+    cond-tells (z == 0) Middle _ _ _
+    (λ i. item-tells Middle _ _ (File y None) 4 (same-lop 6 y 0 code y z [] [] e refl (same-number z 0 i) refl) (Spells.selected y f) tt (f, tt) tt)
+    (λ _. cond-tells (nat_lt (length more) (4 * z)) Middle _ _ _ (λ _. nothing-tells _ _)
+    (λ l. named-tells at code y z more (take (4 * z) more) _ e f g refl (there (4 * z) more l) (bytes-front (4 * z) more h) refl))
+
+spec-tells : (code y z : ℕ) (more : List ℕ) (o : Option ℕ) → code ≡ 8 → y < 2 ^ 8 → z < 2 ^ 8 → AreBytes more → skipped false more ≡ o →
+    Told Middle (0x98 ∷ code ∷ y ∷ z ∷ more) (ended_spec (256 * y + z) o)
+spec-tells code y z more None e f g h o = nothing-tells _ _
+spec-tells code y z more (Some size) e f g h o =
+    let n = skipped-ended more size h o in
+    let fit = wide-fit y z f g in
+    item-tells Middle _ _ (Spec (256 * y + z)) (4 + size) (same-wide 8 y z code (take size more) g e ∙ sym (take-four size 0x98 code y z more))
+    (Spells.spec (256 * y + z) (take size more) fit n.front) tt fit (subst (λ (r : List ℕ). EndsSpec r) (sym (drop-four size 0x98 code y z more)) n.ends)
 
 pre-tells : (a code y z : ℕ) (more : List ℕ) → a ≡ 0x98 → code ≡ 9 → y ≡ 1 → z < 2 ^ 8 → AreBytes more → Told Start (a ∷ code ∷ y ∷ z ∷ more) (pre_item z more)
 pre-tells a code y z more d e f g h = cond-tells (nat_lt (length more) (4 * z)) Start _ _ _ (λ _. nothing-tells _ _) (λ l.
-    let w = words-told z (take (4 * z) more) (there (4 * z) more l) (bytes-front (4 * z) more h) in
-    let words = words_of (take (4 * z) more) in
-    let few : length words < 2 ^ 8 = rw (w.count) g in
-    let bytes : lop 9 1 (length words) ++ flat_map tetra_to_bytes words ≡ take (4 + 4 * z) (a ∷ code ∷ y ∷ z ∷ more) =
-    same-lop 9 1 (length words) code y z _ _ e f (sym w.count) w.whole ∙ ap (λ (b : ℕ). b ∷ code ∷ y ∷ z ∷ take (4 * z) more) (sym d) ∙ sym (take-four (4 * z) a code y z more) in
-    record { is = record { spells = spelled-as (Pre words) _ _ bytes (pre words few w.each); suits = tt; fits = (few, w.each) } })
+    let w = tetras-told z (take (4 * z) more) (there (4 * z) more l) (bytes-front (4 * z) more h) in
+    let tetras = tetras_of (take (4 * z) more) in
+    let few : length tetras < 2 ^ 8 = rw (w.count) g in
+    let bytes : lop 9 1 (length tetras) ++ flat_map tetra_to_bytes tetras ≡ take (4 + 4 * z) (a ∷ code ∷ y ∷ z ∷ more) =
+    same-lop 9 1 (length tetras) code y z _ _ e f (sym w.count) w.whole ∙ ap (λ (b : ℕ). b ∷ code ∷ y ∷ z ∷ take (4 * z) more) (sym d) ∙ sym (take-four (4 * z) a code y z more) in
+    item-tells Start _ _ (Pre tetras) (4 + 4 * z) bytes (Spells.pre tetras few w.each) tt (few, w.each) tt)
 
 post-tells : (code y g : ℕ) (more : List ℕ) → code ≡ 10 → y ≡ 0 → 32 ≤ g → g < 2 ^ 8 → AreBytes more → Told Middle (0x98 ∷ code ∷ y ∷ g ∷ more) (post_item g more)
 post-tells code y g more d e f k h = cond-tells (nat_lt (length more) (8 * (256 - g))) Middle _ _ _ (λ _. nothing-tells _ _) (λ l.
@@ -185,58 +234,46 @@ post-tells code y g more d e f k h = cond-tells (nat_lt (length more) (8 * (256 
     let count : length values + g ≡ 256 = omega (arith, w.count) in
     let bytes : lop 10 0 g ++ flat_map octa_to_bytes values ≡ take (4 + 8 * (256 - g)) (0x98 ∷ code ∷ y ∷ g ∷ more) =
     same-lop 10 0 g code y g _ _ d e refl w.whole ∙ sym (take-four (8 * (256 - g)) 0x98 code y g more) in
-    record { is = record { spells = spelled-as (Post g values) _ _ bytes (post g values f k count w.each); suits = tt; fits = (f, k, count, w.each) } })
+    item-tells Middle _ _ (Post g values) (4 + 8 * (256 - g)) bytes (Spells.post g values f k count w.each) tt (f, k, count, w.each) tt)
 
-pub both-true : (b c : Bool) → (b && c) ≡ true → (b ≡ true) × (c ≡ true)
-both-true true c h = (refl, h)
-both-true false c h = absurd (cc)
+pub zero-and-least : (y z : ℕ) → (y == 0 && nat_le 32 z) ≡ true → (y ≡ 0) × (32 ≤ z)
+zero-and-least y z h = let t = both-true (y == 0) (nat_le 32 z) h in (same-number y 0 t.0, is-least 32 z t.1)
 
-pub same-number : (m n : ℕ) → (m == n) ≡ true → m ≡ n
-same-number m n h = grind (arith, nat_tests)
+-- each lopcode by its code byte
+lop-tells : (at code y z : ℕ) (more : List ℕ) (lop : Option Lop) → lop_of code ≡ lop → y < 2 ^ 8 → z < 2 ^ 8 → AreBytes more →
+    Told Middle (0x98 ∷ code ∷ y ∷ z ∷ more) (lop_item at lop y z more)
+lop-tells at code y z more (Some lops.Quote) e p q h = cond-tells (y == 0 && z == 1) Middle _ _ _
+    (λ f. let t = both-tests y 0 z 1 f in quoted-tells code y z more (lop-code code _ e) t.0 t.1 h) (λ _. fault-tells _ _ (BadFields at))
+lop-tells at code y z more (Some lops.Loc) e p q h = loc-tells code _ (address_due at y z more) (lop-code code _ e) (address-tells at code y z more p h).is
+lop-tells at code y z more (Some lops.Skip) e p q h =
+    item-tells Middle _ _ (Skip (256 * y + z)) 4 (same-wide 2 y z code [] q (lop-code code _ e)) (Spells.skip (256 * y + z) (wide-fit y z p q)) tt (wide-fit y z p q) tt
+lop-tells at code y z more (Some lops.Fixo) e p q h = fixo-tells code _ (address_due at y z more) (lop-code code _ e) (address-tells at code y z more p h).is
+lop-tells at code y z more (Some lops.Fixr) e p q h =
+    item-tells Middle _ _ (FixNear (256 * y + z)) 4 (same-wide 4 y z code [] q (lop-code code _ e)) (Spells.fixr (256 * y + z) (wide-fit y z p q)) tt (wide-fit y z p q) tt
+lop-tells at code y z more (Some lops.Fixrx) e p q h = cond-tells (y == 0 && (z == 16 || z == 24)) Middle _ _ _
+    (λ f. let t = both-true (y == 0) (z == 16 || z == 24) f in far-tells at code y z more (lop-code code _ e) (same-number y 0 t.0) (bits-are z t.1) h)
+    (λ _. fault-tells _ _ (BadFields at))
+lop-tells at code y z more (Some lops.File) e p q h = file-tells at code y z more (lop-code code _ e) p q h
+lop-tells at code y z more (Some lops.Line) e p q h =
+    item-tells Middle _ _ (Line (256 * y + z)) 4 (same-wide 7 y z code [] q (lop-code code _ e)) (Spells.line (256 * y + z) (wide-fit y z p q)) tt (wide-fit y z p q) tt
+lop-tells at code y z more (Some lops.Spec) e p q h = spec-tells code y z more (skipped false more) (lop-code code _ e) p q h refl
+lop-tells at code y z more (Some lops.Pre) e p q h = fault-tells _ _ _
+lop-tells at code y z more (Some lops.Post) e p q h = cond-tells (y == 0 && nat_le 32 z) Middle _ _ _
+    (λ f. let t = zero-and-least y z f in post-tells code y z more (lop-code code _ e) t.0 t.1 q h) (λ _. fault-tells _ _ (BadFields at))
+lop-tells at code y z more (Some lops.Stab) e p q h = fault-tells _ _ _
+lop-tells at code y z more (Some lops.End) e p q h = fault-tells _ _ _
+lop-tells at code y z more None e p q h = fault-tells _ _ _
 
-pub both-tests : (m n k l : ℕ) → (m == n && k == l) ≡ true → (m ≡ n) × (k ≡ l)
-both-tests m n k l h = let t = both-true (m == n) (k == l) h in (same-number m n t.0, same-number k l t.1)
-
-all-tests : (m n k l i j : ℕ) → (m == n && k == l && i == j) ≡ true → (m ≡ n) × (k ≡ l) × (i ≡ j)
-all-tests m n k l i j h =
-    let t = both-true (m == n && k == l) (i == j) h in
-    let u = both-tests m n k l t.0 in
-    (u.0, u.1, same-number i j t.1)
-
-zero-and-least : (y z : ℕ) → (y == 0 && nat_le 32 z) ≡ true → (y ≡ 0) × (32 ≤ z)
-zero-and-least y z h = let t = both-true (y == 0) (nat_le 32 z) h in (same-number y 0 t.0, least z t.1)
-  where
-    least : (z : ℕ) → nat_le 32 z ≡ true → 32 ≤ z
-    least z h = grind (arith, nat_tests)
-
-lop-tells : (at a code y z : ℕ) (more : List ℕ) → a ≡ 0x98 → y < 2 ^ 8 → z < 2 ^ 8 → AreBytes more → Told Middle (0x98 ∷ code ∷ y ∷ z ∷ more) (lop_item at code y z more)
-lop-tells at a code y z more d p q h =
-    cond-tells (code == 0) Middle _ _ _ (λ e. cond-tells (y == 0 && z == 1) Middle _ _ _
-    (λ f. let t = both-tests y 0 z 1 f in quoted-tells code y z more (same-number code 0 e) t.0 t.1 h) (λ _. fault-tells _ _ (BadFields at)))
-    (λ _. cond-tells (code == 1) Middle _ _ _ (λ e. cond-tells (z == 1) Middle _ _ _
-    (λ f. short-tells code y z more (same-number code 1 e) p (same-number z 1 f) h)
-    (λ _. cond-tells (z == 2) Middle _ _ _ (λ f. long-tells code y z more (same-number code 1 e) p (same-number z 2 f) h) (λ _. fault-tells _ _ (BadFields at))))
-    (λ _. cond-tells (nat_le code 8) Middle _ _ _ (λ _. fault-tells _ _ (NotBuilt at))
-    (λ _. cond-tells (code == 10) Middle _ _ _ (λ e. cond-tells (y == 0 && nat_le 32 z) Middle _ _ _
-    (λ f. let t = zero-and-least y z f in post-tells code y z more (same-number code 10 e) t.0 t.1 q h) (λ _. fault-tells _ _ (BadFields at)))
-    (λ _. fault-tells _ _ (BadLop at)))))
-
-top-byte : (a b c d : ℕ) → b < 256 → c < 256 → d < 256 → tetra_from_bytes (a ∷ b ∷ c ∷ d ∷ []) / 2 ^ 24 ≡ a
-top-byte a b c d q r s = omega arith
-
-pub other-number : (m n : ℕ) → (m == n) ≡ false → m ≢ n
-other-number m n h = grind (arith, nat_tests)
-
-plain-tells : (a b c d : ℕ) (more : List ℕ) → (a == 0x98) ≡ false → a < 256 → b < 256 → c < 256 → d < 256 →
+bare-tells : (a b c d : ℕ) (more : List ℕ) → (a == 0x98) ≡ false → a < 256 → b < 256 → c < 256 → d < 256 →
     Told Middle (a ∷ b ∷ c ∷ d ∷ more) (Ok (Some (Load (tetra_from_bytes (a ∷ b ∷ c ∷ d ∷ [])), 4)))
-plain-tells a b c d more e p q r s =
+bare-tells a b c d more e p q r s =
     let t = tetra_from_bytes (a ∷ b ∷ c ∷ d ∷ []) in
     let fit : t < 2 ^ 32 = four-fit a b c d p q r s in
     let other : t / 2 ^ 24 ≢ 0x98 = rw (top-byte a b c d q r s) (other-number a 0x98 e) in
-    record { is = record { spells = spelled-as (Load t) _ _ (four-bytes a b c d p q r s) (plain t (fit, other)); suits = tt; fits = fit } }
+    item-tells Middle _ _ (Load t) 4 (four-bytes a b c d p q r s) (Spells.bare t (fit, other)) tt fit tt
 
 stab-tells : (a code y z : ℕ) (more : List ℕ) → a ≡ 0x98 → code ≡ 11 → y ≡ 0 → z ≡ 0 → Told Posted (a ∷ code ∷ y ∷ z ∷ more) (Ok (Some (Stab, 4)))
-stab-tells a code y z more d e f g = record { is = record { spells = spelled-as Stab _ _ (rw (d, e, f, g) refl) stab; suits = tt; fits = tt } }
+stab-tells a code y z more d e f g = item-tells Posted _ _ Stab 4 (rw (d, e, f, g) refl) Spells.stab tt tt tt
 
 due-tells : (phase : Phase) (at a code y z : ℕ) (more : List ℕ) → a < 256 → code < 256 → y < 256 → z < 256 → AreBytes more →
     Told phase (a ∷ code ∷ y ∷ z ∷ more) (due_item phase at a code y z more)
@@ -244,8 +281,8 @@ due-tells Start at a code y z more p q r s h = cond-tells (a == 0x98 && code == 
     (λ e. let t = all-tests a 0x98 code 9 y 1 e in pre-tells a code y z more t.0 t.1 t.2 s h) (λ _. fault-tells _ _ (NoPre at))
 due-tells Middle at a code y z more p q r s h = cond-tells (a == 0x98) Middle _ _ _
     (λ e. let is = same-number a 0x98 e in
-    subst (λ (b : ℕ). Told Middle (b ∷ code ∷ y ∷ z ∷ more) (lop_item at code y z more)) (sym is) (lop-tells at a code y z more is r s h))
-    (λ e. plain-tells a code y z more e p q r s)
+    subst (λ (b : ℕ). Told Middle (b ∷ code ∷ y ∷ z ∷ more) (lop_item at (lop_of code) y z more)) (sym is) (lop-tells at code y z more (lop_of code) refl r s h))
+    (λ e. bare-tells a code y z more e p q r s)
 due-tells Posted at a code y z more p q r s h = cond-tells (a == 0x98 && code == 11) Posted _ _ _
     (λ e. cond-tells (y == 0 && z == 0) Posted _ _ _ (λ f. let t = both-tests a 0x98 code 11 e in let u = both-tests y 0 z 0 f in stab-tells a code y z more t.0 t.1 u.0 u.1)
     (λ _. fault-tells _ _ (BadFields at)))

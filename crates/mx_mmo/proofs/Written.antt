@@ -1,5 +1,5 @@
 -- What is written is in the grammar.
-use Rattle.std.proofs.Common.{◌≡◌, ◌≢◌, ℕ, ◌+◌, ◌-◌, ◌*◌, ◌/◌, ◌%◌, ◌^◌, ◌<◌, ◌≤◌, length, List, [], ◌∷◌, ◌++◌, arith, refl, sym, ap, subst, Some, None, Bool, true, false, cond, append_assoc, replicate, Ok}
+use Rattle.std.proofs.Common.{◌≡◌, ◌≢◌, ℕ, ◌+◌, ◌-◌, ◌*◌, ◌/◌, ◌%◌, ◌^◌, ◌<◌, ◌≤◌, length, List, [], ◌∷◌, ◌++◌, arith, refl, sym, subst, Some, None, Bool, true, false, cond, append_assoc, replicate, Ok}
 use Rattle.std.specs.Prelude.{Option, ◌==◌}
 use Rattle.std.specs.List.{AllByRecursion}
 use Rattle.mx_word.specs.Words.{tetra_to_bytes, octa_to_bytes}
@@ -10,15 +10,15 @@ use Rattle.mx_mmo.specs.Object.{IsObject, SpellsAddress, Spells, Spelled}
 use Rattle.mx_mmo.specs.Object.{IsSkipped}
 use Rattle.mx_mmo.specs.declared.items.Item.{Item}
 use Rattle.mx_mmo.specs.declared.items.Item.TheVariants.{Load, Loc, Skip, FixOcta, FixNear, FixFar, File, Line, Spec, Pre, Post, Stab}
-use Rattle.mx_mmo.specs.Object.{IsBuilt}
 use Rattle.mx_mmo.specs.Replies.{limit}
 use Rattle.mx_mmo.specs.Whole.{object_of}
 use Rattle.mx_mmo.proofs.Complete.{object-only}
-use Rattle.mx_mmo.proofs.Told.{same-number, other-number, spelled-as}
+use Rattle.mx_mmo.proofs.Bytes.{same-number, other-number}
+use Rattle.mx_mmo.proofs.Told.{spelled-as}
 
 loaded-spells : (b : Bool) (t : ℕ) → t < 2 ^ 32 → (b ≡ false → t / 2 ^ 24 ≢ 0x98) → Spells (Load t) (cond b (lop 0 0 1 ++ tetra_to_bytes t) (tetra_to_bytes t))
 loaded-spells true t h p = Spells.quoted t h
-loaded-spells false t h p = Spells.plain t (h, p refl)
+loaded-spells false t h p = Spells.bare t (h, p refl)
 
 short-address : (a : ℕ) → a / 2 ^ 32 % 2 ^ 24 ≡ 0 → a / 2 ^ 56 * 2 ^ 56 + a % 2 ^ 32 ≡ a
 short-address a h = omega arith
@@ -50,11 +50,11 @@ item-spells (Loc a) f = Spells.loc a _ (address-spells (a / 2 ^ 32 % 2 ^ 24 == 0
 item-spells (Skip n) f = Spells.skip n f
 item-spells (FixOcta a) f = Spells.fixo a _ (address-spells (a / 2 ^ 32 % 2 ^ 24 == 0) 3 a f (λ e. same-number (a / 2 ^ 32 % 2 ^ 24) 0 e))
 item-spells (FixNear n) f = Spells.fixr n f
-item-spells (FixFar bits word) f = Spells.fixrx bits word f.0 f.1
+item-spells (FixFar bits t) f = Spells.fixrx bits t f.0 f.1
 item-spells (File number name) f = file-spells number name f
 item-spells (Line n) f = Spells.line n f
 item-spells (Spec n) f = Spells.spec n [] f IsSkipped.none
-item-spells (Pre words) f = Spells.pre words f.0 f.1
+item-spells (Pre tetras) f = Spells.pre tetras f.0 f.1
 item-spells (Post g values) f = Spells.post g values f.0 f.1 f.2 f.3
 item-spells Stab f = Spells.stab
 
@@ -74,10 +74,9 @@ written-object items trie v w m = record {
 }
 
 -- and read again as what was written
-pub written-read : (items : List Item) (trie : List ℕ) → Valid items → AllByRecursion IsBuilt items → trie ≡ [] → length (written items ++ ending trie) ≤ limit →
+pub written-read : (items : List Item) (trie : List ℕ) → Valid items → length trie % 4 ≡ 0 → length trie / 4 < 2 ^ 16 → length (written items ++ ending trie) ≤ limit →
     object_of (written items ++ ending trie) ≡ Ok (record { items = items; tail = record { trie = trie; place = length (written items) } })
 unfolding written-object
-written-read items trie v b e l =
-    let whole : length trie ≡ 0 = ap (λ (x : List ℕ). length x) e in
+written-read items trie v w m l =
     object-only (written items ++ ending trie) (record { items = items; tail = record { trie = trie; place = length (written items) } })
-    (record { spelled = written-object items trie v (omega arith) (omega arith); place = refl }) b e l
+    (record { spelled = written-object items trie v w m; place = refl }) l

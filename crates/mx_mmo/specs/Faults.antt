@@ -1,9 +1,9 @@
 -- The numbers and places of the faults of objects.
 use Rattle.std.specs.Prelude.{ℕ, Option, Some, None}
 use Rattle.mx_mmo.specs.declared.faults.MmoFault.{MmoFault}
-use Rattle.mx_mmo.specs.declared.faults.MmoFault.TheVariants.{NotTetras, NoPre, BadLop, BadFields, Truncated, TooLong, NotBuilt, OutOfMemory}
+use Rattle.mx_mmo.specs.declared.faults.MmoFault.TheVariants.{NotTetras, NoPre, BadLop, BadFields, Truncated, TooLong, OutOfMemory}
 
--- the number of a fault; 0 for want of memory
+-- the number of a fault; 0 for out of memory
 abbrev pub number_of : MmoFault → ℕ
 number_of (NotTetras place) = 60
 number_of (NoPre place) = 61
@@ -11,7 +11,6 @@ number_of (BadLop place) = 62
 number_of (BadFields place) = 63
 number_of (Truncated place) = 64
 number_of (TooLong place) = 65
-number_of (NotBuilt place) = 132
 number_of OutOfMemory = 0
 
 -- the byte place that a fault carries
@@ -22,5 +21,4 @@ place_of (BadLop place) = Some place
 place_of (BadFields place) = Some place
 place_of (Truncated place) = Some place
 place_of (TooLong place) = Some place
-place_of (NotBuilt place) = Some place
 place_of OutOfMemory = None

@@ -1,11 +1,15 @@
+pub use Rattle.mx_word.specs.Ranges
 pub use Rattle.mx_word.specs.Words
+pub mod FaultTable
 pub mod Faults
 pub mod Image
 pub mod Meaning
 pub mod Object
 pub mod Reading
 pub mod Replies
+pub mod Skipping
 pub mod Spelling
 pub mod Tetras
+pub mod Turns
 pub mod Valid
 pub mod Whole

@@ -1,5 +1,5 @@
 -- What a list of items means, item by item.
-use Rattle.std.specs.Prelude.{ℕ, ◌+◌, ◌-◌, ◌*◌, ◌/◌, ◌%◌, ◌^◌, ◌==◌, ◌&&◌, Bool, true, false, not, nat_le, List, [], ◌∷◌, Option, Some, None, Result, Ok, Err, slice_index, bit_xor, if◌then◌else◌}
+use Rattle.std.specs.Prelude.{ℕ, ◌+◌, ◌-◌, ◌*◌, ◌/◌, ◌%◌, ◌^◌, ◌==◌, ◌&&◌, Bool, true, false, not, nat_le, List, [], ◌∷◌, Option, Some, None, Result, Ok, Err, slice_index, min, if◌then◌else◌}
 pub use Rattle.mx_word.specs.Octas.{with_tetra, with_page}
 use Rattle.mx_mmo.specs.Image.{Image}
 use Rattle.mx_mmo.specs.declared.items.Item.{Item}
@@ -42,13 +42,14 @@ paged m page =
 abbrev pub is_below : ℕ → Bool
 is_below a = not (nat_le 0x6000_0000_0000_0000 a)
 
-abbrev pub joined_on : ℕ → ℕ → Result Image Meaningless → Result Image Meaningless
-joined_on a t (Ok m) = Ok (record m { memory = with_tetra m.memory a t })
-joined_on a t (Err e) = Err e
+-- the image with a tetra joined to memory
+abbrev pub image_with_tetra : ℕ → ℕ → Result Image Meaningless → Result Image Meaningless
+image_with_tetra a t (Ok m) = Ok (record m { memory = with_tetra m.memory a t })
+image_with_tetra a t (Err e) = Err e
 
 -- a tetra is joined at an address, on the page that it lies on
 abbrev pub join : Image → ℕ → ℕ → Result Image Meaningless
-join m a t = if is_below a then joined_on a t (paged m (a / 4096)) else Err BadPlace
+join m a t = if is_below a then image_with_tetra a t (paged m (a / 4096)) else Err BadPlace
 
 abbrev pub then_join : ℕ → ℕ → Result Image Meaningless → Result Image Meaningless
 then_join a t (Ok m) = join m a t
@@ -62,13 +63,18 @@ join_octa m a x =
     let low = (high + 4) % 2 ^ 64 in
     if is_below high && is_below low then then_join low (x % 2 ^ 32) (join m high (x / 2 ^ 32)) else Err BadPlace
 
--- the address so many tetras before another, modulo 2^64; the number of tetras is ahead less back
-abbrev pub back : ℕ → ℕ → ℕ → ℕ
-back a ahead behind = (a + 2 ^ 64 - 4 * ahead + 4 * behind) % 2 ^ 64
+-- the address so many tetras before another, and so many behind it; addresses are modulo 2^64
+abbrev pub tetras_before : ℕ → ℕ → ℕ
+tetras_before n a = (a + 2 ^ 64 - 4 * n) % 2 ^ 64
 
--- the distance that the word of a far fix tells, as what it has ahead and behind
-abbrev pub far_back : ℕ → ℕ → ℕ → ℕ
-far_back a bits word = if nat_le (2 ^ 24) word then back a (word % 2 ^ 24) (2 ^ bits) else back a word 0
+abbrev pub tetras_behind : ℕ → ℕ → ℕ
+tetras_behind n a = (a + 4 * n) % 2 ^ 64
+
+-- where a far fix joins its tetra: lambda less four times a distance, which is the tetra, or its low 24 bits less 2^bits
+-- where its first byte is 1
+abbrev pub far_place : ℕ → ℕ → ℕ → ℕ
+far_place a bits t =
+    if nat_le (2 ^ 24) t then tetras_behind (2 ^ bits) (tetras_before (t % 2 ^ 24) a) else tetras_before t a
 
 -- the image after a change, and all else as it was
 abbrev pub with_image : Loading → Result Image Meaningless → Result Loading Meaningless
@@ -82,13 +88,18 @@ lined line_of a line q = if q / 4 == a / 4 then line else line_of q
 abbrev pub noted : Loading → Image → Image
 noted s m = if s.line == 0 then m else record m { line_of = lined m.line_of s.lambda s.line }
 
--- after a tetra lambda is the next multiple of 4, and a line in force that is not 0 grows by 1
+-- the line in force after a tetra: one that is not 0 grows by 1, up to 2^32 - 1, the greatest line there is; an object
+-- of at most 2^26 bytes does not come to that one
+abbrev pub next_line : ℕ → ℕ
+next_line line = if line == 0 then 0 else min (line + 1) (2 ^ 32 - 1)
+
+-- after a tetra lambda is the next multiple of 4
 abbrev pub after_load : Loading → Result Image Meaningless → Result Loading Meaningless
 after_load s (Ok m) =
     Ok (record s {
       image = noted s m;
       lambda = (4 * (s.lambda / 4) + 4) % 2 ^ 64;
-      line = if s.line == 0 then 0 else s.line + 1;
+      line = next_line s.line;
     })
 after_load s (Err e) = Err e
 
@@ -113,12 +124,12 @@ take_item s (Load t) = after_load s (join s.image s.lambda t)
 take_item s (Loc a) = Ok (record s { lambda = a })
 take_item s (Skip n) = Ok (record s { lambda = (s.lambda + n) % 2 ^ 64 })
 take_item s (FixOcta a) = with_image s (join_octa s.image a s.lambda)
-take_item s (FixNear n) = with_image s (join s.image (back s.lambda n 0) n)
-take_item s (FixFar bits word) = with_image s (join s.image (far_back s.lambda bits word) word)
+take_item s (FixNear n) = with_image s (join s.image (tetras_before n s.lambda) n)
+take_item s (FixFar bits t) = with_image s (join s.image (far_place s.lambda bits t) t)
 take_item s (File number name) = select s number name
 take_item s (Line n) = if s.selected then Ok (record s { line = n }) else Err NoFile
 take_item s (Spec n) = Ok s
-take_item s (Pre words) = Ok s
+take_item s (Pre tetras) = Ok s
 take_item s (Post g values) = Ok (record s { image = with_globals s.image g values })
 take_item s Stab = Ok s
 

@@ -5,7 +5,7 @@ use Rattle.mx_mmo.specs.declared.items.Item.{Item}
 use Rattle.mx_mmo.specs.declared.items.Item.TheVariants.{Pre, Post, Stab}
 use Rattle.mx_mmo.specs.declared.items.Tail.{Tail}
 use Rattle.mx_mmo.specs.declared.faults.MmoFault.{MmoFault}
-use Rattle.mx_mmo.specs.declared.faults.MmoFault.TheVariants.{NotTetras, BadFields, Truncated, TooLong, NotBuilt}
+use Rattle.mx_mmo.specs.declared.faults.MmoFault.TheVariants.{NotTetras, BadFields, Truncated, TooLong}
 use Rattle.mx_mmo.specs.declared.due.Phase.{Phase}
 use Rattle.mx_mmo.specs.declared.due.Phase.TheVariants.{Start, Middle, Posted, Ended}
 
@@ -46,7 +46,7 @@ feed_answer m piece = feed_next m.fault m piece
 
 -- how far a reader has come after an item
 abbrev pub phase_after : Item → Phase → Phase
-phase_after (Pre words) phase = Middle
+phase_after (Pre tetras) phase = Middle
 phase_after (Post g values) phase = Posted
 phase_after Stab phase = Ended
 phase_after _ phase = phase
@@ -77,9 +77,7 @@ end_count _ = None
 abbrev pub counted_tail : ℕ → List ℕ → Option ℕ → Result Tail MmoFault
 counted_tail at rest None = Err (Truncated (at + length rest))
 counted_tail at rest (Some count) =
-    if count == length rest / 4 - 1
-    then (if length rest == 4 then Ok (record { trie = take (length rest - 4) rest; place = at })
-    else Err (NotBuilt at))
+    if count == length rest / 4 - 1 then Ok (record { trie = take (length rest - 4) rest; place = at })
     else Err (BadFields (at + length rest - 4))
 
 -- what stands behind the items that were given

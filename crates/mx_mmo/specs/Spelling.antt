@@ -22,11 +22,11 @@ bytes_of (Loc a) = address 1 a
 bytes_of (Skip n) = wide_lop 2 n
 bytes_of (FixOcta a) = address 3 a
 bytes_of (FixNear n) = wide_lop 4 n
-bytes_of (FixFar bits word) = lop 5 0 bits ++ tetra_to_bytes word
+bytes_of (FixFar bits t) = lop 5 0 bits ++ tetra_to_bytes t
 bytes_of (File number name) = file number name
 bytes_of (Line n) = wide_lop 7 n
 bytes_of (Spec n) = wide_lop 8 n
-bytes_of (Pre words) = lop 9 1 (length words) ++ flat_map tetra_to_bytes words
+bytes_of (Pre tetras) = lop 9 1 (length tetras) ++ flat_map tetra_to_bytes tetras
 bytes_of (Post g values) = lop 10 0 g ++ flat_map octa_to_bytes values
 bytes_of Stab = lop 11 0 0
 

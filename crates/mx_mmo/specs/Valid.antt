@@ -1,18 +1,9 @@
 -- Which lists of items an object is written from.
 use Rattle.std.specs.Prelude.{◌≡◌, ◌≢◌, ℕ, ◌+◌, ◌^◌, ◌<◌, ◌≤◌, ◌⊎◌, List, [], ◌∷◌, ◌++◌, length, IfSome}
 use Rattle.std.specs.List.{AllByRecursion}
+pub use Rattle.mx_word.specs.Ranges.{AreBytes, AreTetras, AreOctas}
 use Rattle.mx_mmo.specs.declared.items.Item.{Item}
 use Rattle.mx_mmo.specs.declared.items.Item.TheVariants.{Load, Loc, Skip, FixOcta, FixNear, FixFar, File, Line, Spec, Pre, Post, Stab}
-
--- bytes, tetras and octas
-abbrev pub AreBytes : List ℕ → Type 0
-AreBytes bytes = AllByRecursion (λ b. b < 2 ^ 8) bytes
-
-abbrev pub AreTetras : List ℕ → Type 0
-AreTetras words = AllByRecursion (λ t. t < 2 ^ 32) words
-
-abbrev pub AreOctas : List ℕ → Type 0
-AreOctas values = AllByRecursion (λ x. x < 2 ^ 64) values
 
 -- the file names: 1 to 1,020 bytes, the last of them not zero
 pub record IsName (name : List ℕ) : Type 0 where
@@ -28,17 +19,17 @@ Fits (Loc a) = a < 2 ^ 64
 Fits (Skip n) = n < 2 ^ 16
 Fits (FixOcta a) = a < 2 ^ 64
 Fits (FixNear n) = n < 2 ^ 16
-Fits (FixFar bits word) = ((bits ≡ 16) ⊎ (bits ≡ 24)) × (word < 2 ^ 25)
+Fits (FixFar bits t) = ((bits ≡ 16) ⊎ (bits ≡ 24)) × (t < 2 ^ 25)
 Fits (File number name) = (number < 2 ^ 8) × IfSome name IsName
 Fits (Line n) = n < 2 ^ 16
 Fits (Spec n) = n < 2 ^ 16
-Fits (Pre words) = (length words < 2 ^ 8) × AreTetras words
+Fits (Pre tetras) = (length tetras < 2 ^ 8) × AreTetras tetras
 Fits (Post g values) = (32 ≤ g) × (g < 2 ^ 8) × (length values + g ≡ 256) × AreOctas values
 Fits Stab = Unit {0}
 
 -- the items that stand between `pre` and `post`
 abbrev pub IsMiddle : Item → Type 0
-IsMiddle (Pre words) = ⊥
+IsMiddle (Pre tetras) = ⊥
 IsMiddle (Post g values) = ⊥
 IsMiddle Stab = ⊥
 IsMiddle _ = Unit {0}
@@ -55,11 +46,11 @@ SpecsEnd (i ∷ j ∷ more) = MayFollow i j × SpecsEnd (j ∷ more)
 
 -- `pre` stands first and only there, `post` and `stab` are the last two and stand only there
 pub record IsPlaced (items : List Item) : Type 0 where
-  pub words : List ℕ
+  pub tetras : List ℕ
   pub middle : List Item
   pub g : ℕ
   pub values : List ℕ
-  pub whole : items ≡ Pre words ∷ middle ++ Post g values ∷ Stab ∷ []
+  pub whole : items ≡ Pre tetras ∷ middle ++ Post g values ∷ Stab ∷ []
   pub between : AllByRecursion IsMiddle middle
 
 pub record Valid (items : List Item) : Type 0 where

@@ -1,8 +1,9 @@
 -- What whole byte lists are: an object, or the first fault.
-use Rattle.std.specs.Prelude.{◌≡◌, ◌⊎◌, ◌<◌, ℕ, zero, suc, ◌+◌, nat_lt, List, [], ◌∷◌, ◌++◌, length, drop, Option, Some, None, Result, Ok, Err, if◌then◌else◌}
+use Rattle.std.specs.Prelude.{◌≡◌, ℕ, zero, suc, ◌+◌, nat_lt, List, [], ◌∷◌, ◌++◌, length, drop, Option, Some, None, Result, Ok, Err, if◌then◌else◌}
 use Rattle.mx_mmo.specs.Object.{IsObject}
 use Rattle.mx_mmo.specs.Reading.{Due, first_item}
 use Rattle.mx_mmo.specs.Replies.{ReaderModel, phase_after, tail_of, limit}
+use Rattle.mx_mmo.specs.Turns.{StandFirst}
 use Rattle.mx_mmo.specs.declared.items.Item.{Item}
 use Rattle.mx_mmo.specs.declared.items.Tail.{Tail}
 use Rattle.mx_mmo.specs.declared.items.Object.{Object}
@@ -73,8 +74,8 @@ extended (items, Err fault) more = (items, Err fault)
 extended (items, Ok left) more = onto items (items_of left.phase left.at (left.rest ++ more))
 
 -- the items that were given, and those that a reader still gives
-abbrev pub ahead : List Item → ReaderModel → Walk
-ahead items m = onto items (items_of m.phase m.at m.rest)
+abbrev pub with_rest : List Item → ReaderModel → Walk
+with_rest items m = onto items (items_of m.phase m.at m.rest)
 
 abbrev pub left_of : ReaderModel → Left
 left_of m = record { phase = m.phase; at = m.at; rest = m.rest }
@@ -87,11 +88,24 @@ fed m = m.at + length m.rest
 abbrev pub with_more : ReaderModel → List ℕ → ReaderModel
 with_more m more = record m { rest = m.rest ++ more }
 
--- a fault of so many bytes with these items: there are too many, or an item has it
-abbrev pub IsFaultOf : MmoFault → ℕ → Walk → Type 0
-IsFaultOf fault size w = ((limit < size) × (fault ≡ TooLong limit)) ⊎ (w.1 ≡ Err fault)
+-- the bytes of the pieces up to the one with which all of them pass 2^26 bytes, where so many came before
+abbrev pub pieces_within : ℕ → List (List ℕ) → List ℕ
+pieces_within n [] = []
+pieces_within n (piece ∷ pieces) =
+    if nat_lt limit (n + length piece) then [] else piece ++ pieces_within (n + length piece) pieces
+
+-- what is answered where the next piece passes 2^26 bytes: the fault of an item that came before, or that there are too many
+abbrev pub passed_limit : Result Left MmoFault → Result Object MmoFault
+passed_limit (Err fault) = Err fault
+passed_limit (Ok left) = Err (TooLong limit)
 
 -- the bytes are this object in the grammar, and its trie begins where the items end
 pub record SpellsObject (bytes : List ℕ) (object : Object) : Type 0 where
   pub spelled : IsObject bytes object.items object.tail.trie
   pub place : object.tail.place ≡ length spelled.front
+
+-- these items stand first in bytes, and what is left begins where they end
+pub record StandAt (bytes : List ℕ) (items : List Item) (left : Left) : Type 0 where
+  pub front : List ℕ
+  pub first : StandFirst Start bytes items front left.rest
+  pub place : left.at ≡ length front

@@ -19,14 +19,12 @@ pub enum MmoFault {
     Truncated(u64),
     /// More than 2^26 bytes came.
     TooLong(u64),
-    /// An item that is not read yet, or the first byte of a symbol trie.
-    NotBuilt(u64),
     /// There was no memory.
     OutOfMemory,
 }
 
 impl MmoFault {
-    /// The number of the fault; 0 for want of memory.
+    /// The number of the fault; 0 for out of memory.
     pub fn number(&self) -> u16
         ensures { result ≡ number_of self.now }
     {
@@ -37,12 +35,11 @@ impl MmoFault {
             MmoFault::BadFields(_) => 63,
             MmoFault::Truncated(_) => 64,
             MmoFault::TooLong(_) => 65,
-            MmoFault::NotBuilt(_) => 132,
             MmoFault::OutOfMemory => 0,
         }
     }
 
-    /// The byte place in the object that the fault carries; want of memory has none.
+    /// The byte place in the object that the fault carries; out of memory has none.
     pub fn place(&self) -> Option<u64>
         ensures { result ≡ place_of self.now }
     {
@@ -52,8 +49,7 @@ impl MmoFault {
             | MmoFault::BadLop(place)
             | MmoFault::BadFields(place)
             | MmoFault::Truncated(place)
-            | MmoFault::TooLong(place)
-            | MmoFault::NotBuilt(place) => Some(*place),
+            | MmoFault::TooLong(place) => Some(*place),
             MmoFault::OutOfMemory => None,
         }
     }

@@ -16,8 +16,9 @@ pub enum Item {
     FixOcta(u64),
     /// The tetra of this number is joined so many tetras before lambda.
     FixNear(u16),
-    /// The tetra `word` is joined at lambda less four times a distance: the distance is `word`, or
-    /// its low 24 bits less 2^bits where its first byte is 1.
+    /// The tetra `word` is joined at lambda less four times a distance: the distance is that tetra,
+    /// or its low 24 bits less 2^bits where its first byte is 1. `bits` is 16 or 24, and the first
+    /// byte is 0 or 1.
     FixFar { bits: u8, word: u32 },
     /// The source file of this number is selected, and named where a name stands.
     File { number: u8, name: Option<Bytes> },
@@ -25,7 +26,7 @@ pub enum Item {
     Line(u16),
     /// Data of another program, whose tetras are skipped.
     Spec(u16),
-    /// The beginning of an object; the first word is a time.
+    /// The beginning of an object; the first of its tetras is a time.
     Pre(Words),
     /// The values of $G to $255; $255 is the address of Main.
     Post { g: u8, values: Octas },

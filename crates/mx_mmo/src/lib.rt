@@ -6,9 +6,14 @@
 
 mod due;
 mod faults;
+mod input;
 mod items;
+mod laws;
 mod lists;
+mod lops;
+mod parts;
 mod reader;
+mod skipping;
 mod spell;
 mod tail;
 #[cfg(test)]
@@ -19,7 +24,12 @@ mod writer;
 pub use due::Phase;
 pub use faults::MmoFault;
 pub use items::{Item, Object, Tail};
+pub use laws::{
+    faults_are_the_table, items_come_in_turn, items_stand_at_their_places, reading_is_the_grammar,
+    written_is_read,
+};
 pub use lists::{Items, Octas, Words};
+pub use lops::Lop;
 pub use reader::Reader;
-pub use whole::{items_come_in_turn, read, reading_is_the_grammar, written_is_read};
+pub use whole::read;
 pub use writer::Writer;

@@ -5,6 +5,8 @@ ghost use Rattle.mx_mmo.specs.Replies as spec;
 ghost use Rattle.mx_mmo.specs.Valid.{Fits};
 
 use crate::due::{Phase, first_item};
+use crate::input::Input;
+use crate::skipping::Scan;
 use crate::tail::tail_of;
 use crate::{Item, MmoFault, Tail};
 use std::alloc::Global;
@@ -15,14 +17,14 @@ const LIMIT: u64 = 1 << 26;
 
 /// Reads an object whose bytes come in pieces, and gives its items one by one.
 ///
-/// After a fault other than want of memory each call answers that fault again; after want of memory
+/// After a fault other than out of memory each call answers that fault again; after out of memory
 /// the reader is as it was.
 #[derive(Drop)]
 pub struct Reader {
     alloc: Global,
-    /// What was fed; the bytes before `start` were given.
-    buffer: Vec<u8>,
-    start: usize,
+    input: Input,
+    /// How far the tetras behind a spec that stands next were looked through.
+    scan: Scan,
     phase: Phase,
     at: u64,
     place: u64,
@@ -30,30 +32,23 @@ pub struct Reader {
 }
 
 impl Model for Reader {
-    ghost use Rattle.std.specs.Prelude.{◌≤◌, ◌+◌, ◌^◌, length, drop};
+    ghost use Rattle.std.specs.Prelude.{◌≡◌, ◌≤◌, ◌+◌, ◌^◌, Some, false, length, drop, take};
     ghost use Rattle.mx_mmo.specs.Replies.{ReaderModel};
+    ghost use Rattle.mx_mmo.specs.Skipping.{quoted_behind};
 
     ghost Value = { ReaderModel };
 
     ghost view = { λ r. record {
-      rest = drop r.start r.buffer.items;
+      rest = r.input;
       phase = r.phase;
       at = r.at;
       place = r.place;
       fault = r.fault;
     } };
 
-    ghost invariant = { λ r. (r.start ≤ length r.buffer.items) ×
-        (r.at + length r.buffer.items ≤ 2 ^ 26 + r.start) };
-}
-
-/// Takes away the bytes before a place.
-fn drop_front(bytes: &mut Vec<u8>, count: usize)
-    requires { count ≤ length bytes.old.items }
-    ensures { bytes.new.items ≡ drop count bytes.old.items }
-{
-    bytes.copy_within(count.., 0);
-    bytes.truncate(bytes.len() - count);
+    ghost invariant = { λ r. (r.at + length r.input ≤ 2 ^ 26) ×
+        (r.scan.size ≤ length (drop 4 r.input)) ×
+        (quoted_behind false (take r.scan.size (drop 4 r.input)) ≡ Some r.scan.quoted) };
 }
 
 /// How far a reader has come after an item.
@@ -75,8 +70,8 @@ impl Reader {
     {
         Reader {
             alloc,
-            buffer: Vec::new(alloc),
-            start: 0,
+            input: Input::new(alloc),
+            scan: Scan::start(),
             phase: Phase::Start,
             at: 0,
             place: 0,
@@ -97,7 +92,6 @@ impl Reader {
         if self.end() + piece.len() as u64 > LIMIT {
             return self.refuse(MmoFault::TooLong(LIMIT));
         }
-        self.make_room();
         self.hold(piece)
     }
 
@@ -109,13 +103,25 @@ impl Reader {
         ensures memory { result ≡ Err MmoFault.OutOfMemory → self.new ≡ self.old }
         ensures again { IfSome self.old.fault (λ fault. result ≡ Err fault) }
         ensures fits { IfOk result (λ item. IfSome item Fits) }
+        ensures place { IfOk result (λ item. OnSome item (self.new.place ≡ self.old.at)) }
         ensures shorter { IfOk result (λ item. OnSome item (length self.new.rest < length self.old.rest)) }
     {
         if let Some(fault) = self.fault {
             return Err(fault);
         }
-        match first_item(self.alloc, self.phase, self.at, &self.buffer[self.start..]) {
-            Ok(None) => Ok(None),
+        let mut scan = self.scan;
+        let due = first_item(
+            self.alloc,
+            &mut scan,
+            self.phase,
+            self.at,
+            self.input.bytes(),
+        );
+        match due {
+            Ok(None) => {
+                self.scan = scan;
+                Ok(None)
+            }
             Ok(Some((item, size))) => {
                 self.advance(&item, size);
                 Ok(Some(item))
@@ -138,11 +144,12 @@ impl Reader {
             (result, self.new) ≡ spec.finish_answer self.old }
         ensures memory { result ≡ Err MmoFault.OutOfMemory → self.new ≡ self.old }
         ensures again { IfSome self.old.fault (λ fault. result ≡ Err fault) }
+        ensures place { IfOk result (λ tail. tail.place ≤ 2 ^ 26) }
     {
         if let Some(fault) = self.fault {
             return Err(fault);
         }
-        match tail_of(self.alloc, self.phase, self.at, &self.buffer[self.start..]) {
+        match tail_of(self.alloc, self.phase, self.at, self.input.bytes()) {
             Ok(tail) => Ok(tail),
             Err(MmoFault::OutOfMemory) => Err(MmoFault::OutOfMemory),
             Err(fault) => self.refuse(fault),
@@ -162,7 +169,8 @@ impl Reader {
         requires { size ≤ length self.old.rest }
         ensures { self.new ≡ spec.given self.old item.now size }
     {
-        self.start += size;
+        self.input.advance(size);
+        self.scan = Scan::start();
         self.place = self.at;
         self.at += size as u64;
         self.phase = phase_after(item, self.phase);
@@ -173,7 +181,7 @@ impl Reader {
         ensures count { result ≡ self.now.at + length self.now.rest }
         ensures most { result ≤ 2 ^ 26 }
     {
-        self.at + (self.buffer.len() - self.start) as u64
+        self.at + self.input.len() as u64
     }
 
     /// Holds a piece more.
@@ -183,20 +191,9 @@ impl Reader {
         ensures err { OnErr result (self.new ≡ self.old) }
         ensures memory { IfErr result (λ e. e ≡ MmoFault.OutOfMemory) }
     {
-        match self.buffer.extend_from_slice(piece) {
+        match self.input.add(piece) {
             Ok(()) => Ok(()),
             Err(_) => Err(MmoFault::OutOfMemory),
-        }
-    }
-
-    /// Lets go of the bytes that were given, once they are half of what is held, so that all moves
-    /// together cost no more than the input.
-    fn make_room(&mut self)
-        ensures { self.new ≡ self.old }
-    {
-        if self.start >= self.buffer.len() - self.start {
-            drop_front(&mut self.buffer, self.start);
-            self.start = 0;
         }
     }
 }

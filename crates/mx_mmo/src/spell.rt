@@ -54,12 +54,12 @@ fn append_octa(bytes: &mut Vec<u8>, x: u64) -> Result<(), NoMemory>
 }
 
 /// Adds tetras. Where there is no memory, what was there before still stands in front.
-fn append_tetras(bytes: &mut Vec<u8>, words: &[u32]) -> Result<(), NoMemory>
-    ensures ok { OnOk result (bytes.new.items ≡ bytes.old.items ++ flat_map tetra_to_bytes words.now) }
+fn append_tetras(bytes: &mut Vec<u8>, tetras: &[u32]) -> Result<(), NoMemory>
+    ensures ok { OnOk result (bytes.new.items ≡ bytes.old.items ++ flat_map tetra_to_bytes tetras.now) }
     ensures err { OnErr result (take (length bytes.old.items) bytes.new.items ≡ bytes.old.items) }
 {
-    for word in words {
-        append_tetra(bytes, *word)?;
+    for tetra in tetras {
+        append_tetra(bytes, *tetra)?;
     }
     Ok(())
 }
@@ -157,14 +157,14 @@ fn append_file(bytes: &mut Vec<u8>, number: u8, name: &Option<Bytes>) -> Result<
 }
 
 /// Adds a lopcode that is followed by tetras.
-fn append_pre(bytes: &mut Vec<u8>, words: &[u32]) -> Result<(), NoMemory>
-    requires { length words.now < 2 ^ 8 }
+fn append_pre(bytes: &mut Vec<u8>, tetras: &[u32]) -> Result<(), NoMemory>
+    requires { length tetras.now < 2 ^ 8 }
     ensures ok { OnOk result (bytes.new.items ≡
-        bytes.old.items ++ (lop 9 1 (length words.now) ++ flat_map tetra_to_bytes words.now)) }
+        bytes.old.items ++ (lop 9 1 (length tetras.now) ++ flat_map tetra_to_bytes tetras.now)) }
     ensures err { OnErr result (take (length bytes.old.items) bytes.new.items ≡ bytes.old.items) }
 {
-    append_lop(bytes, 9, 1, words.len() as u8)?;
-    append_tetras(bytes, words)
+    append_lop(bytes, 9, 1, tetras.len() as u8)?;
+    append_tetras(bytes, tetras)
 }
 
 /// Adds the values of the global registers from one on.
@@ -194,7 +194,7 @@ pub fn append_item(bytes: &mut Vec<u8>, item: &Item) -> Result<(), NoMemory>
         Item::File { number, name } => append_file(bytes, *number, name),
         Item::Line(n) => append_wide_lop(bytes, 7, *n),
         Item::Spec(n) => append_wide_lop(bytes, 8, *n),
-        Item::Pre(words) => append_pre(bytes, words.as_slice()),
+        Item::Pre(tetras) => append_pre(bytes, tetras.as_slice()),
         Item::Post { g, values } => append_post(bytes, *g, values.as_slice()),
         Item::Stab => append_lop(bytes, 11, 0, 0),
     }

@@ -33,9 +33,6 @@ fn counted_tail(
     if usize::from(count) != rest.len() / 4 - 1 {
         return Err(MmoFault::BadFields(at + size as u64));
     }
-    if rest.len() != 4 {
-        return Err(MmoFault::NotBuilt(at));
-    }
     match Bytes::copy(alloc, &rest[..size]) {
         Ok(trie) => Ok(Tail { trie, place: at }),
         Err(_) => Err(MmoFault::OutOfMemory),

@@ -1,17 +1,20 @@
-//! Objects from outside.
+//! Objects from outside: those of three programs, and one as other tools write them.
 
 ghost use Rattle.std.specs.Prelude.{◌<◌};
 
-use crate::{Item, Items, MmoFault, Object, Octas, Reader, Words, Writer, read};
+use crate::{Item, MmoFault, Object, Reader, Writer, read};
 use mx_word::{Bytes, NoMemory, tetra_bytes};
 use std::alloc::Global;
 
-/// The object of a small program: `hi` and a newline at #100, and three instructions.
-const SMALL: [u32; 13] = [
+/// The object of `first.mms`: `hi` and a newline at #100, and three instructions.
+const FIRST: [u32; 22] = [
     0x9809_0101,
     0,
+    0x9806_0001,
+    0x2e6d_6d73,
     0x9801_0001,
     0x100,
+    0x9807_0002,
     0x6869_0a00,
     0xf5ff_ffff,
     0x0000_0701,
@@ -20,7 +23,145 @@ const SMALL: [u32; 13] = [
     0,
     0x104,
     0x980b_0000,
-    0x980c_0000,
+    0x203a_304d,
+    0x2061_2069,
+    0x026e_0104,
+    0x8220_5420,
+    0x6520_7802,
+    0x7401_0081,
+    0x980c_0006,
+];
+
+/// The object of `hello.mms`.
+const HELLO: [u32; 31] = [
+    0x9809_0101,
+    0,
+    0x9806_0001,
+    0x2e6d_6d73,
+    0x9801_0001,
+    0x100,
+    0x9807_0003,
+    0x8fff_0100,
+    0x0000_0701,
+    0xf4ff_0000,
+    0x0000_0701,
+    0,
+    0x9804_0003,
+    0x2c20_776f,
+    0x726c_640a,
+    0,
+    0x980a_00ff,
+    0,
+    0x100,
+    0x980b_0000,
+    0x203a_304d,
+    0x2061_2069,
+    0x026e_0100,
+    0x8230_5320,
+    0x7420_7220,
+    0x6920_6e02,
+    0x6701_1483,
+    0x2061_2072,
+    0x2067_0f76,
+    0x0181_0000,
+    0x980c_000a,
+];
+
+/// An object with a time and a trie that has left subtries.
+const TIMED: [u32; 15] = [
+    0x9809_0101,
+    0x36f4_a363,
+    0x9801_0001,
+    0x100,
+    0,
+    0x980a_00ff,
+    0,
+    0x100,
+    0x980b_0000,
+    0x203a_4040,
+    0x1040_4020,
+    0x4d20_6120,
+    0x6901_6e00,
+    0x8100_0000,
+    0x980c_0005,
+];
+
+/// An object as another tool may write it: an empty spec, a name with more zeros than it needs, a
+/// quote that is not needed, long addresses, each kind of fix, a file that is selected again, a
+/// spec that holds quotes, values that begin with #98, and a trie of one node without a symbol.
+const OTHER: [u32; 39] = [
+    0x9809_0100,
+    0x9808_0000,
+    0x9806_0102,
+    0x6162_0000,
+    0,
+    0x9807_0005,
+    0x9800_0001,
+    1,
+    0x9801_0002,
+    0,
+    0x200,
+    0x9801_2002,
+    0,
+    8,
+    0x9802_0010,
+    0x9804_0002,
+    0x9805_0010,
+    0x0100_fffe,
+    0x9805_0018,
+    3,
+    0x9803_0002,
+    0,
+    0x100,
+    0x9806_0100,
+    0x9808_0050,
+    0x1234_5678,
+    0x9800_0001,
+    0x980b_0000,
+    0x9800_0001,
+    0x9808_0051,
+    0x9808_0051,
+    0x980a_00fe,
+    0x9800_0000,
+    0,
+    0x9801_0001,
+    0x100,
+    0x980b_0000,
+    0,
+    0x980c_0001,
+];
+
+/// The same items as this writer writes them.
+const OTHER_WRITTEN: [u32; 29] = [
+    0x9809_0100,
+    0x9808_0000,
+    0x9806_0101,
+    0x6162_0000,
+    0x9807_0005,
+    1,
+    0x9801_0001,
+    0x200,
+    0x9801_2001,
+    8,
+    0x9802_0010,
+    0x9804_0002,
+    0x9805_0010,
+    0x0100_fffe,
+    0x9805_0018,
+    3,
+    0x9803_0001,
+    0x100,
+    0x9806_0100,
+    0x9808_0050,
+    0x9808_0051,
+    0x980a_00fe,
+    0x9800_0000,
+    0,
+    0x9801_0001,
+    0x100,
+    0x980b_0000,
+    0,
+    0x980c_0001,
 ];
 
 /// The bytes of tetras, and some bytes behind them.
@@ -39,20 +180,71 @@ fn pieces(alloc: Global, bytes: &[u8], size: usize) -> Result<Vec<Bytes>, NoMemo
 {
     let mut pieces = Vec::new(alloc);
     for piece in bytes.chunks(size) {
-        match pieces.push(Bytes::copy(alloc, piece)?) {
-            Ok(()) => {}
-            Err(_) => return Err(NoMemory),
-        }
+        pieces.push(Bytes::copy(alloc, piece)?)?;
     }
     Ok(pieces)
 }
 
-/// Whether an object is that of the small program.
-fn is_small(object: &Object) -> bool {
+/// Gives the items that are whole to a writer.
+fn put_items(reader: &mut Reader, writer: &mut Writer, most: usize) -> Result<(), MmoFault> {
+    for _ in 0..most {
+        match reader.next()? {
+            Some(item) => writer.put(&item)?,
+            None => return Ok(()),
+        }
+    }
+    Ok(())
+}
+
+/// The object of bytes that come in pieces of a size, written again.
+fn written_again(alloc: Global, bytes: &[u8], size: usize) -> Result<Bytes, MmoFault>
+    requires { 0 < size }
+{
+    let mut reader = Reader::new(alloc);
+    let mut writer = Writer::new(alloc);
+    for piece in bytes.chunks(size) {
+        reader.feed(piece)?;
+        put_items(&mut reader, &mut writer, bytes.len())?;
+    }
+    let tail = reader.finish()?;
+    let trie = tail.trie.as_slice();
+    if trie.len() % 4 != 0 || trie.len() / 4 >= 1 << 16 {
+        return Err(MmoFault::Truncated(tail.place));
+    }
+    writer.end(trie)
+}
+
+#[test]
+fn read_and_written(rt: HostRuntime) {
+    let alloc = rt.alloc();
+    let rows: [(&[u32], &[u32]); 4] = [
+        (&FIRST, &FIRST),
+        (&HELLO, &HELLO),
+        (&TIMED, &TIMED),
+        (&OTHER, &OTHER_WRITTEN),
+    ];
+    for (tetras, want) in rows {
+        let bytes = object(alloc, tetras, &[]).expect(&rt, "memory");
+        let want = object(alloc, want, &[]).expect(&rt, "memory");
+        for size in [1000, 1, 7] {
+            let found = written_again(alloc, bytes.as_slice(), size);
+            let same = found.is_ok_and(|found| found.as_slice() == want.as_slice());
+            assert!(rt; same, "in pieces of {size}");
+        }
+    }
+}
+
+/// Whether an object is that of `first.mms`.
+fn is_first(object: &Object) -> bool {
     match object.items.as_slice() {
         [
-            Item::Pre(words),
+            Item::Pre(time),
+            Item::File {
+                number: 0,
+                name: Some(name),
+            },
             Item::Loc(0x100),
+            Item::Line(2),
             Item::Load(0x6869_0a00),
             Item::Load(0xf5ff_ffff),
             Item::Load(0x0000_0701),
@@ -60,13 +252,55 @@ fn is_small(object: &Object) -> bool {
             Item::Post { g: 255, values },
             Item::Stab,
         ] => {
-            words.as_slice() == [0].as_slice()
+            time.as_slice() == [0].as_slice()
+                && name.as_slice() == b".mms".as_slice()
                 && values.as_slice() == [0x104].as_slice()
-                && object.tail.trie.as_slice().is_empty()
-                && object.tail.place == 48
+                && object.tail.place == 60
+                && object.tail.trie.as_slice().len() == 24
         }
         _ => false,
     }
+}
+
+#[test]
+fn first_in_pieces(rt: HostRuntime) {
+    let alloc = rt.alloc();
+    let bytes = object(alloc, &FIRST, &[]).expect(&rt, "memory");
+    for size in [88, 1, 7] {
+        let pieces = pieces(alloc, bytes.as_slice(), size).expect(&rt, "memory");
+        let found = read(alloc, pieces.as_slice());
+        assert!(rt;
+            found.is_ok_and(|object| is_first(&object)),
+            "in pieces of {size}"
+        );
+    }
+}
+
+/// A name of 1,020 bytes, in an object that stops behind it.
+#[test]
+fn longest_name(rt: HostRuntime) {
+    let alloc = rt.alloc();
+    let mut bytes = object(alloc, &[0x9809_0100, 0x9806_00ff], &[]).expect(&rt, "memory");
+    for _ in 0..255 {
+        assert!(rt; bytes.extend(b"aaaa").is_ok());
+    }
+    let mut reader = Reader::new(alloc);
+    assert!(rt; reader.feed(bytes.as_slice()).is_ok());
+    assert!(rt; matches!(reader.next(), Ok(Some(Item::Pre(_)))));
+    let found = reader.next();
+    let Ok(
+        Some(
+            Item::File {
+                number: 0,
+                name: Some(name),
+            },
+        ),
+    ) = found
+    else {
+        assert!(rt; false, "no file");
+        return;
+    };
+    assert_eq!(rt; name.as_slice().len(), 1020);
 }
 
 /// What reading refuses: the fault's number and place.
@@ -81,24 +315,10 @@ fn refusal(alloc: Global, bytes: &[u8], size: usize) -> Result<Option<(u16, Opti
 }
 
 #[test]
-fn small_object_in_pieces(rt: HostRuntime) {
-    let alloc = rt.alloc();
-    let bytes = object(alloc, &SMALL, &[]).expect(&rt, "memory");
-    for size in [52, 1, 7] {
-        let pieces = pieces(alloc, bytes.as_slice(), size).expect(&rt, "memory");
-        let found = read(alloc, pieces.as_slice());
-        assert!(rt;
-            found.is_ok_and(|object| is_small(&object)),
-            "in pieces of {size}"
-        );
-    }
-}
-
-#[test]
 fn first_faults(rt: HostRuntime) {
     let alloc = rt.alloc();
     let pre = 0x9809_0100;
-    let rows: [(&[u32], &[u8], u16, u64); 17] = [
+    let rows: [(&[u32], &[u8], u16, u64); 24] = [
         // no bytes; a first tetra that is no `pre`; one with Y = 2; `post` before `pre`
         (&[], &[], 64, 0),
         (&[0], &[], 61, 0),
@@ -109,16 +329,23 @@ fn first_faults(rt: HostRuntime) {
         (&[pre, pre], &[], 62, 4),
         (&[pre, 0x980b_0000], &[], 62, 4),
         (&[pre, 0x980c_0000], &[], 62, 4),
-        // wrong fields: of an address, a quote and of `post`; a wrong count in `end`
+        // wrong fields: of addresses, a quote, far fixes, `post` and `stab`
         (&[pre, 0x9801_0003], &[], 63, 4),
+        (&[pre, 0x9803_0000], &[], 63, 4),
         (&[pre, 0x9800_0002], &[], 63, 4),
+        (&[pre, 0x9805_0011], &[], 63, 4),
+        (&[pre, 0x9805_0110], &[], 63, 4),
         (&[pre, 0x980a_001f], &[], 63, 4),
-        (
-            &[pre, 0x980a_00ff, 0, 0, 0x980b_0000, 0x980c_0001],
-            &[],
-            63,
-            20,
-        ),
+        (&[pre, 0x980a_00ff, 0, 0, 0x980b_0001], &[], 63, 16),
+        // a far fix whose tetra begins with 2, and one without its tetra
+        (&[pre, 0x9805_0010, 0x0200_0000], &[], 63, 4),
+        (&[pre, 0x9805_0010], &[], 64, 8),
+        // a name of zeros, and one that is cut off
+        (&[pre, 0x9806_0002, 0, 0], &[], 63, 4),
+        (&[pre, 0x9806_0002, 0], &[], 64, 12),
+        // a spec that a quote with YZ = 2 ends, and one that nothing ends
+        (&[pre, 0x9808_0000, 1, 0x9800_0002], &[], 63, 12),
+        (&[pre, 0x9808_0000, 0x9800_0001, 0x980b_0000], &[], 64, 16),
         // a byte over; an item that is cut off; a tetra behind `end`
         (&[0x9809_0101, 0], &[0x98], 60, 8),
         (&[pre, 0x980a_00ff, 0], &[], 64, 12),
@@ -127,14 +354,6 @@ fn first_faults(rt: HostRuntime) {
             &[],
             64,
             28,
-        ),
-        // an item that is not read yet; a trie
-        (&[pre, 0x9807_0001], &[], 132, 4),
-        (
-            &[pre, 0x980a_00ff, 0, 0, 0x980b_0000, 0, 0x980c_0001],
-            &[],
-            132,
-            20,
         ),
     ];
     for (tetras, more, number, place) in rows {
@@ -150,50 +369,32 @@ fn first_faults(rt: HostRuntime) {
     }
 }
 
-/// The small object as a writer writes it, and one with a quoted tetra and a far address.
-fn written(alloc: Global) -> Result<(Bytes, Bytes), MmoFault> {
-    let mut words = Words::new(alloc);
-    let mut values = Octas::new(alloc);
-    if words.push(0).is_err() || values.push(0x104).is_err() {
-        return Err(MmoFault::OutOfMemory);
-    }
-    let mut writer = Writer::new(alloc);
-    writer.put(&Item::Pre(words))?;
-    writer.put(&Item::Loc(0x100))?;
-    writer.put(&Item::Load(0x6869_0a00))?;
-    writer.put(&Item::Load(0xf5ff_ffff))?;
-    writer.put(&Item::Load(0x0000_0701))?;
-    writer.put(&Item::Load(0))?;
-    writer.put(&Item::Post { g: 255, values })?;
-    writer.put(&Item::Stab)?;
-    let small = writer.end(&[])?;
-    let mut writer = Writer::new(alloc);
-    writer.put(&Item::Loc(0x2000_0000_0000_0000))?;
-    writer.put(&Item::Load(0x9800_0000))?;
-    writer.put(&Item::Loc(0x2000_0001_0000_0000))?;
-    Ok((small, writer.so_far()))
-}
-
+/// An object that is cut off anywhere, or that goes on behind its end.
 #[test]
-fn writes_objects(rt: HostRuntime) {
+fn cut_objects(rt: HostRuntime) {
     let alloc = rt.alloc();
-    let Ok((small, far)) = written(alloc) else {
-        assert!(rt; false, "want of memory");
-        return;
-    };
-    let bytes = object(alloc, &SMALL, &[]).expect(&rt, "memory");
-    assert!(rt; small.as_slice() == bytes.as_slice());
-    let tetras = [
-        0x9801_2001,
-        0,
-        0x9800_0001,
-        0x9800_0000,
-        0x9801_0002,
-        0x2000_0001,
-        0,
-    ];
+    let bytes = object(alloc, &HELLO, &[]).expect(&rt, "memory");
+    for n in 0..124usize {
+        let front = bytes.as_slice().get(..n).expect(&rt, "124 bytes");
+        let found = refusal(alloc, front, 200).expect(&rt, "memory");
+        let want = if n % 4 == 0 {
+            (64, Some(n as u64))
+        } else {
+            (60, Some((4 * (n / 4)) as u64))
+        };
+        assert_eq!(rt; found, Some(want), "of {n} bytes");
+    }
+    for (more, number, place) in [([0, 0, 0, 0], 64, 128), ([0x98, 12, 0, 10], 63, 124)] {
+        let bytes = object(alloc, &HELLO, &more).expect(&rt, "memory");
+        let found = refusal(alloc, bytes.as_slice(), 200).expect(&rt, "memory");
+        assert_eq!(rt; found, Some((number, Some(place))));
+    }
+    // a count that is wrong by one
+    let mut tetras = TIMED;
+    tetras[14] = 0x980c_0004;
     let bytes = object(alloc, &tetras, &[]).expect(&rt, "memory");
-    assert!(rt; far.as_slice() == bytes.as_slice());
+    let found = refusal(alloc, bytes.as_slice(), 200).expect(&rt, "memory");
+    assert_eq!(rt; found, Some((63, Some(56))));
 }
 
 #[test]
@@ -206,16 +407,27 @@ fn reads_item_by_item(rt: HostRuntime) {
     assert!(rt; matches!(reader.next(), Ok(Some(Item::Pre(_)))));
     assert!(rt; matches!(reader.next(), Ok(Some(Item::Loc(0x2000_0000_0000_0008)))));
     assert_eq!(rt; reader.place(), 8);
+    // a spec is whole with the lopcode that ends it, and a quote is none
+    assert!(rt;
+        reader
+            .feed(b"\x98\x08\0\x50\x98\0\0\x01\x98\x04\0\x07\x98\x04\0")
+            .is_ok()
+    );
+    assert!(rt; matches!(reader.next(), Ok(None)));
+    assert!(rt; reader.feed(b"\x02").is_ok());
+    assert!(rt; matches!(reader.next(), Ok(Some(Item::Spec(80)))));
+    assert_eq!(rt; reader.place(), 16);
+    assert!(rt; matches!(reader.next(), Ok(Some(Item::FixNear(2)))));
     // an input that ends before `stab`, and the same fault at each later call
-    assert!(rt; matches!(reader.finish(), Err(MmoFault::Truncated(16))));
-    assert!(rt; matches!(reader.next(), Err(MmoFault::Truncated(16))));
-    assert!(rt; matches!(reader.feed(&[]), Err(MmoFault::Truncated(16))));
+    assert!(rt; matches!(reader.finish(), Err(MmoFault::Truncated(32))));
+    assert!(rt; matches!(reader.next(), Err(MmoFault::Truncated(32))));
+    assert!(rt; matches!(reader.feed(&[]), Err(MmoFault::Truncated(32))));
 }
 
-/// Items that are put into a list.
 #[test]
-fn lists_hold_items(rt: HostRuntime) {
-    let mut items = Items::new(rt.alloc());
-    assert!(rt; items.push(Item::Stab).is_ok());
-    assert!(rt; matches!(items.as_slice(), [Item::Stab]));
+fn written_so_far(rt: HostRuntime) {
+    let mut writer = Writer::new(rt.alloc());
+    assert!(rt; writer.put(&Item::Load(0x9800_0000)).is_ok());
+    let bytes = writer.so_far();
+    assert!(rt; bytes.as_slice() == b"\x98\0\0\x01\x98\0\0\0".as_slice());
 }

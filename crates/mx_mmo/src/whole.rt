@@ -1,8 +1,7 @@
 //! Reading a whole object.
 
-ghost use Rattle.std.specs.Prelude.{◌≡◌, ◌≢◌, ◌<◌, ◌≤◌, ◌+◌, None, true, false, length, [], Some, IfOk, IfErr, OnOk, IsErrAnd, List, ℕ, ◌++◌};
-ghost use Rattle.std.specs.List.{AllByRecursion, concat};
-ghost use Rattle.mx_mmo.specs.Object.{IsBuilt};
+ghost use Rattle.std.specs.Prelude.{◌≡◌, ◌≢◌, ◌<◌, ◌≤◌, ◌+◌, None, true, false, length, [], Some, IfOk, IfErr, OnOk, List, ℕ, ◌++◌, ◌%◌, ◌/◌, ◌^◌};
+ghost use Rattle.std.specs.List.{concat};
 ghost use Rattle.mx_mmo.specs.Reading.{first_item};
 ghost use Rattle.mx_mmo.specs.Replies.{limit};
 ghost use Rattle.mx_mmo.specs.Spelling.{ending, written};
@@ -10,7 +9,7 @@ ghost use Rattle.mx_mmo.specs.Valid.{AreBytes, Valid};
 ghost use Rattle.mx_mmo.specs.declared.items.Item.{Item};
 ghost use Rattle.mx_mmo.specs.declared.items.Object.{Object};
 ghost use Rattle.mx_mmo.specs.declared.due.Phase.{Phase};
-ghost use Rattle.mx_mmo.specs.Whole.{IsFaultOf, SpellsObject, ahead, extended, fed, items_of, left_of, object_fault, object_of, walk_on, with_more};
+ghost use Rattle.mx_mmo.specs.Whole.{SpellsObject, extended, fed, items_of, left_of, object_fault, object_of, passed_limit, pieces_within, walk_on, with_more, with_rest};
 
 use crate::{Items, MmoFault, Object, Phase, Reader};
 use mx_word::Bytes;
@@ -19,14 +18,14 @@ use std::alloc::Global;
 /// Takes the next item, where a whole one stands next.
 fn take_one(reader: &mut Reader, items: &mut Items) -> Result<bool, MmoFault>
     requires { reader.old.fault ≡ None }
-    ensures same { result ≡ Ok true → ahead items.new reader.new ≡ ahead items.old reader.old }
+    ensures same { result ≡ Ok true → with_rest items.new reader.new ≡ with_rest items.old reader.old }
     ensures last { result ≡ Ok false →
-        ahead items.old reader.old ≡ (items.new, Ok (left_of reader.new)) }
+        with_rest items.old reader.old ≡ (items.new, Ok (left_of reader.new)) }
     ensures less { result ≡ Ok true → length reader.new.rest < length reader.old.rest }
     ensures well { OnOk result (reader.new.fault ≡ None) }
     ensures end { OnOk result (fed reader.new ≡ fed reader.old) }
     ensures fault { result ≢ Err MmoFault.OutOfMemory →
-        IfErr result (λ f. (ahead items.old reader.old).1 ≡ Err f) }
+        IfErr result (λ f. (with_rest items.old reader.old).1 ≡ Err f) }
 {
     match reader.next() {
         Ok(Some(item)) => match items.push(item) {
@@ -41,11 +40,11 @@ fn take_one(reader: &mut Reader, items: &mut Items) -> Result<bool, MmoFault>
 /// Takes all items that are whole in what was fed.
 fn take_all(reader: &mut Reader, items: &mut Items) -> Result<(), MmoFault>
     requires { reader.old.fault ≡ None }
-    ensures last { OnOk result (ahead items.old reader.old ≡ (items.new, Ok (left_of reader.new))) }
+    ensures last { OnOk result (with_rest items.old reader.old ≡ (items.new, Ok (left_of reader.new))) }
     ensures well { OnOk result (reader.new.fault ≡ None) }
     ensures end { OnOk result (fed reader.new ≡ fed reader.old) }
     ensures fault { result ≢ Err MmoFault.OutOfMemory →
-        IfErr result (λ f. (ahead items.old reader.old).1 ≡ Err f) }
+        IfErr result (λ f. (with_rest items.old reader.old).1 ≡ Err f) }
 {
     loop {
         match take_one(reader, items) {
@@ -59,15 +58,16 @@ fn take_all(reader: &mut Reader, items: &mut Items) -> Result<(), MmoFault>
 /// Feeds the next piece, and takes all items that are whole then.
 fn take_piece(reader: &mut Reader, items: &mut Items, piece: &[u8]) -> Result<(), MmoFault>
     requires { reader.old.fault ≡ None }
-    ensures last { OnOk result (ahead items.old (with_more reader.old piece.now)
+    ensures last { OnOk result (with_rest items.old (with_more reader.old piece.now)
         ≡ (items.new, Ok (left_of reader.new))) }
     ensures well { OnOk result (reader.new.fault ≡ None) }
     ensures end { OnOk result (fed reader.new ≡ fed reader.old + length piece.now) }
     ensures most { OnOk result (fed reader.old + length piece.now ≤ limit) }
     ensures bytes { AreBytes piece.now }
-    ensures fault { result ≢ Err MmoFault.OutOfMemory →
-        IfErr result (λ f. IsFaultOf f (fed reader.old + length piece.now)
-        (ahead items.old (with_more reader.old piece.now))) }
+    ensures long { limit < fed reader.old + length piece.now → result ≢ Err MmoFault.OutOfMemory →
+        result ≡ Err (MmoFault.TooLong limit) }
+    ensures fault { fed reader.old + length piece.now ≤ limit → result ≢ Err MmoFault.OutOfMemory →
+        IfErr result (λ f. (with_rest items.old (with_more reader.old piece.now)).1 ≡ Err f) }
 {
     match reader.feed(piece) {
         Ok(()) => take_all(reader, items),
@@ -80,8 +80,7 @@ fn read_pieces(alloc: Global, pieces: &[Bytes]) -> Result<Object, MmoFault>
     ensures exact { length (concat pieces.now) ≤ limit → result ≢ Err MmoFault.OutOfMemory →
         result ≡ object_of (concat pieces.now) }
     ensures long { limit < length (concat pieces.now) → result ≢ Err MmoFault.OutOfMemory →
-        IsErrAnd result (λ f. IsFaultOf f (length (concat pieces.now))
-        (items_of Phase.Start 0 (concat pieces.now))) }
+        result ≡ passed_limit (items_of Phase.Start 0 (pieces_within 0 pieces.now)).1 }
     ensures bytes { OnOk result (AreBytes (concat pieces.now)) }
 {
     let mut reader = Reader::new(alloc);
@@ -103,15 +102,13 @@ pub fn read(alloc: Global, pieces: &[Bytes]) -> Result<Object, MmoFault>
     // However the bytes are cut into pieces, the object is that of all bytes, and so is the fault.
     ensures exact { length (concat pieces.now) ≤ limit → result ≢ Err MmoFault.OutOfMemory →
         result ≡ object_of (concat pieces.now) }
-    // Too many bytes are refused as such, unless an item before has a fault.
+    // Too many bytes are refused as such, unless an item in the pieces before has a fault.
     ensures long { limit < length (concat pieces.now) → result ≢ Err MmoFault.OutOfMemory →
-        IsErrAnd result (λ f. IsFaultOf f (length (concat pieces.now))
-        (items_of Phase.Start 0 (concat pieces.now))) }
+        result ≡ passed_limit (items_of Phase.Start 0 (pieces_within 0 pieces.now)).1 }
     // What is read is in the grammar of objects.
     ensures found { IfOk result (λ object. SpellsObject (concat pieces.now) object) }
-    // What is in the grammar is read, as long as all of it is read so far.
+    // What is in the grammar is read.
     ensures only { (object : Object) → SpellsObject (concat pieces.now) object →
-        AllByRecursion IsBuilt object.items → object.tail.trie ≡ [] →
         length (concat pieces.now) ≤ limit → result ≢ Err MmoFault.OutOfMemory → result ≡ Ok object }
     // A fault is the first one.
     ensures fault { length (concat pieces.now) ≤ limit → result ≢ Err MmoFault.OutOfMemory →
@@ -119,33 +116,3 @@ pub fn read(alloc: Global, pieces: &[Bytes]) -> Result<Object, MmoFault>
 {
     read_pieces(alloc, pieces)
 }
-
-/// What a writer writes of valid items is read again as these items and this trie, as long as all
-/// of it is read so far.
-pub fn written_is_read()
-    ensures { (items : List Item) (trie : List ℕ) → Valid items → AllByRecursion IsBuilt items →
-        trie ≡ [] → length (written items ++ ending trie) ≤ limit →
-        object_of (written items ++ ending trie) ≡ Ok (record {
-          items = items;
-          tail = record { trie = trie; place = length (written items) };
-        }) }
-{}
-
-/// What is read is in the grammar of objects, and what is in the grammar is read, as long as all of
-/// it is read so far.
-pub fn reading_is_the_grammar()
-    ensures found { (bytes : List ℕ) (object : Object) → AreBytes bytes →
-        object_of bytes ≡ Ok object → SpellsObject bytes object }
-    ensures only { (bytes : List ℕ) (object : Object) → SpellsObject bytes object →
-        AllByRecursion IsBuilt object.items → object.tail.trie ≡ [] → length bytes ≤ limit →
-        object_of bytes ≡ Ok object }
-{}
-
-/// The items of bytes are the first one and those of the bytes behind it; and where more bytes come,
-/// the items before stay, and the walk goes on with what was left.
-pub fn items_come_in_turn()
-    ensures first { (phase : Phase) (at : ℕ) (bytes : List ℕ) →
-        items_of phase at bytes ≡ walk_on items_of phase at bytes (first_item phase at bytes) }
-    ensures more { (phase : Phase) (at : ℕ) (front more : List ℕ) →
-        items_of phase at (front ++ more) ≡ extended (items_of phase at front) more }
-{}

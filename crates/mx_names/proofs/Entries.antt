@@ -1,9 +1,10 @@
 -- What the entries of the map say as a list of symbols.
-use Rattle.std.proofs.Common.{ℕ, ◌+◌, ◌≡◌, Bool, true, false, cond, List, [], ◌∷◌, map, length, Option, Some, None, is_some, Ordering, refl, sym, ◌∙◌, ap, arith, bytes_eq}
+use Rattle.std.proofs.Common.{ℕ, ◌+◌, ◌<◌, ◌≡◌, ◌⊎◌, inl, inr, Bool, true, false, cond, List, [], ◌∷◌, map, length, Option, Some, None, is_some, Ordering, refl, sym, ◌∙◌, ap, arith, bytes_eq}
 use Rattle.std.specs.Option.{option_map}
 use Rattle.std.specs.Map.{lookup, keys_of}
 use Rattle.std.specs.BTreeMap.{is_at, insert_entry}
-use Rattle.std.specs.Ordering.{nat_cmp, is_lt, is_eq, match_ordering}
+use Rattle.std.specs.Ordering.{nat_cmp, is_lt, is_eq, match_ordering, ordering_then, MatchOrdering}
+use Rattle.std.proofs.lemmas.Cmp.{ranked}
 use Rattle.std.specs.declared.cmp.Ordering.TheVariants.{Less, Equal, Greater}
 use Rattle.std.specs.Cmp.Lexicographic.{slice_cmp}
 use Rattle.std.specs.List.{AllByRecursion}
@@ -16,7 +17,8 @@ use Rattle.mx_word.specs.declared.symbols.Value.{Value}
 use Rattle.mx_word.specs.declared.symbols.Symbol.{Symbol}
 use Rattle.mx_ops.specs.Predefined.{predefined_value}
 use Rattle.mx_names.specs.declared.names.Definition.{Definition}
-use Rattle.mx_names.specs.Names.{value_in, inserted, first_value, pure_of, value_of_name, with_symbol, NameTable, InByteOrder}
+use Rattle.mx_names.specs.Names.{value_in, symbols_with, first_value, pure_of, value_of_name, with_symbol, NameTable}
+use Rattle.mx_names.specs.Order.{Before, AreInOrder}
 use Rattle.mx_names.specs.Entries.{symbol_of}
 
 -- a look-up in the symbols is one in the map
@@ -32,6 +34,18 @@ tabled prefix backs symbols = record { symbols = symbols; prefix = prefix; backs
 abbrev numbered : List ℕ → Value → ℕ → Symbol
 numbered name value serial = record { name = name; value = value; serial = serial }
 
+-- what a comparison byte by byte tells
+before-step : (a b : ℕ) (xs ys : List ℕ) (o : Ordering) → MatchOrdering o (a < b) (a ≡ b) (b < a) → ordering_then o (slice_cmp nat_cmp xs ys) ≡ Less → (slice_cmp nat_cmp xs ys ≡ Less → Before xs ys) → (a < b) ⊎ ((a ≡ b) × Before xs ys)
+before-step a b xs ys Less is h rest = inl is
+before-step a b xs ys Equal is h rest = inr (is, rest h)
+before-step a b xs ys Greater is h rest = cc
+
+before : (xs ys : List ℕ) → slice_cmp nat_cmp xs ys ≡ Less → Before xs ys
+before [] [] h = cc
+before [] (b ∷ ys) h = tt
+before (a ∷ xs) [] h = cc
+before (a ∷ xs) (b ∷ ys) h = before-step a b xs ys (nat_cmp a b) (ranked a b _ refl) h (before xs ys)
+
 module _ {K : Type 0} (bytes : K → List ℕ) where
   abbrev pub symbols_of : List (K × Definition) → List Symbol
   symbols_of = map (λ e. symbol_of (bytes e.0) e.1)
@@ -41,11 +55,11 @@ module _ {K : Type 0} (bytes : K → List ℕ) where
   found name (e ∷ es) = found-step (bytes_eq name (bytes e.0)) (is_eq (slice_cmp nat_cmp name (bytes e.0))) e.1.value e.1 _ _ (is_eq-slice_cmp name (bytes e.0)) refl (found name es)
 
   -- an entry in its place is a symbol in its place, where the name is new
-  pub put-in : (k : K) (d : Definition) (es : List (K × Definition)) → value_in (bytes k) (symbols_of es) ≡ None → symbols_of (insert_entry (λ x y. slice_cmp nat_cmp (bytes x) (bytes y)) es k d) ≡ inserted (symbol_of (bytes k) d) (symbols_of es)
+  pub put-in : (k : K) (d : Definition) (es : List (K × Definition)) → value_in (bytes k) (symbols_of es) ≡ None → symbols_of (insert_entry (λ x y. slice_cmp nat_cmp (bytes x) (bytes y)) es k d) ≡ symbols_with (symbol_of (bytes k) d) (symbols_of es)
   put-in k d [] absent = refl
   put-in k d (e ∷ es) absent = put-step (slice_cmp nat_cmp (bytes k) (bytes e.0)) (bytes_eq (bytes k) (bytes e.0)) (is_eq-slice_cmp (bytes k) (bytes e.0)) absent (put-in k d es)
     where
-      put-step : (o : Ordering) (b : Bool) → is_eq o ≡ b → cond b (Some e.1.value) (value_in (bytes k) (symbols_of es)) ≡ None → (value_in (bytes k) (symbols_of es) ≡ None → symbols_of (insert_entry (λ x y. slice_cmp nat_cmp (bytes x) (bytes y)) es k d) ≡ inserted (symbol_of (bytes k) d) (symbols_of es)) → symbols_of (match_ordering o ((k, d) ∷ e ∷ es) ((e.0, d) ∷ es) (e ∷ insert_entry (λ x y. slice_cmp nat_cmp (bytes x) (bytes y)) es k d)) ≡ cond (is_lt o) (symbol_of (bytes k) d ∷ symbols_of (e ∷ es)) (symbol_of (bytes e.0) e.1 ∷ inserted (symbol_of (bytes k) d) (symbols_of es))
+      put-step : (o : Ordering) (b : Bool) → is_eq o ≡ b → cond b (Some e.1.value) (value_in (bytes k) (symbols_of es)) ≡ None → (value_in (bytes k) (symbols_of es) ≡ None → symbols_of (insert_entry (λ x y. slice_cmp nat_cmp (bytes x) (bytes y)) es k d) ≡ symbols_with (symbol_of (bytes k) d) (symbols_of es)) → symbols_of (match_ordering o ((k, d) ∷ e ∷ es) ((e.0, d) ∷ es) (e ∷ insert_entry (λ x y. slice_cmp nat_cmp (bytes x) (bytes y)) es k d)) ≡ cond (is_lt o) (symbol_of (bytes k) d ∷ symbols_of (e ∷ es)) (symbol_of (bytes e.0) e.1 ∷ symbols_with (symbol_of (bytes k) d) (symbols_of es))
       put-step Less b same out rest = refl
       put-step Equal true same out rest = cc
       put-step Equal false same out rest = cc
@@ -56,18 +70,18 @@ module _ {K : Type 0} (bytes : K → List ℕ) where
   pub table-put : (es more : List (K × Definition)) (prefix : List ℕ) (backs : List Value) (k : K) (full : List ℕ) (value : Value) (serial : ℕ) (table : NameTable) → tabled prefix backs (symbols_of es) ≡ table → bytes k ≡ full → serial ≡ length es + 1 → value_in full table.symbols ≡ None → more ≡ insert_entry (λ x y. slice_cmp nat_cmp (bytes x) (bytes y)) es k (record { value = value; serial = serial }) → tabled prefix backs (symbols_of more) ≡ with_symbol table full value
   table-put es more prefix backs k full value serial table is named counted absent grown =
       let out : value_in (bytes k) (symbols_of es) ≡ None = ap (λ n. value_in n (symbols_of es)) named ∙ ap (λ (t : NameTable). value_in full t.symbols) is ∙ absent in
-      let grew : symbols_of more ≡ inserted (symbol_of (bytes k) (record { value = value; serial = serial })) (symbols_of es) = ap symbols_of grown ∙ put-in k (record { value = value; serial = serial }) es out in
+      let grew : symbols_of more ≡ symbols_with (symbol_of (bytes k) (record { value = value; serial = serial })) (symbols_of es) = ap symbols_of grown ∙ put-in k (record { value = value; serial = serial }) es out in
       ap (tabled prefix backs) grew
-      ∙ ap (λ n. tabled prefix backs (inserted (numbered n value serial) (symbols_of es))) named
-      ∙ ap (λ n. tabled prefix backs (inserted (numbered full value n) (symbols_of es))) (counted ∙ ap (λ n. n + 1) (sym (length-map es (λ e. symbol_of (bytes e.0) e.1))))
+      ∙ ap (λ n. tabled prefix backs (symbols_with (numbered n value serial) (symbols_of es))) named
+      ∙ ap (λ n. tabled prefix backs (symbols_with (numbered full value n) (symbols_of es))) (counted ∙ ap (λ n. n + 1) (sym (length-map es (λ e. symbol_of (bytes e.0) e.1))))
       ∙ ap (λ t. with_symbol t full value) is
 
   -- the names in the order of the keys
-  all-named : (name : List ℕ) (es : List (K × Definition)) → AllByRecursion (λ k. slice_cmp nat_cmp name (bytes k) ≡ Less) (keys_of es) → AllByRecursion (λ n. slice_cmp nat_cmp name n ≡ Less) (map (λ (s : Symbol). s.name) (symbols_of es))
+  all-named : (name : List ℕ) (es : List (K × Definition)) → AllByRecursion (λ k. slice_cmp nat_cmp name (bytes k) ≡ Less) (keys_of es) → AllByRecursion (λ (t : Symbol). Before name t.name) (symbols_of es)
   all-named name [] h = h
-  all-named name (e ∷ es) h = (h.0, all-named name es h.1)
+  all-named name (e ∷ es) h = (before name (bytes e.0) h.0, all-named name es h.1)
 
-  pub in-order : (es : List (K × Definition)) → IsStrictlySortedBy (λ x y. slice_cmp nat_cmp (bytes x) (bytes y)) (keys_of es) → InByteOrder (symbols_of es)
+  pub in-order : (es : List (K × Definition)) → IsStrictlySortedBy (λ x y. slice_cmp nat_cmp (bytes x) (bytes y)) (keys_of es) → AreInOrder (symbols_of es)
   unfolding IsStrictlySortedBy
   in-order [] h = h
   in-order (e ∷ es) h = (all-named (bytes e.0) es h.0, in-order es h.1)
@@ -86,14 +100,14 @@ swapped true false a b c apart = refl
 swapped false is a b c apart = refl
 
 -- a look-up after a symbol is put in
-pub value-inserted : (new : Symbol) (symbols : List Symbol) (name : List ℕ) → value_in new.name symbols ≡ None → value_in name (inserted new symbols) ≡ cond (bytes_eq name new.name) (Some new.value) (value_in name symbols)
+pub value-inserted : (new : Symbol) (symbols : List Symbol) (name : List ℕ) → value_in new.name symbols ≡ None → value_in name (symbols_with new symbols) ≡ cond (bytes_eq name new.name) (Some new.value) (value_in name symbols)
 value-inserted new [] name absent = refl
 value-inserted new (s ∷ ss) name absent = by (is_lt (slice_cmp nat_cmp new.name s.name)) (value-inserted new ss name (none-rest _ s.value _ absent))
   where
     apart : bytes_eq name new.name ≡ true → bytes_eq name s.name ≡ true → false ≡ true
     apart p q = sym (none-first _ s.value _ absent) ∙ (bytes_eq-Decides new.name s.name).1 (sym ((bytes_eq-Decides name new.name).0 p) ∙ (bytes_eq-Decides name s.name).0 q)
 
-    by : (lt : Bool) → value_in name (inserted new ss) ≡ cond (bytes_eq name new.name) (Some new.value) (value_in name ss) → value_in name (cond lt (new ∷ s ∷ ss) (s ∷ inserted new ss)) ≡ cond (bytes_eq name new.name) (Some new.value) (cond (bytes_eq name s.name) (Some s.value) (value_in name ss))
+    by : (lt : Bool) → value_in name (symbols_with new ss) ≡ cond (bytes_eq name new.name) (Some new.value) (value_in name ss) → value_in name (cond lt (new ∷ s ∷ ss) (s ∷ symbols_with new ss)) ≡ cond (bytes_eq name new.name) (Some new.value) (cond (bytes_eq name s.name) (Some s.value) (value_in name ss))
     by true rest = refl
     by false rest = ap (λ r. cond (bytes_eq name s.name) (Some s.value) r) rest ∙ swapped _ _ _ _ _ apart
 
@@ -116,10 +130,10 @@ some-mapped f None = refl
 some-mapped f (Some x) = refl
 
 -- one symbol more
-pub length-inserted : (new : Symbol) (symbols : List Symbol) → length (inserted new symbols) ≡ length symbols + 1
+pub length-inserted : (new : Symbol) (symbols : List Symbol) → length (symbols_with new symbols) ≡ length symbols + 1
 length-inserted new [] = refl
 length-inserted new (s ∷ ss) = by (is_lt (slice_cmp nat_cmp new.name s.name)) (length-inserted new ss)
   where
-    by : (lt : Bool) → length (inserted new ss) ≡ length ss + 1 → length (cond lt (new ∷ s ∷ ss) (s ∷ inserted new ss)) ≡ length (s ∷ ss) + 1
+    by : (lt : Bool) → length (symbols_with new ss) ≡ length ss + 1 → length (cond lt (new ∷ s ∷ ss) (s ∷ symbols_with new ss)) ≡ length (s ∷ ss) + 1
     by true rest = omega arith
     by false rest = omega (arith, rest)

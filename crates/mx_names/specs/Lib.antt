@@ -1,3 +1,4 @@
 pub mod Numbers
+pub mod Order
 pub mod Names
 pub mod Entries

@@ -1,8 +1,8 @@
 -- The names of a source: the defined symbols, the prefix, and the last label of each local one.
-use Rattle.std.specs.Prelude.{ℕ, ◌+◌, ◌==◌, Bool, nat_lt, List, [], ◌∷◌, ◌++◌, length, map, replicate, slice_index, slice_index_or, Option, None, Some, is_some, Result, Ok, Err, bytes_eq, if◌then◌else◌}
+use Rattle.std.specs.Prelude.{◌≡◌, ◌≤◌, IsTrue, ℕ, ◌+◌, ◌==◌, Bool, nat_lt, List, [], ◌∷◌, ◌++◌, length, replicate, slice_index, slice_index_or, Option, None, Some, is_some, Result, Ok, Err, bytes_eq, if◌then◌else◌}
 use Rattle.std.specs.Ordering.{nat_cmp, is_lt}
 use Rattle.std.specs.Cmp.Lexicographic.{slice_cmp}
-use Rattle.std.specs.List.Sorted.{IsStrictlySortedBy}
+use Rattle.std.specs.List.{AllByRecursion}
 use Rattle.mx_word.specs.declared.symbols.Value.{Value}
 use Rattle.mx_word.specs.declared.symbols.Value.TheVariants.{Pure}
 use Rattle.mx_word.specs.declared.symbols.Symbol.{Symbol}
@@ -25,12 +25,25 @@ abbrev pub is_complete : List ℕ → Bool
 is_complete name = slice_index name 0 == 58
 
 -- the complete form of a symbol: itself, or the prefix followed by it
-abbrev pub complete : List ℕ → List ℕ → List ℕ
-complete prefix name = if is_complete name then name else prefix ++ name
+abbrev pub complete_form : List ℕ → List ℕ → List ℕ
+complete_form prefix name = if is_complete name then name else prefix ++ name
 
 -- a complete form that is not too long
-abbrev pub fitting : List ℕ → Result (List ℕ) NameFault
-fitting full = if nat_lt 1024 (length full) then Err NameTooLong else Ok full
+abbrev pub fitting_form : List ℕ → Result (List ℕ) NameFault
+fitting_form full = if nat_lt 1024 (length full) then Err NameTooLong else Ok full
+
+-- A complete name of 1 to 1,024 bytes.
+pub record IsFullName (name : List ℕ) : Type 0 where
+  pub complete : IsTrue (is_complete name)
+  pub least : 1 ≤ length name
+  pub most : length name ≤ 1024
+
+-- What always holds of the names of a source: the prefix and the names of the symbols are complete and of 1 to 1,024
+-- bytes, and there are ten local labels.
+pub record AreNames (table : NameTable) : Type 0 where
+  pub prefix : IsFullName table.prefix
+  pub symbols : AllByRecursion (λ (s : Symbol). IsFullName s.name) table.symbols
+  pub backs : length table.backs ≡ 10
 
 -- the value of a symbol among those that are defined
 abbrev pub value_in : List ℕ → List Symbol → Option Value
@@ -52,13 +65,9 @@ abbrev pub value_of_name : NameTable → List ℕ → Option Value
 value_of_name table name = first_value (value_in name table.symbols) (pure_of (predefined_value name))
 
 -- symbols in byte order with one more
-abbrev pub inserted : Symbol → List Symbol → List Symbol
-inserted new [] = new ∷ []
-inserted new (symbol ∷ symbols) = if is_lt (slice_cmp nat_cmp new.name symbol.name) then new ∷ symbol ∷ symbols else symbol ∷ inserted new symbols
-
--- each name is below the next one, byte by byte
-abbrev pub InByteOrder : List Symbol → Type 0
-InByteOrder symbols = IsStrictlySortedBy (slice_cmp nat_cmp) (map (λ (s : Symbol). s.name) symbols)
+abbrev pub symbols_with : Symbol → List Symbol → List Symbol
+symbols_with new [] = new ∷ []
+symbols_with new (symbol ∷ symbols) = if is_lt (slice_cmp nat_cmp new.name symbol.name) then new ∷ symbol ∷ symbols else symbol ∷ symbols_with new symbols
 
 -- whether a name may be defined
 abbrev pub define_answer : NameTable → List ℕ → Result (Unit {0}) NameFault
@@ -70,7 +79,7 @@ define_answer table name =
 -- the names with one more symbol, whose serial number is the count of symbols with it
 abbrev pub with_symbol : NameTable → List ℕ → Value → NameTable
 with_symbol table name value =
-    record table { symbols = inserted (record { name = name; value = value; serial = length table.symbols + 1 }) table.symbols }
+    record table { symbols = symbols_with (record { name = name; value = value; serial = length table.symbols + 1 }) table.symbols }
 
 -- the last label dH, or pure 0 before any
 abbrev pub back_of : NameTable → ℕ → Value

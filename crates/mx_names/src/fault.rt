@@ -3,6 +3,8 @@
 ghost use Rattle.std.specs.Prelude.{◌≡◌};
 ghost use Rattle.mx_names.specs.Numbers.{number_of};
 
+use mx_word::NoMemory;
+
 /// Why a name is refused.
 #[derive(Clone, Copy, Debug, PartialEq, Eq)]
 pub enum NameFault {
@@ -17,7 +19,7 @@ pub enum NameFault {
 }
 
 impl NameFault {
-    /// The number of the fault; 0 for want of memory, which has none.
+    /// The number of the fault; 0 where there was no memory, which has none.
     pub fn number(&self) -> u16
         ensures { result ≡ number_of self.now }
     {
@@ -27,5 +29,15 @@ impl NameFault {
             NameFault::NameTooLong => 33,
             NameFault::OutOfMemory => 0,
         }
+    }
+}
+
+impl From<NoMemory> for NameFault {
+    ghost use Rattle.mx_names.specs.declared.fault.NameFault.TheVariants.{OutOfMemory};
+
+    ghost from_gives = { λ _ fault. fault ≡ OutOfMemory };
+
+    fn from(_error: NoMemory) -> NameFault {
+        NameFault::OutOfMemory
     }
 }

@@ -14,34 +14,31 @@ const LONGEST: usize = 1024;
 pub(crate) fn is_complete(name: &[u8]) -> bool
     ensures { result ≡ spec.is_complete name.now }
 {
-    !name.is_empty() && name[0] == b':'
+    name.first() == Some(&b':')
 }
 
 /// A copy of a complete name, where it is not too long.
-pub(crate) fn copied(alloc: Global, full: &[u8]) -> Result<Bytes, NameFault>
-    ensures { result ≢ Err NameFault.OutOfMemory → result ≡ spec.fitting full.now }
+pub(crate) fn copy_of(alloc: Global, full: &[u8]) -> Result<Bytes, NameFault>
+    ensures { result ≢ Err NameFault.OutOfMemory → result ≡ spec.fitting_form full.now }
 {
     if full.len() > LONGEST {
         return Err(NameFault::NameTooLong);
     }
-    match Bytes::copy(alloc, full) {
-        Ok(bytes) => Ok(bytes),
-        Err(_) => Err(NameFault::OutOfMemory),
-    }
+    Ok(Bytes::copy(alloc, full)?)
 }
 
 /// The prefix followed by a symbol, where that is not too long.
-pub(crate) fn joined(alloc: Global, prefix: &[u8], name: &[u8]) -> Result<Bytes, NameFault>
-    ensures { result ≢ Err NameFault.OutOfMemory → result ≡ spec.fitting (prefix.now ++ name.now) }
+pub(crate) fn name_with_prefix(
+    alloc: Global,
+    prefix: &[u8],
+    name: &[u8],
+) -> Result<Bytes, NameFault>
+    ensures { result ≢ Err NameFault.OutOfMemory → result ≡ spec.fitting_form (prefix.now ++ name.now) }
 {
     if prefix.len().saturating_add(name.len()) > LONGEST {
         return Err(NameFault::NameTooLong);
     }
-    let Ok(mut full) = Bytes::copy(alloc, prefix) else {
-        return Err(NameFault::OutOfMemory);
-    };
-    match full.extend(name) {
-        Ok(()) => Ok(full),
-        Err(_) => Err(NameFault::OutOfMemory),
-    }
+    let mut full = Bytes::copy(alloc, prefix)?;
+    full.extend(name)?;
+    Ok(full)
 }

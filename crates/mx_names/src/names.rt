@@ -3,9 +3,10 @@
 ghost use Rattle.std.specs.Prelude.{◌≡◌, ◌≢◌, ◌+◌, ◌<◌, ◌≤◌, ℕ, List, length, is_some, IfOk, IfErr, OnOk, OnErr, IsTrue, bytes_eq, slice_set, if◌then◌else◌};
 ghost use Rattle.mx_word.specs.Results.{map_ok};
 ghost use Rattle.mx_names.specs.Names as spec;
+ghost use Rattle.mx_names.specs.Order.{AreInOrder};
 
 use crate::NameFault;
-use crate::full::{copied, is_complete, joined};
+use crate::full::{copy_of, is_complete, name_with_prefix};
 use mx_ops::predefined;
 use mx_word::{Bytes, Symbol, Symbols, Value};
 use std::alloc::Global;
@@ -31,99 +32,98 @@ pub struct Names {
 
 impl Model for Names {
     ghost use Rattle.std.specs.Prelude.{map};
-    ghost use Rattle.mx_names.specs.Names.{NameTable};
+    ghost use Rattle.mx_names.specs.Names.{AreNames, NameTable};
     ghost use Rattle.mx_names.specs.Entries.{symbol_of};
 
     ghost Value = { NameTable };
 
     ghost view = { λ n. record { symbols = map (λ e. symbol_of e.0.items e.1) n.defined.entries; prefix = n.prefix; backs = n.backs } };
+
+    ghost invariant = { λ n. AreNames (record { symbols = map (λ e. symbol_of e.0.items e.1) n.defined.entries; prefix = n.prefix; backs = n.backs }) };
 }
 
 impl Names {
     /// No symbol is defined, the prefix is a colon, and each local label is pure 0.
     pub fn new(alloc: Global) -> Result<Names, NameFault>
-        ensures { IfOk result (λ names. names ≡ spec.start) }
+        ensures start { IfOk result (λ names. names ≡ spec.start) }
+        ensures memory { IfErr result (λ fault. fault ≡ NameFault.OutOfMemory) }
     {
-        match Bytes::copy(alloc, b":") {
-            Ok(prefix) => Ok(Names {
-                defined: BTreeMap::new(alloc),
-                prefix,
-                backs: [Value::Pure(0); 10],
-                alloc,
-            }),
-            Err(_) => Err(NameFault::OutOfMemory),
-        }
+        Ok(Names {
+            defined: BTreeMap::new(alloc),
+            prefix: Bytes::copy(alloc, b":")?,
+            backs: [Value::Pure(0); 10],
+            alloc,
+        })
     }
 
     /// The complete form of a symbol: one that begins with a colon is complete, any other stands for
     /// the prefix followed by it. It is refused where it has more than 1,024 bytes.
     pub fn resolve(&self, name: &[u8]) -> Result<Bytes, NameFault>
-        ensures { result ≢ Err NameFault.OutOfMemory → result ≡ spec.fitting (spec.complete self.now.prefix name.now) }
+        ensures answer { result ≢ Err NameFault.OutOfMemory → result ≡ spec.fitting_form (spec.complete_form self.now.prefix name.now) }
+        ensures full { IfOk result (λ full. spec.IsFullName full) }
     {
         if is_complete(name) {
-            copied(self.alloc, name)
+            copy_of(self.alloc, name)
         } else {
-            joined(self.alloc, self.prefix.as_slice(), name)
+            name_with_prefix(self.alloc, self.prefix.as_slice(), name)
         }
     }
 
     /// Makes the complete form of a symbol the prefix. A refusal, which is that of `resolve`,
     /// changes nothing.
     pub fn set_prefix(&mut self, name: &[u8]) -> Result<(), NameFault>
-        ensures answer { result ≢ Err NameFault.OutOfMemory → result ≡ map_ok (λ _. tt) (spec.fitting (spec.complete self.old.prefix name.now)) }
-        ensures ok { OnOk result (self.new ≡ record self.old { prefix = spec.complete self.old.prefix name.now }) }
+        ensures answer { result ≢ Err NameFault.OutOfMemory → result ≡ map_ok (λ _. tt) (spec.fitting_form (spec.complete_form self.old.prefix name.now)) }
+        ensures ok { OnOk result (self.new ≡ record self.old { prefix = spec.complete_form self.old.prefix name.now }) }
         ensures err { OnErr result (self.new ≡ self.old) }
+        ensures kept { spec.AreNames self.new }
     {
-        match self.resolve(name) {
-            Ok(full) => {
-                self.prefix = full;
-                Ok(())
-            }
-            Err(fault) => Err(fault),
-        }
+        self.prefix = self.resolve(name)?;
+        Ok(())
     }
 
     /// Defines a complete name of at most 1,024 bytes. It is refused where it is predefined or
     /// defined already; a refusal changes nothing.
     pub fn define(&mut self, full: Bytes, v: Value) -> Result<(), NameFault>
-        requires complete { IsTrue (spec.is_complete full) }
-        requires short { length full ≤ 1024 }
+        requires full { spec.IsFullName full }
         requires room { length self.old.symbols < 0xffff_ffff }
         ensures answer { result ≢ Err NameFault.OutOfMemory → result ≡ spec.define_answer self.old full }
         ensures ok { OnOk result (self.new ≡ spec.with_symbol self.old full v) }
         ensures count { OnOk result (length self.new.symbols ≡ length self.old.symbols + 1) }
         ensures looked_up { OnOk result ((name : List ℕ) → spec.value_of_name self.new name ≡ (if bytes_eq name full then Some v else spec.value_of_name self.old name)) }
         ensures err { OnErr result (self.new ≡ self.old) }
+        ensures kept { spec.AreNames self.new }
     {
+        let is_defined = self.is_defined(full.as_slice());
         if predefined(full.as_slice()).is_some() {
             return Err(NameFault::Predefined);
         }
-        if self.is_defined(full.as_slice()) {
+        if is_defined {
             return Err(NameFault::Twice);
         }
-        self.put(full.as_slice(), v)
+        self.put(full, v)
     }
 
     /// Whether a complete name is defined.
     fn is_defined(&self, full: &[u8]) -> bool
-        ensures { result ≡ is_some (spec.value_in full.now self.now.symbols) }
+        ensures found { result ≡ is_some (spec.value_in full.now self.now.symbols) }
+        ensures known { spec.AreNames self.now }
     {
         self.defined.contains_key(full)
     }
 
-    /// Defines a complete name that is not defined. Want of memory changes nothing.
-    fn put(&mut self, full: &[u8], value: Value) -> Result<(), NameFault>
+    /// Defines a complete name that is not defined. Where there is no memory, nothing changes.
+    fn put(&mut self, full: Bytes, value: Value) -> Result<(), NameFault>
+        requires full { spec.IsFullName full }
         requires room { length self.old.symbols < 0xffff_ffff }
-        requires absent { spec.value_in full.now self.old.symbols ≡ None }
+        requires absent { spec.value_in full self.old.symbols ≡ None }
         ensures memory { IfErr result (λ fault. fault ≡ NameFault.OutOfMemory) }
-        ensures ok { OnOk result (self.new ≡ spec.with_symbol self.old full.now value) }
+        ensures ok { OnOk result (self.new ≡ spec.with_symbol self.old full value) }
         ensures err { OnErr result (self.new ≡ self.old) }
+        ensures kept { spec.AreNames self.new }
     {
         let serial = self.defined.len() as u32 + 1;
-        let Ok(name) = Vec::from_slice(self.alloc, full) else {
-            return Err(NameFault::OutOfMemory);
-        };
-        let Ok(_) = self.defined.insert(name, Definition { value, serial }) else {
+        let definition = Definition { value, serial };
+        let Ok(_) = self.defined.insert(full.into_vec(), definition) else {
             return Err(NameFault::OutOfMemory);
         };
         Ok(())
@@ -145,7 +145,8 @@ impl Names {
     /// Makes this the value of the last local label dH.
     pub fn define_local(&mut self, d: u8, v: Value)
         requires { d ≤ 9 }
-        ensures { self.new ≡ record self.old { backs = slice_set self.old.backs d v } }
+        ensures changed { self.new ≡ record self.old { backs = slice_set self.old.backs d v } }
+        ensures kept { spec.AreNames self.new }
     {
         self.backs[usize::from(d)] = v;
     }
@@ -161,22 +162,18 @@ impl Names {
     /// The defined symbols in byte order of their names.
     pub fn sorted(&self) -> Result<Symbols, NameFault>
         ensures symbols { IfOk result (λ symbols. symbols ≡ self.now.symbols) }
-        ensures order { IfOk result (λ symbols. spec.InByteOrder symbols) }
+        ensures order { IfOk result (λ symbols. AreInOrder symbols) }
+        ensures known { spec.AreNames self.now }
         ensures memory { IfErr result (λ fault. fault ≡ NameFault.OutOfMemory) }
     {
         let mut symbols = Symbols::new(self.alloc);
         for (name, definition) in &self.defined {
-            let Ok(name) = Bytes::copy(self.alloc, name.as_slice()) else {
-                return Err(NameFault::OutOfMemory);
-            };
             let symbol = Symbol {
-                name,
+                name: Bytes::copy(self.alloc, name.as_slice())?,
                 value: definition.value,
                 serial: definition.serial,
             };
-            if symbols.push(symbol).is_err() {
-                return Err(NameFault::OutOfMemory);
-            }
+            symbols.push(symbol)?;
         }
         Ok(symbols)
     }

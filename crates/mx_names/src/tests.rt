@@ -1,7 +1,7 @@
 //! Names, prefixes and local labels, in the order in which a source gives them.
 
 ghost use Rattle.std.specs.Prelude.{◌+◌, ◌<◌, ◌≤◌, length, IsTrue};
-ghost use Rattle.mx_names.specs.Names.{is_complete};
+ghost use Rattle.mx_names.specs.Names.{IsFullName};
 
 use crate::{NameFault, Names};
 use mx_word::{Bytes, NoMemory, Value};
@@ -28,7 +28,7 @@ fn resolved(names: &Names, name: &[u8], want: Result<&[u8], u16>) -> bool {
 #[test]
 fn prefixes(rt: HostRuntime) {
     let Ok(mut names) = Names::new(rt.alloc()) else {
-        assert!(rt; false, "want of memory");
+        assert!(rt; false, "out of memory");
         return;
     };
     assert!(rt;
@@ -56,11 +56,11 @@ fn prefixes(rt: HostRuntime) {
 #[test]
 fn long_names(rt: HostRuntime) {
     let Ok(mut names) = Names::new(rt.alloc()) else {
-        assert!(rt; false, "want of memory");
+        assert!(rt; false, "out of memory");
         return;
     };
     let (Ok(most), Ok(more)) = (long_name(rt.alloc(), 1024), long_name(rt.alloc(), 1025)) else {
-        assert!(rt; false, "want of memory");
+        assert!(rt; false, "out of memory");
         return;
     };
     assert!(rt;
@@ -86,8 +86,7 @@ fn long_names(rt: HostRuntime) {
 
 /// Defines a name given by its text.
 fn put(alloc: Global, names: &mut Names, text: &[u8], v: Value) -> Result<(), NameFault>
-    requires complete { IsTrue (is_complete text.now) }
-    requires short { length text.now ≤ 1024 }
+    requires full { IsFullName text.now }
     requires room { length names.old.symbols < 100 }
     ensures { length names.new.symbols ≤ length names.old.symbols + 1 }
 {
@@ -117,7 +116,7 @@ fn sorted_as(names: &Names, want: &[(&[u8], Value, u32)]) -> bool {
 #[test]
 fn definitions(rt: HostRuntime) {
     let Ok(mut names) = Names::new(rt.alloc()) else {
-        assert!(rt; false, "want of memory");
+        assert!(rt; false, "out of memory");
         return;
     };
     assert_eq!(rt; put(rt.alloc(), &mut names, b":b", Value::Pure(7)), Ok(()));
@@ -161,7 +160,7 @@ fn definitions(rt: HostRuntime) {
 #[test]
 fn local_labels(rt: HostRuntime) {
     let Ok(mut names) = Names::new(rt.alloc()) else {
-        assert!(rt; false, "want of memory");
+        assert!(rt; false, "out of memory");
         return;
     };
     assert_eq!(rt; names.local_back(3), Value::Pure(0), "before any 3H");

@@ -2,4 +2,5 @@ pub mod Search
 pub mod Places
 pub mod Tables
 pub mod Computed
-pub mod Laws
+pub mod Operations
+pub mod Rows

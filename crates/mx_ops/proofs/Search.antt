@@ -6,11 +6,10 @@ use Rattle.std.specs.List.Sorted.{IsBinarySearchResult, IsSearchInRange}
 use Rattle.std.proofs.lemmas.List.{get_or-map}
 use Rattle.std.proofs.lemmas.List.Sorted.{searchable_from_sorted}
 use Rattle.std.proofs.lemmas.Cmp.{nat_list_cmp_total}
-use Rattle.std.proofs.lemmas.Bool.{cases_lt}
+use Rattle.std.proofs.lemmas.Bool.{and_parts, cases_lt, not-true}
 use Rattle.std.proofs.lemmas.Map.Text.{is_eq-slice_cmp}
 use Rattle.std.proofs.lemmas.Slice.Eq.{bytes_eq-Decides}
 use Rattle.mx_ops.specs.Tables.{first_of}
-use Rattle.mx_ops.proofs.Tables.{and-left, and-right, not-true}
 
 -- no name is above the next one
 abbrev pub rising : {X : Type 0} → (X → List ℕ) → List X → Bool
@@ -38,9 +37,9 @@ later x xs k d = rw add-one (rw add-one refl)
 sorted : {X : Type 0} (key : X → List ℕ) (xs : List X) → rising key xs ≡ true → (k : ℕ) (d : X) → k + 1 < length xs → is_lt (slice_cmp nat_cmp (key (get_or xs (k + 1) d)) (key (get_or xs k d))) ≡ false
 sorted key [] up k d lt = absurd (omega arith)
 sorted key (x ∷ []) up k d lt = absurd (omega arith)
-sorted key (x ∷ y ∷ ys) up zero d lt = not-true _ (and-left _ _ up)
+sorted key (x ∷ y ∷ ys) up zero d lt = not-true _ (and_parts _ _ up).0
 sorted key (x ∷ y ∷ ys) up (suc k) d lt =
-    ap (λ z. is_lt (slice_cmp nat_cmp (key z) (key (get_or (y ∷ ys) k d)))) (later x (y ∷ ys) k d) ∙ sorted key (y ∷ ys) (and-right _ _ up) k d (omega arith)
+    ap (λ z. is_lt (slice_cmp nat_cmp (key z) (key (get_or (y ∷ ys) k d)))) (later x (y ∷ ys) k d) ∙ sorted key (y ∷ ys) (and_parts _ _ up).1 k d (omega arith)
 
 -- an element with this name, where there is one
 absent : {X : Type 0} (key : X → List ℕ) (name : List ℕ) (xs : List X) → ((k : ℕ) (d : X) → k < length xs → bytes_eq (key (get_or xs k d)) name ≡ false) → among key name xs ≡ false
@@ -61,8 +60,8 @@ lt_or_le k i = cases_lt k i
 none-covered : {X A : Type 0} (key : X → List ℕ) (xs : List X) (name : List ℕ) (table : List (List ℕ × A)) → covers key xs table ≡ true → among key name xs ≡ false → first_of name table ≡ None
 none-covered key xs name [] all out = refl
 none-covered key xs name (entry ∷ entries) all out =
-    let rest : first_of name entries ≡ None = none-covered key xs name entries (and-right _ _ all) out in
-    let here : bytes_eq entry.0 name ≡ true → false ≡ true = λ same. sym out ∙ ap (λ n. among key n xs) (sym (same-name _ _ same)) ∙ and-left _ _ all in
+    let rest : first_of name entries ≡ None = none-covered key xs name entries (and_parts _ _ all).1 out in
+    let here : bytes_eq entry.0 name ≡ true → false ≡ true = λ same. sym out ∙ ap (λ n. among key n xs) (sym (same-name _ _ same)) ∙ (and_parts _ _ all).0 in
     skipped (bytes_eq entry.0 name) entry.1 (first_of name entries) here rest
 
 -- what the search found is what the table says

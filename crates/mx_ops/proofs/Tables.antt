@@ -1,20 +1,9 @@
 -- Look-ups in a table of names.
-use Rattle.std.proofs.Common.{ℕ, zero, suc, ◌<◌, ◌≡◌, Bool, true, false, not, ◌&&◌, cond, List, [], ◌∷◌, ◌++◌, length, get_or, Option, Some, None, Decides, refl, sym, ◌∙◌, ap, arith, bytes_eq}
+use Rattle.std.proofs.Common.{ℕ, zero, suc, ◌<◌, ◌≡◌, Bool, true, false, cond, List, [], ◌∷◌, ◌++◌, length, get_or, Option, Some, None, Decides, refl, sym, ◌∙◌, ap, arith, bytes_eq}
 use Rattle.std.specs.List.{Contains}
 use Rattle.std.proofs.lemmas.Slice.Eq.{bytes_eq-Decides}
+use Rattle.std.proofs.lemmas.Bool.{and_parts, not-true}
 use Rattle.mx_ops.specs.Tables.{first_of, lacks, names_once}
-
-pub and-left : (a b : Bool) → (a && b) ≡ true → a ≡ true
-and-left true b h = refl
-and-left false b h = h
-
-pub and-right : (a b : Bool) → (a && b) ≡ true → b ≡ true
-and-right true b h = h
-and-right false b h = cc
-
-pub not-true : (a : Bool) → not a ≡ true → a ≡ false
-not-true true h = sym h
-not-true false h = refl
 
 -- a test that is not true
 not-same : (a b : List ℕ) → bytes_eq a b ≡ false → a ≡ b → false ≡ true
@@ -46,8 +35,8 @@ module _ {A : Type 0} where
   -- an entry of a table that lacks a name has another name
   lacks-at : (name : List ℕ) (table : List (List ℕ × A)) (k : ℕ) (d : List ℕ × A) → lacks name table ≡ true → k < length table → bytes_eq (get_or table k d).0 name ≡ false
   lacks-at name [] k d h lt = absurd (omega arith)
-  lacks-at name (e ∷ table) zero d h lt = not-true _ (and-left _ _ h)
-  lacks-at name (e ∷ table) (suc k) d h lt = lacks-at name table k d (and-right _ _ h) (omega arith)
+  lacks-at name (e ∷ table) zero d h lt = not-true _ (and_parts _ _ h).0
+  lacks-at name (e ∷ table) (suc k) d h lt = lacks-at name table k d (and_parts _ _ h).1 (omega arith)
 
   -- each entry is found by its name, where no name has two
   pub first_of-once : (table : List (List ℕ × A)) (name : List ℕ) (v : A) → names_once table ≡ true → Contains table (name, v) → first_of name table ≡ Some v
@@ -56,7 +45,7 @@ module _ {A : Type 0} where
       let same : bytes_eq e.0 name ≡ true = (bytes_eq-Decides e.0 name).1 (ap (λ x. x.0) is) in
       rw same (ap (λ x. Some x.1) is)
   first_of-once (e ∷ table) name v once (suc k, lt, is) =
-      let rest : first_of name table ≡ Some v = first_of-once table name v (and-right _ _ once) (k, omega arith, is) in
-      let other : bytes_eq name e.0 ≡ false = ap (λ x. bytes_eq x.0 e.0) (sym is) ∙ lacks-at e.0 table k (name, v) (and-left _ _ once) (omega arith) in
+      let rest : first_of name table ≡ Some v = first_of-once table name v (and_parts _ _ once).1 (k, omega arith, is) in
+      let other : bytes_eq name e.0 ≡ false = ap (λ x. bytes_eq x.0 e.0) (sym is) ∙ lacks-at e.0 table k (name, v) (and_parts _ _ once).0 (omega arith) in
       let here : bytes_eq e.0 name ≡ false = turned (bytes_eq e.0 name) name e.0 (bytes_eq-Decides e.0 name) other in
       rw here rest

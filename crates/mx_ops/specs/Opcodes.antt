@@ -1,27 +1,35 @@
 -- The operations: their names and codes.
 use Rattle.std.specs.Prelude.{◌≡◌, ◌<◌, ◌≤◌, ℕ, ◌+◌, ◌*◌, Bool, true, false, ◌==◌, ◌&&◌, List, [], ◌∷◌, ◌++◌, length, map, Option, None, Some, codes, slice_index_or}
-use Rattle.mx_ops.specs.Tables.{words, repeated, numbered, first_of}
+use Rattle.std.specs.List.{flat_map}
+use Rattle.mx_ops.specs.Tables.{words, numbered, first_of}
 use Rattle.mx_ops.specs.declared.op.Pseudo.TheVariants.{Is, Loc, Prefix, Greg, Local, Byte, Wyde, Tetra, Octa}
 use Rattle.mx_ops.specs.declared.op.Op.{Op}
 use Rattle.mx_ops.specs.declared.op.Op.TheVariants.{Pseudo as PseudoOp, Code, Lda, Set}
 
--- A row of the table of instructions: it names the codes from its first one upwards.
+-- What a code of a name is.
+pub data Kind : Type 0 where
+  own_code : Kind  -- the name's own code
+  immediate_code : Kind  -- its second code, with Z as an immediate byte
+  backward_code : Kind  -- its second code, for a backward address
+
+-- A row of the table of instructions. It names the codes from its first one upwards: each name has a code of
+-- each of these kinds, one after the other.
 pub record Row : Type 0 where
   pub first : ℕ
-  pub each : ℕ
+  pub kinds : List Kind
   pub names : List (List ℕ)
 
 -- a row whose names have one code each
 abbrev pub single : ℕ → List ℕ → Row
-single first names = record { first = first; each = 1; names = words names }
+single first names = record { first = first; kinds = own_code ∷ []; names = words names }
 
 -- a row whose names have two codes each, the second with Z as an immediate byte
 abbrev pub immediate : ℕ → List ℕ → Row
-immediate first names = record { first = first; each = 2; names = words names }
+immediate first names = record { first = first; kinds = own_code ∷ immediate_code ∷ []; names = words names }
 
 -- a row whose names have two codes each, the second for a backward address
 abbrev pub backward : ℕ → List ℕ → Row
-backward first names = record { first = first; each = 2; names = words names }
+backward first names = record { first = first; kinds = own_code ∷ backward_code ∷ []; names = words names }
 
 -- the instructions (MMIXware, "the main table"; TAOCP 1, Fascicle 1, section 1.3.1', Table 1)
 unfoldable pub opcode_rows : List Row
@@ -50,23 +58,61 @@ opcode_rows =
     ∷ single 0xf8 (codes "POP RESUME SAVE UNSAVE SYNC SWYM GET TRIP")
     ∷ []
 
--- the names of all codes, in order, by these rows
-abbrev pub names_of_rows : List Row → List (List ℕ)
-names_of_rows [] = []
-names_of_rows (row ∷ rows) = repeated row.each row.names ++ names_of_rows rows
+-- how many codes a row names
+abbrev pub row_length : Row → ℕ
+row_length row = length row.kinds * length row.names
 
 -- each row begins at the code after those of the rows before it, and the last one ends at code 255
 abbrev pub rows_follow : ℕ → List Row → Bool
 rows_follow code [] = code == 256
-rows_follow code (row ∷ rows) = row.first == code && rows_follow (code + row.each * length row.names) rows
+rows_follow code (row ∷ rows) = row.first == code && rows_follow (code + row_length row) rows
+
+-- the names of a row's codes, in order
+abbrev pub row_names : Row → List (List ℕ)
+row_names row = flat_map (λ name. map (λ kind. name) row.kinds) row.names
+
+-- the kinds of a row's codes, in order
+abbrev pub row_kinds : Row → List Kind
+row_kinds row = flat_map (λ name. row.kinds) row.names
 
 -- the names of the codes 0 to 255
 unfoldable pub opcode_names : List (List ℕ)
-opcode_names = names_of_rows opcode_rows
+opcode_names = flat_map row_names opcode_rows
+
+-- the kinds of the codes 0 to 255
+unfoldable pub opcode_kinds : List Kind
+opcode_kinds = flat_map row_kinds opcode_rows
 
 -- the name of a code
 unfoldable pub opcode_name : ℕ → List ℕ
 opcode_name code = slice_index_or opcode_names code []
+
+-- the kind of a code
+unfoldable pub opcode_kind : ℕ → Kind
+opcode_kind code = slice_index_or opcode_kinds code own_code
+
+-- whether Z is an immediate byte at the code
+abbrev pub is_immediate : Kind → Bool
+is_immediate immediate_code = true
+is_immediate _ = false
+
+-- whether the code is for a backward address
+abbrev pub is_backward : Kind → Bool
+is_backward backward_code = true
+is_backward _ = false
+
+-- whether the code's name has a second code, the next one, with Z as an immediate byte
+abbrev pub has_immediate : ℕ → Bool
+has_immediate code = is_immediate (opcode_kind (code + 1))
+
+-- whether the code's name has a second code, the next one, for a backward address
+abbrev pub has_backward : ℕ → Bool
+has_backward code = is_backward (opcode_kind (code + 1))
+
+-- The code has this name, and is of this kind.
+pub record IsCodeOf (name : List ℕ) (kind : Kind) (code : ℕ) : Type 0 where
+  pub named : opcode_name code ≡ name
+  pub kind_is : opcode_kind code ≡ kind
 
 -- the pseudo-operations
 unfoldable pub pseudo_operations : List (List ℕ × Op)

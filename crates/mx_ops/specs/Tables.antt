@@ -1,5 +1,5 @@
 -- Tables of names.
-use Rattle.std.specs.Prelude.{ℕ, ◌+◌, Bool, true, ◌==◌, not, ◌&&◌, List, [], ◌∷◌, ◌++◌, Option, None, Some, bytes_eq, replicate, if◌then◌else◌}
+use Rattle.std.specs.Prelude.{ℕ, ◌+◌, Bool, true, ◌==◌, not, ◌&&◌, List, [], ◌∷◌, Option, None, Some, bytes_eq, if◌then◌else◌}
 
 -- a text with a byte before its first word
 abbrev pub with_first : ℕ → List (List ℕ) → List (List ℕ)
@@ -10,11 +10,6 @@ with_first b (w ∷ ws) = (b ∷ w) ∷ ws
 abbrev pub words : List ℕ → List (List ℕ)
 words [] = [] ∷ []
 words (b ∷ bs) = if b == 32 then [] ∷ words bs else with_first b (words bs)
-
--- each name so many times
-abbrev pub repeated : ℕ → List (List ℕ) → List (List ℕ)
-repeated times [] = []
-repeated times (name ∷ names) = replicate times name ++ repeated times names
 
 -- each name with its place, counted from a first one
 abbrev pub numbered : ℕ → List (List ℕ) → List (List ℕ × ℕ)

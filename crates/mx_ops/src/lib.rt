@@ -1,6 +1,7 @@
 //! The tables of the assembly language: operations, operand shapes, predefined symbols.
 #![tactic(auto)]
 
+mod laws;
 mod lookup;
 mod op;
 mod symbols;
@@ -8,5 +9,6 @@ mod table;
 #[cfg(test)]
 mod tests;
 
+pub use laws::each_name_has_its_codes;
 pub use lookup::{find, name, predefined, shape_of};
 pub use op::{Op, Pseudo, Shape};

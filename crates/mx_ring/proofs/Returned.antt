@@ -1,12 +1,13 @@
--- The results of POP among the locals.
-use Rattle.std.proofs.Common.{◌≡◌, ℕ, ◌+◌, ◌-◌, ◌≤◌, ◌<◌, List, ◌∷◌, ◌++◌, length, take, drop, set, min, arith, refl, sym, ◌∙◌, ap, ⊎_elim, suc}
+-- The results of POP among the registers below G.
+use Rattle.std.proofs.Common.{◌≡◌, ℕ, ◌+◌, ◌-◌, ◌≤◌, ◌<◌, List, ◌∷◌, ◌++◌, length, take, drop, set, replicate, min, arith, sym, ◌∙◌, ap, ⊎_elim, suc}
 use Rattle.std.proofs.lemmas.Bool.{cases_lt}
-use Rattle.std.proofs.lemmas.List.{length-take, length-take-le, length-drop, length-append, take_at, take_all, take-take, take_min, drop_at, drop-set, append_assoc}
+use Rattle.std.proofs.lemmas.List.{append_assoc, length-take, length-take-le, length-append, take_at, take_all, take-take, take-append-le, drop_at, drop-drop, drop-replicate, replicate-append-replicate, set_split}
 use Rattle.std.proofs.Math.Seq.{take-append-add}
-use Rattle.mx_ring.specs.RingParts.{put_at}
+use Rattle.mx_word.specs.Lists.{with_part, with_zeros}
+use Rattle.mx_ring.specs.Parts.{with_zeros_at}
 
 -- a front of a front
-front-of-front : (xs : List ℕ) (m n : ℕ) → take m (take n xs) ≡ take (min n m) xs
+pub front-of-front : (xs : List ℕ) (m n : ℕ) → take m (take n xs) ≡ take (min n m) xs
 front-of-front xs m n = ⊎_elim (λ e. short e) (λ e. long e) (cases_lt n m)
   where
     short : n < m → take m (take n xs) ≡ take (min n m) xs
@@ -20,35 +21,79 @@ front-of-front xs m n = ⊎_elim (λ e. short e) (λ e. long e) (cases_lt n m)
         let s : m ≡ min n m = omega arith in
         take-take m n xs e ∙ ap (λ k. take k xs) s
 
--- one result at the hole, others behind it as far as there is room
-pub first-placed : (xs ys : List ℕ) (main count hole n : ℕ) → length xs ≡ 256 → length ys ≡ 256 → hole < 256 → n ≡ min count (255 - hole) → ys ≡ take (hole + 1) xs ++ take n xs ++ drop (hole + 1 + n) xs → take (min (count + 1) (256 - hole)) (drop hole (set ys hole main)) ≡ take (256 - hole) (main ∷ take count xs)
-first-placed xs ys main count hole n lx ly h en e =
-    let here : hole < length ys = omega arith in
+-- the main result, and the others behind it as far as there is room
+first-results : (xs : List ℕ) (main count room n : ℕ) → 0 < room → n ≡ min count (room - 1) → take room (main ∷ take count xs) ≡ main ∷ take n xs
+first-results xs main count room n f e =
+    let s : room ≡ suc (room - 1) = omega arith in
+    rw (s, e) (ap (λ zs. main ∷ zs) (front-of-front xs (room - 1) count))
+
+-- a place is overwritten between two parts
+set-between : (ys ps bs : List ℕ) (k y : ℕ) → k + 1 ≡ length ps → ys ≡ ps ++ bs → set ys k y ≡ take k ps ++ y ∷ bs
+set-between ys ps bs k y l e =
+    let within : k < length (ps ++ bs) = omega (arith, length-append ps bs) in
+    let one : suc k ≡ k + 1 = omega arith in
+    let low : take k (ps ++ bs) ≡ take k ps = take-append-le k ps bs (omega arith) in
+    let high : drop (suc k) (ps ++ bs) ≡ bs = ap (λ n. drop n (ps ++ bs)) one ∙ drop_at ps bs (k + 1) (sym l) in
+    rw e (set_split (ps ++ bs) k y within ∙ ap (λ zs. zs ++ y ∷ drop (suc k) (ps ++ bs)) low ∙ ap (λ zs. take k ps ++ y ∷ zs) high)
+
+pub first-placed : (xs ys : List ℕ) (main count hole n : ℕ) → count ≤ length xs → hole < length xs → n ≡ min count (length xs - hole - 1) → ys ≡ take (hole + 1) xs ++ take (n - 0) (drop 0 xs) ++ drop (hole + 1 + (n - 0)) xs → set ys hole main ≡ with_part xs hole (take (length xs - hole) (main ∷ take count xs))
+first-placed xs ys main count hole n lc h en e =
+    let z : n - 0 ≡ n = omega arith in
+    let rs : take (length xs - hole) (main ∷ take count xs) ≡ main ∷ take n xs = first-results xs main count (length xs - hole) n (omega arith) en in
+    let size : length (main ∷ take n xs) ≡ n + 1 = omega (arith, length-take-le n xs (omega arith)) in
     let front : length (take (hole + 1) xs) ≡ hole + 1 = length-take-le (hole + 1) xs (omega arith) in
-    let behind : drop (hole + 1) ys ≡ take n xs ++ drop (hole + 1 + n) xs = rw (e, append_assoc) (drop_at (take (hole + 1) xs) _ (hole + 1) front) in
-    let all : length (take n xs) ≡ n = length-take-le n xs (omega arith) in
-    let kept : take n (take n xs ++ drop (hole + 1 + n) xs) ≡ take n xs = take_at (take n xs) _ n all in
-    let left : min (count + 1) (256 - hole) ≡ suc n = omega arith in
-    let right : 256 - hole ≡ suc (255 - hole) = omega arith in
-    let cut : take (255 - hole) (take count xs) ≡ take n xs = rw en (front-of-front xs (255 - hole) count) in
-    rw (left, right, drop-set ys hole main here, behind) (ap (λ zs. main ∷ zs) (kept ∙ sym cut))
+    let place : hole + length (main ∷ take n xs) ≡ hole + 1 + n = omega arith in
+    let parted : ys ≡ take (hole + 1) xs ++ (take n xs ++ drop (hole + 1 + n) xs) = rw z at e ∙ append_assoc (take (hole + 1) xs) (take n xs) (drop (hole + 1 + n) xs) in
+    let low : take hole (take (hole + 1) xs) ≡ take hole xs = take-take hole (hole + 1) xs (omega arith) in
+    rw (rs, place) (set-between ys (take (hole + 1) xs) (take n xs ++ drop (hole + 1 + n) xs) hole main (sym front) parted ∙ ap (λ zs. zs ++ main ∷ (take n xs ++ drop (hole + 1 + n) xs)) low ∙ simp append_assoc)
 
--- the locals that come back before the results
-pub results-follow : (ys zs rs : List ℕ) (g k count : ℕ) → g ≤ 255 → k < 256 → length zs ≡ k → count ≡ length rs → take (min count (256 - k)) (drop k ys) ≡ take (256 - k) rs → take (min g (k + count)) (zs ++ drop k ys) ≡ take g (zs ++ rs)
-results-follow ys zs rs g k count lg lk lz lr p =
-    let j : ℕ = min g (k + count) in
-    let q : ℕ = min count (256 - k) in
-    let whole : take (length zs + q) (zs ++ drop k ys) ≡ take (length zs + (256 - k)) (zs ++ rs) =
-    take-append-add zs (drop k ys) q ∙ ap (λ ws. zs ++ ws) p ∙ sym (take-append-add zs rs (256 - k)) in
-    let below : j ≤ length zs + q = omega arith in
-    let above : j ≤ length zs + (256 - k) = omega arith in
-    let all : j ≡ min g (length (zs ++ rs)) = omega (arith, length-append zs rs) in
-    sym (take-take j (length zs + q) (zs ++ drop k ys) below) ∙ ap (take j) whole ∙ take-take j (length zs + (256 - k)) (zs ++ rs) above ∙ ap (λ i. take i (zs ++ rs)) all ∙ take_min g (zs ++ rs)
+-- the results behind the octas that come back
+parts-placed : (xs ys zs octas rs : List ℕ) → ys ≡ with_part xs (length octas) rs → length octas ≤ length xs → zs ≡ with_part ys 0 octas → zs ≡ (octas ++ rs) ++ drop (length (octas ++ rs)) xs
+parts-placed xs ys zs octas rs ey f ez =
+    let k : ℕ = length octas in
+    let behind : drop k ys ≡ rs ++ drop (k + length rs) xs =
+    ap (drop k) ey ∙ ap (drop k) (append_assoc (take k xs) rs (drop (k + length rs) xs)) ∙ drop_at (take k xs) _ k (length-take-le k xs f) in
+    let size : length (octas ++ rs) ≡ k + length rs = length-append octas rs in
+    let place : 0 + k ≡ k = omega arith in
+    rw size (ez ∙ ap (λ n. octas ++ drop n ys) place ∙ ap (λ ws. octas ++ ws) behind ∙ sym (append_assoc octas rs (drop (k + length rs) xs)))
 
--- the same from the hidden octas, once they stand in front
-pub come-back : (hs ys ws rs : List ℕ) (g k count b d : ℕ) → g ≤ 255 → k < 256 → k < length hs → b ≡ length hs - (k + 1) → d ≡ k → count ≡ length rs → take (min count (256 - k)) (drop k ys) ≡ take (256 - k) rs → ws ≡ put_at ys 0 (take d (drop b hs)) → take (min g (k + count)) ws ≡ take g (take k (drop b hs) ++ rs)
-come-back hs ys ws rs g k count b d lg lk lh eb ed lr p e =
-    let s : length (take k (drop b hs)) ≡ k = length-take-le k (drop b hs) (omega (arith, length-drop b hs)) in
-    let n : 0 + length (take k (drop b hs)) ≡ k = omega arith in
-    let w : ws ≡ take k (drop b hs) ++ drop k ys = rw (e, ed, n) refl in
-    rw w (results-follow ys (take k (drop b hs)) rs g k count lg lk s lr p)
+-- what is below G once octas and results came back
+returned-front : (octas rs : List ℕ) (room : ℕ) → length octas ≤ room → take room (octas ++ rs) ≡ octas ++ take (room - length octas) rs
+returned-front octas rs room f =
+    let s : length octas + (room - length octas) ≡ room = omega arith in
+    ap (λ n. take n (octas ++ rs)) (sym s) ∙ take-append-add octas rs (room - length octas)
+
+abbrev Zeros : List ℕ → ℕ → Type 0
+Zeros xs l = xs ≡ with_zeros (take l xs) (length xs)
+
+drop-zeros : (xs : List ℕ) (l n : ℕ) → l ≤ length xs → l ≤ n → Zeros xs l → drop n xs ≡ replicate (length xs - n) 0
+drop-zeros xs l n f g e =
+    let size : length (take l xs) ≡ l = length-take-le l xs f in
+    let s : l + (n - l) ≡ n = omega arith in
+    let rest : drop l xs ≡ replicate (length xs - l) 0 =
+    ap (drop l) e ∙ drop_at (take l xs) _ l size ∙ ap (λ m. replicate {A = ℕ} (length xs - m) 0) size in
+    ap (λ m. drop m xs) (sym s) ∙ sym (drop-drop (n - l) l xs) ∙ ap (drop (n - l)) rest ∙ drop-replicate (n - l) (length xs - l) 0 ∙ ap (λ m. replicate {A = ℕ} m 0) (omega arith)
+
+-- where no local stood above them
+pub returned-above : (xs ys zs octas rs : List ℕ) (l t : ℕ) → l ≤ length xs → length octas < length xs → Zeros xs l → ys ≡ with_part xs (length octas) (take (length xs - length octas) rs) → zs ≡ with_part ys 0 octas → t ≡ length octas + length (take (length xs - length octas) rs) → l ≤ t → zs ≡ with_zeros (take (length xs) (octas ++ rs)) (length xs)
+returned-above xs ys zs octas rs l t f g z ey ez et h =
+    let qs : List ℕ = take (length xs - length octas) rs in
+    let whole : zs ≡ (octas ++ qs) ++ drop (length (octas ++ qs)) xs = parts-placed xs ys zs octas qs ey (omega arith) ez in
+    let size : length (octas ++ qs) ≡ t = length-append octas qs ∙ sym et in
+    let zeros : drop (length (octas ++ qs)) xs ≡ replicate (length xs - length (octas ++ qs)) 0 = drop-zeros xs l (length (octas ++ qs)) f (omega arith) z in
+    rw (returned-front octas rs (length xs) (omega arith)) (whole ∙ ap (λ ws. (octas ++ qs) ++ ws) zeros)
+
+-- where locals stood above them, and were cleared
+pub returned-below : (xs ys zs ws octas rs : List ℕ) (l t : ℕ) → l ≤ length xs → length octas < length xs → Zeros xs l → ys ≡ with_part xs (length octas) (take (length xs - length octas) rs) → zs ≡ with_part ys 0 octas → t ≡ length octas + length (take (length xs - length octas) rs) → t < l → ws ≡ with_zeros_at zs t l → ws ≡ with_zeros (take (length xs) (octas ++ rs)) (length xs)
+returned-below xs ys zs ws octas rs l t f g z ey ez et h ew =
+    let qs : List ℕ = take (length xs - length octas) rs in
+    let whole : zs ≡ (octas ++ qs) ++ drop (length (octas ++ qs)) xs = parts-placed xs ys zs octas qs ey (omega arith) ez in
+    let size : length (octas ++ qs) ≡ t = length-append octas qs ∙ sym et in
+    let low : take t zs ≡ octas ++ qs = ap (take t) whole ∙ take_at (octas ++ qs) _ t size in
+    let middle : drop t zs ≡ drop t xs = ap (drop t) whole ∙ drop_at (octas ++ qs) _ t size ∙ ap (λ n. drop n xs) size in
+    let split : t + (l - t) ≡ l = omega arith in
+    let high : drop l zs ≡ replicate (length xs - l) 0 =
+    ap (λ m. drop m zs) (sym split) ∙ sym (drop-drop (l - t) t zs) ∙ ap (drop (l - t)) middle ∙ drop-drop (l - t) t xs ∙ ap (λ m. drop m xs) split ∙ drop-zeros xs l l f (omega arith) z in
+    let joined : replicate {A = ℕ} (l - t) 0 ++ replicate (length xs - l) 0 ≡ replicate (length xs - t) 0 =
+    replicate-append-replicate (l - t) (length xs - l) 0 ∙ ap (λ m. replicate {A = ℕ} m 0) (omega arith) in
+    rw (returned-front octas rs (length xs) (omega arith), size) (ew ∙ ap (λ (vs : List ℕ). vs ++ replicate (l - t) 0 ++ drop l zs) low ∙ ap (λ (vs : List ℕ). (octas ++ qs) ++ replicate (l - t) 0 ++ vs) high ∙ append_assoc (octas ++ qs) (replicate (l - t) 0) (replicate (length xs - l) 0) ∙ ap (λ (vs : List ℕ). (octas ++ qs) ++ vs) joined)

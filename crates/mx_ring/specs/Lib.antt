@@ -1,4 +1,14 @@
+pub mod Bounds
+pub mod Calls
+pub mod Frames
+pub mod HiddenPart
+pub mod Kept
+pub mod Laws
+pub mod Parts
 pub mod RegisterList
+pub mod Registers
 pub mod RingFaults
 pub mod RingParts
+pub mod RingSizes
+pub mod Stack
 pub mod Window

@@ -1,7 +1,22 @@
--- The registers as the machine keeps them, and the list that they stand for.
+-- The register stack as a window: a ring of so many registers, and a stack area in memory (MMIXware, the part on MMIX,
+-- rO and rS).
+use Rattle.std.specs.Prelude.{ℕ}
+use Rattle.mx_ring.specs.HiddenPart.{HiddenPart, octas_of, nothing_hidden}
 use Rattle.mx_ring.specs.RegisterList.{RegisterList}
+use Rattle.mx_ring.specs.Registers.{Registers, registers_at_start}
 
--- The list that the registers stand for; here they are kept as that list itself. Contracts speak of the
--- registers through this function alone.
-unfoldable pub as_list : RegisterList → RegisterList
-as_list r = r
+pub record Window : Type 0 where
+  -- how many registers the ring has; hidden and local ones in it are always fewer
+  pub size : ℕ
+  -- the hidden octas
+  pub hidden : HiddenPart
+  -- the registers that an instruction sees
+  pub visible : Registers
+
+-- at the start, with so many registers
+abbrev pub window_at_start : ℕ → Window
+window_at_start size = record { size = size; hidden = nothing_hidden; visible = registers_at_start }
+
+-- the list that a window stands for
+unfoldable pub as_list : Window → RegisterList
+as_list w = record { hidden = octas_of w.hidden; visible = w.visible }

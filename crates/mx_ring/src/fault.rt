@@ -3,8 +3,10 @@
 ghost use Rattle.std.specs.Prelude.{◌≡◌};
 ghost use Rattle.mx_ring.specs.RingFaults.{fault_number};
 
+use std::alloc::AllocError;
+
 /// Why a call is refused: hidden and local registers would pass 2^20 octas; too little is hidden to
-/// come back; what is to be restored is no frame; or there was no memory for the registers.
+/// come back; what is to be restored is no frame; or the machine is out of memory.
 #[derive(Clone, Copy, Debug, PartialEq, Eq)]
 pub enum RingFault {
     StackFull,
@@ -14,8 +16,8 @@ pub enum RingFault {
 }
 
 impl RingFault {
-    /// The number of the fault: 100 for `StackFull`, 101 for `Underflow`, 102 for `BadFrame`; want of
-    /// memory has none, and gives 0.
+    /// The number of the fault: 100 for `StackFull`, 101 for `Underflow`, 102 for `BadFrame`;
+    /// `OutOfMemory` has none, and gives 0.
     pub fn number(&self) -> u16
         ensures { result ≡ fault_number self.now }
     {
@@ -25,5 +27,16 @@ impl RingFault {
             RingFault::BadFrame => 102,
             RingFault::OutOfMemory => 0,
         }
+    }
+}
+
+impl From<AllocError> for RingFault {
+    ghost use Rattle.mx_ring.specs.declared.fault.RingFault.TheVariants.{OutOfMemory};
+    ghost use Rattle.std.specs.Prelude.{◌≡◌};
+
+    ghost from_gives = { λ _ fault. fault ≡ OutOfMemory };
+
+    fn from(_error: AllocError) -> RingFault {
+        RingFault::OutOfMemory
     }
 }

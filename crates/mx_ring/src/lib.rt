@@ -5,15 +5,24 @@
 #![tactic(auto)]
 
 mod fault;
-mod pieces;
+mod frame;
+mod hidden;
+mod laws;
 mod results;
 mod ring;
 mod saved;
 mod size;
+mod slices;
 #[cfg(test)]
 mod tests;
+mod visible;
 
 pub use fault::RingFault;
+pub use laws::{
+    calls_go_as_lists, calls_keep_rings, frames_come_back, frames_go_as_lists, frames_keep_rings,
+    lists_show_the_same, pushes_go_by_place, refusals_are_those_of_lists,
+    spilled_octas_are_counted, spilled_octas_are_hidden, writes_go_as_lists, writes_keep_rings,
+};
 pub use ring::Ring;
 pub use saved::Saved;
 pub use size::RingSize;

@@ -128,10 +128,24 @@ fn refused_sources_leave_an_empty_object(rt: HostRuntime) -> Result<(), Fail> {
     Ok(())
 }
 
+/// The tetras of an object that sets up nothing but Main, at #100, with a trie of one tetra.
+fn with_trie(trie: u32) -> [u32; 8] {
+    [
+        0x9809_0101,
+        0,
+        0x980a_00ff,
+        0,
+        0x100,
+        0x980b_0000,
+        trie,
+        0x980c_0001,
+    ]
+}
+
 #[test]
 fn bad_objects(rt: HostRuntime) -> Result<(), Fail> {
     let alloc = rt.alloc();
-    let cases: [(&[u32], &[u8], Outcome, &[u8]); 8] = [
+    let cases: [(&[u32], &[u8], Outcome, &[u8]); 10] = [
         // a lopcode that does not exist
         (
             &[0x9809_0101, 0, 0x980d_0000],
@@ -148,7 +162,7 @@ fn bad_objects(rt: HostRuntime) -> Result<(), Fail> {
             bad(8, 60),
             b"byte 8: 60 NotTetras\n",
         ),
-        // a count of the trie that is wrong, and a trie, which is not read yet
+        // a count of the trie that is wrong
         (
             &[
                 0x9809_0101,
@@ -163,20 +177,20 @@ fn bad_objects(rt: HostRuntime) -> Result<(), Fail> {
             bad(24, 63),
             b"byte 24: 63 BadFields\n",
         ),
+        // a trie with no symbol and the padding behind it; one whose node has the mark of a wide
+        // character, but no character; one with more than padding behind it
+        (&with_trie(0), b"", Outcome::Done(0), b""),
         (
-            &[
-                0x9809_0101,
-                0,
-                0x980a_00ff,
-                0,
-                0x100,
-                0x980b_0000,
-                0,
-                0x980c_0001,
-            ],
+            &with_trie(0x8000_0000),
             b"",
-            bad(24, 132),
-            b"byte 24: 132 NotBuilt\n",
+            bad(24, 72),
+            b"byte 24: 72 Wide\n",
+        ),
+        (
+            &with_trie(0x0040_4040),
+            b"",
+            bad(25, 71),
+            b"byte 25: 71 Padding\n",
         ),
         // a tetra in the stack segment: the place is the tetra's
         (

@@ -3,9 +3,8 @@
 use mx_host::MemHost;
 use mx_top::{
     Outcome, WordsFault, fault_name, files_are_read_whole, front_decides, items_mean_the_image,
-    mmixware, objects_are_loaded_as_they_mean, objects_hold_the_image,
-    objects_run_as_their_sources, pieces_come_to_one_write, texts_end_at_the_first_zero,
-    usage_name,
+    mmixware, objects_hold_the_image, objects_run_as_their_sources, pieces_come_to_one_write,
+    texts_end_at_the_first_zero, usage_name,
 };
 use std::alloc::Global;
 use std::test::Fail;
@@ -283,7 +282,6 @@ fn names_and_statuses(rt: HostRuntime) {
     files_are_read_whole();
     front_decides();
     items_mean_the_image();
-    objects_are_loaded_as_they_mean();
     objects_hold_the_image();
     objects_run_as_their_sources();
     pieces_come_to_one_write();
@@ -296,7 +294,6 @@ fn names_and_statuses(rt: HostRuntime) {
         (120, "ResumeInsert"),
         (119, ""),
         (124, "UnknownTrap"),
-        (132, "NotBuilt"),
     ] {
         assert!(rt; fault_name(number) == name);
     }

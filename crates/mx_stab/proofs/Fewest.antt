@@ -1,8 +1,8 @@
 -- Digits without zeros in front.
 use Rattle.std.proofs.Common.{◌≡◌, ℕ, ◌<◌, List, [], ◌∷◌, length, refl, arith}
-use Rattle.mx_stab.specs.Numbers.{fewest}
+use Rattle.mx_stab.specs.Numbers.{fewest_digits}
 
-pub few-stay : (digits : List ℕ) → length digits < 2 → fewest digits ≡ digits
+pub few-stay : (digits : List ℕ) → length digits < 2 → fewest_digits digits ≡ digits
 few-stay [] l = refl
 few-stay (d ∷ []) l = refl
 few-stay (d ∷ e ∷ more) l = absurd (omega arith)

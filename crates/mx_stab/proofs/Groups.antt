@@ -1,55 +1,52 @@
--- The first node of a trie, and what stands behind it.
+-- The first node of a trie, and what has_symbols behind it.
 use Rattle.std.proofs.Common.{◌≡◌, ℕ, zero, suc, ◌+◌, ◌-◌, ◌<◌, ◌==◌, List, [], ◌∷◌, ◌++◌, length, take, drop, Bool, true, false, cond, refl, sym, ap, ◌∙◌, arith, append_assoc, append-nil, length-append, ◌≤◌}
 use Rattle.std.proofs.lemmas.Bool.{eqb-true}
 use Rattle.mx_word.specs.declared.symbols.Symbol.{Symbol}
-use Rattle.mx_stab.specs.Trie.{next_byte, joined, grouped, inner, stands, front, nodes, trie, trie_from, longest}
-use Rattle.mx_stab.specs.Writing.{ahead, run_length, group_size}
+use Rattle.mx_stab.specs.Trie.{next_byte, groups_with, groups_of, symbols_below, has_symbols, node_front, nodes, trie, trie_from, longest}
+use Rattle.mx_stab.specs.Writing.{bytes_due, run_length, group_size}
 use Rattle.mx_stab.specs.declared.writing.Pending.{Pending}
 
 group-step : (b : Bool) (at : ℕ) (s t : Symbol) (ts : List Symbol) (r q : ℕ) → (b ≡ true → q ≡ r) →
-    grouped at (t ∷ ts) ≡ (t ∷ take q ts) ∷ grouped at (drop q ts) →
-    cond b ((s ∷ t ∷ take q ts) ∷ grouped at (drop q ts)) ((s ∷ []) ∷ (t ∷ take q ts) ∷ grouped at (drop q ts)) ≡ (s ∷ take (cond b (suc r) 0) (t ∷ ts)) ∷ grouped at (drop (cond b (suc r) 0) (t ∷ ts))
+    groups_of at (t ∷ ts) ≡ (t ∷ take q ts) ∷ groups_of at (drop q ts) →
+    cond b ((s ∷ t ∷ take q ts) ∷ groups_of at (drop q ts)) ((s ∷ []) ∷ (t ∷ take q ts) ∷ groups_of at (drop q ts)) ≡ (s ∷ take (cond b (suc r) 0) (t ∷ ts)) ∷ groups_of at (drop (cond b (suc r) 0) (t ∷ ts))
 group-step true at s t ts r q h k = rw (h refl) refl
 group-step false at s t ts r q h k = ap (λ g. (s ∷ []) ∷ g) (sym k)
 
-same-byte : (x y : ℕ) → (x == y) ≡ true → x ≡ y
-same-byte x y h = eqb-true x y h
-
-pub grouped-first : (at : ℕ) (s : Symbol) (more : List Symbol) →
-    grouped at (s ∷ more) ≡ (s ∷ take (run_length at (next_byte at s) more) more) ∷ grouped at (drop (run_length at (next_byte at s) more) more)
-grouped-first at s [] = refl
-grouped-first at s (t ∷ ts) =
-    let rest = grouped-first at t ts in
-    ap (joined at s) rest ∙
+pub groups_of-first : (at : ℕ) (s : Symbol) (more : List Symbol) →
+    groups_of at (s ∷ more) ≡ (s ∷ take (run_length at (next_byte at s) more) more) ∷ groups_of at (drop (run_length at (next_byte at s) more) more)
+groups_of-first at s [] = refl
+groups_of-first at s (t ∷ ts) =
+    let rest = groups_of-first at t ts in
+    ap (groups_with at s) rest ∙
     group-step (next_byte at t == next_byte at s) at s t ts (run_length at (next_byte at s) ts) (run_length at (next_byte at t) ts)
-    (λ e. ap (λ x. run_length at x ts) (same-byte (next_byte at t) (next_byte at s) e)) rest
+    (λ e. ap (λ x. run_length at x ts) (eqb-true (next_byte at t) (next_byte at s) e)) rest
 
-stands-joined : (at : ℕ) (s : Symbol) (groups : List (List Symbol)) → stands (joined at s groups) ≡ true
-stands-joined at s [] = refl
-stands-joined at s ([] ∷ groups) = refl
-stands-joined at s ((t ∷ group) ∷ groups) = pick (next_byte at t == next_byte at s)
+has_symbols-groups_with : (at : ℕ) (s : Symbol) (groups : List (List Symbol)) → has_symbols (groups_with at s groups) ≡ true
+has_symbols-groups_with at s [] = refl
+has_symbols-groups_with at s ([] ∷ groups) = refl
+has_symbols-groups_with at s ((t ∷ group) ∷ groups) = pick (next_byte at t == next_byte at s)
   where
-    pick : (b : Bool) → stands (cond b ((s ∷ t ∷ group) ∷ groups) ((s ∷ []) ∷ (t ∷ group) ∷ groups)) ≡ true
+    pick : (b : Bool) → has_symbols (cond b ((s ∷ t ∷ group) ∷ groups) ((s ∷ []) ∷ (t ∷ group) ∷ groups)) ≡ true
     pick true = refl
     pick false = refl
 
-pub stands-grouped : (at : ℕ) (symbols : List Symbol) → stands (grouped at symbols) ≡ stands symbols
-stands-grouped at [] = refl
-stands-grouped at (s ∷ more) = stands-joined at s (grouped at more)
+pub has_symbols-groups_of : (at : ℕ) (symbols : List Symbol) → has_symbols (groups_of at symbols) ≡ has_symbols symbols
+has_symbols-groups_of at [] = refl
+has_symbols-groups_of at (s ∷ more) = has_symbols-groups_with at s (groups_of at more)
 
 nodes-first : (deep at : ℕ) (symbols : List Symbol) → 0 < length symbols →
-    trie (suc deep) at symbols ≡ front at (take (group_size at symbols) symbols) (stands (drop (group_size at symbols) symbols))
-    ++ trie deep (at + 1) (inner at (take (group_size at symbols) symbols)) ++ trie (suc deep) at (drop (group_size at symbols) symbols)
+    trie (suc deep) at symbols ≡ node_front at (take (group_size at symbols) symbols) (has_symbols (drop (group_size at symbols) symbols))
+    ++ trie deep (at + 1) (symbols_below at (take (group_size at symbols) symbols)) ++ trie (suc deep) at (drop (group_size at symbols) symbols)
 unfolding trie
 nodes-first deep at [] h = absurd (omega arith)
 nodes-first deep at (s ∷ more) h =
-    ap (nodes (trie deep (at + 1)) at) (grouped-first at s more) ∙
-    ap (λ b. front at (s ∷ take (run_length at (next_byte at s) more) more) b ++ trie deep (at + 1) (inner at (s ∷ take (run_length at (next_byte at s) more) more)) ++ trie (suc deep) at (drop (run_length at (next_byte at s) more) more))
-    (stands-grouped at (drop (run_length at (next_byte at s) more) more))
+    ap (nodes (trie deep (at + 1)) at) (groups_of-first at s more) ∙
+    ap (λ b. node_front at (s ∷ take (run_length at (next_byte at s) more) more) b ++ trie deep (at + 1) (symbols_below at (s ∷ take (run_length at (next_byte at s) more) more)) ++ trie (suc deep) at (drop (run_length at (next_byte at s) more) more))
+    (has_symbols-groups_of at (drop (run_length at (next_byte at s) more) more))
 
 pub first-node : (at : ℕ) (symbols : List Symbol) → at < 1024 → 0 < length symbols →
-    trie_from at symbols ≡ front at (take (group_size at symbols) symbols) (stands (drop (group_size at symbols) symbols))
-    ++ trie_from (at + 1) (inner at (take (group_size at symbols) symbols)) ++ trie_from at (drop (group_size at symbols) symbols)
+    trie_from at symbols ≡ node_front at (take (group_size at symbols) symbols) (has_symbols (drop (group_size at symbols) symbols))
+    ++ trie_from (at + 1) (symbols_below at (take (group_size at symbols) symbols)) ++ trie_from at (drop (group_size at symbols) symbols)
 first-node at symbols l h =
     let deep : longest - at ≡ suc (longest - (at + 1)) = omega arith in
     rw deep (nodes-first (longest - (at + 1)) at symbols h)
@@ -68,11 +65,11 @@ unfolding trie
 trie-none zero at = refl
 trie-none (suc deep) at = refl
 
-pub ahead-push : (before : List Pending) (p : Pending) → ahead (before ++ p ∷ []) ≡ trie_from p.at p.symbols.now ++ ahead before
-ahead-push [] p = sym (append-nil (trie_from p.at p.symbols.now))
-ahead-push (q ∷ before) p = ap (λ xs. xs ++ trie_from q.at q.symbols.now) (ahead-push before p) ∙ append_assoc (trie_from p.at p.symbols.now) (ahead before) (trie_from q.at q.symbols.now)
+pub bytes_due-push : (before : List Pending) (p : Pending) → bytes_due (before ++ p ∷ []) ≡ trie_from p.at p.symbols.now ++ bytes_due before
+bytes_due-push [] p = sym (append-nil (trie_from p.at p.symbols.now))
+bytes_due-push (q ∷ before) p = ap (λ xs. xs ++ trie_from q.at q.symbols.now) (bytes_due-push before p) ∙ append_assoc (trie_from p.at p.symbols.now) (bytes_due before) (trie_from q.at q.symbols.now)
 
--- what stands on a node's way: the bytes before it, and what was noted before it
+-- what has_symbols on a node's way: the bytes before it, and what was noted before it
 pub taken : (b c f t l r a d e : List ℕ) → t ≡ f ++ l ++ r → c ≡ b ++ f → d ≡ r ++ a → e ≡ l ++ d → c ++ e ≡ b ++ t ++ a
 taken b c f t l r a d e ht hc hd he = rw (ht, hc, he, hd) (simp append_assoc)
 
@@ -98,29 +95,29 @@ some-symbol (s ∷ more) h = omega arith
 
 -- a node that is written, with what is noted behind it
 pub node-taken : (b c : List ℕ) (at k : ℕ) (symbols g o below : List Symbol) (s : Bool) (a d e : List ℕ) →
-    at < 1024 → (length symbols == 0) ≡ false → k ≡ group_size at symbols → g ≡ take k symbols → o ≡ drop k symbols → s ≡ stands o →
-    below ≡ inner at g → c ≡ b ++ front at g s → d ≡ trie_from at o ++ a → e ≡ trie_from (at + 1) below ++ d →
+    at < 1024 → (length symbols == 0) ≡ false → k ≡ group_size at symbols → g ≡ take k symbols → o ≡ drop k symbols → s ≡ has_symbols o →
+    below ≡ symbols_below at g → c ≡ b ++ node_front at g s → d ≡ trie_from at o ++ a → e ≡ trie_from (at + 1) below ++ d →
     c ++ e ≡ b ++ trie_from at symbols ++ a
 node-taken b c at k symbols g o below s a d e l n hk hg ho hs hb hc hd he =
     let size = group_size at symbols in
     let group : g ≡ take (group_size at symbols) symbols = hg ∙ ap (λ i. take i symbols) hk in
     let others : o ≡ drop (group_size at symbols) symbols = ho ∙ ap (λ i. drop i symbols) hk in
-    taken b c (front at (take size symbols) (stands (drop size symbols))) (trie_from at symbols) (trie_from (at + 1) (inner at (take size symbols))) (trie_from at (drop size symbols)) a d e
+    taken b c (node_front at (take size symbols) (has_symbols (drop size symbols))) (trie_from at symbols) (trie_from (at + 1) (symbols_below at (take size symbols))) (trie_from at (drop size symbols)) a d e
     (first-node at symbols l (some-symbol symbols n))
-    (hc ∙ ap (λ x. b ++ front at x s) group ∙ ap (λ x. b ++ front at (take size symbols) x) (hs ∙ ap (λ x. stands x) others))
+    (hc ∙ ap (λ x. b ++ node_front at x s) group ∙ ap (λ x. b ++ node_front at (take size symbols) x) (hs ∙ ap (λ x. has_symbols x) others))
     (hd ∙ ap (λ x. trie_from at x ++ a) others)
-    (he ∙ ap (λ x. trie_from (at + 1) x ++ d) (hb ∙ ap (inner at) group))
+    (he ∙ ap (λ x. trie_from (at + 1) x ++ d) (hb ∙ ap (symbols_below at) group))
 
 pub less-noted : (b c : List ℕ) (before after whole : List Pending) (p : Pending) →
-    c ++ ahead after ≡ b ++ trie_from p.at p.symbols.now ++ ahead before → whole ≡ before ++ p ∷ [] → length after + length b ≤ length before + length c →
-    length (ahead after) + length after < length (ahead whole) + length whole
+    c ++ bytes_due after ≡ b ++ trie_from p.at p.symbols.now ++ bytes_due before → whole ≡ before ++ p ∷ [] → length after + length b ≤ length before + length c →
+    length (bytes_due after) + length after < length (bytes_due whole) + length whole
 less-noted b c before after whole p h k l =
     let more : length whole ≡ length before + 1 = ap length k ∙ length-append before (p ∷ []) in
-    let less = less-left b c (trie_from p.at p.symbols.now) (ahead before) (ahead after) (ahead whole) (length before) (length after) h (ap ahead k ∙ ahead-push before p) l in
+    let less = less-left b c (trie_from p.at p.symbols.now) (bytes_due before) (bytes_due after) (bytes_due whole) (length before) (length after) h (ap bytes_due k ∙ bytes_due-push before p) l in
     omega (arith, more, less)
 
 pub all-noted : (b c w : List ℕ) (before after whole : List Pending) (p : Pending) →
-    c ++ ahead after ≡ b ++ trie_from p.at p.symbols.now ++ ahead before → whole ≡ before ++ p ∷ [] → b ++ ahead whole ≡ w →
-    c ++ ahead after ≡ w
+    c ++ bytes_due after ≡ b ++ trie_from p.at p.symbols.now ++ bytes_due before → whole ≡ before ++ p ∷ [] → b ++ bytes_due whole ≡ w →
+    c ++ bytes_due after ≡ w
 all-noted b c w before after whole p h k m =
-    taken-all b c (trie_from p.at p.symbols.now) (ahead before) (ahead after) (ahead whole) w h (ap ahead k ∙ ahead-push before p) m
+    taken-all b c (trie_from p.at p.symbols.now) (bytes_due before) (bytes_due after) (bytes_due whole) w h (ap bytes_due k ∙ bytes_due-push before p) m

@@ -1,19 +1,20 @@
 -- What is written is in the grammar.
-use Rattle.std.proofs.Common.{◌≡◌, ℕ, zero, suc, ◌+◌, ◌*◌, ◌<◌, ◌≤◌, ◌==◌, Bool, true, false, cond, List, [], ◌∷◌, ◌++◌, length, take, arith, refl, sym, ap, ◌∙◌, subst, inl, inr, length-append, append-nil}
+use Rattle.std.proofs.Common.{◌≡◌, ℕ, zero, suc, ◌+◌, ◌*◌, ◌<◌, ◌≤◌, ◌==◌, Bool, true, false, cond, List, [], ◌∷◌, ◌++◌, length, take, replicate, arith, refl, sym, ap, ◌∙◌, subst, inl, inr, length-append}
 use Rattle.std.specs.Prelude.{slice_index_or}
 use Rattle.std.specs.List.{AllByRecursion}
 use Rattle.std.proofs.Math.Seq.{take-suc}
 use Rattle.std.proofs.lemmas.Bool.{eqb-true, leb-true, leb-false, cases_lt}
+use Rattle.mx_word.specs.Ranges.{AreBytes}
 use Rattle.mx_word.specs.declared.symbols.Symbol.{Symbol}
 use Rattle.mx_stab.specs.Numbers.{value_bytes, kind, serial_bytes}
-use Rattle.mx_stab.specs.Trie.{next_byte, ends, joined, grouped, bit, stands, nodes, trie, trie_of}
-use Rattle.mx_stab.specs.Order.{Before, AreInOrder, IsNamed}
+use Rattle.mx_stab.specs.Trie.{next_byte, is_last_byte, groups_with, groups_of, bit, has_symbols, nodes, trie, trie_of}
+use Rattle.mx_stab.specs.Order.{InByteOrder, IsNamed}
 use Rattle.mx_stab.specs.Grammar.{IsSubtrie, IsTrie}
-use Rattle.mx_stab.specs.Grammar.IsSubtrie.{none, passed, symbol}
+use Rattle.mx_stab.specs.Grammar.IsSubtrie.{none, bare, passage, symbol}
 use Rattle.mx_stab.specs.Grammar.IsTrie.{empty, whole}
-use Rattle.mx_stab.specs.Grammar.SpellsCharacter.{byte}
-use Rattle.mx_stab.proofs.Orders.{all-front, all-back, order-front, order-back, no-front-behind, in-order-distinct}
-use Rattle.mx_stab.proofs.Groups.{stands-grouped, trie-none}
+use Rattle.mx_stab.specs.Grammar.SpellsCharacter.{one_byte}
+use Rattle.mx_stab.proofs.Orders.{AreInOrder, Below, all-front, all-back, in-order, order-front, order-back, no-front-behind, in-order-distinct}
+use Rattle.mx_stab.proofs.Groups.{has_symbols-groups_of, trie-none}
 use Rattle.mx_stab.proofs.Spelt.{spell-value, spell-serial}
 
 -- a symbol whose name begins with a path, and goes on
@@ -40,14 +41,14 @@ join-groups true at s t group groups h g gs = ((h refl, same group g), gs)
     same (u ∷ us) k = (k.0 ∙ h refl, same us k.1)
 join-groups false at s t group groups h g gs = (tt, (g, gs))
 
-joined-groups : (at : ℕ) (s : Symbol) (groups : List (List Symbol)) → AllByRecursion (IsGroup at) groups → AllByRecursion (IsGroup at) (joined at s groups)
-joined-groups at s [] h = (tt, tt)
-joined-groups at s ([] ∷ groups) h = absurd (h.0)
-joined-groups at s ((t ∷ group) ∷ groups) h = join-groups (next_byte at t == next_byte at s) at s t group groups (eqb-true (next_byte at t) (next_byte at s)) h.0 h.1
+groups_with-groups : (at : ℕ) (s : Symbol) (groups : List (List Symbol)) → AllByRecursion (IsGroup at) groups → AllByRecursion (IsGroup at) (groups_with at s groups)
+groups_with-groups at s [] h = (tt, tt)
+groups_with-groups at s ([] ∷ groups) h = absurd (h.0)
+groups_with-groups at s ((t ∷ group) ∷ groups) h = join-groups (next_byte at t == next_byte at s) at s t group groups (eqb-true (next_byte at t) (next_byte at s)) h.0 h.1
 
-are-groups : (at : ℕ) (symbols : List Symbol) → AllByRecursion (IsGroup at) (grouped at symbols)
+are-groups : (at : ℕ) (symbols : List Symbol) → AllByRecursion (IsGroup at) (groups_of at symbols)
 are-groups at [] = tt
-are-groups at (s ∷ more) = joined-groups at s (grouped at more) (are-groups at more)
+are-groups at (s ∷ more) = groups_with-groups at s (groups_of at more) (are-groups at more)
 
 -- the symbols of groups
 abbrev all-of : List (List Symbol) → List Symbol
@@ -59,14 +60,14 @@ concat-step : (b : Bool) (s t : Symbol) (group : List Symbol) (groups : List (Li
 concat-step true s t group groups = refl
 concat-step false s t group groups = refl
 
-concat-joined : (at : ℕ) (s : Symbol) (groups : List (List Symbol)) → all-of (joined at s groups) ≡ s ∷ all-of groups
-concat-joined at s [] = refl
-concat-joined at s ([] ∷ groups) = refl
-concat-joined at s ((t ∷ group) ∷ groups) = concat-step (next_byte at t == next_byte at s) s t group groups
+concat-groups_with : (at : ℕ) (s : Symbol) (groups : List (List Symbol)) → all-of (groups_with at s groups) ≡ s ∷ all-of groups
+concat-groups_with at s [] = refl
+concat-groups_with at s ([] ∷ groups) = refl
+concat-groups_with at s ((t ∷ group) ∷ groups) = concat-step (next_byte at t == next_byte at s) s t group groups
 
-concat-grouped : (at : ℕ) (symbols : List Symbol) → all-of (grouped at symbols) ≡ symbols
-concat-grouped at [] = refl
-concat-grouped at (s ∷ more) = concat-joined at s (grouped at more) ∙ ap (λ ss. s ∷ ss) (concat-grouped at more)
+concat-groups_of : (at : ℕ) (symbols : List Symbol) → all-of (groups_of at symbols) ≡ symbols
+concat-groups_of at [] = refl
+concat-groups_of at (s ∷ more) = concat-groups_with at s (groups_of at more) ∙ ap (λ ss. s ∷ ss) (concat-groups_of at more)
 
 -- the path with the next byte
 next-path : (path : List ℕ) (s : Symbol) → Under path s → take (length path + 1) s.name ≡ path ++ next_byte (length path) s ∷ []
@@ -90,7 +91,7 @@ take-whole (suc n) [] h = refl
 take-whole (suc n) (x ∷ xs) h = ap (λ ys. x ∷ ys) (take-whole n xs (omega (arith, h)))
 
 -- a name behind another of its group goes on
-goes-on : (path : List ℕ) (s t : Symbol) → Under path s → Under path t → next_byte (length path) t ≡ next_byte (length path) s → Before s.name t.name → length path + 1 < length t.name
+goes-on : (path : List ℕ) (s t : Symbol) → Under path s → Under path t → next_byte (length path) t ≡ next_byte (length path) s → Below s.name t.name → length path + 1 < length t.name
 goes-on path s t u v e b = elim (cases_lt (length path + 1) (length t.name)) [
   | inl l ↦ l
   | inr l ↦
@@ -99,7 +100,7 @@ goes-on path s t u v e b = elim (cases_lt (length path + 1) (length t.name)) [
 ]
 
 more-below : (path : List ℕ) (s : Symbol) (more : List Symbol) → Under path s → AreUnder path more →
-    AllByRecursion (λ (t : Symbol). next_byte (length path) t ≡ next_byte (length path) s) more → AllByRecursion (λ (t : Symbol). Before s.name t.name) more →
+    AllByRecursion (λ (t : Symbol). next_byte (length path) t ≡ next_byte (length path) s) more → AllByRecursion (λ (t : Symbol). Below s.name t.name) more →
     AreUnder (path ++ next_byte (length path) s ∷ []) more
 more-below path s [] u h g b = tt
 more-below path s (t ∷ more) u h g b =
@@ -123,20 +124,20 @@ byte-passed false = refl
 -- what a smaller trie tells
 abbrev Holds : ℕ → Type 0
 Holds deep = (path : List ℕ) (symbols : List Symbol) → length path + deep ≡ 1024 → AreUnder path symbols → AreInOrder symbols →
-    IsSubtrie (flag (stands symbols)) path (trie deep (length path) symbols) symbols
+    IsSubtrie (flag (has_symbols symbols)) path (trie deep (length path) symbols) symbols
 
 -- the same below a path and one byte
 holds-below : (deep : ℕ) → Holds deep → (path : List ℕ) (c : ℕ) (symbols : List Symbol) → length path + suc deep ≡ 1024 → AreUnder (path ++ c ∷ []) symbols → AreInOrder symbols →
-    IsSubtrie (flag (stands symbols)) (path ++ c ∷ []) (trie deep (length path + 1) symbols) symbols
+    IsSubtrie (flag (has_symbols symbols)) (path ++ c ∷ []) (trie deep (length path + 1) symbols) symbols
 holds-below deep holds path c symbols n u o =
     let long : length (path ++ c ∷ []) ≡ length path + 1 = length-append path (c ∷ []) in
-    subst (λ at. IsSubtrie (flag (stands symbols)) (path ++ c ∷ []) (trie deep at symbols) symbols) long
+    subst (λ at. IsSubtrie (flag (has_symbols symbols)) (path ++ c ∷ []) (trie deep at symbols) symbols) long
     (holds (path ++ c ∷ []) symbols (omega (arith, long, n)) u o)
 
 own-name : (path : List ℕ) (s : Symbol) → Under path s → length s.name ≤ length path + 1 → path ++ next_byte (length path) s ∷ [] ≡ s.name
 own-name path s u l = sym (next-path path s u) ∙ take-whole (length path + 1) s.name l
 
-byte-below : (name : List ℕ) (n : ℕ) → AllByRecursion (λ d. d < 256) name → n < length name → slice_index_or name n 0 < 256
+byte-below : (name : List ℕ) (n : ℕ) → AreBytes name → n < length name → slice_index_or name n 0 < 256
 byte-below [] n h l = absurd (omega (arith, l))
 byte-below (b ∷ more) zero h l = h.0
 byte-below (b ∷ more) (suc n) h l = byte-below more n h.1 (omega (arith, l))
@@ -144,59 +145,59 @@ byte-below (b ∷ more) (suc n) h l = byte-below more n h.1 (omega (arith, l))
 path-fits : (path : List ℕ) (s : Symbol) → Under path s → length (path ++ next_byte (length path) s ∷ []) ≤ 1024
 path-fits path s u = omega (arith, length-append path (next_byte (length path) s ∷ []), u.longer, u.named.most)
 
-node-ends : (path : List ℕ) (s : Symbol) (more others : List Symbol) (r : Bool) (middle right : List ℕ) → Under path s → length s.name ≤ length path + 1 →
-    IsSubtrie (flag (stands more)) (path ++ next_byte (length path) s ∷ []) middle more → IsSubtrie (flag r) path right others →
-    IsSubtrie 1 path (((bit 0x20 (stands more) + bit 0x10 r + kind s.value) ∷ next_byte (length path) s ∷ value_bytes s.value ++ serial_bytes s.serial) ++ middle ++ right) ((s ∷ more) ++ others)
-node-ends path s more others r middle right u l m o =
+node-is_last_byte : (path : List ℕ) (s : Symbol) (more others : List Symbol) (r : Bool) (middle right : List ℕ) → Under path s → length s.name ≤ length path + 1 →
+    IsSubtrie (flag (has_symbols more)) (path ++ next_byte (length path) s ∷ []) middle more → IsSubtrie (flag r) path right others →
+    IsSubtrie 1 path (((bit 0x20 (has_symbols more) + bit 0x10 r + kind s.value) ∷ next_byte (length path) s ∷ value_bytes s.value ++ serial_bytes s.serial) ++ middle ++ right) ((s ∷ more) ++ others)
+node-is_last_byte path s more others r middle right u l m o =
     let c = next_byte (length path) s in
-    let built = symbol path (c ∷ []) (c ∷ []) 0 0 (flag (stands more)) (flag r) (kind s.value) s.serial s.value [] (value_bytes s.value) (serial_bytes s.serial) middle right [] more others
-    (byte c (byte-below s.name (length path) u.named.bytes u.longer)) (path-fits path s u) (spell-value s.value u.named.value) (spell-serial s.serial u.named.serial)
+    let built = symbol path (c ∷ []) (c ∷ []) 0 0 (flag (has_symbols more)) (flag r) (kind s.value) s.serial s.value [] (value_bytes s.value) (serial_bytes s.serial) middle right [] more others
+    (one_byte c (byte-below s.name (length path) u.named.bytes u.longer)) (path-fits path s u) (spell-value s.value u.named.value) (spell-serial s.serial u.named.serial)
     (none path) m o in
-    let named = subst (λ name. IsSubtrie 1 path (((0 + 0x40 * 0 + 0x20 * flag (stands more) + 0x10 * flag r + kind s.value) ∷ c ∷ value_bytes s.value ++ serial_bytes s.serial) ++ middle ++ right)
+    let named = subst (λ name. IsSubtrie 1 path (((0 + 0x40 * 0 + 0x20 * flag (has_symbols more) + 0x10 * flag r + kind s.value) ∷ c ∷ value_bytes s.value ++ serial_bytes s.serial) ++ middle ++ right)
     ((record { name = name; value = s.value; serial = s.serial } ∷ more) ++ others)) (own-name path s u l) built in
-    subst (λ b. IsSubtrie 1 path ((b ∷ c ∷ value_bytes s.value ++ serial_bytes s.serial) ++ middle ++ right) ((s ∷ more) ++ others)) (byte-symbol (stands more) r (kind s.value)) named
+    subst (λ b. IsSubtrie 1 path ((b ∷ c ∷ value_bytes s.value ++ serial_bytes s.serial) ++ middle ++ right) ((s ∷ more) ++ others)) (byte-symbol (has_symbols more) r (kind s.value)) named
 
 node-passes : (path : List ℕ) (s : Symbol) (more others : List Symbol) (r : Bool) (middle right : List ℕ) → Under path s →
     IsSubtrie 1 (path ++ next_byte (length path) s ∷ []) middle (s ∷ more) → IsSubtrie (flag r) path right others →
     IsSubtrie 1 path (((bit 0x20 true + bit 0x10 r) ∷ next_byte (length path) s ∷ []) ++ middle ++ right) ((s ∷ more) ++ others)
 node-passes path s more others r middle right u m o =
     let c = next_byte (length path) s in
-    let built = passed path (c ∷ []) (c ∷ []) 0 0 (flag r) [] middle right [] (s ∷ more) others
-    (byte c (byte-below s.name (length path) u.named.bytes u.longer)) (path-fits path s u) (none path) m o in
+    let built = passage path (c ∷ []) (c ∷ []) 0 0 (flag r) [] middle right [] (s ∷ more) others
+    (one_byte c (byte-below s.name (length path) u.named.bytes u.longer)) (path-fits path s u) (none path) m o in
     subst (λ b. IsSubtrie 1 path ((b ∷ c ∷ []) ++ middle ++ right) ((s ∷ more) ++ others)) (byte-passed r) built
 
--- a node: its name ends here or goes on
+-- a node: its name is_last_byte here or goes on
 node-is : (e : Bool) (deep : ℕ) → Holds deep → (path : List ℕ) (s : Symbol) (more others : List Symbol) (r : Bool) (right : List ℕ) →
     (e ≡ true → length s.name ≤ length path + 1) → (e ≡ false → length path + 1 < length s.name) →
     length path + suc deep ≡ 1024 → AreUnder path (s ∷ more) → IsGroup (length path) (s ∷ more) → AreInOrder (s ∷ more) →
     IsSubtrie (flag r) path right others →
     IsSubtrie 1 path
-    (cond e ((bit 0x20 (stands (cond e more (s ∷ more))) + bit 0x10 r + kind s.value) ∷ next_byte (length path) s ∷ value_bytes s.value ++ serial_bytes s.serial)
-    ((bit 0x20 (stands (cond e more (s ∷ more))) + bit 0x10 r) ∷ next_byte (length path) s ∷ [])
+    (cond e ((bit 0x20 (has_symbols (cond e more (s ∷ more))) + bit 0x10 r + kind s.value) ∷ next_byte (length path) s ∷ value_bytes s.value ++ serial_bytes s.serial)
+    ((bit 0x20 (has_symbols (cond e more (s ∷ more))) + bit 0x10 r) ∷ next_byte (length path) s ∷ [])
     ++ trie deep (length path + 1) (cond e more (s ∷ more)) ++ right)
     ((s ∷ more) ++ others)
 node-is true deep holds path s more others r right t f n u g o k =
-    node-ends path s more others r _ right u.0 (t refl)
+    node-is_last_byte path s more others r _ right u.0 (t refl)
     (holds-below deep holds path (next_byte (length path) s) more n (more-below path s more u.0 u.1 g o.0) o.1) k
 node-is false deep holds path s more others r right t f n u g o k =
     node-passes path s more others r _ right u.0
     (holds-below deep holds path (next_byte (length path) s) (s ∷ more) n
     (below-path path (next_byte (length path) s) s u.0 refl (f refl), more-below path s more u.0 u.1 g o.0) o) k
 
-ends-true : (at : ℕ) (s : Symbol) → ends at s ≡ true → length s.name ≤ at + 1
-ends-true at s h = leb-true (length s.name) (at + 1) h
+is_last_byte-true : (at : ℕ) (s : Symbol) → is_last_byte at s ≡ true → length s.name ≤ at + 1
+is_last_byte-true at s h = leb-true (length s.name) (at + 1) h
 
-ends-false : (at : ℕ) (s : Symbol) → ends at s ≡ false → at + 1 < length s.name
-ends-false at s h = leb-false (length s.name) (at + 1) h
+is_last_byte-false : (at : ℕ) (s : Symbol) → is_last_byte at s ≡ false → at + 1 < length s.name
+is_last_byte-false at s h = leb-false (length s.name) (at + 1) h
 
 nodes-are : (deep : ℕ) → Holds deep → (path : List ℕ) (groups : List (List Symbol)) → length path + suc deep ≡ 1024 →
     AllByRecursion (IsGroup (length path)) groups → AreUnder path (all-of groups) → AreInOrder (all-of groups) →
-    IsSubtrie (flag (stands groups)) path (nodes (trie deep (length path + 1)) (length path) groups) (all-of groups)
+    IsSubtrie (flag (has_symbols groups)) path (nodes (trie deep (length path + 1)) (length path) groups) (all-of groups)
 nodes-are deep holds path [] n g u o = none path
 nodes-are deep holds path ([] ∷ groups) n g u o = absurd (g.0)
 nodes-are deep holds path ((s ∷ more) ∷ groups) n g u o =
-    node-is (ends (length path) s) deep holds path s more (all-of groups) (stands groups) (nodes (trie deep (length path + 1)) (length path) groups)
-    (ends-true (length path) s) (ends-false (length path) s) n (all-front (Under path) (s ∷ more) (all-of groups) u) g.0 (order-front (s ∷ more) (all-of groups) o)
+    node-is (is_last_byte (length path) s) deep holds path s more (all-of groups) (has_symbols groups) (nodes (trie deep (length path + 1)) (length path) groups)
+    (is_last_byte-true (length path) s) (is_last_byte-false (length path) s) n (all-front (Under path) (s ∷ more) (all-of groups) u) g.0 (order-front (s ∷ more) (all-of groups) o)
     (nodes-are deep holds path groups n g.1 (all-back (Under path) (s ∷ more) (all-of groups) u) (order-back (s ∷ more) (all-of groups) o))
 
 too-deep : (path : List ℕ) (symbols : List Symbol) → length path + zero ≡ 1024 → AreUnder path symbols → symbols ≡ []
@@ -207,17 +208,22 @@ holds-all : (deep : ℕ) → Holds deep
 unfolding trie
 holds-all zero path symbols n u o = rw (too-deep path symbols n u) (none path)
 holds-all (suc deep) path symbols n u o =
-    let all = concat-grouped (length path) symbols in
-    let found = nodes-are deep (holds-all deep) path (grouped (length path) symbols) n (are-groups (length path) symbols) (subst (AreUnder path) (sym all) u) (subst AreInOrder (sym all) o) in
-    subst (λ b. IsSubtrie (flag b) path (nodes (trie deep (length path + 1)) (length path) (grouped (length path) symbols)) symbols) (stands-grouped (length path) symbols)
-    (subst (λ ss. IsSubtrie (flag (stands (grouped (length path) symbols))) path (nodes (trie deep (length path + 1)) (length path) (grouped (length path) symbols)) ss) all found)
+    let all = concat-groups_of (length path) symbols in
+    let found = nodes-are deep (holds-all deep) path (groups_of (length path) symbols) n (are-groups (length path) symbols) (subst (AreUnder path) (sym all) u) (subst AreInOrder (sym all) o) in
+    subst (λ b. IsSubtrie (flag b) path (nodes (trie deep (length path + 1)) (length path) (groups_of (length path) symbols)) symbols) (has_symbols-groups_of (length path) symbols)
+    (subst (λ ss. IsSubtrie (flag (has_symbols (groups_of (length path) symbols))) path (nodes (trie deep (length path + 1)) (length path) (groups_of (length path) symbols)) ss) all found)
 
 under-none : (symbols : List Symbol) → AllByRecursion IsNamed symbols → AreUnder [] symbols
 under-none [] h = tt
 under-none (s ∷ more) h = (record { path-first = refl; longer = h.0.least; named = h.0 }, under-none more h.1)
 
-pub written-is-trie : (symbols : List Symbol) → AreInOrder symbols → AllByRecursion IsNamed symbols → IsTrie (trie_of symbols) symbols
-written-is-trie [] o h = subst (λ bytes. IsTrie bytes []) (sym (trie-none 1024 0)) empty
-written-is-trie (s ∷ more) o h =
-    subst (λ bytes. IsTrie bytes (s ∷ more)) (append-nil (trie_of (s ∷ more)))
-    (whole (trie_of (s ∷ more)) 0 (s ∷ more) (holds-all 1024 [] (s ∷ more) refl (under-none (s ∷ more) h) o) (omega arith) (in-order-distinct (s ∷ more) o))
+-- zeros alone are a node without a character, with padding behind it
+zeros-are-trie : (zeros : ℕ) → zeros ≤ 3 → IsTrie (replicate zeros 0) []
+zeros-are-trie zero l = empty
+zeros-are-trie (suc zeros) l = whole (0 ∷ []) zeros [] (bare [] 0 0 [] [] [] [] (none []) (none [])) (omega (arith, l)) tt
+
+pub written-is-trie : (symbols : List Symbol) (zeros : ℕ) → InByteOrder symbols → AllByRecursion IsNamed symbols → zeros ≤ 3 → IsTrie (trie_of symbols ++ replicate zeros 0) symbols
+written-is-trie [] zeros o h few = subst (λ bytes. IsTrie (bytes ++ replicate zeros 0) []) (sym (trie-none 1024 0)) (zeros-are-trie zeros few)
+written-is-trie (s ∷ more) zeros o h few =
+    let ordered = in-order (s ∷ more) o in
+    whole (trie_of (s ∷ more)) zeros (s ∷ more) (holds-all 1024 [] (s ∷ more) refl (under-none (s ∷ more) h) ordered) few (in-order-distinct (s ∷ more) ordered)

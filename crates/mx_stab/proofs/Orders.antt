@@ -1,9 +1,15 @@
--- Names in order.
-use Rattle.std.proofs.Common.{◌≡◌, ◌≢◌, ℕ, zero, suc, List, [], ◌∷◌, ◌++◌, take, arith, inl, inr}
+-- Names in byte order.
+use Rattle.std.proofs.Common.{◌≡◌, ◌≢◌, ℕ, zero, suc, ◌<◌, ◌⊎◌, true, List, [], ◌∷◌, ◌++◌, take, map, Ordering, arith, refl, inl, inr}
 use Rattle.std.specs.List.{AllByRecursion}
+use Rattle.std.specs.List.Sorted.{IsStrictlySortedBy}
+use Rattle.std.specs.Cmp.Lexicographic.{slice_cmp}
+use Rattle.std.specs.Ordering.{nat_cmp, is_lt, ordering_then, MatchOrdering}
+use Rattle.std.specs.declared.cmp.Ordering.TheVariants.{Less, Equal, Greater}
+use Rattle.std.proofs.lemmas.Cmp.{nat_list_cmp_total, ranked}
 use Rattle.mx_word.specs.declared.symbols.Symbol.{Symbol}
 use Rattle.mx_stab.specs.Grammar.{AreDistinct}
-use Rattle.mx_stab.specs.Order.{Before, AreInOrder}
+use Rattle.mx_stab.specs.Names.{is_above}
+use Rattle.mx_stab.specs.Order.{InByteOrder}
 
 pub all-front : {A : Type 0} (P : A → Type 0) (xs ys : List A) → AllByRecursion P (xs ++ ys) → AllByRecursion P xs
 all-front P [] ys h = tt
@@ -13,42 +19,82 @@ pub all-back : {A : Type 0} (P : A → Type 0) (xs ys : List A) → AllByRecursi
 all-back P [] ys h = h
 all-back P (x ∷ xs) ys h = all-back P xs ys h.1
 
+pub all-both : {A : Type 0} (P : A → Type 0) (xs ys : List A) → AllByRecursion P xs → AllByRecursion P ys → AllByRecursion P (xs ++ ys)
+all-both P [] ys h k = k
+all-both P (x ∷ xs) ys h k = (h.0, all-both P xs ys h.1 k)
+
+-- a name is below another
+abbrev pub Below : List ℕ → List ℕ → Type 0
+Below a b = slice_cmp nat_cmp a b ≡ Less
+
+-- each name is below all that stand behind it
+abbrev pub AreInOrder : List Symbol → Type 0
+AreInOrder [] = Unit {0}
+AreInOrder (s ∷ more) = AllByRecursion (λ (t : Symbol). Below s.name t.name) more × AreInOrder more
+
+names-behind : (name : List ℕ) (more : List Symbol) → AllByRecursion (λ y. slice_cmp nat_cmp name y ≡ Less) (map (λ (s : Symbol). s.name) more) → AllByRecursion (λ (t : Symbol). Below name t.name) more
+names-behind name [] h = tt
+names-behind name (t ∷ more) h = (h.0, names-behind name more h.1)
+
+behind-names : (name : List ℕ) (more : List Symbol) → AllByRecursion (λ (t : Symbol). Below name t.name) more → AllByRecursion (λ y. slice_cmp nat_cmp name y ≡ Less) (map (λ (s : Symbol). s.name) more)
+behind-names name [] h = tt
+behind-names name (t ∷ more) h = (h.0, behind-names name more h.1)
+
+pub in-order : (symbols : List Symbol) → InByteOrder symbols → AreInOrder symbols
+unfolding IsStrictlySortedBy
+in-order [] h = tt
+in-order (s ∷ more) h = (names-behind s.name more h.0, in-order more h.1)
+
+pub in-byte-order : (symbols : List Symbol) → AreInOrder symbols → InByteOrder symbols
+unfolding IsStrictlySortedBy
+in-byte-order [] h = tt
+in-byte-order (s ∷ more) h = (behind-names s.name more h.0, in-byte-order more h.1)
+
 pub order-front : (xs ys : List Symbol) → AreInOrder (xs ++ ys) → AreInOrder xs
 order-front [] ys h = tt
-order-front (x ∷ xs) ys h = (all-front (λ (t : Symbol). Before x.name t.name) xs ys h.0, order-front xs ys h.1)
+order-front (x ∷ xs) ys h = (all-front (λ (t : Symbol). Below x.name t.name) xs ys h.0, order-front xs ys h.1)
 
 pub order-back : (xs ys : List Symbol) → AreInOrder (xs ++ ys) → AreInOrder ys
 order-back [] ys h = h
 order-back (x ∷ xs) ys h = order-back xs ys h.1
 
-not-same : (a b : List ℕ) → Before a b → a ≡ b → ⊥
-not-same [] [] h e = h
+-- how the first bytes of two names decide
+below-first : (a b : ℕ) (xs ys : List ℕ) → Below (a ∷ xs) (b ∷ ys) → (a < b) ⊎ ((a ≡ b) × Below xs ys)
+below-first a b xs ys = one (nat_cmp a b) (ranked a b (nat_cmp a b) refl)
+  where
+    one : (o : Ordering) → MatchOrdering o (a < b) (a ≡ b) (b < a) → ordering_then o (slice_cmp nat_cmp xs ys) ≡ Less → (a < b) ⊎ ((a ≡ b) × Below xs ys)
+    one Less l h = inl l
+    one Equal l h = inr (l, h)
+    one Greater l h = absurd (cc)
+
+not-same : (a b : List ℕ) → Below a b → a ≡ b → ⊥
+not-same [] [] h e = absurd (cc)
 not-same [] (b ∷ ys) h e = absurd (cc)
-not-same (a ∷ xs) [] h e = h
+not-same (a ∷ xs) [] h e = absurd (cc)
 not-same (a ∷ xs) (b ∷ ys) h e =
     let first : a ≡ b = cc in
     let rest : xs ≡ ys = cc in
-    elim h [
+    elim (below-first a b xs ys h) [
       | inl l ↦ absurd (omega (arith, first, l))
       | inr p ↦ not-same xs ys p.1 rest
     ]
 
--- no name comes before what it begins with
-pub no-front-behind : (n : ℕ) (a b : List ℕ) → Before a b → take n a ≡ b → ⊥
-no-front-behind n [] [] h e = h
+-- no name is below one that it begins with
+pub no-front-behind : (n : ℕ) (a b : List ℕ) → Below a b → take n a ≡ b → ⊥
+no-front-behind n [] [] h e = absurd (cc)
 no-front-behind zero [] (b ∷ ys) h e = absurd (cc)
 no-front-behind (suc n) [] (b ∷ ys) h e = absurd (cc)
-no-front-behind n (a ∷ xs) [] h e = h
+no-front-behind n (a ∷ xs) [] h e = absurd (cc)
 no-front-behind zero (a ∷ xs) (b ∷ ys) h e = absurd (cc)
 no-front-behind (suc n) (a ∷ xs) (b ∷ ys) h e =
     let first : a ≡ b = cc in
     let rest : take n xs ≡ ys = cc in
-    elim h [
+    elim (below-first a b xs ys h) [
       | inl l ↦ absurd (omega (arith, first, l))
       | inr p ↦ no-front-behind n xs ys p.1 rest
     ]
 
-distinct-first : (s : Symbol) (more : List Symbol) → AllByRecursion (λ (t : Symbol). Before s.name t.name) more → AllByRecursion (λ (t : Symbol). s.name ≢ t.name) more
+distinct-first : (s : Symbol) (more : List Symbol) → AllByRecursion (λ (t : Symbol). Below s.name t.name) more → AllByRecursion (λ (t : Symbol). s.name ≢ t.name) more
 distinct-first s [] h = tt
 distinct-first s (t ∷ more) h = (not-same s.name t.name h.0, distinct-first s more h.1)
 
@@ -56,3 +102,18 @@ distinct-first s (t ∷ more) h = (not-same s.name t.name h.0, distinct-first s 
 pub in-order-distinct : (symbols : List Symbol) → AreInOrder symbols → AreDistinct symbols
 in-order-distinct [] h = tt
 in-order-distinct (s ∷ more) h = (distinct-first s more h.0, in-order-distinct more h.1)
+
+-- a name above the last one keeps the order
+less-is : (o : Ordering) → is_lt o ≡ true → o ≡ Less
+less-is Less h = refl
+less-is Equal h = absurd (cc)
+less-is Greater h = absurd (cc)
+
+pub order-push : (symbols : List Symbol) (new : Symbol) → AreInOrder symbols → is_above new.name symbols ≡ true → AreInOrder (symbols ++ new ∷ [])
+order-push [] new o h = (tt, tt)
+order-push (s ∷ []) new o h = ((less-is _ h, tt), (tt, tt))
+order-push (s ∷ t ∷ more) new o h =
+    let rest = order-push (t ∷ more) new o.1 h in
+    let last = all-back (λ (u : Symbol). Below t.name u.name) more (new ∷ []) rest.0 in
+    let first : Below s.name new.name = nat_list_cmp_total.trans s.name t.name new.name o.0.0 last.0 in
+    (all-both (λ (u : Symbol). Below s.name u.name) (t ∷ more) (new ∷ []) o.0 (first, tt), rest)

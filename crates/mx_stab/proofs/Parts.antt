@@ -1,11 +1,13 @@
 -- The meaning of a subtrie does not hang on the bound of its nodes.
-use Rattle.std.proofs.Common.{◌≡◌, ℕ, zero, suc, ◌+◌, ◌-◌, ◌*◌, ◌^◌, ◌≤◌, ◌==◌, ◌%◌, Bool, true, false, cond, List, [], ◌∷◌, ◌++◌, length, take, drop, Option, Some, None, Ok, Err, arith, refl, sym, ap, ◌∙◌, length-drop}
+use Rattle.std.proofs.Common.{◌≡◌, ℕ, zero, suc, ◌+◌, ◌-◌, ◌*◌, ◌^◌, ◌≤◌, ◌==◌, ◌%◌, Bool, true, false, cond, List, [], ◌∷◌, ◌++◌, length, take, drop, Option, Some, None, Result, Ok, Err, arith, refl, sym, ap, ◌∙◌, length-drop}
 use Rattle.std.specs.Prelude.{nat_le, nat_lt}
 use Rattle.mx_word.specs.declared.symbols.Symbol.{Symbol}
 use Rattle.mx_word.specs.declared.symbols.Value.{Value}
 use Rattle.mx_stab.specs.declared.faults.StabFault.{StabFault}
 use Rattle.mx_stab.specs.declared.faults.StabFault.TheVariants.{Truncated, Wide, TooLong}
-use Rattle.mx_stab.specs.Reading.{Reading, Answer, and_then, part_if, is_among, value_size, value_of, serial_behind, counted, symbol, has, has_character, character, node, subtrie, next_subtrie}
+use Rattle.std.specs.Char.{encode_utf8}
+use Rattle.mx_stab.specs.Characters.{wide_number, is_wide_character}
+use Rattle.mx_stab.specs.Reading.{Reading, Answer, Character, and_then, part_if, is_among, value_size, value_of, serial_behind, symbol_with, symbol, has, has_character, is_wide_bare, one_byte, two_bytes, character_of, character_part, with_character, character, node_rest, node, subtrie, next_subtrie}
 
 -- no more than so many bytes are left
 abbrev pub Leaves : ℕ → Answer → Type 0
@@ -50,53 +52,74 @@ serial-leaves x (b ∷ more) = one (nat_lt b 128) (serial-leaves (x * 128 + b) m
     one true h = behind-more (length more) (length (b ∷ more)) (serial_behind (x * 128 + b) more) (omega arith) h
     one false h = omega arith
 
-counted-leaves : (n node : ℕ) (name : List ℕ) (value : Value) (s : Reading) (r : Option (ℕ × List ℕ)) → LeavesBehind n r → Leaves n (counted node name value s r)
-counted-leaves n node name value s None h = tt
-counted-leaves n node name value s (Some (serial, more)) h =
+symbol_with-leaves : (n node : ℕ) (name : List ℕ) (value : Value) (s : Reading) (r : Option (ℕ × List ℕ)) → LeavesBehind n r → Leaves n (symbol_with node name value s r)
+symbol_with-leaves n node name value s None h = tt
+symbol_with-leaves n node name value s (Some (serial, more)) h =
     leaves-cond (nat_le (2 ^ 32) serial) n _ _ (leaves-cond (is_among name s.found) n _ _ h)
 
 symbol-reads : (kind node : ℕ) (name : List ℕ) → Reads (symbol kind node name)
 symbol-reads kind node name s = one (kind == 0)
   where
-    one : (b : Bool) → Leaves (length s.rest) (cond b (Ok s) (cond (nat_lt (length s.rest) (value_size kind)) (Err (Truncated (s.at + length s.rest))) (counted node name (value_of kind (take (value_size kind) s.rest)) s (serial_behind 0 (drop (value_size kind) s.rest)))))
+    one : (b : Bool) → Leaves (length s.rest) (cond b (Ok s) (cond (nat_lt (length s.rest) (value_size kind)) (Err (Truncated (s.at + length s.rest))) (symbol_with node name (value_of kind (take (value_size kind) s.rest)) s (serial_behind 0 (drop (value_size kind) s.rest)))))
     one true = omega arith
     one false = leaves-cond (nat_lt (length s.rest) (value_size kind)) (length s.rest) _ _
-        (counted-leaves (length s.rest) node name (value_of kind (take (value_size kind) s.rest)) s (serial_behind 0 (drop (value_size kind) s.rest))
+        (symbol_with-leaves (length s.rest) node name (value_of kind (take (value_size kind) s.rest)) s (serial_behind 0 (drop (value_size kind) s.rest))
         (behind-more (length (drop (value_size kind) s.rest)) (length s.rest) (serial_behind 0 (drop (value_size kind) s.rest)) (omega (arith, length-drop (value_size kind) s.rest)) (serial-leaves 0 (drop (value_size kind) s.rest))))
 
-character-leaves : (inner : List ℕ → Reading → Answer) → ((path : List ℕ) → Reads (inner path)) → (node m : ℕ) (path : List ℕ) (at : ℕ) (found : List Symbol) (bytes : List ℕ) →
-    Leaves (length bytes) (character inner node m path at found bytes)
-character-leaves inner r node m path at found [] = tt
-character-leaves inner r node m path at found (c ∷ rest) =
-    leaves-cond (nat_le 1024 (length path)) (length (c ∷ rest)) (TooLong node) _
-    (leaves-then (length (c ∷ rest)) (part_if (has 0x20 m) (inner (path ++ c ∷ []))) _ (reads-if (has 0x20 m) _ (r (path ++ c ∷ [])))
-    (leaves-more (length rest) (length (c ∷ rest)) _ (omega arith) (symbol-reads (m % 16) node (path ++ c ∷ []) (record { at = at + 1; rest = rest; found = found }))))
+-- a character leaves less
+abbrev LeavesCharacter : ℕ → Result Character StabFault → Type 0
+LeavesCharacter n (Ok c) = length c.behind.rest ≤ n
+LeavesCharacter n (Err fault) = Unit {0}
 
--- what stands behind the byte m leaves no more than stood there
-left-leaves : (inner : List ℕ → Reading → Answer) → ((path : List ℕ) → Reads (inner path)) → (m : ℕ) (path : List ℕ) (s : Reading) → Leaves (length s.rest) (part_if (has 0x40 m) (inner path) s)
-left-leaves inner r m path s = reads-if (has 0x40 m) (inner path) (r path) s
+one_byte-leaves : (at : ℕ) (found : List Symbol) (bytes : List ℕ) → LeavesCharacter (length bytes) (one_byte at found bytes)
+one_byte-leaves at found [] = tt
+one_byte-leaves at found (c ∷ rest) = omega arith
 
-middle-leaves : (inner : List ℕ → Reading → Answer) → ((path : List ℕ) → Reads (inner path)) → (node m : ℕ) (path : List ℕ) (n : ℕ) (a : Answer) → Leaves n a →
-    Leaves n (and_then (part_if (has_character m) (λ s. character inner node m path s.at s.found s.rest)) a)
-middle-leaves inner r node m path n a h =
-    leaves-then n (part_if (has_character m) (λ s. character inner node m path s.at s.found s.rest)) a
-    (reads-if (has_character m) (λ s. character inner node m path s.at s.found s.rest) (λ s. character-leaves inner r node m path s.at s.found s.rest)) h
+two_bytes-leaves : (node at : ℕ) (found : List Symbol) (bytes : List ℕ) → LeavesCharacter (length bytes) (two_bytes node at found bytes)
+two_bytes-leaves node at found [] = tt
+two_bytes-leaves node at found (high ∷ []) = tt
+two_bytes-leaves node at found (high ∷ low ∷ rest) = one (is_wide_character (wide_number high low))
+  where
+    one : (b : Bool) → LeavesCharacter (length (high ∷ low ∷ rest)) (cond b (Ok (record { name = encode_utf8 (wide_number high low); behind = record { at = at + 2; rest = rest; found = found } })) (Err (Wide node)))
+    one true = omega arith
+    one false = tt
+
+pub character_of-leaves : (node m : ℕ) (s : Reading) → LeavesCharacter (length s.rest) (character_of node m s)
+character_of-leaves node m s = one (has 0x80 m)
+  where
+    one : (b : Bool) → LeavesCharacter (length s.rest) (cond b (two_bytes node s.at s.found s.rest) (one_byte s.at s.found s.rest))
+    one true = two_bytes-leaves node s.at s.found s.rest
+    one false = one_byte-leaves s.at s.found s.rest
+
+character_part-leaves : (inner : List ℕ → Reading → Answer) → ((path : List ℕ) → Reads (inner path)) → (n node m : ℕ) (path : List ℕ) (c : Result Character StabFault) → LeavesCharacter n c →
+    Leaves n (with_character (character_part inner node m path) c)
+character_part-leaves inner r n node m path (Ok c) l =
+    leaves-cond (nat_lt 1024 (length (path ++ c.name))) n (TooLong node) _
+    (leaves-then n (part_if (has 0x20 m) (inner (path ++ c.name))) _ (reads-if (has 0x20 m) _ (r (path ++ c.name)))
+    (leaves-more (length c.behind.rest) n _ l (symbol-reads (m % 16) node (path ++ c.name) c.behind)))
+character_part-leaves inner r n node m path (Err fault) l = tt
+
+character-reads : (inner : List ℕ → Reading → Answer) → ((path : List ℕ) → Reads (inner path)) → (node m : ℕ) (path : List ℕ) → Reads (character inner node m path)
+character-reads inner r node m path s = character_part-leaves inner r (length s.rest) node m path (character_of node m s) (character_of-leaves node m s)
+
+character_if-reads : (inner : List ℕ → Reading → Answer) → ((path : List ℕ) → Reads (inner path)) → (node m : ℕ) (path : List ℕ) → Reads (part_if (has_character m) (character inner node m path))
+character_if-reads inner r node m path = reads-if (has_character m) (character inner node m path) (character-reads inner r node m path)
+
+node_rest-reads : (inner : List ℕ → Reading → Answer) → ((path : List ℕ) → Reads (inner path)) → (node m : ℕ) (path : List ℕ) → Reads (node_rest inner node m path)
+node_rest-reads inner r node m path s =
+    leaves-then (length s.rest) (part_if (has 0x10 m) (inner path)) _ (reads-if (has 0x10 m) (inner path) (r path)) (character_if-reads inner r node m path s)
 
 node-leaves : (inner : List ℕ → Reading → Answer) → ((path : List ℕ) → Reads (inner path)) → (path : List ℕ) (at : ℕ) (found : List Symbol) (bytes : List ℕ) → Leaves (length bytes) (node inner path at found bytes)
 node-leaves inner r path at found [] = tt
 node-leaves inner r path at found (m ∷ rest) =
-    leaves-cond (nat_le 0x80 m) (length (m ∷ rest)) (Wide at) _
+    leaves-cond (is_wide_bare m) (length (m ∷ rest)) (Wide at) _
     (leaves-more (length rest) (length (m ∷ rest)) _ (omega arith)
-    (leaves-then (length rest) (part_if (has 0x10 m) (inner path)) _ (reads-if (has 0x10 m) (inner path) (r path))
-    (middle-leaves inner r at m path (length rest) _ (left-leaves inner r m path (record { at = at + 1; rest = rest; found = found })))))
+    (leaves-then (length rest) (node_rest inner at m path) _ (node_rest-reads inner r at m path) (reads-if (has 0x40 m) (inner path) (r path) (record { at = at + 1; rest = rest; found = found }))))
 
 pub subtrie-reads : (nodes : ℕ) (path : List ℕ) → Reads (subtrie nodes path)
 unfolding subtrie
 subtrie-reads zero path s = tt
 subtrie-reads (suc nodes) path s = node-leaves (subtrie nodes) (subtrie-reads nodes) path s.at s.found s.rest
-
-next-reads : (path : List ℕ) → Reads (next_subtrie path)
-next-reads path s = subtrie-reads (length s.rest) path s
 
 -- two meanings that agree where no more than so many bytes are left
 abbrev Agree : ℕ → (Reading → Answer) → (Reading → Answer) → Type 0
@@ -113,14 +136,30 @@ if-same : (n : ℕ) (b : Bool) (p q : Reading → Answer) → Agree n p q → Ag
 if-same n true p q h s l = h s l
 if-same n false p q h s l = refl
 
-character-same : (n : ℕ) (f g : List ℕ → Reading → Answer) → ((path : List ℕ) → Agree n (f path) (g path)) → (node m : ℕ) (path : List ℕ) (at : ℕ) (found : List Symbol) (bytes : List ℕ) → length bytes ≤ n →
-    character f node m path at found bytes ≡ character g node m path at found bytes
-character-same n f g h node m path at found [] l = refl
-character-same n f g h node m path at found (c ∷ rest) l =
-    ap (λ a. cond (nat_le 1024 (length path)) (Err (TooLong node)) a)
-    (then-same n (part_if (has 0x20 m) (f (path ++ c ∷ []))) (part_if (has 0x20 m) (g (path ++ c ∷ []))) _ _ refl
-    (leaves-more (length rest) n _ (omega (arith, l)) (symbol-reads (m % 16) node (path ++ c ∷ []) (record { at = at + 1; rest = rest; found = found })))
-    (if-same n (has 0x20 m) _ _ (h (path ++ c ∷ []))))
+character_part-same : (n : ℕ) (f g : List ℕ → Reading → Answer) → ((path : List ℕ) → Agree n (f path) (g path)) → (node m : ℕ) (path : List ℕ) (c : Result Character StabFault) → LeavesCharacter n c →
+    with_character (character_part f node m path) c ≡ with_character (character_part g node m path) c
+character_part-same n f g h node m path (Ok c) l =
+    ap (λ a. cond (nat_lt 1024 (length (path ++ c.name))) (Err (TooLong node)) a)
+    (then-same n (part_if (has 0x20 m) (f (path ++ c.name))) (part_if (has 0x20 m) (g (path ++ c.name))) _ _ refl
+    (leaves-more (length c.behind.rest) n _ l (symbol-reads (m % 16) node (path ++ c.name) c.behind))
+    (if-same n (has 0x20 m) _ _ (h (path ++ c.name))))
+character_part-same n f g h node m path (Err fault) l = refl
+
+leaves_character-more : (n m : ℕ) (c : Result Character StabFault) → n ≤ m → LeavesCharacter n c → LeavesCharacter m c
+leaves_character-more n m (Ok c) l h = omega (arith, l, h)
+leaves_character-more n m (Err fault) l h = tt
+
+character-same : (n : ℕ) (f g : List ℕ → Reading → Answer) → ((path : List ℕ) → Agree n (f path) (g path)) → (node m : ℕ) (path : List ℕ) → Agree n (character f node m path) (character g node m path)
+character-same n f g h node m path s l =
+    character_part-same n f g h node m path (character_of node m s) (leaves_character-more (length s.rest) n (character_of node m s) l (character_of-leaves node m s))
+
+node_rest-same : (n : ℕ) (f g : List ℕ → Reading → Answer) → ((path : List ℕ) → Reads (f path)) → ((path : List ℕ) → Agree n (f path) (g path)) → (node m : ℕ) (path : List ℕ) →
+    Agree n (node_rest f node m path) (node_rest g node m path)
+node_rest-same n f g r h node m path s l =
+    then-same n (part_if (has 0x10 m) (f path)) (part_if (has 0x10 m) (g path)) _ _
+    (if-same n (has_character m) (character f node m path) (character g node m path) (character-same n f g h node m path) s l)
+    (leaves-more (length s.rest) n _ l (character_if-reads f r node m path s))
+    (if-same n (has 0x10 m) _ _ (h path))
 
 pub node-same : (n : ℕ) (f g : List ℕ → Reading → Answer) → ((path : List ℕ) → Reads (f path)) → ((path : List ℕ) → Agree n (f path) (g path)) →
     (path : List ℕ) (at : ℕ) (found : List Symbol) (bytes : List ℕ) → length bytes ≤ suc n → node f path at found bytes ≡ node g path at found bytes
@@ -128,14 +167,11 @@ node-same n f g r h path at found [] l = refl
 node-same n f g r h path at found (m ∷ rest) l =
     let s : Reading = record { at = at + 1; rest = rest; found = found } in
     let few : length rest ≤ n = omega (arith, l) in
-    let left = if-same n (has 0x40 m) (f path) (g path) (h path) s few in
-    let left-few = leaves-more (length rest) n (part_if (has 0x40 m) (f path) s) few (left-leaves f r m path s) in
-    ap (λ a. cond (nat_le 0x80 m) (Err (Wide at)) a)
-    (then-same n (part_if (has 0x10 m) (f path)) (part_if (has 0x10 m) (g path)) _ _
-    (then-same n (part_if (has_character m) (λ s. character f at m path s.at s.found s.rest)) (part_if (has_character m) (λ s. character g at m path s.at s.found s.rest)) _ _
-    left left-few (if-same n (has_character m) _ _ (λ s k. character-same n f g h at m path s.at s.found s.rest k)))
-    (middle-leaves f r at m path n _ left-few)
-    (if-same n (has 0x10 m) _ _ (h path)))
+    ap (λ a. cond (is_wide_bare m) (Err (Wide at)) a)
+    (then-same n (node_rest f at m path) (node_rest g at m path) _ _
+    (if-same n (has 0x40 m) (f path) (g path) (h path) s few)
+    (leaves-more (length rest) n _ few (reads-if (has 0x40 m) (f path) (r path) s))
+    (node_rest-same n f g r h at m path))
 
 nothing-left : (inner : List ℕ → Reading → Answer) (path : List ℕ) (at : ℕ) (found : List Symbol) (bytes : List ℕ) → length bytes ≤ 0 → Err (Truncated at) ≡ node inner path at found bytes
 nothing-left inner path at found [] l = refl

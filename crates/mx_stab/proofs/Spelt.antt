@@ -1,52 +1,50 @@
 -- Values and serial numbers as they are written.
-use Rattle.std.proofs.Common.{◌≡◌, ℕ, ◌+◌, ◌-◌, ◌*◌, ◌/◌, ◌%◌, ◌^◌, ◌<◌, ◌≤◌, ◌==◌, Bool, true, false, cond, List, [], ◌∷◌, ◌++◌, length, arith, refl, sym, ap, ◌∙◌, subst}
+use Rattle.std.proofs.Common.{◌≡◌, ℕ, ◌+◌, ◌-◌, ◌/◌, ◌%◌, ◌^◌, ◌<◌, ◌≤◌, ◌==◌, Bool, true, false, cond, List, [], ◌∷◌, ◌++◌, length, arith, refl, sym, ap, ◌∙◌, subst}
 use Rattle.std.specs.Prelude.{nat_le, nat_lt, ◌&&◌}
-use Rattle.std.proofs.lemmas.Bool.{eqb-true, leb-true, ltb-true}
+use Rattle.std.proofs.lemmas.Bool.{and_parts, eqb-true, leb-true, ltb-true}
 use Rattle.mx_word.specs.Words.{octa_to_bytes}
 use Rattle.mx_word.specs.declared.symbols.Value.{Value}
 use Rattle.mx_word.specs.declared.symbols.Value.TheVariants.{Pure, Reg}
-use Rattle.mx_stab.specs.Numbers.{fewest, octa_digits, is_offset, value_bytes, kind, serial_bytes}
-use Rattle.mx_stab.specs.Grammar.{number, behind, AreBelow, SpellsValue, SpellsSerial}
+use Rattle.mx_stab.specs.Numbers.{fewest_digits, octa_digits, is_offset, value_bytes, kind, serial_bytes}
+use Rattle.mx_stab.specs.Grammar.{number, AreBelow, SpellsValue, SpellsSerial}
 use Rattle.mx_stab.specs.Grammar.SpellsValue.{pure, offset, register}
 use Rattle.mx_stab.specs.Grammar.SpellsSerial.{digits}
 use Rattle.mx_stab.specs.Order.{IsValue}
-
-zero-first : (base e : ℕ) → 0 * base + e ≡ (0 * base + 0) * base + e
-zero-first base e = grind (arith)
+use Rattle.mx_stab.proofs.Digits.{number-zero}
 
 -- the digits without zeros in front: their bound, their number, and how many they are
-skip-same : (b : Bool) (base d e : ℕ) (more : List ℕ) → (b ≡ true → d ≡ 0) → number base (fewest (e ∷ more)) ≡ number base (e ∷ more) →
-    number base (cond b (fewest (e ∷ more)) (d ∷ e ∷ more)) ≡ number base (d ∷ e ∷ more)
-skip-same true base d e more h k = k ∙ ap (λ x. behind base x more) (rw (h refl) (zero-first base e))
+skip-same : (b : Bool) (base d e : ℕ) (more : List ℕ) → (b ≡ true → d ≡ 0) → number base (fewest_digits (e ∷ more)) ≡ number base (e ∷ more) →
+    number base (cond b (fewest_digits (e ∷ more)) (d ∷ e ∷ more)) ≡ number base (d ∷ e ∷ more)
+skip-same true base d e more h k = k ∙ rw (h refl) (number-zero base e more)
 skip-same false base d e more h k = refl
 
-fewest-same : (base : ℕ) (ds : List ℕ) → number base (fewest ds) ≡ number base ds
-fewest-same base [] = refl
-fewest-same base (d ∷ []) = refl
-fewest-same base (d ∷ e ∷ more) = skip-same (d == 0) base d e more (eqb-true d 0) (fewest-same base (e ∷ more))
+fewest_digits-same : (base : ℕ) (ds : List ℕ) → number base (fewest_digits ds) ≡ number base ds
+fewest_digits-same base [] = refl
+fewest_digits-same base (d ∷ []) = refl
+fewest_digits-same base (d ∷ e ∷ more) = skip-same (d == 0) base d e more (eqb-true d 0) (fewest_digits-same base (e ∷ more))
 
-skip-below : (b : Bool) (base d e : ℕ) (more : List ℕ) → AreBelow base (d ∷ e ∷ more) → AreBelow base (fewest (e ∷ more)) → AreBelow base (cond b (fewest (e ∷ more)) (d ∷ e ∷ more))
+skip-below : (b : Bool) (base d e : ℕ) (more : List ℕ) → AreBelow base (d ∷ e ∷ more) → AreBelow base (fewest_digits (e ∷ more)) → AreBelow base (cond b (fewest_digits (e ∷ more)) (d ∷ e ∷ more))
 skip-below true base d e more h k = k
 skip-below false base d e more h k = h
 
-fewest-below : (base : ℕ) (ds : List ℕ) → AreBelow base ds → AreBelow base (fewest ds)
-fewest-below base [] h = tt
-fewest-below base (d ∷ []) h = h
-fewest-below base (d ∷ e ∷ more) h = skip-below (d == 0) base d e more h (fewest-below base (e ∷ more) h.1)
+fewest_digits-below : (base : ℕ) (ds : List ℕ) → AreBelow base ds → AreBelow base (fewest_digits ds)
+fewest_digits-below base [] h = tt
+fewest_digits-below base (d ∷ []) h = h
+fewest_digits-below base (d ∷ e ∷ more) h = skip-below (d == 0) base d e more h (fewest_digits-below base (e ∷ more) h.1)
 
-skip-length : (b : Bool) (d e : ℕ) (more : List ℕ) → (1 ≤ length (fewest (e ∷ more))) × (length (fewest (e ∷ more)) ≤ length (e ∷ more)) →
-    (1 ≤ length (cond b (fewest (e ∷ more)) (d ∷ e ∷ more))) × (length (cond b (fewest (e ∷ more)) (d ∷ e ∷ more)) ≤ length (d ∷ e ∷ more))
+skip-length : (b : Bool) (d e : ℕ) (more : List ℕ) → (1 ≤ length (fewest_digits (e ∷ more))) × (length (fewest_digits (e ∷ more)) ≤ length (e ∷ more)) →
+    (1 ≤ length (cond b (fewest_digits (e ∷ more)) (d ∷ e ∷ more))) × (length (cond b (fewest_digits (e ∷ more)) (d ∷ e ∷ more)) ≤ length (d ∷ e ∷ more))
 skip-length true d e more h = (h.0, omega (arith, h.1))
 skip-length false d e more h = (omega arith, omega arith)
 
-fewest-length : (d : ℕ) (more : List ℕ) → (1 ≤ length (fewest (d ∷ more))) × (length (fewest (d ∷ more)) ≤ length (d ∷ more))
-fewest-length d [] = (omega arith, omega arith)
-fewest-length d (e ∷ more) = skip-length (d == 0) d e more (fewest-length e more)
+fewest_digits-length : (d : ℕ) (more : List ℕ) → (1 ≤ length (fewest_digits (d ∷ more))) × (length (fewest_digits (d ∷ more)) ≤ length (d ∷ more))
+fewest_digits-length d [] = (omega arith, omega arith)
+fewest_digits-length d (e ∷ more) = skip-length (d == 0) d e more (fewest_digits-length e more)
 
-two-zeros : (a b c : ℕ) (more : List ℕ) → a ≡ 0 → b ≡ 0 → length (fewest (a ∷ b ∷ c ∷ more)) ≤ length (c ∷ more)
-two-zeros a b c more h k = rw (h, k) ((fewest-length c more).1)
+two-zeros : (a b c : ℕ) (more : List ℕ) → a ≡ 0 → b ≡ 0 → length (fewest_digits (a ∷ b ∷ c ∷ more)) ≤ length (c ∷ more)
+two-zeros a b c more h k = rw (h, k) ((fewest_digits-length c more).1)
 
-octa-number : (x : ℕ) → x < 2 ^ 64 → number 256 (octa_to_bytes x) ≡ x
+pub octa-number : (x : ℕ) → x < 2 ^ 64 → number 256 (octa_to_bytes x) ≡ x
 octa-number x h = omega arith
 
 below-256 : (x : ℕ) → x % 256 < 256
@@ -62,9 +60,9 @@ octa-short x h =
     two-zeros (x / 2 ^ 56 % 256) (x / 2 ^ 48 % 256) (x / 2 ^ 40 % 256)
     ((x / 2 ^ 32 % 256) ∷ (x / 2 ^ 24 % 256) ∷ (x / 2 ^ 16 % 256) ∷ (x / 2 ^ 8 % 256) ∷ (x % 256) ∷ []) first second
 
-some-length : (ds : List ℕ) → 0 < length ds → (1 ≤ length (fewest ds)) × (length (fewest ds) ≤ length ds)
+some-length : (ds : List ℕ) → 0 < length ds → (1 ≤ length (fewest_digits ds)) × (length (fewest_digits ds) ≤ length ds)
 some-length [] h = absurd (omega (arith, h))
-some-length (d ∷ more) h = fewest-length d more
+some-length (d ∷ more) h = fewest_digits-length d more
 
 octa-length : (x : ℕ) → (1 ≤ length (octa_digits x)) × (length (octa_digits x) ≤ 8)
 octa-length x = some-length (octa_to_bytes x) (omega arith)
@@ -72,26 +70,21 @@ octa-length x = some-length (octa_to_bytes x) (omega arith)
 spell-pure : (b : Bool) (x : ℕ) → (b ≡ true → (2 ^ 61 ≤ x) × (x < 2 ^ 61 + 2 ^ 48)) → x < 2 ^ 64 →
     SpellsValue (cond b (8 + length (octa_digits (x - 2 ^ 61))) (length (octa_digits x))) (Pure x) (cond b (octa_digits (x - 2 ^ 61)) (octa_digits x))
 spell-pure false x h l =
-    subst (λ y. SpellsValue (length (octa_digits x)) (Pure y) (octa_digits x)) (fewest-same 256 (octa_to_bytes x) ∙ octa-number x l)
-    (pure (octa_digits x) (fewest-below 256 (octa_to_bytes x) (octa-below x)) ((octa-length x).0) ((octa-length x).1))
+    subst (λ y. SpellsValue (length (octa_digits x)) (Pure y) (octa_digits x)) (fewest_digits-same 256 (octa_to_bytes x) ∙ octa-number x l)
+    (pure (octa_digits x) (fewest_digits-below 256 (octa_to_bytes x) (octa-below x)) ((octa-length x).0) ((octa-length x).1))
 spell-pure true x h l =
     let y = x - 2 ^ 61 in
     let low = (h refl).0 in
     let high = (h refl).1 in
     let small : y < 2 ^ 48 = omega (arith, low, high) in
     let octa : y < 2 ^ 64 = omega (arith, small) in
-    let back : 2 ^ 61 + number 256 (octa_digits y) ≡ x = omega (arith, low, fewest-same 256 (octa_to_bytes y) ∙ octa-number y octa) in
+    let back : 2 ^ 61 + number 256 (octa_digits y) ≡ x = omega (arith, low, fewest_digits-same 256 (octa_to_bytes y) ∙ octa-number y octa) in
     subst (λ z. SpellsValue (8 + length (octa_digits y)) (Pure z) (octa_digits y)) back
-    (offset (octa_digits y) (fewest-below 256 (octa_to_bytes y) (octa-below y)) ((octa-length y).0) (octa-short y small))
-
-and-both : (p q : Bool) → (p && q) ≡ true → (p ≡ true) × (q ≡ true)
-and-both true true h = (refl, refl)
-and-both true false h = absurd (cc)
-and-both false q h = absurd (cc)
+    (offset (octa_digits y) (fewest_digits-below 256 (octa_to_bytes y) (octa-below y)) ((octa-length y).0) (octa-short y small))
 
 both : (a b : ℕ) → (nat_le (2 ^ 61) a && nat_lt a b) ≡ true → (2 ^ 61 ≤ a) × (a < b)
 both a b h =
-    let p = and-both (nat_le (2 ^ 61) a) (nat_lt a b) h in
+    let p = and_parts (nat_le (2 ^ 61) a) (nat_lt a b) h in
     (leb-true (2 ^ 61) a p.0, ltb-true a b p.1)
 
 pub spell-value : (v : Value) → IsValue v → SpellsValue (kind v) v (value_bytes v)
@@ -101,12 +94,12 @@ spell-value (Reg k) h = register k h
 -- the digits of a serial number before its last, without zeros in front
 record Shortened (front : List ℕ) (last : ℕ) : Type 0 where
   short : List ℕ
-  same : fewest (front ++ (last + 128) ∷ []) ≡ short ++ (last + 128) ∷ []
+  same : fewest_digits (front ++ (last + 128) ∷ []) ≡ short ++ (last + 128) ∷ []
   below : AreBelow 128 short
   tells : number 128 (short ++ last ∷ []) ≡ number 128 (front ++ last ∷ [])
 
 shorten-step : (b : Bool) (d : ℕ) (rest : List ℕ) (last : ℕ) (all : List ℕ) → (b ≡ true → d ≡ 0) → AreBelow 128 (d ∷ rest) →
-    all ≡ cond b (fewest (rest ++ (last + 128) ∷ [])) (d ∷ rest ++ (last + 128) ∷ []) → fewest (d ∷ rest ++ (last + 128) ∷ []) ≡ all →
+    all ≡ cond b (fewest_digits (rest ++ (last + 128) ∷ [])) (d ∷ rest ++ (last + 128) ∷ []) → fewest_digits (d ∷ rest ++ (last + 128) ∷ []) ≡ all →
     number 128 (0 ∷ rest ++ last ∷ []) ≡ number 128 (rest ++ last ∷ []) →
     Shortened rest last → Shortened (d ∷ rest) last
 shorten-step true d rest last all h l e f z k = record {
@@ -125,13 +118,13 @@ shortened [] last h = record { short = []; same = refl; below = tt; tells = refl
 shortened (d ∷ []) last h = shorten-step (d == 0) d [] last _ (eqb-true d 0) h refl refl (zero-before last []) (shortened [] last tt)
 shortened (d ∷ e ∷ more) last h = shorten-step (d == 0) d (e ∷ more) last _ (eqb-true d 0) h refl refl (zero-before e (more ++ last ∷ [])) (shortened (e ∷ more) last h.1)
 
-abbrev serial-front : ℕ → List ℕ
+abbrev pub serial-front : ℕ → List ℕ
 serial-front x = (x / 2 ^ 28) ∷ (x / 2 ^ 21 % 128) ∷ (x / 2 ^ 14 % 128) ∷ (x / 2 ^ 7 % 128) ∷ []
 
 serial-below : (x : ℕ) → x < 2 ^ 32 → AreBelow 128 (serial-front x)
 serial-below x h = (omega (arith, h), (omega arith, (omega arith, (omega arith, tt))))
 
-serial-number : (x : ℕ) → number 128 (serial-front x ++ (x % 128) ∷ []) ≡ x
+pub serial-number : (x : ℕ) → number 128 (serial-front x ++ (x % 128) ∷ []) ≡ x
 serial-number x = omega arith
 
 pub spell-serial : (x : ℕ) → x < 2 ^ 32 → SpellsSerial x (serial_bytes x)

@@ -1,163 +1,173 @@
 -- What is due, step by step.
-use Rattle.std.proofs.Common.{◌≡◌, ℕ, ◌+◌, ◌-◌, ◌≤◌, ◌<◌, ◌%◌, Bool, true, false, cond, List, [], ◌∷◌, ◌++◌, length, take, drop, Ok, Err, arith, refl, sym, ap, ◌∙◌, subst, length-append}
-use Rattle.std.specs.Prelude.{nat_le}
-use Rattle.std.proofs.lemmas.Bool.{le-leb, lt-leb}
+use Rattle.std.proofs.Common.{◌≡◌, ℕ, ◌+◌, ◌≤◌, ◌<◌, ◌%◌, Bool, true, false, cond, List, [], ◌∷◌, ◌++◌, length, take, drop, Result, Ok, Err, arith, refl, sym, ap, ◌∙◌}
+use Rattle.std.specs.Prelude.{nat_lt}
+use Rattle.std.proofs.lemmas.Bool.{lt-ltb, le-ltb}
+use Rattle.std.proofs.lemmas.List.{take_at}
 use Rattle.mx_word.specs.declared.symbols.Symbol.{Symbol}
 use Rattle.mx_stab.specs.declared.faults.StabFault.{StabFault}
 use Rattle.mx_stab.specs.declared.faults.StabFault.TheVariants.{Truncated, Wide, TooLong}
-use Rattle.mx_stab.specs.Reading.{Reading, Answer, and_then, part_if, has, has_character, character, node, spelled, symbol, next_subtrie}
-use Rattle.mx_stab.specs.Due.{Point, Came, and_on, along, take_due, take_all, noted_if, noted_node, noted_middle, reading_in, stepped, weight}
-use Rattle.mx_stab.specs.declared.reading.Due.{Due}
-use Rattle.mx_stab.specs.declared.reading.Due.TheVariants.{Subtrie, Character, Shorter}
+use Rattle.mx_stab.specs.Reading.{Reading, Answer, Character, and_then, part_if, has, has_character, is_wide_bare, character_of, character, node_rest, symbol, next_subtrie, with_character, character_part}
+use Rattle.mx_stab.specs.Due.{Point, Progress, and_next, with_path, after_due, after_all, due_if, node_due, symbol_due, after_character, longer_path, reading_of, next_point, due_weight, all_weight, weight}
+use Rattle.mx_stab.specs.declared.due.Due.{Due}
+use Rattle.mx_stab.specs.declared.due.Due.TheVariants.{Subtrie, Rest, Right}
 use Rattle.mx_stab.proofs.Parts.{next-node}
+use Rattle.mx_stab.proofs.Weights.{all_weight-push}
 
-on-on : (f g : Point → Came) (c : Came) → and_on f (and_on g c) ≡ and_on (λ p. and_on f (g p)) c
-on-on f g (Ok p) = refl
-on-on f g (Err fault) = refl
+next-next : (f g : Point → Progress) (c : Progress) → and_next f (and_next g c) ≡ and_next (λ p. and_next f (g p)) c
+next-next f g (Ok p) = refl
+next-next f g (Err fault) = refl
 
-on-self : (c : Came) → c ≡ and_on (λ q. Ok q) c
-on-self (Ok q) = refl
-on-self (Err fault) = refl
+next-self : (c : Progress) → c ≡ and_next (λ q. Ok q) c
+next-self (Ok q) = refl
+next-self (Err fault) = refl
 
 -- what was noted last is taken first
-pub all-behind : (before above : List Due) (p : Point) → take_all (before ++ above) p ≡ and_on (take_all before) (take_all above p)
-all-behind [] above p = on-self (take_all above p)
-all-behind (d ∷ before) above p = ap (and_on (take_due d)) (all-behind before above p) ∙ on-on (take_due d) (take_all before) (take_all above p)
+pub all-append : (before above : List Due) (p : Point) → after_all (before ++ above) p ≡ and_next (after_all before) (after_all above p)
+all-append [] above p = next-self (after_all above p)
+all-append (d ∷ before) above p = ap (and_next (after_due d)) (all-append before above p) ∙ next-next (after_due d) (after_all before) (after_all above p)
 
--- a part that is due along a path
-on-along : (f : Point → Came) (part : Reading → Answer) (path : List ℕ) (a : Answer) → ((s : Reading) → f (record { path = path; reading = s }) ≡ along path (part s)) → and_on f (along path a) ≡ along path (and_then part a)
-on-along f part path (Ok s) h = h s
-on-along f part path (Err fault) h = refl
+-- a part that is read behind another, on one path
+next-path : (f : Point → Progress) (part : Reading → Answer) (path : List ℕ) (a : Answer) → ((s : Reading) → f (record { path = path; reading = s }) ≡ with_path path (part s)) → and_next f (with_path path a) ≡ with_path path (and_then part a)
+next-path f part path (Ok s) h = h s
+next-path f part path (Err fault) h = refl
 
-noted-subtrie : (b : Bool) (path : List ℕ) (s : Reading) → take_all (noted_if b Subtrie) (record { path = path; reading = s }) ≡ along path (part_if b (next_subtrie path) s)
-noted-subtrie true path s = refl
-noted-subtrie false path s = refl
+after-subtrie : (b : Bool) (path : List ℕ) (s : Reading) → after_all (due_if b Subtrie) (record { path = path; reading = s }) ≡ with_path path (part_if b (next_subtrie path) s)
+after-subtrie true path s = refl
+after-subtrie false path s = refl
 
-noted-character : (b : Bool) (node m : ℕ) (path : List ℕ) (s : Reading) → take_all (noted_if b (Character node m)) (record { path = path; reading = s }) ≡ along path (part_if b (λ s. character next_subtrie node m path s.at s.found s.rest) s)
-noted-character true node m path s = refl
-noted-character false node m path s = refl
+after-node : (node m : ℕ) (path : List ℕ) (s : Reading) → after_all (node_due node m) (record { path = path; reading = s })
+    ≡ with_path path (and_then (node_rest next_subtrie node m path) (part_if (has 0x40 m) (next_subtrie path) s))
+after-node node m path s =
+    ap (and_next (after_due (Rest node m))) (after-subtrie (has 0x40 m) path s)
+    ∙ next-path (after_due (Rest node m)) (node_rest next_subtrie node m path) path (part_if (has 0x40 m) (next_subtrie path) s) (λ t. refl)
 
-node-noted : (node m : ℕ) (path : List ℕ) (s : Reading) → take_all (noted_node node m) (record { path = path; reading = s })
-    ≡ along path (and_then (part_if (has 0x10 m) (next_subtrie path)) (and_then (part_if (has_character m) (λ s. character next_subtrie node m path s.at s.found s.rest)) (part_if (has 0x40 m) (next_subtrie path) s)))
-node-noted node m path s =
-    all-behind (noted_if (has 0x10 m) Subtrie) (noted_if (has_character m) (Character node m) ++ noted_if (has 0x40 m) Subtrie) (record { path = path; reading = s })
-    ∙ ap (and_on (take_all (noted_if (has 0x10 m) Subtrie)))
-    (all-behind (noted_if (has_character m) (Character node m)) (noted_if (has 0x40 m) Subtrie) (record { path = path; reading = s })
-    ∙ ap (and_on (take_all (noted_if (has_character m) (Character node m)))) (noted-subtrie (has 0x40 m) path s)
-    ∙ on-along (take_all (noted_if (has_character m) (Character node m))) (part_if (has_character m) (λ s. character next_subtrie node m path s.at s.found s.rest)) path (part_if (has 0x40 m) (next_subtrie path) s) (noted-character (has_character m) node m path))
-    ∙ on-along (take_all (noted_if (has 0x10 m) Subtrie)) (part_if (has 0x10 m) (next_subtrie path)) path _ (noted-subtrie (has 0x10 m) path)
+-- a test that fails, and one that passes
+no-fault : {A : Type 0} (b : Bool) (x a : A) → b ≡ false → a ≡ cond b x a
+no-fault true x a h = absurd (cc)
+no-fault false x a h = refl
 
-not-wide : (b : Bool) (fault : StabFault) (a : Answer) → b ≡ false → a ≡ cond b (Err fault) a
-not-wide true fault a h = absurd (cc)
-not-wide false fault a h = refl
-
-is-wide : (b : Bool) (fault : StabFault) (a : Answer) → b ≡ true → Err fault ≡ cond b (Err fault) a
-is-wide true fault a h = refl
-is-wide false fault a h = absurd (cc)
+a-fault : {A : Type 0} (b : Bool) (x a : A) → b ≡ true → x ≡ cond b x a
+a-fault true x a h = refl
+a-fault false x a h = absurd (cc)
 
 -- the byte m was read, and what stands behind it was noted
-node-went-from : (before : List Due) (path : List ℕ) (at m : ℕ) (rest bytes : List ℕ) (found : List Symbol) → bytes ≡ m ∷ rest → m < 0x80 →
-    take_all (before ++ noted_node at m) (record { path = path; reading = record { at = at + 1; rest = rest; found = found } })
-    ≡ and_on (take_all before) (along path (next_subtrie path (record { at = at; rest = bytes; found = found })))
-node-went-from before path at m rest bytes found e l =
-    rw e (all-behind before (noted_node at m) _
-    ∙ ap (and_on (take_all before)) (node-noted at m path (record { at = at + 1; rest = rest; found = found })
-    ∙ ap (along path) (not-wide (nat_le 0x80 m) (Wide at) _ (lt-leb 0x80 m l) ∙ sym (next-node path at found (m ∷ rest)))))
+node-went-from : (before : List Due) (path : List ℕ) (at m : ℕ) (rest bytes : List ℕ) (found : List Symbol) → bytes ≡ m ∷ rest → is_wide_bare m ≡ false →
+    after_all (before ++ node_due at m) (record { path = path; reading = record { at = at + 1; rest = rest; found = found } })
+    ≡ and_next (after_all before) (with_path path (next_subtrie path (record { at = at; rest = bytes; found = found })))
+node-went-from before path at m rest bytes found e h =
+    rw e (all-append before (node_due at m) _
+    ∙ ap (and_next (after_all before)) (after-node at m path (record { at = at + 1; rest = rest; found = found })
+    ∙ ap (with_path path) (no-fault (is_wide_bare m) (Err (Wide at)) _ h ∙ sym (next-node path at found (m ∷ rest)))))
 
-pub node-went : (before due : List Due) (old new : Point) (m node : ℕ) → old.reading.rest ≡ m ∷ drop 1 old.reading.rest → new ≡ stepped old → node ≡ old.reading.at → m < 0x80 → due ≡ before ++ noted_node node m →
-    take_all due new ≡ and_on (take_all before) (take_due Subtrie old)
-node-went before due old new m node byte step place l noted =
-    rw (noted, step, place) (node-went-from before old.path old.reading.at m (drop 1 old.reading.rest) old.reading.rest old.reading.found byte l)
+pub node-went : (before due : List Due) (old new : Point) (m node : ℕ) → old.reading.rest ≡ m ∷ drop 1 old.reading.rest → new ≡ next_point old → node ≡ old.reading.at → is_wide_bare m ≡ false → due ≡ before ++ node_due node m →
+    after_all due new ≡ and_next (after_all before) (after_due Subtrie old)
+node-went before due old new m node byte step place h noted =
+    rw (noted, step, place) (node-went-from before old.path old.reading.at m (drop 1 old.reading.rest) old.reading.rest old.reading.found byte h)
 
-wide-from : (path : List ℕ) (at m : ℕ) (rest bytes : List ℕ) (found : List Symbol) → bytes ≡ m ∷ rest → 0x80 ≤ m → Err (Wide at) ≡ next_subtrie path (record { at = at; rest = bytes; found = found })
-wide-from path at m rest bytes found e l = rw e (is-wide (nat_le 0x80 m) (Wide at) _ (le-leb 0x80 m l) ∙ sym (next-node path at found (m ∷ rest)))
+wide-from : (path : List ℕ) (at m : ℕ) (rest bytes : List ℕ) (found : List Symbol) → bytes ≡ m ∷ rest → is_wide_bare m ≡ true → Err (Wide at) ≡ next_subtrie path (record { at = at; rest = bytes; found = found })
+wide-from path at m rest bytes found e h = rw e (a-fault (is_wide_bare m) (Err (Wide at)) _ h ∙ sym (next-node path at found (m ∷ rest)))
 
-pub node-wide : (before : List Due) (old : Point) (m node : ℕ) → old.reading.rest ≡ m ∷ drop 1 old.reading.rest → node ≡ old.reading.at → 0x80 ≤ m →
-    Err (Wide node) ≡ and_on (take_all before) (take_due Subtrie old)
-node-wide before old m node byte place l =
-    rw place (ap (λ a. and_on (take_all before) (along old.path a)) (wide-from old.path old.reading.at m (drop 1 old.reading.rest) old.reading.rest old.reading.found byte l))
+pub node-wide : (before : List Due) (old : Point) (m node : ℕ) → old.reading.rest ≡ m ∷ drop 1 old.reading.rest → node ≡ old.reading.at → is_wide_bare m ≡ true →
+    Err (Wide node) ≡ and_next (after_all before) (after_due Subtrie old)
+node-wide before old m node byte place h =
+    rw place (ap (λ a. and_next (after_all before) (with_path old.path a)) (wide-from old.path old.reading.at m (drop 1 old.reading.rest) old.reading.rest old.reading.found byte h))
 
 cut-from : (path : List ℕ) (at : ℕ) (bytes : List ℕ) (found : List Symbol) → bytes ≡ [] → Err (Truncated at) ≡ next_subtrie path (record { at = at; rest = bytes; found = found })
 cut-from path at bytes found e = rw e (sym (next-node path at found []))
 
-pub node-cut : (before : List Due) (old : Point) (node : ℕ) → old.reading.rest ≡ [] → node ≡ old.reading.at → Err (Truncated node) ≡ and_on (take_all before) (take_due Subtrie old)
+pub node-cut : (before : List Due) (old : Point) (node : ℕ) → old.reading.rest ≡ [] → node ≡ old.reading.at → Err (Truncated node) ≡ and_next (after_all before) (after_due Subtrie old)
 node-cut before old node none place =
-    rw place (ap (λ a. and_on (take_all before) (along old.path a)) (cut-from old.path old.reading.at old.reading.rest old.reading.found none))
+    rw place (ap (λ a. and_next (after_all before) (with_path old.path a)) (cut-from old.path old.reading.at old.reading.rest old.reading.found none))
 
-front-whole : (xs ys : List ℕ) → take (length xs) (xs ++ ys) ≡ xs
-front-whole [] ys = refl
-front-whole (x ∷ xs) ys = ap (λ zs. x ∷ zs) (front-whole xs ys)
+-- a node without a character: its right subtrie was noted
+pub bare-went : (before due : List Due) (old : Point) (m node : ℕ) (is : Bool) → has_character m ≡ false → is ≡ has 0x10 m → due ≡ before ++ due_if is Subtrie →
+    after_all due old ≡ and_next (after_all before) (after_due (Rest node m) old)
+bare-went before due old m node is h there noted =
+    rw (noted, there) (all-append before (due_if (has 0x10 m) Subtrie) old ∙ ap (and_next (after_all before)) (after-subtrie (has 0x10 m) old.path old.reading
+    ∙ ap (λ b. with_path old.path (and_then (part_if (has 0x10 m) (next_subtrie old.path)) (part_if b (character next_subtrie node m old.path) old.reading))) (sym h)))
 
-shortened : (path : List ℕ) (c : ℕ) → take (length (path ++ c ∷ []) - 1) (path ++ c ∷ []) ≡ path
-shortened path c =
-    let long : length (path ++ c ∷ []) - 1 ≡ length path = omega (arith, length-append path (c ∷ [])) in
-    rw long (front-whole path (c ∷ []))
+-- a right subtrie was noted, and the path is what it was
+pub right-went : (before due : List Due) (old new : Point) (next : Due) (depth m : ℕ) (is : Bool) → next ≡ Right depth m → new ≡ record old { path = take depth old.path } → is ≡ has 0x10 m → due ≡ before ++ due_if is Subtrie →
+    after_all due new ≡ and_next (after_all before) (after_due next old)
+right-went before due old new next depth m is part short there noted =
+    rw (part, noted, there, short) (all-append before (due_if (has 0x10 m) Subtrie) _ ∙ ap (and_next (after_all before)) (after-subtrie (has 0x10 m) (take depth old.path) old.reading))
 
-shorter : (path : List ℕ) (c : ℕ) (a : Answer) → and_on (take_due Shorter) (along (path ++ c ∷ []) a) ≡ along path a
-shorter path c (Ok s) = ap (λ p. Ok (record { path = p; reading = s })) (shortened path c)
-shorter path c (Err fault) = refl
+-- behind a symbol stand the middle subtrie and, on the shorter path, the right one
+right-path : (path name : List ℕ) (m : ℕ) (a : Answer) → and_next (after_due (Right (length path) m)) (with_path (path ++ name) a) ≡ with_path path (and_then (part_if (has 0x10 m) (next_subtrie path)) a)
+right-path path name m (Ok s) = ap (λ p. with_path p (part_if (has 0x10 m) (next_subtrie p) s)) (take_at path name (length path) refl)
+right-path path name m (Err fault) = refl
 
--- the symbol was read, and the middle subtrie was noted
-middle-noted : (before : List Due) (path : List ℕ) (c m : ℕ) (a : Answer) (new : Point) → Ok new ≡ along (path ++ c ∷ []) a →
-    take_all (before ++ noted_middle m) new ≡ and_on (take_all before) (along path (and_then (part_if (has 0x20 m) (next_subtrie (path ++ c ∷ []))) a))
-middle-noted before path c m (Ok s) new e =
-    let same : record { path = path ++ c ∷ []; reading = s } ≡ new = cc in
-    subst (λ n. take_all (before ++ noted_middle m) n ≡ and_on (take_all before) (along path (part_if (has 0x20 m) (next_subtrie (path ++ c ∷ [])) s))) same
-    (all-behind before (noted_middle m) _ ∙ ap (and_on (take_all before))
-    (ap (and_on (take_due Shorter)) (noted-subtrie (has 0x20 m) (path ++ c ∷ []) s) ∙ shorter path c (part_if (has 0x20 m) (next_subtrie (path ++ c ∷ [])) s)))
-middle-noted before path c m (Err fault) new e = absurd (cc)
+after-symbol : (path name : List ℕ) (m : ℕ) (a : Answer) → and_next (after_all (symbol_due (length path) m)) (with_path (path ++ name) a)
+    ≡ with_path path (and_then (part_if (has 0x10 m) (next_subtrie path)) (and_then (part_if (has 0x20 m) (next_subtrie (path ++ name))) a))
+after-symbol path name m (Ok s) =
+    ap (and_next (after_due (Right (length path) m))) (after-subtrie (has 0x20 m) (path ++ name) s)
+    ∙ right-path path name m (part_if (has 0x20 m) (next_subtrie (path ++ name)) s)
+after-symbol path name m (Err fault) = refl
 
-middle-failed : (path name : List ℕ) (part : Reading → Answer) (a : Answer) (fault : StabFault) → Err fault ≡ along name a → Err fault ≡ along path (and_then part a)
-middle-failed path name part (Ok s) fault e = absurd (cc)
-middle-failed path name part (Err other) fault e = e
+long-path : (b : Bool) (path : List ℕ) (part : Reading → Answer) (fault : StabFault) (a : Answer) → with_path path (and_then part (cond b (Err fault) a)) ≡ cond b (Err fault) (with_path path (and_then part a))
+long-path true path part fault a = refl
+long-path false path part fault a = refl
 
-short-enough : (path : List ℕ) (node : ℕ) (a : Answer) → nat_le 1024 (length path) ≡ false → a ≡ cond (nat_le 1024 (length path)) (Err (TooLong node)) a
-short-enough path node a h = not-wide (nat_le 1024 (length path)) (TooLong node) a h
+-- what stands in a node behind its left subtrie, by its character
+after-character : (node m : ℕ) (path : List ℕ) (s : Reading) (c : Result Character StabFault) → c ≡ character_of node m s → has_character m ≡ true →
+    with_path path (node_rest next_subtrie node m path s) ≡ and_next (after_character (length path) node m) (longer_path path c)
+after-character node m path s (Ok c) e h =
+    ap (λ b. with_path path (and_then (part_if (has 0x10 m) (next_subtrie path)) (part_if b (character next_subtrie node m path) s))) h
+    ∙ ap (λ r. with_path path (and_then (part_if (has 0x10 m) (next_subtrie path)) (with_character (character_part next_subtrie node m path) r))) (sym e)
+    ∙ long-path (nat_lt 1024 (length (path ++ c.name))) path (part_if (has 0x10 m) (next_subtrie path)) (TooLong node) _
+    ∙ ap (λ r. cond (nat_lt 1024 (length (path ++ c.name))) (Err (TooLong node)) r) (sym (after-symbol path c.name m (symbol (m % 16) node (path ++ c.name) c.behind)))
+after-character node m path s (Err fault) e h =
+    ap (λ b. with_path path (and_then (part_if (has 0x10 m) (next_subtrie path)) (part_if b (character next_subtrie node m path) s))) h
+    ∙ ap (λ r. with_path path (and_then (part_if (has 0x10 m) (next_subtrie path)) (with_character (character_part next_subtrie node m path) r))) (sym e)
 
-pub spelled-went : (before due : List Due) (old longer new : Point) (node c m : ℕ) → nat_le 1024 (length old.path) ≡ false → longer ≡ record old { path = old.path ++ c ∷ [] } →
-    Ok new ≡ along longer.path (symbol (m % 16) node longer.path longer.reading) → due ≡ before ++ noted_middle m →
-    take_all due new ≡ and_on (take_all before) (along old.path (spelled next_subtrie node m old.path c old.reading))
-spelled-went before due old longer new node c m short grown went noted =
-    let went-on : Ok new ≡ along (old.path ++ c ∷ []) (symbol (m % 16) node (old.path ++ c ∷ []) old.reading) = subst (λ (p : Point). Ok new ≡ along p.path (symbol (m % 16) node p.path p.reading)) grown went in
-    rw noted (middle-noted before old.path c m _ new went-on ∙ ap (λ a. and_on (take_all before) (along old.path a)) (short-enough old.path node _ short))
+pub rest-went : (before : List Due) (old new : Point) (came : Progress) (depth node m : ℕ) → has_character m ≡ true → depth ≡ length old.path → Ok new ≡ longer_path old.path (character_of node m old.reading) →
+    came ≡ and_next (after_all before) (after_character depth node m new) → came ≡ and_next (after_all before) (after_due (Rest node m) old)
+rest-went before old new came depth node m h d e k =
+    k ∙ ap (and_next (after_all before)) (ap (λ n. after_character n node m new) d ∙ ap (and_next (after_character (length old.path) node m)) e
+    ∙ sym (after-character node m old.path old.reading (character_of node m old.reading) refl h))
 
-pub spelled-failed : (before : List Due) (old longer : Point) (fault : StabFault) (node c m : ℕ) → nat_le 1024 (length old.path) ≡ false → longer ≡ record old { path = old.path ++ c ∷ [] } →
-    Err fault ≡ along longer.path (symbol (m % 16) node longer.path longer.reading) →
-    Err fault ≡ and_on (take_all before) (along old.path (spelled next_subtrie node m old.path c old.reading))
-spelled-failed before old longer fault node c m short grown went =
-    let went-on : Err fault ≡ along (old.path ++ c ∷ []) (symbol (m % 16) node (old.path ++ c ∷ []) old.reading) = subst (λ (p : Point). Err fault ≡ along p.path (symbol (m % 16) node p.path p.reading)) grown went in
-    ap (and_on (take_all before)) (middle-failed old.path (old.path ++ c ∷ []) (part_if (has 0x20 m) (next_subtrie (old.path ++ c ∷ []))) _ fault went-on ∙ ap (along old.path) (short-enough old.path node _ short))
+pub rest-failed : (before : List Due) (old : Point) (fault : StabFault) (node m : ℕ) → has_character m ≡ true → Err fault ≡ longer_path old.path (character_of node m old.reading) →
+    Err fault ≡ and_next (after_all before) (after_due (Rest node m) old)
+rest-failed before old fault node m h e =
+    ap (λ c. and_next (after_all before) (and_next (after_character (length old.path) node m) c)) e
+    ∙ ap (and_next (after_all before)) (sym (after-character node m old.path old.reading (character_of node m old.reading) refl h))
 
--- a character was read, and then what belongs to it
-spelled-from : (path : List ℕ) (node m c at : ℕ) (rest bytes : List ℕ) (found : List Symbol) → bytes ≡ c ∷ rest →
-    spelled next_subtrie node m path c (record { at = at + 1; rest = rest; found = found }) ≡ character next_subtrie node m path at found bytes
-spelled-from path node m c at rest bytes found e = rw e refl
+-- the symbol of a node
+pub symbol-went : (before due : List Due) (old new : Point) (depth node m : ℕ) → length old.path ≤ 1024 → Ok new ≡ with_path old.path (symbol (m % 16) node old.path old.reading) → due ≡ before ++ symbol_due depth m →
+    after_all due new ≡ and_next (after_all before) (after_character depth node m old)
+symbol-went before due old new depth node m l e noted =
+    rw noted (all-append before (symbol_due depth m) new ∙ ap (and_next (after_all before)) (ap (and_next (after_all (symbol_due depth m))) e
+    ∙ no-fault (nat_lt 1024 (length old.path)) (Err (TooLong node)) _ (le-ltb 1024 (length old.path) l)))
 
-pub character-is : (before : List Due) (old new : Point) (node m c : ℕ) → old.reading.rest ≡ c ∷ drop 1 old.reading.rest → new ≡ stepped old →
-    and_on (take_all before) (along new.path (spelled next_subtrie node m new.path c new.reading)) ≡ and_on (take_all before) (take_due (Character node m) old)
-character-is before old new node m c byte step =
-    rw step (ap (λ a. and_on (take_all before) (along old.path a)) (spelled-from old.path node m c old.reading.at (drop 1 old.reading.rest) old.reading.rest old.reading.found byte))
+pub symbol-failed : (before : List Due) (old : Point) (fault : StabFault) (depth node m : ℕ) → length old.path ≤ 1024 → Err fault ≡ with_path old.path (symbol (m % 16) node old.path old.reading) →
+    Err fault ≡ and_next (after_all before) (after_character depth node m old)
+symbol-failed before old fault depth node m l e =
+    ap (λ c. and_next (after_all before) (and_next (after_all (symbol_due depth m)) c)) e
+    ∙ ap (and_next (after_all before)) (no-fault (nat_lt 1024 (length old.path)) (Err (TooLong node)) _ (le-ltb 1024 (length old.path) l))
+
+pub symbol-long : (before : List Due) (old : Point) (depth node m : ℕ) → 1024 < length old.path → Err (TooLong node) ≡ and_next (after_all before) (after_character depth node m old)
+symbol-long before old depth node m l = ap (and_next (after_all before)) (a-fault (nat_lt 1024 (length old.path)) (Err (TooLong node)) _ (lt-ltb 1024 (length old.path) l))
 
 -- one part that was due was taken
-taken-behind : (before whole : List Due) (next : Due) (p : Point) → whole ≡ before ++ next ∷ [] → take_all whole p ≡ and_on (take_all before) (take_due next p)
-taken-behind before whole next p e = ap (λ due. take_all due p) e ∙ all-behind before (next ∷ []) p
+taken-behind : (before whole : List Due) (next : Due) (p : Point) → whole ≡ before ++ next ∷ [] → after_all whole p ≡ and_next (after_all before) (after_due next p)
+taken-behind before whole next p e = ap (λ due. after_all due p) e ∙ all-append before (next ∷ []) p
 
-pub taken-same : (before after whole : List Due) (next : Due) (p q : Point) (w : Answer) → whole ≡ before ++ next ∷ [] → take_all after q ≡ and_on (take_all before) (take_due next p) →
-    reading_in (take_all whole p) ≡ w → reading_in (take_all after q) ≡ w
-taken-same before after whole next p q w e h k = ap reading_in (h ∙ sym (taken-behind before whole next p e)) ∙ k
+pub taken-same : (before after whole : List Due) (next : Due) (p q : Point) (w : Answer) → whole ≡ before ++ next ∷ [] → after_all after q ≡ and_next (after_all before) (after_due next p) →
+    reading_of (after_all whole p) ≡ w → reading_of (after_all after q) ≡ w
+taken-same before after whole next p q w e h k = ap reading_of (h ∙ sym (taken-behind before whole next p e)) ∙ k
 
-pub taken-failed : (before whole : List Due) (next : Due) (p : Point) (w : Answer) (fault : StabFault) → whole ≡ before ++ next ∷ [] → Err fault ≡ and_on (take_all before) (take_due next p) →
-    reading_in (take_all whole p) ≡ w → Err fault ≡ w
-taken-failed before whole next p w fault e h k = ap reading_in (h ∙ sym (taken-behind before whole next p e)) ∙ k
+pub taken-failed : (before whole : List Due) (next : Due) (p : Point) (w : Answer) (fault : StabFault) → whole ≡ before ++ next ∷ [] → Err fault ≡ and_next (after_all before) (after_due next p) →
+    reading_of (after_all whole p) ≡ w → Err fault ≡ w
+taken-failed before whole next p w fault e h k = ap reading_of (h ∙ sym (taken-behind before whole next p e)) ∙ k
 
-pub taken-first : (path : List ℕ) (s : Reading) → reading_in (take_all (Subtrie ∷ []) (record { path = path; reading = s })) ≡ next_subtrie path s
+pub taken-first : (path : List ℕ) (s : Reading) → reading_of (after_all (Subtrie ∷ []) (record { path = path; reading = s })) ≡ next_subtrie path s
 taken-first path s = inside path (next_subtrie path s)
   where
-    inside : (path : List ℕ) (a : Answer) → reading_in (along path a) ≡ a
+    inside : (path : List ℕ) (a : Answer) → reading_of (with_path path a) ≡ a
     inside path (Ok t) = refl
     inside path (Err fault) = refl
 
-pub taken-less : (before after whole : List Due) (next : Due) (p q : Point) → whole ≡ before ++ next ∷ [] → weight q after ≤ weight p before → weight q after < weight p whole
+pub taken-less : (before after whole : List Due) (next : Due) (p q : Point) → whole ≡ before ++ next ∷ [] → weight q after < weight p before + due_weight next → weight q after < weight p whole
 taken-less before after whole next p q e h =
-    let more : length whole ≡ length before + 1 = ap length e ∙ length-append before (next ∷ []) in
+    let more : all_weight whole ≡ all_weight before + due_weight next = ap all_weight e ∙ all_weight-push before next in
     omega (arith, more, h)

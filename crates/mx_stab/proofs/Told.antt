@@ -5,7 +5,7 @@ use Rattle.std.proofs.Math.Nat.{pow-le-pow_right}
 use Rattle.std.proofs.lemmas.Bool.{eqb-true, lt-leb, lt-ltb}
 use Rattle.std.proofs.lemmas.Grind.{pow_more}
 use Rattle.mx_stab.specs.Reading.{serial_behind, value_size}
-use Rattle.mx_stab.specs.Due.{capped, capped_serial}
+use Rattle.mx_stab.specs.Due.{cap, serial_cap}
 
 -- fewer digits tell less
 pub digits-below : (x i j : ℕ) → i ≤ j → x < 256 ^ i → x < 256 ^ j
@@ -22,24 +22,24 @@ digit-more x y i l h =
 cap-more : (x b : ℕ) → min (min x (2 ^ 32) * 128 + b) (2 ^ 32) ≡ min (x * 128 + b) (2 ^ 32)
 cap-more x b = omega arith
 
-cap-digit : (x y b : ℕ) → capped x ≡ capped y → capped (x * 128 + b) ≡ capped (y * 128 + b)
+cap-digit : (x y b : ℕ) → cap x ≡ cap y → cap (x * 128 + b) ≡ cap (y * 128 + b)
 cap-digit x y b h = sym (cap-more x b) ∙ ap (λ z. min (z * 128 + b) (2 ^ 32)) h ∙ cap-more y b
 
-serial-step : (t : Bool) (x y b : ℕ) (more : List ℕ) → capped x ≡ capped y → capped_serial (serial_behind (x * 128 + b) more) ≡ capped_serial (serial_behind (y * 128 + b) more) →
-    capped_serial (cond t (serial_behind (x * 128 + b) more) (Some (x * 128 + (b - 128), more))) ≡ capped_serial (cond t (serial_behind (y * 128 + b) more) (Some (y * 128 + (b - 128), more)))
+serial-step : (t : Bool) (x y b : ℕ) (more : List ℕ) → cap x ≡ cap y → serial_cap (serial_behind (x * 128 + b) more) ≡ serial_cap (serial_behind (y * 128 + b) more) →
+    serial_cap (cond t (serial_behind (x * 128 + b) more) (Some (x * 128 + (b - 128), more))) ≡ serial_cap (cond t (serial_behind (y * 128 + b) more) (Some (y * 128 + (b - 128), more)))
 serial-step true x y b more h k = k
 serial-step false x y b more h k = ap (λ z. Some (z, more)) (cap-digit x y (b - 128) h)
 
-pub serial-capped : (x y : ℕ) (rest : List ℕ) → capped x ≡ capped y → capped_serial (serial_behind x rest) ≡ capped_serial (serial_behind y rest)
-serial-capped x y [] h = refl
-serial-capped x y (b ∷ more) h = serial-step (nat_lt b 128) x y b more h (serial-capped (x * 128 + b) (y * 128 + b) more (cap-digit x y b h))
+pub serial-cap : (x y : ℕ) (rest : List ℕ) → cap x ≡ cap y → serial_cap (serial_behind x rest) ≡ serial_cap (serial_behind y rest)
+serial-cap x y [] h = refl
+serial-cap x y (b ∷ more) h = serial-step (nat_lt b 128) x y b more h (serial-cap (x * 128 + b) (y * 128 + b) more (cap-digit x y b h))
 
-pub serial-more : (x y b : ℕ) (rest : List ℕ) (all : Option (ℕ × List ℕ)) → y ≡ min (x * 128 + b) (2 ^ 32) → b < 128 → capped_serial (serial_behind x (b ∷ rest)) ≡ all →
-    capped_serial (serial_behind y rest) ≡ all
+pub serial-more : (x y b : ℕ) (rest : List ℕ) (all : Option (ℕ × List ℕ)) → y ≡ min (x * 128 + b) (2 ^ 32) → b < 128 → serial_cap (serial_behind x (b ∷ rest)) ≡ all →
+    serial_cap (serial_behind y rest) ≡ all
 serial-more x y b rest all e l h =
-    serial-capped y (x * 128 + b) rest (omega (arith, e)) ∙ one (nat_lt b 128) (lt-ltb b 128 l) h
+    serial-cap y (x * 128 + b) rest (omega (arith, e)) ∙ one (nat_lt b 128) (lt-ltb b 128 l) h
   where
-    one : (t : Bool) → t ≡ true → capped_serial (cond t (serial_behind (x * 128 + b) rest) (Some (x * 128 + (b - 128), rest))) ≡ all → capped_serial (serial_behind (x * 128 + b) rest) ≡ all
+    one : (t : Bool) → t ≡ true → serial_cap (cond t (serial_behind (x * 128 + b) rest) (Some (x * 128 + (b - 128), rest))) ≡ all → serial_cap (serial_behind (x * 128 + b) rest) ≡ all
     one true e h = h
     one false e h = absurd (cc)
 

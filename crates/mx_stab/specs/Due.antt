@@ -1,71 +1,99 @@
--- What a reader notes on its way.
-use Rattle.std.specs.Prelude.{ℕ, ◌+◌, ◌-◌, ◌*◌, ◌^◌, Bool, true, false, List, [], ◌∷◌, ◌++◌, length, take, drop, Option, Some, None, Result, Ok, Err, min}
+-- What a reader notes on its way: one part for each node that is not read to its end.
+use Rattle.std.specs.Prelude.{◌≡◌, ◌≢◌, ℕ, ◌+◌, ◌*◌, ◌%◌, ◌^◌, Bool, true, false, nat_lt, List, [], ◌∷◌, ◌++◌, length, take, drop, Option, Some, None, Result, Ok, Err, min, if◌then◌else◌}
 use Rattle.mx_stab.specs.declared.faults.StabFault.{StabFault}
-use Rattle.mx_stab.specs.declared.reading.Due.{Due}
-use Rattle.mx_stab.specs.declared.reading.Due.TheVariants.{Subtrie, Character, Shorter}
-use Rattle.mx_stab.specs.Reading.{Reading, Answer, character, has, has_character, next_subtrie}
+use Rattle.mx_stab.specs.declared.faults.StabFault.TheVariants.{TooLong, OutOfMemory}
+use Rattle.mx_stab.specs.declared.due.Due.{Due}
+use Rattle.mx_stab.specs.declared.due.Due.TheVariants.{Subtrie, Rest, Right}
+use Rattle.mx_stab.specs.Reading.{Reading, Answer, Character, part_if, symbol, has, node_rest, next_subtrie}
 
 -- how far reading has come, and the path to what is read next
 pub record Point : Type 0 where
   pub path : List ℕ
   pub reading : Reading
 
-abbrev pub Came : Type 0
-Came = Result Point StabFault
+abbrev pub Progress : Type 0
+Progress = Result Point StabFault
 
-abbrev pub and_on : (Point → Came) → Came → Came
-and_on next (Ok p) = next p
-and_on next (Err fault) = Err fault
+abbrev pub and_next : (Point → Progress) → Progress → Progress
+and_next next (Ok p) = next p
+and_next next (Err fault) = Err fault
 
--- the same path behind what was read
-abbrev pub along : List ℕ → Answer → Came
-along path (Ok s) = Ok (record { path = path; reading = s })
-along path (Err fault) = Err fault
+-- an answer with the path to what is read behind it
+abbrev pub with_path : List ℕ → Answer → Progress
+with_path path (Ok s) = Ok (record { path = path; reading = s })
+with_path path (Err fault) = Err fault
 
 -- one byte further
-abbrev pub stepped : Point → Point
-stepped p = record p { reading = record { at = p.reading.at + 1; rest = drop 1 p.reading.rest; found = p.reading.found } }
+abbrev pub next_point : Point → Point
+next_point p =
+    record p { reading = record { at = p.reading.at + 1; rest = drop 1 p.reading.rest; found = p.reading.found } }
 
--- one part that is due
-abbrev pub take_due : Due → Point → Came
-take_due Subtrie p = along p.path (next_subtrie p.path p.reading)
-take_due (Character node m) p = along p.path (character next_subtrie node m p.path p.reading.at p.reading.found p.reading.rest)
-take_due Shorter p = Ok (record p { path = take (length p.path - 1) p.path })
+-- behind a part that is due: a subtrie; what stands in a node behind its left subtrie; or a right subtrie, whose
+-- path has so many bytes
+abbrev pub after_due : Due → Point → Progress
+after_due Subtrie p = with_path p.path (next_subtrie p.path p.reading)
+after_due (Rest node m) p = with_path p.path (node_rest next_subtrie node m p.path p.reading)
+after_due (Right depth m) p =
+    with_path (take depth p.path) (part_if (has 0x10 m) (next_subtrie (take depth p.path)) p.reading)
 
--- all that is due, the last noted first
-abbrev pub take_all : List Due → Point → Came
-take_all [] p = Ok p
-take_all (d ∷ above) p = and_on (take_due d) (take_all above p)
+-- behind all that is due, the last noted first
+abbrev pub after_all : List Due → Point → Progress
+after_all [] p = Ok p
+after_all (d ∷ above) p = and_next (after_due d) (after_all above p)
 
--- a part that is noted or not
-abbrev pub noted_if : Bool → Due → List Due
-noted_if true d = d ∷ []
-noted_if false d = []
+-- a part that is due or not
+abbrev pub due_if : Bool → Due → List Due
+due_if true d = d ∷ []
+due_if false d = []
 
--- what is noted behind the byte m of a node, and behind its character
-abbrev pub noted_node : ℕ → ℕ → List Due
-noted_node node m = noted_if (has 0x10 m) Subtrie ++ (noted_if (has_character m) (Character node m) ++ noted_if (has 0x40 m) Subtrie)
+-- what is due behind the byte m of a node, and behind its symbol
+abbrev pub node_due : ℕ → ℕ → List Due
+node_due node m = Rest node m ∷ due_if (has 0x40 m) Subtrie
 
-abbrev pub noted_middle : ℕ → List Due
-noted_middle m = Shorter ∷ noted_if (has 0x20 m) Subtrie
+abbrev pub symbol_due : ℕ → ℕ → List Due
+symbol_due depth m = Right depth m ∷ due_if (has 0x20 m) Subtrie
 
--- what stands after a step, unless it was refused
-abbrev pub given : Result (Unit {0}) StabFault → Came → Came
-given (Ok u) came = came
-given (Err fault) came = Err fault
+-- behind the character of a node, with which the path ends
+abbrev pub after_character : ℕ → ℕ → ℕ → Point → Progress
+after_character depth node m p =
+    if nat_lt 1024 (length p.path) then Err (TooLong node)
+    else and_next (after_all (symbol_due depth m)) (with_path p.path (symbol (m % 16) node p.path p.reading))
 
-abbrev pub reading_in : Came → Answer
-reading_in (Ok p) = Ok p.reading
-reading_in (Err fault) = Err fault
+-- a path with a character at its end
+abbrev pub longer_path : List ℕ → Result Character StabFault → Progress
+longer_path path (Ok c) = Ok (record { path = path ++ c.name; reading = c.behind })
+longer_path path (Err fault) = Err fault
+
+-- the progress after a step, unless it was refused
+abbrev pub progress_of : Result (Unit {0}) StabFault → Progress → Progress
+progress_of (Ok u) came = came
+progress_of (Err fault) came = Err fault
+
+-- a step leads where it has to, unless it is out of memory
+abbrev pub LeadsTo : Result (Unit {0}) StabFault → Progress → Progress → Type 0
+LeadsTo result came due = result ≢ Err OutOfMemory → progress_of result came ≡ due
+
+abbrev pub reading_of : Progress → Answer
+reading_of (Ok p) = Ok p.reading
+reading_of (Err fault) = Err fault
 
 -- a number that does not matter from 2^32 on
-abbrev pub capped : ℕ → ℕ
-capped x = min x (2 ^ 32)
+abbrev pub cap : ℕ → ℕ
+cap x = min x (2 ^ 32)
 
-abbrev pub capped_serial : Option (ℕ × List ℕ) → Option (ℕ × List ℕ)
-capped_serial None = None
-capped_serial (Some (serial, more)) = Some (capped serial, more)
+abbrev pub serial_cap : Option (ℕ × List ℕ) → Option (ℕ × List ℕ)
+serial_cap None = None
+serial_cap (Some (serial, more)) = Some (cap serial, more)
 
--- what reading has still before it: each part that is due, and three for each byte
+-- what reading has still before it: two for each part that is due, one for a subtrie, and three for each byte
+abbrev pub due_weight : Due → ℕ
+due_weight Subtrie = 1
+due_weight (Rest node m) = 2
+due_weight (Right depth m) = 2
+
+abbrev pub all_weight : List Due → ℕ
+all_weight [] = 0
+all_weight (d ∷ due) = due_weight d + all_weight due
+
 abbrev pub weight : Point → List Due → ℕ
-weight p due = 3 * length p.reading.rest + length due
+weight p due = 3 * length p.reading.rest + all_weight due

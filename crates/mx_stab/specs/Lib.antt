@@ -1,9 +1,12 @@
 pub use Rattle.mx_word.specs.Words
-pub mod Faults
+pub use Rattle.mx_word.specs.Ranges
+pub mod Characters
 pub mod Grammar
 pub mod Numbers
 pub mod Trie
 pub mod Writing
 pub mod Order
 pub mod Reading
+pub mod Names
 pub mod Due
+pub mod Faults

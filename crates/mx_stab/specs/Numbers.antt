@@ -5,10 +5,10 @@ use Rattle.mx_word.specs.declared.symbols.Value.{Value}
 use Rattle.mx_word.specs.declared.symbols.Value.TheVariants.{Pure, Reg}
 
 -- digits without the zeros in front; the last digit stays
-abbrev pub fewest : List ℕ → List ℕ
-fewest [] = []
-fewest (d ∷ []) = d ∷ []
-fewest (d ∷ e ∷ more) = if d == 0 then fewest (e ∷ more) else d ∷ e ∷ more
+abbrev pub fewest_digits : List ℕ → List ℕ
+fewest_digits [] = []
+fewest_digits (d ∷ []) = d ∷ []
+fewest_digits (d ∷ e ∷ more) = if d == 0 then fewest_digits (e ∷ more) else d ∷ e ∷ more
 
 -- whether a pure value is told by what it exceeds 2^61 by
 abbrev pub is_offset : ℕ → Bool
@@ -16,7 +16,7 @@ is_offset x = nat_le (2 ^ 61) x && nat_lt x (2 ^ 61 + 2 ^ 48)
 
 -- the bytes of an octa from the high end, as few as tell it
 abbrev pub octa_digits : ℕ → List ℕ
-octa_digits x = fewest (octa_to_bytes x)
+octa_digits x = fewest_digits (octa_to_bytes x)
 
 -- the bytes of a value
 abbrev pub value_bytes : Value → List ℕ
@@ -30,4 +30,5 @@ kind (Reg k) = 15
 
 -- a serial number in base 128 from the high end; #80 is added to its last digit
 abbrev pub serial_bytes : ℕ → List ℕ
-serial_bytes x = fewest ((x / 2 ^ 28) ∷ (x / 2 ^ 21 % 128) ∷ (x / 2 ^ 14 % 128) ∷ (x / 2 ^ 7 % 128) ∷ (x % 128 + 128) ∷ [])
+serial_bytes x =
+    fewest_digits ((x / 2 ^ 28) ∷ (x / 2 ^ 21 % 128) ∷ (x / 2 ^ 14 % 128) ∷ (x / 2 ^ 7 % 128) ∷ (x % 128 + 128) ∷ [])

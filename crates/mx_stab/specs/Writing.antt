@@ -5,9 +5,9 @@ use Rattle.mx_stab.specs.Trie.{next_byte, trie_from}
 use Rattle.mx_stab.specs.declared.writing.Pending.{Pending}
 
 -- what is still to be written: the last noted first
-abbrev pub ahead : List Pending → List ℕ
-ahead [] = []
-ahead (p ∷ before) = ahead before ++ trie_from p.at p.symbols.now
+abbrev pub bytes_due : List Pending → List ℕ
+bytes_due [] = []
+bytes_due (p ∷ before) = bytes_due before ++ trie_from p.at p.symbols.now
 
 -- how many symbols stand in front whose next byte is this one
 abbrev pub run_length : ℕ → ℕ → List Symbol → ℕ

@@ -3,6 +3,8 @@
 ghost use Rattle.std.specs.Prelude.{◌≡◌};
 ghost use Rattle.mx_stab.specs.Faults.{number_of, place_of};
 
+use mx_word::NoMemory;
+
 /// Why a symbol trie is refused, each with a byte place in the trie.
 #[derive(Clone, Copy, Debug, PartialEq, Eq)]
 pub enum StabFault {
@@ -11,11 +13,12 @@ pub enum StabFault {
     /// Behind the trie stand four or more bytes, or one that is not zero; the place is that of the
     /// first byte behind the trie.
     Padding(u64),
-    /// A node with a two-byte character.
+    /// A node with the bit #80 that has no character, or whose character is below #80 or from #d800
+    /// to #dfff; the place is that of the node's byte m.
     Wide(u64),
     /// A name that came before; the place is its node's.
     Twice(u64),
-    /// A name of more than 1,024 bytes; the place is its node's.
+    /// A path of more than 1,024 bytes; the place is its node's.
     TooLong(u64),
     /// A serial number of 2^32 or more; the place is its node's.
     BadSerial(u64),
@@ -23,8 +26,19 @@ pub enum StabFault {
     OutOfMemory,
 }
 
+impl From<NoMemory> for StabFault {
+    ghost use Rattle.std.specs.Prelude.{◌≡◌};
+    ghost use Rattle.mx_stab.specs.declared.faults.StabFault.TheVariants.{OutOfMemory};
+
+    ghost from_gives = { λ _ fault. fault ≡ OutOfMemory };
+
+    fn from(_none: NoMemory) -> StabFault {
+        StabFault::OutOfMemory
+    }
+}
+
 impl StabFault {
-    /// The number of the fault; 0 for want of memory.
+    /// The number of the fault; 0 for out of memory.
     pub fn number(&self) -> u16
         ensures { result ≡ number_of self.now }
     {
@@ -39,7 +53,7 @@ impl StabFault {
         }
     }
 
-    /// The byte place in the trie that the fault carries; want of memory has none.
+    /// The byte place in the trie that the fault carries; out of memory has none.
     pub fn place(&self) -> Option<u64>
         ensures { result ≡ place_of self.now }
     {

@@ -1,24 +1,58 @@
 //! What holds of tries over lists alone.
 
-ghost use Rattle.std.specs.Prelude.{◌≡◌, ◌↔◌, ℕ, List, Ok};
+ghost use Rattle.std.specs.Prelude.{◌≡◌, ◌↔◌, ◌≤◌, ℕ, List, ◌++◌, length, replicate, None, Ok};
 ghost use Rattle.std.specs.List.{AllByRecursion};
+ghost use Rattle.mx_word.specs.Ranges.{AreBytes};
 ghost use Rattle.mx_word.specs.declared.symbols.Symbol.{Symbol};
-ghost use Rattle.mx_stab.specs.Grammar.{AreBelow, IsTrie};
-ghost use Rattle.mx_stab.specs.Order.{AreInOrder, IsNamed};
-ghost use Rattle.mx_stab.specs.Reading.{read_of};
+ghost use Rattle.mx_word.specs.declared.symbols.Value as values;
+ghost use Rattle.mx_stab.specs.Grammar.{AreDistinct, IsTrie, SpellsSerial, SpellsValue};
+ghost use Rattle.mx_stab.specs.Numbers.{serial_bytes, value_bytes};
+ghost use Rattle.mx_stab.specs.Order.{InByteOrder, IsNamed};
+ghost use Rattle.mx_stab.specs.Reading.{trie_answer, trie_fault};
 ghost use Rattle.mx_stab.specs.Trie.{trie_of};
 
-/// The trie that is written of symbols is one that the grammar gives these symbols.
+/// The trie that is written of symbols, with up to three zeros behind it, is one that the grammar
+/// gives these symbols.
 pub fn writing_is_the_grammar()
-    ensures { (symbols : List Symbol) → AreInOrder symbols → AllByRecursion IsNamed symbols → IsTrie (trie_of symbols) symbols }
+    ensures { (symbols : List Symbol) (zeros : ℕ) → InByteOrder symbols → AllByRecursion IsNamed symbols → zeros ≤ 3 →
+        IsTrie (trie_of symbols ++ replicate zeros 0) symbols }
 {}
 
 /// Bytes are read as these symbols exactly where the grammar gives them.
 pub fn reading_is_the_grammar()
-    ensures { (bytes : List ℕ) (symbols : List Symbol) → AreBelow 256 bytes → (read_of bytes ≡ Ok symbols) ↔ IsTrie bytes symbols }
+    ensures { (bytes : List ℕ) (symbols : List Symbol) → AreBytes bytes →
+        (trie_answer bytes ≡ Ok symbols) ↔ IsTrie bytes symbols }
 {}
 
-/// What is written of symbols is read as these symbols.
+/// Bytes are a trie exactly where they have no fault.
+pub fn a_trie_has_no_fault()
+    ensures { (bytes : List ℕ) → AreBytes bytes →
+        (trie_fault bytes ≡ None) ↔ ((symbols : List Symbol) × IsTrie bytes symbols) }
+{}
+
+/// A trie tells one list of symbols.
+pub fn a_trie_tells_one_list()
+    ensures { (bytes : List ℕ) (symbols others : List Symbol) → IsTrie bytes symbols → IsTrie bytes others →
+        symbols ≡ others }
+{}
+
+/// What is written of symbols is read as these symbols, also with up to three zeros behind it.
 pub fn what_is_written_is_read()
-    ensures { (symbols : List Symbol) → AreInOrder symbols → AllByRecursion IsNamed symbols → read_of (trie_of symbols) ≡ Ok symbols }
+    ensures { (symbols : List Symbol) (zeros : ℕ) → InByteOrder symbols → AllByRecursion IsNamed symbols → zeros ≤ 3 →
+        trie_answer (trie_of symbols ++ replicate zeros 0) ≡ Ok symbols }
+{}
+
+/// The symbols of a trie have distinct names of 1 to 1,024 bytes.
+pub fn names_of_a_trie_are_distinct()
+    ensures { (bytes : List ℕ) (symbols : List Symbol) → IsTrie bytes symbols →
+        AreDistinct symbols × AllByRecursion IsNamed symbols }
+{}
+
+/// No fewer bytes tell a value of any kind, and no fewer digits a serial number, than those that are
+/// written.
+pub fn fewest_bytes_are_written()
+    ensures values { (kind : ℕ) (value : values.Value) (bytes : List ℕ) → SpellsValue kind value bytes →
+        length (value_bytes value) ≤ length bytes }
+    ensures serials { (serial : ℕ) (bytes : List ℕ) → SpellsSerial serial bytes →
+        length (serial_bytes serial) ≤ length bytes }
 {}

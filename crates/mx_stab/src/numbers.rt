@@ -6,8 +6,8 @@ ghost use Rattle.mx_stab.specs.Numbers as spec;
 use mx_word::{NoMemory, Value, octa_bytes};
 
 /// Digits without the zeros in front; the last digit stays.
-fn fewest(digits: &[u8]) -> &[u8]
-    ensures value { result.now ≡ spec.fewest digits.now }
+fn fewest_digits(digits: &[u8]) -> &[u8]
+    ensures value { result.now ≡ spec.fewest_digits digits.now }
     ensures fewer { length result.now ≤ length digits.now }
 {
     let mut rest = digits;
@@ -24,10 +24,8 @@ fn fewest(digits: &[u8]) -> &[u8]
 fn append(bytes: &mut Vec<u8>, from: &[u8]) -> Result<(), NoMemory>
     ensures { OnOk result (bytes.new.items ≡ bytes.old.items ++ from.now) }
 {
-    match bytes.extend_from_slice(from) {
-        Ok(()) => Ok(()),
-        Err(_) => Err(NoMemory),
-    }
+    bytes.extend_from_slice(from)?;
+    Ok(())
 }
 
 /// Whether a pure value is told by what it exceeds 2^61 by.
@@ -42,7 +40,7 @@ fn octa_size(x: u64) -> u8
     ensures value { result ≡ length (spec.octa_digits x) }
     ensures most { result ≤ 8 }
 {
-    fewest(&octa_bytes(x)).len() as u8
+    fewest_digits(&octa_bytes(x)).len() as u8
 }
 
 /// The kind of a value, from 1 to 15.
@@ -69,9 +67,9 @@ pub fn append_value(bytes: &mut Vec<u8>, value: Value) -> Result<(), NoMemory>
     match value {
         Value::Pure(x) => {
             if is_offset(x) {
-                append(bytes, fewest(&octa_bytes(x - 0x2000_0000_0000_0000)))
+                append(bytes, fewest_digits(&octa_bytes(x - 0x2000_0000_0000_0000)))
             } else {
-                append(bytes, fewest(&octa_bytes(x)))
+                append(bytes, fewest_digits(&octa_bytes(x)))
             }
         }
         Value::Reg(k) => append(bytes, &[k]),
@@ -89,5 +87,5 @@ pub fn append_serial(bytes: &mut Vec<u8>, x: u32) -> Result<(), NoMemory>
         (x / 128 % 128) as u8,
         (x % 128) as u8 + 128,
     ];
-    append(bytes, fewest(&digits))
+    append(bytes, fewest_digits(&digits))
 }

@@ -1,36 +1,28 @@
 //! The symbols of a trie.
 
-ghost use Rattle.std.specs.Prelude.{◌≡◌, ◌≢◌, ◌≤◌, ◌<◌, ◌+◌, ◌*◌, ◌^◌, [], ◌∷◌, ◌++◌, length, List, Err, Ok, Some, IfErr, IfOk, OnOk, IfSome, IfNone, OnSome, drop, nat_le};
-ghost use Rattle.std.specs.Option.{option_map};
+ghost use Rattle.std.specs.Prelude.{◌≡◌, ◌≢◌, ◌≤◌, ◌<◌, ◌+◌, [], ◌∷◌, ◌++◌, List, length, drop, take};
+ghost use Rattle.std.specs.Prelude.{Err, Ok, Some, IfErr, IfOk, IfNone, IfSome, OnOk, OnSome};
+ghost use Rattle.std.specs.List.{AllByRecursion};
 ghost use Rattle.mx_word.specs.Results.{map_ok};
 ghost use Rattle.mx_word.specs.declared.symbols.Symbol.{Symbol};
+ghost use Rattle.mx_stab.specs.Characters.{wide_character, wide_number};
+ghost use Rattle.mx_stab.specs.Due.{after_all, after_character, after_due, and_next, due_weight};
+ghost use Rattle.mx_stab.specs.Due.{longer_path, next_point, weight, with_path, LeadsTo};
 ghost use Rattle.mx_stab.specs.Faults.{IsPlaced};
-ghost use Rattle.mx_stab.specs.Grammar as grammar;
-ghost use Rattle.mx_stab.specs.Grammar.{IsTrie};
+ghost use Rattle.mx_stab.specs.Grammar.{AreDistinct, IsTrie};
+ghost use Rattle.mx_stab.specs.Order.{IsNamed};
 ghost use Rattle.mx_stab.specs.Reading as spec;
-ghost use Rattle.mx_stab.specs.Due as notes;
-ghost use Rattle.mx_stab.specs.Due.{along, and_on, given, stepped, take_all, take_due, weight};
 
 use crate::StabFault;
+use crate::due::{Due, has, has_character, note_node, note_subtrie, note_symbol};
 use crate::found::Found;
-use mx_word::{NoMemory, Symbols, Value};
+use crate::values::{TOO_LARGE, serial, value, value_size};
+use mx_word::{Symbols, Value};
 use std::alloc::Global;
 use std::marker::Model;
 
-/// The most bytes of a name.
+/// The most bytes of a path.
 const LONGEST: usize = 1024;
-
-/// Serial numbers from here on are too large.
-const TOO_LARGE: u64 = 0x1_0000_0000;
-
-/// What is still to be read: a subtrie; the character of the node at a place with its byte m, and
-/// what stands behind it; or nothing more below the path's last character.
-#[derive(Clone, Copy)]
-enum Due {
-    Subtrie,
-    Character { node: u64, m: u8 },
-    Shorter,
-}
 
 /// How far reading has come: the place of the next byte, the bytes from there on, the path to what
 /// is read next, and the symbols so far.
@@ -48,128 +40,30 @@ impl<'a> Model for Reader<'a> {
 
     ghost Value = { Point };
 
-    ghost view = { λ r. record { path = r.path.items; reading = record { at = r.at; rest = r.rest.now; found = r.found } } };
+    ghost view = { λ r. record {
+      path = r.path.items;
+      reading = record { at = r.at; rest = r.rest.now; found = r.found };
+    } };
 
     ghost invariant = { λ r. r.at + length r.rest.now < 2 ^ 63 };
 }
 
-/// Whether a byte m has a bit.
-fn has(bit: u8, m: u8) -> bool
-    requires { 0 < bit }
-    ensures { result ≡ spec.has bit m }
+/// Whether the byte m marks a character of two bytes where there is none.
+fn is_wide_bare(m: u8) -> bool
+    ensures { result ≡ spec.is_wide_bare m }
 {
-    m / bit % 2 == 1
+    has(0x80, m) && !has_character(m)
 }
 
-/// Whether a node has a character.
-fn has_character(m: u8) -> bool
-    ensures { result ≡ spec.has_character m }
+/// The character of two bytes, high byte first.
+fn wide_character(high: u8, low: u8) -> Option<char>
+    ensures { result ≡ wide_character (wide_number high low) }
 {
-    m % 16 != 0 || has(0x20, m)
-}
-
-/// How many bytes tell a value of a kind.
-fn value_size(kind: u8) -> usize
-    requires { kind < 16 }
-    ensures value { result ≡ spec.value_size kind }
-    ensures most { result ≤ 8 }
-{
-    if kind == 15 {
-        1
-    } else if kind <= 8 {
-        usize::from(kind)
-    } else {
-        usize::from(kind - 8)
+    let code = u32::from(high) * 256 + u32::from(low);
+    if code < 0x80 {
+        return None;
     }
-}
-
-/// The number that one more byte tells.
-fn with_byte(x: u64, b: u8) -> u64
-    requires { x < 2 ^ 56 }
-    ensures value { result ≡ x * 256 + b }
-    ensures most { result < x * 256 + 256 }
-{
-    x * 256 + u64::from(b)
-}
-
-/// The number that bytes tell.
-fn number(bytes: &[u8]) -> u64
-    requires { length bytes.now ≤ 8 }
-    ensures value { result ≡ grammar.number 256 bytes.now }
-    ensures most { result < 256 ^ length bytes.now }
-{
-    let mut x: u64 = 0;
-    let mut rest = bytes;
-    while let [b, more @ ..] = rest {
-        x = with_byte(x, *b);
-        rest = more;
-    }
-    x
-}
-
-/// The value of a kind that these bytes tell.
-fn value(kind: u8, bytes: &[u8]) -> Value
-    requires kind { kind < 16 }
-    requires size { length bytes.now ≡ spec.value_size kind }
-    ensures { result ≡ spec.value_of kind bytes.now }
-{
-    if kind == 15 {
-        Value::Reg(bytes[0])
-    } else if kind <= 8 {
-        Value::Pure(number(bytes))
-    } else {
-        Value::Pure(0x2000_0000_0000_0000 + number(bytes))
-    }
-}
-
-/// A serial number at the front of bytes, and the bytes behind it. One from 2^32 on counts as 2^32.
-fn serial(bytes: &[u8]) -> Option<(u64, &[u8])>
-    ensures value { option_map (λ r. (r.0, r.1.now)) result ≡ notes.capped_serial (spec.serial_behind 0 bytes.now) }
-    ensures fewer { IfSome result (λ r. length r.1.now ≤ length bytes.now) }
-{
-    let mut x: u64 = 0;
-    let mut rest = bytes;
-    while let [b, more @ ..] = rest {
-        rest = more;
-        if *b >= 128 {
-            return Some(((x * 128 + u64::from(*b - 128)).min(TOO_LARGE), rest));
-        }
-        x = (x * 128 + u64::from(*b)).min(TOO_LARGE);
-    }
-    None
-}
-
-/// Notes what is due before all that was noted so far.
-fn note(due: &mut Vec<Due>, is: bool, what: Due) -> Result<(), NoMemory>
-    ensures items { OnOk result (due.new.items ≡ due.old.items ++ notes.noted_if is what) }
-    ensures few { OnOk result (length due.new.items ≤ length due.old.items + 1) }
-{
-    if !is {
-        return Ok(());
-    }
-    match due.push(what) {
-        Ok(()) => Ok(()),
-        Err(_) => Err(NoMemory),
-    }
-}
-
-/// Notes what stands behind the byte m of a node, of which the left subtrie comes first.
-fn note_node(due: &mut Vec<Due>, node: u64, m: u8) -> Result<(), NoMemory>
-    ensures items { OnOk result (due.new.items ≡ due.old.items ++ notes.noted_node node m) }
-    ensures few { OnOk result (length due.new.items ≤ length due.old.items + 3) }
-{
-    note(due, has(0x10, m), Due::Subtrie)?;
-    note(due, has_character(m), Due::Character { node, m })?;
-    note(due, has(0x40, m), Due::Subtrie)
-}
-
-/// Notes a middle subtrie, where its node has one, and the end of its path.
-fn note_middle(due: &mut Vec<Due>, m: u8) -> Result<(), NoMemory>
-    ensures items { OnOk result (due.new.items ≡ due.old.items ++ notes.noted_middle m) }
-    ensures few { OnOk result (length due.new.items ≤ length due.old.items + 2) }
-{
-    note(due, true, Due::Shorter)?;
-    note(due, has(0x20, m), Due::Subtrie)
+    char::from_u32(code)
 }
 
 impl<'a> Reader<'a> {
@@ -187,10 +81,24 @@ impl<'a> Reader<'a> {
         self.at
     }
 
+    /// Leaves so many bytes of the path.
+    fn shorten(&mut self, depth: usize)
+        ensures { self.new ≡ record self.old { path = take depth self.old.path } }
+    {
+        self.path.truncate(depth);
+    }
+
+    /// How many bytes the path has.
+    fn depth(&self) -> usize
+        ensures { result ≡ length self.now.path }
+    {
+        self.path.len()
+    }
+
     /// Takes the next byte; nothing changes where there is none.
     fn next_byte(&mut self) -> Option<u8>
         ensures byte { IfSome result (λ b. self.old.reading.rest ≡ b ∷ drop 1 self.old.reading.rest) }
-        ensures some { OnSome result (self.new ≡ stepped self.old) }
+        ensures some { OnSome result (self.new ≡ next_point self.old) }
         ensures none { IfNone result ((self.new ≡ self.old) × (self.old.reading.rest ≡ [])) }
     {
         let bytes = self.rest;
@@ -204,74 +112,116 @@ impl<'a> Reader<'a> {
 
     /// Reads the byte m of a node, and notes what stands behind it.
     fn take_node(&mut self, due: &mut Vec<Due>) -> Result<(), StabFault>
-        ensures same { result ≢ Err StabFault.OutOfMemory → given result (take_all due.new.items self.new) ≡ and_on (take_all due.old.items) (take_due Due.Subtrie self.old) }
+        ensures same { LeadsTo result (after_all due.new.items self.new)
+            (and_next (after_all due.old.items) (after_due Due.Subtrie self.old)) }
         ensures less { OnOk result (weight self.new due.new.items ≤ weight self.old due.old.items) }
     {
         let node = self.place();
         let Some(m) = self.next_byte() else {
             return Err(StabFault::Truncated(node));
         };
-        if m >= 0x80 {
+        if is_wide_bare(m) {
             return Err(StabFault::Wide(node));
         }
-        match note_node(due, node, m) {
-            Ok(()) => Ok(()),
-            Err(_) => Err(StabFault::OutOfMemory),
-        }
+        note_node(due, node, m)?;
+        Ok(())
     }
 
-    /// Whether the path cannot grow.
-    fn is_long(&self) -> bool
-        ensures { result ≡ nat_le 1024 (length self.now.path) }
+    /// Adds bytes to the path.
+    fn lengthen(&mut self, name: &[u8]) -> Result<(), StabFault>
+        ensures ok { OnOk result (self.new ≡ record self.old { path = self.old.path ++ name.now }) }
+        ensures memory { IfErr result (λ fault. fault ≡ StabFault.OutOfMemory) }
     {
-        LONGEST <= self.path.len()
-    }
-
-    /// Adds a character to the path.
-    fn lengthen(&mut self, c: u8) -> Result<(), NoMemory>
-        ensures { OnOk result (self.new ≡ record self.old { path = self.old.path ++ c ∷ [] }) }
-    {
-        match self.path.push(c) {
-            Ok(()) => Ok(()),
-            Err(_) => Err(NoMemory),
+        if self.path.extend_from_slice(name).is_err() {
+            return Err(StabFault::OutOfMemory);
         }
+        Ok(())
     }
 
-    /// Reads the character of a node, and what belongs to it.
-    fn take_character(&mut self, due: &mut Vec<Due>, node: u64, m: u8) -> Result<(), StabFault>
-        ensures same { result ≢ Err StabFault.OutOfMemory → given result (take_all due.new.items self.new) ≡ and_on (take_all due.old.items) (take_due (Due.Character node m) self.old) }
-        ensures less { OnOk result (weight self.new due.new.items ≤ weight self.old due.old.items) }
+    /// Reads a character of one byte into the path.
+    fn take_byte(&mut self) -> Result<(), StabFault>
+        ensures same { LeadsTo result (Ok self.new)
+            (longer_path self.old.path (spec.one_byte_of self.old.reading)) }
+        ensures fewer { OnOk result (length self.new.reading.rest < length self.old.reading.rest) }
     {
         let Some(c) = self.next_byte() else {
             return Err(StabFault::Truncated(self.place()));
         };
-        self.take_spelled(due, node, m, c)
+        self.lengthen(&[c])
     }
 
-    /// Reads the symbol that ends with a character, and notes the middle subtrie.
-    fn take_spelled(&mut self, due: &mut Vec<Due>, node: u64, m: u8, c: u8) -> Result<(), StabFault>
-        ensures same { result ≢ Err StabFault.OutOfMemory → given result (take_all due.new.items self.new) ≡ and_on (take_all due.old.items) (along self.old.path (spec.spelled spec.next_subtrie node m self.old.path c self.old.reading)) }
-        ensures less { OnOk result (weight self.new due.new.items ≤ weight self.old due.old.items + 2) }
+    /// Reads a character of two bytes into the path, in its UTF-8 form.
+    fn take_wide(&mut self, node: u64) -> Result<(), StabFault>
+        ensures same { LeadsTo result (Ok self.new)
+            (longer_path self.old.path (spec.two_bytes_of node self.old.reading)) }
+        ensures fewer { OnOk result (length self.new.reading.rest < length self.old.reading.rest) }
     {
-        if self.is_long() {
+        let bytes = self.rest;
+        let [high, low, rest @ ..] = bytes else {
+            return Err(StabFault::Truncated(self.end()));
+        };
+        let Some(c) = wide_character(*high, *low) else {
+            return Err(StabFault::Wide(node));
+        };
+        self.at += 2;
+        self.rest = rest;
+        self.lengthen(c.encode_utf8(&mut [0; 4]).as_bytes())
+    }
+
+    /// Reads the character of a node into the path.
+    fn take_character(&mut self, node: u64, m: u8) -> Result<(), StabFault>
+        ensures same { LeadsTo result (Ok self.new)
+            (longer_path self.old.path (spec.character_of node m self.old.reading)) }
+        ensures fewer { OnOk result (length self.new.reading.rest < length self.old.reading.rest) }
+    {
+        if has(0x80, m) {
+            self.take_wide(node)
+        } else {
+            self.take_byte()
+        }
+    }
+
+    /// Reads what stands in a node behind its left subtrie, and notes its other subtries.
+    fn take_rest(&mut self, due: &mut Vec<Due>, node: u64, m: u8) -> Result<(), StabFault>
+        ensures same { LeadsTo result (after_all due.new.items self.new)
+            (and_next (after_all due.old.items) (after_due (Due.Rest node m) self.old)) }
+        ensures less { OnOk result (weight self.new due.new.items ≤ weight self.old due.old.items + 1) }
+    {
+        if !has_character(m) {
+            note_subtrie(due, has(0x10, m))?;
+            return Ok(());
+        }
+        let depth = self.depth();
+        self.take_character(node, m)?;
+        self.take_named(due, depth, node, m)
+    }
+
+    /// Reads the symbol that ends with the path's last character, and notes the middle and the right
+    /// subtrie of its node.
+    fn take_named(
+        &mut self,
+        due: &mut Vec<Due>,
+        depth: usize,
+        node: u64,
+        m: u8,
+    ) -> Result<(), StabFault>
+        ensures same { LeadsTo result (after_all due.new.items self.new)
+            (and_next (after_all due.old.items) (after_character depth node m self.old)) }
+        ensures less { OnOk result (weight self.new due.new.items ≤ weight self.old due.old.items + 3) }
+    {
+        if self.depth() > LONGEST {
             return Err(StabFault::TooLong(node));
         }
-        let Ok(()) = self.lengthen(c) else {
-            return Err(StabFault::OutOfMemory);
-        };
-        match self.take_symbol(node, m % 16) {
-            Ok(()) => match note_middle(due, m) {
-                Ok(()) => Ok(()),
-                Err(_) => Err(StabFault::OutOfMemory),
-            },
-            Err(fault) => Err(fault),
-        }
+        self.take_symbol(node, m % 16)?;
+        note_symbol(due, depth, m)?;
+        Ok(())
     }
 
     /// Reads a value with its serial number, where a symbol ends.
     fn take_symbol(&mut self, node: u64, kind: u8) -> Result<(), StabFault>
         requires { kind < 16 }
-        ensures same { result ≢ Err StabFault.OutOfMemory → given result (Ok self.new) ≡ along self.old.path (spec.symbol kind node self.old.path self.old.reading) }
+        ensures same { LeadsTo result (Ok self.new)
+            (with_path self.old.path (spec.symbol kind node self.old.path self.old.reading)) }
         ensures fewer { length self.new.reading.rest ≤ length self.old.reading.rest }
     {
         if kind == 0 {
@@ -292,7 +242,8 @@ impl<'a> Reader<'a> {
     /// Adds the symbol whose name is the path, and goes on behind it.
     fn add(&mut self, node: u64, value: Value, serial: u64, rest: &'a [u8]) -> Result<(), StabFault>
         requires { length rest.now ≤ length self.old.reading.rest }
-        ensures same { result ≢ Err StabFault.OutOfMemory → given result (Ok self.new) ≡ along self.old.path (spec.counted node self.old.path value self.old.reading (Some (serial, rest.now))) }
+        ensures same { LeadsTo result (Ok self.new)
+            (with_path self.old.path (spec.symbol_with node self.old.path value self.old.reading (Some (serial, rest.now)))) }
         ensures fewer { length self.new.reading.rest ≤ length self.old.reading.rest }
     {
         if serial >= TOO_LARGE {
@@ -301,26 +252,24 @@ impl<'a> Reader<'a> {
         if self.found.has(self.path.as_slice()) {
             return Err(StabFault::Twice(node));
         }
-        match self.found.push(self.path.as_slice(), value, serial as u32) {
-            Ok(()) => {
-                self.at += (self.rest.len() - rest.len()) as u64;
-                self.rest = rest;
-                Ok(())
-            }
-            Err(_) => Err(StabFault::OutOfMemory),
-        }
+        self.found.push(self.path.as_slice(), value, serial as u32)?;
+        self.at += (self.rest.len() - rest.len()) as u64;
+        self.rest = rest;
+        Ok(())
     }
 
     /// Reads what is due next.
     fn take(&mut self, due: &mut Vec<Due>, next: Due) -> Result<(), StabFault>
-        ensures same { result ≢ Err StabFault.OutOfMemory → given result (take_all due.new.items self.new) ≡ and_on (take_all due.old.items) (take_due next self.old) }
-        ensures less { OnOk result (weight self.new due.new.items ≤ weight self.old due.old.items) }
+        ensures same { LeadsTo result (after_all due.new.items self.new)
+            (and_next (after_all due.old.items) (after_due next self.old)) }
+        ensures less { OnOk result (weight self.new due.new.items < weight self.old due.old.items + due_weight next) }
     {
         match next {
             Due::Subtrie => self.take_node(due),
-            Due::Character { node, m } => self.take_character(due, node, m),
-            Due::Shorter => {
-                self.path.pop();
+            Due::Rest { node, m } => self.take_rest(due, node, m),
+            Due::Right { depth, m } => {
+                self.shorten(depth);
+                note_subtrie(due, has(0x10, m))?;
                 Ok(())
             }
         }
@@ -328,7 +277,7 @@ impl<'a> Reader<'a> {
 
     /// The symbols, where at most three zeros are left.
     fn finish(self) -> Result<Symbols, StabFault>
-        ensures { result ≡ spec.finished (Ok self.entry.reading) }
+        ensures { result ≡ spec.symbols_at_end (Ok self.entry.reading) }
     {
         if self.rest.len() <= 3 && are_zeros(self.rest) {
             Ok(self.found.into_symbols())
@@ -354,7 +303,8 @@ fn are_zeros(bytes: &[u8]) -> bool
 
 /// Reads the whole trie.
 fn read_all<'a>(alloc: Global, bytes: &'a [u8]) -> Result<Reader<'a>, StabFault>
-    ensures { result ≢ Err StabFault.OutOfMemory → map_ok (λ p. p.reading) result ≡ spec.next_subtrie [] (spec.unread bytes.now) }
+    ensures { result ≢ Err StabFault.OutOfMemory →
+        map_ok (λ p. p.reading) result ≡ spec.next_subtrie [] (spec.start bytes.now) }
 {
     let mut reader = Reader {
         at: 0,
@@ -363,45 +313,39 @@ fn read_all<'a>(alloc: Global, bytes: &'a [u8]) -> Result<Reader<'a>, StabFault>
         found: Found::new(alloc),
     };
     let mut due = Vec::new(alloc);
-    if note(&mut due, true, Due::Subtrie).is_err() {
-        return Err(StabFault::OutOfMemory);
-    }
+    note_subtrie(&mut due, true)?;
     while let Some(next) = due.pop() {
-        match reader.take(&mut due, next) {
-            Ok(()) => {}
-            Err(fault) => return Err(fault),
-        }
+        reader.take(&mut due, next)?;
     }
     Ok(reader)
 }
 
 /// The symbols of a trie; no bytes tell none.
 fn symbols_of(alloc: Global, bytes: &[u8]) -> Result<Symbols, StabFault>
-    ensures { result ≢ Err StabFault.OutOfMemory → result ≡ spec.read_of bytes.now }
+    ensures { result ≢ Err StabFault.OutOfMemory → result ≡ spec.trie_answer bytes.now }
 {
     if bytes.is_empty() {
         return Ok(Symbols::new(alloc));
     }
-    match read_all(alloc, bytes) {
-        Ok(reader) => reader.finish(),
-        Err(fault) => Err(fault),
-    }
+    read_all(alloc, bytes)?.finish()
 }
 
 /// The symbols of a trie, in its order: first those of a left subtrie, then a node's own, then
-/// those of its middle and of its right subtrie. No bytes tell no symbols. It takes no more stack
-/// for a deeper trie, and notes no more than three parts for a byte.
+/// those of its middle and of its right subtrie. No bytes tell no symbols. A character of two bytes
+/// adds its UTF-8 form to the names. It is not recursive, and notes one part for each node that is
+/// not read to its end.
 ///
 /// Errors: the first fault that is met where the bytes are read from the left. A node is refused as
-/// `Wide` at its byte m, as `TooLong` at its character, and as `BadSerial` and then as `Twice` at the
-/// end of its serial number; a missing byte is `Truncated` at once, and what stands behind the trie
-/// is `Padding` last. The place of a missing byte is the length, and every other place is that of a
-/// byte. Want of memory is `OutOfMemory`.
+/// `Wide` at its byte m or at its character, then as `TooLong`, and as `BadSerial` and then as
+/// `Twice` at the end of its serial number; a missing byte is `Truncated` at once, and what stands
+/// behind the trie is `Padding` last. `OutOfMemory` is the one free answer.
 pub fn read(alloc: Global, bytes: &[u8]) -> Result<Symbols, StabFault>
-    ensures answer { result ≢ Err StabFault.OutOfMemory → result ≡ spec.read_of bytes.now }
+    ensures answer { result ≢ Err StabFault.OutOfMemory → result ≡ spec.trie_answer bytes.now }
     ensures grammar { IfOk result (λ symbols. IsTrie bytes.now symbols) }
-    ensures places { IfErr result (IsPlaced (length bytes.now)) }
-    ensures only { (symbols : List Symbol) → IsTrie bytes.now symbols → result ≢ Err StabFault.OutOfMemory → result ≡ Ok symbols }
+    ensures only { result ≢ Err StabFault.OutOfMemory →
+        (symbols : List Symbol) → IsTrie bytes.now symbols → result ≡ Ok symbols }
+    ensures names { IfOk result (λ symbols. AreDistinct symbols × AllByRecursion IsNamed symbols) }
+    ensures places { IfErr result (IsPlaced bytes.now) }
 {
     symbols_of(alloc, bytes)
 }

@@ -1,11 +1,11 @@
 //! The trie of symbols.
 
-ghost use Rattle.std.specs.Prelude.{◌≡◌, ◌≢◌, ◌≤◌, ◌<◌, ◌+◌, [], ◌∷◌, ◌++◌, length, IfOk, IfErr, OnOk};
+ghost use Rattle.std.specs.Prelude.{◌≡◌, ◌≤◌, ◌<◌, ◌+◌, [], ◌∷◌, ◌++◌, length, IfOk, IfErr, OnOk};
 ghost use Rattle.mx_stab.specs.Trie as spec;
 ghost use Rattle.mx_stab.specs.Writing as writing;
-ghost use Rattle.mx_stab.specs.Writing.{ahead};
+ghost use Rattle.mx_stab.specs.Writing.{bytes_due};
 ghost use Rattle.mx_stab.specs.Grammar.{IsTrie};
-ghost use Rattle.mx_stab.specs.Order.{AreInOrder, IsNamed};
+ghost use Rattle.mx_stab.specs.Order.{InByteOrder, IsNamed};
 ghost use Rattle.std.specs.List.{AllByRecursion};
 
 use crate::StabFault;
@@ -34,9 +34,9 @@ fn next_byte(at: usize, symbol: &Symbol) -> u8
 }
 
 /// Whether a name ends with its byte at a place.
-fn ends(at: usize, symbol: &Symbol) -> bool
+fn is_last_byte(at: usize, symbol: &Symbol) -> bool
     requires { at ≤ 1024 }
-    ensures { result ≡ spec.ends at symbol.now }
+    ensures { result ≡ spec.is_last_byte at symbol.now }
 {
     symbol.name.as_slice().len() <= at + 1
 }
@@ -70,19 +70,19 @@ fn group_size(at: usize, symbols: &[Symbol]) -> usize
 }
 
 /// The symbols of a group whose names go on.
-fn inner(at: usize, group: &[Symbol]) -> &[Symbol]
+fn symbols_below(at: usize, group: &[Symbol]) -> &[Symbol]
     requires { at ≤ 1024 }
-    ensures { result.now ≡ spec.inner at group.now }
+    ensures { result.now ≡ spec.symbols_below at group.now }
 {
     match group {
-        [first, more @ ..] if ends(at, first) => more,
+        [first, more @ ..] if is_last_byte(at, first) => more,
         _ => group,
     }
 }
 
 /// Whether there is any symbol.
-fn stands(symbols: &[Symbol]) -> bool
-    ensures { result ≡ spec.stands symbols.now }
+fn has_symbols(symbols: &[Symbol]) -> bool
+    ensures { result ≡ spec.has_symbols symbols.now }
 {
     !symbols.is_empty()
 }
@@ -91,10 +91,8 @@ fn stands(symbols: &[Symbol]) -> bool
 fn append_byte(bytes: &mut Vec<u8>, byte: u8) -> Result<(), NoMemory>
     ensures { OnOk result (bytes.new.items ≡ bytes.old.items ++ byte ∷ []) }
 {
-    match bytes.push(byte) {
-        Ok(()) => Ok(()),
-        Err(_) => Err(NoMemory),
-    }
+    bytes.push(byte)?;
+    Ok(())
 }
 
 /// The bit of a byte m that tells of a subtrie.
@@ -117,7 +115,7 @@ fn append_front_of(
     ensures { OnOk result (bytes.new.items ≡ bytes.old.items ++ spec.front_of at first.now goes_on others) }
 {
     let links = bit(0x20, goes_on) + bit(0x10, others);
-    if ends(at, first) {
+    if is_last_byte(at, first) {
         append_byte(bytes, links + kind(first.value))?;
         append_byte(bytes, next_byte(at, first))?;
         append_value(bytes, first.value)?;
@@ -136,11 +134,17 @@ fn append_front(
     others: bool,
 ) -> Result<(), NoMemory>
     requires { at ≤ 1024 }
-    ensures { OnOk result (bytes.new.items ≡ bytes.old.items ++ spec.front at group.now others) }
+    ensures { OnOk result (bytes.new.items ≡ bytes.old.items ++ spec.node_front at group.now others) }
 {
     match group {
         [] => Ok(()),
-        [first, ..] => append_front_of(bytes, at, first, stands(inner(at, group)), others),
+        [first, ..] => append_front_of(
+            bytes,
+            at,
+            first,
+            has_symbols(symbols_below(at, group)),
+            others,
+        ),
     }
 }
 
@@ -150,13 +154,12 @@ fn note<'a>(
     at: usize,
     symbols: &'a [Symbol],
 ) -> Result<(), NoMemory>
-    ensures ahead { OnOk result (ahead pending.new.items ≡ spec.trie_from at symbols.now ++ ahead pending.old.items) }
+    ensures due { OnOk result (
+        bytes_due pending.new.items ≡ spec.trie_from at symbols.now ++ bytes_due pending.old.items) }
     ensures more { OnOk result (length pending.new.items ≡ length pending.old.items + 1) }
 {
-    match pending.push(Pending { symbols, at }) {
-        Ok(()) => Ok(()),
-        Err(_) => Err(NoMemory),
-    }
+    pending.push(Pending { symbols, at })?;
+    Ok(())
 }
 
 /// Adds the front of the first node, and notes what stands behind it. No more is noted than is
@@ -167,8 +170,10 @@ fn take_node<'a>(
     at: usize,
     symbols: &'a [Symbol],
 ) -> Result<(), NoMemory>
-    ensures same { OnOk result (bytes.new.items ++ ahead pending.new.items ≡ bytes.old.items ++ spec.trie_from at symbols.now ++ ahead pending.old.items) }
-    ensures noted { OnOk result (length pending.new.items + length bytes.old.items ≤ length pending.old.items + length bytes.new.items) }
+    ensures same { OnOk result (bytes.new.items ++ bytes_due pending.new.items ≡
+        bytes.old.items ++ spec.trie_from at symbols.now ++ bytes_due pending.old.items) }
+    ensures noted { OnOk result (
+        length pending.new.items + length bytes.old.items ≤ length pending.old.items + length bytes.new.items) }
 {
     if LONGEST <= at {
         return Ok(());
@@ -177,24 +182,22 @@ fn take_node<'a>(
         return Ok(());
     }
     let (group, others) = symbols.split_at(group_size(at, symbols));
-    append_front(bytes, at, group, stands(others))?;
+    append_front(bytes, at, group, has_symbols(others))?;
     note(pending, at, others)?;
-    note(pending, at + 1, inner(at, group))?;
+    note(pending, at + 1, symbols_below(at, group))?;
     Ok(())
 }
 
 /// The trie of symbols that stand in the order of their names, each of 1 to 1,024 bytes: no left
 /// subtries, right subtries in ascending order of their characters, and the fewest bytes for each
-/// value and serial number. It is refused only for want of memory.
+/// value and serial number. It is refused only out of memory.
 pub fn write(alloc: Global, symbols: &Symbols) -> Result<Bytes, StabFault>
     ensures trie { IfOk result (λ bytes. bytes ≡ spec.trie_of symbols.now) }
-    ensures grammar { AreInOrder symbols.now → AllByRecursion IsNamed symbols.now → IfOk result (λ bytes. IsTrie bytes symbols.now) }
+    ensures grammar { InByteOrder symbols.now → AllByRecursion IsNamed symbols.now →
+        IfOk result (λ bytes. IsTrie bytes symbols.now) }
     ensures refusal { IfErr result (λ f. f ≡ StabFault.OutOfMemory) }
 {
-    match write_all(alloc, symbols.as_slice()) {
-        Ok(bytes) => Ok(Bytes::from_vec(bytes)),
-        Err(_) => Err(StabFault::OutOfMemory),
-    }
+    Ok(Bytes::from_vec(write_all(alloc, symbols.as_slice())?))
 }
 
 /// The bytes of a trie.

@@ -13,7 +13,6 @@ pub mod JoinedTetras
 pub mod JoinedWrites
 pub mod Lines
 pub mod LoadedLines
-pub mod Loading
 pub mod Loads
 pub mod Locals
 pub mod LongSources
@@ -35,5 +34,4 @@ pub mod StatementBounds
 pub mod Steady
 pub mod TextEnds
 pub mod Turns
-pub mod WalkLoads
 pub mod WholeFiles

@@ -7,7 +7,7 @@ use Rattle.mx_word.specs.Ranges.{AreBytes}
 use Rattle.mx_word.specs.Words.{tetra_from_bytes}
 use Rattle.mx_mem.specs.Memory.{byte_in}
 use Rattle.mx_mmo.specs.Meaning.{Loading, with_tetra, is_below, with_page, take_item, take_items}
-use Rattle.mx_mmo.specs.Reading.{words_of}
+use Rattle.mx_mmo.specs.Reading.{tetras_of}
 use Rattle.mx_mmo.specs.declared.items.Item.TheVariants.{Load}
 use Rattle.mx_top.specs.Image.{pages_of, pages_below}
 use Rattle.mx_top.specs.Placements.{placed, from_place}
@@ -71,7 +71,7 @@ four-more : (x a b c d : ℕ) (more : List ℕ) → from_place x (a ∷ b ∷ c 
 four-more x a b c d more = from_place-append x (a ∷ b ∷ c ∷ d ∷ []) more
 
 pub bytes-with : (bytes : List ℕ) (octas : ℕ → ℕ) (a q : ℕ) → a % 4 ≡ 0 → length bytes % 4 ≡ 0 → AreBytes bytes →
-    byte_in (octas_with octas a (words_of bytes)) q ≡ bit_xor (byte_in octas q) (placed (from_place a bytes) q)
+    byte_in (octas_with octas a (tetras_of bytes)) q ≡ bit_xor (byte_in octas q) (placed (from_place a bytes) q)
 bytes-with [] octas a q m l h = sym (xor_zero_r (byte_in octas q))
 bytes-with (b ∷ []) octas a q m l h = absurd (omega arith)
 bytes-with (b ∷ c ∷ []) octas a q m l h = absurd (omega arith)
@@ -99,7 +99,7 @@ same-page pages a b c d p more hb hc hd = rw (← hb, ← hc, ← hd) (one (page
     one false false false more e = refl
 
 pub pages-with : (bytes : List ℕ) (pages : ℕ → Bool) (a p : ℕ) → a % 4 ≡ 0 → length bytes % 4 ≡ 0 →
-    pages_with pages a (words_of bytes) p ≡ (pages p || pages_of (from_place a bytes) p)
+    pages_with pages a (tetras_of bytes) p ≡ (pages p || pages_of (from_place a bytes) p)
 pages-with [] pages a p m l = or-none (pages p)
   where
     or-none : (t : Bool) → t ≡ (t || false)
@@ -114,9 +114,9 @@ pages-with (b ∷ c ∷ d ∷ e ∷ more) pages a p m l =
     ∙ ap (λ n. with_page pages (a / 4096) p || pages_of (from_place n more) p) (sym four-on)
     ∙ same-page pages a (a + 1) (a + 1 + 1) (a + 1 + 1 + 1) p (pages_of (from_place (a + 1 + 1 + 1 + 1) more) p) (omega arith) (omega arith) (omega arith)
 
-pub words-length : (bytes : List ℕ) → length bytes % 4 ≡ 0 → 4 * length (words_of bytes) ≡ length bytes
-words-length [] l = refl
-words-length (b ∷ []) l = absurd (omega arith)
-words-length (b ∷ c ∷ []) l = absurd (omega arith)
-words-length (b ∷ c ∷ d ∷ []) l = absurd (omega arith)
-words-length (b ∷ c ∷ d ∷ e ∷ more) l = omega (arith, words-length more (omega arith))
+pub tetras-length : (bytes : List ℕ) → length bytes % 4 ≡ 0 → 4 * length (tetras_of bytes) ≡ length bytes
+tetras-length [] l = refl
+tetras-length (b ∷ []) l = absurd (omega arith)
+tetras-length (b ∷ c ∷ []) l = absurd (omega arith)
+tetras-length (b ∷ c ∷ d ∷ []) l = absurd (omega arith)
+tetras-length (b ∷ c ∷ d ∷ e ∷ more) l = omega (arith, tetras-length more (omega arith))

@@ -1,11 +1,10 @@
 -- The object of a source holds the source's image.
-use Rattle.std.proofs.Common.{◌≡◌, ℕ, ◌+◌, ◌<◌, ◌≤◌, List, [], ◌∷◌, ◌++◌, length, arith, refl, ◌∙◌, ap, lit≤, None, Ok, Err, length-append}
+use Rattle.std.proofs.Common.{◌≡◌, ℕ, ◌+◌, ◌<◌, ◌≤◌, List, [], ◌∷◌, ◌++◌, length, arith, refl, ◌∙◌, ap, lit≤, lit<, None, Ok, Err, length-append}
 use Rattle.std.specs.Prelude.{Result}
 use Rattle.std.specs.List.{AllByRecursion}
 use Rattle.mx_word.specs.Results.{map_ok}
 use Rattle.mx_mmo.specs.Image.{Image as ObjectImage}
 use Rattle.mx_mmo.specs.Meaning.{Meaningless, meaning}
-use Rattle.mx_mmo.specs.Object.{IsBuilt}
 use Rattle.mx_mmo.specs.Replies.{limit}
 use Rattle.mx_mmo.specs.Spelling.{written, ending}
 use Rattle.mx_mmo.specs.Valid.{Fits, IsMiddle, MayFollow, SpecsEnd, Valid}
@@ -19,17 +18,18 @@ use Rattle.mx_top.specs.Whole.{opening, items_of_lines, closing, whole}
 use Rattle.mx_top.proofs.LoadedLines.{items-mean}
 use Rattle.mx_top.proofs.FairLines.{all-two, lines-short, without-faults, main-low}
 use Rattle.mx_top.proofs.ObjectItems.{IsOfLine, written-two, items-fine}
-use Rattle.mx_top.proofs.WalkLoads.{object-holds}
+use Rattle.mx_load.proofs.Apart.{object-holds}
+use Rattle.mx_load.specs.Objects.{object_loaded}
 
 -- ---- the items can be written and read again
 
 -- an item of a line has its place between the first item and the last two
 abbrev IsInner : Item → Type 0
-IsInner item = Fits item × IsMiddle item × IsBuilt item
+IsInner item = Fits item × IsMiddle item
 
 inner : (item : Item) → IsOfLine item → IsInner item
-inner (Load t) h = (h, tt, tt)
-inner (Loc a) h = (h, tt, tt)
+inner (Load t) h = (h, tt)
+inner (Loc a) h = (h, tt)
 inner (Skip n) h = absurd h
 inner (FixOcta a) h = absurd h
 inner (FixNear n) h = absurd h
@@ -45,28 +45,46 @@ all-as : (P Q : Item → Type 0) (items : List Item) → ((item : Item) → P it
 all-as P Q [] f h = tt
 all-as P Q (item ∷ items) f h = (f item h.0, all-as P Q items f h.1)
 
--- nothing that is built is a spec
-may-follow : (i j : Item) → IsBuilt i → MayFollow i j
+-- no item of a line is a spec, and neither is the first one or one of the last two
+abbrev IsNoSpec : Item → Type 0
+IsNoSpec (Spec n) = ⊥
+IsNoSpec _ = Unit {0}
+
+no-spec : (item : Item) → IsOfLine item → IsNoSpec item
+no-spec (Load t) h = tt
+no-spec (Loc a) h = tt
+no-spec (Skip n) h = absurd h
+no-spec (FixOcta a) h = absurd h
+no-spec (FixNear n) h = absurd h
+no-spec (FixFar bits word) h = absurd h
+no-spec (File number name) h = absurd h
+no-spec (LineItem n) h = absurd h
+no-spec (Spec n) h = absurd h
+no-spec (Pre words) h = absurd h
+no-spec (Post g values) h = absurd h
+no-spec Stab h = absurd h
+
+may-follow : (i j : Item) → IsNoSpec i → MayFollow i j
 may-follow (Load t) j h = tt
 may-follow (Loc a) j h = tt
-may-follow (Skip n) j h = absurd h
-may-follow (FixOcta a) j h = absurd h
-may-follow (FixNear n) j h = absurd h
-may-follow (FixFar bits word) j h = absurd h
-may-follow (File number name) j h = absurd h
-may-follow (LineItem n) j h = absurd h
+may-follow (Skip n) j h = tt
+may-follow (FixOcta a) j h = tt
+may-follow (FixNear n) j h = tt
+may-follow (FixFar bits word) j h = tt
+may-follow (File number name) j h = tt
+may-follow (LineItem n) j h = tt
 may-follow (Spec n) j h = absurd h
 may-follow (Pre words) j h = tt
 may-follow (Post g values) j h = tt
 may-follow Stab j h = tt
 
-specs-end : (items : List Item) → AllByRecursion IsBuilt items → SpecsEnd items
+specs-end : (items : List Item) → AllByRecursion IsNoSpec items → SpecsEnd items
 specs-end [] h = tt
 specs-end (i ∷ []) h = tt
 specs-end (i ∷ j ∷ more) h = (may-follow i j h.0, specs-end (j ∷ more) h.1)
 
-whole-built : (items : List Item) (main : ℕ) → AllByRecursion IsOfLine items → AllByRecursion IsBuilt (opening ∷ items ++ closing main)
-whole-built items main h = (tt, all-two IsBuilt items (closing main) (all-as IsOfLine IsBuilt items (λ item k. (inner item k).2) h) (tt, (tt, tt)))
+whole-no-spec : (items : List Item) (main : ℕ) → AllByRecursion IsOfLine items → AllByRecursion IsNoSpec (opening ∷ items ++ closing main)
+whole-no-spec items main h = (tt, all-two IsNoSpec items (closing main) (all-as IsOfLine IsNoSpec items no-spec h) (tt, (tt, tt)))
 
 whole-fits : (items : List Item) (main : ℕ) → AllByRecursion IsOfLine items → main < 134217728 → AllByRecursion Fits (opening ∷ items ++ closing main)
 whole-fits items main h l = (
@@ -77,7 +95,7 @@ whole-fits items main h l = (
 whole-valid : (items : List Item) (main : ℕ) → AllByRecursion IsOfLine items → main < 134217728 → Valid (opening ∷ items ++ closing main)
 whole-valid items main h l = record {
   placed = record {
-    words = 0 ∷ [];
+    tetras = 0 ∷ [];
     middle = items;
     g = 255;
     values = main ∷ [];
@@ -85,7 +103,7 @@ whole-valid items main h l = record {
     between = all-as IsOfLine IsMiddle items (λ item k. (inner item k).1) h;
   };
   fits = whole-fits items main h l;
-  specs = specs-end (opening ∷ items ++ closing main) (whole-built items main h);
+  specs = specs-end (opening ∷ items ++ closing main) (whole-no-spec items main h);
 }
 
 -- ---- the object is not too long
@@ -113,9 +131,9 @@ objects-hold lines h = on (meaning (whole lines)) refl (items-mean lines h)
     on (Ok told) m g =
         let fine = (items-fine lines f).placed in
         let same : of_object told ≡ image lines = cc in
-        object-holds (object_bytes (whole lines)) (record { items = whole lines; tail = record { trie = []; place = length (written (whole lines)) } }) told
-        (written-read (whole lines) [] (whole-valid (items_of_lines lines) (main_of lines) fine (main-low lines f)) (whole-built (items_of_lines lines) (main_of lines) fine) refl (whole-short lines f)) m
-        ∙ ap Ok same
+        let loaded = object-holds (object_bytes (whole lines)) (record { items = whole lines; tail = record { trie = []; place = length (written (whole lines)) } }) told
+        (written-read (whole lines) [] (whole-valid (items_of_lines lines) (main_of lines) fine (main-low lines f)) refl (lit< tt) (whole-short lines f)) m in
+        ap (map_ok (λ l. of_object l.0)) loaded ∙ ap Ok same
 
 -- an object is read whole
 pub objects-fit : (lines : List Line) → refusal lines ≡ None → length (object_bytes (whole lines)) ≤ limit

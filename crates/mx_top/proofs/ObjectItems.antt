@@ -7,7 +7,7 @@ use Rattle.mx_line.specs.Plain.{plain_of, part}
 use Rattle.mx_line.specs.Numbers.{numbers_of}
 use Rattle.mx_line.specs.declared.plain_lines.Plain.{Plain}
 use Rattle.mx_line.specs.declared.plain_lines.Plain.TheVariants.{Empty, Loc as LocStatement, Byte, Geta, Trap}
-use Rattle.mx_mmo.specs.Reading.{words_of}
+use Rattle.mx_mmo.specs.Reading.{tetras_of}
 use Rattle.mx_mmo.specs.Spelling.{loaded, written, bytes_of as bytes_of_item}
 use Rattle.mx_mmo.specs.Tetras.{lop, address}
 use Rattle.mx_mmo.specs.declared.items.Item.{Item}
@@ -16,7 +16,7 @@ use Rattle.mx_word.specs.Words.{tetra_to_bytes, octa_to_bytes}
 use Rattle.mx_top.specs.TwoPass.{Line, raised, start_of, place_after, place_of_line, labels_of, bytes_of, faults}
 use Rattle.mx_top.specs.Whole.{lowered, covering, located, placing, places, lambda_after, items_of_line, items_of_lines}
 use Rattle.mx_word.specs.Ranges.{AreBytes}
-use Rattle.mx_top.proofs.Loads.{words-length}
+use Rattle.mx_top.proofs.Loads.{tetras-length}
 use Rattle.mx_top.proofs.Paddings.{padding, padding-length}
 use Rattle.mx_top.proofs.StatementBounds.{plain-small, numbers-short}
 use Rattle.mx_top.proofs.MoreLines.{size_of}
@@ -80,12 +80,12 @@ loads-fine (t ∷ ts) h =
 
 -- ---- the tetras of bytes
 
-words-small : (bytes : List ℕ) → AreBytes bytes → AllByRecursion (λ t. t < 2 ^ 32) (words_of bytes)
-words-small [] h = tt
-words-small (a ∷ []) h = tt
-words-small (a ∷ b ∷ []) h = tt
-words-small (a ∷ b ∷ c ∷ []) h = tt
-words-small (a ∷ b ∷ c ∷ d ∷ more) h = (tetra-small a b c d h.0 h.1.0 h.1.1.0 h.1.1.1.0, words-small more h.1.1.1.1)
+tetras-small : (bytes : List ℕ) → AreBytes bytes → AllByRecursion (λ t. t < 2 ^ 32) (tetras_of bytes)
+tetras-small [] h = tt
+tetras-small (a ∷ []) h = tt
+tetras-small (a ∷ b ∷ []) h = tt
+tetras-small (a ∷ b ∷ c ∷ []) h = tt
+tetras-small (a ∷ b ∷ c ∷ d ∷ more) h = (tetra-small a b c d h.0 h.1.0 h.1.1.0 h.1.1.1.0, tetras-small more h.1.1.1.1)
 
 -- tetras are covered as a whole
 covered : (start n size : ℕ) → lowered start + size ≡ raised (start + n) → size % 4 ≡ 0
@@ -95,10 +95,10 @@ covered start n size e = omega arith
 placing-fine : (lambda start : ℕ) (bytes : List ℕ) (most : ℕ) → start < 134217728 → AreBytes bytes → 12 + 2 * raised (start + length bytes) ≤ 2 * lowered start + most → Fine (placing lambda start bytes) most
 placing-fine lambda start bytes most l h room =
     let all = padding-length start bytes in
-    let words : 4 * length (covering start bytes) ≡ length (padding start bytes) = words-length (padding start bytes) (covered start (length bytes) (length (padding start bytes)) all) in
+    let words : 4 * length (covering start bytes) ≡ length (padding start bytes) = tetras-length (padding start bytes) (covered start (length bytes) (length (padding start bytes)) all) in
     fine-most (placing lambda start bytes) (12 + 8 * length (covering start bytes)) most (omega (arith, all, words, room))
     (fine-two (located lambda start) (map Load (covering start bytes)) 12 (8 * length (covering start bytes)) (located-fine lambda start l)
-    (loads-fine (covering start bytes) (words-small (padding start bytes) (padding-bytes start bytes h))))
+    (loads-fine (covering start bytes) (tetras-small (padding start bytes) (padding-bytes start bytes h))))
 
 -- ---- one line
 

@@ -16,7 +16,7 @@ use Rattle.mx_top.specs.Whole.{lowered, zeros_after, covering, located, placing}
 use Rattle.mx_top.proofs.Placed.{placed-append}
 use Rattle.mx_top.proofs.PageCounts.{IsLow, pages-run}
 use Rattle.mx_word.specs.Ranges.{AreBytes}
-use Rattle.mx_top.proofs.Loads.{standing, octas_with, pages_with, loads-are, from_place-append, bytes-with, pages-with, words-length}
+use Rattle.mx_top.proofs.Loads.{standing, octas_with, pages_with, loads-are, from_place-append, bytes-with, pages-with, tetras-length}
 
 -- zeros that are placed change no byte
 zeros-none : (n a q : ℕ) → placed (from_place a (replicate n 0)) q ≡ 0
@@ -137,7 +137,7 @@ pub placing-is : (n : ℕ) (octas : ℕ → ℕ) (pages : ℕ → Bool) (lambda 
     take_items (placing lambda start bytes) (Ok (standing n octas pages lambda))
     ≡ Ok (standing n (octas_then octas start bytes) (λ p. pages p || pages_of (from_place start bytes) p) (raised (start + length bytes)))
 placing-is n octas pages lambda start bytes big m l some low =
-    let words = words-length (padding start bytes) (padding-fours start bytes) in
+    let words = tetras-length (padding start bytes) (padding-fours start bytes) in
     let end : lowered start + 4 * length (covering start bytes) ≡ raised (start + length bytes) = ap (λ k. lowered start + k) words ∙ padding-length start bytes in
     take-append (located lambda start) (map Load (covering start bytes)) (Ok (standing n octas pages lambda))
     ∙ ap (take_items (map Load (covering start bytes))) (located-is n octas pages lambda start m)

@@ -135,7 +135,6 @@ abbrev pub interim_name : ℕ → List ℕ
 interim_name n =
     if n == 130 then codes "NotBuilt"
     else if n == 131 then codes "NotBuilt"
-    else if n == 132 then codes "NotBuilt"
     else []
 
 abbrev pub fault_name_of : ℕ → List ℕ

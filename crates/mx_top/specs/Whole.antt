@@ -4,7 +4,7 @@ use Rattle.std.specs.Prelude.{ℕ, ◌+◌, ◌-◌, ◌*◌, ◌/◌, ◌%◌, 
 use Rattle.mx_line.specs.Plain.{plain_of}
 use Rattle.mx_line.specs.declared.plain_lines.Plain.{Plain}
 use Rattle.mx_line.specs.declared.plain_lines.Plain.TheVariants.{Empty, Loc as LocStatement, Byte, Geta, Trap}
-use Rattle.mx_mmo.specs.Reading.{words_of}
+use Rattle.mx_mmo.specs.Reading.{tetras_of}
 use Rattle.mx_mmo.specs.declared.items.Item.{Item}
 use Rattle.mx_mmo.specs.declared.items.Item.TheVariants.{Load, Loc, Pre, Post, Stab}
 use Rattle.mx_top.specs.TwoPass.{Line, gather, raised, end_of, place_after, place_of_line, bytes_of, labels_of, main_of, refusal}
@@ -20,7 +20,7 @@ zeros_after n = replicate ((4 - n % 4) % 4) 0
 
 -- the tetras that cover bytes from a place on, with zeros elsewhere
 abbrev pub covering : ℕ → List ℕ → List ℕ
-covering start bytes = words_of (replicate (start % 4) 0 ++ bytes ++ zeros_after (start + length bytes))
+covering start bytes = tetras_of (replicate (start % 4) 0 ++ bytes ++ zeros_after (start + length bytes))
 
 -- the address of these tetras, where lambda is another
 abbrev pub located : ℕ → ℕ → List Item

@@ -101,7 +101,8 @@ impl Assembler {
     /// Defines a label, if the line has one.
     fn define(&mut self, line: &[u8], label: Option<Span>, value: u64) -> Result<(), Refusal>
         requires { LabelStands line.now label }
-        ensures known { result ≢ Err Refusal.OutOfMemory → known_after result self.new ≡ spec.defined self.old line.now label value }
+        ensures known { result ≢ Err Refusal.OutOfMemory →
+            known_after result self.new ≡ spec.defined self.old line.now label value }
         ensures place { self.new.at ≡ self.old.at }
         ensures count { self.new.count ≡ self.old.count }
     {
@@ -124,7 +125,8 @@ impl Assembler {
     /// Places bytes from an address on, and goes on after them.
     fn join(&mut self, a: u64, bytes: &[u8]) -> Result<(), Refusal>
         requires { a + length bytes.now ≤ 2 ^ 32 + 8192 * self.old.count }
-        ensures known { result ≢ Err Refusal.OutOfMemory → known_after result self.new ≡ Ok (spec.joined self.old a bytes.now) }
+        ensures known { result ≢ Err Refusal.OutOfMemory →
+            known_after result self.new ≡ Ok (spec.joined self.old a bytes.now) }
     {
         match self.tetras.place(self.alloc, self.lambda, a, bytes) {
             Ok(()) => {
@@ -141,7 +143,9 @@ impl Assembler {
         requires label { LabelStands line.now label }
         requires few { length field.now ≤ 4096 }
         requires room { self.old.at + 8192 ≤ 2 ^ 32 + 8192 * self.old.count }
-        ensures known { result ≢ Err Refusal.OutOfMemory → known_after result self.new ≡ spec.joined_after (spec.defined self.old line.now label self.old.at) self.old.at (numbers_of field.now) }
+        ensures known { result ≢ Err Refusal.OutOfMemory →
+            known_after result self.new ≡ spec.joined_after (spec.defined self.old line.now label self.old.at)
+            self.old.at (numbers_of field.now) }
     {
         let at = self.at;
         let Ok(bytes) = numbers(self.alloc, field) else {
@@ -160,7 +164,9 @@ impl Assembler {
     ) -> Result<(), Refusal>
         requires label { LabelStands line.now label }
         requires room { self.old.at + 8192 ≤ 2 ^ 32 + 8192 * self.old.count }
-        ensures known { result ≢ Err Refusal.OutOfMemory → known_after result self.new ≡ spec.joined_after (spec.defined self.old line.now label (meaning.raised self.old.at)) (meaning.raised self.old.at) tetra }
+        ensures known { result ≢ Err Refusal.OutOfMemory →
+            known_after result self.new ≡ spec.joined_after (spec.defined self.old line.now label (meaning.raised
+            self.old.at)) (meaning.raised self.old.at) tetra }
     {
         let at = raised(self.at);
         self.define(line, label, at)?;
@@ -177,7 +183,9 @@ impl Assembler {
     ) -> Result<(), Refusal>
         requires label { LabelStands line.now label }
         requires room { self.old.at + 8192 ≤ 2 ^ 32 + 8192 * self.old.count }
-        ensures known { result ≢ Err Refusal.OutOfMemory → known_after result self.new ≡ spec.reached self.old line.now label reg (meaning.value_in self.old.labels target.now) }
+        ensures known { result ≢ Err Refusal.OutOfMemory →
+            known_after result self.new ≡ spec.reached self.old line.now label reg (meaning.value_in self.old.labels
+            target.now) }
     {
         let Some(to) = value(self.labels.as_slice(), target) else {
             return Err(Refusal::Fault(130));
@@ -194,7 +202,8 @@ impl Assembler {
         requires stands { AllStand line.now plain }
         requires few { length line.now ≤ 4096 }
         requires room { self.old.at + 8192 ≤ 2 ^ 32 + 8192 * self.old.count }
-        ensures known { result ≢ Err Refusal.OutOfMemory → known_after result self.new ≡ spec.stated self.old line.now plain }
+        ensures known { result ≢ Err Refusal.OutOfMemory →
+            known_after result self.new ≡ spec.stated self.old line.now plain }
     {
         match plain {
             Plain::Empty => Ok(()),
@@ -225,7 +234,8 @@ impl Assembler {
 
     /// Takes the next line.
     pub fn take_line(&mut self, line: &[u8]) -> Result<(), Refusal>
-        ensures known { result ≢ Err Refusal.OutOfMemory → known_after result self.new ≡ spec.line_taken self.old line.now }
+        ensures known { result ≢ Err Refusal.OutOfMemory →
+            known_after result self.new ≡ spec.line_taken self.old line.now }
     {
         if line.len() > SOURCE_LIMIT || self.size > SOURCE_LIMIT - line.len() {
             return Err(Refusal::Fault(88));

@@ -26,8 +26,7 @@ mod traps;
 mod words;
 
 pub use laws::{
-    front_decides, items_mean_the_image, objects_are_loaded_as_they_mean, objects_hold_the_image,
-    objects_run_as_their_sources,
+    front_decides, items_mean_the_image, objects_hold_the_image, objects_run_as_their_sources,
 };
 pub use names::{fault_name, usage_name};
 pub use outcome::{Outcome, WordsFault};

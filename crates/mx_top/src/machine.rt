@@ -184,8 +184,12 @@ impl Machine {
 
     /// Fputs: the text at $255 goes to slot z.
     fn put_string<H: Host>(&mut self, host: &mut H, z: u8) -> Result<(), End>
-        ensures told { IsTrue (tells (H.told host.old)) → result ≢ Err End.OutOfMemory → runs.stepped_of result (state_of self.new) (contents (H.told host.new)) ≡ step_spec.fputs (state_of self.old) (contents (H.told host.old)) z }
-        ensures memory { IsTrue (tells (H.told host.old)) → result ≡ Err End.OutOfMemory → IsFront (contents (H.told host.new)).output (step_spec.output_after (step_spec.fputs (state_of self.old) (contents (H.told host.old)) z)) }
+        ensures told { IsTrue (tells (H.told host.old)) → result ≢ Err End.OutOfMemory →
+            runs.stepped_of result (state_of self.new) (contents (H.told host.new))
+            ≡ step_spec.fputs (state_of self.old) (contents (H.told host.old)) z }
+        ensures memory { IsTrue (tells (H.told host.old)) → result ≡ Err End.OutOfMemory →
+            IsFront (contents (H.told host.new)).output (step_spec.output_after (step_spec.fputs (state_of self.old)
+            (contents (H.told host.old)) z)) }
         ensures keeps { Keeps (H.told host.old) (H.told host.new) (H.faults host.old) (H.faults host.new) }
     {
         let text = match text_at(self.alloc, &self.memory, self.registers.get(255)) {
@@ -206,7 +210,8 @@ impl Machine {
     /// Halt: the end of the run with the low byte of $255.
     fn halt(&mut self) -> End
         ensures end { result ≡ End.Halted (register (state_of self.old).registers 255 % 256) }
-        ensures state { state_of self.new ≡ record (state_of self.old) { steps = ((state_of self.old).steps + 1) % 2 ^ 64 } }
+        ensures state { state_of self.new
+            ≡ record (state_of self.old) { steps = ((state_of self.old).steps + 1) % 2 ^ 64 } }
     {
         self.count();
         End::Halted((self.registers.get(255) % 256) as u8)
@@ -214,8 +219,12 @@ impl Machine {
 
     /// TRAP X,Y,Z.
     fn trap<H: Host>(&mut self, host: &mut H, x: u8, y: u8, z: u8) -> Result<(), End>
-        ensures told { IsTrue (tells (H.told host.old)) → result ≢ Err End.OutOfMemory → runs.stepped_of result (state_of self.new) (contents (H.told host.new)) ≡ step_spec.trap (state_of self.old) (contents (H.told host.old)) x y z }
-        ensures memory { IsTrue (tells (H.told host.old)) → result ≡ Err End.OutOfMemory → IsFront (contents (H.told host.new)).output (step_spec.output_after (step_spec.trap (state_of self.old) (contents (H.told host.old)) x y z)) }
+        ensures told { IsTrue (tells (H.told host.old)) → result ≢ Err End.OutOfMemory →
+            runs.stepped_of result (state_of self.new) (contents (H.told host.new))
+            ≡ step_spec.trap (state_of self.old) (contents (H.told host.old)) x y z }
+        ensures memory { IsTrue (tells (H.told host.old)) → result ≡ Err End.OutOfMemory →
+            IsFront (contents (H.told host.new)).output (step_spec.output_after (step_spec.trap (state_of self.old)
+            (contents (H.told host.old)) x y z)) }
         ensures keeps { Keeps (H.told host.old) (H.told host.new) (H.faults host.old) (H.faults host.new) }
     {
         match (x, y, z) {
@@ -227,8 +236,12 @@ impl Machine {
 
     /// Performs an instruction.
     fn perform<H: Host>(&mut self, host: &mut H, opcode: u8, x: u8, y: u8, z: u8) -> Result<(), End>
-        ensures told { IsTrue (tells (H.told host.old)) → result ≢ Err End.OutOfMemory → runs.stepped_of result (state_of self.new) (contents (H.told host.new)) ≡ step_spec.performed (state_of self.old) (contents (H.told host.old)) opcode x y z }
-        ensures memory { IsTrue (tells (H.told host.old)) → result ≡ Err End.OutOfMemory → IsFront (contents (H.told host.new)).output (step_spec.output_after (step_spec.performed (state_of self.old) (contents (H.told host.old)) opcode x y z)) }
+        ensures told { IsTrue (tells (H.told host.old)) → result ≢ Err End.OutOfMemory →
+            runs.stepped_of result (state_of self.new) (contents (H.told host.new))
+            ≡ step_spec.performed (state_of self.old) (contents (H.told host.old)) opcode x y z }
+        ensures memory { IsTrue (tells (H.told host.old)) → result ≡ Err End.OutOfMemory →
+            IsFront (contents (H.told host.new)).output (step_spec.output_after (step_spec.performed (state_of
+            self.old) (contents (H.told host.old)) opcode x y z)) }
         ensures keeps { Keeps (H.told host.old) (H.told host.new) (H.faults host.old) (H.faults host.new) }
     {
         match opcode {
@@ -247,8 +260,12 @@ impl Machine {
 
     /// Makes one step. An `Err` ends the run.
     fn step<H: Host>(&mut self, host: &mut H) -> Result<(), End>
-        ensures told { IsTrue (tells (H.told host.old)) → result ≢ Err End.OutOfMemory → runs.stepped_of result (state_of self.new) (contents (H.told host.new)) ≡ step_spec.step (state_of self.old) (contents (H.told host.old)) }
-        ensures memory { IsTrue (tells (H.told host.old)) → result ≡ Err End.OutOfMemory → IsFront (contents (H.told host.new)).output (step_spec.output_after (step_spec.step (state_of self.old) (contents (H.told host.old)))) }
+        ensures told { IsTrue (tells (H.told host.old)) → result ≢ Err End.OutOfMemory →
+            runs.stepped_of result (state_of self.new) (contents (H.told host.new))
+            ≡ step_spec.step (state_of self.old) (contents (H.told host.old)) }
+        ensures memory { IsTrue (tells (H.told host.old)) → result ≡ Err End.OutOfMemory →
+            IsFront (contents (H.told host.new)).output (step_spec.output_after (step_spec.step (state_of self.old)
+            (contents (H.told host.old)))) }
         ensures keeps { Keeps (H.told host.old) (H.told host.new) (H.faults host.old) (H.faults host.new) }
     {
         if self.pc >= 1 << 63 {
@@ -260,8 +277,12 @@ impl Machine {
 
     /// Makes at most so many steps.
     pub fn run<H: Host>(&mut self, host: &mut H, steps: u64) -> End
-        ensures told { IsTrue (tells (H.told host.old)) → result ≢ End.OutOfMemory → record { end = result; state = state_of self.new; model = contents (H.told host.new) } ≡ runs.run steps (state_of self.old) (contents (H.told host.old)) }
-        ensures written { IsTrue (tells (H.told host.old)) → result ≡ End.OutOfMemory → IsFront (contents (H.told host.new)).output (runs.run steps (state_of self.old) (contents (H.told host.old))).model.output }
+        ensures told { IsTrue (tells (H.told host.old)) → result ≢ End.OutOfMemory →
+            record { end = result; state = state_of self.new; model = contents (H.told host.new) }
+            ≡ runs.run steps (state_of self.old) (contents (H.told host.old)) }
+        ensures written { IsTrue (tells (H.told host.old)) → result ≡ End.OutOfMemory →
+            IsFront (contents (H.told host.new)).output (runs.run steps (state_of self.old) (contents (H.told
+            host.old))).model.output }
         ensures keeps { Keeps (H.told host.old) (H.told host.new) (H.faults host.old) (H.faults host.new) }
     {
         for turn in 0..steps {

@@ -232,7 +232,6 @@ fn interim_name(number: u16) -> &'static str
     match number {
         130 => "NotBuilt",
         131 => "NotBuilt",
-        132 => "NotBuilt",
         _ => "",
     }
 }

@@ -69,7 +69,8 @@ fn pool_octas(alloc: Global, text: &[u8]) -> Result<Octas, NoMemory>
 
 /// Stores an octa; no page begins at 2^63 or above.
 fn store_octa(memory: &mut Memory, a: u64, x: u64) -> Result<(), MemFault>
-    ensures stored { result ≢ Err MemFault.OutOfMemory → (base : Image) → spec.stored (image_with base memory.old) a x ≡ stored_by result (image_with base memory.new) }
+    ensures stored { result ≢ Err MemFault.OutOfMemory → (base : Image) →
+        spec.stored (image_with base memory.old) a x ≡ stored_by result (image_with base memory.new) }
     ensures below { OnOk result (a < 2 ^ 63) }
 {
     if a >= 1 << 63 {
@@ -80,7 +81,8 @@ fn store_octa(memory: &mut Memory, a: u64, x: u64) -> Result<(), MemFault>
 
 /// Stores octas one after another from an address on, up to one that is refused.
 fn store_octas(memory: &mut Memory, a: u64, octas: &[u64]) -> Result<(), MemFault>
-    ensures { result ≢ Err MemFault.OutOfMemory → (base : Image) → spec.with_octas octas.now a (image_with base memory.old) ≡ stored_by result (image_with base memory.new) }
+    ensures { result ≢ Err MemFault.OutOfMemory → (base : Image) →
+        spec.with_octas octas.now a (image_with base memory.old) ≡ stored_by result (image_with base memory.new) }
 {
     let mut at = a;
     let mut rest = octas;
@@ -100,7 +102,8 @@ fn store_octas(memory: &mut Memory, a: u64, octas: &[u64]) -> Result<(), MemFaul
 /// Errors: `PagesFull` where it needs a page too many or an address of 2^63 or more, and want of
 /// memory; then a front of it may stand there.
 pub fn put_argument(alloc: Global, memory: &mut Memory, text: &[u8]) -> Result<(), MemFault>
-    ensures { result ≢ Err MemFault.OutOfMemory → (base : Image) → spec.with_argument text.now (image_with base memory.old) ≡ stored_by result (image_with base memory.new) }
+    ensures { result ≢ Err MemFault.OutOfMemory → (base : Image) →
+        spec.with_argument text.now (image_with base memory.old) ≡ stored_by result (image_with base memory.new) }
 {
     match pool_octas(alloc, text) {
         Ok(octas) => store_octas(memory, POOL, octas.as_slice()),

@@ -91,7 +91,10 @@ impl GeneralRegisters {
     fn grow(&mut self, k: usize, x: u64)
         requires local { k < self.old.first_global }
         requires marginal { length self.old.locals ≤ k }
-        ensures { self.new ≡ record self.old { locals = self.old.locals ++ replicate (k - length self.old.locals) 0 ++ x ∷ [] } }
+        ensures { self.new ≡ record self.old {
+          locals = self.old.locals ++ replicate (k - length self.old.locals) 0
+              ++ x ∷ [];
+        } }
     {
         self.locals[self.local_count..k].fill(0);
         self.locals[k] = x;

@@ -17,10 +17,13 @@ use std::alloc::Global;
 #[tactic(auto, unfolding(mx_host::specs::HostAnswer::read_answer))]
 fn one_piece<H: Host>(host: &mut H, got: &mut Bytes, piece: &mut [u8]) -> Result<bool, Outcome>
     requires { length piece.old ≡ 4096 }
-    ensures told { IsTrue (tells (H.told host.old)) → result ≢ Err Outcome.OutOfMemory → (map_ok (λ whole. (got.new, whole)) result, contents (H.told host.new)) ≡ spec.one_piece got.old (contents (H.told host.old)) }
+    ensures told { IsTrue (tells (H.told host.old)) → result ≢ Err Outcome.OutOfMemory →
+        (map_ok (λ whole. (got.new, whole)) result, contents (H.told host.new))
+        ≡ spec.one_piece got.old (contents (H.told host.old)) }
     ensures errors { IfErr result (λ e. e ≢ Outcome.OutOfMemory → e ≡ Outcome.HostFault) }
     ensures output { KeepsOutput (H.told host.old) (H.told host.new) }
-    ensures rose { ComesByFault (H.told host.old) (Err Outcome.HostFault) result (H.faults host.old) (H.faults host.new) }
+    ensures rose { ComesByFault (H.told host.old) (Err Outcome.HostFault) result (H.faults host.old) (H.faults
+        host.new) }
     ensures keeps { Keeps (H.told host.old) (H.told host.new) (H.faults host.old) (H.faults host.new) }
 {
     match host.read_slot(256, piece) {
@@ -40,7 +43,8 @@ fn pieces<H: Host>(alloc: Global, host: &mut H, most: u32) -> Result<Bytes, Outc
         (λ m. spec.pieces most [] m) }
     ensures errors { IfErr result (λ e. e ≢ Outcome.OutOfMemory → e ≡ Outcome.HostFault) }
     ensures output { KeepsOutput (H.told host.old) (H.told host.new) }
-    ensures rose { ComesByFault (H.told host.old) (Err Outcome.HostFault) result (H.faults host.old) (H.faults host.new) }
+    ensures rose { ComesByFault (H.told host.old) (Err Outcome.HostFault) result (H.faults host.old) (H.faults
+        host.new) }
     ensures keeps { Keeps (H.told host.old) (H.told host.new) (H.faults host.old) (H.faults host.new) }
 {
     let mut got = Bytes::new(alloc);
@@ -62,7 +66,8 @@ fn close<H: Host>(host: &mut H, bytes: Bytes) -> Result<Bytes, Outcome>
         (λ m. spec.closed_with bytes (close_answer m 256)) }
     ensures errors { IfErr result (λ e. e ≢ Outcome.OutOfMemory → e ≡ Outcome.HostFault) }
     ensures output { KeepsOutput (H.told host.old) (H.told host.new) }
-    ensures rose { ComesByFault (H.told host.old) (Err Outcome.HostFault) result (H.faults host.old) (H.faults host.new) }
+    ensures rose { ComesByFault (H.told host.old) (Err Outcome.HostFault) result (H.faults host.old) (H.faults
+        host.new) }
     ensures keeps { Keeps (H.told host.old) (H.told host.new) (H.faults host.old) (H.faults host.new) }
 {
     match host.close_slot(256) {
@@ -83,8 +88,10 @@ pub fn read_file<H: Host>(
     ensures told { Answers (H.told host.old) (H.told host.new) (Err Outcome.OutOfMemory) result
         (λ m. spec.file_bytes most name.now m) }
     ensures output { KeepsOutput (H.told host.old) (H.told host.new) }
-    ensures rose { ComesByFault (H.told host.old) (Err Outcome.HostFault) result (H.faults host.old) (H.faults host.new) }
-    ensures no_file { ComesByFault (H.told host.old) (Err Outcome.NoFile) result (H.faults host.old) (H.faults host.new) }
+    ensures rose { ComesByFault (H.told host.old) (Err Outcome.HostFault) result (H.faults host.old) (H.faults
+        host.new) }
+    ensures no_file { ComesByFault (H.told host.old) (Err Outcome.NoFile) result (H.faults host.old) (H.faults
+        host.new) }
     ensures keeps { Keeps (H.told host.old) (H.told host.new) (H.faults host.old) (H.faults host.new) }
 {
     match host.open_file(256, name, Mode::BinaryRead) {

@@ -2,7 +2,7 @@
 
 ghost use Rattle.std.specs.Prelude.{◌≡◌, ◌+◌, ◌<◌, ◌^◌, ◌%◌, ◌++◌, ◌∷◌, [], IfOk, OnOk, length, map, replicate};
 ghost use Rattle.std.specs.List.{AllByRecursion};
-ghost use Rattle.mx_mmo.specs.Reading.{words_of};
+ghost use Rattle.mx_mmo.specs.Reading.{tetras_of};
 ghost use Rattle.mx_mmo.specs.Valid.{Fits};
 ghost use Rattle.mx_mmo.specs.declared.items.Item.TheVariants.{Load};
 ghost use Rattle.mx_top.specs.Whole.{opening, closing, lowered, located, placing, zeros_after};
@@ -53,7 +53,7 @@ impl Tetras {
 
     /// Adds the tetras of bytes.
     fn load_all(&mut self, bytes: &[u8]) -> Result<(), NoMemory>
-        ensures { OnOk result (self.new ≡ self.old ++ map Load (words_of bytes.now)) }
+        ensures { OnOk result (self.new ≡ self.old ++ map Load (tetras_of bytes.now)) }
     {
         let mut rest = bytes;
         while let [a, b, c, d, others @ ..] = rest {

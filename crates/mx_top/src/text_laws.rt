@@ -24,8 +24,10 @@ pub fn files_are_read_whole()
 /// bytes is zero and all of them lie below 2^63.
 #[tactic(auto, using(crate::proofs::TextEnds::ends))]
 pub fn texts_end_at_the_first_zero()
-    ensures found { (memory : ℕ → ℕ) (a : ℕ) (text : List ℕ) → text_at memory a ≡ Ok text → IsText text_limit memory a text }
-    ensures only { (memory : ℕ → ℕ) (a : ℕ) (text : List ℕ) → IsText text_limit memory a text → text_at memory a ≡ Ok text }
+    ensures found { (memory : ℕ → ℕ) (a : ℕ) (text : List ℕ) → text_at memory a ≡ Ok text →
+        IsText text_limit memory a text }
+    ensures only { (memory : ℕ → ℕ) (a : ℕ) (text : List ℕ) → IsText text_limit memory a text →
+        text_at memory a ≡ Ok text }
     ensures negative { (memory : ℕ → ℕ) (a : ℕ) → text_at memory a ≡ Err TextFault.Negative →
         (n : ℕ) × (n ≤ text_limit) × (2 ^ 63 ≤ a + n) × ((i : ℕ) → i < n → memory (a + i) ≢ 0) }
     ensures large { (memory : ℕ → ℕ) (a : ℕ) → text_at memory a ≡ Err TextFault.TooLarge →
@@ -36,5 +38,6 @@ pub fn texts_end_at_the_first_zero()
 /// out in one write: the same answer, and the same files, slots and streams.
 #[tactic(auto, using(crate::proofs::JoinedWrites::joined))]
 pub fn pieces_come_to_one_write()
-    ensures { (slot : ℕ) (text : List ℕ) (m : HostModel) → m.failing ≡ [] → SameWritten (put_text slot text m) (put_piece slot text m) }
+    ensures { (slot : ℕ) (text : List ℕ) (m : HostModel) → m.failing ≡ [] →
+        SameWritten (put_text slot text m) (put_piece slot text m) }
 {}

@@ -28,7 +28,8 @@ fn with_file<H: Host>(alloc: Global, host: &mut H, command: &String, file: &Stri
         (λ m. ordered (one_file (string_bytes command.now) (string_bytes file.now)) m) }
     ensures written { WritesFront (H.told host.old) (H.told host.new) Outcome.OutOfMemory result
         (λ m. ordered (one_file (string_bytes command.now) (string_bytes file.now)) m) }
-    ensures usage { one_file (string_bytes command.now) (string_bytes file.now) ≡ None → result ≡ Outcome.Usage not_built }
+    ensures usage { one_file (string_bytes command.now) (string_bytes file.now) ≡ None →
+        result ≡ Outcome.Usage not_built }
     ensures rose { ComesByFault (H.told host.old) Outcome.HostFault result (H.faults host.old) (H.faults host.new) }
     ensures no_file { ComesByFault (H.told host.old) Outcome.NoFile result (H.faults host.old) (H.faults host.new) }
     ensures keeps { Keeps (H.told host.old) (H.told host.new) (H.faults host.old) (H.faults host.new) }
@@ -57,7 +58,8 @@ fn with_files<H: Host>(
         (λ m. ordered (two_files (string_bytes command.now) (string_bytes source.now) (string_bytes object.now)) m) }
     ensures written { WritesFront (H.told host.old) (H.told host.new) Outcome.OutOfMemory result
         (λ m. ordered (two_files (string_bytes command.now) (string_bytes source.now) (string_bytes object.now)) m) }
-    ensures usage { two_files (string_bytes command.now) (string_bytes source.now) (string_bytes object.now) ≡ None → result ≡ Outcome.Usage not_built }
+    ensures usage { two_files (string_bytes command.now) (string_bytes source.now) (string_bytes object.now) ≡ None →
+        result ≡ Outcome.Usage not_built }
     ensures rose { ComesByFault (H.told host.old) Outcome.HostFault result (H.faults host.old) (H.faults host.new) }
     ensures no_file { ComesByFault (H.told host.old) Outcome.NoFile result (H.faults host.old) (H.faults host.new) }
     ensures keeps { Keeps (H.told host.old) (H.told host.new) (H.faults host.old) (H.faults host.new) }
@@ -125,10 +127,12 @@ pub fn mmixware<H: Host>(alloc: Global, words: &[String], host: &mut H) -> Outco
         WritesFront (H.told host.old) (H.told host.new) Outcome.OutOfMemory result (λ m. product (map string_bytes words.now) m) }
 
     // Words that are no order are told apart for every host.
-    ensures usage { order_of (map string_bytes words.now) ≡ None → result ≢ Outcome.OutOfMemory → result ≡ Outcome.Usage not_built }
+    ensures usage { order_of (map string_bytes words.now) ≡ None → result ≢ Outcome.OutOfMemory →
+        result ≡ Outcome.Usage not_built }
 
     // Over a host that tells nothing, a file is missing or fails only where a call failed.
-    ensures host_fault { ComesByFault (H.told host.old) Outcome.HostFault result (H.faults host.old) (H.faults host.new) }
+    ensures host_fault { ComesByFault (H.told host.old) Outcome.HostFault result (H.faults host.old) (H.faults
+        host.new) }
     ensures no_file { ComesByFault (H.told host.old) Outcome.NoFile result (H.faults host.old) (H.faults host.new) }
     ensures keeps { Keeps (H.told host.old) (H.told host.new) (H.faults host.old) (H.faults host.new) }
 {

@@ -12,8 +12,11 @@ use mx_word::NoMemory;
 /// Writes one piece, and says whether it was written.
 fn put_piece<H: Host>(host: &mut H, slot: u16, piece: &[u8]) -> Result<bool, NoMemory>
     requires { slot ≤ 257 }
-    ensures told { IsTrue (tells (H.told host.old)) → IfOk result (λ written. (written, contents (H.told host.new)) ≡ spec.put_piece slot piece.now (contents (H.told host.old))) }
-    ensures memory { IsTrue (tells (H.told host.old)) → OnErr result ((contents (H.told host.new)).output ≡ (contents (H.told host.old)).output) }
+    ensures told { IsTrue (tells (H.told host.old)) →
+        IfOk result (λ written. (written, contents (H.told host.new))
+        ≡ spec.put_piece slot piece.now (contents (H.told host.old))) }
+    ensures memory { IsTrue (tells (H.told host.old)) →
+        OnErr result ((contents (H.told host.new)).output ≡ (contents (H.told host.old)).output) }
     ensures rose { ComesByFault (H.told host.old) (Ok false) result (H.faults host.old) (H.faults host.new) }
     ensures keeps { Keeps (H.told host.old) (H.told host.new) (H.faults host.old) (H.faults host.new) }
 {
@@ -28,8 +31,12 @@ fn put_piece<H: Host>(host: &mut H, slot: u16, piece: &[u8]) -> Result<bool, NoM
 #[tactic(auto, using(crate::proofs::PutPieces::putting))]
 pub fn put_text<H: Host>(host: &mut H, slot: u16, text: &[u8]) -> Result<bool, NoMemory>
     requires { slot ≤ 257 }
-    ensures told { IsTrue (tells (H.told host.old)) → IfOk result (λ written. (written, contents (H.told host.new)) ≡ spec.put_text slot text.now (contents (H.told host.old))) }
-    ensures memory { IsTrue (tells (H.told host.old)) → OnErr result (IsFront (contents (H.told host.new)).output (spec.put_text slot text.now (contents (H.told host.old))).1.output) }
+    ensures told { IsTrue (tells (H.told host.old)) →
+        IfOk result (λ written. (written, contents (H.told host.new))
+        ≡ spec.put_text slot text.now (contents (H.told host.old))) }
+    ensures memory { IsTrue (tells (H.told host.old)) →
+        OnErr result (IsFront (contents (H.told host.new)).output (spec.put_text slot text.now (contents (H.told
+        host.old))).1.output) }
     ensures rose { ComesByFault (H.told host.old) (Ok false) result (H.faults host.old) (H.faults host.new) }
     ensures keeps { Keeps (H.told host.old) (H.told host.new) (H.faults host.old) (H.faults host.new) }
 {

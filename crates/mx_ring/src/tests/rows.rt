@@ -157,7 +157,7 @@ pub(crate) const GLOBALS: [Row; 26] = [
 ];
 
 /// SAVE and UNSAVE.
-pub(crate) const FRAMES: [Row; 40] = [
+pub(crate) const FRAMES: [Row; 41] = [
     // around a changed local, as SAVE $255,0 in a program that has just begun; low bits of the address do not count
     (Op::Set(0, 2), Ok(()), 1, 255, 0, (0, 2)),
     (
@@ -276,6 +276,15 @@ pub(crate) const FRAMES: [Row; 40] = [
         (253, 0x2000_0000_001d_5555),
     ),
     (Op::Push(255), Ok(()), 0, 255, 355, (0, 0)),
+    // UNSAVE reads the stack area, where SAVE puts it
+    (
+        Op::Save(255),
+        Ok(()),
+        0,
+        255,
+        370,
+        (255, 0x6000_0000_0000_0b88),
+    ),
     (
         Op::Unsave(0x6000_0000_0000_0b08, FORGED),
         Ok(()),
@@ -290,7 +299,7 @@ pub(crate) const FRAMES: [Row; 40] = [
 ];
 
 /// Frames that reach down to the beginning of the stack area, and below.
-pub(crate) const SHORT_FRAMES: [Row; 13] = [
+pub(crate) const SHORT_FRAMES: [Row; 16] = [
     (Op::Push(99), Ok(()), 0, 255, 100, (0, 0)),
     (Op::Set(16, 117), Ok(()), 17, 255, 100, (16, 117)),
     (
@@ -303,12 +312,28 @@ pub(crate) const SHORT_FRAMES: [Row; 13] = [
     ),
     (Op::Push(255), Ok(()), 0, 255, 355, (0, 0)),
     (
+        Op::Save(255),
+        Ok(()),
+        0,
+        255,
+        370,
+        (255, 0x6000_0000_0000_0b88),
+    ),
+    (
         Op::Unsave(0x6000_0000_0000_0b08, ZEROS),
         Err(RingFault::BadFrame),
         0,
         255,
-        355,
+        370,
         (0, 0),
+    ),
+    (
+        Op::Unsave(0x6000_0000_0000_0b88, SPECIALS),
+        Ok(()),
+        0,
+        255,
+        355,
+        (255, 0),
     ),
     (Op::Pop(0), Ok(()), 254, 255, 100, (16, 117)),
     (Op::Set(16, 116), Ok(()), 254, 255, 100, (16, 116)),
@@ -323,6 +348,14 @@ pub(crate) const SHORT_FRAMES: [Row; 13] = [
         (253, 0x2000_0000_001d_5555),
     ),
     (Op::Push(255), Ok(()), 0, 255, 355, (0, 0)),
+    (
+        Op::Save(255),
+        Ok(()),
+        0,
+        255,
+        370,
+        (255, 0x6000_0000_0000_0b88),
+    ),
     (
         Op::Unsave(0x6000_0000_0000_0b08, FORGED),
         Ok(()),

@@ -1,15 +1,31 @@
-use Rattle.mx_load.proofs.Taken.{failed, fits-more, well, went}
+use Rattle.std.proofs.Common.{◌∙◌, sym, ap, Ok, drop, ◌+◌}
+use Rattle.mx_mmo.specs.Meaning.{nothing, take_items}
+use Rattle.mx_load.specs.Faults.{told}
+use Rattle.mx_load.specs.Standing.{image_in, standing}
+use Rattle.mx_load.proofs.Taken.{after_all, begins, ends-failed, ends-well, fits-more, goes-on, image-told}
 use Rattle.mx_load.proofs.whole.load.Goals as goal
+
+pub loop-item-init : goal.loop-item-init
+loop-item-init c = record { fits = c.requires; same = begins c.args.items.now ∙ ap (λ r. after_all r c.args.items.now) (sym c.new-loader.ensures) }
 
 pub returns-in-Err-clause-meaning : goal.returns-in-Err-clause-meaning
 returns-in-Err-clause-meaning c = λ ne.
-    failed c.args.items.now c.loop-item.item-index c.item-item.result _ c.loop-item.loader c.take.new.self c.in-Err.fault c.loop-item-test.true
-    c.item-item.is c.loop-item.invariant.well c.loop-item.invariant.same c.in-Err.ensures.answer (c.in-Err.ensures.meaning (λ e. ne (cc)))
+    let items = c.args.items.now in
+    let there = goes-on items c.loop-item.item-index c.item-item.result _ _ (standing c.loop-item.loader) (standing c.take.new.self) c.loop-item-test.true
+    c.item-item.is c.loop-item.invariant.same (c.in-Err.ensures.meaning (λ e. ne (cc))) in
+    let whole = ends-failed (drop (c.loop-item.item-index + 1) items) _ (standing c.take.new.self) c.in-Err.fault there c.in-Err.ensures.answer in
+    sym (sym (image-told (take_items items (Ok nothing))) ∙ ap image_in whole)
 
 pub loop-item-preserved : goal.loop-item-preserved
 loop-item-preserved c = record {
-  well = well c.take.new.self _ c.in-Ok.ensures.answer;
   fits = fits-more c.args.items.now c.loop-item.item-index c.item-item.result c.loop-item-test.true c.loop-item.invariant.fits;
-  same = went c.args.items.now c.loop-item.item-index c.item-item.result _ c.loop-item.loader c.take.new.self _ c.loop-item-test.true
-      c.item-item.is c.loop-item.invariant.well c.loop-item.invariant.same c.in-Ok.ensures.answer (c.in-Ok.ensures.meaning (λ e. cc));
+  same = goes-on c.args.items.now c.loop-item.item-index c.item-item.result _ _ (standing c.loop-item.loader) (standing c.take.new.self) c.loop-item-test.true
+      c.item-item.is c.loop-item.invariant.same (c.in-Ok.ensures.meaning (λ e. cc));
 }
+
+pub returns-clause-meaning : goal.returns-clause-meaning
+returns-clause-meaning c = λ ne.
+    let items = c.args.items.now in
+    c.finish.ensures.meaning
+    ∙ ap image_in (sym (ends-well items c.loop-item.item-index (told (take_items items (Ok nothing))) (standing c.loop-item.loader) c.loop-item-test.false c.loop-item.invariant.same))
+    ∙ image-told (take_items items (Ok nothing))

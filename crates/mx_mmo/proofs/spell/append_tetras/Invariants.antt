@@ -3,5 +3,5 @@ use Rattle.std.specs.List.{flat_map}
 use Rattle.mx_word.specs.Words.{tetra_to_bytes}
 use Rattle.mx_mmo.proofs.spell.append_tetras.Given as goal
 
-abbrev pub invariant-loop-word : goal.invariant-loop-word
-invariant-loop-word l = l.bytes.items ≡ l.fn.bytes.items ++ flat_map tetra_to_bytes (take l.word-index l.words)
+abbrev pub invariant-loop-tetra : goal.invariant-loop-tetra
+invariant-loop-tetra l = l.bytes.items ≡ l.fn.bytes.items ++ flat_map tetra_to_bytes (take l.tetra-index l.tetras)

@@ -1,10 +1,10 @@
 use Rattle.std.proofs.Common.{◌≡◌, None, length}
-use Rattle.mx_mmo.specs.Whole.{ahead, fed}
+use Rattle.mx_mmo.specs.Whole.{with_rest, fed}
 use Rattle.mx_mmo.proofs.whole.take_all.Given as goal
 
 abbrev pub invariant-loop-fault : goal.invariant-loop-fault
 invariant-loop-fault l = record {
-  same : ahead l.items l.reader ≡ ahead l.fn.items l.fn.reader;
+  same : with_rest l.items l.reader ≡ with_rest l.fn.items l.fn.reader;
   well : l.reader.fault ≡ None;
   end : fed l.reader ≡ fed l.fn.reader;
 }

@@ -2,11 +2,11 @@ use Rattle.std.proofs.Common.{◌≡◌, ap, ◌∙◌, Ok, refl, append-nil}
 use Rattle.std.specs.Prelude.{List, []}
 use Rattle.mx_mmo.specs.declared.items.Item.{Item}
 use Rattle.mx_mmo.specs.Replies.{ReaderModel}
-use Rattle.mx_mmo.specs.Whole.{Walk, ahead, fed, left_of, onto, items_of}
+use Rattle.mx_mmo.specs.Whole.{Walk, with_rest, fed, left_of, onto, items_of}
 use Rattle.mx_mmo.proofs.Nexts.{next-gave, next-none, next-fault}
 use Rattle.mx_mmo.proofs.whole.take_one.Goals as goal
 
-last : (items : List Item) (m n : ReaderModel) → n ≡ m → items_of m.phase m.at m.rest ≡ ([], Ok (left_of m)) → ahead items m ≡ (items, Ok (left_of n))
+last : (items : List Item) (m n : ReaderModel) → n ≡ m → items_of m.phase m.at m.rest ≡ ([], Ok (left_of m)) → with_rest items m ≡ (items, Ok (left_of n))
 last items m n e h = ap (onto items) h ∙ rw (e, append-nil) refl
 
 pub returns-in-Ok-clause-same : goal.returns-in-Ok-clause-same

@@ -4,7 +4,7 @@ use Rattle.std.specs.Cmp.Lexicographic.{slice_cmp}
 use Rattle.std.proofs.lemmas.Fn.{always_returns_same}
 use Rattle.mx_ops.specs.Opcodes.{operations, operation_of, is_instruction}
 use Rattle.mx_ops.proofs.Search.{plain, lists-plain, found}
-use Rattle.mx_ops.proofs.Laws.{lowest-found, instruction-found, other-found}
+use Rattle.mx_ops.proofs.Operations.{lowest-found, instruction-found, other-found}
 use Rattle.mx_ops.proofs.Computed.{operations-listed}
 use Rattle.mx_ops.proofs.lookup.find.Goals as goal
 

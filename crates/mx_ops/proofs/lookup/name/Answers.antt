@@ -1,7 +1,7 @@
 use Rattle.std.proofs.Common.{refl, [], map, ap, sym, arith}
 use Rattle.mx_ops.specs.Opcodes.{opcode_names, opcode_rows}
 use Rattle.mx_ops.proofs.Places.{name-at}
-use Rattle.mx_ops.proofs.Laws.{instruction-found}
+use Rattle.mx_ops.proofs.Operations.{instruction-found}
 use Rattle.mx_ops.proofs.lookup.name.Goals as goal
 
 pub returns-clause-value : goal.returns-clause-value

@@ -1,6 +1,6 @@
 use Rattle.std.proofs.Common.{arith, ◌<◌, length, sym, ◌∙◌}
 use Rattle.std.proofs.lemmas.Bool.Decides.{nat_tests}
-use Rattle.mx_ops.proofs.Laws.{symbol-found, after-colon, no-colon, no-bytes}
+use Rattle.mx_ops.proofs.Operations.{symbol-found, after-colon, no-colon, no-bytes}
 use Rattle.mx_ops.proofs.lookup.predefined.Goals as goal
 use Rattle.mx_ops.proofs.lookup.predefined.Goals.{then-is_empty-via-then-is_empty, then-is_empty-via-else-is_empty+then-name-ne58}
 

@@ -10,5 +10,5 @@ returns-then-is_empty-clause-same c = nothing-taken _ _ _ (trie-empty c.args.at 
 
 pub returns-clause-same : goal.returns-clause-same
 returns-clause-same c = node-taken _ _ _ _ _ _ _ _ _ _ _ _ c.if-at-ge-LONGEST.false (sym c.is_empty.ensures ∙ c.if-is_empty.false)
-    c.group_size.ensures.value c.split_at.ensures.front c.split_at.ensures.back c.stands.ensures c.inner.ensures
-    c.in_ok-append_front.ensures c.in_ok-note.ensures.ahead c.in_ok-note-2.ensures.ahead
+    c.group_size.ensures.value c.split_at.ensures.front c.split_at.ensures.back c.has_symbols.ensures c.symbols_below.ensures
+    c.in_ok-append_front.ensures c.in_ok-note.ensures.due c.in_ok-note-2.ensures.due

@@ -1,11 +1,11 @@
 use Rattle.std.proofs.Common.{◌≡◌, ◌+◌, ◌++◌, length}
 use Rattle.mx_stab.specs.Trie.{trie_of}
-use Rattle.mx_stab.specs.Writing.{ahead}
+use Rattle.mx_stab.specs.Writing.{bytes_due}
 use Rattle.mx_stab.proofs.writing.write_all.Given as goal
 
 -- what is written, and what is still to be written behind it, are the trie
 abbrev pub invariant-loop-next : goal.invariant-loop-next
-invariant-loop-next l = l.bytes.items ++ ahead l.pending.items ≡ trie_of l.symbols
+invariant-loop-next l = l.bytes.items ++ bytes_due l.pending.items ≡ trie_of l.symbols
 
 abbrev pub decreases-loop-next : goal.decreases-loop-next
-decreases-loop-next l = length (ahead l.pending.items) + length l.pending.items
+decreases-loop-next l = length (bytes_due l.pending.items) + length l.pending.items

@@ -1,11 +1,60 @@
-use Rattle.std.proofs.Common.{◌≡◌, ◌∙◌, sym}
-use Rattle.mx_mem.proofs.Undone.{undone}
+use Rattle.std.proofs.Common.{length, ◌<◌, ◌/◌, ◌%◌, ◌≡◌, true, sym, ◌∙◌, ap, arith}
+use Rattle.std.proofs.Math.ListN.{set}
+use Rattle.std.proofs.lemmas.Grind.{common_steps}
+use Rattle.mx_mem.specs.Memory.{octa_at, has_page, page_count}
+use Rattle.mx_mem.specs.Held.{view_of}
+use Rattle.mx_mem.proofs.Stores.{rewritten, rewritten-by, rewritten-indexed, rewritten-bounded, length-kept, stored-octas, stored-pages, stored-count, stored-there, stored-new}
+use Rattle.std.proofs.lemmas.Result.{on_ok_weaker}
+use Rattle.mx_mem.proofs.PartBytes.{octa-bytes}
 use Rattle.mx_mem.proofs.memory.Memory.store.Goals as goal
 
--- the new page is taken out again, and the octas are as they were
-pub returns-in-Err-put-clause-err : goal.returns-in-Err-put-clause-err
-returns-in-Err-put-clause-err c =
-    let octas : c.put-in-Ok.new.octas.entries ≡ c.self.inside.octas.entries = c.in-Err-put.ensures.err in
-    let pages : c.remove.new.self.keys ≡ c.self.inside.pages.keys =
-    undone c.self.inside.pages c.insert.new.self c.remove.new.self _ c.len.ensures.ordered c.remove.ensures.ordered (sym c.contains.ensures ∙ c.if-contains.false) c.in-Ok.ensures.updates c.remove.ensures.updates in
-    rw (octas, pages) c.self.view_is
+-- the page that was written to, among the pages
+pages-after : (c : goal.After-self-1) → set c.self.inside.pages.items c.in-Some.place c.put.new.self ≡ rewritten c.self.inside.pages.items c.in-Some.place (c.args.a / 8 % 512) c.args.x
+pages-after c =
+    let within : c.in-Some.place < length c.self.inside.pages.items = rw c.deref.ensures.value at c.in-Some.ensures.within in
+    rewritten-by c.self.inside.pages.items c.in-Some.place (c.args.a / 8 % 512) c.args.x c.index_mut.result.now c.put.new.self within c.index_mut.ensures.value c.put.ensures
+
+pub invariant_of-self : goal.invariant_of-self
+invariant_of-self c =
+    let within : c.in-Some.place < length c.self.inside.pages.items = rw c.deref.ensures.value at c.in-Some.ensures.within in
+    record {
+      indexed = rw (pages-after c) (rewritten-indexed c.self.inside.pages.items c.self.inside.places c.in-Some.place (c.args.a / 8 % 512) c.args.x within c.self.invariant.indexed);
+      bounded = rw (pages-after c) (rewritten-bounded c.self.inside.pages.items c.in-Some.place (c.args.a / 8 % 512) c.args.x within c.self.invariant.bounded);
+      count = c.self.invariant.count ∙ sym (ap length (pages-after c) ∙ length-kept c.self.inside.pages.items c.in-Some.place (c.args.a / 8 % 512) c.args.x);
+    }
+
+pub returns-in-Some-clause-octas : goal.returns-in-Some-clause-octas
+returns-in-Some-clause-octas c =
+    ap (λ pages. octa_at (view_of pages c.self.inside.places.entries)) (pages-after c)
+    ∙ stored-octas c.self.inside.pages.items c.self.inside.places _ c.args.a c.args.x c.in-Some.place c.self.invariant.indexed c.self.invariant.bounded c.self.view_is c.in-Some.ensures.place
+
+pub returns-in-Some-clause-pages : goal.returns-in-Some-clause-pages
+returns-in-Some-clause-pages c =
+    ap (λ pages. has_page (view_of pages c.self.inside.places.entries)) (pages-after c)
+    ∙ stored-pages c.self.inside.pages.items c.self.inside.places _ (c.args.a / 4096) (c.args.a / 8 % 512) c.args.x c.in-Some.place c.self.view_is c.in-Some.ensures.place
+
+pub returns-in-Some-clause-count : goal.returns-in-Some-clause-count
+returns-in-Some-clause-count c =
+    let there : has_page c.args.self.now (c.args.a / 4096) ≡ true = stored-there c.self.inside.pages.items c.self.inside.places _ (c.args.a / 4096) c.in-Some.place c.self.view_is c.in-Some.ensures.place in
+    ap (λ pages. page_count (view_of pages c.self.inside.places.entries)) (pages-after c)
+    ∙ stored-count c.self.inside.pages.items c.self.inside.places c.args.self.now (c.args.a / 8 % 512) c.args.x c.in-Some.place c.self.view_is
+    ∙ grind (arith, common_steps)
+
+pub returns-in-Some-clause-full : goal.returns-in-Some-clause-full
+returns-in-Some-clause-full c =
+    let there : has_page c.args.self.now (c.args.a / 4096) ≡ true = stored-there c.self.inside.pages.items c.self.inside.places _ (c.args.a / 4096) c.in-Some.place c.self.view_is c.in-Some.ensures.place in
+    grind (arith, common_steps)
+
+pub begin-requires-clause-new : goal.begin-requires-clause-new
+begin-requires-clause-new c = stored-new c.self.inside.pages.items c.self.inside.places _ (c.args.a / 4096) c.self.view_is c.in-None.ensures.place
+
+pub returns-in-None-clause-there : goal.returns-in-None-clause-there
+returns-in-None-clause-there c =
+    let new = stored-new c.self.inside.pages.items c.self.inside.places _ (c.args.a / 4096) c.self.view_is c.in-None.ensures.place in
+    grind (arith, common_steps)
+
+pub returns-in-Some-clause-bytes : goal.returns-in-Some-clause-bytes
+returns-in-Some-clause-bytes c = octa-bytes c.args.self.now _ c.args.a c.args.x (returns-in-Some-clause-octas c)
+
+pub returns-in-None-clause-bytes : goal.returns-in-None-clause-bytes
+returns-in-None-clause-bytes c = on_ok_weaker c.begin.result (λ e. octa-bytes c.args.self.now _ c.args.a c.args.x e) c.begin.ensures.octas

@@ -1,14 +1,14 @@
 use Rattle.std.proofs.Common.{◌≡◌, length, None, sym, ◌∙◌, ap}
-use Rattle.mx_names.specs.Names.{value_in, value_of_name, with_symbol}
+use Rattle.mx_names.specs.Names.{value_in, value_of_name}
 use Rattle.mx_names.proofs.Entries.{value-defined, not-some, length-inserted}
 use Rattle.std.proofs.lemmas.Result.{on_ok_weaker}
 use Rattle.mx_names.proofs.names.Names.define.Goals as goal
 
 pub returns-clause-looked_up : goal.returns-clause-looked_up
 returns-clause-looked_up c =
-    let absent : value_in c.args.full c.args.self.now.symbols ≡ None = ap (λ n. value_in n c.args.self.now.symbols) (sym c.as_slice-2.ensures) ∙ not-some _ (sym c.if-is_defined.ensures) in
+    let absent : value_in c.args.full c.args.self.now.symbols ≡ None = ap (λ n. value_in n c.args.self.now.symbols) (sym c.as_slice.ensures) ∙ not-some _ (sym c.if-is_defined.ensures.found) in
     on_ok_weaker c.put.result
-    (λ same name. ap (λ t. value_of_name t name) same ∙ ap (λ n. value_of_name (with_symbol c.args.self.now n c.args.v) name) c.as_slice-3.ensures ∙ value-defined c.args.self.now c.args.full c.args.v name absent)
+    (λ same name. ap (λ t. value_of_name t name) same ∙ value-defined c.args.self.now c.args.full c.args.v name absent)
     c.put.ensures.ok
 
 pub returns-clause-count : goal.returns-clause-count

@@ -1,11 +1,14 @@
-use Rattle.std.proofs.Common.{◌≤◌, length, arith}
-use Rattle.std.proofs.lemmas.Grind.{common_steps}
-use Rattle.mx_ring.proofs.Moves.{moved-down}
-use Rattle.mx_ring.specs.Window.{as_list}
+use Rattle.std.proofs.Common.{◌≡◌, ◌≤◌, ◌+◌, ◌^◌, ◌∷◌, [], ◌++◌, length, ◌∙◌, ap}
+use Rattle.std.proofs.lemmas.List.{length_push}
+use Rattle.mx_ring.proofs.Rings.{push-ring, hidden-twice, length-below}
+use Rattle.mx_ring.specs.HiddenPart.{octas_of}
+use Rattle.mx_ring.specs.Registers.{registers_below}
+use Rattle.mx_ring.specs.RingParts.{window_in}
 use Rattle.mx_ring.proofs.ring.Ring.hide.Goals as goal
 
-pub returns : goal.returns
-unfolding as_list
-returns c =
-    let f : c.self.inside.local_count ≤ length c.self.inside.locals = omega arith in
-    rw (← c.self.view_is) (grind (arith, common_steps, c.append.ensures.items, c.append-2.ensures.items, c.copy.ensures, c.min-next.ensures, moved-down c.self.inside.locals c.self.inside.local_count c.args.count f))
+pub invariant_of-self : goal.invariant_of-self
+invariant_of-self c =
+    let octas = registers_below c.self.inside.visible c.args.count ++ c.args.count ∷ [] in
+    let f : length (octas_of c.self.inside.hidden) + (c.args.count + 1) ≤ 2 ^ 20 = rw (← c.self.view_is) at c.requires.room in
+    let size : length octas ≡ c.args.count + 1 = length_push (registers_below c.self.inside.visible c.args.count) c.args.count ∙ ap (λ n. n + 1) (length-below c.self.inside.visible c.args.count) in
+    rw (c.make_room.ensures, c.local_count.ensures.value, c.keep_from.ensures, c.append-2.ensures, c.append.ensures, c.below.ensures, hidden-twice c.self.inside.hidden (registers_below c.self.inside.visible c.args.count) (c.args.count ∷ [])) (push-ring (window_in c.self.inside) c.args.count octas c.self.invariant size f)

@@ -1,10 +1,21 @@
-use Rattle.std.proofs.Common.{◌≤◌, length, arith}
-use Rattle.mx_ring.proofs.Frames.{frame-hidden}
-use Rattle.mx_ring.specs.Window.{as_list}
+use Rattle.std.proofs.Common.{◌≡◌, ◌≤◌, ◌+◌, ◌-◌, length, arith, refl}
+use Rattle.mx_ring.proofs.Rings.{save-ring, length-frame}
+use Rattle.mx_ring.specs.Frames.{frame, frame_length}
+use Rattle.mx_ring.specs.HiddenPart.{octas_of}
+use Rattle.mx_ring.specs.RingParts.{window_in}
+use Rattle.mx_ring.specs.Stack.{windowed, saved, frame_top}
 use Rattle.mx_ring.proofs.ring.Ring.hide_frame.Goals as goal
 
-pub returns-clause-frame : goal.returns-clause-frame
-unfolding as_list
-returns-clause-frame c =
-    let f : c.self.inside.local_count ≤ length c.self.inside.locals = omega arith in
-    rw (← c.self.view_is) (frame-hidden c.self.inside c.args.s.now c.append.new.list.items c.append-2.new.list.items c.append_from.new.list.items c.append-3.new.list.items c.frame_top.result f c.append.ensures.items c.append-2.ensures.items c.append_from.ensures.items c.frame_top.ensures c.append-3.ensures.items)
+pub invariant_of-self : goal.invariant_of-self
+invariant_of-self c =
+    let v = c.self.inside.visible in
+    let g : v.first_global ≤ c.args.x = rw (← c.self.view_is) at c.requires.global in
+    let top : c.args.last ≡ length (octas_of c.self.inside.hidden) + frame_length v.first_global (length v.locals) - 1 = rw (← c.self.view_is) at c.requires.top in
+    let size : length (frame v c.args.s.now) ≡ frame_length v.first_global (length v.locals) = length-frame v c.args.s.now c.self.invariant.registers in
+    rw (c.set.ensures, c.cut.ensures, c.spill_all.ensures, c.hide_registers.ensures) (save-ring (window_in c.self.inside) c.args.x _ (frame v c.args.s.now) c.self.invariant g (omega arith))
+
+pub returns : goal.returns
+unfolding saved
+returns c =
+    let top : c.args.last ≡ frame_top (windowed (window_in c.self.inside)) = rw (← c.self.view_is) at c.requires.top in
+    rw (← c.self.view_is, c.set.ensures, c.cut.ensures, c.spill_all.ensures, c.hide_registers.ensures, top) refl

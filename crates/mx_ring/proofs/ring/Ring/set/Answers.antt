@@ -1,10 +1,10 @@
-use Rattle.std.proofs.Common.{◌≤◌, ◌<◌, length, arith}
-use Rattle.mx_ring.proofs.Parts.{set-local}
+use Rattle.std.proofs.Common.{◌≡◌, false, sym, ◌∙◌}
+use Rattle.mx_ring.proofs.Rings.{set-ring}
+use Rattle.mx_ring.specs.Registers.{is_marginal}
+use Rattle.mx_ring.specs.RingParts.{window_in}
 use Rattle.mx_ring.proofs.ring.Ring.set.Goals as goal
 
-pub returns-then-k-self-2-clause-ok : goal.returns-then-k-self-2-clause-ok
-returns-then-k-self-2-clause-ok c =
-    let f : c.self.inside.local_count ≤ length c.self.inside.locals = omega arith in
-    let g : c.from-k.result < c.self.inside.first_global = omega arith in
-    let h : c.from-k.result < c.self.inside.local_count = omega arith in
-    rw (← c.self.view_is, ← c.from-k.ensures) (set-local c.self.inside c.from-k.result c.args.x f g h)
+pub invariant_of-self : goal.invariant_of-self
+invariant_of-self c =
+    let m : is_marginal c.self.inside.visible c.args.k ≡ false = sym c.is_marginal.ensures ∙ c.if-is_marginal.false in
+    rw c.set.ensures (set-ring (window_in c.self.inside) c.args.k c.args.x c.self.invariant m)

@@ -1,11 +1,11 @@
 use Rattle.std.proofs.Common.{◌≡◌, ◌++◌, length, map}
-use Rattle.mx_mmo.specs.Reading.{words_of}
+use Rattle.mx_mmo.specs.Reading.{tetras_of}
 use Rattle.mx_mmo.specs.declared.items.Item.TheVariants.{Load}
 use Rattle.mx_top.proofs.tetras.Tetras.load_all.Given as goal
 
 -- the items so far, and the tetras of the bytes that are left, are all
 abbrev pub invariant-loop-rest : goal.invariant-loop-rest
-invariant-loop-rest l = l.self ++ map Load (words_of l.rest) ≡ l.fn.self ++ map Load (words_of l.bytes)
+invariant-loop-rest l = l.self ++ map Load (tetras_of l.rest) ≡ l.fn.self ++ map Load (tetras_of l.bytes)
 
 abbrev pub decreases-loop-rest : goal.decreases-loop-rest
 decreases-loop-rest l = length l.rest

@@ -1,0 +1,8 @@
+use Rattle.std.proofs.Common.{◌/◌, get_or, ◌∙◌, ap}
+use Rattle.mx_alu.specs.declared.names.TheConstants.{ARITHMETIC}
+use Rattle.mx_alu.specs.declared.names.Arithmetic.TheVariants.{Mul}
+use Rattle.mx_alu.proofs.Named.{arithmetic-at}
+use Rattle.mx_alu.proofs.codes.arithmetic_name.Goals as goal
+
+pub returns : goal.returns
+returns c = ap (λ p. get_or ARITHMETIC (p / 2) Mul) c.from.ensures ∙ arithmetic-at c.args.code c.requires.low c.requires.high

@@ -1,0 +1,8 @@
+use Rattle.std.proofs.Common.{get_or, ◌∙◌, ap}
+use Rattle.mx_alu.specs.declared.names.TheConstants.{CONDITIONS}
+use Rattle.mx_alu.specs.declared.names.Condition.TheVariants.{Negative}
+use Rattle.mx_alu.proofs.Named.{condition-at}
+use Rattle.mx_alu.proofs.codes.condition.Goals as goal
+
+pub returns : goal.returns
+returns c = ap (λ p. get_or CONDITIONS p Negative) c.from.ensures ∙ condition-at c.args.code c.requires.low c.requires.high

@@ -1,0 +1,71 @@
+-- What the answers of the calls on objects stand for.
+use Rattle.std.specs.Prelude.{ℕ, ◌+◌, Bool, List, Option, Some, None, Result, Ok, Err}
+use Rattle.mx_word.specs.declared.symbols.Symbol.{Symbol}
+use Rattle.mx_mmo.specs.Faults as objects
+use Rattle.mx_mmo.specs.Image.{Image}
+use Rattle.mx_mmo.specs.Meaning.{Loading}
+use Rattle.mx_mmo.specs.Replies.{ReaderModel}
+use Rattle.mx_mmo.specs.declared.faults.MmoFault.{MmoFault}
+use Rattle.mx_stab.specs.Faults as tries
+use Rattle.mx_stab.specs.declared.faults.StabFault.{StabFault}
+use Rattle.mx_load.specs.Kept.{Kept, image_of}
+use Rattle.mx_load.specs.Faults as loads
+use Rattle.mx_load.specs.Standing.{loading_of}
+use Rattle.mx_load.specs.Objects.{Loaded, items_loaded}
+use Rattle.mx_load.specs.declared.progress.Progress.{Progress}
+use Rattle.mx_load.specs.declared.fault.LoadFault.{LoadFault}
+use Rattle.mx_load.specs.declared.fault.LoadFault.TheVariants.{PagesFull, BadPlace, NoFile, OutOfMemory as NoRoom}
+use Rattle.mx_load.specs.declared.objects.ObjectFault.{ObjectFault}
+use Rattle.mx_load.specs.declared.objects.ObjectFault.TheVariants.{Bad, OutOfMemory}
+
+-- the byte place and the number of a fault
+abbrev pub place_and_number : ObjectFault → ℕ × ℕ
+place_and_number (Bad place fault) = (place, fault)
+place_and_number OutOfMemory = (0, 0)
+
+-- the image and the symbols of an object, or its fault
+abbrev pub loaded_in : Result Kept ObjectFault → Result (Image × List Symbol) (ℕ × ℕ)
+loaded_in (Ok image) = Ok (image_of image, image.symbols)
+loaded_in (Err fault) = Err (place_and_number fault)
+
+-- the symbols of a trie, or its fault
+abbrev pub symbols_in : Result (List Symbol) ObjectFault → Result (List Symbol) (ℕ × ℕ)
+symbols_in (Ok symbols) = Ok symbols
+symbols_in (Err fault) = Err (place_and_number fault)
+
+-- the fault of bytes that cannot be read; out of memory has no place
+abbrev pub bad_at : Option ℕ → ℕ → ObjectFault
+bad_at None number = OutOfMemory
+bad_at (Some place) number = Bad place number
+
+abbrev pub unread : MmoFault → ObjectFault
+unread fault = bad_at (objects.place_of fault) (objects.number_of fault)
+
+-- the fault of a trie that stands at a place
+abbrev pub bad_behind : ℕ → Option ℕ → ℕ → ObjectFault
+bad_behind place None number = OutOfMemory
+bad_behind place (Some at) number = Bad (place + at) number
+
+abbrev pub unread_trie : ℕ → StabFault → ObjectFault
+unread_trie place fault = bad_behind place (tries.place_of fault) (tries.number_of fault)
+
+-- the fault of an item that cannot be loaded
+abbrev pub unloaded : ℕ → LoadFault → ObjectFault
+unloaded place PagesFull = Bad place (loads.number_of PagesFull)
+unloaded place BadPlace = Bad place (loads.number_of BadPlace)
+unloaded place NoFile = Bad place (loads.number_of NoFile)
+unloaded place NoRoom = OutOfMemory
+
+-- what loading comes to with fewer than so many of the items that a reader still gives
+abbrev pub loaded_from : ℕ → Progress → ReaderModel → Loaded
+loaded_from n progress reader = items_loaded n (loading_of progress) reader.phase reader.at reader.rest
+
+-- what stands after an item that was taken, or the fault that was answered
+abbrev pub item_answer : Result Bool ObjectFault → Loading → Result Loading (ℕ × ℕ)
+item_answer (Ok more) s = Ok s
+item_answer (Err fault) s = Err (place_and_number fault)
+
+-- what follows an item behind which a reader stands
+abbrev pub loaded_behind : ℕ → ReaderModel → Result Loading (ℕ × ℕ) → Loaded
+loaded_behind n reader (Ok s) = items_loaded n s reader.phase reader.at reader.rest
+loaded_behind n reader (Err fault) = Err fault

@@ -1,0 +1,169 @@
+//! An object that is read and loaded.
+
+ghost use Rattle.std.specs.Prelude.{◌≡◌, ◌≢◌, ◌<◌, ◌≤◌, ◌+◌, ◌^◌, Ok, Err, None, true, false, suc, ℕ, length, OnOk, IfErr, IfSome};
+ghost use Rattle.mx_mmo.specs.Meaning.{take_item};
+ghost use Rattle.mx_mmo.specs.Valid.{Fits};
+ghost use Rattle.mx_mmo.specs.Whole.{left_of};
+ghost use Rattle.mx_load.specs.Answers as spec;
+ghost use Rattle.mx_load.specs.Objects.{object_loaded, taken, trie_read, whole_loaded};
+ghost use Rattle.mx_load.specs.Standing.{loading_of};
+ghost use Rattle.mx_stab.specs.Faults as tries;
+ghost use Rattle.mx_stab.specs.Reading.{trie_answer};
+
+use crate::progress::Progress;
+use crate::{Image, LoadFault};
+use mx_mmo::{Item, MmoFault, Reader, Tail};
+use mx_stab::StabFault;
+use mx_word::Symbols;
+use std::alloc::Global;
+
+/// Why bytes are no object, or an object sets up nothing.
+#[derive(Clone, Copy, Debug, PartialEq, Eq)]
+pub enum ObjectFault {
+    /// The byte place, from 0, and the number of the first fault: of reading (60 to 65), of loading
+    /// (90, 95, 96) or of the trie (70 to 74, 76).
+    Bad { place: u64, fault: u16 },
+    /// There was no memory.
+    OutOfMemory,
+}
+
+/// The fault of bytes that are no object.
+fn unread(fault: MmoFault) -> ObjectFault
+    ensures { result ≡ spec.unread fault }
+{
+    match fault.place() {
+        Some(place) => ObjectFault::Bad {
+            place,
+            fault: fault.number(),
+        },
+        None => ObjectFault::OutOfMemory,
+    }
+}
+
+/// The fault of an item at a place that sets up nothing.
+fn unloaded(place: u64, fault: LoadFault) -> ObjectFault
+    ensures { result ≡ spec.unloaded place fault }
+{
+    match fault {
+        LoadFault::OutOfMemory => ObjectFault::OutOfMemory,
+        _ => ObjectFault::Bad {
+            place,
+            fault: fault.number(),
+        },
+    }
+}
+
+/// Loads an item that begins at a place.
+#[tactic(auto, using(crate::proofs::Loading::loading))]
+fn load_item(progress: &mut Progress, item: &Item, place: u64) -> Result<bool, ObjectFault>
+    requires { Fits item.now }
+    ensures taken { result ≢ Err ObjectFault.OutOfMemory →
+        spec.item_answer result (loading_of progress.new) ≡ taken place (take_item (loading_of progress.old) item.now) }
+    ensures more { result ≢ Ok false }
+{
+    match progress.take(item) {
+        Ok(()) => Ok(true),
+        Err(fault) => Err(unloaded(place, fault)),
+    }
+}
+
+/// Loads the item that stands next, and says whether one did.
+fn load_next(reader: &mut Reader, progress: &mut Progress) -> Result<bool, ObjectFault>
+    requires { reader.old.fault ≡ None }
+    ensures next { result ≡ Ok true → (n : ℕ) →
+        spec.loaded_from (suc n) progress.old reader.old ≡ spec.loaded_from n progress.new reader.new }
+    ensures less { result ≡ Ok true → length reader.new.rest < length reader.old.rest }
+    ensures last { result ≡ Ok false → (n : ℕ) →
+        spec.loaded_from (suc n) progress.old reader.old ≡ Ok (loading_of progress.new, left_of reader.new) }
+    ensures read { OnOk result (reader.new.fault ≡ None) }
+    ensures fault { result ≢ Err ObjectFault.OutOfMemory →
+        IfErr result (λ f. (n : ℕ) → spec.loaded_from (suc n) progress.old reader.old ≡ Err (spec.place_and_number f)) }
+{
+    match reader.next() {
+        Ok(None) => Ok(false),
+        Ok(Some(item)) => load_item(progress, &item, reader.place()),
+        Err(fault) => Err(unread(fault)),
+    }
+}
+
+/// Loads all items that stand next.
+fn load_items(reader: &mut Reader, progress: &mut Progress) -> Result<(), ObjectFault>
+    requires { reader.old.fault ≡ None }
+    ensures last { OnOk result (spec.loaded_from (length reader.old.rest + 1) progress.old reader.old
+        ≡ Ok (loading_of progress.new, left_of reader.new)) }
+    ensures read { OnOk result (reader.new.fault ≡ None) }
+    ensures fault { result ≢ Err ObjectFault.OutOfMemory →
+        IfErr result (λ f. spec.loaded_from (length reader.old.rest + 1) progress.old reader.old
+        ≡ Err (spec.place_and_number f)) }
+{
+    loop {
+        match load_next(reader, progress) {
+            Ok(true) => {}
+            Ok(false) => return Ok(()),
+            Err(fault) => return Err(fault),
+        }
+    }
+}
+
+/// The fault of a trie that stands at a place.
+fn unread_trie(place: u64, fault: StabFault) -> ObjectFault
+    requires front { place ≤ 2 ^ 26 }
+    requires within { IfSome (tries.place_of fault) (λ at. at < 2 ^ 63) }
+    ensures { result ≡ spec.unread_trie place fault }
+{
+    match fault.place() {
+        Some(at) => ObjectFault::Bad {
+            place: place + at,
+            fault: fault.number(),
+        },
+        None => ObjectFault::OutOfMemory,
+    }
+}
+
+/// The symbols of the trie behind the items of an object.
+#[tactic(auto, using(crate::proofs::Tails::tails))]
+fn read_trie(alloc: Global, tail: &Tail) -> Result<Symbols, ObjectFault>
+    requires { tail.now.place ≤ 2 ^ 26 }
+    ensures { result ≢ Err ObjectFault.OutOfMemory →
+        spec.symbols_in result ≡ trie_read tail.now.place (trie_answer tail.now.trie) }
+{
+    match mx_stab::read(alloc, tail.trie.as_slice()) {
+        Ok(symbols) => Ok(symbols),
+        Err(fault) => Err(unread_trie(tail.place, fault)),
+    }
+}
+
+/// The image once all items were loaded, with the symbols of the trie, if the object ends as it has
+/// to.
+#[tactic(auto, using(crate::proofs::Tails::tails))]
+fn finish(alloc: Global, reader: &mut Reader, progress: Progress) -> Result<Image, ObjectFault>
+    requires { reader.old.fault ≡ None }
+    ensures { result ≢ Err ObjectFault.OutOfMemory →
+        spec.loaded_in result ≡ whole_loaded (Ok (loading_of progress, left_of reader.old)) }
+{
+    match reader.finish() {
+        Ok(tail) => match read_trie(alloc, &tail) {
+            Ok(symbols) => Ok(progress.image.with_symbols(symbols)),
+            Err(fault) => Err(fault),
+        },
+        Err(fault) => Err(unread(fault)),
+    }
+}
+
+/// The image of the object that bytes are, with the symbols of its trie.
+///
+/// Errors: the first fault with its byte place, as [`ObjectFault`] says, and out of memory.
+#[tactic(auto, using(crate::proofs::Tails::tails))]
+pub fn load_object(alloc: Global, bytes: &[u8]) -> Result<Image, ObjectFault>
+    ensures { result ≢ Err ObjectFault.OutOfMemory → spec.loaded_in result ≡ object_loaded bytes.now }
+{
+    let mut reader = Reader::new(alloc);
+    let mut progress = Progress::new(alloc);
+    match reader.feed(bytes) {
+        Ok(()) => match load_items(&mut reader, &mut progress) {
+            Ok(()) => finish(alloc, &mut reader, progress),
+            Err(fault) => Err(fault),
+        },
+        Err(fault) => Err(unread(fault)),
+    }
+}

@@ -1,0 +1,58 @@
+-- What follows a spec ends it.
+use Rattle.std.proofs.Common.{ℕ, List, ◌∷◌, ◌++◌, arith, refl, sym, subst, append_assoc}
+use Rattle.mx_word.specs.Words.{tetra_to_bytes}
+use Rattle.mx_mmo.specs.Valid.{MayFollow, SpecsEnd}
+use Rattle.mx_mmo.specs.Object.{EndsSpec, IsNoLop, Spells, SpellsAddress, Spelled}
+use Rattle.mx_mmo.specs.Turns.{EndsItem, EndsLast}
+use Rattle.mx_mmo.specs.declared.items.Item.{Item}
+use Rattle.mx_mmo.specs.declared.items.Item.TheVariants.{Load, Spec}
+
+-- an item that is not loaded begins with a lopcode that ends a spec
+ends-before : {item : Item} {bytes : List ℕ} (n : ℕ) (rest : List ℕ) → Spells item bytes → MayFollow (Spec n) item → EndsSpec (bytes ++ rest)
+ends-before n rest (Spells.bare t p) m = absurd m
+ends-before n rest (Spells.quoted t h) m = absurd m
+ends-before n rest (Spells.loc a bytes (SpellsAddress.by_tetra code y t h k)) m = (refl, λ t. omega (arith, t.0))
+ends-before n rest (Spells.loc a bytes (SpellsAddress.by_octa code y x h k)) m = (refl, λ t. omega (arith, t.0))
+ends-before n rest (Spells.skip k h) m = (refl, λ t. omega (arith, t.0))
+ends-before n rest (Spells.fixo a bytes (SpellsAddress.by_tetra code y t h k)) m = (refl, λ t. omega (arith, t.0))
+ends-before n rest (Spells.fixo a bytes (SpellsAddress.by_octa code y x h k)) m = (refl, λ t. omega (arith, t.0))
+ends-before n rest (Spells.fixr k h) m = (refl, λ t. omega (arith, t.0))
+ends-before n rest (Spells.fixrx bits t b h) m = (refl, λ t. omega (arith, t.0))
+ends-before n rest (Spells.selected number h) m = (refl, λ t. omega (arith, t.0))
+ends-before n rest (Spells.named number tetras count name h k l c) m = (refl, λ t. omega (arith, t.0))
+ends-before n rest (Spells.line k h) m = (refl, λ t. omega (arith, t.0))
+ends-before n rest (Spells.spec k front h s) m = (refl, λ t. omega (arith, t.0))
+ends-before n rest (Spells.pre tetras l h) m = (refl, λ t. omega (arith, t.0))
+ends-before n rest (Spells.post g values l k c h) m = (refl, λ t. omega (arith, t.0))
+ends-before n rest Spells.stab m = (refl, λ t. omega (arith, t.0))
+
+ends-by : (item : Item) {next : Item} {bytes : List ℕ} (rest : List ℕ) → Spells next bytes → MayFollow item next → EndsItem item (bytes ++ rest)
+ends-by (Spec n) rest s m = ends-before n rest s m
+ends-by _ rest s m = tt
+
+pub ends-next : (item : Item) {items : List Item} {more : List ℕ} (rest : List ℕ) → Spelled items more → SpecsEnd (item ∷ items) → EndsLast (item ∷ items) rest → EndsItem item (more ++ rest)
+ends-next item rest Spelled.none s e = e
+ends-next item rest (Spelled.next other items bytes more sp others) s e =
+    subst (λ (b : List ℕ). EndsItem item b) (sym (append_assoc bytes more rest)) (ends-by item (more ++ rest) sp s.0)
+
+-- and what ends a spec is no item that is loaded
+bare-ends-none : (t : ℕ) (rest : List ℕ) → IsNoLop t → EndsSpec (tetra_to_bytes t ++ rest) → ⊥
+bare-ends-none t rest p e = p.1 (omega (arith, p.0, e.0))
+
+load-ends-none : {t : ℕ} {bytes : List ℕ} (rest : List ℕ) → Spells (Load t) bytes → EndsSpec (bytes ++ rest) → ⊥
+load-ends-none rest (Spells.bare t p) e = bare-ends-none t rest p e
+load-ends-none rest (Spells.quoted t h) e = e.1 (refl, refl, refl)
+
+may-by : (item next : Item) {bytes : List ℕ} (rest : List ℕ) → Spells next bytes → EndsItem item (bytes ++ rest) → MayFollow item next
+may-by (Spec n) (Load t) rest s e = load-ends-none rest s e
+may-by _ _ rest s e = tt
+
+-- one item in front of others
+pub specs-cons : (item : Item) {items : List Item} {front : List ℕ} (rest : List ℕ) → Spelled items front → SpecsEnd items → EndsItem item (front ++ rest) → SpecsEnd (item ∷ items)
+specs-cons item rest Spelled.none s e = tt
+specs-cons item rest (Spelled.next other items bytes more sp others) s e =
+    (may-by item other (more ++ rest) sp (subst (λ (b : List ℕ). EndsItem item b) (append_assoc bytes more rest) e), s)
+
+pub last-cons : (item : Item) {items : List Item} {front : List ℕ} (rest : List ℕ) → Spelled items front → EndsLast items rest → EndsItem item (front ++ rest) → EndsLast (item ∷ items) rest
+last-cons item rest Spelled.none l e = e
+last-cons item rest (Spelled.next other items bytes more sp others) l e = l

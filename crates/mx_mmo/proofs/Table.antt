@@ -1,0 +1,258 @@
+-- The first fault of bytes is the one that the table tells.
+use Rattle.std.proofs.Common.{◌≡◌, ◌≢◌, ℕ, ◌+◌, ◌-◌, ◌*◌, ◌/◌, ◌%◌, ◌^◌, ◌<◌, ◌≤◌, length, List, [], ◌++◌, take, drop, arith, refl, sym, ◌∙◌, ap, subst, Ok, Err, Some, None, Bool, true, false, length-append, length-take, zero-add, replicate}
+use Rattle.std.specs.Prelude.{Result, Option, ◌==◌}
+use Rattle.std.proofs.lemmas.List.{take-append-drop, drop_at, length-replicate}
+use Rattle.mx_mmo.specs.Tetras.{wide_lop}
+use Rattle.mx_mmo.specs.Valid.{AreBytes}
+use Rattle.mx_mmo.specs.Object.{IsSkipped, Spells, SpellsAddress, Spelled}
+use Rattle.mx_mmo.specs.Replies.{limit, tail_of, tail_behind, counted_tail, end_count}
+use Rattle.mx_mmo.specs.Turns.{StandFirst, phase_end}
+use Rattle.mx_mmo.specs.FaultTable.{TetraFault, ItemFault, EndsWith, FaultOf}
+use Rattle.mx_mmo.specs.Whole.{Left, Walk, items_of, object_of, object_behind, object_fault, fault_in, onto, with_tail}
+use Rattle.mx_mmo.specs.declared.items.Item.{Item}
+use Rattle.mx_mmo.specs.declared.items.Object.{Object}
+use Rattle.mx_mmo.specs.declared.faults.MmoFault.{MmoFault}
+use Rattle.mx_mmo.specs.declared.faults.MmoFault.TheVariants.{NotTetras, BadFields, Truncated}
+use Rattle.mx_mmo.specs.declared.due.Phase.{Phase}
+use Rattle.mx_mmo.specs.declared.due.Phase.TheVariants.{Start, Middle, Posted, Ended}
+use Rattle.mx_mmo.proofs.Bytes.{bytes-behind, other-test, same-number, other-number}
+use Rattle.mx_mmo.proofs.Complete.{end-told, items-read, left_behind, tail-read, walk-spelled}
+use Rattle.mx_mmo.proofs.Pieces.{not-long}
+use Rattle.mx_mmo.proofs.Sound.{Stood, Stopped, Stands, counts, left-bytes, stands}
+use Rattle.mx_mmo.proofs.Spelt.{tetras-length, octas-length}
+use Rattle.mx_mmo.proofs.TetraFaults.{fault-first, fault-found}
+use Rattle.mx_mmo.proofs.Walks.{items-fault}
+
+-- items take whole tetras
+skipped-tetras : {front : List ℕ} → IsSkipped front → length front % 4 ≡ 0
+skipped-tetras IsSkipped.none = refl
+skipped-tetras (IsSkipped.other t more p s) = let h = skipped-tetras s in omega arith
+skipped-tetras (IsSkipped.quoted t more p s) = let h = skipped-tetras s in omega arith
+
+item-tetras : {item : Item} {bytes : List ℕ} → Spells item bytes → length bytes % 4 ≡ 0
+item-tetras (Spells.bare t p) = refl
+item-tetras (Spells.quoted t h) = refl
+item-tetras (Spells.loc a bytes (SpellsAddress.by_tetra code y t h k)) = refl
+item-tetras (Spells.loc a bytes (SpellsAddress.by_octa code y x h k)) = refl
+item-tetras (Spells.skip n h) = refl
+item-tetras (Spells.fixo a bytes (SpellsAddress.by_tetra code y t h k)) = refl
+item-tetras (Spells.fixo a bytes (SpellsAddress.by_octa code y x h k)) = refl
+item-tetras (Spells.fixr n h) = refl
+item-tetras (Spells.fixrx bits t b h) = refl
+item-tetras (Spells.selected number h) = refl
+item-tetras (Spells.named number tetras count name h k n c) =
+    let l : length (name ++ replicate count 0) ≡ 4 * tetras = length-append name (replicate count 0) ∙ ap (λ (k : ℕ). length name + k) (length-replicate count 0) ∙ c in
+    omega (arith, l)
+item-tetras (Spells.line n h) = refl
+item-tetras (Spells.spec n front h s) = let k = skipped-tetras s in omega arith
+item-tetras (Spells.pre tetras l h) = let e = tetras-length tetras in omega arith
+item-tetras (Spells.post g values l m c h) = let e = octas-length values in omega arith
+item-tetras Spells.stab = refl
+
+items-tetras : {items : List Item} {front : List ℕ} → Spelled items front → length front % 4 ≡ 0
+items-tetras Spelled.none = refl
+items-tetras (Spelled.next item items bytes more s others) =
+    let h = item-tetras s in let k = items-tetras others in omega (arith, length-append bytes more)
+
+-- what is told of the items
+item-fault-met : (bytes : List ℕ) (fault : MmoFault) → ItemFault bytes fault → (items_of Start 0 bytes).1 ≡ Err fault
+item-fault-met bytes fault i =
+    let phase = phase_end Start i.items in
+    let here : items_of phase (0 + length i.front) i.rest ≡ ([], Err fault) =
+    ap (λ (n : ℕ). items_of phase n i.rest) (zero-add (length i.front)) ∙ items-fault phase (length i.front) i.rest fault (fault-first i.has) in
+    ap (λ (b : List ℕ). (items_of Start 0 b).1) i.first.whole
+    ∙ ap (λ (w : Walk). w.1) (walk-spelled Start 0 i.rest i.first.spelled i.first.turn i.first.specs i.first.ended ∙ ap (onto i.items) here)
+
+stopped-fault : (bytes : List ℕ) (items : List Item) (fault : MmoFault) → Stopped Start 0 bytes items fault → ItemFault bytes fault
+stopped-fault bytes items fault s = record {
+  items = items;
+  front = s.front;
+  rest = s.rest;
+  first = s.first;
+  has = subst (λ (n : ℕ). TetraFault (phase_end Start items) n s.rest fault) (zero-add (length s.front)) (fault-found (phase_end Start items) (0 + length s.front) s.rest fault s.each s.found);
+}
+
+ends-met : (bytes trie : List ℕ) (count : ℕ) (e : EndsWith bytes trie count) → items_of Start 0 bytes ≡ (e.items, Ok (left_behind (length e.front) (trie ++ wide_lop 12 count)))
+ends-met bytes trie count e =
+    ap (items_of Start 0) e.first.whole
+    ∙ items-read e.items e.front (trie ++ wide_lop 12 count) e.first.spelled (record { turn = e.first.turn; end = e.all }) e.first.specs e.first.ended
+
+-- where no item has a fault, the fault is what is wrong at the end
+abbrev Unmet : List ℕ → Type 0
+Unmet bytes = (f : MmoFault) → ¬ ItemFault bytes f
+
+behind-fault : (bytes : List ℕ) (fault : MmoFault) (w : Walk) → items_of Start 0 bytes ≡ w → Stands Start 0 bytes w → Unmet bytes →
+    ((items : List Item) (left : Left) → Stood Start 0 bytes items left → tail_of left.phase left.at left.rest ≡ Err fault) → object_behind w.0 w.1 ≡ Err fault
+behind-fault bytes fault (items, Err other) e s n h = absurd (n other (stopped-fault bytes items other s))
+behind-fault bytes fault (items, Ok left) e s n h = ap (with_tail items) (h items left s)
+
+end-fault : (bytes : List ℕ) (fault : MmoFault) → AreBytes bytes → length bytes ≤ limit → Unmet bytes →
+    ((items : List Item) (left : Left) → Stood Start 0 bytes items left → tail_of left.phase left.at left.rest ≡ Err fault) → object_of bytes ≡ Err fault
+end-fault bytes fault b l n h = not-long bytes l ∙ behind-fault bytes fault (items_of Start 0 bytes) refl (stands bytes b) n h
+
+over-place : (at f r n : ℕ) → at ≡ 0 + f → f % 4 ≡ 0 → n ≡ f + r → at + r - r % 4 ≡ 4 * (n / 4)
+over-place at f r n p q s = omega arith
+
+sizes : (bytes : List ℕ) (items : List Item) (left : Left) (s : Stood Start 0 bytes items left) → length bytes ≡ length s.front + length left.rest
+sizes bytes items left s = ap (λ (b : List ℕ). length b) s.first.whole ∙ length-append s.front left.rest
+
+over-tail : (bytes : List ℕ) (items : List Item) (left : Left) → Stood Start 0 bytes items left → length bytes % 4 ≢ 0 → tail_of left.phase left.at left.rest ≡ Err (NotTetras (4 * (length bytes / 4)))
+over-tail bytes items left s h =
+    let size = sizes bytes items left s in
+    let whole = items-tetras s.first.spelled in
+    let over : (length left.rest % 4 == 0) ≡ false = other-test (length left.rest % 4) 0 (λ e. h (omega (arith, size, whole, e))) in
+    rw over (ap (λ (n : ℕ). Err (NotTetras n)) (over-place left.at (length s.front) (length left.rest) (length bytes) s.place whole size))
+
+cut-place : (bytes : List ℕ) (items : List Item) (left : Left) → Stood Start 0 bytes items left → left.at + length left.rest ≡ length bytes
+cut-place bytes items left s = omega (arith, sizes bytes items left s, s.place)
+
+no-end : (at : ℕ) (rest : List ℕ) (o : Option ℕ) → o ≡ None → counted_tail at rest o ≡ Err (Truncated (at + length rest))
+no-end at rest o e = rw e refl
+
+cut-behind : (phase : Phase) (at : ℕ) (rest : List ℕ) → (phase ≡ Ended → end_count (drop (length rest - 4) rest) ≡ None) → tail_behind phase at rest ≡ Err (Truncated (at + length rest))
+cut-behind Ended at rest h = no-end at rest (end_count (drop (length rest - 4) rest)) (h refl)
+cut-behind Start at rest h = refl
+cut-behind Middle at rest h = refl
+cut-behind Posted at rest h = refl
+
+-- the lopcode `end` that stands last
+ends-with : (bytes : List ℕ) (items : List Item) (left : Left) (s : Stood Start 0 bytes items left) (count : ℕ) → AreBytes left.rest → left.phase ≡ Ended →
+    end_count (drop (length left.rest - 4) left.rest) ≡ Some count → EndsWith bytes (take (length left.rest - 4) left.rest) count
+ends-with bytes items left s count b p e =
+    let n = length left.rest - 4 in
+    let k = counts (drop n left.rest) count (bytes-behind n left.rest b) (sym e) in
+    let split : left.rest ≡ take n left.rest ++ wide_lop 12 count = sym (take-append-drop n left.rest) ∙ ap (λ x. take n left.rest ++ x) k.is in
+    record {
+      items = items;
+      front = s.front;
+      first = subst (λ (r : List ℕ). StandFirst Start bytes items s.front r) split s.first;
+      all = sym s.end ∙ p;
+      most = k.most;
+    }
+
+no-count : (o : Option ℕ) → ((count : ℕ) → ¬ (o ≡ Some count)) → o ≡ None
+no-count None h = refl
+no-count (Some count) h = absurd (h count refl)
+
+cut-tail : (bytes : List ℕ) (items : List Item) (left : Left) → Stood Start 0 bytes items left → AreBytes bytes → length bytes % 4 ≡ 0 → ((trie : List ℕ) (count : ℕ) → ¬ EndsWith bytes trie count) →
+    tail_of left.phase left.at left.rest ≡ Err (Truncated (length bytes))
+cut-tail bytes items left s b h n =
+    let size = sizes bytes items left s in
+    let front = items-tetras s.first.spelled in
+    let whole : length left.rest % 4 ≡ 0 = omega (arith, size, front, h) in
+    let each = left-bytes s.front left.rest bytes s.first.whole b in
+    rw whole (cut-behind left.phase left.at left.rest (λ p. no-count _ (λ count e. n _ count (ends-with bytes items left s count each p e)))
+    ∙ ap (λ (k : ℕ). Err (Truncated k)) (cut-place bytes items left s))
+
+wrong-tail : (at count : ℕ) (trie rest : List ℕ) → length trie % 4 ≡ 0 → length trie ≢ 4 * count → count < 2 ^ 16 → rest ≡ trie ++ wide_lop 12 count →
+    tail_of Ended at rest ≡ Err (BadFields (at + length rest - 4))
+wrong-tail at count trie rest w n m e =
+    let size : length rest ≡ length trie + 4 = ap (λ (x : List ℕ). length x) e ∙ length-append trie (wide_lop 12 count) in
+    let less : length rest - 4 ≡ length trie = omega (arith, size) in
+    let last : drop (length rest - 4) rest ≡ wide_lop 12 count = ap (λ (n : ℕ). drop n rest) less ∙ ap (drop (length trie)) e ∙ drop_at trie (wide_lop 12 count) (length trie) refl in
+    let whole : length rest % 4 ≡ 0 = omega (arith, size, w) in
+    let other : (count == length rest / 4 - 1) ≡ false = other-test count (length rest / 4 - 1) (λ c. n (omega (arith, size, w, c))) in
+    rw (whole, last) (ap (counted_tail at rest) (end-told count m) ∙ rw other refl)
+
+wrong-count : (bytes trie : List ℕ) (count : ℕ) → length bytes ≤ limit → EndsWith bytes trie count → length trie % 4 ≡ 0 → length trie ≢ 4 * count → object_of bytes ≡ Err (BadFields (length bytes - 4))
+wrong-count bytes trie count l e w n =
+    let rest = trie ++ wide_lop 12 count in
+    let size : length bytes ≡ length e.front + length rest = ap (λ (b : List ℕ). length b) e.first.whole ∙ length-append e.front rest in
+    not-long bytes l ∙ ap (λ (v : Walk). object_behind v.0 v.1) (ends-met bytes trie count e)
+    ∙ ap (with_tail e.items) (wrong-tail (length e.front) count trie rest w n e.most refl)
+    ∙ ap (λ (k : ℕ). Err (BadFields (k - 4))) (sym size)
+
+told : {bytes : List ℕ} {fault : MmoFault} → AreBytes bytes → length bytes ≤ limit → FaultOf bytes fault → object_of bytes ≡ Err fault
+told b l (FaultOf.of_item bytes fault i) = not-long bytes l ∙ ap (object_behind (items_of Start 0 bytes).0) (item-fault-met bytes fault i)
+told b l (FaultOf.left_over bytes n h) = end-fault bytes _ b l n (λ items left s. over-tail bytes items left s h)
+told b l (FaultOf.cut_off bytes n h e) = end-fault bytes _ b l n (λ items left s. cut-tail bytes items left s b h e)
+told b l (FaultOf.counted_wrong bytes trie count e w n) = wrong-count bytes trie count l e w n
+
+pub table-only : (bytes : List ℕ) (fault : MmoFault) → AreBytes bytes → length bytes ≤ limit → FaultOf bytes fault → object_fault bytes ≡ Some fault
+table-only bytes fault b l f = ap fault_in (told b l f)
+
+-- each fault is in the table
+record InTable (bytes : List ℕ) : Type 0 where
+  fault : MmoFault
+  is : FaultOf bytes fault
+
+no-fault-met : (bytes : List ℕ) (items : List Item) (left : Left) → items_of Start 0 bytes ≡ (items, Ok left) → Unmet bytes
+no-fault-met bytes items left e f i = let m = item-fault-met bytes f i in let k = ap (λ (w : Walk). w.1) e in cc
+
+not-ended : (bytes : List ℕ) (items : List Item) (left : Left) → items_of Start 0 bytes ≡ (items, Ok left) → left.phase ≢ Ended → (trie : List ℕ) (count : ℕ) → ¬ EndsWith bytes trie count
+not-ended bytes items left e n trie count w =
+    let same : (items, Ok left) ≡ (w.items, Ok (left_behind (length w.front) (trie ++ wide_lop 12 count))) = sym e ∙ ends-met bytes trie count w in
+    n (ap phase_of (ap (λ (v : Walk). v.1) same))
+  where
+    phase_of : Result Left MmoFault → Phase
+    phase_of (Ok left) = left.phase
+    phase_of (Err f) = Start
+
+abbrev rest_in : Result Left MmoFault → List ℕ
+rest_in (Ok left) = left.rest
+rest_in (Err f) = []
+
+not-counted : (bytes : List ℕ) (items : List Item) (left : Left) → items_of Start 0 bytes ≡ (items, Ok left) → end_count (drop (length left.rest - 4) left.rest) ≡ None →
+    (trie : List ℕ) (count : ℕ) → ¬ EndsWith bytes trie count
+not-counted bytes items left e n trie count w =
+    let same : (items, Ok left) ≡ (w.items, Ok (left_behind (length w.front) (trie ++ wide_lop 12 count))) = sym e ∙ ends-met bytes trie count w in
+    let rest : left.rest ≡ trie ++ wide_lop 12 count = ap (λ (v : Walk). rest_in v.1) same in
+    let size : length left.rest ≡ length trie + 4 = ap (λ (x : List ℕ). length x) rest ∙ length-append trie (wide_lop 12 count) in
+    let less : length left.rest - 4 ≡ length trie = omega (arith, size) in
+    let last : drop (length left.rest - 4) left.rest ≡ wide_lop 12 count =
+    ap (λ (n : ℕ). drop n left.rest) less ∙ ap (drop (length trie)) rest ∙ drop_at trie (wide_lop 12 count) (length trie) refl in
+    let some : end_count (drop (length left.rest - 4) left.rest) ≡ Some count = ap end_count last ∙ end-told count w.most in
+    cc (some, n)
+
+by-count : (bytes : List ℕ) (items : List Item) (left : Left) (s : Stood Start 0 bytes items left) (fault : MmoFault) (count : ℕ) (test : Bool) → AreBytes bytes → length bytes ≤ limit →
+    items_of Start 0 bytes ≡ (items, Ok left) → length bytes % 4 ≡ 0 → left.phase ≡ Ended → end_count (drop (length left.rest - 4) left.rest) ≡ Some count →
+    (length (take (length left.rest - 4) left.rest) == 4 * count) ≡ test → object_of bytes ≡ Err fault → InTable bytes
+by-count bytes items left s fault count true b l e h p o t f =
+    let trie = take (length left.rest - 4) left.rest in
+    let w = ends-with bytes items left s count (left-bytes s.front left.rest bytes s.first.whole b) p o in
+    let read = not-long bytes l ∙ ap (λ (v : Walk). object_behind v.0 v.1) (ends-met bytes trie count w)
+    ∙ ap (with_tail w.items) (tail-read (length w.front) count trie (trie ++ wide_lop 12 count) (same-number (length trie) (4 * count) t) w.most refl) in
+    absurd (cc (read, f))
+by-count bytes items left s fault count false b l e h p o t f =
+    let trie = take (length left.rest - 4) left.rest in
+    let size = sizes bytes items left s in
+    let front = items-tetras s.first.spelled in
+    let whole : length trie % 4 ≡ 0 = omega (arith, size, front, h, length-take (length left.rest - 4) left.rest) in
+    let w = ends-with bytes items left s count (left-bytes s.front left.rest bytes s.first.whole b) p o in
+    record { fault = _; is = FaultOf.counted_wrong bytes trie count w whole (other-number (length trie) (4 * count) t) }
+
+by-end : (bytes : List ℕ) (items : List Item) (left : Left) (s : Stood Start 0 bytes items left) (fault : MmoFault) (phase : Phase) (o : Option ℕ) → AreBytes bytes → length bytes ≤ limit →
+    items_of Start 0 bytes ≡ (items, Ok left) → length bytes % 4 ≡ 0 → left.phase ≡ phase → end_count (drop (length left.rest - 4) left.rest) ≡ o → object_of bytes ≡ Err fault → InTable bytes
+by-end bytes items left s fault Ended (Some count) b l e h p o f =
+    by-count bytes items left s fault count (length (take (length left.rest - 4) left.rest) == 4 * count) b l e h p o refl f
+by-end bytes items left s fault Ended None b l e h p o f =
+    record { fault = _; is = FaultOf.cut_off bytes (no-fault-met bytes items left e) h (not-counted bytes items left e o) }
+by-end bytes items left s fault Start o b l e h p c f =
+    record { fault = _; is = FaultOf.cut_off bytes (no-fault-met bytes items left e) h (not-ended bytes items left e (λ q. cc (p, q))) }
+by-end bytes items left s fault Middle o b l e h p c f =
+    record { fault = _; is = FaultOf.cut_off bytes (no-fault-met bytes items left e) h (not-ended bytes items left e (λ q. cc (p, q))) }
+by-end bytes items left s fault Posted o b l e h p c f =
+    record { fault = _; is = FaultOf.cut_off bytes (no-fault-met bytes items left e) h (not-ended bytes items left e (λ q. cc (p, q))) }
+
+by-length : (bytes : List ℕ) (items : List Item) (left : Left) (s : Stood Start 0 bytes items left) (fault : MmoFault) (test : Bool) → AreBytes bytes → length bytes ≤ limit →
+    items_of Start 0 bytes ≡ (items, Ok left) → (length bytes % 4 == 0) ≡ test → object_of bytes ≡ Err fault → InTable bytes
+by-length bytes items left s fault true b l e h f = by-end bytes items left s fault left.phase _ b l e (same-number (length bytes % 4) 0 h) refl refl f
+by-length bytes items left s fault false b l e h f =
+    record { fault = _; is = FaultOf.left_over bytes (no-fault-met bytes items left e) (other-number (length bytes % 4) 0 h) }
+
+by-walk : (bytes : List ℕ) (w : Walk) (fault : MmoFault) → AreBytes bytes → length bytes ≤ limit → items_of Start 0 bytes ≡ w → Stands Start 0 bytes w → object_of bytes ≡ Err fault → InTable bytes
+by-walk bytes (items, Err other) fault b l e s f = record { fault = other; is = FaultOf.of_item bytes other (stopped-fault bytes items other s) }
+by-walk bytes (items, Ok left) fault b l e s f = by-length bytes items left s fault (length bytes % 4 == 0) b l e refl f
+
+same-fault : (bytes : List ℕ) (f g : MmoFault) → object_of bytes ≡ Err f → object_of bytes ≡ Err g → g ≡ f
+same-fault bytes f g p q = let e : ◌≡◌ {A = Result Object MmoFault} (Err g) (Err f) = sym q ∙ p in cc
+
+refused : (r : Result Object MmoFault) (fault : MmoFault) → fault_in r ≡ Some fault → r ≡ Err fault
+refused (Ok object) fault e = absurd (cc)
+refused (Err other) fault e = let is : other ≡ fault = cc in ap (λ f. Err f) is
+
+pub table-found : (bytes : List ℕ) (fault : MmoFault) → AreBytes bytes → length bytes ≤ limit → object_fault bytes ≡ Some fault → FaultOf bytes fault
+table-found bytes fault b l e =
+    let r = refused (object_of bytes) fault e in
+    let t = by-walk bytes (items_of Start 0 bytes) fault b l refl (stands bytes b) r in
+    subst (λ (f : MmoFault). FaultOf bytes f) (same-fault bytes fault t.fault r (told b l t.is)) t.is

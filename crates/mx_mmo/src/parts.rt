@@ -1,0 +1,206 @@
+//! What stands behind a lopcode: tetras, octas, addresses and names.
+
+ghost use Rattle.std.specs.Prelude.{◌≡◌, ◌≢◌, ◌+◌, length};
+ghost use Rattle.mx_mmo.specs.Reading as spec;
+
+use crate::{Item, MmoFault, Octas, Words};
+use mx_word::{Bytes, octa_of, tetra_of};
+use std::alloc::Global;
+
+/// An item with how many bytes it takes; nothing where it is not whole yet.
+pub type Due = Result<Option<(Item, usize)>, MmoFault>;
+
+/// The tetras of bytes; one to three bytes at the end tell none.
+fn tetras_of(alloc: Global, bytes: &[u8]) -> Result<Words, MmoFault>
+    ensures { result ≢ Err MmoFault.OutOfMemory → result ≡ Ok (spec.tetras_of bytes.now) }
+{
+    let mut tetras = Words::new(alloc);
+    let mut rest = bytes;
+    while let [a, b, c, d, others @ ..] = rest {
+        match tetras.push(tetra_of([*a, *b, *c, *d])) {
+            Ok(()) => {}
+            Err(_) => return Err(MmoFault::OutOfMemory),
+        }
+        rest = others;
+    }
+    Ok(tetras)
+}
+
+/// The octas of bytes; one to seven bytes at the end tell none.
+fn octas_of(alloc: Global, bytes: &[u8]) -> Result<Octas, MmoFault>
+    ensures { result ≢ Err MmoFault.OutOfMemory → result ≡ Ok (spec.octas_of bytes.now) }
+{
+    let mut octas = Octas::new(alloc);
+    let mut rest = bytes;
+    while let [a, b, c, d, e, f, g, h, others @ ..] = rest {
+        match octas.push(octa_of([*a, *b, *c, *d, *e, *f, *g, *h])) {
+            Ok(()) => {}
+            Err(_) => return Err(MmoFault::OutOfMemory),
+        }
+        rest = others;
+    }
+    Ok(octas)
+}
+
+/// Bytes without the zeros at their end.
+fn trimmed(bytes: &[u8]) -> &[u8]
+    ensures { result.now ≡ spec.trimmed bytes.now }
+{
+    let mut name = bytes;
+    while let [front @ .., last] = name {
+        if *last != 0 {
+            return name;
+        }
+        name = front;
+    }
+    name
+}
+
+/// `pre` with so many tetras behind it.
+pub fn pre_item(alloc: Global, z: u8, more: &[u8]) -> Due
+    ensures { result ≢ Err MmoFault.OutOfMemory → result ≡ spec.pre_item z more.now }
+{
+    let size = 4 * usize::from(z);
+    if more.len() < size {
+        return Ok(None);
+    }
+    match tetras_of(alloc, &more[..size]) {
+        Ok(tetras) => Ok(Some((Item::Pre(tetras), 4 + size))),
+        Err(fault) => Err(fault),
+    }
+}
+
+/// A tetra behind a quote.
+pub fn quoted_item(more: &[u8]) -> Due
+    ensures { result ≡ spec.on_tetra spec.quoted_tetra more.now }
+{
+    match more {
+        [a, b, c, d, ..] => Ok(Some((Item::Load(tetra_of([*a, *b, *c, *d])), 8))),
+        _ => Ok(None),
+    }
+}
+
+/// An address whose high byte is told, with a tetra behind it.
+fn short_address(y: u8, more: &[u8]) -> Result<Option<(u64, usize)>, MmoFault>
+    ensures { result ≡ spec.on_tetra (spec.short_address y) more.now }
+{
+    match more {
+        [a, b, c, d, ..] => {
+            let low = u64::from(tetra_of([*a, *b, *c, *d]));
+            Ok(Some((u64::from(y) * (1 << 56) + low, 8)))
+        }
+        _ => Ok(None),
+    }
+}
+
+/// An address in an octa, to which the high byte is added; addresses are modulo 2^64.
+fn long_address(y: u8, more: &[u8]) -> Result<Option<(u64, usize)>, MmoFault>
+    ensures { result ≡ spec.on_octa (spec.long_address y) more.now }
+{
+    match more {
+        [a, b, c, d, e, f, g, h, ..] => {
+            let octa = octa_of([*a, *b, *c, *d, *e, *f, *g, *h]);
+            Ok(Some(((u64::from(y) * (1 << 56)).wrapping_add(octa), 12)))
+        }
+        _ => Ok(None),
+    }
+}
+
+/// An address, with how many bytes it takes together with its lopcode.
+fn address_due(at: u64, y: u8, z: u8, more: &[u8]) -> Result<Option<(u64, usize)>, MmoFault>
+    ensures { result ≡ spec.address_due at y z more.now }
+{
+    match z {
+        1 => short_address(y, more),
+        2 => long_address(y, more),
+        _ => Err(MmoFault::BadFields(at)),
+    }
+}
+
+/// A new address for lambda.
+pub fn loc_item(at: u64, y: u8, z: u8, more: &[u8]) -> Due
+    ensures { result ≡ spec.item_due (λ a. Item.Loc a) (spec.address_due at y z more.now) }
+{
+    match address_due(at, y, z, more) {
+        Ok(Some((address, size))) => Ok(Some((Item::Loc(address), size))),
+        Ok(None) => Ok(None),
+        Err(fault) => Err(fault),
+    }
+}
+
+/// An address where lambda is joined.
+pub fn fixo_item(at: u64, y: u8, z: u8, more: &[u8]) -> Due
+    ensures { result ≡ spec.item_due (λ a. Item.FixOcta a) (spec.address_due at y z more.now) }
+{
+    match address_due(at, y, z, more) {
+        Ok(Some((address, size))) => Ok(Some((Item::FixOcta(address), size))),
+        Ok(None) => Ok(None),
+        Err(fault) => Err(fault),
+    }
+}
+
+/// A far fix of so many bits, whose tetra begins with 0 or 1.
+pub fn far_item(at: u64, bits: u8, more: &[u8]) -> Due
+    ensures { result ≡ spec.on_tetra (spec.far_tetra at bits) more.now }
+{
+    match more {
+        [a, b, c, d, ..] => {
+            let word = tetra_of([*a, *b, *c, *d]);
+            if word < 1 << 25 {
+                Ok(Some((Item::FixFar { bits, word }, 8)))
+            } else {
+                Err(MmoFault::BadFields(at))
+            }
+        }
+        _ => Ok(None),
+    }
+}
+
+/// A file whose name stands in these bytes, with zeros behind it.
+fn named_file(alloc: Global, at: u64, number: u8, bytes: &[u8]) -> Due
+    ensures { result ≢ Err MmoFault.OutOfMemory →
+        result ≡ spec.named_file at number (4 + length bytes.now) (spec.trimmed bytes.now) }
+{
+    let name = trimmed(bytes);
+    if name.is_empty() {
+        return Err(MmoFault::BadFields(at));
+    }
+    match Bytes::copy(alloc, name) {
+        Ok(name) => Ok(Some((
+            Item::File {
+                number,
+                name: Some(name),
+            },
+            4 + bytes.len(),
+        ))),
+        Err(_) => Err(MmoFault::OutOfMemory),
+    }
+}
+
+/// A file with so many tetras of its name behind it.
+pub fn file_item(alloc: Global, at: u64, number: u8, z: u8, more: &[u8]) -> Due
+    ensures { result ≢ Err MmoFault.OutOfMemory → result ≡ spec.file_item at number z more.now }
+{
+    if z == 0 {
+        return Ok(Some((Item::File { number, name: None }, 4)));
+    }
+    let size = 4 * usize::from(z);
+    if more.len() < size {
+        return Ok(None);
+    }
+    named_file(alloc, at, number, &more[..size])
+}
+
+/// `post` with the values of $g to $255 behind it.
+pub fn post_item(alloc: Global, g: u8, more: &[u8]) -> Due
+    ensures { result ≢ Err MmoFault.OutOfMemory → result ≡ spec.post_item g more.now }
+{
+    let size = 8 * (256 - usize::from(g));
+    if more.len() < size {
+        return Ok(None);
+    }
+    match octas_of(alloc, &more[..size]) {
+        Ok(values) => Ok(Some((Item::Post { g, values }, 4 + size))),
+        Err(fault) => Err(fault),
+    }
+}

@@ -1,0 +1,191 @@
+//! The hidden octas: a list of all of them, and the stack area, where the older ones stand too.
+
+ghost use Rattle.std.specs.Prelude.{◌≡◌, ◌≤◌, ◌<◌, ◌+◌, ◌-◌, ◌^◌, ◌++◌, [], IfOk, OnErr, Err, length, replicate, slice_index};
+ghost use Rattle.std.specs.Vec.{vec_len, vec_capacity};
+ghost use Rattle.mx_word.specs.Lists.{with_part};
+ghost use Rattle.mx_ring.specs.HiddenPart.{octas_of, with_hidden, with_spilled, with_room, with_first, with_stack_first, with_octa, nothing_hidden, zeros};
+
+use crate::RingFault;
+use crate::slices::put;
+use std::alloc::{AllocError, Global};
+use std::marker::Model;
+
+/// How many octas the stack area has, which is also how many hidden and local registers there may be.
+pub(crate) const ROOM: usize = 1 << 20;
+
+/// The hidden octas and the stack area.
+#[derive(Drop)]
+pub(crate) struct Hidden {
+    octas: Vec<u64>,
+    stack: Vec<u64>,
+    spilled: usize,
+}
+
+impl Model for Hidden {
+    ghost use Rattle.mx_ring.specs.HiddenPart.{HiddenPart};
+
+    ghost Value = { HiddenPart };
+
+    ghost use Rattle.mx_ring.specs.Parts.{part_in, HoldsHidden};
+
+    ghost view = { part_in };
+
+    ghost invariant = { HoldsHidden };
+}
+
+/// Appends items to a list that has room for them.
+#[inline(always)]
+fn append(list: &mut Vec<u64>, items: &[u64])
+    requires { vec_len list.old + length items.now ≤ vec_capacity list.old }
+    ensures items { list.new.items ≡ list.old.items ++ items.now }
+    ensures capacity { vec_capacity list.old ≤ vec_capacity list.new }
+{
+    let Ok(()) = list.extend_from_slice(items) else {
+        unreachable!()
+    };
+}
+
+/// Other items in place of as many of a list from `place` on.
+#[inline(always)]
+fn write(list: &mut Vec<u64>, place: usize, items: &[u64])
+    requires { place + length items.now ≤ vec_len list.old }
+    ensures { list.new.items ≡ with_part list.old.items place items.now }
+{
+    put(list, place, items);
+}
+
+/// So many zeros.
+#[tactic(auto, unfolding(crate::specs::HiddenPart::zeros))]
+fn zeros(alloc: Global, n: usize) -> Result<Vec<u64>, AllocError>
+    ensures zeros { IfOk result (λ v. v.items ≡ zeros n) }
+    ensures count { IfOk result (λ v. length v.items ≡ n) }
+{
+    let zeros = vec![in alloc; 0u64; n]?;
+    Ok(zeros)
+}
+
+#[tactic(auto, unfolding(crate::specs::HiddenPart::with_spilled, crate::specs::HiddenPart::with_room, crate::specs::HiddenPart::with_first))]
+impl Hidden {
+    /// Nothing is hidden, and the stack area has zeros. The room for all octas is taken at once.
+    pub(crate) fn new(alloc: Global) -> Result<Hidden, RingFault>
+        ensures begin { IfOk result (λ h. h ≡ nothing_hidden) }
+        ensures memory { OnErr result (result ≡ Err RingFault.OutOfMemory) }
+    {
+        Ok(Hidden {
+            octas: Vec::with_capacity(alloc, ROOM)?,
+            stack: zeros(alloc, ROOM)?,
+            spilled: 0,
+        })
+    }
+
+    /// The number of hidden octas.
+    #[inline(always)]
+    pub(crate) fn len(&self) -> usize
+        ensures value { result ≡ length (octas_of self.now) }
+        ensures room { result ≤ 2 ^ 20 }
+        ensures parts { result ≡ self.now.spilled + length self.now.resident }
+    {
+        self.octas.len()
+    }
+
+    /// The number of hidden octas in the stack area.
+    #[inline(always)]
+    pub(crate) fn spilled(&self) -> usize
+        ensures { result ≡ self.now.spilled }
+    {
+        self.spilled
+    }
+
+    /// The hidden octas, the oldest first.
+    #[inline(always)]
+    pub(crate) fn octas(&self) -> &[u64]
+        ensures { result.now ≡ octas_of self.now }
+    {
+        self.octas.as_slice()
+    }
+
+    /// The octas of the stack area.
+    #[inline(always)]
+    pub(crate) fn stack(&self) -> &[u64]
+        ensures { result.now ≡ self.now.stack }
+    {
+        self.stack.as_slice()
+    }
+
+    /// Hides octas.
+    #[inline]
+    pub(crate) fn append(&mut self, octas: &[u64])
+        requires { length (octas_of self.old) + length octas.now ≤ 2 ^ 20 }
+        ensures { self.new ≡ with_hidden self.old octas.now }
+    {
+        append(&mut self.octas, octas);
+    }
+
+    /// After a growth, where the ring has a number of registers and `l` of them are local: what
+    /// stands above that number less one goes to the stack area.
+    #[inline(always)]
+    pub(crate) fn make_room(&mut self, l: usize, registers: usize)
+        requires locals { l < 256 }
+        requires registers { 256 ≤ registers }
+        ensures { self.new ≡ with_room self.old l registers }
+    {
+        let count = self.octas.len() - self.spilled + l;
+        if count >= registers {
+            self.spill(count + 1 - registers);
+        }
+    }
+
+    /// The `n` oldest octas that are not in the stack area go there.
+    #[inline(never)]
+    pub(crate) fn spill(&mut self, n: usize)
+        requires { n ≤ length self.old.resident }
+        ensures { self.new ≡ with_spilled self.old n }
+    {
+        let end = self.spilled + n;
+        write(
+            &mut self.stack,
+            self.spilled,
+            &self.octas[self.spilled..end],
+        );
+        self.spilled = end;
+    }
+
+    /// All octas that are not in the stack area go there.
+    pub(crate) fn spill_all(&mut self)
+        ensures { self.new ≡ with_spilled self.old (length self.old.resident) }
+    {
+        let n = self.octas.len() - self.spilled;
+        self.spill(n);
+    }
+
+    /// Only the first `n` octas stay hidden.
+    #[inline]
+    pub(crate) fn keep_first(&mut self, n: usize)
+        ensures { self.new ≡ with_first self.old n }
+    {
+        self.octas.truncate(n);
+        self.spilled = self.spilled.min(n);
+    }
+
+    /// The first `n` octas of the stack area are the hidden ones.
+    pub(crate) fn take_stack(&mut self, n: usize)
+        requires { n ≤ 2 ^ 20 }
+        ensures { self.new ≡ with_stack_first self.old n }
+    {
+        let start = n.min(self.spilled);
+        self.octas.truncate(start);
+        append(&mut self.octas, &self.stack[start..n]);
+        self.spilled = n;
+    }
+
+    /// Overwrites an octa of the stack area.
+    pub(crate) fn set_octa(&mut self, i: usize, x: u64)
+        requires { i < 2 ^ 20 }
+        ensures { self.new ≡ with_octa self.old i x }
+    {
+        if i < self.spilled {
+            self.octas[i] = x;
+        }
+        self.stack[i] = x;
+    }
+}

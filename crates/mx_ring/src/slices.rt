@@ -1,0 +1,33 @@
+//! Pieces of slices that are written in place.
+
+ghost use Rattle.std.specs.Prelude.{◌≡◌, ◌≤◌, ◌+◌, ◌-◌, ◌++◌, length, take, drop};
+ghost use Rattle.mx_word.specs.Lists.{with_part};
+ghost use Rattle.mx_ring.specs.Parts.{with_zeros_at};
+
+/// Zeros in place of what stands from `from` up to `to`.
+pub(crate) fn clear(items: &mut [u64], from: usize, to: usize)
+    requires forward { from ≤ to }
+    requires inside { to ≤ length items.old }
+    ensures { items.new ≡ with_zeros_at items.old from to }
+{
+    items[from..to].fill(0);
+}
+
+/// Other items in place of as many from `place` on.
+pub(crate) fn put(items: &mut [u64], place: usize, others: &[u64])
+    requires { place + length others.now ≤ length items.old }
+    ensures { items.new ≡ with_part items.old place others.now }
+{
+    items[place..place + others.len()].copy_from_slice(others);
+}
+
+/// What stands from `from` up to `to`, once more from `place` on.
+pub(crate) fn copy(items: &mut [u64], from: usize, to: usize, place: usize)
+    requires forward { from ≤ to }
+    requires inside { to ≤ length items.old }
+    requires fits { place + (to - from) ≤ length items.old }
+    ensures { items.new
+        ≡ take place items.old ++ take (to - from) (drop from items.old) ++ drop (place + (to - from)) items.old }
+{
+    items.copy_within(from..to, place);
+}

@@ -1,0 +1,190 @@
+//! The registers that an instruction sees, in one array of what each of them has.
+
+ghost use Rattle.std.specs.Prelude.{◌≡◌, ◌≤◌, ◌<◌, ◌+◌, true, false, length, take};
+ghost use Rattle.mx_ring.specs.Bounds.{AreInBounds};
+ghost use Rattle.mx_ring.specs.Registers.{registers_at_start, is_marginal, value_of, with_value, with_locals_cut, with_globals_from, push_number, registers_below, registers_from, with_returned};
+
+use crate::results::bring_back;
+use crate::slices::{clear, copy, put};
+use std::marker::Model;
+
+/// The 256 registers: what each of them has, L and G.
+#[derive(Drop)]
+pub(crate) struct Visible {
+    values: [u64; 256],
+    local_count: usize,
+    first_global: usize,
+}
+
+impl Model for Visible {
+    ghost use Rattle.mx_ring.specs.Registers.{Registers};
+
+    ghost Value = { Registers };
+
+    ghost use Rattle.mx_ring.specs.Parts.{registers_in, HoldsRegisters};
+
+    ghost view = { registers_in };
+
+    ghost invariant = { HoldsRegisters };
+}
+
+#[tactic(auto, unfolding(crate::specs::Registers::value_of, crate::specs::Registers::with_value))]
+impl Visible {
+    /// None is local, and $255 alone is global.
+    pub(crate) fn new() -> Visible
+        ensures { result ≡ registers_at_start }
+    {
+        Visible {
+            values: [0; 256],
+            local_count: 0,
+            first_global: 255,
+        }
+    }
+
+    /// L, the number of local registers.
+    #[inline(always)]
+    pub(crate) fn local_count(&self) -> usize
+        ensures value { result ≡ length self.now.locals }
+        ensures bounds { AreInBounds self.now }
+    {
+        self.local_count
+    }
+
+    /// G, the number of the first global register.
+    #[inline(always)]
+    pub(crate) fn first_global(&self) -> usize
+        ensures value { result ≡ self.now.first_global }
+        ensures bounds { AreInBounds self.now }
+    {
+        self.first_global
+    }
+
+    /// What $k has.
+    #[inline(always)]
+    pub(crate) fn get(&self, k: u8) -> u64
+        ensures { result ≡ value_of self.now k }
+    {
+        self.values[usize::from(k)]
+    }
+
+    /// Whether $k is neither global nor local.
+    #[inline(always)]
+    pub(crate) fn is_marginal(&self, k: u8) -> bool
+        ensures { result ≡ is_marginal self.now k }
+    {
+        let k = usize::from(k);
+        k < self.first_global && self.local_count <= k
+    }
+
+    /// Gives a local or global $k a value.
+    #[inline(always)]
+    pub(crate) fn set(&mut self, k: u8, x: u64)
+        requires { is_marginal self.old k ≡ false }
+        ensures { self.new ≡ with_value self.old k x }
+    {
+        self.values[usize::from(k)] = x;
+    }
+
+    /// Makes a $k local that is neither local nor global, with this value and zeros between.
+    pub(crate) fn add(&mut self, k: u8, x: u64)
+        requires { is_marginal self.old k ≡ true }
+        ensures { self.new ≡ with_value self.old k x }
+    {
+        let k = usize::from(k);
+        self.values[k] = x;
+        self.local_count = k + 1;
+    }
+
+    /// L falls to `l`.
+    pub(crate) fn cut(&mut self, l: usize)
+        requires { l ≤ length self.old.locals }
+        ensures { self.new ≡ with_locals_cut self.old l }
+    {
+        clear(&mut self.values, l, self.local_count);
+        self.local_count = l;
+    }
+
+    /// G becomes `g`. A register that is global only before or only afterwards is 0.
+    pub(crate) fn set_globals_from(&mut self, g: usize)
+        requires least { 32 ≤ g }
+        requires most { g ≤ 255 }
+        requires not_local { length self.old.locals ≤ g }
+        ensures { self.new ≡ with_globals_from self.old g }
+    {
+        let end = g.max(self.first_global);
+        clear(&mut self.values, self.first_global, end);
+        self.first_global = g;
+    }
+
+    /// The number that PUSH with `x` hides, which is also how many registers it hides below it.
+    #[inline(always)]
+    pub(crate) fn push_number(&self, x: u8) -> usize
+        ensures number { result ≡ push_number self.now x }
+        ensures below { result ≤ self.now.first_global }
+    {
+        let x = usize::from(x);
+        if x < self.first_global {
+            x
+        } else {
+            self.local_count
+        }
+    }
+
+    /// The first `n` registers.
+    #[inline]
+    pub(crate) fn below(&self, n: usize) -> &[u64]
+        requires { n ≤ self.now.first_global }
+        ensures { result.now ≡ registers_below self.now n }
+    {
+        &self.values[..n]
+    }
+
+    /// The global registers.
+    pub(crate) fn globals(&self) -> &[u64]
+        ensures { result.now ≡ self.now.globals }
+    {
+        &self.values[self.first_global..]
+    }
+
+    /// The first `n` locals are gone, and what follows them becomes $0 and so on.
+    #[inline]
+    pub(crate) fn keep_from(&mut self, n: usize)
+        ensures { self.new ≡ registers_from self.old n }
+    {
+        let count = self.local_count.saturating_sub(n);
+        copy(
+            &mut self.values,
+            self.local_count - count,
+            self.local_count,
+            0,
+        );
+        clear(&mut self.values, count, self.local_count);
+        self.local_count = count;
+    }
+
+    /// Octas come back as $0 and so on, and the results of POP with `x` follow them, at most G
+    /// registers in all.
+    pub(crate) fn bring_back(&mut self, octas: &[u64], x: usize)
+        ensures { self.new ≡ with_returned self.old octas.now x }
+    {
+        let room = self.first_global;
+        let local_count = self.local_count;
+        self.local_count = bring_back(&mut self.values[..room], local_count, octas, x);
+    }
+
+    /// The registers become those with this G, these globals and these locals, as far as they are
+    /// below G.
+    pub(crate) fn restore(&mut self, first_global: usize, locals: &[u64], globals: &[u64])
+        requires least { 32 ≤ first_global }
+        requires all { first_global + length globals.now ≡ 256 }
+        requires some { 0 < length globals.now }
+        ensures { self.new ≡ record { locals = take first_global locals.now; first_global = first_global; globals = globals.now } }
+    {
+        let count = first_global.min(locals.len());
+        put(&mut self.values, 0, &locals[..count]);
+        clear(&mut self.values, count, first_global);
+        put(&mut self.values, first_global, globals);
+        self.first_global = first_global;
+        self.local_count = count;
+    }
+}

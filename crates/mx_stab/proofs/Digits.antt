@@ -1,0 +1,99 @@
+-- Numbers, and how many digits they take.
+use Rattle.std.proofs.Common.{◌≡◌, ℕ, suc, ◌+◌, ◌*◌, ◌^◌, ◌<◌, ◌≤◌, ◌==◌, Bool, true, false, cond, List, [], ◌∷◌, ◌++◌, length, arith, refl, sym, ap, ◌∙◌, subst, inl, inr}
+use Rattle.std.proofs.Math.Nat.{add-mul, mul_assoc, mul_comm, mul-le-mul_right, pow-le-pow_right, pow-zero}
+use Rattle.std.proofs.lemmas.Bool.{cases_lt, eqb-true, eqb-false}
+use Rattle.std.proofs.lemmas.Grind.{pow_more}
+use Rattle.mx_word.specs.Ranges.{AreBytes}
+use Rattle.mx_stab.specs.Grammar.{AreBelow, number, number_behind}
+use Rattle.mx_stab.specs.Numbers.{fewest_digits}
+
+one-more : (base x p : ℕ) → x * (p * base) ≡ x * base * p
+one-more base x p = ap (λ n. x * n) (mul_comm p base) ∙ sym (mul_assoc x base p)
+
+no-power : (base : ℕ) → base ^ 0 ≡ 1
+no-power base = pow-zero base
+
+no-digits : (base x : ℕ) → x * base ^ 0 ≡ x
+no-digits base x = ap (λ n. x * n) (no-power base) ∙ omega arith
+
+power : (base : ℕ) (n : ℕ) → base ^ suc n ≡ base ^ n * base
+power base n = ap (λ m. base ^ m) (omega arith) ∙ pow_more base n
+
+-- digits behind a number tell no less than that number with as many zeros
+pub number-least : (base x : ℕ) (ds : List ℕ) → x * base ^ length ds ≤ number_behind base x ds
+number-least base x [] = omega (arith, no-digits base x)
+number-least base x (d ∷ more) =
+    let rest = number-least base (x * base + d) more in
+    let grown : x * base * base ^ length more ≤ (x * base + d) * base ^ length more = mul-le-mul_right (base ^ length more) (omega arith) in
+    let same : x * base ^ length (d ∷ more) ≡ x * base * base ^ length more = ap (λ n. x * n) (power base (length more)) ∙ one-more base x (base ^ length more) in
+    omega (arith, rest, grown, same)
+
+-- and less than the next number with as many zeros
+pub number-most : (base x : ℕ) (ds : List ℕ) → AreBelow base ds → number_behind base x ds < (x + 1) * base ^ length ds
+number-most base x [] b = omega (arith, no-digits base (x + 1))
+number-most base x (d ∷ more) b =
+    let rest = number-most base (x * base + d) more b.1 in
+    let next : x * base + d + 1 ≤ (x + 1) * base = omega (arith, b.0, add-mul x 1 base) in
+    let grown : (x * base + d + 1) * base ^ length more ≤ (x + 1) * base * base ^ length more = mul-le-mul_right (base ^ length more) next in
+    let same : (x + 1) * base ^ length (d ∷ more) ≡ (x + 1) * base * base ^ length more = ap (λ n. (x + 1) * n) (power base (length more)) ∙ one-more base (x + 1) (base ^ length more) in
+    omega (arith, rest, grown, same)
+
+pub number-power : (base : ℕ) (ds : List ℕ) → AreBelow base ds → number base ds < base ^ length ds
+number-power base ds b = omega (arith, number-most base 0 ds b, one-times (base ^ length ds))
+  where
+    one-times : (p : ℕ) → (0 + 1) * p ≡ p
+    one-times p = omega arith
+
+-- few bytes tell a small number
+pub number-below : (bytes : List ℕ) (i j : ℕ) → AreBytes bytes → length bytes ≤ i → 256 ^ i ≤ 2 ^ j → number 256 bytes < 2 ^ j
+number-below bytes i j b l p =
+    let more : 256 ^ length bytes ≤ 256 ^ i = pow-le-pow_right (omega arith) l in
+    omega (arith, number-power 256 bytes b, more, p)
+
+zero-first : (base e : ℕ) → 0 * base + e ≡ (0 * base + 0) * base + e
+zero-first base e = grind (arith)
+
+-- the zeros in front tell nothing
+pub number-zero : (base e : ℕ) (more : List ℕ) → number base (e ∷ more) ≡ number base (0 ∷ e ∷ more)
+number-zero base e more = ap (λ x. number_behind base x more) (zero-first base e)
+
+-- a number that n digits tell is written in no more than n
+pub fewest-least : (base : ℕ) (ds : List ℕ) (n : ℕ) → 1 ≤ base → 1 ≤ n → number base ds < base ^ n → length (fewest_digits ds) ≤ n
+fewest-least base [] n p l h = omega arith
+fewest-least base (d ∷ []) n p l h = omega arith
+fewest-least base (d ∷ e ∷ more) n p l h = one (d == 0) (eqb-true d 0) (eqb-false d 0) (fewest-least base (e ∷ more) n p l)
+  where
+    short : 1 ≤ d → length (d ∷ e ∷ more) ≤ n
+    short some = elim (cases_lt (length (e ∷ more)) n) [
+      | inl less ↦ omega (arith, less)
+      | inr most ↦
+          let power : base ^ n ≤ base ^ length (e ∷ more) = pow-le-pow_right p most in
+          let least = number-least base (0 * base + d) (e ∷ more) in
+          let one-times : 1 * base ^ length (e ∷ more) ≤ (0 * base + d) * base ^ length (e ∷ more) = mul-le-mul_right (base ^ length (e ∷ more)) (omega arith) in
+          absurd (omega (arith, power, least, one-times, h))
+    ]
+
+    one : (b : Bool) → (b ≡ true → d ≡ 0) → (b ≡ false → d ≡ 0 → ⊥) → (number base (e ∷ more) < base ^ n → length (fewest_digits (e ∷ more)) ≤ n) → length (cond b (fewest_digits (e ∷ more)) (d ∷ e ∷ more)) ≤ n
+    one true is other rest = rest (subst (λ x. x < base ^ n) (sym (number-zero base e more ∙ ap (λ x. number base (x ∷ e ∷ more)) (sym (is refl)))) h)
+    one false is other rest =
+        let some = other refl in
+        short (omega (arith, some))
+
+-- how many digits are left does not hang on the last one
+pub fewest-last : (ds : List ℕ) (a b : ℕ) → length (fewest_digits (ds ++ a ∷ [])) ≡ length (fewest_digits (ds ++ b ∷ []))
+fewest-last [] a b = refl
+fewest-last (d ∷ []) a b = one (d == 0)
+  where
+    one : (t : Bool) → length (cond t (a ∷ []) (d ∷ a ∷ [])) ≡ length (cond t (b ∷ []) (d ∷ b ∷ []))
+    one true = refl
+    one false = refl
+fewest-last (d ∷ e ∷ more) a b = one (d == 0) (fewest-last (e ∷ more) a b)
+  where
+    long : (xs : List ℕ) → length (xs ++ a ∷ []) ≡ length (xs ++ b ∷ [])
+    long [] = refl
+    long (x ∷ xs) = ap suc (long xs)
+
+    one : (t : Bool) → length (fewest_digits ((e ∷ more) ++ a ∷ [])) ≡ length (fewest_digits ((e ∷ more) ++ b ∷ [])) →
+        length (cond t (fewest_digits ((e ∷ more) ++ a ∷ [])) (d ∷ (e ∷ more) ++ a ∷ [])) ≡ length (cond t (fewest_digits ((e ∷ more) ++ b ∷ [])) (d ∷ (e ∷ more) ++ b ∷ []))
+    one true h = h
+    one false h = long (d ∷ e ∷ more)

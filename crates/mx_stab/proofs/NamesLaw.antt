@@ -1,0 +1,64 @@
+-- The symbols of a trie are named.
+use Rattle.std.proofs.Common.{◌≡◌, ℕ, ◌+◌, ◌/◌, ◌%◌, ◌<◌, Bool, true, false, cond, List, [], ◌∷◌, ◌++◌, length, arith, refl, length-append}
+use Rattle.std.specs.Prelude.{nat_lt}
+use Rattle.std.specs.Char.{encode_utf8}
+use Rattle.std.specs.List.{AllByRecursion}
+use Rattle.std.proofs.lemmas.Bool.{lt-ltb, ltb-true}
+use Rattle.mx_word.proofs.Ranges.{bytes-append}
+use Rattle.mx_word.specs.Ranges.{AreBytes}
+use Rattle.mx_word.specs.declared.symbols.Symbol.{Symbol}
+use Rattle.mx_word.specs.declared.symbols.Value.{Value}
+use Rattle.mx_stab.specs.Characters.{wide_number}
+use Rattle.mx_stab.specs.Grammar as grammar
+use Rattle.mx_stab.specs.Grammar.{AreDistinct, IsSubtrie, IsTrie, SpellsCharacter, SpellsValue}
+use Rattle.mx_stab.specs.Order.{IsNamed, IsValue}
+use Rattle.mx_stab.proofs.Digits.{number-below}
+use Rattle.mx_stab.proofs.Orders.{all-both}
+use Rattle.mx_stab.proofs.Whole.{serial-fits}
+
+-- the UTF-8 form of a number of two bytes
+record AreName (bytes : List ℕ) : Type 0 where
+  are : AreBytes bytes
+  some : 0 < length bytes
+
+encoded : (c : ℕ) → c < 65536 → AreName (encode_utf8 c)
+unfolding encode_utf8
+encoded c l = one (nat_lt c 128) (nat_lt c 2048) (nat_lt c 65536) (ltb-true c 128) (ltb-true c 2048) (lt-ltb c 65536 l)
+  where
+    one : (p q r : Bool) → (p ≡ true → c < 128) → (q ≡ true → c < 2048) → r ≡ true →
+        AreName (cond p (c ∷ []) (cond q ((192 + c / 64) ∷ (128 + c % 64) ∷ []) (cond r ((224 + c / 4096) ∷ (128 + c / 64 % 64) ∷ (128 + c % 64) ∷ []) ((240 + c / 262144) ∷ (128 + c / 4096 % 64) ∷ (128 + c / 64 % 64) ∷ (128 + c % 64) ∷ []))))
+    one true q r h k e =
+        let low = h refl in
+        record { are = (omega (arith, low), tt); some = omega arith }
+    one false true r h k e =
+        let low = k refl in
+        record { are = (omega (arith, low), (omega arith, tt)); some = omega arith }
+    one false false true h k e = record { are = (omega (arith, l), (omega arith, (omega arith, tt))); some = omega arith }
+    one false false false h k e = absurd (cc)
+
+character-named : {wide : ℕ} {name character : List ℕ} → SpellsCharacter wide name character → AreName name
+character-named (grammar.SpellsCharacter.one_byte c small) = record { are = (small, tt); some = omega arith }
+character-named (grammar.SpellsCharacter.two_bytes high low h l wide) = encoded (wide_number high low) (omega arith)
+
+value-fits : {kind : ℕ} {value : Value} {bytes : List ℕ} → SpellsValue kind value bytes → IsValue value
+value-fits (grammar.SpellsValue.pure bytes b least most) = number-below bytes 8 64 b most (omega arith)
+value-fits (grammar.SpellsValue.offset bytes b least most) = omega (arith, number-below bytes 6 48 b most (omega arith))
+value-fits (grammar.SpellsValue.register k l) = l
+
+subtrie-named : {l : ℕ} {path bytes : List ℕ} {symbols : List Symbol} → IsSubtrie l path bytes symbols → AreBytes path → AllByRecursion IsNamed symbols
+subtrie-named (grammar.IsSubtrie.none path) b = tt
+subtrie-named (grammar.IsSubtrie.bare path l r left right before after hl hr) b = all-both IsNamed before after (subtrie-named hl b) (subtrie-named hr b)
+subtrie-named (grammar.IsSubtrie.passage path name character wide l r left middle right before below after hc long hl hm hr) b =
+    all-both IsNamed (before ++ below) after (all-both IsNamed before below (subtrie-named hl b) (subtrie-named hm (bytes-append path name b (character-named hc).are))) (subtrie-named hr b)
+subtrie-named (grammar.IsSubtrie.symbol path name character wide l m r kind serial value left told counted middle right before below after hc long hv hs hl hm hr) b =
+    let own : Symbol = record { name = path ++ name; value = value; serial = serial } in
+    let c = character-named hc in
+    let named = bytes-append path name b c.are in
+    all-both IsNamed (before ++ own ∷ below) after
+    (all-both IsNamed before (own ∷ below) (subtrie-named hl b)
+    (record { bytes = named; least = omega (arith, length-append path name, c.some); most = long; value = value-fits hv; serial = serial-fits serial counted hs }, subtrie-named hm named))
+    (subtrie-named hr b)
+
+pub trie-named : (bytes : List ℕ) (symbols : List Symbol) → IsTrie bytes symbols → AreDistinct symbols × AllByRecursion IsNamed symbols
+trie-named _ _ grammar.IsTrie.empty = (tt, tt)
+trie-named _ _ (grammar.IsTrie.whole trie n symbols h few distinct) = (distinct, subtrie-named h tt)
