@@ -60,6 +60,9 @@ def check_links_and_paths():
                     wrong(where, f"there is no crate {name}")
                 if re.match(r"(crates|docs|examples|checks|bench|\.ci)/", name) and not is_there(name):
                     wrong(where, f"there is no {name}")
+            for name, path in re.findall(r"`(\w+)` in `(crates/\S+\.antt)`", line):
+                if not defines(*re.match(r"crates/(\w+)/specs/(\w+)", path).groups(), name):
+                    wrong(where, f"{path} does not define {name}")
 
 
 def crates():
