@@ -87,13 +87,14 @@ fn image_of_rows(alloc: Global, rows: &[Row]) -> Result<Image, LoadFault> {
     loader.finish(Symbols::new(alloc))
 }
 
-/// The image of `first.mms`: `hi` and a newline at #100, and three instructions.
+/// The image of `first.mms`, with a shorter name of its file: `hi` and a newline at #100, and three
+/// instructions.
 fn small(alloc: Global) -> Option<Image> {
     let mut values = Octas::new(alloc);
     values.push(0x104).ok()?;
     let mut symbols = Symbols::new(alloc);
     let name = Bytes::copy(alloc, b":Main").ok()?;
-    let file = Bytes::copy(alloc, b".mms").ok()?;
+    let file = item_of(alloc, Named(0))?;
     symbols
         .push(Symbol {
             name,
@@ -103,10 +104,7 @@ fn small(alloc: Global) -> Option<Image> {
         .ok()?;
     let items = [
         Item::Pre(Words::new(alloc)),
-        Item::File {
-            number: 0,
-            name: Some(file),
-        },
+        file,
         Item::Loc(0x100),
         Item::Line(2),
         Item::Load(0x6869_0a00),
