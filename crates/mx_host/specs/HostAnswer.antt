@@ -87,7 +87,7 @@ read_from m slot len (Open lead mode place) =
 unfoldable pub read_answer : HostModel → ℕ → ℕ → Then (Result (List ℕ) HostFault)
 read_answer m slot len = if is_failing m then (Err Failed, counted m) else read_from (counted m) slot len (slot_at m slot)
 
--- a file's bytes are with_part at the place, and extended; a stream's are appended
+-- a file's bytes are replaced at the place, and extended; a stream's are appended
 abbrev pub write_lead : HostModel → ℕ → List ℕ → Lead → Mode → ℕ → Then (Result (Unit {0}) HostFault)
 write_lead m slot from Input mode place = (Err Misused, m)
 write_lead m slot from Output mode place = (Ok tt, record m { output = m.output ++ from })

@@ -57,7 +57,7 @@ impl Model for MemHost {
 
 impl MemHost {
     /// A host with this standard input and these numbers of failing calls: no files, nothing written,
-    /// no call made, and the slots as a program starts with them. It refuses only for want of memory.
+    /// no call made, and the slots as a program starts with them. It refuses only where it is out of memory.
     pub fn new(alloc: Global, input: Vec<u8>, failing: Vec<u64>) -> Result<MemHost, HostFault>
         ensures model { IfOk result (λ h. h ≡ start_model input.items failing.items) }
         ensures memory { IsOkUnless result HostFault.OutOfMemory }
@@ -75,8 +75,8 @@ impl MemHost {
         })
     }
 
-    /// Puts a file there, in place of one of that name. It is no numbered call, and refuses only for
-    /// want of memory; then nothing changes.
+    /// Puts a file there, in place of one of that name. It is no numbered call, and refuses only where
+    /// it is out of memory; then nothing changes.
     pub fn put_file(&mut self, name: &[u8], bytes: Vec<u8>) -> Result<(), HostFault>
         ensures ok { OnOk result (self.new ≡ with_file self.old name.now bytes.items) }
         ensures err { IfErr result (λ e. (e ≡ HostFault.OutOfMemory) × (self.new ≡ self.old)) }

@@ -36,7 +36,7 @@ impl Writer {
         }
     }
 
-    /// Puts an item behind those that were put. It refuses only for want of memory, and then
+    /// Puts an item behind those that were put. It refuses only where it is out of memory, and then
     /// nothing changed.
     pub fn put(&mut self, item: &Item) -> Result<(), MmoFault>
         requires { Fits item.now }
@@ -55,7 +55,7 @@ impl Writer {
     }
 
     /// The object: what was put, the trie, and the lopcode `end` with the number of the trie's
-    /// tetras. It refuses only for want of memory.
+    /// tetras. It refuses only where it is out of memory.
     pub fn end(self, trie: &[u8]) -> Result<Bytes, MmoFault>
         requires whole { length trie.now % 4 ≡ 0 }
         requires most { length trie.now / 4 < 2 ^ 16 }

@@ -54,7 +54,7 @@ unfolding run
 run-front zero s m = front-self m.output
 run-front (suc k) s m = after-front k m (λ t n. run-front k t n) (step s m) (step-front s m)
 
--- a step that ended the run in want of memory: what it wrote is a front of what the run writes
+-- a step that ended the run out of memory: what it wrote is a front of what the run writes
 pub ended-front : (k : ℕ) (s : ListMachine) (m : HostModel) (xs : List ℕ) → IsFront xs (output_after (step s m)) → IsFront xs (run (suc k) s m).model.output
 unfolding run
 ended-front k s m xs h = on (step s m) h

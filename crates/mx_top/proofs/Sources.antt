@@ -160,7 +160,7 @@ after-reading-front : (object : List ℕ) (m : HostModel) (t : Then (Result (Lis
 after-reading-front object m (Err e, n) h = quiet-front m (e, n) h
 after-reading-front object m (Ok source, n) h = subst (λ xs. IsFront xs (after_reading object (Ok source, n)).1.output) h (opened-front source n object)
 
--- what was written before want of memory is a front of what is written in all
+-- what was written before the program was out of memory is a front of what is written in all
 pub source-front : (m : HostModel) (name : List ℕ) → IsFront m.output (after_source name (file_bytes 1025 name m)).1.output
 source-front m name = after-source-front name m (file_bytes 1025 name m) (file-quiet 1025 m name)
 

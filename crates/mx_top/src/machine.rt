@@ -84,7 +84,7 @@ impl Machine {
     /// The machine at the start of a program with one argument, which is put into the pool.
     ///
     /// Errors: `Stopped` at the first instruction with reason 118 where the argument needs a page
-    /// too many or an address of 2^63 or more, and want of memory.
+    /// too many or an address of 2^63 or more, and out of memory.
     pub fn start(alloc: Global, image: Image, argument: &[u8]) -> Result<Machine, End>
         ensures { let from = of_object (image_of image) in
             result ≢ Err End.OutOfMemory → map_ok state_of result ≡ runs.start_answer (start_address from) (start from argument.now) }

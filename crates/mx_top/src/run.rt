@@ -79,7 +79,7 @@ fn source_image(alloc: Global, text: &[u8]) -> Result<Image, AssemblyFault>
     match assemble(alloc, text) {
         Ok(items) => match load(alloc, items.as_slice(), Symbols::new(alloc)) {
             Ok(image) => Ok(image),
-            // The items of a source have a meaning, so that this is want of memory.
+            // The items of a source have a meaning, so that this is out of memory.
             Err(_) => Err(AssemblyFault::OutOfMemory),
         },
         Err(fault) => Err(fault),
