@@ -8,10 +8,12 @@ pub keeps-then : (a b c : Option HostModel) (k m n : ℕ) → Keeps a b k m → 
 keeps-then a b c k m n first second = record {
   telling = second.telling ∙ first.telling;
   counting = omega (arith, first.counting, second.counting);
-  streams = λ t h. second.streams (subst IsTrue (sym first.telling) t) (first.streams t h);
+  input = λ t h. second.input (subst IsTrue (sym first.telling) t) (first.input t h);
+  output = λ t h. second.output (subst IsTrue (sym first.telling) t) (first.output t h);
+  errors = λ t h. second.errors (subst IsTrue (sym first.telling) t) (first.errors t h);
 }
 
 pub keeps-all : (a : Option HostModel) (k : ℕ) → Keeps a a k k
-keeps-all a k = record { telling = refl; counting = omega arith; streams = λ t h. h }
+keeps-all a k = record { telling = refl; counting = omega arith; input = λ t h. h; output = λ t h. h; errors = λ t h. h }
 
 pub ruleset keeping = (keeps-then, keeps-all)

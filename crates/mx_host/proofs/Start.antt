@@ -6,7 +6,6 @@ use Rattle.std.proofs.lemmas.List.{length-append, length-replicate}
 use Rattle.std.proofs.lemmas.List.Elements.{All-append, All-replicate}
 use Rattle.mx_host.specs.declared.slots.Slot.{Slot}
 use Rattle.mx_host.specs.declared.slots.Slot.TheVariants.{Closed}
-use Rattle.mx_host.specs.Keeping.{HasToolStreams}
 use Rattle.mx_host.specs.HostModel.{HostModel, start_slots, standard_streams, to_input, to_output, to_errors, slot_at, HasStartSlots, Leads}
 
 -- the lists that the start's slots are made of
@@ -33,10 +32,6 @@ unfolding start_slots
 start_slots-leads n = around-leads n 255
 
 -- ---- where the tool's slots lead at the start
-
-pub streams-start : (m : HostModel) → HasStartSlots m → HasToolStreams m
-unfolding start_slots
-streams-start m h = record { input = rw h refl; output = rw h refl; errors = rw h refl }
 
 pub slot_at-start_input : (m : HostModel) → HasStartSlots m → slot_at m 258 ≡ to_input
 unfolding start_slots

@@ -3,21 +3,22 @@
 -- `before` and `after` its counts of faults.
 use Rattle.std.specs.Prelude.{ℕ, IsTrue, ◌≡◌, ◌≢◌, ◌≤◌, Option}
 use Rattle.mx_word.specs.Lists.{IsFront}
+use Rattle.mx_host.specs.declared.slots.Slot.{Slot}
 use Rattle.mx_host.specs.HostModel.{HostModel, tells, contents, counted, slot_at, to_input, to_output, to_errors, Rose}
 use Rattle.mx_host.specs.HostAnswer.{Then}
 
--- slots 258, 259 and 260 lead to the standard streams
-pub record HasToolStreams (m : HostModel) : Type 0 where
-  pub input : slot_at m 258 ≡ to_input
-  pub output : slot_at m 259 ≡ to_output
-  pub errors : slot_at m 260 ≡ to_errors
+-- over a host that tells its contents, a slot that leads somewhere still does
+abbrev pub KeepsSlot : Option HostModel → Option HostModel → ℕ → Slot → Type 0
+KeepsSlot old new slot end = IsTrue (tells old) → slot_at (contents old) slot ≡ end → slot_at (contents new) slot ≡ end
 
 -- what a function always keeps: whether the host tells its contents, a count of faults that never
--- falls, and the tool's streams
+-- falls, and the tool's streams, each where its slot leads to it
 pub record Keeps (old new : Option HostModel) (before after : ℕ) : Type 0 where
   pub telling : tells new ≡ tells old
   pub counting : before ≤ after
-  pub streams : IsTrue (tells old) → HasToolStreams (contents old) → HasToolStreams (contents new)
+  pub input : KeepsSlot old new 258 to_input
+  pub output : KeepsSlot old new 259 to_output
+  pub errors : KeepsSlot old new 260 to_errors
 
 -- over a host that tells its contents, the answer and what the host then holds are those of f, unless
 -- the answer is `none`, which is that of no memory

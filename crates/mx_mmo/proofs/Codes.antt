@@ -1,10 +1,11 @@
 -- Each lopcode by its code byte.
-use Rattle.std.proofs.Common.{◌≡◌, ℕ, Bool, true, false, cond, refl, Some, None}
+use Rattle.std.proofs.Common.{◌≡◌, ℕ, ◌/◌, ◌%◌, ◌^◌, Bool, true, false, cond, arith, refl, Some, None}
 use Rattle.std.specs.Prelude.{Option, ◌==◌}
+use Rattle.mx_mmo.specs.Object.{IsNoLop}
 use Rattle.mx_mmo.specs.Reading.{lop_of}
 use Rattle.mx_mmo.specs.declared.lops.Lop.{Lop}
 use Rattle.mx_mmo.specs.declared.lops.Lop.TheVariants.{Quote, Loc, Skip, Fixo, Fixr, Fixrx, File, Line, Spec, Pre, Post, Stab, End}
-use Rattle.mx_mmo.proofs.Bytes.{same-number}
+use Rattle.mx_word.proofs.Tests.{other-test, same-number}
 
 abbrev pub code_of : Lop → ℕ
 code_of Quote = 0
@@ -44,3 +45,9 @@ told code (Some other) lop h e = let is : other ≡ lop = cc in rw (← is) h
 
 pub lop-code : (code : ℕ) (lop : Lop) → lop_of code ≡ Some lop → code ≡ code_of lop
 lop-code code lop e = told code (lop_of code) lop (has-code code) e
+
+-- the first byte of a tetra that is no lopcode
+pub no-lop-first : (t : ℕ) → IsNoLop t → (t / 2 ^ 24 % 2 ^ 8 == 0x98) ≡ false
+no-lop-first t p =
+    let top : t / 2 ^ 24 % 2 ^ 8 ≡ t / 2 ^ 24 = omega (arith, p.0) in
+    rw top (other-test (t / 2 ^ 24) 0x98 p.1)

@@ -6,7 +6,10 @@ use Rattle.mx_word.specs.Words.{tetra_to_bytes, tetra_from_bytes}
 use Rattle.mx_mmo.specs.Valid.{AreBytes}
 use Rattle.mx_mmo.specs.Object.{EndsSpec, IsNoLop, IsSkipped}
 use Rattle.mx_mmo.specs.Skipping.{quote_behind, four_more, skip_on, skipped, quoted_on, quoted_behind}
-use Rattle.mx_mmo.proofs.Bytes.{all-tests, four-bytes, four-fit, no-lop-first, other-number, same-number, top-byte, take-four, drop-four}
+use Rattle.mx_word.proofs.Tetras.{four-bytes, four-fit, top-byte}
+use Rattle.mx_mmo.proofs.Codes.{no-lop-first}
+use Rattle.mx_word.proofs.Ranges.{take-four, drop-four}
+use Rattle.mx_word.proofs.Tests.{all-tests, other-number, same-number}
 
 -- what is skipped stays so, whatever follows
 abbrev pub SkipGrows : Option ℕ → Option ℕ → Type 0

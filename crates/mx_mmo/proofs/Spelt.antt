@@ -16,7 +16,8 @@ use Rattle.mx_mmo.specs.declared.items.Item.{Item}
 use Rattle.mx_mmo.specs.declared.items.Item.TheVariants.{Load, Loc, Skip, FixOcta, FixNear, FixFar, File, Line, Spec, Pre, Post}
 use Rattle.mx_mmo.specs.declared.due.Phase.{Phase}
 use Rattle.mx_mmo.specs.declared.due.Phase.TheVariants.{Start, Middle, Posted}
-use Rattle.mx_mmo.proofs.Bytes.{tetra-back, octa-back, no-lop-first}
+use Rattle.mx_word.proofs.Tetras.{tetra-back, octa-back}
+use Rattle.mx_mmo.proofs.Codes.{no-lop-first}
 use Rattle.mx_mmo.proofs.Names.{name-back}
 use Rattle.mx_mmo.proofs.Skips.{skipped-all}
 

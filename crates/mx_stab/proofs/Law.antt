@@ -8,7 +8,7 @@ use Rattle.mx_word.specs.Ranges.{AreBytes}
 use Rattle.mx_word.specs.declared.symbols.Symbol.{Symbol}
 use Rattle.mx_stab.specs.Numbers.{value_bytes, kind, serial_bytes}
 use Rattle.mx_stab.specs.Trie.{next_byte, is_last_byte, groups_with, groups_of, bit, has_symbols, nodes, trie, trie_of}
-use Rattle.mx_stab.specs.Order.{InByteOrder, IsNamed}
+use Rattle.mx_word.specs.Symbols.{InByteOrder, IsNamed}
 use Rattle.mx_stab.specs.Grammar.{IsSubtrie, IsTrie}
 use Rattle.mx_stab.specs.Grammar.IsSubtrie.{none, bare, passage, symbol}
 use Rattle.mx_stab.specs.Grammar.IsTrie.{empty, whole}

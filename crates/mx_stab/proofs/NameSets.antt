@@ -14,7 +14,7 @@ use Rattle.mx_word.specs.declared.symbols.Symbol.{Symbol}
 use Rattle.mx_word.specs.declared.symbols.Value.TheVariants.{Pure}
 use Rattle.mx_stab.specs.Grammar.{AreDistinct}
 use Rattle.mx_stab.specs.Names.{is_above, is_key, HasNames}
-use Rattle.mx_stab.specs.Order.{InByteOrder}
+use Rattle.mx_word.specs.Symbols.{InByteOrder}
 use Rattle.mx_stab.specs.Reading.{is_among}
 use Rattle.mx_stab.proofs.Orders.{in-order, in-byte-order, in-order-distinct, order-push}
 

@@ -11,7 +11,7 @@ use Rattle.mx_word.specs.declared.symbols.Value.{Value}
 use Rattle.mx_stab.specs.Characters.{wide_number}
 use Rattle.mx_stab.specs.Grammar as grammar
 use Rattle.mx_stab.specs.Grammar.{AreDistinct, IsSubtrie, IsTrie, SpellsCharacter, SpellsValue}
-use Rattle.mx_stab.specs.Order.{IsNamed, IsValue}
+use Rattle.mx_word.specs.Symbols.{IsNamed, IsValue}
 use Rattle.mx_stab.proofs.Digits.{number-below}
 use Rattle.mx_stab.proofs.Orders.{all-both}
 use Rattle.mx_stab.proofs.Whole.{serial-fits}

@@ -9,7 +9,7 @@ use Rattle.std.proofs.lemmas.Cmp.{nat_list_cmp_total, ranked}
 use Rattle.mx_word.specs.declared.symbols.Symbol.{Symbol}
 use Rattle.mx_stab.specs.Grammar.{AreDistinct}
 use Rattle.mx_stab.specs.Names.{is_above}
-use Rattle.mx_stab.specs.Order.{InByteOrder}
+use Rattle.mx_word.specs.Symbols.{InByteOrder}
 
 pub all-front : {A : Type 0} (P : A → Type 0) (xs ys : List A) → AllByRecursion P (xs ++ ys) → AllByRecursion P xs
 all-front P [] ys h = tt

@@ -9,7 +9,7 @@ use Rattle.mx_stab.specs.Numbers.{fewest_digits, octa_digits, is_offset, value_b
 use Rattle.mx_stab.specs.Grammar.{number, AreBelow, SpellsValue, SpellsSerial}
 use Rattle.mx_stab.specs.Grammar.SpellsValue.{pure, offset, register}
 use Rattle.mx_stab.specs.Grammar.SpellsSerial.{digits}
-use Rattle.mx_stab.specs.Order.{IsValue}
+use Rattle.mx_word.specs.Symbols.{IsValue}
 use Rattle.mx_stab.proofs.Digits.{number-zero}
 
 -- the digits without zeros in front: their bound, their number, and how many they are

@@ -5,7 +5,6 @@ pub mod Grammar
 pub mod Numbers
 pub mod Trie
 pub mod Writing
-pub mod Order
 pub mod Reading
 pub mod Names
 pub mod Due

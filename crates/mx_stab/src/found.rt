@@ -24,7 +24,7 @@ impl Model for Found {
     ghost use Rattle.std.specs.Option.{ForNone, ForSome};
     ghost use Rattle.mx_word.specs.declared.symbols.Symbol.{Symbol};
     ghost use Rattle.mx_stab.specs.Names.{HasNames};
-    ghost use Rattle.mx_stab.specs.Order.{InByteOrder};
+    ghost use Rattle.mx_word.specs.Symbols.{InByteOrder};
 
     ghost Value = { List Symbol };
 

@@ -7,7 +7,7 @@ ghost use Rattle.mx_word.specs.declared.symbols.Symbol.{Symbol};
 ghost use Rattle.mx_word.specs.declared.symbols.Value as values;
 ghost use Rattle.mx_stab.specs.Grammar.{AreDistinct, IsTrie, SpellsSerial, SpellsValue};
 ghost use Rattle.mx_stab.specs.Numbers.{serial_bytes, value_bytes};
-ghost use Rattle.mx_stab.specs.Order.{InByteOrder, IsNamed};
+ghost use Rattle.mx_word.specs.Symbols.{InByteOrder, IsNamed};
 ghost use Rattle.mx_stab.specs.Reading.{trie_answer, trie_fault};
 ghost use Rattle.mx_stab.specs.Trie.{trie_of};
 

@@ -10,7 +10,7 @@ ghost use Rattle.mx_stab.specs.Due.{after_all, after_character, after_due, and_n
 ghost use Rattle.mx_stab.specs.Due.{longer_path, next_point, weight, with_path, LeadsTo};
 ghost use Rattle.mx_stab.specs.Faults.{IsPlaced};
 ghost use Rattle.mx_stab.specs.Grammar.{AreDistinct, IsTrie};
-ghost use Rattle.mx_stab.specs.Order.{IsNamed};
+ghost use Rattle.mx_word.specs.Symbols.{IsNamed};
 ghost use Rattle.mx_stab.specs.Reading as spec;
 
 use crate::StabFault;

@@ -5,7 +5,7 @@ ghost use Rattle.mx_stab.specs.Trie as spec;
 ghost use Rattle.mx_stab.specs.Writing as writing;
 ghost use Rattle.mx_stab.specs.Writing.{bytes_due};
 ghost use Rattle.mx_stab.specs.Grammar.{IsTrie};
-ghost use Rattle.mx_stab.specs.Order.{InByteOrder, IsNamed};
+ghost use Rattle.mx_word.specs.Symbols.{InByteOrder, IsNamed};
 ghost use Rattle.std.specs.List.{AllByRecursion};
 
 use crate::StabFault;

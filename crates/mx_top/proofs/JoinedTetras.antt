@@ -8,7 +8,7 @@ use Rattle.std.proofs.lemmas.Bool.{cases_eq, cases_lt}
 use Rattle.mx_word.specs.Words.{tetra_from_bytes}
 use Rattle.mx_mem.specs.Memory.{byte_in, tetra_byte}
 use Rattle.mx_word.proofs.JoinedTetra.{byte_in-joined}
-use Rattle.mx_word.proofs.Tetras.{tetra-sum, tetra-small}
+use Rattle.mx_word.proofs.Tetras.{tetra-sum, four-fit}
 use Rattle.mx_mmo.specs.Meaning.{with_tetra}
 use Rattle.mx_top.specs.Placements.{placed, from_place}
 
@@ -105,5 +105,5 @@ pub joined-placed : (f : ℕ → ℕ) (x a b c d q : ℕ) → x % 4 ≡ 0 → a 
     byte_in (with_tetra f x (tetra_from_bytes (a ∷ b ∷ c ∷ d ∷ []))) q ≡ bit_xor (byte_in f q) (placed (four x a b c d) q)
 joined-placed f x a b c d q m la lb lc ld =
     let t = tetra_from_bytes (a ∷ b ∷ c ∷ d ∷ []) in
-    ap (λ (g : ℕ → ℕ). g q) (byte_in-joined f x t (tetra-small a b c d la lb lc ld))
+    ap (λ (g : ℕ → ℕ). g q) (byte_in-joined f x t (four-fit a b c d la lb lc ld))
     ∙ ap (bit_xor (byte_in f q)) (tetra-placed x a b c d q m la lb lc ld)

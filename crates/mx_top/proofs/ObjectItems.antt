@@ -21,7 +21,7 @@ use Rattle.mx_top.proofs.Paddings.{padding, padding-length}
 use Rattle.mx_top.proofs.StatementBounds.{plain-small, numbers-short}
 use Rattle.mx_top.proofs.MoreLines.{size_of}
 use Rattle.mx_top.proofs.GoodLines.{Spelt, spelt}
-use Rattle.mx_word.proofs.Tetras.{tetra-small}
+use Rattle.mx_word.proofs.Tetras.{four-fit}
 use Rattle.mx_top.proofs.Paddings.{padding-bytes}
 use Rattle.mx_top.proofs.FairLines.{Fair, all-two, fair-lines, fair-start}
 
@@ -85,7 +85,7 @@ tetras-small [] h = tt
 tetras-small (a ∷ []) h = tt
 tetras-small (a ∷ b ∷ []) h = tt
 tetras-small (a ∷ b ∷ c ∷ []) h = tt
-tetras-small (a ∷ b ∷ c ∷ d ∷ more) h = (tetra-small a b c d h.0 h.1.0 h.1.1.0 h.1.1.1.0, tetras-small more h.1.1.1.1)
+tetras-small (a ∷ b ∷ c ∷ d ∷ more) h = (four-fit a b c d h.0 h.1.0 h.1.1.0 h.1.1.1.0, tetras-small more h.1.1.1.1)
 
 -- tetras are covered as a whole
 covered : (start n size : ℕ) → lowered start + size ≡ raised (start + n) → size % 4 ≡ 0

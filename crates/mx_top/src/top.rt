@@ -1,8 +1,8 @@
 //! The top call.
 
 ghost use Rattle.std.specs.Prelude.{IsTrue, ◌≡◌, ◌≢◌, ◌≤◌, None, map, string_bytes};
-ghost use Rattle.mx_host.specs.Keeping.{Answers, ComesByFault, HasToolStreams, Keeps, KeepsOutput, WritesFront};
-ghost use Rattle.mx_host.specs.HostModel.{tells, contents};
+ghost use Rattle.mx_host.specs.Keeping.{Answers, ComesByFault, Keeps, KeepsOutput, WritesFront};
+ghost use Rattle.mx_host.specs.HostModel.{tells, contents, slot_at, to_errors};
 ghost use Rattle.mx_top.specs.Words.{order_of, one_file, two_files};
 ghost use Rattle.mx_top.specs.Product.{ordered, product, with_message, not_built};
 
@@ -95,7 +95,7 @@ fn tell<H: Host>(alloc: Global, host: &mut H, outcome: Outcome) -> Outcome
     ensures told { Answers (H.told host.old) (H.told host.new) Outcome.OutOfMemory result
         (λ m. with_message (outcome, contents (H.told host.old))) }
     ensures same { result ≢ Outcome.OutOfMemory → result ≡ outcome }
-    ensures output { HasToolStreams (contents (H.told host.old)) → KeepsOutput (H.told host.old) (H.told host.new) }
+    ensures output { slot_at (contents (H.told host.old)) 260 ≡ to_errors → KeepsOutput (H.told host.old) (H.told host.new) }
     ensures keeps { Keeps (H.told host.old) (H.told host.new) (H.faults host.old) (H.faults host.new) }
 {
     let Ok(text) = message(alloc, outcome) else {
@@ -123,7 +123,7 @@ fn tell<H: Host>(alloc: Global, host: &mut H, outcome: Outcome) -> Outcome
 pub fn mmixware<H: Host>(alloc: Global, words: &[String], host: &mut H) -> Outcome
     ensures product { Answers (H.told host.old) (H.told host.new) Outcome.OutOfMemory result
         (λ m. product (map string_bytes words.now) m) }
-    ensures written { HasToolStreams (contents (H.told host.old)) →
+    ensures written { slot_at (contents (H.told host.old)) 260 ≡ to_errors →
         WritesFront (H.told host.old) (H.told host.new) Outcome.OutOfMemory result (λ m. product (map string_bytes words.now) m) }
 
     // Words that are no order are told apart for every host.

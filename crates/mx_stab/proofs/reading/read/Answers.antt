@@ -7,7 +7,7 @@ use Rattle.mx_stab.specs.declared.faults.StabFault.{StabFault}
 use Rattle.mx_stab.specs.declared.faults.StabFault.TheVariants.{Truncated, Padding, Wide, Twice, TooLong, BadSerial, OutOfMemory}
 use Rattle.mx_stab.specs.Faults.{IsPlaced}
 use Rattle.mx_stab.specs.Grammar.{AreDistinct, IsTrie}
-use Rattle.mx_stab.specs.Order.{IsNamed}
+use Rattle.mx_word.specs.Symbols.{IsNamed}
 use Rattle.mx_stab.specs.Reading.{trie_answer}
 use Rattle.mx_stab.proofs.NamesLaw.{trie-named}
 use Rattle.mx_stab.proofs.Places.{fault-placed}

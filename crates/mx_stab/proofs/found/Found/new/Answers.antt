@@ -1,5 +1,5 @@
 use Rattle.std.proofs.Common.{[], sym, subst}
-use Rattle.mx_stab.specs.Order.{InByteOrder}
+use Rattle.mx_word.specs.Symbols.{InByteOrder}
 use Rattle.mx_stab.proofs.Orders.{in-byte-order}
 use Rattle.mx_stab.proofs.found.Found.new.Goals as goal
 

@@ -1,4 +1,4 @@
--- Symbols as a trie is written of them.
+-- Symbols: their names, values and order.
 use Rattle.std.specs.Prelude.{◌^◌, ◌<◌, ◌≤◌, List, length, map}
 use Rattle.std.specs.Cmp.Lexicographic.{slice_cmp}
 use Rattle.std.specs.List.Sorted.{IsStrictlySortedBy}
