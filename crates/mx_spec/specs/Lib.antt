@@ -1,0 +1,2 @@
+pub mod SpecialRegisters
+pub mod Puts

@@ -1,0 +1,9 @@
+//! The call of a file trap.
+
+/// A call of a file trap: the address of the TRAP, its tetra, and the argument, which is what $255 has.
+#[derive(Clone, Copy, Debug, PartialEq, Eq)]
+pub struct TrapCall {
+    pub pc: u64,
+    pub word: u32,
+    pub arg: u64,
+}
