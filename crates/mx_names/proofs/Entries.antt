@@ -15,6 +15,7 @@ use Rattle.std.proofs.lemmas.Bool.{false≢true}
 use Rattle.std.proofs.Math.ListN.{length-map}
 use Rattle.mx_word.specs.declared.symbols.Value.{Value}
 use Rattle.mx_word.specs.declared.symbols.Symbol.{Symbol}
+use Rattle.mx_word.specs.declared.waits.Wait.{Wait}
 use Rattle.mx_ops.specs.Predefined.{predefined_value}
 use Rattle.mx_names.specs.declared.names.Definition.{Definition}
 use Rattle.mx_names.specs.Names.{value_in, symbols_with, first_value, pure_of, value_of_name, with_symbol, NameTable}
@@ -28,8 +29,8 @@ found-step true false v d rest more same value h = cc
 found-step false true v d rest more same value h = cc
 found-step false false v d rest more same value h = h
 
-abbrev tabled : List ℕ → List Value → List Symbol → NameTable
-tabled prefix backs symbols = record { symbols = symbols; prefix = prefix; backs = backs }
+abbrev tabled : List ℕ → List Value → List Wait → List Symbol → NameTable
+tabled prefix backs waiting symbols = record { symbols = symbols; prefix = prefix; backs = backs; waiting = waiting }
 
 abbrev numbered : List ℕ → Value → ℕ → Symbol
 numbered name value serial = record { name = name; value = value; serial = serial }
@@ -67,13 +68,13 @@ module _ {K : Type 0} (bytes : K → List ℕ) where
       put-step Greater false same out rest = ap (λ l. symbol_of (bytes e.0) e.1 ∷ l) (rest out)
 
   -- the symbols after one is put in
-  pub table-put : (es more : List (K × Definition)) (prefix : List ℕ) (backs : List Value) (k : K) (full : List ℕ) (value : Value) (serial : ℕ) (table : NameTable) → tabled prefix backs (symbols_of es) ≡ table → bytes k ≡ full → serial ≡ length es + 1 → value_in full table.symbols ≡ None → more ≡ insert_entry (λ x y. slice_cmp nat_cmp (bytes x) (bytes y)) es k (record { value = value; serial = serial }) → tabled prefix backs (symbols_of more) ≡ with_symbol table full value
-  table-put es more prefix backs k full value serial table is named counted absent grown =
+  pub table-put : (es more : List (K × Definition)) (prefix : List ℕ) (backs : List Value) (waiting : List Wait) (k : K) (full : List ℕ) (value : Value) (serial : ℕ) (table : NameTable) → tabled prefix backs waiting (symbols_of es) ≡ table → bytes k ≡ full → serial ≡ length es + 1 → value_in full table.symbols ≡ None → more ≡ insert_entry (λ x y. slice_cmp nat_cmp (bytes x) (bytes y)) es k (record { value = value; serial = serial }) → tabled prefix backs waiting (symbols_of more) ≡ with_symbol table full value
+  table-put es more prefix backs waiting k full value serial table is named counted absent grown =
       let out : value_in (bytes k) (symbols_of es) ≡ None = ap (λ n. value_in n (symbols_of es)) named ∙ ap (λ (t : NameTable). value_in full t.symbols) is ∙ absent in
       let grew : symbols_of more ≡ symbols_with (symbol_of (bytes k) (record { value = value; serial = serial })) (symbols_of es) = ap symbols_of grown ∙ put-in k (record { value = value; serial = serial }) es out in
-      ap (tabled prefix backs) grew
-      ∙ ap (λ n. tabled prefix backs (symbols_with (numbered n value serial) (symbols_of es))) named
-      ∙ ap (λ n. tabled prefix backs (symbols_with (numbered full value n) (symbols_of es))) (counted ∙ ap (λ n. n + 1) (sym (length-map es (λ e. symbol_of (bytes e.0) e.1))))
+      ap (tabled prefix backs waiting) grew
+      ∙ ap (λ n. tabled prefix backs waiting (symbols_with (numbered n value serial) (symbols_of es))) named
+      ∙ ap (λ n. tabled prefix backs waiting (symbols_with (numbered full value n) (symbols_of es))) (counted ∙ ap (λ n. n + 1) (sym (length-map es (λ e. symbol_of (bytes e.0) e.1))))
       ∙ ap (λ t. with_symbol t full value) is
 
   -- the names in the order of the keys

@@ -1,0 +1,11 @@
+-- One step after another: the first fault counts.
+use Rattle.std.specs.Prelude.{Result, Ok, Err}
+use Rattle.mx_stmt.specs.declared.faults.StmtFault.{StmtFault}
+
+abbrev pub Answer : Type 0 → Type 0
+Answer A = Result A StmtFault
+
+-- a step, and a later one with its value
+abbrev pub and_then : {A B : Type 0} → Answer A → (A → Answer B) → Answer B
+and_then (Err fault) next = Err fault
+and_then (Ok x) next = next x
