@@ -9,6 +9,12 @@ use Rattle.mx_stmt.specs.Steps.{Answer}
 abbrev pub lowest_of : List ℕ → ℕ
 lowest_of gregs = 255 - length gregs
 
+-- A GREG may give its value to the register: it is allocated, or the next one downwards, and it is one of $32 to $254.
+pub record IsAllocable (gregs : List ℕ) (reg : ℕ) : Type 0 where
+  pub next : lowest_of gregs ≤ reg + 1
+  pub least : 32 ≤ reg
+  pub global : reg < 255
+
 -- the value of an allocated register
 abbrev pub greg_value : List ℕ → ℕ → ℕ
 greg_value gregs reg = slice_index gregs (reg - lowest_of gregs)

@@ -1,6 +1,6 @@
 //! The allocated global registers.
 
-ghost use Rattle.std.specs.Prelude.{◌≡◌, ◌+◌, ◌<◌, ◌≤◌, ◌==◌, ℕ, List, [], length, position};
+ghost use Rattle.std.specs.Prelude.{◌≡◌, ◌+◌, ◌<◌, ◌≤◌, ◌==◌, ℕ, List, [], length, min, position, IfOk};
 ghost use Rattle.std.specs.Option.{IfSome};
 ghost use Rattle.mx_stmt.specs.Gregs as spec;
 ghost use Rattle.mx_stmt.specs.declared.gregs.Base.{Base};
@@ -16,11 +16,13 @@ pub struct Gregs {
 }
 
 impl Model for Gregs {
-    ghost use Rattle.std.specs.Prelude.{ℕ, List, drop};
+    ghost use Rattle.std.specs.Prelude.{◌≤◌, ℕ, List, drop};
 
     ghost Value = { List ℕ };
 
     ghost view = { λ g. drop g.lowest g.values };
+
+    ghost invariant = { λ g. 32 ≤ g.lowest };
 }
 
 /// A base register, and how far an address lies above its value, modulo 2^64.
@@ -43,7 +45,8 @@ impl Gregs {
 
     /// The lowest allocated register, or 255 before any is.
     pub fn lowest(&self) -> u8
-        ensures { result ≡ spec.lowest_of self.now }
+        ensures lowest { result ≡ spec.lowest_of self.now }
+        ensures least { 32 ≤ result }
     {
         self.lowest
     }
@@ -59,10 +62,9 @@ impl Gregs {
 
     /// Gives a register its value. It is allocated, or the next one downwards, and at least $32.
     pub fn set(&mut self, reg: u8, value: u64)
-        requires next { spec.lowest_of self.old ≤ reg + 1 }
-        requires least { 32 ≤ reg }
-        requires global { reg < 255 }
-        ensures { self.new ≡ spec.with_greg self.old reg value }
+        requires { spec.IsAllocable self.old reg }
+        ensures registers { self.new ≡ spec.with_greg self.old reg value }
+        ensures lowest { spec.lowest_of self.new ≡ min (spec.lowest_of self.old) reg }
     {
         self.values[usize::from(reg)] = value;
         self.lowest = self.lowest.min(reg);
@@ -71,7 +73,8 @@ impl Gregs {
     /// The register of a GREG with this value: the one that has it, if it is not 0, or the next one
     /// downwards.
     pub(crate) fn register_for(&self, value: u64) -> Result<u8, StmtFault>
-        ensures { result ≡ spec.register_for self.now value }
+        ensures register { result ≡ spec.register_for self.now value }
+        ensures allocable { IfOk result (λ reg. spec.IsAllocable self.now reg) }
     {
         if value == 0 {
             return self.next_register();
@@ -84,7 +87,8 @@ impl Gregs {
 
     /// The allocated register that has a value.
     fn register_of(&self, value: u64) -> Option<u8>
-        ensures { result ≡ spec.register_of_value self.now value }
+        ensures register { result ≡ spec.register_of_value self.now value }
+        ensures allocable { IfSome result (λ reg. spec.IsAllocable self.now reg) }
     {
         match place_of(&self.values[usize::from(self.lowest)..], value) {
             Some(place) => Some(self.lowest + place as u8),
@@ -94,7 +98,8 @@ impl Gregs {
 
     /// The next register downwards.
     fn next_register(&self) -> Result<u8, StmtFault>
-        ensures { result ≡ spec.next_register self.now }
+        ensures register { result ≡ spec.next_register self.now }
+        ensures allocable { IfOk result (λ reg. spec.IsAllocable self.now reg) }
     {
         if self.lowest <= 32 {
             Err(StmtFault::TooManyGregs)
