@@ -25,7 +25,7 @@ use Rattle.mx_stmt.specs.declared.placed.Effect.TheVariants.{Plain, Prefix, Greg
 use Rattle.mx_stmt.specs.declared.placed.Placed.{Placed}
 use Rattle.mx_stmt.specs.declared.faults.StmtFault.TheVariants.{Expr, Operands, BadPlace}
 use Rattle.mx_stmt.specs.Steps.{Answer, and_then}
-use Rattle.mx_stmt.specs.Gregs.{register_for}
+use Rattle.mx_stmt.specs.Gregs.{IsAllocable, register_for}
 use Rattle.mx_stmt.specs.Operands.{Known, Targets, symbol_form, operand_value, register_at, pure_at}
 use Rattle.mx_stmt.specs.Forms.{form, form_by, set_form}
 use Rattle.mx_stmt.specs.Data.{data_form}
@@ -39,6 +39,13 @@ pub record Parsed : Type 0 where
 
 abbrev pub parsed_of : Statement → Parsed
 parsed_of s = record { line = s.line; label = s.label; op = s.op; operands = trees_of s.operands }
+
+-- An effect is possible where the register of a GREG may be given its value.
+abbrev pub IsPossible : List ℕ → Effect → Type 0
+IsPossible gregs Plain = Unit {0}
+IsPossible gregs (Prefix full) = Unit {0}
+IsPossible gregs (Greg reg value) = IsAllocable gregs reg
+IsPossible gregs (Local reg) = Unit {0}
 
 -- `@` is first raised, modulo 2^64, to a multiple of this.
 abbrev pub alignment : Op → ℕ

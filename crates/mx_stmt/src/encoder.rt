@@ -55,7 +55,8 @@ fn with_tetra(
     label: &Option<Label>,
     tetra: Tetra,
 ) -> Result<Placed, StmtFault>
-    ensures { result ≢ Err StmtFault.OutOfMemory → result ≡ spec.with_tetra (known_of env.now) line label.now (Ok tetra) }
+    ensures placed { result ≢ Err StmtFault.OutOfMemory → result ≡ spec.with_tetra (known_of env.now) line label.now (Ok tetra) }
+    ensures effect { IfOk result (λ placed. spec.IsPossible env.now.gregs.now placed.effect) }
 {
     let data = tetra_data(alloc, line, env.at, tetra)?;
     with_bytes(env, label, data)
@@ -71,7 +72,8 @@ fn with_data(
     operands: &[Expr],
 ) -> Result<Placed, StmtFault>
     requires { OperandsHaveDigits operands.now }
-    ensures { result ≢ Err StmtFault.OutOfMemory → result ≡ spec.with_data (known_of env.now) label.now (data_form no_targets (known_of env.now) line (size_bytes size) (trees_of operands.now)) }
+    ensures placed { result ≢ Err StmtFault.OutOfMemory → result ≡ spec.with_data (known_of env.now) label.now (data_form no_targets (known_of env.now) line (size_bytes size) (trees_of operands.now)) }
+    ensures effect { IfOk result (λ placed. spec.IsPossible env.now.gregs.now placed.effect) }
 {
     let data = data_form(alloc, env, line, size, operands)?;
     with_bytes(env, label, data)
@@ -87,7 +89,8 @@ fn pseudo_form(
     operands: &[Expr],
 ) -> Result<Placed, StmtFault>
     requires { OperandsHaveDigits operands.now }
-    ensures { result ≢ Err StmtFault.OutOfMemory → result ≡ spec.pseudo_form no_targets (known_of env.now) line label.now pseudo (trees_of operands.now) }
+    ensures placed { result ≢ Err StmtFault.OutOfMemory → result ≡ spec.pseudo_form no_targets (known_of env.now) line label.now pseudo (trees_of operands.now) }
+    ensures effect { IfOk result (λ placed. spec.IsPossible env.now.gregs.now placed.effect) }
 {
     match pseudo {
         Pseudo::Byte => with_data(alloc, env, line, label, Size::Byte, operands),
@@ -108,7 +111,8 @@ fn op_form(
     operands: &[Expr],
 ) -> Result<Placed, StmtFault>
     requires { OperandsHaveDigits operands.now }
-    ensures { result ≢ Err StmtFault.OutOfMemory → result ≡ spec.op_form no_targets (known_of env.now) line label.now op (trees_of operands.now) }
+    ensures placed { result ≢ Err StmtFault.OutOfMemory → result ≡ spec.op_form no_targets (known_of env.now) line label.now op (trees_of operands.now) }
+    ensures effect { IfOk result (λ placed. spec.IsPossible env.now.gregs.now placed.effect) }
 {
     let tetra = match op {
         Op::Pseudo(pseudo) => return pseudo_form(alloc, env, line, label, pseudo, operands),
@@ -150,7 +154,8 @@ fn place_at(multiple: u64, at: u64) -> u64
 /// NotMultiple, TooFar, NoBase, TooManyGregs and BadPlace.
 pub fn encode(alloc: Global, s: &Statement, env: &Env) -> Result<Placed, StmtFault>
     requires { OperandsHaveDigits s.now.operands }
-    ensures { result ≢ Err StmtFault.OutOfMemory → result ≡ spec.encoding no_targets (known_of env.now) (spec.parsed_of s.now) }
+    ensures placed { result ≢ Err StmtFault.OutOfMemory → result ≡ spec.encoding no_targets (known_of env.now) (spec.parsed_of s.now) }
+    ensures effect { IfOk result (λ placed. spec.IsPossible env.now.gregs.now placed.effect) }
 {
     let env = Env {
         names: env.names,

@@ -1,6 +1,6 @@
 //! Pseudo-operations, and statements as what they place.
 
-ghost use Rattle.std.specs.Prelude.{◌≡◌, ◌≢◌, ◌<◌, ◌^◌, ◌∷◌, []};
+ghost use Rattle.std.specs.Prelude.{◌≡◌, ◌≢◌, ◌<◌, ◌^◌, ◌∷◌, [], IfOk};
 ghost use Rattle.mx_expr.specs.Tree.{tree_of, trees_of, HasDigits};
 ghost use Rattle.mx_stmt.specs.Encoding as spec;
 ghost use Rattle.mx_stmt.specs.Operands.{known_of, no_targets};
@@ -55,7 +55,8 @@ pub(crate) fn with_bytes(
     label: &Option<Label>,
     content: Data,
 ) -> Result<Placed, StmtFault>
-    ensures { result ≡ spec.with_bytes (known_of env.now) label.now content }
+    ensures placed { result ≡ spec.with_bytes (known_of env.now) label.now content }
+    ensures effect { IfOk result (λ placed. spec.IsPossible env.now.gregs.now placed.effect) }
 {
     let count = content.bytes.as_slice().len() as u64;
     if env.at > STACK_SEGMENT || count > STACK_SEGMENT - env.at {
@@ -74,7 +75,8 @@ pub(crate) fn with_bytes(
 /// IS: the label gets the value of the operand.
 fn is_form(alloc: Global, env: &Env, label: &Option<Label>, e: &Expr) -> Result<Placed, StmtFault>
     requires { HasDigits (tree_of e.now) }
-    ensures { result ≢ Err StmtFault.OutOfMemory → result ≡ spec.is_form (known_of env.now) label.now (tree_of e.now) }
+    ensures placed { result ≢ Err StmtFault.OutOfMemory → result ≡ spec.is_form (known_of env.now) label.now (tree_of e.now) }
+    ensures effect { IfOk result (λ placed. spec.IsPossible env.now.gregs.now placed.effect) }
 {
     let value = operand_value(alloc, env, e)?;
     silent(alloc, env, label, value, Effect::Plain, env.at)
@@ -83,7 +85,8 @@ fn is_form(alloc: Global, env: &Env, label: &Option<Label>, e: &Expr) -> Result<
 /// LOC: the place becomes the operand; the label gets what it was before.
 fn loc_form(alloc: Global, env: &Env, label: &Option<Label>, e: &Expr) -> Result<Placed, StmtFault>
     requires { HasDigits (tree_of e.now) }
-    ensures { result ≢ Err StmtFault.OutOfMemory → result ≡ spec.loc_form (known_of env.now) label.now (tree_of e.now) }
+    ensures placed { result ≢ Err StmtFault.OutOfMemory → result ≡ spec.loc_form (known_of env.now) label.now (tree_of e.now) }
+    ensures effect { IfOk result (λ placed. spec.IsPossible env.now.gregs.now placed.effect) }
 {
     let next = pure_at(alloc, env, e)?;
     silent(alloc, env, label, Value::Pure(env.at), Effect::Plain, next)
@@ -107,7 +110,8 @@ fn prefix_form(
     label: &Option<Label>,
     e: &Expr,
 ) -> Result<Placed, StmtFault>
-    ensures { result ≢ Err StmtFault.OutOfMemory → result ≡ spec.prefix_form (known_of env.now) label.now (tree_of e.now) }
+    ensures placed { result ≢ Err StmtFault.OutOfMemory → result ≡ spec.prefix_form (known_of env.now) label.now (tree_of e.now) }
+    ensures effect { IfOk result (λ placed. spec.IsPossible env.now.gregs.now placed.effect) }
 {
     match e {
         Expr::Name(text) => {
@@ -128,7 +132,8 @@ fn prefix_form(
 /// GREG: the label gets the register of the operand's value.
 fn greg_form(alloc: Global, env: &Env, label: &Option<Label>, e: &Expr) -> Result<Placed, StmtFault>
     requires { HasDigits (tree_of e.now) }
-    ensures { result ≢ Err StmtFault.OutOfMemory → result ≡ spec.greg_form (known_of env.now) label.now (tree_of e.now) }
+    ensures placed { result ≢ Err StmtFault.OutOfMemory → result ≡ spec.greg_form (known_of env.now) label.now (tree_of e.now) }
+    ensures effect { IfOk result (λ placed. spec.IsPossible env.now.gregs.now placed.effect) }
 {
     let value = pure_at(alloc, env, e)?;
     let reg = env.gregs.register_for(value)?;
@@ -150,7 +155,8 @@ fn local_form(
     e: &Expr,
 ) -> Result<Placed, StmtFault>
     requires { HasDigits (tree_of e.now) }
-    ensures { result ≢ Err StmtFault.OutOfMemory → result ≡ spec.local_form (known_of env.now) label.now (tree_of e.now) }
+    ensures placed { result ≢ Err StmtFault.OutOfMemory → result ≡ spec.local_form (known_of env.now) label.now (tree_of e.now) }
+    ensures effect { IfOk result (λ placed. spec.IsPossible env.now.gregs.now placed.effect) }
 {
     let reg = register_at(alloc, env, e)?;
     silent(
@@ -172,7 +178,8 @@ fn one_form(
     e: &Expr,
 ) -> Result<Placed, StmtFault>
     requires { HasDigits (tree_of e.now) }
-    ensures { result ≢ Err StmtFault.OutOfMemory → result ≡ spec.one_form (known_of env.now) label.now pseudo (tree_of e.now) }
+    ensures placed { result ≢ Err StmtFault.OutOfMemory → result ≡ spec.one_form (known_of env.now) label.now pseudo (tree_of e.now) }
+    ensures effect { IfOk result (λ placed. spec.IsPossible env.now.gregs.now placed.effect) }
 {
     match pseudo {
         Pseudo::Is => is_form(alloc, env, label, e),
@@ -193,7 +200,8 @@ pub(crate) fn one_operand(
     operands: &[Expr],
 ) -> Result<Placed, StmtFault>
     requires { OperandsHaveDigits operands.now }
-    ensures { result ≢ Err StmtFault.OutOfMemory → result ≡ spec.one_operand (known_of env.now) label.now pseudo (trees_of operands.now) }
+    ensures placed { result ≢ Err StmtFault.OutOfMemory → result ≡ spec.one_operand (known_of env.now) label.now pseudo (trees_of operands.now) }
+    ensures effect { IfOk result (λ placed. spec.IsPossible env.now.gregs.now placed.effect) }
 {
     match operands {
         [e] => one_form(alloc, env, label, pseudo, e),
