@@ -1,5 +1,8 @@
 //! Worked rows: statements, and what they come to.
 
+ghost use Rattle.std.specs.Prelude.{◌≡◌, ◌≤◌};
+ghost use Rattle.mx_stmt.specs.Gregs.{lowest_of};
+
 use crate::{Effect, Env, Gregs, Label, Placed, StmtFault, encode, read_statement};
 use mx_line::next_statement;
 use mx_names::Names;
@@ -448,12 +451,21 @@ fn greg(alloc: Global, gregs: &Gregs, text: &[u8]) -> Result<Option<Value>, u16>
     Ok(placed(alloc, &names, gregs, 0, text)?.label)
 }
 
-#[test]
-fn registers_run_out(rt: HostRuntime) {
+/// $G to $254 have their numbers as values.
+fn numbered_gregs(g: u8) -> Gregs
+    requires { 32 ≤ g }
+    ensures { lowest_of result ≡ g }
+{
     let mut gregs = Gregs::new();
-    for reg in (33..255).rev() {
+    for reg in (g..255).rev() {
         gregs.set(reg, u64::from(reg));
     }
+    gregs
+}
+
+#[test]
+fn registers_run_out(rt: HostRuntime) {
+    let mut gregs = numbered_gregs(33);
     assert_eq!(rt;
         greg(rt.alloc(), &gregs, b"x GREG 0"),
         Ok(Some(Value::Reg(32)))
