@@ -3,3 +3,11 @@ pub mod FieldsRead
 pub mod Nearest
 pub mod OperandLists
 pub mod SecondCodes
+pub mod CodesOfTargets
+pub mod JoinedBytes
+pub mod JoinedWords
+pub mod Alike
+pub mod RegisterNumbers
+pub mod JoinedTetras
+pub mod JoinedData
+pub mod JoinedStatements

@@ -5,4 +5,6 @@ pub mod Operands
 pub mod Forms
 pub mod Data
 pub mod Encoding
+pub mod Placements
+pub mod Fixes
 pub mod Reading

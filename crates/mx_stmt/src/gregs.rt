@@ -3,7 +3,6 @@
 ghost use Rattle.std.specs.Prelude.{◌≡◌, ◌+◌, ◌<◌, ◌≤◌, ◌==◌, ℕ, List, [], length, min, position, IfOk};
 ghost use Rattle.std.specs.Option.{IfSome};
 ghost use Rattle.mx_stmt.specs.Gregs as spec;
-ghost use Rattle.mx_stmt.specs.declared.gregs.Base.{Base};
 
 use crate::StmtFault;
 use std::marker::Model;
@@ -172,9 +171,3 @@ fn with_register(address: u64, reg: u8, value: u64, others: Option<Base>) -> Opt
         _ => Some(base),
     }
 }
-
-/// The nearest base is an allocated register with a value that is not 0 and the least address - value
-/// modulo 2^64.
-pub fn nearest_base_is_least()
-    ensures { (gregs : List ℕ) (address : ℕ) (base : Base) → length gregs ≤ 255 → spec.nearest_base gregs address ≡ Some base → spec.IsNearest gregs address base }
-{}
