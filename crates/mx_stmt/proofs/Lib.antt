@@ -11,3 +11,4 @@ pub mod RegisterNumbers
 pub mod JoinedTetras
 pub mod JoinedData
 pub mod JoinedStatements
+pub mod SoundLabels
