@@ -3,15 +3,17 @@
 ghost use Rattle.std.specs.Prelude.{◌≡◌, ◌≢◌, ◌+◌, ◌<◌, ◌≤◌, ℕ, List, [], ◌∷◌, ◌++◌, length, is_some, IfOk, IfErr, OnOk, OnErr, IsTrue, bytes_eq, slice_set, if◌then◌else◌};
 ghost use Rattle.mx_word.specs.Results.{map_ok};
 ghost use Rattle.mx_names.specs.Names as spec;
-ghost use Rattle.mx_names.specs.Order.{AreInOrder};
+ghost use Rattle.mx_word.specs.Symbols.{InByteOrder, IsNamed};
+ghost use Rattle.mx_names.specs.Entries.{IsInRange, symbol_of};
 ghost use Rattle.mx_names.specs.Waiting.{first_of, waits_for, waits_for_others};
+ghost use Rattle.std.specs.List.{AllByRecursion};
 ghost use Rattle.std.specs.Option.{option_copied};
 
 use crate::NameFault;
 use crate::full::{copy_of, is_complete, name_with_prefix};
 use crate::waiting::Waiting;
 use mx_ops::predefined;
-use mx_word::{Awaited, Bytes, Symbol, Symbols, Value, Wait, Waits};
+use mx_word::{Awaited, Bytes, NoMemory, Symbol, Symbols, Value, Wait, Waits};
 use std::alloc::Global;
 use std::collections::BTreeMap;
 use std::marker::Model;
@@ -21,6 +23,18 @@ use std::marker::Model;
 struct Definition {
     value: Value,
     serial: u32,
+}
+
+/// The symbol of a name and its definition.
+fn symbol_for(alloc: Global, name: &[u8], definition: Definition) -> Result<Symbol, NoMemory>
+    ensures symbol { IfOk result (λ symbol. symbol ≡ symbol_of name.now definition) }
+    ensures ranges { IfOk result (λ symbol. IsInRange symbol) }
+{
+    Ok(Symbol {
+        name: Bytes::copy(alloc, name)?,
+        value: definition.value,
+        serial: definition.serial,
+    })
 }
 
 /// The names of a source: a map from complete names to values, the prefix, the values of the last
@@ -199,17 +213,14 @@ impl Names {
     /// The defined symbols in byte order of their names.
     pub fn sorted(&self) -> Result<Symbols, NameFault>
         ensures symbols { IfOk result (λ symbols. symbols ≡ self.now.symbols) }
-        ensures order { IfOk result (λ symbols. AreInOrder symbols) }
+        ensures order { IfOk result (λ symbols. InByteOrder symbols) }
+        ensures named { IfOk result (λ symbols. AllByRecursion IsNamed symbols) }
         ensures known { spec.AreNames self.now }
         ensures memory { IfErr result (λ fault. fault ≡ NameFault.OutOfMemory) }
     {
         let mut symbols = Symbols::new(self.alloc);
         for (name, definition) in &self.defined {
-            let symbol = Symbol {
-                name: Bytes::copy(self.alloc, name.as_slice())?,
-                value: definition.value,
-                serial: definition.serial,
-            };
+            let symbol = symbol_for(self.alloc, name.as_slice(), *definition)?;
             symbols.push(symbol)?;
         }
         Ok(symbols)
