@@ -1,5 +1,5 @@
 -- What the fields of a statement say is one thing.
-use Rattle.std.proofs.Common.{◌≡◌, ℕ, Bool, List, Option, None, Some, is_some, Result, Ok, Err, refl, sym, ap, ◌∙◌}
+use Rattle.std.proofs.Common.{◌≡◌, ℕ, ◌&&◌, not, cond, Bool, true, false, List, Option, None, Some, is_some, Result, Ok, Err, refl, sym, ap, ◌∙◌}
 use Rattle.mx_line.specs.declared.spans.Span.{Span}
 use Rattle.mx_line.specs.declared.cutter.Cut.{Cut}
 use Rattle.mx_line.specs.Spans.{part}
@@ -7,12 +7,14 @@ use Rattle.mx_expr.specs.declared.faults.ExprFault.{ExprFault}
 use Rattle.mx_expr.specs.declared.faults.ExprFault.TheVariants as expr
 use Rattle.mx_expr.specs.Spelling.{IsFirst}
 use Rattle.mx_ops.specs.declared.op.Op.{Op}
+use Rattle.mx_ops.specs.Opcodes.{operation_of}
 use Rattle.mx_stmt.specs.declared.faults.StmtFault.{StmtFault}
-use Rattle.mx_stmt.specs.declared.faults.StmtFault.TheVariants.{OutOfMemory}
+use Rattle.mx_stmt.specs.declared.faults.StmtFault.TheVariants.{LabelNotAllowed, OutOfMemory}
 use Rattle.mx_stmt.specs.Faults.{fault_of}
 use Rattle.mx_stmt.specs.Steps.{Answer}
 use Rattle.mx_stmt.specs.Encoding.{Parsed}
-use Rattle.mx_stmt.specs.Reading.{Fields, IsFault, fields_of, label_in, operation_for}
+use Rattle.mx_stmt.specs.Reading.{Fields, IsFault, IsRead, fields_of, label_in, takes_label, operation_for, operation_with}
+use Rattle.mx_stmt.specs.Fixes.{IsOperation}
 use Rattle.mx_stmt.specs.Reading.IsFault.{operation, operand_list}
 
 some-label : (text : List ℕ) (span : Option Span) → is_some (label_in text span) ≡ is_some span
@@ -48,3 +50,15 @@ memory-of first answer is memory = let same : first ≡ expr.OutOfMemory = cc in
 
 pub same-first : {A : Type 0} (first other : ExprFault) (answer : Result A ExprFault) → answer ≡ Err first → answer ≡ Err other → fault_of first ≡ fault_of other
 same-first first other answer is there = let same : first ≡ other = cc in ap fault_of same
+
+-- the operation of a name
+operation-named : (labelled : Bool) (name : List ℕ) (found : Option Op) (op : Op) → operation_of name ≡ found → operation_with labelled found ≡ Ok op → IsOperation op
+operation-named labelled name None op is with = cc
+operation-named labelled name (Some other) op is with = by (labelled && not (takes_label other)) with
+  where
+    by : (b : Bool) → cond b (Err LabelNotAllowed) (Ok other) ≡ Ok op → IsOperation op
+    by true with = cc
+    by false with = let same : other ≡ op = cc in (name, is ∙ ap (λ o. Some o) same)
+
+pub read-named : (fields : Fields) (line : ℕ) (s : Parsed) → IsRead fields line s → IsOperation s.op
+read-named fields line s read = operation-named (is_some fields.label) fields.op (operation_of fields.op) s.op refl read.op_is

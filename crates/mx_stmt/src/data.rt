@@ -5,6 +5,7 @@ ghost use Rattle.mx_expr.specs.Tree.{tree_of, trees_of, HasDigits};
 ghost use Rattle.mx_stmt.specs.Data as spec;
 ghost use Rattle.mx_stmt.specs.Operands.{known_of, no_targets};
 ghost use Rattle.mx_stmt.specs.Reading.{OperandsHaveDigits};
+ghost use Rattle.mx_stmt.specs.Steps.{Answers};
 
 use crate::operands::{Target, pure_at, target_at};
 use crate::{Env, StmtFault};
@@ -68,7 +69,8 @@ impl Data {
 
     /// Adds what an operand places at an address.
     fn push(&mut self, line: u32, size: Size, place: u64, target: Target) -> Result<(), NoMemory>
-        ensures { OnOk result (self.new ≡ spec.joined_data self.old (spec.datum no_targets line (spec.size_bytes size) place target)) }
+        ensures { OnOk result (
+            self.new ≡ spec.joined_data self.old (spec.datum no_targets line (spec.size_bytes size) place target)) }
     {
         match target {
             Target::Known(n) => self.bytes.extend(&octa_bytes(n)[8 - size.bytes()..]),
@@ -88,7 +90,7 @@ impl Data {
 /// An operand of this size; that of OCTA may be a future reference.
 fn data_target(alloc: Global, env: &Env, size: Size, e: &Expr) -> Result<Target, StmtFault>
     requires { HasDigits (tree_of e.now) }
-    ensures { result ≢ Err StmtFault.OutOfMemory → result ≡ spec.data_target (known_of env.now) (spec.size_bytes size) (tree_of e.now) }
+    ensures { Answers result (spec.data_target (known_of env.now) (spec.size_bytes size) (tree_of e.now)) }
 {
     match size {
         Size::Octa => target_at(alloc, env, e),
@@ -109,7 +111,8 @@ pub(crate) fn data_form(
     operands: &[Expr],
 ) -> Result<Data, StmtFault>
     requires { OperandsHaveDigits operands.now }
-    ensures { result ≢ Err StmtFault.OutOfMemory → result ≡ spec.data_form no_targets (known_of env.now) line (spec.size_bytes size) (trees_of operands.now) }
+    ensures { Answers result (
+        spec.data_form no_targets (known_of env.now) line (spec.size_bytes size) (trees_of operands.now)) }
 {
     if operands.is_empty() {
         return Err(StmtFault::Operands);

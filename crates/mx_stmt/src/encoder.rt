@@ -6,6 +6,7 @@ ghost use Rattle.mx_stmt.specs.Data.{data_form, size_bytes};
 ghost use Rattle.mx_stmt.specs.Encoding as spec;
 ghost use Rattle.mx_stmt.specs.Operands.{known_of, no_targets};
 ghost use Rattle.mx_stmt.specs.Reading.{OperandsHaveDigits};
+ghost use Rattle.mx_stmt.specs.Steps.{Answers};
 
 use crate::data::{Data, Size, data_form};
 use crate::forms::Tetra;
@@ -55,7 +56,7 @@ fn with_tetra(
     label: &Option<Label>,
     tetra: Tetra,
 ) -> Result<Placed, StmtFault>
-    ensures placed { result ≢ Err StmtFault.OutOfMemory → result ≡ spec.with_tetra (known_of env.now) line label.now (Ok tetra) }
+    ensures placed { Answers result (spec.with_tetra (known_of env.now) line label.now (Ok tetra)) }
     ensures effect { IfOk result (λ placed. spec.IsPossible env.now.gregs.now placed.effect) }
 {
     let data = tetra_data(alloc, line, env.at, tetra)?;
@@ -72,7 +73,9 @@ fn with_data(
     operands: &[Expr],
 ) -> Result<Placed, StmtFault>
     requires { OperandsHaveDigits operands.now }
-    ensures placed { result ≢ Err StmtFault.OutOfMemory → result ≡ spec.with_data (known_of env.now) label.now (data_form no_targets (known_of env.now) line (size_bytes size) (trees_of operands.now)) }
+    ensures placed { Answers result (
+        spec.with_data (known_of env.now) label.now
+        (data_form no_targets (known_of env.now) line (size_bytes size) (trees_of operands.now))) }
     ensures effect { IfOk result (λ placed. spec.IsPossible env.now.gregs.now placed.effect) }
 {
     let data = data_form(alloc, env, line, size, operands)?;
@@ -89,7 +92,8 @@ fn pseudo_form(
     operands: &[Expr],
 ) -> Result<Placed, StmtFault>
     requires { OperandsHaveDigits operands.now }
-    ensures placed { result ≢ Err StmtFault.OutOfMemory → result ≡ spec.pseudo_form no_targets (known_of env.now) line label.now pseudo (trees_of operands.now) }
+    ensures placed { Answers result (
+        spec.pseudo_form no_targets (known_of env.now) line label.now pseudo (trees_of operands.now)) }
     ensures effect { IfOk result (λ placed. spec.IsPossible env.now.gregs.now placed.effect) }
 {
     match pseudo {
@@ -111,7 +115,8 @@ fn op_form(
     operands: &[Expr],
 ) -> Result<Placed, StmtFault>
     requires { OperandsHaveDigits operands.now }
-    ensures placed { result ≢ Err StmtFault.OutOfMemory → result ≡ spec.op_form no_targets (known_of env.now) line label.now op (trees_of operands.now) }
+    ensures placed { Answers result (
+        spec.op_form no_targets (known_of env.now) line label.now op (trees_of operands.now)) }
     ensures effect { IfOk result (λ placed. spec.IsPossible env.now.gregs.now placed.effect) }
 {
     let tetra = match op {
@@ -154,7 +159,7 @@ fn place_at(multiple: u64, at: u64) -> u64
 /// NotMultiple, TooFar, NoBase, TooManyGregs and BadPlace.
 pub fn encode(alloc: Global, s: &Statement, env: &Env) -> Result<Placed, StmtFault>
     requires { OperandsHaveDigits s.now.operands }
-    ensures placed { result ≢ Err StmtFault.OutOfMemory → result ≡ spec.encoding no_targets (known_of env.now) (spec.parsed_of s.now) }
+    ensures placed { Answers result (spec.encoding no_targets (known_of env.now) (spec.parsed_of s.now)) }
     ensures effect { IfOk result (λ placed. spec.IsPossible env.now.gregs.now placed.effect) }
 {
     let env = Env {

@@ -5,6 +5,7 @@ ghost use Rattle.mx_expr.specs.Tree.{tree_of, trees_of, HasDigits};
 ghost use Rattle.mx_stmt.specs.Forms as spec;
 ghost use Rattle.mx_stmt.specs.Operands.{known_of, no_targets};
 ghost use Rattle.mx_stmt.specs.Reading.{OperandsHaveDigits};
+ghost use Rattle.mx_stmt.specs.Steps.{Answers};
 
 use crate::gregs::Base;
 use crate::operands::{
@@ -65,7 +66,7 @@ pub(crate) fn last_form(
 ) -> Result<Tetra, StmtFault>
     requires digits { HasDigits (tree_of z.now) }
     requires second { code < 255 }
-    ensures { result ≢ Err StmtFault.OutOfMemory → result ≡ spec.last_form (known_of env.now) code x y (tree_of z.now) }
+    ensures { Answers result (spec.last_form (known_of env.now) code x y (tree_of z.now)) }
 {
     match register_or_byte_at(alloc, env, z)? {
         RegisterOrByte::Register(z) => plain(tetra_xyz(code, x, y, z)),
@@ -83,7 +84,7 @@ pub(crate) fn last_register(
     z: &Expr,
 ) -> Result<Tetra, StmtFault>
     requires { HasDigits (tree_of z.now) }
-    ensures { result ≢ Err StmtFault.OutOfMemory → result ≡ spec.last_register (known_of env.now) code x y (tree_of z.now) }
+    ensures { Answers result (spec.last_register (known_of env.now) code x y (tree_of z.now)) }
 {
     let z = register_at(alloc, env, z)?;
     plain(tetra_xyz(code, x, y, z))
@@ -101,7 +102,7 @@ pub(crate) fn last_two(
     requires y { HasDigits (tree_of y.now) }
     requires z { HasDigits (tree_of z.now) }
     requires second { code < 255 }
-    ensures { result ≢ Err StmtFault.OutOfMemory → result ≡ spec.last_two (known_of env.now) code x (tree_of y.now) (tree_of z.now) }
+    ensures { Answers result (spec.last_two (known_of env.now) code x (tree_of y.now) (tree_of z.now)) }
 {
     let y = register_at(alloc, env, y)?;
     last_form(alloc, env, code, x, y, z)
@@ -117,7 +118,7 @@ pub(crate) fn rounded_last(
     z: &Expr,
 ) -> Result<Tetra, StmtFault>
     requires { HasDigits (tree_of z.now) }
-    ensures { result ≢ Err StmtFault.OutOfMemory → result ≡ spec.rounded_last (known_of env.now) code x y (tree_of z.now) }
+    ensures { Answers result (spec.rounded_last (known_of env.now) code x y (tree_of z.now)) }
 {
     if 0x08 <= code && code <= 0x0f {
         last_form(alloc, env, code, x, y, z)
@@ -137,7 +138,7 @@ pub(crate) fn address_form(
 ) -> Result<Tetra, StmtFault>
     requires digits { HasDigits (tree_of a.now) }
     requires second { code < 255 }
-    ensures { result ≢ Err StmtFault.OutOfMemory → result ≡ spec.address_form (known_of env.now) code x (tree_of a.now) }
+    ensures { Answers result (spec.address_form (known_of env.now) code x (tree_of a.now)) }
 {
     match operand_value(alloc, env, a)? {
         Value::Reg(y) => plain(tetra_xyz(code + 1, x, y, 0)),
@@ -181,7 +182,7 @@ pub(crate) fn branch_form(
 ) -> Result<Tetra, StmtFault>
     requires digits { HasDigits (tree_of a.now) }
     requires second { code < 254 }
-    ensures { result ≢ Err StmtFault.OutOfMemory → result ≡ spec.branch_form no_targets (known_of env.now) code x (tree_of a.now) }
+    ensures { Answers result (spec.branch_form no_targets (known_of env.now) code x (tree_of a.now)) }
 {
     let target = target_at(alloc, env, a)?;
     relative_form(
@@ -197,7 +198,7 @@ pub(crate) fn branch_form(
 pub(crate) fn jump_form(alloc: Global, env: &Env, code: u8, a: &Expr) -> Result<Tetra, StmtFault>
     requires digits { HasDigits (tree_of a.now) }
     requires second { code < 254 }
-    ensures { result ≢ Err StmtFault.OutOfMemory → result ≡ spec.jump_form no_targets (known_of env.now) code (tree_of a.now) }
+    ensures { Answers result (spec.jump_form no_targets (known_of env.now) code (tree_of a.now)) }
 {
     let target = target_at(alloc, env, a)?;
     relative_form(
@@ -218,7 +219,7 @@ pub(crate) fn wyde_form(
     n: &Expr,
 ) -> Result<Tetra, StmtFault>
     requires { HasDigits (tree_of n.now) }
-    ensures { result ≢ Err StmtFault.OutOfMemory → result ≡ spec.wyde_form (known_of env.now) code x (tree_of n.now) }
+    ensures { Answers result (spec.wyde_form (known_of env.now) code x (tree_of n.now)) }
 {
     let n = wyde_at(alloc, env, n)?;
     plain(tetra_wyde(code, x, n))
@@ -227,7 +228,7 @@ pub(crate) fn wyde_form(
 /// `n` of 24 bits alone.
 pub(crate) fn whole_form(alloc: Global, env: &Env, code: u8, n: &Expr) -> Result<Tetra, StmtFault>
     requires { HasDigits (tree_of n.now) }
-    ensures { result ≢ Err StmtFault.OutOfMemory → result ≡ spec.whole_form (known_of env.now) code (tree_of n.now) }
+    ensures { Answers result (spec.whole_form (known_of env.now) code (tree_of n.now)) }
 {
     let n = whole_at(alloc, env, n)?;
     plain(tetra_whole(code, n))
@@ -242,7 +243,7 @@ pub(crate) fn byte_form(
     z: &Expr,
 ) -> Result<Tetra, StmtFault>
     requires { HasDigits (tree_of z.now) }
-    ensures { result ≢ Err StmtFault.OutOfMemory → result ≡ spec.byte_form (known_of env.now) code x (tree_of z.now) }
+    ensures { Answers result (spec.byte_form (known_of env.now) code x (tree_of z.now)) }
 {
     let z = byte_at(alloc, env, z)?;
     plain(tetra_xyz(code, x, 0, z))
@@ -251,7 +252,7 @@ pub(crate) fn byte_form(
 /// A byte that may be the number of a register.
 pub(crate) fn free_at(alloc: Global, env: &Env, e: &Expr) -> Result<u8, StmtFault>
     requires { HasDigits (tree_of e.now) }
-    ensures { result ≢ Err StmtFault.OutOfMemory → result ≡ spec.free_at (known_of env.now) (tree_of e.now) }
+    ensures { Answers result (spec.free_at (known_of env.now) (tree_of e.now)) }
 {
     match register_or_byte_at(alloc, env, e)? {
         RegisterOrByte::Register(r) => Ok(r),
@@ -271,7 +272,7 @@ pub(crate) fn free_form(
     requires x { HasDigits (tree_of x.now) }
     requires y { HasDigits (tree_of y.now) }
     requires z { HasDigits (tree_of z.now) }
-    ensures { result ≢ Err StmtFault.OutOfMemory → result ≡ spec.free_form (known_of env.now) code (tree_of x.now) (tree_of y.now) (tree_of z.now) }
+    ensures { Answers result (spec.free_form (known_of env.now) code (tree_of x.now) (tree_of y.now) (tree_of z.now)) }
 {
     let x = free_at(alloc, env, x)?;
     let y = free_at(alloc, env, y)?;
@@ -282,7 +283,7 @@ pub(crate) fn free_form(
 /// SET of a register is ORI with 0, SET of a number of 16 bits is SETL.
 pub(crate) fn set_to(alloc: Global, env: &Env, x: u8, y: &Expr) -> Result<Tetra, StmtFault>
     requires { HasDigits (tree_of y.now) }
-    ensures { result ≢ Err StmtFault.OutOfMemory → result ≡ spec.set_to_operand (known_of env.now) x (tree_of y.now) }
+    ensures { Answers result (spec.set_to_operand (known_of env.now) x (tree_of y.now)) }
 {
     match operand_value(alloc, env, y)? {
         Value::Reg(y) => plain(tetra_xyz(0xc1, x, y, 0)),

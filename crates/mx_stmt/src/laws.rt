@@ -7,22 +7,32 @@ ghost use Rattle.mx_stmt.specs.Encoding.{Parsed, IsPossible, encoding};
 ghost use Rattle.mx_stmt.specs.Fixes.{IsFixed, IsOperation, IsSound, HasRegisterNumber};
 ghost use Rattle.mx_stmt.specs.Gregs.{IsNearest, nearest_base};
 ghost use Rattle.mx_stmt.specs.Operands.{Known, Targets, no_targets};
+ghost use Rattle.mx_stmt.specs.Reading.{Fields, IsRead};
 ghost use Rattle.mx_stmt.specs.Steps.{AreAlike};
 
 /// The nearest base is an allocated register with a value that is not 0 and the least address - value
 /// modulo 2^64.
 pub fn nearest_base_is_least()
-    ensures { (gregs : List ℕ) (address : ℕ) (base : Base) → length gregs ≤ 255 → nearest_base gregs address ≡ Some base → IsNearest gregs address base }
+    ensures { (gregs : List ℕ) (address : ℕ) (base : Base) → length gregs ≤ 255 →
+        nearest_base gregs address ≡ Some base → IsNearest gregs address base }
+{}
+
+/// The operation of a statement that was read is that of a name.
+pub fn operations_have_names()
+    ensures { (fields : Fields) (line : ℕ) (s : Parsed) → IsRead fields line s → IsOperation s.op }
 {}
 
 /// Where the targets of future references are known, a statement comes to what it comes to without
 /// them, or to the same fault; only what its references add is joined to its bytes.
 pub fn targets_join_their_bytes()
-    ensures { (t : Targets) (k : Known) (s : Parsed) → IsOperation s.op → IsSound k → AreAlike (IsFixed t) (encoding no_targets k s) (encoding t k s) }
+    ensures { (t : Targets) (k : Known) (s : Parsed) → IsOperation s.op → IsSound k →
+        AreAlike (IsFixed t) (encoding no_targets k s) (encoding t k s) }
 {}
 
 /// A label never stands for a register above $255, and a register that is allocated may be.
 pub fn registers_are_bytes()
-    ensures label { (t : Targets) (k : Known) (s : Parsed) (p : Placed) → IsSound k → encoding t k s ≡ Ok p → IfSome p.label HasRegisterNumber }
-    ensures effect { (t : Targets) (k : Known) (s : Parsed) (p : Placed) → IsSound k → encoding t k s ≡ Ok p → IsPossible k.gregs p.effect }
+    ensures label { (t : Targets) (k : Known) (s : Parsed) (p : Placed) → IsSound k → encoding t k s ≡ Ok p →
+        IfSome p.label HasRegisterNumber }
+    ensures effect { (t : Targets) (k : Known) (s : Parsed) (p : Placed) → IsSound k → encoding t k s ≡ Ok p →
+        IsPossible k.gregs p.effect }
 {}

@@ -4,6 +4,7 @@ ghost use Rattle.std.specs.Prelude.{◌≡◌, ◌≢◌, ◌≤◌, ◌^◌, Ok
 ghost use Rattle.mx_expr.specs.Tree.{tree_of, HasDigits};
 ghost use Rattle.mx_stmt.specs.Operands as spec;
 ghost use Rattle.mx_stmt.specs.Operands.{known_of};
+ghost use Rattle.mx_stmt.specs.Steps.{Answers};
 
 use crate::{Env, StmtFault};
 use mx_expr::{Expr, value};
@@ -28,7 +29,7 @@ pub(crate) enum RegisterOrByte {
 /// The value of an operand.
 pub(crate) fn operand_value(alloc: Global, env: &Env, e: &Expr) -> Result<Value, StmtFault>
     requires { HasDigits (tree_of e.now) }
-    ensures { result ≢ Err StmtFault.OutOfMemory → result ≡ spec.operand_value (known_of env.now) (tree_of e.now) }
+    ensures { Answers result (spec.operand_value (known_of env.now) (tree_of e.now)) }
 {
     match value(alloc, e, env) {
         Ok(value) => Ok(value),
@@ -39,7 +40,7 @@ pub(crate) fn operand_value(alloc: Global, env: &Env, e: &Expr) -> Result<Value,
 /// The number of a register that is an operand.
 pub(crate) fn register_at(alloc: Global, env: &Env, e: &Expr) -> Result<u8, StmtFault>
     requires { HasDigits (tree_of e.now) }
-    ensures { result ≢ Err StmtFault.OutOfMemory → result ≡ spec.register_at (known_of env.now) (tree_of e.now) }
+    ensures { Answers result (spec.register_at (known_of env.now) (tree_of e.now)) }
 {
     match operand_value(alloc, env, e)? {
         Value::Reg(r) => Ok(r),
@@ -50,7 +51,7 @@ pub(crate) fn register_at(alloc: Global, env: &Env, e: &Expr) -> Result<u8, Stmt
 /// A pure operand.
 pub(crate) fn pure_at(alloc: Global, env: &Env, e: &Expr) -> Result<u64, StmtFault>
     requires { HasDigits (tree_of e.now) }
-    ensures { result ≢ Err StmtFault.OutOfMemory → result ≡ spec.pure_at (known_of env.now) (tree_of e.now) }
+    ensures { Answers result (spec.pure_at (known_of env.now) (tree_of e.now)) }
 {
     match operand_value(alloc, env, e)? {
         Value::Pure(n) => Ok(n),
@@ -72,7 +73,7 @@ pub(crate) fn wyde_number(n: u64) -> Result<u16, StmtFault>
 /// A pure operand of 8 bits.
 pub(crate) fn byte_at(alloc: Global, env: &Env, e: &Expr) -> Result<u8, StmtFault>
     requires { HasDigits (tree_of e.now) }
-    ensures { result ≢ Err StmtFault.OutOfMemory → result ≡ spec.field_at 256 (known_of env.now) (tree_of e.now) }
+    ensures { Answers result (spec.field_at 256 (known_of env.now) (tree_of e.now)) }
 {
     let n = pure_at(alloc, env, e)?;
     if n < 256 {
@@ -85,7 +86,7 @@ pub(crate) fn byte_at(alloc: Global, env: &Env, e: &Expr) -> Result<u8, StmtFaul
 /// A pure operand of 16 bits.
 pub(crate) fn wyde_at(alloc: Global, env: &Env, e: &Expr) -> Result<u16, StmtFault>
     requires { HasDigits (tree_of e.now) }
-    ensures { result ≢ Err StmtFault.OutOfMemory → result ≡ spec.field_at (2 ^ 16) (known_of env.now) (tree_of e.now) }
+    ensures { Answers result (spec.field_at (2 ^ 16) (known_of env.now) (tree_of e.now)) }
 {
     let n = pure_at(alloc, env, e)?;
     wyde_number(n)
@@ -94,7 +95,7 @@ pub(crate) fn wyde_at(alloc: Global, env: &Env, e: &Expr) -> Result<u16, StmtFau
 /// A pure operand of 24 bits.
 pub(crate) fn whole_at(alloc: Global, env: &Env, e: &Expr) -> Result<u32, StmtFault>
     requires { HasDigits (tree_of e.now) }
-    ensures { result ≢ Err StmtFault.OutOfMemory → result ≡ spec.field_at (2 ^ 24) (known_of env.now) (tree_of e.now) }
+    ensures { Answers result (spec.field_at (2 ^ 24) (known_of env.now) (tree_of e.now)) }
 {
     let n = pure_at(alloc, env, e)?;
     if n < 0x100_0000 {
@@ -111,7 +112,7 @@ pub(crate) fn register_or_byte_at(
     e: &Expr,
 ) -> Result<RegisterOrByte, StmtFault>
     requires { HasDigits (tree_of e.now) }
-    ensures { result ≢ Err StmtFault.OutOfMemory → result ≡ spec.register_or_byte_at (known_of env.now) (tree_of e.now) }
+    ensures { Answers result (spec.register_or_byte_at (known_of env.now) (tree_of e.now)) }
 {
     match operand_value(alloc, env, e)? {
         Value::Reg(r) => Ok(RegisterOrByte::Register(r)),
@@ -122,7 +123,7 @@ pub(crate) fn register_or_byte_at(
 
 /// What an operand waits for, if it is a future reference.
 fn reference_of(env: &Env, e: &Expr) -> Result<Option<Awaited>, StmtFault>
-    ensures { result ≢ Err StmtFault.OutOfMemory → result ≡ Ok (spec.reference_of (known_of env.now) (tree_of e.now)) }
+    ensures { Answers result (Ok (spec.reference_of (known_of env.now) (tree_of e.now))) }
 {
     match e {
         Expr::Name(text) => awaited_name(env, text.as_slice()),
@@ -133,7 +134,7 @@ fn reference_of(env: &Env, e: &Expr) -> Result<Option<Awaited>, StmtFault>
 
 /// The complete name that a symbol waits for, if it is not known.
 fn awaited_name(env: &Env, text: &[u8]) -> Result<Option<Awaited>, StmtFault>
-    ensures { result ≢ Err StmtFault.OutOfMemory → result ≡ Ok (spec.awaited_name env.now.names.now (spec.symbol_form env.now.names.now text.now)) }
+    ensures { Answers result (Ok (spec.awaited_name env.now.names.now (spec.symbol_form env.now.names.now text.now))) }
 {
     match env.names.resolve(text) {
         Ok(full) => match env.names.lookup(full.as_slice()) {
@@ -148,7 +149,7 @@ fn awaited_name(env: &Env, text: &[u8]) -> Result<Option<Awaited>, StmtFault>
 /// An operand that is pure, or a future reference.
 pub(crate) fn target_at(alloc: Global, env: &Env, e: &Expr) -> Result<Target, StmtFault>
     requires { HasDigits (tree_of e.now) }
-    ensures { result ≢ Err StmtFault.OutOfMemory → result ≡ spec.target_at (known_of env.now) (tree_of e.now) }
+    ensures { Answers result (spec.target_at (known_of env.now) (tree_of e.now)) }
 {
     if let Some(who) = reference_of(env, e)? {
         return Ok(Target::Future(who));

@@ -5,6 +5,7 @@ ghost use Rattle.mx_expr.specs.Tree.{tree_of, trees_of, HasDigits};
 ghost use Rattle.mx_stmt.specs.Encoding as spec;
 ghost use Rattle.mx_stmt.specs.Operands.{known_of, no_targets};
 ghost use Rattle.mx_stmt.specs.Reading.{OperandsHaveDigits};
+ghost use Rattle.mx_stmt.specs.Steps.{Answers};
 
 use crate::data::Data;
 use crate::operands::{operand_value, pure_at, register_at};
@@ -75,7 +76,7 @@ pub(crate) fn with_bytes(
 /// IS: the label gets the value of the operand.
 fn is_form(alloc: Global, env: &Env, label: &Option<Label>, e: &Expr) -> Result<Placed, StmtFault>
     requires { HasDigits (tree_of e.now) }
-    ensures placed { result ≢ Err StmtFault.OutOfMemory → result ≡ spec.is_form (known_of env.now) label.now (tree_of e.now) }
+    ensures placed { Answers result (spec.is_form (known_of env.now) label.now (tree_of e.now)) }
     ensures effect { IfOk result (λ placed. spec.IsPossible env.now.gregs.now placed.effect) }
 {
     let value = operand_value(alloc, env, e)?;
@@ -85,7 +86,7 @@ fn is_form(alloc: Global, env: &Env, label: &Option<Label>, e: &Expr) -> Result<
 /// LOC: the place becomes the operand; the label gets what it was before.
 fn loc_form(alloc: Global, env: &Env, label: &Option<Label>, e: &Expr) -> Result<Placed, StmtFault>
     requires { HasDigits (tree_of e.now) }
-    ensures placed { result ≢ Err StmtFault.OutOfMemory → result ≡ spec.loc_form (known_of env.now) label.now (tree_of e.now) }
+    ensures placed { Answers result (spec.loc_form (known_of env.now) label.now (tree_of e.now)) }
     ensures effect { IfOk result (λ placed. spec.IsPossible env.now.gregs.now placed.effect) }
 {
     let next = pure_at(alloc, env, e)?;
@@ -94,7 +95,7 @@ fn loc_form(alloc: Global, env: &Env, label: &Option<Label>, e: &Expr) -> Result
 
 /// The complete form of a symbol as it is written.
 fn complete_form(env: &Env, text: &[u8]) -> Result<Bytes, StmtFault>
-    ensures { result ≢ Err StmtFault.OutOfMemory → result ≡ spec.complete_symbol (known_of env.now) text.now }
+    ensures { Answers result (spec.complete_symbol (known_of env.now) text.now) }
 {
     match env.names.resolve(text) {
         Ok(full) => Ok(full),
@@ -110,7 +111,7 @@ fn prefix_form(
     label: &Option<Label>,
     e: &Expr,
 ) -> Result<Placed, StmtFault>
-    ensures placed { result ≢ Err StmtFault.OutOfMemory → result ≡ spec.prefix_form (known_of env.now) label.now (tree_of e.now) }
+    ensures placed { Answers result (spec.prefix_form (known_of env.now) label.now (tree_of e.now)) }
     ensures effect { IfOk result (λ placed. spec.IsPossible env.now.gregs.now placed.effect) }
 {
     match e {
@@ -132,7 +133,7 @@ fn prefix_form(
 /// GREG: the label gets the register of the operand's value.
 fn greg_form(alloc: Global, env: &Env, label: &Option<Label>, e: &Expr) -> Result<Placed, StmtFault>
     requires { HasDigits (tree_of e.now) }
-    ensures placed { result ≢ Err StmtFault.OutOfMemory → result ≡ spec.greg_form (known_of env.now) label.now (tree_of e.now) }
+    ensures placed { Answers result (spec.greg_form (known_of env.now) label.now (tree_of e.now)) }
     ensures effect { IfOk result (λ placed. spec.IsPossible env.now.gregs.now placed.effect) }
 {
     let value = pure_at(alloc, env, e)?;
@@ -155,7 +156,7 @@ fn local_form(
     e: &Expr,
 ) -> Result<Placed, StmtFault>
     requires { HasDigits (tree_of e.now) }
-    ensures placed { result ≢ Err StmtFault.OutOfMemory → result ≡ spec.local_form (known_of env.now) label.now (tree_of e.now) }
+    ensures placed { Answers result (spec.local_form (known_of env.now) label.now (tree_of e.now)) }
     ensures effect { IfOk result (λ placed. spec.IsPossible env.now.gregs.now placed.effect) }
 {
     let reg = register_at(alloc, env, e)?;
@@ -178,7 +179,7 @@ fn one_form(
     e: &Expr,
 ) -> Result<Placed, StmtFault>
     requires { HasDigits (tree_of e.now) }
-    ensures placed { result ≢ Err StmtFault.OutOfMemory → result ≡ spec.one_form (known_of env.now) label.now pseudo (tree_of e.now) }
+    ensures placed { Answers result (spec.one_form (known_of env.now) label.now pseudo (tree_of e.now)) }
     ensures effect { IfOk result (λ placed. spec.IsPossible env.now.gregs.now placed.effect) }
 {
     match pseudo {
@@ -200,7 +201,7 @@ pub(crate) fn one_operand(
     operands: &[Expr],
 ) -> Result<Placed, StmtFault>
     requires { OperandsHaveDigits operands.now }
-    ensures placed { result ≢ Err StmtFault.OutOfMemory → result ≡ spec.one_operand (known_of env.now) label.now pseudo (trees_of operands.now) }
+    ensures placed { Answers result (spec.one_operand (known_of env.now) label.now pseudo (trees_of operands.now)) }
     ensures effect { IfOk result (λ placed. spec.IsPossible env.now.gregs.now placed.effect) }
 {
     match operands {

@@ -70,9 +70,12 @@ pub fn read_statement(
 ) -> Result<Statement, StmtFault>
     requires { spec.CutWithin (length text.now) cut.now }
     ensures read { IfOk result (λ s. spec.IsRead (spec.fields_of text.now cut.now) line (parsed_of s)) }
-    ensures only { (s : Parsed) → spec.IsRead (spec.fields_of text.now cut.now) line s → result ≢ Err StmtFault.OutOfMemory → map_ok parsed_of result ≡ Ok s }
-    ensures fault { IfErr result (λ fault. fault ≢ StmtFault.OutOfMemory → spec.IsFault (spec.fields_of text.now cut.now) fault) }
-    ensures first { (fault : StmtFault) → spec.IsFault (spec.fields_of text.now cut.now) fault → result ≢ Err StmtFault.OutOfMemory → map_ok parsed_of result ≡ Err fault }
+    ensures only { (s : Parsed) → spec.IsRead (spec.fields_of text.now cut.now) line s →
+        result ≢ Err StmtFault.OutOfMemory → map_ok parsed_of result ≡ Ok s }
+    ensures fault { IfErr result (λ fault. fault ≢ StmtFault.OutOfMemory →
+        spec.IsFault (spec.fields_of text.now cut.now) fault) }
+    ensures first { (fault : StmtFault) → spec.IsFault (spec.fields_of text.now cut.now) fault →
+        result ≢ Err StmtFault.OutOfMemory → map_ok parsed_of result ≡ Err fault }
     ensures digits { IfOk result spec.StatementHasDigits }
 {
     let op = operation_for(cut.label.is_some(), part(text, cut.op))?;

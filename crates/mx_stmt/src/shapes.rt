@@ -6,6 +6,7 @@ ghost use Rattle.mx_ops.specs.Shapes.{shapes_of};
 ghost use Rattle.mx_stmt.specs.Forms as spec;
 ghost use Rattle.mx_stmt.specs.Operands.{known_of, no_targets};
 ghost use Rattle.mx_stmt.specs.Reading.{OperandsHaveDigits};
+ghost use Rattle.mx_stmt.specs.Steps.{Answers};
 
 use crate::forms::{
     Tetra, address_form, branch_form, byte_form, free_at, free_form, jump_form, last_form,
@@ -27,7 +28,8 @@ fn one_operand(
 ) -> Result<Tetra, StmtFault>
     requires digits { HasDigits (tree_of n.now) }
     requires second { IsTrue (spec.has_second shape) → code < 254 }
-    ensures { result ≢ Err StmtFault.OutOfMemory → result ≡ spec.form no_targets (known_of env.now) shape code (tree_of n.now ∷ []) }
+    ensures { Answers result (
+        spec.form no_targets (known_of env.now) shape code (tree_of n.now ∷ [])) }
 {
     match shape {
         Shape::Jump => jump_form(alloc, env, code, n),
@@ -49,7 +51,8 @@ fn two_operands(
     requires first { HasDigits (tree_of first.now) }
     requires last { HasDigits (tree_of last.now) }
     requires second { IsTrue (spec.has_second shape) → code < 254 }
-    ensures { result ≢ Err StmtFault.OutOfMemory → result ≡ spec.form no_targets (known_of env.now) shape code (tree_of first.now ∷ tree_of last.now ∷ []) }
+    ensures { Answers result (
+        spec.form no_targets (known_of env.now) shape code (tree_of first.now ∷ tree_of last.now ∷ [])) }
 {
     match shape {
         Shape::Round => {
@@ -114,7 +117,8 @@ fn three_operands(
     requires y { HasDigits (tree_of y.now) }
     requires z { HasDigits (tree_of z.now) }
     requires second { IsTrue (spec.has_second shape) → code < 254 }
-    ensures { result ≢ Err StmtFault.OutOfMemory → result ≡ spec.form no_targets (known_of env.now) shape code (tree_of x.now ∷ tree_of y.now ∷ tree_of z.now ∷ []) }
+    ensures { Answers result (
+        spec.form no_targets (known_of env.now) shape code (tree_of x.now ∷ tree_of y.now ∷ tree_of z.now ∷ [])) }
 {
     match shape {
         Shape::Three | Shape::Mem => {
@@ -155,7 +159,8 @@ pub(crate) fn instruction(
 ) -> Result<Tetra, StmtFault>
     requires digits { OperandsHaveDigits operands.now }
     requires second { IsTrue (spec.has_second shape) → code < 254 }
-    ensures { result ≢ Err StmtFault.OutOfMemory → result ≡ spec.form no_targets (known_of env.now) shape code (trees_of operands.now) }
+    ensures { Answers result (
+        spec.form no_targets (known_of env.now) shape code (trees_of operands.now)) }
 {
     match operands {
         [n] => one_operand(alloc, env, shape, code, n),
@@ -173,7 +178,8 @@ pub(crate) fn coded(
     operands: &[Expr],
 ) -> Result<Tetra, StmtFault>
     requires { OperandsHaveDigits operands.now }
-    ensures { result ≢ Err StmtFault.OutOfMemory → result ≡ spec.form_by no_targets (known_of env.now) (shapes_of code) code (trees_of operands.now) }
+    ensures { Answers result (
+        spec.form_by no_targets (known_of env.now) (shapes_of code) code (trees_of operands.now)) }
 {
     instruction(alloc, env, shape_of(code), code, operands)
 }
@@ -181,7 +187,7 @@ pub(crate) fn coded(
 /// SET.
 pub(crate) fn set_form(alloc: Global, env: &Env, operands: &[Expr]) -> Result<Tetra, StmtFault>
     requires { OperandsHaveDigits operands.now }
-    ensures { result ≢ Err StmtFault.OutOfMemory → result ≡ spec.set_form (known_of env.now) (trees_of operands.now) }
+    ensures { Answers result (spec.set_form (known_of env.now) (trees_of operands.now)) }
 {
     match operands {
         [x, y] => {

@@ -474,8 +474,7 @@ fn registers_run_out(rt: HostRuntime) {
     assert_eq!(rt; gregs.lowest(), 32);
     assert_eq!(rt;
         greg(rt.alloc(), &gregs, b"x GREG 0"),
-        Err(47),
-        "no register is left"
+        Err(47)
     );
     assert_eq!(rt;
         greg(rt.alloc(), &gregs, b"x GREG 33"),
