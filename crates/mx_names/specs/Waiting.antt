@@ -61,10 +61,10 @@ abbrev pub AreGroups : {K : Type 0} → (K → List ℕ) → ℕ → List (K × 
 AreGroups {K} bytes made entries = AllByRecursion (λ (e : K × List Numbered). IsGroup (bytes e.0) made e.1) entries
 
 -- the earlier of two references that may be there
-abbrev pub earlier : Option Numbered → Option Numbered → Option Numbered
-earlier None other = other
-earlier (Some x) None = Some x
-earlier (Some x) (Some y) = if nat_lt x.0 y.0 then Some x else Some y
+abbrev pub earlier_of_two : Option Numbered → Option Numbered → Option Numbered
+earlier_of_two None other = other
+earlier_of_two (Some x) None = Some x
+earlier_of_two (Some x) (Some y) = if nat_lt x.0 y.0 then Some x else Some y
 
 -- a reference that is lent, with its number
 abbrev pub numbered_wait : ℕ × Bor Wait → Numbered

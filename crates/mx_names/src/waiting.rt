@@ -135,11 +135,11 @@ fn add(
 }
 
 /// The earlier of two references that may be there.
-fn earlier<'a>(
+fn earlier_of_two<'a>(
     first: Option<(u64, &'a Wait)>,
     other: Option<(u64, &'a Wait)>,
 ) -> Option<(u64, &'a Wait)>
-    ensures { spec.lent_wait result ≡ spec.earlier (spec.lent_wait first.entry) (spec.lent_wait other.entry) }
+    ensures { spec.lent_wait result ≡ spec.earlier_of_two (spec.lent_wait first.entry) (spec.lent_wait other.entry) }
 {
     match (first, other) {
         (None, other) => other,
@@ -201,7 +201,7 @@ impl Waiting {
     {
         let mut first = None;
         for (_, group) in &self.groups {
-            first = earlier(first, group.first());
+            first = earlier_of_two(first, group.first());
         }
         match first {
             Some((_, wait)) => Some(wait),

@@ -12,7 +12,7 @@ use Rattle.mx_stmt.specs.declared.faults.StmtFault.{StmtFault}
 use Rattle.mx_stmt.specs.declared.faults.StmtFault.TheVariants.{LabelNotAllowed, OutOfMemory}
 use Rattle.mx_stmt.specs.Faults.{fault_of}
 use Rattle.mx_stmt.specs.Steps.{Answer}
-use Rattle.mx_stmt.specs.Encoding.{Parsed}
+use Rattle.mx_stmt.specs.Encoding.{StatementTree}
 use Rattle.mx_stmt.specs.Reading.{Fields, IsFault, IsRead, fields_of, label_in, takes_label, operation_for, operation_with}
 use Rattle.mx_stmt.specs.Fixes.{IsOperation}
 use Rattle.mx_stmt.specs.Reading.IsFault.{operation, operand_list}
@@ -41,7 +41,7 @@ pub of-operands : (fields : Fields) (op : Op) (fault : StmtFault) → operation_
 of-operands fields op fault is (operation other h) = cc
 of-operands fields op fault is (operand_list other list_fault h least) = record { list_fault = list_fault; first = least; is = refl }
 
-pub same-parsed : (a b : Parsed) → a.line ≡ b.line → a.label ≡ b.label → a.op ≡ b.op → a.operands ≡ b.operands → a ≡ b
+pub same-parsed : (a b : StatementTree) → a.line ≡ b.line → a.label ≡ b.label → a.op ≡ b.op → a.operands ≡ b.operands → a ≡ b
 same-parsed a b line label op operands = λ i. record { line = line i; label = label i; op = op i; operands = operands i }
 
 -- out of memory in the operand list is out of memory in the statement
@@ -60,5 +60,5 @@ operation-named labelled name (Some other) op is with = by (labelled && not (tak
     by true with = cc
     by false with = let same : other ≡ op = cc in (name, is ∙ ap (λ o. Some o) same)
 
-pub read-named : (fields : Fields) (line : ℕ) (s : Parsed) → IsRead fields line s → IsOperation s.op
+pub read-named : (fields : Fields) (line : ℕ) (s : StatementTree) → IsRead fields line s → IsOperation s.op
 read-named fields line s read = operation-named (is_some fields.label) fields.op (operation_of fields.op) s.op refl read.op_is

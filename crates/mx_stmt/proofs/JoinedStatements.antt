@@ -24,7 +24,7 @@ use Rattle.mx_stmt.specs.Gregs.{register_for}
 use Rattle.mx_stmt.specs.Operands.{Known, Targets, no_targets, operand_value, register_at, pure_at}
 use Rattle.mx_stmt.specs.Forms.{form, form_by, set_form}
 use Rattle.mx_stmt.specs.Data.{data_form}
-use Rattle.mx_stmt.specs.Encoding.{Parsed, alignment, known_at_place, label_value, with_bytes, tetra_waits, tetra_data, with_tetra, with_data, silent, complete_symbol, prefix_form, one_form, one_operand, pseudo_form, op_form, encoding}
+use Rattle.mx_stmt.specs.Encoding.{StatementTree, alignment, known_at_place, label_value, with_bytes, tetra_waits, tetra_data, with_tetra, with_data, without_bytes, complete_symbol, prefix_form, one_form, one_operand, pseudo_form, op_form, encoding}
 use Rattle.mx_stmt.specs.Placements.{from_place, placed}
 use Rattle.mx_stmt.specs.Fixes.{fix_placements, IsFixed, IsOperation, IsSound}
 use Rattle.mx_stmt.proofs.Alike.{alike-fault, alike-values, alike-after}
@@ -77,7 +77,7 @@ none-fault : (fault : StmtFault) → HasNoWaits (Err fault)
 unfolding HasNoWaits
 none-fault fault = tt
 
-none-silent : (k : Known) (label : Option Label) (value : Value) (effect : Effect) (next : ℕ) → HasNoWaits (silent k label value effect next)
+none-silent : (k : Known) (label : Option Label) (value : Value) (effect : Effect) (next : ℕ) → HasNoWaits (without_bytes k label value effect next)
 unfolding HasNoWaits
 none-silent k label value effect next = refl
 
@@ -129,7 +129,7 @@ op-joined t k line label Lda operands operation sound =
 op-joined t k line label Set operands operation sound =
     tetra-joined t k line label _ _ (set-joined t k line 0xc1 operands)
 
-pub encoding-joined : (t : Targets) (k : Known) (s : Parsed) → IsOperation s.op → IsSound k → AreAlike (IsFixed t) (encoding no_targets k s) (encoding t k s)
+pub encoding-joined : (t : Targets) (k : Known) (s : StatementTree) → IsOperation s.op → IsSound k → AreAlike (IsFixed t) (encoding no_targets k s) (encoding t k s)
 encoding-joined t k s operation sound =
     op-joined t (known_at_place (alignment s.op) k) s.line s.label s.op s.operands operation
     (record { symbols = sound.symbols; backs = sound.backs; gregs = sound.gregs })

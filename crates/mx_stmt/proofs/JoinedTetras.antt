@@ -17,7 +17,7 @@ use Rattle.mx_stmt.specs.declared.faults.StmtFault.TheVariants.{Operands}
 use Rattle.mx_stmt.specs.Steps.{Answer, AreAlike, and_then}
 use Rattle.mx_stmt.specs.Gregs.{base_for}
 use Rattle.mx_stmt.specs.Operands.{Known, Targets, no_targets, operand_value, register_at, field_at, register_or_byte_at, number_below, target_at}
-use Rattle.mx_stmt.specs.Forms.{plain, last_word, last_form, last_register, last_two, takes_byte, rounded_last, address_word, address_of, address_form, near_reach, far_reach, relative, future_word, relative_form, branch_form, jump_form, wyde_form, whole_form, byte_form, free_at, free_form, with_register, with_byte, form, form_by, set_to, set_to_operand, set_form, tetra_xyz, tetra_wyde, tetra_whole}
+use Rattle.mx_stmt.specs.Forms.{plain_tetra, last_word, last_form, last_register, last_two, takes_byte, rounded_last, address_word, address_of, address_form, near_reach, far_reach, relative_word, future_word, relative_form, branch_form, jump_form, wyde_form, whole_form, byte_form, free_at, free_form, with_register, with_byte, form, form_by, set_to, set_to_operand, set_form, tetra_xyz, tetra_wyde, tetra_whole}
 use Rattle.mx_stmt.specs.Encoding.{tetra_waits}
 use Rattle.mx_stmt.specs.Placements.{from_place, placed}
 use Rattle.mx_stmt.specs.Fixes.{fix_bytes, fix_placements, IsSound}
@@ -33,7 +33,7 @@ HasNoWait : Answer Tetra → Type 0
 HasNoWait (Err fault) = Unit {0}
 HasNoWait (Ok tetra) = tetra.wait ≡ None
 
-none-plain : (word : ℕ) → HasNoWait (plain word)
+none-plain : (word : ℕ) → HasNoWait (plain_tetra word)
 unfolding HasNoWait
 none-plain word = refl
 
@@ -52,10 +52,10 @@ none-cond false x y h g = g
 
 module _ (k : Known) (code : ℕ) where
   none-last : (x y : ℕ) (z : Tree) → HasNoWait (last_form k code x y z)
-  none-last x y z = none-then (register_or_byte_at k z) (λ z. plain (last_word code x y z)) (λ z. none-plain _)
+  none-last x y z = none-then (register_or_byte_at k z) (λ z. plain_tetra (last_word code x y z)) (λ z. none-plain _)
 
   none-register : (x y : ℕ) (z : Tree) → HasNoWait (last_register k code x y z)
-  none-register x y z = none-then (register_at k z) (λ z. plain (tetra_xyz code x y z)) (λ z. none-plain _)
+  none-register x y z = none-then (register_at k z) (λ z. plain_tetra (tetra_xyz code x y z)) (λ z. none-plain _)
 
   none-two : (x : ℕ) (y z : Tree) → HasNoWait (last_two k code x y z)
   none-two x y z = none-then (register_at k y) (λ y. last_form k code x y z) (λ y. none-last x y z)
@@ -65,23 +65,23 @@ module _ (k : Known) (code : ℕ) where
 
   none-address-of : (x : ℕ) (a : Value) → HasNoWait (address_of k code x a)
   none-address-of x (Reg y) = none-plain _
-  none-address-of x (Pure a) = none-then (base_for k.gregs a) (λ base. plain (address_word code x base)) (λ base. none-plain _)
+  none-address-of x (Pure a) = none-then (base_for k.gregs a) (λ base. plain_tetra (address_word code x base)) (λ base. none-plain _)
 
   none-address : (x : ℕ) (a : Tree) → HasNoWait (address_form k code x a)
   none-address x a = none-then (operand_value k a) (address_of k code x) (none-address-of x)
 
   none-wyde : (x : ℕ) (n : Tree) → HasNoWait (wyde_form k code x n)
-  none-wyde x n = none-then (field_at (2 ^ 16) k n) (λ n. plain (tetra_wyde code x n)) (λ n. none-plain _)
+  none-wyde x n = none-then (field_at (2 ^ 16) k n) (λ n. plain_tetra (tetra_wyde code x n)) (λ n. none-plain _)
 
   none-whole : (n : Tree) → HasNoWait (whole_form k code n)
-  none-whole n = none-then (field_at (2 ^ 24) k n) (λ n. plain (tetra_whole code n)) (λ n. none-plain _)
+  none-whole n = none-then (field_at (2 ^ 24) k n) (λ n. plain_tetra (tetra_whole code n)) (λ n. none-plain _)
 
   none-byte : (x : ℕ) (z : Tree) → HasNoWait (byte_form k code x z)
-  none-byte x z = none-then (field_at 256 k z) (λ z. plain (tetra_xyz code x 0 z)) (λ z. none-plain _)
+  none-byte x z = none-then (field_at 256 k z) (λ z. plain_tetra (tetra_xyz code x 0 z)) (λ z. none-plain _)
 
   none-free : (x y z : Tree) → HasNoWait (free_form k code x y z)
   none-free x y z =
-      none-then (free_at k x) _ (λ x. none-then (free_at k y) _ (λ y. none-then (free_at k z) (λ z. plain (tetra_xyz code x y z)) (λ z. none-plain _)))
+      none-then (free_at k x) _ (λ x. none-then (free_at k y) _ (λ y. none-then (free_at k z) (λ z. plain_tetra (tetra_xyz code x y z)) (λ z. none-plain _)))
 
 -- ---- instructions with a known target and with none
 
@@ -99,7 +99,7 @@ alike-none t line place (Ok x) none = alike-values _ x x (record {
 
 relative-alike : (t : Targets) (line place head reach : ℕ) (kind : WaitKind) (target : Target) → IsHead head reach → ((target : Option ℕ) → fix_bytes kind place target ≡ tetra_to_bytes (future_word 0 reach place target)) → AreAlike (IsJoined t line place) (relative_form no_targets head reach place kind target) (relative_form t head reach place kind target)
 relative-alike t line place head reach kind (target.Known n) is fix =
-    alike-none t line place (and_then (relative head reach place n) plain) (none-then (relative head reach place n) plain (λ word. none-plain word))
+    alike-none t line place (and_then (relative_word head reach place n) plain_tetra) (none-then (relative_word head reach place n) plain_tetra (λ word. none-plain word))
 relative-alike t line place head reach kind (target.Future who) is fix = alike-values _ _ _ (record {
   wait = refl;
   bytes = λ a.
@@ -176,7 +176,7 @@ module _ (t : Targets) (k : Known) (line code : ℕ) where
 
   none-set : (x : ℕ) (y : Value) → HasNoWait (set_to x y)
   none-set x (Reg y) = none-plain _
-  none-set x (Pure n) = none-then (number_below (2 ^ 16) n) (λ n. plain (tetra_wyde 0xe3 x n)) (λ n. none-plain _)
+  none-set x (Pure n) = none-then (number_below (2 ^ 16) n) (λ n. plain_tetra (tetra_wyde 0xe3 x n)) (λ n. none-plain _)
 
   pub set-joined : (l : List Tree) → Joined (set_form k l) (set_form k l)
   set-joined l = by-number (λ l. Joined (set_form k l) (set_form k l)) none (λ x. none) (λ x y. after-register x _ (λ x. none-then (operand_value k y) (set_to x) (none-set x))) (λ x y z. none) (λ x y z w more. none) l

@@ -6,7 +6,7 @@ use Rattle.std.proofs.lemmas.Nat.{xor_block}
 use Rattle.std.proofs.lemmas.Bool.{eqb-true, leb-true, leb-false, ltb-true}
 use Rattle.mx_stmt.specs.declared.faults.StmtFault.TheVariants.{NotMultiple, TooFar}
 use Rattle.mx_stmt.specs.Steps.{Answer}
-use Rattle.mx_stmt.specs.Forms.{forward, backward, relative, future_word, tetra_wyde, tetra_whole, near_reach, far_reach}
+use Rattle.mx_stmt.specs.Forms.{forward_word, backward_word, relative_word, future_word, tetra_wyde, tetra_whole, near_reach, far_reach}
 
 -- A head takes a number below the reach, and the second code with it.
 pub record IsHead (head reach : ℕ) : Type 0 where
@@ -14,7 +14,7 @@ pub record IsHead (head reach : ℕ) : Type 0 where
   pub backward_fix : (d : ℕ) → d < reach → head + 2 ^ 24 + d ≡ bit_xor head (2 ^ 24 + d)
 
 module _ (head reach : ℕ) (is : IsHead head reach) where
-  ahead : (distance : ℕ) → result_unwrap_or (forward head reach distance) head ≡ bit_xor head (result_unwrap_or (forward 0 reach distance) 0)
+  ahead : (distance : ℕ) → result_unwrap_or (forward_word head reach distance) head ≡ bit_xor head (result_unwrap_or (forward_word 0 reach distance) 0)
   ahead distance = by (distance % 4 == 0) (nat_lt (distance / 4) reach) (ltb-true (distance / 4) reach)
     where
       by : (b c : Bool) → (c ≡ true → distance / 4 < reach) → result_unwrap_or (cond (not b) (Err NotMultiple) (cond c (Ok (head + distance / 4)) (Err TooFar))) head ≡ bit_xor head (result_unwrap_or (cond (not b) (Err NotMultiple) (cond c (Ok (0 + distance / 4)) (Err TooFar))) 0)
@@ -23,7 +23,7 @@ module _ (head reach : ℕ) (is : IsHead head reach) where
       by false true near = sym (xor_zero_r head)
       by false false near = sym (xor_zero_r head)
 
-  behind : (distance : ℕ) → 0 < distance → result_unwrap_or (backward head reach distance) head ≡ bit_xor head (result_unwrap_or (backward 0 reach distance) 0)
+  behind : (distance : ℕ) → 0 < distance → result_unwrap_or (backward_word head reach distance) head ≡ bit_xor head (result_unwrap_or (backward_word 0 reach distance) 0)
   behind distance some = by (distance % 4 == 0) (nat_le (distance / 4) reach) (eqb-true (distance % 4) 0) (leb-true (distance / 4) reach)
     where
       by : (b c : Bool) → (b ≡ true → distance % 4 ≡ 0) → (c ≡ true → distance / 4 ≤ reach) → result_unwrap_or (cond (not b) (Err NotMultiple) (cond c (Ok (head + 2 ^ 24 + (reach - distance / 4))) (Err TooFar))) head ≡ bit_xor head (result_unwrap_or (cond (not b) (Err NotMultiple) (cond c (Ok (2 ^ 24 + (reach - distance / 4))) (Err TooFar))) 0)
@@ -36,7 +36,7 @@ module _ (head reach : ℕ) (is : IsHead head reach) where
   word-joined place None = sym (xor_zero_r head)
   word-joined place (Some target) = by (nat_le place target) (leb-false place target)
     where
-      by : (b : Bool) → (b ≡ false → target < place) → result_unwrap_or (cond b (forward head reach (target - place)) (backward head reach (place - target))) head ≡ bit_xor head (result_unwrap_or (cond b (forward 0 reach (target - place)) (backward 0 reach (place - target))) 0)
+      by : (b : Bool) → (b ≡ false → target < place) → result_unwrap_or (cond b (forward_word head reach (target - place)) (backward_word head reach (place - target))) head ≡ bit_xor head (result_unwrap_or (cond b (forward_word 0 reach (target - place)) (backward_word 0 reach (place - target))) 0)
       by true less = ahead (target - place)
       by false less = behind (place - target) (omega (arith, less refl))
 

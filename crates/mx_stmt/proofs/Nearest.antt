@@ -5,7 +5,7 @@ use Rattle.std.proofs.Math.Seq.{drop-length}
 use Rattle.mx_stmt.specs.declared.gregs.Base.{Base}
 use Rattle.std.proofs.lemmas.Bool.{eqb-true, eqb-false, leb-true, leb-false}
 use Rattle.mx_expr.specs.Value.{difference}
-use Rattle.mx_stmt.specs.Gregs.{IsNearest, lowest_of, nearest_base, nearest_from, nearer, with_register}
+use Rattle.mx_stmt.specs.Gregs.{IsNearest, lowest_of, nearest_base, nearest_from, nearer_base, with_register}
 
 pub nearest-none : (address first : ℕ) (values : List ℕ) → nearest_from address first (drop (length values) values) ≡ None
 unfolding nearest_from
@@ -71,7 +71,7 @@ found-later address first value values other closer found = record {
       [ zero ↦ λ h some. closer | suc i ↦ λ h some. found.least i (omega (arith, h)) some ];
 }
 
-found-nearer : (address first value : ℕ) (values : List ℕ) (others : Option Base) → value ≢ 0 → Found address (first + 1) values others → Found address first (value ∷ values) (Some (nearer (base_at address first value) others))
+found-nearer : (address first value : ℕ) (values : List ℕ) (others : Option Base) → value ≢ 0 → Found address (first + 1) values others → Found address first (value ∷ values) (Some (nearer_base (base_at address first value) others))
 found-nearer address first value values None some found = found-first address first value values some (λ i h other. absurd (other (found i h)))
 found-nearer address first value values (Some other) some found = by (nat_le (difference address value) other.above) (leb-true (difference address value) other.above) (leb-false (difference address value) other.above)
   where
@@ -82,7 +82,7 @@ found-nearer address first value values (Some other) some found = by (nat_le (di
 found-more : (address first value : ℕ) (values : List ℕ) (others : Option Base) → Found address (first + 1) values others → Found address first (value ∷ values) (with_register address first value others)
 found-more address first value values others found = by (value == 0) (eqb-true value 0) (eqb-false value 0)
   where
-    by : (b : Bool) → (b ≡ true → value ≡ 0) → (b ≡ false → value ≢ 0) → Found address first (value ∷ values) (if b then others else Some (nearer (base_at address first value) others))
+    by : (b : Bool) → (b ≡ true → value ≡ 0) → (b ≡ false → value ≢ 0) → Found address first (value ∷ values) (if b then others else Some (nearer_base (base_at address first value) others))
     by true holds fails = found-zero address first value values others (holds refl) found
     by false holds fails = found-nearer address first value values others (fails refl) found
 

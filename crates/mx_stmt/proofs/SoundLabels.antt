@@ -22,7 +22,7 @@ use Rattle.mx_stmt.specs.declared.faults.StmtFault.TheVariants.{BadPlace, Operan
 use Rattle.mx_stmt.specs.Steps.{Answer, and_then}
 use Rattle.mx_stmt.specs.Gregs.{IsAllocable, lowest_of, next_register, register_or_next, register_of_value, register_for}
 use Rattle.mx_stmt.specs.Operands.{Known, Targets, operand_value, register_at, pure_at}
-use Rattle.mx_stmt.specs.Encoding.{Parsed, IsPossible, alignment, known_at_place, label_value, with_bytes, with_tetra, with_data, tetra_data, silent, complete_symbol, prefix_form, one_form, one_operand, pseudo_form, op_form, encoding}
+use Rattle.mx_stmt.specs.Encoding.{StatementTree, IsPossible, alignment, known_at_place, label_value, with_bytes, with_tetra, with_data, tetra_data, without_bytes, complete_symbol, prefix_form, one_form, one_operand, pseudo_form, op_form, encoding}
 use Rattle.mx_stmt.specs.Fixes.{HasRegisterNumber, IsSound}
 use Rattle.mx_stmt.proofs.RegisterNumbers.{operand-fits}
 
@@ -74,7 +74,7 @@ label-fits : (label : Option Label) (value : Value) → HasRegisterNumber value 
 label-fits None value h = tt
 label-fits (Some label) value h = h
 
-fine-silent : (k : Known) (label : Option Label) (value : Value) (effect : Effect) (next : ℕ) → HasRegisterNumber value → IsPossible k.gregs effect → AllFine k.gregs (silent k label value effect next)
+fine-silent : (k : Known) (label : Option Label) (value : Value) (effect : Effect) (next : ℕ) → HasRegisterNumber value → IsPossible k.gregs effect → AllFine k.gregs (without_bytes k label value effect next)
 unfolding AllFine
 fine-silent k label value effect next fits possible = record { label = label-fits label value fits; effect = possible }
 
@@ -130,7 +130,7 @@ unfolding AllFine
 fine-value gregs (Err fault) p fine is = cc
 fine-value gregs (Ok q) p fine is = let same : q ≡ p = cc in subst (IsFine gregs) same fine
 
-pub encoding-fine : (t : Targets) (k : Known) (s : Parsed) (p : Placed) → IsSound k → encoding t k s ≡ Ok p → IsFine k.gregs p
+pub encoding-fine : (t : Targets) (k : Known) (s : StatementTree) (p : Placed) → IsSound k → encoding t k s ≡ Ok p → IsFine k.gregs p
 encoding-fine t k s p sound is =
     fine-value k.gregs (encoding t k s) p
     (fine-op t (known_at_place (alignment s.op) k) s.line s.label s.op s.operands (record { symbols = sound.symbols; backs = sound.backs; gregs = sound.gregs })) is

@@ -31,14 +31,14 @@ use Rattle.mx_stmt.specs.Forms.{form, form_by, set_form}
 use Rattle.mx_stmt.specs.Data.{data_form}
 
 -- A statement with its operands as trees.
-pub record Parsed : Type 0 where
+pub record StatementTree : Type 0 where
   pub line : ℕ
   pub label : Option Label
   pub op : Op
   pub operands : List Tree
 
-abbrev pub parsed_of : Statement → Parsed
-parsed_of s = record { line = s.line; label = s.label; op = s.op; operands = trees_of s.operands }
+abbrev pub statement_tree : Statement → StatementTree
+statement_tree s = record { line = s.line; label = s.label; op = s.op; operands = trees_of s.operands }
 
 -- An effect is possible where the register of a GREG may be given its value.
 abbrev pub IsPossible : List ℕ → Effect → Type 0
@@ -69,8 +69,8 @@ label_value None value = None
 label_value (Some label) value = Some value
 
 -- a statement that places no bytes
-abbrev pub silent : Known → Option Label → Value → Effect → ℕ → Answer Placed
-silent k label value effect next =
+abbrev pub without_bytes : Known → Option Label → Value → Effect → ℕ → Answer Placed
+without_bytes k label value effect next =
     Ok (record { start = k.at; bytes = []; waits = []; label = label_value label value; effect = effect; after = next })
 
 -- bytes at the place, of which none may lie at Stack_Segment or above
@@ -95,11 +95,11 @@ with_data k label d = and_then d (with_bytes k label)
 
 -- IS: the label gets the value of the operand.
 abbrev pub is_form : Known → Option Label → Tree → Answer Placed
-is_form k label e = and_then (operand_value k e) (λ value. silent k label value Plain k.at)
+is_form k label e = and_then (operand_value k e) (λ value. without_bytes k label value Plain k.at)
 
 -- LOC: `@` becomes the value; the label gets what it was before.
 abbrev pub loc_form : Known → Option Label → Tree → Answer Placed
-loc_form k label e = and_then (pure_at k e) (λ next. silent k label (Pure k.at) Plain next)
+loc_form k label e = and_then (pure_at k e) (λ next. without_bytes k label (Pure k.at) Plain next)
 
 -- PREFIX: the operand is a symbol, whose complete form becomes the prefix.
 abbrev pub symbol_answer : Result (List ℕ) NameFault → Answer (List ℕ)
@@ -110,17 +110,17 @@ abbrev pub complete_symbol : Known → List ℕ → Answer (List ℕ)
 complete_symbol k text = symbol_answer (symbol_form k.names text)
 
 abbrev pub prefix_form : Known → Option Label → Tree → Answer Placed
-prefix_form k label (name text) = and_then (complete_symbol k text) (λ full. silent k label (Pure k.at) (Prefix full) k.at)
+prefix_form k label (name text) = and_then (complete_symbol k text) (λ full. without_bytes k label (Pure k.at) (Prefix full) k.at)
 prefix_form k label e = Err Operands
 
 -- GREG: the label gets the register.
 abbrev pub greg_form : Known → Option Label → Tree → Answer Placed
 greg_form k label e =
-    and_then (pure_at k e) (λ value. and_then (register_for k.gregs value) (λ reg. silent k label (Reg reg) (Greg reg value) k.at))
+    and_then (pure_at k e) (λ value. and_then (register_for k.gregs value) (λ reg. without_bytes k label (Reg reg) (Greg reg value) k.at))
 
 -- LOCAL: the register has to stay below the final G.
 abbrev pub local_form : Known → Option Label → Tree → Answer Placed
-local_form k label e = and_then (register_at k e) (λ reg. silent k label (Pure k.at) (Local reg) k.at)
+local_form k label e = and_then (register_at k e) (λ reg. without_bytes k label (Pure k.at) (Local reg) k.at)
 
 -- the pseudo-operations that take one operand
 abbrev pub one_form : Known → Option Label → Pseudo → Tree → Answer Placed
@@ -150,5 +150,5 @@ op_form t k line label Lda operands = with_tetra k line label (form t k Mem 0x22
 op_form t k line label Set operands = with_tetra k line label (set_form k operands)
 
 -- One statement by what is known at it, with `@` as it was before the statement.
-abbrev pub encoding : Targets → Known → Parsed → Answer Placed
+abbrev pub encoding : Targets → Known → StatementTree → Answer Placed
 encoding t k s = op_form t (known_at_place (alignment s.op) k) s.line s.label s.op s.operands

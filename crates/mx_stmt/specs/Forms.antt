@@ -31,8 +31,8 @@ abbrev pub tetra_whole : ℕ → ℕ → ℕ
 tetra_whole code xyz = code * 2 ^ 24 + xyz
 
 -- an instruction with no reference
-abbrev pub plain : ℕ → Answer Tetra
-plain word = Ok (record { word = word; wait = None })
+abbrev pub plain_tetra : ℕ → Answer Tetra
+plain_tetra word = Ok (record { word = word; wait = None })
 
 -- `$Z|n`: a register, or a byte with the second code
 abbrev pub last_word : ℕ → ℕ → ℕ → RegisterOrByte → ℕ
@@ -40,11 +40,11 @@ last_word code x y (Register z) = tetra_xyz code x y z
 last_word code x y (Byte n) = tetra_xyz (code + 1) x y n
 
 abbrev pub last_form : Known → ℕ → ℕ → ℕ → Tree → Answer Tetra
-last_form k code x y z = and_then (register_or_byte_at k z) (λ z. plain (last_word code x y z))
+last_form k code x y z = and_then (register_or_byte_at k z) (λ z. plain_tetra (last_word code x y z))
 
 -- `$Z`
 abbrev pub last_register : Known → ℕ → ℕ → ℕ → Tree → Answer Tetra
-last_register k code x y z = and_then (register_at k z) (λ z. plain (tetra_xyz code x y z))
+last_register k code x y z = and_then (register_at k z) (λ z. plain_tetra (tetra_xyz code x y z))
 
 -- `$Y,$Z|n`
 abbrev pub last_two : Known → ℕ → ℕ → Tree → Tree → Answer Tetra
@@ -62,8 +62,8 @@ abbrev pub address_word : ℕ → ℕ → Base → ℕ
 address_word code x base = tetra_xyz (code + 1) x base.reg base.above
 
 abbrev pub address_of : Known → ℕ → ℕ → Value → Answer Tetra
-address_of k code x (Reg y) = plain (tetra_xyz (code + 1) x y 0)
-address_of k code x (Pure a) = and_then (base_for k.gregs a) (λ base. plain (address_word code x base))
+address_of k code x (Reg y) = plain_tetra (tetra_xyz (code + 1) x y 0)
+address_of k code x (Pure a) = and_then (base_for k.gregs a) (λ base. plain_tetra (address_word code x base))
 
 abbrev pub address_form : Known → ℕ → ℕ → Tree → Answer Tetra
 address_form k code x a = and_then (operand_value k a) (address_of k code x)
@@ -77,29 +77,29 @@ near_reach = 2 ^ 16
 abbrev pub far_reach : ℕ
 far_reach = 2 ^ 24
 
-abbrev pub forward : ℕ → ℕ → ℕ → Answer ℕ
-forward head reach distance =
+abbrev pub forward_word : ℕ → ℕ → ℕ → Answer ℕ
+forward_word head reach distance =
     if not (distance % 4 == 0) then Err NotMultiple
     else if nat_lt (distance / 4) reach then Ok (head + distance / 4)
     else Err TooFar
 
-abbrev pub backward : ℕ → ℕ → ℕ → Answer ℕ
-backward head reach distance =
+abbrev pub backward_word : ℕ → ℕ → ℕ → Answer ℕ
+backward_word head reach distance =
     if not (distance % 4 == 0) then Err NotMultiple
     else if nat_le (distance / 4) reach then Ok (head + 2 ^ 24 + (reach - distance / 4))
     else Err TooFar
 
-abbrev pub relative : ℕ → ℕ → ℕ → ℕ → Answer ℕ
-relative head reach place target =
-    if nat_le place target then forward head reach (target - place) else backward head reach (place - target)
+abbrev pub relative_word : ℕ → ℕ → ℕ → ℕ → Answer ℕ
+relative_word head reach place target =
+    if nat_le place target then forward_word head reach (target - place) else backward_word head reach (place - target)
 
 -- the tetra of a future reference: zero stands in the field where it has no target yet
 abbrev pub future_word : ℕ → ℕ → ℕ → Option ℕ → ℕ
 future_word head reach place None = head
-future_word head reach place (Some target) = result_unwrap_or (relative head reach place target) head
+future_word head reach place (Some target) = result_unwrap_or (relative_word head reach place target) head
 
 abbrev pub relative_form : Targets → ℕ → ℕ → ℕ → WaitKind → Target → Answer Tetra
-relative_form t head reach place kind (target.Known n) = and_then (relative head reach place n) plain
+relative_form t head reach place kind (target.Known n) = and_then (relative_word head reach place n) plain_tetra
 relative_form t head reach place kind (target.Future who) =
     Ok (record { word = future_word head reach place (t who); wait = Some (who, kind) })
 
@@ -112,14 +112,14 @@ jump_form t k code a = and_then (target_at k a) (relative_form t (tetra_whole co
 
 -- `n` of 16 bits after X, and `n` of 24 bits alone
 abbrev pub wyde_form : Known → ℕ → ℕ → Tree → Answer Tetra
-wyde_form k code x n = and_then (field_at (2 ^ 16) k n) (λ n. plain (tetra_wyde code x n))
+wyde_form k code x n = and_then (field_at (2 ^ 16) k n) (λ n. plain_tetra (tetra_wyde code x n))
 
 abbrev pub whole_form : Known → ℕ → Tree → Answer Tetra
-whole_form k code n = and_then (field_at (2 ^ 24) k n) (λ n. plain (tetra_whole code n))
+whole_form k code n = and_then (field_at (2 ^ 24) k n) (λ n. plain_tetra (tetra_whole code n))
 
 -- `n` of 8 bits as Z
 abbrev pub byte_form : Known → ℕ → ℕ → Tree → Answer Tetra
-byte_form k code x z = and_then (field_at 256 k z) (λ z. plain (tetra_xyz code x 0 z))
+byte_form k code x z = and_then (field_at 256 k z) (λ z. plain_tetra (tetra_xyz code x 0 z))
 
 -- a byte operand that may be a register, as a number
 abbrev pub byte_of : RegisterOrByte → ℕ
@@ -133,7 +133,7 @@ abbrev pub free_at : Known → Tree → Answer ℕ
 free_at k e = and_then (register_or_byte_at k e) free_byte
 
 abbrev pub free_form : Known → ℕ → Tree → Tree → Tree → Answer Tetra
-free_form k code x y z = and_then (free_at k x) (λ x. and_then (free_at k y) (λ y. and_then (free_at k z) (λ z. plain (tetra_xyz code x y z))))
+free_form k code x y z = and_then (free_at k x) (λ x. and_then (free_at k y) (λ y. and_then (free_at k z) (λ z. plain_tetra (tetra_xyz code x y z))))
 
 -- an operand that is a register, or pure and of 8 bits, before others
 abbrev pub with_register : Known → Tree → (ℕ → Answer Tetra) → Answer Tetra
@@ -189,8 +189,8 @@ form_by t k (shape ∷ shapes) code operands = form t k shape code operands
 
 -- SET: ORI with 0 for a register, SETL for a number of 16 bits
 abbrev pub set_to : ℕ → Value → Answer Tetra
-set_to x (Reg y) = plain (tetra_xyz 0xc1 x y 0)
-set_to x (Pure n) = and_then (number_below (2 ^ 16) n) (λ n. plain (tetra_wyde 0xe3 x n))
+set_to x (Reg y) = plain_tetra (tetra_xyz 0xc1 x y 0)
+set_to x (Pure n) = and_then (number_below (2 ^ 16) n) (λ n. plain_tetra (tetra_wyde 0xe3 x n))
 
 abbrev pub set_to_operand : Known → ℕ → Tree → Answer Tetra
 set_to_operand k x y = and_then (operand_value k y) (set_to x)

@@ -41,14 +41,14 @@ register_for gregs value = if value == 0 then next_register gregs else register_
 
 -- A base is a register for an address, and how far the address lies above its value, modulo 2^64.
 -- the nearer of a base and perhaps another one
-abbrev pub nearer : Base → Option Base → Base
-nearer base None = base
-nearer base (Some other) = if nat_le base.above other.above then base else other
+abbrev pub nearer_base : Base → Option Base → Base
+nearer_base base None = base
+nearer_base base (Some other) = if nat_le base.above other.above then base else other
 
 -- The nearest base for an address among the registers from one with this number on; a register with the value 0 is none.
 abbrev pub with_register : ℕ → ℕ → ℕ → Option Base → Option Base
 with_register address reg value others =
-    if value == 0 then others else Some (nearer (record { reg = reg; above = difference address value }) others)
+    if value == 0 then others else Some (nearer_base (record { reg = reg; above = difference address value }) others)
 
 unfoldable pub nearest_from : ℕ → ℕ → List ℕ → Option Base
 nearest_from address reg [] = None

@@ -20,7 +20,7 @@ use Rattle.mx_stmt.specs.declared.faults.StmtFault.{StmtFault}
 use Rattle.mx_stmt.specs.declared.faults.StmtFault.TheVariants.{UnknownOpcode, LabelNotAllowed}
 use Rattle.mx_stmt.specs.Faults.{fault_of}
 use Rattle.mx_stmt.specs.Steps.{Answer}
-use Rattle.mx_stmt.specs.Encoding.{Parsed}
+use Rattle.mx_stmt.specs.Encoding.{StatementTree}
 
 -- a label: one that begins with a digit is a local one
 abbrev pub label_of : List ℕ → Label
@@ -55,7 +55,7 @@ abbrev pub fields_of : List ℕ → Cut → Fields
 fields_of text cut = record { label = label_in text cut.label; op = part text cut.op; operands = part text cut.operands }
 
 -- The statement is what the fields say.
-pub record IsRead (fields : Fields) (line : ℕ) (s : Parsed) : Type 0 where
+pub record IsRead (fields : Fields) (line : ℕ) (s : StatementTree) : Type 0 where
   pub line_is : s.line ≡ line
   pub label_is : s.label ≡ fields.label
   pub op_is : operation_for (is_some fields.label) fields.op ≡ Ok s.op

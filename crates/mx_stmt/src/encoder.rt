@@ -159,7 +159,7 @@ fn place_at(multiple: u64, at: u64) -> u64
 /// NotMultiple, TooFar, NoBase, TooManyGregs and BadPlace.
 pub fn encode(alloc: Global, s: &Statement, env: &Env) -> Result<Placed, StmtFault>
     requires { OperandsHaveDigits s.now.operands }
-    ensures placed { Answers result (spec.encoding no_targets (known_of env.now) (spec.parsed_of s.now)) }
+    ensures placed { Answers result (spec.encoding no_targets (known_of env.now) (spec.statement_tree s.now)) }
     ensures effect { IfOk result (λ placed. spec.IsPossible env.now.gregs.now placed.effect) }
 {
     let env = Env {

@@ -12,7 +12,7 @@ use crate::operands::{
     RegisterOrByte, Target, byte_at, operand_value, register_at, register_or_byte_at, target_at,
     whole_at, wyde_at, wyde_number,
 };
-use crate::relative::relative;
+use crate::relative::relative_word;
 use crate::{Env, StmtFault};
 use mx_expr::Expr;
 use mx_ops::Shape;
@@ -49,8 +49,8 @@ fn tetra_whole(code: u8, xyz: u32) -> u32
 }
 
 /// An instruction with no reference.
-fn plain(word: u32) -> Result<Tetra, StmtFault>
-    ensures { result ≡ spec.plain word }
+fn plain_tetra(word: u32) -> Result<Tetra, StmtFault>
+    ensures { result ≡ spec.plain_tetra word }
 {
     Ok(Tetra { word, wait: None })
 }
@@ -69,8 +69,8 @@ pub(crate) fn last_form(
     ensures { Answers result (spec.last_form (known_of env.now) code x y (tree_of z.now)) }
 {
     match register_or_byte_at(alloc, env, z)? {
-        RegisterOrByte::Register(z) => plain(tetra_xyz(code, x, y, z)),
-        RegisterOrByte::Byte(n) => plain(tetra_xyz(code + 1, x, y, n)),
+        RegisterOrByte::Register(z) => plain_tetra(tetra_xyz(code, x, y, z)),
+        RegisterOrByte::Byte(n) => plain_tetra(tetra_xyz(code + 1, x, y, n)),
     }
 }
 
@@ -87,7 +87,7 @@ pub(crate) fn last_register(
     ensures { Answers result (spec.last_register (known_of env.now) code x y (tree_of z.now)) }
 {
     let z = register_at(alloc, env, z)?;
-    plain(tetra_xyz(code, x, y, z))
+    plain_tetra(tetra_xyz(code, x, y, z))
 }
 
 /// `$Y,$Z|n`.
@@ -141,10 +141,10 @@ pub(crate) fn address_form(
     ensures { Answers result (spec.address_form (known_of env.now) code x (tree_of a.now)) }
 {
     match operand_value(alloc, env, a)? {
-        Value::Reg(y) => plain(tetra_xyz(code + 1, x, y, 0)),
+        Value::Reg(y) => plain_tetra(tetra_xyz(code + 1, x, y, 0)),
         Value::Pure(a) => {
             let Base { reg, above } = env.gregs.base_for(a)?;
-            plain(tetra_xyz(code + 1, x, reg, above as u8))
+            plain_tetra(tetra_xyz(code + 1, x, reg, above as u8))
         }
     }
 }
@@ -162,8 +162,8 @@ fn relative_form(
 {
     match target {
         Target::Known(n) => {
-            let word = relative(head, reach, place, n)?;
-            plain(word)
+            let word = relative_word(head, reach, place, n)?;
+            plain_tetra(word)
         }
         Target::Future(who) => Ok(Tetra {
             word: head,
@@ -222,7 +222,7 @@ pub(crate) fn wyde_form(
     ensures { Answers result (spec.wyde_form (known_of env.now) code x (tree_of n.now)) }
 {
     let n = wyde_at(alloc, env, n)?;
-    plain(tetra_wyde(code, x, n))
+    plain_tetra(tetra_wyde(code, x, n))
 }
 
 /// `n` of 24 bits alone.
@@ -231,7 +231,7 @@ pub(crate) fn whole_form(alloc: Global, env: &Env, code: u8, n: &Expr) -> Result
     ensures { Answers result (spec.whole_form (known_of env.now) code (tree_of n.now)) }
 {
     let n = whole_at(alloc, env, n)?;
-    plain(tetra_whole(code, n))
+    plain_tetra(tetra_whole(code, n))
 }
 
 /// `n` of 8 bits as Z.
@@ -246,7 +246,7 @@ pub(crate) fn byte_form(
     ensures { Answers result (spec.byte_form (known_of env.now) code x (tree_of z.now)) }
 {
     let z = byte_at(alloc, env, z)?;
-    plain(tetra_xyz(code, x, 0, z))
+    plain_tetra(tetra_xyz(code, x, 0, z))
 }
 
 /// A byte that may be the number of a register.
@@ -277,7 +277,7 @@ pub(crate) fn free_form(
     let x = free_at(alloc, env, x)?;
     let y = free_at(alloc, env, y)?;
     let z = free_at(alloc, env, z)?;
-    plain(tetra_xyz(code, x, y, z))
+    plain_tetra(tetra_xyz(code, x, y, z))
 }
 
 /// SET of a register is ORI with 0, SET of a number of 16 bits is SETL.
@@ -286,10 +286,10 @@ pub(crate) fn set_to(alloc: Global, env: &Env, x: u8, y: &Expr) -> Result<Tetra,
     ensures { Answers result (spec.set_to_operand (known_of env.now) x (tree_of y.now)) }
 {
     match operand_value(alloc, env, y)? {
-        Value::Reg(y) => plain(tetra_xyz(0xc1, x, y, 0)),
+        Value::Reg(y) => plain_tetra(tetra_xyz(0xc1, x, y, 0)),
         Value::Pure(n) => {
             let n = wyde_number(n)?;
-            plain(tetra_wyde(0xe3, x, n))
+            plain_tetra(tetra_wyde(0xe3, x, n))
         }
     }
 }

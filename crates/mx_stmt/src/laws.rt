@@ -3,7 +3,7 @@
 ghost use Rattle.std.specs.Prelude.{◌≡◌, ◌≤◌, ℕ, List, length, Some, Ok, IfSome};
 ghost use Rattle.mx_stmt.specs.declared.gregs.Base.{Base};
 ghost use Rattle.mx_stmt.specs.declared.placed.Placed.{Placed};
-ghost use Rattle.mx_stmt.specs.Encoding.{Parsed, IsPossible, encoding};
+ghost use Rattle.mx_stmt.specs.Encoding.{StatementTree, IsPossible, encoding};
 ghost use Rattle.mx_stmt.specs.Fixes.{IsFixed, IsOperation, IsSound, HasRegisterNumber};
 ghost use Rattle.mx_stmt.specs.Gregs.{IsNearest, nearest_base};
 ghost use Rattle.mx_stmt.specs.Operands.{Known, Targets, no_targets};
@@ -19,20 +19,20 @@ pub fn nearest_base_is_least()
 
 /// The operation of a statement that was read is that of a name.
 pub fn operations_have_names()
-    ensures { (fields : Fields) (line : ℕ) (s : Parsed) → IsRead fields line s → IsOperation s.op }
+    ensures { (fields : Fields) (line : ℕ) (s : StatementTree) → IsRead fields line s → IsOperation s.op }
 {}
 
 /// Where the targets of future references are known, a statement comes to what it comes to without
 /// them, or to the same fault; only what its references add is joined to its bytes.
 pub fn targets_join_their_bytes()
-    ensures { (t : Targets) (k : Known) (s : Parsed) → IsOperation s.op → IsSound k →
+    ensures { (t : Targets) (k : Known) (s : StatementTree) → IsOperation s.op → IsSound k →
         AreAlike (IsFixed t) (encoding no_targets k s) (encoding t k s) }
 {}
 
 /// A label never stands for a register above $255, and a register that is allocated may be.
 pub fn registers_are_bytes()
-    ensures label { (t : Targets) (k : Known) (s : Parsed) (p : Placed) → IsSound k → encoding t k s ≡ Ok p →
+    ensures label { (t : Targets) (k : Known) (s : StatementTree) (p : Placed) → IsSound k → encoding t k s ≡ Ok p →
         IfSome p.label HasRegisterNumber }
-    ensures effect { (t : Targets) (k : Known) (s : Parsed) (p : Placed) → IsSound k → encoding t k s ≡ Ok p →
+    ensures effect { (t : Targets) (k : Known) (s : StatementTree) (p : Placed) → IsSound k → encoding t k s ≡ Ok p →
         IsPossible k.gregs p.effect }
 {}

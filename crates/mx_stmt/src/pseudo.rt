@@ -30,7 +30,7 @@ fn label_value(label: &Option<Label>, value: Value) -> Option<Value>
 }
 
 /// A statement that places no bytes.
-fn silent(
+fn without_bytes(
     alloc: Global,
     env: &Env,
     label: &Option<Label>,
@@ -38,7 +38,7 @@ fn silent(
     effect: Effect,
     next: u64,
 ) -> Result<Placed, StmtFault>
-    ensures { result ≡ spec.silent (known_of env.now) label.now value effect next }
+    ensures { result ≡ spec.without_bytes (known_of env.now) label.now value effect next }
 {
     Ok(Placed {
         start: env.at,
@@ -80,7 +80,7 @@ fn is_form(alloc: Global, env: &Env, label: &Option<Label>, e: &Expr) -> Result<
     ensures effect { IfOk result (λ placed. spec.IsPossible env.now.gregs.now placed.effect) }
 {
     let value = operand_value(alloc, env, e)?;
-    silent(alloc, env, label, value, Effect::Plain, env.at)
+    without_bytes(alloc, env, label, value, Effect::Plain, env.at)
 }
 
 /// LOC: the place becomes the operand; the label gets what it was before.
@@ -90,7 +90,7 @@ fn loc_form(alloc: Global, env: &Env, label: &Option<Label>, e: &Expr) -> Result
     ensures effect { IfOk result (λ placed. spec.IsPossible env.now.gregs.now placed.effect) }
 {
     let next = pure_at(alloc, env, e)?;
-    silent(alloc, env, label, Value::Pure(env.at), Effect::Plain, next)
+    without_bytes(alloc, env, label, Value::Pure(env.at), Effect::Plain, next)
 }
 
 /// The complete form of a symbol as it is written.
@@ -117,7 +117,7 @@ fn prefix_form(
     match e {
         Expr::Name(text) => {
             let full = complete_form(env, text.as_slice())?;
-            silent(
+            without_bytes(
                 alloc,
                 env,
                 label,
@@ -138,7 +138,7 @@ fn greg_form(alloc: Global, env: &Env, label: &Option<Label>, e: &Expr) -> Resul
 {
     let value = pure_at(alloc, env, e)?;
     let reg = env.gregs.register_for(value)?;
-    silent(
+    without_bytes(
         alloc,
         env,
         label,
@@ -160,7 +160,7 @@ fn local_form(
     ensures effect { IfOk result (λ placed. spec.IsPossible env.now.gregs.now placed.effect) }
 {
     let reg = register_at(alloc, env, e)?;
-    silent(
+    without_bytes(
         alloc,
         env,
         label,

@@ -2,7 +2,7 @@
 
 ghost use Rattle.std.specs.Prelude.{◌≡◌, ◌≢◌, ℕ, length, IfSome, IfOk, IfErr, Ok, Err};
 ghost use Rattle.mx_word.specs.Results.{map_ok};
-ghost use Rattle.mx_stmt.specs.Encoding.{Parsed, parsed_of};
+ghost use Rattle.mx_stmt.specs.Encoding.{StatementTree, statement_tree};
 ghost use Rattle.mx_stmt.specs.Reading as spec;
 ghost use Rattle.mx_stmt.specs.declared.faults.StmtFault.{StmtFault};
 
@@ -69,13 +69,13 @@ pub fn read_statement(
     line: u32,
 ) -> Result<Statement, StmtFault>
     requires { spec.CutWithin (length text.now) cut.now }
-    ensures read { IfOk result (λ s. spec.IsRead (spec.fields_of text.now cut.now) line (parsed_of s)) }
-    ensures only { (s : Parsed) → spec.IsRead (spec.fields_of text.now cut.now) line s →
-        result ≢ Err StmtFault.OutOfMemory → map_ok parsed_of result ≡ Ok s }
+    ensures read { IfOk result (λ s. spec.IsRead (spec.fields_of text.now cut.now) line (statement_tree s)) }
+    ensures only { (s : StatementTree) → spec.IsRead (spec.fields_of text.now cut.now) line s →
+        result ≢ Err StmtFault.OutOfMemory → map_ok statement_tree result ≡ Ok s }
     ensures fault { IfErr result (λ fault. fault ≢ StmtFault.OutOfMemory →
         spec.IsFault (spec.fields_of text.now cut.now) fault) }
     ensures first { (fault : StmtFault) → spec.IsFault (spec.fields_of text.now cut.now) fault →
-        result ≢ Err StmtFault.OutOfMemory → map_ok parsed_of result ≡ Err fault }
+        result ≢ Err StmtFault.OutOfMemory → map_ok statement_tree result ≡ Err fault }
     ensures digits { IfOk result spec.StatementHasDigits }
 {
     let op = operation_for(cut.label.is_some(), part(text, cut.op))?;

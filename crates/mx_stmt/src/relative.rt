@@ -7,21 +7,26 @@ use crate::StmtFault;
 
 /// The tetra with the relative address of a target. The head is the tetra with zero in the field,
 /// and the reach is one more than the field's largest number.
-pub(crate) fn relative(head: u32, reach: u32, place: u64, target: u64) -> Result<u32, StmtFault>
+pub(crate) fn relative_word(
+    head: u32,
+    reach: u32,
+    place: u64,
+    target: u64,
+) -> Result<u32, StmtFault>
     requires { head + 2 ^ 24 + reach < 2 ^ 32 }
-    ensures { result ≡ spec.relative head reach place target }
+    ensures { result ≡ spec.relative_word head reach place target }
 {
     if place <= target {
-        forward(head, reach, target - place)
+        forward_word(head, reach, target - place)
     } else {
-        backward(head, reach, place - target)
+        backward_word(head, reach, place - target)
     }
 }
 
 /// The tetra with the relative address of a target so far ahead.
-fn forward(head: u32, reach: u32, distance: u64) -> Result<u32, StmtFault>
+fn forward_word(head: u32, reach: u32, distance: u64) -> Result<u32, StmtFault>
     requires { head + reach < 2 ^ 32 }
-    ensures { result ≡ spec.forward head reach distance }
+    ensures { result ≡ spec.forward_word head reach distance }
 {
     if distance % 4 != 0 {
         Err(StmtFault::NotMultiple)
@@ -33,9 +38,9 @@ fn forward(head: u32, reach: u32, distance: u64) -> Result<u32, StmtFault>
 }
 
 /// The tetra with the relative address of a target so far back.
-fn backward(head: u32, reach: u32, distance: u64) -> Result<u32, StmtFault>
+fn backward_word(head: u32, reach: u32, distance: u64) -> Result<u32, StmtFault>
     requires { head + 2 ^ 24 + reach < 2 ^ 32 }
-    ensures { result ≡ spec.backward head reach distance }
+    ensures { result ≡ spec.backward_word head reach distance }
 {
     if distance % 4 != 0 {
         Err(StmtFault::NotMultiple)

@@ -472,10 +472,7 @@ fn registers_run_out(rt: HostRuntime) {
     );
     gregs.set(32, 0);
     assert_eq!(rt; gregs.lowest(), 32);
-    assert_eq!(rt;
-        greg(rt.alloc(), &gregs, b"x GREG 0"),
-        Err(47)
-    );
+    assert_eq!(rt; greg(rt.alloc(), &gregs, b"x GREG 0"), Err(47));
     assert_eq!(rt;
         greg(rt.alloc(), &gregs, b"x GREG 33"),
         Ok(Some(Value::Reg(33)))

@@ -1,5 +1,5 @@
 use Rattle.std.proofs.Common.{refl, sym, ap, subst, ◌∙◌, option_map}
-use Rattle.mx_names.specs.Waiting.{Numbered, all_in_order, first_of, earlier, lent_wait}
+use Rattle.mx_names.specs.Waiting.{Numbered, all_in_order, first_of, earlier_of_two, lent_wait}
 use Rattle.mx_names.proofs.First.{EachRising, rising-all, first-more, first-is}
 use Rattle.mx_names.proofs.waiting.Waiting.first.Goals as goal
 
@@ -15,8 +15,8 @@ loop-group-preserved c =
     record {
       rising = rising.1;
       first =
-          first-more (lent_wait c.loop-group.first) (lent_wait c.earlier-first.result) (c.in-Some.field-0-0.now, c.in-Some.group.now) c.next.new.self rising.0 (c.earlier-first.ensures ∙ ap (earlier (lent_wait c.loop-group.first)) c.first.ensures)
-          ∙ ap (λ l. earlier (lent_wait c.loop-group.first) (first_of (all_in_order l))) (sym c.in-Some.ensures.steps)
+          first-more (lent_wait c.loop-group.first) (lent_wait c.earlier_of_two-first.result) (c.in-Some.field-0-0.now, c.in-Some.group.now) c.next.new.self rising.0 (c.earlier_of_two-first.ensures ∙ ap (earlier_of_two (lent_wait c.loop-group.first)) c.first.ensures)
+          ∙ ap (λ l. earlier_of_two (lent_wait c.loop-group.first) (first_of (all_in_order l))) (sym c.in-Some.ensures.steps)
           ∙ c.loop-group.invariant.first;
     }
 
