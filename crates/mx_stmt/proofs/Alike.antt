@@ -1,5 +1,5 @@
 -- Answers that are alike.
-use Rattle.std.proofs.Common.{◌≡◌, Result, Ok, Err, refl}
+use Rattle.std.proofs.Common.{◌≡◌, Ok, Err, refl}
 use Rattle.mx_stmt.specs.declared.faults.StmtFault.{StmtFault}
 use Rattle.mx_stmt.specs.Steps.{Answer, AreAlike, and_then}
 

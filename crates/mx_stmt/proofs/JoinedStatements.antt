@@ -1,7 +1,6 @@
 -- What a statement places, with its targets known and with none.
-use Rattle.std.proofs.Common.{◌≡◌, ◌<◌, ◌≤◌, ℕ, ◌+◌, ◌^◌, nat_lt, Bool, true, false, cond, List, [], ◌∷◌, ◌++◌, length, Option, None, Some, Result, Ok, Err, refl, sym, ap, ◌∙◌, arith, append-nil}
+use Rattle.std.proofs.Common.{◌≡◌, ◌≤◌, ℕ, ◌+◌, nat_lt, Bool, true, false, cond, List, [], ◌∷◌, ◌++◌, length, Option, Ok, Err, refl, sym, ap, ◌∙◌, arith, append-nil}
 use Rattle.std.proofs.lemmas.Bool.{ltb-false, false≢true}
-use Rattle.mx_word.specs.Words.{tetra_to_bytes}
 use Rattle.mx_word.specs.declared.symbols.Value.{Value}
 use Rattle.mx_word.specs.declared.symbols.Value.TheVariants.{Pure, Reg}
 use Rattle.mx_expr.specs.Tree.{Tree, name}
@@ -22,8 +21,6 @@ use Rattle.mx_stmt.specs.declared.faults.StmtFault.TheVariants.{BadPlace, Operan
 use Rattle.mx_stmt.specs.Steps.{Answer, AreAlike, and_then}
 use Rattle.mx_stmt.specs.Gregs.{register_for}
 use Rattle.mx_stmt.specs.Operands.{Known, Targets, no_targets, operand_value, register_at, pure_at}
-use Rattle.mx_stmt.specs.Forms.{form, form_by, set_form}
-use Rattle.mx_stmt.specs.Data.{data_form}
 use Rattle.mx_stmt.specs.Encoding.{StatementTree, alignment, known_at_place, label_value, with_bytes, tetra_waits, tetra_data, with_tetra, with_data, without_bytes, complete_symbol, prefix_form, one_form, one_operand, pseudo_form, op_form, encoding}
 use Rattle.mx_stmt.specs.Placements.{from_place, placed}
 use Rattle.mx_stmt.specs.Fixes.{fix_placements, IsFixed, IsOperation, IsSound}

@@ -1,5 +1,5 @@
 -- The tetra of an instruction, with its target known and with none.
-use Rattle.std.proofs.Common.{◌≡◌, ◌<◌, ℕ, ◌%◌, ◌^◌, Bool, true, false, cond, List, [], ◌∷◌, ◌++◌, Option, None, Some, Result, Ok, Err, bit_xor, refl, sym, ap, ◌∙◌, append-nil}
+use Rattle.std.proofs.Common.{◌≡◌, ℕ, ◌%◌, ◌^◌, Bool, true, false, cond, List, [], ◌∷◌, ◌++◌, Option, None, Ok, Err, bit_xor, refl, sym, ap, ◌∙◌, append-nil}
 use Rattle.mx_word.specs.Words.{tetra_to_bytes}
 use Rattle.mx_word.specs.declared.symbols.Value.{Value}
 use Rattle.mx_word.specs.declared.symbols.Value.TheVariants.{Pure, Reg}
@@ -8,7 +8,6 @@ use Rattle.mx_word.specs.declared.waits.WaitKind.TheVariants.{Near, Far}
 use Rattle.mx_expr.specs.Tree.{Tree}
 use Rattle.mx_ops.specs.declared.op.Shape.{Shape}
 use Rattle.mx_ops.specs.declared.op.Shape.TheVariants.{Three, Regs, Round, Neg, Rel, Mem, MemPure, Wyde, Jump, Put, Get, Pop, One, Save, Unsave, Free}
-use Rattle.mx_stmt.specs.declared.gregs.Base.{Base}
 use Rattle.mx_stmt.specs.declared.operands.Target.{Target}
 use Rattle.mx_stmt.specs.declared.operands.Target.TheVariants as target
 use Rattle.mx_stmt.specs.declared.forms.Tetra.{Tetra}
@@ -17,7 +16,7 @@ use Rattle.mx_stmt.specs.declared.faults.StmtFault.TheVariants.{Operands}
 use Rattle.mx_stmt.specs.Steps.{Answer, AreAlike, and_then}
 use Rattle.mx_stmt.specs.Gregs.{base_for}
 use Rattle.mx_stmt.specs.Operands.{Known, Targets, no_targets, operand_value, register_at, field_at, register_or_byte_at, number_below, target_at}
-use Rattle.mx_stmt.specs.Forms.{plain_tetra, last_word, last_form, last_register, last_two, takes_byte, rounded_last, address_word, address_of, address_form, near_reach, far_reach, relative_word, future_word, relative_form, branch_form, jump_form, wyde_form, whole_form, byte_form, free_at, free_form, with_register, with_byte, form, form_by, set_to, set_to_operand, set_form, tetra_xyz, tetra_wyde, tetra_whole}
+use Rattle.mx_stmt.specs.Forms.{plain_tetra, last_word, last_form, last_register, last_two, takes_byte, rounded_last, address_word, address_of, address_form, near_reach, far_reach, relative_word, future_word, relative_form, branch_form, wyde_form, whole_form, byte_form, free_at, free_form, with_register, with_byte, form, form_by, set_to, set_form, tetra_xyz, tetra_wyde, tetra_whole}
 use Rattle.mx_stmt.specs.Encoding.{tetra_waits}
 use Rattle.mx_stmt.specs.Placements.{from_place, placed}
 use Rattle.mx_stmt.specs.Fixes.{fix_bytes, fix_placements, IsSound}

@@ -12,3 +12,4 @@ pub mod JoinedTetras
 pub mod JoinedData
 pub mod JoinedStatements
 pub mod SoundLabels
+pub mod SoundKnowledge

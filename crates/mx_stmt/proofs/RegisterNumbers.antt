@@ -1,20 +1,20 @@
 -- A value of an operand that is a register has a byte as its number.
-use Rattle.std.proofs.Common.{◌≡◌, ◌<◌, ◌≤◌, ℕ, ◌+◌, ◌%◌, ◌^◌, ◌==◌, nat_le, nat_lt, Bool, true, false, cond, IfOk, List, Option, None, Some, Result, Ok, Err, refl, subst, arith}
+use Rattle.std.proofs.Common.{◌≡◌, ◌<◌, ◌≤◌, ℕ, ◌^◌, nat_le, Bool, true, false, cond, IfOk, List, Option, None, Some, Result, Ok, Err, refl, subst, arith}
 use Rattle.std.proofs.lemmas.Bool.{leb-true}
 use Rattle.std.specs.Option.{IfSome}
 use Rattle.mx_word.specs.declared.symbols.Value.{Value}
 use Rattle.mx_word.specs.declared.symbols.Value.TheVariants.{Pure, Reg}
 use Rattle.mx_expr.specs.declared.faults.ExprFault.{ExprFault}
-use Rattle.mx_expr.specs.declared.faults.ExprFault.TheVariants.{DivZero, FractionTooBig, RegisterNumber}
+use Rattle.mx_expr.specs.declared.faults.ExprFault.TheVariants.{RegisterNumber}
 use Rattle.mx_expr.specs.declared.tree.UnOp.{UnOp}
 use Rattle.mx_expr.specs.declared.tree.UnOp.TheVariants.{Plus, Minus, Not, Register}
 use Rattle.mx_expr.specs.declared.tree.BinOp.{BinOp}
-use Rattle.mx_expr.specs.declared.tree.BinOp.TheVariants.{Mul, Div, Fraction, Rem, Left, Right, And, Add, Sub, Or, Xor}
+use Rattle.mx_expr.specs.declared.tree.BinOp.TheVariants.{Div, Fraction, Rem, Add, Sub}
 use Rattle.mx_expr.specs.Tree.{Tree, number, name, back, ahead, here, unary, binary}
-use Rattle.mx_expr.specs.Value.{Valued, register, difference, unary_value, binary_value, after_operand, after_right, after_both, of_symbol, value_of}
+use Rattle.mx_expr.specs.Value.{Valued, register, unary_value, binary_value, after_operand, after_both, of_symbol, value_of}
 use Rattle.mx_names.specs.declared.fault.NameFault.{NameFault}
 use Rattle.mx_names.specs.Names.{NameTable, value_of_name}
-use Rattle.mx_stmt.specs.Steps.{Answer, and_then}
+use Rattle.mx_stmt.specs.Steps.{and_then}
 use Rattle.mx_stmt.specs.Operands.{Known, knowledge_of, symbol_form, value_in, answer_of, operand_value, register_number, register_at}
 use Rattle.mx_stmt.specs.Fixes.{HasRegisterNumber, IsSound}
 

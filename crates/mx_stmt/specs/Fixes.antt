@@ -1,5 +1,5 @@
 -- What a future reference adds to the bytes of its statement once its target is known.
-use Rattle.std.specs.Prelude.{◌≡◌, ◌<◌, ◌≤◌, ℕ, ◌^◌, List, [], ◌∷◌, ◌++◌, length, Option, Some, IfSome, unwrap_or, Ok, Err}
+use Rattle.std.specs.Prelude.{◌≡◌, ◌<◌, ◌≤◌, ℕ, ◌^◌, List, [], ◌∷◌, ◌++◌, length, Option, Some, IfSome, unwrap_or}
 use Rattle.mx_word.specs.declared.symbols.Value.{Value}
 use Rattle.mx_word.specs.declared.symbols.Value.TheVariants.{Pure, Reg}
 use Rattle.mx_word.specs.declared.waits.Wait.{Wait}
@@ -10,7 +10,6 @@ use Rattle.mx_names.specs.Names.{value_of_name, back_of}
 use Rattle.mx_ops.specs.declared.op.Op.{Op}
 use Rattle.mx_ops.specs.Opcodes.{operation_of}
 use Rattle.mx_stmt.specs.declared.placed.Placed.{Placed}
-use Rattle.mx_stmt.specs.Steps.{Answer}
 use Rattle.mx_stmt.specs.Gregs.{lowest_of}
 use Rattle.mx_stmt.specs.Operands.{Known, Targets}
 use Rattle.mx_stmt.specs.Forms.{near_reach, far_reach, future_word}

@@ -1,11 +1,13 @@
 //! What holds of the definitions alone.
 
-ghost use Rattle.std.specs.Prelude.{◌≡◌, ◌≤◌, ℕ, List, length, Some, Ok, IfSome};
+ghost use Rattle.std.specs.Prelude.{◌≡◌, ◌≤◌, ℕ, List, [], length, slice_set, Some, None, Ok, IfSome};
+ghost use Rattle.mx_names.specs.Names.{start, value_in, with_symbol};
+ghost use Rattle.mx_word.specs.declared.symbols.Value.{Value};
 ghost use Rattle.mx_stmt.specs.declared.gregs.Base.{Base};
 ghost use Rattle.mx_stmt.specs.declared.placed.Placed.{Placed};
 ghost use Rattle.mx_stmt.specs.Encoding.{StatementTree, IsPossible, encoding};
 ghost use Rattle.mx_stmt.specs.Fixes.{IsFixed, IsOperation, IsSound, HasRegisterNumber};
-ghost use Rattle.mx_stmt.specs.Gregs.{IsNearest, nearest_base};
+ghost use Rattle.mx_stmt.specs.Gregs.{IsAllocable, IsNearest, nearest_base, with_greg};
 ghost use Rattle.mx_stmt.specs.Operands.{Known, Targets, no_targets};
 ghost use Rattle.mx_stmt.specs.Reading.{Fields, IsRead};
 ghost use Rattle.mx_stmt.specs.Steps.{AreAlike};
@@ -35,4 +37,16 @@ pub fn registers_are_bytes()
         IfSome p.label HasRegisterNumber }
     ensures effect { (t : Targets) (k : Known) (s : StatementTree) (p : Placed) → IsSound k → encoding t k s ≡ Ok p →
         IsPossible k.gregs p.effect }
+{}
+
+/// What is known stays sound: before the first statement, behind the label of a symbol that was not
+/// defined, behind a local label, and behind a register that is given.
+pub fn knowledge_stays_sound()
+    ensures start { (at : ℕ) → IsSound (record { names = start; at = at; gregs = [] }) }
+    ensures symbol { (k : Known) (full : List ℕ) (v : Value) → value_in full k.names.symbols ≡ None →
+        HasRegisterNumber v → IsSound k → IsSound (record k { names = with_symbol k.names full v }) }
+    ensures local { (k : Known) (d : ℕ) (v : Value) → HasRegisterNumber v → IsSound k →
+        IsSound (record k { names = record k.names { backs = slice_set k.names.backs d v } }) }
+    ensures register { (k : Known) (reg value : ℕ) → IsAllocable k.gregs reg → IsSound k →
+        IsSound (record k { gregs = with_greg k.gregs reg value }) }
 {}
