@@ -1,10 +1,9 @@
 -- What the entries of the map say as a list of symbols.
-use Rattle.std.proofs.Common.{ℕ, ◌+◌, ◌<◌, ◌≡◌, ◌⊎◌, inl, inr, Bool, true, false, cond, List, [], ◌∷◌, map, length, Option, Some, None, is_some, Ordering, refl, sym, ◌∙◌, ap, arith, bytes_eq}
+use Rattle.std.proofs.Common.{ℕ, ◌+◌, ◌≡◌, Bool, true, false, cond, List, [], ◌∷◌, map, length, Option, Some, None, is_some, Ordering, refl, sym, ◌∙◌, ap, arith, bytes_eq}
 use Rattle.std.specs.Option.{option_map}
 use Rattle.std.specs.Map.{lookup, keys_of}
 use Rattle.std.specs.BTreeMap.{is_at, insert_entry}
-use Rattle.std.specs.Ordering.{nat_cmp, is_lt, is_eq, match_ordering, ordering_then, MatchOrdering}
-use Rattle.std.proofs.lemmas.Cmp.{ranked}
+use Rattle.std.specs.Ordering.{nat_cmp, is_lt, is_eq, match_ordering}
 use Rattle.std.specs.declared.cmp.Ordering.TheVariants.{Less, Equal, Greater}
 use Rattle.std.specs.Cmp.Lexicographic.{slice_cmp}
 use Rattle.std.specs.List.{AllByRecursion}
@@ -13,13 +12,14 @@ use Rattle.std.proofs.lemmas.Map.Text.{is_eq-slice_cmp}
 use Rattle.std.proofs.lemmas.Slice.Eq.{bytes_eq-Decides}
 use Rattle.std.proofs.lemmas.Bool.{false≢true}
 use Rattle.std.proofs.Math.ListN.{length-map}
+use Rattle.mx_word.specs.Symbols.{InByteOrder, IsNamed}
 use Rattle.mx_word.specs.declared.symbols.Value.{Value}
 use Rattle.mx_word.specs.declared.symbols.Symbol.{Symbol}
+use Rattle.mx_word.specs.declared.waits.Wait.{Wait}
 use Rattle.mx_ops.specs.Predefined.{predefined_value}
 use Rattle.mx_names.specs.declared.names.Definition.{Definition}
-use Rattle.mx_names.specs.Names.{value_in, symbols_with, first_value, pure_of, value_of_name, with_symbol, NameTable}
-use Rattle.mx_names.specs.Order.{Before, AreInOrder}
-use Rattle.mx_names.specs.Entries.{symbol_of}
+use Rattle.mx_names.specs.Names.{IsFullName, value_in, symbols_with, first_value, pure_of, value_of_name, with_symbol, NameTable}
+use Rattle.mx_names.specs.Entries.{symbol_of, IsInRange}
 
 -- a look-up in the symbols is one in the map
 found-step : (b c : Bool) (v : Value) (d : Definition) (rest : Option Value) (more : Option Definition) → c ≡ b → v ≡ d.value → rest ≡ option_map (λ (d : Definition). d.value) more → cond b (Some v) rest ≡ option_map (λ (d : Definition). d.value) (cond c (Some d) more)
@@ -28,23 +28,11 @@ found-step true false v d rest more same value h = cc
 found-step false true v d rest more same value h = cc
 found-step false false v d rest more same value h = h
 
-abbrev tabled : List ℕ → List Value → List Symbol → NameTable
-tabled prefix backs symbols = record { symbols = symbols; prefix = prefix; backs = backs }
+abbrev tabled : List ℕ → List Value → List Wait → List Symbol → NameTable
+tabled prefix backs waiting symbols = record { symbols = symbols; prefix = prefix; backs = backs; waiting = waiting }
 
 abbrev numbered : List ℕ → Value → ℕ → Symbol
 numbered name value serial = record { name = name; value = value; serial = serial }
-
--- what a comparison byte by byte tells
-before-step : (a b : ℕ) (xs ys : List ℕ) (o : Ordering) → MatchOrdering o (a < b) (a ≡ b) (b < a) → ordering_then o (slice_cmp nat_cmp xs ys) ≡ Less → (slice_cmp nat_cmp xs ys ≡ Less → Before xs ys) → (a < b) ⊎ ((a ≡ b) × Before xs ys)
-before-step a b xs ys Less is h rest = inl is
-before-step a b xs ys Equal is h rest = inr (is, rest h)
-before-step a b xs ys Greater is h rest = cc
-
-before : (xs ys : List ℕ) → slice_cmp nat_cmp xs ys ≡ Less → Before xs ys
-before [] [] h = cc
-before [] (b ∷ ys) h = tt
-before (a ∷ xs) [] h = cc
-before (a ∷ xs) (b ∷ ys) h = before-step a b xs ys (nat_cmp a b) (ranked a b _ refl) h (before xs ys)
 
 module _ {K : Type 0} (bytes : K → List ℕ) where
   abbrev pub symbols_of : List (K × Definition) → List Symbol
@@ -67,24 +55,29 @@ module _ {K : Type 0} (bytes : K → List ℕ) where
       put-step Greater false same out rest = ap (λ l. symbol_of (bytes e.0) e.1 ∷ l) (rest out)
 
   -- the symbols after one is put in
-  pub table-put : (es more : List (K × Definition)) (prefix : List ℕ) (backs : List Value) (k : K) (full : List ℕ) (value : Value) (serial : ℕ) (table : NameTable) → tabled prefix backs (symbols_of es) ≡ table → bytes k ≡ full → serial ≡ length es + 1 → value_in full table.symbols ≡ None → more ≡ insert_entry (λ x y. slice_cmp nat_cmp (bytes x) (bytes y)) es k (record { value = value; serial = serial }) → tabled prefix backs (symbols_of more) ≡ with_symbol table full value
-  table-put es more prefix backs k full value serial table is named counted absent grown =
+  pub table-put : (es more : List (K × Definition)) (prefix : List ℕ) (backs : List Value) (waiting : List Wait) (k : K) (full : List ℕ) (value : Value) (serial : ℕ) (table : NameTable) → tabled prefix backs waiting (symbols_of es) ≡ table → bytes k ≡ full → serial ≡ length es + 1 → value_in full table.symbols ≡ None → more ≡ insert_entry (λ x y. slice_cmp nat_cmp (bytes x) (bytes y)) es k (record { value = value; serial = serial }) → tabled prefix backs waiting (symbols_of more) ≡ with_symbol table full value
+  table-put es more prefix backs waiting k full value serial table is named counted absent grown =
       let out : value_in (bytes k) (symbols_of es) ≡ None = ap (λ n. value_in n (symbols_of es)) named ∙ ap (λ (t : NameTable). value_in full t.symbols) is ∙ absent in
       let grew : symbols_of more ≡ symbols_with (symbol_of (bytes k) (record { value = value; serial = serial })) (symbols_of es) = ap symbols_of grown ∙ put-in k (record { value = value; serial = serial }) es out in
-      ap (tabled prefix backs) grew
-      ∙ ap (λ n. tabled prefix backs (symbols_with (numbered n value serial) (symbols_of es))) named
-      ∙ ap (λ n. tabled prefix backs (symbols_with (numbered full value n) (symbols_of es))) (counted ∙ ap (λ n. n + 1) (sym (length-map es (λ e. symbol_of (bytes e.0) e.1))))
+      ap (tabled prefix backs waiting) grew
+      ∙ ap (λ n. tabled prefix backs waiting (symbols_with (numbered n value serial) (symbols_of es))) named
+      ∙ ap (λ n. tabled prefix backs waiting (symbols_with (numbered full value n) (symbols_of es))) (counted ∙ ap (λ n. n + 1) (sym (length-map es (λ e. symbol_of (bytes e.0) e.1))))
       ∙ ap (λ t. with_symbol t full value) is
 
   -- the names in the order of the keys
-  all-named : (name : List ℕ) (es : List (K × Definition)) → AllByRecursion (λ k. slice_cmp nat_cmp name (bytes k) ≡ Less) (keys_of es) → AllByRecursion (λ (t : Symbol). Before name t.name) (symbols_of es)
+  all-named : (name : List ℕ) (es : List (K × Definition)) → AllByRecursion (λ k. slice_cmp nat_cmp name (bytes k) ≡ Less) (keys_of es) → AllByRecursion (λ n. slice_cmp nat_cmp name n ≡ Less) (map (λ (s : Symbol). s.name) (symbols_of es))
   all-named name [] h = h
-  all-named name (e ∷ es) h = (before name (bytes e.0) h.0, all-named name es h.1)
+  all-named name (e ∷ es) h = (h.0, all-named name es h.1)
 
-  pub in-order : (es : List (K × Definition)) → IsStrictlySortedBy (λ x y. slice_cmp nat_cmp (bytes x) (bytes y)) (keys_of es) → AreInOrder (symbols_of es)
+  pub in-order : (es : List (K × Definition)) → IsStrictlySortedBy (λ x y. slice_cmp nat_cmp (bytes x) (bytes y)) (keys_of es) → InByteOrder (symbols_of es)
   unfolding IsStrictlySortedBy
   in-order [] h = h
   in-order (e ∷ es) h = (all-named (bytes e.0) es h.0, in-order es h.1)
+
+-- symbols in their ranges, with names that fit
+pub all-are-named : (symbols : List Symbol) → AllByRecursion (λ (s : Symbol). IsFullName s.name) symbols → AllByRecursion IsInRange symbols → AllByRecursion IsNamed symbols
+all-are-named [] full ranged = tt
+all-are-named (s ∷ more) full ranged = (record { bytes = ranged.0.bytes; least = omega (arith, full.0.least); most = full.0.most; value = ranged.0.value; serial = ranged.0.serial }, all-are-named more full.1 ranged.1)
 
 none-first : (b : Bool) (v : Value) (rest : Option Value) → cond b (Some v) rest ≡ None → b ≡ false
 none-first true v rest h = cc

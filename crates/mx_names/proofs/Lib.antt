@@ -1,2 +1,5 @@
 pub mod Entries
+pub mod First
+pub mod Groups
 pub mod Known
+pub mod Taken

@@ -1,4 +1,4 @@
 pub mod Numbers
-pub mod Order
+pub mod Waiting
 pub mod Names
 pub mod Entries

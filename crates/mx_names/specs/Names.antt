@@ -1,4 +1,4 @@
--- The names of a source: the defined symbols, the prefix, and the last label of each local one.
+-- The names of a source: the defined symbols, the prefix, the last label of each local one, and the references that wait.
 use Rattle.std.specs.Prelude.{◌≡◌, ◌≤◌, IsTrue, ℕ, ◌+◌, ◌==◌, Bool, nat_lt, List, [], ◌∷◌, ◌++◌, length, replicate, slice_index, slice_index_or, Option, None, Some, is_some, Result, Ok, Err, bytes_eq, if◌then◌else◌}
 use Rattle.std.specs.Ordering.{nat_cmp, is_lt}
 use Rattle.std.specs.Cmp.Lexicographic.{slice_cmp}
@@ -6,19 +6,22 @@ use Rattle.std.specs.List.{AllByRecursion}
 use Rattle.mx_word.specs.declared.symbols.Value.{Value}
 use Rattle.mx_word.specs.declared.symbols.Value.TheVariants.{Pure}
 use Rattle.mx_word.specs.declared.symbols.Symbol.{Symbol}
+use Rattle.mx_word.specs.declared.waits.Wait.{Wait}
 use Rattle.mx_ops.specs.Predefined.{predefined_value}
 use Rattle.mx_names.specs.declared.fault.NameFault.{NameFault}
 use Rattle.mx_names.specs.declared.fault.NameFault.TheVariants.{Twice, Predefined, NameTooLong}
 
--- The defined symbols in byte order of their names, the prefix, and the values of the last labels 0H to 9H.
+-- The defined symbols in byte order of their names, the prefix, the values of the last labels 0H to 9H, and the references
+-- that wait, in the order of their making.
 pub record NameTable : Type 0 where
   pub symbols : List Symbol
   pub prefix : List ℕ
   pub backs : List Value
+  pub waiting : List Wait
 
--- before the first statement: nothing is defined, the prefix is a colon, and each local label is 0
+-- before the first statement: nothing is defined, the prefix is a colon, each local label is 0, and nothing waits
 abbrev pub start : NameTable
-start = record { symbols = []; prefix = 58 ∷ []; backs = replicate 10 (Pure 0) }
+start = record { symbols = []; prefix = 58 ∷ []; backs = replicate 10 (Pure 0); waiting = [] }
 
 -- a symbol that begins with a colon is complete
 abbrev pub is_complete : List ℕ → Bool

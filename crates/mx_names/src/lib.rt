@@ -6,6 +6,7 @@ mod full;
 mod names;
 #[cfg(test)]
 mod tests;
+mod waiting;
 
 pub use fault::NameFault;
 pub use mx_word::{Awaited, Symbols, Wait, WaitKind, Waits};

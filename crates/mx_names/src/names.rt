@@ -1,14 +1,19 @@
 //! The table of names.
 
-ghost use Rattle.std.specs.Prelude.{◌≡◌, ◌≢◌, ◌+◌, ◌<◌, ◌≤◌, ℕ, List, length, is_some, IfOk, IfErr, OnOk, OnErr, IsTrue, bytes_eq, slice_set, if◌then◌else◌};
+ghost use Rattle.std.specs.Prelude.{◌≡◌, ◌≢◌, ◌+◌, ◌<◌, ◌≤◌, ℕ, List, [], ◌∷◌, ◌++◌, length, is_some, IfOk, IfErr, OnOk, OnErr, IsTrue, bytes_eq, slice_set, if◌then◌else◌};
 ghost use Rattle.mx_word.specs.Results.{map_ok};
 ghost use Rattle.mx_names.specs.Names as spec;
-ghost use Rattle.mx_names.specs.Order.{AreInOrder};
+ghost use Rattle.mx_word.specs.Symbols.{InByteOrder, IsNamed};
+ghost use Rattle.mx_names.specs.Entries.{IsInRange, symbol_of};
+ghost use Rattle.mx_names.specs.Waiting.{first_of, waits_for, waits_for_others};
+ghost use Rattle.std.specs.List.{AllByRecursion};
+ghost use Rattle.std.specs.Option.{option_copied};
 
 use crate::NameFault;
 use crate::full::{copy_of, is_complete, name_with_prefix};
+use crate::waiting::Waiting;
 use mx_ops::predefined;
-use mx_word::{Bytes, Symbol, Symbols, Value};
+use mx_word::{Awaited, Bytes, NoMemory, Symbol, Symbols, Value, Wait, Waits};
 use std::alloc::Global;
 use std::collections::BTreeMap;
 use std::marker::Model;
@@ -20,13 +25,27 @@ struct Definition {
     serial: u32,
 }
 
-/// The names of a source: a map from complete names to values, the prefix, and the values of the
-/// last local labels (MMIXware, "MMIXAL": symbols, PREFIX and local symbols).
+/// The symbol of a name and its definition.
+fn symbol_for(alloc: Global, name: &[u8], definition: Definition) -> Result<Symbol, NoMemory>
+    ensures symbol { IfOk result (λ symbol. symbol ≡ symbol_of name.now definition) }
+    ensures ranges { IfOk result (λ symbol. IsInRange symbol) }
+{
+    Ok(Symbol {
+        name: Bytes::copy(alloc, name)?,
+        value: definition.value,
+        serial: definition.serial,
+    })
+}
+
+/// The names of a source: a map from complete names to values, the prefix, the values of the last
+/// local labels, and the references that wait (MMIXware, "MMIXAL": symbols, PREFIX, local symbols and
+/// future references).
 #[derive(Drop)]
 pub struct Names {
     defined: BTreeMap<Vec<u8>, Definition>,
     prefix: Bytes,
     backs: [Value; 10],
+    waiting: Waiting,
     alloc: Global,
 }
 
@@ -37,13 +56,14 @@ impl Model for Names {
 
     ghost Value = { NameTable };
 
-    ghost view = { λ n. record { symbols = map (λ e. symbol_of e.0.items e.1) n.defined.entries; prefix = n.prefix; backs = n.backs } };
+    ghost view = { λ n. record { symbols = map (λ e. symbol_of e.0.items e.1) n.defined.entries; prefix = n.prefix; backs = n.backs; waiting = n.waiting } };
 
-    ghost invariant = { λ n. AreNames (record { symbols = map (λ e. symbol_of e.0.items e.1) n.defined.entries; prefix = n.prefix; backs = n.backs }) };
+    ghost invariant = { λ n. AreNames (record { symbols = map (λ e. symbol_of e.0.items e.1) n.defined.entries; prefix = n.prefix; backs = n.backs; waiting = n.waiting }) };
 }
 
 impl Names {
-    /// No symbol is defined, the prefix is a colon, and each local label is pure 0.
+    /// No symbol is defined, the prefix is a colon, each local label is pure 0, and no reference
+    /// waits.
     pub fn new(alloc: Global) -> Result<Names, NameFault>
         ensures start { IfOk result (λ names. names ≡ spec.start) }
         ensures memory { IfErr result (λ fault. fault ≡ NameFault.OutOfMemory) }
@@ -52,6 +72,7 @@ impl Names {
             defined: BTreeMap::new(alloc),
             prefix: Bytes::copy(alloc, b":")?,
             backs: [Value::Pure(0); 10],
+            waiting: Waiting::new(alloc),
             alloc,
         })
     }
@@ -159,20 +180,47 @@ impl Names {
         self.backs[usize::from(d)]
     }
 
+    /// Adds a reference to those that wait. Nothing changes where there is no memory.
+    pub fn wait_for(&mut self, w: Wait) -> Result<(), NameFault>
+        ensures memory { IfErr result (λ fault. fault ≡ NameFault.OutOfMemory) }
+        ensures ok { OnOk result (self.new ≡ record self.old { waiting = self.old.waiting ++ w ∷ [] }) }
+        ensures err { OnErr result (self.new ≡ self.old) }
+        ensures kept { spec.AreNames self.new }
+    {
+        self.waiting.push(w)?;
+        Ok(())
+    }
+
+    /// Gives and removes the references that wait for one name or local label, in the order of their
+    /// making. Nothing changes where there is no memory.
+    pub fn take_waiting(&mut self, who: &Awaited) -> Result<Waits, NameFault>
+        ensures memory { IfErr result (λ fault. fault ≡ NameFault.OutOfMemory) }
+        ensures taken { IfOk result (λ waits. waits ≡ waits_for who.now self.old.waiting) }
+        ensures left { OnOk result (self.new ≡ record self.old { waiting = waits_for_others who.now self.old.waiting }) }
+        ensures err { OnErr result (self.new ≡ self.old) }
+        ensures kept { spec.AreNames self.new }
+    {
+        Ok(self.waiting.take(who)?)
+    }
+
+    /// The earliest reference that waits; nothing where none does.
+    pub fn first_waiting(&self) -> Option<&Wait>
+        ensures { option_copied result ≡ first_of self.now.waiting }
+    {
+        self.waiting.first()
+    }
+
     /// The defined symbols in byte order of their names.
     pub fn sorted(&self) -> Result<Symbols, NameFault>
         ensures symbols { IfOk result (λ symbols. symbols ≡ self.now.symbols) }
-        ensures order { IfOk result (λ symbols. AreInOrder symbols) }
+        ensures order { IfOk result (λ symbols. InByteOrder symbols) }
+        ensures named { IfOk result (λ symbols. AllByRecursion IsNamed symbols) }
         ensures known { spec.AreNames self.now }
         ensures memory { IfErr result (λ fault. fault ≡ NameFault.OutOfMemory) }
     {
         let mut symbols = Symbols::new(self.alloc);
         for (name, definition) in &self.defined {
-            let symbol = Symbol {
-                name: Bytes::copy(self.alloc, name.as_slice())?,
-                value: definition.value,
-                serial: definition.serial,
-            };
+            let symbol = symbol_for(self.alloc, name.as_slice(), *definition)?;
             symbols.push(symbol)?;
         }
         Ok(symbols)

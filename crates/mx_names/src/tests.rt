@@ -3,7 +3,7 @@
 ghost use Rattle.std.specs.Prelude.{◌+◌, ◌<◌, ◌≤◌, length, IsTrue};
 ghost use Rattle.mx_names.specs.Names.{IsFullName};
 
-use crate::{NameFault, Names};
+use crate::{Awaited, NameFault, Names, Wait, WaitKind};
 use mx_word::{Bytes, NoMemory, Value};
 use std::alloc::Global;
 
@@ -169,4 +169,83 @@ fn local_labels(rt: HostRuntime) {
     names.define_local(3, Value::Reg(17));
     assert_eq!(rt; names.local_back(3), Value::Reg(17), "the last 3H");
     assert_eq!(rt; names.local_back(4), Value::Pure(260), "the last 4H");
+}
+
+/// A reference in an octa at this address, on line 1.
+fn octa_wait(who: Awaited, at: u64) -> Wait {
+    Wait {
+        who,
+        at,
+        line: 1,
+        kind: WaitKind::Octa,
+    }
+}
+
+/// A complete name of a number.
+fn numbered(alloc: Global, n: u32) -> Result<Awaited, NameFault> {
+    let mut full = Bytes::copy(alloc, b":")?;
+    full.extend(&n.to_be_bytes())?;
+    Ok(Awaited::Name(full))
+}
+
+/// The address of the earliest reference.
+fn first_place(names: &Names) -> Option<u64> {
+    match names.first_waiting() {
+        Some(wait) => Some(wait.at),
+        None => None,
+    }
+}
+
+/// The addresses of the references to one name or label, which wait no longer.
+fn places(names: &mut Names, who: &Awaited, want: &[u64]) -> Result<bool, NameFault> {
+    let waits = names.take_waiting(who)?;
+    let waits = waits.as_slice();
+    Ok(waits.len() == want.len() && waits.iter().zip(want).all(|(wait, at)| wait.at == *at))
+}
+
+/// References to a name and to a local label, made by turns and taken one name after another.
+fn by_turns(alloc: Global) -> Result<bool, NameFault> {
+    let mut names = Names::new(alloc)?;
+    let none = first_place(&names);
+    for at in 0..3 {
+        names.wait_for(octa_wait(Awaited::Local(2), 16 * at))?;
+        names.wait_for(octa_wait(numbered(alloc, 7)?, 16 * at + 8))?;
+    }
+    let first = first_place(&names);
+    let other = places(&mut names, &Awaited::Local(3), &[])?;
+    let local = places(&mut names, &Awaited::Local(2), &[0, 16, 32])?;
+    let second = first_place(&names);
+    let name = places(&mut names, &numbered(alloc, 7)?, &[8, 24, 40])?;
+    let again = places(&mut names, &numbered(alloc, 7)?, &[])?;
+    Ok(
+        other
+            && local
+            && name
+            && again
+            && (none, first, second, first_place(&names)) == (None, Some(0), Some(8), None),
+    )
+}
+
+#[test]
+fn references_by_turns(rt: HostRuntime) {
+    assert_eq!(rt; by_turns(rt.alloc()), Ok(true));
+}
+
+/// So many references to as many names, each taken.
+fn many(alloc: Global, count: u32) -> Result<bool, NameFault> {
+    let mut names = Names::new(alloc)?;
+    for n in 0..count {
+        names.wait_for(octa_wait(numbered(alloc, n)?, u64::from(n)))?;
+    }
+    for n in 0..count {
+        if !places(&mut names, &numbered(alloc, n)?, &[u64::from(n)])? {
+            return Ok(false);
+        }
+    }
+    Ok(first_place(&names) == None)
+}
+
+#[test]
+fn many_references(rt: HostRuntime) {
+    assert_eq!(rt; many(rt.alloc(), 100_000), Ok(true));
 }

@@ -1,6 +1,7 @@
 use Rattle.std.proofs.Common.{◌≡◌, ◌++◌, map}
-use Rattle.mx_names.specs.Entries.{symbol_of}
+use Rattle.std.specs.List.{AllByRecursion}
+use Rattle.mx_names.specs.Entries.{symbol_of, IsInRange}
 use Rattle.mx_names.proofs.names.Names.sorted.Given as goal
 
 abbrev pub invariant-loop-name : goal.invariant-loop-name
-invariant-loop-name l = l.symbols ++ map (λ e. symbol_of e.0.items e.1) l.name-iterator ≡ map (λ e. symbol_of e.0.items e.1) l.self-inside.defined.entries
+invariant-loop-name l = (l.symbols ++ map (λ e. symbol_of e.0.items e.1) l.name-iterator ≡ map (λ e. symbol_of e.0.items e.1) l.self-inside.defined.entries) × AllByRecursion IsInRange l.symbols

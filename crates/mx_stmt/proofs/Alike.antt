@@ -1,0 +1,27 @@
+-- Answers that are alike.
+use Rattle.std.proofs.Common.{◌≡◌, Ok, Err, refl}
+use Rattle.mx_stmt.specs.declared.faults.StmtFault.{StmtFault}
+use Rattle.mx_stmt.specs.Steps.{Answer, AreAlike, and_then}
+
+module _ {B : Type 0} (R : B → B → Type 0) where
+  pub alike-fault : (fault : StmtFault) → AreAlike R (Err fault) (Err fault)
+  unfolding AreAlike
+  alike-fault fault = refl
+
+  pub alike-values : (x y : B) → R x y → AreAlike R (Ok x) (Ok y)
+  unfolding AreAlike
+  alike-values x y h = h
+
+  -- the same step, and then others
+  pub alike-then : {A : Type 0} (a : Answer A) (f g : A → Answer B) → ((x : A) → a ≡ Ok x → AreAlike R (f x) (g x)) → AreAlike R (and_then a f) (and_then a g)
+  unfolding AreAlike
+  alike-then (Err fault) f g h = refl
+  alike-then (Ok x) f g h = h x refl
+
+  -- steps that are alike, and then others
+  pub alike-after : {A : Type 0} (S : A → A → Type 0) (a b : Answer A) (f g : A → Answer B) → AreAlike S a b → ((x y : A) → S x y → AreAlike R (f x) (g y)) → AreAlike R (and_then a f) (and_then b g)
+  unfolding AreAlike
+  alike-after S (Err fault) (Err other) f g same h = same
+  alike-after S (Err fault) (Ok y) f g same h = absurd same
+  alike-after S (Ok x) (Err other) f g same h = absurd same
+  alike-after S (Ok x) (Ok y) f g same h = h x y same

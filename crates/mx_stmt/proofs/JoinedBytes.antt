@@ -1,0 +1,62 @@
+-- Bytes that are placed one after another, and bytes that are joined.
+use Rattle.std.proofs.Common.{◌≡◌, ℕ, zero, suc, ◌+◌, ◌*◌, ◌/◌, ◌%◌, ◌^◌, ◌==◌, Bool, true, false, cond, List, [], ◌∷◌, ◌++◌, length, replicate, bit_xor, refl, sym, ap, ◌∙◌, arith}
+use Rattle.std.specs.Int.{bytes_high_first, byte_at}
+use Rattle.std.specs.Int.Bits.{xor_assoc, xor_zero_l}
+use Rattle.std.proofs.lemmas.Nat.{xor_comm, xor_shr, xor_mod, pow-add}
+use Rattle.std.proofs.Math.Nat.{pow-suc}
+use Rattle.mx_stmt.specs.Placements.{from_place, placed}
+
+-- two pairs that are joined in another order
+pub xor-pairs : (a b c d : ℕ) → bit_xor (bit_xor a b) (bit_xor c d) ≡ bit_xor (bit_xor a c) (bit_xor b d)
+xor-pairs a b c d =
+    xor_assoc a b (bit_xor c d)
+    ∙ ap (bit_xor a) (sym (xor_assoc b c d) ∙ ap (λ n. bit_xor n d) (xor_comm b c) ∙ xor_assoc c b d)
+    ∙ sym (xor_assoc a c (bit_xor b d))
+
+pub placed-append : (xs ys : List (ℕ × ℕ)) (a : ℕ) → placed (xs ++ ys) a ≡ bit_xor (placed xs a) (placed ys a)
+placed-append [] ys a = sym (xor_zero_l (placed ys a))
+placed-append (p ∷ ps) ys a = by (a == p.0) (placed-append ps ys a)
+  where
+    by : (b : Bool) → placed (ps ++ ys) a ≡ bit_xor (placed ps a) (placed ys a) → cond b (bit_xor p.1 (placed (ps ++ ys) a)) (placed (ps ++ ys) a) ≡ bit_xor (cond b (bit_xor p.1 (placed ps a)) (placed ps a)) (placed ys a)
+    by true rest = ap (bit_xor p.1) rest ∙ sym (xor_assoc p.1 (placed ps a) (placed ys a))
+    by false rest = rest
+
+pub from-append : (a : ℕ) (xs ys : List ℕ) → from_place a (xs ++ ys) ≡ from_place a xs ++ from_place (a + length xs) ys
+from-append a [] ys = ap (λ n. from_place n ys) (omega arith)
+from-append a (x ∷ xs) ys =
+    ap (λ l. (a, x) ∷ l) (from-append (a + 1) xs ys ∙ ap (λ n. from_place (a + 1) xs ++ from_place n ys) (omega arith))
+
+-- zeros change nothing
+pub placed-zeros : (a n q : ℕ) → placed (from_place a (replicate n 0)) q ≡ 0
+placed-zeros a zero q = refl
+placed-zeros a (suc n) q = by (q == a) (placed-zeros (a + 1) n q)
+  where
+    by : (b : Bool) → placed (from_place (a + 1) (replicate n 0)) q ≡ 0 → cond b (bit_xor 0 (placed (from_place (a + 1) (replicate n 0)) q)) (placed (from_place (a + 1) (replicate n 0)) q) ≡ 0
+    by true rest = xor_zero_l (placed (from_place (a + 1) (replicate n 0)) q) ∙ rest
+    by false rest = rest
+
+power : (i : ℕ) → 256 ^ i ≡ 2 ^ (8 * i)
+power zero = refl
+power (suc i) = pow-suc 256 i ∙ ap (λ n. n * 256) (power i) ∙ sym (pow-add 2 (8 * i) 8) ∙ ap (λ n. 2 ^ n) (omega arith)
+
+-- the bytes of a joined number are joined
+byte-joined : (i x y : ℕ) → byte_at i (bit_xor x y) ≡ bit_xor (byte_at i x) (byte_at i y)
+byte-joined zero x y = xor_mod x y 8
+byte-joined (suc i) x y =
+    ap (λ n. bit_xor x y / n % 256) (power (suc i))
+    ∙ ap (λ n. n % 2 ^ 8) (xor_shr x y (8 * suc i)) ∙ xor_mod (x / 2 ^ (8 * suc i)) (y / 2 ^ (8 * suc i)) 8
+    ∙ sym (ap (λ n. bit_xor (x / n % 256) (y / n % 256)) (power (suc i)))
+
+pub placed-joined : (a k x y q : ℕ) → placed (from_place a (bytes_high_first k (bit_xor x y))) q ≡ bit_xor (placed (from_place a (bytes_high_first k x)) q) (placed (from_place a (bytes_high_first k y)) q)
+placed-joined a zero x y q = sym (xor_zero_l 0)
+placed-joined a (suc k) x y q = by (q == a) (placed-joined (a + 1) k x y q)
+  where
+    joined : placed (from_place (a + 1) (bytes_high_first k (bit_xor x y))) q ≡ bit_xor (placed (from_place (a + 1) (bytes_high_first k x)) q) (placed (from_place (a + 1) (bytes_high_first k y)) q) → bit_xor (byte_at k (bit_xor x y)) (placed (from_place (a + 1) (bytes_high_first k (bit_xor x y))) q) ≡ bit_xor (bit_xor (byte_at k x) (placed (from_place (a + 1) (bytes_high_first k x)) q)) (bit_xor (byte_at k y) (placed (from_place (a + 1) (bytes_high_first k y)) q))
+    joined rest =
+        ap (λ n. bit_xor n (placed (from_place (a + 1) (bytes_high_first k (bit_xor x y))) q)) (byte-joined k x y)
+        ∙ ap (bit_xor (bit_xor (byte_at k x) (byte_at k y))) rest
+        ∙ xor-pairs (byte_at k x) (byte_at k y) _ _
+
+    by : (b : Bool) → placed (from_place (a + 1) (bytes_high_first k (bit_xor x y))) q ≡ bit_xor (placed (from_place (a + 1) (bytes_high_first k x)) q) (placed (from_place (a + 1) (bytes_high_first k y)) q) → cond b (bit_xor (byte_at k (bit_xor x y)) (placed (from_place (a + 1) (bytes_high_first k (bit_xor x y))) q)) (placed (from_place (a + 1) (bytes_high_first k (bit_xor x y))) q) ≡ bit_xor (cond b (bit_xor (byte_at k x) (placed (from_place (a + 1) (bytes_high_first k x)) q)) (placed (from_place (a + 1) (bytes_high_first k x)) q)) (cond b (bit_xor (byte_at k y) (placed (from_place (a + 1) (bytes_high_first k y)) q)) (placed (from_place (a + 1) (bytes_high_first k y)) q))
+    by true rest = joined rest
+    by false rest = rest

@@ -1,0 +1,15 @@
+pub mod DataLists
+pub mod FieldsRead
+pub mod Nearest
+pub mod OperandLists
+pub mod SecondCodes
+pub mod CodesOfTargets
+pub mod JoinedBytes
+pub mod JoinedWords
+pub mod Alike
+pub mod RegisterNumbers
+pub mod JoinedTetras
+pub mod JoinedData
+pub mod JoinedStatements
+pub mod SoundLabels
+pub mod SoundKnowledge

@@ -1,0 +1,106 @@
+-- The nearest base, register by register.
+use Rattle.std.proofs.Common.{◌≡◌, ◌≢◌, ◌<◌, ◌≤◌, ℕ, zero, suc, ◌+◌, ◌-◌, ◌==◌, nat_le, Bool, true, false, if◌then◌else◌, List, [], ◌∷◌, length, drop, Option, None, Some, slice_index, arith, add-one, refl, ap, sym, subst, ◌∙◌}
+use Rattle.std.proofs.lemmas.List.{drop_more}
+use Rattle.std.proofs.Math.Seq.{drop-length}
+use Rattle.mx_stmt.specs.declared.gregs.Base.{Base}
+use Rattle.std.proofs.lemmas.Bool.{eqb-true, eqb-false, leb-true, leb-false}
+use Rattle.mx_expr.specs.Value.{difference}
+use Rattle.mx_stmt.specs.Gregs.{IsNearest, lowest_of, nearest_base, nearest_from, nearer_base, with_register}
+
+pub nearest-none : (address first : ℕ) (values : List ℕ) → nearest_from address first (drop (length values) values) ≡ None
+unfolding nearest_from
+nearest-none address first values = ap (nearest_from address first) (drop-length values)
+
+pub nearest-next : (address first i : ℕ) (values : List ℕ) → i < length values → nearest_from address (first + i) (drop i values) ≡ with_register address (first + i) (slice_index values i) (nearest_from address (first + (i + 1)) (drop (i + 1) values))
+unfolding nearest_from
+nearest-next address first i values h = ap (nearest_from address (first + i)) (drop_more values i 0 h) ∙ ap (λ n. with_register address (first + i) (slice_index values i) (nearest_from address n (drop (i + 1) values))) (omega arith)
+
+pub nearest-before : (address first n : ℕ) (values : List ℕ) (nearest : Option Base) → 0 < n → n ≤ length values → nearest ≡ nearest_from address (first + n) (drop n values) → with_register address (first + (n - 1)) (slice_index values (n - 1)) nearest ≡ nearest_from address (first + (n - 1)) (drop (n - 1) values)
+nearest-before address first n values nearest some within is =
+    ap (with_register address (first + (n - 1)) (slice_index values (n - 1))) (is ∙ ap (λ m. nearest_from address (first + m) (drop m values)) (omega arith))
+    ∙ sym (nearest-next address first (n - 1) values (omega arith))
+
+-- the nearest base among registers from a first one on
+pub record NearestIn (address first : ℕ) (values : List ℕ) (base : Base) : Type 0 where
+  pub place : ℕ
+  pub register : base.reg ≡ first + place
+  pub within : place < length values
+  pub nonzero : slice_index values place ≢ 0
+  pub above : base.above ≡ difference address (slice_index values place)
+  pub least : (i : ℕ) → i < length values → slice_index values i ≢ 0 → base.above ≤ difference address (slice_index values i)
+
+abbrev Found : ℕ → ℕ → List ℕ → Option Base → Type 0
+Found address first values None = (i : ℕ) → i < length values → slice_index values i ≡ 0
+Found address first values (Some base) = NearestIn address first values base
+
+abbrev base_at : ℕ → ℕ → ℕ → Base
+base_at address reg value = record { reg = reg; above = difference address value }
+
+-- one register more in front
+found-zero : (address first value : ℕ) (values : List ℕ) (others : Option Base) → value ≡ 0 → Found address (first + 1) values others → Found address first (value ∷ values) others
+found-zero address first value values None none found = λ i. elim i as (λ i. i < suc (length values) → slice_index (value ∷ values) i ≡ 0) [ zero ↦ λ h. none | suc i ↦ λ h. found i (omega (arith, h)) ]
+found-zero address first value values (Some base) none found = record {
+  place = found.place + 1;
+  register = omega (arith, found.register);
+  within = omega (arith, found.within);
+  nonzero = rw add-one found.nonzero;
+  above = rw add-one found.above;
+  least = λ i. elim i as (λ i. i < suc (length values) → slice_index (value ∷ values) i ≢ 0 → base.above ≤ difference address (slice_index (value ∷ values) i))
+      [ zero ↦ λ h some. absurd (some none) | suc i ↦ λ h some. found.least i (omega (arith, h)) some ];
+}
+
+found-first : (address first value : ℕ) (values : List ℕ) → value ≢ 0 → ((i : ℕ) → i < length values → slice_index values i ≢ 0 → difference address value ≤ difference address (slice_index values i)) → NearestIn address first (value ∷ values) (base_at address first value)
+found-first address first value values some least = record {
+  place = 0;
+  register = omega arith;
+  within = omega arith;
+  nonzero = some;
+  above = refl;
+  least = λ i. elim i as (λ i. i < suc (length values) → slice_index (value ∷ values) i ≢ 0 → difference address value ≤ difference address (slice_index (value ∷ values) i))
+      [ zero ↦ λ h some. omega arith | suc i ↦ λ h some. least i (omega (arith, h)) some ];
+}
+
+found-later : (address first value : ℕ) (values : List ℕ) (other : Base) → other.above ≤ difference address value → NearestIn address (first + 1) values other → NearestIn address first (value ∷ values) other
+found-later address first value values other closer found = record {
+  place = found.place + 1;
+  register = omega (arith, found.register);
+  within = omega (arith, found.within);
+  nonzero = rw add-one found.nonzero;
+  above = rw add-one found.above;
+  least = λ i. elim i as (λ i. i < suc (length values) → slice_index (value ∷ values) i ≢ 0 → other.above ≤ difference address (slice_index (value ∷ values) i))
+      [ zero ↦ λ h some. closer | suc i ↦ λ h some. found.least i (omega (arith, h)) some ];
+}
+
+found-nearer : (address first value : ℕ) (values : List ℕ) (others : Option Base) → value ≢ 0 → Found address (first + 1) values others → Found address first (value ∷ values) (Some (nearer_base (base_at address first value) others))
+found-nearer address first value values None some found = found-first address first value values some (λ i h other. absurd (other (found i h)))
+found-nearer address first value values (Some other) some found = by (nat_le (difference address value) other.above) (leb-true (difference address value) other.above) (leb-false (difference address value) other.above)
+  where
+    by : (b : Bool) → (b ≡ true → difference address value ≤ other.above) → (b ≡ false → other.above < difference address value) → Found address first (value ∷ values) (Some (if b then base_at address first value else other))
+    by true holds fails = found-first address first value values some (λ i h nonzero. omega (arith, holds refl, found.least i h nonzero))
+    by false holds fails = found-later address first value values other (omega (arith, fails refl)) found
+
+found-more : (address first value : ℕ) (values : List ℕ) (others : Option Base) → Found address (first + 1) values others → Found address first (value ∷ values) (with_register address first value others)
+found-more address first value values others found = by (value == 0) (eqb-true value 0) (eqb-false value 0)
+  where
+    by : (b : Bool) → (b ≡ true → value ≡ 0) → (b ≡ false → value ≢ 0) → Found address first (value ∷ values) (if b then others else Some (nearer_base (base_at address first value) others))
+    by true holds fails = found-zero address first value values others (holds refl) found
+    by false holds fails = found-nearer address first value values others (fails refl) found
+
+nearest-found : (address first : ℕ) (values : List ℕ) → Found address first values (nearest_from address first values)
+unfolding nearest_from
+nearest-found address first [] = λ i h. absurd (omega (arith, h))
+nearest-found address first (value ∷ values) = found-more address first value values _ (nearest-found address (first + 1) values)
+
+pub nearest-is : (gregs : List ℕ) (address : ℕ) (base : Base) → length gregs ≤ 255 → nearest_base gregs address ≡ Some base → IsNearest gregs address base
+nearest-is gregs address base bound is = as_least (subst (Found address (lowest_of gregs) gregs) is (nearest-found address (lowest_of gregs) gregs))
+  where
+    as_least : NearestIn address (lowest_of gregs) gregs base → IsNearest gregs address base
+    as_least found =
+        let place : base.reg - lowest_of gregs ≡ found.place = omega (arith, found.register) in
+        record {
+          allocated = omega (arith, found.register);
+          global = omega (arith, found.register, found.within);
+          nonzero = rw place found.nonzero;
+          above = rw place found.above;
+          least = λ other low high some. found.least (other - lowest_of gregs) (omega arith) some;
+        }

@@ -1,0 +1,52 @@
+//! What holds of the definitions alone.
+
+ghost use Rattle.std.specs.Prelude.{◌≡◌, ◌≤◌, ℕ, List, [], length, slice_set, Some, None, Ok, IfSome};
+ghost use Rattle.mx_names.specs.Names.{start, value_in, with_symbol};
+ghost use Rattle.mx_word.specs.declared.symbols.Value.{Value};
+ghost use Rattle.mx_stmt.specs.declared.gregs.Base.{Base};
+ghost use Rattle.mx_stmt.specs.declared.placed.Placed.{Placed};
+ghost use Rattle.mx_stmt.specs.Encoding.{StatementTree, IsPossible, encoding};
+ghost use Rattle.mx_stmt.specs.Fixes.{IsFixed, IsOperation, IsSound, HasRegisterNumber};
+ghost use Rattle.mx_stmt.specs.Gregs.{IsAllocable, IsNearest, nearest_base, with_greg};
+ghost use Rattle.mx_stmt.specs.Operands.{Known, Targets, no_targets};
+ghost use Rattle.mx_stmt.specs.Reading.{Fields, IsRead};
+ghost use Rattle.mx_stmt.specs.Steps.{AreAlike};
+
+/// The nearest base is an allocated register with a value that is not 0 and the least address - value
+/// modulo 2^64.
+pub fn nearest_base_is_least()
+    ensures { (gregs : List ℕ) (address : ℕ) (base : Base) → length gregs ≤ 255 →
+        nearest_base gregs address ≡ Some base → IsNearest gregs address base }
+{}
+
+/// The operation of a statement that was read is that of a name.
+pub fn operations_have_names()
+    ensures { (fields : Fields) (line : ℕ) (s : StatementTree) → IsRead fields line s → IsOperation s.op }
+{}
+
+/// Where the targets of future references are known, a statement comes to what it comes to without
+/// them, or to the same fault; only what its references add is joined to its bytes.
+pub fn targets_join_their_bytes()
+    ensures { (t : Targets) (k : Known) (s : StatementTree) → IsOperation s.op → IsSound k →
+        AreAlike (IsFixed t) (encoding no_targets k s) (encoding t k s) }
+{}
+
+/// A label never stands for a register above $255, and a register that is allocated may be.
+pub fn registers_are_bytes()
+    ensures label { (t : Targets) (k : Known) (s : StatementTree) (p : Placed) → IsSound k → encoding t k s ≡ Ok p →
+        IfSome p.label HasRegisterNumber }
+    ensures effect { (t : Targets) (k : Known) (s : StatementTree) (p : Placed) → IsSound k → encoding t k s ≡ Ok p →
+        IsPossible k.gregs p.effect }
+{}
+
+/// What is known stays sound: before the first statement, behind the label of a symbol that was not
+/// defined, behind a local label, and behind a register that is given.
+pub fn knowledge_stays_sound()
+    ensures start { (at : ℕ) → IsSound (record { names = start; at = at; gregs = [] }) }
+    ensures symbol { (k : Known) (full : List ℕ) (v : Value) → value_in full k.names.symbols ≡ None →
+        HasRegisterNumber v → IsSound k → IsSound (record k { names = with_symbol k.names full v }) }
+    ensures local { (k : Known) (d : ℕ) (v : Value) → HasRegisterNumber v → IsSound k →
+        IsSound (record k { names = record k.names { backs = slice_set k.names.backs d v } }) }
+    ensures register { (k : Known) (reg value : ℕ) → IsAllocable k.gregs reg → IsSound k →
+        IsSound (record k { gregs = with_greg k.gregs reg value }) }
+{}

@@ -1,0 +1,31 @@
+//! Statements of MMIXAL: each becomes bytes, a label's value and an effect.
+#![tactic(auto)]
+
+mod data;
+mod encoder;
+mod env;
+mod faults;
+mod forms;
+mod gregs;
+mod laws;
+mod operands;
+mod placed;
+mod pseudo;
+mod reader;
+mod relative;
+mod shapes;
+mod statement;
+#[cfg(test)]
+mod tests;
+
+pub use encoder::encode;
+pub use env::Env;
+pub use faults::StmtFault;
+pub use gregs::Gregs;
+pub use laws::{
+    knowledge_stays_sound, nearest_base_is_least, operations_have_names, registers_are_bytes,
+    targets_join_their_bytes,
+};
+pub use placed::{Effect, Placed};
+pub use reader::read_statement;
+pub use statement::{Label, Statement};

@@ -1,0 +1,199 @@
+//! Instructions, by the shape and the number of their operands.
+
+ghost use Rattle.std.specs.Prelude.{◌≡◌, ◌≢◌, ◌<◌, [], ◌∷◌, IsTrue};
+ghost use Rattle.mx_expr.specs.Tree.{tree_of, trees_of, HasDigits};
+ghost use Rattle.mx_ops.specs.Shapes.{shapes_of};
+ghost use Rattle.mx_stmt.specs.Forms as spec;
+ghost use Rattle.mx_stmt.specs.Operands.{known_of, no_targets};
+ghost use Rattle.mx_stmt.specs.Reading.{OperandsHaveDigits};
+ghost use Rattle.mx_stmt.specs.Steps.{Answers};
+
+use crate::forms::{
+    Tetra, address_form, branch_form, byte_form, free_at, free_form, jump_form, last_form,
+    last_register, last_two, rounded_last, set_to, whole_form, wyde_form,
+};
+use crate::operands::{byte_at, register_at};
+use crate::{Env, StmtFault};
+use mx_expr::Expr;
+use mx_ops::{Shape, shape_of};
+use std::alloc::Global;
+
+/// An instruction with one operand.
+fn one_operand(
+    alloc: Global,
+    env: &Env,
+    shape: Shape,
+    code: u8,
+    n: &Expr,
+) -> Result<Tetra, StmtFault>
+    requires digits { HasDigits (tree_of n.now) }
+    requires second { IsTrue (spec.has_second shape) → code < 254 }
+    ensures { Answers result (
+        spec.form no_targets (known_of env.now) shape code (tree_of n.now ∷ [])) }
+{
+    match shape {
+        Shape::Jump => jump_form(alloc, env, code, n),
+        Shape::Pop | Shape::One | Shape::Free => whole_form(alloc, env, code, n),
+        Shape::Unsave => last_register(alloc, env, code, 0, 0, n),
+        _ => Err(StmtFault::Operands),
+    }
+}
+
+/// An instruction with two operands.
+fn two_operands(
+    alloc: Global,
+    env: &Env,
+    shape: Shape,
+    code: u8,
+    first: &Expr,
+    last: &Expr,
+) -> Result<Tetra, StmtFault>
+    requires first { HasDigits (tree_of first.now) }
+    requires last { HasDigits (tree_of last.now) }
+    requires second { IsTrue (spec.has_second shape) → code < 254 }
+    ensures { Answers result (
+        spec.form no_targets (known_of env.now) shape code (tree_of first.now ∷ tree_of last.now ∷ [])) }
+{
+    match shape {
+        Shape::Round => {
+            let x = register_at(alloc, env, first)?;
+            rounded_last(alloc, env, code, x, 0, last)
+        }
+        Shape::Neg => {
+            let x = register_at(alloc, env, first)?;
+            last_form(alloc, env, code, x, 0, last)
+        }
+        Shape::Rel => {
+            let x = register_at(alloc, env, first)?;
+            branch_form(alloc, env, code, x, last)
+        }
+        Shape::Mem => {
+            let x = register_at(alloc, env, first)?;
+            address_form(alloc, env, code, x, last)
+        }
+        Shape::MemPure => {
+            let x = byte_at(alloc, env, first)?;
+            address_form(alloc, env, code, x, last)
+        }
+        Shape::Wyde => {
+            let x = register_at(alloc, env, first)?;
+            wyde_form(alloc, env, code, x, last)
+        }
+        Shape::Put => {
+            let x = byte_at(alloc, env, first)?;
+            last_form(alloc, env, code, x, 0, last)
+        }
+        Shape::Get | Shape::Save => {
+            let x = register_at(alloc, env, first)?;
+            byte_form(alloc, env, code, x, last)
+        }
+        Shape::Pop => {
+            let x = byte_at(alloc, env, first)?;
+            wyde_form(alloc, env, code, x, last)
+        }
+        Shape::Unsave => {
+            let x = byte_at(alloc, env, first)?;
+            last_register(alloc, env, code, x, 0, last)
+        }
+        Shape::Free => {
+            let x = free_at(alloc, env, first)?;
+            wyde_form(alloc, env, code, x, last)
+        }
+        _ => Err(StmtFault::Operands),
+    }
+}
+
+/// An instruction with three operands.
+fn three_operands(
+    alloc: Global,
+    env: &Env,
+    shape: Shape,
+    code: u8,
+    x: &Expr,
+    y: &Expr,
+    z: &Expr,
+) -> Result<Tetra, StmtFault>
+    requires x { HasDigits (tree_of x.now) }
+    requires y { HasDigits (tree_of y.now) }
+    requires z { HasDigits (tree_of z.now) }
+    requires second { IsTrue (spec.has_second shape) → code < 254 }
+    ensures { Answers result (
+        spec.form no_targets (known_of env.now) shape code (tree_of x.now ∷ tree_of y.now ∷ tree_of z.now ∷ [])) }
+{
+    match shape {
+        Shape::Three | Shape::Mem => {
+            let x = register_at(alloc, env, x)?;
+            last_two(alloc, env, code, x, y, z)
+        }
+        Shape::MemPure => {
+            let x = byte_at(alloc, env, x)?;
+            last_two(alloc, env, code, x, y, z)
+        }
+        Shape::Regs => {
+            let x = register_at(alloc, env, x)?;
+            let y = register_at(alloc, env, y)?;
+            last_register(alloc, env, code, x, y, z)
+        }
+        Shape::Round => {
+            let x = register_at(alloc, env, x)?;
+            let y = byte_at(alloc, env, y)?;
+            rounded_last(alloc, env, code, x, y, z)
+        }
+        Shape::Neg => {
+            let x = register_at(alloc, env, x)?;
+            let y = byte_at(alloc, env, y)?;
+            last_form(alloc, env, code, x, y, z)
+        }
+        Shape::Free => free_form(alloc, env, code, x, y, z),
+        _ => Err(StmtFault::Operands),
+    }
+}
+
+/// An instruction by the shape of its operands.
+pub(crate) fn instruction(
+    alloc: Global,
+    env: &Env,
+    shape: Shape,
+    code: u8,
+    operands: &[Expr],
+) -> Result<Tetra, StmtFault>
+    requires digits { OperandsHaveDigits operands.now }
+    requires second { IsTrue (spec.has_second shape) → code < 254 }
+    ensures { Answers result (
+        spec.form no_targets (known_of env.now) shape code (trees_of operands.now)) }
+{
+    match operands {
+        [n] => one_operand(alloc, env, shape, code, n),
+        [first, last] => two_operands(alloc, env, shape, code, first, last),
+        [x, y, z] => three_operands(alloc, env, shape, code, x, y, z),
+        _ => Err(StmtFault::Operands),
+    }
+}
+
+/// An instruction by its code.
+pub(crate) fn coded(
+    alloc: Global,
+    env: &Env,
+    code: u8,
+    operands: &[Expr],
+) -> Result<Tetra, StmtFault>
+    requires { OperandsHaveDigits operands.now }
+    ensures { Answers result (
+        spec.form_by no_targets (known_of env.now) (shapes_of code) code (trees_of operands.now)) }
+{
+    instruction(alloc, env, shape_of(code), code, operands)
+}
+
+/// SET.
+pub(crate) fn set_form(alloc: Global, env: &Env, operands: &[Expr]) -> Result<Tetra, StmtFault>
+    requires { OperandsHaveDigits operands.now }
+    ensures { Answers result (spec.set_form (known_of env.now) (trees_of operands.now)) }
+{
+    match operands {
+        [x, y] => {
+            let x = register_at(alloc, env, x)?;
+            set_to(alloc, env, x, y)
+        }
+        _ => Err(StmtFault::Operands),
+    }
+}

@@ -1,0 +1,497 @@
+//! Worked rows: statements, and what they come to.
+
+ghost use Rattle.std.specs.Prelude.{◌≡◌, ◌≤◌};
+ghost use Rattle.mx_stmt.specs.Gregs.{lowest_of};
+
+use crate::{Effect, Env, Gregs, Label, Placed, StmtFault, encode, read_statement};
+use mx_line::next_statement;
+use mx_names::Names;
+use mx_ops::{Op, Shape, find, shape_of};
+use mx_word::{Awaited, Bytes, NoMemory, Value, WaitKind, tetra_of};
+use std::alloc::Global;
+
+/// What the first statement of a line comes to at a place, or the number of its fault; 0 where there
+/// is no memory or no statement.
+fn placed(
+    alloc: Global,
+    names: &Names,
+    gregs: &Gregs,
+    at: u64,
+    text: &[u8],
+) -> Result<Placed, u16> {
+    let cut = match next_statement(text, 0) {
+        Ok(Some(cut)) => cut,
+        Ok(None) => return Err(0),
+        Err(fault) => return Err(fault.number()),
+    };
+    let statement = match read_statement(alloc, text, &cut, 1) {
+        Ok(statement) => statement,
+        Err(fault) => return Err(fault.number()),
+    };
+    match encode(alloc, &statement, &Env { names, at, gregs }) {
+        Ok(placed) => Ok(placed),
+        Err(fault) => Err(fault.number()),
+    }
+}
+
+/// The tetra of an instruction, or the number of its fault.
+fn word(alloc: Global, names: &Names, gregs: &Gregs, at: u64, text: &[u8]) -> Result<u32, u16> {
+    match placed(alloc, names, gregs, at, text)?.bytes.as_slice() {
+        [a, b, c, d] => Ok(tetra_of([*a, *b, *c, *d])),
+        _ => Err(0),
+    }
+}
+
+/// $254 has the value #2000000000000000, and $253 the value 0.
+fn two_gregs() -> Gregs {
+    let mut gregs = Gregs::new();
+    gregs.set(254, 0x2000_0000_0000_0000);
+    gregs.set(253, 0);
+    gregs
+}
+
+#[test]
+fn forms_of_operands(rt: HostRuntime) {
+    let Ok(names) = Names::new(rt.alloc()) else {
+        assert!(rt; false, "out of memory");
+        return;
+    };
+    let gregs = two_gregs();
+    // each shape with each of its forms, and with a fault of each kind that it can have
+    for (line, want) in [
+        (" ADD $1,$2,$3", Ok(0x2001_0203)),
+        (" ADD $1,$2,255", Ok(0x2101_02ff)),
+        (" ADD $1,$2,256", Err(43)),
+        (" ADD 1,$2,3", Err(41)),
+        (" ADD $1,2,3", Err(41)),
+        (" ADD $1,$2", Err(40)),
+        (" ADD", Err(40)),
+        (" FADD $1,$2,$3", Ok(0x0401_0203)),
+        (" FADD $1,$2,3", Err(41)),
+        (" FIX $1,$2", Ok(0x0501_0002)),
+        (" FIX $1,ROUND_UP,$2", Ok(0x0501_0202)),
+        (" FIX $1,2", Err(41)),
+        (" FLOT $1,2", Ok(0x0901_0002)),
+        (" FLOT $1,ROUND_OFF,$2", Ok(0x0801_0102)),
+        (" FLOT $1,$2,$3", Err(42)),
+        (" NEG $1,$2", Ok(0x3401_0002)),
+        (" NEG $1,5,6", Ok(0x3501_0506)),
+        (" NEG $1,256,6", Err(43)),
+        (" BZ $1,#104", Ok(0x4201_0001)),
+        (" GETA $1,#fc", Ok(0xf501_ffff)),
+        (" PUSHJ 1,#104", Err(41)),
+        (" BZ $1,$2", Err(42)),
+        (" BZ $1,#102", Err(46)),
+        (" BZ $1,#100+4*65535", Ok(0x4201_ffff)),
+        (" BZ $1,#100+4*65536", Err(45)),
+        (" LDB $1,$2,$3", Ok(0x8001_0203)),
+        (" LDB $1,$2,3", Ok(0x8101_0203)),
+        (" LDB $1,$2", Ok(0x8101_0200)),
+        (" LDB $1,Data_Segment+1", Ok(0x8101_fe01)),
+        (" LDB $1,Data_Segment-1", Err(44)),
+        (" STCO 1,$2,$3", Ok(0xb401_0203)),
+        (" PRELD 1,Data_Segment", Ok(0x9b01_fe00)),
+        (" STCO $1,$2,$3", Err(42)),
+        (" LDA $1,$2,$3", Ok(0x2201_0203)),
+        (" LDA $1,Data_Segment+8", Ok(0x2301_fe08)),
+        (" SETL $1,65535", Ok(0xe301_ffff)),
+        (" SETL $1,65536", Err(43)),
+        (" SETL $1,-1", Err(43)),
+        (" SET $1,$2", Ok(0xc101_0200)),
+        (" SET $1,65535", Ok(0xe301_ffff)),
+        (" SET $1,65536", Err(43)),
+        (" JMP", Ok(0xf1ff_ffc0)),
+        (" JMP @+4*16777215", Ok(0xf0ff_ffff)),
+        (" JMP @+4*16777216", Err(45)),
+        (" PUT rA,$1", Ok(0xf615_0001)),
+        (" PUT rA,1", Ok(0xf715_0001)),
+        (" GET $1,rA", Ok(0xfe01_0015)),
+        (" GET $1,256", Err(43)),
+        (" POP 1,65535", Ok(0xf801_ffff)),
+        (" POP 65536", Ok(0xf801_0000)),
+        (" POP", Ok(0xf800_0000)),
+        (" RESUME 1", Ok(0xf900_0001)),
+        (" SYNC #1000000", Err(43)),
+        (" SAVE $255,0", Ok(0xfaff_0000)),
+        (" UNSAVE 0,$255", Ok(0xfb00_00ff)),
+        (" UNSAVE $255", Ok(0xfb00_00ff)),
+        (" UNSAVE", Err(41)),
+        (" TRAP 0,Fputs,StdOut", Ok(0x0000_0701)),
+        (" TRAP $1,2", Ok(0x0001_0002)),
+        (" TRAP $1,2,$3", Ok(0x0001_0203)),
+        (" TRAP 1,$2", Err(42)),
+        (" SWYM $1", Err(42)),
+        (" SWYM 1,2,3,4", Err(40)),
+    ] {
+        assert_eq!(rt;
+            word(rt.alloc(), &names, &gregs, 0xff, line.as_bytes()),
+            want,
+            "{line}"
+        );
+    }
+}
+
+#[test]
+fn first_faults(rt: HostRuntime) {
+    let Ok(names) = Names::new(rt.alloc()) else {
+        assert!(rt; false, "out of memory");
+        return;
+    };
+    let gregs = two_gregs();
+    // statements with two faults or more, and the one that counts
+    for (line, want) in [
+        // the opcode, the label, the operand list, the number of operands, then the operands
+        ("x FROB 1,,2", 39),
+        ("x PREFIX 1,,2", 48),
+        (" ADD 1,,2", 10),
+        (" ADD 1/0", 40),
+        (" PREFIX 1/0", 40),
+        // operand by operand: its value, then its kind, then its size
+        (" ADD 1,1/0,3", 41),
+        (" ADD $1/0,2,3", 14),
+        (" FIX $1,256,5", 43),
+        (" POP 256,$1", 43),
+        (" BYTE 256,1/0", 43),
+        (" BYTE 1/0,256", 12),
+        (" TRAP 256,$1", 43),
+        // what an address wants comes after the operands, a multiple before the reach
+        (" BZ 5,#602", 41),
+        (" BZ $1,#6000000000000002", 46),
+        (" GETA $1,3", 46),
+        // the place comes last
+        (" LDO $1,1", 44),
+        (" JMP 4", 45),
+        (" JMP @", 49),
+        (" OCTA x", 49),
+        (" BYTE 256", 43),
+    ] {
+        assert_eq!(rt;
+            word(
+                rt.alloc(),
+                &names,
+                &gregs,
+                0x6000_0000_0000_0000,
+                line.as_bytes()
+            ),
+            Err(want),
+            "{line}"
+        );
+    }
+}
+
+#[test]
+fn pseudo_operations(rt: HostRuntime) {
+    let Ok(names) = Names::new(rt.alloc()) else {
+        assert!(rt; false, "out of memory");
+        return;
+    };
+    let gregs = two_gregs();
+    let data = 0x2000_0000_0000_0000;
+    // a statement at #101: its start, its number of bytes, its label's value and the next place
+    for (line, want) in [
+        ("x IS 1+2*3", Ok((0x101, 0, Some(Value::Pure(7)), 0x101))),
+        ("x IS $5", Ok((0x101, 0, Some(Value::Reg(5)), 0x101))),
+        ("x IS $5-$2", Ok((0x101, 0, Some(Value::Pure(3)), 0x101))),
+        (" IS", Ok((0x101, 0, None, 0x101))),
+        ("x IS x", Err(17)),
+        (" IS 7-$2", Err(16)),
+        (" IS 1,2", Err(40)),
+        (
+            "x LOC Data_Segment",
+            Ok((0x101, 0, Some(Value::Pure(0x101)), data)),
+        ),
+        (" LOC -8", Ok((0x101, 0, None, 0xffff_ffff_ffff_fff8))),
+        (" LOC $1", Err(42)),
+        ("x LOC x", Err(17)),
+        ("x GREG 0", Ok((0x101, 0, Some(Value::Reg(252)), 0x101))),
+        ("x GREG @", Ok((0x101, 0, Some(Value::Reg(252)), 0x101))),
+        (
+            "x GREG Data_Segment",
+            Ok((0x101, 0, Some(Value::Reg(254)), 0x101)),
+        ),
+        (" GREG $1", Err(42)),
+        (" PREFIX (a)", Ok((0x101, 0, None, 0x101))),
+        (" PREFIX +a", Err(40)),
+        (" PREFIX \"a\"", Err(40)),
+        ("x PREFIX a", Err(48)),
+        (" LOCAL $5", Ok((0x101, 0, None, 0x101))),
+        (" LOCAL 5", Err(41)),
+        ("x LOCAL $5", Err(48)),
+        (
+            "x BYTE \"ab\",255,-128",
+            Ok((0x101, 4, Some(Value::Pure(0x101)), 0x105)),
+        ),
+        (" BYTE -129", Err(43)),
+        (
+            "x WYDE 65535,-32768",
+            Ok((0x102, 4, Some(Value::Pure(0x102)), 0x106)),
+        ),
+        (" WYDE 65536", Err(43)),
+        (" TETRA \"ab\"", Ok((0x104, 8, None, 0x10c))),
+        (" TETRA #100000000", Err(43)),
+        (" TETRA x", Err(17)),
+        (
+            "x OCTA @,-1",
+            Ok((0x108, 16, Some(Value::Pure(0x108)), 0x118)),
+        ),
+        (" OCTA $1", Err(42)),
+        (" OCTA x+0", Err(17)),
+        (" JMP +x", Err(17)),
+        ("x SWYM", Ok((0x104, 4, Some(Value::Pure(0x104)), 0x108))),
+    ] {
+        let told = match placed(rt.alloc(), &names, &gregs, 0x101, line.as_bytes()) {
+            Ok(placed) => Ok((
+                placed.start,
+                placed.bytes.as_slice().len(),
+                placed.label,
+                placed.after,
+            )),
+            Err(fault) => Err(fault),
+        };
+        assert_eq!(rt; told, want, "{line}");
+    }
+}
+
+/// Whether these references, in this order, are what a statement waits for.
+fn waits_are(placed: &Placed, want: &[(Awaited, u64, WaitKind)]) -> bool {
+    let waits = placed.waits.as_slice();
+    if waits.len() != want.len() {
+        return false;
+    }
+    waits.iter().zip(want).all(|(wait, want)| wait.who.is_same(&want.0)
+        && wait.at == want.1
+        && wait.kind == want.2)
+}
+
+/// A name to wait for.
+fn name(alloc: Global, text: &[u8]) -> Result<Awaited, NoMemory> {
+    Ok(Awaited::Name(Bytes::copy(alloc, text)?))
+}
+
+/// What is awaited by statements that refer to what comes later.
+fn references(alloc: Global) -> Result<bool, u16> {
+    let Ok(mut names) = Names::new(alloc) else {
+        return Err(0);
+    };
+    names.define_local(2, Value::Pure(4));
+    let gregs = Gregs::new();
+    let (Ok(x), Ok(buf)) = (name(alloc, b":x"), name(alloc, b":Buf")) else {
+        return Err(0);
+    };
+    // a branch to a name that is not known, with zero for it
+    let branch = placed(alloc, &names, &gregs, 0, b"Main BZ $0,x")?;
+    // a jump on a line labelled 2H waits for the next 2H, and one to 2B is backward
+    let ahead = placed(alloc, &names, &gregs, 4, b"2H JMP ((2F))")?;
+    let back = placed(alloc, &names, &gregs, 8, b"2H JMP 2B")?;
+    // references in OCTA, in their order
+    let octas = placed(alloc, &names, &gregs, 0x100, b"1H OCTA (Buf),8,1F")?;
+    Ok(
+        branch.bytes.as_slice() == [0x42, 0, 0, 0].as_slice()
+            && waits_are(&branch, &[(x, 0, WaitKind::Near)])
+            && ahead.bytes.as_slice() == [0xf0, 0, 0, 0].as_slice()
+            && waits_are(&ahead, &[(Awaited::Local(2), 4, WaitKind::Far)])
+            && back.bytes.as_slice() == [0xf1, 0xff, 0xff, 0xff].as_slice()
+            && waits_are(&back, &[])
+            && octas.bytes.as_slice()
+                == [
+                    0, 0, 0, 0, 0, 0, 0, 0, 0, 0, 0, 0, 0, 0, 0, 8, 0, 0, 0, 0, 0, 0, 0, 0,
+                ]
+                .as_slice()
+            && waits_are(
+                &octas,
+                &[
+                    (buf, 0x100, WaitKind::Octa),
+                    (Awaited::Local(1), 0x110, WaitKind::Octa),
+                ],
+            ),
+    )
+}
+
+#[test]
+fn future_references(rt: HostRuntime) {
+    assert_eq!(rt; references(rt.alloc()), Ok(true));
+}
+
+/// Whether the effect of a statement is this one: of a prefix its length, of a register its number.
+fn effect_is(placed: &Placed, kind: &str, number: usize) -> bool {
+    match &placed.effect {
+        Effect::Plain => kind == "plain",
+        Effect::Prefix(full) => kind == "prefix" && full.as_slice().len() == number,
+        Effect::Greg { reg, .. } => kind == "greg" && usize::from(*reg) == number,
+        Effect::Local(reg) => kind == "local" && usize::from(*reg) == number,
+    }
+}
+
+/// Whether the effects of PREFIX, GREG and LOCAL are what they are.
+fn effects(alloc: Global) -> Result<bool, u16> {
+    let Ok(mut names) = Names::new(alloc) else {
+        return Err(0);
+    };
+    if names.set_prefix(b"p:").is_err() {
+        return Err(0);
+    }
+    let gregs = Gregs::new();
+    let plain = placed(alloc, &names, &gregs, 0, b" BYTE 1")?;
+    let prefix = placed(alloc, &names, &gregs, 0, b" PREFIX q")?;
+    let greg = placed(alloc, &names, &gregs, 0, b" GREG 8")?;
+    let local = placed(alloc, &names, &gregs, 0, b" LOCAL $99")?;
+    Ok(
+        effect_is(&plain, "plain", 0)
+            && effect_is(&prefix, "prefix", 4)
+            && effect_is(&greg, "greg", 254)
+            && effect_is(&local, "local", 99)
+            && word(alloc, &names, &gregs, 0, b"x TRAP 0,Halt,0") == Err(17)
+            && word(alloc, &names, &gregs, 0, b":Main TRAP 0,:Halt,0") == Ok(0),
+    )
+}
+
+/// The start of a statement and the place after it, or the number of its fault.
+fn places(alloc: Global, at: u64, text: &[u8]) -> Result<(u64, u64), u16> {
+    let Ok(names) = Names::new(alloc) else {
+        return Err(0);
+    };
+    let placed = placed(alloc, &names, &Gregs::new(), at, text)?;
+    Ok((placed.start, placed.after))
+}
+
+#[test]
+fn ends_of_the_addresses(rt: HostRuntime) {
+    let last = 0x5fff_ffff_ffff_ffff;
+    assert_eq!(rt; places(rt.alloc(), last, b" BYTE 1"), Ok((last, last + 1)));
+    assert_eq!(rt; places(rt.alloc(), last, b" BYTE 1,2"), Err(49));
+    assert_eq!(rt; places(rt.alloc(), u64::MAX, b" TETRA 1"), Ok((0, 4)));
+    assert_eq!(rt; places(rt.alloc(), u64::MAX - 7, b" BYTE 1"), Err(49));
+}
+
+#[test]
+fn nearest_bases(rt: HostRuntime) {
+    let Ok(names) = Names::new(rt.alloc()) else {
+        assert!(rt; false, "out of memory");
+        return;
+    };
+    let mut gregs = Gregs::new();
+    gregs.set(254, 8);
+    gregs.set(253, 0xffff_ffff_ffff_fffc);
+    // 5 lies 9 above -4 and below 8; 9 lies 1 above 8 and 13 above -4
+    assert_eq!(rt;
+        word(rt.alloc(), &names, &gregs, 0, b" LDO $1,5"),
+        Ok(0x8d01_fd09)
+    );
+    assert_eq!(rt;
+        word(rt.alloc(), &names, &gregs, 0, b" LDO $1,9"),
+        Ok(0x8d01_fe01)
+    );
+}
+
+#[test]
+fn effects_of_statements(rt: HostRuntime) {
+    assert_eq!(rt; effects(rt.alloc()), Ok(true));
+}
+
+/// Operands that the shape of a code takes, with the first code of its name or the second.
+fn operands_of(shape: Shape, second: bool) -> &'static [u8] {
+    match (shape, second) {
+        (Shape::Three | Shape::Regs | Shape::Mem, false) => b"$1,$2,$3",
+        (Shape::Three | Shape::Regs | Shape::Mem, true) => b"$1,$2,3",
+        (Shape::Round | Shape::Neg, false) => b"$1,2,$3",
+        (Shape::Round | Shape::Neg, true) => b"$1,2,3",
+        (Shape::Rel, false) => b"$1,@+4",
+        (Shape::Rel, true) => b"$1,@-4",
+        (Shape::MemPure, false) => b"1,$2,$3",
+        (Shape::MemPure, true) => b"1,$2,3",
+        (Shape::Jump, false) => b"@+4",
+        (Shape::Jump, true) => b"@-4",
+        (Shape::Put, false) => b"4,$5",
+        (Shape::Put, true) => b"4,5",
+        (Shape::Wyde | Shape::Get | Shape::Save, _) => b"$1,2",
+        (Shape::Unsave, _) => b"0,$1",
+        (Shape::Pop | Shape::One | Shape::Free, _) => b"1",
+    }
+}
+
+/// The code of an instruction with the name of a code and operands for it, or the number of a fault.
+fn code_of(alloc: Global, names: &Names, code: u8) -> Result<u32, u16> {
+    let Some(Op::Code(lowest)) = find(mx_ops::name(code).as_bytes()) else {
+        return Err(0);
+    };
+    let Ok(mut line) = Bytes::copy(alloc, b" ") else {
+        return Err(0);
+    };
+    let operands = operands_of(shape_of(code), code != lowest);
+    if line.extend(mx_ops::name(code).as_bytes()).is_err()
+        || line.push(b' ').is_err()
+        || line.extend(operands).is_err()
+    {
+        return Err(0);
+    }
+    Ok(word(alloc, names, &Gregs::new(), 0x100, line.as_slice())? >> 24)
+}
+
+#[test]
+fn each_code(rt: HostRuntime) {
+    let Ok(names) = Names::new(rt.alloc()) else {
+        assert!(rt; false, "out of memory");
+        return;
+    };
+    // each code by its name and operands that ask for it
+    for code in 0..=255 {
+        assert_eq!(rt;
+            code_of(rt.alloc(), &names, code),
+            Ok(u32::from(code)),
+            "code {code}"
+        );
+    }
+}
+
+/// The label of a GREG with these registers, or the number of its fault.
+fn greg(alloc: Global, gregs: &Gregs, text: &[u8]) -> Result<Option<Value>, u16> {
+    let Ok(names) = Names::new(alloc) else {
+        return Err(0);
+    };
+    Ok(placed(alloc, &names, gregs, 0, text)?.label)
+}
+
+/// $G to $254 have their numbers as values.
+fn numbered_gregs(g: u8) -> Gregs
+    requires { 32 ≤ g }
+    ensures { lowest_of result ≡ g }
+{
+    let mut gregs = Gregs::new();
+    for reg in (g..255).rev() {
+        gregs.set(reg, u64::from(reg));
+    }
+    gregs
+}
+
+#[test]
+fn registers_run_out(rt: HostRuntime) {
+    let mut gregs = numbered_gregs(33);
+    assert_eq!(rt;
+        greg(rt.alloc(), &gregs, b"x GREG 0"),
+        Ok(Some(Value::Reg(32)))
+    );
+    gregs.set(32, 0);
+    assert_eq!(rt; gregs.lowest(), 32);
+    assert_eq!(rt; greg(rt.alloc(), &gregs, b"x GREG 0"), Err(47));
+    assert_eq!(rt;
+        greg(rt.alloc(), &gregs, b"x GREG 33"),
+        Ok(Some(Value::Reg(33)))
+    );
+}
+
+#[test]
+fn statements_read(rt: HostRuntime) {
+    let text = b"2H LDA $1,2";
+    let Ok(Some(cut)) = next_statement(text, 0) else {
+        assert!(rt; false, "a statement");
+        return;
+    };
+    let Ok(statement) = read_statement(rt.alloc(), text, &cut, 7) else {
+        assert!(rt; false, "out of memory");
+        return;
+    };
+    assert!(rt; matches!(statement.label, Some(Label::Local(2))));
+    assert_eq!(rt; (statement.line, statement.op), (7, Op::Lda));
+    assert_eq!(rt; statement.operands.as_slice().len(), 2);
+    assert_eq!(rt; StmtFault::OutOfMemory.number(), 0);
+}
