@@ -1,0 +1,11 @@
+pub mod SecondCodes
+pub mod Digits
+pub mod Joined
+pub mod ByShape
+pub mod LowestCodes
+pub mod HexValues
+pub mod Different
+pub mod Parts
+pub mod OperandTexts
+pub mod TellingFields
+pub mod Telling

@@ -1,0 +1,17 @@
+//! The texts of octas and of instructions, as the console, a trace and a dump show them.
+#![tactic(auto)]
+
+mod codes;
+mod fields;
+mod instructions;
+mod laws;
+mod numbers;
+mod operands;
+#[cfg(test)]
+mod tests;
+
+pub use instructions::instruction;
+pub use laws::{
+    hex_digits_count_the_octa, names_are_found, texts_of_octas_differ, texts_tell_their_instruction,
+};
+pub use numbers::{Form, octa_hex, shown};

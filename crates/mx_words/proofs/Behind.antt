@@ -1,0 +1,56 @@
+-- The words behind a file.
+use Rattle.std.proofs.Common.{◌≡◌, ℕ, ◌+◌, ◌≤◌, ◌<◌, List, [], ◌∷◌, map, length, drop, refl, sym, ap, arith, Ok, Err, ◌⊎◌, inl, inr}
+use Rattle.std.proofs.lemmas.List.{length-drop, length-map}
+use Rattle.mx_words.specs.Values.{Word}
+use Rattle.mx_words.specs.Orders.{fault, asm_order, run_order, object_behind, none_behind}
+use Rattle.mx_words.specs.Files.{behind}
+use Rattle.mx_words.specs.declared.order.Command.{Command}
+use Rattle.mx_words.specs.declared.order.Command.TheVariants.{Run, Sim, Asm}
+use Rattle.mx_words.specs.declared.settings.Settings.{Settings}
+use Rattle.mx_words.proofs.Chosen.{behind-word}
+use Rattle.mx_words.proofs.Places.{word-at, no-word}
+
+one-object : (s : Settings) (p : ℕ) (ws : List Word) → length ws ≡ 1 → object_behind s p ws ≡ Ok (asm_order s p)
+one-object s p [] is = absurd (omega arith)
+one-object s p (w ∷ []) is = refl
+one-object s p (w ∷ v ∷ ws) is = absurd (omega arith)
+
+two-words : (s : Settings) (p : ℕ) (ws : List Word) → 2 ≤ length ws → object_behind s p ws ≡ Err (fault 8 (p + 2))
+two-words s p [] lt = absurd (omega arith)
+two-words s p (w ∷ []) lt = absurd (omega arith)
+two-words s p (w ∷ v ∷ ws) lt = refl
+
+some-word : (s : Settings) (n p : ℕ) (ws : List Word) → 1 ≤ length ws → none_behind s n p ws ≡ Err (fault 8 (p + 1))
+some-word s n p [] lt = absurd (omega arith)
+some-word s n p (w ∷ ws) lt = refl
+
+module _ {A : Type 0} (f : A → Word) where
+  left : (xs : List A) (i : ℕ) → i ≤ length xs → length (drop i (map f xs)) + i ≡ length xs
+  left xs i lt = omega (arith, lt, length-drop i (map f xs), length-map xs f)
+
+  pub object-alone : (s : Settings) (p : ℕ) (xs : List A) → length xs ≡ p + 2 → Ok (asm_order s p) ≡ object_behind s p (drop (p + 1) (map f xs))
+  object-alone s p xs is = sym (one-object s p _ (omega (arith, is, left xs (p + 1) (omega arith))))
+
+  pub object-followed : (s : Settings) (p : ℕ) (xs : List A) → p + 2 < length xs → Err (fault 8 (p + 2)) ≡ object_behind s p (drop (p + 1) (map f xs))
+  object-followed s p xs lt = sym (two-words s p _ (omega (arith, lt, left xs (p + 1) (omega arith))))
+
+  pub blocks-followed : (s : Settings) (n p : ℕ) (xs : List A) → p + 1 < length xs → Err (fault 8 (p + 1)) ≡ none_behind s n p (drop (p + 1) (map f xs))
+  blocks-followed s n p xs lt = sym (some-word s n p _ (omega (arith, lt, left xs (p + 1) (omega arith))))
+
+  -- the file of a command at a place
+  pub behind-asm : (s : Settings) (p : ℕ) (xs : List A) → p < length xs → object_behind s p (drop (p + 1) (map f xs)) ≡ behind Asm s p (drop p (map f xs))
+  behind-asm s p xs lt = first (drop p (map f xs)) refl
+    where
+      first : (ws : List Word) → drop p (map f xs) ≡ ws → object_behind s p (drop (p + 1) (map f xs)) ≡ behind Asm s p ws
+      first [] is = absurd (omega (arith, lt, left xs p (omega arith), ap length is))
+      first (w ∷ ws) is = ap (object_behind s p) (behind-word (map f xs) p w ws is)
+
+  pub behind-run : (c : Command) (s : Settings) (p : ℕ) (xs : List A) → (c ≡ Run) ⊎ (c ≡ Sim) → p < length xs → Ok (run_order c s p) ≡ behind c s p (drop p (map f xs))
+  behind-run c s p xs is lt = first (drop p (map f xs)) refl is
+    where
+      first : (ws : List Word) → drop p (map f xs) ≡ ws → (c ≡ Run) ⊎ (c ≡ Sim) → Ok (run_order c s p) ≡ behind c s p ws
+      first [] none is = absurd (omega (arith, lt, left xs p (omega arith), ap length none))
+      first (w ∷ ws) some (inl is) = rw is refl
+      first (w ∷ ws) some (inr is) = rw is refl
+
+pub ruleset behinds = (word-at, no-word, object-alone, object-followed, blocks-followed, behind-asm, behind-run)

@@ -1,0 +1,59 @@
+-- Options from the left: what follows an option.
+use Rattle.std.proofs.Common.{◌≡◌, ℕ, ◌+◌, Bool, true, false, cond, List, [], ◌∷◌, drop, refl, sym, ◌∙◌, ap, Result, Ok, Err, arith}
+use Rattle.std.proofs.lemmas.List.{drop-drop}
+use Rattle.mx_words.specs.Values.{Word, is_option, ring_value, steps_value}
+use Rattle.mx_words.specs.Orders.{Ordered, fault, is_dump, is_ring, is_steps, with_ring, with_steps, valued, options_from, file_at}
+use Rattle.mx_words.specs.OneOption.{Read, set, option_read}
+use Rattle.mx_words.specs.declared.order.Command.{Command}
+use Rattle.mx_words.specs.declared.settings.Settings.{Settings}
+
+-- what follows an option that was read, among all words
+abbrev pub followed : Command → List Word → Read → Ordered
+followed c all (Err e) = Err e
+followed c all (Ok (s, place)) = options_from c s place (drop place all)
+
+-- a value and what follows it
+value-followed : (c : Command) (all : List Word) (v : Result ℕ ℕ) (place next : ℕ) (with_value : ℕ → Settings) (words : List Word) → next ≡ place + 1 → drop (place + 1) all ≡ words →
+    valued v place (λ n. options_from c (with_value n) next words) ≡ followed c all (set v place with_value)
+value-followed c all (Err kind) place next with_value words is rest = refl
+value-followed c all (Ok n) place next with_value words is rest = rw (rest, is) refl
+
+-- the choice among the options, with a word behind
+chosen : (c : Command) (all : List Word) (d r t : Bool) (dumped : Read) (ringed stepped unknown : Read) (a b e f : Ordered) →
+    a ≡ followed c all dumped → b ≡ followed c all ringed → e ≡ followed c all stepped → f ≡ followed c all unknown →
+    cond d a (cond r b (cond t e f)) ≡ followed c all (cond d dumped (cond r ringed (cond t stepped unknown)))
+chosen c all true r t dumped ringed stepped unknown a b e f ha hb he hf = ha
+chosen c all false true t dumped ringed stepped unknown a b e f ha hb he hf = hb
+chosen c all false false true dumped ringed stepped unknown a b e f ha hb he hf = he
+chosen c all false false false dumped ringed stepped unknown a b e f ha hb he hf = hf
+
+-- the words behind a word
+pub behind-word : (all : List Word) (p : ℕ) (word : Word) (words : List Word) → drop p all ≡ word ∷ words → drop (p + 1) all ≡ words
+behind-word all p word words is =
+    sym (drop-drop 1 p all) ∙ ap (drop 1) is
+
+-- an option, and what follows it
+pub option-followed : (c : Command) (all : List Word) (s : Settings) (p : ℕ) (word : Word) (words : List Word) →
+    drop p all ≡ word ∷ words → is_option word ≡ true → options_from c s p (word ∷ words) ≡ followed c all (option_read c s p word words)
+unfolding options_from
+option-followed c all s p word [] rest dash =
+    let none : drop (p + 1) all ≡ [] = behind-word all p word [] rest in
+    rw dash (chosen c all (is_dump c word) (is_ring c word) (is_steps c word) _ _ _ _ _ _ _ _ (rw none refl) refl refl refl)
+option-followed c all s p word (value ∷ words) rest dash =
+    let more : drop (p + 1) all ≡ value ∷ words = behind-word all p word (value ∷ words) rest in
+    let others : drop (p + 1 + 1) all ≡ words = behind-word all (p + 1) value words more in
+    rw dash (chosen c all (is_dump c word) (is_ring c word) (is_steps c word) _ _ _ _ _ _ _ _ (rw more refl)
+    (value-followed c all (ring_value value) (p + 1) (p + 2) (with_ring s) words (omega arith) others)
+    (value-followed c all (steps_value value) (p + 1) (p + 2) (with_steps s) words (omega arith) others) refl)
+
+-- a word that is no option
+pub not-option : (c : Command) (s : Settings) (p : ℕ) (word : Word) (words : List Word) → is_option word ≡ false →
+    options_from c s p (word ∷ words) ≡ file_at c s p word words
+unfolding options_from
+not-option c s p word [] dash = rw dash refl
+not-option c s p word (value ∷ words) dash = rw dash refl
+
+-- no word
+pub no-file : (c : Command) (s : Settings) (p : ℕ) → options_from c s p [] ≡ Err (fault 7 p)
+unfolding options_from
+no-file c s p = refl

@@ -1,0 +1,72 @@
+-- The words of the grammar are read as their order.
+use Rattle.std.proofs.Common.{◌≡◌, ℕ, ◌+◌, true, List, [], ◌∷◌, ◌++◌, length, refl, ◌∙◌, ap, arith, Ok, codes}
+use Rattle.mx_words.specs.Values.{Word, ring_value, steps_value}
+use Rattle.mx_words.specs.Orders.{runs_file, takes_ring, defaults, with_dump, with_ring, with_steps, valued, options_from, order_of, blocks_at}
+use Rattle.mx_words.specs.Usage.{Options, Orders, none, dump, ring, steps, run, sim, asm, gen}
+use Rattle.mx_words.specs.declared.order.Command.{Command}
+use Rattle.mx_words.specs.declared.order.Command.TheVariants.{Run, Sim, Asm, Gen}
+use Rattle.mx_words.specs.declared.order.Order.{Order}
+use Rattle.mx_words.specs.declared.settings.Settings.{Settings}
+use Rattle.mx_words.proofs.Chosen.{not-option}
+
+dump-step : (c : Command) (s : Settings) (p : ℕ) (word : Word) (words : List Word) → runs_file c ≡ true →
+    options_from c s p (codes "--dump" ∷ word ∷ words) ≡ options_from c (with_dump s) (p + 1) (word ∷ words)
+unfolding options_from
+dump-step Run s p word words is = refl
+dump-step Sim s p word words is = refl
+dump-step Asm s p word words is = cc is
+dump-step Gen s p word words is = cc is
+
+ring-step : (c : Command) (s : Settings) (p : ℕ) (value : Word) (words : List Word) → takes_ring c ≡ true →
+    options_from c s p (codes "--ring" ∷ value ∷ words) ≡ valued (ring_value value) (p + 1) (λ n. options_from c (with_ring s n) (p + 2) words)
+unfolding options_from
+ring-step Run s p value words is = refl
+ring-step Sim s p value words is = refl
+ring-step Asm s p value words is = cc is
+ring-step Gen s p value words is = refl
+
+steps-step : (c : Command) (s : Settings) (p : ℕ) (value : Word) (words : List Word) → runs_file c ≡ true →
+    options_from c s p (codes "--steps" ∷ value ∷ words) ≡ valued (steps_value value) (p + 1) (λ n. options_from c (with_steps s n) (p + 2) words)
+unfolding options_from
+steps-step Run s p value words is = refl
+steps-step Sim s p value words is = refl
+steps-step Asm s p value words is = cc is
+steps-step Gen s p value words is = cc is
+
+-- options in front of a file
+dumped : (c : Command) (s : Settings) (p : ℕ) (words : List Word) (file : Word) (behind : List Word) → runs_file c ≡ true →
+    options_from c s p (codes "--dump" ∷ (words ++ file ∷ behind)) ≡ options_from c (with_dump s) (p + 1) (words ++ file ∷ behind)
+dumped c s p [] file behind is = dump-step c s p file behind is
+dumped c s p (w ∷ words) file behind is = dump-step c s p w (words ++ file ∷ behind) is
+
+moved : (c : Command) (t : Settings) (p q : ℕ) (words : List Word) → p ≡ q → options_from c t p words ≡ options_from c t q words
+moved c t p q words is = rw is refl
+
+pub options-read : (c : Command) (s t : Settings) (words : List Word) → Options c s words t → (p : ℕ) (file : Word) (behind : List Word) →
+    options_from c s p (words ++ file ∷ behind) ≡ options_from c t (p + length words) (file ∷ behind)
+options-read _ _ _ _ (none c s) p file behind = moved c s p (p + 0) (file ∷ behind) (omega arith)
+options-read _ _ _ _ (dump c s t words takes rest) p file behind =
+    dumped c s p words file behind takes
+    ∙ options-read c (with_dump s) t words rest (p + 1) file behind
+    ∙ moved c t _ _ (file ∷ behind) (omega arith)
+options-read _ _ _ _ (ring c s t value n words takes is rest) p file behind =
+    ring-step c s p value (words ++ file ∷ behind) takes
+    ∙ ap (λ v. valued v (p + 1) (λ m. options_from c (with_ring s m) (p + 2) (words ++ file ∷ behind))) is
+    ∙ options-read c (with_ring s n) t words rest (p + 2) file behind
+    ∙ moved c t _ _ (file ∷ behind) (omega arith)
+options-read _ _ _ _ (steps c s t value n words takes is rest) p file behind =
+    steps-step c s p value (words ++ file ∷ behind) takes
+    ∙ ap (λ v. valued v (p + 1) (λ m. options_from c (with_steps s m) (p + 2) (words ++ file ∷ behind))) is
+    ∙ options-read c (with_steps s n) t words rest (p + 2) file behind
+    ∙ moved c t _ _ (file ∷ behind) (omega arith)
+
+pub order-read : (words : List Word) (o : Order) → Orders words o → order_of words ≡ Ok o
+order-read _ _ (run s options source arguments set file) =
+    options-read Run defaults s options set 1 source arguments ∙ not-option Run s (1 + length options) source arguments file
+order-read _ _ (sim s options object arguments set file) =
+    options-read Sim defaults s options set 1 object arguments ∙ not-option Sim s (1 + length options) object arguments file
+order-read _ _ (asm source object file) = not-option Asm defaults 1 source (object ∷ []) file
+order-read _ _ (gen s options number n set file is) =
+    options-read Gen defaults s options set 1 number []
+    ∙ not-option Gen s (1 + length options) number [] file
+    ∙ ap (λ v. blocks_at s (1 + length options) v []) is

@@ -1,0 +1,7 @@
+pub mod Places
+pub mod Chosen
+pub mod Behind
+pub mod ReadOptions
+pub mod Parsed
+pub mod Complete
+pub mod Sound

@@ -1,0 +1,188 @@
+-- Words that are read as an order are of the grammar.
+use Rattle.std.proofs.Common.{◌≡◌, ℕ, ◌+◌, Bool, true, false, cond, List, [], ◌∷◌, ◌++◌, length, refl, sym, ◌∙◌, ap, arith, Result, Ok, Err, Some, None, codes, bytes_eq}
+use Rattle.std.proofs.lemmas.Slice.Eq.{bytes_eq-Decides}
+use Rattle.std.proofs.lemmas.Bool.{and_parts}
+use Rattle.mx_words.specs.Values.{Word, is_option, ring_value, steps_value, blocks_value}
+use Rattle.mx_words.specs.Orders.{Ordered, fault, runs_file, takes_ring, is_dump, is_ring, is_steps, defaults, with_dump, with_ring, with_steps, valued, options_from, file_at, commanded, order_of, run_order, object_behind, blocks_at}
+use Rattle.mx_words.specs.Usage.{Options, Orders, none, dump, ring, steps, run, sim, asm, gen}
+use Rattle.mx_words.specs.declared.order.Command.{Command}
+use Rattle.mx_words.specs.declared.order.Command.TheVariants.{Run, Sim, Asm, Gen}
+use Rattle.mx_words.specs.declared.order.Order.{Order}
+use Rattle.mx_words.specs.declared.order.WordsFault.{WordsFault}
+use Rattle.mx_words.specs.declared.settings.Settings.{Settings}
+
+-- words that an order was read from: options, a file, and the words behind it
+record Parted (c : Command) (s : Settings) (p : ℕ) (words : List Word) (o : Order) : Type 0 where
+  options : List Word
+  after : Settings
+  file : Word
+  behind : List Word
+  whole : words ≡ options ++ file ∷ behind
+  set : Options c s options after
+  no_dash : is_option file ≡ false
+  ordered : file_at c after (p + length options) file behind ≡ Ok o
+
+refused : {A : Type 0} (e : WordsFault) (o : Order) → ◌≡◌ {A = Ordered} (Err e) (Ok o) → A
+refused e o is = cc is
+
+ok : (a b : Order) → ◌≡◌ {A = Ordered} (Ok a) (Ok b) → a ≡ b
+ok a b e = cc e
+
+no-options : (c : Command) (s : Settings) (p : ℕ) (word : Word) (words : List Word) (o : Order) → is_option word ≡ false →
+    file_at c s p word words ≡ Ok o → Parted c s p (word ∷ words) o
+no-options c s p word words o dash is =
+    record { options = []; after = s; file = word; behind = words; whole = refl; set = none c s; no_dash = dash; ordered = file_at-moved (omega arith) ∙ is }
+  where
+    file_at-moved : p + 0 ≡ p → file_at c s (p + 0) word words ≡ file_at c s p word words
+    file_at-moved same = rw same refl
+
+file_at-same : (c : Command) (t : Settings) (p q : ℕ) (file : Word) (behind : List Word) → p ≡ q → file_at c t p file behind ≡ file_at c t q file behind
+file_at-same c t p q file behind is = rw is refl
+
+with-dumped : (c : Command) (s : Settings) (p : ℕ) (word : Word) (words : List Word) (o : Order) → is_dump c word ≡ true →
+    Parted c (with_dump s) (p + 1) words o → Parted c s p (word ∷ words) o
+with-dumped c s p word words o is rest =
+    let parts : (runs_file c ≡ true) × (bytes_eq word (codes "--dump") ≡ true) = and_parts (runs_file c) (bytes_eq word (codes "--dump")) is in
+    let named : word ≡ codes "--dump" = (bytes_eq-Decides word (codes "--dump")).0 parts.1 in
+    record {
+      options = codes "--dump" ∷ rest.options;
+      after = rest.after;
+      file = rest.file;
+      behind = rest.behind;
+      whole = cc (named, rest.whole);
+      set = dump c s rest.after rest.options parts.0 rest.set;
+      no_dash = rest.no_dash;
+      ordered = file_at-same c rest.after _ _ rest.file rest.behind (omega arith) ∙ rest.ordered;
+    }
+
+with-ringed : (c : Command) (s : Settings) (p : ℕ) (word value : Word) (n : ℕ) (words : List Word) (o : Order) → is_ring c word ≡ true → ring_value value ≡ Ok n →
+    Parted c (with_ring s n) (p + 2) words o → Parted c s p (word ∷ value ∷ words) o
+with-ringed c s p word value n words o is good rest =
+    let parts : (takes_ring c ≡ true) × (bytes_eq word (codes "--ring") ≡ true) = and_parts (takes_ring c) (bytes_eq word (codes "--ring")) is in
+    let named : word ≡ codes "--ring" = (bytes_eq-Decides word (codes "--ring")).0 parts.1 in
+    record {
+      options = codes "--ring" ∷ value ∷ rest.options;
+      after = rest.after;
+      file = rest.file;
+      behind = rest.behind;
+      whole = cc (named, rest.whole);
+      set = ring c s rest.after value n rest.options parts.0 good rest.set;
+      no_dash = rest.no_dash;
+      ordered = file_at-same c rest.after _ _ rest.file rest.behind (omega arith) ∙ rest.ordered;
+    }
+
+with-stepped : (c : Command) (s : Settings) (p : ℕ) (word value : Word) (n : ℕ) (words : List Word) (o : Order) → is_steps c word ≡ true → steps_value value ≡ Ok n →
+    Parted c (with_steps s n) (p + 2) words o → Parted c s p (word ∷ value ∷ words) o
+with-stepped c s p word value n words o is good rest =
+    let parts : (runs_file c ≡ true) × (bytes_eq word (codes "--steps") ≡ true) = and_parts (runs_file c) (bytes_eq word (codes "--steps")) is in
+    let named : word ≡ codes "--steps" = (bytes_eq-Decides word (codes "--steps")).0 parts.1 in
+    record {
+      options = codes "--steps" ∷ value ∷ rest.options;
+      after = rest.after;
+      file = rest.file;
+      behind = rest.behind;
+      whole = cc (named, rest.whole);
+      set = steps c s rest.after value n rest.options parts.0 good rest.set;
+      no_dash = rest.no_dash;
+      ordered = file_at-same c rest.after _ _ rest.file rest.behind (omega arith) ∙ rest.ordered;
+    }
+
+-- one word, which has to be the file
+one-word : (c : Command) (s : Settings) (p : ℕ) (word : Word) (o : Order) (dash d r t : Bool) → is_option word ≡ dash →
+    cond dash (cond d (Err (fault 7 (p + 1))) (cond r (Err (fault 4 (p + 1))) (cond t (Err (fault 4 (p + 1))) (Err (fault 3 p))))) (file_at c s p word []) ≡ Ok o →
+    Parted c s p (word ∷ []) o
+one-word c s p word o true true r t h is = refused _ o is
+one-word c s p word o true false true t h is = refused _ o is
+one-word c s p word o true false false true h is = refused _ o is
+one-word c s p word o true false false false h is = refused _ o is
+one-word c s p word o false d r t h is = no-options c s p word [] o h is
+
+-- a value, if what follows was read
+value-good : {A : Type 0} (v : Result ℕ ℕ) (place : ℕ) (go : ℕ → Ordered) (o : Order) → valued v place go ≡ Ok o → ((n : ℕ) → v ≡ Ok n → go n ≡ Ok o → A) → A
+value-good (Err kind) place go o is then = refused _ o is
+value-good (Ok n) place go o is then = then n refl is
+
+-- two words and more, with the recursion as arguments
+more-words : (c : Command) (s : Settings) (p : ℕ) (word value : Word) (words : List Word) (o : Order) (dash d r t : Bool) →
+    is_option word ≡ dash → is_dump c word ≡ d → is_ring c word ≡ r → is_steps c word ≡ t →
+    (options_from c (with_dump s) (p + 1) (value ∷ words) ≡ Ok o → Parted c (with_dump s) (p + 1) (value ∷ words) o) →
+    ((n : ℕ) → options_from c (with_ring s n) (p + 2) words ≡ Ok o → Parted c (with_ring s n) (p + 2) words o) →
+    ((n : ℕ) → options_from c (with_steps s n) (p + 2) words ≡ Ok o → Parted c (with_steps s n) (p + 2) words o) →
+    cond dash
+    (cond d (options_from c (with_dump s) (p + 1) (value ∷ words))
+    (cond r (valued (ring_value value) (p + 1) (λ n. options_from c (with_ring s n) (p + 2) words))
+    (cond t (valued (steps_value value) (p + 1) (λ n. options_from c (with_steps s n) (p + 2) words)) (Err (fault 3 p)))))
+    (file_at c s p word (value ∷ words)) ≡ Ok o →
+    Parted c s p (word ∷ value ∷ words) o
+more-words c s p word value words o true true r t hh hd hr ht gd gr gt is = with-dumped c s p word (value ∷ words) o hd (gd is)
+more-words c s p word value words o true false true t hh hd hr ht gd gr gt is =
+    value-good (ring_value value) (p + 1) _ o is (λ n good then. with-ringed c s p word value n words o hr good (gr n then))
+more-words c s p word value words o true false false true hh hd hr ht gd gr gt is =
+    value-good (steps_value value) (p + 1) _ o is (λ n good then. with-stepped c s p word value n words o ht good (gt n then))
+more-words c s p word value words o true false false false hh hd hr ht gd gr gt is = refused _ o is
+more-words c s p word value words o false d r t hh hd hr ht gd gr gt is = no-options c s p word (value ∷ words) o hh is
+
+parted : (c : Command) (s : Settings) (p : ℕ) (words : List Word) (o : Order) → options_from c s p words ≡ Ok o → Parted c s p words o
+unfolding options_from
+parted c s p [] o is = refused _ o is
+parted c s p (word ∷ []) o is = one-word c s p word o (is_option word) (is_dump c word) (is_ring c word) (is_steps c word) refl is
+parted c s p (word ∷ value ∷ words) o is =
+    more-words c s p word value words o (is_option word) (is_dump c word) (is_ring c word) (is_steps c word) refl refl refl refl
+    (parted c (with_dump s) (p + 1) (value ∷ words) o)
+    (λ n. parted c (with_ring s n) (p + 2) words o)
+    (λ n. parted c (with_steps s n) (p + 2) words o)
+    is
+
+-- `asm` has no options
+asm-bare : (s t : Settings) (options : List Word) → Options Asm s options t → (options ≡ []) × (s ≡ t)
+asm-bare _ _ _ (none c s) = (refl, refl)
+asm-bare _ _ _ (dump c s t words takes rest) = cc takes
+asm-bare _ _ _ (ring c s t value n words takes is rest) = cc takes
+asm-bare _ _ _ (steps c s t value n words takes is rest) = cc takes
+
+run-order : (words : List Word) (o : Order) → Parted Run defaults 1 words o → Orders (codes "run" ∷ words) o
+run-order words o parts =
+    let is : run_order Run parts.after (1 + length parts.options) ≡ o = ok _ _ parts.ordered in
+    rw (parts.whole, ← is) (run parts.after parts.options parts.file parts.behind parts.set parts.no_dash)
+
+sim-order : (words : List Word) (o : Order) → Parted Sim defaults 1 words o → Orders (codes "sim" ∷ words) o
+sim-order words o parts =
+    let is : run_order Sim parts.after (1 + length parts.options) ≡ o = ok _ _ parts.ordered in
+    rw (parts.whole, ← is) (sim parts.after parts.options parts.file parts.behind parts.set parts.no_dash)
+
+asm-from : (s : Settings) (file : Word) (behind : List Word) (o : Order) → is_option file ≡ false → defaults ≡ s → object_behind s 1 behind ≡ Ok o →
+    Orders (codes "asm" ∷ file ∷ behind) o
+asm-from s file [] o dash is ordered = refused _ o ordered
+asm-from s file (object ∷ []) o dash is ordered = rw (← ok _ _ ordered, ← is) (asm file object dash)
+asm-from s file (object ∷ other ∷ others) o dash is ordered = refused _ o ordered
+
+asm-order : (words : List Word) (o : Order) → Parted Asm defaults 1 words o → Orders (codes "asm" ∷ words) o
+asm-order words o parts =
+    let bare : (parts.options ≡ []) × (defaults ≡ parts.after) = asm-bare defaults parts.after parts.options parts.set in
+    let whole : words ≡ parts.file ∷ parts.behind = parts.whole ∙ ap (λ l. l ++ parts.file ∷ parts.behind) bare.0 in
+    let ordered : object_behind parts.after 1 parts.behind ≡ Ok o = ap (λ l. object_behind parts.after (1 + length l) parts.behind) (sym bare.0) ∙ parts.ordered in
+    rw whole (asm-from parts.after parts.file parts.behind o parts.no_dash bare.1 ordered)
+
+gen-order : (words : List Word) (o : Order) → Parted Gen defaults 1 words o → Orders (codes "gen" ∷ words) o
+gen-order words o parts = from parts.behind (blocks_value parts.file) refl parts.whole parts.ordered
+  where
+    from : (behind : List Word) (v : Result ℕ ℕ) → blocks_value parts.file ≡ v → words ≡ parts.options ++ parts.file ∷ behind →
+        blocks_at parts.after (1 + length parts.options) v behind ≡ Ok o → Orders (codes "gen" ∷ words) o
+    from behind (Err kind) is whole ordered = refused _ o ordered
+    from [] (Ok n) is whole ordered = rw (whole, ← ok _ _ ordered) (gen parts.after parts.options parts.file n parts.set parts.no_dash is)
+    from (other ∷ others) (Ok n) is whole ordered = refused _ o ordered
+
+-- the command
+by-command : (word : Word) (words : List Word) (o : Order) (r a s g : Bool) →
+    bytes_eq word (codes "run") ≡ r → bytes_eq word (codes "asm") ≡ a → bytes_eq word (codes "sim") ≡ s → bytes_eq word (codes "gen") ≡ g →
+    commanded (cond r (Some Run) (cond a (Some Asm) (cond s (Some Sim) (cond g (Some Gen) None)))) words ≡ Ok o → Orders (word ∷ words) o
+by-command word words o true a s g hr ha hs hg is = rw ((bytes_eq-Decides word (codes "run")).0 hr) (run-order words o (parted Run defaults 1 words o is))
+by-command word words o false true s g hr ha hs hg is = rw ((bytes_eq-Decides word (codes "asm")).0 ha) (asm-order words o (parted Asm defaults 1 words o is))
+by-command word words o false false true g hr ha hs hg is = rw ((bytes_eq-Decides word (codes "sim")).0 hs) (sim-order words o (parted Sim defaults 1 words o is))
+by-command word words o false false false true hr ha hs hg is = rw ((bytes_eq-Decides word (codes "gen")).0 hg) (gen-order words o (parted Gen defaults 1 words o is))
+by-command word words o false false false false hr ha hs hg is = refused _ o is
+
+pub order-spelled : (words : List Word) (o : Order) → order_of words ≡ Ok o → Orders words o
+order-spelled [] o is = refused _ o is
+order-spelled (word ∷ words) o is =
+    by-command word words o (bytes_eq word (codes "run")) (bytes_eq word (codes "asm")) (bytes_eq word (codes "sim")) (bytes_eq word (codes "gen")) refl refl refl refl is

@@ -1,0 +1,16 @@
+-- What stands behind the options, as the code reads it.
+use Rattle.std.specs.Prelude.{ℕ, List, [], ◌∷◌, Err}
+use Rattle.mx_words.specs.Values.{Word, blocks_value}
+use Rattle.mx_words.specs.Orders.{Ordered, fault, file_at, blocks_at}
+use Rattle.mx_words.specs.declared.order.Command.{Command}
+use Rattle.mx_words.specs.declared.settings.Settings.{Settings}
+
+-- the file of a command, which begins the words from a place on
+abbrev pub behind : Command → Settings → ℕ → List Word → Ordered
+behind c s place [] = Err (fault 7 place)
+behind c s place (word ∷ words) = file_at c s place word words
+
+-- the N of `gen`, which begins the words from a place on
+abbrev pub blocks_behind : Settings → ℕ → List Word → Ordered
+blocks_behind s place [] = Err (fault 7 place)
+blocks_behind s place (word ∷ words) = blocks_at s place (blocks_value word) words

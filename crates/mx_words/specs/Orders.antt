@@ -1,0 +1,134 @@
+-- What the words of the command line order. A fault has its kind, and the place of the word that is at fault, or the
+-- number of words where one is missing. The words are read from the left, and the first fault counts.
+use Rattle.std.specs.Prelude.{ℕ, ◌+◌, ◌^◌, Bool, true, false, ◌&&◌, List, [], ◌∷◌, Option, None, Some, Result, Ok, Err, if◌then◌else◌, codes}
+use Rattle.std.specs.Str.{bytes_eq}
+use Rattle.mx_words.specs.Values.{Word, is_option, ring_value, steps_value, blocks_value}
+use Rattle.mx_words.specs.declared.order.Command.{Command}
+use Rattle.mx_words.specs.declared.order.Command.TheVariants.{Run, Asm, Sim, Gen}
+use Rattle.mx_words.specs.declared.order.Order.{Order}
+use Rattle.mx_words.specs.declared.order.WordsFault.{WordsFault}
+use Rattle.mx_words.specs.declared.settings.Settings.{Settings}
+
+abbrev pub Ordered : Type 0
+Ordered = Result Order WordsFault
+
+abbrev pub fault : ℕ → ℕ → WordsFault
+fault kind place = record { kind = kind; word = place }
+
+-- the command that a word names
+abbrev pub command_of : Word → Option Command
+command_of word =
+    if bytes_eq word (codes "run") then Some Run
+    else if bytes_eq word (codes "asm") then Some Asm
+    else if bytes_eq word (codes "sim") then Some Sim
+    else if bytes_eq word (codes "gen") then Some Gen
+    else None
+
+-- whether a command runs a file that the words name
+abbrev pub runs_file : Command → Bool
+runs_file Run = true
+runs_file Sim = true
+runs_file Asm = false
+runs_file Gen = false
+
+-- whether a command runs a program on a ring
+abbrev pub takes_ring : Command → Bool
+takes_ring Run = true
+takes_ring Sim = true
+takes_ring Asm = false
+takes_ring Gen = true
+
+-- whether a word is this option of the command
+abbrev pub is_dump : Command → Word → Bool
+is_dump c word = runs_file c && bytes_eq word (codes "--dump")
+
+abbrev pub is_steps : Command → Word → Bool
+is_steps c word = runs_file c && bytes_eq word (codes "--steps")
+
+abbrev pub is_ring : Command → Word → Bool
+is_ring c word = takes_ring c && bytes_eq word (codes "--ring")
+
+-- without options: a ring of 256 registers, 10^9 steps, no dump
+abbrev pub defaults : Settings
+defaults = record { ring = 256; steps = 10 ^ 9; dump = false }
+
+abbrev pub with_dump : Settings → Settings
+with_dump s = record s { dump = true }
+
+abbrev pub with_steps : Settings → ℕ → Settings
+with_steps s n = record s { steps = n }
+
+abbrev pub with_ring : Settings → ℕ → Settings
+with_ring s n = record s { ring = n }
+
+-- an order to run the file at a place, with the arguments behind it
+abbrev pub run_order : Command → Settings → ℕ → Order
+run_order c s place =
+    record { command = c; ring = s.ring; steps = s.steps; interactive = false; dump = s.dump; file = place; rest = place + 1; number = 0 }
+
+-- an order to assemble the file at a place into the one that the next word names
+abbrev pub asm_order : Settings → ℕ → Order
+asm_order s place =
+    record { command = Asm; ring = s.ring; steps = s.steps; interactive = false; dump = s.dump; file = place; rest = place + 1; number = 0 }
+
+-- an order to generate and run n blocks
+abbrev pub gen_order : Settings → ℕ → Order
+gen_order s n =
+    record { command = Gen; ring = s.ring; steps = s.steps; interactive = false; dump = s.dump; file = 0; rest = 0; number = n }
+
+-- the words behind the source of `asm`: one object, and no other word
+abbrev pub object_behind : Settings → ℕ → List Word → Ordered
+object_behind s place [] = Err (fault 7 (place + 1))
+object_behind s place (object ∷ []) = Ok (asm_order s place)
+object_behind s place (object ∷ other ∷ others) = Err (fault 8 (place + 2))
+
+-- the words behind the N of `gen`: none
+abbrev pub none_behind : Settings → ℕ → ℕ → List Word → Ordered
+none_behind s n place [] = Ok (gen_order s n)
+none_behind s n place (other ∷ others) = Err (fault 8 (place + 1))
+
+-- the N of `gen` at a place, with the words behind it
+abbrev pub blocks_at : Settings → ℕ → Result ℕ ℕ → List Word → Ordered
+blocks_at s place (Err kind) words = Err (fault kind place)
+blocks_at s place (Ok n) words = none_behind s n place words
+
+-- a word at a place that is no option, with the words behind it: a file, or the N of `gen`
+abbrev pub file_at : Command → Settings → ℕ → Word → List Word → Ordered
+file_at Run s place word words = Ok (run_order Run s place)
+file_at Sim s place word words = Ok (run_order Sim s place)
+file_at Asm s place word words = object_behind s place words
+file_at Gen s place word words = blocks_at s place (blocks_value word) words
+
+-- a value at a place, and what follows it
+abbrev pub valued : Result ℕ ℕ → ℕ → (ℕ → Ordered) → Ordered
+valued (Err kind) place go = Err (fault kind place)
+valued (Ok n) place go = go n
+
+-- The words behind a command, the first of them at a place, with what the options before it set. Options stand before
+-- the file, and the last one counts.
+unfoldable pub options_from : Command → Settings → ℕ → List Word → Ordered
+options_from c s place [] = Err (fault 7 place)
+options_from c s place (word ∷ []) =
+    if is_option word
+    then (if is_dump c word then Err (fault 7 (place + 1))
+    else if is_ring c word then Err (fault 4 (place + 1))
+    else if is_steps c word then Err (fault 4 (place + 1))
+    else Err (fault 3 place))
+    else file_at c s place word []
+options_from c s place (word ∷ value ∷ words) =
+    if is_option word
+    then (if is_dump c word then options_from c (with_dump s) (place + 1) (value ∷ words)
+    else if is_ring c word then valued (ring_value value) (place + 1) (λ n. options_from c (with_ring s n) (place + 2) words)
+    else if is_steps c word then valued (steps_value value) (place + 1) (λ n. options_from c (with_steps s n) (place + 2) words)
+    else Err (fault 3 place))
+    else file_at c s place word (value ∷ words)
+
+-- the words behind a command, if the first word names one
+abbrev pub commanded : Option Command → List Word → Ordered
+commanded None words = Err (fault 2 0)
+commanded (Some c) words = options_from c defaults 1 words
+
+-- what the words order
+abbrev pub order_of : List Word → Ordered
+order_of [] = Err (fault 1 0)
+order_of (word ∷ words) = commanded (command_of word) words

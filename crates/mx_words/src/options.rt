@@ -1,0 +1,115 @@
+//! The options that stand before the file.
+
+ghost use Rattle.std.specs.Prelude.{◌≡◌, ◌<◌, ◌≤◌, length, map, drop, string_bytes, IfOk};
+ghost use Rattle.mx_words.specs.OneOption as spec;
+ghost use Rattle.mx_words.specs.Orders as orders;
+
+use crate::order::{Command, WordsFault};
+use crate::settings::Settings;
+use crate::values::{ring_value, steps_value};
+
+/// Whether a command runs a file that the words name.
+fn runs_file(command: Command) -> bool
+    ensures { result ≡ orders.runs_file command }
+{
+    matches!(command, Command::Run | Command::Sim)
+}
+
+/// Whether a command runs a program on a ring.
+fn takes_ring(command: Command) -> bool
+    ensures { result ≡ orders.takes_ring command }
+{
+    !matches!(command, Command::Asm)
+}
+
+/// Whether a word is `--dump`, where the command takes it.
+fn is_dump(command: Command, word: &String) -> bool
+    ensures { result ≡ orders.is_dump command (string_bytes word.now) }
+{
+    runs_file(command) && word.as_str() == "--dump"
+}
+
+/// Whether a word is `--steps`, where the command takes it.
+fn is_steps(command: Command, word: &String) -> bool
+    ensures { result ≡ orders.is_steps command (string_bytes word.now) }
+{
+    runs_file(command) && word.as_str() == "--steps"
+}
+
+/// Whether a word is `--ring`, where the command takes it.
+fn is_ring(command: Command, word: &String) -> bool
+    ensures { result ≡ orders.is_ring command (string_bytes word.now) }
+{
+    takes_ring(command) && word.as_str() == "--ring"
+}
+
+/// The option at a place: what is set then, and the place of the next word. A fault is 3, 4, 5 or 6.
+#[tactic(auto, using(crate::proofs::Places::places))]
+pub(crate) fn option(
+    command: Command,
+    settings: Settings,
+    words: &[String],
+    at: usize,
+) -> Result<(Settings, usize), WordsFault>
+    requires { at < length words.now }
+    ensures value { result ≡ spec.option_at command settings at (drop at (map string_bytes words.now)) }
+    ensures onward { IfOk result (λ next. at < next.1) }
+{
+    let word = &words[at];
+    if is_dump(command, word) {
+        return Ok((
+            Settings {
+                dump: true,
+                ..settings
+            },
+            at + 1,
+        ));
+    }
+    if is_ring(command, word) {
+        return with_ring(settings, words, at + 1);
+    }
+    if is_steps(command, word) {
+        return with_steps(settings, words, at + 1);
+    }
+    Err(WordsFault { kind: 3, word: at })
+}
+
+/// The value of `--ring` at a place.
+#[tactic(auto, using(crate::proofs::Places::places))]
+fn with_ring(
+    settings: Settings,
+    words: &[String],
+    at: usize,
+) -> Result<(Settings, usize), WordsFault>
+    requires { at ≤ length words.now }
+    ensures value { result ≡ spec.ring_read settings at (drop at (map string_bytes words.now)) }
+    ensures onward { IfOk result (λ next. at < next.1) }
+{
+    if at == words.len() {
+        return Err(WordsFault { kind: 4, word: at });
+    }
+    match ring_value(&words[at]) {
+        Ok(ring) => Ok((Settings { ring, ..settings }, at + 1)),
+        Err(kind) => Err(WordsFault { kind, word: at }),
+    }
+}
+
+/// The value of `--steps` at a place.
+#[tactic(auto, using(crate::proofs::Places::places))]
+fn with_steps(
+    settings: Settings,
+    words: &[String],
+    at: usize,
+) -> Result<(Settings, usize), WordsFault>
+    requires { at ≤ length words.now }
+    ensures value { result ≡ spec.steps_read settings at (drop at (map string_bytes words.now)) }
+    ensures onward { IfOk result (λ next. at < next.1) }
+{
+    if at == words.len() {
+        return Err(WordsFault { kind: 4, word: at });
+    }
+    match steps_value(&words[at]) {
+        Ok(steps) => Ok((Settings { steps, ..settings }, at + 1)),
+        Err(kind) => Err(WordsFault { kind, word: at }),
+    }
+}

@@ -1,0 +1,47 @@
+//! What the words order.
+
+use mx_ring::RingSize;
+
+/// What the first word asks for.
+#[derive(Clone, Copy, Debug, PartialEq, Eq)]
+pub enum Command {
+    /// `run`: assemble a source and run it.
+    Run,
+    /// `asm`: assemble a source into an object.
+    Asm,
+    /// `sim`: run an object.
+    Sim,
+    /// `gen`: generate a source, assemble it and run it.
+    Gen,
+}
+
+/// What the words order. A field that the command does not use has its default, 0 or false.
+#[derive(Clone, Copy, Debug, PartialEq, Eq)]
+pub struct Order {
+    /// What is asked for.
+    pub command: Command,
+    /// The registers of the ring, by default 256.
+    pub ring: RingSize,
+    /// How many steps are made at most: 1 to 10^12, by default 10^9.
+    pub steps: u64,
+    /// Whether the console is wanted; no word asks for it yet.
+    pub interactive: bool,
+    /// Whether the state is written at the end.
+    pub dump: bool,
+    /// The place of the source or object among the words.
+    pub file: usize,
+    /// The place behind the file: that of the first argument, or of the object that `asm` writes.
+    pub rest: usize,
+    /// How many blocks `gen` makes: 1 to 10,000.
+    pub number: u64,
+}
+
+/// Why the words are no order.
+#[derive(Clone, Copy, Debug, PartialEq, Eq)]
+pub struct WordsFault {
+    /// 1 no command, 2 unknown command, 3 unknown option, 4 missing value, 5 bad number, 6 bad ring,
+    /// 7 missing file or number, 8 too many words.
+    pub kind: u16,
+    /// The place of the word from 0, or the number of words where one is missing.
+    pub word: usize,
+}

@@ -1,0 +1,14 @@
+//! What the options set.
+
+use mx_ring::RingSize;
+
+/// What the options set.
+#[derive(Clone, Copy)]
+pub(crate) struct Settings {
+    /// The registers of the ring.
+    pub(crate) ring: RingSize,
+    /// How many steps are made at most.
+    pub(crate) steps: u64,
+    /// Whether the state is written at the end.
+    pub(crate) dump: bool,
+}

@@ -1,0 +1,156 @@
+//! The words, row by row.
+
+use crate::{Command, Order, WordsFault, read};
+use mx_ring::RingSize;
+use std::alloc::Global;
+use std::process::Abort;
+use std::test::Fail;
+
+/// Words with one blank between two of them, and their fault.
+const FAULTS: [(&str, u16, usize); 39] = [
+    // the command
+    ("go", 2, 0),
+    ("RUN a.mms", 2, 0),
+    ("--dump run a.mms", 2, 0),
+    // a file or a number is missing
+    ("run", 7, 1),
+    ("run --dump", 7, 2),
+    ("sim --ring 512", 7, 3),
+    ("asm", 7, 1),
+    ("asm a.mms", 7, 2),
+    ("gen", 7, 1),
+    ("gen --ring 256", 7, 3),
+    // options that the command does not have; the console has no option yet
+    ("run -x a.mms", 3, 1),
+    ("run - a.mms", 3, 1),
+    ("run -i a.mms", 3, 1),
+    ("run --dumps a.mms", 3, 1),
+    ("run --dump -x a.mms", 3, 2),
+    ("sim --ring 512 --report a.mmo", 3, 3),
+    ("asm --ring 256 a.mms a.mmo", 3, 1),
+    ("asm -x", 3, 1),
+    ("gen --steps 5 5", 3, 1),
+    ("gen --dump 5", 3, 1),
+    ("gen -5", 3, 1),
+    // a value is missing
+    ("run --steps", 4, 2),
+    ("run --dump --ring", 4, 3),
+    ("gen --ring", 4, 2),
+    // no number, or out of its range
+    ("run --steps 0 a.mms", 5, 2),
+    ("run --steps 1000000000001 a.mms", 5, 2),
+    ("run --steps 00000000000001 a.mms", 5, 2),
+    ("run --steps +5 a.mms", 5, 2),
+    ("run --steps -5 a.mms", 5, 2),
+    ("run --steps  a.mms", 5, 2),
+    ("run --ring 25x a.mms", 5, 2),
+    ("gen 0", 5, 1),
+    ("gen 10001", 5, 1),
+    ("gen x 5", 5, 1),
+    // no size of a ring; the first fault counts
+    ("run --ring 300 a.mms", 6, 2),
+    ("run --ring 131072 a.mms", 6, 2),
+    ("gen --ring 4294967552 --dump", 6, 2),
+    // too many words
+    ("asm a b c", 8, 3),
+    ("gen 5 6", 8, 2),
+];
+
+/// An order by its command, ring, steps, dump, file, rest and number.
+type Fields = (Command, u32, u64, bool, usize, usize, u64);
+
+/// Words with one blank between two of them, and their order.
+const ORDERS: [(&str, Fields); 14] = [
+    (
+        "run a.mms",
+        (Command::Run, 256, 1_000_000_000, false, 1, 2, 0),
+    ),
+    (
+        "sim a.mmo x -y",
+        (Command::Sim, 256, 1_000_000_000, false, 1, 2, 0),
+    ),
+    ("run ", (Command::Run, 256, 1_000_000_000, false, 1, 2, 0)),
+    (
+        "run --dump a.mms",
+        (Command::Run, 256, 1_000_000_000, true, 2, 3, 0),
+    ),
+    (
+        "run a.mms --dump",
+        (Command::Run, 256, 1_000_000_000, false, 1, 2, 0),
+    ),
+    (
+        "sim --steps 1 --ring 65536 --dump a.mmo",
+        (Command::Sim, 65_536, 1, true, 6, 7, 0),
+    ),
+    (
+        "run --steps 1000000000000 a.mms",
+        (Command::Run, 256, 1_000_000_000_000, false, 3, 4, 0),
+    ),
+    (
+        "run --steps 0000000000010 a.mms",
+        (Command::Run, 256, 10, false, 3, 4, 0),
+    ),
+    // the last option counts
+    (
+        "run --ring 512 --steps 7 --ring 1024 --steps 8 a",
+        (Command::Run, 1024, 8, false, 9, 10, 0),
+    ),
+    (
+        "asm a.mms a.mmo",
+        (Command::Asm, 256, 1_000_000_000, false, 1, 2, 0),
+    ),
+    (
+        "asm a.mms -x",
+        (Command::Asm, 256, 1_000_000_000, false, 1, 2, 0),
+    ),
+    ("gen 1", (Command::Gen, 256, 1_000_000_000, false, 0, 0, 1)),
+    (
+        "gen 10000",
+        (Command::Gen, 256, 1_000_000_000, false, 0, 0, 10_000),
+    ),
+    (
+        "gen --ring 4096 010",
+        (Command::Gen, 4096, 1_000_000_000, false, 0, 0, 10),
+    ),
+];
+
+/// What the words of a line order.
+fn read_line(rt: &impl Abort, alloc: Global, line: &str) -> Result<Order, WordsFault> {
+    let mut words = Vec::new(alloc);
+    for word in line.split(' ') {
+        words
+            .push(String::from_str(alloc, word).expect(rt, "memory"))
+            .expect(rt, "memory");
+    }
+    read(words.as_slice())
+}
+
+#[test]
+fn faults(rt: HostRuntime) {
+    assert_eq!(rt; read(&[]), Err(WordsFault { kind: 1, word: 0 }));
+    for (line, kind, word) in FAULTS {
+        assert_eq!(rt;
+            read_line(&rt, rt.alloc(), line),
+            Err(WordsFault { kind, word }),
+            "{line}"
+        );
+    }
+}
+
+#[test]
+fn orders(rt: HostRuntime) -> Result<(), Fail> {
+    for (line, (command, registers, steps, dump, file, rest, number)) in ORDERS {
+        let want = Order {
+            command,
+            ring: RingSize::of(registers).expect(&rt, "a size"),
+            steps,
+            interactive: false,
+            dump,
+            file,
+            rest,
+            number,
+        };
+        assert_eq!(rt; read_line(&rt, rt.alloc(), line), Ok(want), "{line}");
+    }
+    Ok(())
+}

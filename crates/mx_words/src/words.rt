@@ -1,0 +1,190 @@
+//! The words of the command line, from the left.
+
+ghost use Rattle.std.specs.Prelude.{IfOk, ◌≡◌, ◌<◌, ◌≤◌, ◌+◌, ◌^◌, length, map, drop, string_bytes};
+ghost use Rattle.mx_words.specs.Files as files;
+ghost use Rattle.mx_words.specs.Orders as spec;
+
+use crate::options::option;
+use crate::order::{Command, Order, WordsFault};
+use crate::settings::Settings;
+use crate::values::{blocks_value, is_option};
+use mx_ring::RingSize;
+
+/// What the words order, without the name of the program, or the first fault from the left. It takes
+/// no memory.
+///
+/// The words are `run` or `sim`, options, a file and its arguments; `asm`, a source and an object; or
+/// `gen`, options and a number. Options are `--ring R`, and for `run` and `sim` `--steps N` and
+/// `--dump`; they may repeat, and the last one counts.
+#[tactic(auto, using(crate::proofs::Places::places))]
+pub fn read(words: &[String]) -> Result<Order, WordsFault>
+    ensures value { result ≡ spec.order_of (map string_bytes words.now) }
+    ensures places { IfOk result (λ o. (o.file < length words.now) × (o.rest ≤ length words.now)) }
+    ensures object { IfOk result (λ o. o.command ≡ Command.Asm → o.rest < length words.now) }
+    ensures blocks { IfOk result (λ o. o.number ≤ 10000) }
+{
+    if words.is_empty() {
+        return Err(WordsFault { kind: 1, word: 0 });
+    }
+    match command_of(&words[0]) {
+        Some(command) => commanded(command, words),
+        None => Err(WordsFault { kind: 2, word: 0 }),
+    }
+}
+
+/// The command that a word names.
+fn command_of(word: &String) -> Option<Command>
+    ensures { result ≡ spec.command_of (string_bytes word.now) }
+{
+    if word.as_str() == "run" {
+        return Some(Command::Run);
+    }
+    if word.as_str() == "asm" {
+        return Some(Command::Asm);
+    }
+    if word.as_str() == "sim" {
+        return Some(Command::Sim);
+    }
+    if word.as_str() == "gen" {
+        return Some(Command::Gen);
+    }
+    None
+}
+
+/// What is set without options: a ring of 256 registers, 10^9 steps, no dump.
+fn defaults() -> Settings
+    ensures { result ≡ spec.defaults }
+{
+    Settings {
+        ring: RingSize::of(256).unwrap(),
+        steps: 1_000_000_000,
+        dump: false,
+    }
+}
+
+/// What the words behind a command order.
+#[tactic(auto, using(crate::proofs::ReadOptions::reading))]
+fn commanded(command: Command, words: &[String]) -> Result<Order, WordsFault>
+    requires { 0 < length words.now }
+    ensures value { result ≡ spec.options_from command spec.defaults 1 (drop 1 (map string_bytes words.now)) }
+    ensures places { IfOk result (λ o. (o.file < length words.now) × (o.rest ≤ length words.now)) }
+    ensures object { IfOk result (λ o. o.command ≡ Command.Asm → o.rest < length words.now) }
+    ensures blocks { IfOk result (λ o. o.number ≤ 10000) }
+{
+    let mut settings = defaults();
+    let mut at = 1;
+    while at < words.len() && is_option(&words[at]) {
+        match option(command, settings, words, at) {
+            Ok((set, next)) => {
+                settings = set;
+                at = next;
+            }
+            Err(fault) => return Err(fault),
+        }
+    }
+    file(command, settings, words, at)
+}
+
+/// What stands behind the options.
+#[tactic(auto, using(crate::proofs::Behind::behinds))]
+fn file(
+    command: Command,
+    settings: Settings,
+    words: &[String],
+    at: usize,
+) -> Result<Order, WordsFault>
+    ensures value { result ≡ files.behind command settings at (drop at (map string_bytes words.now)) }
+    ensures places { IfOk result (λ o. (o.file < length words.now) × (o.rest ≤ length words.now)) }
+    ensures object { IfOk result (λ o. o.command ≡ Command.Asm → o.rest < length words.now) }
+    ensures blocks { IfOk result (λ o. o.number ≤ 10000) }
+{
+    if at >= words.len() {
+        return Err(WordsFault { kind: 7, word: at });
+    }
+    match command {
+        Command::Run | Command::Sim => Ok(run_order(command, settings, at)),
+        Command::Asm => asm_order(settings, words, at),
+        Command::Gen => gen_order(settings, words, at),
+    }
+}
+
+/// An order to run the file at a place, with the arguments behind it.
+fn run_order(command: Command, settings: Settings, at: usize) -> Order
+    requires { at + 1 < 2 ^ 63 }
+    ensures { result ≡ spec.run_order command settings at }
+{
+    Order {
+        command,
+        ring: settings.ring,
+        steps: settings.steps,
+        interactive: false,
+        dump: settings.dump,
+        file: at,
+        rest: at + 1,
+        number: 0,
+    }
+}
+
+/// An order to assemble the source at a place: one word stands behind it.
+#[tactic(auto, using(crate::proofs::Behind::behinds))]
+fn asm_order(settings: Settings, words: &[String], at: usize) -> Result<Order, WordsFault>
+    requires { at < length words.now }
+    ensures value { result ≡ spec.object_behind settings at (drop (at + 1) (map string_bytes words.now)) }
+    ensures places { IfOk result (λ o. (o.file < length words.now) × (o.rest ≤ length words.now)) }
+    ensures object { IfOk result (λ o. o.command ≡ Command.Asm → o.rest < length words.now) }
+    ensures blocks { IfOk result (λ o. o.number ≤ 10000) }
+{
+    if words.len() == at + 1 {
+        return Err(WordsFault {
+            kind: 7,
+            word: at + 1,
+        });
+    }
+    if words.len() > at + 2 {
+        return Err(WordsFault {
+            kind: 8,
+            word: at + 2,
+        });
+    }
+    Ok(Order {
+        command: Command::Asm,
+        ring: settings.ring,
+        steps: settings.steps,
+        interactive: false,
+        dump: settings.dump,
+        file: at,
+        rest: at + 1,
+        number: 0,
+    })
+}
+
+/// An order to generate as many blocks as the word at a place says: no word stands behind it.
+#[tactic(auto, using(crate::proofs::Behind::behinds))]
+fn gen_order(settings: Settings, words: &[String], at: usize) -> Result<Order, WordsFault>
+    requires { at < length words.now }
+    ensures value { result ≡ files.blocks_behind settings at (drop at (map string_bytes words.now)) }
+    ensures places { IfOk result (λ o. (o.file < length words.now) × (o.rest ≤ length words.now)) }
+    ensures object { IfOk result (λ o. o.command ≡ Command.Asm → o.rest < length words.now) }
+    ensures blocks { IfOk result (λ o. o.number ≤ 10000) }
+{
+    let number = match blocks_value(&words[at]) {
+        Ok(n) => n,
+        Err(kind) => return Err(WordsFault { kind, word: at }),
+    };
+    if words.len() > at + 1 {
+        return Err(WordsFault {
+            kind: 8,
+            word: at + 1,
+        });
+    }
+    Ok(Order {
+        command: Command::Gen,
+        ring: settings.ring,
+        steps: settings.steps,
+        interactive: false,
+        dump: settings.dump,
+        file: 0,
+        rest: 0,
+        number,
+    })
+}
