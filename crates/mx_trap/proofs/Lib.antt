@@ -1,0 +1,12 @@
+pub mod Buffers
+pub mod JoinedLines
+pub mod JoinedReads
+pub mod JoinedWrites
+pub mod Outputs
+pub mod Pieces
+pub mod Readings
+pub mod Segments
+pub mod StoredBytes
+pub mod TextEnds
+pub mod TextReach
+pub mod Texts

@@ -1,0 +1,40 @@
+use Rattle.std.proofs.Common.{IsTrue, ap, ◌∙◌, sym, subst, ◌+◌, ◌-◌, ◌≡◌, ◌≤◌, refl, arith, take, length, length-take-le}
+use Rattle.mx_host.specs.HostModel.{contents}
+use Rattle.mx_trap.specs.Requests.{bytes_from}
+use Rattle.mx_trap.specs.Moves.{write_piece}
+use Rattle.mx_trap.proofs.Pieces.{written-failed, written-last, left-front}
+use Rattle.mx_word.proofs.Fronts.{front-of}
+use Rattle.mx_trap.proofs.writes.write_pieces.Goals as goal
+
+pub returns-in-Short-clause-told : goal.returns-in-Short-clause-told
+returns-in-Short-clause-told g c = λ t ne.
+    let here = contents (g.H.Host.told c.loop-moved.host) in
+    let f = (g.M.Space.contents c.args.memory.now).bytes in
+    let piece = c.in-Short.ensures.told (subst IsTrue (sym c.loop-moved.invariant.keeps.telling) t) (λ e. absurd (cc)) in
+    sym (c.loop-moved.invariant.told t ∙ written-failed c.args.slot f (c.args.at + c.loop-moved.moved) (c.args.size - c.loop-moved.moved) c.loop-moved.moved c.in-Short.count here _ c.loop-moved-test.true
+    (piece ∙ ap (λ n. write_piece c.args.slot (bytes_from f (c.args.at + c.loop-moved.moved) n) c.loop-moved.moved here) c.loop-moved.invariant.buffer))
+
+pub returns-in-OutOfMemory-clause-front : goal.returns-in-OutOfMemory-clause-front
+returns-in-OutOfMemory-clause-front g c = λ t e.
+    let here = contents (g.H.Host.told c.loop-moved.host) in
+    front-of here.output _ _ _ (c.in-OutOfMemory.ensures.memory (subst IsTrue (sym c.loop-moved.invariant.keeps.telling) t) refl)
+    (ap (λ p. p.1.output) (c.loop-moved.invariant.told t)) (left-front c.args.slot _ _ _ _ here)
+
+pub returns-clause-told : goal.returns-clause-told
+returns-clause-told g c = λ t ne.
+    let here = contents (g.H.Host.told c.loop-moved.host) in
+    let f = (g.M.Space.contents c.args.memory.now).bytes in
+    let p = c.args.at + c.loop-moved.moved in
+    let n = c.args.size - c.loop-moved.moved in
+    let piece = c.write_piece-2.ensures.told (subst IsTrue (sym c.loop-moved.invariant.keeps.telling) t) ne in
+    let few : n ≤ 4096 = omega (arith, c.loop-moved-test.false) in
+    let fits : n ≤ length c.loop-moved.buffer = omega (arith, few, c.loop-moved.invariant.buffer) in
+    let size : length (take n c.loop-moved.buffer) ≡ n = length-take-le n c.loop-moved.buffer fits in
+    piece ∙ ap (λ k. write_piece c.args.slot (bytes_from f p k) c.loop-moved.moved here) size
+    ∙ sym (c.loop-moved.invariant.told t ∙ written-last c.args.slot f p n c.loop-moved.moved here few)
+
+pub returns-clause-front : goal.returns-clause-front
+returns-clause-front g c = λ t e.
+    let here = contents (g.H.Host.told c.loop-moved.host) in
+    front-of here.output _ _ _ (c.write_piece-2.ensures.memory (subst IsTrue (sym c.loop-moved.invariant.keeps.telling) t) e)
+    (ap (λ p. p.1.output) (c.loop-moved.invariant.told t)) (left-front c.args.slot _ _ _ _ here)

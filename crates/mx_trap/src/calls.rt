@@ -1,0 +1,77 @@
+//! A file trap as a whole.
+
+ghost use Rattle.std.specs.Prelude.{◌≡◌, ◌≢◌, ◌≤◌, IfErr};
+ghost use Rattle.mx_host.specs.HostModel.{contents, tells};
+ghost use Rattle.mx_host.specs.Keeping.{Keeps};
+ghost use Rattle.mx_trap.specs.Clauses.{LeavesBoth, LeavesFront};
+ghost use Rattle.mx_trap.specs.FileTraps as spec;
+ghost use Rattle.mx_trap.specs.Requests.{request_of, IsInBounds, AreInBounds, bytes_from};
+
+use crate::answer::TrapAnswer;
+use crate::files::{fclose, fopen, fseek, ftell};
+use crate::lines::fgets;
+use crate::reads::fread;
+use crate::requests::{Request, request_of};
+use crate::writes::{fputs, fwrite};
+use mx_host::Host;
+use mx_mem::Space;
+use mx_trip::TrapCall;
+use std::alloc::Global;
+
+/// Carries out a file trap on the bytes of a space and the slots of a host.
+///
+/// Stops come before any call of the host, but for one page too many, which leaves the bytes stored
+/// before. A call of the host that fails or is misused is no stop: the program sees -1 or a count.
+#[tactic(auto, unfolding(crate::specs::FileTraps::trap_answer))]
+pub fn trap<M: Space, H: Host>(
+    alloc: Global,
+    memory: &mut M,
+    host: &mut H,
+    call: &TrapCall,
+) -> TrapAnswer
+    ensures told { LeavesBoth (H.told host.old) (H.told host.new) (M.contents memory.old) (M.contents memory.new)
+        TrapAnswer.OutOfMemory result (λ s m. spec.trap_answer s m call.now) }
+    ensures front { LeavesFront (H.told host.old) (H.told host.new) (M.contents memory.old)
+        TrapAnswer.OutOfMemory result (λ s m. spec.trap_answer s m call.now) }
+    ensures stops { IfErr (request_of (M.contents memory.old).bytes call.now)
+        (λ stop. (result ≡ TrapAnswer.Stopped stop) × (M.contents memory.new ≡ M.contents memory.old)) }
+    ensures rest { (M.contents memory.new).rest ≡ (M.contents memory.old).rest }
+    ensures keeps { Keeps (H.told host.old) (H.told host.new) (H.faults host.old) (H.faults host.new) }
+{
+    let slot = (call.word % 256) as u16;
+    match request_of(memory, call) {
+        Ok(request) => carry_out(alloc, memory, host, slot, request),
+        Err(stop) => TrapAnswer::Stopped(stop),
+    }
+}
+
+/// Carries out what is asked for.
+#[tactic(auto, using(crate::proofs::Outputs::fronts))]
+fn carry_out<M: Space, H: Host>(
+    alloc: Global,
+    memory: &mut M,
+    host: &mut H,
+    slot: u16,
+    request: Request,
+) -> TrapAnswer
+    requires slot { slot ≤ 255 }
+    requires bounds { IsInBounds request }
+    ensures told { LeavesBoth (H.told host.old) (H.told host.new) (M.contents memory.old) (M.contents memory.new)
+        TrapAnswer.OutOfMemory result (λ s m. spec.carried_out slot s m request) }
+    ensures front { LeavesFront (H.told host.old) (H.told host.new) (M.contents memory.old)
+        TrapAnswer.OutOfMemory result (λ s m. spec.carried_out slot s m request) }
+    ensures rest { (M.contents memory.new).rest ≡ (M.contents memory.old).rest }
+    ensures keeps { Keeps (H.told host.old) (H.told host.new) (H.faults host.old) (H.faults host.new) }
+{
+    match request {
+        Request::Ending => TrapAnswer::Halt,
+        Request::Opening { at, size, mode } => { fopen(alloc, memory, host, slot, at, size, mode) },
+        Request::Closing => fclose(host, slot),
+        Request::Reading { at, size } => fread(memory, host, slot, at, size),
+        Request::ReadingLine { at, size } => fgets(memory, host, slot, at, size),
+        Request::Writing { at, size } => fwrite(memory, host, slot, at, size),
+        Request::WritingText { at, size } => fputs(memory, host, slot, at, size),
+        Request::Seeking { to } => fseek(host, slot, to),
+        Request::Telling => ftell(host, slot),
+    }
+}

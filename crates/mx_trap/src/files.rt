@@ -1,0 +1,122 @@
+//! The services that move no bytes: opening, closing, and the place in a file.
+
+ghost use Rattle.std.specs.Prelude.{◌≡◌, ◌≤◌};
+ghost use Rattle.mx_host.specs.Keeping.{Answers, Keeps};
+ghost use Rattle.mx_host.specs.HostAnswer.{open_answer};
+ghost use Rattle.mx_trap.specs.Clauses.{LeavesOutput};
+ghost use Rattle.mx_trap.specs.Requests.{AreInBounds, bytes_from};
+ghost use Rattle.mx_trap.specs.FileTraps as spec;
+
+use crate::answer::TrapAnswer;
+use crate::space::bytes_at;
+use mx_host::{Host, HostFault, Mode, OpenFault};
+use mx_mem::Space;
+use std::alloc::Global;
+
+/// The octa -1, which tells that a call failed or was misused.
+pub const MINUS_ONE: u64 = u64::MAX;
+
+/// Opens the file whose name stands at an address, in the mode of this number. It takes memory for
+/// the name where there is such a mode.
+pub fn fopen<M: Space, H: Host>(
+    alloc: Global,
+    memory: &M,
+    host: &mut H,
+    slot: u16,
+    at: u64,
+    size: u64,
+    mode: u64,
+) -> TrapAnswer
+    requires slot { slot ≤ 255 }
+    requires bounds { AreInBounds at size }
+    ensures told { Answers (H.told host.old) (H.told host.new) TrapAnswer.OutOfMemory result
+        (λ m. spec.fopen slot (bytes_from (M.contents memory.now).bytes at size) mode m) }
+    ensures memory { LeavesOutput (H.told host.old) (H.told host.new) TrapAnswer.OutOfMemory result }
+    ensures keeps { Keeps (H.told host.old) (H.told host.new) (H.faults host.old) (H.faults host.new) }
+{
+    let Some(mode) = mode_of(mode) else {
+        return TrapAnswer::Value(MINUS_ONE);
+    };
+    let Ok(name) = bytes_at(alloc, memory, at, size) else {
+        return TrapAnswer::OutOfMemory;
+    };
+    open_file(host, slot, name.as_slice(), mode)
+}
+
+/// Opens a file.
+#[tactic(auto, unfolding(mx_host::specs::HostAnswer::open_answer))]
+fn open_file<H: Host>(host: &mut H, slot: u16, name: &[u8], mode: Mode) -> TrapAnswer
+    requires { slot ≤ 255 }
+    ensures told { Answers (H.told host.old) (H.told host.new) TrapAnswer.OutOfMemory result
+        (λ m. spec.done_value (open_answer m slot name.now mode)) }
+    ensures memory { LeavesOutput (H.told host.old) (H.told host.new) TrapAnswer.OutOfMemory result }
+    ensures keeps { Keeps (H.told host.old) (H.told host.new) (H.faults host.old) (H.faults host.new) }
+{
+    match host.open_file(slot, name, mode) {
+        Ok(()) => TrapAnswer::Value(0),
+        Err(OpenFault::OutOfMemory) => TrapAnswer::OutOfMemory,
+        Err(_) => TrapAnswer::Value(MINUS_ONE),
+    }
+}
+
+/// The mode of this number.
+fn mode_of(number: u64) -> Option<Mode>
+    ensures { result ≡ spec.mode_of number }
+{
+    match number {
+        0 => Some(Mode::TextRead),
+        1 => Some(Mode::TextWrite),
+        2 => Some(Mode::BinaryRead),
+        3 => Some(Mode::BinaryWrite),
+        4 => Some(Mode::BinaryReadWrite),
+        _ => None,
+    }
+}
+
+/// Closes a slot.
+#[tactic(auto, unfolding(mx_host::specs::HostAnswer::close_answer))]
+pub fn fclose<H: Host>(host: &mut H, slot: u16) -> TrapAnswer
+    requires { slot ≤ 255 }
+    ensures told { Answers (H.told host.old) (H.told host.new) TrapAnswer.OutOfMemory result
+        (λ m. spec.fclose slot m) }
+    ensures memory { LeavesOutput (H.told host.old) (H.told host.new) TrapAnswer.OutOfMemory result }
+    ensures keeps { Keeps (H.told host.old) (H.told host.new) (H.faults host.old) (H.faults host.new) }
+{
+    match host.close_slot(slot) {
+        Ok(()) => TrapAnswer::Value(0),
+        Err(HostFault::OutOfMemory) => TrapAnswer::OutOfMemory,
+        Err(_) => TrapAnswer::Value(MINUS_ONE),
+    }
+}
+
+/// Moves the place; a number below 0 counts from the end.
+pub fn fseek<H: Host>(host: &mut H, slot: u16, to: i64) -> TrapAnswer
+    requires { slot ≤ 255 }
+    ensures told { Answers (H.told host.old) (H.told host.new) TrapAnswer.OutOfMemory result
+        (λ m. spec.fseek slot to m) }
+    ensures memory { LeavesOutput (H.told host.old) (H.told host.new) TrapAnswer.OutOfMemory result }
+    ensures keeps { Keeps (H.told host.old) (H.told host.new) (H.faults host.old) (H.faults host.new) }
+{
+    match host.seek_slot(slot, to) {
+        Ok(()) => TrapAnswer::Value(0),
+        Err(HostFault::OutOfMemory) => TrapAnswer::OutOfMemory,
+        Err(HostFault::Failed) => TrapAnswer::Value(MINUS_ONE),
+        Err(HostFault::Misused) => TrapAnswer::Value(MINUS_ONE),
+    }
+}
+
+/// Tells the place.
+#[tactic(auto, unfolding(mx_host::specs::HostAnswer::tell_answer))]
+pub fn ftell<H: Host>(host: &mut H, slot: u16) -> TrapAnswer
+    requires { slot ≤ 255 }
+    ensures told { Answers (H.told host.old) (H.told host.new) TrapAnswer.OutOfMemory result
+        (λ m. spec.ftell slot m) }
+    ensures memory { LeavesOutput (H.told host.old) (H.told host.new) TrapAnswer.OutOfMemory result }
+    ensures keeps { Keeps (H.told host.old) (H.told host.new) (H.faults host.old) (H.faults host.new) }
+{
+    match host.tell_slot(slot) {
+        Ok(place) => TrapAnswer::Value(place),
+        Err(HostFault::OutOfMemory) => TrapAnswer::OutOfMemory,
+        Err(_) => TrapAnswer::Value(MINUS_ONE),
+    }
+}

@@ -1,0 +1,28 @@
+//! File traps: the calls of the operating system that read and write files and streams.
+//!
+//! The rules are those of MMIX-SIM (MMIXware, LNCS 1750, "Simulating a simple operating system") and
+//! of TAOCP 1, Fascicle 1, section 1.4.3', "Elementary input/output".
+#![tactic(auto)]
+
+mod answer;
+mod calls;
+mod files;
+mod laws;
+mod lines;
+mod reads;
+mod requests;
+mod segment;
+mod service;
+mod space;
+#[cfg(test)]
+mod tests;
+mod writes;
+
+pub use answer::{TrapAnswer, TrapStop};
+pub use calls::trap;
+pub use laws::{
+    intervals_meet_the_segment, lines_come_with_their_newline, pieces_come_to_one_read,
+    pieces_come_to_one_write, stored_bytes_stand, texts_end_at_the_first_zero,
+    texts_touch_where_they_are_read, traps_only_add_to_output,
+};
+pub use segment::touches;

@@ -1,0 +1,351 @@
+//! Rows of file traps over memory and a host in memory. The values are by hand from the table of
+//! services in MMIXware, "Simulating a simple operating system".
+
+use crate::TrapAnswer::{Halt, Stopped, Value};
+use crate::TrapStop::{Negative, TransferTooLarge, TrapPagesFull, UnknownTrap, WideTrap};
+use crate::{TrapAnswer, TrapStop, touches, trap};
+use mx_host::MemHost;
+use mx_mem::{MemFault, Memory};
+use mx_trip::TrapCall;
+use std::alloc::Global;
+use std::process::Abort;
+use std::test::Fail;
+
+/// Where the arguments stand, and the buffer behind them.
+const ARGS: u64 = 0x2000_0000_0000_0000;
+
+const BUFFER: u64 = ARGS + 16;
+/// Where texts stand: `out`, `none`, and `hi` with a newline.
+const OUT: u64 = ARGS + 64;
+
+const NONE: u64 = ARGS + 72;
+
+const HI: u64 = ARGS + 80;
+/// The last two bytes of a page.
+const EDGE: u64 = ARGS + 0x1ffe;
+
+/// -1 as an octa.
+const MINUS_ONE: u64 = u64::MAX;
+
+/// Y and Z, the arguments p and q, the answer, and what that shows. Of Fclose, Fputs, Fseek and
+/// Ftell p is what $255 has.
+type Row = (u8, u8, u64, u64, TrapAnswer, &'static str);
+
+/// The standard streams, and misuses of them.
+const STREAMS: [Row; 17] = [
+    (7, 1, HI, 0, Value(3), "a text is written"),
+    (7, 0, HI, 0, Value(MINUS_ONE), "but not to standard input"),
+    (6, 2, HI, 2, Value(0), "two bytes to standard error"),
+    (6, 1, HI, 0, Value(0), "no bytes are written"),
+    (6, 0, HI, 0, Value(0), "n is 0 for a misuse, too"),
+    (6, 9, HI, 3, Value(MINUS_ONE - 2), "a slot that is not open"),
+    (9, 1, 0, 0, Value(MINUS_ONE), "standard output has no place"),
+    (10, 1, 0, 0, Value(MINUS_ONE), "none at all"),
+    (3, 1, BUFFER, 4, Value(MINUS_ONE - 4), "nor can it be read"),
+    (4, 1, BUFFER, 4, Value(MINUS_ONE), "not even a line"),
+    (
+        4,
+        0,
+        BUFFER,
+        0,
+        Value(MINUS_ONE),
+        "there is no room for a line",
+    ),
+    (4, 0, BUFFER, 1, Value(0), "there is room for the zero byte"),
+    (4, 0, BUFFER, 8, Value(2), "a line"),
+    (3, 0, BUFFER, 0, Value(0), "no bytes are read"),
+    (
+        3,
+        0,
+        BUFFER,
+        8,
+        Value(MINUS_ONE - 4),
+        "the end of the input",
+    ),
+    (2, 0, 0, 0, Value(0), "a slot is closed"),
+    (2, 0, 0, 0, Value(MINUS_ONE), "once"),
+];
+
+/// A file is made, written, read and closed.
+const FILES: [Row; 18] = [
+    (1, 3, NONE, 2, Value(MINUS_ONE), "there is no such file"),
+    (1, 3, OUT, 5, Value(MINUS_ONE), "there is no such mode"),
+    (2, 3, 0, 0, Value(MINUS_ONE), "so the slot is not open"),
+    (1, 3, OUT, 4, Value(0), "a file is made"),
+    (6, 3, HI, 3, Value(0), "three bytes"),
+    (10, 3, 0, 0, Value(3), "stand before the place"),
+    (9, 3, 1, 0, Value(0), "a place inside"),
+    (9, 3, 4, 0, Value(MINUS_ONE), "a place outside"),
+    (3, 3, EDGE, 2, Value(0), "the last bytes are read"),
+    (9, 3, MINUS_ONE - 2, 0, Value(0), "a place from the end"),
+    (4, 3, BUFFER, 8, Value(2), "to the newline"),
+    (4, 3, BUFFER, 8, Value(MINUS_ONE), "no line is left"),
+    (9, 3, 0, 0, Value(0), "the start"),
+    (3, 3, EDGE, 3, Value(0), "bytes across two pages"),
+    (3, 3, EDGE, 3, Value(MINUS_ONE - 2), "the end of the file"),
+    (1, 3, OUT, 0, Value(0), "the text mode"),
+    (10, 3, 0, 0, Value(MINUS_ONE), "has no place"),
+    (6, 3, HI, 3, Value(MINUS_ONE - 2), "and is for reading"),
+];
+
+/// Stops, in the order in which they are tried.
+const STOPS: [Row; 14] = [
+    (0, 0, 0, 0, Halt, "the end of the program"),
+    (0, 1, 0, 0, Stopped(UnknownTrap), "not with Z"),
+    (11, 0, 0, 0, Stopped(UnknownTrap), "Y is above 10"),
+    (5, 0, 0, 0, Stopped(WideTrap), "Fgetws"),
+    (8, 0, 0, 0, Stopped(WideTrap), "Fputws"),
+    (7, 1, 1 << 63, 0, Stopped(Negative), "a text"),
+    (1, 3, 1 << 63, 5, Stopped(Negative), "a name"),
+    (7, 1, (1 << 63) - 1, 0, Value(0), "a text of no bytes"),
+    (3, 0, 0, (1 << 24) + 1, Stopped(TransferTooLarge), "a size"),
+    (
+        3,
+        0,
+        1 << 63,
+        (1 << 24) + 1,
+        Stopped(TransferTooLarge),
+        "before its buffer",
+    ),
+    (3, 0, 1 << 63, 1, Stopped(Negative), "a buffer"),
+    (6, 1, (1 << 63) - 1, 2, Stopped(Negative), "its last byte"),
+    (6, 1, 1 << 63, 0, Value(0), "a buffer of no bytes"),
+    (4, 0, (1 << 63) - 8, 9, Stopped(Negative), "a line"),
+];
+
+/// Where $255 points, Y, and whether the call touches Stack_Segment, with p = #5fffffffffffffff and
+/// q = 1 at `ARGS`.
+const TOUCHES: [(u64, u8, bool); 10] = [
+    (ARGS, 6, false),
+    (ARGS, 1, true),
+    (0x5fff_ffff_ffff_fff7, 3, false),
+    (0x5fff_ffff_ffff_fff8, 3, true),
+    ((1 << 63) - 8, 3, true),
+    (1 << 63, 3, false),
+    (0x5fff_ffff_ffff_ffff, 7, true),
+    (0x5fff_ffff_ffff_fffe, 7, false),
+    (0x6000_0000_0000_0000, 5, false),
+    (0x6000_0000_0000_0000, 9, false),
+];
+
+/// Input, a failing call, Y, the answer, and the octa of the buffer, for 8 bytes from standard input.
+type Reading = (&'static [u8], u64, u8, u64, u64, &'static str);
+
+const READINGS: [Reading; 7] = [
+    (b"ab\n", 9, 4, 3, 0x6162_0a00_0000_0000, "a line"),
+    (b"abcdefgh", 9, 4, 7, 0x6162_6364_6566_6700, "a full buffer"),
+    (b"ab", 9, 4, MINUS_ONE, 0x6162_0000_0000_0000, "no newline"),
+    (
+        b"ab\n",
+        1,
+        4,
+        MINUS_ONE,
+        0x6100_0000_0000_0000,
+        "call 1 fails",
+    ),
+    (
+        b"ab",
+        9,
+        3,
+        MINUS_ONE - 5,
+        0x6162_0000_0000_0000,
+        "two bytes",
+    ),
+    (b"ab", 0, 3, MINUS_ONE - 8, 0, "call 0 fails"),
+    (b"abcdefghi", 9, 3, 0, 0x6162_6364_6566_6768, "all of them"),
+];
+
+/// Y, p and q, and the answer where the call of the host fails.
+const FAILURES: [(u8, u64, u64, u64); 8] = [
+    (1, OUT, 1, MINUS_ONE),
+    (2, 0, 0, MINUS_ONE),
+    (3, BUFFER, 4, MINUS_ONE - 4),
+    (4, BUFFER, 4, MINUS_ONE),
+    (6, BUFFER, 4, MINUS_ONE - 3),
+    (7, HI, 0, MINUS_ONE),
+    (9, 0, 0, MINUS_ONE),
+    (10, 0, 0, MINUS_ONE),
+];
+
+fn store(memory: &mut Memory, rows: &[(u64, u64)]) -> Result<(), MemFault> {
+    for (a, x) in rows {
+        memory.store(*a % (1 << 63), *x)?;
+    }
+    Ok(())
+}
+
+fn call(
+    alloc: Global,
+    memory: &mut Memory,
+    host: &mut MemHost,
+    y: u8,
+    z: u8,
+    p: u64,
+    q: u64,
+) -> TrapAnswer {
+    let word = u32::from(y) * 256 + u32::from(z);
+    let arg = if y == 2 || y == 7 || y == 9 || y == 10 {
+        p
+    } else {
+        ARGS
+    };
+    if arg == ARGS && store(memory, &[(ARGS, p), (ARGS + 8, q)]).is_err() {
+        return TrapAnswer::OutOfMemory;
+    }
+    trap(
+        alloc,
+        memory,
+        host,
+        &TrapCall {
+            pc: 0x100,
+            word,
+            arg,
+        },
+    )
+}
+
+fn check(rt: &impl Abort, alloc: Global, memory: &mut Memory, host: &mut MemHost, rows: &[Row]) {
+    for (y, z, p, q, want, what) in rows {
+        assert_eq!(rt; call(alloc, memory, host, *y, *z, *p, *q), *want, "{what}");
+    }
+}
+
+fn start(alloc: Global, input: &[u8], failing: u64) -> Result<MemHost, Fail> {
+    let input = Vec::from_slice(alloc, input)?;
+    Ok(MemHost::new(alloc, input, Vec::from_slice(alloc, &[failing])?)?)
+}
+
+fn texts(alloc: Global) -> Result<Memory, Fail> {
+    let mut memory = Memory::new(alloc);
+    let rows = [
+        (OUT, 0x6f75_7400_0000_0000),
+        (NONE, 0x6e6f_6e65_0000_0000),
+        (HI, 0x6869_0a00_0000_0000),
+    ];
+    store(&mut memory, &rows)?;
+    Ok(memory)
+}
+
+#[test]
+fn reads_standard_input(rt: HostRuntime) -> Result<(), Fail> {
+    for (input, failing, y, want, octa, what) in READINGS {
+        let mut memory = texts(rt.alloc())?;
+        let mut host = start(rt.alloc(), input, failing)?;
+        let answer = call(rt.alloc(), &mut memory, &mut host, y, 0, BUFFER, 8);
+        assert_eq!(rt; answer, Value(want), "{what}");
+        assert_eq!(rt; memory.load(BUFFER), octa, "{what}");
+    }
+    Ok(())
+}
+
+#[test]
+fn services_answer_by_the_table(rt: HostRuntime) -> Result<(), Fail> {
+    let mut memory = texts(rt.alloc())?;
+    let mut host = start(rt.alloc(), b"a\nbcd", 99)?;
+    check(&rt, rt.alloc(), &mut memory, &mut host, &STREAMS);
+    assert_eq!(rt; host.output(), b"hi\n".as_slice());
+    assert_eq!(rt; host.errors(), b"hi".as_slice());
+    check(&rt, rt.alloc(), &mut memory, &mut host, &FILES);
+    assert_eq!(rt; memory.load(EDGE), 0x6869, "the end of a page");
+    assert_eq!(rt;
+        memory.load(EDGE + 2),
+        0x0a00_0000_0000_0000,
+        "the next page"
+    );
+    Ok(())
+}
+
+#[test]
+fn stops_and_touches(rt: HostRuntime) -> Result<(), Fail> {
+    let mut memory = texts(rt.alloc())?;
+    let mut host = start(rt.alloc(), b"", 99)?;
+    check(&rt, rt.alloc(), &mut memory, &mut host, &STOPS);
+    let wide = TrapCall {
+        pc: 0,
+        word: 0x1_0501,
+        arg: 0,
+    };
+    assert_eq!(rt;
+        trap(rt.alloc(), &mut memory, &mut host, &wide),
+        Stopped(UnknownTrap),
+        "X counts first"
+    );
+    let far = TrapCall {
+        pc: 0,
+        word: 0x601,
+        arg: (1 << 63) - 8,
+    };
+    assert_eq!(rt;
+        trap(rt.alloc(), &mut memory, &mut host, &far),
+        Stopped(Negative),
+        "the second argument"
+    );
+    assert_eq!(rt; host.calls(), 2, "calls of the host come last");
+    let p = 0x5fff_ffff_ffff_ffff;
+    store(&mut memory, &[(ARGS, p), (ARGS + 8, 1), (p, 1)])?;
+    for (arg, y, want) in TOUCHES {
+        let word = u32::from(y) * 256;
+        assert_eq!(rt;
+            touches(&memory, &TrapCall { pc: 0, word, arg }),
+            want,
+            "{y} with {arg}"
+        );
+    }
+    assert!(rt;
+        touches(
+            &memory,
+            &TrapCall {
+                pc: 3 << 61,
+                word: 0,
+                arg: 0
+            }
+        )
+    );
+    Ok(())
+}
+
+#[test]
+fn failing_calls_are_no_stops(rt: HostRuntime) -> Result<(), Fail> {
+    let mut memory = texts(rt.alloc())?;
+    for (y, p, q, want) in FAILURES {
+        let mut host = start(rt.alloc(), b"abcd", 0)?;
+        let answer = call(rt.alloc(), &mut memory, &mut host, y, 0, p, q);
+        assert_eq!(rt; answer, Value(want), "service {y}");
+        assert_eq!(rt; host.calls(), 1, "service {y}");
+    }
+    Ok(())
+}
+
+#[test]
+fn one_page_too_many_keeps_what_was_moved(rt: HostRuntime) -> Result<(), Fail> {
+    let mut memory = texts(rt.alloc())?;
+    for page in 0..65535 {
+        memory.store(page * 4096, 0)?;
+    }
+    let mut host = start(rt.alloc(), b"abc", 99)?;
+    let edge = 65535 * 4096 - 2;
+    let answer = call(rt.alloc(), &mut memory, &mut host, 3, 0, edge, 3);
+    assert_eq!(rt; answer, Stopped(TrapPagesFull));
+    assert_eq!(rt; memory.load(edge), 0x6162, "the bytes before stand");
+    Ok(())
+}
+
+#[test]
+fn pieces_before_a_failing_call_count(rt: HostRuntime) -> Result<(), Fail> {
+    let mut memory = texts(rt.alloc())?;
+    let mut host = start(rt.alloc(), b"", 1)?;
+    let answer = call(rt.alloc(), &mut memory, &mut host, 6, 1, BUFFER, 5000);
+    assert_eq!(rt; answer, Value(MINUS_ONE - 903), "4,096 of 5,000 bytes");
+    assert_eq!(rt; host.output().len(), 4096);
+    let numbers = [
+        Negative,
+        WideTrap,
+        TransferTooLarge,
+        TrapPagesFull,
+        UnknownTrap,
+    ];
+    for (stop, number) in numbers.iter().zip([113, 121, 122, 123, 124]) {
+        assert_eq!(rt; TrapStop::number(*stop), number);
+    }
+    Ok(())
+}

@@ -1,0 +1,134 @@
+//! Writing bytes of a space to a slot, piece by piece: Fwrite and Fputs.
+
+ghost use Rattle.std.specs.Prelude.{◌≡◌, ◌≢◌, ◌≤◌, ◌<◌, ◌+◌, ◌^◌, length, Ok, Err};
+ghost use Rattle.mx_host.specs.Keeping.{Answers, Keeps, WritesFront};
+ghost use Rattle.mx_trap.specs.Clauses.{LeavesOutput};
+ghost use Rattle.mx_trap.specs.Moves as spec;
+ghost use Rattle.mx_trap.specs.Requests.{bytes_from, AreInBounds};
+
+use crate::answer::TrapAnswer;
+use crate::files::MINUS_ONE;
+use crate::space::fill;
+use mx_host::{Host, HostFault};
+use mx_mem::Space;
+
+/// What came of the writing of bytes.
+#[derive(Clone, Copy, Debug, PartialEq, Eq)]
+pub enum Written {
+    /// All were written.
+    Whole,
+    /// A piece was not written, and so many bytes stood in the pieces before it.
+    Short(u64),
+    /// The host found no memory.
+    OutOfMemory,
+}
+
+/// Writes the bytes of a buffer.
+#[tactic(auto, using(crate::proofs::Buffers::sizing))]
+pub fn fwrite<M: Space, H: Host>(
+    memory: &M,
+    host: &mut H,
+    slot: u16,
+    at: u64,
+    size: u64,
+) -> TrapAnswer
+    requires slot { slot ≤ 255 }
+    requires bounds { AreInBounds at size }
+    ensures told { Answers (H.told host.old) (H.told host.new) TrapAnswer.OutOfMemory result
+        (λ m. spec.fwrite slot (bytes_from (M.contents memory.now).bytes at size) m) }
+    ensures front { WritesFront (H.told host.old) (H.told host.new) TrapAnswer.OutOfMemory result
+        (λ m. spec.fwrite slot (bytes_from (M.contents memory.now).bytes at size) m) }
+    ensures keeps { Keeps (H.told host.old) (H.told host.new) (H.faults host.old) (H.faults host.new) }
+{
+    match write_pieces(memory, host, slot, at, size) {
+        Written::Whole => TrapAnswer::Value(0),
+        Written::Short(count) => TrapAnswer::Value(count.wrapping_sub(size)),
+        Written::OutOfMemory => TrapAnswer::OutOfMemory,
+    }
+}
+
+/// Writes a text.
+#[tactic(auto, using(crate::proofs::Buffers::sizing))]
+pub fn fputs<M: Space, H: Host>(
+    memory: &M,
+    host: &mut H,
+    slot: u16,
+    at: u64,
+    size: u64,
+) -> TrapAnswer
+    requires slot { slot ≤ 255 }
+    requires bounds { AreInBounds at size }
+    ensures told { Answers (H.told host.old) (H.told host.new) TrapAnswer.OutOfMemory result
+        (λ m. spec.fputs slot (bytes_from (M.contents memory.now).bytes at size) m) }
+    ensures front { WritesFront (H.told host.old) (H.told host.new) TrapAnswer.OutOfMemory result
+        (λ m. spec.fputs slot (bytes_from (M.contents memory.now).bytes at size) m) }
+    ensures keeps { Keeps (H.told host.old) (H.told host.new) (H.faults host.old) (H.faults host.new) }
+{
+    match write_pieces(memory, host, slot, at, size) {
+        Written::Whole => TrapAnswer::Value(size),
+        Written::Short(_) => TrapAnswer::Value(MINUS_ONE),
+        Written::OutOfMemory => TrapAnswer::OutOfMemory,
+    }
+}
+
+/// Writes bytes in pieces of 4,096, up to one that is not written.
+#[tactic(auto, using(crate::proofs::Pieces::writing))]
+fn write_pieces<M: Space, H: Host>(
+    memory: &M,
+    host: &mut H,
+    slot: u16,
+    at: u64,
+    size: u64,
+) -> Written
+    requires slot { slot ≤ 255 }
+    requires bounds { AreInBounds at size }
+    ensures told { Answers (H.told host.old) (H.told host.new) Written.OutOfMemory result
+        (λ m. spec.written slot (bytes_from (M.contents memory.now).bytes at size) m) }
+    ensures front { WritesFront (H.told host.old) (H.told host.new) Written.OutOfMemory result
+        (λ m. spec.written slot (bytes_from (M.contents memory.now).bytes at size) m) }
+    ensures keeps { Keeps (H.told host.old) (H.told host.new) (H.faults host.old) (H.faults host.new) }
+{
+    let mut buffer = [0u8; 4096];
+    let mut moved = 0;
+    while size - moved > 4096 {
+        match write_piece(memory, host, slot, at + moved, moved, &mut buffer) {
+            Written::Whole => moved += 4096,
+            Written::Short(count) => return Written::Short(count),
+            Written::OutOfMemory => return Written::OutOfMemory,
+        }
+    }
+    write_piece(
+        memory,
+        host,
+        slot,
+        at + moved,
+        moved,
+        &mut buffer[..(size - moved) as usize],
+    )
+}
+
+/// Writes one piece, as many bytes as the buffer has, behind others that were written.
+#[tactic(auto, using(crate::proofs::Buffers::sizing))]
+fn write_piece<M: Space, H: Host>(
+    memory: &M,
+    host: &mut H,
+    slot: u16,
+    at: u64,
+    moved: u64,
+    buffer: &mut [u8],
+) -> Written
+    requires slot { slot ≤ 255 }
+    requires bounds { AreInBounds at (length buffer.old) }
+    ensures told { Answers (H.told host.old) (H.told host.new) Written.OutOfMemory result
+        (λ m. spec.write_piece slot (bytes_from (M.contents memory.now).bytes at (length buffer.old)) moved m) }
+    ensures memory { LeavesOutput (H.told host.old) (H.told host.new) Written.OutOfMemory result }
+    ensures length { length buffer.new ≡ length buffer.old }
+    ensures keeps { Keeps (H.told host.old) (H.told host.new) (H.faults host.old) (H.faults host.new) }
+{
+    fill(memory, at, buffer);
+    match host.write_slot(slot, buffer) {
+        Ok(()) => Written::Whole,
+        Err(HostFault::OutOfMemory) => Written::OutOfMemory,
+        Err(_) => Written::Short(moved),
+    }
+}
