@@ -4,9 +4,10 @@ ghost use Rattle.std.specs.Prelude.{◌≡◌, ◌<◌, ◌≤◌, IsTrue};
 ghost use Rattle.mx_alu.specs.Alu as spec;
 ghost use Rattle.mx_alu.specs.Names as names;
 ghost use Rattle.mx_alu.specs.Truth as conditions;
+ghost use Rattle.mx_alu.specs.Wydes as rows;
 
 use crate::names::{ARITHMETIC, Arithmetic, BITWISE, Bitwise, CONDITIONS, Condition, WYDES, Wyde};
-use crate::{Answer, Extra, arithmetic, bitwise, wyde};
+use crate::{Answer, Extra, arithmetic, bitwise, wydes};
 use mx_word::signed;
 
 /// What the instruction of this code, from #18 to #3f or from #c0 to #ef, gives: y and z are $Y and
@@ -23,8 +24,19 @@ pub fn alu(code: u8, y: u64, z: u64, extra: Extra) -> Answer
         Answer::alone(bitwise::perform(bitwise_name(code), y, z, extra.m))
     } else {
         let (name, place) = wyde_name(code);
-        Answer::alone(wyde::perform(name, y, z, place))
+        Answer::alone(wydes::perform(name, y, z, place))
     }
+}
+
+/// What the instruction of this code, from #e0 to #ef, makes of the old $X and of a wyde that stands
+/// at its place.
+#[inline(always)]
+pub fn wyde(code: u8, x: u64, v: u64) -> u64
+    requires low { 0xe0 ≤ code }
+    requires high { code ≤ 0xef }
+    ensures { result ≡ rows.wyde (names.wyde_of code).0 x v }
+{
+    wydes::perform(wyde_name(code).0, x, v, 0)
 }
 
 /// The name of a code from #18 to #3f.

@@ -11,7 +11,7 @@ mod codes;
 mod names;
 #[cfg(test)]
 mod tests;
-mod wyde;
+mod wydes;
 
 pub use answer::{Answer, Event, Extra};
-pub use codes::{alu, truth};
+pub use codes::{alu, truth, wyde};

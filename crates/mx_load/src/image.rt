@@ -42,7 +42,7 @@ impl Model for Image {
       symbols = m.symbols;
     } };
 
-    ghost invariant = { λ m. page_count m.memory ≤ 65536 };
+    ghost invariant = { λ m. (page_count m.memory ≤ 65536) × (32 ≤ m.g) };
 }
 
 impl Image {
@@ -70,9 +70,10 @@ impl Image {
         line_in(&self.lines, a)
     }
 
-    /// The number of the first global register.
+    /// The number of the first global register, at least 32.
     pub fn g(&self) -> u8
-        ensures { result ≡ (image_of self.now).g }
+        ensures value { result ≡ (image_of self.now).g }
+        ensures bounds { 32 ≤ result }
     {
         self.g
     }
@@ -155,6 +156,7 @@ impl Image {
 
     /// Gives $g to $255 their values.
     pub(crate) fn set_globals(&mut self, g: u8, values: &[u64]) -> Result<(), LoadFault>
+        requires { 32 ≤ g }
         ensures ok { OnOk result (image_of self.new ≡ with_globals (image_of self.old) g values.now) }
         ensures err { IfErr result (λ fault. fault ≡ LoadFault.OutOfMemory) }
     {
