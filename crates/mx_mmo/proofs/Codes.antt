@@ -5,7 +5,7 @@ use Rattle.mx_mmo.specs.Object.{IsNoLop}
 use Rattle.mx_mmo.specs.Reading.{lop_of}
 use Rattle.mx_mmo.specs.declared.lops.Lop.{Lop}
 use Rattle.mx_mmo.specs.declared.lops.Lop.TheVariants.{Quote, Loc, Skip, Fixo, Fixr, Fixrx, File, Line, Spec, Pre, Post, Stab, End}
-use Rattle.mx_word.proofs.Tests.{other-test, same-number}
+use Rattle.mx_word.proofs.Comparisons.{other-test, same-number}
 
 abbrev pub code_of : Lop → ℕ
 code_of Quote = 0

@@ -14,7 +14,7 @@ use Rattle.mx_mmo.specs.declared.faults.MmoFault.TheVariants.{NoPre, BadLop, Bad
 use Rattle.mx_word.specs.Words.{tetra_from_bytes, octa_from_bytes}
 use Rattle.mx_mmo.specs.declared.due.Phase.{Phase}
 use Rattle.mx_mmo.specs.declared.due.Phase.TheVariants.{Start, Middle, Posted, Ended}
-use Rattle.mx_word.proofs.Tests.{not-less}
+use Rattle.mx_word.proofs.Comparisons.{not-less}
 use Rattle.mx_mmo.proofs.Skips.{SkipGrows, SkipWithin, skip-grows, skip-within}
 
 -- where something stands first, it stands there too after more bytes came

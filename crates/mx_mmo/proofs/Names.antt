@@ -3,7 +3,7 @@ use Rattle.std.proofs.Common.{◌≡◌, ◌≢◌, ℕ, zero, suc, ◌+◌, ◌
 use Rattle.std.specs.Prelude.{◌==◌}
 use Rattle.mx_mmo.specs.Valid.{AreBytes, IsName}
 use Rattle.mx_mmo.specs.Reading.{onto_trimmed, trimmed}
-use Rattle.mx_word.proofs.Tests.{same-number, other-number, other-test}
+use Rattle.mx_word.proofs.Comparisons.{same-number, other-number, other-test}
 
 -- what is left without the zeros, and how many they were
 record Trimmed (bytes name : List ℕ) : Type 0 where

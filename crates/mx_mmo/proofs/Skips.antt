@@ -9,7 +9,7 @@ use Rattle.mx_mmo.specs.Skipping.{quote_behind, four_more, skip_on, skipped, quo
 use Rattle.mx_word.proofs.Tetras.{four-bytes, four-fit, top-byte}
 use Rattle.mx_mmo.proofs.Codes.{no-lop-first}
 use Rattle.mx_word.proofs.Ranges.{take-four, drop-four}
-use Rattle.mx_word.proofs.Tests.{all-tests, other-number, same-number}
+use Rattle.mx_word.proofs.Comparisons.{all-tests, other-number, same-number}
 
 -- what is skipped stays so, whatever follows
 abbrev pub SkipGrows : Option ℕ → Option ℕ → Type 0

@@ -18,7 +18,7 @@ use Rattle.mx_mmo.specs.declared.faults.MmoFault.TheVariants.{TooLong, NotTetras
 use Rattle.mx_mmo.specs.declared.due.Phase.{Phase}
 use Rattle.mx_mmo.specs.declared.due.Phase.TheVariants.{Start, Ended}
 use Rattle.mx_word.proofs.Ranges.{bytes-behind}
-use Rattle.mx_word.proofs.Tests.{same-number, both-tests}
+use Rattle.mx_word.proofs.Comparisons.{same-number, both-tests}
 use Rattle.mx_mmo.proofs.Ends.{last-cons, specs-cons}
 use Rattle.mx_mmo.proofs.Firsts.{first-within}
 use Rattle.mx_mmo.proofs.Phases.{Reaches, placed-items}

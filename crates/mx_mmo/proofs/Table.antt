@@ -16,7 +16,7 @@ use Rattle.mx_mmo.specs.declared.faults.MmoFault.TheVariants.{NotTetras, BadFiel
 use Rattle.mx_mmo.specs.declared.due.Phase.{Phase}
 use Rattle.mx_mmo.specs.declared.due.Phase.TheVariants.{Start, Middle, Posted, Ended}
 use Rattle.mx_word.proofs.Ranges.{bytes-behind}
-use Rattle.mx_word.proofs.Tests.{other-test, same-number, other-number}
+use Rattle.mx_word.proofs.Comparisons.{other-test, same-number, other-number}
 use Rattle.mx_mmo.proofs.Complete.{end-told, items-read, left_behind, tail-read, walk-spelled}
 use Rattle.mx_mmo.proofs.Pieces.{not-long}
 use Rattle.mx_mmo.proofs.Sound.{Stood, Stopped, Stands, counts, left-bytes, stands}

@@ -18,7 +18,7 @@ use Rattle.mx_mmo.specs.declared.due.Phase.{Phase}
 use Rattle.mx_mmo.specs.declared.due.Phase.TheVariants.{Start, Middle, Posted, Ended}
 use Rattle.mx_word.proofs.Tetras.{tetra-back}
 use Rattle.mx_word.proofs.Ranges.{bytes-front}
-use Rattle.mx_word.proofs.Tests.{same-number, other-number, other-test, both-tests, all-tests, both-true, not-less}
+use Rattle.mx_word.proofs.Comparisons.{same-number, other-number, other-test, both-tests, all-tests, both-true, not-less}
 use Rattle.mx_mmo.proofs.Codes.{lop-code}
 use Rattle.mx_mmo.proofs.Names.{all-zeros, zeros-trimmed}
 use Rattle.mx_mmo.proofs.Spelt.{enough-there}

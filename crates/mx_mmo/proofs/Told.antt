@@ -19,7 +19,7 @@ use Rattle.mx_mmo.specs.declared.due.Phase.{Phase}
 use Rattle.mx_mmo.specs.declared.due.Phase.TheVariants.{Start, Middle, Posted, Ended}
 use Rattle.mx_word.proofs.Tetras.{four-bytes, four-fit, eight-bytes, eight-fit, top-byte}
 use Rattle.mx_word.proofs.Ranges.{bytes-front, take-four, drop-four}
-use Rattle.mx_word.proofs.Tests.{same-number, other-number, both-true, both-tests, all-tests, not-less, is-least, is-less}
+use Rattle.mx_word.proofs.Comparisons.{same-number, other-number, both-true, both-tests, all-tests, not-less, is-least, is-less}
 use Rattle.mx_mmo.proofs.Codes.{lop-code}
 use Rattle.mx_mmo.proofs.Names.{is-named}
 use Rattle.mx_mmo.proofs.Skips.{skipped-ended}

@@ -13,7 +13,7 @@ use Rattle.mx_mmo.specs.declared.items.Item.TheVariants.{Load, Loc, Skip, FixOct
 use Rattle.mx_mmo.specs.Replies.{limit}
 use Rattle.mx_mmo.specs.Whole.{object_of}
 use Rattle.mx_mmo.proofs.Complete.{object-only}
-use Rattle.mx_word.proofs.Tests.{same-number, other-number}
+use Rattle.mx_word.proofs.Comparisons.{same-number, other-number}
 use Rattle.mx_mmo.proofs.Told.{spelled-as}
 
 loaded-spells : (b : Bool) (t : ℕ) → t < 2 ^ 32 → (b ≡ false → t / 2 ^ 24 ≢ 0x98) → Spells (Load t) (cond b (lop 0 0 1 ++ tetra_to_bytes t) (tetra_to_bytes t))

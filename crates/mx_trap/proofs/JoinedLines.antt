@@ -8,7 +8,7 @@ use Rattle.mx_host.specs.declared.slots.Mode.TheVariants.{TextRead}
 use Rattle.mx_host.specs.declared.slots.Lead.TheVariants.{Input}
 use Rattle.mx_host.specs.HostModel.{HostModel, slot_at, to_input}
 use Rattle.mx_host.specs.HostAnswer.{Then, read_answer}
-use Rattle.mx_word.proofs.Tests.{other-test}
+use Rattle.mx_word.proofs.Comparisons.{other-test}
 use Rattle.mx_host.proofs.Still.{still, read-still}
 use Rattle.mx_trap.specs.Moves.{Leaves, line_bytes, line_byte, line_next, line_end, byte_got, bytes_stored, byte_stored, stored_next, fgets}
 use Rattle.mx_trap.specs.Laws.{ComesTo, uncounted, line_front, line_ends}

@@ -14,7 +14,7 @@ use Rattle.mx_host.specs.declared.slots.Lead.TheVariants.{Input, Output, Errors,
 use Rattle.mx_host.specs.HostModel.{HostModel, slot_at, is_write_only, with_slot}
 use Rattle.mx_host.specs.HostAnswer.{Then, read_answer, read_from, read_lead, bytes_at}
 use Rattle.mx_host.proofs.Still.{still, read-still}
-use Rattle.mx_word.proofs.Tests.{same-number, other-number, other-test}
+use Rattle.mx_word.proofs.Comparisons.{same-number, other-number, other-test}
 use Rattle.mx_trap.specs.Moves.{Leaves, octa_minus, read_pieces, read_piece, read_next, read_last, piece_got, bytes_stored, byte_stored, stored_next, fread, whole_pieces}
 use Rattle.mx_trap.specs.Laws.{ComesTo, uncounted}
 use Rattle.mx_trap.specs.declared.answer.TrapAnswer.{TrapAnswer}

@@ -8,7 +8,7 @@ use Rattle.mx_host.specs.declared.slots.Slot.TheVariants.{Closed, Open}
 use Rattle.mx_host.specs.declared.slots.Mode.{Mode}
 use Rattle.mx_host.specs.declared.slots.Lead.{Lead}
 use Rattle.mx_host.specs.declared.slots.Lead.TheVariants.{Input, Output, Errors, File}
-use Rattle.mx_word.proofs.Tests.{other-test}
+use Rattle.mx_word.proofs.Comparisons.{other-test}
 use Rattle.mx_trap.specs.Moves.{octa_minus, whole_pieces, read_pieces, read_piece, line_bytes, line_byte, line_end}
 use Rattle.mx_trap.specs.declared.answer.TrapAnswer.{TrapAnswer}
 use Rattle.mx_trap.specs.declared.answer.TrapAnswer.TheVariants.{Value}

@@ -2,7 +2,7 @@
 use Rattle.std.proofs.Common.{◌≡◌, ℕ, suc, zero, ◌+◌, ◌-◌, ◌%◌, ◌<◌, ◌≤◌, ◌^◌, Bool, true, false, cond, arith, refl, ◌∙◌, ap, Ok, Err}
 use Rattle.std.specs.Prelude.{Result, ◌==◌, nat_lt, nat_le, ◌&&◌}
 use Rattle.std.proofs.lemmas.Bool.Decides.{nat_tests}
-use Rattle.mx_word.proofs.Tests.{both-true, is-less, is-least, not-less}
+use Rattle.mx_word.proofs.Comparisons.{both-true, is-less, is-least, not-less}
 use Rattle.mx_word.specs.Results.{map_ok}
 use Rattle.mx_mem.specs.Space.{is_negative}
 use Rattle.mx_trap.specs.Requests.{text_length, next_byte, last_byte}

@@ -1,7 +1,7 @@
 -- Which bytes of a text are looked at, and whether one of them lies in Stack_Segment.
 use Rattle.std.proofs.Common.{◌≡◌, ℕ, ◌+◌, ◌-◌, ◌%◌, ◌^◌, ◌<◌, ◌≤◌, Bool, true, false, Ok, Err, refl, ◌∙◌, ap, arith}
 use Rattle.std.specs.Prelude.{Result, nat_le, nat_lt}
-use Rattle.mx_word.proofs.Tests.{both-true, is-less, not-less}
+use Rattle.mx_word.proofs.Comparisons.{both-true, is-less, not-less}
 use Rattle.mx_trap.specs.Laws.{IsText, LooksAt}
 use Rattle.mx_trap.specs.Requests.{text_length, most_bytes}
 use Rattle.mx_trap.specs.Touches.{text_touches, text_reach, meets_segment, is_in_segment, segment_start}

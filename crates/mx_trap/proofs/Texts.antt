@@ -1,7 +1,7 @@
 -- A text is measured byte by byte.
 use Rattle.std.proofs.Common.{◌≡◌, ◌≢◌, ℕ, suc, zero, ◌+◌, ◌-◌, ◌<◌, ◌≤◌, arith, refl, ap, Ok, Err}
 use Rattle.std.specs.Prelude.{Result}
-use Rattle.mx_word.proofs.Tests.{other-test}
+use Rattle.mx_word.proofs.Comparisons.{other-test}
 use Rattle.mx_word.specs.Results.{map_ok}
 use Rattle.mx_trap.specs.Requests.{text_length, byte_at}
 use Rattle.mx_trap.specs.declared.answer.TrapStop.{TrapStop}

@@ -2,4 +2,4 @@ pub mod Fronts
 pub mod JoinedTetra
 pub mod Ranges
 pub mod Tetras
-pub mod Tests
+pub mod Comparisons
