@@ -1,0 +1,45 @@
+-- The records of references, one after another.
+use Rattle.std.proofs.Common.{◌≡◌, ◌<◌, ◌≤◌, ℕ, ◌+◌, List, [], ◌∷◌, ◌++◌, length, drop, get_or, Result, Ok, Err, refl, ap, sym, ◌∙◌, append_assoc, append-nil}
+use Rattle.std.proofs.lemmas.List.{drop_more, drop_all}
+use Rattle.mx_word.specs.declared.symbols.Value.{Value}
+use Rattle.mx_word.specs.declared.waits.Wait.{Wait}
+use Rattle.mx_mmo.specs.declared.items.Item.{Item}
+use Rattle.mx_asm.specs.declared.faults.AsmFault.{AsmFault}
+use Rattle.mx_asm.specs.declared.refused.Refused.{Refused}
+use Rattle.mx_asm.specs.Faults.{refused_from}
+use Rattle.mx_asm.specs.Fixes.{fix_of, with_fix, fixes}
+use Rattle.mx_asm.specs.Emission.{onto}
+
+onto-both : (front : List Item) (fix : Item) (line from : ℕ) (later : Result (List Item) Refused) → onto front (with_fix line from (Ok fix) later) ≡ onto (front ++ fix ∷ []) later
+onto-both front fix line from (Err r) = refl
+onto-both front fix line from (Ok fixes) = ap (λ items. Ok items) (sym (append_assoc front (fix ∷ []) fixes))
+
+module _ (line : ℕ) (value : Value) where
+  fixes-here : (i : ℕ) (waits : List Wait) (w : Wait) → i < length waits → fixes line value (drop i waits) ≡ with_fix line (get_or waits i w).line (fix_of value (get_or waits i w)) (fixes line value (drop (i + 1) waits))
+  unfolding fixes
+  fixes-here i waits w within = ap (fixes line value) (drop_more waits i w within)
+
+  pub fixes-begin : (front : List Item) (waits : List Wait) → onto front (fixes line value (drop 0 waits)) ≡ onto front (fixes line value waits)
+  fixes-begin front waits = refl
+
+  pub fixes-failed : (front : List Item) (i : ℕ) (waits : List Wait) (w : Wait) (fault : AsmFault) → i < length waits → w ≡ get_or waits i w → Err fault ≡ fix_of value w →
+      onto front (fixes line value (drop i waits)) ≡ Err (refused_from line fault w.line)
+  fixes-failed front i waits w fault within is failed =
+      ap (onto front) (fixes-here i waits w within
+      ∙ ap (λ w. with_fix line w.line (fix_of value w) (fixes line value (drop (i + 1) waits))) (sym is)
+      ∙ ap (λ r. with_fix line w.line r (fixes line value (drop (i + 1) waits))) (sym failed))
+
+  pub fixes-more : (front next : List Item) (i : ℕ) (waits : List Wait) (w : Wait) (fix : Item) → i < length waits → w ≡ get_or waits i w → Ok fix ≡ fix_of value w → next ≡ front ++ fix ∷ [] →
+      onto next (fixes line value (drop (i + 1) waits)) ≡ onto front (fixes line value (drop i waits))
+  fixes-more front next i waits w fix within is found pushed =
+      ap (λ items. onto items (fixes line value (drop (i + 1) waits))) pushed
+      ∙ sym (onto-both front fix line w.line (fixes line value (drop (i + 1) waits)))
+      ∙ sym (ap (onto front) (fixes-here i waits w within
+      ∙ ap (λ w. with_fix line w.line (fix_of value w) (fixes line value (drop (i + 1) waits))) (sym is)
+      ∙ ap (λ r. with_fix line w.line r (fixes line value (drop (i + 1) waits))) (sym found)))
+
+  pub fixes-end : (front : List Item) (i : ℕ) (waits : List Wait) → length waits ≤ i → onto front (fixes line value (drop i waits)) ≡ Ok front
+  unfolding fixes
+  fixes-end front i waits past = ap (λ ws. onto front (fixes line value ws)) (drop_all i waits past) ∙ ap (λ items. Ok items) (append-nil front)
+
+pub ruleset fixing = (fixes-failed, fixes-more, fixes-end)

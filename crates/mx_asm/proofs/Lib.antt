@@ -1,0 +1,14 @@
+pub mod Fronts
+pub mod FixLists
+pub mod Encodings
+pub mod ReadEntries
+pub mod LineEntries
+pub mod WaitingNames
+pub mod Filters
+pub mod OpenWaits
+pub mod WaitsFor
+pub mod LabelValues
+pub mod OneStatement
+pub mod Entries
+pub mod LinesTaken
+pub mod OnePassLaw

@@ -1,0 +1,8 @@
+use Rattle.mx_asm.specs.OnePass.{with_opening, opened, line_taken}
+use Rattle.mx_asm.proofs.Fronts.{front-trans, line-front}
+use Rattle.mx_asm.proofs.assembler.take_line.Goals as goal
+
+pub returns-in_err-open-clause-front : goal.returns-in_err-open-clause-front
+returns-in_err-open-clause-front c =
+    front-trans c.open.new.out (with_opening c.args.assembly.now.opened c.args.out.now) (line_taken (with_opening c.args.assembly.now.opened c.args.out.now) (opened c.args.assembly.now) c.args.text.now).0
+    c.in_err-open.ensures.front (line-front (with_opening c.args.assembly.now.opened c.args.out.now) (opened c.args.assembly.now) c.args.text.now)

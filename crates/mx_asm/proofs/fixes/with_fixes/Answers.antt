@@ -1,0 +1,6 @@
+use Rattle.std.proofs.Common.{sym, ◌∙◌}
+use Rattle.mx_asm.proofs.FixLists.{fixes-failed}
+use Rattle.mx_asm.proofs.fixes.with_fixes.Goals as goal
+
+pub returns-in-Err : goal.returns-in-Err
+returns-in-Err c = λ memory. sym (fixes-failed c.args.line c.args.value c.loop-wait.items c.loop-wait.wait-index c.args.waits.now c.wait-item.result c.in-Err.fault c.loop-wait-test.true c.wait-item.is c.in-Err.ensures) ∙ c.loop-wait.invariant

@@ -1,0 +1,10 @@
+use Rattle.std.proofs.Common.{◌≡◌}
+use Rattle.mx_names.specs.Names.{AreNames}
+use Rattle.mx_asm.specs.OnePass.{with_waits}
+use Rattle.mx_asm.proofs.labels.wait_for.Given as goal
+
+abbrev pub invariant-loop-wait : goal.invariant-loop-wait
+invariant-loop-wait l =
+    (with_waits l.names l.wait-iterator.rest.items ≡ with_waits l.fn.names l.fn.waits)
+    × (AreNames l.fn.names → AreNames l.names)
+    × (l.names.symbols ≡ l.fn.names.symbols)

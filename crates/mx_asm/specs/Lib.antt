@@ -1,0 +1,11 @@
+pub mod Faults
+pub mod Fronts
+pub mod Entries
+pub mod TwoPass
+pub mod Fixes
+pub mod Emission
+pub mod Refusal
+pub mod Image
+pub mod OnePass
+pub mod Whole
+pub mod Effects

@@ -1,0 +1,116 @@
+//! The assembler, which takes one line after another.
+
+ghost use Rattle.std.specs.Prelude.{◌≡◌, ◌≢◌, ◌+◌, ◌<◌, ◌≤◌, ◌^◌, ◌++◌, ℕ, List, [], Result, Ok, Err, IfOk, IfErr, OnOk, OnErr, length};
+ghost use Rattle.mx_word.specs.Results.{map_ok};
+ghost use Rattle.mx_asm.specs.Faults.{no_memory};
+ghost use Rattle.mx_asm.specs.Fronts.{IsFront};
+ghost use Rattle.mx_asm.specs.OnePass as spec;
+
+use crate::Refused;
+use crate::assembly::Assembly;
+use crate::lines::take_statements;
+use mx_mmo::Items;
+use mx_word::Bytes;
+use std::alloc::Global;
+use std::marker::Model;
+
+/// The assembler: a source goes in line by line, and the items of its object come out (MMIXware,
+/// "MMIXAL"). Each statement's items come with its line; a reference to what a later statement
+/// defines is set right by a record when that comes.
+#[derive(Drop)]
+pub struct Assembler {
+    alloc: Global,
+    assembly: Assembly,
+    refused: Option<Refused>,
+}
+
+impl Model for Assembler {
+    ghost use Rattle.mx_asm.specs.OnePass.{Standing, standing};
+
+    ghost Value = { Standing };
+
+    ghost view = { λ a. standing a.assembly a.refused };
+}
+
+impl Assembler {
+    /// Before the first line. It is refused only out of memory.
+    pub fn new(alloc: Global) -> Result<Assembler, Refused>
+        ensures start { IfOk result (λ a. a ≡ Ok spec.beginning) }
+        ensures memory { IfErr result (λ refused. refused ≡ no_memory) }
+    {
+        Ok(Assembler {
+            alloc,
+            assembly: Assembly::new(alloc)?,
+            refused: None,
+        })
+    }
+
+    /// Takes the next line, a text without a newline byte, and adds the items of its statements. The
+    /// first call of `line` or `finish` adds what stands first in an object. After a refusal every
+    /// later call answers it again, and `out` has the items of the statements before the faulty one.
+    pub fn line(&mut self, text: &[u8], out: &mut Items) -> Result<(), Refused>
+        ensures answer { result ≡ map_ok (λ _. tt) self.new }
+        ensures taken { result ≢ Err no_memory → (out.new, self.new) ≡ spec.line_behind out.old self.old text.now }
+        ensures front { IsFront out.new (spec.line_behind out.old self.old text.now).0 }
+        ensures again { OnErr self.old ((out.new ≡ out.old) × (self.new ≡ self.old)) }
+    {
+        if let Some(refused) = self.refused {
+            return Err(refused);
+        }
+        match take_line(self.alloc, &mut self.assembly, out, text) {
+            Ok(()) => Ok(()),
+            Err(refused) => {
+                self.refused = Some(refused);
+                Err(refused)
+            }
+        }
+    }
+
+    /// Ends the source: adds the global registers, and gives the symbol trie with the zeros that
+    /// complete its last tetra. After a refusal every later call answers it again, and `out` has the
+    /// items of all statements, or of those before a faulty one.
+    pub fn finish(&mut self, out: &mut Items) -> Result<Bytes, Refused>
+        ensures ended { result ≢ Err no_memory → (out.new, result) ≡ spec.end_behind out.old self.old }
+        ensures refused { IfErr result (λ refused. self.new ≡ Err refused) }
+        ensures accepted { OnOk result (self.new ≡ map_ok spec.opened self.old) }
+        ensures front { IsFront out.new (spec.end_behind out.old self.old).0 }
+        ensures again { OnErr self.old ((out.new ≡ out.old) × (self.new ≡ self.old)) }
+    {
+        if let Some(refused) = self.refused {
+            return Err(refused);
+        }
+        match end(&mut self.assembly, out) {
+            Ok(trie) => Ok(trie),
+            Err(refused) => {
+                self.refused = Some(refused);
+                Err(refused)
+            }
+        }
+    }
+}
+
+/// Ends a source, behind what stands first in an object.
+fn end(assembly: &mut Assembly, out: &mut Items) -> Result<Bytes, Refused>
+    ensures ended { result ≢ Err no_memory → (out.new, result) ≡ spec.end_behind out.old (Ok assembly.old) }
+    ensures opened { OnOk result (assembly.new ≡ spec.opened assembly.old) }
+    ensures front { IsFront out.new (spec.end_behind out.old (Ok assembly.old)).0 }
+{
+    assembly.open(out)?;
+    assembly.end(out)
+}
+
+/// Takes a line, behind what stands first in an object.
+fn take_line(
+    alloc: Global,
+    assembly: &mut Assembly,
+    out: &mut Items,
+    text: &[u8],
+) -> Result<(), Refused>
+    ensures taken { result ≢ Err no_memory →
+        (out.new, spec.standing_after result assembly.new) ≡ spec.line_behind out.old (Ok assembly.old) text.now }
+    ensures front { IsFront out.new (spec.line_behind out.old (Ok assembly.old) text.now).0 }
+{
+    assembly.open(out)?;
+    let line = assembly.count(text)?;
+    take_statements(alloc, assembly, out, text, line)
+}

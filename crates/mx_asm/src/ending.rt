@@ -1,0 +1,108 @@
+//! The end of a source.
+
+ghost use Rattle.std.specs.Prelude.{◌≡◌, ◌≢◌, ◌≤◌, ◌++◌, Ok, Err, IfOk, OnOk, length};
+ghost use Rattle.mx_names.specs.Names.{value_of_name};
+ghost use Rattle.mx_asm.specs.Emission as emission;
+ghost use Rattle.mx_asm.specs.Fronts.{IsFront};
+ghost use Rattle.mx_asm.specs.Refusal.{undefined};
+ghost use Rattle.mx_asm.specs.OnePass as spec;
+
+use crate::AsmFault;
+use crate::head::zeros;
+use mx_mmo::{Item, Items, Octas};
+use mx_names::Names;
+use mx_stab::write;
+use mx_stmt::Gregs;
+use mx_word::{Awaited, Bytes, NoMemory, Value};
+use std::alloc::Global;
+
+/// The fault of a reference to what is never defined.
+pub(crate) fn undefined(who: &Awaited) -> AsmFault
+    ensures { result ≡ undefined who.now }
+{
+    match who {
+        Awaited::Name(_) => AsmFault::UndefinedSymbol,
+        Awaited::Local(_) => AsmFault::UndefinedLocal,
+    }
+}
+
+/// The fault at the end of a source with these names, with the lowest global register, and with one
+/// more than the greatest register that LOCAL named.
+pub(crate) fn main_fault(names: &Names, lowest: u8, locals: u16) -> Option<AsmFault>
+    ensures { result ≡ spec.main_fault lowest locals (value_of_name names.now emission.main_name) }
+{
+    match names.lookup(b":Main") {
+        None => Some(AsmFault::MainUndefined),
+        Some(Value::Reg(_)) => Some(AsmFault::MainRegister),
+        Some(Value::Pure(_)) => {
+            if u16::from(lowest) < locals {
+                Some(AsmFault::LocalAboveGlobals)
+            } else {
+                None
+            }
+        }
+    }
+}
+
+/// The address of Main.
+fn main_address(names: &Names) -> u64
+    ensures { result ≡ emission.main_of names.now }
+{
+    match names.lookup(b":Main") {
+        Some(Value::Pure(address)) => address,
+        _ => 0,
+    }
+}
+
+/// The symbol trie, with the zeros that complete its last tetra.
+pub(crate) fn padded_trie(alloc: Global, names: &Names) -> Result<Bytes, NoMemory>
+    ensures { IfOk result (λ trie. trie ≡ emission.padded_trie names.now) }
+{
+    let Ok(symbols) = names.sorted() else {
+        return Err(NoMemory);
+    };
+    let Ok(trie) = write(alloc, &symbols) else {
+        return Err(NoMemory);
+    };
+    padded(trie)
+}
+
+/// Bytes with the zeros that complete their last tetra.
+fn padded(bytes: Bytes) -> Result<Bytes, NoMemory>
+    ensures { IfOk result (λ trie. trie ≡ bytes ++ emission.zeros_after (length bytes)) }
+{
+    let mut bytes = bytes;
+    let count = bytes.as_slice().len();
+    bytes.extend(zeros((4 - count % 4) % 4))?;
+    Ok(bytes)
+}
+
+/// The values of the global registers that GREG gave.
+fn values(alloc: Global, gregs: &Gregs) -> Result<Octas, NoMemory>
+    requires { length gregs.now ≤ 223 }
+    ensures { IfOk result (λ values. values ≡ gregs.now) }
+{
+    let mut values = Octas::new(alloc);
+    for reg in gregs.lowest()..255 {
+        values.push(gregs.value_of(reg))?;
+    }
+    Ok(values)
+}
+
+/// Adds the global registers, and that the trie follows.
+pub(crate) fn close(
+    alloc: Global,
+    out: &mut Items,
+    names: &Names,
+    gregs: &Gregs,
+) -> Result<(), NoMemory>
+    requires { length gregs.now ≤ 223 }
+    ensures all { OnOk result (out.new ≡ out.old ++ emission.closing names.now gregs.now) }
+    ensures front { IsFront out.new (out.old ++ emission.closing names.now gregs.now) }
+{
+    let mut values = values(alloc, gregs)?;
+    values.push(main_address(names))?;
+    let g = gregs.lowest();
+    out.push(Item::Post { g, values })?;
+    out.push(Item::Stab)
+}

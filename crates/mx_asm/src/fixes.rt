@@ -1,0 +1,128 @@
+//! The fix records of references whose label stands now.
+
+ghost use Rattle.std.specs.Prelude.{◌≡◌, ◌≢◌, ◌+◌, ◌<◌, ◌≤◌, ◌^◌, Ok, Err, IfOk};
+ghost use Rattle.mx_stmt.specs.Forms.{forward_word, backward_word, relative_word};
+ghost use Rattle.mx_asm.specs.Emission.{moved, onto, fix_items};
+ghost use Rattle.mx_asm.specs.Faults.{no_memory};
+ghost use Rattle.mx_asm.specs.Fixes as spec;
+
+use crate::{AsmFault, Refused};
+use mx_mmo::{Item, Items};
+use mx_word::{NoMemory, Value, Wait, WaitKind};
+use std::alloc::Global;
+
+/// The record that adds a word to a tetra.
+fn word_fix(bits: u8, word: u32) -> Item
+    ensures { result ≡ spec.word_fix bits word }
+{
+    if word < 0x1_0000 {
+        Item::FixNear(word as u16)
+    } else {
+        Item::FixFar { bits, word }
+    }
+}
+
+/// The record of a relative address to a label so far ahead.
+fn forward_fix(bits: u8, reach: u32, distance: u64) -> Result<Item, AsmFault>
+    ensures { result ≡ spec.relative_fix bits (forward_word 0 reach distance) }
+{
+    if distance % 4 != 0 {
+        Err(AsmFault::FutureNotMultiple)
+    } else if distance / 4 < u64::from(reach) {
+        Ok(word_fix(bits, (distance / 4) as u32))
+    } else {
+        Err(AsmFault::FutureTooFar)
+    }
+}
+
+/// The record of a relative address to a label so far back.
+fn backward_fix(bits: u8, reach: u32, distance: u64) -> Result<Item, AsmFault>
+    requires { reach ≤ 2 ^ 24 }
+    ensures { result ≡ spec.relative_fix bits (backward_word 0 reach distance) }
+{
+    if distance % 4 != 0 {
+        Err(AsmFault::FutureNotMultiple)
+    } else if distance / 4 <= u64::from(reach) {
+        Ok(word_fix(bits, 0x100_0000 + (reach - (distance / 4) as u32)))
+    } else {
+        Err(AsmFault::FutureTooFar)
+    }
+}
+
+/// The record of a relative address at a place to a label.
+fn relative_fix(bits: u8, reach: u32, place: u64, label: u64) -> Result<Item, AsmFault>
+    requires { reach ≤ 2 ^ 24 }
+    ensures { result ≡ spec.relative_fix bits (relative_word 0 reach place label) }
+{
+    if place <= label {
+        forward_fix(bits, reach, label - place)
+    } else {
+        backward_fix(bits, reach, place - label)
+    }
+}
+
+/// The record of a reference whose label has this value.
+fn fix(value: Value, wait: &Wait) -> Result<Item, AsmFault>
+    ensures { result ≡ spec.fix_of value wait.now }
+{
+    match value {
+        Value::Reg(_) => Err(AsmFault::FutureRegister),
+        Value::Pure(label) => match wait.kind {
+            WaitKind::Octa => Ok(Item::FixOcta(wait.at)),
+            WaitKind::Near => relative_fix(16, 0x1_0000, wait.at, label),
+            WaitKind::Far => relative_fix(24, 0x100_0000, wait.at, label),
+        },
+    }
+}
+
+/// Adds the records of references to the label of a line.
+#[tactic(auto, using(crate::proofs::FixLists::fixing))]
+fn with_fixes(items: Items, line: u32, value: Value, waits: &[Wait]) -> Result<Items, Refused>
+    ensures { result ≢ Err no_memory → result ≡ onto items (spec.fixes line value waits.now) }
+{
+    let mut items = items;
+    for wait in waits {
+        match fix(value, wait) {
+            Ok(item) => items.push(item)?,
+            Err(fault) => {
+                return Err(Refused {
+                    line,
+                    fault,
+                    from_line: wait.line,
+                });
+            }
+        }
+    }
+    Ok(items)
+}
+
+/// The address of a label, where lambda is another.
+fn moved(alloc: Global, lambda: u64, value: Value) -> Result<Items, NoMemory>
+    ensures { IfOk result (λ items. items ≡ moved lambda value) }
+{
+    let mut items = Items::new(alloc);
+    if let Value::Pure(address) = value {
+        if lambda != address {
+            items.push(Item::Loc(address))?;
+        }
+    }
+    Ok(items)
+}
+
+/// The records of the references that wait for the label of a line, or their first refusal; nothing
+/// where none waits.
+pub(crate) fn fix_items(
+    alloc: Global,
+    lambda: u64,
+    line: u32,
+    value: Value,
+    waits: &[Wait],
+) -> Result<Items, Refused>
+    ensures { result ≢ Err no_memory → result ≡ fix_items lambda line value waits.now }
+{
+    if waits.is_empty() {
+        return Ok(Items::new(alloc));
+    }
+    let items = moved(alloc, lambda, value)?;
+    with_fixes(items, line, value, waits)
+}

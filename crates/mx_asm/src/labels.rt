@@ -1,0 +1,134 @@
+//! Labels of statements, and the references that wait for them.
+
+ghost use Rattle.std.specs.Prelude.{◌≡◌, ◌≢◌, ◌<◌, ◌≤◌, ◌+◌, Ok, Err, OnOk, IfSome, IfErr, length};
+ghost use Rattle.mx_names.specs.Names.{AreNames, IsFullName, define_answer};
+ghost use Rattle.mx_names.specs.Waiting.{waits_for, waits_for_others};
+ghost use Rattle.mx_stmt.specs.Operands.{symbol_form};
+ghost use Rattle.mx_stmt.specs.Reading.{LabelHasDigit};
+ghost use Rattle.mx_asm.specs.OnePass as spec;
+
+use crate::AsmFault;
+use mx_names::{NameFault, Names};
+use mx_stmt::Label;
+use mx_word::{Awaited, Bytes, NoMemory, Value, Waits};
+use std::alloc::Global;
+
+/// Makes references wait.
+fn wait_for(names: &mut Names, waits: Waits) -> Result<(), AsmFault>
+    ensures waiting { OnOk result (names.new ≡ spec.with_waits names.old waits) }
+    ensures only { IfErr result (λ fault. fault ≡ AsmFault.OutOfMemory) }
+    ensures kept { AreNames names.old → AreNames names.new }
+    ensures symbols { names.new.symbols ≡ names.old.symbols }
+{
+    for wait in waits.into_vec() {
+        let Ok(()) = names.wait_for(wait) else {
+            return Err(AsmFault::OutOfMemory);
+        };
+    }
+    Ok(())
+}
+
+/// Gives and removes the references that wait for a name or a local label.
+fn take_waiting(names: &mut Names, who: &Awaited) -> Result<Waits, AsmFault>
+    ensures taken { result ≢ Err AsmFault.OutOfMemory →
+        spec.labelled_after result names.new ≡ Ok (record names.old { waiting = waits_for_others who.now names.old.waiting }, waits_for who.now names.old.waiting) }
+    ensures kept { AreNames names.new }
+    ensures symbols { names.new.symbols ≡ names.old.symbols }
+{
+    match names.take_waiting(who) {
+        Ok(waits) => Ok(waits),
+        Err(_) => Err(AsmFault::OutOfMemory),
+    }
+}
+
+/// Defines a symbol, and takes the references that wait for it, those of its own statement among
+/// them.
+fn define_symbol(
+    alloc: Global,
+    names: &mut Names,
+    full: Bytes,
+    value: Value,
+    waits: Waits,
+) -> Result<Waits, AsmFault>
+    requires full { IsFullName full }
+    requires room { length names.old.symbols < 0xffff_ffff }
+    ensures labelled { result ≢ Err AsmFault.OutOfMemory →
+        spec.labelled_after result names.new ≡ spec.symbol_defined names.old full value waits (define_answer names.old full) }
+    ensures kept { AreNames names.old → AreNames names.new }
+    ensures few { length names.new.symbols ≤ length names.old.symbols + 1 }
+{
+    let who = Awaited::Name(Bytes::copy(alloc, full.as_slice())?);
+    wait_for(names, waits)?;
+    match names.define(full, value) {
+        Ok(()) => take_waiting(names, &who),
+        Err(NameFault::OutOfMemory) => Err(AsmFault::OutOfMemory),
+        Err(fault) => Err(AsmFault::Name(fault)),
+    }
+}
+
+/// Defines a label by its symbol.
+fn define_name(
+    alloc: Global,
+    names: &mut Names,
+    text: &[u8],
+    value: Value,
+    waits: Waits,
+) -> Result<Waits, AsmFault>
+    requires room { length names.old.symbols < 0xffff_ffff }
+    ensures labelled { result ≢ Err AsmFault.OutOfMemory →
+        spec.labelled_after result names.new ≡ spec.symbol_label names.old value waits (symbol_form names.old text.now) }
+    ensures kept { AreNames names.old → AreNames names.new }
+    ensures few { length names.new.symbols ≤ length names.old.symbols + 1 }
+{
+    match names.resolve(text) {
+        Ok(full) => define_symbol(alloc, names, full, value, waits),
+        Err(NameFault::OutOfMemory) => Err(AsmFault::OutOfMemory),
+        Err(fault) => Err(AsmFault::Name(fault)),
+    }
+}
+
+/// Defines a local label; the references of its own statement wait for a later one.
+fn define_local(names: &mut Names, d: u8, value: Value, waits: Waits) -> Result<Waits, AsmFault>
+    requires digit { d ≤ 9 }
+    ensures labelled { result ≢ Err AsmFault.OutOfMemory →
+        spec.labelled_after result names.new ≡ spec.local_label names.old d value waits }
+    ensures kept { AreNames names.old → AreNames names.new }
+    ensures few { length names.new.symbols ≤ length names.old.symbols + 1 }
+{
+    let taken = take_waiting(names, &Awaited::Local(d))?;
+    names.define_local(d, value);
+    wait_for(names, waits)?;
+    Ok(taken)
+}
+
+/// Defines the label of a statement, if it has one, with its value, and takes the references that
+/// wait for it. The references of the statement begin to wait.
+pub(crate) fn define(
+    alloc: Global,
+    names: &mut Names,
+    label: &Option<Label>,
+    value: Option<Value>,
+    waits: Waits,
+) -> Result<Waits, AsmFault>
+    requires room { length names.old.symbols < 0xffff_ffff }
+    requires digit { IfSome label.now LabelHasDigit }
+    ensures labelled { result ≢ Err AsmFault.OutOfMemory →
+        spec.labelled_after result names.new ≡ spec.labelled names.old label.now value waits }
+    ensures kept { AreNames names.old → AreNames names.new }
+    ensures few { length names.new.symbols ≤ length names.old.symbols + 1 }
+{
+    match (label, value) {
+        (Some(Label::Name(text)), Some(value)) => define_name(
+            alloc,
+            names,
+            text.as_slice(),
+            value,
+            waits,
+        ),
+        (Some(Label::Local(d)), Some(value)) => define_local(names, *d, value, waits),
+        _ => {
+            wait_for(names, waits)?;
+            Ok(Waits::new(alloc))
+        }
+    }
+}

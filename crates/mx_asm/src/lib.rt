@@ -1,0 +1,20 @@
+//! The assembler of MMIXAL: the lines of a source become the items of an object.
+#![tactic(auto)]
+
+mod assembler;
+mod assembly;
+mod ending;
+mod faults;
+mod fixes;
+mod head;
+mod labels;
+mod laws;
+mod lines;
+mod refused;
+#[cfg(test)]
+mod tests;
+
+pub use assembler::Assembler;
+pub use faults::AsmFault;
+pub use laws::lines_give_the_front;
+pub use refused::Refused;

@@ -1,0 +1,91 @@
+//! The statements of a line, one after another.
+
+ghost use Rattle.std.specs.Prelude.{◌≡◌, ◌≢◌, ◌+◌, ◌<◌, ◌≤◌, ◌++◌, Result, Ok, Err, IfOk, IfErr, OnOk, length, map};
+ghost use Rattle.mx_word.specs.Results.{map_ok};
+ghost use Rattle.mx_line.specs.Source.{item_of};
+ghost use Rattle.mx_stmt.specs.Encoding.{statement_tree};
+ghost use Rattle.mx_stmt.specs.Reading.{CutWithin, StatementHasDigits};
+ghost use Rattle.mx_asm.specs.Entries as entries;
+ghost use Rattle.mx_asm.specs.Faults.{no_memory};
+ghost use Rattle.mx_asm.specs.Fronts.{IsFront};
+ghost use Rattle.mx_asm.specs.OnePass as spec;
+
+use crate::assembly::Assembly;
+use crate::{AsmFault, Refused};
+use mx_line::{Cut, next_statement};
+use mx_mmo::Items;
+use mx_stmt::{Statement, StmtFault, read_statement};
+use mx_word::NoMemory;
+use std::alloc::Global;
+
+/// Adds items to others. Where there is no memory, a front of them is added.
+fn append(out: &mut Items, items: Items) -> Result<(), NoMemory>
+    ensures all { OnOk result (out.new ≡ out.old ++ items) }
+    ensures front { IsFront out.new (out.old ++ items) }
+{
+    for item in items.into_vec() {
+        out.push(item)?;
+    }
+    Ok(())
+}
+
+/// The statement that was cut from a line with this number.
+#[tactic(auto, using(crate::proofs::ReadEntries::reads))]
+fn read(alloc: Global, text: &[u8], cut: &Cut, line: u32) -> Result<Statement, Refused>
+    requires { CutWithin (length text.now) cut.now }
+    ensures entry { result ≢ Err no_memory → map_ok statement_tree result ≡ entries.entry_of (item_of line text.now (Ok cut.now)) }
+    ensures digits { IfOk result StatementHasDigits }
+{
+    match read_statement(alloc, text, cut, line) {
+        Ok(s) => Ok(s),
+        Err(StmtFault::OutOfMemory) => Err(Refused::no_memory()),
+        Err(fault) => Err(Refused::at(line, AsmFault::Stmt(fault))),
+    }
+}
+
+/// Takes the statement that was cut from a line with this number, and adds its items.
+#[tactic(auto, using(crate::proofs::Fronts::fronts))]
+fn take_cut(
+    alloc: Global,
+    assembly: &mut Assembly,
+    out: &mut Items,
+    text: &[u8],
+    cut: &Cut,
+    line: u32,
+) -> Result<(), Refused>
+    requires { CutWithin (length text.now) cut.now }
+    ensures taken { result ≢ Err no_memory → (out.new, spec.standing_after result assembly.new) ≡
+        spec.behind_entry out.old (spec.entry_taken assembly.old (entries.entry_of (item_of line text.now (Ok cut.now)))) }
+    ensures front { IsFront out.new (spec.behind_entry out.old (spec.entry_taken assembly.old (entries.entry_of (item_of line text.now (Ok cut.now))))).0 }
+{
+    let statement = read(alloc, text, cut, line)?;
+    let items = assembly.take(&statement)?;
+    append(out, items)?;
+    Ok(())
+}
+
+/// Takes the statements of a line with this number.
+#[tactic(auto, using(crate::proofs::LineEntries::entering))]
+pub(crate) fn take_statements(
+    alloc: Global,
+    assembly: &mut Assembly,
+    out: &mut Items,
+    text: &[u8],
+    line: u32,
+) -> Result<(), Refused>
+    ensures taken { result ≢ Err no_memory → (out.new, spec.standing_after result assembly.new) ≡
+        spec.entries_taken (entries.line_entries line text.now) out.old assembly.old }
+    ensures front { IsFront out.new (spec.entries_taken (entries.line_entries line text.now) out.old assembly.old).0 }
+{
+    let mut at = 0;
+    'statements: loop {
+        match next_statement(text, at) {
+            Ok(None) => return Ok(()),
+            Err(fault) => return Err(Refused::at(line, AsmFault::Line(fault))),
+            Ok(Some(cut)) => {
+                take_cut(alloc, assembly, out, text, &cut, line)?;
+                at = cut.next;
+            }
+        }
+    }
+}

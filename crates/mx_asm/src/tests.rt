@@ -1,0 +1,209 @@
+//! Whole sources: the items that they give, and their refusals.
+
+use crate::{AsmFault, Assembler, Refused};
+use mx_line::cut_line;
+use mx_mmo::{Item, Items};
+use mx_word::Bytes;
+use std::alloc::Global;
+
+/// An item as the number of its kind and a number.
+fn told(item: &Item) -> (u8, u64) {
+    match item {
+        Item::Load(tetra) => (255, u64::from(*tetra)),
+        Item::Loc(address) => (1, *address),
+        Item::Skip(count) => (2, u64::from(*count)),
+        Item::FixOcta(address) => (3, *address),
+        Item::FixNear(count) => (4, u64::from(*count)),
+        Item::FixFar { bits, word } => (*bits, u64::from(*word)),
+        Item::File { number, .. } => (6, u64::from(*number)),
+        Item::Line(line) => (7, u64::from(*line)),
+        Item::Spec(number) => (8, u64::from(*number)),
+        Item::Pre(tetras) => (9, tetras.as_slice().len() as u64),
+        Item::Post { g, .. } => (10, u64::from(*g)),
+        Item::Stab => (11, 0),
+    }
+}
+
+/// The items and the trie of a source.
+fn assembled(alloc: Global, source: &[u8]) -> Result<(Items, Bytes), Refused> {
+    let mut assembler = Assembler::new(alloc)?;
+    let mut items = Items::new(alloc);
+    let mut rest = source;
+    for _line in 0..source.len() {
+        if rest.is_empty() {
+            break;
+        }
+        let (line, others) = cut_line(rest);
+        assembler.line(line, &mut items)?;
+        rest = others;
+    }
+    let trie = assembler.finish(&mut items)?;
+    Ok((items, trie))
+}
+
+/// Whether items are these, behind those that stand first and before those that stand last.
+fn are(items: &Items, want: &[(u8, u64)]) -> bool {
+    let items = items.as_slice();
+    items.len() == want.len() + 4
+        && items
+            .iter()
+            .skip(2)
+            .zip(want)
+            .all(|(item, want)| told(item) == *want)
+}
+
+/// Whether the items of a source are these.
+fn gives(alloc: Global, source: &[u8], want: &[(u8, u64)]) -> bool {
+    match assembled(alloc, source) {
+        Ok((items, _)) => are(&items, want),
+        Err(_) => false,
+    }
+}
+
+/// The line, the number and the line of the reference of a refusal; zeros without one.
+fn refusal(alloc: Global, source: &[u8]) -> (u32, u16, u32) {
+    match assembled(alloc, source) {
+        Ok(_) => (0, 0, 0),
+        Err(refused) => (refused.line, refused.fault.number(), refused.from_line),
+    }
+}
+
+#[test]
+fn items(rt: HostRuntime) {
+    for (source, want) in [
+        // a forward reference, lines that count by themselves, and a register as a symbol
+        (
+            b"argv IS $1\n LOC #100\nMain LDOU $255,argv,0\n TRAP 0,Fputs,StdOut\n GETA $255,String\n TRAP 0,Fputs,StdOut\n TRAP 0,Halt,0\nString BYTE \", world\",#a,0\n".as_slice(),
+            [
+                (1, 0x100),
+                (7, 3),
+                (255, 0x8fff_0100),
+                (255, 0x701),
+                (255, 0xf4ff_0000),
+                (255, 0x701),
+                (255, 0),
+                (4, 3),
+                (255, 0x2c20_776f),
+                (255, 0x726c_640a),
+                (255, 0),
+            ]
+            .as_slice(),
+        ),
+        // the longest way ahead, at which no tetra stands between
+        (
+            b"Main BZ $0,x\n LOC Main+4*65535\nx TRAP 0,Halt,0".as_slice(),
+            [
+                (7, 1),
+                (255, 0x4200_0000),
+                (1, 0x3_fffc),
+                (4, 65535),
+                (7, 3),
+                (255, 0),
+            ]
+            .as_slice(),
+        ),
+        // a way back, by the long record
+        (
+            b" LOC #200\nMain BZ $0,x\n LOC #100\nx TRAP 0,Halt,0".as_slice(),
+            [
+                (1, 0x200),
+                (7, 2),
+                (255, 0x4200_0000),
+                (1, 0x100),
+                (16, 0x100_ffc0),
+                (7, 4),
+                (255, 0),
+            ]
+            .as_slice(),
+        ),
+        // a label 2H is none of its own statement
+        (
+            b"Main SWYM\n2H JMP 2F\n2H JMP 2B".as_slice(),
+            [
+                (7, 1),
+                (255, 0xfd00_0000),
+                (255, 0xf000_0000),
+                (4, 1),
+                (255, 0xf1ff_ffff),
+            ]
+            .as_slice(),
+        ),
+        // bytes on one another
+        (
+            b"Main BYTE 1\n LOC 0\n BYTE 3\n TETRA #98000000".as_slice(),
+            [
+                (7, 1),
+                (255, 0x100_0000),
+                (1, 0),
+                (7, 3),
+                (255, 0x300_0000),
+                (255, 0x9800_0000),
+            ]
+            .as_slice(),
+        ),
+        // an octa that waits for an address
+        (
+            b" LOC Data_Segment\n GREG @\nArgs OCTA Buf,8\nBuf OCTA 0\n LOC #100\nMain LDA $255,Args\n TRAP 0,Fgets,StdIn\n TRAP 0,Halt,0".as_slice(),
+            [
+                (1, 0x2000_0000_0000_0000),
+                (7, 3),
+                (255, 0),
+                (255, 0),
+                (255, 0),
+                (255, 8),
+                (3, 0x2000_0000_0000_0000),
+                (7, 4),
+                (255, 0),
+                (255, 0),
+                (1, 0x100),
+                (255, 0x23ff_fe00),
+                (255, 0x400),
+                (255, 0),
+            ]
+            .as_slice(),
+        ),
+    ] {
+        assert!(rt; gives(rt.alloc(), source, want), "{} items", want.len());
+    }
+}
+
+#[test]
+fn refusals(rt: HostRuntime) {
+    for (source, want) in [
+        // nothing, so no Main
+        (b"".as_slice(), (1, 82, 0)),
+        (b"Main SWYM".as_slice(), (0, 0, 0)),
+        // the first reference to what is never defined
+        (
+            b"Main SWYM\n SWYM\n JMP x\n SWYM\n JMP x".as_slice(),
+            (3, 80, 0),
+        ),
+        (b"1H OCTA 1F,x".as_slice(), (1, 81, 0)),
+        // a label out of reach, a register, and no multiple of 4
+        (
+            b"Main BZ $0,x\n LOC Main+4*65536\nx TRAP 0,Halt,0".as_slice(),
+            (3, 85, 1),
+        ),
+        (
+            b"Main JMP x\n BZ $0,x\n BZ $0,x\nx IS #80000".as_slice(),
+            (4, 85, 2),
+        ),
+        (b"Main JMP x\nx IS $1".as_slice(), (2, 84, 1)),
+        (b"Main JMP x\nx IS 6".as_slice(), (2, 89, 1)),
+        // an unknown symbol with a prefix, a predefined one, and one that stands twice
+        (b" PREFIX p:\n:Main TRAP 0,Halt,0".as_slice(), (2, 17, 0)),
+        (b"Halt IS 0".as_slice(), (1, 31, 0)),
+        (b"x IS 1\nx IS 2".as_slice(), (2, 30, 0)),
+        (b"Main IS $1".as_slice(), (1, 83, 0)),
+        // LOCAL at the lowest global register
+        (b"Main SWYM\n LOCAL $254".as_slice(), (0, 0, 0)),
+        (b"Main SWYM\n LOCAL $254\n GREG 0\n".as_slice(), (3, 87, 0)),
+        // lines
+        (b"2X SWYM".as_slice(), (1, 3, 0)),
+        (b"a".as_slice(), (1, 7, 0)),
+        (b" FROB".as_slice(), (1, 39, 0)),
+        (b" BYTE 256".as_slice(), (1, 43, 0)),
+    ] {
+        assert_eq!(rt; refusal(rt.alloc(), source), want);
+    }
+}
