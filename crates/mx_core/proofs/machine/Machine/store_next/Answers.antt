@@ -1,0 +1,13 @@
+use Rattle.std.proofs.Common.{arith}
+use Rattle.mx_core.specs.Kept.{state_of}
+use Rattle.mx_core.proofs.Starts.{stored-negative, stored-some, stored-none}
+use Rattle.mx_core.proofs.machine.Machine.store_next.Goals as goal
+
+pub returns-then-a-clause-stored : goal.returns-then-a-clause-stored
+returns-then-a-clause-stored c = λ _. stored-negative (state_of c.args.self.now) c.args.a c.args.x c.if-a.true
+
+pub returns-in-Ok-clause-stored : goal.returns-in-Ok-clause-stored
+returns-in-Ok-clause-stored c = λ _. stored-some (state_of c.args.self.now) (state_of c.store_octa.new.self) c.args.a c.args.x c.if-a.false (c.in-Ok.ensures.ok (λ e. absurd (cc)))
+
+pub returns-in-Err-PagesFull-clause-stored : goal.returns-in-Err-PagesFull-clause-stored
+returns-in-Err-PagesFull-clause-stored c = λ _. stored-none (state_of c.args.self.now) (state_of c.store_octa.new.self) c.args.a c.args.x c.in-Err-PagesFull.field-0 c.if-a.false (c.in-Err-PagesFull.ensures.ok (λ e. absurd (cc (e, c.in-Err-PagesFull.field-0-is))))

@@ -1,0 +1,42 @@
+use Rattle.std.proofs.Common.{◌≡◌, ap, ◌∙◌, refl, sym, Err, None}
+use Rattle.mx_core.specs.Calls.{store_seen}
+use Rattle.mx_core.specs.Deeds.{onward}
+use Rattle.mx_core.specs.Effects.{stored_part, stored_value, stored_event}
+use Rattle.mx_core.specs.Instructions.{x_of, next_of}
+use Rattle.mx_core.specs.Kept.{state_of}
+use Rattle.mx_core.specs.State.{State, begins_page}
+use Rattle.mx_core.proofs.Answered.{refused-as, made-as}
+use Rattle.mx_core.proofs.Stores.{store_negative, store_page, store_plain, stored-ok, stored-err}
+use Rattle.mx_core.proofs.Unchanged.{lacks_as, lacks_where}
+use Rattle.mx_core.proofs.machine.Machine.store_register.Goals as goal
+
+pub returns-then-a-clause-answer : goal.returns-then-a-clause-answer
+returns-then-a-clause-answer c = λ m.
+    rw (store_negative c.args.how (state_of c.args.self.now) c.args.i.now c.data_address-a.result c.data_address-a.ensures c.if-a.true) refl
+
+pub returns-in-Ok-clause-answer : goal.returns-in-Ok-clause-answer
+returns-in-Ok-clause-answer c = λ m.
+    let s = state_of c.args.self.now in
+    let event : stored_event c.args.how c.x_register-x.result ≡ None = c.overflows.ensures ∙ rw c.if-overflows.false refl in
+    let ok = stored-ok s (state_of c.store.new.self) c.data_address-a.result c.stored_part.result c.stored_value.result (c.in-Ok.ensures.answer (λ e. cc)) in
+    let after : state_of c.store.new.self ≡ store_seen s c.data_address-a.result (stored_part c.args.how) (stored_value c.args.how c.x_register-x.result (x_of c.args.i.now)) =
+    ok.1 ∙ rw (c.stored_part.ensures, c.stored_value.ensures, c.x.ensures) refl in
+    made-as _ _ s (state_of c.go_to.new.self) _ _ (store_plain c.args.how s c.args.i.now c.data_address-a.result c.x_register-x.result c.data_address-a.ensures c.x_register-x.ensures c.if-a.false event) ok.0
+    (c.go_to.ensures ∙ ap (λ n. onward (state_of c.store.new.self) n) c.next.ensures ∙ ap (λ (t : State). onward t (next_of c.args.i.now)) after)
+
+pub returns-in-Err-clause-answer : goal.returns-in-Err-clause-answer
+returns-in-Err-clause-answer c = λ m.
+    let s = state_of c.args.self.now in
+    let event : stored_event c.args.how c.x_register-x.result ≡ None = c.overflows.ensures ∙ rw c.if-overflows.false refl in
+    let err = stored-err s (state_of c.store.new.self) c.data_address-a.result c.stored_part.result c.stored_value.result c.in-Err.stop (c.in-Err.ensures.answer m) in
+    refused-as _ _ s (state_of c.store.new.self) _ c.in-Err.stop _ (store_plain c.args.how s c.args.i.now c.data_address-a.result c.x_register-x.result c.data_address-a.ensures c.x_register-x.ensures c.if-a.false event) err
+
+pub returns-then-overflows-clause-there : goal.returns-then-overflows-clause-there
+returns-then-overflows-clause-there c =
+    let s = state_of c.args.self.now in
+    lacks_as _ _ c.store_overflowing.result (ap (λ a. begins_page s a) c.data_address-a.ensures ∙ sym (store_page c.args.how s c.args.i.now)) c.store_overflowing.ensures.there
+
+pub returns-in-Err-clause-there : goal.returns-in-Err-clause-there
+returns-in-Err-clause-there c =
+    let s = state_of c.args.self.now in
+    lacks_as _ _ (Err c.in-Err.stop) (ap (λ a. begins_page s a) c.data_address-a.ensures ∙ sym (store_page c.args.how s c.args.i.now)) (lacks_where _ _ c.in-Err.ensures.there)

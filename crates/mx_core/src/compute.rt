@@ -1,0 +1,135 @@
+//! Instructions that give $X a value and do nothing else.
+
+ghost use Rattle.std.specs.Prelude.{◌≡◌, true};
+ghost use Rattle.mx_core.specs.Calls.{CarriesOut};
+ghost use Rattle.mx_core.specs.Effects as spec;
+ghost use Rattle.mx_core.specs.Instructions.{code_of, operation_in};
+ghost use Rattle.mx_core.specs.Kept.{state_of};
+ghost use Rattle.mx_core.specs.Operations.{has_condition};
+ghost use Rattle.mx_alu.specs.Truth as conditions;
+
+use crate::Machine;
+use crate::instruction::Instruction;
+use crate::operation::Operation;
+use crate::stop::Stop;
+use mx_alu::{Extra, alu, truth, wyde};
+
+impl Machine {
+    /// MUL to SRU and OR to MXOR, but for NEG and NEGU.
+    #[tactic(auto, using(crate::proofs::Events::compute_outcome, crate::proofs::Tables::computes))]
+    #[inline(always)]
+    pub(crate) fn compute(&mut self, i: &Instruction) -> Result<(), Stop>
+        requires { operation_in i.now ≡ Operation.Compute }
+        ensures { CarriesOut Operation.Compute i.now result self.old self.new }
+    {
+        let (y, z) = (self.y_operand(i), self.z_operand(i));
+        let a = alu(i.code(), y, z, self.extra());
+        self.answer(i, y, z, &a)
+    }
+
+    /// NEG and NEGU.
+    #[tactic(auto, using(crate::proofs::Events::negate_outcome, crate::proofs::Tables::negates))]
+    #[inline(always)]
+    pub(crate) fn negate(&mut self, i: &Instruction) -> Result<(), Stop>
+        requires { operation_in i.now ≡ Operation.Negate }
+        ensures { CarriesOut Operation.Negate i.now result self.old self.new }
+    {
+        let (y, z) = (u64::from(i.y()), self.z_operand(i));
+        let a = alu(i.code(), y, z, self.extra());
+        self.answer(i, y, z, &a)
+    }
+
+    /// rD and rM, which divisions and MUX read.
+    #[tactic(auto, unfolding(crate::specs::Kept::state_of, crate::specs::State::special_register))]
+    #[inline(always)]
+    fn extra(&self) -> Extra
+        ensures { result ≡ spec.extra_of (state_of self.now) }
+    {
+        Extra {
+            d: self.special[1],
+            m: self.special[5],
+        }
+    }
+
+    /// SETH to ANDNL.
+    #[tactic(auto, using(crate::proofs::Outcomes::wyde_outcome, crate::proofs::Tables::wyde_low, crate::proofs::Tables::wyde_high))]
+    #[inline(always)]
+    pub(crate) fn set_wyde(&mut self, i: &Instruction) -> Result<(), Stop>
+        requires { operation_in i.now ≡ Operation.Wyde }
+        ensures { CarriesOut Operation.Wyde i.now result self.old self.new }
+    {
+        let value = match i.given {
+            None => wyde(i.code(), self.x_register(i), wyde_value(i)),
+            Some((y, z)) => wyde(i.code(), y, z),
+        };
+        self.settle(i, value, i.next())
+    }
+
+    /// CSN to CSEV.
+    #[tactic(auto, using(crate::proofs::Outcomes::conditional_outcome), unfolding(crate::specs::Operations::has_condition))]
+    #[inline(always)]
+    pub(crate) fn conditional_set(&mut self, i: &Instruction) -> Result<(), Stop>
+        requires { operation_in i.now ≡ Operation.ConditionalSet }
+        ensures { CarriesOut Operation.ConditionalSet i.now result self.old self.new }
+    {
+        let value = if holds(i, self.y_operand(i)) {
+            self.z_operand(i)
+        } else {
+            self.x_register(i)
+        };
+        self.settle(i, value, i.next())
+    }
+
+    /// ZSN to ZSEV.
+    #[tactic(auto, using(crate::proofs::Outcomes::zero_outcome), unfolding(crate::specs::Operations::has_condition))]
+    #[inline(always)]
+    pub(crate) fn zero_or_set(&mut self, i: &Instruction) -> Result<(), Stop>
+        requires { operation_in i.now ≡ Operation.ZeroOrSet }
+        ensures { CarriesOut Operation.ZeroOrSet i.now result self.old self.new }
+    {
+        let value = if holds(i, self.y_operand(i)) {
+            self.z_operand(i)
+        } else {
+            0
+        };
+        self.settle(i, value, i.next())
+    }
+
+    /// GETA.
+    #[tactic(auto, using(crate::proofs::Outcomes::address_outcome))]
+    #[inline(always)]
+    pub(crate) fn get_address(&mut self, i: &Instruction) -> Result<(), Stop>
+        ensures { CarriesOut Operation.Address i.now result self.old self.new }
+    {
+        self.settle(i, i.near_address(), i.next())
+    }
+
+    /// GO.
+    #[tactic(auto, using(crate::proofs::Outcomes::go_outcome))]
+    #[inline(always)]
+    pub(crate) fn go(&mut self, i: &Instruction) -> Result<(), Stop>
+        ensures { CarriesOut Operation.Go i.now result self.old self.new }
+    {
+        self.settle(i, i.next(), self.data_address(i))
+    }
+}
+
+/// The immediate wyde of an instruction at its place.
+#[tactic(auto, using(crate::proofs::Tables::wyde_low, crate::proofs::Tables::wyde_high))]
+#[inline(always)]
+fn wyde_value(i: &Instruction) -> u64
+    requires { operation_in i.now ≡ Operation.Wyde }
+    ensures { result ≡ spec.wyde_value i.now }
+{
+    i.yz() << (48 - 16 * (u32::from(i.code()) % 4))
+}
+
+/// Whether the condition of an instruction holds of an octa.
+#[tactic(auto, using(crate::proofs::Tables::condition_low, crate::proofs::Tables::condition_high))]
+#[inline(always)]
+pub(crate) fn holds(i: &Instruction, x: u64) -> bool
+    requires { has_condition (operation_in i.now) ≡ true }
+    ensures { result ≡ conditions.truth (code_of i.now) x }
+{
+    truth(i.code(), x)
+}

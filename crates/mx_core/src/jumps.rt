@@ -1,0 +1,121 @@
+//! Instructions that go elsewhere: branches, jumps, calls and returns.
+
+ghost use Rattle.std.specs.Prelude.{◌≡◌};
+ghost use Rattle.mx_ring.specs.Stack.{pop_underflows, popped, push_overfills, pushed};
+ghost use Rattle.mx_core.specs.Calls as spec;
+ghost use Rattle.mx_core.specs.Calls.{CarriesOut, Makes, unless};
+ghost use Rattle.mx_core.specs.Deeds.{with_stack};
+ghost use Rattle.mx_core.specs.Instructions.{operation_in};
+ghost use Rattle.mx_core.specs.Kept.{state_of};
+ghost use Rattle.mx_core.specs.declared.reason.Reason.TheVariants as reasons;
+
+use crate::compute::holds;
+use crate::instruction::Instruction;
+use crate::operation::Operation;
+use crate::stop::Stop;
+use crate::trips::RJ;
+use crate::{Machine, Reason};
+
+impl Machine {
+    /// BN to PBEV.
+    #[tactic(auto, using(crate::proofs::Others::branch_outcome), unfolding(crate::specs::Operations::has_condition))]
+    #[inline(always)]
+    pub(crate) fn branch(&mut self, i: &Instruction) -> Result<(), Stop>
+        requires { operation_in i.now ≡ Operation.Branch }
+        ensures { CarriesOut Operation.Branch i.now result self.old self.new }
+    {
+        let address = if holds(i, self.x_register(i)) {
+            i.near_address()
+        } else {
+            i.next()
+        };
+        self.go_to(address);
+        Ok(())
+    }
+
+    /// JMP.
+    #[tactic(auto, using(crate::proofs::Others::jump_outcome))]
+    #[inline(always)]
+    pub(crate) fn jump(&mut self, i: &Instruction) -> Result<(), Stop>
+        ensures { CarriesOut Operation.Jump i.now result self.old self.new }
+    {
+        self.go_to(i.far_address());
+        Ok(())
+    }
+
+    /// PUSHJ.
+    #[tactic(auto, using(crate::proofs::Others::push_jump_outcome))]
+    #[inline(always)]
+    pub(crate) fn push_jump(&mut self, i: &Instruction) -> Result<(), Stop>
+        ensures { CarriesOut Operation.PushJump i.now result self.old self.new }
+    {
+        self.push_to(i, i.near_address())
+    }
+
+    /// PUSHGO.
+    #[tactic(auto, using(crate::proofs::Others::push_go_outcome))]
+    #[inline(always)]
+    pub(crate) fn push_go(&mut self, i: &Instruction) -> Result<(), Stop>
+        ensures { CarriesOut Operation.PushGo i.now result self.old self.new }
+    {
+        self.push_to(i, self.data_address(i))
+    }
+
+    /// Registers are hidden, and the machine goes to an address.
+    #[inline(always)]
+    fn push_to(&mut self, i: &Instruction, address: u64) -> Result<(), Stop>
+        ensures { Makes (λ s. spec.push_outcome s i.now address) result self.old self.new }
+    {
+        match self.push(i.x()) {
+            Ok(()) => {
+                self.put(RJ, i.next());
+                self.go_to(address);
+                Ok(())
+            }
+            Err(stop) => Err(stop),
+        }
+    }
+
+    /// The register stack's part of PUSHJ and PUSHGO.
+    #[tactic(auto, unfolding(crate::specs::Kept::state_of))]
+    #[inline(always)]
+    fn push(&mut self, x: u8) -> Result<(), Stop>
+        ensures { Makes (λ s. unless (push_overfills s.stack x) reasons.StackFull (with_stack s (pushed s.stack x))) result self.old self.new }
+    {
+        match self.ring.push(x) {
+            Ok(()) => Ok(()),
+            Err(_) => Err(Stop::Stopped(Reason::StackFull)),
+        }
+    }
+
+    /// POP.
+    #[tactic(auto, using(crate::proofs::Others::pop_outcome_is))]
+    #[inline(always)]
+    pub(crate) fn pop(&mut self, i: &Instruction) -> Result<(), Stop>
+        ensures { CarriesOut Operation.Pop i.now result self.old self.new }
+    {
+        let address = self.special(RJ).wrapping_add(4 * i.yz());
+        match self.pop_registers(i.x()) {
+            Ok(()) => {
+                self.go_to(address);
+                Ok(())
+            }
+            Err(stop) => Err(stop),
+        }
+    }
+
+    /// The register stack's part of POP.
+    #[tactic(auto, unfolding(crate::specs::Kept::state_of))]
+    #[inline(always)]
+    fn pop_registers(&mut self, x: u8) -> Result<(), Stop>
+        ensures { Makes (λ s. unless (pop_underflows s.stack) reasons.Underflow (spec.with_lowered_mark s (popped s.stack x))) result self.old self.new }
+    {
+        match self.ring.pop(x) {
+            Ok(()) => {
+                self.mark = self.mark.min(self.ring.hidden());
+                Ok(())
+            }
+            Err(_) => Err(Stop::Stopped(Reason::Underflow)),
+        }
+    }
+}

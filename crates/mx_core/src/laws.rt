@@ -1,0 +1,108 @@
+//! What holds of the machine over its definitions alone. A machine over a window and the one over the
+//! list that its register stack stands for go the same way: what a program sees does not depend on
+//! what was spilled, as long as nothing looks at rS or at the memory of the register stack.
+
+ghost use Rattle.std.specs.Prelude.{◌≡◌, ◌<◌, ◌≤◌, ◌+◌, ◌*◌, ◌^◌, ◌||◌, ◌==◌, ℕ, false, Ok, List, length};
+ghost use Rattle.std.specs.Option.{option_map};
+ghost use Rattle.mx_core.specs.Bounds.{IsMachine, as_list_state, as_list_step};
+ghost use Rattle.mx_core.specs.Effects.{specials_saved};
+ghost use Rattle.mx_core.specs.Machines.{IsOverWindow};
+ghost use Rattle.mx_core.specs.Changes.{register_changed, special_changed, octa_changed, at_address};
+ghost use Rattle.mx_core.specs.Start.{pool, pool_octas, start};
+ghost use Rattle.mx_core.specs.State.{State, global_start, special_register, octa};
+ghost use Rattle.mx_core.specs.Step.{went, calls, step};
+ghost use Rattle.mx_core.specs.Traps.{trapped, halted, with_touch};
+ghost use Rattle.mx_core.specs.Wild.{IsQuiet, is_wild};
+ghost use Rattle.mx_core.specs.declared.trace.Trace.{Trace};
+ghost use Rattle.mx_mmo.specs.Image.{Image};
+ghost use Rattle.mx_ring.specs.Laws.{SaveIsUndone};
+ghost use Rattle.mx_ring.specs.RegisterList.{list_at_start};
+ghost use Rattle.mx_ring.specs.Stack.{listed, windowed, visible, register, hidden_count, in_stack_area, stack_address, save_overfills, saved, frame_top};
+ghost use Rattle.mx_ring.specs.Window.{Window, window_at_start};
+ghost use Rattle.mx_spec.specs.SpecialRegisters.{rS};
+ghost use Rattle.mx_trip.specs.declared.call.TrapCall.{TrapCall};
+ghost use Rattle.mx_word.specs.Results.{map_ok};
+
+/// Both read the same: registers, G and L, special registers other than rS, and memory outside the
+/// stack area.
+pub fn lists_read_the_same()
+    ensures visible { (s : State) → visible (as_list_state s).stack ≡ visible s.stack }
+    ensures register { (s : State) (k : ℕ) → register (as_list_state s).stack k ≡ register s.stack k }
+    ensures special { (s : State) (code : ℕ) → (code == rS) ≡ false
+        → special_register (as_list_state s) code ≡ special_register s code }
+    ensures octa { (s : State) (a : ℕ) → in_stack_area a ≡ false → octa (as_list_state s) a ≡ octa s a }
+    ensures hidden { (s : State) → hidden_count (as_list_state s).stack ≡ hidden_count s.stack }
+{}
+
+/// A program starts over the list that the window at the start stands for; its arguments end below the
+/// stack area.
+pub fn starts_go_as_lists()
+    ensures { (image : Image) (arguments : List (List ℕ)) (size : ℕ)
+        → pool + 8 * length (pool_octas arguments) ≤ stack_address 0
+        → start image arguments (listed list_at_start)
+        ≡ option_map as_list_state (start image arguments (windowed (window_at_start size))) }
+{}
+
+/// A step that is not wild, where nothing was touched, has the same answer and the same trace, and
+/// leaves the list that the next state stands for. It is wild for the one where it is for the other.
+pub fn steps_go_as_lists()
+    ensures step { (s : State) (w : Window) → IsMachine s w → IsQuiet s
+        → step (as_list_state s) ≡ as_list_step (step s) }
+    ensures wild { (s : State) (w : Window) → IsMachine s w → is_wild (as_list_state s) ≡ is_wild s }
+{}
+
+/// A step, wild or not, leaves a machine over a window, or gives a call with a tetra. Saved frames are
+/// spilled until something is touched, and that is so exactly after a wild step.
+pub fn steps_keep_machines()
+    ensures machine { (s t : State) (trace : Trace) → IsOverWindow s → step s ≡ went t trace → IsOverWindow t }
+    ensures call { (s : State) (call : TrapCall) → IsOverWindow s → step s ≡ calls call → call.word < 2 ^ 32 }
+    ensures touched { (s t : State) (trace : Trace) → step s ≡ went t trace → t.touched ≡ (s.touched || is_wild s) }
+{}
+
+/// What SAVE X,0 keeps of a machine comes back: $X has the address of the frame's last octa, UNSAVE
+/// there is not refused, and it gives back the special registers and the stack that was saved, as a
+/// list.
+pub fn frames_come_back()
+    ensures address { (s : State) (x : ℕ) → IsOverWindow s → global_start s ≤ x → x < 256
+        → register (saved s.stack x (specials_saved s)) x ≡ stack_address (frame_top s.stack) }
+    ensures frame { (s : State) (x : ℕ) → IsOverWindow s → save_overfills s.stack ≡ false
+        → SaveIsUndone s.stack x (specials_saved s) }
+{}
+
+/// What a user changes outside the stack area does the same to both.
+pub fn changes_go_as_lists()
+    ensures register { (s : State) (w : Window) (k value : ℕ) → IsMachine s w
+        → register_changed (as_list_state s) k value ≡ map_ok as_list_state (register_changed s k value) }
+    ensures special { (s : State) (w : Window) (code value : ℕ) → IsMachine s w
+        → special_changed (as_list_state s) code value ≡ map_ok as_list_state (special_changed s code value) }
+    ensures octa { (s : State) (a x : ℕ) → in_stack_area a ≡ false
+        → octa_changed (as_list_state s) a x ≡ map_ok as_list_state (octa_changed s a x) }
+    ensures address { (s : State) (a : ℕ) → at_address (as_list_state s) a ≡ as_list_state (at_address s a) }
+{}
+
+/// What a user changes leaves a machine.
+pub fn changes_keep_machines()
+    ensures register { (s t : State) (k value : ℕ) → IsOverWindow s → value < 2 ^ 64
+        → register_changed s k value ≡ Ok t → IsOverWindow t }
+    ensures special { (s t : State) (code value : ℕ) → IsOverWindow s → value < 2 ^ 64
+        → special_changed s code value ≡ Ok t → IsOverWindow t }
+    ensures octa { (s t : State) (a x : ℕ) → IsOverWindow s → x < 2 ^ 64
+        → octa_changed s a x ≡ Ok t → IsOverWindow t }
+    ensures address { (s : State) (a : ℕ) → IsOverWindow s → IsOverWindow (at_address s a) }
+{}
+
+/// What a file trap changes does the same to both.
+pub fn traps_go_as_lists()
+    ensures trapped { (s : State) (w : Window) (call : TrapCall) (value : ℕ) → IsMachine s w
+        → trapped (as_list_state s) call value ≡ as_list_state (trapped s call value) }
+    ensures halted { (s : State) → halted (as_list_state s) ≡ as_list_state (halted s) }
+    ensures touch { (s : State) → with_touch (as_list_state s) ≡ as_list_state (with_touch s) }
+{}
+
+/// What a file trap changes leaves a machine.
+pub fn traps_keep_machines()
+    ensures trapped { (s : State) (call : TrapCall) (value : ℕ) → IsOverWindow s → call.word < 2 ^ 32
+        → value < 2 ^ 64 → IsOverWindow (trapped s call value) }
+    ensures halted { (s : State) → IsOverWindow s → IsOverWindow (halted s) }
+    ensures touch { (s : State) → IsOverWindow s → IsOverWindow (with_touch s) }
+{}

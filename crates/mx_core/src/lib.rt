@@ -1,0 +1,54 @@
+//! The machine: its state, and one step of it.
+//!
+//! The rules are those of MMIXware (LNCS 1750; the part on MMIX) and of TAOCP 1, Fascicle 1, section
+//! 1.3.1'.
+#![tactic(auto)]
+
+mod bounds;
+mod changes;
+mod codes;
+mod compute;
+mod instruction;
+mod jumps;
+mod laws;
+mod load;
+mod machine;
+mod operands;
+mod operation;
+mod part;
+mod perform;
+mod pool;
+#[cfg(test)]
+mod program_tests;
+mod puts;
+mod reason;
+mod registers;
+mod resume;
+mod search;
+mod sight;
+mod space;
+mod space_laws;
+mod specials;
+mod start;
+#[cfg(test)]
+mod start_tests;
+mod step;
+mod stop;
+mod store;
+mod swap;
+mod trace;
+mod traps;
+mod trips;
+
+pub use changes::SetFault;
+pub use laws::{
+    changes_go_as_lists, changes_keep_machines, frames_come_back, lists_read_the_same,
+    starts_go_as_lists, steps_go_as_lists, steps_keep_machines, traps_go_as_lists,
+    traps_keep_machines,
+};
+pub use machine::Machine;
+pub use reason::Reason;
+pub use space_laws::contents_tell_the_state;
+pub use start::StartFault;
+pub use step::{Advance, Step};
+pub use trace::{Touch, Trace};

@@ -1,0 +1,70 @@
+//! Loads.
+
+ghost use Rattle.std.specs.Prelude.{◌≡◌, ◌<◌, ◌≤◌, ◌^◌, true};
+ghost use Rattle.mx_ring.specs.Stack.{in_stack_area};
+ghost use Rattle.mx_core.specs.Calls.{CarriesOut};
+ghost use Rattle.mx_core.specs.Effects.{data_address};
+ghost use Rattle.mx_core.specs.Kept.{state_of};
+
+use crate::instruction::Instruction;
+use crate::machine::{SEGMENT, is_in_stack_area};
+use crate::operation::{Loading, Operation};
+use crate::part::loaded_value;
+use crate::stop::Stop;
+use crate::{Machine, Reason};
+
+impl Machine {
+    /// LDB to LDUNC.
+    #[tactic(auto, using(crate::proofs::Loads::load_below))]
+    #[inline(always)]
+    pub(crate) fn load(&mut self, how: Loading, i: &Instruction) -> Result<(), Stop>
+        ensures { CarriesOut (Operation.Load how) i.now result self.old self.new }
+    {
+        let a = self.data_address(i);
+        if a >= SEGMENT {
+            return self.load_above(how, i, a);
+        }
+        self.settle(i, loaded_value(how, self.octa(a), a), i.next())
+    }
+
+    /// A load from Stack_Segment on.
+    #[tactic(auto, using(crate::proofs::Loads::load_negative, crate::proofs::Loads::load_outside), unfolding(crate::specs::Calls::settled))]
+    #[inline(never)]
+    fn load_above(&mut self, how: Loading, i: &Instruction, a: u64) -> Result<(), Stop>
+        requires address { a ≡ data_address (state_of self.old) i.now }
+        requires least { 0x6000_0000_0000_0000 ≤ a }
+        ensures { CarriesOut (Operation.Load how) i.now result self.old self.new }
+    {
+        if a >= 1 << 63 {
+            return Err(Stop::Stopped(Reason::Negative));
+        }
+        if is_in_stack_area(a) {
+            return self.load_spilled(how, i, a);
+        }
+        match self.settle(i, loaded_value(how, self.octa(a), a), i.next()) {
+            Ok(()) => {
+                self.note_touch();
+                Ok(())
+            }
+            Err(stop) => Err(stop),
+        }
+    }
+
+    /// A load from the stack area, once the destination is local.
+    #[tactic(auto, using(crate::proofs::Loads::load_inside, crate::proofs::Loads::local_settles), unfolding(crate::specs::Calls::set_outcome))]
+    fn load_spilled(&mut self, how: Loading, i: &Instruction, a: u64) -> Result<(), Stop>
+        requires address { a ≡ data_address (state_of self.old) i.now }
+        requires least { 0x6000_0000_0000_0000 ≤ a }
+        requires most { a < 2 ^ 63 }
+        ensures { CarriesOut (Operation.Load how) i.now result self.old self.new }
+    {
+        match self.set(i.x(), self.x_register(i)) {
+            Ok(()) => {
+                let value = loaded_value(how, self.octa(a), a);
+                self.note_touch();
+                self.settle(i, value, i.next())
+            }
+            Err(stop) => Err(stop),
+        }
+    }
+}

@@ -1,0 +1,167 @@
+//! The parts of an octa that are loaded and stored by themselves.
+
+ghost use Rattle.std.specs.Prelude.{◌≡◌, ◌<◌, ◌-◌, ◌*◌, ◌^◌, None, Some, if◌then◌else◌};
+ghost use Rattle.mx_alu.specs.declared.answer.Event.TheVariants.{Overflow};
+ghost use Rattle.mx_mem.specs.Parts.{size_of, bits_below};
+ghost use Rattle.mx_mem.specs.Parts as parts;
+ghost use Rattle.mx_core.specs.Effects as spec;
+
+use crate::operation::{Loading, Storing};
+use crate::trace::Touch;
+use mx_mem::Part;
+
+/// How many bytes a part has.
+#[inline(always)]
+fn size(part: Part) -> u64
+    ensures value { result ≡ size_of part }
+    ensures byte { result < 9 }
+    ensures some { 0 < result }
+{
+    match part {
+        Part::Byte => 1,
+        Part::Wyde => 2,
+        Part::Tetra => 4,
+        Part::Octa => 8,
+    }
+}
+
+/// The touch of the part that holds an address: its own address and size.
+#[inline(always)]
+pub(crate) fn touch(a: u64, part: Part) -> Touch
+    ensures { result ≡ spec.touch a part }
+{
+    Touch {
+        at: a / size(part) * size(part),
+        size: size(part) as u8,
+    }
+}
+
+/// How many bits of an octa stand below the part where an address lies.
+#[inline(always)]
+fn bits_below(part: Part, a: u64) -> u64
+    ensures value { result ≡ bits_below part a }
+    ensures shift { result < 64 }
+{
+    match part {
+        Part::Byte => 8 * (7 - a % 8),
+        Part::Wyde => 8 * (6 - a % 8 / 2 * 2),
+        Part::Tetra => 8 * (4 - a % 8 / 4 * 4),
+        Part::Octa => 0,
+    }
+}
+
+/// The bits of a part, at the low end.
+#[inline(always)]
+fn mask(part: Part) -> u64
+    ensures { result ≡ 2 ^ (8 * size_of part) - 1 }
+{
+    match part {
+        Part::Byte => 0xff,
+        Part::Wyde => 0xffff,
+        Part::Tetra => 0xffff_ffff,
+        Part::Octa => u64::MAX,
+    }
+}
+
+/// The part of an octa where an address lies.
+#[inline(always)]
+fn part_of(part: Part, octa: u64, a: u64) -> u64
+    ensures value { result ≡ parts.part_of part octa a }
+    ensures range { result < 2 ^ (8 * size_of part) }
+{
+    octa >> bits_below(part, a) & mask(part)
+}
+
+/// An octa with the low bytes of `x` in place of the part where an address lies.
+#[inline(always)]
+pub(crate) fn with_part(part: Part, octa: u64, a: u64, x: u64) -> u64
+    ensures { result ≡ parts.with_part part octa a x }
+{
+    let below = bits_below(part, a);
+    let mask = mask(part);
+    octa - ((octa >> below & mask) << below) + ((x & mask) << below)
+}
+
+/// The least number that is a negative one in a part.
+#[inline(always)]
+fn half(part: Part) -> u64
+    ensures { result ≡ 2 ^ (8 * size_of part - 1) }
+{
+    match part {
+        Part::Byte => 0x80,
+        Part::Wyde => 0x8000,
+        Part::Tetra => 0x8000_0000,
+        Part::Octa => 0x8000_0000_0000_0000,
+    }
+}
+
+/// A part as a signed number, in an octa.
+#[inline(always)]
+fn sign_extended(part: Part, v: u64) -> u64
+    requires { v < 2 ^ (8 * size_of part) }
+    ensures { result ≡ spec.sign_extended part v }
+{
+    if v < half(part) {
+        v
+    } else {
+        v + (u64::MAX - mask(part))
+    }
+}
+
+/// The part that is loaded.
+#[inline(always)]
+pub(crate) fn loaded_part(how: Loading) -> Part
+    ensures { result ≡ spec.loaded_part how }
+{
+    match how {
+        Loading::Signed(part) | Loading::Unsigned(part) => part,
+        Loading::HighTetra => Part::Tetra,
+    }
+}
+
+/// The value that is loaded of an octa.
+#[inline(always)]
+pub(crate) fn loaded_value(how: Loading, octa: u64, a: u64) -> u64
+    ensures { result ≡ spec.loaded_value how octa a }
+{
+    match how {
+        Loading::Signed(part) => sign_extended(part, part_of(part, octa, a)),
+        Loading::Unsigned(part) => part_of(part, octa, a),
+        Loading::HighTetra => part_of(Part::Tetra, octa, a) << 32,
+    }
+}
+
+/// The part that is stored.
+#[inline(always)]
+pub(crate) fn stored_part(how: Storing) -> Part
+    ensures { result ≡ spec.stored_part how }
+{
+    match how {
+        Storing::Signed(part) | Storing::Unsigned(part) => part,
+        Storing::HighTetra => Part::Tetra,
+        Storing::Constant => Part::Octa,
+    }
+}
+
+/// The value whose low bytes are stored, of $X and the byte X.
+#[inline(always)]
+pub(crate) fn stored_value(how: Storing, x: u64, byte: u8) -> u64
+    ensures { result ≡ spec.stored_value how x byte }
+{
+    match how {
+        Storing::Signed(_) | Storing::Unsigned(_) => x,
+        Storing::HighTetra => x >> 32,
+        Storing::Constant => u64::from(byte),
+    }
+}
+
+/// Whether a store loses a sign, which is an overflow.
+#[inline(always)]
+pub(crate) fn overflows(how: Storing, x: u64) -> bool
+    ensures { spec.stored_event how x ≡ (if result then Some Overflow else None) }
+{
+    match how {
+        Storing::Signed(part) => half(part) <= x && x < u64::MAX - half(part) + 1,
+        _ => false,
+    }
+}

@@ -1,0 +1,55 @@
+//! One instruction, by its operation.
+
+ghost use Rattle.std.specs.Prelude.{◌≡◌};
+ghost use Rattle.mx_core.specs.Calls.{CarriesOutWithMemory, KeepsOnErr, LacksMemoryOnlyWhere};
+ghost use Rattle.mx_core.specs.Deeds.{deed_of};
+ghost use Rattle.mx_core.specs.Instructions.{operation_in};
+ghost use Rattle.mx_core.specs.Kept.{state_of};
+ghost use Rattle.mx_core.specs.Stepping.{needs_page};
+
+use crate::instruction::Instruction;
+use crate::operation::Operation;
+use crate::stop::Stop;
+use crate::{Machine, Reason};
+
+impl Machine {
+    /// Carries an instruction out. It takes memory only for a store that begins a page.
+    ///
+    /// Errors: the stops of the instruction, and out of memory; then nothing changed.
+    #[tactic(auto, using(crate::proofs::Unchanged::keeps, crate::proofs::Unchanged::lasts, crate::proofs::Others::float_outcome, crate::proofs::Others::privileged_outcome, crate::proofs::Others::resume_outcome, crate::proofs::Others::trap_outcome))]
+    #[inline(always)]
+    pub(crate) fn perform(&mut self, i: &Instruction) -> Result<(), Stop>
+        ensures answer { CarriesOutWithMemory (operation_in i.now) i.now result self.old self.new }
+        ensures err { KeepsOnErr result self.old self.new }
+        ensures there { LacksMemoryOnlyWhere (needs_page (state_of self.old) (deed_of (operation_in i.now) (state_of self.old) i.now)) result }
+    {
+        match i.operation() {
+            Operation::Compute => self.compute(i),
+            Operation::Load(how) => self.load(how, i),
+            Operation::Branch => self.branch(i),
+            Operation::Store(how) => self.store_register(how, i),
+            Operation::Wyde => self.set_wyde(i),
+            Operation::Negate => self.negate(i),
+            Operation::ConditionalSet => self.conditional_set(i),
+            Operation::ZeroOrSet => self.zero_or_set(i),
+            Operation::Address => self.get_address(i),
+            Operation::Jump => self.jump(i),
+            Operation::PushJump => self.push_jump(i),
+            Operation::Pop => self.pop(i),
+            Operation::Go => self.go(i),
+            Operation::PushGo => self.push_go(i),
+            Operation::Get => self.get_special(i),
+            Operation::Put => self.put_special(i),
+            Operation::Nothing => self.do_nothing(i),
+            Operation::CompareAndSwap => self.swap(i),
+            Operation::Synchronize => self.synchronize(i),
+            Operation::Save => self.save(i),
+            Operation::Unsave => self.unsave(i),
+            Operation::Trip => self.trip_at_once(i),
+            Operation::Float => Err(Stop::Stopped(Reason::Float)),
+            Operation::Privileged => Err(Stop::Stopped(Reason::Privileged)),
+            Operation::Resume => Err(Stop::Stopped(Reason::Illegal)),
+            Operation::Trap => Err(Stop::Stopped(Reason::ResumeInsert)),
+        }
+    }
+}

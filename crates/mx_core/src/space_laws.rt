@@ -1,0 +1,12 @@
+//! What the machine's contents as a space tell.
+
+ghost use Rattle.std.specs.Prelude.{◌≡◌, ◌^◌};
+ghost use Rattle.mx_core.specs.MachineSpace.{machine_contents, state_in, IsWholeSpace};
+ghost use Rattle.mx_core.specs.State.{State};
+
+/// The contents of a machine as a space of bytes tell its whole state: memory by its bytes, the 2^20
+/// octas of the stack area, and all else in the rest.
+#[tactic(auto, using(crate::proofs::SpaceStates::told))]
+pub fn contents_tell_the_state()
+    ensures { (s : State) → IsWholeSpace s → state_in (machine_contents s) (2 ^ 20) ≡ s }
+{}

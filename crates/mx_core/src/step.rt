@@ -1,0 +1,154 @@
+//! One step.
+
+ghost use Rattle.std.specs.Prelude.{◌≡◌, ◌≢◌, ◌<◌, ◌^◌, IsTrue};
+ghost use Rattle.mx_core.specs.Calls.{KeepsOnErr, LacksMemoryOnlyWhere, MakesWithMemory};
+ghost use Rattle.mx_core.specs.Deeds.{outcome};
+ghost use Rattle.mx_core.specs.Instructions.{operation_in};
+ghost use Rattle.mx_core.specs.Kept.{state_of};
+ghost use Rattle.mx_core.specs.Step as spec;
+ghost use Rattle.mx_core.specs.Stepping.{advanced, deed_at, needs_page, step_answer, step_needs_page};
+
+use crate::instruction::Instruction;
+use crate::machine::is_in_segment;
+use crate::operation::Operation;
+use crate::stop::Stop;
+use crate::{Machine, Reason, Trace};
+use mx_trip::TrapCall;
+
+/// What a step comes to: the machine went on, with a trace; it calls a file trap, and is to be told its
+/// result; it stopped; or it is out of memory. But for the first the machine is as it was.
+#[derive(Clone, Copy, Debug, PartialEq, Eq)]
+pub enum Step {
+    Went(Trace),
+    Trap(TrapCall),
+    Stopped(Reason),
+    OutOfMemory,
+}
+
+/// The same without the trace and the call.
+#[derive(Clone, Copy, Debug, PartialEq, Eq)]
+pub enum Advance {
+    Went,
+    Trap,
+    Stopped(Reason),
+    OutOfMemory,
+}
+
+impl Machine {
+    /// One step. It takes memory only for a store to a page that is not there.
+    pub fn step(&mut self) -> Step
+        ensures answer { result ≢ Step.OutOfMemory → (result, state_of self.new) ≡ step_answer (state_of self.old) (spec.step (state_of self.old)) }
+        ensures memory { result ≡ Step.OutOfMemory → state_of self.new ≡ state_of self.old }
+        ensures there { result ≡ Step.OutOfMemory → IsTrue (step_needs_page (state_of self.old)) }
+    {
+        let at = self.pc();
+        if at >= 1 << 63 {
+            return Step::Stopped(Reason::Negative);
+        }
+        let i = self.fetched(at);
+        match i.operation() {
+            Operation::Trap => Step::Trap(self.call(&i)),
+            _ => self.follow(&i),
+        }
+    }
+
+    /// The call of the TRAP at the next address.
+    fn call(&self, i: &Instruction) -> TrapCall
+        requires { i.now ≡ spec.fetched (state_of self.now) }
+        ensures { result ≡ spec.call_of (state_of self.now) }
+    {
+        TrapCall {
+            pc: i.at,
+            word: i.word,
+            arg: self.register(255),
+        }
+    }
+
+    /// A step with its trace at an instruction that is no TRAP.
+    fn follow(&mut self, i: &Instruction) -> Step
+        requires fetched { i.now ≡ spec.fetched (state_of self.old) }
+        requires range { (state_of self.old).pc < 2 ^ 63 }
+        requires other { operation_in i.now ≢ Operation.Trap }
+        ensures answer { result ≢ Step.OutOfMemory → (result, state_of self.new) ≡ step_answer (state_of self.old) (spec.step (state_of self.old)) }
+        ensures memory { result ≡ Step.OutOfMemory → state_of self.new ≡ state_of self.old }
+        ensures there { result ≡ Step.OutOfMemory → IsTrue (needs_page (state_of self.old) (deed_at (state_of self.old) i.now)) }
+    {
+        let sight = self.sight_at(i);
+        match self.carry_out(i) {
+            Ok(()) => {
+                self.note_where(is_in_segment(i.at));
+                Step::Went(Trace {
+                    pc: i.at,
+                    word: i.word,
+                    dest: sight.dest,
+                    reads: sight.reads,
+                    writes: self.written(&sight),
+                    next: self.pc(),
+                })
+            }
+            Err(Stop::Stopped(reason)) => Step::Stopped(reason),
+            Err(Stop::OutOfMemory) => Step::OutOfMemory,
+        }
+    }
+
+    /// One step without its trace. It takes memory only for a store to a page that is not there.
+    #[inline(always)]
+    pub fn advance(&mut self) -> Advance
+        ensures answer { result ≢ Advance.OutOfMemory → (result, state_of self.new) ≡ advanced (state_of self.old) (spec.step (state_of self.old)) }
+        ensures memory { result ≡ Advance.OutOfMemory → state_of self.new ≡ state_of self.old }
+        ensures there { result ≡ Advance.OutOfMemory → IsTrue (step_needs_page (state_of self.old)) }
+    {
+        let at = self.pc();
+        if at >= 1 << 63 {
+            return Advance::Stopped(Reason::Negative);
+        }
+        let i = self.fetched(at);
+        match i.operation() {
+            Operation::Trap => Advance::Trap,
+            _ => self.make(&i),
+        }
+    }
+
+    /// A step at an instruction that is no TRAP.
+    #[inline(always)]
+    fn make(&mut self, i: &Instruction) -> Advance
+        requires fetched { i.now ≡ spec.fetched (state_of self.old) }
+        requires range { (state_of self.old).pc < 2 ^ 63 }
+        requires other { operation_in i.now ≢ Operation.Trap }
+        ensures answer { result ≢ Advance.OutOfMemory → (result, state_of self.new) ≡ advanced (state_of self.old) (spec.step (state_of self.old)) }
+        ensures memory { result ≡ Advance.OutOfMemory → state_of self.new ≡ state_of self.old }
+        ensures there { result ≡ Advance.OutOfMemory → IsTrue (needs_page (state_of self.old) (deed_at (state_of self.old) i.now)) }
+    {
+        match self.carry_out(i) {
+            Ok(()) => {
+                self.note_where(is_in_segment(i.at));
+                Advance::Went
+            }
+            Err(Stop::Stopped(reason)) => Advance::Stopped(reason),
+            Err(Stop::OutOfMemory) => Advance::OutOfMemory,
+        }
+    }
+
+    /// The instruction at the next address.
+    #[inline(always)]
+    fn fetched(&self, at: u64) -> Instruction
+        requires next { at ≡ (state_of self.now).pc }
+        requires range { at < 2 ^ 63 }
+        ensures { result ≡ spec.fetched (state_of self.now) }
+    {
+        Instruction::new(at, self.tetra(at))
+    }
+
+    /// Carries an instruction out, which is no TRAP.
+    #[inline(always)]
+    fn carry_out(&mut self, i: &Instruction) -> Result<(), Stop>
+        ensures answer { MakesWithMemory (λ s. outcome s (deed_at s i.now)) result self.old self.new }
+        ensures err { KeepsOnErr result self.old self.new }
+        ensures there { LacksMemoryOnlyWhere (needs_page (state_of self.old) (deed_at (state_of self.old) i.now)) result }
+    {
+        match i.operation() {
+            Operation::Resume => self.resume(i),
+            _ => self.perform(i),
+        }
+    }
+}

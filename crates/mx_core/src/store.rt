@@ -1,0 +1,126 @@
+//! Stores, and the exchange of an octa.
+
+ghost use Rattle.std.specs.Prelude.{◌≡◌, ◌≢◌, ◌<◌, ◌≤◌, ◌^◌, Err, Some, false, true};
+ghost use Rattle.mx_core.specs.Calls.{KeepsOnErr, LacksMemoryOnlyWhere, MakesWithMemory, CarriesOutWithMemory};
+ghost use Rattle.mx_core.specs.Calls as spec;
+ghost use Rattle.mx_core.specs.Effects.{stored_event, stored_part, stored_value};
+ghost use Rattle.mx_core.specs.Instructions.{x_of};
+ghost use Rattle.mx_trip.specs.declared.decision.Trip.TheVariants as trips;
+ghost use Rattle.mx_alu.specs.declared.answer.Event.TheVariants as event;
+ghost use Rattle.mx_core.specs.Deeds.{deed_of};
+ghost use Rattle.mx_core.specs.Kept.{state_of};
+ghost use Rattle.mx_core.specs.State.{begins_page};
+ghost use Rattle.mx_core.specs.Stepping.{needs_page};
+
+use crate::instruction::Instruction;
+use crate::operation::{Operation, Storing};
+use crate::part::{overflows, stored_part, stored_value};
+use crate::stop::Stop;
+use crate::{Machine, Reason};
+use mx_alu::Event;
+use mx_trip::{Trip, decide, noted_events_stay_in_18_bits};
+
+impl Machine {
+    /// STB to STCO. It takes memory only where it begins a page.
+    ///
+    /// Errors: the stops of a store, and out of memory; then nothing changed.
+    #[tactic(auto, using(crate::proofs::Stores::store_outcome_is))]
+    #[inline(always)]
+    pub(crate) fn store_register(&mut self, how: Storing, i: &Instruction) -> Result<(), Stop>
+        ensures answer { CarriesOutWithMemory (Operation.Store how) i.now result self.old self.new }
+        ensures err { KeepsOnErr result self.old self.new }
+        ensures there { LacksMemoryOnlyWhere (needs_page (state_of self.old) (deed_of (Operation.Store how) (state_of self.old) i.now)) result }
+    {
+        let a = self.data_address(i);
+        let x = self.x_register(i);
+        if a >= 1 << 63 {
+            return Err(Stop::Stopped(Reason::Negative));
+        }
+        if overflows(how, x) {
+            return self.store_overflowing(how, i, a, x);
+        }
+        match self.store(a, stored_part(how), stored_value(how, x, i.x())) {
+            Ok(()) => {
+                self.go_to(i.next());
+                Ok(())
+            }
+            Err(stop) => Err(stop),
+        }
+    }
+
+    /// A store that loses the sign.
+    #[inline(never)]
+    fn store_overflowing(
+        &mut self,
+        how: Storing,
+        i: &Instruction,
+        a: u64,
+        x: u64,
+    ) -> Result<(), Stop>
+        requires address { a < 2 ^ 63 }
+        requires event { stored_event how x ≡ Some event.Overflow }
+        ensures answer { MakesWithMemory (λ s. spec.store_settled s i.now how a x) result self.old self.new }
+        ensures err { KeepsOnErr result self.old self.new }
+        ensures there { LacksMemoryOnlyWhere (begins_page (state_of self.old) a) result }
+    {
+        noted_events_stay_in_18_bits();
+        match decide(self.status(), Event::Overflow) {
+            Trip::Noted(status) => self.store_noted(how, i, a, x, status),
+            Trip::Taken(handler) => self.store_tripped(how, i, a, x, handler),
+        }
+    }
+
+    /// The same where the event is noted in rA.
+    #[tactic(auto, using(crate::proofs::Unchanged::lacks_where), unfolding(crate::specs::Calls::store_outcome))]
+    fn store_noted(
+        &mut self,
+        how: Storing,
+        i: &Instruction,
+        a: u64,
+        x: u64,
+        status: u64,
+    ) -> Result<(), Stop>
+        requires address { a < 2 ^ 63 }
+        requires bits { status < 2 ^ 18 }
+        ensures answer { MakesWithMemory (λ s. spec.store_decided s i.now a (stored_part how) (stored_value how x (x_of i.now)) x (trips.Noted status)) result self.old self.new }
+        ensures err { KeepsOnErr result self.old self.new }
+        ensures there { LacksMemoryOnlyWhere (begins_page (state_of self.old) a) result }
+    {
+        match self.store(a, stored_part(how), stored_value(how, x, i.x())) {
+            Ok(()) => {
+                self.put_status(status);
+                self.go_to(i.next());
+                Ok(())
+            }
+            Err(stop) => Err(stop),
+        }
+    }
+
+    /// The same where the event trips.
+    #[tactic(auto, using(crate::proofs::Unchanged::lacks_where), unfolding(crate::specs::Calls::store_outcome))]
+    fn store_tripped(
+        &mut self,
+        how: Storing,
+        i: &Instruction,
+        a: u64,
+        x: u64,
+        handler: u64,
+    ) -> Result<(), Stop>
+        requires address { a < 2 ^ 63 }
+        requires handler { handler < 2 ^ 63 }
+        ensures answer { MakesWithMemory (λ s. spec.store_decided s i.now a (stored_part how) (stored_value how x (x_of i.now)) x (trips.Taken handler)) result self.old self.new }
+        ensures err { KeepsOnErr result self.old self.new }
+        ensures there { LacksMemoryOnlyWhere (begins_page (state_of self.old) a) result }
+    {
+        if self.tetra(handler) == 0 {
+            return Err(Stop::Stopped(Reason::UnhandledTrip));
+        }
+        match self.store(a, stored_part(how), stored_value(how, x, i.x())) {
+            Ok(()) => {
+                self.trip(i, handler, a, x);
+                Ok(())
+            }
+            Err(stop) => Err(stop),
+        }
+    }
+}
