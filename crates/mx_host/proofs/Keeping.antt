@@ -1,7 +1,8 @@
 -- What is kept by two steps is kept by both, one behind the other.
 use Rattle.std.proofs.Common.{ℕ, ◌∙◌, refl, IsTrue, subst, sym, arith}
 use Rattle.std.specs.Prelude.{Option}
-use Rattle.mx_host.specs.HostModel.{HostModel}
+use Rattle.mx_word.proofs.Fronts.{front-self, front-through}
+use Rattle.mx_host.specs.HostModel.{HostModel, contents}
 use Rattle.mx_host.specs.Keeping.{Keeps}
 
 pub keeps-then : (a b c : Option HostModel) (k m n : ℕ) → Keeps a b k m → Keeps b c m n → Keeps a c k n
@@ -11,9 +12,11 @@ keeps-then a b c k m n first second = record {
   input = λ t h. second.input (subst IsTrue (sym first.telling) t) (first.input t h);
   output = λ t h. second.output (subst IsTrue (sym first.telling) t) (first.output t h);
   errors = λ t h. second.errors (subst IsTrue (sym first.telling) t) (first.errors t h);
+  growing = λ t.
+    front-through (contents a).output (contents b).output (contents c).output (first.growing t) (second.growing (subst IsTrue (sym first.telling) t));
 }
 
 pub keeps-all : (a : Option HostModel) (k : ℕ) → Keeps a a k k
-keeps-all a k = record { telling = refl; counting = omega arith; input = λ t h. h; output = λ t h. h; errors = λ t h. h }
+keeps-all a k = record { telling = refl; counting = omega arith; input = λ t h. h; output = λ t h. h; errors = λ t h. h; growing = λ t. front-self (contents a).output }
 
 pub ruleset keeping = (keeps-then, keeps-all)

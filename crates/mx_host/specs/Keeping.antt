@@ -11,14 +11,19 @@ use Rattle.mx_host.specs.HostAnswer.{Then}
 abbrev pub KeepsSlot : Option HostModel → Option HostModel → ℕ → Slot → Type 0
 KeepsSlot old new slot end = IsTrue (tells old) → slot_at (contents old) slot ≡ end → slot_at (contents new) slot ≡ end
 
+-- over a host that tells its contents, standard output only grows
+abbrev pub OnlyAddsOutput : Option HostModel → Option HostModel → Type 0
+OnlyAddsOutput old new = IsTrue (tells old) → IsFront (contents old).output (contents new).output
+
 -- what a function always keeps: whether the host tells its contents, a count of faults that never
--- falls, and the tool's streams, each where its slot leads to it
+-- falls, the tool's streams, each where its slot leads to it, and what stands on standard output
 pub record Keeps (old new : Option HostModel) (before after : ℕ) : Type 0 where
   pub telling : tells new ≡ tells old
   pub counting : before ≤ after
   pub input : KeepsSlot old new 258 to_input
   pub output : KeepsSlot old new 259 to_output
   pub errors : KeepsSlot old new 260 to_errors
+  pub growing : OnlyAddsOutput old new
 
 -- over a host that tells its contents, the answer and what the host then holds are those of f, unless
 -- the answer is `none`, which is that of no memory

@@ -32,6 +32,10 @@ front-of-piece f p n k h e =
 pub written-all : (slot : ℕ) (f : ℕ → ℕ) (p n : ℕ) (m : HostModel) → written slot (bytes_from f p n) m ≡ left_written slot f p n 0 m
 written-all slot f p n m = ap (λ x. write_pieces (whole_pieces x) slot (bytes_from f p n) 0 m) (bytes-length f p n)
 
+-- before the first piece
+pub written-begun : (slot : ℕ) (f : ℕ → ℕ) (p n q k : ℕ) (m : HostModel) → q ≡ p → k ≡ n → written slot (bytes_from f p n) m ≡ left_written slot f q k 0 m
+written-begun slot f p n q k m d e = rw (d, e) (written-all slot f p n m)
+
 pub written-next : (slot : ℕ) (f : ℕ → ℕ) (p n q k moved : ℕ) (m after : HostModel) → 4096 < n → q ≡ p + 4096 → k ≡ n - 4096 →
     (Whole, after) ≡ write_piece slot (bytes_from f p 4096) moved m → left_written slot f p n moved m ≡ left_written slot f q k (moved + 4096) after
 unfolding write_pieces

@@ -1,10 +1,35 @@
-use Rattle.std.proofs.Common.{IsTrue, ap, ◌∙◌, sym, subst, ◌+◌, ◌-◌, ◌≡◌, ◌≤◌, refl, arith, take, length, length-take-le}
+use Rattle.std.proofs.Common.{IsTrue, ap, ◌∙◌, sym, subst, ◌+◌, ◌-◌, ◌≡◌, ◌≤◌, ◌<◌, refl, arith, take, length, length-take-le}
 use Rattle.mx_host.specs.HostModel.{contents}
 use Rattle.mx_trap.specs.Requests.{bytes_from}
 use Rattle.mx_trap.specs.Moves.{write_piece}
-use Rattle.mx_trap.proofs.Pieces.{written-failed, written-last, left-front}
+use Rattle.mx_host.proofs.Keeping.{keeps-all, keeps-then}
+use Rattle.mx_trap.proofs.Pieces.{written-begun, written-next, written-failed, written-last, left-front}
 use Rattle.mx_word.proofs.Fronts.{front-of}
 use Rattle.mx_trap.proofs.writes.write_pieces.Goals as goal
+
+pub loop-moved-init : goal.loop-moved-init
+loop-moved-init g c = record {
+  told = λ t. written-begun c.args.slot (g.M.Space.contents c.args.memory.now).bytes c.args.at c.args.size (c.args.at + 0) (c.args.size - 0) (contents (g.H.Host.told c.args.host.now)) (omega arith) (omega arith);
+  inside = omega arith;
+  buffer = refl;
+  keeps = keeps-all (g.H.Host.told c.args.host.now) (g.H.Host.faults c.args.host.now);
+}
+
+pub loop-moved-preserved : goal.loop-moved-preserved
+loop-moved-preserved g c =
+    let here = contents (g.H.Host.told c.loop-moved.host) in
+    let f = (g.M.Space.contents c.args.memory.now).bytes in
+    let more : 4096 < c.args.size - c.loop-moved.moved = omega (arith, c.loop-moved-test.true) in
+    record {
+      told = λ t.
+        let piece = c.in-Whole.ensures.told (subst IsTrue (sym c.loop-moved.invariant.keeps.telling) t) (λ e. absurd (cc)) in
+        c.loop-moved.invariant.told t
+        ∙ written-next c.args.slot f (c.args.at + c.loop-moved.moved) (c.args.size - c.loop-moved.moved) (c.args.at + (c.loop-moved.moved + 4096)) (c.args.size - (c.loop-moved.moved + 4096)) c.loop-moved.moved here _ more (omega arith) (omega (arith, more))
+          (piece ∙ ap (λ n. write_piece c.args.slot (bytes_from f (c.args.at + c.loop-moved.moved) n) c.loop-moved.moved here) c.loop-moved.invariant.buffer);
+      inside = omega (arith, more);
+      buffer = c.in-Whole.ensures.length ∙ c.loop-moved.invariant.buffer;
+      keeps = keeps-then _ _ _ _ _ _ c.loop-moved.invariant.keeps c.in-Whole.ensures.keeps;
+    }
 
 pub returns-in-Short-clause-told : goal.returns-in-Short-clause-told
 returns-in-Short-clause-told g c = λ t ne.
