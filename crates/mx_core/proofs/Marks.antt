@@ -1,0 +1,59 @@
+-- Saved frames stay spilled, as long as nothing is touched: what each operation on the register stack does to the
+-- number of spilled octas.
+use Rattle.std.proofs.Common.{◌≡◌, ◌≤◌, ◌<◌, ◌^◌, ℕ, ◌||◌, min, Bool, true, false, length, ◌%◌, refl, sym, subst, ap, arith}
+use Rattle.mx_mem.specs.Memory.{page_count}
+use Rattle.mx_ring.proofs.Keeps.{set-spills, push-spills, pop-spills, save-spills, unsave-spills}
+use Rattle.mx_ring.specs.Bounds.{IsRing}
+use Rattle.mx_ring.specs.Stack.{Stack, windowed, hidden_count, spilled_count, with_register, cut_to, with_global_start, pushed, popped, save_overfills, saved, unsaved, with_stack_octa}
+use Rattle.mx_ring.specs.Window.{Window}
+use Rattle.mx_ring.specs.declared.saved.Saved.{Saved}
+use Rattle.mx_core.specs.Bounds.{IsMachine}
+use Rattle.mx_core.specs.Kept.{Kept, state_of}
+use Rattle.mx_core.proofs.RingStacks.{cut-spilled, globals-spilled, octa-spilled}
+
+spilled-as : (w : Window) (z : Stack) → windowed w ≡ z → w.hidden.spilled ≡ spilled_count z
+spilled-as w z e = ap spilled_count e
+
+-- WHAT NEVER LOWERS IT
+
+pub set_marks : (old new : Window) (k x mark : ℕ) → windowed new ≡ with_register (windowed old) k x → mark ≤ old.hidden.spilled → mark ≤ new.hidden.spilled
+set_marks old new k x mark e h = omega (arith, h, set-spills old k x, spilled-as new (with_register (windowed old) k x) e)
+
+pub push_marks : (old new : Window) (x mark : ℕ) → windowed new ≡ pushed (windowed old) x → mark ≤ old.hidden.spilled → mark ≤ new.hidden.spilled
+push_marks old new x mark e h = omega (arith, h, push-spills old x, spilled-as new (pushed (windowed old) x) e)
+
+pub cut_marks : (old new : Window) (l mark : ℕ) → windowed new ≡ cut_to (windowed old) l → mark ≤ old.hidden.spilled → mark ≤ new.hidden.spilled
+cut_marks old new l mark e h = omega (arith, h, cut-spilled (windowed old) l, spilled-as new (cut_to (windowed old) l) e)
+
+pub globals_marks : (old new : Window) (g mark : ℕ) → windowed new ≡ with_global_start (windowed old) g → mark ≤ old.hidden.spilled → mark ≤ new.hidden.spilled
+globals_marks old new g mark e h = omega (arith, h, globals-spilled (windowed old) g, spilled-as new (with_global_start (windowed old) g) e)
+
+pub octa_marks : (old new : Window) (i x mark : ℕ) → windowed new ≡ with_stack_octa (windowed old) i x → mark ≤ old.hidden.spilled → mark ≤ new.hidden.spilled
+octa_marks old new i x mark e h = omega (arith, h, octa-spilled (windowed old) i x, spilled-as new (with_stack_octa (windowed old) i x) e)
+
+-- POP, SAVE AND UNSAVE
+
+pub pop_marks : (old new : Window) (x mark n : ℕ) → IsRing old → windowed new ≡ popped (windowed old) x → n ≡ hidden_count (windowed new) → mark ≤ old.hidden.spilled → min mark n ≤ new.hidden.spilled
+pop_marks old new x mark n r e f h =
+    let hidden : n ≡ hidden_count (popped (windowed old) x) = subst (λ (z : Stack). n ≡ hidden_count z) e f in
+    omega (arith, h, pop-spills old x r, hidden, spilled-as new (popped (windowed old) x) e)
+
+pub save_marks : (old new : Window) (x n : ℕ) (s : Saved) → IsRing old → save_overfills (windowed old) ≡ false → windowed new ≡ saved (windowed old) x s → n ≡ hidden_count (windowed new) → n ≤ new.hidden.spilled
+save_marks old new x n s r o e f =
+    let hidden : n ≡ hidden_count (saved (windowed old) x s) = subst (λ (z : Stack). n ≡ hidden_count z) e f in
+    omega (arith, save-spills old x s r o, hidden, spilled-as new (saved (windowed old) x s) e)
+
+pub unsave_marks : (old new : Window) (i n : ℕ) → IsRing old → i < 2 ^ 20 → windowed new ≡ unsaved (windowed old) i → n ≡ hidden_count (windowed new) → n ≤ new.hidden.spilled
+unsave_marks old new i n r b e f =
+    let hidden : n ≡ hidden_count (unsaved (windowed old) i) = subst (λ (z : Stack). n ≡ hidden_count z) e f in
+    omega (arith, unsave-spills old i r b, hidden, spilled-as new (unsaved (windowed old) i) e)
+
+pub not_touched : (a b : Bool) → (a || b) ≡ false → a ≡ false
+not_touched true b e = e
+not_touched false b e = refl
+
+-- WHAT HOLDS OF EVERY MACHINE
+
+pub machine_kept : (k : Kept) → IsRing k.ring → page_count k.memory ≤ 65536 → length k.special ≡ 32 → k.pc % 4 ≡ 0 → (k.touched ≡ false → k.mark ≤ k.ring.hidden.spilled) → IsMachine (state_of k) k.ring
+unfolding state_of
+machine_kept k r p n a m = record { over = refl; ring = r; frames_are_spilled = m; pages = p; specials = n; address = a }
