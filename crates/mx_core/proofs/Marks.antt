@@ -1,11 +1,16 @@
 -- Saved frames stay spilled, as long as nothing is touched: what each operation on the register stack does to the
 -- number of spilled octas.
-use Rattle.std.proofs.Common.{◌≡◌, ◌≤◌, ◌<◌, ◌^◌, ℕ, ◌||◌, min, Bool, true, false, length, ◌%◌, refl, sym, subst, ap, arith}
+use Rattle.std.proofs.Common.{◌≡◌, ◌≤◌, ◌<◌, ◌^◌, ℕ, ◌||◌, min, Bool, true, false, cond, length, ◌%◌, Ok, Err, refl, sym, subst, ap, arith}
+use Rattle.std.specs.Prelude.{Result, OnOk, OnErr, not}
+use Rattle.std.proofs.lemmas.Bool.Decides.{nat_tests}
 use Rattle.mx_mem.specs.Memory.{page_count}
 use Rattle.mx_ring.proofs.Keeps.{set-spills, push-spills, pop-spills, save-spills, unsave-spills}
 use Rattle.mx_ring.specs.Bounds.{IsRing}
-use Rattle.mx_ring.specs.Stack.{Stack, windowed, hidden_count, spilled_count, with_register, cut_to, with_global_start, pushed, popped, save_overfills, saved, unsaved, with_stack_octa}
+use Rattle.mx_ring.specs.Calls.{unsave_answer}
+use Rattle.mx_ring.specs.Frames.{is_bad_frame}
+use Rattle.mx_ring.specs.Stack.{Stack, windowed, hidden_count, spilled_count, with_register, cut_to, with_global_start, pushed, popped, save_overfills, saved, in_stack_area, stack_index, octas_to, unsave_refused, unsaved_specials, unsaved, with_stack_octa}
 use Rattle.mx_ring.specs.Window.{Window}
+use Rattle.mx_ring.specs.declared.fault.RingFault.TheVariants.{BadFrame}
 use Rattle.mx_ring.specs.declared.saved.Saved.{Saved}
 use Rattle.mx_core.specs.Bounds.{IsMachine}
 use Rattle.mx_core.specs.Kept.{Kept, state_of}
@@ -31,6 +36,15 @@ globals_marks old new g mark e h = omega (arith, h, globals-spilled (windowed ol
 pub octa_marks : (old new : Window) (i x mark : ℕ) → windowed new ≡ with_stack_octa (windowed old) i x → mark ≤ old.hidden.spilled → mark ≤ new.hidden.spilled
 octa_marks old new i x mark e h = omega (arith, h, octa-spilled (windowed old) i x, spilled-as new (with_stack_octa (windowed old) i x) e)
 
+-- the same where an operation may be refused
+pub set_keeps : {E : Type 0} (r : Result (Unit {0}) E) (old new : Window) (k x mark : ℕ) → OnOk r (windowed new ≡ with_register (windowed old) k x) → OnErr r (new ≡ old) → mark ≤ old.hidden.spilled → mark ≤ new.hidden.spilled
+set_keeps (Ok u) old new k x mark made kept h = set_marks old new k x mark made h
+set_keeps (Err e) old new k x mark made kept h = subst (λ (w : Window). mark ≤ w.hidden.spilled) (sym kept) h
+
+pub push_keeps : {E : Type 0} (r : Result (Unit {0}) E) (old new : Window) (x mark : ℕ) → OnOk r (windowed new ≡ pushed (windowed old) x) → OnErr r (new ≡ old) → mark ≤ old.hidden.spilled → mark ≤ new.hidden.spilled
+push_keeps (Ok u) old new x mark made kept h = push_marks old new x mark made h
+push_keeps (Err e) old new x mark made kept h = subst (λ (w : Window). mark ≤ w.hidden.spilled) (sym kept) h
+
 -- POP, SAVE AND UNSAVE
 
 pub pop_marks : (old new : Window) (x mark n : ℕ) → IsRing old → windowed new ≡ popped (windowed old) x → n ≡ hidden_count (windowed new) → mark ≤ old.hidden.spilled → min mark n ≤ new.hidden.spilled
@@ -48,9 +62,14 @@ unsave_marks old new i n r b e f =
     let hidden : n ≡ hidden_count (unsaved (windowed old) i) = subst (λ (z : Stack). n ≡ hidden_count z) e f in
     omega (arith, unsave-spills old i r b, hidden, spilled-as new (unsaved (windowed old) i) e)
 
-pub not_touched : (a b : Bool) → (a || b) ≡ false → a ≡ false
-not_touched true b e = e
-not_touched false b e = refl
+-- a frame that is not refused lies in the stack area
+frame-inside : (a : ℕ) (b c : Bool) (f g : Saved) → in_stack_area a ≡ b → Ok f ≡ cond (not b || c) (Err BadFrame) (Ok g) → stack_index a < 2 ^ 20
+frame-inside a true c f g i e = grind (arith, nat_tests)
+frame-inside a false c f g i e = absurd (cc)
+
+pub frame_inside : (z : Stack) (a : ℕ) (f : Saved) → Ok f ≡ unsave_answer z a → stack_index a < 2 ^ 20
+unfolding unsave_refused
+frame_inside z a f e = frame-inside a (in_stack_area a) (is_bad_frame (octas_to z (stack_index a)) (stack_index a)) f (unsaved_specials z (stack_index a)) refl e
 
 -- WHAT HOLDS OF EVERY MACHINE
 

@@ -1,5 +1,6 @@
 //! What holds of each ring and of each machine, for proofs.
 
+ghost use Rattle.std.specs.Prelude.{◌≡◌, length};
 ghost use Rattle.mx_ring.specs.Bounds.{IsRing};
 ghost use Rattle.mx_core.specs.Bounds.{IsMachine};
 ghost use Rattle.mx_core.specs.Kept.{state_of};
@@ -23,5 +24,14 @@ pub fn machines_keep_the_invariant(machine: &Machine)
     ensures { IsMachine (state_of machine.now) machine.now.ring }
 {
     know_bounds(&machine.ring);
+    know_count(&machine.special);
     let _ = machine.memory.pages();
+}
+
+/// Tells how many special registers there are. It does nothing.
+#[inline(always)]
+fn know_count(special: &[u64; 32])
+    ensures { length special.now ≡ 32 }
+{
+    let _ = special;
 }

@@ -25,7 +25,7 @@ impl Machine {
     ///
     /// Errors: `NotAllowed`, exactly where hidden and local registers would pass 2^20; then nothing
     /// changed.
-    #[tactic(auto, using(crate::proofs::Marks::set_marks), unfolding(crate::specs::Kept::state_of))]
+    #[tactic(auto, unfolding(crate::specs::Kept::state_of))]
     pub fn set_register(&mut self, k: u8, x: u64) -> Result<(), SetFault>
         ensures { Changes (λ s. spec.register_changed s k x) result self.old self.new }
     {
@@ -79,7 +79,7 @@ impl Machine {
     }
 
     /// Stores an octa in place of the one that holds an address.
-    #[tactic(auto, using(crate::proofs::Marks::octa_marks), unfolding(crate::specs::Kept::state_of, crate::specs::State::with_octa))]
+    #[tactic(auto, unfolding(crate::specs::Kept::state_of, crate::specs::State::with_octa))]
     pub(crate) fn store_octa(&mut self, a: u64, x: u64) -> Result<(), MemFault>
         requires { a < 2 ^ 63 }
         ensures ok { result ≢ Err MemFault.OutOfMemory → Stores a x result self.old self.new }

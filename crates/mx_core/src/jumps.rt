@@ -78,7 +78,7 @@ impl Machine {
     }
 
     /// The register stack's part of PUSHJ and PUSHGO.
-    #[tactic(auto, using(crate::proofs::Marks::push_marks), unfolding(crate::specs::Kept::state_of))]
+    #[tactic(auto, unfolding(crate::specs::Kept::state_of))]
     #[inline(always)]
     fn push(&mut self, x: u8) -> Result<(), Stop>
         ensures { Makes (λ s. unless (push_overfills s.stack x) reasons.StackFull (with_stack s (pushed s.stack x))) result self.old self.new }

@@ -172,7 +172,6 @@ impl Machine {
     }
 
     /// $k gets a value.
-    #[tactic(auto, using(crate::proofs::Marks::set_marks), unfolding(crate::specs::Kept::state_of, crate::specs::Calls::set_outcome))]
     #[inline(always)]
     pub(crate) fn set(&mut self, k: u8, x: u64) -> Result<(), Stop>
         ensures { Makes (λ s. set_outcome s k x) result self.old self.new }

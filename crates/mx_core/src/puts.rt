@@ -6,7 +6,7 @@ ghost use Rattle.mx_core.specs.Kept.{state_of};
 
 use crate::Machine;
 
-#[tactic(auto, using(crate::proofs::Marks::cut_marks, crate::proofs::Marks::globals_marks), unfolding(crate::specs::Kept::state_of))]
+#[tactic(auto, unfolding(crate::specs::Kept::state_of))]
 impl Machine {
     /// The special register with a code gets a value that PUT stores there.
     pub(crate) fn put_stored(&mut self, code: u8, x: u64)

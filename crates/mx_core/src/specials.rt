@@ -218,7 +218,7 @@ impl Machine {
     }
 
     /// The register stack's part of UNSAVE: the special registers of the frame.
-    #[tactic(auto, using(crate::proofs::Marks::unsave_marks), unfolding(crate::specs::Kept::state_of, mx_ring::specs::Stack::unsaved_specials, mx_ring::specs::Frames::frame_specials))]
+    #[tactic(auto, unfolding(crate::specs::Kept::state_of, mx_ring::specs::Stack::unsaved_specials, mx_ring::specs::Frames::frame_specials))]
     fn bring_registers_back(&mut self, a: u64) -> Result<Saved, Stop>
         ensures answer { (result, state_of self.new) ≡ spec.brought_back (state_of self.old) a }
         ensures bits { IfOk result (λ f. f.a < 2 ^ 18) }

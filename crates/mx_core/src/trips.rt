@@ -54,7 +54,7 @@ impl Machine {
     }
 
     /// $255 gets a value: it is always global.
-    #[tactic(auto, using(crate::proofs::Marks::set_marks), unfolding(crate::specs::Kept::state_of, mx_ring::specs::Stack::set_overfills))]
+    #[tactic(auto, unfolding(crate::specs::Kept::state_of, mx_ring::specs::Stack::set_overfills))]
     pub(crate) fn set_last(&mut self, x: u64)
         ensures { state_of self.new ≡ with_value_in (state_of self.old) 255 x }
     {
