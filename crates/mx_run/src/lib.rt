@@ -7,6 +7,8 @@ mod end;
 mod flag_map;
 mod flags;
 mod go;
+#[cfg(test)]
+mod go_tests;
 pub mod laws;
 mod runner;
 mod steps;
