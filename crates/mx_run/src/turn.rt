@@ -77,6 +77,8 @@ fn finish(machine: &mut Machine, call: &TrapCall, looks: bool, answer: TrapAnswe
         ≡ turn_answer (spec.turn_with looks call.now (state_of machine.old) m answer) }
     ensures memory { result ≡ TurnAnswer.OutOfMemory → answer ≡ TrapAnswer.OutOfMemory }
     ensures unmade { answer ≡ TrapAnswer.OutOfMemory → result ≡ TurnAnswer.OutOfMemory }
+    ensures touch { answer ≡ TrapAnswer.OutOfMemory
+        → state_of machine.new ≡ spec.with_touch_if looks (state_of machine.old) }
 {
     match answer {
         TrapAnswer::Value(value) => TurnAnswer::Went(complete(machine, call, looks, value)),
@@ -85,7 +87,10 @@ fn finish(machine: &mut Machine, call: &TrapCall, looks: bool, answer: TrapAnswe
             note_where(machine, looks && why == TrapStop::TrapPagesFull);
             TurnAnswer::Stopped(why.number())
         }
-        TrapAnswer::OutOfMemory => TurnAnswer::OutOfMemory,
+        TrapAnswer::OutOfMemory => {
+            note_where(machine, looks);
+            TurnAnswer::OutOfMemory
+        }
     }
 }
 
