@@ -10,3 +10,7 @@ pub mod StoredBytes
 pub mod TextEnds
 pub mod TextReach
 pub mod Texts
+pub mod ApartBytes
+pub mod ApartMoves
+pub mod ApartCalls
+pub mod KeptContents

@@ -6,3 +6,4 @@ pub mod FileTraps
 pub mod Clauses
 pub mod Laws
 pub mod Touches
+pub mod Apart

@@ -5,6 +5,7 @@
 #![tactic(auto)]
 
 mod answer;
+mod apart_laws;
 mod calls;
 mod files;
 mod laws;
@@ -19,6 +20,7 @@ mod tests;
 mod writes;
 
 pub use answer::{TrapAnswer, TrapStop};
+pub use apart_laws::{calls_go_apart, calls_keep_contents};
 pub use calls::trap;
 pub use laws::{
     intervals_meet_the_segment, lines_come_with_their_newline, pieces_come_to_one_read,

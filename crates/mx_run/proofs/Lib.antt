@@ -1,0 +1,10 @@
+pub mod Areas
+pub mod ListTurns
+pub mod BothMachines
+pub mod Outputs
+pub mod HeldFlags
+pub mod FlaggedTetras
+pub mod TurnAnswers
+pub mod RunSteps
+pub mod ListSteps
+pub mod StepCounts

@@ -1,0 +1,65 @@
+-- The words of clauses over a machine and a host. `old` and `new` are what the host told before and after, `before` and
+-- `after` the states of the machine.
+use Rattle.std.specs.Prelude.{◌≡◌, ◌≢◌, IsTrue, Bool, true, false, Option}
+use Rattle.mx_word.specs.Lists.{IsFront}
+use Rattle.mx_host.specs.HostModel.{HostModel, tells, contents}
+use Rattle.mx_core.specs.Bounds.{as_list_state}
+use Rattle.mx_core.specs.State.{State}
+use Rattle.mx_run.specs.Runs.{Ended, ended}
+use Rattle.mx_run.specs.Turns.{Answered, turn_answer, turn}
+use Rattle.mx_run.specs.WildRuns.{RunEnd, run_ended, run_wild, turn_is_wild, as_list_ended}
+use Rattle.mx_run.specs.declared.end.End.{End}
+use Rattle.mx_run.specs.declared.end.End.TheVariants.{OutOfMemory}
+use Rattle.mx_run.specs.declared.turn_answer.TurnAnswer.{TurnAnswer}
+use Rattle.mx_run.specs.declared.turn_answer.TurnAnswer.TheVariants as answer
+
+-- over a host that tells its contents, the answer and what it leaves are those of f, unless the answer is `none`, which is
+-- that of no memory
+abbrev pub LeavesMachine : {A : Type 0} → Option HostModel → Option HostModel → State → State → A → A → (State → HostModel → Answered A) → Type 0
+LeavesMachine old new before after none result f =
+    IsTrue (tells old) → result ≢ none → (result, after, contents new) ≡ f before (contents old)
+
+-- over a host that tells its contents, where the answer is `none`, what standard output then holds is a front of what f
+-- gives it
+abbrev pub LeavesFront : {A : Type 0} → Option HostModel → Option HostModel → State → A → A → (State → HostModel → Answered A) → Type 0
+LeavesFront old new before none result f =
+    IsTrue (tells old) → result ≡ none → IsFront (contents new).output (f before (contents old)).2.output
+
+-- over a host that tells its contents, the end and what it leaves are those of the run f, unless there was no memory
+abbrev pub EndsAs : Option HostModel → Option HostModel → State → State → End → (State → HostModel → Ended) → Type 0
+EndsAs old new before after result f =
+    IsTrue (tells old) → result ≢ OutOfMemory → ended result after (contents new) ≡ f before (contents old)
+
+-- over a host that tells its contents, where there was no memory, what standard output then holds is a front of what the
+-- run f gives it
+abbrev pub EndsFront : Option HostModel → Option HostModel → State → End → (State → HostModel → Ended) → Type 0
+EndsFront old new before result f =
+    IsTrue (tells old) → result ≡ OutOfMemory → IsFront (contents new).output (f before (contents old)).host.output
+
+-- BESIDE THE LIST MACHINE
+
+-- how the run of the window machine goes beside that of the list machine: it ends as that, with the list that its last
+-- state stands for and nothing touched; or, where that meets something wild, it begins by writing what that had written
+abbrev pub GoesAsList : RunEnd → Ended → Type 0
+GoesAsList (run_ended e) r = (as_list_ended r ≡ e) × (r.state.touched ≡ false)
+GoesAsList (run_wild m) r = IsFront m.output r.host.output
+
+-- over a host that tells its contents, from a state where nothing was touched, the run goes as that of the list machine
+abbrev pub EndsAsList : Option HostModel → Option HostModel → State → State → End → (State → HostModel → RunEnd) → Type 0
+EndsAsList old new before after result f =
+    IsTrue (tells old) → result ≢ OutOfMemory → before.touched ≡ false →
+    GoesAsList (f (as_list_state before) (contents old)) (ended result after (contents new))
+
+-- an answer with the list that its state stands for
+abbrev pub as_list_answer : {A : Type 0} → Answered A → Answered A
+as_list_answer (a, s, m) = (a, as_list_state s, m)
+
+-- the same of one turn, from a state over the list: where it is wild, what stood on standard output still does
+abbrev pub TurnGoesAsList : Bool → State → HostModel → Answered TurnAnswer → Type 0
+TurnGoesAsList true s m r = IsFront m.output r.2.output
+TurnGoesAsList false s m r = (as_list_answer r ≡ turn_answer (turn s m)) × (r.1.touched ≡ false)
+
+abbrev pub TurnsAsList : Option HostModel → Option HostModel → State → State → TurnAnswer → Type 0
+TurnsAsList old new before after result =
+    IsTrue (tells old) → result ≢ answer.OutOfMemory → before.touched ≡ false →
+    TurnGoesAsList (turn_is_wild (as_list_state before)) (as_list_state before) (contents old) (result, after, contents new)

@@ -1,0 +1,47 @@
+//! What holds of runs over their definitions alone. A machine over a window and the one over the list
+//! that its register stack stands for go the same way, as long as nothing looks at rS or at the
+//! memory of the register stack.
+
+ghost use Rattle.std.specs.Prelude.{◌≡◌, ℕ, Bool, false};
+ghost use Rattle.mx_host.specs.HostModel.{HostModel};
+ghost use Rattle.mx_ring.specs.Window.{Window};
+ghost use Rattle.mx_word.specs.Lists.{IsFront};
+ghost use Rattle.mx_word.specs.Ranges.{AreOctas};
+ghost use Rattle.mx_core.specs.Bounds.{IsMachine, as_list_state};
+ghost use Rattle.mx_core.specs.State.{State};
+ghost use Rattle.mx_run.specs.Runs.{FlagsOf, run, IsLater};
+ghost use Rattle.mx_run.specs.Turns.{turn};
+ghost use Rattle.mx_run.specs.WildRuns.{turn_is_wild, as_list_turn, state_after, run_by, run_ended, window_machine};
+
+/// A turn that is not wild, where nothing was touched, comes to the same with the same trace and the
+/// same host model, and leaves the list that the next state stands for, and nothing touched. It is wild
+/// for the one where it is for the other.
+#[tactic(auto, using(crate::proofs::ListTurns::turns))]
+pub fn turns_go_as_lists()
+    ensures turn { (s : State) (w : Window) (m : HostModel) → IsMachine s w → AreOctas w.hidden.stack
+        → s.touched ≡ false → turn_is_wild s ≡ false → turn (as_list_state s) m ≡ as_list_turn (turn s m) }
+    ensures wild { (s : State) (w : Window) → IsMachine s w → s.touched ≡ false
+        → turn_is_wild (as_list_state s) ≡ turn_is_wild s }
+    ensures untouched { (s : State) (m : HostModel) → s.touched ≡ false → turn_is_wild s ≡ false
+        → (state_after (turn s m)).touched ≡ false }
+{}
+
+/// The run of the machine over a window always ends.
+#[tactic(auto, using(crate::proofs::BothMachines::windows))]
+pub fn windows_are_never_wild()
+    ensures { (n : ℕ) (f : FlagsOf) (pass : Bool) (s : State) (m : HostModel)
+        → run_by window_machine n f pass s m ≡ run_ended (run n f pass s m) }
+{}
+
+/// A run only adds to standard output.
+#[tactic(auto, using(crate::proofs::Outputs::outputs))]
+pub fn runs_add_to_output()
+    ensures { (n : ℕ) (f : FlagsOf) (pass : Bool) (s : State) (m : HostModel)
+        → IsFront m.output (run n f pass s m).host.output }
+{}
+
+/// A run of at most n steps adds at most n to the count of steps.
+#[tactic(auto, using(crate::proofs::StepCounts::counts))]
+pub fn runs_make_at_most()
+    ensures { (n : ℕ) (f : FlagsOf) (pass : Bool) (s : State) (m : HostModel) → IsLater n s (run n f pass s m).state }
+{}

@@ -1,0 +1,25 @@
+//! Runs of the machine over a host: steps one after another, file traps among them, with breaks and
+//! traced steps.
+#![tactic(auto)]
+
+mod breaks;
+mod end;
+mod flag_map;
+mod flags;
+mod go;
+#[cfg(test)]
+mod go_tests;
+pub mod laws;
+mod runner;
+mod steps;
+#[cfg(test)]
+mod tests;
+mod turn;
+mod turn_answer;
+mod windows;
+
+pub use end::{BreakKind, End};
+pub use flag_map::FlagMap;
+pub use flags::Flags;
+pub use runner::Runner;
+pub use turn_answer::TurnAnswer;

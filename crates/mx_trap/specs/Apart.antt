@@ -1,0 +1,27 @@
+-- Spaces that are the same outside Stack_Segment, the addresses from #6000000000000000 up to below 2^63.
+use Rattle.std.specs.Prelude.{ℕ, ◌≡◌, ◌≤◌, ◌<◌, false, if◌then◌else◌}
+use Rattle.mx_mem.specs.Space.{Contents}
+use Rattle.mx_trap.specs.Moves.{Leaves}
+use Rattle.mx_trap.specs.Touches.{is_in_segment}
+
+-- the bytes, with others in Stack_Segment
+abbrev pub with_segment : (ℕ → ℕ) → (ℕ → ℕ) → ℕ → ℕ
+with_segment others bytes a = if is_in_segment a then others a else bytes a
+
+-- the contents, with other bytes in Stack_Segment and other things beside them
+abbrev pub apart : {A B : Type 0} → (ℕ → ℕ) → B → Contents A → Contents B
+apart others rest s = record {
+  bytes = with_segment others s.bytes;
+  pages = s.pages;
+  page_count = s.page_count;
+  is_stack_apart = s.is_stack_apart;
+  rest = rest;
+}
+
+-- what a call answers and leaves, in contents like these
+abbrev pub leaves_apart : {X A B : Type 0} → (ℕ → ℕ) → B → Leaves X A → Leaves X B
+leaves_apart others rest t = (t.0, apart others rest t.1, t.2)
+
+-- none of the addresses from a up to below e lies in Stack_Segment
+abbrev pub IsClear : ℕ → ℕ → Type 0
+IsClear a e = (q : ℕ) → a ≤ q → q < e → is_in_segment q ≡ false
