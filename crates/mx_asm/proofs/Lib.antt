@@ -12,3 +12,5 @@ pub mod OneStatement
 pub mod Entries
 pub mod LinesTaken
 pub mod OnePassLaw
+pub mod EndWaits
+pub mod EndLaw
