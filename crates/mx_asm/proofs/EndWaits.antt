@@ -46,15 +46,15 @@ abbrev IsSettledWell : NameTable → Sight → List Sight → Wait → Type 0
 IsSettledWell final s later w = is_some (referent final later w.who) ≡ is_settled s later w.who
 
 module _ (final : NameTable) (s : Sight) (later : List Sight) where
-  abbrev open : List Wait → List Wait
-  open ws = filter (λ (w : Wait). not (is_settled s later w.who)) ws
+  abbrev still_open : List Wait → List Wait
+  still_open ws = filter (λ (w : Wait). not (is_settled s later w.who)) ws
 
-  open-by : (b : Bool) (w : Wait) (ws : List Wait) → unreferenced final later ws ≡ wait_refusal (earliest (open ws)) →
-      cond b (unreferenced final later ws) (Some (refused w.line (undefined w.who))) ≡ wait_refusal (earliest (cond (not b) (w ∷ open ws) (open ws)))
+  open-by : (b : Bool) (w : Wait) (ws : List Wait) → unreferenced final later ws ≡ wait_refusal (earliest (still_open ws)) →
+      cond b (unreferenced final later ws) (Some (refused w.line (undefined w.who))) ≡ wait_refusal (earliest (cond (not b) (w ∷ still_open ws) (still_open ws)))
   open-by true w ws h = h
   open-by false w ws h = refl
 
-  unreferenced-is : (ws : List Wait) → AllByRecursion (IsSettledWell final s later) ws → unreferenced final later ws ≡ wait_refusal (earliest (open ws))
+  unreferenced-is : (ws : List Wait) → AllByRecursion (IsSettledWell final s later) ws → unreferenced final later ws ≡ wait_refusal (earliest (still_open ws))
   unfolding unreferenced
   unreferenced-is [] h = refl
   unreferenced-is (w ∷ ws) h =
@@ -116,12 +116,12 @@ module _ (k : Known) (before : List Sight) (st : StatementTree) (statements : Li
   abbrev here : Sight
   here = record { known = k; statement = st }
 
-  abbrev later : List Sight
-  later = sights_from (known_after k st) statements
+  abbrev rest : List Sight
+  rest = sights_from (known_after k st) statements
 
-  split : first_fault before (sights_from k (st ∷ statements)) ≡ None → (statement_fault before here ≡ None) × (first_fault (before ++ here ∷ []) later ≡ None)
+  split : first_fault before (sights_from k (st ∷ statements)) ≡ None → (statement_fault before here ≡ None) × (first_fault (before ++ here ∷ []) rest ≡ None)
   unfolding sights_from first_fault
-  split none = both-none (statement_fault before here) (first_fault (before ++ here ∷ []) later) none
+  split none = both-none (statement_fault before here) (first_fault (before ++ here ∷ []) rest) none
 
 all-valued : (statements : List StatementTree) (k : Known) (before : List Sight) → first_fault before (sights_from k statements) ≡ None → AllByRecursion HasValue (sights_from k statements)
 unfolding sights_from
@@ -136,7 +136,7 @@ unfolding sights_from
 labels-at-end [] k before labels none = subst (AreLabels k.names) (sym (append-nil before)) labels
 labels-at-end (st ∷ statements) k before labels none =
     let parts = split k before st statements none in
-    subst (AreLabels (fold known_after (known_after k st) statements).names) (append_assoc before (here k before st statements ∷ []) (later k before st statements))
+    subst (AreLabels (fold known_after (known_after k st) statements).names) (append_assoc before (here k before st statements ∷ []) (rest k before st statements))
     (labels-at-end statements (known_after k st) (before ++ here k before st statements ∷ []) (labels-kept k before st parts.0 labels) parts.1)
 
 settled-by : (final : NameTable) (before : List Sight) (s : Sight) (later : List Sight) (who : Awaited) →
@@ -163,7 +163,7 @@ first-open [] k before final labels none ends = refl
 first-open (st ∷ statements) k before final labels none ends =
     let parts = split k before st statements none in
     let s = here k before st statements in
-    let more = later k before st statements in
+    let more = rest k before st statements in
     (λ i. first_of
     (unreferenced-is final s more (waits_in (outline s)) (all-settled final before s more (waits_in (outline s)) labels ends (all-valued statements (known_after k st) (before ++ s ∷ []) parts.1) (waits-unknown s (outline s) refl)) i)
     (first-open statements (known_after k st) (before ++ s ∷ []) final (labels-kept k before st parts.0 labels) parts.1 (subst (AreLabels final) (sym (append_assoc before (s ∷ []) more)) ends) i))

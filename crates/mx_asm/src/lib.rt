@@ -16,5 +16,5 @@ mod tests;
 
 pub use assembler::Assembler;
 pub use faults::AsmFault;
-pub use laws::lines_give_the_front;
+pub use laws::{lines_give_the_front, one_pass_gives_the_whole};
 pub use refused::Refused;
