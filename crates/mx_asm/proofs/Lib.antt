@@ -14,3 +14,4 @@ pub mod LinesTaken
 pub mod OnePassLaw
 pub mod EndWaits
 pub mod EndLaw
+pub mod InTurn
