@@ -3,6 +3,7 @@
 ghost use Rattle.std.specs.Prelude.{◌≡◌, ◌≢◌, ◌+◌, ◌<◌, ◌≤◌, ◌^◌, ◌++◌, ◌∷◌, ℕ, List, [], Bool, true, false, Result, Ok, Err, IfOk, IfErr, OnOk, OnErr, length};
 ghost use Rattle.mx_word.specs.Results.{map_ok};
 ghost use Rattle.mx_asm.specs.Faults.{no_memory};
+ghost use Rattle.mx_asm.specs.Fitting.{AreFit, IsWritable};
 ghost use Rattle.mx_asm.specs.Fronts.{IsFront};
 ghost use Rattle.mx_asm.specs.Entries.{holds_statement};
 ghost use Rattle.mx_asm.specs.OnePass as spec;
@@ -61,6 +62,7 @@ impl Assembler {
         ensures open { OnOk result (spec.is_open self.new ≡ true) }
         ensures sparing { spec.is_open self.old ≡ true → holds_statement text.now ≡ false → result ≢ Err no_memory }
         ensures front { IsFront out.new (spec.line_behind out.old self.old text.now).0 }
+        ensures fits { AreFit out.old → AreFit out.new }
         ensures again { OnErr self.old ((out.new ≡ out.old) × (self.new ≡ self.old)) }
     {
         if let Some(refused) = self.refused {
@@ -85,6 +87,8 @@ impl Assembler {
         ensures refused { IfErr result (λ refused. self.new ≡ Err refused) }
         ensures accepted { OnOk result (self.new ≡ map_ok spec.opened self.old) }
         ensures front { IsFront out.new (spec.end_behind out.old self.old).0 }
+        ensures fits { AreFit out.old → AreFit out.new }
+        ensures trie { IfOk result IsWritable }
         ensures again { OnErr self.old ((out.new ≡ out.old) × (self.new ≡ self.old)) }
     {
         if let Some(refused) = self.refused {
@@ -105,6 +109,8 @@ fn end(assembly: &mut Assembly, out: &mut Items) -> Result<Bytes, Refused>
     ensures ended { result ≢ Err no_memory → (out.new, result) ≡ spec.end_behind out.old (Ok assembly.old) }
     ensures opened { OnOk result (assembly.new ≡ spec.opened assembly.old) }
     ensures front { IsFront out.new (spec.end_behind out.old (Ok assembly.old)).0 }
+    ensures fits { AreFit out.old → AreFit out.new }
+    ensures trie { IfOk result IsWritable }
 {
     assembly.open(out)?;
     assembly.end(out)
@@ -120,6 +126,7 @@ fn take_line(
     ensures taken { result ≢ Err no_memory →
         (out.new, spec.standing_after result assembly.new) ≡ spec.line_behind out.old (Ok assembly.old) text.now }
     ensures front { IsFront out.new (spec.line_behind out.old (Ok assembly.old) text.now).0 }
+    ensures fits { AreFit out.old → AreFit out.new }
     ensures sparing { assembly.old.opened ≡ true → holds_statement text.now ≡ false → result ≢ Err no_memory }
 {
     assembly.open(out)?;
