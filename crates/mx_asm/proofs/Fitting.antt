@@ -1,11 +1,10 @@
 -- Lists of items that fit.
-use Rattle.std.proofs.Common.{◌≡◌, ◌≢◌, ◌<◌, ◌≤◌, ℕ, ◌+◌, ◌^◌, List, [], ◌∷◌, ◌++◌, length, length-append, ◌-◌, Some, ap, ◌∙◌, sym, subst, arith}
+use Rattle.std.proofs.Common.{◌≢◌, ◌<◌, ◌≤◌, ℕ, ◌+◌, ◌^◌, List, [], ◌∷◌, ◌++◌, length, length-append, ◌-◌, Some, ap, ◌∙◌, subst, arith}
 use Rattle.std.specs.Prelude.{codes}
-use Rattle.std.specs.List.{AllByRecursion}
-use Rattle.mx_stab.proofs.Orders.{all-front, all-back, all-both}
+use Rattle.mx_stab.proofs.Orders.{all-front, all-both}
 use Rattle.mx_word.specs.Ranges.{AreOctas}
 use Rattle.mx_mmo.specs.declared.items.Item.{Item}
-use Rattle.mx_mmo.specs.declared.items.Item.TheVariants.{File, Pre, Post, Stab}
+use Rattle.mx_mmo.specs.declared.items.Item.TheVariants.{File, Pre, Post}
 use Rattle.mx_mmo.specs.Valid.{Fits}
 use Rattle.mx_asm.specs.Fitting.{AreFit}
 use Rattle.mx_asm.specs.Fronts.{IsFront}

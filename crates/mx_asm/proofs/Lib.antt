@@ -17,3 +17,4 @@ pub mod EndLaw
 pub mod InTurn
 pub mod Sparing
 pub mod Fitting
+pub mod Validity

@@ -2,7 +2,7 @@
 use Rattle.std.specs.Prelude.{◌≡◌, ◌<◌, ℕ, ◌/◌, ◌%◌, ◌^◌, ◌⊎◌, List, length}
 use Rattle.std.specs.List.{AllByRecursion}
 use Rattle.mx_mmo.specs.declared.items.Item.{Item}
-use Rattle.mx_mmo.specs.Valid.{Fits}
+use Rattle.mx_mmo.specs.Valid.{Fits, Valid}
 
 unfoldable pub AreFit : List Item → Type 0
 AreFit items = AllByRecursion Fits items
@@ -11,7 +11,12 @@ AreFit items = AllByRecursion Fits items
 abbrev pub IsWidth : ℕ → Type 0
 IsWidth bits = (bits ≡ 16) ⊎ (bits ≡ 24)
 
--- A trie that is written: its tetras are whole, and two bytes count them.
-pub record IsWritable (trie : List ℕ) : Type 0 where
+-- A trie is padded where its tetras are whole, and two bytes count them.
+pub record IsPadded (trie : List ℕ) : Type 0 where
   pub whole : length trie % 4 ≡ 0
   pub most : length trie / 4 < 2 ^ 16
+
+-- Items and a trie that an object is written from.
+pub record AreWritable (items : List Item) (trie : List ℕ) : Type 0 where
+  pub valid : Valid items
+  pub padded : IsPadded trie

@@ -3,7 +3,7 @@
 ghost use Rattle.std.specs.Prelude.{◌≡◌, ◌≢◌, ◌+◌, ◌<◌, ◌≤◌, ◌^◌, ◌++◌, ◌∷◌, ℕ, List, [], Bool, true, false, Result, Ok, Err, IfOk, IfErr, OnOk, OnErr, length};
 ghost use Rattle.mx_word.specs.Results.{map_ok};
 ghost use Rattle.mx_asm.specs.Faults.{no_memory};
-ghost use Rattle.mx_asm.specs.Fitting.{AreFit, IsWritable};
+ghost use Rattle.mx_asm.specs.Fitting.{AreFit, AreWritable, IsPadded};
 ghost use Rattle.mx_asm.specs.Fronts.{IsFront};
 ghost use Rattle.mx_asm.specs.Entries.{holds_statement};
 ghost use Rattle.mx_asm.specs.OnePass as spec;
@@ -88,7 +88,8 @@ impl Assembler {
         ensures accepted { OnOk result (self.new ≡ map_ok spec.opened self.old) }
         ensures front { IsFront out.new (spec.end_behind out.old self.old).0 }
         ensures fits { AreFit out.old → AreFit out.new }
-        ensures trie { IfOk result IsWritable }
+        ensures object { (lines : List (List ℕ)) → HasTaken lines out.old self.old → AreFit out.old →
+            IfOk result (λ trie. AreWritable out.new trie) }
         ensures again { OnErr self.old ((out.new ≡ out.old) × (self.new ≡ self.old)) }
     {
         if let Some(refused) = self.refused {
@@ -110,7 +111,7 @@ fn end(assembly: &mut Assembly, out: &mut Items) -> Result<Bytes, Refused>
     ensures opened { OnOk result (assembly.new ≡ spec.opened assembly.old) }
     ensures front { IsFront out.new (spec.end_behind out.old (Ok assembly.old)).0 }
     ensures fits { AreFit out.old → AreFit out.new }
-    ensures trie { IfOk result IsWritable }
+    ensures trie { IfOk result IsPadded }
 {
     assembly.open(out)?;
     assembly.end(out)

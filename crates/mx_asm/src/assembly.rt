@@ -8,7 +8,7 @@ ghost use Rattle.mx_stmt.specs.Reading.{LabelHasDigit, StatementHasDigits};
 ghost use Rattle.mx_asm.specs.Effects.{IsEffect, IsPlaced};
 ghost use Rattle.mx_asm.specs.Emission.{opening, piece_items, piece_head};
 ghost use Rattle.mx_asm.specs.Faults.{no_memory};
-ghost use Rattle.mx_asm.specs.Fitting.{AreFit, IsWritable};
+ghost use Rattle.mx_asm.specs.Fitting.{AreFit, IsPadded};
 ghost use Rattle.mx_asm.specs.Fronts.{IsFront};
 ghost use Rattle.mx_asm.specs.Fixes.{awaited_value};
 ghost use Rattle.mx_asm.specs.TwoPass.{with_effect};
@@ -126,7 +126,7 @@ impl Assembly {
         ensures ended { result ≢ Err no_memory → (out.new, result) ≡ spec.ended out.old self.now }
         ensures front { IsFront out.new (spec.ended out.old self.now).0 }
         ensures fits { AreFit out.old → AreFit out.new }
-        ensures trie { IfOk result IsWritable }
+        ensures trie { IfOk result IsPadded }
     {
         if let Some(wait) = self.names.first_waiting() {
             return Err(Refused::at(wait.line, undefined(&wait.who)));

@@ -1,5 +1,4 @@
-use Rattle.std.proofs.Common.{rules, ◌≡◌, ◌++◌, ◌∷◌, ◌-◌, ◌∙◌, [], List, length, ap, sym, subst}
-use Rattle.mx_mmo.specs.declared.items.Item.{Item}
+use Rattle.std.proofs.Common.{rules, ◌≡◌, ◌++◌, ◌∷◌, ◌-◌, [], length, subst}
 use Rattle.mx_mmo.specs.declared.items.Item.TheVariants.{Post, Stab}
 use Rattle.mx_asm.specs.Fitting.{AreFit}
 use Rattle.mx_asm.proofs.Fitting.{fit-push, fit-registers}
