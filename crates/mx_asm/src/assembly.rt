@@ -64,7 +64,8 @@ impl Model for Assembly {
       opened = a.opened;
     } };
 
-    ghost invariant = { λ a. AreNames a.names × (length a.gregs ≤ 223) × (a.lines ≤ a.size) × (a.size ≤ 2 ^ 22 + 1) × (length a.names.symbols ≤ a.defined) };
+    ghost invariant = { λ a. AreNames a.names × (length a.gregs ≤ 223) × (a.lines ≤ a.size) × (a.size ≤ 2 ^ 22 + 1)
+        × (length a.names.symbols ≤ a.defined) };
 }
 
 impl Assembly {

@@ -57,8 +57,8 @@ fn take_cut(
 ) -> Result<(), Refused>
     requires { CutWithin (length text.now) cut.now }
     ensures taken { result ≢ Err no_memory → (out.new, spec.standing_after result assembly.new) ≡
-        spec.behind_entry out.old (spec.entry_taken assembly.old (entries.entry_of (item_of line text.now (Ok cut.now)))) }
-    ensures front { IsFront out.new (spec.behind_entry out.old (spec.entry_taken assembly.old (entries.entry_of (item_of line text.now (Ok cut.now))))).0 }
+        spec.cut_taken line text.now cut.now out.old assembly.old }
+    ensures front { IsFront out.new (spec.cut_taken line text.now cut.now out.old assembly.old).0 }
     ensures fits { AreFit out.old → AreFit out.new }
 {
     let statement = read(alloc, text, cut, line)?;
