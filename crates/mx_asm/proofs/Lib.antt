@@ -18,3 +18,4 @@ pub mod InTurn
 pub mod Sparing
 pub mod Fitting
 pub mod Validity
+pub mod FrontLaw
