@@ -53,7 +53,8 @@ impl Assembler {
     /// Takes the next line, a text without a newline byte, and adds the items of its statements. The
     /// first call of `line` or `finish` adds what stands first in an object. After a refusal every
     /// later call answers it again, and `out` has the items of the statements before the faulty one.
-    /// Behind a line that was taken, one that holds no statement takes no memory.
+    /// From `new` on, items and refusals are those of two passes over the lines so far. Behind a line
+    /// that was taken, one that holds no statement takes no memory.
     pub fn line(&mut self, text: &[u8], out: &mut Items) -> Result<(), Refused>
         ensures answer { result ≡ map_ok (λ _. tt) self.new }
         ensures taken { result ≢ Err no_memory → (out.new, self.new) ≡ spec.line_behind out.old self.old text.now }
@@ -79,7 +80,8 @@ impl Assembler {
 
     /// Ends the source: adds the global registers, and gives the symbol trie with the zeros that
     /// complete its last tetra. After a refusal every later call answers it again, and `out` has the
-    /// items of all statements, or of those before a faulty one.
+    /// items of all statements, or of those before a faulty one. From `new` on, items, trie and refusal
+    /// are those of two passes over all lines, and an object can be written from items and trie.
     pub fn finish(&mut self, out: &mut Items) -> Result<Bytes, Refused>
         ensures ended { result ≢ Err no_memory → (out.new, result) ≡ spec.end_behind out.old self.old }
         ensures whole { (lines : List (List ℕ)) → HasTaken lines out.old self.old → result ≢ Err no_memory →
