@@ -12,3 +12,10 @@ pub mod OneStatement
 pub mod Entries
 pub mod LinesTaken
 pub mod OnePassLaw
+pub mod EndWaits
+pub mod EndLaw
+pub mod InTurn
+pub mod Sparing
+pub mod Fitting
+pub mod Validity
+pub mod FrontLaw
