@@ -15,3 +15,4 @@ pub mod OnePassLaw
 pub mod MeaningTetras
 pub mod MeaningMemory
 pub mod MeaningPages
+pub mod MeaningStates
