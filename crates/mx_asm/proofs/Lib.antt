@@ -16,3 +16,4 @@ pub mod MeaningTetras
 pub mod MeaningMemory
 pub mod MeaningPages
 pub mod MeaningStates
+pub mod MeaningPieces
