@@ -17,3 +17,4 @@ pub mod MeaningMemory
 pub mod MeaningPages
 pub mod MeaningStates
 pub mod MeaningPieces
+pub mod MeaningBytes

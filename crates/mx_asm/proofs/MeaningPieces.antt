@@ -42,7 +42,7 @@ padded-placed m n a start bytes q e =
     ∙ xor_zero_l (placed (from_place (a + length before) bytes) q)
     ∙ ap (λ k. placed (from_place k bytes) q) at
 
-covered-placed : (start : ℕ) (bytes : List ℕ) (q : ℕ) → placed (from_place (lowered start) (covered start bytes)) q ≡ placed (from_place start bytes) q
+pub covered-placed : (start : ℕ) (bytes : List ℕ) (q : ℕ) → placed (from_place (lowered start) (covered start bytes)) q ≡ placed (from_place start bytes) q
 covered-placed start bytes q = padded-placed (start % 4) ((4 - (start + length bytes) % 4) % 4) (lowered start) start bytes q (omega arith)
 
 covered-sum : (start : ℕ) (bytes : List ℕ) → length (covered start bytes) ≡ start % 4 + length bytes + (4 - (start + length bytes) % 4) % 4
@@ -51,27 +51,27 @@ covered-sum start bytes =
     ∙ ap (λ k. k + length (zeros_after (start + length bytes))) (length-append (replicate (start % 4) 0) bytes ∙ ap (λ k. k + length bytes) (length-replicate (start % 4) 0))
     ∙ ap (λ k. start % 4 + length bytes + k) (length-replicate ((4 - (start + length bytes) % 4) % 4) 0)
 
-covered-length : (start : ℕ) (bytes : List ℕ) → lowered start + length (covered start bytes) ≡ raised (start + length bytes)
+pub covered-length : (start : ℕ) (bytes : List ℕ) → lowered start + length (covered start bytes) ≡ raised (start + length bytes)
 covered-length start bytes = ap (λ k. lowered start + k) (covered-sum start bytes) ∙ sum (length bytes)
   where
     sum : (n : ℕ) → lowered start + (start % 4 + n + (4 - (start + n) % 4) % 4) ≡ raised (start + n)
     sum n = omega arith
 
-covered-fours : (start : ℕ) (bytes : List ℕ) → length (covered start bytes) % 4 ≡ 0
+pub covered-fours : (start : ℕ) (bytes : List ℕ) → length (covered start bytes) % 4 ≡ 0
 covered-fours start bytes = let e = covered-length start bytes in omega (arith, e)
 
-covered-bytes : (start : ℕ) (bytes : List ℕ) → AreBytes bytes → AreBytes (covered start bytes)
+pub covered-bytes : (start : ℕ) (bytes : List ℕ) → AreBytes bytes → AreBytes (covered start bytes)
 covered-bytes start bytes h =
     bytes-append (replicate (start % 4) 0 ++ bytes) _ (bytes-append (replicate (start % 4) 0) bytes (bytes-zeros (start % 4)) h) (bytes-zeros ((4 - (start + length bytes) % 4) % 4))
 
-covered-pages : (start : ℕ) (bytes : List ℕ) (p : ℕ) → 0 < length bytes → pages_of (from_place (lowered start) (covered start bytes)) p ≡ pages_of (from_place start bytes) p
+pub covered-pages : (start : ℕ) (bytes : List ℕ) (p : ℕ) → 0 < length bytes → pages_of (from_place (lowered start) (covered start bytes)) p ≡ pages_of (from_place start bytes) p
 covered-pages start bytes p l =
     let whole = covered-length start bytes in
     let first : lowered start / 4096 ≡ start / 4096 = omega arith in
     let last : (raised (start + length bytes) - 1) / 4096 ≡ (start + length bytes - 1) / 4096 = omega arith in
     pages-alike (lowered start) start (raised (start + length bytes) - 1) (start + length bytes - 1) (covered start bytes) bytes p (omega (arith, whole)) l (omega (arith, whole)) (omega arith) first last
 
-tetras-length : (bytes : List ℕ) → length bytes % 4 ≡ 0 → 4 * length (tetras_of bytes) ≡ length bytes
+pub tetras-length : (bytes : List ℕ) → length bytes % 4 ≡ 0 → 4 * length (tetras_of bytes) ≡ length bytes
 tetras-length [] l = refl
 tetras-length (b ∷ []) l = absurd (omega arith)
 tetras-length (b ∷ c ∷ []) l = absurd (omega arith)
@@ -139,7 +139,7 @@ join-same m a b t e =
     joined (Ok m) = ap (λ (f : ℕ → ℕ). Ok (record m { memory = f })) (with-tetra-same m.memory a b t e)
     joined (Err e) = refl
 
-abbrev at_lambda : State → ℕ → State
+abbrev pub at_lambda : State → ℕ → State
 at_lambda s a = record s { lambda = a }
 
 load-same : (n : ℕ) (s : State) (b t : ℕ) → s.lambda / 4 ≡ b / 4 → take_item (stands n s) (Load t) ≡ take_item (stands n (at_lambda s b)) (Load t)
@@ -152,7 +152,7 @@ load-same n s b t e = ap (after_load (stands n s)) (join-same (image_at n s.plac
     after (Ok m) = λ i. Ok (record { image = image m i; lambda = (4 * e i + 4) % 2 ^ 64; line = next_line s.line; selected = true; named = with_name (λ k. false) 0 })
     after (Err e) = refl
 
-loads-same : (n : ℕ) (s : State) (b : ℕ) (ts : List ℕ) → s.lambda / 4 ≡ b / 4 → 0 < length ts → take_items (map Load ts) (limited n s) ≡ take_items (map Load ts) (limited n (at_lambda s b))
+pub loads-same : (n : ℕ) (s : State) (b : ℕ) (ts : List ℕ) → s.lambda / 4 ≡ b / 4 → 0 < length ts → take_items (map Load ts) (limited n s) ≡ take_items (map Load ts) (limited n (at_lambda s b))
 loads-same n s b [] e some = absurd (omega (arith, some))
 loads-same n s b (t ∷ ts) e some = on (nat_le (count_of n s) 65536)
   where
@@ -162,21 +162,21 @@ loads-same n s b (t ∷ ts) e some = on (nat_le (count_of n s) 65536)
 
 -- ---- the place and the line
 
-takes-located : (n : ℕ) (s : State) (start : ℕ) → Takes n (located s.lambda start) s (at_lambda s (cond (lowered s.lambda == lowered start) s.lambda (lowered start)))
+pub takes-located : (n : ℕ) (s : State) (start : ℕ) → Takes n (located s.lambda start) s (at_lambda s (cond (lowered s.lambda == lowered start) s.lambda (lowered start)))
 takes-located n s start = on (lowered s.lambda == lowered start)
   where
     on : (b : Bool) → Takes n (cond b [] (Loc (lowered start) ∷ [])) s (at_lambda s (cond b s.lambda (lowered start)))
     on true = takes-none n s
     on false = takes-still n _ s (at_lambda s (lowered start)) refl refl refl
 
-located-at : (s : State) (start : ℕ) → cond (lowered s.lambda == lowered start) s.lambda (lowered start) / 4 ≡ lowered start / 4
+pub located-at : (s : State) (start : ℕ) → cond (lowered s.lambda == lowered start) s.lambda (lowered start) / 4 ≡ lowered start / 4
 located-at s start = on (lowered s.lambda == lowered start) (λ e. eqb-true (lowered s.lambda) (lowered start) e)
   where
     on : (b : Bool) → (b ≡ true → lowered s.lambda ≡ lowered start) → cond b s.lambda (lowered start) / 4 ≡ lowered start / 4
     on true h = let e = h refl in omega (arith, e)
     on false h = refl
 
-takes-lined : (n : ℕ) (s : State) (line : ℕ) → Takes n (lined s.line line) s (record s { line = told_line line })
+pub takes-lined : (n : ℕ) (s : State) (line : ℕ) → Takes n (lined s.line line) s (record s { line = told_line line })
 takes-lined n s line = on (s.line == told_line line) (λ e. eqb-true s.line (told_line line) e)
   where
     on : (b : Bool) → (b ≡ true → s.line ≡ told_line line) → Takes n (cond b [] (Line (told_line line) ∷ [])) s (record s { line = told_line line })
@@ -185,7 +185,7 @@ takes-lined n s line = on (s.line == told_line line) (λ e. eqb-true s.line (tol
 
 -- ---- lines
 
-no-lines : (k a q : ℕ) (lines : ℕ → ℕ) → lines_with lines a 0 k q ≡ lines q
+pub no-lines : (k a q : ℕ) (lines : ℕ → ℕ) → lines_with lines a 0 k q ≡ lines q
 no-lines zero a q lines = refl
 no-lines (suc k) a q lines = no-lines k (a + 4) q lines
 
@@ -223,7 +223,7 @@ one-line u p k line x = ⊎_elim (λ l. before l) (λ l. from (cases_eq p u) l) 
         let e : line + 1 + (p - (u + 1)) ≡ line + (p - u) = omega (arith, l, ne) in
         rw (a, b, c, d, e) refl
 
-lines-are : (k a line q : ℕ) (lines : ℕ → ℕ) → 0 < line → line + k ≤ 2 ^ 32 - 1 →
+pub lines-are : (k a line q : ℕ) (lines : ℕ → ℕ) → 0 < line → line + k ≤ 2 ^ 32 - 1 →
     lines_with lines a line k q ≡ cond (nat_le (a / 4) (q / 4) && nat_lt (q / 4) (a / 4 + k)) (line + (q / 4 - a / 4)) (lines q)
 lines-are zero a line q lines some few = let none : (nat_le (a / 4) (q / 4) && nat_lt (q / 4) (a / 4 + 0)) ≡ false = grind (arith, nat_tests) in sym (ap (λ b. cond b (line + (q / 4 - a / 4)) (lines q)) none)
 lines-are (suc k) a line q lines some few =
@@ -234,22 +234,21 @@ lines-are (suc k) a line q lines some few =
     ∙ ap (λ u. cond (nat_le u (q / 4) && nat_lt (q / 4) (u + k)) (line + 1 + (q / 4 - u)) (lined_with lines a line q)) next
     ∙ one-line (a / 4) (q / 4) k line (lines q)
 
-line-after : (k line : ℕ) → line + k ≤ 2 ^ 32 - 1 → line_after line k ≡ line_behind line k
+pub line-after : (k line : ℕ) → line ≤ 2 ^ 32 - 1 → line_after line k ≡ line_behind line k
 line-after zero line few = on (line == 0) (λ e. eqb-true line 0 e)
   where
     on : (b : Bool) → (b ≡ true → line ≡ 0) → line ≡ cond b 0 (min (line + 0) (2 ^ 32 - 1))
     on true h = h refl
     on false h = omega (arith, few)
-line-after (suc k) line few = on (line == 0) (λ e. eqb-true line 0 e) (λ e. line-after k (line + 1) e)
+line-after (suc k) line few = on (line == 0) (line-after k (min (line + 1) (2 ^ 32 - 1)) (omega arith))
   where
     none : (k : ℕ) → line_after 0 k ≡ 0
     none zero = refl
     none (suc k) = none k
 
-    on : (b : Bool) → (b ≡ true → line ≡ 0) → (line + 1 + k ≤ 2 ^ 32 - 1 → line_after (line + 1) k ≡ line_behind (line + 1) k) → line_after (cond b 0 (min (line + 1) (2 ^ 32 - 1))) k ≡ cond b 0 (min (line + suc k) (2 ^ 32 - 1))
-    on true h rest = none k
-    on false h rest =
-        let least : min (line + 1) (2 ^ 32 - 1) ≡ line + 1 = omega (arith, few) in
-        let other : (line + 1 == 0) ≡ false = grind (arith, nat_tests) in
-        let same : line + 1 + k ≡ line + suc k = omega arith in
-        ap (λ l. line_after l k) least ∙ rest (omega (arith, few)) ∙ ap (λ b. cond b 0 (min (line + 1 + k) (2 ^ 32 - 1))) other ∙ ap (λ l. min l (2 ^ 32 - 1)) same
+    on : (b : Bool) → line_after (min (line + 1) (2 ^ 32 - 1)) k ≡ line_behind (min (line + 1) (2 ^ 32 - 1)) k → line_after (cond b 0 (min (line + 1) (2 ^ 32 - 1))) k ≡ cond b 0 (min (line + suc k) (2 ^ 32 - 1))
+    on true rest = none k
+    on false rest =
+        let other : (min (line + 1) (2 ^ 32 - 1) == 0) ≡ false = grind (arith, nat_tests) in
+        let same : min (min (line + 1) (2 ^ 32 - 1) + k) (2 ^ 32 - 1) ≡ min (line + suc k) (2 ^ 32 - 1) = omega (arith, few) in
+        rest ∙ ap (λ b. cond b 0 (min (min (line + 1) (2 ^ 32 - 1) + k) (2 ^ 32 - 1))) other ∙ same
