@@ -18,3 +18,4 @@ pub mod MeaningPages
 pub mod MeaningStates
 pub mod MeaningPieces
 pub mod MeaningBytes
+pub mod MeaningFixes
