@@ -20,6 +20,7 @@ use Rattle.mx_mmo.specs.declared.items.Item.TheVariants.{FixOcta, FixNear, FixFa
 use Rattle.mx_stmt.specs.declared.faults.StmtFault.TheVariants.{NotMultiple, TooFar}
 use Rattle.mx_stmt.specs.Forms.{relative_word, forward_word, backward_word, future_word, near_reach, far_reach}
 use Rattle.mx_stmt.specs.Fixes.{fix_bytes}
+use Rattle.mx_stmt.specs.Laid.{kind_size}
 use Rattle.mx_stmt.specs.Placements.{from_place, placed}
 use Rattle.mx_stmt.proofs.JoinedBytes.{from-append}
 use Rattle.mx_asm.specs.declared.faults.AsmFault.{AsmFault}
@@ -220,11 +221,6 @@ module _ (n : ℕ) (big : 2 ^ 51 ≤ n) (s : State) (have : HaveBytes (placed s.
       ∙ ap (λ w. limited n (with_placed place (tetra_to_bytes w))) (sym is.added)
 
 -- ---- one record
-
-abbrev pub kind_size : WaitKind → ℕ
-kind_size Octa = 8
-kind_size Near = 4
-kind_size Far = 4
 
 abbrev pub behind_fix : State → Wait → ℕ → State
 behind_fix s w value = record s { placements = s.placements ++ from_place w.at (fix_bytes w.kind w.at (Some value)) }

@@ -23,7 +23,7 @@ pub use env::Env;
 pub use faults::StmtFault;
 pub use gregs::Gregs;
 pub use laws::{
-    knowledge_stays_sound, nearest_base_is_least, operations_have_names, registers_are_bytes,
+    knowledge_stays_sound, nearest_base_is_least, operations_have_names, references_stand_in_their_bytes, registers_are_bytes,
     targets_join_their_bytes,
 };
 pub use placed::{Effect, Placed};
