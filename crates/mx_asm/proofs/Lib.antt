@@ -19,3 +19,7 @@ pub mod MeaningStates
 pub mod MeaningPieces
 pub mod MeaningBytes
 pub mod MeaningFixes
+pub mod EndWaits
+pub mod EndLaw
+pub mod InTurn
+pub mod Sparing

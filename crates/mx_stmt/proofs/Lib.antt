@@ -14,3 +14,4 @@ pub mod JoinedStatements
 pub mod SoundLabels
 pub mod SoundKnowledge
 pub mod LaidBytes
+pub mod AwaitedNames

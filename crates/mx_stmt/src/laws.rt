@@ -1,8 +1,11 @@
 //! What holds of the definitions alone.
 
 ghost use Rattle.std.specs.Prelude.{◌≡◌, ◌≤◌, ℕ, List, [], length, slice_set, Some, None, Ok, IfSome};
-ghost use Rattle.mx_names.specs.Names.{start, value_in, with_symbol};
+ghost use Rattle.std.specs.List.{AllByRecursion};
+ghost use Rattle.mx_names.specs.Names.{start, value_in, value_of_name, with_symbol};
 ghost use Rattle.mx_word.specs.declared.symbols.Value.{Value};
+ghost use Rattle.mx_word.specs.declared.waits.Awaited.TheVariants as awaited;
+ghost use Rattle.mx_word.specs.declared.waits.Wait.{Wait};
 ghost use Rattle.mx_stmt.specs.declared.gregs.Base.{Base};
 ghost use Rattle.mx_stmt.specs.declared.placed.Placed.{Placed};
 ghost use Rattle.mx_stmt.specs.Encoding.{StatementTree, IsPossible, encoding};
@@ -56,4 +59,10 @@ pub fn knowledge_stays_sound()
 /// multiple of 4 within them.
 pub fn references_stand_in_their_bytes()
     ensures { (t : Targets) (k : Known) (s : StatementTree) (p : Placed) → encoding t k s ≡ Ok p → IsLaid p }
+{}
+
+/// A statement waits only for local labels, and for names that have no value at it.
+pub fn awaited_names_are_unknown()
+    ensures { (t : Targets) (k : Known) (s : StatementTree) (p : Placed) → encoding t k s ≡ Ok p →
+        AllByRecursion (λ (w : Wait). (full : List ℕ) → w.who ≡ awaited.Name full → value_of_name k.names full ≡ None) p.waits }
 {}
