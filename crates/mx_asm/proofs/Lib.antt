@@ -23,3 +23,4 @@ pub mod EndWaits
 pub mod EndLaw
 pub mod InTurn
 pub mod Sparing
+pub mod MeaningStatements

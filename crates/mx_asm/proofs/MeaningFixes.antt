@@ -32,7 +32,7 @@ use Rattle.mx_asm.proofs.MeaningStates.{State, image_at, stands, count_of, limit
 
 -- ---- a word that is joined
 
-word-bytes : (t : ℕ) → AreBytes (tetra_to_bytes t)
+pub word-bytes : (t : ℕ) → AreBytes (tetra_to_bytes t)
 word-bytes t = (omega arith, (omega arith, (omega arith, (omega arith, tt))))
 
 word-joined : (n a t : ℕ) (ps : List (ℕ × ℕ)) (lines : ℕ → ℕ) → 2 ^ 51 ≤ n → a % 4 ≡ 0 → a < 0x6000_0000_0000_0000 → t < 2 ^ 32 → HaveBytes (placed ps) → pages_below n (pages_of ps) ≤ 65536 →

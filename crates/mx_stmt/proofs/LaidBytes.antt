@@ -221,7 +221,7 @@ datum-laid t line size place (target.Future who) small has eights =
       waits = (record { first = omega arith; last = omega (arith, has); fours = omega (arith, eight) }, tt);
     }
 
-all-append : (P : Wait → Type 0) (xs ys : List Wait) → AllByRecursion P xs → AllByRecursion P ys → AllByRecursion P (xs ++ ys)
+pub all-append : (P : Wait → Type 0) (xs ys : List Wait) → AllByRecursion P xs → AllByRecursion P ys → AllByRecursion P (xs ++ ys)
 all-append P [] ys h g = g
 all-append P (x ∷ xs) ys h g = (h.0, all-append P xs ys h.1 g)
 
