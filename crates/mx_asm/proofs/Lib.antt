@@ -24,3 +24,4 @@ pub mod EndLaw
 pub mod InTurn
 pub mod Sparing
 pub mod MeaningStatements
+pub mod MeaningFronts

@@ -68,7 +68,7 @@ waits-low s = on (outline s) refl
     on (Err fault) e = tt
     on (Ok p) e = let laid = encoding-laid no_targets s.known s.statement p e in all-into (IsInside p.start (length p.bytes)) IsLow p.waits (λ w h. inside-low p w laid h) laid.waits
 
-references-low : (ss : List Sight) → AllByRecursion IsLow (references ss)
+pub references-low : (ss : List Sight) → AllByRecursion IsLow (references ss)
 unfolding references
 references-low [] = tt
 references-low (s ∷ later) = all-append IsLow (waits_in (outline s)) (references later) (waits-low s) (references-low later)
@@ -86,7 +86,7 @@ waiting-by earlier s None = tt
 waiting-by earlier s (Some (Name text)) = all-filter IsLow (λ (w : Wait). same_awaited w.who (awaited.Name (complete_form s.known.names.prefix text))) (references (earlier ++ s ∷ [])) (references-low (earlier ++ s ∷ []))
 waiting-by earlier s (Some (Local d)) = all-filter IsLow (λ (w : Wait). same_awaited w.who (awaited.Local d)) (references (from_last d earlier)) (references-low (from_last d earlier))
 
-waiting-low : (earlier : List Sight) (s : Sight) → AllByRecursion IsLow (waiting_at earlier s)
+pub waiting-low : (earlier : List Sight) (s : Sight) → AllByRecursion IsLow (waiting_at earlier s)
 waiting-low earlier s = waiting-by earlier s s.statement.label
 
 -- ---- the records of a label
@@ -195,7 +195,7 @@ module _ (n : ℕ) (big : 2 ^ 51 ≤ n) where
       record { taken = ap (λ is. take_items is (limited n s)) (sym none) ∙ take-none (limited n s) }
   takes-fix-items line value (w ∷ waits) items s have word low h = takes-onto line value w waits items s (fixes line value (w ∷ waits)) have word low refl h
 
-fixed-have : (s : State) (value : Value) (waits : List Wait) → HaveBytes (placed s.placements) → HaveBytes (placed (behind_fixes s value waits).placements)
+pub fixed-have : (s : State) (value : Value) (waits : List Wait) → HaveBytes (placed s.placements) → HaveBytes (placed (behind_fixes s value waits).placements)
 fixed-have s value [] have = have
 fixed-have s (Pure v) (w ∷ waits) have = fixes-have (at_value v) (w ∷ waits) s.placements have
 fixed-have s (Reg r) (w ∷ waits) have = have
@@ -209,7 +209,7 @@ bytes-head : (s : State) (line start : ℕ) (bytes : List ℕ) → head_of (behi
 bytes-head s line start [] = refl
 bytes-head s line start (b ∷ bytes) = refl
 
-bytes-have : (s : State) (line start : ℕ) (bytes : List ℕ) → HaveBytes (placed s.placements) → AreBytes bytes → HaveBytes (placed (behind_bytes s line start bytes).placements)
+pub bytes-have : (s : State) (line start : ℕ) (bytes : List ℕ) → HaveBytes (placed s.placements) → AreBytes bytes → HaveBytes (placed (behind_bytes s line start bytes).placements)
 bytes-have s line start [] have are = have
 bytes-have s line start (b ∷ bytes) have are = more-bytes s.placements start (b ∷ bytes) have are
 
@@ -217,10 +217,10 @@ bytes-have s line start (b ∷ bytes) have are = more-bytes s.placements start (
 abbrev pub behind_placed : State → ℕ → Placed → List Wait → State
 behind_placed s line p waits = behind_bytes (behind_fixes s (awaited_value p.label) waits) line p.start p.bytes
 
-placed-head : (s : State) (line : ℕ) (p : Placed) (waits : List Wait) → head_of (behind_placed s line p waits) ≡ statement_head (head_of s) line p waits
+pub placed-head : (s : State) (line : ℕ) (p : Placed) (waits : List Wait) → head_of (behind_placed s line p waits) ≡ statement_head (head_of s) line p waits
 placed-head s line p waits = bytes-head (behind_fixes s (awaited_value p.label) waits) line p.start p.bytes ∙ ap (λ h. head_at_bytes h line p.start p.bytes) (fixed-head s (awaited_value p.label) waits)
 
-takes-placed : (n : ℕ) (line : ℕ) (p : Placed) (waits : List Wait) (items : List Item) (s : State) → 2 ^ 51 ≤ n → HaveBytes (placed s.placements) → IsWord (awaited_value p.label) → AllByRecursion IsLow waits → IsLaid p → 0 < line →
+pub takes-placed : (n : ℕ) (line : ℕ) (p : Placed) (waits : List Wait) (items : List Item) (s : State) → 2 ^ 51 ≤ n → HaveBytes (placed s.placements) → IsWord (awaited_value p.label) → AllByRecursion IsLow waits → IsLaid p → 0 < line →
     statement_items (head_of s) line p waits ≡ Ok items → Takes n items s (behind_placed s line p waits)
 takes-placed n line p waits items s big have word low laid some h = on (fix_items s.lambda line (awaited_value p.label) waits) refl h
   where
