@@ -25,3 +25,4 @@ pub mod InTurn
 pub mod Sparing
 pub mod MeaningStatements
 pub mod MeaningFronts
+pub mod MeaningPlaces

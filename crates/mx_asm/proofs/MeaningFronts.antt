@@ -78,7 +78,7 @@ sight-head-is s earlier t (Err fault) = refl
 sight-head-is s earlier t (Ok p) = placed-head s t.statement.line p (waiting_at earlier t)
 
 -- the laying of a statement
-laid : (t : Sight) (p : Placed) → outline t ≡ Ok p → IsLaid p
+pub laid : (t : Sight) (p : Placed) → outline t ≡ Ok p → IsLaid p
 laid t p e = encoding-laid no_targets t.known t.statement p e
 
 sight-have : (s : State) (earlier : List Sight) (t : Sight) (p : Placed) → outline t ≡ Ok p → HaveBytes (placed s.placements) → HaveBytes (placed (behind_placed s t.statement.line p (waiting_at earlier t)).placements)

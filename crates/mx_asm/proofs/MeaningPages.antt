@@ -14,7 +14,7 @@ pub same-pages : (f g : ℕ → Bool) → ((p : ℕ) → f p ≡ g p) → f ≡ 
 same-pages f g h = λ i p. h p i
 
 -- pages that are there stay where there are more
-pub AreMore : (ℕ → Bool) → (ℕ → Bool) → Type 0
+abbrev pub AreMore : (ℕ → Bool) → (ℕ → Bool) → Type 0
 AreMore more pages = (p : ℕ) → pages p ≡ true → more p ≡ true
 
 one-count : (s t : Bool) → (s ≡ true → t ≡ true) → cond s 1 0 ≤ cond t 1 0
@@ -24,7 +24,7 @@ one-count false true h = omega arith
 one-count false false h = omega arith
 
 pub more-count : (n : ℕ) (more pages : ℕ → Bool) → AreMore more pages → pages_below n pages ≤ pages_below n more
-unfolding pages_below AreMore
+unfolding pages_below
 more-count zero more pages h = omega arith
 more-count (suc n) more pages h = omega (arith, one-count (pages n) (more n) (h n), more-count n more pages h)
 
@@ -36,7 +36,6 @@ pub append-pages : (ps qs : List (ℕ × ℕ)) (p : ℕ) → pages_of (ps ++ qs)
 append-pages ps qs p = list_any-append (λ q. q.0 / 4096 == p) ps qs
 
 pub append-more : (ps qs : List (ℕ × ℕ)) → AreMore (pages_of (ps ++ qs)) (pages_of ps)
-unfolding AreMore
 append-more ps qs = λ p h. append-pages ps qs p ∙ or-more (pages_of ps p) (pages_of qs p) h
 
 -- a page with a number that is not below n
