@@ -26,3 +26,4 @@ pub mod Sparing
 pub mod MeaningStatements
 pub mod MeaningFronts
 pub mod MeaningPlaces
+pub mod MeaningSums
