@@ -27,3 +27,4 @@ pub mod MeaningStatements
 pub mod MeaningFronts
 pub mod MeaningPlaces
 pub mod MeaningSums
+pub mod MeaningWhole

@@ -48,7 +48,7 @@ use Rattle.mx_asm.proofs.MeaningPlaces.{fixed-to}
 abbrev pub added : Targets → List Wait → ℕ → ℕ
 added t waits q = placed (fix_placements t waits) q
 
-added-append : (t : Targets) (xs ys : List Wait) (q : ℕ) → added t (xs ++ ys) q ≡ bit_xor (added t xs q) (added t ys q)
+pub added-append : (t : Targets) (xs ys : List Wait) (q : ℕ) → added t (xs ++ ys) q ≡ bit_xor (added t xs q) (added t ys q)
 added-append t xs ys q = ap (λ ps. placed ps q) (both xs) ∙ placed-append (fix_placements t xs) (fix_placements t ys) q
   where
     both : (xs : List Wait) → fix_placements t (xs ++ ys) ≡ fix_placements t xs ++ fix_placements t ys
@@ -118,16 +118,16 @@ label-kept names (Some (Local d)) None full v none h = h
 label-kept names (Some (Name text)) (Some value) full v none h = symbol-kept names (complete_form names.prefix text) full value v (not-some _ (name-new names text (symbol_form names text) refl none)) h
 label-kept names (Some (Local d)) (Some value) full v none h = h
 
-after-is : (k : Known) (st : StatementTree) (p : Placed) → encoding no_targets k st ≡ Ok p → (known_after k st).names.symbols ≡ (with_label k.names st.label p.label).symbols
+pub after-is : (k : Known) (st : StatementTree) (p : Placed) → encoding no_targets k st ≡ Ok p → (known_after k st).names.symbols ≡ (with_label k.names st.label p.label).symbols
 unfolding known_after
 after-is k st p e =
     ap (λ r. (known_with k st r).names.symbols) e
     ∙ effect-symbols (record { names = with_label k.names st.label p.label; at = p.after; gregs = k.gregs }) p.effect
 
-abbrev sight_at : Known → StatementTree → Sight
+abbrev pub sight_at : Known → StatementTree → Sight
 sight_at k st = record { known = k; statement = st }
 
-symbol-at-end : (statements : List StatementTree) (k : Known) (earlier : List Sight) (full : List ℕ) (v : Value) → first_fault earlier (sights_from k statements) ≡ None → symbol_in full k.names.symbols ≡ Some v →
+pub symbol-at-end : (statements : List StatementTree) (k : Known) (earlier : List Sight) (full : List ℕ) (v : Value) → first_fault earlier (sights_from k statements) ≡ None → symbol_in full k.names.symbols ≡ Some v →
     symbol_in full (fold known_after k statements).names.symbols ≡ Some v
 unfolding sights_from first_fault
 symbol-at-end [] k earlier full v none h = h
@@ -141,7 +141,7 @@ symbol-at-end (st ∷ statements) k earlier full v none h =
 -- ---- one statement
 
 -- what stands behind records, where these are the targets
-fixes-placed : (s : State) (line : ℕ) (value : Value) (waits : List Wait) (t : Targets) (q : ℕ) → refusal_of (fixes line value waits) ≡ None → AllByRecursion (λ (w : Wait). t w.who ≡ pure_number (Some value)) waits →
+pub fixes-placed : (s : State) (line : ℕ) (value : Value) (waits : List Wait) (t : Targets) (q : ℕ) → refusal_of (fixes line value waits) ≡ None → AllByRecursion (λ (w : Wait). t w.who ≡ pure_number (Some value)) waits →
     placed (behind_fixes s value waits).placements q ≡ bit_xor (placed s.placements q) (added t waits q)
 unfolding fixes
 fixes-placed s line value [] t q none h = sym (xor_zero_r (placed s.placements q))
@@ -150,16 +150,16 @@ fixes-placed s line (Pure v) (w ∷ waits) t q none h =
     placed-append s.placements (fix_placements (at_value v) (w ∷ waits)) q
     ∙ ap (bit_xor (placed s.placements q)) (sym (added-same t (at_value v) (w ∷ waits) q h))
 
-bytes-placed : (s : State) (line start : ℕ) (bytes : List ℕ) (q : ℕ) → placed (behind_bytes s line start bytes).placements q ≡ bit_xor (placed s.placements q) (placed (from_place start bytes) q)
+pub bytes-placed : (s : State) (line start : ℕ) (bytes : List ℕ) (q : ℕ) → placed (behind_bytes s line start bytes).placements q ≡ bit_xor (placed s.placements q) (placed (from_place start bytes) q)
 bytes-placed s line start [] q = sym (xor_zero_r (placed s.placements q))
 bytes-placed s line start (b ∷ bytes) q = placed-append s.placements (from_place start (b ∷ bytes)) q
 
 -- what a statement settles, by the kind of its label: the references that waited for it had its value, and all others keep
 -- theirs
-record Settles (final : NameTable) (earlier later : List Sight) (t : Sight) (p : Placed) (q : ℕ) : Type 0 where
-  by : Targets
-  fixed : AllByRecursion (λ (w : Wait). by w.who ≡ pure_number (Some (awaited_value p.label))) (waiting_at earlier t)
-  sums : bit_xor (added by (waiting_at earlier t) q) (added (targets final later) (open_waits (earlier ++ t ∷ [])) q)
+pub record Settles (final : NameTable) (earlier later : List Sight) (t : Sight) (p : Placed) (q : ℕ) : Type 0 where
+  pub by : Targets
+  pub fixed : AllByRecursion (λ (w : Wait). by w.who ≡ pure_number (Some (awaited_value p.label))) (waiting_at earlier t)
+  pub sums : bit_xor (added by (waiting_at earlier t) q) (added (targets final later) (open_waits (earlier ++ t ∷ [])) q)
       ≡ bit_xor (added (targets final (t ∷ later)) (open_waits earlier) q) (added (targets final later) p.waits q)
 
 module _ (final : NameTable) (earlier later : List Sight) (t : Sight) (p : Placed) (q : ℕ) (is : outline t ≡ Ok p) where
@@ -179,7 +179,7 @@ module _ (final : NameTable) (earlier later : List Sight) (t : Sight) (p : Place
   all-late : (label : Option Label) → t.statement.label ≡ label → ((d : ℕ) → is_local d label ≡ false) → (waits : List Wait) → added late waits q ≡ added early waits q
   all-late label e none waits = added-same late early waits q (every (λ (w : Wait). late w.who ≡ early w.who) waits (λ w. targets-same label e none w.who))
 
-  unlabelled-settles : t.statement.label ≡ None → Settles final earlier later t p q
+  pub unlabelled-settles : t.statement.label ≡ None → Settles final earlier later t p q
   unlabelled-settles e =
       let none : waiting_at earlier t ≡ [] = ap (waiting_for earlier t) e in
       record {
@@ -193,7 +193,7 @@ module _ (final : NameTable) (earlier later : List Sight) (t : Sight) (p : Place
             ∙ ap (λ n. bit_xor n (added late p.waits q)) (all-late None e (λ d. refl) (open_waits earlier));
       }
 
-  named-settles : (text : List ℕ) → t.statement.label ≡ Some (Name text) → any_settles earlier (awaited.Name (complete_form t.known.names.prefix text)) ≡ false →
+  pub named-settles : (text : List ℕ) → t.statement.label ≡ Some (Name text) → any_settles earlier (awaited.Name (complete_form t.known.names.prefix text)) ≡ false →
       value_of_name final (complete_form t.known.names.prefix text) ≡ Some (awaited_value p.label) → Settles final earlier later t p q
   named-settles text e new ends =
       let full : List ℕ = complete_form t.known.names.prefix text in
@@ -213,7 +213,7 @@ module _ (final : NameTable) (earlier later : List Sight) (t : Sight) (p : Place
             ∙ ap (λ n. bit_xor n (added late p.waits q)) (all-late (Some (Name text)) e (λ d. refl) (open_waits earlier));
       }
 
-  local-settles : (d : ℕ) (value : Value) → t.statement.label ≡ Some (Local d) → p.label ≡ Some value → Settles final earlier later t p q
+  pub local-settles : (d : ℕ) (value : Value) → t.statement.label ≡ Some (Local d) → p.label ≡ Some value → Settles final earlier later t p q
   unfolding next_local
   local-settles d value e label =
       let who : Awaited = awaited.Local d in
