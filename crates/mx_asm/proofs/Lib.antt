@@ -28,3 +28,4 @@ pub mod MeaningFronts
 pub mod MeaningPlaces
 pub mod MeaningSums
 pub mod MeaningWhole
+pub mod MeaningWords
