@@ -29,3 +29,5 @@ pub mod MeaningPlaces
 pub mod MeaningSums
 pub mod MeaningWhole
 pub mod MeaningWords
+pub mod MeaningSteady
+pub mod MeaningLaws

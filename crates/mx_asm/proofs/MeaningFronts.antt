@@ -117,7 +117,7 @@ takes-sights n (t ∷ later) earlier s big none steady have =
 
 -- ---- the opening
 
-no-pages : (n : ℕ) → pages_below n (λ p. false) ≡ 0
+pub no-pages : (n : ℕ) → pages_below n (λ p. false) ≡ 0
 unfolding pages_below
 no-pages zero = refl
 no-pages (suc n) = ap (λ k. 0 + k) (no-pages n)

@@ -64,7 +64,7 @@ same-addresses f a (x ∷ xs) (y ∷ ys) e = ap (λ b. f a || b) (same-addresses
 fixed-addresses : (f : ℕ → Bool) (t : Targets) (p q : Placed) → IsFixed t p q → list_any (λ (r : ℕ × ℕ). f r.0) (from_place q.start q.bytes) ≡ list_any (λ (r : ℕ × ℕ). f r.0) (from_place p.start p.bytes)
 fixed-addresses f t p q is = ap (λ a. list_any (λ (r : ℕ × ℕ). f r.0) (from_place a q.bytes)) is.start ∙ same-addresses f p.start q.bytes p.bytes is.count
 
-fixed-pages : (t : Targets) (p q : Placed) (page : ℕ) → IsFixed t p q → pages_of (from_place q.start q.bytes) page ≡ pages_of (from_place p.start p.bytes) page
+pub fixed-pages : (t : Targets) (p q : Placed) (page : ℕ) → IsFixed t p q → pages_of (from_place q.start q.bytes) page ≡ pages_of (from_place p.start p.bytes) page
 fixed-pages t p q page is = fixed-addresses (λ a. a / 4096 == page) t p q is
 
 fixed-lines : (t : Targets) (p q : Placed) (line : ℕ) (lines : ℕ → ℕ) → IsFixed t p q → with_lines lines (piece_at line q.start q.bytes) ≡ with_lines lines (piece_at line p.start p.bytes)

@@ -10,3 +10,4 @@ pub mod OnePass
 pub mod Whole
 pub mod Effects
 pub mod Statements
+pub mod Pages
