@@ -12,6 +12,13 @@ pub mod OneStatement
 pub mod Entries
 pub mod LinesTaken
 pub mod OnePassLaw
+pub mod MeaningTetras
+pub mod MeaningMemory
+pub mod MeaningPages
+pub mod MeaningStates
+pub mod MeaningPieces
+pub mod MeaningBytes
+pub mod MeaningFixes
 pub mod EndWaits
 pub mod EndLaw
 pub mod InTurn
@@ -19,3 +26,11 @@ pub mod Sparing
 pub mod Fitting
 pub mod Validity
 pub mod FrontLaw
+pub mod MeaningStatements
+pub mod MeaningFronts
+pub mod MeaningPlaces
+pub mod MeaningSums
+pub mod MeaningWhole
+pub mod MeaningWords
+pub mod MeaningSteady
+pub mod MeaningLaws

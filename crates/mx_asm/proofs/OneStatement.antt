@@ -204,7 +204,7 @@ name-new-by : (names : NameTable) (text full : List ℕ) (answer : Result (Unit 
 name-new-by names text full (Err fault) form told none = absurd (cc)
 name-new-by names text full (Ok u) form told none = ap (λ f. is_some (value_in f names.symbols)) (sym (form-is names text full form)) ∙ absent names full u told
 
-name-new : (names : NameTable) (text : List ℕ) (r : Result (List ℕ) NameFault) → symbol_form names text ≡ r → name_fault names r ≡ None → is_some (value_in (complete_form names.prefix text) names.symbols) ≡ false
+pub name-new : (names : NameTable) (text : List ℕ) (r : Result (List ℕ) NameFault) → symbol_form names text ≡ r → name_fault names r ≡ None → is_some (value_in (complete_form names.prefix text) names.symbols) ≡ false
 name-new names text (Err fault) form none = absurd (cc)
 name-new names text (Ok full) form none = name-new-by names text full (define_answer names full) form refl none
 
@@ -216,13 +216,13 @@ label-more names (Some label) None full has none = absurd has
 label-more names (Some (Name text)) (Some value) full has none = symbol-more names text full value (name-new names text (symbol_form names text) refl none)
 label-more names (Some (Local d)) (Some value) full has none = sym (or-false _)
 
-effect-symbols : (k : Known) (e : Effect) → (with_effect k e).names.symbols ≡ k.names.symbols
+pub effect-symbols : (k : Known) (e : Effect) → (with_effect k e).names.symbols ≡ k.names.symbols
 effect-symbols k effect.Plain = refl
 effect-symbols k (effect.Prefix full) = refl
 effect-symbols k (effect.Greg reg value) = refl
 effect-symbols k (effect.Local reg) = refl
 
-no-label-fault : (before : List Sight) (s : Sight) (p : Placed) (f : Option AsmFault) → fault_behind before s p f ≡ None → f ≡ None
+pub no-label-fault : (before : List Sight) (s : Sight) (p : Placed) (f : Option AsmFault) → fault_behind before s p f ≡ None → f ≡ None
 no-label-fault before s p None h = refl
 no-label-fault before s p (Some fault) h = absurd (cc)
 

@@ -8,22 +8,14 @@ use Rattle.mx_mmo.specs.Meaning.{value_at}
 use Rattle.mx_stmt.specs.Gregs.{lowest_of}
 use Rattle.mx_stmt.specs.Operands.{Known}
 use Rattle.mx_stmt.specs.Encoding.{StatementTree}
+pub use Rattle.mx_stmt.specs.Placements.{from_place, placed}
 use Rattle.mx_asm.specs.TwoPass.{Piece, pieces, final_known}
 use Rattle.mx_asm.specs.Emission.{main_of}
 
--- bytes with their addresses
-abbrev pub from_place : ℕ → List ℕ → List (ℕ × ℕ)
-from_place a [] = []
-from_place a (b ∷ bytes) = (a, b) ∷ from_place (a + 1) bytes
-
+-- all bytes that pieces place, each with its address
 unfoldable pub placements : List Piece → List (ℕ × ℕ)
 placements [] = []
 placements (p ∷ later) = from_place p.start p.bytes ++ placements later
-
--- the exclusive or of all bytes that are placed at an address
-abbrev pub placed : List (ℕ × ℕ) → ℕ → ℕ
-placed [] a = 0
-placed (p ∷ ps) a = if a == p.0 then bit_xor p.1 (placed ps a) else placed ps a
 
 -- the octa that holds an address, by the bytes at each
 abbrev pub octa_from : (ℕ → ℕ) → ℕ → ℕ

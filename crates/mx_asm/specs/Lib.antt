@@ -10,3 +10,5 @@ pub mod OnePass
 pub mod Whole
 pub mod Effects
 pub mod Fitting
+pub mod Statements
+pub mod Pages

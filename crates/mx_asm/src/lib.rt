@@ -10,6 +10,7 @@ mod head;
 mod labels;
 mod laws;
 mod lines;
+mod meaning_laws;
 mod refused;
 #[cfg(test)]
 mod tests;
@@ -20,4 +21,5 @@ pub use laws::{
     entries_are_read, lines_are_taken_in_turn, lines_give_the_front, one_pass_gives_the_whole,
     sources_are_emitted_or_refused,
 };
+pub use meaning_laws::{items_mean_the_image, lines_are_loaded_where_there_is_room};
 pub use refused::Refused;

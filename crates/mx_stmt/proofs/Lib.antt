@@ -13,4 +13,5 @@ pub mod JoinedData
 pub mod JoinedStatements
 pub mod SoundLabels
 pub mod SoundKnowledge
+pub mod LaidBytes
 pub mod AwaitedNames

@@ -10,6 +10,7 @@ ghost use Rattle.mx_stmt.specs.declared.gregs.Base.{Base};
 ghost use Rattle.mx_stmt.specs.declared.placed.Placed.{Placed};
 ghost use Rattle.mx_stmt.specs.Encoding.{StatementTree, IsPossible, encoding};
 ghost use Rattle.mx_stmt.specs.Fixes.{IsFixed, IsOperation, IsSound, HasRegisterNumber};
+ghost use Rattle.mx_stmt.specs.Laid.{IsLaid};
 ghost use Rattle.mx_stmt.specs.Gregs.{IsAllocable, IsNearest, nearest_base, with_greg};
 ghost use Rattle.mx_stmt.specs.Operands.{Known, Targets, no_targets};
 ghost use Rattle.mx_stmt.specs.Reading.{Fields, IsRead};
@@ -52,6 +53,12 @@ pub fn knowledge_stays_sound()
         IsSound (record k { names = record k.names { backs = slice_set k.names.backs d v } }) }
     ensures register { (k : Known) (reg value : ℕ) → IsAllocable k.gregs reg → IsSound k →
         IsSound (record k { gregs = with_greg k.gregs reg value }) }
+{}
+
+/// The bytes of a statement are bytes below the stack segment, and each of its references stands at a
+/// multiple of 4 within them.
+pub fn references_stand_in_their_bytes()
+    ensures { (t : Targets) (k : Known) (s : StatementTree) (p : Placed) → encoding t k s ≡ Ok p → IsLaid p }
 {}
 
 /// A statement waits only for local labels, and for names that have no value at it.

@@ -1,0 +1,250 @@
+-- A fix record joins what its reference adds to the bytes at its place.
+use Rattle.std.proofs.Common.{◌≡◌, ℕ, zero, suc, ◌+◌, ◌-◌, ◌*◌, ◌/◌, ◌%◌, ◌^◌, ◌<◌, ◌≤◌, List, [], ◌∷◌, ◌++◌, length, Bool, true, false, not, cond, arith, refl, sym, ◌∙◌, ap, Option, Some, None, Result, Ok, Err, ◌⊎◌, inl, inr, append_assoc}
+use Rattle.std.specs.Prelude.{◌==◌, ◌&&◌, nat_le, nat_lt}
+use Rattle.std.specs.Result.{result_unwrap_or}
+use Rattle.std.specs.Int.{byte_at}
+use Rattle.std.proofs.lemmas.Bool.{eqb-true, leb-true, leb-false, ltb-true}
+use Rattle.std.proofs.lemmas.Bool.Decides.{nat_tests}
+use Rattle.mx_word.specs.Words.{octa_to_bytes, tetra_to_bytes, tetra_from_bytes}
+use Rattle.mx_word.specs.Ranges.{AreBytes}
+use Rattle.mx_word.proofs.Tetras.{tetra-back}
+use Rattle.mx_word.specs.declared.symbols.Value.{Value}
+use Rattle.mx_word.specs.declared.symbols.Value.TheVariants.{Pure, Reg}
+use Rattle.mx_word.specs.declared.waits.Wait.{Wait}
+use Rattle.mx_word.specs.declared.waits.WaitKind.{WaitKind}
+use Rattle.mx_word.specs.declared.waits.WaitKind.TheVariants.{Octa, Near, Far}
+use Rattle.mx_mmo.specs.Image.{Image}
+use Rattle.mx_mmo.specs.Meaning.{Loading, Meaningless, PagesFull, BadPlace, is_below, join, then_join, join_octa, tetras_before, tetras_behind, far_place, with_image, with_name, take_item, take_items}
+use Rattle.mx_mmo.specs.declared.items.Item.{Item}
+use Rattle.mx_mmo.specs.declared.items.Item.TheVariants.{FixOcta, FixNear, FixFar}
+use Rattle.mx_stmt.specs.declared.faults.StmtFault.TheVariants.{NotMultiple, TooFar}
+use Rattle.mx_stmt.specs.Forms.{relative_word, forward_word, backward_word, future_word, near_reach, far_reach}
+use Rattle.mx_stmt.specs.Fixes.{fix_bytes}
+use Rattle.mx_stmt.specs.Laid.{kind_size}
+use Rattle.mx_stmt.specs.Placements.{from_place, placed}
+use Rattle.mx_stmt.proofs.JoinedBytes.{from-append}
+use Rattle.mx_asm.specs.declared.faults.AsmFault.{AsmFault}
+use Rattle.mx_asm.specs.Image.{pages_of, pages_below}
+use Rattle.mx_asm.specs.Fixes.{word_fix, relative_fix, pure_fix, fix_of}
+use Rattle.mx_asm.proofs.MeaningMemory.{HaveBytes}
+use Rattle.mx_asm.proofs.MeaningPages.{more-count, append-more, unless_full}
+use Rattle.mx_asm.proofs.MeaningStates.{State, image_at, stands, count_of, limited, Takes, take-none, takes-few, tetra-joined, more-bytes}
+
+-- ---- a word that is joined
+
+pub word-bytes : (t : ℕ) → AreBytes (tetra_to_bytes t)
+word-bytes t = (omega arith, (omega arith, (omega arith, (omega arith, tt))))
+
+word-joined : (n a t : ℕ) (ps : List (ℕ × ℕ)) (lines : ℕ → ℕ) → 2 ^ 51 ≤ n → a % 4 ≡ 0 → a < 0x6000_0000_0000_0000 → t < 2 ^ 32 → HaveBytes (placed ps) → pages_below n (pages_of ps) ≤ 65536 →
+    join (image_at n ps lines) a t ≡ unless_full (pages_below n (pages_of (ps ++ from_place a (tetra_to_bytes t)))) (image_at n (ps ++ from_place a (tetra_to_bytes t)) lines)
+word-joined n a t ps lines big m l fits have few =
+    ap (join (image_at n ps lines) a) (sym (tetra-back t fits))
+    ∙ tetra-joined n a (byte_at 3 t) (byte_at 2 t) (byte_at 1 t) (byte_at 0 t) ps lines big m l (word-bytes t) have few
+
+-- the place of two words that are joined one after another
+then-joined : (n a t : ℕ) (ps : List (ℕ × ℕ)) (lines : ℕ → ℕ) → 2 ^ 51 ≤ n → a % 4 ≡ 0 → a < 0x6000_0000_0000_0000 → t < 2 ^ 32 → HaveBytes (placed ps) →
+    then_join a t (unless_full (pages_below n (pages_of ps)) (image_at n ps lines)) ≡ unless_full (pages_below n (pages_of (ps ++ from_place a (tetra_to_bytes t)))) (image_at n (ps ++ from_place a (tetra_to_bytes t)) lines)
+then-joined n a t ps lines big m l fits have = on (nat_le (pages_below n (pages_of ps)) 65536) refl
+  where
+    on : (b : Bool) → nat_le (pages_below n (pages_of ps)) 65536 ≡ b →
+        then_join a t (cond b (Ok (image_at n ps lines)) (Err PagesFull)) ≡ unless_full (pages_below n (pages_of (ps ++ from_place a (tetra_to_bytes t)))) (image_at n (ps ++ from_place a (tetra_to_bytes t)) lines)
+    on true e = word-joined n a t ps lines big m l fits have (grind (arith, nat_tests))
+    on false e =
+        let grown = more-count n (pages_of (ps ++ from_place a (tetra_to_bytes t))) (pages_of ps) (append-more ps (from_place a (tetra_to_bytes t))) in
+        let full : nat_le (pages_below n (pages_of (ps ++ from_place a (tetra_to_bytes t)))) 65536 ≡ false = grind (arith, nat_tests) in
+        sym (ap (λ b. cond b (Ok (image_at n (ps ++ from_place a (tetra_to_bytes t)) lines)) (Err PagesFull)) full)
+
+with-unless : (n : ℕ) (s : State) (ps : List (ℕ × ℕ)) → with_image (stands n s) (unless_full (pages_below n (pages_of ps)) (image_at n ps s.lines)) ≡ limited n (record s { placements = ps })
+with-unless n s ps = on (nat_le (pages_below n (pages_of ps)) 65536)
+  where
+    on : (b : Bool) → with_image (stands n s) (cond b (Ok (image_at n ps s.lines)) (Err PagesFull)) ≡ cond b (Ok (stands n (record s { placements = ps }))) (Err PagesFull)
+    on true = refl
+    on false = refl
+
+-- ---- an octa
+
+octa-halves : (x : ℕ) → octa_to_bytes x ≡ tetra_to_bytes (x / 2 ^ 32) ++ tetra_to_bytes (x % 2 ^ 32)
+octa-halves x =
+    let b0 : byte_at 7 x ≡ byte_at 3 (x / 2 ^ 32) = omega arith in
+    let b1 : byte_at 6 x ≡ byte_at 2 (x / 2 ^ 32) = omega arith in
+    let b2 : byte_at 5 x ≡ byte_at 1 (x / 2 ^ 32) = omega arith in
+    let b3 : byte_at 4 x ≡ byte_at 0 (x / 2 ^ 32) = omega arith in
+    let b4 : byte_at 3 x ≡ byte_at 3 (x % 2 ^ 32) = omega arith in
+    let b5 : byte_at 2 x ≡ byte_at 2 (x % 2 ^ 32) = omega arith in
+    let b6 : byte_at 1 x ≡ byte_at 1 (x % 2 ^ 32) = omega arith in
+    let b7 : byte_at 0 x ≡ byte_at 0 (x % 2 ^ 32) = omega arith in
+    λ i. b0 i ∷ b1 i ∷ b2 i ∷ b3 i ∷ b4 i ∷ b5 i ∷ b6 i ∷ b7 i ∷ []
+
+octa-joined : (n a x : ℕ) (ps : List (ℕ × ℕ)) (lines : ℕ → ℕ) → 2 ^ 51 ≤ n → a % 4 ≡ 0 → a + 8 ≤ 0x6000_0000_0000_0000 → x < 2 ^ 64 → HaveBytes (placed ps) → pages_below n (pages_of ps) ≤ 65536 →
+    join_octa (image_at n ps lines) a x ≡ unless_full (pages_below n (pages_of (ps ++ from_place a (octa_to_bytes x)))) (image_at n (ps ++ from_place a (octa_to_bytes x)) lines)
+octa-joined n a x ps lines big m l fits have few =
+    let at_high : 4 * (a / 4) ≡ a = omega (arith, m) in
+    let at_low : (a + 4) % 2 ^ 64 ≡ a + 4 = omega (arith, l) in
+    let high_below : nat_le 0x6000_0000_0000_0000 a ≡ false = grind (arith, nat_tests) in
+    let low_below : nat_le 0x6000_0000_0000_0000 (a + 4) ≡ false = grind (arith, nat_tests) in
+    let once : List (ℕ × ℕ) = ps ++ from_place a (tetra_to_bytes (x / 2 ^ 32)) in
+    let twice : once ++ from_place (a + 4) (tetra_to_bytes (x % 2 ^ 32)) ≡ ps ++ from_place a (octa_to_bytes x) =
+    append_assoc ps (from_place a (tetra_to_bytes (x / 2 ^ 32))) (from_place (a + 4) (tetra_to_bytes (x % 2 ^ 32)))
+    ∙ ap (λ qs. ps ++ qs) (sym (from-append a (tetra_to_bytes (x / 2 ^ 32)) (tetra_to_bytes (x % 2 ^ 32))) ∙ ap (from_place a) (sym (octa-halves x))) in
+    ap (λ h. cond (is_below h && is_below ((h + 4) % 2 ^ 64)) (then_join ((h + 4) % 2 ^ 64) (x % 2 ^ 32) (join (image_at n ps lines) h (x / 2 ^ 32))) (Err BadPlace)) at_high
+    ∙ ap (λ k. cond (is_below a && is_below k) (then_join k (x % 2 ^ 32) (join (image_at n ps lines) a (x / 2 ^ 32))) (Err BadPlace)) at_low
+    ∙ ap (λ b. cond (not b && is_below (a + 4)) (then_join (a + 4) (x % 2 ^ 32) (join (image_at n ps lines) a (x / 2 ^ 32))) (Err BadPlace)) high_below
+    ∙ ap (λ b. cond (not b) (then_join (a + 4) (x % 2 ^ 32) (join (image_at n ps lines) a (x / 2 ^ 32))) (Err BadPlace)) low_below
+    ∙ ap (then_join (a + 4) (x % 2 ^ 32)) (word-joined n a (x / 2 ^ 32) ps lines big m (omega (arith, l)) (omega (arith, fits)) have few)
+    ∙ then-joined n (a + 4) (x % 2 ^ 32) once lines big (omega (arith, m)) (omega (arith, l)) (omega arith) (more-bytes ps a (tetra_to_bytes (x / 2 ^ 32)) have (word-bytes (x / 2 ^ 32)))
+    ∙ ap (λ qs. unless_full (pages_below n (pages_of qs)) (image_at n qs lines)) twice
+
+-- ---- a relative address
+
+-- how far a target lies from its place: ahead by so many tetras, or behind
+record IsAhead (place value reach word : ℕ) : Type 0 where
+  ahead : place + 4 * word ≡ value
+  near : word < reach
+
+record IsBehind (place value reach word : ℕ) : Type 0 where
+  back : ℕ
+  behind : value + 4 * back ≡ place
+  some : 0 < back
+  near : back ≤ reach
+  word_is : word ≡ 2 ^ 24 + (reach - back)
+
+record IsFix (place value bits reach : ℕ) (item : Item) : Type 0 where
+  word : ℕ
+  added : future_word 0 reach place (Some value) ≡ word
+  item_is : item ≡ word_fix bits word
+  from : IsAhead place value reach word ⊎ IsBehind place value reach word
+
+same-item : (x y : Item) → ◌≡◌ {A = Result Item AsmFault} (Ok x) (Ok y) → x ≡ y
+same-item x y h = cc
+
+ahead-is : (place value bits reach : ℕ) (item : Item) → place ≤ value → nat_le place value ≡ true → relative_fix bits (forward_word 0 reach (value - place)) ≡ Ok item → IsFix place value bits reach item
+ahead-is place value bits reach item l t h = on ((value - place) % 4 == 0) (nat_lt ((value - place) / 4) reach) refl refl h
+  where
+    on : (b c : Bool) → ((value - place) % 4 == 0) ≡ b → nat_lt ((value - place) / 4) reach ≡ c →
+        relative_fix bits (cond (not b) (Err NotMultiple) (cond c (Ok (0 + (value - place) / 4)) (Err TooFar))) ≡ Ok item → IsFix place value bits reach item
+    on true true e f h =
+        let whole : (value - place) % 4 ≡ 0 = eqb-true _ _ e in
+        let near = ltb-true _ _ f in
+        record {
+          word = 0 + (value - place) / 4;
+          added =
+              ap (λ b. result_unwrap_or (cond b (forward_word 0 reach (value - place)) (backward_word 0 reach (place - value))) 0) t
+              ∙ (λ i. result_unwrap_or (cond (not (e i)) (Err NotMultiple) (cond (f i) (Ok (0 + (value - place) / 4)) (Err TooFar))) 0);
+          item_is = sym (same-item _ _ h);
+          from = inl (record { ahead = omega (arith, whole, l); near = omega (arith, near) });
+        }
+    on true false e f h = absurd (cc)
+    on false true e f h = absurd (cc)
+    on false false e f h = absurd (cc)
+
+behind-is : (place value bits reach : ℕ) (item : Item) → value < place → nat_le place value ≡ false → relative_fix bits (backward_word 0 reach (place - value)) ≡ Ok item → IsFix place value bits reach item
+behind-is place value bits reach item l t h = on ((place - value) % 4 == 0) (nat_le ((place - value) / 4) reach) refl refl h
+  where
+    on : (b c : Bool) → ((place - value) % 4 == 0) ≡ b → nat_le ((place - value) / 4) reach ≡ c →
+        relative_fix bits (cond (not b) (Err NotMultiple) (cond c (Ok (0 + 2 ^ 24 + (reach - (place - value) / 4))) (Err TooFar))) ≡ Ok item → IsFix place value bits reach item
+    on true true e f h =
+        let whole : (place - value) % 4 ≡ 0 = eqb-true _ _ e in
+        let near = leb-true _ _ f in
+        record {
+          word = 0 + 2 ^ 24 + (reach - (place - value) / 4);
+          added =
+              ap (λ b. result_unwrap_or (cond b (forward_word 0 reach (value - place)) (backward_word 0 reach (place - value))) 0) t
+              ∙ (λ i. result_unwrap_or (cond (not (e i)) (Err NotMultiple) (cond (f i) (Ok (0 + 2 ^ 24 + (reach - (place - value) / 4))) (Err TooFar))) 0);
+          item_is = sym (same-item _ _ h);
+          from = inr (record { back = (place - value) / 4; behind = omega (arith, whole, l); some = omega (arith, whole, l); near = near; word_is = omega arith });
+        }
+    on true false e f h = absurd (cc)
+    on false true e f h = absurd (cc)
+    on false false e f h = absurd (cc)
+
+relative-is : (place value bits reach : ℕ) (item : Item) → relative_fix bits (relative_word 0 reach place value) ≡ Ok item → IsFix place value bits reach item
+relative-is place value bits reach item h = on (nat_le place value) refl h
+  where
+    on : (b : Bool) → nat_le place value ≡ b → relative_fix bits (cond b (forward_word 0 reach (value - place)) (backward_word 0 reach (place - value))) ≡ Ok item → IsFix place value bits reach item
+    on true e h = ahead-is place value bits reach item (leb-true _ _ e) e h
+    on false e h = behind-is place value bits reach item (leb-false _ _ e) e h
+
+-- where the records join their words
+before-is : (place value word : ℕ) → place + 4 * word ≡ value → place < 2 ^ 63 → tetras_before word value ≡ place
+before-is place value word h l = omega (arith, h, l)
+
+behind-place : (place value reach back : ℕ) → value + 4 * back ≡ place → 0 < back → back ≤ reach → reach ≤ 2 ^ 24 → place < 2 ^ 63 → tetras_behind reach (tetras_before (reach - back) value) ≡ place
+behind-place place value reach back h some near small l = omega (arith, h, some, near, small, l)
+
+low-bits : (reach back word : ℕ) → word ≡ 2 ^ 24 + (reach - back) → 0 < back → reach ≤ 2 ^ 24 → word % 2 ^ 24 ≡ reach - back
+low-bits reach back word h some small = omega (arith, h, some, small)
+
+module _ (n : ℕ) (big : 2 ^ 51 ≤ n) (s : State) (have : HaveBytes (placed s.placements)) (few : count_of n s ≤ 65536) where
+  abbrev with_placed : ℕ → List ℕ → State
+  with_placed place bytes = record s { placements = s.placements ++ from_place place bytes }
+
+  at-place : (place word from : ℕ) → from ≡ place → place % 4 ≡ 0 → place + 4 ≤ 0x6000_0000_0000_0000 → word < 2 ^ 32 →
+      with_image (stands n s) (join (image_at n s.placements s.lines) from word) ≡ limited n (with_placed place (tetra_to_bytes word))
+  at-place place word from e m l fits =
+      ap (λ a. with_image (stands n s) (join (image_at n s.placements s.lines) a word)) e
+      ∙ ap (with_image (stands n s)) (word-joined n place word s.placements s.lines big m (omega (arith, l)) fits have few)
+      ∙ with-unless n s (s.placements ++ from_place place (tetra_to_bytes word))
+
+  word-fixed : (place bits reach word : ℕ) → reach ≡ 2 ^ bits → reach ≤ 2 ^ 24 → place % 4 ≡ 0 → place + 4 ≤ 0x6000_0000_0000_0000 →
+      IsAhead place s.lambda reach word ⊎ IsBehind place s.lambda reach word → take_item (stands n s) (word_fix bits word) ≡ limited n (with_placed place (tetra_to_bytes word))
+  word-fixed place bits reach word power small m l (inl h) = on (nat_lt word (2 ^ 16)) refl
+    where
+      before : tetras_before word s.lambda ≡ place
+      before = before-is place s.lambda word h.ahead (omega (arith, l))
+
+      on : (b : Bool) → nat_lt word (2 ^ 16) ≡ b → take_item (stands n s) (cond b (FixNear word) (FixFar bits word)) ≡ limited n (with_placed place (tetra_to_bytes word))
+      on true e = at-place place word (tetras_before word s.lambda) before m l (let near = h.near in omega (arith, near, small))
+      on false e =
+          let near = h.near in
+          let short : nat_le (2 ^ 24) word ≡ false = grind (arith, nat_tests) in
+          at-place place word (far_place s.lambda bits word) (ap (λ b. cond b (tetras_behind (2 ^ bits) (tetras_before (word % 2 ^ 24) s.lambda)) (tetras_before word s.lambda)) short ∙ before) m l (omega (arith, near, small))
+  word-fixed place bits reach word power small m l (inr h) =
+      let word_is = h.word_is in
+      let some = h.some in
+      let near = h.near in
+      let long : nat_lt word (2 ^ 16) ≡ false = grind (arith, nat_tests) in
+      let second : nat_le (2 ^ 24) word ≡ true = grind (arith, nat_tests) in
+      ap (λ b. take_item (stands n s) (cond b (FixNear word) (FixFar bits word))) long
+      ∙ at-place place word (far_place s.lambda bits word)
+      (ap (λ b. cond b (tetras_behind (2 ^ bits) (tetras_before (word % 2 ^ 24) s.lambda)) (tetras_before word s.lambda)) second
+      ∙ ap (λ r. tetras_behind r (tetras_before (word % 2 ^ 24) s.lambda)) (sym power)
+      ∙ ap (λ k. tetras_behind reach (tetras_before k s.lambda)) (low-bits reach h.back word word_is some small)
+      ∙ behind-place place s.lambda reach h.back h.behind some near small (omega (arith, l)))
+      m l (omega (arith, word_is, small))
+
+  relative-fixed : (place bits reach : ℕ) (item : Item) → reach ≡ 2 ^ bits → reach ≤ 2 ^ 24 → place % 4 ≡ 0 → place + 4 ≤ 0x6000_0000_0000_0000 → relative_fix bits (relative_word 0 reach place s.lambda) ≡ Ok item →
+      take_item (stands n s) item ≡ limited n (with_placed place (tetra_to_bytes (future_word 0 reach place (Some s.lambda))))
+  relative-fixed place bits reach item power small m l h =
+      let is = relative-is place s.lambda bits reach item h in
+      ap (take_item (stands n s)) is.item_is
+      ∙ word-fixed place bits reach is.word power small m l is.from
+      ∙ ap (λ w. limited n (with_placed place (tetra_to_bytes w))) (sym is.added)
+
+-- ---- one record
+
+abbrev pub behind_fix : State → Wait → ℕ → State
+behind_fix s w value = record s { placements = s.placements ++ from_place w.at (fix_bytes w.kind w.at (Some value)) }
+
+fix-taken : (n : ℕ) (kind : WaitKind) (place value : ℕ) (item : Item) (s : State) → 2 ^ 51 ≤ n → HaveBytes (placed s.placements) → s.lambda ≡ value → value < 2 ^ 64 → place % 4 ≡ 0 → place + kind_size kind ≤ 0x6000_0000_0000_0000 →
+    pure_fix place kind value ≡ Ok item → count_of n s ≤ 65536 →
+    take_items (item ∷ []) (Ok (stands n s)) ≡ limited n (record s { placements = s.placements ++ from_place place (fix_bytes kind place (Some value)) })
+fix-taken n Octa place value item s big have at fits m l h few =
+    take-none _
+    ∙ ap (take_item (stands n s)) (sym (same-item _ _ h))
+    ∙ ap (λ x. with_image (stands n s) (join_octa (image_at n s.placements s.lines) place x)) at
+    ∙ ap (with_image (stands n s)) (octa-joined n place value s.placements s.lines big m l fits have few)
+    ∙ with-unless n s (s.placements ++ from_place place (octa_to_bytes value))
+fix-taken n Near place value item s big have at fits m l h few =
+    take-none _
+    ∙ relative-fixed n big s have few place 16 near_reach item refl (omega arith) m l (ap (λ v. relative_fix 16 (relative_word 0 near_reach place v)) at ∙ h)
+    ∙ ap (λ v. limited n (record s { placements = s.placements ++ from_place place (tetra_to_bytes (future_word 0 near_reach place (Some v))) })) at
+fix-taken n Far place value item s big have at fits m l h few =
+    take-none _
+    ∙ relative-fixed n big s have few place 24 far_reach item refl (omega arith) m l (ap (λ v. relative_fix 24 (relative_word 0 far_reach place v)) at ∙ h)
+    ∙ ap (λ v. limited n (record s { placements = s.placements ++ from_place place (tetra_to_bytes (future_word 0 far_reach place (Some v))) })) at
+
+pub takes-fix : (n : ℕ) (w : Wait) (value : ℕ) (item : Item) (s : State) → 2 ^ 51 ≤ n → HaveBytes (placed s.placements) → s.lambda ≡ value → value < 2 ^ 64 → w.at % 4 ≡ 0 → w.at + kind_size w.kind ≤ 0x6000_0000_0000_0000 →
+    fix_of (Pure value) w ≡ Ok item → Takes n (item ∷ []) s (behind_fix s w value)
+takes-fix n w value item s big have at fits m l h =
+    takes-few n (item ∷ []) s (behind_fix s w value) (append-more s.placements (from_place w.at (fix_bytes w.kind w.at (Some value))))
+    (λ few. fix-taken n w.kind w.at value item s big have at fits m l h few)

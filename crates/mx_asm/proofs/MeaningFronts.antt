@@ -1,0 +1,141 @@
+-- The items of statements without a fault lead from the state before them to the state behind them.
+use Rattle.std.proofs.Common.{◌≡◌, ℕ, zero, suc, ◌+◌, ◌^◌, ◌<◌, ◌≤◌, List, [], ◌∷◌, ◌++◌, Bool, true, false, cond, arith, refl, sym, ◌∙◌, ap, codes, Option, Some, None, Result, Ok, Err}
+use Rattle.std.specs.Prelude.{nat_le}
+use Rattle.std.specs.Result.{result_unwrap_or}
+use Rattle.std.specs.List.{AllByRecursion}
+use Rattle.std.proofs.lemmas.Bool.Decides.{nat_tests}
+use Rattle.mx_word.specs.declared.symbols.Value.{Value}
+use Rattle.mx_word.specs.declared.waits.Wait.{Wait}
+use Rattle.mx_mmo.specs.Meaning.{Loading, Meaningless, PagesFull, nothing, with_name, take_items}
+use Rattle.mx_mmo.specs.declared.items.Item.{Item}
+use Rattle.mx_stmt.specs.declared.placed.Placed.{Placed}
+use Rattle.mx_stmt.specs.Steps.{Answer}
+use Rattle.mx_stmt.specs.Operands.{no_targets}
+use Rattle.mx_stmt.specs.Encoding.{StatementTree, encoding}
+use Rattle.mx_stmt.specs.Fixes.{IsOperation, IsSound}
+use Rattle.mx_stmt.specs.Laid.{IsLaid}
+use Rattle.mx_stmt.specs.Placements.{placed}
+use Rattle.mx_stmt.proofs.LaidBytes.{encoding-laid}
+use Rattle.mx_asm.specs.declared.faults.AsmFault.{AsmFault}
+use Rattle.mx_asm.specs.declared.refused.Refused.{Refused}
+use Rattle.mx_asm.specs.declared.head.Head.{Head}
+use Rattle.mx_asm.specs.TwoPass.{Sight, outline}
+use Rattle.mx_asm.specs.Fixes.{fixes, awaited_value, waiting_at}
+use Rattle.mx_asm.specs.Image.{pages_of, pages_below}
+use Rattle.mx_asm.specs.Emission.{onto, moved, fix_items, byte_items, head_at_fixes, with_bytes, statement_items, statement_head, opening, first_head, sight_items, sight_head, items_from}
+use Rattle.mx_asm.specs.Refusal.{refusal_of, label_fault, fault_behind, fault_with, statement_fault, first_of, first_fault}
+use Rattle.mx_asm.proofs.EndWaits.{both-none}
+use Rattle.mx_asm.proofs.MeaningMemory.{HaveBytes}
+use Rattle.mx_asm.proofs.MeaningPages.{unless_full}
+use Rattle.mx_asm.proofs.MeaningStates.{State, stands, count_of, limited, Takes, takes-both, takes-none}
+use Rattle.mx_asm.proofs.MeaningBytes.{head_of, behind_bytes}
+use Rattle.mx_asm.proofs.MeaningStatements.{IsWord, waiting-low, behind_fixes, behind_placed, fixed-have, bytes-have, placed-head, takes-placed}
+
+-- what holds of a statement and of what is known at it
+pub record IsSteady (s : Sight) : Type 0 where
+  pub line : 0 < s.statement.line
+  pub operation : IsOperation s.statement.op
+  pub sound : IsSound s.known
+  pub word : (p : Placed) → outline s ≡ Ok p → IsWord (awaited_value p.label)
+
+-- ---- one statement
+
+-- what stands behind a statement that comes to this
+abbrev pub behind_sight : State → List Sight → Sight → Answer Placed → State
+behind_sight s earlier t (Err fault) = s
+behind_sight s earlier t (Ok p) = behind_placed s t.statement.line p (waiting_at earlier t)
+
+-- what a statement without a fault comes to
+pub record IsFaultless (earlier : List Sight) (t : Sight) : Type 0 where
+  pub placed_as : Placed
+  pub outlined : outline t ≡ Ok placed_as
+  pub label : label_fault t.known.names t.statement.label ≡ None
+  pub fixed : refusal_of (fixes t.statement.line (awaited_value placed_as.label) (waiting_at earlier t)) ≡ None
+
+pub faultless : (earlier : List Sight) (t : Sight) → statement_fault earlier t ≡ None → IsFaultless earlier t
+faultless earlier t h = on (outline t) refl h
+  where
+    behind : (p : Placed) (f : Option AsmFault) → outline t ≡ Ok p → label_fault t.known.names t.statement.label ≡ f → fault_behind earlier t p f ≡ None → IsFaultless earlier t
+    behind p (Some fault) e f h = absurd (cc)
+    behind p None e f h = record { placed_as = p; outlined = e; label = f; fixed = h }
+
+    on : (r : Answer Placed) → outline t ≡ r → fault_with earlier t r ≡ None → IsFaultless earlier t
+    on (Err fault) e h = absurd (cc)
+    on (Ok p) e h = behind p (label_fault t.known.names t.statement.label) e refl h
+
+items-given : (h : Head) (line : ℕ) (p : Placed) (waits : List Wait) → refusal_of (fixes line (awaited_value p.label) waits) ≡ None → statement_items h line p waits ≡ Ok (result_unwrap_or (statement_items h line p waits) [])
+items-given h line p [] none = refl
+items-given h line p (w ∷ waits) none = on (fixes line (awaited_value p.label) (w ∷ waits)) none
+  where
+    on : (r : Result (List Item) Refused) → refusal_of r ≡ None →
+        with_bytes (onto (moved h.lambda (awaited_value p.label)) r) (byte_items (head_at_fixes h (awaited_value p.label) (w ∷ waits)) line p.start p.bytes)
+        ≡ Ok (result_unwrap_or (with_bytes (onto (moved h.lambda (awaited_value p.label)) r) (byte_items (head_at_fixes h (awaited_value p.label) (w ∷ waits)) line p.start p.bytes)) [])
+    on (Err refused) none = absurd (cc)
+    on (Ok fixed) none = refl
+
+sight-head-is : (s : State) (earlier : List Sight) (t : Sight) (r : Answer Placed) → head_of (behind_sight s earlier t r) ≡ sight_head (head_of s) earlier t r
+sight-head-is s earlier t (Err fault) = refl
+sight-head-is s earlier t (Ok p) = placed-head s t.statement.line p (waiting_at earlier t)
+
+-- the laying of a statement
+pub laid : (t : Sight) (p : Placed) → outline t ≡ Ok p → IsLaid p
+laid t p e = encoding-laid no_targets t.known t.statement p e
+
+sight-have : (s : State) (earlier : List Sight) (t : Sight) (p : Placed) → outline t ≡ Ok p → HaveBytes (placed s.placements) → HaveBytes (placed (behind_placed s t.statement.line p (waiting_at earlier t)).placements)
+sight-have s earlier t p e have =
+    let lay = laid t p e in
+    bytes-have (behind_fixes s (awaited_value p.label) (waiting_at earlier t)) t.statement.line p.start p.bytes (fixed-have s (awaited_value p.label) (waiting_at earlier t) have) lay.bytes
+
+-- ---- statements one after another
+
+unfoldable pub after_sights : State → List Sight → List Sight → State
+after_sights s earlier [] = s
+after_sights s earlier (t ∷ later) = after_sights (behind_sight s earlier t (outline t)) (earlier ++ t ∷ []) later
+
+pub takes-sights : (n : ℕ) (later earlier : List Sight) (s : State) → 2 ^ 51 ≤ n → first_fault earlier later ≡ None → AllByRecursion IsSteady later → HaveBytes (placed s.placements) →
+    Takes n (items_from (head_of s) earlier later) s (after_sights s earlier later)
+unfolding first_fault items_from after_sights
+takes-sights n [] earlier s big none steady have = takes-none n s
+takes-sights n (t ∷ later) earlier s big none steady have =
+    let parts = both-none (statement_fault earlier t) (first_fault (earlier ++ t ∷ []) later) none in
+    let is = faultless earlier t parts.0 in
+    let p : Placed = is.placed_as in
+    let line : ℕ = t.statement.line in
+    let waits : List Wait = waiting_at earlier t in
+    let given = items-given (head_of s) line p waits is.fixed in
+    let first = takes-placed n line p waits (result_unwrap_or (statement_items (head_of s) line p waits) []) s big have (steady.0.word p is.outlined) (waiting-low earlier t) (laid t p is.outlined) steady.0.line given in
+    let u : State = behind_placed s line p waits in
+    let rest = takes-sights n later (earlier ++ t ∷ []) u big parts.1 steady.1 (sight-have s earlier t p is.outlined have) in
+    let both = takes-both n (result_unwrap_or (statement_items (head_of s) line p waits) []) (items_from (head_of u) (earlier ++ t ∷ []) later) s u (after_sights u (earlier ++ t ∷ []) later) first rest in
+    record {
+      taken =
+          ap (λ r. take_items (sight_items (head_of s) earlier t r ++ items_from (sight_head (head_of s) earlier t r) (earlier ++ t ∷ []) later) (limited n s)) is.outlined
+          ∙ ap (λ h. take_items (result_unwrap_or (statement_items (head_of s) line p waits) [] ++ items_from h (earlier ++ t ∷ []) later) (limited n s)) (sym (placed-head s line p waits))
+          ∙ both.taken
+          ∙ ap (λ r. limited n (after_sights (behind_sight s earlier t r) (earlier ++ t ∷ []) later)) (sym is.outlined);
+    }
+
+-- ---- the opening
+
+pub no-pages : (n : ℕ) → pages_below n (λ p. false) ≡ 0
+unfolding pages_below
+no-pages zero = refl
+no-pages (suc n) = ap (λ k. 0 + k) (no-pages n)
+
+abbrev pub first_state : State
+first_state = record { placements = []; lines = λ a. 0; lambda = 0; line = 0 }
+
+pub first-have : HaveBytes (placed first_state.placements)
+first-have q = omega arith
+
+pub opened : (n : ℕ) → take_items opening (Ok nothing) ≡ limited n first_state
+opened n =
+    let none = no-pages n in
+    (λ i. Ok (record {
+      image = record { memory = λ a. 0; pages = λ p. false; page_count = sym none i; line_of = λ a. 0; g = 255; global = λ k. 0 };
+      lambda = 0;
+      line = 0;
+      selected = true;
+      named = with_name (λ k. false) 0;
+    }))
+    ∙ (λ i. cond (nat_le (sym none i) 65536) (Ok (stands n first_state)) (Err PagesFull))

@@ -1,0 +1,123 @@
+-- The items of statements mean their image, and the items of lines are loaded unless there are too many pages.
+use Rattle.std.proofs.Common.{◌≡◌, ℕ, ◌^◌, ◌≤◌, List, [], ◌∷◌, ◌++◌, Bool, true, false, not, cond, arith, lit≤, refl, sym, ◌∙◌, ap, is_some, Option, Some, None, Result, Ok, Err, append_assoc, append-nil}
+use Rattle.std.specs.Prelude.{nat_le, ◌||◌}
+use Rattle.std.specs.Result.{result_err}
+use Rattle.std.specs.List.{AllByRecursion}
+use Rattle.std.proofs.lemmas.Bool.Decides.{nat_tests}
+use Rattle.mx_mmo.specs.Meaning.{Loading, Meaningless, PagesFull, nothing, take_items, meaning}
+use Rattle.mx_line.specs.Source.{items_from as line_items}
+use Rattle.mx_stmt.specs.declared.placed.Placed.{Placed}
+use Rattle.mx_stmt.specs.Encoding.{StatementTree}
+use Rattle.mx_stmt.specs.Placements.{from_place}
+use Rattle.mx_names.specs.Names.{NameTable}
+use Rattle.mx_asm.specs.Entries.{Entry, statements_in}
+use Rattle.mx_asm.specs.TwoPass.{Sight, Piece, outline, references, targets, nothing_known, sights_from, sights_of, piece_with, pieces_of}
+use Rattle.mx_asm.specs.Image.{placements, pages_of, pages_below, page_count}
+use Rattle.mx_asm.specs.Emission.{opening, first_head, items_from, emission}
+use Rattle.mx_asm.specs.Refusal.{statement_fault, first_fault}
+use Rattle.mx_asm.specs.Statements.{IsStatement}
+use Rattle.mx_asm.specs.Whole.{Line, accepted, lines_entries, entries_items, behind_opening, lines_items}
+use Rattle.mx_asm.specs.Pages.{AreAccepted, outlined, has_room, loaded_image, page_fault, page_refusal_from, page_refusal, accepted_in}
+use Rattle.mx_asm.proofs.EndWaits.{both-none}
+use Rattle.mx_asm.proofs.MeaningPages.{same-pages, AreMore, more-count, append-pages, append-more, unless_full}
+use Rattle.mx_asm.proofs.MeaningStates.{State, stands, count_of, limited, take-append}
+use Rattle.mx_asm.proofs.MeaningFronts.{IsSteady, faultless, after_sights, takes-sights, first_state, first-have, opened, no-pages}
+use Rattle.mx_asm.proofs.MeaningPlaces.{fixed-to, fixed-pages, pages-of-sights}
+use Rattle.mx_asm.proofs.MeaningWhole.{emission-means}
+use Rattle.mx_asm.proofs.MeaningSteady.{steady-begun, steady-all, accepted-faultless}
+
+pub image-meant : (statements : List StatementTree) → AreAccepted statements → meaning (emission statements) ≡ loaded_image statements
+image-meant statements h = emission-means statements h.faultless (steady-all statements h.read h.faultless) h.defined
+
+-- ---- the pages of statements
+
+outlined-pages : (final : NameTable) (later earlier : List Sight) (page : ℕ) → first_fault earlier later ≡ None → AllByRecursion IsSteady later →
+    pages_of (placements (pieces_of final later)) page ≡ pages_of (placements (outlined later)) page
+unfolding first_fault pieces_of outlined placements
+outlined-pages final [] earlier page none steady = refl
+outlined-pages final (t ∷ later) earlier page none steady =
+    let parts = both-none (statement_fault earlier t) (first_fault (earlier ++ t ∷ []) later) none in
+    let is = faultless earlier t parts.0 in
+    let p : Placed = is.placed_as in
+    let line : ℕ = t.statement.line in
+    let to = fixed-to (targets final later) t p steady.0 is.outlined in
+    ap (λ r. pages_of (placements (piece_with line r ++ pieces_of final later)) page) to.encoded
+    ∙ append-pages (from_place to.after.start to.after.bytes) (placements (pieces_of final later)) page
+    ∙ (λ i. fixed-pages (targets final later) p to.after page to.fixed i || outlined-pages final later (earlier ++ t ∷ []) page parts.1 steady.1 i)
+    ∙ sym (append-pages (from_place p.start p.bytes) (placements (outlined later)) page)
+    ∙ ap (λ r. pages_of (placements (piece_with line r ++ outlined later)) page) (sym is.outlined)
+
+module _ (n : ℕ) (big : 2 ^ 51 ≤ n) (later : List Sight) (none : first_fault [] later ≡ None) (steady : AllByRecursion IsSteady later) where
+  pages-are : pages_of (after_sights first_state [] later).placements ≡ pages_of (placements (outlined later))
+  unfolding references
+  pages-are = same-pages _ _ (λ page. pages-of-sights nothing_known.names later [] first_state page none steady tt ∙ outlined-pages nothing_known.names later [] page none steady)
+
+  taken : take_items (opening ++ items_from first_head [] later) (Ok nothing) ≡ limited n (after_sights first_state [] later)
+  taken =
+      let sights = takes-sights n later [] first_state big none steady first-have in
+      take-append opening (items_from first_head [] later) (Ok nothing) ∙ ap (take_items (items_from first_head [] later)) (opened n) ∙ sights.taken
+
+  front-fault : result_err (take_items (opening ++ items_from first_head [] later) (Ok nothing)) ≡ cond (nat_le (pages_below n (pages_of (placements (outlined later)))) 65536) None (Some PagesFull)
+  front-fault =
+      let pages = pages-are in
+      ap result_err taken ∙ on (nat_le (count_of n (after_sights first_state [] later)) 65536) ∙ (λ i. cond (nat_le (pages_below n (pages i)) 65536) None (Some PagesFull))
+    where
+      on : (b : Bool) → result_err (cond b (Ok (stands n (after_sights first_state [] later))) (Err PagesFull)) ≡ cond b None (Some PagesFull)
+      on true = refl
+      on false = refl
+
+sights-fault : (later : List Sight) → first_fault [] later ≡ None → AllByRecursion IsSteady later → result_err (take_items (opening ++ items_from first_head [] later) (Ok nothing)) ≡ page_fault later
+sights-fault later none steady = front-fault (2 ^ 51) (lit≤ tt) later none steady
+
+no-room-needed : page_fault [] ≡ None
+unfolding outlined placements
+no-room-needed =
+    let few : nat_le (page_count (λ p. false)) 65536 ≡ true = ap (λ c. nat_le c 65536) (no-pages (2 ^ 51)) in
+    ap (λ b. cond b None (Some PagesFull)) few
+
+no-statements : accepted_in (lines_entries []) ≡ []
+unfolding accepted sights_from line_items
+no-statements = refl
+
+pub lines-fault : (lines : List Line) → AllByRecursion IsStatement (statements_in (lines_entries lines)) → result_err (take_items (lines_items lines) (Ok nothing)) ≡ page_fault (accepted_in (lines_entries lines))
+lines-fault [] read = sym (ap page_fault no-statements ∙ no-room-needed)
+lines-fault (line ∷ lines) read =
+    let statements : List StatementTree = statements_in (lines_entries (line ∷ lines)) in
+    sights-fault (accepted [] (sights_of statements)) (accepted-faultless (sights_of statements) []) (steady-begun statements read)
+
+-- ---- the first statement with too many pages
+
+outlined-append : (xs ys : List Sight) → outlined (xs ++ ys) ≡ outlined xs ++ outlined ys
+unfolding outlined
+outlined-append [] ys = refl
+outlined-append (s ∷ xs) ys = ap (λ ps. piece_with s.statement.line (outline s) ++ ps) (outlined-append xs ys) ∙ sym (append_assoc (piece_with s.statement.line (outline s)) (outlined xs) (outlined ys))
+
+placements-append : (ps qs : List Piece) → placements (ps ++ qs) ≡ placements ps ++ placements qs
+unfolding placements
+placements-append [] qs = refl
+placements-append (p ∷ ps) qs = ap (λ l. from_place p.start p.bytes ++ l) (placements-append ps qs) ∙ sym (append_assoc (from_place p.start p.bytes) (placements ps) (placements qs))
+
+-- where there is no room for the first ones, there is none for more
+no-room : (n : ℕ) (xs ys : List Sight) → nat_le (pages_below n (pages_of (placements (outlined xs)))) 65536 ≡ false → nat_le (pages_below n (pages_of (placements (outlined (xs ++ ys))))) 65536 ≡ false
+no-room n xs ys h =
+    let grown = more-count n (pages_of (placements (outlined xs) ++ placements (outlined ys))) (pages_of (placements (outlined xs))) (append-more (placements (outlined xs)) (placements (outlined ys))) in
+    let full : nat_le (pages_below n (pages_of (placements (outlined xs) ++ placements (outlined ys)))) 65536 ≡ false = grind (arith, nat_tests) in
+    ap (λ ps. nat_le (pages_below n (pages_of ps)) 65536) (ap placements (outlined-append xs ys) ∙ placements-append (outlined xs) (outlined ys)) ∙ full
+
+refusal-from : (later earlier : List Sight) → has_room (outlined earlier) ≡ true → is_some (page_refusal_from earlier later) ≡ not (has_room (outlined (earlier ++ later)))
+unfolding page_refusal_from
+refusal-from [] earlier room = sym (ap (λ ss. not (has_room (outlined ss))) (append-nil earlier) ∙ ap not room)
+refusal-from (s ∷ later) earlier room =
+    on (has_room (outlined (earlier ++ s ∷ []))) refl (refusal-from later (earlier ++ s ∷ [])) ∙ ap (λ ss. not (has_room (outlined ss))) (append_assoc earlier (s ∷ []) later)
+  where
+    on : (b : Bool) → has_room (outlined (earlier ++ s ∷ [])) ≡ b → (has_room (outlined (earlier ++ s ∷ [])) ≡ true → is_some (page_refusal_from (earlier ++ s ∷ []) later) ≡ not (has_room (outlined ((earlier ++ s ∷ []) ++ later)))) →
+        is_some (cond b (page_refusal_from (earlier ++ s ∷ []) later) (Some s.statement.line)) ≡ not (has_room (outlined ((earlier ++ s ∷ []) ++ later)))
+    on true e rest = rest e
+    on false e rest = sym (ap not (no-room (2 ^ 51) (earlier ++ s ∷ []) later e))
+
+nothing-has-room : has_room (outlined []) ≡ true
+unfolding outlined placements
+nothing-has-room = ap (λ c. nat_le c 65536) (no-pages (2 ^ 51))
+
+pub page-refusal-is : (statements : List Sight) → is_some (page_refusal statements) ≡ not (has_room (outlined statements))
+page-refusal-is statements = refusal-from statements [] nothing-has-room

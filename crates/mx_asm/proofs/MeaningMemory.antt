@@ -1,0 +1,130 @@
+-- Memory octa by octa, as the bytes at each address tell it.
+use Rattle.std.proofs.Common.{◌≡◌, ℕ, zero, suc, ◌+◌, ◌-◌, ◌*◌, ◌/◌, ◌%◌, ◌^◌, ◌<◌, ◌≤◌, List, [], ◌∷◌, Bool, true, false, cond, get_or, arith, refl, sym, ◌∙◌, ap, bit_xor}
+use Rattle.std.specs.Prelude.{◌==◌, nat_lt}
+use Rattle.std.specs.Int.{byte_at}
+use Rattle.std.proofs.lemmas.Nat.{xor_lt}
+use Rattle.mx_word.specs.Words.{octa_from_bytes, octa_to_bytes, tetra_from_bytes}
+use Rattle.mx_word.specs.Octas.{byte_of, byte_in, with_tetra, in_half, tetra_byte, bytes_with_tetra}
+use Rattle.mx_word.specs.Ranges.{AreBytes}
+use Rattle.mx_word.proofs.JoinedTetra.{byte_in-joined}
+use Rattle.mx_word.proofs.Tetras.{octa-back, eight-bytes, eight-fit, four-fit}
+use Rattle.mx_stmt.specs.Placements.{placed}
+use Rattle.mx_asm.specs.Image.{octa_from, octa_in}
+use Rattle.mx_asm.proofs.MeaningTetras.{four, tetra-placed}
+
+-- a byte at each address
+abbrev pub HaveBytes : (ℕ → ℕ) → Type 0
+HaveBytes bytes = (q : ℕ) → bytes q < 2 ^ 8
+
+-- the byte of an octa at a place
+byte-of : (x a i : ℕ) → i < 8 → a % 8 ≡ i → byte_of x a ≡ byte_at (7 - i) x
+byte-of x a zero l e = rw e refl
+byte-of x a (suc zero) l e = rw e refl
+byte-of x a (suc (suc zero)) l e = rw e refl
+byte-of x a (suc (suc (suc zero))) l e = rw e refl
+byte-of x a (suc (suc (suc (suc zero)))) l e = rw e refl
+byte-of x a (suc (suc (suc (suc (suc zero))))) l e = rw e refl
+byte-of x a (suc (suc (suc (suc (suc (suc zero)))))) l e = rw e refl
+byte-of x a (suc (suc (suc (suc (suc (suc (suc zero))))))) l e = ap (λ i. x / 2 ^ (8 * (7 - i)) % 256) e ∙ (let whole : x / 1 % 256 ≡ x % 256 = omega arith in whole)
+byte-of x a (suc (suc (suc (suc (suc (suc (suc (suc i)))))))) l e = absurd (omega arith)
+
+-- the byte of an octa by its place
+place-of : (x i : ℕ) → i < 8 → byte_at (7 - i) x ≡ get_or (octa_to_bytes x) i 0
+place-of x zero l = refl
+place-of x (suc zero) l = refl
+place-of x (suc (suc zero)) l = refl
+place-of x (suc (suc (suc zero))) l = refl
+place-of x (suc (suc (suc (suc zero)))) l = refl
+place-of x (suc (suc (suc (suc (suc zero))))) l = refl
+place-of x (suc (suc (suc (suc (suc (suc zero)))))) l = refl
+place-of x (suc (suc (suc (suc (suc (suc (suc zero))))))) l = refl
+place-of x (suc (suc (suc (suc (suc (suc (suc (suc i)))))))) l = absurd (omega arith)
+
+-- one octa at all addresses of eight bytes
+abbrev pub IsEven : (ℕ → ℕ) → Type 0
+IsEven octas = (q r : ℕ) → q / 8 ≡ r / 8 → octas q ≡ octas r
+
+octa-byte : (octas : ℕ → ℕ) (q i : ℕ) → IsEven octas → i < 8 → byte_in octas (q / 8 * 8 + i) ≡ byte_at (7 - i) (octas q)
+octa-byte octas q i even l =
+    ap (λ x. byte_of x (q / 8 * 8 + i)) (even (q / 8 * 8 + i) q (omega arith)) ∙ byte-of (octas q) (q / 8 * 8 + i) i l (omega arith)
+
+first-byte : (octas : ℕ → ℕ) (q : ℕ) → IsEven octas → byte_in octas (q / 8 * 8) ≡ byte_at 7 (octas q)
+first-byte octas q even = let e : q / 8 * 8 ≡ q / 8 * 8 + 0 = omega arith in ap (byte_in octas) e ∙ octa-byte octas q 0 even (omega arith)
+
+pub octas-of-bytes : (octas : ℕ → ℕ) (q : ℕ) → IsEven octas → octas q < 2 ^ 64 → octa_in (byte_in octas) q ≡ octas q
+octas-of-bytes octas q even l =
+    let b0 = first-byte octas q even in
+    let b1 = octa-byte octas q 1 even (omega arith) in
+    let b2 = octa-byte octas q 2 even (omega arith) in
+    let b3 = octa-byte octas q 3 even (omega arith) in
+    let b4 = octa-byte octas q 4 even (omega arith) in
+    let b5 = octa-byte octas q 5 even (omega arith) in
+    let b6 = octa-byte octas q 6 even (omega arith) in
+    let b7 = octa-byte octas q 7 even (omega arith) in
+    (λ j. octa_from_bytes (b0 j ∷ b1 j ∷ b2 j ∷ b3 j ∷ b4 j ∷ b5 j ∷ b6 j ∷ b7 j ∷ [])) ∙ octa-back (octas q) l
+
+-- the bytes of the octas that bytes tell are these bytes
+eight : (ℕ → ℕ) → ℕ → List ℕ
+eight f a = f a ∷ f (a + 1) ∷ f (a + 2) ∷ f (a + 3) ∷ f (a + 4) ∷ f (a + 5) ∷ f (a + 6) ∷ f (a + 7) ∷ []
+
+eight-are : (f : ℕ → ℕ) (a : ℕ) → HaveBytes f → AreBytes (eight f a)
+unfolding eight
+eight-are f a h = (h a, (h (a + 1), (h (a + 2), (h (a + 3), (h (a + 4), (h (a + 5), (h (a + 6), (h (a + 7), tt))))))))
+
+eight-at : (f : ℕ → ℕ) (a q i : ℕ) → i < 8 → q ≡ a + i → get_or (eight f a) i 0 ≡ f q
+unfolding eight
+eight-at f a q zero l e = ap f (omega arith)
+eight-at f a q (suc zero) l e = ap f (sym e)
+eight-at f a q (suc (suc zero)) l e = ap f (sym e)
+eight-at f a q (suc (suc (suc zero))) l e = ap f (sym e)
+eight-at f a q (suc (suc (suc (suc zero)))) l e = ap f (sym e)
+eight-at f a q (suc (suc (suc (suc (suc zero))))) l e = ap f (sym e)
+eight-at f a q (suc (suc (suc (suc (suc (suc zero)))))) l e = ap f (sym e)
+eight-at f a q (suc (suc (suc (suc (suc (suc (suc zero))))))) l e = ap f (sym e)
+eight-at f a q (suc (suc (suc (suc (suc (suc (suc (suc i)))))))) l e = absurd (omega arith)
+
+eight-back : (f : ℕ → ℕ) (a : ℕ) → HaveBytes f → octa_to_bytes (octa_from f a) ≡ eight f a
+unfolding eight
+eight-back f a h = eight-bytes (f a) (f (a + 1)) (f (a + 2)) (f (a + 3)) (f (a + 4)) (f (a + 5)) (f (a + 6)) (f (a + 7)) (eight-are f a h)
+
+bytes-of-octas : (f : ℕ → ℕ) (q : ℕ) → HaveBytes f → byte_in (octa_in f) q ≡ f q
+bytes-of-octas f q h =
+    byte-of (octa_in f q) q (q % 8) (omega arith) refl
+    ∙ place-of (octa_in f q) (q % 8) (omega arith)
+    ∙ ap (λ l. get_or l (q % 8) 0) (eight-back f (q / 8 * 8) h)
+    ∙ eight-at f (q / 8 * 8) q (q % 8) (omega arith) (omega arith)
+
+octa-fits : (f : ℕ → ℕ) (q : ℕ) → HaveBytes f → octa_in f q < 2 ^ 64
+unfolding eight
+octa-fits f q h =
+    let a : ℕ = q / 8 * 8 in
+    eight-fit (f a) (f (a + 1)) (f (a + 2)) (f (a + 3)) (f (a + 4)) (f (a + 5)) (f (a + 6)) (f (a + 7)) (eight-are f a h)
+
+-- ---- a tetra that is joined
+
+half-fits : (a t : ℕ) → t < 2 ^ 32 → in_half a t < 2 ^ 64
+half-fits a t l = by (nat_lt (a % 8) 4)
+  where
+    by : (b : Bool) → cond b (t * 2 ^ 32) t < 2 ^ 64
+    by true = omega arith
+    by false = omega arith
+
+cond-fits : (b : Bool) (x y : ℕ) → x < 2 ^ 64 → y < 2 ^ 64 → cond b (bit_xor x y) x < 2 ^ 64
+cond-fits true x y l m = xor_lt 64 x y l m
+cond-fits false x y l m = l
+
+joined-even : (f : ℕ → ℕ) (a t : ℕ) → IsEven (with_tetra (octa_in f) a t)
+joined-even f a t = λ q r e. ap (λ n. cond (n == a / 8) (bit_xor (octa_from f (n * 8)) (in_half a t)) (octa_from f (n * 8))) e
+
+joined-fits : (f : ℕ → ℕ) (a t q : ℕ) → HaveBytes f → t < 2 ^ 32 → with_tetra (octa_in f) a t q < 2 ^ 64
+joined-fits f a t q h l = cond-fits (q / 8 == a / 8) (octa_in f q) (in_half a t) (octa-fits f q h) (half-fits a t l)
+
+same-numbers : (f g : ℕ → ℕ) → ((q : ℕ) → f q ≡ g q) → f ≡ g
+same-numbers f g h = λ i q. h q i
+
+-- memory with a tetra joined is told by the bytes with the tetra's bytes joined
+pub octas-joined : (f : ℕ → ℕ) (a t : ℕ) → HaveBytes f → t < 2 ^ 32 → with_tetra (octa_in f) a t ≡ octa_in (bytes_with_tetra f a t)
+octas-joined f a t h l =
+    let g : ℕ → ℕ = with_tetra (octa_in f) a t in
+    let bytes : byte_in g ≡ bytes_with_tetra f a t = byte_in-joined (octa_in f) a t l ∙ ap (λ (b : ℕ → ℕ). bytes_with_tetra b a t) (same-numbers _ f (λ q. bytes-of-octas f q h)) in
+    sym (same-numbers (octa_in (byte_in g)) g (λ q. octas-of-bytes g q (joined-even f a t) (joined-fits f a t q h l))) ∙ ap octa_in bytes

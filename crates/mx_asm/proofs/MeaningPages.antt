@@ -1,0 +1,174 @@
+-- How many pages there are, and one page more.
+use Rattle.std.proofs.Common.{◌≡◌, ℕ, zero, suc, ◌+◌, ◌-◌, ◌*◌, ◌/◌, ◌%◌, ◌^◌, ◌<◌, ◌≤◌, List, [], ◌∷◌, ◌++◌, length, Bool, true, false, cond, arith, refl, sym, ◌∙◌, ap, ⊎_elim, ◌⊎◌, inl, inr, subst, add-zero, Result, Ok, Err}
+use Rattle.std.specs.Prelude.{◌==◌, ◌||◌, ◌&&◌, nat_le}
+use Rattle.std.specs.List.{list_any}
+use Rattle.std.proofs.lemmas.Bool.Decides.{nat_tests}
+use Rattle.std.proofs.lemmas.Bool.{cases_eq, cases_lt}
+use Rattle.std.proofs.lemmas.List.Folds.{list_any-append}
+use Rattle.mx_mmo.specs.Image.{Image}
+use Rattle.mx_mmo.specs.Meaning.{Meaningless, PagesFull, with_page, paged}
+use Rattle.mx_stmt.specs.Placements.{from_place}
+use Rattle.mx_asm.specs.Image.{pages_of, pages_below}
+
+pub same-pages : (f g : ℕ → Bool) → ((p : ℕ) → f p ≡ g p) → f ≡ g
+same-pages f g h = λ i p. h p i
+
+-- pages that are there stay where there are more
+abbrev pub AreMore : (ℕ → Bool) → (ℕ → Bool) → Type 0
+AreMore more pages = (p : ℕ) → pages p ≡ true → more p ≡ true
+
+one-count : (s t : Bool) → (s ≡ true → t ≡ true) → cond s 1 0 ≤ cond t 1 0
+one-count true true h = omega arith
+one-count true false h = absurd (let e = h refl in cc)
+one-count false true h = omega arith
+one-count false false h = omega arith
+
+pub more-count : (n : ℕ) (more pages : ℕ → Bool) → AreMore more pages → pages_below n pages ≤ pages_below n more
+unfolding pages_below
+more-count zero more pages h = omega arith
+more-count (suc n) more pages h = omega (arith, one-count (pages n) (more n) (h n), more-count n more pages h)
+
+or-more : (s t : Bool) → s ≡ true → (s || t) ≡ true
+or-more true t h = refl
+or-more false t h = absurd (cc)
+
+pub append-pages : (ps qs : List (ℕ × ℕ)) (p : ℕ) → pages_of (ps ++ qs) p ≡ (pages_of ps p || pages_of qs p)
+append-pages ps qs p = list_any-append (λ q. q.0 / 4096 == p) ps qs
+
+pub append-more : (ps qs : List (ℕ × ℕ)) → AreMore (pages_of (ps ++ qs)) (pages_of ps)
+append-more ps qs = λ p h. append-pages ps qs p ∙ or-more (pages_of ps p) (pages_of qs p) h
+
+-- a page with a number that is not below n
+same-count : (n : ℕ) (pages : ℕ → Bool) (page : ℕ) → n ≤ page → pages_below n (with_page pages page) ≡ pages_below n pages
+unfolding pages_below
+same-count zero pages page l = refl
+same-count (suc n) pages page l =
+    let other : (n == page) ≡ false = grind (arith, nat_tests) in
+    rw (other, same-count n pages page (omega arith)) refl
+
+-- a page more
+one-more : (n : ℕ) (pages : ℕ → Bool) (page : ℕ) → page < n → pages page ≡ false → pages_below n (with_page pages page) ≡ pages_below n pages + 1
+unfolding pages_below
+one-more zero pages page l h = absurd (omega arith)
+one-more (suc n) pages page l h = ⊎_elim (λ e. this e) (λ ne. other ne (one-more n pages page (omega arith) h)) (cases_eq n page)
+  where
+    this : n ≡ page → cond (with_page pages page n) 1 0 + pages_below n (with_page pages page) ≡ cond (pages n) 1 0 + pages_below n pages + 1
+    this e =
+        let same : (n == page) ≡ true = grind (arith, nat_tests) in
+        let none : pages n ≡ false = ap pages e ∙ h in
+        rw (same, none, same-count n pages page (omega arith)) (omega arith)
+
+    other : (n ≡ page → ⊥) → pages_below n (with_page pages page) ≡ pages_below n pages + 1 → cond (with_page pages page n) 1 0 + pages_below n (with_page pages page) ≡ cond (pages n) 1 0 + pages_below n pages + 1
+    other ne more =
+        let apart : (n == page) ≡ false = grind (arith, nat_tests) in
+        rw (apart, more) (omega arith)
+
+-- a page that is there already
+page-stays : (pages : ℕ → Bool) (page : ℕ) → pages page ≡ true → with_page pages page ≡ pages
+page-stays pages page h = λ i p. at p i
+  where
+    at : (p : ℕ) → with_page pages page p ≡ pages p
+    at p = ⊎_elim (λ e. this e) (λ ne. other ne) (cases_eq p page)
+      where
+        this : p ≡ page → with_page pages page p ≡ pages p
+        this e =
+            let same : (p == page) ≡ true = grind (arith, nat_tests) in
+            rw same (sym (ap pages e ∙ h))
+
+        other : (p ≡ page → ⊥) → with_page pages page p ≡ pages p
+        other ne =
+            let apart : (p == page) ≡ false = grind (arith, nat_tests) in
+            rw apart refl
+
+-- what there is, unless there are too many pages
+abbrev pub unless_full : {A : Type 0} → ℕ → A → Result A Meaningless
+unless_full count x = cond (nat_le count 65536) (Ok x) (Err PagesFull)
+
+-- an image with a page more, whose pages are counted below a number
+pub paged-is : (n : ℕ) (m : Image) (page : ℕ) → page < n → m.page_count ≡ pages_below n m.pages → m.page_count ≤ 65536 →
+    paged m page ≡ unless_full (pages_below n (with_page m.pages page)) (record m { pages = with_page m.pages page; page_count = pages_below n (with_page m.pages page) })
+paged-is n m page l counted few = on (m.pages page) refl
+  where
+    on : (t : Bool) → m.pages page ≡ t → paged m page ≡ unless_full (pages_below n (with_page m.pages page)) (record m { pages = with_page m.pages page; page_count = pages_below n (with_page m.pages page) })
+    on true h =
+        let same = page-stays m.pages page h in
+        let count : m.page_count ≡ pages_below n (with_page m.pages page) = counted ∙ ap (pages_below n) (sym same) in
+        let room : nat_le (pages_below n (with_page m.pages page)) 65536 ≡ true = grind (arith, nat_tests) in
+        rw (h, room) (λ i. Ok (record m { pages = sym same i; page_count = count i }))
+    on false h = full (nat_le 65536 m.page_count) refl
+      where
+        count : m.page_count + 1 ≡ pages_below n (with_page m.pages page)
+        count = ap (λ c. c + 1) counted ∙ sym (one-more n m.pages page l h)
+
+        full : (t : Bool) → nat_le 65536 m.page_count ≡ t → paged m page ≡ unless_full (pages_below n (with_page m.pages page)) (record m { pages = with_page m.pages page; page_count = pages_below n (with_page m.pages page) })
+        full true f =
+            let c = count in
+            let over : nat_le (pages_below n (with_page m.pages page)) 65536 ≡ false = grind (arith, nat_tests) in
+            rw (h, f, over) refl
+        full false f =
+            let c = count in
+            let room : nat_le (pages_below n (with_page m.pages page)) 65536 ≡ true = grind (arith, nat_tests) in
+            rw (h, f, room) (λ i. Ok (record m { pages = with_page m.pages page; page_count = count i }))
+
+-- ---- the pages of bytes one after another
+
+next-page : (u v w p : ℕ) → u ≤ v → v ≤ u + 1 → v ≤ w → (u == p || (nat_le v p && nat_le p w)) ≡ (nat_le u p && nat_le p w)
+next-page u v w p h k l = grind (arith, nat_tests)
+
+last-page : (u p : ℕ) → (u == p || false) ≡ (nat_le u p && nat_le p u)
+last-page u p = grind (arith, nat_tests)
+
+-- from the page of the first byte to that of the last
+pub pages-run : (a x : ℕ) (xs : List ℕ) (p : ℕ) → pages_of (from_place a (x ∷ xs)) p ≡ (nat_le (a / 4096) p && nat_le p ((a + length xs) / 4096))
+pages-run a x [] p = rw add-zero (last-page (a / 4096) p)
+pages-run a x (y ∷ ys) p =
+    let e : (a + 1) + length ys ≡ a + length (y ∷ ys) = omega arith in
+    ap (λ t. a / 4096 == p || t) (pages-run (a + 1) y ys p ∙ ap (λ n. nat_le ((a + 1) / 4096) p && nat_le p (n / 4096)) e)
+    ∙ next-page (a / 4096) ((a + 1) / 4096) ((a + length (y ∷ ys)) / 4096) p (omega arith) (omega arith) (omega arith)
+
+-- the same for tetras
+pub tetras-run : (a x : ℕ) (xs : List ℕ) (p : ℕ) → list_any (λ (q : ℕ × ℕ). q.0 / 4 == p) (from_place a (x ∷ xs)) ≡ (nat_le (a / 4) p && nat_le p ((a + length xs) / 4))
+tetras-run a x [] p = rw add-zero (last-page (a / 4) p)
+tetras-run a x (y ∷ ys) p =
+    let e : (a + 1) + length ys ≡ a + length (y ∷ ys) = omega arith in
+    ap (λ t. a / 4 == p || t) (tetras-run (a + 1) y ys p ∙ ap (λ n. nat_le ((a + 1) / 4) p && nat_le p (n / 4)) e)
+    ∙ next-page (a / 4) ((a + 1) / 4) ((a + length (y ∷ ys)) / 4) p (omega arith) (omega arith) (omega arith)
+
+-- the tetra at a multiple of 4 lies on one page
+pub tetra-page : (a b c d e p : ℕ) → a % 4 ≡ 0 → pages_of (from_place a (b ∷ c ∷ d ∷ e ∷ [])) p ≡ (p == a / 4096)
+tetra-page a b c d e p m =
+    let same : (a + 3) / 4096 ≡ a / 4096 = omega arith in
+    pages-run a b (c ∷ d ∷ e ∷ []) p ∙ ap (λ n. nat_le (a / 4096) p && nat_le p n) same ∙ only (a / 4096) p
+  where
+    only : (u p : ℕ) → (nat_le u p && nat_le p u) ≡ (p == u)
+    only u p = grind (arith, nat_tests)
+
+-- pages hang on the first and the last byte only
+last-byte : (a n e : ℕ) → a + suc n ≡ e + 1 → a + n ≡ e
+last-byte a n e h = omega arith
+
+pub pages-alike : (a b e f : ℕ) (xs ys : List ℕ) (p : ℕ) → 0 < length xs → 0 < length ys → a + length xs ≡ e + 1 → b + length ys ≡ f + 1 → a / 4096 ≡ b / 4096 → e / 4096 ≡ f / 4096 →
+    pages_of (from_place a xs) p ≡ pages_of (from_place b ys) p
+pages-alike a b e f [] ys p l k u v g h = absurd (omega arith)
+pages-alike a b e f (x ∷ xs) [] p l k u v g h = absurd (omega arith)
+pages-alike a b e f (x ∷ xs) (y ∷ ys) p l k u v g h =
+    pages-run a x xs p
+    ∙ ap (λ n. nat_le (a / 4096) p && nat_le p (n / 4096)) (last-byte a (length xs) e u)
+    ∙ ap (λ n. nat_le n p && nat_le p (e / 4096)) g
+    ∙ ap (λ n. nat_le (b / 4096) p && nat_le p n) h
+    ∙ sym (pages-run b y ys p ∙ ap (λ n. nat_le (b / 4096) p && nat_le p (n / 4096)) (last-byte b (length ys) f v))
+
+-- so many pages one after another are at least so many
+pub many-pages : (n u k : ℕ) (pages : ℕ → Bool) → u + k ≤ n → ((p : ℕ) → u ≤ p → p < u + k → pages p ≡ true) → k ≤ pages_below n pages
+unfolding pages_below
+many-pages zero u k pages l h = omega arith
+many-pages (suc n) u zero pages l h = omega arith
+many-pages (suc n) u (suc k) pages l h =
+    by (λ l. many-pages n u (suc k) pages l h) (λ l. many-pages n u k pages l (λ p a b. h p a (omega arith))) (cases_lt (u + k) n)
+  where
+    by : (u + suc k ≤ n → suc k ≤ pages_below n pages) → (u + k ≤ n → k ≤ pages_below n pages) → (u + k < n) ⊎ (n ≤ u + k) → suc k ≤ cond (pages n) 1 0 + pages_below n pages
+    by below last (inl m) = let b = below (omega arith) in omega (arith, b)
+    by below last (inr m) =
+        let there : pages n ≡ true = h n (omega arith) (omega arith) in
+        let rest = last (omega arith) in
+        rw there (omega (arith, rest))

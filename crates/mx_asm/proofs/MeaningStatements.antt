@@ -1,0 +1,243 @@
+-- The items of one statement, and those of statements one after another.
+use Rattle.std.proofs.Common.{◌≡◌, ℕ, ◌+◌, ◌%◌, ◌^◌, ◌<◌, ◌≤◌, List, [], ◌∷◌, ◌++◌, length, Bool, true, false, cond, arith, refl, sym, ◌∙◌, ap, subst, Option, Some, None, Result, Ok, Err, append_assoc, append-nil}
+use Rattle.std.specs.Prelude.{◌==◌}
+use Rattle.std.specs.Result.{result_unwrap_or}
+use Rattle.std.specs.List.{AllByRecursion, filter}
+use Rattle.std.proofs.lemmas.Bool.{eqb-true}
+use Rattle.mx_word.specs.Words.{octa_to_bytes, tetra_to_bytes}
+use Rattle.mx_word.specs.Ranges.{AreBytes}
+use Rattle.mx_word.specs.declared.symbols.Value.{Value}
+use Rattle.mx_word.specs.declared.symbols.Value.TheVariants.{Pure, Reg}
+use Rattle.mx_word.specs.declared.waits.Awaited.TheVariants as awaited
+use Rattle.mx_word.specs.declared.waits.Wait.{Wait}
+use Rattle.mx_word.specs.declared.waits.WaitKind.{WaitKind}
+use Rattle.mx_word.specs.declared.waits.WaitKind.TheVariants.{Octa, Near, Far}
+use Rattle.mx_word.specs.Waits.{same_awaited}
+use Rattle.mx_mmo.specs.Meaning.{Meaningless, take_items}
+use Rattle.mx_mmo.specs.declared.items.Item.{Item}
+use Rattle.mx_mmo.specs.declared.items.Item.TheVariants.{Loc}
+use Rattle.mx_names.specs.Names.{complete_form}
+use Rattle.mx_names.specs.Waiting.{waits_for}
+use Rattle.mx_stmt.specs.declared.statement.Label.{Label}
+use Rattle.mx_stmt.specs.declared.statement.Label.TheVariants.{Name, Local}
+use Rattle.mx_stmt.specs.declared.placed.Placed.{Placed}
+use Rattle.mx_stmt.specs.Steps.{Answer}
+use Rattle.mx_stmt.specs.Operands.{Known, Targets, no_targets}
+use Rattle.mx_stmt.specs.Encoding.{StatementTree, encoding}
+use Rattle.mx_stmt.specs.Fixes.{fix_bytes, fix_placements}
+use Rattle.mx_stmt.specs.Laid.{kind_size, IsInside, IsLaid}
+use Rattle.mx_stmt.specs.Placements.{from_place, placed}
+use Rattle.mx_stmt.proofs.LaidBytes.{encoding-laid, all-into, all-append}
+use Rattle.mx_stmt.specs.Forms.{future_word}
+use Rattle.mx_asm.specs.declared.faults.AsmFault.{AsmFault}
+use Rattle.mx_asm.specs.declared.refused.Refused.{Refused}
+use Rattle.mx_asm.specs.declared.head.Head.{Head}
+use Rattle.mx_asm.specs.TwoPass.{Sight, outline, waits_in, references}
+use Rattle.mx_asm.specs.Fixes.{from_last, fix_of, with_fix, fixes, awaited_value, waiting_for, waiting_at}
+use Rattle.mx_asm.specs.Emission.{moved, onto, fix_items, head_at_fixes, byte_items, head_at_bytes, with_bytes, piece_items, statement_items, statement_head, sight_items, sight_head, items_from}
+use Rattle.mx_asm.specs.Refusal.{refusal_of, label_fault, fault_behind, fault_with, statement_fault, first_of, first_fault}
+use Rattle.mx_asm.proofs.MeaningMemory.{HaveBytes}
+use Rattle.mx_asm.proofs.MeaningStates.{State, limited, Takes, take-none, takes-both, takes-none, more-bytes}
+use Rattle.mx_asm.proofs.MeaningPieces.{takes-still, at_lambda}
+use Rattle.mx_asm.proofs.MeaningBytes.{head_of, behind_bytes, takes-bytes}
+use Rattle.mx_asm.proofs.MeaningFixes.{behind_fix, takes-fix, word-bytes}
+
+-- ---- references lie low
+
+pub record IsLow (w : Wait) : Type 0 where
+  pub fours : w.at % 4 ≡ 0
+  pub low : w.at + kind_size w.kind ≤ 0x6000_0000_0000_0000
+
+some-size : (kind : WaitKind) → 4 ≤ kind_size kind
+some-size Octa = omega arith
+some-size Near = omega arith
+some-size Far = omega arith
+
+inside-low : (p : Placed) (w : Wait) → IsLaid p → IsInside p.start (length p.bytes) w → IsLow w
+inside-low p w laid h =
+    let first = h.first in
+    let last = h.last in
+    let size = some-size w.kind in
+    let low = laid.low (omega (arith, first, last, size)) in
+    record { fours = h.fours; low = omega (arith, last, low) }
+
+pub waits-low : (s : Sight) → AllByRecursion IsLow (waits_in (outline s))
+waits-low s = on (outline s) refl
+  where
+    on : (r : Answer Placed) → encoding no_targets s.known s.statement ≡ r → AllByRecursion IsLow (waits_in r)
+    on (Err fault) e = tt
+    on (Ok p) e = let laid = encoding-laid no_targets s.known s.statement p e in all-into (IsInside p.start (length p.bytes)) IsLow p.waits (λ w h. inside-low p w laid h) laid.waits
+
+pub references-low : (ss : List Sight) → AllByRecursion IsLow (references ss)
+unfolding references
+references-low [] = tt
+references-low (s ∷ later) = all-append IsLow (waits_in (outline s)) (references later) (waits-low s) (references-low later)
+
+pub all-filter : (P : Wait → Type 0) (f : Wait → Bool) (waits : List Wait) → AllByRecursion P waits → AllByRecursion P (filter f waits)
+all-filter P f [] h = tt
+all-filter P f (w ∷ waits) h = by (f w) (all-filter P f waits h.1)
+  where
+    by : (b : Bool) → AllByRecursion P (filter f waits) → AllByRecursion P (cond b (w ∷ filter f waits) (filter f waits))
+    by true rest = (h.0, rest)
+    by false rest = rest
+
+waiting-by : (earlier : List Sight) (s : Sight) (label : Option Label) → AllByRecursion IsLow (waiting_for earlier s label)
+waiting-by earlier s None = tt
+waiting-by earlier s (Some (Name text)) = all-filter IsLow (λ (w : Wait). same_awaited w.who (awaited.Name (complete_form s.known.names.prefix text))) (references (earlier ++ s ∷ [])) (references-low (earlier ++ s ∷ []))
+waiting-by earlier s (Some (Local d)) = all-filter IsLow (λ (w : Wait). same_awaited w.who (awaited.Local d)) (references (from_last d earlier)) (references-low (from_last d earlier))
+
+pub waiting-low : (earlier : List Sight) (s : Sight) → AllByRecursion IsLow (waiting_at earlier s)
+waiting-low earlier s = waiting-by earlier s s.statement.label
+
+-- ---- the records of a label
+
+-- a value is an octa
+abbrev pub IsWord : Value → Type 0
+IsWord (Pure n) = n < 2 ^ 64
+IsWord (Reg r) = Unit {0}
+
+abbrev pub at_value : ℕ → Targets
+at_value value who = Some value
+
+octa-are : (n : ℕ) → AreBytes (octa_to_bytes n)
+octa-are n = (omega arith, (omega arith, (omega arith, (omega arith, (omega arith, (omega arith, (omega arith, (omega arith, tt))))))))
+
+fix-are : (kind : WaitKind) (place : ℕ) (target : Option ℕ) → AreBytes (fix_bytes kind place target)
+fix-are Octa place target = octa-are _
+fix-are Near place target = word-bytes _
+fix-are Far place target = word-bytes _
+
+pub fixes-have : (t : Targets) (waits : List Wait) (ps : List (ℕ × ℕ)) → HaveBytes (placed ps) → HaveBytes (placed (ps ++ fix_placements t waits))
+fixes-have t [] ps have = subst (λ qs. HaveBytes (placed qs)) (sym (append-nil ps)) have
+fixes-have t (w ∷ waits) ps have =
+    let first : List ℕ = fix_bytes w.kind w.at (t w.who) in
+    subst (λ qs. HaveBytes (placed qs)) (append_assoc ps (from_place w.at first) (fix_placements t waits))
+    (fixes-have t waits (ps ++ from_place w.at first) (more-bytes ps w.at first have (fix-are w.kind w.at (t w.who))))
+
+-- what stands behind the records of references to a value
+abbrev pub with_fixes : State → ℕ → List Wait → State
+with_fixes s value waits = record s { placements = s.placements ++ fix_placements (at_value value) waits }
+
+abbrev pub behind_fixes : State → Value → List Wait → State
+behind_fixes s value [] = s
+behind_fixes s (Pure v) (w ∷ waits) = with_fixes (at_lambda s v) v (w ∷ waits)
+behind_fixes s (Reg r) (w ∷ waits) = s
+
+-- the first record and those of later references
+record AreFixes (value : Value) (line : ℕ) (w : Wait) (waits : List Wait) (items : List Item) : Type 0 where
+  fix : Item
+  later : List Item
+  first_is : fix_of value w ≡ Ok fix
+  later_are : fixes line value waits ≡ Ok later
+  whole : items ≡ fix ∷ later
+
+fixes-split : (value : Value) (line : ℕ) (w : Wait) (waits : List Wait) (items : List Item) → fixes line value (w ∷ waits) ≡ Ok items → AreFixes value line w waits items
+unfolding fixes
+fixes-split value line w waits items h = on (fix_of value w) (fixes line value waits) refl refl h
+  where
+    on : (a : Result Item AsmFault) (b : Result (List Item) Refused) → fix_of value w ≡ a → fixes line value waits ≡ b → with_fix line w.line a b ≡ Ok items → AreFixes value line w waits items
+    on (Err fault) b e f h = absurd (cc)
+    on (Ok fix) (Err refused) e f h = absurd (cc)
+    on (Ok fix) (Ok later) e f h =
+        let same : fix ∷ later ≡ items = cc in
+        record { fix = fix; later = later; first_is = e; later_are = f; whole = sym same }
+
+fixes-nil : (value : Value) (line : ℕ) (items : List Item) → fixes line value [] ≡ Ok items → items ≡ []
+unfolding fixes
+fixes-nil value line items h = let same : [] ≡ items = cc in sym same
+
+module _ (n : ℕ) (big : 2 ^ 51 ≤ n) where
+  takes-fixes : (line value : ℕ) (waits : List Wait) (items : List Item) (s : State) → HaveBytes (placed s.placements) → s.lambda ≡ value → value < 2 ^ 64 → AllByRecursion IsLow waits →
+      fixes line (Pure value) waits ≡ Ok items → Takes n items s (with_fixes s value waits)
+  takes-fixes line value [] items s have at fits low h =
+      record { taken = ap (λ is. take_items is (limited n s)) (fixes-nil (Pure value) line items h) ∙ take-none (limited n s) ∙ ap (λ ps. limited n (record s { placements = ps })) (sym (append-nil s.placements)) }
+  takes-fixes line value (w ∷ waits) items s have at fits low h =
+      let is = fixes-split (Pure value) line w waits items h in
+      let t : State = behind_fix s w value in
+      let first = takes-fix n w value is.fix s big have at fits low.0.fours low.0.low is.first_is in
+      let rest = takes-fixes line value waits is.later t (more-bytes s.placements w.at (fix_bytes w.kind w.at (Some value)) have (fix-are w.kind w.at (Some value))) at fits low.1 is.later_are in
+      let both = takes-both n (is.fix ∷ []) is.later s t (with_fixes t value waits) first rest in
+      record {
+        taken =
+            ap (λ is. take_items is (limited n s)) is.whole ∙ both.taken
+            ∙ ap (λ ps. limited n (record s { placements = ps })) (append_assoc s.placements (from_place w.at (fix_bytes w.kind w.at (Some value))) (fix_placements (at_value value) waits));
+      }
+
+  takes-moved : (value : ℕ) (s : State) → Takes n (moved s.lambda (Pure value)) s (at_lambda s value)
+  takes-moved value s = on (s.lambda == value) (λ e. eqb-true s.lambda value e)
+    where
+      on : (b : Bool) → (b ≡ true → s.lambda ≡ value) → Takes n (cond b [] (Loc value ∷ [])) s (at_lambda s value)
+      on true h = record { taken = take-none (limited n s) ∙ ap (λ a. limited n (at_lambda s a)) (h refl) }
+      on false h = takes-still n _ s (at_lambda s value) refl refl refl
+
+  -- ---- a statement
+
+  abbrev OntoFixes : State → ℕ → Value → List Wait → List Item → Type 0
+  OntoFixes s line value waits items = onto (moved s.lambda value) (fixes line value waits) ≡ Ok items
+
+  reg-refused : (r : ℕ) (line : ℕ) (w : Wait) (waits : List Wait) (items : List Item) → fixes line (Reg r) (w ∷ waits) ≡ Ok items → ⊥
+  unfolding fixes
+  reg-refused r line w waits items h = absurd (cc)
+
+  takes-onto : (line : ℕ) (value : Value) (w : Wait) (waits : List Wait) (items : List Item) (s : State) (r : Result (List Item) Refused) → HaveBytes (placed s.placements) → IsWord value → AllByRecursion IsLow (w ∷ waits) →
+      fixes line value (w ∷ waits) ≡ r → onto (moved s.lambda value) r ≡ Ok items → Takes n items s (behind_fixes s value (w ∷ waits))
+  takes-onto line value w waits items s (Err refused) have word low e h = absurd (cc)
+  takes-onto line (Reg r) w waits items s (Ok fixed) have word low e h = absurd (reg-refused r line w waits fixed e)
+  takes-onto line (Pure v) w waits items s (Ok fixed) have word low e h =
+      let whole : moved s.lambda (Pure v) ++ fixed ≡ items = cc in
+      let both = takes-both n (moved s.lambda (Pure v)) fixed s (at_lambda s v) (with_fixes (at_lambda s v) v (w ∷ waits)) (takes-moved v s) (takes-fixes line v (w ∷ waits) fixed (at_lambda s v) have refl word low e) in
+      record { taken = ap (λ is. take_items is (limited n s)) (sym whole) ∙ both.taken }
+
+  takes-fix-items : (line : ℕ) (value : Value) (waits : List Wait) (items : List Item) (s : State) → HaveBytes (placed s.placements) → IsWord value → AllByRecursion IsLow waits →
+      fix_items s.lambda line value waits ≡ Ok items → Takes n items s (behind_fixes s value waits)
+  takes-fix-items line value [] items s have word low h =
+      let none : [] ≡ items = cc in
+      record { taken = ap (λ is. take_items is (limited n s)) (sym none) ∙ take-none (limited n s) }
+  takes-fix-items line value (w ∷ waits) items s have word low h = takes-onto line value w waits items s (fixes line value (w ∷ waits)) have word low refl h
+
+pub fixed-have : (s : State) (value : Value) (waits : List Wait) → HaveBytes (placed s.placements) → HaveBytes (placed (behind_fixes s value waits).placements)
+fixed-have s value [] have = have
+fixed-have s (Pure v) (w ∷ waits) have = fixes-have (at_value v) (w ∷ waits) s.placements have
+fixed-have s (Reg r) (w ∷ waits) have = have
+
+fixed-head : (s : State) (value : Value) (waits : List Wait) → head_of (behind_fixes s value waits) ≡ head_at_fixes (head_of s) value waits
+fixed-head s value [] = refl
+fixed-head s (Pure v) (w ∷ waits) = refl
+fixed-head s (Reg r) (w ∷ waits) = refl
+
+bytes-head : (s : State) (line start : ℕ) (bytes : List ℕ) → head_of (behind_bytes s line start bytes) ≡ head_at_bytes (head_of s) line start bytes
+bytes-head s line start [] = refl
+bytes-head s line start (b ∷ bytes) = refl
+
+pub bytes-have : (s : State) (line start : ℕ) (bytes : List ℕ) → HaveBytes (placed s.placements) → AreBytes bytes → HaveBytes (placed (behind_bytes s line start bytes).placements)
+bytes-have s line start [] have are = have
+bytes-have s line start (b ∷ bytes) have are = more-bytes s.placements start (b ∷ bytes) have are
+
+-- what stands behind a statement
+abbrev pub behind_placed : State → ℕ → Placed → List Wait → State
+behind_placed s line p waits = behind_bytes (behind_fixes s (awaited_value p.label) waits) line p.start p.bytes
+
+pub placed-head : (s : State) (line : ℕ) (p : Placed) (waits : List Wait) → head_of (behind_placed s line p waits) ≡ statement_head (head_of s) line p waits
+placed-head s line p waits = bytes-head (behind_fixes s (awaited_value p.label) waits) line p.start p.bytes ∙ ap (λ h. head_at_bytes h line p.start p.bytes) (fixed-head s (awaited_value p.label) waits)
+
+pub takes-placed : (n : ℕ) (line : ℕ) (p : Placed) (waits : List Wait) (items : List Item) (s : State) → 2 ^ 51 ≤ n → HaveBytes (placed s.placements) → IsWord (awaited_value p.label) → AllByRecursion IsLow waits → IsLaid p → 0 < line →
+    statement_items (head_of s) line p waits ≡ Ok items → Takes n items s (behind_placed s line p waits)
+takes-placed n line p waits items s big have word low laid some h = on (fix_items s.lambda line (awaited_value p.label) waits) refl h
+  where
+    value : Value
+    value = awaited_value p.label
+
+    on : (r : Result (List Item) Refused) → fix_items s.lambda line (awaited_value p.label) waits ≡ r → with_bytes r (byte_items (head_at_fixes (head_of s) (awaited_value p.label) waits) line p.start p.bytes) ≡ Ok items → Takes n items s (behind_placed s line p waits)
+    on (Err refused) e h = absurd (cc)
+    on (Ok fixed) e h =
+        let t : State = behind_fixes s (awaited_value p.label) waits in
+        let first = takes-fix-items n big line (awaited_value p.label) waits fixed s have word low e in
+        let second = takes-bytes n big t line p.start p.bytes laid.low laid.bytes (fixed-have s (awaited_value p.label) waits have) some in
+        let whole : fixed ++ byte_items (head_at_fixes (head_of s) (awaited_value p.label) waits) line p.start p.bytes ≡ items = cc in
+        let both = takes-both n fixed (byte_items (head_of t) line p.start p.bytes) s t (behind_bytes t line p.start p.bytes) first second in
+        record {
+          taken =
+              ap (λ is. take_items is (limited n s)) (sym whole)
+              ∙ ap (λ h. take_items (fixed ++ byte_items h line p.start p.bytes) (limited n s)) (sym (fixed-head s (awaited_value p.label) waits))
+              ∙ both.taken;
+        }

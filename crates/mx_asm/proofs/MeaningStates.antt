@@ -1,0 +1,219 @@
+-- What stands once items were loaded, by the bytes that they placed, and one tetra more.
+use Rattle.std.proofs.Common.{◌≡◌, ℕ, zero, suc, ◌+◌, ◌-◌, ◌*◌, ◌/◌, ◌%◌, ◌^◌, ◌<◌, ◌≤◌, List, [], ◌∷◌, ◌++◌, length, map, Bool, true, false, not, cond, arith, refl, sym, ◌∙◌, ap, bit_xor, subst, Result, Ok, Err, append_assoc}
+use Rattle.std.specs.Prelude.{◌==◌, ◌||◌, nat_le, nat_lt}
+use Rattle.std.specs.Int.Bits.{xor_zero_r}
+use Rattle.std.proofs.lemmas.Nat.{xor_of_8}
+use Rattle.std.proofs.lemmas.Bool.Decides.{nat_tests}
+use Rattle.mx_word.specs.Words.{tetra_from_bytes}
+use Rattle.mx_word.specs.Octas.{with_tetra, in_half, tetra_byte, bytes_with_tetra, with_page}
+use Rattle.mx_word.specs.Ranges.{AreBytes}
+use Rattle.mx_word.proofs.Tetras.{four-fit}
+use Rattle.mx_mmo.specs.Image.{Image}
+use Rattle.mx_mmo.specs.Reading.{tetras_of}
+use Rattle.mx_mmo.specs.Meaning.{Loading, Meaningless, PagesFull, BadPlace, is_below, paged, image_with_tetra, join, lined, noted, next_line, after_load, with_name, take_item, take_items}
+use Rattle.mx_mmo.specs.declared.items.Item.{Item}
+use Rattle.mx_mmo.specs.declared.items.Item.TheVariants.{Load}
+use Rattle.mx_stmt.specs.Placements.{from_place, placed}
+use Rattle.mx_stmt.proofs.JoinedBytes.{placed-append, from-append}
+use Rattle.mx_asm.specs.Image.{octa_in, pages_of, pages_below}
+use Rattle.mx_asm.proofs.MeaningTetras.{four, tetra-placed}
+use Rattle.mx_asm.proofs.MeaningMemory.{HaveBytes, octas-joined}
+use Rattle.mx_asm.proofs.MeaningPages.{same-pages, AreMore, more-count, append-pages, append-more, unless_full, paged-is, tetra-page}
+
+-- ---- states
+
+-- the bytes that were placed, the lines of tetras, lambda, and the line in force
+pub record State : Type 0 where
+  pub placements : List (ℕ × ℕ)
+  pub lines : ℕ → ℕ
+  pub lambda : ℕ
+  pub line : ℕ
+
+abbrev pub image_at : ℕ → List (ℕ × ℕ) → (ℕ → ℕ) → Image
+image_at n ps lines = record {
+  memory = octa_in (placed ps);
+  pages = pages_of ps;
+  page_count = pages_below n (pages_of ps);
+  line_of = lines;
+  g = 255;
+  global = λ k. 0;
+}
+
+abbrev pub stands : ℕ → State → Loading
+stands n s = record { image = image_at n s.placements s.lines; lambda = s.lambda; line = s.line; selected = true; named = with_name (λ k. false) 0 }
+
+abbrev pub count_of : ℕ → State → ℕ
+count_of n s = pages_below n (pages_of s.placements)
+
+-- what stands, unless there are too many pages
+abbrev pub limited : ℕ → State → Result Loading Meaningless
+limited n s = unless_full (count_of n s) (stands n s)
+
+-- items lead from one state to another
+pub record Takes (n : ℕ) (items : List Item) (s t : State) : Type 0 where
+  pub taken : take_items items (limited n s) ≡ limited n t
+
+-- ---- items one after another
+
+pub take-none : (r : Result Loading Meaningless) → take_items [] r ≡ r
+take-none (Ok s) = refl
+take-none (Err e) = refl
+
+pub take-failed : (items : List Item) (e : Meaningless) → take_items items (Err e) ≡ Err e
+take-failed [] e = refl
+take-failed (x ∷ items) e = refl
+
+pub take-append : (xs ys : List Item) (r : Result Loading Meaningless) → take_items (xs ++ ys) r ≡ take_items ys (take_items xs r)
+take-append [] ys (Ok s) = refl
+take-append (x ∷ xs) ys (Ok s) = take-append xs ys (take_item s x)
+take-append [] ys (Err e) = refl
+take-append (x ∷ xs) ys (Err e) = sym (take-failed ys e)
+
+pub takes-both : (n : ℕ) (xs ys : List Item) (s t u : State) → Takes n xs s t → Takes n ys t u → Takes n (xs ++ ys) s u
+takes-both n xs ys s t u first second = record { taken = take-append xs ys (limited n s) ∙ ap (take_items ys) first.taken ∙ second.taken }
+
+pub takes-none : (n : ℕ) (s : State) → Takes n [] s s
+takes-none n s = record { taken = take-none (limited n s) }
+
+-- where there is room, what the items do counts
+pub takes-few : (n : ℕ) (items : List Item) (s t : State) → AreMore (pages_of t.placements) (pages_of s.placements) →
+    (count_of n s ≤ 65536 → take_items items (Ok (stands n s)) ≡ limited n t) → Takes n items s t
+takes-few n items s t more h = record { taken = on (nat_le (count_of n s) 65536) refl }
+  where
+    on : (b : Bool) → nat_le (count_of n s) 65536 ≡ b → take_items items (cond b (Ok (stands n s)) (Err PagesFull)) ≡ limited n t
+    on true e = h (grind (arith, nat_tests))
+    on false e =
+        let grown = more-count n (pages_of t.placements) (pages_of s.placements) more in
+        let full : nat_le (count_of n t) 65536 ≡ false = grind (arith, nat_tests) in
+        take-failed items PagesFull ∙ sym (ap (λ b. cond b (Ok (stands n t)) (Err PagesFull)) full)
+
+-- ---- one tetra
+
+pub same-numbers : (f g : ℕ → ℕ) → ((q : ℕ) → f q ≡ g q) → f ≡ g
+same-numbers f g h = λ i q. h q i
+
+with-tetra-unless : (a t count : ℕ) (m : Image) → image_with_tetra a t (unless_full count m) ≡ unless_full count (record m { memory = with_tetra m.memory a t })
+with-tetra-unless a t count m = on (nat_le count 65536)
+  where
+    on : (b : Bool) → image_with_tetra a t (cond b (Ok m) (Err PagesFull)) ≡ cond b (Ok (record m { memory = with_tetra m.memory a t })) (Err PagesFull)
+    on true = refl
+    on false = refl
+
+-- the page of a tetra
+tetra-on-page : (ps : List (ℕ × ℕ)) (a b c d e : ℕ) → a % 4 ≡ 0 → with_page (pages_of ps) (a / 4096) ≡ pages_of (ps ++ four a b c d e)
+tetra-on-page ps a b c d e m = same-pages _ _ (λ p. turned (p == a / 4096) (pages_of ps p) ∙ sym (append-pages ps (four a b c d e) p ∙ ap (λ t. pages_of ps p || t) (tetra-page a b c d e p m)))
+  where
+    turned : (s t : Bool) → cond s true t ≡ (t || s)
+    turned true true = refl
+    turned true false = refl
+    turned false true = refl
+    turned false false = refl
+
+pub tetra-joined : (n a b c d e : ℕ) (ps : List (ℕ × ℕ)) (lines : ℕ → ℕ) → 2 ^ 51 ≤ n → a % 4 ≡ 0 → a < 0x6000_0000_0000_0000 → AreBytes (b ∷ c ∷ d ∷ e ∷ []) → HaveBytes (placed ps) → pages_below n (pages_of ps) ≤ 65536 →
+    join (image_at n ps lines) a (tetra_from_bytes (b ∷ c ∷ d ∷ e ∷ [])) ≡ unless_full (pages_below n (pages_of (ps ++ four a b c d e))) (image_at n (ps ++ four a b c d e) lines)
+tetra-joined n a b c d e ps lines big m l are have few =
+    let t : ℕ = tetra_from_bytes (b ∷ c ∷ d ∷ e ∷ []) in
+    let below : nat_le 0x6000_0000_0000_0000 a ≡ false = grind (arith, nat_tests) in
+    let pages = tetra-on-page ps a b c d e m in
+    let memory : with_tetra (octa_in (placed ps)) a t ≡ octa_in (placed (ps ++ four a b c d e)) =
+    octas-joined (placed ps) a t have (four-fit b c d e are.0 are.1.0 are.1.1.0 are.1.1.1.0)
+    ∙ ap octa_in (same-numbers _ _ (λ q. ap (bit_xor (placed ps q)) (tetra-placed a b c d e q m are.0 are.1.0 are.1.1.0 are.1.1.1.0) ∙ sym (placed-append ps (four a b c d e) q))) in
+    ap (λ t. cond (not t) (image_with_tetra a (tetra_from_bytes (b ∷ c ∷ d ∷ e ∷ [])) (paged (image_at n ps lines) (a / 4096))) (Err BadPlace)) below
+    ∙ ap (image_with_tetra a t) (paged-is n (image_at n ps lines) (a / 4096) (omega (arith, big, l)) refl few)
+    ∙ with-tetra-unless a t (pages_below n (with_page (pages_of ps) (a / 4096))) _
+    ∙ (λ i. unless_full (pages_below n (pages i)) (record { memory = memory i; pages = pages i; page_count = pages_below n (pages i); line_of = lines; g = 255; global = λ k. 0 }))
+
+-- ---- a tetra that is loaded
+
+abbrev pub noted_lines : (ℕ → ℕ) → ℕ → ℕ → ℕ → ℕ
+noted_lines lines a line = cond (line == 0) lines (lined lines a line)
+
+abbrev pub behind_tetra : State → ℕ → ℕ → ℕ → ℕ → State
+behind_tetra s b c d e = record {
+  placements = s.placements ++ four s.lambda b c d e;
+  lines = noted_lines s.lines s.lambda s.line;
+  lambda = s.lambda + 4;
+  line = next_line s.line;
+}
+
+after-unless : (n : ℕ) (s t : State) → t.lambda ≡ (4 * (s.lambda / 4) + 4) % 2 ^ 64 → t.line ≡ next_line s.line → t.lines ≡ noted_lines s.lines s.lambda s.line →
+    after_load (stands n s) (unless_full (count_of n t) (image_at n t.placements s.lines)) ≡ limited n t
+after-unless n s t lambda line lines = on (nat_le (count_of n t) 65536)
+  where
+    noted-is : (b : Bool) → cond b (image_at n t.placements s.lines) (record (image_at n t.placements s.lines) { line_of = lined s.lines s.lambda s.line }) ≡ image_at n t.placements (cond b s.lines (lined s.lines s.lambda s.line))
+    noted-is true = refl
+    noted-is false = refl
+
+    image : noted (stands n s) (image_at n t.placements s.lines) ≡ image_at n t.placements t.lines
+    image = noted-is (s.line == 0) ∙ ap (image_at n t.placements) (sym lines)
+
+    on : (b : Bool) → after_load (stands n s) (cond b (Ok (image_at n t.placements s.lines)) (Err PagesFull)) ≡ cond b (Ok (stands n t)) (Err PagesFull)
+    on true = λ i. Ok (record { image = image i; lambda = sym lambda i; line = sym line i; selected = true; named = with_name (λ k. false) 0 })
+    on false = refl
+
+pub takes-tetra : (n b c d e : ℕ) (s : State) → 2 ^ 51 ≤ n → s.lambda % 4 ≡ 0 → s.lambda < 0x6000_0000_0000_0000 → AreBytes (b ∷ c ∷ d ∷ e ∷ []) → HaveBytes (placed s.placements) →
+    Takes n (Load (tetra_from_bytes (b ∷ c ∷ d ∷ e ∷ [])) ∷ []) s (behind_tetra s b c d e)
+takes-tetra n b c d e s big m l are have =
+    takes-few n _ s (behind_tetra s b c d e) (append-more s.placements (four s.lambda b c d e)) (λ few.
+    take-none _
+    ∙ ap (after_load (stands n s)) (tetra-joined n s.lambda b c d e s.placements s.lines big m l are have few)
+    ∙ after-unless n s (behind_tetra s b c d e) (omega (arith, m, l)) refl refl)
+
+-- ---- bytes are bytes
+
+placed-byte : (a : ℕ) (bytes : List ℕ) (q : ℕ) → AreBytes bytes → placed (from_place a bytes) q < 2 ^ 8
+placed-byte a [] q h = omega arith
+placed-byte a (b ∷ bytes) q h = by (q == a) (placed-byte (a + 1) bytes q h.1)
+  where
+    by : (t : Bool) → placed (from_place (a + 1) bytes) q < 2 ^ 8 → cond t (bit_xor b (placed (from_place (a + 1) bytes) q)) (placed (from_place (a + 1) bytes) q) < 2 ^ 8
+    by true rest = xor_of_8 b (placed (from_place (a + 1) bytes) q) h.0 rest
+    by false rest = rest
+
+pub more-bytes : (ps : List (ℕ × ℕ)) (a : ℕ) (bytes : List ℕ) → HaveBytes (placed ps) → AreBytes bytes → HaveBytes (placed (ps ++ from_place a bytes))
+more-bytes ps a bytes have are = λ q. subst (λ n. n < 2 ^ 8) (sym (placed-append ps (from_place a bytes) q)) (xor_of_8 (placed ps q) (placed (from_place a bytes) q) (have q) (placed-byte a bytes q are))
+
+-- ---- tetras one after another
+
+abbrev pub lines_with : (ℕ → ℕ) → ℕ → ℕ → ℕ → ℕ → ℕ
+lines_with lines a line zero = lines
+lines_with lines a line (suc k) = lines_with (noted_lines lines a line) (a + 4) (next_line line) k
+
+abbrev pub line_after : ℕ → ℕ → ℕ
+line_after line zero = line
+line_after line (suc k) = line_after (next_line line) k
+
+abbrev pub behind_tetras : State → List ℕ → State
+behind_tetras s bytes = record {
+  placements = s.placements ++ from_place s.lambda bytes;
+  lines = lines_with s.lines s.lambda s.line (length (tetras_of bytes));
+  lambda = s.lambda + length bytes;
+  line = line_after s.line (length (tetras_of bytes));
+}
+
+same-state : (s t : State) → s.placements ≡ t.placements → s.lines ≡ t.lines → s.lambda ≡ t.lambda → s.line ≡ t.line → s ≡ t
+same-state s t p l a i = λ j. record { placements = p j; lines = l j; lambda = a j; line = i j }
+
+pub takes-equal : (n : ℕ) (items : List Item) (s t u : State) → t ≡ u → Takes n items s t → Takes n items s u
+takes-equal n items s t u e h = record { taken = h.taken ∙ ap (limited n) e }
+
+no-bytes : (ps : List (ℕ × ℕ)) → ps ≡ ps ++ []
+no-bytes [] = refl
+no-bytes (p ∷ ps) = ap (λ qs. p ∷ qs) (no-bytes ps)
+
+pub takes-tetras : (n : ℕ) (bytes : List ℕ) (s : State) → 2 ^ 51 ≤ n → s.lambda % 4 ≡ 0 → length bytes % 4 ≡ 0 → s.lambda + length bytes ≤ 0x6000_0000_0000_0000 → AreBytes bytes → HaveBytes (placed s.placements) →
+    Takes n (map Load (tetras_of bytes)) s (behind_tetras s bytes)
+takes-tetras n [] s big m l low are have =
+    takes-equal n [] s s (behind_tetras s []) (same-state s (behind_tetras s []) (no-bytes s.placements) refl (omega arith) refl) (takes-none n s)
+takes-tetras n (b ∷ []) s big m l low are have = absurd (omega (arith, l))
+takes-tetras n (b ∷ c ∷ []) s big m l low are have = absurd (omega (arith, l))
+takes-tetras n (b ∷ c ∷ d ∷ []) s big m l low are have = absurd (omega (arith, l))
+takes-tetras n (b ∷ c ∷ d ∷ e ∷ more) s big m l low are have =
+    let t : State = behind_tetra s b c d e in
+    let four_are : AreBytes (b ∷ c ∷ d ∷ e ∷ []) = (are.0, (are.1.0, (are.1.1.0, (are.1.1.1.0, tt)))) in
+    takes-equal n _ s (behind_tetras t more) (behind_tetras s (b ∷ c ∷ d ∷ e ∷ more))
+    (same-state (behind_tetras t more) (behind_tetras s (b ∷ c ∷ d ∷ e ∷ more))
+    (append_assoc s.placements (four s.lambda b c d e) (from_place (s.lambda + 4) more) ∙ ap (λ ps. s.placements ++ ps) (sym (from-append s.lambda (b ∷ c ∷ d ∷ e ∷ []) more)))
+    refl (omega arith) refl)
+    (takes-both n (Load (tetra_from_bytes (b ∷ c ∷ d ∷ e ∷ [])) ∷ []) (map Load (tetras_of more)) s t (behind_tetras t more)
+    (takes-tetra n b c d e s big m (omega (arith, low)) four_are have)
+    (takes-tetras n more t big (omega (arith, m)) (omega (arith, l)) (omega (arith, low)) are.1.1.1.1 (more-bytes s.placements s.lambda (b ∷ c ∷ d ∷ e ∷ []) have four_are)))
