@@ -1,5 +1,5 @@
 -- A step that goes on counts one step.
-use Rattle.std.proofs.Common.{◌≡◌, ℕ, ◌+◌, ◌%◌, ◌^◌, Bool, true, false, cond, List, [], ◌∷◌, Option, None, Some, refl, subst, ◌∙◌, ap}
+use Rattle.std.proofs.Common.{◌≡◌, ℕ, ◌+◌, ◌%◌, ◌^◌, Bool, true, false, cond, List, [], ◌∷◌, Option, None, Some, refl, ◌∙◌, ap}
 use Rattle.std.specs.Prelude.{◌==◌, not}
 use Rattle.std.specs.Option.{unwrap_or}
 use Rattle.mx_ring.specs.Stack.{in_stack_area}
@@ -18,7 +18,6 @@ use Rattle.mx_core.specs.declared.operation.Operation.{Operation}
 use Rattle.mx_core.specs.declared.operation.Operation.TheVariants as op
 use Rattle.mx_core.specs.declared.reason.Reason.{Reason}
 use Rattle.mx_core.specs.declared.reason.Reason.TheVariants.{Negative, Illegal}
-use Rattle.mx_core.specs.declared.trace.Trace.{Trace}
 
 -- AN EFFECT
 
@@ -106,4 +105,3 @@ step-if false s x h = h
 pub step-count : (s : State) → CountsOne s (step s)
 unfolding step
 step-count s = step-if (is_negative s.pc) s _ (made-count s (operation_in (fetched s)))
-

@@ -193,12 +193,7 @@ const RINGS: [(u32, Program, u64, u32, u64, Advance); 6] = [
 
 /// A machine that is to begin at an address, with one argument and a ring of this size; $255 has the
 /// address.
-fn machine_at(
-    rt: &impl Abort,
-    alloc: Global,
-    size: u32,
-    main: u64,
-) -> Result<Machine, Fail> {
+fn machine_at(rt: &impl Abort, alloc: Global, size: u32, main: u64) -> Result<Machine, Fail> {
     let args = [Bytes::copy(alloc, b"p")?];
     let image = Loader::new(alloc).finish(Symbols::new(alloc))?;
     let size = RingSize::of(size).expect(rt, "a power of two");

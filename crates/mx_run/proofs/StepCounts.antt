@@ -1,5 +1,5 @@
 -- How many steps a turn and a run count.
-use Rattle.std.proofs.Common.{◌≡◌, ℕ, zero, suc, ◌+◌, ◌/◌, ◌%◌, ◌≤◌, ◌^◌, Bool, true, false, cond, Option, None, Some, arith, refl, ◌∙◌, ap}
+use Rattle.std.proofs.Common.{◌≡◌, ℕ, zero, suc, ◌+◌, ◌/◌, ◌%◌, ◌^◌, Bool, true, false, cond, Option, None, Some, arith, refl, ◌∙◌, ap}
 use Rattle.std.specs.Prelude.{◌&&◌, not}
 use Rattle.mx_host.specs.HostModel.{HostModel}
 use Rattle.mx_mem.specs.Space.{Contents}
