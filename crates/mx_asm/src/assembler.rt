@@ -128,9 +128,9 @@ fn take_line(
 ) -> Result<(), Refused>
     ensures taken { result ≢ Err no_memory →
         (out.new, spec.standing_after result assembly.new) ≡ spec.line_behind out.old (Ok assembly.old) text.now }
+    ensures sparing { assembly.old.opened ≡ true → holds_statement text.now ≡ false → result ≢ Err no_memory }
     ensures front { IsFront out.new (spec.line_behind out.old (Ok assembly.old) text.now).0 }
     ensures fits { AreFit out.old → AreFit out.new }
-    ensures sparing { assembly.old.opened ≡ true → holds_statement text.now ≡ false → result ≢ Err no_memory }
 {
     assembly.open(out)?;
     let line = assembly.count(text)?;
