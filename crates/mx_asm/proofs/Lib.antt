@@ -31,3 +31,4 @@ pub mod MeaningWhole
 pub mod MeaningWords
 pub mod MeaningSteady
 pub mod MeaningLaws
+pub mod MeaningRead
