@@ -32,3 +32,4 @@ pub mod MeaningWords
 pub mod MeaningSteady
 pub mod MeaningLaws
 pub mod MeaningRead
+pub mod MeaningSources

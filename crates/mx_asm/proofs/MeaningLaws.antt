@@ -31,7 +31,7 @@ image-meant statements h = emission-means statements h.faultless (steady-all sta
 
 -- ---- the pages of statements
 
-outlined-pages : (final : NameTable) (later earlier : List Sight) (page : ℕ) → first_fault earlier later ≡ None → AllByRecursion IsSteady later →
+pub outlined-pages : (final : NameTable) (later earlier : List Sight) (page : ℕ) → first_fault earlier later ≡ None → AllByRecursion IsSteady later →
     pages_of (placements (pieces_of final later)) page ≡ pages_of (placements (outlined later)) page
 unfolding first_fault pieces_of outlined placements
 outlined-pages final [] earlier page none steady = refl
