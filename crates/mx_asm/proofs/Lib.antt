@@ -33,3 +33,4 @@ pub mod MeaningSteady
 pub mod MeaningLaws
 pub mod MeaningRead
 pub mod MeaningSources
+pub mod MeaningLines
