@@ -34,3 +34,6 @@ pub mod MeaningWhole
 pub mod MeaningWords
 pub mod MeaningSteady
 pub mod MeaningLaws
+pub mod MeaningRead
+pub mod MeaningSources
+pub mod MeaningLines

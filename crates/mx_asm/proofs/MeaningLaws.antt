@@ -31,7 +31,7 @@ image-meant statements h = emission-means statements h.faultless (steady-all sta
 
 -- ---- the pages of statements
 
-outlined-pages : (final : NameTable) (later earlier : List Sight) (page : ℕ) → first_fault earlier later ≡ None → AllByRecursion IsSteady later →
+pub outlined-pages : (final : NameTable) (later earlier : List Sight) (page : ℕ) → first_fault earlier later ≡ None → AllByRecursion IsSteady later →
     pages_of (placements (pieces_of final later)) page ≡ pages_of (placements (outlined later)) page
 unfolding first_fault pieces_of outlined placements
 outlined-pages final [] earlier page none steady = refl
@@ -98,7 +98,7 @@ placements-append [] qs = refl
 placements-append (p ∷ ps) qs = ap (λ l. from_place p.start p.bytes ++ l) (placements-append ps qs) ∙ sym (append_assoc (from_place p.start p.bytes) (placements ps) (placements qs))
 
 -- where there is no room for the first ones, there is none for more
-no-room : (n : ℕ) (xs ys : List Sight) → nat_le (pages_below n (pages_of (placements (outlined xs)))) 65536 ≡ false → nat_le (pages_below n (pages_of (placements (outlined (xs ++ ys))))) 65536 ≡ false
+pub no-room : (n : ℕ) (xs ys : List Sight) → nat_le (pages_below n (pages_of (placements (outlined xs)))) 65536 ≡ false → nat_le (pages_below n (pages_of (placements (outlined (xs ++ ys))))) 65536 ≡ false
 no-room n xs ys h =
     let grown = more-count n (pages_of (placements (outlined xs) ++ placements (outlined ys))) (pages_of (placements (outlined xs))) (append-more (placements (outlined xs)) (placements (outlined ys))) in
     let full : nat_le (pages_below n (pages_of (placements (outlined xs) ++ placements (outlined ys)))) 65536 ≡ false = grind (arith, nat_tests) in
@@ -115,7 +115,7 @@ refusal-from (s ∷ later) earlier room =
     on true e rest = rest e
     on false e rest = sym (ap not (no-room (2 ^ 51) (earlier ++ s ∷ []) later e))
 
-nothing-has-room : has_room (outlined []) ≡ true
+pub nothing-has-room : has_room (outlined []) ≡ true
 unfolding outlined placements
 nothing-has-room = ap (λ c. nat_le c 65536) (no-pages (2 ^ 51))
 

@@ -21,5 +21,7 @@ pub use laws::{
     entries_are_read, lines_are_taken_in_turn, lines_give_the_front, one_pass_gives_the_whole,
     sources_are_emitted_or_refused,
 };
-pub use meaning_laws::{items_mean_the_image, lines_are_loaded_where_there_is_room};
+pub use meaning_laws::{
+    items_mean_the_image, lines_are_loaded_where_there_is_room, sources_mean_their_images,
+};
 pub use refused::Refused;

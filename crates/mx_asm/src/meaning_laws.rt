@@ -1,16 +1,18 @@
 //! What the items of a source mean.
 
-ghost use Rattle.std.specs.Prelude.{◌≡◌, List, Ok, is_some, not};
+ghost use Rattle.std.specs.Prelude.{◌≡◌, ◌+◌, ◌++◌, ◌∷◌, [], ℕ, List, None, Ok, Some, is_some, length, not};
 ghost use Rattle.std.specs.List.{AllByRecursion};
 ghost use Rattle.std.specs.Result.{result_err};
-ghost use Rattle.mx_mmo.specs.Meaning.{meaning, nothing, take_items};
+ghost use Rattle.mx_word.specs.Ranges.{AreBytes};
+ghost use Rattle.mx_mmo.specs.Meaning.{PagesFull, meaning, nothing, take_items};
 ghost use Rattle.mx_stmt.specs.Encoding.{StatementTree};
 ghost use Rattle.mx_asm.specs.Emission.{emission};
-ghost use Rattle.mx_asm.specs.Entries.{statements_in};
-ghost use Rattle.mx_asm.specs.Pages.{AreAccepted, accepted_in, has_room, loaded_image, outlined, page_fault, page_refusal};
-ghost use Rattle.mx_asm.specs.Statements.{IsStatement};
+ghost use Rattle.mx_asm.specs.Image.{image};
+ghost use Rattle.mx_asm.specs.Entries.{source_entries, statements_in};
+ghost use Rattle.mx_asm.specs.Pages.{AreAccepted, accepted_in, has_room, loaded_image, outlined, page_fault, page_refusal, run_refusal};
+ghost use Rattle.mx_asm.specs.Refusal.{refusal};
 ghost use Rattle.mx_asm.specs.TwoPass.{Sight};
-ghost use Rattle.mx_asm.specs.Whole.{Line, lines_entries, lines_items};
+ghost use Rattle.mx_asm.specs.Whole.{Line, assembled_source, lines_entries, lines_items};
 
 /// What the statements of a source emit sets up its image: memory, pages, lines and global registers.
 /// Where the image would have more than 65,536 pages, the items have no meaning for that reason.
@@ -20,9 +22,22 @@ pub fn items_mean_the_image()
 {}
 
 /// The items of the lines of a source, refused or not, are loaded unless the statements that are
-/// accepted touch more than 65,536 pages; no other fault comes.
+/// accepted touch more than 65,536 pages; no other fault comes. A statement is refused for its pages
+/// exactly where there are too many, and it stands on the line with which they become too many.
 pub fn lines_are_loaded_where_there_is_room()
-    ensures fault { (lines : List Line) → AllByRecursion IsStatement (statements_in (lines_entries lines)) →
+    ensures fault { (lines : List Line) → AllByRecursion AreBytes lines →
         result_err (take_items (lines_items lines) (Ok nothing)) ≡ page_fault (accepted_in (lines_entries lines)) }
     ensures first { (statements : List Sight) → is_some (page_refusal statements) ≡ not (has_room (outlined statements)) }
+    ensures line { (lines later : List Line) (line : Line) → page_fault (accepted_in (lines_entries lines)) ≡ None →
+        page_fault (accepted_in (lines_entries (lines ++ line ∷ []))) ≡ Some PagesFull →
+        page_refusal (accepted_in (lines_entries (lines ++ line ∷ later))) ≡ Some (length lines + 1) }
+{}
+
+/// What a source that is not refused is assembled into means its image, unless that has too many
+/// pages; one that is not refused when it is run means its image.
+pub fn sources_mean_their_images()
+    ensures image { (source : List ℕ) → AreBytes source → refusal source ≡ None →
+        meaning (assembled_source source).0 ≡ loaded_image (statements_in (source_entries source)) }
+    ensures run { (source : List ℕ) → AreBytes source → run_refusal source ≡ None →
+        meaning (assembled_source source).0 ≡ Ok (image (statements_in (source_entries source))) }
 {}

@@ -1,0 +1,240 @@
+-- Where pages are full, line by line.
+use Rattle.std.proofs.Common.{◌≡◌, ℕ, zero, suc, ◌+◌, ◌-◌, ◌^◌, ◌<◌, ◌≤◌, List, [], ◌∷◌, ◌++◌, length, map, fold, take, Bool, true, false, not, cond, nat_le, nat_lt, arith, refl, sym, ◌∙◌, ap, subst, Option, Some, None, Result, Ok, Err, append_assoc, append-nil}
+use Rattle.std.specs.Prelude.{sum_by, is_some, option_map}
+use Rattle.std.specs.List.{AllByRecursion}
+use Rattle.std.proofs.lemmas.List.{take-append-le}
+use Rattle.mx_line.specs.declared.faults.LineFault.{LineFault}
+use Rattle.mx_line.specs.declared.cutter.Cut.{Cut}
+use Rattle.mx_line.specs.Lines.{size_up_to, is_too_far}
+use Rattle.mx_line.specs.Spans.{part}
+use Rattle.mx_line.specs.Cutting.{cuts_from}
+use Rattle.mx_line.specs.Source.{Item, statement, faulty, too_far, item_of, before, items_of, items_from}
+use Rattle.mx_mmo.specs.Meaning.{Meaningless, PagesFull}
+use Rattle.mx_expr.specs.declared.faults.ExprFault.{ExprFault}
+use Rattle.mx_expr.specs.Tree.{Tree}
+use Rattle.mx_expr.specs.Reading.{reading}
+use Rattle.mx_ops.specs.declared.op.Op.{Op}
+use Rattle.mx_stmt.specs.Steps.{Answer}
+use Rattle.mx_stmt.specs.Operands.{Known}
+use Rattle.mx_stmt.specs.Encoding.{StatementTree}
+use Rattle.mx_stmt.specs.Reading.{Fields, label_of, operation_for}
+use Rattle.mx_asm.specs.declared.refused.Refused.{Refused}
+use Rattle.mx_asm.specs.Entries.{Entry, with_operands, with_operation, statement_in, entry_with, entry_of, entries_of, statements_in}
+use Rattle.mx_asm.specs.TwoPass.{Sight, nothing_known, known_after, sights_from, sights_of}
+use Rattle.mx_asm.specs.Refusal.{statement_fault}
+use Rattle.mx_asm.specs.Whole.{Line, accepted, accepted_with, lines_entries}
+use Rattle.mx_asm.specs.Pages.{outlined, has_room, page_fault, page_refusal_from, page_refusal, accepted_in}
+use Rattle.mx_asm.proofs.MeaningLaws.{no-room, nothing-has-room}
+
+-- ---- the items of lines
+
+before-both : (a b c : List Item) → before (before a b) c ≡ before a (before b c)
+before-both [] b c = refl
+before-both (statement line label op operands ∷ items) b c = ap (λ is. statement line label op operands ∷ is) (before-both items b c)
+before-both (faulty line why ∷ items) b c = refl
+before-both (too_far line ∷ items) b c = refl
+
+items-split : (all : List Line) (n : ℕ) (us vs : List Line) → items_from all n (us ++ vs) ≡ before (items_from all n us) (items_from all (n + length us) vs)
+unfolding items_from
+items-split all n [] vs = ap (λ k. items_from all k vs) (omega arith)
+items-split all n (u ∷ us) vs =
+    by (is_too_far all n) (items-split all (n + 1) us vs ∙ ap (λ k. before (items_from all (n + 1) us) (items_from all k vs)) (omega arith))
+  where
+    by : (b : Bool) → items_from all (n + 1) (us ++ vs) ≡ before (items_from all (n + 1) us) (items_from all (n + length (u ∷ us)) vs) →
+        cond b (too_far n ∷ []) (before (items_of n u) (items_from all (n + 1) (us ++ vs))) ≡ before (cond b (too_far n ∷ []) (before (items_of n u) (items_from all (n + 1) us))) (items_from all (n + length (u ∷ us)) vs)
+    by true h = refl
+    by false h = ap (before (items_of n u)) h ∙ sym (before-both (items_of n u) (items_from all (n + 1) us) (items_from all (n + length (u ∷ us)) vs))
+
+-- later lines do not make a line too far
+far-same : (xs ys : List Line) (i : ℕ) → i ≤ length xs → is_too_far (xs ++ ys) i ≡ is_too_far xs i
+far-same xs ys i l = ap (λ t. nat_lt (2 ^ 22) (sum_by length t + (i - 1))) (take-append-le i xs ys l)
+
+items-same : (xs ys : List Line) (n : ℕ) (us : List Line) → n + length us ≤ length xs + 1 → items_from (xs ++ ys) n us ≡ items_from xs n us
+unfolding items_from
+items-same xs ys n [] l = refl
+items-same xs ys n (u ∷ us) l =
+    (λ i. cond (far-same xs ys n (omega (arith, l)) i) (too_far n ∷ []) (before (items_of n u) (items-same xs ys (n + 1) us (omega (arith, l)) i)))
+
+-- ---- the statements of lines
+
+-- what statements come behind an entry, and behind those of items
+abbrev behind : Entry → List StatementTree → List StatementTree
+behind (Err refused) rest = []
+behind (Ok s) rest = rest
+
+abbrev continued : List Item → List StatementTree → List StatementTree
+continued [] more = more
+continued (statement line label op operands ∷ items) more = behind (entry_of (statement line label op operands)) (continued items more)
+continued (faulty line why ∷ items) more = []
+continued (too_far line ∷ items) more = []
+
+statements-split : (a b : List Item) → statements_in (entries_of (before a b)) ≡ statements_in (entries_of a) ++ continued a (statements_in (entries_of b))
+statements-split [] b = refl
+statements-split (statement line label op operands ∷ items) b = by (entry_of (statement line label op operands)) (statements-split items b)
+  where
+    by : (e : Entry) → statements_in (entries_of (before items b)) ≡ statements_in (entries_of items) ++ continued items (statements_in (entries_of b)) →
+        statements_in (e ∷ entries_of (before items b)) ≡ statements_in (e ∷ entries_of items) ++ behind e (continued items (statements_in (entries_of b)))
+    by (Err refused) h = refl
+    by (Ok s) h = ap (λ ss. s ∷ ss) h
+statements-split (faulty line why ∷ items) b = refl
+statements-split (too_far line ∷ items) b = refl
+
+module _ (P : StatementTree → Type 0) where
+  continued-all : (a : List Item) (more : List StatementTree) → AllByRecursion P more → AllByRecursion P (continued a more)
+  continued-all [] more h = h
+  continued-all (statement line label op operands ∷ items) more h = by (entry_of (statement line label op operands)) (continued-all items more h)
+    where
+      by : (e : Entry) → AllByRecursion P (continued items more) → AllByRecursion P (behind e (continued items more))
+      by (Err refused) rest = tt
+      by (Ok s) rest = rest
+  continued-all (faulty line why ∷ items) more h = tt
+  continued-all (too_far line ∷ items) more h = tt
+
+  -- the statements of these that are accepted
+  accepted-holds : (statements : List StatementTree) (k : Known) (earlier : List Sight) → AllByRecursion P statements → AllByRecursion (λ (s : Sight). P s.statement) (accepted earlier (sights_from k statements))
+  unfolding sights_from accepted
+  accepted-holds [] k earlier h = tt
+  accepted-holds (st ∷ statements) k earlier h = by (statement_fault earlier (record { known = k; statement = st })) (accepted-holds statements (known_after k st) (earlier ++ record { known = k; statement = st } ∷ []) h.1)
+    where
+      by : (r : Option Refused) → AllByRecursion (λ (s : Sight). P s.statement) (accepted (earlier ++ record { known = k; statement = st } ∷ []) (sights_from (known_after k st) statements)) →
+          AllByRecursion (λ (s : Sight). P s.statement) (accepted_with r (record { known = k; statement = st }) (accepted (earlier ++ record { known = k; statement = st } ∷ []) (sights_from (known_after k st) statements)))
+      by (Some refused) rest = tt
+      by None rest = (h.0, rest)
+
+  -- the accepted ones of more statements are those of the first, and others behind them
+  record IsLonger (front whole : List Sight) : Type 0 where
+    tail : List Sight
+    more : whole ≡ front ++ tail
+    hold : AllByRecursion (λ (s : Sight). P s.statement) tail
+
+  accepted-longer : (xs ys : List StatementTree) (k : Known) (earlier : List Sight) → AllByRecursion P ys → IsLonger (accepted earlier (sights_from k xs)) (accepted earlier (sights_from k (xs ++ ys)))
+  unfolding sights_from accepted
+  accepted-longer [] ys k earlier h = record { tail = accepted earlier (sights_from k ys); more = refl; hold = accepted-holds ys k earlier h }
+  accepted-longer (st ∷ xs) ys k earlier h = by (statement_fault earlier t) (accepted-longer xs ys (known_after k st) (earlier ++ t ∷ []) h)
+    where
+      t : Sight
+      t = record { known = k; statement = st }
+
+      by : (r : Option Refused) → IsLonger (accepted (earlier ++ t ∷ []) (sights_from (known_after k st) xs)) (accepted (earlier ++ t ∷ []) (sights_from (known_after k st) (xs ++ ys))) →
+          IsLonger (accepted_with r t (accepted (earlier ++ t ∷ []) (sights_from (known_after k st) xs))) (accepted_with r t (accepted (earlier ++ t ∷ []) (sights_from (known_after k st) (xs ++ ys))))
+      by (Some refused) rest = record { tail = []; more = refl; hold = tt }
+      by None rest = record { tail = rest.tail; more = ap (λ ss. t ∷ ss) rest.more; hold = rest.hold }
+
+  lines-longer : (us vs : List Line) → AllByRecursion P (statements_in (entries_of (items_from (us ++ vs) (1 + length us) vs))) → IsLonger (accepted_in (lines_entries us)) (accepted_in (lines_entries (us ++ vs)))
+  lines-longer us vs h =
+      let first : List Item = items_from us 1 us in
+      let later : List Item = items_from (us ++ vs) (1 + length us) vs in
+      let tail : List StatementTree = continued first (statements_in (entries_of later)) in
+      let split : statements_in (lines_entries (us ++ vs)) ≡ statements_in (lines_entries us) ++ tail =
+      ap (λ is. statements_in (entries_of is)) (items-split (us ++ vs) 1 us vs ∙ ap (λ is. before is later) (items-same us vs 1 us (omega arith)))
+      ∙ statements-split first later in
+      let longer = accepted-longer (statements_in (lines_entries us)) tail nothing_known [] (continued-all first (statements_in (entries_of later)) h) in
+      record { tail = longer.tail; more = ap (λ ss. accepted [] (sights_of ss)) split ∙ longer.more; hold = longer.hold }
+
+-- ---- the lines of statements
+
+abbrev IsAt : ℕ → StatementTree → Type 0
+IsAt line s = s.line ≡ line
+
+abbrev EntryAt : ℕ → Entry → Type 0
+EntryAt line (Err refused) = Unit {0}
+EntryAt line (Ok s) = s.line ≡ line
+
+operands-at : (fields : Fields) (line : ℕ) (op : Op) (r : Result (List Tree) ExprFault) → EntryAt line (entry_with line (with_operands fields line op r))
+operands-at fields line op (Err fault) = tt
+operands-at fields line op (Ok operands) = refl
+
+operation-at : (fields : Fields) (line : ℕ) (r : Answer Op) → EntryAt line (entry_with line (with_operation fields line r))
+operation-at fields line (Err fault) = tt
+operation-at fields line (Ok op) = operands-at fields line op (reading fields.operands)
+
+cut-at : (n : ℕ) (line : List ℕ) (r : Result Cut LineFault) → EntryAt n (entry_of (item_of n line r))
+cut-at n line (Ok cut) =
+    let label = option_map label_of (option_map (part line) cut.label) in
+    operation-at (record { label = label; op = part line cut.op; operands = part line cut.operands }) n (operation_for (is_some label) (part line cut.op))
+cut-at n line (Err why) = tt
+
+cuts-at : (n : ℕ) (line : List ℕ) (rs : List (Result Cut LineFault)) → AllByRecursion (IsAt n) (statements_in (entries_of (map (item_of n line) rs)))
+cuts-at n line [] = tt
+cuts-at n line (r ∷ rs) = by (entry_of (item_of n line r)) (cut-at n line r) (cuts-at n line rs)
+  where
+    by : (e : Entry) → EntryAt n e → AllByRecursion (IsAt n) (statements_in (entries_of (map (item_of n line) rs))) → AllByRecursion (IsAt n) (statements_in (e ∷ entries_of (map (item_of n line) rs)))
+    by (Err refused) h rest = tt
+    by (Ok s) h rest = (h, rest)
+
+all-append : (P : StatementTree → Type 0) (xs ys : List StatementTree) → AllByRecursion P xs → AllByRecursion P ys → AllByRecursion P (xs ++ ys)
+all-append P [] ys h g = g
+all-append P (x ∷ xs) ys h g = (h.0, all-append P xs ys h.1 g)
+
+one-line : (all : List Line) (n : ℕ) (line : Line) → AllByRecursion (IsAt n) (statements_in (entries_of (items_from all n (line ∷ []))))
+unfolding items_from
+one-line all n line = by (is_too_far all n)
+  where
+    by : (b : Bool) → AllByRecursion (IsAt n) (statements_in (entries_of (cond b (too_far n ∷ []) (before (items_of n line) []))))
+    by true = tt
+    by false =
+        subst (AllByRecursion (IsAt n)) (sym (statements-split (items_of n line) []))
+        (all-append (IsAt n) (statements_in (entries_of (items_of n line))) (continued (items_of n line) []) (cuts-at n line (cuts_from line 0)) (continued-all (IsAt n) (items_of n line) [] tt))
+
+-- ---- pages
+
+room-before : (xs ys : List Sight) → has_room (outlined (xs ++ ys)) ≡ true → has_room (outlined xs) ≡ true
+room-before xs ys h = by (has_room (outlined xs)) refl
+  where
+    by : (b : Bool) → has_room (outlined xs) ≡ b → b ≡ true
+    by true e = refl
+    by false e = let none : false ≡ true = sym (no-room (2 ^ 51) xs ys e) ∙ h in absurd (cc)
+
+refusal-behind : (front earlier later : List Sight) → has_room (outlined (earlier ++ front)) ≡ true → page_refusal_from earlier (front ++ later) ≡ page_refusal_from (earlier ++ front) later
+unfolding page_refusal_from
+refusal-behind [] earlier later room = ap (λ ss. page_refusal_from ss later) (sym (append-nil earlier))
+refusal-behind (s ∷ front) earlier later room =
+    let whole : has_room (outlined ((earlier ++ s ∷ []) ++ front)) ≡ true = ap (λ ss. has_room (outlined ss)) (append_assoc earlier (s ∷ []) front) ∙ room in
+    ap (λ b. cond b (page_refusal_from (earlier ++ s ∷ []) (front ++ later)) (Some s.statement.line)) (room-before (earlier ++ s ∷ []) front whole)
+    ∙ refusal-behind front (earlier ++ s ∷ []) later whole
+    ∙ ap (λ ss. page_refusal_from ss later) (append_assoc earlier (s ∷ []) front)
+
+refusal-at : (n : ℕ) (front earlier later : List Sight) → AllByRecursion (λ (s : Sight). s.statement.line ≡ n) front → has_room (outlined earlier) ≡ true → has_room (outlined (earlier ++ front)) ≡ false →
+    page_refusal_from earlier (front ++ later) ≡ Some n
+unfolding page_refusal_from
+refusal-at n [] earlier later at room none = let wrong : true ≡ false = sym room ∙ ap (λ ss. has_room (outlined ss)) (sym (append-nil earlier)) ∙ none in absurd (cc)
+refusal-at n (s ∷ front) earlier later at room none =
+    by (has_room (outlined (earlier ++ s ∷ []))) refl (λ more. refusal-at n front (earlier ++ s ∷ []) later at.1 more (ap (λ ss. has_room (outlined ss)) (append_assoc earlier (s ∷ []) front) ∙ none))
+  where
+    by : (b : Bool) → has_room (outlined (earlier ++ s ∷ [])) ≡ b → (has_room (outlined (earlier ++ s ∷ [])) ≡ true → page_refusal_from (earlier ++ s ∷ []) (front ++ later) ≡ Some n) →
+        cond b (page_refusal_from (earlier ++ s ∷ []) (front ++ later)) (Some s.statement.line) ≡ Some n
+    by true e rest = rest e
+    by false e rest = ap Some at.0
+
+room-by : (b : Bool) → ◌≡◌ {A = Option Meaningless} (cond b None (Some PagesFull)) None → b ≡ true
+room-by true h = refl
+room-by false h = absurd (cc)
+
+full-by : (b : Bool) → ◌≡◌ {A = Option Meaningless} (cond b None (Some PagesFull)) (Some PagesFull) → b ≡ false
+full-by true h = absurd (cc)
+full-by false h = refl
+
+Any : StatementTree → Type 0
+Any s = Unit {0}
+
+any-all : (ss : List StatementTree) → AllByRecursion Any ss
+unfolding Any
+any-all [] = tt
+any-all (s ∷ ss) = (tt, any-all ss)
+
+-- where the pages of these lines are few, and those of a line more are not, this is the line
+pub line-is-refused : (lines later : List Line) (line : Line) → page_fault (accepted_in (lines_entries lines)) ≡ None → page_fault (accepted_in (lines_entries (lines ++ line ∷ []))) ≡ Some PagesFull →
+    page_refusal (accepted_in (lines_entries (lines ++ line ∷ later))) ≡ Some (length lines + 1)
+line-is-refused lines later line some full =
+    let n : ℕ = 1 + length lines in
+    let front : List Sight = accepted_in (lines_entries lines) in
+    let one = lines-longer (IsAt n) lines (line ∷ []) (one-line (lines ++ line ∷ []) n line) in
+    let more = lines-longer Any (lines ++ line ∷ []) later (any-all _) in
+    let room = room-by (has_room (outlined front)) some in
+    let none = sym (ap (λ ss. has_room (outlined ss)) one.more) ∙ full-by (has_room (outlined (accepted_in (lines_entries (lines ++ line ∷ []))))) full in
+    let whole : accepted_in (lines_entries (lines ++ line ∷ later)) ≡ front ++ (one.tail ++ more.tail) =
+    ap (λ ls. accepted_in (lines_entries ls)) (sym (append_assoc lines (line ∷ []) later)) ∙ more.more ∙ ap (λ ss. ss ++ more.tail) one.more ∙ append_assoc front one.tail more.tail in
+    ap page_refusal whole
+    ∙ refusal-behind front [] (one.tail ++ more.tail) room
+    ∙ refusal-at n one.tail front more.tail one.hold room none
+    ∙ ap Some (let turned : n ≡ length lines + 1 = omega arith in turned)

@@ -1,0 +1,103 @@
+-- What holds of the statements of lines and sources that are bytes.
+use Rattle.std.proofs.Common.{◌≡◌, ◌<◌, ℕ, ◌^◌, List, [], ◌∷◌, ◌++◌, Bool, true, false, not, cond, refl, sym, ◌∙◌, ap, is_some, Option, Some, None, Ok, Err}
+use Rattle.std.specs.Prelude.{◌==◌, nat_le}
+use Rattle.std.specs.Result.{result_err}
+use Rattle.std.specs.List.{AllByRecursion, slice_split, onto_first}
+use Rattle.mx_word.specs.Ranges.{AreBytes}
+use Rattle.mx_line.specs.Lines.{lines_of, without_empty_last}
+use Rattle.mx_line.specs.Pieces.{split}
+use Rattle.mx_mmo.specs.Meaning.{Meaningless, PagesFull, nothing, take_items, meaning}
+use Rattle.mx_stmt.specs.Encoding.{StatementTree}
+use Rattle.mx_asm.specs.declared.refused.Refused.{Refused}
+use Rattle.mx_asm.specs.Entries.{Entry, statements_in, refusal_in, source_entries}
+use Rattle.mx_asm.specs.TwoPass.{Sight, final_known, sights_of, pieces}
+use Rattle.mx_asm.specs.Image.{placements, pages_of, page_count, image}
+use Rattle.mx_asm.specs.Emission.{emission}
+use Rattle.mx_asm.specs.Refusal.{first_of, first_fault, first_undefined, entries_refusal, end_refusal, last_line, refusal}
+use Rattle.mx_asm.specs.Statements.{IsStatement}
+use Rattle.mx_asm.specs.Whole.{Line, accepted, lines_entries, lines_items, assembled_source}
+use Rattle.mx_asm.specs.Pages.{AreAccepted, outlined, has_room, loaded_image, page_fault, page_refusal, RunRefusal, run_refusal_with, accepted_in, run_refusal}
+use Rattle.mx_asm.proofs.EndWaits.{both-none}
+use Rattle.mx_asm.proofs.InTurn.{source-accepted}
+use Rattle.mx_asm.proofs.MeaningPages.{same-pages}
+use Rattle.mx_asm.proofs.MeaningSteady.{steady-all, accepted-all}
+use Rattle.mx_asm.proofs.MeaningRead.{lines-read}
+use Rattle.mx_asm.proofs.MeaningLaws.{image-meant, lines-fault, outlined-pages, page-refusal-is}
+
+pub bytes-fault : (lines : List Line) → AllByRecursion AreBytes lines → result_err (take_items (lines_items lines) (Ok nothing)) ≡ page_fault (accepted_in (lines_entries lines))
+bytes-fault lines bytes = lines-fault lines (lines-read lines bytes)
+
+-- ---- sources
+
+first-bytes : (b : ℕ) (parts : List (List ℕ)) → b < 2 ^ 8 → AllByRecursion AreBytes parts → AllByRecursion AreBytes (onto_first b parts)
+first-bytes b [] l h = ((l, tt), tt)
+first-bytes b (part ∷ parts) l h = ((l, h.0), h.1)
+
+parts-bytes : (f : ℕ → Bool) (source : List ℕ) → AreBytes source → AllByRecursion AreBytes (slice_split f source)
+parts-bytes f [] h = (tt, tt)
+parts-bytes f (b ∷ source) h = by (f b) (parts-bytes f source h.1)
+  where
+    by : (c : Bool) → AllByRecursion AreBytes (slice_split f source) → AllByRecursion AreBytes (cond c ([] ∷ slice_split f source) (onto_first b (slice_split f source)))
+    by true rest = (tt, rest)
+    by false rest = first-bytes b (slice_split f source) h.0 rest
+
+split-bytes : (source : List ℕ) → AreBytes source → AllByRecursion AreBytes (split 10 source)
+unfolding split
+split-bytes source h = parts-bytes (λ b. b == 10) source h
+
+last-bytes : (lines : List (List ℕ)) → AllByRecursion AreBytes lines → AllByRecursion AreBytes (without_empty_last lines)
+last-bytes [] h = tt
+last-bytes ([] ∷ []) h = tt
+last-bytes ((b ∷ bs) ∷ []) h = h
+last-bytes (line ∷ next ∷ lines) h = (h.0, last-bytes (next ∷ lines) h.1)
+
+source-bytes : (source : List ℕ) → AreBytes source → AllByRecursion AreBytes (lines_of source)
+unfolding lines_of
+source-bytes source h = last-bytes (split 10 source) (split-bytes source h)
+
+abbrev pub statements_of_source : List ℕ → List StatementTree
+statements_of_source source = statements_in (source_entries source)
+
+source-read : (source : List ℕ) → AreBytes source → AllByRecursion IsStatement (statements_of_source source)
+source-read source h = lines-read (lines_of source) (source-bytes source h)
+
+pub source-are-accepted : (source : List ℕ) → AreBytes source → refusal source ≡ None → AreAccepted (statements_of_source source)
+source-are-accepted source h none =
+    let statements = statements_of_source source in
+    let parts = both-none (entries_refusal (source_entries source)) (end_refusal (last_line (lines_of source)) statements) none in
+    record {
+      read = source-read source h;
+      faultless = (both-none (first_fault [] (sights_of statements)) (refusal_in (source_entries source)) parts.0).0;
+      defined = (both-none (first_undefined (final_known statements).names (sights_of statements)) _ parts.1).0;
+    }
+
+pub source-means : (source : List ℕ) → AreBytes source → refusal source ≡ None → meaning (assembled_source source).0 ≡ loaded_image (statements_of_source source)
+source-means source h none = ap (λ p. meaning p.0) (source-accepted source none) ∙ image-meant (statements_of_source source) (source-are-accepted source h none)
+
+-- ---- sources that are run
+
+room-is : (statements : List StatementTree) → AreAccepted statements → has_room (pieces statements) ≡ has_room (outlined (sights_of statements))
+room-is statements h =
+    ap (λ (pages : ℕ → Bool). nat_le (page_count pages) 65536)
+    (same-pages _ _ (λ page. outlined-pages (final_known statements).names (sights_of statements) [] page h.faultless (steady-all statements h.read h.faultless)))
+
+both-runs : (pages : Option ℕ) (refused : Option Refused) → run_refusal_with pages refused ≡ None → (pages ≡ None) × (refused ≡ None)
+both-runs (Some line) refused h = absurd (cc)
+both-runs None (Some r) h = absurd (cc)
+both-runs None None h = (refl, refl)
+
+-- what is not refused for its pages has room
+room-of : (ss : List Sight) → page_refusal ss ≡ None → has_room (outlined ss) ≡ true
+room-of ss none = by (has_room (outlined ss)) (sym (page-refusal-is ss) ∙ ap is_some none)
+  where
+    by : (b : Bool) → not b ≡ false → b ≡ true
+    by true h = refl
+    by false h = absurd (cc)
+
+pub run-means : (source : List ℕ) → AreBytes source → run_refusal source ≡ None → meaning (assembled_source source).0 ≡ Ok (image (statements_of_source source))
+run-means source h none =
+    let statements = statements_of_source source in
+    let parts = both-runs (page_refusal (accepted_in (source_entries source))) (refusal source) none in
+    let are = source-are-accepted source h parts.1 in
+    let room : has_room (pieces statements) ≡ true = room-is statements are ∙ room-of (sights_of statements) (ap page_refusal (sym (accepted-all (sights_of statements) [] are.faultless)) ∙ parts.0) in
+    source-means source h parts.1 ∙ ap (λ b. cond b (Ok (image statements)) (Err PagesFull)) room
