@@ -93,12 +93,11 @@ pub fn free_step<H: Host>(
     ensures keeps { Keeps (H.told host.old) (H.told host.new) (H.faults host.old) (H.faults host.new) }
 {
     know_window(machine);
-    let pc = machine.pc();
     match machine.advance() {
         Advance::Went => Ok(()),
         Advance::Trap => run_step(alloc, machine, flags, host, true),
         Advance::Stopped(reason) => Err(End::Stopped {
-            pc,
+            pc: machine.pc(),
             reason: reason.number(),
         }),
         Advance::OutOfMemory => Err(End::OutOfMemory),
