@@ -13,6 +13,8 @@ use Rattle.mx_run.specs.declared.end.BreakKind.TheVariants.{Read, Write, Execute
 use Rattle.mx_run.specs.declared.end.End.{End}
 use Rattle.mx_run.specs.declared.end.End.TheVariants as end
 use Rattle.mx_run.specs.declared.flags.Flags.{Flags}
+use Rattle.mx_run.specs.declared.steps.Going.{Going}
+use Rattle.mx_run.specs.declared.steps.Going.TheVariants as going
 use Rattle.mx_run.specs.declared.turn_answer.TurnAnswer.{TurnAnswer}
 use Rattle.mx_run.specs.declared.turn_answer.TurnAnswer.TheVariants as answer
 
@@ -45,6 +47,11 @@ unfoldable pub run_step : FlagsOf → Bool → State → HostModel → Answered 
 run_step f pass s m =
     if breaks_before f pass s then (Err (end.Broke Execute s.pc None), s, m)
     else turn_ended f s.pc (turn_answer (turn s m))
+
+-- the answer of a step, by whether the run goes on after it
+abbrev pub answer_by : Going → End → Result (Unit {0}) End
+answer_by going.On end = Ok tt
+answer_by going.Over end = Err end
 
 -- what follows a step of a run
 abbrev pub run_after : (State → HostModel → Ended) → Answered (Result (Unit {0}) End) → Ended

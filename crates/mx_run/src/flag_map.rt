@@ -1,6 +1,6 @@
 //! The flags of tetras as one map. A tetra without a flag is not held.
 
-ghost use Rattle.std.specs.Prelude.{◌≡◌, ◌<◌, ◌/◌, ◌^◌, ◌==◌, IsTrue, true, ℕ, [], None, Some, OnOk, OnErr, if◌then◌else◌};
+ghost use Rattle.std.specs.Prelude.{◌≡◌, ◌<◌, ◌/◌, ◌^◌, ◌==◌, IsTrue, true, false, IsOk, ℕ, [], None, Some, OnOk, OnErr, if◌then◌else◌};
 ghost use Rattle.std.specs.Ordering.{nat_cmp};
 ghost use Rattle.std.specs.BTreeMap.{get};
 ghost use Rattle.mx_run.specs.FlagMaps as spec;
@@ -43,7 +43,8 @@ impl FlagMap {
     /// Whether no tetra has a flag.
     #[tactic(auto, using(crate::proofs::HeldFlags::counting))]
     pub fn is_empty(&self) -> bool
-        ensures { IsTrue result → self.now ≡ [] }
+        ensures only { IsTrue result → self.now ≡ [] }
+        ensures always { self.now ≡ [] → IsTrue result }
     {
         self.flags.is_empty()
     }
@@ -80,6 +81,7 @@ impl FlagMap {
     pub fn set_flags(&mut self, a: u64, f: Flags) -> Result<(), NoMemory>
         ensures ok { OnOk result (spec.flags_at self.new ≡ spec.with_flags (spec.flags_at self.old) (a / 4) f) }
         ensures err { OnErr result (self.new ≡ self.old) }
+        ensures none { spec.has_flag f ≡ false → IsOk result }
     {
         if has_flag(f) {
             hold(&mut self.flags, a / 4, f)

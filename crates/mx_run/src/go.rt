@@ -8,7 +8,7 @@ ghost use Rattle.mx_run.specs.FlagMaps.{flags_at};
 ghost use Rattle.mx_run.specs.Runs as spec;
 ghost use Rattle.mx_run.specs.WildRuns.{run_by, list_machine};
 
-use crate::steps::{free_step, run_step};
+use crate::steps::{Going, free_step, run_step};
 use crate::{End, FlagMap};
 use mx_core::Machine;
 use mx_host::Host;
@@ -59,10 +59,11 @@ pub fn go_freely<H: Host>(
         (λ s m. run_by list_machine n (flags_at flags.now) true s m) }
     ensures keeps { Keeps (H.told host.old) (H.told host.new) (H.faults host.old) (H.faults host.new) }
 {
+    let mut end = End::Spent;
     for turn in 0..n {
-        match free_step(alloc, machine, flags, host) {
-            Ok(()) => {}
-            Err(end) => return end,
+        match free_step(alloc, machine, flags, host, &mut end) {
+            Going::On => {}
+            Going::Over => return end,
         }
     }
     End::Spent

@@ -1,6 +1,6 @@
 //! A machine that runs over a host, with the flags of tetras.
 
-ghost use Rattle.std.specs.Prelude.{◌≡◌, ◌/◌, OnOk, OnErr};
+ghost use Rattle.std.specs.Prelude.{◌≡◌, ◌/◌, false, IsOk, OnOk, OnErr};
 ghost use Rattle.std.specs.Borrow.{sem};
 ghost use Rattle.mx_host.specs.Keeping.{Keeps};
 ghost use Rattle.mx_core.specs.Kept.{state_of};
@@ -78,6 +78,7 @@ impl Runner {
     pub fn set_flags(&mut self, a: u64, f: Flags) -> Result<(), NoMemory>
         ensures ok { OnOk result (flags_at self.new.flags ≡ maps.with_flags (flags_at self.old.flags) (a / 4) f) }
         ensures err { OnErr result (self.new.flags ≡ self.old.flags) }
+        ensures none { maps.has_flag f ≡ false → IsOk result }
         ensures machine { self.new.machine ≡ self.old.machine }
     {
         self.flags.set_flags(a, f)

@@ -75,7 +75,14 @@ fn turn_and_end<H: Host>(
     end_of_turn(flags, pc, answer)
 }
 
-/// A step of a run without flags, or the end of the run. No trace is made but for a file trap.
+/// Whether a run goes on after a step.
+pub enum Going {
+    On,
+    Over,
+}
+
+/// A step of a run without flags. No trace is made but for a file trap. Where the run is over, `end`
+/// becomes its end; so a step that goes on writes none.
 #[inline(always)]
 #[tactic(auto, using(crate::proofs::RunSteps::freely))]
 pub fn free_step<H: Host>(
@@ -83,24 +90,54 @@ pub fn free_step<H: Host>(
     machine: &mut Machine,
     flags: &FlagMap,
     host: &mut H,
-) -> Result<(), End>
+    end: &mut End,
+) -> Going
     requires { flags.now ≡ [] }
     ensures told { LeavesMachine (H.told host.old) (H.told host.new) (state_of machine.old) (state_of machine.new)
-        (Err End.OutOfMemory) result (λ s m. spec.run_step (flags_at flags.now) true s m) }
+        (Err End.OutOfMemory) (spec.answer_by result end.new) (λ s m. spec.run_step (flags_at flags.now) true s m) }
     ensures front { LeavesFront (H.told host.old) (H.told host.new) (state_of machine.old)
-        (Err End.OutOfMemory) result (λ s m. spec.run_step (flags_at flags.now) true s m) }
+        (Err End.OutOfMemory) (spec.answer_by result end.new) (λ s m. spec.run_step (flags_at flags.now) true s m) }
     ensures over { HasWindow (state_of machine.old) }
     ensures keeps { Keeps (H.told host.old) (H.told host.new) (H.faults host.old) (H.faults host.new) }
 {
     know_window(machine);
-    let pc = machine.pc();
     match machine.advance() {
-        Advance::Went => Ok(()),
-        Advance::Trap => run_step(alloc, machine, flags, host, true),
-        Advance::Stopped(reason) => Err(End::Stopped {
-            pc,
-            reason: reason.number(),
-        }),
-        Advance::OutOfMemory => Err(End::OutOfMemory),
+        Advance::Went => Going::On,
+        Advance::Trap => trap_step(alloc, machine, flags, host, end),
+        Advance::Stopped(reason) => {
+            *end = End::Stopped {
+                pc: machine.pc(),
+                reason: reason.number(),
+            };
+            Going::Over
+        }
+        Advance::OutOfMemory => {
+            *end = End::OutOfMemory;
+            Going::Over
+        }
+    }
+}
+
+/// The same at a file trap.
+#[inline(never)]
+fn trap_step<H: Host>(
+    alloc: Global,
+    machine: &mut Machine,
+    flags: &FlagMap,
+    host: &mut H,
+    end: &mut End,
+) -> Going
+    ensures told { LeavesMachine (H.told host.old) (H.told host.new) (state_of machine.old) (state_of machine.new)
+        (Err End.OutOfMemory) (spec.answer_by result end.new) (λ s m. spec.run_step (flags_at flags.now) true s m) }
+    ensures front { LeavesFront (H.told host.old) (H.told host.new) (state_of machine.old)
+        (Err End.OutOfMemory) (spec.answer_by result end.new) (λ s m. spec.run_step (flags_at flags.now) true s m) }
+    ensures keeps { Keeps (H.told host.old) (H.told host.new) (H.faults host.old) (H.faults host.new) }
+{
+    match run_step(alloc, machine, flags, host, true) {
+        Ok(()) => Going::On,
+        Err(last) => {
+            *end = last;
+            Going::Over
+        }
     }
 }
