@@ -1,22 +1,21 @@
 -- What holds of the statements of lines and sources that are bytes.
-use Rattle.std.proofs.Common.{◌≡◌, ◌<◌, ℕ, ◌^◌, List, [], ◌∷◌, ◌++◌, Bool, true, false, not, cond, refl, sym, ◌∙◌, ap, is_some, Option, Some, None, Ok, Err}
+use Rattle.std.proofs.Common.{◌≡◌, ◌<◌, ℕ, ◌^◌, List, [], ◌∷◌, Bool, true, false, not, cond, refl, sym, ◌∙◌, ap, is_some, Option, Some, None, Ok, Err}
 use Rattle.std.specs.Prelude.{◌==◌, nat_le}
 use Rattle.std.specs.Result.{result_err}
 use Rattle.std.specs.List.{AllByRecursion, slice_split, onto_first}
 use Rattle.mx_word.specs.Ranges.{AreBytes}
 use Rattle.mx_line.specs.Lines.{lines_of, without_empty_last}
 use Rattle.mx_line.specs.Pieces.{split}
-use Rattle.mx_mmo.specs.Meaning.{Meaningless, PagesFull, nothing, take_items, meaning}
+use Rattle.mx_mmo.specs.Meaning.{PagesFull, nothing, take_items, meaning}
 use Rattle.mx_stmt.specs.Encoding.{StatementTree}
 use Rattle.mx_asm.specs.declared.refused.Refused.{Refused}
-use Rattle.mx_asm.specs.Entries.{Entry, statements_in, refusal_in, source_entries}
+use Rattle.mx_asm.specs.Entries.{statements_in, refusal_in, source_entries}
 use Rattle.mx_asm.specs.TwoPass.{Sight, final_known, sights_of, pieces}
-use Rattle.mx_asm.specs.Image.{placements, pages_of, page_count, image}
-use Rattle.mx_asm.specs.Emission.{emission}
-use Rattle.mx_asm.specs.Refusal.{first_of, first_fault, first_undefined, entries_refusal, end_refusal, last_line, refusal}
+use Rattle.mx_asm.specs.Image.{page_count, image}
+use Rattle.mx_asm.specs.Refusal.{first_fault, first_undefined, entries_refusal, end_refusal, last_line, refusal}
 use Rattle.mx_asm.specs.Statements.{IsStatement}
-use Rattle.mx_asm.specs.Whole.{Line, accepted, lines_entries, lines_items, assembled_source}
-use Rattle.mx_asm.specs.Pages.{AreAccepted, outlined, has_room, loaded_image, page_fault, page_refusal, RunRefusal, run_refusal_with, accepted_in, run_refusal}
+use Rattle.mx_asm.specs.Whole.{Line, lines_entries, lines_items, assembled_source}
+use Rattle.mx_asm.specs.Pages.{AreAccepted, outlined, has_room, loaded_image, page_fault, page_refusal, run_refusal_with, accepted_in, run_refusal}
 use Rattle.mx_asm.proofs.EndWaits.{both-none}
 use Rattle.mx_asm.proofs.InTurn.{source-accepted}
 use Rattle.mx_asm.proofs.MeaningPages.{same-pages}
