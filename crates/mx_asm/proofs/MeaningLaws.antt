@@ -66,7 +66,7 @@ module _ (n : ℕ) (big : 2 ^ 51 ≤ n) (later : List Sight) (none : first_fault
       on true = refl
       on false = refl
 
-sights-fault : (later : List Sight) → first_fault [] later ≡ None → AllByRecursion IsSteady later → result_err (take_items (opening ++ items_from first_head [] later) (Ok nothing)) ≡ page_fault later
+pub sights-fault : (later : List Sight) → first_fault [] later ≡ None → AllByRecursion IsSteady later → result_err (take_items (opening ++ items_from first_head [] later) (Ok nothing)) ≡ page_fault later
 sights-fault later none steady = front-fault (2 ^ 51) (lit≤ tt) later none steady
 
 no-room-needed : page_fault [] ≡ None
