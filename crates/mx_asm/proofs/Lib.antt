@@ -34,3 +34,6 @@ pub mod MeaningLaws
 pub mod MeaningRead
 pub mod MeaningSources
 pub mod MeaningLines
+pub mod Fitting
+pub mod Validity
+pub mod FrontLaw

@@ -11,3 +11,4 @@ pub mod Whole
 pub mod Effects
 pub mod Statements
 pub mod Pages
+pub mod Fitting
