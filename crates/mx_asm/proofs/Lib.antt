@@ -23,9 +23,6 @@ pub mod EndWaits
 pub mod EndLaw
 pub mod InTurn
 pub mod Sparing
-pub mod Fitting
-pub mod Validity
-pub mod FrontLaw
 pub mod MeaningStatements
 pub mod MeaningFronts
 pub mod MeaningPlaces
@@ -37,3 +34,6 @@ pub mod MeaningLaws
 pub mod MeaningRead
 pub mod MeaningSources
 pub mod MeaningLines
+pub mod Fitting
+pub mod Validity
+pub mod FrontLaw

@@ -1,10 +1,9 @@
 -- The items of bytes that a statement places lead to the state with these bytes.
-use Rattle.std.proofs.Common.{◌≡◌, ℕ, zero, suc, ◌+◌, ◌-◌, ◌*◌, ◌/◌, ◌%◌, ◌^◌, ◌<◌, ◌≤◌, List, [], ◌∷◌, ◌++◌, length, map, Bool, true, false, cond, arith, refl, sym, ◌∙◌, ap, bit_xor, Ok, ⊎_elim, ◌⊎◌, inl, inr}
+use Rattle.std.proofs.Common.{◌≡◌, ℕ, ◌+◌, ◌-◌, ◌/◌, ◌^◌, ◌<◌, ◌≤◌, List, [], ◌∷◌, ◌++◌, length, map, Bool, true, false, cond, arith, refl, sym, ◌∙◌, ap, bit_xor}
 use Rattle.std.specs.Prelude.{◌==◌, ◌||◌, ◌&&◌, nat_le, nat_lt}
-use Rattle.std.proofs.lemmas.Bool.{ltb-true, ltb-false}
+use Rattle.std.proofs.lemmas.Bool.{ltb-false}
 use Rattle.std.proofs.lemmas.Bool.Decides.{nat_tests}
 use Rattle.mx_word.specs.Ranges.{AreBytes}
-use Rattle.mx_mmo.specs.Meaning.{take_items}
 use Rattle.mx_mmo.specs.declared.items.Item.TheVariants.{Load}
 use Rattle.mx_stmt.specs.Placements.{from_place, placed}
 use Rattle.mx_stmt.proofs.JoinedBytes.{placed-append}
@@ -14,7 +13,7 @@ use Rattle.mx_asm.specs.declared.head.Head.{Head}
 use Rattle.mx_asm.specs.Emission.{lowered, raised, covered, covering, tetra_count, located, told_line, lined, line_behind, byte_items}
 use Rattle.mx_asm.proofs.MeaningMemory.{HaveBytes}
 use Rattle.mx_asm.proofs.MeaningPages.{append-pages, pages-run, tetras-run, many-pages}
-use Rattle.mx_asm.proofs.MeaningStates.{State, count_of, limited, Takes, take-append, takes-both, takes-none, same-numbers, line_after, lines_with, behind_tetras, takes-tetras}
+use Rattle.mx_asm.proofs.MeaningStates.{State, Takes, takes-both, takes-none, same-numbers, line_after, lines_with, behind_tetras, takes-tetras}
 use Rattle.mx_asm.proofs.MeaningPieces.{covered-placed, covered-length, covered-fours, covered-bytes, covered-pages, covering-length, same-limited, takes-same, at_lambda, loads-same, takes-located, located-at, takes-lined, no-lines, lines-are, line-after}
 
 abbrev pub piece_at : ℕ → ℕ → List ℕ → Piece

@@ -1,22 +1,20 @@
 -- A fix record joins what its reference adds to the bytes at its place.
-use Rattle.std.proofs.Common.{◌≡◌, ℕ, zero, suc, ◌+◌, ◌-◌, ◌*◌, ◌/◌, ◌%◌, ◌^◌, ◌<◌, ◌≤◌, List, [], ◌∷◌, ◌++◌, length, Bool, true, false, not, cond, arith, refl, sym, ◌∙◌, ap, Option, Some, None, Result, Ok, Err, ◌⊎◌, inl, inr, append_assoc}
+use Rattle.std.proofs.Common.{◌≡◌, ℕ, ◌+◌, ◌-◌, ◌*◌, ◌/◌, ◌%◌, ◌^◌, ◌<◌, ◌≤◌, List, [], ◌∷◌, ◌++◌, Bool, true, false, not, cond, arith, refl, sym, ◌∙◌, ap, Some, Result, Ok, Err, ◌⊎◌, inl, inr, append_assoc}
 use Rattle.std.specs.Prelude.{◌==◌, ◌&&◌, nat_le, nat_lt}
 use Rattle.std.specs.Result.{result_unwrap_or}
 use Rattle.std.specs.Int.{byte_at}
 use Rattle.std.proofs.lemmas.Bool.{eqb-true, leb-true, leb-false, ltb-true}
 use Rattle.std.proofs.lemmas.Bool.Decides.{nat_tests}
-use Rattle.mx_word.specs.Words.{octa_to_bytes, tetra_to_bytes, tetra_from_bytes}
+use Rattle.mx_word.specs.Words.{octa_to_bytes, tetra_to_bytes}
 use Rattle.mx_word.specs.Ranges.{AreBytes}
 use Rattle.mx_word.proofs.Tetras.{tetra-back}
-use Rattle.mx_word.specs.declared.symbols.Value.{Value}
-use Rattle.mx_word.specs.declared.symbols.Value.TheVariants.{Pure, Reg}
+use Rattle.mx_word.specs.declared.symbols.Value.TheVariants.{Pure}
 use Rattle.mx_word.specs.declared.waits.Wait.{Wait}
 use Rattle.mx_word.specs.declared.waits.WaitKind.{WaitKind}
 use Rattle.mx_word.specs.declared.waits.WaitKind.TheVariants.{Octa, Near, Far}
-use Rattle.mx_mmo.specs.Image.{Image}
-use Rattle.mx_mmo.specs.Meaning.{Loading, Meaningless, PagesFull, BadPlace, is_below, join, then_join, join_octa, tetras_before, tetras_behind, far_place, with_image, with_name, take_item, take_items}
+use Rattle.mx_mmo.specs.Meaning.{PagesFull, BadPlace, is_below, join, then_join, join_octa, tetras_before, tetras_behind, far_place, with_image, take_item, take_items}
 use Rattle.mx_mmo.specs.declared.items.Item.{Item}
-use Rattle.mx_mmo.specs.declared.items.Item.TheVariants.{FixOcta, FixNear, FixFar}
+use Rattle.mx_mmo.specs.declared.items.Item.TheVariants.{FixNear, FixFar}
 use Rattle.mx_stmt.specs.declared.faults.StmtFault.TheVariants.{NotMultiple, TooFar}
 use Rattle.mx_stmt.specs.Forms.{relative_word, forward_word, backward_word, future_word, near_reach, far_reach}
 use Rattle.mx_stmt.specs.Fixes.{fix_bytes}

@@ -1,17 +1,14 @@
 -- The items of statements without a fault lead from the state before them to the state behind them.
-use Rattle.std.proofs.Common.{◌≡◌, ℕ, zero, suc, ◌+◌, ◌^◌, ◌<◌, ◌≤◌, List, [], ◌∷◌, ◌++◌, Bool, true, false, cond, arith, refl, sym, ◌∙◌, ap, codes, Option, Some, None, Result, Ok, Err}
+use Rattle.std.proofs.Common.{◌≡◌, ℕ, zero, suc, ◌+◌, ◌^◌, ◌<◌, ◌≤◌, List, [], ◌∷◌, ◌++◌, true, false, cond, arith, refl, sym, ◌∙◌, ap, Option, Some, None, Result, Ok, Err}
 use Rattle.std.specs.Prelude.{nat_le}
 use Rattle.std.specs.Result.{result_unwrap_or}
 use Rattle.std.specs.List.{AllByRecursion}
-use Rattle.std.proofs.lemmas.Bool.Decides.{nat_tests}
-use Rattle.mx_word.specs.declared.symbols.Value.{Value}
 use Rattle.mx_word.specs.declared.waits.Wait.{Wait}
-use Rattle.mx_mmo.specs.Meaning.{Loading, Meaningless, PagesFull, nothing, with_name, take_items}
+use Rattle.mx_mmo.specs.Meaning.{PagesFull, nothing, with_name, take_items}
 use Rattle.mx_mmo.specs.declared.items.Item.{Item}
 use Rattle.mx_stmt.specs.declared.placed.Placed.{Placed}
 use Rattle.mx_stmt.specs.Steps.{Answer}
 use Rattle.mx_stmt.specs.Operands.{no_targets}
-use Rattle.mx_stmt.specs.Encoding.{StatementTree, encoding}
 use Rattle.mx_stmt.specs.Fixes.{IsOperation, IsSound}
 use Rattle.mx_stmt.specs.Laid.{IsLaid}
 use Rattle.mx_stmt.specs.Placements.{placed}
@@ -21,14 +18,13 @@ use Rattle.mx_asm.specs.declared.refused.Refused.{Refused}
 use Rattle.mx_asm.specs.declared.head.Head.{Head}
 use Rattle.mx_asm.specs.TwoPass.{Sight, outline}
 use Rattle.mx_asm.specs.Fixes.{fixes, awaited_value, waiting_at}
-use Rattle.mx_asm.specs.Image.{pages_of, pages_below}
-use Rattle.mx_asm.specs.Emission.{onto, moved, fix_items, byte_items, head_at_fixes, with_bytes, statement_items, statement_head, opening, first_head, sight_items, sight_head, items_from}
-use Rattle.mx_asm.specs.Refusal.{refusal_of, label_fault, fault_behind, fault_with, statement_fault, first_of, first_fault}
+use Rattle.mx_asm.specs.Image.{pages_below}
+use Rattle.mx_asm.specs.Emission.{onto, moved, byte_items, head_at_fixes, with_bytes, statement_items, opening, sight_items, sight_head, items_from}
+use Rattle.mx_asm.specs.Refusal.{refusal_of, label_fault, fault_behind, fault_with, statement_fault, first_fault}
 use Rattle.mx_asm.proofs.EndWaits.{both-none}
 use Rattle.mx_asm.proofs.MeaningMemory.{HaveBytes}
-use Rattle.mx_asm.proofs.MeaningPages.{unless_full}
-use Rattle.mx_asm.proofs.MeaningStates.{State, stands, count_of, limited, Takes, takes-both, takes-none}
-use Rattle.mx_asm.proofs.MeaningBytes.{head_of, behind_bytes}
+use Rattle.mx_asm.proofs.MeaningStates.{State, stands, limited, Takes, takes-both, takes-none}
+use Rattle.mx_asm.proofs.MeaningBytes.{head_of}
 use Rattle.mx_asm.proofs.MeaningStatements.{IsWord, waiting-low, behind_fixes, behind_placed, fixed-have, bytes-have, placed-head, takes-placed}
 
 -- what holds of a statement and of what is known at it

@@ -1,26 +1,26 @@
 -- The items of statements mean their image, and the items of lines are loaded unless there are too many pages.
-use Rattle.std.proofs.Common.{◌≡◌, ℕ, ◌^◌, ◌≤◌, List, [], ◌∷◌, ◌++◌, Bool, true, false, not, cond, arith, lit≤, refl, sym, ◌∙◌, ap, is_some, Option, Some, None, Result, Ok, Err, append_assoc, append-nil}
+use Rattle.std.proofs.Common.{◌≡◌, ℕ, ◌^◌, ◌≤◌, List, [], ◌∷◌, ◌++◌, Bool, true, false, not, cond, arith, lit≤, refl, sym, ◌∙◌, ap, is_some, Some, None, Ok, Err, append_assoc, append-nil}
 use Rattle.std.specs.Prelude.{nat_le, ◌||◌}
 use Rattle.std.specs.Result.{result_err}
 use Rattle.std.specs.List.{AllByRecursion}
 use Rattle.std.proofs.lemmas.Bool.Decides.{nat_tests}
-use Rattle.mx_mmo.specs.Meaning.{Loading, Meaningless, PagesFull, nothing, take_items, meaning}
+use Rattle.mx_mmo.specs.Meaning.{PagesFull, nothing, take_items, meaning}
 use Rattle.mx_line.specs.Source.{items_from as line_items}
 use Rattle.mx_stmt.specs.declared.placed.Placed.{Placed}
 use Rattle.mx_stmt.specs.Encoding.{StatementTree}
 use Rattle.mx_stmt.specs.Placements.{from_place}
 use Rattle.mx_names.specs.Names.{NameTable}
-use Rattle.mx_asm.specs.Entries.{Entry, statements_in}
+use Rattle.mx_asm.specs.Entries.{statements_in}
 use Rattle.mx_asm.specs.TwoPass.{Sight, Piece, outline, references, targets, nothing_known, sights_from, sights_of, piece_with, pieces_of}
 use Rattle.mx_asm.specs.Image.{placements, pages_of, pages_below, page_count}
 use Rattle.mx_asm.specs.Emission.{opening, first_head, items_from, emission}
 use Rattle.mx_asm.specs.Refusal.{statement_fault, first_fault}
 use Rattle.mx_asm.specs.Statements.{IsStatement}
-use Rattle.mx_asm.specs.Whole.{Line, accepted, lines_entries, entries_items, behind_opening, lines_items}
+use Rattle.mx_asm.specs.Whole.{Line, accepted, lines_entries, lines_items}
 use Rattle.mx_asm.specs.Pages.{AreAccepted, outlined, has_room, loaded_image, page_fault, page_refusal_from, page_refusal, accepted_in}
 use Rattle.mx_asm.proofs.EndWaits.{both-none}
-use Rattle.mx_asm.proofs.MeaningPages.{same-pages, AreMore, more-count, append-pages, append-more, unless_full}
-use Rattle.mx_asm.proofs.MeaningStates.{State, stands, count_of, limited, take-append}
+use Rattle.mx_asm.proofs.MeaningPages.{same-pages, more-count, append-pages, append-more}
+use Rattle.mx_asm.proofs.MeaningStates.{stands, count_of, limited, take-append}
 use Rattle.mx_asm.proofs.MeaningFronts.{IsSteady, faultless, after_sights, takes-sights, first_state, first-have, opened, no-pages}
 use Rattle.mx_asm.proofs.MeaningPlaces.{fixed-to, fixed-pages, pages-of-sights}
 use Rattle.mx_asm.proofs.MeaningWhole.{emission-means}
@@ -66,7 +66,7 @@ module _ (n : ℕ) (big : 2 ^ 51 ≤ n) (later : List Sight) (none : first_fault
       on true = refl
       on false = refl
 
-sights-fault : (later : List Sight) → first_fault [] later ≡ None → AllByRecursion IsSteady later → result_err (take_items (opening ++ items_from first_head [] later) (Ok nothing)) ≡ page_fault later
+pub sights-fault : (later : List Sight) → first_fault [] later ≡ None → AllByRecursion IsSteady later → result_err (take_items (opening ++ items_from first_head [] later) (Ok nothing)) ≡ page_fault later
 sights-fault later none steady = front-fault (2 ^ 51) (lit≤ tt) later none steady
 
 no-room-needed : page_fault [] ≡ None

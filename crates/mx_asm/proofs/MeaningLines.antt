@@ -1,11 +1,11 @@
 -- Where pages are full, line by line.
-use Rattle.std.proofs.Common.{◌≡◌, ℕ, zero, suc, ◌+◌, ◌-◌, ◌^◌, ◌<◌, ◌≤◌, List, [], ◌∷◌, ◌++◌, length, map, fold, take, Bool, true, false, not, cond, nat_le, nat_lt, arith, refl, sym, ◌∙◌, ap, subst, Option, Some, None, Result, Ok, Err, append_assoc, append-nil}
+use Rattle.std.proofs.Common.{◌≡◌, ℕ, ◌+◌, ◌-◌, ◌^◌, ◌≤◌, List, [], ◌∷◌, ◌++◌, length, map, Bool, true, false, cond, nat_lt, arith, refl, sym, ◌∙◌, ap, subst, Option, Some, None, Result, Ok, Err, append_assoc, append-nil}
 use Rattle.std.specs.Prelude.{sum_by, is_some, option_map}
 use Rattle.std.specs.List.{AllByRecursion}
 use Rattle.std.proofs.lemmas.List.{take-append-le}
 use Rattle.mx_line.specs.declared.faults.LineFault.{LineFault}
 use Rattle.mx_line.specs.declared.cutter.Cut.{Cut}
-use Rattle.mx_line.specs.Lines.{size_up_to, is_too_far}
+use Rattle.mx_line.specs.Lines.{is_too_far}
 use Rattle.mx_line.specs.Spans.{part}
 use Rattle.mx_line.specs.Cutting.{cuts_from}
 use Rattle.mx_line.specs.Source.{Item, statement, faulty, too_far, item_of, before, items_of, items_from}
@@ -19,12 +19,12 @@ use Rattle.mx_stmt.specs.Operands.{Known}
 use Rattle.mx_stmt.specs.Encoding.{StatementTree}
 use Rattle.mx_stmt.specs.Reading.{Fields, label_of, operation_for}
 use Rattle.mx_asm.specs.declared.refused.Refused.{Refused}
-use Rattle.mx_asm.specs.Entries.{Entry, with_operands, with_operation, statement_in, entry_with, entry_of, entries_of, statements_in}
+use Rattle.mx_asm.specs.Entries.{Entry, with_operands, with_operation, entry_with, entry_of, entries_of, statements_in}
 use Rattle.mx_asm.specs.TwoPass.{Sight, nothing_known, known_after, sights_from, sights_of}
 use Rattle.mx_asm.specs.Refusal.{statement_fault}
 use Rattle.mx_asm.specs.Whole.{Line, accepted, accepted_with, lines_entries}
 use Rattle.mx_asm.specs.Pages.{outlined, has_room, page_fault, page_refusal_from, page_refusal, accepted_in}
-use Rattle.mx_asm.proofs.MeaningLaws.{no-room, nothing-has-room}
+use Rattle.mx_asm.proofs.MeaningLaws.{no-room}
 
 -- ---- the items of lines
 

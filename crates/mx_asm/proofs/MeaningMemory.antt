@@ -1,16 +1,14 @@
 -- Memory octa by octa, as the bytes at each address tell it.
-use Rattle.std.proofs.Common.{◌≡◌, ℕ, zero, suc, ◌+◌, ◌-◌, ◌*◌, ◌/◌, ◌%◌, ◌^◌, ◌<◌, ◌≤◌, List, [], ◌∷◌, Bool, true, false, cond, get_or, arith, refl, sym, ◌∙◌, ap, bit_xor}
+use Rattle.std.proofs.Common.{◌≡◌, ℕ, zero, suc, ◌+◌, ◌-◌, ◌*◌, ◌/◌, ◌%◌, ◌^◌, ◌<◌, List, [], ◌∷◌, Bool, true, false, cond, get_or, arith, refl, sym, ◌∙◌, ap, bit_xor}
 use Rattle.std.specs.Prelude.{◌==◌, nat_lt}
 use Rattle.std.specs.Int.{byte_at}
 use Rattle.std.proofs.lemmas.Nat.{xor_lt}
-use Rattle.mx_word.specs.Words.{octa_from_bytes, octa_to_bytes, tetra_from_bytes}
-use Rattle.mx_word.specs.Octas.{byte_of, byte_in, with_tetra, in_half, tetra_byte, bytes_with_tetra}
+use Rattle.mx_word.specs.Words.{octa_from_bytes, octa_to_bytes}
+use Rattle.mx_word.specs.Octas.{byte_of, byte_in, with_tetra, in_half, bytes_with_tetra}
 use Rattle.mx_word.specs.Ranges.{AreBytes}
 use Rattle.mx_word.proofs.JoinedTetra.{byte_in-joined}
-use Rattle.mx_word.proofs.Tetras.{octa-back, eight-bytes, eight-fit, four-fit}
-use Rattle.mx_stmt.specs.Placements.{placed}
+use Rattle.mx_word.proofs.Tetras.{octa-back, eight-bytes, eight-fit}
 use Rattle.mx_asm.specs.Image.{octa_from, octa_in}
-use Rattle.mx_asm.proofs.MeaningTetras.{four, tetra-placed}
 
 -- a byte at each address
 abbrev pub HaveBytes : (ℕ → ℕ) → Type 0

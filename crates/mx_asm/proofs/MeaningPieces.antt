@@ -1,6 +1,6 @@
 -- The items of bytes that a statement places, and what stands behind them.
-use Rattle.std.proofs.Common.{◌≡◌, ℕ, zero, suc, ◌+◌, ◌-◌, ◌*◌, ◌/◌, ◌%◌, ◌^◌, ◌<◌, ◌≤◌, List, [], ◌∷◌, ◌++◌, length, length-append, map, Bool, true, false, not, cond, arith, refl, sym, ◌∙◌, ap, bit_xor, replicate, min, Result, Ok, Err, ⊎_elim, ◌⊎◌, inl, inr, append_assoc}
-use Rattle.std.specs.Prelude.{◌==◌, ◌||◌, ◌&&◌, nat_le, nat_lt}
+use Rattle.std.proofs.Common.{◌≡◌, ℕ, zero, suc, ◌+◌, ◌-◌, ◌*◌, ◌/◌, ◌%◌, ◌^◌, ◌<◌, ◌≤◌, List, [], ◌∷◌, ◌++◌, length, length-append, map, Bool, true, false, not, cond, arith, refl, sym, ◌∙◌, ap, bit_xor, replicate, min, Result, Ok, Err, ⊎_elim, ◌⊎◌, inl, inr}
+use Rattle.std.specs.Prelude.{◌==◌, ◌&&◌, nat_le, nat_lt}
 use Rattle.std.specs.Int.Bits.{xor_zero_r, xor_zero_l}
 use Rattle.std.proofs.lemmas.List.{length-replicate}
 use Rattle.std.proofs.lemmas.Bool.{cases_eq, cases_lt, eqb-true}
@@ -10,18 +10,15 @@ use Rattle.mx_word.specs.Ranges.{AreBytes}
 use Rattle.mx_word.proofs.Ranges.{bytes-append, bytes-zeros}
 use Rattle.mx_mmo.specs.Image.{Image}
 use Rattle.mx_mmo.specs.Reading.{tetras_of}
-use Rattle.mx_mmo.specs.Meaning.{Loading, Meaningless, PagesFull, BadPlace, image_with_tetra, paged, join, lined as lined_with, noted, next_line, after_load, with_name, take_item, take_items}
+use Rattle.mx_mmo.specs.Meaning.{Meaningless, PagesFull, BadPlace, image_with_tetra, paged, join, lined as lined_with, noted, next_line, after_load, with_name, take_item, take_items}
 use Rattle.mx_mmo.specs.declared.items.Item.{Item}
 use Rattle.mx_mmo.specs.declared.items.Item.TheVariants.{Load, Loc, Line}
 use Rattle.mx_stmt.specs.Placements.{from_place, placed}
 use Rattle.mx_stmt.proofs.JoinedBytes.{placed-append, from-append, placed-zeros}
-use Rattle.mx_asm.specs.TwoPass.{Piece}
-use Rattle.mx_asm.specs.Image.{octa_in, pages_of, pages_below, is_covered, with_lines}
-use Rattle.mx_asm.specs.declared.head.Head.{Head}
-use Rattle.mx_asm.specs.Emission.{lowered, raised, zeros_after, covered, covering, tetra_count, located, told_line, lined, line_behind, byte_items}
-use Rattle.mx_asm.proofs.MeaningMemory.{HaveBytes}
-use Rattle.mx_asm.proofs.MeaningPages.{same-pages, AreMore, append-pages, unless_full, pages-run, tetras-run, pages-alike, many-pages}
-use Rattle.mx_asm.proofs.MeaningStates.{State, image_at, stands, count_of, limited, Takes, take-none, take-append, takes-both, takes-none, same-numbers, noted_lines, lines_with, line_after, behind_tetras, takes-tetras}
+use Rattle.mx_asm.specs.Image.{octa_in, pages_of, pages_below}
+use Rattle.mx_asm.specs.Emission.{lowered, raised, zeros_after, covered, covering, tetra_count, located, told_line, lined, line_behind}
+use Rattle.mx_asm.proofs.MeaningPages.{same-pages, unless_full, pages-alike}
+use Rattle.mx_asm.proofs.MeaningStates.{State, image_at, stands, count_of, limited, Takes, take-none, takes-none, same-numbers, noted_lines, lines_with, line_after}
 
 -- ---- zeros around bytes
 

@@ -1,5 +1,5 @@
 -- The pages and the lines of what statements place, with their targets known and with none.
-use Rattle.std.proofs.Common.{◌≡◌, ℕ, zero, suc, ◌+◌, ◌-◌, ◌/◌, ◌<◌, ◌≤◌, List, [], ◌∷◌, ◌++◌, length, fold, Bool, true, false, cond, arith, refl, sym, ◌∙◌, ap, subst, Option, Some, None, Ok, Err, append_assoc, append-nil}
+use Rattle.std.proofs.Common.{◌≡◌, ℕ, ◌+◌, ◌-◌, ◌/◌, ◌≤◌, List, [], ◌∷◌, ◌++◌, length, fold, Bool, true, false, cond, arith, refl, sym, ◌∙◌, ap, subst, Option, Some, None, Ok, Err, append-nil}
 use Rattle.std.specs.Prelude.{◌==◌, ◌||◌, ◌&&◌, nat_le}
 use Rattle.std.specs.List.{AllByRecursion, list_any}
 use Rattle.std.proofs.lemmas.Bool.Decides.{nat_tests}
@@ -11,21 +11,20 @@ use Rattle.mx_word.specs.declared.waits.WaitKind.{WaitKind}
 use Rattle.mx_word.specs.declared.waits.WaitKind.TheVariants.{Octa, Near, Far}
 use Rattle.mx_word.specs.Waits.{same_awaited}
 use Rattle.mx_names.specs.Names.{NameTable, complete_form}
-use Rattle.mx_names.specs.Waiting.{waits_for}
 use Rattle.mx_stmt.specs.declared.statement.Label.{Label}
 use Rattle.mx_stmt.specs.declared.statement.Label.TheVariants.{Name, Local}
 use Rattle.mx_stmt.specs.declared.placed.Placed.{Placed}
 use Rattle.mx_stmt.specs.Steps.{Answer, AreAlike}
-use Rattle.mx_stmt.specs.Operands.{Targets, no_targets}
+use Rattle.mx_stmt.specs.Operands.{Targets}
 use Rattle.mx_stmt.specs.Encoding.{encoding}
 use Rattle.mx_stmt.specs.Fixes.{fix_bytes, fix_placements, IsFixed}
-use Rattle.mx_stmt.specs.Laid.{kind_size, IsInside, IsLaid}
-use Rattle.mx_stmt.specs.Placements.{from_place, placed}
+use Rattle.mx_stmt.specs.Laid.{kind_size, IsInside}
+use Rattle.mx_stmt.specs.Placements.{from_place}
 use Rattle.mx_stmt.proofs.JoinedStatements.{encoding-joined}
 use Rattle.mx_stmt.proofs.LaidBytes.{all-into, all-append}
-use Rattle.mx_asm.specs.TwoPass.{Sight, Piece, outline, waits_in, references, is_local, targets, piece_with, piece_of, pieces_of}
+use Rattle.mx_asm.specs.TwoPass.{Sight, outline, waits_in, references, is_local, targets, piece_with, pieces_of}
 use Rattle.mx_asm.specs.Fixes.{from_last, awaited_value, waiting_for, waiting_at}
-use Rattle.mx_asm.specs.Image.{placements, pages_of, is_covered, with_lines}
+use Rattle.mx_asm.specs.Image.{placements, pages_of, with_lines}
 use Rattle.mx_asm.specs.Refusal.{statement_fault, first_fault}
 use Rattle.mx_asm.proofs.WaitsFor.{references-append}
 use Rattle.mx_asm.proofs.EndWaits.{both-none}
@@ -33,7 +32,7 @@ use Rattle.mx_asm.proofs.MeaningPages.{AreMore, append-pages, append-more, pages
 use Rattle.mx_asm.proofs.MeaningStates.{State, same-numbers}
 use Rattle.mx_asm.proofs.MeaningBytes.{piece_at, behind_bytes}
 use Rattle.mx_asm.proofs.MeaningStatements.{all-filter, at_value, behind_fixes, behind_placed}
-use Rattle.mx_asm.proofs.MeaningFronts.{IsSteady, IsFaultless, faultless, laid, behind_sight, after_sights}
+use Rattle.mx_asm.proofs.MeaningFronts.{IsSteady, faultless, laid, behind_sight, after_sights}
 
 -- ---- a statement with its targets known
 
@@ -157,8 +156,8 @@ fixes-on t [] ps on = λ p h. absurd (cc)
 fixes-on t (w ∷ waits) ps on =
     let rest = fixes-on t waits ps on.1 in
     λ p h.
-        by p (rest p) (pages_of (from_place w.at (fix_bytes w.kind w.at (t w.who))) p) (pages_of (fix_placements t waits) p) refl refl
-        (sym (append-pages (from_place w.at (fix_bytes w.kind w.at (t w.who))) (fix_placements t waits) p) ∙ h)
+    by p (rest p) (pages_of (from_place w.at (fix_bytes w.kind w.at (t w.who))) p) (pages_of (fix_placements t waits) p) refl refl
+    (sym (append-pages (from_place w.at (fix_bytes w.kind w.at (t w.who))) (fix_placements t waits) p) ∙ h)
   where
     by : (p : ℕ) → (pages_of (fix_placements t waits) p ≡ true → pages_of ps p ≡ true) → (a b : Bool) → pages_of (from_place w.at (fix_bytes w.kind w.at (t w.who))) p ≡ a → pages_of (fix_placements t waits) p ≡ b →
         (a || b) ≡ true → pages_of ps p ≡ true

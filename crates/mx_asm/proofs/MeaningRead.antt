@@ -1,6 +1,6 @@
 -- The statements of lines of bytes are as statements are that were read.
-use Rattle.std.proofs.Common.{◌≡◌, ℕ, zero, suc, ◌+◌, ◌-◌, ◌*◌, ◌^◌, ◌<◌, ◌≤◌, List, [], ◌∷◌, ◌++◌, map, take, drop, Bool, true, false, not, cond, nat_le, arith, refl, sym, ◌∙◌, ap, subst, Option, Some, None, is_some, Result, Ok, Err}
-use Rattle.std.specs.Prelude.{◌==◌, ◌&&◌, slice_range, option_map}
+use Rattle.std.proofs.Common.{◌≡◌, ℕ, ◌+◌, ◌-◌, ◌*◌, ◌^◌, ◌<◌, ◌≤◌, List, [], ◌∷◌, ◌++◌, map, drop, Bool, true, false, not, cond, nat_le, arith, refl, sym, ◌∙◌, ap, Option, Some, None, is_some, Result, Ok, Err}
+use Rattle.std.specs.Prelude.{◌==◌, ◌&&◌, option_map}
 use Rattle.std.specs.List.{AllByRecursion}
 use Rattle.std.proofs.lemmas.Bool.{leb-false, leb-true, and_parts}
 use Rattle.mx_word.specs.Ranges.{AreBytes}
@@ -13,22 +13,20 @@ use Rattle.mx_line.specs.Spans.{part}
 use Rattle.mx_line.specs.Cutting.{cuts_from}
 use Rattle.mx_line.specs.Source.{Item, statement, faulty, too_far, item_of, before, items_of, items_from}
 use Rattle.mx_expr.specs.declared.faults.ExprFault.{ExprFault}
-use Rattle.mx_expr.specs.declared.faults.ExprFault.TheVariants.{Syntax, TooWide}
+use Rattle.mx_expr.specs.declared.faults.ExprFault.TheVariants.{TooWide}
 use Rattle.mx_expr.specs.declared.tree.UnOp.{UnOp}
 use Rattle.mx_expr.specs.declared.tree.BinOp.{BinOp}
 use Rattle.mx_expr.specs.declared.tree.BinOp.TheVariants.{Div, Fraction, Left, Right}
-use Rattle.mx_expr.specs.Tree.{Tree, number, name, back, ahead, here, unary, binary}
+use Rattle.mx_expr.specs.Tree.{Tree, number, name, back, ahead, here, unary}
 use Rattle.mx_expr.specs.Bytes.{is_digit, is_hexadecimal, is_letter, is_name_byte, digit_value}
-use Rattle.mx_expr.specs.Reading.{Waiting, sign, strong, weak, parenthesis, Mode, operand, whole, digit, decimal, hash, hexadecimal, quote, character, symbol, slash, less, greater, string, closed, State, Read, with_strong, with_weak, at, after_primary, primary_end, string_start, sign_of, signed, mark_start, primary_start, strong_of, weak_of, weakly, enclosed, listed, next_operand, sum_end, weakly_or_end, strongly, after, beyond, in_string, next_reading, too_wide, passed_bound, within, bounded_step, step, and_then, steps, field_end, reading_end, start, reading}
+use Rattle.mx_expr.specs.Reading.{Waiting, sign, strong, weak, parenthesis, Mode, operand, whole, digit, decimal, hash, hexadecimal, quote, character, symbol, slash, less, greater, string, closed, State, Read, with_strong, with_weak, at, primary_end, string_start, sign_of, signed, mark_start, primary_start, strong_of, weak_of, enclosed, listed, next_operand, sum_end, weakly_or_end, strongly, after, beyond, next_reading, too_wide, passed_bound, within, step, and_then, steps, field_end, reading_end, start, reading}
 use Rattle.mx_ops.specs.declared.op.Op.{Op}
 use Rattle.mx_ops.specs.Opcodes.{operation_of}
 use Rattle.mx_stmt.specs.declared.faults.StmtFault.TheVariants.{LabelNotAllowed}
 use Rattle.mx_stmt.specs.Steps.{Answer}
-use Rattle.mx_stmt.specs.Encoding.{StatementTree}
 use Rattle.mx_stmt.specs.Fixes.{IsOperation}
 use Rattle.mx_stmt.specs.Reading.{Fields, label_of, takes_label, operation_with, operation_for}
-use Rattle.mx_asm.specs.declared.refused.Refused.{Refused}
-use Rattle.mx_asm.specs.Entries.{Entry, with_operands, with_operation, statement_in, entry_with, entry_of, entries_of, statements_in}
+use Rattle.mx_asm.specs.Entries.{Entry, with_operands, with_operation, entry_with, entry_of, entries_of, statements_in}
 use Rattle.mx_asm.specs.Statements.{HasOctas, IsStatement}
 use Rattle.mx_asm.specs.Whole.{Line, lines_entries}
 

@@ -1,28 +1,31 @@
 -- What holds of the statements of lines and sources that are bytes.
-use Rattle.std.proofs.Common.{◌≡◌, ◌<◌, ℕ, ◌^◌, List, [], ◌∷◌, ◌++◌, Bool, true, false, not, cond, refl, sym, ◌∙◌, ap, is_some, Option, Some, None, Ok, Err}
+use Rattle.std.proofs.Common.{◌≡◌, ◌<◌, ℕ, ◌^◌, List, [], ◌∷◌, ◌++◌, Bool, true, false, not, cond, refl, sym, ◌∙◌, ap, is_some, Option, Some, None, Result, Ok, Err}
 use Rattle.std.specs.Prelude.{◌==◌, nat_le}
 use Rattle.std.specs.Result.{result_err}
 use Rattle.std.specs.List.{AllByRecursion, slice_split, onto_first}
 use Rattle.mx_word.specs.Ranges.{AreBytes}
 use Rattle.mx_line.specs.Lines.{lines_of, without_empty_last}
 use Rattle.mx_line.specs.Pieces.{split}
-use Rattle.mx_mmo.specs.Meaning.{Meaningless, PagesFull, nothing, take_items, meaning}
+use Rattle.mx_mmo.specs.Meaning.{PagesFull, nothing, take_items, meaning, Loading, Meaningless}
+use Rattle.mx_mmo.specs.declared.items.Item.TheVariants.{Post, Stab}
+use Rattle.mx_stmt.specs.Gregs.{lowest_of}
+use Rattle.mx_asm.specs.Emission.{front, closing, main_of}
 use Rattle.mx_stmt.specs.Encoding.{StatementTree}
 use Rattle.mx_asm.specs.declared.refused.Refused.{Refused}
-use Rattle.mx_asm.specs.Entries.{Entry, statements_in, refusal_in, source_entries}
+use Rattle.mx_asm.specs.Entries.{statements_in, refusal_in, source_entries}
 use Rattle.mx_asm.specs.TwoPass.{Sight, final_known, sights_of, pieces}
-use Rattle.mx_asm.specs.Image.{placements, pages_of, page_count, image}
-use Rattle.mx_asm.specs.Emission.{emission}
-use Rattle.mx_asm.specs.Refusal.{first_of, first_fault, first_undefined, entries_refusal, end_refusal, last_line, refusal}
+use Rattle.mx_asm.specs.Image.{page_count, image}
+use Rattle.mx_asm.specs.Refusal.{first_fault, first_undefined, entries_refusal, end_refusal, last_line, refusal}
 use Rattle.mx_asm.specs.Statements.{IsStatement}
 use Rattle.mx_asm.specs.Whole.{Line, accepted, lines_entries, lines_items, assembled_source}
-use Rattle.mx_asm.specs.Pages.{AreAccepted, outlined, has_room, loaded_image, page_fault, page_refusal, RunRefusal, run_refusal_with, accepted_in, run_refusal}
+use Rattle.mx_asm.specs.Pages.{AreAccepted, outlined, has_room, loaded_image, page_fault, page_refusal, run_refusal_with, accepted_in, run_refusal}
 use Rattle.mx_asm.proofs.EndWaits.{both-none}
-use Rattle.mx_asm.proofs.InTurn.{source-accepted}
+use Rattle.mx_asm.proofs.InTurn.{source-accepted, source-refused}
+use Rattle.mx_asm.proofs.MeaningStates.{take-append}
 use Rattle.mx_asm.proofs.MeaningPages.{same-pages}
-use Rattle.mx_asm.proofs.MeaningSteady.{steady-all, accepted-all}
+use Rattle.mx_asm.proofs.MeaningSteady.{steady-begun, steady-all, accepted-all, accepted-faultless}
 use Rattle.mx_asm.proofs.MeaningRead.{lines-read}
-use Rattle.mx_asm.proofs.MeaningLaws.{image-meant, lines-fault, outlined-pages, page-refusal-is}
+use Rattle.mx_asm.proofs.MeaningLaws.{image-meant, lines-fault, outlined-pages, page-refusal-is, sights-fault}
 
 pub bytes-fault : (lines : List Line) → AllByRecursion AreBytes lines → result_err (take_items (lines_items lines) (Ok nothing)) ≡ page_fault (accepted_in (lines_entries lines))
 bytes-fault lines bytes = lines-fault lines (lines-read lines bytes)
@@ -101,3 +104,30 @@ run-means source h none =
     let are = source-are-accepted source h parts.1 in
     let room : has_room (pieces statements) ≡ true = room-is statements are ∙ room-of (sights_of statements) (ap page_refusal (sym (accepted-all (sights_of statements) [] are.faultless)) ∙ parts.0) in
     source-means source h parts.1 ∙ ap (λ b. cond b (Ok (image statements)) (Err PagesFull)) room
+
+-- ---- what is loaded of a source
+
+closed-fault : (g : ℕ) (values : List ℕ) (r : Result Loading Meaningless) → result_err (take_items (Post g values ∷ Stab ∷ []) r) ≡ result_err r
+closed-fault g values (Ok s) = refl
+closed-fault g values (Err e) = refl
+
+emission-fault : (source : List ℕ) → AreBytes source → refusal source ≡ None → result_err (take_items (assembled_source source).0 (Ok nothing)) ≡ page_fault (accepted_in (source_entries source))
+emission-fault source h none =
+    let statements = statements_of_source source in
+    let are = source-are-accepted source h none in
+    let k = final_known statements in
+    ap (λ p. result_err (take_items p.0 (Ok nothing))) (source-accepted source none)
+    ∙ ap result_err (take-append (front statements) (closing k.names k.gregs) (Ok nothing))
+    ∙ closed-fault (lowest_of k.gregs) (k.gregs ++ main_of k.names ∷ []) (take_items (front statements) (Ok nothing))
+    ∙ sights-fault (sights_of statements) are.faultless (steady-all statements are.read are.faultless)
+    ∙ ap page_fault (sym (accepted-all (sights_of statements) [] are.faultless))
+
+pub source-fault : (source : List ℕ) → AreBytes source → result_err (take_items (assembled_source source).0 (Ok nothing)) ≡ page_fault (accepted_in (source_entries source))
+source-fault source h = by (refusal source) refl
+  where
+    by : (r : Option Refused) → refusal source ≡ r → result_err (take_items (assembled_source source).0 (Ok nothing)) ≡ page_fault (accepted_in (source_entries source))
+    by None e = emission-fault source h e
+    by (Some r) e =
+        let statements = statements_of_source source in
+        ap (λ p. result_err (take_items p.0 (Ok nothing))) (source-refused source r e)
+        ∙ sights-fault (accepted [] (sights_of statements)) (accepted-faultless (sights_of statements) []) (steady-begun statements (source-read source h))

@@ -1,10 +1,9 @@
 -- The items of one statement, and those of statements one after another.
 use Rattle.std.proofs.Common.{◌≡◌, ℕ, ◌+◌, ◌%◌, ◌^◌, ◌<◌, ◌≤◌, List, [], ◌∷◌, ◌++◌, length, Bool, true, false, cond, arith, refl, sym, ◌∙◌, ap, subst, Option, Some, None, Result, Ok, Err, append_assoc, append-nil}
 use Rattle.std.specs.Prelude.{◌==◌}
-use Rattle.std.specs.Result.{result_unwrap_or}
 use Rattle.std.specs.List.{AllByRecursion, filter}
 use Rattle.std.proofs.lemmas.Bool.{eqb-true}
-use Rattle.mx_word.specs.Words.{octa_to_bytes, tetra_to_bytes}
+use Rattle.mx_word.specs.Words.{octa_to_bytes}
 use Rattle.mx_word.specs.Ranges.{AreBytes}
 use Rattle.mx_word.specs.declared.symbols.Value.{Value}
 use Rattle.mx_word.specs.declared.symbols.Value.TheVariants.{Pure, Reg}
@@ -13,31 +12,27 @@ use Rattle.mx_word.specs.declared.waits.Wait.{Wait}
 use Rattle.mx_word.specs.declared.waits.WaitKind.{WaitKind}
 use Rattle.mx_word.specs.declared.waits.WaitKind.TheVariants.{Octa, Near, Far}
 use Rattle.mx_word.specs.Waits.{same_awaited}
-use Rattle.mx_mmo.specs.Meaning.{Meaningless, take_items}
+use Rattle.mx_mmo.specs.Meaning.{take_items}
 use Rattle.mx_mmo.specs.declared.items.Item.{Item}
 use Rattle.mx_mmo.specs.declared.items.Item.TheVariants.{Loc}
 use Rattle.mx_names.specs.Names.{complete_form}
-use Rattle.mx_names.specs.Waiting.{waits_for}
 use Rattle.mx_stmt.specs.declared.statement.Label.{Label}
 use Rattle.mx_stmt.specs.declared.statement.Label.TheVariants.{Name, Local}
 use Rattle.mx_stmt.specs.declared.placed.Placed.{Placed}
 use Rattle.mx_stmt.specs.Steps.{Answer}
-use Rattle.mx_stmt.specs.Operands.{Known, Targets, no_targets}
-use Rattle.mx_stmt.specs.Encoding.{StatementTree, encoding}
+use Rattle.mx_stmt.specs.Operands.{Targets, no_targets}
+use Rattle.mx_stmt.specs.Encoding.{encoding}
 use Rattle.mx_stmt.specs.Fixes.{fix_bytes, fix_placements}
 use Rattle.mx_stmt.specs.Laid.{kind_size, IsInside, IsLaid}
 use Rattle.mx_stmt.specs.Placements.{from_place, placed}
 use Rattle.mx_stmt.proofs.LaidBytes.{encoding-laid, all-into, all-append}
-use Rattle.mx_stmt.specs.Forms.{future_word}
 use Rattle.mx_asm.specs.declared.faults.AsmFault.{AsmFault}
 use Rattle.mx_asm.specs.declared.refused.Refused.{Refused}
-use Rattle.mx_asm.specs.declared.head.Head.{Head}
 use Rattle.mx_asm.specs.TwoPass.{Sight, outline, waits_in, references}
 use Rattle.mx_asm.specs.Fixes.{from_last, fix_of, with_fix, fixes, awaited_value, waiting_for, waiting_at}
-use Rattle.mx_asm.specs.Emission.{moved, onto, fix_items, head_at_fixes, byte_items, head_at_bytes, with_bytes, piece_items, statement_items, statement_head, sight_items, sight_head, items_from}
-use Rattle.mx_asm.specs.Refusal.{refusal_of, label_fault, fault_behind, fault_with, statement_fault, first_of, first_fault}
+use Rattle.mx_asm.specs.Emission.{moved, onto, fix_items, head_at_fixes, byte_items, head_at_bytes, with_bytes, statement_items, statement_head}
 use Rattle.mx_asm.proofs.MeaningMemory.{HaveBytes}
-use Rattle.mx_asm.proofs.MeaningStates.{State, limited, Takes, take-none, takes-both, takes-none, more-bytes}
+use Rattle.mx_asm.proofs.MeaningStates.{State, limited, Takes, take-none, takes-both, more-bytes}
 use Rattle.mx_asm.proofs.MeaningPieces.{takes-still, at_lambda}
 use Rattle.mx_asm.proofs.MeaningBytes.{head_of, behind_bytes, takes-bytes}
 use Rattle.mx_asm.proofs.MeaningFixes.{behind_fix, takes-fix, word-bytes}

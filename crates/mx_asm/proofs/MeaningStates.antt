@@ -1,16 +1,15 @@
 -- What stands once items were loaded, by the bytes that they placed, and one tetra more.
-use Rattle.std.proofs.Common.{◌≡◌, ℕ, zero, suc, ◌+◌, ◌-◌, ◌*◌, ◌/◌, ◌%◌, ◌^◌, ◌<◌, ◌≤◌, List, [], ◌∷◌, ◌++◌, length, map, Bool, true, false, not, cond, arith, refl, sym, ◌∙◌, ap, bit_xor, subst, Result, Ok, Err, append_assoc}
-use Rattle.std.specs.Prelude.{◌==◌, ◌||◌, nat_le, nat_lt}
-use Rattle.std.specs.Int.Bits.{xor_zero_r}
+use Rattle.std.proofs.Common.{◌≡◌, ℕ, zero, suc, ◌+◌, ◌*◌, ◌/◌, ◌%◌, ◌^◌, ◌<◌, ◌≤◌, List, [], ◌∷◌, ◌++◌, length, map, Bool, true, false, not, cond, arith, refl, sym, ◌∙◌, ap, bit_xor, subst, Result, Ok, Err, append_assoc}
+use Rattle.std.specs.Prelude.{◌==◌, ◌||◌, nat_le}
 use Rattle.std.proofs.lemmas.Nat.{xor_of_8}
 use Rattle.std.proofs.lemmas.Bool.Decides.{nat_tests}
 use Rattle.mx_word.specs.Words.{tetra_from_bytes}
-use Rattle.mx_word.specs.Octas.{with_tetra, in_half, tetra_byte, bytes_with_tetra, with_page}
+use Rattle.mx_word.specs.Octas.{with_tetra, with_page}
 use Rattle.mx_word.specs.Ranges.{AreBytes}
 use Rattle.mx_word.proofs.Tetras.{four-fit}
 use Rattle.mx_mmo.specs.Image.{Image}
 use Rattle.mx_mmo.specs.Reading.{tetras_of}
-use Rattle.mx_mmo.specs.Meaning.{Loading, Meaningless, PagesFull, BadPlace, is_below, paged, image_with_tetra, join, lined, noted, next_line, after_load, with_name, take_item, take_items}
+use Rattle.mx_mmo.specs.Meaning.{Loading, Meaningless, PagesFull, BadPlace, paged, image_with_tetra, join, lined, noted, next_line, after_load, with_name, take_item, take_items}
 use Rattle.mx_mmo.specs.declared.items.Item.{Item}
 use Rattle.mx_mmo.specs.declared.items.Item.TheVariants.{Load}
 use Rattle.mx_stmt.specs.Placements.{from_place, placed}

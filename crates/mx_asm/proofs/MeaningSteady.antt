@@ -1,5 +1,5 @@
 -- What is known at the statements that are accepted is sound, and their values are octas.
-use Rattle.std.proofs.Common.{◌≡◌, ◌≢◌, ℕ, List, [], ◌∷◌, ◌++◌, refl, sym, ◌∙◌, ap, subst, Option, Some, None, Ok, Err}
+use Rattle.std.proofs.Common.{◌≡◌, ℕ, List, [], ◌∷◌, ◌++◌, refl, sym, ◌∙◌, ap, subst, Option, Some, None, Ok}
 use Rattle.std.specs.List.{AllByRecursion}
 use Rattle.std.specs.Option.{IfSome}
 use Rattle.mx_word.specs.declared.symbols.Value.{Value}
@@ -16,16 +16,14 @@ use Rattle.mx_stmt.specs.Fixes.{HasRegisterNumber, IsSound}
 use Rattle.mx_stmt.proofs.SoundKnowledge.{sound-start, sound-symbol, sound-local, sound-greg}
 use Rattle.mx_stmt.proofs.SoundLabels.{encoding-fine}
 use Rattle.mx_asm.specs.declared.refused.Refused.{Refused}
-use Rattle.mx_asm.specs.TwoPass.{Sight, outline, with_label, with_effect, known_with, known_after, nothing_known, sights_from, sights_of}
-use Rattle.mx_asm.specs.Fixes.{awaited_value}
+use Rattle.mx_asm.specs.TwoPass.{Sight, with_label, with_effect, known_with, known_after, nothing_known, sights_from, sights_of}
 use Rattle.mx_asm.specs.Refusal.{label_fault, statement_fault, first_fault, first_of}
 use Rattle.mx_asm.specs.Statements.{IsStatement}
 use Rattle.mx_asm.specs.Whole.{accepted, accepted_with}
 use Rattle.mx_asm.proofs.OneStatement.{name-new}
 use Rattle.mx_asm.proofs.EndWaits.{both-none}
-use Rattle.mx_asm.proofs.MeaningStatements.{IsWord}
-use Rattle.mx_asm.proofs.MeaningFronts.{IsSteady, IsFaultless, faultless}
-use Rattle.mx_asm.proofs.MeaningWords.{KnowsWords, HasWords, words-start, encoding-words, awaited-word, words-kept}
+use Rattle.mx_asm.proofs.MeaningFronts.{IsSteady, faultless}
+use Rattle.mx_asm.proofs.MeaningWords.{KnowsWords, words-start, encoding-words, awaited-word, words-kept}
 
 -- the same at another place
 sound-at : (k : Known) (at : ℕ) → IsSound k → IsSound (record k { at = at })
@@ -67,13 +65,15 @@ steady-accepted (st ∷ statements) k earlier read sound words =
         AllByRecursion IsSteady (accepted_with r (record { known = k; statement = st }) (accepted (earlier ++ record { known = k; statement = st } ∷ []) (sights_from (known_after k st) statements)))
     by (Some refused) e rest = tt
     by None e rest =
-        let is = faultless earlier (record { known = k; statement = st }) e in
-        (record {
-          line = read.0.line;
-          operation = read.0.operation;
-          sound = sound;
-          word = λ p out. awaited-word p.label (encoding-words no_targets k st p words read.0 out).label;
-        }, rest is.placed_as is.outlined is.label)
+        let is = faultless earlier (record { known = k; statement = st }) e in (
+          record {
+            line = read.0.line;
+            operation = read.0.operation;
+            sound = sound;
+            word = λ p out. awaited-word p.label (encoding-words no_targets k st p words read.0 out).label;
+          },
+          rest is.placed_as is.outlined is.label,
+        )
 
 pub accepted-faultless : (later earlier : List Sight) → first_fault earlier (accepted earlier later) ≡ None
 unfolding accepted first_fault

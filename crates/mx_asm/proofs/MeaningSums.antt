@@ -1,5 +1,5 @@
 -- The bytes that are placed and then joined by fix records are those that are placed with all targets known.
-use Rattle.std.proofs.Common.{◌≡◌, ℕ, ◌+◌, List, [], ◌∷◌, ◌++◌, fold, Bool, true, false, not, cond, refl, sym, ◌∙◌, ap, subst, bit_xor, Option, Some, None, is_some, Result, Ok, Err, append_assoc, append-nil}
+use Rattle.std.proofs.Common.{◌≡◌, ℕ, List, [], ◌∷◌, ◌++◌, fold, Bool, true, false, not, cond, refl, sym, ◌∙◌, ap, subst, bit_xor, Option, Some, None, Ok, append_assoc}
 use Rattle.std.specs.Prelude.{◌==◌, bytes_eq}
 use Rattle.std.specs.List.{AllByRecursion, filter}
 use Rattle.std.specs.Int.Bits.{xor_assoc, xor_zero_l, xor_zero_r}
@@ -12,35 +12,28 @@ use Rattle.mx_word.specs.declared.waits.Awaited.{Awaited}
 use Rattle.mx_word.specs.declared.waits.Awaited.TheVariants as awaited
 use Rattle.mx_word.specs.declared.waits.Wait.{Wait}
 use Rattle.mx_word.specs.Waits.{same_awaited}
-use Rattle.mx_mmo.specs.declared.items.Item.{Item}
-use Rattle.mx_names.specs.Names.{NameTable, complete_form, value_in as symbol_in, value_of_name, first_value, pure_of, with_symbol}
+use Rattle.mx_names.specs.Names.{NameTable, complete_form, value_in as symbol_in, value_of_name, with_symbol}
 use Rattle.mx_names.specs.Waiting.{waits_for, waits_for_others}
 use Rattle.mx_names.proofs.Entries.{value-inserted, not-some}
-use Rattle.mx_ops.specs.Predefined.{predefined_value}
 use Rattle.mx_stmt.specs.declared.statement.Label.{Label}
 use Rattle.mx_stmt.specs.declared.statement.Label.TheVariants.{Name, Local}
 use Rattle.mx_stmt.specs.declared.placed.Placed.{Placed}
-use Rattle.mx_stmt.specs.Steps.{Answer}
 use Rattle.mx_stmt.specs.Operands.{Known, Targets, no_targets, symbol_form}
 use Rattle.mx_stmt.specs.Encoding.{StatementTree, encoding}
 use Rattle.mx_stmt.specs.Fixes.{fix_bytes, fix_placements}
 use Rattle.mx_stmt.specs.Placements.{from_place, placed}
-use Rattle.mx_stmt.proofs.JoinedBytes.{placed-append, xor-pairs}
-use Rattle.mx_asm.specs.declared.refused.Refused.{Refused}
-use Rattle.mx_asm.specs.TwoPass.{Sight, outline, waits_in, value_in, is_local, next_local, referent, pure_number, targets, with_label, known_with, known_after, sights_from, piece_with, pieces_of}
-use Rattle.mx_asm.specs.Fixes.{from_last, fixes, awaited_value, waiting_for, waiting_at}
-use Rattle.mx_asm.specs.Image.{placements}
+use Rattle.mx_stmt.proofs.JoinedBytes.{placed-append}
+use Rattle.mx_asm.specs.TwoPass.{Sight, outline, waits_in, value_in, is_local, next_local, pure_number, targets, with_label, known_with, known_after, sights_from}
+use Rattle.mx_asm.specs.Fixes.{fixes, awaited_value, waiting_for, waiting_at}
 use Rattle.mx_asm.specs.Refusal.{refusal_of, label_fault, statement_fault, first_fault}
-use Rattle.mx_asm.proofs.LabelValues.{HasLabel, encoding-label}
 use Rattle.mx_asm.proofs.OpenWaits.{any_settles, open_waits, open-unlabelled, open-named, open-local}
 use Rattle.mx_asm.proofs.WaitsFor.{same-is, named-waits, local-waits}
-use Rattle.mx_asm.proofs.OneStatement.{AreLabels, labels-kept, name-new, effect-symbols}
+use Rattle.mx_asm.proofs.OneStatement.{name-new, effect-symbols}
 use Rattle.mx_asm.proofs.EndWaits.{both-none}
 use Rattle.mx_asm.proofs.MeaningStates.{State}
 use Rattle.mx_asm.proofs.MeaningBytes.{behind_bytes}
-use Rattle.mx_asm.proofs.MeaningStatements.{at_value, behind_fixes, behind_placed}
-use Rattle.mx_asm.proofs.MeaningFronts.{IsSteady, IsFaultless, faultless, behind_sight, after_sights}
-use Rattle.mx_asm.proofs.MeaningPlaces.{fixed-to}
+use Rattle.mx_asm.proofs.MeaningStatements.{at_value, behind_fixes}
+use Rattle.mx_asm.proofs.MeaningFronts.{faultless}
 
 -- ---- what references add
 
@@ -205,7 +198,7 @@ module _ (final : NameTable) (earlier later : List Sight) (t : Sight) (p : Place
       record {
         by = late;
         fixed = subst (AllByRecursion (λ (w : Wait). late w.who ≡ pure_number (Some (awaited_value p.label)))) (sym waits)
-        (passing (λ (w : Wait). late w.who ≡ pure_number (Some (awaited_value p.label))) (λ (w : Wait). same_awaited w.who who) all (λ w h. ap late (same-is w.who who h) ∙ ap pure_number ends));
+            (passing (λ (w : Wait). late w.who ≡ pure_number (Some (awaited_value p.label))) (λ (w : Wait). same_awaited w.who who) all (λ w h. ap late (same-is w.who who h) ∙ ap pure_number ends));
         sums =
             (λ i. bit_xor (added late (waits i) q) (added late (open_is i) q))
             ∙ sym (added-split late who all q)
@@ -226,7 +219,7 @@ module _ (final : NameTable) (earlier later : List Sight) (t : Sight) (p : Place
       record {
         by = early;
         fixed = subst (AllByRecursion (λ (w : Wait). early w.who ≡ pure_number (Some (awaited_value p.label)))) (sym waits)
-        (passing (λ (w : Wait). early w.who ≡ pure_number (Some (awaited_value p.label))) (λ (w : Wait). same_awaited w.who who) before (λ w h. ap early (same-is w.who who h) ∙ target));
+            (passing (λ (w : Wait). early w.who ≡ pure_number (Some (awaited_value p.label))) (λ (w : Wait). same_awaited w.who who) before (λ w h. ap early (same-is w.who who h) ∙ target));
         sums =
             (λ i. bit_xor (added early (waits i) q) (added late (open_is i) q))
             ∙ ap (bit_xor (added early (waits_for who before) q)) (added-append late (waits_for_others who before) p.waits q)

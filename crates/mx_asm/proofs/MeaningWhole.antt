@@ -1,15 +1,12 @@
 -- The items of statements mean their image.
-use Rattle.std.proofs.Common.{◌≡◌, ℕ, ◌+◌, ◌^◌, ◌≤◌, List, [], ◌∷◌, ◌++◌, fold, Bool, true, false, cond, arith, lit≤, refl, sym, ◌∙◌, ap, subst, bit_xor, Option, Some, None, Result, Ok, Err, append_assoc, append-nil}
-use Rattle.std.specs.Prelude.{bytes_eq, is_some, nat_le, ◌||◌}
+use Rattle.std.proofs.Common.{◌≡◌, ℕ, ◌^◌, ◌≤◌, List, [], ◌∷◌, ◌++◌, fold, Bool, true, false, cond, lit≤, refl, sym, ◌∙◌, ap, bit_xor, Option, Some, None, Ok, Err, append_assoc, append-nil}
+use Rattle.std.specs.Prelude.{bytes_eq, is_some, nat_le}
 use Rattle.std.specs.List.{AllByRecursion}
 use Rattle.std.specs.Int.Bits.{xor_assoc, xor_zero_l, xor_zero_r}
 use Rattle.std.proofs.lemmas.Slice.Eq.{bytes_eq-Decides}
 use Rattle.mx_word.specs.declared.symbols.Value.{Value}
-use Rattle.mx_word.specs.declared.waits.Awaited.TheVariants as awaited
 use Rattle.mx_word.specs.declared.waits.Wait.{Wait}
-use Rattle.mx_mmo.specs.Image.{Image}
-use Rattle.mx_mmo.specs.Meaning.{Loading, Meaningless, PagesFull, nothing, value_at, with_globals, take_items, image_in, meaning}
-use Rattle.mx_mmo.specs.declared.items.Item.{Item}
+use Rattle.mx_mmo.specs.Meaning.{PagesFull, nothing, value_at, with_globals, take_items, image_in, meaning}
 use Rattle.mx_mmo.specs.declared.items.Item.TheVariants.{Post, Stab}
 use Rattle.mx_names.specs.Names.{NameTable, complete_form, value_in as symbol_in, value_of_name, first_value, pure_of}
 use Rattle.mx_names.specs.Waiting.{first_of as earliest}
@@ -30,17 +27,16 @@ use Rattle.mx_asm.specs.Image.{octa_in, placements, pages_of, pages_below, page_
 use Rattle.mx_asm.specs.Emission.{opening, first_head, items_from, front, main_of, closing, emission}
 use Rattle.mx_asm.specs.Refusal.{label_fault, statement_fault, first_fault, first_undefined}
 use Rattle.mx_asm.proofs.LabelValues.{HasLabel, encoding-label}
-use Rattle.mx_asm.proofs.OpenWaits.{any_settles, open_waits}
+use Rattle.mx_asm.proofs.OpenWaits.{open_waits}
 use Rattle.mx_asm.proofs.OneStatement.{AreLabels, labels-kept, name-new}
 use Rattle.mx_asm.proofs.OnePassLaw.{no-labels}
 use Rattle.mx_asm.proofs.EndWaits.{wait_refusal, both-none, labels-at-end, first-open}
 use Rattle.mx_asm.proofs.MeaningPages.{same-pages, unless_full}
-use Rattle.mx_asm.proofs.MeaningStates.{State, image_at, stands, count_of, limited, take-append, take-failed, same-numbers}
-use Rattle.mx_asm.proofs.MeaningBytes.{behind_bytes}
+use Rattle.mx_asm.proofs.MeaningStates.{State, image_at, stands, count_of, limited, take-append, same-numbers}
 use Rattle.mx_asm.proofs.MeaningStatements.{behind_fixes, behind_placed}
-use Rattle.mx_asm.proofs.MeaningFronts.{IsSteady, IsFaultless, faultless, behind_sight, after_sights, takes-sights, first_state, first-have, opened}
+use Rattle.mx_asm.proofs.MeaningFronts.{IsSteady, faultless, behind_sight, after_sights, takes-sights, first_state, first-have, opened}
 use Rattle.mx_asm.proofs.MeaningPlaces.{fixed-to, lines-of-sights, pages-of-sights}
-use Rattle.mx_asm.proofs.MeaningSums.{added, added-append, sight_at, symbol-at-end, after-is, fixes-placed, bytes-placed, Settles, unlabelled-settles, named-settles, local-settles}
+use Rattle.mx_asm.proofs.MeaningSums.{added, sight_at, symbol-at-end, after-is, fixes-placed, bytes-placed, Settles, unlabelled-settles, named-settles, local-settles}
 
 -- ---- what a statement settles
 

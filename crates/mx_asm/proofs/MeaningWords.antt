@@ -1,24 +1,22 @@
 -- The values of operands, labels and `@` are octas.
-use Rattle.std.proofs.Common.{◌≡◌, ℕ, zero, suc, ◌+◌, ◌-◌, ◌*◌, ◌/◌, ◌%◌, ◌^◌, ◌<◌, ◌≤◌, List, [], ◌∷◌, ◌++◌, length, replicate, slice_set, slice_index_or, Bool, true, false, cond, arith, refl, sym, ◌∙◌, ap, subst, bit_and, bit_or, bit_xor, nat_le, nat_lt, Option, Some, None, Result, Ok, Err, unwrap_or}
-use Rattle.std.specs.Prelude.{◌==◌, ◌&&◌, bytes_eq}
+use Rattle.std.proofs.Common.{◌≡◌, ℕ, zero, suc, ◌+◌, ◌-◌, ◌*◌, ◌/◌, ◌%◌, ◌^◌, ◌<◌, ◌≤◌, List, [], ◌∷◌, length, replicate, slice_set, slice_index_or, Bool, true, false, cond, arith, refl, sym, subst, bit_and, nat_le, nat_lt, Option, Some, None, Result, Ok, Err}
+use Rattle.std.specs.Prelude.{◌==◌, bytes_eq}
 use Rattle.std.specs.Option.{IfSome}
 use Rattle.std.specs.List.{AllByRecursion, list_all}
 use Rattle.std.proofs.lemmas.Nat.{and_le_l, or_lt, xor_lt, mod_below}
 use Rattle.std.proofs.Math.Nat.{div-le_self, div-lt_iff_lt-mul}
 use Rattle.std.proofs.lemmas.Bool.{eqb-false, leb-false, ltb-true, ltb-false, and_parts}
-use Rattle.std.proofs.lemmas.Bool.Decides.{nat_tests}
 use Rattle.mx_word.specs.declared.symbols.Value.{Value}
 use Rattle.mx_word.specs.declared.symbols.Value.TheVariants.{Pure, Reg}
 use Rattle.mx_word.specs.declared.waits.Wait.{Wait}
 use Rattle.mx_word.specs.Words.{tetra_to_bytes}
-use Rattle.mx_expr.specs.declared.faults.ExprFault.{ExprFault}
 use Rattle.mx_expr.specs.declared.faults.ExprFault.TheVariants.{DivZero, FractionTooBig, RegisterNumber}
 use Rattle.mx_expr.specs.declared.tree.UnOp.{UnOp}
 use Rattle.mx_expr.specs.declared.tree.UnOp.TheVariants.{Plus, Minus, Not, Register}
 use Rattle.mx_expr.specs.declared.tree.BinOp.{BinOp}
 use Rattle.mx_expr.specs.declared.tree.BinOp.TheVariants.{Mul, Div, Fraction, Rem, Left, Right, And, Add, Sub, Or, Xor}
 use Rattle.mx_expr.specs.Tree.{Tree, number, name, back, ahead, here, unary, binary}
-use Rattle.mx_expr.specs.Value.{Valued, register, difference, left_shift, right_shift, unary_value, pure_value, binary_value, after_operand, after_right, after_both, of_symbol, value_of}
+use Rattle.mx_expr.specs.Value.{Valued, register, difference, unary_value, pure_value, binary_value, after_operand, after_both, of_symbol, value_of}
 use Rattle.mx_ops.specs.Predefined.{special_registers, predefined_names, predefined_value}
 use Rattle.mx_ops.specs.Tables.{first_of}
 use Rattle.mx_ops.specs.declared.op.Op.{Op}
@@ -28,7 +26,7 @@ use Rattle.mx_ops.specs.declared.op.Pseudo.TheVariants as pseudo
 use Rattle.mx_ops.specs.declared.op.Shape.TheVariants.{Mem}
 use Rattle.mx_ops.specs.Shapes.{shapes_of}
 use Rattle.mx_names.specs.declared.fault.NameFault.{NameFault}
-use Rattle.mx_names.specs.Names.{start, complete_form, value_in, pure_of, value_of_name, back_of, with_symbol}
+use Rattle.mx_names.specs.Names.{start, complete_form, value_in, pure_of, value_of_name, back_of}
 use Rattle.mx_names.proofs.Entries.{value-defined, not-some}
 use Rattle.mx_stmt.specs.declared.statement.Label.{Label}
 use Rattle.mx_stmt.specs.declared.statement.Label.TheVariants.{Name, Local}
@@ -38,16 +36,15 @@ use Rattle.mx_stmt.specs.declared.placed.Placed.{Placed}
 use Rattle.mx_stmt.specs.declared.faults.StmtFault.TheVariants.{BadPlace}
 use Rattle.mx_stmt.specs.Steps.{Answer, and_then}
 use Rattle.mx_stmt.specs.Gregs.{register_for}
-use Rattle.mx_stmt.specs.Operands.{Known, Targets, no_targets, symbol_form, symbol_value, value_in as symbol_in, knowledge_of, answer_of, operand_value, pure_number, pure_at, register_at}
+use Rattle.mx_stmt.specs.Operands.{Known, Targets, no_targets, symbol_form, value_in as symbol_in, knowledge_of, answer_of, pure_number, pure_at, register_at}
 use Rattle.mx_stmt.specs.Forms.{form, form_by, set_form}
 use Rattle.mx_stmt.specs.Data.{data_form}
-use Rattle.mx_stmt.specs.Encoding.{StatementTree, alignment, place_at, known_at_place, without_bytes, label_value, with_bytes, tetra_data, tetra_waits, prefix_form, complete_symbol, one_form, one_operand, pseudo_form, op_form, encoding}
+use Rattle.mx_stmt.specs.Encoding.{StatementTree, alignment, known_at_place, without_bytes, label_value, with_bytes, tetra_data, tetra_waits, prefix_form, complete_symbol, one_form, one_operand, pseudo_form, op_form, encoding}
 use Rattle.mx_asm.specs.Effects.{IfPlaced}
-use Rattle.mx_asm.specs.TwoPass.{with_label, with_effect, known_with, known_after, known_behind}
+use Rattle.mx_asm.specs.TwoPass.{with_label, with_effect, known_with, known_after}
 use Rattle.mx_asm.specs.Fixes.{awaited_value}
 use Rattle.mx_asm.specs.Refusal.{label_fault}
 use Rattle.mx_asm.specs.Statements.{HasOctas, IsStatement}
-use Rattle.mx_asm.proofs.LabelValues.{HasLabel}
 use Rattle.mx_asm.proofs.OneStatement.{name-new}
 use Rattle.mx_asm.proofs.MeaningStatements.{IsWord}
 

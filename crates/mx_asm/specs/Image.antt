@@ -1,5 +1,5 @@
 -- The image of a source: memory, pages, lines and global registers; and its symbols.
-use Rattle.std.specs.Prelude.{ℕ, zero, suc, ◌+◌, ◌-◌, ◌*◌, ◌/◌, ◌^◌, ◌==◌, ◌&&◌, Bool, nat_le, if◌then◌else◌, bit_xor, List, [], ◌∷◌, ◌++◌, fold}
+use Rattle.std.specs.Prelude.{ℕ, zero, suc, ◌+◌, ◌-◌, ◌*◌, ◌/◌, ◌^◌, ◌==◌, ◌&&◌, Bool, nat_le, if◌then◌else◌, List, [], ◌∷◌, ◌++◌, fold}
 use Rattle.std.specs.List.{list_any}
 use Rattle.mx_word.specs.Words.{octa_from_bytes}
 use Rattle.mx_word.specs.declared.symbols.Symbol.{Symbol}

@@ -9,6 +9,6 @@ pub mod Image
 pub mod OnePass
 pub mod Whole
 pub mod Effects
-pub mod Fitting
 pub mod Statements
 pub mod Pages
+pub mod Fitting

@@ -1,5 +1,5 @@
 -- What holds of each statement that was read from a source.
-use Rattle.std.specs.Prelude.{ℕ, ◌<◌, ◌^◌}
+use Rattle.std.specs.Prelude.{◌<◌, ◌^◌}
 use Rattle.std.specs.List.{AllByRecursion}
 use Rattle.mx_expr.specs.Tree.{Tree, number, name, back, ahead, here, unary, binary}
 use Rattle.mx_stmt.specs.Encoding.{StatementTree}

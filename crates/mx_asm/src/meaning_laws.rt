@@ -34,10 +34,13 @@ pub fn lines_are_loaded_where_there_is_room()
 {}
 
 /// What a source that is not refused is assembled into means its image, unless that has too many
-/// pages; one that is not refused when it is run means its image.
+/// pages; one that is not refused when it is run means its image. What any source gives is loaded
+/// unless its accepted statements touch too many pages.
 pub fn sources_mean_their_images()
     ensures image { (source : List ℕ) → AreBytes source → refusal source ≡ None →
         meaning (assembled_source source).0 ≡ loaded_image (statements_in (source_entries source)) }
     ensures run { (source : List ℕ) → AreBytes source → run_refusal source ≡ None →
         meaning (assembled_source source).0 ≡ Ok (image (statements_in (source_entries source))) }
+    ensures fault { (source : List ℕ) → AreBytes source →
+        result_err (take_items (assembled_source source).0 (Ok nothing)) ≡ page_fault (accepted_in (source_entries source)) }
 {}

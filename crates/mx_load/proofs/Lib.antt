@@ -2,3 +2,4 @@ pub mod Apart
 pub mod Loading
 pub mod Tails
 pub mod Taken
+pub mod InTurn

@@ -1,6 +1,6 @@
 //! What holds of loaded objects, apart from how they are loaded.
 
-ghost use Rattle.std.specs.Prelude.{◌≡◌, ◌<◌, ◌≤◌, List, ℕ, length, Ok, Err};
+ghost use Rattle.std.specs.Prelude.{◌≡◌, ◌<◌, ◌≤◌, ◌++◌, ◌∷◌, [], List, ℕ, length, Ok, Err};
 ghost use Rattle.mx_word.specs.declared.symbols.Symbol.{Symbol};
 ghost use Rattle.mx_mmo.specs.Image.{Image};
 ghost use Rattle.mx_mmo.specs.Meaning.{Loading, Meaningless, meaning, nothing, take_items};
@@ -10,7 +10,9 @@ ghost use Rattle.mx_mmo.specs.declared.items.Object.{Object};
 ghost use Rattle.mx_mmo.specs.declared.faults.MmoFault.{MmoFault};
 ghost use Rattle.mx_mmo.specs.declared.due.Phase.{Phase};
 ghost use Rattle.mx_stab.specs.Reading.{trie_answer};
-ghost use Rattle.mx_load.specs.Faults.{fault_of, number_of};
+ghost use Rattle.mx_mmo.specs.declared.items.Item.{Item};
+ghost use Rattle.mx_load.specs.Faults.{fault_of, number_of, told};
+ghost use Rattle.mx_load.specs.Standing.{after, image_in};
 ghost use Rattle.mx_load.specs.Objects.{MeansNothing, fault_at, object_loaded, trie_read, with_symbols};
 
 /// What is loaded of the bytes of an object, by reading, meaning and trie apart: an object whose items
@@ -34,4 +36,12 @@ pub fn objects_are_loaded_as_they_mean()
     ensures loading { (bytes : List ℕ) (e : Meaningless) → length bytes ≤ limit →
         take_items (items_of Phase.Start 0 bytes).0 (Ok nothing) ≡ Err e →
         (place : ℕ) × MeansNothing bytes place e × (object_loaded bytes ≡ Err (place, number_of (fault_of e))) }
+{}
+
+/// Items are loaded one after another: what stands after a list of items and one more is what this
+/// item makes of what stood after the list, and the image in it at the end is what the items mean.
+pub fn items_are_loaded_in_turn()
+    ensures next { (front : List Item) (item : Item) → told (take_items (front ++ item ∷ []) (Ok nothing)) ≡
+        after (told (take_items front (Ok nothing))) item }
+    ensures image { (items : List Item) → image_in (told (take_items items (Ok nothing))) ≡ told (meaning items) }
 {}

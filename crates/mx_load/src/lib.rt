@@ -17,7 +17,7 @@ mod whole;
 
 pub use fault::LoadFault;
 pub use image::Image;
-pub use laws::objects_are_loaded_as_they_mean;
+pub use laws::{items_are_loaded_in_turn, objects_are_loaded_as_they_mean};
 pub use loader::Loader;
 pub use objects::{ObjectFault, load_object};
 pub use whole::load;
