@@ -7,7 +7,8 @@
 - The numbers and names of docs/MESSAGES.md are those of the program's table.
 - The blocks marked `console` on every page are run on the program, if it is built and no source is newer: a line that
   begins with "$ " is a command, and the lines after it are what it prints. Where a block has a console session whose
-  input is no file, what stands behind each prompt is typed. Nothing is built here.
+  input is no file, what stands behind each prompt is typed. A block marked `mms NAME` is a file that the reader has
+  saved under that name. Nothing is built here.
 - The examples of docs/MESSAGES.md, the code in the last but one column, give the number and name of their row: words of a
   command line, a source of one line, or an object in hexadecimal tetras.
 """
@@ -167,11 +168,14 @@ def is_fresh():
     return all(os.path.getmtime(it) <= made for it in glob.glob("crates/*/src/**/*.rt", recursive=True))
 
 
-def with_room(call):
-    """The answer of a call in a new folder with the program and the examples."""
+def with_room(call, saved=None):
+    """The answer of a call in a new folder with the program, the examples and the files that were saved."""
     with tempfile.TemporaryDirectory() as room:
         shutil.copytree("examples", f"{room}/examples")
         os.symlink(os.path.realpath(PROGRAM), f"{room}/mmixware")
+        for name, text in (saved or {}).items():
+            with open(f"{room}/{name}", "w", encoding="utf-8") as file:
+                file.write(text)
         return call(room)
 
 
@@ -180,23 +184,27 @@ def trimmed(text):
     return "\n".join(line.rstrip() for line in text.rstrip("\n").split("\n"))
 
 
-def session(block):
+def session(block, saved):
     """What a block shows of the program's output, and what it prints now."""
     commands, typed, shown = re.findall(r"^\$ (.*)$", block, re.M), "", block
     if is_typed(commands):
         prompt = re.compile(r"^mmix>(?: (.*))?\n", re.M)
         typed = "".join(f"{line}\n" for line in prompt.findall(block))
         shown = prompt.sub(PROMPT, block)
-    return shown, with_room(lambda room: printed(commands, typed, room))
+    return shown, with_room(lambda room: printed(commands, typed, room), saved)
 
 
 def check_sessions():
     every = ""
     for page in pages():
-        for block in re.findall(r"^```console\n(.*?)^```", text_of(page), re.M | re.S):
+        saved = {}
+        for kind, block in re.findall(r"^```(console|mms \S+)\n(.*?)^```", text_of(page), re.M | re.S):
+            if kind != "console":
+                saved[kind.split()[1]] = block
+                continue
             every += block
             if is_fresh():
-                shown, got = session(block)
+                shown, got = session(block, saved)
                 if trimmed(got) != trimmed(shown):
                     wrong(page, f"a session prints\n{got}and the page has\n{shown}")
     for source in sorted(glob.glob("examples/*.mm[so]") + glob.glob("examples/*.txt")):
