@@ -9,8 +9,8 @@
   begins with "$ " is a command, and the lines after it are what it prints. Where a block has a console session whose
   input is no file, what stands behind each prompt is typed. A block marked `mms NAME` is a file that the reader has
   saved under that name. Nothing is built here.
-- The examples of docs/MESSAGES.md, the code in the last but one column, give the number and name of their row: words of a
-  command line, a source of one line, or an object in hexadecimal tetras.
+- The examples of docs/MESSAGES.md give the number and name of their row: words of a command line, a source of one line, or
+  an object in hexadecimal tetras.
 """
 import glob
 import os
@@ -216,7 +216,7 @@ def answered(example, room):
     """What the program says of an example: words of a command line, a source of one line, or tetras of an object."""
     if example.startswith("mmixware"):
         words = shlex.split(example)[1:]
-    elif re.fullmatch(r"[0-9a-f ]+", example):
+    elif re.fullmatch(r"[0-9a-f]{8}( [0-9a-f]{2,8})*", example):
         words = ["sim", "example.mmo"]
         with open(f"{room}/example.mmo", "wb") as file:
             file.write(bytes.fromhex(example))
@@ -229,15 +229,16 @@ def answered(example, room):
 
 
 def check_examples_of_messages():
+    """In a row of five cells, number, name, meaning, example and cure, an example in backquotes gives the row's fault."""
     if not is_fresh():
         return
     for where, line in lines_of("docs/MESSAGES.md"):
-        row = re.match(r"\| (\d+ \w+|\d+ \| \w+) \|.*\| `([^`]+)`[^|`]*\|[^|`]*\|$", line.replace(r"\|", "\0"))
-        if row:
-            example = row[2].replace("\0", "|")
-            got = with_room(lambda room: answered(example, room))
-            if row[1].replace(" | ", " ") not in got:
-                wrong(where, f"the example `{example}` gives {got.strip() or 'no message'}")
+        cells = [it.replace("\\|", "|") for it in re.findall(r" ((?:[^|\\]|\\.)*) \|", line)]
+        example = re.fullmatch(r"`(.+)`", cells[3]) if len(cells) == 5 else None
+        if example:
+            got = with_room(lambda room: answered(example[1], room))
+            if not re.search(rf"\b{cells[0]} {cells[1]}\b", got):
+                wrong(where, f"the example `{example[1]}` gives {got.strip() or 'no message'}")
 
 
 def main():
