@@ -229,16 +229,19 @@ def answered(example, room):
 
 
 def check_examples_of_messages():
-    """In a row of five cells, number, name, meaning, example and cure, an example in backquotes gives the row's fault."""
+    """In a row of five cells an example in backquotes, the fourth, gives the message of the row: its number and name, or
+    its line, where that has no word of capitals, which stands for others."""
     if not is_fresh():
         return
     for where, line in lines_of("docs/MESSAGES.md"):
         cells = [it.replace("\\|", "|") for it in re.findall(r" ((?:[^|\\]|\\.)*) \|", line)]
-        example = re.fullmatch(r"`(.+)`", cells[3]) if len(cells) == 5 else None
-        if example:
-            got = with_room(lambda room: answered(example[1], room))
-            if not re.search(rf"\b{cells[0]} {cells[1]}\b", got):
-                wrong(where, f"the example `{example[1]}` gives {got.strip() or 'no message'}")
+        if len(cells) != 5 or not re.fullmatch("`.+`", cells[3]):
+            continue
+        message = " ".join(cells[:2]) if cells[0].isdigit() else cells[0].strip("`")
+        if not re.search(r"\b[A-Z]+\b", message):
+            got = with_room(lambda room: answered(cells[3][1:-1], room))
+            if not re.search(rf"\b{message}\b", got):
+                wrong(where, f"the example {cells[3]} gives {got.strip() or 'no message'}")
 
 
 def main():
