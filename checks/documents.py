@@ -5,12 +5,17 @@
 - Names in backquotes are there: crates `mx_..`, paths, the modules that docs/ARCHITECTURE.md names, and the files,
   clauses and definitions of docs/PROVED.md. In a path a word of capitals, as NAME, or a * stands for any word.
 - The numbers and names of docs/MESSAGES.md are those of the program's table.
-- The blocks marked `console` in README.md and examples/README.md are run on the program, if it is built and no source is
-  newer: a line that begins with "$ " is a command, and the lines after it are what it prints. Nothing is built here.
+- The blocks marked `console` on every page are run on the program, if it is built and no source is newer: a line that
+  begins with "$ " is a command, and the lines after it are what it prints. Where a block has a console session whose
+  input is no file, what stands behind each prompt is typed. A block marked `mms NAME` is a file that the reader has
+  saved under that name. Nothing is built here.
+- The examples of docs/MESSAGES.md give the number and name of their row: words of a command line, a source of one line, or
+  an object in hexadecimal tetras.
 """
 import glob
 import os
 import re
+import shlex
 import shutil
 import subprocess
 import sys
@@ -18,7 +23,7 @@ import tempfile
 
 TOP = os.path.dirname(os.path.dirname(os.path.realpath(__file__)))
 PROGRAM = "crates/mmixware/out/mmixware"
-SESSIONS = ("README.md", "examples/README.md")
+PROMPT = "mmix> "
 wrongs = []
 
 
@@ -144,10 +149,15 @@ def check_crates():
                     wrong("docs/PROVED.md", f"{name} of {crate} is not among the claims")
 
 
-def printed(commands, room):
-    """What a shell prints for commands, each with its line before it."""
-    script = "".join(f"status=$?; printf '%s\\n' '$ {it}'; (exit $status)\n{it}\n" for it in commands)
-    how = {"cwd": room, "stdin": subprocess.DEVNULL, "stdout": subprocess.PIPE, "stderr": subprocess.STDOUT, "timeout": 60}
+def is_typed(commands):
+    """Whether a console session among the commands takes its lines from the keyboard."""
+    return any(" -i " in it and " <" not in it and "|" not in it for it in commands)
+
+
+def printed(commands, typed, room):
+    """What a shell prints for commands, each with its line before it, where these lines are typed."""
+    script = "".join(f"status=$?; printf '%s\\n' {shlex.quote('$ ' + it)}; (exit $status)\n{it}\n" for it in commands)
+    how = {"cwd": room, "input": typed.encode(), "stdout": subprocess.PIPE, "stderr": subprocess.STDOUT, "timeout": 120}
     return subprocess.run(["sh", "-c", script], **how).stdout.decode(errors="replace")
 
 
@@ -158,29 +168,86 @@ def is_fresh():
     return all(os.path.getmtime(it) <= made for it in glob.glob("crates/*/src/**/*.rt", recursive=True))
 
 
+def with_room(call, saved=None):
+    """The answer of a call in a new folder with the program, the examples and the files that were saved."""
+    with tempfile.TemporaryDirectory() as room:
+        shutil.copytree("examples", f"{room}/examples")
+        os.symlink(os.path.realpath(PROGRAM), f"{room}/mmixware")
+        for name, text in (saved or {}).items():
+            with open(f"{room}/{name}", "w", encoding="utf-8") as file:
+                file.write(text)
+        return call(room)
+
+
+def trimmed(text):
+    """A text whose lines have no blanks at their ends."""
+    return "\n".join(line.rstrip() for line in text.rstrip("\n").split("\n"))
+
+
+def session(block, saved):
+    """What a block shows of the program's output, and what it prints now."""
+    commands, typed, shown = re.findall(r"^\$ (.*)$", block, re.M), "", block
+    if is_typed(commands):
+        prompt = re.compile(r"^mmix>(?: (.*))?\n", re.M)
+        typed = "".join(f"{line}\n" for line in prompt.findall(block))
+        shown = prompt.sub(PROMPT, block)
+    return shown, with_room(lambda room: printed(commands, typed, room), saved)
+
+
 def check_sessions():
-    shown = ""
-    for page in SESSIONS:
-        for block in re.findall(r"^```console\n(.*?)^```", text_of(page), re.M | re.S):
-            shown += block
-            commands = re.findall(r"^\$ (.*)$", block, re.M)
-            if any("'" in it for it in commands):
-                wrong(page, "a command of a console block has an apostrophe, which this check cannot run")
-            elif is_fresh():
-                with tempfile.TemporaryDirectory() as room:
-                    shutil.copytree("examples", f"{room}/examples")
-                    os.symlink(os.path.realpath(PROGRAM), f"{room}/mmixware")
-                    got = printed(commands, room)
-                if got != block:
-                    wrong(page, f"a session prints\n{got}and the page has\n{block}")
-    for source in sorted(glob.glob("examples/*.mm[so]")):
-        if f" {source}" not in shown:
-            wrong("examples/README.md", f"no session runs {source}")
+    every = ""
+    for page in pages():
+        saved = {}
+        for kind, block in re.findall(r"^```(console|mms \S+)\n(.*?)^```", text_of(page), re.M | re.S):
+            if kind != "console":
+                saved[kind.split()[1]] = block
+                continue
+            every += block
+            if is_fresh():
+                shown, got = session(block, saved)
+                if trimmed(got) != trimmed(shown):
+                    wrong(page, f"a session prints\n{got}and the page has\n{shown}")
+    for source in sorted(glob.glob("examples/*.mm[so]") + glob.glob("examples/*.txt")):
+        if source not in every:
+            wrong("examples/README.md", f"no session uses {source}")
+
+
+def answered(example, room):
+    """What the program says of an example: words of a command line, a source of one line, or tetras of an object."""
+    if example.startswith("mmixware"):
+        words = shlex.split(example)[1:]
+    elif re.fullmatch(r"[0-9a-f]{8}( [0-9a-f]{2,8})*", example):
+        words = ["sim", "example.mmo"]
+        with open(f"{room}/example.mmo", "wb") as file:
+            file.write(bytes.fromhex(example))
+    else:
+        words = ["run", "example.mms"]
+        with open(f"{room}/example.mms", "w", encoding="utf-8") as file:
+            file.write(example + "\n")
+    how = {"cwd": room, "stdin": subprocess.DEVNULL, "capture_output": True, "timeout": 60}
+    return subprocess.run(["./mmixware", *words], **how).stderr.decode(errors="replace")
+
+
+def check_examples_of_messages():
+    """In a row of five cells an example in backquotes, the fourth, gives the message of the row: its number and name, or
+    its line, where that has no word of capitals, which stands for others."""
+    if not is_fresh():
+        return
+    for where, line in lines_of("docs/MESSAGES.md"):
+        cells = [it.replace("\\|", "|") for it in re.findall(r" ((?:[^|\\]|\\.)*) \|", line)]
+        if len(cells) != 5 or not re.fullmatch("`.+`", cells[3]):
+            continue
+        message = " ".join(cells[:2]) if cells[0].isdigit() else cells[0].strip("`")
+        if not re.search(r"\b[A-Z]+\b", message):
+            got = with_room(lambda room: answered(cells[3][1:-1], room))
+            if not re.search(rf"\b{message}\b", got):
+                wrong(where, f"the example {cells[3]} gives {got.strip() or 'no message'}")
 
 
 def main():
     os.chdir(TOP)
-    for check in (check_links_and_paths, check_architecture, check_claims, check_messages, check_crates, check_sessions):
+    for check in (check_links_and_paths, check_architecture, check_claims, check_messages, check_crates, check_sessions,
+                  check_examples_of_messages):
         check()
     for it in wrongs:
         print(f"checks/documents.py: {it}", file=sys.stderr)

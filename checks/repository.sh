@@ -27,6 +27,12 @@ for file in $(find crates -name out -prune -o \( -name '*.rt' -o -name '*.antt' 
   [ "$(wc -l <"$file")" -le 500 ] || wrong "$file has more than 500 lines"
 done
 
+# the manual page is in order
+if command -v groff >/dev/null; then
+  said=$(groff -man -Tutf8 -ww -z docs/mmixware.1 2>&1)
+  [ -z "$said" ] || wrong "docs/mmixware.1: $said"
+fi
+
 # what the documents say is so
 if command -v python3 >/dev/null; then
   python3 checks/documents.py || bad=1

@@ -1,5 +1,6 @@
- LOC #100
-Text BYTE 104,105,10,0
-Main GETA $255,Text2
- TRAP 0,7,1
- TRAP 0,0,0
+* refused.mms: has two faults, and is refused at the first one.
+        LOC   #100
+Main    SET   $0,1000
+        ADD   $0,$0,1000        a number behind a register has to fit one byte
+        SUBTRACT $0,$0,1        there is no such operation
+        TRAP  0,Halt,0
