@@ -102,7 +102,7 @@ def defines(crate, module, name):
 
 def promises(path, call, clause):
     for body in re.split(r"\bfn ", text_of(path))[1:]:
-        if re.match(rf"{call}\b", body) and re.search(rf"ensures {clause + ' ' if clause else ''}{{", body):
+        if re.match(rf"{call}\b", body) and re.search(rf"ensures\*? {clause + ' ' if clause else ''}{{", body):
             return True
     return False
 
