@@ -3,14 +3,7 @@
 ghost use Rattle.std.specs.Prelude.{◌≡◌};
 ghost use Rattle.mx_top.specs.Status.{status_of};
 
-/// Why the words of the command line are no order.
-#[derive(Clone, Copy, Debug, PartialEq, Eq)]
-pub struct WordsFault {
-    /// The kind, whose name `usage_name` gives.
-    pub kind: u16,
-    /// The place of the word, from 0, or the number of words where one is missing.
-    pub word: usize,
-}
+use mx_words::WordsFault;
 
 /// What a run of the program comes to.
 #[derive(Clone, Copy, Debug, PartialEq, Eq)]
