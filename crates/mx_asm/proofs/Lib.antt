@@ -12,3 +12,6 @@ pub mod OneStatement
 pub mod Entries
 pub mod LinesTaken
 pub mod OnePassLaw
+pub mod EndWaits
+pub mod EndLaw
+pub mod InTurn

@@ -76,7 +76,7 @@ all-listed lines = are-listed lines [] lines refl
 
 -- ---- the law
 
-no-labels : AreLabels nothing_known.names []
+pub no-labels : AreLabels nothing_known.names []
 no-labels full = refl
 
 -- what lines come to

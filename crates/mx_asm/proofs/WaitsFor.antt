@@ -63,7 +63,7 @@ module _ (full : List ℕ) where
 
 -- ---- a local label
 
-local-is : (names : NameTable) (d : ℕ) (label : Option Label) → settled_by names label (awaited.Local d) ≡ is_local d label
+pub local-is : (names : NameTable) (d : ℕ) (label : Option Label) → settled_by names label (awaited.Local d) ≡ is_local d label
 local-is names d None = refl
 local-is names d (Some (Name text)) = refl
 local-is names d (Some (Local e)) = refl

@@ -1,5 +1,7 @@
 -- What the lines of a source come to: the items of the statements before the first refusal, and the refusal.
-use Rattle.std.specs.Prelude.{ℕ, List, [], ◌∷◌, ◌++◌, fold, Option, None, Some, Ok, Err}
+use Rattle.std.specs.Prelude.{◌≡◌, ℕ, List, [], ◌∷◌, ◌++◌, fold, Option, None, Some, Ok, Err}
+use Rattle.std.specs.Result.{result_err}
+use Rattle.mx_line.specs.Lines.{lines_of}
 use Rattle.mx_line.specs.Source.{items_from as line_items}
 use Rattle.mx_mmo.specs.declared.items.Item.{Item}
 use Rattle.mx_stmt.specs.Encoding.{StatementTree}
@@ -8,7 +10,7 @@ use Rattle.mx_asm.specs.Entries.{Entry, entries_of, statements_in}
 use Rattle.mx_asm.specs.TwoPass.{Sight, sights_of, final_known}
 use Rattle.mx_asm.specs.Emission.{opening, first_head, items_from, closing, padded_trie}
 use Rattle.mx_asm.specs.Refusal.{statement_fault, entries_refusal, end_refusal, last_line, first_of}
-use Rattle.mx_asm.specs.OnePass.{Progress, Ended, beginning, line_behind, end_behind}
+use Rattle.mx_asm.specs.OnePass.{Standing, Progress, Ended, beginning, line_behind, end_behind}
 
 abbrev pub Line : Type 0
 Line = List ℕ
@@ -39,6 +41,10 @@ behind_opening (line ∷ lines) items = opening ++ items
 abbrev pub lines_items : List Line → List Item
 lines_items lines = behind_opening lines (entries_items (lines_entries lines))
 
+-- the refusal of lines, as long as more lines may follow
+abbrev pub lines_refusal : List Line → Option Refused
+lines_refusal lines = entries_refusal (lines_entries lines)
+
 -- the refusal of lines, or the object and the trie that they are assembled into
 abbrev pub assembled_with : List StatementTree → List Item → Option Refused → Ended
 assembled_with statements items (Some refused) = (opening ++ items, Err refused)
@@ -53,6 +59,10 @@ assembled_entries last entries =
 abbrev pub assembled_lines : List Line → Ended
 assembled_lines lines = assembled_entries (last_line lines) (lines_entries lines)
 
+-- what a source is assembled into, or its refusal behind the items of the statements before it
+abbrev pub assembled_source : List ℕ → Ended
+assembled_source source = assembled_lines (lines_of source)
+
 -- ---- the same in one pass
 
 abbrev pub line_after : Progress → Line → Progress
@@ -64,3 +74,10 @@ lines_taken lines = fold line_after ([], Ok beginning) lines
 
 abbrev pub one_pass : List Line → Ended
 one_pass lines = end_behind (lines_taken lines).0 (lines_taken lines).1
+
+-- What stands once an assembler has taken these lines, one after another: it has added the items that they give, and it is
+-- refused as they are.
+pub record HasTaken (lines : List Line) (out : List Item) (a : Standing) : Type 0 where
+  pub taken : (out, a) ≡ lines_taken lines
+  pub items : out ≡ lines_items lines
+  pub refusal : result_err a ≡ lines_refusal lines

@@ -1,9 +1,15 @@
 //! What holds of sources over lists alone.
 
-ghost use Rattle.std.specs.Prelude.{◌≡◌, ℕ, List};
+ghost use Rattle.std.specs.Prelude.{◌≡◌, ℕ, List, [], ◌∷◌, ◌++◌, None, Some, Ok, Err};
 ghost use Rattle.std.specs.Result.{result_err};
-ghost use Rattle.mx_asm.specs.Refusal.{entries_refusal};
-ghost use Rattle.mx_asm.specs.Whole.{lines_entries, lines_items, lines_taken};
+ghost use Rattle.mx_mmo.specs.declared.items.Item.{Item};
+ghost use Rattle.mx_asm.specs.Emission.{emission, opening, padded_trie};
+ghost use Rattle.mx_asm.specs.Entries.{source_entries, statements_in};
+ghost use Rattle.mx_asm.specs.OnePass.{Standing, beginning, end_behind, line_behind};
+ghost use Rattle.mx_asm.specs.Refusal.{refusal};
+ghost use Rattle.mx_asm.specs.TwoPass.{final_known};
+ghost use Rattle.mx_asm.specs.Whole.{HasTaken, assembled_lines, assembled_source, entries_items, lines_items, lines_refusal, lines_taken, one_pass};
+ghost use Rattle.mx_asm.specs.declared.refused.Refused.{Refused};
 
 /// Once lines were taken one after another, the items that they gave are those of the two passes: of
 /// all statements before the first refusal, each with zero for its references, and with a record
@@ -11,5 +17,31 @@ ghost use Rattle.mx_asm.specs.Whole.{lines_entries, lines_items, lines_taken};
 #[tactic(auto, using(crate::proofs::OnePassLaw::one_pass_laws))]
 pub fn lines_give_the_front()
     ensures items { (lines : List (List ℕ)) → (lines_taken lines).0 ≡ lines_items lines }
-    ensures refusal { (lines : List (List ℕ)) → result_err (lines_taken lines).1 ≡ entries_refusal (lines_entries lines) }
+    ensures refusal { (lines : List (List ℕ)) → result_err (lines_taken lines).1 ≡ lines_refusal lines }
+{}
+
+/// The lines of a source, taken one after another and then ended, give what the two passes give: all
+/// items of the object and its symbol trie, or the items of the statements before the first refusal,
+/// and that refusal.
+pub fn one_pass_gives_the_whole()
+    ensures { (lines : List (List ℕ)) → one_pass lines ≡ assembled_lines lines }
+{}
+
+/// Before the first line nothing was taken. A line more is taken behind those before it, and the end
+/// gives what the two passes give of all lines.
+pub fn lines_are_taken_in_turn()
+    ensures none { HasTaken [] [] (Ok beginning) }
+    ensures line { (lines : List (List ℕ)) (text : List ℕ) (out : List Item) (a : Standing) → HasTaken lines out a →
+        HasTaken (lines ++ text ∷ []) (line_behind out a text).0 (line_behind out a text).1 }
+    ensures end { (lines : List (List ℕ)) (out : List Item) (a : Standing) → HasTaken lines out a →
+        end_behind out a ≡ assembled_lines lines }
+{}
+
+/// A source that is not refused is assembled into what its statements emit, and their symbol trie.
+/// One that is refused gives the items of the statements before its refusal, and the refusal.
+pub fn sources_are_emitted_or_refused()
+    ensures emitted { (source : List ℕ) → refusal source ≡ None → assembled_source source ≡
+        (emission (statements_in (source_entries source)), Ok (padded_trie (final_known (statements_in (source_entries source))).names)) }
+    ensures refused { (source : List ℕ) (r : Refused) → refusal source ≡ Some r →
+        assembled_source source ≡ (opening ++ entries_items (source_entries source), Err r) }
 {}

@@ -16,5 +16,8 @@ mod tests;
 
 pub use assembler::Assembler;
 pub use faults::AsmFault;
-pub use laws::lines_give_the_front;
+pub use laws::{
+    lines_are_taken_in_turn, lines_give_the_front, one_pass_gives_the_whole,
+    sources_are_emitted_or_refused,
+};
 pub use refused::Refused;

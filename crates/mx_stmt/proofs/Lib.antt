@@ -13,3 +13,4 @@ pub mod JoinedData
 pub mod JoinedStatements
 pub mod SoundLabels
 pub mod SoundKnowledge
+pub mod AwaitedNames

@@ -1,8 +1,11 @@
 //! What holds of the definitions alone.
 
 ghost use Rattle.std.specs.Prelude.{◌≡◌, ◌≤◌, ℕ, List, [], length, slice_set, Some, None, Ok, IfSome};
-ghost use Rattle.mx_names.specs.Names.{start, value_in, with_symbol};
+ghost use Rattle.std.specs.List.{AllByRecursion};
+ghost use Rattle.mx_names.specs.Names.{start, value_in, value_of_name, with_symbol};
 ghost use Rattle.mx_word.specs.declared.symbols.Value.{Value};
+ghost use Rattle.mx_word.specs.declared.waits.Awaited.TheVariants as awaited;
+ghost use Rattle.mx_word.specs.declared.waits.Wait.{Wait};
 ghost use Rattle.mx_stmt.specs.declared.gregs.Base.{Base};
 ghost use Rattle.mx_stmt.specs.declared.placed.Placed.{Placed};
 ghost use Rattle.mx_stmt.specs.Encoding.{StatementTree, IsPossible, encoding};
@@ -49,4 +52,10 @@ pub fn knowledge_stays_sound()
         IsSound (record k { names = record k.names { backs = slice_set k.names.backs d v } }) }
     ensures register { (k : Known) (reg value : ℕ) → IsAllocable k.gregs reg → IsSound k →
         IsSound (record k { gregs = with_greg k.gregs reg value }) }
+{}
+
+/// A statement waits only for local labels, and for names that have no value at it.
+pub fn awaited_names_are_unknown()
+    ensures { (t : Targets) (k : Known) (s : StatementTree) (p : Placed) → encoding t k s ≡ Ok p →
+        AllByRecursion (λ (w : Wait). (full : List ℕ) → w.who ≡ awaited.Name full → value_of_name k.names full ≡ None) p.waits }
 {}

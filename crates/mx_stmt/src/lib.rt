@@ -23,8 +23,8 @@ pub use env::Env;
 pub use faults::StmtFault;
 pub use gregs::Gregs;
 pub use laws::{
-    knowledge_stays_sound, nearest_base_is_least, operations_have_names, registers_are_bytes,
-    targets_join_their_bytes,
+    awaited_names_are_unknown, knowledge_stays_sound, nearest_base_is_least, operations_have_names,
+    registers_are_bytes, targets_join_their_bytes,
 };
 pub use placed::{Effect, Placed};
 pub use reader::read_statement;

@@ -1,0 +1,156 @@
+-- The end of a source in one pass is that of the two passes.
+use Rattle.std.proofs.Common.{◌≡◌, ℕ, zero, suc, ◌+◌, ◌/◌, Bool, true, false, cond, nat_lt, nat_le, max, List, [], ◌∷◌, ◌++◌, fold, length, Option, None, Some, Result, Ok, Err, refl, ap, sym, ◌∙◌, arith}
+use Rattle.std.specs.Prelude.{◌||◌}
+use Rattle.std.specs.List.{list_any}
+use Rattle.std.proofs.lemmas.List.Folds.{list_any-append}
+use Rattle.std.proofs.lemmas.Bool.Decides.{nat_tests}
+use Rattle.mx_word.specs.declared.symbols.Value.{Value}
+use Rattle.mx_word.specs.declared.symbols.Value.TheVariants.{Pure, Reg}
+use Rattle.mx_word.specs.declared.waits.Wait.{Wait}
+use Rattle.mx_line.specs.Source.{items_from as line_items}
+use Rattle.mx_mmo.specs.declared.items.Item.{Item}
+use Rattle.mx_names.specs.Names.{value_of_name}
+use Rattle.mx_names.specs.Waiting.{first_of as earliest}
+use Rattle.mx_stmt.specs.declared.placed.Effect.{Effect}
+use Rattle.mx_stmt.specs.declared.placed.Effect.TheVariants as effect
+use Rattle.mx_stmt.specs.declared.placed.Placed.{Placed}
+use Rattle.mx_stmt.specs.Steps.{Answer}
+use Rattle.mx_stmt.specs.Gregs.{lowest_of}
+use Rattle.mx_stmt.specs.Operands.{Known}
+use Rattle.mx_stmt.specs.Encoding.{StatementTree}
+use Rattle.mx_asm.specs.declared.faults.AsmFault.{AsmFault}
+use Rattle.mx_asm.specs.declared.faults.AsmFault.TheVariants.{MainUndefined, MainRegister, SymbolsTooMany, LocalAboveGlobals}
+use Rattle.mx_asm.specs.declared.refused.Refused.{Refused}
+use Rattle.mx_asm.specs.declared.head.Head.{Head}
+use Rattle.mx_asm.specs.Faults.{refused}
+use Rattle.mx_asm.specs.Entries.{statements_in, refusal_in}
+use Rattle.mx_asm.specs.TwoPass.{Sight, outline, nothing_known, sights_from, sights_of, known_after, final_known}
+use Rattle.mx_asm.specs.Emission.{opening, first_head, items_from, closing, main_name, padded_trie}
+use Rattle.mx_asm.specs.Refusal.{first_of, first_fault, first_undefined, undefined, local_in, local_of, locals, trie_limit, last_fault, end_fault, last_line, at_line, end_refusal}
+use Rattle.mx_asm.specs.OnePass.{end_fault as one_pass_fault, Assembly, Ended, beginning, last_number, main_fault, ended_trie, ended_main, ended_waits, end_behind, with_local}
+use Rattle.mx_asm.specs.Whole.{Line, accepted, lines_entries, entries_items, assembled_with, assembled_lines, one_pass}
+use Rattle.mx_asm.proofs.Filters.{or-false, or_assoc}
+use Rattle.mx_asm.proofs.OpenWaits.{open_waits}
+use Rattle.mx_asm.proofs.WaitingNames.{with_waiting}
+use Rattle.mx_asm.proofs.OneStatement.{standing_at, AreLabels, sight_local}
+use Rattle.mx_asm.proofs.Entries.{head_from, locals_from, outcome}
+use Rattle.mx_asm.proofs.LinesTaken.{counting, counted_progress, lines_behind, size_behind}
+use Rattle.mx_asm.proofs.OnePassLaw.{no-labels, lines_outcome, some-lines}
+use Rattle.mx_asm.proofs.EndWaits.{wait_refusal, both-none, labels-at-end, first-open}
+
+-- ---- the registers of LOCAL
+
+none-below : (n : ℕ) → nat_lt n 0 ≡ false
+none-below n = grind (arith, nat_tests)
+
+below-greater : (n l reg : ℕ) → nat_lt n (max l (reg + 1)) ≡ (nat_lt n l || nat_le n reg)
+below-greater n l reg = grind (arith, nat_tests)
+
+effect-local : (n l : ℕ) (e : Effect) → nat_lt n (with_local l e) ≡ (nat_lt n l || list_any (λ reg. nat_le n reg) (local_of e))
+effect-local n l effect.Plain = sym (or-false _)
+effect-local n l (effect.Prefix full) = sym (or-false _)
+effect-local n l (effect.Greg reg value) = sym (or-false _)
+effect-local n l (effect.Local reg) = below-greater n l reg ∙ ap (λ b. nat_lt n l || b) (sym (or-false _))
+
+answer-local : (n l : ℕ) (r : Answer Placed) → nat_lt n (sight_local l r) ≡ (nat_lt n l || list_any (λ reg. nat_le n reg) (local_in r))
+answer-local n l (Err fault) = sym (or-false _)
+answer-local n l (Ok p) = effect-local n l p.effect
+
+locals-from : (n : ℕ) (sights : List Sight) (l : ℕ) → nat_lt n (locals_from l sights) ≡ (nat_lt n l || list_any (λ reg. nat_le n reg) (locals sights))
+unfolding locals_from locals
+locals-from n [] l = sym (or-false _)
+locals-from n (s ∷ later) l =
+    locals-from n later (sight_local l (outline s))
+    ∙ ap (λ b. b || list_any (λ reg. nat_le n reg) (locals later)) (answer-local n l (outline s))
+    ∙ sym (or_assoc (nat_lt n l) (list_any (λ reg. nat_le n reg) (local_in (outline s))) (list_any (λ reg. nat_le n reg) (locals later)))
+    ∙ ap (λ b. nat_lt n l || b) (sym (list_any-append (λ reg. nat_le n reg) (local_in (outline s)) (locals later)))
+
+all-locals : (n : ℕ) (sights : List Sight) → nat_lt n (locals_from 0 sights) ≡ list_any (λ reg. nat_le n reg) (locals sights)
+all-locals n sights = locals-from n sights 0 ∙ ap (λ b. b || list_any (λ reg. nat_le n reg) (locals sights)) (none-below n)
+
+-- ---- the number of the last line
+
+behind-more : (lines : List Line) (n : ℕ) → lines_behind n lines ≡ n + length lines
+unfolding lines_behind
+behind-more [] n = omega arith
+behind-more (line ∷ lines) n = behind-more lines (n + 1) ∙ omega arith
+
+number-of-last : (n : ℕ) → last_number (suc n) ≡ suc n
+number-of-last n = refl
+
+last-is : (line : Line) (lines : List Line) → last_number (lines_behind 0 (line ∷ lines)) ≡ last_line (line ∷ lines)
+last-is line lines =
+    let count : lines_behind 0 (line ∷ lines) ≡ suc (length lines) = behind-more (line ∷ lines) 0 ∙ omega arith in
+    ap last_number count ∙ number-of-last (length lines) ∙ omega arith
+
+-- ---- the end
+
+module _ (out : List Item) (statements : List StatementTree) (last n m : ℕ) (h : Head) (items : List Item) (whole : out ≡ opening ++ items) (number : last_number n ≡ last) where
+  abbrev sights : List Sight
+  sights = sights_of statements
+
+  abbrev k : Known
+  k = final_known statements
+
+  abbrev a : Assembly
+  a = counting n m (standing_at k h sights (locals_from 0 sights))
+
+  refused-alike : (fault : AsmFault) → (out, Err (refused (last_number n) fault)) ≡ assembled_with statements items (Some (refused last fault))
+  refused-alike fault = λ i. (whole i, Err (refused (number i) fault))
+
+  trie-alike : (long : Bool) → nat_lt trie_limit (length (padded_trie k.names) / 4) ≡ long →
+      cond {A = Ended} long (out, Err (refused (last_number n) SymbolsTooMany)) (out ++ closing k.names k.gregs, Ok (padded_trie k.names))
+      ≡ assembled_with statements items (at_line last (cond long (Some SymbolsTooMany) None))
+  trie-alike true is = refused-alike SymbolsTooMany
+  trie-alike false is = ap (λ front. (front ++ closing k.names k.gregs, Ok (padded_trie k.names))) whole
+
+  locals-alike : (far : Bool) →
+      ended_main out a (cond far (Some LocalAboveGlobals) None)
+      ≡ assembled_with statements items (at_line last (cond far (Some LocalAboveGlobals) (cond (nat_lt trie_limit (length (padded_trie k.names) / 4)) (Some SymbolsTooMany) None)))
+  locals-alike true = refused-alike LocalAboveGlobals
+  locals-alike false = trie-alike (nat_lt trie_limit (length (padded_trie k.names) / 4)) refl
+
+  main-alike : (main : Option Value) → ended_main out a (main_fault (lowest_of k.gregs) (locals_from 0 sights) main) ≡ assembled_with statements items (at_line last (last_fault k (locals sights) main))
+  main-alike None = refused-alike MainUndefined
+  main-alike (Some (Reg r)) = refused-alike MainRegister
+  main-alike (Some (Pure main)) =
+      ap (λ far. ended_main out a (cond far (Some LocalAboveGlobals) None)) (all-locals (lowest_of k.gregs) sights)
+      ∙ locals-alike (list_any (λ reg. nat_le (lowest_of k.gregs) reg) (locals sights))
+
+  waits-alike : (w : Option Wait) → ended_waits out a w ≡ assembled_with statements items (first_of (wait_refusal w) (at_line last (end_fault k (locals sights))))
+  waits-alike (Some wait) = ap (λ front. (front, Err (refused wait.line (undefined wait.who)))) whole
+  waits-alike None = main-alike (value_of_name k.names main_name)
+
+  ended-alike : first_fault [] sights ≡ None → ended_waits out a (earliest (open_waits sights)) ≡ assembled_with statements items (end_refusal last statements)
+  ended-alike none =
+      waits-alike (earliest (open_waits sights))
+      ∙ ap (λ r. assembled_with statements items (first_of r (at_line last (end_fault k (locals sights)))))
+      (sym (first-open statements nothing_known [] k.names no-labels none (labels-at-end statements nothing_known [] no-labels none)))
+
+-- ---- the law
+
+outcome-ends : (line : Line) (lines : List Line) (statements : List StatementTree) (h : Head) (items : List Item) (r : Option Refused) → (r ≡ None → first_fault [] (sights_of statements) ≡ None) →
+    let p = counted_progress (lines_behind 0 (line ∷ lines)) (size_behind 0 (line ∷ lines)) (outcome (opening ++ items) r (standing_at (final_known statements) h (sights_of statements) (locals_from 0 (sights_of statements)))) in
+    end_behind p.0 p.1 ≡ assembled_with statements items (first_of r (end_refusal (last_line (line ∷ lines)) statements))
+outcome-ends line lines statements h items (Some refused) none = refl
+outcome-ends line lines statements h items None none =
+    ended-alike (opening ++ items) statements (last_line (line ∷ lines)) (lines_behind 0 (line ∷ lines)) (size_behind 0 (line ∷ lines)) h items refl (last-is line lines) (none refl)
+
+-- whether the opening stands there makes no difference at the end
+main-opened : (out : List Item) (a : Assembly) (fault : Option AsmFault) → ended_main out a fault ≡ ended_main out (record a { opened = true }) fault
+main-opened out a (Some fault) = refl
+main-opened out a None = refl
+
+nothing-ends : one_pass [] ≡ assembled_lines []
+unfolding line_items items_from accepted sights_from first_fault open_waits locals_from
+nothing-ends =
+    main-opened opening beginning (one_pass_fault beginning)
+    ∙ ended-alike opening [] 1 0 0 first_head [] refl refl refl
+
+pub whole-is : (lines : List Line) → one_pass lines ≡ assembled_lines lines
+whole-is [] = nothing-ends
+whole-is (line ∷ lines) =
+    let statements = statements_in (lines_entries (line ∷ lines)) in
+    let r = first_of (first_fault [] (sights_of statements)) (refusal_in (lines_entries (line ∷ lines))) in
+    ap (λ p. end_behind p.0 p.1) (some-lines line lines)
+    ∙ outcome-ends line lines statements (head_from first_head [] (sights_of statements)) (entries_items (lines_entries (line ∷ lines))) r (λ none. (both-none (first_fault [] (sights_of statements)) (refusal_in (lines_entries (line ∷ lines))) none).0)
