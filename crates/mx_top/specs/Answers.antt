@@ -1,10 +1,10 @@
 -- What a command comes to: an outcome and the host as it then stands.
-use Rattle.std.specs.Prelude.{◌≡◌, ◌≢◌, IsTrue, ℕ, List, Option}
+use Rattle.std.specs.Prelude.{◌≡◌, ◌≢◌, IsTrue, Bool, true, false, ℕ, List, Option}
 use Rattle.mx_word.specs.Lists.{IsFront}
 use Rattle.mx_host.specs.HostModel.{HostModel, tells, contents}
 use Rattle.mx_host.specs.HostAnswer.{Then}
 use Rattle.mx_top.specs.declared.outcome.Outcome.{Outcome}
-use Rattle.mx_top.specs.declared.outcome.Outcome.TheVariants.{OutOfMemory}
+use Rattle.mx_top.specs.declared.outcome.Outcome.TheVariants.{Done, Usage, NoFile, HostFault, Refused, BadObject, Stopped, StepsSpent, Quit, ConsoleLimit, OutOfMemory}
 
 -- the outcome and the host; or, over the list machine, the host at the first step that looks at rS or at the memory of the
 -- register stack
@@ -14,6 +14,20 @@ pub data Answer : Type 0 where
 
 abbrev pub plainly : Then Outcome → Answer
 plainly (outcome, m) = answered outcome m
+
+-- whether an outcome tells that the words are no order
+abbrev pub is_usage : Outcome → Bool
+is_usage (Usage fault) = true
+is_usage (Done status) = false
+is_usage NoFile = false
+is_usage HostFault = false
+is_usage (Refused line fault from_line) = false
+is_usage (BadObject place fault) = false
+is_usage (Stopped pc reason) = false
+is_usage (StepsSpent steps) = false
+is_usage Quit = false
+is_usage ConsoleLimit = false
+is_usage OutOfMemory = false
 
 -- what follows an outcome
 abbrev pub and_then : (Outcome → HostModel → Answer) → Answer → Answer

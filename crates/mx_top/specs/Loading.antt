@@ -97,3 +97,12 @@ abbrev pub standing_after : Result (Unit {0}) SourceFault → Result Assembly Re
 standing_after (Ok u) assembly loading = Ok (standing assembly loading)
 standing_after (Err (Refusing refusal)) assembly loading = Err refusal
 standing_after (Err NoRoom) assembly loading = Err (refused_at 0 0)
+
+-- the refusal in what stands
+abbrev pub refusal_in : Result Assembly Refused → Result (Unit {0}) Refusal
+refusal_in (Ok assembly) = Ok tt
+refusal_in (Err refused) = Err (refusal_of refused)
+
+-- why a line is refused whose items cannot be loaded
+abbrev pub refused_line : ℕ → LoadFault → SourceFault
+refused_line line fault = Refusing (refused_at line (number_of fault))

@@ -4,6 +4,7 @@ use Rattle.mx_line.specs.Lines.{lines_of}
 use Rattle.mx_mmo.specs.Spelling.{written, ending}
 use Rattle.mx_asm.specs.OnePass.{Ended}
 use Rattle.mx_asm.specs.Whole.{assembled_lines}
+use Rattle.mx_asm.specs.declared.refused.Refused.{Refused}
 use Rattle.mx_top.specs.Loading.{refusal_of}
 use Rattle.mx_top.specs.declared.refusal.Refusal.{Refusal}
 
@@ -12,9 +13,13 @@ use Rattle.mx_top.specs.declared.refusal.Refusal.{Refusal}
 abbrev pub Assembled : Type 0
 Assembled = List ℕ × Result (Unit {0}) Refusal
 
+-- what was written of the items, with the end of an object behind it, or with the refusal
+abbrev pub object_with : List ℕ → Result (List ℕ) Refused → Assembled
+object_with bytes (Ok trie) = (bytes ++ ending trie, Ok tt)
+object_with bytes (Err refused) = (bytes, Err (refusal_of refused))
+
 abbrev pub object_of : Ended → Assembled
-object_of (items, Ok trie) = (written items ++ ending trie, Ok tt)
-object_of (items, Err refused) = (written items, Err (refusal_of refused))
+object_of (items, answer) = object_with (written items) answer
 
 unfoldable pub source_object : List ℕ → Assembled
 source_object source = object_of (assembled_lines (lines_of source))

@@ -1,6 +1,6 @@
 -- What the program answers and does, over a host that tells its contents: the outcome and the host's last model. The machine
 -- is that over a ring of registers, or that over an unbounded list, which goes no further where it meets something wild.
-use Rattle.std.specs.Prelude.{ℕ, ◌^◌, Bool, true, false, List, [], ◌∷◌, length, Option, None, Some, Result, Ok, Err, codes, if◌then◌else◌}
+use Rattle.std.specs.Prelude.{ℕ, ◌^◌, Bool, true, false, List, [], ◌∷◌, length, Result, Ok, Err, codes, if◌then◌else◌}
 use Rattle.mx_host.specs.HostModel.{HostModel}
 use Rattle.mx_host.specs.HostAnswer.{Then, open_answer, write_answer, close_answer}
 use Rattle.mx_host.specs.declared.faults.HostFault.{HostFault as SlotFault}
@@ -9,7 +9,6 @@ use Rattle.mx_host.specs.declared.faults.OpenFault.TheVariants as opening
 use Rattle.mx_host.specs.declared.slots.Mode.TheVariants.{BinaryWrite}
 use Rattle.mx_mmo.specs.Image.{Image}
 use Rattle.mx_load.specs.Objects.{object_loaded}
-use Rattle.mx_core.specs.Start.{start}
 use Rattle.mx_core.specs.State.{State}
 use Rattle.mx_ring.specs.Stack.{register}
 use Rattle.mx_run.specs.WildRuns.{MachineKind}
@@ -27,7 +26,7 @@ use Rattle.mx_top.specs.Loading.{source_image}
 use Rattle.mx_top.specs.Messages.{message_of}
 use Rattle.mx_top.specs.Objects.{Assembled, source_object}
 use Rattle.mx_top.specs.Pieces.{put_text}
-use Rattle.mx_top.specs.Runs.{Ran, ran, ran_wild, machine_ran, stack_at_start, main_address, pages_full, after_lines, image_run}
+use Rattle.mx_top.specs.Runs.{Ran, ran, ran_wild, machine_ran, started, after_lines, image_run}
 use Rattle.mx_top.specs.Source.{file_bytes, source_pieces, object_pieces}
 use Rattle.mx_top.specs.declared.refusal.Refusal.{Refusal}
 use Rattle.mx_top.specs.declared.outcome.Outcome.{Outcome}
@@ -102,14 +101,13 @@ summed blocks size (ran (Done status) s m) =
     after_lines (Done 0) (lines_put (summary blocks size s.steps (register s.stack 255) ∷ []) m)
 summed blocks size (ran outcome s m) = answered outcome m
 
-abbrev pub summed_from : MachineKind → ℕ → ℕ → ℕ → Option State → HostModel → Answer
-summed_from kind blocks size pc None m = answered (Stopped pc pages_full) m
-summed_from kind blocks size pc (Some s) m = summed blocks size (machine_ran kind generator_steps s m)
+abbrev pub summed_from : MachineKind → ℕ → ℕ → Result State Outcome → HostModel → Answer
+summed_from kind blocks size (Err outcome) m = answered outcome m
+summed_from kind blocks size (Ok s) m = summed blocks size (machine_ran kind generator_steps s m)
 
 abbrev pub generated_run : MachineKind → Order → ℕ → Result Image Refusal → HostModel → Answer
 generated_run kind o size (Err refusal) m = answered (refused_with refusal) m
-generated_run kind o size (Ok image) m =
-    summed_from kind o.number size (main_address image) (start image (codes "gen" ∷ []) (stack_at_start kind o.ring)) m
+generated_run kind o size (Ok image) m = summed_from kind o.number size (started kind o.ring image (codes "gen" ∷ [])) m
 
 abbrev pub source_generated : MachineKind → Order → List ℕ → HostModel → Answer
 source_generated kind o source m = generated_run kind o (length source) (source_image source) m

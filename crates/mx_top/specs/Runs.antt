@@ -1,5 +1,5 @@
 -- How an image is run: the machine starts, makes its steps, and is told at the end where a dump is asked for.
-use Rattle.std.specs.Prelude.{ℕ, ◌*◌, ◌/◌, ◌&&◌, Bool, true, false, if◌then◌else◌, List, Option, None, Some}
+use Rattle.std.specs.Prelude.{ℕ, ◌*◌, ◌/◌, ◌&&◌, Bool, true, false, if◌then◌else◌, List, Option, None, Some, Result, Ok, Err}
 use Rattle.mx_host.specs.HostModel.{HostModel}
 use Rattle.mx_host.specs.HostAnswer.{Then}
 use Rattle.mx_mmo.specs.Image.{Image}
@@ -68,18 +68,26 @@ dumped dump (ran_wild m) = wild m
 dumped dump (ran outcome s m) =
     if dump && leaves_machine outcome then after_lines outcome (lines_put (dump_lines s) m) else answered outcome m
 
--- a run from a machine that was started, if the pages are not full
-abbrev pub pages_full : ℕ
-pages_full = 118
-
-abbrev pub run_from : MachineKind → Order → ℕ → Option State → HostModel → Answer
-run_from kind o pc None m = answered (Stopped pc pages_full) m
-run_from kind o pc (Some s) m = dumped o.dump (machine_ran kind o.steps s m)
-
 -- where a program begins
 abbrev pub main_address : Image → ℕ
 main_address image = image.global 255 / 4 * 4
 
+-- a machine that starts with its program at this address, or the stop of one whose pages are full
+abbrev pub pages_full : ℕ
+pages_full = 118
+
+abbrev pub begun_at : ℕ → Option State → Result State Outcome
+begun_at pc None = Err (Stopped pc pages_full)
+begun_at pc (Some s) = Ok s
+
+-- the machine of an image with these arguments, at its start
+abbrev pub started : MachineKind → ℕ → Image → List (List ℕ) → Result State Outcome
+started kind ring image arguments = begun_at (main_address image) (start image arguments (stack_at_start kind ring))
+
 -- an image is run with these arguments
+abbrev pub run_from : MachineKind → Order → Result State Outcome → HostModel → Answer
+run_from kind o (Err outcome) m = answered outcome m
+run_from kind o (Ok s) m = dumped o.dump (machine_ran kind o.steps s m)
+
 abbrev pub image_run : MachineKind → Order → List (List ℕ) → Image → HostModel → Answer
-image_run kind o arguments image m = run_from kind o (main_address image) (start image arguments (stack_at_start kind o.ring)) m
+image_run kind o arguments image m = run_from kind o (started kind o.ring image arguments) m

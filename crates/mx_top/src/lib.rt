@@ -1,10 +1,21 @@
 //! The program: what it does with the words of its command line.
 #![tactic(auto)]
 
+mod arguments;
+mod dump;
+mod emit;
+mod generator;
+mod loading;
 mod message;
 mod names;
+mod objects;
 mod outcome;
+mod pieces;
 mod refusal;
+mod run;
+mod source;
+mod top;
 
 pub use names::{fault_name, usage_name};
 pub use outcome::Outcome;
+pub use top::mmixware;

@@ -2,7 +2,9 @@
 
 ghost use Rattle.std.specs.Prelude.{◌≡◌};
 ghost use Rattle.mx_top.specs.Loading as spec;
+ghost use Rattle.mx_top.specs.Product.{refused_with};
 
+use crate::outcome::Outcome;
 use mx_asm::{AsmFault, Refused};
 
 /// The refusal of a source: the line from 1, the number of the fault, and the line of the reference that
@@ -12,6 +14,19 @@ pub struct Refusal {
     pub line: u32,
     pub fault: u16,
     pub from_line: u32,
+}
+
+impl Refusal {
+    /// The outcome of a source that is refused so.
+    pub fn outcome(&self) -> Outcome
+        ensures { result ≡ refused_with self.now }
+    {
+        Outcome::Refused {
+            line: self.line,
+            fault: self.fault,
+            from_line: self.from_line,
+        }
+    }
 }
 
 /// Why a source comes to nothing: it is refused, or out of memory.
