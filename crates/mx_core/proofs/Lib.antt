@@ -13,11 +13,13 @@ pub mod Resumes
 pub mod Steps
 pub mod Sights
 pub mod Foretold
+pub mod Marks
 pub mod Spaces
 pub mod Pools
 pub mod Starts
 pub mod StartRegisters
 pub mod SpaceStates
+pub mod WholeSpaces
 pub mod Searches
 pub mod Choices
 pub mod Seen

@@ -1,5 +1,5 @@
 -- What the machine's fields are, and what holds of them.
-use Rattle.std.specs.Prelude.{◌<◌, ◌^◌, slice_index}
+use Rattle.std.specs.Prelude.{◌≡◌, ◌<◌, ◌≤◌, ◌%◌, ◌^◌, false, slice_index}
 use Rattle.mx_spec.specs.SpecialRegisters.{rA}
 use Rattle.mx_core.specs.Kept.{Kept}
 use Rattle.mx_core.specs.declared.machine.Machine.TheInside.{Inside}
@@ -15,6 +15,6 @@ kept i = record {
   steps = i.steps;
 }
 
--- rA has 18 bits
+-- rA has 18 bits, the next address is a multiple of 4, and as long as nothing was touched saved frames are spilled
 abbrev pub Holds : Inside → Type 0
-Holds i = slice_index i.special rA < 2 ^ 18
+Holds i = (slice_index i.special rA < 2 ^ 18) × (i.pc % 4 ≡ 0) × (i.touched ≡ false → i.mark ≤ i.ring.hidden.spilled)

@@ -9,6 +9,7 @@ ghost use Rattle.mx_core.specs.Instructions.{operation_in};
 ghost use Rattle.mx_core.specs.Kept.{state_of};
 ghost use Rattle.mx_core.specs.declared.reason.Reason.TheVariants as reasons;
 
+use crate::bounds::know_bounds;
 use crate::compute::holds;
 use crate::instruction::Instruction;
 use crate::operation::Operation;
@@ -105,11 +106,12 @@ impl Machine {
     }
 
     /// The register stack's part of POP.
-    #[tactic(auto, unfolding(crate::specs::Kept::state_of))]
+    #[tactic(auto, using(crate::proofs::Marks::pop_marks), unfolding(crate::specs::Kept::state_of))]
     #[inline(always)]
     fn pop_registers(&mut self, x: u8) -> Result<(), Stop>
         ensures { Makes (λ s. unless (pop_underflows s.stack) reasons.Underflow (spec.with_lowered_mark s (popped s.stack x))) result self.old self.new }
     {
+        know_bounds(&self.ring);
         match self.ring.pop(x) {
             Ok(()) => {
                 self.mark = self.mark.min(self.ring.hidden());

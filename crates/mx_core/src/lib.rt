@@ -40,6 +40,7 @@ mod trace;
 mod traps;
 mod trips;
 
+pub use bounds::machines_keep_the_invariant;
 pub use changes::SetFault;
 pub use laws::{
     changes_go_as_lists, changes_keep_machines, frames_come_back, lists_read_the_same,
@@ -48,7 +49,7 @@ pub use laws::{
 };
 pub use machine::Machine;
 pub use reason::Reason;
-pub use space_laws::contents_tell_the_state;
+pub use space_laws::{contents_tell_the_state, machines_are_whole};
 pub use start::StartFault;
 pub use step::{Advance, Step};
 pub use trace::{Touch, Trace};

@@ -13,6 +13,7 @@ ghost use Rattle.mx_core.specs.Kept.{state_of};
 ghost use Rattle.mx_core.specs.State.{global_start, locals};
 ghost use Rattle.mx_core.specs.declared.reason.Reason.TheVariants as reasons;
 
+use crate::bounds::know_bounds;
 use crate::instruction::Instruction;
 use crate::machine::{SEGMENT, is_in_stack_area};
 use crate::operation::Operation;
@@ -137,12 +138,13 @@ impl Machine {
     }
 
     /// The register stack's part of SAVE.
-    #[tactic(auto, unfolding(crate::specs::Kept::state_of))]
+    #[tactic(auto, using(crate::proofs::Marks::save_marks), unfolding(crate::specs::Kept::state_of))]
     fn save_registers(&mut self, x: u8) -> Result<(), Stop>
         requires { global_start (state_of self.old) ≤ x }
         ensures { Makes (λ s. unless (save_overfills s.stack) reasons.StackFull (spec.with_new_mark s (saved s.stack x (specials_saved s)))) result self.old self.new }
     {
         let specials = self.specials_saved();
+        know_bounds(&self.ring);
         match self.ring.save(x, &specials) {
             Ok(()) => {
                 self.mark = self.ring.hidden();
@@ -221,6 +223,7 @@ impl Machine {
         ensures answer { (result, state_of self.new) ≡ spec.brought_back (state_of self.old) a }
         ensures bits { IfOk result (λ f. f.a < 2 ^ 18) }
     {
+        know_bounds(&self.ring);
         match self.ring.unsave(a) {
             Ok(saved) => {
                 self.mark = self.ring.hidden();

@@ -1,4 +1,5 @@
 pub mod Counts
+pub mod Fits
 pub mod Views
 pub mod Finding
 pub mod Stores

@@ -3,7 +3,7 @@ use Rattle.std.specs.Prelude.{ℕ, ◌<◌, ◌≤◌, ◌^◌, ◌≡◌, List,
 use Rattle.std.specs.Ordering.{nat_cmp}
 use Rattle.std.specs.BTreeMap as tree
 use Rattle.std.specs.BTreeMap.{BTreeMap}
-use Rattle.mx_mem.specs.Memory.{Stored}
+use Rattle.mx_mem.specs.Memory.{Stored, octa_at}
 use Rattle.mx_mem.specs.declared.memory.Memory.TheInside.{Inside}
 
 -- the number and the octas of the page at a place
@@ -35,6 +35,7 @@ pub record Holds (m : Inside) : Type 0 where
   pub indexed : Indexed m.pages.items m.places
   pub bounded : Bounded m.pages.items
   pub count : length m.places.entries ≡ length m.pages.items
+  pub fits : (a : ℕ) → octa_at (stored m) a < 2 ^ 64
 
 -- the least number from `number` on that has a place, with its place
 abbrev pub IsNextPage : BTreeMap ℕ ℕ → ℕ → Option (ℕ × ℕ) → Type 0

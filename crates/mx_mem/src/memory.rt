@@ -189,10 +189,11 @@ impl Memory {
         }
     }
 
-    /// How many pages are there, at most 65,536.
+    /// How many pages are there, at most 65,536. Each octa is below 2^64.
     pub fn pages(&self) -> u32
         ensures value { result ≡ page_count self.now }
         ensures few { result ≤ 65536 }
+        ensures octas { (a : ℕ) → octa_at self.now a < 2 ^ 64 }
         ensures distinct { IsStrictlySortedBy nat_cmp (page_numbers self.now) }
     {
         self.places.len() as u32

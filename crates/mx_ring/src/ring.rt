@@ -1,6 +1,6 @@
 //! The register stack: the registers that an instruction sees, and the hidden ones.
 
-ghost use Rattle.std.specs.Prelude.{◌≡◌, ◌≤◌, ◌<◌, ◌+◌, ◌-◌, ◌^◌, if◌then◌else◌, None, Some, Ok, Err, IfOk, OnOk, OnErr, true, false, length, nat_le};
+ghost use Rattle.std.specs.Prelude.{◌≡◌, ◌≤◌, ◌<◌, ◌+◌, ◌-◌, ◌^◌, if◌then◌else◌, None, Some, Ok, Err, IfOk, OnOk, OnErr, true, false, ℕ, length, slice_index, nat_le};
 ghost use Rattle.mx_ring.specs.Bounds.{AreInBounds, IsRing};
 ghost use Rattle.mx_ring.specs.Calls.{set_answer, push_answer, pop_answer, save_answer, frame_answer, unsave_answer};
 ghost use Rattle.mx_ring.specs.Frames.{frame, frame_length, is_bad_frame};
@@ -108,6 +108,17 @@ impl Ring {
         ensures { result ≡ stack_address (spilled_count (windowed self.now)) }
     {
         BASE + 8 * self.hidden.spilled() as u64
+    }
+
+    /// The 2^20 octas of the stack area.
+    pub fn stack_area(&self) -> &[u64]
+        ensures value { result.now ≡ self.now.hidden.stack }
+        ensures octas { (i : ℕ) → slice_index self.now.hidden.stack i < 2 ^ 64 }
+        ensures bounds { IsRing self.now }
+    {
+        let stack = self.hidden.stack();
+        know_octas(stack);
+        stack
     }
 
     /// The value of $k: 0 where it is neither local nor global.
@@ -378,4 +389,11 @@ fn hide_registers(hidden: &mut Hidden, visible: &Visible, s: &Saved)
     hidden.append(&[l as u64]);
     hidden.append(visible.globals());
     hidden.append(&upper_octas(s, visible.first_global()));
+}
+
+/// Tells that each item of a slice of octas is below 2^64. It does nothing.
+fn know_octas(octas: &[u64])
+    ensures { (i : ℕ) → slice_index octas.now i < 2 ^ 64 }
+{
+    let _octas = octas;
 }

@@ -13,9 +13,10 @@ use Rattle.mx_ring.specs.Window.{Window, as_list}
 use Rattle.mx_trap.specs.Apart.{apart, with_segment}
 use Rattle.mx_trap.specs.Touches.{is_in_segment}
 use Rattle.mx_core.specs.Bounds.{IsMachine, as_list_state}
-use Rattle.mx_core.specs.MachineSpace.{with_area, rest_of, machine_contents, area_in, state_in}
+use Rattle.mx_core.specs.MachineSpace.{IsWholeSpace, with_area, rest_of, machine_contents, area_in, state_in}
 use Rattle.mx_core.specs.State.{State, octa}
 use Rattle.mx_core.proofs.Seen.{same-octa}
+use Rattle.mx_run.specs.WildRuns.{HasWindow}
 
 -- OCTAS OF BYTES
 
@@ -103,3 +104,18 @@ same-outside b x y g e = ap (λ z. cond b z g) e
 
 pub beside-octa : (s : State) (g : ℕ → ℕ) (a : ℕ) → in_stack_area a ≡ false → octa_of (own-bytes (as_list_state s) g) a ≡ octa_of (own-bytes s g) a
 beside-octa s g a h = same-octa-of (own-bytes (as_list_state s) g) (own-bytes s g) a (λ q e. same-outside (is_in_segment q) _ _ (g q) (ap (λ x. byte_of x q) (same-octa s s.stack q (beside-area a q h e))))
+
+-- THE MACHINE'S OCTAS
+
+from-each : (xs : List ℕ) → ((i : ℕ) → i < length xs → get_or xs i 0 < 2 ^ 64) → AreOctas xs
+from-each [] h = tt
+from-each (x ∷ xs) h = (h 0 (omega arith), from-each xs (λ i l. h (suc i) (omega (arith, l))))
+
+window-octas : (s : State) (w : Window) → IsMachine s w → ((a : ℕ) → octa s a < 2 ^ 64) → AreOctas w.hidden.stack
+window-octas s w m fits =
+    from-each w.hidden.stack (λ i l. subst (λ x. x < 2 ^ 64) (area-octa s w i (stack_address i) m.over (subst (λ n. i < n) m.ring.area l) refl) (fits (stack_address i)))
+
+pub has-window : (s : State) (w : Window) → IsMachine s w → IsWholeSpace s → HasWindow s
+has-window s w m h = record { window = w; machine = m; octas = window-octas s w m h.octas_fit }
+
+pub ruleset windows = (has-window)

@@ -1,9 +1,9 @@
 pub mod Areas
 pub mod ListTurns
-pub mod ListRuns
 pub mod BothMachines
 pub mod Outputs
 pub mod HeldFlags
 pub mod FlaggedTetras
 pub mod TurnAnswers
 pub mod RunSteps
+pub mod ListSteps

@@ -25,13 +25,13 @@ use Rattle.mx_core.specs.Step.{Stepped, went, calls, stopped, step}
 use Rattle.mx_core.specs.Traps.{trapped, trap_trace, halted}
 use Rattle.mx_core.specs.Wild.{is_wild}
 use Rattle.mx_core.specs.declared.trace.Trace.{Trace}
-use Rattle.mx_core.proofs.Changed.{trapped-listed, trapped-keeps}
-use Rattle.mx_core.proofs.KeptMachines.{HasMachine, step-keeps, step-touches}
+use Rattle.mx_core.proofs.Changed.{trapped-listed}
+use Rattle.mx_core.proofs.KeptMachines.{step-touches}
 use Rattle.mx_core.proofs.SameSteps.{step-listed}
 use Rattle.mx_core.proofs.SameWild.{same-wild}
 use Rattle.mx_core.proofs.Seen.{same-octa, same-register}
 use Rattle.mx_run.specs.Turns.{Turn, went_on, halts, stops, area_size, with_touch_if, turn_with, trap_turn, turn_of, turn}
-use Rattle.mx_run.specs.WildRuns.{HasWindow, IsUntouched, trap_touches, turn_is_wild, as_list_turn, state_after}
+use Rattle.mx_run.specs.WildRuns.{trap_touches, turn_is_wild, as_list_turn, state_after}
 use Rattle.mx_run.proofs.Areas.{own-bytes, same-area, beside-octa}
 
 -- THE CONTENTS OF THE LIST
@@ -208,51 +208,9 @@ wild-listed s w h t =
 
 -- WHAT A TURN LEAVES
 
--- what holds of the state where a turn went on
-abbrev pub OfNext : (State → Type 0) → Turn → Type 0
-OfNext P (went_on s m trace) = P s
-OfNext P (halts status s m) = Unit {0}
-OfNext P (stops reason s m) = Unit {0}
-
-or-false : (b : Bool) → (b || false) ≡ b
-or-false true = refl
-or-false false = refl
-
 trapped-touched : (s : State) (call : TrapCall) (value : ℕ) → (trapped s call value).touched ≡ s.touched
 unfolding trapped
 trapped-touched s call value = refl
-
-abbrev with-touched : State → Bool → State
-with-touched s b = record s { touched = b }
-
-untouched-state : (s : State) → with_touch_if false s ≡ s
-untouched-state s = ap (with-touched s) (or-false s.touched)
-
-window-of : (s : State) → HasMachine s → HasWindow s
-window-of s h = record { window = h.window; machine = h.machine }
-
-answered-keeps : (call : TrapCall) (s : State) (w : Window) (m : HostModel) (answer : TrapAnswer) → IsMachine s w → s.touched ≡ false → OfNext IsUntouched (turn_with false call s m answer)
-answered-keeps call s w m (trap.Value value) h t =
-    subst IsUntouched (sym (untouched-state (trapped s call value))) (record { over = window-of (trapped s call value) (trapped-keeps s w call value h); untouched = trapped-touched s call value ∙ t })
-answered-keeps call s w m trap.Halt h t = tt
-answered-keeps call s w m (trap.Stopped why) h t = tt
-answered-keeps call s w m trap.OutOfMemory h t = tt
-
-stepped-keeps : (s : State) (w : Window) (m : HostModel) (x : Stepped) → step s ≡ x → IsMachine s w → AreOctas w.hidden.stack → s.touched ≡ false → is_wild s ≡ false → trap_touches s x ≡ false → OfNext IsUntouched (turn_of s m x)
-stepped-keeps s w m (went t trace) k h o u e f = record {
-  over = window-of t (step-keeps s t w trace h o k);
-  untouched = step-touches s t trace k ∙ ap (λ b. b || is_wild s) u ∙ e;
-}
-stepped-keeps s w m (calls call) k h o u e f =
-    let t : Leaves TrapAnswer State = answer-of s m call in
-    subst (OfNext IsUntouched) (sym (left-turn s m call f)) (answered-keeps call (left-by s m call) w t.2 t.0 (left-machine s w m call h o) (state-touched s t.1 ∙ u))
-stepped-keeps s w m (stopped reason) k h o u e f = tt
-
-pub turn-keeps : (s : State) (w : Window) (m : HostModel) → IsMachine s w → AreOctas w.hidden.stack → s.touched ≡ false → turn_is_wild s ≡ false → OfNext IsUntouched (turn s m)
-unfolding turn
-turn-keeps s w m h o u e =
-    let parts : (is_wild s ≡ false) × (trap_touches s (step s) ≡ false) = both-false _ _ e in
-    stepped-keeps s w m (step s) refl h o u parts.0 parts.1
 
 answered-untouched : (call : TrapCall) (s : State) (m : HostModel) (answer : TrapAnswer) → s.touched ≡ false → (state_after (turn_with false call s m answer)).touched ≡ false
 answered-untouched call s m (trap.Value value) t = ap (λ b. b || false) (trapped-touched s call value ∙ t)

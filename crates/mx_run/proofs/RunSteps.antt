@@ -53,6 +53,9 @@ run-more : (k i : ℕ) (f : FlagsOf) (pass : Bool) (s : State) (m : HostModel) �
 unfolding run
 run-more k i f pass s m l = rw (left-after k i l) (step-after (run (k - (i + 1)) f false) f pass s m)
 
+pub run-begun : (k : ℕ) (f : FlagsOf) (pass : Bool) (s : State) (m : HostModel) → run k f pass s m ≡ run (k - 0) f pass s m
+run-begun k f pass s m = let all : k - 0 ≡ k = omega arith in rw all refl
+
 pub run-went : (k i : ℕ) (f : FlagsOf) (pass : Bool) (s t : State) (m n : HostModel) (u : Unit {0}) → i < k → (Ok u, t, n) ≡ run_step f pass s m → run (k - i) f pass s m ≡ run (k - (i + 1)) f false t n
 run-went k i f pass s t m n u l e = run-more k i f pass s m l ∙ ap (run_after (run (k - (i + 1)) f false)) (sym e)
 

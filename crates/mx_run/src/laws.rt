@@ -11,19 +11,19 @@ ghost use Rattle.mx_core.specs.Bounds.{IsMachine, as_list_state};
 ghost use Rattle.mx_core.specs.State.{State};
 ghost use Rattle.mx_run.specs.Runs.{FlagsOf, run};
 ghost use Rattle.mx_run.specs.Turns.{turn};
-ghost use Rattle.mx_run.specs.WildRuns.{IsUntouched, run_meets, turn_is_wild, lacks_octas, as_list_turn, as_list_ended, state_after, run_by, run_ended, window_machine};
+ghost use Rattle.mx_run.specs.WildRuns.{turn_is_wild, as_list_turn, state_after, run_by, run_ended, window_machine};
 
 /// A turn that is not wild, where nothing was touched, comes to the same with the same trace and the
-/// same host model, and leaves the list that the next state stands for. It is wild for the one where
-/// it is for the other.
+/// same host model, and leaves the list that the next state stands for, and nothing touched. It is wild
+/// for the one where it is for the other.
 #[tactic(auto, using(crate::proofs::ListTurns::turns))]
 pub fn turns_go_as_lists()
     ensures turn { (s : State) (w : Window) (m : HostModel) → IsMachine s w → AreOctas w.hidden.stack
         → s.touched ≡ false → turn_is_wild s ≡ false → turn (as_list_state s) m ≡ as_list_turn (turn s m) }
     ensures wild { (s : State) (w : Window) → IsMachine s w → s.touched ≡ false
         → turn_is_wild (as_list_state s) ≡ turn_is_wild s }
-    ensures untouched { (s : State) (w : Window) (m : HostModel) → IsMachine s w → AreOctas w.hidden.stack
-        → s.touched ≡ false → turn_is_wild s ≡ false → (state_after (turn s m)).touched ≡ false }
+    ensures untouched { (s : State) (m : HostModel) → s.touched ≡ false → turn_is_wild s ≡ false
+        → (state_after (turn s m)).touched ≡ false }
 {}
 
 /// The run of the machine over a window always ends.
@@ -31,19 +31,6 @@ pub fn turns_go_as_lists()
 pub fn windows_are_never_wild()
     ensures { (n : ℕ) (f : FlagsOf) (pass : Bool) (s : State) (m : HostModel)
         → run_by window_machine n f pass s m ≡ run_ended (run n f pass s m) }
-{}
-
-/// So does a run that makes no wild turn: it ends the same way with the same host model, and leaves
-/// the list that the last state stands for. It makes a wild turn for the one where it does for the
-/// other.
-#[tactic(auto, using(crate::proofs::ListRuns::runs))]
-pub fn runs_go_as_lists()
-    ensures run { (n : ℕ) (f : FlagsOf) (pass : Bool) (s : State) (m : HostModel) → IsUntouched s
-        → run_meets lacks_octas n f pass s m ≡ false → run_meets turn_is_wild n f pass s m ≡ false
-        → run n f pass (as_list_state s) m ≡ as_list_ended (run n f pass s m) }
-    ensures wild { (n : ℕ) (f : FlagsOf) (pass : Bool) (s : State) (m : HostModel) → IsUntouched s
-        → run_meets lacks_octas n f pass s m ≡ false
-        → run_meets turn_is_wild n f pass (as_list_state s) m ≡ run_meets turn_is_wild n f pass s m }
 {}
 
 /// A run only adds to standard output.

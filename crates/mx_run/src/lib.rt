@@ -2,14 +2,21 @@
 //! traced steps.
 #![tactic(auto)]
 
+mod breaks;
 mod end;
 mod flag_map;
 mod flags;
+mod go;
+#[cfg(test)]
+mod go_tests;
 pub mod laws;
 mod runner;
+mod steps;
 #[cfg(test)]
 mod tests;
+mod turn;
 mod turn_answer;
+mod windows;
 
 pub use end::{BreakKind, End};
 pub use flag_map::FlagMap;

@@ -9,9 +9,12 @@ ghost use Rattle.mx_run.specs.FlagMaps as maps;
 ghost use Rattle.mx_run.specs.FlagMaps.{flags_at};
 ghost use Rattle.mx_run.specs.Lending.{LendsMachine};
 ghost use Rattle.mx_run.specs.Runs as spec;
-ghost use Rattle.mx_run.specs.Turns.{turn, turn_answer};
+ghost use Rattle.mx_run.specs.Turns as turns;
+ghost use Rattle.mx_run.specs.Turns.{turn_answer};
 ghost use Rattle.mx_run.specs.WildRuns.{run_by, list_machine};
 
+use crate::go::{go_by_flags, go_freely};
+use crate::turn::turn;
 use crate::{End, FlagMap, Flags, TurnAnswer};
 use mx_core::Machine;
 use mx_host::Host;
@@ -91,18 +94,18 @@ impl Runner {
     /// Makes one turn over a host, whatever the flags: a step, or a file trap as a whole.
     ///
     /// Out of memory, what was written to standard output is a front of what the turn writes.
-    #[tactic(auto, using(crate::proofs::TurnAnswers::turns))]
+    #[tactic(auto, using(crate::proofs::ListSteps::turning))]
     pub fn step<H: Host>(&mut self, alloc: Global, host: &mut H) -> TurnAnswer
         ensures told { LeavesMachine (H.told host.old) (H.told host.new) (state_of self.old.machine)
-            (state_of self.new.machine) TurnAnswer.OutOfMemory result (λ s m. turn_answer (turn s m)) }
+            (state_of self.new.machine) TurnAnswer.OutOfMemory result (λ s m. turn_answer (turns.turn s m)) }
         ensures front { LeavesFront (H.told host.old) (H.told host.new) (state_of self.old.machine)
-            TurnAnswer.OutOfMemory result (λ s m. turn_answer (turn s m)) }
+            TurnAnswer.OutOfMemory result (λ s m. turn_answer (turns.turn s m)) }
         ensures listed { TurnsAsList (H.told host.old) (H.told host.new) (state_of self.old.machine)
             (state_of self.new.machine) result }
         ensures flags { self.new.flags ≡ self.old.flags }
         ensures keeps { Keeps (H.told host.old) (H.told host.new) (H.faults host.old) (H.faults host.new) }
     {
-        TurnAnswer::OutOfMemory
+        turn(alloc, &mut self.machine, host)
     }
 
     /// Makes at most n steps over a host, and breaks and ends where the flags say. With `pass` the
@@ -111,7 +114,7 @@ impl Runner {
     /// or at the memory of the register stack.
     ///
     /// Out of memory, what was written to standard output is a front of what the run writes.
-    #[tactic(auto, using(crate::proofs::Outputs::outputs))]
+    #[tactic(auto, using(crate::proofs::RunSteps::choosing, crate::proofs::ListSteps::choosing))]
     pub fn go<H: Host>(&mut self, alloc: Global, host: &mut H, n: u64, pass: bool) -> End
         ensures told { EndsAs (H.told host.old) (H.told host.new) (state_of self.old.machine)
             (state_of self.new.machine) result (λ s m. spec.run n (flags_at self.old.flags) pass s m) }
@@ -122,6 +125,10 @@ impl Runner {
         ensures flags { self.new.flags ≡ self.old.flags }
         ensures keeps { Keeps (H.told host.old) (H.told host.new) (H.faults host.old) (H.faults host.new) }
     {
-        End::OutOfMemory
+        if self.flags.is_empty() {
+            go_freely(alloc, &mut self.machine, &self.flags, host, n)
+        } else {
+            go_by_flags(alloc, &mut self.machine, &self.flags, host, n, pass)
+        }
     }
 }

@@ -1,11 +1,14 @@
-use Rattle.std.proofs.Common.{ℕ, List, length, ◌<◌, ◌/◌, ◌%◌, ◌^◌, ◌≡◌, None, ◌∙◌, ap, subst, arith, replicate}
+use Rattle.std.proofs.Common.{ℕ, List, length, ◌<◌, ◌/◌, ◌%◌, ◌^◌, ◌≡◌, None, refl, ◌∙◌, ap, subst, arith, replicate}
 use Rattle.std.proofs.Math.ListN.{set}
 use Rattle.std.specs.Ordering.{nat_cmp}
 use Rattle.std.specs.BTreeMap.{get}
 use Rattle.std.specs.Prelude.{OnOk}
 use Rattle.std.proofs.lemmas.List.{length-set, length-replicate}
+use Rattle.mx_mem.specs.Held.{view_of}
+use Rattle.mx_mem.specs.Memory.{octa_at, stored_at}
 use Rattle.mx_mem.proofs.Views.{not-found}
 use Rattle.mx_mem.proofs.Additions.{Extends, outcome-indexed, outcome-bounded, outcome-count, outcome-octas, outcome-pages}
+use Rattle.mx_mem.proofs.Fits.{outcome-fits}
 use Rattle.mx_mem.proofs.memory.Memory.begin.Goals as goal
 
 -- the new page, and that it was not there
@@ -24,6 +27,11 @@ add-requires c = ap (get nat_cmp c.self.inside.places) (number-new c) ∙ place-
 places-after : (c : goal.After-add) → OnOk c.add.result (Extends c.self.inside.places c.add.new.places (c.args.a / 4096) (length c.self.inside.pages.items))
 places-after c = subst (λ n. OnOk c.add.result (Extends c.self.inside.places c.add.new.places n (length c.self.inside.pages.items))) (number-new c.before) c.add.ensures.places
 
+octas-after : (c : goal.After-add) → OnOk c.add.result (octa_at (view_of c.add.new.pages.items c.add.new.places.entries) ≡ stored_at (octa_at (view_of c.self.inside.pages.items c.self.inside.places.entries)) c.args.a c.args.x)
+octas-after c =
+    outcome-octas c.add.result c.self.inside.pages.items c.add.new.pages.items c.self.inside.places c.add.new.places _ c.in-Ok.page c.args.a c.args.x c.self.invariant.indexed refl (place-new c.before) (octas-new c.before)
+    c.add.ensures.pages (places-after c)
+
 pub invariant_of-self : goal.invariant_of-self
 invariant_of-self c =
     let long : length c.in-Ok.page.1 ≡ 512 = ap length (octas-new c.before) ∙ length-set (replicate 512 0) (c.args.a / 8 % 512) c.args.x ∙ length-replicate {A = ℕ} 512 0 in
@@ -35,6 +43,7 @@ invariant_of-self c =
       indexed = outcome-indexed c.add.result c.self.inside.pages.items c.add.new.pages.items c.self.inside.places c.add.new.places c.in-Ok.page c.self.invariant.indexed (add-requires c.before) c.add.ensures.pages c.add.ensures.places c.add.ensures.err;
       bounded = outcome-bounded c.add.result c.self.inside.pages.items c.add.new.pages.items c.in-Ok.page _ c.self.invariant.bounded low long room c.add.ensures.pages c.add.ensures.err;
       count = outcome-count c.add.result c.self.inside.pages.items c.add.new.pages.items c.self.inside.places c.add.new.places c.in-Ok.page c.self.invariant.count c.add.ensures.pages c.add.ensures.count c.add.ensures.err;
+      fits = outcome-fits c.add.result c.self.inside.pages.items c.add.new.pages.items c.self.inside.places c.add.new.places c.args.a c.args.x (omega (arith, c.ranges.x)) c.self.invariant.fits (octas-after c) c.add.ensures.err;
     }
 
 pub returns-in-Ok-clause-octas : goal.returns-in-Ok-clause-octas

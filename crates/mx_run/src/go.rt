@@ -1,0 +1,63 @@
+//! Steps of a run one after another.
+
+ghost use Rattle.std.specs.Prelude.{◌≡◌, [], true};
+ghost use Rattle.mx_host.specs.Keeping.{Keeps};
+ghost use Rattle.mx_core.specs.Kept.{state_of};
+ghost use Rattle.mx_run.specs.Clauses.{EndsAs, EndsFront, EndsAsList};
+ghost use Rattle.mx_run.specs.FlagMaps.{flags_at};
+ghost use Rattle.mx_run.specs.Runs as spec;
+ghost use Rattle.mx_run.specs.WildRuns.{run_by, list_machine};
+
+use crate::steps::{free_step, run_step};
+use crate::{End, FlagMap};
+use mx_core::Machine;
+use mx_host::Host;
+use std::alloc::Global;
+
+/// Makes at most n steps, and breaks and ends where the flags say. With `pass` the first step is made
+/// also where the run would break before it.
+pub fn go_by_flags<H: Host>(
+    alloc: Global,
+    machine: &mut Machine,
+    flags: &FlagMap,
+    host: &mut H,
+    n: u64,
+    pass: bool,
+) -> End
+    ensures told { EndsAs (H.told host.old) (H.told host.new) (state_of machine.old) (state_of machine.new) result
+        (λ s m. spec.run n (flags_at flags.now) pass s m) }
+    ensures front { EndsFront (H.told host.old) (H.told host.new) (state_of machine.old) result
+        (λ s m. spec.run n (flags_at flags.now) pass s m) }
+    ensures listed { EndsAsList (H.told host.old) (H.told host.new) (state_of machine.old) (state_of machine.new) result
+        (λ s m. run_by list_machine n (flags_at flags.now) pass s m) }
+    ensures keeps { Keeps (H.told host.old) (H.told host.new) (H.faults host.old) (H.faults host.new) }
+{
+    let mut first = pass;
+    for turn in 0..n {
+        match run_step(alloc, machine, flags, host, first) {
+            Ok(()) => first = false,
+            Err(end) => return end,
+        }
+    }
+    End::Spent
+}
+
+/// Makes at most n steps, where no tetra has a flag.
+pub fn go_freely<H: Host>(alloc: Global, machine: &mut Machine, flags: &FlagMap, host: &mut H, n: u64) -> End
+    requires { flags.now ≡ [] }
+    ensures told { EndsAs (H.told host.old) (H.told host.new) (state_of machine.old) (state_of machine.new) result
+        (λ s m. spec.run n (flags_at flags.now) true s m) }
+    ensures front { EndsFront (H.told host.old) (H.told host.new) (state_of machine.old) result
+        (λ s m. spec.run n (flags_at flags.now) true s m) }
+    ensures listed { EndsAsList (H.told host.old) (H.told host.new) (state_of machine.old) (state_of machine.new) result
+        (λ s m. run_by list_machine n (flags_at flags.now) true s m) }
+    ensures keeps { Keeps (H.told host.old) (H.told host.new) (H.faults host.old) (H.faults host.new) }
+{
+    for turn in 0..n {
+        match free_step(alloc, machine, flags, host) {
+            Ok(()) => {}
+            Err(end) => return end,
+        }
+    }
+    End::Spent
+}

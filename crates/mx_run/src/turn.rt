@@ -1,0 +1,122 @@
+//! A turn: a step of the machine over a host, with a file trap as a whole.
+
+ghost use Rattle.std.specs.Prelude.{◌≡◌, ◌≢◌};
+ghost use Rattle.mx_host.specs.HostModel.{HostModel};
+ghost use Rattle.mx_host.specs.Keeping.{Keeps};
+ghost use Rattle.mx_core.specs.Kept.{state_of};
+ghost use Rattle.mx_core.specs.MachineSpace.{machine_contents};
+ghost use Rattle.mx_core.specs.Traps as traps;
+ghost use Rattle.mx_trap.specs.FileTraps.{trap_answer};
+ghost use Rattle.mx_trap.specs.Touches as touching;
+ghost use Rattle.mx_run.specs.Clauses.{LeavesMachine, LeavesFront};
+ghost use Rattle.mx_run.specs.RunSteps.{state_left};
+ghost use Rattle.mx_run.specs.Turns.{turn_answer};
+ghost use Rattle.mx_run.specs.Turns as spec;
+ghost use Rattle.mx_run.specs.WildRuns.{HasWindow};
+
+use crate::TurnAnswer;
+use crate::windows::know_window;
+use mx_core::{Machine, Step, Trace, machines_are_whole};
+use mx_host::Host;
+use mx_trap::{TrapAnswer, TrapStop, touches, trap};
+use mx_trip::TrapCall;
+use std::alloc::Global;
+
+/// A turn of the machine over a host.
+#[tactic(auto, using(crate::proofs::TurnAnswers::turns))]
+pub fn turn<H: Host>(alloc: Global, machine: &mut Machine, host: &mut H) -> TurnAnswer
+    ensures told { LeavesMachine (H.told host.old) (H.told host.new) (state_of machine.old) (state_of machine.new)
+        TurnAnswer.OutOfMemory result (λ s m. turn_answer (spec.turn s m)) }
+    ensures front { LeavesFront (H.told host.old) (H.told host.new) (state_of machine.old)
+        TurnAnswer.OutOfMemory result (λ s m. turn_answer (spec.turn s m)) }
+    ensures over { HasWindow (state_of machine.old) }
+    ensures keeps { Keeps (H.told host.old) (H.told host.new) (H.faults host.old) (H.faults host.new) }
+{
+    know_window(machine);
+    match machine.step() {
+        Step::Went(trace) => TurnAnswer::Went(trace),
+        Step::Trap(call) => trap_turn(alloc, machine, host, &call),
+        Step::Stopped(reason) => TurnAnswer::Stopped(reason.number()),
+        Step::OutOfMemory => TurnAnswer::OutOfMemory,
+    }
+}
+
+/// A file trap as a whole.
+#[tactic(auto, using(crate::proofs::TurnAnswers::traps))]
+fn trap_turn<H: Host>(alloc: Global, machine: &mut Machine, host: &mut H, call: &TrapCall) -> TurnAnswer
+    ensures told { LeavesMachine (H.told host.old) (H.told host.new) (state_of machine.old) (state_of machine.new)
+        TurnAnswer.OutOfMemory result (λ s m. turn_answer (spec.trap_turn (touching.touches (machine_contents s).bytes
+        call.now) call.now (trap_answer (machine_contents s) m call.now))) }
+    ensures front { LeavesFront (H.told host.old) (H.told host.new) (state_of machine.old)
+        TurnAnswer.OutOfMemory result (λ s m. turn_answer (spec.trap_turn (touching.touches (machine_contents s).bytes
+        call.now) call.now (trap_answer (machine_contents s) m call.now))) }
+    ensures keeps { Keeps (H.told host.old) (H.told host.new) (H.faults host.old) (H.faults host.new) }
+{
+    let looks = touches(machine, call);
+    let answer = carry_out(alloc, machine, host, call);
+    finish(machine, call, looks, answer)
+}
+
+/// Carries out a file trap on the machine's memory.
+#[tactic(auto, using(crate::proofs::TurnAnswers::spaces))]
+fn carry_out<H: Host>(alloc: Global, machine: &mut Machine, host: &mut H, call: &TrapCall) -> TrapAnswer
+    ensures told { LeavesMachine (H.told host.old) (H.told host.new) (state_of machine.old) (state_of machine.new)
+        TrapAnswer.OutOfMemory result (λ s m. state_left (trap_answer (machine_contents s) m call.now)) }
+    ensures front { LeavesFront (H.told host.old) (H.told host.new) (state_of machine.old)
+        TrapAnswer.OutOfMemory result (λ s m. state_left (trap_answer (machine_contents s) m call.now)) }
+    ensures keeps { Keeps (H.told host.old) (H.told host.new) (H.faults host.old) (H.faults host.new) }
+{
+    let answer = trap(alloc, machine, host, call);
+    machines_are_whole(machine);
+    answer
+}
+
+/// Completes a file trap with its answer.
+fn finish(machine: &mut Machine, call: &TrapCall, looks: bool, answer: TrapAnswer) -> TurnAnswer
+    ensures told { answer ≢ TrapAnswer.OutOfMemory → (m : HostModel) → (result, state_of machine.new, m)
+        ≡ turn_answer (spec.turn_with looks call.now (state_of machine.old) m answer) }
+    ensures memory { result ≡ TurnAnswer.OutOfMemory → answer ≡ TrapAnswer.OutOfMemory }
+    ensures unmade { answer ≡ TrapAnswer.OutOfMemory → result ≡ TurnAnswer.OutOfMemory }
+{
+    match answer {
+        TrapAnswer::Value(value) => TurnAnswer::Went(complete(machine, call, looks, value)),
+        TrapAnswer::Halt => TurnAnswer::Halted(halt(machine, call, looks)),
+        TrapAnswer::Stopped(why) => {
+            note_where(machine, looks && why == TrapStop::TrapPagesFull);
+            TurnAnswer::Stopped(why.number())
+        }
+        TrapAnswer::OutOfMemory => TurnAnswer::OutOfMemory,
+    }
+}
+
+/// Completes a file trap with its result.
+fn complete(machine: &mut Machine, call: &TrapCall, looks: bool, value: u64) -> Trace
+    ensures state { state_of machine.new
+        ≡ spec.with_touch_if looks (traps.trapped (state_of machine.old) call.now value) }
+    ensures trace { result ≡ traps.trap_trace (state_of machine.old) call.now value }
+{
+    let trace = machine.finish_trap(call, value);
+    note_where(machine, looks);
+    trace
+}
+
+/// Counts the step of a Halt, and gives the status.
+fn halt(machine: &mut Machine, call: &TrapCall, looks: bool) -> u8
+    ensures state { state_of machine.new ≡ spec.with_touch_if looks (traps.halted (state_of machine.old)) }
+    ensures status { result ≡ spec.status_of (state_of machine.old) }
+{
+    let status = (machine.register(255) % 256) as u8;
+    machine.finish_halt(call);
+    note_where(machine, looks);
+    status
+}
+
+/// Notes a touch, where there is one.
+#[tactic(auto, using(crate::proofs::TurnAnswers::touching))]
+fn note_where(machine: &mut Machine, looks: bool)
+    ensures { state_of machine.new ≡ spec.with_touch_if looks (state_of machine.old) }
+{
+    if looks {
+        machine.note_touch();
+    }
+}
