@@ -1,5 +1,5 @@
 -- Lines that an assembler has taken, and one line more.
-use Rattle.std.proofs.Common.{◌≡◌, ℕ, List, [], ◌∷◌, ◌++◌, fold, Option, None, Some, Ok, Err, refl, ap, sym, ◌∙◌}
+use Rattle.std.proofs.Common.{◌≡◌, ℕ, List, [], ◌∷◌, ◌++◌, None, Some, Ok, Err, refl, ap, sym, ◌∙◌}
 use Rattle.std.specs.Result.{result_err}
 use Rattle.std.proofs.lemmas.List.Sums.{fold-append}
 use Rattle.mx_line.specs.Lines.{lines_of}
@@ -8,7 +8,7 @@ use Rattle.mx_asm.specs.declared.refused.Refused.{Refused}
 use Rattle.mx_asm.specs.Entries.{statements_in, source_entries}
 use Rattle.mx_asm.specs.TwoPass.{Sight, final_known, sights_of}
 use Rattle.mx_asm.specs.Emission.{opening, first_head, items_from, closing, emission, padded_trie}
-use Rattle.mx_asm.specs.Refusal.{statement_fault, first_fault, first_of, entries_refusal, end_refusal, last_line, refusal}
+use Rattle.mx_asm.specs.Refusal.{statement_fault, first_fault, entries_refusal, end_refusal, last_line, refusal}
 use Rattle.mx_asm.specs.OnePass.{Standing, Ended, beginning, line_behind, end_behind}
 use Rattle.mx_asm.specs.Whole.{Line, accepted, accepted_with, entries_items, assembled_with, assembled_lines, assembled_source, line_after, lines_taken, HasTaken}
 use Rattle.mx_asm.proofs.OnePassLaw.{items-are, refusal-is}
@@ -54,3 +54,8 @@ source-accepted source none =
 
 pub source-refused : (source : List ℕ) (r : Refused) → refusal source ≡ Some r → assembled_source source ≡ (opening ++ entries_items (source_entries source), Err r)
 source-refused source r is = ap (assembled_with (statements_in (source_entries source)) (entries_items (source_entries source))) is
+
+pub end-is : (lines : List Line) (out : List Item) (a : Standing) (ended : Ended) → ended ≡ end_behind out a → HasTaken lines out a → ended ≡ assembled_lines lines
+end-is lines out a ended is h = is ∙ taken-ends lines out a h
+
+pub ruleset turns = (none-taken, one-more-taken)

@@ -15,3 +15,4 @@ pub mod OnePassLaw
 pub mod EndWaits
 pub mod EndLaw
 pub mod InTurn
+pub mod Sparing

@@ -1,5 +1,8 @@
 -- The statements of a source, each read; what is not read is listed as its refusal.
-use Rattle.std.specs.Prelude.{ℕ, List, [], ◌∷◌, map, is_some, option_map, Option, None, Some, Result, Ok, Err}
+use Rattle.std.specs.Prelude.{ℕ, Bool, true, false, List, [], ◌∷◌, map, is_some, option_map, Option, None, Some, Result, Ok, Err}
+use Rattle.mx_line.specs.declared.faults.LineFault.{LineFault}
+use Rattle.mx_line.specs.declared.cutter.Cut.{Cut}
+use Rattle.mx_line.specs.Cutting.{cuts_from}
 use Rattle.mx_line.specs.Source.{Item, statement, faulty, too_far, items_of, statements_of}
 use Rattle.mx_expr.specs.declared.faults.ExprFault.{ExprFault}
 use Rattle.mx_expr.specs.Tree.{Tree}
@@ -48,6 +51,15 @@ line_entries number line = entries_of (items_of number line)
 
 abbrev pub source_entries : List ℕ → List Entry
 source_entries source = entries_of (statements_of source)
+
+-- whether a line holds a statement: an empty line, a comment and a line with a fault before any statement hold none
+abbrev pub begins_with_statement : List (Result Cut LineFault) → Bool
+begins_with_statement [] = false
+begins_with_statement (Err fault ∷ cuts) = false
+begins_with_statement (Ok cut ∷ cuts) = true
+
+abbrev pub holds_statement : List ℕ → Bool
+holds_statement line = begins_with_statement (cuts_from line 0)
 
 -- the statements before the first refusal, and that refusal
 abbrev pub statements_in : List Entry → List StatementTree

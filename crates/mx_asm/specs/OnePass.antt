@@ -44,6 +44,11 @@ pub record Assembly : Type 0 where
 abbrev pub Standing : Type 0
 Standing = Result Assembly Refused
 
+-- whether it stands, and has added the opening
+abbrev pub is_open : Standing → Bool
+is_open (Err refused) = false
+is_open (Ok a) = a.opened
+
 abbrev pub beginning : Assembly
 beginning = record { known = nothing_known; head = first_head; locals = 0; lines = 0; size = 0; opened = false }
 

@@ -1,10 +1,12 @@
 //! The assembler, which takes one line after another.
 
-ghost use Rattle.std.specs.Prelude.{◌≡◌, ◌≢◌, ◌+◌, ◌<◌, ◌≤◌, ◌^◌, ◌++◌, ℕ, List, [], Result, Ok, Err, IfOk, IfErr, OnOk, OnErr, length};
+ghost use Rattle.std.specs.Prelude.{◌≡◌, ◌≢◌, ◌+◌, ◌<◌, ◌≤◌, ◌^◌, ◌++◌, ◌∷◌, ℕ, List, [], Bool, true, false, Result, Ok, Err, IfOk, IfErr, OnOk, OnErr, length};
 ghost use Rattle.mx_word.specs.Results.{map_ok};
 ghost use Rattle.mx_asm.specs.Faults.{no_memory};
 ghost use Rattle.mx_asm.specs.Fronts.{IsFront};
+ghost use Rattle.mx_asm.specs.Entries.{holds_statement};
 ghost use Rattle.mx_asm.specs.OnePass as spec;
+ghost use Rattle.mx_asm.specs.Whole.{HasTaken, assembled_lines};
 
 use crate::Refused;
 use crate::assembly::Assembly;
@@ -34,8 +36,10 @@ impl Model for Assembler {
 
 impl Assembler {
     /// Before the first line. It is refused only out of memory.
+    #[tactic(auto, using(crate::proofs::InTurn::turns))]
     pub fn new(alloc: Global) -> Result<Assembler, Refused>
         ensures start { IfOk result (λ a. a ≡ Ok spec.beginning) }
+        ensures none { IfOk result (λ a. HasTaken [] [] a) }
         ensures memory { IfErr result (λ refused. refused ≡ no_memory) }
     {
         Ok(Assembler {
@@ -48,9 +52,14 @@ impl Assembler {
     /// Takes the next line, a text without a newline byte, and adds the items of its statements. The
     /// first call of `line` or `finish` adds what stands first in an object. After a refusal every
     /// later call answers it again, and `out` has the items of the statements before the faulty one.
+    /// Behind a line that was taken, one that holds no statement takes no memory.
     pub fn line(&mut self, text: &[u8], out: &mut Items) -> Result<(), Refused>
         ensures answer { result ≡ map_ok (λ _. tt) self.new }
         ensures taken { result ≢ Err no_memory → (out.new, self.new) ≡ spec.line_behind out.old self.old text.now }
+        ensures lines { (lines : List (List ℕ)) → HasTaken lines out.old self.old → result ≢ Err no_memory →
+            HasTaken (lines ++ text.now ∷ []) out.new self.new }
+        ensures open { OnOk result (spec.is_open self.new ≡ true) }
+        ensures sparing { spec.is_open self.old ≡ true → holds_statement text.now ≡ false → result ≢ Err no_memory }
         ensures front { IsFront out.new (spec.line_behind out.old self.old text.now).0 }
         ensures again { OnErr self.old ((out.new ≡ out.old) × (self.new ≡ self.old)) }
     {
@@ -71,6 +80,8 @@ impl Assembler {
     /// items of all statements, or of those before a faulty one.
     pub fn finish(&mut self, out: &mut Items) -> Result<Bytes, Refused>
         ensures ended { result ≢ Err no_memory → (out.new, result) ≡ spec.end_behind out.old self.old }
+        ensures whole { (lines : List (List ℕ)) → HasTaken lines out.old self.old → result ≢ Err no_memory →
+            (out.new, result) ≡ assembled_lines lines }
         ensures refused { IfErr result (λ refused. self.new ≡ Err refused) }
         ensures accepted { OnOk result (self.new ≡ map_ok spec.opened self.old) }
         ensures front { IsFront out.new (spec.end_behind out.old self.old).0 }
@@ -109,6 +120,7 @@ fn take_line(
     ensures taken { result ≢ Err no_memory →
         (out.new, spec.standing_after result assembly.new) ≡ spec.line_behind out.old (Ok assembly.old) text.now }
     ensures front { IsFront out.new (spec.line_behind out.old (Ok assembly.old) text.now).0 }
+    ensures sparing { assembly.old.opened ≡ true → holds_statement text.now ≡ false → result ≢ Err no_memory }
 {
     assembly.open(out)?;
     let line = assembly.count(text)?;

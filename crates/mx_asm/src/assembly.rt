@@ -1,6 +1,6 @@
 //! What the assembler carries from statement to statement.
 
-ghost use Rattle.std.specs.Prelude.{◌≡◌, ◌≢◌, ◌+◌, ◌<◌, ◌≤◌, ◌^◌, ◌++◌, Ok, Err, IfOk, IfErr, OnOk, IfSome, length};
+ghost use Rattle.std.specs.Prelude.{◌≡◌, ◌≢◌, ◌+◌, ◌<◌, ◌≤◌, ◌^◌, ◌++◌, Ok, Err, IfOk, IfErr, OnOk, OnErr, IfSome, false, length};
 ghost use Rattle.std.specs.Result.{result_err};
 ghost use Rattle.mx_names.specs.Names.{AreNames};
 ghost use Rattle.mx_stmt.specs.Encoding.{statement_tree};
@@ -94,6 +94,7 @@ impl Assembly {
         ensures out { OnOk result (out.new ≡ spec.with_opening self.old.opened out.old) }
         ensures opened { OnOk result (self.new ≡ spec.opened self.old) }
         ensures front { IsFront out.new (spec.with_opening self.old.opened out.old) }
+        ensures sparing { OnErr result (self.old.opened ≡ false) }
     {
         if !self.opened {
             push_opening(self.alloc, out)?;
@@ -107,6 +108,7 @@ impl Assembly {
         ensures fault { result_err result ≡ spec.count_fault self.old text.now }
         ensures number { IfOk result (λ line. line ≡ self.old.lines + 1) }
         ensures counted { OnOk result (self.new ≡ spec.counted self.old text.now) }
+        ensures sparing { result ≢ Err no_memory }
     {
         let line = self.lines + 1;
         if text.len() > SOURCE_LIMIT || self.size > SOURCE_LIMIT - text.len() {

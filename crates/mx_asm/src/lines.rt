@@ -1,6 +1,6 @@
 //! The statements of a line, one after another.
 
-ghost use Rattle.std.specs.Prelude.{◌≡◌, ◌≢◌, ◌+◌, ◌<◌, ◌≤◌, ◌++◌, Result, Ok, Err, IfOk, IfErr, OnOk, length, map};
+ghost use Rattle.std.specs.Prelude.{◌≡◌, ◌≢◌, ◌+◌, ◌<◌, ◌≤◌, ◌++◌, Result, Ok, Err, IfOk, IfErr, OnOk, false, length, map};
 ghost use Rattle.mx_word.specs.Results.{map_ok};
 ghost use Rattle.mx_line.specs.Source.{item_of};
 ghost use Rattle.mx_stmt.specs.Encoding.{statement_tree};
@@ -76,6 +76,7 @@ pub(crate) fn take_statements(
     ensures taken { result ≢ Err no_memory → (out.new, spec.standing_after result assembly.new) ≡
         spec.entries_taken (entries.line_entries line text.now) out.old assembly.old }
     ensures front { IsFront out.new (spec.entries_taken (entries.line_entries line text.now) out.old assembly.old).0 }
+    ensures sparing { entries.holds_statement text.now ≡ false → result ≢ Err no_memory }
 {
     let mut at = 0;
     'statements: loop {

@@ -1,6 +1,7 @@
 use Rattle.std.proofs.Common.{sym, ◌∙◌, ap, Err, subst}
 use Rattle.std.proofs.lemmas.Result.{err_from_is_err_and}
 use Rattle.mx_asm.proofs.LineEntries.{taken-none, taken-fault, taken-failed, taken-next, taken-front, within-line}
+use Rattle.mx_asm.proofs.Sparing.{no-statement}
 use Rattle.mx_asm.specs.Fronts.{IsFront}
 use Rattle.mx_asm.proofs.Fronts.{front-same, front-trans}
 use Rattle.mx_asm.proofs.lines.take_statements.Goals as goal
@@ -23,6 +24,7 @@ statements-preserved c = (
   taken-next c.args.line c.args.text.now c.statements.at c.statements.out c.take_cut.new.out c.statements.assembly c.take_cut.new.assembly c.in-Ok-Some.cut c.in-Ok-Some.field-0 (cc) c.in-Ok-Some.ensures.list
       (c.in_ok-take_cut-in-Ok-Some.ensures.taken (λ same. cc))
       ∙ c.statements.invariant.1,
+  λ none. absurd (no-statement c.args.text.now c.statements.at c.in-Ok-Some.field-0 c.in-Ok-Some.cut (c.statements.invariant.2 none) (cc) c.in-Ok-Some.ensures.list none),
 )
 
 pub returns-in-Err-clause-taken : goal.returns-in-Err-clause-taken
@@ -44,3 +46,7 @@ returns-in_err-take_cut-in-Ok-Some-clause-front c =
     subst (λ p. IsFront c.take_cut.new.out p.0) c.statements.invariant.1
     (front-trans _ _ _ c.in_err-take_cut-in-Ok-Some.ensures.front
     (taken-front c.args.line c.args.text.now c.statements.at c.statements.out c.statements.assembly c.in-Ok-Some.cut c.in-Ok-Some.field-0 (cc) c.in-Ok-Some.ensures.list))
+
+pub returns-in_err-take_cut-in-Ok-Some-clause-sparing : goal.returns-in_err-take_cut-in-Ok-Some-clause-sparing
+returns-in_err-take_cut-in-Ok-Some-clause-sparing c = λ none.
+    absurd (no-statement c.args.text.now c.statements.at c.in-Ok-Some.field-0 c.in-Ok-Some.cut (c.statements.invariant.2 none) (cc) c.in-Ok-Some.ensures.list none)

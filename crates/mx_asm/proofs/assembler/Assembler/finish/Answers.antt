@@ -1,0 +1,9 @@
+use Rattle.std.proofs.Common.{rules, Ok, Err}
+use Rattle.mx_asm.proofs.InTurn.{end-is}
+use Rattle.mx_asm.proofs.assembler.Assembler.finish.Goals as goal
+
+pub returns-in-Ok-clause-whole : goal.returns-in-Ok-clause-whole
+returns-in-Ok-clause-whole c = λ lines taken memory. end-is lines c.args.out.now c.args.self.now (c.end.new.out, Ok c.in-Ok.trie) (search rules) taken
+
+pub returns-in-Err-clause-whole : goal.returns-in-Err-clause-whole
+returns-in-Err-clause-whole c = λ lines taken memory. end-is lines c.args.out.now c.args.self.now (c.end.new.out, Err c.in-Err.refused) (search rules) taken
