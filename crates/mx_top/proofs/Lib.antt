@@ -1,6 +1,15 @@
 pub mod Counting
+pub mod Dumped
 pub mod LoadedItems
 pub mod LoadedLines
+pub mod MachineRuns
+pub mod PlainAnswers
+pub mod PutLines
 pub mod PutPieces
+pub mod QuietFiles
 pub mod ReadPieces
+pub mod Sources
+pub mod StartedMachines
+pub mod Summed
 pub mod TakenLines
+pub mod Told

@@ -95,10 +95,13 @@ abbrev pub generator_steps : ℕ
 generator_steps = 2 ^ 26
 
 -- where it halts, one line tells what came of it
+abbrev pub summary_put : ℕ → ℕ → State → HostModel → Answer
+summary_put blocks size s m =
+    after_lines (Done 0) (lines_put (summary blocks size s.steps (register s.stack 255) ∷ []) m)
+
 abbrev pub summed : ℕ → ℕ → Ran → Answer
 summed blocks size (ran_wild m) = wild m
-summed blocks size (ran (Done status) s m) =
-    after_lines (Done 0) (lines_put (summary blocks size s.steps (register s.stack 255) ∷ []) m)
+summed blocks size (ran (Done status) s m) = summary_put blocks size s m
 summed blocks size (ran outcome s m) = answered outcome m
 
 abbrev pub summed_from : MachineKind → ℕ → ℕ → Result State Outcome → HostModel → Answer
@@ -114,9 +117,15 @@ source_generated kind o source m = generated_run kind o (length source) (source_
 
 -- ---- the words, and the message
 
+abbrev pub run_ordered : MachineKind → List Word → Order → HostModel → Answer
+run_ordered kind words o m = after_source kind o (arguments words o) (file_bytes source_pieces (word_at words o.file) m)
+
+abbrev pub sim_ordered : MachineKind → List Word → Order → HostModel → Answer
+sim_ordered kind words o m = after_object kind o (arguments words o) (file_bytes object_pieces (word_at words o.file) m)
+
 abbrev pub ordered : MachineKind → List Word → Order → Command → HostModel → Answer
-ordered kind words o Run m = after_source kind o (arguments words o) (file_bytes source_pieces (word_at words o.file) m)
-ordered kind words o Sim m = after_object kind o (arguments words o) (file_bytes object_pieces (word_at words o.file) m)
+ordered kind words o Run m = run_ordered kind words o m
+ordered kind words o Sim m = sim_ordered kind words o m
 ordered kind words o Asm m = plainly (after_reading (word_at words o.rest) (file_bytes source_pieces (word_at words o.file) m))
 ordered kind words o Gen m = source_generated kind o (generated o.number) m
 

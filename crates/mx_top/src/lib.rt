@@ -4,6 +4,7 @@
 mod arguments;
 mod dump;
 mod emit;
+mod generation;
 mod generator;
 mod loading;
 mod message;

@@ -1,6 +1,7 @@
 //! What a run of the program comes to.
 
 ghost use Rattle.std.specs.Prelude.{◌≡◌};
+ghost use Rattle.mx_top.specs.Runs.{leaves_machine};
 ghost use Rattle.mx_top.specs.Status.{status_of};
 
 use mx_words::WordsFault;
@@ -61,6 +62,25 @@ impl Outcome {
             Outcome::HostFault => 74,
             Outcome::StepsSpent { .. } => 75,
             Outcome::ConsoleLimit => 76,
+        }
+    }
+
+    /// Whether the machine is left with something to tell.
+    pub fn leaves_machine(&self) -> bool
+        ensures { result ≡ leaves_machine self.now }
+    {
+        match self {
+            Outcome::Done(_)
+            | Outcome::Stopped { .. }
+            | Outcome::StepsSpent { .. }
+            | Outcome::Quit
+            | Outcome::ConsoleLimit => true,
+            Outcome::Usage(_)
+            | Outcome::NoFile
+            | Outcome::HostFault
+            | Outcome::Refused { .. }
+            | Outcome::BadObject { .. }
+            | Outcome::OutOfMemory => false,
         }
     }
 }
