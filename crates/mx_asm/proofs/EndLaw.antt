@@ -27,7 +27,7 @@ use Rattle.mx_asm.specs.Entries.{statements_in, refusal_in}
 use Rattle.mx_asm.specs.TwoPass.{Sight, outline, nothing_known, sights_from, sights_of, final_known}
 use Rattle.mx_asm.specs.Emission.{opening, first_head, items_from, closing, main_name, padded_trie}
 use Rattle.mx_asm.specs.Refusal.{first_of, first_fault, undefined, local_in, local_of, locals, trie_limit, last_fault, end_fault, last_line, at_line, end_refusal}
-use Rattle.mx_asm.specs.OnePass.{end_fault as one_pass_fault, Assembly, Ended, beginning, last_number, main_fault, ended_main, ended_waits, end_behind, with_local}
+use Rattle.mx_asm.specs.OnePass.{assembly_fault, Assembly, Ended, beginning, last_number, main_fault, ended_main, ended_waits, end_behind, with_local}
 use Rattle.mx_asm.specs.Whole.{Line, accepted, lines_entries, entries_items, assembled_with, assembled_lines, one_pass}
 use Rattle.mx_asm.proofs.Filters.{or-false, or_assoc}
 use Rattle.mx_asm.proofs.OpenWaits.{open_waits}
@@ -143,7 +143,7 @@ main-opened out a None = refl
 nothing-ends : one_pass [] ≡ assembled_lines []
 unfolding line_items items_from accepted sights_from first_fault open_waits locals_from
 nothing-ends =
-    main-opened opening beginning (one_pass_fault beginning)
+    main-opened opening beginning (assembly_fault beginning)
     ∙ ended-alike opening [] 1 0 0 first_head [] refl refl refl
 
 pub whole-is : (lines : List Line) → one_pass lines ≡ assembled_lines lines

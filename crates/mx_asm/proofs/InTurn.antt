@@ -37,7 +37,7 @@ taken-ends lines out a h = ap (λ p. end_behind p.0 p.1) h.taken ∙ whole-is li
 
 -- ---- a source
 
-all-accepted : (later before : List Sight) → first_fault before later ≡ None → accepted before later ≡ later
+pub all-accepted : (later before : List Sight) → first_fault before later ≡ None → accepted before later ≡ later
 unfolding accepted first_fault
 all-accepted [] before none = refl
 all-accepted (s ∷ later) before none =

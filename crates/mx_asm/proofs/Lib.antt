@@ -16,3 +16,6 @@ pub mod EndWaits
 pub mod EndLaw
 pub mod InTurn
 pub mod Sparing
+pub mod Fitting
+pub mod Validity
+pub mod FrontLaw

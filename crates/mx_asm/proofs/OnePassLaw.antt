@@ -113,5 +113,3 @@ pub refusal-is : (lines : List Line) → result_err (lines_taken lines).1 ≡ en
 unfolding line_items sights_from first_fault
 refusal-is [] = refl
 refusal-is (line ∷ lines) = ap (λ p. result_err p.1) (some-lines line lines) ∙ progress-refusal _ _ _ _ _
-
-pub ruleset one_pass_laws = (items-are, refusal-is)

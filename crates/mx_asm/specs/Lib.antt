@@ -9,3 +9,4 @@ pub mod Image
 pub mod OnePass
 pub mod Whole
 pub mod Effects
+pub mod Fitting

@@ -2,8 +2,11 @@
 use Rattle.std.specs.Prelude.{ℕ, zero, suc, ◌+◌, ◌/◌, ◌^◌, max, nat_lt, Bool, true, false, if◌then◌else◌, List, [], ◌∷◌, ◌++◌, length, slice_set, Option, None, Some, Result, Ok, Err}
 use Rattle.mx_word.specs.declared.symbols.Value.{Value}
 use Rattle.mx_word.specs.declared.symbols.Value.TheVariants.{Pure, Reg}
+use Rattle.mx_word.specs.declared.waits.Awaited.{Awaited}
 use Rattle.mx_word.specs.declared.waits.Awaited.TheVariants as awaited
 use Rattle.mx_word.specs.declared.waits.Wait.{Wait}
+use Rattle.mx_line.specs.declared.cutter.Cut.{Cut}
+use Rattle.mx_line.specs.Source.{item_of}
 use Rattle.mx_mmo.specs.declared.items.Item.{Item}
 use Rattle.mx_names.specs.declared.fault.NameFault.{NameFault}
 use Rattle.mx_names.specs.Names.{NameTable, define_answer, value_of_name, with_symbol}
@@ -21,7 +24,7 @@ use Rattle.mx_asm.specs.declared.faults.AsmFault.{AsmFault}
 use Rattle.mx_asm.specs.declared.faults.AsmFault.TheVariants.{Stmt, Name as BadName, MainUndefined, MainRegister, SymbolsTooMany, LocalAboveGlobals, SourceTooLong}
 use Rattle.mx_asm.specs.declared.refused.Refused.{Refused}
 use Rattle.mx_asm.specs.Faults.{refused}
-use Rattle.mx_asm.specs.Entries.{Entry, line_entries}
+use Rattle.mx_asm.specs.Entries.{Entry, entry_of, line_entries}
 use Rattle.mx_asm.specs.TwoPass.{nothing_known, with_effect}
 use Rattle.mx_asm.specs.declared.head.Head.{Head}
 use Rattle.mx_asm.specs.Emission.{first_head, statement_items, statement_head, opening, closing, main_name, padded_trie}
@@ -145,6 +148,10 @@ unfoldable pub entries_taken : List Entry → List Item → Assembly → Progres
 entries_taken [] out a = (out, Ok a)
 entries_taken (e ∷ entries) out a = and_entries (entries_taken entries) (behind_entry out (entry_taken a e))
 
+-- a statement that was cut from a line with this number
+abbrev pub cut_taken : ℕ → List ℕ → Cut → List Item → Assembly → Progress
+cut_taken line text cut out a = behind_entry out (entry_taken a (entry_of (item_of line text (Ok cut))))
+
 -- a line is counted
 abbrev pub counted : Assembly → List ℕ → Assembly
 counted a text = record a { lines = a.lines + 1; size = a.size + length text + 1 }
@@ -184,8 +191,9 @@ main_fault lowest locals None = Some MainUndefined
 main_fault lowest locals (Some (Reg r)) = Some MainRegister
 main_fault lowest locals (Some (Pure main)) = if nat_lt lowest locals then Some LocalAboveGlobals else None
 
-abbrev pub end_fault : Assembly → Option AsmFault
-end_fault a = main_fault (lowest_of a.known.gregs) a.locals (value_of_name a.known.names main_name)
+-- what an assembly is refused with at its end
+abbrev pub assembly_fault : Assembly → Option AsmFault
+assembly_fault a = main_fault (lowest_of a.known.gregs) a.locals (value_of_name a.known.names main_name)
 
 -- the items and the trie, or the refusal
 abbrev pub Ended : Type 0
@@ -202,7 +210,7 @@ ended_main out a None = ended_trie out a (padded_trie a.known.names)
 
 abbrev pub ended_waits : List Item → Assembly → Option Wait → Ended
 ended_waits out a (Some wait) = (out, Err (refused wait.line (undefined wait.who)))
-ended_waits out a None = ended_main out a (end_fault a)
+ended_waits out a None = ended_main out a (assembly_fault a)
 
 abbrev pub ended : List Item → Assembly → Ended
 ended out a = ended_waits out a (first_of a.known.names.waiting)
@@ -212,6 +220,9 @@ end_behind out (Err refused) = (out, Err refused)
 end_behind out (Ok a) = ended (with_opening a.opened out) a
 
 -- what calls answer, with what they leave
+abbrev pub waits_taken : Awaited → NameTable → Labelled
+waits_taken who names = Ok (record names { waiting = waits_for_others who names.waiting }, waits_for who names.waiting)
+
 abbrev pub labelled_after : Result (List Wait) AsmFault → NameTable → Labelled
 labelled_after (Ok waits) names = Ok (names, waits)
 labelled_after (Err fault) names = Err fault

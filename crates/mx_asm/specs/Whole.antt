@@ -1,5 +1,5 @@
 -- What the lines of a source come to: the items of the statements before the first refusal, and the refusal.
-use Rattle.std.specs.Prelude.{◌≡◌, ℕ, List, [], ◌∷◌, ◌++◌, fold, Option, None, Some, Ok, Err}
+use Rattle.std.specs.Prelude.{◌≡◌, ℕ, List, [], ◌∷◌, ◌++◌, map, fold, Option, None, Some, Ok, Err}
 use Rattle.std.specs.Result.{result_err}
 use Rattle.mx_line.specs.Lines.{lines_of}
 use Rattle.mx_line.specs.Source.{items_from as line_items}
@@ -27,6 +27,10 @@ accepted earlier (s ∷ later) = accepted_with (statement_fault earlier s) s (ac
 -- the entries of lines, from the first on
 abbrev pub lines_entries : List Line → List Entry
 lines_entries lines = entries_of (line_items lines 1 lines)
+
+-- the statements before the first one that is refused
+abbrev pub accepted_in : List Entry → List StatementTree
+accepted_in entries = map (λ (s : Sight). s.statement) (accepted [] (sights_of (statements_in entries)))
 
 -- the items of the statements before the first refusal
 abbrev pub entries_items : List Entry → List Item

@@ -3,6 +3,7 @@
 ghost use Rattle.std.specs.Prelude.{◌≡◌, ◌≢◌, ◌+◌, ◌<◌, ◌≤◌, ◌^◌, ◌++◌, ◌∷◌, ℕ, List, [], Bool, true, false, Result, Ok, Err, IfOk, IfErr, OnOk, OnErr, length};
 ghost use Rattle.mx_word.specs.Results.{map_ok};
 ghost use Rattle.mx_asm.specs.Faults.{no_memory};
+ghost use Rattle.mx_asm.specs.Fitting.{AreFit, AreWritable, IsPadded};
 ghost use Rattle.mx_asm.specs.Fronts.{IsFront};
 ghost use Rattle.mx_asm.specs.Entries.{holds_statement};
 ghost use Rattle.mx_asm.specs.OnePass as spec;
@@ -52,7 +53,8 @@ impl Assembler {
     /// Takes the next line, a text without a newline byte, and adds the items of its statements. The
     /// first call of `line` or `finish` adds what stands first in an object. After a refusal every
     /// later call answers it again, and `out` has the items of the statements before the faulty one.
-    /// Behind a line that was taken, one that holds no statement takes no memory.
+    /// From `new` on, items and refusals are those of two passes over the lines so far. Behind a line
+    /// that was taken, one that holds no statement takes no memory.
     pub fn line(&mut self, text: &[u8], out: &mut Items) -> Result<(), Refused>
         ensures answer { result ≡ map_ok (λ _. tt) self.new }
         ensures taken { result ≢ Err no_memory → (out.new, self.new) ≡ spec.line_behind out.old self.old text.now }
@@ -61,6 +63,7 @@ impl Assembler {
         ensures open { OnOk result (spec.is_open self.new ≡ true) }
         ensures sparing { spec.is_open self.old ≡ true → holds_statement text.now ≡ false → result ≢ Err no_memory }
         ensures front { IsFront out.new (spec.line_behind out.old self.old text.now).0 }
+        ensures fits { AreFit out.old → AreFit out.new }
         ensures again { OnErr self.old ((out.new ≡ out.old) × (self.new ≡ self.old)) }
     {
         if let Some(refused) = self.refused {
@@ -77,7 +80,8 @@ impl Assembler {
 
     /// Ends the source: adds the global registers, and gives the symbol trie with the zeros that
     /// complete its last tetra. After a refusal every later call answers it again, and `out` has the
-    /// items of all statements, or of those before a faulty one.
+    /// items of all statements, or of those before a faulty one. From `new` on, items, trie and refusal
+    /// are those of two passes over all lines, and an object can be written from items and trie.
     pub fn finish(&mut self, out: &mut Items) -> Result<Bytes, Refused>
         ensures ended { result ≢ Err no_memory → (out.new, result) ≡ spec.end_behind out.old self.old }
         ensures whole { (lines : List (List ℕ)) → HasTaken lines out.old self.old → result ≢ Err no_memory →
@@ -85,6 +89,9 @@ impl Assembler {
         ensures refused { IfErr result (λ refused. self.new ≡ Err refused) }
         ensures accepted { OnOk result (self.new ≡ map_ok spec.opened self.old) }
         ensures front { IsFront out.new (spec.end_behind out.old self.old).0 }
+        ensures fits { AreFit out.old → AreFit out.new }
+        ensures object { (lines : List (List ℕ)) → HasTaken lines out.old self.old → AreFit out.old →
+            IfOk result (λ trie. AreWritable out.new trie) }
         ensures again { OnErr self.old ((out.new ≡ out.old) × (self.new ≡ self.old)) }
     {
         if let Some(refused) = self.refused {
@@ -105,6 +112,8 @@ fn end(assembly: &mut Assembly, out: &mut Items) -> Result<Bytes, Refused>
     ensures ended { result ≢ Err no_memory → (out.new, result) ≡ spec.end_behind out.old (Ok assembly.old) }
     ensures opened { OnOk result (assembly.new ≡ spec.opened assembly.old) }
     ensures front { IsFront out.new (spec.end_behind out.old (Ok assembly.old)).0 }
+    ensures fits { AreFit out.old → AreFit out.new }
+    ensures trie { IfOk result IsPadded }
 {
     assembly.open(out)?;
     assembly.end(out)
@@ -120,6 +129,7 @@ fn take_line(
     ensures taken { result ≢ Err no_memory →
         (out.new, spec.standing_after result assembly.new) ≡ spec.line_behind out.old (Ok assembly.old) text.now }
     ensures front { IsFront out.new (spec.line_behind out.old (Ok assembly.old) text.now).0 }
+    ensures fits { AreFit out.old → AreFit out.new }
     ensures sparing { assembly.old.opened ≡ true → holds_statement text.now ≡ false → result ≢ Err no_memory }
 {
     assembly.open(out)?;

@@ -8,6 +8,7 @@ ghost use Rattle.mx_stmt.specs.Reading.{LabelHasDigit, StatementHasDigits};
 ghost use Rattle.mx_asm.specs.Effects.{IsEffect, IsPlaced};
 ghost use Rattle.mx_asm.specs.Emission.{opening, piece_items, piece_head};
 ghost use Rattle.mx_asm.specs.Faults.{no_memory};
+ghost use Rattle.mx_asm.specs.Fitting.{AreFit, IsPadded};
 ghost use Rattle.mx_asm.specs.Fronts.{IsFront};
 ghost use Rattle.mx_asm.specs.Fixes.{awaited_value};
 ghost use Rattle.mx_asm.specs.TwoPass.{with_effect};
@@ -63,7 +64,8 @@ impl Model for Assembly {
       opened = a.opened;
     } };
 
-    ghost invariant = { λ a. AreNames a.names × (length a.gregs ≤ 223) × (a.lines ≤ a.size) × (a.size ≤ 2 ^ 22 + 1) × (length a.names.symbols ≤ a.defined) };
+    ghost invariant = { λ a. AreNames a.names × (length a.gregs ≤ 223) × (a.lines ≤ a.size) × (a.size ≤ 2 ^ 22 + 1)
+        × (length a.names.symbols ≤ a.defined) };
 }
 
 impl Assembly {
@@ -95,6 +97,7 @@ impl Assembly {
         ensures opened { OnOk result (self.new ≡ spec.opened self.old) }
         ensures front { IsFront out.new (spec.with_opening self.old.opened out.old) }
         ensures sparing { OnErr result (self.old.opened ≡ false) }
+        ensures fits { AreFit out.old → AreFit out.new }
     {
         if !self.opened {
             push_opening(self.alloc, out)?;
@@ -123,6 +126,8 @@ impl Assembly {
     pub(crate) fn end(&self, out: &mut Items) -> Result<Bytes, Refused>
         ensures ended { result ≢ Err no_memory → (out.new, result) ≡ spec.ended out.old self.now }
         ensures front { IsFront out.new (spec.ended out.old self.now).0 }
+        ensures fits { AreFit out.old → AreFit out.new }
+        ensures trie { IfOk result IsPadded }
     {
         if let Some(wait) = self.names.first_waiting() {
             return Err(Refused::at(wait.line, undefined(&wait.who)));
@@ -191,6 +196,7 @@ impl Assembly {
     ) -> Result<Items, Refused>
         requires { 0 < length bytes.now → start + length bytes.now ≤ 2 ^ 63 }
         ensures items { result ≢ Err no_memory → result ≡ piece_items self.old.head line value start bytes.now waits.now }
+        ensures fits { IfOk result AreFit }
         ensures head { OnOk result (self.new ≡ record self.old { head = piece_head self.old.head line value start bytes.now waits.now }) }
     {
         let mut items = fix_items(self.alloc, self.head.lambda, line, value, waits)?;
@@ -204,8 +210,9 @@ impl Assembly {
     fn settle(&mut self, line: u32, label: &Option<Label>, placed: Placed) -> Result<Items, Refused>
         requires digit { IfSome label.now LabelHasDigit }
         requires placed { IsPlaced self.old.known.gregs placed }
-        ensures { result ≢ Err no_memory →
+        ensures taken { result ≢ Err no_memory →
             spec.taken_after result self.new ≡ spec.taken_placed self.old line label.now placed }
+        ensures fits { IfOk result AreFit }
     {
         let value = placed.label.unwrap_or(Value::Pure(0));
         let waits = match self.define(label, placed.label, placed.waits) {
@@ -228,8 +235,9 @@ impl Assembly {
     /// Takes a statement, and gives its items.
     pub(crate) fn take(&mut self, s: &Statement) -> Result<Items, Refused>
         requires { StatementHasDigits s.now }
-        ensures { result ≢ Err no_memory →
+        ensures taken { result ≢ Err no_memory →
             spec.taken_after result self.new ≡ spec.statement_taken self.old (statement_tree s.now) }
+        ensures fits { IfOk result AreFit }
     {
         let env = Env {
             names: &self.names,
@@ -245,9 +253,11 @@ impl Assembly {
 }
 
 /// Adds a time of 0, and the file.
+#[tactic(auto, using(crate::proofs::Fitting::fitting))]
 fn push_opening(alloc: Global, out: &mut Items) -> Result<(), NoMemory>
     ensures all { OnOk result (out.new ≡ out.old ++ opening) }
     ensures front { IsFront out.new (out.old ++ opening) }
+    ensures fits { AreFit out.old → AreFit out.new }
 {
     let mut tetras = Words::new(alloc);
     tetras.push(0)?;
@@ -256,5 +266,6 @@ fn push_opening(alloc: Global, out: &mut Items) -> Result<(), NoMemory>
     out.push(Item::File {
         number: 0,
         name: Some(name),
-    })
+    })?;
+    Ok(())
 }

@@ -1,9 +1,11 @@
 //! The end of a source.
 
-ghost use Rattle.std.specs.Prelude.{◌≡◌, ◌≢◌, ◌≤◌, ◌++◌, Ok, Err, IfOk, OnOk, length};
+ghost use Rattle.std.specs.Prelude.{◌≡◌, ◌≢◌, ◌≤◌, ◌++◌, ◌%◌, Ok, Err, IfOk, OnOk, length};
 ghost use Rattle.mx_names.specs.Names.{value_of_name};
 ghost use Rattle.mx_asm.specs.Emission as emission;
+ghost use Rattle.mx_asm.specs.Fitting.{AreFit};
 ghost use Rattle.mx_asm.specs.Fronts.{IsFront};
+ghost use Rattle.mx_word.specs.Ranges.{AreOctas};
 ghost use Rattle.mx_asm.specs.Refusal.{undefined};
 ghost use Rattle.mx_asm.specs.OnePass as spec;
 
@@ -56,7 +58,8 @@ fn main_address(names: &Names) -> u64
 
 /// The symbol trie, with the zeros that complete its last tetra.
 pub(crate) fn padded_trie(alloc: Global, names: &Names) -> Result<Bytes, NoMemory>
-    ensures { IfOk result (λ trie. trie ≡ emission.padded_trie names.now) }
+    ensures trie { IfOk result (λ trie. trie ≡ emission.padded_trie names.now) }
+    ensures whole { IfOk result (λ trie. length trie % 4 ≡ 0) }
 {
     let Ok(symbols) = names.sorted() else {
         return Err(NoMemory);
@@ -69,7 +72,8 @@ pub(crate) fn padded_trie(alloc: Global, names: &Names) -> Result<Bytes, NoMemor
 
 /// Bytes with the zeros that complete their last tetra.
 fn padded(bytes: Bytes) -> Result<Bytes, NoMemory>
-    ensures { IfOk result (λ trie. trie ≡ bytes ++ emission.zeros_after (length bytes)) }
+    ensures trie { IfOk result (λ trie. trie ≡ bytes ++ emission.zeros_after (length bytes)) }
+    ensures whole { IfOk result (λ trie. length trie % 4 ≡ 0) }
 {
     let mut bytes = bytes;
     let count = bytes.as_slice().len();
@@ -78,9 +82,11 @@ fn padded(bytes: Bytes) -> Result<Bytes, NoMemory>
 }
 
 /// The values of the global registers that GREG gave.
+#[tactic(auto, using(crate::proofs::Fitting::fitting))]
 fn values(alloc: Global, gregs: &Gregs) -> Result<Octas, NoMemory>
     requires { length gregs.now ≤ 223 }
-    ensures { IfOk result (λ values. values ≡ gregs.now) }
+    ensures values { IfOk result (λ values. values ≡ gregs.now) }
+    ensures octas { IfOk result AreOctas }
 {
     let mut values = Octas::new(alloc);
     for reg in gregs.lowest()..255 {
@@ -90,6 +96,7 @@ fn values(alloc: Global, gregs: &Gregs) -> Result<Octas, NoMemory>
 }
 
 /// Adds the global registers, and that the trie follows.
+#[tactic(auto, using(crate::proofs::Fitting::fitting))]
 pub(crate) fn close(
     alloc: Global,
     out: &mut Items,
@@ -99,10 +106,12 @@ pub(crate) fn close(
     requires { length gregs.now ≤ 223 }
     ensures all { OnOk result (out.new ≡ out.old ++ emission.closing names.now gregs.now) }
     ensures front { IsFront out.new (out.old ++ emission.closing names.now gregs.now) }
+    ensures fits { AreFit out.old → AreFit out.new }
 {
     let mut values = values(alloc, gregs)?;
     values.push(main_address(names))?;
     let g = gregs.lowest();
     out.push(Item::Post { g, values })?;
-    out.push(Item::Stab)
+    out.push(Item::Stab)?;
+    Ok(())
 }

@@ -4,6 +4,7 @@ ghost use Rattle.std.specs.Prelude.{◌≡◌, ◌+◌, ◌<◌, ◌≤◌, ◌^
 ghost use Rattle.mx_mmo.specs.Reading.{tetras_of};
 ghost use Rattle.mx_mmo.specs.declared.items.Item.TheVariants.{Load};
 ghost use Rattle.mx_asm.specs.Emission as spec;
+ghost use Rattle.mx_asm.specs.Fitting.{AreFit};
 
 use mx_mmo::{Item, Items};
 use mx_word::{Bytes, NoMemory, Value, Wait, tetra_of};
@@ -55,7 +56,8 @@ impl Head {
         bytes: &[u8],
     ) -> Result<(), NoMemory>
         requires { 0 < length bytes.now → start + length bytes.now ≤ 2 ^ 63 }
-        ensures { OnOk result (items.new ≡ items.old ++ spec.byte_items self line start bytes.now) }
+        ensures items { OnOk result (items.new ≡ items.old ++ spec.byte_items self line start bytes.now) }
+        ensures fits { OnOk result (AreFit items.old → AreFit items.new) }
     {
         if bytes.is_empty() {
             return Ok(());
@@ -101,8 +103,10 @@ fn line_behind(line: u16, tetras: u64) -> u32
 }
 
 /// Adds where tetras are loaded, if lambda is another place.
+#[tactic(auto, using(crate::proofs::Fitting::fitting))]
 fn locate(items: &mut Items, lambda: u64, start: u64) -> Result<(), NoMemory>
-    ensures { OnOk result (items.new ≡ items.old ++ spec.located lambda start) }
+    ensures items { OnOk result (items.new ≡ items.old ++ spec.located lambda start) }
+    ensures fits { OnOk result (AreFit items.old → AreFit items.new) }
 {
     if lowered(lambda) == lowered(start) {
         return Ok(());
@@ -111,8 +115,10 @@ fn locate(items: &mut Items, lambda: u64, start: u64) -> Result<(), NoMemory>
 }
 
 /// Adds the line of tetras, if another one is in force.
+#[tactic(auto, using(crate::proofs::Fitting::fitting))]
 fn set_line(items: &mut Items, in_force: u32, line: u32) -> Result<(), NoMemory>
-    ensures { OnOk result (items.new ≡ items.old ++ spec.lined in_force line) }
+    ensures items { OnOk result (items.new ≡ items.old ++ spec.lined in_force line) }
+    ensures fits { OnOk result (AreFit items.old → AreFit items.new) }
 {
     let told = told_line(line);
     if in_force == u32::from(told) {
@@ -122,8 +128,10 @@ fn set_line(items: &mut Items, in_force: u32, line: u32) -> Result<(), NoMemory>
 }
 
 /// Adds the tetras of bytes.
+#[tactic(auto, using(crate::proofs::Fitting::fitting))]
 fn load_all(items: &mut Items, bytes: &[u8]) -> Result<(), NoMemory>
-    ensures { OnOk result (items.new ≡ items.old ++ map Load (tetras_of bytes.now)) }
+    ensures items { OnOk result (items.new ≡ items.old ++ map Load (tetras_of bytes.now)) }
+    ensures fits { OnOk result (AreFit items.old → AreFit items.new) }
 {
     let mut rest = bytes;
     while let [a, b, c, d, others @ ..] = rest {

@@ -2,7 +2,6 @@
 
 ghost use Rattle.std.specs.Prelude.{◌≡◌, ◌≢◌, ◌<◌, ◌≤◌, ◌+◌, Ok, Err, OnOk, IfSome, IfErr, length};
 ghost use Rattle.mx_names.specs.Names.{AreNames, IsFullName, define_answer};
-ghost use Rattle.mx_names.specs.Waiting.{waits_for, waits_for_others};
 ghost use Rattle.mx_stmt.specs.Operands.{symbol_form};
 ghost use Rattle.mx_stmt.specs.Reading.{LabelHasDigit};
 ghost use Rattle.mx_asm.specs.OnePass as spec;
@@ -31,7 +30,7 @@ fn wait_for(names: &mut Names, waits: Waits) -> Result<(), AsmFault>
 /// Gives and removes the references that wait for a name or a local label.
 fn take_waiting(names: &mut Names, who: &Awaited) -> Result<Waits, AsmFault>
     ensures taken { result ≢ Err AsmFault.OutOfMemory →
-        spec.labelled_after result names.new ≡ Ok (record names.old { waiting = waits_for_others who.now names.old.waiting }, waits_for who.now names.old.waiting) }
+        spec.labelled_after result names.new ≡ spec.waits_taken who.now names.old }
     ensures kept { AreNames names.new }
     ensures symbols { names.new.symbols ≡ names.old.symbols }
 {

@@ -2,21 +2,33 @@
 
 ghost use Rattle.std.specs.Prelude.{◌≡◌, ℕ, List, [], ◌∷◌, ◌++◌, None, Some, Ok, Err};
 ghost use Rattle.std.specs.Result.{result_err};
+ghost use Rattle.mx_line.specs.Source.{item_of};
+ghost use Rattle.mx_line.specs.declared.cutter.Cut.{Cut};
 ghost use Rattle.mx_mmo.specs.declared.items.Item.{Item};
-ghost use Rattle.mx_asm.specs.Emission.{emission, opening, padded_trie};
-ghost use Rattle.mx_asm.specs.Entries.{source_entries, statements_in};
+ghost use Rattle.mx_stmt.specs.Encoding.{StatementTree};
+ghost use Rattle.mx_stmt.specs.Reading.{IsFault, IsRead, fields_of};
+ghost use Rattle.mx_stmt.specs.declared.faults.StmtFault.{StmtFault};
+ghost use Rattle.mx_asm.specs.Emission.{emission, front, padded_trie};
+ghost use Rattle.mx_asm.specs.Entries.{entry_of, source_entries, statements_in};
+ghost use Rattle.mx_asm.specs.Faults.{refused};
 ghost use Rattle.mx_asm.specs.OnePass.{Standing, beginning, end_behind, line_behind};
 ghost use Rattle.mx_asm.specs.Refusal.{refusal};
 ghost use Rattle.mx_asm.specs.TwoPass.{final_known};
-ghost use Rattle.mx_asm.specs.Whole.{HasTaken, assembled_lines, assembled_source, entries_items, lines_items, lines_refusal, lines_taken, one_pass};
+ghost use Rattle.mx_asm.specs.Whole.{HasTaken, accepted_in, assembled_lines, assembled_source, lines_entries, lines_items, lines_refusal, lines_taken, one_pass};
+ghost use Rattle.mx_asm.specs.declared.faults.AsmFault.TheVariants.{Stmt};
 ghost use Rattle.mx_asm.specs.declared.refused.Refused.{Refused};
 
 /// Once lines were taken one after another, the items that they gave are those of the two passes: of
 /// all statements before the first refusal, each with zero for its references, and with a record
-/// for a reference where its label stands. The refusal is the first one of the two passes.
-#[tactic(auto, using(crate::proofs::OnePassLaw::one_pass_laws))]
+/// for a reference where its label stands. The refusal is the first one of the two passes. Without
+/// one these are all statements of the lines.
+#[tactic(auto, using(crate::proofs::FrontLaw::front_laws))]
 pub fn lines_give_the_front()
     ensures items { (lines : List (List ℕ)) → (lines_taken lines).0 ≡ lines_items lines }
+    ensures front { (line : List ℕ) (lines : List (List ℕ)) →
+        lines_items (line ∷ lines) ≡ front (accepted_in (lines_entries (line ∷ lines))) }
+    ensures all { (lines : List (List ℕ)) → lines_refusal lines ≡ None →
+        accepted_in (lines_entries lines) ≡ statements_in (lines_entries lines) }
     ensures refusal { (lines : List (List ℕ)) → result_err (lines_taken lines).1 ≡ lines_refusal lines }
 {}
 
@@ -38,10 +50,20 @@ pub fn lines_are_taken_in_turn()
 {}
 
 /// A source that is not refused is assembled into what its statements emit, and their symbol trie.
-/// One that is refused gives the items of the statements before its refusal, and the refusal.
+/// One that is refused gives the front of an object of the statements before its refusal, and the
+/// refusal.
 pub fn sources_are_emitted_or_refused()
     ensures emitted { (source : List ℕ) → refusal source ≡ None → assembled_source source ≡
         (emission (statements_in (source_entries source)), Ok (padded_trie (final_known (statements_in (source_entries source))).names)) }
     ensures refused { (source : List ℕ) (r : Refused) → refusal source ≡ Some r →
-        assembled_source source ≡ (opening ++ entries_items (source_entries source), Err r) }
+        assembled_source source ≡ (front (accepted_in (source_entries source)), Err r) }
+{}
+
+/// What is listed for a statement that was cut from a line is the statement that its fields say, or
+/// the refusal of the line with their fault.
+pub fn entries_are_read()
+    ensures read { (line : ℕ) (text : List ℕ) (cut : Cut) (s : StatementTree) → IsRead (fields_of text cut) line s →
+        entry_of (item_of line text (Ok cut)) ≡ Ok s }
+    ensures faulty { (line : ℕ) (text : List ℕ) (cut : Cut) (fault : StmtFault) → IsFault (fields_of text cut) fault →
+        entry_of (item_of line text (Ok cut)) ≡ Err (refused line (Stmt fault)) }
 {}

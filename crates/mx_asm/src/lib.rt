@@ -17,7 +17,7 @@ mod tests;
 pub use assembler::Assembler;
 pub use faults::AsmFault;
 pub use laws::{
-    lines_are_taken_in_turn, lines_give_the_front, one_pass_gives_the_whole,
+    entries_are_read, lines_are_taken_in_turn, lines_give_the_front, one_pass_gives_the_whole,
     sources_are_emitted_or_refused,
 };
 pub use refused::Refused;

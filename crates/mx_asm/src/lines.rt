@@ -7,6 +7,7 @@ ghost use Rattle.mx_stmt.specs.Encoding.{statement_tree};
 ghost use Rattle.mx_stmt.specs.Reading.{CutWithin, StatementHasDigits};
 ghost use Rattle.mx_asm.specs.Entries as entries;
 ghost use Rattle.mx_asm.specs.Faults.{no_memory};
+ghost use Rattle.mx_asm.specs.Fitting.{AreFit};
 ghost use Rattle.mx_asm.specs.Fronts.{IsFront};
 ghost use Rattle.mx_asm.specs.OnePass as spec;
 
@@ -22,6 +23,7 @@ use std::alloc::Global;
 fn append(out: &mut Items, items: Items) -> Result<(), NoMemory>
     ensures all { OnOk result (out.new ≡ out.old ++ items) }
     ensures front { IsFront out.new (out.old ++ items) }
+    ensures fits { AreFit out.old → AreFit items → AreFit out.new }
 {
     for item in items.into_vec() {
         out.push(item)?;
@@ -55,8 +57,9 @@ fn take_cut(
 ) -> Result<(), Refused>
     requires { CutWithin (length text.now) cut.now }
     ensures taken { result ≢ Err no_memory → (out.new, spec.standing_after result assembly.new) ≡
-        spec.behind_entry out.old (spec.entry_taken assembly.old (entries.entry_of (item_of line text.now (Ok cut.now)))) }
-    ensures front { IsFront out.new (spec.behind_entry out.old (spec.entry_taken assembly.old (entries.entry_of (item_of line text.now (Ok cut.now))))).0 }
+        spec.cut_taken line text.now cut.now out.old assembly.old }
+    ensures front { IsFront out.new (spec.cut_taken line text.now cut.now out.old assembly.old).0 }
+    ensures fits { AreFit out.old → AreFit out.new }
 {
     let statement = read(alloc, text, cut, line)?;
     let items = assembly.take(&statement)?;
@@ -77,6 +80,7 @@ pub(crate) fn take_statements(
         spec.entries_taken (entries.line_entries line text.now) out.old assembly.old }
     ensures front { IsFront out.new (spec.entries_taken (entries.line_entries line text.now) out.old assembly.old).0 }
     ensures sparing { entries.holds_statement text.now ≡ false → result ≢ Err no_memory }
+    ensures fits { AreFit out.old → AreFit out.new }
 {
     let mut at = 0;
     'statements: loop {

@@ -1,11 +1,14 @@
 use Rattle.std.proofs.Common.{◌≡◌, ◌++◌, length, map}
 use Rattle.mx_mmo.specs.Reading.{tetras_of}
 use Rattle.mx_mmo.specs.declared.items.Item.TheVariants.{Load}
+use Rattle.mx_asm.specs.Fitting.{AreFit}
 use Rattle.mx_asm.proofs.head.load_all.Given as goal
 
 -- the items so far, and the tetras of the bytes that are left, are all
 abbrev pub invariant-loop-rest : goal.invariant-loop-rest
-invariant-loop-rest l = l.items ++ map Load (tetras_of l.rest) ≡ l.fn.items ++ map Load (tetras_of l.bytes)
+invariant-loop-rest l =
+    (l.items ++ map Load (tetras_of l.rest) ≡ l.fn.items ++ map Load (tetras_of l.bytes))
+    × (AreFit l.fn.items → AreFit l.items)
 
 abbrev pub decreases-loop-rest : goal.decreases-loop-rest
 decreases-loop-rest l = length l.rest

@@ -25,6 +25,7 @@ statements-preserved c = (
       (c.in_ok-take_cut-in-Ok-Some.ensures.taken (λ same. cc))
       ∙ c.statements.invariant.1,
   λ none. absurd (no-statement c.args.text.now c.statements.at c.in-Ok-Some.field-0 c.in-Ok-Some.cut (c.statements.invariant.2 none) (cc) c.in-Ok-Some.ensures.list none),
+  λ fit. c.in_ok-take_cut-in-Ok-Some.ensures.fits (c.statements.invariant.3 fit),
 )
 
 pub returns-in-Err-clause-taken : goal.returns-in-Err-clause-taken
