@@ -4,6 +4,7 @@
 mod message;
 mod names;
 mod outcome;
+mod pieces;
 mod refusal;
 
 pub use names::{fault_name, usage_name};
