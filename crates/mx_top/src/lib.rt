@@ -1,6 +1,8 @@
 //! The program: what it does with the words of its command line.
 #![tactic(auto)]
 
+mod arguments;
+mod generator;
 mod message;
 mod names;
 mod outcome;
