@@ -1,3 +1,9 @@
+pub mod DumpLaws
+pub mod DumpLines
+pub mod Dumps
 pub mod Generated
 pub mod Pools
+pub mod PutLines
 pub mod PutPieces
+pub mod SameDumps
+pub mod SpecialNames
