@@ -13,6 +13,7 @@ use Rattle.mx_top.specs.Runs.{Ran, ran, ran_wild, after_lines, dumped, leaves_ma
 use Rattle.mx_top.specs.declared.outcome.Outcome.{Outcome}
 use Rattle.mx_top.specs.declared.outcome.Outcome.TheVariants.{HostFault}
 use Rattle.mx_top.proofs.PutLines.{lines-front}
+use Rattle.mx_top.proofs.SameDumps.{same-dump}
 
 -- lines only add to standard output, and so does what follows a run
 pub after_lines-front : (outcome : Outcome) (m : HostModel) (t : Then Bool) → IsFront m.output t.1.output → IsFront m.output (output_of (after_lines outcome t))
@@ -25,12 +26,9 @@ dumped-front wanted outcome s m = by (wanted && leaves_machine outcome)
     by true = after_lines-front outcome m (lines_put (dump_lines s) m) (lines-front (dump_lines s) m)
     by false = front-self m.output
 
--- the dump of a list is that of the window, where nothing was touched
-pub dump-listed : (s : State) → s.touched ≡ false → dump_lines (as_list_state s) ≡ dump_lines s
-dump-listed s e = ?
-
+-- that of the list is the same, where nothing was touched
 pub dumped-listed : (wanted : Bool) (outcome : Outcome) (s : State) (m : HostModel) → s.touched ≡ false →
     dumped wanted (ran outcome (as_list_state s) m) ≡ dumped wanted (ran outcome s m)
-dumped-listed wanted outcome s m e = rw (dump-listed s e) refl
+dumped-listed wanted outcome s m e = rw (same-dump s e) refl
 
 pub ruleset dumping = (dumped-front, dumped-listed)

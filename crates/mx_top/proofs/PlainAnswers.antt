@@ -9,6 +9,6 @@ pub plain-answer : (result : Outcome) (new : HostModel) (t : Then Outcome) → (
 plain-answer result new t e = ap plainly e
 
 pub plain-goes : (result : Outcome) (new : HostModel) (t : Then Outcome) → (result, new) ≡ t → GoesAs (plainly t) result new
-plain-goes result new (outcome, m) e = (cc, cc)
+plain-goes result new (outcome, m) e = (ap (λ (p : Then Outcome). p.0) e, ap (λ (p : Then Outcome). p.1) e)
 
 pub ruleset plain = (plain-answer, plain-goes)

@@ -20,22 +20,24 @@ use Rattle.mx_top.specs.declared.outcome.Outcome.TheVariants.{Stopped}
 
 -- NOTHING IS TOUCHED
 
+chosen : (b : Bool) (s t : State) (touched : Bool) → s.touched ≡ touched → t.touched ≡ touched → (cond b s t).touched ≡ touched
+chosen true s t touched e f = e
+chosen false s t touched e f = f
+
 octa-untouched : (s : State) (a x : ℕ) → (with_octa s a x).touched ≡ s.touched
 unfolding with_octa
-octa-untouched s a x = by (in_stack_area a)
-  where
-    by : (b : Bool) → (cond b (record s { stack = (with_octa s a x).stack }) (record s { octas = (with_octa s a x).octas })).touched ≡ s.touched
-    by true = refl
-    by false = refl
+octa-untouched s a x = chosen (in_stack_area a) _ _ s.touched refl refl
+
+unless-refused : (b : Bool) (more : Option State) (t : State) (touched : Bool) → (more ≡ Some t → t.touched ≡ touched) → cond b None more ≡ Some t → t.touched ≡ touched
+unless-refused true more t touched h e = absurd (cc)
+unless-refused false more t touched h e = h e
 
 octas-untouched : (xs : List ℕ) (s t : State) (a : ℕ) → with_octas s a xs ≡ Some t → t.touched ≡ s.touched
 unfolding with_octas
 octas-untouched [] s t a e = cc
-octas-untouched (x ∷ xs) s t a e = by (is_negative a || is_page_refused s a) e
-  where
-    by : (b : Bool) → cond b None (with_octas (with_octa s a x) (a + 8) xs) ≡ Some t → t.touched ≡ s.touched
-    by true e = absurd (cc)
-    by false e = octas-untouched xs (with_octa s a x) t (a + 8) e ∙ octa-untouched s a x
+octas-untouched (x ∷ xs) s t a e =
+    unless-refused (is_negative a || is_page_refused s a) (with_octas (with_octa s a x) (a + 8) xs) t s.touched
+    (λ more. octas-untouched xs (with_octa s a x) t (a + 8) more ∙ octa-untouched s a x) e
 
 untouched-start : (image : Image) (arguments : List (List ℕ)) (stack : Stack) (s : State) → start image arguments stack ≡ Some s → s.touched ≡ false
 unfolding start

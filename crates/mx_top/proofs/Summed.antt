@@ -11,7 +11,6 @@ use Rattle.mx_word.proofs.Fronts.{front-self}
 use Rattle.mx_top.specs.Answers.{Answer, answered, output_of}
 use Rattle.mx_top.specs.Generator.{summary}
 use Rattle.mx_top.specs.Lines.{lines_put}
-use Rattle.mx_top.specs.Pieces.{put_piece}
 use Rattle.mx_top.specs.Product.{summary_put, summed}
 use Rattle.mx_top.specs.Runs.{ran, after_lines}
 use Rattle.mx_top.specs.declared.outcome.Outcome.{Outcome}
@@ -51,9 +50,4 @@ summed-listed blocks size Quit s m = refl
 summed-listed blocks size ConsoleLimit s m = refl
 summed-listed blocks size OutOfMemory s m = refl
 
-pub one-line : (line : List ℕ) (m n : HostModel) (written : Bool) → (written, n) ≡ put_piece 259 line m → (written, n) ≡ lines_put (line ∷ []) m
-unfolding lines_put
-one-line line m n true e = rw (← e) refl
-one-line line m n false e = rw (← e) refl
-
-pub ruleset summing = (summary-front, summed-front, summed-listed, one-line)
+pub ruleset summing = (summary-front, summed-front, summed-listed)

@@ -22,24 +22,37 @@ abbrev pub special_name : ℕ → List ℕ
 special_name code = unwrap_or (slice_get special_registers code) []
 
 -- the special registers in the order of their codes; rS is shown where something was touched
-abbrev pub special_line : State → ℕ → List Line
-special_line s code = line_if (s.touched || not (code == rS)) (named_octa (special_name code) (special_register s code))
+abbrev pub is_special_shown : State → ℕ → Bool
+is_special_shown s code = s.touched || not (code == rS)
 
-abbrev pub special_lines : State → List Line
+abbrev pub special_text : State → ℕ → Line
+special_text s code = named_octa (special_name code) (special_register s code)
+
+abbrev pub special_line : State → ℕ → List Line
+special_line s code = line_if (is_special_shown s code) (special_text s code)
+
+unfoldable pub special_lines : State → List Line
 special_lines s = flat_map (special_line s) (range_with_len 0 32)
 
 -- the registers that are local or global
-abbrev pub register_line : State → ℕ → List Line
-register_line s k =
-    line_if (nat_lt k (locals s) || nat_le (global_start s) k) (named_octa (codes "$" ++ decimal k) (register s.stack k))
+abbrev pub is_register_shown : State → ℕ → Bool
+is_register_shown s k = nat_lt k (locals s) || nat_le (global_start s) k
 
-abbrev pub register_lines : State → List Line
+abbrev pub register_text : State → ℕ → Line
+register_text s k = named_octa (codes "$" ++ decimal k) (register s.stack k)
+
+abbrev pub register_line : State → ℕ → List Line
+register_line s k = line_if (is_register_shown s k) (register_text s k)
+
+unfoldable pub register_lines : State → List Line
 register_lines s = flat_map (register_line s) (range_with_len 0 256)
 
 -- an octa that is not 0; those of the stack area are shown where something was touched
+abbrev pub is_address_shown : State → ℕ → Bool
+is_address_shown s a = s.touched || not (in_stack_area a)
+
 abbrev pub octa_line : State → ℕ → List Line
-octa_line s a =
-    line_if (not (octa s a == 0) && (s.touched || not (in_stack_area a))) (named_octa (codes "M" ++ hex_text a) (octa s a))
+octa_line s a = line_if (not (octa s a == 0) && is_address_shown s a) (named_octa (codes "M" ++ hex_text a) (octa s a))
 
 -- so many octas, from the first of memory on
 unfoldable pub octa_lines : State → ℕ → List Line

@@ -8,6 +8,7 @@ pub mod Lines
 pub mod Source
 pub mod Arguments
 pub mod Dump
+pub mod Shown
 pub mod Generator
 pub mod Loading
 pub mod Objects

@@ -1,15 +1,14 @@
 //! A source that is assembled into an object file.
 
-ghost use Rattle.std.specs.Prelude.{IsTrue, ◌≡◌, ◌≢◌, ◌≤◌, ◌<◌, ◌*◌, ◌/◌, ◌%◌, ◌^◌, ◌++◌, Ok, Err, IfOk, OnOk, false, fold, length};
-ghost use Rattle.std.specs.List.{AllByRecursion};
+ghost use Rattle.std.specs.Prelude.{IsTrue, ◌≡◌, ◌≢◌, ◌≤◌, Ok, Err, IfOk, OnOk, false, fold};
 ghost use Rattle.mx_asm.specs.Faults.{no_memory};
+ghost use Rattle.mx_asm.specs.Fitting.{AreFit, IsPadded};
 ghost use Rattle.mx_asm.specs.Whole.{assembled_lines, line_after};
 ghost use Rattle.mx_host.specs.HostAnswer.{open_answer, close_answer};
 ghost use Rattle.mx_host.specs.Keeping.{Answers, ComesByFault, Keeps, KeepsOutput, WritesFront};
 ghost use Rattle.mx_host.specs.declared.slots.Mode.{Mode};
 ghost use Rattle.mx_line.specs.Lines.{lines_of};
 ghost use Rattle.mx_mmo.specs.Spelling.{written};
-ghost use Rattle.mx_mmo.specs.Valid.{Fits};
 ghost use Rattle.mx_top.specs.Answers.{is_usage};
 ghost use Rattle.mx_top.specs.Objects as objects;
 ghost use Rattle.mx_top.specs.Pieces.{put_text as text_put};
@@ -20,7 +19,7 @@ use crate::outcome::Outcome;
 use crate::pieces::put_text;
 use crate::refusal::{Refusal, is_out_of_memory, refusal_of};
 use crate::source::{SOURCE_PIECES, read_file};
-use mx_asm::{Assembler, Refused, one_pass_gives_the_whole};
+use mx_asm::{Assembler, Refused};
 use mx_host::{Host, HostFault, Mode, OpenFault};
 use mx_line::cut_line;
 use mx_mmo::{Item, Items, Writer};
@@ -33,10 +32,9 @@ const OBJECT_SLOT: u16 = 257;
 /// Takes the lines of a source, up to the first that is refused.
 #[tactic(auto, using(crate::proofs::TakenLines::taking))]
 fn take_lines(assembler: &mut Assembler, items: &mut Items, text: &[u8]) -> Result<(), NoMemory>
-    requires { AllByRecursion Fits items.old }
     ensures taken { OnOk result ((items.new, assembler.new)
         ≡ fold line_after (items.old, assembler.old) (lines_of text.now)) }
-    ensures fits { AllByRecursion Fits items.new }
+    ensures fits { AreFit items.old → AreFit items.new }
 {
     let mut rest = text;
     while !rest.is_empty() {
@@ -64,10 +62,9 @@ fn if_no_memory(refused: &Refused) -> Result<(), NoMemory>
 #[tactic(auto, using(crate::proofs::TakenLines::taking))]
 fn assembled(alloc: Global, text: &[u8]) -> Result<(Items, Result<Bytes, Refused>), NoMemory>
     ensures value { IfOk result (λ r. r ≡ assembled_lines (lines_of text.now)) }
-    ensures fits { IfOk result (λ r. AllByRecursion Fits r.0) }
-    ensures trie { IfOk result (λ r. IfOk r.1 (λ trie. (length trie % 4 ≡ 0) × (length trie / 4 < 2 ^ 16))) }
+    ensures fits { IfOk result (λ r. AreFit r.0) }
+    ensures trie { IfOk result (λ r. IfOk r.1 IsPadded) }
 {
-    one_pass_gives_the_whole();
     let mut items = Items::new(alloc);
     let mut assembler = match Assembler::new(alloc) {
         Ok(assembler) => assembler,
@@ -87,8 +84,9 @@ fn assembled(alloc: Global, text: &[u8]) -> Result<(Items, Result<Bytes, Refused
 }
 
 /// A writer that these items were put into.
+#[tactic(auto, unfolding(mx_asm::specs::Fitting::AreFit))]
 fn item_writer(alloc: Global, items: &[Item]) -> Result<Writer, NoMemory>
-    requires { AllByRecursion Fits items.now }
+    requires { AreFit items.now }
     ensures { IfOk result (λ writer. writer ≡ written items.now) }
 {
     let mut writer = Writer::new(alloc);
@@ -119,7 +117,7 @@ fn object_of(
     writer: Writer,
     answer: Result<Bytes, Refused>,
 ) -> Result<(Bytes, Result<(), Refusal>), NoMemory>
-    requires { IfOk answer (λ trie. (length trie % 4 ≡ 0) × (length trie / 4 < 2 ^ 16)) }
+    requires { IfOk answer IsPadded }
     ensures { IfOk result (λ r. r ≡ objects.object_with writer answer) }
 {
     match answer {

@@ -15,9 +15,9 @@ ghost use Rattle.mx_top.specs.Product as spec;
 ghost use Rattle.mx_top.specs.Runs.{ran};
 
 use crate::generator::{generated, summary};
+use crate::lines::put_line;
 use crate::loading::load_source;
 use crate::outcome::Outcome;
-use crate::pieces::put_piece;
 use crate::refusal::SourceFault;
 use crate::run::{outcome_of, start};
 use mx_core::Machine;
@@ -30,9 +30,6 @@ use std::alloc::Global;
 
 /// A generated program makes at most so many steps.
 const STEP_BOUND: u64 = 1 << 26;
-
-/// The slot of the tool's standard output.
-const OUTPUT_SLOT: u16 = 259;
 
 /// Writes the line that tells what came of a program that halted.
 #[tactic(auto, using(crate::proofs::Summed::summing))]
@@ -56,7 +53,7 @@ fn put_summary<H: Host>(
         Ok(line) => line,
         Err(_) => return Outcome::OutOfMemory,
     };
-    match put_piece(host, OUTPUT_SLOT, line.as_slice()) {
+    match put_line(host, line.as_slice()) {
         Ok(true) => Outcome::Done(0),
         Ok(false) => Outcome::HostFault,
         Err(_) => Outcome::OutOfMemory,
@@ -76,6 +73,7 @@ fn sum_up<H: Host>(
     requires well { outcome ≢ Outcome.HostFault }
     requires present { outcome ≢ Outcome.NoFile }
     requires words { is_usage outcome ≡ false }
+    ensures memory { outcome ≡ Outcome.OutOfMemory → (result ≡ Outcome.OutOfMemory) × (host.new ≡ host.old) }
     ensures told { AnswersAs (H.told host.old) (H.told host.new) result
         (λ m. spec.summed blocks size (ran outcome (state_of machine.now) m)) }
     ensures list { (state_of machine.now).touched ≡ false → AnswersAs (H.told host.old) (H.told host.new) result

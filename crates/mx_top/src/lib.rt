@@ -3,9 +3,11 @@
 
 mod arguments;
 mod dump;
+mod dump_laws;
 mod emit;
 mod generation;
 mod generator;
+mod lines;
 mod loading;
 mod message;
 mod names;
@@ -17,6 +19,7 @@ mod run;
 mod source;
 mod top;
 
+pub use dump_laws::dumps_show_what_programs_see;
 pub use names::{fault_name, usage_name};
 pub use outcome::Outcome;
 pub use top::mmixware;

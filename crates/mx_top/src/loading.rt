@@ -1,12 +1,11 @@
 //! A source that is loaded line by line.
 
 ghost use Rattle.std.specs.Prelude.{◌≡◌, ◌≢◌, Ok, Err, IfOk, OnOk, OnErr, [], fold};
-ghost use Rattle.std.specs.List.{AllByRecursion};
 ghost use Rattle.mx_asm.specs.Faults.{no_memory};
+ghost use Rattle.mx_asm.specs.Fitting.{AreFit};
 ghost use Rattle.mx_asm.specs.OnePass.{line_behind};
 ghost use Rattle.mx_line.specs.Lines.{lines_of};
 ghost use Rattle.mx_load.specs.Standing as loader_spec;
-ghost use Rattle.mx_mmo.specs.Valid.{Fits};
 ghost use Rattle.mx_top.specs.Loading as spec;
 
 use crate::refusal::{Refusal, SourceFault, is_out_of_memory, refusal_of, refused_at};
@@ -18,9 +17,9 @@ use mx_word::{NoMemory, Symbols};
 use std::alloc::Global;
 
 /// Loads items in turn, up to one that cannot be loaded.
-#[tactic(auto, using(crate::proofs::LoadedItems::loading))]
+#[tactic(auto, using(crate::proofs::LoadedItems::loading), unfolding(mx_asm::specs::Fitting::AreFit))]
 fn load_items(loader: &mut Loader, items: &[Item]) -> Result<(), LoadFault>
-    requires fit { AllByRecursion Fits items.now }
+    requires fit { AreFit items.now }
     requires open { loader_spec.answer (loader_spec.standing loader.old) ≡ Ok tt }
     ensures loaded { result ≢ Err LoadFault.OutOfMemory →
         loader_spec.standing loader.new ≡ spec.all_loaded (loader_spec.standing loader.old) items.now }
@@ -54,10 +53,9 @@ fn take_line(
     items: &mut Items,
     text: &[u8],
 ) -> Result<Result<(), Refusal>, NoMemory>
-    requires { AllByRecursion Fits items.old }
     ensures taken { OnOk result ((items.new, assembler.new) ≡ line_behind items.old assembler.old text.now) }
     ensures answer { IfOk result (λ answer. answer ≡ spec.refusal_in assembler.new) }
-    ensures fits { AllByRecursion Fits items.new }
+    ensures fits { AreFit items.old → AreFit items.new }
 {
     match assembler.line(text, items) {
         Ok(()) => Ok(Ok(())),
@@ -159,7 +157,7 @@ fn finish_source(alloc: Global, assembler: Assembler, loader: Loader) -> Result<
 /// Loads the last items of a source, and gives the image that they set up.
 #[tactic(auto, using(crate::proofs::LoadedItems::ending))]
 fn end_image(alloc: Global, loader: Loader, items: &[Item]) -> Result<Image, SourceFault>
-    requires fit { AllByRecursion Fits items.now }
+    requires fit { AreFit items.now }
     requires open { loader_spec.answer (loader_spec.standing loader) ≡ Ok tt }
     ensures image { result ≢ Err SourceFault.OutOfMemory →
         spec.image_from result ≡ spec.image_loaded (spec.all_loaded (loader_spec.standing loader) items.now) }

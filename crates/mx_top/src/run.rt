@@ -79,6 +79,7 @@ fn tell_end<H: Host>(
     requires well { outcome ≢ Outcome.HostFault }
     requires present { outcome ≢ Outcome.NoFile }
     requires words { is_usage outcome ≡ false }
+    ensures memory { outcome ≡ Outcome.OutOfMemory → (result ≡ Outcome.OutOfMemory) × (host.new ≡ host.old) }
     ensures told { AnswersAs (H.told host.old) (H.told host.new) result
         (λ m. spec.dumped wanted (spec.ran outcome (state_of machine.now) m)) }
     ensures list { (state_of machine.now).touched ≡ false → AnswersAs (H.told host.old) (H.told host.new) result

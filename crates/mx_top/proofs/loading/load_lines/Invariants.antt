@@ -4,12 +4,12 @@ use Rattle.mx_load.specs.Standing as loader_spec
 use Rattle.mx_top.specs.Loading as spec
 use Rattle.mx_top.proofs.loading.load_lines.Given as goal
 
-abbrev pub invariant-loop-rest-line : goal.invariant-loop-rest-line
-invariant-loop-rest-line l = record {
+abbrev pub invariant-loop-rest : goal.invariant-loop-rest
+invariant-loop-rest l = record {
   loaded : spec.lines_loaded 1 (lines_of l.text) (spec.standing l.fn.assembler (loader_spec.standing l.fn.loader))
       ≡ spec.lines_loaded l.line (lines_of l.rest) (spec.standing l.assembler (loader_spec.standing l.loader));
   open : loader_spec.answer (loader_spec.standing l.loader) ≡ Ok tt;
 }
 
-abbrev pub decreases-loop-rest-line : goal.decreases-loop-rest-line
-decreases-loop-rest-line l = length l.rest
+abbrev pub decreases-loop-rest : goal.decreases-loop-rest
+decreases-loop-rest l = length l.rest
