@@ -1,13 +1,12 @@
 -- The octas that a dump shows.
-use Rattle.std.proofs.Common.{IsTrue, ◌≡◌, ◌≢◌, ◌≤◌, ◌<◌, ◌⊎◌, inl, inr, ℕ, zero, suc, ◌+◌, ◌-◌, ◌*◌, ◌/◌, ◌%◌, ◌^◌, ◌==◌, ◌&&◌, ◌||◌, not, nat_lt, nat_le, Bool, true, false, cond, List, [], ◌∷◌, ◌++◌, codes, Option, None, Some, arith, refl, sym, ◌∙◌, ap, subst, append-nil}
+use Rattle.std.proofs.Common.{◌≡◌, ◌≢◌, ◌≤◌, ◌<◌, ◌⊎◌, inl, inr, ℕ, ◌%◌, ◌^◌, ◌==◌, ◌&&◌, ◌||◌, not, Bool, true, false, cond, List, [], ◌∷◌, Option, None, Some, arith, refl, ap}
 use Rattle.std.proofs.lemmas.Bool.{cases_lt}
 use Rattle.std.proofs.lemmas.Bool.Decides.{nat_tests}
 use Rattle.mx_word.proofs.Comparisons.{other-test}
 use Rattle.mx_core.specs.Search.{AreZero, IsNextBetween}
 use Rattle.mx_core.specs.State.{State, octa}
 use Rattle.mx_ring.specs.Stack.{in_stack_area, stack_address}
-use Rattle.mx_text.specs.Numbers.{hex_text}
-use Rattle.mx_top.specs.Dump.{Line, is_address_shown, named_octa, octa_line, octa_lines, octa_count}
+use Rattle.mx_top.specs.Dump.{Line, is_address_shown, octa_line}
 use Rattle.mx_top.specs.Shown.{AreHidden, IsNextShown, shown_octa}
 
 -- ---- one octa

@@ -1,5 +1,5 @@
 -- The names of the special registers, by computing.
-use Rattle.std.proofs.Common.{ℕ, ◌<◌, ◌≡◌, List, [], map, get_or, unwrap_or, slice_get, sym, ◌∙◌, ap, refl, Bor}
+use Rattle.std.proofs.Common.{ℕ, ◌≡◌, List, [], map, get_or, sym, ◌∙◌, ap, refl, Bor}
 use Rattle.std.proofs.Math.ListN.{get_or-map}
 use Rattle.std.proofs.lemmas.Option.{unwrap_or-slice_get}
 use Rattle.mx_ops.specs.Predefined.{special_registers}
