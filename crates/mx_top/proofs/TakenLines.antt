@@ -19,7 +19,7 @@ refusal-stays (line ∷ lines) out refused = refusal-stays lines out refused
 -- the next line, and one that is refused
 pub lines-more : (source rest text : List ℕ) (out next : List Item) (a b : Standing) → lines_of source ≡ text ∷ lines_of rest → (next, b) ≡ line_behind out a text →
     fold line_after (out, a) (lines_of source) ≡ fold line_after (next, b) (lines_of rest)
-lines-more source rest text out next a b es e = rw (es, ← e) refl
+lines-more source rest text out next a b es e = rw (es, e) refl
 
 pub lines-refused : (source rest text : List ℕ) (out next : List Item) (a : Standing) (refused : Refused) → lines_of source ≡ text ∷ lines_of rest → (next, Err refused) ≡ line_behind out a text →
     fold line_after (out, a) (lines_of source) ≡ (next, Err refused)
