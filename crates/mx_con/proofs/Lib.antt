@@ -1,0 +1,5 @@
+pub mod Fronts
+pub mod Written
+pub mod SpecialNames
+pub mod SoundSubjects
+pub mod LowDigits
