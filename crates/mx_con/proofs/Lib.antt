@@ -3,3 +3,4 @@ pub mod Written
 pub mod SpecialNames
 pub mod SoundSubjects
 pub mod LowDigits
+pub mod LineReads

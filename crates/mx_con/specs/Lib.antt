@@ -6,3 +6,4 @@ pub mod ConsoleTexts
 pub mod Replies
 pub mod HostLines
 pub mod Session
+pub mod Clauses

@@ -126,20 +126,21 @@ good_reply kind c command =
     if line_ends_wild kind c.shown command then wild c.host
     else replied c (reply_to c.state c.flags c.shown command)
 
-abbrev pub good_command : MachineKind → ℕ → Console → Command → Done
-good_command kind steps c Step = stepped kind steps c
-good_command kind steps c Continue = runs kind (steps_left steps c.state) steps true c
-good_command kind steps c QuitCommand = over Quit c
-good_command kind steps c command = good_reply kind c command
-
 -- a bad line changes nothing
-abbrev pub judged : MachineKind → ℕ → Console → Command → Option Bad → Done
-judged kind steps c command (Some bad) = line_done c (bad_text bad)
-judged kind steps c command None = good_command kind steps c command
+abbrev pub judged : MachineKind → Console → Command → Option Bad → Done
+judged kind c command (Some bad) = line_done c (bad_text bad)
+judged kind c command None = good_reply kind c command
+
+-- a command that makes no step
+unfoldable pub answered : MachineKind → Console → Command → Done
+answered kind c command = judged kind c command (command_bad c.state c.shown command)
 
 abbrev pub command_done : MachineKind → ℕ → Console → Option Command → Done
 command_done kind steps c None = line_done c (bad_text UnknownCommand)
-command_done kind steps c (Some command) = judged kind steps c command (command_bad c.state c.shown command)
+command_done kind steps c (Some Step) = stepped kind steps c
+command_done kind steps c (Some Continue) = runs kind (steps_left steps c.state) steps true c
+command_done kind steps c (Some QuitCommand) = over Quit c
+command_done kind steps c (Some command) = answered kind c command
 
 -- ---- LINES
 

@@ -4,11 +4,15 @@
 //! texts are this project's own.
 #![tactic(auto)]
 
+mod changes;
 mod command;
+mod dialog;
 mod end;
+mod host_lines;
 mod judgement;
 mod numerals;
 mod parsing;
+mod replies;
 mod specials;
 mod subjects;
 mod texts;
