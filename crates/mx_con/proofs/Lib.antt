@@ -4,3 +4,8 @@ pub mod SpecialNames
 pub mod SoundSubjects
 pub mod LowDigits
 pub mod LineReads
+pub mod Outputs
+pub mod Answers
+pub mod ListedLines
+pub mod StepLaws
+pub mod SessionLines

@@ -6,7 +6,9 @@ use Rattle.mx_host.specs.HostModel.{HostModel, tells, contents}
 use Rattle.mx_core.specs.Kept.{state_of}
 use Rattle.mx_run.specs.FlagMaps.{flags_at}
 use Rattle.mx_run.specs.Running.{Running}
-use Rattle.mx_con.specs.Session.{Console, Progress, on, over, wild}
+use Rattle.mx_core.specs.State.{State}
+use Rattle.mx_run.specs.Runs.{FlagsOf}
+use Rattle.mx_con.specs.Session.{Console, Progress, on, over, wild, SessionEnded, SessionRun, session_ended, session_wild}
 use Rattle.mx_con.specs.declared.dialog.Dialog.{Dialog}
 use Rattle.mx_con.specs.declared.end.SessionEnd.{SessionEnd}
 use Rattle.mx_con.specs.declared.end.SessionEnd.TheVariants.{OutOfMemory}
@@ -38,3 +40,26 @@ abbrev pub GoesFront : {A : Type 0} → Option HostModel → Option HostModel �
     (Console → Progress A) → Type 0
 GoesFront old new r d result f =
     IsTrue (tells old) → result ≡ Err OutOfMemory → IsFront (contents new).output (output_of (f (console_of r d old)))
+
+-- SESSIONS
+
+abbrev pub session_end : SessionEnd → Running → Option HostModel → SessionEnded
+session_end end r told = record { end = end; state = state_of r.machine; flags = flags_at r.flags; host = contents told }
+
+abbrev pub session_output : SessionRun → List ℕ
+session_output (session_ended e) = e.host.output
+session_output (session_wild m) = m.output
+
+-- over a host that tells its contents, the end and what it leaves are those of the session f, unless there was no memory
+abbrev pub EndsAsSession : Option HostModel → Option HostModel → Running → Running → SessionEnd →
+    (State → FlagsOf → HostModel → SessionRun) → Type 0
+EndsAsSession old new r s result f =
+    IsTrue (tells old) → result ≢ OutOfMemory →
+    session_ended (session_end result s new) ≡ f (state_of r.machine) (flags_at r.flags) (contents old)
+
+-- over a host that tells its contents, where there was no memory, what standard output then holds is a front of what the
+-- session f gives it
+abbrev pub EndsFront : Option HostModel → Option HostModel → Running → SessionEnd → (State → FlagsOf → HostModel → SessionRun) → Type 0
+EndsFront old new r result f =
+    IsTrue (tells old) → result ≡ OutOfMemory →
+    IsFront (contents new).output (session_output (f (state_of r.machine) (flags_at r.flags) (contents old)))

@@ -1,13 +1,17 @@
 -- A session: lines read from the console's input, each carried out, up to its end.
 use Rattle.std.specs.Prelude.{ℕ, zero, suc, ◌+◌, ◌-◌, ◌^◌, ◌==◌, Bool, true, false, if◌then◌else◌, List, [], ◌∷◌, ◌++◌, codes, Option, None, Some, Result, Ok, Err}
+use Rattle.mx_host.specs.HostAnswer.{Then}
 use Rattle.mx_host.specs.HostModel.{HostModel}
 use Rattle.mx_core.specs.State.{State}
 use Rattle.mx_core.specs.declared.trace.Trace.{Trace}
 use Rattle.mx_run.specs.Runs.{FlagsOf, Ended}
-use Rattle.mx_run.specs.Turns.{Turn, went_on, halts, stops, turn}
+use Rattle.mx_run.specs.Turns.{Answered, turn, turn_answer}
 use Rattle.mx_run.specs.WildRuns.{MachineKind, window_machine, list_machine, RunEnd, run_ended, run_wild, ends_wild, run_by}
+use Rattle.mx_run.specs.declared.end.BreakKind.{BreakKind}
 use Rattle.mx_run.specs.declared.end.End.{End}
 use Rattle.mx_run.specs.declared.end.End.TheVariants as ending
+use Rattle.mx_run.specs.declared.turn_answer.TurnAnswer.{TurnAnswer}
+use Rattle.mx_run.specs.declared.turn_answer.TurnAnswer.TheVariants as answer
 use Rattle.mx_con.specs.declared.command.Command.{Command}
 use Rattle.mx_con.specs.declared.command.Command.TheVariants.{Step, Continue, Quit as QuitCommand}
 use Rattle.mx_con.specs.declared.end.SessionEnd.{SessionEnd}
@@ -67,34 +71,45 @@ abbrev pub with_run : Console → State → HostModel → Console
 with_run c s m = record { state = s; flags = c.flags; shown = c.shown; left = c.left; host = m }
 
 -- one step, whatever the flags
-abbrev pub after_turn : Console → ℕ → Turn → Done
-after_turn c pc (went_on s m trace) = line_done (with_run c s m) (trace_text trace s)
-after_turn c pc (halts status s m) = over (Halted status) (with_run c s m)
-after_turn c pc (stops reason s m) = over (Stopped pc reason) (with_run c s m)
+abbrev pub after_turn : Console → ℕ → Answered TurnAnswer → Done
+after_turn c pc (answer.Went trace, s, m) = line_done (with_run c s m) (trace_text trace s)
+after_turn c pc (answer.Halted status, s, m) = over (Halted status) (with_run c s m)
+after_turn c pc (answer.Stopped reason, s, m) = over (Stopped pc reason) (with_run c s m)
+after_turn c pc (answer.OutOfMemory, s, m) = over OutOfMemory (with_run c s m)
 
 unfoldable pub stepped : MachineKind → ℕ → Console → Done
 stepped kind steps c =
     if steps_left steps c.state == 0 then over Spent c
     else if ends_wild kind c.state then wild c.host
-    else after_turn c c.state.pc (turn c.state c.host)
+    else after_turn c c.state.pc (turn_answer (turn c.state c.host))
 
 -- a run up to a break, a traced step or its end; whether it goes on then, which it does after a traced step
 abbrev pub traced_lines : State → Option Trace → List (List ℕ)
 traced_lines s None = []
 traced_lines s (Some trace) = trace_text trace s ∷ []
 
-abbrev pub after_end : Console → End → Progress Bool
-after_end c (ending.Halted status) = over (Halted status) c
-after_end c (ending.Stopped pc reason) = over (Stopped pc reason) c
-after_end c (ending.Broke kind at traced) =
-    write_done false c (lines_write (traced_lines c.state traced ++ break_text kind at ∷ []) c.host)
-after_end c (ending.Traced trace) = write_done true c (line_write c.host (trace_text trace c.state))
-after_end c ending.Spent = over Spent c
-after_end c ending.OutOfMemory = over OutOfMemory c
+abbrev pub goes : Bool → Written → Then (Result Bool SessionEnd)
+goes going (Ok u, m) = (Ok going, m)
+goes going (Err end, m) = (Err end, m)
+
+abbrev pub break_lines : State → BreakKind → ℕ → Option Trace → List (List ℕ)
+break_lines s kind at traced = traced_lines s traced ++ break_text kind at ∷ []
+
+abbrev pub end_answer : State → End → HostModel → Then (Result Bool SessionEnd)
+end_answer s (ending.Halted status) m = (Err (Halted status), m)
+end_answer s (ending.Stopped pc reason) m = (Err (Stopped pc reason), m)
+end_answer s (ending.Broke kind at traced) m = goes false (lines_write (break_lines s kind at traced) m)
+end_answer s (ending.Traced trace) m = goes true (line_write m (trace_text trace s))
+end_answer s ending.Spent m = (Err Spent, m)
+end_answer s ending.OutOfMemory m = (Err OutOfMemory, m)
+
+abbrev pub end_done : Console → Then (Result Bool SessionEnd) → Progress Bool
+end_done c (Ok going, m) = on going (with_host c m)
+end_done c (Err end, m) = over end (with_host c m)
 
 abbrev pub after_run : Console → RunEnd → Progress Bool
 after_run c (run_wild m) = wild m
-after_run c (run_ended e) = after_end (with_run c e.state e.host) e.end
+after_run c (run_ended e) = end_done (with_run c e.state e.host) (end_answer e.state e.end e.host)
 
 unfoldable pub one_run : MachineKind → ℕ → Bool → Console → Progress Bool
 one_run kind steps pass c =
@@ -116,6 +131,9 @@ with_reply c r = record { state = r.state; flags = r.flags; shown = r.shown; lef
 abbrev pub replied : Console → Reply → Done
 replied c r = write_done tt (with_reply c r) (lines_write r.lines c.host)
 
+unfoldable pub carried_out : Console → Command → Done
+carried_out c command = replied c (reply_to c.state c.flags c.shown command)
+
 -- whether the machine of a kind goes no further at a command
 abbrev pub line_ends_wild : MachineKind → Option ℕ → Command → Bool
 line_ends_wild window_machine shown command = false
@@ -124,7 +142,7 @@ line_ends_wild list_machine shown command = command_wild shown command
 abbrev pub good_reply : MachineKind → Console → Command → Done
 good_reply kind c command =
     if line_ends_wild kind c.shown command then wild c.host
-    else replied c (reply_to c.state c.flags c.shown command)
+    else carried_out c command
 
 -- a bad line changes nothing
 abbrev pub judged : MachineKind → Console → Command → Option Bad → Done
@@ -135,7 +153,7 @@ judged kind c command None = good_reply kind c command
 unfoldable pub answered : MachineKind → Console → Command → Done
 answered kind c command = judged kind c command (command_bad c.state c.shown command)
 
-abbrev pub command_done : MachineKind → ℕ → Console → Option Command → Done
+unfoldable pub command_done : MachineKind → ℕ → Console → Option Command → Done
 command_done kind steps c None = line_done c (bad_text UnknownCommand)
 command_done kind steps c (Some Step) = stepped kind steps c
 command_done kind steps c (Some Continue) = runs kind (steps_left steps c.state) steps true c
@@ -152,7 +170,7 @@ reading_done c (Ok text, left, m) = on text (with_reading c left m)
 reading_done c (Err end, left, m) = over end (with_reading c left m)
 
 -- the prompt, and a line without its end
-unfoldable pub prompt : List ℕ
+abbrev pub prompt : List ℕ
 prompt = codes "mmix> "
 
 abbrev pub line_of : Unit {0} → Console → Progress (List ℕ)

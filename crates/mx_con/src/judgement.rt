@@ -1,6 +1,6 @@
 //! Which commands are bad, and why.
 
-ghost use Rattle.std.specs.Prelude.{◌≡◌, ◌≤◌, IfNone};
+ghost use Rattle.std.specs.Prelude.{◌≡◌, ◌≤◌, IfNone, Some};
 ghost use Rattle.mx_core.specs.Kept.{state_of};
 ghost use Rattle.mx_con.specs.Judgement as spec;
 ghost use Rattle.mx_con.specs.Subjects.{IsSound};
@@ -94,13 +94,10 @@ fn is_address_bad(subject: Subject) -> bool
     }
 }
 
-/// Why a line on the octas after one is bad.
-pub(crate) fn more_bad(shown: Option<u64>, n: Option<u64>) -> Option<Bad>
-    ensures { result ≡ spec.more_bad shown n }
+/// Why a line on the n octas after one is bad.
+pub(crate) fn more_bad(shown: Option<u64>, n: u64) -> Option<Bad>
+    ensures { result ≡ spec.more_bad shown (Some n) }
 {
-    let Some(n) = n else {
-        return Some(Bad::BadNumber);
-    };
     if n == 0 || 100 < n {
         return Some(Bad::BadNumber);
     }
