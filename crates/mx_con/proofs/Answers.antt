@@ -115,7 +115,7 @@ octas-noted false s form a n = refl
 pub more-made : (c : Console) (n a : ℕ) (form : Form) → c.shown ≡ Some a →
     carried_out c (command.ShowMore (Some n) form)
     ≡ write_done tt (changed_console c (noted_if (is_in_stack_segment (a + 8 * n)) c.state) c.flags (Some (a + 8 * n)))
-        (lines_write (octas_after (noted_if (is_in_stack_segment (a + 8 * n)) c.state) form a n) c.host)
+    (lines_write (octas_after (noted_if (is_in_stack_segment (a + 8 * n)) c.state) form a n) c.host)
 unfolding carried_out reply_to command_wild
 more-made c n a form e = rw (octas-noted (is_in_stack_segment (a + 8 * n)) c.state form a n, e) refl
 
@@ -223,6 +223,32 @@ change-refusal c subject value fault t f e h same g =
     ∙ ap (λ fs. line_done (changed_console c c.state fs c.shown) (bad_text CannotChange)) g
     ∙ sym (change-not_allowed c subject value fault e (left-err c.state t fault _ h))
 
-pub ruleset answers = (lines-at, done-at, line_done-at, carried-at, answered-at, show-refused, show-good, show-made, change-unread,
-    change-refused, change-not_allowed, change-made, more-unread, more-refused, more-good, more-made, more-nothing, state-made,
-    flags-made, go-refused, go-made, break-refused, break-made, trace-refused, trace-made, untrace-refused, untrace-made)
+pub ruleset answers = (
+  lines-at,
+  done-at,
+  line_done-at,
+  carried-at,
+  answered-at,
+  show-refused,
+  show-good,
+  show-made,
+  change-unread,
+  change-refused,
+  change-not_allowed,
+  change-made,
+  more-unread,
+  more-refused,
+  more-good,
+  more-made,
+  more-nothing,
+  state-made,
+  flags-made,
+  go-refused,
+  go-made,
+  break-refused,
+  break-made,
+  trace-refused,
+  trace-made,
+  untrace-refused,
+  untrace-made,
+)

@@ -107,8 +107,8 @@ unfolding stepped
 stepped-at steps c xs e =
     rw e (either-at c.host.output (steps_left steps c.state == 0) _ _ (front-self c.host.output)
     (front-through c.host.output _ _
-        (subst (λ m. IsFront c.host.output m.output) (sym (answer-host (turn c.state c.host))) (turn-front c.state c.host))
-        (turn-at c c.state.pc (turn_answer (turn c.state c.host)))))
+    (subst (λ m. IsFront c.host.output m.output) (sym (answer-host (turn c.state c.host))) (turn-front c.state c.host))
+    (turn-at c c.state.pc (turn_answer (turn c.state c.host)))))
 
 -- ---- THE END OF A RUN
 

@@ -78,7 +78,7 @@ address_command b text =
     else if b == 116 then option_map Trace (address_of text)
     else if b == 117 then option_map Untrace (address_of text)
     else if b == 98 then
-        option_map (Break (breaks_of (front is_break_letter text))) (address_of (past is_break_letter text))
+    option_map (Break (breaks_of (front is_break_letter text))) (address_of (past is_break_letter text))
     else None
 
 abbrev pub subject_command : ℕ → List ℕ → Option Command

@@ -109,12 +109,20 @@ fn add_byte(line: &mut Bytes, b: u8) -> Result<bool, SessionEnd>
 fn last_line(line: &Bytes) -> Result<bool, SessionEnd>
     ensures { result ≡ spec.last_line line.now }
 {
-    if line.as_slice().is_empty() { Err(SessionEnd::Quit) } else { Ok(false) }
+    if line.as_slice().is_empty() {
+        Err(SessionEnd::Quit)
+    } else {
+        Ok(false)
+    }
 }
 
 /// Reads a line without its newline, of at most so many bytes of input that may still be taken.
 #[tactic(auto, using(crate::proofs::LineReads::reading))]
-pub(crate) fn read_line<H: Host>(alloc: Global, host: &mut H, left: &mut u64) -> Result<Bytes, SessionEnd>
+pub(crate) fn read_line<H: Host>(
+    alloc: Global,
+    host: &mut H,
+    left: &mut u64,
+) -> Result<Bytes, SessionEnd>
     ensures told { IsTrue (tells (H.told host.old)) → result ≢ Err SessionEnd.OutOfMemory →
         (result, left.new, contents (H.told host.new)) ≡ spec.line_read left.old [] (contents (H.told host.old)) }
     ensures cause { ComesByFault (H.told host.old) (Err SessionEnd.HostFault) result (H.faults host.old) (H.faults host.new) }

@@ -122,12 +122,20 @@ fn is_past_memory(shown: Option<u64>, n: u64) -> bool
 pub(crate) fn go_to_bad(a: u64) -> Option<Bad>
     ensures { result ≡ spec.go_to_bad a }
 {
-    if 1 << 63 <= a { Some(Bad::BadAddress) } else { None }
+    if 1 << 63 <= a {
+        Some(Bad::BadAddress)
+    } else {
+        None
+    }
 }
 
 /// Why a line on the flags of a tetra is bad.
 pub(crate) fn flag_bad(a: u64) -> Option<Bad>
     ensures { result ≡ spec.flag_bad a }
 {
-    if 0x6000_0000_0000_0000 <= a { Some(Bad::BadAddress) } else { None }
+    if 0x6000_0000_0000_0000 <= a {
+        Some(Bad::BadAddress)
+    } else {
+        None
+    }
 }

@@ -49,7 +49,13 @@ pub(crate) fn write_octas<H: Host>(
 }
 
 /// Writes the octa at an address.
-fn write_octa<H: Host>(alloc: Global, machine: &Machine, host: &mut H, form: Form, a: u64) -> Result<(), SessionEnd>
+fn write_octa<H: Host>(
+    alloc: Global,
+    machine: &Machine,
+    host: &mut H,
+    form: Form,
+    a: u64,
+) -> Result<(), SessionEnd>
     requires { a < 2 ^ 63 }
     ensures told { Answers (H.told host.old) (H.told host.new) (Err SessionEnd.OutOfMemory) result
         (λ m. line_write m (subjects.shown_line (state_of machine.now) (Subject.Memory a) form)) }
@@ -63,7 +69,11 @@ fn write_octa<H: Host>(alloc: Global, machine: &Machine, host: &mut H, form: For
 
 /// Writes the lines of all tetras with flags.
 #[tactic(auto, using(crate::proofs::ListedLines::flags))]
-pub(crate) fn write_flags<H: Host>(alloc: Global, runner: &Runner, host: &mut H) -> Result<(), SessionEnd>
+pub(crate) fn write_flags<H: Host>(
+    alloc: Global,
+    runner: &Runner,
+    host: &mut H,
+) -> Result<(), SessionEnd>
     ensures told { Answers (H.told host.old) (H.told host.new) (Err SessionEnd.OutOfMemory) result
         (λ m. lines_write (spec.flag_lines (flags_at runner.now.flags) 0 spec.tetra_count) m) }
     ensures front { WritesFront (H.told host.old) (H.told host.new) (Err SessionEnd.OutOfMemory) result

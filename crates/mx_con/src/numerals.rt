@@ -92,7 +92,11 @@ fn decimal_value(text: &[u8]) -> Option<Option<u64>>
     if text.is_empty() {
         return None;
     }
-    if are_digits(text) { Some(octa_written(10, text)) } else { None }
+    if are_digits(text) {
+        Some(octa_written(10, text))
+    } else {
+        None
+    }
 }
 
 fn hexadecimal_value(text: &[u8]) -> Option<Option<u64>>
@@ -101,7 +105,11 @@ fn hexadecimal_value(text: &[u8]) -> Option<Option<u64>>
     if text.is_empty() {
         return None;
     }
-    if are_hexadecimal(text) { Some(octa_written(16, text)) } else { None }
+    if are_hexadecimal(text) {
+        Some(octa_written(16, text))
+    } else {
+        None
+    }
 }
 
 /// -n modulo 2^64; None where n is above 2^63.
@@ -109,7 +117,11 @@ fn minus(n: Option<u64>) -> Option<u64>
     ensures { result ≡ spec.minus n }
 {
     let n = n?;
-    if n <= 1 << 63 { Some(0_u64.wrapping_sub(n)) } else { None }
+    if n <= 1 << 63 {
+        Some(0_u64.wrapping_sub(n))
+    } else {
+        None
+    }
 }
 
 /// A value. None where the text has another form; the value is None where it is out of range.
@@ -152,5 +164,9 @@ pub(crate) fn address_of(text: &[u8]) -> Option<u64>
     ensures { result ≡ spec.address_of text.now }
 {
     let (digits, rest) = hexadecimal_digits(without_hash(text));
-    if rest.is_empty() { address_written(digits) } else { None }
+    if rest.is_empty() {
+        address_written(digits)
+    } else {
+        None
+    }
 }

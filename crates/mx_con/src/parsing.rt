@@ -7,7 +7,9 @@ ghost use Rattle.mx_con.specs.Commands as spec;
 ghost use Rattle.mx_con.specs.Numerals as numerals;
 
 use crate::command::{Breaks, Command, Subject};
-use crate::numerals::{address_of, digits, hexadecimal_digits, octa_written, address_written, value_of, without_hash};
+use crate::numerals::{
+    address_of, address_written, digits, hexadecimal_digits, octa_written, value_of, without_hash,
+};
 use crate::specials::special_code;
 use mx_text::Form;
 use mx_word::is_letter;

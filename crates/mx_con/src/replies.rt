@@ -30,7 +30,13 @@ use std::alloc::Global;
 
 /// Writes why a line is bad.
 #[tactic(auto, using(crate::proofs::Answers::answers))]
-pub(crate) fn refuse<H: Host>(alloc: Global, runner: &Runner, host: &mut H, dialog: &Dialog, bad: Bad) -> Result<(), SessionEnd>
+pub(crate) fn refuse<H: Host>(
+    alloc: Global,
+    runner: &Runner,
+    host: &mut H,
+    dialog: &Dialog,
+    bad: Bad,
+) -> Result<(), SessionEnd>
     ensures told { Goes (H.told host.old) (H.told host.new) runner.now runner.now dialog.now dialog.now result
         (λ c. spec.line_done c (judgement.bad_text bad)) }
     ensures cause { ComesByFault (H.told host.old) (Err SessionEnd.HostFault) result (H.faults host.old) (H.faults host.new) }
@@ -43,7 +49,12 @@ pub(crate) fn refuse<H: Host>(alloc: Global, runner: &Runner, host: &mut H, dial
 
 /// Writes the line on the state.
 #[tactic(auto, using(crate::proofs::Answers::answers))]
-pub(crate) fn show_state<H: Host>(alloc: Global, runner: &Runner, host: &mut H, dialog: &Dialog) -> Result<(), SessionEnd>
+pub(crate) fn show_state<H: Host>(
+    alloc: Global,
+    runner: &Runner,
+    host: &mut H,
+    dialog: &Dialog,
+) -> Result<(), SessionEnd>
     ensures told { Goes (H.told host.old) (H.told host.new) runner.now runner.now dialog.now dialog.now result
         (λ c. spec.answered window_machine c (Command.State)) }
     ensures front { GoesFront (H.told host.old) (H.told host.new) runner.now dialog.now result
@@ -56,7 +67,14 @@ pub(crate) fn show_state<H: Host>(alloc: Global, runner: &Runner, host: &mut H, 
 
 /// Shows a subject.
 #[tactic(auto, using(crate::proofs::Answers::answers))]
-pub(crate) fn show<H: Host>(alloc: Global, runner: &mut Runner, host: &mut H, dialog: &mut Dialog, subject: Subject, form: Form) -> Result<(), SessionEnd>
+pub(crate) fn show<H: Host>(
+    alloc: Global,
+    runner: &mut Runner,
+    host: &mut H,
+    dialog: &mut Dialog,
+    subject: Subject,
+    form: Form,
+) -> Result<(), SessionEnd>
     ensures told { Goes (H.told host.old) (H.told host.new) runner.old runner.new dialog.old dialog.new result
         (λ c. spec.answered window_machine c (Command.Show subject form)) }
     ensures front { GoesFront (H.told host.old) (H.told host.new) runner.old dialog.old result
@@ -72,7 +90,14 @@ pub(crate) fn show<H: Host>(alloc: Global, runner: &mut Runner, host: &mut H, di
 
 /// Shows a subject that is not bad.
 #[tactic(auto, using(crate::proofs::Answers::answers))]
-fn show_sound<H: Host>(alloc: Global, runner: &mut Runner, host: &mut H, dialog: &mut Dialog, subject: Subject, form: Form) -> Result<(), SessionEnd>
+fn show_sound<H: Host>(
+    alloc: Global,
+    runner: &mut Runner,
+    host: &mut H,
+    dialog: &mut Dialog,
+    subject: Subject,
+    form: Form,
+) -> Result<(), SessionEnd>
     requires { subjects.IsSound subject }
     ensures told { Goes (H.told host.old) (H.told host.new) runner.old runner.new dialog.old dialog.new result
         (λ c. spec.carried_out c (Command.Show subject form)) }
@@ -116,7 +141,14 @@ fn note_shown(dialog: &mut Dialog, subject: Subject)
 
 /// Gives a subject another value, and shows it.
 #[tactic(auto, using(crate::proofs::Answers::answers))]
-pub(crate) fn change_subject<H: Host>(alloc: Global, runner: &mut Runner, host: &mut H, dialog: &mut Dialog, subject: Subject, value: Option<u64>) -> Result<(), SessionEnd>
+pub(crate) fn change_subject<H: Host>(
+    alloc: Global,
+    runner: &mut Runner,
+    host: &mut H,
+    dialog: &mut Dialog,
+    subject: Subject,
+    value: Option<u64>,
+) -> Result<(), SessionEnd>
     ensures told { Goes (H.told host.old) (H.told host.new) runner.old runner.new dialog.old dialog.new result
         (λ c. spec.answered window_machine c (Command.Change subject value)) }
     ensures front { GoesFront (H.told host.old) (H.told host.new) runner.old dialog.old result
@@ -135,7 +167,14 @@ pub(crate) fn change_subject<H: Host>(alloc: Global, runner: &mut Runner, host: 
 
 /// The same with a subject that is not bad.
 #[tactic(auto, using(crate::proofs::Answers::answers))]
-fn change_sound<H: Host>(alloc: Global, runner: &mut Runner, host: &mut H, dialog: &mut Dialog, subject: Subject, value: u64) -> Result<(), SessionEnd>
+fn change_sound<H: Host>(
+    alloc: Global,
+    runner: &mut Runner,
+    host: &mut H,
+    dialog: &mut Dialog,
+    subject: Subject,
+    value: u64,
+) -> Result<(), SessionEnd>
     requires sound { subjects.IsSound subject }
     requires good { judgement.subject_bad (state_of runner.old.machine) subject ≡ None }
     ensures told { Goes (H.told host.old) (H.told host.new) runner.old runner.new dialog.old dialog.new result
@@ -154,7 +193,14 @@ fn change_sound<H: Host>(alloc: Global, runner: &mut Runner, host: &mut H, dialo
 
 /// Shows the octas after the one that was shown last.
 #[tactic(auto, using(crate::proofs::Answers::answers))]
-pub(crate) fn show_more<H: Host>(alloc: Global, runner: &mut Runner, host: &mut H, dialog: &mut Dialog, n: Option<u64>, form: Form) -> Result<(), SessionEnd>
+pub(crate) fn show_more<H: Host>(
+    alloc: Global,
+    runner: &mut Runner,
+    host: &mut H,
+    dialog: &mut Dialog,
+    n: Option<u64>,
+    form: Form,
+) -> Result<(), SessionEnd>
     ensures told { Goes (H.told host.old) (H.told host.new) runner.old runner.new dialog.old dialog.new result
         (λ c. spec.answered window_machine c (Command.ShowMore n form)) }
     ensures front { GoesFront (H.told host.old) (H.told host.new) runner.old dialog.old result
@@ -173,7 +219,14 @@ pub(crate) fn show_more<H: Host>(alloc: Global, runner: &mut Runner, host: &mut 
 
 /// The same where it is not bad.
 #[tactic(auto, using(crate::proofs::Answers::answers))]
-fn show_octas<H: Host>(alloc: Global, runner: &mut Runner, host: &mut H, dialog: &mut Dialog, n: u64, form: Form) -> Result<(), SessionEnd>
+fn show_octas<H: Host>(
+    alloc: Global,
+    runner: &mut Runner,
+    host: &mut H,
+    dialog: &mut Dialog,
+    n: u64,
+    form: Form,
+) -> Result<(), SessionEnd>
     requires { judgement.more_bad dialog.old.shown (Some n) ≡ None }
     ensures told { Goes (H.told host.old) (H.told host.new) runner.old runner.new dialog.old dialog.new result
         (λ c. spec.carried_out c (Command.ShowMore (Some n) form)) }
@@ -193,7 +246,13 @@ fn show_octas<H: Host>(alloc: Global, runner: &mut Runner, host: &mut H, dialog:
 
 /// The machine goes on at an address.
 #[tactic(auto, using(crate::proofs::Answers::answers))]
-pub(crate) fn go_to<H: Host>(alloc: Global, runner: &mut Runner, host: &mut H, dialog: &mut Dialog, a: u64) -> Result<(), SessionEnd>
+pub(crate) fn go_to<H: Host>(
+    alloc: Global,
+    runner: &mut Runner,
+    host: &mut H,
+    dialog: &mut Dialog,
+    a: u64,
+) -> Result<(), SessionEnd>
     ensures told { Goes (H.told host.old) (H.told host.new) runner.old runner.new dialog.old dialog.new result
         (λ c. spec.answered window_machine c (Command.GoTo a)) }
     ensures front { GoesFront (H.told host.old) (H.told host.new) runner.old dialog.old result
@@ -211,7 +270,14 @@ pub(crate) fn go_to<H: Host>(alloc: Global, runner: &mut Runner, host: &mut H, d
 
 /// Sets the breaks of a tetra.
 #[tactic(auto, using(crate::proofs::Answers::answers))]
-pub(crate) fn set_tetra_breaks<H: Host>(alloc: Global, runner: &mut Runner, host: &mut H, dialog: &mut Dialog, breaks: Breaks, a: u64) -> Result<(), SessionEnd>
+pub(crate) fn set_tetra_breaks<H: Host>(
+    alloc: Global,
+    runner: &mut Runner,
+    host: &mut H,
+    dialog: &mut Dialog,
+    breaks: Breaks,
+    a: u64,
+) -> Result<(), SessionEnd>
     ensures told { Goes (H.told host.old) (H.told host.new) runner.old runner.new dialog.old dialog.new result
         (λ c. spec.answered window_machine c (Command.Break breaks a)) }
     ensures front { GoesFront (H.told host.old) (H.told host.new) runner.old dialog.old result
@@ -228,7 +294,13 @@ pub(crate) fn set_tetra_breaks<H: Host>(alloc: Global, runner: &mut Runner, host
 
 /// The steps of a tetra are traced.
 #[tactic(auto, using(crate::proofs::Answers::answers))]
-pub(crate) fn trace_tetra<H: Host>(alloc: Global, runner: &mut Runner, host: &mut H, dialog: &mut Dialog, a: u64) -> Result<(), SessionEnd>
+pub(crate) fn trace_tetra<H: Host>(
+    alloc: Global,
+    runner: &mut Runner,
+    host: &mut H,
+    dialog: &mut Dialog,
+    a: u64,
+) -> Result<(), SessionEnd>
     ensures told { Goes (H.told host.old) (H.told host.new) runner.old runner.new dialog.old dialog.new result
         (λ c. spec.answered window_machine c (Command.Trace a)) }
     ensures front { GoesFront (H.told host.old) (H.told host.new) runner.old dialog.old result
@@ -245,7 +317,13 @@ pub(crate) fn trace_tetra<H: Host>(alloc: Global, runner: &mut Runner, host: &mu
 
 /// The steps of a tetra are traced no more.
 #[tactic(auto, using(crate::proofs::Answers::answers))]
-pub(crate) fn untrace_tetra<H: Host>(alloc: Global, runner: &mut Runner, host: &mut H, dialog: &mut Dialog, a: u64) -> Result<(), SessionEnd>
+pub(crate) fn untrace_tetra<H: Host>(
+    alloc: Global,
+    runner: &mut Runner,
+    host: &mut H,
+    dialog: &mut Dialog,
+    a: u64,
+) -> Result<(), SessionEnd>
     ensures told { Goes (H.told host.old) (H.told host.new) runner.old runner.new dialog.old dialog.new result
         (λ c. spec.answered window_machine c (Command.Untrace a)) }
     ensures front { GoesFront (H.told host.old) (H.told host.new) runner.old dialog.old result
@@ -262,7 +340,12 @@ pub(crate) fn untrace_tetra<H: Host>(alloc: Global, runner: &mut Runner, host: &
 
 /// Writes the lines of all flagged tetras.
 #[tactic(auto, using(crate::proofs::Answers::answers))]
-pub(crate) fn show_flags<H: Host>(alloc: Global, runner: &Runner, host: &mut H, dialog: &Dialog) -> Result<(), SessionEnd>
+pub(crate) fn show_flags<H: Host>(
+    alloc: Global,
+    runner: &Runner,
+    host: &mut H,
+    dialog: &Dialog,
+) -> Result<(), SessionEnd>
     ensures told { Goes (H.told host.old) (H.told host.new) runner.now runner.now dialog.now dialog.now result
         (λ c. spec.answered window_machine c (Command.Flags)) }
     ensures front { GoesFront (H.told host.old) (H.told host.new) runner.now dialog.now result
@@ -272,4 +355,3 @@ pub(crate) fn show_flags<H: Host>(alloc: Global, runner: &Runner, host: &mut H, 
 {
     write_flags(alloc, runner, host)
 }
-

@@ -54,7 +54,13 @@ pub fn session<H: Host>(alloc: Global, runner: &mut Runner, host: &mut H, steps:
 
 /// Line after line; each takes a byte of the input or ends the session.
 #[tactic(auto, using(crate::proofs::SessionLines::lines))]
-fn all_lines<H: Host>(alloc: Global, runner: &mut Runner, host: &mut H, dialog: &mut Dialog, steps: u64) -> Result<(), SessionEnd>
+fn all_lines<H: Host>(
+    alloc: Global,
+    runner: &mut Runner,
+    host: &mut H,
+    dialog: &mut Dialog,
+    steps: u64,
+) -> Result<(), SessionEnd>
     ensures told { Goes (H.told host.old) (H.told host.new) runner.old runner.new dialog.old dialog.new result
         (λ c. spec.session_lines (spec.most_input + 1) window_machine steps c) }
     ensures front { GoesFront (H.told host.old) (H.told host.new) runner.old dialog.old result
@@ -73,7 +79,13 @@ fn all_lines<H: Host>(alloc: Global, runner: &mut Runner, host: &mut H, dialog: 
 
 /// Asks for a line, and carries it out.
 #[tactic(auto, using(crate::proofs::SessionLines::single_lines))]
-fn one_line<H: Host>(alloc: Global, runner: &mut Runner, host: &mut H, dialog: &mut Dialog, steps: u64) -> Result<(), SessionEnd>
+fn one_line<H: Host>(
+    alloc: Global,
+    runner: &mut Runner,
+    host: &mut H,
+    dialog: &mut Dialog,
+    steps: u64,
+) -> Result<(), SessionEnd>
     ensures told { Goes (H.told host.old) (H.told host.new) runner.old runner.new dialog.old dialog.new result
         (λ c. spec.one_line window_machine steps c) }
     ensures front { GoesFront (H.told host.old) (H.told host.new) runner.old dialog.old result
@@ -92,7 +104,12 @@ fn one_line<H: Host>(alloc: Global, runner: &mut Runner, host: &mut H, dialog: &
 
 /// Writes the prompt and reads a line.
 #[tactic(auto, using(crate::proofs::SessionLines::asking))]
-fn ask<H: Host>(alloc: Global, runner: &Runner, host: &mut H, dialog: &mut Dialog) -> Result<Bytes, SessionEnd>
+fn ask<H: Host>(
+    alloc: Global,
+    runner: &Runner,
+    host: &mut H,
+    dialog: &mut Dialog,
+) -> Result<Bytes, SessionEnd>
     ensures told { Goes (H.told host.old) (H.told host.new) runner.now runner.now dialog.old dialog.new result
         (λ c. spec.asked c) }
     ensures front { GoesFront (H.told host.old) (H.told host.new) runner.now dialog.old result
@@ -132,7 +149,9 @@ fn carry_out<H: Host>(
         Command::Quit => Err(SessionEnd::Quit),
         Command::State => show_state(alloc, runner, host, dialog),
         Command::Show(subject, form) => show(alloc, runner, host, dialog, subject, form),
-        Command::Change(subject, value) => change_subject(alloc, runner, host, dialog, subject, value),
+        Command::Change(subject, value) => change_subject(
+            alloc, runner, host, dialog, subject, value,
+        ),
         Command::ShowMore(n, form) => show_more(alloc, runner, host, dialog, n, form),
         Command::GoTo(a) => go_to(alloc, runner, host, dialog, a),
         Command::Break(breaks, a) => set_tetra_breaks(alloc, runner, host, dialog, breaks, a),

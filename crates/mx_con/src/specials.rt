@@ -6,14 +6,15 @@ ghost use Rattle.mx_con.specs.Subjects as subjects;
 
 /// The names of the special registers, by their codes.
 static SPECIAL_NAMES: [&str; 32] = [
-    "rB", "rD", "rE", "rH", "rJ", "rM", "rR", "rBB", "rC", "rN", "rO", "rS", "rI", "rT", "rTT", "rK",
-    "rQ", "rU", "rV", "rG", "rL", "rA", "rF", "rP", "rW", "rX", "rY", "rZ", "rWW", "rXX", "rYY", "rZZ",
+    "rB", "rD", "rE", "rH", "rJ", "rM", "rR", "rBB", "rC", "rN", "rO", "rS", "rI", "rT", "rTT",
+    "rK", "rQ", "rU", "rV", "rG", "rL", "rA", "rF", "rP", "rW", "rX", "rY", "rZ", "rWW", "rXX",
+    "rYY", "rZZ",
 ];
 
 /// The names without the r.
 static NAMES: [&str; 32] = [
-    "B", "D", "E", "H", "J", "M", "R", "BB", "C", "N", "O", "S", "I", "T", "TT", "K", "Q", "U", "V",
-    "G", "L", "A", "F", "P", "W", "X", "Y", "Z", "WW", "XX", "YY", "ZZ",
+    "B", "D", "E", "H", "J", "M", "R", "BB", "C", "N", "O", "S", "I", "T", "TT", "K", "Q", "U",
+    "V", "G", "L", "A", "F", "P", "W", "X", "Y", "Z", "WW", "XX", "YY", "ZZ",
 ];
 
 /// The code of a special register by its name without the r; None where no register has the name.

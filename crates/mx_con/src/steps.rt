@@ -28,7 +28,13 @@ fn steps_left(steps: u64, runner: &Runner) -> u64
 
 /// Makes one step, whatever the flags, and writes its line.
 #[tactic(auto, using(crate::proofs::StepLaws::stepping))]
-pub(crate) fn step_once<H: Host>(alloc: Global, runner: &mut Runner, host: &mut H, dialog: &Dialog, steps: u64) -> Result<(), SessionEnd>
+pub(crate) fn step_once<H: Host>(
+    alloc: Global,
+    runner: &mut Runner,
+    host: &mut H,
+    dialog: &Dialog,
+    steps: u64,
+) -> Result<(), SessionEnd>
     ensures told { Goes (H.told host.old) (H.told host.new) runner.old runner.new dialog.now dialog.now result
         (λ c. spec.stepped window_machine steps c) }
     ensures front { GoesFront (H.told host.old) (H.told host.new) runner.old dialog.now result
@@ -49,7 +55,12 @@ pub(crate) fn step_once<H: Host>(alloc: Global, runner: &mut Runner, host: &mut 
 }
 
 /// Writes the line of a step.
-fn write_trace<H: Host>(alloc: Global, machine: &Machine, host: &mut H, trace: &Trace) -> Result<(), SessionEnd>
+fn write_trace<H: Host>(
+    alloc: Global,
+    machine: &Machine,
+    host: &mut H,
+    trace: &Trace,
+) -> Result<(), SessionEnd>
     ensures told { Answers (H.told host.old) (H.told host.new) (Err SessionEnd.OutOfMemory) result
         (λ m. line_write m (trace_text trace.now (state_of machine.now))) }
     ensures cause { ComesByFault (H.told host.old) (Err SessionEnd.HostFault) result (H.faults host.old) (H.faults host.new) }
@@ -62,7 +73,13 @@ fn write_trace<H: Host>(alloc: Global, machine: &Machine, host: &mut H, trace: &
 
 /// Goes on up to a break or the end. A traced step writes its line, and the run goes on.
 #[tactic(auto, using(crate::proofs::StepLaws::running))]
-pub(crate) fn go_on<H: Host>(alloc: Global, runner: &mut Runner, host: &mut H, dialog: &Dialog, steps: u64) -> Result<(), SessionEnd>
+pub(crate) fn go_on<H: Host>(
+    alloc: Global,
+    runner: &mut Runner,
+    host: &mut H,
+    dialog: &Dialog,
+    steps: u64,
+) -> Result<(), SessionEnd>
     ensures told { Goes (H.told host.old) (H.told host.new) runner.old runner.new dialog.now dialog.now result
         (λ c. spec.runs window_machine (spec.steps_left steps c.state) steps true c) }
     ensures front { GoesFront (H.told host.old) (H.told host.new) runner.old dialog.now result
@@ -105,7 +122,12 @@ fn run_once<H: Host>(
 
 /// Writes the lines on the end of a run, and says whether the run goes on then.
 #[tactic(auto, using(crate::proofs::StepLaws::ended_runs))]
-fn end_run<H: Host>(alloc: Global, machine: &Machine, host: &mut H, end: End) -> Result<bool, SessionEnd>
+fn end_run<H: Host>(
+    alloc: Global,
+    machine: &Machine,
+    host: &mut H,
+    end: End,
+) -> Result<bool, SessionEnd>
     ensures told { Answers (H.told host.old) (H.told host.new) (Err SessionEnd.OutOfMemory) result
         (λ m. spec.end_answer (state_of machine.now) end m) }
     ensures front { WritesFront (H.told host.old) (H.told host.new) (Err SessionEnd.OutOfMemory) result
@@ -116,7 +138,9 @@ fn end_run<H: Host>(alloc: Global, machine: &Machine, host: &mut H, end: End) ->
     match end {
         End::Halted(status) => Err(SessionEnd::Halted(status)),
         End::Stopped { pc, reason } => Err(SessionEnd::Stopped { pc, reason }),
-        End::Broke { kind, at, traced } => match write_break(alloc, machine, host, kind, at, traced) {
+        End::Broke { kind, at, traced } => match write_break(
+            alloc, machine, host, kind, at, traced,
+        ) {
             Ok(()) => Ok(false),
             Err(end) => Err(end),
         },
@@ -175,7 +199,12 @@ fn write_traced_break<H: Host>(
     }
 }
 
-fn write_break_line<H: Host>(alloc: Global, host: &mut H, kind: BreakKind, at: u64) -> Result<(), SessionEnd>
+fn write_break_line<H: Host>(
+    alloc: Global,
+    host: &mut H,
+    kind: BreakKind,
+    at: u64,
+) -> Result<(), SessionEnd>
     ensures told { Answers (H.told host.old) (H.told host.new) (Err SessionEnd.OutOfMemory) result
         (λ m. line_write m (break_text kind at)) }
     ensures cause { ComesByFault (H.told host.old) (Err SessionEnd.HostFault) result (H.faults host.old) (H.faults host.new) }

@@ -69,7 +69,11 @@ fn subject_value(machine: &Machine, subject: Subject) -> u64
 ///
 /// Errors: `NotAllowed` where that is refused, and out of memory; then nothing changed.
 #[tactic(auto, unfolding(crate::specs::Subjects::subject_changed))]
-pub(crate) fn set_subject(machine: &mut Machine, subject: Subject, value: u64) -> Result<(), SetFault>
+pub(crate) fn set_subject(
+    machine: &mut Machine,
+    subject: Subject,
+    value: u64,
+) -> Result<(), SetFault>
     requires { spec.IsSound subject }
     ensures ok { result ≢ Err SetFault.OutOfMemory →
         Changes (λ s. spec.subject_changed s subject value) result machine.old machine.new }

@@ -8,4 +8,4 @@ use Rattle.mx_con.proofs.sessions.session.Goals as goal
 pub returns-in-Ok-clause-told : goal.returns-in-Ok-clause-told
 returns-in-Ok-clause-told g c = λ t ne.
     sym (session-on c.args.steps (state_of c.args.runner.now.machine) (flags_at c.args.runner.now.flags) (contents (g.H.Host.told c.args.host.now)) _
-        (c.in-Ok.ensures.told t (λ e. absurd (cc))))
+    (c.in-Ok.ensures.told t (λ e. absurd (cc))))
