@@ -1,0 +1,11 @@
+pub mod Fronts
+pub mod Written
+pub mod SpecialNames
+pub mod SoundSubjects
+pub mod LowDigits
+pub mod LineReads
+pub mod Outputs
+pub mod Answers
+pub mod ListedLines
+pub mod StepLaws
+pub mod SessionLines

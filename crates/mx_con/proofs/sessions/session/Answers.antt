@@ -1,0 +1,11 @@
+use Rattle.std.proofs.Common.{sym}
+use Rattle.mx_core.specs.Kept.{state_of}
+use Rattle.mx_host.specs.HostModel.{contents}
+use Rattle.mx_run.specs.FlagMaps.{flags_at}
+use Rattle.mx_con.proofs.SessionLines.{session-on}
+use Rattle.mx_con.proofs.sessions.session.Goals as goal
+
+pub returns-in-Ok-clause-told : goal.returns-in-Ok-clause-told
+returns-in-Ok-clause-told g c = λ t ne.
+    sym (session-on c.args.steps (state_of c.args.runner.now.machine) (flags_at c.args.runner.now.flags) (contents (g.H.Host.told c.args.host.now)) _
+    (c.in-Ok.ensures.told t (λ e. absurd (cc))))
