@@ -5,7 +5,7 @@ use Rattle.std.specs.Prelude.{Result, Ok, Err}
 use Rattle.mx_host.specs.HostAnswer.{Then, write_answer}
 use Rattle.mx_host.specs.declared.faults.HostFault.{HostFault}
 use Rattle.mx_word.specs.Lists.{IsFront}
-use Rattle.mx_top.specs.FileTraps.{put_piece, put_pieces, pieces_after, piece_put, put_text}
+use Rattle.mx_top.specs.Pieces.{put_piece, put_pieces, pieces_after, piece_put, put_text}
 use Rattle.mx_word.proofs.Fronts.{front-through}
 use Rattle.mx_host.proofs.Output.{write-front}
 
@@ -33,14 +33,14 @@ text-last slot text m h = rw (no-more (length text) h) refl
 pub ruleset putting = (text-next, text-ended, text-last)
 
 -- writing a text only adds to standard output
-piece-front : (m : HostModel) (slot : ℕ) (piece : List ℕ) → IsFront m.output (put_piece slot piece m).1.output
+pub piece-front : (m : HostModel) (slot : ℕ) (piece : List ℕ) → IsFront m.output (put_piece slot piece m).1.output
 piece-front m slot piece = put-front (write_answer m slot piece) (write-front m slot piece)
   where
     put-front : (t : Then (Result (Unit {0}) HostFault)) → IsFront m.output t.1.output → IsFront m.output (piece_put t).1.output
     put-front (Ok u, n) h = h
     put-front (Err e, n) h = h
 
-after-front : (m : HostModel) (more : HostModel → Then Bool) → ((n : HostModel) → IsFront n.output (more n).1.output) →
+pub after-front : (m : HostModel) (more : HostModel → Then Bool) → ((n : HostModel) → IsFront n.output (more n).1.output) →
     (t : Then Bool) → IsFront m.output t.1.output → IsFront m.output (pieces_after more t).1.output
 after-front m more f (true, n) h = front-through m.output n.output (more n).1.output h (f n)
 after-front m more f (false, n) h = h

@@ -1,12 +1,58 @@
--- What the code's answers on sources and objects stand for.
-use Rattle.std.specs.Prelude.{ℕ, Result, Ok, Err}
-use Rattle.mx_load.specs.Kept.{Kept, image_of}
-use Rattle.mx_top.specs.Image.{Image, of_object}
-use Rattle.mx_top.specs.declared.assembly.AssemblyFault.{AssemblyFault}
-use Rattle.mx_top.specs.declared.assembly.AssemblyFault.TheVariants.{Refused, OutOfMemory as NoRoom}
+-- What a command comes to: an outcome and the host as it then stands.
+use Rattle.std.specs.Prelude.{◌≡◌, ◌≢◌, IsTrue, Bool, true, false, ℕ, List, Option}
+use Rattle.mx_word.specs.Lists.{IsFront}
+use Rattle.mx_host.specs.HostModel.{HostModel, tells, contents}
+use Rattle.mx_host.specs.HostAnswer.{Then}
+use Rattle.mx_top.specs.declared.outcome.Outcome.{Outcome}
+use Rattle.mx_top.specs.declared.outcome.Outcome.TheVariants.{Done, Usage, NoFile, HostFault, Refused, BadObject, Stopped, StepsSpent, Quit, ConsoleLimit, OutOfMemory}
 
--- the image of a source, or its refusal
-abbrev pub image_from : Result Kept AssemblyFault → Result Image (ℕ × ℕ)
-image_from (Ok image) = Ok (of_object (image_of image))
-image_from (Err (Refused line fault)) = Err (line, fault)
-image_from (Err NoRoom) = Err (0, 0)
+-- the outcome and the host; or, over the list machine, the host at the first step that looks at rS or at the memory of the
+-- register stack
+pub data Answer : Type 0 where
+  answered : Outcome → HostModel → Answer
+  wild : HostModel → Answer
+
+abbrev pub plainly : Then Outcome → Answer
+plainly (outcome, m) = answered outcome m
+
+-- whether an outcome tells that the words are no order
+abbrev pub is_usage : Outcome → Bool
+is_usage (Usage fault) = true
+is_usage (Done status) = false
+is_usage NoFile = false
+is_usage HostFault = false
+is_usage (Refused line fault from_line) = false
+is_usage (BadObject place fault) = false
+is_usage (Stopped pc reason) = false
+is_usage (StepsSpent steps) = false
+is_usage Quit = false
+is_usage ConsoleLimit = false
+is_usage OutOfMemory = false
+
+-- what follows an outcome
+abbrev pub and_then : (Outcome → HostModel → Answer) → Answer → Answer
+and_then more (answered outcome m) = more outcome m
+and_then more (wild m) = wild m
+
+-- what standard output then has
+abbrev pub output_of : Answer → List ℕ
+output_of (answered outcome m) = m.output
+output_of (wild m) = m.output
+
+-- ---- the words of clauses: `old` and `new` are what the host told before and after
+
+-- over a host that tells its contents, the outcome and what the host then holds are those of f, unless out of memory
+abbrev pub AnswersAs : Option HostModel → Option HostModel → Outcome → (HostModel → Answer) → Type 0
+AnswersAs old new result f = IsTrue (tells old) → result ≢ OutOfMemory → answered result (contents new) ≡ f (contents old)
+
+-- the same, up to what is wild: there standard output begins with what was written before
+abbrev pub GoesAs : Answer → Outcome → HostModel → Type 0
+GoesAs (answered outcome m) result new = (result ≡ outcome) × (new ≡ m)
+GoesAs (wild m) result new = IsFront m.output new.output
+
+abbrev pub AnswersAsList : Option HostModel → Option HostModel → Outcome → (HostModel → Answer) → Type 0
+AnswersAsList old new result f = IsTrue (tells old) → result ≢ OutOfMemory → GoesAs (f (contents old)) result (contents new)
+
+-- over a host that tells its contents, out of memory, what standard output has is a front of what f writes
+abbrev pub WritesFrontOf : Option HostModel → Option HostModel → Outcome → (HostModel → Answer) → Type 0
+WritesFrontOf old new result f = IsTrue (tells old) → result ≡ OutOfMemory → IsFront (contents new).output (output_of (f (contents old)))

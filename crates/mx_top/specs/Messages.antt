@@ -1,22 +1,10 @@
 -- The line that tells an outcome.
 use Rattle.std.specs.Prelude.{ℕ, zero, suc, ◌+◌, ◌*◌, ◌/◌, ◌%◌, ◌^◌, List, [], ◌∷◌, ◌++◌, nat_lt, ◌==◌, if◌then◌else◌, codes, decimal}
+use Rattle.mx_text.specs.Numbers.{hex_text}
 use Rattle.mx_top.specs.Names.{fault_name_of, usage_name_of}
-use Rattle.mx_top.specs.declared.outcome.WordsFault.{WordsFault}
+use Rattle.mx_words.specs.declared.order.WordsFault.{WordsFault}
 use Rattle.mx_top.specs.declared.outcome.Outcome.{Outcome}
 use Rattle.mx_top.specs.declared.outcome.Outcome.TheVariants.{Done, Usage, NoFile, HostFault, Refused, BadObject, Stopped, StepsSpent, Quit, ConsoleLimit, OutOfMemory}
-
--- a hexadecimal digit, in lower case
-abbrev pub hex_digit : ℕ → ℕ
-hex_digit d = if nat_lt d 10 then 48 + d else 87 + d
-
--- the last k hexadecimal digits of a number
-unfoldable pub hex_digits : ℕ → ℕ → List ℕ
-hex_digits zero x = []
-hex_digits (suc k) x = hex_digit (x / 2 ^ (4 * k) % 16) ∷ hex_digits k x
-
--- `#` and the 16 digits of an octa
-abbrev pub octa_hex : ℕ → List ℕ
-octa_hex x = codes "#" ++ hex_digits 16 x
 
 -- a number and the name of a fault
 abbrev pub numbered_fault : ℕ → List ℕ
@@ -36,7 +24,7 @@ abbrev pub object_text : ℕ → ℕ → List ℕ
 object_text place fault = codes "byte " ++ decimal place ++ codes ": " ++ numbered_fault fault ++ codes "\n"
 
 abbrev pub stopped_text : ℕ → ℕ → List ℕ
-stopped_text pc reason = octa_hex pc ++ codes ": " ++ numbered_fault reason ++ codes "\n"
+stopped_text pc reason = hex_text pc ++ codes ": " ++ numbered_fault reason ++ codes "\n"
 
 -- the message line; a run that is done, or that was left, has none
 abbrev pub message_of : Outcome → List ℕ

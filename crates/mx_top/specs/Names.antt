@@ -130,13 +130,6 @@ trap_name n =
     else if n == 124 then codes "UnknownTrap"
     else []
 
--- where something is not built yet
-abbrev pub interim_name : ℕ → List ℕ
-interim_name n =
-    if n == 130 then codes "NotBuilt"
-    else if n == 131 then codes "NotBuilt"
-    else []
-
 abbrev pub fault_name_of : ℕ → List ℕ
 fault_name_of n =
     if nat_lt n 10 then line_name n
@@ -149,8 +142,7 @@ fault_name_of n =
     else if nat_lt n 100 then load_name n
     else if nat_lt n 110 then stack_name n
     else if nat_lt n 121 then stop_name n
-    else if nat_lt n 130 then trap_name n
-    else interim_name n
+    else trap_name n
 
 abbrev pub usage_name_of : ℕ → List ℕ
 usage_name_of n =
@@ -162,5 +154,4 @@ usage_name_of n =
     else if n == 6 then codes "BadRing"
     else if n == 7 then codes "MissingFile"
     else if n == 8 then codes "TooMany"
-    else if n == 9 then codes "NotBuilt"
     else []

@@ -1,15 +1,25 @@
--- Objects as they are loaded to be run, and as they are written.
-use Rattle.std.specs.Prelude.{ℕ, List, [], ◌++◌, Result}
-use Rattle.mx_word.specs.Results.{map_ok}
+-- The object of a source, as it is written.
+use Rattle.std.specs.Prelude.{ℕ, List, ◌++◌, Result, Ok, Err}
+use Rattle.mx_line.specs.Lines.{lines_of}
 use Rattle.mx_mmo.specs.Spelling.{written, ending}
-use Rattle.mx_mmo.specs.declared.items.Item.{Item}
-use Rattle.mx_load.specs.Objects.{object_loaded}
-use Rattle.mx_top.specs.Image.{Image, of_object}
+use Rattle.mx_asm.specs.OnePass.{Ended}
+use Rattle.mx_asm.specs.Whole.{assembled_lines}
+use Rattle.mx_asm.specs.declared.refused.Refused.{Refused}
+use Rattle.mx_top.specs.Loading.{refusal_of}
+use Rattle.mx_top.specs.declared.refusal.Refusal.{Refusal}
 
--- the image of the object that bytes are, or the place and the number of their first fault
-abbrev pub object_image : List ℕ → Result Image (ℕ × ℕ)
-object_image bytes = map_ok (λ loaded. of_object loaded.0) (object_loaded bytes)
+-- The bytes of the object with the refusal, if there is one: then the object has the items of the statements before the
+-- faulty one, or of all statements where none is faulty, and no end.
+abbrev pub Assembled : Type 0
+Assembled = List ℕ × Result (Unit {0}) Refusal
 
--- the bytes of the object with these items, whose trie is empty
-abbrev pub object_bytes : List Item → List ℕ
-object_bytes items = written items ++ ending []
+-- what was written of the items, with the end of an object behind it, or with the refusal
+abbrev pub object_with : List ℕ → Result (List ℕ) Refused → Assembled
+object_with bytes (Ok trie) = (bytes ++ ending trie, Ok tt)
+object_with bytes (Err refused) = (bytes, Err (refusal_of refused))
+
+abbrev pub object_of : Ended → Assembled
+object_of (items, answer) = object_with (written items) answer
+
+unfoldable pub source_object : List ℕ → Assembled
+source_object source = object_of (assembled_lines (lines_of source))

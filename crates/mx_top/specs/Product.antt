@@ -1,120 +1,146 @@
--- What the program answers and does, over a host that tells its contents: the outcome and the host's last model.
-use Rattle.std.specs.Prelude.{ℕ, Bool, List, [], ◌∷◌, Option, None, Some, Result, Ok, Err, if◌then◌else◌}
+-- What the program answers and does, over a host that tells its contents: the outcome and the host's last model. The machine
+-- is that over a ring of registers, or that over an unbounded list, which goes no further where it meets something wild.
+use Rattle.std.specs.Prelude.{ℕ, ◌^◌, Bool, true, false, List, [], ◌∷◌, length, Result, Ok, Err, codes, if◌then◌else◌}
 use Rattle.mx_host.specs.HostModel.{HostModel}
 use Rattle.mx_host.specs.HostAnswer.{Then, open_answer, write_answer, close_answer}
 use Rattle.mx_host.specs.declared.faults.HostFault.{HostFault as SlotFault}
 use Rattle.mx_host.specs.declared.faults.OpenFault.{OpenFault}
 use Rattle.mx_host.specs.declared.faults.OpenFault.TheVariants as opening
 use Rattle.mx_host.specs.declared.slots.Mode.TheVariants.{BinaryWrite}
-use Rattle.mx_line.specs.Lines.{lines_of}
-use Rattle.mx_mmo.specs.declared.items.Item.{Item}
-use Rattle.mx_top.specs.FileTraps.{put_text}
-use Rattle.mx_top.specs.Image.{Image}
-use Rattle.mx_top.specs.ListMachine.{ListMachine, start, start_address}
+use Rattle.mx_mmo.specs.Image.{Image}
+use Rattle.mx_load.specs.Objects.{object_loaded}
+use Rattle.mx_core.specs.State.{State}
+use Rattle.mx_ring.specs.Stack.{register}
+use Rattle.mx_run.specs.WildRuns.{MachineKind}
+use Rattle.mx_word.specs.declared.symbols.Symbol.{Symbol}
+use Rattle.mx_words.specs.Orders.{order_of}
+use Rattle.mx_words.specs.declared.order.Command.{Command}
+use Rattle.mx_words.specs.declared.order.Command.TheVariants.{Run, Asm, Sim, Gen}
+use Rattle.mx_words.specs.declared.order.Order.{Order}
+use Rattle.mx_words.specs.declared.order.WordsFault.{WordsFault}
+use Rattle.mx_top.specs.Answers.{Answer, answered, wild, plainly, and_then}
+use Rattle.mx_top.specs.Arguments.{Word, word_at, arguments}
+use Rattle.mx_top.specs.Generator.{generated, summary}
+use Rattle.mx_top.specs.Lines.{lines_put}
+use Rattle.mx_top.specs.Loading.{source_image}
 use Rattle.mx_top.specs.Messages.{message_of}
-use Rattle.mx_top.specs.Objects.{object_bytes, object_image}
-use Rattle.mx_top.specs.Pool.{argument_of}
-use Rattle.mx_top.specs.Runs.{Ran, run, pages_full}
+use Rattle.mx_top.specs.Objects.{Assembled, source_object}
+use Rattle.mx_top.specs.Pieces.{put_text}
+use Rattle.mx_top.specs.Runs.{Ran, ran, ran_wild, machine_ran, started, after_lines, image_run}
 use Rattle.mx_top.specs.Source.{file_bytes, source_pieces, object_pieces}
-use Rattle.mx_top.specs.TwoPass.{meaning_of}
-use Rattle.mx_top.specs.Whole.{assembled}
-use Rattle.mx_top.specs.Words.{Order, Run, Sim, Asm, order_of}
-use Rattle.mx_top.specs.declared.end.End.{End}
-use Rattle.mx_top.specs.declared.end.End.TheVariants.{Halted, Spent, Stopped as Halting, OutOfMemory as NoRoom}
-use Rattle.mx_top.specs.declared.outcome.WordsFault.{WordsFault}
+use Rattle.mx_top.specs.declared.refusal.Refusal.{Refusal}
 use Rattle.mx_top.specs.declared.outcome.Outcome.{Outcome}
-use Rattle.mx_top.specs.declared.outcome.Outcome.TheVariants.{Done, Usage, HostFault, Refused, BadObject, Stopped, StepsSpent, OutOfMemory}
+use Rattle.mx_top.specs.declared.outcome.Outcome.TheVariants.{Done, Usage, NoFile, HostFault, Refused, BadObject, Stopped, StepsSpent, Quit, ConsoleLimit, OutOfMemory}
 
--- a run makes at most so many steps
-abbrev pub step_bound : ℕ
-step_bound = 1000000000
+-- ---- `run` and `sim`
+
+abbrev pub refused_with : Refusal → Outcome
+refused_with r = Refused r.line r.fault r.from_line
+
+-- a source is refused, or its image is run
+abbrev pub after_image : MachineKind → Order → List Word → Result Image Refusal → HostModel → Answer
+after_image kind o arguments (Err refusal) m = answered (refused_with refusal) m
+after_image kind o arguments (Ok image) m = image_run kind o arguments image m
+
+abbrev pub after_source : MachineKind → Order → List Word → Then (Result (List ℕ) Outcome) → Answer
+after_source kind o arguments (Err outcome, m) = answered outcome m
+after_source kind o arguments (Ok source, m) = after_image kind o arguments (source_image source) m
+
+-- an object is refused, or its image is run
+abbrev pub after_loading : MachineKind → Order → List Word → Result (Image × List Symbol) (ℕ × ℕ) → HostModel → Answer
+after_loading kind o arguments (Err (place, fault)) m = answered (BadObject place fault) m
+after_loading kind o arguments (Ok (image, symbols)) m = image_run kind o arguments image m
+
+abbrev pub after_object : MachineKind → Order → List Word → Then (Result (List ℕ) Outcome) → Answer
+after_object kind o arguments (Err outcome, m) = answered outcome m
+after_object kind o arguments (Ok object, m) = after_loading kind o arguments (object_loaded object) m
+
+-- ---- `asm`
 
 -- the slot of the tool's object file
 abbrev pub object_slot : ℕ
 object_slot = 257
-
--- the outcome of a run by its end
-abbrev pub outcome_of : End → Outcome
-outcome_of (Halted status) = Done status
-outcome_of (Halting pc reason) = Stopped pc reason
-outcome_of Spent = StepsSpent step_bound
-outcome_of NoRoom = OutOfMemory
-
-abbrev pub after_run : Ran → Then Outcome
-after_run ran = (outcome_of ran.end, ran.model)
-
-abbrev pub machine_run : ListMachine → HostModel → Then Outcome
-machine_run s m = after_run (run step_bound s m)
-
--- an image is run by the list machine from its start, where its pages are not full
-abbrev pub run_from : ℕ → Option ListMachine → HostModel → Then Outcome
-run_from pc None m = (Stopped pc pages_full, m)
-run_from pc (Some s) m = machine_run s m
-
--- an image is run with the word that names its file
-abbrev pub image_run : List ℕ → Image → HostModel → Then Outcome
-image_run word image m = run_from (start_address image) (start image (argument_of word)) m
-
--- a source is refused, or its image is run
-abbrev pub after_meaning : List ℕ → Result Image (ℕ × ℕ) → HostModel → Then Outcome
-after_meaning word (Err (line, fault)) m = (Refused line fault 0, m)
-after_meaning word (Ok image) m = image_run word image m
-
-abbrev pub after_source : List ℕ → Then (Result (List ℕ) Outcome) → Then Outcome
-after_source word (Err outcome, m) = (outcome, m)
-after_source word (Ok source, m) = after_meaning word (meaning_of (lines_of source)) m
-
--- an object is refused, or its image is run
-abbrev pub after_loading : List ℕ → Result Image (ℕ × ℕ) → HostModel → Then Outcome
-after_loading word (Err (place, fault)) m = (BadObject place fault, m)
-after_loading word (Ok image) m = image_run word image m
-
-abbrev pub after_object : List ℕ → Then (Result (List ℕ) Outcome) → Then Outcome
-after_object word (Err outcome, m) = (outcome, m)
-after_object word (Ok object, m) = after_loading word (object_image object) m
 
 -- the object file is closed
 abbrev pub closed_object : Outcome → Then (Result (Unit {0}) SlotFault) → Then Outcome
 closed_object outcome (Err e, m) = (HostFault, m)
 closed_object outcome (Ok u, m) = (outcome, m)
 
-abbrev pub written_object : Then Bool → Then Outcome
-written_object (written, m) = if written then closed_object (Done 0) (close_answer m object_slot) else (HostFault, m)
+abbrev pub written_object : Outcome → Then Bool → Then Outcome
+written_object outcome (written, m) = if written then closed_object outcome (close_answer m object_slot) else (HostFault, m)
 
--- the object of a source is written and closed; that of a source that is refused stays empty
-abbrev pub object_put : Result (List Item) (ℕ × ℕ) → HostModel → Then Outcome
-object_put (Err (line, fault)) m = closed_object (Refused line fault 0) (close_answer m object_slot)
-object_put (Ok items) m = written_object (put_text object_slot (object_bytes items) m)
+-- the outcome of a source that is assembled
+abbrev pub assembled_outcome : Result (Unit {0}) Refusal → Outcome
+assembled_outcome (Ok u) = Done 0
+assembled_outcome (Err refusal) = refused_with refusal
 
--- what follows the opening of the object file
+-- what there is of the object is written in pieces, and the file is closed
+abbrev pub object_put : Assembled → HostModel → Then Outcome
+object_put (bytes, answer) m = written_object (assembled_outcome answer) (put_text object_slot bytes m)
+
 abbrev pub after_opening : List ℕ → Then (Result (Unit {0}) OpenFault) → Then Outcome
 after_opening source (Err opening.Absent, m) = (HostFault, m)
 after_opening source (Err opening.Failed, m) = (HostFault, m)
 after_opening source (Err opening.OutOfMemory, m) = (OutOfMemory, m)
-after_opening source (Ok u, m) = object_put (assembled (lines_of source)) m
+after_opening source (Ok u, m) = object_put (source_object source) m
 
-abbrev pub after_reading : List ℕ → Then (Result (List ℕ) Outcome) → Then Outcome
+abbrev pub after_reading : Word → Then (Result (List ℕ) Outcome) → Then Outcome
 after_reading object (Err outcome, m) = (outcome, m)
 after_reading object (Ok source, m) = after_opening source (open_answer m object_slot object BinaryWrite)
 
+-- ---- `gen`
+
+-- a generated program makes at most so many steps
+abbrev pub generator_steps : ℕ
+generator_steps = 2 ^ 26
+
+-- where it halts, one line tells what came of it
+abbrev pub summary_put : ℕ → ℕ → State → HostModel → Answer
+summary_put blocks size s m =
+    after_lines (Done 0) (lines_put (summary blocks size s.steps (register s.stack 255) ∷ []) m)
+
+abbrev pub summed : ℕ → ℕ → Ran → Answer
+summed blocks size (ran_wild m) = wild m
+summed blocks size (ran (Done status) s m) = summary_put blocks size s m
+summed blocks size (ran outcome s m) = answered outcome m
+
+abbrev pub summed_from : MachineKind → ℕ → ℕ → Result State Outcome → HostModel → Answer
+summed_from kind blocks size (Err outcome) m = answered outcome m
+summed_from kind blocks size (Ok s) m = summed blocks size (machine_ran kind generator_steps s m)
+
+abbrev pub generated_run : MachineKind → Order → ℕ → Result Image Refusal → HostModel → Answer
+generated_run kind o size (Err refusal) m = answered (refused_with refusal) m
+generated_run kind o size (Ok image) m = summed_from kind o.number size (started kind o.ring image (codes "gen" ∷ [])) m
+
+abbrev pub source_generated : MachineKind → Order → List ℕ → HostModel → Answer
+source_generated kind o source m = generated_run kind o (length source) (source_image source) m
+
+-- ---- the words, and the message
+
+abbrev pub run_ordered : MachineKind → List Word → Order → HostModel → Answer
+run_ordered kind words o m = after_source kind o (arguments words o) (file_bytes source_pieces (word_at words o.file) m)
+
+abbrev pub sim_ordered : MachineKind → List Word → Order → HostModel → Answer
+sim_ordered kind words o m = after_object kind o (arguments words o) (file_bytes object_pieces (word_at words o.file) m)
+
+abbrev pub ordered : MachineKind → List Word → Order → Command → HostModel → Answer
+ordered kind words o Run m = run_ordered kind words o m
+ordered kind words o Sim m = sim_ordered kind words o m
+ordered kind words o Asm m = plainly (after_reading (word_at words o.rest) (file_bytes source_pieces (word_at words o.file) m))
+ordered kind words o Gen m = source_generated kind o (generated o.number) m
+
+-- the outcome of the words before its message
+abbrev pub carried_out : MachineKind → List Word → Result Order WordsFault → HostModel → Answer
+carried_out kind words (Err fault) m = answered (Usage fault) m
+carried_out kind words (Ok o) m = ordered kind words o o.command m
+
 -- the message line is written, if there is one; a write that fails changes nothing else
-abbrev pub message_told : Outcome → List ℕ → HostModel → Then Outcome
-message_told outcome [] m = (outcome, m)
-message_told outcome (b ∷ bs) m = (outcome, (write_answer m 260 (b ∷ bs)).1)
+abbrev pub message_told : Outcome → List ℕ → HostModel → Answer
+message_told outcome [] m = answered outcome m
+message_told outcome (b ∷ bs) m = answered outcome (write_answer m 260 (b ∷ bs)).1
 
-abbrev pub with_message : Then Outcome → Then Outcome
-with_message (outcome, m) = message_told outcome (message_of outcome) m
+abbrev pub with_message : Answer → Answer
+with_message = and_then (λ outcome m. message_told outcome (message_of outcome) m)
 
--- words that are no order that is built
-abbrev pub not_built : WordsFault
-not_built = record { kind = 9; word = 0 }
-
--- the outcome of an order before its message
-abbrev pub ordered : Option Order → HostModel → Then Outcome
-ordered None m = (Usage not_built, m)
-ordered (Some (Run source)) m = after_source source (file_bytes source_pieces source m)
-ordered (Some (Sim object)) m = after_object object (file_bytes object_pieces object m)
-ordered (Some (Asm source object)) m = after_reading object (file_bytes source_pieces source m)
-
-abbrev pub product : List (List ℕ) → HostModel → Then Outcome
-product words m = with_message (ordered (order_of words) m)
+abbrev pub product : MachineKind → List Word → HostModel → Answer
+product kind words m = with_message (carried_out kind words (order_of words) m)

@@ -1,37 +1,93 @@
--- Runs of the list machine with a bound on steps.
-use Rattle.std.specs.Prelude.{ℕ, zero, suc, Option, None, Some, Result, Ok, Err}
+-- How an image is run: the machine starts, makes its steps, and is told at the end where a dump is asked for.
+use Rattle.std.specs.Prelude.{ℕ, ◌*◌, ◌/◌, ◌&&◌, Bool, true, false, if◌then◌else◌, List, Option, None, Some, Result, Ok, Err}
 use Rattle.mx_host.specs.HostModel.{HostModel}
-use Rattle.mx_top.specs.ListMachine.{ListMachine}
-use Rattle.mx_top.specs.Step.{Stepped, went, ended, step}
-use Rattle.mx_top.specs.declared.end.End.{End}
-use Rattle.mx_top.specs.declared.end.End.TheVariants.{Spent, Stopped}
+use Rattle.mx_host.specs.HostAnswer.{Then}
+use Rattle.mx_mmo.specs.Image.{Image}
+use Rattle.mx_ring.specs.RegisterList.{list_at_start}
+use Rattle.mx_ring.specs.Stack.{Stack, listed, windowed}
+use Rattle.mx_ring.specs.Window.{window_at_start}
+use Rattle.mx_core.specs.Start.{start}
+use Rattle.mx_core.specs.State.{State}
+use Rattle.mx_run.specs.Runs.{no_flags}
+use Rattle.mx_run.specs.WildRuns.{MachineKind, window_machine, list_machine, RunEnd, run_ended, run_wild, run_by}
+use Rattle.mx_run.specs.declared.end.End.{End}
+use Rattle.mx_run.specs.declared.end.End.TheVariants as ending
+use Rattle.mx_words.specs.declared.order.Order.{Order}
+use Rattle.mx_top.specs.Answers.{Answer, answered, wild}
+use Rattle.mx_top.specs.Dump.{dump_lines}
+use Rattle.mx_top.specs.Lines.{lines_put}
+use Rattle.mx_top.specs.declared.outcome.Outcome.{Outcome}
+use Rattle.mx_top.specs.declared.outcome.Outcome.TheVariants.{Done, Usage, NoFile, HostFault, Refused, BadObject, Stopped, StepsSpent, Quit, ConsoleLimit, OutOfMemory}
 
--- how a run ends, with the state and the model at its end
-pub record Ran : Type 0 where
-  pub end : End
-  pub state : ListMachine
-  pub model : HostModel
+-- the register stack at the start: a ring of so many registers, or a list
+abbrev pub stack_at_start : MachineKind → ℕ → Stack
+stack_at_start window_machine ring = windowed (window_at_start ring)
+stack_at_start list_machine ring = listed list_at_start
 
--- what follows a step
-abbrev pub run_after : (ListMachine → HostModel → Ran) → Stepped → Ran
-run_after more (went s m) = more s m
-run_after more (ended e s m) = record { end = e; state = s; model = m }
+-- what a run comes to: an outcome with the machine and the host as they then stand
+pub data Ran : Type 0 where
+  ran : Outcome → State → HostModel → Ran
+  ran_wild : HostModel → Ran
 
--- at most so many steps
-unfoldable pub run : ℕ → ListMachine → HostModel → Ran
-run zero s m = record { end = Spent; state = s; model = m }
-run (suc left) s m = run_after (run left) (step s m)
+-- the outcome of a run of at most so many steps; without flags a run does not break
+abbrev pub outcome_of : ℕ → End → Outcome
+outcome_of steps (ending.Halted status) = Done status
+outcome_of steps (ending.Stopped pc reason) = Stopped pc reason
+outcome_of steps (ending.Broke kind at traced) = OutOfMemory
+outcome_of steps (ending.Traced trace) = OutOfMemory
+outcome_of steps ending.Spent = StepsSpent steps
+outcome_of steps ending.OutOfMemory = OutOfMemory
 
--- a step as the code answers it: it went on, or the run ends
-abbrev pub stepped_of : Result (Unit {0}) End → ListMachine → HostModel → Stepped
-stepped_of (Ok u) s m = went s m
-stepped_of (Err e) s m = ended e s m
+abbrev pub ran_to : ℕ → RunEnd → Ran
+ran_to steps (run_ended e) = ran (outcome_of steps e.end) e.state e.host
+ran_to steps (run_wild m) = ran_wild m
 
--- the reason of a stop at the start of a run, where the pages are full
+abbrev pub machine_ran : MachineKind → ℕ → State → HostModel → Ran
+machine_ran kind steps s m = ran_to steps (run_by kind steps no_flags false s m)
+
+-- where the machine is left with something to tell
+abbrev pub leaves_machine : Outcome → Bool
+leaves_machine (Done status) = true
+leaves_machine (Stopped pc reason) = true
+leaves_machine (StepsSpent steps) = true
+leaves_machine Quit = true
+leaves_machine ConsoleLimit = true
+leaves_machine (Usage fault) = false
+leaves_machine NoFile = false
+leaves_machine HostFault = false
+leaves_machine (Refused line fault from_line) = false
+leaves_machine (BadObject place fault) = false
+leaves_machine OutOfMemory = false
+
+-- the dump is written line by line; a line that is not written is the outcome
+abbrev pub after_lines : Outcome → Then Bool → Answer
+after_lines outcome (written, m) = answered (if written then outcome else HostFault) m
+
+abbrev pub dumped : Bool → Ran → Answer
+dumped dump (ran_wild m) = wild m
+dumped dump (ran outcome s m) =
+    if dump && leaves_machine outcome then after_lines outcome (lines_put (dump_lines s) m) else answered outcome m
+
+-- where a program begins
+abbrev pub main_address : Image → ℕ
+main_address image = image.global 255 / 4 * 4
+
+-- a machine that starts with its program at this address, or the stop of one whose pages are full
 abbrev pub pages_full : ℕ
 pages_full = 118
 
--- the machine at the start of a program as the code answers it: a stop at its first instruction where the pages are full
-abbrev pub start_answer : ℕ → Option ListMachine → Result ListMachine End
-start_answer pc None = Err (Stopped pc pages_full)
-start_answer pc (Some s) = Ok s
+abbrev pub begun_at : ℕ → Option State → Result State Outcome
+begun_at pc None = Err (Stopped pc pages_full)
+begun_at pc (Some s) = Ok s
+
+-- the machine of an image with these arguments, at its start
+abbrev pub started : MachineKind → ℕ → Image → List (List ℕ) → Result State Outcome
+started kind ring image arguments = begun_at (main_address image) (start image arguments (stack_at_start kind ring))
+
+-- an image is run with these arguments
+abbrev pub run_from : MachineKind → Order → Result State Outcome → HostModel → Answer
+run_from kind o (Err outcome) m = answered outcome m
+run_from kind o (Ok s) m = dumped o.dump (machine_ran kind o.steps s m)
+
+abbrev pub image_run : MachineKind → Order → List (List ℕ) → Image → HostModel → Answer
+image_run kind o arguments image m = run_from kind o (started kind o.ring image arguments) m

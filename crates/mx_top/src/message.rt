@@ -4,38 +4,19 @@ ghost use Rattle.std.specs.Prelude.{IsTrue, ◌≡◌, ◌≢◌, ◌≤◌, ◌
 ghost use Rattle.mx_top.specs.Messages as spec;
 
 use crate::names::{fault_name, usage_name};
-use crate::outcome::{Outcome, WordsFault};
+use crate::outcome::Outcome;
 use itoa::Buffer;
+use mx_text::octa_hex;
 use mx_word::{Bytes, NoMemory};
+use mx_words::WordsFault;
 use std::alloc::Global;
 
 /// Adds a number in decimal digits.
-fn add_decimal(text: &mut Bytes, n: u64) -> Result<(), NoMemory>
+pub fn add_decimal(text: &mut Bytes, n: u64) -> Result<(), NoMemory>
     ensures { OnOk result (text.new ≡ text.old ++ decimal n) }
 {
     let mut buffer = Buffer::new();
     text.extend(buffer.format(n).as_bytes())
-}
-
-/// A hexadecimal digit.
-fn hex_digit(d: u8) -> u8
-    requires { d < 16 }
-    ensures { result ≡ spec.hex_digit d }
-{
-    if d < 10 { b'0' + d } else { b'a' + (d - 10) }
-}
-
-/// An octa as `#` and 16 hexadecimal digits.
-#[tactic(auto, using(crate::proofs::Digits::writing))]
-fn octa_hex(alloc: Global, x: u64) -> Result<Bytes, NoMemory>
-    ensures { IfOk result (λ text. text ≡ spec.octa_hex x) }
-{
-    let mut text = Bytes::copy(alloc, b"#")?;
-    for turn in 0..16u32 {
-        let digit = ((x >> (4 * (15 - turn))) % 16) as u8;
-        text.push(hex_digit(digit))?;
-    }
-    Ok(text)
 }
 
 /// Adds the number and the name of a fault.
@@ -97,7 +78,7 @@ fn object_text(alloc: Global, place: u64, fault: u16) -> Result<Bytes, NoMemory>
 fn stopped_text(alloc: Global, pc: u64, reason: u16) -> Result<Bytes, NoMemory>
     ensures { IfOk result (λ text. text ≡ spec.stopped_text pc reason) }
 {
-    let mut text = octa_hex(alloc, pc)?;
+    let mut text = Bytes::copy(alloc, &octa_hex(pc))?;
     text.extend(b": ")?;
     add_fault(&mut text, reason)?;
     text.extend(b"\n")?;

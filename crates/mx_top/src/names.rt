@@ -27,10 +27,8 @@ pub fn fault_name(number: u16) -> &'static str
         stack_name(number)
     } else if number < 121 {
         stop_name(number)
-    } else if number < 130 {
-        trap_name(number)
     } else {
-        interim_name(number)
+        trap_name(number)
     }
 }
 
@@ -47,7 +45,6 @@ pub fn usage_name(number: u16) -> &'static str
         6 => "BadRing",
         7 => "MissingFile",
         8 => "TooMany",
-        9 => "NotBuilt",
         _ => "",
     }
 }
@@ -221,17 +218,6 @@ fn trap_name(number: u16) -> &'static str
         122 => "TransferTooLarge",
         123 => "TrapPagesFull",
         124 => "UnknownTrap",
-        _ => "",
-    }
-}
-
-/// Where something is not built yet.
-fn interim_name(number: u16) -> &'static str
-    ensures { result.now ≡ spec.interim_name number }
-{
-    match number {
-        130 => "NotBuilt",
-        131 => "NotBuilt",
         _ => "",
     }
 }

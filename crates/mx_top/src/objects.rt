@@ -1,50 +1,77 @@
 //! An object that is loaded and run.
 
-ghost use Rattle.std.specs.Prelude.{◌≢◌};
-ghost use Rattle.mx_host.specs.Keeping.{Answers, ComesByFault, Keeps, WritesFront};
-ghost use Rattle.mx_top.specs.Objects.{object_image};
-ghost use Rattle.mx_top.specs.Source.{file_bytes};
+ghost use Rattle.std.specs.Prelude.{◌≡◌, ◌≢◌, ◌≤◌, ◌+◌, ◌*◌, false, length};
+ghost use Rattle.mx_core.specs.Start.{pool, pool_octas};
+ghost use Rattle.mx_host.specs.Keeping.{ComesByFault, Keeps};
+ghost use Rattle.mx_load.specs.Objects.{object_loaded};
+ghost use Rattle.mx_ring.specs.Stack.{stack_address};
+ghost use Rattle.mx_run.specs.WildRuns.{window_machine, list_machine};
+ghost use Rattle.mx_top.specs.Answers.{AnswersAs, AnswersAsList, WritesFrontOf, is_usage};
 ghost use Rattle.mx_top.specs.Product as product;
+ghost use Rattle.mx_top.specs.Source.{file_bytes};
 
 use crate::outcome::Outcome;
 use crate::run::run_image;
-use crate::source::read_file;
+use crate::source::{OBJECT_PIECES, read_file};
 use mx_host::Host;
 use mx_load::{ObjectFault, load_object};
+use mx_word::Bytes;
+use mx_words::Order;
 use std::alloc::Global;
 
-/// An object is read in at most so many pieces: more than 2^26 bytes.
-const OBJECT_PIECES: u32 = 16385;
-
 /// Runs an object, or says why it is refused.
-fn run_object<H: Host>(alloc: Global, host: &mut H, bytes: &[u8], word: &[u8]) -> Outcome
-    ensures told { Answers (H.told host.old) (H.told host.new) Outcome.OutOfMemory result
-        (λ m. product.after_loading word.now (object_image bytes.now) m) }
-    ensures written { WritesFront (H.told host.old) (H.told host.new) Outcome.OutOfMemory result
-        (λ m. product.after_loading word.now (object_image bytes.now) m) }
-    ensures no_fault { result ≢ Outcome.HostFault }
+#[tactic(auto, using(crate::proofs::Sources::fronts))]
+fn run_object<H: Host>(
+    alloc: Global,
+    host: &mut H,
+    order: &Order,
+    bytes: &[u8],
+    arguments: &[Bytes],
+) -> Outcome
+    requires some { 1 ≤ length arguments.now }
+    requires fits { pool + 8 * length (pool_octas arguments.now) ≤ stack_address 0 }
+    ensures told { AnswersAs (H.told host.old) (H.told host.new) result
+        (λ m. product.after_loading window_machine order.now arguments.now (object_loaded bytes.now) m) }
+    ensures listed { AnswersAsList (H.told host.old) (H.told host.new) result
+        (λ m. product.after_loading list_machine order.now arguments.now (object_loaded bytes.now) m) }
+    ensures front { WritesFrontOf (H.told host.old) (H.told host.new) result
+        (λ m. product.after_loading window_machine order.now arguments.now (object_loaded bytes.now) m) }
+    ensures rose { ComesByFault (H.told host.old) Outcome.HostFault result (H.faults host.old) (H.faults host.new) }
     ensures present { result ≢ Outcome.NoFile }
+    ensures words { is_usage result ≡ false }
     ensures keeps { Keeps (H.told host.old) (H.told host.new) (H.faults host.old) (H.faults host.new) }
 {
     match load_object(alloc, bytes) {
-        Ok(image) => run_image(alloc, host, image, word),
+        Ok(image) => run_image(alloc, host, order, image, arguments),
         Err(ObjectFault::Bad { place, fault }) => Outcome::BadObject { place, fault },
         Err(ObjectFault::OutOfMemory) => Outcome::OutOfMemory,
     }
 }
 
 /// Runs the object in the file of this name.
-pub fn sim_file<H: Host>(alloc: Global, host: &mut H, name: &[u8]) -> Outcome
-    ensures told { Answers (H.told host.old) (H.told host.new) Outcome.OutOfMemory result
-        (λ m. product.after_object name.now (file_bytes 16385 name.now m)) }
-    ensures written { WritesFront (H.told host.old) (H.told host.new) Outcome.OutOfMemory result
-        (λ m. product.after_object name.now (file_bytes 16385 name.now m)) }
+#[tactic(auto, using(crate::proofs::Sources::fronts))]
+pub fn sim_file<H: Host>(
+    alloc: Global,
+    host: &mut H,
+    order: &Order,
+    name: &[u8],
+    arguments: &[Bytes],
+) -> Outcome
+    requires some { 1 ≤ length arguments.now }
+    requires fits { pool + 8 * length (pool_octas arguments.now) ≤ stack_address 0 }
+    ensures told { AnswersAs (H.told host.old) (H.told host.new) result
+        (λ m. product.after_object window_machine order.now arguments.now (file_bytes 16385 name.now m)) }
+    ensures listed { AnswersAsList (H.told host.old) (H.told host.new) result
+        (λ m. product.after_object list_machine order.now arguments.now (file_bytes 16385 name.now m)) }
+    ensures front { WritesFrontOf (H.told host.old) (H.told host.new) result
+        (λ m. product.after_object window_machine order.now arguments.now (file_bytes 16385 name.now m)) }
     ensures rose { ComesByFault (H.told host.old) Outcome.HostFault result (H.faults host.old) (H.faults host.new) }
     ensures no_file { ComesByFault (H.told host.old) Outcome.NoFile result (H.faults host.old) (H.faults host.new) }
+    ensures words { is_usage result ≡ false }
     ensures keeps { Keeps (H.told host.old) (H.told host.new) (H.faults host.old) (H.faults host.new) }
 {
     match read_file(alloc, host, name, OBJECT_PIECES) {
-        Ok(bytes) => run_object(alloc, host, bytes.as_slice(), name),
+        Ok(bytes) => run_object(alloc, host, order, bytes.as_slice(), arguments),
         Err(outcome) => outcome,
     }
 }

@@ -1,16 +1,10 @@
 //! What a run of the program comes to.
 
 ghost use Rattle.std.specs.Prelude.{◌≡◌};
+ghost use Rattle.mx_top.specs.Runs.{leaves_machine};
 ghost use Rattle.mx_top.specs.Status.{status_of};
 
-/// Why the words of the command line are no order.
-#[derive(Clone, Copy, Debug, PartialEq, Eq)]
-pub struct WordsFault {
-    /// The kind, whose name `usage_name` gives.
-    pub kind: u16,
-    /// The place of the word, from 0, or the number of words where one is missing.
-    pub word: usize,
-}
+use mx_words::WordsFault;
 
 /// What a run of the program comes to.
 #[derive(Clone, Copy, Debug, PartialEq, Eq)]
@@ -68,6 +62,25 @@ impl Outcome {
             Outcome::HostFault => 74,
             Outcome::StepsSpent { .. } => 75,
             Outcome::ConsoleLimit => 76,
+        }
+    }
+
+    /// Whether the machine is left with something to tell.
+    pub fn leaves_machine(&self) -> bool
+        ensures { result ≡ leaves_machine self.now }
+    {
+        match self {
+            Outcome::Done(_)
+            | Outcome::Stopped { .. }
+            | Outcome::StepsSpent { .. }
+            | Outcome::Quit
+            | Outcome::ConsoleLimit => true,
+            Outcome::Usage(_)
+            | Outcome::NoFile
+            | Outcome::HostFault
+            | Outcome::Refused { .. }
+            | Outcome::BadObject { .. }
+            | Outcome::OutOfMemory => false,
         }
     }
 }

@@ -1,124 +1,206 @@
 //! A source that is run, and what runs once it is loaded.
 
-ghost use Rattle.std.specs.Prelude.{IsTrue, ◌≡◌, ◌≢◌, ◌≤◌, Err};
-ghost use Rattle.mx_host.specs.Keeping.{Answers, ComesByFault, Keeps, WritesFront};
-ghost use Rattle.mx_line.specs.Lines.{lines_of};
+ghost use Rattle.std.specs.Prelude.{◌≡◌, ◌≢◌, ◌≤◌, ◌+◌, ◌*◌, Err, IfOk, IfErr, false, length};
+ghost use Rattle.mx_core.specs.Bounds.{as_list_state};
+ghost use Rattle.mx_core.specs.Kept.{state_of};
+ghost use Rattle.mx_core.specs.Start.{pool, pool_octas};
+ghost use Rattle.mx_host.specs.Keeping.{ComesByFault, Keeps};
 ghost use Rattle.mx_load.specs.Kept.{image_of};
-ghost use Rattle.mx_top.specs.Image.{of_object};
-ghost use Rattle.mx_top.specs.Answers.{image_from};
-ghost use Rattle.mx_top.specs.Held.{state_of};
+ghost use Rattle.mx_ring.specs.Stack.{stack_address};
+ghost use Rattle.mx_run.specs.WildRuns.{window_machine, list_machine};
+ghost use Rattle.mx_word.specs.Results.{map_ok};
+ghost use Rattle.mx_top.specs.Answers.{AnswersAs, AnswersAsList, WritesFrontOf, is_usage};
+ghost use Rattle.mx_top.specs.Loading.{source_image};
+ghost use Rattle.mx_top.specs.Product as product;
+ghost use Rattle.mx_top.specs.Runs as spec;
 ghost use Rattle.mx_top.specs.Source.{file_bytes};
-ghost use Rattle.mx_top.specs.TwoPass.{meaning_of};
-ghost use Rattle.mx_top.specs.Product as spec;
 
-use crate::assemble::assemble;
-use crate::assembly::AssemblyFault;
-use crate::end::End;
-use crate::machine::Machine;
+use crate::dump::dump;
+use crate::loading::load_source;
 use crate::outcome::Outcome;
-use crate::pool::argument_of;
-use crate::source::read_file;
+use crate::refusal::SourceFault;
+use crate::source::{SOURCE_PIECES, read_file};
+use mx_core::{Machine, StartFault};
 use mx_host::Host;
-use mx_load::{Image, load};
-use mx_word::Symbols;
+use mx_load::Image;
+use mx_ring::RingSize;
+use mx_run::{End, Runner};
+use mx_word::Bytes;
+use mx_words::Order;
 use std::alloc::Global;
 
-/// A run makes at most so many steps.
-const STEP_BOUND: u64 = 1_000_000_000;
-
-/// A source is read in at most so many pieces: more than 2^22 bytes.
-pub const SOURCE_PIECES: u32 = 1025;
-
-/// The outcome of a run by its end.
-fn outcome_of(end: End) -> Outcome
-    ensures { result ≡ spec.outcome_of end }
+/// The outcome of a run of at most so many steps, by its end. Without flags a run does not break.
+pub fn outcome_of(steps: u64, end: End) -> Outcome
+    ensures value { result ≡ spec.outcome_of steps end }
+    ensures memory { end ≡ End.OutOfMemory → result ≡ Outcome.OutOfMemory }
+    ensures well { result ≢ Outcome.HostFault }
+    ensures present { result ≢ Outcome.NoFile }
+    ensures words { is_usage result ≡ false }
 {
     match end {
         End::Halted(status) => Outcome::Done(status),
         End::Stopped { pc, reason } => Outcome::Stopped { pc, reason },
-        End::Spent => Outcome::StepsSpent { steps: STEP_BOUND },
-        End::OutOfMemory => Outcome::OutOfMemory,
+        End::Spent => Outcome::StepsSpent { steps },
+        End::Broke { .. } | End::Traced(_) | End::OutOfMemory => Outcome::OutOfMemory,
+    }
+}
+
+/// The machine of an image with these arguments at its start, or the outcome where the pages are full.
+#[tactic(auto, using(crate::proofs::StartedMachines::starting))]
+pub fn start(alloc: Global, image: Image, arguments: &[Bytes], ring: RingSize) -> Result<Machine, Outcome>
+    requires some { 1 ≤ length arguments.now }
+    requires fits { pool + 8 * length (pool_octas arguments.now) ≤ stack_address 0 }
+    ensures window { result ≢ Err Outcome.OutOfMemory → map_ok state_of result
+        ≡ spec.started window_machine ring (image_of image) arguments.now }
+    ensures list { result ≢ Err Outcome.OutOfMemory → map_ok (λ m. as_list_state (state_of m)) result
+        ≡ spec.started list_machine ring (image_of image) arguments.now }
+    ensures untouched { IfOk result (λ m. (state_of m).touched ≡ false) }
+    ensures well { result ≢ Err Outcome.HostFault }
+    ensures present { result ≢ Err Outcome.NoFile }
+    ensures words { IfErr result (λ outcome. is_usage outcome ≡ false) }
+{
+    let pc = image.global(255) / 4 * 4;
+    match Machine::start(alloc, image, arguments, ring) {
+        Ok(machine) => Ok(machine),
+        Err(StartFault::PagesFull) => Err(Outcome::Stopped { pc, reason: 118 }),
+        Err(StartFault::OutOfMemory) => Err(Outcome::OutOfMemory),
+    }
+}
+
+/// What follows a run: the dump, where it is asked for and the machine is left with something to tell.
+#[tactic(auto, using(crate::proofs::Dumped::dumping))]
+fn tell_end<H: Host>(
+    alloc: Global,
+    host: &mut H,
+    wanted: bool,
+    machine: &Machine,
+    outcome: Outcome,
+) -> Outcome
+    requires well { outcome ≢ Outcome.HostFault }
+    requires present { outcome ≢ Outcome.NoFile }
+    requires words { is_usage outcome ≡ false }
+    ensures memory { outcome ≡ Outcome.OutOfMemory → (result ≡ Outcome.OutOfMemory) × (host.new ≡ host.old) }
+    ensures told { AnswersAs (H.told host.old) (H.told host.new) result
+        (λ m. spec.dumped wanted (spec.ran outcome (state_of machine.now) m)) }
+    ensures list { (state_of machine.now).touched ≡ false → AnswersAs (H.told host.old) (H.told host.new) result
+        (λ m. spec.dumped wanted (spec.ran outcome (as_list_state (state_of machine.now)) m)) }
+    ensures front { WritesFrontOf (H.told host.old) (H.told host.new) result
+        (λ m. spec.dumped wanted (spec.ran outcome (state_of machine.now) m)) }
+    ensures rose { ComesByFault (H.told host.old) Outcome.HostFault result (H.faults host.old) (H.faults host.new) }
+    ensures present { result ≢ Outcome.NoFile }
+    ensures words { is_usage result ≡ false }
+    ensures keeps { Keeps (H.told host.old) (H.told host.new) (H.faults host.old) (H.faults host.new) }
+{
+    if !(wanted && outcome.leaves_machine()) {
+        return outcome;
+    }
+    match dump(alloc, host, machine) {
+        Ok(true) => outcome,
+        Ok(false) => Outcome::HostFault,
+        Err(_) => Outcome::OutOfMemory,
     }
 }
 
 /// Runs a machine that was started.
-fn run_machine<H: Host>(host: &mut H, machine: Machine) -> Outcome
-    ensures told { Answers (H.told host.old) (H.told host.new) Outcome.OutOfMemory result
-        (λ m. spec.machine_run (state_of machine) m) }
-    ensures written { WritesFront (H.told host.old) (H.told host.new) Outcome.OutOfMemory result
-        (λ m. spec.machine_run (state_of machine) m) }
-    ensures no_fault { result ≢ Outcome.HostFault }
+fn run_machine<H: Host>(alloc: Global, host: &mut H, order: &Order, machine: Machine) -> Outcome
+    requires { (state_of machine).touched ≡ false }
+    ensures told { AnswersAs (H.told host.old) (H.told host.new) result
+        (λ m. spec.run_from window_machine order.now (Ok (state_of machine)) m) }
+    ensures listed { AnswersAsList (H.told host.old) (H.told host.new) result
+        (λ m. spec.run_from list_machine order.now (Ok (as_list_state (state_of machine))) m) }
+    ensures front { WritesFrontOf (H.told host.old) (H.told host.new) result
+        (λ m. spec.run_from window_machine order.now (Ok (state_of machine)) m) }
+    ensures rose { ComesByFault (H.told host.old) Outcome.HostFault result (H.faults host.old) (H.faults host.new) }
     ensures present { result ≢ Outcome.NoFile }
+    ensures words { is_usage result ≡ false }
     ensures keeps { Keeps (H.told host.old) (H.told host.new) (H.faults host.old) (H.faults host.new) }
 {
-    let mut machine = machine;
-    let end = machine.run(host, STEP_BOUND);
-    outcome_of(end)
+    let mut runner = Runner::new(alloc, machine);
+    let end = runner.go(alloc, host, order.steps, false);
+    tell_end(alloc, host, order.dump, runner.machine(), outcome_of(order.steps, end))
 }
 
-/// Runs an image from its start, with the word that names its file.
-pub fn run_image<H: Host>(alloc: Global, host: &mut H, image: Image, word: &[u8]) -> Outcome
-    ensures told { Answers (H.told host.old) (H.told host.new) Outcome.OutOfMemory result
-        (λ m. spec.image_run word.now (of_object (image_of image)) m) }
-    ensures written { WritesFront (H.told host.old) (H.told host.new) Outcome.OutOfMemory result
-        (λ m. spec.image_run word.now (of_object (image_of image)) m) }
-    ensures no_fault { result ≢ Outcome.HostFault }
+/// Runs an image from its start, with these arguments.
+#[tactic(auto, using(crate::proofs::Sources::fronts))]
+pub fn run_image<H: Host>(
+    alloc: Global,
+    host: &mut H,
+    order: &Order,
+    image: Image,
+    arguments: &[Bytes],
+) -> Outcome
+    requires some { 1 ≤ length arguments.now }
+    requires fits { pool + 8 * length (pool_octas arguments.now) ≤ stack_address 0 }
+    ensures told { AnswersAs (H.told host.old) (H.told host.new) result
+        (λ m. spec.image_run window_machine order.now arguments.now (image_of image) m) }
+    ensures listed { AnswersAsList (H.told host.old) (H.told host.new) result
+        (λ m. spec.image_run list_machine order.now arguments.now (image_of image) m) }
+    ensures front { WritesFrontOf (H.told host.old) (H.told host.new) result
+        (λ m. spec.image_run window_machine order.now arguments.now (image_of image) m) }
+    ensures rose { ComesByFault (H.told host.old) Outcome.HostFault result (H.faults host.old) (H.faults host.new) }
     ensures present { result ≢ Outcome.NoFile }
+    ensures words { is_usage result ≡ false }
     ensures keeps { Keeps (H.told host.old) (H.told host.new) (H.faults host.old) (H.faults host.new) }
 {
-    match Machine::start(alloc, image, argument_of(word)) {
-        Ok(machine) => run_machine(host, machine),
-        Err(end) => outcome_of(end),
-    }
-}
-
-/// Assembles a source and loads its items.
-fn source_image(alloc: Global, text: &[u8]) -> Result<Image, AssemblyFault>
-    ensures { result ≢ Err AssemblyFault.OutOfMemory → image_from result ≡ meaning_of (lines_of text.now) }
-{
-    match assemble(alloc, text) {
-        Ok(items) => match load(alloc, items.as_slice(), Symbols::new(alloc)) {
-            Ok(image) => Ok(image),
-            // The items of a source have a meaning, so that this is out of memory.
-            Err(_) => Err(AssemblyFault::OutOfMemory),
-        },
-        Err(fault) => Err(fault),
+    match start(alloc, image, arguments, order.ring) {
+        Ok(machine) => run_machine(alloc, host, order, machine),
+        Err(outcome) => outcome,
     }
 }
 
 /// Runs a source, or says why it is refused.
-fn run_source<H: Host>(alloc: Global, host: &mut H, text: &[u8], word: &[u8]) -> Outcome
-    ensures told { Answers (H.told host.old) (H.told host.new) Outcome.OutOfMemory result
-        (λ m. spec.after_meaning word.now (meaning_of (lines_of text.now)) m) }
-    ensures written { WritesFront (H.told host.old) (H.told host.new) Outcome.OutOfMemory result
-        (λ m. spec.after_meaning word.now (meaning_of (lines_of text.now)) m) }
-    ensures no_fault { result ≢ Outcome.HostFault }
+#[tactic(auto, using(crate::proofs::Sources::fronts))]
+fn run_source<H: Host>(
+    alloc: Global,
+    host: &mut H,
+    order: &Order,
+    text: &[u8],
+    arguments: &[Bytes],
+) -> Outcome
+    requires some { 1 ≤ length arguments.now }
+    requires fits { pool + 8 * length (pool_octas arguments.now) ≤ stack_address 0 }
+    ensures told { AnswersAs (H.told host.old) (H.told host.new) result
+        (λ m. product.after_image window_machine order.now arguments.now (source_image text.now) m) }
+    ensures listed { AnswersAsList (H.told host.old) (H.told host.new) result
+        (λ m. product.after_image list_machine order.now arguments.now (source_image text.now) m) }
+    ensures front { WritesFrontOf (H.told host.old) (H.told host.new) result
+        (λ m. product.after_image window_machine order.now arguments.now (source_image text.now) m) }
+    ensures rose { ComesByFault (H.told host.old) Outcome.HostFault result (H.faults host.old) (H.faults host.new) }
     ensures present { result ≢ Outcome.NoFile }
+    ensures words { is_usage result ≡ false }
     ensures keeps { Keeps (H.told host.old) (H.told host.new) (H.faults host.old) (H.faults host.new) }
 {
-    match source_image(alloc, text) {
-        Ok(image) => run_image(alloc, host, image, word),
-        Err(AssemblyFault::Refused { line, fault }) => Outcome::Refused {
-            line,
-            fault,
-            from_line: 0,
-        },
-        Err(AssemblyFault::OutOfMemory) => Outcome::OutOfMemory,
+    match load_source(alloc, text) {
+        Ok(image) => run_image(alloc, host, order, image, arguments),
+        Err(SourceFault::Refused(refusal)) => refusal.outcome(),
+        Err(SourceFault::OutOfMemory) => Outcome::OutOfMemory,
     }
 }
 
 /// Runs the source in the file of this name.
-pub fn run_file<H: Host>(alloc: Global, host: &mut H, name: &[u8]) -> Outcome
-    ensures told { Answers (H.told host.old) (H.told host.new) Outcome.OutOfMemory result
-        (λ m. spec.after_source name.now (file_bytes 1025 name.now m)) }
-    ensures written { WritesFront (H.told host.old) (H.told host.new) Outcome.OutOfMemory result
-        (λ m. spec.after_source name.now (file_bytes 1025 name.now m)) }
+#[tactic(auto, using(crate::proofs::Sources::fronts))]
+pub fn run_file<H: Host>(
+    alloc: Global,
+    host: &mut H,
+    order: &Order,
+    name: &[u8],
+    arguments: &[Bytes],
+) -> Outcome
+    requires some { 1 ≤ length arguments.now }
+    requires fits { pool + 8 * length (pool_octas arguments.now) ≤ stack_address 0 }
+    ensures told { AnswersAs (H.told host.old) (H.told host.new) result
+        (λ m. product.after_source window_machine order.now arguments.now (file_bytes 1025 name.now m)) }
+    ensures listed { AnswersAsList (H.told host.old) (H.told host.new) result
+        (λ m. product.after_source list_machine order.now arguments.now (file_bytes 1025 name.now m)) }
+    ensures front { WritesFrontOf (H.told host.old) (H.told host.new) result
+        (λ m. product.after_source window_machine order.now arguments.now (file_bytes 1025 name.now m)) }
     ensures rose { ComesByFault (H.told host.old) Outcome.HostFault result (H.faults host.old) (H.faults host.new) }
     ensures no_file { ComesByFault (H.told host.old) Outcome.NoFile result (H.faults host.old) (H.faults host.new) }
+    ensures words { is_usage result ≡ false }
     ensures keeps { Keeps (H.told host.old) (H.told host.new) (H.faults host.old) (H.faults host.new) }
 {
     match read_file(alloc, host, name, SOURCE_PIECES) {
-        Ok(text) => run_source(alloc, host, text.as_slice(), name),
+        Ok(text) => run_source(alloc, host, order, text.as_slice(), arguments),
         Err(outcome) => outcome,
     }
 }

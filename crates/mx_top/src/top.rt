@@ -1,90 +1,124 @@
 //! The top call.
 
-ghost use Rattle.std.specs.Prelude.{IsTrue, ◌≡◌, ◌≢◌, ◌≤◌, None, map, string_bytes};
-ghost use Rattle.mx_host.specs.Keeping.{Answers, ComesByFault, Keeps, KeepsOutput, WritesFront};
-ghost use Rattle.mx_host.specs.HostModel.{tells, contents, slot_at, to_errors};
-ghost use Rattle.mx_top.specs.Words.{order_of, one_file, two_files};
-ghost use Rattle.mx_top.specs.Product.{ordered, product, with_message, not_built};
+ghost use Rattle.std.specs.Prelude.{◌≡◌, ◌≢◌, ◌≤◌, ◌<◌, Err, false, length, map, string_bytes};
+ghost use Rattle.mx_host.specs.HostModel.{contents, slot_at, to_errors};
+ghost use Rattle.mx_host.specs.Keeping.{ComesByFault, Keeps, KeepsOutput};
+ghost use Rattle.mx_run.specs.WildRuns.{window_machine, list_machine};
+ghost use Rattle.mx_words.specs.Orders.{order_of};
+ghost use Rattle.mx_words.specs.declared.order.WordsFault.{WordsFault};
+ghost use Rattle.mx_top.specs.Answers.{AnswersAs, AnswersAsList, WritesFrontOf, is_usage};
+ghost use Rattle.mx_top.specs.Arguments.{word_at};
+ghost use Rattle.mx_top.specs.Messages.{message_of};
+ghost use Rattle.mx_top.specs.Product as spec;
 
+use crate::arguments::arguments;
 use crate::emit::assemble_file;
+use crate::generation::generate;
 use crate::message::message;
 use crate::objects::sim_file;
-use crate::outcome::{Outcome, WordsFault};
+use crate::outcome::Outcome;
 use crate::run::run_file;
-use crate::words::is_option;
 use mx_host::{Host, HostFault};
+use mx_words::{Command, Order, read};
 use std::alloc::Global;
 
-/// The outcome of words that are no order.
-fn no_order() -> Outcome
-    ensures { result ≡ Outcome.Usage not_built }
+/// The bytes of the word at a place.
+fn word(words: &[String], place: usize) -> &[u8]
+    requires { place < length words.now }
+    ensures { result.now ≡ word_at (map string_bytes words.now) place }
 {
-    Outcome::Usage(WordsFault { kind: 9, word: 0 })
+    words[place].as_bytes()
 }
 
-/// Does what a command orders of one file.
-fn with_file<H: Host>(alloc: Global, host: &mut H, command: &String, file: &String) -> Outcome
-    ensures told { Answers (H.told host.old) (H.told host.new) Outcome.OutOfMemory result
-        (λ m. ordered (one_file (string_bytes command.now) (string_bytes file.now)) m) }
-    ensures written { WritesFront (H.told host.old) (H.told host.new) Outcome.OutOfMemory result
-        (λ m. ordered (one_file (string_bytes command.now) (string_bytes file.now)) m) }
-    ensures usage { one_file (string_bytes command.now) (string_bytes file.now) ≡ None →
-        result ≡ Outcome.Usage not_built }
+/// Runs the source or the object that the words name, with the arguments behind it.
+#[tactic(auto, using(crate::proofs::Sources::fronts))]
+fn run_ordered<H: Host>(alloc: Global, words: &[String], order: &Order, host: &mut H) -> Outcome
+    requires file { order.now.file < length words.now }
+    requires rest { order.now.rest ≤ length words.now }
+    ensures told { AnswersAs (H.told host.old) (H.told host.new) result
+        (λ m. spec.run_ordered window_machine (map string_bytes words.now) order.now m) }
+    ensures listed { AnswersAsList (H.told host.old) (H.told host.new) result
+        (λ m. spec.run_ordered list_machine (map string_bytes words.now) order.now m) }
+    ensures front { WritesFrontOf (H.told host.old) (H.told host.new) result
+        (λ m. spec.run_ordered window_machine (map string_bytes words.now) order.now m) }
     ensures rose { ComesByFault (H.told host.old) Outcome.HostFault result (H.faults host.old) (H.faults host.new) }
     ensures no_file { ComesByFault (H.told host.old) Outcome.NoFile result (H.faults host.old) (H.faults host.new) }
+    ensures words { is_usage result ≡ false }
     ensures keeps { Keeps (H.told host.old) (H.told host.new) (H.faults host.old) (H.faults host.new) }
 {
-    if is_option(file) {
-        return no_order();
+    match arguments(alloc, words, order) {
+        Ok(arguments) => run_file(alloc, host, order, word(words, order.file), arguments.as_slice()),
+        Err(_) => Outcome::OutOfMemory,
     }
-    if command.as_str() == "run" {
-        return run_file(alloc, host, file.as_bytes());
-    }
-    if command.as_str() == "sim" {
-        return sim_file(alloc, host, file.as_bytes());
-    }
-    no_order()
 }
 
-/// Does what a command orders of two files.
-fn with_files<H: Host>(
-    alloc: Global,
-    host: &mut H,
-    command: &String,
-    source: &String,
-    object: &String,
-) -> Outcome
-    ensures told { Answers (H.told host.old) (H.told host.new) Outcome.OutOfMemory result
-        (λ m. ordered (two_files (string_bytes command.now) (string_bytes source.now) (string_bytes object.now)) m) }
-    ensures written { WritesFront (H.told host.old) (H.told host.new) Outcome.OutOfMemory result
-        (λ m. ordered (two_files (string_bytes command.now) (string_bytes source.now) (string_bytes object.now)) m) }
-    ensures usage { two_files (string_bytes command.now) (string_bytes source.now) (string_bytes object.now) ≡ None →
-        result ≡ Outcome.Usage not_built }
+/// Runs the object that the words name, with the arguments behind it.
+#[tactic(auto, using(crate::proofs::Sources::fronts))]
+fn sim_ordered<H: Host>(alloc: Global, words: &[String], order: &Order, host: &mut H) -> Outcome
+    requires file { order.now.file < length words.now }
+    requires rest { order.now.rest ≤ length words.now }
+    ensures told { AnswersAs (H.told host.old) (H.told host.new) result
+        (λ m. spec.sim_ordered window_machine (map string_bytes words.now) order.now m) }
+    ensures listed { AnswersAsList (H.told host.old) (H.told host.new) result
+        (λ m. spec.sim_ordered list_machine (map string_bytes words.now) order.now m) }
+    ensures front { WritesFrontOf (H.told host.old) (H.told host.new) result
+        (λ m. spec.sim_ordered window_machine (map string_bytes words.now) order.now m) }
     ensures rose { ComesByFault (H.told host.old) Outcome.HostFault result (H.faults host.old) (H.faults host.new) }
     ensures no_file { ComesByFault (H.told host.old) Outcome.NoFile result (H.faults host.old) (H.faults host.new) }
+    ensures words { is_usage result ≡ false }
     ensures keeps { Keeps (H.told host.old) (H.told host.new) (H.faults host.old) (H.faults host.new) }
 {
-    if is_option(source) || is_option(object) || command.as_str() != "asm" {
-        return no_order();
+    match arguments(alloc, words, order) {
+        Ok(arguments) => sim_file(alloc, host, order, word(words, order.file), arguments.as_slice()),
+        Err(_) => Outcome::OutOfMemory,
     }
-    assemble_file(alloc, host, source.as_bytes(), object.as_bytes())
 }
 
-/// Does what the words order, without the message.
+/// Does what the words order.
+#[tactic(auto, using(crate::proofs::PlainAnswers::plain))]
+fn carry_order<H: Host>(alloc: Global, words: &[String], order: &Order, host: &mut H) -> Outcome
+    requires file { order.now.file < length words.now }
+    requires rest { order.now.rest ≤ length words.now }
+    requires object { order.now.command ≡ Command.Asm → order.now.rest < length words.now }
+    requires blocks { order.now.number ≤ 10000 }
+    ensures told { AnswersAs (H.told host.old) (H.told host.new) result
+        (λ m. spec.ordered window_machine (map string_bytes words.now) order.now order.now.command m) }
+    ensures listed { AnswersAsList (H.told host.old) (H.told host.new) result
+        (λ m. spec.ordered list_machine (map string_bytes words.now) order.now order.now.command m) }
+    ensures front { WritesFrontOf (H.told host.old) (H.told host.new) result
+        (λ m. spec.ordered window_machine (map string_bytes words.now) order.now order.now.command m) }
+    ensures rose { ComesByFault (H.told host.old) Outcome.HostFault result (H.faults host.old) (H.faults host.new) }
+    ensures no_file { ComesByFault (H.told host.old) Outcome.NoFile result (H.faults host.old) (H.faults host.new) }
+    ensures words { is_usage result ≡ false }
+    ensures keeps { Keeps (H.told host.old) (H.told host.new) (H.faults host.old) (H.faults host.new) }
+{
+    match order.command {
+        Command::Run => run_ordered(alloc, words, order, host),
+        Command::Sim => sim_ordered(alloc, words, order, host),
+        Command::Asm => assemble_file(alloc, host, word(words, order.file), word(words, order.rest)),
+        Command::Gen => generate(alloc, host, order),
+    }
+}
+
+/// Does what the words order, if they order something, without the message.
 fn carry_out<H: Host>(alloc: Global, words: &[String], host: &mut H) -> Outcome
-    ensures told { Answers (H.told host.old) (H.told host.new) Outcome.OutOfMemory result
-        (λ m. ordered (order_of (map string_bytes words.now)) m) }
-    ensures written { WritesFront (H.told host.old) (H.told host.new) Outcome.OutOfMemory result
-        (λ m. ordered (order_of (map string_bytes words.now)) m) }
-    ensures usage { order_of (map string_bytes words.now) ≡ None → result ≡ Outcome.Usage not_built }
+    ensures told { AnswersAs (H.told host.old) (H.told host.new) result
+        (λ m. spec.carried_out window_machine (map string_bytes words.now) (order_of (map string_bytes words.now)) m) }
+    ensures listed { AnswersAsList (H.told host.old) (H.told host.new) result
+        (λ m. spec.carried_out list_machine (map string_bytes words.now) (order_of (map string_bytes words.now)) m) }
+    ensures front { WritesFrontOf (H.told host.old) (H.told host.new) result
+        (λ m. spec.carried_out window_machine (map string_bytes words.now) (order_of (map string_bytes words.now)) m) }
+    ensures usage { (fault : WordsFault) → order_of (map string_bytes words.now) ≡ Err fault →
+        result ≡ Outcome.Usage fault }
+    ensures only_usage { (fault : WordsFault) → result ≡ Outcome.Usage fault →
+        order_of (map string_bytes words.now) ≡ Err fault }
     ensures rose { ComesByFault (H.told host.old) Outcome.HostFault result (H.faults host.old) (H.faults host.new) }
     ensures no_file { ComesByFault (H.told host.old) Outcome.NoFile result (H.faults host.old) (H.faults host.new) }
     ensures keeps { Keeps (H.told host.old) (H.told host.new) (H.faults host.old) (H.faults host.new) }
 {
-    match words {
-        [command, file] => with_file(alloc, host, command, file),
-        [command, source, object] => with_files(alloc, host, command, source, object),
-        _ => no_order(),
+    match read(words) {
+        Ok(order) => carry_order(alloc, words, &order, host),
+        Err(fault) => Outcome::Usage(fault),
     }
 }
 
@@ -92,8 +126,8 @@ fn carry_out<H: Host>(alloc: Global, words: &[String], host: &mut H) -> Outcome
 /// nothing; where there is no memory for the line or its write, that is the outcome.
 #[tactic(auto, unfolding(mx_host::specs::HostAnswer::write_answer))]
 fn tell<H: Host>(alloc: Global, host: &mut H, outcome: Outcome) -> Outcome
-    ensures told { Answers (H.told host.old) (H.told host.new) Outcome.OutOfMemory result
-        (λ m. with_message (outcome, contents (H.told host.old))) }
+    ensures told { AnswersAs (H.told host.old) (H.told host.new) result
+        (λ m. spec.message_told outcome (message_of outcome) m) }
     ensures same { result ≢ Outcome.OutOfMemory → result ≡ outcome }
     ensures output { slot_at (contents (H.told host.old)) 260 ≡ to_errors → KeepsOutput (H.told host.old) (H.told host.new) }
     ensures keeps { Keeps (H.told host.old) (H.told host.new) (H.faults host.old) (H.faults host.new) }
@@ -114,21 +148,29 @@ fn tell<H: Host>(alloc: Global, host: &mut H, outcome: Outcome) -> Outcome
 /// outcome.
 ///
 /// The words `run SRC` assemble the source in the file SRC and run it, `asm SRC OBJ` assemble it
-/// into the object file OBJ, and `sim OBJ` run an object file. All else that a user sees comes by
-/// the host: the object file, the program's own output, and a message line on slot 260 where the
-/// outcome is none of a program or of a tool that is done.
+/// into the object file OBJ, `sim OBJ` run an object file, and `gen N` run a source of N blocks that is
+/// made. All else that a user sees comes by the host: the object file, the program's own output, the
+/// dump that is asked for, and a message line on slot 260 where the outcome is none of a program or of a
+/// tool that is done.
 ///
 /// Over a host that tells its contents the outcome and all that the host then holds are those of
-/// `product`. Where memory runs out, standard output has been given a front of what `product` gives.
+/// `product`, over a register window; and over an unbounded list of registers, as long as a program
+/// does not look at rS or at the memory of the register stack, where standard output begins as that of
+/// the list. Where memory runs out, standard output has been given a front of what `product` gives.
+#[tactic(auto, using(crate::proofs::Told::telling_messages))]
 pub fn mmixware<H: Host>(alloc: Global, words: &[String], host: &mut H) -> Outcome
-    ensures product { Answers (H.told host.old) (H.told host.new) Outcome.OutOfMemory result
-        (λ m. product (map string_bytes words.now) m) }
+    ensures product { AnswersAs (H.told host.old) (H.told host.new) result
+        (λ m. spec.product window_machine (map string_bytes words.now) m) }
+    ensures headline { AnswersAsList (H.told host.old) (H.told host.new) result
+        (λ m. spec.product list_machine (map string_bytes words.now) m) }
     ensures written { slot_at (contents (H.told host.old)) 260 ≡ to_errors →
-        WritesFront (H.told host.old) (H.told host.new) Outcome.OutOfMemory result (λ m. product (map string_bytes words.now) m) }
+        WritesFrontOf (H.told host.old) (H.told host.new) result (λ m. spec.product window_machine (map string_bytes words.now) m) }
 
-    // Words that are no order are told apart for every host.
-    ensures usage { order_of (map string_bytes words.now) ≡ None → result ≢ Outcome.OutOfMemory →
-        result ≡ Outcome.Usage not_built }
+    // Words that are no order are told apart for every host, and only they are told so.
+    ensures usage { (fault : WordsFault) → order_of (map string_bytes words.now) ≡ Err fault →
+        result ≢ Outcome.OutOfMemory → result ≡ Outcome.Usage fault }
+    ensures only_usage { (fault : WordsFault) → result ≡ Outcome.Usage fault →
+        order_of (map string_bytes words.now) ≡ Err fault }
 
     // Over a host that tells nothing, a file is missing or fails only where a call failed.
     ensures host_fault { ComesByFault (H.told host.old) Outcome.HostFault result (H.faults host.old) (H.faults

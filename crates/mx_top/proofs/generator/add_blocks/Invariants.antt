@@ -1,0 +1,10 @@
+use Rattle.std.proofs.Common.{◌≡◌, ◌++◌}
+use Rattle.mx_top.specs.Generator as spec
+use Rattle.mx_top.proofs.generator.add_blocks.Given as goal
+
+-- as many blocks as turns stand there
+abbrev pub invariant-loop-turn : goal.invariant-loop-turn
+invariant-loop-turn l = record {
+  random : l.x ≡ spec.random l.turn;
+  text : l.text ≡ l.fn.text ++ spec.blocks l.turn;
+}

@@ -1,0 +1,267 @@
+//! The dump, line by line.
+
+ghost use Rattle.std.specs.Prelude.{IsTrue, ◌≡◌, ◌≢◌, ◌<◌, ◌≤◌, ◌^◌, ◌++◌, ◌∷◌, [], Ok, false, IfOk, OnErr, codes, decimal};
+ghost use Rattle.mx_core.specs.Kept.{state_of};
+ghost use Rattle.mx_core.specs.Search.{IsNextBetween};
+ghost use Rattle.mx_core.specs.State.{octa};
+ghost use Rattle.mx_host.specs.HostModel.{tells, contents};
+ghost use Rattle.mx_host.specs.Keeping.{ComesByFault, Keeps};
+ghost use Rattle.mx_ring.specs.Stack.{in_stack_area};
+ghost use Rattle.mx_word.specs.Lists.{IsFront};
+ghost use Rattle.mx_top.specs.Dump as spec;
+ghost use Rattle.mx_top.specs.Lines.{Puts, lines_put};
+ghost use Rattle.mx_top.specs.Shown.{IsNextShown, shown_octa};
+
+use crate::lines::put_line;
+use crate::message::add_decimal;
+use mx_core::Machine;
+use mx_host::Host;
+use mx_text::octa_hex;
+use mx_word::{Bytes, NoMemory};
+use std::alloc::Global;
+
+/// The code of rS.
+const RS: u8 = 11;
+
+/// The stack area, and the first address that no octa has.
+const AREA: u64 = 0x6000_0000_0000_0000;
+
+const AREA_END: u64 = 0x6000_0000_0080_0000;
+
+const END: u64 = 1 << 63;
+
+/// The names of the special registers by their codes.
+static NAMES: [&str; 32] = [
+    "rB", "rD", "rE", "rH", "rJ", "rM", "rR", "rBB", "rC", "rN", "rO", "rS", "rI", "rT", "rTT",
+    "rK", "rQ", "rU", "rV", "rG", "rL", "rA", "rF", "rP", "rW", "rX", "rY", "rZ", "rWW", "rXX",
+    "rYY", "rZZ",
+];
+
+/// The name of the special register of a code.
+#[tactic(auto, using(crate::proofs::SpecialNames::naming))]
+fn special_name(code: u8) -> &'static str
+    requires { code < 32 }
+    ensures { result.now ≡ spec.special_name code }
+{
+    NAMES.as_slice()[usize::from(code)]
+}
+
+/// A name and an octa as a line.
+fn named_octa(name: Bytes, x: u64) -> Result<Bytes, NoMemory>
+    ensures { IfOk result (λ line. line ≡ spec.named_octa name x) }
+{
+    let mut line = name;
+    line.extend(b"=")?;
+    line.extend(&octa_hex(x))?;
+    line.extend(b"\n")?;
+    Ok(line)
+}
+
+/// Whether a special register is shown.
+fn is_special_shown(machine: &Machine, code: u8) -> bool
+    ensures { result ≡ spec.is_special_shown (state_of machine.now) code }
+{
+    machine.touched() || code != RS
+}
+
+/// The line of a special register.
+fn special_text(alloc: Global, machine: &Machine, code: u8) -> Result<Bytes, NoMemory>
+    requires { code < 32 }
+    ensures { IfOk result (λ line. line ≡ spec.special_text (state_of machine.now) code) }
+{
+    let name = Bytes::copy(alloc, special_name(code).as_bytes())?;
+    named_octa(name, machine.special(code))
+}
+
+/// Writes the line of a special register, if it is shown.
+fn put_special<H: Host>(
+    alloc: Global,
+    host: &mut H,
+    machine: &Machine,
+    code: u8,
+) -> Result<bool, NoMemory>
+    requires { code < 32 }
+    ensures { Puts (H.told host.old) (H.told host.new) (H.faults host.old) (H.faults host.new) result
+        (spec.special_line (state_of machine.now) code) }
+{
+    if !is_special_shown(machine, code) {
+        return Ok(true);
+    }
+    let line = special_text(alloc, machine, code)?;
+    put_line(host, line.as_slice())
+}
+
+/// Writes the lines of the special registers.
+fn put_specials<H: Host>(alloc: Global, host: &mut H, machine: &Machine) -> Result<bool, NoMemory>
+    ensures { Puts (H.told host.old) (H.told host.new) (H.faults host.old) (H.faults host.new) result
+        (spec.special_lines (state_of machine.now)) }
+{
+    for code in 0..32u8 {
+        match put_special(alloc, host, machine, code) {
+            Ok(true) => {}
+            Ok(false) => return Ok(false),
+            Err(fault) => return Err(fault),
+        }
+    }
+    Ok(true)
+}
+
+/// Whether a register is local or global.
+fn is_register_shown(machine: &Machine, k: u8) -> bool
+    ensures { result ≡ spec.is_register_shown (state_of machine.now) k }
+{
+    k < machine.l() || machine.g() <= k
+}
+
+/// The line of a register.
+fn register_text(alloc: Global, machine: &Machine, k: u8) -> Result<Bytes, NoMemory>
+    ensures { IfOk result (λ line. line ≡ spec.register_text (state_of machine.now) k) }
+{
+    let mut name = Bytes::copy(alloc, b"$")?;
+    add_decimal(&mut name, u64::from(k))?;
+    named_octa(name, machine.register(k))
+}
+
+/// Writes the line of a register, if it is local or global.
+fn put_register<H: Host>(
+    alloc: Global,
+    host: &mut H,
+    machine: &Machine,
+    k: u8,
+) -> Result<bool, NoMemory>
+    ensures { Puts (H.told host.old) (H.told host.new) (H.faults host.old) (H.faults host.new) result
+        (spec.register_line (state_of machine.now) k) }
+{
+    if !is_register_shown(machine, k) {
+        return Ok(true);
+    }
+    let line = register_text(alloc, machine, k)?;
+    put_line(host, line.as_slice())
+}
+
+/// Writes the lines of the registers.
+fn put_registers<H: Host>(alloc: Global, host: &mut H, machine: &Machine) -> Result<bool, NoMemory>
+    ensures { Puts (H.told host.old) (H.told host.new) (H.faults host.old) (H.faults host.new) result
+        (spec.register_lines (state_of machine.now)) }
+{
+    for k in 0..256u16 {
+        match put_register(alloc, host, machine, k as u8) {
+            Ok(true) => {}
+            Ok(false) => return Ok(false),
+            Err(fault) => return Err(fault),
+        }
+    }
+    Ok(true)
+}
+
+/// The line of an octa.
+fn octa_text(alloc: Global, a: u64, x: u64) -> Result<Bytes, NoMemory>
+    ensures { IfOk result (λ line. line ≡ shown_octa a x) }
+{
+    let mut name = Bytes::copy(alloc, b"M")?;
+    name.extend(&octa_hex(a))?;
+    named_octa(name, x)
+}
+
+/// Writes the line of an octa.
+fn put_octa<H: Host>(alloc: Global, host: &mut H, a: u64, x: u64) -> Result<bool, NoMemory>
+    ensures { Puts (H.told host.old) (H.told host.new) (H.faults host.old) (H.faults host.new) result
+        (shown_octa a x ∷ []) }
+{
+    let line = octa_text(alloc, a, x)?;
+    put_line(host, line.as_slice())
+}
+
+/// Whether an address lies in the stack area.
+fn is_in_stack_area(a: u64) -> bool
+    ensures { result ≡ in_stack_area a }
+{
+    AREA <= a && a < AREA_END
+}
+
+/// Whether an octa at an address is shown, if it is not 0.
+fn is_address_shown(machine: &Machine, a: u64) -> bool
+    ensures { result ≡ spec.is_address_shown (state_of machine.now) a }
+{
+    machine.touched() || !is_in_stack_area(a)
+}
+
+/// The first octa other than 0 from an address on: its address and its value.
+fn next_octa(machine: &Machine, from: u64) -> Option<(u64, u64)>
+    ensures { IsNextBetween (octa (state_of machine.now)) from (2 ^ 63) result }
+{
+    if from >= END {
+        return None;
+    }
+    match machine.next_nonzero(from) {
+        Some((a, x)) => { if a < END { Some((a, x)) } else { None } }
+        None => None,
+    }
+}
+
+/// The first octa from an address on that is shown: its address and its value.
+#[tactic(auto, using(crate::proofs::Dumps::showing))]
+fn next_shown(machine: &Machine, from: u64) -> Option<(u64, u64)>
+    ensures { IsNextShown (state_of machine.now) from result }
+{
+    match next_octa(machine, from) {
+        Some((a, x)) => {
+            if is_address_shown(machine, a) {
+                Some((a, x))
+            } else {
+                next_octa(machine, AREA_END)
+            }
+        }
+        None => None,
+    }
+}
+
+/// Writes the lines of the octas that are shown.
+fn put_octas<H: Host>(alloc: Global, host: &mut H, machine: &Machine) -> Result<bool, NoMemory>
+    ensures { Puts (H.told host.old) (H.told host.new) (H.faults host.old) (H.faults host.new) result
+        (spec.octa_lines (state_of machine.now) spec.octa_count) }
+{
+    let mut from = 0u64;
+    while let Some((a, x)) = next_shown(machine, from) {
+        match put_octa(alloc, host, a, x) {
+            Ok(true) => {}
+            Ok(false) => return Ok(false),
+            Err(fault) => return Err(fault),
+        }
+        from = a + 8;
+    }
+    Ok(true)
+}
+
+/// Writes the dump of a machine to the tool's standard output, up to a line that is not written, and
+/// says whether all were.
+pub fn dump<H: Host>(alloc: Global, host: &mut H, machine: &Machine) -> Result<bool, NoMemory>
+    ensures told { IsTrue (tells (H.told host.old)) →
+        IfOk result (λ written. (written, contents (H.told host.new))
+        ≡ lines_put (spec.dump_lines (state_of machine.now)) (contents (H.told host.old))) }
+    ensures memory { IsTrue (tells (H.told host.old)) →
+        OnErr result (IsFront (contents (H.told host.new)).output
+        (lines_put (spec.dump_lines (state_of machine.now)) (contents (H.told host.old))).1.output) }
+    ensures rose { ComesByFault (H.told host.old) (Ok false) result (H.faults host.old) (H.faults host.new) }
+    ensures keeps { Keeps (H.told host.old) (H.told host.new) (H.faults host.old) (H.faults host.new) }
+{
+    put_all(alloc, host, machine)
+}
+
+/// Writes the special registers, the registers and memory.
+fn put_all<H: Host>(alloc: Global, host: &mut H, machine: &Machine) -> Result<bool, NoMemory>
+    ensures { Puts (H.told host.old) (H.told host.new) (H.faults host.old) (H.faults host.new) result
+        (spec.dump_lines (state_of machine.now)) }
+{
+    match put_specials(alloc, host, machine) {
+        Ok(true) => {}
+        Ok(false) => return Ok(false),
+        Err(fault) => return Err(fault),
+    }
+    match put_registers(alloc, host, machine) {
+        Ok(true) => {}
+        Ok(false) => return Ok(false),
+        Err(fault) => return Err(fault),
+    }
+    put_octas(alloc, host, machine)
+}

@@ -1,0 +1,188 @@
+//! A source that is generated, and run.
+
+ghost use Rattle.std.specs.Prelude.{◌≡◌, ◌≢◌, ◌≤◌, ◌+◌, ◌*◌, ◌∷◌, [], Ok, IfOk, false, codes, length};
+ghost use Rattle.mx_core.specs.Bounds.{as_list_state};
+ghost use Rattle.mx_core.specs.Kept.{state_of};
+ghost use Rattle.mx_core.specs.Start.{pool, pool_octas};
+ghost use Rattle.mx_host.specs.Keeping.{ComesByFault, Keeps};
+ghost use Rattle.mx_load.specs.Kept.{image_of};
+ghost use Rattle.mx_ring.specs.Stack.{stack_address};
+ghost use Rattle.mx_run.specs.WildRuns.{window_machine, list_machine};
+ghost use Rattle.mx_top.specs.Answers.{AnswersAs, AnswersAsList, WritesFrontOf, is_usage};
+ghost use Rattle.mx_top.specs.Generator as generator;
+ghost use Rattle.mx_top.specs.Loading.{source_image};
+ghost use Rattle.mx_top.specs.Product as spec;
+ghost use Rattle.mx_top.specs.Runs.{ran};
+
+use crate::generator::{generated, summary};
+use crate::lines::put_line;
+use crate::loading::load_source;
+use crate::outcome::Outcome;
+use crate::refusal::SourceFault;
+use crate::run::{outcome_of, start};
+use mx_core::Machine;
+use mx_host::Host;
+use mx_load::Image;
+use mx_run::Runner;
+use mx_word::{Bytes, NoMemory};
+use mx_words::Order;
+use std::alloc::Global;
+
+/// A generated program makes at most so many steps.
+const STEP_BOUND: u64 = 1 << 26;
+
+/// Writes the line that tells what came of a program that halted.
+#[tactic(auto, using(crate::proofs::Summed::summing))]
+fn put_summary<H: Host>(
+    alloc: Global,
+    host: &mut H,
+    blocks: u64,
+    size: u64,
+    machine: &Machine,
+) -> Outcome
+    ensures told { AnswersAs (H.told host.old) (H.told host.new) result
+        (λ m. spec.summary_put blocks size (state_of machine.now) m) }
+    ensures front { WritesFrontOf (H.told host.old) (H.told host.new) result
+        (λ m. spec.summary_put blocks size (state_of machine.now) m) }
+    ensures rose { ComesByFault (H.told host.old) Outcome.HostFault result (H.faults host.old) (H.faults host.new) }
+    ensures present { result ≢ Outcome.NoFile }
+    ensures words { is_usage result ≡ false }
+    ensures keeps { Keeps (H.told host.old) (H.told host.new) (H.faults host.old) (H.faults host.new) }
+{
+    let line = match summary(alloc, blocks, size, machine.steps(), machine.register(255)) {
+        Ok(line) => line,
+        Err(_) => return Outcome::OutOfMemory,
+    };
+    match put_line(host, line.as_slice()) {
+        Ok(true) => Outcome::Done(0),
+        Ok(false) => Outcome::HostFault,
+        Err(_) => Outcome::OutOfMemory,
+    }
+}
+
+/// What follows the run of a generated program: its summary, where it halted.
+#[tactic(auto, using(crate::proofs::Summed::summing))]
+fn sum_up<H: Host>(
+    alloc: Global,
+    host: &mut H,
+    blocks: u64,
+    size: u64,
+    machine: &Machine,
+    outcome: Outcome,
+) -> Outcome
+    requires well { outcome ≢ Outcome.HostFault }
+    requires present { outcome ≢ Outcome.NoFile }
+    requires words { is_usage outcome ≡ false }
+    ensures memory { outcome ≡ Outcome.OutOfMemory → (result ≡ Outcome.OutOfMemory) × (host.new ≡ host.old) }
+    ensures told { AnswersAs (H.told host.old) (H.told host.new) result
+        (λ m. spec.summed blocks size (ran outcome (state_of machine.now) m)) }
+    ensures list { (state_of machine.now).touched ≡ false → AnswersAs (H.told host.old) (H.told host.new) result
+        (λ m. spec.summed blocks size (ran outcome (as_list_state (state_of machine.now)) m)) }
+    ensures front { WritesFrontOf (H.told host.old) (H.told host.new) result
+        (λ m. spec.summed blocks size (ran outcome (state_of machine.now) m)) }
+    ensures rose { ComesByFault (H.told host.old) Outcome.HostFault result (H.faults host.old) (H.faults host.new) }
+    ensures present { result ≢ Outcome.NoFile }
+    ensures words { is_usage result ≡ false }
+    ensures keeps { Keeps (H.told host.old) (H.told host.new) (H.faults host.old) (H.faults host.new) }
+{
+    match outcome {
+        Outcome::Done(_) => put_summary(alloc, host, blocks, size, machine),
+        _ => outcome,
+    }
+}
+
+/// Runs a generated program that was started.
+fn run_summed<H: Host>(alloc: Global, host: &mut H, blocks: u64, size: u64, machine: Machine) -> Outcome
+    requires { (state_of machine).touched ≡ false }
+    ensures told { AnswersAs (H.told host.old) (H.told host.new) result
+        (λ m. spec.summed_from window_machine blocks size (Ok (state_of machine)) m) }
+    ensures listed { AnswersAsList (H.told host.old) (H.told host.new) result
+        (λ m. spec.summed_from list_machine blocks size (Ok (as_list_state (state_of machine))) m) }
+    ensures front { WritesFrontOf (H.told host.old) (H.told host.new) result
+        (λ m. spec.summed_from window_machine blocks size (Ok (state_of machine)) m) }
+    ensures rose { ComesByFault (H.told host.old) Outcome.HostFault result (H.faults host.old) (H.faults host.new) }
+    ensures present { result ≢ Outcome.NoFile }
+    ensures words { is_usage result ≡ false }
+    ensures keeps { Keeps (H.told host.old) (H.told host.new) (H.faults host.old) (H.faults host.new) }
+{
+    let mut runner = Runner::new(alloc, machine);
+    let end = runner.go(alloc, host, STEP_BOUND, false);
+    sum_up(alloc, host, blocks, size, runner.machine(), outcome_of(STEP_BOUND, end))
+}
+
+/// The one argument of a generated program.
+#[tactic(auto, unfolding(mx_core::specs::Start::pool_octas))]
+fn generator_arguments(alloc: Global) -> Result<Vec<Bytes>, NoMemory>
+    ensures value { IfOk result (λ arguments. arguments.items ≡ codes "gen" ∷ []) }
+    ensures fits { IfOk result (λ arguments. pool + 8 * length (pool_octas arguments.items) ≤ stack_address 0) }
+{
+    let mut arguments = Vec::new(alloc);
+    arguments.push(Bytes::copy(alloc, b"gen")?)?;
+    Ok(arguments)
+}
+
+/// Runs the image of a generated program of this size.
+#[tactic(auto, using(crate::proofs::Sources::fronts))]
+fn run_generated<H: Host>(alloc: Global, host: &mut H, order: &Order, size: u64, image: Image) -> Outcome
+    ensures told { AnswersAs (H.told host.old) (H.told host.new) result
+        (λ m. spec.generated_run window_machine order.now size (Ok (image_of image)) m) }
+    ensures listed { AnswersAsList (H.told host.old) (H.told host.new) result
+        (λ m. spec.generated_run list_machine order.now size (Ok (image_of image)) m) }
+    ensures front { WritesFrontOf (H.told host.old) (H.told host.new) result
+        (λ m. spec.generated_run window_machine order.now size (Ok (image_of image)) m) }
+    ensures rose { ComesByFault (H.told host.old) Outcome.HostFault result (H.faults host.old) (H.faults host.new) }
+    ensures present { result ≢ Outcome.NoFile }
+    ensures words { is_usage result ≡ false }
+    ensures keeps { Keeps (H.told host.old) (H.told host.new) (H.faults host.old) (H.faults host.new) }
+{
+    let arguments = match generator_arguments(alloc) {
+        Ok(arguments) => arguments,
+        Err(_) => return Outcome::OutOfMemory,
+    };
+    match start(alloc, image, arguments.as_slice(), order.ring) {
+        Ok(machine) => run_summed(alloc, host, order.number, size, machine),
+        Err(outcome) => outcome,
+    }
+}
+
+/// Runs a source that was generated.
+#[tactic(auto, using(crate::proofs::Sources::fronts))]
+fn run_text<H: Host>(alloc: Global, host: &mut H, order: &Order, text: &[u8]) -> Outcome
+    ensures told { AnswersAs (H.told host.old) (H.told host.new) result
+        (λ m. spec.source_generated window_machine order.now text.now m) }
+    ensures listed { AnswersAsList (H.told host.old) (H.told host.new) result
+        (λ m. spec.source_generated list_machine order.now text.now m) }
+    ensures front { WritesFrontOf (H.told host.old) (H.told host.new) result
+        (λ m. spec.source_generated window_machine order.now text.now m) }
+    ensures rose { ComesByFault (H.told host.old) Outcome.HostFault result (H.faults host.old) (H.faults host.new) }
+    ensures present { result ≢ Outcome.NoFile }
+    ensures words { is_usage result ≡ false }
+    ensures keeps { Keeps (H.told host.old) (H.told host.new) (H.faults host.old) (H.faults host.new) }
+{
+    match load_source(alloc, text) {
+        Ok(image) => run_generated(alloc, host, order, text.len() as u64, image),
+        Err(SourceFault::Refused(refusal)) => refusal.outcome(),
+        Err(SourceFault::OutOfMemory) => Outcome::OutOfMemory,
+    }
+}
+
+/// Generates a source with as many blocks as are ordered, runs it, and writes what came of it.
+#[tactic(auto, using(crate::proofs::Sources::fronts))]
+pub fn generate<H: Host>(alloc: Global, host: &mut H, order: &Order) -> Outcome
+    requires { order.now.number ≤ 10000 }
+    ensures told { AnswersAs (H.told host.old) (H.told host.new) result
+        (λ m. spec.source_generated window_machine order.now (generator.generated order.now.number) m) }
+    ensures listed { AnswersAsList (H.told host.old) (H.told host.new) result
+        (λ m. spec.source_generated list_machine order.now (generator.generated order.now.number) m) }
+    ensures front { WritesFrontOf (H.told host.old) (H.told host.new) result
+        (λ m. spec.source_generated window_machine order.now (generator.generated order.now.number) m) }
+    ensures rose { ComesByFault (H.told host.old) Outcome.HostFault result (H.faults host.old) (H.faults host.new) }
+    ensures present { result ≢ Outcome.NoFile }
+    ensures words { is_usage result ≡ false }
+    ensures keeps { Keeps (H.told host.old) (H.told host.new) (H.faults host.old) (H.faults host.new) }
+{
+    match generated(alloc, order.number) {
+        Ok(text) => run_text(alloc, host, order, text.as_slice()),
+        Err(_) => Outcome::OutOfMemory,
+    }
+}
