@@ -23,3 +23,7 @@ pub use dump_laws::dumps_show_what_programs_see;
 pub use names::{fault_name, usage_name};
 pub use outcome::Outcome;
 pub use top::mmixware;
+
+mod image_laws;
+
+pub use image_laws::sources_are_loaded_as_they_mean;
