@@ -1,17 +1,16 @@
 -- What follows a run.
-use Rattle.std.proofs.Common.{◌≡◌, ℕ, Bool, true, false, cond, refl, ap, sym, ◌∙◌, ◌&&◌}
+use Rattle.std.proofs.Common.{◌≡◌, Bool, true, false, cond, refl, ◌&&◌}
 use Rattle.mx_host.specs.HostModel.{HostModel}
 use Rattle.mx_host.specs.HostAnswer.{Then}
 use Rattle.mx_core.specs.Bounds.{as_list_state}
 use Rattle.mx_core.specs.State.{State}
 use Rattle.mx_word.specs.Lists.{IsFront}
 use Rattle.mx_word.proofs.Fronts.{front-self}
-use Rattle.mx_top.specs.Answers.{Answer, answered, output_of}
+use Rattle.mx_top.specs.Answers.{answered, output_of}
 use Rattle.mx_top.specs.Dump.{dump_lines}
 use Rattle.mx_top.specs.Lines.{lines_put}
-use Rattle.mx_top.specs.Runs.{Ran, ran, ran_wild, after_lines, dumped, leaves_machine}
+use Rattle.mx_top.specs.Runs.{ran, after_lines, dumped, leaves_machine}
 use Rattle.mx_top.specs.declared.outcome.Outcome.{Outcome}
-use Rattle.mx_top.specs.declared.outcome.Outcome.TheVariants.{HostFault}
 use Rattle.mx_top.proofs.PutLines.{lines-front}
 use Rattle.mx_top.proofs.SameDumps.{same-dump}
 

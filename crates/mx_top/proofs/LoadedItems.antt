@@ -1,7 +1,7 @@
 -- Items that are loaded one after another, and what a line comes to.
-use Rattle.std.proofs.Common.{◌≡◌, ◌≢◌, ℕ, List, [], ◌∷◌, ◌++◌, fold, refl, Ok, Err, sym, ap}
+use Rattle.std.proofs.Common.{◌≡◌, ℕ, List, [], ◌∷◌, refl, Ok, Err}
 use Rattle.std.specs.Prelude.{Result}
-use Rattle.mx_asm.specs.OnePass.{Assembly, Progress, Ended}
+use Rattle.mx_asm.specs.OnePass.{Assembly, Progress}
 use Rattle.mx_asm.specs.declared.refused.Refused.{Refused}
 use Rattle.mx_load.specs.Faults.{number_of}
 use Rattle.mx_load.specs.Kept.{Kept, image_of}
@@ -10,7 +10,7 @@ use Rattle.mx_load.specs.declared.fault.LoadFault.{LoadFault}
 use Rattle.mx_mmo.specs.Image.{Image}
 use Rattle.mx_mmo.specs.Meaning.{Loading}
 use Rattle.mx_mmo.specs.declared.items.Item.{Item}
-use Rattle.mx_top.specs.Loading.{Standing, standing, judged, all_loaded, progress_loaded, refusal_in, refused_at, refusal_of, image_loaded, ended_with, image_from}
+use Rattle.mx_top.specs.Loading.{Standing, standing, judged, all_loaded, progress_loaded, refusal_in, refused_at, image_loaded}
 use Rattle.mx_top.specs.declared.refusal.Refusal.{Refusal}
 
 -- a fault stays

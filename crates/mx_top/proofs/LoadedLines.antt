@@ -1,6 +1,5 @@
 -- Lines that are loaded one after another.
 use Rattle.std.proofs.Common.{◌≡◌, ℕ, ◌+◌, List, [], ◌∷◌, length, arith, refl, Ok, Err}
-use Rattle.std.specs.Prelude.{Result}
 use Rattle.mx_line.specs.Lines.{lines_of}
 use Rattle.mx_line.specs.Pieces.{split}
 use Rattle.mx_top.specs.Loading.{Standing, line_loaded, lines_loaded}

@@ -1,17 +1,16 @@
 -- Runs of a machine that was started, and what follows them.
-use Rattle.std.proofs.Common.{◌≡◌, ◌≢◌, ◌⊎◌, inl, inr, ℕ, List, Bool, true, false, refl, ap, sym, ◌∙◌, subst}
+use Rattle.std.proofs.Common.{◌≡◌, ◌≢◌, ◌⊎◌, inl, inr, ℕ, List, false, refl, ap, sym, ◌∙◌, subst}
 use Rattle.mx_host.specs.HostModel.{HostModel}
 use Rattle.mx_core.specs.Bounds.{as_list_state}
 use Rattle.mx_core.specs.State.{State}
 use Rattle.mx_run.proofs.BothMachines.{window-ends}
-use Rattle.mx_run.proofs.Outputs.{run-front}
 use Rattle.mx_run.specs.Clauses.{GoesAsList}
 use Rattle.mx_run.specs.Runs.{FlagsOf, Ended, ended, no_flags, run}
 use Rattle.mx_run.specs.WildRuns.{RunEnd, run_ended, run_wild, window_machine, list_machine, run_by}
 use Rattle.mx_run.specs.declared.end.End.{End}
 use Rattle.mx_run.specs.declared.end.End.TheVariants as ending
 use Rattle.mx_word.specs.Lists.{IsFront}
-use Rattle.mx_word.proofs.Fronts.{front-self, front-through}
+use Rattle.mx_word.proofs.Fronts.{front-through}
 use Rattle.mx_top.specs.Answers.{Answer, answered, wild, output_of, GoesAs}
 use Rattle.mx_top.specs.Runs.{Ran, ran, ran_wild, ran_to, machine_ran, outcome_of}
 use Rattle.mx_top.specs.declared.outcome.Outcome.{Outcome}

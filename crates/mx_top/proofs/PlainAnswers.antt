@@ -1,8 +1,8 @@
 -- Answers that no machine is asked for.
-use Rattle.std.proofs.Common.{◌≡◌, ap, sym}
+use Rattle.std.proofs.Common.{◌≡◌, ap}
 use Rattle.mx_host.specs.HostModel.{HostModel}
 use Rattle.mx_host.specs.HostAnswer.{Then}
-use Rattle.mx_top.specs.Answers.{Answer, answered, plainly, output_of, GoesAs}
+use Rattle.mx_top.specs.Answers.{answered, plainly, GoesAs}
 use Rattle.mx_top.specs.declared.outcome.Outcome.{Outcome}
 
 pub plain-answer : (result : Outcome) (new : HostModel) (t : Then Outcome) → (result, new) ≡ t → answered result new ≡ plainly t

@@ -1,9 +1,9 @@
 -- What is written before the program is out of memory is a front of what is written in all.
-use Rattle.std.proofs.Common.{◌≡◌, ℕ, List, [], ◌∷◌, ◌++◌, Bool, true, false, cond, refl, sym, ◌∙◌, Ok, Err, subst, append-nil}
+use Rattle.std.proofs.Common.{ℕ, List, [], Bool, true, false, sym, ◌∙◌, Ok, Err, subst, append-nil}
 use Rattle.std.specs.Prelude.{Result}
 use Rattle.mx_host.specs.HostModel.{HostModel}
 use Rattle.mx_host.specs.HostAnswer.{Then, open_answer, close_answer}
-use Rattle.mx_host.specs.declared.slots.Mode.TheVariants.{BinaryRead, BinaryWrite}
+use Rattle.mx_host.specs.declared.slots.Mode.TheVariants.{BinaryWrite}
 use Rattle.mx_host.specs.declared.faults.HostFault.{HostFault as SlotFault}
 use Rattle.mx_host.specs.declared.faults.OpenFault.{OpenFault}
 use Rattle.mx_host.specs.declared.faults.OpenFault.TheVariants as opening
@@ -15,15 +15,15 @@ use Rattle.mx_run.specs.Runs.{no_flags}
 use Rattle.mx_run.specs.WildRuns.{window_machine}
 use Rattle.mx_word.specs.Lists.{IsFront}
 use Rattle.mx_word.specs.declared.symbols.Symbol.{Symbol}
-use Rattle.mx_word.proofs.Fronts.{front-self, front-through}
+use Rattle.mx_word.proofs.Fronts.{front-self}
 use Rattle.mx_words.specs.declared.order.Order.{Order}
-use Rattle.mx_top.specs.Answers.{Answer, answered, wild, plainly, output_of}
+use Rattle.mx_top.specs.Answers.{output_of}
 use Rattle.mx_top.specs.Arguments.{Word}
 use Rattle.mx_top.specs.Loading.{source_image}
 use Rattle.mx_top.specs.Objects.{Assembled, source_object}
 use Rattle.mx_top.specs.Pieces.{put_text}
-use Rattle.mx_top.specs.Product.{refused_with, after_image, after_source, after_loading, after_object, closed_object, written_object, assembled_outcome, object_put, after_opening, after_reading, summed, summed_from, generated_run, source_generated, generator_steps}
-use Rattle.mx_top.specs.Runs.{Ran, ran, dumped, run_from, image_run, started}
+use Rattle.mx_top.specs.Product.{after_image, after_source, after_loading, after_object, closed_object, written_object, assembled_outcome, object_put, after_opening, after_reading, summed, summed_from, generated_run, source_generated, generator_steps}
+use Rattle.mx_top.specs.Runs.{dumped, run_from, image_run, started}
 use Rattle.mx_top.specs.Source.{file_bytes}
 use Rattle.mx_top.specs.declared.outcome.Outcome.{Outcome}
 use Rattle.mx_top.specs.declared.outcome.Outcome.TheVariants.{HostFault, OutOfMemory}

@@ -1,10 +1,8 @@
 -- A machine at its start, over a window and over the list that it stands for.
-use Rattle.std.proofs.Common.{◌≡◌, ◌≤◌, ℕ, ◌+◌, ◌*◌, ◌||◌, List, [], ◌∷◌, length, Bool, true, false, cond, refl, sym, ap, ◌∙◌, Ok, Err, Some, None}
+use Rattle.std.proofs.Common.{◌≡◌, ◌≤◌, ℕ, ◌+◌, ◌*◌, ◌||◌, List, [], ◌∷◌, length, Bool, true, false, cond, refl, ◌∙◌, Ok, Err, Some, None}
 use Rattle.std.specs.Prelude.{Option, Result}
-use Rattle.std.specs.Option.{option_map}
 use Rattle.mx_mmo.specs.Image.{Image}
-use Rattle.mx_ring.specs.RegisterList.{list_at_start}
-use Rattle.mx_ring.specs.Stack.{Stack, listed, windowed, stack_address, in_stack_area}
+use Rattle.mx_ring.specs.Stack.{Stack, windowed, stack_address, in_stack_area}
 use Rattle.mx_ring.specs.Window.{window_at_start}
 use Rattle.mx_core.proofs.Started.{start-listed}
 use Rattle.mx_core.specs.Bounds.{as_list_state}
@@ -12,9 +10,9 @@ use Rattle.mx_core.specs.Start.{pool, pool_octas, with_octas, loaded, start}
 use Rattle.mx_core.specs.Started.{begun}
 use Rattle.mx_core.specs.State.{State, with_octa, is_negative, is_page_refused}
 use Rattle.mx_core.specs.declared.start.StartFault.{StartFault}
-use Rattle.mx_core.specs.declared.start.StartFault.TheVariants.{PagesFull, OutOfMemory as NoRoom}
-use Rattle.mx_run.specs.WildRuns.{MachineKind, window_machine, list_machine}
-use Rattle.mx_top.specs.Runs.{begun_at, main_address, pages_full, started}
+use Rattle.mx_core.specs.declared.start.StartFault.TheVariants.{PagesFull}
+use Rattle.mx_run.specs.WildRuns.{window_machine, list_machine}
+use Rattle.mx_top.specs.Runs.{main_address, pages_full, started}
 use Rattle.mx_top.specs.declared.outcome.Outcome.{Outcome}
 use Rattle.mx_top.specs.declared.outcome.Outcome.TheVariants.{Stopped}
 

@@ -1,18 +1,17 @@
 -- The summary of a generated program.
-use Rattle.std.proofs.Common.{◌≡◌, ◌≢◌, ℕ, List, [], ◌∷◌, Bool, true, false, refl, ap, sym, ◌∙◌}
+use Rattle.std.proofs.Common.{◌≡◌, ℕ, [], ◌∷◌, refl}
 use Rattle.mx_host.specs.HostModel.{HostModel}
-use Rattle.mx_host.specs.HostAnswer.{Then}
 use Rattle.mx_core.specs.Bounds.{as_list_state}
 use Rattle.mx_core.specs.State.{State}
 use Rattle.mx_core.proofs.Seen.{same-register}
 use Rattle.mx_ring.specs.Stack.{register}
 use Rattle.mx_word.specs.Lists.{IsFront}
 use Rattle.mx_word.proofs.Fronts.{front-self}
-use Rattle.mx_top.specs.Answers.{Answer, answered, output_of}
+use Rattle.mx_top.specs.Answers.{output_of}
 use Rattle.mx_top.specs.Generator.{summary}
 use Rattle.mx_top.specs.Lines.{lines_put}
 use Rattle.mx_top.specs.Product.{summary_put, summed}
-use Rattle.mx_top.specs.Runs.{ran, after_lines}
+use Rattle.mx_top.specs.Runs.{ran}
 use Rattle.mx_top.specs.declared.outcome.Outcome.{Outcome}
 use Rattle.mx_top.specs.declared.outcome.Outcome.TheVariants.{Done, Usage, NoFile, HostFault, Refused, BadObject, Stopped, StepsSpent, Quit, ConsoleLimit, OutOfMemory}
 use Rattle.mx_top.proofs.PutLines.{lines-front}

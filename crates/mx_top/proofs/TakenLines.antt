@@ -1,6 +1,5 @@
 -- Lines that are taken one after another.
 use Rattle.std.proofs.Common.{◌≡◌, ℕ, List, [], ◌∷◌, fold, length, arith, refl, ap, ◌∙◌, Ok, Err}
-use Rattle.std.specs.Prelude.{Result}
 use Rattle.std.specs.Result.{result_err}
 use Rattle.mx_asm.proofs.OnePassLaw.{items-are, refusal-is}
 use Rattle.mx_asm.specs.OnePass.{Progress, Standing, beginning, line_behind}
@@ -15,7 +14,6 @@ use Rattle.mx_mmo.specs.declared.items.Item.{Item}
 pub refusal-stays : (lines : List (List ℕ)) (out : List Item) (refused : Refused) → fold line_after (out, Err refused) lines ≡ (out, Err refused)
 refusal-stays [] out refused = refl
 refusal-stays (line ∷ lines) out refused = refusal-stays lines out refused
-
 
 -- the next line, and one that is refused
 pub lines-more : (source rest text : List ℕ) (out next : List Item) (a b : Standing) → lines_of source ≡ text ∷ lines_of rest → (next, b) ≡ line_behind out a text →

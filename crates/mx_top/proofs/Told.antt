@@ -1,5 +1,5 @@
 -- The message that follows an outcome.
-use Rattle.std.proofs.Common.{◌≡◌, ◌≢◌, ◌⊎◌, inl, inr, ℕ, List, [], ◌∷◌, refl, sym, ap, ◌∙◌, subst}
+use Rattle.std.proofs.Common.{◌≡◌, ◌≢◌, ◌⊎◌, inl, inr, ℕ, List, [], ◌∷◌, refl, ap, ◌∙◌, subst}
 use Rattle.mx_host.proofs.Output.{write-front}
 use Rattle.mx_host.specs.HostModel.{HostModel}
 use Rattle.mx_word.specs.Lists.{IsFront}

@@ -1,5 +1,5 @@
 -- The line that tells an outcome.
-use Rattle.std.specs.Prelude.{ℕ, zero, suc, ◌+◌, ◌*◌, ◌/◌, ◌%◌, ◌^◌, List, [], ◌∷◌, ◌++◌, nat_lt, ◌==◌, if◌then◌else◌, codes, decimal}
+use Rattle.std.specs.Prelude.{ℕ, List, [], ◌++◌, ◌==◌, if◌then◌else◌, codes, decimal}
 use Rattle.mx_text.specs.Numbers.{hex_text}
 use Rattle.mx_top.specs.Names.{fault_name_of, usage_name_of}
 use Rattle.mx_words.specs.declared.order.WordsFault.{WordsFault}

@@ -1,6 +1,6 @@
 -- What the program answers and does, over a host that tells its contents: the outcome and the host's last model. The machine
 -- is that over a ring of registers, or that over an unbounded list, which goes no further where it meets something wild.
-use Rattle.std.specs.Prelude.{ℕ, ◌^◌, Bool, true, false, List, [], ◌∷◌, length, Result, Ok, Err, codes, if◌then◌else◌}
+use Rattle.std.specs.Prelude.{ℕ, ◌^◌, Bool, List, [], ◌∷◌, length, Result, Ok, Err, codes, if◌then◌else◌}
 use Rattle.mx_host.specs.HostModel.{HostModel}
 use Rattle.mx_host.specs.HostAnswer.{Then, open_answer, write_answer, close_answer}
 use Rattle.mx_host.specs.declared.faults.HostFault.{HostFault as SlotFault}
@@ -30,7 +30,7 @@ use Rattle.mx_top.specs.Runs.{Ran, ran, ran_wild, machine_ran, started, after_li
 use Rattle.mx_top.specs.Source.{file_bytes, source_pieces, object_pieces}
 use Rattle.mx_top.specs.declared.refusal.Refusal.{Refusal}
 use Rattle.mx_top.specs.declared.outcome.Outcome.{Outcome}
-use Rattle.mx_top.specs.declared.outcome.Outcome.TheVariants.{Done, Usage, NoFile, HostFault, Refused, BadObject, Stopped, StepsSpent, Quit, ConsoleLimit, OutOfMemory}
+use Rattle.mx_top.specs.declared.outcome.Outcome.TheVariants.{Done, Usage, HostFault, Refused, BadObject, OutOfMemory}
 
 -- ---- `run` and `sim`
 

@@ -92,7 +92,13 @@ fn sum_up<H: Host>(
 }
 
 /// Runs a generated program that was started.
-fn run_summed<H: Host>(alloc: Global, host: &mut H, blocks: u64, size: u64, machine: Machine) -> Outcome
+fn run_summed<H: Host>(
+    alloc: Global,
+    host: &mut H,
+    blocks: u64,
+    size: u64,
+    machine: Machine,
+) -> Outcome
     requires { (state_of machine).touched ≡ false }
     ensures told { AnswersAs (H.told host.old) (H.told host.new) result
         (λ m. spec.summed_from window_machine blocks size (Ok (state_of machine)) m) }
@@ -107,7 +113,14 @@ fn run_summed<H: Host>(alloc: Global, host: &mut H, blocks: u64, size: u64, mach
 {
     let mut runner = Runner::new(alloc, machine);
     let end = runner.go(alloc, host, STEP_BOUND, false);
-    sum_up(alloc, host, blocks, size, runner.machine(), outcome_of(STEP_BOUND, end))
+    sum_up(
+        alloc,
+        host,
+        blocks,
+        size,
+        runner.machine(),
+        outcome_of(STEP_BOUND, end),
+    )
 }
 
 /// The one argument of a generated program.
@@ -123,7 +136,13 @@ fn generator_arguments(alloc: Global) -> Result<Vec<Bytes>, NoMemory>
 
 /// Runs the image of a generated program of this size.
 #[tactic(auto, using(crate::proofs::Sources::fronts))]
-fn run_generated<H: Host>(alloc: Global, host: &mut H, order: &Order, size: u64, image: Image) -> Outcome
+fn run_generated<H: Host>(
+    alloc: Global,
+    host: &mut H,
+    order: &Order,
+    size: u64,
+    image: Image,
+) -> Outcome
     ensures told { AnswersAs (H.told host.old) (H.told host.new) result
         (λ m. spec.generated_run window_machine order.now size (Ok (image_of image)) m) }
     ensures listed { AnswersAsList (H.told host.old) (H.told host.new) result

@@ -47,7 +47,12 @@ pub fn outcome_of(steps: u64, end: End) -> Outcome
 
 /// The machine of an image with these arguments at its start, or the outcome where the pages are full.
 #[tactic(auto, using(crate::proofs::StartedMachines::starting))]
-pub fn start(alloc: Global, image: Image, arguments: &[Bytes], ring: RingSize) -> Result<Machine, Outcome>
+pub fn start(
+    alloc: Global,
+    image: Image,
+    arguments: &[Bytes],
+    ring: RingSize,
+) -> Result<Machine, Outcome>
     requires some { 1 ≤ length arguments.now }
     requires fits { pool + 8 * length (pool_octas arguments.now) ≤ stack_address 0 }
     ensures window { result ≢ Err Outcome.OutOfMemory → map_ok state_of result
@@ -117,7 +122,13 @@ fn run_machine<H: Host>(alloc: Global, host: &mut H, order: &Order, machine: Mac
 {
     let mut runner = Runner::new(alloc, machine);
     let end = runner.go(alloc, host, order.steps, false);
-    tell_end(alloc, host, order.dump, runner.machine(), outcome_of(order.steps, end))
+    tell_end(
+        alloc,
+        host,
+        order.dump,
+        runner.machine(),
+        outcome_of(order.steps, end),
+    )
 }
 
 /// Runs an image from its start, with these arguments.

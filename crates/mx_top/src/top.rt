@@ -47,7 +47,13 @@ fn run_ordered<H: Host>(alloc: Global, words: &[String], order: &Order, host: &m
     ensures keeps { Keeps (H.told host.old) (H.told host.new) (H.faults host.old) (H.faults host.new) }
 {
     match arguments(alloc, words, order) {
-        Ok(arguments) => run_file(alloc, host, order, word(words, order.file), arguments.as_slice()),
+        Ok(arguments) => run_file(
+            alloc,
+            host,
+            order,
+            word(words, order.file),
+            arguments.as_slice(),
+        ),
         Err(_) => Outcome::OutOfMemory,
     }
 }
@@ -69,7 +75,13 @@ fn sim_ordered<H: Host>(alloc: Global, words: &[String], order: &Order, host: &m
     ensures keeps { Keeps (H.told host.old) (H.told host.new) (H.faults host.old) (H.faults host.new) }
 {
     match arguments(alloc, words, order) {
-        Ok(arguments) => sim_file(alloc, host, order, word(words, order.file), arguments.as_slice()),
+        Ok(arguments) => sim_file(
+            alloc,
+            host,
+            order,
+            word(words, order.file),
+            arguments.as_slice(),
+        ),
         Err(_) => Outcome::OutOfMemory,
     }
 }
@@ -95,7 +107,12 @@ fn carry_order<H: Host>(alloc: Global, words: &[String], order: &Order, host: &m
     match order.command {
         Command::Run => run_ordered(alloc, words, order, host),
         Command::Sim => sim_ordered(alloc, words, order, host),
-        Command::Asm => assemble_file(alloc, host, word(words, order.file), word(words, order.rest)),
+        Command::Asm => assemble_file(
+            alloc,
+            host,
+            word(words, order.file),
+            word(words, order.rest),
+        ),
         Command::Gen => generate(alloc, host, order),
     }
 }

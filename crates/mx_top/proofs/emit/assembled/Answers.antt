@@ -1,4 +1,3 @@
-use Rattle.std.proofs.Common.{◌≡◌, ap, refl}
 use Rattle.mx_line.specs.Lines.{lines_of}
 use Rattle.mx_top.proofs.TakenLines.{start-taken, no-items-fit}
 use Rattle.mx_top.proofs.emit.assembled.Goals as goal

@@ -1,4 +1,4 @@
-use Rattle.std.proofs.Common.{refl, subst, sym, ap, ◌∙◌, map}
+use Rattle.std.proofs.Common.{refl, subst, sym, ◌∙◌, map}
 use Rattle.std.specs.Prelude.{IsTrue, string_bytes}
 use Rattle.mx_host.specs.HostModel.{contents}
 use Rattle.mx_run.specs.WildRuns.{window_machine, list_machine}
