@@ -29,9 +29,11 @@ use Rattle.mx_asm.proofs.MeaningLaws.{page-refusal-is}
 use Rattle.mx_asm.proofs.MeaningLines.{line-is-refused}
 use Rattle.mx_asm.proofs.MeaningSources.{bytes-fault, run-means}
 use Rattle.mx_asm.proofs.MeaningStates.{take-append}
-use Rattle.mx_top.specs.Loading.{Standing, standing, refused_at, refusal_of, all_loaded, judged, progress_loaded, line_loaded, and_lines, lines_loaded, image_loaded, ended_with, end_loaded, first_standing, lines_image, source_image}
+use Rattle.mx_top.specs.Loading.{Standing, standing, refused_at, refusal_of, all_loaded, judged, progress_loaded, line_loaded, and_lines, lines_loaded, image_loaded, ended_with, end_loaded, image_from, standing_after, source_image}
 use Rattle.mx_top.specs.Sources.{meaning_unless, source_meaning}
 use Rattle.mx_top.specs.declared.refusal.Refusal.{Refusal}
+use Rattle.mx_top.specs.declared.refusal.SourceFault.{SourceFault}
+use Rattle.mx_top.specs.declared.refusal.SourceFault.TheVariants.{Refused as Refusing, OutOfMemory as NoRoom}
 use Rattle.mx_top.proofs.LoadedItems.{fault-stays}
 use Rattle.mx_top.proofs.TakenLines.{refusal-stays, source-taken}
 
@@ -277,3 +279,14 @@ module _ (source : List ℕ) (bytes : AreBytes source) where
   pub source-is : source_image source ≡ source_meaning source
   unfolding source_image
   source-is = lines-are (lines_of source) [] [] beginning nothing (record { whole = refl; taken = none-taken; loaded = refl })
+
+-- ---- what is answered
+
+pub source-loaded : (source : List ℕ) → AreBytes source → (a : Result Assembly Refused) (l : Result Loading LoadFault) (r : Result Image Refusal) → a ≡ Ok beginning → l ≡ Ok nothing →
+    r ≡ end_loaded (lines_loaded 1 (lines_of source) (standing a l)) → r ≡ source_meaning source
+unfolding source_image
+source-loaded source bytes a l r ea el e = e ∙ (λ i. end_loaded (lines_loaded 1 (lines_of source) (standing (ea i) (el i)))) ∙ source-is source bytes
+
+pub refusal-ends : (fault : SourceFault) (a : Result Assembly Refused) (l : Result Loading LoadFault) → image_from (Err fault) ≡ end_loaded (standing_after (Err fault) a l)
+refusal-ends (Refusing refusal) a l = refl
+refusal-ends NoRoom a l = refl
