@@ -1,6 +1,6 @@
 -- A source that is loaded line by line comes to what it means: the lines that were taken stand for the statements before the
 -- first refusal, and what is loaded of them is what their items mean.
-use Rattle.std.proofs.Common.{◌≡◌, ◌<◌, ℕ, ◌+◌, ◌^◌, Bool, true, false, not, cond, List, [], ◌∷◌, ◌++◌, fold, length, arith, refl, sym, ap, subst, ◌∙◌, is_some, Option, Some, None, Result, Ok, Err, append_assoc, append-nil, length-append}
+use Rattle.std.proofs.Common.{◌≡◌, ◌<◌, ℕ, ◌+◌, ◌^◌, Bool, true, false, not, cond, List, [], ◌∷◌, ◌++◌, fold, length, refl, sym, ap, subst, ◌∙◌, is_some, Option, Some, None, Result, Ok, Err, append_assoc, append-nil, length-append}
 use Rattle.std.specs.Prelude.{◌==◌}
 use Rattle.std.specs.List.{AllByRecursion, slice_split, onto_first}
 use Rattle.std.specs.Result.{result_err}
@@ -10,17 +10,16 @@ use Rattle.mx_word.specs.declared.waits.Wait.{Wait}
 use Rattle.mx_line.specs.Lines.{lines_of, without_empty_last}
 use Rattle.mx_line.specs.Pieces.{split}
 use Rattle.mx_mmo.specs.Image.{Image}
-use Rattle.mx_mmo.specs.Meaning.{Loading, Meaningless, PagesFull, nothing, take_item, take_items, image_in, meaning}
+use Rattle.mx_mmo.specs.Meaning.{Loading, Meaningless, PagesFull, nothing, take_item, take_items, image_in}
 use Rattle.mx_mmo.specs.declared.items.Item.{Item}
 use Rattle.mx_load.specs.Faults.{number_of, fault_of, told}
 use Rattle.mx_load.specs.declared.fault.LoadFault.{LoadFault}
 use Rattle.mx_asm.specs.declared.faults.AsmFault.{AsmFault}
 use Rattle.mx_asm.specs.declared.refused.Refused.{Refused}
-use Rattle.mx_asm.specs.Faults.{fault_number}
 use Rattle.mx_asm.specs.Entries.{Entry, line_entries, source_entries, statements_in}
 use Rattle.mx_asm.specs.TwoPass.{Sight}
 use Rattle.mx_asm.specs.Image.{image}
-use Rattle.mx_asm.specs.Pages.{accepted_in, has_room, outlined, page_fault, page_refusal, run_refusal, run_refusal_with}
+use Rattle.mx_asm.specs.Pages.{accepted_in, has_room, outlined, page_fault, page_refusal, run_refusal_with}
 use Rattle.mx_asm.specs.Refusal.{first_of, end_refusal, last_line, refusal}
 use Rattle.mx_asm.specs.OnePass.{Assembly, Taken, Progress, Ended, beginning, behind_entry, and_entries, entry_taken, entries_taken, count_fault, counted, line_unless, line_taken, with_opening, opened, line_behind, ended_main, ended_waits, ended, end_behind}
 use Rattle.mx_asm.specs.Whole.{Line, HasTaken, assembled_lines, assembled_source, line_after, lines_entries, lines_items, lines_taken}
@@ -29,7 +28,7 @@ use Rattle.mx_asm.proofs.MeaningLaws.{page-refusal-is}
 use Rattle.mx_asm.proofs.MeaningLines.{line-is-refused}
 use Rattle.mx_asm.proofs.MeaningSources.{bytes-fault, run-means}
 use Rattle.mx_asm.proofs.MeaningStates.{take-append}
-use Rattle.mx_top.specs.Loading.{Standing, standing, refused_at, refusal_of, all_loaded, judged, progress_loaded, line_loaded, and_lines, lines_loaded, image_loaded, ended_with, end_loaded, image_from, standing_after, source_image}
+use Rattle.mx_top.specs.Loading.{standing, refused_at, refusal_of, all_loaded, judged, progress_loaded, and_lines, lines_loaded, image_loaded, ended_with, end_loaded, image_from, standing_after, source_image}
 use Rattle.mx_top.specs.Sources.{meaning_unless, source_meaning}
 use Rattle.mx_top.specs.declared.refusal.Refusal.{Refusal}
 use Rattle.mx_top.specs.declared.refusal.SourceFault.{SourceFault}
