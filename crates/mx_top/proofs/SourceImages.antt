@@ -10,7 +10,7 @@ use Rattle.mx_word.specs.declared.waits.Wait.{Wait}
 use Rattle.mx_line.specs.Lines.{lines_of, without_empty_last}
 use Rattle.mx_line.specs.Pieces.{split}
 use Rattle.mx_mmo.specs.Image.{Image}
-use Rattle.mx_mmo.specs.Meaning.{Loading, Meaningless, PagesFull, nothing, take_item, take_items, image_in}
+use Rattle.mx_mmo.specs.Meaning.{Loading, Meaningless, PagesFull, nothing, take_item, take_items, image_in, meaning}
 use Rattle.mx_mmo.specs.declared.items.Item.{Item}
 use Rattle.mx_load.specs.Faults.{number_of, fault_of, told}
 use Rattle.mx_load.specs.declared.fault.LoadFault.{LoadFault}
@@ -19,7 +19,7 @@ use Rattle.mx_asm.specs.declared.refused.Refused.{Refused}
 use Rattle.mx_asm.specs.Entries.{Entry, line_entries, source_entries, statements_in}
 use Rattle.mx_asm.specs.TwoPass.{Sight}
 use Rattle.mx_asm.specs.Image.{image}
-use Rattle.mx_asm.specs.Pages.{accepted_in, has_room, outlined, page_fault, page_refusal, run_refusal_with}
+use Rattle.mx_asm.specs.Pages.{accepted_in, has_room, outlined, page_fault, page_refusal, RunRefusal, run_refusal, run_refusal_with}
 use Rattle.mx_asm.specs.Refusal.{first_of, end_refusal, last_line, refusal}
 use Rattle.mx_asm.specs.OnePass.{Assembly, Taken, Progress, Ended, beginning, behind_entry, and_entries, entry_taken, entries_taken, count_fault, counted, line_unless, line_taken, with_opening, opened, line_behind, ended_main, ended_waits, ended, end_behind}
 use Rattle.mx_asm.specs.Whole.{Line, HasTaken, assembled_lines, assembled_source, line_after, lines_entries, lines_items, lines_taken}
@@ -289,3 +289,13 @@ source-loaded source bytes a l r ea el e = e ∙ (λ i. end_loaded (lines_loaded
 pub refusal-ends : (fault : SourceFault) (a : Result Assembly Refused) (l : Result Loading LoadFault) → image_from (Err fault) ≡ end_loaded (standing_after (Err fault) a l)
 refusal-ends (Refusing refusal) a l = refl
 refusal-ends NoRoom a l = refl
+
+-- ---- what is loaded means the image
+
+pub items-mean-image : (source : List ℕ) (m : Image) → AreBytes source → source_meaning source ≡ Ok m → meaning (assembled_source source).0 ≡ Ok m
+unfolding source_meaning
+items-mean-image source m bytes h = by (run_refusal source) refl h
+  where
+    by : (r : Option RunRefusal) → run_refusal source ≡ r → meaning_unless r (image (statements_in (source_entries source))) ≡ Ok m → meaning (assembled_source source).0 ≡ Ok m
+    by None none e = let same : image (statements_in (source_entries source)) ≡ m = cc in run-means source bytes none ∙ ap Ok same
+    by (Some r) some e = absurd (cc)
