@@ -10,7 +10,7 @@ use Rattle.mx_spec.specs.SpecialRegisters.{rP}
 use Rattle.mx_trip.specs.declared.insertion.Kind.TheVariants.{Set}
 use Rattle.mx_core.specs.Deeds.{Deed, deed_of, plain_deed, inserted, resumed, performed, applied, state_done}
 use Rattle.mx_core.specs.Effects.{effect_of, data_address, x_register, touch, going_to}
-use Rattle.mx_core.specs.Instructions.{Instruction, instruction, operation_in, x_of, xyz_of}
+use Rattle.mx_core.specs.Instructions.{Instruction, instruction, x_of, xyz_of}
 use Rattle.mx_core.specs.Kept.{Kept, state_of}
 use Rattle.mx_core.specs.State.{State, octa, with_octa, with_local, with_value_in, special_register}
 use Rattle.mx_core.specs.Step.{store_touch}

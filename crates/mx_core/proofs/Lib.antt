@@ -14,6 +14,7 @@ pub mod Steps
 pub mod Sights
 pub mod Foretold
 pub mod Marks
+pub mod StepCounts
 pub mod Spaces
 pub mod Pools
 pub mod Starts

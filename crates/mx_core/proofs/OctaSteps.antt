@@ -13,7 +13,7 @@ use Rattle.mx_trip.specs.declared.insertion.Kind.{Kind}
 use Rattle.mx_trip.specs.declared.insertion.Kind.TheVariants.{Again, Continue, Set}
 use Rattle.mx_core.specs.Bounds.{IsMachine}
 use Rattle.mx_core.specs.Changes.{register_changed, with_put, put_changed, special_changed, octa_changed, at_address}
-use Rattle.mx_core.specs.Deeds.{Deed, deed_of, plain_deed, given_instruction, inserted, resumed, applied, address_after, with_destination, destination_of, with_specials, moved}
+use Rattle.mx_core.specs.Deeds.{deed_for, Deed, deed_of, plain_deed, given_instruction, inserted, resumed, applied, address_after, with_destination, destination_of, with_specials, moved}
 use Rattle.mx_core.specs.Effects.{Effect, effect_of, giving, going_to}
 use Rattle.mx_core.specs.Instructions.{Instruction, instruction, operation_in, x_of, xyz_of}
 use Rattle.mx_core.specs.Machines.{HoldsOctas, IsOverWindow}
@@ -21,7 +21,7 @@ use Rattle.mx_core.specs.State.{is_negative, State, octa, special_register, glob
 use Rattle.mx_core.specs.Step.{Stepped, went, calls, stopped, fetched, after, completed, call_of, made, step}
 use Rattle.mx_core.specs.Stops.{stack_fault, page_fault, has_destination}
 use Rattle.mx_core.specs.Traps.{trap_specials, trapped, halted, with_touch}
-use Rattle.mx_core.specs.Wild.{deed_for, deed}
+use Rattle.mx_core.specs.Wild.{deed}
 use Rattle.mx_core.specs.declared.operation.Operation.{Operation}
 use Rattle.mx_core.specs.declared.operation.Operation.TheVariants as op
 use Rattle.mx_core.specs.declared.reason.Reason.{Reason}

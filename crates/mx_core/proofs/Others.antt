@@ -112,3 +112,5 @@ resume_outcome s i = refl
 pub trap_outcome : (s : State) (i : Instruction) → outcome s (deed_of op.Trap s i) ≡ Err ResumeInsert
 unfolding form_fault
 trap_outcome s i = refl
+
+pub ruleset stops = (float_outcome, privileged_outcome, resume_outcome, trap_outcome)

@@ -1,6 +1,5 @@
 -- The next octa other than 0, below, in and above the stack area.
-use Rattle.std.proofs.Common.{◌≡◌, ◌≢◌, ◌≤◌, ◌<◌, ◌⊎◌, ◌/◌, ◌%◌, ◌*◌, ◌+◌, ◌-◌, ◌^◌, ℕ, Bool, true, false, max, Option, None, Some, refl, arith, ap, sym, ◌∙◌, ⊎_elim}
-use Rattle.std.proofs.lemmas.Bool.{cases_lt}
+use Rattle.std.proofs.Common.{◌≡◌, ◌≤◌, ◌<◌, ◌/◌, ◌%◌, ◌+◌, ◌-◌, ◌^◌, ℕ, true, false, max, Option, None, Some, arith, ap, ◌∙◌}
 use Rattle.std.proofs.lemmas.Bool.Decides.{nat_tests}
 use Rattle.mx_mem.specs.Memory.{octa_at, IsNextNonzero}
 use Rattle.mx_ring.specs.Stack.{windowed, in_stack_area, stack_index, stack_address, stack_octa}

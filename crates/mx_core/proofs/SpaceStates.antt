@@ -1,11 +1,11 @@
 -- The contents of a machine tell its state.
-use Rattle.std.proofs.Common.{◌≡◌, ◌≤◌, ◌<◌, ◌/◌, ◌*◌, ◌+◌, ◌^◌, ℕ, Bool, true, false, List, [], length, get_or, cond, refl, arith, ap, sym, ◌∙◌}
+use Rattle.std.proofs.Common.{◌≡◌, ◌≤◌, ◌<◌, ◌^◌, ℕ, Bool, true, false, [], length, cond, refl, arith, ap, sym, ◌∙◌}
 use Rattle.std.specs.Prelude.{slice_index}
 use Rattle.std.proofs.lemmas.Bool.Decides.{nat_tests}
 use Rattle.std.proofs.lemmas.List.FromFn.{fill_by_all}
 use Rattle.mx_word.specs.Octas.{byte_in}
 use Rattle.mx_mem.specs.Space.{octa_of}
-use Rattle.mx_ring.specs.Stack.{Stack, windowed, in_stack_area, stack_index, stack_address, stack_octa}
+use Rattle.mx_ring.specs.Stack.{windowed, in_stack_area, stack_index, stack_address, stack_octa}
 use Rattle.mx_ring.specs.Window.{Window}
 use Rattle.mx_core.specs.MachineSpace.{machine_contents, state_in, area_in, with_area, IsWholeSpace}
 use Rattle.mx_core.specs.State.{State, octa}

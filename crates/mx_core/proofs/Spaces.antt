@@ -1,5 +1,5 @@
 -- The machine as a space of bytes.
-use Rattle.std.proofs.Common.{◌≡◌, ◌≤◌, ◌<◌, ◌/◌, ◌%◌, ◌*◌, ◌+◌, ◌-◌, ◌^◌, ◌&&◌, ◌==◌, not, ℕ, Bool, true, false, List, [], ◌∷◌, length, Result, Ok, Err, eqb, cond, refl, arith, ap, sym, ◌∙◌, ⊎_elim}
+use Rattle.std.proofs.Common.{◌≡◌, ◌≤◌, ◌<◌, ◌/◌, ◌%◌, ◌*◌, ◌+◌, ◌-◌, ◌^◌, ◌&&◌, ◌==◌, not, ℕ, Bool, true, false, [], ◌∷◌, length, Result, Ok, Err, eqb, cond, refl, arith, ap, sym, ◌∙◌, ⊎_elim}
 use Rattle.std.specs.Prelude.{slice_index, slice_set}
 use Rattle.std.specs.Int.{w64, from_be_bytes}
 use Rattle.std.proofs.lemmas.Bool.{cases_eq, cases_lt}
@@ -18,10 +18,9 @@ use Rattle.mx_mem.specs.declared.space.SpaceFault.{SpaceFault}
 use Rattle.mx_mem.proofs.Fields.{byte-below, byte-above, byte-within}
 use Rattle.mx_mem.proofs.Joins.{same-octa}
 use Rattle.mx_ring.specs.Bounds.{IsRing}
-use Rattle.mx_ring.specs.Stack.{Stack, listed, windowed, in_stack_area, stack_index, stack_octa, with_stack_octa}
-use Rattle.mx_ring.specs.Window.{Window}
+use Rattle.mx_ring.specs.Stack.{windowed, in_stack_area, stack_index, stack_octa, with_stack_octa}
 use Rattle.mx_core.specs.Kept.{Kept, state_of}
-use Rattle.mx_core.specs.MachineSpace.{machine_contents, kept_contents, rest_of, with_area}
+use Rattle.mx_core.specs.MachineSpace.{machine_contents, kept_contents, rest_of}
 use Rattle.mx_core.specs.Changed.{store_left}
 use Rattle.mx_core.specs.State.{State, octa, with_octa, is_page_refused}
 

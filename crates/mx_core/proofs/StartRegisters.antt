@@ -1,14 +1,14 @@
 -- The registers at the start, one after another.
-use Rattle.std.proofs.Common.{◌≡◌, ◌≤◌, ◌<◌, ℕ, ◌+◌, ◌-◌, ◌^◌, ◌&&◌, ◌⊎◌, Bool, true, false, nat_lt, nat_le, List, [], ◌∷◌, ◌++◌, length, get_or, take, drop, replicate, slice_set, map, cond, arith, length-append, refl, sym, ap, ◌∙◌, ⊎_elim}
+use Rattle.std.proofs.Common.{◌≡◌, ◌≤◌, ◌<◌, ℕ, ◌+◌, ◌-◌, ◌&&◌, Bool, true, false, nat_lt, nat_le, List, [], ◌∷◌, ◌++◌, length, get_or, drop, replicate, slice_set, map, arith, length-append, refl, sym, ap, ◌∙◌, ⊎_elim}
 use Rattle.std.specs.List.{range_with_len}
 use Rattle.std.proofs.lemmas.Bool.{cases_eq}
 use Rattle.std.proofs.lemmas.Bool.Decides.{nat_tests}
 use Rattle.std.proofs.lemmas.List.{length-replicate, length-set, get_or-set_same, get_or-set_other, ext_get_or}
 use Rattle.std.proofs.lemmas.List.FromFn.{length-map-range_with_len, get_or-map-range_with_len}
 use Rattle.mx_mmo.specs.Image.{Image}
-use Rattle.mx_ring.specs.HiddenPart.{with_room, nothing_hidden}
+use Rattle.mx_ring.specs.HiddenPart.{with_room}
 use Rattle.mx_ring.specs.Registers.{Registers, is_marginal, with_value}
-use Rattle.mx_ring.specs.Stack.{Stack, windowed, set_overfills, with_register, with_global_start}
+use Rattle.mx_ring.specs.Stack.{windowed, set_overfills, with_register, with_global_start}
 use Rattle.mx_ring.specs.Window.{Window, window_at_start}
 use Rattle.mx_core.specs.Started.{window_with, with_no_locals}
 

@@ -28,3 +28,5 @@ lacks_where false (Err OutOfMemory) h = absurd (h refl refl)
 
 pub lacks_as : (a b : Bool) (r : Result (Unit {0}) Stop) → a ≡ b → LacksMemoryOnlyWhere a r → LacksMemoryOnlyWhere b r
 lacks_as a b r e h = subst (λ (c : Bool). LacksMemoryOnlyWhere c r) e h
+
+pub ruleset unchanged = (keeps, lasts)

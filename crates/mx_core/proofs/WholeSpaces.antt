@@ -1,9 +1,9 @@
 -- The memory of a machine is a whole space.
-use Rattle.std.proofs.Common.{◌≡◌, ◌<◌, ◌/◌, ◌%◌, ◌^◌, ℕ, Bool, true, false, cond, arith, refl, ap, ◌∙◌}
+use Rattle.std.proofs.Common.{◌≡◌, ◌<◌, ◌/◌, ◌^◌, ℕ, Bool, true, false, cond, arith, refl}
 use Rattle.std.specs.Prelude.{slice_index}
 use Rattle.mx_mem.specs.Memory.{Stored, octa_at}
 use Rattle.mx_ring.specs.Bounds.{IsRing}
-use Rattle.mx_ring.specs.Stack.{windowed, in_stack_area, stack_index, stack_octa}
+use Rattle.mx_ring.specs.Stack.{in_stack_area, stack_index, stack_octa}
 use Rattle.mx_core.specs.Kept.{Kept, state_of}
 use Rattle.mx_core.specs.MachineSpace.{IsWholeSpace}
 use Rattle.mx_core.specs.State.{octa}

@@ -7,6 +7,7 @@ use Rattle.mx_spec.specs.declared.put.Put.{Put}
 use Rattle.mx_spec.specs.declared.put.Put.TheVariants as put
 use Rattle.mx_core.specs.Changes.{with_put}
 use Rattle.mx_spec.specs.SpecialRegisters.{rA, rH, rR, rJ, rP, rS}
+use Rattle.mx_trip.specs.Insertions.{is_marginal}
 use Rattle.mx_trip.specs.Trips.{decided}
 use Rattle.mx_trip.specs.declared.decision.Trip.{Trip}
 use Rattle.mx_trip.specs.declared.decision.Trip.TheVariants.{Taken, Noted}
@@ -126,9 +127,17 @@ store_raised s i a part v x None =
     else unless (is_page_refused s a) PagesFull (onward (store_seen s a part v) (next_of i))
 store_raised s i a part v x (Some event) = store_decided s i a part v x (decided (special_register s rA) event)
 
+-- a store of $X with an overflow, that trips or is noted in rA
+abbrev pub overflow_decided : State → Instruction → Storing → ℕ → ℕ → Trip → Result State Reason
+overflow_decided s i how a x trip = store_decided s i a (stored_part how) (stored_value how x (x_of i)) x trip
+
 -- a store of $X
 unfoldable pub store_settled : State → Instruction → Storing → ℕ → ℕ → Result State Reason
 store_settled s i how a x = store_raised s i a (stored_part how) (stored_value how x (x_of i)) x (stored_event how x)
+
+-- whether a value for the register X of an instruction would make it local
+abbrev pub sets_marginal : State → Instruction → Bool
+sets_marginal s i = is_marginal (x_of i) (locals s) (global_start s)
 
 -- WITHOUT A DESTINATION
 
@@ -150,6 +159,17 @@ abbrev pub pop_outcome : State → Instruction → Result State Reason
 pop_outcome s i =
     unless (pop_underflows s.stack) Underflow
     (onward (with_lowered_mark s (popped s.stack (x_of i))) ((special_register s rJ + 4 * yz_of i) % 2 ^ 64))
+
+-- the register stack's part of PUSHJ and PUSHGO, of POP and of SAVE
+abbrev pub registers_pushed : State → ℕ → Result State Reason
+registers_pushed s x = unless (push_overfills s.stack x) StackFull (with_stack s (pushed s.stack x))
+
+abbrev pub registers_popped : State → ℕ → Result State Reason
+registers_popped s x = unless (pop_underflows s.stack) Underflow (with_lowered_mark s (popped s.stack x))
+
+abbrev pub registers_saved : State → ℕ → Result State Reason
+registers_saved s x =
+    unless (save_overfills s.stack) StackFull (with_new_mark s (saved s.stack x (specials_saved s)))
 
 abbrev pub save_outcome : State → Instruction → Result State Reason
 save_outcome s i =

@@ -54,6 +54,9 @@ pub record Tripping : Type 0 where
   pub y : ℕ
   pub z : ℕ
 
+abbrev pub tripping : ℕ → ℕ → ℕ → Tripping
+tripping handler y z = record { handler = handler; y = y; z = z }
+
 pub record Effect : Type 0 where
   -- the value that the destination gets
   pub result : Option ℕ

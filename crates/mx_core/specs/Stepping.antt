@@ -3,9 +3,9 @@ use Rattle.std.specs.Prelude.{ℕ, ◌≡◌, ◌==◌, Bool, true, false, not, 
 use Rattle.std.specs.Option.{option_map, is_some}
 use Rattle.mx_mem.specs.declared.part.Part.TheVariants.{Octa}
 use Rattle.mx_ring.specs.Stack.{Stack, register}
-use Rattle.mx_core.specs.Deeds.{Deed, deed_of, resumed, state_done}
+use Rattle.mx_core.specs.Deeds.{Deed, deed_at, state_done}
 use Rattle.mx_core.specs.Effects.{Store, data_address, touch}
-use Rattle.mx_core.specs.Instructions.{Instruction, operation_in, x_of}
+use Rattle.mx_core.specs.Instructions.{Instruction, x_of}
 use Rattle.mx_core.specs.State.{State, begins_page, is_negative}
 use Rattle.mx_core.specs.Step.{Stepped, went, calls, stopped, fetched, store_touch}
 use Rattle.mx_core.specs.declared.trace.Touch.{Touch}
@@ -16,14 +16,6 @@ use Rattle.mx_core.specs.declared.step.Advance.{Advance}
 use Rattle.mx_core.specs.declared.step.Advance.TheVariants as advance
 use Rattle.mx_core.specs.declared.step.Step.{Step}
 use Rattle.mx_core.specs.declared.step.Step.TheVariants as answer
-
--- what an instruction is to do
-abbrev pub deed_for : Operation → State → Instruction → Deed
-deed_for op.Resume s i = resumed s i
-deed_for operation s i = deed_of operation s i
-
-abbrev pub deed_at : State → Instruction → Deed
-deed_at s i = deed_for (operation_in i) s i
 
 -- a step with its trace
 abbrev pub step_answer : State → Stepped → Step × State

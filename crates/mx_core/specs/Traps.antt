@@ -4,7 +4,6 @@ use Rattle.mx_ring.specs.Stack.{register}
 use Rattle.mx_spec.specs.SpecialRegisters.{rBB, rWW, rXX, rYY, rZZ}
 use Rattle.mx_trip.specs.declared.call.TrapCall.{TrapCall}
 use Rattle.mx_core.specs.Deeds.{with_specials, onward}
-use Rattle.mx_core.specs.Instructions.{instruction, y_of, z_of, next_of}
 use Rattle.mx_core.specs.State.{State, with_value_in}
 use Rattle.mx_core.specs.declared.trace.Trace.{Trace}
 

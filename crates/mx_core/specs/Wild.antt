@@ -1,20 +1,12 @@
 -- Which steps look at rS or at the memory of the register stack; all others do not show where hidden octas lie.
 use Rattle.std.specs.Prelude.{◌≡◌, ◌&&◌, ◌||◌, not, false, Bool}
-use Rattle.mx_core.specs.Deeds.{Deed, deed_of, resumed}
-use Rattle.mx_core.specs.Instructions.{Instruction, operation_in}
+use Rattle.mx_core.specs.Deeds.{Deed, deed_at}
 use Rattle.mx_core.specs.State.{State, is_negative, is_in_stack_segment}
 use Rattle.mx_core.specs.Step.{fetched}
-use Rattle.mx_core.specs.declared.operation.Operation.{Operation}
-use Rattle.mx_core.specs.declared.operation.Operation.TheVariants as op
-
--- what an instruction is to do; a trap is never carried out as it stands, and is not wild
-abbrev pub deed_for : Operation → State → Instruction → Deed
-deed_for op.Resume s i = resumed s i
-deed_for operation s i = deed_of operation s i
 
 -- what the next step carries out
 abbrev pub deed : State → Deed
-deed s = deed_for (operation_in (fetched s)) s (fetched s)
+deed s = deed_at s (fetched s)
 
 -- whether the next step fetches in Stack_Segment, or its deed is wild; at an address of 2^63 or more nothing is fetched
 abbrev pub is_wild : State → Bool

@@ -1,13 +1,10 @@
 //! Instructions that go elsewhere: branches, jumps, calls and returns.
 
 ghost use Rattle.std.specs.Prelude.{◌≡◌};
-ghost use Rattle.mx_ring.specs.Stack.{pop_underflows, popped, push_overfills, pushed};
 ghost use Rattle.mx_core.specs.Calls as spec;
-ghost use Rattle.mx_core.specs.Calls.{CarriesOut, Makes, unless};
-ghost use Rattle.mx_core.specs.Deeds.{with_stack};
+ghost use Rattle.mx_core.specs.Calls.{CarriesOut, Makes};
 ghost use Rattle.mx_core.specs.Instructions.{operation_in};
 ghost use Rattle.mx_core.specs.Kept.{state_of};
-ghost use Rattle.mx_core.specs.declared.reason.Reason.TheVariants as reasons;
 
 use crate::bounds::know_bounds;
 use crate::compute::holds;
@@ -81,7 +78,7 @@ impl Machine {
     #[tactic(auto, unfolding(crate::specs::Kept::state_of))]
     #[inline(always)]
     fn push(&mut self, x: u8) -> Result<(), Stop>
-        ensures { Makes (λ s. unless (push_overfills s.stack x) reasons.StackFull (with_stack s (pushed s.stack x))) result self.old self.new }
+        ensures { Makes (λ s. spec.registers_pushed s x) result self.old self.new }
     {
         match self.ring.push(x) {
             Ok(()) => Ok(()),
@@ -109,7 +106,7 @@ impl Machine {
     #[tactic(auto, using(crate::proofs::Marks::pop_marks), unfolding(crate::specs::Kept::state_of))]
     #[inline(always)]
     fn pop_registers(&mut self, x: u8) -> Result<(), Stop>
-        ensures { Makes (λ s. unless (pop_underflows s.stack) reasons.Underflow (spec.with_lowered_mark s (popped s.stack x))) result self.old self.new }
+        ensures { Makes (λ s. spec.registers_popped s x) result self.old self.new }
     {
         know_bounds(&self.ring);
         match self.ring.pop(x) {

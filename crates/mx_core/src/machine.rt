@@ -14,9 +14,8 @@ ghost use Rattle.mx_core.specs.Traps.{with_touch};
 
 use crate::Reason;
 use crate::bounds::know_bounds;
-use crate::part::with_part;
 use crate::stop::Stop;
-use mx_mem::{MemFault, Memory, Part};
+use mx_mem::{MemFault, Memory, Part, with_part};
 use mx_ring::{Ring, RingFault};
 use std::marker::Model;
 

@@ -2,7 +2,7 @@
 
 ghost use Rattle.std.specs.Prelude.{◌≡◌, ◌<◌, ◌-◌, ◌*◌, ◌^◌, None, Some, if◌then◌else◌};
 ghost use Rattle.mx_alu.specs.declared.answer.Event.TheVariants.{Overflow};
-ghost use Rattle.mx_mem.specs.Parts.{size_of, bits_below};
+ghost use Rattle.mx_mem.specs.Parts.{size_of};
 ghost use Rattle.mx_mem.specs.Parts as parts;
 ghost use Rattle.mx_core.specs.Effects as spec;
 
@@ -36,50 +36,13 @@ pub(crate) fn touch(a: u64, part: Part) -> Touch
     }
 }
 
-/// How many bits of an octa stand below the part where an address lies.
-#[inline(always)]
-fn bits_below(part: Part, a: u64) -> u64
-    ensures value { result ≡ bits_below part a }
-    ensures shift { result < 64 }
-{
-    match part {
-        Part::Byte => 8 * (7 - a % 8),
-        Part::Wyde => 8 * (6 - a % 8 / 2 * 2),
-        Part::Tetra => 8 * (4 - a % 8 / 4 * 4),
-        Part::Octa => 0,
-    }
-}
-
-/// The bits of a part, at the low end.
-#[inline(always)]
-fn mask(part: Part) -> u64
-    ensures { result ≡ 2 ^ (8 * size_of part) - 1 }
-{
-    match part {
-        Part::Byte => 0xff,
-        Part::Wyde => 0xffff,
-        Part::Tetra => 0xffff_ffff,
-        Part::Octa => u64::MAX,
-    }
-}
-
 /// The part of an octa where an address lies.
 #[inline(always)]
 fn part_of(part: Part, octa: u64, a: u64) -> u64
     ensures value { result ≡ parts.part_of part octa a }
     ensures range { result < 2 ^ (8 * size_of part) }
 {
-    octa >> bits_below(part, a) & mask(part)
-}
-
-/// An octa with the low bytes of `x` in place of the part where an address lies.
-#[inline(always)]
-pub(crate) fn with_part(part: Part, octa: u64, a: u64, x: u64) -> u64
-    ensures { result ≡ parts.with_part part octa a x }
-{
-    let below = bits_below(part, a);
-    let mask = mask(part);
-    octa - ((octa >> below & mask) << below) + ((x & mask) << below)
+    octa >> part.bits_below(a) & part.mask()
 }
 
 /// The least number that is a negative one in a part.
@@ -104,7 +67,7 @@ fn sign_extended(part: Part, v: u64) -> u64
     if v < half(part) {
         v
     } else {
-        v + (u64::MAX - mask(part))
+        v + (u64::MAX - part.mask())
     }
 }
 

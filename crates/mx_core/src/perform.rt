@@ -16,7 +16,7 @@ impl Machine {
     /// Carries an instruction out. It takes memory only for a store that begins a page.
     ///
     /// Errors: the stops of the instruction, and out of memory; then nothing changed.
-    #[tactic(auto, using(crate::proofs::Unchanged::keeps, crate::proofs::Unchanged::lasts, crate::proofs::Others::float_outcome, crate::proofs::Others::privileged_outcome, crate::proofs::Others::resume_outcome, crate::proofs::Others::trap_outcome))]
+    #[tactic(auto, using(crate::proofs::Unchanged::unchanged, crate::proofs::Others::stops))]
     #[inline(always)]
     pub(crate) fn perform(&mut self, i: &Instruction) -> Result<(), Stop>
         ensures answer { CarriesOutWithMemory (operation_in i.now) i.now result self.old self.new }

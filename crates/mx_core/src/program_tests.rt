@@ -147,7 +147,7 @@ const BASE: u64 = 0x6000_0000_0000_0000;
 
 /// Programs, and the addresses where they begin; how many steps they make; a register, with what it has
 /// then; and what comes next.
-const ROWS: [(Program, u64, u32, u8, u64, Advance); 16] = [
+const ROWS: [(Program, u64, u32, u8, u64, Advance); 14] = [
     (DIVIDES, 0, 3, 0, 0xffff_ffff_ffff_fffc, Advance::Trap),
     (SQUARES, 0, 4, 255, 0xffff_ffff_ffff_fffe, Advance::Trap),
     (
@@ -159,8 +159,6 @@ const ROWS: [(Program, u64, u32, u8, u64, Advance); 16] = [
         Advance::Stopped(Reason::UnhandledTrip),
     ),
     (STORES, 0, 4, 255, 128, Advance::Trap),
-    (SUMS, 0x100, 2105, 255, 45150, Advance::Trap),
-    (HIDES, 0, 4, 255, BASE + 360, Advance::Trap),
     (SAVES, 0x100, 2, 255, BASE + 128, Advance::Went),
     (SAVES, 0x100, 6, 255, 5, Advance::Trap),
     (POPS, 0, 0, 0, 1, Advance::Stopped(Reason::Underflow)),
@@ -180,11 +178,25 @@ const ROWS: [(Program, u64, u32, u8, u64, Advance); 16] = [
     ),
 ];
 
-/// A machine that is to begin at an address, with one argument; $255 has the address.
-fn machine_at(rt: &impl Abort, alloc: Global, main: u64) -> Result<Machine, Fail> {
+/// The size of the ring, a program with the address where it begins; how many steps it makes; what $255
+/// has then; and what comes next.
+const RINGS: [(u32, Program, u64, u32, u64, Advance); 6] = [
+    // what is computed does not depend on the ring
+    (256, SUMS, 0x100, 2105, 45150, Advance::Trap),
+    (512, SUMS, 0x100, 2105, 45150, Advance::Trap),
+    (1024, SUMS, 0x100, 2105, 45150, Advance::Trap),
+    // rS does
+    (256, HIDES, 0, 4, BASE + 360, Advance::Trap),
+    (512, HIDES, 0, 4, BASE, Advance::Trap),
+    (1024, HIDES, 0, 4, BASE, Advance::Trap),
+];
+
+/// A machine that is to begin at an address, with one argument and a ring of this size; $255 has the
+/// address.
+fn machine_at(rt: &impl Abort, alloc: Global, size: u32, main: u64) -> Result<Machine, Fail> {
     let args = [Bytes::copy(alloc, b"p")?];
     let image = Loader::new(alloc).finish(Symbols::new(alloc))?;
-    let size = RingSize::of(256).expect(rt, "a power of two");
+    let size = RingSize::of(size).expect(rt, "a power of two");
     let mut machine = Machine::start(alloc, image, &args, size)?;
     machine.set_register(255, main)?;
     machine.set_pc(main);
@@ -211,7 +223,7 @@ fn make_steps(
 #[test]
 fn programs_come_to_their_values(rt: HostRuntime) -> Result<(), Fail> {
     for (octas, main, steps, register, value, next) in ROWS {
-        let mut machine = machine_at(&rt, rt.alloc(), main)?;
+        let mut machine = machine_at(&rt, rt.alloc(), 256, main)?;
         make_steps(&rt, &mut machine, octas, steps)?;
         assert_eq!(rt; machine.register(register), value);
         assert_eq!(rt; machine.advance(), next);
@@ -220,9 +232,20 @@ fn programs_come_to_their_values(rt: HostRuntime) -> Result<(), Fail> {
 }
 
 #[test]
+fn rings_show_in_rs_alone(rt: HostRuntime) -> Result<(), Fail> {
+    for (size, octas, main, steps, value, next) in RINGS {
+        let mut machine = machine_at(&rt, rt.alloc(), size, main)?;
+        make_steps(&rt, &mut machine, octas, steps)?;
+        assert_eq!(rt; machine.register(255), value, "ring {size}");
+        assert_eq!(rt; machine.advance(), next, "ring {size}");
+    }
+    Ok(())
+}
+
+#[test]
 fn overflows_trip(rt: HostRuntime) -> Result<(), Fail> {
     for (handler, value) in HANDLERS {
-        let mut machine = machine_at(&rt, rt.alloc(), 0x100)?;
+        let mut machine = machine_at(&rt, rt.alloc(), 256, 0x100)?;
         machine.set_octa(0x20, handler)?;
         make_steps(&rt, &mut machine, ADDS, 6)?;
         assert_eq!(rt; machine.register(255), value);
@@ -234,7 +257,7 @@ fn overflows_trip(rt: HostRuntime) -> Result<(), Fail> {
 /// CSWAP writes where memory has what rP has, and tells it; then it does not.
 #[test]
 fn exchanges_tell_what_they_wrote(rt: HostRuntime) -> Result<(), Fail> {
-    let mut machine = machine_at(&rt, rt.alloc(), 0)?;
+    let mut machine = machine_at(&rt, rt.alloc(), 256, 0)?;
     machine.set_octa(0, 0xe301_0007_9501_0220)?;
     machine.set_octa(8, 0x9501_0220_0000_0000)?;
     assert_eq!(rt; machine.advance(), Advance::Went);

@@ -1,15 +1,12 @@
 //! RESUME.
 
 ghost use Rattle.std.specs.Prelude.{◌≡◌, false};
-ghost use Rattle.mx_core.specs.Calls.{KeepsOnErr, LacksMemoryOnlyWhere, Makes, MakesWithMemory};
+ghost use Rattle.mx_core.specs.Calls.{KeepsOnErr, LacksMemoryOnlyWhere, Makes, MakesWithMemory, sets_marginal};
 ghost use Rattle.mx_core.specs.Deeds as deeds;
 ghost use Rattle.mx_core.specs.Deeds.{outcome, resumed};
 ghost use Rattle.mx_core.specs.Instructions as spec;
-ghost use Rattle.mx_core.specs.Instructions.{x_of};
 ghost use Rattle.mx_core.specs.Kept.{state_of};
-ghost use Rattle.mx_core.specs.State.{global_start, locals};
 ghost use Rattle.mx_core.specs.Stepping.{needs_page};
-ghost use Rattle.mx_trip.specs.Insertions.{is_marginal};
 ghost use Rattle.mx_trip.specs.declared.insertion.Kind.TheVariants as kinds;
 
 use crate::instruction::Instruction;
@@ -44,7 +41,7 @@ impl Machine {
 
     /// An inserted instruction, as if it stood at an address. A register that it sets is local or global.
     fn perform_inserted(&mut self, kind: Kind, at: u64, word: u32) -> Result<(), Stop>
-        requires { kind ≡ kinds.Set → is_marginal (x_of (spec.instruction at word)) (locals (state_of self.old)) (global_start (state_of self.old)) ≡ false }
+        requires { kind ≡ kinds.Set → sets_marginal (state_of self.old) (spec.instruction at word) ≡ false }
         ensures answer { MakesWithMemory (λ s. outcome s (deeds.performed kind s at word)) result self.old self.new }
         ensures err { KeepsOnErr result self.old self.new }
         ensures there { LacksMemoryOnlyWhere (needs_page (state_of self.old) (deeds.performed kind (state_of self.old) at word)) result }
@@ -62,7 +59,7 @@ impl Machine {
     /// The register X of an inserted instruction gets rZ.
     #[tactic(auto, using(crate::proofs::Resumes::set_done, crate::proofs::Resumes::shown_fits), unfolding(crate::specs::Calls::settled))]
     fn set_inserted(&mut self, at: u64, word: u32) -> Result<(), Stop>
-        requires { is_marginal (x_of (spec.instruction at word)) (locals (state_of self.old)) (global_start (state_of self.old)) ≡ false }
+        requires { sets_marginal (state_of self.old) (spec.instruction at word) ≡ false }
         ensures { Makes (λ s. outcome s (deeds.performed kinds.Set s at word)) result self.old self.new }
     {
         let i = Instruction::new(at, word);

@@ -1,11 +1,11 @@
 //! What an instruction does to its destination and to memory, told before it is carried out.
 
 ghost use Rattle.std.specs.Prelude.{◌≡◌, true, false};
-ghost use Rattle.mx_core.specs.Deeds.{deed_of};
+ghost use Rattle.mx_core.specs.Deeds.{deed_at, deed_of};
 ghost use Rattle.mx_core.specs.Instructions.{Instruction, operation_in};
 ghost use Rattle.mx_core.specs.Kept.{state_of};
 ghost use Rattle.mx_core.specs.Stepping as spec;
-ghost use Rattle.mx_core.specs.Stepping.{deed_at, Foretells, is_exchange, is_swap, sight_of};
+ghost use Rattle.mx_core.specs.Stepping.{Foretells, is_exchange, is_swap, sight_of};
 ghost use Rattle.mx_core.specs.Deeds as deeds;
 
 use crate::instruction::Instruction;

@@ -4,8 +4,7 @@ ghost use Rattle.std.specs.Prelude.{◌≡◌};
 ghost use Rattle.mx_mem.specs.Space as spec;
 
 use crate::Machine;
-use crate::part::with_part;
-use mx_mem::{MemFault, Part, Space, SpaceFault};
+use mx_mem::{MemFault, Part, Space, SpaceFault, with_part};
 
 impl Space for Machine {
     ghost use Rattle.mx_core.specs.State.{State};

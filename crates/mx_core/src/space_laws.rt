@@ -17,6 +17,7 @@ pub fn contents_tell_the_state()
 /// Each machine's memory is one octa below 2^64 for each eight addresses, so that its contents tell
 /// its state.
 #[tactic(auto, using(crate::proofs::WholeSpaces::wholes))]
+#[inline(always)]
 pub fn machines_are_whole(machine: &Machine)
     ensures { IsWholeSpace (state_of machine.now) }
 {

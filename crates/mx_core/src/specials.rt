@@ -1,7 +1,7 @@
 //! GET and PUT, SAVE and UNSAVE, and what only tests its fields.
 
 ghost use Rattle.std.specs.Prelude.{◌≡◌, ◌≤◌, ◌<◌, ◌^◌, ◌==◌, ◌||◌, IfOk, nat_lt, not};
-ghost use Rattle.mx_ring.specs.Stack.{save_overfills, saved, stack_index, unsave_refused};
+ghost use Rattle.mx_ring.specs.Stack.{stack_index, unsave_refused};
 ghost use Rattle.mx_core.specs.Calls as spec;
 ghost use Rattle.mx_core.specs.Calls.{CarriesOut, Makes, unless};
 ghost use Rattle.mx_core.specs.Effects.{specials_back, specials_saved};
@@ -141,7 +141,7 @@ impl Machine {
     #[tactic(auto, using(crate::proofs::Marks::save_marks), unfolding(crate::specs::Kept::state_of))]
     fn save_registers(&mut self, x: u8) -> Result<(), Stop>
         requires { global_start (state_of self.old) ≤ x }
-        ensures { Makes (λ s. unless (save_overfills s.stack) reasons.StackFull (spec.with_new_mark s (saved s.stack x (specials_saved s)))) result self.old self.new }
+        ensures { Makes (λ s. spec.registers_saved s x) result self.old self.new }
     {
         let specials = self.specials_saved();
         know_bounds(&self.ring);

@@ -2,11 +2,11 @@
 
 ghost use Rattle.std.specs.Prelude.{◌≡◌, ◌≢◌, ◌<◌, ◌^◌, IsTrue};
 ghost use Rattle.mx_core.specs.Calls.{KeepsOnErr, LacksMemoryOnlyWhere, MakesWithMemory};
-ghost use Rattle.mx_core.specs.Deeds.{outcome};
+ghost use Rattle.mx_core.specs.Deeds.{deed_at, outcome};
 ghost use Rattle.mx_core.specs.Instructions.{operation_in};
 ghost use Rattle.mx_core.specs.Kept.{state_of};
 ghost use Rattle.mx_core.specs.Step as spec;
-ghost use Rattle.mx_core.specs.Stepping.{advanced, deed_at, needs_page, step_answer, step_needs_page};
+ghost use Rattle.mx_core.specs.Stepping.{advanced, needs_page, step_answer, step_needs_page};
 
 use crate::instruction::Instruction;
 use crate::machine::is_in_segment;

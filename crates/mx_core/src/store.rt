@@ -3,8 +3,7 @@
 ghost use Rattle.std.specs.Prelude.{◌≡◌, ◌≢◌, ◌<◌, ◌≤◌, ◌^◌, Err, Some, false, true};
 ghost use Rattle.mx_core.specs.Calls.{KeepsOnErr, LacksMemoryOnlyWhere, MakesWithMemory, CarriesOutWithMemory};
 ghost use Rattle.mx_core.specs.Calls as spec;
-ghost use Rattle.mx_core.specs.Effects.{stored_event, stored_part, stored_value};
-ghost use Rattle.mx_core.specs.Instructions.{x_of};
+ghost use Rattle.mx_core.specs.Effects.{stored_event};
 ghost use Rattle.mx_trip.specs.declared.decision.Trip.TheVariants as trips;
 ghost use Rattle.mx_alu.specs.declared.answer.Event.TheVariants as event;
 ghost use Rattle.mx_core.specs.Deeds.{deed_of};
@@ -82,7 +81,7 @@ impl Machine {
     ) -> Result<(), Stop>
         requires address { a < 2 ^ 63 }
         requires bits { status < 2 ^ 18 }
-        ensures answer { MakesWithMemory (λ s. spec.store_decided s i.now a (stored_part how) (stored_value how x (x_of i.now)) x (trips.Noted status)) result self.old self.new }
+        ensures answer { MakesWithMemory (λ s. spec.overflow_decided s i.now how a x (trips.Noted status)) result self.old self.new }
         ensures err { KeepsOnErr result self.old self.new }
         ensures there { LacksMemoryOnlyWhere (begins_page (state_of self.old) a) result }
     {
@@ -108,7 +107,7 @@ impl Machine {
     ) -> Result<(), Stop>
         requires address { a < 2 ^ 63 }
         requires handler { handler < 2 ^ 63 }
-        ensures answer { MakesWithMemory (λ s. spec.store_decided s i.now a (stored_part how) (stored_value how x (x_of i.now)) x (trips.Taken handler)) result self.old self.new }
+        ensures answer { MakesWithMemory (λ s. spec.overflow_decided s i.now how a x (trips.Taken handler)) result self.old self.new }
         ensures err { KeepsOnErr result self.old self.new }
         ensures there { LacksMemoryOnlyWhere (begins_page (state_of self.old) a) result }
     {

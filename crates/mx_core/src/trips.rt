@@ -6,7 +6,7 @@ ghost use Rattle.mx_spec.specs.SpecialRegisters.{rA};
 ghost use Rattle.mx_core.specs.Calls as spec;
 ghost use Rattle.mx_core.specs.Calls.{Makes, told_specials};
 ghost use Rattle.mx_core.specs.Deeds.{onward, tripped, with_specials};
-ghost use Rattle.mx_core.specs.Effects.{Tripping, if_told};
+ghost use Rattle.mx_core.specs.Effects.{tripping, if_told};
 ghost use Rattle.mx_core.specs.Instructions.{next_of, x_of};
 ghost use Rattle.mx_core.specs.Kept.{state_of};
 ghost use Rattle.mx_core.specs.State.{special_register, with_value_in};
@@ -77,7 +77,7 @@ impl Machine {
     /// A trip to a handler, with two operands.
     #[tactic(auto, unfolding(crate::specs::State::special_register))]
     pub(crate) fn trip(&mut self, i: &Instruction, handler: u64, y: u64, z: u64)
-        ensures { state_of self.new ≡ onward (tripped (state_of self.old) i.now (Some (record { handler = handler; y = y; z = z }))) handler }
+        ensures { state_of self.new ≡ onward (tripped (state_of self.old) i.now (Some (tripping handler y z))) handler }
     {
         let link = self.special(RJ);
         let last = self.register(255);
@@ -155,7 +155,7 @@ impl Machine {
         z: u64,
     ) -> Result<(), Stop>
         requires { handler < 2 ^ 63 }
-        ensures { Makes (λ s. spec.trip_taken s i.now (x_of i.now) a.now.x (told_specials a.now) (record { handler = handler; y = y; z = z })) result self.old self.new }
+        ensures { Makes (λ s. spec.trip_taken s i.now (x_of i.now) a.now.x (told_specials a.now) (tripping handler y z)) result self.old self.new }
     {
         if self.overfills(i.x()) {
             return Err(Stop::Stopped(Reason::StackFull));

@@ -15,5 +15,5 @@ mod tests;
 
 pub use fault::MemFault;
 pub use memory::Memory;
-pub use part::Part;
+pub use part::{Part, with_part};
 pub use space::{Space, SpaceFault};

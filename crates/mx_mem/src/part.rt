@@ -14,9 +14,9 @@ pub enum Part {
 }
 
 impl Part {
-    /// How many bits of an octa stand below the part where an address lies.
+    /// How many bits of an octa stand below the part where an address lies: a multiple of 8.
     #[inline(always)]
-    fn bits_below(self, a: u64) -> u64
+    pub fn bits_below(self, a: u64) -> u64
         ensures value { result ≡ bits_below self a }
         ensures shift { result < 64 }
     {
@@ -30,7 +30,7 @@ impl Part {
 
     /// The bits of the part, at the low end.
     #[inline(always)]
-    fn mask(self) -> u64
+    pub fn mask(self) -> u64
         ensures { result ≡ 2 ^ (8 * size_of self) - 1 }
     {
         match self {

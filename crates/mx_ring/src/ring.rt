@@ -111,6 +111,7 @@ impl Ring {
     }
 
     /// The 2^20 octas of the stack area.
+    #[inline(always)]
     pub fn stack_area(&self) -> &[u64]
         ensures value { result.now ≡ self.now.hidden.stack }
         ensures octas { (i : ℕ) → slice_index self.now.hidden.stack i < 2 ^ 64 }
@@ -392,6 +393,7 @@ fn hide_registers(hidden: &mut Hidden, visible: &Visible, s: &Saved)
 }
 
 /// Tells that each item of a slice of octas is below 2^64. It does nothing.
+#[inline(always)]
 fn know_octas(octas: &[u64])
     ensures { (i : ℕ) → slice_index octas.now i < 2 ^ 64 }
 {

@@ -1,19 +1,19 @@
 -- The stack area and the rest of memory in the contents of a machine.
-use Rattle.std.proofs.Common.{◌≡◌, ◌≢◌, ℕ, suc, zero, ◌+◌, ◌-◌, ◌*◌, ◌/◌, ◌%◌, ◌<◌, ◌≤◌, ◌^◌, nat_le, nat_lt, Bool, true, false, cond, List, [], ◌∷◌, length, get_or, arith, refl, sym, subst, ◌∙◌, ap}
-use Rattle.std.specs.Prelude.{◌&&◌, map}
+use Rattle.std.proofs.Common.{◌≡◌, ℕ, suc, zero, ◌+◌, ◌-◌, ◌*◌, ◌/◌, ◌%◌, ◌<◌, ◌^◌, Bool, true, false, cond, List, [], ◌∷◌, length, get_or, arith, refl, sym, subst, ◌∙◌, ap}
+use Rattle.std.specs.Prelude.{map}
 use Rattle.std.specs.Int.{w64, from_be_bytes}
 use Rattle.std.specs.List.{range_with_len}
 use Rattle.std.proofs.lemmas.Bool.Decides.{nat_tests}
 use Rattle.std.proofs.lemmas.Nat.{from_be_bytes-to_be_bytes_8}
 use Rattle.mx_word.specs.Octas.{byte_of, byte_in}
 use Rattle.mx_word.specs.Ranges.{AreOctas}
-use Rattle.mx_mem.specs.Space.{Contents, octa_of}
-use Rattle.mx_ring.specs.Stack.{Stack, listed, windowed, as_listed, in_stack_area, stack_address, stack_index, stack_octa, spilled_count}
-use Rattle.mx_ring.specs.Window.{Window, as_list}
-use Rattle.mx_trap.specs.Apart.{apart, with_segment}
+use Rattle.mx_mem.specs.Space.{octa_of}
+use Rattle.mx_ring.specs.Stack.{Stack, windowed, in_stack_area, stack_address, stack_index, stack_octa}
+use Rattle.mx_ring.specs.Window.{Window}
+use Rattle.mx_trap.specs.Apart.{with_segment}
 use Rattle.mx_trap.specs.Touches.{is_in_segment}
 use Rattle.mx_core.specs.Bounds.{IsMachine, as_list_state}
-use Rattle.mx_core.specs.MachineSpace.{IsWholeSpace, with_area, rest_of, machine_contents, area_in, state_in}
+use Rattle.mx_core.specs.MachineSpace.{IsWholeSpace, area_in}
 use Rattle.mx_core.specs.State.{State, octa}
 use Rattle.mx_core.proofs.Seen.{same-octa}
 use Rattle.mx_run.specs.WildRuns.{HasWindow}

@@ -1,11 +1,11 @@
 -- Runs of both machines.
-use Rattle.std.proofs.Common.{◌≡◌, ℕ, zero, suc, ◌/◌, Bool, true, false, cond, Option, None, Some, refl, ap}
+use Rattle.std.proofs.Common.{◌≡◌, ℕ, zero, suc, ◌/◌, Bool, true, false, cond, Option, None, Some, refl}
 use Rattle.mx_host.specs.HostModel.{HostModel}
 use Rattle.mx_core.specs.State.{State}
 use Rattle.mx_core.specs.declared.trace.Trace.{Trace}
 use Rattle.mx_run.specs.Runs.{FlagsOf, Ended, ended, break_of, as_ended, after_trace, after_turn, breaks_before, run}
 use Rattle.mx_run.specs.Turns.{Turn, went_on, halts, stops, turn}
-use Rattle.mx_run.specs.WildRuns.{MachineKind, window_machine, list_machine, RunEnd, run_ended, run_wild, run_by}
+use Rattle.mx_run.specs.WildRuns.{window_machine, RunEnd, run_ended, run_by}
 use Rattle.mx_run.specs.declared.end.BreakKind.{BreakKind}
 use Rattle.mx_run.specs.declared.end.BreakKind.TheVariants.{Execute}
 use Rattle.mx_run.specs.declared.end.End.TheVariants.{Broke}

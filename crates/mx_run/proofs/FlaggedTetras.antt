@@ -1,5 +1,5 @@
 -- Breaks come at tetras that have a flag.
-use Rattle.std.proofs.Common.{◌≡◌, ℕ, ◌<◌, ◌^◌, Bool, true, false, refl}
+use Rattle.std.proofs.Common.{◌≡◌, Bool, true, false, refl}
 use Rattle.std.specs.Prelude.{◌||◌}
 use Rattle.mx_run.specs.FlagMaps.{has_flag}
 use Rattle.mx_run.specs.RunSteps.{break_flag}

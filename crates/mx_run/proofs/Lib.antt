@@ -7,3 +7,4 @@ pub mod FlaggedTetras
 pub mod TurnAnswers
 pub mod RunSteps
 pub mod ListSteps
+pub mod StepCounts

@@ -9,10 +9,10 @@ use Rattle.mx_core.specs.State.{State}
 use Rattle.mx_core.specs.declared.trace.Trace.{Trace}
 use Rattle.mx_run.specs.Clauses.{GoesAsList, as_list_answer, TurnGoesAsList}
 use Rattle.mx_run.specs.FlagMaps.{flags_at}
-use Rattle.mx_run.specs.RunSteps.{end_of_trace, end_of_turn, turn_ended, run_step}
+use Rattle.mx_run.specs.RunSteps.{end_of_trace, turn_ended, run_step}
 use Rattle.mx_run.specs.Runs.{FlagsOf, Ended, ended, break_of, after_trace, after_turn, breaks_before}
 use Rattle.mx_run.specs.Turns.{Turn, went_on, halts, stops, turn, Answered, turn_answer}
-use Rattle.mx_run.specs.WildRuns.{MachineKind, list_machine, RunEnd, run_ended, run_wild, turn_is_wild, run_by, HasWindow, as_list_turn, state_after}
+use Rattle.mx_run.specs.WildRuns.{list_machine, RunEnd, run_ended, run_wild, turn_is_wild, run_by, HasWindow, as_list_turn, state_after}
 use Rattle.mx_run.specs.declared.end.BreakKind.{BreakKind}
 use Rattle.mx_run.specs.declared.end.BreakKind.TheVariants.{Execute}
 use Rattle.mx_run.specs.declared.end.End.{End}

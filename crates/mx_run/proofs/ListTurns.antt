@@ -1,15 +1,14 @@
 -- A turn that is not wild goes the same for a window and for the list that it stands for.
-use Rattle.std.proofs.Common.{◌≡◌, ℕ, ◌+◌, ◌%◌, ◌≤◌, ◌^◌, Bool, true, false, cond, List, [], length, arith, refl, sym, subst, ◌∙◌, ap}
-use Rattle.std.specs.Prelude.{◌||◌, ◌&&◌, not}
+use Rattle.std.proofs.Common.{◌≡◌, ℕ, ◌%◌, ◌≤◌, ◌^◌, Bool, true, false, cond, List, [], arith, refl, sym, subst, ◌∙◌, ap}
+use Rattle.std.specs.Prelude.{◌||◌}
 use Rattle.std.proofs.lemmas.Bool.Decides.{nat_tests}
 use Rattle.mx_host.specs.HostModel.{HostModel}
 use Rattle.mx_mem.specs.Space.{Contents, octa_of}
 use Rattle.mx_word.specs.Octas.{byte_in}
 use Rattle.mx_word.specs.Ranges.{AreOctas}
-use Rattle.mx_ring.specs.Stack.{Stack, listed, windowed, as_listed, in_stack_area, spilled_count, register}
+use Rattle.mx_ring.specs.Stack.{Stack, listed, windowed, as_listed, in_stack_area, spilled_count}
 use Rattle.mx_ring.specs.Window.{Window, as_list}
 use Rattle.mx_trip.specs.declared.call.TrapCall.{TrapCall}
-use Rattle.mx_trap.specs.Answers.{stop_number}
 use Rattle.mx_trap.specs.Apart.{apart, leaves_apart, with_segment}
 use Rattle.mx_trap.specs.FileTraps.{trap_answer}
 use Rattle.mx_trap.specs.Moves.{Leaves}
@@ -24,13 +23,12 @@ use Rattle.mx_core.specs.State.{State, octa}
 use Rattle.mx_core.specs.Step.{Stepped, went, calls, stopped, step}
 use Rattle.mx_core.specs.Traps.{trapped, trap_trace, halted}
 use Rattle.mx_core.specs.Wild.{is_wild}
-use Rattle.mx_core.specs.declared.trace.Trace.{Trace}
 use Rattle.mx_core.proofs.Changed.{trapped-listed}
 use Rattle.mx_core.proofs.KeptMachines.{step-touches}
 use Rattle.mx_core.proofs.SameSteps.{step-listed}
 use Rattle.mx_core.proofs.SameWild.{same-wild}
 use Rattle.mx_core.proofs.Seen.{same-octa, same-register}
-use Rattle.mx_run.specs.Turns.{Turn, went_on, halts, stops, area_size, with_touch_if, turn_with, trap_turn, turn_of, turn}
+use Rattle.mx_run.specs.Turns.{Turn, went_on, halts, area_size, with_touch_if, turn_with, trap_turn, turn_of, turn}
 use Rattle.mx_run.specs.WildRuns.{trap_touches, turn_is_wild, as_list_turn, state_after}
 use Rattle.mx_run.proofs.Areas.{own-bytes, same-area, beside-octa}
 

@@ -1,5 +1,5 @@
 -- A run only adds to standard output.
-use Rattle.std.proofs.Common.{◌≡◌, ℕ, zero, suc, ◌/◌, Bool, true, false, cond, List, Option, None, Some, refl}
+use Rattle.std.proofs.Common.{ℕ, zero, suc, ◌/◌, Bool, true, false, cond, List, Option, None, Some}
 use Rattle.std.specs.Prelude.{◌&&◌, not}
 use Rattle.mx_word.specs.Lists.{IsFront}
 use Rattle.mx_word.proofs.Fronts.{front-self, front-through}
@@ -16,7 +16,7 @@ use Rattle.mx_core.specs.State.{State}
 use Rattle.mx_core.specs.Step.{Stepped, went, calls, stopped, step}
 use Rattle.mx_core.specs.declared.trace.Trace.{Trace}
 use Rattle.mx_run.specs.Runs.{FlagsOf, Ended, ended, break_of, as_ended, after_trace, after_turn, run}
-use Rattle.mx_run.specs.Turns.{Turn, went_on, halts, stops, area_size, turn_with, trap_turn, turn_of, turn}
+use Rattle.mx_run.specs.Turns.{Turn, went_on, halts, stops, area_size, turn_with, turn_of, turn}
 use Rattle.mx_run.specs.WildRuns.{host_after}
 use Rattle.mx_run.specs.declared.end.BreakKind.{BreakKind}
 use Rattle.mx_run.specs.declared.end.BreakKind.TheVariants.{Execute}

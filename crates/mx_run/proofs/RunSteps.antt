@@ -9,7 +9,6 @@ use Rattle.mx_core.specs.State.{State}
 use Rattle.mx_core.specs.Step.{Stepped, went, calls, stopped, step}
 use Rattle.mx_core.specs.Stepping.{advanced}
 use Rattle.mx_core.specs.declared.reason.Reason.{Reason}
-use Rattle.mx_core.specs.declared.step.Advance.{Advance}
 use Rattle.mx_core.specs.declared.step.Advance.TheVariants as advance
 use Rattle.mx_core.specs.declared.trace.Touch.{Touch}
 use Rattle.mx_core.specs.declared.trace.Trace.{Trace}
@@ -114,12 +113,12 @@ went-free : (s t : State) (m : HostModel) → (advance.Went, t) ≡ advanced s (
 unfolding run_step turn
 went-free s t m e = free-by s t m (step s) e
 
-stop-by : (s t : State) (m : HostModel) (reason : Reason) (x : Stepped) → (advance.Stopped reason, t) ≡ advanced s x → (Err (Stopped s.pc (number_of reason)), t, m) ≡ turn_ended (flags_at []) s.pc (turn_answer (turn_of s m x))
+stop-by : (s t : State) (m : HostModel) (reason : Reason) (x : Stepped) → (advance.Stopped reason, t) ≡ advanced s x → (Err (Stopped t.pc (number_of reason)), t, m) ≡ turn_ended (flags_at []) s.pc (turn_answer (turn_of s m x))
 stop-by s t m reason (went u trace) e = let first : advance.Stopped reason ≡ advance.Went = ap (λ p. p.0) e in absurd (cc)
 stop-by s t m reason (calls call) e = let first : advance.Stopped reason ≡ advance.Trap = ap (λ p. p.0) e in absurd (cc)
 stop-by s t m reason (stopped other) e = let same : t ≡ s = ap (λ p. p.1) e in let first : advance.Stopped reason ≡ advance.Stopped other = ap (λ p. p.0) e in let why : reason ≡ other = cc in rw (same, why) refl
 
-stopped-free : (s t : State) (m : HostModel) (reason : Reason) → (advance.Stopped reason, t) ≡ advanced s (step s) → (Err (Stopped s.pc (number_of reason)), t, m) ≡ run_step (flags_at []) true s m
+stopped-free : (s t : State) (m : HostModel) (reason : Reason) → (advance.Stopped reason, t) ≡ advanced s (step s) → (Err (Stopped t.pc (number_of reason)), t, m) ≡ run_step (flags_at []) true s m
 unfolding run_step turn
 stopped-free s t m reason e = stop-by s t m reason (step s) e
 
@@ -127,7 +126,7 @@ stopped-free s t m reason e = stop-by s t m reason (step s) e
 pub free-went : (entries : List (ℕ × Flags)) (s t : State) (m : HostModel) → entries ≡ [] → (advance.Went, t) ≡ advanced s (step s) → (Ok tt, t, m) ≡ run_step (flags_at entries) true s m
 free-went entries s t m h e = went-free s t m e ∙ ap (λ es. run_step (flags_at es) true s m) (sym h)
 
-pub free-stopped : (entries : List (ℕ × Flags)) (s t : State) (m : HostModel) (reason : Reason) → entries ≡ [] → (advance.Stopped reason, t) ≡ advanced s (step s) → (Err (Stopped s.pc (number_of reason)), t, m) ≡ run_step (flags_at entries) true s m
+pub free-stopped : (entries : List (ℕ × Flags)) (s t : State) (m : HostModel) (reason : Reason) → entries ≡ [] → (advance.Stopped reason, t) ≡ advanced s (step s) → (Err (Stopped t.pc (number_of reason)), t, m) ≡ run_step (flags_at entries) true s m
 free-stopped entries s t m reason h e = stopped-free s t m reason e ∙ ap (λ es. run_step (flags_at es) true s m) (sym h)
 
 same-by : (s t : State) (x : Stepped) → (advance.Trap, t) ≡ advanced s x → t ≡ s

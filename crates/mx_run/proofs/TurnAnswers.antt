@@ -1,8 +1,7 @@
 -- What a turn answers.
-use Rattle.std.proofs.Common.{◌≡◌, ℕ, ◌^◌, Bool, true, false, List, refl, sym, ◌∙◌, ap}
-use Rattle.std.specs.Prelude.{◌||◌, ◌&&◌}
+use Rattle.std.proofs.Common.{◌≡◌, ℕ, Bool, true, false, List, refl, sym, ◌∙◌, ap}
+use Rattle.std.specs.Prelude.{◌||◌}
 use Rattle.mx_word.specs.Lists.{IsFront}
-use Rattle.mx_word.proofs.Fronts.{front-self}
 use Rattle.mx_host.specs.HostModel.{HostModel}
 use Rattle.mx_trip.specs.declared.call.TrapCall.{TrapCall}
 use Rattle.mx_trap.specs.FileTraps.{trap_answer}
@@ -10,20 +9,18 @@ use Rattle.mx_trap.specs.Moves.{Leaves}
 use Rattle.mx_trap.specs.Touches.{touches}
 use Rattle.mx_trap.specs.declared.answer.TrapAnswer.{TrapAnswer}
 use Rattle.mx_trap.specs.declared.answer.TrapAnswer.TheVariants as trap
-use Rattle.mx_core.specs.MachineSpace.{machine_contents, state_in, IsWholeSpace}
+use Rattle.mx_core.specs.MachineSpace.{machine_contents, IsWholeSpace}
 use Rattle.mx_core.specs.Reasons.{number_of}
 use Rattle.mx_core.specs.State.{State}
 use Rattle.mx_core.specs.Step.{Stepped, went, calls, stopped, step}
 use Rattle.mx_core.specs.Stepping.{step_answer}
 use Rattle.mx_core.specs.Traps.{with_touch}
 use Rattle.mx_core.specs.declared.reason.Reason.{Reason}
-use Rattle.mx_core.specs.declared.step.Step.{Step}
 use Rattle.mx_core.specs.declared.step.Step.TheVariants as made
 use Rattle.mx_core.specs.declared.trace.Trace.{Trace}
 use Rattle.mx_core.proofs.SpaceStates.{told}
 use Rattle.mx_run.specs.RunSteps.{state_left}
-use Rattle.mx_run.specs.Turns.{Answered, turn_answer, Turn, went_on, halts, stops, area_size, with_touch_if, turn_with, trap_turn, turn_of, turn}
-use Rattle.mx_run.specs.declared.turn_answer.TurnAnswer.{TurnAnswer}
+use Rattle.mx_run.specs.Turns.{Answered, turn_answer, Turn, went_on, halts, stops, with_touch_if, turn_with, trap_turn, turn_of, turn}
 use Rattle.mx_run.specs.declared.turn_answer.TurnAnswer.TheVariants as answer
 use Rattle.mx_run.specs.WildRuns.{host_after}
 use Rattle.mx_run.proofs.Outputs.{turn-front}

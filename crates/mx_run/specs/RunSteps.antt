@@ -1,5 +1,5 @@
 -- A step of a run: what it answers and leaves, and whether the run ends with it.
-use Rattle.std.specs.Prelude.{ℕ, ◌/◌, ◌*◌, ◌&&◌, not, Bool, if◌then◌else◌, Option, None, Some, Result, Ok, Err}
+use Rattle.std.specs.Prelude.{ℕ, ◌/◌, ◌*◌, Bool, if◌then◌else◌, Option, None, Some, Result, Ok, Err}
 use Rattle.mx_host.specs.HostModel.{HostModel}
 use Rattle.mx_trap.specs.Moves.{Leaves}
 use Rattle.mx_trap.specs.declared.answer.TrapAnswer.{TrapAnswer}

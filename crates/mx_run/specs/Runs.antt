@@ -1,6 +1,6 @@
 -- Runs: steps one after another, up to a bound, with breaks and traced steps (MMIXware, the part on MMIX-SIM, the
 -- commands `b`, `t` and `c`).
-use Rattle.std.specs.Prelude.{ℕ, zero, suc, ◌+◌, ◌*◌, ◌/◌, ◌&&◌, not, Bool, true, false, if◌then◌else◌, nat_lt, Option, None, Some}
+use Rattle.std.specs.Prelude.{ℕ, zero, suc, ◌≡◌, ◌≤◌, ◌+◌, ◌*◌, ◌/◌, ◌%◌, ◌^◌, ◌&&◌, not, Bool, false, if◌then◌else◌, nat_lt, Option, None, Some}
 use Rattle.mx_host.specs.HostModel.{HostModel}
 use Rattle.mx_core.specs.State.{State}
 use Rattle.mx_core.specs.declared.trace.Touch.{Touch}
@@ -85,3 +85,7 @@ step_of_run more f pass s m =
 unfoldable pub run : ℕ → FlagsOf → Bool → State → HostModel → Ended
 run zero f pass s m = ended Spent s m
 run (suc n) f pass s m = step_of_run (run n f false) f pass s m
+
+-- the count of steps, which is one modulo 2^64, is up to n more
+abbrev pub IsLater : ℕ → State → State → Type 0
+IsLater n s t = (k : ℕ) × (k ≤ n) × (t.steps % 2 ^ 64 ≡ (s.steps + k) % 2 ^ 64)

@@ -1,7 +1,6 @@
 -- A step of the machine over a host: an instruction, or a file trap as a whole.
 use Rattle.std.specs.Prelude.{ℕ, ◌%◌, ◌^◌, ◌||◌, ◌&&◌, Bool, true, false}
 use Rattle.mx_host.specs.HostModel.{HostModel}
-use Rattle.mx_mem.specs.Space.{Contents}
 use Rattle.mx_ring.specs.Stack.{register}
 use Rattle.mx_trip.specs.declared.call.TrapCall.{TrapCall}
 use Rattle.mx_trap.specs.Answers.{stop_number}

@@ -43,7 +43,13 @@ pub fn go_by_flags<H: Host>(
 }
 
 /// Makes at most n steps, where no tetra has a flag.
-pub fn go_freely<H: Host>(alloc: Global, machine: &mut Machine, flags: &FlagMap, host: &mut H, n: u64) -> End
+pub fn go_freely<H: Host>(
+    alloc: Global,
+    machine: &mut Machine,
+    flags: &FlagMap,
+    host: &mut H,
+    n: u64,
+) -> End
     requires { flags.now ≡ [] }
     ensures told { EndsAs (H.told host.old) (H.told host.new) (state_of machine.old) (state_of machine.new) result
         (λ s m. spec.run n (flags_at flags.now) true s m) }

@@ -9,7 +9,7 @@ ghost use Rattle.mx_word.specs.Lists.{IsFront};
 ghost use Rattle.mx_word.specs.Ranges.{AreOctas};
 ghost use Rattle.mx_core.specs.Bounds.{IsMachine, as_list_state};
 ghost use Rattle.mx_core.specs.State.{State};
-ghost use Rattle.mx_run.specs.Runs.{FlagsOf, run};
+ghost use Rattle.mx_run.specs.Runs.{FlagsOf, run, IsLater};
 ghost use Rattle.mx_run.specs.Turns.{turn};
 ghost use Rattle.mx_run.specs.WildRuns.{turn_is_wild, as_list_turn, state_after, run_by, run_ended, window_machine};
 
@@ -38,4 +38,10 @@ pub fn windows_are_never_wild()
 pub fn runs_add_to_output()
     ensures { (n : ℕ) (f : FlagsOf) (pass : Bool) (s : State) (m : HostModel)
         → IsFront m.output (run n f pass s m).host.output }
+{}
+
+/// A run of at most n steps adds at most n to the count of steps.
+#[tactic(auto, using(crate::proofs::StepCounts::counts))]
+pub fn runs_make_at_most()
+    ensures { (n : ℕ) (f : FlagsOf) (pass : Bool) (s : State) (m : HostModel) → IsLater n s (run n f pass s m).state }
 {}

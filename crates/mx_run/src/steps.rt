@@ -56,7 +56,12 @@ fn breaks_before(flags: &FlagMap, pc: u64, pass: bool) -> bool
 
 /// A turn, and whether the run ends with it.
 #[tactic(auto, using(crate::proofs::RunSteps::ending))]
-fn turn_and_end<H: Host>(alloc: Global, machine: &mut Machine, flags: &FlagMap, host: &mut H) -> Result<(), End>
+fn turn_and_end<H: Host>(
+    alloc: Global,
+    machine: &mut Machine,
+    flags: &FlagMap,
+    host: &mut H,
+) -> Result<(), End>
     ensures told { LeavesMachine (H.told host.old) (H.told host.new) (state_of machine.old) (state_of machine.new)
         (Err End.OutOfMemory) result
         (λ s m. spec.turn_ended (flags_at flags.now) s.pc (turns.turn_answer (turns.turn s m))) }
@@ -73,7 +78,12 @@ fn turn_and_end<H: Host>(alloc: Global, machine: &mut Machine, flags: &FlagMap, 
 /// A step of a run without flags, or the end of the run. No trace is made but for a file trap.
 #[inline(always)]
 #[tactic(auto, using(crate::proofs::RunSteps::freely))]
-pub fn free_step<H: Host>(alloc: Global, machine: &mut Machine, flags: &FlagMap, host: &mut H) -> Result<(), End>
+pub fn free_step<H: Host>(
+    alloc: Global,
+    machine: &mut Machine,
+    flags: &FlagMap,
+    host: &mut H,
+) -> Result<(), End>
     requires { flags.now ≡ [] }
     ensures told { LeavesMachine (H.told host.old) (H.told host.new) (state_of machine.old) (state_of machine.new)
         (Err End.OutOfMemory) result (λ s m. spec.run_step (flags_at flags.now) true s m) }
@@ -83,12 +93,11 @@ pub fn free_step<H: Host>(alloc: Global, machine: &mut Machine, flags: &FlagMap,
     ensures keeps { Keeps (H.told host.old) (H.told host.new) (H.faults host.old) (H.faults host.new) }
 {
     know_window(machine);
-    let pc = machine.pc();
     match machine.advance() {
         Advance::Went => Ok(()),
         Advance::Trap => run_step(alloc, machine, flags, host, true),
         Advance::Stopped(reason) => Err(End::Stopped {
-            pc,
+            pc: machine.pc(),
             reason: reason.number(),
         }),
         Advance::OutOfMemory => Err(End::OutOfMemory),

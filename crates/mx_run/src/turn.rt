@@ -43,7 +43,12 @@ pub fn turn<H: Host>(alloc: Global, machine: &mut Machine, host: &mut H) -> Turn
 
 /// A file trap as a whole.
 #[tactic(auto, using(crate::proofs::TurnAnswers::traps))]
-fn trap_turn<H: Host>(alloc: Global, machine: &mut Machine, host: &mut H, call: &TrapCall) -> TurnAnswer
+fn trap_turn<H: Host>(
+    alloc: Global,
+    machine: &mut Machine,
+    host: &mut H,
+    call: &TrapCall,
+) -> TurnAnswer
     ensures told { LeavesMachine (H.told host.old) (H.told host.new) (state_of machine.old) (state_of machine.new)
         TurnAnswer.OutOfMemory result (λ s m. turn_answer (spec.trap_turn (touching.touches (machine_contents s).bytes
         call.now) call.now (trap_answer (machine_contents s) m call.now))) }
@@ -59,7 +64,12 @@ fn trap_turn<H: Host>(alloc: Global, machine: &mut Machine, host: &mut H, call: 
 
 /// Carries out a file trap on the machine's memory.
 #[tactic(auto, using(crate::proofs::TurnAnswers::spaces))]
-fn carry_out<H: Host>(alloc: Global, machine: &mut Machine, host: &mut H, call: &TrapCall) -> TrapAnswer
+fn carry_out<H: Host>(
+    alloc: Global,
+    machine: &mut Machine,
+    host: &mut H,
+    call: &TrapCall,
+) -> TrapAnswer
     ensures told { LeavesMachine (H.told host.old) (H.told host.new) (state_of machine.old) (state_of machine.new)
         TrapAnswer.OutOfMemory result (λ s m. state_left (trap_answer (machine_contents s) m call.now)) }
     ensures front { LeavesFront (H.told host.old) (H.told host.new) (state_of machine.old)
@@ -77,6 +87,8 @@ fn finish(machine: &mut Machine, call: &TrapCall, looks: bool, answer: TrapAnswe
         ≡ turn_answer (spec.turn_with looks call.now (state_of machine.old) m answer) }
     ensures memory { result ≡ TurnAnswer.OutOfMemory → answer ≡ TrapAnswer.OutOfMemory }
     ensures unmade { answer ≡ TrapAnswer.OutOfMemory → result ≡ TurnAnswer.OutOfMemory }
+    ensures touch { answer ≡ TrapAnswer.OutOfMemory
+        → state_of machine.new ≡ spec.with_touch_if looks (state_of machine.old) }
 {
     match answer {
         TrapAnswer::Value(value) => TurnAnswer::Went(complete(machine, call, looks, value)),
@@ -85,7 +97,10 @@ fn finish(machine: &mut Machine, call: &TrapCall, looks: bool, answer: TrapAnswe
             note_where(machine, looks && why == TrapStop::TrapPagesFull);
             TurnAnswer::Stopped(why.number())
         }
-        TrapAnswer::OutOfMemory => TurnAnswer::OutOfMemory,
+        TrapAnswer::OutOfMemory => {
+            note_where(machine, looks);
+            TurnAnswer::OutOfMemory
+        }
     }
 }
 

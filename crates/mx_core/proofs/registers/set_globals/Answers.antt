@@ -1,6 +1,6 @@
-use Rattle.std.proofs.Common.{arith, sym, ap, ◌∙◌}
+use Rattle.std.proofs.Common.{arith}
 use Rattle.mx_load.specs.Kept.{image_of}
-use Rattle.mx_core.proofs.StartRegisters.{Filled, globals-begun, globals-fit, globals-next, globals-filled}
+use Rattle.mx_core.proofs.StartRegisters.{globals-begun, globals-fit, globals-next, globals-filled}
 use Rattle.mx_core.proofs.registers.set_globals.Goals as goal
 
 pub loop-k-init : goal.loop-k-init

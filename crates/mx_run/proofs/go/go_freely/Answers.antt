@@ -1,5 +1,4 @@
 use Rattle.std.proofs.Common.{sym, ◌∙◌, subst, ap, Err, IsTrue, true, false}
-use Rattle.mx_word.proofs.Fronts.{front-of}
 use Rattle.mx_host.specs.HostModel.{contents}
 use Rattle.mx_host.proofs.Keeping.{keeps-all, keeps-then}
 use Rattle.mx_core.specs.Kept.{state_of}

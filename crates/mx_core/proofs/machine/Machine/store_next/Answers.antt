@@ -1,4 +1,3 @@
-use Rattle.std.proofs.Common.{arith}
 use Rattle.mx_core.specs.Kept.{state_of}
 use Rattle.mx_core.proofs.Starts.{stored-negative, stored-some, stored-none}
 use Rattle.mx_core.proofs.machine.Machine.store_next.Goals as goal
