@@ -1,7 +1,7 @@
 -- Laws of dumps.
-use Rattle.std.proofs.Common.{◌≡◌, ◌≤◌, ◌<◌, ℕ, ◌+◌, ◌*◌, ◌/◌, arith, sym, ◌∙◌, ap}
+use Rattle.std.proofs.Common.{◌≡◌, ◌≤◌, ◌<◌, ℕ, ◌+◌, ◌*◌, ◌/◌, arith, ◌∙◌, ap}
 use Rattle.mx_core.specs.State.{State, octa}
-use Rattle.mx_top.specs.Dump.{octa_line, octa_lines}
+use Rattle.mx_top.specs.Dump.{octa_lines}
 use Rattle.mx_top.proofs.Dumps.{zero-hidden}
 use Rattle.mx_top.proofs.DumpLines.{lines-skipped}
 use Rattle.mx_top.proofs.SameDumps.{same-dump}

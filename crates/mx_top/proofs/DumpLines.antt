@@ -1,5 +1,5 @@
 -- The lines of a dump, in turn.
-use Rattle.std.proofs.Common.{◌≡◌, ◌≢◌, ◌≤◌, ◌<◌, ℕ, zero, suc, ◌+◌, ◌-◌, ◌*◌, ◌/◌, ◌%◌, ◌^◌, Bool, true, false, List, [], ◌∷◌, ◌++◌, Option, None, Some, Result, Ok, Err, arith, refl, sym, ◌∙◌, ap, subst, append-nil, append_assoc, add-zero}
+use Rattle.std.proofs.Common.{◌≡◌, ◌≢◌, ◌≤◌, ℕ, zero, suc, ◌+◌, ◌-◌, ◌*◌, ◌/◌, ◌%◌, ◌^◌, Bool, true, List, [], ◌∷◌, ◌++◌, Option, Some, Result, Ok, arith, refl, sym, ◌∙◌, ap, subst, append-nil, append_assoc, add-zero}
 use Rattle.std.specs.List.{flat_map, range_with_len}
 use Rattle.mx_word.specs.declared.no_memory.NoMemory.{NoMemory}
 use Rattle.mx_host.specs.HostModel.{HostModel}

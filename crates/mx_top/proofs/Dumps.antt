@@ -1,13 +1,13 @@
 -- The octas that a dump shows.
-use Rattle.std.proofs.Common.{IsTrue, ◌≡◌, ◌≢◌, ◌≤◌, ◌<◌, ◌⊎◌, inl, inr, ℕ, zero, suc, ◌+◌, ◌-◌, ◌*◌, ◌/◌, ◌%◌, ◌^◌, ◌==◌, ◌&&◌, ◌||◌, not, nat_lt, nat_le, Bool, true, false, cond, List, [], ◌∷◌, ◌++◌, codes, Option, None, Some, arith, refl, sym, ◌∙◌, ap, subst, append-nil}
+use Rattle.std.proofs.Common.{◌≡◌, ◌≢◌, ◌≤◌, ◌<◌, ◌⊎◌, inl, inr, ℕ, ◌%◌, ◌^◌, ◌==◌, ◌&&◌, ◌||◌, not, Bool, true, false, cond, List, [], ◌∷◌, Option, None, Some, arith, refl, ap, codes}
 use Rattle.std.proofs.lemmas.Bool.{cases_lt}
 use Rattle.std.proofs.lemmas.Bool.Decides.{nat_tests}
 use Rattle.mx_word.proofs.Comparisons.{other-test}
 use Rattle.mx_core.specs.Search.{AreZero, IsNextBetween}
 use Rattle.mx_core.specs.State.{State, octa}
 use Rattle.mx_ring.specs.Stack.{in_stack_area, stack_address}
-use Rattle.mx_text.specs.Numbers.{hex_text}
-use Rattle.mx_top.specs.Dump.{Line, is_address_shown, named_octa, octa_line, octa_lines, octa_count}
+use Rattle.mx_text.specs.Numbers.{hex_digits}
+use Rattle.mx_top.specs.Dump.{named_octa, Line, is_address_shown, octa_line}
 use Rattle.mx_top.specs.Shown.{AreHidden, IsNextShown, shown_octa}
 
 -- ---- one octa
@@ -86,3 +86,12 @@ next-above s from a x (Some (b, y)) h hidden k =
     )
 
 pub ruleset showing = (next-none, next-there, next-above)
+
+-- lines of a dump
+row-register : named_octa (codes "$255") 33923 ≡ codes "$255=#0000000000008483\n"
+unfolding hex_digits
+row-register = refl
+
+row-octa : shown_octa 0x2000_0000_0000_0000 0xfeed ≡ codes "M#2000000000000000=#000000000000feed\n"
+unfolding hex_digits
+row-octa = refl

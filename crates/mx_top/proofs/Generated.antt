@@ -1,5 +1,5 @@
 -- The blocks of a generated source, in turn.
-use Rattle.std.proofs.Common.{◌≡◌, ℕ, suc, ◌+◌, List, [], ◌++◌, arith, append_assoc, append-nil, refl, sym, ap, ◌∙◌}
+use Rattle.std.proofs.Common.{◌≡◌, ℕ, suc, ◌+◌, List, ◌++◌, arith, append_assoc, append-nil, refl, sym, ap, ◌∙◌}
 use Rattle.mx_top.specs.Generator.{random, next_random, depth, increment, block_with, blocks}
 
 pub random-none : random 0 ≡ 0
@@ -29,3 +29,14 @@ blocks-next i x start text more e f g =
     ∙ ap (λ k. start ++ blocks k) (sym one)
 
 pub ruleset blocking = (random-none, random-next, blocks-none, blocks-next)
+
+-- the first block of every source
+first-number : random 1 ≡ 0x14057b7ef767814f
+unfolding random
+first-number = refl
+
+first-depth : depth 0x14057b7ef767814f ≡ 40
+first-depth = refl
+
+first-increment : increment 0x14057b7ef767814f ≡ 33103
+first-increment = refl

@@ -1,5 +1,5 @@
 -- Lines that are loaded one after another.
-use Rattle.std.proofs.Common.{◌≡◌, ℕ, ◌+◌, List, [], ◌∷◌, refl, Ok, Err}
+use Rattle.std.proofs.Common.{◌≡◌, ℕ, ◌+◌, List, [], ◌∷◌, length, arith, refl, Ok, Err}
 use Rattle.std.specs.Prelude.{Result}
 use Rattle.mx_line.specs.Lines.{lines_of}
 use Rattle.mx_line.specs.Pieces.{split}
@@ -16,8 +16,9 @@ pub lines-refused : (line : ℕ) (source rest : List ℕ) (text : List ℕ) (s :
 unfolding lines_loaded
 lines-refused line source rest text s refusal es e = rw (es, ← e) refl
 
-pub lines-none : (line : ℕ) (source : List ℕ) (s : Standing) → source ≡ [] → lines_loaded line (lines_of source) s ≡ Ok s
+pub lines-none : (line : ℕ) (source : List ℕ) (s : Standing) → length source ≡ 0 → lines_loaded line (lines_of source) s ≡ Ok s
 unfolding lines_loaded lines_of split
-lines-none line source s e = rw e refl
+lines-none line [] s e = refl
+lines-none line (b ∷ bs) s e = absurd (omega arith)
 
 pub ruleset lines = (lines-next, lines-refused, lines-none)

@@ -1,5 +1,5 @@
 -- What arguments take in the pool.
-use Rattle.std.proofs.Common.{◌≡◌, ◌≤◌, ◌<◌, ℕ, suc, ◌+◌, ◌-◌, ◌*◌, ◌/◌, ◌^◌, Bool, true, nat_lt, List, [], ◌∷◌, ◌++◌, length, map, get_or, take, drop, replicate, slice_get, unwrap_or, arith, length-append, refl, sym, subst, ap, ◌∙◌}
+use Rattle.std.proofs.Common.{◌≡◌, ◌≤◌, ◌<◌, ℕ, suc, ◌+◌, ◌-◌, ◌*◌, ◌^◌, true, nat_lt, List, [], ◌∷◌, ◌++◌, length, map, get_or, take, drop, replicate, slice_get, unwrap_or, codes, arith, length-append, refl, sym, subst, ap, ◌∙◌}
 use Rattle.std.specs.List.{flat_map, sum_by}
 use Rattle.std.proofs.lemmas.List.{length-replicate}
 use Rattle.std.proofs.lemmas.List.Concat.{flat_map-cons}
@@ -10,7 +10,7 @@ use Rattle.std.specs.Option.{option_map}
 use Rattle.std.proofs.lemmas.List.{drop-map}
 use Rattle.std.proofs.lemmas.List.{take_all}
 use Rattle.mx_top.specs.Arguments.{program_name}
-use Rattle.mx_core.specs.Start.{pool, text_size, text_octas, text_addresses, first_text, texts_end, pool_octas}
+use Rattle.mx_core.specs.Start.{pool, text_size, text_octas, text_addresses, first_text, pool_octas}
 use Rattle.mx_mmo.specs.Reading.{octas_of}
 use Rattle.mx_ring.specs.Stack.{stack_address}
 
@@ -74,5 +74,18 @@ module _ {W : Type 0} (f : W → List ℕ) where
   arguments-there words rest i n w items l e d h =
       h ∙ ap (λ r. program_name (f w) ∷ map f r) d ∙ ap (λ r. program_name (f w) ∷ r) (sym (drop-map f n words))
       ∙ ap (λ x. program_name x ∷ drop n (map f words)) (sym (word-there words i w l e))
+
+-- names of files, and argument 0
+row-source : program_name (codes "dir/a.mms") ≡ codes "dir/a"
+row-source = refl
+
+row-object : program_name (codes "a.mms.mmo") ≡ codes "a.mms"
+row-object = refl
+
+row-other : program_name (codes "a.mmx") ≡ codes "a.mmx"
+row-other = refl
+
+row-short : program_name (codes "mms") ≡ codes "mms"
+row-short = refl
 
 pub ruleset pooling = (pool-done, room-more)

@@ -1,5 +1,5 @@
 -- Lines are written in turn.
-use Rattle.std.proofs.Common.{IsTrue, ◌≡◌, ◌≢◌, ◌≤◌, ◌<◌, ◌⊎◌, inl, inr, ℕ, ◌+◌, List, [], ◌∷◌, ◌++◌, length, take, drop, get_or, append-nil, zero-add, Bool, true, false, cond, Option, arith, refl, sym, ◌∙◌, ap, subst}
+use Rattle.std.proofs.Common.{IsTrue, ◌≡◌, ◌≢◌, ◌≤◌, ◌<◌, inl, inr, ℕ, ◌+◌, List, [], ◌∷◌, ◌++◌, take, drop, get_or, append-nil, zero-add, Bool, true, false, cond, Option, arith, refl, sym, ◌∙◌, ap, subst}
 use Rattle.std.specs.Prelude.{Result, Ok, Err, IfOk, OnErr}
 use Rattle.std.specs.List.{flat_map, range_with_len}
 use Rattle.std.proofs.lemmas.List.FromFn.{length-range_with_len, get_or-range_with_len}
@@ -69,7 +69,7 @@ pub puts-then : (a b c : Option HostModel) (k m n : ℕ) (r : Result Bool NoMemo
     Puts a b k m (Ok true) xs → Puts b c m n r ys → Puts a c k n r (xs ++ ys)
 puts-then a b c k m n r xs ys first second =
     let whole : IsTrue (tells a) → lines_put (xs ++ ys) (contents a) ≡ lines_put ys (contents b) =
-        λ t. lines-append xs ys (contents a) ∙ ap (pieces_after (lines_put ys)) (sym (first.told t)) in
+    λ t. lines-append xs ys (contents a) ∙ ap (pieces_after (lines_put ys)) (sym (first.told t)) in
     record {
       told = λ t. subst (λ p. IfOk r (λ written. (written, contents c) ≡ p)) (sym (whole t)) (second.told (tells-then a b first.keeps.telling t));
       memory = λ t. subst (λ (p : Then Bool). OnErr r (IsFront (contents c).output p.1.output)) (sym (whole t)) (second.memory (tells-then a b first.keeps.telling t));

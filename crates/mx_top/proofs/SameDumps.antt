@@ -1,12 +1,12 @@
 -- A machine over a window and the one over the list that it stands for have the same dump, where nothing was touched.
-use Rattle.std.proofs.Common.{◌≡◌, ◌≤◌, ◌<◌, ℕ, zero, suc, ◌+◌, ◌*◌, ◌%◌, ◌==◌, ◌&&◌, ◌||◌, not, nat_lt, nat_le, Bool, true, false, cond, List, [], ◌∷◌, ◌++◌, length, codes, decimal, refl, sym, ◌∙◌, ap}
+use Rattle.std.proofs.Common.{◌≡◌, ℕ, zero, suc, ◌*◌, ◌==◌, ◌&&◌, ◌||◌, not, nat_lt, nat_le, Bool, true, false, cond, List, [], ◌∷◌, ◌++◌, length, codes, decimal, refl, sym, ◌∙◌, ap}
 use Rattle.std.specs.List.{flat_map, range_with_len}
 use Rattle.std.proofs.lemmas.List.Concat.{flat_map-cons}
 use Rattle.mx_core.specs.Bounds.{as_list_state}
-use Rattle.mx_core.specs.State.{State, special_register, octa}
+use Rattle.mx_core.specs.State.{State}
 use Rattle.mx_core.proofs.Seen.{same-visible, same-register, same-special, same-octa}
 use Rattle.mx_ring.specs.Registers.{Registers}
-use Rattle.mx_ring.specs.Stack.{as_listed, visible, register, in_stack_area}
+use Rattle.mx_ring.specs.Stack.{as_listed, register, in_stack_area}
 use Rattle.mx_spec.specs.SpecialRegisters.{rS}
 use Rattle.mx_text.specs.Numbers.{hex_text}
 use Rattle.mx_top.specs.Dump.{Line, named_octa, special_name, special_line, special_lines, register_line, register_lines, is_register_shown, is_address_shown, octa_line, octa_lines, octa_count, dump_lines}

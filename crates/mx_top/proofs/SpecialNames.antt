@@ -1,5 +1,5 @@
 -- The names of the special registers, by computing.
-use Rattle.std.proofs.Common.{ℕ, ◌<◌, ◌≡◌, List, [], map, get_or, unwrap_or, slice_get, sym, ◌∙◌, ap, refl, Bor}
+use Rattle.std.proofs.Common.{ℕ, ◌≡◌, List, [], map, get_or, sym, ◌∙◌, ap, refl, Bor, codes}
 use Rattle.std.proofs.Math.ListN.{get_or-map}
 use Rattle.std.proofs.lemmas.Option.{unwrap_or-slice_get}
 use Rattle.mx_ops.specs.Predefined.{special_registers}
@@ -16,3 +16,16 @@ name-at xs i code d same nothing is =
     ∙ sym (unwrap_or-slice_get special_registers code [])
 
 pub ruleset naming = (names-are, name-at)
+
+-- the first, rS and the last
+row-first : special_name 0 ≡ codes "rB"
+unfolding special_registers
+row-first = refl
+
+row-stack : special_name 11 ≡ codes "rS"
+unfolding special_registers
+row-stack = refl
+
+row-last : special_name 31 ≡ codes "rZZ"
+unfolding special_registers
+row-last = refl

@@ -33,11 +33,14 @@ unfoldable pub blocks : ℕ → List ℕ
 blocks zero = []
 blocks (suc i) = blocks i ++ block (suc i)
 
--- the end, behind n blocks: the procedure Rec of d gives 1 + 2 + .. + d
+-- the procedure Rec: of d it gives 1 + 2 + .. + d
+abbrev pub procedure : List ℕ
+procedure =
+    codes "Rec BZ $0,1F\n GET $1,rJ\n SUBU $3,$0,1\n PUSHJ $2,Rec\n ADDU $0,$0,$2\n PUT rJ,$1\n POP 1,0\n1H POP 1,0\n"
+
+-- the end, behind n blocks
 abbrev pub closing : ℕ → List ℕ
-closing n =
-    codes "B" ++ decimal (n + 1)
-    ++ codes " SET $255,$0\n TRAP 0,Halt,0\nRec BZ $0,1F\n GET $1,rJ\n SUBU $3,$0,1\n PUSHJ $2,Rec\n ADDU $0,$0,$2\n PUT rJ,$1\n POP 1,0\n1H POP 1,0\n"
+closing n = codes "B" ++ decimal (n + 1) ++ codes " SET $255,$0\n TRAP 0,Halt,0\n" ++ procedure
 
 unfoldable pub generated : ℕ → List ℕ
 generated n = opening ++ blocks n ++ closing n
@@ -45,4 +48,5 @@ generated n = opening ++ blocks n ++ closing n
 -- the blocks, the bytes of the source, the steps that were made, and $255 at the end
 abbrev pub summary : ℕ → ℕ → ℕ → ℕ → List ℕ
 summary n size steps sum =
-    codes "blocks " ++ decimal n ++ codes " bytes " ++ decimal size ++ codes " steps " ++ decimal steps ++ codes " sum " ++ decimal sum ++ codes "\n"
+    codes "blocks " ++ decimal n ++ codes " bytes " ++ decimal size ++ codes " steps " ++ decimal steps ++ codes " sum "
+    ++ decimal sum ++ codes "\n"

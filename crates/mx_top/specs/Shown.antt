@@ -1,8 +1,6 @@
 -- The next octa that a dump shows.
-use Rattle.std.specs.Prelude.{ℕ, ◌≡◌, ◌≤◌, ◌<◌, ◌%◌, ◌^◌, ◌||◌, ◌&&◌, not, nat_lt, nat_le, ◌==◌, Bool, List, [], ◌∷◌, ◌++◌, codes, Option, None, Some}
-use Rattle.mx_core.specs.State.{State, locals, global_start}
-use Rattle.mx_ring.specs.Stack.{in_stack_area}
-use Rattle.mx_spec.specs.SpecialRegisters.{rS}
+use Rattle.std.specs.Prelude.{ℕ, ◌≡◌, ◌≤◌, ◌<◌, ◌%◌, ◌^◌, List, [], ◌∷◌, ◌++◌, codes, Option, None, Some}
+use Rattle.mx_core.specs.State.{State}
 use Rattle.mx_text.specs.Numbers.{hex_text}
 use Rattle.mx_top.specs.Dump.{named_octa, octa_line}
 

@@ -12,8 +12,8 @@ ghost use Rattle.mx_top.specs.Dump as spec;
 ghost use Rattle.mx_top.specs.Lines.{Puts, lines_put};
 ghost use Rattle.mx_top.specs.Shown.{IsNextShown, shown_octa};
 
-use crate::message::add_decimal;
 use crate::lines::put_line;
+use crate::message::add_decimal;
 use mx_core::Machine;
 use mx_host::Host;
 use mx_text::octa_hex;
@@ -32,8 +32,9 @@ const END: u64 = 1 << 63;
 
 /// The names of the special registers by their codes.
 static NAMES: [&str; 32] = [
-    "rB", "rD", "rE", "rH", "rJ", "rM", "rR", "rBB", "rC", "rN", "rO", "rS", "rI", "rT", "rTT", "rK", "rQ", "rU", "rV", "rG",
-    "rL", "rA", "rF", "rP", "rW", "rX", "rY", "rZ", "rWW", "rXX", "rYY", "rZZ",
+    "rB", "rD", "rE", "rH", "rJ", "rM", "rR", "rBB", "rC", "rN", "rO", "rS", "rI", "rT", "rTT",
+    "rK", "rQ", "rU", "rV", "rG", "rL", "rA", "rF", "rP", "rW", "rX", "rY", "rZ", "rWW", "rXX",
+    "rYY", "rZZ",
 ];
 
 /// The name of the special register of a code.

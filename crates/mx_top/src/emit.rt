@@ -100,6 +100,7 @@ fn item_writer(alloc: Global, items: &[Item]) -> Result<Writer, NoMemory>
 }
 
 /// What there is of the object of a source, and its refusal.
+#[tactic(auto, unfolding(crate::specs::Objects::source_object))]
 fn source_object(alloc: Global, text: &[u8]) -> Result<(Bytes, Result<(), Refusal>), NoMemory>
     ensures { IfOk result (λ r. r ≡ objects.source_object text.now) }
 {

@@ -55,8 +55,9 @@ pub fn generated(alloc: Global, n: u64) -> Result<Bytes, NoMemory>
     add_blocks(&mut text, n)?;
     text.extend(b"B")?;
     add_decimal(&mut text, n + 1)?;
+    text.extend(b" SET $255,$0\n TRAP 0,Halt,0\n")?;
     text.extend(
-        b" SET $255,$0\n TRAP 0,Halt,0\nRec BZ $0,1F\n GET $1,rJ\n SUBU $3,$0,1\n PUSHJ $2,Rec\n ADDU $0,$0,$2\n PUT rJ,$1\n POP 1,0\n1H POP 1,0\n",
+        b"Rec BZ $0,1F\n GET $1,rJ\n SUBU $3,$0,1\n PUSHJ $2,Rec\n ADDU $0,$0,$2\n PUT rJ,$1\n POP 1,0\n1H POP 1,0\n",
     )?;
     Ok(text)
 }

@@ -1,10 +1,11 @@
 //! The file that holds a source or an object, as it is read.
 
-ghost use Rattle.std.specs.Prelude.{IsTrue, ◌≡◌, ◌≢◌, ◌≤◌, ◌++◌, [], ℕ, Some, None, Ok, Err, OnOk, OnErr, IfOk, IfErr, nat_lt, length};
+ghost use Rattle.std.specs.Prelude.{IsTrue, ◌≡◌, ◌≢◌, ◌≤◌, ◌++◌, [], ℕ, Some, None, Ok, Err, OnOk, OnErr, IfOk, IfErr, false, nat_lt, length};
 ghost use Rattle.mx_host.specs.Keeping.{Answers, ComesByFault, Keeps, KeepsOutput};
 ghost use Rattle.mx_host.specs.HostModel.{tells, contents};
 ghost use Rattle.mx_host.specs.HostAnswer.{close_answer};
 ghost use Rattle.mx_word.specs.Results.{map_ok};
+ghost use Rattle.mx_top.specs.Answers.{is_usage};
 ghost use Rattle.mx_top.specs.Source.{pieces, file_bytes};
 ghost use Rattle.mx_top.specs.Source as spec;
 
@@ -27,6 +28,7 @@ fn one_piece<H: Host>(host: &mut H, got: &mut Bytes, piece: &mut [u8]) -> Result
         (map_ok (λ whole. (got.new, whole)) result, contents (H.told host.new))
         ≡ spec.one_piece got.old (contents (H.told host.old)) }
     ensures errors { IfErr result (λ e. e ≢ Outcome.OutOfMemory → e ≡ Outcome.HostFault) }
+    ensures words { IfErr result (λ e. is_usage e ≡ false) }
     ensures output { KeepsOutput (H.told host.old) (H.told host.new) }
     ensures rose { ComesByFault (H.told host.old) (Err Outcome.HostFault) result (H.faults host.old) (H.faults
         host.new) }
@@ -48,6 +50,7 @@ fn pieces<H: Host>(alloc: Global, host: &mut H, most: u32) -> Result<Bytes, Outc
     ensures told { Answers (H.told host.old) (H.told host.new) (Err Outcome.OutOfMemory) result
         (λ m. spec.pieces most [] m) }
     ensures errors { IfErr result (λ e. e ≢ Outcome.OutOfMemory → e ≡ Outcome.HostFault) }
+    ensures words { IfErr result (λ e. is_usage e ≡ false) }
     ensures output { KeepsOutput (H.told host.old) (H.told host.new) }
     ensures rose { ComesByFault (H.told host.old) (Err Outcome.HostFault) result (H.faults host.old) (H.faults
         host.new) }
@@ -71,6 +74,7 @@ fn close<H: Host>(host: &mut H, bytes: Bytes) -> Result<Bytes, Outcome>
     ensures told { Answers (H.told host.old) (H.told host.new) (Err Outcome.OutOfMemory) result
         (λ m. spec.closed_with bytes (close_answer m 256)) }
     ensures errors { IfErr result (λ e. e ≢ Outcome.OutOfMemory → e ≡ Outcome.HostFault) }
+    ensures words { IfErr result (λ e. is_usage e ≡ false) }
     ensures output { KeepsOutput (H.told host.old) (H.told host.new) }
     ensures rose { ComesByFault (H.told host.old) (Err Outcome.HostFault) result (H.faults host.old) (H.faults
         host.new) }
@@ -93,6 +97,7 @@ pub fn read_file<H: Host>(
 ) -> Result<Bytes, Outcome>
     ensures told { Answers (H.told host.old) (H.told host.new) (Err Outcome.OutOfMemory) result
         (λ m. spec.file_bytes most name.now m) }
+    ensures words { IfErr result (λ e. is_usage e ≡ false) }
     ensures output { KeepsOutput (H.told host.old) (H.told host.new) }
     ensures rose { ComesByFault (H.told host.old) (Err Outcome.HostFault) result (H.faults host.old) (H.faults
         host.new) }

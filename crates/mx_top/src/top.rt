@@ -1,6 +1,6 @@
 //! The top call.
 
-ghost use Rattle.std.specs.Prelude.{◌≡◌, ◌≢◌, ◌≤◌, ◌<◌, Ok, Err, IfErr, false, length, map, string_bytes};
+ghost use Rattle.std.specs.Prelude.{◌≡◌, ◌≢◌, ◌≤◌, ◌<◌, Err, false, length, map, string_bytes};
 ghost use Rattle.mx_host.specs.HostModel.{contents, slot_at, to_errors};
 ghost use Rattle.mx_host.specs.Keeping.{ComesByFault, Keeps, KeepsOutput};
 ghost use Rattle.mx_run.specs.WildRuns.{window_machine, list_machine};
@@ -108,7 +108,8 @@ fn carry_out<H: Host>(alloc: Global, words: &[String], host: &mut H) -> Outcome
         (λ m. spec.carried_out list_machine (map string_bytes words.now) (order_of (map string_bytes words.now)) m) }
     ensures front { WritesFrontOf (H.told host.old) (H.told host.new) result
         (λ m. spec.carried_out window_machine (map string_bytes words.now) (order_of (map string_bytes words.now)) m) }
-    ensures usage { IfErr (order_of (map string_bytes words.now)) (λ fault. result ≡ Outcome.Usage fault) }
+    ensures usage { (fault : WordsFault) → order_of (map string_bytes words.now) ≡ Err fault →
+        result ≡ Outcome.Usage fault }
     ensures only_usage { (fault : WordsFault) → result ≡ Outcome.Usage fault →
         order_of (map string_bytes words.now) ≡ Err fault }
     ensures rose { ComesByFault (H.told host.old) Outcome.HostFault result (H.faults host.old) (H.faults host.new) }
@@ -166,8 +167,8 @@ pub fn mmixware<H: Host>(alloc: Global, words: &[String], host: &mut H) -> Outco
         WritesFrontOf (H.told host.old) (H.told host.new) result (λ m. spec.product window_machine (map string_bytes words.now) m) }
 
     // Words that are no order are told apart for every host, and only they are told so.
-    ensures usage { IfErr (order_of (map string_bytes words.now)) (λ fault. result ≢ Outcome.OutOfMemory →
-        result ≡ Outcome.Usage fault) }
+    ensures usage { (fault : WordsFault) → order_of (map string_bytes words.now) ≡ Err fault →
+        result ≢ Outcome.OutOfMemory → result ≡ Outcome.Usage fault }
     ensures only_usage { (fault : WordsFault) → result ≡ Outcome.Usage fault →
         order_of (map string_bytes words.now) ≡ Err fault }
 

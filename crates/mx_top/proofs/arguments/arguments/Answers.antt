@@ -1,4 +1,4 @@
-use Rattle.std.proofs.Common.{◌≡◌, ◌≤◌, ◌∷◌, ◌-◌, ◌∙◌, ap, map, take, drop, length, length-drop, string_bytes, arith}
+use Rattle.std.proofs.Common.{◌∷◌, ◌-◌, ◌∙◌, ap, map, take, drop, length, length-drop, string_bytes, arith}
 use Rattle.std.proofs.lemmas.List.{take_all}
 use Rattle.mx_top.specs.Arguments.{program_name}
 use Rattle.mx_top.proofs.Pools.{arguments-there}

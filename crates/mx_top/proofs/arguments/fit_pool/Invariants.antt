@@ -1,4 +1,4 @@
-use Rattle.std.proofs.Common.{◌≡◌, ◌≤◌, ◌<◌, ◌+◌, ◌^◌, take}
+use Rattle.std.proofs.Common.{◌≤◌, ◌<◌, ◌+◌, ◌^◌, take}
 use Rattle.std.specs.List.{sum_by}
 use Rattle.mx_top.proofs.Pools.{room}
 use Rattle.mx_top.proofs.arguments.fit_pool.Given as goal

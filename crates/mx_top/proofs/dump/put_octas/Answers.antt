@@ -1,4 +1,4 @@
-use Rattle.std.proofs.Common.{◌≤◌, Some, arith}
+use Rattle.std.proofs.Common.{Some, arith}
 use Rattle.mx_core.specs.Kept.{state_of}
 use Rattle.mx_top.specs.Shown.{IsNextShown}
 use Rattle.mx_top.proofs.DumpLines.{puts-no-octa, puts-octa, puts-octas-ended, puts-octas}

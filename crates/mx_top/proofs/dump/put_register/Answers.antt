@@ -1,4 +1,4 @@
-use Rattle.std.proofs.Common.{◌≡◌, ◌∙◌, sym}
+use Rattle.std.proofs.Common.{◌∙◌, sym}
 use Rattle.mx_core.specs.Kept.{state_of}
 use Rattle.mx_top.specs.Dump as spec
 use Rattle.mx_top.proofs.PutLines.{puts-hidden, puts-shown, puts-renamed, puts-lacking}

@@ -9,7 +9,7 @@ abbrev pub invariant-loop-rest : goal.invariant-loop-rest
 invariant-loop-rest l = record {
   fit : AllByRecursion Fits l.rest;
   loaded : spec.all_loaded (loader_spec.standing l.fn.loader) l.items ≡ spec.all_loaded (loader_spec.standing l.loader) l.rest;
-  open : loader_spec.answer (loader_spec.standing l.loader) ≡ Ok tt;
+  unrefused : loader_spec.answer (loader_spec.standing l.loader) ≡ Ok tt;
 }
 
 abbrev pub decreases-loop-rest : goal.decreases-loop-rest

@@ -8,7 +8,7 @@ abbrev pub invariant-loop-rest : goal.invariant-loop-rest
 invariant-loop-rest l = record {
   loaded : spec.lines_loaded 1 (lines_of l.text) (spec.standing l.fn.assembler (loader_spec.standing l.fn.loader))
       ≡ spec.lines_loaded l.line (lines_of l.rest) (spec.standing l.assembler (loader_spec.standing l.loader));
-  open : loader_spec.answer (loader_spec.standing l.loader) ≡ Ok tt;
+  unrefused : loader_spec.answer (loader_spec.standing l.loader) ≡ Ok tt;
 }
 
 abbrev pub decreases-loop-rest : goal.decreases-loop-rest
