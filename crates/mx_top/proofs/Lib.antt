@@ -24,3 +24,7 @@ pub mod SteadyFiles
 pub mod IdleFiles
 pub mod WholeFiles
 pub mod JoinedWrites
+pub mod SteadyProduct
+pub mod DetourRuns
+pub mod DetourLoading
+pub mod DetourImages
