@@ -22,9 +22,9 @@ loop-moved-preserved g c =
     let more : 4096 < c.args.size - c.loop-moved.moved = omega (arith, c.loop-moved-test.true) in
     record {
       told = λ t.
-          let piece = c.in-Whole.ensures.told (subst IsTrue (sym c.loop-moved.invariant.keeps.telling) t) (λ e. absurd (cc)) in
-          c.loop-moved.invariant.told t
-          ∙ written-next c.args.slot f (c.args.at + c.loop-moved.moved) (c.args.size - c.loop-moved.moved) (c.args.at + (c.loop-moved.moved + 4096)) (c.args.size - (c.loop-moved.moved + 4096)) c.loop-moved.moved here _ more (omega arith) (omega (arith, more))
+        let piece = c.in-Whole.ensures.told (subst IsTrue (sym c.loop-moved.invariant.keeps.telling) t) (λ e. absurd (cc)) in
+        c.loop-moved.invariant.told t
+        ∙ written-next c.args.slot f (c.args.at + c.loop-moved.moved) (c.args.size - c.loop-moved.moved) (c.args.at + (c.loop-moved.moved + 4096)) (c.args.size - (c.loop-moved.moved + 4096)) c.loop-moved.moved here _ more (omega arith) (omega (arith, more))
           (piece ∙ ap (λ n. write_piece c.args.slot (bytes_from f (c.args.at + c.loop-moved.moved) n) c.loop-moved.moved here) c.loop-moved.invariant.buffer);
       inside = omega (arith, more);
       buffer = c.in-Whole.ensures.length ∙ c.loop-moved.invariant.buffer;
