@@ -1,10 +1,10 @@
 -- The octas of the arguments stand in the pool at the start, and all else is the image's.
-use Rattle.std.proofs.Common.{◌≡◌, ◌≢◌, ◌≤◌, ◌<◌, ℕ, zero, suc, ◌+◌, ◌-◌, ◌*◌, ◌/◌, ◌%◌, ◌||◌, Bool, true, false, cond, nat_lt, nat_le, List, [], ◌∷◌, length, get_or, Option, None, Some, arith, refl, sym, ap, ◌∙◌, subst}
+use Rattle.std.proofs.Common.{◌≡◌, ◌≢◌, ◌≤◌, ◌<◌, ℕ, suc, ◌+◌, ◌-◌, ◌*◌, ◌/◌, ◌%◌, ◌||◌, Bool, true, false, cond, nat_lt, nat_le, List, [], ◌∷◌, length, get_or, Option, None, Some, arith, refl, sym, ap, ◌∙◌}
 use Rattle.std.specs.Prelude.{◌&&◌, ◌==◌}
 use Rattle.std.proofs.lemmas.Bool.Decides.{nat_tests}
 use Rattle.mx_mem.specs.Memory.{stored_at}
 use Rattle.mx_mmo.specs.Image.{Image}
-use Rattle.mx_ring.specs.Stack.{Stack, stack_address, in_stack_area, stack_index, with_stack_octa}
+use Rattle.mx_ring.specs.Stack.{Stack, stack_address, in_stack_area}
 use Rattle.mx_core.specs.MemoryAtStart.{octa_among}
 use Rattle.mx_core.specs.Start.{pool, pool_octas, with_octas, loaded, start}
 use Rattle.mx_core.specs.State.{State, with_octa, is_negative, is_page_refused}
