@@ -15,3 +15,4 @@ pub mod Objects
 pub mod Runs
 pub mod Product
 pub mod Sources
+pub mod Detour
