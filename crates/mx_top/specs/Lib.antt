@@ -14,3 +14,5 @@ pub mod Loading
 pub mod Objects
 pub mod Runs
 pub mod Product
+pub mod Sources
+pub mod Detour
