@@ -8,3 +8,4 @@ pub mod TurnAnswers
 pub mod RunSteps
 pub mod ListSteps
 pub mod StepCounts
+pub mod SteadyRuns

@@ -6,3 +6,4 @@ pub mod Clauses
 pub mod FlagMaps
 pub mod Running
 pub mod Lending
+pub mod Counts

@@ -11,6 +11,7 @@ mod go;
 mod go_tests;
 pub mod laws;
 mod runner;
+mod steady_laws;
 mod steps;
 #[cfg(test)]
 mod tests;
@@ -22,4 +23,5 @@ pub use end::{BreakKind, End};
 pub use flag_map::FlagMap;
 pub use flags::Flags;
 pub use runner::Runner;
+pub use steady_laws::runs_go_by_no_count;
 pub use turn_answer::TurnAnswer;

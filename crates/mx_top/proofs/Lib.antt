@@ -20,3 +20,11 @@ pub mod StartedMachines
 pub mod Summed
 pub mod TakenLines
 pub mod Told
+pub mod SteadyFiles
+pub mod IdleFiles
+pub mod WholeFiles
+pub mod JoinedWrites
+pub mod SteadyProduct
+pub mod DetourRuns
+pub mod DetourLoading
+pub mod DetourImages

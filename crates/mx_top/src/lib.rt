@@ -23,3 +23,13 @@ pub use dump_laws::dumps_show_what_programs_see;
 pub use names::{fault_name, usage_name};
 pub use outcome::Outcome;
 pub use top::mmixware;
+
+mod file_laws;
+
+pub use file_laws::{files_are_read_whole, pieces_come_to_one_write};
+
+mod detour_laws;
+
+pub use detour_laws::{
+    objects_load_as_their_sources, objects_run_as_their_sources, programs_go_by_no_count,
+};

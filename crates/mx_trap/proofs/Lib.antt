@@ -14,3 +14,4 @@ pub mod ApartBytes
 pub mod ApartMoves
 pub mod ApartCalls
 pub mod KeptContents
+pub mod SteadyTraps

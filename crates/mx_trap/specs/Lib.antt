@@ -7,3 +7,4 @@ pub mod Clauses
 pub mod Laws
 pub mod Touches
 pub mod Apart
+pub mod Counts

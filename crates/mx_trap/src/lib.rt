@@ -15,6 +15,7 @@ mod requests;
 mod segment;
 mod service;
 mod space;
+mod steady_laws;
 #[cfg(test)]
 mod tests;
 mod writes;
@@ -28,3 +29,4 @@ pub use laws::{
     texts_touch_where_they_are_read, traps_only_add_to_output,
 };
 pub use segment::touches;
+pub use steady_laws::traps_go_by_no_count;

@@ -1,0 +1,59 @@
+-- A source that is assembled into an object, and the object run in its place.
+use Rattle.std.specs.Prelude.{ℕ, ◌≡◌, ◌+◌, List, [], ◌∷◌, ◌++◌, codes, false, length, Ok}
+use Rattle.std.specs.Str.{bytes_eq}
+use Rattle.mx_word.specs.declared.symbols.Symbol.{Symbol}
+use Rattle.mx_host.specs.HostModel.{HostModel, HasStartSlots}
+use Rattle.mx_mmo.specs.Image.{Image}
+use Rattle.mx_load.specs.Objects.{object_loaded}
+use Rattle.mx_trap.specs.Counts.{without_count}
+use Rattle.mx_run.specs.WildRuns.{MachineKind}
+use Rattle.mx_words.specs.Orders.{order_of}
+use Rattle.mx_words.specs.declared.order.Command.TheVariants.{Run, Sim}
+use Rattle.mx_words.specs.declared.order.Order.{Order}
+use Rattle.mx_top.specs.Answers.{Answer, answered, wild}
+use Rattle.mx_top.specs.Arguments.{Word, program_name}
+use Rattle.mx_top.specs.Loading.{source_image}
+use Rattle.mx_top.specs.Objects.{source_object}
+use Rattle.mx_top.specs.Product.{product}
+use Rattle.mx_top.specs.Source.{file_bytes, source_pieces}
+use Rattle.mx_top.specs.declared.outcome.Outcome.TheVariants.{Done}
+
+-- an answer but for the number of calls
+abbrev pub answer_uncounted : Answer → Answer
+answer_uncounted (answered outcome m) = answered outcome (without_count m)
+answer_uncounted (wild m) = wild (without_count m)
+
+-- the words of the three commands
+abbrev pub asm_words : Word → Word → List Word
+asm_words source object = codes "asm" ∷ source ∷ object ∷ []
+
+abbrev pub run_words : List Word → Word → List Word → List Word
+run_words options source arguments = codes "run" ∷ options ++ source ∷ arguments
+
+abbrev pub sim_words : List Word → Word → List Word → List Word
+sim_words options object arguments = codes "sim" ∷ options ++ object ∷ arguments
+
+-- The words order to run the source, and to run the object, in the same way: with these options and these arguments.
+pub record AreOrdered (options : List Word) (source object : Word) (arguments : List Word) : Type 0 where
+  pub order : Order
+  pub run : order_of (run_words options source arguments) ≡ Ok (record order { command = Run })
+  pub sim : order_of (sim_words options object arguments) ≡ Ok (record order { command = Sim })
+  pub file : order.file ≡ length options + 1
+  pub rest : order.rest ≡ length options + 2
+
+-- No call fails, the slots stand as at the start, the two files have different names, which agree but for a last `.mms`
+-- or `.mmo`; and the source, of which this text is read, is assembled into the object, which leaves the model `after`.
+pub record IsAssembled (kind : MachineKind) (source object : Word) (text : List ℕ) (m after : HostModel) : Type 0 where
+  pub well : m.failing ≡ []
+  pub slots : HasStartSlots m
+  pub apart : bytes_eq source object ≡ false
+  pub alike : program_name source ≡ program_name object
+  pub read : (file_bytes source_pieces source m).0 ≡ Ok text
+  pub done : product kind (asm_words source object) m ≡ answered (Done 0) after
+
+-- The object of a source is loaded as what the source is run from.
+pub record LoadsAlike (text : List ℕ) : Type 0 where
+  pub image : Image
+  pub symbols : List Symbol
+  pub source : source_image text ≡ Ok image
+  pub object : object_loaded (source_object text).0 ≡ Ok (image, symbols)

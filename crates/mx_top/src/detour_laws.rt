@@ -1,0 +1,49 @@
+//! Laws of whole runs of the program where no call fails.
+
+ghost use Rattle.std.specs.Prelude.{◌≡◌, ◌≤◌, ◌^◌, List, ℕ, [], length, Ok};
+ghost use Rattle.mx_word.specs.declared.symbols.Symbol.{Symbol};
+ghost use Rattle.mx_host.specs.HostModel.{HostModel};
+ghost use Rattle.mx_mmo.specs.Image.{Image};
+ghost use Rattle.mx_mmo.specs.declared.items.Item.{Item};
+ghost use Rattle.mx_stab.specs.Reading.{trie_answer};
+ghost use Rattle.mx_load.specs.Objects.{object_loaded};
+ghost use Rattle.mx_asm.specs.Fitting.{AreWritable};
+ghost use Rattle.mx_asm.specs.Whole.{assembled_source};
+ghost use Rattle.mx_run.specs.WildRuns.{MachineKind};
+ghost use Rattle.mx_trap.specs.Counts.{with_calls};
+ghost use Rattle.mx_top.specs.Arguments.{Word};
+ghost use Rattle.mx_top.specs.Detour.{AreOrdered, IsAssembled, LoadsAlike, answer_uncounted, run_words, sim_words};
+ghost use Rattle.mx_top.specs.Loading.{source_image};
+ghost use Rattle.mx_top.specs.Objects.{source_object};
+ghost use Rattle.mx_top.specs.Product.{product};
+
+/// Where no call fails, the program does and answers the same whatever number of calls was made before;
+/// only that number differs in what it leaves.
+#[tactic(auto, using(crate::proofs::SteadyProduct::steady))]
+pub fn programs_go_by_no_count()
+    ensures { (kind : MachineKind) (words : List Word) (m : HostModel) (k : ℕ) → m.failing ≡ [] →
+        answer_uncounted (product kind words (with_calls m k)) ≡ answer_uncounted (product kind words m) }
+{}
+
+/// Where no call fails, `sim` of an object answers and leaves what `run` of the source does that it was
+/// assembled from, with the same options and arguments, if the object is loaded as what the source is
+/// run from. Only the number of calls differs.
+#[tactic(auto)]
+pub fn objects_run_as_their_sources()
+    ensures { (kind : MachineKind) (options : List Word) (source object : Word) (arguments : List Word)
+        (text : List ℕ) (m after : HostModel) →
+        AreOrdered options source object arguments → IsAssembled kind source object text m after →
+        LoadsAlike text → answer_uncounted (product kind (sim_words options object arguments) after) ≡
+        answer_uncounted (product kind (run_words options source arguments) after) }
+{}
+
+/// The object of a source is loaded as the image that the source is run from, with the symbols of its
+/// trie, if it is not too long, an object can be written from its items and its trie, and the trie can
+/// be read.
+#[tactic(auto)]
+pub fn objects_load_as_their_sources()
+    ensures { (text trie : List ℕ) (items : List Item) (symbols : List Symbol) (image : Image) →
+        assembled_source text ≡ (items, Ok trie) → AreWritable items trie → length (source_object text).0 ≤ 2 ^ 26 →
+        trie_answer trie ≡ Ok symbols → source_image text ≡ Ok image →
+        object_loaded (source_object text).0 ≡ Ok (image, symbols) }
+{}
