@@ -20,3 +20,4 @@ pub mod StartedMachines
 pub mod Summed
 pub mod TakenLines
 pub mod Told
+pub mod SameRings

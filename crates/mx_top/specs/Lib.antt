@@ -14,3 +14,4 @@ pub mod Loading
 pub mod Objects
 pub mod Runs
 pub mod Product
+pub mod Rings
