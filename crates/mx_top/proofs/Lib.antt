@@ -28,3 +28,4 @@ pub mod SteadyProduct
 pub mod DetourRuns
 pub mod DetourLoading
 pub mod DetourImages
+pub mod SameRings

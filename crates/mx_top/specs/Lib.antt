@@ -15,3 +15,4 @@ pub mod Objects
 pub mod Runs
 pub mod Product
 pub mod Detour
+pub mod Rings

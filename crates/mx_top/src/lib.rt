@@ -15,6 +15,7 @@ mod objects;
 mod outcome;
 mod pieces;
 mod refusal;
+mod ring_laws;
 mod run;
 mod source;
 mod top;
@@ -22,6 +23,7 @@ mod top;
 pub use dump_laws::dumps_show_what_programs_see;
 pub use names::{fault_name, usage_name};
 pub use outcome::Outcome;
+pub use ring_laws::two_rings_agree;
 pub use top::mmixware;
 
 mod file_laws;
