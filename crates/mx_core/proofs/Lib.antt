@@ -45,3 +45,4 @@ pub mod OctaEffects
 pub mod OctaSteps
 pub mod Started
 pub mod SavedFrames
+pub mod MemoryAtStart

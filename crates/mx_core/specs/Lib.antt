@@ -21,3 +21,4 @@ pub mod Search
 pub mod Changed
 pub mod Machines
 pub mod Wild
+pub mod MemoryAtStart

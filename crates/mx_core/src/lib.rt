@@ -53,3 +53,7 @@ pub use space_laws::{contents_tell_the_state, machines_are_whole};
 pub use start::StartFault;
 pub use step::{Advance, Step};
 pub use trace::{Touch, Trace};
+
+mod start_laws;
+
+pub use start_laws::arguments_stand_in_the_pool;

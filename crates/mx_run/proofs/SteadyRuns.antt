@@ -20,7 +20,7 @@ use Rattle.mx_run.specs.Turns.{Turn, went_on, halts, stops, area_size, turn_with
 use Rattle.mx_run.specs.WildRuns.{MachineKind, RunEnd, run_ended, run_wild, ends_wild, turn_by, step_by, run_by}
 use Rattle.mx_run.specs.declared.end.BreakKind.{BreakKind}
 use Rattle.mx_run.specs.declared.end.BreakKind.TheVariants.{Execute}
-use Rattle.mx_run.specs.declared.end.End.TheVariants.{Broke, Spent}
+use Rattle.mx_run.specs.declared.end.End.TheVariants.{Broke}
 
 -- ---- turns
 

@@ -12,16 +12,16 @@ use Rattle.mx_load.specs.Standing.{after}
 use Rattle.mx_load.specs.declared.fault.LoadFault.{LoadFault}
 use Rattle.mx_asm.specs.Emission.{opening, closing}
 use Rattle.mx_asm.specs.Entries.{Entry, line_entries}
-use Rattle.mx_asm.specs.OnePass.{Assembly, Standing as Taking, Taken, Progress, Ended, beginning, behind_entry, and_entries, entry_taken, entries_taken, count_fault, counted, line_unless, line_taken, with_opening, opened, line_behind, last_number, assembly_fault, ended_trie, ended_main, ended_waits, ended, end_behind}
+use Rattle.mx_asm.specs.OnePass.{Assembly, Standing as Taking, Taken, Progress, Ended, behind_entry, and_entries, entry_taken, entries_taken, count_fault, counted, line_unless, line_taken, with_opening, opened, line_behind, last_number, assembly_fault, ended_main, ended_waits, ended, end_behind}
 use Rattle.mx_asm.specs.Emission.{padded_trie}
-use Rattle.mx_asm.specs.Refusal.{trie_limit, undefined}
+use Rattle.mx_asm.specs.Refusal.{trie_limit}
 use Rattle.mx_asm.specs.Faults.{refused}
 use Rattle.mx_asm.specs.Whole.{line_after, lines_taken, one_pass}
 use Rattle.mx_asm.specs.declared.faults.AsmFault.{AsmFault}
 use Rattle.mx_asm.specs.declared.faults.AsmFault.TheVariants.{SymbolsTooMany}
 use Rattle.mx_asm.specs.declared.refused.Refused.{Refused}
 use Rattle.mx_names.specs.Waiting.{first_of}
-use Rattle.mx_top.specs.Loading.{Standing, standing, all_loaded, judged, progress_loaded, line_loaded, and_lines, lines_loaded, image_loaded, ended_with, end_loaded, first_standing, source_image}
+use Rattle.mx_top.specs.Loading.{Standing, standing, judged, progress_loaded, and_lines, lines_loaded, image_loaded, ended_with, end_loaded, first_standing, source_image}
 use Rattle.mx_top.specs.declared.refusal.Refusal.{Refusal}
 
 -- ---- items that stand before those that lines give

@@ -1,6 +1,6 @@
 -- An object runs as the source that it was assembled from.
-use Rattle.std.proofs.Common.{◌≡◌, ◌≢◌, ℕ, ◌+◌, ◌*◌, ◌^◌, ◌<◌, ◌≤◌, Bool, true, false, cond, nat_lt, List, [], ◌∷◌, ◌++◌, length, length-append, append_assoc, take, drop, Some, None, Ok, Err, refl, sym, ◌∙◌, ap, subst, arith}
-use Rattle.std.specs.Prelude.{Option, Result, slice_get, slice_set, unwrap_or, codes}
+use Rattle.std.proofs.Common.{◌≡◌, ℕ, ◌+◌, ◌*◌, ◌^◌, ◌<◌, ◌≤◌, Bool, true, false, cond, nat_lt, List, [], ◌∷◌, ◌++◌, length, length-append, append_assoc, take, drop, Some, None, Ok, Err, refl, sym, ◌∙◌, ap, subst, arith}
+use Rattle.std.specs.Prelude.{Option, Result, slice_set, codes}
 use Rattle.std.specs.Str.{bytes_eq}
 use Rattle.std.proofs.Math.Seq.{get_or-append_seam}
 use Rattle.std.proofs.lemmas.Bool.Decides.{nat_tests}
@@ -18,20 +18,20 @@ use Rattle.mx_host.proofs.Still.{still}
 use Rattle.mx_host.proofs.NamedFiles.{home, lies, at-home, place-home, place-other, bytes-other}
 use Rattle.mx_mmo.specs.Image.{Image}
 use Rattle.mx_mmo.specs.Replies.{limit}
-use Rattle.mx_load.specs.Objects.{object_loaded, whole_loaded, fault_at}
+use Rattle.mx_load.specs.Objects.{object_loaded}
 use Rattle.mx_run.specs.WildRuns.{MachineKind}
 use Rattle.mx_words.specs.Orders.{order_of, options_from, asm_order, defaults}
 use Rattle.mx_words.specs.Values.{is_option}
-use Rattle.mx_words.specs.declared.order.Command.TheVariants.{Run, Asm, Sim}
+use Rattle.mx_words.specs.declared.order.Command.TheVariants.{Run, Sim}
 use Rattle.mx_words.specs.declared.order.Order.{Order}
 use Rattle.mx_words.specs.declared.order.WordsFault.{WordsFault}
-use Rattle.mx_top.specs.Answers.{Answer, answered, wild, plainly}
+use Rattle.mx_top.specs.Answers.{Answer, answered, plainly}
 use Rattle.mx_top.specs.Arguments.{Word, word_at, arguments, program_name}
 use Rattle.mx_top.specs.Detour.{answer_uncounted, asm_words, run_words, sim_words, AreOrdered, IsAssembled, LoadsAlike}
 use Rattle.mx_top.specs.Loading.{source_image}
 use Rattle.mx_top.specs.Messages.{message_of}
 use Rattle.mx_top.specs.Objects.{Assembled, source_object}
-use Rattle.mx_top.specs.Product.{after_image, after_source, after_loading, after_object, assembled_outcome, object_put, after_opening, after_reading, carried_out, message_told, with_message, ordered, product}
+use Rattle.mx_top.specs.Product.{after_image, after_source, after_loading, after_object, assembled_outcome, object_put, after_opening, after_reading, carried_out, message_told, with_message, product}
 use Rattle.mx_top.specs.Runs.{image_run}
 use Rattle.mx_top.specs.Source.{file_bytes}
 use Rattle.mx_top.specs.declared.outcome.Outcome.{Outcome}

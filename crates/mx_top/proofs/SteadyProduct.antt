@@ -3,7 +3,7 @@ use Rattle.std.proofs.Common.{◌≡◌, ℕ, List, [], ◌∷◌, Bool, true, f
 use Rattle.std.specs.Prelude.{Result, ◌&&◌, codes}
 use Rattle.mx_word.specs.declared.symbols.Symbol.{Symbol}
 use Rattle.mx_host.specs.HostModel.{HostModel}
-use Rattle.mx_host.specs.HostAnswer.{Then, open_answer, write_answer, close_answer}
+use Rattle.mx_host.specs.HostAnswer.{Then, open_answer, close_answer}
 use Rattle.mx_host.specs.declared.slots.Mode.TheVariants.{BinaryWrite}
 use Rattle.mx_host.specs.declared.faults.HostFault.{HostFault as SlotFault}
 use Rattle.mx_host.specs.declared.faults.OpenFault.{OpenFault}
@@ -15,7 +15,7 @@ use Rattle.mx_core.specs.State.{State}
 use Rattle.mx_ring.specs.Stack.{register}
 use Rattle.mx_trap.specs.Counts.{without_count, with_calls}
 use Rattle.mx_trap.proofs.SteadyTraps.{uncounted-of}
-use Rattle.mx_run.specs.Runs.{Ended, no_flags}
+use Rattle.mx_run.specs.Runs.{no_flags}
 use Rattle.mx_run.specs.WildRuns.{MachineKind, RunEnd, run_ended, run_wild, run_by}
 use Rattle.mx_run.proofs.SteadyRuns.{end_still, end_well, SteadyEnds, run-steady}
 use Rattle.mx_words.specs.Orders.{order_of}
@@ -33,8 +33,8 @@ use Rattle.mx_top.specs.Loading.{source_image}
 use Rattle.mx_top.specs.Messages.{message_of}
 use Rattle.mx_top.specs.Objects.{Assembled, source_object}
 use Rattle.mx_top.specs.Pieces.{put_text}
-use Rattle.mx_top.specs.Product.{after_image, after_source, after_loading, after_object, closed_object, written_object, assembled_outcome, object_put, after_opening, after_reading, generator_steps, summary_put, summed, summed_from, generated_run, source_generated, run_ordered, sim_ordered, ordered, carried_out, message_told, with_message, product}
-use Rattle.mx_top.specs.Runs.{Ran, ran, ran_wild, ran_to, outcome_of, machine_ran, leaves_machine, after_lines, dumped, started, run_from, image_run}
+use Rattle.mx_top.specs.Product.{after_image, after_source, after_loading, after_object, closed_object, written_object, assembled_outcome, object_put, after_opening, after_reading, generator_steps, summed, summed_from, generated_run, run_ordered, sim_ordered, ordered, carried_out, message_told, with_message, product}
+use Rattle.mx_top.specs.Runs.{ran, ran_to, outcome_of, leaves_machine, after_lines, dumped, started, run_from, image_run}
 use Rattle.mx_top.specs.Source.{file_bytes, source_pieces, object_pieces}
 use Rattle.mx_top.specs.declared.refusal.Refusal.{Refusal}
 use Rattle.mx_top.specs.declared.outcome.Outcome.{Outcome}

@@ -3,7 +3,7 @@ use Rattle.std.proofs.Common.{◌≡◌, ℕ, suc, zero, ◌+◌, ◌-◌, List,
 use Rattle.std.specs.Prelude.{Option, Result, ℤ, nat_lt, ◌&&◌, ◌==◌}
 use Rattle.mx_mem.specs.Space.{Contents}
 use Rattle.mx_host.specs.HostModel.{HostModel, counted, is_failing, is_binary, last_call, slot_at}
-use Rattle.mx_host.specs.HostAnswer.{Then, open_answer, read_answer, write_answer, close_answer, seek_answer, seek_in, seek_lead, moved, place_sought, bytes_at, tell_answer, place_in}
+use Rattle.mx_host.specs.HostAnswer.{Then, open_answer, read_answer, write_answer, close_answer, seek_answer, seek_in, seek_lead, moved, place_sought, bytes_at, tell_answer}
 use Rattle.mx_host.specs.declared.slots.Slot.{Slot}
 use Rattle.mx_host.specs.declared.slots.Slot.TheVariants.{Closed, Open}
 use Rattle.mx_host.specs.declared.slots.Mode.{Mode}
@@ -13,7 +13,7 @@ use Rattle.mx_host.specs.declared.faults.HostFault.{HostFault}
 use Rattle.mx_host.proofs.Still.{still, Steady, either, then, open-still, read-still, write-still, close-still}
 use Rattle.mx_trip.specs.declared.call.TrapCall.{TrapCall}
 use Rattle.mx_trap.specs.Counts.{with_calls, without_count, leaves_uncounted}
-use Rattle.mx_trap.specs.Moves.{Leaves, stored, byte_stored, bytes_stored, piece_stored, piece_got, read_piece, read_last, read_next, read_pieces, whole_pieces, fread, line_ended, line_end, byte_put, byte_got, line_byte, line_next, line_bytes, fgets, write_last, write_piece, write_next, write_pieces, written, fwrite_value, fputs_value, fwrite, fputs}
+use Rattle.mx_trap.specs.Moves.{Leaves, byte_stored, bytes_stored, piece_stored, piece_got, read_piece, read_last, read_next, read_pieces, whole_pieces, line_ended, byte_put, byte_got, line_byte, line_next, line_bytes, fgets, write_last, write_piece, write_next, write_pieces, written, fwrite_value, fputs_value, fwrite, fputs}
 use Rattle.mx_trap.specs.FileTraps.{done_value, mode_of, fopen_in, fopen, fclose, fseek, place_value, ftell, beside, carried_out, answer_to, trap_answer}
 use Rattle.mx_trap.specs.Requests.{bytes_from, request_of}
 use Rattle.mx_trap.specs.Services.{z_of}
