@@ -29,3 +29,4 @@ pub mod DetourRuns
 pub mod DetourLoading
 pub mod DetourImages
 pub mod SameRings
+pub mod SourceImages

@@ -19,7 +19,7 @@ use Rattle.mx_word.proofs.Fronts.{front-self}
 use Rattle.mx_words.specs.declared.order.Order.{Order}
 use Rattle.mx_top.specs.Answers.{output_of}
 use Rattle.mx_top.specs.Arguments.{Word}
-use Rattle.mx_top.specs.Loading.{source_image}
+use Rattle.mx_top.specs.Sources.{source_meaning}
 use Rattle.mx_top.specs.Objects.{Assembled, source_object}
 use Rattle.mx_top.specs.Pieces.{put_text}
 use Rattle.mx_top.specs.Product.{after_image, after_source, after_loading, after_object, closed_object, written_object, assembled_outcome, object_put, after_opening, after_reading, summed, summed_from, generated_run, source_generated, generator_steps}
@@ -43,9 +43,9 @@ from-front o (Ok s) m = window-front o.steps s m (dumped o.dump) (λ outcome t n
 pub image-front : (o : Order) (arguments : List Word) (image : Image) (m : HostModel) → IsFront m.output (output_of (image_run window_machine o arguments image m))
 image-front o arguments image m = from-front o (started window_machine o.ring image arguments) m
 
-pub source_image-front : (o : Order) (arguments : List Word) (r : Result Image Refusal) (m : HostModel) → IsFront m.output (output_of (after_image window_machine o arguments r m))
-source_image-front o arguments (Err refusal) m = front-self m.output
-source_image-front o arguments (Ok image) m = image-front o arguments image m
+pub meaning-front : (o : Order) (arguments : List Word) (r : Result Image Refusal) (m : HostModel) → IsFront m.output (output_of (after_image window_machine o arguments r m))
+meaning-front o arguments (Err refusal) m = front-self m.output
+meaning-front o arguments (Ok image) m = image-front o arguments image m
 
 pub loading-front : (o : Order) (arguments : List Word) (r : Result (Image × List Symbol) (ℕ × ℕ)) (m : HostModel) → IsFront m.output (output_of (after_loading window_machine o arguments r m))
 loading-front o arguments (Err (place, fault)) m = front-self m.output
@@ -62,7 +62,7 @@ generated-front o size (Err refusal) m = front-self m.output
 generated-front o size (Ok image) m = summed_from-front o.number size (started window_machine o.ring image _) m
 
 pub text_generated-front : (o : Order) (source : List ℕ) (m : HostModel) → IsFront m.output (output_of (source_generated window_machine o source m))
-text_generated-front o source m = generated-front o _ (source_image source) m
+text_generated-front o source m = generated-front o _ (source_meaning source) m
 
 -- FILES THAT ARE READ
 
@@ -72,7 +72,7 @@ quiet-front m t h = ([], h ∙ sym (append-nil m.output))
 after-source-front : (o : Order) (arguments : List Word) (m : HostModel) (t : Then (Result (List ℕ) Outcome)) → Quiet m t → IsFront m.output (output_of (after_source window_machine o arguments t))
 after-source-front o arguments m (Err e, n) h = quiet-front m (e, n) h
 after-source-front o arguments m (Ok source, n) h =
-    subst (λ xs. IsFront xs (output_of (after_source window_machine o arguments (Ok source, n)))) h (source_image-front o arguments (source_image source) n)
+    subst (λ xs. IsFront xs (output_of (after_source window_machine o arguments (Ok source, n)))) h (meaning-front o arguments (source_meaning source) n)
 
 after-object-front : (o : Order) (arguments : List Word) (m : HostModel) (t : Then (Result (List ℕ) Outcome)) → Quiet m t → IsFront m.output (output_of (after_object window_machine o arguments t))
 after-object-front o arguments m (Err e, n) h = quiet-front m (e, n) h
@@ -117,4 +117,4 @@ after-reading-front object m (Ok source, n) h = subst (λ xs. IsFront xs (after_
 pub reading-front : (m : HostModel) (source object : List ℕ) → IsFront m.output (after_reading object (file_bytes 1025 source m)).1.output
 reading-front m source object = after-reading-front object m (file_bytes 1025 source m) (file-quiet 1025 m source)
 
-pub ruleset fronts = (image-front, source_image-front, loading-front, generated-front, text_generated-front, source-front, object-front, shut-front, written-front, put-front, opened-front, reading-front)
+pub ruleset fronts = (image-front, meaning-front, loading-front, generated-front, text_generated-front, source-front, object-front, shut-front, written-front, put-front, opened-front, reading-front)

@@ -16,3 +16,4 @@ pub mod Runs
 pub mod Product
 pub mod Detour
 pub mod Rings
+pub mod Sources

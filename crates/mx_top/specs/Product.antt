@@ -22,12 +22,12 @@ use Rattle.mx_top.specs.Answers.{Answer, answered, wild, plainly, and_then}
 use Rattle.mx_top.specs.Arguments.{Word, word_at, arguments}
 use Rattle.mx_top.specs.Generator.{generated, summary}
 use Rattle.mx_top.specs.Lines.{lines_put}
-use Rattle.mx_top.specs.Loading.{source_image}
 use Rattle.mx_top.specs.Messages.{message_of}
 use Rattle.mx_top.specs.Objects.{Assembled, source_object}
 use Rattle.mx_top.specs.Pieces.{put_text}
 use Rattle.mx_top.specs.Runs.{Ran, ran, ran_wild, machine_ran, started, after_lines, image_run}
 use Rattle.mx_top.specs.Source.{file_bytes, source_pieces, object_pieces}
+use Rattle.mx_top.specs.Sources.{source_meaning}
 use Rattle.mx_top.specs.declared.refusal.Refusal.{Refusal}
 use Rattle.mx_top.specs.declared.outcome.Outcome.{Outcome}
 use Rattle.mx_top.specs.declared.outcome.Outcome.TheVariants.{Done, Usage, HostFault, Refused, BadObject, OutOfMemory}
@@ -44,7 +44,7 @@ after_image kind o arguments (Ok image) m = image_run kind o arguments image m
 
 abbrev pub after_source : MachineKind → Order → List Word → Then (Result (List ℕ) Outcome) → Answer
 after_source kind o arguments (Err outcome, m) = answered outcome m
-after_source kind o arguments (Ok source, m) = after_image kind o arguments (source_image source) m
+after_source kind o arguments (Ok source, m) = after_image kind o arguments (source_meaning source) m
 
 -- an object is refused, or its image is run
 abbrev pub after_loading : MachineKind → Order → List Word → Result (Image × List Symbol) (ℕ × ℕ) → HostModel → Answer
@@ -113,7 +113,7 @@ generated_run kind o size (Err refusal) m = answered (refused_with refusal) m
 generated_run kind o size (Ok image) m = summed_from kind o.number size (started kind o.ring image (codes "gen" ∷ [])) m
 
 abbrev pub source_generated : MachineKind → Order → List ℕ → HostModel → Answer
-source_generated kind o source m = generated_run kind o (length source) (source_image source) m
+source_generated kind o source m = generated_run kind o (length source) (source_meaning source) m
 
 -- ---- the words, and the message
 

@@ -2,11 +2,14 @@
 #![tactic(auto)]
 
 mod arguments;
+mod detour_laws;
 mod dump;
 mod dump_laws;
 mod emit;
+mod file_laws;
 mod generation;
 mod generator;
+mod image_laws;
 mod lines;
 mod loading;
 mod message;
@@ -20,18 +23,13 @@ mod run;
 mod source;
 mod top;
 
+pub use detour_laws::{
+    objects_load_as_their_sources, objects_run_as_their_sources, programs_go_by_no_count,
+};
 pub use dump_laws::dumps_show_what_programs_see;
+pub use file_laws::{files_are_read_whole, pieces_come_to_one_write};
+pub use image_laws::sources_are_loaded_as_they_mean;
 pub use names::{fault_name, usage_name};
 pub use outcome::Outcome;
 pub use ring_laws::two_rings_agree;
 pub use top::mmixware;
-
-mod file_laws;
-
-pub use file_laws::{files_are_read_whole, pieces_come_to_one_write};
-
-mod detour_laws;
-
-pub use detour_laws::{
-    objects_load_as_their_sources, objects_run_as_their_sources, programs_go_by_no_count,
-};

@@ -7,6 +7,7 @@ ghost use Rattle.mx_asm.specs.OnePass.{line_behind};
 ghost use Rattle.mx_line.specs.Lines.{lines_of};
 ghost use Rattle.mx_load.specs.Standing as loader_spec;
 ghost use Rattle.mx_top.specs.Loading as spec;
+ghost use Rattle.mx_top.specs.Sources.{source_meaning};
 
 use crate::refusal::{Refusal, SourceFault, is_out_of_memory, refusal_of, refused_at};
 use mx_asm::{Assembler, Refused};
@@ -173,9 +174,8 @@ fn end_image(alloc: Global, loader: Loader, items: &[Item]) -> Result<Image, Sou
 }
 
 /// The image of a source, or why there is none.
-#[tactic(auto, unfolding(crate::specs::Loading::source_image))]
 pub fn load_source(alloc: Global, text: &[u8]) -> Result<Image, SourceFault>
-    ensures { result ≢ Err SourceFault.OutOfMemory → spec.image_from result ≡ spec.source_image text.now }
+    ensures { result ≢ Err SourceFault.OutOfMemory → spec.image_from result ≡ source_meaning text.now }
 {
     let mut assembler = match Assembler::new(alloc) {
         Ok(assembler) => assembler,

@@ -10,10 +10,10 @@ ghost use Rattle.mx_ring.specs.Stack.{stack_address};
 ghost use Rattle.mx_run.specs.WildRuns.{window_machine, list_machine};
 ghost use Rattle.mx_word.specs.Results.{map_ok};
 ghost use Rattle.mx_top.specs.Answers.{AnswersAs, AnswersAsList, WritesFrontOf, is_usage};
-ghost use Rattle.mx_top.specs.Loading.{source_image};
 ghost use Rattle.mx_top.specs.Product as product;
 ghost use Rattle.mx_top.specs.Runs as spec;
 ghost use Rattle.mx_top.specs.Source.{file_bytes};
+ghost use Rattle.mx_top.specs.Sources.{source_meaning};
 
 use crate::dump::dump;
 use crate::loading::load_source;
@@ -171,11 +171,11 @@ fn run_source<H: Host>(
     requires some { 1 ≤ length arguments.now }
     requires fits { pool + 8 * length (pool_octas arguments.now) ≤ stack_address 0 }
     ensures told { AnswersAs (H.told host.old) (H.told host.new) result
-        (λ m. product.after_image window_machine order.now arguments.now (source_image text.now) m) }
+        (λ m. product.after_image window_machine order.now arguments.now (source_meaning text.now) m) }
     ensures listed { AnswersAsList (H.told host.old) (H.told host.new) result
-        (λ m. product.after_image list_machine order.now arguments.now (source_image text.now) m) }
+        (λ m. product.after_image list_machine order.now arguments.now (source_meaning text.now) m) }
     ensures front { WritesFrontOf (H.told host.old) (H.told host.new) result
-        (λ m. product.after_image window_machine order.now arguments.now (source_image text.now) m) }
+        (λ m. product.after_image window_machine order.now arguments.now (source_meaning text.now) m) }
     ensures rose { ComesByFault (H.told host.old) Outcome.HostFault result (H.faults host.old) (H.faults host.new) }
     ensures present { result ≢ Outcome.NoFile }
     ensures words { is_usage result ≡ false }
