@@ -1,5 +1,5 @@
 -- A run goes on by one step.
-use Rattle.std.proofs.Common.{◌≡◌, ℕ, zero, suc, ◌+◌, ◌-◌, ◌/◌, ◌<◌, ◌≤◌, Bool, true, false, cond, List, [], Option, None, Some, Ok, Err, arith, refl, sym, ◌∙◌, ap}
+use Rattle.std.proofs.Common.{◌≡◌, ◌≢◌, ℕ, zero, suc, ◌+◌, ◌-◌, ◌/◌, ◌<◌, ◌≤◌, Bool, true, false, cond, List, [], Option, None, Some, Ok, Err, arith, refl, sym, ◌∙◌, ap}
 use Rattle.std.specs.Prelude.{◌&&◌, not, nat_lt, Result}
 use Rattle.mx_word.specs.Lists.{IsFront}
 use Rattle.mx_word.proofs.Fronts.{front-self, front-through}
@@ -9,6 +9,7 @@ use Rattle.mx_core.specs.State.{State}
 use Rattle.mx_core.specs.Step.{Stepped, went, calls, stopped, step}
 use Rattle.mx_core.specs.Stepping.{advanced}
 use Rattle.mx_core.specs.declared.reason.Reason.{Reason}
+use Rattle.mx_core.specs.declared.step.Advance.{Advance}
 use Rattle.mx_core.specs.declared.step.Advance.TheVariants as advance
 use Rattle.mx_core.specs.declared.trace.Touch.{Touch}
 use Rattle.mx_core.specs.declared.trace.Trace.{Trace}
@@ -134,9 +135,17 @@ same-by s t (went u trace) e = let first : advance.Trap ≡ advance.Went = ap (�
 same-by s t (calls call) e = ap (λ p. p.1) e
 same-by s t (stopped reason) e = let first : advance.Trap ≡ advance.Stopped reason = ap (λ p. p.0) e in absurd (cc)
 
--- a call leaves the machine as it is
-pub free-called : (s t : State) → (advance.Trap, t) ≡ advanced s (step s) → t ≡ s
-free-called s t e = same-by s t (step s) e
+stop-same : (s t : State) (reason : Reason) (x : Stepped) → (advance.Stopped reason, t) ≡ advanced s x → t ≡ s
+stop-same s t reason (went u trace) e = let first : advance.Stopped reason ≡ advance.Went = ap (λ p. p.0) e in absurd (cc)
+stop-same s t reason (calls call) e = let first : advance.Stopped reason ≡ advance.Trap = ap (λ p. p.0) e in absurd (cc)
+stop-same s t reason (stopped other) e = ap (λ p. p.1) e
+
+-- an advance that does not go on leaves the machine as it is
+pub free-stays : (s t : State) (a : Advance) → a ≢ advance.Went → (a ≢ advance.OutOfMemory → (a, t) ≡ advanced s (step s)) → (a ≡ advance.OutOfMemory → t ≡ s) → t ≡ s
+free-stays s t advance.Went n f g = absurd (n refl)
+free-stays s t advance.Trap n f g = same-by s t (step s) (f (λ e. absurd (cc)))
+free-stays s t (advance.Stopped reason) n f g = stop-same s t reason (step s) (f (λ e. absurd (cc)))
+free-stays s t advance.OutOfMemory n f g = g refl
 
 either-output : {A : Type 0} (xs : List ℕ) (b : Bool) (x y : Answered A) → IsFront xs x.2.output → IsFront xs y.2.output → IsFront xs (cond b x y).2.output
 either-output xs true x y h k = h
@@ -147,7 +156,7 @@ pub step-unmade : (f : FlagsOf) (pass : Bool) (s : State) (m : HostModel) → Is
 unfolding run_step
 step-unmade f pass s m = either-output m.output ((f (s.pc / 4)).x && not pass) _ _ (front-self m.output) (turn-unmade s m)
 
-pub ruleset freely = (free-went, free-stopped, free-called, step-unmade)
+pub ruleset freely = (free-stopped, free-stays, step-unmade)
 
 -- the first step goes as the others
 passed : (n : ℕ) (pass : Bool) (s : State) (m : HostModel) → run n (flags_at []) pass s m ≡ run n (flags_at []) true s m

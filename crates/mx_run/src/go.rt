@@ -8,9 +8,10 @@ ghost use Rattle.mx_run.specs.FlagMaps.{flags_at};
 ghost use Rattle.mx_run.specs.Runs as spec;
 ghost use Rattle.mx_run.specs.WildRuns.{run_by, list_machine};
 
-use crate::steps::{free_step, run_step};
+use crate::steps::{run_step, step_not_gone};
+use crate::windows::know_window;
 use crate::{End, FlagMap};
-use mx_core::Machine;
+use mx_core::{Advance, Machine};
 use mx_host::Host;
 use std::alloc::Global;
 
@@ -60,9 +61,13 @@ pub fn go_freely<H: Host>(
     ensures keeps { Keeps (H.told host.old) (H.told host.new) (H.faults host.old) (H.faults host.new) }
 {
     for turn in 0..n {
-        match free_step(alloc, machine, flags, host) {
-            Ok(()) => {}
-            Err(end) => return end,
+        know_window(machine);
+        match machine.advance() {
+            Advance::Went => {}
+            answer => match step_not_gone(alloc, machine, flags, host, answer) {
+                Ok(()) => {}
+                Err(end) => return end,
+            },
         }
     }
     End::Spent

@@ -1,8 +1,10 @@
 //! A step of a run.
 
-ghost use Rattle.std.specs.Prelude.{◌≡◌, ◌/◌, ◌&&◌, not, [], Err, true};
+ghost use Rattle.std.specs.Prelude.{◌≡◌, ◌≢◌, ◌/◌, ◌&&◌, not, [], Err, true};
 ghost use Rattle.mx_host.specs.Keeping.{Keeps};
 ghost use Rattle.mx_core.specs.Kept.{state_of};
+ghost use Rattle.mx_core.specs.Step.{step};
+ghost use Rattle.mx_core.specs.Stepping.{advanced};
 ghost use Rattle.mx_run.specs.Clauses.{LeavesMachine, LeavesFront};
 ghost use Rattle.mx_run.specs.FlagMaps.{flags_at};
 ghost use Rattle.mx_run.specs.RunSteps as spec;
@@ -75,25 +77,27 @@ fn turn_and_end<H: Host>(
     end_of_turn(flags, pc, answer)
 }
 
-/// A step of a run without flags, or the end of the run. No trace is made but for a file trap.
-#[inline(always)]
+/// What an advance that did not go on comes to, in a run without flags: a file trap is made, or the run
+/// ends.
+#[inline(never)]
 #[tactic(auto, using(crate::proofs::RunSteps::freely))]
-pub fn free_step<H: Host>(
+pub fn step_not_gone<H: Host>(
     alloc: Global,
     machine: &mut Machine,
     flags: &FlagMap,
     host: &mut H,
+    answer: Advance,
 ) -> Result<(), End>
-    requires { flags.now ≡ [] }
+    requires flags { flags.now ≡ [] }
+    requires stays { answer ≢ Advance.Went }
+    requires answer { answer ≢ Advance.OutOfMemory → (answer, state_of machine.old) ≡ advanced (state_of machine.old) (step (state_of machine.old)) }
     ensures told { LeavesMachine (H.told host.old) (H.told host.new) (state_of machine.old) (state_of machine.new)
         (Err End.OutOfMemory) result (λ s m. spec.run_step (flags_at flags.now) true s m) }
     ensures front { LeavesFront (H.told host.old) (H.told host.new) (state_of machine.old)
         (Err End.OutOfMemory) result (λ s m. spec.run_step (flags_at flags.now) true s m) }
-    ensures over { HasWindow (state_of machine.old) }
     ensures keeps { Keeps (H.told host.old) (H.told host.new) (H.faults host.old) (H.faults host.new) }
 {
-    know_window(machine);
-    match machine.advance() {
+    match answer {
         Advance::Went => Ok(()),
         Advance::Trap => run_step(alloc, machine, flags, host, true),
         Advance::Stopped(reason) => Err(End::Stopped {
