@@ -28,24 +28,24 @@ returns-in-Err-clause-told g c = λ t ne.
 
 pub loop-turn-preserved : goal.loop-turn-preserved
 loop-turn-preserved g c = elim c.match-advance.branch [
-  in-Went w ↦
-    let made = free-went c.args.flags.now (state_of c.loop-turn.machine) (state_of c.advance.new.self) (contents (g.H.Host.told c.loop-turn.host)) c.requires (w.in-Went.ensures.answer (λ e. absurd (cc))) in
-    rw (w.machine-is, w.host-is) (record {
-      told = λ t. c.loop-turn.invariant.told t ∙ run-went _ _ _ _ _ _ _ _ _ c.loop-turn-test.true made ∙ free-run _ c.args.flags.now false _ _ c.requires;
-      listed = λ t u. list-freely _ c.args.flags.now false _ _ _ c.requires (list-went _ _ _ _ _ _ _ _ _ _ c.loop-turn-test.true c.know_window.ensures made (c.loop-turn.invariant.listed t u));
-      keeps = c.loop-turn.invariant.keeps;
-    })
+  | in-Went w ↦
+      let made = free-went c.args.flags.now (state_of c.loop-turn.machine) (state_of c.advance.new.self) (contents (g.H.Host.told c.loop-turn.host)) c.requires (w.in-Went.ensures.answer (λ e. absurd (cc))) in
+      rw (w.machine-is, w.host-is) (record {
+        told = λ t. c.loop-turn.invariant.told t ∙ run-went _ _ _ _ _ _ _ _ _ c.loop-turn-test.true made ∙ free-run _ c.args.flags.now false _ _ c.requires;
+        listed = λ t u. list-freely _ c.args.flags.now false _ _ _ c.requires (list-went _ _ _ _ _ _ _ _ _ _ c.loop-turn-test.true c.know_window.ensures made (c.loop-turn.invariant.listed t u));
+        keeps = c.loop-turn.invariant.keeps;
+      })
   | in_default+in-Ok w ↦
-    let same = free-stays (state_of c.loop-turn.machine) (state_of c.advance.new.self) c.advance.result w.in_default.not-Went c.advance.ensures.answer c.advance.ensures.memory in
-    let moved = ap (λ s. run_step (flags_at c.args.flags.now) true s (contents (g.H.Host.told c.loop-turn.host))) same in
-    rw (w.machine-is, w.host-is) (record {
-      told = λ t. c.loop-turn.invariant.told t ∙ run-went _ _ _ _ _ _ _ _ _ c.loop-turn-test.true
-          (w.in-Ok.ensures.told (subst IsTrue (sym c.loop-turn.invariant.keeps.telling) t) (λ e. cc) ∙ moved)
-          ∙ free-run _ c.args.flags.now false _ _ c.requires;
-      listed = λ t u. list-freely _ c.args.flags.now false _ _ _ c.requires (list-went _ _ _ _ _ _ _ _ _ _ c.loop-turn-test.true c.know_window.ensures
-          (w.in-Ok.ensures.told (subst IsTrue (sym c.loop-turn.invariant.keeps.telling) t) (λ e. cc) ∙ moved) (c.loop-turn.invariant.listed t u));
-      keeps = keeps-then _ _ _ _ _ _ c.loop-turn.invariant.keeps w.step_not_gone.ensures.keeps;
-    })
+      let same = free-stays (state_of c.loop-turn.machine) (state_of c.advance.new.self) c.advance.result w.in_default.not-Went c.advance.ensures.answer c.advance.ensures.memory in
+      let moved = ap (λ s. run_step (flags_at c.args.flags.now) true s (contents (g.H.Host.told c.loop-turn.host))) same in
+      rw (w.machine-is, w.host-is) (record {
+        told = λ t. c.loop-turn.invariant.told t ∙ run-went _ _ _ _ _ _ _ _ _ c.loop-turn-test.true
+            (w.in-Ok.ensures.told (subst IsTrue (sym c.loop-turn.invariant.keeps.telling) t) (λ e. cc) ∙ moved)
+            ∙ free-run _ c.args.flags.now false _ _ c.requires;
+        listed = λ t u. list-freely _ c.args.flags.now false _ _ _ c.requires (list-went _ _ _ _ _ _ _ _ _ _ c.loop-turn-test.true c.know_window.ensures
+            (w.in-Ok.ensures.told (subst IsTrue (sym c.loop-turn.invariant.keeps.telling) t) (λ e. cc) ∙ moved) (c.loop-turn.invariant.listed t u));
+        keeps = keeps-then _ _ _ _ _ _ c.loop-turn.invariant.keeps w.step_not_gone.ensures.keeps;
+      })
 ]
 
 pub returns-clause-told : goal.returns-clause-told
@@ -57,10 +57,10 @@ returns-in-Err-clause-front g c = λ t oom.
     let here = contents (g.H.Host.told c.loop-turn.host) in
     let same = free-stays (state_of c.loop-turn.machine) (state_of c.advance.new.self) _ c.in_default.not-Went c.advance.ensures.answer c.advance.ensures.memory in
     let left : IsFront (contents (g.H.Host.told c.step_not_gone.new.host)).output (run c.args.n (flags_at c.args.flags.now) true (state_of c.args.machine.now) (contents (g.H.Host.told c.args.host.now))).host.output =
-        subst (λ (r : Ended). IsFront (contents (g.H.Host.told c.step_not_gone.new.host)).output r.host.output) (sym (c.loop-turn.invariant.told t))
-        (run-wanting c.args.n c.loop-turn.turn (flags_at c.args.flags.now) true (state_of c.loop-turn.machine) here _ c.loop-turn-test.true
-        (subst (λ s. IsFront (contents (g.H.Host.told c.step_not_gone.new.host)).output (run_step (flags_at c.args.flags.now) true s here).2.output) same
-        (c.in-Err.ensures.front (subst IsTrue (sym c.loop-turn.invariant.keeps.telling) t) (ap Err oom)))) in
+    subst (λ (r : Ended). IsFront (contents (g.H.Host.told c.step_not_gone.new.host)).output r.host.output) (sym (c.loop-turn.invariant.told t))
+    (run-wanting c.args.n c.loop-turn.turn (flags_at c.args.flags.now) true (state_of c.loop-turn.machine) here _ c.loop-turn-test.true
+    (subst (λ s. IsFront (contents (g.H.Host.told c.step_not_gone.new.host)).output (run_step (flags_at c.args.flags.now) true s here).2.output) same
+    (c.in-Err.ensures.front (subst IsTrue (sym c.loop-turn.invariant.keeps.telling) t) (ap Err oom)))) in
     left
 
 -- beside the list machine
