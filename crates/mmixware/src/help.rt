@@ -4,20 +4,44 @@ use std::process::ExitCode;
 
 /// What `--help` prints.
 pub const HELP: &str = "\
-usage: mmixware run SRC
-       mmixware asm SRC OBJ
-       mmixware sim OBJ
+An assembler for MMIXAL and a simulator for MMIX.
 
-`run` assembles the MMIXAL source in the file SRC and runs it, `asm` assembles it
-into the object file OBJ, and `sim` runs an object file. The exit status is that
-of the program that was run; 64 and above may be the tool's own (see README.md).
+usage: mmixware run [--ring R] [--steps N] [-i] [--dump] SRC [ARG ...]
+       mmixware sim [--ring R] [--steps N] [-i] [--dump] OBJ [ARG ...]
+       mmixware asm SRC OBJ
+       mmixware gen [--ring R] N
+
+  run          assembles the source in the file SRC and runs it
+  sim          runs the object file OBJ
+  asm          assembles the source in the file SRC into the object file OBJ
+  gen          generates a program of N blocks (1 to 10000), runs it, and tells
+               its size, its steps and its sum
+
+  --ring R     the registers of the ring: a power of two from 256 to 65536
+               (256 if not given)
+  --steps N    how many steps are made at most: 1 to 10^12 (10^9 if not given)
+  -i           the console: commands from standard input
+  --dump       writes registers and memory to standard output at the end
+
+Options stand before the file and may repeat; the last one counts.
+
+exit status: that of the program (the low byte of $255 at Halt), and
+   0  done, or the console was left
+  64  the words are no command
+  65  the source or the object is refused
+  66  the file is missing
+  70  the program was stopped
+  71  out of memory
+  74  a file or a stream failed
+  75  all steps were made
+  76  the console took 2^32 bytes
 
        mmixware --help
        mmixware --version
 ";
 
 /// What `--version` prints.
-pub const VERSION: &str = "mmixware 0.1.0\n";
+pub const VERSION: &str = "mmixware 0.2.0\n";
 
 /// The status of a write to standard output that fails.
 const WRITE_FAULT: u8 = 74;

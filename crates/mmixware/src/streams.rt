@@ -4,7 +4,7 @@ ghost use Rattle.std.specs.Prelude.{◌≤◌, IfOk, IfSome, length};
 
 use mx_host::{HostFault, Mode};
 use std::fs::File;
-use std::io::{Read, Seek, SeekFrom, Write};
+use std::io::{ErrorKind, Read, Seek, SeekFrom, Write};
 
 /// What a slot is.
 #[derive(Drop)]
@@ -100,29 +100,63 @@ fn place_sought(len: u64, to: i64) -> Option<u64> {
     }
 }
 
+/// Reads what there is; a read that a signal interrupts is tried again.
+fn read_some<R: Read>(reader: &mut R, into: &mut [u8]) -> Option<usize>
+    ensures { IfSome result (λ n. n ≤ length into.old) }
+{
+    for _turn in 0..u64::MAX {
+        match reader.read(into) {
+            Ok(count) => return Some(count),
+            Err(e) => {
+                if e.kind() != ErrorKind::Interrupted {
+                    return None;
+                }
+            }
+        }
+    }
+    None
+}
+
 /// Reads until the buffer is full or the input ends.
 fn read_whole<R: Read>(reader: &mut R, into: &mut [u8]) -> Option<usize>
     ensures { IfSome result (λ n. n ≤ length into.old) }
 {
     let mut count = 0;
     for _turn in 0..into.len() {
-        match reader.read(&mut into[count..]) {
-            Ok(0) => break,
-            Ok(n) => count += n,
-            Err(_) => return None,
+        match read_some(reader, &mut into[count..]) {
+            Some(0) => break,
+            Some(n) => count += n,
+            None => return None,
         }
     }
     Some(count)
+}
+
+/// Writes what can be written; a write that a signal interrupts is tried again.
+fn write_some<W: Write>(writer: &mut W, from: &[u8]) -> Option<usize>
+    ensures { IfSome result (λ n. n ≤ length from.now) }
+{
+    for _turn in 0..u64::MAX {
+        match writer.write(from) {
+            Ok(count) => return Some(count),
+            Err(e) => {
+                if e.kind() != ErrorKind::Interrupted {
+                    return None;
+                }
+            }
+        }
+    }
+    None
 }
 
 /// Writes all bytes, and says whether it could.
 fn write_whole<W: Write>(writer: &mut W, from: &[u8]) -> bool {
     let mut count = 0;
     for _turn in 0..from.len() {
-        match writer.write(&from[count..]) {
-            Ok(0) => break,
-            Ok(n) => count += n,
-            Err(_) => return false,
+        match write_some(writer, &from[count..]) {
+            Some(0) => break,
+            Some(n) => count += n,
+            None => return false,
         }
     }
     count == from.len()

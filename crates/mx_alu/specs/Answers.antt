@@ -20,3 +20,11 @@ overflow v = if is_signed v then None else Some Overflow
 -- a whole number as the result, with overflow
 abbrev pub checked_answer : ℤ → Answer
 checked_answer v = record { x = octa v; h = None; r = None; event = overflow v }
+
+-- the result of an answer that is a result alone
+abbrev pub value_alone : ℕ → Option ℕ → Option ℕ → Option Event → Option ℕ
+value_alone x None None None = Some x
+value_alone x h r event = None
+
+abbrev pub lone_value : Answer → Option ℕ
+lone_value a = value_alone a.x a.h a.r a.event

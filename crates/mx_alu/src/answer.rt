@@ -73,3 +73,25 @@ pub(crate) fn overflow(v: i128) -> Option<Event>
         Err(_) => Some(Event::Overflow),
     }
 }
+
+/// A result modulo 2^64, where it lies from -2^63 to 2^63 - 1.
+#[inline(always)]
+pub(crate) fn fitting(v: i128) -> Option<u64>
+    ensures { result ≡ spec.lone_value (spec.checked_answer v) }
+{
+    match i64::try_from(v) {
+        Ok(_) => Some(low(v)),
+        Err(_) => None,
+    }
+}
+
+/// The result of an answer that is a result alone.
+#[inline(always)]
+pub(crate) fn lone(a: &Answer) -> Option<u64>
+    ensures { result ≡ spec.lone_value a.now }
+{
+    match (a.h, a.r, a.event) {
+        (None, None, None) => Some(a.x),
+        _ => None,
+    }
+}

@@ -1,12 +1,12 @@
 //! Sums, products, quotients, comparisons and shifts.
 
-ghost use Rattle.std.specs.Prelude.{◌≡◌, ◌≢◌, ◌+◌, ◌*◌, ◌/◌, ◌%◌, ◌^◌, ◌<◌, pos, ◌-ℤ◌, ◌*ℤ◌};
+ghost use Rattle.std.specs.Prelude.{ℕ, ◌≡◌, ◌≢◌, ◌+◌, ◌*◌, ◌/◌, ◌%◌, ◌^◌, ◌<◌, pos, ◌-ℤ◌, ◌*ℤ◌};
 ghost use Rattle.mx_word.specs.Words.{signed_value};
 ghost use Rattle.mx_alu.specs.Arithmetic as spec;
-ghost use Rattle.mx_alu.specs.Answers.{checked_answer};
+ghost use Rattle.mx_alu.specs.Answers.{checked_answer, lone_value};
 ghost use Rattle.mx_alu.specs.Numbers.{octa, floor_by, floor_quotient};
 
-use crate::answer::{low, overflow};
+use crate::answer::{fitting, lone, low, overflow};
 use crate::names::Arithmetic;
 use crate::{Answer, Event};
 use mx_word::{product, quotient, signed};
@@ -38,6 +38,35 @@ pub(crate) fn perform(name: Arithmetic, y: u64, z: u64, d: u64) -> Answer
         Arithmetic::Slu => Answer::alone(shift_left(y, z)),
         Arithmetic::Sr => Answer::alone(shift_right_signed(y, z)),
         Arithmetic::Sru => Answer::alone(shift_right(y, z)),
+    }
+}
+
+/// The result of the instruction of this name, where it gives nothing else.
+#[inline(always)]
+pub(crate) fn perform_alone(name: Arithmetic, y: u64, z: u64) -> Option<u64>
+    ensures { (d : ℕ) → result ≡ lone_value (spec.arithmetic name y z d) }
+{
+    match name {
+        Arithmetic::Addu => Some(y.wrapping_add(z)),
+        Arithmetic::Subu => Some(subtract(y, z)),
+        Arithmetic::TwoAddu => Some((y << 1).wrapping_add(z)),
+        Arithmetic::FourAddu => Some((y << 2).wrapping_add(z)),
+        Arithmetic::EightAddu => Some((y << 3).wrapping_add(z)),
+        Arithmetic::SixteenAddu => Some((y << 4).wrapping_add(z)),
+        Arithmetic::Cmp => Some(sign(signed(y).cmp(&signed(z)))),
+        Arithmetic::Cmpu => Some(sign(y.cmp(&z))),
+        Arithmetic::Negu => Some(subtract(y, z)),
+        Arithmetic::Slu => Some(shift_left(y, z)),
+        Arithmetic::Sr => Some(shift_right_signed(y, z)),
+        Arithmetic::Sru => Some(shift_right(y, z)),
+        Arithmetic::Add => fitting(value(y) + value(z)),
+        Arithmetic::Sub => fitting(value(y) - value(z)),
+        Arithmetic::Mul => lone(&perform(Arithmetic::Mul, y, z, 0)),
+        Arithmetic::Neg => fitting(i128::from(y) - value(z)),
+        Arithmetic::Sl => lone(&shift_left_signed(y, z)),
+        Arithmetic::Mulu => None,
+        Arithmetic::Div => None,
+        Arithmetic::Divu => None,
     }
 }
 

@@ -2,6 +2,7 @@
 
 ghost use Rattle.std.specs.Prelude.{◌≡◌, ◌<◌, ◌≤◌, IsTrue};
 ghost use Rattle.mx_alu.specs.Alu as spec;
+ghost use Rattle.mx_alu.specs.Answers.{lone_value};
 ghost use Rattle.mx_alu.specs.Names as names;
 ghost use Rattle.mx_alu.specs.Truth as conditions;
 ghost use Rattle.mx_alu.specs.Wydes as rows;
@@ -25,6 +26,22 @@ pub fn alu(code: u8, y: u64, z: u64, extra: Extra) -> Answer
     } else {
         let (name, place) = wyde_name(code);
         Answer::alone(wydes::perform(name, y, z, place))
+    }
+}
+
+/// The result of the instruction of this code, from #18 to #3f or from #c0 to #df, where it gives
+/// nothing else: no rH, no rR, and no event.
+#[tactic(auto, unfolding(crate::specs::Alu::alu))]
+#[inline(always)]
+pub fn lone_result(code: u8, y: u64, z: u64, extra: Extra) -> Option<u64>
+    requires alu { IsTrue (spec.is_alu code) }
+    requires other { code < 0xe0 }
+    ensures { result ≡ lone_value (spec.alu code y z extra) }
+{
+    if code < 0xc0 {
+        arithmetic::perform_alone(arithmetic_name(code), y, z)
+    } else {
+        Some(bitwise::perform(bitwise_name(code), y, z, extra.m))
     }
 }
 

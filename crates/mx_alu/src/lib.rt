@@ -14,4 +14,4 @@ mod tests;
 mod wydes;
 
 pub use answer::{Answer, Event, Extra};
-pub use codes::{alu, truth, wyde};
+pub use codes::{alu, lone_result, truth, wyde};

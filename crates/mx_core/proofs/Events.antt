@@ -1,17 +1,17 @@
 -- What instructions on whole numbers come to, with their events.
 use Rattle.std.proofs.Common.{◌≡◌, ℕ, ◌==◌, ◌||◌, Bool, true, false, if◌then◌else◌, List, [], ◌∷◌, ◌++◌, Option, None, Some, Result, Ok, Err, refl, sym, ap, ◌∙◌}
-use Rattle.mx_alu.specs.Alu.{alu}
+use Rattle.mx_alu.specs.Answers.{value_alone, lone_value}
 use Rattle.mx_alu.specs.declared.answer.Answer.{Answer}
 use Rattle.mx_alu.specs.declared.answer.Event.{Event}
 use Rattle.mx_ring.specs.Stack.{register, set_overfills}
-use Rattle.mx_spec.specs.SpecialRegisters.{rA}
+use Rattle.mx_spec.specs.SpecialRegisters.{rA, rH, rR}
 use Rattle.mx_trip.specs.Trips.{decided}
 use Rattle.mx_trip.specs.declared.decision.Trip.{Trip}
 use Rattle.mx_trip.specs.declared.decision.Trip.TheVariants.{Taken, Noted}
-use Rattle.mx_core.specs.Calls.{trip_taken, event_settled, raised, told_specials, answer_outcome}
+use Rattle.mx_core.specs.Calls.{trip_taken, event_settled, raised, told_specials, answer_outcome, settled}
 use Rattle.mx_core.specs.Deeds.{applied, onward, tripped, with_specials, outcome, deed_of, unless_refused, loads_in_segment, stores_in_segment}
-use Rattle.mx_core.specs.Effects.{Effect, Tripping, giving, with_event, with_decision, effect_of, y_operand, z_operand, answered, extra_of}
-use Rattle.mx_core.specs.Instructions.{Instruction, code_of, x_of, y_of, next_of}
+use Rattle.mx_core.specs.Effects.{Effect, Tripping, giving, with_event, with_decision, effect_of, y_operand, z_operand, answered, alu_answer, if_told}
+use Rattle.mx_core.specs.Instructions.{Instruction, x_of, y_of, next_of}
 use Rattle.mx_core.specs.State.{State, with_value_in, with_local, special_register, tetra}
 use Rattle.mx_core.specs.Stops.{reason_where, first_reason, form_fault, stack_fault, load_fault, store_fault, trip_fault, page_fault}
 use Rattle.mx_core.specs.declared.operation.Operation.TheVariants as op
@@ -58,10 +58,6 @@ answer-is : (s : State) (i : Instruction) (y z : ℕ) (a : Answer) → from_effe
 unfolding answer_outcome
 answer-is s i y z a = event-is s i y z a.x (told_specials a) a.event
 
--- the answer of an operation
-abbrev pub alu_answer : State → Instruction → ℕ → ℕ → Answer
-alu_answer s i y z = alu (code_of i) y z (extra_of s)
-
 pub compute_outcome : (s : State) (i : Instruction) → outcome s (deed_of op.Compute s i) ≡ answer_outcome s i (y_operand s i) (z_operand s i) (alu_answer s i (y_operand s i) (z_operand s i))
 unfolding effect_of form_fault stack_fault special_register
 compute_outcome s i =
@@ -74,3 +70,18 @@ unfolding effect_of form_fault stack_fault special_register
 negate_outcome s i =
     answer-is s i (y_of i) (z_operand (with_local s (x_of i)) i) (alu_answer s i (y_of i) (z_operand (with_local s (x_of i)) i))
     ∙ ap (λ z. answer_outcome s i (y_of i) z (alu_answer s i (y_of i) z)) (z_kept s i (x_of i))
+
+-- a result alone is settled as it is
+lone-by : (s : State) (i : Instruction) (y z x v : ℕ) (h r : Option ℕ) (event : Option Event) → Some x ≡ value_alone v h r event → raised s i v (if_told rH h ++ if_told rR r) y z event ≡ settled s (x_of i) x (next_of i)
+unfolding settled
+lone-by s i y z x v None None None e = let same : v ≡ x = cc in rw same refl
+lone-by s i y z x v None None (Some event) e = absurd (cc)
+lone-by s i y z x v None (Some p) event e = absurd (cc)
+lone-by s i y z x v (Some p) r event e = absurd (cc)
+
+lone-outcome : (s : State) (i : Instruction) (y z x : ℕ) (a : Answer) → Some x ≡ lone_value a → answer_outcome s i y z a ≡ settled s (x_of i) x (next_of i)
+unfolding answer_outcome
+lone-outcome s i y z x a e = lone-by s i y z x a.x a.h a.r a.event e
+
+pub compute_alone : (s : State) (i : Instruction) (x : ℕ) → Some x ≡ lone_value (alu_answer s i (y_operand s i) (z_operand s i)) → outcome s (deed_of op.Compute s i) ≡ settled s (x_of i) x (next_of i)
+compute_alone s i x e = compute_outcome s i ∙ lone-outcome s i (y_operand s i) (z_operand s i) x (alu_answer s i (y_operand s i) (z_operand s i)) e

@@ -1,8 +1,9 @@
 -- The tables of the code, in the order of the codes, against the names in the table of codes, by computing.
-use Rattle.std.proofs.Common.{◌≡◌, ◌<◌, ◌≤◌, ℕ, ◌-◌, ◌*◌, ◌%◌, ◌^◌, zero, suc, Bool, true, false, ◌&&◌, nat_le, map, get_or, refl, sym, ◌∙◌, ap, arith}
+use Rattle.std.proofs.Common.{◌≡◌, ◌<◌, ◌≤◌, ℕ, ◌-◌, ◌*◌, ◌%◌, ◌^◌, zero, suc, Bool, true, false, ◌&&◌, nat_le, nat_lt, map, get_or, refl, sym, ◌∙◌, ap, arith}
 use Rattle.std.proofs.lemmas.Bool.Decides.{nat_tests}
 use Rattle.std.specs.List.{range_with_len}
 use Rattle.std.proofs.lemmas.List.FromFn.{get_or-map-range_with_len}
+use Rattle.std.proofs.lemmas.Bool.{and_parts}
 use Rattle.mx_ops.specs.Opcodes.{opcode_rows, opcode_names, opcode_name, opcode_kinds, opcode_kind, is_immediate, is_backward}
 use Rattle.std.proofs.Math.Nat.{mod-eq_of_lt}
 use Rattle.mx_alu.specs.Alu.{is_alu}
@@ -34,7 +35,7 @@ backward-at code below = agree (λ k. get_or BACKWARD k false) (λ k. is_backwar
 
 -- the codes that an operation may have
 is_among : Operation → ℕ → Bool
-is_among op.Compute code = is_alu code
+is_among op.Compute code = is_alu code && nat_lt code 0xe0
 is_among op.Negate code = is_alu code
 is_among op.Wyde code = nat_le 0xe0 code && nat_le code 0xef
 is_among op.Branch code = nat_le 0x40 code && nat_le code 0x7f
@@ -46,9 +47,18 @@ among : (code : ℕ) → code < 256 → is_among (operation_of code) code ≡ tr
 unfolding opcode_rows opcode_names opcode_name load_names store_names operation_names operation_of is_among
 among code below = agree (λ k. is_among (operation_of k) k) (λ k. true) 256 code refl below
 
-pub computes : (code : ℕ) → code < 256 → operation_of code ≡ op.Compute → is_alu code ≡ true
+both-tests : (code : ℕ) → (is_alu code && nat_lt code 0xe0) ≡ true → (is_alu code ≡ true) × (code < 0xe0)
+both-tests code e = let parts = and_parts _ _ e in (parts.0, grind (arith, nat_tests))
+
+abbrev compute-bounds : (code : ℕ) → code < 256 → operation_of code ≡ op.Compute → (is_alu code ≡ true) × (code < 0xe0)
 unfolding is_among
-computes code below e = sym (ap (λ o. is_among o code) e) ∙ among code below
+compute-bounds code below e = both-tests code (sym (ap (λ o. is_among o code) e) ∙ among code below)
+
+pub computes : (code : ℕ) → code < 256 → operation_of code ≡ op.Compute → is_alu code ≡ true
+computes code below e = (compute-bounds code below e).0
+
+pub computes_low : (code : ℕ) → code < 256 → operation_of code ≡ op.Compute → code < 0xe0
+computes_low code below e = (compute-bounds code below e).1
 
 pub negates : (code : ℕ) → code < 256 → operation_of code ≡ op.Negate → is_alu code ≡ true
 unfolding is_among

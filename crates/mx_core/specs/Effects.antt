@@ -137,8 +137,11 @@ answered s i y z a = with_event s a.event y z (record (giving i a.x) { special =
 abbrev pub extra_of : State → Extra
 extra_of s = record { d = special_register s rD; m = special_register s rM }
 
+abbrev pub alu_answer : State → Instruction → ℕ → ℕ → Answer
+alu_answer s i y z = alu (code_of i) y z (extra_of s)
+
 abbrev pub computed : State → Instruction → ℕ → ℕ → Effect
-computed s i y z = answered s i y z (alu (code_of i) y z (extra_of s))
+computed s i y z = answered s i y z (alu_answer s i y z)
 
 -- the immediate wyde at its place
 abbrev pub wyde_value : Instruction → ℕ

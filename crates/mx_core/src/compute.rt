@@ -1,7 +1,7 @@
 //! Instructions that give $X a value and do nothing else.
 
 ghost use Rattle.std.specs.Prelude.{◌≡◌, true};
-ghost use Rattle.mx_core.specs.Calls.{CarriesOut};
+ghost use Rattle.mx_core.specs.Calls.{CarriesOut, Makes, answer_outcome};
 ghost use Rattle.mx_core.specs.Effects as spec;
 ghost use Rattle.mx_core.specs.Instructions.{code_of, operation_in};
 ghost use Rattle.mx_core.specs.Kept.{state_of};
@@ -12,17 +12,30 @@ use crate::Machine;
 use crate::instruction::Instruction;
 use crate::operation::Operation;
 use crate::stop::Stop;
-use mx_alu::{Extra, alu, truth, wyde};
+use mx_alu::{Extra, alu, lone_result, truth, wyde};
 
 impl Machine {
-    /// MUL to SRU and OR to MXOR, but for NEG and NEGU.
-    #[tactic(auto, using(crate::proofs::Events::compute_outcome, crate::proofs::Tables::computes))]
+    /// MUL to SRU and OR to MXOR, but for NEG and NEGU. Mostly the result is all that they give.
+    #[tactic(auto, using(crate::proofs::Events::compute_outcome, crate::proofs::Events::compute_alone, crate::proofs::Tables::computes, crate::proofs::Tables::computes_low))]
     #[inline(always)]
     pub(crate) fn compute(&mut self, i: &Instruction) -> Result<(), Stop>
         requires { operation_in i.now ≡ Operation.Compute }
         ensures { CarriesOut Operation.Compute i.now result self.old self.new }
     {
         let (y, z) = (self.y_operand(i), self.z_operand(i));
+        match lone_result(i.code(), y, z, self.extra()) {
+            Some(x) => self.settle(i, x, i.next()),
+            None => self.compute_wholly(i, y, z),
+        }
+    }
+
+    /// The same with what they give beside the result.
+    #[tactic(auto, using(crate::proofs::Tables::computes))]
+    #[inline(never)]
+    fn compute_wholly(&mut self, i: &Instruction, y: u64, z: u64) -> Result<(), Stop>
+        requires { operation_in i.now ≡ Operation.Compute }
+        ensures { Makes (λ s. answer_outcome s i.now y z (spec.alu_answer s i.now y z)) result self.old self.new }
+    {
         let a = alu(i.code(), y, z, self.extra());
         self.answer(i, y, z, &a)
     }

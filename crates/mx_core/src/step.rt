@@ -139,7 +139,9 @@ impl Machine {
         Instruction::new(at, self.tetra(at))
     }
 
-    /// Carries an instruction out, which is no TRAP.
+    /// Carries an instruction out, which is no TRAP. The frequent operations are told apart here, where
+    /// each call can be inlined into the loop over steps.
+    #[tactic(auto, using(crate::proofs::Unchanged::unchanged))]
     #[inline(always)]
     fn carry_out(&mut self, i: &Instruction) -> Result<(), Stop>
         ensures answer { MakesWithMemory (λ s. outcome s (deed_at s i.now)) result self.old self.new }
@@ -147,6 +149,10 @@ impl Machine {
         ensures there { LacksMemoryOnlyWhere (needs_page (state_of self.old) (deed_at (state_of self.old) i.now)) result }
     {
         match i.operation() {
+            Operation::Compute => self.compute(i),
+            Operation::Load(how) => self.load(how, i),
+            Operation::Branch => self.branch(i),
+            Operation::Store(how) => self.store_register(how, i),
             Operation::Resume => self.resume(i),
             _ => self.perform(i),
         }

@@ -13,7 +13,7 @@ keeps-then a b c k m n first second = record {
   output = λ t h. second.output (subst IsTrue (sym first.telling) t) (first.output t h);
   errors = λ t h. second.errors (subst IsTrue (sym first.telling) t) (first.errors t h);
   growing = λ t.
-    front-through (contents a).output (contents b).output (contents c).output (first.growing t) (second.growing (subst IsTrue (sym first.telling) t));
+      front-through (contents a).output (contents b).output (contents c).output (first.growing t) (second.growing (subst IsTrue (sym first.telling) t));
 }
 
 pub keeps-all : (a : Option HostModel) (k : ℕ) → Keeps a a k k

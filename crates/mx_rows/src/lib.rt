@@ -3,6 +3,18 @@
 #![tactic(auto)]
 
 #[cfg(test)]
+mod dumps;
+#[cfg(test)]
+mod failing;
+#[cfg(test)]
 mod objects;
 #[cfg(test)]
-mod runs;
+mod programs;
+#[cfg(test)]
+mod rings;
+#[cfg(test)]
+mod rows;
+#[cfg(test)]
+mod sources;
+#[cfg(test)]
+mod usage;

@@ -1,18 +1,59 @@
-//! Objects that are written and run, over a host in memory. The tetras of the objects were put
-//! together by hand from the table of the format.
+//! Objects that are written and run. Their tetras were put together by hand from the table of the
+//! format.
 
-use crate::runs::{FIRST, words};
+use crate::rows::{Due, FIRST, HELLO, comes_to, done, host, stopped, words};
 use mx_host::MemHost;
 use mx_top::{Outcome, mmixware};
 use std::alloc::Global;
 use std::test::Fail;
 
-/// The object of the first program.
-const FIRST_OBJECT: [u32; 13] = [
+/// The object of the program that prints its own name.
+const HELLO_OBJECT: [u32; 31] = [
+    // pre; file 0, ".mms"; loc #100, line 3
     0x9809_0101,
-    0x0000_0000,
+    0,
+    0x9806_0001,
+    0x2e6d_6d73,
     0x9801_0001,
     0x0000_0100,
+    0x9807_0003,
+    0x8fff_0100,
+    0x0000_0701,
+    0xf4ff_0000,
+    0x0000_0701,
+    0x0000_0000,
+    // fixr 3, for String at #114; then its bytes
+    0x9804_0003,
+    0x2c20_776f,
+    0x726c_640a,
+    0x0000_0000,
+    // post, stab and the trie, end
+    0x980a_00ff,
+    0x0000_0000,
+    0x0000_0100,
+    0x980b_0000,
+    0x203a_304d,
+    0x2061_2069,
+    0x026e_0100,
+    0x8230_5320,
+    0x7420_7220,
+    0x6920_6e02,
+    0x6701_1483,
+    0x2061_2072,
+    0x2067_0f76,
+    0x0181_0000,
+    0x980c_000a,
+];
+
+/// The object of the first program.
+const FIRST_OBJECT: [u32; 22] = [
+    0x9809_0101,
+    0,
+    0x9806_0001,
+    0x2e6d_6d73,
+    0x9801_0001,
+    0x0000_0100,
+    0x9807_0002,
     0x6869_0a00,
     0xf5ff_ffff,
     0x0000_0701,
@@ -21,7 +62,13 @@ const FIRST_OBJECT: [u32; 13] = [
     0x0000_0000,
     0x0000_0104,
     0x980b_0000,
-    0x980c_0000,
+    0x203a_304d,
+    0x2061_2069,
+    0x026e_0104,
+    0x8220_5420,
+    0x6520_7802,
+    0x7401_0081,
+    0x980c_0006,
 ];
 
 /// The bytes of tetras, and some more behind them.
@@ -34,97 +81,151 @@ fn bytes(alloc: Global, tetras: &[u32], more: &[u8]) -> Result<Vec<u8>, Fail> {
     Ok(made)
 }
 
-/// A host with the first source, an object and failing calls.
-fn host(alloc: Global, object: Vec<u8>, failing: &[u64]) -> Result<MemHost, Fail> {
-    let failing = Vec::from_slice(alloc, failing)?;
-    let mut host = MemHost::new(alloc, Vec::new(alloc), failing)?;
-    host.put_file(b"first.mms", Vec::from_slice(alloc, FIRST)?)?;
-    host.put_file(b"a.mmo", object)?;
-    Ok(host)
+/// Whether `sim a.mmo` comes to what is due of an object.
+fn sim(alloc: Global, object: &[u8], due: Due) -> Result<bool, Fail> {
+    let mut host = host(alloc, b"a.mmo", object, b"", &[])?;
+    comes_to(alloc, &mut host, &["sim", "a.mmo"], due)
 }
 
-/// What `sim a.mmo` comes to: the outcome, standard output and standard error.
-fn sim(
-    alloc: Global,
-    object: Vec<u8>,
-    failing: &[u64],
-    due: (Outcome, &[u8], &[u8]),
-) -> Result<bool, Fail> {
-    let mut host = host(alloc, object, failing)?;
-    let words = words(alloc, &["sim", "a.mmo"])?;
-    let outcome = mmixware(alloc, words.as_slice(), &mut host);
-    Ok((outcome, host.output(), host.errors()) == due)
+fn bad<'a>(place: u64, fault: u16, errors: &'a [u8]) -> Due<'a> {
+    Due {
+        outcome: Outcome::BadObject { place, fault },
+        output: b"",
+        errors,
+    }
 }
 
-fn bad(place: u64, fault: u16) -> Outcome {
-    Outcome::BadObject { place, fault }
+/// A host with a source in a file.
+fn with_source(alloc: Global, source: &str) -> Result<MemHost, Fail> {
+    host(alloc, b"hello.mms", source.as_bytes(), b"", &[])
 }
 
 #[test]
-fn asm_writes_the_first_object(rt: HostRuntime) -> Result<(), Fail> {
+fn sources_become_objects(rt: HostRuntime) -> Result<(), Fail> {
     let alloc = rt.alloc();
-    let object = bytes(alloc, &FIRST_OBJECT, b"")?;
-    let empty: &[u8] = &[];
-    let whole = object.as_slice();
-    // the failing call, the outcome, and what the object file holds then
-    let cases: [(&[u64], Outcome, Option<&[u8]>); 7] = [
-        (&[], Outcome::Done(0), Some(whole)),
-        // opening, reading and closing the source
-        (&[0], Outcome::HostFault, None),
-        (&[1], Outcome::HostFault, None),
-        (&[2], Outcome::HostFault, None),
-        // opening the object file, writing it, closing it
-        (&[3], Outcome::HostFault, None),
-        (&[4], Outcome::HostFault, Some(empty)),
-        (&[5], Outcome::HostFault, Some(whole)),
+    let cases: [(&str, &[u32]); 3] = [
+        (HELLO, &HELLO_OBJECT),
+        (FIRST, &FIRST_OBJECT),
+        // a source without its last newline has the same object
+        (
+            " LOC #100\nText BYTE 104,105,10,0\nMain GETA $255,Text\n TRAP 0,7,1\n TRAP 0,0,0",
+            &FIRST_OBJECT,
+        ),
     ];
-    for (failing, outcome, left) in cases {
-        let mut host = host(alloc, Vec::new(alloc), failing)?;
-        let words = words(alloc, &["asm", "first.mms", "first.mmo"])?;
-        assert_eq!(rt; mmixware(alloc, words.as_slice(), &mut host), outcome);
-        assert!(rt; host.file(b"first.mmo") == left);
-        assert!(rt; host.output().is_empty());
+    for (source, tetras) in cases {
+        let object = bytes(alloc, tetras, b"")?;
+        let mut host = with_source(alloc, source)?;
+        assert!(rt;
+            comes_to(
+                alloc,
+                &mut host,
+                &["asm", "hello.mms", "hello.mmo"],
+                done(0, b"")
+            )?
+        );
+        assert!(rt; host.file(b"hello.mmo") == Some(object.as_slice()));
     }
     Ok(())
 }
 
 #[test]
-fn sim_runs_the_first_object(rt: HostRuntime) -> Result<(), Fail> {
+fn objects_run_as_their_sources(rt: HostRuntime) -> Result<(), Fail> {
     let alloc = rt.alloc();
-    let failed: (Outcome, &[u8], &[u8]) = (Outcome::HostFault, b"", b"host fault\n");
-    let cases: [(&[u64], (Outcome, &[u8], &[u8])); 5] = [
-        (&[], (Outcome::Done(3), b"hi\n", b"")),
-        // opening, reading and closing the object; then the write of the text
-        (&[0], failed),
-        (&[1], failed),
-        (&[2], failed),
-        (&[3], (Outcome::Done(255), b"", b"")),
-    ];
-    for (failing, due) in cases {
-        let object = bytes(alloc, &FIRST_OBJECT, b"")?;
-        assert!(rt; sim(alloc, object, failing, due)?);
-    }
+    let object = bytes(alloc, &HELLO_OBJECT, b"")?;
+    let mut host = host(alloc, b"hello.mmo", object.as_slice(), b"", &[])?;
+    assert!(rt;
+        comes_to(
+            alloc,
+            &mut host,
+            &["sim", "hello.mmo"],
+            done(8, b"hello, world\n")
+        )?
+    );
     Ok(())
 }
 
 #[test]
-fn refused_sources_leave_an_empty_object(rt: HostRuntime) -> Result<(), Fail> {
+fn refused_sources_leave_what_stood_before(rt: HostRuntime) -> Result<(), Fail> {
     let alloc = rt.alloc();
-    let mut host = host(alloc, Vec::new(alloc), &[])?;
-    host.put_file(
-        b"b.mms",
-        Vec::from_slice(alloc, b"Main BYTE 1\nMain BYTE 2")?,
-    )?;
-    // what an older object file held is gone
-    let words = words(alloc, &["asm", "b.mms", "a.mmo"])?;
-    let refused = Outcome::Refused {
-        line: 2,
-        fault: 130,
-        from_line: 0,
+    // the items of the statements before the faulty one
+    let tetras = [
+        0x9809_0101,
+        0,
+        0x9806_0001,
+        0x2e6d_6d73,
+        0x9801_0001,
+        0x0000_0100,
+        0x9807_0002,
+        0xfd00_0000,
+    ];
+    let left = bytes(alloc, &tetras, b"")?;
+    let due = Due {
+        outcome: Outcome::Refused {
+            line: 3,
+            fault: 39,
+            from_line: 0,
+        },
+        output: b"",
+        errors: b"line 3: 39 UnknownOpcode\n",
     };
-    assert_eq!(rt; mmixware(alloc, words.as_slice(), &mut host), refused);
-    assert!(rt; host.errors() == b"line 2: 130 NotBuilt\n".as_slice());
-    assert!(rt; host.file(b"a.mmo").is_some_and(|left| left.is_empty()));
+    let mut host = with_source(alloc, " LOC #100\nMain SWYM\n FROB")?;
+    assert!(rt; comes_to(alloc, &mut host, &["asm", "hello.mms", "a.mmo"], due)?);
+    assert!(rt; host.file(b"a.mmo") == Some(left.as_slice()));
+    Ok(())
+}
+
+#[test]
+fn objects_in_pieces(rt: HostRuntime) -> Result<(), Fail> {
+    let alloc = rt.alloc();
+    // 2,000 tetras: the object goes out in two pieces
+    let mut source = Vec::from_slice(alloc, b"Main TRAP 0,0,0\n")?;
+    for _line in 1..2000u32 {
+        source.extend_from_slice(b" TRAP 0,0,0\n")?;
+    }
+    let mut host = host(alloc, b"b.mms", source.as_slice(), b"", &[])?;
+    assert!(rt; comes_to(alloc, &mut host, &["asm", "b.mms", "b.mmo"], done(0, b""))?);
+    // open, six pieces and close of the source; open, two pieces and close of the object
+    assert_eq!(rt; host.calls(), 12);
+    Ok(())
+}
+
+#[test]
+fn cut_objects(rt: HostRuntime) -> Result<(), Fail> {
+    let alloc = rt.alloc();
+    let object = bytes(alloc, &HELLO_OBJECT, b"")?;
+    let mut front = Vec::new(alloc);
+    let mut count = 0u64;
+    for byte in object.as_slice() {
+        // the bytes that are left over, or the end
+        let (place, fault) = if count % 4 == 0 {
+            (count, 64)
+        } else {
+            (count - count % 4, 60)
+        };
+        let mut host = host(alloc, b"a.mmo", front.as_slice(), b"", &[])?;
+        let words = words(alloc, &["sim", "a.mmo"])?;
+        let outcome = mmixware(alloc, words.as_slice(), &mut host);
+        assert_eq!(rt; outcome, Outcome::BadObject { place, fault }, "{count}");
+        front.push(*byte)?;
+        count = count.wrapping_add(1);
+    }
+    // a tetra behind the end, and a second end
+    let zero = bytes(alloc, &HELLO_OBJECT, b"\0\0\0\0")?;
+    assert!(rt;
+        sim(
+            alloc,
+            zero.as_slice(),
+            bad(128, 64, b"byte 128: 64 Truncated\n")
+        )?
+    );
+    let twice = bytes(alloc, &HELLO_OBJECT, b"\x98\x0c\0\x0a")?;
+    assert!(rt;
+        sim(
+            alloc,
+            twice.as_slice(),
+            bad(124, 63, b"byte 124: 63 BadFields\n")
+        )?
+    );
     Ok(())
 }
 
@@ -145,22 +246,20 @@ fn with_trie(trie: u32) -> [u32; 8] {
 #[test]
 fn bad_objects(rt: HostRuntime) -> Result<(), Fail> {
     let alloc = rt.alloc();
-    let cases: [(&[u32], &[u8], Outcome, &[u8]); 10] = [
+    let cases: [(&[u32], &[u8], Due); 10] = [
         // a lopcode that does not exist
         (
             &[0x9809_0101, 0, 0x980d_0000],
             b"",
-            bad(8, 62),
-            b"byte 8: 62 BadLop\n",
+            bad(8, 62, b"byte 8: 62 BadLop\n"),
         ),
         // no bytes; no `pre`; a byte that is no tetra
-        (&[], b"", bad(0, 64), b"byte 0: 64 Truncated\n"),
-        (&[0], b"", bad(0, 61), b"byte 0: 61 NoPre\n"),
+        (&[], b"", bad(0, 64, b"byte 0: 64 Truncated\n")),
+        (&[0], b"", bad(0, 61, b"byte 0: 61 NoPre\n")),
         (
             &[0x9809_0101, 0],
             b"\x98",
-            bad(8, 60),
-            b"byte 8: 60 NotTetras\n",
+            bad(8, 60, b"byte 8: 60 NotTetras\n"),
         ),
         // a count of the trie that is wrong
         (
@@ -174,97 +273,80 @@ fn bad_objects(rt: HostRuntime) -> Result<(), Fail> {
                 0x980c_0001,
             ],
             b"",
-            bad(24, 63),
-            b"byte 24: 63 BadFields\n",
+            bad(24, 63, b"byte 24: 63 BadFields\n"),
         ),
         // a trie with no symbol and the padding behind it; one whose node has the mark of a wide
         // character, but no character; one with more than padding behind it
-        (&with_trie(0), b"", Outcome::Done(0), b""),
+        (&with_trie(0), b"", done(0, b"")),
         (
             &with_trie(0x8000_0000),
             b"",
-            bad(24, 72),
-            b"byte 24: 72 Wide\n",
+            bad(24, 72, b"byte 24: 72 Wide\n"),
         ),
         (
             &with_trie(0x0040_4040),
             b"",
-            bad(25, 71),
-            b"byte 25: 71 Padding\n",
+            bad(25, 71, b"byte 25: 71 Padding\n"),
         ),
         // a tetra in the stack segment: the place is the tetra's
         (
             &[0x9809_0101, 0, 0x9801_6001, 0, 1, 0x980d_0000],
             b"",
-            bad(16, 95),
-            b"byte 16: 95 BadPlace\n",
+            bad(16, 95, b"byte 16: 95 BadPlace\n"),
         ),
         // the same behind a fault of reading, which comes first
         (
             &[0x9809_0101, 0, 0x980d_0000, 0x9801_6001, 0, 1],
             b"",
-            bad(8, 62),
-            b"byte 8: 62 BadLop\n",
+            bad(8, 62, b"byte 8: 62 BadLop\n"),
         ),
     ];
-    for (tetras, more, outcome, message) in cases {
+    for (tetras, more, due) in cases {
         let object = bytes(alloc, tetras, more)?;
-        assert!(rt; sim(alloc, object, &[], (outcome, b"", message))?);
+        assert!(rt; sim(alloc, object.as_slice(), due)?);
     }
     Ok(())
 }
 
-/// An object in the pool segment that prints argument 0.
-const PRINTING: [u32; 12] = [
-    0x9809_0101,
-    0,
-    0x9801_4001,
-    0x0000_0100,
-    0xf5ff_ffc6,
-    0x0000_0701,
-    0x0000_0000,
-    0x980a_00ff,
-    0x4000_0000,
-    0x0000_0100,
-    0x980b_0000,
-    0x980c_0000,
-];
+#[test]
+fn objects_of_other_tools(rt: HostRuntime) -> Result<(), Fail> {
+    let alloc = rt.alloc();
+    // a time in `pre`, a file that is never named, the halt at #100, a trie with left branches
+    let tetras = [
+        0x9809_0101,
+        0x36f4_a363,
+        0x9801_0001,
+        0x0000_0100,
+        0,
+        0x980a_00ff,
+        0,
+        0x100,
+        0x980b_0000,
+        0x203a_4040,
+        0x1040_4020,
+        0x4d20_6120,
+        0x6901_6e00,
+        0x8100_0000,
+        0x980c_0005,
+    ];
+    let object = bytes(alloc, &tetras, b"")?;
+    assert!(rt; sim(alloc, object.as_slice(), done(0, b""))?);
+    Ok(())
+}
 
 #[test]
-fn the_argument_stands_in_the_pool(rt: HostRuntime) -> Result<(), Fail> {
+fn objects_that_are_too_long(rt: HostRuntime) -> Result<(), Fail> {
     let alloc = rt.alloc();
-    // a last `.mms` or `.mmo` is cut off, and nothing else
-    let cases: [(&str, &[u8]); 6] = [
-        ("b.mmo", b"b"),
-        ("b.mms", b"b"),
-        ("b.mmx", b"b.mmx"),
-        ("d.mms.mmo", b"d.mms"),
-        (".mms", b""),
-        ("mmo", b"mmo"),
-    ];
-    for (word, argument) in cases {
-        let mut host = host(alloc, Vec::new(alloc), &[])?;
-        host.put_file(word.as_bytes(), bytes(alloc, &PRINTING, b"")?)?;
-        let words = words(alloc, &["sim", word])?;
-        let outcome = mmixware(alloc, words.as_slice(), &mut host);
-        assert_eq!(rt; outcome, Outcome::Done(argument.len() as u8));
-        assert!(rt; host.output() == argument);
-    }
-    // the zero octa behind the pointers replaces what the object has there; 0 halts
-    let replaced = [
-        0x9809_0101,
-        0,
-        0x9801_4001,
-        0x0000_0010,
-        0x1234_5678,
-        0x980a_00ff,
-        0x4000_0000,
-        0x0000_0010,
-        0x980b_0000,
-        0x980c_0000,
-    ];
-    let object = bytes(alloc, &replaced, b"")?;
-    assert!(rt; sim(alloc, object, &[], (Outcome::Done(16), b"", b""))?);
+    // more than 2^26 bytes come before any other fault
+    let mut object = Vec::new(alloc);
+    object.resize((1 << 26) + 1, 0)?;
+    assert!(rt;
+        sim(
+            alloc,
+            object.as_slice(),
+            bad(1 << 26, 65, b"byte 67108864: 65 TooLong\n")
+        )?
+    );
     Ok(())
 }
 
@@ -283,41 +365,21 @@ fn on_pages(alloc: Global, pages: u32) -> Result<Vec<u8>, Fail> {
 #[test]
 fn full_pages(rt: HostRuntime) -> Result<(), Fail> {
     let alloc = rt.alloc();
-    // with 65,535 pages the argument has the last one
+    // with 65,535 pages the arguments have the last one
     let object = on_pages(alloc, 65535)?;
-    assert!(rt; sim(alloc, object, &[], (Outcome::Done(0), b"", b""))?);
-    // with 65,536 there is none for it
-    let full = Outcome::Stopped {
-        pc: 0x100,
-        reason: 118,
-    };
-    let message = b"#0000000000000100: 118 PagesFull\n";
+    assert!(rt; sim(alloc, object.as_slice(), done(0, b""))?);
+    // with 65,536 there is none for them
     let object = on_pages(alloc, 65536)?;
-    assert!(rt; sim(alloc, object, &[], (full, b"", message))?);
+    let due = stopped(0x100, 118, b"#0000000000000100: 118 PagesFull\n");
+    assert!(rt; sim(alloc, object.as_slice(), due)?);
     // one more is a fault of the object, at the tetra that needs it
     let object = on_pages(alloc, 65537)?;
-    let message = b"byte 786448: 90 PagesFull\n";
-    assert!(rt; sim(alloc, object, &[], (bad(786_448, 90), b"", message))?);
-    Ok(())
-}
-
-#[test]
-fn objects_in_pieces(rt: HostRuntime) -> Result<(), Fail> {
-    let alloc = rt.alloc();
-    // 2,000 tetras: an object of 8,028 bytes goes out in two pieces
-    let mut source = Vec::from_slice(alloc, b"Main TRAP 0,0,0\n")?;
-    for line in 1..2000u32 {
-        source.extend_from_slice(b" TRAP 0,0,0\n")?;
-    }
-    let mut host = host(alloc, Vec::new(alloc), &[])?;
-    host.put_file(b"b.mms", source)?;
-    let words = words(alloc, &["asm", "b.mms", "b.mmo"])?;
-    assert_eq!(rt;
-        mmixware(alloc, words.as_slice(), &mut host),
-        Outcome::Done(0)
+    assert!(rt;
+        sim(
+            alloc,
+            object.as_slice(),
+            bad(786_448, 90, b"byte 786448: 90 PagesFull\n")
+        )?
     );
-    // open, six pieces and close of the source; open, two pieces and close of the object
-    assert_eq!(rt; host.calls(), 12);
-    assert!(rt; host.file(b"b.mmo").is_some_and(|left| left.len() == 8028));
     Ok(())
 }

@@ -14,6 +14,7 @@ pub mod PutPieces
 pub mod QuietFiles
 pub mod ReadPieces
 pub mod SameDumps
+pub mod SameRings
 pub mod SessionRuns
 pub mod Sources
 pub mod SpecialNames

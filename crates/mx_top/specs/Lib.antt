@@ -16,3 +16,4 @@ pub mod Runs
 pub mod Product
 pub mod Sources
 pub mod Detour
+pub mod Rings
