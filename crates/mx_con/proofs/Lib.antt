@@ -9,3 +9,4 @@ pub mod Answers
 pub mod ListedLines
 pub mod StepLaws
 pub mod SessionLines
+pub mod SteadySessions
