@@ -1,8 +1,8 @@
 -- The object of a source is loaded as what the source is run from.
 use Rattle.std.proofs.Common.{◌≡◌, ℕ, ◌^◌, ◌≤◌, List, ◌++◌, length, refl, sym, ◌∙◌, ap, subst, Ok}
 use Rattle.std.specs.Prelude.{Result}
+use Rattle.mx_word.specs.Ranges.{AreBytes}
 use Rattle.mx_word.specs.declared.symbols.Symbol.{Symbol}
-use Rattle.mx_line.specs.Lines.{lines_of}
 use Rattle.mx_mmo.specs.Image.{Image}
 use Rattle.mx_mmo.specs.Meaning.{meaning}
 use Rattle.mx_mmo.specs.Spelling.{written, ending}
@@ -15,12 +15,11 @@ use Rattle.mx_load.proofs.Apart.{object-holds}
 use Rattle.mx_stab.specs.Reading.{trie_answer}
 use Rattle.mx_asm.specs.Fitting.{AreWritable}
 use Rattle.mx_asm.specs.OnePass.{Ended}
-use Rattle.mx_asm.specs.Whole.{assembled_source, one_pass}
-use Rattle.mx_asm.proofs.EndLaw.{whole-is}
-use Rattle.mx_top.specs.Loading.{source_image}
+use Rattle.mx_asm.specs.Whole.{assembled_source}
 use Rattle.mx_top.specs.Objects.{Assembled, source_object}
 use Rattle.mx_top.specs.Objects as assembling
-use Rattle.mx_top.proofs.DetourLoading.{items-mean}
+use Rattle.mx_top.specs.Sources.{source_meaning}
+use Rattle.mx_top.proofs.SourceImages.{items-mean-image}
 
 object-is : (text trie : List ℕ) (items : List Item) → assembled_source text ≡ (items, Ok trie) → source_object text ≡ (written items ++ ending trie, Ok tt)
 unfolding source_object
@@ -35,10 +34,10 @@ written-loaded items trie symbols image w short answer means =
     object-holds (written items ++ ending trie) object image (written-read items trie w.valid w.padded.whole w.padded.most short) means
     ∙ ap (λ r. with_symbols image (trie_read place r)) answer
 
-pub source-loads : (text trie : List ℕ) (items : List Item) (symbols : List Symbol) (image : Image) → assembled_source text ≡ (items, Ok trie) → AreWritable items trie → length (source_object text).0 ≤ 2 ^ 26 →
-    trie_answer trie ≡ Ok symbols → source_image text ≡ Ok image → object_loaded (source_object text).0 ≡ Ok (image, symbols)
-source-loads text trie items symbols image e w short answer h =
+pub source-loads : (text trie : List ℕ) (items : List Item) (symbols : List Symbol) (image : Image) → AreBytes text → assembled_source text ≡ (items, Ok trie) → AreWritable items trie → length (source_object text).0 ≤ 2 ^ 26 →
+    trie_answer trie ≡ Ok symbols → source_meaning text ≡ Ok image → object_loaded (source_object text).0 ≡ Ok (image, symbols)
+source-loads text trie items symbols image b e w short answer h =
     let bytes : (source_object text).0 ≡ written items ++ ending trie = ap (λ (x : Assembled). x.0) (object-is text trie items e) in
-    let same : (one_pass (lines_of text)).0 ≡ items = ap (λ (x : Ended). x.0) (whole-is (lines_of text) ∙ e) in
-    let means : meaning items ≡ Ok image = ap meaning (sym same) ∙ items-mean text image h in
+    let same : (assembled_source text).0 ≡ items = ap (λ (x : Ended). x.0) e in
+    let means : meaning items ≡ Ok image = ap meaning (sym same) ∙ items-mean-image text image b h in
     ap object_loaded bytes ∙ written-loaded items trie symbols image w (subst (λ xs. length xs ≤ 2 ^ 26) bytes short) answer means

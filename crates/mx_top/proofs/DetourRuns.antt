@@ -28,7 +28,7 @@ use Rattle.mx_words.specs.declared.order.WordsFault.{WordsFault}
 use Rattle.mx_top.specs.Answers.{Answer, answered, plainly}
 use Rattle.mx_top.specs.Arguments.{Word, word_at, arguments, program_name}
 use Rattle.mx_top.specs.Detour.{answer_uncounted, asm_words, run_words, sim_words, AreOrdered, IsAssembled, LoadsAlike}
-use Rattle.mx_top.specs.Loading.{source_image}
+use Rattle.mx_top.specs.Sources.{source_meaning}
 use Rattle.mx_top.specs.Messages.{message_of}
 use Rattle.mx_top.specs.Objects.{Assembled, source_object}
 use Rattle.mx_top.specs.Product.{after_image, after_source, after_loading, after_object, assembled_outcome, object_put, after_opening, after_reading, carried_out, message_told, with_message, product}
@@ -155,7 +155,7 @@ short-loaded bytes image symbols e = on (nat_lt limit (length bytes)) refl
 
 runs-alike : (kind : MachineKind) (files : List StoredFile) (slots : List Slot) (m : HostModel) (source object : Word) (rest : List Word) (o : Order) (text bytes : List ℕ) (at : ℕ) → 256 < length slots →
     bytes_eq source object ≡ false → program_name source ≡ program_name object → place_of files source ≡ Some at → text_at files at ≡ text →
-    (image : Image) (symbols : List Symbol) → source_image text ≡ Ok image → object_loaded bytes ≡ Ok (image, symbols) →
+    (image : Image) (symbols : List Symbol) → source_meaning text ≡ Ok image → object_loaded bytes ≡ Ok (image, symbols) →
     let n : HostModel = idle (put_at files object bytes (place_of files object)) slots m in
     after_source kind (record o { command = Run }) (program_name source ∷ rest) (file_bytes 1025 source n)
     ≡ after_object kind (record o { command = Sim }) (program_name object ∷ rest) (file_bytes 16385 object n)
@@ -171,7 +171,7 @@ runs-alike kind files slots m source object rest o text bytes at h apart alike f
     let short : length bytes ≤ 2 ^ 26 = short-loaded bytes image symbols loaded in
     let whole : take (4096 * 16385) (bytes_at others (home files p)) ≡ bytes = ap (take (4096 * 16385)) held ∙ take_all (4096 * 16385) bytes (omega arith) in
     ap (after_source kind (record o { command = Run }) (program_name source ∷ rest)) (file-idle 1025 others slots m source at h there)
-    ∙ ap (λ xs. after_image kind (record o { command = Run }) (program_name source ∷ rest) (source_image xs) after) is
+    ∙ ap (λ xs. after_image kind (record o { command = Run }) (program_name source ∷ rest) (source_meaning xs) after) is
     ∙ ap (λ r. after_image kind (record o { command = Run }) (program_name source ∷ rest) r after) fine
     ∙ ap (λ (w : Word). image_run kind (record o { command = Run }) (w ∷ rest) image after) alike
     ∙ ap (λ r. after_loading kind (record o { command = Sim }) (program_name object ∷ rest) r after) (sym loaded)

@@ -26,7 +26,6 @@ pub mod WholeFiles
 pub mod JoinedWrites
 pub mod SteadyProduct
 pub mod DetourRuns
-pub mod DetourLoading
 pub mod DetourImages
 pub mod SameRings
 pub mod SourceImages

@@ -29,7 +29,7 @@ use Rattle.mx_top.specs.Detour.{answer_uncounted}
 use Rattle.mx_top.specs.Dump.{dump_lines}
 use Rattle.mx_top.specs.Generator.{generated, summary}
 use Rattle.mx_top.specs.Lines.{lines_put}
-use Rattle.mx_top.specs.Loading.{source_image}
+use Rattle.mx_top.specs.Sources.{source_meaning}
 use Rattle.mx_top.specs.Messages.{message_of}
 use Rattle.mx_top.specs.Objects.{Assembled, source_object}
 use Rattle.mx_top.specs.Pieces.{put_text}
@@ -98,7 +98,7 @@ after_image-steady kind o words (Ok image) m h = image-steady kind o words image
 
 source-case : (kind : MachineKind) (o : Order) (words : List Word) (r : Result (List ℕ) Outcome) (m : HostModel) → m.failing ≡ [] → SteadyAnswers (after_source kind o words (r, m)) (after_source kind o words (r, still m))
 source-case kind o words (Err outcome) m h = (refl, h)
-source-case kind o words (Ok source) m h = after_image-steady kind o words (source_image source) m h
+source-case kind o words (Ok source) m h = after_image-steady kind o words (source_meaning source) m h
 
 loading-steady : (kind : MachineKind) (o : Order) (words : List Word) (r : Result (Image × List Symbol) (ℕ × ℕ)) (m : HostModel) → m.failing ≡ [] → SteadyAnswers (after_loading kind o words r m) (after_loading kind o words r (still m))
 loading-steady kind o words (Err (place, fault)) m h = (refl, h)
@@ -185,7 +185,7 @@ ordered-steady : (kind : MachineKind) (words : List Word) (o : Order) (c : Comma
 ordered-steady kind words o Run m h = run-order kind words o m h
 ordered-steady kind words o Sim m h = sim-order kind words o m h
 ordered-steady kind words o Asm m h = asm-order (word_at words o.file) (word_at words o.rest) m h
-ordered-steady kind words o Gen m h = generated-steady kind o (length (generated o.number)) (source_image (generated o.number)) m h
+ordered-steady kind words o Gen m h = generated-steady kind o (length (generated o.number)) (source_meaning (generated o.number)) m h
 
 words-steady : (kind : MachineKind) (words : List Word) (r : Result Order WordsFault) (m : HostModel) → m.failing ≡ [] → SteadyAnswers (carried_out kind words r m) (carried_out kind words r (still m))
 words-steady kind words (Err fault) m h = (refl, h)

@@ -12,7 +12,7 @@ use Rattle.mx_words.specs.declared.order.Command.TheVariants.{Run, Sim}
 use Rattle.mx_words.specs.declared.order.Order.{Order}
 use Rattle.mx_top.specs.Answers.{Answer, answered, wild}
 use Rattle.mx_top.specs.Arguments.{Word, program_name}
-use Rattle.mx_top.specs.Loading.{source_image}
+use Rattle.mx_top.specs.Sources.{source_meaning}
 use Rattle.mx_top.specs.Objects.{source_object}
 use Rattle.mx_top.specs.Product.{product}
 use Rattle.mx_top.specs.Source.{file_bytes, source_pieces}
@@ -55,5 +55,5 @@ pub record IsAssembled (kind : MachineKind) (source object : Word) (text : List 
 pub record LoadsAlike (text : List ℕ) : Type 0 where
   pub image : Image
   pub symbols : List Symbol
-  pub source : source_image text ≡ Ok image
+  pub source : source_meaning text ≡ Ok image
   pub object : object_loaded (source_object text).0 ≡ Ok (image, symbols)

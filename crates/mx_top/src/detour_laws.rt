@@ -1,6 +1,7 @@
 //! Laws of whole runs of the program where no call fails.
 
 ghost use Rattle.std.specs.Prelude.{◌≡◌, ◌≤◌, ◌^◌, List, ℕ, [], length, Ok};
+ghost use Rattle.mx_word.specs.Ranges.{AreBytes};
 ghost use Rattle.mx_word.specs.declared.symbols.Symbol.{Symbol};
 ghost use Rattle.mx_host.specs.HostModel.{HostModel};
 ghost use Rattle.mx_mmo.specs.Image.{Image};
@@ -13,7 +14,7 @@ ghost use Rattle.mx_run.specs.WildRuns.{MachineKind};
 ghost use Rattle.mx_trap.specs.Counts.{with_calls};
 ghost use Rattle.mx_top.specs.Arguments.{Word};
 ghost use Rattle.mx_top.specs.Detour.{AreOrdered, IsAssembled, LoadsAlike, answer_uncounted, run_words, sim_words};
-ghost use Rattle.mx_top.specs.Loading.{source_image};
+ghost use Rattle.mx_top.specs.Sources.{source_meaning};
 ghost use Rattle.mx_top.specs.Objects.{source_object};
 ghost use Rattle.mx_top.specs.Product.{product};
 
@@ -43,7 +44,7 @@ pub fn objects_run_as_their_sources()
 #[tactic(auto)]
 pub fn objects_load_as_their_sources()
     ensures { (text trie : List ℕ) (items : List Item) (symbols : List Symbol) (image : Image) →
-        assembled_source text ≡ (items, Ok trie) → AreWritable items trie → length (source_object text).0 ≤ 2 ^ 26 →
-        trie_answer trie ≡ Ok symbols → source_image text ≡ Ok image →
+        AreBytes text → assembled_source text ≡ (items, Ok trie) → AreWritable items trie → length (source_object text).0 ≤ 2 ^ 26 →
+        trie_answer trie ≡ Ok symbols → source_meaning text ≡ Ok image →
         object_loaded (source_object text).0 ≡ Ok (image, symbols) }
 {}
