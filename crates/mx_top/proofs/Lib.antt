@@ -29,3 +29,4 @@ pub mod DetourRuns
 pub mod DetourImages
 pub mod SameRings
 pub mod SourceImages
+pub mod UnbrokenRuns
