@@ -30,3 +30,4 @@ pub mod JoinedWrites
 pub mod SteadyProduct
 pub mod DetourRuns
 pub mod DetourImages
+pub mod UnbrokenRuns

@@ -17,3 +17,4 @@ pub mod Product
 pub mod Sources
 pub mod Detour
 pub mod Rings
+pub mod Unbroken
