@@ -22,7 +22,7 @@ use Rattle.mx_asm.specs.declared.refused.Refused.{Refused}
 use Rattle.mx_asm.proofs.InTurn.{source-accepted}
 use Rattle.mx_top.specs.Answers.{Answer, answered, wild, plainly}
 use Rattle.mx_top.specs.Arguments.{Word, word_at, arguments}
-use Rattle.mx_top.specs.Complete.{IsOrdered, HasSource, HasObject, IsStarted, IsHalted, IsWritten, IsSummed}
+use Rattle.mx_top.specs.Complete.{IsOrdered, HasSource, HasObject, IsStarted, IsHalted, IsWritten, IsGenerated}
 use Rattle.mx_top.specs.Dump.{dump_lines}
 use Rattle.mx_top.specs.Generator.{generated, summary}
 use Rattle.mx_top.specs.Lines.{lines_put}
@@ -168,14 +168,20 @@ refused-written kind words text r m after h e =
 
 -- ---- `gen`
 
-pub source-summed : (kind : MachineKind) (words : List Word) (m after : HostModel) → IsSummed kind words m after → product kind words m ≡ answered (Done 0) after
-source-summed kind words m after h =
+-- a run that is summed up
+pub generated-told : (kind : MachineKind) (words : List Word) (m left : HostModel) (line : List ℕ) → IsGenerated kind words m left line →
+    product kind words m ≡ with_message (after_lines (Done 0) (lines_put (line ∷ []) left))
+generated-told kind words m left line h =
     let o : Order = h.order in
     let size : ℕ = length (generated o.number) in
     order-is kind words o Gen m h.ordered
     ∙ ap (λ r. with_message (generated_run kind o size r m)) h.means
     ∙ ap (λ r. with_message (summed_from kind o.number size r m)) h.starts
     ∙ ap (λ r. with_message (summed o.number size r)) h.halts
-    ∙ ap (λ t. with_message (after_lines (Done 0) t)) h.told
+    ∙ ap (λ text. with_message (after_lines (Done 0) (lines_put (text ∷ []) left))) (sym h.told)
 
-pub ruleset completed = (source-plain, source-dumped, object-plain, object-dumped, source-sat, object-sat, accepted-written, refused-written, meant-object, source-summed)
+pub generated-done : (kind : MachineKind) (words : List Word) (m left after : HostModel) (line : List ℕ) → IsGenerated kind words m left line → lines_put (line ∷ []) left ≡ (true, after) →
+    product kind words m ≡ answered (Done 0) after
+generated-done kind words m left after line h e = generated-told kind words m left line h ∙ ap (λ t. with_message (after_lines (Done 0) t)) e
+
+pub ruleset completed = (source-plain, source-dumped, object-plain, object-dumped, source-sat, object-sat, accepted-written, refused-written, meant-object, generated-done)

@@ -1,7 +1,8 @@
 //! Laws that the program is done with what is right: where each call is answered, a source that means
 //! something is run, or assembled, to its end.
 
-ghost use Rattle.std.specs.Prelude.{◌≡◌, List, ℕ, [], Some, Ok, Err, true, false};
+ghost use Rattle.std.specs.Prelude.{◌≡◌, List, ℕ, [], ◌∷◌, Some, Ok, Err, true, false};
+ghost use Rattle.std.specs.List.{concat};
 ghost use Rattle.mx_host.specs.HostModel.{HostModel, HasStartSlots, place_of};
 ghost use Rattle.mx_host.specs.HostAnswer.{with_file};
 ghost use Rattle.mx_mmo.specs.Image.{Image};
@@ -12,7 +13,7 @@ ghost use Rattle.mx_words.specs.declared.order.Command.{Command};
 ghost use Rattle.mx_words.specs.declared.order.Order.{Order};
 ghost use Rattle.mx_top.specs.Answers.{answered};
 ghost use Rattle.mx_top.specs.Arguments.{Word, word_at, arguments};
-ghost use Rattle.mx_top.specs.Complete.{HasObject, HasSource, IsHalted, IsOrdered, IsStarted, IsSummed, IsThere, IsWritten, ObjectIsThere, SourceIsThere};
+ghost use Rattle.mx_top.specs.Complete.{HasObject, HasSource, IsGenerated, IsHalted, IsOrdered, IsStarted, IsThere, IsWritten, ObjectIsThere, SourceIsThere, with_output};
 ghost use Rattle.mx_top.specs.Detour.{answer_uncounted};
 ghost use Rattle.mx_top.specs.Dump.{dump_lines};
 ghost use Rattle.mx_top.specs.Lines.{lines_put};
@@ -89,11 +90,16 @@ pub fn sources_that_mean_are_assembled()
 {}
 
 /// A source that is generated is done where it means an image, its machine starts and halts within 2^26
-/// steps, and the line that tells what came of it is written.
-#[tactic(auto, using(crate::proofs::Completed::completed))]
+/// steps, and the line that tells what came of it is written. Where no call fails and the slots stand as
+/// at the start, that line is written.
+#[tactic(auto, using(crate::proofs::Completed::completed, crate::proofs::CompletedFiles::filed))]
 pub fn generated_sources_are_done()
-    ensures { (kind : MachineKind) (words : List Word) (m after : HostModel) →
-        IsSummed kind words m after → product kind words m ≡ answered (Outcome.Done 0) after }
+    ensures written { (kind : MachineKind) (words : List Word) (m left after : HostModel) (line : List ℕ) →
+        IsGenerated kind words m left line → lines_put (line ∷ []) left ≡ (true, after) →
+        product kind words m ≡ answered (Outcome.Done 0) after }
+    ensures steady { (kind : MachineKind) (words : List Word) (m left : HostModel) (line : List ℕ) →
+        m.failing ≡ [] → HasStartSlots m → IsGenerated kind words m left line →
+        answer_uncounted (product kind words m) ≡ answered (Outcome.Done 0) (without_count (with_output left line)) }
 {}
 
 /// Where no call fails and the slots stand as at the start, a file that is there is read, and nothing but
@@ -111,10 +117,9 @@ pub fn sources_that_are_there_are_run()
         (m after : HostModel) → SourceIsThere words o image m → IsHalted kind words o image m status ended after →
         o.dump ≡ false → answer_uncounted (product kind words m) ≡ answered (Outcome.Done status) (without_count after) }
     ensures dumped { (kind : MachineKind) (words : List Word) (o : Order) (image : Image) (status : ℕ) (ended : State)
-        (m after last : HostModel) → SourceIsThere words o image m →
-        IsHalted kind words o image m status ended after → o.dump ≡ true →
-        lines_put (dump_lines ended) after ≡ (true, last) →
-        answer_uncounted (product kind words m) ≡ answered (Outcome.Done status) (without_count last) }
+        (m after : HostModel) → SourceIsThere words o image m →
+        IsHalted kind words o image m status ended after → o.dump ≡ true → answer_uncounted (product kind words m) ≡
+        answered (Outcome.Done status) (without_count (with_output after (concat (dump_lines ended)))) }
 {}
 
 /// An object that is there, and that is loaded, is run in the same way.
@@ -127,10 +132,9 @@ pub fn objects_that_are_there_are_run()
         (m after : HostModel) → ObjectIsThere words o image m → IsHalted kind words o image m status ended after →
         o.dump ≡ false → answer_uncounted (product kind words m) ≡ answered (Outcome.Done status) (without_count after) }
     ensures dumped { (kind : MachineKind) (words : List Word) (o : Order) (image : Image) (status : ℕ) (ended : State)
-        (m after last : HostModel) → ObjectIsThere words o image m →
-        IsHalted kind words o image m status ended after → o.dump ≡ true →
-        lines_put (dump_lines ended) after ≡ (true, last) →
-        answer_uncounted (product kind words m) ≡ answered (Outcome.Done status) (without_count last) }
+        (m after : HostModel) → ObjectIsThere words o image m →
+        IsHalted kind words o image m status ended after → o.dump ≡ true → answer_uncounted (product kind words m) ≡
+        answered (Outcome.Done status) (without_count (with_output after (concat (dump_lines ended)))) }
 {}
 
 /// Where no call fails and the slots stand as at the start, a source that is there is assembled: the
