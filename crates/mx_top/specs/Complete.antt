@@ -21,7 +21,7 @@ use Rattle.mx_top.specs.Generator.{generated, summary}
 use Rattle.mx_top.specs.Objects.{source_object}
 use Rattle.mx_top.specs.Pieces.{put_text}
 use Rattle.mx_top.specs.Product.{object_slot, generator_steps}
-use Rattle.mx_top.specs.Runs.{ran, machine_ran, started}
+use Rattle.mx_top.specs.Runs.{ran, machine_ran, session_ran, started}
 use Rattle.mx_top.specs.Source.{file_bytes, source_pieces, object_pieces}
 use Rattle.mx_top.specs.Sources.{source_meaning}
 use Rattle.mx_top.specs.declared.outcome.Outcome.{Outcome}
@@ -57,6 +57,13 @@ pub record IsHalted (kind : MachineKind) (words : List Word) (o : Order) (image 
   pub machine : State
   pub starts : IsStarted kind words o image machine
   pub halts : machine_ran kind o.steps machine begun ≡ ran (Done status) ended after
+
+-- The machine of this image starts, and in a session of the console it comes to this.
+pub record IsPlayed (kind : MachineKind) (words : List Word) (o : Order) (image : Image) (begun : HostModel) (outcome : Outcome) (ended : State) (after : HostModel) : Type 0 where
+  pub console : o.interactive ≡ true
+  pub machine : State
+  pub starts : IsStarted kind words o image machine
+  pub plays : session_ran kind o.steps machine begun ≡ ran outcome ended after
 
 -- The words order to assemble a source of which this text is read; the object file opens, its bytes are written, and it is
 -- closed.

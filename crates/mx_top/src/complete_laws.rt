@@ -13,7 +13,7 @@ ghost use Rattle.mx_words.specs.declared.order.Command.{Command};
 ghost use Rattle.mx_words.specs.declared.order.Order.{Order};
 ghost use Rattle.mx_top.specs.Answers.{answered};
 ghost use Rattle.mx_top.specs.Arguments.{Word, word_at, arguments};
-ghost use Rattle.mx_top.specs.Complete.{HasObject, HasSource, IsGenerated, IsHalted, IsOrdered, IsStarted, IsThere, IsWritten, ObjectIsThere, SourceIsThere, with_output};
+ghost use Rattle.mx_top.specs.Complete.{HasObject, HasSource, IsGenerated, IsHalted, IsOrdered, IsPlayed, IsStarted, IsThere, IsWritten, ObjectIsThere, SourceIsThere, with_output};
 ghost use Rattle.mx_top.specs.Detour.{answer_uncounted};
 ghost use Rattle.mx_top.specs.Dump.{dump_lines};
 ghost use Rattle.mx_top.specs.Lines.{lines_put};
@@ -58,7 +58,7 @@ pub fn objects_that_halt_are_done()
 {}
 
 /// With the console, where the machine starts, the program answers what the session comes to, and leaves
-/// what the session, the dump and the message leave.
+/// the host as the session does, behind which the dump and the message may write.
 #[tactic(auto, using(crate::proofs::Completed::completed))]
 pub fn consoles_answer_as_sessions()
     ensures source { (kind : MachineKind) (words : List Word) (o : Order) (image : Image) (s : State)
@@ -69,6 +69,14 @@ pub fn consoles_answer_as_sessions()
         (m begun : HostModel) → HasObject words o image m begun → o.interactive ≡ true →
         IsStarted kind words o image s →
         product kind words m ≡ with_message (dumped o.dump (session_ran kind o.steps s begun)) }
+    ensures plain_source { (kind : MachineKind) (words : List Word) (o : Order) (image : Image) (outcome : Outcome)
+        (ended : State) (m begun after : HostModel) → HasSource words o image m begun →
+        IsPlayed kind words o image begun outcome ended after → o.dump ≡ false →
+        product kind words m ≡ with_message (answered outcome after) }
+    ensures plain_object { (kind : MachineKind) (words : List Word) (o : Order) (image : Image) (outcome : Outcome)
+        (ended : State) (m begun after : HostModel) → HasObject words o image m begun →
+        IsPlayed kind words o image begun outcome ended after → o.dump ≡ false →
+        product kind words m ≡ with_message (answered outcome after) }
 {}
 
 /// A source that means an image is accepted: an object is made of it. Where the words order to assemble a
