@@ -2,8 +2,8 @@
 """Runs the built program and the model on the same random cases, and tells each difference.
 
 Compared are the status and the message line, standard output, standard error, and the files that are left. With --self
-the model is compared with itself instead: the window of registers with the list of hidden ones, up to what only a window
-can answer, and an accepted source with its object.
+the model is compared with itself instead: the window of registers with the list of hidden ones, up to what only a
+window can answer, and an accepted source with its object.
 """
 import argparse
 import os
@@ -33,7 +33,8 @@ def run_program(path, case):
             with open(os.path.join(room, name), "wb") as file:
                 file.write(data)
         try:
-            done = subprocess.run([path, *case.words], cwd=room, input=case.given, capture_output=True, timeout=60, check=False)
+            done = subprocess.run([path, *case.words], cwd=room, input=case.given, capture_output=True, timeout=60,
+                                  check=False)
         except subprocess.TimeoutExpired:
             return Left("timeout", b"", b"", {})
         files = {}
@@ -95,8 +96,10 @@ def tell(case, found, program, model):
     print(f"  program {program.status} {program.errors[-200:]!r}\n  model   {model.status} {model.errors[-200:]!r}")
     for name, left, right in [("output", program.output, model.output)] + [
             (name, program.files.get(name, b""), model.files.get(name, b"")) for name in model.files]:
-        if left != right:
-            print(f"  {name}: {first_difference(left, right)}" if not name.endswith(".mmo") else f"  {name}:\n    {left.hex()}\n    {right.hex()}")
+        if left != right and name.endswith(".mmo"):
+            print(f"  {name}:\n    {left.hex()}\n    {right.hex()}")
+        elif left != right:
+            print(f"  {name}: {first_difference(left, right)}")
 
 
 def main():

@@ -101,7 +101,8 @@ class Sources:
         if self.registers and kind < 0.2:
             return self.short(self.rng.choice(self.registers))
         number = self.rng.randrange(256) if kind < 0.8 else self.rng.randrange(8)
-        return self.pick(f"${number}", f"${number}", f"(${number})", f"${number // 2}+{number - number // 2}", f"+${number}",
+        return self.pick(f"${number}", f"${number}", f"(${number})", f"${number // 2}+{number - number // 2}",
+                         f"+${number}", f"$({number})",
                          f"$({number}+256)-256" if kind > 2 else f"$({number})", f"{number}+$0")
 
     def target(self):
@@ -205,7 +206,9 @@ class Sources:
         kind = self.rng.randrange(6)
         if kind == 0:
             self.in_data = not self.in_data
-            where = self.pick("Data_Segment", "#2000000000000100") if self.in_data else self.pick("#100", "#400", "@+4", "#8000")
+            where = self.pick("#100", "#400", "@+4", "#8000")
+            if self.in_data:
+                where = self.pick("Data_Segment", "#2000000000000100")
             return f" LOC {where.replace('Data', ':Data') if self.prefix != ':' else where}"
         if kind == 1:
             self.prefix = self.pick(":", ":", ":p:", ":q:")
@@ -277,13 +280,14 @@ class Sources:
 
 
 FAULTY = (
-    " FROB 1", "a", "2X SWYM", " SWYM isn't", " BYTE \"x", " SW-M", "2H,", " BYTE 256", " SETL $1,-1", " ADD $1,$2", " BYTE $1",
-    " ADD 1,2,3", " JMP x_never", " OCTA y_never", " JMP 9F", "x PREFIX y", " PREFIX 1", " BZ $0,@+2", " BZ $0,@+4*65536",
-    " LDO $1,#7000000000000000", "Halt IS 1", "d IS 1;d IS 2", " BYTE 1/0", " BYTE 3//3", " BYTE $1*2", " BYTE 7-$2", " SET $1,$1+$2",
-    " SET $256,1", " BYTE 99999999999999999999", " BYTE 1,,2", " BYTE \"\"", " LOC x_never", " LOCAL $255", " LOCAL 1",
-    " LOC #5fffffffffffffff;  BYTE 1,1", "z JMP z2;z2 IS $1", "z JMP z2;z2 IS 2", "z BZ $0,z2;z2 IS #1000000", " GREG $1",
-    " BYTE " + "(" * 256 + "1", " SWYM " + "-" * 4000, "*" * 4097, "k" * 1025 + " IS 1", " PUT 9,300", " FIX 1,$2", "Main IS $1",
-    " PREFIX " + "k" * 1024, " BYTE 12B", " BYTE #", " BYTE ''", " BYTE (1", " POP 256,1", " SYNC 16777216", " TRAP 1,$1", " SWYM $1",
+    " FROB 1", "a", "2X SWYM", " SWYM isn't", " BYTE \"x", " SW-M", "2H,", " BYTE 256", " SETL $1,-1", " ADD $1,$2",
+    " BYTE $1", " ADD 1,2,3", " JMP x_never", " OCTA y_never", " JMP 9F", "x PREFIX y", " PREFIX 1", " BZ $0,@+2",
+    " BZ $0,@+4*65536", " LDO $1,#7000000000000000", "Halt IS 1", "d IS 1;d IS 2", " BYTE 1/0", " BYTE 3//3",
+    " BYTE $1*2", " BYTE 7-$2", " SET $1,$1+$2", " SET $256,1", " BYTE 99999999999999999999", " BYTE 1,,2",
+    " BYTE \"\"", " LOC x_never", " LOCAL $255", " LOCAL 1", " LOC #5fffffffffffffff;  BYTE 1,1", "z JMP z2;z2 IS $1",
+    "z JMP z2;z2 IS 2", "z BZ $0,z2;z2 IS #1000000", " GREG $1", " BYTE " + "(" * 256 + "1", " SWYM " + "-" * 4000,
+    "*" * 4097, "k" * 1025 + " IS 1", " PUT 9,300", " FIX 1,$2", "Main IS $1", " PREFIX " + "k" * 1024, " BYTE 12B",
+    " BYTE #", " BYTE ''", " BYTE (1", " POP 256,1", " SYNC 16777216", " TRAP 1,$1", " SWYM $1",
 )
 
 
@@ -320,7 +324,8 @@ class Objects:
         if code == 7:
             return self.tetra(0x98070000 | rng.randrange(9))
         if code == 8:
-            inner = b"".join(rng.choice((b"spec", self.tetra(0x98000001) + b"\x98abc")) for _ in range(rng.randrange(3)))
+            pieces = (b"spec", self.tetra(0x98000001) + b"\x98abc")
+            inner = b"".join(rng.choice(pieces) for _ in range(rng.randrange(3)))
             return self.tetra(0x98080000 | rng.randrange(9)) + inner + self.tetra(0x98070001)
         number = rng.choice((0, 0xFD000000, rng.randrange(1 << 32)))
         return self.tetra(0x98000001) + self.tetra(number) if code == 0 or number >> 24 == 0x98 else self.tetra(number)
@@ -334,7 +339,8 @@ class Objects:
             number = rng.choice((0, 5, 0x1234, 1 << 61, (1 << 61) + 0x777, (1 << 64) - 1))
             rows.setdefault(name, (name, rng.choice((pure(number), Value(True, number % 256))), serial))
         data = trie_of(sorted(rows.values()))
-        return rng.choice((data, data, b"\x20:\x81\x00\xe9\x05\x81\x00", b"\x60\x01b\x00\x81:\x01a\x00\x82" + bytes(2), b"", bytes(4)))
+        return rng.choice((data, data, b"\x20:\x81\x00\xe9\x05\x81\x00", b"\x60\x01b\x00\x81:\x01a\x00\x82" + bytes(2),
+                           b"", bytes(4)))
 
     def object(self):
         """A whole object."""
@@ -367,7 +373,8 @@ class Objects:
             elif kind < 0.93:
                 del data[at // 4 * 4:at // 4 * 4 + 4]
             else:
-                data[at // 4 * 4:at // 4 * 4] = rng.choice((bytes(4), self.item(), self.tetra(0x98000000 | rng.randrange(13) << 16 | 1)))
+                data[at // 4 * 4:at // 4 * 4] = rng.choice((bytes(4), self.item(),
+                                                            self.tetra(0x98000000 | rng.randrange(13) << 16 | 1)))
             if not data:
                 break
         return bytes(data)
@@ -393,8 +400,9 @@ class Cases:
         words = ["--steps", str(rng.choice((steps, steps, rng.randrange(1, steps + 1))))]
         words += ["--ring", rng.choice(RINGS)] if rng.random() < 0.5 else []
         words += ["--dump"] if rng.random() < 0.7 else []
-        rng.shuffle(arranged := [words[:2], words[2:4] if "--ring" in words else [], ["--dump"] if "--dump" in words else []])
-        return [word for group in arranged for word in group]
+        groups = [words[:2], words[2:4] if "--ring" in words else [], ["--dump"] if "--dump" in words else []]
+        rng.shuffle(groups)
+        return [word for group in groups for word in group]
 
     def source(self):
         """A random source, assembled or run."""
@@ -420,7 +428,8 @@ class Cases:
     def input(self):
         """What a program finds on its standard input."""
         rng = self.rng
-        return b"".join(rng.choice((b"ab\n", b"a long line of text\n", b"\n", b"x", rng.randbytes(9))) for _ in range(rng.randrange(6)))
+        pieces = (b"ab\n", b"a long line of text\n", b"\n", b"x", rng.randbytes(9))
+        return b"".join(rng.choice(pieces) for _ in range(rng.randrange(6)))
 
     def object(self):
         """A random object."""
@@ -444,8 +453,8 @@ class Cases:
 
     def words(self):
         """Random words."""
-        pool = ("run sim asm gen --ring --steps -i --dump 256 512 300 1 10 0 0000000000010 x -1 p.mms none.mms p.mmo - -- --x".split()
-                + ["", "1000000000000", "1000000000001", "99999999999999", "10000", "10001", "65536", "131072"])
+        pool = ("run sim asm gen --ring --steps -i --dump 256 512 300 1 10 0 0000000000010 x -1 p.mms none.mms p.mmo - "
+                "-- --x 1000000000000 1000000000001 99999999999999 10000 10001 65536 131072").split() + [""]
         words = [self.rng.choice(pool) for _ in range(self.rng.randrange(7))]
         if self.rng.random() < 0.8:
             words[:1] = [self.rng.choice(("run", "sim", "asm", "gen"))]

@@ -52,12 +52,15 @@ class Programs:
 
     def last(self):
         """A register, or a byte."""
-        return self.register() if self.rng.random() < 0.6 else str(self.rng.choice((0, 1, 2, 7, 63, 64, 255, self.rng.randrange(256))))
+        if self.rng.random() < 0.6:
+            return self.register()
+        return str(self.rng.choice((0, 1, 2, 7, 63, 64, 255, self.rng.randrange(256))))
 
     def value(self, register):
         """Statements that give a register a value of some interest."""
         rng = self.rng
-        number = rng.choice((0, 1, 5, (1 << 64) - 1, 1 << 63, (1 << 63) - 1, rng.randrange(1 << 16), rng.randrange(1 << 64), 127, 128, 0xFF80))
+        number = rng.choice((0, 1, 5, (1 << 64) - 1, 1 << 63, (1 << 63) - 1, rng.randrange(1 << 16),
+                             rng.randrange(1 << 64), 127, 128, 0xFF80))
         rows = [f" SETL {register},{number & 0xFFFF}"]
         for name, shift in (("INCML", 16), ("INCMH", 32), ("INCH", 48)):
             if number >> shift & 0xFFFF:
@@ -75,9 +78,9 @@ class Programs:
 
     def block(self):
         """A few statements with one purpose."""
-        makers = (self.arithmetic, self.arithmetic, self.arithmetic, self.wyde, self.memory, self.memory, self.memory, self.branch,
-                  self.branch, self.call, self.frame, self.special, self.special, self.trap, self.trap, self.text, self.trip, self.insertion,
-                  self.odd, self.window)
+        often = (self.arithmetic, self.arithmetic, self.arithmetic, self.memory, self.memory, self.memory, self.branch,
+                 self.branch, self.special, self.special, self.trap, self.trap)
+        makers = often + (self.wyde, self.call, self.frame, self.text, self.trip, self.insertion, self.odd, self.window)
         if self.rng.random() < self.wildness:
             return self.wild()
         return self.rng.choice(makers)()
@@ -123,7 +126,9 @@ class Programs:
         where = self.rng.choice(("$0", "$1", "$2", "$5", "$9", "$30", "$255", "$254"))
         if self.rng.random() < 0.8:
             return [f" PUSHJ {where},{name}"]
-        return [f" GETA $7,{name}", self.pick(f" PUSHGO {where},$7,0", f" PUSHGO {where},$7,$6", " GO $6,$7,0" if self.rng.random() < 0.1 else f" PUSHGO {where},$7,2")]
+        return [f" GETA $7,{name}",
+                self.pick(f" PUSHGO {where},$7,0", f" PUSHGO {where},$7,$6",
+                          " GO $6,$7,0" if self.rng.random() < 0.1 else f" PUSHGO {where},$7,2")]
 
     def frame(self):
         """SAVE, and UNSAVE of its frame or of an older one."""
@@ -131,10 +136,13 @@ class Programs:
         kind = self.rng.random()
         if kind < 0.7:
             last = ["kept+8"] if kind < 0.1 else ["kept"]
-            return [" SAVE spare,0", f" STO spare,{last[0]}", *body, " LDO spare,kept", " BZ spare,@+8", " UNSAVE 0,spare"]
+            return [" SAVE spare,0", f" STO spare,{last[0]}", *body, " LDO spare,kept", " BZ spare,@+8",
+                    " UNSAVE 0,spare"]
         if kind < 0.85:
             return [" SAVE spare,0", " STO spare,kept+8"]
-        return [" LDO spare,kept+8", " BZ spare,@+8", " UNSAVE 0,spare"] if kind < 0.95 else [" SAVE $255,0", " UNSAVE 0,$255"]
+        if kind < 0.95:
+            return [" LDO spare,kept+8", " BZ spare,@+8", " UNSAVE 0,spare"]
+        return [" SAVE $255,0", " UNSAVE 0,$255"]
 
     def special(self):
         """GET and PUT."""
@@ -146,11 +154,14 @@ class Programs:
         if kind < 0.9:
             number = self.rng.choice((0, 0x4000, 0x8000, 0xC000, 0xFF00, 0xC040, 0x10000))
             return [f" SETL $3,{number & 0xFFFF}", f" INCML $3,{number >> 16}", " PUT rA,$3"]
-        return [f" PUT rL,{self.rng.randrange(20)}", ] if kind < 0.95 else [f" PUT rG,{self.rng.choice((32, 40, 100, 200, 250, 254, 255))}"]
+        if kind < 0.95:
+            return [f" PUT rL,{self.rng.randrange(20)}"]
+        return [f" PUT rG,{self.rng.choice((32, 40, 100, 200, 250, 254, 255))}"]
 
     def window(self):
         """Registers far up, so that many are local."""
-        return [f" SETL ${self.rng.randrange(60, 250)},{self.rng.randrange(99)}", f" PUSHJ ${self.rng.randrange(40, 200)},Sub0"]
+        return [f" SETL ${self.rng.randrange(60, 250)},{self.rng.randrange(99)}",
+                f" PUSHJ ${self.rng.randrange(40, 200)},Sub0"]
 
     def trap(self):
         """A file trap with arguments in memory."""
@@ -158,13 +169,15 @@ class Programs:
         service = self.rng.choice("Fopen Fopen Fclose Fread Fread Fgets Fgets Fwrite Fwrite Fseek Ftell".split())
         block = self.rng.choice(("a0", "a1", "a1") if service == "Fopen" else ("a2", "a3"))
         if service == "Fseek":
-            return [self.pick(" SETL $255,3", " NEG $255,0,1", " NEG $255,0,4", " SETL $255,0", " SETL $255,999"), f" TRAP 0,Fseek,{slot}"]
+            return [self.pick(" SETL $255,3", " NEG $255,0,1", " NEG $255,0,4", " SETL $255,0", " SETL $255,999"),
+                    f" TRAP 0,Fseek,{slot}"]
         rows = [f" LDA $255,{block}", f" TRAP 0,{service},{slot}"]
         return rows + ([f" SET {self.register()},$255"] if self.rng.random() < 0.5 else [])
 
     def text(self):
         """Fputs of a text or of a line that was read."""
-        return [f" LDA $255,{self.pick('text', 'empty', 'buffer', 'name2', 'Octas')}", f" TRAP 0,Fputs,{self.rng.choice((1, 1, 2, 3, 0, 4))}"]
+        return [f" LDA $255,{self.pick('text', 'empty', 'buffer', 'name2', 'Octas')}",
+                f" TRAP 0,Fputs,{self.rng.choice((1, 1, 2, 3, 0, 4))}"]
 
     def trip(self):
         """TRIP, or an event with its trip enabled."""
@@ -172,7 +185,8 @@ class Programs:
         if kind < 0.3:
             return [f" TRIP {self.rng.randrange(256)},{self.rng.randrange(8)},{self.rng.randrange(8)}"]
         rows = [" SETL $3,#C000", " PUT rA,$3"] if self.rng.random() < 0.7 else []
-        event = self.pick(f" DIV {self.register()},{self.register()},0", " SETL $4,300;  STB $4,Octas+5", " NEG $4,0,1;  SRU $4,$4,1;  ADD $4,$4,$4",
+        event = self.pick(f" DIV {self.register()},{self.register()},0", " SETL $4,300;  STB $4,Octas+5",
+                          " NEG $4,0,1;  SRU $4,$4,1;  ADD $4,$4,$4",
                           " SETH $4,#8000;  NEG $255,0,$4", " SETL $4,1;  SL $255,$4,64")
         return rows + [event]
 
@@ -185,7 +199,8 @@ class Programs:
         word = code << 24 | rng.choice((0, 0, 1, 255)) << 16 | rng.randrange(10) << 8 | rng.randrange(256)
         if rng.random() < 0.2:
             kind = 0
-            word = rng.choice((0xF8000000, 0xF2020001, 0xF0000001, 0x42000002, 0xFD000000, 0xFAFF0000, 0xFE050014, 0xF6040003))
+            word = rng.choice((0xF8000000, 0xF2020001, 0xF0000001, 0x42000002, 0xFD000000, 0xFAFF0000, 0xFE050014,
+                               0xF6040003))
         kind <<= 8
         if rng.random() < 0.05:
             kind |= rng.choice((1, 0x100, 0x300))
@@ -200,8 +215,9 @@ class Programs:
         if self.rng.random() < 0.03:
             return [f" TETRA #{self.rng.randrange(1 << 32):x}"]
         if self.rng.random() < 0.03:
-            return [self.pick(" FADD $0,$1,$2", " PUT rK,0", " PUT rO,0", " SYNC 7", " SYNC 9", " LDVTS $0,$1,$2", " POP 2,0", " TETRA #fe000100",
-                              " TRAP 0,Fgetws,0", " TRAP 1,0,0", " TRAP 0,99,0", " SETH $4,#8000;  LDO $3,$4,0", " SETH $4,#8000;  GO $3,$4,0")]
+            return [self.pick(" FADD $0,$1,$2", " PUT rK,0", " PUT rO,0", " SYNC 7", " SYNC 9", " LDVTS $0,$1,$2",
+                              " POP 2,0", " TETRA #fe000100", " TRAP 0,Fgetws,0", " TRAP 1,0,0", " TRAP 0,99,0",
+                              " SETH $4,#8000;  LDO $3,$4,0", " SETH $4,#8000;  GO $3,$4,0")]
         return [" " + self.rng.choice(IDLE)]
 
     def wild(self):
@@ -224,7 +240,8 @@ class Programs:
         for _ in range(self.rng.randrange(4)):
             rows += self.rng.choice((self.arithmetic, self.memory, self.wyde, self.text))()
         if calls_on:
-            rows += [f" PUSHJ $11,Sub{(number + 1) % self.subroutines}" if self.rng.random() < 0.3 and number else " SWYM", " PUT rJ,$10"]
+            is_calling = self.rng.random() < 0.3 and number
+            rows += [f" PUSHJ $11,Sub{(number + 1) % self.subroutines}" if is_calling else " SWYM", " PUT rJ,$10"]
         return rows + [f" POP {self.rng.choice((0, 1, 1, 2, 3, 12, 255))},{self.rng.choice((0, 0, 0, 0, 1))}"]
 
     def handlers(self):
@@ -232,13 +249,15 @@ class Programs:
         rows = []
         for address in (0, 16, 32):
             if self.rng.random() < 0.9:
-                rows += [f" LOC {address}", self.pick(" GET $8,rX", " GET $8,rY", " SWYM", " GET $255,rZ"), " GET $255,rB", " RESUME 0"]
+                rows += [f" LOC {address}", self.pick(" GET $8,rX", " GET $8,rY", " SWYM", " GET $255,rZ"),
+                         " GET $255,rB", " RESUME 0"]
         return rows
 
     def source(self):
         """A whole program."""
         rng = self.rng
-        text = DATA.format(mode0=rng.randrange(6) if rng.random() < 0.4 else rng.choice((0, 2)), mode1=rng.choice((1, 3, 4)),
+        text = DATA.format(mode0=rng.randrange(6) if rng.random() < 0.4 else rng.choice((0, 2)),
+                           mode1=rng.choice((1, 3, 4)),
                            size0=rng.randrange(40), size1=rng.randrange(9))
         rows = self.handlers() + [" LOC #100"]
         body = []
@@ -254,20 +273,25 @@ class Programs:
         """A console line."""
         rng = self.rng
         kind = rng.randrange(20)
-        address = rng.choice(("#100", "104", "10c", "#2000000000000000", "2000000000000040", "#4000000000000008", "#120", "0", "20",
+        address = rng.choice(("#100", "104", "10c", "#2000000000000000", "2000000000000040", "#4000000000000008",
+                              "#120", "0", "20",
                               f"{rng.randrange(0x100, 0x180):x}", "8000000000000000", "7ffffffffffffff8"))
         if rng.random() < 0.03:
             address = rng.choice(("6000000000000000", "#6000000000000008", "6000000000800000"))
         form = rng.choice(("", "", "!", "#", '"'))
-        number = rng.choice(("5", "-1", "#ff", "0", "18446744073709551615", "18446744073709551616", "-9223372036854775808", "#10000000000000000"))
-        name = "r" + rng.choice([it[1:] for it in READABLE] + ["QQ", "L", "G", "A", "x"] + (["S"] if rng.random() < 0.2 else []))
+        number = rng.choice(("5", "-1", "#ff", "0", "18446744073709551615", "18446744073709551616",
+                             "-9223372036854775808", "#10000000000000000"))
+        names = [it[1:] for it in READABLE] + ["QQ", "L", "G", "A", "x"] + (["S"] if rng.random() < 0.2 else [])
+        name = "r" + rng.choice(names)
         register = rng.choice((str(rng.randrange(8)), str(rng.randrange(256)), "255", "254", "300", "007"))
         if kind < 5:
             return rng.choice(("", "n"))
-        rows = ("c", "s", "c", "$" + register + form, "g" + register + form, name + form, "M" + address + form, f"${register}={number}",
-                f"g{register}={number}", f"{name}={number}", f"M{address}={number}", f"+{rng.randrange(5)}{form}", f"@{address}",
+        rows = ("c", "s", "c", "$" + register + form, "g" + register + form, name + form, "M" + address + form,
+                f"${register}={number}", f"g{register}={number}", f"{name}={number}", f"M{address}={number}",
+                f"+{rng.randrange(5)}{form}", f"@{address}",
                 "b" + rng.choice(("", "r", "w", "x", "rw", "xx", "rwx")) + address, rng.choice("tu") + address)
         if rng.random() < 0.1:
-            return rng.choice(("B", "q x", "+", "b", "M", "$", "r", "$1=", "+101", "+0", "$5=- 1", "nn", "c ", "M" + "1" * 17, "r1", "@", "x" * 4097, "rB\xe9",
+            return rng.choice(("B", "q x", "+", "b", "M", "$", "r", "$1=", "+101", "+0", "$5=- 1", "nn", "c ",
+                               "M" + "1" * 17, "r1", "@", "x" * 4097, "rB\xe9",
                                "M#", "b#104", "t#g", "$-1", "+2", '+3"'))
         return rows[kind - 5]

@@ -13,7 +13,7 @@ from . import opcodes
 from .expressions import LIMIT
 from .faults import Stop, Wild
 from .hosts import Failed
-from .machine import BASE, NEGATIVE, RS, is_in_segment
+from .state import BASE, NEGATIVE, RS, is_in_segment
 from .texts import octa_text, state_line, trace_line, value_text
 from .traps import Halted, advance
 
@@ -116,7 +116,8 @@ class Session:
             parts[-1] = ("value", self.value(parts[-1])) if has_value else ("form", parts[-1].decode() or "#")
         if kind == "more" and not 1 <= parts[0] <= 100:
             raise Bad("bad number")
-        if kind in ("register", "global") and not (0 if kind == "register" else self.machine.stack.g) <= parts[0] <= 255:
+        lowest = {"register": 0, "global": self.machine.stack.g}
+        if kind in lowest and not lowest[kind] <= parts[0] <= 255:
             raise Bad("no such register")
         if kind == "special":
             name = "r" + parts[0].decode("latin-1")

@@ -260,7 +260,8 @@ class Encoder:
         return number
 
     def field(self, place, kind):
-        """The number of an operand that is a register (else 41), or pure and below the limit of its kind (else 42, 43)."""
+        """The number of an operand that is a register (else 41), or pure and below the limit of its kind (else 42, 43).
+        """
         value = self.value(place)
         if kind == "register" and not value.is_register:
             raise Fault(41)

@@ -54,8 +54,8 @@ def read_number(field, at, digits, base):
 def read_primary(field, at):
     """A constant, a symbol, a local reference or the place, and the place after it.
 
-    Constants are decimal digits, # with hexadecimal digits, and any one byte between apostrophes. A run of digits is one
-    constant; a single digit directly before B or F begins a local reference.
+    Constants are decimal digits, # with hexadecimal digits, and any one byte between apostrophes. A run of digits is
+    one constant; a single digit directly before B or F begins a local reference.
     """
     byte = field[at:at + 1]
     if byte == b"#":

@@ -1,7 +1,7 @@
 """A host in memory: files, standard streams, and a list of call numbers that fail.
 
-There are 261 slots. Slots 0 to 255 are the program's, 256 and 257 are the tool's input and output file, and 258, 259 and
-260 are the tool's standard input, output and error. At the start slots 0, 1 and 2 lead to the same three streams.
+There are 261 slots. Slots 0 to 255 are the program's, 256 and 257 are the tool's input and output file, and 258, 259
+and 260 are the tool's standard input, output and error. At the start slots 0, 1 and 2 lead to the same three streams.
 
 Calls are numbered from 0. A call whose number is in the list fails and changes nothing else.
 """

@@ -56,22 +56,27 @@ class Work(NamedTuple):
 
     @property
     def code(self):
+        """The code, the first byte."""
         return self.word >> 24
 
     @property
     def x(self):
+        """The byte X."""
         return self.word >> 16 & 255
 
     @property
     def y(self):
+        """The byte Y."""
         return self.word >> 8 & 255
 
     @property
     def z(self):
+        """The byte Z."""
         return self.word & 255
 
     @property
     def following(self):
+        """The address of the next instruction."""
         return (self.at + 4) % LIMIT
 
 

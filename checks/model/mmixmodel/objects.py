@@ -1,8 +1,8 @@
 """Objects in the mmo format: the writer, the reader and the loader.
 
-An object is a sequence of tetras. A tetra whose first byte is #98 is a lopcode, followed by the code and the bytes Y and
-Z; YZ is 256Y + Z. Any other tetra is loaded. Lambda is the place where tetras are loaded; it and the line in force start
-at 0.
+An object is a sequence of tetras. A tetra whose first byte is #98 is a lopcode, followed by the code and the bytes Y
+and Z; YZ is 256Y + Z. Any other tetra is loaded. Lambda is the place where tetras are loaded; it and the line in force
+start at 0.
 """
 from typing import NamedTuple
 
@@ -42,7 +42,8 @@ class ObjectWriter:
         self.tetra(MARK << 24 | code << 16 | y_and_z)
 
     def address(self, code, address):
-        """Appends loc or fixo: the short form, with the top byte as Y, where the low 24 bits of the high tetra are 0."""
+        """Appends loc or fixo: the short form, with the top byte as Y, where the low 24 bits of the high tetra are 0.
+        """
         if address >> 32 & 0xFFFFFF:
             self.lopcode(code, 2)
             self.tetra(address >> 32)

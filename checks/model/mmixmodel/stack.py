@@ -169,7 +169,8 @@ class ListStack(Stack):
         self.locals = []
 
     def pop(self, x):
-        """POP X: the last k + 1 hidden registers leave; the first k of them and the results are the locals, at most G."""
+        """POP X: the last k + 1 hidden registers leave; the first k of them and the results are the locals, at most G.
+        """
         k = self.refuse_pop()
         results = self.results_of_pop(x)
         start = len(self.hidden_list) - 1 - k
@@ -197,8 +198,8 @@ class ListStack(Stack):
 class WindowStack(Stack):
     """A window of R registers: `resident` are the hidden registers from number `start` on, and then the locals.
 
-    After each growth the first resident register moves to the stack octa of number `start`, and `start` grows by 1, until
-    there are fewer than R.
+    After each growth the first resident register moves to the stack octa of number `start`, and `start` grows by 1,
+    until there are fewer than R.
     """
 
     def __init__(self, ring):

@@ -1,12 +1,12 @@
 """The state of a machine: its start, and what reads and changes it.
 
-Memory outside of the stack area is `memory`; the stack area is the 2^23 bytes from #6000000000000000, and its octas are the
-stack's own.
+Memory outside of the stack area is `memory`; the stack area is the 2^23 bytes from #6000000000000000, and its octas are
+the stack's own.
 """
 from .expressions import LIMIT
 from .faults import Stop
 from .memory import PagesFull
-from .stack import stack_of
+from .stack import STACK_LIMIT, stack_of
 
 BASE = 0x6 << 60
 STACK_BYTES = 1 << 23

@@ -2,7 +2,8 @@
 from . import opcodes
 from .expressions import LIMIT, signed
 from .faults import NAMES, USAGE_NAMES
-from .machine import BASE, RS, Work
+from .machine import Work
+from .state import BASE, RS
 
 SHOWN = {
     "three": "$X,$Y,either", "registers": "$X,$Y,$Z", "round": "$X,Y,$Z", "round or byte": "$X,Y,either",

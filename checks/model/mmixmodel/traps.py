@@ -1,14 +1,14 @@
 """File traps: TRAP 0,Y,Z calls the service Y on the slot Z.
 
 b is $255; p = M8[b] and q = M8[b + 8] are arguments in memory. A text at an address is its bytes up to the first zero
-byte. A trap is tried in this order: 124 for TRAP with X not 0, Y above 10, or Halt with Z not 0; 121 for the services on
-wide characters; 113 where an argument octa has an address of 2^63 or more; for a text 113 at such a byte, or 122 where it
-has more than 2^24 bytes; 122 for a size above 2^24; 113 for a byte of a buffer; the host.
+byte. A trap is tried in this order: 124 for TRAP with X not 0, Y above 10, or Halt with Z not 0; 121 for the services
+on wide characters; 113 where an argument octa has an address of 2^63 or more; for a text 113 at such a byte, or 122
+where it has more than 2^24 bytes; 122 for a size above 2^24; 113 for a byte of a buffer; the host.
 """
 from .expressions import LIMIT, signed
 from .faults import Stop
 from .hosts import BINARY_READ_WRITE, Failed
-from .machine import NEGATIVE, is_in_segment
+from .state import NEGATIVE, is_in_segment
 from .memory import PagesFull
 
 HALT, FOPEN, FCLOSE, FREAD, FGETS, FGETWS, FWRITE, FPUTS, FPUTWS, FSEEK, FTELL = range(11)

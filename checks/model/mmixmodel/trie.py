@@ -1,13 +1,14 @@
 """The symbol trie of an object.
 
-A node is: the byte m; the left subtrie if m has #40; one character if m and #2f is not 0, of two bytes, high byte first,
-if m has #80; the value; the serial if there is a value; the middle subtrie if m has #20; the right subtrie if m has #10.
+A node is: the byte m; the left subtrie if m has #40; one character if m and #2f is not 0, of two bytes, high byte
+first, if m has #80; the value; the serial if there is a value; the middle subtrie if m has #20; the right subtrie if m
+has #10.
 
 The low four bits of m give the value: 0 none; 1 to 8 a pure value of that many bytes; 9 to 14 a pure value of 8 bytes
 fewer, plus 2^61; 15 a register in one byte. The serial is in base 128 with the most significant digit first, and its
-last byte has #80 added. The name of a symbol is the characters on the way from the root, where only a middle branch adds
-its node's character, and its own character. A node without a character adds nothing. A two-byte character stands for the
-UTF-8 form of its number.
+last byte has #80 added. The name of a symbol is the characters on the way from the root, where only a middle branch
+adds its node's character, and its own character. A node without a character adds nothing. A two-byte character stands
+for the UTF-8 form of its number.
 """
 from .expressions import Value, pure
 from .faults import Fault
@@ -67,11 +68,11 @@ def trie_of(symbols):
 class TrieReader:
     """Reads a trie. A fault carries its byte place, and the first one met counts.
 
-    The bytes end within the trie (70, at the end). A node with the mark of a two-byte character has no character, met at
-    its byte m, or its character is below #80 or from #d800 to #dfff, met at the character (72). The characters on the way
-    have more than 1,024 bytes, met at the character (74). A serial is 2^32 or more (76), or the name came before (73),
-    both met at the end of the serial. These stand at the byte m of their node. After the trie stand four or more bytes,
-    or one that is not zero (71, at the first byte after it).
+    The bytes end within the trie (70, at the end). A node with the mark of a two-byte character has no character, met
+    at its byte m, or its character is below #80 or from #d800 to #dfff, met at the character (72). The characters on
+    the way have more than 1,024 bytes, met at the character (74). A serial is 2^32 or more (76), or the name came
+    before (73), both met at the end of the serial. These stand at the byte m of their node. After the trie stand four
+    or more bytes, or one that is not zero (71, at the first byte after it).
     """
 
     def __init__(self, data):
