@@ -65,10 +65,10 @@ def own_differences(case):
     if listed.status == "wild":
         return [] if window.output.startswith(listed.output) else ["output before the wild step"]
     found = differences(window, listed)
-    if case.words[:1] == ["run"] and case.kind != "words":
+    if case.words[:1] == ["run"] and "p.mms" in case.words and case.kind != "words":
         by_object = case.__class__(case.seed, case.kind, ["asm", "p.mms", "p.mmo"], case.files)
         made = run_model(by_object)
-        if made.status == 0:
+        if made.status == 0 and b": 90 PagesFull" not in window.errors:
             words = ["sim" if it == "run" else "p.mmo" if it == "p.mms" else it for it in case.words]
             files = {**case.files, "p.mmo": made.files["p.mmo"]}
             loaded = run_model(case.__class__(case.seed, case.kind, words, files, case.given))
@@ -109,7 +109,7 @@ def main():
     parser.add_argument("--self", action="store_true", dest="own", help="compare the model with itself")
     parser.add_argument("--cases", type=int, default=100)
     parser.add_argument("--seed", type=int, default=1)
-    parser.add_argument("--kind", action="append", help="source, program, object, console or words; may repeat")
+    parser.add_argument("--kind", action="append", help="source, program, object, console, words or pages; may repeat")
     arguments = parser.parse_args()
     if bool(arguments.program) == arguments.own:
         parser.error("give --program PATH or --self")

@@ -206,7 +206,8 @@ class Programs:
             kind |= rng.choice((1, 0x100, 0x300))
             word = rng.randrange(1 << 32)
         self.labels += 1
-        rows = [f" SETH $6,{kind}", f" INCML $6,{word >> 16}", f" INCL $6,{word & 0xFFFF}", " PUT rX,$6"]
+        rows = [f" SETH $6,{kind}", self.pick(*9 * (" SWYM",), " INCMH $6,#100"), f" INCML $6,{word >> 16}",
+                f" INCL $6,{word & 0xFFFF}", " PUT rX,$6"]
         rows += self.value("$5") + [" PUT rY,$5"] + self.value("$5") + [" PUT rZ,$5"] if rng.random() < 0.7 else []
         return rows + [f" GETA $6,R{self.labels}", " PUT rW,$6", " RESUME 0", f"R{self.labels} SWYM"]
 
@@ -220,8 +221,19 @@ class Programs:
                               " SETH $4,#8000;  LDO $3,$4,0", " SETH $4,#8000;  GO $3,$4,0")]
         return [" " + self.rng.choice(IDLE)]
 
+    def forged(self):
+        """A frame that no SAVE made: its G, its L and its place are free, and the stack may be nearly full then."""
+        rng = self.rng
+        g, count = rng.choice((31, 32, 100, 240, 255)), rng.choice((0, 2, 40, 255))
+        index = rng.choice((rng.randrange(300, 2000), (1 << 20) - 1, (1 << 20) - rng.randrange(1, 300)))
+        return [" SETH $4,#6000", f" INCML $4,{8 * index >> 16}", f" INCL $4,{8 * index & 0xFFFF}",
+                f" SETH $5,{g << 8}", " INCL $5,#c000", " STO $5,$4,0", f" SETL $6,{count}",
+                f" SETL $7,{8 * (13 + 256 - g)}", " SUBU $7,$4,$7", " STO $6,$7,0", " UNSAVE 0,$4"]
+
     def wild(self):
         """Something that sees the stack in memory."""
+        if self.rng.random() < 0.2:
+            return self.forged()
         return self.rng.choice((
             [f" GET {self.register()},rS"],
             [" SETH $4,#6000", f" LDO {self.register()},$4,{self.rng.randrange(256)}"],
@@ -269,6 +281,21 @@ class Programs:
             rows += self.subroutine(number)
         return text + "\n".join(rows) + "\n"
 
+    def full(self):
+        """A program for a memory that is nearly full: stores and reads that need new pages."""
+        rng = self.rng
+        fresh = (" SETH $4,#3000", " SETH $4,#3000;  INCL $4,8188", " SETH $4,#4000", " SETH $4,#6000",
+                 " SETH $4,#6080")
+        rows = [" LOC #100", "Main SWYM"]
+        for _ in range(rng.randrange(1, 6)):
+            rows.append(rng.choice(fresh))
+            rows += rng.choice((
+                [f" {self.pick('STO $3', 'STB $3', 'STCO 3', 'CSWAP $3', 'LDO $3')},$4,{8 * rng.randrange(32)}"],
+                [" PUT rP,1", " CSWAP $3,$4,0"],
+                [" SETL $255,#200", " STO $4,$255,0", f" SETL $5,{rng.randrange(20)}", " STO $5,$255,8",
+                 f" TRAP 0,{self.pick('Fread', 'Fgets', 'Fwrite')},{rng.randrange(2)}"]))
+        return "\n".join(rows + [" TRAP 0,Halt,0"]) + "\n"
+
     def command(self):
         """A console line."""
         rng = self.rng
@@ -280,7 +307,8 @@ class Programs:
             address = rng.choice(("6000000000000000", "#6000000000000008", "6000000000800000"))
         form = rng.choice(("", "", "!", "#", '"'))
         number = rng.choice(("5", "-1", "#ff", "0", "18446744073709551615", "18446744073709551616",
-                             "-9223372036854775808", "#10000000000000000"))
+                             "-9223372036854775808", "-9223372036854775809",
+                             "#10000000000000000"))
         names = [it[1:] for it in READABLE] + ["QQ", "L", "G", "A", "x"] + (["S"] if rng.random() < 0.2 else [])
         name = "r" + rng.choice(names)
         register = rng.choice((str(rng.randrange(8)), str(rng.randrange(256)), "255", "254", "300", "007"))

@@ -13,7 +13,6 @@ from mmixmodel.faults import Fault
 from mmixmodel.hosts import MemoryHost
 from mmixmodel.machine import Machine
 from mmixmodel.assembler import Assembly
-from mmixmodel.objects import read_object
 from mmixmodel.program import mmixware
 from mmixmodel.stack import WindowStack
 from rows import (BAD_OBJECTS, CONSOLE_OUTPUT, FIRST, FIRST_OBJECT, FRAME, HELLO, HELLO_OBJECT, INSERTION_END, LINE,
@@ -44,7 +43,7 @@ def plain(text):
 class Ran:
     """The program on one file p.mms or p.mmo, with the outcome and what it leaves."""
 
-    def __init__(self, data, words="run p.mms", given=b"", failing=(), kind="window"):
+    def __init__(self, data, words="run --steps 9999 p.mms", given=b"", failing=(), kind="window"):
         self.words = words.split()
         name = next((it for it in self.words if it.endswith((".mms", ".mmo"))), "p.mms")
         self.host = MemoryHost(given, failing, {} if data is None else {name.encode(): data})
@@ -57,12 +56,12 @@ class Ran:
         return (self.outcome.kind, *self.outcome.values), self.output
 
 
-def run(text, words="run p.mms", given=b"", failing=(), kind="window"):
+def run(text, words="run --steps 9999 p.mms", given=b"", failing=(), kind="window"):
     """Runs a source row."""
     return Ran(source_of(text), words, given, failing, kind)
 
 
-def outcome(text, words="run p.mms", given=b"", failing=(), kind="window"):
+def outcome(text, words="run --steps 9999 p.mms", given=b"", failing=(), kind="window"):
     """The outcome of a source row."""
     return run(text, words, given, failing, kind).shown()[0]
 
@@ -79,7 +78,7 @@ def assembled(text):
     return (ran.outcome.kind, *ran.outcome.values), bytes(ran.host.files[b"p.mmo"])
 
 
-def dump(text, words="run --dump p.mms", **more):
+def dump(text, words="run --steps 9999 --dump p.mms", **more):
     """The lines of the dump, as a mapping."""
     rows = [row.rsplit("=", 1) for row in run(text, words, **more).output.splitlines() if "=#" in row]
     return dict(rows)
@@ -180,6 +179,64 @@ def test_objects():
         check(f"first {length} bytes", Ran(whole[:length], "sim p.mmo").shown()[0], wanted)
     check("more zeros", Ran(whole + bytes(4), "sim p.mmo").shown()[0], ("BadObject", 128, 64))
     check("another end", Ran(whole + plain("980c000a"), "sim p.mmo").shown()[0], ("BadObject", 124, 63))
+
+
+def test_corners():
+    """Corners of sources and objects."""
+    rows = {"_GREG @/Main LDO $0,5": ("Refused", 2, 44, 0), "_PREFIX (a)/:Main TRAP 0,0,0": ("Done", 0),
+            "_LOC #7000000000000000/_LOC 0/Main TRAP 0,0,0": ("Done", 0), "_PREFIX " + "k" * 1024: ("Refused", 1, 33,
+                                                                                                    0),
+            "Main IS 0/_LOC #6000000000000000/x SWYM": ("Refused", 3, 49, 0), "x/Main SWYM": ("Refused", 1, 7, 0),
+            "_BYTE 1;x BYTE;y BYTE 256": ("Refused", 1, 43, 0), "_LOC #100/Main TRAP 0,0,0;* FROB": ("Done", 0),
+            "Main JMP x;_OCTA x;x IS 6": ("Refused", 1, 39, 0), "Main JMP x; OCTA x;x IS 6": ("Refused", 1, 89, 1),
+            "Main JMP 1F/1H IS 6": ("Refused", 2, 89, 1), "Main OCTA 1F/1H IS $6": ("Refused", 2, 84, 1),
+            "Main JMP 1F/1H IS $6": ("Refused", 2, 84, 1), "Main JMP 1F/1H IS #8000000": ("Refused", 2, 85, 1)}
+    for text, wanted in rows.items():
+        check(text[:60], outcome(text), wanted)
+    check("shared GREG", Assembly(source_of("_GREG 5/_GREG 5/_GREG 6/_GREG 0/_GREG 0/Main SWYM")).known.gregs,
+          {254: 5, 253: 6, 252: 0, 251: 0})
+    for lines_between, wanted in ((2, "98070001fd00000098070004fd000000"), (70000, "98070001fd00000098070000fd000000"),
+                                  (65533, "98070001fd0000009807fffffd000000"), (0, "98070001fd000000fd000000fd000000")):
+        made = assembled("_SWYM/" + "/" * lines_between + "Main SWYM/_SWYM")[1].hex()
+        check(f"line {lines_between}", made[32:32 + len(wanted)], wanted)
+    check("odd label", assembled("Main OCTA x/_LOC #101/x BYTE 7")[1].hex()[32:112], "98070001" + "0" * 16 +
+          "9801000100000101" + "9803000100000000" + "00070000" + "980a00ff00000000")
+
+
+def test_machine_corners():
+    """Corners of the machine."""
+    negative = "Main SETH $1,#8000/_GO $2,$1,0"
+    check("GO", (outcome(negative), dump(negative)["rC"]), (("Stopped", 1 << 63, 113), octa(2)))
+    rows = {"Main SETH $1,#8000/_PRELD 1,$1,0/_SYNCD 1,$1,0/_TRAP 0,0,0": ("Done", 0),
+            "Main SETH $1,#8000/_LDUNC $2,$1,0": ("Stopped", 4, 113), "Main SETH $1,#8000/_STUNC $2,$1,0": ("Stopped",
+                                                                                                            4, 113),
+            "Main SETH $1,#6080/_UNSAVE 0,$1": ("Stopped", 4, 116), "Main SETH $1,#8000/_UNSAVE 0,$1": ("Stopped", 4,
+                                                                                                        116),
+            "Main GET $5,rL/_SET $255,$5/_TRAP 0,0,0": ("Done", 6), "Main LDVTS $1,$2,$3": ("Stopped", 0, 112),
+            "Main PUT rK,1": ("Stopped", 0, 112), "Main PUT rN,1": ("Stopped", 0, 111), "Main SYNC 4": ("Stopped", 0,
+                                                                                                        112),
+            "Main SYNC 8": ("Stopped", 0, 111), "Main PUT rG,1": ("Stopped", 0, 111), "Main GET $1,32": ("Stopped", 0,
+                                                                                                         111),
+            "Main SETML $1,4/_PUT rA,$1": ("Stopped", 4, 111), "Main SAVE $1,0": ("Stopped", 0, 111)}
+    for text, wanted in rows.items():
+        check(text, outcome(text), wanted)
+    zero = "_LOC #20/_TRAP 0,Halt,0/_LOC #100/" + OVERFLOW.split("/", 4)[4]
+    check("handler of 0", outcome(zero)[2], 117)
+    into = dump(OVERFLOW.replace("_ADD $0,$0,1", "_ADD $255,$0,1"))
+    check("trip into $255", (into["rB"], into["rX"]), (octa(1 << 63), octa(0x8000000021FF0001)))
+    wide = "Main SETL $254,1/_PUSHJ $255,@+4/_GET $254,rO/_TRAP 0,0,0"
+    check("256 hidden", dump(wide)["$254"], octa(BASE + 8 * 256))
+    float_kind = "Main SETH $2,#0100/_INCML $2,#0409/_PUT rX,$2/_RESUME 0"
+    check("kind 1 and float", outcome(float_kind), ("Stopped", 12, 111))
+    check("kind 1 and float, local", outcome(float_kind.replace("0409", "0401")), ("Stopped", 12, 110))
+    check("kind 0 and TRAP", outcome("Main SETH $2,#0000/_PUT rX,$2/_RESUME 0"), ("Stopped", 8, 120))
+    check("kind 0 and RESUME", outcome("Main SETL $2,0/_INCML $2,#f900/_PUT rX,$2/_RESUME 0"), ("Stopped", 12, 111))
+    check("kind 2, bits", outcome("Main SETH $2,#0200/_INCMH $2,#0100/_PUT rX,$2/_RESUME 0"), ("Stopped", 12, 120))
+    for size, calls in ((0, 1), (1, 1), (4096, 1), (4097, 2), (8192, 2)):
+        text = (f"_LOC #2000000000000000/_GREG @/a OCTA #100,{size}/_LOC #100/Main LDA $255,a/_TRAP 0,Fwrite,StdOut/"
+                "_TRAP 0,Halt,0")
+        ran = run(text)
+        check(f"Fwrite {size}", (ran.host.calls - 3, len(ran.output), ran.outcome.values), (calls, size, (0,)))
 
 
 def trie_answer(data):
