@@ -59,6 +59,11 @@ def differences(left, right):
     return found + [f"file {name}" for name in names if left.files.get(name) != right.files.get(name)]
 
 
+def is_outside(model):
+    """Tells a run that made a file under a name that no folder can hold; what a system then answers is its own."""
+    return any(name in ("", ".", "..") or "/" in name or "\0" in name or not name.isascii() for name in model.files)
+
+
 def own_differences(case):
     """The model against itself."""
     window, listed = run_model(case), run_model(case, "list")
@@ -122,7 +127,7 @@ def main():
             found = own_differences(case)
         else:
             program, model = run_program(path, case), run_model(case)
-            found = differences(program, model)
+            found = [] if is_outside(model) else differences(program, model)
         if found:
             differ += 1
             tell(case, found, program, model)

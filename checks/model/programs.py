@@ -88,6 +88,10 @@ class Programs:
     def arithmetic(self):
         """Some instructions on whole numbers."""
         rows = self.value(self.register()) if self.rng.random() < 0.4 else []
+        if self.rng.random() < 0.1:
+            rows += [f" {self.pick('SETL $3,', 'NEG $3,0,')}{self.rng.randrange(256)}",
+                     f" NEG $4,0,{self.rng.randrange(9)}",
+                     f" {self.pick('DIV', 'DIVU', 'MUL', 'CMP')} $5,$3,{self.pick('$4', '$4', '2', '3')}", " GET $6,rR"]
         for _ in range(self.rng.randrange(1, 4)):
             name = self.rng.choice(THREE)
             second = self.rng.randrange(256) if name in ("NEG", "NEGU") else self.register()
@@ -209,7 +213,9 @@ class Programs:
         rows = [f" SETH $6,{kind}", self.pick(*9 * (" SWYM",), " INCMH $6,#100"), f" INCML $6,{word >> 16}",
                 f" INCL $6,{word & 0xFFFF}", " PUT rX,$6"]
         rows += self.value("$5") + [" PUT rY,$5"] + self.value("$5") + [" PUT rZ,$5"] if rng.random() < 0.7 else []
-        return rows + [f" GETA $6,R{self.labels}", " PUT rW,$6", " RESUME 0", f"R{self.labels} SWYM"]
+        low = [f" INCL $6,{rng.randrange(4)}"] if rng.random() < 0.2 else []
+        between = rng.randrange(3) * [" INCL $7,1"]
+        return rows + [f" GETA $6,R{self.labels}", *low, " PUT rW,$6", " RESUME 0", *between, f"R{self.labels} SWYM"]
 
     def odd(self):
         """An instruction that does nothing, or any tetra at a low rate."""
@@ -236,6 +242,9 @@ class Programs:
             return self.forged()
         return self.rng.choice((
             [f" GET {self.register()},rS"],
+            [f" SETL ${self.rng.randrange(60, 255)},7", f" GET ${self.rng.randrange(255)},rS"],
+            [*self.rng.randrange(5) * (f" PUSHJ ${self.rng.randrange(20, 127)},@+4",),
+             f" GET ${self.rng.randrange(200)},rS"],
             [" SETH $4,#6000", f" LDO {self.register()},$4,{self.rng.randrange(256)}"],
             [" SETH $4,#6000", f" STO {self.register()},$4,{self.rng.randrange(256)}"],
             [" GET $4,rO", " SUBU $4,$4,8", f" {self.pick('LDO', 'STO', 'CSWAP', 'STB')} {self.register()},$4,0"],
