@@ -451,6 +451,9 @@ def test_console():
     check("traced break", console(FIRST, "t104\nbx108\nc\nq\n")[1],
           "mmix> mmix> mmix> #0000000000000104 f5ffffff GETA $255,#0000000000000100 $255=#0000000000000100\n"
           "break x #0000000000000108\nmmix> ")
+    swap = "_LOC #2000000000000000/_GREG @/a OCTA 0/_LOC #100/Main CSWAP $0,a/_TRAP 0,0,0"
+    check("CSWAP breaks", console(swap, "bw2000000000000000\nbr2000000000000004\nc\nq\n")[1],
+          "mmix> mmix> mmix> break r #2000000000000004\nmmix> ")
     check("more", console(FIRST, "M0=1\n+2\nq")[1], "mmix> M#0000000000000000=#0000000000000001\nmmix> "
           "M#0000000000000008=#0000000000000000\nM#0000000000000010=#0000000000000000\nmmix> ")
     check("past the end", console(FIRST, "M7ffffffffffffff8\n+1\n")[1],
