@@ -39,13 +39,13 @@ pub stepped-made : (steps : ℕ) (c : Console) (a : TurnAnswer) (s : State) (m :
 unfolding stepped
 stepped-made steps c a s m ne h = rw (no-steps (steps_left steps c.state) ne, ← h) refl
 
-turn-at : (c : Console) (pc : ℕ) (a : Answered TurnAnswer) → IsFront a.2.output (output_of (after_turn c pc a))
+pub turn-at : (c : Console) (pc : ℕ) (a : Answered TurnAnswer) → IsFront a.2.output (output_of (after_turn c pc a))
 turn-at c pc (answer.Went trace, s, m) = line_done-at (with_run c s m) (trace_text trace s) m.output refl
 turn-at c pc (answer.Halted status, s, m) = front-self m.output
 turn-at c pc (answer.Stopped reason, s, m) = front-self m.output
 turn-at c pc (answer.OutOfMemory, s, m) = front-self m.output
 
-answer-host : (t : Turn) → (turn_answer t).2 ≡ host_after t
+pub answer-host : (t : Turn) → (turn_answer t).2 ≡ host_after t
 answer-host (went_on s m trace) = refl
 answer-host (halts status s m) = refl
 answer-host (stops reason s m) = refl
@@ -142,7 +142,7 @@ goes-at : (xs : List ℕ) (going : Bool) (w : Written) → IsFront xs w.1.output
 goes-at xs going (Ok u, m) h = h
 goes-at xs going (Err e, m) h = h
 
-end-front : (s : State) (end : End) (m : HostModel) → IsFront m.output (end_answer s end m).1.output
+pub end-front : (s : State) (end : End) (m : HostModel) → IsFront m.output (end_answer s end m).1.output
 end-front s (ending.Halted status) m = front-self m.output
 end-front s (ending.Stopped pc reason) m = front-self m.output
 end-front s (ending.Broke kind at traced) m = goes-at m.output false (lines_write (break_lines s kind at traced) m) (lines-front (break_lines s kind at traced) m)
@@ -166,7 +166,7 @@ pub one-made : (steps : ℕ) (pass : Bool) (c : Console) (end : End) (s : State)
 unfolding one_run
 one-made steps pass c end s m h = rw (window-ends (steps_left steps c.state) c.flags pass c.state c.host, ← h) refl
 
-end_done-at : (c : Console) (w : Then (Result Bool SessionEnd)) (xs : List ℕ) → IsFront xs w.1.output → IsFront xs (output_of (end_done c w))
+pub end_done-at : (c : Console) (w : Then (Result Bool SessionEnd)) (xs : List ℕ) → IsFront xs w.1.output → IsFront xs (output_of (end_done c w))
 end_done-at c (Ok going, m) xs h = h
 end_done-at c (Err e, m) xs h = h
 
