@@ -28,7 +28,7 @@ use Rattle.mx_core.specs.Reasons.{number_of}
 use Rattle.mx_core.specs.State.{State, special_register, locals, global_start, is_negative, is_in_stack_segment}
 use Rattle.mx_core.specs.Step.{Stepped, went, calls, stopped, fetched, store_touch, trace_of, completed, made, step}
 use Rattle.mx_core.specs.Stops.{form_fault}
-use Rattle.mx_core.specs.Stepping.{deed_for, deed_at}
+use Rattle.mx_core.specs.Deeds.{deed_for, deed_at}
 use Rattle.mx_core.specs.Wild.{deed, is_wild}
 use Rattle.mx_core.specs.declared.reason.Reason.{Reason}
 use Rattle.mx_core.specs.declared.reason.Reason.TheVariants.{Illegal}
