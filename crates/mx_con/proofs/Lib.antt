@@ -14,3 +14,4 @@ pub mod SameTexts
 pub mod Besides
 pub mod ListedRuns
 pub mod ListedReplies
+pub mod ListedSessions

@@ -211,7 +211,7 @@ unfolding carried_out
 carried-beside c w line m u b e =
     let own : reply_to c.state c.flags c.shown line ≡ reply_in c.state c.flags c.shown line = unnoted c.state c.flags c.shown line e in
     let same : reply_to (as_list_state c.state) c.flags c.shown line ≡ as_list_reply (reply_to c.state c.flags c.shown line) =
-        unnoted (as_list_state c.state) c.flags c.shown line e ∙ same-reply c.state w c.flags c.shown line m b e ∙ ap (λ r. as_list_reply r) (sym own) in
+    unnoted (as_list_state c.state) c.flags c.shown line e ∙ same-reply c.state w c.flags c.shown line m b e ∙ ap (λ r. as_list_reply r) (sym own) in
     subst (λ r. PartGoesAsList (replied (as_list_console c) r) (replied c (reply_to c.state c.flags c.shown line))) (sym same)
     (replied-beside c (reply_to c.state c.flags c.shown line) (ap (λ (r : Reply). r.state.touched) own ∙ reply-touched c.state c.flags c.shown line ∙ u))
 
