@@ -1,5 +1,5 @@
 -- Lines and sessions beside the list machine.
-use Rattle.std.proofs.Common.{◌≡◌, ℕ, zero, suc, ◌+◌, ◌-◌, ◌<◌, ◌≤◌, List, [], ◌∷◌, Bool, true, false, Option, None, Some, Result, Ok, Err, refl, sym, ◌∙◌, ap, subst, arith}
+use Rattle.std.proofs.Common.{◌≡◌, ℕ, suc, ◌+◌, ◌-◌, ◌<◌, ◌≤◌, List, [], false, Option, None, Some, Ok, Err, refl, sym, ◌∙◌, ap, subst, arith}
 use Rattle.mx_word.specs.Lists.{IsFront}
 use Rattle.mx_host.specs.HostModel.{HostModel}
 use Rattle.mx_core.specs.Bounds.{as_list_state}
@@ -11,7 +11,7 @@ use Rattle.mx_con.specs.Clauses.{output_of, as_list_console, as_list_progress, P
 use Rattle.mx_con.specs.Commands.{command_of}
 use Rattle.mx_con.specs.HostLines.{Written, text_write, Reading, line_read, without_return}
 use Rattle.mx_con.specs.Judgement.{bad_text}
-use Rattle.mx_con.specs.Session.{Console, Progress, Done, on, over, wild, and_then, with_host, write_done, command_done, reading_done, line_of, prompt, prompted, asked, one_line, session_lines, most_input, at_start, ended_in, run_of, session}
+use Rattle.mx_con.specs.Session.{Console, Progress, Done, on, over, wild, and_then, with_host, write_done, command_done, reading_done, line_of, prompt, asked, one_line, session_lines, most_input, at_start, ended_in, run_of, session}
 use Rattle.mx_con.specs.declared.command.Command.{Command}
 use Rattle.mx_con.specs.declared.command.Command.TheVariants as command
 use Rattle.mx_con.specs.declared.end.SessionEnd.{SessionEnd}

@@ -2,7 +2,7 @@ use Rattle.std.proofs.Common.{◌≡◌, ◌-◌, ◌+◌, false}
 use Rattle.std.specs.Prelude.{IsTrue}
 use Rattle.mx_core.specs.Kept.{state_of}
 use Rattle.mx_host.specs.Keeping.{Keeps}
-use Rattle.mx_host.specs.HostModel.{tells, contents}
+use Rattle.mx_host.specs.HostModel.{tells}
 use Rattle.mx_run.specs.WildRuns.{window_machine, list_machine}
 use Rattle.mx_con.specs.Clauses.{console_of, as_list_console}
 use Rattle.mx_con.specs.Session.{session_lines, most_input}
