@@ -1,5 +1,5 @@
 -- Parts of a session one after another beside those of the list machine.
-use Rattle.std.proofs.Common.{◌≡◌, ℕ, Bool, true, false, List, Ok, Err, refl, sym, ◌∙◌, ap, subst}
+use Rattle.std.proofs.Common.{◌≡◌, ℕ, false, List, Ok, Err, refl, sym, ◌∙◌, ap, subst}
 use Rattle.mx_word.specs.Lists.{IsFront}
 use Rattle.mx_word.proofs.Fronts.{front-self, front-through}
 use Rattle.mx_host.specs.HostModel.{HostModel}

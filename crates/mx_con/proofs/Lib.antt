@@ -14,4 +14,5 @@ pub mod SameTexts
 pub mod Besides
 pub mod ListedRuns
 pub mod ListedReplies
+pub mod ListedSessions
 pub mod SteadySessions

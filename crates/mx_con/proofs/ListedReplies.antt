@@ -1,11 +1,10 @@
 -- Commands that make no step, beside the list machine.
-use Rattle.std.proofs.Common.{◌≡◌, ℕ, zero, suc, ◌+◌, ◌-◌, ◌*◌, ◌^◌, ◌<◌, ◌≤◌, ◌==◌, List, [], ◌∷◌, Bool, true, false, cond, nat_lt, Option, None, Some, Result, Ok, Err, refl, sym, ◌∙◌, ap, subst, arith, map}
+use Rattle.std.proofs.Common.{◌≡◌, ℕ, zero, suc, ◌+◌, ◌-◌, ◌*◌, ◌^◌, ◌≤◌, ◌==◌, [], ◌∷◌, Bool, true, false, cond, nat_lt, Option, None, Some, Result, Ok, Err, refl, sym, ◌∙◌, ap, subst, arith, map}
 use Rattle.std.specs.Prelude.{◌||◌, is_none, is_err, unwrap_or}
 use Rattle.std.specs.List.{range_with_len}
 use Rattle.std.specs.Result.{result_unwrap_or}
 use Rattle.std.proofs.lemmas.Bool.Decides.{nat_tests}
 use Rattle.mx_word.specs.Results.{map_ok}
-use Rattle.mx_word.specs.Lists.{IsFront}
 use Rattle.mx_text.specs.declared.numbers.Form.{Form}
 use Rattle.mx_text.specs.declared.numbers.Form.TheVariants.{Hex}
 use Rattle.mx_ring.specs.Registers.{Registers}
@@ -16,7 +15,7 @@ use Rattle.mx_spec.specs.SpecialRegisters.{rL, rG}
 use Rattle.mx_spec.specs.declared.put.Put.{Put}
 use Rattle.mx_spec.specs.declared.put.Put.TheVariants as put
 use Rattle.mx_core.specs.Bounds.{IsMachine, as_list_state}
-use Rattle.mx_core.specs.Changes.{allowed_unless, with_put, put_changed, special_changed, register_changed, octa_changed}
+use Rattle.mx_core.specs.Changes.{allowed_unless, put_changed, special_changed, register_changed}
 use Rattle.mx_core.specs.State.{State, global_start, locals, with_value_in, with_octa, is_page_refused, is_in_stack_segment}
 use Rattle.mx_core.specs.declared.changes.SetFault.{SetFault}
 use Rattle.mx_core.proofs.Changed.{register-listed, special-listed, octa-changed-listed}
@@ -25,9 +24,9 @@ use Rattle.mx_run.specs.Runs.{FlagsOf}
 use Rattle.mx_run.specs.WildRuns.{window_machine, list_machine}
 use Rattle.mx_con.specs.Clauses.{as_list_console, PartGoesAsList}
 use Rattle.mx_con.specs.HostLines.{lines_write}
-use Rattle.mx_con.specs.Judgement.{bad_text, bad_if, first_bad, is_outside, subject_bad, past_memory, more_bad, command_bad, command_wild, more_wild}
+use Rattle.mx_con.specs.Judgement.{bad_text, bad_if, first_bad, is_outside, subject_bad, past_memory, command_bad, command_wild}
 use Rattle.mx_con.specs.Replies.{Reply, reply, reply_in, reply_to, with_note, with_subject, changed_reply, octas_after, shown_after}
-use Rattle.mx_con.specs.Session.{Console, Done, wild, with_reply, replied, carried_out, good_reply, judged, answered}
+use Rattle.mx_con.specs.Session.{Console, Done, wild, with_reply, replied, carried_out, judged, answered}
 use Rattle.mx_con.specs.Subjects.{subject_changed, subject_wild, shown_line}
 use Rattle.mx_con.specs.declared.command.Command.{Command}
 use Rattle.mx_con.specs.declared.command.Command.TheVariants as command
@@ -211,7 +210,7 @@ unfolding carried_out
 carried-beside c w line m u b e =
     let own : reply_to c.state c.flags c.shown line ≡ reply_in c.state c.flags c.shown line = unnoted c.state c.flags c.shown line e in
     let same : reply_to (as_list_state c.state) c.flags c.shown line ≡ as_list_reply (reply_to c.state c.flags c.shown line) =
-        unnoted (as_list_state c.state) c.flags c.shown line e ∙ same-reply c.state w c.flags c.shown line m b e ∙ ap (λ r. as_list_reply r) (sym own) in
+    unnoted (as_list_state c.state) c.flags c.shown line e ∙ same-reply c.state w c.flags c.shown line m b e ∙ ap (λ r. as_list_reply r) (sym own) in
     subst (λ r. PartGoesAsList (replied (as_list_console c) r) (replied c (reply_to c.state c.flags c.shown line))) (sym same)
     (replied-beside c (reply_to c.state c.flags c.shown line) (ap (λ (r : Reply). r.state.touched) own ∙ reply-touched c.state c.flags c.shown line ∙ u))
 

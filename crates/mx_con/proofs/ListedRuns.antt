@@ -1,5 +1,5 @@
 -- Steps and runs of the console beside those of the list machine.
-use Rattle.std.proofs.Common.{◌≡◌, ◌≢◌, ℕ, zero, suc, ◌+◌, ◌-◌, ◌<◌, ◌≤◌, ◌==◌, List, [], ◌∷◌, ◌++◌, Bool, true, false, cond, Option, None, Some, Result, Ok, Err, refl, sym, ◌∙◌, ap, subst, arith}
+use Rattle.std.proofs.Common.{◌≡◌, ℕ, suc, ◌+◌, ◌-◌, ◌<◌, ◌≤◌, ◌==◌, List, [], ◌∷◌, Bool, true, false, cond, None, Some, Result, Ok, Err, refl, sym, ◌∙◌, ap, subst, arith}
 use Rattle.mx_word.specs.Lists.{IsFront}
 use Rattle.mx_word.proofs.Fronts.{front-through}
 use Rattle.mx_host.specs.HostAnswer.{Then}
@@ -123,10 +123,10 @@ pub one-listed : (steps k : ℕ) (pass : Bool) (c : Console) (end : End) (s seen
     (r, n) ≡ end_answer seen end m → PartGoesAsList (one_run list_machine steps pass (as_list_console c)) (progress r (ran c s f n))
 one-listed steps k pass c end s seen f m n r same g at h w =
     let here : progress r (ran c s f n) ≡ end-of c s m (end_answer s end m) =
-        end-progress (ran c s f m) r n
-        ∙ ap (λ a. end_done (ran c s f m) a) w
-        ∙ ap (λ (t : State). end_done (ran c s f m) (end_answer t end m)) at
-        ∙ ap (λ fs. end_done (ran c s fs m) (end_answer s end m)) g in
+    end-progress (ran c s f m) r n
+    ∙ ap (λ a. end_done (ran c s f m) a) w
+    ∙ ap (λ (t : State). end_done (ran c s f m) (end_answer t end m)) at
+    ∙ ap (λ fs. end_done (ran c s fs m) (end_answer s end m)) g in
     subst (λ p. PartGoesAsList (one_run list_machine steps pass (as_list_console c)) p) (sym here)
     (run-listed steps pass c end s m
     (subst (λ j. GoesAsList (run_by list_machine j c.flags pass (as_list_state c.state) c.host) (ended end s m)) same h))
@@ -147,10 +147,10 @@ runs-none : (k i steps : ℕ) (pass : Bool) (c : Console) → k ≤ i → runs l
 unfolding runs
 runs-none k i steps pass c l = let e : k - i ≡ 0 = omega arith in rw e refl
 
-abbrev RunsFrom : Done → ℕ → ℕ → ℕ → Bool → Console → Type 0
+abbrev pub RunsFrom : Done → ℕ → ℕ → ℕ → Bool → Console → Type 0
 RunsFrom whole k i steps pass c = Beside whole (runs list_machine (k - i) steps pass (as_list_console c)) c
 
-abbrev RunListed : ℕ → Bool → Console → Progress Bool → Type 0
+abbrev pub RunListed : ℕ → Bool → Console → Progress Bool → Type 0
 RunListed steps pass c p = c.state.touched ≡ false → PartGoesAsList (one_run list_machine steps pass (as_list_console c)) p
 
 runs-follow : (whole : Done) (k i steps : ℕ) (pass : Bool) (c : Console) (p : Progress Bool) → i < k → RunListed steps pass c p → IsFront c.host.output (output_of p) →

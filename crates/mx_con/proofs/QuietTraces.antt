@@ -1,10 +1,9 @@
 -- A step that does not look at Stack_Segment writes outside the stack area: the touches of its trace.
-use Rattle.std.proofs.Common.{◌≡◌, ℕ, zero, suc, ◌+◌, ◌*◌, ◌/◌, ◌^◌, ◌<◌, ◌≤◌, Bool, true, false, cond, Option, None, Some, arith, refl, sym, ◌∙◌, ap, subst}
+use Rattle.std.proofs.Common.{◌≡◌, ℕ, zero, suc, ◌/◌, ◌^◌, ◌<◌, ◌≤◌, Bool, true, false, cond, Option, None, Some, arith, refl, sym, ◌∙◌, ap, subst}
 use Rattle.std.specs.Prelude.{◌||◌, ◌&&◌, ◌==◌, not}
 use Rattle.std.specs.Option.{option_map}
 use Rattle.std.proofs.lemmas.Bool.Decides.{nat_tests}
 use Rattle.mx_host.specs.HostModel.{HostModel}
-use Rattle.mx_mem.specs.Space.{Contents}
 use Rattle.mx_mem.specs.declared.part.Part.{Part}
 use Rattle.mx_mem.specs.declared.part.Part.TheVariants as part
 use Rattle.mx_ring.specs.Stack.{in_stack_area}
@@ -24,10 +23,8 @@ use Rattle.mx_core.specs.Deeds.{Deed, state_done, unless_refused, deed_of, given
 use Rattle.mx_core.specs.Effects.{Effect, Store, effect_of, touch, going_to}
 use Rattle.mx_core.specs.Instructions.{instruction, operation_in, xyz_of}
 use Rattle.mx_core.specs.MachineSpace.{machine_contents, state_in}
-use Rattle.mx_core.specs.Reasons.{number_of}
 use Rattle.mx_core.specs.State.{State, special_register, locals, global_start, is_negative, is_in_stack_segment}
-use Rattle.mx_core.specs.Step.{Stepped, went, calls, stopped, fetched, store_touch, trace_of, completed, made, step}
-use Rattle.mx_core.specs.Stops.{form_fault}
+use Rattle.mx_core.specs.Step.{Stepped, went, calls, stopped, fetched, store_touch, step}
 use Rattle.mx_core.specs.Deeds.{deed_for, deed_at}
 use Rattle.mx_core.specs.Wild.{deed, is_wild}
 use Rattle.mx_core.specs.declared.reason.Reason.{Reason}
@@ -36,7 +33,7 @@ use Rattle.mx_core.specs.declared.trace.Touch.{Touch}
 use Rattle.mx_core.specs.declared.trace.Trace.{Trace}
 use Rattle.mx_core.proofs.QuietDeeds.{free}
 use Rattle.mx_core.proofs.Steps.{other_deed, step_went, step_stopped, step_traps, step_negative}
-use Rattle.mx_run.specs.Runs.{FlagsOf, Ended, ended, break_of, after_trace, after_turn, trace_if, breaks_before}
+use Rattle.mx_run.specs.Runs.{FlagsOf, ended, break_of, after_trace, after_turn, breaks_before}
 use Rattle.mx_run.specs.Turns.{Turn, went_on, halts, stops, area_size, turn_with, trap_turn, turn_of, turn}
 use Rattle.mx_run.specs.WildRuns.{list_machine, RunEnd, run_ended, run_wild, trap_touches, turn_is_wild, run_by}
 use Rattle.mx_run.specs.declared.end.BreakKind.{BreakKind}

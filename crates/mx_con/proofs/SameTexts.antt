@@ -1,8 +1,7 @@
 -- What the console reads and writes of a state that is also a list.
-use Rattle.std.proofs.Common.{◌≡◌, ℕ, ◌+◌, ◌*◌, ◌/◌, ◌^◌, ◌==◌, List, [], ◌∷◌, ◌++◌, Bool, true, false, cond, length, Option, None, Some, arith, refl, sym, ◌∙◌, ap, subst, map}
+use Rattle.std.proofs.Common.{◌≡◌, ℕ, ◌/◌, ◌^◌, ◌==◌, [], ◌++◌, false, cond, length, Option, None, Some, arith, refl, ◌∙◌, ap}
 use Rattle.std.specs.Prelude.{codes, decimal, unwrap_or}
 use Rattle.std.proofs.lemmas.Bool.Decides.{nat_tests}
-use Rattle.mx_text.specs.Instructions.{instruction_text}
 use Rattle.mx_text.specs.Numbers.{hex_text, shown_text}
 use Rattle.mx_text.specs.declared.numbers.Form.{Form}
 use Rattle.mx_ring.specs.Registers.{Registers}

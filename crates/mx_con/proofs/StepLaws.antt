@@ -1,5 +1,5 @@
 -- Steps and runs of the console.
-use Rattle.std.proofs.Common.{◌≡◌, ◌≢◌, ℕ, zero, suc, ◌+◌, ◌-◌, ◌<◌, ◌≤◌, List, [], ◌∷◌, ◌++◌, Bool, true, false, cond, Option, None, Some, Result, Ok, Err, refl, sym, ◌∙◌, ap, subst, arith, ◌==◌}
+use Rattle.std.proofs.Common.{◌≡◌, ◌≢◌, ℕ, zero, suc, ◌+◌, ◌-◌, ◌<◌, ◌≤◌, List, [], ◌∷◌, ◌++◌, Bool, true, false, cond, None, Some, Result, Ok, Err, refl, sym, ◌∙◌, ap, subst, arith, ◌==◌}
 use Rattle.mx_word.specs.Lists.{IsFront}
 use Rattle.mx_word.proofs.Fronts.{front-self, front-through}
 use Rattle.std.proofs.lemmas.Bool.Decides.{nat_tests}
@@ -9,7 +9,7 @@ use Rattle.mx_core.specs.State.{State}
 use Rattle.mx_core.specs.declared.trace.Trace.{Trace}
 use Rattle.mx_run.specs.Runs.{FlagsOf, Ended, ended, run}
 use Rattle.mx_run.specs.Turns.{Turn, went_on, halts, stops, turn, Answered, turn_answer}
-use Rattle.mx_run.specs.WildRuns.{window_machine, RunEnd, run_ended, run_by, host_after}
+use Rattle.mx_run.specs.WildRuns.{window_machine, host_after}
 use Rattle.mx_run.specs.declared.end.BreakKind.{BreakKind}
 use Rattle.mx_run.specs.declared.end.End.{End}
 use Rattle.mx_run.specs.declared.end.End.TheVariants as ending
@@ -18,11 +18,11 @@ use Rattle.mx_run.specs.declared.turn_answer.TurnAnswer.TheVariants as answer
 use Rattle.mx_run.proofs.BothMachines.{window-ends}
 use Rattle.mx_run.proofs.Outputs.{turn-front, run-front}
 use Rattle.mx_con.specs.declared.end.SessionEnd.{SessionEnd}
-use Rattle.mx_con.specs.declared.end.SessionEnd.TheVariants.{Halted, Stopped, Spent, OutOfMemory}
+use Rattle.mx_con.specs.declared.end.SessionEnd.TheVariants.{Halted, Stopped, Spent}
 use Rattle.mx_con.specs.Clauses.{output_of, progress}
 use Rattle.mx_con.specs.ConsoleTexts.{trace_text, break_text}
-use Rattle.mx_con.specs.HostLines.{Written, line_write, lines_write, after_write, text_write}
-use Rattle.mx_con.specs.Session.{Console, Progress, Done, on, over, wild, and_then, with_run, with_host, write_done, line_done, steps_left, after_turn, stepped, goes, break_lines, end_answer, end_done, after_run, one_run, run_on, runs}
+use Rattle.mx_con.specs.HostLines.{Written, line_write, lines_write, after_write}
+use Rattle.mx_con.specs.Session.{Console, Progress, Done, on, over, wild, and_then, with_run, with_host, write_done, line_done, steps_left, after_turn, stepped, goes, break_lines, end_answer, end_done, one_run, run_on, runs}
 use Rattle.mx_con.proofs.Outputs.{lines-at, lines-front, text-front, line_done-at, done-at}
 
 -- ---- ONE STEP
