@@ -25,17 +25,17 @@ use Rattle.mx_run.specs.declared.end.End.TheVariants.{Broke}
 -- ---- turns
 
 -- the turn and the run with the still model in place of the one that they leave, and that no call fails in that one
-abbrev turn_still : Turn → Turn
+abbrev pub turn_still : Turn → Turn
 turn_still (went_on s m trace) = went_on s (still m) trace
 turn_still (halts status s m) = halts status s (still m)
 turn_still (stops reason s m) = stops reason s (still m)
 
-abbrev turn_well : Turn → Type 0
+abbrev pub turn_well : Turn → Type 0
 turn_well (went_on s m trace) = m.failing ≡ []
 turn_well (halts status s m) = m.failing ≡ []
 turn_well (stops reason s m) = m.failing ≡ []
 
-abbrev SteadyTurns : Turn → Turn → Type 0
+abbrev pub SteadyTurns : Turn → Turn → Type 0
 SteadyTurns t u = (turn_still t ≡ u) × turn_well t
 
 with-steady : (touching : Bool) (call : TrapCall) (s : State) (m : HostModel) (answer : TrapAnswer) → m.failing ≡ [] → SteadyTurns (turn_with touching call s m answer) (turn_with touching call s (still m) answer)
@@ -54,7 +54,7 @@ stepped-steady s m (stopped reason) h = (refl, h)
 stepped-steady s m (calls call) h =
     trap_turn-steady (touches (machine_contents s).bytes call) call (trap_answer (machine_contents s) m call) (trap_answer (machine_contents s) (still m) call) (trap-steady (machine_contents s) m call h)
 
-turn-steady : (s : State) (m : HostModel) → m.failing ≡ [] → SteadyTurns (turn s m) (turn s (still m))
+pub turn-steady : (s : State) (m : HostModel) → m.failing ≡ [] → SteadyTurns (turn s m) (turn s (still m))
 unfolding turn
 turn-steady s m h = stepped-steady s m (step s) h
 

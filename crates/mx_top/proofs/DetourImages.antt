@@ -1,8 +1,7 @@
 -- The object of a source is loaded as what the source is run from.
-use Rattle.std.proofs.Common.{◌≡◌, ℕ, ◌^◌, ◌≤◌, List, ◌++◌, length, refl, sym, ◌∙◌, ap, subst, Ok}
-use Rattle.std.specs.Prelude.{Result}
-use Rattle.mx_word.specs.Ranges.{AreBytes}
+use Rattle.std.proofs.Common.{◌≡◌, ℕ, ◌^◌, ◌≤◌, List, ◌++◌, length, sym, ◌∙◌, ap, subst, Ok}
 use Rattle.mx_word.specs.declared.symbols.Symbol.{Symbol}
+use Rattle.mx_word.specs.Ranges.{AreBytes}
 use Rattle.mx_mmo.specs.Image.{Image}
 use Rattle.mx_mmo.specs.Meaning.{meaning}
 use Rattle.mx_mmo.specs.Spelling.{written, ending}
@@ -16,9 +15,9 @@ use Rattle.mx_stab.specs.Reading.{trie_answer}
 use Rattle.mx_asm.specs.Fitting.{AreWritable}
 use Rattle.mx_asm.specs.OnePass.{Ended}
 use Rattle.mx_asm.specs.Whole.{assembled_source}
+use Rattle.mx_top.specs.Sources.{source_meaning}
 use Rattle.mx_top.specs.Objects.{Assembled, source_object}
 use Rattle.mx_top.specs.Objects as assembling
-use Rattle.mx_top.specs.Sources.{source_meaning}
 use Rattle.mx_top.proofs.SourceImages.{items-mean-image}
 
 object-is : (text trie : List ℕ) (items : List Item) → assembled_source text ≡ (items, Ok trie) → source_object text ≡ (written items ++ ending trie, Ok tt)
@@ -36,8 +35,7 @@ written-loaded items trie symbols image w short answer means =
 
 pub source-loads : (text trie : List ℕ) (items : List Item) (symbols : List Symbol) (image : Image) → AreBytes text → assembled_source text ≡ (items, Ok trie) → AreWritable items trie → length (source_object text).0 ≤ 2 ^ 26 →
     trie_answer trie ≡ Ok symbols → source_meaning text ≡ Ok image → object_loaded (source_object text).0 ≡ Ok (image, symbols)
-source-loads text trie items symbols image b e w short answer h =
+source-loads text trie items symbols image each e w short answer h =
     let bytes : (source_object text).0 ≡ written items ++ ending trie = ap (λ (x : Assembled). x.0) (object-is text trie items e) in
-    let same : (assembled_source text).0 ≡ items = ap (λ (x : Ended). x.0) e in
-    let means : meaning items ≡ Ok image = ap meaning (sym same) ∙ items-mean-image text image b h in
+    let means : meaning items ≡ Ok image = ap (λ (x : Ended). meaning x.0) (sym e) ∙ items-mean-image text image each h in
     ap object_loaded bytes ∙ written-loaded items trie symbols image w (subst (λ xs. length xs ≤ 2 ^ 26) bytes short) answer means

@@ -14,12 +14,15 @@ pub mod PutPieces
 pub mod QuietFiles
 pub mod ReadPieces
 pub mod SameDumps
+pub mod SameRings
+pub mod SessionRuns
 pub mod Sources
 pub mod SpecialNames
 pub mod StartedMachines
 pub mod Summed
 pub mod TakenLines
 pub mod Told
+pub mod SourceImages
 pub mod SteadyFiles
 pub mod IdleFiles
 pub mod WholeFiles
@@ -27,6 +30,4 @@ pub mod JoinedWrites
 pub mod SteadyProduct
 pub mod DetourRuns
 pub mod DetourImages
-pub mod SameRings
-pub mod SourceImages
 pub mod UnbrokenRuns

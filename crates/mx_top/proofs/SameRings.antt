@@ -23,7 +23,7 @@ use Rattle.mx_top.specs.declared.refusal.Refusal.{Refusal}
 same-from : (words others : List Word) (o p : Order) (e : DifferInRing words others o p) (r : Result State Outcome) (m : HostModel) →
     run_from list_machine o r m ≡ run_from list_machine p r m
 same-from words others o p e (Err outcome) m = refl
-same-from words others o p e (Ok s) m = rw (e.dump, e.steps) refl
+same-from words others o p e (Ok s) m = rw (e.interactive, e.dump, e.steps) refl
 
 same-run : (words others : List Word) (o p : Order) (e : DifferInRing words others o p) (args : List Word) (image : Image) (m : HostModel) →
     image_run list_machine o args image m ≡ image_run list_machine p args image m

@@ -1,5 +1,5 @@
 -- What is written before the program is out of memory is a front of what is written in all.
-use Rattle.std.proofs.Common.{ℕ, List, [], Bool, true, false, sym, ◌∙◌, Ok, Err, subst, append-nil}
+use Rattle.std.proofs.Common.{ℕ, List, [], Bool, true, false, cond, refl, sym, ◌∙◌, Ok, Err, subst, append-nil}
 use Rattle.std.specs.Prelude.{Result}
 use Rattle.mx_host.specs.HostModel.{HostModel}
 use Rattle.mx_host.specs.HostAnswer.{Then, open_answer, close_answer}
@@ -23,7 +23,7 @@ use Rattle.mx_top.specs.Sources.{source_meaning}
 use Rattle.mx_top.specs.Objects.{Assembled, source_object}
 use Rattle.mx_top.specs.Pieces.{put_text}
 use Rattle.mx_top.specs.Product.{after_image, after_source, after_loading, after_object, closed_object, written_object, assembled_outcome, object_put, after_opening, after_reading, summed, summed_from, generated_run, source_generated, generator_steps}
-use Rattle.mx_top.specs.Runs.{dumped, run_from, image_run, started}
+use Rattle.mx_top.specs.Runs.{ran, machine_ran, session_ran, dumped, run_from, image_run, started}
 use Rattle.mx_top.specs.Source.{file_bytes}
 use Rattle.mx_top.specs.declared.outcome.Outcome.{Outcome}
 use Rattle.mx_top.specs.declared.outcome.Outcome.TheVariants.{HostFault, OutOfMemory}
@@ -31,6 +31,7 @@ use Rattle.mx_top.specs.declared.refusal.Refusal.{Refusal}
 use Rattle.mx_top.proofs.Dumped.{dumped-front}
 use Rattle.mx_top.proofs.MachineRuns.{window-front}
 use Rattle.mx_top.proofs.PutPieces.{text-front}
+use Rattle.mx_top.proofs.SessionRuns.{window-played-front}
 use Rattle.mx_top.proofs.QuietFiles.{Quiet, open-quiet, close-quiet, file-quiet}
 use Rattle.mx_top.proofs.Summed.{summed-front}
 
@@ -38,7 +39,14 @@ use Rattle.mx_top.proofs.Summed.{summed-front}
 
 from-front : (o : Order) (r : Result State Outcome) (m : HostModel) → IsFront m.output (output_of (run_from window_machine o r m))
 from-front o (Err outcome) m = front-self m.output
-from-front o (Ok s) m = window-front o.steps s m (dumped o.dump) (λ outcome t n. dumped-front o.dump outcome t n) m.output (run-front o.steps no_flags false s m)
+from-front o (Ok s) m = by o.interactive
+  where
+    adds : (outcome : Outcome) (t : State) (n : HostModel) → IsFront n.output (output_of (dumped o.dump (ran outcome t n)))
+    adds outcome t n = dumped-front o.dump outcome t n
+
+    by : (b : Bool) → IsFront m.output (output_of (dumped o.dump (cond b (session_ran window_machine o.steps s m) (machine_ran window_machine o.steps s m))))
+    by true = window-played-front o.steps s m (dumped o.dump) adds (λ m. refl)
+    by false = window-front o.steps s m (dumped o.dump) adds m.output (run-front o.steps no_flags false s m)
 
 pub image-front : (o : Order) (arguments : List Word) (image : Image) (m : HostModel) → IsFront m.output (output_of (image_run window_machine o arguments image m))
 image-front o arguments image m = from-front o (started window_machine o.ring image arguments) m

@@ -17,6 +17,8 @@ use Rattle.mx_trap.specs.Counts.{without_count, with_calls}
 use Rattle.mx_trap.proofs.SteadyTraps.{uncounted-of}
 use Rattle.mx_run.specs.Runs.{no_flags}
 use Rattle.mx_run.specs.WildRuns.{MachineKind, RunEnd, run_ended, run_wild, run_by}
+use Rattle.mx_con.specs.Session.{SessionRun, session_ended, session_wild, session}
+use Rattle.mx_con.proofs.SteadySessions.{session_still, session_well, SteadySessions, session-steady}
 use Rattle.mx_run.proofs.SteadyRuns.{end_still, end_well, SteadyEnds, run-steady}
 use Rattle.mx_words.specs.Orders.{order_of}
 use Rattle.mx_words.specs.declared.order.Command.{Command}
@@ -34,7 +36,7 @@ use Rattle.mx_top.specs.Messages.{message_of}
 use Rattle.mx_top.specs.Objects.{Assembled, source_object}
 use Rattle.mx_top.specs.Pieces.{put_text}
 use Rattle.mx_top.specs.Product.{after_image, after_source, after_loading, after_object, closed_object, written_object, assembled_outcome, object_put, after_opening, after_reading, generator_steps, summed, summed_from, generated_run, run_ordered, sim_ordered, ordered, carried_out, message_told, with_message, product}
-use Rattle.mx_top.specs.Runs.{ran, ran_to, outcome_of, leaves_machine, after_lines, dumped, started, run_from, image_run}
+use Rattle.mx_top.specs.Runs.{ran, ran_to, outcome_of, machine_ran, played, session_outcome, session_ran, leaves_machine, after_lines, dumped, started, run_from, image_run}
 use Rattle.mx_top.specs.Source.{file_bytes, source_pieces, object_pieces}
 use Rattle.mx_top.specs.declared.refusal.Refusal.{Refusal}
 use Rattle.mx_top.specs.declared.outcome.Outcome.{Outcome}
@@ -82,10 +84,27 @@ dumped-case dump steps (run_ended e) h =
     one-of (dump && leaves_machine outcome) (after_lines outcome (lines_put lines e.host)) (answered outcome e.host) (after_lines outcome (lines_put lines (still e.host))) (answered outcome (still e.host))
     (told-steady outcome lines e.host h) (refl, h)
 
+played-case : (dump : Bool) (steps : ℕ) (r : SessionRun) → session_well r → SteadyAnswers (dumped dump (played steps r)) (dumped dump (played steps (session_still r)))
+played-case dump steps (session_wild m) h = (refl, h)
+played-case dump steps (session_ended e) h =
+    let outcome : Outcome = session_outcome steps e.end in
+    let lines : List (List ℕ) = dump_lines e.state in
+    one-of (dump && leaves_machine outcome) (after_lines outcome (lines_put lines e.host)) (answered outcome e.host) (after_lines outcome (lines_put lines (still e.host))) (answered outcome (still e.host))
+    (told-steady outcome lines e.host h) (refl, h)
+
+behind-session : (more : SessionRun → Answer) (t u : SessionRun) → ((r : SessionRun) → session_well r → SteadyAnswers (more r) (more (session_still r))) → SteadySessions t u → SteadyAnswers (more t) (more u)
+behind-session more t u f h = subst (λ w. SteadyAnswers (more t) (more w)) h.0 (f t h.1)
+
+machine-steady : (kind : MachineKind) (dump : Bool) (steps : ℕ) (s : State) (m : HostModel) → m.failing ≡ [] → (b : Bool) →
+    SteadyAnswers (dumped dump (cond b (session_ran kind steps s m) (machine_ran kind steps s m))) (dumped dump (cond b (session_ran kind steps s (still m)) (machine_ran kind steps s (still m))))
+machine-steady kind dump steps s m h true =
+    behind-session (λ r. dumped dump (played steps r)) (session kind steps s no_flags m) (session kind steps s no_flags (still m)) (played-case dump steps) (session-steady kind steps s no_flags m h)
+machine-steady kind dump steps s m h false =
+    behind-run (λ r. dumped dump (ran_to steps r)) (run_by kind steps no_flags false s m) (run_by kind steps no_flags false s (still m)) (dumped-case dump steps) (run-steady kind steps no_flags false s m h)
+
 from-steady : (kind : MachineKind) (o : Order) (r : Result State Outcome) (m : HostModel) → m.failing ≡ [] → SteadyAnswers (run_from kind o r m) (run_from kind o r (still m))
 from-steady kind o (Err outcome) m h = (refl, h)
-from-steady kind o (Ok s) m h =
-    behind-run (λ r. dumped o.dump (ran_to o.steps r)) (run_by kind o.steps no_flags false s m) (run_by kind o.steps no_flags false s (still m)) (dumped-case o.dump o.steps) (run-steady kind o.steps no_flags false s m h)
+from-steady kind o (Ok s) m h = machine-steady kind o.dump o.steps s m h o.interactive
 
 image-steady : (kind : MachineKind) (o : Order) (words : List Word) (image : Image) (m : HostModel) → m.failing ≡ [] → SteadyAnswers (image_run kind o words image m) (image_run kind o words image (still m))
 image-steady kind o words image m h = from-steady kind o (started kind o.ring image words) m h

@@ -12,10 +12,10 @@ use Rattle.mx_words.specs.declared.order.Command.TheVariants.{Run, Sim}
 use Rattle.mx_words.specs.declared.order.Order.{Order}
 use Rattle.mx_top.specs.Answers.{Answer, answered, wild}
 use Rattle.mx_top.specs.Arguments.{Word, program_name}
-use Rattle.mx_top.specs.Sources.{source_meaning}
 use Rattle.mx_top.specs.Objects.{source_object}
 use Rattle.mx_top.specs.Product.{product}
 use Rattle.mx_top.specs.Source.{file_bytes, source_pieces}
+use Rattle.mx_top.specs.Sources.{source_meaning}
 use Rattle.mx_top.specs.declared.outcome.Outcome.TheVariants.{Done}
 
 -- an answer but for the number of calls

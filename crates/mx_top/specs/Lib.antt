@@ -14,7 +14,7 @@ pub mod Loading
 pub mod Objects
 pub mod Runs
 pub mod Product
+pub mod Sources
 pub mod Detour
 pub mod Rings
-pub mod Sources
 pub mod Unbroken

@@ -1,4 +1,5 @@
--- How an image is run: the machine starts, makes its steps, and is told at the end where a dump is asked for.
+-- How an image is run: the machine starts, makes its steps, all in one run or at the console, and is told at the end where
+-- a dump is asked for.
 use Rattle.std.specs.Prelude.{ℕ, ◌*◌, ◌/◌, ◌&&◌, Bool, true, false, if◌then◌else◌, List, Option, None, Some, Result, Ok, Err}
 use Rattle.mx_host.specs.HostModel.{HostModel}
 use Rattle.mx_host.specs.HostAnswer.{Then}
@@ -12,6 +13,9 @@ use Rattle.mx_run.specs.Runs.{no_flags}
 use Rattle.mx_run.specs.WildRuns.{MachineKind, window_machine, list_machine, RunEnd, run_ended, run_wild, run_by}
 use Rattle.mx_run.specs.declared.end.End.{End}
 use Rattle.mx_run.specs.declared.end.End.TheVariants as ending
+use Rattle.mx_con.specs.Session.{SessionRun, session_ended, session_wild, session}
+use Rattle.mx_con.specs.declared.end.SessionEnd.{SessionEnd}
+use Rattle.mx_con.specs.declared.end.SessionEnd.TheVariants as sitting
 use Rattle.mx_words.specs.declared.order.Order.{Order}
 use Rattle.mx_top.specs.Answers.{Answer, answered, wild}
 use Rattle.mx_top.specs.Dump.{dump_lines}
@@ -44,6 +48,27 @@ ran_to steps (run_wild m) = ran_wild m
 
 abbrev pub machine_ran : MachineKind → ℕ → State → HostModel → Ran
 machine_ran kind steps s m = ran_to steps (run_by kind steps no_flags false s m)
+
+-- the outcome of a session of at most so many steps
+abbrev pub session_outcome : ℕ → SessionEnd → Outcome
+session_outcome steps (sitting.Halted status) = Done status
+session_outcome steps (sitting.Stopped pc reason) = Stopped pc reason
+session_outcome steps sitting.Spent = StepsSpent steps
+session_outcome steps sitting.Quit = Quit
+session_outcome steps sitting.Limit = ConsoleLimit
+session_outcome steps sitting.HostFault = HostFault
+session_outcome steps sitting.OutOfMemory = OutOfMemory
+
+abbrev pub played : ℕ → SessionRun → Ran
+played steps (session_ended e) = ran (session_outcome steps e.end) e.state e.host
+played steps (session_wild m) = ran_wild m
+
+abbrev pub session_ran : MachineKind → ℕ → State → HostModel → Ran
+session_ran kind steps s m = played steps (session kind steps s no_flags m)
+
+-- what an order makes of a machine: a session of the console, or a run
+abbrev pub order_ran : MachineKind → Order → State → HostModel → Ran
+order_ran kind o s m = if o.interactive then session_ran kind o.steps s m else machine_ran kind o.steps s m
 
 -- where the machine is left with something to tell
 abbrev pub leaves_machine : Outcome → Bool
@@ -87,7 +112,7 @@ started kind ring image arguments = begun_at (main_address image) (start image a
 -- an image is run with these arguments
 abbrev pub run_from : MachineKind → Order → Result State Outcome → HostModel → Answer
 run_from kind o (Err outcome) m = answered outcome m
-run_from kind o (Ok s) m = dumped o.dump (machine_ran kind o.steps s m)
+run_from kind o (Ok s) m = dumped o.dump (order_ran kind o s m)
 
 abbrev pub image_run : MachineKind → Order → List (List ℕ) → Image → HostModel → Answer
 image_run kind o arguments image m = run_from kind o (started kind o.ring image arguments) m

@@ -14,9 +14,9 @@ ghost use Rattle.mx_run.specs.WildRuns.{MachineKind};
 ghost use Rattle.mx_trap.specs.Counts.{with_calls};
 ghost use Rattle.mx_top.specs.Arguments.{Word};
 ghost use Rattle.mx_top.specs.Detour.{AreOrdered, IsAssembled, LoadsAlike, answer_uncounted, run_words, sim_words};
-ghost use Rattle.mx_top.specs.Sources.{source_meaning};
 ghost use Rattle.mx_top.specs.Objects.{source_object};
 ghost use Rattle.mx_top.specs.Product.{product};
+ghost use Rattle.mx_top.specs.Sources.{source_meaning};
 
 /// Where no call fails, the program does and answers the same whatever number of calls was made before;
 /// only that number differs in what it leaves.
@@ -43,8 +43,8 @@ pub fn objects_run_as_their_sources()
 /// be read.
 #[tactic(auto)]
 pub fn objects_load_as_their_sources()
-    ensures { (text trie : List ℕ) (items : List Item) (symbols : List Symbol) (image : Image) →
-        AreBytes text → assembled_source text ≡ (items, Ok trie) → AreWritable items trie → length (source_object text).0 ≤ 2 ^ 26 →
+    ensures { (text trie : List ℕ) (items : List Item) (symbols : List Symbol) (image : Image) → AreBytes text →
+        assembled_source text ≡ (items, Ok trie) → AreWritable items trie → length (source_object text).0 ≤ 2 ^ 26 →
         trie_answer trie ≡ Ok symbols → source_meaning text ≡ Ok image →
         object_loaded (source_object text).0 ≡ Ok (image, symbols) }
 {}

@@ -2,6 +2,7 @@
 #![tactic(auto)]
 
 mod arguments;
+mod console;
 mod detour_laws;
 mod dump;
 mod dump_laws;

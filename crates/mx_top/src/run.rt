@@ -15,6 +15,7 @@ ghost use Rattle.mx_top.specs.Runs as spec;
 ghost use Rattle.mx_top.specs.Source.{file_bytes};
 ghost use Rattle.mx_top.specs.Sources.{source_meaning};
 
+use crate::console::run_session;
 use crate::dump::dump;
 use crate::loading::load_source;
 use crate::outcome::Outcome;
@@ -74,7 +75,7 @@ pub fn start(
 
 /// What follows a run: the dump, where it is asked for and the machine is left with something to tell.
 #[tactic(auto, using(crate::proofs::Dumped::dumping))]
-fn tell_end<H: Host>(
+pub fn tell_end<H: Host>(
     alloc: Global,
     host: &mut H,
     wanted: bool,
@@ -106,15 +107,15 @@ fn tell_end<H: Host>(
     }
 }
 
-/// Runs a machine that was started.
-fn run_machine<H: Host>(alloc: Global, host: &mut H, order: &Order, machine: Machine) -> Outcome
+/// Makes the steps of a machine that was started, in one run.
+fn run_steps<H: Host>(alloc: Global, host: &mut H, order: &Order, machine: Machine) -> Outcome
     requires { (state_of machine).touched ≡ false }
     ensures told { AnswersAs (H.told host.old) (H.told host.new) result
-        (λ m. spec.run_from window_machine order.now (Ok (state_of machine)) m) }
+        (λ m. spec.dumped order.now.dump (spec.machine_ran window_machine order.now.steps (state_of machine) m)) }
     ensures listed { AnswersAsList (H.told host.old) (H.told host.new) result
-        (λ m. spec.run_from list_machine order.now (Ok (as_list_state (state_of machine))) m) }
+        (λ m. spec.dumped order.now.dump (spec.machine_ran list_machine order.now.steps (as_list_state (state_of machine)) m)) }
     ensures front { WritesFrontOf (H.told host.old) (H.told host.new) result
-        (λ m. spec.run_from window_machine order.now (Ok (state_of machine)) m) }
+        (λ m. spec.dumped order.now.dump (spec.machine_ran window_machine order.now.steps (state_of machine) m)) }
     ensures rose { ComesByFault (H.told host.old) Outcome.HostFault result (H.faults host.old) (H.faults host.new) }
     ensures present { result ≢ Outcome.NoFile }
     ensures words { is_usage result ≡ false }
@@ -129,6 +130,27 @@ fn run_machine<H: Host>(alloc: Global, host: &mut H, order: &Order, machine: Mac
         runner.machine(),
         outcome_of(order.steps, end),
     )
+}
+
+/// Runs a machine that was started.
+fn run_machine<H: Host>(alloc: Global, host: &mut H, order: &Order, machine: Machine) -> Outcome
+    requires { (state_of machine).touched ≡ false }
+    ensures told { AnswersAs (H.told host.old) (H.told host.new) result
+        (λ m. spec.run_from window_machine order.now (Ok (state_of machine)) m) }
+    ensures listed { AnswersAsList (H.told host.old) (H.told host.new) result
+        (λ m. spec.run_from list_machine order.now (Ok (as_list_state (state_of machine))) m) }
+    ensures front { WritesFrontOf (H.told host.old) (H.told host.new) result
+        (λ m. spec.run_from window_machine order.now (Ok (state_of machine)) m) }
+    ensures rose { ComesByFault (H.told host.old) Outcome.HostFault result (H.faults host.old) (H.faults host.new) }
+    ensures present { result ≢ Outcome.NoFile }
+    ensures words { is_usage result ≡ false }
+    ensures keeps { Keeps (H.told host.old) (H.told host.new) (H.faults host.old) (H.faults host.new) }
+{
+    if order.interactive {
+        run_session(alloc, host, order, machine)
+    } else {
+        run_steps(alloc, host, order, machine)
+    }
 }
 
 /// Runs an image from its start, with these arguments.

@@ -2,7 +2,7 @@
 use Rattle.std.proofs.Common.{◌≡◌, ℕ, ◌+◌, Bool, true, false, cond, List, [], ◌∷◌, drop, refl, sym, ◌∙◌, ap, Result, Ok, Err, arith}
 use Rattle.std.proofs.lemmas.List.{drop-drop}
 use Rattle.mx_words.specs.Values.{Word, is_option, ring_value, steps_value}
-use Rattle.mx_words.specs.Orders.{Ordered, fault, is_dump, is_ring, is_steps, with_ring, with_steps, valued, options_from, file_at}
+use Rattle.mx_words.specs.Orders.{Ordered, fault, is_console, is_dump, is_ring, is_steps, with_ring, with_steps, valued, options_from, file_at}
 use Rattle.mx_words.specs.OneOption.{Read, set, option_read}
 use Rattle.mx_words.specs.declared.order.Command.{Command}
 use Rattle.mx_words.specs.declared.settings.Settings.{Settings}
@@ -19,13 +19,14 @@ value-followed c all (Err kind) place next with_value words is rest = refl
 value-followed c all (Ok n) place next with_value words is rest = rw (rest, is) refl
 
 -- the choice among the options, with a word behind
-chosen : (c : Command) (all : List Word) (d r t : Bool) (dumped : Read) (ringed stepped unknown : Read) (a b e f : Ordered) →
-    a ≡ followed c all dumped → b ≡ followed c all ringed → e ≡ followed c all stepped → f ≡ followed c all unknown →
-    cond d a (cond r b (cond t e f)) ≡ followed c all (cond d dumped (cond r ringed (cond t stepped unknown)))
-chosen c all true r t dumped ringed stepped unknown a b e f ha hb he hf = ha
-chosen c all false true t dumped ringed stepped unknown a b e f ha hb he hf = hb
-chosen c all false false true dumped ringed stepped unknown a b e f ha hb he hf = he
-chosen c all false false false dumped ringed stepped unknown a b e f ha hb he hf = hf
+chosen : (c : Command) (all : List Word) (i d r t : Bool) (played dumped ringed stepped unknown : Read) (g a b e f : Ordered) →
+    g ≡ followed c all played → a ≡ followed c all dumped → b ≡ followed c all ringed → e ≡ followed c all stepped → f ≡ followed c all unknown →
+    cond i g (cond d a (cond r b (cond t e f))) ≡ followed c all (cond i played (cond d dumped (cond r ringed (cond t stepped unknown))))
+chosen c all true d r t played dumped ringed stepped unknown g a b e f hg ha hb he hf = hg
+chosen c all false true r t played dumped ringed stepped unknown g a b e f hg ha hb he hf = ha
+chosen c all false false true t played dumped ringed stepped unknown g a b e f hg ha hb he hf = hb
+chosen c all false false false true played dumped ringed stepped unknown g a b e f hg ha hb he hf = he
+chosen c all false false false false played dumped ringed stepped unknown g a b e f hg ha hb he hf = hf
 
 -- the words behind a word
 pub behind-word : (all : List Word) (p : ℕ) (word : Word) (words : List Word) → drop p all ≡ word ∷ words → drop (p + 1) all ≡ words
@@ -38,11 +39,11 @@ pub option-followed : (c : Command) (all : List Word) (s : Settings) (p : ℕ) (
 unfolding options_from
 option-followed c all s p word [] rest dash =
     let none : drop (p + 1) all ≡ [] = behind-word all p word [] rest in
-    rw dash (chosen c all (is_dump c word) (is_ring c word) (is_steps c word) _ _ _ _ _ _ _ _ (rw none refl) refl refl refl)
+    rw dash (chosen c all (is_console c word) (is_dump c word) (is_ring c word) (is_steps c word) _ _ _ _ _ _ _ _ _ _ (rw none refl) (rw none refl) refl refl refl)
 option-followed c all s p word (value ∷ words) rest dash =
     let more : drop (p + 1) all ≡ value ∷ words = behind-word all p word (value ∷ words) rest in
     let others : drop (p + 1 + 1) all ≡ words = behind-word all (p + 1) value words more in
-    rw dash (chosen c all (is_dump c word) (is_ring c word) (is_steps c word) _ _ _ _ _ _ _ _ (rw more refl)
+    rw dash (chosen c all (is_console c word) (is_dump c word) (is_ring c word) (is_steps c word) _ _ _ _ _ _ _ _ _ _ (rw more refl) (rw more refl)
     (value-followed c all (ring_value value) (p + 1) (p + 2) (with_ring s) words (omega arith) others)
     (value-followed c all (steps_value value) (p + 1) (p + 2) (with_steps s) words (omega arith) others) refl)
 

@@ -1,13 +1,21 @@
 -- The words of the grammar are read as their order.
 use Rattle.std.proofs.Common.{◌≡◌, ℕ, ◌+◌, true, List, [], ◌∷◌, ◌++◌, length, refl, ◌∙◌, ap, arith, Ok, codes}
 use Rattle.mx_words.specs.Values.{Word, ring_value, steps_value}
-use Rattle.mx_words.specs.Orders.{runs_file, takes_ring, defaults, with_dump, with_ring, with_steps, valued, options_from, order_of, blocks_at}
-use Rattle.mx_words.specs.Usage.{Options, Orders, none, dump, ring, steps, run, sim, asm, gen}
+use Rattle.mx_words.specs.Orders.{runs_file, takes_ring, defaults, with_console, with_dump, with_ring, with_steps, valued, options_from, order_of, blocks_at}
+use Rattle.mx_words.specs.Usage.{Options, Orders, none, console, dump, ring, steps, run, sim, asm, gen}
 use Rattle.mx_words.specs.declared.order.Command.{Command}
 use Rattle.mx_words.specs.declared.order.Command.TheVariants.{Run, Sim, Asm, Gen}
 use Rattle.mx_words.specs.declared.order.Order.{Order}
 use Rattle.mx_words.specs.declared.settings.Settings.{Settings}
 use Rattle.mx_words.proofs.Chosen.{not-option}
+
+console-step : (c : Command) (s : Settings) (p : ℕ) (word : Word) (words : List Word) → runs_file c ≡ true →
+    options_from c s p (codes "-i" ∷ word ∷ words) ≡ options_from c (with_console s) (p + 1) (word ∷ words)
+unfolding options_from
+console-step Run s p word words is = refl
+console-step Sim s p word words is = refl
+console-step Asm s p word words is = cc is
+console-step Gen s p word words is = cc is
 
 dump-step : (c : Command) (s : Settings) (p : ℕ) (word : Word) (words : List Word) → runs_file c ≡ true →
     options_from c s p (codes "--dump" ∷ word ∷ words) ≡ options_from c (with_dump s) (p + 1) (word ∷ words)
@@ -34,6 +42,11 @@ steps-step Asm s p value words is = cc is
 steps-step Gen s p value words is = cc is
 
 -- options in front of a file
+played : (c : Command) (s : Settings) (p : ℕ) (words : List Word) (file : Word) (behind : List Word) → runs_file c ≡ true →
+    options_from c s p (codes "-i" ∷ (words ++ file ∷ behind)) ≡ options_from c (with_console s) (p + 1) (words ++ file ∷ behind)
+played c s p [] file behind is = console-step c s p file behind is
+played c s p (w ∷ words) file behind is = console-step c s p w (words ++ file ∷ behind) is
+
 dumped : (c : Command) (s : Settings) (p : ℕ) (words : List Word) (file : Word) (behind : List Word) → runs_file c ≡ true →
     options_from c s p (codes "--dump" ∷ (words ++ file ∷ behind)) ≡ options_from c (with_dump s) (p + 1) (words ++ file ∷ behind)
 dumped c s p [] file behind is = dump-step c s p file behind is
@@ -45,6 +58,10 @@ moved c t p q words is = rw is refl
 pub options-read : (c : Command) (s t : Settings) (words : List Word) → Options c s words t → (p : ℕ) (file : Word) (behind : List Word) →
     options_from c s p (words ++ file ∷ behind) ≡ options_from c t (p + length words) (file ∷ behind)
 options-read _ _ _ _ (none c s) p file behind = moved c s p (p + 0) (file ∷ behind) (omega arith)
+options-read _ _ _ _ (console c s t words takes rest) p file behind =
+    played c s p words file behind takes
+    ∙ options-read c (with_console s) t words rest (p + 1) file behind
+    ∙ moved c t _ _ (file ∷ behind) (omega arith)
 options-read _ _ _ _ (dump c s t words takes rest) p file behind =
     dumped c s p words file behind takes
     ∙ options-read c (with_dump s) t words rest (p + 1) file behind

@@ -3,8 +3,8 @@ use Rattle.std.proofs.Common.{◌≡◌, ℕ, ◌+◌, Bool, true, false, cond, 
 use Rattle.std.proofs.lemmas.Slice.Eq.{bytes_eq-Decides}
 use Rattle.std.proofs.lemmas.Bool.{and_parts}
 use Rattle.mx_words.specs.Values.{Word, is_option, ring_value, steps_value, blocks_value}
-use Rattle.mx_words.specs.Orders.{Ordered, fault, runs_file, takes_ring, is_dump, is_ring, is_steps, defaults, with_dump, with_ring, with_steps, valued, options_from, file_at, commanded, order_of, run_order, object_behind, blocks_at}
-use Rattle.mx_words.specs.Usage.{Options, Orders, none, dump, ring, steps, run, sim, asm, gen}
+use Rattle.mx_words.specs.Orders.{Ordered, fault, runs_file, takes_ring, is_console, is_dump, is_ring, is_steps, defaults, with_console, with_dump, with_ring, with_steps, valued, options_from, file_at, commanded, order_of, run_order, object_behind, blocks_at}
+use Rattle.mx_words.specs.Usage.{Options, Orders, none, console, dump, ring, steps, run, sim, asm, gen}
 use Rattle.mx_words.specs.declared.order.Command.{Command}
 use Rattle.mx_words.specs.declared.order.Command.TheVariants.{Run, Sim, Asm, Gen}
 use Rattle.mx_words.specs.declared.order.Order.{Order}
@@ -38,6 +38,22 @@ no-options c s p word words o dash is =
 
 file_at-same : (c : Command) (t : Settings) (p q : ℕ) (file : Word) (behind : List Word) → p ≡ q → file_at c t p file behind ≡ file_at c t q file behind
 file_at-same c t p q file behind is = rw is refl
+
+with-played : (c : Command) (s : Settings) (p : ℕ) (word : Word) (words : List Word) (o : Order) → is_console c word ≡ true →
+    Parted c (with_console s) (p + 1) words o → Parted c s p (word ∷ words) o
+with-played c s p word words o is rest =
+    let parts : (runs_file c ≡ true) × (bytes_eq word (codes "-i") ≡ true) = and_parts (runs_file c) (bytes_eq word (codes "-i")) is in
+    let named : word ≡ codes "-i" = (bytes_eq-Decides word (codes "-i")).0 parts.1 in
+    record {
+      options = codes "-i" ∷ rest.options;
+      after = rest.after;
+      file = rest.file;
+      behind = rest.behind;
+      whole = cc (named, rest.whole);
+      set = console c s rest.after rest.options parts.0 rest.set;
+      no_dash = rest.no_dash;
+      ordered = file_at-same c rest.after _ _ rest.file rest.behind (omega arith) ∙ rest.ordered;
+    }
 
 with-dumped : (c : Command) (s : Settings) (p : ℕ) (word : Word) (words : List Word) (o : Order) → is_dump c word ≡ true →
     Parted c (with_dump s) (p + 1) words o → Parted c s p (word ∷ words) o
@@ -88,14 +104,15 @@ with-stepped c s p word value n words o is good rest =
     }
 
 -- one word, which has to be the file
-one-word : (c : Command) (s : Settings) (p : ℕ) (word : Word) (o : Order) (dash d r t : Bool) → is_option word ≡ dash →
-    cond dash (cond d (Err (fault 7 (p + 1))) (cond r (Err (fault 4 (p + 1))) (cond t (Err (fault 4 (p + 1))) (Err (fault 3 p))))) (file_at c s p word []) ≡ Ok o →
+one-word : (c : Command) (s : Settings) (p : ℕ) (word : Word) (o : Order) (dash i d r t : Bool) → is_option word ≡ dash →
+    cond dash (cond i (Err (fault 7 (p + 1))) (cond d (Err (fault 7 (p + 1))) (cond r (Err (fault 4 (p + 1))) (cond t (Err (fault 4 (p + 1))) (Err (fault 3 p)))))) (file_at c s p word []) ≡ Ok o →
     Parted c s p (word ∷ []) o
-one-word c s p word o true true r t h is = refused _ o is
-one-word c s p word o true false true t h is = refused _ o is
-one-word c s p word o true false false true h is = refused _ o is
-one-word c s p word o true false false false h is = refused _ o is
-one-word c s p word o false d r t h is = no-options c s p word [] o h is
+one-word c s p word o true true d r t h is = refused _ o is
+one-word c s p word o true false true r t h is = refused _ o is
+one-word c s p word o true false false true t h is = refused _ o is
+one-word c s p word o true false false false true h is = refused _ o is
+one-word c s p word o true false false false false h is = refused _ o is
+one-word c s p word o false i d r t h is = no-options c s p word [] o h is
 
 -- a value, if what follows was read
 value-good : {A : Type 0} (v : Result ℕ ℕ) (place : ℕ) (go : ℕ → Ordered) (o : Order) → valued v place go ≡ Ok o → ((n : ℕ) → v ≡ Ok n → go n ≡ Ok o → A) → A
@@ -103,31 +120,35 @@ value-good (Err kind) place go o is then = refused _ o is
 value-good (Ok n) place go o is then = then n refl is
 
 -- two words and more, with the recursion as arguments
-more-words : (c : Command) (s : Settings) (p : ℕ) (word value : Word) (words : List Word) (o : Order) (dash d r t : Bool) →
-    is_option word ≡ dash → is_dump c word ≡ d → is_ring c word ≡ r → is_steps c word ≡ t →
+more-words : (c : Command) (s : Settings) (p : ℕ) (word value : Word) (words : List Word) (o : Order) (dash i d r t : Bool) →
+    is_option word ≡ dash → is_console c word ≡ i → is_dump c word ≡ d → is_ring c word ≡ r → is_steps c word ≡ t →
+    (options_from c (with_console s) (p + 1) (value ∷ words) ≡ Ok o → Parted c (with_console s) (p + 1) (value ∷ words) o) →
     (options_from c (with_dump s) (p + 1) (value ∷ words) ≡ Ok o → Parted c (with_dump s) (p + 1) (value ∷ words) o) →
     ((n : ℕ) → options_from c (with_ring s n) (p + 2) words ≡ Ok o → Parted c (with_ring s n) (p + 2) words o) →
     ((n : ℕ) → options_from c (with_steps s n) (p + 2) words ≡ Ok o → Parted c (with_steps s n) (p + 2) words o) →
     cond dash
+    (cond i (options_from c (with_console s) (p + 1) (value ∷ words))
     (cond d (options_from c (with_dump s) (p + 1) (value ∷ words))
     (cond r (valued (ring_value value) (p + 1) (λ n. options_from c (with_ring s n) (p + 2) words))
-    (cond t (valued (steps_value value) (p + 1) (λ n. options_from c (with_steps s n) (p + 2) words)) (Err (fault 3 p)))))
+    (cond t (valued (steps_value value) (p + 1) (λ n. options_from c (with_steps s n) (p + 2) words)) (Err (fault 3 p))))))
     (file_at c s p word (value ∷ words)) ≡ Ok o →
     Parted c s p (word ∷ value ∷ words) o
-more-words c s p word value words o true true r t hh hd hr ht gd gr gt is = with-dumped c s p word (value ∷ words) o hd (gd is)
-more-words c s p word value words o true false true t hh hd hr ht gd gr gt is =
+more-words c s p word value words o true true d r t hh hi hd hr ht gi gd gr gt is = with-played c s p word (value ∷ words) o hi (gi is)
+more-words c s p word value words o true false true r t hh hi hd hr ht gi gd gr gt is = with-dumped c s p word (value ∷ words) o hd (gd is)
+more-words c s p word value words o true false false true t hh hi hd hr ht gi gd gr gt is =
     value-good (ring_value value) (p + 1) _ o is (λ n good then. with-ringed c s p word value n words o hr good (gr n then))
-more-words c s p word value words o true false false true hh hd hr ht gd gr gt is =
+more-words c s p word value words o true false false false true hh hi hd hr ht gi gd gr gt is =
     value-good (steps_value value) (p + 1) _ o is (λ n good then. with-stepped c s p word value n words o ht good (gt n then))
-more-words c s p word value words o true false false false hh hd hr ht gd gr gt is = refused _ o is
-more-words c s p word value words o false d r t hh hd hr ht gd gr gt is = no-options c s p word (value ∷ words) o hh is
+more-words c s p word value words o true false false false false hh hi hd hr ht gi gd gr gt is = refused _ o is
+more-words c s p word value words o false i d r t hh hi hd hr ht gi gd gr gt is = no-options c s p word (value ∷ words) o hh is
 
 parted : (c : Command) (s : Settings) (p : ℕ) (words : List Word) (o : Order) → options_from c s p words ≡ Ok o → Parted c s p words o
 unfolding options_from
 parted c s p [] o is = refused _ o is
-parted c s p (word ∷ []) o is = one-word c s p word o (is_option word) (is_dump c word) (is_ring c word) (is_steps c word) refl is
+parted c s p (word ∷ []) o is = one-word c s p word o (is_option word) (is_console c word) (is_dump c word) (is_ring c word) (is_steps c word) refl is
 parted c s p (word ∷ value ∷ words) o is =
-    more-words c s p word value words o (is_option word) (is_dump c word) (is_ring c word) (is_steps c word) refl refl refl refl
+    more-words c s p word value words o (is_option word) (is_console c word) (is_dump c word) (is_ring c word) (is_steps c word) refl refl refl refl refl
+    (parted c (with_console s) (p + 1) (value ∷ words) o)
     (parted c (with_dump s) (p + 1) (value ∷ words) o)
     (λ n. parted c (with_ring s n) (p + 2) words o)
     (λ n. parted c (with_steps s n) (p + 2) words o)
@@ -136,6 +157,7 @@ parted c s p (word ∷ value ∷ words) o is =
 -- `asm` has no options
 asm-bare : (s t : Settings) (options : List Word) → Options Asm s options t → (options ≡ []) × (s ≡ t)
 asm-bare _ _ _ (none c s) = (refl, refl)
+asm-bare _ _ _ (console c s t words takes rest) = cc takes
 asm-bare _ _ _ (dump c s t words takes rest) = cc takes
 asm-bare _ _ _ (ring c s t value n words takes is rest) = cc takes
 asm-bare _ _ _ (steps c s t value n words takes is rest) = cc takes

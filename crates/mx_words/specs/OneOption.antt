@@ -1,7 +1,7 @@
 -- One option as the code reads it; the law that joins it to the orders is in `proofs/ReadOptions`.
 use Rattle.std.specs.Prelude.{ℕ, ◌+◌, List, [], ◌∷◌, Result, Ok, Err, if◌then◌else◌}
 use Rattle.mx_words.specs.Values.{Word, ring_value, steps_value}
-use Rattle.mx_words.specs.Orders.{fault, is_dump, is_ring, is_steps, with_dump, with_ring, with_steps}
+use Rattle.mx_words.specs.Orders.{fault, is_console, is_dump, is_ring, is_steps, with_console, with_dump, with_ring, with_steps}
 use Rattle.mx_words.specs.declared.order.Command.{Command}
 use Rattle.mx_words.specs.declared.order.WordsFault.{WordsFault}
 use Rattle.mx_words.specs.declared.settings.Settings.{Settings}
@@ -30,7 +30,8 @@ steps_read s place words = value_read steps_value (with_steps s) place words
 -- the option at a place, with the words behind it
 abbrev pub option_read : Command → Settings → ℕ → Word → List Word → Read
 option_read c s place word words =
-    if is_dump c word then Ok (with_dump s, place + 1)
+    if is_console c word then Ok (with_console s, place + 1)
+    else if is_dump c word then Ok (with_dump s, place + 1)
     else if is_ring c word then ring_read s (place + 1) words
     else if is_steps c word then steps_read s (place + 1) words
     else Err (fault 3 place)

@@ -39,6 +39,9 @@ takes_ring Asm = false
 takes_ring Gen = true
 
 -- whether a word is this option of the command
+abbrev pub is_console : Command → Word → Bool
+is_console c word = runs_file c && bytes_eq word (codes "-i")
+
 abbrev pub is_dump : Command → Word → Bool
 is_dump c word = runs_file c && bytes_eq word (codes "--dump")
 
@@ -48,9 +51,12 @@ is_steps c word = runs_file c && bytes_eq word (codes "--steps")
 abbrev pub is_ring : Command → Word → Bool
 is_ring c word = takes_ring c && bytes_eq word (codes "--ring")
 
--- without options: a ring of 256 registers, 10^9 steps, no dump
+-- without options: a ring of 256 registers, 10^9 steps, no console and no dump
 abbrev pub defaults : Settings
-defaults = record { ring = 256; steps = 10 ^ 9; dump = false }
+defaults = record { ring = 256; steps = 10 ^ 9; interactive = false; dump = false }
+
+abbrev pub with_console : Settings → Settings
+with_console s = record s { interactive = true }
 
 abbrev pub with_dump : Settings → Settings
 with_dump s = record s { dump = true }
@@ -64,17 +70,17 @@ with_ring s n = record s { ring = n }
 -- an order to run the file at a place, with the arguments behind it
 abbrev pub run_order : Command → Settings → ℕ → Order
 run_order c s place =
-    record { command = c; ring = s.ring; steps = s.steps; interactive = false; dump = s.dump; file = place; rest = place + 1; number = 0 }
+    record { command = c; ring = s.ring; steps = s.steps; interactive = s.interactive; dump = s.dump; file = place; rest = place + 1; number = 0 }
 
 -- an order to assemble the file at a place into the one that the next word names
 abbrev pub asm_order : Settings → ℕ → Order
 asm_order s place =
-    record { command = Asm; ring = s.ring; steps = s.steps; interactive = false; dump = s.dump; file = place; rest = place + 1; number = 0 }
+    record { command = Asm; ring = s.ring; steps = s.steps; interactive = s.interactive; dump = s.dump; file = place; rest = place + 1; number = 0 }
 
 -- an order to generate and run n blocks
 abbrev pub gen_order : Settings → ℕ → Order
 gen_order s n =
-    record { command = Gen; ring = s.ring; steps = s.steps; interactive = false; dump = s.dump; file = 0; rest = 0; number = n }
+    record { command = Gen; ring = s.ring; steps = s.steps; interactive = s.interactive; dump = s.dump; file = 0; rest = 0; number = n }
 
 -- the words behind the source of `asm`: one object, and no other word
 abbrev pub object_behind : Settings → ℕ → List Word → Ordered
@@ -110,14 +116,16 @@ unfoldable pub options_from : Command → Settings → ℕ → List Word → Ord
 options_from c s place [] = Err (fault 7 place)
 options_from c s place (word ∷ []) =
     if is_option word
-    then (if is_dump c word then Err (fault 7 (place + 1))
+    then (if is_console c word then Err (fault 7 (place + 1))
+    else if is_dump c word then Err (fault 7 (place + 1))
     else if is_ring c word then Err (fault 4 (place + 1))
     else if is_steps c word then Err (fault 4 (place + 1))
     else Err (fault 3 place))
     else file_at c s place word []
 options_from c s place (word ∷ value ∷ words) =
     if is_option word
-    then (if is_dump c word then options_from c (with_dump s) (place + 1) (value ∷ words)
+    then (if is_console c word then options_from c (with_console s) (place + 1) (value ∷ words)
+    else if is_dump c word then options_from c (with_dump s) (place + 1) (value ∷ words)
     else if is_ring c word then valued (ring_value value) (place + 1) (λ n. options_from c (with_ring s n) (place + 2) words)
     else if is_steps c word then valued (steps_value value) (place + 1) (λ n. options_from c (with_steps s n) (place + 2) words)
     else Err (fault 3 place))

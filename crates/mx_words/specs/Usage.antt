@@ -1,11 +1,11 @@
 -- The words that are an order, as a grammar:
---   run [--ring R] [--steps N] [--dump] SRC [ARG ..]
---   sim [--ring R] [--steps N] [--dump] OBJ [ARG ..]
+--   run [--ring R] [--steps N] [-i] [--dump] SRC [ARG ..]
+--   sim [--ring R] [--steps N] [-i] [--dump] OBJ [ARG ..]
 --   asm SRC OBJ
 --   gen [--ring R] N
 use Rattle.std.specs.Prelude.{◌≡◌, ℕ, ◌+◌, true, false, List, [], ◌∷◌, ◌++◌, length, Ok, codes}
 use Rattle.mx_words.specs.Values.{Word, is_option, ring_value, steps_value, blocks_value}
-use Rattle.mx_words.specs.Orders.{runs_file, takes_ring, defaults, with_dump, with_ring, with_steps, run_order, asm_order, gen_order}
+use Rattle.mx_words.specs.Orders.{runs_file, takes_ring, defaults, with_console, with_dump, with_ring, with_steps, run_order, asm_order, gen_order}
 use Rattle.mx_words.specs.declared.order.Command.{Command}
 use Rattle.mx_words.specs.declared.order.Command.TheVariants.{Run, Sim, Gen}
 use Rattle.mx_words.specs.declared.order.Order.{Order}
@@ -14,6 +14,8 @@ use Rattle.mx_words.specs.declared.settings.Settings.{Settings}
 -- The options of a command: the settings before them, their words, and the settings after them.
 pub data Options : Command → Settings → List Word → Settings → Type 0 where
   none : (c : Command) (s : Settings) → Options c s [] s
+  console : (c : Command) (s t : Settings) (words : List Word) → runs_file c ≡ true →
+      Options c (with_console s) words t → Options c s (codes "-i" ∷ words) t
   dump : (c : Command) (s t : Settings) (words : List Word) → runs_file c ≡ true →
       Options c (with_dump s) words t → Options c s (codes "--dump" ∷ words) t
   ring : (c : Command) (s t : Settings) (value : Word) (n : ℕ) (words : List Word) → takes_ring c ≡ true → ring_value value ≡ Ok n →

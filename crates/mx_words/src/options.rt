@@ -22,6 +22,13 @@ fn takes_ring(command: Command) -> bool
     !matches!(command, Command::Asm)
 }
 
+/// Whether a word is `-i`, where the command takes it.
+fn is_console(command: Command, word: &String) -> bool
+    ensures { result ≡ orders.is_console command (string_bytes word.now) }
+{
+    runs_file(command) && word.as_str() == "-i"
+}
+
 /// Whether a word is `--dump`, where the command takes it.
 fn is_dump(command: Command, word: &String) -> bool
     ensures { result ≡ orders.is_dump command (string_bytes word.now) }
@@ -56,6 +63,15 @@ pub(crate) fn option(
     ensures onward { IfOk result (λ next. at < next.1) }
 {
     let word = &words[at];
+    if is_console(command, word) {
+        return Ok((
+            Settings {
+                interactive: true,
+                ..settings
+            },
+            at + 1,
+        ));
+    }
     if is_dump(command, word) {
         return Ok((
             Settings {

@@ -24,7 +24,7 @@ pub struct Order {
     pub ring: RingSize,
     /// How many steps are made at most: 1 to 10^12, by default 10^9.
     pub steps: u64,
-    /// Whether the console is wanted; no word asks for it yet.
+    /// Whether the console is wanted.
     pub interactive: bool,
     /// Whether the state is written at the end.
     pub dump: bool,

@@ -9,6 +9,8 @@ pub(crate) struct Settings {
     pub(crate) ring: RingSize,
     /// How many steps are made at most.
     pub(crate) steps: u64,
+    /// Whether the console is wanted.
+    pub(crate) interactive: bool,
     /// Whether the state is written at the end.
     pub(crate) dump: bool,
 }

@@ -7,7 +7,7 @@ use std::process::Abort;
 use std::test::Fail;
 
 /// Words with one blank between two of them, and their fault.
-const FAULTS: [(&str, u16, usize); 39] = [
+const FAULTS: [(&str, u16, usize); 42] = [
     // the command
     ("go", 2, 0),
     ("RUN a.mms", 2, 0),
@@ -15,15 +15,16 @@ const FAULTS: [(&str, u16, usize); 39] = [
     // a file or a number is missing
     ("run", 7, 1),
     ("run --dump", 7, 2),
+    ("sim -i", 7, 2),
     ("sim --ring 512", 7, 3),
     ("asm", 7, 1),
     ("asm a.mms", 7, 2),
     ("gen", 7, 1),
     ("gen --ring 256", 7, 3),
-    // options that the command does not have; the console has no option yet
+    // options that the command does not have
     ("run -x a.mms", 3, 1),
     ("run - a.mms", 3, 1),
-    ("run -i a.mms", 3, 1),
+    ("run -I a.mms", 3, 1),
     ("run --dumps a.mms", 3, 1),
     ("run --dump -x a.mms", 3, 2),
     ("sim --ring 512 --report a.mmo", 3, 3),
@@ -31,6 +32,8 @@ const FAULTS: [(&str, u16, usize); 39] = [
     ("asm -x", 3, 1),
     ("gen --steps 5 5", 3, 1),
     ("gen --dump 5", 3, 1),
+    ("gen -i 5", 3, 1),
+    ("asm -i a.mms a.mmo", 3, 1),
     ("gen -5", 3, 1),
     // a value is missing
     ("run --steps", 4, 2),
@@ -56,61 +59,80 @@ const FAULTS: [(&str, u16, usize); 39] = [
     ("gen 5 6", 8, 2),
 ];
 
-/// An order by its command, ring, steps, dump, file, rest and number.
-type Fields = (Command, u32, u64, bool, usize, usize, u64);
+/// An order by its command, ring, steps, interactive, dump, file, rest and number.
+type Fields = (Command, u32, u64, bool, bool, usize, usize, u64);
 
 /// Words with one blank between two of them, and their order.
-const ORDERS: [(&str, Fields); 14] = [
+const ORDERS: [(&str, Fields); 17] = [
     (
         "run a.mms",
-        (Command::Run, 256, 1_000_000_000, false, 1, 2, 0),
+        (Command::Run, 256, 1_000_000_000, false, false, 1, 2, 0),
     ),
     (
         "sim a.mmo x -y",
-        (Command::Sim, 256, 1_000_000_000, false, 1, 2, 0),
+        (Command::Sim, 256, 1_000_000_000, false, false, 1, 2, 0),
     ),
-    ("run ", (Command::Run, 256, 1_000_000_000, false, 1, 2, 0)),
+    (
+        "run ",
+        (Command::Run, 256, 1_000_000_000, false, false, 1, 2, 0),
+    ),
     (
         "run --dump a.mms",
-        (Command::Run, 256, 1_000_000_000, true, 2, 3, 0),
+        (Command::Run, 256, 1_000_000_000, false, true, 2, 3, 0),
     ),
     (
         "run a.mms --dump",
-        (Command::Run, 256, 1_000_000_000, false, 1, 2, 0),
+        (Command::Run, 256, 1_000_000_000, false, false, 1, 2, 0),
     ),
     (
         "sim --steps 1 --ring 65536 --dump a.mmo",
-        (Command::Sim, 65_536, 1, true, 6, 7, 0),
+        (Command::Sim, 65_536, 1, false, true, 6, 7, 0),
     ),
     (
         "run --steps 1000000000000 a.mms",
-        (Command::Run, 256, 1_000_000_000_000, false, 3, 4, 0),
+        (Command::Run, 256, 1_000_000_000_000, false, false, 3, 4, 0),
     ),
     (
         "run --steps 0000000000010 a.mms",
-        (Command::Run, 256, 10, false, 3, 4, 0),
+        (Command::Run, 256, 10, false, false, 3, 4, 0),
+    ),
+    // the console, once or more often
+    (
+        "run -i a.mms",
+        (Command::Run, 256, 1_000_000_000, true, false, 2, 3, 0),
+    ),
+    (
+        "sim -i --dump -i --steps 9 a.mmo -i",
+        (Command::Sim, 256, 9, true, true, 6, 7, 0),
+    ),
+    (
+        "run a.mms -i",
+        (Command::Run, 256, 1_000_000_000, false, false, 1, 2, 0),
     ),
     // the last option counts
     (
         "run --ring 512 --steps 7 --ring 1024 --steps 8 a",
-        (Command::Run, 1024, 8, false, 9, 10, 0),
+        (Command::Run, 1024, 8, false, false, 9, 10, 0),
     ),
     (
         "asm a.mms a.mmo",
-        (Command::Asm, 256, 1_000_000_000, false, 1, 2, 0),
+        (Command::Asm, 256, 1_000_000_000, false, false, 1, 2, 0),
     ),
     (
         "asm a.mms -x",
-        (Command::Asm, 256, 1_000_000_000, false, 1, 2, 0),
+        (Command::Asm, 256, 1_000_000_000, false, false, 1, 2, 0),
     ),
-    ("gen 1", (Command::Gen, 256, 1_000_000_000, false, 0, 0, 1)),
+    (
+        "gen 1",
+        (Command::Gen, 256, 1_000_000_000, false, false, 0, 0, 1),
+    ),
     (
         "gen 10000",
-        (Command::Gen, 256, 1_000_000_000, false, 0, 0, 10_000),
+        (Command::Gen, 256, 1_000_000_000, false, false, 0, 0, 10_000),
     ),
     (
         "gen --ring 4096 010",
-        (Command::Gen, 4096, 1_000_000_000, false, 0, 0, 10),
+        (Command::Gen, 4096, 1_000_000_000, false, false, 0, 0, 10),
     ),
 ];
 
@@ -139,12 +161,12 @@ fn faults(rt: HostRuntime) {
 
 #[test]
 fn orders(rt: HostRuntime) -> Result<(), Fail> {
-    for (line, (command, registers, steps, dump, file, rest, number)) in ORDERS {
+    for (line, (command, registers, steps, interactive, dump, file, rest, number)) in ORDERS {
         let want = Order {
             command,
             ring: RingSize::of(registers).expect(&rt, "a size"),
             steps,
-            interactive: false,
+            interactive,
             dump,
             file,
             rest,

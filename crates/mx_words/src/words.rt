@@ -14,8 +14,8 @@ use mx_ring::RingSize;
 /// no memory.
 ///
 /// The words are `run` or `sim`, options, a file and its arguments; `asm`, a source and an object; or
-/// `gen`, options and a number. Options are `--ring R`, and for `run` and `sim` `--steps N` and
-/// `--dump`; they may repeat, and the last one counts.
+/// `gen`, options and a number. Options are `--ring R`, and for `run` and `sim` `--steps N`, `-i`
+/// and `--dump`; they may repeat, and the last one counts.
 #[tactic(auto, using(crate::proofs::Places::places))]
 pub fn read(words: &[String]) -> Result<Order, WordsFault>
     ensures value { result ≡ spec.order_of (map string_bytes words.now) }
@@ -51,13 +51,14 @@ fn command_of(word: &String) -> Option<Command>
     None
 }
 
-/// What is set without options: a ring of 256 registers, 10^9 steps, no dump.
+/// What is set without options: a ring of 256 registers, 10^9 steps, no console and no dump.
 fn defaults() -> Settings
     ensures { result ≡ spec.defaults }
 {
     Settings {
         ring: RingSize::of(256).unwrap(),
         steps: 1_000_000_000,
+        interactive: false,
         dump: false,
     }
 }
@@ -117,7 +118,7 @@ fn run_order(command: Command, settings: Settings, at: usize) -> Order
         command,
         ring: settings.ring,
         steps: settings.steps,
-        interactive: false,
+        interactive: settings.interactive,
         dump: settings.dump,
         file: at,
         rest: at + 1,
@@ -150,7 +151,7 @@ fn asm_order(settings: Settings, words: &[String], at: usize) -> Result<Order, W
         command: Command::Asm,
         ring: settings.ring,
         steps: settings.steps,
-        interactive: false,
+        interactive: settings.interactive,
         dump: settings.dump,
         file: at,
         rest: at + 1,
@@ -181,7 +182,7 @@ fn gen_order(settings: Settings, words: &[String], at: usize) -> Result<Order, W
         command: Command::Gen,
         ring: settings.ring,
         steps: settings.steps,
-        interactive: false,
+        interactive: settings.interactive,
         dump: settings.dump,
         file: 0,
         rest: 0,

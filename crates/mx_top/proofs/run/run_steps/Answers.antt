@@ -7,7 +7,7 @@ use Rattle.mx_core.specs.Kept.{Kept, state_of}
 use Rattle.mx_top.specs.Runs.{dumped}
 use Rattle.mx_top.proofs.MachineRuns.{window-goes, list-goes, run-front-by}
 use Rattle.mx_top.proofs.Dumped.{dumped-front}
-use Rattle.mx_top.proofs.run.run_machine.Goals as goal
+use Rattle.mx_top.proofs.run.run_steps.Goals as goal
 
 pub returns-clause-told : goal.returns-clause-told
 returns-clause-told g c = λ t ne.

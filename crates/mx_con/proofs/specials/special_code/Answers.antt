@@ -1,0 +1,12 @@
+use Rattle.std.proofs.Common.{map, ap, ◌∙◌, length, arith}
+use Rattle.mx_con.proofs.SpecialNames.{named}
+use Rattle.mx_con.proofs.specials.special_code.Goals as goal
+
+pub overflow_cast-result : goal.overflow_cast-result
+overflow_cast-result c = let few = ap length c.as_slice.ensures in omega (arith, few, c.in-Some.ensures.range)
+
+pub returns-in-Some : goal.returns-in-Some
+returns-in-Some c = c.in-Some.ensures.value ∙ named _ _ (ap (map (λ s. s.now)) c.as_slice.ensures)
+
+pub returns-in-None : goal.returns-in-None
+returns-in-None c = c.in-None.ensures.value ∙ named _ _ (ap (map (λ s. s.now)) c.as_slice.ensures)

@@ -1,0 +1,111 @@
+-- The words of clauses over a runner, a session and a host: `old` and `new` are what the host told before and after, r
+-- and s the runners, d and e what the session remembers.
+use Rattle.std.specs.Prelude.{ℕ, ◌≡◌, ◌≢◌, IsTrue, false, List, Option, Result, Ok, Err}
+use Rattle.mx_word.specs.Lists.{IsFront}
+use Rattle.mx_host.specs.HostModel.{HostModel, tells, contents}
+use Rattle.mx_core.specs.Bounds.{as_list_state}
+use Rattle.mx_core.specs.Kept.{state_of}
+use Rattle.mx_run.specs.FlagMaps.{flags_at}
+use Rattle.mx_run.specs.Running.{Running}
+use Rattle.mx_core.specs.State.{State}
+use Rattle.mx_run.specs.Runs.{FlagsOf}
+use Rattle.mx_con.specs.Session.{Console, Progress, on, over, wild, SessionEnded, SessionRun, session_ended, session_wild}
+use Rattle.mx_con.specs.declared.dialog.Dialog.{Dialog}
+use Rattle.mx_con.specs.declared.end.SessionEnd.{SessionEnd}
+use Rattle.mx_con.specs.declared.end.SessionEnd.TheVariants.{OutOfMemory}
+
+-- what stands between two lines
+abbrev pub console_of : Running → Dialog → Option HostModel → Console
+console_of r d told =
+    record { state = state_of r.machine; flags = flags_at r.flags; shown = d.shown; left = d.left; host = contents told }
+
+abbrev pub progress : {A : Type 0} → Result A SessionEnd → Console → Progress A
+progress (Ok x) c = on x c
+progress (Err end) c = over end c
+
+-- what standard output holds then
+abbrev pub output_of : {A : Type 0} → Progress A → List ℕ
+output_of (on x c) = c.host.output
+output_of (over end c) = c.host.output
+output_of (wild m) = m.output
+
+-- over a host that tells its contents, the answer and what it leaves are those of f, unless there was no memory
+abbrev pub Goes : {A : Type 0} → Option HostModel → Option HostModel → Running → Running → Dialog → Dialog →
+    Result A SessionEnd → (Console → Progress A) → Type 0
+Goes old new r s d e result f =
+    IsTrue (tells old) → result ≢ Err OutOfMemory → progress result (console_of s e new) ≡ f (console_of r d old)
+
+-- over a host that tells its contents, where there was no memory, what standard output then holds is a front of what f
+-- gives it
+abbrev pub GoesFront : {A : Type 0} → Option HostModel → Option HostModel → Running → Dialog → Result A SessionEnd →
+    (Console → Progress A) → Type 0
+GoesFront old new r d result f =
+    IsTrue (tells old) → result ≡ Err OutOfMemory → IsFront (contents new).output (output_of (f (console_of r d old)))
+
+-- SESSIONS
+
+abbrev pub session_end : SessionEnd → Running → Option HostModel → SessionEnded
+session_end end r told = record { end = end; state = state_of r.machine; flags = flags_at r.flags; host = contents told }
+
+abbrev pub session_output : SessionRun → List ℕ
+session_output (session_ended e) = e.host.output
+session_output (session_wild m) = m.output
+
+-- over a host that tells its contents, the end and what it leaves are those of the session f, unless there was no memory
+abbrev pub EndsAsSession : Option HostModel → Option HostModel → Running → Running → SessionEnd →
+    (State → FlagsOf → HostModel → SessionRun) → Type 0
+EndsAsSession old new r s result f =
+    IsTrue (tells old) → result ≢ OutOfMemory →
+    session_ended (session_end result s new) ≡ f (state_of r.machine) (flags_at r.flags) (contents old)
+
+-- over a host that tells its contents, where there was no memory, what standard output then holds is a front of what the
+-- session f gives it
+abbrev pub EndsFront : Option HostModel → Option HostModel → Running → SessionEnd → (State → FlagsOf → HostModel → SessionRun) → Type 0
+EndsFront old new r result f =
+    IsTrue (tells old) → result ≡ OutOfMemory →
+    IsFront (contents new).output (session_output (f (state_of r.machine) (flags_at r.flags) (contents old)))
+
+-- BESIDE THE LIST MACHINE
+
+-- what stands between two lines, with the list that the register stack stands for
+abbrev pub as_list_console : Console → Console
+as_list_console c = record { state = as_list_state c.state; flags = c.flags; shown = c.shown; left = c.left; host = c.host }
+
+abbrev pub as_list_progress : {A : Type 0} → Progress A → Progress A
+as_list_progress (on x c) = on x (as_list_console c)
+as_list_progress (over end c) = over end (as_list_console c)
+as_list_progress (wild m) = wild m
+
+-- nothing was touched up to then
+abbrev pub IsUntouched : {A : Type 0} → Progress A → Type 0
+IsUntouched (on x c) = c.state.touched ≡ false
+IsUntouched (over end c) = c.state.touched ≡ false
+IsUntouched (wild m) = Unit {0}
+
+-- how a part of a session goes beside that of the list machine: it comes to the same, with the list that its last state
+-- stands for and nothing touched; or, where that meets something wild, it begins by writing what that had written
+abbrev pub PartGoesAsList : {A : Type 0} → Progress A → Progress A → Type 0
+PartGoesAsList (on x c) p = (as_list_progress p ≡ on x c) × IsUntouched p
+PartGoesAsList (over end c) p = (as_list_progress p ≡ over end c) × IsUntouched p
+PartGoesAsList (wild m) p = IsFront m.output (output_of p)
+
+-- over a host that tells its contents, from a state where nothing was touched, the part goes as f of the list machine
+abbrev pub PartsAsList : {A : Type 0} → Option HostModel → Option HostModel → Running → Running → Dialog → Dialog →
+    Result A SessionEnd → (Console → Progress A) → Type 0
+PartsAsList old new r s d e result f =
+    IsTrue (tells old) → result ≢ Err OutOfMemory → (state_of r.machine).touched ≡ false →
+    PartGoesAsList (f (as_list_console (console_of r d old))) (progress result (console_of s e new))
+
+-- the same of a whole session
+abbrev pub as_list_session : SessionEnded → SessionEnded
+as_list_session e = record { end = e.end; state = as_list_state e.state; flags = e.flags; host = e.host }
+
+abbrev pub SessionGoesAsList : SessionRun → SessionEnded → Type 0
+SessionGoesAsList (session_ended e) r = (as_list_session r ≡ e) × (r.state.touched ≡ false)
+SessionGoesAsList (session_wild m) r = IsFront m.output r.host.output
+
+abbrev pub EndsAsListSession : Option HostModel → Option HostModel → Running → Running → SessionEnd →
+    (State → FlagsOf → HostModel → SessionRun) → Type 0
+EndsAsListSession old new r s result f =
+    IsTrue (tells old) → result ≢ OutOfMemory → (state_of r.machine).touched ≡ false →
+    SessionGoesAsList (f (as_list_state (state_of r.machine)) (flags_at r.flags) (contents old)) (session_end result s new)

@@ -1,0 +1,9 @@
+pub mod Numerals
+pub mod Commands
+pub mod Subjects
+pub mod Judgement
+pub mod ConsoleTexts
+pub mod Replies
+pub mod HostLines
+pub mod Session
+pub mod Clauses

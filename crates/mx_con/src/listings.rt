@@ -1,0 +1,108 @@
+//! Lines on several octas and tetras.
+
+ghost use Rattle.std.specs.Prelude.{IsTrue, ◌≡◌, ◌<◌, ◌≤◌, ◌+◌, ◌*◌, ◌^◌, Err};
+ghost use Rattle.mx_host.specs.HostModel.{tells, contents};
+ghost use Rattle.mx_host.specs.Keeping.{Answers, ComesByFault, Keeps, WritesFront};
+ghost use Rattle.mx_core.specs.Kept.{state_of};
+ghost use Rattle.mx_run.specs.FlagMaps.{flags_at};
+ghost use Rattle.mx_con.specs.HostLines.{line_write, lines_write};
+ghost use Rattle.mx_con.specs.ConsoleTexts.{flag_text};
+ghost use Rattle.mx_con.specs.Subjects as subjects;
+ghost use Rattle.mx_con.specs.Replies as spec;
+
+use crate::SessionEnd;
+use crate::command::Subject;
+use crate::host_lines::write_line;
+use crate::subjects::shown_line;
+use crate::texts::flag_line;
+use mx_core::Machine;
+use mx_host::Host;
+use mx_run::{Flags, Runner};
+use mx_text::Form;
+use std::alloc::Global;
+
+/// Writes the n octas after one, whose addresses are all below 2^63.
+#[tactic(auto, using(crate::proofs::ListedLines::octas))]
+pub(crate) fn write_octas<H: Host>(
+    alloc: Global,
+    machine: &Machine,
+    host: &mut H,
+    form: Form,
+    a: u64,
+    n: u64,
+) -> Result<(), SessionEnd>
+    requires { a + 8 * n < 2 ^ 63 }
+    ensures told { Answers (H.told host.old) (H.told host.new) (Err SessionEnd.OutOfMemory) result
+        (λ m. lines_write (spec.octas_after (state_of machine.now) form a n) m) }
+    ensures front { WritesFront (H.told host.old) (H.told host.new) (Err SessionEnd.OutOfMemory) result
+        (λ m. lines_write (spec.octas_after (state_of machine.now) form a n) m) }
+    ensures cause { ComesByFault (H.told host.old) (Err SessionEnd.HostFault) result (H.faults host.old) (H.faults host.new) }
+    ensures keeps { Keeps (H.told host.old) (H.told host.new) (H.faults host.old) (H.faults host.new) }
+{
+    for turn in 0..n {
+        match write_octa(alloc, machine, host, form, a + 8 * (turn + 1)) {
+            Ok(()) => {}
+            Err(end) => return Err(end),
+        }
+    }
+    Ok(())
+}
+
+/// Writes the octa at an address.
+fn write_octa<H: Host>(
+    alloc: Global,
+    machine: &Machine,
+    host: &mut H,
+    form: Form,
+    a: u64,
+) -> Result<(), SessionEnd>
+    requires { a < 2 ^ 63 }
+    ensures told { Answers (H.told host.old) (H.told host.new) (Err SessionEnd.OutOfMemory) result
+        (λ m. line_write m (subjects.shown_line (state_of machine.now) (Subject.Memory a) form)) }
+    ensures cause { ComesByFault (H.told host.old) (Err SessionEnd.HostFault) result (H.faults host.old) (H.faults host.new) }
+    ensures keeps { Keeps (H.told host.old) (H.told host.new) (H.faults host.old) (H.faults host.new) }
+    ensures unwritten { IsTrue (tells (H.told host.old)) → result ≡ Err SessionEnd.OutOfMemory →
+        (contents (H.told host.new)).output ≡ (contents (H.told host.old)).output }
+{
+    write_line(host, shown_line(alloc, machine, Subject::Memory(a), form)?)
+}
+
+/// Writes the lines of all tetras with flags.
+#[tactic(auto, using(crate::proofs::ListedLines::flags))]
+pub(crate) fn write_flags<H: Host>(
+    alloc: Global,
+    runner: &Runner,
+    host: &mut H,
+) -> Result<(), SessionEnd>
+    ensures told { Answers (H.told host.old) (H.told host.new) (Err SessionEnd.OutOfMemory) result
+        (λ m. lines_write (spec.flag_lines (flags_at runner.now.flags) 0 spec.tetra_count) m) }
+    ensures front { WritesFront (H.told host.old) (H.told host.new) (Err SessionEnd.OutOfMemory) result
+        (λ m. lines_write (spec.flag_lines (flags_at runner.now.flags) 0 spec.tetra_count) m) }
+    ensures cause { ComesByFault (H.told host.old) (Err SessionEnd.HostFault) result (H.faults host.old) (H.faults host.new) }
+    ensures keeps { Keeps (H.told host.old) (H.told host.new) (H.faults host.old) (H.faults host.new) }
+{
+    let mut tetra: u64 = 0;
+    while tetra < 1 << 62 {
+        let Some((a, flags)) = runner.next_flagged(4 * tetra) else {
+            return Ok(());
+        };
+        match write_flag(alloc, host, a, flags) {
+            Ok(()) => tetra = a / 4 + 1,
+            Err(end) => return Err(end),
+        }
+    }
+    Ok(())
+}
+
+/// Writes the line of a tetra with flags.
+fn write_flag<H: Host>(alloc: Global, host: &mut H, a: u64, flags: Flags) -> Result<(), SessionEnd>
+    ensures told { Answers (H.told host.old) (H.told host.new) (Err SessionEnd.OutOfMemory) result
+        (λ m. line_write m (flag_text a flags)) }
+    ensures address { a < 2 ^ 64 }
+    ensures cause { ComesByFault (H.told host.old) (Err SessionEnd.HostFault) result (H.faults host.old) (H.faults host.new) }
+    ensures keeps { Keeps (H.told host.old) (H.told host.new) (H.faults host.old) (H.faults host.new) }
+    ensures unwritten { IsTrue (tells (H.told host.old)) → result ≡ Err SessionEnd.OutOfMemory →
+        (contents (H.told host.new)).output ≡ (contents (H.told host.old)).output }
+{
+    write_line(host, flag_line(alloc, a, flags)?)
+}

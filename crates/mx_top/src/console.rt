@@ -1,0 +1,64 @@
+//! A session of the console on a machine that was started.
+
+ghost use Rattle.std.specs.Prelude.{◌≡◌, ◌≢◌, false};
+ghost use Rattle.mx_core.specs.Bounds.{as_list_state};
+ghost use Rattle.mx_core.specs.Kept.{state_of};
+ghost use Rattle.mx_host.specs.Keeping.{ComesByFault, Keeps};
+ghost use Rattle.mx_run.specs.WildRuns.{window_machine, list_machine};
+ghost use Rattle.mx_top.specs.Answers.{AnswersAs, AnswersAsList, WritesFrontOf, is_usage};
+ghost use Rattle.mx_top.specs.Runs as spec;
+
+use crate::outcome::Outcome;
+use crate::run::tell_end;
+use mx_con::{SessionEnd, session};
+use mx_core::Machine;
+use mx_host::Host;
+use mx_run::Runner;
+use mx_words::Order;
+use std::alloc::Global;
+
+/// The outcome of a session of at most so many steps, by its end.
+fn session_outcome(steps: u64, end: SessionEnd) -> Outcome
+    ensures value { result ≡ spec.session_outcome steps end }
+    ensures memory { end ≡ SessionEnd.OutOfMemory → result ≡ Outcome.OutOfMemory }
+    ensures well { end ≢ SessionEnd.HostFault → result ≢ Outcome.HostFault }
+    ensures present { result ≢ Outcome.NoFile }
+    ensures words { is_usage result ≡ false }
+{
+    match end {
+        SessionEnd::Halted(status) => Outcome::Done(status),
+        SessionEnd::Stopped { pc, reason } => Outcome::Stopped { pc, reason },
+        SessionEnd::Spent => Outcome::StepsSpent { steps },
+        SessionEnd::Quit => Outcome::Quit,
+        SessionEnd::Limit => Outcome::ConsoleLimit,
+        SessionEnd::HostFault => Outcome::HostFault,
+        SessionEnd::OutOfMemory => Outcome::OutOfMemory,
+    }
+}
+
+/// Lets the user run a machine that was started, in a session of the console.
+pub fn run_session<H: Host>(alloc: Global, host: &mut H, order: &Order, machine: Machine) -> Outcome
+    requires { (state_of machine).touched ≡ false }
+    ensures told { AnswersAs (H.told host.old) (H.told host.new) result
+        (λ m. spec.dumped order.now.dump (spec.session_ran window_machine order.now.steps (state_of machine) m)) }
+    ensures listed { AnswersAsList (H.told host.old) (H.told host.new) result
+        (λ m. spec.dumped order.now.dump (spec.session_ran list_machine order.now.steps (as_list_state (state_of machine)) m)) }
+    ensures front { WritesFrontOf (H.told host.old) (H.told host.new) result
+        (λ m. spec.dumped order.now.dump (spec.session_ran window_machine order.now.steps (state_of machine) m)) }
+    ensures rose { ComesByFault (H.told host.old) Outcome.HostFault result (H.faults host.old) (H.faults host.new) }
+    ensures present { result ≢ Outcome.NoFile }
+    ensures words { is_usage result ≡ false }
+    ensures keeps { Keeps (H.told host.old) (H.told host.new) (H.faults host.old) (H.faults host.new) }
+{
+    let mut runner = Runner::new(alloc, machine);
+    match session(alloc, &mut runner, host, order.steps) {
+        SessionEnd::HostFault => Outcome::HostFault,
+        end => tell_end(
+            alloc,
+            host,
+            order.dump,
+            runner.machine(),
+            session_outcome(order.steps, end),
+        ),
+    }
+}
