@@ -119,7 +119,7 @@ record Accepted (files : List StoredFile) (slots : List Slot) (m : HostModel) (s
   read : text_at files at ≡ text
   left : a ≡ idle (put_at files object (source_object text).0 (place_of files object)) (slice_set (slice_set slots 256 Closed) 257 Closed) m
 
-put-of : (x : Assembled) (files : List StoredFile) (slots : List Slot) (m : HostModel) (name : Word) → 257 < length slots →
+pub put-of : (x : Assembled) (files : List StoredFile) (slots : List Slot) (m : HostModel) (name : Word) → 257 < length slots →
     object_put x (writing files slots m name (place_of files name) []) ≡ (assembled_outcome x.1, idle (put_at files name x.0 (place_of files name)) (slice_set slots 257 Closed) m)
 put-of (bytes, answer) files slots m name h = put-idle bytes answer files slots m name (place_of files name) h (lies files name)
 

@@ -31,3 +31,5 @@ pub mod SteadyProduct
 pub mod DetourRuns
 pub mod DetourImages
 pub mod UnbrokenRuns
+pub mod Completed
+pub mod CompletedFiles

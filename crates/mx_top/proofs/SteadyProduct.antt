@@ -106,7 +106,7 @@ from-steady : (kind : MachineKind) (o : Order) (r : Result State Outcome) (m : H
 from-steady kind o (Err outcome) m h = (refl, h)
 from-steady kind o (Ok s) m h = machine-steady kind o.dump o.steps s m h o.interactive
 
-image-steady : (kind : MachineKind) (o : Order) (words : List Word) (image : Image) (m : HostModel) → m.failing ≡ [] → SteadyAnswers (image_run kind o words image m) (image_run kind o words image (still m))
+pub image-steady : (kind : MachineKind) (o : Order) (words : List Word) (image : Image) (m : HostModel) → m.failing ≡ [] → SteadyAnswers (image_run kind o words image m) (image_run kind o words image (still m))
 image-steady kind o words image m h = from-steady kind o (started kind o.ring image words) m h
 
 -- ---- `run` and `sim`
@@ -220,11 +220,12 @@ with-case : (a : Answer) → answer_well a → SteadyAnswers (with_message a) (w
 with-case (answered outcome m) h = message-case outcome (message_of outcome) m h
 with-case (wild m) h = (refl, h)
 
+pub message-steady : (a b : Answer) → SteadyAnswers a b → SteadyAnswers (with_message a) (with_message b)
+message-steady a b h = subst (λ w. SteadyAnswers (with_message a) (with_message w)) h.0 (with-case a h.1)
+
 pub product-steady : (kind : MachineKind) (words : List Word) (m : HostModel) → m.failing ≡ [] → SteadyAnswers (product kind words m) (product kind words (still m))
 product-steady kind words m h =
-    let a : Answer = carried_out kind words (order_of words) m in
-    let told = words-steady kind words (order_of words) m h in
-    subst (λ w. SteadyAnswers (with_message a) (with_message w)) told.0 (with-case a told.1)
+    message-steady (carried_out kind words (order_of words) m) (carried_out kind words (order_of words) (still m)) (words-steady kind words (order_of words) m h)
 
 -- ---- what is the same in the still model is the same but for the number of calls
 

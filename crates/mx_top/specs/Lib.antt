@@ -18,3 +18,4 @@ pub mod Sources
 pub mod Detour
 pub mod Rings
 pub mod Unbroken
+pub mod Complete

@@ -2,6 +2,7 @@
 #![tactic(auto)]
 
 mod arguments;
+mod complete_laws;
 mod console;
 mod detour_laws;
 mod dump;
@@ -24,6 +25,11 @@ mod run;
 mod source;
 mod top;
 
+pub use complete_laws::{
+    consoles_answer_as_sessions, generated_sources_are_done, objects_that_are_there_are_run,
+    objects_that_halt_are_done, sources_that_are_there_are_assembled,
+    sources_that_are_there_are_run, sources_that_halt_are_done, sources_that_mean_are_assembled,
+};
 pub use detour_laws::{
     objects_load_as_their_sources, objects_run_as_their_sources, programs_go_by_no_count,
 };

@@ -1,0 +1,151 @@
+-- Where no call fails: a source that is there is run, or assembled, to its end.
+use Rattle.std.proofs.Common.{◌≡◌, ℕ, ◌*◌, ◌<◌, List, [], Bool, true, false, length, take, refl, sym, ◌∙◌, ap, subst, Ok, Some, arith}
+use Rattle.std.specs.Prelude.{Result, slice_set}
+use Rattle.mx_host.specs.declared.slots.Slot.{Slot}
+use Rattle.mx_host.specs.declared.slots.Slot.TheVariants.{Closed}
+use Rattle.mx_host.specs.HostModel.{HostModel, HasStartSlots, start_slots, place_of}
+use Rattle.mx_host.specs.HostAnswer.{Then, bytes_at, put_at, with_file}
+use Rattle.mx_host.proofs.Start.{start_slots-length}
+use Rattle.mx_host.proofs.Still.{still}
+use Rattle.mx_mmo.specs.Image.{Image}
+use Rattle.mx_core.specs.State.{State}
+use Rattle.mx_trap.specs.Counts.{without_count}
+use Rattle.mx_trap.proofs.SteadyTraps.{uncounted-of}
+use Rattle.mx_run.specs.WildRuns.{MachineKind}
+use Rattle.mx_words.specs.declared.order.Command.TheVariants.{Run, Asm, Sim}
+use Rattle.mx_words.specs.declared.order.Order.{Order}
+use Rattle.mx_top.specs.Answers.{Answer, answered, plainly}
+use Rattle.mx_top.specs.Arguments.{Word, word_at, arguments}
+use Rattle.mx_top.specs.Complete.{IsOrdered, IsThere, SourceIsThere, ObjectIsThere, IsHalted}
+use Rattle.mx_top.specs.Detour.{answer_uncounted}
+use Rattle.mx_top.specs.Dump.{dump_lines}
+use Rattle.mx_top.specs.Lines.{lines_put}
+use Rattle.mx_top.specs.Objects.{source_object}
+use Rattle.mx_top.specs.Product.{after_opening, after_reading, assembled_outcome, with_message, product}
+use Rattle.mx_top.specs.Runs.{image_run}
+use Rattle.mx_top.specs.Source.{file_bytes}
+use Rattle.mx_top.specs.Sources.{source_meaning}
+use Rattle.mx_top.specs.declared.outcome.Outcome.{Outcome}
+use Rattle.mx_top.specs.declared.outcome.Outcome.TheVariants.{Done}
+use Rattle.mx_top.proofs.Completed.{order-is, source-run, object-run, halted-run, plain-told, dump-told, meant-object}
+use Rattle.mx_top.proofs.DetourRuns.{put-of}
+use Rattle.mx_top.proofs.IdleFiles.{idle, file-idle, open-object}
+use Rattle.mx_top.proofs.SteadyFiles.{file-steady}
+use Rattle.mx_top.proofs.SteadyProduct.{SteadyAnswers, image-steady, message-steady, product-steady, answers-same}
+
+-- ---- slots
+
+shut-source : (slots : List Slot) → slots ≡ start_slots → slice_set slots 256 Closed ≡ slots
+unfolding start_slots
+shut-source slots h = rw h refl
+
+shut-object : (slots : List Slot) → slots ≡ start_slots → slice_set slots 257 Closed ≡ slots
+unfolding start_slots
+shut-object slots h = rw h refl
+
+-- ---- reading
+
+still-read : (most : ℕ) (name : List ℕ) (m : HostModel) (at : ℕ) → HasStartSlots m → place_of m.files name ≡ Some at →
+    file_bytes most name (still m) ≡ (Ok (take (4096 * most) (bytes_at m.files at)), still m)
+still-read most name m at slots e =
+    let many : length m.slots ≡ 261 = ap length slots ∙ start_slots-length in
+    file-idle most m.files m.slots m name at (omega arith) e
+    ∙ ap (λ ss. (Ok (take (4096 * most) (bytes_at m.files at)), idle m.files ss m)) (shut-source m.slots slots)
+
+there-read : (name : Word) (most : ℕ) (text : List ℕ) (m : HostModel) → IsThere name most text m → file_bytes most name (still m) ≡ (Ok text, still m)
+there-read name most text m h = still-read most name m h.place h.slots h.found ∙ ap (λ xs. (Ok xs, still m)) (sym h.bytes)
+
+pub file-left : (most : ℕ) (name : List ℕ) (m : HostModel) (at : ℕ) → m.failing ≡ [] → HasStartSlots m → place_of m.files name ≡ Some at →
+    without_count (file_bytes most name m).1 ≡ without_count m
+file-left most name m at h slots e =
+    let read = file-steady most name m h in
+    let same : still (file_bytes most name m).1 ≡ still m = ap (λ (t : Then (Result (List ℕ) Outcome)). t.1) (read.0 ∙ still-read most name m at slots e) in
+    uncounted-of (file_bytes most name m).1 m same read.1 h
+
+-- ---- running
+
+image-same : (kind : MachineKind) (words : List Word) (o : Order) (image : Image) (m : HostModel) → m.failing ≡ [] →
+    product kind words (still m) ≡ with_message (image_run kind o (arguments words o) image (still m)) →
+    answer_uncounted (product kind words m) ≡ answer_uncounted (with_message (image_run kind o (arguments words o) image m))
+image-same kind words o image m h e =
+    let a = product-steady kind words m h in
+    let b = message-steady (image_run kind o (arguments words o) image m) (image_run kind o (arguments words o) image (still m)) (image-steady kind o (arguments words o) image m h) in
+    answers-same (product kind words m) (with_message (image_run kind o (arguments words o) image m)) (a.0 ∙ e ∙ sym b.0) a.1 b.1
+
+pub source-there : (kind : MachineKind) (words : List Word) (o : Order) (image : Image) (m : HostModel) → SourceIsThere words o image m →
+    answer_uncounted (product kind words m) ≡ answer_uncounted (with_message (image_run kind o (arguments words o) image m))
+source-there kind words o image m h =
+    image-same kind words o image m h.there.well
+    (source-run kind words o image (still m) (still m)
+    (record { ordered = h.ordered; text = h.text; read = there-read (word_at words o.file) 1025 h.text m h.there; means = h.means }))
+
+pub object-there : (kind : MachineKind) (words : List Word) (o : Order) (image : Image) (m : HostModel) → ObjectIsThere words o image m →
+    answer_uncounted (product kind words m) ≡ answer_uncounted (with_message (image_run kind o (arguments words o) image m))
+object-there kind words o image m h =
+    image-same kind words o image m h.there.well
+    (object-run kind words o image (still m) (still m)
+    (record { ordered = h.ordered; object = h.object; symbols = h.symbols; read = there-read (word_at words o.file) 16385 h.object m h.there; loads = h.loads }))
+
+run-plain : (kind : MachineKind) (words : List Word) (o : Order) (image : Image) (status : ℕ) (ended : State) (m after : HostModel) → IsHalted kind words o image m status ended after → o.dump ≡ false →
+    with_message (image_run kind o (arguments words o) image m) ≡ answered (Done status) after
+run-plain kind words o image status ended m after k d = ap with_message (halted-run kind words o image m status ended after k) ∙ plain-told o.dump status ended after d
+
+run-dumped : (kind : MachineKind) (words : List Word) (o : Order) (image : Image) (status : ℕ) (ended : State) (m after last : HostModel) → IsHalted kind words o image m status ended after → o.dump ≡ true →
+    lines_put (dump_lines ended) after ≡ (true, last) → with_message (image_run kind o (arguments words o) image m) ≡ answered (Done status) last
+run-dumped kind words o image status ended m after last k d e = ap with_message (halted-run kind words o image m status ended after k) ∙ dump-told o.dump status ended after last d e
+
+pub source-there-plain : (kind : MachineKind) (words : List Word) (o : Order) (image : Image) (status : ℕ) (ended : State) (m after : HostModel) → SourceIsThere words o image m →
+    IsHalted kind words o image m status ended after → o.dump ≡ false → answer_uncounted (product kind words m) ≡ answered (Done status) (without_count after)
+source-there-plain kind words o image status ended m after h k d =
+    source-there kind words o image m h ∙ ap answer_uncounted (run-plain kind words o image status ended m after k d)
+
+pub source-there-dumped : (kind : MachineKind) (words : List Word) (o : Order) (image : Image) (status : ℕ) (ended : State) (m after last : HostModel) → SourceIsThere words o image m →
+    IsHalted kind words o image m status ended after → o.dump ≡ true → lines_put (dump_lines ended) after ≡ (true, last) →
+    answer_uncounted (product kind words m) ≡ answered (Done status) (without_count last)
+source-there-dumped kind words o image status ended m after last h k d e =
+    source-there kind words o image m h ∙ ap answer_uncounted (run-dumped kind words o image status ended m after last k d e)
+
+pub object-there-plain : (kind : MachineKind) (words : List Word) (o : Order) (image : Image) (status : ℕ) (ended : State) (m after : HostModel) → ObjectIsThere words o image m →
+    IsHalted kind words o image m status ended after → o.dump ≡ false → answer_uncounted (product kind words m) ≡ answered (Done status) (without_count after)
+object-there-plain kind words o image status ended m after h k d =
+    object-there kind words o image m h ∙ ap answer_uncounted (run-plain kind words o image status ended m after k d)
+
+pub object-there-dumped : (kind : MachineKind) (words : List Word) (o : Order) (image : Image) (status : ℕ) (ended : State) (m after last : HostModel) → ObjectIsThere words o image m →
+    IsHalted kind words o image m status ended after → o.dump ≡ true → lines_put (dump_lines ended) after ≡ (true, last) →
+    answer_uncounted (product kind words m) ≡ answered (Done status) (without_count last)
+object-there-dumped kind words o image status ended m after last h k d e =
+    object-there kind words o image m h ∙ ap answer_uncounted (run-dumped kind words o image status ended m after last k d e)
+
+-- ---- assembling
+
+-- the host with the object in its file
+abbrev pub with_object : List Word → Order → List ℕ → HostModel → HostModel
+with_object words o text m = with_file m (word_at words o.rest) (source_object text).0
+
+still-assembled : (kind : MachineKind) (words : List Word) (o : Order) (text : List ℕ) (m : HostModel) → IsOrdered words o Asm → IsThere (word_at words o.file) 1025 text m →
+    product kind words (still m) ≡ with_message (answered (assembled_outcome (source_object text).1) (still (with_object words o text m)))
+still-assembled kind words o text m h there =
+    let object : Word = word_at words o.rest in
+    let many : length m.slots ≡ 261 = ap length there.slots ∙ start_slots-length in
+    let long : 257 < length m.slots = omega arith in
+    order-is kind words o Asm (still m) h
+    ∙ ap (λ t. with_message (plainly (after_reading object t))) (there-read (word_at words o.file) 1025 text m there)
+    ∙ ap (λ t. with_message (plainly (after_opening text t))) (open-object m.files m.slots m object)
+    ∙ ap (λ t. with_message (plainly t)) (put-of (source_object text) m.files m.slots m object long)
+    ∙ ap (λ ss. with_message (answered (assembled_outcome (source_object text).1) (idle (put_at m.files object (source_object text).0 (place_of m.files object)) ss m))) (shut-object m.slots there.slots)
+
+pub object-told : (kind : MachineKind) (words : List Word) (o : Order) (text : List ℕ) (m : HostModel) → IsOrdered words o Asm → IsThere (word_at words o.file) 1025 text m →
+    answer_uncounted (product kind words m) ≡ answer_uncounted (with_message (answered (assembled_outcome (source_object text).1) (with_file m (word_at words o.rest) (source_object text).0)))
+object-told kind words o text m h there =
+    let told : Answer = answered (assembled_outcome (source_object text).1) (with_object words o text m) in
+    let a = product-steady kind words m there.well in
+    let b = message-steady told (answered (assembled_outcome (source_object text).1) (still (with_object words o text m))) (refl, there.well) in
+    answers-same (product kind words m) (with_message told) (a.0 ∙ still-assembled kind words o text m h there ∙ sym b.0) a.1 b.1
+
+pub assembled-there : (kind : MachineKind) (words : List Word) (o : Order) (text : List ℕ) (image : Image) (m : HostModel) → IsOrdered words o Asm → IsThere (word_at words o.file) 1025 text m →
+    source_meaning text ≡ Ok image → answer_uncounted (product kind words m) ≡ answered (Done 0) (without_count (with_file m (word_at words o.rest) (source_object text).0))
+assembled-there kind words o text image m h there e =
+    object-told kind words o text m h there
+    ∙ ap (λ r. answer_uncounted (with_message (answered (assembled_outcome r) (with_object words o text m)))) (meant-object text image e)
+
+pub ruleset filed = (source-there, object-there, assembled-there, object-told, file-left)

@@ -1,0 +1,112 @@
+-- What has to stand for a run of the program to be done: the words, the file that is read, what it means, and how its
+-- machine ends.
+use Rattle.std.specs.Prelude.{ℕ, ◌≡◌, ◌*◌, List, [], ◌∷◌, codes, length, take, Bool, true, false, Option, Some, Result, Ok}
+use Rattle.mx_word.specs.declared.symbols.Symbol.{Symbol}
+use Rattle.mx_host.specs.HostModel.{HostModel, HasStartSlots, place_of}
+use Rattle.mx_host.specs.HostAnswer.{Then, open_answer, close_answer, bytes_at}
+use Rattle.mx_host.specs.declared.faults.OpenFault.{OpenFault}
+use Rattle.mx_host.specs.declared.faults.HostFault.{HostFault as SlotFault}
+use Rattle.mx_host.specs.declared.slots.Mode.TheVariants.{BinaryWrite}
+use Rattle.mx_mmo.specs.Image.{Image}
+use Rattle.mx_load.specs.Objects.{object_loaded}
+use Rattle.mx_core.specs.State.{State}
+use Rattle.mx_ring.specs.Stack.{register}
+use Rattle.mx_run.specs.WildRuns.{MachineKind}
+use Rattle.mx_words.specs.Orders.{order_of}
+use Rattle.mx_words.specs.declared.order.Command.{Command}
+use Rattle.mx_words.specs.declared.order.Command.TheVariants.{Run, Asm, Sim, Gen}
+use Rattle.mx_words.specs.declared.order.Order.{Order}
+use Rattle.mx_top.specs.Arguments.{Word, word_at, arguments}
+use Rattle.mx_top.specs.Generator.{generated, summary}
+use Rattle.mx_top.specs.Lines.{lines_put}
+use Rattle.mx_top.specs.Objects.{source_object}
+use Rattle.mx_top.specs.Pieces.{put_text}
+use Rattle.mx_top.specs.Product.{object_slot, generator_steps}
+use Rattle.mx_top.specs.Runs.{ran, machine_ran, started}
+use Rattle.mx_top.specs.Source.{file_bytes, source_pieces, object_pieces}
+use Rattle.mx_top.specs.Sources.{source_meaning}
+use Rattle.mx_top.specs.declared.outcome.Outcome.{Outcome}
+use Rattle.mx_top.specs.declared.outcome.Outcome.TheVariants.{Done}
+
+-- The words order this, with this command.
+pub record IsOrdered (words : List Word) (o : Order) (wanted : Command) : Type 0 where
+  pub order : order_of words ≡ Ok o
+  pub command : o.command ≡ wanted
+
+-- The words order to run a source, which is read and means this image. The host is then `begun`.
+pub record HasSource (words : List Word) (o : Order) (image : Image) (m begun : HostModel) : Type 0 where
+  pub ordered : IsOrdered words o Run
+  pub text : List ℕ
+  pub read : file_bytes source_pieces (word_at words o.file) m ≡ (Ok text, begun)
+  pub means : source_meaning text ≡ Ok image
+
+-- The words order to run an object, which is read and loaded as this image.
+pub record HasObject (words : List Word) (o : Order) (image : Image) (m begun : HostModel) : Type 0 where
+  pub ordered : IsOrdered words o Sim
+  pub object : List ℕ
+  pub symbols : List Symbol
+  pub read : file_bytes object_pieces (word_at words o.file) m ≡ (Ok object, begun)
+  pub loads : object_loaded object ≡ Ok (image, symbols)
+
+-- The machine of this image starts with the arguments of the words, and stands thus.
+abbrev pub IsStarted : MachineKind → List Word → Order → Image → State → Type 0
+IsStarted kind words o image s = started kind o.ring image (arguments words o) ≡ Ok s
+
+-- The machine of this image starts, and in one run it halts within the steps of the order.
+pub record IsHalted (kind : MachineKind) (words : List Word) (o : Order) (image : Image) (begun : HostModel) (status : ℕ) (ended : State) (after : HostModel) : Type 0 where
+  pub plain : o.interactive ≡ false
+  pub machine : State
+  pub starts : IsStarted kind words o image machine
+  pub halts : machine_ran kind o.steps machine begun ≡ ran (Done status) ended after
+
+-- The words order to assemble a source of which this text is read; the object file opens, its bytes are written, and it is
+-- closed.
+pub record IsWritten (words : List Word) (text : List ℕ) (m after : HostModel) : Type 0 where
+  pub order : Order
+  pub ordered : IsOrdered words order Asm
+  pub begun : HostModel
+  pub read : file_bytes source_pieces (word_at words order.file) m ≡ (Ok text, begun)
+  pub opened : HostModel
+  pub opens : open_answer begun object_slot (word_at words order.rest) BinaryWrite ≡ (Ok tt, opened)
+  pub written : HostModel
+  pub writes : put_text object_slot (source_object text).0 opened ≡ (true, written)
+  pub closes : close_answer written object_slot ≡ (Ok tt, after)
+
+-- The words order to generate a source, which means an image; its machine starts and halts, and the line is written.
+pub record IsSummed (kind : MachineKind) (words : List Word) (m after : HostModel) : Type 0 where
+  pub order : Order
+  pub ordered : IsOrdered words order Gen
+  pub image : Image
+  pub means : source_meaning (generated order.number) ≡ Ok image
+  pub machine : State
+  pub starts : started kind order.ring image (codes "gen" ∷ []) ≡ Ok machine
+  pub status : ℕ
+  pub ended : State
+  pub left : HostModel
+  pub halts : machine_ran kind generator_steps machine m ≡ ran (Done status) ended left
+  pub told : lines_put (summary order.number (length (generated order.number)) ended.steps (register ended.stack 255) ∷ []) left ≡ (true, after)
+
+-- ---- where no call fails
+
+-- No call fails, the slots stand as at the start, and the file of this name is there; so many pieces of it are this text.
+pub record IsThere (name : Word) (most : ℕ) (text : List ℕ) (m : HostModel) : Type 0 where
+  pub well : m.failing ≡ []
+  pub slots : HasStartSlots m
+  pub place : ℕ
+  pub found : place_of m.files name ≡ Some place
+  pub bytes : text ≡ take (4096 * most) (bytes_at m.files place)
+
+-- The words order to run a source that is there, and that means this image.
+pub record SourceIsThere (words : List Word) (o : Order) (image : Image) (m : HostModel) : Type 0 where
+  pub ordered : IsOrdered words o Run
+  pub text : List ℕ
+  pub there : IsThere (word_at words o.file) source_pieces text m
+  pub means : source_meaning text ≡ Ok image
+
+-- The words order to run an object that is there, and that is loaded as this image.
+pub record ObjectIsThere (words : List Word) (o : Order) (image : Image) (m : HostModel) : Type 0 where
+  pub ordered : IsOrdered words o Sim
+  pub object : List ℕ
+  pub symbols : List Symbol
+  pub there : IsThere (word_at words o.file) object_pieces object m
+  pub loads : object_loaded object ≡ Ok (image, symbols)

@@ -1,0 +1,151 @@
+//! Laws that the program is done with what is right: where each call is answered, a source that means
+//! something is run, or assembled, to its end.
+
+ghost use Rattle.std.specs.Prelude.{◌≡◌, List, ℕ, [], Some, Ok, Err, true, false};
+ghost use Rattle.mx_host.specs.HostModel.{HostModel, HasStartSlots, place_of};
+ghost use Rattle.mx_host.specs.HostAnswer.{with_file};
+ghost use Rattle.mx_mmo.specs.Image.{Image};
+ghost use Rattle.mx_core.specs.State.{State};
+ghost use Rattle.mx_trap.specs.Counts.{without_count};
+ghost use Rattle.mx_run.specs.WildRuns.{MachineKind};
+ghost use Rattle.mx_words.specs.declared.order.Command.{Command};
+ghost use Rattle.mx_words.specs.declared.order.Order.{Order};
+ghost use Rattle.mx_top.specs.Answers.{answered};
+ghost use Rattle.mx_top.specs.Arguments.{Word, word_at, arguments};
+ghost use Rattle.mx_top.specs.Complete.{HasObject, HasSource, IsHalted, IsOrdered, IsStarted, IsSummed, IsThere, IsWritten, ObjectIsThere, SourceIsThere};
+ghost use Rattle.mx_top.specs.Detour.{answer_uncounted};
+ghost use Rattle.mx_top.specs.Dump.{dump_lines};
+ghost use Rattle.mx_top.specs.Lines.{lines_put};
+ghost use Rattle.mx_top.specs.Objects.{source_object};
+ghost use Rattle.mx_top.specs.Product.{assembled_outcome, product, refused_with, with_message};
+ghost use Rattle.mx_top.specs.Runs.{dumped, image_run, session_ran};
+ghost use Rattle.mx_top.specs.Source.{file_bytes, source_pieces};
+ghost use Rattle.mx_top.specs.Sources.{source_meaning};
+ghost use Rattle.mx_top.specs.declared.outcome.Outcome.{Outcome};
+ghost use Rattle.mx_top.specs.declared.refusal.Refusal.{Refusal};
+
+/// A source that is read, that means an image, and whose machine starts and halts within the steps of
+/// the order, is done: the program answers the status that the machine halted with, and leaves the host
+/// as the machine left it. With a dump it leaves the host as the last line of the dump did, if each line
+/// is written. By the clauses of the top call the program then answers this, or it is out of memory.
+#[tactic(auto, using(crate::proofs::Completed::completed))]
+pub fn sources_that_halt_are_done()
+    ensures plain { (kind : MachineKind) (words : List Word) (o : Order) (image : Image) (status : ℕ) (ended : State)
+        (m begun after : HostModel) → HasSource words o image m begun →
+        IsHalted kind words o image begun status ended after → o.dump ≡ false →
+        product kind words m ≡ answered (Outcome.Done status) after }
+    ensures dumped { (kind : MachineKind) (words : List Word) (o : Order) (image : Image) (status : ℕ) (ended : State)
+        (m begun after last : HostModel) → HasSource words o image m begun →
+        IsHalted kind words o image begun status ended after → o.dump ≡ true →
+        lines_put (dump_lines ended) after ≡ (true, last) →
+        product kind words m ≡ answered (Outcome.Done status) last }
+{}
+
+/// An object that is read and loaded, and whose machine starts and halts within the steps of the order,
+/// is done in the same way.
+#[tactic(auto, using(crate::proofs::Completed::completed))]
+pub fn objects_that_halt_are_done()
+    ensures plain { (kind : MachineKind) (words : List Word) (o : Order) (image : Image) (status : ℕ) (ended : State)
+        (m begun after : HostModel) → HasObject words o image m begun →
+        IsHalted kind words o image begun status ended after → o.dump ≡ false →
+        product kind words m ≡ answered (Outcome.Done status) after }
+    ensures dumped { (kind : MachineKind) (words : List Word) (o : Order) (image : Image) (status : ℕ) (ended : State)
+        (m begun after last : HostModel) → HasObject words o image m begun →
+        IsHalted kind words o image begun status ended after → o.dump ≡ true →
+        lines_put (dump_lines ended) after ≡ (true, last) →
+        product kind words m ≡ answered (Outcome.Done status) last }
+{}
+
+/// With the console, where the machine starts, the program answers what the session comes to, and leaves
+/// what the session, the dump and the message leave.
+#[tactic(auto, using(crate::proofs::Completed::completed))]
+pub fn consoles_answer_as_sessions()
+    ensures source { (kind : MachineKind) (words : List Word) (o : Order) (image : Image) (s : State)
+        (m begun : HostModel) → HasSource words o image m begun → o.interactive ≡ true →
+        IsStarted kind words o image s →
+        product kind words m ≡ with_message (dumped o.dump (session_ran kind o.steps s begun)) }
+    ensures object { (kind : MachineKind) (words : List Word) (o : Order) (image : Image) (s : State)
+        (m begun : HostModel) → HasObject words o image m begun → o.interactive ≡ true →
+        IsStarted kind words o image s →
+        product kind words m ≡ with_message (dumped o.dump (session_ran kind o.steps s begun)) }
+{}
+
+/// A source that means an image is accepted: an object is made of it. Where the words order to assemble a
+/// source that is read, and the object file opens, is written and is closed, the program is done, if the
+/// source is accepted. Otherwise it answers the refusal.
+#[tactic(auto, using(crate::proofs::Completed::completed))]
+pub fn sources_that_mean_are_assembled()
+    ensures accepted { (text : List ℕ) (image : Image) → source_meaning text ≡ Ok image →
+        (source_object text).1 ≡ Ok tt }
+    ensures means { (kind : MachineKind) (words : List Word) (text : List ℕ) (image : Image) (m after : HostModel) →
+        IsWritten words text m after → source_meaning text ≡ Ok image →
+        product kind words m ≡ answered (Outcome.Done 0) after }
+    ensures done { (kind : MachineKind) (words : List Word) (text : List ℕ) (m after : HostModel) →
+        IsWritten words text m after → (source_object text).1 ≡ Ok tt →
+        product kind words m ≡ answered (Outcome.Done 0) after }
+    ensures refused { (kind : MachineKind) (words : List Word) (text : List ℕ) (r : Refusal) (m after : HostModel) →
+        IsWritten words text m after → (source_object text).1 ≡ Err r →
+        product kind words m ≡ with_message (answered (refused_with r) after) }
+{}
+
+/// A source that is generated is done where it means an image, its machine starts and halts within 2^26
+/// steps, and the line that tells what came of it is written.
+#[tactic(auto, using(crate::proofs::Completed::completed))]
+pub fn generated_sources_are_done()
+    ensures { (kind : MachineKind) (words : List Word) (m after : HostModel) →
+        IsSummed kind words m after → product kind words m ≡ answered (Outcome.Done 0) after }
+{}
+
+/// Where no call fails and the slots stand as at the start, a file that is there is read, and nothing but
+/// the number of calls is then changed. So a source that is there, and that means an image, is run in the
+/// host as it stands: the program answers and leaves what the run of the image and the message do, but
+/// for that number. Where its machine halts within the steps of the order, the program is done.
+#[tactic(auto, using(crate::proofs::CompletedFiles::filed))]
+pub fn sources_that_are_there_are_run()
+    ensures read { (most : ℕ) (name : List ℕ) (m : HostModel) (at : ℕ) → m.failing ≡ [] → HasStartSlots m →
+        place_of m.files name ≡ Some at → without_count (file_bytes most name m).1 ≡ without_count m }
+    ensures run { (kind : MachineKind) (words : List Word) (o : Order) (image : Image) (m : HostModel) →
+        SourceIsThere words o image m → answer_uncounted (product kind words m) ≡
+        answer_uncounted (with_message (image_run kind o (arguments words o) image m)) }
+    ensures plain { (kind : MachineKind) (words : List Word) (o : Order) (image : Image) (status : ℕ) (ended : State)
+        (m after : HostModel) → SourceIsThere words o image m → IsHalted kind words o image m status ended after →
+        o.dump ≡ false → answer_uncounted (product kind words m) ≡ answered (Outcome.Done status) (without_count after) }
+    ensures dumped { (kind : MachineKind) (words : List Word) (o : Order) (image : Image) (status : ℕ) (ended : State)
+        (m after last : HostModel) → SourceIsThere words o image m →
+        IsHalted kind words o image m status ended after → o.dump ≡ true →
+        lines_put (dump_lines ended) after ≡ (true, last) →
+        answer_uncounted (product kind words m) ≡ answered (Outcome.Done status) (without_count last) }
+{}
+
+/// An object that is there, and that is loaded, is run in the same way.
+#[tactic(auto, using(crate::proofs::CompletedFiles::filed))]
+pub fn objects_that_are_there_are_run()
+    ensures run { (kind : MachineKind) (words : List Word) (o : Order) (image : Image) (m : HostModel) →
+        ObjectIsThere words o image m → answer_uncounted (product kind words m) ≡
+        answer_uncounted (with_message (image_run kind o (arguments words o) image m)) }
+    ensures plain { (kind : MachineKind) (words : List Word) (o : Order) (image : Image) (status : ℕ) (ended : State)
+        (m after : HostModel) → ObjectIsThere words o image m → IsHalted kind words o image m status ended after →
+        o.dump ≡ false → answer_uncounted (product kind words m) ≡ answered (Outcome.Done status) (without_count after) }
+    ensures dumped { (kind : MachineKind) (words : List Word) (o : Order) (image : Image) (status : ℕ) (ended : State)
+        (m after last : HostModel) → ObjectIsThere words o image m →
+        IsHalted kind words o image m status ended after → o.dump ≡ true →
+        lines_put (dump_lines ended) after ≡ (true, last) →
+        answer_uncounted (product kind words m) ≡ answered (Outcome.Done status) (without_count last) }
+{}
+
+/// Where no call fails and the slots stand as at the start, a source that is there is assembled: the
+/// program leaves the host with what there is of the object in the file that the words name, and
+/// otherwise as it was, but for the number of calls and the message. Where the source means an image, it
+/// is done, and there is no message.
+#[tactic(auto, using(crate::proofs::CompletedFiles::filed))]
+pub fn sources_that_are_there_are_assembled()
+    ensures means { (kind : MachineKind) (words : List Word) (o : Order) (text : List ℕ) (image : Image) (m : HostModel) →
+        IsOrdered words o Command.Asm → IsThere (word_at words o.file) source_pieces text m →
+        source_meaning text ≡ Ok image → answer_uncounted (product kind words m) ≡ answered (Outcome.Done 0)
+        (without_count (with_file m (word_at words o.rest) (source_object text).0)) }
+    ensures told { (kind : MachineKind) (words : List Word) (o : Order) (text : List ℕ) (m : HostModel) →
+        IsOrdered words o Command.Asm → IsThere (word_at words o.file) source_pieces text m →
+        answer_uncounted (product kind words m) ≡
+        answer_uncounted (with_message (answered (assembled_outcome (source_object text).1)
+        (with_file m (word_at words o.rest) (source_object text).0))) }
+{}
