@@ -1,18 +1,30 @@
 #!/bin/sh
-# Times asm, run and sim on inputs of several sizes; each time is in seconds.
-# Usage: bench/measure.sh [PROGRAM]
+# Times the program: asm and run on sources of several sizes, sim on objects of several sizes and on the programs in
+# loops/. Each time is in seconds, the least of three.
+# Usage: bench/measure.sh [PROGRAM [OTHER]]
+# OTHER is another simulator that takes an object file; it is timed in turns with PROGRAM on the loops, and the ratio told.
 here=$(cd "$(dirname "$0")/.." && pwd) || exit 1
-program=$(realpath "${1:-$here/mmixware}") || exit 1
+program=$(realpath "${1:-$here/crates/mmixware/out/mmixware}") || exit 1
+other=${2:+$(realpath "$2")} || exit 1
 folder=$(mktemp -d) || exit 1
 trap 'rm -r "$folder"' EXIT
 cd "$folder" || exit 1
 
-# a plain source of about so many bytes
+# a source of about so many bytes: labels, references both ways, expressions, data and instructions
 source_of() {
-  awk -v size="$1" 'BEGIN {
-    line = "Main TRAP 0,0,0\n"
-    while (total + length(line) <= size) { printf "%s", line; total += length(line); line = " BYTE 1,2,3,4,5,6,7\n" }
-  }'
+  awk -v size="$1" '
+    function put(line) { printf "%s", line; total += length(line) }
+    BEGIN {
+      put("        LOC   #100\nMain    TRAP  0,Halt,0\n")
+      while (total + 600 < size) {
+        put("Loop" i "  ADDU  $1,$2,1+2*" i % 100 "      a comment\n")
+        put("        BZ    $3,Done" i "\n        LDB   $4,$5," i % 256 "\n")
+        for (k = 0; k < 6; k++)
+          put("2H      SUBU  $1,$1,1\n        PBNZ  $1,2B\n        BZ    $2,2F\n2H      TETRA #" i % 10 "f," i * 3 \
+            "\n        WYDE  " i % 65536 "\n        BYTE  \"abc\"," i % 256 "\n")
+        put("Done" i "  PBNZ  $1,Loop" i++ "\n")
+      }
+    }'
 }
 
 # an object of so many bytes, whose tetras are loaded from #10000 on; Main leads to a TRAP 0,0,0
@@ -28,20 +40,36 @@ sys.stdout.buffer.write(struct.pack(">4I", *head) + body + struct.pack(">5I", *t
 ' "$1"
 }
 
+# the least user seconds of three runs
+least() {
+  for _ in 1 2 3; do
+    /usr/bin/time -o time.txt -f %U "$@" >/dev/null 2>&1
+    tail -n 1 time.txt
+  done | sort -n | head -n 1
+}
+
 timed() {
-  start=$(date +%s.%N)
-  "$@" >/dev/null 2>&1
-  status=$?
-  end=$(date +%s.%N)
-  echo "$start $end" | awk -v status=$status -v what="$*" '{ printf "%-28s %8.2f s   status %d\n", what, $2 - $1, status }'
+  printf '%-28s %8s s\n' "$*" "$(least "$program" "$@")"
 }
 
 for bits in 20 21 22; do
   source_of $((1 << bits)) >source$bits.mms
-  timed "$program" asm source$bits.mms source$bits.mmo
-  timed "$program" run source$bits.mms
+  timed asm source$bits.mms source$bits.mmo
+  timed run source$bits.mms
 done
 for bits in 24 25 26; do
   object_of $((1 << bits)) >object$bits.mmo
-  timed "$program" sim object$bits.mmo
+  timed sim object$bits.mmo
+done
+timed gen 10000
+for loop in "$here"/bench/loops/*.mms; do
+  name=$(basename "$loop" .mms)
+  "$program" asm "$loop" "$name.mmo" || exit 1
+  mine=$(least "$program" sim "$name.mmo")
+  if [ -n "$other" ]; then
+    theirs=$(least "$other" "$name.mmo")
+    echo "$mine $theirs" | awk -v name="$name" '{ printf "%-28s %8s s   other %s s, ratio %.2f\n", name, $1, $2, $2 / $1 }'
+  else
+    printf '%-28s %8s s\n' "$name" "$mine"
+  fi
 done

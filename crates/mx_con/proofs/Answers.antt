@@ -11,20 +11,19 @@ use Rattle.mx_run.specs.FlagMaps.{with_flags}
 use Rattle.mx_run.specs.Runs.{FlagsOf}
 use Rattle.mx_run.specs.WildRuns.{window_machine}
 use Rattle.mx_con.specs.declared.command.Breaks.{Breaks}
-use Rattle.mx_con.specs.declared.command.Command.{Command}
 use Rattle.mx_con.specs.declared.command.Command.TheVariants as command
 use Rattle.mx_con.specs.declared.command.Subject.{Subject}
 use Rattle.mx_con.specs.declared.judgement.Bad.{Bad}
 use Rattle.mx_con.specs.declared.judgement.Bad.TheVariants.{BadNumber, CannotChange}
 use Rattle.mx_con.specs.ConsoleTexts.{state_text}
-use Rattle.mx_con.specs.HostLines.{Written, text_write, line_write, lines_write, after_write}
-use Rattle.mx_con.specs.Judgement.{subject_bad, more_bad, go_to_bad, flag_bad, command_bad, command_wild, bad_text, change_bad}
+use Rattle.mx_con.specs.HostLines.{Written, line_write, lines_write, after_write}
+use Rattle.mx_con.specs.Judgement.{subject_bad, more_bad, go_to_bad, flag_bad, command_bad, command_wild, bad_text}
 use Rattle.mx_con.specs.Replies.{reply_to, noted_if, shown_after, octas_after, flag_lines, tetra_count, with_breaks, with_trace}
 use Rattle.mx_word.specs.Lists.{IsFront}
 use Rattle.mx_core.specs.Changed.{left_changed}
 use Rattle.mx_con.specs.declared.end.SessionEnd.{SessionEnd}
 use Rattle.mx_con.specs.Clauses.{progress, output_of}
-use Rattle.mx_con.specs.Session.{Console, Done, on, with_host, write_done, line_done, carried_out, judged, answered}
+use Rattle.mx_con.specs.Session.{Console, Done, on, with_host, write_done, line_done, carried_out, answered}
 use Rattle.mx_con.specs.Subjects.{subject_wild, subject_changed, shown_line, octa_shown}
 use Rattle.mx_con.proofs.Outputs.{lines-at, done-at, line_done-at, carried-at, answered-at}
 

@@ -9,4 +9,10 @@ pub mod Answers
 pub mod ListedLines
 pub mod StepLaws
 pub mod SessionLines
+pub mod QuietTraces
+pub mod SameTexts
+pub mod Besides
+pub mod ListedRuns
+pub mod ListedReplies
+pub mod ListedSessions
 pub mod SteadySessions

@@ -1,8 +1,8 @@
 -- A line is read byte by byte.
-use Rattle.std.proofs.Common.{◌≡◌, ℕ, zero, suc, [], ◌∷◌, length, take, slice_index_or, ◌≢◌, ◌+◌, ◌-◌, ◌<◌, ◌≤◌, Bool, true, false, List, arith, refl, Ok, Err}
+use Rattle.std.proofs.Common.{◌≡◌, ℕ, zero, suc, [], ◌∷◌, length, take, slice_index_or, ◌≢◌, ◌+◌, ◌-◌, ◌<◌, ◌≤◌, true, false, List, arith, refl, Ok, Err}
 use Rattle.mx_host.specs.HostModel.{HostModel}
 use Rattle.mx_trap.proofs.Readings.{read-output}
-use Rattle.mx_con.specs.HostLines.{Growing, grown, line_read}
+use Rattle.mx_con.specs.HostLines.{grown, line_read}
 use Rattle.mx_con.specs.declared.end.SessionEnd.{SessionEnd}
 use Rattle.mx_con.specs.declared.end.SessionEnd.TheVariants.{Limit}
 

@@ -1,5 +1,5 @@
 -- Lists of lines are written line by line.
-use Rattle.std.proofs.Common.{◌≡◌, ℕ, zero, suc, ◌+◌, ◌-◌, ◌*◌, ◌/◌, ◌%◌, ◌^◌, ◌<◌, ◌≤◌, List, [], ◌∷◌, ◌++◌, Bool, true, false, Option, None, Some, Ok, Err, refl, sym, ◌∙◌, ap, arith, map}
+use Rattle.std.proofs.Common.{◌≡◌, ℕ, zero, suc, ◌+◌, ◌-◌, ◌*◌, ◌/◌, ◌^◌, ◌<◌, ◌≤◌, List, [], ◌∷◌, true, false, None, Some, Ok, Err, refl, ◌∙◌, ap, arith, map}
 use Rattle.std.specs.List.{range_with_len}
 use Rattle.mx_host.specs.HostModel.{HostModel}
 use Rattle.mx_text.specs.declared.numbers.Form.{Form}
@@ -8,8 +8,8 @@ use Rattle.mx_run.specs.FlagMaps.{has_flag, IsNextFlagged}
 use Rattle.mx_run.specs.Runs.{FlagsOf}
 use Rattle.mx_run.specs.declared.flags.Flags.{Flags}
 use Rattle.mx_con.specs.ConsoleTexts.{flag_text}
-use Rattle.mx_con.specs.HostLines.{Written, line_write, lines_write, after_write}
-use Rattle.mx_con.specs.Replies.{octas_after, flag_lines, line_if_flagged, tetra_count}
+use Rattle.mx_con.specs.HostLines.{line_write, lines_write}
+use Rattle.mx_con.specs.Replies.{octas_after, flag_lines, tetra_count}
 use Rattle.mx_con.specs.Subjects.{shown_line}
 use Rattle.mx_con.specs.declared.command.Subject.TheVariants.{Memory}
 use Rattle.mx_con.specs.declared.end.SessionEnd.{SessionEnd}

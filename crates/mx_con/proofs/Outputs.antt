@@ -1,5 +1,5 @@
 -- What a session does only adds to standard output.
-use Rattle.std.proofs.Common.{◌≡◌, ℕ, List, [], ◌∷◌, ◌++◌, Bool, true, false, Option, None, Some, Result, Ok, Err, refl, sym, subst}
+use Rattle.std.proofs.Common.{◌≡◌, ℕ, List, [], ◌∷◌, ◌++◌, Option, None, Some, Result, Ok, Err}
 use Rattle.mx_word.specs.Lists.{IsFront}
 use Rattle.mx_word.proofs.Fronts.{front-self, front-through}
 use Rattle.mx_host.specs.HostModel.{HostModel}
@@ -11,7 +11,7 @@ use Rattle.mx_con.specs.Clauses.{output_of}
 use Rattle.mx_con.specs.HostLines.{Written, written, text_write, line_write, after_write, lines_write, output_slot}
 use Rattle.mx_con.specs.Judgement.{command_bad, bad_text}
 use Rattle.mx_con.specs.Replies.{Reply, reply_to}
-use Rattle.mx_con.specs.Session.{Console, Progress, Done, write_done, line_done, replied, with_reply, carried_out, judged, answered}
+use Rattle.mx_con.specs.Session.{Console, write_done, line_done, with_reply, carried_out, judged, answered}
 use Rattle.mx_con.specs.declared.command.Command.{Command}
 use Rattle.mx_con.specs.declared.judgement.Bad.{Bad}
 

@@ -1,5 +1,5 @@
 -- Lines of a session one after another.
-use Rattle.std.proofs.Common.{◌≡◌, ◌≢◌, ℕ, zero, suc, ◌+◌, ◌-◌, ◌<◌, ◌≤◌, List, [], ◌∷◌, ◌++◌, Bool, true, false, cond, Option, None, Some, Result, Ok, Err, refl, sym, ◌∙◌, ap, subst, arith, ◌==◌}
+use Rattle.std.proofs.Common.{◌≡◌, ℕ, zero, suc, ◌+◌, ◌-◌, ◌<◌, ◌≤◌, List, [], ◌∷◌, true, false, Option, None, Some, Result, Ok, Err, refl, sym, ◌∙◌, subst, arith}
 use Rattle.mx_word.specs.Lists.{IsFront}
 use Rattle.mx_word.proofs.Fronts.{front-self, front-through}
 use Rattle.mx_host.specs.HostAnswer.{Then, read_answer}
@@ -16,9 +16,9 @@ use Rattle.mx_con.specs.declared.end.SessionEnd.TheVariants.{Limit}
 use Rattle.mx_con.specs.declared.judgement.Bad.TheVariants.{UnknownCommand}
 use Rattle.mx_con.specs.Clauses.{progress, output_of, session_output}
 use Rattle.mx_con.specs.Commands.{command_of}
-use Rattle.mx_con.specs.HostLines.{Written, text_write, input_slot, byte_of, byte_read, Growing, byte_added, with_byte, grown, Reading, after_byte, line_read, without_return}
+use Rattle.mx_con.specs.HostLines.{text_write, input_slot, byte_of, byte_read, Growing, with_byte, grown, Reading, after_byte, line_read, without_return}
 use Rattle.mx_con.specs.Judgement.{bad_text}
-use Rattle.mx_con.specs.Session.{Console, Progress, Done, on, over, wild, and_then, with_host, write_done, line_done, steps_left, stepped, runs, answered, command_done, with_reading, reading_done, prompt, line_of, prompted, asked, one_line, session_lines, most_input, at_start, SessionRun, session_ended, ended_in, run_of, session}
+use Rattle.mx_con.specs.Session.{Console, Progress, Done, on, over, wild, and_then, with_host, steps_left, command_done, with_reading, reading_done, prompt, line_of, prompted, asked, one_line, session_lines, most_input, at_start, session_ended, ended_in, run_of, session}
 use Rattle.mx_con.proofs.Outputs.{text-front, line_done-at, answered-at, done-at}
 use Rattle.mx_con.proofs.StepLaws.{stepped-at, runs-at}
 

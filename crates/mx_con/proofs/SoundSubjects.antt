@@ -1,5 +1,5 @@
 -- A subject that is not bad is sound.
-use Rattle.std.proofs.Common.{◌≡◌, ℕ, ◌<◌, ◌^◌, Bool, true, false, Option, Some, None, arith}
+use Rattle.std.proofs.Common.{◌≡◌, false, Some, None, arith}
 use Rattle.std.proofs.lemmas.Bool.Decides.{nat_tests}
 use Rattle.mx_core.specs.State.{State}
 use Rattle.mx_con.specs.declared.command.Subject.{Subject}

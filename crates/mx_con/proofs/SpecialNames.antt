@@ -1,5 +1,5 @@
 -- The special registers by their names without the r.
-use Rattle.std.proofs.Common.{◌≡◌, ℕ, ◌+◌, List, [], ◌∷◌, Bool, true, false, refl, ap, ◌∙◌, sym, map, position, bytes_eq, codes, Bor, cond, Option, length, nat_lt, not, Some, None, get_or}
+use Rattle.std.proofs.Common.{◌≡◌, ℕ, ◌+◌, List, [], ◌∷◌, Bool, refl, ap, ◌∙◌, sym, map, position, bytes_eq, codes, Bor, cond, Option, length, nat_lt, not, Some, None, get_or}
 use Rattle.std.specs.List.{prefix_len}
 use Rattle.std.proofs.Math.ListN.{get_or-map}
 use Rattle.std.proofs.lemmas.List.{length-map}

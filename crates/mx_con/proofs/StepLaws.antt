@@ -1,5 +1,5 @@
 -- Steps and runs of the console.
-use Rattle.std.proofs.Common.{◌≡◌, ◌≢◌, ℕ, zero, suc, ◌+◌, ◌-◌, ◌<◌, ◌≤◌, List, [], ◌∷◌, ◌++◌, Bool, true, false, cond, Option, None, Some, Result, Ok, Err, refl, sym, ◌∙◌, ap, subst, arith, ◌==◌}
+use Rattle.std.proofs.Common.{◌≡◌, ◌≢◌, ℕ, zero, suc, ◌+◌, ◌-◌, ◌<◌, ◌≤◌, List, [], ◌∷◌, ◌++◌, Bool, true, false, cond, None, Some, Result, Ok, Err, refl, sym, ◌∙◌, ap, subst, arith, ◌==◌}
 use Rattle.mx_word.specs.Lists.{IsFront}
 use Rattle.mx_word.proofs.Fronts.{front-self, front-through}
 use Rattle.std.proofs.lemmas.Bool.Decides.{nat_tests}
@@ -9,7 +9,7 @@ use Rattle.mx_core.specs.State.{State}
 use Rattle.mx_core.specs.declared.trace.Trace.{Trace}
 use Rattle.mx_run.specs.Runs.{FlagsOf, Ended, ended, run}
 use Rattle.mx_run.specs.Turns.{Turn, went_on, halts, stops, turn, Answered, turn_answer}
-use Rattle.mx_run.specs.WildRuns.{window_machine, RunEnd, run_ended, run_by, host_after}
+use Rattle.mx_run.specs.WildRuns.{window_machine, host_after}
 use Rattle.mx_run.specs.declared.end.BreakKind.{BreakKind}
 use Rattle.mx_run.specs.declared.end.End.{End}
 use Rattle.mx_run.specs.declared.end.End.TheVariants as ending
@@ -18,11 +18,11 @@ use Rattle.mx_run.specs.declared.turn_answer.TurnAnswer.TheVariants as answer
 use Rattle.mx_run.proofs.BothMachines.{window-ends}
 use Rattle.mx_run.proofs.Outputs.{turn-front, run-front}
 use Rattle.mx_con.specs.declared.end.SessionEnd.{SessionEnd}
-use Rattle.mx_con.specs.declared.end.SessionEnd.TheVariants.{Halted, Stopped, Spent, OutOfMemory}
+use Rattle.mx_con.specs.declared.end.SessionEnd.TheVariants.{Halted, Stopped, Spent}
 use Rattle.mx_con.specs.Clauses.{output_of, progress}
 use Rattle.mx_con.specs.ConsoleTexts.{trace_text, break_text}
-use Rattle.mx_con.specs.HostLines.{Written, line_write, lines_write, after_write, text_write}
-use Rattle.mx_con.specs.Session.{Console, Progress, Done, on, over, wild, and_then, with_run, with_host, write_done, line_done, steps_left, after_turn, stepped, goes, break_lines, end_answer, end_done, after_run, one_run, run_on, runs}
+use Rattle.mx_con.specs.HostLines.{Written, line_write, lines_write, after_write}
+use Rattle.mx_con.specs.Session.{Console, Progress, Done, on, over, wild, and_then, with_run, with_host, write_done, line_done, steps_left, after_turn, stepped, goes, break_lines, end_answer, end_done, one_run, run_on, runs}
 use Rattle.mx_con.proofs.Outputs.{lines-at, lines-front, text-front, line_done-at, done-at}
 
 -- ---- ONE STEP
@@ -39,13 +39,13 @@ pub stepped-made : (steps : ℕ) (c : Console) (a : TurnAnswer) (s : State) (m :
 unfolding stepped
 stepped-made steps c a s m ne h = rw (no-steps (steps_left steps c.state) ne, ← h) refl
 
-turn-at : (c : Console) (pc : ℕ) (a : Answered TurnAnswer) → IsFront a.2.output (output_of (after_turn c pc a))
+pub turn-at : (c : Console) (pc : ℕ) (a : Answered TurnAnswer) → IsFront a.2.output (output_of (after_turn c pc a))
 turn-at c pc (answer.Went trace, s, m) = line_done-at (with_run c s m) (trace_text trace s) m.output refl
 turn-at c pc (answer.Halted status, s, m) = front-self m.output
 turn-at c pc (answer.Stopped reason, s, m) = front-self m.output
 turn-at c pc (answer.OutOfMemory, s, m) = front-self m.output
 
-answer-host : (t : Turn) → (turn_answer t).2 ≡ host_after t
+pub answer-host : (t : Turn) → (turn_answer t).2 ≡ host_after t
 answer-host (went_on s m trace) = refl
 answer-host (halts status s m) = refl
 answer-host (stops reason s m) = refl
@@ -142,7 +142,7 @@ goes-at : (xs : List ℕ) (going : Bool) (w : Written) → IsFront xs w.1.output
 goes-at xs going (Ok u, m) h = h
 goes-at xs going (Err e, m) h = h
 
-end-front : (s : State) (end : End) (m : HostModel) → IsFront m.output (end_answer s end m).1.output
+pub end-front : (s : State) (end : End) (m : HostModel) → IsFront m.output (end_answer s end m).1.output
 end-front s (ending.Halted status) m = front-self m.output
 end-front s (ending.Stopped pc reason) m = front-self m.output
 end-front s (ending.Broke kind at traced) m = goes-at m.output false (lines_write (break_lines s kind at traced) m) (lines-front (break_lines s kind at traced) m)
@@ -166,7 +166,7 @@ pub one-made : (steps : ℕ) (pass : Bool) (c : Console) (end : End) (s : State)
 unfolding one_run
 one-made steps pass c end s m h = rw (window-ends (steps_left steps c.state) c.flags pass c.state c.host, ← h) refl
 
-end_done-at : (c : Console) (w : Then (Result Bool SessionEnd)) (xs : List ℕ) → IsFront xs w.1.output → IsFront xs (output_of (end_done c w))
+pub end_done-at : (c : Console) (w : Then (Result Bool SessionEnd)) (xs : List ℕ) → IsFront xs w.1.output → IsFront xs (output_of (end_done c w))
 end_done-at c (Ok going, m) xs h = h
 end_done-at c (Err e, m) xs h = h
 

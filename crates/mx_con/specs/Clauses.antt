@@ -1,8 +1,9 @@
 -- The words of clauses over a runner, a session and a host: `old` and `new` are what the host told before and after, r
 -- and s the runners, d and e what the session remembers.
-use Rattle.std.specs.Prelude.{ℕ, ◌≡◌, ◌≢◌, IsTrue, List, Option, Result, Ok, Err}
+use Rattle.std.specs.Prelude.{ℕ, ◌≡◌, ◌≢◌, IsTrue, false, List, Option, Result, Ok, Err}
 use Rattle.mx_word.specs.Lists.{IsFront}
 use Rattle.mx_host.specs.HostModel.{HostModel, tells, contents}
+use Rattle.mx_core.specs.Bounds.{as_list_state}
 use Rattle.mx_core.specs.Kept.{state_of}
 use Rattle.mx_run.specs.FlagMaps.{flags_at}
 use Rattle.mx_run.specs.Running.{Running}
@@ -63,3 +64,48 @@ abbrev pub EndsFront : Option HostModel → Option HostModel → Running → Ses
 EndsFront old new r result f =
     IsTrue (tells old) → result ≡ OutOfMemory →
     IsFront (contents new).output (session_output (f (state_of r.machine) (flags_at r.flags) (contents old)))
+
+-- BESIDE THE LIST MACHINE
+
+-- what stands between two lines, with the list that the register stack stands for
+abbrev pub as_list_console : Console → Console
+as_list_console c = record { state = as_list_state c.state; flags = c.flags; shown = c.shown; left = c.left; host = c.host }
+
+abbrev pub as_list_progress : {A : Type 0} → Progress A → Progress A
+as_list_progress (on x c) = on x (as_list_console c)
+as_list_progress (over end c) = over end (as_list_console c)
+as_list_progress (wild m) = wild m
+
+-- nothing was touched up to then
+abbrev pub IsUntouched : {A : Type 0} → Progress A → Type 0
+IsUntouched (on x c) = c.state.touched ≡ false
+IsUntouched (over end c) = c.state.touched ≡ false
+IsUntouched (wild m) = Unit {0}
+
+-- how a part of a session goes beside that of the list machine: it comes to the same, with the list that its last state
+-- stands for and nothing touched; or, where that meets something wild, it begins by writing what that had written
+abbrev pub PartGoesAsList : {A : Type 0} → Progress A → Progress A → Type 0
+PartGoesAsList (on x c) p = (as_list_progress p ≡ on x c) × IsUntouched p
+PartGoesAsList (over end c) p = (as_list_progress p ≡ over end c) × IsUntouched p
+PartGoesAsList (wild m) p = IsFront m.output (output_of p)
+
+-- over a host that tells its contents, from a state where nothing was touched, the part goes as f of the list machine
+abbrev pub PartsAsList : {A : Type 0} → Option HostModel → Option HostModel → Running → Running → Dialog → Dialog →
+    Result A SessionEnd → (Console → Progress A) → Type 0
+PartsAsList old new r s d e result f =
+    IsTrue (tells old) → result ≢ Err OutOfMemory → (state_of r.machine).touched ≡ false →
+    PartGoesAsList (f (as_list_console (console_of r d old))) (progress result (console_of s e new))
+
+-- the same of a whole session
+abbrev pub as_list_session : SessionEnded → SessionEnded
+as_list_session e = record { end = e.end; state = as_list_state e.state; flags = e.flags; host = e.host }
+
+abbrev pub SessionGoesAsList : SessionRun → SessionEnded → Type 0
+SessionGoesAsList (session_ended e) r = (as_list_session r ≡ e) × (r.state.touched ≡ false)
+SessionGoesAsList (session_wild m) r = IsFront m.output r.host.output
+
+abbrev pub EndsAsListSession : Option HostModel → Option HostModel → Running → Running → SessionEnd →
+    (State → FlagsOf → HostModel → SessionRun) → Type 0
+EndsAsListSession old new r s result f =
+    IsTrue (tells old) → result ≢ OutOfMemory → (state_of r.machine).touched ≡ false →
+    SessionGoesAsList (f (as_list_state (state_of r.machine)) (flags_at r.flags) (contents old)) (session_end result s new)

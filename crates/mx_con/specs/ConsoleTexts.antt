@@ -1,5 +1,5 @@
 -- The lines that the console writes on steps, breaks, flags and the state, without their ends.
-use Rattle.std.specs.Prelude.{ℕ, ◌+◌, ◌*◌, ◌/◌, ◌%◌, ◌^◌, ◌==◌, ◌||◌, Bool, if◌then◌else◌, List, [], ◌∷◌, ◌++◌, codes, decimal, Option, None, Some}
+use Rattle.std.specs.Prelude.{ℕ, ◌+◌, ◌/◌, ◌%◌, ◌^◌, ◌==◌, Bool, if◌then◌else◌, List, [], ◌∷◌, ◌++◌, codes, decimal, Option, None, Some}
 use Rattle.mx_ring.specs.Stack.{register}
 use Rattle.mx_text.specs.Instructions.{instruction_text}
 use Rattle.mx_text.specs.Numbers.{hex_text, hex_digits}

@@ -19,6 +19,7 @@ mod specials;
 mod steps;
 mod subjects;
 mod texts;
+mod windows;
 
 pub use command::{Breaks, Command, Subject};
 pub use end::SessionEnd;

@@ -1,12 +1,12 @@
 //! Sessions.
 
-ghost use Rattle.std.specs.Prelude.{IsTrue, ◌≡◌, ◌+◌, Err};
+ghost use Rattle.std.specs.Prelude.{IsTrue, ◌≡◌, ◌+◌, Err, Some};
 ghost use Rattle.mx_host.specs.HostModel.{tells, contents};
 ghost use Rattle.mx_host.specs.Keeping.{ComesByFault, Keeps};
 ghost use Rattle.mx_core.specs.Kept.{state_of};
 ghost use Rattle.mx_run.specs.FlagMaps.{flags_at};
-ghost use Rattle.mx_run.specs.WildRuns.{window_machine};
-ghost use Rattle.mx_con.specs.Clauses.{EndsAsSession, EndsFront, Goes, GoesFront};
+ghost use Rattle.mx_run.specs.WildRuns.{window_machine, list_machine};
+ghost use Rattle.mx_con.specs.Clauses.{EndsAsListSession, EndsAsSession, EndsFront, Goes, GoesFront, PartsAsList};
 ghost use Rattle.mx_con.specs.HostLines.{line_read, text_write};
 ghost use Rattle.mx_con.specs.Session as spec;
 
@@ -21,6 +21,7 @@ use crate::replies::{
     trace_tetra, untrace_tetra,
 };
 use crate::steps::{go_on, step_once};
+use crate::windows::know_window;
 use mx_host::Host;
 use mx_run::Runner;
 use mx_word::Bytes;
@@ -30,7 +31,9 @@ use std::alloc::Global;
 const MOST_INPUT: u64 = 1 << 32;
 
 /// A session on a runner over the console's input and output, slots 258 and 259 of the host. It makes
-/// at most as many steps as leave the machine's count of steps at `steps`.
+/// at most as many steps as leave the machine's count of steps at `steps`. From a machine that nobody
+/// touched it goes as over an unbounded list of registers, up to the first step or command that looks at
+/// rS or at the memory of the register stack.
 ///
 /// Out of memory, what was written to standard output is a front of what the session writes.
 #[tactic(auto, using(crate::proofs::SessionLines::sessions))]
@@ -39,6 +42,8 @@ pub fn session<H: Host>(alloc: Global, runner: &mut Runner, host: &mut H, steps:
         (λ s f m. spec.session window_machine steps s f m) }
     ensures front { EndsFront (H.told host.old) (H.told host.new) runner.old result
         (λ s f m. spec.session window_machine steps s f m) }
+    ensures listed { EndsAsListSession (H.told host.old) (H.told host.new) runner.old runner.new result
+        (λ s f m. spec.session list_machine steps s f m) }
     ensures cause { ComesByFault (H.told host.old) SessionEnd.HostFault result (H.faults host.old) (H.faults host.new) }
     ensures keeps { Keeps (H.told host.old) (H.told host.new) (H.faults host.old) (H.faults host.new) }
 {
@@ -65,6 +70,8 @@ fn all_lines<H: Host>(
         (λ c. spec.session_lines (spec.most_input + 1) window_machine steps c) }
     ensures front { GoesFront (H.told host.old) (H.told host.new) runner.old dialog.old result
         (λ c. spec.session_lines (spec.most_input + 1) window_machine steps c) }
+    ensures listed { PartsAsList (H.told host.old) (H.told host.new) runner.old runner.new dialog.old dialog.new result
+        (λ c. spec.session_lines (spec.most_input + 1) list_machine steps c) }
     ensures cause { ComesByFault (H.told host.old) (Err SessionEnd.HostFault) result (H.faults host.old) (H.faults host.new) }
     ensures keeps { Keeps (H.told host.old) (H.told host.new) (H.faults host.old) (H.faults host.new) }
 {
@@ -90,12 +97,15 @@ fn one_line<H: Host>(
         (λ c. spec.one_line window_machine steps c) }
     ensures front { GoesFront (H.told host.old) (H.told host.new) runner.old dialog.old result
         (λ c. spec.one_line window_machine steps c) }
+    ensures listed { PartsAsList (H.told host.old) (H.told host.new) runner.old runner.new dialog.old dialog.new result
+        (λ c. spec.one_line list_machine steps c) }
     ensures cause { ComesByFault (H.told host.old) (Err SessionEnd.HostFault) result (H.faults host.old) (H.faults host.new) }
     ensures keeps { Keeps (H.told host.old) (H.told host.new) (H.faults host.old) (H.faults host.new) }
 {
     match ask(alloc, runner, host, dialog) {
         Ok(line) => {
             let command = command_of(without_return(line.as_slice()));
+            know_window(runner);
             carry_out(alloc, runner, host, dialog, steps, command)
         }
         Err(end) => Err(end),
@@ -137,6 +147,9 @@ fn carry_out<H: Host>(
         (λ c. spec.command_done window_machine steps c command) }
     ensures front { GoesFront (H.told host.old) (H.told host.new) runner.old dialog.old result
         (λ c. spec.command_done window_machine steps c command) }
+    ensures runs { command ≡ Some Command.Continue →
+        PartsAsList (H.told host.old) (H.told host.new) runner.old runner.new dialog.old dialog.new result
+        (λ c. spec.command_done list_machine steps c command) }
     ensures cause { ComesByFault (H.told host.old) (Err SessionEnd.HostFault) result (H.faults host.old) (H.faults host.new) }
     ensures keeps { Keeps (H.told host.old) (H.told host.new) (H.faults host.old) (H.faults host.new) }
 {

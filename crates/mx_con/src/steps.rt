@@ -4,8 +4,8 @@ ghost use Rattle.std.specs.Prelude.{IsTrue, ◌≡◌, Err, Some, true};
 ghost use Rattle.mx_host.specs.HostModel.{tells, contents};
 ghost use Rattle.mx_host.specs.Keeping.{Answers, ComesByFault, Keeps, WritesFront};
 ghost use Rattle.mx_core.specs.Kept.{state_of};
-ghost use Rattle.mx_run.specs.WildRuns.{window_machine};
-ghost use Rattle.mx_con.specs.Clauses.{Goes, GoesFront};
+ghost use Rattle.mx_run.specs.WildRuns.{window_machine, list_machine};
+ghost use Rattle.mx_con.specs.Clauses.{Goes, GoesFront, PartsAsList};
 ghost use Rattle.mx_con.specs.ConsoleTexts.{trace_text, break_text};
 ghost use Rattle.mx_con.specs.HostLines.{line_write, lines_write};
 ghost use Rattle.mx_con.specs.Session as spec;
@@ -84,6 +84,8 @@ pub(crate) fn go_on<H: Host>(
         (λ c. spec.runs window_machine (spec.steps_left steps c.state) steps true c) }
     ensures front { GoesFront (H.told host.old) (H.told host.new) runner.old dialog.now result
         (λ c. spec.runs window_machine (spec.steps_left steps c.state) steps true c) }
+    ensures listed { PartsAsList (H.told host.old) (H.told host.new) runner.old runner.new dialog.now dialog.now result
+        (λ c. spec.runs list_machine (spec.steps_left steps c.state) steps true c) }
     ensures cause { ComesByFault (H.told host.old) (Err SessionEnd.HostFault) result (H.faults host.old) (H.faults host.new) }
     ensures keeps { Keeps (H.told host.old) (H.told host.new) (H.faults host.old) (H.faults host.new) }
 {
@@ -113,6 +115,8 @@ fn run_once<H: Host>(
         (λ c. spec.one_run window_machine steps pass c) }
     ensures front { GoesFront (H.told host.old) (H.told host.new) runner.old dialog.now result
         (λ c. spec.one_run window_machine steps pass c) }
+    ensures listed { PartsAsList (H.told host.old) (H.told host.new) runner.old runner.new dialog.now dialog.now result
+        (λ c. spec.one_run list_machine steps pass c) }
     ensures cause { ComesByFault (H.told host.old) (Err SessionEnd.HostFault) result (H.faults host.old) (H.faults host.new) }
     ensures keeps { Keeps (H.told host.old) (H.told host.new) (H.faults host.old) (H.faults host.new) }
 {

@@ -2,7 +2,7 @@
 use Rattle.std.proofs.Common.{◌≡◌, ◌≢◌, ◌⊎◌, inl, inr, ℕ, Bool, true, false, List, refl, ap, sym, ◌∙◌, subst, arith, ◌+◌}
 use Rattle.mx_host.specs.HostModel.{HostModel}
 use Rattle.mx_con.proofs.SessionLines.{session-at, lines-one-at, line-asked-at, asked-at}
-use Rattle.mx_con.specs.Clauses.{session_output}
+use Rattle.mx_con.specs.Clauses.{SessionGoesAsList, session_output}
 use Rattle.mx_con.specs.Session.{SessionEnded, SessionRun, session_ended, session_wild, session, most_input, at_start}
 use Rattle.mx_con.specs.declared.end.SessionEnd.{SessionEnd}
 use Rattle.mx_con.specs.declared.end.SessionEnd.TheVariants as sitting
@@ -17,13 +17,6 @@ use Rattle.mx_top.specs.Runs.{Ran, ran, ran_wild, played, session_ran, session_o
 use Rattle.mx_top.specs.declared.outcome.Outcome.{Outcome}
 use Rattle.mx_top.specs.declared.outcome.Outcome.TheVariants.{HostFault, OutOfMemory}
 use Rattle.mx_top.proofs.MachineRuns.{goes-as}
-
-abbrev pub as_list_session : SessionEnded → SessionEnded
-as_list_session e = record { end = e.end; state = as_list_state e.state; flags = e.flags; host = e.host }
-
-abbrev pub SessionGoesAsList : SessionRun → SessionEnded → Type 0
-SessionGoesAsList (session_ended e) r = (as_list_session r ≡ e) × (r.state.touched ≡ false)
-SessionGoesAsList (session_wild m) r = IsFront m.output r.host.output
 
 -- whether there was memory
 wanting : (end : SessionEnd) → (end ≡ sitting.OutOfMemory) ⊎ (end ≢ sitting.OutOfMemory)

@@ -1,4 +1,4 @@
-use Rattle.std.proofs.Common.{◌≡◌, ◌≤◌, []}
+use Rattle.std.proofs.Common.{◌≡◌, []}
 use Rattle.std.specs.Prelude.{IsTrue}
 use Rattle.mx_host.specs.Keeping.{Keeps, KeepsOutput}
 use Rattle.mx_host.specs.HostModel.{tells, contents}

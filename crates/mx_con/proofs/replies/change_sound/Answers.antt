@@ -1,10 +1,9 @@
-use Rattle.std.proofs.Common.{◌∙◌, ap, subst, ◌≡◌, None}
+use Rattle.std.proofs.Common.{◌∙◌, ap, subst}
 use Rattle.mx_word.specs.Lists.{IsFront}
 use Rattle.mx_host.specs.HostModel.{contents}
 use Rattle.mx_run.specs.FlagMaps.{flags_at}
 use Rattle.mx_con.specs.Clauses.{console_of, output_of}
 use Rattle.mx_con.proofs.Answers.{change-answer, change-refusal}
-use Rattle.mx_con.proofs.Outputs.{answered-at}
 use Rattle.mx_con.proofs.replies.change_sound.Goals as goal
 
 pub returns-in-Ok-clause-told : goal.returns-in-Ok-clause-told

@@ -1,4 +1,4 @@
-use Rattle.std.proofs.Common.{map, ap, ◌∙◌, sym, length, arith}
+use Rattle.std.proofs.Common.{map, ap, ◌∙◌, length, arith}
 use Rattle.mx_con.proofs.SpecialNames.{named}
 use Rattle.mx_con.proofs.specials.special_code.Goals as goal
 

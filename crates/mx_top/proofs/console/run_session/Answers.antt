@@ -7,7 +7,9 @@ use Rattle.mx_core.specs.Bounds.{as_list_state}
 use Rattle.mx_core.specs.Kept.{Kept, state_of}
 use Rattle.mx_run.specs.FlagMaps.{flags_at}
 use Rattle.mx_top.specs.Runs.{dumped, session_outcome}
-use Rattle.mx_top.proofs.SessionRuns.{window-played, session-front-by}
+use Rattle.mx_top.specs.declared.outcome.Outcome.TheVariants.{HostFault}
+use Rattle.mx_word.proofs.Fronts.{front-self}
+use Rattle.mx_top.proofs.SessionRuns.{dumped-fault, window-played, list-played, session-front-by}
 use Rattle.mx_top.proofs.Dumped.{dumped-front}
 use Rattle.mx_top.proofs.console.run_session.Goals as goal
 
@@ -21,10 +23,23 @@ returns-clause-told g c = λ t ne.
     (dumped c.args.order.now.dump) c.new-runner.ensures.flags outcome went said
 
 pub returns-in-HostFault-clause-listed : goal.returns-in-HostFault-clause-listed
-returns-in-HostFault-clause-listed g c = ?
+returns-in-HostFault-clause-listed g c = λ t ne.
+    let untouched = subst (λ (k : Kept). (state_of k).touched ≡ false) (sym c.new-runner.ensures.machine) c.requires in
+    let went = rw c.new-runner.ensures.machine at (c.in-HostFault.ensures.listed t (λ e. cc) untouched) in
+    let here = contents (g.H.Host.told c.session.new.host) in
+    list-played c.args.order.now.steps _ _ (as_list_state (state_of c.args.machine)) (state_of c.session.new.runner.machine) sitting.HostFault _ here here HostFault HostFault
+    (dumped c.args.order.now.dump) c.new-runner.ensures.flags refl (λ m. refl) went (front-self here.output)
+    (λ e. sym (dumped-fault c.args.order.now.dump (as_list_state (state_of c.session.new.runner.machine)) here))
 
 pub returns-clause-listed : goal.returns-clause-listed
-returns-clause-listed g c = ?
+returns-clause-listed g c = λ t ne.
+    let there = subst IsTrue (sym c.session.ensures.keeps.telling) t in
+    let outcome : c.session_outcome.result ≡ session_outcome c.args.order.now.steps c.session.result = cc (c.session_outcome.ensures.value, c.in_default.end-is) in
+    let untouched = subst (λ (k : Kept). (state_of k).touched ≡ false) (sym c.new-runner.ensures.machine) c.requires in
+    let went = rw c.new-runner.ensures.machine at (c.session.ensures.listed t (λ e. ne (c.tell_end.ensures.memory (c.session_outcome.ensures.memory (cc (e, c.in_default.end-is)))).0) untouched) in
+    list-played c.args.order.now.steps _ _ (as_list_state (state_of c.args.machine)) (state_of c.session.new.runner.machine) c.session.result _ _ _ c.session_outcome.result c.tell_end.result
+    (dumped c.args.order.now.dump) c.new-runner.ensures.flags outcome (λ m. refl) went (c.tell_end.ensures.keeps.growing there)
+    (λ e. rw c.machine.ensures at (c.tell_end.ensures.list (subst (λ (k : Kept). (state_of k).touched ≡ false) (sym c.machine.ensures) e) there ne))
 
 pub returns-clause-front : goal.returns-clause-front
 returns-clause-front g c = λ t oom.

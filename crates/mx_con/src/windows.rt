@@ -1,0 +1,17 @@
+//! What holds of each runner, for proofs.
+
+ghost use Rattle.mx_core.specs.Kept.{state_of};
+ghost use Rattle.mx_run.specs.WildRuns.{HasWindow};
+
+use mx_core::{machines_are_whole, machines_keep_the_invariant};
+use mx_run::Runner;
+
+/// Tells that a runner's machine is one over a window of octas. It does nothing.
+#[tactic(auto, using(crate::proofs::ListedSessions::windows))]
+#[inline(always)]
+pub(crate) fn know_window(runner: &Runner)
+    ensures { HasWindow (state_of runner.now.machine) }
+{
+    machines_keep_the_invariant(runner.machine());
+    machines_are_whole(runner.machine());
+}
