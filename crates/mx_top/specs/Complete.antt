@@ -52,21 +52,23 @@ abbrev pub IsStarted : MachineKind → List Word → Order → Image → State �
 IsStarted kind words o image s = started kind o.ring image (arguments words o) ≡ Ok s
 
 -- The machine of this image starts, and in one run it halts within the steps of the order.
-pub record IsHalted (kind : MachineKind) (words : List Word) (o : Order) (image : Image) (begun : HostModel) (status : ℕ) (ended : State) (after : HostModel) : Type 0 where
+pub record IsHalted (kind : MachineKind) (words : List Word) (o : Order) (image : Image) (begun : HostModel)
+    (status : ℕ) (ended : State) (after : HostModel) : Type 0 where
   pub plain : o.interactive ≡ false
   pub machine : State
   pub starts : IsStarted kind words o image machine
   pub halts : machine_ran kind o.steps machine begun ≡ ran (Done status) ended after
 
 -- The machine of this image starts, and in a session of the console it comes to this.
-pub record IsPlayed (kind : MachineKind) (words : List Word) (o : Order) (image : Image) (begun : HostModel) (outcome : Outcome) (ended : State) (after : HostModel) : Type 0 where
+pub record IsPlayed (kind : MachineKind) (words : List Word) (o : Order) (image : Image) (begun : HostModel)
+    (outcome : Outcome) (ended : State) (after : HostModel) : Type 0 where
   pub console : o.interactive ≡ true
   pub machine : State
   pub starts : IsStarted kind words o image machine
   pub plays : session_ran kind o.steps machine begun ≡ ran outcome ended after
 
--- The words order to assemble a source of which this text is read; the object file opens, its bytes are written, and it is
--- closed.
+-- The words order to assemble a source of which this text is read; the object file opens, the bytes of the object are
+-- written, and it is closed.
 pub record IsWritten (words : List Word) (text : List ℕ) (m after : HostModel) : Type 0 where
   pub order : Order
   pub ordered : IsOrdered words order Asm
@@ -78,8 +80,8 @@ pub record IsWritten (words : List Word) (text : List ℕ) (m after : HostModel)
   pub writes : put_text object_slot (source_object text).0 opened ≡ (true, written)
   pub closes : close_answer written object_slot ≡ (Ok tt, after)
 
--- The words order to generate a source, which means an image; its machine starts and halts, which leaves the host thus, and
--- this line tells what came of it.
+-- The words order to generate a source, which means an image; its machine starts and halts, which leaves the host thus;
+-- and this line tells what came of it.
 pub record IsGenerated (kind : MachineKind) (words : List Word) (m left : HostModel) (line : List ℕ) : Type 0 where
   pub order : Order
   pub ordered : IsOrdered words order Gen
@@ -98,7 +100,8 @@ pub record IsGenerated (kind : MachineKind) (words : List Word) (m left : HostMo
 abbrev pub with_output : HostModel → List ℕ → HostModel
 with_output m text = record m { output = m.output ++ text }
 
--- No call fails, the slots stand as at the start, and the file of this name is there; so many pieces of it are this text.
+-- No call fails, the slots stand as at the start, and the file of this name is there; so many pieces of it are this
+-- text.
 pub record IsThere (name : Word) (most : ℕ) (text : List ℕ) (m : HostModel) : Type 0 where
   pub well : m.failing ≡ []
   pub slots : HasStartSlots m

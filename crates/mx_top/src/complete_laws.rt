@@ -13,7 +13,8 @@ ghost use Rattle.mx_words.specs.declared.order.Command.{Command};
 ghost use Rattle.mx_words.specs.declared.order.Order.{Order};
 ghost use Rattle.mx_top.specs.Answers.{answered};
 ghost use Rattle.mx_top.specs.Arguments.{Word, word_at, arguments};
-ghost use Rattle.mx_top.specs.Complete.{HasObject, HasSource, IsGenerated, IsHalted, IsOrdered, IsPlayed, IsStarted, IsThere, IsWritten, ObjectIsThere, SourceIsThere, with_output};
+ghost use Rattle.mx_top.specs.Complete.{HasObject, HasSource, IsGenerated, IsHalted, IsOrdered, IsPlayed, IsStarted};
+ghost use Rattle.mx_top.specs.Complete.{IsThere, IsWritten, ObjectIsThere, SourceIsThere, with_output};
 ghost use Rattle.mx_top.specs.Detour.{answer_uncounted};
 ghost use Rattle.mx_top.specs.Dump.{dump_lines};
 ghost use Rattle.mx_top.specs.Lines.{lines_put};
@@ -123,7 +124,8 @@ pub fn sources_that_are_there_are_run()
         answer_uncounted (with_message (image_run kind o (arguments words o) image m)) }
     ensures plain { (kind : MachineKind) (words : List Word) (o : Order) (image : Image) (status : ℕ) (ended : State)
         (m after : HostModel) → SourceIsThere words o image m → IsHalted kind words o image m status ended after →
-        o.dump ≡ false → answer_uncounted (product kind words m) ≡ answered (Outcome.Done status) (without_count after) }
+        o.dump ≡ false →
+        answer_uncounted (product kind words m) ≡ answered (Outcome.Done status) (without_count after) }
     ensures dumped { (kind : MachineKind) (words : List Word) (o : Order) (image : Image) (status : ℕ) (ended : State)
         (m after : HostModel) → SourceIsThere words o image m →
         IsHalted kind words o image m status ended after → o.dump ≡ true → answer_uncounted (product kind words m) ≡
@@ -138,7 +140,8 @@ pub fn objects_that_are_there_are_run()
         answer_uncounted (with_message (image_run kind o (arguments words o) image m)) }
     ensures plain { (kind : MachineKind) (words : List Word) (o : Order) (image : Image) (status : ℕ) (ended : State)
         (m after : HostModel) → ObjectIsThere words o image m → IsHalted kind words o image m status ended after →
-        o.dump ≡ false → answer_uncounted (product kind words m) ≡ answered (Outcome.Done status) (without_count after) }
+        o.dump ≡ false →
+        answer_uncounted (product kind words m) ≡ answered (Outcome.Done status) (without_count after) }
     ensures dumped { (kind : MachineKind) (words : List Word) (o : Order) (image : Image) (status : ℕ) (ended : State)
         (m after : HostModel) → ObjectIsThere words o image m →
         IsHalted kind words o image m status ended after → o.dump ≡ true → answer_uncounted (product kind words m) ≡
@@ -151,8 +154,8 @@ pub fn objects_that_are_there_are_run()
 /// is done, and there is no message.
 #[tactic(auto, using(crate::proofs::CompletedFiles::filed))]
 pub fn sources_that_are_there_are_assembled()
-    ensures means { (kind : MachineKind) (words : List Word) (o : Order) (text : List ℕ) (image : Image) (m : HostModel) →
-        IsOrdered words o Command.Asm → IsThere (word_at words o.file) source_pieces text m →
+    ensures means { (kind : MachineKind) (words : List Word) (o : Order) (text : List ℕ) (image : Image)
+        (m : HostModel) → IsOrdered words o Command.Asm → IsThere (word_at words o.file) source_pieces text m →
         source_meaning text ≡ Ok image → answer_uncounted (product kind words m) ≡ answered (Outcome.Done 0)
         (without_count (with_file m (word_at words o.rest) (source_object text).0)) }
     ensures told { (kind : MachineKind) (words : List Word) (o : Order) (text : List ℕ) (m : HostModel) →
