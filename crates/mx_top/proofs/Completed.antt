@@ -1,42 +1,36 @@
 -- A run of the program whose calls are answered, whose source means something and whose machine halts is done.
-use Rattle.std.proofs.Common.{◌≡◌, ℕ, List, [], ◌∷◌, Bool, true, false, cond, length, refl, sym, ◌∙◌, ap, subst, Ok, Err, Some, None}
-use Rattle.std.specs.Prelude.{Result, Option, ◌&&◌, codes}
+use Rattle.std.proofs.Common.{◌≡◌, ℕ, List, [], ◌∷◌, Bool, true, false, cond, length, refl, sym, ◌∙◌, ap, Ok, Err, Some, None}
+use Rattle.std.specs.Prelude.{Option}
 use Rattle.mx_host.specs.HostModel.{HostModel}
-use Rattle.mx_host.specs.HostAnswer.{Then, open_answer, close_answer}
-use Rattle.mx_host.specs.declared.slots.Mode.TheVariants.{BinaryWrite}
+use Rattle.mx_host.specs.HostAnswer.{close_answer}
 use Rattle.mx_mmo.specs.Image.{Image}
-use Rattle.mx_mmo.specs.declared.items.Item.{Item}
 use Rattle.mx_core.specs.State.{State}
-use Rattle.mx_ring.specs.Stack.{register}
 use Rattle.mx_run.specs.WildRuns.{MachineKind}
-use Rattle.mx_words.specs.Orders.{order_of}
 use Rattle.mx_words.specs.declared.order.Command.{Command}
 use Rattle.mx_words.specs.declared.order.Command.TheVariants.{Run, Asm, Sim, Gen}
 use Rattle.mx_words.specs.declared.order.Order.{Order}
 use Rattle.mx_asm.specs.OnePass.{Ended}
-use Rattle.mx_asm.specs.Pages.{RunRefusal, run_refusal, run_refusal_with, page_refusal, accepted_in}
+use Rattle.mx_asm.specs.Pages.{run_refusal_with, page_refusal, accepted_in}
 use Rattle.mx_asm.specs.Entries.{source_entries, statements_in}
 use Rattle.mx_asm.specs.Image as imaging
 use Rattle.mx_asm.specs.Refusal.{refusal}
 use Rattle.mx_asm.specs.declared.refused.Refused.{Refused}
 use Rattle.mx_asm.proofs.InTurn.{source-accepted}
-use Rattle.mx_top.specs.Answers.{Answer, answered, wild, plainly}
+use Rattle.mx_top.specs.Answers.{answered, plainly}
 use Rattle.mx_top.specs.Arguments.{Word, word_at, arguments}
 use Rattle.mx_top.specs.Complete.{IsOrdered, HasSource, HasObject, IsStarted, IsHalted, IsPlayed, IsWritten, IsGenerated}
 use Rattle.mx_top.specs.Dump.{dump_lines}
-use Rattle.mx_top.specs.Generator.{generated, summary}
+use Rattle.mx_top.specs.Generator.{generated}
 use Rattle.mx_top.specs.Lines.{lines_put}
-use Rattle.mx_top.specs.Messages.{message_of}
 use Rattle.mx_top.specs.Objects.{Assembled, source_object}
 use Rattle.mx_top.specs.Objects as assembling
 use Rattle.mx_top.specs.Pieces.{put_text}
-use Rattle.mx_top.specs.Product.{after_image, after_source, after_loading, after_object, refused_with, closed_object, written_object, assembled_outcome, object_put, after_opening, after_reading, generator_steps, summed, summed_from, generated_run, ordered, carried_out, message_told, with_message, product}
-use Rattle.mx_top.specs.Runs.{ran, machine_ran, session_ran, order_ran, after_lines, dumped, started, run_from, image_run}
-use Rattle.mx_top.specs.Source.{file_bytes, source_pieces, object_pieces}
+use Rattle.mx_top.specs.Product.{after_image, after_source, after_loading, after_object, refused_with, closed_object, written_object, assembled_outcome, object_put, after_opening, after_reading, summed, summed_from, generated_run, ordered, carried_out, with_message, product}
+use Rattle.mx_top.specs.Runs.{ran, machine_ran, session_ran, order_ran, after_lines, dumped, run_from, image_run}
 use Rattle.mx_top.specs.Sources.{source_meaning, meaning_unless}
 use Rattle.mx_top.specs.declared.refusal.Refusal.{Refusal}
 use Rattle.mx_top.specs.declared.outcome.Outcome.{Outcome}
-use Rattle.mx_top.specs.declared.outcome.Outcome.TheVariants.{Done, Quit}
+use Rattle.mx_top.specs.declared.outcome.Outcome.TheVariants.{Done}
 
 -- ---- the words, and what they name
 

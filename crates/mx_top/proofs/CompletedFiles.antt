@@ -15,7 +15,7 @@ use Rattle.mx_trap.proofs.SteadyTraps.{uncounted-of}
 use Rattle.mx_run.specs.Runs.{no_flags}
 use Rattle.mx_run.specs.WildRuns.{MachineKind, RunEnd, run_ended, run_wild, run_by}
 use Rattle.mx_run.proofs.SteadyRuns.{end_well, run-steady}
-use Rattle.mx_words.specs.declared.order.Command.TheVariants.{Run, Asm, Sim}
+use Rattle.mx_words.specs.declared.order.Command.TheVariants.{Asm}
 use Rattle.mx_words.specs.declared.order.Order.{Order}
 use Rattle.mx_top.specs.Answers.{Answer, answered, plainly}
 use Rattle.mx_top.specs.Arguments.{Word, word_at, arguments}
@@ -36,7 +36,7 @@ use Rattle.mx_top.proofs.DetourRuns.{put-of}
 use Rattle.mx_top.proofs.IdleFiles.{idle, file-idle, open-object}
 use Rattle.mx_top.proofs.KeptSlots.{Shows, end_shows, run-kept}
 use Rattle.mx_top.proofs.SteadyFiles.{file-steady, lines-steady}
-use Rattle.mx_top.proofs.SteadyProduct.{SteadyAnswers, image-steady, message-steady, product-steady, answers-same}
+use Rattle.mx_top.proofs.SteadyProduct.{image-steady, message-steady, product-steady, answers-same}
 
 -- ---- slots
 

@@ -1,11 +1,11 @@
 -- A program moves only slots below 256, so the tool's standard output stays where it leads.
-use Rattle.std.proofs.Common.{◌≡◌, ◌≢◌, ℕ, suc, zero, ◌+◌, ◌-◌, ◌*◌, ◌/◌, ◌<◌, List, [], ◌∷◌, length, take, drop, Bool, true, false, cond, refl, sym, ◌∙◌, ap, Some, None, Ok, Err, arith, get_or}
-use Rattle.std.specs.Prelude.{Option, Result, ℤ, slice_get, slice_set, unwrap_or, ◌==◌, ◌%◌}
+use Rattle.std.proofs.Common.{◌≡◌, ℕ, suc, zero, ◌+◌, ◌-◌, ◌/◌, ◌<◌, List, [], ◌∷◌, length, take, drop, Bool, true, false, cond, sym, ◌∙◌, Some, None, Ok, Err, arith}
+use Rattle.std.specs.Prelude.{Option, Result, ℤ, slice_get, slice_set, unwrap_or, ◌==◌}
 use Rattle.std.proofs.lemmas.List.{get_or-set_other}
 use Rattle.std.proofs.lemmas.Option.{unwrap_or-slice_get}
 use Rattle.mx_mem.specs.Space.{Contents}
-use Rattle.mx_host.specs.HostModel.{HostModel, counted, is_failing, is_binary, is_read_only, is_write_only, slot_at, with_slot, to_output, place_of}
-use Rattle.mx_host.specs.HostAnswer.{Then, open_answer, opened, read_answer, read_from, read_lead, write_answer, write_to, write_lead, close_answer, closed, seek_answer, seek_in, seek_lead, moved, place_sought, bytes_at, with_bytes, empty_file, tell_answer}
+use Rattle.mx_host.specs.HostModel.{HostModel, counted, is_failing, is_binary, is_read_only, is_write_only, slot_at, to_output, place_of}
+use Rattle.mx_host.specs.HostAnswer.{Then, open_answer, opened, read_answer, read_from, read_lead, write_answer, write_to, write_lead, close_answer, closed, seek_answer, seek_in, seek_lead, moved, place_sought, bytes_at, tell_answer}
 use Rattle.mx_host.specs.declared.slots.Slot.{Slot}
 use Rattle.mx_host.specs.declared.slots.Slot.TheVariants.{Closed, Open}
 use Rattle.mx_host.specs.declared.slots.Mode.{Mode}
@@ -28,7 +28,7 @@ use Rattle.mx_core.specs.MachineSpace.{machine_contents, state_in}
 use Rattle.mx_core.specs.State.{State}
 use Rattle.mx_core.specs.Step.{Stepped, went, calls, stopped, step}
 use Rattle.mx_core.specs.declared.trace.Trace.{Trace}
-use Rattle.mx_run.specs.Runs.{FlagsOf, Ended, ended, break_of, after_trace, after_turn, breaks_before}
+use Rattle.mx_run.specs.Runs.{FlagsOf, ended, break_of, after_trace, after_turn, breaks_before}
 use Rattle.mx_run.specs.Turns.{Turn, went_on, halts, stops, area_size, turn_with, trap_turn, turn_of, turn}
 use Rattle.mx_run.specs.WildRuns.{MachineKind, RunEnd, run_ended, run_wild, ends_wild, turn_by, step_by, run_by}
 use Rattle.mx_run.specs.declared.end.BreakKind.{BreakKind}

@@ -1,11 +1,9 @@
 -- What has to stand for a run of the program to be done: the words, the file that is read, what it means, and how its
 -- machine ends.
-use Rattle.std.specs.Prelude.{ℕ, ◌≡◌, ◌*◌, List, [], ◌∷◌, ◌++◌, codes, length, take, Bool, true, false, Option, Some, Result, Ok}
+use Rattle.std.specs.Prelude.{ℕ, ◌≡◌, ◌*◌, List, [], ◌∷◌, ◌++◌, codes, length, take, true, false, Some, Ok}
 use Rattle.mx_word.specs.declared.symbols.Symbol.{Symbol}
 use Rattle.mx_host.specs.HostModel.{HostModel, HasStartSlots, place_of}
-use Rattle.mx_host.specs.HostAnswer.{Then, open_answer, close_answer, bytes_at}
-use Rattle.mx_host.specs.declared.faults.OpenFault.{OpenFault}
-use Rattle.mx_host.specs.declared.faults.HostFault.{HostFault as SlotFault}
+use Rattle.mx_host.specs.HostAnswer.{open_answer, close_answer, bytes_at}
 use Rattle.mx_host.specs.declared.slots.Mode.TheVariants.{BinaryWrite}
 use Rattle.mx_mmo.specs.Image.{Image}
 use Rattle.mx_load.specs.Objects.{object_loaded}
