@@ -22,7 +22,7 @@ use Rattle.mx_asm.specs.declared.refused.Refused.{Refused}
 use Rattle.mx_asm.proofs.InTurn.{source-accepted}
 use Rattle.mx_top.specs.Answers.{Answer, answered, wild, plainly}
 use Rattle.mx_top.specs.Arguments.{Word, word_at, arguments}
-use Rattle.mx_top.specs.Complete.{IsOrdered, HasSource, HasObject, IsStarted, IsHalted, IsWritten, IsSummed}
+use Rattle.mx_top.specs.Complete.{IsOrdered, HasSource, HasObject, IsStarted, IsHalted, IsPlayed, IsWritten, IsGenerated}
 use Rattle.mx_top.specs.Dump.{dump_lines}
 use Rattle.mx_top.specs.Generator.{generated, summary}
 use Rattle.mx_top.specs.Lines.{lines_put}
@@ -123,6 +123,21 @@ pub object-sat : (kind : MachineKind) (words : List Word) (o : Order) (image : I
     IsStarted kind words o image s → product kind words m ≡ with_message (dumped o.dump (session_ran kind o.steps s begun))
 object-sat kind words o image s m begun h i k = object-run kind words o image m begun h ∙ sat-image kind words o image s begun i k
 
+played-told : (kind : MachineKind) (words : List Word) (o : Order) (image : Image) (begun : HostModel) (outcome : Outcome) (ended : State) (after : HostModel) → IsPlayed kind words o image begun outcome ended after →
+    o.dump ≡ false → with_message (image_run kind o (arguments words o) image begun) ≡ with_message (answered outcome after)
+played-told kind words o image begun outcome ended after h d =
+    sat-image kind words o image h.machine begun h.console h.starts
+    ∙ ap (λ r. with_message (dumped o.dump r)) h.plays
+    ∙ ap (λ b. with_message (dumped b (ran outcome ended after))) d
+
+pub source-played : (kind : MachineKind) (words : List Word) (o : Order) (image : Image) (outcome : Outcome) (ended : State) (m begun after : HostModel) → HasSource words o image m begun →
+    IsPlayed kind words o image begun outcome ended after → o.dump ≡ false → product kind words m ≡ with_message (answered outcome after)
+source-played kind words o image outcome ended m begun after h k d = source-run kind words o image m begun h ∙ played-told kind words o image begun outcome ended after k d
+
+pub object-played : (kind : MachineKind) (words : List Word) (o : Order) (image : Image) (outcome : Outcome) (ended : State) (m begun after : HostModel) → HasObject words o image m begun →
+    IsPlayed kind words o image begun outcome ended after → o.dump ≡ false → product kind words m ≡ with_message (answered outcome after)
+object-played kind words o image outcome ended m begun after h k d = object-run kind words o image m begun h ∙ played-told kind words o image begun outcome ended after k d
+
 -- ---- `asm`
 
 -- what a source means is what nothing is refused of
@@ -168,14 +183,20 @@ refused-written kind words text r m after h e =
 
 -- ---- `gen`
 
-pub source-summed : (kind : MachineKind) (words : List Word) (m after : HostModel) → IsSummed kind words m after → product kind words m ≡ answered (Done 0) after
-source-summed kind words m after h =
+-- a run that is summed up
+pub generated-told : (kind : MachineKind) (words : List Word) (m left : HostModel) (line : List ℕ) → IsGenerated kind words m left line →
+    product kind words m ≡ with_message (after_lines (Done 0) (lines_put (line ∷ []) left))
+generated-told kind words m left line h =
     let o : Order = h.order in
     let size : ℕ = length (generated o.number) in
     order-is kind words o Gen m h.ordered
     ∙ ap (λ r. with_message (generated_run kind o size r m)) h.means
     ∙ ap (λ r. with_message (summed_from kind o.number size r m)) h.starts
     ∙ ap (λ r. with_message (summed o.number size r)) h.halts
-    ∙ ap (λ t. with_message (after_lines (Done 0) t)) h.told
+    ∙ ap (λ text. with_message (after_lines (Done 0) (lines_put (text ∷ []) left))) (sym h.told)
 
-pub ruleset completed = (source-plain, source-dumped, object-plain, object-dumped, source-sat, object-sat, accepted-written, refused-written, meant-object, source-summed)
+pub generated-done : (kind : MachineKind) (words : List Word) (m left after : HostModel) (line : List ℕ) → IsGenerated kind words m left line → lines_put (line ∷ []) left ≡ (true, after) →
+    product kind words m ≡ answered (Done 0) after
+generated-done kind words m left after line h e = generated-told kind words m left line h ∙ ap (λ t. with_message (after_lines (Done 0) t)) e
+
+pub ruleset completed = (source-plain, source-dumped, object-plain, object-dumped, source-sat, object-sat, source-played, object-played, accepted-written, refused-written, meant-object, generated-done)

@@ -1,36 +1,41 @@
 -- Where no call fails: a source that is there is run, or assembled, to its end.
-use Rattle.std.proofs.Common.{◌≡◌, ℕ, ◌*◌, ◌<◌, List, [], Bool, true, false, length, take, refl, sym, ◌∙◌, ap, subst, Ok, Some, arith}
+use Rattle.std.proofs.Common.{◌≡◌, ℕ, ◌*◌, ◌<◌, List, [], Bool, true, false, length, take, refl, sym, ◌∙◌, ap, subst, Ok, Some, arith, ◌∷◌, append-nil, append_assoc}
 use Rattle.std.specs.Prelude.{Result, slice_set}
+use Rattle.std.specs.List.{concat}
 use Rattle.mx_host.specs.declared.slots.Slot.{Slot}
 use Rattle.mx_host.specs.declared.slots.Slot.TheVariants.{Closed}
 use Rattle.mx_host.specs.HostModel.{HostModel, HasStartSlots, start_slots, place_of}
-use Rattle.mx_host.specs.HostAnswer.{Then, bytes_at, put_at, with_file}
-use Rattle.mx_host.proofs.Start.{start_slots-length}
+use Rattle.mx_host.specs.HostAnswer.{Then, bytes_at, put_at, with_file, write_answer, write_to}
+use Rattle.mx_host.proofs.Start.{start_slots-length, slot_at-start_output}
 use Rattle.mx_host.proofs.Still.{still}
 use Rattle.mx_mmo.specs.Image.{Image}
 use Rattle.mx_core.specs.State.{State}
 use Rattle.mx_trap.specs.Counts.{without_count}
 use Rattle.mx_trap.proofs.SteadyTraps.{uncounted-of}
-use Rattle.mx_run.specs.WildRuns.{MachineKind}
+use Rattle.mx_run.specs.Runs.{no_flags}
+use Rattle.mx_run.specs.WildRuns.{MachineKind, RunEnd, run_ended, run_wild, run_by}
+use Rattle.mx_run.proofs.SteadyRuns.{end_well, run-steady}
 use Rattle.mx_words.specs.declared.order.Command.TheVariants.{Run, Asm, Sim}
 use Rattle.mx_words.specs.declared.order.Order.{Order}
 use Rattle.mx_top.specs.Answers.{Answer, answered, plainly}
 use Rattle.mx_top.specs.Arguments.{Word, word_at, arguments}
-use Rattle.mx_top.specs.Complete.{IsOrdered, IsThere, SourceIsThere, ObjectIsThere, IsHalted}
+use Rattle.mx_top.specs.Complete.{IsOrdered, IsThere, SourceIsThere, ObjectIsThere, IsHalted, IsGenerated, with_output}
 use Rattle.mx_top.specs.Detour.{answer_uncounted}
 use Rattle.mx_top.specs.Dump.{dump_lines}
 use Rattle.mx_top.specs.Lines.{lines_put}
 use Rattle.mx_top.specs.Objects.{source_object}
-use Rattle.mx_top.specs.Product.{after_opening, after_reading, assembled_outcome, with_message, product}
-use Rattle.mx_top.specs.Runs.{image_run}
+use Rattle.mx_top.specs.Pieces.{piece_put, pieces_after}
+use Rattle.mx_top.specs.Product.{generator_steps, after_opening, after_reading, assembled_outcome, with_message, product}
+use Rattle.mx_top.specs.Runs.{ran, ran_to, machine_ran, after_lines, dumped, image_run}
 use Rattle.mx_top.specs.Source.{file_bytes}
 use Rattle.mx_top.specs.Sources.{source_meaning}
 use Rattle.mx_top.specs.declared.outcome.Outcome.{Outcome}
 use Rattle.mx_top.specs.declared.outcome.Outcome.TheVariants.{Done}
-use Rattle.mx_top.proofs.Completed.{order-is, source-run, object-run, halted-run, plain-told, dump-told, meant-object}
+use Rattle.mx_top.proofs.Completed.{order-is, source-run, object-run, halted-run, plain-told, meant-object, generated-told}
 use Rattle.mx_top.proofs.DetourRuns.{put-of}
 use Rattle.mx_top.proofs.IdleFiles.{idle, file-idle, open-object}
-use Rattle.mx_top.proofs.SteadyFiles.{file-steady}
+use Rattle.mx_top.proofs.KeptSlots.{Shows, end_shows, run-kept}
+use Rattle.mx_top.proofs.SteadyFiles.{file-steady, lines-steady}
 use Rattle.mx_top.proofs.SteadyProduct.{SteadyAnswers, image-steady, message-steady, product-steady, answers-same}
 
 -- ---- slots
@@ -62,6 +67,56 @@ file-left most name m at h slots e =
     let same : still (file_bytes most name m).1 ≡ still m = ap (λ (t : Then (Result (List ℕ) Outcome)). t.1) (read.0 ∙ still-read most name m at slots e) in
     uncounted-of (file_bytes most name m).1 m same read.1 h
 
+-- ---- lines that are written
+
+write-shown : (m : HostModel) (text : List ℕ) → Shows m → write_answer (still m) 259 text ≡ (Ok tt, still (with_output m text))
+unfolding write_answer
+write-shown m text h = ap (write_to (still m) 259 text) h
+
+lines-still : (lines : List (List ℕ)) (m : HostModel) → Shows m → lines_put lines (still m) ≡ (true, still (with_output m (concat lines)))
+unfolding lines_put
+lines-still [] m h = ap (λ xs. (true, still (record m { output = xs }))) (sym (append-nil m.output))
+lines-still (line ∷ lines) m h =
+    ap (λ t. pieces_after (lines_put lines) (piece_put t)) (write-shown m line h)
+    ∙ lines-still lines (with_output m line) h
+    ∙ ap (λ xs. (true, still (record m { output = xs }))) (append_assoc m.output line (concat lines))
+
+-- no call fails, and standard output leads where it does at the start
+abbrev pub IsReady : HostModel → Type 0
+IsReady m = (m.failing ≡ []) × Shows m
+
+abbrev LinesWritten : List (List ℕ) → HostModel → Then Bool → Type 0
+LinesWritten lines m t = (t.0 ≡ true) × (without_count t.1 ≡ without_count (with_output m (concat lines)))
+
+lines-written : (lines : List (List ℕ)) (m : HostModel) → IsReady m → LinesWritten lines m (lines_put lines m)
+lines-written lines m h =
+    let s = lines-steady lines m h.0 in
+    let e = s.0 ∙ lines-still lines m h.1 in
+    let same : still (lines_put lines m).1 ≡ still (with_output m (concat lines)) = ap (λ (t : Then Bool). t.1) e in
+    (ap (λ (t : Then Bool). t.0) e, uncounted-of (lines_put lines m).1 (with_output m (concat lines)) same s.1 h.0)
+
+told-done : (lines : List (List ℕ)) (status : ℕ) (m : HostModel) (t : Then Bool) → LinesWritten lines m t →
+    answer_uncounted (with_message (after_lines (Done status) t)) ≡ answered (Done status) (without_count (with_output m (concat lines)))
+told-done lines status m (true, n) h = ap (answered (Done status)) h.1
+told-done lines status m (false, n) h = absurd (cc (h.0))
+
+lines-done : (lines : List (List ℕ)) (status : ℕ) (m : HostModel) → IsReady m →
+    answer_uncounted (with_message (after_lines (Done status) (lines_put lines m))) ≡ answered (Done status) (without_count (with_output m (concat lines)))
+lines-done lines status m h = told-done lines status m (lines_put lines m) (lines-written lines m h)
+
+-- what a run that halts leaves
+ran-left : (steps status : ℕ) (ended : State) (after : HostModel) (r : RunEnd) → ran_to steps r ≡ ran (Done status) ended after → end_well r → end_shows r → IsReady after
+ran-left steps status ended after (run_ended e) h well shows =
+    let host : e.host ≡ after = cc in
+    (subst (λ (n : HostModel). n.failing ≡ []) host well, subst Shows host shows)
+ran-left steps status ended after (run_wild m) h well shows = absurd (cc)
+
+halted-left : (kind : MachineKind) (steps : ℕ) (s : State) (m : HostModel) (status : ℕ) (ended : State) (after : HostModel) → m.failing ≡ [] → HasStartSlots m →
+    machine_ran kind steps s m ≡ ran (Done status) ended after → IsReady after
+halted-left kind steps s m status ended after well slots h =
+    ran-left steps status ended after (run_by kind steps no_flags false s m) h (run-steady kind steps no_flags false s m well).1
+    (run-kept kind steps no_flags false s m (slot_at-start_output m slots))
+
 -- ---- running
 
 image-same : (kind : MachineKind) (words : List Word) (o : Order) (image : Image) (m : HostModel) → m.failing ≡ [] →
@@ -90,31 +145,43 @@ run-plain : (kind : MachineKind) (words : List Word) (o : Order) (image : Image)
     with_message (image_run kind o (arguments words o) image m) ≡ answered (Done status) after
 run-plain kind words o image status ended m after k d = ap with_message (halted-run kind words o image m status ended after k) ∙ plain-told o.dump status ended after d
 
-run-dumped : (kind : MachineKind) (words : List Word) (o : Order) (image : Image) (status : ℕ) (ended : State) (m after last : HostModel) → IsHalted kind words o image m status ended after → o.dump ≡ true →
-    lines_put (dump_lines ended) after ≡ (true, last) → with_message (image_run kind o (arguments words o) image m) ≡ answered (Done status) last
-run-dumped kind words o image status ended m after last k d e = ap with_message (halted-run kind words o image m status ended after k) ∙ dump-told o.dump status ended after last d e
+run-dumped : (kind : MachineKind) (words : List Word) (o : Order) (image : Image) (status : ℕ) (ended : State) (m after : HostModel) → m.failing ≡ [] → HasStartSlots m →
+    IsHalted kind words o image m status ended after → o.dump ≡ true →
+    answer_uncounted (with_message (image_run kind o (arguments words o) image m)) ≡ answered (Done status) (without_count (with_output after (concat (dump_lines ended))))
+run-dumped kind words o image status ended m after well slots k d =
+    ap answer_uncounted (ap with_message (halted-run kind words o image m status ended after k) ∙ ap (λ b. with_message (dumped b (ran (Done status) ended after))) d)
+    ∙ lines-done (dump_lines ended) status after (halted-left kind o.steps k.machine m status ended after well slots k.halts)
 
 pub source-there-plain : (kind : MachineKind) (words : List Word) (o : Order) (image : Image) (status : ℕ) (ended : State) (m after : HostModel) → SourceIsThere words o image m →
     IsHalted kind words o image m status ended after → o.dump ≡ false → answer_uncounted (product kind words m) ≡ answered (Done status) (without_count after)
 source-there-plain kind words o image status ended m after h k d =
     source-there kind words o image m h ∙ ap answer_uncounted (run-plain kind words o image status ended m after k d)
 
-pub source-there-dumped : (kind : MachineKind) (words : List Word) (o : Order) (image : Image) (status : ℕ) (ended : State) (m after last : HostModel) → SourceIsThere words o image m →
-    IsHalted kind words o image m status ended after → o.dump ≡ true → lines_put (dump_lines ended) after ≡ (true, last) →
-    answer_uncounted (product kind words m) ≡ answered (Done status) (without_count last)
-source-there-dumped kind words o image status ended m after last h k d e =
-    source-there kind words o image m h ∙ ap answer_uncounted (run-dumped kind words o image status ended m after last k d e)
+pub source-there-dumped : (kind : MachineKind) (words : List Word) (o : Order) (image : Image) (status : ℕ) (ended : State) (m after : HostModel) → SourceIsThere words o image m →
+    IsHalted kind words o image m status ended after → o.dump ≡ true →
+    answer_uncounted (product kind words m) ≡ answered (Done status) (without_count (with_output after (concat (dump_lines ended))))
+source-there-dumped kind words o image status ended m after h k d =
+    source-there kind words o image m h ∙ run-dumped kind words o image status ended m after h.there.well h.there.slots k d
 
 pub object-there-plain : (kind : MachineKind) (words : List Word) (o : Order) (image : Image) (status : ℕ) (ended : State) (m after : HostModel) → ObjectIsThere words o image m →
     IsHalted kind words o image m status ended after → o.dump ≡ false → answer_uncounted (product kind words m) ≡ answered (Done status) (without_count after)
 object-there-plain kind words o image status ended m after h k d =
     object-there kind words o image m h ∙ ap answer_uncounted (run-plain kind words o image status ended m after k d)
 
-pub object-there-dumped : (kind : MachineKind) (words : List Word) (o : Order) (image : Image) (status : ℕ) (ended : State) (m after last : HostModel) → ObjectIsThere words o image m →
-    IsHalted kind words o image m status ended after → o.dump ≡ true → lines_put (dump_lines ended) after ≡ (true, last) →
-    answer_uncounted (product kind words m) ≡ answered (Done status) (without_count last)
-object-there-dumped kind words o image status ended m after last h k d e =
-    object-there kind words o image m h ∙ ap answer_uncounted (run-dumped kind words o image status ended m after last k d e)
+pub object-there-dumped : (kind : MachineKind) (words : List Word) (o : Order) (image : Image) (status : ℕ) (ended : State) (m after : HostModel) → ObjectIsThere words o image m →
+    IsHalted kind words o image m status ended after → o.dump ≡ true →
+    answer_uncounted (product kind words m) ≡ answered (Done status) (without_count (with_output after (concat (dump_lines ended))))
+object-there-dumped kind words o image status ended m after h k d =
+    object-there kind words o image m h ∙ run-dumped kind words o image status ended m after h.there.well h.there.slots k d
+
+-- ---- generating
+
+pub generated-there : (kind : MachineKind) (words : List Word) (m left : HostModel) (line : List ℕ) → m.failing ≡ [] → HasStartSlots m → IsGenerated kind words m left line →
+    answer_uncounted (product kind words m) ≡ answered (Done 0) (without_count (with_output left line))
+generated-there kind words m left line well slots h =
+    ap answer_uncounted (generated-told kind words m left line h)
+    ∙ lines-done (line ∷ []) 0 left (halted-left kind generator_steps h.machine m h.status h.ended left well slots h.halts)
+    ∙ ap (λ text. answered (Done 0) (without_count (with_output left text))) (append-nil line)
 
 -- ---- assembling
 
@@ -148,4 +215,4 @@ assembled-there kind words o text image m h there e =
     object-told kind words o text m h there
     ∙ ap (λ r. answer_uncounted (with_message (answered (assembled_outcome r) (with_object words o text m)))) (meant-object text image e)
 
-pub ruleset filed = (source-there, object-there, assembled-there, object-told, file-left)
+pub ruleset filed = (source-there, object-there, assembled-there, object-told, file-left, generated-there)

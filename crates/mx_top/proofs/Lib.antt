@@ -32,4 +32,5 @@ pub mod DetourRuns
 pub mod DetourImages
 pub mod UnbrokenRuns
 pub mod Completed
+pub mod KeptSlots
 pub mod CompletedFiles

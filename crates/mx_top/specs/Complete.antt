@@ -1,6 +1,6 @@
 -- What has to stand for a run of the program to be done: the words, the file that is read, what it means, and how its
 -- machine ends.
-use Rattle.std.specs.Prelude.{ℕ, ◌≡◌, ◌*◌, List, [], ◌∷◌, codes, length, take, Bool, true, false, Option, Some, Result, Ok}
+use Rattle.std.specs.Prelude.{ℕ, ◌≡◌, ◌*◌, List, [], ◌∷◌, ◌++◌, codes, length, take, Bool, true, false, Option, Some, Result, Ok}
 use Rattle.mx_word.specs.declared.symbols.Symbol.{Symbol}
 use Rattle.mx_host.specs.HostModel.{HostModel, HasStartSlots, place_of}
 use Rattle.mx_host.specs.HostAnswer.{Then, open_answer, close_answer, bytes_at}
@@ -18,11 +18,10 @@ use Rattle.mx_words.specs.declared.order.Command.TheVariants.{Run, Asm, Sim, Gen
 use Rattle.mx_words.specs.declared.order.Order.{Order}
 use Rattle.mx_top.specs.Arguments.{Word, word_at, arguments}
 use Rattle.mx_top.specs.Generator.{generated, summary}
-use Rattle.mx_top.specs.Lines.{lines_put}
 use Rattle.mx_top.specs.Objects.{source_object}
 use Rattle.mx_top.specs.Pieces.{put_text}
 use Rattle.mx_top.specs.Product.{object_slot, generator_steps}
-use Rattle.mx_top.specs.Runs.{ran, machine_ran, started}
+use Rattle.mx_top.specs.Runs.{ran, machine_ran, session_ran, started}
 use Rattle.mx_top.specs.Source.{file_bytes, source_pieces, object_pieces}
 use Rattle.mx_top.specs.Sources.{source_meaning}
 use Rattle.mx_top.specs.declared.outcome.Outcome.{Outcome}
@@ -53,14 +52,23 @@ abbrev pub IsStarted : MachineKind → List Word → Order → Image → State �
 IsStarted kind words o image s = started kind o.ring image (arguments words o) ≡ Ok s
 
 -- The machine of this image starts, and in one run it halts within the steps of the order.
-pub record IsHalted (kind : MachineKind) (words : List Word) (o : Order) (image : Image) (begun : HostModel) (status : ℕ) (ended : State) (after : HostModel) : Type 0 where
+pub record IsHalted (kind : MachineKind) (words : List Word) (o : Order) (image : Image) (begun : HostModel)
+    (status : ℕ) (ended : State) (after : HostModel) : Type 0 where
   pub plain : o.interactive ≡ false
   pub machine : State
   pub starts : IsStarted kind words o image machine
   pub halts : machine_ran kind o.steps machine begun ≡ ran (Done status) ended after
 
--- The words order to assemble a source of which this text is read; the object file opens, its bytes are written, and it is
--- closed.
+-- The machine of this image starts, and in a session of the console it comes to this.
+pub record IsPlayed (kind : MachineKind) (words : List Word) (o : Order) (image : Image) (begun : HostModel)
+    (outcome : Outcome) (ended : State) (after : HostModel) : Type 0 where
+  pub console : o.interactive ≡ true
+  pub machine : State
+  pub starts : IsStarted kind words o image machine
+  pub plays : session_ran kind o.steps machine begun ≡ ran outcome ended after
+
+-- The words order to assemble a source of which this text is read; the object file opens, the bytes of the object are
+-- written, and it is closed.
 pub record IsWritten (words : List Word) (text : List ℕ) (m after : HostModel) : Type 0 where
   pub order : Order
   pub ordered : IsOrdered words order Asm
@@ -72,8 +80,9 @@ pub record IsWritten (words : List Word) (text : List ℕ) (m after : HostModel)
   pub writes : put_text object_slot (source_object text).0 opened ≡ (true, written)
   pub closes : close_answer written object_slot ≡ (Ok tt, after)
 
--- The words order to generate a source, which means an image; its machine starts and halts, and the line is written.
-pub record IsSummed (kind : MachineKind) (words : List Word) (m after : HostModel) : Type 0 where
+-- The words order to generate a source, which means an image; its machine starts and halts, which leaves the host thus;
+-- and this line tells what came of it.
+pub record IsGenerated (kind : MachineKind) (words : List Word) (m left : HostModel) (line : List ℕ) : Type 0 where
   pub order : Order
   pub ordered : IsOrdered words order Gen
   pub image : Image
@@ -82,13 +91,17 @@ pub record IsSummed (kind : MachineKind) (words : List Word) (m after : HostMode
   pub starts : started kind order.ring image (codes "gen" ∷ []) ≡ Ok machine
   pub status : ℕ
   pub ended : State
-  pub left : HostModel
   pub halts : machine_ran kind generator_steps machine m ≡ ran (Done status) ended left
-  pub told : lines_put (summary order.number (length (generated order.number)) ended.steps (register ended.stack 255) ∷ []) left ≡ (true, after)
+  pub told : line ≡ summary order.number (length (generated order.number)) ended.steps (register ended.stack 255)
 
 -- ---- where no call fails
 
--- No call fails, the slots stand as at the start, and the file of this name is there; so many pieces of it are this text.
+-- the host with a text more on its standard output
+abbrev pub with_output : HostModel → List ℕ → HostModel
+with_output m text = record m { output = m.output ++ text }
+
+-- No call fails, the slots stand as at the start, and the file of this name is there; so many pieces of it are this
+-- text.
 pub record IsThere (name : Word) (most : ℕ) (text : List ℕ) (m : HostModel) : Type 0 where
   pub well : m.failing ≡ []
   pub slots : HasStartSlots m

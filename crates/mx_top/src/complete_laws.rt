@@ -1,7 +1,8 @@
 //! Laws that the program is done with what is right: where each call is answered, a source that means
 //! something is run, or assembled, to its end.
 
-ghost use Rattle.std.specs.Prelude.{◌≡◌, List, ℕ, [], Some, Ok, Err, true, false};
+ghost use Rattle.std.specs.Prelude.{◌≡◌, List, ℕ, [], ◌∷◌, Some, Ok, Err, true, false};
+ghost use Rattle.std.specs.List.{concat};
 ghost use Rattle.mx_host.specs.HostModel.{HostModel, HasStartSlots, place_of};
 ghost use Rattle.mx_host.specs.HostAnswer.{with_file};
 ghost use Rattle.mx_mmo.specs.Image.{Image};
@@ -12,7 +13,8 @@ ghost use Rattle.mx_words.specs.declared.order.Command.{Command};
 ghost use Rattle.mx_words.specs.declared.order.Order.{Order};
 ghost use Rattle.mx_top.specs.Answers.{answered};
 ghost use Rattle.mx_top.specs.Arguments.{Word, word_at, arguments};
-ghost use Rattle.mx_top.specs.Complete.{HasObject, HasSource, IsHalted, IsOrdered, IsStarted, IsSummed, IsThere, IsWritten, ObjectIsThere, SourceIsThere};
+ghost use Rattle.mx_top.specs.Complete.{HasObject, HasSource, IsGenerated, IsHalted, IsOrdered, IsPlayed, IsStarted};
+ghost use Rattle.mx_top.specs.Complete.{IsThere, IsWritten, ObjectIsThere, SourceIsThere, with_output};
 ghost use Rattle.mx_top.specs.Detour.{answer_uncounted};
 ghost use Rattle.mx_top.specs.Dump.{dump_lines};
 ghost use Rattle.mx_top.specs.Lines.{lines_put};
@@ -57,7 +59,7 @@ pub fn objects_that_halt_are_done()
 {}
 
 /// With the console, where the machine starts, the program answers what the session comes to, and leaves
-/// what the session, the dump and the message leave.
+/// the host as the session does, behind which the dump and the message may write.
 #[tactic(auto, using(crate::proofs::Completed::completed))]
 pub fn consoles_answer_as_sessions()
     ensures source { (kind : MachineKind) (words : List Word) (o : Order) (image : Image) (s : State)
@@ -68,6 +70,14 @@ pub fn consoles_answer_as_sessions()
         (m begun : HostModel) → HasObject words o image m begun → o.interactive ≡ true →
         IsStarted kind words o image s →
         product kind words m ≡ with_message (dumped o.dump (session_ran kind o.steps s begun)) }
+    ensures plain_source { (kind : MachineKind) (words : List Word) (o : Order) (image : Image) (outcome : Outcome)
+        (ended : State) (m begun after : HostModel) → HasSource words o image m begun →
+        IsPlayed kind words o image begun outcome ended after → o.dump ≡ false →
+        product kind words m ≡ with_message (answered outcome after) }
+    ensures plain_object { (kind : MachineKind) (words : List Word) (o : Order) (image : Image) (outcome : Outcome)
+        (ended : State) (m begun after : HostModel) → HasObject words o image m begun →
+        IsPlayed kind words o image begun outcome ended after → o.dump ≡ false →
+        product kind words m ≡ with_message (answered outcome after) }
 {}
 
 /// A source that means an image is accepted: an object is made of it. Where the words order to assemble a
@@ -89,11 +99,16 @@ pub fn sources_that_mean_are_assembled()
 {}
 
 /// A source that is generated is done where it means an image, its machine starts and halts within 2^26
-/// steps, and the line that tells what came of it is written.
-#[tactic(auto, using(crate::proofs::Completed::completed))]
+/// steps, and the line that tells what came of it is written. Where no call fails and the slots stand as
+/// at the start, that line is written.
+#[tactic(auto, using(crate::proofs::Completed::completed, crate::proofs::CompletedFiles::filed))]
 pub fn generated_sources_are_done()
-    ensures { (kind : MachineKind) (words : List Word) (m after : HostModel) →
-        IsSummed kind words m after → product kind words m ≡ answered (Outcome.Done 0) after }
+    ensures written { (kind : MachineKind) (words : List Word) (m left after : HostModel) (line : List ℕ) →
+        IsGenerated kind words m left line → lines_put (line ∷ []) left ≡ (true, after) →
+        product kind words m ≡ answered (Outcome.Done 0) after }
+    ensures steady { (kind : MachineKind) (words : List Word) (m left : HostModel) (line : List ℕ) →
+        m.failing ≡ [] → HasStartSlots m → IsGenerated kind words m left line →
+        answer_uncounted (product kind words m) ≡ answered (Outcome.Done 0) (without_count (with_output left line)) }
 {}
 
 /// Where no call fails and the slots stand as at the start, a file that is there is read, and nothing but
@@ -109,12 +124,12 @@ pub fn sources_that_are_there_are_run()
         answer_uncounted (with_message (image_run kind o (arguments words o) image m)) }
     ensures plain { (kind : MachineKind) (words : List Word) (o : Order) (image : Image) (status : ℕ) (ended : State)
         (m after : HostModel) → SourceIsThere words o image m → IsHalted kind words o image m status ended after →
-        o.dump ≡ false → answer_uncounted (product kind words m) ≡ answered (Outcome.Done status) (without_count after) }
+        o.dump ≡ false →
+        answer_uncounted (product kind words m) ≡ answered (Outcome.Done status) (without_count after) }
     ensures dumped { (kind : MachineKind) (words : List Word) (o : Order) (image : Image) (status : ℕ) (ended : State)
-        (m after last : HostModel) → SourceIsThere words o image m →
-        IsHalted kind words o image m status ended after → o.dump ≡ true →
-        lines_put (dump_lines ended) after ≡ (true, last) →
-        answer_uncounted (product kind words m) ≡ answered (Outcome.Done status) (without_count last) }
+        (m after : HostModel) → SourceIsThere words o image m →
+        IsHalted kind words o image m status ended after → o.dump ≡ true → answer_uncounted (product kind words m) ≡
+        answered (Outcome.Done status) (without_count (with_output after (concat (dump_lines ended)))) }
 {}
 
 /// An object that is there, and that is loaded, is run in the same way.
@@ -125,12 +140,12 @@ pub fn objects_that_are_there_are_run()
         answer_uncounted (with_message (image_run kind o (arguments words o) image m)) }
     ensures plain { (kind : MachineKind) (words : List Word) (o : Order) (image : Image) (status : ℕ) (ended : State)
         (m after : HostModel) → ObjectIsThere words o image m → IsHalted kind words o image m status ended after →
-        o.dump ≡ false → answer_uncounted (product kind words m) ≡ answered (Outcome.Done status) (without_count after) }
+        o.dump ≡ false →
+        answer_uncounted (product kind words m) ≡ answered (Outcome.Done status) (without_count after) }
     ensures dumped { (kind : MachineKind) (words : List Word) (o : Order) (image : Image) (status : ℕ) (ended : State)
-        (m after last : HostModel) → ObjectIsThere words o image m →
-        IsHalted kind words o image m status ended after → o.dump ≡ true →
-        lines_put (dump_lines ended) after ≡ (true, last) →
-        answer_uncounted (product kind words m) ≡ answered (Outcome.Done status) (without_count last) }
+        (m after : HostModel) → ObjectIsThere words o image m →
+        IsHalted kind words o image m status ended after → o.dump ≡ true → answer_uncounted (product kind words m) ≡
+        answered (Outcome.Done status) (without_count (with_output after (concat (dump_lines ended)))) }
 {}
 
 /// Where no call fails and the slots stand as at the start, a source that is there is assembled: the
@@ -139,8 +154,8 @@ pub fn objects_that_are_there_are_run()
 /// is done, and there is no message.
 #[tactic(auto, using(crate::proofs::CompletedFiles::filed))]
 pub fn sources_that_are_there_are_assembled()
-    ensures means { (kind : MachineKind) (words : List Word) (o : Order) (text : List ℕ) (image : Image) (m : HostModel) →
-        IsOrdered words o Command.Asm → IsThere (word_at words o.file) source_pieces text m →
+    ensures means { (kind : MachineKind) (words : List Word) (o : Order) (text : List ℕ) (image : Image)
+        (m : HostModel) → IsOrdered words o Command.Asm → IsThere (word_at words o.file) source_pieces text m →
         source_meaning text ≡ Ok image → answer_uncounted (product kind words m) ≡ answered (Outcome.Done 0)
         (without_count (with_file m (word_at words o.rest) (source_object text).0)) }
     ensures told { (kind : MachineKind) (words : List Word) (o : Order) (text : List ℕ) (m : HostModel) →
