@@ -18,6 +18,8 @@ mod sessions;
 mod specials;
 mod steps;
 mod subjects;
+#[cfg(test)]
+mod tests;
 mod texts;
 mod windows;
 

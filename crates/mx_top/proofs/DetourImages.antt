@@ -5,7 +5,6 @@ use Rattle.mx_word.specs.Ranges.{AreBytes}
 use Rattle.mx_mmo.specs.Image.{Image}
 use Rattle.mx_mmo.specs.Meaning.{meaning}
 use Rattle.mx_mmo.specs.Spelling.{written, ending}
-use Rattle.mx_mmo.specs.Whole.{object_of}
 use Rattle.mx_mmo.specs.declared.items.Item.{Item}
 use Rattle.mx_mmo.specs.declared.items.Object.{Object}
 use Rattle.mx_mmo.proofs.Written.{written-read}

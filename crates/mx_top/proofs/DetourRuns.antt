@@ -25,7 +25,7 @@ use Rattle.mx_words.specs.Values.{is_option}
 use Rattle.mx_words.specs.declared.order.Command.TheVariants.{Run, Sim}
 use Rattle.mx_words.specs.declared.order.Order.{Order}
 use Rattle.mx_words.specs.declared.order.WordsFault.{WordsFault}
-use Rattle.mx_top.specs.Answers.{Answer, answered, plainly}
+use Rattle.mx_top.specs.Answers.{answered, plainly}
 use Rattle.mx_top.specs.Arguments.{Word, word_at, arguments, program_name}
 use Rattle.mx_top.specs.Detour.{answer_uncounted, asm_words, run_words, sim_words, AreOrdered, IsAssembled, LoadsAlike}
 use Rattle.mx_top.specs.Sources.{source_meaning}

@@ -1,5 +1,5 @@
 -- Where no call fails, a text that goes out in pieces comes to the same as one that goes out in one write.
-use Rattle.std.proofs.Common.{◌≡◌, ℕ, suc, zero, ◌+◌, ◌-◌, List, [], Bool, true, false, length, take, drop, refl, sym, ◌∙◌, ap, Ok, Err}
+use Rattle.std.proofs.Common.{◌≡◌, ℕ, suc, zero, ◌+◌, List, [], Bool, true, false, length, take, drop, refl, sym, ◌∙◌, ap, Ok, Err}
 use Rattle.std.specs.Prelude.{Result}
 use Rattle.mx_host.specs.HostModel.{HostModel}
 use Rattle.mx_host.specs.HostAnswer.{Then, write_answer}

@@ -1,5 +1,5 @@
 -- What the program does over the list machine does not depend on the size of the ring.
-use Rattle.std.proofs.Common.{◌≡◌, ℕ, Bool, List, Option, None, Some, Result, Ok, Err, refl, ap, sym, ◌∙◌}
+use Rattle.std.proofs.Common.{◌≡◌, ℕ, List, Result, Ok, Err, refl, ap, sym, ◌∙◌}
 use Rattle.mx_host.specs.HostModel.{HostModel}
 use Rattle.mx_host.specs.HostAnswer.{Then}
 use Rattle.mx_mmo.specs.Image.{Image}
@@ -10,7 +10,6 @@ use Rattle.mx_words.specs.Orders.{order_of}
 use Rattle.mx_words.specs.declared.order.Command.{Command}
 use Rattle.mx_words.specs.declared.order.Command.TheVariants.{Run, Asm, Sim, Gen}
 use Rattle.mx_words.specs.declared.order.Order.{Order}
-use Rattle.mx_words.specs.declared.order.WordsFault.{WordsFault}
 use Rattle.mx_top.specs.Arguments.{Word, word_at, arguments}
 use Rattle.mx_top.specs.Generator.{generated}
 use Rattle.mx_top.specs.Product.{after_image, after_source, after_loading, after_object, generated_run, source_generated, ordered, carried_out, with_message, product}

@@ -1,11 +1,10 @@
-use Rattle.std.proofs.Common.{◌≡◌, ◌≢◌, false, refl, subst, sym, ap, ◌∙◌}
+use Rattle.std.proofs.Common.{◌≡◌, false, refl, subst, sym, ap}
 use Rattle.std.specs.Prelude.{IsTrue}
 use Rattle.mx_host.proofs.Keeping.{keeps-then}
 use Rattle.mx_host.specs.HostModel.{contents}
 use Rattle.mx_con.specs.declared.end.SessionEnd.TheVariants as sitting
 use Rattle.mx_core.specs.Bounds.{as_list_state}
 use Rattle.mx_core.specs.Kept.{Kept, state_of}
-use Rattle.mx_run.specs.FlagMaps.{flags_at}
 use Rattle.mx_top.specs.Runs.{dumped, session_outcome}
 use Rattle.mx_top.specs.declared.outcome.Outcome.TheVariants.{HostFault}
 use Rattle.mx_word.proofs.Fronts.{front-self}
