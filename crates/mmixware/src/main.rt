@@ -12,6 +12,7 @@ use crate::help::{HELP, VERSION, answered};
 use crate::real::RealHost;
 use mx_top::mmixware;
 use std::env;
+use std::io::ErrorKind;
 use std::process::ExitCode;
 
 /// The statuses of what goes wrong before the program's own work.
@@ -21,8 +22,12 @@ const OUT_OF_MEMORY: u8 = 71;
 
 fn main(rt: HostRuntime) -> ExitCode {
     let alloc = rt.alloc();
-    let Ok(args) = env::args(&rt) else {
-        return ExitCode::from(FAULTY_WORDS);
+    let args = match env::args(&rt) {
+        Ok(args) => args,
+        Err(fault) if fault.kind() == ErrorKind::OutOfMemory => {
+            return ExitCode::from(OUT_OF_MEMORY);
+        }
+        Err(_) => return ExitCode::from(FAULTY_WORDS),
     };
     let Ok(all) = args.collect::<Vec<String>>(alloc) else {
         return ExitCode::from(OUT_OF_MEMORY);
