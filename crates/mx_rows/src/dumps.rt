@@ -62,11 +62,17 @@ fn shows(alloc: Global, source: &str, line: &str) -> Result<bool, Fail> {
     let mut host = host(alloc, b"a.mms", source.as_bytes(), b"", &[])?;
     let words = crate::rows::words(alloc, &["run", "--dump", "a.mms"])?;
     mx_top::mmixware(alloc, words.as_slice(), &mut host);
-    Ok(
-        host.output()
-            .windows(line.len())
-            .any(|part| part == line.as_bytes()),
-    )
+    Ok(holds(host.output(), line.as_bytes()))
+}
+
+/// Whether a part stands in a text.
+fn holds(text: &[u8], part: &[u8]) -> bool {
+    for at in 0..text.len() {
+        if text[at..].starts_with(part) {
+            return true;
+        }
+    }
+    false
 }
 
 #[test]
