@@ -1,12 +1,9 @@
 -- The definitions on worked rows.
 use Rattle.std.proofs.Common.{◌≡◌, [], ◌∷◌, ◌++◌, Some, None, codes, refl}
 use Rattle.mx_line.specs.declared.faults.LineFault.TheVariants.{BadLabel, NoOpcode}
-use Rattle.mx_line.specs.declared.plain_lines.Plain.TheVariants.{Byte}
 use Rattle.mx_line.specs.Pieces.{split}
 use Rattle.mx_line.specs.Lines.{lines_of, size_up_to}
 use Rattle.mx_line.specs.Fields.{field_from}
-use Rattle.mx_line.specs.Numbers.{numbers_of}
-use Rattle.mx_line.specs.Plain.{plain_of, span}
 use Rattle.mx_line.specs.Cutting.{statement_of, cuts_within}
 use Rattle.mx_line.specs.Source.{items_from, statements_of}
 use Rattle.mx_line.specs.Source.Item.{statement, faulty}
@@ -19,14 +16,6 @@ lines-row = refl
 -- no newline after the last line counts
 size-row : size_up_to 3 (codes "ab" ∷ [] ∷ codes "c" ∷ []) ≡ 5
 size-row = refl
-
-plain-row : plain_of (codes "Text BYTE 104,105,10,0") ≡ Some (Byte (Some (span 0 (codes "Text"))) (span 10 (codes "104,105,10,0")))
-unfolding split
-plain-row = refl
-
-numbers-row : numbers_of (codes "104,105,10,0") ≡ 104 ∷ 105 ∷ 10 ∷ 0 ∷ []
-unfolding split
-numbers-row = refl
 
 -- two statements on a line, and a label with no opcode
 statements-row : statements_of (codes "a SET 1;b SET 2 ;c") ≡

@@ -10,7 +10,7 @@ use Rattle.mx_line.specs.declared.faults.LineFault.TheVariants.{TooLong, BadLabe
 use Rattle.mx_line.specs.Bytes.{is_blank, is_name_byte, run, past}
 use Rattle.mx_line.specs.Fields.{field_length, ends_here}
 use Rattle.mx_line.specs.Fields.Within.{nothing}
-use Rattle.mx_line.specs.Plain.{span}
+use Rattle.mx_line.specs.Spans.{span}
 use Rattle.mx_line.specs.Cutting.{next_from, next_after, with_field, operands_at, no_opcode, opcode_at, operation_at, ends_label, is_bad_local, labelled_at, statement_at, is_too_long, statement_of}
 use Rattle.mx_line.specs.Statements.{Found, begins, Run, Next, Operands, Operation, Statement, StatementOf}
 use Rattle.mx_line.proofs.RunLaws.{run-is, run-only, past-only}

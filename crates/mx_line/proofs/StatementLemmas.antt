@@ -8,7 +8,7 @@ use Rattle.mx_line.specs.declared.faults.LineFault.{LineFault}
 use Rattle.mx_line.specs.declared.cutter.Cut.{Cut}
 use Rattle.mx_line.specs.Bytes.{is_blank, is_name_byte, run, past}
 use Rattle.mx_line.specs.Fields.{ends_here, field_length}
-use Rattle.mx_line.specs.Plain.{span}
+use Rattle.mx_line.specs.Spans.{span}
 use Rattle.mx_line.specs.Cutting.{next_from, with_field, operands_at, no_opcode, opcode_at, operation_at, ends_label, is_bad_local, labelled_at, statement_at, is_too_long, statement_of, list_with, cuts_within, cuts_from, LabelBefore, CutInOrder}
 use Rattle.mx_line.proofs.KindLemmas.{run-whole, run-length}
 use Rattle.mx_line.proofs.FieldLemmas.{field_length-few}

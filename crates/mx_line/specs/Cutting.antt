@@ -7,7 +7,7 @@ use Rattle.mx_line.specs.declared.faults.LineFault.TheVariants.{TooLong, BadLabe
 use Rattle.mx_line.specs.declared.cutter.Cut.{Cut}
 use Rattle.mx_line.specs.Bytes.{is_blank, is_digit, is_name_byte, run, past}
 use Rattle.mx_line.specs.Fields.{ends_here, field_length}
-use Rattle.mx_line.specs.Plain.{span}
+use Rattle.mx_line.specs.Spans.{span}
 
 -- Each definition below is given a text and the place in the line at which the text stands.
 

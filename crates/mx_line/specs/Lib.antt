@@ -3,9 +3,7 @@ pub mod Cutting
 pub mod Faults
 pub mod Fields
 pub mod Lines
-pub mod Numbers
 pub mod Pieces
-pub mod Plain
 pub mod Source
 pub mod Spans
 pub mod Statements

@@ -8,7 +8,7 @@ use Rattle.mx_line.specs.declared.faults.LineFault.TheVariants.{TooLong, BadLabe
 use Rattle.mx_line.specs.declared.cutter.Cut.{Cut}
 use Rattle.mx_line.specs.Bytes.{is_blank, is_name_byte}
 use Rattle.mx_line.specs.Fields.{ends_field, ends_here}
-use Rattle.mx_line.specs.Plain.{span}
+use Rattle.mx_line.specs.Spans.{span}
 use Rattle.mx_line.specs.Cutting.{is_bad_local, ends_label}
 
 -- what stands at a place: a statement, nothing more, or a fault

@@ -37,38 +37,3 @@ pub fn cut(at: u8, text: &[u8]) -> (&[u8], Option<&[u8]>)
         (&text[..count], Some(&text[count + 1..]))
     }
 }
-
-/// The two pieces of a text that has exactly two.
-#[tactic(auto, using(crate::proofs::PieceLemmas::counting))]
-pub fn two(at: u8, text: &[u8]) -> Option<(&[u8], &[u8])>
-    ensures pieces { option_map (λ pair. (pair.0.now, pair.1.now)) result ≡ spec.two_of (spec.split at text.now) }
-    ensures whole { IfSome result (λ pair. length pair.0.now + length pair.1.now + 1 ≡ length text.now) }
-{
-    let (first, rest) = cut(at, text);
-    match rest {
-        None => None,
-        Some(rest) => {
-            let (second, others) = cut(at, rest);
-            match others {
-                None => Some((first, second)),
-                Some(_) => None,
-            }
-        }
-    }
-}
-
-/// The three pieces of a text that has exactly three.
-#[tactic(auto, using(crate::proofs::PieceLemmas::counting))]
-pub fn three(at: u8, text: &[u8]) -> Option<(&[u8], &[u8], &[u8])>
-    ensures pieces { option_map (λ three. (three.0.now, three.1.now, three.2.now)) result ≡ spec.three_of (spec.split at text.now) }
-    ensures whole { IfSome result (λ three. length three.0.now + length three.1.now + length three.2.now + 2 ≡ length text.now) }
-{
-    let (first, rest) = cut(at, text);
-    match rest {
-        None => None,
-        Some(rest) => match two(at, rest) {
-            None => None,
-            Some((second, third)) => Some((first, second, third)),
-        },
-    }
-}
