@@ -10,9 +10,9 @@ use Rattle.mx_core.specs.declared.changes.SetFault.{SetFault}
 use Rattle.mx_run.specs.FlagMaps.{with_flags}
 use Rattle.mx_run.specs.Runs.{FlagsOf}
 use Rattle.mx_run.specs.WildRuns.{window_machine}
-use Rattle.mx_con.specs.declared.command.Breaks.{Breaks}
-use Rattle.mx_con.specs.declared.command.Command.TheVariants as command
-use Rattle.mx_con.specs.declared.command.Subject.{Subject}
+use Rattle.mx_cmd.specs.declared.command.Breaks.{Breaks}
+use Rattle.mx_cmd.specs.declared.command.Command.TheVariants as command
+use Rattle.mx_cmd.specs.declared.command.Subject.{Subject}
 use Rattle.mx_con.specs.declared.judgement.Bad.{Bad}
 use Rattle.mx_con.specs.declared.judgement.Bad.TheVariants.{BadNumber, CannotChange}
 use Rattle.mx_con.specs.ConsoleTexts.{state_text}

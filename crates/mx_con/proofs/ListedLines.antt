@@ -11,7 +11,7 @@ use Rattle.mx_con.specs.ConsoleTexts.{flag_text}
 use Rattle.mx_con.specs.HostLines.{line_write, lines_write}
 use Rattle.mx_con.specs.Replies.{octas_after, flag_lines, tetra_count}
 use Rattle.mx_con.specs.Subjects.{shown_line}
-use Rattle.mx_con.specs.declared.command.Subject.TheVariants.{Memory}
+use Rattle.mx_cmd.specs.declared.command.Subject.TheVariants.{Memory}
 use Rattle.mx_con.specs.declared.end.SessionEnd.{SessionEnd}
 use Rattle.mx_con.proofs.Outputs.{lines-at}
 

@@ -28,10 +28,10 @@ use Rattle.mx_con.specs.Judgement.{bad_text, bad_if, first_bad, is_outside, subj
 use Rattle.mx_con.specs.Replies.{Reply, reply, reply_in, reply_to, with_note, with_subject, changed_reply, octas_after, shown_after}
 use Rattle.mx_con.specs.Session.{Console, Done, wild, with_reply, replied, carried_out, judged, answered}
 use Rattle.mx_con.specs.Subjects.{subject_changed, subject_wild, shown_line}
-use Rattle.mx_con.specs.declared.command.Command.{Command}
-use Rattle.mx_con.specs.declared.command.Command.TheVariants as command
-use Rattle.mx_con.specs.declared.command.Subject.{Subject}
-use Rattle.mx_con.specs.declared.command.Subject.TheVariants.{Register, Global, Special, Memory}
+use Rattle.mx_cmd.specs.declared.command.Command.{Command}
+use Rattle.mx_cmd.specs.declared.command.Command.TheVariants as command
+use Rattle.mx_cmd.specs.declared.command.Subject.{Subject}
+use Rattle.mx_cmd.specs.declared.command.Subject.TheVariants.{Register, Global, Special, Memory}
 use Rattle.mx_con.specs.declared.judgement.Bad.{Bad}
 use Rattle.mx_con.specs.declared.judgement.Bad.TheVariants.{BadNumber, NoSuchRegister, NoMemoryShown, CannotChange}
 use Rattle.mx_con.proofs.Besides.{goes-listed, write-listed, write-untouched, line-beside}

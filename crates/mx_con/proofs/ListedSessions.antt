@@ -8,12 +8,12 @@ use Rattle.mx_run.specs.Runs.{FlagsOf}
 use Rattle.mx_run.specs.WildRuns.{window_machine, list_machine, HasWindow}
 use Rattle.mx_run.proofs.Areas.{has-window}
 use Rattle.mx_con.specs.Clauses.{output_of, as_list_console, as_list_progress, PartGoesAsList, SessionGoesAsList}
-use Rattle.mx_con.specs.Commands.{command_of}
+use Rattle.mx_cmd.specs.Commands.{command_of}
 use Rattle.mx_con.specs.HostLines.{Written, text_write, Reading, line_read, without_return}
 use Rattle.mx_con.specs.Judgement.{bad_text}
 use Rattle.mx_con.specs.Session.{Console, Progress, Done, on, over, wild, and_then, with_host, write_done, command_done, reading_done, line_of, prompt, asked, one_line, session_lines, most_input, at_start, ended_in, run_of, session}
-use Rattle.mx_con.specs.declared.command.Command.{Command}
-use Rattle.mx_con.specs.declared.command.Command.TheVariants as command
+use Rattle.mx_cmd.specs.declared.command.Command.{Command}
+use Rattle.mx_cmd.specs.declared.command.Command.TheVariants as command
 use Rattle.mx_con.specs.declared.end.SessionEnd.{SessionEnd}
 use Rattle.mx_con.specs.declared.end.SessionEnd.TheVariants.{Limit, Quit}
 use Rattle.mx_con.specs.declared.judgement.Bad.TheVariants.{UnknownCommand}

@@ -12,7 +12,7 @@ use Rattle.mx_con.specs.HostLines.{Written, written, text_write, line_write, aft
 use Rattle.mx_con.specs.Judgement.{command_bad, bad_text}
 use Rattle.mx_con.specs.Replies.{Reply, reply_to}
 use Rattle.mx_con.specs.Session.{Console, write_done, line_done, with_reply, carried_out, judged, answered}
-use Rattle.mx_con.specs.declared.command.Command.{Command}
+use Rattle.mx_cmd.specs.declared.command.Command.{Command}
 use Rattle.mx_con.specs.declared.judgement.Bad.{Bad}
 
 written-front : (xs : List ℕ) (w : Then (Result (Unit {0}) HostFault)) → IsFront xs w.1.output → IsFront xs (written w).1.output

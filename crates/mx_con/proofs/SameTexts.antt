@@ -13,8 +13,8 @@ use Rattle.mx_core.specs.declared.trace.Trace.{Trace}
 use Rattle.mx_core.proofs.Seen.{same-visible, same-register, same-special, same-octa}
 use Rattle.mx_con.specs.ConsoleTexts.{destination_text, write_text, trap_text, next_text, step_text, trace_text, state_text}
 use Rattle.mx_con.specs.Subjects.{octa_shown, octa_start, subject_text, subject_value, shown_line, subject_wild}
-use Rattle.mx_con.specs.declared.command.Subject.{Subject}
-use Rattle.mx_con.specs.declared.command.Subject.TheVariants.{Register, Global, Special, Memory}
+use Rattle.mx_cmd.specs.declared.command.Subject.{Subject}
+use Rattle.mx_cmd.specs.declared.command.Subject.TheVariants.{Register, Global, Special, Memory}
 use Rattle.mx_con.proofs.QuietTraces.{Outside}
 
 pub outside-area : (a : ℕ) → is_in_stack_segment a ≡ false → in_stack_area a ≡ false

@@ -9,13 +9,13 @@ use Rattle.mx_trap.proofs.Readings.{read-output}
 use Rattle.mx_core.specs.State.{State}
 use Rattle.mx_run.specs.Runs.{FlagsOf}
 use Rattle.mx_run.specs.WildRuns.{window_machine}
-use Rattle.mx_con.specs.declared.command.Command.{Command}
-use Rattle.mx_con.specs.declared.command.Command.TheVariants as command
+use Rattle.mx_cmd.specs.declared.command.Command.{Command}
+use Rattle.mx_cmd.specs.declared.command.Command.TheVariants as command
 use Rattle.mx_con.specs.declared.end.SessionEnd.{SessionEnd}
 use Rattle.mx_con.specs.declared.end.SessionEnd.TheVariants.{Limit}
 use Rattle.mx_con.specs.declared.judgement.Bad.TheVariants.{UnknownCommand}
 use Rattle.mx_con.specs.Clauses.{progress, output_of, session_output}
-use Rattle.mx_con.specs.Commands.{command_of}
+use Rattle.mx_cmd.specs.Commands.{command_of}
 use Rattle.mx_con.specs.HostLines.{text_write, input_slot, byte_of, byte_read, Growing, with_byte, grown, Reading, after_byte, line_read, without_return}
 use Rattle.mx_con.specs.Judgement.{bad_text}
 use Rattle.mx_con.specs.Session.{Console, Progress, Done, on, over, wild, and_then, with_host, steps_left, command_done, with_reading, reading_done, prompt, line_of, prompted, asked, one_line, session_lines, most_input, at_start, session_ended, ended_in, run_of, session}

@@ -12,14 +12,14 @@ use Rattle.mx_run.specs.Turns.{Turn, went_on, halts, stops, turn, turn_answer}
 use Rattle.mx_run.specs.WildRuns.{MachineKind, RunEnd, run_ended, run_wild, ends_wild, run_by}
 use Rattle.mx_run.specs.declared.end.End.{End}
 use Rattle.mx_run.specs.declared.end.End.TheVariants as ending
-use Rattle.mx_con.specs.Commands.{command_of}
+use Rattle.mx_cmd.specs.Commands.{command_of}
 use Rattle.mx_con.specs.ConsoleTexts.{trace_text}
 use Rattle.mx_con.specs.HostLines.{Written, written, text_write, line_write, after_write, lines_write, byte_of, byte_read, Growing, with_byte, grown, Reading, after_byte, line_read, without_return}
 use Rattle.mx_con.specs.Judgement.{bad_text, command_bad}
 use Rattle.mx_con.specs.Replies.{reply_to}
 use Rattle.mx_con.specs.Session.{Console, Progress, Done, on, over, wild, and_then, with_host, write_done, line_done, steps_left, with_run, after_turn, stepped, goes, break_lines, end_answer, end_done, after_run, one_run, run_on, runs, with_reply, replied, carried_out, line_ends_wild, good_reply, judged, answered, command_done, with_reading, reading_done, prompt, line_of, prompted, asked, one_line, session_lines, most_input, at_start, SessionRun, SessionEnded, session_ended, session_wild, ended_in, run_of, session}
-use Rattle.mx_con.specs.declared.command.Command.{Command}
-use Rattle.mx_con.specs.declared.command.Command.TheVariants as command
+use Rattle.mx_cmd.specs.declared.command.Command.{Command}
+use Rattle.mx_cmd.specs.declared.command.Command.TheVariants as command
 use Rattle.mx_con.specs.declared.end.SessionEnd.{SessionEnd}
 use Rattle.mx_con.specs.declared.end.SessionEnd.TheVariants.{Spent, Limit}
 use Rattle.mx_con.specs.declared.judgement.Bad.{Bad}

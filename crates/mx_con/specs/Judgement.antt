@@ -1,10 +1,10 @@
 -- Which commands are bad, and why: the first that applies of the reasons in their order.
 use Rattle.std.specs.Prelude.{ℕ, ◌+◌, ◌-◌, ◌*◌, ◌^◌, ◌==◌, ◌||◌, nat_le, nat_lt, Bool, true, false, if◌then◌else◌, List, codes, is_none, is_err, Option, None, Some}
 use Rattle.mx_core.specs.State.{State, global_start, is_in_stack_segment}
-use Rattle.mx_con.specs.declared.command.Command.{Command}
-use Rattle.mx_con.specs.declared.command.Command.TheVariants as command
-use Rattle.mx_con.specs.declared.command.Subject.{Subject}
-use Rattle.mx_con.specs.declared.command.Subject.TheVariants.{Register, Global, Special, Memory}
+use Rattle.mx_cmd.specs.declared.command.Command.{Command}
+use Rattle.mx_cmd.specs.declared.command.Command.TheVariants as command
+use Rattle.mx_cmd.specs.declared.command.Subject.{Subject}
+use Rattle.mx_cmd.specs.declared.command.Subject.TheVariants.{Register, Global, Special, Memory}
 use Rattle.mx_con.specs.declared.judgement.Bad.{Bad}
 use Rattle.mx_con.specs.declared.judgement.Bad.TheVariants.{UnknownCommand, BadNumber, NoSuchRegister, BadAddress, NoMemoryShown, CannotChange}
 use Rattle.mx_con.specs.Subjects.{subject_changed, subject_wild}

@@ -1,5 +1,3 @@
-pub mod Numerals
-pub mod Commands
 pub mod Subjects
 pub mod Judgement
 pub mod ConsoleTexts

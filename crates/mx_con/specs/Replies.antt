@@ -10,11 +10,11 @@ use Rattle.mx_core.specs.Traps.{with_touch}
 use Rattle.mx_run.specs.FlagMaps.{has_flag, with_flags}
 use Rattle.mx_run.specs.Runs.{FlagsOf}
 use Rattle.mx_run.specs.declared.flags.Flags.{Flags}
-use Rattle.mx_con.specs.declared.command.Breaks.{Breaks}
-use Rattle.mx_con.specs.declared.command.Command.{Command}
-use Rattle.mx_con.specs.declared.command.Command.TheVariants as command
-use Rattle.mx_con.specs.declared.command.Subject.{Subject}
-use Rattle.mx_con.specs.declared.command.Subject.TheVariants.{Register, Global, Special, Memory}
+use Rattle.mx_cmd.specs.declared.command.Breaks.{Breaks}
+use Rattle.mx_cmd.specs.declared.command.Command.{Command}
+use Rattle.mx_cmd.specs.declared.command.Command.TheVariants as command
+use Rattle.mx_cmd.specs.declared.command.Subject.{Subject}
+use Rattle.mx_cmd.specs.declared.command.Subject.TheVariants.{Register, Global, Special, Memory}
 use Rattle.mx_con.specs.ConsoleTexts.{state_text, flag_text}
 use Rattle.mx_con.specs.Judgement.{command_wild}
 use Rattle.mx_con.specs.Subjects.{octa_start, shown_line, subject_changed}

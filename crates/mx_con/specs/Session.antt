@@ -12,13 +12,13 @@ use Rattle.mx_run.specs.declared.end.End.{End}
 use Rattle.mx_run.specs.declared.end.End.TheVariants as ending
 use Rattle.mx_run.specs.declared.turn_answer.TurnAnswer.{TurnAnswer}
 use Rattle.mx_run.specs.declared.turn_answer.TurnAnswer.TheVariants as answer
-use Rattle.mx_con.specs.declared.command.Command.{Command}
-use Rattle.mx_con.specs.declared.command.Command.TheVariants.{Step, Continue, Quit as QuitCommand}
+use Rattle.mx_cmd.specs.declared.command.Command.{Command}
+use Rattle.mx_cmd.specs.declared.command.Command.TheVariants.{Step, Continue, Quit as QuitCommand}
 use Rattle.mx_con.specs.declared.end.SessionEnd.{SessionEnd}
 use Rattle.mx_con.specs.declared.end.SessionEnd.TheVariants.{Halted, Stopped, Spent, Quit, Limit, OutOfMemory}
 use Rattle.mx_con.specs.declared.judgement.Bad.{Bad}
 use Rattle.mx_con.specs.declared.judgement.Bad.TheVariants.{UnknownCommand}
-use Rattle.mx_con.specs.Commands.{command_of}
+use Rattle.mx_cmd.specs.Commands.{command_of}
 use Rattle.mx_con.specs.ConsoleTexts.{trace_text, break_text}
 use Rattle.mx_con.specs.HostLines.{Written, text_write, line_write, lines_write, Reading, line_read, without_return}
 use Rattle.mx_con.specs.Judgement.{bad_text, command_bad, command_wild}

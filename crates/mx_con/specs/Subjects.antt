@@ -1,6 +1,5 @@
 -- What lines show and change: registers, special registers and octas of memory, with their texts and values.
-use Rattle.std.specs.Prelude.{ℕ, ◌*◌, ◌/◌, ◌==◌, ◌<◌, ◌^◌, Bool, false, if◌then◌else◌, List, [], ◌++◌, codes, decimal, slice_index_or, Option, None, Some, unwrap_or, Result}
-use Rattle.mx_ops.specs.Predefined.{special_registers}
+use Rattle.std.specs.Prelude.{ℕ, ◌*◌, ◌/◌, ◌==◌, ◌<◌, ◌^◌, Bool, false, if◌then◌else◌, List, [], ◌++◌, codes, decimal, Option, None, Some, unwrap_or, Result}
 use Rattle.mx_ring.specs.Stack.{register}
 use Rattle.mx_spec.specs.SpecialRegisters.{rS}
 use Rattle.mx_text.specs.Numbers.{hex_text, shown_text}
@@ -8,8 +7,9 @@ use Rattle.mx_text.specs.declared.numbers.Form.{Form}
 use Rattle.mx_core.specs.Changes.{register_changed, special_changed, octa_changed}
 use Rattle.mx_core.specs.State.{State, octa, special_register, is_in_stack_segment, is_negative}
 use Rattle.mx_core.specs.declared.changes.SetFault.{SetFault}
-use Rattle.mx_con.specs.declared.command.Subject.{Subject}
-use Rattle.mx_con.specs.declared.command.Subject.TheVariants.{Register, Global, Special, Memory}
+use Rattle.mx_cmd.specs.Specials.{special_name}
+use Rattle.mx_cmd.specs.declared.command.Subject.{Subject}
+use Rattle.mx_cmd.specs.declared.command.Subject.TheVariants.{Register, Global, Special, Memory}
 
 -- its number is that of a register, its code that of a special register, its address one of an octa
 abbrev pub IsSound : Subject → Type 0
@@ -25,10 +25,6 @@ octa_shown s a = if is_negative a then 0 else octa s a
 -- an octa's own address
 abbrev pub octa_start : ℕ → ℕ
 octa_start a = a / 8 * 8
-
--- the name of a special register with the r
-unfoldable pub special_name : ℕ → List ℕ
-special_name code = slice_index_or special_registers code []
 
 abbrev pub subject_text : Subject → List ℕ
 subject_text (Register n) = codes "$" ++ decimal (unwrap_or n 0)

@@ -8,7 +8,7 @@ ghost use Rattle.mx_run.specs.FlagMaps.{flags_at, with_flags};
 ghost use Rattle.mx_con.specs.Replies as spec;
 ghost use Rattle.mx_con.specs.Subjects.{IsSound, subject_changed};
 
-use crate::command::{Breaks, Subject};
+use mx_cmd::{Breaks, Subject};
 use crate::subjects::set_subject;
 use mx_core::SetFault;
 use mx_run::{Flags, Runner};

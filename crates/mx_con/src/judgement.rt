@@ -5,7 +5,7 @@ ghost use Rattle.mx_core.specs.Kept.{state_of};
 ghost use Rattle.mx_con.specs.Judgement as spec;
 ghost use Rattle.mx_con.specs.Subjects.{IsSound};
 
-use crate::command::Subject;
+use mx_cmd::Subject;
 use mx_core::Machine;
 
 /// Why a line is bad: it is no command; a number is out of range; there is no such register; an address

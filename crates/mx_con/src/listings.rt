@@ -11,7 +11,7 @@ ghost use Rattle.mx_con.specs.Subjects as subjects;
 ghost use Rattle.mx_con.specs.Replies as spec;
 
 use crate::SessionEnd;
-use crate::command::Subject;
+use mx_cmd::Subject;
 use crate::host_lines::write_line;
 use crate::subjects::shown_line;
 use crate::texts::flag_line;

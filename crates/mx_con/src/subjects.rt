@@ -5,8 +5,8 @@ ghost use Rattle.mx_core.specs.Changed.{Changes};
 ghost use Rattle.mx_core.specs.Kept.{state_of};
 ghost use Rattle.mx_con.specs.Subjects as spec;
 
-use crate::command::Subject;
-use crate::specials::special_name;
+use mx_cmd::Subject;
+use mx_cmd::special_name;
 use crate::texts::{add_decimal, add_hex, octa_at};
 use mx_core::{Machine, SetFault};
 use mx_text::{Form, shown};

@@ -17,7 +17,6 @@ pub mod SameDumps
 pub mod SameRings
 pub mod SessionRuns
 pub mod Sources
-pub mod SpecialNames
 pub mod StartedMachines
 pub mod Summed
 pub mod TakenLines

@@ -1,10 +1,10 @@
 -- The dump: the special registers, the general registers, and all octas of memory that are not 0.
-use Rattle.std.specs.Prelude.{ℕ, zero, suc, ◌*◌, ◌^◌, ◌==◌, ◌&&◌, ◌||◌, not, nat_lt, nat_le, Bool, if◌then◌else◌, List, [], ◌∷◌, ◌++◌, codes, decimal, slice_get, unwrap_or}
+use Rattle.std.specs.Prelude.{ℕ, zero, suc, ◌*◌, ◌^◌, ◌==◌, ◌&&◌, ◌||◌, not, nat_lt, nat_le, Bool, if◌then◌else◌, List, [], ◌∷◌, ◌++◌, codes, decimal}
 use Rattle.std.specs.List.{flat_map, range_with_len}
-use Rattle.mx_ops.specs.Predefined.{special_registers}
 use Rattle.mx_ring.specs.Stack.{register, in_stack_area}
 use Rattle.mx_spec.specs.SpecialRegisters.{rS}
 use Rattle.mx_text.specs.Numbers.{hex_text}
+use Rattle.mx_cmd.specs.Specials.{special_name}
 use Rattle.mx_core.specs.State.{State, special_register, global_start, locals, octa}
 
 abbrev pub Line : Type 0
@@ -16,10 +16,6 @@ line_if holds line = if holds then line ∷ [] else []
 
 abbrev pub named_octa : List ℕ → ℕ → Line
 named_octa name value = name ++ codes "=" ++ hex_text value ++ codes "\n"
-
--- the name of the special register of a code
-abbrev pub special_name : ℕ → List ℕ
-special_name code = unwrap_or (slice_get special_registers code) []
 
 -- the special registers in the order of their codes; rS is shown where something was touched
 abbrev pub is_special_shown : State → ℕ → Bool

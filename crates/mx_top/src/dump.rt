@@ -14,6 +14,7 @@ ghost use Rattle.mx_top.specs.Shown.{IsNextShown, shown_octa};
 
 use crate::lines::put_line;
 use crate::message::add_decimal;
+use mx_cmd::special_name;
 use mx_core::Machine;
 use mx_host::Host;
 use mx_text::octa_hex;
@@ -29,22 +30,6 @@ const AREA: u64 = 0x6000_0000_0000_0000;
 const AREA_END: u64 = 0x6000_0000_0080_0000;
 
 const END: u64 = 1 << 63;
-
-/// The names of the special registers by their codes.
-static NAMES: [&str; 32] = [
-    "rB", "rD", "rE", "rH", "rJ", "rM", "rR", "rBB", "rC", "rN", "rO", "rS", "rI", "rT", "rTT",
-    "rK", "rQ", "rU", "rV", "rG", "rL", "rA", "rF", "rP", "rW", "rX", "rY", "rZ", "rWW", "rXX",
-    "rYY", "rZZ",
-];
-
-/// The name of the special register of a code.
-#[tactic(auto, using(crate::proofs::SpecialNames::naming))]
-fn special_name(code: u8) -> &'static str
-    requires { code < 32 }
-    ensures { result.now ≡ spec.special_name code }
-{
-    NAMES.as_slice()[usize::from(code)]
-}
 
 /// A name and an octa as a line.
 fn named_octa(name: Bytes, x: u64) -> Result<Bytes, NoMemory>

@@ -1,6 +1,6 @@
 use Rattle.std.proofs.Common.{◌≡◌, ◌∙◌, sym, ap, subst, IsTrue}
 use Rattle.mx_con.specs.Clauses.{console_of}
-use Rattle.mx_con.specs.Commands.{command_of}
+use Rattle.mx_cmd.specs.Commands.{command_of}
 use Rattle.mx_con.specs.HostLines.{without_return}
 use Rattle.mx_con.proofs.ListedSessions.{line-goes, line-ends}
 use Rattle.mx_con.proofs.sessions.one_line.Goals as goal

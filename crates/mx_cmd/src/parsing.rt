@@ -3,8 +3,8 @@
 ghost use Rattle.std.specs.Prelude.{◌≡◌, ◌<◌, [], ◌∷◌, length, Option, None, Some};
 ghost use Rattle.std.specs.Option.{option_map};
 ghost use Rattle.mx_word.specs.Kinds as kinds;
-ghost use Rattle.mx_con.specs.Commands as spec;
-ghost use Rattle.mx_con.specs.Numerals as numerals;
+ghost use Rattle.mx_cmd.specs.Commands as spec;
+ghost use Rattle.mx_cmd.specs.Numerals as numerals;
 
 use crate::command::{Breaks, Command, Subject};
 use crate::numerals::{

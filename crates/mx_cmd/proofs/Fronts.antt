@@ -3,7 +3,7 @@ use Rattle.std.proofs.Common.{◌≡◌, ℕ, ◌≤◌, List, length, take, Boo
 use Rattle.std.specs.List.{prefix_len}
 use Rattle.std.proofs.lemmas.List.{length-take}
 use Rattle.std.proofs.lemmas.List.Folds.{length-prefix_len}
-use Rattle.mx_con.specs.Numerals.{front}
+use Rattle.mx_cmd.specs.Numerals.{front}
 
 pub front-length : (kind : ℕ → Bool) (text : List ℕ) → length (front kind text) ≡ prefix_len kind text
 front-length kind text = let most = length-prefix_len kind text in omega (arith, length-take (prefix_len kind text) text)

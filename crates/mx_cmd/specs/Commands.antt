@@ -1,18 +1,18 @@
 -- The lines of the console: what each of them asks for (MMIXware, the part on MMIX-SIM, "Interaction"; the forms are
 -- this project's own).
-use Rattle.std.specs.Prelude.{ℕ, ◌==◌, ◌||◌, nat_lt, Bool, if◌then◌else◌, List, [], ◌∷◌, length, position, bytes_eq, Option, None, Some}
+use Rattle.std.specs.Prelude.{ℕ, ◌==◌, ◌||◌, nat_lt, Bool, if◌then◌else◌, List, [], ◌∷◌, length, Option, None, Some}
 use Rattle.std.specs.List.{list_any}
 use Rattle.std.specs.Option.{option_map}
 use Rattle.mx_word.specs.Kinds.{is_digit, is_letter}
-use Rattle.mx_ops.specs.Predefined.{special_registers}
 use Rattle.mx_text.specs.declared.numbers.Form.{Form}
 use Rattle.mx_text.specs.declared.numbers.Form.TheVariants.{Decimal, Hex, Chars}
-use Rattle.mx_con.specs.Numerals.{front, past, octa_written, value_of, address_in, past_address, address_of}
-use Rattle.mx_con.specs.declared.command.Breaks.{Breaks}
-use Rattle.mx_con.specs.declared.command.Command.{Command}
-use Rattle.mx_con.specs.declared.command.Command.TheVariants.{Step, Continue, Quit, State, Show, Change, ShowMore, GoTo, Break, Trace, Untrace, Flags}
-use Rattle.mx_con.specs.declared.command.Subject.{Subject}
-use Rattle.mx_con.specs.declared.command.Subject.TheVariants.{Register, Global, Special, Memory}
+use Rattle.mx_cmd.specs.Specials.{special_code}
+use Rattle.mx_cmd.specs.Numerals.{front, past, octa_written, value_of, address_in, past_address, address_of}
+use Rattle.mx_cmd.specs.declared.command.Breaks.{Breaks}
+use Rattle.mx_cmd.specs.declared.command.Command.{Command}
+use Rattle.mx_cmd.specs.declared.command.Command.TheVariants.{Step, Continue, Quit, State, Show, Change, ShowMore, GoTo, Break, Trace, Untrace, Flags}
+use Rattle.mx_cmd.specs.declared.command.Subject.{Subject}
+use Rattle.mx_cmd.specs.declared.command.Subject.TheVariants.{Register, Global, Special, Memory}
 
 -- a command on which nothing follows
 abbrev pub alone : Command → List ℕ → Option Command
@@ -43,10 +43,7 @@ abbrev pub global_command : List ℕ → List ℕ → Option Command
 global_command [] rest = None
 global_command (b ∷ bs) rest = on_subject (Global (octa_written 10 (b ∷ bs))) rest
 
--- `rNAME`, with a letter or more; the code of a special register by its name without the r
-unfoldable pub special_code : List ℕ → Option ℕ
-special_code name = position (λ r. bytes_eq r (114 ∷ name)) special_registers
-
+-- `rNAME`, with a letter or more
 abbrev pub special_command : List ℕ → List ℕ → Option Command
 special_command [] rest = None
 special_command (b ∷ bs) rest = on_subject (Special (special_code (b ∷ bs))) rest

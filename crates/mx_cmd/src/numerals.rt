@@ -3,7 +3,7 @@
 ghost use Rattle.std.specs.Prelude.{◌≡◌, ◌≤◌, ◌^◌, ℕ, length};
 ghost use Rattle.std.specs.List.{list_all};
 ghost use Rattle.mx_word.specs.Kinds as kinds;
-ghost use Rattle.mx_con.specs.Numerals as spec;
+ghost use Rattle.mx_cmd.specs.Numerals as spec;
 
 use mx_word::{is_digit, is_hexadecimal};
 

@@ -5,8 +5,7 @@ use Rattle.std.proofs.Math.ListN.{get_or-map}
 use Rattle.std.proofs.lemmas.List.{length-map}
 use Rattle.mx_ops.specs.Predefined.{special_registers}
 use Rattle.mx_ops.specs.Tables.{words}
-use Rattle.mx_con.specs.Commands.{special_code}
-use Rattle.mx_con.specs.Subjects.{special_name}
+use Rattle.mx_cmd.specs.Specials.{special_code, special_name}
 
 abbrev pub bare_names : List (List ℕ)
 bare_names = words (codes "B D E H J M R BB C N O S I T TT K Q U V G L A F P W X Y Z WW XX YY ZZ")
@@ -37,3 +36,16 @@ pub name-at : (xs : List (Bor (List ℕ))) (i code : ℕ) (d : Bor (List ℕ)) �
 unfolding special_name
 name-at xs i code d same nothing is =
     sym (get_or-map (λ s. s.now) xs i d) ∙ ap (λ l. get_or l i d.now) same ∙ ap (λ e. get_or special_registers i e) nothing ∙ ap (λ k. get_or special_registers k []) is
+
+-- the first, rS and the last
+row-first : special_name 0 ≡ codes "rB"
+unfolding special_name special_registers
+row-first = refl
+
+row-stack : special_name 11 ≡ codes "rS"
+unfolding special_name special_registers
+row-stack = refl
+
+row-last : special_name 31 ≡ codes "rZZ"
+unfolding special_name special_registers
+row-last = refl

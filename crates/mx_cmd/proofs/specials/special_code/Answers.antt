@@ -1,6 +1,6 @@
 use Rattle.std.proofs.Common.{map, ap, ◌∙◌, length, arith}
-use Rattle.mx_con.proofs.SpecialNames.{named}
-use Rattle.mx_con.proofs.specials.special_code.Goals as goal
+use Rattle.mx_cmd.proofs.SpecialNames.{named}
+use Rattle.mx_cmd.proofs.specials.special_code.Goals as goal
 
 pub overflow_cast-result : goal.overflow_cast-result
 overflow_cast-result c = let few = ap length c.as_slice.ensures in omega (arith, few, c.in-Some.ensures.range)

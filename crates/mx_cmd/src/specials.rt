@@ -1,8 +1,7 @@
 //! The special registers by their names.
 
 ghost use Rattle.std.specs.Prelude.{◌≡◌, ◌<◌, length, IfSome, position, bytes_eq};
-ghost use Rattle.mx_con.specs.Commands as spec;
-ghost use Rattle.mx_con.specs.Subjects as subjects;
+ghost use Rattle.mx_cmd.specs.Specials as spec;
 
 /// The names of the special registers, by their codes.
 static SPECIAL_NAMES: [&str; 32] = [
@@ -38,7 +37,7 @@ fn place(names: &[&str], name: &[u8]) -> Option<usize>
 /// The name of the special register with a code below 32, with the r.
 pub fn special_name(code: u8) -> &'static str
     requires { code < 32 }
-    ensures { result.now ≡ subjects.special_name code }
+    ensures { result.now ≡ spec.special_name code }
 {
     SPECIAL_NAMES.as_slice()[usize::from(code)]
 }

@@ -1,0 +1,16 @@
+//! The commands of the console: what its lines ask for.
+//!
+//! They are like those of MMIX-SIM (MMIXware, LNCS 1750, "Interaction"); their exact forms are this
+//! project's own.
+#![tactic(auto)]
+
+mod command;
+mod numerals;
+mod parsing;
+mod specials;
+#[cfg(test)]
+mod tests;
+
+pub use command::{Breaks, Command, Subject};
+pub use parsing::command_of;
+pub use specials::special_name;
