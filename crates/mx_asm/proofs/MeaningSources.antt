@@ -54,7 +54,7 @@ last-bytes ([] ∷ []) h = tt
 last-bytes ((b ∷ bs) ∷ []) h = h
 last-bytes (line ∷ next ∷ lines) h = (h.0, last-bytes (next ∷ lines) h.1)
 
-source-bytes : (source : List ℕ) → AreBytes source → AllByRecursion AreBytes (lines_of source)
+pub source-bytes : (source : List ℕ) → AreBytes source → AllByRecursion AreBytes (lines_of source)
 unfolding lines_of
 source-bytes source h = last-bytes (split 10 source) (split-bytes source h)
 
@@ -104,6 +104,21 @@ run-means source h none =
     let are = source-are-accepted source h parts.1 in
     let room : has_room (pieces statements) ≡ true = room-is statements are ∙ room-of (sights_of statements) (ap page_refusal (sym (accepted-all (sights_of statements) [] are.faultless)) ∙ parts.0) in
     source-means source h parts.1 ∙ ap (λ b. cond b (Ok (image statements)) (Err PagesFull)) room
+
+-- what is refused for its pages alone has too many of them
+no-room : (b : Bool) → is_some (Some 0) ≡ not b → b ≡ false
+no-room true h = absurd (cc)
+no-room false h = refl
+
+pub pages-mean : (source : List ℕ) (line : ℕ) → AreBytes source → refusal source ≡ None → page_refusal (accepted_in (source_entries source)) ≡ Some line →
+    meaning (assembled_source source).0 ≡ Err PagesFull
+pages-mean source line h none full =
+    let statements = statements_of_source source in
+    let are = source-are-accepted source h none in
+    let some : is_some (Some line) ≡ not (has_room (outlined (sights_of statements))) =
+    ap is_some (sym full) ∙ ap (λ ss. is_some (page_refusal ss)) (accepted-all (sights_of statements) [] are.faultless) ∙ page-refusal-is (sights_of statements) in
+    let room : has_room (pieces statements) ≡ false = room-is statements are ∙ no-room (has_room (outlined (sights_of statements))) some in
+    source-means source h none ∙ ap (λ b. cond b (Ok (image statements)) (Err PagesFull)) room
 
 -- ---- what is loaded of a source
 

@@ -1,22 +1,39 @@
--- The object of a source is loaded as what the source is run from.
-use Rattle.std.proofs.Common.{◌≡◌, ℕ, ◌^◌, ◌≤◌, List, ◌++◌, length, sym, ◌∙◌, ap, subst, Ok}
+-- The object of a source is loaded as what the source is run from; where that has too many pages, it is not loaded.
+use Rattle.std.proofs.Common.{◌≡◌, ℕ, ◌^◌, ◌≤◌, List, ◌++◌, length, sym, ◌∙◌, ap, subst, Some, None, Option, Result, Ok, Err, refl, cond, Bool, true, false}
 use Rattle.mx_word.specs.declared.symbols.Symbol.{Symbol}
 use Rattle.mx_word.specs.Ranges.{AreBytes}
 use Rattle.mx_mmo.specs.Image.{Image}
-use Rattle.mx_mmo.specs.Meaning.{meaning}
+use Rattle.mx_mmo.specs.Meaning.{Loading, Meaningless, PagesFull, nothing, take_items, image_in, meaning}
 use Rattle.mx_mmo.specs.Spelling.{written, ending}
+use Rattle.mx_mmo.specs.Replies.{limit}
+use Rattle.mx_mmo.specs.Whole.{Left, items_of, object_of, object_behind, with_tail}
+use Rattle.mx_mmo.specs.declared.due.Phase.TheVariants.{Start}
+use Rattle.mx_mmo.specs.declared.faults.MmoFault.{MmoFault}
 use Rattle.mx_mmo.specs.declared.items.Item.{Item}
 use Rattle.mx_mmo.specs.declared.items.Object.{Object}
+use Rattle.mx_mmo.specs.declared.items.Tail.{Tail}
+use Rattle.mx_mmo.proofs.Pieces.{not-long}
 use Rattle.mx_mmo.proofs.Written.{written-read}
+use Rattle.mx_load.specs.Faults.{number_of, fault_of}
 use Rattle.mx_load.specs.Objects.{object_loaded, trie_read, with_symbols}
-use Rattle.mx_load.proofs.Apart.{object-holds}
+use Rattle.mx_load.proofs.Apart.{object-holds, fault-of-meaning}
 use Rattle.mx_stab.specs.Reading.{trie_answer}
 use Rattle.mx_asm.specs.Fitting.{AreWritable}
+use Rattle.mx_asm.specs.Entries.{statements_in, source_entries}
+use Rattle.mx_asm.specs.Image.{image, symbols_of}
 use Rattle.mx_asm.specs.OnePass.{Ended}
+use Rattle.mx_asm.specs.Pages.{RunRefusal, page_refusal, accepted_in, run_refusal, run_refusal_with, loaded_image, has_room}
+use Rattle.mx_asm.specs.Refusal.{refusal}
+use Rattle.mx_asm.specs.TwoPass.{pieces}
 use Rattle.mx_asm.specs.Whole.{assembled_source}
-use Rattle.mx_top.specs.Sources.{source_meaning}
+use Rattle.mx_asm.specs.declared.refused.Refused.{Refused}
+use Rattle.std.proofs.lemmas.Option.{same_Some}
+use Rattle.mx_asm.proofs.ObjectLaws.{WrittenSource, written-source}
+use Rattle.mx_top.specs.Sources.{meaning_unless, source_meaning}
 use Rattle.mx_top.specs.Objects.{Assembled, source_object}
 use Rattle.mx_top.specs.Objects as assembling
+use Rattle.mx_top.specs.declared.refusal.Refusal.{Refusal}
+use Rattle.mx_asm.proofs.MeaningSources.{pages-mean}
 use Rattle.mx_top.proofs.SourceImages.{items-mean-image}
 
 object-is : (text trie : List ℕ) (items : List Item) → assembled_source text ≡ (items, Ok trie) → source_object text ≡ (written items ++ ending trie, Ok tt)
@@ -32,9 +49,76 @@ written-loaded items trie symbols image w short answer means =
     object-holds (written items ++ ending trie) object image (written-read items trie w.valid w.padded.whole w.padded.most short) means
     ∙ ap (λ r. with_symbols image (trie_read place r)) answer
 
-pub source-loads : (text trie : List ℕ) (items : List Item) (symbols : List Symbol) (image : Image) → AreBytes text → assembled_source text ≡ (items, Ok trie) → AreWritable items trie → length (source_object text).0 ≤ 2 ^ 26 →
-    trie_answer trie ≡ Ok symbols → source_meaning text ≡ Ok image → object_loaded (source_object text).0 ≡ Ok (image, symbols)
-source-loads text trie items symbols image each e w short answer h =
-    let bytes : (source_object text).0 ≡ written items ++ ending trie = ap (λ (x : Assembled). x.0) (object-is text trie items e) in
-    let means : meaning items ≡ Ok image = ap (λ (x : Ended). meaning x.0) (sym e) ∙ items-mean-image text image each h in
-    ap object_loaded bytes ∙ written-loaded items trie symbols image w (subst (λ xs. length xs ≤ 2 ^ 26) bytes short) answer means
+-- ---- items without a meaning
+
+tail-items : (items : List Item) (tail : Result Tail MmoFault) (object : Object) → with_tail items tail ≡ Ok object → items ≡ object.items
+tail-items items (Ok tail) object h =
+    let same : record { items = items; tail = tail } ≡ object = same_Ok _ _ h in
+    ap (λ (o : Object). o.items) same
+tail-items items (Err fault) object h = absurd (cc)
+
+left-items : (items : List Item) (end : Result Left MmoFault) (object : Object) → object_behind items end ≡ Ok object → items ≡ object.items
+left-items items (Ok left) object h = tail-items items _ object h
+left-items items (Err fault) object h = absurd (cc)
+
+fault-means : (r : Result Loading Meaningless) (e : Meaningless) → image_in r ≡ Err e → r ≡ Err e
+fault-means (Ok s) e h = absurd (cc)
+fault-means (Err f) e h = cc
+
+-- what is written of items that mean nothing is not loaded, for that reason
+written-refused : (items : List Item) (trie : List ℕ) (e : Meaningless) → AreWritable items trie → length (written items ++ ending trie) ≤ 2 ^ 26 → meaning items ≡ Err e →
+    (place : ℕ) × (object_loaded (written items ++ ending trie) ≡ Err (place, number_of (fault_of e)))
+written-refused items trie e w short means =
+    let bytes : List ℕ = written items ++ ending trie in
+    let object : Object = record { items = items; tail = record { trie = trie; place = length (written items) } } in
+    let read : object_of bytes ≡ Ok object = written-read items trie w.valid w.padded.whole w.padded.most short in
+    let are : (items_of Start 0 bytes).0 ≡ items = left-items (items_of Start 0 bytes).0 (items_of Start 0 bytes).1 object (sym (not-long bytes short) ∙ read) in
+    let found = fault-of-meaning bytes e short (ap (λ is. take_items is (Ok nothing)) are ∙ fault-means (take_items items (Ok nothing)) e means) in
+    (found.0, found.1.1)
+
+-- ---- sources
+
+runs-on : (r : Option RunRefusal) (image m : Image) → meaning_unless r image ≡ Ok m → r ≡ None
+runs-on None image m h = refl
+runs-on (Some r) image m h = absurd (cc)
+
+not-refused : (pages : Option ℕ) (refused : Option Refused) → run_refusal_with pages refused ≡ None → refused ≡ None
+not-refused (Some line) refused h = absurd (cc)
+not-refused None (Some r) h = absurd (cc)
+not-refused None None h = refl
+
+accepted-run : (text : List ℕ) (image : Image) → source_meaning text ≡ Ok image → refusal text ≡ None
+unfolding source_meaning
+accepted-run text image h = not-refused (page_refusal (accepted_in (source_entries text))) (refusal text) (runs-on (run_refusal text) _ image h)
+
+-- the object of a source that is run is loaded as its image, with its symbols
+pub source-loads : (text : List ℕ) (image : Image) → AreBytes text → source_meaning text ≡ Ok image →
+    object_loaded (source_object text).0 ≡ Ok (image, symbols_of (statements_in (source_entries text)))
+source-loads text image each h =
+    let w : WrittenSource text = written-source text each (accepted-run text image h) in
+    let bytes : (source_object text).0 ≡ written w.items ++ ending w.trie = ap (λ (x : Assembled). x.0) (object-is text w.trie w.items w.assembled) in
+    let means : meaning w.items ≡ Ok image = ap (λ (x : Ended). meaning x.0) (sym w.assembled) ∙ items-mean-image text image each h in
+    ap object_loaded bytes ∙ written-loaded w.items w.trie (symbols_of (statements_in (source_entries text))) image w.writable w.short w.symbols means
+
+-- a source that is assembled and yet refused when it is run has too many pages
+pages-only : (pages : Option ℕ) (r : RunRefusal) → run_refusal_with pages None ≡ Some r → r.number ≡ 90
+pages-only (Some line) r h =
+    let same : record { line = line; number = 90; from_line = 0 } ≡ r = same_Some _ _ h in
+    ap (λ (r : RunRefusal). r.number) (sym same)
+pages-only None r h = absurd (cc)
+
+full-line : (pages : Option ℕ) (r : RunRefusal) → run_refusal_with pages None ≡ Some r → (line : ℕ) × (pages ≡ Some line)
+full-line (Some line) r h = (line, refl)
+full-line None r h = absurd (cc)
+
+-- the object of such a source is not loaded, for the same reason
+pub pages-refused : (text : List ℕ) (r : RunRefusal) → AreBytes text → refusal text ≡ None → run_refusal text ≡ Some r →
+    (r.number ≡ 90) × (place : ℕ) × (object_loaded (source_object text).0 ≡ Err (place, 90))
+pages-refused text r each none h =
+    let alone : run_refusal_with (page_refusal (accepted_in (source_entries text))) None ≡ Some r = ap (run_refusal_with (page_refusal (accepted_in (source_entries text)))) (sym none) ∙ h in
+    let line = full-line (page_refusal (accepted_in (source_entries text))) r alone in
+    let w : WrittenSource text = written-source text each none in
+    let bytes : (source_object text).0 ≡ written w.items ++ ending w.trie = ap (λ (x : Assembled). x.0) (object-is text w.trie w.items w.assembled) in
+    let means : meaning w.items ≡ Err PagesFull = ap (λ (x : Ended). meaning x.0) (sym w.assembled) ∙ pages-mean text line.0 each none line.1 in
+    let found = written-refused w.items w.trie PagesFull w.writable w.short means in
+    (pages-only (page_refusal (accepted_in (source_entries text))) r alone, found.0, ap object_loaded bytes ∙ found.1)

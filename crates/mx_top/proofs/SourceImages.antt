@@ -26,7 +26,7 @@ use Rattle.mx_asm.specs.Whole.{Line, HasTaken, assembled_lines, assembled_source
 use Rattle.mx_asm.proofs.InTurn.{none-taken, line-taken, taken-ends, source-accepted, source-refused}
 use Rattle.mx_asm.proofs.MeaningLaws.{page-refusal-is}
 use Rattle.mx_asm.proofs.MeaningLines.{line-is-refused}
-use Rattle.mx_asm.proofs.MeaningSources.{bytes-fault, run-means}
+use Rattle.mx_asm.proofs.MeaningSources.{bytes-fault, run-means, source-bytes}
 use Rattle.mx_asm.proofs.MeaningStates.{take-append}
 use Rattle.mx_top.specs.Loading.{standing, refused_at, refusal_of, all_loaded, judged, progress_loaded, and_lines, lines_loaded, image_loaded, ended_with, end_loaded, image_from, standing_after, source_image}
 use Rattle.mx_top.specs.Sources.{meaning_unless, source_meaning}
@@ -105,32 +105,6 @@ loaded-behind out items s e = loaded-means items (Ok s) ∙ ap (λ r. told (take
 
 -- ---- lines of bytes
 
-first-bytes : (b : ℕ) (parts : List (List ℕ)) → b < 2 ^ 8 → AllByRecursion AreBytes parts → AllByRecursion AreBytes (onto_first b parts)
-first-bytes b [] l h = ((l, tt), tt)
-first-bytes b (part ∷ parts) l h = ((l, h.0), h.1)
-
-parts-bytes : (f : ℕ → Bool) (source : List ℕ) → AreBytes source → AllByRecursion AreBytes (slice_split f source)
-parts-bytes f [] h = (tt, tt)
-parts-bytes f (b ∷ source) h = by (f b) (parts-bytes f source h.1)
-  where
-    by : (c : Bool) → AllByRecursion AreBytes (slice_split f source) → AllByRecursion AreBytes (cond c ([] ∷ slice_split f source) (onto_first b (slice_split f source)))
-    by true rest = (tt, rest)
-    by false rest = first-bytes b (slice_split f source) h.0 rest
-
-split-bytes : (source : List ℕ) → AreBytes source → AllByRecursion AreBytes (split 10 source)
-unfolding split
-split-bytes source h = parts-bytes (λ b. b == 10) source h
-
-last-bytes : (lines : List (List ℕ)) → AllByRecursion AreBytes lines → AllByRecursion AreBytes (without_empty_last lines)
-last-bytes [] h = tt
-last-bytes ([] ∷ []) h = tt
-last-bytes ((b ∷ bs) ∷ []) h = h
-last-bytes (line ∷ next ∷ lines) h = (h.0, last-bytes (next ∷ lines) h.1)
-
-lines-bytes : (source : List ℕ) → AreBytes source → AllByRecursion AreBytes (lines_of source)
-unfolding lines_of
-lines-bytes source h = last-bytes (split 10 source) (split-bytes source h)
-
 front-bytes : (xs ys : List Line) → AllByRecursion AreBytes (xs ++ ys) → AllByRecursion AreBytes xs
 front-bytes [] ys h = tt
 front-bytes (x ∷ xs) ys h = (h.0, front-bytes xs ys h.1)
@@ -166,7 +140,7 @@ module _ (source : List ℕ) (bytes : AreBytes source) where
   refused_pages = page_refusal (accepted_in (source_entries source))
 
   fault-of : (front rest : List Line) → lines_of source ≡ front ++ rest → result_err (take_items (lines_items front) (Ok nothing)) ≡ page_fault (accepted_in (lines_entries front))
-  fault-of front rest whole = bytes-fault front (front-bytes front rest (subst (AllByRecursion AreBytes) whole (lines-bytes source bytes)))
+  fault-of front rest whole = bytes-fault front (front-bytes front rest (subst (AllByRecursion AreBytes) whole (source-bytes source bytes)))
 
   -- a source that is refused for its pages
   pages-mean : (line : ℕ) → refused_pages ≡ Some line → Err (refused_at line 90) ≡ source_meaning source
