@@ -37,3 +37,6 @@ pub mod MeaningLines
 pub mod Fitting
 pub mod Validity
 pub mod FrontLaw
+pub mod OperandWeights
+pub mod StatementRooms
+pub mod SourceWeights

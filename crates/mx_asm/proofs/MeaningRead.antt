@@ -293,7 +293,7 @@ entries-have (i ∷ items) h = by (entry_of i) (entry-has i h.0) (entries-have i
 
 -- ---- lines
 
-part-bytes : (line : List ℕ) (s : Span) → AreBytes line → AreBytes (part line s)
+pub part-bytes : (line : List ℕ) (s : Span) → AreBytes line → AreBytes (part line s)
 part-bytes line s h = bytes-front (s.to - s.from) (drop s.from line) (bytes-behind s.from line h)
 
 item-has : (n : ℕ) (line : List ℕ) (r : Result Cut LineFault) → 0 < n → AreBytes line → ItemHas (item_of n line r)

@@ -1,0 +1,264 @@
+-- What the statements of a source ask for is bounded by the bytes of the source.
+use Rattle.std.proofs.Common.{◌≡◌, ℕ, ◌+◌, ◌-◌, ◌*◌, ◌^◌, ◌<◌, ◌≤◌, List, [], ◌∷◌, map, length, take, drop, sum_by, bytes_eq, Bool, true, false, cond, nat_lt, ◌⊎◌, inl, inr, Option, Some, None, is_some, Result, Ok, Err, arith, refl, ap, ◌∙◌, subst}
+use Rattle.std.specs.Prelude.{◌==◌, option_map}
+use Rattle.std.specs.List.{AllByRecursion, list_all, slice_split, onto_first}
+use Rattle.std.proofs.Math.Seq.{take-length}
+use Rattle.std.proofs.lemmas.Bool.{and_parts, ltb-true, ltb-false}
+use Rattle.std.proofs.lemmas.List.{length-take}
+use Rattle.std.proofs.lemmas.List.Sums.{sum_by-cons}
+use Rattle.std.proofs.lemmas.Slice.Eq.{bytes_eq-Decides}
+use Rattle.mx_word.specs.Ranges.{AreBytes}
+use Rattle.mx_line.specs.declared.spans.Span.{Span}
+use Rattle.mx_line.specs.declared.faults.LineFault.{LineFault}
+use Rattle.mx_line.specs.declared.cutter.Cut.{Cut}
+use Rattle.mx_line.specs.Lines.{lines_of, without_empty_last, size_up_to, is_too_far}
+use Rattle.mx_line.specs.Pieces.{split}
+use Rattle.mx_line.specs.Spans.{part}
+use Rattle.mx_line.specs.Cutting.{cuts_from, InOrder, CutInOrder}
+use Rattle.mx_line.specs.Source.{Item, statement, faulty, too_far, item_of, before, items_of, items_from}
+use Rattle.mx_line.specs.Statements.{Statements}
+use Rattle.mx_line.specs.Statements.Statements.{none as nothing_left, fault as fault_there, next as one_more}
+use Rattle.mx_line.proofs.StatementLemmas.{past-label, statement-order}
+use Rattle.mx_line.proofs.RuleLaws.{statement_of-only}
+use Rattle.mx_line.proofs.ListLaws.{list-by-rules}
+use Rattle.mx_expr.specs.declared.faults.ExprFault.{ExprFault}
+use Rattle.mx_expr.specs.Tree.{Tree}
+use Rattle.mx_expr.specs.Reading.{reading}
+use Rattle.mx_ops.specs.declared.op.Op.{Op}
+use Rattle.mx_ops.specs.Tables.{first_of}
+use Rattle.mx_ops.specs.Opcodes.{opcode_rows, opcode_names, pseudo_operations, chosen_operations, operations, operation_of}
+use Rattle.mx_stmt.specs.Steps.{Answer}
+use Rattle.mx_stmt.specs.Encoding.{StatementTree}
+use Rattle.mx_stmt.specs.Reading.{Fields, label_of, operation_with, operation_for}
+use Rattle.mx_asm.specs.Entries.{Entry, with_operands, with_operation, entry_with, entry_of, entries_of, line_entries, source_entries, statements_in, refusal_in}
+use Rattle.mx_asm.specs.Refusal.{first_fault, entries_refusal, end_refusal, last_line, refusal}
+use Rattle.mx_asm.specs.TwoPass.{sights_of}
+use Rattle.mx_asm.specs.Whole.{Line, lines_entries}
+use Rattle.mx_asm.specs.Weights.{weight, weights}
+use Rattle.mx_asm.proofs.EndWaits.{both-none}
+use Rattle.mx_asm.proofs.MeaningRead.{part-bytes}
+use Rattle.mx_asm.proofs.MeaningSources.{source-bytes}
+use Rattle.mx_asm.proofs.OperandWeights.{ListWeighs, field_most, field-weighs}
+use Rattle.mx_asm.proofs.StatementRooms.{HasRoom, room-of}
+
+-- ---- the names of operations have at least two bytes
+
+abbrev is_long : List ℕ × Op → Bool
+is_long entry = nat_lt 1 (length entry.0)
+
+all-long : list_all is_long operations ≡ true
+unfolding operations pseudo_operations chosen_operations opcode_names opcode_rows
+all-long = refl
+
+long-found : (table : List (List ℕ × Op)) (name : List ℕ) (op : Op) → list_all is_long table ≡ true → first_of name table ≡ Some op → 1 < length name
+long-found [] name op h e = absurd (cc)
+long-found (entry ∷ table) name op h e =
+    let both = and_parts (is_long entry) (list_all is_long table) h in
+    by (bytes_eq entry.0 name) (bytes_eq-Decides entry.0 name).0 (ltb-true 1 (length entry.0) both.0) (long-found table name op both.1) e
+  where
+    by : (b : Bool) → (b ≡ true → entry.0 ≡ name) → 1 < length entry.0 → (first_of name table ≡ Some op → 1 < length name) → ◌≡◌ {A = Option Op} (cond b (Some entry.1) (first_of name table)) (Some op) → 1 < length name
+    by true same l rest e = subst (λ (n : List ℕ). 1 < length n) (same refl) l
+    by false same l rest e = rest e
+
+name-long : (name : List ℕ) (op : Op) → operation_of name ≡ Some op → 1 < length name
+unfolding operation_of
+name-long name op e = long-found operations name op all-long e
+
+named-long : (labelled : Bool) (name : List ℕ) (r : Option Op) (op : Op) → operation_of name ≡ r → operation_with labelled r ≡ Ok op → 1 < length name
+named-long labelled name None op e h = absurd (cc)
+named-long labelled name (Some other) op e h = name-long name other e
+
+-- ---- what one statement asks for
+
+abbrev EntryMost : List ℕ → List ℕ → Entry → Type 0
+EntryMost op operands (Err refused) = Unit {0}
+EntryMost op operands (Ok s) = (1 < length op) × (weight s ≤ 40 + field_most operands)
+
+operands-most : (fields : Fields) (line : ℕ) (op : Op) (r : Result (List Tree) ExprFault) → 1 < length fields.op → ListWeighs (field_most fields.operands) r →
+    EntryMost fields.op fields.operands (entry_with line (with_operands fields line op r))
+operands-most fields line op (Err fault) l h = tt
+operands-most fields line op (Ok operands) l h = (l, omega (arith, h))
+
+operation-most : (fields : Fields) (line : ℕ) (r : Answer Op) → ((op : Op) → r ≡ Ok op → 1 < length fields.op) → AreBytes fields.operands →
+    EntryMost fields.op fields.operands (entry_with line (with_operation fields line r))
+operation-most fields line (Err fault) l h = tt
+operation-most fields line (Ok op) l h = operands-most fields line op (reading fields.operands) (l op refl) (field-weighs fields.operands h)
+
+entry-most : (line : ℕ) (label : Option (List ℕ)) (op operands : List ℕ) → AreBytes operands → EntryMost op operands (entry_of (statement line label op operands))
+entry-most line label op operands h =
+    operation-most (record { label = option_map label_of label; op = op; operands = operands }) line (operation_for (is_some (option_map label_of label)) op)
+    (λ o is. named-long (is_some (option_map label_of label)) op (operation_of op) o refl is) h
+
+-- A statement takes a byte before its opcode, two of the opcode, one before a field that is not empty, the field, and
+-- the `;` or the end of the line.
+statement-fits : (place end : ℕ) (cut : Cut) (op operands : List ℕ) (next : ℕ) → InOrder place end cut → HasRoom end cut → 1 < length op → length op + cut.op.from ≤ cut.op.to →
+    length operands + cut.operands.from ≤ cut.operands.to → cut.operands.to < next → 40 + field_most operands + 15 * place ≤ 15 * next
+statement-fits place end cut op [] next o r two a b l = omega (arith, past-label place cut.label cut.op.from o.label, two, a, o.gap, o.operands, l)
+statement-fits place end cut op (c ∷ cs) next o r two a b l = by r.gap
+  where
+    by : (cut.operands.to ≡ cut.operands.from) ⊎ (cut.op.to < cut.operands.from) → 40 + field_most (c ∷ cs) + 15 * place ≤ 15 * next
+    by (inl same) = absurd (omega (arith, same, b))
+    by (inr less) = omega (arith, past-label place cut.label cut.op.from o.label, two, a, less, b, l)
+
+-- ---- the statements of a line
+
+-- what the statements of a line from a place on ask for: nothing where no byte is left
+record Fits (line : List ℕ) (place most : ℕ) : Type 0 where
+  bounded : most + 15 * place ≤ 15 * (length line + 1)
+  none : length line ≤ place → most ≡ 0
+
+part-few : (line : List ℕ) (s : Span) → s.from ≤ s.to → length (part line s) + s.from ≤ s.to
+part-few line s h = omega (arith, h, length-take (s.to - s.from) (drop s.from line))
+
+next-fits : (line : List ℕ) (place : ℕ) (cut : Cut) (op operands : List ℕ) (entry : Entry) (rest : List StatementTree) → InOrder place (length line) cut → HasRoom (length line) cut →
+    length op + cut.op.from ≤ cut.op.to → length operands + cut.operands.from ≤ cut.operands.to → EntryMost op operands entry → Fits line cut.next (weights rest) →
+    (entries : List Entry) → statements_in entries ≡ rest → Fits line place (weights (statements_in (entry ∷ entries)))
+next-fits line place cut op operands (Err refused) rest o r a b m f entries same =
+    record { bounded = omega (arith, past-label place cut.label cut.op.from o.label, o.op, o.gap, o.operands, o.next, o.within); none = λ l. refl }
+next-fits line place cut op operands (Ok s) rest o r a b m f entries same = record {
+  bounded = by r.last;
+  none = λ l. absurd (omega (arith, l, past-label place cut.label cut.op.from o.label, o.op, o.gap, o.operands, o.next, o.within));
+}
+  where
+    sums : weights (s ∷ statements_in entries) ≡ weight s + weights rest
+    sums = sum_by-cons weight s (statements_in entries) ∙ ap (λ ss. weight s + weights ss) same
+
+    by : (cut.operands.to < cut.next) ⊎ (cut.next ≡ length line) → weights (s ∷ statements_in entries) + 15 * place ≤ 15 * (length line + 1)
+    by (inl less) = omega (arith, sums, m.1, f.bounded, statement-fits place (length line) cut op operands cut.next o r m.0 a b less)
+    by (inr last) =
+        let after : cut.operands.to < length line + 1 = omega (arith, o.next, last) in
+        let nothing : weights rest ≡ 0 = f.none (omega (arith, last)) in
+        omega (arith, sums, m.1, nothing, statement-fits place (length line) cut op operands (length line + 1) o r m.0 a b after)
+
+cuts-fit : (n : ℕ) (line : List ℕ) (place : ℕ) (cuts : List (Result Cut LineFault)) → AreBytes line → place ≤ length line → Statements line place cuts →
+    Fits line place (weights (statements_in (entries_of (map (item_of n line) cuts))))
+cuts-fit n line place _ h l (nothing_left _ s) = record { bounded = omega (arith, l); none = λ k. refl }
+cuts-fit n line place _ h l (fault_there _ why s) = record { bounded = omega (arith, l); none = λ k. refl }
+cuts-fit n line place _ h l (one_more _ cut cuts s later) =
+    let order : InOrder place (length line) cut = subst (CutInOrder place (length line)) (statement_of-only line place (Ok (Some cut)) s) (statement-order line place l) in
+    let entries : List Entry = entries_of (map (item_of n line) cuts) in
+    next-fits line place cut (part line cut.op) (part line cut.operands) (entry_of (item_of n line (Ok cut))) (statements_in entries) order (room-of line place (Ok (Some cut)) l s)
+    (part-few line cut.op (omega (arith, order.op))) (part-few line cut.operands order.operands)
+    (entry-most n (option_map (part line) cut.label) (part line cut.op) (part line cut.operands) (part-bytes line cut.operands h))
+    (cuts-fit n line cut.next cuts h order.within later) entries refl
+
+line-weight : (n : ℕ) (line : List ℕ) → AreBytes line → weights (statements_in (line_entries n line)) ≤ 15 * (length line + 1)
+line-weight n line h =
+    let fit : Fits line 0 (weights (statements_in (line_entries n line))) = cuts-fit n line 0 (cuts_from line 0) h (omega arith) (list-by-rules line 0 (omega arith)) in
+    omega (arith, fit.bounded)
+
+-- ---- the lines of a source
+
+before-weight : (a b : List Item) → weights (statements_in (entries_of (before a b))) ≤ weights (statements_in (entries_of a)) + weights (statements_in (entries_of b))
+before-weight [] b = omega arith
+before-weight (statement line label op operands ∷ items) b = by (entry_of (statement line label op operands)) (before-weight items b)
+  where
+    by : (e : Entry) → weights (statements_in (entries_of (before items b))) ≤ weights (statements_in (entries_of items)) + weights (statements_in (entries_of b)) →
+        weights (statements_in (e ∷ entries_of (before items b))) ≤ weights (statements_in (e ∷ entries_of items)) + weights (statements_in (entries_of b))
+    by (Err refused) h = omega arith
+    by (Ok s) h = omega (arith, h, sum_by-cons weight s (statements_in (entries_of (before items b))), sum_by-cons weight s (statements_in (entries_of items)))
+before-weight (faulty line why ∷ items) b = omega arith
+before-weight (too_far line ∷ items) b = omega arith
+
+-- the bytes of lines, with a newline behind each
+abbrev with_newline : List ℕ → ℕ
+with_newline line = length line + 1
+
+abbrev room : List (List ℕ) → ℕ
+room lines = sum_by with_newline lines
+
+items-weight : (all : List Line) (n : ℕ) (lines : List Line) → AllByRecursion AreBytes lines → weights (statements_in (entries_of (items_from all n lines))) ≤ 15 * room lines
+unfolding items_from
+items-weight all n [] h = omega arith
+items-weight all n (line ∷ lines) h = by (is_too_far all n) (items-weight all (n + 1) lines h.1)
+  where
+    by : (b : Bool) → weights (statements_in (entries_of (items_from all (n + 1) lines))) ≤ 15 * room lines →
+        weights (statements_in (entries_of (cond b (too_far n ∷ []) (before (items_of n line) (items_from all (n + 1) lines))))) ≤ 15 * room (line ∷ lines)
+    by true rest = omega arith
+    by false rest = omega (arith, rest, before-weight (items_of n line) (items_from all (n + 1) lines), line-weight n line h.0, sum_by-cons with_newline line lines)
+
+-- ---- the bytes of a source and those of its lines
+
+onto-room : (b : ℕ) (parts : List (List ℕ)) → 0 < room parts → room (onto_first b parts) ≡ room parts + 1
+onto-room b [] l = absurd (omega (arith, l))
+onto-room b (part ∷ parts) l = omega (arith, sum_by-cons with_newline part parts, sum_by-cons with_newline (b ∷ part) parts)
+
+parts-room : (f : ℕ → Bool) (source : List ℕ) → room (slice_split f source) ≡ length source + 1
+parts-room f [] = omega arith
+parts-room f (b ∷ source) = by (f b) (parts-room f source)
+  where
+    by : (c : Bool) → room (slice_split f source) ≡ length source + 1 → room (cond c ([] ∷ slice_split f source) (onto_first b (slice_split f source))) ≡ length (b ∷ source) + 1
+    by true rest = omega (arith, rest, sum_by-cons with_newline [] (slice_split f source))
+    by false rest = omega (arith, rest, onto-room b (slice_split f source) (omega (arith, rest)))
+
+-- without an empty last piece there is a newline less at most
+record Nearly (a b : ℕ) : Type 0 where
+  most : a ≤ b
+  least : b ≤ a + 1
+
+last-room : (lines : List (List ℕ)) → Nearly (room (without_empty_last lines)) (room lines)
+last-room [] = record { most = omega arith; least = omega arith }
+last-room ([] ∷ []) = record { most = omega arith; least = omega arith }
+last-room ((b ∷ bs) ∷ []) = record { most = omega arith; least = omega arith }
+last-room (line ∷ next ∷ lines) =
+    let rest = last-room (next ∷ lines) in
+    let a = sum_by-cons with_newline line (without_empty_last (next ∷ lines)) in
+    let b = sum_by-cons with_newline line (next ∷ lines) in
+    record { most = omega (arith, rest.most, a, b); least = omega (arith, rest.least, a, b) }
+
+lines-room : (source : List ℕ) → Nearly (room (lines_of source)) (length source + 1)
+unfolding lines_of split
+lines-room source = subst (Nearly (room (lines_of source))) (parts-room (λ b. b == 10) source) (last-room (split 10 source))
+
+-- ---- sources
+
+-- the statements of a source of bytes ask for at most 15 times its bytes, and 15
+pub source-weights : (source : List ℕ) → AreBytes source → weights (statements_in (source_entries source)) ≤ 15 * (length source + 1)
+source-weights source h =
+    omega (arith, items-weight (lines_of source) 1 (lines_of source) (source-bytes source h), (lines-room source).most)
+
+pub lines-weights : (source : List ℕ) → AreBytes source → weights (statements_in (lines_entries (lines_of source))) ≤ 15 * (length source + 1)
+lines-weights source h = source-weights source h
+
+-- Where nothing is refused, no line is too far.
+later-none : (a b : List Item) → refusal_in (entries_of (before a b)) ≡ None → refusal_in (entries_of b) ≡ None
+later-none [] b h = h
+later-none (statement line label op operands ∷ items) b h = by (entry_of (statement line label op operands)) h (later-none items b)
+  where
+    by : (e : Entry) → refusal_in (e ∷ entries_of (before items b)) ≡ None → (refusal_in (entries_of (before items b)) ≡ None → refusal_in (entries_of b) ≡ None) → refusal_in (entries_of b) ≡ None
+    by (Err refused) h rest = absurd (cc)
+    by (Ok s) h rest = rest h
+later-none (faulty line why ∷ items) b h = absurd (cc)
+later-none (too_far line ∷ items) b h = absurd (cc)
+
+near-by : (n : ℕ) (b : Bool) (items : List Item) → refusal_in (entries_of (cond b (too_far n ∷ []) items)) ≡ None → (b ≡ false) × (refusal_in (entries_of items) ≡ None)
+near-by n true items h = absurd (cc)
+near-by n false items h = (refl, h)
+
+items-near : (all : List Line) (n k : ℕ) (line : Line) (lines : List Line) → n + length lines ≡ k → refusal_in (entries_of (items_from all n (line ∷ lines))) ≡ None → is_too_far all k ≡ false
+unfolding items_from
+items-near all n k line [] e h =
+    let same : n ≡ k = omega (arith, e) in
+    subst (λ i. is_too_far all i ≡ false) same (near-by n (is_too_far all n) (before (items_of n line) []) h).0
+items-near all n k line (next ∷ lines) e h =
+    items-near all (n + 1) k next lines (omega (arith, e))
+    (later-none (items_of n line) (items_from all (n + 1) (next ∷ lines)) (near-by n (is_too_far all n) (before (items_of n line) (items_from all (n + 1) (next ∷ lines))) h).1)
+
+room-is : (lines : List (List ℕ)) → room lines ≡ sum_by length lines + length lines
+room-is [] = omega arith
+room-is (line ∷ lines) = omega (arith, room-is lines, sum_by-cons with_newline line lines, sum_by-cons length line lines)
+
+lines-near : (lines : List Line) → refusal_in (lines_entries lines) ≡ None → room lines ≤ 2 ^ 22 + 1
+lines-near [] h = omega arith
+lines-near (line ∷ lines) h =
+    let all : List Line = line ∷ lines in
+    let near : size_up_to (length all) all ≤ 2 ^ 22 = ltb-false (2 ^ 22) _ (items-near all 1 (length all) line lines (omega arith) h) in
+    let whole : sum_by length (take (length all) all) ≡ sum_by length all = ap (sum_by length) (take-length all) in
+    omega (arith, near, whole, room-is all)
+
+-- a source that is not refused has at most 2^22 bytes, and a last newline
+pub source-short : (source : List ℕ) → refusal source ≡ None → length source ≤ 2 ^ 22 + 1
+source-short source h =
+    let parts = both-none (entries_refusal (source_entries source)) (end_refusal (last_line (lines_of source)) (statements_in (source_entries source))) h in
+    let none : refusal_in (source_entries source) ≡ None = (both-none (first_fault [] (sights_of (statements_in (source_entries source)))) (refusal_in (source_entries source)) parts.0).1 in
+    omega (arith, lines-near (lines_of source) none, (lines-room source).least)
