@@ -37,3 +37,6 @@ pub mod MeaningLines
 pub mod Fitting
 pub mod Validity
 pub mod FrontLaw
+pub mod WrittenLengths
+pub mod StatementLengths
+pub mod ObjectLengths
