@@ -40,3 +40,4 @@ pub mod FrontLaw
 pub mod WrittenLengths
 pub mod StatementLengths
 pub mod ObjectLengths
+pub mod AcceptedLengths

@@ -1,5 +1,5 @@
 -- The object of statements that are accepted has at most the sum of their weights, and what its front and its end take.
-use Rattle.std.proofs.Common.{◌≡◌, ◌<◌, ◌≤◌, ℕ, ◌+◌, ◌*◌, ◌/◌, ◌^◌, Bool, true, false, not, cond, List, [], ◌∷◌, ◌++◌, length, Option, None, Some, is_some, Result, Ok, Err, arith, refl, ap, sym, ◌∙◌, length-append}
+use Rattle.std.proofs.Common.{◌≡◌, ◌<◌, ◌≤◌, ℕ, ◌+◌, ◌*◌, ◌/◌, ◌^◌, Bool, true, false, not, cond, List, [], ◌∷◌, ◌++◌, length, Option, None, Some, Result, Ok, Err, arith, refl, ap, ◌∙◌, length-append}
 use Rattle.std.specs.Prelude.{◌==◌, nat_lt, map}
 use Rattle.std.specs.Result.{result_unwrap_or}
 use Rattle.std.specs.List.{flat_map}
@@ -16,7 +16,7 @@ use Rattle.mx_word.specs.declared.waits.WaitKind.TheVariants.{Octa, Near, Far}
 use Rattle.mx_word.specs.Waits.{same_awaited}
 use Rattle.mx_word.specs.Words.{octa_to_bytes}
 use Rattle.mx_mmo.specs.declared.items.Item.{Item}
-use Rattle.mx_mmo.specs.declared.items.Item.TheVariants.{Load, Loc, FixOcta, FixNear, FixFar, Line, Post, Stab}
+use Rattle.mx_mmo.specs.declared.items.Item.TheVariants.{Load, Loc, FixNear, FixFar, Line, Post, Stab}
 use Rattle.mx_mmo.specs.Tetras.{wide_lop}
 use Rattle.mx_mmo.specs.Spelling.{bytes_of, written, ending}
 use Rattle.mx_names.specs.Names.{NameTable, complete_form}
@@ -29,22 +29,22 @@ use Rattle.mx_stmt.specs.Steps.{Answer}
 use Rattle.mx_stmt.specs.Forms.{relative_word, near_reach, far_reach}
 use Rattle.mx_stmt.specs.Gregs.{lowest_of}
 use Rattle.mx_stmt.specs.Operands.{Known, no_targets, symbol_form}
-use Rattle.mx_stmt.specs.Encoding.{StatementTree, encoding}
+use Rattle.mx_stmt.specs.Encoding.{StatementTree}
 use Rattle.mx_asm.specs.declared.faults.AsmFault.{AsmFault}
 use Rattle.mx_asm.specs.declared.head.Head.{Head}
 use Rattle.mx_asm.specs.declared.refused.Refused.{Refused}
 use Rattle.mx_asm.specs.Fixes.{fixes, relative_fix, pure_fix, fix_of, with_fix, awaited_value, waiting_for, waiting_at}
 use Rattle.mx_asm.specs.TwoPass.{Sight, outline, waits_in, nothing_known, known_after, sights_from, sights_of, final_known}
 use Rattle.mx_asm.specs.Refusal.{label_fault, fault_with, statement_fault, first_fault}
-use Rattle.mx_asm.specs.Emission.{moved, onto, fix_items, head_at_fixes, lowered, covered, covering, located, told_line, lined, byte_items, with_bytes, statement_items, opening, first_head, sight_items, sight_head, items_from, main_of, closing, padded_trie}
-use Rattle.mx_asm.specs.Weights.{operand_weight, weight, weights}
+use Rattle.mx_asm.specs.Emission.{moved, onto, fix_items, head_at_fixes, lowered, covered, covering, located, told_line, lined, byte_items, with_bytes, opening, first_head, sight_items, sight_head, items_from, main_of, closing, padded_trie}
+use Rattle.mx_asm.specs.Weights.{weight, weights}
 use Rattle.mx_asm.proofs.OpenWaits.{any_settles, open_waits, open-unlabelled, open-named, open-local}
 use Rattle.mx_asm.proofs.WaitsFor.{named-waits, local-waits}
 use Rattle.mx_asm.proofs.OneStatement.{AreLabels, name-new, no-label-fault, labels-kept}
 use Rattle.mx_asm.proofs.OnePassLaw.{no-labels}
 use Rattle.mx_asm.proofs.EndWaits.{both-none}
 use Rattle.mx_asm.proofs.WrittenLengths.{written-append, written-cons, one-unless, address-most, load_length}
-use Rattle.mx_asm.proofs.StatementLengths.{FitsOperands, encoding-fits}
+use Rattle.mx_asm.proofs.StatementLengths.{encoding-fits}
 
 -- the bytes that items are written as
 abbrev pub size : List Item → ℕ

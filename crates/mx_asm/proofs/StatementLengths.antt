@@ -1,9 +1,11 @@
 -- The tetras of a statement and the records of its references have at most the weights of its operands and 12 bytes.
-use Rattle.std.proofs.Common.{◌≡◌, ◌<◌, ◌≤◌, ℕ, ◌+◌, ◌-◌, ◌*◌, ◌%◌, ◌^◌, Bool, true, false, cond, List, [], ◌∷◌, ◌++◌, length, Option, None, Some, Ok, Err, unwrap_or, arith, refl, ap, sym, ◌∙◌, subst, le_of_eq, length-append, length-drop}
+use Rattle.std.proofs.Common.{◌≡◌, ◌<◌, ◌≤◌, ℕ, ◌+◌, ◌-◌, ◌*◌, ◌%◌, ◌^◌, Bool, true, false, cond, List, [], ◌∷◌, ◌++◌, length, Option, None, Some, Ok, Err, unwrap_or, arith, refl, ap, sym, subst, le_of_eq, length-append, length-drop}
 use Rattle.std.specs.Prelude.{◌==◌, nat_lt, sum_by}
 use Rattle.std.specs.Int.{byte_at}
 use Rattle.std.proofs.lemmas.Bool.Decides.{nat_tests}
 use Rattle.std.proofs.lemmas.List.Sums.{sum_by-cons}
+use Rattle.mx_word.specs.declared.symbols.Value.{Value}
+use Rattle.mx_word.specs.declared.symbols.Value.TheVariants.{Pure, Reg}
 use Rattle.mx_word.specs.declared.waits.Awaited.{Awaited}
 use Rattle.mx_word.specs.declared.waits.WaitKind.{WaitKind}
 use Rattle.mx_word.specs.declared.waits.WaitKind.TheVariants.{Octa}
@@ -17,13 +19,12 @@ use Rattle.mx_ops.specs.declared.op.Pseudo.TheVariants as pseudo
 use Rattle.mx_ops.specs.declared.op.Shape.{Shape}
 use Rattle.mx_ops.specs.declared.op.Shape.TheVariants.{Three, Regs, Round, Neg, Rel, Mem, MemPure, Wyde, Jump, Put, Get, Pop, One, Save, Unsave, Free}
 use Rattle.mx_ops.specs.Shapes.{shapes_of}
+use Rattle.mx_mmo.specs.Spelling.{loaded}
 use Rattle.mx_stmt.specs.declared.statement.Label.{Label}
-use Rattle.mx_word.specs.declared.symbols.Value.{Value}
-use Rattle.mx_word.specs.declared.symbols.Value.TheVariants.{Pure, Reg}
 use Rattle.mx_stmt.specs.declared.placed.Effect.{Effect}
 use Rattle.mx_stmt.specs.declared.placed.Effect.TheVariants.{Plain, Prefix, Greg, Local}
 use Rattle.mx_stmt.specs.declared.placed.Placed.{Placed}
-use Rattle.mx_stmt.specs.declared.faults.StmtFault.TheVariants.{BadPlace, Operands}
+use Rattle.mx_stmt.specs.declared.faults.StmtFault.TheVariants.{BadPlace}
 use Rattle.mx_stmt.specs.Steps.{Answer, and_then}
 use Rattle.mx_stmt.specs.Gregs.{register_for}
 use Rattle.mx_stmt.specs.Operands.{Known, Targets, operand_value, register_at, pure_at, known_target, target_by, target_at, reference_of, no_targets}
@@ -33,7 +34,6 @@ use Rattle.mx_stmt.specs.Encoding.{StatementTree, alignment, place_at, known_at_
 use Rattle.mx_asm.specs.TwoPass.{nothing_known}
 use Rattle.mx_asm.specs.Weights.{operand_weight}
 use Rattle.mx_asm.specs.Emission.{covered}
-use Rattle.mx_mmo.specs.Spelling.{loaded}
 use Rattle.mx_asm.proofs.WrittenLengths.{load_length, load-most, load-tetra, loaded-most, loaded-low, covered-most, covered-whole}
 
 -- what holds of the value of an answer
@@ -53,7 +53,8 @@ gives-value : {A : Type 0} (P : A → Type 0) (a : Answer A) (x : A) → Gives P
 gives-value P (Err fault) x h is = absurd (cc)
 gives-value P (Ok y) x h is = let same : y ≡ x = cc in subst P same h
 
--- the bytes and references of data, and the tetra and reference of an instruction
+-- What an answer holds: data, which are bytes and references, and the tetra of an instruction have no name outside their
+-- crate.
 abbrev Held : {A : Type 0} → Answer A → Type 0
 Held {A} a = A
 
