@@ -40,3 +40,7 @@ pub mod FrontLaw
 pub mod OperandWeights
 pub mod StatementRooms
 pub mod SourceWeights
+pub mod WrittenLengths
+pub mod StatementLengths
+pub mod ObjectLengths
+pub mod AcceptedLengths
