@@ -44,3 +44,4 @@ pub mod WrittenLengths
 pub mod StatementLengths
 pub mod ObjectLengths
 pub mod AcceptedLengths
+pub mod ObjectShort

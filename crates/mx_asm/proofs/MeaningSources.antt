@@ -106,7 +106,7 @@ run-means source h none =
     source-means source h parts.1 ∙ ap (λ b. cond b (Ok (image statements)) (Err PagesFull)) room
 
 -- what is refused for its pages alone has too many of them
-no-room : (b : Bool) → is_some (Some 0) ≡ not b → b ≡ false
+no-room : (b : Bool) → true ≡ not b → b ≡ false
 no-room true h = absurd (cc)
 no-room false h = refl
 
@@ -115,7 +115,7 @@ pub pages-mean : (source : List ℕ) (line : ℕ) → AreBytes source → refusa
 pages-mean source line h none full =
     let statements = statements_of_source source in
     let are = source-are-accepted source h none in
-    let some : is_some (Some line) ≡ not (has_room (outlined (sights_of statements))) =
+    let some : true ≡ not (has_room (outlined (sights_of statements))) =
     ap is_some (sym full) ∙ ap (λ ss. is_some (page_refusal ss)) (accepted-all (sights_of statements) [] are.faultless) ∙ page-refusal-is (sights_of statements) in
     let room : has_room (pieces statements) ≡ false = room-is statements are ∙ no-room (has_room (outlined (sights_of statements))) some in
     source-means source h none ∙ ap (λ b. cond b (Ok (image statements)) (Err PagesFull)) room
