@@ -31,6 +31,7 @@ pub mod MeaningWhole
 pub mod MeaningWords
 pub mod MeaningSteady
 pub mod MeaningLaws
+pub mod ByteStatements
 pub mod MeaningRead
 pub mod MeaningSources
 pub mod MeaningLines
