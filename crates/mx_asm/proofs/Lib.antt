@@ -38,3 +38,7 @@ pub mod MeaningLines
 pub mod Fitting
 pub mod Validity
 pub mod FrontLaw
+pub mod ObjectSymbols
+pub mod ObjectEffects
+pub mod ObjectNames
+pub mod StatementCounts

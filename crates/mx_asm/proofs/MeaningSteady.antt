@@ -44,7 +44,7 @@ sound-effect k (effect.Prefix full) possible h = record { symbols = h.symbols; b
 sound-effect k (effect.Greg reg value) possible h = sound-greg k reg value possible h
 sound-effect k (effect.Local reg) possible h = h
 
-sound-kept : (k : Known) (s : StatementTree) (p : Placed) → IsSound k → encoding no_targets k s ≡ Ok p → label_fault k.names s.label ≡ None → IsSound (known_after k s)
+pub sound-kept : (k : Known) (s : StatementTree) (p : Placed) → IsSound k → encoding no_targets k s ≡ Ok p → label_fault k.names s.label ≡ None → IsSound (known_after k s)
 unfolding known_after
 sound-kept k s p h e none =
     let fine = encoding-fine no_targets k s p h e in
