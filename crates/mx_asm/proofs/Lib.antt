@@ -38,7 +38,9 @@ pub mod MeaningLines
 pub mod Fitting
 pub mod Validity
 pub mod FrontLaw
+pub mod ObjectItems
 pub mod ObjectSymbols
 pub mod ObjectEffects
 pub mod ObjectNames
 pub mod StatementCounts
+pub mod ObjectLaws

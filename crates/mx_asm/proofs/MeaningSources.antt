@@ -54,7 +54,7 @@ last-bytes ([] ∷ []) h = tt
 last-bytes ((b ∷ bs) ∷ []) h = h
 last-bytes (line ∷ next ∷ lines) h = (h.0, last-bytes (next ∷ lines) h.1)
 
-source-bytes : (source : List ℕ) → AreBytes source → AllByRecursion AreBytes (lines_of source)
+pub source-bytes : (source : List ℕ) → AreBytes source → AllByRecursion AreBytes (lines_of source)
 unfolding lines_of
 source-bytes source h = last-bytes (split 10 source) (split-bytes source h)
 
