@@ -31,12 +31,12 @@ use Rattle.mx_stmt.specs.declared.faults.StmtFault.TheVariants.{TooManyGregs, Ba
 use Rattle.mx_asm.specs.Effects.{IsGreg, IsEffect, IsPlaced, IfPlaced}
 
 module _ (P : Placed → Type 0) where
-  then-placed : {A : Type 0} (r : Answer A) (next : A → Answer Placed) → ((x : A) → IfPlaced P (next x)) → IfPlaced P (and_then r next)
+  pub then-placed : {A : Type 0} (r : Answer A) (next : A → Answer Placed) → ((x : A) → IfPlaced P (next x)) → IfPlaced P (and_then r next)
   then-placed (Err fault) next h = tt
   then-placed (Ok x) next h = h x
 
   -- the value of the step is known to be good
-  then-good : {A : Type 0} (Q : A → Type 0) (r : Answer A) (next : A → Answer Placed) → ((x : A) → r ≡ Ok x → Q x) → ((x : A) → Q x → IfPlaced P (next x)) → IfPlaced P (and_then r next)
+  pub then-good : {A : Type 0} (Q : A → Type 0) (r : Answer A) (next : A → Answer Placed) → ((x : A) → r ≡ Ok x → Q x) → ((x : A) → Q x → IfPlaced P (next x)) → IfPlaced P (and_then r next)
   then-good Q (Err fault) next q h = tt
   then-good Q (Ok x) next q h = h x (q x refl)
 
@@ -116,7 +116,7 @@ pub symbol-full : (names : NameTable) (text full : List ℕ) → IsFullName name
 symbol-full names text full h is =
     fitting-full (complete_form names.prefix text) (nat_lt 1024 (length (complete_form names.prefix text))) full refl (form-complete (is_complete text) names.prefix text refl h) is
 
-answer-full : (r : Result (List ℕ) NameFault) (full : List ℕ) → symbol_answer r ≡ Ok full → r ≡ Ok full
+pub answer-full : (r : Result (List ℕ) NameFault) (full : List ℕ) → symbol_answer r ≡ Ok full → r ≡ Ok full
 answer-full (Err fault) full h = absurd (cc)
 answer-full (Ok found) full h = let same : found ≡ full = cc in ap (λ f. Ok f) same
 
@@ -170,9 +170,13 @@ op-placed t k line label (Code code) operands h few = then-placed (IsPlaced k.gr
 op-placed t k line label Lda operands h few = then-placed (IsPlaced k.gregs) (form t k Mem 0x22 operands) (λ d. with_bytes k label (tetra_data line k.at d)) (λ d. placed-bytes _ k label (tetra_to_bytes d.word) (tetra_waits line k.at d.wait) refl)
 op-placed t k line label Set operands h few = then-placed (IsPlaced k.gregs) (set_form k operands) (λ d. with_bytes k label (tetra_data line k.at d)) (λ d. placed-bytes _ k label (tetra_to_bytes d.word) (tetra_waits line k.at d.wait) refl)
 
-if-placed : (P : Placed → Type 0) (r : Answer Placed) (p : Placed) → IfPlaced P r → r ≡ Ok p → P p
+pub if-placed : (P : Placed → Type 0) (r : Answer Placed) (p : Placed) → IfPlaced P r → r ≡ Ok p → P p
 if-placed P (Err fault) p h is = absurd (cc)
 if-placed P (Ok q) p h is = let same : q ≡ p = cc in subst P same h
 
+-- only the prefix of the names counts
+pub encoding-prefixed : (t : Targets) (k : Known) (s : StatementTree) (p : Placed) → IsFullName k.names.prefix → length k.gregs ≤ 223 → encoding t k s ≡ Ok p → IsPlaced k.gregs p
+encoding-prefixed t k s p prefix few is = if-placed (IsPlaced k.gregs) (encoding t k s) p (op-placed t _ s.line s.label s.op s.operands prefix few) is
+
 pub encoding-placed : (t : Targets) (k : Known) (s : StatementTree) (p : Placed) → AreNames k.names → length k.gregs ≤ 223 → encoding t k s ≡ Ok p → IsPlaced k.gregs p
-encoding-placed t k s p names few is = if-placed (IsPlaced k.gregs) (encoding t k s) p (op-placed t _ s.line s.label s.op s.operands names.prefix few) is
+encoding-placed t k s p names few is = encoding-prefixed t k s p names.prefix few is

@@ -31,6 +31,7 @@ pub mod MeaningWhole
 pub mod MeaningWords
 pub mod MeaningSteady
 pub mod MeaningLaws
+pub mod ByteStatements
 pub mod MeaningRead
 pub mod MeaningSources
 pub mod MeaningLines
@@ -45,3 +46,9 @@ pub mod StatementLengths
 pub mod ObjectLengths
 pub mod AcceptedLengths
 pub mod ObjectShort
+pub mod ObjectItems
+pub mod ObjectSymbols
+pub mod ObjectEffects
+pub mod ObjectNames
+pub mod StatementCounts
+pub mod ObjectLaws

@@ -1,10 +1,11 @@
--- The statements of lines of bytes are as statements are that were read.
+-- The statements of lines of bytes are as statements are that were read, and their names and labels are bytes.
 use Rattle.std.proofs.Common.{◌≡◌, ℕ, ◌+◌, ◌-◌, ◌*◌, ◌^◌, ◌<◌, ◌≤◌, List, [], ◌∷◌, ◌++◌, map, drop, Bool, true, false, not, cond, nat_le, arith, refl, sym, ◌∙◌, ap, Option, Some, None, is_some, Result, Ok, Err}
 use Rattle.std.specs.Prelude.{◌==◌, ◌&&◌, option_map}
 use Rattle.std.specs.List.{AllByRecursion}
+use Rattle.std.specs.Option.{IfSome}
 use Rattle.std.proofs.lemmas.Bool.{leb-false, leb-true, and_parts}
 use Rattle.mx_word.specs.Ranges.{AreBytes}
-use Rattle.mx_word.proofs.Ranges.{bytes-front, bytes-behind}
+use Rattle.mx_word.proofs.Ranges.{bytes-append, bytes-front, bytes-behind}
 use Rattle.mx_line.specs.declared.spans.Span.{Span}
 use Rattle.mx_line.specs.declared.faults.LineFault.{LineFault}
 use Rattle.mx_line.specs.declared.cutter.Cut.{Cut}
@@ -22,43 +23,45 @@ use Rattle.mx_expr.specs.Bytes.{is_digit, is_hexadecimal, is_letter, is_name_byt
 use Rattle.mx_expr.specs.Reading.{Waiting, sign, strong, weak, parenthesis, Mode, operand, whole, digit, decimal, hash, hexadecimal, quote, character, symbol, slash, less, greater, string, closed, State, Read, with_strong, with_weak, at, primary_end, string_start, sign_of, signed, mark_start, primary_start, strong_of, weak_of, enclosed, listed, next_operand, sum_end, weakly_or_end, strongly, after, beyond, next_reading, too_wide, passed_bound, within, step, and_then, steps, field_end, reading_end, start, reading}
 use Rattle.mx_ops.specs.declared.op.Op.{Op}
 use Rattle.mx_ops.specs.Opcodes.{operation_of}
+use Rattle.mx_stmt.specs.declared.statement.Label.TheVariants.{Name, Local}
 use Rattle.mx_stmt.specs.declared.faults.StmtFault.TheVariants.{LabelNotAllowed}
 use Rattle.mx_stmt.specs.Steps.{Answer}
 use Rattle.mx_stmt.specs.Fixes.{IsOperation}
 use Rattle.mx_stmt.specs.Reading.{Fields, label_of, takes_label, operation_with, operation_for}
 use Rattle.mx_asm.specs.Entries.{Entry, with_operands, with_operation, entry_with, entry_of, entries_of, statements_in}
-use Rattle.mx_asm.specs.Statements.{HasOctas, IsStatement}
+use Rattle.mx_asm.specs.Statements.{IsStatement}
 use Rattle.mx_asm.specs.Whole.{Line, lines_entries}
+use Rattle.mx_asm.proofs.ByteStatements.{HasBytes, IsLabelOfBytes, IfLabelOfBytes, IsOfBytes, all-octas, are-statements}
 
 -- ---- operand fields
 
 abbrev ModeHas : Mode → Type 0
 ModeHas operand = Unit {0}
-ModeHas (whole e) = HasOctas e
+ModeHas (whole e) = HasBytes e
 ModeHas (digit n) = n ≤ 9
 ModeHas (decimal n) = n < 2 ^ 64
 ModeHas hash = Unit {0}
 ModeHas (hexadecimal n) = n < 2 ^ 64
 ModeHas quote = Unit {0}
 ModeHas (character c) = c < 2 ^ 64
-ModeHas (symbol text) = Unit {0}
-ModeHas (slash e) = HasOctas e
-ModeHas (less e) = HasOctas e
-ModeHas (greater e) = HasOctas e
+ModeHas (symbol text) = AreBytes text
+ModeHas (slash e) = HasBytes e
+ModeHas (less e) = HasBytes e
+ModeHas (greater e) = HasBytes e
 ModeHas (string empty) = Unit {0}
 ModeHas closed = Unit {0}
 
 abbrev WaitingHas : Waiting → Type 0
 WaitingHas (sign op) = Unit {0}
-WaitingHas (strong op left) = HasOctas left
-WaitingHas (weak op left) = HasOctas left
+WaitingHas (strong op left) = HasBytes left
+WaitingHas (weak op left) = HasBytes left
 WaitingHas parenthesis = Unit {0}
 
 abbrev AllWait : List Waiting → Type 0
 AllWait k = AllByRecursion WaitingHas k
 
 abbrev AllTrees : List Tree → Type 0
-AllTrees es = AllByRecursion HasOctas es
+AllTrees es = AllByRecursion HasBytes es
 
 record StateHas (s : State) : Type 0 where
   mode : ModeHas s.mode
@@ -74,7 +77,7 @@ ListHas (Err fault) = Unit {0}
 ListHas (Ok es) = AllTrees es
 
 abbrev PairHas : Tree × List Waiting → Type 0
-PairHas p = HasOctas p.0 × AllWait p.1
+PairHas p = HasBytes p.0 × AllWait p.1
 
 either : (b : Bool) (x y : Read) → (b ≡ true → ReadHas x) → (b ≡ false → ReadHas y) → ReadHas (cond b x y)
 either true x y h g = h refl
@@ -83,24 +86,24 @@ either false x y h g = g refl
 at-has : (mode : Mode) (k : List Waiting) (d : ℕ) (es : List Tree) → ModeHas mode → AllWait k → AllTrees es → ReadHas (at mode k d es)
 at-has mode k d es m w t = record { mode = m; waiting = w; done = t }
 
-strong-has : (k : List Waiting) (e : Tree) → AllWait k → HasOctas e → PairHas (with_strong k e)
+strong-has : (k : List Waiting) (e : Tree) → AllWait k → HasBytes e → PairHas (with_strong k e)
 strong-has [] e w h = (h, tt)
 strong-has (sign op ∷ k) e w h = strong-has k (unary op e) w.1 h
 strong-has (strong op left ∷ k) e w h = ((w.0, h), w.1)
 strong-has (weak op left ∷ k) e w h = (h, w)
 strong-has (parenthesis ∷ k) e w h = (h, w)
 
-weak-has : (k : List Waiting) (e : Tree) → AllWait k → HasOctas e → PairHas (with_weak k e)
+weak-has : (k : List Waiting) (e : Tree) → AllWait k → HasBytes e → PairHas (with_weak k e)
 weak-has [] e w h = (h, tt)
 weak-has (sign op ∷ k) e w h = (h, w)
 weak-has (strong op left ∷ k) e w h = (h, w)
 weak-has (weak op left ∷ k) e w h = ((w.0, h), w.1)
 weak-has (parenthesis ∷ k) e w h = (h, w)
 
-primary-has : (e : Tree) (k : List Waiting) (d : ℕ) (es : List Tree) → HasOctas e → AllWait k → AllTrees es → ReadHas (primary_end e k d es)
+primary-has : (e : Tree) (k : List Waiting) (d : ℕ) (es : List Tree) → HasBytes e → AllWait k → AllTrees es → ReadHas (primary_end e k d es)
 primary-has e k d es h w t = let p = strong-has k e w h in at-has (whole (with_strong k e).0) (with_strong k e).1 d es p.0 p.1 t
 
-trees-more : (es : List Tree) (e : Tree) → AllTrees es → HasOctas e → AllTrees (es ++ e ∷ [])
+trees-more : (es : List Tree) (e : Tree) → AllTrees es → HasBytes e → AllTrees (es ++ e ∷ [])
 trees-more [] e t h = (h, tt)
 trees-more (x ∷ es) e t h = (t.0, trees-more es e t.1 h)
 
@@ -123,10 +126,10 @@ mark-has b k d es w t =
 digit-small : (b : ℕ) → is_digit b ≡ true → b - 48 ≤ 9
 digit-small b e = let last = leb-true b 57 (and_parts (nat_le 48 b) (nat_le b 57) e).1 in omega (arith, last)
 
-start-has : (b : ℕ) (k : List Waiting) (d : ℕ) (es : List Tree) → AllWait k → AllTrees es → ReadHas (primary_start b k d es)
-start-has b k d es w t =
+start-has : (b : ℕ) (k : List Waiting) (d : ℕ) (es : List Tree) → b < 2 ^ 8 → AllWait k → AllTrees es → ReadHas (primary_start b k d es)
+start-has b k d es l w t =
     either (is_digit b) _ _ (λ e. at-has (digit (b - 48)) k d es (digit-small b e) w t) (λ e.
-    either (is_letter b) _ _ (λ e. at-has (symbol (b ∷ [])) k d es tt w t) (λ e. mark-has b k d es w t))
+    either (is_letter b) _ _ (λ e. at-has (symbol (b ∷ [])) k d es (l, tt) w t) (λ e. mark-has b k d es w t))
 
 enclosed-has : (p : Tree × List Waiting) (d : ℕ) (es : List Tree) → PairHas p → AllTrees es → ReadHas (enclosed p d es)
 enclosed-has (e, []) d es h t = tt
@@ -150,7 +153,7 @@ weakly-has : (op : Option BinOp) (b : ℕ) (p : Tree × List Waiting) (d : ℕ) 
 weakly-has (Some op) b p d es h t = at-has operand (weak op p.0 ∷ p.1) d es tt h t
 weakly-has None b p d es h t = sum-has b p d es h t
 
-strongly-has : (op : Option BinOp) (b : ℕ) (e : Tree) (k : List Waiting) (d : ℕ) (es : List Tree) → HasOctas e → AllWait k → AllTrees es → ReadHas (strongly op b e k d es)
+strongly-has : (op : Option BinOp) (b : ℕ) (e : Tree) (k : List Waiting) (d : ℕ) (es : List Tree) → HasBytes e → AllWait k → AllTrees es → ReadHas (strongly op b e k d es)
 strongly-has (Some op) b e k d es h w t = at-has operand (strong op e ∷ k) d es tt (h, w) t
 strongly-has None b e k d es h w t =
     either (b == 47) _ _ (λ f. at-has (slash e) k d es h w t) (λ f.
@@ -160,7 +163,7 @@ strongly-has None b e k d es h w t =
 after-has : (b : ℕ) (p : Tree × List Waiting) (d : ℕ) (es : List Tree) → PairHas p → AllTrees es → ReadHas (after b p d es)
 after-has b p d es h t = strongly-has (strong_of b) b p.0 p.1 d es h.0 h.1 t
 
-beyond-has : (b : ℕ) (e : Tree) (k : List Waiting) (d : ℕ) (es : List Tree) → HasOctas e → AllWait k → AllTrees es → ReadHas (beyond b e k d es)
+beyond-has : (b : ℕ) (e : Tree) (k : List Waiting) (d : ℕ) (es : List Tree) → HasBytes e → AllWait k → AllTrees es → ReadHas (beyond b e k d es)
 beyond-has b e k d es h w t = after-has b (with_strong k e) d es (strong-has k e w h) t
 
 within-has : (f : Option ExprFault) (r : Read) → (f ≡ None → ReadHas r) → ReadHas (within f r)
@@ -183,7 +186,7 @@ value-small b l = by (is_digit b) (nat_le 97 b && nat_le b 102)
     by false false = omega (arith, l)
 
 reading-has : (mode : Mode) (k : List Waiting) (d : ℕ) (es : List Tree) (b : ℕ) → b < 2 ^ 8 → ModeHas mode → AllWait k → AllTrees es → passed_bound mode d b ≡ None → ReadHas (next_reading mode k d es b)
-reading-has operand k d es b l m w t p = start-has b k d es w t
+reading-has operand k d es b l m w t p = start-has b k d es l w t
 reading-has (whole e) k d es b l m w t p = after-has b (e, k) d es (m, w) t
 reading-has (digit n) k d es b l m w t p =
     either (is_digit b) _ _ (λ e. at-has (decimal (n * 10 + (b - 48))) k d es (let s = digit-small b e in omega (arith, m, s)) w t) (λ e.
@@ -200,8 +203,8 @@ reading-has (hexadecimal n) k d es b l m w t p =
     (λ e. beyond-has b (number n) k d es m w t)
 reading-has quote k d es b l m w t p = at-has (character b) k d es (omega (arith, l)) w t
 reading-has (character c) k d es b l m w t p = either (b == 39) _ _ (λ e. primary-has (number c) k d es m w t) (λ e. tt)
-reading-has (symbol text) k d es b l m w t p = either (is_name_byte b) _ _ (λ e. at-has (symbol (text ++ b ∷ [])) k d es tt w t) (λ e. beyond-has b (name text) k d es tt w t)
-reading-has (slash e) k d es b l m w t p = either (b == 47) _ _ (λ f. at-has operand (strong Fraction e ∷ k) d es tt (m, w) t) (λ f. start-has b (strong Div e ∷ k) d es (m, w) t)
+reading-has (symbol text) k d es b l m w t p = either (is_name_byte b) _ _ (λ e. at-has (symbol (text ++ b ∷ [])) k d es (bytes-append text (b ∷ []) m (l, tt)) w t) (λ e. beyond-has b (name text) k d es m w t)
+reading-has (slash e) k d es b l m w t p = either (b == 47) _ _ (λ f. at-has operand (strong Fraction e ∷ k) d es tt (m, w) t) (λ f. start-has b (strong Div e ∷ k) d es l (m, w) t)
 reading-has (less e) k d es b l m w t p = either (b == 60) _ _ (λ f. at-has operand (strong Left e ∷ k) d es tt (m, w) t) (λ f. tt)
 reading-has (greater e) k d es b l m w t p = either (b == 62) _ _ (λ f. at-has operand (strong Right e ∷ k) d es tt (m, w) t) (λ f. tt)
 reading-has (string empty) k d es b l m w t p =
@@ -220,7 +223,7 @@ unfolding steps
 steps-has [] s l h = h
 steps-has (b ∷ bs) s l h = then-has (step s b) (λ t. steps t bs) (step-has s b l.0 h) (λ t g. steps-has bs t l.1 g)
 
-end-by : (e : Tree) (k : List Waiting) (es : List Tree) → HasOctas e → AllWait k → AllTrees es → ListHas (let p = with_strong k e in listed (with_weak p.1 p.0) es)
+end-by : (e : Tree) (k : List Waiting) (es : List Tree) → HasBytes e → AllWait k → AllTrees es → ListHas (let p = with_strong k e in listed (with_weak p.1 p.0) es)
 end-by e k es h w t =
     let p = strong-has k e w h in
     listed-has (with_weak (with_strong k e).1 (with_strong k e).0) es (weak-has (with_strong k e).1 (with_strong k e).0 p.1 p.0) t
@@ -234,7 +237,7 @@ end-has hash k es m w t = tt
 end-has (hexadecimal n) k es m w t = end-by (number n) k es m w t
 end-has quote k es m w t = tt
 end-has (character c) k es m w t = tt
-end-has (symbol text) k es m w t = end-by (name text) k es tt w t
+end-has (symbol text) k es m w t = end-by (name text) k es m w t
 end-has (slash e) k es m w t = tt
 end-has (less e) k es m w t = tt
 end-has (greater e) k es m w t = tt
@@ -253,15 +256,19 @@ field-has (b ∷ bs) l = reading-end-has (steps start (b ∷ bs)) (steps-has (b 
 
 abbrev EntryHas : Entry → Type 0
 EntryHas (Err refused) = Unit {0}
-EntryHas (Ok s) = IsStatement s
+EntryHas (Ok s) = IsOfBytes s
 
-operands-has : (fields : Fields) (line : ℕ) (op : Op) (r : Result (List Tree) ExprFault) → 0 < line → IsOperation op → ListHas r → EntryHas (entry_with line (with_operands fields line op r))
-operands-has fields line op (Err fault) some is h = tt
-operands-has fields line op (Ok operands) some is h = record { line = some; operation = is; operands = h }
+operands-has : (fields : Fields) (line : ℕ) (op : Op) (r : Result (List Tree) ExprFault) → 0 < line → IfLabelOfBytes fields.label → IsOperation op → ListHas r → EntryHas (entry_with line (with_operands fields line op r))
+operands-has fields line op (Err fault) some label is h = tt
+operands-has fields line op (Ok operands) some label is h = record {
+  statement = record { line = some; operation = is; operands = all-octas operands h };
+  label = label;
+  operands = h;
+}
 
-operation-has : (fields : Fields) (line : ℕ) (r : Answer Op) → 0 < line → ((op : Op) → r ≡ Ok op → IsOperation op) → AreBytes fields.operands → EntryHas (entry_with line (with_operation fields line r))
-operation-has fields line (Err fault) some is l = tt
-operation-has fields line (Ok op) some is l = operands-has fields line op (reading fields.operands) some (is op refl) (field-has fields.operands l)
+operation-has : (fields : Fields) (line : ℕ) (r : Answer Op) → 0 < line → IfLabelOfBytes fields.label → ((op : Op) → r ≡ Ok op → IsOperation op) → AreBytes fields.operands → EntryHas (entry_with line (with_operation fields line r))
+operation-has fields line (Err fault) some label is l = tt
+operation-has fields line (Ok op) some label is l = operands-has fields line op (reading fields.operands) some label (is op refl) (field-has fields.operands l)
 
 operation-named : (labelled : Bool) (bare : List ℕ) (r : Option Op) (op : Op) → operation_of bare ≡ r → operation_with labelled r ≡ Ok op → IsOperation op
 operation-named labelled bare None op e h = absurd (cc)
@@ -271,23 +278,35 @@ operation-named labelled bare (Some other) op e h = by (labelled && not (takes_l
     by true h = absurd (cc)
     by false h = let same : other ≡ op = cc in (bare, e ∙ ap Some same)
 
+label-has : (text : List ℕ) → AreBytes text → IsLabelOfBytes (label_of text)
+label-has [] l = tt
+label-has (b ∷ bs) l = by (is_digit b)
+  where
+    by : (c : Bool) → IsLabelOfBytes (cond c (Local (b - 48)) (Name (b ∷ bs)))
+    by true = tt
+    by false = l
+
+labels-have : (label : Option (List ℕ)) → IfSome label AreBytes → IfLabelOfBytes (option_map label_of label)
+labels-have None l = tt
+labels-have (Some text) l = label-has text l
+
 abbrev ItemHas : Item → Type 0
-ItemHas (statement line label op operands) = (0 < line) × AreBytes operands
+ItemHas (statement line label op operands) = (0 < line) × IfSome label AreBytes × AreBytes operands
 ItemHas (faulty line why) = Unit {0}
 ItemHas (too_far line) = Unit {0}
 
 entry-has : (i : Item) → ItemHas i → EntryHas (entry_of i)
 entry-has (statement line label op operands) h =
-    operation-has (record { label = option_map label_of label; op = op; operands = operands }) line (operation_for (is_some (option_map label_of label)) op) h.0
-    (λ o is. operation-named (is_some (option_map label_of label)) op (operation_of op) o refl is) h.1
+    operation-has (record { label = option_map label_of label; op = op; operands = operands }) line (operation_for (is_some (option_map label_of label)) op) h.0 (labels-have label h.1)
+    (λ o is. operation-named (is_some (option_map label_of label)) op (operation_of op) o refl is) h.2
 entry-has (faulty line why) h = tt
 entry-has (too_far line) h = tt
 
-pub entries-have : (items : List Item) → AllByRecursion ItemHas items → AllByRecursion IsStatement (statements_in (entries_of items))
+entries-have : (items : List Item) → AllByRecursion ItemHas items → AllByRecursion IsOfBytes (statements_in (entries_of items))
 entries-have [] h = tt
 entries-have (i ∷ items) h = by (entry_of i) (entry-has i h.0) (entries-have items h.1)
   where
-    by : (e : Entry) → EntryHas e → AllByRecursion IsStatement (statements_in (entries_of items)) → AllByRecursion IsStatement (statements_in (e ∷ entries_of items))
+    by : (e : Entry) → EntryHas e → AllByRecursion IsOfBytes (statements_in (entries_of items)) → AllByRecursion IsOfBytes (statements_in (e ∷ entries_of items))
     by (Err refused) h rest = tt
     by (Ok s) h rest = (h, rest)
 
@@ -296,8 +315,12 @@ entries-have (i ∷ items) h = by (entry_of i) (entry-has i h.0) (entries-have i
 pub part-bytes : (line : List ℕ) (s : Span) → AreBytes line → AreBytes (part line s)
 part-bytes line s h = bytes-front (s.to - s.from) (drop s.from line) (bytes-behind s.from line h)
 
+label-bytes : (line : List ℕ) (label : Option Span) → AreBytes line → IfSome (option_map (part line) label) AreBytes
+label-bytes line None h = tt
+label-bytes line (Some s) h = part-bytes line s h
+
 item-has : (n : ℕ) (line : List ℕ) (r : Result Cut LineFault) → 0 < n → AreBytes line → ItemHas (item_of n line r)
-item-has n line (Ok cut) some h = (some, part-bytes line cut.operands h)
+item-has n line (Ok cut) some h = (some, label-bytes line cut.label h, part-bytes line cut.operands h)
 item-has n line (Err why) some h = tt
 
 map-has : (n : ℕ) (line : List ℕ) (rs : List (Result Cut LineFault)) → 0 < n → AreBytes line → AllByRecursion ItemHas (map (item_of n line) rs)
@@ -319,5 +342,8 @@ items-have all n (line ∷ lines) some h = by (is_too_far all n) (before-has (it
     by true rest = (tt, tt)
     by false rest = rest
 
+pub lines-of-bytes : (lines : List Line) → AllByRecursion AreBytes lines → AllByRecursion IsOfBytes (statements_in (lines_entries lines))
+lines-of-bytes lines h = entries-have (items_from lines 1 lines) (items-have lines 1 lines (omega arith) h)
+
 pub lines-read : (lines : List Line) → AllByRecursion AreBytes lines → AllByRecursion IsStatement (statements_in (lines_entries lines))
-lines-read lines h = entries-have (items_from lines 1 lines) (items-have lines 1 lines (omega arith) h)
+lines-read lines h = are-statements (statements_in (lines_entries lines)) (lines-of-bytes lines h)

@@ -50,7 +50,7 @@ use Rattle.mx_asm.proofs.MeaningStatements.{IsWord}
 
 -- ---- values
 
-abbrev HasWord : Valued → Type 0
+abbrev pub HasWord : Valued → Type 0
 HasWord (Err fault) = Unit {0}
 HasWord (Ok v) = IsWord v
 
@@ -157,7 +157,7 @@ symbol-word : (k : Known) (r : Result (List ℕ) NameFault) → KnowsWords k →
 symbol-word k (Err fault) h = tt
 symbol-word k (Ok full) h = some-word (value_of_name k.names full) (h.symbols full)
 
-value-word : (k : Known) (e : Tree) → KnowsWords k → HasOctas e → HasWord (value_of (knowledge_of k) e)
+pub value-word : (k : Known) (e : Tree) → KnowsWords k → HasOctas e → HasWord (value_of (knowledge_of k) e)
 value-word k (number n) h is = is
 value-word k (name text) h is = symbol-word k (symbol_form k.names text) h
 value-word k (back d) h is = h.backs d

@@ -77,7 +77,7 @@ fitting-is : (long : Bool) (form full : List ℕ) → ◌≡◌ {A = Result (Lis
 fitting-is true form full h = absurd (cc)
 fitting-is false form full h = cc
 
-form-is : (names : NameTable) (text full : List ℕ) → symbol_form names text ≡ Ok full → full ≡ complete_form names.prefix text
+pub form-is : (names : NameTable) (text full : List ℕ) → symbol_form names text ≡ Ok full → full ≡ complete_form names.prefix text
 form-is names text full h = fitting-is (nat_lt 1024 (length (complete_form names.prefix text))) (complete_form names.prefix text) full h
 
 absent-by : (predefined defined : Bool) (u : Unit {0}) → ◌≡◌ {A = Result (Unit {0}) NameFault} (cond predefined (Err Predefined) (cond defined (Err Twice) (Ok tt))) (Ok u) → defined ≡ false

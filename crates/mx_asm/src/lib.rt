@@ -11,6 +11,7 @@ mod labels;
 mod laws;
 mod lines;
 mod meaning_laws;
+mod object_laws;
 mod refused;
 #[cfg(test)]
 mod tests;
@@ -24,4 +25,5 @@ pub use laws::{
 pub use meaning_laws::{
     items_mean_the_image, lines_are_loaded_where_there_is_room, sources_mean_their_images,
 };
+pub use object_laws::objects_can_be_written;
 pub use refused::Refused;

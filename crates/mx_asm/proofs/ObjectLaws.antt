@@ -1,0 +1,156 @@
+-- An object can be written of what a source is assembled into, and its trie tells its symbols.
+use Rattle.std.proofs.Common.{◌≡◌, ◌<◌, ◌≤◌, ℕ, ◌-◌, ◌/◌, ◌%◌, ◌^◌, Bool, true, false, cond, nat_lt, List, [], ◌∷◌, ◌++◌, length, Option, None, Some, Result, Ok, Err, refl, sym, ap, ◌∙◌, subst, arith, length-append}
+use Rattle.std.specs.List.{list_any}
+use Rattle.std.specs.Option.{IfSome}
+use Rattle.std.specs.Prelude.{nat_le, codes}
+use Rattle.std.proofs.lemmas.Bool.{ltb-false}
+use Rattle.std.proofs.lemmas.List.{length-replicate}
+use Rattle.mx_word.specs.Ranges.{AreBytes}
+use Rattle.mx_word.specs.declared.symbols.Value.{Value}
+use Rattle.mx_word.specs.declared.symbols.Value.TheVariants.{Pure, Reg}
+use Rattle.mx_mmo.specs.declared.items.Item.{Item}
+use Rattle.mx_mmo.specs.declared.items.Item.TheVariants.{File, Pre, Post, Stab}
+use Rattle.mx_stab.specs.Reading.{trie_answer}
+use Rattle.mx_stab.specs.Trie.{trie_of}
+use Rattle.mx_stab.proofs.Law.{written-is-trie}
+use Rattle.mx_stab.proofs.Whole.{trie-read}
+use Rattle.mx_line.specs.Lines.{lines_of}
+use Rattle.mx_names.specs.Names.{value_of_name}
+use Rattle.mx_stmt.specs.Gregs.{lowest_of}
+use Rattle.mx_stmt.specs.Operands.{Known}
+use Rattle.mx_stmt.specs.Encoding.{StatementTree}
+use Rattle.mx_asm.specs.declared.faults.AsmFault.{AsmFault}
+use Rattle.mx_asm.specs.declared.faults.AsmFault.TheVariants.{SymbolsTooMany, LocalAboveGlobals}
+use Rattle.mx_asm.specs.declared.refused.Refused.{Refused}
+use Rattle.mx_asm.specs.Entries.{statements_in, source_entries}
+use Rattle.mx_asm.specs.TwoPass.{sights_of, final_known}
+use Rattle.mx_asm.specs.Emission.{zeros_after, opening, first_head, items_from, main_name, pure_or_zero, main_of, closing, emission, padded_trie}
+use Rattle.mx_asm.specs.Image.{symbols_of}
+use Rattle.mx_asm.specs.Refusal.{trie_limit, last_fault, end_fault, at_line, first_undefined, locals, entries_refusal, end_refusal, last_line, refusal}
+use Rattle.mx_asm.specs.Fitting.{AreFit, IsPadded, AreWritable}
+use Rattle.mx_asm.specs.OnePass.{Ended}
+use Rattle.mx_asm.specs.Whole.{assembled_source}
+use Rattle.mx_asm.proofs.EndWaits.{both-none}
+use Rattle.mx_asm.proofs.Fitting.{fit-none, fit-one, fit-both, fit-registers, fit-time, fit-file}
+use Rattle.mx_asm.proofs.InTurn.{source-accepted, source-refused}
+use Rattle.mx_asm.proofs.MeaningStatements.{IsWord}
+use Rattle.mx_asm.proofs.MeaningSteady.{steady-all}
+use Rattle.mx_asm.proofs.MeaningRead.{lines-of-bytes}
+use Rattle.mx_asm.proofs.MeaningSources.{source-bytes, source-are-accepted}
+use Rattle.mx_asm.proofs.Validity.{assembled-valid}
+use Rattle.mx_asm.proofs.ObjectItems.{items-fit}
+use Rattle.mx_asm.proofs.ObjectNames.{IsTellable, few-registers, tellable-end}
+use Rattle.mx_asm.proofs.StatementCounts.{few-statements}
+
+-- ---- the end of an object
+
+main-low : (value : Option Value) → IfSome value IsWord → pure_or_zero value < 2 ^ 64
+main-low None h = omega arith
+main-low (Some (Pure n)) h = h
+main-low (Some (Reg r)) h = omega arith
+
+closing-fits : (k : Known) → IsTellable 0 k → AreFit (closing k.names k.gregs)
+closing-fits k h =
+    fit-both (Post (lowest_of k.gregs) (k.gregs ++ main_of k.names ∷ []) ∷ []) (Stab ∷ [])
+    (fit-registers [] k.gregs (main_of k.names) (few-registers k.gregs h.sound.gregs) h.gregs (main-low (value_of_name k.names main_name) (h.words.symbols main_name)) fit-none)
+    (fit-one Stab tt)
+
+opening-fits : AreFit opening
+opening-fits = fit-both (Pre (0 ∷ []) ∷ []) (File 0 (Some (codes ".mms")) ∷ []) (fit-one (Pre (0 ∷ [])) fit-time) (fit-one (File 0 (Some (codes ".mms"))) fit-file)
+
+-- ---- the trie
+
+few-zeros : (n : ℕ) → (4 - n % 4) % 4 ≤ 3
+few-zeros n = omega arith
+
+whole-tetras : (bytes : List ℕ) → length (bytes ++ zeros_after (length bytes)) % 4 ≡ 0
+whole-tetras bytes =
+    let sum = length-append bytes (zeros_after (length bytes)) in
+    let zeros = length-replicate {A = ℕ} ((4 - length bytes % 4) % 4) 0 in
+    omega (arith, sum, zeros)
+
+limit-kept : (above : Bool) (tetras : ℕ) → above ≡ nat_lt trie_limit tetras → cond above (Some SymbolsTooMany) None ≡ None → tetras < 2 ^ 16
+limit-kept true tetras e none = absurd (cc)
+limit-kept false tetras e none = let few = ltb-false trie_limit tetras (sym e) in omega (arith, few)
+
+globals-kept : (high above : Bool) (tetras : ℕ) → above ≡ nat_lt trie_limit tetras → cond high (Some LocalAboveGlobals) (cond above (Some SymbolsTooMany) None) ≡ None → tetras < 2 ^ 16
+globals-kept true above tetras e none = absurd (cc)
+globals-kept false above tetras e none = limit-kept above tetras e none
+
+few-tetras : (k : Known) (registers : List ℕ) (main : Option Value) → last_fault k registers main ≡ None → length (padded_trie k.names) / 4 < 2 ^ 16
+few-tetras k registers None none = absurd (cc)
+few-tetras k registers (Some (Reg r)) none = absurd (cc)
+few-tetras k registers (Some (Pure main)) none =
+    globals-kept (list_any (λ reg. nat_le (lowest_of k.gregs) reg) registers) (nat_lt trie_limit (length (padded_trie k.names) / 4)) (length (padded_trie k.names) / 4) refl none
+
+no-fault : (line : ℕ) (fault : Option AsmFault) → at_line line fault ≡ None → fault ≡ None
+no-fault line None h = refl
+no-fault line (Some fault) h = absurd (cc)
+
+padded : (k : Known) (registers : List ℕ) → end_fault k registers ≡ None → IsPadded (padded_trie k.names)
+padded k registers none = record { whole = whole-tetras (trie_of k.names.symbols); most = few-tetras k registers (value_of_name k.names main_name) none }
+
+told : (k : Known) → IsTellable 0 k → trie_answer (padded_trie k.names) ≡ Ok k.names.symbols
+told k h =
+    let count : ℕ = length (trie_of k.names.symbols) in
+    trie-read (padded_trie k.names) k.names.symbols
+    (written-is-trie k.names.symbols ((4 - count % 4) % 4) h.names.order h.names.named (few-zeros count))
+
+-- ---- a source
+
+module _ (source : List ℕ) (bytes : AreBytes source) where
+  abbrev statements : List StatementTree
+  statements = statements_in (source_entries source)
+
+  abbrev end : Known
+  end = final_known statements
+
+  source-tellable : refusal source ≡ None → IsTellable 0 end
+  source-tellable none =
+      let are = source-are-accepted source bytes none in
+      tellable-end statements are.faultless (lines-of-bytes (lines_of source) (source-bytes source bytes)) (few-statements (lines_of source))
+
+  emission-fits : refusal source ≡ None → AreFit (emission statements)
+  emission-fits none =
+      let are = source-are-accepted source bytes none in
+      fit-both (opening ++ items_from first_head [] (sights_of statements)) (closing end.names end.gregs)
+      (fit-both opening (items_from first_head [] (sights_of statements)) opening-fits (items-fit (sights_of statements) [] first_head (steady-all statements are.read are.faultless)))
+      (closing-fits end (source-tellable none))
+
+  trie-padded : refusal source ≡ None → IsPadded (padded_trie end.names)
+  trie-padded none =
+      let parts = both-none (entries_refusal (source_entries source)) (end_refusal (last_line (lines_of source)) statements) none in
+      let ends = both-none (first_undefined end.names (sights_of statements)) (at_line (last_line (lines_of source)) (end_fault end (locals (sights_of statements)))) parts.1 in
+      padded end (locals (sights_of statements)) (no-fault (last_line (lines_of source)) (end_fault end (locals (sights_of statements))) ends.1)
+
+  -- what is assembled is not refused
+  record IsAssembled (items : List Item) (trie : List ℕ) : Type 0 where
+    none : refusal source ≡ None
+    items_are : items ≡ emission statements
+    trie_is : trie ≡ padded_trie end.names
+
+  assembled : (items : List Item) (trie : List ℕ) → assembled_source source ≡ (items, Ok trie) → IsAssembled items trie
+  assembled items trie is = by (refusal source) refl
+    where
+      by : (r : Option Refused) → refusal source ≡ r → IsAssembled items trie
+      by None none =
+          let same : ◌≡◌ {A = Ended} (items, Ok trie) (emission statements, Ok (padded_trie end.names)) = sym is ∙ source-accepted source none in
+          let tries : ◌≡◌ {A = Result (List ℕ) Refused} (Ok trie) (Ok (padded_trie end.names)) = ap (λ (e : Ended). e.1) same in
+          record { none = none; items_are = ap (λ (e : Ended). e.0) same; trie_is = cc }
+      by (Some r) e =
+          let same = sym is ∙ source-refused source r e in
+          let no : ◌≡◌ {A = Result (List ℕ) Refused} (Ok trie) (Err r) = ap (λ (e : Ended). e.1) same in
+          absurd (cc)
+
+  pub source-writable : (items : List Item) (trie : List ℕ) → assembled_source source ≡ (items, Ok trie) → AreWritable items trie
+  source-writable items trie is =
+      let from = assembled items trie is in
+      record {
+        valid = assembled-valid (lines_of source) items trie (sym is) (subst AreFit (sym from.items_are) (emission-fits from.none));
+        padded = subst IsPadded (sym from.trie_is) (trie-padded from.none);
+      }
+
+  pub source-told : (items : List Item) (trie : List ℕ) → assembled_source source ≡ (items, Ok trie) → trie_answer trie ≡ Ok (symbols_of statements)
+  source-told items trie is =
+      let from = assembled items trie is in
+      ap trie_answer from.trie_is ∙ told end (source-tellable from.none)

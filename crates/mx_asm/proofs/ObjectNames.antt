@@ -1,0 +1,171 @@
+-- What is known behind statements of bytes: symbols that a trie can tell, and registers whose values are octas.
+use Rattle.std.proofs.Common.{◌≡◌, ◌<◌, ◌≤◌, ℕ, zero, suc, ◌+◌, ◌-◌, ◌^◌, Bool, true, false, cond, nat_lt, List, [], ◌∷◌, ◌++◌, length, fold, slice_set, Option, None, Some, Result, Ok, Err, refl, sym, subst, arith}
+use Rattle.std.specs.List.{AllByRecursion}
+use Rattle.std.specs.List.Sorted.{IsStrictlySortedBy}
+use Rattle.std.specs.Option.{IfSome}
+use Rattle.mx_word.specs.Ranges.{AreBytes, AreOctas}
+use Rattle.mx_word.specs.Symbols.{InByteOrder, IsValue, IsNamed}
+use Rattle.mx_word.specs.declared.symbols.Symbol.{Symbol}
+use Rattle.mx_word.specs.declared.symbols.Value.{Value}
+use Rattle.mx_word.specs.declared.symbols.Value.TheVariants.{Pure, Reg}
+use Rattle.mx_names.specs.declared.fault.NameFault.{NameFault}
+use Rattle.mx_names.specs.Names.{NameTable, IsFullName, complete_form, value_in, with_symbol}
+use Rattle.mx_names.proofs.Entries.{not-some, length-inserted}
+use Rattle.mx_stmt.specs.declared.statement.Label.{Label}
+use Rattle.mx_stmt.specs.declared.statement.Label.TheVariants.{Name, Local}
+use Rattle.mx_stmt.specs.declared.placed.Effect.{Effect}
+use Rattle.mx_stmt.specs.declared.placed.Effect.TheVariants as effect
+use Rattle.mx_stmt.specs.declared.placed.Placed.{Placed}
+use Rattle.mx_stmt.specs.Fixes.{HasRegisterNumber, IsSound}
+use Rattle.mx_stmt.specs.Gregs.{lowest_of, with_greg}
+use Rattle.mx_stmt.specs.Operands.{Known, no_targets, symbol_form}
+use Rattle.mx_stmt.specs.Encoding.{StatementTree, encoding}
+use Rattle.mx_stmt.proofs.SoundKnowledge.{sound-start}
+use Rattle.mx_stmt.proofs.SoundLabels.{encoding-fine}
+use Rattle.mx_asm.specs.Effects.{IsEffect}
+use Rattle.mx_asm.specs.TwoPass.{Sight, with_label, with_effect, known_with, known_after, nothing_known, sights_from}
+use Rattle.mx_asm.specs.Refusal.{name_fault, label_fault, statement_fault, first_fault}
+use Rattle.mx_asm.proofs.Encodings.{symbol-full, encoding-prefixed}
+use Rattle.mx_asm.proofs.OneStatement.{form-is, name-new}
+use Rattle.mx_asm.proofs.EndWaits.{both-none}
+use Rattle.mx_asm.proofs.ByteStatements.{IfLabelOfBytes, IsOfBytes}
+use Rattle.mx_asm.proofs.MeaningStatements.{IsWord}
+use Rattle.mx_asm.proofs.MeaningWords.{KnowsWords, words-start, encoding-words, words-kept}
+use Rattle.mx_asm.proofs.MeaningSteady.{sound-kept}
+use Rattle.mx_asm.proofs.MeaningFronts.{faultless}
+use Rattle.mx_asm.proofs.ObjectSymbols.{all-inserted, byte-order-inserted}
+use Rattle.mx_asm.proofs.ObjectEffects.{IsEffectOfBytes, form-bytes, encoding-effect}
+
+-- ---- names
+
+-- Symbols that a trie can tell, with so many statements to come.
+pub record AreTellable (left : ℕ) (names : NameTable) : Type 0 where
+  pub prefix : IsFullName names.prefix
+  pub bytes : AreBytes names.prefix
+  pub order : InByteOrder names.symbols
+  pub named : AllByRecursion IsNamed names.symbols
+  pub room : length names.symbols + left < 2 ^ 32
+
+value-is : (v : Value) → IsWord v → HasRegisterNumber v → IsValue v
+value-is (Pure x) word number = word
+value-is (Reg r) word number = number
+
+-- the complete form of a label without a fault
+label-full : (names : NameTable) (text : List ℕ) (r : Result (List ℕ) NameFault) → IsFullName names.prefix → symbol_form names text ≡ r → name_fault names r ≡ None → IsFullName (complete_form names.prefix text)
+label-full names text (Err fault) prefix is none = absurd (cc)
+label-full names text (Ok full) prefix is none = subst IsFullName (form-is names text full is) (symbol-full names text full prefix is)
+
+one-statement-less : (left : ℕ) (names : NameTable) → AreTellable (suc left) names → AreTellable left names
+one-statement-less left names h = record { prefix = h.prefix; bytes = h.bytes; order = h.order; named = h.named; room = let room = h.room in omega (arith, room) }
+
+symbol-tellable : (left : ℕ) (names : NameTable) (full : List ℕ) (v : Value) → IsFullName full → AreBytes full → IsValue v → value_in full names.symbols ≡ None → AreTellable (suc left) names → AreTellable left (with_symbol names full v)
+symbol-tellable left names full v is are value new h =
+    let s : Symbol = record { name = full; value = v; serial = length names.symbols + 1 } in
+    let room = h.room in
+    let most = is.most in
+    let least = is.least in
+    let count = length-inserted s names.symbols in
+    record {
+      prefix = h.prefix;
+      bytes = h.bytes;
+      order = byte-order-inserted s names.symbols new h.order;
+      named = all-inserted IsNamed s names.symbols (record { bytes = are; least = omega (arith, least); most = most; value = value; serial = omega (arith, room) }) h.named;
+      room = omega (arith, room, count);
+    }
+
+label-tellable : (left : ℕ) (names : NameTable) (label : Option Label) (value : Option Value) → label_fault names label ≡ None → IfLabelOfBytes label → IfSome value IsWord → IfSome value HasRegisterNumber →
+    AreTellable (suc left) names → AreTellable left (with_label names label value)
+label-tellable left names None value none bytes word number h = one-statement-less left names h
+label-tellable left names (Some (Name text)) None none bytes word number h = one-statement-less left names h
+label-tellable left names (Some (Local d)) None none bytes word number h = one-statement-less left names h
+label-tellable left names (Some (Local d)) (Some v) none bytes word number h =
+    let less = one-statement-less left names h in
+    record { prefix = less.prefix; bytes = less.bytes; order = less.order; named = less.named; room = less.room }
+label-tellable left names (Some (Name text)) (Some v) none bytes word number h =
+    symbol-tellable left names (complete_form names.prefix text) v
+    (label-full names text (symbol_form names text) h.prefix refl none) (form-bytes names.prefix text h.bytes bytes) (value-is v word number)
+    (not-some _ (name-new names text (symbol_form names text) refl none)) h
+
+effect-tellable : (left : ℕ) (k : Known) (gregs : List ℕ) (e : Effect) → IsEffect gregs e → IsEffectOfBytes e → AreTellable left k.names → AreTellable left (with_effect k e).names
+effect-tellable left k gregs effect.Plain is of h = h
+effect-tellable left k gregs (effect.Prefix full) is of h = record { prefix = is; bytes = of; order = h.order; named = h.named; room = h.room }
+effect-tellable left k gregs (effect.Greg reg value) is of h = h
+effect-tellable left k gregs (effect.Local reg) is of h = h
+
+-- ---- registers
+
+octas-set : (values : List ℕ) (i value : ℕ) → value < 2 ^ 64 → AreOctas values → AreOctas (slice_set values i value)
+octas-set [] i value low h = h
+octas-set (x ∷ values) zero value low h = (low, h.1)
+octas-set (x ∷ values) (suc i) value low h = (h.0, octas-set values i value low h.1)
+
+octas-given : (gregs : List ℕ) (reg value : ℕ) → value < 2 ^ 64 → AreOctas gregs → AreOctas (with_greg gregs reg value)
+octas-given gregs reg value low h = by (nat_lt reg (lowest_of gregs))
+  where
+    by : (b : Bool) → AreOctas (cond b (value ∷ gregs) (slice_set gregs (reg - lowest_of gregs) value))
+    by true = (low, h)
+    by false = octas-set gregs (reg - lowest_of gregs) value low h
+
+effect-octas : (k : Known) (e : Effect) → IsEffectOfBytes e → AreOctas k.gregs → AreOctas (with_effect k e).gregs
+effect-octas k effect.Plain of h = h
+effect-octas k (effect.Prefix full) of h = h
+effect-octas k (effect.Greg reg value) of h = octas-given k.gregs reg value of h
+effect-octas k (effect.Local reg) of h = h
+
+-- ---- statements
+
+-- What is known behind statements of bytes, with so many statements to come.
+pub record IsTellable (left : ℕ) (k : Known) : Type 0 where
+  pub names : AreTellable left k.names
+  pub gregs : AreOctas k.gregs
+  pub sound : IsSound k
+  pub words : KnowsWords k
+
+tellable-start : (left : ℕ) → left < 2 ^ 32 → IsTellable left nothing_known
+unfolding IsStrictlySortedBy
+tellable-start left few = record {
+  names = record {
+    prefix = record { complete = refl; least = omega arith; most = omega arith };
+    bytes = (omega arith, tt);
+    order = tt;
+    named = tt;
+    room = omega (arith, few);
+  };
+  gregs = tt;
+  sound = sound-start 0;
+  words = words-start;
+}
+
+pub few-registers : (gregs : List ℕ) → 32 ≤ lowest_of gregs → length gregs ≤ 223
+few-registers gregs low = omega (arith, low)
+
+tellable-kept : (left : ℕ) (k : Known) (s : StatementTree) (p : Placed) → IsOfBytes s → encoding no_targets k s ≡ Ok p → label_fault k.names s.label ≡ None → IsTellable (suc left) k → IsTellable left (known_after k s)
+unfolding known_after
+tellable-kept left k s p of e none h =
+    let placed = encoding-prefixed no_targets k s p h.names.prefix (few-registers k.gregs h.sound.gregs) e in
+    let effects = encoding-effect no_targets k s p h.words h.names.bytes of e in
+    let words = encoding-words no_targets k s p h.words of.statement e in
+    let fine = encoding-fine no_targets k s p h.sound e in
+    let named : Known = record { names = with_label k.names s.label p.label; at = p.after; gregs = k.gregs } in
+    record {
+      names = subst (λ r. AreTellable left (known_with k s r).names) (sym e)
+          (effect-tellable left named k.gregs p.effect placed.effect effects (label-tellable left k.names s.label p.label none of.label words.label fine.label h.names));
+      gregs = subst (λ r. AreOctas (known_with k s r).gregs) (sym e) (effect-octas named p.effect effects h.gregs);
+      sound = sound-kept k s p h.sound e none;
+      words = words-kept k s p h.words of.statement e none;
+    }
+
+tellable-behind : (statements : List StatementTree) (k : Known) (earlier : List Sight) → first_fault earlier (sights_from k statements) ≡ None → AllByRecursion IsOfBytes statements → IsTellable (length statements) k →
+    IsTellable 0 (fold known_after k statements)
+unfolding sights_from first_fault
+tellable-behind [] k earlier none of h = h
+tellable-behind (s ∷ later) k earlier none of h =
+    let here : Sight = record { known = k; statement = s } in
+    let parts = both-none (statement_fault earlier here) (first_fault (earlier ++ here ∷ []) (sights_from (known_after k s) later)) none in
+    let is = faultless earlier here parts.0 in
+    tellable-behind later (known_after k s) (earlier ++ here ∷ []) parts.1 of.1 (tellable-kept (length later) k s is.placed_as of.0 is.outlined is.label h)
+
+-- what is known at the end of fewer than 2^32 statements of bytes without a fault
+pub tellable-end : (statements : List StatementTree) → first_fault [] (sights_from nothing_known statements) ≡ None → AllByRecursion IsOfBytes statements → length statements < 2 ^ 32 →
+    IsTellable 0 (fold known_after nothing_known statements)
+tellable-end statements none of few = tellable-behind statements nothing_known [] none of (tellable-start (length statements) few)

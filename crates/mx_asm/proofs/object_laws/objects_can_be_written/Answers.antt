@@ -1,0 +1,8 @@
+use Rattle.mx_asm.proofs.ObjectLaws.{source-writable, source-told}
+use Rattle.mx_asm.proofs.object_laws.objects_can_be_written.Goals as goal
+
+pub returns-clause-writable : goal.returns-clause-writable
+returns-clause-writable c = λ source items trie bytes is. source-writable source bytes items trie is
+
+pub returns-clause-symbols : goal.returns-clause-symbols
+returns-clause-symbols c = λ source items trie bytes is. source-told source bytes items trie is
