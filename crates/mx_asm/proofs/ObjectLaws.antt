@@ -39,6 +39,8 @@ use Rattle.mx_asm.proofs.MeaningRead.{lines-of-bytes}
 use Rattle.mx_asm.proofs.MeaningSources.{source-bytes, source-are-accepted}
 use Rattle.mx_asm.proofs.Validity.{assembled-valid}
 use Rattle.mx_asm.proofs.ObjectItems.{items-fit}
+use Rattle.mx_mmo.specs.Spelling.{written, ending}
+use Rattle.mx_asm.proofs.ObjectShort.{object-short}
 use Rattle.mx_asm.proofs.ObjectNames.{IsTellable, few-registers, tellable-end}
 use Rattle.mx_asm.proofs.StatementCounts.{few-statements}
 
@@ -154,3 +156,10 @@ module _ (source : List ℕ) (bytes : AreBytes source) where
   source-told items trie is =
       let from = assembled items trie is in
       ap trie_answer from.trie_is ∙ told end (source-tellable from.none)
+
+  pub source-few : (items : List Item) (trie : List ℕ) → assembled_source source ≡ (items, Ok trie) → length (written items ++ ending trie) ≤ 2 ^ 26
+  source-few items trie is =
+      let from = assembled items trie is in
+      let short = object-short source bytes from.none in
+      subst (λ items. length (written items ++ ending trie) ≤ 2 ^ 26) (sym from.items_are)
+      (subst (λ trie. length (written (emission statements) ++ ending trie) ≤ 2 ^ 26) (sym from.trie_is) short)

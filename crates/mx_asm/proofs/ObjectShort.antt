@@ -1,5 +1,5 @@
 -- The object of a source is not too long.
-use Rattle.std.proofs.Common.{◌≡◌, ℕ, ◌+◌, ◌*◌, ◌^◌, ◌≤◌, List, ◌++◌, length, arith, None}
+use Rattle.std.proofs.Common.{◌≡◌, ℕ, ◌^◌, ◌≤◌, List, ◌++◌, length, arith, None}
 use Rattle.mx_word.specs.Ranges.{AreBytes}
 use Rattle.mx_mmo.specs.Spelling.{written, ending}
 use Rattle.mx_asm.specs.Emission.{emission, padded_trie}

@@ -1,6 +1,6 @@
 //! What the items of a source mean.
 
-ghost use Rattle.std.specs.Prelude.{◌≡◌, ◌+◌, ◌++◌, ◌∷◌, [], ℕ, List, None, Ok, Some, is_some, length, not};
+ghost use Rattle.std.specs.Prelude.{◌≡◌, ◌+◌, ◌++◌, ◌∷◌, [], ℕ, List, Err, None, Ok, Some, is_some, length, not};
 ghost use Rattle.std.specs.List.{AllByRecursion};
 ghost use Rattle.std.specs.Result.{result_err};
 ghost use Rattle.mx_word.specs.Ranges.{AreBytes};
@@ -34,13 +34,17 @@ pub fn lines_are_loaded_where_there_is_room()
 {}
 
 /// What a source that is not refused is assembled into means its image, unless that has too many
-/// pages; one that is not refused when it is run means its image. What any source gives is loaded
-/// unless its accepted statements touch too many pages.
+/// pages; one that is not refused when it is run means its image, and one that is refused for its pages
+/// alone means nothing, for that reason. What any source gives is loaded unless its accepted statements
+/// touch too many pages.
 pub fn sources_mean_their_images()
     ensures image { (source : List ℕ) → AreBytes source → refusal source ≡ None →
         meaning (assembled_source source).0 ≡ loaded_image (statements_in (source_entries source)) }
     ensures run { (source : List ℕ) → AreBytes source → run_refusal source ≡ None →
         meaning (assembled_source source).0 ≡ Ok (image (statements_in (source_entries source))) }
+    ensures pages { (source : List ℕ) (line : ℕ) → AreBytes source → refusal source ≡ None →
+        page_refusal (accepted_in (source_entries source)) ≡ Some line →
+        meaning (assembled_source source).0 ≡ Err PagesFull }
     ensures fault { (source : List ℕ) → AreBytes source →
         result_err (take_items (assembled_source source).0 (Ok nothing)) ≡ page_fault (accepted_in (source_entries source)) }
 {}
