@@ -26,8 +26,8 @@ Spared {A} m t u = Spares m t.1 (t.0, still t.1) u
 
 -- ---- no call, one call, and what follows
 
-pub idle : {X : Type 0} {m : HostModel} {t : X} → Spares m m t t
-idle {X} {m} {t} = record { same = λ none. refl; later = le_refl m.calls; list = refl }
+pub uncalled : {X : Type 0} {m : HostModel} {t : X} → Spares m m t t
+uncalled {X} {m} {t} = record { same = λ none. refl; later = le_refl m.calls; list = refl }
 
 counts : (m : HostModel) → m.calls ≤ (counted m).calls
 counts m = up (nat_lt m.calls last_call) m.calls
@@ -39,13 +39,15 @@ counts m = up (nat_lt m.calls last_call) m.calls
 pub called : {X : Type 0} (m n : HostModel) (t : X) → n.calls ≡ (counted m).calls → n.failing ≡ m.failing → Spares m n t t
 called m n t e f = record { same = λ none. refl; later = rw e (counts m); list = f }
 
+pub sooner : (m n l : HostModel) → n.calls ≤ l.calls → NoneFailed m l → NoneFailed m n
+sooner m n l h none call from to = none call from (omega arith)
+
 pub after : {X Y : Type 0} {m n l : HostModel} {t u : X} {w : Y} (f : X → Y) → Spares m n t u → Spares n l w (f t) → Spares m l w (f u)
 after {X} {Y} {m} {n} {l} f h k =
     let early = h.later in
     let late = k.later in
-    let first : NoneFailed m l → NoneFailed m n = λ none call from to. none call from (omega arith) in
     let second : NoneFailed m l → NoneFailed n l = λ none call from to. ap (is_listed call) h.list ∙ none call (omega arith) to in
-    record { same = λ none. k.same (second none) ∙ ap f (h.same (first none)); later = omega arith; list = k.list ∙ h.list }
+    record { same = λ none. k.same (second none) ∙ ap f (h.same (sooner m n l late none)); later = omega arith; list = k.list ∙ h.list }
 
 pub then : {A B : Type 0} {m : HostModel} (more : Then A → Then B) (t u : Then A) → ((a : A) (n : HostModel) → Spared n (more (a, n)) (more (a, still n))) →
     Spared m t u → Spared m (more t) (more u)

@@ -24,7 +24,7 @@ use Rattle.mx_trap.specs.declared.requests.Request.{Request}
 use Rattle.mx_trap.specs.declared.requests.Request.TheVariants.{Ending, Opening, Closing, Reading, ReadingLine, Writing, WritingText, Seeking, Telling}
 use Rattle.mx_trap.specs.declared.writes.Written.{Written}
 use Rattle.mx_trap.specs.declared.writes.Written.TheVariants.{Whole, Short, OutOfMemory}
-use Rattle.mx_trap.proofs.Spared.{Spares, Spared, idle, called, after, then, either, here, open-spared, read-spared, write-spared, close-spared}
+use Rattle.mx_trap.proofs.Spared.{Spares, Spared, uncalled, called, after, then, either, here, open-spared, read-spared, write-spared, close-spared}
 
 -- ---- calls that seek and tell
 
@@ -72,25 +72,25 @@ choice false x y v w h k = k
 -- ---- Fread
 
 stored-case : {Rest : Type 0} (n : ℕ) (r : Result (Unit {0}) TrapAnswer × Contents Rest) (m : HostModel) → SparedLeaves m (piece_stored n m r) (piece_stored n (still m) r)
-stored-case n (Ok u, s) m = idle
-stored-case n (Err answer, s) m = idle
+stored-case n (Ok u, s) m = uncalled
+stored-case n (Err answer, s) m = uncalled
 
 got-case : {Rest : Type 0} (a q : ℕ) (s : Contents Rest) (r : Result (List ℕ) HostFault) (m : HostModel) → SparedLeaves m (piece_got a q s (r, m)) (piece_got a q s (r, still m))
 got-case a q s (Ok got) m = stored-case (length got) (bytes_stored got a s) m
-got-case a q s (Err e) m = idle
+got-case a q s (Err e) m = uncalled
 
 read-steady : {Rest : Type 0} (slot a len q : ℕ) (s : Contents Rest) (m : HostModel) → SparedLeaves m (read_piece slot a len q s m) (read_piece slot a len q s (still m))
 read-steady slot a len q s m = behind-call (piece_got a q s) (read_answer m slot len) (read_answer (still m) slot len) (got-case a q s) (read-spared m slot len)
 
 last-case : {Rest : Type 0} (gone q : ℕ) (r : Result ℕ TrapAnswer) (s : Contents Rest) (m : HostModel) → SparedLeaves m (read_last gone q (r, s, m)) (read_last gone q (r, s, still m))
-last-case gone q (Ok n) s m = idle
-last-case gone q (Err answer) s m = idle
+last-case gone q (Ok n) s m = uncalled
+last-case gone q (Err answer) s m = uncalled
 
 next-case : {Rest : Type 0} (more : Contents Rest → HostModel → Leaves TrapAnswer Rest) (gone q : ℕ) →
     ((s : Contents Rest) (m : HostModel) → SparedLeaves m (more s m) (more s (still m))) →
     (r : Result ℕ TrapAnswer) (s : Contents Rest) (m : HostModel) → SparedLeaves m (read_next more gone q (r, s, m)) (read_next more gone q (r, s, still m))
-next-case more gone q f (Ok n) s m = choice (n == 4096) _ _ _ _ (f s m) idle
-next-case more gone q f (Err answer) s m = idle
+next-case more gone q f (Ok n) s m = choice (n == 4096) _ _ _ _ (f s m) uncalled
+next-case more gone q f (Err answer) s m = uncalled
 
 pieces-steady : {Rest : Type 0} (k slot p q gone : ℕ) (s : Contents Rest) (m : HostModel) → SparedLeaves m (read_pieces k slot p q gone s m) (read_pieces k slot p q gone s (still m))
 unfolding read_pieces
@@ -103,17 +103,17 @@ pieces-steady (suc k) slot p q gone s m =
 -- ---- Fgets
 
 ended-case : {Rest : Type 0} (count : ℕ) (r : Result (Unit {0}) TrapAnswer × Contents Rest) (m : HostModel) → SparedLeaves m (line_ended count m r) (line_ended count (still m) r)
-ended-case count (Ok u, s) m = idle
-ended-case count (Err answer, s) m = idle
+ended-case count (Ok u, s) m = uncalled
+ended-case count (Err answer, s) m = uncalled
 
 put-case : {Rest : Type 0} (b : ℕ) (r : Result (Unit {0}) TrapAnswer × Contents Rest) (m : HostModel) → SparedLeaves m (byte_put b m r) (byte_put b (still m) r)
-put-case b (Ok u, s) m = idle
-put-case b (Err answer, s) m = idle
+put-case b (Ok u, s) m = uncalled
+put-case b (Err answer, s) m = uncalled
 
 byte-case : {Rest : Type 0} (a : ℕ) (s : Contents Rest) (r : Result (List ℕ) HostFault) (m : HostModel) → SparedLeaves m (byte_got a s (r, m)) (byte_got a s (r, still m))
-byte-case a s (Ok []) m = idle
+byte-case a s (Ok []) m = uncalled
 byte-case a s (Ok (b ∷ bs)) m = put-case b (byte_stored a b s) m
-byte-case a s (Err e) m = idle
+byte-case a s (Err e) m = uncalled
 
 byte-steady : {Rest : Type 0} (slot a : ℕ) (s : Contents Rest) (m : HostModel) → SparedLeaves m (line_byte slot a s m) (line_byte slot a s (still m))
 byte-steady slot a s m = behind-call (byte_got a s) (read_answer m slot 1) (read_answer (still m) slot 1) (byte-case a s) (read-spared m slot 1)
@@ -122,7 +122,7 @@ line-case : {Rest : Type 0} (more : Contents Rest → HostModel → Leaves TrapA
     ((s : Contents Rest) (m : HostModel) → SparedLeaves m (more s m) (more s (still m))) →
     (r : Result Bool TrapAnswer) (s : Contents Rest) (m : HostModel) → SparedLeaves m (line_next more p count (r, s, m)) (line_next more p count (r, s, still m))
 line-case more p count f (Ok newline) s m = choice newline _ _ _ _ (ended-case (count + 1) (byte_stored (p + (count + 1)) 0 s) m) (f s m)
-line-case more p count f (Err answer) s m = idle
+line-case more p count f (Err answer) s m = uncalled
 
 line-steady : {Rest : Type 0} (room slot p count : ℕ) (s : Contents Rest) (m : HostModel) → SparedLeaves m (line_bytes room slot p count s m) (line_bytes room slot p count s (still m))
 unfolding line_bytes
@@ -132,13 +132,13 @@ line-steady (suc room) slot p count s m =
     (line-case (line_bytes room slot p (count + 1)) p count (λ t n. line-steady room slot p (count + 1) t n)) (byte-steady slot (p + count) s m)
 
 fgets-steady : {Rest : Type 0} (slot p q : ℕ) (s : Contents Rest) (m : HostModel) → SparedLeaves m (fgets slot p q s m) (fgets slot p q s (still m))
-fgets-steady slot p q s m = choice (q == 0) _ _ _ _ idle (line-steady (q - 1) slot p 0 s m)
+fgets-steady slot p q s m = choice (q == 0) _ _ _ _ uncalled (line-steady (q - 1) slot p 0 s m)
 
 -- ---- Fwrite and Fputs
 
 write_last-case : (gone : ℕ) (r : Result (Unit {0}) HostFault) (m : HostModel) → Spared m (write_last gone (r, m)) (write_last gone (r, still m))
-write_last-case gone (Ok u) m = idle
-write_last-case gone (Err e) m = idle
+write_last-case gone (Ok u) m = uncalled
+write_last-case gone (Err e) m = uncalled
 
 write_piece-steady : (slot : ℕ) (piece : List ℕ) (gone : ℕ) (m : HostModel) → Spared m (write_piece slot piece gone m) (write_piece slot piece gone (still m))
 write_piece-steady slot piece gone m = then (write_last gone) (write_answer m slot piece) (write_answer (still m) slot piece) (write_last-case gone) (write-spared m slot piece)
@@ -146,8 +146,8 @@ write_piece-steady slot piece gone m = then (write_last gone) (write_answer m sl
 write_next-case : (more : HostModel → Then Written) → ((m : HostModel) → Spared m (more m) (more (still m))) →
     (w : Written) (m : HostModel) → Spared m (write_next more (w, m)) (write_next more (w, still m))
 write_next-case more f Whole m = f m
-write_next-case more f (Short n) m = idle
-write_next-case more f OutOfMemory m = idle
+write_next-case more f (Short n) m = uncalled
+write_next-case more f OutOfMemory m = uncalled
 
 writes-steady : (k slot : ℕ) (bytes : List ℕ) (gone : ℕ) (m : HostModel) → Spared m (write_pieces k slot bytes gone m) (write_pieces k slot bytes gone (still m))
 unfolding write_pieces
@@ -160,14 +160,14 @@ written-steady : (slot : ℕ) (bytes : List ℕ) (m : HostModel) → Spared m (w
 written-steady slot bytes m = writes-steady (whole_pieces (length bytes)) slot bytes 0 m
 
 fwrite-case : (q : ℕ) (w : Written) (m : HostModel) → Spared m (fwrite_value q (w, m)) (fwrite_value q (w, still m))
-fwrite-case q Whole m = idle
-fwrite-case q (Short n) m = idle
-fwrite-case q OutOfMemory m = idle
+fwrite-case q Whole m = uncalled
+fwrite-case q (Short n) m = uncalled
+fwrite-case q OutOfMemory m = uncalled
 
 fputs-case : (n : ℕ) (w : Written) (m : HostModel) → Spared m (fputs_value n (w, m)) (fputs_value n (w, still m))
-fputs-case n Whole m = idle
-fputs-case n (Short k) m = idle
-fputs-case n OutOfMemory m = idle
+fputs-case n Whole m = uncalled
+fputs-case n (Short k) m = uncalled
+fputs-case n OutOfMemory m = uncalled
 
 fwrite-steady : (slot : ℕ) (bytes : List ℕ) (m : HostModel) → Spared m (fwrite slot bytes m) (fwrite slot bytes (still m))
 fwrite-steady slot bytes m = then (fwrite_value (length bytes)) (written slot bytes m) (written slot bytes (still m)) (fwrite-case (length bytes)) (written-steady slot bytes m)
@@ -178,15 +178,15 @@ fputs-steady slot text m = then (fputs_value (length text)) (written slot text m
 -- ---- a whole trap
 
 done-case : {E : Type 0} (r : Result (Unit {0}) E) (m : HostModel) → Spared m (done_value (r, m)) (done_value (r, still m))
-done-case (Ok u) m = idle
-done-case (Err e) m = idle
+done-case (Ok u) m = uncalled
+done-case (Err e) m = uncalled
 
 place-case : (r : Result ℕ HostFault) (m : HostModel) → Spared m (place_value (r, m)) (place_value (r, still m))
-place-case (Ok place) m = idle
-place-case (Err e) m = idle
+place-case (Ok place) m = uncalled
+place-case (Err e) m = uncalled
 
 fopen_in-steady : (slot : ℕ) (name : List ℕ) (m : HostModel) (mode : Option Mode) → Spared m (fopen_in slot name m mode) (fopen_in slot name (still m) mode)
-fopen_in-steady slot name m None = idle
+fopen_in-steady slot name m None = uncalled
 fopen_in-steady slot name m (Some mode) = then done_value (open_answer m slot name mode) (open_answer (still m) slot name mode) done-case (open-spared m slot name mode)
 
 fclose-steady : (slot : ℕ) (m : HostModel) → Spared m (fclose slot m) (fclose slot (still m))
@@ -199,10 +199,10 @@ ftell-steady : (slot : ℕ) (m : HostModel) → Spared m (ftell slot m) (ftell s
 ftell-steady slot m = then place_value (tell_answer m slot) (tell_answer (still m) slot) place-case (tell-spared m slot)
 
 beside-steady : {Rest : Type 0} {m : HostModel} (s : Contents Rest) (t u : Then TrapAnswer) → Spared m t u → SparedLeaves m (beside s t) (beside s u)
-beside-steady s t u h = behind-call (beside s) t u (λ a n. idle) h
+beside-steady s t u h = behind-call (beside s) t u (λ a n. uncalled) h
 
 request-steady : {Rest : Type 0} (slot : ℕ) (s : Contents Rest) (m : HostModel) (r : Request) → SparedLeaves m (carried_out slot s m r) (carried_out slot s (still m) r)
-request-steady slot s m Ending = idle
+request-steady slot s m Ending = uncalled
 request-steady slot s m (Opening at size mode) = beside-steady s (fopen slot (bytes_from s.bytes at size) mode m) (fopen slot (bytes_from s.bytes at size) mode (still m)) (fopen_in-steady slot (bytes_from s.bytes at size) m (mode_of mode))
 request-steady slot s m Closing = beside-steady s (fclose slot m) (fclose slot (still m)) (fclose-steady slot m)
 request-steady slot s m (Reading at size) = pieces-steady (whole_pieces size) slot at size 0 s m
@@ -214,7 +214,7 @@ request-steady slot s m Telling = beside-steady s (ftell slot m) (ftell slot (st
 
 answer-steady : {Rest : Type 0} (slot : ℕ) (s : Contents Rest) (m : HostModel) (r : Result Request TrapStop) → SparedLeaves m (answer_to slot s m r) (answer_to slot s (still m) r)
 answer-steady slot s m (Ok request) = request-steady slot s m request
-answer-steady slot s m (Err stop) = idle
+answer-steady slot s m (Err stop) = uncalled
 
 pub trap-steady : {Rest : Type 0} (s : Contents Rest) (m : HostModel) (call : TrapCall) → SparedLeaves m (trap_answer s m call) (trap_answer s (still m) call)
 unfolding trap_answer
