@@ -11,10 +11,12 @@ use Rattle.mx_host.proofs.Still.{still}
 use Rattle.mx_mmo.specs.Image.{Image}
 use Rattle.mx_core.specs.State.{State}
 use Rattle.mx_trap.specs.Counts.{without_count}
+use Rattle.mx_trap.proofs.Spared.{uncalled, steady-of}
 use Rattle.mx_trap.proofs.SteadyTraps.{uncounted-of}
+use Rattle.mx_run.specs.Counts.{end_host}
 use Rattle.mx_run.specs.Runs.{no_flags}
 use Rattle.mx_run.specs.WildRuns.{MachineKind, RunEnd, run_ended, run_wild, run_by}
-use Rattle.mx_run.proofs.SteadyRuns.{end_well, run-steady}
+use Rattle.mx_run.proofs.SteadyRuns.{run-steady}
 use Rattle.mx_words.specs.declared.order.Command.TheVariants.{Asm}
 use Rattle.mx_words.specs.declared.order.Order.{Order}
 use Rattle.mx_top.specs.Answers.{Answer, answered, plainly}
@@ -36,7 +38,7 @@ use Rattle.mx_top.proofs.DetourRuns.{put-of}
 use Rattle.mx_top.proofs.IdleFiles.{idle, file-idle, open-object}
 use Rattle.mx_top.proofs.KeptSlots.{Shows, end_shows, run-kept}
 use Rattle.mx_top.proofs.SteadyFiles.{file-steady, lines-steady}
-use Rattle.mx_top.proofs.SteadyProduct.{image-steady, message-steady, product-steady, answers-same}
+use Rattle.mx_top.proofs.SteadyProduct.{SparedAnswers, image-steady, message-steady, product-steady, answers-same}
 
 -- ---- slots
 
@@ -63,9 +65,9 @@ there-read name most text m h = still-read most name m h.place h.slots h.found �
 pub file-left : (most : ℕ) (name : List ℕ) (m : HostModel) (at : ℕ) → m.failing ≡ [] → HasStartSlots m → place_of m.files name ≡ Some at →
     without_count (file_bytes most name m).1 ≡ without_count m
 file-left most name m at h slots e =
-    let read = file-steady most name m h in
+    let read = steady-of (file-steady most name m) h in
     let same : still (file_bytes most name m).1 ≡ still m = ap (λ (t : Then (Result (List ℕ) Outcome)). t.1) (read.0 ∙ still-read most name m at slots e) in
-    uncounted-of (file_bytes most name m).1 m same read.1 h
+    uncounted-of (file_bytes most name m).1 m same (read.1 ∙ sym h)
 
 -- ---- lines that are written
 
@@ -90,10 +92,10 @@ LinesWritten lines m t = (t.0 ≡ true) × (without_count t.1 ≡ without_count 
 
 lines-written : (lines : List (List ℕ)) (m : HostModel) → IsReady m → LinesWritten lines m (lines_put lines m)
 lines-written lines m h =
-    let s = lines-steady lines m h.0 in
+    let s = steady-of (lines-steady lines m) h.0 in
     let e = s.0 ∙ lines-still lines m h.1 in
     let same : still (lines_put lines m).1 ≡ still (with_output m (concat lines)) = ap (λ (t : Then Bool). t.1) e in
-    (ap (λ (t : Then Bool). t.0) e, uncounted-of (lines_put lines m).1 (with_output m (concat lines)) same s.1 h.0)
+    (ap (λ (t : Then Bool). t.0) e, uncounted-of (lines_put lines m).1 (with_output m (concat lines)) same (s.1 ∙ sym h.0))
 
 told-done : (lines : List (List ℕ)) (status : ℕ) (m : HostModel) (t : Then Bool) → LinesWritten lines m t →
     answer_uncounted (with_message (after_lines (Done status) t)) ≡ answered (Done status) (without_count (with_output m (concat lines)))
@@ -105,7 +107,7 @@ lines-done : (lines : List (List ℕ)) (status : ℕ) (m : HostModel) → IsRead
 lines-done lines status m h = told-done lines status m (lines_put lines m) (lines-written lines m h)
 
 -- what a run that halts leaves
-ran-left : (steps status : ℕ) (ended : State) (after : HostModel) (r : RunEnd) → ran_to steps r ≡ ran (Done status) ended after → end_well r → end_shows r → IsReady after
+ran-left : (steps status : ℕ) (ended : State) (after : HostModel) (r : RunEnd) → ran_to steps r ≡ ran (Done status) ended after → (end_host r).failing ≡ [] → end_shows r → IsReady after
 ran-left steps status ended after (run_ended e) h well shows =
     let host : e.host ≡ after = cc in
     (subst (λ (n : HostModel). n.failing ≡ []) host well, subst Shows host shows)
@@ -114,7 +116,7 @@ ran-left steps status ended after (run_wild m) h well shows = absurd (cc)
 halted-left : (kind : MachineKind) (steps : ℕ) (s : State) (m : HostModel) (status : ℕ) (ended : State) (after : HostModel) → m.failing ≡ [] → HasStartSlots m →
     machine_ran kind steps s m ≡ ran (Done status) ended after → IsReady after
 halted-left kind steps s m status ended after well slots h =
-    ran-left steps status ended after (run_by kind steps no_flags false s m) h (run-steady kind steps no_flags false s m well).1
+    ran-left steps status ended after (run_by kind steps no_flags false s m) h (steady-of (run-steady kind steps no_flags false s m) well).1
     (run-kept kind steps no_flags false s m (slot_at-start_output m slots))
 
 -- ---- running
@@ -123,9 +125,9 @@ image-same : (kind : MachineKind) (words : List Word) (o : Order) (image : Image
     product kind words (still m) ≡ with_message (image_run kind o (arguments words o) image (still m)) →
     answer_uncounted (product kind words m) ≡ answer_uncounted (with_message (image_run kind o (arguments words o) image m))
 image-same kind words o image m h e =
-    let a = product-steady kind words m h in
-    let b = message-steady (image_run kind o (arguments words o) image m) (image_run kind o (arguments words o) image (still m)) (image-steady kind o (arguments words o) image m h) in
-    answers-same (product kind words m) (with_message (image_run kind o (arguments words o) image m)) (a.0 ∙ e ∙ sym b.0) a.1 b.1
+    let a = steady-of (product-steady kind words m) h in
+    let b = steady-of (message-steady (image_run kind o (arguments words o) image m) (image_run kind o (arguments words o) image (still m)) (image-steady kind o (arguments words o) image m)) h in
+    answers-same (product kind words m) (with_message (image_run kind o (arguments words o) image m)) (a.0 ∙ e ∙ sym b.0) (a.1 ∙ sym b.1)
 
 pub source-there : (kind : MachineKind) (words : List Word) (o : Order) (image : Image) (m : HostModel) → SourceIsThere words o image m →
     answer_uncounted (product kind words m) ≡ answer_uncounted (with_message (image_run kind o (arguments words o) image m))
@@ -205,9 +207,10 @@ pub object-told : (kind : MachineKind) (words : List Word) (o : Order) (text : L
     answer_uncounted (product kind words m) ≡ answer_uncounted (with_message (answered (assembled_outcome (source_object text).1) (with_file m (word_at words o.rest) (source_object text).0)))
 object-told kind words o text m h there =
     let told : Answer = answered (assembled_outcome (source_object text).1) (with_object words o text m) in
-    let a = product-steady kind words m there.well in
-    let b = message-steady told (answered (assembled_outcome (source_object text).1) (still (with_object words o text m))) (refl, there.well) in
-    answers-same (product kind words m) (with_message told) (a.0 ∙ still-assembled kind words o text m h there ∙ sym b.0) a.1 b.1
+    let same : SparedAnswers (with_object words o text m) told (answered (assembled_outcome (source_object text).1) (still (with_object words o text m))) = uncalled in
+    let a = steady-of (product-steady kind words m) there.well in
+    let b = steady-of (message-steady told (answered (assembled_outcome (source_object text).1) (still (with_object words o text m))) same) there.well in
+    answers-same (product kind words m) (with_message told) (a.0 ∙ still-assembled kind words o text m h there ∙ sym b.0) (a.1 ∙ sym b.1)
 
 pub assembled-there : (kind : MachineKind) (words : List Word) (o : Order) (text : List ℕ) (image : Image) (m : HostModel) → IsOrdered words o Asm → IsThere (word_at words o.file) 1025 text m →
     source_meaning text ≡ Ok image → answer_uncounted (product kind words m) ≡ answered (Done 0) (without_count (with_file m (word_at words o.rest) (source_object text).0))

@@ -13,21 +13,22 @@ use Rattle.mx_host.specs.declared.slots.Slot.{Slot}
 use Rattle.mx_host.specs.declared.slots.Slot.TheVariants.{Closed}
 use Rattle.mx_host.specs.HostModel.{HostModel, place_of}
 use Rattle.mx_host.specs.HostAnswer.{Then, bytes_at, put_at}
-use Rattle.mx_host.proofs.Start.{start_slots-length}
 use Rattle.mx_host.proofs.Still.{still}
 use Rattle.mx_host.proofs.NamedFiles.{home, lies, at-home, place-home, place-other, bytes-other}
 use Rattle.mx_mmo.specs.Image.{Image}
 use Rattle.mx_mmo.specs.Replies.{limit}
 use Rattle.mx_load.specs.Objects.{object_loaded}
+use Rattle.mx_trap.specs.Counts.{NoneFailed}
+use Rattle.mx_trap.proofs.Spared.{sooner}
 use Rattle.mx_run.specs.WildRuns.{MachineKind}
 use Rattle.mx_words.specs.Orders.{order_of, options_from, asm_order, defaults}
 use Rattle.mx_words.specs.Values.{is_option}
 use Rattle.mx_words.specs.declared.order.Command.TheVariants.{Run, Sim}
 use Rattle.mx_words.specs.declared.order.Order.{Order}
 use Rattle.mx_words.specs.declared.order.WordsFault.{WordsFault}
-use Rattle.mx_top.specs.Answers.{answered, plainly}
+use Rattle.mx_top.specs.Answers.{Answer, answered, plainly}
 use Rattle.mx_top.specs.Arguments.{Word, word_at, arguments, program_name}
-use Rattle.mx_top.specs.Detour.{answer_uncounted, asm_words, run_words, sim_words, AreOrdered, IsAssembled, LoadsAlike}
+use Rattle.mx_top.specs.Detour.{host_of, answer_uncounted, asm_words, run_words, sim_words, AreOrdered, IsAssembled, LoadsAlike}
 use Rattle.mx_top.specs.Sources.{source_meaning}
 use Rattle.mx_top.specs.Messages.{message_of}
 use Rattle.mx_top.specs.Objects.{Assembled, source_object}
@@ -38,7 +39,7 @@ use Rattle.mx_top.specs.declared.outcome.Outcome.{Outcome}
 use Rattle.mx_top.specs.declared.outcome.Outcome.TheVariants.{Done, Usage, NoFile}
 use Rattle.mx_top.proofs.IdleFiles.{idle, file-idle, file-absent, writing, open-object, put-idle}
 use Rattle.mx_top.proofs.SteadyFiles.{file-steady}
-use Rattle.mx_top.proofs.SteadyProduct.{answer_still, answer_well, product-steady, answers-same}
+use Rattle.mx_top.proofs.SteadyProduct.{answer_still, reading-later, product-steady, answers-same}
 
 -- ---- words
 
@@ -193,32 +194,35 @@ runs-left kind files slots m source object rest o text a h apart alike known loa
     ∙ alike
     ∙ sym (ap (λ n. after_object kind (record o { command = Sim }) (program_name object ∷ rest) (file_bytes 16385 object n)) known.left)
 
+-- no call that reads the source fails, where none that assembles it does
+read-well : (kind : MachineKind) (source object : Word) (text : List ℕ) (m after : HostModel) → IsAssembled kind source object text m after → NoneFailed m (file_bytes 1025 source m).1
+read-well kind source object text m after a =
+    let all : after_reading object (file_bytes 1025 source m) ≡ (Done 0, after) = asm-done kind source object m after a.done in
+    sooner m (file_bytes 1025 source m).1 after
+    (subst (λ (t : Then Outcome). (file_bytes 1025 source m).1.calls ≤ t.1.calls) all (reading-later object (file_bytes 1025 source m))) a.well
+
 -- the model that is left, with no call that fails, as the still model leaves it
 known-of : (kind : MachineKind) (source object : Word) (text : List ℕ) (m after : HostModel) → IsAssembled kind source object text m after → 257 < length m.slots →
     Accepted m.files m.slots m source object text (still after)
 known-of kind source object text m after a h =
-    let asm = product-steady kind (asm_words source object) m a.well in
-    let done : product kind (asm_words source object) (still m) ≡ answered (Done 0) (still after) = sym asm.0 ∙ ap answer_still a.done in
-    let file = file-steady 1025 source m a.well in
-    let read : (file_bytes 1025 source (still m)).0 ≡ Ok text = ap (λ (t : Then (Result (List ℕ) Outcome)). t.0) (sym file.0) ∙ a.read in
+    let well : NoneFailed m (host_of (product kind (asm_words source object) m)) = subst (λ (t : Answer). NoneFailed m (host_of t)) (sym a.done) a.well in
+    let asm = (product-steady kind (asm_words source object) m).same well in
+    let done : product kind (asm_words source object) (still m) ≡ answered (Done 0) (still after) = sym asm ∙ ap answer_still a.done in
+    let file = (file-steady 1025 source m).same (read-well kind source object text m after a) in
+    let read : (file_bytes 1025 source (still m)).0 ≡ Ok text = ap (λ (t : Then (Result (List ℕ) Outcome)). t.0) (sym file) ∙ a.read in
     reading-left m.files m.slots m source object text (still after) (place_of m.files source) h refl read (asm-done kind source object (still m) (still after) done)
-
-left-well : (kind : MachineKind) (source object : Word) (text : List ℕ) (m after : HostModel) → IsAssembled kind source object text m after → after.failing ≡ []
-left-well kind source object text m after a =
-    let asm = product-steady kind (asm_words source object) m a.well in
-    subst answer_well a.done asm.1
 
 pub detour-is : (kind : MachineKind) (options : List Word) (source object : Word) (arguments : List Word) (text : List ℕ) (m after : HostModel) →
     AreOrdered options source object arguments → IsAssembled kind source object text m after → LoadsAlike text →
+    NoneFailed after (host_of (product kind (sim_words options object arguments) after)) → NoneFailed after (host_of (product kind (run_words options source arguments) after)) →
     answer_uncounted (product kind (sim_words options object arguments) after) ≡ answer_uncounted (product kind (run_words options source arguments) after)
-detour-is kind options source object arguments text m after words a loads =
-    let many : length m.slots ≡ 261 = ap length a.slots ∙ start_slots-length in
+detour-is kind options source object arguments text m after words a loads simulated ran =
+    let many : length m.slots ≡ 261 = a.many in
     let known = known-of kind source object text m after a (omega arith) in
-    let well = left-well kind source object text m after a in
-    let run = product-steady kind (run_words options source arguments) after well in
-    let sim = product-steady kind (sim_words options object arguments) after well in
+    let run = product-steady kind (run_words options source arguments) after in
+    let sim = product-steady kind (sim_words options object arguments) after in
     let alike = runs-left kind m.files m.slots m source object arguments words.order text (still after) (omega arith) a.apart a.alike known loads in
     let still-alike : product kind (sim_words options object arguments) (still after) ≡ product kind (run_words options source arguments) (still after) =
     sim-is kind options object arguments words.order (still after) words.sim words.file words.rest ∙ ap with_message (sym alike) ∙ sym (run-is kind options source arguments words.order (still after) words.run words.file words.rest) in
     answers-same (product kind (sim_words options object arguments) after) (product kind (run_words options source arguments) after)
-    (sim.0 ∙ still-alike ∙ sym run.0) sim.1 run.1
+    (sim.same simulated ∙ still-alike ∙ sym (run.same ran)) (sim.list ∙ sym run.list)

@@ -4,7 +4,8 @@ use Rattle.std.specs.Prelude.{Result}
 use Rattle.mx_host.specs.HostModel.{HostModel}
 use Rattle.mx_host.specs.HostAnswer.{Then, write_answer}
 use Rattle.mx_host.specs.declared.faults.HostFault.{HostFault}
-use Rattle.mx_trap.specs.Laws.{SameButCalls, uncounted}
+use Rattle.mx_trap.specs.Counts.{unscheduled}
+use Rattle.mx_trap.specs.Laws.{SameButCalls}
 use Rattle.mx_trap.specs.Moves.{write_last, write_piece, write_next, write_pieces, whole_pieces, written}
 use Rattle.mx_trap.specs.declared.writes.Written.{Written}
 use Rattle.mx_trap.specs.declared.writes.Written.TheVariants.{Whole, Short, OutOfMemory}
@@ -39,7 +40,7 @@ pieces-put (suc k) slot text gone m =
 as-put : (t u : Then Written) (v w : Then Bool) → as_put t ≡ v → as_put u ≡ w → SameButCalls t u → SameButCalls v w
 as-put t u v w e f h = record {
   answer = ap (λ (x : Then Bool). x.0) (sym e) ∙ ap is_whole h.answer ∙ ap (λ (x : Then Bool). x.0) f;
-  model = ap (λ (x : Then Bool). uncounted x.1) (sym e) ∙ h.model ∙ ap (λ (x : Then Bool). uncounted x.1) f;
+  model = ap (λ (x : Then Bool). unscheduled x.1) (sym e) ∙ h.model ∙ ap (λ (x : Then Bool). unscheduled x.1) f;
   failing = ap (λ (x : Then Bool). x.1.failing) (sym e) ∙ h.failing ∙ ap (λ (x : Then Bool). x.1.failing) f;
 }
 

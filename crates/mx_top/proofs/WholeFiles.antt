@@ -4,6 +4,7 @@ use Rattle.mx_host.specs.HostModel.{HostModel, HasStartSlots, place_of}
 use Rattle.mx_host.specs.HostAnswer.{Then, bytes_at}
 use Rattle.std.specs.Prelude.{Result}
 use Rattle.mx_host.proofs.Start.{start_slots-length}
+use Rattle.mx_trap.proofs.Spared.{steady-of}
 use Rattle.mx_top.specs.Source.{file_bytes}
 use Rattle.mx_top.specs.declared.outcome.Outcome.{Outcome}
 use Rattle.mx_top.specs.declared.outcome.Outcome.TheVariants.{NoFile}
@@ -12,7 +13,7 @@ use Rattle.mx_top.proofs.IdleFiles.{idle, file-idle, file-absent}
 
 -- what is read is what the still model reads
 read-of : (most : ℕ) (name : List ℕ) (m : HostModel) (r : Then (Result (List ℕ) Outcome)) → m.failing ≡ [] → file_bytes most name (idle m.files m.slots m) ≡ r → (file_bytes most name m).0 ≡ r.0
-read-of most name m r h e = ap (λ (t : Then (Result (List ℕ) Outcome)). t.0) ((file-steady most name m h).0 ∙ e)
+read-of most name m r h e = ap (λ (t : Then (Result (List ℕ) Outcome)). t.0) ((steady-of (file-steady most name m) h).0 ∙ e)
 
 pub file-read : (most : ℕ) (name : List ℕ) (m : HostModel) (at : ℕ) → m.failing ≡ [] → HasStartSlots m → place_of m.files name ≡ Some at →
     (file_bytes most name m).0 ≡ Ok (take (4096 * most) (bytes_at m.files at))

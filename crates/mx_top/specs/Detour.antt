@@ -2,10 +2,10 @@
 use Rattle.std.specs.Prelude.{ℕ, ◌≡◌, ◌+◌, List, [], ◌∷◌, ◌++◌, codes, false, length, Ok}
 use Rattle.std.specs.Str.{bytes_eq}
 use Rattle.mx_word.specs.declared.symbols.Symbol.{Symbol}
-use Rattle.mx_host.specs.HostModel.{HostModel, HasStartSlots}
+use Rattle.mx_host.specs.HostModel.{HostModel}
 use Rattle.mx_mmo.specs.Image.{Image}
 use Rattle.mx_load.specs.Objects.{object_loaded}
-use Rattle.mx_trap.specs.Counts.{without_count}
+use Rattle.mx_trap.specs.Counts.{NoneFailed, unscheduled, without_count}
 use Rattle.mx_run.specs.WildRuns.{MachineKind}
 use Rattle.mx_words.specs.Orders.{order_of}
 use Rattle.mx_words.specs.declared.order.Command.TheVariants.{Run, Sim}
@@ -18,10 +18,20 @@ use Rattle.mx_top.specs.Source.{file_bytes, source_pieces}
 use Rattle.mx_top.specs.Sources.{source_meaning}
 use Rattle.mx_top.specs.declared.outcome.Outcome.TheVariants.{Done}
 
+-- the host as an answer leaves it
+abbrev pub host_of : Answer → HostModel
+host_of (answered outcome m) = m
+host_of (wild m) = m
+
 -- an answer but for the number of calls
 abbrev pub answer_uncounted : Answer → Answer
 answer_uncounted (answered outcome m) = answered outcome (without_count m)
 answer_uncounted (wild m) = wild (without_count m)
+
+-- an answer but for the number of calls and the list of those that fail
+abbrev pub answer_unscheduled : Answer → Answer
+answer_unscheduled (answered outcome m) = answered outcome (unscheduled m)
+answer_unscheduled (wild m) = wild (unscheduled m)
 
 -- the words of the three commands
 abbrev pub asm_words : Word → Word → List Word
@@ -41,11 +51,12 @@ pub record AreOrdered (options : List Word) (source object : Word) (arguments : 
   pub file : order.file ≡ length options + 1
   pub rest : order.rest ≡ length options + 2
 
--- No call fails, the slots stand as at the start, the two files have different names, which agree but for a last `.mms`
--- or `.mmo`; and the source, of which this text is read, is assembled into the object, which leaves the model `after`.
+-- The source, of which this text is read, is assembled into the object, which leaves the model `after`, and no call that
+-- this makes fails. The model has the 261 slots of a host, and the two files have different names, which agree but for a
+-- last `.mms` or `.mmo`.
 pub record IsAssembled (kind : MachineKind) (source object : Word) (text : List ℕ) (m after : HostModel) : Type 0 where
-  pub well : m.failing ≡ []
-  pub slots : HasStartSlots m
+  pub well : NoneFailed m after
+  pub many : length m.slots ≡ 261
   pub apart : bytes_eq source object ≡ false
   pub alike : program_name source ≡ program_name object
   pub read : (file_bytes source_pieces source m).0 ≡ Ok text

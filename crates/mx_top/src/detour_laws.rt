@@ -1,6 +1,6 @@
-//! Laws of whole runs of the program where no call fails.
+//! Laws of whole runs of the program where no call that is made fails.
 
-ghost use Rattle.std.specs.Prelude.{◌≡◌, ◌≤◌, ◌^◌, List, ℕ, [], length, Ok};
+ghost use Rattle.std.specs.Prelude.{◌≡◌, ◌≤◌, ◌^◌, List, ℕ, length, Ok};
 ghost use Rattle.mx_word.specs.Ranges.{AreBytes};
 ghost use Rattle.mx_word.specs.declared.symbols.Symbol.{Symbol};
 ghost use Rattle.mx_host.specs.HostModel.{HostModel};
@@ -11,30 +11,36 @@ ghost use Rattle.mx_load.specs.Objects.{object_loaded};
 ghost use Rattle.mx_asm.specs.Fitting.{AreWritable};
 ghost use Rattle.mx_asm.specs.Whole.{assembled_source};
 ghost use Rattle.mx_run.specs.WildRuns.{MachineKind};
-ghost use Rattle.mx_trap.specs.Counts.{with_calls};
+ghost use Rattle.mx_trap.specs.Counts.{NoneFailed, unscheduled};
 ghost use Rattle.mx_top.specs.Arguments.{Word};
-ghost use Rattle.mx_top.specs.Detour.{AreOrdered, IsAssembled, LoadsAlike, answer_uncounted, run_words, sim_words};
+ghost use Rattle.mx_top.specs.Detour.{
+    AreOrdered, IsAssembled, LoadsAlike, answer_uncounted, answer_unscheduled, host_of, run_words, sim_words,
+};
 ghost use Rattle.mx_top.specs.Objects.{source_object};
 ghost use Rattle.mx_top.specs.Product.{product};
 ghost use Rattle.mx_top.specs.Sources.{source_meaning};
 
-/// Where no call fails, the program does and answers the same whatever number of calls was made before;
-/// only that number differs in what it leaves.
+/// Where no call that the program makes fails, it does and answers the same whatever number of calls was made
+/// before, and whatever other calls are listed as failing; only that number and that list differ in what it
+/// leaves.
 #[tactic(auto, using(crate::proofs::SteadyProduct::steady))]
 pub fn programs_go_by_no_count()
-    ensures { (kind : MachineKind) (words : List Word) (m : HostModel) (k : ℕ) → m.failing ≡ [] →
-        answer_uncounted (product kind words (with_calls m k)) ≡ answer_uncounted (product kind words m) }
+    ensures { (kind : MachineKind) (words : List Word) (m n : HostModel) → unscheduled m ≡ unscheduled n →
+        NoneFailed m (host_of (product kind words m)) → NoneFailed n (host_of (product kind words n)) →
+        answer_unscheduled (product kind words m) ≡ answer_unscheduled (product kind words n) }
 {}
 
-/// Where no call fails, `sim` of an object answers and leaves what `run` of the source does that it was
-/// assembled from, with the same options and arguments, if the object is loaded as what the source is
+/// Where no call that is made fails, `sim` of an object answers and leaves what `run` of the source does that
+/// it was assembled from, with the same options and arguments, if the object is loaded as what the source is
 /// run from. Only the number of calls differs.
 #[tactic(auto)]
 pub fn objects_run_as_their_sources()
     ensures { (kind : MachineKind) (options : List Word) (source object : Word) (arguments : List Word)
         (text : List ℕ) (m after : HostModel) →
         AreOrdered options source object arguments → IsAssembled kind source object text m after →
-        LoadsAlike text → answer_uncounted (product kind (sim_words options object arguments) after) ≡
+        LoadsAlike text → NoneFailed after (host_of (product kind (sim_words options object arguments) after)) →
+        NoneFailed after (host_of (product kind (run_words options source arguments) after)) →
+        answer_uncounted (product kind (sim_words options object arguments) after) ≡
         answer_uncounted (product kind (run_words options source arguments) after) }
 {}
 

@@ -11,7 +11,8 @@ use Rattle.mx_host.specs.HostAnswer.{Then, read_answer}
 use Rattle.mx_word.proofs.Comparisons.{other-test}
 use Rattle.mx_host.proofs.Still.{still, read-still}
 use Rattle.mx_trap.specs.Moves.{Leaves, line_bytes, line_byte, line_next, line_end, byte_got, bytes_stored, byte_stored, stored_next, fgets}
-use Rattle.mx_trap.specs.Laws.{ComesTo, uncounted, line_front, line_ends}
+use Rattle.mx_trap.specs.Counts.{unscheduled}
+use Rattle.mx_trap.specs.Laws.{ComesTo, line_front, line_ends}
 use Rattle.mx_trap.specs.declared.answer.TrapAnswer.{TrapAnswer}
 use Rattle.mx_trap.specs.declared.answer.TrapAnswer.TheVariants.{Value}
 use Rattle.mx_trap.proofs.JoinedReads.{Came, read-open}
@@ -124,7 +125,7 @@ fgets-joined {Rest} slot p q s m l f e ends h =
     record {
       answer = ap (λ (t : Leaves TrapAnswer Rest). t.0) some ∙ came.answer ∙ ap Value none;
       space = ap (λ (t : Leaves TrapAnswer Rest). t.1) some ∙ came.space;
-      model = ap (λ (t : Leaves TrapAnswer Rest). uncounted t.2) some ∙ ap uncounted came.model;
+      model = ap (λ (t : Leaves TrapAnswer Rest). unscheduled t.2) some ∙ ap unscheduled came.model;
     }
 
 -- ---- an input that ends before the line
@@ -191,7 +192,7 @@ fgets-cut {Rest} slot p q s m l f e ends h =
     record {
       answer = ap (λ (t : Leaves TrapAnswer Rest). t.0) some ∙ came.answer;
       space = ap (λ (t : Leaves TrapAnswer Rest). t.1) some ∙ came.space;
-      model = ap (λ (t : Leaves TrapAnswer Rest). uncounted t.2) some ∙ ap uncounted came.model;
+      model = ap (λ (t : Leaves TrapAnswer Rest). unscheduled t.2) some ∙ ap unscheduled came.model;
     }
 
 pub ruleset joined = (fgets-joined, fgets-cut)

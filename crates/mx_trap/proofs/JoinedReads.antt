@@ -16,7 +16,8 @@ use Rattle.mx_host.specs.HostAnswer.{Then, read_answer, read_from, read_lead, by
 use Rattle.mx_host.proofs.Still.{still, read-still}
 use Rattle.mx_word.proofs.Comparisons.{same-number, other-number, other-test}
 use Rattle.mx_trap.specs.Moves.{Leaves, octa_minus, read_pieces, read_piece, read_next, read_last, piece_got, bytes_stored, byte_stored, stored_next, fread, whole_pieces}
-use Rattle.mx_trap.specs.Laws.{ComesTo, uncounted}
+use Rattle.mx_trap.specs.Counts.{unscheduled}
+use Rattle.mx_trap.specs.Laws.{ComesTo}
 use Rattle.mx_trap.specs.declared.answer.TrapAnswer.{TrapAnswer}
 use Rattle.mx_trap.specs.declared.answer.TrapAnswer.TheVariants.{Value}
 use Rattle.mx_trap.proofs.JoinedWrites.{within, slot-set}
@@ -217,6 +218,6 @@ fread-joined {Rest} slot p q s m got f h stored =
     let all : q - 0 ≡ q = omega arith in
     let none : 0 + length got ≡ length got = omega arith in
     let came = pieces-came (whole_pieces q) slot p q 0 s (bytes_stored got p s).1 m (still t.1) got (whole-few q) f (ap (read_answer (still m) slot) all ∙ one) (ap (λ a. bytes_stored got a s) here ∙ kept) in
-    record { answer = came.answer ∙ ap (λ n. Value (octa_minus n q)) none; space = came.space; model = ap uncounted came.model }
+    record { answer = came.answer ∙ ap (λ n. Value (octa_minus n q)) none; space = came.space; model = ap unscheduled came.model }
 
 pub ruleset joined = (fread-joined)

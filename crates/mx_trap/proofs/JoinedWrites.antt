@@ -18,7 +18,8 @@ use Rattle.mx_host.specs.HostAnswer.{Then, write_answer, write_to, write_lead, c
 use Rattle.mx_host.proofs.Still.{still, Steady, then, write-still}
 use Rattle.mx_host.proofs.NamedFiles.{at-home, put-put}
 use Rattle.mx_trap.specs.Moves.{write_piece, write_last, write_next, write_pieces, written, whole_pieces}
-use Rattle.mx_trap.specs.Laws.{SameButCalls, uncounted}
+use Rattle.mx_trap.specs.Counts.{unscheduled}
+use Rattle.mx_trap.specs.Laws.{SameButCalls}
 use Rattle.mx_trap.specs.declared.writes.Written.{Written}
 use Rattle.mx_trap.specs.declared.writes.Written.TheVariants.{Whole, Short, OutOfMemory}
 
@@ -209,7 +210,7 @@ same-but_calls {A} a b v h k =
     let e = h.0 ∙ sym k.0 in
     record {
       answer = ap (λ (t : Then A). t.0) e;
-      model = ap (λ (n : HostModel). uncounted (record n { failing = [] })) (ap (λ (t : Then A). t.1) e);
+      model = ap (λ (n : HostModel). unscheduled (record n { failing = [] })) (ap (λ (t : Then A). t.1) e);
       failing = h.1 ∙ sym k.1;
     }
 

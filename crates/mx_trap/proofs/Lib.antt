@@ -14,4 +14,5 @@ pub mod ApartBytes
 pub mod ApartMoves
 pub mod ApartCalls
 pub mod KeptContents
+pub mod Spared
 pub mod SteadyTraps

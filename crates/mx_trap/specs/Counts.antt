@@ -1,15 +1,21 @@
--- What differs in the number of calls alone.
-use Rattle.std.specs.Prelude.{ℕ}
-use Rattle.mx_host.specs.HostModel.{HostModel}
+-- What differs in the number of calls alone, or in it and in the list of those that fail.
+use Rattle.std.specs.Prelude.{ℕ, ◌≡◌, ◌≤◌, ◌<◌, false, []}
+use Rattle.mx_host.specs.HostModel.{HostModel, is_listed}
 use Rattle.mx_trap.specs.Moves.{Leaves}
 
--- the model with another number of calls made, and with none
-abbrev pub with_calls : HostModel → ℕ → HostModel
-with_calls m k = record m { calls = k }
-
+-- the model with no call counted
 abbrev pub without_count : HostModel → HostModel
-without_count m = with_calls m 0
+without_count m = record m { calls = 0 }
 
--- what a call answers and leaves, but for the number of calls
-abbrev pub leaves_uncounted : {A Rest : Type 0} → Leaves A Rest → Leaves A Rest
-leaves_uncounted t = (t.0, t.1, without_count t.2)
+-- the model with no call counted and none that fails
+abbrev pub unscheduled : HostModel → HostModel
+unscheduled m = record m { calls = 0; failing = [] }
+
+-- None of the calls that were made from one model to a later one is listed as one that fails: their numbers are those
+-- from the count of the one on, and below the count of the other.
+abbrev pub NoneFailed : HostModel → HostModel → Type 0
+NoneFailed before after = (call : ℕ) → before.calls ≤ call → call < after.calls → is_listed call before.failing ≡ false
+
+-- what a call answers and leaves, but for the number of calls and the list of those that fail
+abbrev pub leaves_unscheduled : {A Rest : Type 0} → Leaves A Rest → Leaves A Rest
+leaves_unscheduled t = (t.0, t.1, unscheduled t.2)

@@ -3,17 +3,14 @@ use Rattle.std.specs.Prelude.{ℕ, zero, suc, Bool, true, false, ◌∷◌, ◌=
 use Rattle.mx_host.specs.HostModel.{HostModel}
 use Rattle.mx_host.specs.HostAnswer.{Then}
 use Rattle.mx_mem.specs.Space.{Contents}
+use Rattle.mx_trap.specs.Counts.{unscheduled}
 use Rattle.mx_trap.specs.Moves.{Leaves}
 use Rattle.mx_trap.specs.declared.answer.TrapAnswer.{TrapAnswer}
-
--- the model with no call counted and none that fails
-abbrev pub uncounted : HostModel → HostModel
-uncounted m = record m { calls = 0; failing = [] }
 
 -- Two answers are the same, and so are the models after them but for the number of calls.
 pub record SameButCalls {A : Type 0} (t u : Then A) : Type 0 where
   pub answer : t.0 ≡ u.0
-  pub model : uncounted t.1 ≡ uncounted u.1
+  pub model : unscheduled t.1 ≡ unscheduled u.1
   pub failing : t.1.failing ≡ u.1.failing
 
 -- What a text of n bytes at a is: none of them is zero, and a zero byte follows. All of these lie below 2^63, and there
@@ -36,7 +33,7 @@ IsLong most bytes a = (i : ℕ) → i ≤ most → (bytes (a + i) ≢ 0) × (a +
 pub record ComesTo {Rest : Type 0} (t : Leaves TrapAnswer Rest) (value : TrapAnswer) (s : Contents Rest) (m : HostModel) : Type 0 where
   pub answer : t.0 ≡ value
   pub space : t.1 ≡ s
-  pub model : uncounted t.2 ≡ uncounted m
+  pub model : unscheduled t.2 ≡ unscheduled m
 
 -- the byte at an address, once these bytes stand from a on
 abbrev pub stored_byte : List ℕ → ℕ → (ℕ → ℕ) → ℕ → ℕ
