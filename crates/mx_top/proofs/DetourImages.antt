@@ -24,11 +24,13 @@ use Rattle.mx_asm.specs.Image.{image, symbols_of}
 use Rattle.mx_asm.specs.OnePass.{Ended}
 use Rattle.mx_asm.specs.Pages.{RunRefusal, page_refusal, accepted_in, run_refusal, run_refusal_with, loaded_image, has_room}
 use Rattle.mx_asm.specs.Refusal.{refusal}
-use Rattle.mx_asm.specs.TwoPass.{pieces}
+use Rattle.mx_asm.specs.TwoPass.{final_known}
 use Rattle.mx_asm.specs.Whole.{assembled_source}
 use Rattle.mx_asm.specs.declared.refused.Refused.{Refused}
 use Rattle.std.proofs.lemmas.Option.{same_Some}
-use Rattle.mx_asm.proofs.ObjectLaws.{WrittenSource, written-source}
+use Rattle.mx_asm.specs.Emission.{emission, padded_trie}
+use Rattle.mx_asm.proofs.InTurn.{source-accepted}
+use Rattle.mx_asm.proofs.ObjectLaws.{source-writable, source-told, source-few}
 use Rattle.mx_top.specs.Sources.{meaning_unless, source_meaning}
 use Rattle.mx_top.specs.Objects.{Assembled, source_object}
 use Rattle.mx_top.specs.Objects as assembling
@@ -91,14 +93,38 @@ accepted-run : (text : List ℕ) (image : Image) → source_meaning text ≡ Ok 
 unfolding source_meaning
 accepted-run text image h = not-refused (page_refusal (accepted_in (source_entries text))) (refusal text) (runs-on (run_refusal text) _ image h)
 
+-- what is written of a source that is not refused
+pub record HasObject (text : List ℕ) : Type 0 where
+  items : List Item
+  trie : List ℕ
+  assembled : assembled_source text ≡ (items, Ok trie)
+  written_as : (source_object text).0 ≡ written items ++ ending trie
+  writable : AreWritable items trie
+  symbols : trie_answer trie ≡ Ok (symbols_of (statements_in (source_entries text)))
+  short : length (written items ++ ending trie) ≤ 2 ^ 26
+
+has-object : (text : List ℕ) → AreBytes text → refusal text ≡ None → HasObject text
+has-object text each none =
+    let items : List Item = emission (statements_in (source_entries text)) in
+    let trie : List ℕ = padded_trie (final_known (statements_in (source_entries text))).names in
+    let is : assembled_source text ≡ (items, Ok trie) = source-accepted text none in
+    record {
+      items = items;
+      trie = trie;
+      assembled = is;
+      written_as = ap (λ (x : Assembled). x.0) (object-is text trie items is);
+      writable = source-writable text each items trie is;
+      symbols = source-told text each items trie is;
+      short = source-few text each items trie is;
+    }
+
 -- the object of a source that is run is loaded as its image, with its symbols
 pub source-loads : (text : List ℕ) (image : Image) → AreBytes text → source_meaning text ≡ Ok image →
     object_loaded (source_object text).0 ≡ Ok (image, symbols_of (statements_in (source_entries text)))
 source-loads text image each h =
-    let w : WrittenSource text = written-source text each (accepted-run text image h) in
-    let bytes : (source_object text).0 ≡ written w.items ++ ending w.trie = ap (λ (x : Assembled). x.0) (object-is text w.trie w.items w.assembled) in
+    let w : HasObject text = has-object text each (accepted-run text image h) in
     let means : meaning w.items ≡ Ok image = ap (λ (x : Ended). meaning x.0) (sym w.assembled) ∙ items-mean-image text image each h in
-    ap object_loaded bytes ∙ written-loaded w.items w.trie (symbols_of (statements_in (source_entries text))) image w.writable w.short w.symbols means
+    ap object_loaded w.written_as ∙ written-loaded w.items w.trie (symbols_of (statements_in (source_entries text))) image w.writable w.short w.symbols means
 
 -- a source that is assembled and yet refused when it is run has too many pages
 pages-only : (pages : Option ℕ) (r : RunRefusal) → run_refusal_with pages None ≡ Some r → r.number ≡ 90
@@ -117,8 +143,7 @@ pub pages-refused : (text : List ℕ) (r : RunRefusal) → AreBytes text → ref
 pages-refused text r each none h =
     let alone : run_refusal_with (page_refusal (accepted_in (source_entries text))) None ≡ Some r = ap (run_refusal_with (page_refusal (accepted_in (source_entries text)))) (sym none) ∙ h in
     let line = full-line (page_refusal (accepted_in (source_entries text))) r alone in
-    let w : WrittenSource text = written-source text each none in
-    let bytes : (source_object text).0 ≡ written w.items ++ ending w.trie = ap (λ (x : Assembled). x.0) (object-is text w.trie w.items w.assembled) in
+    let w : HasObject text = has-object text each none in
     let means : meaning w.items ≡ Err PagesFull = ap (λ (x : Ended). meaning x.0) (sym w.assembled) ∙ pages-mean text line.0 each none line.1 in
     let found = written-refused w.items w.trie PagesFull w.writable w.short means in
-    (pages-only (page_refusal (accepted_in (source_entries text))) r alone, found.0, ap object_loaded bytes ∙ found.1)
+    (pages-only (page_refusal (accepted_in (source_entries text))) r alone, found.0, ap object_loaded w.written_as ∙ found.1)

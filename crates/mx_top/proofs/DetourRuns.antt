@@ -28,7 +28,11 @@ use Rattle.mx_words.specs.declared.order.Order.{Order}
 use Rattle.mx_words.specs.declared.order.WordsFault.{WordsFault}
 use Rattle.mx_top.specs.Answers.{Answer, answered, plainly}
 use Rattle.mx_top.specs.Arguments.{Word, word_at, arguments, program_name}
-use Rattle.mx_top.specs.Detour.{host_of, answer_uncounted, asm_words, run_words, sim_words, AreOrdered, IsAssembled, LoadsAlike}
+use Rattle.mx_top.specs.Detour.{host_of, answer_uncounted, asm_words, run_words, sim_words, AreOrdered, IsAssembled}
+use Rattle.mx_top.proofs.DetourImages.{source-loads}
+use Rattle.mx_word.specs.Ranges.{AreBytes}
+use Rattle.mx_asm.specs.Entries.{statements_in, source_entries}
+use Rattle.mx_asm.specs.Image.{symbols_of}
 use Rattle.mx_top.specs.Sources.{source_meaning}
 use Rattle.mx_top.specs.Messages.{message_of}
 use Rattle.mx_top.specs.Objects.{Assembled, source_object}
@@ -181,15 +185,15 @@ runs-alike kind files slots m source object rest o text bytes at h apart alike f
 
 -- the same over the model that was left
 runs-left : (kind : MachineKind) (files : List StoredFile) (slots : List Slot) (m : HostModel) (source object : Word) (rest : List Word) (o : Order) (text : List ℕ) (a : HostModel) → 256 < length slots →
-    bytes_eq source object ≡ false → program_name source ≡ program_name object → Accepted files slots m source object text a → LoadsAlike text →
+    bytes_eq source object ≡ false → program_name source ≡ program_name object → Accepted files slots m source object text a → (image : Image) → AreBytes text → source_meaning text ≡ Ok image →
     after_source kind (record o { command = Run }) (program_name source ∷ rest) (file_bytes 1025 source a)
     ≡ after_object kind (record o { command = Sim }) (program_name object ∷ rest) (file_bytes 16385 object a)
-runs-left kind files slots m source object rest o text a h apart alike known loads =
+runs-left kind files slots m source object rest o text a h apart alike known image bytes means =
     let last : List Slot = slice_set (slice_set slots 256 Closed) 257 Closed in
     let long : 256 < length last = rw (length-set (slice_set slots 256 Closed) 257 Closed, length-set slots 256 Closed) h in
     let alike : after_source kind (record o { command = Run }) (program_name source ∷ rest) (file_bytes 1025 source (idle (put_at files object (source_object text).0 (place_of files object)) last m))
     ≡ after_object kind (record o { command = Sim }) (program_name object ∷ rest) (file_bytes 16385 object (idle (put_at files object (source_object text).0 (place_of files object)) last m)) =
-    runs-alike kind files last m source object rest o text (source_object text).0 known.at long apart alike known.there known.read loads.image loads.symbols loads.source loads.object in
+    runs-alike kind files last m source object rest o text (source_object text).0 known.at long apart alike known.there known.read image (symbols_of (statements_in (source_entries text))) means (source-loads text image bytes means) in
     ap (λ n. after_source kind (record o { command = Run }) (program_name source ∷ rest) (file_bytes 1025 source n)) known.left
     ∙ alike
     ∙ sym (ap (λ n. after_object kind (record o { command = Sim }) (program_name object ∷ rest) (file_bytes 16385 object n)) known.left)
@@ -213,15 +217,15 @@ known-of kind source object text m after a h =
     reading-left m.files m.slots m source object text (still after) (place_of m.files source) h refl read (asm-done kind source object (still m) (still after) done)
 
 pub detour-is : (kind : MachineKind) (options : List Word) (source object : Word) (arguments : List Word) (text : List ℕ) (m after : HostModel) →
-    AreOrdered options source object arguments → IsAssembled kind source object text m after → LoadsAlike text →
+    AreOrdered options source object arguments → IsAssembled kind source object text m after → (image : Image) → source_meaning text ≡ Ok image →
     NoneFailed after (host_of (product kind (sim_words options object arguments) after)) → NoneFailed after (host_of (product kind (run_words options source arguments) after)) →
     answer_uncounted (product kind (sim_words options object arguments) after) ≡ answer_uncounted (product kind (run_words options source arguments) after)
-detour-is kind options source object arguments text m after words a loads simulated ran =
+detour-is kind options source object arguments text m after words a image means simulated ran =
     let many : length m.slots ≡ 261 = a.many in
     let known = known-of kind source object text m after a (omega arith) in
     let run = product-steady kind (run_words options source arguments) after in
     let sim = product-steady kind (sim_words options object arguments) after in
-    let alike = runs-left kind m.files m.slots m source object arguments words.order text (still after) (omega arith) a.apart a.alike known loads in
+    let alike = runs-left kind m.files m.slots m source object arguments words.order text (still after) (omega arith) a.apart a.alike known image a.bytes means in
     let still-alike : product kind (sim_words options object arguments) (still after) ≡ product kind (run_words options source arguments) (still after) =
     sim-is kind options object arguments words.order (still after) words.sim words.file words.rest ∙ ap with_message (sym alike) ∙ sym (run-is kind options source arguments words.order (still after) words.run words.file words.rest) in
     answers-same (product kind (sim_words options object arguments) after) (product kind (run_words options source arguments) after)

@@ -1,10 +1,8 @@
 -- A source that is assembled into an object, and the object run in its place.
 use Rattle.std.specs.Prelude.{ℕ, ◌≡◌, ◌+◌, List, [], ◌∷◌, ◌++◌, codes, false, length, Ok}
 use Rattle.std.specs.Str.{bytes_eq}
-use Rattle.mx_word.specs.declared.symbols.Symbol.{Symbol}
+use Rattle.mx_word.specs.Ranges.{AreBytes}
 use Rattle.mx_host.specs.HostModel.{HostModel}
-use Rattle.mx_mmo.specs.Image.{Image}
-use Rattle.mx_load.specs.Objects.{object_loaded}
 use Rattle.mx_trap.specs.Counts.{NoneFailed, unscheduled, without_count}
 use Rattle.mx_run.specs.WildRuns.{MachineKind}
 use Rattle.mx_words.specs.Orders.{order_of}
@@ -12,10 +10,8 @@ use Rattle.mx_words.specs.declared.order.Command.TheVariants.{Run, Sim}
 use Rattle.mx_words.specs.declared.order.Order.{Order}
 use Rattle.mx_top.specs.Answers.{Answer, answered, wild}
 use Rattle.mx_top.specs.Arguments.{Word, program_name}
-use Rattle.mx_top.specs.Objects.{source_object}
 use Rattle.mx_top.specs.Product.{product}
 use Rattle.mx_top.specs.Source.{file_bytes, source_pieces}
-use Rattle.mx_top.specs.Sources.{source_meaning}
 use Rattle.mx_top.specs.declared.outcome.Outcome.TheVariants.{Done}
 
 -- the host as an answer leaves it
@@ -52,7 +48,7 @@ pub record AreOrdered (options : List Word) (source object : Word) (arguments : 
   pub rest : order.rest ≡ length options + 2
 
 -- The source, of which this text is read, is assembled into the object, which leaves the model `after`, and no call that
--- this makes fails. The model has the 261 slots of a host, and the two files have different names, which agree but for a
+-- this makes fails. The text is bytes. The model has the 261 slots of a host, and the two files have different names, which agree but for a
 -- last `.mms` or `.mmo`.
 pub record IsAssembled (kind : MachineKind) (source object : Word) (text : List ℕ) (m after : HostModel) : Type 0 where
   pub well : NoneFailed m after
@@ -60,11 +56,5 @@ pub record IsAssembled (kind : MachineKind) (source object : Word) (text : List 
   pub apart : bytes_eq source object ≡ false
   pub alike : program_name source ≡ program_name object
   pub read : (file_bytes source_pieces source m).0 ≡ Ok text
+  pub bytes : AreBytes text
   pub done : product kind (asm_words source object) m ≡ answered (Done 0) after
-
--- The object of a source is loaded as what the source is run from.
-pub record LoadsAlike (text : List ℕ) : Type 0 where
-  pub image : Image
-  pub symbols : List Symbol
-  pub source : source_meaning text ≡ Ok image
-  pub object : object_loaded (source_object text).0 ≡ Ok (image, symbols)
