@@ -13,9 +13,8 @@ ghost use Rattle.mx_asm.specs.Whole.{assembled_source};
 ghost use Rattle.mx_run.specs.WildRuns.{MachineKind};
 ghost use Rattle.mx_trap.specs.Counts.{NoneFailed, unscheduled};
 ghost use Rattle.mx_top.specs.Arguments.{Word};
-ghost use Rattle.mx_top.specs.Detour.{
-    AreOrdered, IsAssembled, LoadsAlike, answer_uncounted, answer_unscheduled, host_of, run_words, sim_words,
-};
+ghost use Rattle.mx_top.specs.Detour.{AreOrdered, IsAssembled, LoadsAlike, run_words, sim_words};
+ghost use Rattle.mx_top.specs.Detour.{answer_uncounted, answer_unscheduled, host_of};
 ghost use Rattle.mx_top.specs.Objects.{source_object};
 ghost use Rattle.mx_top.specs.Product.{product};
 ghost use Rattle.mx_top.specs.Sources.{source_meaning};
