@@ -7,7 +7,6 @@ use Rattle.mx_host.specs.HostModel.{HostModel}
 use Rattle.mx_host.specs.declared.faults.HostFault.{HostFault}
 use Rattle.mx_trap.proofs.Spared.{Spares, Spared, uncalled, after, then, read-spared, write-spared}
 use Rattle.mx_core.specs.State.{State}
-use Rattle.mx_core.specs.declared.trace.Trace.{Trace}
 use Rattle.mx_run.proofs.SteadyRuns.{turn_still, SparedTurns, turn-steady, end_still, SparedEnds, run-steady}
 use Rattle.mx_run.specs.Counts.{end_host}
 use Rattle.mx_run.specs.Runs.{FlagsOf}
@@ -20,11 +19,10 @@ use Rattle.mx_con.specs.ConsoleTexts.{trace_text}
 use Rattle.mx_con.specs.HostLines.{Written, written, text_write, line_write, after_write, lines_write, byte_of, byte_read, Growing, with_byte, grown, Reading, after_byte, line_read, without_return}
 use Rattle.mx_con.specs.Judgement.{bad_text, command_bad}
 use Rattle.mx_con.specs.Replies.{reply_to}
-use Rattle.mx_con.specs.Session.{Console, Progress, Done, on, over, wild, and_then, with_host, write_done, line_done, steps_left, with_run, after_turn, stepped, goes, break_lines, end_answer, end_done, after_run, one_run, run_on, runs, with_reply, replied, carried_out, line_ends_wild, good_reply, judged, answered, command_done, with_reading, reading_done, prompt, line_of, prompted, asked, one_line, session_lines, most_input, at_start, SessionRun, SessionEnded, session_ended, session_wild, ended_in, run_of, session}
+use Rattle.mx_con.specs.Session.{Console, Progress, Done, on, over, wild, and_then, write_done, line_done, steps_left, with_run, after_turn, stepped, goes, break_lines, end_answer, end_done, after_run, one_run, run_on, runs, with_reply, carried_out, line_ends_wild, good_reply, judged, answered, command_done, reading_done, prompt, line_of, prompted, asked, one_line, session_lines, most_input, at_start, SessionRun, session_ended, session_wild, run_of, session}
 use Rattle.mx_cmd.specs.declared.command.Command.{Command}
 use Rattle.mx_cmd.specs.declared.command.Command.TheVariants as command
 use Rattle.mx_con.specs.declared.end.SessionEnd.{SessionEnd}
-use Rattle.mx_con.specs.declared.end.SessionEnd.TheVariants.{Spent, Limit}
 use Rattle.mx_con.specs.declared.judgement.Bad.{Bad}
 use Rattle.mx_con.specs.declared.judgement.Bad.TheVariants.{UnknownCommand}
 

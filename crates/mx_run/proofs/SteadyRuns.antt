@@ -17,7 +17,7 @@ use Rattle.mx_core.specs.State.{State}
 use Rattle.mx_core.specs.Step.{Stepped, went, calls, stopped, step}
 use Rattle.mx_core.specs.declared.trace.Trace.{Trace}
 use Rattle.mx_run.specs.Counts.{turn_unscheduled, end_unscheduled, end_host}
-use Rattle.mx_run.specs.Runs.{FlagsOf, Ended, ended, break_of, after_trace, after_turn, breaks_before}
+use Rattle.mx_run.specs.Runs.{FlagsOf, ended, break_of, after_trace, after_turn, breaks_before}
 use Rattle.mx_run.specs.Turns.{Turn, went_on, halts, stops, area_size, turn_with, trap_turn, turn_of, turn}
 use Rattle.mx_run.specs.WildRuns.{MachineKind, RunEnd, run_ended, run_wild, ends_wild, turn_by, step_by, run_by, host_after}
 use Rattle.mx_run.specs.declared.end.BreakKind.{BreakKind}
