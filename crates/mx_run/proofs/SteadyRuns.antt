@@ -1,5 +1,5 @@
 -- Where no call fails, turns and runs come to the same whatever the count of calls.
-use Rattle.std.proofs.Common.{◌≡◌, ℕ, zero, suc, ◌/◌, List, [], Bool, true, false, cond, refl, sym, ◌∙◌, ap, subst, Option, None, Some}
+use Rattle.std.proofs.Common.{◌≡◌, ℕ, zero, suc, ◌/◌, [], Bool, true, false, cond, refl, sym, ◌∙◌, ap, subst, Option, None, Some}
 use Rattle.mx_host.specs.HostModel.{HostModel}
 use Rattle.mx_host.proofs.Still.{still}
 use Rattle.mx_trip.specs.declared.call.TrapCall.{TrapCall}
