@@ -5,6 +5,7 @@ pub mod Events
 pub mod Loads
 pub mod Answered
 pub mod Stores
+pub mod Plain
 pub mod Others
 pub mod PutValues
 pub mod Swaps

@@ -1,5 +1,5 @@
 -- Instructions: a tetra, the address where it is carried out, and the fields that it has.
-use Rattle.std.specs.Prelude.{ℕ, ◌+◌, ◌-◌, ◌*◌, ◌/◌, ◌%◌, ◌^◌, None, if◌then◌else◌}
+use Rattle.std.specs.Prelude.{ℕ, ◌+◌, ◌-◌, ◌*◌, ◌/◌, ◌%◌, ◌^◌, None, Some, if◌then◌else◌}
 use Rattle.mx_ops.specs.Opcodes.{opcode_kind, is_backward}
 use Rattle.mx_core.specs.Operations.{operation_of}
 pub use Rattle.mx_core.specs.declared.instruction.Instruction.{Instruction}
@@ -8,6 +8,10 @@ use Rattle.mx_core.specs.declared.operation.Operation.{Operation}
 -- an instruction of a program, at its own address
 abbrev pub instruction : ℕ → ℕ → Instruction
 instruction at word = record { at = at; word = word; given = None }
+
+-- an instruction whose operands are given
+abbrev pub operands_given : ℕ → ℕ → ℕ → ℕ → Instruction
+operands_given at word y z = record { at = at; word = word; given = Some (y, z) }
 
 -- OP, X, Y and Z, and the longer fields YZ and XYZ
 abbrev pub code_of : Instruction → ℕ

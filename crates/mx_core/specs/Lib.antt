@@ -1,5 +1,6 @@
 pub mod Reasons
 pub mod Operations
+pub mod Groups
 pub mod Instructions
 pub mod State
 pub mod Effects

@@ -3,7 +3,7 @@
 ghost use Rattle.std.specs.Prelude.{◌≡◌, true};
 ghost use Rattle.mx_core.specs.Calls.{CarriesOut, Makes, answer_outcome};
 ghost use Rattle.mx_core.specs.Effects as spec;
-ghost use Rattle.mx_core.specs.Instructions.{code_of, operation_in};
+ghost use Rattle.mx_core.specs.Instructions.{code_of, instruction, operation_in};
 ghost use Rattle.mx_core.specs.Kept.{state_of};
 ghost use Rattle.mx_core.specs.Operations.{has_condition};
 ghost use Rattle.mx_alu.specs.Truth as conditions;
@@ -16,7 +16,7 @@ use mx_alu::{Extra, alu, lone_result, truth, wyde};
 
 impl Machine {
     /// MUL to SRU and OR to MXOR, but for NEG and NEGU. Mostly the result is all that they give.
-    #[tactic(auto, using(crate::proofs::Events::compute_outcome, crate::proofs::Events::compute_alone, crate::proofs::Tables::computes, crate::proofs::Tables::computes_low))]
+    #[tactic(auto, using(crate::proofs::Events::compute_outcome, crate::proofs::Events::compute_alone, crate::proofs::Plain::answer_plain, crate::proofs::Tables::computes, crate::proofs::Tables::computes_low))]
     #[inline(always)]
     pub(crate) fn compute(&mut self, i: &Instruction) -> Result<(), Stop>
         requires { operation_in i.now ≡ Operation.Compute }
@@ -25,19 +25,21 @@ impl Machine {
         let (y, z) = (self.y_operand(i), self.z_operand(i));
         match lone_result(i.code(), y, z, self.extra()) {
             Some(x) => self.settle(i, x, i.next()),
-            None => self.compute_wholly(i, y, z),
+            None => self.compute_wholly(i.at, i.word, y, z),
         }
     }
 
-    /// The same with what they give beside the result.
+    /// The same with what they give beside the result. It is given words and no reference, so that the
+    /// instruction need not stand in memory.
     #[tactic(auto, using(crate::proofs::Tables::computes))]
     #[inline(never)]
-    fn compute_wholly(&mut self, i: &Instruction, y: u64, z: u64) -> Result<(), Stop>
-        requires { operation_in i.now ≡ Operation.Compute }
-        ensures { Makes (λ s. answer_outcome s i.now y z (spec.alu_answer s i.now y z)) result self.old self.new }
+    fn compute_wholly(&mut self, at: u64, word: u32, y: u64, z: u64) -> Result<(), Stop>
+        requires { operation_in (instruction at word) ≡ Operation.Compute }
+        ensures { Makes (λ s. answer_outcome s (instruction at word) y z (spec.alu_answer s (instruction at word) y z)) result self.old self.new }
     {
+        let i = Instruction::new(at, word);
         let a = alu(i.code(), y, z, self.extra());
-        self.answer(i, y, z, &a)
+        self.answer(&i, y, z, &a)
     }
 
     /// NEG and NEGU.

@@ -8,6 +8,7 @@ mod bounds;
 mod changes;
 mod codes;
 mod compute;
+mod groups;
 mod instruction;
 mod jumps;
 mod laws;

@@ -1,9 +1,10 @@
 //! Loads.
 
-ghost use Rattle.std.specs.Prelude.{◌≡◌, ◌<◌, ◌≤◌, ◌^◌, true};
+ghost use Rattle.std.specs.Prelude.{◌≡◌, ◌<◌, ◌≤◌, ◌+◌, ◌%◌, ◌^◌, true};
 ghost use Rattle.mx_ring.specs.Stack.{in_stack_area};
 ghost use Rattle.mx_core.specs.Calls.{CarriesOut};
 ghost use Rattle.mx_core.specs.Effects.{data_address};
+ghost use Rattle.mx_core.specs.Instructions.{operands_given};
 ghost use Rattle.mx_core.specs.Kept.{state_of};
 
 use crate::instruction::Instruction;
@@ -20,16 +21,27 @@ impl Machine {
     pub(crate) fn load(&mut self, how: Loading, i: &Instruction) -> Result<(), Stop>
         ensures { CarriesOut (Operation.Load how) i.now result self.old self.new }
     {
-        let a = self.data_address(i);
+        let (y, z) = (self.y_operand(i), self.z_operand(i));
+        let a = y.wrapping_add(z);
         if a >= SEGMENT {
-            return self.load_above(how, i, a);
+            return self.load_apart(how, i.at, i.word, y, z);
         }
         self.settle(i, loaded_value(how, self.octa(a), a), i.next())
     }
 
+    /// A load from Stack_Segment on, for its operands. It is given words and no reference, so that the
+    /// instruction need not stand in memory.
+    #[inline(never)]
+    fn load_apart(&mut self, how: Loading, at: u64, word: u32, y: u64, z: u64) -> Result<(), Stop>
+        requires { 0x6000_0000_0000_0000 ≤ (y + z) % 2 ^ 64 }
+        ensures { CarriesOut (Operation.Load how) (operands_given at word y z) result self.old self.new }
+    {
+        let given = Some((y, z));
+        self.load_above(how, &Instruction { at, word, given }, y.wrapping_add(z))
+    }
+
     /// A load from Stack_Segment on.
     #[tactic(auto, using(crate::proofs::Loads::load_negative, crate::proofs::Loads::load_outside), unfolding(crate::specs::Calls::settled))]
-    #[inline(never)]
     fn load_above(&mut self, how: Loading, i: &Instruction, a: u64) -> Result<(), Stop>
         requires address { a ≡ data_address (state_of self.old) i.now }
         requires least { 0x6000_0000_0000_0000 ≤ a }

@@ -45,6 +45,7 @@ impl Machine {
 
     /// GET.
     #[tactic(auto, using(crate::proofs::Others::get_outcome_is))]
+    #[inline(always)]
     pub(crate) fn get_special(&mut self, i: &Instruction) -> Result<(), Stop>
         ensures { CarriesOut Operation.Get i.now result self.old self.new }
     {

@@ -3,13 +3,15 @@
 ghost use Rattle.std.specs.Prelude.{◌≡◌, ◌≢◌, ◌<◌, ◌^◌, IsTrue};
 ghost use Rattle.mx_core.specs.Calls.{KeepsOnErr, LacksMemoryOnlyWhere, MakesWithMemory};
 ghost use Rattle.mx_core.specs.Deeds.{deed_at, outcome};
-ghost use Rattle.mx_core.specs.Instructions.{operation_in};
+ghost use Rattle.mx_core.specs.Instructions.{code_of, instruction, operation_in};
 ghost use Rattle.mx_core.specs.Kept.{state_of};
+ghost use Rattle.mx_core.specs.Groups.{operation_by};
 ghost use Rattle.mx_core.specs.Step as spec;
 ghost use Rattle.mx_core.specs.Stepping.{advanced, needs_page, step_answer, step_needs_page};
 
+use crate::groups::{Group, group_of};
 use crate::instruction::Instruction;
-use crate::machine::is_in_segment;
+use crate::machine::{SEGMENT, is_in_segment};
 use crate::operation::Operation;
 use crate::stop::Stop;
 use crate::{Machine, Reason, Trace};
@@ -74,7 +76,7 @@ impl Machine {
         ensures there { result ≡ Step.OutOfMemory → IsTrue (needs_page (state_of self.old) (deed_at (state_of self.old) i.now)) }
     {
         let sight = self.sight_at(i);
-        match self.carry_out(i) {
+        match self.carry_out(i.at, i.word) {
             Ok(()) => {
                 self.note_where(is_in_segment(i.at));
                 Step::Went(Trace {
@@ -99,27 +101,47 @@ impl Machine {
         ensures there { result ≡ Advance.OutOfMemory → IsTrue (step_needs_page (state_of self.old)) }
     {
         let at = self.pc();
+        if at >= SEGMENT {
+            return self.advance_anyhow();
+        }
+        let i = self.fetched(at);
+        match group_of(i.code()) {
+            Group::Trap => Advance::Trap,
+            Group::Other => self.advance_anyhow(),
+            group => self.make(group, &i),
+        }
+    }
+
+    /// The same for each address and each instruction.
+    #[inline(never)]
+    fn advance_anyhow(&mut self) -> Advance
+        ensures answer { result ≢ Advance.OutOfMemory → (result, state_of self.new) ≡ advanced (state_of self.old) (spec.step (state_of self.old)) }
+        ensures memory { result ≡ Advance.OutOfMemory → state_of self.new ≡ state_of self.old }
+        ensures there { result ≡ Advance.OutOfMemory → IsTrue (step_needs_page (state_of self.old)) }
+    {
+        let at = self.pc();
         if at >= 1 << 63 {
             return Advance::Stopped(Reason::Negative);
         }
         let i = self.fetched(at);
         match i.operation() {
             Operation::Trap => Advance::Trap,
-            _ => self.make(&i),
+            _ => self.make(Group::Other, &i),
         }
     }
 
     /// A step at an instruction that is no TRAP.
     #[inline(always)]
-    fn make(&mut self, i: &Instruction) -> Advance
+    fn make(&mut self, group: Group, i: &Instruction) -> Advance
         requires fetched { i.now ≡ spec.fetched (state_of self.old) }
         requires range { (state_of self.old).pc < 2 ^ 63 }
         requires other { operation_in i.now ≢ Operation.Trap }
+        requires group { operation_in i.now ≡ operation_by group (code_of i.now) }
         ensures answer { result ≢ Advance.OutOfMemory → (result, state_of self.new) ≡ advanced (state_of self.old) (spec.step (state_of self.old)) }
         ensures memory { result ≡ Advance.OutOfMemory → state_of self.new ≡ state_of self.old }
         ensures there { result ≡ Advance.OutOfMemory → IsTrue (needs_page (state_of self.old) (deed_at (state_of self.old) i.now)) }
     {
-        match self.carry_out(i) {
+        match self.carry_out_by(group, i) {
             Ok(()) => {
                 self.note_where(is_in_segment(i.at));
                 Advance::Went
@@ -139,22 +161,64 @@ impl Machine {
         Instruction::new(at, self.tetra(at))
     }
 
-    /// Carries an instruction out, which is no TRAP. The frequent operations are told apart here, where
-    /// each call can be inlined into the loop over steps.
+    /// Carries an instruction of a program out, which is no TRAP. The frequent operations are told
+    /// apart here, where each call can be inlined into the loop over steps.
     #[tactic(auto, using(crate::proofs::Unchanged::unchanged))]
     #[inline(always)]
-    fn carry_out(&mut self, i: &Instruction) -> Result<(), Stop>
+    fn carry_out_by(&mut self, group: Group, i: &Instruction) -> Result<(), Stop>
+        requires plain { i.now ≡ instruction i.now.at i.now.word }
+        requires group { operation_in i.now ≡ operation_by group (code_of i.now) }
+        ensures answer { MakesWithMemory (λ s. outcome s (deed_at s i.now)) result self.old self.new }
+        ensures err { KeepsOnErr result self.old self.new }
+        ensures there { LacksMemoryOnlyWhere (needs_page (state_of self.old) (deed_at (state_of self.old) i.now)) result }
+    {
+        match group {
+            Group::Compute => self.compute(i),
+            Group::Move => self.carry_out_move(i),
+            Group::Branch => self.branch(i),
+            Group::Wyde => self.set_wyde(i),
+            Group::ConditionalSet => self.conditional_set(i),
+            Group::ZeroOrSet => self.zero_or_set(i),
+            Group::Address => self.get_address(i),
+            Group::Jump => self.jump(i),
+            Group::Go => self.go(i),
+            Group::PushJump => self.push_jump(i),
+            Group::Pop => self.pop(i),
+            Group::Nothing => self.do_nothing(i),
+            Group::Get => self.get_special(i),
+            Group::Trap | Group::Other => self.carry_out(i.at, i.word),
+        }
+    }
+
+    /// Carries a load or a store out.
+    #[tactic(auto, using(crate::proofs::Unchanged::unchanged))]
+    #[inline(always)]
+    fn carry_out_move(&mut self, i: &Instruction) -> Result<(), Stop>
+        requires { i.now ≡ instruction i.now.at i.now.word }
         ensures answer { MakesWithMemory (λ s. outcome s (deed_at s i.now)) result self.old self.new }
         ensures err { KeepsOnErr result self.old self.new }
         ensures there { LacksMemoryOnlyWhere (needs_page (state_of self.old) (deed_at (state_of self.old) i.now)) result }
     {
         match i.operation() {
-            Operation::Compute => self.compute(i),
             Operation::Load(how) => self.load(how, i),
-            Operation::Branch => self.branch(i),
             Operation::Store(how) => self.store_register(how, i),
-            Operation::Resume => self.resume(i),
-            _ => self.perform(i),
+            _ => self.carry_out(i.at, i.word),
+        }
+    }
+
+    /// Carries an instruction of a program out, which is no TRAP. It is given words and no reference, so
+    /// that a frequent instruction need not stand in memory.
+    #[tactic(auto, using(crate::proofs::Unchanged::unchanged))]
+    #[inline(never)]
+    fn carry_out(&mut self, at: u64, word: u32) -> Result<(), Stop>
+        ensures answer { MakesWithMemory (λ s. outcome s (deed_at s (instruction at word))) result self.old self.new }
+        ensures err { KeepsOnErr result self.old self.new }
+        ensures there { LacksMemoryOnlyWhere (needs_page (state_of self.old) (deed_at (state_of self.old) (instruction at word))) result }
+    {
+        let i = Instruction::new(at, word);
+        match i.operation() {
+            Operation::Resume => self.resume(&i),
+            _ => self.perform(&i),
         }
     }
 }

@@ -7,6 +7,7 @@ ghost use Rattle.mx_core.specs.Effects.{stored_event};
 ghost use Rattle.mx_trip.specs.declared.decision.Trip.TheVariants as trips;
 ghost use Rattle.mx_alu.specs.declared.answer.Event.TheVariants as event;
 ghost use Rattle.mx_core.specs.Deeds.{deed_of};
+ghost use Rattle.mx_core.specs.Instructions.{instruction};
 ghost use Rattle.mx_core.specs.Kept.{state_of};
 ghost use Rattle.mx_core.specs.State.{begins_page};
 ghost use Rattle.mx_core.specs.Stepping.{needs_page};
@@ -23,7 +24,7 @@ impl Machine {
     /// STB to STCO. It takes memory only where it begins a page.
     ///
     /// Errors: the stops of a store, and out of memory; then nothing changed.
-    #[tactic(auto, using(crate::proofs::Stores::store_outcome_is))]
+    #[tactic(auto, using(crate::proofs::Stores::store_outcome_is, crate::proofs::Plain::store_as_plain))]
     #[inline(always)]
     pub(crate) fn store_register(&mut self, how: Storing, i: &Instruction) -> Result<(), Stop>
         ensures answer { CarriesOutWithMemory (Operation.Store how) i.now result self.old self.new }
@@ -36,7 +37,7 @@ impl Machine {
             return Err(Stop::Stopped(Reason::Negative));
         }
         if overflows(how, x) {
-            return self.store_overflowing(how, i, a, x);
+            return self.store_apart(how, i.at, i.word, a, x);
         }
         match self.store(a, stored_part(how), stored_value(how, x, i.x())) {
             Ok(()) => {
@@ -47,8 +48,20 @@ impl Machine {
         }
     }
 
-    /// A store that loses the sign.
+    /// A store that loses the sign. It is given words and no reference, so that the instruction need not
+    /// stand in memory.
     #[inline(never)]
+    fn store_apart(&mut self, how: Storing, at: u64, word: u32, a: u64, x: u64) -> Result<(), Stop>
+        requires address { a < 2 ^ 63 }
+        requires event { stored_event how x ≡ Some event.Overflow }
+        ensures answer { MakesWithMemory (λ s. spec.store_settled s (instruction at word) how a x) result self.old self.new }
+        ensures err { KeepsOnErr result self.old self.new }
+        ensures there { LacksMemoryOnlyWhere (begins_page (state_of self.old) a) result }
+    {
+        self.store_overflowing(how, &Instruction::new(at, word), a, x)
+    }
+
+    /// A store that loses the sign.
     fn store_overflowing(
         &mut self,
         how: Storing,

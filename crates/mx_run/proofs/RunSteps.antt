@@ -1,5 +1,5 @@
 -- A run goes on by one step.
-use Rattle.std.proofs.Common.{◌≡◌, ℕ, zero, suc, ◌+◌, ◌-◌, ◌/◌, ◌<◌, ◌≤◌, Bool, true, false, cond, List, [], Option, None, Some, Ok, Err, arith, refl, sym, ◌∙◌, ap}
+use Rattle.std.proofs.Common.{◌≡◌, ◌≢◌, ℕ, zero, suc, ◌+◌, ◌-◌, ◌/◌, ◌<◌, ◌≤◌, Bool, true, false, cond, List, [], Option, None, Some, Ok, Err, arith, refl, sym, ◌∙◌, ap}
 use Rattle.std.specs.Prelude.{◌&&◌, not, nat_lt, Result}
 use Rattle.mx_word.specs.Lists.{IsFront}
 use Rattle.mx_word.proofs.Fronts.{front-self, front-through}
@@ -9,6 +9,7 @@ use Rattle.mx_core.specs.State.{State}
 use Rattle.mx_core.specs.Step.{Stepped, went, calls, stopped, step}
 use Rattle.mx_core.specs.Stepping.{advanced}
 use Rattle.mx_core.specs.declared.reason.Reason.{Reason}
+use Rattle.mx_core.specs.declared.step.Advance.{Advance}
 use Rattle.mx_core.specs.declared.step.Advance.TheVariants as advance
 use Rattle.mx_core.specs.declared.trace.Touch.{Touch}
 use Rattle.mx_core.specs.declared.trace.Trace.{Trace}
@@ -129,14 +130,14 @@ free-went entries s t m h e = went-free s t m e ∙ ap (λ es. run_step (flags_a
 pub free-stopped : (entries : List (ℕ × Flags)) (s t : State) (m : HostModel) (reason : Reason) → entries ≡ [] → (advance.Stopped reason, t) ≡ advanced s (step s) → (Err (Stopped t.pc (number_of reason)), t, m) ≡ run_step (flags_at entries) true s m
 free-stopped entries s t m reason h e = stopped-free s t m reason e ∙ ap (λ es. run_step (flags_at es) true s m) (sym h)
 
-same-by : (s t : State) (x : Stepped) → (advance.Trap, t) ≡ advanced s x → t ≡ s
-same-by s t (went u trace) e = let first : advance.Trap ≡ advance.Went = ap (λ p. p.0) e in absurd (cc)
-same-by s t (calls call) e = ap (λ p. p.1) e
-same-by s t (stopped reason) e = let first : advance.Trap ≡ advance.Stopped reason = ap (λ p. p.0) e in absurd (cc)
+unmoved-by : (a : Advance) (s t : State) (x : Stepped) → (a, t) ≡ advanced s x → a ≢ advance.Went → t ≡ s
+unmoved-by a s t (went u trace) e other = let first : a ≡ advance.Went = ap (λ p. p.0) e in absurd (other first)
+unmoved-by a s t (calls call) e other = ap (λ p. p.1) e
+unmoved-by a s t (stopped reason) e other = ap (λ p. p.1) e
 
--- a call leaves the machine as it is
-pub free-called : (s t : State) → (advance.Trap, t) ≡ advanced s (step s) → t ≡ s
-free-called s t e = same-by s t (step s) e
+-- whoever does not go on leaves the machine as it is
+pub free-unmoved : (a : Advance) (s t : State) → (a, t) ≡ advanced s (step s) → a ≢ advance.Went → t ≡ s
+free-unmoved a s t e other = unmoved-by a s t (step s) e other
 
 either-output : {A : Type 0} (xs : List ℕ) (b : Bool) (x y : Answered A) → IsFront xs x.2.output → IsFront xs y.2.output → IsFront xs (cond b x y).2.output
 either-output xs true x y h k = h
@@ -147,7 +148,7 @@ pub step-unmade : (f : FlagsOf) (pass : Bool) (s : State) (m : HostModel) → Is
 unfolding run_step
 step-unmade f pass s m = either-output m.output ((f (s.pc / 4)).x && not pass) _ _ (front-self m.output) (turn-unmade s m)
 
-pub ruleset freely = (free-went, free-stopped, free-called, step-unmade)
+pub ruleset freely = (free-went, free-stopped, free-unmoved, step-unmade)
 
 -- the first step goes as the others
 passed : (n : ℕ) (pass : Bool) (s : State) (m : HostModel) → run n (flags_at []) pass s m ≡ run n (flags_at []) true s m

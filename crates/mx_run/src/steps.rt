@@ -1,8 +1,10 @@
 //! A step of a run.
 
-ghost use Rattle.std.specs.Prelude.{◌≡◌, ◌/◌, ◌&&◌, not, [], Err, true};
+ghost use Rattle.std.specs.Prelude.{◌≡◌, ◌≢◌, ◌/◌, ◌&&◌, not, [], Err, true};
 ghost use Rattle.mx_host.specs.Keeping.{Keeps};
 ghost use Rattle.mx_core.specs.Kept.{state_of};
+ghost use Rattle.mx_core.specs.Step.{step};
+ghost use Rattle.mx_core.specs.Stepping.{advanced};
 ghost use Rattle.mx_run.specs.Clauses.{LeavesMachine, LeavesFront};
 ghost use Rattle.mx_run.specs.FlagMaps.{flags_at};
 ghost use Rattle.mx_run.specs.RunSteps as spec;
@@ -102,6 +104,32 @@ pub fn free_step<H: Host>(
 {
     know_window(machine);
     match machine.advance() {
+        Advance::Went => Going::On,
+        other => step_over(alloc, machine, flags, host, end, other),
+    }
+}
+
+/// What follows a step that did not go on, which left the machine as it is. It stands apart, so that a
+/// step that goes on pays nothing for it.
+#[inline(never)]
+#[tactic(auto, using(crate::proofs::RunSteps::freely))]
+fn step_over<H: Host>(
+    alloc: Global,
+    machine: &mut Machine,
+    flags: &FlagMap,
+    host: &mut H,
+    end: &mut End,
+    other: Advance,
+) -> Going
+    requires free { flags.now ≡ [] }
+    requires came { other ≢ Advance.OutOfMemory → (other, state_of machine.old) ≡ advanced (state_of machine.old) (step (state_of machine.old)) }
+    ensures told { LeavesMachine (H.told host.old) (H.told host.new) (state_of machine.old) (state_of machine.new)
+        (Err End.OutOfMemory) (spec.answer_by result end.new) (λ s m. spec.run_step (flags_at flags.now) true s m) }
+    ensures front { LeavesFront (H.told host.old) (H.told host.new) (state_of machine.old)
+        (Err End.OutOfMemory) (spec.answer_by result end.new) (λ s m. spec.run_step (flags_at flags.now) true s m) }
+    ensures keeps { Keeps (H.told host.old) (H.told host.new) (H.faults host.old) (H.faults host.new) }
+{
+    match other {
         Advance::Went => Going::On,
         Advance::Trap => trap_step(alloc, machine, flags, host, end),
         Advance::Stopped(reason) => {

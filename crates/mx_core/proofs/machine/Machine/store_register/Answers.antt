@@ -34,7 +34,7 @@ returns-in-Err-clause-answer c = λ m.
 pub returns-then-overflows-clause-there : goal.returns-then-overflows-clause-there
 returns-then-overflows-clause-there c =
     let s = state_of c.args.self.now in
-    lacks_as _ _ c.store_overflowing.result (ap (λ a. begins_page s a) c.data_address-a.ensures ∙ sym (store_page c.args.how s c.args.i.now)) c.store_overflowing.ensures.there
+    lacks_as _ _ c.store_apart.result (ap (λ a. begins_page s a) c.data_address-a.ensures ∙ sym (store_page c.args.how s c.args.i.now)) c.store_apart.ensures.there
 
 pub returns-in-Err-clause-there : goal.returns-in-Err-clause-there
 returns-in-Err-clause-there c =
