@@ -1,0 +1,9 @@
+pub mod Numerals
+pub mod OperandLists
+pub mod Parts
+pub mod OperandTrees
+pub mod Codes
+pub mod PlainForms
+pub mod RelativeForms
+pub mod PlacedTetras
+pub mod ShownAgain
