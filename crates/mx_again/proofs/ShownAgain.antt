@@ -18,7 +18,7 @@ use Rattle.mx_text.specs.Reading.{lowest_code}
 use Rattle.mx_text.proofs.LowestCodes.{name-found}
 use Rattle.mx_again.specs.ShownStatements.{shown_fields, IsShownPart, TargetStays, IsPlaceable}
 use Rattle.mx_again.proofs.Parts.{code-below, yz-below, xyz-below}
-use Rattle.mx_again.proofs.OperandTrees.{trees, trees-shown}
+use Rattle.mx_again.proofs.OperandTrees.{trees, shown-spelled, trees-shown}
 use Rattle.mx_again.proofs.Codes.{fits, rounds_byte, is_relative, by-relative, one-shape, shape-fits, byte-rounds, second-next}
 use Rattle.mx_again.proofs.PlainForms.{code_by, word_by, plain-form}
 use Rattle.mx_again.proofs.RelativeForms.{highest, field-again, field-given, field-stays, branch-form, jump-form}
@@ -194,3 +194,16 @@ pub where-taken : (word pc line : ℕ) (s : StatementTree) (k : Known) → word 
     IsRead (shown_fields word pc) line s → (IsOk (encoding no_targets k s) ↔ IsPlaceable word pc)
 where-taken word pc line s k lt below four at read =
     (placeable word pc line s k lt below four at read (encoding no_targets k s) refl, taken word pc line s k lt below four at read)
+
+-- The text is read as a statement.
+pub is-read : (word pc line : ℕ) → word < 2 ^ 32 → (s : StatementTree) × IsRead (shown_fields word pc) line s
+is-read word pc line lt = (
+  record { line = line; label = None; op = Code (lowest_code (field_code word)); operands = trees (shape (field_code word)) word pc },
+  record {
+    line_is = refl;
+    label_is = refl;
+    op_is = ap (operation_with false) (name-found (field_code word) (code-below word lt));
+    spelled = (shown-spelled word pc).0;
+    faultless = (shown-spelled word pc).1;
+  },
+)
