@@ -25,11 +25,12 @@ pub record IsTakenAfter (k : List Waiting) (done : List Tree) (text : List ℕ) 
 abbrev pub IsTaken : List ℕ → Tree → Type 0
 IsTaken text e = (done : List Tree) → IsTakenAfter [] done text (e, [])
 
-abbrev pub AreTaken : List (List ℕ) → List Tree → Type 0
-AreTaken [] [] = Unit {0}
-AreTaken [] (e ∷ es) = ⊥
-AreTaken (t ∷ ts) [] = ⊥
-AreTaken (t ∷ ts) (e ∷ es) = IsTaken t e × AreTaken ts es
+-- each text with its tree
+abbrev pub Each : (List ℕ → Tree → Type 0) → List (List ℕ) → List Tree → Type 0
+Each R [] [] = Unit {0}
+Each R [] (e ∷ es) = ⊥
+Each R (t ∷ ts) [] = ⊥
+Each R (t ∷ ts) (e ∷ es) = R t e × Each R ts es
 
 -- ---- constants
 
@@ -172,7 +173,7 @@ comma-read : (mode : Mode) (rest : List Waiting) (e : Tree) (done : List Tree) �
 comma-read mode rest e done ending =
     ap (λ o. within o (next_reading mode rest 0 done 44)) (no-bound mode) ∙ goes-beyond mode rest (e, []) 0 done 44 ending refl
 
-behind : (t : List ℕ) (ts : List (List ℕ)) (e : Tree) (es done : List Tree) → AreTaken (t ∷ ts) (e ∷ es) →
+behind : (t : List ℕ) (ts : List (List ℕ)) (e : Tree) (es done : List Tree) → Each IsTaken (t ∷ ts) (e ∷ es) →
     reading_end (steps (st operand [] 0 done) (join_with_byte 44 (t ∷ ts))) ≡ Ok (done ++ e ∷ es)
 behind t [] e [] done are = let q = are.0 done in ap reading_end q.read ∙ finish-ends q.mode q.rest (e, []) done q.ending
 behind t [] e (f ∷ es) done are = absurd are.1
@@ -188,7 +189,7 @@ field-read [] list is = absurd (cc (ap reading_end (steps-none start), is))
 field-read (b ∷ bs) list is = is
 
 -- Operands with commas between them are read as their trees.
-pub list-read : (ts : List (List ℕ)) (es : List Tree) → 0 < length es → AreTaken ts es → reading.reading (join_with_byte 44 ts) ≡ Ok es
+pub list-read : (ts : List (List ℕ)) (es : List Tree) → 0 < length es → Each IsTaken ts es → reading.reading (join_with_byte 44 ts) ≡ Ok es
 list-read ts [] some are = absurd (omega (arith, some))
 list-read [] (e ∷ es) some are = absurd are
 list-read (t ∷ ts) (e ∷ es) some are = field-read (join_with_byte 44 (t ∷ ts)) (e ∷ es) (behind t ts e es [] are)
