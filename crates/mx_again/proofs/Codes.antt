@@ -1,7 +1,11 @@
 -- The shapes and kinds of the codes, by computing.
-use Rattle.std.proofs.Common.{◌≡◌, ℕ, ◌+◌, ◌<◌, Bool, true, false, not, ◌&&◌, ◌||◌, cond, [], ◌∷◌, map, refl, ◌⊎◌, inl, inr}
-use Rattle.std.specs.List.{range_with_len}
-use Rattle.mx_ops.specs.Opcodes.{opcode_rows, opcode_kinds, opcode_kind, is_immediate, is_backward}
+use Rattle.std.proofs.Common.{◌≡◌, ℕ, ◌+◌, ◌<◌, ◌≤◌, length, List, Bool, true, false, not, ◌&&◌, ◌||◌, cond, [], ◌∷◌, map, refl, ◌⊎◌, inl, inr}
+use Rattle.std.specs.Prelude.{nat_lt, nat_le}
+use Rattle.std.specs.List.{list_all, range_with_len}
+use Rattle.std.proofs.lemmas.Bool.{and_parts}
+use Rattle.mx_word.specs.Kinds.{is_name_byte}
+use Rattle.mx_word.proofs.Comparisons.{is-less, is-least}
+use Rattle.mx_ops.specs.Opcodes.{opcode_rows, opcode_names, opcode_name, opcode_kinds, opcode_kind, is_immediate, is_backward}
 use Rattle.mx_ops.specs.Shapes.{shape_spans, shapes_of}
 use Rattle.mx_ops.specs.declared.op.Shape.{Shape}
 use Rattle.mx_ops.specs.declared.op.Shape.TheVariants.{Three, Regs, Round, Neg, Rel, Mem, MemPure, Wyde, Jump, Put, Get, Pop, One, Save, Unsave, Free}
@@ -73,6 +77,28 @@ all-round = refl
 all-again : map (λ code. cond (is_immediate (opcode_kind code) || is_backward (opcode_kind code)) (lowest_code code + 1) (lowest_code code)) (range_with_len 0 256) ≡ map (λ code. code) (range_with_len 0 256)
 unfolding opcode_kind opcode_kinds opcode_rows
 all-again = refl
+
+abbrev is_name : List ℕ → Bool
+is_name name = list_all is_name_byte name && nat_lt 0 (length name) && nat_le (length name) 10
+
+all-named : map (λ code. is_name (opcode_name code)) (range_with_len 0 256) ≡ map (λ code. true) (range_with_len 0 256)
+unfolding opcode_name opcode_names opcode_rows
+all-named = refl
+
+-- A name has letters and digits, one or more.
+pub record IsName (name : List ℕ) : Type 0 where
+  pub bytes : list_all is_name_byte name ≡ true
+  pub some : 0 < length name
+  pub few : length name ≤ 10
+
+by-tests : (name : List ℕ) → is_name name ≡ true → IsName name
+by-tests name is =
+    let p = and_parts (list_all is_name_byte name && nat_lt 0 (length name)) (nat_le (length name) 10) is in
+    let q = and_parts (list_all is_name_byte name) (nat_lt 0 (length name)) p.0 in
+    record { bytes = q.0; some = is-less 0 (length name) q.1; few = is-least (length name) 10 p.1 }
+
+pub code-named : (code : ℕ) → code < 256 → IsName (opcode_name code)
+code-named code below = by-tests (opcode_name code) (each true (λ code. is_name (opcode_name code)) (λ code. true) all-named code below)
 
 -- The lowest code with the name of a code has the same shape, and no other one.
 pub one-shape : (code : ℕ) → code < 256 → shapes_of (lowest_code code) ≡ shape code ∷ []

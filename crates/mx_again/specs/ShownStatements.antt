@@ -1,18 +1,21 @@
 -- The text of an instruction as a statement.
-use Rattle.std.specs.Prelude.{◌≡◌, ◌≤◌, ℕ, ◌+◌, ◌*◌, ◌^◌, true, [], None}
+use Rattle.std.specs.Prelude.{◌≡◌, ◌≤◌, ℕ, ◌+◌, ◌*◌, ◌^◌, true, List, [], ◌++◌, codes, None}
 use Rattle.mx_word.specs.Words.{tetra_to_bytes}
 use Rattle.mx_ops.specs.Opcodes.{opcode_name, opcode_kind, is_backward}
 use Rattle.mx_ops.specs.declared.op.Shape.{Shape}
 use Rattle.mx_ops.specs.declared.op.Shape.TheVariants.{Rel, Jump}
 use Rattle.mx_stmt.specs.declared.placed.Placed.{Placed}
 use Rattle.mx_stmt.specs.Reading.{Fields}
-use Rattle.mx_text.specs.Instructions.{field_code, field_yz, field_xyz, shape, shown_operands, operands_text}
+use Rattle.mx_text.specs.Instructions.{field_code, field_yz, field_xyz, shape, shown_operands, operands_text, instruction_text}
 use Rattle.mx_text.specs.Reading.{shown_part}
 
--- The fields of a line that has the text of a tetra at the address pc, with no label: the name, and the operands behind
--- the blank.
+-- The fields of a line with the text of a tetra at the address pc: no label, the name, and the operands behind the blank.
 abbrev pub shown_fields : ℕ → ℕ → Fields
 shown_fields word pc = record { label = None; op = opcode_name (field_code word); operands = operands_text (shown_operands word pc) }
+
+-- the line with a blank and the text of a tetra at the address pc
+abbrev pub shown_line : ℕ → ℕ → List ℕ
+shown_line word pc = codes " " ++ instruction_text word pc
 
 -- The tetra without the Y that is not shown is placed at the address pc, and no reference waits.
 pub record IsShownPart (word pc : ℕ) (placed : Placed) : Type 0 where

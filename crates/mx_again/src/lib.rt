@@ -3,4 +3,4 @@
 
 mod laws;
 
-pub use laws::texts_assemble_to_their_tetras;
+pub use laws::{shown_lines_are_one_statement, texts_assemble_to_their_tetras};
