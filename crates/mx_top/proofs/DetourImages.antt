@@ -55,7 +55,8 @@ written-loaded items trie symbols image w short answer means =
 
 tail-items : (items : List Item) (tail : Result Tail MmoFault) (object : Object) → with_tail items tail ≡ Ok object → items ≡ object.items
 tail-items items (Ok tail) object h =
-    let same : record { items = items; tail = tail } ≡ object = same_Ok _ _ h in
+    let whole : Object = record { items = items; tail = tail } in
+    let same : whole ≡ object = cc in
     ap (λ (o : Object). o.items) same
 tail-items items (Err fault) object h = absurd (cc)
 
@@ -76,7 +77,7 @@ written-refused items trie e w short means =
     let read : object_of bytes ≡ Ok object = written-read items trie w.valid w.padded.whole w.padded.most short in
     let are : (items_of Start 0 bytes).0 ≡ items = left-items (items_of Start 0 bytes).0 (items_of Start 0 bytes).1 object (sym (not-long bytes short) ∙ read) in
     let found = fault-of-meaning bytes e short (ap (λ is. take_items is (Ok nothing)) are ∙ fault-means (take_items items (Ok nothing)) e means) in
-    (found.0, found.1.1)
+    (found.0, found.2)
 
 -- ---- sources
 
