@@ -5,7 +5,6 @@ use Rattle.mx_core.specs.Deeds.{outcome, deed_of}
 use Rattle.mx_core.specs.Effects.{alu_answer, y_operand, z_operand}
 use Rattle.mx_core.specs.Instructions.{Instruction, instruction, operands_given}
 use Rattle.mx_core.specs.State.{State}
-use Rattle.mx_core.specs.Step.{fetched}
 use Rattle.mx_core.specs.declared.operation.Loading.{Loading}
 use Rattle.mx_core.specs.declared.operation.Storing.{Storing}
 use Rattle.mx_core.specs.declared.operation.Operation.TheVariants as op
@@ -19,10 +18,6 @@ answer_plain s i y z = refl
 pub store_as_plain : (s : State) (i : Instruction) (how : Storing) (a x : ℕ) → store_settled s i how a x ≡ store_settled s (instruction i.at i.word) how a x
 unfolding store_settled
 store_as_plain s i how a x = refl
-
--- an instruction of a program has no operands that are given
-pub fetched_plain : (s : State) (i : Instruction) → i ≡ fetched s → instruction i.at i.word ≡ i
-fetched_plain s i e = rw e refl
 
 pub load_given : (how : Loading) (s : State) (i : Instruction) (y z : ℕ) → y ≡ y_operand s i → z ≡ z_operand s i →
     outcome s (deed_of (op.Load how) s i) ≡ outcome s (deed_of (op.Load how) s (operands_given i.at i.word y z))

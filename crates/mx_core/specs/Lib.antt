@@ -1,6 +1,7 @@
 pub mod Reasons
 pub mod Operations
 pub mod Groups
+pub mod Told
 pub mod Instructions
 pub mod State
 pub mod Effects

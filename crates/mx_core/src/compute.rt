@@ -6,12 +6,13 @@ ghost use Rattle.mx_core.specs.Effects as spec;
 ghost use Rattle.mx_core.specs.Instructions.{code_of, instruction, operation_in};
 ghost use Rattle.mx_core.specs.Kept.{state_of};
 ghost use Rattle.mx_core.specs.Operations.{has_condition};
+ghost use Rattle.mx_core.specs.Told.{answer_in};
 ghost use Rattle.mx_alu.specs.Truth as conditions;
 
 use crate::Machine;
 use crate::instruction::Instruction;
 use crate::operation::Operation;
-use crate::stop::Stop;
+use crate::stop::{Stop, Told};
 use mx_alu::{Extra, alu, lone_result, truth, wyde};
 
 impl Machine {
@@ -25,7 +26,7 @@ impl Machine {
         let (y, z) = (self.y_operand(i), self.z_operand(i));
         match lone_result(i.code(), y, z, self.extra()) {
             Some(x) => self.settle(i, x, i.next()),
-            None => self.compute_wholly(i.at, i.word, y, z),
+            None => self.compute_wholly(i.at, i.word, y, z).answer(),
         }
     }
 
@@ -33,13 +34,13 @@ impl Machine {
     /// instruction need not stand in memory.
     #[tactic(auto, using(crate::proofs::Tables::computes))]
     #[inline(never)]
-    fn compute_wholly(&mut self, at: u64, word: u32, y: u64, z: u64) -> Result<(), Stop>
+    fn compute_wholly(&mut self, at: u64, word: u32, y: u64, z: u64) -> Told
         requires { operation_in (instruction at word) ≡ Operation.Compute }
-        ensures { Makes (λ s. answer_outcome s (instruction at word) y z (spec.alu_answer s (instruction at word) y z)) result self.old self.new }
+        ensures { Makes (λ s. answer_outcome s (instruction at word) y z (spec.alu_answer s (instruction at word) y z)) (answer_in result) self.old self.new }
     {
         let i = Instruction::new(at, word);
         let a = alu(i.code(), y, z, self.extra());
-        self.answer(&i, y, z, &a)
+        Told::of(self.answer(&i, y, z, &a))
     }
 
     /// NEG and NEGU.

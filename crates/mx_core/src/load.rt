@@ -6,12 +6,13 @@ ghost use Rattle.mx_core.specs.Calls.{CarriesOut};
 ghost use Rattle.mx_core.specs.Effects.{data_address};
 ghost use Rattle.mx_core.specs.Instructions.{operands_given};
 ghost use Rattle.mx_core.specs.Kept.{state_of};
+ghost use Rattle.mx_core.specs.Told.{answer_in};
 
 use crate::instruction::Instruction;
 use crate::machine::{SEGMENT, is_in_stack_area};
 use crate::operation::{Loading, Operation};
 use crate::part::loaded_value;
-use crate::stop::Stop;
+use crate::stop::{Stop, Told};
 use crate::{Machine, Reason};
 
 impl Machine {
@@ -24,7 +25,7 @@ impl Machine {
         let (y, z) = (self.y_operand(i), self.z_operand(i));
         let a = y.wrapping_add(z);
         if a >= SEGMENT {
-            return self.load_apart(how, i.at, i.word, y, z);
+            return self.load_apart(how, i.at, i.word, y, z).answer();
         }
         self.settle(i, loaded_value(how, self.octa(a), a), i.next())
     }
@@ -32,12 +33,13 @@ impl Machine {
     /// A load from Stack_Segment on, for its operands. It is given words and no reference, so that the
     /// instruction need not stand in memory.
     #[inline(never)]
-    fn load_apart(&mut self, how: Loading, at: u64, word: u32, y: u64, z: u64) -> Result<(), Stop>
+    fn load_apart(&mut self, how: Loading, at: u64, word: u32, y: u64, z: u64) -> Told
         requires { 0x6000_0000_0000_0000 ≤ (y + z) % 2 ^ 64 }
-        ensures { CarriesOut (Operation.Load how) (operands_given at word y z) result self.old self.new }
+        ensures { CarriesOut (Operation.Load how) (operands_given at word y z) (answer_in result) self.old self.new }
     {
         let given = Some((y, z));
-        self.load_above(how, &Instruction { at, word, given }, y.wrapping_add(z))
+        let i = Instruction { at, word, given };
+        Told::of(self.load_above(how, &i, y.wrapping_add(z)))
     }
 
     /// A load from Stack_Segment on.

@@ -37,10 +37,13 @@ pub(crate) const RP: u8 = 23;
 impl Machine {
     /// Notes that a program looked at rS or at the memory of the register stack, where it did.
     #[tactic(auto, unfolding(crate::specs::Kept::state_of))]
+    #[inline(always)]
     pub(crate) fn note_where(&mut self, looks: bool)
         ensures { state_of self.new ≡ spec.with_touch_where (state_of self.old) looks }
     {
-        self.touched = self.touched || looks;
+        if looks {
+            self.touched = true;
+        }
     }
 
     /// GET.

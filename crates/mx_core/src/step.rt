@@ -7,13 +7,14 @@ ghost use Rattle.mx_core.specs.Instructions.{code_of, instruction, operation_in}
 ghost use Rattle.mx_core.specs.Kept.{state_of};
 ghost use Rattle.mx_core.specs.Groups.{operation_by};
 ghost use Rattle.mx_core.specs.Step as spec;
+ghost use Rattle.mx_core.specs.Told.{answer_in};
 ghost use Rattle.mx_core.specs.Stepping.{advanced, needs_page, step_answer, step_needs_page};
 
 use crate::groups::{Group, group_of};
 use crate::instruction::Instruction;
 use crate::machine::{SEGMENT, is_in_segment};
 use crate::operation::Operation;
-use crate::stop::Stop;
+use crate::stop::{Stop, Told};
 use crate::{Machine, Reason, Trace};
 use mx_trip::TrapCall;
 
@@ -76,7 +77,7 @@ impl Machine {
         ensures there { result ≡ Step.OutOfMemory → IsTrue (needs_page (state_of self.old) (deed_at (state_of self.old) i.now)) }
     {
         let sight = self.sight_at(i);
-        match self.carry_out(i.at, i.word) {
+        match self.carry_out_by(Group::Other, i) {
             Ok(()) => {
                 self.note_where(is_in_segment(i.at));
                 Step::Went(Trace {
@@ -146,7 +147,7 @@ impl Machine {
                 self.note_where(is_in_segment(i.at));
                 Advance::Went
             }
-            Err(Stop::Stopped(reason)) => Advance::Stopped(reason),
+            Err(Stop::Stopped(reason)) => stopped_for(reason),
             Err(Stop::OutOfMemory) => Advance::OutOfMemory,
         }
     }
@@ -186,7 +187,7 @@ impl Machine {
             Group::Pop => self.pop(i),
             Group::Nothing => self.do_nothing(i),
             Group::Get => self.get_special(i),
-            Group::Trap | Group::Other => self.carry_out(i.at, i.word),
+            Group::Trap | Group::Other => self.carry_out(i.at, i.word).answer(),
         }
     }
 
@@ -202,7 +203,7 @@ impl Machine {
         match i.operation() {
             Operation::Load(how) => self.load(how, i),
             Operation::Store(how) => self.store_register(how, i),
-            _ => self.carry_out(i.at, i.word),
+            _ => self.carry_out(i.at, i.word).answer(),
         }
     }
 
@@ -210,15 +211,23 @@ impl Machine {
     /// that a frequent instruction need not stand in memory.
     #[tactic(auto, using(crate::proofs::Unchanged::unchanged))]
     #[inline(never)]
-    fn carry_out(&mut self, at: u64, word: u32) -> Result<(), Stop>
-        ensures answer { MakesWithMemory (λ s. outcome s (deed_at s (instruction at word))) result self.old self.new }
-        ensures err { KeepsOnErr result self.old self.new }
-        ensures there { LacksMemoryOnlyWhere (needs_page (state_of self.old) (deed_at (state_of self.old) (instruction at word))) result }
+    fn carry_out(&mut self, at: u64, word: u32) -> Told
+        ensures answer { MakesWithMemory (λ s. outcome s (deed_at s (instruction at word))) (answer_in result) self.old self.new }
+        ensures err { KeepsOnErr (answer_in result) self.old self.new }
+        ensures there { LacksMemoryOnlyWhere (needs_page (state_of self.old) (deed_at (state_of self.old) (instruction at word))) (answer_in result) }
     {
         let i = Instruction::new(at, word);
         match i.operation() {
-            Operation::Resume => self.resume(&i),
-            _ => self.perform(&i),
+            Operation::Resume => Told::of(self.resume(&i)),
+            _ => Told::of(self.perform(&i)),
         }
     }
+}
+
+/// A step that stopped. It is a call, so that a step that goes on chooses between no answers.
+#[inline(never)]
+fn stopped_for(reason: Reason) -> Advance
+    ensures { result ≡ Advance.Stopped reason }
+{
+    Advance::Stopped(reason)
 }

@@ -11,11 +11,12 @@ ghost use Rattle.mx_core.specs.Instructions.{instruction};
 ghost use Rattle.mx_core.specs.Kept.{state_of};
 ghost use Rattle.mx_core.specs.State.{begins_page};
 ghost use Rattle.mx_core.specs.Stepping.{needs_page};
+ghost use Rattle.mx_core.specs.Told.{answer_in};
 
 use crate::instruction::Instruction;
 use crate::operation::{Operation, Storing};
 use crate::part::{overflows, stored_part, stored_value};
-use crate::stop::Stop;
+use crate::stop::{Stop, Told};
 use crate::{Machine, Reason};
 use mx_alu::Event;
 use mx_trip::{Trip, decide, noted_events_stay_in_18_bits};
@@ -37,7 +38,7 @@ impl Machine {
             return Err(Stop::Stopped(Reason::Negative));
         }
         if overflows(how, x) {
-            return self.store_apart(how, i.at, i.word, a, x);
+            return self.store_apart(how, i.at, i.word, a, x).answer();
         }
         match self.store(a, stored_part(how), stored_value(how, x, i.x())) {
             Ok(()) => {
@@ -51,14 +52,14 @@ impl Machine {
     /// A store that loses the sign. It is given words and no reference, so that the instruction need not
     /// stand in memory.
     #[inline(never)]
-    fn store_apart(&mut self, how: Storing, at: u64, word: u32, a: u64, x: u64) -> Result<(), Stop>
+    fn store_apart(&mut self, how: Storing, at: u64, word: u32, a: u64, x: u64) -> Told
         requires address { a < 2 ^ 63 }
         requires event { stored_event how x ≡ Some event.Overflow }
-        ensures answer { MakesWithMemory (λ s. spec.store_settled s (instruction at word) how a x) result self.old self.new }
-        ensures err { KeepsOnErr result self.old self.new }
-        ensures there { LacksMemoryOnlyWhere (begins_page (state_of self.old) a) result }
+        ensures answer { MakesWithMemory (λ s. spec.store_settled s (instruction at word) how a x) (answer_in result) self.old self.new }
+        ensures err { KeepsOnErr (answer_in result) self.old self.new }
+        ensures there { LacksMemoryOnlyWhere (begins_page (state_of self.old) a) (answer_in result) }
     {
-        self.store_overflowing(how, &Instruction::new(at, word), a, x)
+        Told::of(self.store_overflowing(how, &Instruction::new(at, word), a, x))
     }
 
     /// A store that loses the sign.

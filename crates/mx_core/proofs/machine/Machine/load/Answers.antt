@@ -1,10 +1,12 @@
-use Rattle.std.proofs.Common.{sym, ap, ◌∙◌}
+use Rattle.std.proofs.Common.{Result, sym, ap, ◌∙◌}
 use Rattle.mx_core.specs.Calls.{left}
 use Rattle.mx_core.specs.Kept.{state_of}
+use Rattle.mx_core.specs.declared.stop.Stop.{Stop}
 use Rattle.mx_core.proofs.Plain.{load_given}
 use Rattle.mx_core.proofs.machine.Machine.load.Goals as goal
 
 pub returns-then-a-ge-SEGMENT : goal.returns-then-a-ge-SEGMENT
 returns-then-a-ge-SEGMENT c =
     let s = state_of c.args.self.now in
-    c.load_apart.ensures ∙ ap (left s) (sym (load_given c.args.how s c.args.i.now _ _ c.y_operand-y.ensures c.z_operand-z.ensures))
+    ap (λ (r : Result (Unit {0}) Stop). (r, state_of c.load_apart.new.self)) c.answer.ensures
+    ∙ c.load_apart.ensures ∙ ap (left s) (sym (load_given c.args.how s c.args.i.now _ _ c.y_operand-y.ensures c.z_operand-z.ensures))

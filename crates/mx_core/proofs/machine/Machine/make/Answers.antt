@@ -7,6 +7,7 @@ use Rattle.mx_core.specs.State.{State, is_in_stack_segment}
 use Rattle.mx_core.specs.Step.{fetched}
 use Rattle.mx_core.specs.Stepping.{advanced}
 use Rattle.mx_core.specs.declared.operation.Operation.TheVariants as op
+use Rattle.mx_core.specs.declared.step.Advance.{Advance}
 use Rattle.mx_core.specs.declared.step.Advance.TheVariants as advance
 use Rattle.mx_core.proofs.Steps.{step_went, step_stopped}
 use Rattle.mx_core.proofs.machine.Machine.make.Goals as goal
@@ -29,4 +30,4 @@ returns-in-Err-Stopped-clause-answer c = λ m.
     let told = rw c.in-Err-Stopped.field-0-is at c.in-Err-Stopped.ensures.answer in
     let e = told (λ e. cc) ∙ ap (λ (j : Instruction). left s (outcome s (deed_at s j))) c.requires.fetched in
     let err = step_stopped s t c.in-Err-Stopped.reason c.requires.range n e in
-    ap (λ (u : State). (advance.Stopped c.in-Err-Stopped.reason, u)) err.1 ∙ ap (advanced s) (sym err.0)
+    ap (λ (a : Advance). (a, t)) c.stopped_for.ensures ∙ ap (λ (u : State). (advance.Stopped c.in-Err-Stopped.reason, u)) err.1 ∙ ap (advanced s) (sym err.0)

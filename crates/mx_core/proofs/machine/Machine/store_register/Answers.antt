@@ -5,6 +5,7 @@ use Rattle.mx_core.specs.Effects.{stored_part, stored_value, stored_event}
 use Rattle.mx_core.specs.Instructions.{x_of, next_of}
 use Rattle.mx_core.specs.Kept.{state_of}
 use Rattle.mx_core.specs.State.{State, begins_page}
+use Rattle.mx_core.specs.Told.{answer_in}
 use Rattle.mx_core.proofs.Answered.{refused-as, made-as}
 use Rattle.mx_core.proofs.Stores.{store_negative, store_page, store_plain, stored-ok, stored-err}
 use Rattle.mx_core.proofs.Unchanged.{lacks_as, lacks_where}
@@ -34,7 +35,7 @@ returns-in-Err-clause-answer c = λ m.
 pub returns-then-overflows-clause-there : goal.returns-then-overflows-clause-there
 returns-then-overflows-clause-there c =
     let s = state_of c.args.self.now in
-    lacks_as _ _ c.store_apart.result (ap (λ a. begins_page s a) c.data_address-a.ensures ∙ sym (store_page c.args.how s c.args.i.now)) c.store_apart.ensures.there
+    rw c.answer.ensures (lacks_as _ _ (answer_in c.store_apart.result) (ap (λ a. begins_page s a) c.data_address-a.ensures ∙ sym (store_page c.args.how s c.args.i.now)) c.store_apart.ensures.there)
 
 pub returns-in-Err-clause-there : goal.returns-in-Err-clause-there
 returns-in-Err-clause-there c =
