@@ -13,3 +13,4 @@ pub mod ListedRuns
 pub mod ListedReplies
 pub mod ListedSessions
 pub mod SteadySessions
+pub mod ToldSessions

@@ -5,3 +5,4 @@ pub mod Replies
 pub mod HostLines
 pub mod Session
 pub mod Clauses
+pub mod Told

@@ -8,8 +8,8 @@ ghost use Rattle.mx_run.specs.FlagMaps.{flags_at, with_flags};
 ghost use Rattle.mx_con.specs.Replies as spec;
 ghost use Rattle.mx_con.specs.Subjects.{IsSound, subject_changed};
 
-use mx_cmd::{Breaks, Subject};
 use crate::subjects::set_subject;
+use mx_cmd::{Breaks, Subject};
 use mx_core::SetFault;
 use mx_run::{Flags, Runner};
 use mx_word::NoMemory;
@@ -51,6 +51,7 @@ pub(crate) fn note_if(runner: &mut Runner, wild: bool)
 pub(crate) fn set_breaks(runner: &mut Runner, breaks: Breaks, a: u64) -> Result<(), NoMemory>
     ensures ok { OnOk result (flags_at runner.new.flags ≡ with_flags (flags_at runner.old.flags) (a / 4)
         (spec.with_breaks (flags_at runner.old.flags (a / 4)) breaks)) }
+    ensures err { OnErr result (runner.new.flags ≡ runner.old.flags) }
     ensures machine { runner.new.machine ≡ runner.old.machine }
 {
     let flags = runner.flags(a);
@@ -71,6 +72,7 @@ pub(crate) fn set_breaks(runner: &mut Runner, breaks: Breaks, a: u64) -> Result<
 pub(crate) fn set_trace(runner: &mut Runner, traced: bool, a: u64) -> Result<(), NoMemory>
     ensures ok { OnOk result (flags_at runner.new.flags ≡ with_flags (flags_at runner.old.flags) (a / 4)
         (spec.with_trace (flags_at runner.old.flags (a / 4)) traced)) }
+    ensures err { OnErr result (runner.new.flags ≡ runner.old.flags) }
     ensures machine { runner.new.machine ≡ runner.old.machine }
 {
     let flags = runner.flags(a);

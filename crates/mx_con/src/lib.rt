@@ -9,6 +9,7 @@ mod dialog;
 mod end;
 mod host_lines;
 mod judgement;
+mod laws;
 mod listings;
 mod replies;
 mod sessions;
@@ -19,5 +20,6 @@ mod windows;
 
 pub use end::SessionEnd;
 pub use judgement::Bad;
+pub use laws::sessions_end_by_themselves;
 pub use sessions::session;
 pub use texts::{state_line, trace_line};

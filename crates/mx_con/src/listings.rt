@@ -11,10 +11,10 @@ ghost use Rattle.mx_con.specs.Subjects as subjects;
 ghost use Rattle.mx_con.specs.Replies as spec;
 
 use crate::SessionEnd;
-use mx_cmd::Subject;
 use crate::host_lines::write_line;
 use crate::subjects::shown_line;
 use crate::texts::flag_line;
+use mx_cmd::Subject;
 use mx_core::Machine;
 use mx_host::Host;
 use mx_run::{Flags, Runner};

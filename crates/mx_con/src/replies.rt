@@ -14,13 +14,13 @@ ghost use Rattle.mx_con.specs.Subjects as subjects;
 
 use crate::SessionEnd;
 use crate::changes::{change, go_on_at, note_if, set_breaks, set_trace};
-use mx_cmd::{Breaks, Command, Subject};
 use crate::dialog::Dialog;
 use crate::host_lines::write_line;
 use crate::judgement::{Bad, flag_bad, go_to_bad, more_bad, subject_bad};
 use crate::listings::{write_flags, write_octas};
 use crate::subjects::shown_line;
 use crate::texts::state_line;
+use mx_cmd::{Breaks, Command, Subject};
 use mx_core::SetFault;
 use mx_host::Host;
 use mx_run::Runner;

@@ -11,17 +11,16 @@ ghost use Rattle.mx_con.specs.HostLines.{line_read, text_write};
 ghost use Rattle.mx_con.specs.Session as spec;
 
 use crate::SessionEnd;
-use mx_cmd::Command;
 use crate::dialog::Dialog;
 use crate::host_lines::{read_line, without_return, write_text};
 use crate::judgement::Bad;
-use mx_cmd::command_of;
 use crate::replies::{
     change_subject, go_to, refuse, set_tetra_breaks, show, show_flags, show_more, show_state,
     trace_tetra, untrace_tetra,
 };
 use crate::steps::{go_on, step_once};
 use crate::windows::know_window;
+use mx_cmd::{Command, command_of};
 use mx_host::Host;
 use mx_run::Runner;
 use mx_word::Bytes;

@@ -5,9 +5,8 @@ ghost use Rattle.mx_core.specs.Changed.{Changes};
 ghost use Rattle.mx_core.specs.Kept.{state_of};
 ghost use Rattle.mx_con.specs.Subjects as spec;
 
-use mx_cmd::Subject;
-use mx_cmd::special_name;
 use crate::texts::{add_decimal, add_hex, octa_at};
+use mx_cmd::{Subject, special_name};
 use mx_core::{Machine, SetFault};
 use mx_text::{Form, shown};
 use mx_word::{Bytes, NoMemory};

@@ -1,0 +1,15 @@
+-- Sessions that end by themselves.
+use Rattle.std.specs.Prelude.{Bool, true, false}
+use Rattle.mx_con.specs.Session.{SessionRun, session_ended, session_wild}
+use Rattle.mx_con.specs.declared.end.SessionEnd.{SessionEnd}
+use Rattle.mx_con.specs.declared.end.SessionEnd.TheVariants.{OutOfMemory}
+
+-- whether an end is another than that of no memory
+abbrev pub is_end_told : SessionEnd → Bool
+is_end_told OutOfMemory = false
+is_end_told end = true
+
+-- whether a session comes to something else than the end of no memory
+abbrev pub is_told : SessionRun → Bool
+is_told (session_ended e) = is_end_told e.end
+is_told (session_wild m) = true
