@@ -1,8 +1,8 @@
 -- What PUT comes to.
-use Rattle.std.proofs.Common.{◌≡◌, ℕ, ◌==◌, ◌&&◌, ◌||◌, Bool, true, false, not, nat_lt, if◌then◌else◌, Option, None, Some, Result, Ok, Err, refl, ap}
+use Rattle.std.proofs.Common.{◌≡◌, ℕ, ◌==◌, ◌&&◌, ◌||◌, Bool, true, false, not, nat_lt, if◌then◌else◌, Option, None, Some, Result, Ok, Err, refl, ap, ◌∙◌}
 use Rattle.mx_ring.specs.Stack.{cut_to, with_global_start}
 use Rattle.mx_spec.specs.Puts.{put_of}
-use Rattle.mx_spec.specs.SpecialRegisters.{rG, rL}
+use Rattle.mx_spec.specs.SpecialRegisters.{rG, rL, rJ}
 use Rattle.mx_spec.specs.declared.put.Put.{Put}
 use Rattle.mx_spec.specs.declared.put.Put.TheVariants as put
 use Rattle.mx_core.specs.Calls.{put_outcome, put_done}
@@ -38,3 +38,7 @@ put-cases s i false put.Privileged = refl
 pub put_outcome_is : (s : State) (i : Instruction) → outcome s (deed_of op.Put s i) ≡ put_outcome s i
 unfolding effect_of form_fault stack_fault
 put_outcome_is s i = put-cases s i (not (y_of i == 0) || nat_lt 31 (x_of i)) (put_of (x_of i) (z_operand s i) (global_start s) (locals s))
+
+-- rJ takes each value
+pub put_link : (s : State) (i : Instruction) → x_of i ≡ rJ → y_of i ≡ 0 → outcome s (deed_of op.Put s i) ≡ Ok (onward (with_special s rJ (z_operand s i)) (next_of i))
+put_link s i a b = put_outcome_is s i ∙ rw (a, b) (ap (λ k. Ok (onward (with_put s k (z_operand s i)) (next_of i))) a)

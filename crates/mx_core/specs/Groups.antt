@@ -21,5 +21,6 @@ operation_by group.PushJump code = op.PushJump
 operation_by group.Pop code = op.Pop
 operation_by group.Nothing code = op.Nothing
 operation_by group.Get code = op.Get
+operation_by group.Put code = op.Put
 operation_by group.Trap code = op.Trap
 operation_by group.Other code = operation_of code

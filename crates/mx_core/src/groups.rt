@@ -23,6 +23,7 @@ pub(crate) enum Group {
     Pop,
     Nothing,
     Get,
+    Put,
     Trap,
     Other,
 }
@@ -53,6 +54,8 @@ const NOTHINGS: Group = Group::Nothing;
 
 const GETS: Group = Group::Get;
 
+const PUTS: Group = Group::Put;
+
 const CALLS: Group = Group::Trap;
 
 const OTHERS: Group = Group::Other;
@@ -78,7 +81,7 @@ static GROUPS: [Group; 256] = [
     SUMS, SUMS, SUMS, SUMS, SUMS, SUMS, SUMS, SUMS, SUMS, SUMS, SUMS, SUMS, SUMS, SUMS, SUMS, SUMS,
     SUMS, SUMS, SUMS, SUMS, SUMS, SUMS, SUMS, SUMS, SUMS, SUMS, SUMS, SUMS, SUMS, SUMS, SUMS,
     WYDES, WYDES, WYDES, WYDES, WYDES, WYDES, WYDES, WYDES, WYDES, WYDES, WYDES, WYDES, WYDES,
-    WYDES, WYDES, WYDES, JUMPS, JUMPS, PUSHES, PUSHES, ADDRESSES, ADDRESSES, OTHERS, OTHERS, POPS,
+    WYDES, WYDES, WYDES, JUMPS, JUMPS, PUSHES, PUSHES, ADDRESSES, ADDRESSES, PUTS, PUTS, POPS,
     OTHERS, OTHERS, OTHERS, OTHERS, NOTHINGS, GETS, OTHERS,
 ];
 

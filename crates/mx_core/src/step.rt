@@ -15,6 +15,7 @@ use crate::instruction::Instruction;
 use crate::machine::{SEGMENT, is_in_segment};
 use crate::operation::Operation;
 use crate::stop::{Stop, Told};
+use crate::trips::RJ;
 use crate::{Machine, Reason, Trace};
 use mx_trip::TrapCall;
 
@@ -187,6 +188,7 @@ impl Machine {
             Group::Pop => self.pop(i),
             Group::Nothing => self.do_nothing(i),
             Group::Get => self.get_special(i),
+            Group::Put => self.carry_out_put(i),
             Group::Trap | Group::Other => self.carry_out(i.at, i.word).answer(),
         }
     }
@@ -205,6 +207,24 @@ impl Machine {
             Operation::Store(how) => self.store_register(how, i),
             _ => self.carry_out(i.at, i.word).answer(),
         }
+    }
+
+    /// Carries a PUT out. That of rJ stands in each subroutine that calls others.
+    #[tactic(auto, using(crate::proofs::Unchanged::unchanged, crate::proofs::PutValues::put_link))]
+    #[inline(always)]
+    fn carry_out_put(&mut self, i: &Instruction) -> Result<(), Stop>
+        requires plain { i.now ≡ instruction i.now.at i.now.word }
+        requires put { operation_in i.now ≡ Operation.Put }
+        ensures answer { MakesWithMemory (λ s. outcome s (deed_at s i.now)) result self.old self.new }
+        ensures err { KeepsOnErr result self.old self.new }
+        ensures there { LacksMemoryOnlyWhere (needs_page (state_of self.old) (deed_at (state_of self.old) i.now)) result }
+    {
+        if i.x() != RJ || i.y() != 0 {
+            return self.carry_out(i.at, i.word).answer();
+        }
+        self.put(RJ, self.z_operand(i));
+        self.go_to(i.next());
+        Ok(())
     }
 
     /// Carries an instruction of a program out, which is no TRAP. It is given words and no reference, so
