@@ -3,6 +3,8 @@ use Rattle.std.proofs.Common.{◌≡◌, ℕ, ◌+◌, ◌*◌, ◌/◌, ◌<◌
 use Rattle.std.specs.Prelude.{◌==◌, ◌||◌}
 use Rattle.std.proofs.lemmas.Option.{same_Some}
 use Rattle.std.specs.Ordering.{nat_cmp}
+use Rattle.std.specs.Cmp.{nat_cmp_is}
+use Rattle.std.specs.declared.cmp.Ordering.TheVariants.{Equal}
 use Rattle.std.specs.Map.{lookup}
 use Rattle.std.specs.BTreeMap as tree
 use Rattle.std.specs.BTreeMap.{BTreeMap}
@@ -32,7 +34,22 @@ nothing-held m e = by m.entries e
     by [] e = refl
     by (x ∷ es) e = absurd (cc)
 
-pub ruleset counting = (nothing-held)
+-- what has an entry has a flag
+first-held : (n : ℕ) (f : Flags) (es : List (ℕ × Flags)) → lookup (tree.is_at (nat_cmp n)) ((n, f) ∷ es) ≡ Some f
+first-held n f es = let same : Equal ≡ nat_cmp n n = nat_cmp_is n n Equal refl in rw (← same) refl
+
+pub no-entries : (m : BTreeMap ℕ Flags) → HoldsFlags m → ((n : ℕ) → has_flag (flags_at m.entries n) ≡ false) → m.entries ≡ []
+no-entries m h k = by m.entries refl
+  where
+    by : (es : List (ℕ × Flags)) → m.entries ≡ es → es ≡ []
+    by [] e = refl
+    by ((n, f) ∷ es) e =
+        let found : tree.get nat_cmp m n ≡ Some f = ap (λ (xs : List (ℕ × Flags)). lookup (tree.is_at (nat_cmp n)) xs) e ∙ first-held n f es in
+        let flagged : has_flag f ≡ true = h.flagged n f found in
+        let none : has_flag f ≡ false = sym (ap (λ o. has_flag (flags_or_none o)) found) ∙ k n in
+        absurd (cc)
+
+pub ruleset counting = (nothing-held, no-entries)
 
 pub held-below : (m : BTreeMap ℕ Flags) (n : ℕ) (f : Flags) → HoldsFlags m → tree.get nat_cmp m n ≡ Some f → n < 2 ^ 62
 held-below m n f h e = h.below n f e

@@ -45,6 +45,7 @@ impl FlagMap {
     pub fn is_empty(&self) -> bool
         ensures only { IsTrue result → self.now ≡ [] }
         ensures always { self.now ≡ [] → IsTrue result }
+        ensures flagless { ((n : ℕ) → spec.has_flag (spec.flags_at self.now n) ≡ false) → IsTrue result }
     {
         self.flags.is_empty()
     }
