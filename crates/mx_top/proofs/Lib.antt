@@ -30,6 +30,7 @@ pub mod SteadyProduct
 pub mod DetourRuns
 pub mod DetourImages
 pub mod UnbrokenRuns
+pub mod ToldPrograms
 pub mod Completed
 pub mod KeptSlots
 pub mod CompletedFiles

@@ -10,7 +10,7 @@ ghost use Rattle.mx_top.specs.Arguments.{Word};
 ghost use Rattle.mx_top.specs.Product.{product};
 ghost use Rattle.mx_top.specs.Rings.{DifferInRing};
 ghost use Rattle.mx_top.specs.Runs.{machine_ran};
-ghost use Rattle.mx_top.specs.Unbroken.{is_told};
+ghost use Rattle.mx_top.specs.Unbroken.{is_answer_told, is_told};
 
 /// Orders that differ in the size of the ring alone come to the same over the list machine. So, by the
 /// clause `headline` of the top call, two rings give the same outcome and the same host, where the
@@ -26,4 +26,11 @@ pub fn two_rings_agree()
 #[tactic(auto, using(crate::proofs::UnbrokenRuns::unbroken))]
 pub fn runs_end_by_themselves()
     ensures { (kind : MachineKind) (steps : ℕ) (s : State) (m : HostModel) → is_told (machine_ran kind steps s m) ≡ true }
+{}
+
+/// By its definition the program is never out of memory, with whatever words, files and failing calls. So
+/// that answer, which is always free, stands for nothing else in what it promises.
+#[tactic(auto, using(crate::proofs::ToldPrograms::unbroken_programs))]
+pub fn programs_end_by_themselves()
+    ensures { (kind : MachineKind) (words : List Word) (m : HostModel) → is_answer_told (product kind words m) ≡ true }
 {}
