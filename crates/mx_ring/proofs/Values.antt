@@ -240,6 +240,10 @@ cut-stands i l xs h f e =
     let v : Registers = registers_in i in
     stands (with_locals_cut v l) _ _ _ (cut-bounds v l h.in_bounds f) (e ∙ ap (λ ys. with_zeros_at ys l i.local_count) h.all_shown ∙ ap (λ n. with_zeros_at (all_values v) l n) (count-of i h) ∙ cut-values v l h.in_bounds f) (sym (length-take-le l v.locals f)) refl
 
+-- how many locals stay
+pub stays : (i : Inside) (n c : ℕ) → HoldsRegisters i → c ≡ length (registers_in i).locals - n → c ≡ i.local_count - n
+stays i n c h e = rw (count-of i h) e
+
 pub from-stands : (i : Inside) (n c : ℕ) (ys zs : List ℕ) → HoldsRegisters i → c ≡ i.local_count - n → ys ≡ take 0 i.values ++ take (i.local_count - (i.local_count - c)) (drop (i.local_count - c) i.values) ++ drop (0 + (i.local_count - (i.local_count - c))) i.values → zs ≡ with_zeros_at ys c i.local_count → Stands (record i { values = zs; local_count = c }) (registers_from (registers_in i) n)
 from-stands i n c ys zs h ec ey ez =
     let v : Registers = registers_in i in

@@ -1,6 +1,6 @@
 //! The hidden octas: a list of all of them, and the stack area, where the older ones stand too.
 
-ghost use Rattle.std.specs.Prelude.{◌≡◌, ◌≤◌, ◌<◌, ◌+◌, ◌-◌, ◌^◌, ◌++◌, [], IfOk, OnErr, Err, length, replicate, slice_index};
+ghost use Rattle.std.specs.Prelude.{◌≡◌, ◌≤◌, ◌<◌, ◌+◌, ◌-◌, ◌^◌, ◌++◌, [], ◌∷◌, IfOk, OnErr, Err, length, take, replicate, slice_index};
 ghost use Rattle.std.specs.Vec.{vec_len, vec_capacity};
 ghost use Rattle.mx_word.specs.Lists.{with_part};
 ghost use Rattle.mx_ring.specs.HiddenPart.{octas_of, with_hidden, with_spilled, with_room, with_first, with_stack_first, with_octa, nothing_hidden, zeros};
@@ -43,6 +43,22 @@ fn append(list: &mut Vec<u64>, items: &[u64])
     let Ok(()) = list.extend_from_slice(items) else {
         unreachable!()
     };
+}
+
+/// Appends the first `n` of some items, and that number. All of them are written first, since a number of
+/// items that is known beforehand is written faster.
+#[tactic(auto, using(crate::proofs::Few::counted))]
+#[inline(always)]
+fn append_counted(list: &mut Vec<u64>, items: &[u64], n: usize)
+    requires room { vec_len list.old + length items.now ≤ vec_capacity list.old }
+    requires among { n < length items.now }
+    ensures items { list.new.items ≡ list.old.items ++ (take n items.now ++ n ∷ []) }
+    ensures capacity { vec_capacity list.old ≤ vec_capacity list.new }
+{
+    let place = list.len() + n;
+    append(list, items);
+    list.truncate(place + 1);
+    list[place] = n as u64;
 }
 
 /// Other items in place of as many of a list from `place` on.
@@ -119,6 +135,16 @@ impl Hidden {
         ensures { self.new ≡ with_hidden self.old octas.now }
     {
         append(&mut self.octas, octas);
+    }
+
+    /// Hides the first `n` of some octas, and that number.
+    #[inline(always)]
+    pub(crate) fn append_counted(&mut self, octas: &[u64], n: usize)
+        requires room { length (octas_of self.old) + length octas.now ≤ 2 ^ 20 }
+        requires among { n < length octas.now }
+        ensures { self.new ≡ with_hidden self.old (take n octas.now ++ n ∷ []) }
+    {
+        append_counted(&mut self.octas, octas, n);
     }
 
     /// After a growth, where the ring has a number of registers and `l` of them are local: what

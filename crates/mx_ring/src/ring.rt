@@ -1,19 +1,19 @@
 //! The register stack: the registers that an instruction sees, and the hidden ones.
 
-ghost use Rattle.std.specs.Prelude.{◌≡◌, ◌≤◌, ◌<◌, ◌+◌, ◌-◌, ◌^◌, if◌then◌else◌, None, Some, Ok, Err, IfOk, OnOk, OnErr, true, false, ℕ, length, slice_index, nat_le};
+ghost use Rattle.std.specs.Prelude.{◌≡◌, ◌≤◌, ◌<◌, ◌+◌, ◌-◌, ◌^◌, ◌∷◌, [], ◌++◌, if◌then◌else◌, None, Some, Ok, Err, IfOk, OnOk, OnErr, true, false, ℕ, length, slice_index, nat_le};
 ghost use Rattle.mx_ring.specs.Bounds.{AreInBounds, IsRing};
 ghost use Rattle.mx_ring.specs.Calls.{set_answer, push_answer, pop_answer, save_answer, frame_answer, unsave_answer};
 ghost use Rattle.mx_ring.specs.Frames.{frame, frame_length, is_bad_frame};
 ghost use Rattle.mx_ring.specs.HiddenPart.{octas_of, with_hidden};
 ghost use Rattle.mx_ring.specs.Kept.{KeepsFrame};
 ghost use Rattle.mx_ring.specs.Laws.{IsOutsideOrSpilled};
-ghost use Rattle.mx_ring.specs.Registers.{is_marginal};
+ghost use Rattle.mx_ring.specs.Registers.{is_marginal, registers_below};
 ghost use Rattle.mx_ring.specs.Stack.{windowed, list_of, hidden_count, local_count, spilled_count, register, set_overfills, with_register, cut_to, with_global_start, push_overfills, pushed, with_pushed, hole_in, pop_underflows, popped, with_popped, stack_address, in_stack_area, stack_index, stack_octa, with_stack_octa, frame_top, save_overfills, saved, unsave_refused, octas_to, unsaved_specials, unsaved};
 ghost use Rattle.mx_ring.specs.Window.{window_at_start};
 
 use crate::frame::{frame_at, specials_at, upper_octas};
 use crate::hidden::{Hidden, ROOM};
-use crate::visible::Visible;
+use crate::visible::{FEW, Visible};
 use crate::{RingFault, RingSize, Saved};
 use std::alloc::Global;
 use std::marker::Model;
@@ -215,8 +215,7 @@ impl Ring {
         requires room { hidden_count (windowed self.old) + (count + 1) ≤ 2 ^ 20 }
         ensures { windowed self.new ≡ with_pushed (windowed self.old) count }
     {
-        self.hidden.append(self.visible.below(count));
-        self.hidden.append(&[count as u64]);
+        hide_below(&mut self.hidden, &self.visible, count);
         self.visible.keep_from(count + 1);
         self.hidden.make_room(self.visible.local_count(), self.size);
     }
@@ -375,6 +374,32 @@ fn hole(octas: &[u64]) -> Option<usize>
         return None;
     }
     Some(hole)
+}
+
+/// Hides the first `count` registers and that number. Where they are few, some more are written first.
+#[inline(always)]
+fn hide_below(hidden: &mut Hidden, visible: &Visible, count: usize)
+    requires bounds { AreInBounds visible.now }
+    requires below { count ≤ visible.now.first_global }
+    requires room { length (octas_of hidden.old) + (count + 1) ≤ 2 ^ 20 }
+    ensures { hidden.new ≡ with_hidden hidden.old (registers_below visible.now count ++ count ∷ []) }
+{
+    if count < FEW && hidden.len() + FEW <= ROOM {
+        hidden.append_counted(visible.below(FEW), count);
+        return;
+    }
+    hide_all_below(hidden, visible, count);
+}
+
+/// The same for any number of registers.
+#[inline(never)]
+fn hide_all_below(hidden: &mut Hidden, visible: &Visible, count: usize)
+    requires below { count ≤ visible.now.first_global }
+    requires room { length (octas_of hidden.old) + (count + 1) ≤ 2 ^ 20 }
+    ensures { hidden.new ≡ with_hidden hidden.old (registers_below visible.now count ++ count ∷ []) }
+{
+    hidden.append(visible.below(count));
+    hidden.append(&[count as u64]);
 }
 
 /// Hides a frame with all local and global registers and these special ones.

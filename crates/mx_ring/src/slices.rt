@@ -5,6 +5,7 @@ ghost use Rattle.mx_word.specs.Lists.{with_part};
 ghost use Rattle.mx_ring.specs.Parts.{with_zeros_at};
 
 /// Zeros in place of what stands from `from` up to `to`.
+#[inline]
 pub(crate) fn clear(items: &mut [u64], from: usize, to: usize)
     requires forward { from ≤ to }
     requires inside { to ≤ length items.old }
@@ -22,6 +23,7 @@ pub(crate) fn put(items: &mut [u64], place: usize, others: &[u64])
 }
 
 /// What stands from `from` up to `to`, once more from `place` on.
+#[inline(always)]
 pub(crate) fn copy(items: &mut [u64], from: usize, to: usize, place: usize)
     requires forward { from ≤ to }
     requires inside { to ≤ length items.old }

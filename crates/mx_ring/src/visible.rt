@@ -1,12 +1,17 @@
 //! The registers that an instruction sees, in one array of what each of them has.
 
-ghost use Rattle.std.specs.Prelude.{◌≡◌, ◌≤◌, ◌<◌, ◌+◌, true, false, length, take};
+ghost use Rattle.std.specs.Prelude.{◌≡◌, ◌≤◌, ◌<◌, ◌+◌, ◌-◌, true, false, length, take, drop, max};
 ghost use Rattle.mx_ring.specs.Bounds.{AreInBounds};
+ghost use Rattle.mx_word.specs.Lists.{with_part};
+ghost use Rattle.mx_ring.specs.Parts.{with_zeros_at};
 ghost use Rattle.mx_ring.specs.Registers.{registers_at_start, is_marginal, value_of, with_value, with_locals_cut, with_globals_from, push_number, registers_below, registers_from, with_returned};
 
 use crate::results::bring_back;
 use crate::slices::{clear, copy, put};
 use std::marker::Model;
+
+/// How many registers are copied at once where so many are enough.
+pub(crate) const FEW: usize = 8;
 
 /// The 256 registers: what each of them has, L and G.
 #[derive(Drop)]
@@ -152,6 +157,31 @@ impl Visible {
         ensures { self.new ≡ registers_from self.old n }
     {
         let count = self.local_count.saturating_sub(n);
+        if count <= FEW && n <= self.first_global - FEW {
+            self.keep_few(n, count);
+        } else {
+            self.keep_all(n, count);
+        }
+    }
+
+    /// The same where few locals stay: that many registers are moved at once.
+    #[inline(always)]
+    fn keep_few(&mut self, n: usize, count: usize)
+        requires count { count ≡ length self.old.locals - n }
+        requires few { count ≤ 8 }
+        requires room { n + 8 ≤ self.old.first_global }
+        ensures { self.new ≡ registers_from self.old n }
+    {
+        move_few(&mut self.values, n, self.local_count);
+        self.local_count = count;
+    }
+
+    /// The same for any number of locals.
+    #[inline(never)]
+    fn keep_all(&mut self, n: usize, count: usize)
+        requires { count ≡ length self.old.locals - n }
+        ensures { self.new ≡ registers_from self.old n }
+    {
         copy(
             &mut self.values,
             self.local_count - count,
@@ -187,4 +217,16 @@ impl Visible {
         self.first_global = first_global;
         self.local_count = count;
     }
+}
+
+/// As many registers as are copied at once, from the place `n` on, become the first ones, and zeros stand
+/// between them and the place `l`.
+#[inline(always)]
+fn move_few(values: &mut [u64], n: usize, l: usize)
+    requires from { n + 8 ≤ length values.old }
+    requires locals { l ≤ length values.old }
+    ensures { values.new ≡ with_zeros_at (with_part values.old 0 (take 8 (drop n values.old))) 8 (max l 8) }
+{
+    copy(values, n, n + FEW, 0);
+    clear(values, FEW, l.max(FEW));
 }
