@@ -1,6 +1,6 @@
 //! The words of the command line, names and statuses.
 
-use crate::rows::{Due, FIRST, comes_to, host};
+use mx_rows::{Due, FIRST, comes_to, host};
 use mx_top::{Outcome, fault_name, usage_name};
 use mx_words::WordsFault;
 use std::test::Fail;

@@ -1,6 +1,6 @@
 //! Sessions of the console.
 
-use crate::rows::{Due, FIRST, HELLO, comes_to, done, host};
+use mx_rows::{Due, FIRST, HELLO, comes_to, done, host};
 use mx_top::Outcome;
 use std::test::Fail;
 

@@ -1,6 +1,6 @@
 //! Dumps.
 
-use crate::rows::{FIRST, comes_to, done, host};
+use mx_rows::{FIRST, comes_to, done, host};
 use std::alloc::Global;
 use std::test::Fail;
 
@@ -60,7 +60,7 @@ fn the_first_program_is_dumped(rt: HostRuntime) -> Result<(), Fail> {
 /// Whether the dump of a source on a ring of 256 registers has this line.
 fn shows(alloc: Global, source: &str, line: &str) -> Result<bool, Fail> {
     let mut host = host(alloc, b"a.mms", source.as_bytes(), b"", &[])?;
-    let words = crate::rows::words(alloc, &["run", "--dump", "a.mms"])?;
+    let words = mx_rows::words(alloc, &["run", "--dump", "a.mms"])?;
     mx_top::mmixware(alloc, words.as_slice(), &mut host);
     Ok(holds(host.output(), line.as_bytes()))
 }

@@ -1,6 +1,6 @@
 //! The ring of registers: what does not depend on its size, and what does where a program looks.
 
-use crate::rows::{Due, comes_to, done, host, stopped};
+use mx_rows::{Due, comes_to, done, host, stopped};
 use mx_top::Outcome;
 use std::alloc::Global;
 use std::test::Fail;

@@ -1,6 +1,6 @@
 //! Calls of the host that fail.
 
-use crate::rows::{Due, HELLO, comes_to, done, host};
+use mx_rows::{Due, HELLO, comes_to, done, host};
 use mx_top::Outcome;
 use std::test::Fail;
 

@@ -1,6 +1,6 @@
 //! Programs that run, each on a ring of 256 registers.
 
-use crate::rows::{Due, FIRST, HELLO, comes_to, done, gives, host, refused, stopped};
+use mx_rows::{Due, FIRST, HELLO, comes_to, done, gives, host, refused, stopped};
 use mx_top::Outcome;
 use std::test::Fail;
 
