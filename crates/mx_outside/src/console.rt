@@ -1,6 +1,6 @@
 //! Sessions of the console.
 
-use mx_rows::{Due, FIRST, HELLO, comes_to, done, host};
+use mx_rows::{Due, FIRST, Given, HELLO, comes_from, done, file};
 use mx_top::Outcome;
 use std::test::Fail;
 
@@ -73,9 +73,12 @@ fn sessions_show_and_change(rt: HostRuntime) -> Result<(), Fail> {
         (FIRST, b"c\nq\n", done(3, b"mmix> hi\n")),
     ];
     for (source, input, due) in cases {
-        let mut host = host(alloc, b"hello.mms", source.as_bytes(), input, &[])?;
+        let given = Given {
+            input,
+            ..file("hello.mms", source.as_bytes())
+        };
         assert!(rt;
-            comes_to(alloc, &mut host, &["run", "-i", "hello.mms"], due)?,
+            comes_from(alloc, given, &["run", "-i", "hello.mms"], due)?,
             "{source}"
         );
     }
@@ -99,15 +102,12 @@ fn sessions_make_at_most_so_many_steps(rt: HostRuntime) -> Result<(), Fail> {
             output,
             errors: b"1 steps spent\n",
         };
-        let mut host = host(alloc, b"first.mms", FIRST.as_bytes(), input, &[])?;
-        assert!(rt;
-            comes_to(
-                alloc,
-                &mut host,
-                &["run", "--steps", "1", "-i", "first.mms"],
-                due
-            )?
-        );
+        let given = Given {
+            input,
+            ..file("first.mms", FIRST.as_bytes())
+        };
+        let words = &["run", "--steps", "1", "-i", "first.mms"];
+        assert!(rt; comes_from(alloc, given, words, due)?);
     }
     Ok(())
 }
@@ -126,9 +126,14 @@ fn failing_calls_of_a_session(rt: HostRuntime) -> Result<(), Fail> {
         (99, left(b"mmix> rM=#0000000000000001\nmmix> ")),
     ];
     for (call, due) in cases {
-        let mut host = host(alloc, b"first.mms", FIRST.as_bytes(), b"rM=1\nq\n", &[call])?;
+        let given = Given {
+            name: "first.mms",
+            bytes: FIRST.as_bytes(),
+            input: b"rM=1\nq\n",
+            failing: &[call],
+        };
         assert!(rt;
-            comes_to(alloc, &mut host, &["run", "-i", "first.mms"], due)?,
+            comes_from(alloc, given, &["run", "-i", "first.mms"], due)?,
             "{call}"
         );
     }

@@ -1,7 +1,8 @@
 //! Calls of the host that fail.
 
-use mx_rows::{Due, HELLO, comes_to, done, host};
+use mx_rows::{Due, Given, HELLO, comes_from, comes_to, done, file, host};
 use mx_top::Outcome;
+use std::alloc::Global;
 use std::test::Fail;
 
 fn failed<'a>() -> Due<'a> {
@@ -26,13 +27,28 @@ fn failing_calls_of_a_run(rt: HostRuntime) -> Result<(), Fail> {
         (5, done(8, b"hello, world\n")),
     ];
     for (call, due) in cases {
-        let mut host = host(alloc, b"hello.mms", HELLO.as_bytes(), b"", &[call])?;
+        let given = Given {
+            failing: &[call],
+            ..file("hello.mms", HELLO.as_bytes())
+        };
         assert!(rt;
-            comes_to(alloc, &mut host, &["run", "hello.mms"], due)?,
+            comes_from(alloc, given, &["run", "hello.mms"], due)?,
             "{call}"
         );
     }
     Ok(())
+}
+
+/// Whether an assembly in which a call fails leaves an object file of so many bytes.
+fn leaves(alloc: Global, call: u64, left: Option<usize>) -> Result<bool, Fail> {
+    let given = Given {
+        failing: &[call],
+        ..file("hello.mms", HELLO.as_bytes())
+    };
+    let mut host = host(alloc, given)?;
+    let words = &["asm", "hello.mms", "hello.mmo"];
+    let is_failed = comes_to(alloc, &mut host, words, failed())?;
+    Ok(is_failed && host.file(b"hello.mmo").map(|bytes| bytes.len()) == left)
 }
 
 #[test]
@@ -48,20 +64,7 @@ fn failing_calls_of_an_assembly(rt: HostRuntime) -> Result<(), Fail> {
         (5, Some(124)),
     ];
     for (call, left) in cases {
-        let mut host = host(alloc, b"hello.mms", HELLO.as_bytes(), b"", &[call])?;
-        assert!(rt;
-            comes_to(
-                alloc,
-                &mut host,
-                &["asm", "hello.mms", "hello.mmo"],
-                failed()
-            )?,
-            "{call}"
-        );
-        assert!(rt;
-            host.file(b"hello.mmo").map(|bytes| bytes.len()) == left,
-            "{call}"
-        );
+        assert!(rt; leaves(alloc, call, left)?, "{call}");
     }
     Ok(())
 }
@@ -91,9 +94,12 @@ fn failing_calls_of_a_program(rt: HostRuntime) -> Result<(), Fail> {
         (8, 3),
     ];
     for (call, status) in cases {
-        let mut host = host(alloc, b"a.mms", FILES.as_bytes(), b"", &[call])?;
+        let given = Given {
+            failing: &[call],
+            ..file("a.mms", FILES.as_bytes())
+        };
         assert!(rt;
-            comes_to(alloc, &mut host, &["run", "a.mms"], done(status, b""))?,
+            comes_from(alloc, given, &["run", "a.mms"], done(status, b""))?,
             "{call}"
         );
     }

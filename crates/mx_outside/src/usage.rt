@@ -1,6 +1,6 @@
 //! The words of the command line, names and statuses.
 
-use mx_rows::{Due, FIRST, comes_to, host};
+use mx_rows::{Due, FIRST, comes_from, file};
 use mx_top::{Outcome, fault_name, usage_name};
 use mx_words::WordsFault;
 use std::test::Fail;
@@ -57,13 +57,13 @@ fn faulty_words(rt: HostRuntime) -> Result<(), Fail> {
         ),
     ];
     for (all, kind, word, errors) in cases {
-        let mut host = host(alloc, b"a.mms", FIRST.as_bytes(), b"", &[])?;
         let due = Due {
             outcome: Outcome::Usage(WordsFault { kind, word }),
             output: b"",
             errors,
         };
-        assert!(rt; comes_to(alloc, &mut host, all, due)?, "{kind}");
+        let given = file("a.mms", FIRST.as_bytes());
+        assert!(rt; comes_from(alloc, given, all, due)?, "{kind}");
     }
     Ok(())
 }
@@ -77,13 +77,12 @@ fn missing_files(rt: HostRuntime) -> Result<(), Fail> {
         &["asm", "none.mms", "none.mmo"],
     ];
     for all in cases {
-        let mut host = host(alloc, b"a.mms", b"", b"", &[])?;
         let due = Due {
             outcome: Outcome::NoFile,
             output: b"",
             errors: b"no file\n",
         };
-        assert!(rt; comes_to(alloc, &mut host, all, due)?);
+        assert!(rt; comes_from(alloc, file("a.mms", b""), all, due)?);
     }
     Ok(())
 }

@@ -8,4 +8,7 @@ mod rows;
 #[cfg(test)]
 mod sources;
 
-pub use rows::{Due, FIRST, HELLO, comes_to, done, gives, host, refused, stopped, words};
+pub use rows::{
+    Due, FIRST, Given, HELLO, comes_from, comes_to, done, file, gives, host, refused, stopped,
+    words,
+};

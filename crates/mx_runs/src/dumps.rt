@@ -1,6 +1,6 @@
 //! Dumps.
 
-use mx_rows::{FIRST, comes_to, done, host};
+use mx_rows::{FIRST, comes_from, done, file, host};
 use std::alloc::Global;
 use std::test::Fail;
 
@@ -51,15 +51,15 @@ M#4000000000000018=#6669727374000000
 #[test]
 fn the_first_program_is_dumped(rt: HostRuntime) -> Result<(), Fail> {
     let alloc = rt.alloc();
-    let mut host = host(alloc, b"first.mms", FIRST.as_bytes(), b"", &[])?;
+    let given = file("first.mms", FIRST.as_bytes());
     let due = done(3, DUMPED.as_bytes());
-    assert!(rt; comes_to(alloc, &mut host, &["run", "--dump", "first.mms"], due)?);
+    assert!(rt; comes_from(alloc, given, &["run", "--dump", "first.mms"], due)?);
     Ok(())
 }
 
 /// Whether the dump of a source on a ring of 256 registers has this line.
 fn shows(alloc: Global, source: &str, line: &str) -> Result<bool, Fail> {
-    let mut host = host(alloc, b"a.mms", source.as_bytes(), b"", &[])?;
+    let mut host = host(alloc, file("a.mms", source.as_bytes()))?;
     let words = mx_rows::words(alloc, &["run", "--dump", "a.mms"])?;
     mx_top::mmixware(alloc, words.as_slice(), &mut host);
     Ok(holds(host.output(), line.as_bytes()))

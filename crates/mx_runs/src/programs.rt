@@ -1,7 +1,8 @@
 //! Programs that run, each on a ring of 256 registers.
 
-use mx_rows::{Due, FIRST, HELLO, comes_to, done, gives, host, refused, stopped};
+use mx_rows::{Due, FIRST, Given, HELLO, comes_from, done, file, gives, refused, stopped};
 use mx_top::Outcome;
+use std::alloc::Global;
 use std::test::Fail;
 
 #[test]
@@ -41,7 +42,7 @@ fn programs_print_and_halt(rt: HostRuntime) -> Result<(), Fail> {
         ),
     ];
     for (source, due) in cases {
-        assert!(rt; gives(alloc, source, b"", due)?, "{source}");
+        assert!(rt; gives(alloc, source, due)?, "{source}");
     }
     Ok(())
 }
@@ -52,8 +53,8 @@ fn globals_that_begin_to_be_local_are_lost(rt: HostRuntime) -> Result<(), Fail> 
     // $50 is global with G at 40, not with G at 60
     let kept = "Main PUT rG,40\n SETL $50,7\n SET $255,$50\n TRAP 0,Halt,0";
     let lost = "Main PUT rG,40\n SETL $50,7\n PUT rG,60\n SET $255,$50\n TRAP 0,Halt,0";
-    assert!(rt; gives(alloc, kept, b"", done(7, b""))?);
-    assert!(rt; gives(alloc, lost, b"", done(0, b""))?);
+    assert!(rt; gives(alloc, kept, done(7, b""))?);
+    assert!(rt; gives(alloc, lost, done(0, b""))?);
     Ok(())
 }
 
@@ -118,7 +119,7 @@ fn programs_stop(rt: HostRuntime) -> Result<(), Fail> {
         ),
     ];
     for (source, due) in cases {
-        assert!(rt; gives(alloc, source, b"", due)?, "{source}");
+        assert!(rt; gives(alloc, source, due)?, "{source}");
     }
     Ok(())
 }
@@ -128,6 +129,23 @@ const LINE: &str =
 
 const BYTES: &str =
     " LOC Data_Segment\n GREG @\nArgs OCTA Buf,8\nBuf OCTA 0\n LOC #100\nMain LDA $255,Args\n TRAP 0,Fread,StdIn\n TRAP 0,Halt,0";
+
+/// Whether a source with an input and failing calls ends with a status.
+fn reads(
+    alloc: Global,
+    source: &str,
+    input: &[u8],
+    failing: &[u64],
+    status: u8,
+) -> Result<bool, Fail> {
+    let given = Given {
+        name: "a.mms",
+        bytes: source.as_bytes(),
+        input,
+        failing,
+    };
+    comes_from(alloc, given, &["run", "a.mms"], done(status, b""))
+}
 
 #[test]
 fn programs_read(rt: HostRuntime) -> Result<(), Fail> {
@@ -140,20 +158,18 @@ fn programs_read(rt: HostRuntime) -> Result<(), Fail> {
         (b"ab\n", &[3], 255),
     ];
     for (input, failing, status) in lines {
-        let mut host = host(alloc, b"a.mms", LINE.as_bytes(), input, failing)?;
-        assert!(rt; comes_to(alloc, &mut host, &["run", "a.mms"], done(status, b""))?);
+        assert!(rt; reads(alloc, LINE, input, failing, status)?);
     }
     // the same for Fread: 2 - 8, and -1 - 8 where the call fails
     let blocks: [(&[u8], &[u64], u8); 2] = [(b"ab", &[], 250), (b"ab", &[3], 247)];
     for (input, failing, status) in blocks {
-        let mut host = host(alloc, b"a.mms", BYTES.as_bytes(), input, failing)?;
-        assert!(rt; comes_to(alloc, &mut host, &["run", "a.mms"], done(status, b""))?);
+        assert!(rt; reads(alloc, BYTES, input, failing, status)?);
     }
     // standard output is no file that can be told or sought in
     let told = "Main TRAP 0,Ftell,StdOut\n TRAP 0,Halt,0";
     let sought = "Main TRAP 0,Fseek,StdOut\n TRAP 0,Halt,0";
-    assert!(rt; gives(alloc, told, b"", done(255, b""))?);
-    assert!(rt; gives(alloc, sought, b"", done(255, b""))?);
+    assert!(rt; gives(alloc, told, done(255, b""))?);
+    assert!(rt; gives(alloc, sought, done(255, b""))?);
     Ok(())
 }
 
@@ -183,7 +199,7 @@ fn resume_inserts_an_instruction(rt: HostRuntime) -> Result<(), Fail> {
     for (front, due) in cases {
         let mut source = String::from_str(alloc, front)?;
         source.push_str(RESUMED)?;
-        assert!(rt; gives(alloc, source.as_str(), b"", due)?, "{front}");
+        assert!(rt; gives(alloc, source.as_str(), due)?, "{front}");
     }
     Ok(())
 }
@@ -197,18 +213,12 @@ fn steps_are_bounded(rt: HostRuntime) -> Result<(), Fail> {
         errors: b"10 steps spent\n",
     };
     let around = "Main SWYM\n2H JMP 2F\n2H JMP 2B";
-    let mut long = host(alloc, b"a.mms", around.as_bytes(), b"", &[])?;
-    assert!(rt; comes_to(alloc, &mut long, &["run", "--steps", "10", "a.mms"], spent)?);
+    let long = file("a.mms", around.as_bytes());
+    assert!(rt; comes_from(alloc, long, &["run", "--steps", "10", "a.mms"], spent)?);
     // Halt is the last step that is allowed
-    let mut short = host(alloc, b"a.mms", b"Main TRAP 0,Halt,0", b"", &[])?;
-    assert!(rt;
-        comes_to(
-            alloc,
-            &mut short,
-            &["run", "--steps", "1", "a.mms"],
-            done(0, b"")
-        )?
-    );
+    let short = file("a.mms", b"Main TRAP 0,Halt,0");
+    let words = &["run", "--steps", "1", "a.mms"];
+    assert!(rt; comes_from(alloc, short, words, done(0, b""))?);
     Ok(())
 }
 
@@ -217,18 +227,11 @@ fn arguments_are_handed_on(rt: HostRuntime) -> Result<(), Fail> {
     let alloc = rt.alloc();
     // the second argument is printed; the number of arguments is the status
     let source = "Main LDOU $255,$1,8\n TRAP 0,Fputs,StdOut\n SET $255,$0\n TRAP 0,Halt,0";
-    let mut two = host(alloc, b"p.mms", source.as_bytes(), b"", &[])?;
-    assert!(rt; comes_to(alloc, &mut two, &["run", "p.mms", "ab"], done(2, b"ab"))?);
+    let given = file("p.mms", source.as_bytes());
+    assert!(rt; comes_from(alloc, given, &["run", "p.mms", "ab"], done(2, b"ab"))?);
     // an argument may begin with a dash
-    let mut three = host(alloc, b"p.mms", source.as_bytes(), b"", &[])?;
-    assert!(rt;
-        comes_to(
-            alloc,
-            &mut three,
-            &["run", "p.mms", "-i", "c"],
-            done(3, b"-i")
-        )?
-    );
+    let words = &["run", "p.mms", "-i", "c"];
+    assert!(rt; comes_from(alloc, given, words, done(3, b"-i"))?);
     // a last `.mms` or `.mmo` of argument 0 is cut off, and nothing else
     let name = "Main LDOU $255,$1,0\n TRAP 0,Fputs,StdOut\n TRAP 0,Halt,0";
     let cases: [(&str, &[u8]); 5] = [
@@ -239,9 +242,9 @@ fn arguments_are_handed_on(rt: HostRuntime) -> Result<(), Fail> {
         (".mms", b""),
     ];
     for (word, argument) in cases {
-        let mut host = host(alloc, word.as_bytes(), name.as_bytes(), b"", &[])?;
         let due = done(argument.len() as u8, argument);
-        assert!(rt; comes_to(alloc, &mut host, &["run", word], due)?, "{word}");
+        let given = file(word, name.as_bytes());
+        assert!(rt; comes_from(alloc, given, &["run", word], due)?, "{word}");
     }
     Ok(())
 }
@@ -250,9 +253,9 @@ fn arguments_are_handed_on(rt: HostRuntime) -> Result<(), Fail> {
 fn references_reach_so_far(rt: HostRuntime) -> Result<(), Fail> {
     let alloc = rt.alloc();
     let reach = "Main BZ $0,x\n LOC Main+4*65535\nx TRAP 0,Halt,0";
-    assert!(rt; gives(alloc, reach, b"", done(0, b""))?);
+    assert!(rt; gives(alloc, reach, done(0, b""))?);
     let beyond = "Main BZ $0,x\n LOC Main+4*65536\nx TRAP 0,Halt,0";
     let due = refused(3, 85, 1, b"line 3: 85 FutureTooFar from line 1\n");
-    assert!(rt; gives(alloc, beyond, b"", due)?);
+    assert!(rt; gives(alloc, beyond, due)?);
     Ok(())
 }

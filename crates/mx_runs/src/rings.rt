@@ -1,6 +1,6 @@
 //! The ring of registers: what does not depend on its size, and what does where a program looks.
 
-use mx_rows::{Due, comes_to, done, host, stopped};
+use mx_rows::{Due, Given, comes_from, done, file, stopped};
 use mx_top::Outcome;
 use std::alloc::Global;
 use std::test::Fail;
@@ -9,8 +9,8 @@ const RINGS: [&str; 4] = ["256", "512", "1024", "65536"];
 
 /// Whether `run --ring` with this size comes to what is due of a source.
 fn gives_on(alloc: Global, ring: &str, source: &str, due: Due) -> Result<bool, Fail> {
-    let mut host = host(alloc, b"a.mms", source.as_bytes(), b"", &[])?;
-    comes_to(alloc, &mut host, &["run", "--ring", ring, "a.mms"], due)
+    let given = file("a.mms", source.as_bytes());
+    comes_from(alloc, given, &["run", "--ring", ring, "a.mms"], due)
 }
 
 /// 1 + 2 + .. + 300 by calls 300 deep.
@@ -61,21 +61,21 @@ fn generated_programs(rt: HostRuntime) -> Result<(), Fail> {
     ];
     for (blocks, summary) in cases {
         for ring in RINGS {
-            let mut host = host(alloc, b"a", b"", b"", &[])?;
+            let words = &["gen", "--ring", ring, blocks];
             let due = done(0, summary);
-            assert!(rt;
-                comes_to(alloc, &mut host, &["gen", "--ring", ring, blocks], due)?,
-                "{blocks}"
-            );
+            assert!(rt; comes_from(alloc, file("a", b""), words, due)?, "{blocks}");
         }
     }
     // the summary that can't be written
-    let mut broken = host(alloc, b"a", b"", b"", &[0])?;
+    let broken = Given {
+        failing: &[0],
+        ..file("a", b"")
+    };
     let due = Due {
         outcome: Outcome::HostFault,
         output: b"",
         errors: b"host fault\n",
     };
-    assert!(rt; comes_to(alloc, &mut broken, &["gen", "1"], due)?);
+    assert!(rt; comes_from(alloc, broken, &["gen", "1"], due)?);
     Ok(())
 }
