@@ -1,22 +1,14 @@
-//! Whole runs of the program over a host in memory. Each row says what it shows; there is nothing
-//! but tests here.
+//! Whole runs of the program over a host in memory: how a row is written, for the crates of rows
+//! above; sources that are refused, and objects. Each row says what it shows.
 #![tactic(auto)]
 
 #[cfg(test)]
-mod console;
-#[cfg(test)]
-mod dumps;
-#[cfg(test)]
-mod failing;
-#[cfg(test)]
 mod objects;
-#[cfg(test)]
-mod programs;
-#[cfg(test)]
-mod rings;
-#[cfg(test)]
 mod rows;
 #[cfg(test)]
 mod sources;
-#[cfg(test)]
-mod usage;
+
+pub use rows::{
+    Due, FIRST, Given, HELLO, comes_from, comes_to, done, file, gives, host, refused, stopped,
+    words,
+};

@@ -1,8 +1,7 @@
 //! Objects that are written and run. Their tetras were put together by hand from the table of the
 //! format.
 
-use crate::rows::{Due, FIRST, HELLO, comes_to, done, host, stopped, words};
-use mx_host::MemHost;
+use crate::rows::{Due, FIRST, HELLO, comes_from, comes_to, done, file, host, stopped, words};
 use mx_top::{Outcome, mmixware};
 use std::alloc::Global;
 use std::test::Fail;
@@ -83,8 +82,7 @@ fn bytes(alloc: Global, tetras: &[u32], more: &[u8]) -> Result<Vec<u8>, Fail> {
 
 /// Whether `sim a.mmo` comes to what is due of an object.
 fn sim(alloc: Global, object: &[u8], due: Due) -> Result<bool, Fail> {
-    let mut host = host(alloc, b"a.mmo", object, b"", &[])?;
-    comes_to(alloc, &mut host, &["sim", "a.mmo"], due)
+    comes_from(alloc, file("a.mmo", object), &["sim", "a.mmo"], due)
 }
 
 fn bad<'a>(place: u64, fault: u16, errors: &'a [u8]) -> Due<'a> {
@@ -95,9 +93,12 @@ fn bad<'a>(place: u64, fault: u16, errors: &'a [u8]) -> Due<'a> {
     }
 }
 
-/// A host with a source in a file.
-fn with_source(alloc: Global, source: &str) -> Result<MemHost, Fail> {
-    host(alloc, b"hello.mms", source.as_bytes(), b"", &[])
+/// Whether `asm hello.mms hello.mmo` comes to what is due of a source, and leaves these tetras.
+fn assembles(alloc: Global, source: &str, due: Due, tetras: &[u32]) -> Result<bool, Fail> {
+    let left = bytes(alloc, tetras, b"")?;
+    let mut host = host(alloc, file("hello.mms", source.as_bytes()))?;
+    let is_due = comes_to(alloc, &mut host, &["asm", "hello.mms", "hello.mmo"], due)?;
+    Ok(is_due && host.file(b"hello.mmo") == Some(left.as_slice()))
 }
 
 #[test]
@@ -113,17 +114,7 @@ fn sources_become_objects(rt: HostRuntime) -> Result<(), Fail> {
         ),
     ];
     for (source, tetras) in cases {
-        let object = bytes(alloc, tetras, b"")?;
-        let mut host = with_source(alloc, source)?;
-        assert!(rt;
-            comes_to(
-                alloc,
-                &mut host,
-                &["asm", "hello.mms", "hello.mmo"],
-                done(0, b"")
-            )?
-        );
-        assert!(rt; host.file(b"hello.mmo") == Some(object.as_slice()));
+        assert!(rt; assembles(alloc, source, done(0, b""), tetras)?);
     }
     Ok(())
 }
@@ -132,15 +123,9 @@ fn sources_become_objects(rt: HostRuntime) -> Result<(), Fail> {
 fn objects_run_as_their_sources(rt: HostRuntime) -> Result<(), Fail> {
     let alloc = rt.alloc();
     let object = bytes(alloc, &HELLO_OBJECT, b"")?;
-    let mut host = host(alloc, b"hello.mmo", object.as_slice(), b"", &[])?;
-    assert!(rt;
-        comes_to(
-            alloc,
-            &mut host,
-            &["sim", "hello.mmo"],
-            done(8, b"hello, world\n")
-        )?
-    );
+    let given = file("hello.mmo", object.as_slice());
+    let due = done(8, b"hello, world\n");
+    assert!(rt; comes_from(alloc, given, &["sim", "hello.mmo"], due)?);
     Ok(())
 }
 
@@ -158,7 +143,6 @@ fn refused_sources_leave_what_stood_before(rt: HostRuntime) -> Result<(), Fail> 
         0x9807_0002,
         0xfd00_0000,
     ];
-    let left = bytes(alloc, &tetras, b"")?;
     let due = Due {
         outcome: Outcome::Refused {
             line: 3,
@@ -168,9 +152,7 @@ fn refused_sources_leave_what_stood_before(rt: HostRuntime) -> Result<(), Fail> 
         output: b"",
         errors: b"line 3: 39 UnknownOpcode\n",
     };
-    let mut host = with_source(alloc, " LOC #100\nMain SWYM\n FROB")?;
-    assert!(rt; comes_to(alloc, &mut host, &["asm", "hello.mms", "a.mmo"], due)?);
-    assert!(rt; host.file(b"a.mmo") == Some(left.as_slice()));
+    assert!(rt; assembles(alloc, " LOC #100\nMain SWYM\n FROB", due, &tetras)?);
     Ok(())
 }
 
@@ -182,11 +164,18 @@ fn objects_in_pieces(rt: HostRuntime) -> Result<(), Fail> {
     for _line in 1..2000u32 {
         source.extend_from_slice(b" TRAP 0,0,0\n")?;
     }
-    let mut host = host(alloc, b"b.mms", source.as_slice(), b"", &[])?;
+    let mut host = host(alloc, file("b.mms", source.as_slice()))?;
     assert!(rt; comes_to(alloc, &mut host, &["asm", "b.mms", "b.mmo"], done(0, b""))?);
     // open, six pieces and close of the source; open, two pieces and close of the object
     assert_eq!(rt; host.calls(), 12);
     Ok(())
+}
+
+/// The outcome of `sim a.mmo`.
+fn outcome_of(alloc: Global, object: &[u8]) -> Result<Outcome, Fail> {
+    let mut host = host(alloc, file("a.mmo", object))?;
+    let words = words(alloc, &["sim", "a.mmo"])?;
+    Ok(mmixware(alloc, words.as_slice(), &mut host))
 }
 
 #[test]
@@ -202,9 +191,7 @@ fn cut_objects(rt: HostRuntime) -> Result<(), Fail> {
         } else {
             (count - count % 4, 60)
         };
-        let mut host = host(alloc, b"a.mmo", front.as_slice(), b"", &[])?;
-        let words = words(alloc, &["sim", "a.mmo"])?;
-        let outcome = mmixware(alloc, words.as_slice(), &mut host);
+        let outcome = outcome_of(alloc, front.as_slice())?;
         assert_eq!(rt; outcome, Outcome::BadObject { place, fault }, "{count}");
         front.push(*byte)?;
         count = count.wrapping_add(1);

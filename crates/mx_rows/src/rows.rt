@@ -13,6 +13,25 @@ pub struct Due<'a> {
     pub errors: &'a [u8],
 }
 
+/// What a host has before a call of the program: a file, an input, and the calls that fail.
+#[derive(Clone, Copy)]
+pub struct Given<'a> {
+    pub name: &'a str,
+    pub bytes: &'a [u8],
+    pub input: &'a [u8],
+    pub failing: &'a [u64],
+}
+
+/// A file alone.
+pub fn file<'a>(name: &'a str, bytes: &'a [u8]) -> Given<'a> {
+    Given {
+        name,
+        bytes,
+        input: b"",
+        failing: &[],
+    }
+}
+
 /// Words for a call.
 pub fn words(alloc: Global, all: &[&str]) -> Result<Vec<String>, Fail> {
     let mut made = Vec::new(alloc);
@@ -22,17 +41,11 @@ pub fn words(alloc: Global, all: &[&str]) -> Result<Vec<String>, Fail> {
     Ok(made)
 }
 
-/// A host with a file, an input and failing calls.
-pub fn host(
-    alloc: Global,
-    name: &[u8],
-    bytes: &[u8],
-    input: &[u8],
-    failing: &[u64],
-) -> Result<MemHost, Fail> {
-    let failing = Vec::from_slice(alloc, failing)?;
-    let mut host = MemHost::new(alloc, Vec::from_slice(alloc, input)?, failing)?;
-    host.put_file(name, Vec::from_slice(alloc, bytes)?)?;
+/// A host that has what is given.
+pub fn host(alloc: Global, given: Given) -> Result<MemHost, Fail> {
+    let failing = Vec::from_slice(alloc, given.failing)?;
+    let mut host = MemHost::new(alloc, Vec::from_slice(alloc, given.input)?, failing)?;
+    host.put_file(given.name.as_bytes(), Vec::from_slice(alloc, given.bytes)?)?;
     Ok(host)
 }
 
@@ -43,10 +56,21 @@ pub fn comes_to(alloc: Global, host: &mut MemHost, all: &[&str], due: Due) -> Re
     Ok(outcome == due.outcome && host.output() == due.output && host.errors() == due.errors)
 }
 
-/// Whether `run hello.mms` comes to what is due of a source with an input.
-pub fn gives(alloc: Global, source: &str, input: &[u8], due: Due) -> Result<bool, Fail> {
-    let mut host = host(alloc, b"hello.mms", source.as_bytes(), input, &[])?;
-    comes_to(alloc, &mut host, &["run", "hello.mms"], due)
+/// Whether the words come to what is due over a host of their own. The row has no host then, which
+/// makes its proof short.
+pub fn comes_from(alloc: Global, given: Given, all: &[&str], due: Due) -> Result<bool, Fail> {
+    let mut host = host(alloc, given)?;
+    comes_to(alloc, &mut host, all, due)
+}
+
+/// Whether `run hello.mms` comes to what is due of a source.
+pub fn gives(alloc: Global, source: &str, due: Due) -> Result<bool, Fail> {
+    comes_from(
+        alloc,
+        file("hello.mms", source.as_bytes()),
+        &["run", "hello.mms"],
+        due,
+    )
 }
 
 /// What is due of a program that halts.

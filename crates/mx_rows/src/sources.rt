@@ -63,7 +63,7 @@ fn refusals_name_the_first_faulty_line(rt: HostRuntime) -> Result<(), Fail> {
         ),
     ];
     for (source, due) in cases {
-        assert!(rt; gives(alloc, source, b"", due)?, "{source}");
+        assert!(rt; gives(alloc, source, due)?, "{source}");
     }
     Ok(())
 }
@@ -76,11 +76,11 @@ fn long_sources(rt: HostRuntime) -> Result<(), Fail> {
     for _line in 0..(1u32 << 22) - 15 {
         source.push_str("\n")?;
     }
-    assert!(rt; gives(alloc, source.as_str(), b"", done(0, b""))?);
+    assert!(rt; gives(alloc, source.as_str(), done(0, b""))?);
     // one line more is too far, which comes before its own fault
     source.push_str("a")?;
     let due = refused(4_194_291, 88, 0, b"line 4194291: 88 SourceTooLong\n");
-    assert!(rt; gives(alloc, source.as_str(), b"", due)?);
+    assert!(rt; gives(alloc, source.as_str(), due)?);
     Ok(())
 }
 
@@ -97,10 +97,10 @@ fn with_comment(alloc: Global, count: u32) -> Result<String, Fail> {
 fn long_lines(rt: HostRuntime) -> Result<(), Fail> {
     let alloc = rt.alloc();
     let most = with_comment(alloc, 4096)?;
-    assert!(rt; gives(alloc, most.as_str(), b"", done(0, b""))?);
+    assert!(rt; gives(alloc, most.as_str(), done(0, b""))?);
     let more = with_comment(alloc, 4097)?;
     let due = refused(2, 1, 0, b"line 2: 1 TooLong\n");
-    assert!(rt; gives(alloc, more.as_str(), b"", due)?);
+    assert!(rt; gives(alloc, more.as_str(), due)?);
     Ok(())
 }
 
@@ -113,6 +113,6 @@ fn full_pages(rt: HostRuntime) -> Result<(), Fail> {
         source.push_str(" BYTE 1\n LOC @+4095\n")?;
     }
     let due = refused(131_073, 90, 0, b"line 131073: 90 PagesFull\n");
-    assert!(rt; gives(alloc, source.as_str(), b"", due)?);
+    assert!(rt; gives(alloc, source.as_str(), due)?);
     Ok(())
 }

@@ -1,0 +1,141 @@
+//! Sessions of the console.
+
+use mx_rows::{Due, FIRST, Given, HELLO, comes_from, done, file};
+use mx_top::Outcome;
+use std::test::Fail;
+
+/// What is due of a session that the user ends.
+fn left<'a>(output: &'a [u8]) -> Due<'a> {
+    Due {
+        outcome: Outcome::Quit,
+        output,
+        errors: b"",
+    }
+}
+
+/// What is due of a session in which a call of the console failed.
+fn cut<'a>(output: &'a [u8]) -> Due<'a> {
+    Due {
+        outcome: Outcome::HostFault,
+        output,
+        errors: b"host fault\n",
+    }
+}
+
+#[test]
+fn sessions_show_and_change(rt: HostRuntime) -> Result<(), Fail> {
+    let alloc = rt.alloc();
+    let cases: [(&str, &[u8], Due); 9] = [
+        // a break, a display, a change and a step
+        (
+            HELLO,
+            b"bx#108\nc\n$1!\nM#2000000000000000\n$1=5\nn\nq\n",
+            left(
+                b"mmix> mmix> hellobreak x #0000000000000108\nmmix> $1=4611686018427387912\nmmix> M#2000000000000000=#0000000000000000\nmmix> $1=#0000000000000005\nmmix> #0000000000000108 f4ff0003 GETA $255,#0000000000000114 $255=#0000000000000114\nmmix> ",
+            ),
+        ),
+        // special registers are shown and changed, and memory
+        (
+            FIRST,
+            b"rS\nq\n",
+            left(b"mmix> rS=#6000000000000000\nmmix> "),
+        ),
+        (
+            FIRST,
+            b"rM=1\nq\n",
+            left(b"mmix> rM=#0000000000000001\nmmix> "),
+        ),
+        (
+            FIRST,
+            b"M0=1\nq\n",
+            left(b"mmix> M#0000000000000000=#0000000000000001\nmmix> "),
+        ),
+        // there are 256 registers
+        (
+            FIRST,
+            b"$300\nq\n",
+            left(b"mmix> ? no such register\nmmix> "),
+        ),
+        // no flags at the memory of the register stack
+        (
+            FIRST,
+            b"bw#6000000000000000\nq\n",
+            left(b"mmix> ? bad address\nmmix> "),
+        ),
+        // the state before any step; the input may end in place of q
+        (
+            FIRST,
+            b"s\n",
+            left(b"mmix> steps 0 at #0000000000000104 L 2 G 255\nmmix> "),
+        ),
+        (FIRST, b"", left(b"mmix> ")),
+        // a program that halts ends its session
+        (FIRST, b"c\nq\n", done(3, b"mmix> hi\n")),
+    ];
+    for (source, input, due) in cases {
+        let given = Given {
+            input,
+            ..file("hello.mms", source.as_bytes())
+        };
+        assert!(rt;
+            comes_from(alloc, given, &["run", "-i", "hello.mms"], due)?,
+            "{source}"
+        );
+    }
+    Ok(())
+}
+
+#[test]
+fn sessions_make_at_most_so_many_steps(rt: HostRuntime) -> Result<(), Fail> {
+    let alloc = rt.alloc();
+    let cases: [(&[u8], &[u8]); 2] = [
+        // the second step is one too many
+        (
+            b"n\nn\n",
+            b"mmix> #0000000000000104 f5ffffff GETA $255,#0000000000000100 $255=#0000000000000100\nmmix> ",
+        ),
+        (b"c\n", b"mmix> "),
+    ];
+    for (input, output) in cases {
+        let due = Due {
+            outcome: Outcome::StepsSpent { steps: 1 },
+            output,
+            errors: b"1 steps spent\n",
+        };
+        let given = Given {
+            input,
+            ..file("first.mms", FIRST.as_bytes())
+        };
+        let words = &["run", "--steps", "1", "-i", "first.mms"];
+        assert!(rt; comes_from(alloc, given, words, due)?);
+    }
+    Ok(())
+}
+
+#[test]
+fn failing_calls_of_a_session(rt: HostRuntime) -> Result<(), Fail> {
+    let alloc = rt.alloc();
+    let cases: [(u64, Due); 5] = [
+        // behind the three calls of the source: the prompt, and a byte of a line
+        (3, cut(b"")),
+        (4, cut(b"mmix> ")),
+        // the line that is written, and the next byte
+        (9, cut(b"mmix> ")),
+        (11, cut(b"mmix> rM=#0000000000000001\nmmix> ")),
+        // no such call is made
+        (99, left(b"mmix> rM=#0000000000000001\nmmix> ")),
+    ];
+    for (call, due) in cases {
+        let given = Given {
+            name: "first.mms",
+            bytes: FIRST.as_bytes(),
+            input: b"rM=1\nq\n",
+            failing: &[call],
+        };
+        assert!(rt;
+            comes_from(alloc, given, &["run", "-i", "first.mms"], due)?,
+            "{call}"
+        );
+    }
+    Ok(())
+}

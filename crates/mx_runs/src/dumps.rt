@@ -1,0 +1,90 @@
+//! Dumps.
+
+use mx_rows::{FIRST, comes_from, done, file, host};
+use std::alloc::Global;
+use std::test::Fail;
+
+/// What `run --dump first.mms` writes: the text, the special registers but rS, $0, $1 and $255, and
+/// the octas of the program and of the pool.
+const DUMPED: &str = "hi
+rB=#0000000000000000
+rD=#0000000000000000
+rE=#0000000000000000
+rH=#0000000000000000
+rJ=#0000000000000000
+rM=#0000000000000000
+rR=#0000000000000000
+rBB=#0000000000000003
+rC=#0000000000000003
+rN=#0100000000000000
+rO=#6000000000000000
+rI=#0000000000000000
+rT=#8000000500000000
+rTT=#8000000600000000
+rK=#ffffffffffffffff
+rQ=#0000000000000000
+rU=#0000000000000000
+rV=#369c200400000000
+rG=#00000000000000ff
+rL=#0000000000000002
+rA=#0000000000000000
+rF=#0000000000000000
+rP=#0000000000000000
+rW=#0000000000000000
+rX=#0000000000000000
+rY=#0000000000000000
+rZ=#0000000000000000
+rWW=#000000000000010c
+rXX=#8000000000000701
+rYY=#0000000000000000
+rZZ=#4000000000000008
+$0=#0000000000000001
+$1=#4000000000000008
+$255=#0000000000000003
+M#0000000000000100=#68690a00f5ffffff
+M#0000000000000108=#0000070100000000
+M#4000000000000000=#4000000000000020
+M#4000000000000008=#4000000000000018
+M#4000000000000018=#6669727374000000
+";
+
+#[test]
+fn the_first_program_is_dumped(rt: HostRuntime) -> Result<(), Fail> {
+    let alloc = rt.alloc();
+    let given = file("first.mms", FIRST.as_bytes());
+    let due = done(3, DUMPED.as_bytes());
+    assert!(rt; comes_from(alloc, given, &["run", "--dump", "first.mms"], due)?);
+    Ok(())
+}
+
+/// Whether the dump of a source on a ring of 256 registers has this line.
+fn shows(alloc: Global, source: &str, line: &str) -> Result<bool, Fail> {
+    let mut host = host(alloc, file("a.mms", source.as_bytes()))?;
+    let words = mx_rows::words(alloc, &["run", "--dump", "a.mms"])?;
+    mx_top::mmixware(alloc, words.as_slice(), &mut host);
+    Ok(holds(host.output(), line.as_bytes()))
+}
+
+/// Whether a part stands in a text.
+fn holds(text: &[u8], part: &[u8]) -> bool {
+    for at in 0..text.len() {
+        if text[at..].starts_with(part) {
+            return true;
+        }
+    }
+    false
+}
+
+#[test]
+fn rs_is_dumped_where_a_program_looked_at_it(rt: HostRuntime) -> Result<(), Fail> {
+    let alloc = rt.alloc();
+    let three = "Main PUSHJ $99,@+4\n PUSHJ $99,@+4\n PUSHJ $99,@+4\n";
+    let mut looking = String::from_str(alloc, three)?;
+    looking.push_str(" GET $255,rS\n TRAP 0,Halt,0")?;
+    let mut blind = String::from_str(alloc, three)?;
+    blind.push_str(" TRAP 0,Halt,0")?;
+    let line = "rS=#6000000000000168\n";
+    assert!(rt; shows(alloc, looking.as_str(), line)?);
+    assert!(rt; !shows(alloc, blind.as_str(), line)?);
+    Ok(())
+}
