@@ -33,4 +33,7 @@ pub mod UnbrokenRuns
 pub mod ToldPrograms
 pub mod Completed
 pub mod KeptSlots
+pub mod KeptSessions
 pub mod CompletedFiles
+pub mod LowBytes
+pub mod SparedPrograms

@@ -98,10 +98,8 @@ pub record IsGenerated (kind : MachineKind) (words : List Word) (m left : HostMo
 abbrev pub with_output : HostModel → List ℕ → HostModel
 with_output m text = record m { output = m.output ++ text }
 
--- No call fails, the slots stand as at the start, and the file of this name is there; so many pieces of it are this
--- text.
+-- The slots stand as at the start, and the file of this name is there; so many pieces of it are this text.
 pub record IsThere (name : Word) (most : ℕ) (text : List ℕ) (m : HostModel) : Type 0 where
-  pub well : m.failing ≡ []
   pub slots : HasStartSlots m
   pub place : ℕ
   pub found : place_of m.files name ≡ Some place
