@@ -2,7 +2,6 @@
 use Rattle.std.proofs.Common.{◌≡◌, ℕ, zero, suc, ◌%◌, ◌^◌, ◌/◌, Bool, true, false, cond, Option, None, Some, refl, sym, ◌∙◌, ap}
 use Rattle.mx_host.specs.HostModel.{HostModel}
 use Rattle.mx_ring.specs.Stack.{register}
-use Rattle.mx_trip.specs.declared.call.TrapCall.{TrapCall}
 use Rattle.mx_trap.specs.FileTraps.{trap_answer}
 use Rattle.mx_trap.specs.Moves.{Leaves}
 use Rattle.mx_trap.specs.Touches.{touches}
@@ -29,13 +28,13 @@ TurnIsLow (halts status s m) = status ≡ status_of s
 TurnIsLow (went_on s m trace) = Unit {0}
 TurnIsLow (stops reason s m) = Unit {0}
 
-with-low : (touching : Bool) (call : TrapCall) (s : State) (m : HostModel) (answer : TrapAnswer) → TurnIsLow (turn_with touching call s m answer)
+with-low : (touching : Bool) (call : _) (s : State) (m : HostModel) (answer : TrapAnswer) → TurnIsLow (turn_with touching call s m answer)
 with-low touching call s m (trap.Value value) = tt
 with-low touching call s m trap.Halt = refl
 with-low touching call s m (trap.Stopped why) = tt
 with-low touching call s m trap.OutOfMemory = tt
 
-trap_turn-low : (touching : Bool) (call : TrapCall) (t : Leaves TrapAnswer State) → TurnIsLow (trap_turn touching call t)
+trap_turn-low : (touching : Bool) (call : _) (t : Leaves TrapAnswer State) → TurnIsLow (trap_turn touching call t)
 trap_turn-low touching call (answer, c, m) = with-low touching call (state_in c area_size) m answer
 
 stepped-low : (s : State) (m : HostModel) (x : Stepped) → TurnIsLow (turn_of s m x)

@@ -92,7 +92,7 @@ pub record IsGenerated (kind : MachineKind) (words : List Word) (m left : HostMo
   pub halts : machine_ran kind generator_steps machine m ≡ ran (Done status) ended left
   pub told : line ≡ summary order.number (length (generated order.number)) ended.steps (register ended.stack 255)
 
--- ---- where no call fails
+-- ---- files that are there
 
 -- the host with a text more on its standard output
 abbrev pub with_output : HostModel → List ℕ → HostModel

@@ -41,5 +41,7 @@ pub use file_laws::{files_are_read_whole, pieces_come_to_one_write};
 pub use image_laws::sources_are_loaded_as_they_mean;
 pub use names::{fault_name, usage_name};
 pub use outcome::Outcome;
-pub use ring_laws::{programs_end_by_themselves, runs_end_by_themselves, two_rings_agree};
+pub use ring_laws::{
+    programs_end_by_themselves, runs_end_by_themselves, traps_end_by_themselves, two_rings_agree,
+};
 pub use top::mmixware;
