@@ -10,7 +10,7 @@ use Rattle.mx_words.specs.declared.order.Command.{Command}
 use Rattle.mx_words.specs.declared.order.Command.TheVariants.{Run, Asm, Sim, Gen}
 use Rattle.mx_words.specs.declared.order.Order.{Order}
 use Rattle.mx_asm.specs.OnePass.{Ended}
-use Rattle.mx_asm.specs.Pages.{run_refusal_with, page_refusal, accepted_in}
+use Rattle.mx_asm.specs.Pages.{run_refusal, run_refusal_with, page_refusal, accepted_in}
 use Rattle.mx_asm.specs.Entries.{source_entries, statements_in}
 use Rattle.mx_asm.specs.Image as imaging
 use Rattle.mx_asm.specs.Refusal.{refusal}
@@ -104,7 +104,7 @@ object-dumped kind words o image status ended m begun after last h k d e =
 
 -- ---- sessions of the console
 
-sat-image : (kind : MachineKind) (words : List Word) (o : Order) (image : Image) (s : State) (begun : HostModel) → o.interactive ≡ true → IsStarted kind words o image s →
+pub sat-image : (kind : MachineKind) (words : List Word) (o : Order) (image : Image) (s : State) (begun : HostModel) → o.interactive ≡ true → IsStarted kind words o image s →
     with_message (image_run kind o (arguments words o) image begun) ≡ with_message (dumped o.dump (session_ran kind o.steps s begun))
 sat-image kind words o image s begun h k =
     ap with_message (started-run kind words o image s begun k ∙ ap (dumped o.dump) (sat-run kind o s begun h))
@@ -145,9 +145,16 @@ unfolding source_meaning
 meant-accepted text image e =
     unrefused (page_refusal (accepted_in (source_entries text))) (refusal text) image (imaging.image (statements_in (source_entries text))) e
 
-pub meant-object : (text : List ℕ) (image : Image) → source_meaning text ≡ Ok image → (source_object text).1 ≡ Ok tt
+pub accepted-object : (text : List ℕ) → refusal text ≡ None → (source_object text).1 ≡ Ok tt
 unfolding source_object
-meant-object text image e = ap (λ (x : Ended). (assembling.object_of x).1) (source-accepted text (meant-accepted text image e))
+accepted-object text e = ap (λ (x : Ended). (assembling.object_of x).1) (source-accepted text e)
+
+pub meant-object : (text : List ℕ) (image : Image) → source_meaning text ≡ Ok image → (source_object text).1 ≡ Ok tt
+meant-object text image e = accepted-object text (meant-accepted text image e)
+
+pub unrefused-means : (text : List ℕ) → run_refusal text ≡ None → source_meaning text ≡ Ok (imaging.image (statements_in (source_entries text)))
+unfolding source_meaning
+unrefused-means text e = ap (λ r. meaning_unless r (imaging.image (statements_in (source_entries text)))) e
 
 put-told : (x : Assembled) (m written after : HostModel) → put_text 257 x.0 m ≡ (true, written) → close_answer written 257 ≡ (Ok tt, after) → object_put x m ≡ (assembled_outcome x.1, after)
 put-told (bytes, answer) m written after e f = ap (written_object (assembled_outcome answer)) e ∙ ap (closed_object (assembled_outcome answer)) f
@@ -193,4 +200,4 @@ pub generated-done : (kind : MachineKind) (words : List Word) (m left after : Ho
     product kind words m ≡ answered (Done 0) after
 generated-done kind words m left after line h e = generated-told kind words m left line h ∙ ap (λ t. with_message (after_lines (Done 0) t)) e
 
-pub ruleset completed = (source-plain, source-dumped, object-plain, object-dumped, source-sat, object-sat, source-played, object-played, accepted-written, refused-written, meant-object, generated-done)
+pub ruleset completed = (source-plain, source-dumped, object-plain, object-dumped, source-sat, object-sat, source-played, object-played, accepted-written, refused-written, meant-object, accepted-object, unrefused-means, generated-done)

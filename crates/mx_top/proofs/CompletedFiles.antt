@@ -1,5 +1,5 @@
--- Where no call fails: a source that is there is run, or assembled, to its end.
-use Rattle.std.proofs.Common.{◌≡◌, ℕ, ◌*◌, ◌<◌, List, [], Bool, true, false, length, take, refl, sym, ◌∙◌, ap, subst, Ok, Some, arith, ◌∷◌, append-nil, append_assoc}
+-- Over a host with no failing call: a source that is there is run, or assembled, to its end.
+use Rattle.std.proofs.Common.{◌≡◌, ℕ, ◌*◌, ◌<◌, List, [], Bool, true, false, length, take, refl, sym, ◌∙◌, ap, subst, Ok, Some, None, arith, ◌∷◌, append-nil, append_assoc}
 use Rattle.std.specs.Prelude.{Result, slice_set}
 use Rattle.std.specs.List.{concat}
 use Rattle.mx_host.specs.declared.slots.Slot.{Slot}
@@ -10,7 +10,8 @@ use Rattle.mx_host.proofs.Start.{start_slots-length, slot_at-start_output}
 use Rattle.mx_host.proofs.Still.{still}
 use Rattle.mx_mmo.specs.Image.{Image}
 use Rattle.mx_core.specs.State.{State}
-use Rattle.mx_trap.specs.Counts.{without_count}
+use Rattle.mx_asm.specs.Refusal.{refusal}
+use Rattle.mx_trap.specs.Counts.{NoneFailed, without_count}
 use Rattle.mx_trap.proofs.Spared.{uncalled, steady-of}
 use Rattle.mx_trap.proofs.SteadyTraps.{uncounted-of}
 use Rattle.mx_run.specs.Counts.{end_host}
@@ -30,10 +31,9 @@ use Rattle.mx_top.specs.Pieces.{piece_put, pieces_after}
 use Rattle.mx_top.specs.Product.{generator_steps, after_opening, after_reading, assembled_outcome, with_message, product}
 use Rattle.mx_top.specs.Runs.{ran, ran_to, machine_ran, after_lines, dumped, image_run}
 use Rattle.mx_top.specs.Source.{file_bytes}
-use Rattle.mx_top.specs.Sources.{source_meaning}
 use Rattle.mx_top.specs.declared.outcome.Outcome.{Outcome}
 use Rattle.mx_top.specs.declared.outcome.Outcome.TheVariants.{Done}
-use Rattle.mx_top.proofs.Completed.{order-is, source-run, object-run, halted-run, plain-told, meant-object, generated-told}
+use Rattle.mx_top.proofs.Completed.{order-is, source-run, object-run, halted-run, plain-told, accepted-object, generated-told}
 use Rattle.mx_top.proofs.DetourRuns.{put-of}
 use Rattle.mx_top.proofs.IdleFiles.{idle, file-idle, open-object}
 use Rattle.mx_top.proofs.KeptSlots.{Shows, end_shows, run-kept}
@@ -62,12 +62,12 @@ still-read most name m at slots e =
 there-read : (name : Word) (most : ℕ) (text : List ℕ) (m : HostModel) → IsThere name most text m → file_bytes most name (still m) ≡ (Ok text, still m)
 there-read name most text m h = still-read most name m h.place h.slots h.found ∙ ap (λ xs. (Ok xs, still m)) (sym h.bytes)
 
-pub file-left : (most : ℕ) (name : List ℕ) (m : HostModel) (at : ℕ) → m.failing ≡ [] → HasStartSlots m → place_of m.files name ≡ Some at →
+pub file-left : (most : ℕ) (name : List ℕ) (m : HostModel) (at : ℕ) → NoneFailed m (file_bytes most name m).1 → HasStartSlots m → place_of m.files name ≡ Some at →
     without_count (file_bytes most name m).1 ≡ without_count m
-file-left most name m at h slots e =
-    let read = steady-of (file-steady most name m) h in
-    let same : still (file_bytes most name m).1 ≡ still m = ap (λ (t : Then (Result (List ℕ) Outcome)). t.1) (read.0 ∙ still-read most name m at slots e) in
-    uncounted-of (file_bytes most name m).1 m same (read.1 ∙ sym h)
+file-left most name m at none slots e =
+    let read = file-steady most name m in
+    let same : still (file_bytes most name m).1 ≡ still m = ap (λ (t : Then (Result (List ℕ) Outcome)). t.1) (read.same none ∙ still-read most name m at slots e) in
+    uncounted-of (file_bytes most name m).1 m same read.list
 
 -- ---- lines that are written
 
@@ -87,10 +87,10 @@ lines-still (line ∷ lines) m h =
 abbrev pub IsReady : HostModel → Type 0
 IsReady m = (m.failing ≡ []) × Shows m
 
-abbrev LinesWritten : List (List ℕ) → HostModel → Then Bool → Type 0
+abbrev pub LinesWritten : List (List ℕ) → HostModel → Then Bool → Type 0
 LinesWritten lines m t = (t.0 ≡ true) × (without_count t.1 ≡ without_count (with_output m (concat lines)))
 
-lines-written : (lines : List (List ℕ)) (m : HostModel) → IsReady m → LinesWritten lines m (lines_put lines m)
+pub lines-written : (lines : List (List ℕ)) (m : HostModel) → IsReady m → LinesWritten lines m (lines_put lines m)
 lines-written lines m h =
     let s = steady-of (lines-steady lines m) h.0 in
     let e = s.0 ∙ lines-still lines m h.1 in
@@ -129,52 +129,30 @@ image-same kind words o image m h e =
     let b = steady-of (message-steady (image_run kind o (arguments words o) image m) (image_run kind o (arguments words o) image (still m)) (image-steady kind o (arguments words o) image m)) h in
     answers-same (product kind words m) (with_message (image_run kind o (arguments words o) image m)) (a.0 ∙ e ∙ sym b.0) (a.1 ∙ sym b.1)
 
-pub source-there : (kind : MachineKind) (words : List Word) (o : Order) (image : Image) (m : HostModel) → SourceIsThere words o image m →
+pub source-there : (kind : MachineKind) (words : List Word) (o : Order) (image : Image) (m : HostModel) → m.failing ≡ [] → SourceIsThere words o image m →
     answer_uncounted (product kind words m) ≡ answer_uncounted (with_message (image_run kind o (arguments words o) image m))
-source-there kind words o image m h =
-    image-same kind words o image m h.there.well
+source-there kind words o image m well h =
+    image-same kind words o image m well
     (source-run kind words o image (still m) (still m)
     (record { ordered = h.ordered; text = h.text; read = there-read (word_at words o.file) 1025 h.text m h.there; means = h.means }))
 
-pub object-there : (kind : MachineKind) (words : List Word) (o : Order) (image : Image) (m : HostModel) → ObjectIsThere words o image m →
+pub object-there : (kind : MachineKind) (words : List Word) (o : Order) (image : Image) (m : HostModel) → m.failing ≡ [] → ObjectIsThere words o image m →
     answer_uncounted (product kind words m) ≡ answer_uncounted (with_message (image_run kind o (arguments words o) image m))
-object-there kind words o image m h =
-    image-same kind words o image m h.there.well
+object-there kind words o image m well h =
+    image-same kind words o image m well
     (object-run kind words o image (still m) (still m)
     (record { ordered = h.ordered; object = h.object; symbols = h.symbols; read = there-read (word_at words o.file) 16385 h.object m h.there; loads = h.loads }))
 
-run-plain : (kind : MachineKind) (words : List Word) (o : Order) (image : Image) (status : ℕ) (ended : State) (m after : HostModel) → IsHalted kind words o image m status ended after → o.dump ≡ false →
+pub run-plain : (kind : MachineKind) (words : List Word) (o : Order) (image : Image) (status : ℕ) (ended : State) (m after : HostModel) → IsHalted kind words o image m status ended after → o.dump ≡ false →
     with_message (image_run kind o (arguments words o) image m) ≡ answered (Done status) after
 run-plain kind words o image status ended m after k d = ap with_message (halted-run kind words o image m status ended after k) ∙ plain-told o.dump status ended after d
 
-run-dumped : (kind : MachineKind) (words : List Word) (o : Order) (image : Image) (status : ℕ) (ended : State) (m after : HostModel) → m.failing ≡ [] → HasStartSlots m →
+pub run-dumped : (kind : MachineKind) (words : List Word) (o : Order) (image : Image) (status : ℕ) (ended : State) (m after : HostModel) → m.failing ≡ [] → HasStartSlots m →
     IsHalted kind words o image m status ended after → o.dump ≡ true →
     answer_uncounted (with_message (image_run kind o (arguments words o) image m)) ≡ answered (Done status) (without_count (with_output after (concat (dump_lines ended))))
 run-dumped kind words o image status ended m after well slots k d =
     ap answer_uncounted (ap with_message (halted-run kind words o image m status ended after k) ∙ ap (λ b. with_message (dumped b (ran (Done status) ended after))) d)
     ∙ lines-done (dump_lines ended) status after (halted-left kind o.steps k.machine m status ended after well slots k.halts)
-
-pub source-there-plain : (kind : MachineKind) (words : List Word) (o : Order) (image : Image) (status : ℕ) (ended : State) (m after : HostModel) → SourceIsThere words o image m →
-    IsHalted kind words o image m status ended after → o.dump ≡ false → answer_uncounted (product kind words m) ≡ answered (Done status) (without_count after)
-source-there-plain kind words o image status ended m after h k d =
-    source-there kind words o image m h ∙ ap answer_uncounted (run-plain kind words o image status ended m after k d)
-
-pub source-there-dumped : (kind : MachineKind) (words : List Word) (o : Order) (image : Image) (status : ℕ) (ended : State) (m after : HostModel) → SourceIsThere words o image m →
-    IsHalted kind words o image m status ended after → o.dump ≡ true →
-    answer_uncounted (product kind words m) ≡ answered (Done status) (without_count (with_output after (concat (dump_lines ended))))
-source-there-dumped kind words o image status ended m after h k d =
-    source-there kind words o image m h ∙ run-dumped kind words o image status ended m after h.there.well h.there.slots k d
-
-pub object-there-plain : (kind : MachineKind) (words : List Word) (o : Order) (image : Image) (status : ℕ) (ended : State) (m after : HostModel) → ObjectIsThere words o image m →
-    IsHalted kind words o image m status ended after → o.dump ≡ false → answer_uncounted (product kind words m) ≡ answered (Done status) (without_count after)
-object-there-plain kind words o image status ended m after h k d =
-    object-there kind words o image m h ∙ ap answer_uncounted (run-plain kind words o image status ended m after k d)
-
-pub object-there-dumped : (kind : MachineKind) (words : List Word) (o : Order) (image : Image) (status : ℕ) (ended : State) (m after : HostModel) → ObjectIsThere words o image m →
-    IsHalted kind words o image m status ended after → o.dump ≡ true →
-    answer_uncounted (product kind words m) ≡ answered (Done status) (without_count (with_output after (concat (dump_lines ended))))
-object-there-dumped kind words o image status ended m after h k d =
-    object-there kind words o image m h ∙ run-dumped kind words o image status ended m after h.there.well h.there.slots k d
 
 -- ---- generating
 
@@ -203,19 +181,17 @@ still-assembled kind words o text m h there =
     ∙ ap (λ t. with_message (plainly t)) (put-of (source_object text) m.files m.slots m object long)
     ∙ ap (λ ss. with_message (answered (assembled_outcome (source_object text).1) (idle (put_at m.files object (source_object text).0 (place_of m.files object)) ss m))) (shut-object m.slots there.slots)
 
-pub object-told : (kind : MachineKind) (words : List Word) (o : Order) (text : List ℕ) (m : HostModel) → IsOrdered words o Asm → IsThere (word_at words o.file) 1025 text m →
+pub object-told : (kind : MachineKind) (words : List Word) (o : Order) (text : List ℕ) (m : HostModel) → m.failing ≡ [] → IsOrdered words o Asm → IsThere (word_at words o.file) 1025 text m →
     answer_uncounted (product kind words m) ≡ answer_uncounted (with_message (answered (assembled_outcome (source_object text).1) (with_file m (word_at words o.rest) (source_object text).0)))
-object-told kind words o text m h there =
+object-told kind words o text m well h there =
     let told : Answer = answered (assembled_outcome (source_object text).1) (with_object words o text m) in
     let same : SparedAnswers (with_object words o text m) told (answered (assembled_outcome (source_object text).1) (still (with_object words o text m))) = uncalled in
-    let a = steady-of (product-steady kind words m) there.well in
-    let b = steady-of (message-steady told (answered (assembled_outcome (source_object text).1) (still (with_object words o text m))) same) there.well in
+    let a = steady-of (product-steady kind words m) well in
+    let b = steady-of (message-steady told (answered (assembled_outcome (source_object text).1) (still (with_object words o text m))) same) well in
     answers-same (product kind words m) (with_message told) (a.0 ∙ still-assembled kind words o text m h there ∙ sym b.0) (a.1 ∙ sym b.1)
 
-pub assembled-there : (kind : MachineKind) (words : List Word) (o : Order) (text : List ℕ) (image : Image) (m : HostModel) → IsOrdered words o Asm → IsThere (word_at words o.file) 1025 text m →
-    source_meaning text ≡ Ok image → answer_uncounted (product kind words m) ≡ answered (Done 0) (without_count (with_file m (word_at words o.rest) (source_object text).0))
-assembled-there kind words o text image m h there e =
-    object-told kind words o text m h there
-    ∙ ap (λ r. answer_uncounted (with_message (answered (assembled_outcome r) (with_object words o text m)))) (meant-object text image e)
-
-pub ruleset filed = (source-there, object-there, assembled-there, object-told, file-left, generated-there)
+pub assembled-there : (kind : MachineKind) (words : List Word) (o : Order) (text : List ℕ) (m : HostModel) → m.failing ≡ [] → IsOrdered words o Asm → IsThere (word_at words o.file) 1025 text m →
+    refusal text ≡ None → answer_uncounted (product kind words m) ≡ answered (Done 0) (without_count (with_file m (word_at words o.rest) (source_object text).0))
+assembled-there kind words o text m well h there e =
+    object-told kind words o text m well h there
+    ∙ ap (λ r. answer_uncounted (with_message (answered (assembled_outcome r) (with_object words o text m)))) (accepted-object text e)

@@ -1,11 +1,10 @@
 -- The object of a source is loaded as what the source is run from; where that has too many pages, it is not loaded.
-use Rattle.std.proofs.Common.{◌≡◌, ℕ, ◌^◌, ◌≤◌, List, ◌++◌, length, sym, ◌∙◌, ap, subst, Some, None, Option, Result, Ok, Err, refl, cond, Bool, true, false}
+use Rattle.std.proofs.Common.{◌≡◌, ℕ, ◌^◌, ◌≤◌, List, ◌++◌, length, sym, ◌∙◌, ap, Some, None, Option, Result, Ok, Err, refl}
 use Rattle.mx_word.specs.declared.symbols.Symbol.{Symbol}
 use Rattle.mx_word.specs.Ranges.{AreBytes}
 use Rattle.mx_mmo.specs.Image.{Image}
 use Rattle.mx_mmo.specs.Meaning.{Loading, Meaningless, PagesFull, nothing, take_items, image_in, meaning}
 use Rattle.mx_mmo.specs.Spelling.{written, ending}
-use Rattle.mx_mmo.specs.Replies.{limit}
 use Rattle.mx_mmo.specs.Whole.{Left, items_of, object_of, object_behind, with_tail}
 use Rattle.mx_mmo.specs.declared.due.Phase.TheVariants.{Start}
 use Rattle.mx_mmo.specs.declared.faults.MmoFault.{MmoFault}
@@ -22,7 +21,7 @@ use Rattle.mx_asm.specs.Fitting.{AreWritable}
 use Rattle.mx_asm.specs.Entries.{statements_in, source_entries}
 use Rattle.mx_asm.specs.Image.{image, symbols_of}
 use Rattle.mx_asm.specs.OnePass.{Ended}
-use Rattle.mx_asm.specs.Pages.{RunRefusal, page_refusal, accepted_in, run_refusal, run_refusal_with, loaded_image, has_room}
+use Rattle.mx_asm.specs.Pages.{RunRefusal, page_refusal, accepted_in, run_refusal, run_refusal_with}
 use Rattle.mx_asm.specs.Refusal.{refusal}
 use Rattle.mx_asm.specs.TwoPass.{final_known}
 use Rattle.mx_asm.specs.Whole.{assembled_source}
@@ -34,7 +33,6 @@ use Rattle.mx_asm.proofs.ObjectLaws.{source-writable, source-told, source-few}
 use Rattle.mx_top.specs.Sources.{meaning_unless, source_meaning}
 use Rattle.mx_top.specs.Objects.{Assembled, source_object}
 use Rattle.mx_top.specs.Objects as assembling
-use Rattle.mx_top.specs.declared.refusal.Refusal.{Refusal}
 use Rattle.mx_asm.proofs.MeaningSources.{pages-mean}
 use Rattle.mx_top.proofs.SourceImages.{items-mean-image}
 

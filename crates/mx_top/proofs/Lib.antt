@@ -31,6 +31,10 @@ pub mod DetourRuns
 pub mod DetourImages
 pub mod UnbrokenRuns
 pub mod ToldPrograms
+pub mod ToldTraps
 pub mod Completed
 pub mod KeptSlots
+pub mod KeptSessions
 pub mod CompletedFiles
+pub mod LowBytes
+pub mod SparedPrograms

@@ -1,14 +1,12 @@
 -- A source that is loaded line by line comes to what it means: the lines that were taken stand for the statements before the
 -- first refusal, and what is loaded of them is what their items mean.
-use Rattle.std.proofs.Common.{◌≡◌, ◌<◌, ℕ, ◌+◌, ◌^◌, Bool, true, false, not, cond, List, [], ◌∷◌, ◌++◌, fold, length, refl, sym, ap, subst, ◌∙◌, is_some, Option, Some, None, Result, Ok, Err, append_assoc, append-nil, length-append}
-use Rattle.std.specs.Prelude.{◌==◌}
-use Rattle.std.specs.List.{AllByRecursion, slice_split, onto_first}
+use Rattle.std.proofs.Common.{◌≡◌, ℕ, ◌+◌, Bool, true, false, not, cond, List, [], ◌∷◌, ◌++◌, fold, length, refl, sym, ap, subst, ◌∙◌, is_some, Option, Some, None, Result, Ok, Err, append_assoc, append-nil, length-append}
+use Rattle.std.specs.List.{AllByRecursion}
 use Rattle.std.specs.Result.{result_err}
 use Rattle.std.proofs.lemmas.List.Sums.{fold-append}
 use Rattle.mx_word.specs.Ranges.{AreBytes}
 use Rattle.mx_word.specs.declared.waits.Wait.{Wait}
-use Rattle.mx_line.specs.Lines.{lines_of, without_empty_last}
-use Rattle.mx_line.specs.Pieces.{split}
+use Rattle.mx_line.specs.Lines.{lines_of}
 use Rattle.mx_mmo.specs.Image.{Image}
 use Rattle.mx_mmo.specs.Meaning.{Loading, Meaningless, PagesFull, nothing, take_item, take_items, image_in, meaning}
 use Rattle.mx_mmo.specs.declared.items.Item.{Item}

@@ -29,7 +29,7 @@ after-case : (more : HostModel → Then Bool) → ((m : HostModel) → Spared m 
 after-case more f true m = f m
 after-case more f false m = uncalled
 
-pieces_put-steady : (k slot : ℕ) (text : List ℕ) (m : HostModel) → Spared m (put_pieces k slot text m) (put_pieces k slot text (still m))
+pub pieces_put-steady : (k slot : ℕ) (text : List ℕ) (m : HostModel) → Spared m (put_pieces k slot text m) (put_pieces k slot text (still m))
 unfolding put_pieces
 pieces_put-steady zero slot text m = piece-steady slot text m
 pieces_put-steady (suc k) slot text m =

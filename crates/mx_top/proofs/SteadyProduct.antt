@@ -242,7 +242,10 @@ product-same kind words m n e h k =
     let b = (product-steady kind words n).same k in
     answer-unscheduled (product kind words m) ∙ ap answer_unscheduled (a ∙ ap (product kind words) (still-same m n e) ∙ sym b) ∙ sym (answer-unscheduled (product kind words n))
 
-pub ruleset steady = (product-same)
+pub product-list : (kind : MachineKind) (words : List Word) (m : HostModel) → (host_of (product kind words m)).failing ≡ m.failing
+product-list kind words m = (product-steady kind words m).list
+
+pub ruleset steady = (product-same, product-list)
 
 -- ---- what is the same in the still model is the same but for the number of calls, where the lists are the same
 

@@ -92,16 +92,14 @@ pub record IsGenerated (kind : MachineKind) (words : List Word) (m left : HostMo
   pub halts : machine_ran kind generator_steps machine m ≡ ran (Done status) ended left
   pub told : line ≡ summary order.number (length (generated order.number)) ended.steps (register ended.stack 255)
 
--- ---- where no call fails
+-- ---- files that are there
 
 -- the host with a text more on its standard output
 abbrev pub with_output : HostModel → List ℕ → HostModel
 with_output m text = record m { output = m.output ++ text }
 
--- No call fails, the slots stand as at the start, and the file of this name is there; so many pieces of it are this
--- text.
+-- The slots stand as at the start, and the file of this name is there; so many pieces of it are this text.
 pub record IsThere (name : Word) (most : ℕ) (text : List ℕ) (m : HostModel) : Type 0 where
-  pub well : m.failing ≡ []
   pub slots : HasStartSlots m
   pub place : ℕ
   pub found : place_of m.files name ≡ Some place

@@ -19,3 +19,4 @@ pub mod Detour
 pub mod Rings
 pub mod Unbroken
 pub mod Complete
+pub mod Called

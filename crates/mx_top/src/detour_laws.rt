@@ -10,8 +10,9 @@ ghost use Rattle.mx_asm.specs.Image.{symbols_of};
 ghost use Rattle.mx_asm.specs.Pages.{RunRefusal, run_refusal};
 ghost use Rattle.mx_asm.specs.Refusal.{refusal};
 ghost use Rattle.mx_run.specs.WildRuns.{MachineKind};
-ghost use Rattle.mx_trap.specs.Counts.{NoneFailed, unscheduled};
+ghost use Rattle.mx_trap.specs.Counts.{unscheduled};
 ghost use Rattle.mx_top.specs.Arguments.{Word};
+ghost use Rattle.mx_top.specs.Called.{NoCallFails};
 ghost use Rattle.mx_top.specs.Detour.{AreOrdered, IsAssembled, run_words, sim_words};
 ghost use Rattle.mx_top.specs.Detour.{answer_uncounted, answer_unscheduled, host_of};
 ghost use Rattle.mx_top.specs.Objects.{source_object};
@@ -20,12 +21,14 @@ ghost use Rattle.mx_top.specs.Sources.{source_meaning};
 
 /// Where no call that the program makes fails, it does and answers the same whatever number of calls was made
 /// before, and whatever other calls are listed as failing; only that number and that list differ in what it
-/// leaves.
+/// leaves. It never changes that list.
 #[tactic(auto, using(crate::proofs::SteadyProduct::steady))]
 pub fn programs_go_by_no_count()
-    ensures { (kind : MachineKind) (words : List Word) (m n : HostModel) → unscheduled m ≡ unscheduled n →
-        NoneFailed m (host_of (product kind words m)) → NoneFailed n (host_of (product kind words n)) →
+    ensures same { (kind : MachineKind) (words : List Word) (m n : HostModel) → unscheduled m ≡ unscheduled n →
+        NoCallFails kind words m → NoCallFails kind words n →
         answer_unscheduled (product kind words m) ≡ answer_unscheduled (product kind words n) }
+    ensures list { (kind : MachineKind) (words : List Word) (m : HostModel) →
+        (host_of (product kind words m)).failing ≡ m.failing }
 {}
 
 /// Where no call that is made fails, `sim` of an object answers and leaves what `run` of the source does that
@@ -37,8 +40,8 @@ pub fn objects_run_as_their_sources()
         (text : List ℕ) (m after : HostModel) →
         AreOrdered options source object arguments → IsAssembled kind source object text m after →
         (image : Image) → source_meaning text ≡ Ok image →
-        NoneFailed after (host_of (product kind (sim_words options object arguments) after)) →
-        NoneFailed after (host_of (product kind (run_words options source arguments) after)) →
+        NoCallFails kind (sim_words options object arguments) after →
+        NoCallFails kind (run_words options source arguments) after →
         answer_uncounted (product kind (sim_words options object arguments) after) ≡
         answer_uncounted (product kind (run_words options source arguments) after) }
 {}

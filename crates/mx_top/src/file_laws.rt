@@ -1,27 +1,29 @@
 //! Laws of files that are read and of texts that are written piece by piece.
 
-ghost use Rattle.std.specs.Prelude.{◌≡◌, ◌*◌, List, ℕ, None, Some, Ok, Err, [], take};
+ghost use Rattle.std.specs.Prelude.{◌≡◌, ◌*◌, List, ℕ, None, Some, Ok, Err, take};
 ghost use Rattle.mx_host.specs.HostModel.{HostModel, HasStartSlots, place_of};
 ghost use Rattle.mx_host.specs.HostAnswer.{bytes_at};
+ghost use Rattle.mx_trap.specs.Counts.{NoneFailed};
 ghost use Rattle.mx_trap.specs.Laws.{SameButCalls};
 ghost use Rattle.mx_top.specs.Pieces.{put_piece, put_text};
 ghost use Rattle.mx_top.specs.Source.{file_bytes};
 ghost use Rattle.mx_top.specs.declared.outcome.Outcome.{Outcome};
 
-/// Where no call fails, a file that is there is read whole, as far as so many pieces of 4,096 bytes
-/// reach, and one that is not there is said to be missing.
+/// Where no call that this makes fails, a file that is there is read whole, as far as so many pieces of
+/// 4,096 bytes reach, and one that is not there is said to be missing.
 #[tactic(auto, using(crate::proofs::WholeFiles::wholes))]
 pub fn files_are_read_whole()
-    ensures there { (most : ℕ) (name : List ℕ) (m : HostModel) (at : ℕ) → m.failing ≡ [] → HasStartSlots m →
-        place_of m.files name ≡ Some at → (file_bytes most name m).0 ≡ Ok (take (4096 * most) (bytes_at m.files at)) }
-    ensures missing { (most : ℕ) (name : List ℕ) (m : HostModel) → m.failing ≡ [] →
+    ensures there { (most : ℕ) (name : List ℕ) (m : HostModel) (at : ℕ) →
+        NoneFailed m (file_bytes most name m).1 → HasStartSlots m → place_of m.files name ≡ Some at →
+        (file_bytes most name m).0 ≡ Ok (take (4096 * most) (bytes_at m.files at)) }
+    ensures missing { (most : ℕ) (name : List ℕ) (m : HostModel) → NoneFailed m (file_bytes most name m).1 →
         place_of m.files name ≡ None → (file_bytes most name m).0 ≡ Err Outcome.NoFile }
 {}
 
-/// Where no call fails, a text that goes out in pieces of 4,096 bytes comes to the same as one that goes
-/// out in one write.
+/// Where none of its writes fails, a text that goes out in pieces of 4,096 bytes comes to the same as one
+/// that goes out in one write.
 #[tactic(auto, using(crate::proofs::JoinedWrites::joined))]
 pub fn pieces_come_to_one_write()
-    ensures { (slot : ℕ) (text : List ℕ) (m : HostModel) → m.failing ≡ [] →
+    ensures { (slot : ℕ) (text : List ℕ) (m : HostModel) → NoneFailed m (put_text slot text m).1 →
         SameButCalls (put_text slot text m) (put_piece slot text m) }
 {}
