@@ -1,5 +1,5 @@
 -- A run of the program whose calls are answered, whose source means something and whose machine halts is done.
-use Rattle.std.proofs.Common.{◌≡◌, ℕ, List, [], ◌∷◌, Bool, true, false, cond, length, refl, sym, ◌∙◌, ap, Ok, Err, Some, None}
+use Rattle.std.proofs.Common.{◌≡◌, ℕ, List, [], ◌∷◌, Bool, true, false, cond, length, ◌≤◌, refl, sym, ◌∙◌, ap, Ok, Err, Some, None}
 use Rattle.std.specs.Prelude.{Option}
 use Rattle.mx_host.specs.HostModel.{HostModel}
 use Rattle.mx_host.specs.HostAnswer.{close_answer}
@@ -20,7 +20,10 @@ use Rattle.mx_top.specs.Answers.{answered, plainly}
 use Rattle.mx_top.specs.Arguments.{Word, word_at, arguments}
 use Rattle.mx_top.specs.Complete.{IsOrdered, HasSource, HasObject, IsStarted, IsHalted, IsPlayed, IsWritten, IsGenerated}
 use Rattle.mx_top.specs.Dump.{dump_lines}
-use Rattle.mx_top.specs.Generator.{generated}
+use Rattle.mx_gen.specs.Generator.{generated}
+use Rattle.mx_gen.specs.Program.{generated_image}
+use Rattle.mx_gen.proofs.Meaning.{not-refused-run, statements-of}
+use Rattle.mx_words.proofs.OrderedBlocks.{order-few}
 use Rattle.mx_top.specs.Lines.{lines_put}
 use Rattle.mx_top.specs.Objects.{Assembled, source_object}
 use Rattle.mx_top.specs.Objects as assembling
@@ -184,6 +187,13 @@ refused-written kind words text r m after h e =
 
 -- ---- `gen`
 
+-- a source that is generated means the image of its program
+pub generated-means : (n : ℕ) → n ≤ 10000 → source_meaning (generated n) ≡ Ok (generated_image n)
+unfolding source_meaning
+generated-means n few =
+    ap (λ r. meaning_unless r (imaging.image (statements_in (source_entries (generated n))))) (not-refused-run n few)
+    ∙ ap (λ ss. Ok (imaging.image ss)) (statements-of n few)
+
 -- a run that is summed up
 pub generated-told : (kind : MachineKind) (words : List Word) (m left : HostModel) (line : List ℕ) → IsGenerated kind words m left line →
     product kind words m ≡ with_message (after_lines (Done 0) (lines_put (line ∷ []) left))
@@ -191,7 +201,7 @@ generated-told kind words m left line h =
     let o : Order = h.order in
     let size : ℕ = length (generated o.number) in
     order-is kind words o Gen m h.ordered
-    ∙ ap (λ r. with_message (generated_run kind o size r m)) h.means
+    ∙ ap (λ r. with_message (generated_run kind o size r m)) (generated-means o.number (order-few words o h.ordered.order))
     ∙ ap (λ r. with_message (summed_from kind o.number size r m)) h.starts
     ∙ ap (λ r. with_message (summed o.number size r)) h.halts
     ∙ ap (λ text. with_message (after_lines (Done 0) (lines_put (text ∷ []) left))) (sym h.told)
@@ -200,4 +210,4 @@ pub generated-done : (kind : MachineKind) (words : List Word) (m left after : Ho
     product kind words m ≡ answered (Done 0) after
 generated-done kind words m left after line h e = generated-told kind words m left line h ∙ ap (λ t. with_message (after_lines (Done 0) t)) e
 
-pub ruleset completed = (source-plain, source-dumped, object-plain, object-dumped, source-sat, object-sat, source-played, object-played, accepted-written, refused-written, meant-object, accepted-object, unrefused-means, generated-done)
+pub ruleset completed = (source-plain, source-dumped, object-plain, object-dumped, source-sat, object-sat, source-played, object-played, accepted-written, refused-written, meant-object, accepted-object, unrefused-means, generated-means, generated-done)

@@ -11,7 +11,7 @@ use Rattle.mx_words.specs.declared.order.Command.{Command}
 use Rattle.mx_words.specs.declared.order.Command.TheVariants.{Run, Asm, Sim, Gen}
 use Rattle.mx_words.specs.declared.order.Order.{Order}
 use Rattle.mx_top.specs.Arguments.{Word, word_at, arguments}
-use Rattle.mx_top.specs.Generator.{generated}
+use Rattle.mx_gen.specs.Generator.{generated}
 use Rattle.mx_top.specs.Product.{after_image, after_source, after_loading, after_object, generated_run, source_generated, ordered, carried_out, with_message, product}
 use Rattle.mx_top.specs.Rings.{DifferInRing}
 use Rattle.mx_top.specs.Runs.{image_run, run_from}

@@ -32,7 +32,7 @@ use Rattle.mx_top.specs.Answers.{Answer, answered, wild, plainly}
 use Rattle.mx_top.specs.Arguments.{Word, word_at, arguments}
 use Rattle.mx_top.specs.Detour.{host_of, answer_uncounted, answer_unscheduled}
 use Rattle.mx_top.specs.Dump.{dump_lines}
-use Rattle.mx_top.specs.Generator.{generated, summary}
+use Rattle.mx_gen.specs.Generator.{generated, summary}
 use Rattle.mx_top.specs.Lines.{lines_put}
 use Rattle.mx_top.specs.Sources.{source_meaning}
 use Rattle.mx_top.specs.Messages.{message_of}

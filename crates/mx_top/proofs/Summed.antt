@@ -8,7 +8,7 @@ use Rattle.mx_ring.specs.Stack.{register}
 use Rattle.mx_word.specs.Lists.{IsFront}
 use Rattle.mx_word.proofs.Fronts.{front-self}
 use Rattle.mx_top.specs.Answers.{output_of}
-use Rattle.mx_top.specs.Generator.{summary}
+use Rattle.mx_gen.specs.Generator.{summary}
 use Rattle.mx_top.specs.Lines.{lines_put}
 use Rattle.mx_top.specs.Product.{summary_put, summed}
 use Rattle.mx_top.specs.Runs.{ran}

@@ -15,7 +15,8 @@ use Rattle.mx_words.specs.declared.order.Command.{Command}
 use Rattle.mx_words.specs.declared.order.Command.TheVariants.{Run, Asm, Sim, Gen}
 use Rattle.mx_words.specs.declared.order.Order.{Order}
 use Rattle.mx_top.specs.Arguments.{Word, word_at, arguments}
-use Rattle.mx_top.specs.Generator.{generated, summary}
+use Rattle.mx_gen.specs.Generator.{generated, summary}
+use Rattle.mx_gen.specs.Program.{generated_image}
 use Rattle.mx_top.specs.Objects.{source_object}
 use Rattle.mx_top.specs.Pieces.{put_text}
 use Rattle.mx_top.specs.Product.{object_slot, generator_steps}
@@ -78,15 +79,13 @@ pub record IsWritten (words : List Word) (text : List ℕ) (m after : HostModel)
   pub writes : put_text object_slot (source_object text).0 opened ≡ (true, written)
   pub closes : close_answer written object_slot ≡ (Ok tt, after)
 
--- The words order to generate a source, which means an image; its machine starts and halts, which leaves the host thus;
--- and this line tells what came of it.
+-- The words order to generate a source; the machine of the image that it means starts and halts, which leaves the host
+-- thus; and this line tells what came of it.
 pub record IsGenerated (kind : MachineKind) (words : List Word) (m left : HostModel) (line : List ℕ) : Type 0 where
   pub order : Order
   pub ordered : IsOrdered words order Gen
-  pub image : Image
-  pub means : source_meaning (generated order.number) ≡ Ok image
   pub machine : State
-  pub starts : started kind order.ring image (codes "gen" ∷ []) ≡ Ok machine
+  pub starts : started kind order.ring (generated_image order.number) (codes "gen" ∷ []) ≡ Ok machine
   pub status : ℕ
   pub ended : State
   pub halts : machine_ran kind generator_steps machine m ≡ ran (Done status) ended left

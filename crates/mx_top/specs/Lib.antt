@@ -9,7 +9,6 @@ pub mod Source
 pub mod Arguments
 pub mod Dump
 pub mod Shown
-pub mod Generator
 pub mod Loading
 pub mod Objects
 pub mod Runs

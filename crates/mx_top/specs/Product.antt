@@ -20,7 +20,7 @@ use Rattle.mx_words.specs.declared.order.Order.{Order}
 use Rattle.mx_words.specs.declared.order.WordsFault.{WordsFault}
 use Rattle.mx_top.specs.Answers.{Answer, answered, wild, plainly, and_then}
 use Rattle.mx_top.specs.Arguments.{Word, word_at, arguments}
-use Rattle.mx_top.specs.Generator.{generated, summary}
+use Rattle.mx_gen.specs.Generator.{generated, summary}
 use Rattle.mx_top.specs.Lines.{lines_put}
 use Rattle.mx_top.specs.Messages.{message_of}
 use Rattle.mx_top.specs.Objects.{Assembled, source_object}

@@ -1,7 +1,7 @@
 //! Laws that the program is done with what is right: where each call is answered, a source that means
 //! something is run, or assembled, to its end.
 
-ghost use Rattle.std.specs.Prelude.{◌≡◌, List, ℕ, [], ◌∷◌, Some, None, Ok, Err, true, false};
+ghost use Rattle.std.specs.Prelude.{◌≡◌, ◌≤◌, List, ℕ, [], ◌∷◌, Some, None, Ok, Err, true, false};
 ghost use Rattle.std.specs.List.{concat};
 ghost use Rattle.mx_host.specs.HostModel.{HostModel, HasStartSlots, place_of};
 ghost use Rattle.mx_host.specs.HostAnswer.{with_file};
@@ -11,6 +11,8 @@ ghost use Rattle.mx_asm.specs.Entries.{source_entries, statements_in};
 ghost use Rattle.mx_asm.specs.Image.{image};
 ghost use Rattle.mx_asm.specs.Pages.{run_refusal};
 ghost use Rattle.mx_asm.specs.Refusal.{refusal};
+ghost use Rattle.mx_gen.specs.Generator.{generated};
+ghost use Rattle.mx_gen.specs.Program.{generated_image};
 ghost use Rattle.mx_trap.specs.Counts.{NoneFailed, unscheduled, without_count};
 ghost use Rattle.mx_run.specs.WildRuns.{MachineKind};
 ghost use Rattle.mx_words.specs.declared.order.Command.{Command};
@@ -107,12 +109,13 @@ pub fn sources_that_mean_are_assembled()
         product kind words m ≡ with_message (answered (refused_with r) after) }
 {}
 
-/// A source that is generated is done where it means an image, its machine starts and halts within 2^26
-/// steps, and the line that tells what came of it is written. Where no call that the program makes fails
-/// and the slots stand as at the start, that line is written; the run is then that over the host with no
-/// call counted and none that fails.
+/// A source that is generated means the image of its program. It is done where the machine of this image
+/// starts and halts within 2^26 steps, and the line that tells what came of it is written. Where no call that
+/// the program makes fails and the slots stand as at the start, that line is written; the run is then that
+/// over the host with no call counted and none that fails.
 #[tactic(auto, using(crate::proofs::Completed::completed, crate::proofs::SparedPrograms::spared))]
 pub fn generated_sources_are_done()
+    ensures means { (n : ℕ) → n ≤ 10000 → source_meaning (generated n) ≡ Ok (generated_image n) }
     ensures written { (kind : MachineKind) (words : List Word) (m left after : HostModel) (line : List ℕ) →
         IsGenerated kind words m left line → lines_put (line ∷ []) left ≡ (true, after) →
         product kind words m ≡ answered (Outcome.Done 0) after }

@@ -5,3 +5,4 @@ pub mod ReadOptions
 pub mod Parsed
 pub mod Complete
 pub mod Sound
+pub mod OrderedBlocks

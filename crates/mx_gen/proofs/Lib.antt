@@ -1,0 +1,13 @@
+pub mod Lines
+pub mod Cuts
+pub mod Operands
+pub mod Texts
+pub mod SourceRead
+pub mod Refusals
+pub mod Pages
+pub mod Tries
+pub mod Placings
+pub mod Names
+pub mod Steps
+pub mod Walk
+pub mod Meaning

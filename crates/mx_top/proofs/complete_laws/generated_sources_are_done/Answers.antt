@@ -1,0 +1,12 @@
+use Rattle.mx_top.proofs.Completed.{generated-means, generated-done}
+use Rattle.mx_top.proofs.CompletedFiles.{generated-there}
+use Rattle.mx_top.proofs.complete_laws.generated_sources_are_done.Goals as goal
+
+pub returns-clause-means : goal.returns-clause-means
+returns-clause-means c = generated-means
+
+pub returns-clause-written : goal.returns-clause-written
+returns-clause-written c = generated-done
+
+pub returns-clause-steady : goal.returns-clause-steady
+returns-clause-steady c = generated-there
