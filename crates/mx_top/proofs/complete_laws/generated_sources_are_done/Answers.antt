@@ -1,5 +1,5 @@
 use Rattle.mx_top.proofs.Completed.{generated-means, generated-done}
-use Rattle.mx_top.proofs.CompletedFiles.{generated-there}
+use Rattle.mx_top.proofs.SparedPrograms.{generated-spared}
 use Rattle.mx_top.proofs.complete_laws.generated_sources_are_done.Goals as goal
 
 pub returns-clause-means : goal.returns-clause-means
@@ -8,5 +8,5 @@ returns-clause-means c = generated-means
 pub returns-clause-written : goal.returns-clause-written
 returns-clause-written c = generated-done
 
-pub returns-clause-steady : goal.returns-clause-steady
-returns-clause-steady c = generated-there
+pub returns-clause-spared : goal.returns-clause-spared
+returns-clause-spared c = generated-spared
