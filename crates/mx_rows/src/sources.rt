@@ -4,6 +4,9 @@ use crate::rows::{Due, done, gives, refused};
 use std::alloc::Global;
 use std::test::Fail;
 
+/// A program that halts at once.
+const HALTS: &str = "Main TRAP 0,0,0\n";
+
 #[test]
 fn refusals_name_the_first_faulty_line(rt: HostRuntime) -> Result<(), Fail> {
     let alloc = rt.alloc();
@@ -68,51 +71,140 @@ fn refusals_name_the_first_faulty_line(rt: HostRuntime) -> Result<(), Fail> {
     Ok(())
 }
 
-#[test]
-fn long_sources(rt: HostRuntime) -> Result<(), Fail> {
-    let alloc = rt.alloc();
-    // 2^22 bytes of lines and a last newline, which belongs to no line, are not too many
-    let mut source = String::from_str(alloc, "Main TRAP 0,0,0\n")?;
-    for _line in 0..(1u32 << 22) - 15 {
-        source.push_str("\n")?;
+/// Appends a text so many times.
+fn push_times(source: &mut String, text: &str, count: u32) -> Result<(), Fail> {
+    for _time in 0..count {
+        source.push_str(text)?;
     }
-    assert!(rt; gives(alloc, source.as_str(), done(0, b""))?);
-    // one line more is too far, which comes before its own fault
-    source.push_str("a")?;
-    let due = refused(4_194_291, 88, 0, b"line 4194291: 88 SourceTooLong\n");
-    assert!(rt; gives(alloc, source.as_str(), due)?);
     Ok(())
 }
 
-/// A comment line with so many bytes, behind a program.
-fn with_comment(alloc: Global, count: u32) -> Result<String, Fail> {
-    let mut source = String::from_str(alloc, "Main TRAP 0,0,0\n")?;
-    for _byte in 0..count {
-        source.push_str("*")?;
+#[test]
+fn limits_of_a_source(rt: HostRuntime) -> Result<(), Fail> {
+    // what stands before a text, the text and how often it stands, and what stands behind it
+    let cases: [(&str, &str, u32, &str, Due); 10] = [
+        // a line of 4,096 bytes, and one of 4,097
+        (HALTS, "*", 4096, "", done(0, b"")),
+        (
+            HALTS,
+            "*",
+            4097,
+            "",
+            refused(2, 1, 0, b"line 2: 1 TooLong\n"),
+        ),
+        // 256 open parentheses
+        (
+            "Main BYTE ",
+            "(",
+            256,
+            "1",
+            refused(1, 18, 0, b"line 1: 18 TooDeep\n"),
+        ),
+        // a name with its prefix `:` has at most 1,024 bytes
+        (HALTS, "k", 1023, " IS 1", done(0, b"")),
+        (
+            HALTS,
+            "k",
+            1024,
+            " IS 1",
+            refused(2, 33, 0, b"line 2: 33 NameTooLong\n"),
+        ),
+        // the registers from $254 down to $32 are 223
+        (HALTS, " GREG 0\n", 223, "", done(0, b"")),
+        (
+            HALTS,
+            " GREG 0\n",
+            224,
+            "",
+            refused(225, 47, 0, b"line 225: 47 TooManyGregs\n"),
+        ),
+        // the last byte below the register stack, and the one behind it
+        (
+            " LOC #5fffffffffffffff\n",
+            " BYTE 1",
+            1,
+            ",1",
+            refused(2, 49, 0, b"line 2: 49 BadPlace\n"),
+        ),
+        // a byte on each page; that on page 65,537 is refused at its line, before the end
+        (
+            "",
+            " LOC @+4095\n BYTE 1\n",
+            65537,
+            "",
+            refused(131_074, 90, 0, b"line 131074: 90 PagesFull\n"),
+        ),
+        // 2^22 bytes of lines and a last newline, which belongs to no line, are not too many
+        (HALTS, "\n", (1 << 22) - 15, "", done(0, b"")),
+    ];
+    for (before, text, count, behind, due) in cases {
+        let mut source = String::from_str(rt.alloc(), before)?;
+        push_times(&mut source, text, count)?;
+        source.push_str(behind)?;
+        assert!(rt; gives(rt.alloc(), source.as_str(), due)?, "{text}");
+    }
+    Ok(())
+}
+
+#[test]
+fn one_line_too_far(rt: HostRuntime) -> Result<(), Fail> {
+    let mut source = String::from_str(rt.alloc(), HALTS)?;
+    push_times(&mut source, "\n", (1 << 22) - 15)?;
+    // it comes before its own fault
+    source.push_str("a")?;
+    let due = refused(4_194_291, 88, 0, b"line 4194291: 88 SourceTooLong\n");
+    assert!(rt; gives(rt.alloc(), source.as_str(), due)?);
+    Ok(())
+}
+
+/// A letter for each number below 26.
+fn letter(number: u32) -> char {
+    char::from(b'a'.wrapping_add((number % 26) as u8))
+}
+
+/// Appends a name of three letters, another one for each number below 676.
+fn push_name(source: &mut String, number: u32) -> Result<(), Fail> {
+    source.push('L')?;
+    source.push(letter(number / 26))?;
+    source.push(letter(number))?;
+    Ok(())
+}
+
+#[test]
+fn symbols_of_an_object(rt: HostRuntime) -> Result<(), Fail> {
+    let mut long = String::new(rt.alloc());
+    push_times(&mut long, "x", 1000)?;
+    // each name takes 2,000 bytes of the trie for its last 1,000, and 12 more at most; there are 262,140
+    let many = refused(141, 86, 0, b"line 141: 86 SymbolsTooMany\n");
+    for (names, due) in [(130u32, done(0, b"")), (140, many)] {
+        let source = with_names(rt.alloc(), names, long.as_str())?;
+        assert!(rt; gives(rt.alloc(), source.as_str(), due)?, "{names}");
+    }
+    Ok(())
+}
+
+/// A program, and so many names that end alike.
+fn with_names(alloc: Global, names: u32, end: &str) -> Result<String, Fail> {
+    let mut source = String::from_str(alloc, HALTS)?;
+    for number in 0..names {
+        push_name(&mut source, number)?;
+        source.push_str(end)?;
+        source.push_str(" IS 0\n")?;
     }
     Ok(source)
 }
 
 #[test]
-fn long_lines(rt: HostRuntime) -> Result<(), Fail> {
-    let alloc = rt.alloc();
-    let most = with_comment(alloc, 4096)?;
-    assert!(rt; gives(alloc, most.as_str(), done(0, b""))?);
-    let more = with_comment(alloc, 4097)?;
-    let due = refused(2, 1, 0, b"line 2: 1 TooLong\n");
-    assert!(rt; gives(alloc, more.as_str(), due)?);
-    Ok(())
-}
-
-#[test]
-fn full_pages(rt: HostRuntime) -> Result<(), Fail> {
-    let alloc = rt.alloc();
-    // a byte on each page; that on page 65,537 is refused at its line, before the end
-    let mut source = String::new(alloc);
-    for _page in 0..65537u32 {
-        source.push_str(" BYTE 1\n LOC @+4095\n")?;
+fn labels_wait_for_one_another(rt: HostRuntime) -> Result<(), Fail> {
+    // each label waits for the next, and all of them wait for the last
+    let mut source = String::from_str(rt.alloc(), "Main JMP Laa\n")?;
+    for number in 0..675u32 {
+        push_name(&mut source, number)?;
+        source.push_str(" JMP ")?;
+        push_name(&mut source, number + 1)?;
+        source.push_str("\n BZ $0,Lzz\n")?;
     }
-    let due = refused(131_073, 90, 0, b"line 131073: 90 PagesFull\n");
-    assert!(rt; gives(alloc, source.as_str(), due)?);
+    source.push_str("Lzz TRAP 0,Halt,0")?;
+    assert!(rt; gives(rt.alloc(), source.as_str(), done(0, b""))?);
     Ok(())
 }
