@@ -19,7 +19,7 @@ use Rattle.mx_line.specs.Statements.Statements.{none, next}
 use Rattle.mx_line.proofs.ListLaws.{no-other-list}
 use Rattle.mx_stmt.specs.Reading.{Fields, fields_of}
 
-is-field : (text : List ℕ) → list_all is_other text ≡ true → IsField text
+pub is-field : (text : List ℕ) → list_all is_other text ≡ true → IsField text
 is-field [] all = empty
 is-field (b ∷ bs) all = let p = and_parts (is_other b) (list_all is_other bs) all in byte_first b bs p.0 (is-field bs p.1)
 
@@ -29,11 +29,11 @@ other-no-blank b is = grind (arith, nat_tests)
 name-no-blank : (b : ℕ) → is_name_byte b ≡ true → is_blank b ≡ false
 name-no-blank b is = grind (arith, nat_tests)
 
-field-begins : (text : List ℕ) → list_all is_other text ≡ true → begins is_blank text ≡ false
+pub field-begins : (text : List ℕ) → list_all is_other text ≡ true → begins is_blank text ≡ false
 field-begins [] all = refl
 field-begins (b ∷ bs) all = other-no-blank b (and_parts (is_other b) (list_all is_other bs) all).0
 
-name-begins : (name rest : List ℕ) → 0 < length name → list_all is_name_byte name ≡ true → begins is_blank (name ++ rest) ≡ false
+pub name-begins : (name rest : List ℕ) → 0 < length name → list_all is_name_byte name ≡ true → begins is_blank (name ++ rest) ≡ false
 name-begins [] rest some all = absurd (omega (arith, some))
 name-begins (b ∷ bs) rest some all = name-no-blank b (and_parts (is_name_byte b) (list_all is_name_byte bs) all).0
 
@@ -49,7 +49,7 @@ field-part name ops =
     ap (λ t. slice_range (32 ∷ t) (1 + length name + 1) (1 + length name + 1 + length ops)) (sym (append_assoc name (32 ∷ []) ops))
     ∙ behind (32 ∷ (name ++ 32 ∷ [])) ops (1 + length name + 1) (omega (arith, length-append name (32 ∷ [])))
 
-nothing-left : (line : List ℕ) (n : ℕ) → n ≡ length line → drop n line ≡ []
+pub nothing-left : (line : List ℕ) (n : ℕ) → n ≡ length line → drop n line ≡ []
 nothing-left line n is = grind (arith, common_steps)
 
 module _ (name ops : List ℕ) (names : list_all is_name_byte name ≡ true) (some : 0 < length name) (others : list_all is_other ops ≡ true) (few : length name + length ops ≤ 4000) where

@@ -1,15 +1,12 @@
 -- A line of a label, a blank, a name, a blank and a plain operand field is cut to one statement.
-use Rattle.std.proofs.Common.{◌≡◌, ℕ, ◌+◌, ◌<◌, ◌≤◌, true, false, List, [], ◌∷◌, ◌++◌, length, drop, None, Some, Ok, refl, sym, ap, ◌∙◌, arith, subst, append-nil, append_assoc, length-append}
+use Rattle.std.proofs.Common.{◌≡◌, ℕ, ◌+◌, ◌<◌, ◌≤◌, true, false, List, [], ◌∷◌, ◌++◌, length, None, Some, Ok, refl, sym, ap, ◌∙◌, arith, subst, append-nil, append_assoc, length-append}
 use Rattle.std.specs.List.{list_all, slice_range}
 use Rattle.std.proofs.lemmas.Grind.{common_steps}
-use Rattle.std.proofs.lemmas.Bool.{and_parts}
-use Rattle.std.proofs.lemmas.Bool.Decides.{nat_tests}
 use Rattle.mx_line.specs.declared.cutter.Cut.{Cut}
-use Rattle.mx_line.specs.Bytes.{is_blank, is_name_byte}
+use Rattle.mx_line.specs.Bytes.{is_name_byte}
 use Rattle.mx_line.specs.Spans.{span}
 use Rattle.mx_line.specs.Cutting.{cuts_from, is_bad_local}
-use Rattle.mx_line.specs.Statements.{begins, is_other, IsField, Operands, Operation, Statement, StatementOf}
-use Rattle.mx_line.specs.Statements.IsField.{empty, byte_first}
+use Rattle.mx_line.specs.Statements.{is_other, Operands, Operation, Statement, StatementOf}
 use Rattle.mx_line.specs.Statements.Next.{nothing_more}
 use Rattle.mx_line.specs.Statements.Operands.{field}
 use Rattle.mx_line.specs.Statements.Operation.{named}
@@ -18,24 +15,7 @@ use Rattle.mx_line.specs.Statements.StatementOf.{later, first}
 use Rattle.mx_line.specs.Statements.Statements.{none, next}
 use Rattle.mx_line.proofs.ListLaws.{no-other-list}
 use Rattle.mx_stmt.specs.Reading.{label_of, fields_of}
-
-is-field : (text : List ℕ) → list_all is_other text ≡ true → IsField text
-is-field [] all = empty
-is-field (b ∷ bs) all = let p = and_parts (is_other b) (list_all is_other bs) all in byte_first b bs p.0 (is-field bs p.1)
-
-other-no-blank : (b : ℕ) → is_other b ≡ true → is_blank b ≡ false
-other-no-blank b is = grind (arith, nat_tests)
-
-name-no-blank : (b : ℕ) → is_name_byte b ≡ true → is_blank b ≡ false
-name-no-blank b is = grind (arith, nat_tests)
-
-field-begins : (text : List ℕ) → list_all is_other text ≡ true → begins is_blank text ≡ false
-field-begins [] all = refl
-field-begins (b ∷ bs) all = other-no-blank b (and_parts (is_other b) (list_all is_other bs) all).0
-
-name-begins : (name rest : List ℕ) → 0 < length name → list_all is_name_byte name ≡ true → begins is_blank (name ++ rest) ≡ false
-name-begins [] rest some all = absurd (omega (arith, some))
-name-begins (b ∷ bs) rest some all = name-no-blank b (and_parts (is_name_byte b) (list_all is_name_byte bs) all).0
+use Rattle.mx_again.proofs.CutLines.{is-field, field-begins, name-begins, nothing-left}
 
 -- parts of a line
 front-part : (front rest : List ℕ) → slice_range (front ++ rest) 0 (0 + length front) ≡ front
@@ -46,9 +26,6 @@ middle-part front mid rest n is = grind (arith, common_steps)
 
 last-part : (front mid : List ℕ) (n : ℕ) → n ≡ length front → slice_range (front ++ mid) n (n + length mid) ≡ mid
 last-part front mid n is = grind (arith, common_steps)
-
-nothing-left : (line : List ℕ) (n : ℕ) → n ≡ length line → drop n line ≡ []
-nothing-left line n is = grind (arith, common_steps)
 
 module _ (label name ops : List ℕ) (labels : list_all is_name_byte label ≡ true) (labelled_by : 0 < length label) (good : is_bad_local label ≡ false) (names : list_all is_name_byte name ≡ true) (some : 0 < length name) (others : list_all is_other ops ≡ true) (few : length label + length name + length ops ≤ 4000) where
   abbrev rest : List ℕ
