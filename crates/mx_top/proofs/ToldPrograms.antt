@@ -1,9 +1,9 @@
 -- By its definition the program does not lack memory: no file that is opened does, no run and no session.
 use Rattle.std.proofs.Common.{◌≡◌, ℕ, zero, suc, List, [], ◌∷◌, length, Bool, true, false, cond, Option, None, Some, Result, Ok, Err, refl}
-use Rattle.std.specs.Prelude.{◌&&◌, ◌==◌, codes}
+use Rattle.std.specs.Prelude.{◌&&◌, codes}
 use Rattle.mx_word.specs.declared.symbols.Symbol.{Symbol}
 use Rattle.mx_host.specs.HostModel.{HostModel, counted, is_failing, is_read_only, place_of}
-use Rattle.mx_host.specs.HostAnswer.{Then, open_answer, opened, read_answer, write_answer, close_answer}
+use Rattle.mx_host.specs.HostAnswer.{Then, open_answer, opened, read_answer, close_answer}
 use Rattle.mx_host.specs.declared.faults.HostFault.{HostFault as SlotFault}
 use Rattle.mx_host.specs.declared.faults.OpenFault.{OpenFault}
 use Rattle.mx_host.specs.declared.faults.OpenFault.TheVariants as opening
@@ -34,8 +34,8 @@ use Rattle.mx_top.specs.Lines.{lines_put}
 use Rattle.mx_top.specs.Messages.{message_of}
 use Rattle.mx_top.specs.Objects.{Assembled, source_object}
 use Rattle.mx_top.specs.Pieces.{put_text}
-use Rattle.mx_top.specs.Product.{after_image, after_source, after_loading, after_object, object_slot, closed_object, written_object, assembled_outcome, object_put, after_opening, after_reading, generator_steps, summary_put, summed, summed_from, generated_run, source_generated, ordered, carried_out, message_told, with_message, product}
-use Rattle.mx_top.specs.Runs.{Ran, ran, ran_wild, machine_ran, session_outcome, played, session_ran, order_ran, leaves_machine, after_lines, dumped, main_address, begun_at, stack_at_start, started, run_from, image_run}
+use Rattle.mx_top.specs.Product.{after_image, after_source, after_loading, after_object, object_slot, closed_object, written_object, assembled_outcome, object_put, after_opening, after_reading, generator_steps, summed, summed_from, generated_run, ordered, carried_out, message_told, with_message, product}
+use Rattle.mx_top.specs.Runs.{Ran, ran, ran_wild, machine_ran, session_outcome, played, order_ran, leaves_machine, after_lines, dumped, main_address, begun_at, stack_at_start, started, run_from, image_run}
 use Rattle.mx_top.specs.Source.{input_slot, piece_read, one_piece, next_piece, pieces, closed_with, closed_after, read_after, file_bytes}
 use Rattle.mx_top.specs.Sources.{source_meaning}
 use Rattle.mx_top.specs.Unbroken.{is_outcome_told, is_told, is_answer_told}

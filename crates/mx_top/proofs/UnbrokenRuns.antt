@@ -1,14 +1,13 @@
 -- A run without flags does not break, is not traced, and by its definition does not lack memory.
-use Rattle.std.proofs.Common.{◌≡◌, ℕ, zero, suc, Bool, true, false, cond, Option, None, Some, refl, ap, sym, ◌∙◌, ◌&&◌, ◌+◌, ◌/◌, nat_lt}
+use Rattle.std.proofs.Common.{◌≡◌, ℕ, zero, suc, Bool, true, false, cond, Option, None, Some, refl, ◌&&◌, ◌+◌, ◌/◌, nat_lt}
 use Rattle.mx_host.specs.HostModel.{HostModel}
 use Rattle.mx_core.specs.State.{State}
 use Rattle.mx_core.specs.declared.trace.Touch.{Touch}
 use Rattle.mx_core.specs.declared.trace.Trace.{Trace}
-use Rattle.mx_run.specs.Runs.{no_flags, Ended, break_of, read_break, write_break, flagged_in, after_trace, after_turn}
+use Rattle.mx_run.specs.Runs.{no_flags, break_of, flagged_in, after_trace, after_turn}
 use Rattle.mx_run.specs.Turns.{Turn, went_on, halts, stops, turn}
-use Rattle.mx_run.specs.WildRuns.{MachineKind, RunEnd, run_ended, run_wild, ends_wild, turn_by, run_by}
+use Rattle.mx_run.specs.WildRuns.{MachineKind, RunEnd, run_ended, ends_wild, turn_by, run_by}
 use Rattle.mx_run.specs.declared.end.BreakKind.{BreakKind}
-use Rattle.mx_run.specs.declared.end.End.{End}
 use Rattle.mx_run.specs.declared.end.End.TheVariants as ending
 use Rattle.mx_top.specs.Runs.{machine_ran, ran_to}
 use Rattle.mx_top.specs.Unbroken.{is_told}
