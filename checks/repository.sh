@@ -9,12 +9,12 @@ wrong() {
 
 [ "$(cat HANDLES)" = 'Handles allowed: none.' ] || wrong 'HANDLES does not hold its one line'
 
-# each crate is listed, and has wrong bodies that the prover refuses, but for the crates of whole runs, which are tests
+# each crate is listed, and has wrong bodies that the prover refuses, but for the crates of rows, which are tests
 for folder in crates/*/; do
   crate=$(basename "$folder")
   [ -d "$folder/src" ] || continue
   grep -q "^$crate[ :]" crates.txt || wrong "$crate is not in crates.txt"
-  case $crate in mx_rows | mx_runs | mx_outside) continue ;; esac
+  case $crate in mx_steps | mx_rows | mx_runs | mx_outside) continue ;; esac
   [ -n "$(ls "$folder/must-fail" 2>/dev/null)" ] || wrong "$crate has no must-fail edit"
 done
 

@@ -1,0 +1,23 @@
+//! A row for each of the 256 codes of the machine: what one step answers, and what it leaves. There is
+//! nothing but tests here. The values are worked out from the rules of MMIXware (LNCS 1750; the part
+//! on MMIX), and where these leave a choice, from those of `docs/MACHINE.md`.
+#![tactic(auto)]
+
+#[cfg(test)]
+mod bits;
+#[cfg(test)]
+mod branches;
+#[cfg(test)]
+mod events;
+#[cfg(test)]
+mod jumps;
+#[cfg(test)]
+mod memory;
+#[cfg(test)]
+mod numbers;
+#[cfg(test)]
+mod row;
+#[cfg(test)]
+mod specials;
+#[cfg(test)]
+mod stops;
