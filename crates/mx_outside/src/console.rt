@@ -85,6 +85,51 @@ fn sessions_show_and_change(rt: HostRuntime) -> Result<(), Fail> {
     Ok(())
 }
 
+/// An addition to $255 at #118 overflows and trips; rJ is 77.
+const TRIPPING: &str =
+    " LOC #20\n SWYM\n LOC #100\nMain SETL $1,#4000\n PUT rA,$1\n SETL $2,77\n PUT rJ,$2\n \
+     NEG $0,0,1\n SRU $0,$0,1\n ADD $255,$0,1";
+
+/// RESUME at #114 inserts ADDU $0,$0,1 as if it stood at #1fc.
+const INSERTING: &str =
+    " LOC #100\nMain SETL $2,1\n INCML $2,#2300\n PUT rX,$2\n SETL $3,#200\n PUT rW,$3\n RESUME 0\n \
+     LOC #1fc\n SWYM\n SET $255,$0\n TRAP 0,Halt,0";
+
+#[test]
+fn sessions_trace_trips_and_insertions(rt: HostRuntime) -> Result<(), Fail> {
+    let alloc = rt.alloc();
+    let cases: [(&str, &[u8], Due); 2] = [
+        // the trace has $255 as it is after the trip
+        (
+            TRIPPING,
+            b"bx#118\nc\nn\nq\n",
+            left(
+                b"mmix> mmix> break x #0000000000000118\nmmix> #0000000000000118 21ff0001 ADD $255,$0,1 $255=#000000000000004d -> #0000000000000020\nmmix> ",
+            ),
+        ),
+        // a break and the trace look at the address of RESUME, and not at that of what is inserted
+        (
+            INSERTING,
+            b"bx#1fc\nbx#114\nc\nn\nc\n",
+            done(
+                2,
+                b"mmix> mmix> mmix> break x #0000000000000114\nmmix> #0000000000000114 f9000000 RESUME 0 $0=#0000000000000002 -> #0000000000000200\nmmix> ",
+            ),
+        ),
+    ];
+    for (source, input, due) in cases {
+        let given = Given {
+            input,
+            ..file("a.mms", source.as_bytes())
+        };
+        assert!(rt;
+            comes_from(alloc, given, &["run", "-i", "a.mms"], due)?,
+            "{source}"
+        );
+    }
+    Ok(())
+}
+
 #[test]
 fn sessions_make_at_most_so_many_steps(rt: HostRuntime) -> Result<(), Fail> {
     let alloc = rt.alloc();

@@ -1,5 +1,6 @@
 //! Dumps.
 
+use crate::shown::holds;
 use mx_rows::{FIRST, comes_from, done, file, host};
 use std::alloc::Global;
 use std::test::Fail;
@@ -63,16 +64,6 @@ fn shows(alloc: Global, source: &str, line: &str) -> Result<bool, Fail> {
     let words = mx_rows::words(alloc, &["run", "--dump", "a.mms"])?;
     mx_top::mmixware(alloc, words.as_slice(), &mut host);
     Ok(holds(host.output(), line.as_bytes()))
-}
-
-/// Whether a part stands in a text.
-fn holds(text: &[u8], part: &[u8]) -> bool {
-    for at in 0..text.len() {
-        if text[at..].starts_with(part) {
-            return true;
-        }
-    }
-    false
 }
 
 #[test]

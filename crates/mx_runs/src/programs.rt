@@ -1,6 +1,7 @@
-//! Programs that run, each on a ring of 256 registers.
+//! Programs that run, most of them on each ring.
 
-use mx_rows::{Due, FIRST, Given, HELLO, comes_from, done, file, gives, refused, stopped};
+use crate::shown::{SIZES, gives};
+use mx_rows::{Due, FIRST, Given, HELLO, comes_from, done, file, refused, stopped};
 use mx_top::Outcome;
 use std::alloc::Global;
 use std::test::Fail;
@@ -62,7 +63,7 @@ fn globals_that_begin_to_be_local_are_lost(rt: HostRuntime) -> Result<(), Fail> 
 fn programs_stop(rt: HostRuntime) -> Result<(), Fail> {
     let alloc = rt.alloc();
     let cases: [(&str, Due); 12] = [
-        // bytes placed on one address are joined: the tetra at 0 is #98000000 less the bit of 2
+        // bytes placed at one address are joined: byte 0 is 2, and #02 is the code of FUN
         (
             "Main BYTE 1\n LOC 0\n BYTE 3\n TETRA #98000000",
             stopped(0, 110, b"#0000000000000000: 110 Float\n"),
@@ -130,7 +131,13 @@ const LINE: &str =
 const BYTES: &str =
     " LOC Data_Segment\n GREG @\nArgs OCTA Buf,8\nBuf OCTA 0\n LOC #100\nMain LDA $255,Args\n TRAP 0,Fread,StdIn\n TRAP 0,Halt,0";
 
-/// Whether a source with an input and failing calls ends with a status.
+/// Reads a line, and then one byte of what is left.
+const REST: &str =
+    " LOC Data_Segment\n GREG @\nArgs OCTA Buf,8\nOne OCTA Buf,1\nBuf OCTA 0\n LOC #100\n\
+     Main LDA $255,Args\n TRAP 0,Fgets,StdIn\n LDA $255,One\n TRAP 0,Fread,StdIn\n LDBU $255,Buf\n \
+     TRAP 0,Halt,0";
+
+/// Whether a source with an input and failing calls ends with a status on each ring.
 fn reads(
     alloc: Global,
     source: &str,
@@ -144,7 +151,12 @@ fn reads(
         input,
         failing,
     };
-    comes_from(alloc, given, &["run", "a.mms"], done(status, b""))
+    let mut is_due = true;
+    for ring in SIZES {
+        let words = &["run", "--ring", ring, "a.mms"];
+        is_due = is_due && comes_from(alloc, given, words, done(status, b""))?;
+    }
+    Ok(is_due)
 }
 
 #[test]
@@ -165,6 +177,8 @@ fn programs_read(rt: HostRuntime) -> Result<(), Fail> {
     for (input, failing, status) in blocks {
         assert!(rt; reads(alloc, BYTES, input, failing, status)?);
     }
+    // with a buffer of eight bytes Fgets leaves the h
+    assert!(rt; reads(alloc, REST, b"abcdefgh", &[], 104)?);
     // standard output is no file that can be told or sought in
     let told = "Main TRAP 0,Ftell,StdOut\n TRAP 0,Halt,0";
     let sought = "Main TRAP 0,Fseek,StdOut\n TRAP 0,Halt,0";
@@ -214,11 +228,14 @@ fn steps_are_bounded(rt: HostRuntime) -> Result<(), Fail> {
     };
     let around = "Main SWYM\n2H JMP 2F\n2H JMP 2B";
     let long = file("a.mms", around.as_bytes());
-    assert!(rt; comes_from(alloc, long, &["run", "--steps", "10", "a.mms"], spent)?);
     // Halt is the last step that is allowed
     let short = file("a.mms", b"Main TRAP 0,Halt,0");
-    let words = &["run", "--steps", "1", "a.mms"];
-    assert!(rt; comes_from(alloc, short, words, done(0, b""))?);
+    for ring in SIZES {
+        let ten = &["run", "--ring", ring, "--steps", "10", "a.mms"];
+        assert!(rt; comes_from(alloc, long, ten, spent)?, "{ring}");
+        let one = &["run", "--ring", ring, "--steps", "1", "a.mms"];
+        assert!(rt; comes_from(alloc, short, one, done(0, b""))?, "{ring}");
+    }
     Ok(())
 }
 
