@@ -1,26 +1,15 @@
-//! Whole runs of the program over a host in memory: programs, the ring of registers, dumps, and the corners
-//! of the machine. Each row says what it shows; there is nothing but tests here.
+//! Whole runs of the program over a host in memory: programs, the ring of registers, dumps. Each row
+//! says what it shows; there is nothing but tests here, and how a row of a dump is written.
 #![tactic(auto)]
 
 #[cfg(test)]
-mod addresses;
-#[cfg(test)]
 mod dumps;
-#[cfg(test)]
-mod full;
-#[cfg(test)]
-mod inserted;
-#[cfg(test)]
-mod jumps;
 #[cfg(test)]
 mod programs;
 #[cfg(test)]
 mod rings;
-#[cfg(test)]
 mod shown;
 #[cfg(test)]
-mod stack;
-#[cfg(test)]
-mod trips;
-#[cfg(test)]
 mod worked;
+
+pub use shown::{End, Row, SIZES, gives, holds, holds_all, shows, shows_on};

@@ -1,7 +1,7 @@
 //! Negative addresses.
 
-use crate::shown::End::{Done, Stop};
-use crate::shown::{Row, shows, shows_on};
+use mx_runs::End::{Done, Stop};
+use mx_runs::{Row, shows};
 use std::test::Fail;
 
 /// What loads and stores, with its first operand.

@@ -1,7 +1,7 @@
 //! Trips and their handlers, and what overflows.
 
-use crate::shown::End::{Done, Stop};
-use crate::shown::{Row, shows, shows_on};
+use mx_runs::End::{Done, Stop};
+use mx_runs::{Row, shows};
 use std::test::Fail;
 
 static TRIPS_TELL_WHAT_HAPPENED: [Row; 6] = [

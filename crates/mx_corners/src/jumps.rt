@@ -1,7 +1,7 @@
 //! Jumps and destinations: where they go, and what they leave.
 
-use crate::shown::End::{Done, Stop};
-use crate::shown::{Row, shows, shows_on};
+use mx_runs::End::{Done, Stop};
+use mx_runs::{Row, shows, shows_on};
 use std::test::Fail;
 
 /// Hides 251 registers, and then loads the first octa of the stack area into $4.

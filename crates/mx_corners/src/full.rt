@@ -1,7 +1,7 @@
 //! What happens where no register, no octa of the stack and no page is left.
 
-use crate::shown::End::{Done, Stop};
-use crate::shown::{Row, shows, shows_on};
+use mx_runs::End::{Done, Stop};
+use mx_runs::{Row, shows, shows_on};
 use std::test::Fail;
 
 /// Hides 2^20 octas; the next instruction stands at #110.

@@ -1,7 +1,7 @@
 //! RESUME that inserts an instruction.
 
-use crate::shown::End::{Done, Stop};
-use crate::shown::{Row, shows, shows_on};
+use mx_runs::End::{Done, Stop};
+use mx_runs::{Row, shows};
 use std::test::Fail;
 
 /// The first and the last codes for which RESUME takes no operands from rY and rZ.

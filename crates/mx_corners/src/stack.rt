@@ -1,7 +1,7 @@
 //! Calls, results, and frames that a program forged.
 
-use crate::shown::End::{Done, Stop};
-use crate::shown::{Row, shows, shows_on};
+use mx_runs::End::{Done, Stop};
+use mx_runs::{Row, shows};
 use std::test::Fail;
 
 static CALLS_AND_RESULTS: [Row; 7] = [
