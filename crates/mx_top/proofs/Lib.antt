@@ -1,6 +1,5 @@
 pub mod Counting
 pub mod Dumped
-pub mod DumpLaws
 pub mod DumpLines
 pub mod Dumps
 pub mod Generated
@@ -14,7 +13,6 @@ pub mod PutPieces
 pub mod QuietFiles
 pub mod ReadPieces
 pub mod SameDumps
-pub mod SameRings
 pub mod SessionRuns
 pub mod Sources
 pub mod StartedMachines
@@ -22,19 +20,3 @@ pub mod Summed
 pub mod TakenLines
 pub mod Told
 pub mod SourceImages
-pub mod SteadyFiles
-pub mod IdleFiles
-pub mod WholeFiles
-pub mod JoinedWrites
-pub mod SteadyProduct
-pub mod DetourRuns
-pub mod DetourImages
-pub mod UnbrokenRuns
-pub mod ToldPrograms
-pub mod ToldTraps
-pub mod Completed
-pub mod KeptSlots
-pub mod KeptSessions
-pub mod CompletedFiles
-pub mod LowBytes
-pub mod SparedPrograms

@@ -14,8 +14,3 @@ pub mod Objects
 pub mod Runs
 pub mod Product
 pub mod Sources
-pub mod Detour
-pub mod Rings
-pub mod Unbroken
-pub mod Complete
-pub mod Called

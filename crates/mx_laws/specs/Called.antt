@@ -1,0 +1,20 @@
+-- A call of the program over a host that tells its contents, and a call in which no call of the host fails.
+use Rattle.std.specs.Prelude.{IsTrue, List, Option}
+use Rattle.mx_host.specs.HostModel.{HostModel, tells}
+use Rattle.mx_trap.specs.Counts.{NoneFailed}
+use Rattle.mx_run.specs.WildRuns.{MachineKind, window_machine}
+use Rattle.mx_top.specs.Answers.{AnswersAs}
+use Rattle.mx_top.specs.Arguments.{Word}
+use Rattle.mx_laws.specs.Detour.{host_of}
+use Rattle.mx_top.specs.Product.{product}
+use Rattle.mx_top.specs.declared.outcome.Outcome.{Outcome}
+
+-- None of the calls of the host that the program makes by these words fails: the list has none of their numbers.
+abbrev pub NoCallFails : MachineKind → List Word → HostModel → Type 0
+NoCallFails kind words m = NoneFailed m (host_of (product kind words m))
+
+-- The program was called with these words over a host that tells its contents, `old` before the call and `new` after it,
+-- and it answered this. The clause `product` of the top call says so of each call.
+pub record IsCalled (words : List Word) (old new : Option HostModel) (result : Outcome) : Type 0 where
+  pub telling : IsTrue (tells old)
+  pub answers : AnswersAs old new result (λ m. product window_machine words m)

@@ -1,0 +1,5 @@
+pub mod Called
+pub mod Complete
+pub mod Detour
+pub mod Rings
+pub mod Unbroken

@@ -1,5 +1,0 @@
-use Rattle.mx_top.proofs.SourceImages.{source-is}
-use Rattle.mx_top.proofs.image_laws.sources_are_loaded_as_they_mean.Goals as goal
-
-pub returns : goal.returns
-returns c = source-is
