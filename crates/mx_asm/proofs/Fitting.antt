@@ -1,5 +1,5 @@
 -- Lists of items that fit.
-use Rattle.std.proofs.Common.{◌≢◌, ◌<◌, ◌≤◌, ℕ, ◌+◌, ◌^◌, List, [], ◌∷◌, ◌++◌, length, length-append, ◌-◌, Some, ap, ◌∙◌, subst, arith}
+use Rattle.std.proofs.Common.{◌≢◌, ◌<◌, ◌≤◌, ℕ, ◌+◌, ◌^◌, List, [], ◌∷◌, ◌++◌, length, length-append, ◌-◌, Some, ap, ◌∙◌, arith}
 use Rattle.std.specs.Prelude.{codes}
 use Rattle.mx_stab.proofs.Orders.{all-front, all-both}
 use Rattle.mx_word.specs.Ranges.{AreOctas}
@@ -7,7 +7,6 @@ use Rattle.mx_mmo.specs.declared.items.Item.{Item}
 use Rattle.mx_mmo.specs.declared.items.Item.TheVariants.{File, Pre, Post}
 use Rattle.mx_mmo.specs.Valid.{Fits}
 use Rattle.mx_asm.specs.Fitting.{AreFit}
-use Rattle.mx_asm.specs.Fronts.{IsFront}
 
 pub fit-none : AreFit []
 unfolding AreFit
@@ -27,9 +26,6 @@ fit-push xs i h g = fit-both xs (i ∷ []) h (fit-one i g)
 pub fit-front : (xs ys : List Item) → AreFit (xs ++ ys) → AreFit xs
 unfolding AreFit
 fit-front xs ys h = all-front Fits xs ys h
-
-pub fit-is-front : (xs whole : List Item) → IsFront xs whole → AreFit whole → AreFit xs
-fit-is-front xs whole front h = fit-front xs front.0 (subst AreFit front.1 h)
 
 pub octas-push : (xs : List ℕ) (x : ℕ) → AreOctas xs → x < 2 ^ 64 → AreOctas (xs ++ x ∷ [])
 octas-push xs x h g = all-both (λ x. x < 2 ^ 64) xs (x ∷ []) h (g, tt)

@@ -69,10 +69,6 @@ items-given h line p (w ∷ waits) none = on (fixes line (awaited_value p.label)
     on (Err refused) none = absurd (cc)
     on (Ok fixed) none = refl
 
-sight-head-is : (s : State) (earlier : List Sight) (t : Sight) (r : Answer Placed) → head_of (behind_sight s earlier t r) ≡ sight_head (head_of s) earlier t r
-sight-head-is s earlier t (Err fault) = refl
-sight-head-is s earlier t (Ok p) = placed-head s t.statement.line p (waiting_at earlier t)
-
 -- the laying of a statement
 pub laid : (t : Sight) (p : Placed) → outline t ≡ Ok p → IsLaid p
 laid t p e = encoding-laid no_targets t.known t.statement p e

@@ -115,10 +115,6 @@ lines-of-sights final (t ∷ later) earlier s none steady =
 abbrev pub IsOn : List (ℕ × ℕ) → Wait → Type 0
 IsOn ps w = (bytes : List ℕ) → length bytes ≡ kind_size w.kind → AreMore (pages_of ps) (pages_of (from_place w.at bytes))
 
-or-left : (s t : Bool) → s ≡ true → (s || t) ≡ true
-or-left true t h = refl
-or-left false t h = absurd (cc)
-
 or-right : (s t : Bool) → t ≡ true → (s || t) ≡ true
 or-right true t h = refl
 or-right false t h = h

@@ -217,9 +217,6 @@ pub source-weights : (source : List ℕ) → AreBytes source → weights (statem
 source-weights source h =
     omega (arith, items-weight (lines_of source) 1 (lines_of source) (source-bytes source h), (lines-room source).most)
 
-pub lines-weights : (source : List ℕ) → AreBytes source → weights (statements_in (lines_entries (lines_of source))) ≤ 15 * (length source + 1)
-lines-weights source h = source-weights source h
-
 -- Where nothing is refused, no line is too far.
 later-none : (a b : List Item) → refusal_in (entries_of (before a b)) ≡ None → refusal_in (entries_of b) ≡ None
 later-none [] b h = h

@@ -1,11 +1,11 @@
 -- How many bytes items are written as.
-use Rattle.std.proofs.Common.{◌≡◌, ◌<◌, ◌≤◌, ℕ, ◌+◌, ◌-◌, ◌*◌, ◌/◌, ◌%◌, ◌^◌, Bool, true, false, cond, List, [], ◌∷◌, ◌++◌, length, replicate, map, arith, refl, ap, ◌∙◌, length-append, append-nil}
+use Rattle.std.proofs.Common.{◌≡◌, ◌<◌, ◌≤◌, ℕ, ◌+◌, ◌-◌, ◌*◌, ◌/◌, ◌%◌, ◌^◌, Bool, true, false, cond, List, [], ◌∷◌, ◌++◌, length, replicate, map, arith, ap, ◌∙◌, length-append, append-nil}
 use Rattle.std.specs.Prelude.{◌==◌}
 use Rattle.std.proofs.lemmas.Grind.{flat_map-append}
 use Rattle.std.proofs.lemmas.List.Concat.{flat_map-cons}
 use Rattle.mx_word.specs.Words.{tetra_to_bytes, octa_to_bytes, tetra_from_bytes}
 use Rattle.mx_mmo.specs.Reading.{tetras_of}
-use Rattle.mx_mmo.specs.Tetras.{lop, wide_lop, address}
+use Rattle.mx_mmo.specs.Tetras.{lop, address}
 use Rattle.mx_mmo.specs.declared.items.Item.{Item}
 use Rattle.mx_mmo.specs.declared.items.Item.TheVariants.{Load}
 use Rattle.mx_mmo.specs.Spelling.{loaded, bytes_of, written}
@@ -29,9 +29,6 @@ address-by false code a = omega arith
 
 pub address-most : (code a : ℕ) → length (address code a) ≤ 12
 address-most code a = address-by (a / 2 ^ 32 % 2 ^ 24 == 0) code a
-
-pub wide-length : (code n : ℕ) → length (wide_lop code n) ≡ 4
-wide-length code n = refl
 
 -- ---- tetras that are loaded
 

@@ -20,7 +20,7 @@ use Rattle.mx_con.specs.HostLines.{line_write, lines_write}
 use Rattle.mx_con.specs.Session.{Console, Progress, Done, on, over, wild, and_then, with_run, with_host, steps_left, line_done, after_turn, stepped, goes, end_answer, end_done, after_run, one_run, run_on, runs}
 use Rattle.mx_con.specs.declared.end.SessionEnd.{SessionEnd}
 use Rattle.mx_con.specs.declared.end.SessionEnd.TheVariants.{Spent}
-use Rattle.mx_con.proofs.Besides.{Beside, as_list, Follows, follows, goes-listed, line-beside, beside-done, beside-over}
+use Rattle.mx_con.proofs.Besides.{Beside, Follows, follows, goes-listed, line-beside, beside-done, beside-over}
 use Rattle.mx_con.proofs.QuietTraces.{TurnOutside, turn-outside, EndOutside, RunOutside, run-outside}
 use Rattle.mx_con.proofs.SameTexts.{same-trace}
 use Rattle.mx_con.proofs.StepLaws.{turn-at, answer-host, end-front, end_done-at}
@@ -157,9 +157,6 @@ runs-follow : (whole : Done) (k i steps : ℕ) (pass : Bool) (c : Console) (p : 
     RunsFrom whole k i steps pass c → Follows whole (next-runs k i steps) p
 runs-follow whole k i steps pass c p l g f b =
     follows whole _ (next-runs k i steps) (one_run list_machine steps pass (as_list_console c)) p c (runs-next k i steps pass (as_list_console c) l) g f b
-
-pub runs-begun : (k steps : ℕ) (pass : Bool) (c : Console) → c.state.touched ≡ false → RunsFrom (runs list_machine k steps pass (as_list_console c)) k 0 steps pass c
-runs-begun k steps pass c u = let all : k - 0 ≡ k = omega arith in as_list u (rw all refl)
 
 pub runs-went : (whole : Done) (k i steps : ℕ) (pass : Bool) (c d : Console) → i < k → RunListed steps pass c (on true d) → IsFront c.host.output d.host.output →
     RunsFrom whole k i steps pass c → RunsFrom whole k (i + 1) steps false d

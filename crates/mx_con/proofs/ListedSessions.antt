@@ -17,7 +17,7 @@ use Rattle.mx_cmd.specs.declared.command.Command.TheVariants as command
 use Rattle.mx_con.specs.declared.end.SessionEnd.{SessionEnd}
 use Rattle.mx_con.specs.declared.end.SessionEnd.TheVariants.{Limit, Quit}
 use Rattle.mx_con.specs.declared.judgement.Bad.TheVariants.{UnknownCommand}
-use Rattle.mx_con.proofs.Besides.{Beside, as_list, Follows, follows, line-beside, beside-over}
+use Rattle.mx_con.proofs.Besides.{Beside, Follows, follows, line-beside, beside-over}
 use Rattle.mx_con.proofs.ListedReplies.{answered-beside}
 use Rattle.mx_con.proofs.ListedRuns.{stepped-beside}
 
@@ -105,9 +105,6 @@ lines-follow : (whole : Done) (k i steps : ℕ) (c : Console) (p : Done) → i <
     LinesFrom whole k i steps c → Follows whole (next-lines k i steps) p
 lines-follow whole k i steps c p l g f b =
     follows whole _ (next-lines k i steps) (one_line list_machine steps (as_list_console c)) p c (lines-next k i steps (as_list_console c) l) g f b
-
-pub lines-begun : (k steps : ℕ) (c : Console) → c.state.touched ≡ false → LinesFrom (session_lines k list_machine steps (as_list_console c)) k 0 steps c
-lines-begun k steps c u = let all : k - 0 ≡ k = omega arith in as_list u (rw all refl)
 
 pub lines-went : (whole : Done) (k i steps : ℕ) (c d : Console) → i < k → LineListed steps c (on tt d) → IsFront c.host.output d.host.output →
     LinesFrom whole k i steps c → LinesFrom whole k (i + 1) steps d

@@ -23,7 +23,7 @@ use Rattle.mx_con.specs.Clauses.{output_of, progress}
 use Rattle.mx_con.specs.ConsoleTexts.{trace_text, break_text}
 use Rattle.mx_con.specs.HostLines.{Written, line_write, lines_write, after_write}
 use Rattle.mx_con.specs.Session.{Console, Progress, Done, on, over, wild, and_then, with_run, with_host, write_done, line_done, steps_left, after_turn, stepped, goes, break_lines, end_answer, end_done, one_run, run_on, runs}
-use Rattle.mx_con.proofs.Outputs.{lines-at, lines-front, text-front, line_done-at, done-at}
+use Rattle.mx_con.proofs.Outputs.{lines-at, lines-front, text-front, line_done-at}
 
 -- ---- ONE STEP
 

@@ -1,5 +1,5 @@
 -- What lines show and change: registers, special registers and octas of memory, with their texts and values.
-use Rattle.std.specs.Prelude.{ℕ, ◌*◌, ◌/◌, ◌==◌, ◌<◌, ◌^◌, Bool, false, if◌then◌else◌, List, [], ◌++◌, codes, decimal, Option, None, Some, unwrap_or, Result}
+use Rattle.std.specs.Prelude.{ℕ, ◌*◌, ◌/◌, ◌==◌, ◌<◌, ◌^◌, Bool, false, if◌then◌else◌, List, ◌++◌, codes, decimal, Option, None, Some, unwrap_or, Result}
 use Rattle.mx_ring.specs.Stack.{register}
 use Rattle.mx_spec.specs.SpecialRegisters.{rS}
 use Rattle.mx_text.specs.Numbers.{hex_text, shown_text}

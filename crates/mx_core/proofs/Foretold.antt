@@ -1,5 +1,5 @@
 -- A sight that is told before a deed is the deed's own.
-use Rattle.std.proofs.Common.{◌≡◌, ◌<◌, ℕ, ◌==◌, ◌&&◌, not, Bool, true, false, cond, if◌then◌else◌, Option, None, Some, refl, sym, subst, ap, ◌∙◌, arith}
+use Rattle.std.proofs.Common.{◌≡◌, ◌<◌, ℕ, ◌==◌, ◌&&◌, Bool, true, false, cond, if◌then◌else◌, Option, None, Some, refl, sym, subst, ap, ◌∙◌, arith}
 use Rattle.std.specs.Option.{option_map, is_some}
 use Rattle.mx_mem.specs.Parts.{with_part}
 use Rattle.mx_mem.specs.declared.part.Part.TheVariants.{Octa}
@@ -8,23 +8,20 @@ use Rattle.mx_ring.specs.Stack.{Stack, listed, windowed, visible, register, with
 use Rattle.mx_ring.proofs.Values.{with_value-bounds}
 use Rattle.mx_spec.specs.SpecialRegisters.{rP}
 use Rattle.mx_trip.specs.declared.insertion.Kind.TheVariants.{Set}
-use Rattle.mx_core.specs.Deeds.{Deed, deed_of, plain_deed, inserted, resumed, performed, applied, state_done}
-use Rattle.mx_core.specs.Effects.{effect_of, data_address, x_register, touch, going_to}
-use Rattle.mx_core.specs.Instructions.{Instruction, instruction, x_of, xyz_of}
+use Rattle.mx_core.specs.Deeds.{Deed, deed_of, performed, applied, state_done}
+use Rattle.mx_core.specs.Effects.{effect_of, data_address, x_register, touch}
+use Rattle.mx_core.specs.Instructions.{Instruction, instruction, x_of}
 use Rattle.mx_core.specs.Kept.{Kept, state_of}
 use Rattle.mx_core.specs.State.{State, octa, with_octa, with_local, with_value_in, special_register}
 use Rattle.mx_core.specs.Step.{store_touch}
 use Rattle.mx_core.specs.Stepping.{Foretells, exchange_sight, is_exchange, is_swap, sight_of, told_write}
 use Rattle.mx_core.specs.declared.operation.Operation.{Operation}
 use Rattle.mx_core.specs.declared.operation.Operation.TheVariants as op
-use Rattle.mx_core.specs.declared.reason.Reason.{Reason}
-use Rattle.mx_core.specs.declared.reason.Reason.TheVariants.{Illegal}
 use Rattle.mx_core.specs.declared.sight.Sight.{Sight}
 use Rattle.mx_core.specs.declared.trace.Touch.{Touch}
 use Rattle.mx_core.proofs.Choices.{chosen}
 use Rattle.mx_core.proofs.Locals.{own-register, shown-set}
 use Rattle.mx_core.proofs.Outcomes.{address_kept}
-use Rattle.mx_core.proofs.Resumes.{insertion_in}
 use Rattle.mx_core.proofs.Swaps.{exchange_effect, leave_effect}
 
 -- WITHOUT AN EXCHANGE
@@ -114,14 +111,3 @@ no_sight dest = record { dest = dest; reads = None; writes = None }
 
 pub set_foretold : (s : State) (at word : ℕ) → Foretells s (performed Set s at word) (no_sight (Some (x_of (instruction at word))))
 set_foretold s at word = λ n. refl
-
-pub going_foretold : (s : State) (i : Instruction) (a : ℕ) (refused : Option Reason) → Foretells s (plain_deed s i None (going_to i a) refused) (no_sight None)
-going_foretold s i a refused = λ n. refl
-
--- RESUME is refused, or does what it inserts
-pub resume_foretold : (s : State) (i : Instruction) (g : Sight) → Foretells s (inserted s i (insertion_in s)) g → Foretells s (resumed s i) g
-resume_foretold s i g h = by (not (xyz_of i == 0))
-  where
-    by : (b : Bool) → Foretells s (cond b (plain_deed s i None (going_to i i.at) (Some Illegal)) (inserted s i (insertion_in s))) g
-    by true = λ n. absurd (cc)
-    by false = h

@@ -33,9 +33,6 @@ octa-below : (v : ℤ) → octa v < 2 ^ 64
 octa-below (pos n) = omega arith
 octa-below (negsuc n) = omega arith
 
-below-half : (b n x : ℕ) → n < b → x < 2 ^ 64 → b ≤ 2 ^ 64 → n < 2 ^ 64
-below-half b n x f g h = omega arith
-
 -- a quotient by more than its high half is an octa
 quotient-below : (d y z : ℕ) → d < z → y < 2 ^ 64 → (2 ^ 64 * d + y) / z < 2 ^ 64
 quotient-below d y z f g = (div-lt_iff_lt-mul (omega arith)).1 (omega arith)

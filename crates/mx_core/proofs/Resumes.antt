@@ -1,5 +1,5 @@
 -- What RESUME 0 comes to.
-use Rattle.std.proofs.Common.{◌≡◌, ◌≢◌, ℕ, ◌==◌, true, false, not, Ok, Err, refl, ap, length, arith}
+use Rattle.std.proofs.Common.{◌≡◌, ℕ, ◌==◌, false, not, Ok, refl, ap, length, arith}
 use Rattle.std.proofs.lemmas.Bool.Decides.{nat_tests}
 use Rattle.mx_ring.specs.Stack.{Stack, visible, set_overfills}
 use Rattle.mx_ring.specs.Registers as registers
@@ -11,21 +11,10 @@ use Rattle.mx_trip.specs.declared.insertion.Kind.TheVariants.{Set}
 use Rattle.mx_core.specs.Deeds.{applied, onward, outcome, resumed, inserted, performed}
 use Rattle.mx_core.specs.Instructions.{Instruction, instruction, x_of, xyz_of, next_of}
 use Rattle.mx_core.specs.State.{State, special_register, with_value_in, global_start, locals}
-use Rattle.mx_core.specs.declared.reason.Reason.TheVariants.{Illegal}
 use Rattle.mx_core.proofs.Others.{unseen}
 
 abbrev pub insertion_in : State → Insert
 insertion_in s = insertion (special_register s rX) (special_register s rW) (locals s) (global_start s)
-
-pub resume_bad : (s : State) (i : Instruction) (xyz : ℕ) → xyz ≡ xyz_of i → xyz ≢ 0 → outcome s (resumed s i) ≡ Err Illegal
-resume_bad s i xyz e n =
-    let form : not (xyz_of i == 0) ≡ true = grind (arith, nat_tests) in
-    rw form refl
-
-pub resumed_as : (s : State) (i : Instruction) (xyz : ℕ) (t : Insert) → xyz ≡ xyz_of i → xyz ≡ 0 → t ≡ insertion_in s → resumed s i ≡ inserted s i t
-resumed_as s i xyz t e z f =
-    let form : not (xyz_of i == 0) ≡ false = grind (arith, nat_tests) in
-    rw (form, f) refl
 
 pub resume_as : (s : State) (i : Instruction) (xyz : ℕ) (t : Insert) → xyz ≡ xyz_of i → xyz ≡ 0 → t ≡ insertion_in s → outcome s (resumed s i) ≡ outcome s (inserted s i t)
 resume_as s i xyz t e z f =

@@ -4,17 +4,10 @@ use Rattle.mx_ring.specs.Stack.{Stack, listed, windowed, as_listed, visible, hid
 use Rattle.mx_ring.specs.Window.{as_list}
 use Rattle.mx_spec.specs.SpecialRegisters.{rC, rO, rS}
 use Rattle.mx_core.specs.State.{State, special_register, octa}
-use Rattle.mx_core.specs.Bounds.{as_list_state}
 
 -- a state with this register stack
 abbrev pub over : State → Stack → State
 over s z = record s { stack = z }
-
-pub own-stack : (s : State) → over s s.stack ≡ s
-own-stack s = refl
-
-pub as-list-over : (s : State) (z : Stack) → as_list_state (over s z) ≡ over s (as_listed z)
-as-list-over s z = refl
 
 pub same-visible : (z : Stack) → visible (as_listed z) ≡ visible z
 unfolding as_list

@@ -1,5 +1,5 @@
 -- What operations do to memory.
-use Rattle.std.proofs.Common.{◌≡◌, ◌≢◌, ℕ, ◌==◌, Bool, true, false, Option, None, Some, refl, ap, ◌∙◌}
+use Rattle.std.proofs.Common.{◌≡◌, ℕ, ◌==◌, Bool, true, false, Option, None, Some, refl, ap, ◌∙◌}
 use Rattle.std.specs.Option.{option_map}
 use Rattle.mx_alu.specs.declared.answer.Event.{Event}
 use Rattle.mx_spec.specs.SpecialRegisters.{rA, rG, rL}
@@ -14,7 +14,7 @@ use Rattle.mx_core.specs.Effects.{Effect, Store, effect_of, with_event, with_dec
 use Rattle.mx_core.specs.Instructions.{Instruction, x_of}
 use Rattle.mx_core.specs.State.{State, special_register, global_start, locals}
 use Rattle.mx_core.specs.Step.{store_touch}
-use Rattle.mx_core.specs.Stepping.{sight_of, moves_memory, is_swap}
+use Rattle.mx_core.specs.Stepping.{sight_of, moves_memory}
 use Rattle.mx_core.specs.declared.operation.Loading.{Loading}
 use Rattle.mx_core.specs.declared.operation.Storing.{Storing}
 use Rattle.mx_core.specs.declared.operation.Operation.{Operation}
@@ -77,10 +77,3 @@ unfolding effect_of sight-with
 store_sight how s i =
     let q = event-moves s _ _ _ _ in
     ap (λ l. sight-with None l (effect_of (op.Store how) s i).store) q.0 ∙ ap (λ st. sight-with None None st) q.1
-
--- what neither loads nor stores nor exchanges
-pub moves-not : (o : Operation) → ((how : Loading) → o ≢ op.Load how) → ((how : Storing) → o ≢ op.Store how) → is_swap o ≡ false → moves_memory o ≡ false
-moves-not (op.Load how) a b e = absurd (a how refl)
-moves-not (op.Store how) a b e = absurd (b how refl)
-moves-not op.CompareAndSwap a b e = absurd (cc)
-moves-not o a b e = refl

@@ -1,12 +1,12 @@
 -- One step, by what its instruction comes to.
-use Rattle.std.proofs.Common.{◌≡◌, ◌≢◌, ◌<◌, ◌≤◌, ℕ, ◌^◌, ◌||◌, Bool, true, false, IsTrue, nat_le, Option, None, Some, Ok, Err, refl, sym, subst, ap, ◌∙◌, arith}
+use Rattle.std.proofs.Common.{◌≡◌, ◌≢◌, ◌<◌, ◌≤◌, ℕ, ◌^◌, ◌||◌, Bool, true, false, Option, None, Some, Ok, Err, refl, sym, subst, ap, ◌∙◌, arith}
 use Rattle.std.proofs.lemmas.Bool.Decides.{nat_tests}
 use Rattle.mx_core.specs.Calls.{Left, left, with_touch_where}
 use Rattle.mx_core.specs.Deeds.{deed_for, deed_at, Deed, deed_of, outcome, state_done, unless_refused}
 use Rattle.mx_core.specs.Instructions.{Instruction, operation_in}
 use Rattle.mx_core.specs.State.{State, is_negative, is_in_stack_segment}
 use Rattle.mx_core.specs.Step.{went, stopped, calls, fetched, after, trace_of, completed, carried_out, made, call_of, step}
-use Rattle.mx_core.specs.Stepping.{sight_of, Foretells, write_told, needs_page, step_needs_page}
+use Rattle.mx_core.specs.Stepping.{sight_of, Foretells, write_told}
 use Rattle.mx_core.specs.declared.sight.Sight.{Sight}
 use Rattle.mx_core.specs.declared.trace.Touch.{Touch}
 use Rattle.mx_core.specs.declared.trace.Trace.{Trace}
@@ -74,9 +74,6 @@ step_stopped s t reason l n e =
     let err = done-err s t d.refused (state_done s d) reason e in
     (step-is s l n ∙ ap (completed s d) err.0, err.1)
 
-pub segment-of : (a : ℕ) → a < 2 ^ 63 → is_in_stack_segment a ≡ nat_le 0x6000_0000_0000_0000 a
-segment-of a l = grind (arith, nat_tests)
-
 -- a step that is made
 pub went_as : (s t u : State) (i : Instruction) (looks : Bool) → i ≡ fetched s → s.pc < 2 ^ 63 → operation_in i ≢ op.Trap → (Ok tt, t) ≡ left s (outcome s (deed_at s i)) → looks ≡ is_in_stack_segment i.at → u ≡ with_touch_where t looks →
     step s ≡ went u (trace_of s (deed_at s (fetched s)))
@@ -121,9 +118,3 @@ trace_told s t u i g looks w n f e h k told written next =
     ∙ ap (λ m. trace_by (fetched s) (sight_of d) m) (next ∙ ap (λ (x : State). x.pc) later.1)
 
 -- OUT OF MEMORY
-
-pub page_needed : (s : State) (i : Instruction) → i ≡ fetched s → s.pc < 2 ^ 63 → IsTrue (needs_page s (deed_at s i)) → IsTrue (step_needs_page s)
-page_needed s i f l h =
-    let positive : is_negative s.pc ≡ false = grind (arith, nat_tests) in
-    let told : needs_page s (deed_at s (fetched s)) ≡ true = subst (λ (j : Instruction). needs_page s (deed_at s j) ≡ true) f h in
-    rw (positive, told) refl

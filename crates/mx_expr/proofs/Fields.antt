@@ -9,7 +9,7 @@ use Rattle.mx_expr.specs.declared.tree.BinOp.TheVariants.{Div}
 use Rattle.mx_expr.specs.Tree.{Tree, number}
 use Rattle.mx_expr.specs.Bytes.{is_no_quote}
 use Rattle.mx_expr.specs.Reading as reading
-use Rattle.mx_expr.specs.Reading.{with_strong, Waiting, sign, strong, weak, parenthesis, Mode, operand, slash, closed, State, Read, with_weak, and_then, field_end, reading_end, start, listed, next_operand}
+use Rattle.mx_expr.specs.Reading.{with_strong, Waiting, sign, strong, weak, parenthesis, Mode, operand, slash, closed, State, with_weak, and_then, field_end, reading_end, start, listed, next_operand}
 use Rattle.mx_expr.specs.Spelling.{StrongOperator, Product, Sum, Operand, Operands, Spells, Before}
 use Rattle.mx_expr.specs.Spelling.StrongOperator.{mul, div, fraction, rem, left, right, and}
 use Rattle.mx_expr.specs.Spelling.Product.{primary, times}

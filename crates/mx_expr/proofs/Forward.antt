@@ -10,7 +10,7 @@ use Rattle.mx_expr.specs.declared.tree.BinOp.TheVariants.{Div}
 use Rattle.mx_expr.specs.Tree.{Tree, number, name, back, ahead, here}
 use Rattle.mx_expr.specs.Bytes.{is_digit, is_hexadecimal, is_letter, is_name_byte, digit_value}
 use Rattle.mx_expr.specs.Reading as reading
-use Rattle.mx_expr.specs.Reading.{Waiting, sign, strong, weak, parenthesis, Mode, operand, whole, slash, State, Read, with_strong, with_weak, next_reading, primary_end, after, and_then, field_end, start}
+use Rattle.mx_expr.specs.Reading.{Waiting, sign, strong, weak, parenthesis, Mode, operand, whole, slash, with_strong, with_weak, primary_end, and_then}
 use Rattle.mx_expr.specs.Spelling.{digits_value, Constant, Sign, StrongOperator, WeakOperator, Primary, Product, Sum}
 use Rattle.mx_expr.specs.Spelling.Constant.{decimal as decimal_digits, hexadecimal as hexadecimal_digits}
 use Rattle.mx_expr.specs.Spelling.Sign.{plus, minus, not, register}

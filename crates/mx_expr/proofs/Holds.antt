@@ -101,9 +101,6 @@ abbrev pub Good : Read → List ℕ → Type 0
 Good (Err f) front = f ≡ Syntax
 Good (Ok s) front = Holds s front
 
-is-byte : (b c : ℕ) → (b == c) ≡ true → c ≡ b
-is-byte b c h = sym (eqb-true b c h)
-
 -- operands, and the text of the last one
 pub record Place (front : List ℕ) (text part : List ℕ) (es : List Tree) : Type 0 where
   pub before : Operands text es

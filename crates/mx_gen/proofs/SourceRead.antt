@@ -146,9 +146,6 @@ numbered row line s is h = record { number_is = is; line_is = h }
 moved : (m n : ℕ) (ls : List (List ℕ)) (ss : List StatementTree) → m ≡ n → AreLines m ls ss → AreLines n ls ss
 moved m n ls ss is h = subst (λ k. AreLines k ls ss) is h
 
-block-bad : (b : ℕ) → is_bad_local (block_name b) ≡ false
-block-bad b = refl
-
 module _ (line : ℕ) where
   call-line : IsLine (line_with [] (codes "PUSHJ") (codes "$1,Rec")) (stated line None (Code 0xf2) (reg 1 ∷ name procedure_name ∷ []))
   call-line = unlabelled line (codes "PUSHJ") (codes "$1,Rec") (Code 0xf2) (reg 1 ∷ name procedure_name ∷ []) refl (omega arith) (refl, refl) (omega arith) (ap (operation_with false) pushj-named) call-read

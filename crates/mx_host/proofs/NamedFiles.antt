@@ -14,7 +14,7 @@ use Rattle.std.proofs.lemmas.Option.{slice_get-get_or}
 use Rattle.mx_word.specs.Lists.{with_written}
 use Rattle.mx_host.specs.declared.files.StoredFile.{StoredFile}
 use Rattle.mx_host.specs.HostModel.{place_of}
-use Rattle.mx_host.specs.HostAnswer.{changed_at, with_bytes, empty_file, bytes_of, bytes_at, file_at, put_at}
+use Rattle.mx_host.specs.HostAnswer.{changed_at, with_bytes, empty_file, bytes_of, bytes_at, put_at}
 
 -- the place of the file that was put where this place was found
 abbrev pub home : List StoredFile → Option ℕ → ℕ
@@ -57,11 +57,6 @@ get-last : (files : List StoredFile) (f : StoredFile) → slice_get (files ++ f 
 get-last files f =
     let more : length files < length (files ++ f ∷ []) = rw (length_push files f) (omega arith) in
     slice_get-get_or (files ++ f ∷ []) (length files) f more ∙ ap Some (get_or_push files f f (length files) refl)
-
--- the bytes at its place
-pub bytes-home : (files : List StoredFile) (name bytes : List ℕ) (p : Option ℕ) → Lies files p → file_at (put_at files name bytes p) (Some (home files p)) ≡ Some bytes
-bytes-home files name bytes None h = rw (get-last files (record { name = name; bytes = bytes })) refl
-bytes-home files name bytes (Some at) h = rw (get-with files at bytes (empty_file name) h) refl
 
 pub at-home : (files : List StoredFile) (name bytes : List ℕ) (p : Option ℕ) → Lies files p → bytes_at (put_at files name bytes p) (home files p) ≡ bytes
 at-home files name bytes None h = rw (get-last files (record { name = name; bytes = bytes })) refl
@@ -124,12 +119,6 @@ place-with files at bytes name d h =
 pub place-home : (files : List StoredFile) (name bytes : List ℕ) (p : Option ℕ) → place_of files name ≡ p → Lies files p → place_of (put_at files name bytes p) name ≡ Some (home files p)
 place-home files name bytes None e h = position-last (λ f. bytes_eq f.name name) files (record { name = name; bytes = bytes }) (nat_list_eq_equiv.refl name) e
 place-home files name bytes (Some at) e h = place-with files at bytes name (empty_file name) h ∙ e
-
--- the bytes of the file that was put
-pub put-there : (files : List StoredFile) (name bytes : List ℕ) → file_at (put_at files name bytes (place_of files name)) (place_of (put_at files name bytes (place_of files name)) name) ≡ Some bytes
-put-there files name bytes =
-    let p : Option ℕ = place_of files name in
-    ap (file_at (put_at files name bytes p)) (place-home files name bytes p refl (lies files name)) ∙ bytes-home files name bytes p (lies files name)
 
 -- a file of another name stays where it is
 pub place-other : (files : List StoredFile) (name bytes other : List ℕ) (p : Option ℕ) → bytes_eq name other ≡ false → Lies files p → place_of (put_at files name bytes p) other ≡ place_of files other

@@ -1,8 +1,8 @@
 -- Where no call fails, what the program does and answers does not depend on the count of calls.
-use Rattle.std.proofs.Common.{◌≡◌, ℕ, List, [], Bool, true, false, cond, refl, Some, None, subst}
-use Rattle.std.specs.Prelude.{Option, nat_lt, ◌&&◌}
-use Rattle.mx_host.specs.HostModel.{HostModel, counted, is_failing, last_call, slot_at, is_read_only, is_write_only, place_of}
-use Rattle.mx_host.specs.HostAnswer.{Then, open_answer, opened, read_answer, read_from, read_lead, write_answer, write_to, write_lead, close_answer, closed}
+use Rattle.std.proofs.Common.{◌≡◌, ℕ, List, [], Bool, true, false, cond, refl, subst}
+use Rattle.std.specs.Prelude.{nat_lt, ◌&&◌}
+use Rattle.mx_host.specs.HostModel.{HostModel, counted, is_failing, last_call, slot_at, is_read_only, is_write_only}
+use Rattle.mx_host.specs.HostAnswer.{Then, read_answer, read_from, read_lead, write_answer, write_to, write_lead}
 use Rattle.mx_host.specs.declared.slots.Slot.{Slot}
 use Rattle.mx_host.specs.declared.slots.Slot.TheVariants.{Closed, Open}
 use Rattle.mx_host.specs.declared.slots.Mode.{Mode}
@@ -37,17 +37,6 @@ pub then : {A B : Type 0} (more : Then A → Then B) (t u : Then A) → ((a : A)
     Steady t u → Steady (more t) (more u)
 then more (a, m) u f h = subst (λ w. Steady (more (a, m)) (more w)) h.0 (f a m h.1)
 
-opened-still : (m : HostModel) (reads : Bool) (slot : ℕ) (name : List ℕ) (mode : Mode) (at : Option ℕ) → m.failing ≡ [] →
-    Steady (opened reads (counted m) slot name mode at) (opened reads (still m) slot name mode at)
-opened-still m true slot name mode None h = (refl, h)
-opened-still m true slot name mode (Some at) h = (refl, h)
-opened-still m false slot name mode None h = (refl, h)
-opened-still m false slot name mode (Some at) h = (refl, h)
-
-pub open-still : (m : HostModel) (slot : ℕ) (name : List ℕ) (mode : Mode) → m.failing ≡ [] → Steady (open_answer m slot name mode) (open_answer (still m) slot name mode)
-unfolding open_answer
-open-still m slot name mode h = here (is_failing m) _ _ _ (never m h) (opened-still m (is_read_only mode) slot name mode (place_of m.files name) h)
-
 read_lead-still : (m : HostModel) (slot len : ℕ) (l : Lead) (mode : Mode) (place : ℕ) → m.failing ≡ [] → Steady (read_lead (counted m) slot len l mode place) (read_lead (still m) slot len l mode place)
 read_lead-still m slot len Input mode place h = (refl, h)
 read_lead-still m slot len Output mode place h = (refl, h)
@@ -75,11 +64,3 @@ to-still m slot from (Open l mode place) h = either (is_read_only mode) _ _ _ _ 
 pub write-still : (m : HostModel) (slot : ℕ) (from : List ℕ) → m.failing ≡ [] → Steady (write_answer m slot from) (write_answer (still m) slot from)
 unfolding write_answer
 write-still m slot from h = here (is_failing m) _ _ _ (never m h) (to-still m slot from (slot_at m slot) h)
-
-closed-still : (m : HostModel) (slot : ℕ) (s : Slot) → m.failing ≡ [] → Steady (closed (counted m) slot s) (closed (still m) slot s)
-closed-still m slot Closed h = (refl, h)
-closed-still m slot (Open l mode place) h = (refl, h)
-
-pub close-still : (m : HostModel) (slot : ℕ) → m.failing ≡ [] → Steady (close_answer m slot) (close_answer (still m) slot)
-unfolding close_answer
-close-still m slot h = here (is_failing m) _ _ _ (never m h) (closed-still m slot (slot_at m slot) h)

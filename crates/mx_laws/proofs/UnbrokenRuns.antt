@@ -8,7 +8,6 @@ use Rattle.mx_run.specs.Runs.{no_flags, break_of, flagged_in, after_trace, after
 use Rattle.mx_run.specs.Turns.{Turn, went_on, halts, stops, turn}
 use Rattle.mx_run.specs.WildRuns.{MachineKind, RunEnd, run_ended, ends_wild, turn_by, run_by}
 use Rattle.mx_run.specs.declared.end.BreakKind.{BreakKind}
-use Rattle.mx_run.specs.declared.end.End.TheVariants as ending
 use Rattle.mx_top.specs.Runs.{machine_ran, ran_to}
 use Rattle.mx_laws.specs.Unbroken.{is_told}
 

@@ -39,10 +39,6 @@ opcode-order start end place label [] rest l e = none-order start end label
 opcode-order start end place label (b ∷ bs) rest l e =
     cond_both (ends_here rest) _ _ (CutInOrder start end) (λ _. operands-order start end (place + length (b ∷ bs)) label (span place (b ∷ bs)) rest l (omega arith) (omega arith) (omega arith)) (λ _. tt)
 
-label-later : (start : ℕ) (label : Option Span) (place more : ℕ) → LabelBefore start label place → LabelBefore start label (place + more)
-label-later start None place more h = omega arith
-label-later start (Some s) place more (a, b, d) = (a, b, omega arith)
-
 operation-order : (start end place : ℕ) (label : Option Span) (text : List ℕ) → ((n : ℕ) → n ≡ place + length (run is_blank text) → LabelBefore start label n) → place + length text ≡ end →
     CutInOrder start end (operation_at label place text)
 operation-order start end place label text l e =

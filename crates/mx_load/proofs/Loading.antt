@@ -1,5 +1,5 @@
 -- Items of an object are loaded one after another.
-use Rattle.std.proofs.Common.{◌≡◌, ◌≢◌, ℕ, zero, suc, ◌+◌, ◌<◌, length, Bool, true, Some, None, Ok, Err, refl, sym, ◌∙◌, ap, arith}
+use Rattle.std.proofs.Common.{◌≡◌, ◌≢◌, ℕ, zero, suc, ◌<◌, length, Bool, true, Some, None, Ok, Err, refl, sym, ◌∙◌, ap, arith}
 use Rattle.std.specs.Prelude.{Result, IfErr}
 use Rattle.mx_load.specs.Faults as loads
 use Rattle.mx_load.specs.Faults.{told, fault_of}
@@ -108,9 +108,6 @@ next-failed l k m n item place (Err f) none h e taken-is ne = λ i. next-item i 
 -- the items that are left, of which there are fewer than so many
 abbrev pub Left-of : Loaded → Progress → ReaderModel → Type 0
 Left-of whole l m = (n : ℕ) × (length m.rest < n) × (whole ≡ loaded_from n l m)
-
-pub left-first : (whole : Loaded) (l : Progress) (m : ReaderModel) → whole ≡ loaded_from (length m.rest + 1) l m → Left-of whole l m
-left-first whole l m h = (length m.rest + 1, omega arith, h)
 
 pub left-next : (whole : Loaded) (l k : Progress) (m n : ReaderModel) → Left-of whole l m → ((i : ℕ) → loaded_from (suc i) l m ≡ loaded_from i k n) → length n.rest < length m.rest → Left-of whole k n
 left-next whole l k m n (zero, few, e) next less = absurd (omega arith)

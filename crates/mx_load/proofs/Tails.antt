@@ -1,5 +1,5 @@
 -- What stands behind the items of an object.
-use Rattle.std.proofs.Common.{◌≡◌, ℕ, ◌<◌, ◌≤◌, ◌^◌, List, length, Some, None, arith}
+use Rattle.std.proofs.Common.{ℕ, ◌<◌, ◌^◌, List, length, arith}
 use Rattle.std.specs.Prelude.{IfSome}
 use Rattle.mx_stab.specs.Faults.{IsPlaced, place_of}
 use Rattle.mx_stab.specs.declared.faults.StabFault.{StabFault}

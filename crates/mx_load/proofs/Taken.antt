@@ -5,7 +5,7 @@ use Rattle.std.specs.List.{AllByRecursion}
 use Rattle.std.proofs.Math.ListN.{drop_of_length-le}
 use Rattle.std.proofs.lemmas.List.{drop_more}
 use Rattle.mx_mmo.specs.Meaning as spec
-use Rattle.mx_mmo.specs.Meaning.{Loading, Meaningless, meaning, nothing, take_item, take_items}
+use Rattle.mx_mmo.specs.Meaning.{Loading, Meaningless, nothing, take_item, take_items}
 use Rattle.mx_mmo.specs.Valid.{Fits}
 use Rattle.mx_mmo.specs.declared.items.Item.{Item}
 use Rattle.mx_load.specs.Faults.{told}
@@ -20,10 +20,6 @@ after_all r (item ∷ items) = after_all (after r item) items
 stays : (fault : LoadFault) (items : List Item) → after_all (Err fault) items ≡ Err fault
 stays fault [] = refl
 stays fault (item ∷ items) = stays fault items
-
-all-stays : (e : Meaningless) (items : List Item) → take_items items (Err e) ≡ Err e
-all-stays e [] = refl
-all-stays e (item ∷ items) = refl
 
 step : (items : List Item) (r : Result Loading Meaningless) → told (take_items items r) ≡ after_all (told r) items
 step [] (Ok s) = refl

@@ -1,10 +1,8 @@
 -- The count of the octas that are not 0.
-use Rattle.std.proofs.Common.{◌≡◌, ◌<◌, ◌≤◌, ◌+◌, ℕ, List, length, get_or, replicate, arith, ⊎_elim}
-use Rattle.std.proofs.lemmas.Bool.{cases_lt}
-use Rattle.std.proofs.lemmas.List.{get_or_past}
+use Rattle.std.proofs.Common.{◌≡◌, ◌<◌, ◌≤◌, ◌+◌, ℕ, List, length, get_or, replicate, arith}
 use Rattle.std.proofs.Math.ListN.{set}
 use Rattle.std.proofs.lemmas.Grind.{common_steps}
-use Rattle.std.proofs.lemmas.List.Sums.{sum_by-set, sum_by-le, get_or-le-sum_by}
+use Rattle.std.proofs.lemmas.List.Sums.{sum_by-set, sum_by-le}
 use Rattle.std.proofs.lemmas.List.Folds.{sum_by-replicate}
 use Rattle.mx_mem.specs.Count.{nonzero_count, one_unless_zero}
 
@@ -19,12 +17,5 @@ count-most octas = omega (arith, sum_by-le one_unless_zero 1 octas (λ x i l. on
 
 pub count-zeros : (n : ℕ) → nonzero_count (replicate n 0) ≡ 0
 count-zeros n = omega (arith, sum_by-replicate one_unless_zero n 0)
-
--- with a count of 0 each octa is 0
-pub all-zero : (octas : List ℕ) (i : ℕ) → nonzero_count octas ≡ 0 → get_or octas i 0 ≡ 0
-all-zero octas i h = ⊎_elim (λ l. inside l) (λ l. get_or_past octas i 0 l) (cases_lt i (length octas))
-  where
-    inside : i < length octas → get_or octas i 0 ≡ 0
-    inside l = let le = get_or-le-sum_by one_unless_zero octas i 0 l in grind (arith, common_steps)
 
 pub ruleset counts = (count-set, count-most, count-zeros)

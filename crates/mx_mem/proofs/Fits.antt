@@ -1,5 +1,5 @@
 -- Each octa of memory is below 2^64.
-use Rattle.std.proofs.Common.{◌≡◌, ◌<◌, ◌/◌, ◌^◌, ℕ, Bool, true, false, cond, List, Result, Ok, Err, refl, sym, ap, subst, arith}
+use Rattle.std.proofs.Common.{◌≡◌, ◌<◌, ◌/◌, ◌^◌, ℕ, Bool, true, false, cond, List, Result, Ok, Err, sym, subst, arith}
 use Rattle.std.specs.Prelude.{◌==◌, OnOk, OnErr}
 use Rattle.std.specs.BTreeMap.{BTreeMap}
 use Rattle.mx_mem.specs.Memory.{Stored, octa_at, stored_at}

@@ -69,10 +69,6 @@ push-ring w n octas r e f =
     let fewer : length (drop (n + 1) w.visible.locals) ≡ length w.visible.locals - (n + 1) = length-drop (n + 1) w.visible.locals in
     room-ring w.size _ (registers_from w.visible (n + 1)) r.least_size (hidden-fits w.hidden (2 ^ 20) octas (fits-of w r) (omega arith)) (from-bounds w.visible (n + 1) r.registers) (omega (arith, r.has_room))
 
--- octas that are hidden one after another
-pub hidden-twice : (h : HiddenPart) (xs ys : List ℕ) → with_hidden (with_hidden h xs) ys ≡ with_hidden h (xs ++ ys)
-hidden-twice h xs ys = ap (λ (zs : List ℕ). record h { resident = zs }) (append_assoc h.resident xs ys)
-
 -- POP
 
 length-results : (ls : List ℕ) (x : ℕ) → length (results ls x) ≤ length ls + 1

@@ -1,7 +1,7 @@
 -- The hidden octas after they spill, come back or are read from the stack area.
 use Rattle.std.proofs.Common.{◌≡◌, ℕ, ◌+◌, ◌-◌, ◌≤◌, ◌<◌, List, ◌++◌, length, take, drop, min, arith, refl, sym, ◌∙◌, ap, ⊎_elim}
 use Rattle.std.proofs.lemmas.Bool.{cases_lt}
-use Rattle.std.proofs.lemmas.List.{length-take, length-take-le, length-drop, length-append, take_at, take-take, drop-take, drop_all}
+use Rattle.std.proofs.lemmas.List.{length-take, length-take-le, length-drop, length-append, take_at, drop-take, drop_all}
 use Rattle.std.proofs.Math.Seq.{take-add}
 use Rattle.mx_word.specs.Lists.{with_part}
 
@@ -37,11 +37,3 @@ resident-first octas s n = ⊎_elim (λ f. none f) (λ f. some f) (cases_lt n s)
         let low : min s n ≡ s = omega arith in
         let parted : s + (n - s) ≡ n = omega arith in
         rw low (ap (λ m. drop s (take m octas)) (sym parted) ∙ drop-take s (n - s) octas)
-
--- the first n octas of the stack area, where the older ones stand in both places
-pub stack-read : (octas stack octas' : List ℕ) (s n start : ℕ) → n ≤ length stack → start ≡ min n s → take s octas ≡ take s stack → octas' ≡ take start octas ++ take (n - start) (drop start stack) → octas' ≡ take n stack
-stack-read octas stack octas' s n start f es e eo =
-    let low : take start octas ≡ take start stack =
-    sym (take-take start s octas (omega arith)) ∙ ap (take start) e ∙ take-take start s stack (omega arith) in
-    let parted : start + (n - start) ≡ n = omega arith in
-    eo ∙ ap (λ ps. ps ++ take (n - start) (drop start stack)) low ∙ sym (take-add start (n - start) stack) ∙ ap (λ m. take m stack) parted

@@ -61,9 +61,6 @@ pub ruleset reading = (held-below)
 abbrev Held : BTreeMap ℕ Flags → BTreeMap ℕ Flags → ℕ → Flags → Type 0
 Held m t n f = (q : ℕ) → tree.get nat_cmp t q ≡ cond (q == n) (Some f) (tree.get nat_cmp m q)
 
-abbrev Dropped : BTreeMap ℕ Flags → BTreeMap ℕ Flags → ℕ → Type 0
-Dropped m t n = (q : ℕ) → tree.get nat_cmp t q ≡ cond (q == n) None (tree.get nat_cmp m q)
-
 -- a fact of a tetra that is held, of those before and of the new one
 by-test : (P : ℕ → Flags → Type 0) (n q : ℕ) (f g : Flags) (b : Bool) (o : Option Flags) → (q == n) ≡ b → P n f → ((g : Flags) → o ≡ Some g → P q g) → cond b (Some f) o ≡ Some g → P q g
 by-test P n q f g true o e h k l = let same : q ≡ n = same-number q n e in subst (λ j. P j g) (sym same) (subst (P n) (same_Some f g l) h)

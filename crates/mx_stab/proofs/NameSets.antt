@@ -1,5 +1,5 @@
 -- The names of the symbols that were found.
-use Rattle.std.proofs.Common.{◌≡◌, ◌≢◌, ℕ, suc, ◌+◌, ◌-◌, ◌<◌, ◌≤◌, Bool, true, false, not, ◌||◌, ◌&&◌, List, [], ◌∷◌, ◌++◌, length, get_or, take, Ordering, Vec, Result, Ok, Err, OnOk, OnErr, arith, refl, sym, ap, subst, ◌∙◌, bytes_eq}
+use Rattle.std.proofs.Common.{◌≡◌, ◌≢◌, ℕ, suc, ◌+◌, ◌-◌, ◌<◌, ◌≤◌, Bool, true, false, not, ◌||◌, List, [], ◌∷◌, ◌++◌, length, get_or, take, Ordering, Vec, Result, Ok, Err, OnOk, OnErr, arith, refl, sym, ap, subst, ◌∙◌, bytes_eq}
 use Rattle.std.specs.List.{AllByRecursion, list_any}
 use Rattle.std.specs.Ordering.{nat_cmp, is_eq, is_lt, match_ordering}
 use Rattle.std.specs.declared.cmp.Ordering.TheVariants.{Less, Equal, Greater}
@@ -50,10 +50,6 @@ order-above symbols new o h = in-byte-order (symbols ++ new ∷ []) (order-push 
 
 pub above-new : (symbols : List Symbol) (new : Symbol) → InByteOrder symbols → is_above new.name symbols ≡ true → is_among new.name symbols ≡ false
 above-new symbols new o h = not-among symbols new [] (in-order-distinct (symbols ++ new ∷ []) (order-push symbols new (in-order symbols o) h))
-
-pub found-in-order : (symbols : List Symbol) (s : Symbol) (a b : Bool) → InByteOrder symbols → a ≡ is_above s.name symbols → b ≡ is_among s.name symbols → (not a && b) ≡ is_among s.name symbols
-found-in-order symbols s true b o h k = sym (above-new symbols s o (sym h))
-found-in-order symbols s false b o h k = k
 
 or-twice : (a b : Bool) → (a || b) ≡ ((a || b) || a)
 or-twice true b = refl

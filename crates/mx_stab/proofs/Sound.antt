@@ -40,9 +40,6 @@ between-none s = record { split = refl; place = omega arith; grown = sym (append
 below-rest : (s t : Reading) (bs : List ℕ) (xs : List Symbol) → Between s t bs xs → AreBytes s.rest → AreBytes t.rest
 below-rest s t bs xs h b = all-back (λ d. d < 256) bs t.rest (subst (AreBytes) h.split b)
 
-below-front : (s t : Reading) (bs : List ℕ) (xs : List Symbol) → Between s t bs xs → AreBytes s.rest → AreBytes bs
-below-front s t bs xs h b = all-front (λ d. d < 256) bs t.rest (subst (AreBytes) h.split b)
-
 -- what went well
 record WentThrough (f : Reading → Answer) (a : Answer) (t : Reading) : Type 0 where
   middle : Reading
@@ -215,9 +212,6 @@ record CharacterRead (wide : ℕ) (s : Reading) (c : Character) : Type 0 where
   bytes : List ℕ
   is : SpellsCharacter wide c.name bytes
   between : Between s c.behind bytes []
-
-abbrev read-as : Character → Result Character StabFault
-read-as c = Ok c
 
 one_byte-read : (at : ℕ) (found : List Symbol) (bytes : List ℕ) (c : Character) → AreBytes bytes → reading.one_byte at found bytes ≡ Ok c → CharacterRead 0 (record { at = at; rest = bytes; found = found }) c
 one_byte-read at found [] c b e = absurd (cc)

@@ -1,7 +1,7 @@
 -- What is due, step by step.
 use Rattle.std.proofs.Common.{◌≡◌, ℕ, ◌+◌, ◌≤◌, ◌<◌, ◌%◌, Bool, true, false, cond, List, [], ◌∷◌, ◌++◌, length, take, drop, Result, Ok, Err, arith, refl, sym, ap, ◌∙◌}
 use Rattle.std.specs.Prelude.{nat_lt}
-use Rattle.std.proofs.lemmas.Bool.{lt-ltb, le-ltb}
+use Rattle.std.proofs.lemmas.Bool.{le-ltb}
 use Rattle.std.proofs.lemmas.List.{take_at}
 use Rattle.mx_word.specs.declared.symbols.Symbol.{Symbol}
 use Rattle.mx_stab.specs.declared.faults.StabFault.{StabFault}
@@ -126,27 +126,12 @@ rest-went before old new came depth node m h d e k =
     k ∙ ap (and_next (after_all before)) (ap (λ n. after_character n node m new) d ∙ ap (and_next (after_character (length old.path) node m)) e
     ∙ sym (after-character node m old.path old.reading (character_of node m old.reading) refl h))
 
-pub rest-failed : (before : List Due) (old : Point) (fault : StabFault) (node m : ℕ) → has_character m ≡ true → Err fault ≡ longer_path old.path (character_of node m old.reading) →
-    Err fault ≡ and_next (after_all before) (after_due (Rest node m) old)
-rest-failed before old fault node m h e =
-    ap (λ c. and_next (after_all before) (and_next (after_character (length old.path) node m) c)) e
-    ∙ ap (and_next (after_all before)) (sym (after-character node m old.path old.reading (character_of node m old.reading) refl h))
-
 -- the symbol of a node
 pub symbol-went : (before due : List Due) (old new : Point) (depth node m : ℕ) → length old.path ≤ 1024 → Ok new ≡ with_path old.path (symbol (m % 16) node old.path old.reading) → due ≡ before ++ symbol_due depth m →
     after_all due new ≡ and_next (after_all before) (after_character depth node m old)
 symbol-went before due old new depth node m l e noted =
     rw noted (all-append before (symbol_due depth m) new ∙ ap (and_next (after_all before)) (ap (and_next (after_all (symbol_due depth m))) e
     ∙ no-fault (nat_lt 1024 (length old.path)) (Err (TooLong node)) _ (le-ltb 1024 (length old.path) l)))
-
-pub symbol-failed : (before : List Due) (old : Point) (fault : StabFault) (depth node m : ℕ) → length old.path ≤ 1024 → Err fault ≡ with_path old.path (symbol (m % 16) node old.path old.reading) →
-    Err fault ≡ and_next (after_all before) (after_character depth node m old)
-symbol-failed before old fault depth node m l e =
-    ap (λ c. and_next (after_all before) (and_next (after_all (symbol_due depth m)) c)) e
-    ∙ ap (and_next (after_all before)) (no-fault (nat_lt 1024 (length old.path)) (Err (TooLong node)) _ (le-ltb 1024 (length old.path) l))
-
-pub symbol-long : (before : List Due) (old : Point) (depth node m : ℕ) → 1024 < length old.path → Err (TooLong node) ≡ and_next (after_all before) (after_character depth node m old)
-symbol-long before old depth node m l = ap (and_next (after_all before)) (a-fault (nat_lt 1024 (length old.path)) (Err (TooLong node)) _ (lt-ltb 1024 (length old.path) l))
 
 -- one part that was due was taken
 taken-behind : (before whole : List Due) (next : Due) (p : Point) → whole ≡ before ++ next ∷ [] → after_all whole p ≡ and_next (after_all before) (after_due next p)
@@ -159,13 +144,6 @@ taken-same before after whole next p q w e h k = ap reading_of (h ∙ sym (taken
 pub taken-failed : (before whole : List Due) (next : Due) (p : Point) (w : Answer) (fault : StabFault) → whole ≡ before ++ next ∷ [] → Err fault ≡ and_next (after_all before) (after_due next p) →
     reading_of (after_all whole p) ≡ w → Err fault ≡ w
 taken-failed before whole next p w fault e h k = ap reading_of (h ∙ sym (taken-behind before whole next p e)) ∙ k
-
-pub taken-first : (path : List ℕ) (s : Reading) → reading_of (after_all (Subtrie ∷ []) (record { path = path; reading = s })) ≡ next_subtrie path s
-taken-first path s = inside path (next_subtrie path s)
-  where
-    inside : (path : List ℕ) (a : Answer) → reading_of (with_path path a) ≡ a
-    inside path (Ok t) = refl
-    inside path (Err fault) = refl
 
 pub taken-less : (before after whole : List Due) (next : Due) (p q : Point) → whole ≡ before ++ next ∷ [] → weight q after < weight p before + due_weight next → weight q after < weight p whole
 taken-less before after whole next p q e h =

@@ -9,7 +9,7 @@ use Rattle.mx_word.specs.declared.symbols.Value.{Value}
 use Rattle.mx_word.specs.declared.symbols.Value.TheVariants.{Pure}
 use Rattle.mx_stab.specs.declared.faults.StabFault.TheVariants.{Padding, Wide}
 use Rattle.mx_stab.specs.Characters.{wide_number}
-use Rattle.mx_stab.specs.Reading.{Reading, Answer, Character, and_then, part_if, is_among, value_size, value_of, serial_behind, symbol_with, symbol, has, has_character, is_wide_bare, character_of, character_part, with_character, node_rest, node, next_subtrie, is_padding, symbols_at_end, start, trie_answer}
+use Rattle.mx_stab.specs.Reading.{Reading, Answer, and_then, part_if, is_among, value_size, value_of, serial_behind, symbol_with, symbol, has, has_character, is_wide_bare, character_of, character_part, with_character, node_rest, node, next_subtrie, is_padding, symbols_at_end, start, trie_answer}
 use Rattle.mx_stab.specs.Reading as reading
 use Rattle.mx_stab.specs.Grammar as grammar
 use Rattle.std.specs.Char.{encode_utf8}

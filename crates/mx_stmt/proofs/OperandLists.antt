@@ -11,10 +11,3 @@ two-read [] x y low high first second = absurd (omega arith)
 two-read (a ∷ []) x y low high first second = absurd (omega arith)
 two-read (a ∷ b ∷ []) x y low high first second = cc
 two-read (a ∷ b ∷ c ∷ xs) x y low high first second = absurd (omega arith)
-
-pub three-read : {X : Type 0} (xs : List X) (x y z : X) → 3 ≤ length xs → length xs < 4 → x ≡ get_or xs 0 x → y ≡ get_or xs 1 y → z ≡ get_or xs 2 z → xs ≡ x ∷ y ∷ z ∷ []
-three-read [] x y z low high first second third = absurd (omega arith)
-three-read (a ∷ []) x y z low high first second third = absurd (omega arith)
-three-read (a ∷ b ∷ []) x y z low high first second third = absurd (omega arith)
-three-read (a ∷ b ∷ c ∷ []) x y z low high first second third = cc
-three-read (a ∷ b ∷ c ∷ d ∷ xs) x y z low high first second third = absurd (omega arith)

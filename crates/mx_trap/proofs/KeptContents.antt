@@ -1,6 +1,6 @@
 -- What holds of a space as long as bytes are put into it holds after a file trap.
-use Rattle.std.proofs.Common.{◌≡◌, ℕ, suc, zero, ◌+◌, ◌-◌, ◌≤◌, ◌^◌, Bool, true, false, cond, List, [], ◌∷◌, arith, refl, Ok, Err}
-use Rattle.std.specs.Prelude.{Result, ◌==◌, ◌&&◌, not}
+use Rattle.std.proofs.Common.{◌≡◌, ℕ, suc, zero, ◌+◌, ◌-◌, ◌≤◌, Bool, true, false, cond, List, [], ◌∷◌, arith, refl, Ok, Err}
+use Rattle.std.specs.Prelude.{Result, ◌==◌, not}
 use Rattle.std.proofs.lemmas.Bool.Decides.{nat_tests}
 use Rattle.mx_mem.specs.Space.{Contents, put_answer, begins_page, is_negative}
 use Rattle.mx_mem.specs.declared.space.SpaceFault.{SpaceFault}
@@ -9,7 +9,7 @@ use Rattle.mx_host.specs.HostAnswer.{Then, read_answer}
 use Rattle.mx_host.specs.declared.faults.HostFault.{HostFault}
 use Rattle.mx_trip.specs.declared.call.TrapCall.{TrapCall}
 use Rattle.mx_trap.specs.FileTraps.{carried_out, answer_to, trap_answer}
-use Rattle.mx_trap.specs.Moves.{Leaves, stored, byte_stored, stored_next, bytes_stored, piece_stored, piece_got, read_piece, read_last, read_next, read_pieces, whole_pieces, fread, line_ended, line_end, byte_put, byte_got, line_byte, line_next, line_bytes, fgets}
+use Rattle.mx_trap.specs.Moves.{Leaves, stored, byte_stored, stored_next, bytes_stored, piece_stored, piece_got, read_piece, read_last, read_next, read_pieces, whole_pieces, line_ended, line_end, byte_put, byte_got, line_byte, line_next, line_bytes}
 use Rattle.mx_trap.specs.Requests.{request_of}
 use Rattle.mx_trap.specs.Services.{z_of}
 use Rattle.mx_trap.specs.declared.answer.TrapAnswer.{TrapAnswer}
