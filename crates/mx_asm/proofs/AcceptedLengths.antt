@@ -20,7 +20,7 @@ use Rattle.mx_asm.specs.Entries.{statements_in, refusal_in, source_entries}
 use Rattle.mx_asm.specs.TwoPass.{Sight, nothing_known, known_after, sights_from, sights_of, final_known}
 use Rattle.mx_asm.specs.Refusal.{label_fault, fault_with, statement_fault, first_fault, first_undefined, locals, trie_limit, last_fault, end_fault, last_line, at_line, end_refusal, entries_refusal, refusal}
 use Rattle.mx_asm.specs.Emission.{emission, padded_trie}
-use Rattle.mx_asm.specs.Weights.{weights}
+use Rattle.mx_asm.proofs.Weights.{weights}
 use Rattle.mx_asm.proofs.OneStatement.{no-label-fault}
 use Rattle.mx_asm.proofs.EndWaits.{both-none}
 use Rattle.mx_asm.proofs.MeaningSteady.{sound-kept}

@@ -38,6 +38,7 @@ pub mod MeaningLines
 pub mod Fitting
 pub mod Validity
 pub mod FrontLaw
+pub mod Weights
 pub mod OperandWeights
 pub mod StatementRooms
 pub mod SourceWeights

@@ -37,7 +37,7 @@ use Rattle.mx_asm.specs.Fixes.{fixes, relative_fix, pure_fix, fix_of, with_fix, 
 use Rattle.mx_asm.specs.TwoPass.{Sight, outline, waits_in, nothing_known, known_after, sights_from, sights_of, final_known}
 use Rattle.mx_asm.specs.Refusal.{label_fault, fault_with, statement_fault, first_fault}
 use Rattle.mx_asm.specs.Emission.{moved, onto, fix_items, head_at_fixes, lowered, covered, covering, located, told_line, lined, byte_items, with_bytes, opening, first_head, sight_items, sight_head, items_from, main_of, closing, padded_trie}
-use Rattle.mx_asm.specs.Weights.{weight, weights}
+use Rattle.mx_asm.proofs.Weights.{weight, weights}
 use Rattle.mx_asm.proofs.OpenWaits.{any_settles, open_waits, open-unlabelled, open-named, open-local}
 use Rattle.mx_asm.proofs.WaitsFor.{named-waits, local-waits}
 use Rattle.mx_asm.proofs.OneStatement.{AreLabels, name-new, no-label-fault, labels-kept}

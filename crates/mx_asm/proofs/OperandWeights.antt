@@ -11,7 +11,7 @@ use Rattle.mx_expr.specs.declared.tree.BinOp.TheVariants.{Div, Fraction, Left, R
 use Rattle.mx_expr.specs.Tree.{Tree, number, name, back, ahead, here, unary, binary}
 use Rattle.mx_expr.specs.Bytes.{is_digit, is_hexadecimal, is_letter, is_name_byte, digit_value}
 use Rattle.mx_expr.specs.Reading.{Waiting, sign, strong, weak, parenthesis, Mode, operand, whole, digit, decimal, hash, hexadecimal, quote, character, symbol, slash, less, greater, string, closed, State, Read, with_strong, with_weak, at, primary_end, string_start, sign_of, signed, mark_start, primary_start, strong_of, weak_of, enclosed, listed, next_operand, sum_end, weakly_or_end, strongly, after, beyond, next_reading, passed_bound, within, step, and_then, steps, field_end, reading_end, start, reading}
-use Rattle.mx_asm.specs.Weights.{operand_weight}
+use Rattle.mx_asm.proofs.Weights.{operand_weight}
 
 abbrev pub total : List Tree → ℕ
 total es = sum_by operand_weight es

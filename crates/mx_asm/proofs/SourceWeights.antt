@@ -34,7 +34,7 @@ use Rattle.mx_asm.specs.Entries.{Entry, with_operands, with_operation, entry_wit
 use Rattle.mx_asm.specs.Refusal.{first_fault, entries_refusal, end_refusal, last_line, refusal}
 use Rattle.mx_asm.specs.TwoPass.{sights_of}
 use Rattle.mx_asm.specs.Whole.{Line, lines_entries}
-use Rattle.mx_asm.specs.Weights.{weight, weights}
+use Rattle.mx_asm.proofs.Weights.{weight, weights}
 use Rattle.mx_asm.proofs.EndWaits.{both-none}
 use Rattle.mx_asm.proofs.MeaningRead.{part-bytes}
 use Rattle.mx_asm.proofs.MeaningSources.{source-bytes}

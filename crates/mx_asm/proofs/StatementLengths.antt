@@ -32,7 +32,7 @@ use Rattle.mx_stmt.specs.Forms.{form, form_by, set_form}
 use Rattle.mx_stmt.specs.Data.{data_number, low_bytes, data_target, datum, with_rest, data_of, data_form}
 use Rattle.mx_stmt.specs.Encoding.{StatementTree, alignment, place_at, known_at_place, label_value, with_bytes, tetra_waits, tetra_data, with_tetra, with_data, without_bytes, complete_symbol, prefix_form, one_form, one_operand, pseudo_form, op_form, encoding}
 use Rattle.mx_asm.specs.TwoPass.{nothing_known}
-use Rattle.mx_asm.specs.Weights.{operand_weight}
+use Rattle.mx_asm.proofs.Weights.{operand_weight}
 use Rattle.mx_asm.specs.Emission.{covered}
 use Rattle.mx_asm.proofs.WrittenLengths.{load_length, load-most, load-tetra, loaded-most, loaded-low, covered-most, covered-whole}
 

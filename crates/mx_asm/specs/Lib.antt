@@ -12,4 +12,3 @@ pub mod Effects
 pub mod Statements
 pub mod Pages
 pub mod Fitting
-pub mod Weights
