@@ -134,7 +134,7 @@ const INSERTS_KIND_3: Program = [
 ];
 
 /// Octas at the handler of overflows: $255 gets rX, rW, rY, rB and rA.
-const HANDLERS: [(u64, u64); 5] = [
+static HANDLERS: [(u64, u64); 5] = [
     (0xfeff_0019_0000_0000, 0x8000_0000_2100_0001),
     (0xfeff_0018_0000_0000, 0x114),
     (0xfeff_001a_0000_0000, 0x7fff_ffff_ffff_ffff),
@@ -147,7 +147,7 @@ const BASE: u64 = 0x6000_0000_0000_0000;
 
 /// Programs, and the addresses where they begin; how many steps they make; a register, with what it has
 /// then; and what comes next.
-const ROWS: [(Program, u64, u32, u8, u64, Advance); 14] = [
+static ROWS: [(Program, u64, u32, u8, u64, Advance); 14] = [
     (DIVIDES, 0, 3, 0, 0xffff_ffff_ffff_fffc, Advance::Trap),
     (SQUARES, 0, 4, 255, 0xffff_ffff_ffff_fffe, Advance::Trap),
     (
@@ -180,7 +180,7 @@ const ROWS: [(Program, u64, u32, u8, u64, Advance); 14] = [
 
 /// The size of the ring, a program with the address where it begins; how many steps it makes; what $255
 /// has then; and what comes next.
-const RINGS: [(u32, Program, u64, u32, u64, Advance); 6] = [
+static RINGS: [(u32, Program, u64, u32, u64, Advance); 6] = [
     // what is computed does not depend on the ring
     (256, SUMS, 0x100, 2105, 45150, Advance::Trap),
     (512, SUMS, 0x100, 2105, 45150, Advance::Trap),

@@ -7,7 +7,7 @@ use mx_word::{Bytes, NoMemory, tetra_bytes};
 use std::alloc::Global;
 
 /// The object of `first.mms`: `hi` and a newline at #100, and three instructions.
-const FIRST: [u32; 22] = [
+static FIRST: [u32; 22] = [
     0x9809_0101,
     0,
     0x9806_0001,
@@ -33,7 +33,7 @@ const FIRST: [u32; 22] = [
 ];
 
 /// The object of `hello.mms`.
-const HELLO: [u32; 31] = [
+static HELLO: [u32; 31] = [
     0x9809_0101,
     0,
     0x9806_0001,
@@ -68,7 +68,7 @@ const HELLO: [u32; 31] = [
 ];
 
 /// An object with a time and a trie that has left subtries.
-const TIMED: [u32; 15] = [
+static TIMED: [u32; 15] = [
     0x9809_0101,
     0x36f4_a363,
     0x9801_0001,
@@ -89,7 +89,7 @@ const TIMED: [u32; 15] = [
 /// An object as another tool may write it: an empty spec, a name with more zeros than it needs, a
 /// quote that is not needed, long addresses, each kind of fix, a file that is selected again, a
 /// spec that holds quotes, values that begin with #98, and a trie of one node without a symbol.
-const OTHER: [u32; 39] = [
+static OTHER: [u32; 39] = [
     0x9809_0100,
     0x9808_0000,
     0x9806_0102,
@@ -132,7 +132,7 @@ const OTHER: [u32; 39] = [
 ];
 
 /// The same items as this writer writes them.
-const OTHER_WRITTEN: [u32; 29] = [
+static OTHER_WRITTEN: [u32; 29] = [
     0x9809_0100,
     0x9808_0000,
     0x9806_0101,
@@ -314,49 +314,53 @@ fn refusal(alloc: Global, bytes: &[u8], size: usize) -> Result<Option<(u16, Opti
     }
 }
 
+/// The tetra of a `pre` without a time.
+const PRE: u32 = 0x9809_0100;
+
+/// Tetras of objects that are refused, and bytes behind them; the number of the fault, and its place.
+static REFUSED: [(&[u32], &[u8], u16, u64); 24] = [
+    // no bytes; a first tetra that is no `pre`; one with Y = 2; `post` before `pre`
+    (&[], &[], 64, 0),
+    (&[0], &[], 61, 0),
+    (&[0x9809_0200], &[], 61, 0),
+    (&[0x980a_00ff], &[], 61, 0),
+    // a lopcode that does not exist; a second `pre`; `stab` and `end` before `post`
+    (&[0x9809_0101, 0, 0x980d_0000], &[], 62, 8),
+    (&[PRE, PRE], &[], 62, 4),
+    (&[PRE, 0x980b_0000], &[], 62, 4),
+    (&[PRE, 0x980c_0000], &[], 62, 4),
+    // wrong fields: of addresses, a quote, far fixes, `post` and `stab`
+    (&[PRE, 0x9801_0003], &[], 63, 4),
+    (&[PRE, 0x9803_0000], &[], 63, 4),
+    (&[PRE, 0x9800_0002], &[], 63, 4),
+    (&[PRE, 0x9805_0011], &[], 63, 4),
+    (&[PRE, 0x9805_0110], &[], 63, 4),
+    (&[PRE, 0x980a_001f], &[], 63, 4),
+    (&[PRE, 0x980a_00ff, 0, 0, 0x980b_0001], &[], 63, 16),
+    // a far fix whose tetra begins with 2, and one without its tetra
+    (&[PRE, 0x9805_0010, 0x0200_0000], &[], 63, 4),
+    (&[PRE, 0x9805_0010], &[], 64, 8),
+    // a name of zeros, and one that is cut off
+    (&[PRE, 0x9806_0002, 0, 0], &[], 63, 4),
+    (&[PRE, 0x9806_0002, 0], &[], 64, 12),
+    // a spec that a quote with YZ = 2 ends, and one that nothing ends
+    (&[PRE, 0x9808_0000, 1, 0x9800_0002], &[], 63, 12),
+    (&[PRE, 0x9808_0000, 0x9800_0001, 0x980b_0000], &[], 64, 16),
+    // a byte over; an item that is cut off; a tetra behind `end`
+    (&[0x9809_0101, 0], &[0x98], 60, 8),
+    (&[PRE, 0x980a_00ff, 0], &[], 64, 12),
+    (
+        &[PRE, 0x980a_00ff, 0, 0, 0x980b_0000, 0x980c_0000, 0],
+        &[],
+        64,
+        28,
+    ),
+];
+
 #[test]
 fn first_faults(rt: HostRuntime) {
     let alloc = rt.alloc();
-    let pre = 0x9809_0100;
-    let rows: [(&[u32], &[u8], u16, u64); 24] = [
-        // no bytes; a first tetra that is no `pre`; one with Y = 2; `post` before `pre`
-        (&[], &[], 64, 0),
-        (&[0], &[], 61, 0),
-        (&[0x9809_0200], &[], 61, 0),
-        (&[0x980a_00ff], &[], 61, 0),
-        // a lopcode that does not exist; a second `pre`; `stab` and `end` before `post`
-        (&[0x9809_0101, 0, 0x980d_0000], &[], 62, 8),
-        (&[pre, pre], &[], 62, 4),
-        (&[pre, 0x980b_0000], &[], 62, 4),
-        (&[pre, 0x980c_0000], &[], 62, 4),
-        // wrong fields: of addresses, a quote, far fixes, `post` and `stab`
-        (&[pre, 0x9801_0003], &[], 63, 4),
-        (&[pre, 0x9803_0000], &[], 63, 4),
-        (&[pre, 0x9800_0002], &[], 63, 4),
-        (&[pre, 0x9805_0011], &[], 63, 4),
-        (&[pre, 0x9805_0110], &[], 63, 4),
-        (&[pre, 0x980a_001f], &[], 63, 4),
-        (&[pre, 0x980a_00ff, 0, 0, 0x980b_0001], &[], 63, 16),
-        // a far fix whose tetra begins with 2, and one without its tetra
-        (&[pre, 0x9805_0010, 0x0200_0000], &[], 63, 4),
-        (&[pre, 0x9805_0010], &[], 64, 8),
-        // a name of zeros, and one that is cut off
-        (&[pre, 0x9806_0002, 0, 0], &[], 63, 4),
-        (&[pre, 0x9806_0002, 0], &[], 64, 12),
-        // a spec that a quote with YZ = 2 ends, and one that nothing ends
-        (&[pre, 0x9808_0000, 1, 0x9800_0002], &[], 63, 12),
-        (&[pre, 0x9808_0000, 0x9800_0001, 0x980b_0000], &[], 64, 16),
-        // a byte over; an item that is cut off; a tetra behind `end`
-        (&[0x9809_0101, 0], &[0x98], 60, 8),
-        (&[pre, 0x980a_00ff, 0], &[], 64, 12),
-        (
-            &[pre, 0x980a_00ff, 0, 0, 0x980b_0000, 0x980c_0000, 0],
-            &[],
-            64,
-            28,
-        ),
-    ];
-    for (tetras, more, number, place) in rows {
+    for (tetras, more, number, place) in REFUSED {
         let bytes = object(alloc, tetras, more).expect(&rt, "memory");
         for size in [100, 1, 7] {
             let found = refusal(alloc, bytes.as_slice(), size).expect(&rt, "memory");

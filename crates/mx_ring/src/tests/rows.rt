@@ -73,7 +73,7 @@ const FORGED: Saved = Saved {
 };
 
 /// Calls and ways back. The machine starts with $0 and $1.
-pub(crate) const CALLS: [Row; 31] = [
+pub(crate) static CALLS: [Row; 31] = [
     // nothing is hidden at first
     (Op::Pop(0), Err(RingFault::Underflow), 0, 255, 0, (255, 0)),
     (Op::Set(0, 2), Ok(()), 1, 255, 0, (0, 2)),
@@ -123,7 +123,7 @@ pub(crate) const CALLS: [Row; 31] = [
 ];
 
 /// G moves.
-pub(crate) const GLOBALS: [Row; 26] = [
+pub(crate) static GLOBALS: [Row; 26] = [
     (Op::Set(0, 9), Ok(()), 1, 255, 0, (0, 9)),
     (Op::Set(255, 52), Ok(()), 1, 255, 0, (255, 52)),
     // what becomes global is 0, and what ceases to be global is 0
@@ -157,7 +157,7 @@ pub(crate) const GLOBALS: [Row; 26] = [
 ];
 
 /// SAVE and UNSAVE.
-pub(crate) const FRAMES: [Row; 41] = [
+pub(crate) static FRAMES: [Row; 41] = [
     // around a changed local, as SAVE $255,0 in a program that has just begun; low bits of the address do not count
     (Op::Set(0, 2), Ok(()), 1, 255, 0, (0, 2)),
     (
@@ -299,7 +299,7 @@ pub(crate) const FRAMES: [Row; 41] = [
 ];
 
 /// Frames that reach down to the beginning of the stack area, and below.
-pub(crate) const SHORT_FRAMES: [Row; 16] = [
+pub(crate) static SHORT_FRAMES: [Row; 16] = [
     (Op::Push(99), Ok(()), 0, 255, 100, (0, 0)),
     (Op::Set(16, 117), Ok(()), 17, 255, 100, (16, 117)),
     (
@@ -368,7 +368,7 @@ pub(crate) const SHORT_FRAMES: [Row; 16] = [
 ];
 
 /// The stack once 4,112 times 255 registers are hidden: there is room for 16.
-pub(crate) const FULL: [Row; 17] = [
+pub(crate) static FULL: [Row; 17] = [
     (
         Op::Set(16, 1),
         Err(RingFault::StackFull),
