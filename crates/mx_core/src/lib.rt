@@ -19,8 +19,6 @@ mod operation;
 mod part;
 mod perform;
 mod pool;
-#[cfg(test)]
-mod program_tests;
 mod puts;
 mod reason;
 mod registers;
@@ -31,8 +29,7 @@ mod space;
 mod space_laws;
 mod specials;
 mod start;
-#[cfg(test)]
-mod start_tests;
+mod start_laws;
 mod step;
 mod stop;
 mod store;
@@ -52,9 +49,6 @@ pub use machine::Machine;
 pub use reason::Reason;
 pub use space_laws::{contents_tell_the_state, machines_are_whole};
 pub use start::StartFault;
+pub use start_laws::arguments_stand_in_the_pool;
 pub use step::{Advance, Step};
 pub use trace::{Touch, Trace};
-
-mod start_laws;
-
-pub use start_laws::arguments_stand_in_the_pool;

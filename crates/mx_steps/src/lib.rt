@@ -1,6 +1,7 @@
-//! A row for each of the 256 codes of the machine: what one step answers, and what it leaves. There is
-//! nothing but tests here. The values are worked out from the rules of MMIXware (LNCS 1750; the part
-//! on MMIX), and where these leave a choice, from those of `docs/MACHINE.md`.
+//! A row for each of the 256 codes of the machine: what one step answers, and what it leaves; the start
+//! of the machine, and short programs. There is nothing but tests here. The values are worked out from
+//! the rules of MMIXware (LNCS 1750; the part on MMIX), and where these leave a choice, from those of
+//! `docs/MACHINE.md`.
 #![tactic(auto)]
 
 #[cfg(test)]
@@ -16,8 +17,12 @@ mod memory;
 #[cfg(test)]
 mod numbers;
 #[cfg(test)]
+mod programs;
+#[cfg(test)]
 mod row;
 #[cfg(test)]
 mod specials;
+#[cfg(test)]
+mod starts;
 #[cfg(test)]
 mod stops;

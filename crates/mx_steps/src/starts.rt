@@ -1,13 +1,13 @@
 //! A program that starts with the arguments `p` and `ab`, by the rules of the simulator.
 
-use crate::{Machine, StartFault};
+use mx_core::{Machine, StartFault};
 use mx_load::Loader;
 use mx_ring::RingSize;
 use mx_word::{Bytes, Symbols};
 use std::test::Fail;
 
 /// Addresses, and the octas there.
-const OCTAS: [(u64, u64); 7] = [
+static OCTAS: [(u64, u64); 7] = [
     // the first free address, and the two pointers
     (0x4000_0000_0000_0000, 0x4000_0000_0000_0030),
     (0x4000_0000_0000_0008, 0x4000_0000_0000_0020),
@@ -21,7 +21,7 @@ const OCTAS: [(u64, u64); 7] = [
 ];
 
 /// Codes of special registers, and what they have.
-const SPECIALS: [(u8, u64); 8] = [
+static SPECIALS: [(u8, u64); 8] = [
     (9, 0x0100_0000_0000_0000), // rN
     (10, 0x6000_0000_0000_0000), // rO
     (11, 0x6000_0000_0000_0000), // rS

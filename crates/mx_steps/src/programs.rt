@@ -1,6 +1,6 @@
 //! Programs of a few tetras, and what they come to, worked out by hand from the rules of the simulator.
 
-use crate::{Advance, Machine, Reason, Step, Touch, Trace};
+use mx_core::{Advance, Machine, Reason, Step, Touch, Trace};
 use mx_load::Loader;
 use mx_ring::RingSize;
 use mx_word::{Bytes, Symbols};
