@@ -14,7 +14,8 @@ ghost use Rattle.mx_again.specs.ShownStatements.{IsPlaceable, IsShownPart, shown
 /// operation, and the operands as its operand field.
 pub fn shown_lines_are_one_statement()
     ensures { (word pc : ℕ) → word < 2 ^ 32 →
-        (cut : Cut) × (cuts_from (shown_line word pc) 0 ≡ Ok cut ∷ []) × (fields_of (shown_line word pc) cut ≡ shown_fields word pc) }
+        (cut : Cut) × (cuts_from (shown_line word pc) 0 ≡ Ok cut ∷ []) ×
+        (fields_of (shown_line word pc) cut ≡ shown_fields word pc) }
 {}
 
 /// The text of an instruction is read as a statement. At its address it is assembled to the tetra that it shows, and

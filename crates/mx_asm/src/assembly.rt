@@ -1,6 +1,7 @@
 //! What the assembler carries from statement to statement.
 
-ghost use Rattle.std.specs.Prelude.{◌≡◌, ◌≢◌, ◌+◌, ◌<◌, ◌≤◌, ◌^◌, ◌++◌, Ok, Err, IfOk, IfErr, OnOk, OnErr, IfSome, false, length};
+ghost use Rattle.std.specs.Prelude.{◌≡◌, ◌≢◌, ◌+◌, ◌<◌, ◌≤◌, ◌^◌, ◌++◌, Ok, Err, IfOk, IfErr, OnOk, OnErr, IfSome};
+ghost use Rattle.std.specs.Prelude.{false, length};
 ghost use Rattle.std.specs.Result.{result_err};
 ghost use Rattle.mx_names.specs.Names.{AreNames};
 ghost use Rattle.mx_stmt.specs.Encoding.{statement_tree};
@@ -154,7 +155,8 @@ impl Assembly {
         requires digit { IfSome label.now LabelHasDigit }
         ensures labelled { result ≢ Err AsmFault.OutOfMemory →
             spec.labelled_after result self.new.known.names ≡ spec.labelled self.old.known.names label.now value waits }
-        ensures rest { OnOk result (self.new ≡ record self.old { known = record self.old.known { names = self.new.known.names } }) }
+        ensures rest { OnOk result
+            (self.new ≡ record self.old { known = record self.old.known { names = self.new.known.names } }) }
     {
         let Some(defined) = self.defined.checked_add(1) else {
             return Err(AsmFault::OutOfMemory);
@@ -195,9 +197,11 @@ impl Assembly {
         waits: &[Wait],
     ) -> Result<Items, Refused>
         requires { 0 < length bytes.now → start + length bytes.now ≤ 2 ^ 63 }
-        ensures items { result ≢ Err no_memory → result ≡ piece_items self.old.head line value start bytes.now waits.now }
+        ensures items { result ≢ Err no_memory →
+            result ≡ piece_items self.old.head line value start bytes.now waits.now }
         ensures fits { IfOk result AreFit }
-        ensures head { OnOk result (self.new ≡ record self.old { head = piece_head self.old.head line value start bytes.now waits.now }) }
+        ensures head { OnOk result
+            (self.new ≡ record self.old { head = piece_head self.old.head line value start bytes.now waits.now }) }
     {
         let mut items = fix_items(self.alloc, self.head.lambda, line, value, waits)?;
         let head = self.head.at_fixes(value, waits);

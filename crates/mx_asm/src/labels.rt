@@ -52,7 +52,8 @@ fn define_symbol(
     requires full { IsFullName full }
     requires room { length names.old.symbols < 0xffff_ffff }
     ensures labelled { result ≢ Err AsmFault.OutOfMemory →
-        spec.labelled_after result names.new ≡ spec.symbol_defined names.old full value waits (define_answer names.old full) }
+        spec.labelled_after result names.new ≡
+        spec.symbol_defined names.old full value waits (define_answer names.old full) }
     ensures kept { AreNames names.old → AreNames names.new }
     ensures few { length names.new.symbols ≤ length names.old.symbols + 1 }
 {
@@ -75,7 +76,8 @@ fn define_name(
 ) -> Result<Waits, AsmFault>
     requires room { length names.old.symbols < 0xffff_ffff }
     ensures labelled { result ≢ Err AsmFault.OutOfMemory →
-        spec.labelled_after result names.new ≡ spec.symbol_label names.old value waits (symbol_form names.old text.now) }
+        spec.labelled_after result names.new ≡
+        spec.symbol_label names.old value waits (symbol_form names.old text.now) }
     ensures kept { AreNames names.old → AreNames names.new }
     ensures few { length names.new.symbols ≤ length names.old.symbols + 1 }
 {

@@ -14,7 +14,8 @@ ghost use Rattle.mx_asm.specs.Faults.{refused};
 ghost use Rattle.mx_asm.specs.OnePass.{Standing, beginning, end_behind, line_behind};
 ghost use Rattle.mx_asm.specs.Refusal.{refusal};
 ghost use Rattle.mx_asm.specs.TwoPass.{final_known};
-ghost use Rattle.mx_asm.specs.Whole.{HasTaken, accepted_in, assembled_lines, assembled_source, lines_entries, lines_items, lines_refusal, lines_taken, one_pass};
+ghost use Rattle.mx_asm.specs.Whole.{HasTaken, accepted_in, assembled_lines, assembled_source, lines_entries};
+ghost use Rattle.mx_asm.specs.Whole.{lines_items, lines_refusal, lines_taken, one_pass};
 ghost use Rattle.mx_asm.specs.declared.faults.AsmFault.TheVariants.{Stmt};
 ghost use Rattle.mx_asm.specs.declared.refused.Refused.{Refused};
 
@@ -53,8 +54,10 @@ pub fn lines_are_taken_in_turn()
 /// One that is refused gives the front of an object of the statements before its refusal, and the
 /// refusal.
 pub fn sources_are_emitted_or_refused()
-    ensures emitted { (source : List ℕ) → refusal source ≡ None → assembled_source source ≡
-        (emission (statements_in (source_entries source)), Ok (padded_trie (final_known (statements_in (source_entries source))).names)) }
+    ensures emitted { (source : List ℕ) → refusal source ≡ None → assembled_source source ≡ (
+      emission (statements_in (source_entries source)),
+      Ok (padded_trie (final_known (statements_in (source_entries source))).names),
+    ) }
     ensures refused { (source : List ℕ) (r : Refused) → refusal source ≡ Some r →
         assembled_source source ≡ (front (accepted_in (source_entries source)), Err r) }
 {}

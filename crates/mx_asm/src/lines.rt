@@ -1,6 +1,7 @@
 //! The statements of a line, one after another.
 
-ghost use Rattle.std.specs.Prelude.{◌≡◌, ◌≢◌, ◌+◌, ◌<◌, ◌≤◌, ◌++◌, Result, Ok, Err, IfOk, IfErr, OnOk, false, length, map};
+ghost use Rattle.std.specs.Prelude.{◌≡◌, ◌≢◌, ◌+◌, ◌<◌, ◌≤◌, ◌++◌, Result, Ok, Err, IfOk, IfErr, OnOk, false, length};
+ghost use Rattle.std.specs.Prelude.{map};
 ghost use Rattle.mx_word.specs.Results.{map_ok};
 ghost use Rattle.mx_line.specs.Source.{item_of};
 ghost use Rattle.mx_stmt.specs.Encoding.{statement_tree};
@@ -35,7 +36,8 @@ fn append(out: &mut Items, items: Items) -> Result<(), NoMemory>
 #[tactic(auto, using(crate::proofs::ReadEntries::reads))]
 fn read(alloc: Global, text: &[u8], cut: &Cut, line: u32) -> Result<Statement, Refused>
     requires { CutWithin (length text.now) cut.now }
-    ensures entry { result ≢ Err no_memory → map_ok statement_tree result ≡ entries.entry_of (item_of line text.now (Ok cut.now)) }
+    ensures entry { result ≢ Err no_memory →
+        map_ok statement_tree result ≡ entries.entry_of (item_of line text.now (Ok cut.now)) }
     ensures digits { IfOk result StatementHasDigits }
 {
     match read_statement(alloc, text, cut, line) {

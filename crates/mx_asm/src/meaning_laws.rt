@@ -9,7 +9,8 @@ ghost use Rattle.mx_stmt.specs.Encoding.{StatementTree};
 ghost use Rattle.mx_asm.specs.Emission.{emission};
 ghost use Rattle.mx_asm.specs.Image.{image};
 ghost use Rattle.mx_asm.specs.Entries.{source_entries, statements_in};
-ghost use Rattle.mx_asm.specs.Pages.{AreAccepted, accepted_in, has_room, loaded_image, outlined, page_fault, page_refusal, run_refusal};
+ghost use Rattle.mx_asm.specs.Pages.{AreAccepted, accepted_in, has_room, loaded_image, outlined, page_fault};
+ghost use Rattle.mx_asm.specs.Pages.{page_refusal, run_refusal};
 ghost use Rattle.mx_asm.specs.Refusal.{refusal};
 ghost use Rattle.mx_asm.specs.TwoPass.{Sight};
 ghost use Rattle.mx_asm.specs.Whole.{Line, assembled_source, lines_entries, lines_items};
@@ -27,7 +28,8 @@ pub fn items_mean_the_image()
 pub fn lines_are_loaded_where_there_is_room()
     ensures fault { (lines : List Line) → AllByRecursion AreBytes lines →
         result_err (take_items (lines_items lines) (Ok nothing)) ≡ page_fault (accepted_in (lines_entries lines)) }
-    ensures first { (statements : List Sight) → is_some (page_refusal statements) ≡ not (has_room (outlined statements)) }
+    ensures first { (statements : List Sight) →
+        is_some (page_refusal statements) ≡ not (has_room (outlined statements)) }
     ensures line { (lines later : List Line) (line : Line) → page_fault (accepted_in (lines_entries lines)) ≡ None →
         page_fault (accepted_in (lines_entries (lines ++ line ∷ []))) ≡ Some PagesFull →
         page_refusal (accepted_in (lines_entries (lines ++ line ∷ later))) ≡ Some (length lines + 1) }
@@ -46,5 +48,6 @@ pub fn sources_mean_their_images()
         page_refusal (accepted_in (source_entries source)) ≡ Some line →
         meaning (assembled_source source).0 ≡ Err PagesFull }
     ensures fault { (source : List ℕ) → AreBytes source →
-        result_err (take_items (assembled_source source).0 (Ok nothing)) ≡ page_fault (accepted_in (source_entries source)) }
+        result_err (take_items (assembled_source source).0 (Ok nothing)) ≡
+        page_fault (accepted_in (source_entries source)) }
 {}

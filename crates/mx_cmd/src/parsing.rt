@@ -82,7 +82,8 @@ fn address_command(first: u8, text: &[u8]) -> Option<Command>
 
 /// `$n`.
 fn register_command(text: &[u8]) -> Option<Command>
-    ensures { result ≡ spec.register_command (numerals.front kinds.is_digit text.now) (numerals.past kinds.is_digit text.now) }
+    ensures { result ≡ spec.register_command (numerals.front kinds.is_digit text.now)
+        (numerals.past kinds.is_digit text.now) }
 {
     let (digits, rest) = digits(text);
     if digits.is_empty() {
@@ -93,7 +94,8 @@ fn register_command(text: &[u8]) -> Option<Command>
 
 /// `gn`.
 fn global_command(text: &[u8]) -> Option<Command>
-    ensures { result ≡ spec.global_command (numerals.front kinds.is_digit text.now) (numerals.past kinds.is_digit text.now) }
+    ensures { result ≡ spec.global_command (numerals.front kinds.is_digit text.now)
+        (numerals.past kinds.is_digit text.now) }
 {
     let (digits, rest) = digits(text);
     if digits.is_empty() {
@@ -104,7 +106,8 @@ fn global_command(text: &[u8]) -> Option<Command>
 
 /// `rNAME`.
 fn special_command(text: &[u8]) -> Option<Command>
-    ensures { result ≡ spec.special_command (numerals.front kinds.is_letter text.now) (numerals.past kinds.is_letter text.now) }
+    ensures { result ≡ spec.special_command (numerals.front kinds.is_letter text.now)
+        (numerals.past kinds.is_letter text.now) }
 {
     let (name, rest) = letters(text);
     if name.is_empty() {
@@ -123,7 +126,8 @@ fn memory_command(text: &[u8]) -> Option<Command>
 
 /// `+n`.
 fn more_command(text: &[u8]) -> Option<Command>
-    ensures { result ≡ spec.more_command (numerals.front kinds.is_digit text.now) (numerals.past kinds.is_digit text.now) }
+    ensures { result ≡ spec.more_command (numerals.front kinds.is_digit text.now)
+        (numerals.past kinds.is_digit text.now) }
 {
     let (digits, rest) = digits(text);
     if digits.is_empty() {

@@ -28,8 +28,10 @@ fn end_of(fault: HostFault) -> SessionEnd
 /// Writes a text by one call.
 #[tactic(auto, unfolding(crate::specs::HostLines::text_write))]
 pub(crate) fn write_text<H: Host>(host: &mut H, text: &[u8]) -> Result<(), SessionEnd>
-    ensures told { Answers (H.told host.old) (H.told host.new) (Err SessionEnd.OutOfMemory) result (λ m. spec.text_write m text.now) }
-    ensures cause { ComesByFault (H.told host.old) (Err SessionEnd.HostFault) result (H.faults host.old) (H.faults host.new) }
+    ensures told { Answers (H.told host.old) (H.told host.new) (Err SessionEnd.OutOfMemory) result
+        (λ m. spec.text_write m text.now) }
+    ensures cause { ComesByFault (H.told host.old) (Err SessionEnd.HostFault) result
+        (H.faults host.old) (H.faults host.new) }
     ensures keeps { Keeps (H.told host.old) (H.told host.new) (H.faults host.old) (H.faults host.new) }
     ensures unwritten { IsTrue (tells (H.told host.old)) → result ≡ Err SessionEnd.OutOfMemory →
         (contents (H.told host.new)).output ≡ (contents (H.told host.old)).output }
@@ -42,8 +44,10 @@ pub(crate) fn write_text<H: Host>(host: &mut H, text: &[u8]) -> Result<(), Sessi
 
 /// Writes a line and its newline by one call.
 pub(crate) fn write_line<H: Host>(host: &mut H, line: Bytes) -> Result<(), SessionEnd>
-    ensures told { Answers (H.told host.old) (H.told host.new) (Err SessionEnd.OutOfMemory) result (λ m. spec.line_write m line) }
-    ensures cause { ComesByFault (H.told host.old) (Err SessionEnd.HostFault) result (H.faults host.old) (H.faults host.new) }
+    ensures told { Answers (H.told host.old) (H.told host.new) (Err SessionEnd.OutOfMemory) result
+        (λ m. spec.line_write m line) }
+    ensures cause { ComesByFault (H.told host.old) (Err SessionEnd.HostFault) result
+        (H.faults host.old) (H.faults host.new) }
     ensures keeps { Keeps (H.told host.old) (H.told host.new) (H.faults host.old) (H.faults host.new) }
     ensures unwritten { IsTrue (tells (H.told host.old)) → result ≡ Err SessionEnd.OutOfMemory →
         (contents (H.told host.new)).output ≡ (contents (H.told host.old)).output }
@@ -59,7 +63,8 @@ pub(crate) fn write_line<H: Host>(host: &mut H, line: Bytes) -> Result<(), Sessi
 #[tactic(auto, using(crate::proofs::LineReads::bytes), unfolding(crate::specs::HostLines::byte_read))]
 fn read_byte<H: Host>(host: &mut H) -> Result<Option<u8>, SessionEnd>
     ensures told { Answers (H.told host.old) (H.told host.new) (Err SessionEnd.OutOfMemory) result spec.byte_read }
-    ensures cause { ComesByFault (H.told host.old) (Err SessionEnd.HostFault) result (H.faults host.old) (H.faults host.new) }
+    ensures cause { ComesByFault (H.told host.old) (Err SessionEnd.HostFault) result
+        (H.faults host.old) (H.faults host.new) }
     ensures keeps { Keeps (H.told host.old) (H.told host.new) (H.faults host.old) (H.faults host.new) }
     ensures output { KeepsOutput (H.told host.old) (H.told host.new) }
 {
@@ -75,8 +80,10 @@ fn read_byte<H: Host>(host: &mut H) -> Result<Option<u8>, SessionEnd>
 fn grow<H: Host>(host: &mut H, line: &mut Bytes, left: &mut u64) -> Result<bool, SessionEnd>
     requires { 0 < left.old }
     ensures told { IsTrue (tells (H.told host.old)) → result ≢ Err SessionEnd.OutOfMemory →
-        (result, line.new, left.new, contents (H.told host.new)) ≡ spec.grown (left.old - 1) line.old (contents (H.told host.old)) }
-    ensures cause { ComesByFault (H.told host.old) (Err SessionEnd.HostFault) result (H.faults host.old) (H.faults host.new) }
+        (result, line.new, left.new, contents (H.told host.new)) ≡
+        spec.grown (left.old - 1) line.old (contents (H.told host.old)) }
+    ensures cause { ComesByFault (H.told host.old) (Err SessionEnd.HostFault) result
+        (H.faults host.old) (H.faults host.new) }
     ensures keeps { Keeps (H.told host.old) (H.told host.new) (H.faults host.old) (H.faults host.new) }
     ensures output { KeepsOutput (H.told host.old) (H.told host.new) }
     ensures fewer { result ≡ Ok true → left.new + 1 ≡ left.old }
@@ -125,7 +132,8 @@ pub(crate) fn read_line<H: Host>(
 ) -> Result<Bytes, SessionEnd>
     ensures told { IsTrue (tells (H.told host.old)) → result ≢ Err SessionEnd.OutOfMemory →
         (result, left.new, contents (H.told host.new)) ≡ spec.line_read left.old [] (contents (H.told host.old)) }
-    ensures cause { ComesByFault (H.told host.old) (Err SessionEnd.HostFault) result (H.faults host.old) (H.faults host.new) }
+    ensures cause { ComesByFault (H.told host.old) (Err SessionEnd.HostFault) result
+        (H.faults host.old) (H.faults host.new) }
     ensures keeps { Keeps (H.told host.old) (H.told host.new) (H.faults host.old) (H.faults host.new) }
     ensures output { KeepsOutput (H.told host.old) (H.told host.new) }
 {

@@ -36,7 +36,8 @@ pub(crate) fn write_octas<H: Host>(
         (λ m. lines_write (spec.octas_after (state_of machine.now) form a n) m) }
     ensures front { WritesFront (H.told host.old) (H.told host.new) (Err SessionEnd.OutOfMemory) result
         (λ m. lines_write (spec.octas_after (state_of machine.now) form a n) m) }
-    ensures cause { ComesByFault (H.told host.old) (Err SessionEnd.HostFault) result (H.faults host.old) (H.faults host.new) }
+    ensures cause { ComesByFault (H.told host.old) (Err SessionEnd.HostFault) result
+        (H.faults host.old) (H.faults host.new) }
     ensures keeps { Keeps (H.told host.old) (H.told host.new) (H.faults host.old) (H.faults host.new) }
 {
     for turn in 0..n {
@@ -59,7 +60,8 @@ fn write_octa<H: Host>(
     requires { a < 2 ^ 63 }
     ensures told { Answers (H.told host.old) (H.told host.new) (Err SessionEnd.OutOfMemory) result
         (λ m. line_write m (subjects.shown_line (state_of machine.now) (Subject.Memory a) form)) }
-    ensures cause { ComesByFault (H.told host.old) (Err SessionEnd.HostFault) result (H.faults host.old) (H.faults host.new) }
+    ensures cause { ComesByFault (H.told host.old) (Err SessionEnd.HostFault) result
+        (H.faults host.old) (H.faults host.new) }
     ensures keeps { Keeps (H.told host.old) (H.told host.new) (H.faults host.old) (H.faults host.new) }
     ensures unwritten { IsTrue (tells (H.told host.old)) → result ≡ Err SessionEnd.OutOfMemory →
         (contents (H.told host.new)).output ≡ (contents (H.told host.old)).output }
@@ -78,7 +80,8 @@ pub(crate) fn write_flags<H: Host>(
         (λ m. lines_write (spec.flag_lines (flags_at runner.now.flags) 0 spec.tetra_count) m) }
     ensures front { WritesFront (H.told host.old) (H.told host.new) (Err SessionEnd.OutOfMemory) result
         (λ m. lines_write (spec.flag_lines (flags_at runner.now.flags) 0 spec.tetra_count) m) }
-    ensures cause { ComesByFault (H.told host.old) (Err SessionEnd.HostFault) result (H.faults host.old) (H.faults host.new) }
+    ensures cause { ComesByFault (H.told host.old) (Err SessionEnd.HostFault) result
+        (H.faults host.old) (H.faults host.new) }
     ensures keeps { Keeps (H.told host.old) (H.told host.new) (H.faults host.old) (H.faults host.new) }
 {
     let mut tetra: u64 = 0;
@@ -99,7 +102,8 @@ fn write_flag<H: Host>(alloc: Global, host: &mut H, a: u64, flags: Flags) -> Res
     ensures told { Answers (H.told host.old) (H.told host.new) (Err SessionEnd.OutOfMemory) result
         (λ m. line_write m (flag_text a flags)) }
     ensures address { a < 2 ^ 64 }
-    ensures cause { ComesByFault (H.told host.old) (Err SessionEnd.HostFault) result (H.faults host.old) (H.faults host.new) }
+    ensures cause { ComesByFault (H.told host.old) (Err SessionEnd.HostFault) result
+        (H.faults host.old) (H.faults host.new) }
     ensures keeps { Keeps (H.told host.old) (H.told host.new) (H.faults host.old) (H.faults host.new) }
     ensures unwritten { IsTrue (tells (H.told host.old)) → result ≡ Err SessionEnd.OutOfMemory →
         (contents (H.told host.new)).output ≡ (contents (H.told host.old)).output }

@@ -39,7 +39,8 @@ pub(crate) fn refuse<H: Host>(
 ) -> Result<(), SessionEnd>
     ensures told { Goes (H.told host.old) (H.told host.new) runner.now runner.now dialog.now dialog.now result
         (λ c. spec.line_done c (judgement.bad_text bad)) }
-    ensures cause { ComesByFault (H.told host.old) (Err SessionEnd.HostFault) result (H.faults host.old) (H.faults host.new) }
+    ensures cause { ComesByFault (H.told host.old) (Err SessionEnd.HostFault) result
+        (H.faults host.old) (H.faults host.new) }
     ensures keeps { Keeps (H.told host.old) (H.told host.new) (H.faults host.old) (H.faults host.new) }
     ensures unwritten { IsTrue (tells (H.told host.old)) → result ≡ Err SessionEnd.OutOfMemory →
         (contents (H.told host.new)).output ≡ (contents (H.told host.old)).output }
@@ -59,7 +60,8 @@ pub(crate) fn show_state<H: Host>(
         (λ c. spec.answered window_machine c (Command.State)) }
     ensures front { GoesFront (H.told host.old) (H.told host.new) runner.now dialog.now result
         (λ c. spec.answered window_machine c (Command.State)) }
-    ensures cause { ComesByFault (H.told host.old) (Err SessionEnd.HostFault) result (H.faults host.old) (H.faults host.new) }
+    ensures cause { ComesByFault (H.told host.old) (Err SessionEnd.HostFault) result
+        (H.faults host.old) (H.faults host.new) }
     ensures keeps { Keeps (H.told host.old) (H.told host.new) (H.faults host.old) (H.faults host.new) }
 {
     write_line(host, state_line(alloc, runner.machine())?)
@@ -79,7 +81,8 @@ pub(crate) fn show<H: Host>(
         (λ c. spec.answered window_machine c (Command.Show subject form)) }
     ensures front { GoesFront (H.told host.old) (H.told host.new) runner.old dialog.old result
         (λ c. spec.answered window_machine c (Command.Show subject form)) }
-    ensures cause { ComesByFault (H.told host.old) (Err SessionEnd.HostFault) result (H.faults host.old) (H.faults host.new) }
+    ensures cause { ComesByFault (H.told host.old) (Err SessionEnd.HostFault) result
+        (H.faults host.old) (H.faults host.new) }
     ensures keeps { Keeps (H.told host.old) (H.told host.new) (H.faults host.old) (H.faults host.new) }
 {
     match subject_bad(runner.machine(), subject) {
@@ -103,7 +106,8 @@ fn show_sound<H: Host>(
         (λ c. spec.carried_out c (Command.Show subject form)) }
     ensures front { GoesFront (H.told host.old) (H.told host.new) runner.old dialog.old result
         (λ c. spec.carried_out c (Command.Show subject form)) }
-    ensures cause { ComesByFault (H.told host.old) (Err SessionEnd.HostFault) result (H.faults host.old) (H.faults host.new) }
+    ensures cause { ComesByFault (H.told host.old) (Err SessionEnd.HostFault) result
+        (H.faults host.old) (H.faults host.new) }
     ensures keeps { Keeps (H.told host.old) (H.told host.new) (H.faults host.old) (H.faults host.new) }
 {
     let line = shown_line(alloc, runner.machine(), subject, form)?;
@@ -153,7 +157,8 @@ pub(crate) fn change_subject<H: Host>(
         (λ c. spec.answered window_machine c (Command.Change subject value)) }
     ensures front { GoesFront (H.told host.old) (H.told host.new) runner.old dialog.old result
         (λ c. spec.answered window_machine c (Command.Change subject value)) }
-    ensures cause { ComesByFault (H.told host.old) (Err SessionEnd.HostFault) result (H.faults host.old) (H.faults host.new) }
+    ensures cause { ComesByFault (H.told host.old) (Err SessionEnd.HostFault) result
+        (H.faults host.old) (H.faults host.new) }
     ensures keeps { Keeps (H.told host.old) (H.told host.new) (H.faults host.old) (H.faults host.new) }
 {
     let Some(value) = value else {
@@ -181,7 +186,8 @@ fn change_sound<H: Host>(
         (λ c. spec.answered window_machine c (Command.Change subject (Some value))) }
     ensures front { GoesFront (H.told host.old) (H.told host.new) runner.old dialog.old result
         (λ c. spec.answered window_machine c (Command.Change subject (Some value))) }
-    ensures cause { ComesByFault (H.told host.old) (Err SessionEnd.HostFault) result (H.faults host.old) (H.faults host.new) }
+    ensures cause { ComesByFault (H.told host.old) (Err SessionEnd.HostFault) result
+        (H.faults host.old) (H.faults host.new) }
     ensures keeps { Keeps (H.told host.old) (H.told host.new) (H.faults host.old) (H.faults host.new) }
 {
     match change(runner, subject, value) {
@@ -205,7 +211,8 @@ pub(crate) fn show_more<H: Host>(
         (λ c. spec.answered window_machine c (Command.ShowMore n form)) }
     ensures front { GoesFront (H.told host.old) (H.told host.new) runner.old dialog.old result
         (λ c. spec.answered window_machine c (Command.ShowMore n form)) }
-    ensures cause { ComesByFault (H.told host.old) (Err SessionEnd.HostFault) result (H.faults host.old) (H.faults host.new) }
+    ensures cause { ComesByFault (H.told host.old) (Err SessionEnd.HostFault) result
+        (H.faults host.old) (H.faults host.new) }
     ensures keeps { Keeps (H.told host.old) (H.told host.new) (H.faults host.old) (H.faults host.new) }
 {
     let Some(n) = n else {
@@ -232,7 +239,8 @@ fn show_octas<H: Host>(
         (λ c. spec.carried_out c (Command.ShowMore (Some n) form)) }
     ensures front { GoesFront (H.told host.old) (H.told host.new) runner.old dialog.old result
         (λ c. spec.carried_out c (Command.ShowMore (Some n) form)) }
-    ensures cause { ComesByFault (H.told host.old) (Err SessionEnd.HostFault) result (H.faults host.old) (H.faults host.new) }
+    ensures cause { ComesByFault (H.told host.old) (Err SessionEnd.HostFault) result
+        (H.faults host.old) (H.faults host.new) }
     ensures keeps { Keeps (H.told host.old) (H.told host.new) (H.faults host.old) (H.faults host.new) }
 {
     let Some(a) = dialog.shown else {
@@ -257,7 +265,8 @@ pub(crate) fn go_to<H: Host>(
         (λ c. spec.answered window_machine c (Command.GoTo a)) }
     ensures front { GoesFront (H.told host.old) (H.told host.new) runner.old dialog.old result
         (λ c. spec.answered window_machine c (Command.GoTo a)) }
-    ensures cause { ComesByFault (H.told host.old) (Err SessionEnd.HostFault) result (H.faults host.old) (H.faults host.new) }
+    ensures cause { ComesByFault (H.told host.old) (Err SessionEnd.HostFault) result
+        (H.faults host.old) (H.faults host.new) }
     ensures keeps { Keeps (H.told host.old) (H.told host.new) (H.faults host.old) (H.faults host.new) }
 {
     if let Some(bad) = go_to_bad(a) {
@@ -282,7 +291,8 @@ pub(crate) fn set_tetra_breaks<H: Host>(
         (λ c. spec.answered window_machine c (Command.Break breaks a)) }
     ensures front { GoesFront (H.told host.old) (H.told host.new) runner.old dialog.old result
         (λ c. spec.answered window_machine c (Command.Break breaks a)) }
-    ensures cause { ComesByFault (H.told host.old) (Err SessionEnd.HostFault) result (H.faults host.old) (H.faults host.new) }
+    ensures cause { ComesByFault (H.told host.old) (Err SessionEnd.HostFault) result
+        (H.faults host.old) (H.faults host.new) }
     ensures keeps { Keeps (H.told host.old) (H.told host.new) (H.faults host.old) (H.faults host.new) }
 {
     if let Some(bad) = flag_bad(a) {
@@ -305,7 +315,8 @@ pub(crate) fn trace_tetra<H: Host>(
         (λ c. spec.answered window_machine c (Command.Trace a)) }
     ensures front { GoesFront (H.told host.old) (H.told host.new) runner.old dialog.old result
         (λ c. spec.answered window_machine c (Command.Trace a)) }
-    ensures cause { ComesByFault (H.told host.old) (Err SessionEnd.HostFault) result (H.faults host.old) (H.faults host.new) }
+    ensures cause { ComesByFault (H.told host.old) (Err SessionEnd.HostFault) result
+        (H.faults host.old) (H.faults host.new) }
     ensures keeps { Keeps (H.told host.old) (H.told host.new) (H.faults host.old) (H.faults host.new) }
 {
     if let Some(bad) = flag_bad(a) {
@@ -328,7 +339,8 @@ pub(crate) fn untrace_tetra<H: Host>(
         (λ c. spec.answered window_machine c (Command.Untrace a)) }
     ensures front { GoesFront (H.told host.old) (H.told host.new) runner.old dialog.old result
         (λ c. spec.answered window_machine c (Command.Untrace a)) }
-    ensures cause { ComesByFault (H.told host.old) (Err SessionEnd.HostFault) result (H.faults host.old) (H.faults host.new) }
+    ensures cause { ComesByFault (H.told host.old) (Err SessionEnd.HostFault) result
+        (H.faults host.old) (H.faults host.new) }
     ensures keeps { Keeps (H.told host.old) (H.told host.new) (H.faults host.old) (H.faults host.new) }
 {
     if let Some(bad) = flag_bad(a) {
@@ -350,7 +362,8 @@ pub(crate) fn show_flags<H: Host>(
         (λ c. spec.answered window_machine c (Command.Flags)) }
     ensures front { GoesFront (H.told host.old) (H.told host.new) runner.now dialog.now result
         (λ c. spec.answered window_machine c (Command.Flags)) }
-    ensures cause { ComesByFault (H.told host.old) (Err SessionEnd.HostFault) result (H.faults host.old) (H.faults host.new) }
+    ensures cause { ComesByFault (H.told host.old) (Err SessionEnd.HostFault) result
+        (H.faults host.old) (H.faults host.new) }
     ensures keeps { Keeps (H.told host.old) (H.told host.new) (H.faults host.old) (H.faults host.new) }
 {
     write_flags(alloc, runner, host)

@@ -71,7 +71,8 @@ fn all_lines<H: Host>(
         (λ c. spec.session_lines (spec.most_input + 1) window_machine steps c) }
     ensures listed { PartsAsList (H.told host.old) (H.told host.new) runner.old runner.new dialog.old dialog.new result
         (λ c. spec.session_lines (spec.most_input + 1) list_machine steps c) }
-    ensures cause { ComesByFault (H.told host.old) (Err SessionEnd.HostFault) result (H.faults host.old) (H.faults host.new) }
+    ensures cause { ComesByFault (H.told host.old) (Err SessionEnd.HostFault) result
+        (H.faults host.old) (H.faults host.new) }
     ensures keeps { Keeps (H.told host.old) (H.told host.new) (H.faults host.old) (H.faults host.new) }
 {
     for turn in 0..MOST_INPUT + 1 {
@@ -98,7 +99,8 @@ fn one_line<H: Host>(
         (λ c. spec.one_line window_machine steps c) }
     ensures listed { PartsAsList (H.told host.old) (H.told host.new) runner.old runner.new dialog.old dialog.new result
         (λ c. spec.one_line list_machine steps c) }
-    ensures cause { ComesByFault (H.told host.old) (Err SessionEnd.HostFault) result (H.faults host.old) (H.faults host.new) }
+    ensures cause { ComesByFault (H.told host.old) (Err SessionEnd.HostFault) result
+        (H.faults host.old) (H.faults host.new) }
     ensures keeps { Keeps (H.told host.old) (H.told host.new) (H.faults host.old) (H.faults host.new) }
 {
     match ask(alloc, runner, host, dialog) {
@@ -123,7 +125,8 @@ fn ask<H: Host>(
         (λ c. spec.asked c) }
     ensures front { GoesFront (H.told host.old) (H.told host.new) runner.now dialog.old result
         (λ c. spec.asked c) }
-    ensures cause { ComesByFault (H.told host.old) (Err SessionEnd.HostFault) result (H.faults host.old) (H.faults host.new) }
+    ensures cause { ComesByFault (H.told host.old) (Err SessionEnd.HostFault) result
+        (H.faults host.old) (H.faults host.new) }
     ensures keeps { Keeps (H.told host.old) (H.told host.new) (H.faults host.old) (H.faults host.new) }
 {
     match write_text(host, b"mmix> ") {
@@ -149,7 +152,8 @@ fn carry_out<H: Host>(
     ensures runs { command ≡ Some Command.Continue →
         PartsAsList (H.told host.old) (H.told host.new) runner.old runner.new dialog.old dialog.new result
         (λ c. spec.command_done list_machine steps c command) }
-    ensures cause { ComesByFault (H.told host.old) (Err SessionEnd.HostFault) result (H.faults host.old) (H.faults host.new) }
+    ensures cause { ComesByFault (H.told host.old) (Err SessionEnd.HostFault) result
+        (H.faults host.old) (H.faults host.new) }
     ensures keeps { Keeps (H.told host.old) (H.told host.new) (H.faults host.old) (H.faults host.new) }
 {
     let Some(command) = command else {

@@ -39,7 +39,8 @@ pub(crate) fn step_once<H: Host>(
         (λ c. spec.stepped window_machine steps c) }
     ensures front { GoesFront (H.told host.old) (H.told host.new) runner.old dialog.now result
         (λ c. spec.stepped window_machine steps c) }
-    ensures cause { ComesByFault (H.told host.old) (Err SessionEnd.HostFault) result (H.faults host.old) (H.faults host.new) }
+    ensures cause { ComesByFault (H.told host.old) (Err SessionEnd.HostFault) result
+        (H.faults host.old) (H.faults host.new) }
     ensures keeps { Keeps (H.told host.old) (H.told host.new) (H.faults host.old) (H.faults host.new) }
 {
     if steps_left(steps, runner) == 0 {
@@ -63,7 +64,8 @@ fn write_trace<H: Host>(
 ) -> Result<(), SessionEnd>
     ensures told { Answers (H.told host.old) (H.told host.new) (Err SessionEnd.OutOfMemory) result
         (λ m. line_write m (trace_text trace.now (state_of machine.now))) }
-    ensures cause { ComesByFault (H.told host.old) (Err SessionEnd.HostFault) result (H.faults host.old) (H.faults host.new) }
+    ensures cause { ComesByFault (H.told host.old) (Err SessionEnd.HostFault) result
+        (H.faults host.old) (H.faults host.new) }
     ensures keeps { Keeps (H.told host.old) (H.told host.new) (H.faults host.old) (H.faults host.new) }
     ensures unwritten { IsTrue (tells (H.told host.old)) → result ≡ Err SessionEnd.OutOfMemory →
         (contents (H.told host.new)).output ≡ (contents (H.told host.old)).output }
@@ -86,7 +88,8 @@ pub(crate) fn go_on<H: Host>(
         (λ c. spec.runs window_machine (spec.steps_left steps c.state) steps true c) }
     ensures listed { PartsAsList (H.told host.old) (H.told host.new) runner.old runner.new dialog.now dialog.now result
         (λ c. spec.runs list_machine (spec.steps_left steps c.state) steps true c) }
-    ensures cause { ComesByFault (H.told host.old) (Err SessionEnd.HostFault) result (H.faults host.old) (H.faults host.new) }
+    ensures cause { ComesByFault (H.told host.old) (Err SessionEnd.HostFault) result
+        (H.faults host.old) (H.faults host.new) }
     ensures keeps { Keeps (H.told host.old) (H.told host.new) (H.faults host.old) (H.faults host.new) }
 {
     let most = steps_left(steps, runner);
@@ -117,7 +120,8 @@ fn run_once<H: Host>(
         (λ c. spec.one_run window_machine steps pass c) }
     ensures listed { PartsAsList (H.told host.old) (H.told host.new) runner.old runner.new dialog.now dialog.now result
         (λ c. spec.one_run list_machine steps pass c) }
-    ensures cause { ComesByFault (H.told host.old) (Err SessionEnd.HostFault) result (H.faults host.old) (H.faults host.new) }
+    ensures cause { ComesByFault (H.told host.old) (Err SessionEnd.HostFault) result
+        (H.faults host.old) (H.faults host.new) }
     ensures keeps { Keeps (H.told host.old) (H.told host.new) (H.faults host.old) (H.faults host.new) }
 {
     let end = runner.go(alloc, host, steps_left(steps, runner), pass);
@@ -136,7 +140,8 @@ fn end_run<H: Host>(
         (λ m. spec.end_answer (state_of machine.now) end m) }
     ensures front { WritesFront (H.told host.old) (H.told host.new) (Err SessionEnd.OutOfMemory) result
         (λ m. spec.end_answer (state_of machine.now) end m) }
-    ensures cause { ComesByFault (H.told host.old) (Err SessionEnd.HostFault) result (H.faults host.old) (H.faults host.new) }
+    ensures cause { ComesByFault (H.told host.old) (Err SessionEnd.HostFault) result
+        (H.faults host.old) (H.faults host.new) }
     ensures keeps { Keeps (H.told host.old) (H.told host.new) (H.faults host.old) (H.faults host.new) }
 {
     match end {
@@ -171,7 +176,8 @@ fn write_break<H: Host>(
         (λ m. lines_write (spec.break_lines (state_of machine.now) kind at traced) m) }
     ensures front { WritesFront (H.told host.old) (H.told host.new) (Err SessionEnd.OutOfMemory) result
         (λ m. lines_write (spec.break_lines (state_of machine.now) kind at traced) m) }
-    ensures cause { ComesByFault (H.told host.old) (Err SessionEnd.HostFault) result (H.faults host.old) (H.faults host.new) }
+    ensures cause { ComesByFault (H.told host.old) (Err SessionEnd.HostFault) result
+        (H.faults host.old) (H.faults host.new) }
     ensures keeps { Keeps (H.told host.old) (H.told host.new) (H.faults host.old) (H.faults host.new) }
 {
     match traced {
@@ -194,7 +200,8 @@ fn write_traced_break<H: Host>(
         (λ m. lines_write (spec.break_lines (state_of machine.now) kind at (Some trace)) m) }
     ensures front { WritesFront (H.told host.old) (H.told host.new) (Err SessionEnd.OutOfMemory) result
         (λ m. lines_write (spec.break_lines (state_of machine.now) kind at (Some trace)) m) }
-    ensures cause { ComesByFault (H.told host.old) (Err SessionEnd.HostFault) result (H.faults host.old) (H.faults host.new) }
+    ensures cause { ComesByFault (H.told host.old) (Err SessionEnd.HostFault) result
+        (H.faults host.old) (H.faults host.new) }
     ensures keeps { Keeps (H.told host.old) (H.told host.new) (H.faults host.old) (H.faults host.new) }
 {
     match write_trace(alloc, machine, host, &trace) {
@@ -211,7 +218,8 @@ fn write_break_line<H: Host>(
 ) -> Result<(), SessionEnd>
     ensures told { Answers (H.told host.old) (H.told host.new) (Err SessionEnd.OutOfMemory) result
         (λ m. line_write m (break_text kind at)) }
-    ensures cause { ComesByFault (H.told host.old) (Err SessionEnd.HostFault) result (H.faults host.old) (H.faults host.new) }
+    ensures cause { ComesByFault (H.told host.old) (Err SessionEnd.HostFault) result
+        (H.faults host.old) (H.faults host.new) }
     ensures keeps { Keeps (H.told host.old) (H.told host.new) (H.faults host.old) (H.faults host.new) }
     ensures unwritten { IsTrue (tells (H.told host.old)) → result ≡ Err SessionEnd.OutOfMemory →
         (contents (H.told host.new)).output ≡ (contents (H.told host.old)).output }

@@ -36,7 +36,8 @@ impl Machine {
     #[inline(never)]
     fn compute_wholly(&mut self, at: u64, word: u32, y: u64, z: u64) -> Told
         requires { operation_in (instruction at word) ≡ Operation.Compute }
-        ensures { Makes (λ s. answer_outcome s (instruction at word) y z (spec.alu_answer s (instruction at word) y z)) (answer_in result) self.old self.new }
+        ensures { Makes (λ s. answer_outcome s (instruction at word) y z (spec.alu_answer s (instruction at word) y z))
+            (answer_in result) self.old self.new }
     {
         let i = Instruction::new(at, word);
         let a = alu(i.code(), y, z, self.extra());

@@ -21,7 +21,8 @@ impl Machine {
     pub(crate) fn perform(&mut self, i: &Instruction) -> Result<(), Stop>
         ensures answer { CarriesOutWithMemory (operation_in i.now) i.now result self.old self.new }
         ensures err { KeepsOnErr result self.old self.new }
-        ensures there { LacksMemoryOnlyWhere (needs_page (state_of self.old) (deed_of (operation_in i.now) (state_of self.old) i.now)) result }
+        ensures there { LacksMemoryOnlyWhere
+            (needs_page (state_of self.old) (deed_of (operation_in i.now) (state_of self.old) i.now)) result }
     {
         match i.operation() {
             Operation::Compute => self.compute(i),

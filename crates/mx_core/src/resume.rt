@@ -44,7 +44,8 @@ impl Machine {
         requires { kind ≡ kinds.Set → sets_marginal (state_of self.old) (spec.instruction at word) ≡ false }
         ensures answer { MakesWithMemory (λ s. outcome s (deeds.performed kind s at word)) result self.old self.new }
         ensures err { KeepsOnErr result self.old self.new }
-        ensures there { LacksMemoryOnlyWhere (needs_page (state_of self.old) (deeds.performed kind (state_of self.old) at word)) result }
+        ensures there { LacksMemoryOnlyWhere
+            (needs_page (state_of self.old) (deeds.performed kind (state_of self.old) at word)) result }
     {
         match kind {
             Kind::Again => self.perform(&Instruction::new(at, word)),

@@ -36,9 +36,11 @@ impl Machine {
     /// The same by its operation.
     #[tactic(auto, using(crate::proofs::Sights::load_sight, crate::proofs::Sights::store_sight, crate::proofs::Sights::quiet_sight))]
     fn sight_by_operation(&self, i: &Instruction) -> Sight
-        ensures value { is_swap (operation_in i.now) ≡ false → result ≡ sight_of (deed_of (operation_in i.now) (state_of self.now) i.now) }
+        ensures value { is_swap (operation_in i.now) ≡ false →
+            result ≡ sight_of (deed_of (operation_in i.now) (state_of self.now) i.now) }
         ensures apart { is_swap (operation_in i.now) ≡ false → is_exchange result ≡ false }
-        ensures exchange { is_swap (operation_in i.now) ≡ true → result ≡ spec.exchange_sight (state_of self.now) i.now }
+        ensures exchange { is_swap (operation_in i.now) ≡ true →
+            result ≡ spec.exchange_sight (state_of self.now) i.now }
     {
         match i.operation() {
             Operation::Load(how) => Sight {

@@ -210,7 +210,8 @@ impl Machine {
 
     /// The frame whose last octa holds an address is brought back.
     fn bring_back(&mut self, a: u64) -> Result<(), Stop>
-        ensures { Makes (λ s. unless (unsave_refused s.stack a) reasons.BadFrame (spec.frame_back s (stack_index a))) result self.old self.new }
+        ensures { Makes (λ s. unless (unsave_refused s.stack a) reasons.BadFrame
+            (spec.frame_back s (stack_index a))) result self.old self.new }
     {
         match self.bring_registers_back(a) {
             Ok(saved) => {

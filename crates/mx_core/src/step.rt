@@ -41,7 +41,8 @@ pub enum Advance {
 impl Machine {
     /// One step. It takes memory only for a store to a page that is not there.
     pub fn step(&mut self) -> Step
-        ensures answer { result ≢ Step.OutOfMemory → (result, state_of self.new) ≡ step_answer (state_of self.old) (spec.step (state_of self.old)) }
+        ensures answer { result ≢ Step.OutOfMemory →
+            (result, state_of self.new) ≡ step_answer (state_of self.old) (spec.step (state_of self.old)) }
         ensures memory { result ≡ Step.OutOfMemory → state_of self.new ≡ state_of self.old }
         ensures there { result ≡ Step.OutOfMemory → IsTrue (step_needs_page (state_of self.old)) }
     {
@@ -73,9 +74,11 @@ impl Machine {
         requires fetched { i.now ≡ spec.fetched (state_of self.old) }
         requires range { (state_of self.old).pc < 2 ^ 63 }
         requires other { operation_in i.now ≢ Operation.Trap }
-        ensures answer { result ≢ Step.OutOfMemory → (result, state_of self.new) ≡ step_answer (state_of self.old) (spec.step (state_of self.old)) }
+        ensures answer { result ≢ Step.OutOfMemory →
+            (result, state_of self.new) ≡ step_answer (state_of self.old) (spec.step (state_of self.old)) }
         ensures memory { result ≡ Step.OutOfMemory → state_of self.new ≡ state_of self.old }
-        ensures there { result ≡ Step.OutOfMemory → IsTrue (needs_page (state_of self.old) (deed_at (state_of self.old) i.now)) }
+        ensures there { result ≡ Step.OutOfMemory →
+            IsTrue (needs_page (state_of self.old) (deed_at (state_of self.old) i.now)) }
     {
         let sight = self.sight_at(i);
         match self.carry_out_by(Group::Other, i) {
@@ -98,7 +101,8 @@ impl Machine {
     /// One step without its trace. It takes memory only for a store to a page that is not there.
     #[inline(always)]
     pub fn advance(&mut self) -> Advance
-        ensures answer { result ≢ Advance.OutOfMemory → (result, state_of self.new) ≡ advanced (state_of self.old) (spec.step (state_of self.old)) }
+        ensures answer { result ≢ Advance.OutOfMemory →
+            (result, state_of self.new) ≡ advanced (state_of self.old) (spec.step (state_of self.old)) }
         ensures memory { result ≡ Advance.OutOfMemory → state_of self.new ≡ state_of self.old }
         ensures there { result ≡ Advance.OutOfMemory → IsTrue (step_needs_page (state_of self.old)) }
     {
@@ -117,7 +121,8 @@ impl Machine {
     /// The same for each address and each instruction.
     #[inline(never)]
     fn advance_anyhow(&mut self) -> Advance
-        ensures answer { result ≢ Advance.OutOfMemory → (result, state_of self.new) ≡ advanced (state_of self.old) (spec.step (state_of self.old)) }
+        ensures answer { result ≢ Advance.OutOfMemory →
+            (result, state_of self.new) ≡ advanced (state_of self.old) (spec.step (state_of self.old)) }
         ensures memory { result ≡ Advance.OutOfMemory → state_of self.new ≡ state_of self.old }
         ensures there { result ≡ Advance.OutOfMemory → IsTrue (step_needs_page (state_of self.old)) }
     {
@@ -139,9 +144,11 @@ impl Machine {
         requires range { (state_of self.old).pc < 2 ^ 63 }
         requires other { operation_in i.now ≢ Operation.Trap }
         requires group { operation_in i.now ≡ operation_by group (code_of i.now) }
-        ensures answer { result ≢ Advance.OutOfMemory → (result, state_of self.new) ≡ advanced (state_of self.old) (spec.step (state_of self.old)) }
+        ensures answer { result ≢ Advance.OutOfMemory →
+            (result, state_of self.new) ≡ advanced (state_of self.old) (spec.step (state_of self.old)) }
         ensures memory { result ≡ Advance.OutOfMemory → state_of self.new ≡ state_of self.old }
-        ensures there { result ≡ Advance.OutOfMemory → IsTrue (needs_page (state_of self.old) (deed_at (state_of self.old) i.now)) }
+        ensures there { result ≡ Advance.OutOfMemory →
+            IsTrue (needs_page (state_of self.old) (deed_at (state_of self.old) i.now)) }
     {
         match self.carry_out_by(group, i) {
             Ok(()) => {
@@ -232,9 +239,11 @@ impl Machine {
     #[tactic(auto, using(crate::proofs::Unchanged::unchanged))]
     #[inline(never)]
     fn carry_out(&mut self, at: u64, word: u32) -> Told
-        ensures answer { MakesWithMemory (λ s. outcome s (deed_at s (instruction at word))) (answer_in result) self.old self.new }
+        ensures answer { MakesWithMemory (λ s. outcome s (deed_at s (instruction at word)))
+            (answer_in result) self.old self.new }
         ensures err { KeepsOnErr (answer_in result) self.old self.new }
-        ensures there { LacksMemoryOnlyWhere (needs_page (state_of self.old) (deed_at (state_of self.old) (instruction at word))) (answer_in result) }
+        ensures there { LacksMemoryOnlyWhere
+            (needs_page (state_of self.old) (deed_at (state_of self.old) (instruction at word))) (answer_in result) }
     {
         let i = Instruction::new(at, word);
         match i.operation() {

@@ -30,7 +30,8 @@ impl Machine {
     pub(crate) fn store_register(&mut self, how: Storing, i: &Instruction) -> Result<(), Stop>
         ensures answer { CarriesOutWithMemory (Operation.Store how) i.now result self.old self.new }
         ensures err { KeepsOnErr result self.old self.new }
-        ensures there { LacksMemoryOnlyWhere (needs_page (state_of self.old) (deed_of (Operation.Store how) (state_of self.old) i.now)) result }
+        ensures there { LacksMemoryOnlyWhere
+            (needs_page (state_of self.old) (deed_of (Operation.Store how) (state_of self.old) i.now)) result }
     {
         let a = self.data_address(i);
         let x = self.x_register(i);
@@ -55,7 +56,8 @@ impl Machine {
     fn store_apart(&mut self, how: Storing, at: u64, word: u32, a: u64, x: u64) -> Told
         requires address { a < 2 ^ 63 }
         requires event { stored_event how x ≡ Some event.Overflow }
-        ensures answer { MakesWithMemory (λ s. spec.store_settled s (instruction at word) how a x) (answer_in result) self.old self.new }
+        ensures answer { MakesWithMemory (λ s. spec.store_settled s (instruction at word) how a x)
+            (answer_in result) self.old self.new }
         ensures err { KeepsOnErr (answer_in result) self.old self.new }
         ensures there { LacksMemoryOnlyWhere (begins_page (state_of self.old) a) (answer_in result) }
     {
@@ -95,7 +97,8 @@ impl Machine {
     ) -> Result<(), Stop>
         requires address { a < 2 ^ 63 }
         requires bits { status < 2 ^ 18 }
-        ensures answer { MakesWithMemory (λ s. spec.overflow_decided s i.now how a x (trips.Noted status)) result self.old self.new }
+        ensures answer { MakesWithMemory (λ s. spec.overflow_decided s i.now how a x (trips.Noted status)) result
+            self.old self.new }
         ensures err { KeepsOnErr result self.old self.new }
         ensures there { LacksMemoryOnlyWhere (begins_page (state_of self.old) a) result }
     {
@@ -121,7 +124,8 @@ impl Machine {
     ) -> Result<(), Stop>
         requires address { a < 2 ^ 63 }
         requires handler { handler < 2 ^ 63 }
-        ensures answer { MakesWithMemory (λ s. spec.overflow_decided s i.now how a x (trips.Taken handler)) result self.old self.new }
+        ensures answer { MakesWithMemory (λ s. spec.overflow_decided s i.now how a x (trips.Taken handler)) result
+            self.old self.new }
         ensures err { KeepsOnErr result self.old self.new }
         ensures there { LacksMemoryOnlyWhere (begins_page (state_of self.old) a) result }
     {

@@ -26,7 +26,8 @@ impl Machine {
     pub(crate) fn swap(&mut self, i: &Instruction) -> Result<(), Stop>
         ensures answer { CarriesOutWithMemory Operation.CompareAndSwap i.now result self.old self.new }
         ensures err { KeepsOnErr result self.old self.new }
-        ensures there { LacksMemoryOnlyWhere (needs_page (state_of self.old) (deed_of Operation.CompareAndSwap (state_of self.old) i.now)) result }
+        ensures there { LacksMemoryOnlyWhere
+            (needs_page (state_of self.old) (deed_of Operation.CompareAndSwap (state_of self.old) i.now)) result }
     {
         let a = self.data_address(i);
         if a >= 1 << 63 {

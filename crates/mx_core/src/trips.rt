@@ -94,7 +94,8 @@ impl Machine {
     #[tactic(auto, using(crate::proofs::Outcomes::specials_append), unfolding(crate::specs::Calls::set_outcome))]
     #[inline(always)]
     pub(crate) fn give(&mut self, i: &Instruction, a: &Answer) -> Result<(), Stop>
-        ensures { Makes (λ s. spec.settled_with s (x_of i.now) a.now.x (told_specials a.now) (next_of i.now)) result self.old self.new }
+        ensures { Makes (λ s. spec.settled_with s (x_of i.now) a.now.x (told_specials a.now) (next_of i.now)) result
+            self.old self.new }
     {
         match self.set(i.x(), a.x) {
             Ok(()) => {
@@ -117,7 +118,8 @@ impl Machine {
         a: &Answer,
         event: Event,
     ) -> Result<(), Stop>
-        ensures { Makes (λ s. spec.raised s i.now a.now.x (told_specials a.now) y z (Some event)) result self.old self.new }
+        ensures { Makes (λ s. spec.raised s i.now a.now.x (told_specials a.now) y z (Some event)) result
+            self.old self.new }
     {
         noted_events_stay_in_18_bits();
         match decide(self.status(), event) {
@@ -130,7 +132,8 @@ impl Machine {
     #[tactic(auto, using(crate::proofs::Outcomes::specials_append), unfolding(crate::specs::Calls::set_outcome))]
     fn give_noted(&mut self, i: &Instruction, a: &Answer, status: u64) -> Result<(), Stop>
         requires { status < 2 ^ 18 }
-        ensures { Makes (λ s. spec.settled_with s (x_of i.now) a.now.x (told_specials a.now ++ (rA, status) ∷ []) (next_of i.now)) result self.old self.new }
+        ensures { Makes (λ s. spec.settled_with s (x_of i.now) a.now.x (told_specials a.now ++ (rA, status) ∷ [])
+            (next_of i.now)) result self.old self.new }
     {
         match self.set(i.x(), a.x) {
             Ok(()) => {
@@ -155,7 +158,8 @@ impl Machine {
         z: u64,
     ) -> Result<(), Stop>
         requires { handler < 2 ^ 63 }
-        ensures { Makes (λ s. spec.trip_taken s i.now (x_of i.now) a.now.x (told_specials a.now) (tripping handler y z)) result self.old self.new }
+        ensures { Makes (λ s. spec.trip_taken s i.now (x_of i.now) a.now.x (told_specials a.now)
+            (tripping handler y z)) result self.old self.new }
     {
         if self.overfills(i.x()) {
             return Err(Stop::Stopped(Reason::StackFull));

@@ -11,7 +11,8 @@ use std::alloc::Global;
 
 /// A primary with the unary operators that wait for it, and the strong operator before them.
 pub(crate) fn settle(alloc: Global, waiting: &mut Stack, primary: Expr) -> Result<Expr, ExprFault>
-    ensures { result ≢ Err ExprFault.OutOfMemory → settled_as result waiting.new ≡ Ok (spec.with_strong (all_waiting waiting.old) (tree_of primary)) }
+    ensures { result ≢ Err ExprFault.OutOfMemory →
+        settled_as result waiting.new ≡ Ok (spec.with_strong (all_waiting waiting.old) (tree_of primary)) }
 {
     let mut e = primary;
     while let Some(op) = waiting.pop_sign() {
@@ -25,7 +26,8 @@ pub(crate) fn settle(alloc: Global, waiting: &mut Stack, primary: Expr) -> Resul
 
 /// A product with the weak operator that waits for it.
 pub(crate) fn sum(alloc: Global, waiting: &mut Stack, product: Expr) -> Result<Expr, ExprFault>
-    ensures { result ≢ Err ExprFault.OutOfMemory → settled_as result waiting.new ≡ Ok (spec.with_weak (all_waiting waiting.old) (tree_of product)) }
+    ensures { result ≢ Err ExprFault.OutOfMemory →
+        settled_as result waiting.new ≡ Ok (spec.with_weak (all_waiting waiting.old) (tree_of product)) }
 {
     match waiting.pop_weak() {
         Some((op, left)) => binary(alloc, op, left, product),
@@ -42,7 +44,8 @@ fn unary(alloc: Global, op: UnOp, e: Expr) -> Result<Expr, ExprFault>
 
 /// An operator with its operands.
 fn binary(alloc: Global, op: BinOp, left: Expr, right: Expr) -> Result<Expr, ExprFault>
-    ensures { MatchResult result (λ x. tree_of x ≡ binary op (tree_of left) (tree_of right)) (λ f. f ≡ ExprFault.OutOfMemory) }
+    ensures { MatchResult result
+        (λ x. tree_of x ≡ binary op (tree_of left) (tree_of right)) (λ f. f ≡ ExprFault.OutOfMemory) }
 {
     let left = Box::new(alloc, left)?;
     Ok(Expr::Binary(op, left, Box::new(alloc, right)?))

@@ -21,9 +21,11 @@ use std::alloc::Global;
 /// the parenthesis and the string. At one place `Syntax` comes first.
 pub fn parse_list(alloc: Global, field: &[u8]) -> Result<Exprs, ExprFault>
     ensures list { IfOk result (λ es. Spells field.now (trees_of es) × Faultless field.now) }
-    ensures spelled { (list : List Tree) → Spells field.now list → Faultless field.now → result ≢ Err ExprFault.OutOfMemory → map_ok trees_of result ≡ Ok list }
+    ensures spelled { (list : List Tree) → Spells field.now list → Faultless field.now →
+        result ≢ Err ExprFault.OutOfMemory → map_ok trees_of result ≡ Ok list }
     ensures fault { IfErr result (λ f. f ≢ ExprFault.OutOfMemory → IsFirst field.now f) }
-    ensures first { (f : ExprFault) → IsFirst field.now f → result ≢ Err ExprFault.OutOfMemory → map_ok trees_of result ≡ Err f }
+    ensures first { (f : ExprFault) → IsFirst field.now f → result ≢ Err ExprFault.OutOfMemory →
+        map_ok trees_of result ≡ Err f }
     ensures digits { IfOk result (λ es. All (λ e. HasDigits (tree_of e)) es) }
 {
     read(alloc, field)

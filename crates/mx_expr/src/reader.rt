@@ -1,6 +1,7 @@
 //! A field is read byte by byte.
 
-ghost use Rattle.std.specs.Prelude.{◌≡◌, ◌≢◌, ◌+◌, ◌*◌, ◌-◌, ◌^◌, ◌<◌, ◌≤◌, List, [], ◌∷◌, ◌++◌, None, Some, Ok, Err, IfOk, IfErr, OnOk, OnErr, IsTrue};
+ghost use Rattle.std.specs.Prelude.{◌≡◌, ◌≢◌, ◌+◌, ◌*◌, ◌-◌, ◌^◌, ◌<◌, ◌≤◌, List, [], ◌∷◌, ◌++◌, None, Some, Ok, Err};
+ghost use Rattle.std.specs.Prelude.{IfOk, IfErr, OnOk, OnErr, IsTrue};
 ghost use Rattle.mx_word.specs.Results.{map_ok};
 ghost use Rattle.mx_expr.specs.Tree.{tree_of, trees_of};
 ghost use Rattle.mx_expr.specs.Bytes as kinds;
@@ -72,14 +73,16 @@ impl Reader {
 
     /// A primary is complete.
     fn complete(&mut self, primary: Expr) -> Result<Mode, ExprFault>
-        ensures { result ≢ Err ExprFault.OutOfMemory → reading_of result self.new ≡ spec.primary_end (tree_of primary) (all_waiting self.old.waiting) self.old.depth (trees_of self.old.done) }
+        ensures { result ≢ Err ExprFault.OutOfMemory → reading_of result self.new ≡
+            spec.primary_end (tree_of primary) (all_waiting self.old.waiting) self.old.depth (trees_of self.old.done) }
     {
         Ok(Mode::Whole(settle(self.alloc, &mut self.waiting, primary)?))
     }
 
     /// One more thing waits for the next primary.
     fn wait(&mut self, item: Waiting) -> Result<Mode, ExprFault>
-        ensures { result ≢ Err ExprFault.OutOfMemory → reading_of result self.new ≡ spec.at spec.operand (waiting_of item ∷ all_waiting self.old.waiting) self.old.depth (trees_of self.old.done) }
+        ensures { result ≢ Err ExprFault.OutOfMemory → reading_of result self.new ≡ spec.at spec.operand
+            (waiting_of item ∷ all_waiting self.old.waiting) self.old.depth (trees_of self.old.done) }
     {
         self.waiting.push(item)?;
         Ok(Mode::Operand)
@@ -88,7 +91,8 @@ impl Reader {
     /// The first byte of a primary.
     fn begin(&mut self, b: u8) -> Result<Mode, ExprFault>
         requires { b ≡ 40 → self.old.depth < 255 }
-        ensures { result ≢ Err ExprFault.OutOfMemory → reading_of result self.new ≡ spec.primary_start b (all_waiting self.old.waiting) self.old.depth (trees_of self.old.done) }
+        ensures { result ≢ Err ExprFault.OutOfMemory → reading_of result self.new ≡
+            spec.primary_start b (all_waiting self.old.waiting) self.old.depth (trees_of self.old.done) }
     {
         if is_digit(b) {
             Ok(Mode::Digit(b - b'0'))
@@ -102,7 +106,8 @@ impl Reader {
     /// The first byte of a primary that is no digit and no letter.
     fn begin_mark(&mut self, b: u8) -> Result<Mode, ExprFault>
         requires { b ≡ 40 → self.old.depth < 255 }
-        ensures { result ≢ Err ExprFault.OutOfMemory → reading_of result self.new ≡ spec.mark_start b (all_waiting self.old.waiting) self.old.depth (trees_of self.old.done) }
+        ensures { result ≢ Err ExprFault.OutOfMemory → reading_of result self.new ≡
+            spec.mark_start b (all_waiting self.old.waiting) self.old.depth (trees_of self.old.done) }
     {
         match b {
             b'#' => Ok(Mode::Hash),
@@ -123,7 +128,8 @@ impl Reader {
 
     /// The start of a string, which is a whole operand: nothing waits for it.
     fn open_string(&self) -> Result<Mode, ExprFault>
-        ensures { result ≢ Err ExprFault.OutOfMemory → reading_of result self.now ≡ spec.string_start (all_waiting self.now.waiting) self.now.depth (trees_of self.now.done) }
+        ensures { result ≢ Err ExprFault.OutOfMemory → reading_of result self.now ≡
+            spec.string_start (all_waiting self.now.waiting) self.now.depth (trees_of self.now.done) }
     {
         match self.waiting.top() {
             None => Ok(Mode::String(true)),
@@ -133,7 +139,8 @@ impl Reader {
 
     /// One more byte of a symbol.
     fn lengthen(&mut self, text: Bytes, b: u8) -> Result<Mode, ExprFault>
-        ensures { result ≢ Err ExprFault.OutOfMemory → reading_of result self.new ≡ spec.at (spec.symbol (text ++ b ∷ [])) (all_waiting self.old.waiting) self.old.depth (trees_of self.old.done) }
+        ensures { result ≢ Err ExprFault.OutOfMemory → reading_of result self.new ≡ spec.at
+            (spec.symbol (text ++ b ∷ [])) (all_waiting self.old.waiting) self.old.depth (trees_of self.old.done) }
     {
         let mut text = text;
         text.push(b)?;
@@ -142,7 +149,8 @@ impl Reader {
 
     /// A byte after a primary that it does not go on.
     fn beyond(&mut self, primary: Expr, b: u8) -> Result<Mode, ExprFault>
-        ensures { result ≢ Err ExprFault.OutOfMemory → reading_of result self.new ≡ spec.beyond b (tree_of primary) (all_waiting self.old.waiting) self.old.depth (trees_of self.old.done) }
+        ensures { result ≢ Err ExprFault.OutOfMemory → reading_of result self.new ≡
+            spec.beyond b (tree_of primary) (all_waiting self.old.waiting) self.old.depth (trees_of self.old.done) }
     {
         let product = settle(self.alloc, &mut self.waiting, primary)?;
         self.after(product, b)
@@ -150,7 +158,8 @@ impl Reader {
 
     /// A byte after a product.
     fn after(&mut self, product: Expr, b: u8) -> Result<Mode, ExprFault>
-        ensures { result ≢ Err ExprFault.OutOfMemory → reading_of result self.new ≡ spec.after b (tree_of product, all_waiting self.old.waiting) self.old.depth (trees_of self.old.done) }
+        ensures { result ≢ Err ExprFault.OutOfMemory → reading_of result self.new ≡
+            spec.after b (tree_of product, all_waiting self.old.waiting) self.old.depth (trees_of self.old.done) }
     {
         match b {
             b'*' => self.wait(Waiting::Strong(BinOp::Mul, product)),
@@ -184,7 +193,8 @@ impl Reader {
 
     /// The end of an expression in parentheses.
     fn close(&mut self, e: Expr) -> Result<Mode, ExprFault>
-        ensures { result ≢ Err ExprFault.OutOfMemory → reading_of result self.new ≡ spec.enclosed (tree_of e, all_waiting self.old.waiting) self.old.depth (trees_of self.old.done) }
+        ensures { result ≢ Err ExprFault.OutOfMemory → reading_of result self.new ≡
+            spec.enclosed (tree_of e, all_waiting self.old.waiting) self.old.depth (trees_of self.old.done) }
     {
         if !self.waiting.pop_parenthesis() {
             return Err(ExprFault::Syntax);
@@ -195,7 +205,8 @@ impl Reader {
 
     /// The end of an operand.
     fn list(&mut self, e: Expr) -> Result<(), ExprFault>
-        ensures list { result ≢ Err ExprFault.OutOfMemory → listing_of result self.new.done ≡ spec.listed (tree_of e, all_waiting self.old.waiting) (trees_of self.old.done) }
+        ensures list { result ≢ Err ExprFault.OutOfMemory → listing_of result self.new.done ≡
+            spec.listed (tree_of e, all_waiting self.old.waiting) (trees_of self.old.done) }
         ensures waiting { self.new.waiting ≡ self.old.waiting }
         ensures depth { self.new.depth ≡ self.old.depth }
     {
@@ -208,7 +219,8 @@ impl Reader {
     /// One more byte, where it passes no bound.
     fn take(&mut self, mode: Mode, b: u8) -> Result<Mode, ExprFault>
         requires { spec.passed_bound (mode_of mode) self.old.depth b ≡ None }
-        ensures { result ≢ Err ExprFault.OutOfMemory → reading_of result self.new ≡ spec.next_reading (mode_of mode) (all_waiting self.old.waiting) self.old.depth (trees_of self.old.done) b }
+        ensures { result ≢ Err ExprFault.OutOfMemory → reading_of result self.new ≡
+            spec.next_reading (mode_of mode) (all_waiting self.old.waiting) self.old.depth (trees_of self.old.done) b }
     {
         match mode {
             Mode::Operand => self.begin(b),
@@ -231,7 +243,8 @@ impl Reader {
     /// A byte in a decimal constant, or after it.
     fn take_decimal(&mut self, n: u64, b: u8) -> Result<Mode, ExprFault>
         requires { spec.passed_bound (spec.decimal n) self.old.depth b ≡ None }
-        ensures { result ≢ Err ExprFault.OutOfMemory → reading_of result self.new ≡ spec.next_reading (spec.decimal n) (all_waiting self.old.waiting) self.old.depth (trees_of self.old.done) b }
+        ensures { result ≢ Err ExprFault.OutOfMemory → reading_of result self.new ≡ spec.next_reading (spec.decimal n)
+            (all_waiting self.old.waiting) self.old.depth (trees_of self.old.done) b }
     {
         if is_digit(b) {
             Ok(Mode::Decimal(n * 10 + u64::from(b - b'0')))
@@ -242,7 +255,8 @@ impl Reader {
 
     /// The first hexadecimal digit.
     fn take_hash(&mut self, b: u8) -> Result<Mode, ExprFault>
-        ensures { result ≢ Err ExprFault.OutOfMemory → reading_of result self.new ≡ spec.next_reading spec.hash (all_waiting self.old.waiting) self.old.depth (trees_of self.old.done) b }
+        ensures { result ≢ Err ExprFault.OutOfMemory → reading_of result self.new ≡
+            spec.next_reading spec.hash (all_waiting self.old.waiting) self.old.depth (trees_of self.old.done) b }
     {
         if is_hexadecimal(b) {
             Ok(Mode::Hexadecimal(u64::from(digit_value(b))))
@@ -254,7 +268,8 @@ impl Reader {
     /// A byte in a hexadecimal constant, or after it.
     fn take_hexadecimal(&mut self, n: u64, b: u8) -> Result<Mode, ExprFault>
         requires { spec.passed_bound (spec.hexadecimal n) self.old.depth b ≡ None }
-        ensures { result ≢ Err ExprFault.OutOfMemory → reading_of result self.new ≡ spec.next_reading (spec.hexadecimal n) (all_waiting self.old.waiting) self.old.depth (trees_of self.old.done) b }
+        ensures { result ≢ Err ExprFault.OutOfMemory → reading_of result self.new ≡ spec.next_reading
+            (spec.hexadecimal n) (all_waiting self.old.waiting) self.old.depth (trees_of self.old.done) b }
     {
         if is_hexadecimal(b) {
             Ok(Mode::Hexadecimal(n * 16 + u64::from(digit_value(b))))
@@ -265,7 +280,8 @@ impl Reader {
 
     /// The end of a character constant.
     fn take_character(&mut self, c: u8, b: u8) -> Result<Mode, ExprFault>
-        ensures { result ≢ Err ExprFault.OutOfMemory → reading_of result self.new ≡ spec.next_reading (spec.character c) (all_waiting self.old.waiting) self.old.depth (trees_of self.old.done) b }
+        ensures { result ≢ Err ExprFault.OutOfMemory → reading_of result self.new ≡ spec.next_reading (spec.character c)
+            (all_waiting self.old.waiting) self.old.depth (trees_of self.old.done) b }
     {
         if b == b'\'' {
             self.complete(Expr::Number(u64::from(c)))
@@ -276,7 +292,8 @@ impl Reader {
 
     /// A byte in a symbol, or after it.
     fn take_symbol(&mut self, text: Bytes, b: u8) -> Result<Mode, ExprFault>
-        ensures { result ≢ Err ExprFault.OutOfMemory → reading_of result self.new ≡ spec.next_reading (spec.symbol text) (all_waiting self.old.waiting) self.old.depth (trees_of self.old.done) b }
+        ensures { result ≢ Err ExprFault.OutOfMemory → reading_of result self.new ≡ spec.next_reading (spec.symbol text)
+            (all_waiting self.old.waiting) self.old.depth (trees_of self.old.done) b }
     {
         if is_name_byte(b) {
             self.lengthen(text, b)
@@ -287,7 +304,8 @@ impl Reader {
 
     /// The second byte of `<<`.
     fn take_less(&mut self, left: Expr, b: u8) -> Result<Mode, ExprFault>
-        ensures { result ≢ Err ExprFault.OutOfMemory → reading_of result self.new ≡ spec.next_reading (spec.less (tree_of left)) (all_waiting self.old.waiting) self.old.depth (trees_of self.old.done) b }
+        ensures { result ≢ Err ExprFault.OutOfMemory → reading_of result self.new ≡ spec.next_reading
+            (spec.less (tree_of left)) (all_waiting self.old.waiting) self.old.depth (trees_of self.old.done) b }
     {
         if b == b'<' {
             self.wait(Waiting::Strong(BinOp::Left, left))
@@ -298,7 +316,8 @@ impl Reader {
 
     /// The second byte of `>>`.
     fn take_greater(&mut self, left: Expr, b: u8) -> Result<Mode, ExprFault>
-        ensures { result ≢ Err ExprFault.OutOfMemory → reading_of result self.new ≡ spec.next_reading (spec.greater (tree_of left)) (all_waiting self.old.waiting) self.old.depth (trees_of self.old.done) b }
+        ensures { result ≢ Err ExprFault.OutOfMemory → reading_of result self.new ≡ spec.next_reading
+            (spec.greater (tree_of left)) (all_waiting self.old.waiting) self.old.depth (trees_of self.old.done) b }
     {
         if b == b'>' {
             self.wait(Waiting::Strong(BinOp::Right, left))
@@ -309,7 +328,8 @@ impl Reader {
 
     /// The comma after a string.
     fn take_comma(&mut self, b: u8) -> Result<Mode, ExprFault>
-        ensures { result ≢ Err ExprFault.OutOfMemory → reading_of result self.new ≡ spec.next_reading spec.closed (all_waiting self.old.waiting) self.old.depth (trees_of self.old.done) b }
+        ensures { result ≢ Err ExprFault.OutOfMemory → reading_of result self.new ≡
+            spec.next_reading spec.closed (all_waiting self.old.waiting) self.old.depth (trees_of self.old.done) b }
     {
         if b == b',' {
             Ok(Mode::Operand)
@@ -320,7 +340,8 @@ impl Reader {
 
     /// A byte after the first digit: one more digit, or the letter of a local label.
     fn take_digit(&mut self, n: u8, b: u8) -> Result<Mode, ExprFault>
-        ensures { result ≢ Err ExprFault.OutOfMemory → reading_of result self.new ≡ spec.next_reading (spec.digit n) (all_waiting self.old.waiting) self.old.depth (trees_of self.old.done) b }
+        ensures { result ≢ Err ExprFault.OutOfMemory → reading_of result self.new ≡
+            spec.next_reading (spec.digit n) (all_waiting self.old.waiting) self.old.depth (trees_of self.old.done) b }
     {
         if is_digit(b) {
             Ok(Mode::Decimal(u64::from(n) * 10 + u64::from(b - b'0')))
@@ -336,7 +357,8 @@ impl Reader {
     /// A byte after `/`: one more, or the first of a primary.
     fn take_slash(&mut self, left: Expr, b: u8) -> Result<Mode, ExprFault>
         requires { b ≡ 40 → self.old.depth < 255 }
-        ensures { result ≢ Err ExprFault.OutOfMemory → reading_of result self.new ≡ spec.next_reading (spec.slash (tree_of left)) (all_waiting self.old.waiting) self.old.depth (trees_of self.old.done) b }
+        ensures { result ≢ Err ExprFault.OutOfMemory → reading_of result self.new ≡ spec.next_reading
+            (spec.slash (tree_of left)) (all_waiting self.old.waiting) self.old.depth (trees_of self.old.done) b }
     {
         if b == b'/' {
             return self.wait(Waiting::Strong(BinOp::Fraction, left));
@@ -347,7 +369,8 @@ impl Reader {
 
     /// A byte in a string.
     fn take_string(&mut self, b: u8) -> Result<Mode, ExprFault>
-        ensures { result ≢ Err ExprFault.OutOfMemory → reading_of result self.new ≡ spec.in_string b (all_waiting self.old.waiting) self.old.depth (trees_of self.old.done) }
+        ensures { result ≢ Err ExprFault.OutOfMemory → reading_of result self.new ≡
+            spec.in_string b (all_waiting self.old.waiting) self.old.depth (trees_of self.old.done) }
     {
         if b == b'"' {
             return Ok(Mode::Closed);
@@ -375,7 +398,8 @@ impl Reader {
 
     /// One more byte.
     pub(crate) fn step(&mut self, mode: Mode, b: u8) -> Result<Mode, ExprFault>
-        ensures { result ≢ Err ExprFault.OutOfMemory → reading_of result self.new ≡ spec.bounded_step (mode_of mode) (all_waiting self.old.waiting) self.old.depth (trees_of self.old.done) b }
+        ensures { result ≢ Err ExprFault.OutOfMemory → reading_of result self.new ≡
+            spec.bounded_step (mode_of mode) (all_waiting self.old.waiting) self.old.depth (trees_of self.old.done) b }
     {
         match self.bound(&mode, b) {
             Some(fault) => Err(fault),
@@ -385,7 +409,8 @@ impl Reader {
 
     /// The list, at the end of the field.
     pub(crate) fn finish(self, mode: Mode) -> Result<Exprs, ExprFault>
-        ensures { result ≢ Err ExprFault.OutOfMemory → map_ok trees_of result ≡ spec.field_end (mode_of mode) (all_waiting self.waiting) (trees_of self.done) }
+        ensures { result ≢ Err ExprFault.OutOfMemory →
+            map_ok trees_of result ≡ spec.field_end (mode_of mode) (all_waiting self.waiting) (trees_of self.done) }
     {
         match mode {
             Mode::Whole(e) => self.end(e),
@@ -399,7 +424,8 @@ impl Reader {
 
     /// The list, where the field ends with a primary.
     fn end_primary(mut self, primary: Expr) -> Result<Exprs, ExprFault>
-        ensures { result ≢ Err ExprFault.OutOfMemory → map_ok trees_of result ≡ (let p = spec.with_strong (all_waiting self.waiting) (tree_of primary) in spec.listed (spec.with_weak p.1 p.0) (trees_of self.done)) }
+        ensures { result ≢ Err ExprFault.OutOfMemory → map_ok trees_of result ≡ (let p = spec.with_strong
+            (all_waiting self.waiting) (tree_of primary) in spec.listed (spec.with_weak p.1 p.0) (trees_of self.done)) }
     {
         let product = settle(self.alloc, &mut self.waiting, primary)?;
         self.end(product)
@@ -407,7 +433,8 @@ impl Reader {
 
     /// The list, where the field ends with a product.
     fn end(mut self, product: Expr) -> Result<Exprs, ExprFault>
-        ensures { result ≢ Err ExprFault.OutOfMemory → map_ok trees_of result ≡ spec.listed (spec.with_weak (all_waiting self.waiting) (tree_of product)) (trees_of self.done) }
+        ensures { result ≢ Err ExprFault.OutOfMemory → map_ok trees_of result ≡
+            spec.listed (spec.with_weak (all_waiting self.waiting) (tree_of product)) (trees_of self.done) }
     {
         let e = sum(self.alloc, &mut self.waiting, product)?;
         self.list(e)?;

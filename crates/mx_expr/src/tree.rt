@@ -86,7 +86,8 @@ impl Expr {
     /// to the left.
     fn turned(self, op: BinOp, mut free: Box<Expr>, right: Box<Expr>) -> Expr
         requires { free.value ≡ Expr.Here }
-        ensures { weight (tree_of result) < 1 + (weight (tree_of self) + weight (tree_of self)) + weight (tree_of right.value) }
+        ensures { weight (tree_of result) < 1 + (weight (tree_of self) + weight (tree_of self)) + weight
+            (tree_of right.value) }
     {
         match self {
             Expr::Binary(inner, first, second) => {

@@ -1,6 +1,7 @@
 //! The value of an expression, found with a list of what is left to do in place of recursion.
 
-ghost use Rattle.std.specs.Prelude.{◌≡◌, ◌≢◌, ◌+◌, ◌<◌, ◌≤◌, [], ◌∷◌, ◌++◌, Result, Ok, Err, IfOk, IfErr, OnOk, MatchResult};
+ghost use Rattle.std.specs.Prelude.{◌≡◌, ◌≢◌, ◌+◌, ◌<◌, ◌≤◌, [], ◌∷◌, ◌++◌, Result, Ok, Err, IfOk, IfErr, OnOk};
+ghost use Rattle.std.specs.Prelude.{MatchResult};
 ghost use Rattle.mx_expr.specs.Tree.{tree_of, HasDigits};
 ghost use Rattle.mx_expr.specs.Value.{Knowledge, value_of, knowledge, of_symbol};
 ghost use Rattle.mx_expr.specs.Frames.{value_after, nodes, nodes_left, AllHaveDigits, Goes, LeftBy, NextHasDigits};
@@ -33,7 +34,8 @@ enum Next<'a> {
 #[tactic(auto, using(crate::proofs::FrameLaws::frames))]
 pub fn value<E: Known>(alloc: Global, e: &Expr, env: &E) -> Result<Value, ExprFault>
     requires { HasDigits (tree_of e.now) }
-    ensures { result ≢ Err ExprFault.OutOfMemory → result ≡ value_of (knowledge (E.symbols env.now) (E.backs env.now) (E.at env.now)) (tree_of e.now) }
+    ensures { result ≢ Err ExprFault.OutOfMemory →
+        result ≡ value_of (knowledge (E.symbols env.now) (E.backs env.now) (E.at env.now)) (tree_of e.now) }
 {
     let mut frames = Vec::new(alloc);
     let mut at = e;
@@ -89,7 +91,8 @@ fn symbol<E: Known>(name: &Bytes, env: &E) -> Result<Value, ExprFault>
 #[tactic(auto, using(crate::proofs::FrameLaws::frames))]
 fn up<'a>(frames: &mut Vec<Frame<'a>>, first: Value) -> Result<Next<'a>, ExprFault>
     requires all_digits { AllHaveDigits frames.old.items }
-    ensures value { (known : Knowledge) → Goes known frames.new.items result (value_after known frames.old.items (Ok first)) }
+    ensures value { (known : Knowledge) →
+        Goes known frames.new.items result (value_after known frames.old.items (Ok first)) }
     ensures digits { NextHasDigits result × AllHaveDigits frames.new.items }
     ensures left { LeftBy frames.new.items result (nodes_left frames.old.items) }
 {

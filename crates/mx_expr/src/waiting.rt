@@ -4,7 +4,8 @@ ghost use Rattle.std.specs.Prelude.{◌≡◌, ◌≢◌, [], ◌∷◌, length,
 ghost use Rattle.mx_expr.specs.Tree.{tree_of};
 ghost use Rattle.mx_expr.specs.Reading as spec;
 ghost use Rattle.mx_expr.specs.declared.waiting.Waiting.{Waiting};
-ghost use Rattle.mx_expr.specs.Machine.{waiting_of, settled_as, all_waiting, last_sign, last_strong, last_weak, last_parenthesis};
+ghost use Rattle.mx_expr.specs.Machine.{waiting_of, settled_as, all_waiting, last_sign, last_strong, last_weak};
+ghost use Rattle.mx_expr.specs.Machine.{last_parenthesis};
 
 use crate::{BinOp, Expr, ExprFault, UnOp};
 use std::alloc::Global;

@@ -4,7 +4,8 @@ ghost use Rattle.std.specs.Prelude.{IsTrue, ◌≡◌, ◌≢◌, ◌≤◌, ℕ
 ghost use Rattle.mx_word.specs.Results.{map_ok};
 ghost use Rattle.mx_host.specs.HostModel.{HostModel, tells, contents, Rose};
 ghost use Rattle.mx_host.specs.Keeping.{Answers, LeavesCounted, ComesByFault, Keeps};
-ghost use Rattle.mx_host.specs.HostAnswer.{open_answer, close_answer, read_answer, write_answer, seek_answer, tell_answer};
+ghost use Rattle.mx_host.specs.HostAnswer.{open_answer, close_answer, read_answer, write_answer, seek_answer};
+ghost use Rattle.mx_host.specs.HostAnswer.{tell_answer};
 
 use crate::faults::{HostFault, OpenFault};
 use crate::slots::Mode;
@@ -35,7 +36,8 @@ pub trait Host {
             (λ m. open_answer m slot name.now mode) }
         ensures memory { LeavesCounted (told self.old) (told self.new) (Err OpenFault.OutOfMemory) result }
         ensures failed { result ≡ Err OpenFault.Failed → Rose (faults self.old) (faults self.new) }
-        ensures absent { ComesByFault (told self.old) (Err OpenFault.Absent) result (faults self.old) (faults self.new) }
+        ensures absent { ComesByFault (told self.old) (Err OpenFault.Absent) result
+            (faults self.old) (faults self.new) }
         ensures keeps { Keeps (told self.old) (told self.new) (faults self.old) (faults self.new) };
 
     /// Closes a slot. Misused where it is not open.
@@ -45,7 +47,8 @@ pub trait Host {
             (λ m. close_answer m slot) }
         ensures memory { LeavesCounted (told self.old) (told self.new) (Err HostFault.OutOfMemory) result }
         ensures failed { result ≡ Err HostFault.Failed → Rose (faults self.old) (faults self.new) }
-        ensures misused { ComesByFault (told self.old) (Err HostFault.Misused) result (faults self.old) (faults self.new) }
+        ensures misused { ComesByFault (told self.old) (Err HostFault.Misused) result
+            (faults self.old) (faults self.new) }
         ensures tells { tells (told self.new) ≡ tells (told self.old) }
         ensures never_falls { faults self.old ≤ faults self.new }
         ensures keeps { slot ≤ 257 → Keeps (told self.old) (told self.new) (faults self.old) (faults self.new) };
@@ -65,7 +68,8 @@ pub trait Host {
         ensures unread { IsTrue (tells (told self.old)) → IfErr result (λ _. into.new ≡ into.old) }
         ensures memory { LeavesCounted (told self.old) (told self.new) (Err HostFault.OutOfMemory) result }
         ensures failed { result ≡ Err HostFault.Failed → Rose (faults self.old) (faults self.new) }
-        ensures misused { ComesByFault (told self.old) (Err HostFault.Misused) result (faults self.old) (faults self.new) }
+        ensures misused { ComesByFault (told self.old) (Err HostFault.Misused) result
+            (faults self.old) (faults self.new) }
         ensures keeps { Keeps (told self.old) (told self.new) (faults self.old) (faults self.new) };
 
     /// Writes all these bytes at the place and moves the place past them; on standard output and
@@ -78,7 +82,8 @@ pub trait Host {
             (λ m. write_answer m slot from.now) }
         ensures memory { LeavesCounted (told self.old) (told self.new) (Err HostFault.OutOfMemory) result }
         ensures failed { result ≡ Err HostFault.Failed → Rose (faults self.old) (faults self.new) }
-        ensures misused { ComesByFault (told self.old) (Err HostFault.Misused) result (faults self.old) (faults self.new) }
+        ensures misused { ComesByFault (told self.old) (Err HostFault.Misused) result
+            (faults self.old) (faults self.new) }
         ensures keeps { Keeps (told self.old) (told self.new) (faults self.old) (faults self.new) };
 
     /// Moves the place to `to` where it is at least 0, and otherwise to length + to + 1, so that -1
@@ -92,7 +97,8 @@ pub trait Host {
             (λ m. seek_answer m slot to) }
         ensures memory { LeavesCounted (told self.old) (told self.new) (Err HostFault.OutOfMemory) result }
         ensures failed { result ≡ Err HostFault.Failed → Rose (faults self.old) (faults self.new) }
-        ensures misused { ComesByFault (told self.old) (Err HostFault.Misused) result (faults self.old) (faults self.new) }
+        ensures misused { ComesByFault (told self.old) (Err HostFault.Misused) result
+            (faults self.old) (faults self.new) }
         ensures keeps { Keeps (told self.old) (told self.new) (faults self.old) (faults self.new) };
 
     /// The place, in bytes from the start. Misused where the slot is not a file in a binary mode.
@@ -102,6 +108,7 @@ pub trait Host {
             (λ m. tell_answer m slot) }
         ensures memory { LeavesCounted (told self.old) (told self.new) (Err HostFault.OutOfMemory) result }
         ensures failed { result ≡ Err HostFault.Failed → Rose (faults self.old) (faults self.new) }
-        ensures misused { ComesByFault (told self.old) (Err HostFault.Misused) result (faults self.old) (faults self.new) }
+        ensures misused { ComesByFault (told self.old) (Err HostFault.Misused) result
+            (faults self.old) (faults self.new) }
         ensures keeps { Keeps (told self.old) (told self.new) (faults self.old) (faults self.new) };
 }

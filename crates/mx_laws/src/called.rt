@@ -33,8 +33,9 @@ pub fn statuses_are_low_bytes()
 /// and the machine of the window that is asked for halts within the steps that are asked for: then the
 /// answer is Done of the low byte of $255, or out of memory, with a dump and without one. So it is with
 /// `sim` of an object without a fault. `asm` of a source without a refusal answers Done of 0, or out of
-/// memory; so does `gen` where its machine starts and halts within 2^26 steps. With `-i`, and without the halt, the answer is that of the session, or out of memory. The
-/// runs and the session are those over the host with no call counted and none that fails.
+/// memory; so does `gen` where its machine starts and halts within 2^26 steps. With `-i`, and without the
+/// halt, the answer is that of the session, or out of memory. The runs and the session are those over the
+/// host with no call counted and none that fails.
 #[tactic(auto)]
 pub fn calls_answer_what_is_due()
     ensures run { (words : List Word) (o : Order) (image : Image) (status : ℕ) (ended : State) (after : HostModel)

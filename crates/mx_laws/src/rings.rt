@@ -22,7 +22,8 @@ use mx_mem::Space;
 /// list machine meets nothing wild.
 #[tactic(auto, using(crate::proofs::SameRings::rings))]
 pub fn two_rings_agree()
-    ensures { (words others : List Word) (o p : Order) (m : HostModel) → order_of words ≡ Ok o → order_of others ≡ Ok p →
+    ensures { (words others : List Word) (o p : Order) (m : HostModel) → order_of words ≡ Ok o →
+        order_of others ≡ Ok p →
         DifferInRing words others o p → product list_machine words m ≡ product list_machine others m }
 {}
 
@@ -30,7 +31,8 @@ pub fn two_rings_agree()
 /// its definition it is never out of memory. So the one free answer stands for nothing else.
 #[tactic(auto, using(crate::proofs::UnbrokenRuns::unbroken))]
 pub fn runs_end_by_themselves()
-    ensures { (kind : MachineKind) (steps : ℕ) (s : State) (m : HostModel) → is_told (machine_ran kind steps s m) ≡ true }
+    ensures { (kind : MachineKind) (steps : ℕ) (s : State) (m : HostModel) →
+        is_told (machine_ran kind steps s m) ≡ true }
 {}
 
 /// By its definition the program is never out of memory, with whatever words, files and failing calls. So

@@ -212,6 +212,8 @@ pub fn next_statement(text: &[u8], at: usize) -> Result<Option<Cut>, LineFault>
 /// which it is: no two readings of a line differ.
 #[tactic(auto, using(crate::proofs::ListLaws::lists))]
 pub fn one_list()
-    ensures rules { (line : List ℕ) (place : ℕ) → place ≤ length line → Statements line place (spec.cuts_from line place) }
-    ensures only { (line : List ℕ) (place : ℕ) (cuts : List (Result Cut LineFault)) → Statements line place cuts → place ≤ length line → cuts ≡ spec.cuts_from line place }
+    ensures rules { (line : List ℕ) (place : ℕ) → place ≤ length line →
+        Statements line place (spec.cuts_from line place) }
+    ensures only { (line : List ℕ) (place : ℕ) (cuts : List (Result Cut LineFault)) → Statements line place cuts →
+        place ≤ length line → cuts ≡ spec.cuts_from line place }
 {}

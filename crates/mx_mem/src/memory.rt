@@ -1,11 +1,14 @@
 //! Memory as pages that are found by their numbers.
 
-ghost use Rattle.std.specs.Prelude.{◌≡◌, ◌≢◌, ◌↔◌, ◌≤◌, ◌<◌, ◌+◌, ◌/◌, ◌^◌, ◌==◌, ◌++◌, ◌∷◌, [], ℕ, List, length, false, IfSome, IsTrue, IsOk, OnOk, OnErr, if◌then◌else◌};
+ghost use Rattle.std.specs.Prelude.{◌≡◌, ◌≢◌, ◌↔◌, ◌≤◌, ◌<◌, ◌+◌, ◌/◌, ◌^◌, ◌==◌, ◌++◌, ◌∷◌, [], ℕ, List, length};
+ghost use Rattle.std.specs.Prelude.{false, IfSome, IsTrue, IsOk, OnOk, OnErr, if◌then◌else◌};
 ghost use Rattle.std.specs.Ordering.{nat_cmp};
 ghost use Rattle.std.specs.List.Sorted.{IsStrictlySortedBy};
 ghost use Rattle.mx_mem.specs.Parts as spec;
 ghost use Rattle.mx_mem.specs.Parts.{bytes_with_part};
-ghost use Rattle.mx_mem.specs.Memory.{octa_at, byte_at, tetra_at, tetra_of, page_numbers, has_page, page_count, is_refused, with_page, count_with_page, stored_at, stored_bytes, in_half, with_tetra, bytes_with_tetra, IsNextNonzero};
+ghost use Rattle.mx_mem.specs.Memory.{octa_at, byte_at, tetra_at, tetra_of, page_numbers, has_page, page_count};
+ghost use Rattle.mx_mem.specs.Memory.{is_refused, with_page, count_with_page, stored_at, stored_bytes, in_half};
+ghost use Rattle.mx_mem.specs.Memory.{with_tetra, bytes_with_tetra, IsNextNonzero};
 
 use crate::page::Page;
 use crate::part::with_part;

@@ -1,6 +1,7 @@
 //! Reading an object in pieces.
 
-ghost use Rattle.std.specs.Prelude.{◌≡◌, ◌≢◌, ◌≤◌, ◌+◌, ◌++◌, ◌^◌, length, drop, ◌<◌, IfOk, IfErr, IfSome, OnOk, OnErr, OnSome};
+ghost use Rattle.std.specs.Prelude.{◌≡◌, ◌≢◌, ◌≤◌, ◌+◌, ◌++◌, ◌^◌, length, drop, ◌<◌, IfOk, IfErr, IfSome, OnOk, OnErr};
+ghost use Rattle.std.specs.Prelude.{OnSome};
 ghost use Rattle.mx_mmo.specs.Replies as spec;
 ghost use Rattle.mx_mmo.specs.Valid.{Fits};
 

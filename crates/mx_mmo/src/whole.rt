@@ -1,6 +1,7 @@
 //! Reading a whole object.
 
-ghost use Rattle.std.specs.Prelude.{◌≡◌, ◌≢◌, ◌<◌, ◌≤◌, ◌+◌, None, true, false, length, [], Some, IfOk, IfErr, OnOk, List, ℕ, ◌++◌, ◌%◌, ◌/◌, ◌^◌};
+ghost use Rattle.std.specs.Prelude.{◌≡◌, ◌≢◌, ◌<◌, ◌≤◌, ◌+◌, None, true, false, length, [], Some, IfOk, IfErr, OnOk};
+ghost use Rattle.std.specs.Prelude.{List, ℕ, ◌++◌, ◌%◌, ◌/◌, ◌^◌};
 ghost use Rattle.std.specs.List.{concat};
 ghost use Rattle.mx_mmo.specs.Reading.{first_item};
 ghost use Rattle.mx_mmo.specs.Replies.{limit};
@@ -9,7 +10,8 @@ ghost use Rattle.mx_mmo.specs.Valid.{AreBytes, Valid};
 ghost use Rattle.mx_mmo.specs.declared.items.Item.{Item};
 ghost use Rattle.mx_mmo.specs.declared.items.Object.{Object};
 ghost use Rattle.mx_mmo.specs.declared.due.Phase.{Phase};
-ghost use Rattle.mx_mmo.specs.Whole.{SpellsObject, extended, fed, items_of, left_of, object_fault, object_of, passed_limit, pieces_within, walk_on, with_more, with_rest};
+ghost use Rattle.mx_mmo.specs.Whole.{SpellsObject, extended, fed, items_of, left_of, object_fault, object_of};
+ghost use Rattle.mx_mmo.specs.Whole.{passed_limit, pieces_within, walk_on, with_more, with_rest};
 
 use crate::{Items, MmoFault, Object, Phase, Reader};
 use mx_word::Bytes;

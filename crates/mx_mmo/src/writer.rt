@@ -1,6 +1,7 @@
 //! Writing an object.
 
-ghost use Rattle.std.specs.Prelude.{◌≡◌, [], ◌++◌, ◌+◌, ◌*◌, ◌/◌, ◌%◌, ◌<◌, ◌≤◌, ◌^◌, length, take, IfOk, IfErr, OnOk, OnErr, ℕ, List};
+ghost use Rattle.std.specs.Prelude.{◌≡◌, [], ◌++◌, ◌+◌, ◌*◌, ◌/◌, ◌%◌, ◌<◌, ◌≤◌, ◌^◌, length, take, IfOk, IfErr, OnOk};
+ghost use Rattle.std.specs.Prelude.{OnErr, ℕ, List};
 ghost use Rattle.mx_mmo.specs.Object.{IsObject};
 ghost use Rattle.mx_mmo.specs.Spelling.{bytes_of, ending, written};
 ghost use Rattle.mx_mmo.specs.Valid.{Fits, Valid};

@@ -1,6 +1,7 @@
 //! The table of names.
 
-ghost use Rattle.std.specs.Prelude.{◌≡◌, ◌≢◌, ◌+◌, ◌<◌, ◌≤◌, ℕ, List, [], ◌∷◌, ◌++◌, length, is_some, IfOk, IfErr, OnOk, OnErr, IsTrue, bytes_eq, slice_set, if◌then◌else◌};
+ghost use Rattle.std.specs.Prelude.{◌≡◌, ◌≢◌, ◌+◌, ◌<◌, ◌≤◌, ℕ, List, [], ◌∷◌, ◌++◌, length, is_some, IfOk, IfErr};
+ghost use Rattle.std.specs.Prelude.{OnOk, OnErr, IsTrue, bytes_eq, slice_set, if◌then◌else◌};
 ghost use Rattle.mx_word.specs.Results.{map_ok};
 ghost use Rattle.mx_names.specs.Names as spec;
 ghost use Rattle.mx_word.specs.Symbols.{InByteOrder, IsNamed};
@@ -80,7 +81,8 @@ impl Names {
     /// The complete form of a symbol: one that begins with a colon is complete, any other stands for
     /// the prefix followed by it. It is refused where it has more than 1,024 bytes.
     pub fn resolve(&self, name: &[u8]) -> Result<Bytes, NameFault>
-        ensures answer { result ≢ Err NameFault.OutOfMemory → result ≡ spec.fitting_form (spec.complete_form self.now.prefix name.now) }
+        ensures answer { result ≢ Err NameFault.OutOfMemory →
+            result ≡ spec.fitting_form (spec.complete_form self.now.prefix name.now) }
         ensures full { IfOk result (λ full. spec.IsFullName full) }
     {
         if is_complete(name) {
@@ -93,7 +95,8 @@ impl Names {
     /// Makes the complete form of a symbol the prefix. A refusal, which is that of `resolve`,
     /// changes nothing.
     pub fn set_prefix(&mut self, name: &[u8]) -> Result<(), NameFault>
-        ensures answer { result ≢ Err NameFault.OutOfMemory → result ≡ map_ok (λ _. tt) (spec.fitting_form (spec.complete_form self.old.prefix name.now)) }
+        ensures answer { result ≢ Err NameFault.OutOfMemory →
+            result ≡ map_ok (λ _. tt) (spec.fitting_form (spec.complete_form self.old.prefix name.now)) }
         ensures ok { OnOk result (self.new ≡ record self.old { prefix = spec.complete_form self.old.prefix name.now }) }
         ensures err { OnErr result (self.new ≡ self.old) }
         ensures kept { spec.AreNames self.new }
@@ -110,7 +113,8 @@ impl Names {
         ensures answer { result ≢ Err NameFault.OutOfMemory → result ≡ spec.define_answer self.old full }
         ensures ok { OnOk result (self.new ≡ spec.with_symbol self.old full v) }
         ensures count { OnOk result (length self.new.symbols ≡ length self.old.symbols + 1) }
-        ensures looked_up { OnOk result ((name : List ℕ) → spec.value_of_name self.new name ≡ (if bytes_eq name full then Some v else spec.value_of_name self.old name)) }
+        ensures looked_up { OnOk result ((name : List ℕ) → spec.value_of_name self.new name ≡
+            (if bytes_eq name full then Some v else spec.value_of_name self.old name)) }
         ensures err { OnErr result (self.new ≡ self.old) }
         ensures kept { spec.AreNames self.new }
     {
@@ -196,7 +200,8 @@ impl Names {
     pub fn take_waiting(&mut self, who: &Awaited) -> Result<Waits, NameFault>
         ensures memory { IfErr result (λ fault. fault ≡ NameFault.OutOfMemory) }
         ensures taken { IfOk result (λ waits. waits ≡ waits_for who.now self.old.waiting) }
-        ensures left { OnOk result (self.new ≡ record self.old { waiting = waits_for_others who.now self.old.waiting }) }
+        ensures left { OnOk result
+            (self.new ≡ record self.old { waiting = waits_for_others who.now self.old.waiting }) }
         ensures err { OnErr result (self.new ≡ self.old) }
         ensures kept { spec.AreNames self.new }
     {

@@ -122,7 +122,8 @@ fn add(
 ) -> Result<(), NoMemory>
     requires groups { spec.AreGroups (λ k. k.items) number groups.old.entries }
     requires key { key.items ≡ spec.key_of wait.who }
-    ensures ok { OnOk result (spec.all_in_order groups.new.entries ≡ spec.all_in_order groups.old.entries ++ (number, wait) ∷ []) }
+    ensures ok { OnOk result (spec.all_in_order groups.new.entries ≡
+        spec.all_in_order groups.old.entries ++ (number, wait) ∷ []) }
     ensures groups { OnOk result (spec.AreGroups (λ k. k.items) (number + 1) groups.new.entries) }
     ensures err { OnErr result (groups.new.entries ≡ groups.old.entries) }
 {

@@ -10,5 +10,6 @@ ghost use Rattle.mx_ops.specs.Opcodes.{IsCodeOf, Row, opcode_rows, own_code, row
 pub fn each_name_has_its_codes()
     ensures follow { IsTrue (rows_follow 0 opcode_rows) }
     ensures codes { (row : Row) (i j : ℕ) → Contains opcode_rows row → i < length row.names → j < length row.kinds →
-        IsCodeOf (slice_index_or row.names i []) (slice_index_or row.kinds j own_code) (row.first + length row.kinds * i + j) }
+        IsCodeOf (slice_index_or row.names i []) (slice_index_or row.kinds j own_code)
+        (row.first + length row.kinds * i + j) }
 {}

@@ -1,7 +1,8 @@
 //! Look-ups in the tables.
 
 ghost use Rattle.std.specs.Prelude.{◌≡◌, ◌<◌, ℕ, List, [], ◌∷◌, ◌++◌, IsTrue, Contains};
-ghost use Rattle.mx_ops.specs.Opcodes.{IsLowestCode, chosen_operations, is_instruction, opcode_name, operation_of, pseudo_operations};
+ghost use Rattle.mx_ops.specs.Opcodes.{IsLowestCode, chosen_operations, is_instruction, opcode_name, operation_of};
+ghost use Rattle.mx_ops.specs.Opcodes.{pseudo_operations};
 ghost use Rattle.mx_ops.specs.declared.op.Op.{Op};
 ghost use Rattle.mx_ops.specs.Predefined.{predefined_names, predefined_value};
 ghost use Rattle.mx_ops.specs.Shapes.{shapes_of};
@@ -45,7 +46,8 @@ pub fn name(code: u8) -> &'static str
 /// no predefined symbol has the name.
 pub fn predefined(name: &[u8]) -> Option<u64>
     ensures value { result ≡ predefined_value name.now }
-    ensures listed { (bare : List ℕ) (v : ℕ) → name.now ≡ 58 ∷ bare → Contains predefined_names (bare, v) → result ≡ Some v }
+    ensures listed { (bare : List ℕ) (v : ℕ) → name.now ≡ 58 ∷ bare → Contains predefined_names (bare, v) →
+        result ≡ Some v }
 {
     if name.is_empty() || name[0] != b':' {
         return None;

@@ -1,6 +1,7 @@
 //! Frames: what SAVE hides and UNSAVE reads back.
 
-ghost use Rattle.std.specs.Prelude.{◌≡◌, ◌≤◌, ◌<◌, ◌+◌, ◌*◌, ◌^◌, ◌∷◌, [], ◌++◌, if◌then◌else◌, None, Some, IfSome, length};
+ghost use Rattle.std.specs.Prelude.{◌≡◌, ◌≤◌, ◌<◌, ◌+◌, ◌*◌, ◌^◌, ◌∷◌, [], ◌++◌, if◌then◌else◌, None, Some, IfSome};
+ghost use Rattle.std.specs.Prelude.{length};
 ghost use Rattle.mx_ring.specs.Frames.{saved_specials, is_bad_frame, frame_global, frame_locals, frame_specials};
 
 use crate::Saved;

@@ -1,9 +1,11 @@
 //! The hidden octas: a list of all of them, and the stack area, where the older ones stand too.
 
-ghost use Rattle.std.specs.Prelude.{◌≡◌, ◌≤◌, ◌<◌, ◌+◌, ◌-◌, ◌^◌, ◌++◌, [], ◌∷◌, IfOk, OnErr, Err, length, take, replicate, slice_index};
+ghost use Rattle.std.specs.Prelude.{◌≡◌, ◌≤◌, ◌<◌, ◌+◌, ◌-◌, ◌^◌, ◌++◌, [], ◌∷◌, IfOk, OnErr, Err, length, take};
+ghost use Rattle.std.specs.Prelude.{replicate, slice_index};
 ghost use Rattle.std.specs.Vec.{vec_len, vec_capacity};
 ghost use Rattle.mx_word.specs.Lists.{with_part};
-ghost use Rattle.mx_ring.specs.HiddenPart.{octas_of, with_hidden, with_spilled, with_room, with_first, with_stack_first, with_octa, nothing_hidden, zeros};
+ghost use Rattle.mx_ring.specs.HiddenPart.{octas_of, with_hidden, with_spilled, with_room, with_first};
+ghost use Rattle.mx_ring.specs.HiddenPart.{with_stack_first, with_octa, nothing_hidden, zeros};
 
 use crate::RingFault;
 use crate::slices::put;

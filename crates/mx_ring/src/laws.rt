@@ -1,13 +1,18 @@
 //! What holds of the register stack over its definitions alone. A window and the list that it stands
 //! for go the same way: what a program sees does not depend on what was spilled.
 
-ghost use Rattle.std.specs.Prelude.{◌≡◌, ◌≤◌, ◌<◌, ◌^◌, ℕ, ◌+◌, ◌-◌, true, false, min, List, [], ◌∷◌, ◌++◌, length, take, drop, replicate};
+ghost use Rattle.std.specs.Prelude.{◌≡◌, ◌≤◌, ◌<◌, ◌^◌, ℕ, ◌+◌, ◌-◌, true, false, min, List, [], ◌∷◌, ◌++◌, length};
+ghost use Rattle.std.specs.Prelude.{take, drop, replicate};
 ghost use Rattle.mx_ring.specs.Bounds.{AreInBounds, IsRing};
 ghost use Rattle.mx_ring.specs.Frames.{is_bad_frame};
-ghost use Rattle.mx_ring.specs.Laws.{GoesAsList, BecomesRing, IsOutsideOrSpilled, IsAllSpilled, SaveIsUndone, HidesLocals};
+ghost use Rattle.mx_ring.specs.Laws.{GoesAsList, BecomesRing, IsOutsideOrSpilled, IsAllSpilled, SaveIsUndone};
+ghost use Rattle.mx_ring.specs.Laws.{HidesLocals};
 ghost use Rattle.mx_ring.specs.RegisterList.{RegisterList};
 ghost use Rattle.mx_ring.specs.Registers.{is_marginal};
-ghost use Rattle.mx_ring.specs.Stack.{listed, windowed, list_of, visible, hidden_octas, hidden_count, local_count, spilled_count, register, set_overfills, with_register, cut_to, with_global_start, push_overfills, pushed, pop_underflows, popped, stack_octa, with_stack_octa, save_overfills, saved, octas_to, unsave_refused, unsaved_specials, unsaved};
+ghost use Rattle.mx_ring.specs.Stack.{listed, windowed, list_of, visible, hidden_octas, hidden_count, local_count};
+ghost use Rattle.mx_ring.specs.Stack.{spilled_count, register, set_overfills, with_register, cut_to, with_global_start};
+ghost use Rattle.mx_ring.specs.Stack.{push_overfills, pushed, pop_underflows, popped, stack_octa, with_stack_octa};
+ghost use Rattle.mx_ring.specs.Stack.{save_overfills, saved, octas_to, unsave_refused, unsaved_specials, unsaved};
 ghost use Rattle.mx_ring.specs.Window.{Window, as_list};
 ghost use Rattle.mx_ring.specs.declared.saved.Saved.{Saved};
 

@@ -1,6 +1,7 @@
 //! The register stack: the registers that an instruction sees, and the hidden ones.
 
-ghost use Rattle.std.specs.Prelude.{◌≡◌, ◌≤◌, ◌<◌, ◌+◌, ◌-◌, ◌^◌, ◌∷◌, [], ◌++◌, if◌then◌else◌, None, Some, Ok, Err, IfOk, OnOk, OnErr, true, false, ℕ, length, slice_index, nat_le};
+ghost use Rattle.std.specs.Prelude.{◌≡◌, ◌≤◌, ◌<◌, ◌+◌, ◌-◌, ◌^◌, ◌∷◌, [], ◌++◌, if◌then◌else◌, None, Some, Ok, Err};
+ghost use Rattle.std.specs.Prelude.{IfOk, OnOk, OnErr, true, false, ℕ, length, slice_index, nat_le};
 ghost use Rattle.mx_ring.specs.Bounds.{AreInBounds, IsRing};
 ghost use Rattle.mx_ring.specs.Calls.{set_answer, push_answer, pop_answer, save_answer, frame_answer, unsave_answer};
 ghost use Rattle.mx_ring.specs.Frames.{frame, frame_length, is_bad_frame};
@@ -8,7 +9,11 @@ ghost use Rattle.mx_ring.specs.HiddenPart.{octas_of, with_hidden};
 ghost use Rattle.mx_ring.specs.Kept.{KeepsFrame};
 ghost use Rattle.mx_ring.specs.Laws.{IsOutsideOrSpilled};
 ghost use Rattle.mx_ring.specs.Registers.{is_marginal, registers_below};
-ghost use Rattle.mx_ring.specs.Stack.{windowed, list_of, hidden_count, local_count, spilled_count, register, set_overfills, with_register, cut_to, with_global_start, push_overfills, pushed, with_pushed, hole_in, pop_underflows, popped, with_popped, stack_address, in_stack_area, stack_index, stack_octa, with_stack_octa, frame_top, save_overfills, saved, unsave_refused, octas_to, unsaved_specials, unsaved};
+ghost use Rattle.mx_ring.specs.Stack.{windowed, list_of, hidden_count, local_count, spilled_count, register};
+ghost use Rattle.mx_ring.specs.Stack.{set_overfills, with_register, cut_to, with_global_start, push_overfills, pushed};
+ghost use Rattle.mx_ring.specs.Stack.{with_pushed, hole_in, pop_underflows, popped, with_popped, stack_address};
+ghost use Rattle.mx_ring.specs.Stack.{in_stack_area, stack_index, stack_octa, with_stack_octa, frame_top};
+ghost use Rattle.mx_ring.specs.Stack.{save_overfills, saved, unsave_refused, octas_to, unsaved_specials, unsaved};
 ghost use Rattle.mx_ring.specs.Window.{window_at_start};
 
 use crate::frame::{frame_at, specials_at, upper_octas};

@@ -4,7 +4,9 @@ ghost use Rattle.std.specs.Prelude.{◌≡◌, ◌≤◌, ◌<◌, ◌+◌, ◌-
 ghost use Rattle.mx_ring.specs.Bounds.{AreInBounds};
 ghost use Rattle.mx_word.specs.Lists.{with_part};
 ghost use Rattle.mx_ring.specs.Parts.{with_zeros_at};
-ghost use Rattle.mx_ring.specs.Registers.{registers_at_start, is_marginal, value_of, with_value, with_locals_cut, with_globals_from, push_number, registers_below, registers_from, with_returned};
+ghost use Rattle.mx_ring.specs.Registers.{registers_at_start, is_marginal, value_of, with_value, with_locals_cut};
+ghost use Rattle.mx_ring.specs.Registers.{with_globals_from, push_number, registers_below, registers_from};
+ghost use Rattle.mx_ring.specs.Registers.{with_returned};
 
 use crate::results::bring_back;
 use crate::slices::{clear, copy, put};
@@ -208,7 +210,11 @@ impl Visible {
         requires least { 32 ≤ first_global }
         requires all { first_global + length globals.now ≡ 256 }
         requires some { 0 < length globals.now }
-        ensures { self.new ≡ record { locals = take first_global locals.now; first_global = first_global; globals = globals.now } }
+        ensures { self.new ≡ record {
+          locals = take first_global locals.now;
+          first_global = first_global;
+          globals = globals.now;
+        } }
     {
         let count = first_global.min(locals.len());
         put(&mut self.values, 0, &locals[..count]);

@@ -122,7 +122,8 @@ fn step_over<H: Host>(
     other: Advance,
 ) -> Going
     requires free { flags.now ≡ [] }
-    requires came { other ≢ Advance.OutOfMemory → (other, state_of machine.old) ≡ advanced (state_of machine.old) (step (state_of machine.old)) }
+    requires came { other ≢ Advance.OutOfMemory →
+        (other, state_of machine.old) ≡ advanced (state_of machine.old) (step (state_of machine.old)) }
     ensures told { LeavesMachine (H.told host.old) (H.told host.new) (state_of machine.old) (state_of machine.new)
         (Err End.OutOfMemory) (spec.answer_by result end.new) (λ s m. spec.run_step (flags_at flags.now) true s m) }
     ensures front { LeavesFront (H.told host.old) (H.told host.new) (state_of machine.old)

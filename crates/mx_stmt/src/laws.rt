@@ -64,5 +64,6 @@ pub fn references_stand_in_their_bytes()
 /// A statement waits only for local labels, and for names that have no value at it.
 pub fn awaited_names_are_unknown()
     ensures { (t : Targets) (k : Known) (s : StatementTree) (p : Placed) → encoding t k s ≡ Ok p →
-        AllByRecursion (λ (w : Wait). (full : List ℕ) → w.who ≡ awaited.Name full → value_of_name k.names full ≡ None) p.waits }
+        AllByRecursion (λ (w : Wait). (full : List ℕ) → w.who ≡ awaited.Name full →
+        value_of_name k.names full ≡ None) p.waits }
 {}

@@ -42,7 +42,8 @@ pub fn run_session<H: Host>(alloc: Global, host: &mut H, order: &Order, machine:
     ensures told { AnswersAs (H.told host.old) (H.told host.new) result
         (λ m. spec.dumped order.now.dump (spec.session_ran window_machine order.now.steps (state_of machine) m)) }
     ensures listed { AnswersAsList (H.told host.old) (H.told host.new) result
-        (λ m. spec.dumped order.now.dump (spec.session_ran list_machine order.now.steps (as_list_state (state_of machine)) m)) }
+        (λ m. spec.dumped order.now.dump
+        (spec.session_ran list_machine order.now.steps (as_list_state (state_of machine)) m)) }
     ensures front { WritesFrontOf (H.told host.old) (H.told host.new) result
         (λ m. spec.dumped order.now.dump (spec.session_ran window_machine order.now.steps (state_of machine) m)) }
     ensures rose { ComesByFault (H.told host.old) Outcome.HostFault result (H.faults host.old) (H.faults host.new) }

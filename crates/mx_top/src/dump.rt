@@ -1,6 +1,7 @@
 //! The dump, line by line.
 
-ghost use Rattle.std.specs.Prelude.{IsTrue, ◌≡◌, ◌≢◌, ◌<◌, ◌≤◌, ◌^◌, ◌++◌, ◌∷◌, [], Ok, false, IfOk, OnErr, codes, decimal};
+ghost use Rattle.std.specs.Prelude.{IsTrue, ◌≡◌, ◌≢◌, ◌<◌, ◌≤◌, ◌^◌, ◌++◌, ◌∷◌, [], Ok, false, IfOk, OnErr, codes};
+ghost use Rattle.std.specs.Prelude.{decimal};
 ghost use Rattle.mx_core.specs.Kept.{state_of};
 ghost use Rattle.mx_core.specs.Search.{IsNextBetween};
 ghost use Rattle.mx_core.specs.State.{octa};

@@ -24,7 +24,8 @@ fn load_items(loader: &mut Loader, items: &[Item]) -> Result<(), LoadFault>
     requires open { loader_spec.answer (loader_spec.standing loader.old) ≡ Ok tt }
     ensures loaded { result ≢ Err LoadFault.OutOfMemory →
         loader_spec.standing loader.new ≡ spec.all_loaded (loader_spec.standing loader.old) items.now }
-    ensures answer { result ≢ Err LoadFault.OutOfMemory → result ≡ loader_spec.answer (loader_spec.standing loader.new) }
+    ensures answer { result ≢ Err LoadFault.OutOfMemory →
+        result ≡ loader_spec.answer (loader_spec.standing loader.new) }
 {
     let mut rest = items;
     while let [item, others @ ..] = rest {

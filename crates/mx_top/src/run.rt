@@ -113,7 +113,8 @@ fn run_steps<H: Host>(alloc: Global, host: &mut H, order: &Order, machine: Machi
     ensures told { AnswersAs (H.told host.old) (H.told host.new) result
         (λ m. spec.dumped order.now.dump (spec.machine_ran window_machine order.now.steps (state_of machine) m)) }
     ensures listed { AnswersAsList (H.told host.old) (H.told host.new) result
-        (λ m. spec.dumped order.now.dump (spec.machine_ran list_machine order.now.steps (as_list_state (state_of machine)) m)) }
+        (λ m. spec.dumped order.now.dump
+        (spec.machine_ran list_machine order.now.steps (as_list_state (state_of machine)) m)) }
     ensures front { WritesFrontOf (H.told host.old) (H.told host.new) result
         (λ m. spec.dumped order.now.dump (spec.machine_ran window_machine order.now.steps (state_of machine) m)) }
     ensures rose { ComesByFault (H.told host.old) Outcome.HostFault result (H.faults host.old) (H.faults host.new) }

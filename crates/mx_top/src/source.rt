@@ -1,6 +1,7 @@
 //! The file that holds a source or an object, as it is read.
 
-ghost use Rattle.std.specs.Prelude.{IsTrue, ◌≡◌, ◌≢◌, ◌≤◌, ◌++◌, [], ℕ, Some, None, Ok, Err, OnOk, OnErr, IfOk, IfErr, false, nat_lt, length};
+ghost use Rattle.std.specs.Prelude.{IsTrue, ◌≡◌, ◌≢◌, ◌≤◌, ◌++◌, [], ℕ, Some, None, Ok, Err, OnOk, OnErr, IfOk, IfErr};
+ghost use Rattle.std.specs.Prelude.{false, nat_lt, length};
 ghost use Rattle.mx_host.specs.Keeping.{Answers, ComesByFault, Keeps, KeepsOutput};
 ghost use Rattle.mx_host.specs.HostModel.{tells, contents};
 ghost use Rattle.mx_host.specs.HostAnswer.{close_answer};

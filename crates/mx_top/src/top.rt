@@ -146,7 +146,8 @@ fn tell<H: Host>(alloc: Global, host: &mut H, outcome: Outcome) -> Outcome
     ensures told { AnswersAs (H.told host.old) (H.told host.new) result
         (λ m. spec.message_told outcome (message_of outcome) m) }
     ensures same { result ≢ Outcome.OutOfMemory → result ≡ outcome }
-    ensures output { slot_at (contents (H.told host.old)) 260 ≡ to_errors → KeepsOutput (H.told host.old) (H.told host.new) }
+    ensures output { slot_at (contents (H.told host.old)) 260 ≡ to_errors →
+        KeepsOutput (H.told host.old) (H.told host.new) }
     ensures keeps { Keeps (H.told host.old) (H.told host.new) (H.faults host.old) (H.faults host.new) }
 {
     let Ok(text) = message(alloc, outcome) else {
@@ -181,7 +182,8 @@ pub fn mmixware<H: Host>(alloc: Global, words: &[String], host: &mut H) -> Outco
     ensures headline { AnswersAsList (H.told host.old) (H.told host.new) result
         (λ m. spec.product list_machine (map string_bytes words.now) m) }
     ensures written { slot_at (contents (H.told host.old)) 260 ≡ to_errors →
-        WritesFrontOf (H.told host.old) (H.told host.new) result (λ m. spec.product window_machine (map string_bytes words.now) m) }
+        WritesFrontOf (H.told host.old) (H.told host.new) result
+        (λ m. spec.product window_machine (map string_bytes words.now) m) }
 
     // Words that are no order are told apart for every host, and only they are told so.
     ensures usage { (fault : WordsFault) → order_of (map string_bytes words.now) ≡ Err fault →

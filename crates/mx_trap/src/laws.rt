@@ -1,11 +1,13 @@
 //! What holds of file traps over their definitions alone.
 
-ghost use Rattle.std.specs.Prelude.{◌≡◌, ◌≢◌, ◌≤◌, ◌<◌, ◌+◌, ◌%◌, ◌^◌, ℕ, true, false, ◌-◌, ◌++◌, ◌∷◌, List, [], length, drop, Ok, Err};
+ghost use Rattle.std.specs.Prelude.{◌≡◌, ◌≢◌, ◌≤◌, ◌<◌, ◌+◌, ◌%◌, ◌^◌, ℕ, true, false, ◌-◌, ◌++◌, ◌∷◌, List, []};
+ghost use Rattle.std.specs.Prelude.{length, drop, Ok, Err};
 ghost use Rattle.mx_host.specs.HostModel.{HostModel, slot_at, to_input};
 ghost use Rattle.mx_host.specs.HostAnswer.{read_answer};
 ghost use Rattle.mx_mem.specs.Space.{Contents};
 ghost use Rattle.mx_trap.specs.FileTraps.{trap_answer};
-ghost use Rattle.mx_trap.specs.Laws.{ComesTo, SameButCalls, IsText, RunsOut, IsLong, line_ends, line_front, stored_byte, LooksAt};
+ghost use Rattle.mx_trap.specs.Laws.{ComesTo, SameButCalls, IsText, RunsOut, IsLong, line_ends, line_front};
+ghost use Rattle.mx_trap.specs.Laws.{stored_byte, LooksAt};
 ghost use Rattle.mx_trap.specs.Moves.{minus_one, bytes_stored, fgets, fread, octa_minus, written, write_piece};
 ghost use Rattle.mx_trap.specs.Requests.{text_length, most_bytes};
 ghost use Rattle.mx_trap.specs.Touches.{is_in_segment, meets_segment, text_touches};

@@ -1,6 +1,7 @@
 //! The files and the slots of a host in memory.
 
-ghost use Rattle.std.specs.Prelude.{◌≡◌, ◌<◌, ◌≤◌, ◌+◌, ◌^◌, [], ◌∷◌, ◌++◌, None, OnOk, OnErr, IfErr, IfSome, length, take, drop};
+ghost use Rattle.std.specs.Prelude.{◌≡◌, ◌<◌, ◌≤◌, ◌+◌, ◌^◌, [], ◌∷◌, ◌++◌, None, OnOk, OnErr, IfErr, IfSome, length};
+ghost use Rattle.std.specs.Prelude.{take, drop};
 ghost use Rattle.mx_word.specs.Lists.{with_written};
 ghost use Rattle.mx_host.specs.HostModel.{Leads, place_of, slot_at, with_slot};
 ghost use Rattle.mx_host.specs.HostAnswer as spec;
