@@ -1,7 +1,7 @@
 //! Negative addresses.
 
 use mx_runs::End::{Done, Stop};
-use mx_runs::{Row, shows};
+use mx_runs::{Row, first_other, shows};
 use std::test::Fail;
 
 /// What loads and stores, with its first operand.
@@ -30,10 +30,10 @@ static HINTS_DO_NOTHING_AT_NEGATIVE_ADDRESSES: [Row; 2] = [
 
 #[test]
 fn hints_do_nothing_at_negative_addresses(rt: HostRuntime) -> Result<(), Fail> {
-    let alloc = rt.alloc();
-    for (source, end, lines) in HINTS_DO_NOTHING_AT_NEGATIVE_ADDRESSES {
-        assert!(rt; shows(alloc, source, end, lines)?, "{source}");
-    }
+    assert_eq!(rt;
+        first_other(rt.alloc(), "", &HINTS_DO_NOTHING_AT_NEGATIVE_ADDRESSES)?,
+        None
+    );
     Ok(())
 }
 
@@ -89,10 +89,10 @@ static FILE_TRAPS_AT_NEGATIVE_ADDRESSES: [Row; 8] = [
 
 #[test]
 fn file_traps_at_negative_addresses(rt: HostRuntime) -> Result<(), Fail> {
-    let alloc = rt.alloc();
-    for (source, end, lines) in FILE_TRAPS_AT_NEGATIVE_ADDRESSES {
-        assert!(rt; shows(alloc, source, end, lines)?, "{source}");
-    }
+    assert_eq!(rt;
+        first_other(rt.alloc(), "", &FILE_TRAPS_AT_NEGATIVE_ADDRESSES)?,
+        None
+    );
     Ok(())
 }
 

@@ -1,7 +1,7 @@
 //! What happens where no register, no octa of the stack and no page is left.
 
 use mx_runs::End::{Done, Stop};
-use mx_runs::{Row, shows, shows_on};
+use mx_runs::{Row, first_other, shows_on};
 use std::test::Fail;
 
 /// Hides 2^20 octas; the next instruction stands at #110.
@@ -68,12 +68,10 @@ static NO_ROOM_FOR_REGISTERS: [Row; 14] = [
 
 #[test]
 fn no_room_for_registers(rt: HostRuntime) -> Result<(), Fail> {
-    let alloc = rt.alloc();
-    for (source, end, lines) in NO_ROOM_FOR_REGISTERS {
-        let mut whole = String::from_str(alloc, FULL)?;
-        whole.push_str(source)?;
-        assert!(rt; shows(alloc, whole.as_str(), end, lines)?, "{source}");
-    }
+    assert_eq!(rt;
+        first_other(rt.alloc(), FULL, &NO_ROOM_FOR_REGISTERS)?,
+        None
+    );
     Ok(())
 }
 
@@ -116,12 +114,10 @@ static SAVE_NEEDS_ROOM: [Row; 6] = [
 
 #[test]
 fn save_needs_room(rt: HostRuntime) -> Result<(), Fail> {
-    let alloc = rt.alloc();
-    for (source, end, lines) in SAVE_NEEDS_ROOM {
-        let mut whole = String::from_str(alloc, NEARLY_FULL)?;
-        whole.push_str(source)?;
-        assert!(rt; shows(alloc, whole.as_str(), end, lines)?, "{source}");
-    }
+    assert_eq!(rt;
+        first_other(rt.alloc(), NEARLY_FULL, &SAVE_NEEDS_ROOM)?,
+        None
+    );
     Ok(())
 }
 

@@ -1,7 +1,7 @@
 //! RESUME that inserts an instruction.
 
 use mx_runs::End::{Done, Stop};
-use mx_runs::{Row, shows};
+use mx_runs::{Row, first_other, shows};
 use std::test::Fail;
 
 /// The first and the last codes for which RESUME takes no operands from rY and rZ.
@@ -53,10 +53,7 @@ static TRIPS_WITHIN_RESUME: [Row; 3] = [
 
 #[test]
 fn trips_within_resume(rt: HostRuntime) -> Result<(), Fail> {
-    let alloc = rt.alloc();
-    for (source, end, lines) in TRIPS_WITHIN_RESUME {
-        assert!(rt; shows(alloc, source, end, lines)?, "{source}");
-    }
+    assert_eq!(rt; first_other(rt.alloc(), "", &TRIPS_WITHIN_RESUME)?, None);
     Ok(())
 }
 
@@ -93,10 +90,10 @@ static PLACES_OF_INSERTED_INSTRUCTIONS: [Row; 4] = [
 
 #[test]
 fn places_of_inserted_instructions(rt: HostRuntime) -> Result<(), Fail> {
-    let alloc = rt.alloc();
-    for (source, end, lines) in PLACES_OF_INSERTED_INSTRUCTIONS {
-        assert!(rt; shows(alloc, source, end, lines)?, "{source}");
-    }
+    assert_eq!(rt;
+        first_other(rt.alloc(), "", &PLACES_OF_INSERTED_INSTRUCTIONS)?,
+        None
+    );
     Ok(())
 }
 
@@ -155,10 +152,7 @@ static WHAT_RESUME_REFUSES: [Row; 9] = [
 
 #[test]
 fn what_resume_refuses(rt: HostRuntime) -> Result<(), Fail> {
-    let alloc = rt.alloc();
-    for (source, end, lines) in WHAT_RESUME_REFUSES {
-        assert!(rt; shows(alloc, source, end, lines)?, "{source}");
-    }
+    assert_eq!(rt; first_other(rt.alloc(), "", &WHAT_RESUME_REFUSES)?, None);
     Ok(())
 }
 

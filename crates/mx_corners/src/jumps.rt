@@ -1,7 +1,7 @@
 //! Jumps and destinations: where they go, and what they leave.
 
 use mx_runs::End::{Done, Stop};
-use mx_runs::{Row, shows, shows_on};
+use mx_runs::{Row, first_other, shows_on};
 use std::test::Fail;
 
 /// Hides 251 registers, and then loads the first octa of the stack area into $4.
@@ -46,10 +46,10 @@ static JUMPS_LOWER_THEIR_ADDRESSES: [Row; 5] = [
 
 #[test]
 fn jumps_lower_their_addresses(rt: HostRuntime) -> Result<(), Fail> {
-    let alloc = rt.alloc();
-    for (source, end, lines) in JUMPS_LOWER_THEIR_ADDRESSES {
-        assert!(rt; shows(alloc, source, end, lines)?, "{source}");
-    }
+    assert_eq!(rt;
+        first_other(rt.alloc(), "", &JUMPS_LOWER_THEIR_ADDRESSES)?,
+        None
+    );
     Ok(())
 }
 
@@ -91,10 +91,10 @@ static JUMPS_TO_NEGATIVE_ADDRESSES_COMPLETE: [Row; 4] = [
 
 #[test]
 fn jumps_to_negative_addresses_complete(rt: HostRuntime) -> Result<(), Fail> {
-    let alloc = rt.alloc();
-    for (source, end, lines) in JUMPS_TO_NEGATIVE_ADDRESSES_COMPLETE {
-        assert!(rt; shows(alloc, source, end, lines)?, "{source}");
-    }
+    assert_eq!(rt;
+        first_other(rt.alloc(), "", &JUMPS_TO_NEGATIVE_ADDRESSES_COMPLETE)?,
+        None
+    );
     Ok(())
 }
 
@@ -138,10 +138,10 @@ static DESTINATIONS_ARE_LOCAL_FIRST: [Row; 5] = [
 
 #[test]
 fn destinations_are_local_first(rt: HostRuntime) -> Result<(), Fail> {
-    let alloc = rt.alloc();
-    for (source, end, lines) in DESTINATIONS_ARE_LOCAL_FIRST {
-        assert!(rt; shows(alloc, source, end, lines)?, "{source}");
-    }
+    assert_eq!(rt;
+        first_other(rt.alloc(), "", &DESTINATIONS_ARE_LOCAL_FIRST)?,
+        None
+    );
     Ok(())
 }
 

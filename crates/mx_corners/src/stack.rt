@@ -1,7 +1,7 @@
 //! Calls, results, and frames that a program forged.
 
 use mx_runs::End::{Done, Stop};
-use mx_runs::{Row, shows};
+use mx_runs::{Row, first_other};
 use std::test::Fail;
 
 static CALLS_AND_RESULTS: [Row; 7] = [
@@ -65,10 +65,7 @@ static CALLS_AND_RESULTS: [Row; 7] = [
 
 #[test]
 fn calls_and_results(rt: HostRuntime) -> Result<(), Fail> {
-    let alloc = rt.alloc();
-    for (source, end, lines) in CALLS_AND_RESULTS {
-        assert!(rt; shows(alloc, source, end, lines)?, "{source}");
-    }
+    assert_eq!(rt; first_other(rt.alloc(), "", &CALLS_AND_RESULTS)?, None);
     Ok(())
 }
 
@@ -103,10 +100,10 @@ static RESULTS_WHERE_G_IS_LOWER: [Row; 4] = [
 
 #[test]
 fn results_where_g_is_lower(rt: HostRuntime) -> Result<(), Fail> {
-    let alloc = rt.alloc();
-    for (source, end, lines) in RESULTS_WHERE_G_IS_LOWER {
-        assert!(rt; shows(alloc, source, end, lines)?, "{source}");
-    }
+    assert_eq!(rt;
+        first_other(rt.alloc(), "", &RESULTS_WHERE_G_IS_LOWER)?,
+        None
+    );
     Ok(())
 }
 
@@ -155,10 +152,10 @@ static NUMBERS_OF_FORGED_FRAMES: [Row; 5] = [
 
 #[test]
 fn numbers_of_forged_frames(rt: HostRuntime) -> Result<(), Fail> {
-    let alloc = rt.alloc();
-    for (source, end, lines) in NUMBERS_OF_FORGED_FRAMES {
-        assert!(rt; shows(alloc, source, end, lines)?, "{source}");
-    }
+    assert_eq!(rt;
+        first_other(rt.alloc(), "", &NUMBERS_OF_FORGED_FRAMES)?,
+        None
+    );
     Ok(())
 }
 
@@ -234,9 +231,6 @@ static FRAMES_THAT_ARE_NONE: [Row; 11] = [
 
 #[test]
 fn frames_that_are_none(rt: HostRuntime) -> Result<(), Fail> {
-    let alloc = rt.alloc();
-    for (source, end, lines) in FRAMES_THAT_ARE_NONE {
-        assert!(rt; shows(alloc, source, end, lines)?, "{source}");
-    }
+    assert_eq!(rt; first_other(rt.alloc(), "", &FRAMES_THAT_ARE_NONE)?, None);
     Ok(())
 }

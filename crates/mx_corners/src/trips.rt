@@ -1,7 +1,7 @@
 //! Trips and their handlers, and what overflows.
 
 use mx_runs::End::{Done, Stop};
-use mx_runs::{Row, shows};
+use mx_runs::{Row, first_other};
 use std::test::Fail;
 
 static TRIPS_TELL_WHAT_HAPPENED: [Row; 6] = [
@@ -85,10 +85,10 @@ static TRIPS_TELL_WHAT_HAPPENED: [Row; 6] = [
 
 #[test]
 fn trips_tell_what_happened(rt: HostRuntime) -> Result<(), Fail> {
-    let alloc = rt.alloc();
-    for (source, end, lines) in TRIPS_TELL_WHAT_HAPPENED {
-        assert!(rt; shows(alloc, source, end, lines)?, "{source}");
-    }
+    assert_eq!(rt;
+        first_other(rt.alloc(), "", &TRIPS_TELL_WHAT_HAPPENED)?,
+        None
+    );
     Ok(())
 }
 
@@ -128,10 +128,7 @@ static HANDLERS_THAT_ARE_NONE: [Row; 5] = [
 
 #[test]
 fn handlers_that_are_none(rt: HostRuntime) -> Result<(), Fail> {
-    let alloc = rt.alloc();
-    for (source, end, lines) in HANDLERS_THAT_ARE_NONE {
-        assert!(rt; shows(alloc, source, end, lines)?, "{source}");
-    }
+    assert_eq!(rt; first_other(rt.alloc(), "", &HANDLERS_THAT_ARE_NONE)?, None);
     Ok(())
 }
 
@@ -196,9 +193,6 @@ static SHIFTS_TO_THE_LEFT: [Row; 9] = [
 
 #[test]
 fn shifts_to_the_left(rt: HostRuntime) -> Result<(), Fail> {
-    let alloc = rt.alloc();
-    for (source, end, lines) in SHIFTS_TO_THE_LEFT {
-        assert!(rt; shows(alloc, source, end, lines)?, "{source}");
-    }
+    assert_eq!(rt; first_other(rt.alloc(), "", &SHIFTS_TO_THE_LEFT)?, None);
     Ok(())
 }

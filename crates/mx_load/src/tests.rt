@@ -159,131 +159,132 @@ fn has_lines(rt: &impl Abort, image: &Image, lines: &[(u64, u32)]) {
     }
 }
 
+/// Items; octas by their addresses; the number of pages; lines by addresses.
+static IMAGES: [(&[Row], &[(u64, u64)], u32, &[(u64, u32)]); 14] = [
+    // tetras at one place are joined, and after an odd place the next tetra is loaded
+    (
+        &[
+            Loc(0x2000_0000_0000_0001),
+            Load(0x0100_0000),
+            Loc(0x2000_0000_0000_0002),
+            Load(0x0300_0000),
+            Load(0xff),
+        ],
+        &[(0x2000_0000_0000_0000, 0x0200_0000_0000_00ff)],
+        1,
+        &[],
+    ),
+    (
+        &[Loc(0xfff), Load(1), Load(2), Skip(9), Load(3)],
+        &[(0xff8, 1), (0x1000, 0x2_0000_0000), (0x1008, 3)],
+        2,
+        &[],
+    ),
+    // lambda, as an octa, at a tetra and the next
+    (
+        &[Loc(0x1234_5678_9abc_def0), FixOcta(0x106)],
+        &[(0x100, 0x1234_5678), (0x108, 0x9abc_def0_0000_0000)],
+        1,
+        &[],
+    ),
+    // a fix changes neither lambda nor the lines
+    (
+        &[Named(1), Line(7), Loc(0x110), FixOcta(0x100), Load(5)],
+        &[(0x100, 0x110), (0x110, 0x5_0000_0000)],
+        1,
+        &[(0x100, 0), (0x104, 0), (0x110, 7)],
+    ),
+    // two tetras back; three back; one ahead; two ahead; ahead over the end of all addresses
+    (
+        &[Loc(0x110), FixNear(2)],
+        &[(0x108, 0x2_0000_0000), (0x110, 0)],
+        1,
+        &[],
+    ),
+    (&[Loc(0x110), Fix24(3)], &[(0x100, 3)], 1, &[]),
+    (
+        &[Loc(0x100), Fix24(0x01ff_ffff)],
+        &[(0x100, 0x01ff_ffff)],
+        1,
+        &[],
+    ),
+    (
+        &[Loc(0x100), Fix16(0x0100_fffe)],
+        &[(0x108, 0x0100_fffe_0000_0000)],
+        1,
+        &[],
+    ),
+    (
+        &[Loc(0xffff_ffff_ffff_fff8), Fix24(0x01ff_fffe)],
+        &[(0, 0x01ff_fffe_0000_0000)],
+        1,
+        &[],
+    ),
+    // the line in force grows by 1 with each tetra; line 0 is none
+    (
+        &[
+            Named(1),
+            Line(5),
+            Loc(0x102),
+            Load(1),
+            Load(2),
+            Line(0),
+            Load(3),
+        ],
+        &[(0x100, 0x1_0000_0002), (0x108, 0x3_0000_0000)],
+        1,
+        &[
+            (0xff, 0),
+            (0x100, 5),
+            (0x103, 5),
+            (0x104, 6),
+            (0x107, 6),
+            (0x108, 0),
+        ],
+    ),
+    // the last line of a tetra counts, and no line keeps the one before
+    (
+        &[
+            Named(1),
+            Line(5),
+            Load(1),
+            Loc(0),
+            Line(9),
+            Load(2),
+            Loc(0),
+            Line(0),
+            Load(4),
+        ],
+        &[(0, 0x7_0000_0000)],
+        1,
+        &[(0, 9)],
+    ),
+    // a file that was named is selected again; a tetra of 0 begins its page
+    (
+        &[Named(3), Named(4), File(3), Line(1), Load(0)],
+        &[(0, 0)],
+        1,
+        &[(0, 1)],
+    ),
+    // items that change nothing
+    (&[Pre, Spec(80), Stab], &[], 0, &[]),
+    // the last tetra below the stack segment
+    (
+        &[
+            Loc(0x5fff_ffff_ffff_ffff),
+            Load(1),
+            FixOcta(0x5fff_ffff_ffff_fff8),
+        ],
+        &[(0x5fff_ffff_ffff_fff8, 0x6000_0000_0000_0001)],
+        1,
+        &[],
+    ),
+];
+
 #[test]
 fn images(rt: HostRuntime) {
-    // items; octas by their addresses; pages; lines by addresses
-    let rows: [(&[Row], &[(u64, u64)], u32, &[(u64, u32)]); 14] = [
-        // tetras at one place are joined, and after an odd place the next tetra is loaded
-        (
-            &[
-                Loc(0x2000_0000_0000_0001),
-                Load(0x0100_0000),
-                Loc(0x2000_0000_0000_0002),
-                Load(0x0300_0000),
-                Load(0xff),
-            ],
-            &[(0x2000_0000_0000_0000, 0x0200_0000_0000_00ff)],
-            1,
-            &[],
-        ),
-        (
-            &[Loc(0xfff), Load(1), Load(2), Skip(9), Load(3)],
-            &[(0xff8, 1), (0x1000, 0x2_0000_0000), (0x1008, 3)],
-            2,
-            &[],
-        ),
-        // lambda, as an octa, at a tetra and the next
-        (
-            &[Loc(0x1234_5678_9abc_def0), FixOcta(0x106)],
-            &[(0x100, 0x1234_5678), (0x108, 0x9abc_def0_0000_0000)],
-            1,
-            &[],
-        ),
-        // a fix changes neither lambda nor the lines
-        (
-            &[Named(1), Line(7), Loc(0x110), FixOcta(0x100), Load(5)],
-            &[(0x100, 0x110), (0x110, 0x5_0000_0000)],
-            1,
-            &[(0x100, 0), (0x104, 0), (0x110, 7)],
-        ),
-        // two tetras back; three back; one ahead; two ahead; ahead over the end of all addresses
-        (
-            &[Loc(0x110), FixNear(2)],
-            &[(0x108, 0x2_0000_0000), (0x110, 0)],
-            1,
-            &[],
-        ),
-        (&[Loc(0x110), Fix24(3)], &[(0x100, 3)], 1, &[]),
-        (
-            &[Loc(0x100), Fix24(0x01ff_ffff)],
-            &[(0x100, 0x01ff_ffff)],
-            1,
-            &[],
-        ),
-        (
-            &[Loc(0x100), Fix16(0x0100_fffe)],
-            &[(0x108, 0x0100_fffe_0000_0000)],
-            1,
-            &[],
-        ),
-        (
-            &[Loc(0xffff_ffff_ffff_fff8), Fix24(0x01ff_fffe)],
-            &[(0, 0x01ff_fffe_0000_0000)],
-            1,
-            &[],
-        ),
-        // the line in force grows by 1 with each tetra; line 0 is none
-        (
-            &[
-                Named(1),
-                Line(5),
-                Loc(0x102),
-                Load(1),
-                Load(2),
-                Line(0),
-                Load(3),
-            ],
-            &[(0x100, 0x1_0000_0002), (0x108, 0x3_0000_0000)],
-            1,
-            &[
-                (0xff, 0),
-                (0x100, 5),
-                (0x103, 5),
-                (0x104, 6),
-                (0x107, 6),
-                (0x108, 0),
-            ],
-        ),
-        // the last line of a tetra counts, and no line keeps the one before
-        (
-            &[
-                Named(1),
-                Line(5),
-                Load(1),
-                Loc(0),
-                Line(9),
-                Load(2),
-                Loc(0),
-                Line(0),
-                Load(4),
-            ],
-            &[(0, 0x7_0000_0000)],
-            1,
-            &[(0, 9)],
-        ),
-        // a file that was named is selected again; a tetra of 0 begins its page
-        (
-            &[Named(3), Named(4), File(3), Line(1), Load(0)],
-            &[(0, 0)],
-            1,
-            &[(0, 1)],
-        ),
-        // items that change nothing
-        (&[Pre, Spec(80), Stab], &[], 0, &[]),
-        // the last tetra below the stack segment
-        (
-            &[
-                Loc(0x5fff_ffff_ffff_ffff),
-                Load(1),
-                FixOcta(0x5fff_ffff_ffff_fff8),
-            ],
-            &[(0x5fff_ffff_ffff_fff8, 0x6000_0000_0000_0001)],
-            1,
-            &[],
-        ),
-    ];
     let alloc = rt.alloc();
-    for (rows, octas, pages, lines) in rows {
+    for (rows, octas, pages, lines) in IMAGES {
         let image = image_of_rows(alloc, rows).expect(&rt, "no fault");
         has_octas(&rt, &image, octas);
         assert_eq!(rt; image.memory().pages(), pages);
@@ -300,24 +301,26 @@ fn registers(rt: HostRuntime) {
     }
 }
 
+/// Items that are refused, and the number of the fault.
+static REFUSED: [(&[Row], u16); 9] = [
+    // in the stack segment: at its first tetra, loaded behind the last tetra below it, by half
+    // of an octa, and at the end of all addresses
+    (&[Loc(0x6000_0000_0000_0000), Load(0)], 95),
+    (&[Loc(0x5fff_ffff_ffff_ffff), Load(1), Load(2)], 95),
+    (&[FixOcta(0x5fff_ffff_ffff_fffc)], 95),
+    (&[FixOcta(0xffff_ffff_ffff_ffff)], 95),
+    (&[FixNear(1)], 95),
+    // a line before any file; a file that was never named
+    (&[Line(1), Named(1)], 96),
+    (&[Line(0)], 96),
+    (&[File(0)], 96),
+    (&[Named(1), File(2)], 96),
+];
+
 #[test]
 fn faults(rt: HostRuntime) {
-    let rows: [(&[Row], u16); 9] = [
-        // in the stack segment: at its first tetra, loaded behind the last tetra below it, by half
-        // of an octa, and at the end of all addresses
-        (&[Loc(0x6000_0000_0000_0000), Load(0)], 95),
-        (&[Loc(0x5fff_ffff_ffff_ffff), Load(1), Load(2)], 95),
-        (&[FixOcta(0x5fff_ffff_ffff_fffc)], 95),
-        (&[FixOcta(0xffff_ffff_ffff_ffff)], 95),
-        (&[FixNear(1)], 95),
-        // a line before any file; a file that was never named
-        (&[Line(1), Named(1)], 96),
-        (&[Line(0)], 96),
-        (&[File(0)], 96),
-        (&[Named(1), File(2)], 96),
-    ];
     let alloc = rt.alloc();
-    for (rows, number) in rows {
+    for (rows, number) in REFUSED {
         let fault = image_of_rows(alloc, rows).err().expect(&rt, "a fault");
         assert_eq!(rt; fault.number(), number);
     }

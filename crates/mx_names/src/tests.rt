@@ -1,6 +1,6 @@
 //! Names, prefixes and local labels, in the order in which a source gives them.
 
-ghost use Rattle.std.specs.Prelude.{◌+◌, ◌<◌, ◌≤◌, length, IsTrue};
+ghost use Rattle.std.specs.Prelude.{◌+◌, ◌<◌, ◌≤◌, length, IfOk, IsTrue};
 ghost use Rattle.mx_names.specs.Names.{IsFullName};
 
 use crate::{Awaited, NameFault, Names, Wait, WaitKind};
@@ -113,14 +113,23 @@ fn sorted_as(names: &Names, want: &[(&[u8], Value, u32)]) -> bool {
     true
 }
 
+/// `:b`, `:a` and `:aa` are defined, in this order.
+fn three_names(alloc: Global) -> Result<Names, NameFault>
+    ensures { IfOk result (λ names. length names.symbols ≤ 3) }
+{
+    let mut names = Names::new(alloc)?;
+    put(alloc, &mut names, b":b", Value::Pure(7))?;
+    put(alloc, &mut names, b":a", Value::Reg(254))?;
+    put(alloc, &mut names, b":aa", Value::Pure(u64::MAX))?;
+    Ok(names)
+}
+
 #[test]
-fn definitions(rt: HostRuntime) {
-    let Ok(mut names) = Names::new(rt.alloc()) else {
+fn definitions_refused(rt: HostRuntime) {
+    let Ok(mut names) = three_names(rt.alloc()) else {
         assert!(rt; false, "out of memory");
         return;
     };
-    assert_eq!(rt; put(rt.alloc(), &mut names, b":b", Value::Pure(7)), Ok(()));
-    assert_eq!(rt; put(rt.alloc(), &mut names, b":a", Value::Reg(254)), Ok(()));
     assert_eq!(rt;
         put(rt.alloc(), &mut names, b":b", Value::Pure(8)),
         Err(NameFault::Twice)
@@ -130,16 +139,20 @@ fn definitions(rt: HostRuntime) {
         Err(NameFault::Predefined)
     );
     assert_eq!(rt;
-        put(rt.alloc(), &mut names, b":aa", Value::Pure(u64::MAX)),
-        Ok(())
-    );
-    assert_eq!(rt;
         names.lookup(b":b"),
         Some(Value::Pure(7)),
         "as first defined"
     );
+}
+
+#[test]
+fn lookups(rt: HostRuntime) {
+    let Ok(names) = three_names(rt.alloc()) else {
+        assert!(rt; false, "out of memory");
+        return;
+    };
     assert_eq!(rt; names.lookup(b":rA"), Some(Value::Pure(21)), "predefined");
-    assert_eq!(rt; names.lookup(b":c"), None, "neither");
+    assert_eq!(rt; names.lookup(b":c"), None, "not defined");
     // in byte order, with the serials of the order of definition
     let want: [(&[u8], Value, u32); 3] = [
         (b":a", Value::Reg(254), 2),
@@ -147,14 +160,14 @@ fn definitions(rt: HostRuntime) {
         (b":b", Value::Pure(7), 1),
     ];
     assert!(rt; sorted_as(&names, want.as_slice()));
-    for (fault, number) in [
-        (NameFault::Twice, 30),
-        (NameFault::Predefined, 31),
-        (NameFault::NameTooLong, 33),
-        (NameFault::OutOfMemory, 0),
-    ] {
-        assert_eq!(rt; fault.number(), number);
-    }
+}
+
+#[test]
+fn numbers_of_faults(rt: HostRuntime) {
+    assert_eq!(rt; NameFault::Twice.number(), 30);
+    assert_eq!(rt; NameFault::Predefined.number(), 31);
+    assert_eq!(rt; NameFault::NameTooLong.number(), 33);
+    assert_eq!(rt; NameFault::OutOfMemory.number(), 0);
 }
 
 #[test]
@@ -203,32 +216,41 @@ fn places(names: &mut Names, who: &Awaited, want: &[u64]) -> Result<bool, NameFa
     Ok(waits.len() == want.len() && waits.iter().zip(want).all(|(wait, at)| wait.at == *at))
 }
 
-/// References to a name and to a local label, made by turns and taken one name after another.
-fn by_turns(alloc: Global) -> Result<bool, NameFault> {
+/// References to a name and to a local label, made by turns.
+fn waiting_by_turns(alloc: Global) -> Result<Names, NameFault> {
     let mut names = Names::new(alloc)?;
-    let none = first_place(&names);
     for at in 0..3 {
         names.wait_for(octa_wait(Awaited::Local(2), 16 * at))?;
         names.wait_for(octa_wait(numbered(alloc, 7)?, 16 * at + 8))?;
     }
-    let first = first_place(&names);
+    Ok(names)
+}
+
+/// Whether those of another label, of the label, of the name, and of the name once more are what is due.
+fn taken_by_turns(alloc: Global) -> Result<(bool, bool, bool, bool), NameFault> {
+    let mut names = waiting_by_turns(alloc)?;
+    let name = numbered(alloc, 7)?;
     let other = places(&mut names, &Awaited::Local(3), &[])?;
     let local = places(&mut names, &Awaited::Local(2), &[0, 16, 32])?;
+    let named = places(&mut names, &name, &[8, 24, 40])?;
+    let again = places(&mut names, &name, &[])?;
+    Ok((other, local, named, again))
+}
+
+/// The earliest reference, and that after those to the label and to the name are taken.
+fn first_by_turns(alloc: Global) -> Result<(Option<u64>, Option<u64>, Option<u64>), NameFault> {
+    let mut names = waiting_by_turns(alloc)?;
+    let first = first_place(&names);
+    names.take_waiting(&Awaited::Local(2))?;
     let second = first_place(&names);
-    let name = places(&mut names, &numbered(alloc, 7)?, &[8, 24, 40])?;
-    let again = places(&mut names, &numbered(alloc, 7)?, &[])?;
-    Ok(
-        other
-            && local
-            && name
-            && again
-            && (none, first, second, first_place(&names)) == (None, Some(0), Some(8), None),
-    )
+    names.take_waiting(&numbered(alloc, 7)?)?;
+    Ok((first, second, first_place(&names)))
 }
 
 #[test]
 fn references_by_turns(rt: HostRuntime) {
-    assert_eq!(rt; by_turns(rt.alloc()), Ok(true));
+    assert_eq!(rt; taken_by_turns(rt.alloc()), Ok((true, true, true, true)));
+    assert_eq!(rt; first_by_turns(rt.alloc()), Ok((Some(0), Some(8), None)));
 }
 
 /// So many references to as many names, each taken.

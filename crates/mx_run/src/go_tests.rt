@@ -11,7 +11,7 @@ use std::process::Abort;
 use std::test::Fail;
 
 /// Addresses, and two instructions at each.
-const PROGRAM: [(u64, u64); 3] = [
+static PROGRAM: [(u64, u64); 3] = [
     // SETL $0,#200 and SETL $1,7
     (0x100, 0xe300_0200_e301_0007),
     // STO $1,$0,0 and LDT $2,$0,4
@@ -94,7 +94,7 @@ const LOADED: End = End::Broke {
 /// end of the run, and how many steps it made.
 type Row = (u64, Flags, u64, bool, End, u64);
 
-const ROWS: [Row; 11] = [
+static ROWS: [Row; 11] = [
     // without flags
     (0x100, NONE, 100, false, End::Halted(5), 6),
     (0x100, NONE, 6, false, End::Halted(5), 6),

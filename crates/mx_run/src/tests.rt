@@ -25,7 +25,7 @@ const READ_AND_WRITE: Flags = Flags {
 };
 
 /// An address, the flags that are set there, and the least tetra from #104 on that then has flags.
-const SET: [(u64, Flags, Option<(u64, Flags)>); 6] = [
+static SET: [(u64, Flags, Option<(u64, Flags)>); 6] = [
     // below #104
     (0x100, EXECUTE, None),
     // an address within a tetra means its tetra

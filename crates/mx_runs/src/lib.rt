@@ -12,4 +12,4 @@ mod shown;
 #[cfg(test)]
 mod worked;
 
-pub use shown::{End, Row, SIZES, gives, holds, holds_all, shows, shows_on};
+pub use shown::{End, Row, SIZES, first_other, gives, holds, holds_all, shows, shows_on};

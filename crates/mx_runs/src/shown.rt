@@ -44,6 +44,22 @@ pub fn shows(alloc: Global, source: &str, end: End, lines: &[&str]) -> Result<bo
     Ok(is_shown)
 }
 
+/// The source of the first row that does not, if there is one. Each source stands behind the same text.
+pub fn first_other(
+    alloc: Global,
+    before: &str,
+    rows: &[Row],
+) -> Result<Option<&'static str>, Fail> {
+    for (source, end, lines) in rows {
+        let mut whole = String::from_str(alloc, before)?;
+        whole.push_str(source)?;
+        if !shows(alloc, whole.as_str(), *end, lines)? {
+            return Ok(Some(*source));
+        }
+    }
+    Ok(None)
+}
+
 /// Whether it does on a ring.
 pub fn shows_on(
     alloc: Global,

@@ -7,11 +7,12 @@ ghost use Rattle.mx_stmt.specs.Gregs.{lowest_of};
 
 use crate::{Effect, Env, Gregs, Label, Placed, StmtFault, encode, read_statement};
 use mx_line::next_statement;
-use mx_names::Names;
+use mx_names::{NameFault, Names};
 use mx_ops::{Op, Shape, find, shape_of};
 use mx_word::{Awaited, Bytes, NoMemory, Value, WaitKind, tetra_of};
-use rows::{FAULTY, FORMS, PSEUDO_OPERATIONS};
+use rows::{EFFECTS, FAULTY, FORMS, Outline, PSEUDO_OPERATIONS};
 use std::alloc::Global;
+use std::process::Abort;
 
 /// What the first statement of a line comes to at a place, or the number of its fault; 0 where there
 /// is no memory or no statement.
@@ -53,39 +54,54 @@ fn two_gregs() -> Gregs {
     gregs
 }
 
-#[test]
-fn forms_of_operands(rt: HostRuntime) {
-    let Ok(names) = Names::new(rt.alloc()) else {
+/// Sees that statements at a place come to these tetras, or have these faults.
+fn words_are(rt: &impl Abort, alloc: Global, at: u64, rows: &[(&str, Result<u32, u16>)]) {
+    let Ok(names) = Names::new(alloc) else {
         assert!(rt; false, "out of memory");
         return;
     };
     let gregs = two_gregs();
-    for (line, want) in FORMS {
+    for (line, want) in rows {
         assert_eq!(rt;
-            word(rt.alloc(), &names, &gregs, 0xff, line.as_bytes()),
-            want,
+            word(alloc, &names, &gregs, at, line.as_bytes()),
+            *want,
             "{line}"
         );
     }
 }
 
 #[test]
+fn forms_of_operands(rt: HostRuntime) {
+    words_are(&rt, rt.alloc(), 0xff, &FORMS);
+}
+
+#[test]
 fn first_faults(rt: HostRuntime) {
-    let Ok(names) = Names::new(rt.alloc()) else {
+    words_are(&rt, rt.alloc(), 0x6000_0000_0000_0000, &FAULTY);
+}
+
+/// What a statement at #101 comes to, or the number of its fault.
+fn outline(alloc: Global, names: &Names, gregs: &Gregs, text: &[u8]) -> Result<Outline, u16> {
+    let placed = placed(alloc, names, gregs, 0x101, text)?;
+    Ok((
+        placed.start,
+        placed.bytes.as_slice().len(),
+        placed.label,
+        placed.after,
+    ))
+}
+
+/// Sees that statements at #101 come to this, or have these faults.
+fn outlines_are(rt: &impl Abort, alloc: Global, rows: &[(&str, Result<Outline, u16>)]) {
+    let Ok(names) = Names::new(alloc) else {
         assert!(rt; false, "out of memory");
         return;
     };
     let gregs = two_gregs();
-    for (line, want) in FAULTY {
+    for (line, want) in rows {
         assert_eq!(rt;
-            word(
-                rt.alloc(),
-                &names,
-                &gregs,
-                0x6000_0000_0000_0000,
-                line.as_bytes()
-            ),
-            Err(want),
+            outline(alloc, &names, &gregs, line.as_bytes()),
+            *want,
             "{line}"
         );
     }
@@ -93,23 +109,7 @@ fn first_faults(rt: HostRuntime) {
 
 #[test]
 fn pseudo_operations(rt: HostRuntime) {
-    let Ok(names) = Names::new(rt.alloc()) else {
-        assert!(rt; false, "out of memory");
-        return;
-    };
-    let gregs = two_gregs();
-    for (line, want) in PSEUDO_OPERATIONS {
-        let told = match placed(rt.alloc(), &names, &gregs, 0x101, line.as_bytes()) {
-            Ok(placed) => Ok((
-                placed.start,
-                placed.bytes.as_slice().len(),
-                placed.label,
-                placed.after,
-            )),
-            Err(fault) => Err(fault),
-        };
-        assert_eq!(rt; told, want, "{line}");
-    }
+    outlines_are(&rt, rt.alloc(), &PSEUDO_OPERATIONS);
 }
 
 /// Whether these references, in this order, are what a statement waits for.
@@ -128,48 +128,83 @@ fn name(alloc: Global, text: &[u8]) -> Result<Awaited, NoMemory> {
     Ok(Awaited::Name(Bytes::copy(alloc, text)?))
 }
 
-/// What is awaited by statements that refer to what comes later.
-fn references(alloc: Global) -> Result<bool, u16> {
-    let Ok(mut names) = Names::new(alloc) else {
-        return Err(0);
-    };
-    names.define_local(2, Value::Pure(4));
-    let gregs = Gregs::new();
-    let (Ok(x), Ok(buf)) = (name(alloc, b":x"), name(alloc, b":Buf")) else {
-        return Err(0);
-    };
-    // a branch to a name that is not known, with zero for it
-    let branch = placed(alloc, &names, &gregs, 0, b"Main BZ $0,x")?;
-    // a jump on a line labelled 2H waits for the next 2H, and one to 2B is backward
-    let ahead = placed(alloc, &names, &gregs, 4, b"2H JMP ((2F))")?;
-    let back = placed(alloc, &names, &gregs, 8, b"2H JMP 2B")?;
-    // references in OCTA, in their order
-    let octas = placed(alloc, &names, &gregs, 0x100, b"1H OCTA (Buf),8,1F")?;
-    Ok(
-        branch.bytes.as_slice() == [0x42, 0, 0, 0].as_slice()
-            && waits_are(&branch, &[(x, 0, WaitKind::Near)])
-            && ahead.bytes.as_slice() == [0xf0, 0, 0, 0].as_slice()
-            && waits_are(&ahead, &[(Awaited::Local(2), 4, WaitKind::Far)])
-            && back.bytes.as_slice() == [0xf1, 0xff, 0xff, 0xff].as_slice()
-            && waits_are(&back, &[])
-            && octas.bytes.as_slice()
-                == [
-                    0, 0, 0, 0, 0, 0, 0, 0, 0, 0, 0, 0, 0, 0, 0, 8, 0, 0, 0, 0, 0, 0, 0, 0,
-                ]
-                .as_slice()
-            && waits_are(
-                &octas,
-                &[
-                    (buf, 0x100, WaitKind::Octa),
-                    (Awaited::Local(1), 0x110, WaitKind::Octa),
-                ],
-            ),
-    )
+/// Whether a statement comes to these bytes, and waits for these references.
+fn comes_to(
+    alloc: Global,
+    names: &Names,
+    at: u64,
+    text: &[u8],
+    bytes: &[u8],
+    waits: &[(Awaited, u64, WaitKind)],
+) -> bool {
+    match placed(alloc, names, &Gregs::new(), at, text) {
+        Ok(placed) => placed.bytes.as_slice() == bytes && waits_are(&placed, waits),
+        Err(_) => false,
+    }
 }
 
 #[test]
-fn future_references(rt: HostRuntime) {
-    assert_eq!(rt; references(rt.alloc()), Ok(true));
+fn references_to_names(rt: HostRuntime) {
+    let alloc = rt.alloc();
+    let (Ok(names), Ok(x), Ok(buf)) = (Names::new(alloc), name(alloc, b":x"), name(alloc, b":Buf"))
+    else {
+        assert!(rt; false, "out of memory");
+        return;
+    };
+    // a branch to a name that is not known, with zero for it
+    let branch = comes_to(
+        alloc,
+        &names,
+        0,
+        b"Main BZ $0,x",
+        &[0x42, 0, 0, 0],
+        &[(x, 0, WaitKind::Near)],
+    );
+    assert!(rt; branch, "a branch");
+    // references in OCTA, in their order
+    let octas = comes_to(
+        alloc,
+        &names,
+        0x100,
+        b"1H OCTA (Buf),8,1F",
+        &[
+            0, 0, 0, 0, 0, 0, 0, 0, 0, 0, 0, 0, 0, 0, 0, 8, 0, 0, 0, 0, 0, 0, 0, 0,
+        ],
+        &[
+            (buf, 0x100, WaitKind::Octa),
+            (Awaited::Local(1), 0x110, WaitKind::Octa),
+        ],
+    );
+    assert!(rt; octas, "octas");
+}
+
+#[test]
+fn references_to_local_labels(rt: HostRuntime) {
+    let alloc = rt.alloc();
+    let Ok(mut names) = Names::new(alloc) else {
+        assert!(rt; false, "out of memory");
+        return;
+    };
+    names.define_local(2, Value::Pure(4));
+    // a jump on a line labelled 2H waits for the next 2H, and one to 2B is backward
+    let ahead = comes_to(
+        alloc,
+        &names,
+        4,
+        b"2H JMP ((2F))",
+        &[0xf0, 0, 0, 0],
+        &[(Awaited::Local(2), 4, WaitKind::Far)],
+    );
+    assert!(rt; ahead, "ahead");
+    let back = comes_to(
+        alloc,
+        &names,
+        8,
+        b"2H JMP 2B",
+        &[0xf1, 0xff, 0xff, 0xff],
+        &[],
+    );
+    assert!(rt; back, "back");
 }
 
 /// Whether the effect of a statement is this one: of a prefix its length, of a register its number.
@@ -182,27 +217,48 @@ fn effect_is(placed: &Placed, kind: &str, number: usize) -> bool {
     }
 }
 
-/// Whether the effects of PREFIX, GREG and LOCAL are what they are.
-fn effects(alloc: Global) -> Result<bool, u16> {
-    let Ok(mut names) = Names::new(alloc) else {
-        return Err(0);
-    };
-    if names.set_prefix(b"p:").is_err() {
-        return Err(0);
+/// Whether a statement has this effect.
+fn has_effect(alloc: Global, names: &Names, text: &[u8], kind: &str, number: usize) -> bool {
+    match placed(alloc, names, &Gregs::new(), 0, text) {
+        Ok(placed) => effect_is(&placed, kind, number),
+        Err(_) => false,
     }
+}
+
+/// The names where the prefix is `:p:`.
+fn prefixed(alloc: Global) -> Result<Names, NameFault> {
+    let mut names = Names::new(alloc)?;
+    names.set_prefix(b"p:")?;
+    Ok(names)
+}
+
+#[test]
+fn effects_of_statements(rt: HostRuntime) {
+    let Ok(names) = prefixed(rt.alloc()) else {
+        assert!(rt; false, "out of memory");
+        return;
+    };
+    for (line, kind, number) in EFFECTS {
+        let has = has_effect(rt.alloc(), &names, line.as_bytes(), kind, number);
+        assert!(rt; has, "{line}");
+    }
+}
+
+#[test]
+fn predefined_symbols_behind_a_prefix(rt: HostRuntime) {
+    let Ok(names) = prefixed(rt.alloc()) else {
+        assert!(rt; false, "out of memory");
+        return;
+    };
     let gregs = Gregs::new();
-    let plain = placed(alloc, &names, &gregs, 0, b" BYTE 1")?;
-    let prefix = placed(alloc, &names, &gregs, 0, b" PREFIX q")?;
-    let greg = placed(alloc, &names, &gregs, 0, b" GREG 8")?;
-    let local = placed(alloc, &names, &gregs, 0, b" LOCAL $99")?;
-    Ok(
-        effect_is(&plain, "plain", 0)
-            && effect_is(&prefix, "prefix", 4)
-            && effect_is(&greg, "greg", 254)
-            && effect_is(&local, "local", 99)
-            && word(alloc, &names, &gregs, 0, b"x TRAP 0,Halt,0") == Err(17)
-            && word(alloc, &names, &gregs, 0, b":Main TRAP 0,:Halt,0") == Ok(0),
-    )
+    assert_eq!(rt;
+        word(rt.alloc(), &names, &gregs, 0, b"x TRAP 0,Halt,0"),
+        Err(17)
+    );
+    assert_eq!(rt;
+        word(rt.alloc(), &names, &gregs, 0, b":Main TRAP 0,:Halt,0"),
+        Ok(0)
+    );
 }
 
 /// The start of a statement and the place after it, or the number of its fault.
@@ -241,11 +297,6 @@ fn nearest_bases(rt: HostRuntime) {
         word(rt.alloc(), &names, &gregs, 0, b" LDO $1,9"),
         Ok(0x8d01_fe01)
     );
-}
-
-#[test]
-fn effects_of_statements(rt: HostRuntime) {
-    assert_eq!(rt; effects(rt.alloc()), Ok(true));
 }
 
 /// Operands that the shape of a code takes, with the first code of its name or the second.

@@ -15,12 +15,14 @@ use std::test::Fail;
 const ARGS: u64 = 0x2000_0000_0000_0000;
 
 const BUFFER: u64 = ARGS + 16;
+
 /// Where texts stand: `out`, `none`, and `hi` with a newline.
 const OUT: u64 = ARGS + 64;
 
 const NONE: u64 = ARGS + 72;
 
 const HI: u64 = ARGS + 80;
+
 /// The last two bytes of a page.
 const EDGE: u64 = ARGS + 0x1ffe;
 
@@ -32,7 +34,7 @@ const MINUS_ONE: u64 = u64::MAX;
 type Row = (u8, u8, u64, u64, TrapAnswer, &'static str);
 
 /// The standard streams, and misuses of them.
-const STREAMS: [Row; 17] = [
+static STREAMS: [Row; 17] = [
     (7, 1, HI, 0, Value(3), "a text is written"),
     (7, 0, HI, 0, Value(MINUS_ONE), "but not to standard input"),
     (6, 2, HI, 2, Value(0), "two bytes to standard error"),
@@ -67,7 +69,7 @@ const STREAMS: [Row; 17] = [
 ];
 
 /// A file is made, written, read and closed.
-const FILES: [Row; 18] = [
+static FILES: [Row; 18] = [
     (1, 3, NONE, 2, Value(MINUS_ONE), "there is no such file"),
     (1, 3, OUT, 5, Value(MINUS_ONE), "there is no such mode"),
     (2, 3, 0, 0, Value(MINUS_ONE), "so the slot is not open"),
@@ -89,7 +91,7 @@ const FILES: [Row; 18] = [
 ];
 
 /// Stops, in the order in which they are tried.
-const STOPS: [Row; 14] = [
+static STOPS: [Row; 14] = [
     (0, 0, 0, 0, Halt, "the end of the program"),
     (0, 1, 0, 0, Stopped(UnknownTrap), "not with Z"),
     (11, 0, 0, 0, Stopped(UnknownTrap), "Y is above 10"),
@@ -115,7 +117,7 @@ const STOPS: [Row; 14] = [
 
 /// Where $255 points, Y, and whether the call touches Stack_Segment, with p = #5fffffffffffffff and
 /// q = 1 at `ARGS`.
-const TOUCHES: [(u64, u8, bool); 10] = [
+static TOUCHES: [(u64, u8, bool); 10] = [
     (ARGS, 6, false),
     (ARGS, 1, true),
     (0x5fff_ffff_ffff_fff7, 3, false),
@@ -131,7 +133,7 @@ const TOUCHES: [(u64, u8, bool); 10] = [
 /// Input, a failing call, Y, the answer, and the octa of the buffer, for 8 bytes from standard input.
 type Reading = (&'static [u8], u64, u8, u64, u64, &'static str);
 
-const READINGS: [Reading; 7] = [
+static READINGS: [Reading; 7] = [
     (b"ab\n", 9, 4, 3, 0x6162_0a00_0000_0000, "a line"),
     (b"abcdefgh", 9, 4, 7, 0x6162_6364_6566_6700, "a full buffer"),
     (b"ab", 9, 4, MINUS_ONE, 0x6162_0000_0000_0000, "no newline"),
@@ -156,7 +158,7 @@ const READINGS: [Reading; 7] = [
 ];
 
 /// Y, p and q, and the answer where the call of the host fails.
-const FAILURES: [(u8, u64, u64, u64); 8] = [
+static FAILURES: [(u8, u64, u64, u64); 8] = [
     (1, OUT, 1, MINUS_ONE),
     (2, 0, 0, MINUS_ONE),
     (3, BUFFER, 4, MINUS_ONE - 4),

@@ -70,31 +70,31 @@ pub(crate) static FORMS: [(&str, Result<u32, u16>); 63] = [
 ];
 
 /// Statements with two faults or more, and the one that counts.
-pub(crate) static FAULTY: [(&str, u16); 20] = [
+pub(crate) static FAULTY: [(&str, Result<u32, u16>); 20] = [
     // the opcode, the label, the operand list, the number of operands, then the operands
-    ("x FROB 1,,2", 39),
-    ("x PREFIX 1,,2", 48),
-    (" ADD 1,,2", 10),
-    (" ADD 1/0", 40),
-    (" PREFIX 1/0", 40),
+    ("x FROB 1,,2", Err(39)),
+    ("x PREFIX 1,,2", Err(48)),
+    (" ADD 1,,2", Err(10)),
+    (" ADD 1/0", Err(40)),
+    (" PREFIX 1/0", Err(40)),
     // operand by operand: its value, then its kind, then its size
-    (" ADD 1,1/0,3", 41),
-    (" ADD $1/0,2,3", 14),
-    (" FIX $1,256,5", 43),
-    (" POP 256,$1", 43),
-    (" BYTE 256,1/0", 43),
-    (" BYTE 1/0,256", 12),
-    (" TRAP 256,$1", 43),
+    (" ADD 1,1/0,3", Err(41)),
+    (" ADD $1/0,2,3", Err(14)),
+    (" FIX $1,256,5", Err(43)),
+    (" POP 256,$1", Err(43)),
+    (" BYTE 256,1/0", Err(43)),
+    (" BYTE 1/0,256", Err(12)),
+    (" TRAP 256,$1", Err(43)),
     // what an address wants comes after the operands, a multiple before the reach
-    (" BZ 5,#602", 41),
-    (" BZ $1,#6000000000000002", 46),
-    (" GETA $1,3", 46),
+    (" BZ 5,#602", Err(41)),
+    (" BZ $1,#6000000000000002", Err(46)),
+    (" GETA $1,3", Err(46)),
     // the place comes last
-    (" LDO $1,1", 44),
-    (" JMP 4", 45),
-    (" JMP @", 49),
-    (" OCTA x", 49),
-    (" BYTE 256", 43),
+    (" LDO $1,1", Err(44)),
+    (" JMP 4", Err(45)),
+    (" JMP @", Err(49)),
+    (" OCTA x", Err(49)),
+    (" BYTE 256", Err(43)),
 ];
 
 /// What a statement comes to: its start, its number of bytes, its label's value and the next place.
@@ -151,4 +151,12 @@ pub(crate) static PSEUDO_OPERATIONS: [(&str, Result<Outline, u16>); 34] = [
     (" OCTA x+0", Err(17)),
     (" JMP +x", Err(17)),
     ("x SWYM", Ok((0x104, 4, Some(Value::Pure(0x104)), 0x108))),
+];
+
+/// Statements behind the prefix `:p:`, and their effects: of a prefix its length, of a register its number.
+pub(crate) static EFFECTS: [(&str, &str, usize); 4] = [
+    (" BYTE 1", "plain", 0),
+    (" PREFIX q", "prefix", 4),
+    (" GREG 8", "greg", 254),
+    (" LOCAL $99", "local", 99),
 ];
