@@ -5,6 +5,7 @@ ghost use Rattle.std.specs.Prelude.{◌<◌};
 use crate::{Item, MmoFault, Object, Reader, Writer, read};
 use mx_word::{Bytes, NoMemory, tetra_bytes};
 use std::alloc::Global;
+use std::process::Abort;
 
 /// The object of `first.mms`: `hi` and a newline at #100, and three instructions.
 static FIRST: [u32; 22] = [
@@ -357,20 +358,24 @@ static REFUSED: [(&[u32], &[u8], u16, u64); 24] = [
     ),
 ];
 
-#[test]
-fn first_faults(rt: HostRuntime) {
-    let alloc = rt.alloc();
-    for (tetras, more, number, place) in REFUSED {
-        let bytes = object(alloc, tetras, more).expect(&rt, "memory");
+/// Sees that objects, in pieces of three sizes, are refused for this fault at this place.
+fn are_refused(rt: &impl Abort, alloc: Global, rows: &[(&[u32], &[u8], u16, u64)]) {
+    for (tetras, more, number, place) in rows {
+        let bytes = object(alloc, tetras, more).expect(rt, "memory");
         for size in [100, 1, 7] {
-            let found = refusal(alloc, bytes.as_slice(), size).expect(&rt, "memory");
+            let found = refusal(alloc, bytes.as_slice(), size).expect(rt, "memory");
             assert_eq!(rt;
                 found,
-                Some((number, Some(place))),
+                Some((*number, Some(*place))),
                 "{number} at {place}, in pieces of {size}"
             );
         }
     }
+}
+
+#[test]
+fn first_faults(rt: HostRuntime) {
+    are_refused(&rt, rt.alloc(), &REFUSED);
 }
 
 /// An object that is cut off anywhere, or that goes on behind its end.

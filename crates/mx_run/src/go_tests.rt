@@ -112,17 +112,25 @@ static ROWS: [Row; 11] = [
     (0x104, TRACE, 1, false, End::Spent, 1),
 ];
 
-#[test]
-fn runs_by_the_flags(rt: HostRuntime) -> Result<(), Fail> {
-    let alloc = rt.alloc();
-    for (a, set, n, pass, end, steps) in ROWS {
-        let mut runner = started(&rt, alloc)?;
-        runner.set_flags(a, set)?;
+/// Sees that runs of the program end and count their steps as is due.
+fn runs_are(rt: &impl Abort, alloc: Global, rows: &[Row]) -> Result<(), Fail> {
+    for (a, set, n, pass, end, steps) in rows {
+        let mut runner = started(rt, alloc)?;
+        runner.set_flags(*a, *set)?;
         let mut host = MemHost::new(alloc, Vec::new(alloc), Vec::new(alloc))?;
-        assert_eq!(rt; runner.go(alloc, &mut host, n, pass), end, "flags at {a}");
-        assert_eq!(rt; runner.machine().steps(), steps, "flags at {a}");
+        assert_eq!(rt;
+            runner.go(alloc, &mut host, *n, *pass),
+            *end,
+            "flags at {a}"
+        );
+        assert_eq!(rt; runner.machine().steps(), *steps, "flags at {a}");
     }
     Ok(())
+}
+
+#[test]
+fn runs_by_the_flags(rt: HostRuntime) -> Result<(), Fail> {
+    runs_are(&rt, rt.alloc(), &ROWS)
 }
 
 /// A machine with the program, about to begin.
