@@ -9,8 +9,6 @@ mod arithmetic;
 mod bitwise;
 mod codes;
 mod names;
-#[cfg(test)]
-mod tests;
 mod wydes;
 
 pub use answer::{Answer, Event, Extra};

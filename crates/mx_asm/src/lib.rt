@@ -13,8 +13,6 @@ mod lines;
 mod meaning_laws;
 mod object_laws;
 mod refused;
-#[cfg(test)]
-mod tests;
 
 pub use assembler::Assembler;
 pub use faults::AsmFault;

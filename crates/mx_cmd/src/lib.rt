@@ -8,8 +8,6 @@ mod command;
 mod numerals;
 mod parsing;
 mod specials;
-#[cfg(test)]
-mod tests;
 
 pub use command::{Breaks, Command, Subject};
 pub use parsing::command_of;

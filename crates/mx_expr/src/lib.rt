@@ -8,8 +8,6 @@ mod known;
 mod operators;
 mod parsing;
 mod reader;
-#[cfg(test)]
-mod tests;
 mod tree;
 mod valuing;
 mod waiting;

@@ -11,8 +11,6 @@ mod files;
 mod host;
 mod mem;
 mod slots;
-#[cfg(test)]
-mod tests;
 
 pub use faults::{HostFault, OpenFault};
 pub use files::StoredFile;

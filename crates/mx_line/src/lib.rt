@@ -8,8 +8,6 @@ mod kinds;
 mod lines;
 mod pieces;
 mod spans;
-#[cfg(test)]
-mod tests;
 
 pub use cutter::{Cut, next_statement, one_list};
 pub use faults::LineFault;

@@ -11,8 +11,6 @@ mod laws;
 mod loader;
 mod objects;
 mod progress;
-#[cfg(test)]
-mod tests;
 mod whole;
 
 pub use fault::LoadFault;

@@ -10,8 +10,6 @@ mod page;
 mod part;
 mod places;
 mod space;
-#[cfg(test)]
-mod tests;
 
 pub use fault::MemFault;
 pub use memory::Memory;

@@ -16,8 +16,6 @@ mod reader;
 mod skipping;
 mod spell;
 mod tail;
-#[cfg(test)]
-mod tests;
 mod whole;
 mod writer;
 

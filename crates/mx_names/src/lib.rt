@@ -4,8 +4,6 @@
 mod fault;
 mod full;
 mod names;
-#[cfg(test)]
-mod tests;
 mod waiting;
 
 pub use fault::NameFault;

@@ -6,8 +6,6 @@ mod lookup;
 mod op;
 mod symbols;
 mod table;
-#[cfg(test)]
-mod tests;
 
 pub use laws::each_name_has_its_codes;
 pub use lookup::{find, name, predefined, shape_of};

@@ -13,8 +13,6 @@ mod ring;
 mod saved;
 mod size;
 mod slices;
-#[cfg(test)]
-mod tests;
 mod visible;
 
 pub use fault::RingFault;

@@ -7,14 +7,10 @@ mod end;
 mod flag_map;
 mod flags;
 mod go;
-#[cfg(test)]
-mod go_tests;
 pub mod laws;
 mod runner;
 mod steady_laws;
 mod steps;
-#[cfg(test)]
-mod tests;
 mod turn;
 mod turn_answer;
 mod windows;

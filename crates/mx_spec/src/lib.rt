@@ -6,8 +6,6 @@
 
 mod laws;
 mod put;
-#[cfg(test)]
-mod tests;
 
 pub use laws::stored_values_are_in_bounds;
 pub use put::{Put, may_put};

@@ -12,8 +12,6 @@ mod found;
 mod laws;
 mod numbers;
 mod reading;
-#[cfg(test)]
-mod tests;
 mod values;
 mod writing;
 

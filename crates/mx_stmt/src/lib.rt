@@ -15,8 +15,6 @@ mod reader;
 mod relative;
 mod shapes;
 mod statement;
-#[cfg(test)]
-mod tests;
 
 pub use encoder::encode;
 pub use env::Env;

@@ -7,8 +7,6 @@ mod instructions;
 mod laws;
 mod numbers;
 mod operands;
-#[cfg(test)]
-mod tests;
 
 pub use instructions::instruction;
 pub use laws::{

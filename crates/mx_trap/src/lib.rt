@@ -16,8 +16,6 @@ mod segment;
 mod service;
 mod space;
 mod steady_laws;
-#[cfg(test)]
-mod tests;
 mod writes;
 
 pub use answer::{TrapAnswer, TrapStop};

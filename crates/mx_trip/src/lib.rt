@@ -9,8 +9,6 @@ mod call;
 mod decision;
 mod insertion;
 mod laws;
-#[cfg(test)]
-mod tests;
 
 pub use call::TrapCall;
 pub use decision::{Trip, decide};

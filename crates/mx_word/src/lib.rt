@@ -9,8 +9,6 @@ mod kinds;
 mod no_memory;
 mod sequence;
 mod symbols;
-#[cfg(test)]
-mod tests;
 mod waits;
 mod words;
 

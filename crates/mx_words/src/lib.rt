@@ -5,8 +5,6 @@ mod laws;
 mod options;
 mod order;
 mod settings;
-#[cfg(test)]
-mod tests;
 mod values;
 mod words;
 

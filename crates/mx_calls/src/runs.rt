@@ -1,10 +1,10 @@
 //! Runs of a small program, by the flags of a tetra.
 
-use crate::{BreakKind, End, Flags, Runner};
 use mx_core::{Machine, Trace};
 use mx_host::MemHost;
 use mx_load::Loader;
 use mx_ring::RingSize;
+use mx_run::{BreakKind, End, Flags, Runner};
 use mx_word::{Bytes, Symbols};
 use std::alloc::Global;
 use std::process::Abort;

@@ -5,10 +5,10 @@ mod rows;
 ghost use Rattle.std.specs.Prelude.{◌≡◌, ◌≤◌};
 ghost use Rattle.mx_stmt.specs.Gregs.{lowest_of};
 
-use crate::{Effect, Env, Gregs, Label, Placed, StmtFault, encode, read_statement};
 use mx_line::next_statement;
 use mx_names::{NameFault, Names};
 use mx_ops::{Op, Shape, find, shape_of};
+use mx_stmt::{Effect, Env, Gregs, Label, Placed, StmtFault, encode, read_statement};
 use mx_word::{Awaited, Bytes, NoMemory, Value, WaitKind, tetra_of};
 use rows::{EFFECTS, FAULTY, FORMS, Outline, PSEUDO_OPERATIONS};
 use std::alloc::Global;

@@ -1,6 +1,6 @@
 //! The texts, row by row.
 
-use crate::{Form, instruction, octa_hex, shown};
+use mx_text::{Form, instruction, octa_hex, shown};
 use std::alloc::Global;
 use std::process::Abort;
 use std::str;

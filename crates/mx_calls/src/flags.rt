@@ -1,6 +1,6 @@
 //! The flags of tetras: what is set, and what is found then.
 
-use crate::{FlagMap, Flags};
+use mx_run::{FlagMap, Flags};
 use std::test::Fail;
 
 const NONE: Flags = Flags {

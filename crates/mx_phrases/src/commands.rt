@@ -1,6 +1,6 @@
 //! Lines of the console: what they ask for.
 
-use crate::{Breaks, Command, Subject, command_of};
+use mx_cmd::{Breaks, Command, Subject, command_of};
 use mx_text::Form;
 use std::test::Fail;
 

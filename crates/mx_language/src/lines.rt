@@ -1,6 +1,6 @@
 //! Rows from the rules of the language.
 
-use crate::{Cut, LineFault, Span, cut_line, next_statement, one_list, part};
+use mx_line::{Cut, LineFault, Span, cut_line, next_statement, one_list, part};
 use std::alloc::Global;
 
 /// A span, by its two places.

@@ -3,7 +3,7 @@
 ghost use Rattle.std.specs.Prelude.{◌≡◌, ◌∷◌, [], IfSome};
 ghost use Rattle.mx_mmo.specs.Valid.{Fits};
 
-use crate::{Image, LoadFault, Loader, load};
+use mx_load::{Image, LoadFault, Loader, load};
 use mx_mmo::{Item, Octas, Words};
 use mx_word::{Bytes, Symbol, Symbols, Value};
 use std::alloc::Global;

@@ -2,7 +2,7 @@
 
 ghost use Rattle.std.specs.Prelude.{◌<◌};
 
-use crate::{Item, MmoFault, Object, Reader, Writer, read};
+use mx_mmo::{Item, MmoFault, Object, Reader, Writer, read};
 use mx_word::{Bytes, NoMemory, tetra_bytes};
 use std::alloc::Global;
 use std::process::Abort;

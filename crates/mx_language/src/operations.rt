@@ -1,6 +1,6 @@
 //! The tables, row by row.
 
-use crate::{Op, Pseudo, Shape, find, name, predefined, shape_of};
+use mx_ops::{Op, Pseudo, Shape, find, name, predefined, shape_of};
 
 /// The first code of a row, how many codes each of its names has, and the names.
 const ROWS: [(u8, u8, &str); 23] = [

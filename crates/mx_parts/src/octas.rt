@@ -1,6 +1,6 @@
 //! Values from outside.
 
-use crate::{
+use mx_word::{
     Awaited, Bytes, NoMemory, Symbol, Symbols, Value, Wait, WaitKind, Waits, is_digit,
     is_hexadecimal, is_letter, is_name_byte, octa_bytes, octa_of, product, quotient, signed,
     tetra_bytes, tetra_of,

@@ -3,7 +3,7 @@
 ghost use Rattle.std.specs.Prelude.{◌+◌, ◌<◌, ◌≤◌, length, IfOk, IsTrue};
 ghost use Rattle.mx_names.specs.Names.{IsFullName};
 
-use crate::{Awaited, NameFault, Names, Wait, WaitKind};
+use mx_names::{Awaited, NameFault, Names, Wait, WaitKind};
 use mx_word::{Bytes, NoMemory, Value};
 use std::alloc::Global;
 

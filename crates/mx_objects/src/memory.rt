@@ -1,6 +1,6 @@
 //! Values from outside: tetras of published programs, and sums done by hand.
 
-use crate::{MemFault, Memory, Part, Space, SpaceFault};
+use mx_mem::{MemFault, Memory, Part, Space, SpaceFault};
 use std::test::Fail;
 
 /// What is joined, and what the octa there and the count of pages are afterwards.

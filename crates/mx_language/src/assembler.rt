@@ -1,6 +1,6 @@
 //! Whole sources: the items that they give, and their refusals.
 
-use crate::{AsmFault, Assembler, Refused};
+use mx_asm::{AsmFault, Assembler, Refused};
 use mx_line::cut_line;
 use mx_mmo::{Item, Items};
 use mx_word::Bytes;

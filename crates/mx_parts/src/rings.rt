@@ -2,7 +2,7 @@
 
 mod rows;
 
-use crate::{Ring, RingFault, RingSize};
+use mx_ring::{Ring, RingFault, RingSize};
 use rows::{BASE, CALLS, END, FRAMES, FULL, GLOBALS, Op, Row, SHORT_FRAMES, SPECIALS};
 use std::alloc::Global;
 use std::process::Abort;

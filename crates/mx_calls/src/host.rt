@@ -1,8 +1,8 @@
 //! Rows of calls over a host in memory, by hand from the rules of each call.
 
-use crate::{Host, HostFault, MemHost, Mode, OpenFault};
 use Answer::{Absent, Bytes, Done, Failed, Misused, Place};
 use Call::{Close, Open, Read, Seek, Tell, Write};
+use mx_host::{Host, HostFault, MemHost, Mode, OpenFault};
 use std::alloc::Global;
 use std::process::Abort;
 use std::test::Fail;

@@ -1,7 +1,7 @@
 //! Values from outside: a model of the instructions that was written apart from this crate, in
 //! Python's whole numbers and lists of bits. Each name stands with either of its codes.
 
-use crate::{Answer, Event, Extra, alu, truth};
+use mx_alu::{Answer, Event, Extra, alu, truth};
 use std::process::Abort;
 
 /// Octas that the rows name: the least and the greatest signed one, all ones, three chosen at random,

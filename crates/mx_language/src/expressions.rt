@@ -4,7 +4,7 @@ ghost use Rattle.std.specs.Prelude.{Ok, Err, None, Some, length, nat_lt, if◌th
 ghost use Rattle.mx_word.specs.declared.symbols.Value.{Value};
 ghost use Rattle.mx_expr.specs.declared.faults.ExprFault.{ExprFault};
 
-use crate::{Expr, ExprFault, Exprs, Known, parse_list, value};
+use mx_expr::{Expr, ExprFault, Exprs, Known, parse_list, value};
 use mx_word::{NoMemory, Value};
 use std::alloc::{AllocError, Global};
 

@@ -1,7 +1,7 @@
 //! Tries from outside: those of the format's worked objects, and small ones made by hand from its
 //! description.
 
-use crate::{StabFault, read, write};
+use mx_stab::{StabFault, read, write};
 use mx_word::{Bytes, NoMemory, Symbol, Symbols, Value};
 use std::alloc::Global;
 

@@ -1,7 +1,7 @@
 //! The words, row by row.
 
-use crate::{Command, Order, WordsFault, read};
 use mx_ring::RingSize;
+use mx_words::{Command, Order, WordsFault, read};
 use std::alloc::Global;
 use std::process::Abort;
 use std::test::Fail;

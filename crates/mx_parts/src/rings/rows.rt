@@ -1,7 +1,7 @@
 //! Rows of operations, computed by a model of its own: one growing list of registers, where those of
 //! the running routine stand last.
 
-use crate::{RingFault, Saved};
+use mx_ring::{RingFault, Saved};
 
 pub(crate) const BASE: u64 = 0x6000_0000_0000_0000;
 

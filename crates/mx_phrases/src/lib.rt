@@ -1,0 +1,10 @@
+//! Rows of words, commands and texts: the command line, the lines of the console, and what instructions are
+//! shown as. There is nothing but tests here.
+#![tactic(auto)]
+
+#[cfg(test)]
+mod commands;
+#[cfg(test)]
+mod orders;
+#[cfg(test)]
+mod texts;
