@@ -1,6 +1,6 @@
 -- The words of the grammar are read as their order.
 use Rattle.std.proofs.Common.{◌≡◌, ℕ, ◌+◌, true, List, [], ◌∷◌, ◌++◌, length, refl, ◌∙◌, ap, arith, Ok, codes}
-use Rattle.mx_words.specs.Values.{Word}
+use Rattle.mx_words.specs.Values.{Word, ring_value, steps_value}
 use Rattle.mx_words.specs.Orders.{runs_file, takes_ring, defaults, with_console, with_dump, with_ring, with_steps, valued, options_from, order_of, blocks_at}
 use Rattle.mx_words.specs.Usage.{Options, Orders, none, console, dump, ring, steps, run, sim, asm, gen}
 use Rattle.mx_words.specs.declared.order.Command.{Command}
