@@ -237,6 +237,12 @@ fn taken_by_turns(alloc: Global) -> Result<(bool, bool, bool, bool), NameFault> 
     Ok((other, local, named, again))
 }
 
+/// The earliest reference where none was made.
+fn first_of_none(alloc: Global) -> Result<Option<u64>, NameFault> {
+    let names = Names::new(alloc)?;
+    Ok(first_place(&names))
+}
+
 /// The earliest reference, and that after those to the label and to the name are taken.
 fn first_by_turns(alloc: Global) -> Result<(Option<u64>, Option<u64>, Option<u64>), NameFault> {
     let mut names = waiting_by_turns(alloc)?;
@@ -249,6 +255,7 @@ fn first_by_turns(alloc: Global) -> Result<(Option<u64>, Option<u64>, Option<u64
 
 #[test]
 fn references_by_turns(rt: HostRuntime) {
+    assert_eq!(rt; first_of_none(rt.alloc()), Ok(None));
     assert_eq!(rt; taken_by_turns(rt.alloc()), Ok((true, true, true, true)));
     assert_eq!(rt; first_by_turns(rt.alloc()), Ok((Some(0), Some(8), None)));
 }
