@@ -3,14 +3,14 @@
 use mx_run::{FlagMap, Flags};
 use std::test::Fail;
 
-const NONE: Flags = Flags {
+pub(crate) const NONE: Flags = Flags {
     r: false,
     w: false,
     x: false,
     t: false,
 };
 
-const EXECUTE: Flags = Flags {
+pub(crate) const EXECUTE: Flags = Flags {
     r: false,
     w: false,
     x: true,

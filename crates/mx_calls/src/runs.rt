@@ -1,5 +1,6 @@
 //! Runs of a small program, by the flags of a tetra.
 
+use crate::flags::{EXECUTE, NONE};
 use mx_core::{Machine, Trace};
 use mx_host::MemHost;
 use mx_load::Loader;
@@ -20,13 +21,6 @@ static PROGRAM: [(u64, u64); 3] = [
     (0x110, 0xe3ff_0005_0000_0000),
 ];
 
-const NONE: Flags = Flags {
-    r: false,
-    w: false,
-    x: false,
-    t: false,
-};
-
 const READ: Flags = Flags {
     r: true,
     w: false,
@@ -38,13 +32,6 @@ const WRITE: Flags = Flags {
     r: false,
     w: true,
     x: false,
-    t: false,
-};
-
-const EXECUTE: Flags = Flags {
-    r: false,
-    w: false,
-    x: true,
     t: false,
 };
 

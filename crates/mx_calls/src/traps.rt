@@ -115,19 +115,31 @@ static STOPS: [Row; 14] = [
     (4, 0, (1 << 63) - 8, 9, Stopped(Negative), "a line"),
 ];
 
-/// Where $255 points, Y, and whether the call touches Stack_Segment, with p = #5fffffffffffffff and
-/// q = 1 at `ARGS`.
-static TOUCHES: [(u64, u8, bool); 10] = [
-    (ARGS, 6, false),
-    (ARGS, 1, true),
-    (0x5fff_ffff_ffff_fff7, 3, false),
-    (0x5fff_ffff_ffff_fff8, 3, true),
-    ((1 << 63) - 8, 3, true),
-    (1 << 63, 3, false),
-    (0x5fff_ffff_ffff_ffff, 7, true),
-    (0x5fff_ffff_ffff_fffe, 7, false),
-    (0x6000_0000_0000_0000, 5, false),
-    (0x6000_0000_0000_0000, 9, false),
+/// The word of a call, where $255 points, the stop, and what that shows.
+static NO_CALLS: [(u32, u64, TrapAnswer, &str); 2] = [
+    (0x1_0501, 0, Stopped(UnknownTrap), "X counts first"),
+    (
+        0x601,
+        (1 << 63) - 8,
+        Stopped(Negative),
+        "the second argument",
+    ),
+];
+
+/// Where the call stands, where $255 points, Y, and whether it touches Stack_Segment, with
+/// p = #5fffffffffffffff and q = 1 at `ARGS`.
+static TOUCHES: [(u64, u64, u8, bool); 11] = [
+    (0, ARGS, 6, false),
+    (0, ARGS, 1, true),
+    (0, 0x5fff_ffff_ffff_fff7, 3, false),
+    (0, 0x5fff_ffff_ffff_fff8, 3, true),
+    (0, (1 << 63) - 8, 3, true),
+    (0, 1 << 63, 3, false),
+    (0, 0x5fff_ffff_ffff_ffff, 7, true),
+    (0, 0x5fff_ffff_ffff_fffe, 7, false),
+    (0, 0x6000_0000_0000_0000, 5, false),
+    (0, 0x6000_0000_0000_0000, 9, false),
+    (3 << 61, 0, 0, true),
 ];
 
 /// Input, a failing call, Y, the answer, and the octa of the buffer, for 8 bytes from standard input.
@@ -258,51 +270,47 @@ fn services_answer_by_the_table(rt: HostRuntime) -> Result<(), Fail> {
 }
 
 #[test]
-fn stops_and_touches(rt: HostRuntime) -> Result<(), Fail> {
+fn stops(rt: HostRuntime) -> Result<(), Fail> {
     let mut memory = texts(rt.alloc())?;
     let mut host = start(rt.alloc(), b"", 99)?;
     check(&rt, rt.alloc(), &mut memory, &mut host, &STOPS);
-    let wide = TrapCall {
-        pc: 0,
-        word: 0x1_0501,
-        arg: 0,
-    };
-    assert_eq!(rt;
-        trap(rt.alloc(), &mut memory, &mut host, &wide),
-        Stopped(UnknownTrap),
-        "X counts first"
-    );
-    let far = TrapCall {
-        pc: 0,
-        word: 0x601,
-        arg: (1 << 63) - 8,
-    };
-    assert_eq!(rt;
-        trap(rt.alloc(), &mut memory, &mut host, &far),
-        Stopped(Negative),
-        "the second argument"
-    );
     assert_eq!(rt; host.calls(), 2, "calls of the host come last");
-    let p = 0x5fff_ffff_ffff_ffff;
-    store(&mut memory, &[(ARGS, p), (ARGS + 8, 1), (p, 1)])?;
-    for (arg, y, want) in TOUCHES {
-        let word = u32::from(y) * 256;
+    Ok(())
+}
+
+#[test]
+fn calls_that_are_none(rt: HostRuntime) -> Result<(), Fail> {
+    let mut memory = Memory::new(rt.alloc());
+    let mut host = start(rt.alloc(), b"", 99)?;
+    for (word, arg, want, what) in &NO_CALLS {
+        let call = TrapCall {
+            pc: 0,
+            word: *word,
+            arg: *arg,
+        };
         assert_eq!(rt;
-            touches(&memory, &TrapCall { pc: 0, word, arg }),
-            want,
-            "{y} with {arg}"
+            trap(rt.alloc(), &mut memory, &mut host, &call),
+            *want,
+            "{what}"
         );
     }
-    assert!(rt;
-        touches(
-            &memory,
-            &TrapCall {
-                pc: 3 << 61,
-                word: 0,
-                arg: 0
-            }
-        )
-    );
+    assert_eq!(rt; host.calls(), 0, "calls of the host come last");
+    Ok(())
+}
+
+#[test]
+fn touches_of_the_stack_segment(rt: HostRuntime) -> Result<(), Fail> {
+    let mut memory = Memory::new(rt.alloc());
+    let p = 0x5fff_ffff_ffff_ffff;
+    store(&mut memory, &[(ARGS, p), (ARGS + 8, 1), (p, 1)])?;
+    for (pc, arg, y, want) in &TOUCHES {
+        let call = TrapCall {
+            pc: *pc,
+            word: u32::from(*y) * 256,
+            arg: *arg,
+        };
+        assert_eq!(rt; touches(&memory, &call), *want, "{y} with {arg}");
+    }
     Ok(())
 }
 

@@ -23,7 +23,8 @@ impl Machine {
     pub(crate) fn resume(&mut self, i: &Instruction) -> Result<(), Stop>
         ensures answer { MakesWithMemory (λ s. outcome s (resumed s i.now)) result self.old self.new }
         ensures err { KeepsOnErr result self.old self.new }
-        ensures there { LacksMemoryOnlyWhere (needs_page (state_of self.old) (resumed (state_of self.old) i.now)) result }
+        ensures there { LacksMemoryOnlyWhere
+            (needs_page (state_of self.old) (resumed (state_of self.old) i.now)) result }
     {
         if i.xyz() != 0 {
             return Err(Stop::Stopped(Reason::Illegal));

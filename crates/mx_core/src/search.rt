@@ -45,7 +45,8 @@ impl Machine {
 
     /// The least of them in the stack area.
     fn next_in_area(&self, from: u64) -> Option<(u64, u64)>
-        ensures { IsNextBetween (octa (state_of self.now)) (max from (stack_address 0)) (stack_address (2 ^ 20)) result }
+        ensures { IsNextBetween (octa (state_of self.now))
+            (max from (stack_address 0)) (stack_address (2 ^ 20)) result }
     {
         match next_index(&self.ring, first_index(from)) {
             Some((i, x)) => Some((SEGMENT + 8 * i, x)),

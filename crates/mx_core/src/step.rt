@@ -179,7 +179,8 @@ impl Machine {
         requires group { operation_in i.now ≡ operation_by group (code_of i.now) }
         ensures answer { MakesWithMemory (λ s. outcome s (deed_at s i.now)) result self.old self.new }
         ensures err { KeepsOnErr result self.old self.new }
-        ensures there { LacksMemoryOnlyWhere (needs_page (state_of self.old) (deed_at (state_of self.old) i.now)) result }
+        ensures there { LacksMemoryOnlyWhere
+            (needs_page (state_of self.old) (deed_at (state_of self.old) i.now)) result }
     {
         match group {
             Group::Compute => self.compute(i),
@@ -207,7 +208,8 @@ impl Machine {
         requires { i.now ≡ instruction i.now.at i.now.word }
         ensures answer { MakesWithMemory (λ s. outcome s (deed_at s i.now)) result self.old self.new }
         ensures err { KeepsOnErr result self.old self.new }
-        ensures there { LacksMemoryOnlyWhere (needs_page (state_of self.old) (deed_at (state_of self.old) i.now)) result }
+        ensures there { LacksMemoryOnlyWhere
+            (needs_page (state_of self.old) (deed_at (state_of self.old) i.now)) result }
     {
         match i.operation() {
             Operation::Load(how) => self.load(how, i),
@@ -224,7 +226,8 @@ impl Machine {
         requires put { operation_in i.now ≡ Operation.Put }
         ensures answer { MakesWithMemory (λ s. outcome s (deed_at s i.now)) result self.old self.new }
         ensures err { KeepsOnErr result self.old self.new }
-        ensures there { LacksMemoryOnlyWhere (needs_page (state_of self.old) (deed_at (state_of self.old) i.now)) result }
+        ensures there { LacksMemoryOnlyWhere
+            (needs_page (state_of self.old) (deed_at (state_of self.old) i.now)) result }
     {
         if i.x() != RJ || i.y() != 0 {
             return self.carry_out(i.at, i.word).answer();

@@ -174,7 +174,9 @@ impl Reader {
 
     /// A byte after the last product of a sum.
     fn after_sum(&mut self, product: Expr, b: u8) -> Result<Mode, ExprFault>
-        ensures { result ≢ Err ExprFault.OutOfMemory → reading_of result self.new ≡ spec.weakly_or_end (spec.weak_of b) b (spec.with_weak (all_waiting self.old.waiting) (tree_of product)) self.old.depth (trees_of self.old.done) }
+        ensures { result ≢ Err ExprFault.OutOfMemory → reading_of result self.new ≡
+            spec.weakly_or_end (spec.weak_of b) b (spec.with_weak (all_waiting self.old.waiting) (tree_of product))
+            self.old.depth (trees_of self.old.done) }
     {
         let e = sum(self.alloc, &mut self.waiting, product)?;
         match b {

@@ -53,7 +53,9 @@ pub fn value<E: Known>(alloc: Global, e: &Expr, env: &E) -> Result<Value, ExprFa
 fn down<'a, E: Known>(frames: &mut Vec<Frame<'a>>, e: &'a Expr, env: &E) -> Result<Value, ExprFault>
     requires digits { HasDigits (tree_of e.now) }
     requires all_digits { AllHaveDigits frames.old.items }
-    ensures value { let known = knowledge (E.symbols env.now) (E.backs env.now) (E.at env.now) in result ≢ Err ExprFault.OutOfMemory → value_after known frames.new.items result ≡ value_after known frames.old.items (value_of known (tree_of e.now)) }
+    ensures value { let known = knowledge (E.symbols env.now) (E.backs env.now) (E.at env.now) in
+        result ≢ Err ExprFault.OutOfMemory → value_after known frames.new.items result ≡
+        value_after known frames.old.items (value_of known (tree_of e.now)) }
     ensures digits { AllHaveDigits frames.new.items }
     ensures less { nodes_left frames.new.items < nodes_left frames.old.items + nodes (tree_of e.now) }
 {

@@ -68,142 +68,140 @@ fn refusal(alloc: Global, source: &[u8]) -> (u32, u16, u32) {
     }
 }
 
+/// Sources, and their items between the first two and the last two.
+static ITEMS: [(&str, &[(u8, u64)]); 6] = [
+    // a forward reference, lines that count by themselves, and a register as a symbol
+    (
+        "argv IS $1\n LOC #100\nMain LDOU $255,argv,0\n TRAP 0,Fputs,StdOut\n GETA $255,String\n TRAP 0,Fputs,StdOut\n TRAP 0,Halt,0\nString BYTE \", world\",#a,0\n",
+        &[
+            (1, 0x100),
+            (7, 3),
+            (255, 0x8fff_0100),
+            (255, 0x701),
+            (255, 0xf4ff_0000),
+            (255, 0x701),
+            (255, 0),
+            (4, 3),
+            (255, 0x2c20_776f),
+            (255, 0x726c_640a),
+            (255, 0),
+        ],
+    ),
+    // the longest way ahead, at which no tetra stands between
+    (
+        "Main BZ $0,x\n LOC Main+4*65535\nx TRAP 0,Halt,0",
+        &[
+            (7, 1),
+            (255, 0x4200_0000),
+            (1, 0x3_fffc),
+            (4, 65535),
+            (7, 3),
+            (255, 0),
+        ],
+    ),
+    // a way back, by the long record
+    (
+        " LOC #200\nMain BZ $0,x\n LOC #100\nx TRAP 0,Halt,0",
+        &[
+            (1, 0x200),
+            (7, 2),
+            (255, 0x4200_0000),
+            (1, 0x100),
+            (16, 0x100_ffc0),
+            (7, 4),
+            (255, 0),
+        ],
+    ),
+    // a label 2H is none of its own statement
+    (
+        "Main SWYM\n2H JMP 2F\n2H JMP 2B",
+        &[
+            (7, 1),
+            (255, 0xfd00_0000),
+            (255, 0xf000_0000),
+            (4, 1),
+            (255, 0xf1ff_ffff),
+        ],
+    ),
+    // bytes on one another
+    (
+        "Main BYTE 1\n LOC 0\n BYTE 3\n TETRA #98000000",
+        &[
+            (7, 1),
+            (255, 0x100_0000),
+            (1, 0),
+            (7, 3),
+            (255, 0x300_0000),
+            (255, 0x9800_0000),
+        ],
+    ),
+    // an octa that waits for an address
+    (
+        " LOC Data_Segment\n GREG @\nArgs OCTA Buf,8\nBuf OCTA 0\n LOC #100\nMain LDA $255,Args\n TRAP 0,Fgets,StdIn\n TRAP 0,Halt,0",
+        &[
+            (1, 0x2000_0000_0000_0000),
+            (7, 3),
+            (255, 0),
+            (255, 0),
+            (255, 0),
+            (255, 8),
+            (3, 0x2000_0000_0000_0000),
+            (7, 4),
+            (255, 0),
+            (255, 0),
+            (1, 0x100),
+            (255, 0x23ff_fe00),
+            (255, 0x400),
+            (255, 0),
+        ],
+    ),
+];
+
 #[test]
 fn items(rt: HostRuntime) {
-    for (source, want) in [
-        // a forward reference, lines that count by themselves, and a register as a symbol
-        (
-            b"argv IS $1\n LOC #100\nMain LDOU $255,argv,0\n TRAP 0,Fputs,StdOut\n GETA $255,String\n TRAP 0,Fputs,StdOut\n TRAP 0,Halt,0\nString BYTE \", world\",#a,0\n".as_slice(),
-            [
-                (1, 0x100),
-                (7, 3),
-                (255, 0x8fff_0100),
-                (255, 0x701),
-                (255, 0xf4ff_0000),
-                (255, 0x701),
-                (255, 0),
-                (4, 3),
-                (255, 0x2c20_776f),
-                (255, 0x726c_640a),
-                (255, 0),
-            ]
-            .as_slice(),
-        ),
-        // the longest way ahead, at which no tetra stands between
-        (
-            b"Main BZ $0,x\n LOC Main+4*65535\nx TRAP 0,Halt,0".as_slice(),
-            [
-                (7, 1),
-                (255, 0x4200_0000),
-                (1, 0x3_fffc),
-                (4, 65535),
-                (7, 3),
-                (255, 0),
-            ]
-            .as_slice(),
-        ),
-        // a way back, by the long record
-        (
-            b" LOC #200\nMain BZ $0,x\n LOC #100\nx TRAP 0,Halt,0".as_slice(),
-            [
-                (1, 0x200),
-                (7, 2),
-                (255, 0x4200_0000),
-                (1, 0x100),
-                (16, 0x100_ffc0),
-                (7, 4),
-                (255, 0),
-            ]
-            .as_slice(),
-        ),
-        // a label 2H is none of its own statement
-        (
-            b"Main SWYM\n2H JMP 2F\n2H JMP 2B".as_slice(),
-            [
-                (7, 1),
-                (255, 0xfd00_0000),
-                (255, 0xf000_0000),
-                (4, 1),
-                (255, 0xf1ff_ffff),
-            ]
-            .as_slice(),
-        ),
-        // bytes on one another
-        (
-            b"Main BYTE 1\n LOC 0\n BYTE 3\n TETRA #98000000".as_slice(),
-            [
-                (7, 1),
-                (255, 0x100_0000),
-                (1, 0),
-                (7, 3),
-                (255, 0x300_0000),
-                (255, 0x9800_0000),
-            ]
-            .as_slice(),
-        ),
-        // an octa that waits for an address
-        (
-            b" LOC Data_Segment\n GREG @\nArgs OCTA Buf,8\nBuf OCTA 0\n LOC #100\nMain LDA $255,Args\n TRAP 0,Fgets,StdIn\n TRAP 0,Halt,0".as_slice(),
-            [
-                (1, 0x2000_0000_0000_0000),
-                (7, 3),
-                (255, 0),
-                (255, 0),
-                (255, 0),
-                (255, 8),
-                (3, 0x2000_0000_0000_0000),
-                (7, 4),
-                (255, 0),
-                (255, 0),
-                (1, 0x100),
-                (255, 0x23ff_fe00),
-                (255, 0x400),
-                (255, 0),
-            ]
-            .as_slice(),
-        ),
-    ] {
-        assert!(rt; gives(rt.alloc(), source, want), "{} items", want.len());
+    for (source, want) in &ITEMS {
+        assert!(rt;
+            gives(rt.alloc(), source.as_bytes(), want),
+            "{} items",
+            want.len()
+        );
     }
 }
 
+/// Sources, and their refusals.
+static REFUSALS: [(&str, (u32, u16, u32)); 18] = [
+    // nothing, so no Main
+    ("", (1, 82, 0)),
+    ("Main SWYM", (0, 0, 0)),
+    // the first reference to what is never defined
+    ("Main SWYM\n SWYM\n JMP x\n SWYM\n JMP x", (3, 80, 0)),
+    ("1H OCTA 1F,x", (1, 81, 0)),
+    // a label out of reach, a register, and no multiple of 4
+    (
+        "Main BZ $0,x\n LOC Main+4*65536\nx TRAP 0,Halt,0",
+        (3, 85, 1),
+    ),
+    ("Main JMP x\n BZ $0,x\n BZ $0,x\nx IS #80000", (4, 85, 2)),
+    ("Main JMP x\nx IS $1", (2, 84, 1)),
+    ("Main JMP x\nx IS 6", (2, 89, 1)),
+    // an unknown symbol with a prefix, a predefined one, and one that stands twice
+    (" PREFIX p:\n:Main TRAP 0,Halt,0", (2, 17, 0)),
+    ("Halt IS 0", (1, 31, 0)),
+    ("x IS 1\nx IS 2", (2, 30, 0)),
+    ("Main IS $1", (1, 83, 0)),
+    // LOCAL at the lowest global register
+    ("Main SWYM\n LOCAL $254", (0, 0, 0)),
+    ("Main SWYM\n LOCAL $254\n GREG 0\n", (3, 87, 0)),
+    // lines
+    ("2X SWYM", (1, 3, 0)),
+    ("a", (1, 7, 0)),
+    (" FROB", (1, 39, 0)),
+    (" BYTE 256", (1, 43, 0)),
+];
+
 #[test]
 fn refusals(rt: HostRuntime) {
-    for (source, want) in [
-        // nothing, so no Main
-        (b"".as_slice(), (1, 82, 0)),
-        (b"Main SWYM".as_slice(), (0, 0, 0)),
-        // the first reference to what is never defined
-        (
-            b"Main SWYM\n SWYM\n JMP x\n SWYM\n JMP x".as_slice(),
-            (3, 80, 0),
-        ),
-        (b"1H OCTA 1F,x".as_slice(), (1, 81, 0)),
-        // a label out of reach, a register, and no multiple of 4
-        (
-            b"Main BZ $0,x\n LOC Main+4*65536\nx TRAP 0,Halt,0".as_slice(),
-            (3, 85, 1),
-        ),
-        (
-            b"Main JMP x\n BZ $0,x\n BZ $0,x\nx IS #80000".as_slice(),
-            (4, 85, 2),
-        ),
-        (b"Main JMP x\nx IS $1".as_slice(), (2, 84, 1)),
-        (b"Main JMP x\nx IS 6".as_slice(), (2, 89, 1)),
-        // an unknown symbol with a prefix, a predefined one, and one that stands twice
-        (b" PREFIX p:\n:Main TRAP 0,Halt,0".as_slice(), (2, 17, 0)),
-        (b"Halt IS 0".as_slice(), (1, 31, 0)),
-        (b"x IS 1\nx IS 2".as_slice(), (2, 30, 0)),
-        (b"Main IS $1".as_slice(), (1, 83, 0)),
-        // LOCAL at the lowest global register
-        (b"Main SWYM\n LOCAL $254".as_slice(), (0, 0, 0)),
-        (b"Main SWYM\n LOCAL $254\n GREG 0\n".as_slice(), (3, 87, 0)),
-        // lines
-        (b"2X SWYM".as_slice(), (1, 3, 0)),
-        (b"a".as_slice(), (1, 7, 0)),
-        (b" FROB".as_slice(), (1, 39, 0)),
-        (b" BYTE 256".as_slice(), (1, 43, 0)),
-    ] {
-        assert_eq!(rt; refusal(rt.alloc(), source), want);
+    for (source, want) in &REFUSALS {
+        assert_eq!(rt; refusal(rt.alloc(), source.as_bytes()), *want);
     }
 }

@@ -13,7 +13,8 @@ use std::alloc::{AllocError, Global};
 struct Few;
 
 impl Known for Few {
-    ghost symbols = { λ k name. if nat_lt (length name) 4 then Ok (Some (Value.Reg 9)) else if nat_lt (length name) 5 then Ok None else Err ExprFault.NameTooLong };
+    ghost symbols = { λ k name. if nat_lt (length name) 4 then Ok (Some (Value.Reg 9))
+        else if nat_lt (length name) 5 then Ok None else Err ExprFault.NameTooLong };
 
     ghost backs = { λ k d. Value.Pure d };
 
@@ -52,114 +53,123 @@ fn told(alloc: Global, field: &[u8]) -> (usize, Result<Value, ExprFault>) {
     }
 }
 
+/// Fields of one operand, and its pure value.
+static VALUES: [(&str, u64); 40] = [
+    ("", 0),
+    ("1+2*3", 7),
+    ("1//3", 0x5555_5555_5555_5555),
+    ("7//8", 0xe000_0000_0000_0000),
+    ("-1>>60", 15),
+    ("-2>>1", 0x7fff_ffff_ffff_ffff),
+    ("~1*2", 0xffff_ffff_ffff_fffc),
+    ("2*3+4<<1", 14),
+    ("10-3-4", 3),
+    ("100/10/5", 2),
+    ("2*3%4", 2),
+    ("6/4//3", 0x5555_5555_5555_5555),
+    ("(1+2)*3", 9),
+    ("6&3", 2),
+    ("6|3", 7),
+    ("6^3", 5),
+    ("6|3&1", 7),
+    ("6^2|1", 5),
+    ("1<<63", 0x8000_0000_0000_0000),
+    ("1<<64", 0),
+    ("1>>64", 0),
+    ("0-1+2", 1),
+    ("1--1", 2),
+    ("+5", 5),
+    ("$5-$2", 3),
+    ("$2-$5+4", 1),
+    ("18446744073709551615", 0xffff_ffff_ffff_ffff),
+    ("#FfFfFfFfFfFfFfFf", 0xffff_ffff_ffff_ffff),
+    ("007", 7),
+    ("#2B", 0x2b),
+    ("#1f", 31),
+    ("'''", 39),
+    ("'\"'", 34),
+    ("','", 44),
+    ("' '", 32),
+    ("';'+1", 60),
+    ("2B", 2),
+    ("0B-1", 0xffff_ffff_ffff_ffff),
+    ("@", 256),
+    ("@+4*2", 264),
+];
+
 #[test]
 fn values(rt: HostRuntime) {
-    for (field, n) in [
-        ("", 0),
-        ("1+2*3", 7),
-        ("1//3", 0x5555_5555_5555_5555),
-        ("7//8", 0xe000_0000_0000_0000),
-        ("-1>>60", 15),
-        ("-2>>1", 0x7fff_ffff_ffff_ffff),
-        ("~1*2", 0xffff_ffff_ffff_fffc),
-        ("2*3+4<<1", 14),
-        ("10-3-4", 3),
-        ("100/10/5", 2),
-        ("2*3%4", 2),
-        ("6/4//3", 0x5555_5555_5555_5555),
-        ("(1+2)*3", 9),
-        ("6&3", 2),
-        ("6|3", 7),
-        ("6^3", 5),
-        ("6|3&1", 7),
-        ("6^2|1", 5),
-        ("1<<63", 0x8000_0000_0000_0000),
-        ("1<<64", 0),
-        ("1>>64", 0),
-        ("0-1+2", 1),
-        ("1--1", 2),
-        ("+5", 5),
-        ("$5-$2", 3),
-        ("$2-$5+4", 1),
-        ("18446744073709551615", 0xffff_ffff_ffff_ffff),
-        ("#FfFfFfFfFfFfFfFf", 0xffff_ffff_ffff_ffff),
-        ("007", 7),
-        ("#2B", 0x2b),
-        ("#1f", 31),
-        ("'''", 39),
-        ("'\"'", 34),
-        ("','", 44),
-        ("' '", 32),
-        ("';'+1", 60),
-        ("2B", 2),
-        ("0B-1", 0xffff_ffff_ffff_ffff),
-        ("@", 256),
-        ("@+4*2", 264),
-    ] {
+    for (field, n) in &VALUES {
         assert_eq!(rt;
             told(rt.alloc(), field.as_bytes()),
-            (1, Ok(Value::Pure(n))),
+            (1, Ok(Value::Pure(*n))),
             "{field}"
         );
     }
 }
+
+/// Fields of one operand, and the register that it is: modulo 2^64 first, then the range; symbols have
+/// letters, digits, `:` and `_`.
+static REGISTERS: [(&str, u8); 10] = [
+    ("$5+(0-1)", 4),
+    ("$5+1", 6),
+    ("3+$4", 7),
+    ("$5-1", 4),
+    ("+$7", 7),
+    ("$255", 255),
+    ("$1B", 1),
+    ("a2B", 9),
+    (":_9", 9),
+    ("a+1-1", 9),
+];
 
 #[test]
 fn registers(rt: HostRuntime) {
-    // modulo 2^64 first, then the range; symbols have letters, digits, `:` and `_`
-    for (field, n) in [
-        ("$5+(0-1)", 4),
-        ("$5+1", 6),
-        ("3+$4", 7),
-        ("$5-1", 4),
-        ("+$7", 7),
-        ("$255", 255),
-        ("$1B", 1),
-        ("a2B", 9),
-        (":_9", 9),
-        ("a+1-1", 9),
-    ] {
+    for (field, n) in &REGISTERS {
         assert_eq!(rt;
             told(rt.alloc(), field.as_bytes()),
-            (1, Ok(Value::Reg(n))),
+            (1, Ok(Value::Reg(*n))),
             "{field}"
         );
     }
 }
 
+/// Fields whose last operand has no value, and the number of its fault.
+static FAULTS: [(&str, u16); 23] = [
+    ("1/0", 12),
+    ("1%0", 12),
+    ("3//3", 13),
+    ("1//0", 13),
+    ("$1*2", 14),
+    ("$1/0", 14),
+    ("$1//0", 14),
+    ("-$1", 14),
+    ("$$1", 14),
+    ("$1+$2", 15),
+    ("7-$2", 16),
+    ("abcd", 17),
+    ("1F", 17),
+    ("$256", 21),
+    ("$0-1", 21),
+    ("$255+1", 21),
+    ("abcde", 33),
+    // the left side, the right side, the operator
+    ("abcd+1/0", 17),
+    ("1/0+abcd", 12),
+    ("abcde+1F", 33),
+    ("1/0*$1", 12),
+    ("$1*(3//3)", 13),
+    ("1+2*(7-$2)", 16),
+];
+
 #[test]
 fn faults_of_values(rt: HostRuntime) {
-    for (field, number) in [
-        ("1/0", 12),
-        ("1%0", 12),
-        ("3//3", 13),
-        ("1//0", 13),
-        ("$1*2", 14),
-        ("$1/0", 14),
-        ("$1//0", 14),
-        ("-$1", 14),
-        ("$$1", 14),
-        ("$1+$2", 15),
-        ("7-$2", 16),
-        ("abcd", 17),
-        ("1F", 17),
-        ("$256", 21),
-        ("$0-1", 21),
-        ("$255+1", 21),
-        ("abcde", 33),
-        // the left side, the right side, the operator
-        ("abcd+1/0", 17),
-        ("1/0+abcd", 12),
-        ("abcde+1F", 33),
-        ("1/0*$1", 12),
-        ("$1*(3//3)", 13),
-        ("1+2*(7-$2)", 16),
-    ] {
+    for (field, number) in &FAULTS {
         let got = match told(rt.alloc(), field.as_bytes()) {
             (1, Err(fault)) => fault.number(),
             _ => 0,
         };
-        assert_eq!(rt; got, number, "{field}");
+        assert_eq!(rt; got, *number, "{field}");
     }
 }
 
@@ -171,62 +181,68 @@ fn refusal(alloc: Global, field: &[u8]) -> u16 {
     }
 }
 
+/// Fields that are refused, and the number of the fault.
+static REFUSALS: [(&str, u16); 35] = [
+    ("1,,2", 10),
+    (",", 10),
+    ("1,", 10),
+    ("12B", 10),
+    ("2Bx", 10),
+    ("2BF", 10),
+    ("1+", 10),
+    ("(1", 10),
+    ("1)", 10),
+    ("()", 10),
+    ("(1,2)", 10),
+    ("1 2", 10),
+    ("1<2", 10),
+    ("1///2", 10),
+    ("#", 10),
+    ("#g", 10),
+    ("'a", 10),
+    ("'ab'", 10),
+    ("\"ab", 10),
+    ("\"ab\"c", 10),
+    ("1+\"a\"", 10),
+    ("(\"a\")", 10),
+    ("18446744073709551616", 11),
+    ("#10000000000000000", 11),
+    // another fault to the right, and one to the left
+    ("18446744073709551616B", 11),
+    ("1/18446744073709551616,,", 11),
+    ("1,,18446744073709551616", 10),
+    ("'18446744073709551616", 10),
+    ("\"\"", 19),
+    ("1,\"\"", 19),
+    ("\"\",,", 19),
+    (",\"\"", 10),
+    ("1\"\"", 10),
+    ("\"\",18446744073709551616", 19),
+    ("18446744073709551616,\"\"", 11),
+];
+
 #[test]
 fn refusals(rt: HostRuntime) {
-    for (field, number) in [
-        ("1,,2", 10),
-        (",", 10),
-        ("1,", 10),
-        ("12B", 10),
-        ("2Bx", 10),
-        ("2BF", 10),
-        ("1+", 10),
-        ("(1", 10),
-        ("1)", 10),
-        ("()", 10),
-        ("(1,2)", 10),
-        ("1 2", 10),
-        ("1<2", 10),
-        ("1///2", 10),
-        ("#", 10),
-        ("#g", 10),
-        ("'a", 10),
-        ("'ab'", 10),
-        ("\"ab", 10),
-        ("\"ab\"c", 10),
-        ("1+\"a\"", 10),
-        ("(\"a\")", 10),
-        ("18446744073709551616", 11),
-        ("#10000000000000000", 11),
-        // another fault to the right, and one to the left
-        ("18446744073709551616B", 11),
-        ("1/18446744073709551616,,", 11),
-        ("1,,18446744073709551616", 10),
-        ("'18446744073709551616", 10),
-        ("\"\"", 19),
-        ("1,\"\"", 19),
-        ("\"\",,", 19),
-        (",\"\"", 10),
-        ("1\"\"", 10),
-        ("\"\",18446744073709551616", 19),
-        ("18446744073709551616,\"\"", 11),
-    ] {
-        assert_eq!(rt; refusal(rt.alloc(), field.as_bytes()), number, "{field}");
+    for (field, number) in &REFUSALS {
+        assert_eq!(rt; refusal(rt.alloc(), field.as_bytes()), *number, "{field}");
     }
 }
 
+/// Fields with strings, how many operands they have, and the value of the last one: each byte is an
+/// operand, also a comma, an apostrophe and a blank.
+static STRINGS: [(&str, usize, u64); 4] = [
+    ("\"ab\"", 2, 98),
+    ("1,\",' \"", 4, 32),
+    ("\"a\",\"bc\",2", 4, 2),
+    ("1,2,3", 3, 3),
+];
+
 #[test]
 fn strings(rt: HostRuntime) {
-    // each byte is an operand, also a comma, an apostrophe and a blank
-    for (field, count, n) in [
-        ("\"ab\"", 2, 98),
-        ("1,\",' \"", 4, 32),
-        ("\"a\",\"bc\",2", 4, 2),
-        ("1,2,3", 3, 3),
-    ] {
+    for (field, count, n) in &STRINGS {
         assert_eq!(rt;
             told(rt.alloc(), field.as_bytes()),
-            (count, Ok(Value::Pure(n))),
+            (*count, Ok(Value::Pure(*n))),
             "{field}"
         );
     }
@@ -251,21 +267,23 @@ fn field(
     Ok(text)
 }
 
+/// A piece so many times, another text, and a last piece so many times, and the value: long chains of
+/// unary operators, and of binary ones to the left; the most parentheses.
+static DEEP: [(usize, &str, &str, &str, u64); 6] = [
+    (4095, "-", "1", "", u64::MAX),
+    (1_000_000, "-", "1", "", 1),
+    (2047, "", "1", "+1", 2048),
+    (500_000, "1*", "1", "", 1),
+    (255, "1+2*(", "1", ")", u64::MAX),
+    (255, "-(", "1", ")", u64::MAX),
+];
+
 #[test]
 fn deep_fields(rt: HostRuntime) {
-    let most = 0xffff_ffff_ffff_ffff;
-    // long chains of unary operators, and of binary ones to the left; the most parentheses
-    for (count, first, middle, last, n) in [
-        (4095, "-", "1", "", most),
-        (1_000_000, "-", "1", "", 1),
-        (2047, "", "1", "+1", 2048),
-        (500_000, "1*", "1", "", 1),
-        (255, "1+2*(", "1", ")", most),
-        (255, "-(", "1", ")", most),
-    ] {
+    for (count, first, middle, last, n) in &DEEP {
         let Ok(text) = field(
             rt.alloc(),
-            count,
+            *count,
             first.as_bytes(),
             middle.as_bytes(),
             last.as_bytes(),
@@ -275,26 +293,29 @@ fn deep_fields(rt: HostRuntime) {
         };
         assert_eq!(rt;
             told(rt.alloc(), text.as_slice()),
-            (1, Ok(Value::Pure(n))),
+            (1, Ok(Value::Pure(*n))),
             "{count} {first}"
         );
     }
 }
 
+/// The same with the number of the fault, 1 without one: the 256th open parenthesis, with a fault to its
+/// right, with one to its left, and not open.
+static TOO_DEEP: [(usize, &str, &str, &str, u16); 6] = [
+    (256, "(", "1", ")", 18),
+    (256, "(", "", "", 18),
+    (256, "(", ",", "", 18),
+    (255, "(", ")", "", 10),
+    (256, "", ")", "(", 10),
+    (300, "(1)+", "1", "", 1),
+];
+
 #[test]
 fn deep_refusals(rt: HostRuntime) {
-    // the 256th open parenthesis, with a fault to its right, with one to its left, and not open
-    for (count, first, middle, last, number) in [
-        (256, "(", "1", ")", 18),
-        (256, "(", "", "", 18),
-        (256, "(", ",", "", 18),
-        (255, "(", ")", "", 10),
-        (256, "", ")", "(", 10),
-        (300, "(1)+", "1", "", 1),
-    ] {
+    for (count, first, middle, last, number) in &TOO_DEEP {
         let Ok(text) = field(
             rt.alloc(),
-            count,
+            *count,
             first.as_bytes(),
             middle.as_bytes(),
             last.as_bytes(),
@@ -304,7 +325,7 @@ fn deep_refusals(rt: HostRuntime) {
         };
         assert_eq!(rt;
             refusal(rt.alloc(), text.as_slice()),
-            number,
+            *number,
             "{count} {first}"
         );
     }

@@ -3,7 +3,7 @@
 use mx_ops::{Op, Pseudo, Shape, find, name, predefined, shape_of};
 
 /// The first code of a row, how many codes each of its names has, and the names.
-const ROWS: [(u8, u8, &str); 23] = [
+static ROWS: [(u8, u8, &str); 23] = [
     (0x00, 1, "TRAP FCMP FUN FEQL FADD FIX FSUB FIXU"),
     (0x08, 2, "FLOT FLOTU SFLOT SFLOTU"),
     (0x10, 1, "FMUL FCMPE FUNE FEQLE FDIV FSQRT FREM FINT"),
@@ -29,142 +29,153 @@ const ROWS: [(u8, u8, &str); 23] = [
     (0xf8, 1, "POP RESUME SAVE UNSAVE SYNC SWYM GET TRIP"),
 ];
 
+/// Names that are no instruction of their own, and what they mean.
+static OTHERS: [(&str, Option<Op>); 16] = [
+    ("IS", Some(Op::Pseudo(Pseudo::Is))),
+    ("LOC", Some(Op::Pseudo(Pseudo::Loc))),
+    ("PREFIX", Some(Op::Pseudo(Pseudo::Prefix))),
+    ("GREG", Some(Op::Pseudo(Pseudo::Greg))),
+    ("LOCAL", Some(Op::Pseudo(Pseudo::Local))),
+    ("BYTE", Some(Op::Pseudo(Pseudo::Byte))),
+    ("WYDE", Some(Op::Pseudo(Pseudo::Wyde))),
+    ("TETRA", Some(Op::Pseudo(Pseudo::Tetra))),
+    ("OCTA", Some(Op::Pseudo(Pseudo::Octa))),
+    ("LDA", Some(Op::Lda)),
+    ("SET", Some(Op::Set)),
+    // no operation: a front of one, more than one, small letters, nothing
+    ("ADDI", None),
+    ("FLO", None),
+    ("TRAPS", None),
+    ("add", None),
+    ("", None),
+];
+
 #[test]
 fn names_and_codes(rt: HostRuntime) {
     let mut code = 0;
-    for (first, each, names) in ROWS {
-        assert_eq!(rt; code, first, "the first code of a row");
+    for (first, each, names) in &ROWS {
+        assert_eq!(rt; code, *first, "the first code of a row");
         for text in names.split(' ') {
             assert_eq!(rt; find(text.as_bytes()), Some(Op::Code(code)), "{text}");
-            for _ in 0..each {
+            for _ in 0..*each {
                 assert_eq!(rt; name(code), text, "{code}");
                 code = code.wrapping_add(1);
             }
         }
     }
     assert_eq!(rt; code, 0, "there are 256 codes");
-    for (text, want) in [
-        ("IS", Some(Op::Pseudo(Pseudo::Is))),
-        ("LOC", Some(Op::Pseudo(Pseudo::Loc))),
-        ("PREFIX", Some(Op::Pseudo(Pseudo::Prefix))),
-        ("GREG", Some(Op::Pseudo(Pseudo::Greg))),
-        ("LOCAL", Some(Op::Pseudo(Pseudo::Local))),
-        ("BYTE", Some(Op::Pseudo(Pseudo::Byte))),
-        ("WYDE", Some(Op::Pseudo(Pseudo::Wyde))),
-        ("TETRA", Some(Op::Pseudo(Pseudo::Tetra))),
-        ("OCTA", Some(Op::Pseudo(Pseudo::Octa))),
-        ("LDA", Some(Op::Lda)),
-        ("SET", Some(Op::Set)),
-        // no operation: a front of one, more than one, small letters, nothing
-        ("ADDI", None),
-        ("FLO", None),
-        ("TRAPS", None),
-        ("add", None),
-        ("", None),
-    ] {
-        assert_eq!(rt; find(text.as_bytes()), want, "{text}");
+    for (text, want) in &OTHERS {
+        assert_eq!(rt; find(text.as_bytes()), *want, "{text}");
     }
 }
+
+/// Codes, and the shape of their operands.
+static SHAPES: [(u8, Shape); 47] = [
+    (0x00, Shape::Free),
+    (0x01, Shape::Regs),
+    (0x05, Shape::Round),
+    (0x06, Shape::Regs),
+    (0x07, Shape::Round),
+    (0x0f, Shape::Round),
+    (0x10, Shape::Regs),
+    (0x15, Shape::Round),
+    (0x16, Shape::Regs),
+    (0x17, Shape::Round),
+    (0x18, Shape::Three),
+    (0x33, Shape::Three),
+    (0x34, Shape::Neg),
+    (0x37, Shape::Neg),
+    (0x38, Shape::Three),
+    (0x40, Shape::Rel),
+    (0x5f, Shape::Rel),
+    (0x60, Shape::Three),
+    (0x7f, Shape::Three),
+    (0x80, Shape::Mem),
+    (0x99, Shape::Mem),
+    (0x9a, Shape::MemPure),
+    (0x9d, Shape::MemPure),
+    (0x9e, Shape::Mem),
+    (0xb3, Shape::Mem),
+    (0xb4, Shape::MemPure),
+    (0xb6, Shape::Mem),
+    (0xb8, Shape::MemPure),
+    (0xbd, Shape::MemPure),
+    (0xbe, Shape::Mem),
+    (0xc0, Shape::Three),
+    (0xdf, Shape::Three),
+    (0xe0, Shape::Wyde),
+    (0xef, Shape::Wyde),
+    (0xf0, Shape::Jump),
+    (0xf1, Shape::Jump),
+    (0xf2, Shape::Rel),
+    (0xf5, Shape::Rel),
+    (0xf6, Shape::Put),
+    (0xf8, Shape::Pop),
+    (0xf9, Shape::One),
+    (0xfa, Shape::Save),
+    (0xfb, Shape::Unsave),
+    (0xfc, Shape::One),
+    (0xfd, Shape::Free),
+    (0xfe, Shape::Get),
+    (0xff, Shape::Free),
+];
 
 #[test]
 fn shapes(rt: HostRuntime) {
-    for (code, want) in [
-        (0x00, Shape::Free),
-        (0x01, Shape::Regs),
-        (0x05, Shape::Round),
-        (0x06, Shape::Regs),
-        (0x07, Shape::Round),
-        (0x0f, Shape::Round),
-        (0x10, Shape::Regs),
-        (0x15, Shape::Round),
-        (0x16, Shape::Regs),
-        (0x17, Shape::Round),
-        (0x18, Shape::Three),
-        (0x33, Shape::Three),
-        (0x34, Shape::Neg),
-        (0x37, Shape::Neg),
-        (0x38, Shape::Three),
-        (0x40, Shape::Rel),
-        (0x5f, Shape::Rel),
-        (0x60, Shape::Three),
-        (0x7f, Shape::Three),
-        (0x80, Shape::Mem),
-        (0x99, Shape::Mem),
-        (0x9a, Shape::MemPure),
-        (0x9d, Shape::MemPure),
-        (0x9e, Shape::Mem),
-        (0xb3, Shape::Mem),
-        (0xb4, Shape::MemPure),
-        (0xb6, Shape::Mem),
-        (0xb8, Shape::MemPure),
-        (0xbd, Shape::MemPure),
-        (0xbe, Shape::Mem),
-        (0xc0, Shape::Three),
-        (0xdf, Shape::Three),
-        (0xe0, Shape::Wyde),
-        (0xef, Shape::Wyde),
-        (0xf0, Shape::Jump),
-        (0xf1, Shape::Jump),
-        (0xf2, Shape::Rel),
-        (0xf5, Shape::Rel),
-        (0xf6, Shape::Put),
-        (0xf8, Shape::Pop),
-        (0xf9, Shape::One),
-        (0xfa, Shape::Save),
-        (0xfb, Shape::Unsave),
-        (0xfc, Shape::One),
-        (0xfd, Shape::Free),
-        (0xfe, Shape::Get),
-        (0xff, Shape::Free),
-    ] {
-        assert_eq!(rt; shape_of(code), want, "{code}");
+    for (code, want) in &SHAPES {
+        assert_eq!(rt; shape_of(*code), *want, "{code}");
     }
 }
 
+/// Names with the values from 0 upwards.
+static NUMBERED: [&str; 5] = [
+    ":rB :rD :rE :rH :rJ :rM :rR :rBB :rC :rN :rO :rS :rI :rT :rTT :rK :rQ :rU :rV :rG :rL :rA :rF :rP :rW :rX :rY :rZ :rWW :rXX :rYY :rZZ",
+    ":StdIn :StdOut :StdErr",
+    ":TextRead :TextWrite :BinaryRead :BinaryWrite :BinaryReadWrite",
+    ":Halt :Fopen :Fclose :Fread :Fgets :Fgetws :Fwrite :Fputs :Fputws :Fseek :Ftell",
+    ":ROUND_CURRENT :ROUND_OFF :ROUND_UP :ROUND_DOWN :ROUND_NEAR",
+];
+
+/// Other predefined symbols, and their values.
+static VALUES: [(&str, Option<u64>); 25] = [
+    (":D_BIT", Some(0x80)),
+    (":V_BIT", Some(0x40)),
+    (":W_BIT", Some(0x20)),
+    (":I_BIT", Some(0x10)),
+    (":O_BIT", Some(8)),
+    (":U_BIT", Some(4)),
+    (":Z_BIT", Some(2)),
+    (":X_BIT", Some(1)),
+    (":D_Handler", Some(0x10)),
+    (":V_Handler", Some(0x20)),
+    (":W_Handler", Some(0x30)),
+    (":I_Handler", Some(0x40)),
+    (":O_Handler", Some(0x50)),
+    (":U_Handler", Some(0x60)),
+    (":Z_Handler", Some(0x70)),
+    (":X_Handler", Some(0x80)),
+    (":Data_Segment", Some(0x2000_0000_0000_0000)),
+    (":Pool_Segment", Some(0x4000_0000_0000_0000)),
+    (":Stack_Segment", Some(0x6000_0000_0000_0000)),
+    (":Inf", Some(0x7ff0_0000_0000_0000)),
+    // no predefined symbol: without the colon, with two, a front of one, nothing
+    ("rB", None),
+    ("::rB", None),
+    (":Text", None),
+    (":", None),
+    ("", None),
+];
+
 #[test]
 fn predefined_symbols(rt: HostRuntime) {
-    // names with the values from 0 upwards
-    for names in [
-        ":rB :rD :rE :rH :rJ :rM :rR :rBB :rC :rN :rO :rS :rI :rT :rTT :rK :rQ :rU :rV :rG :rL :rA :rF :rP :rW :rX :rY :rZ :rWW :rXX :rYY :rZZ",
-        ":StdIn :StdOut :StdErr",
-        ":TextRead :TextWrite :BinaryRead :BinaryWrite :BinaryReadWrite",
-        ":Halt :Fopen :Fclose :Fread :Fgets :Fgetws :Fwrite :Fputs :Fputws :Fseek :Ftell",
-        ":ROUND_CURRENT :ROUND_OFF :ROUND_UP :ROUND_DOWN :ROUND_NEAR",
-    ] {
+    for names in &NUMBERED {
         let mut value = 0_u64;
         for text in names.split(' ') {
             assert_eq!(rt; predefined(text.as_bytes()), Some(value), "{text}");
             value = value.wrapping_add(1);
         }
     }
-    for (text, want) in [
-        (":D_BIT", Some(0x80)),
-        (":V_BIT", Some(0x40)),
-        (":W_BIT", Some(0x20)),
-        (":I_BIT", Some(0x10)),
-        (":O_BIT", Some(8)),
-        (":U_BIT", Some(4)),
-        (":Z_BIT", Some(2)),
-        (":X_BIT", Some(1)),
-        (":D_Handler", Some(0x10)),
-        (":V_Handler", Some(0x20)),
-        (":W_Handler", Some(0x30)),
-        (":I_Handler", Some(0x40)),
-        (":O_Handler", Some(0x50)),
-        (":U_Handler", Some(0x60)),
-        (":Z_Handler", Some(0x70)),
-        (":X_Handler", Some(0x80)),
-        (":Data_Segment", Some(0x2000_0000_0000_0000)),
-        (":Pool_Segment", Some(0x4000_0000_0000_0000)),
-        (":Stack_Segment", Some(0x6000_0000_0000_0000)),
-        (":Inf", Some(0x7ff0_0000_0000_0000)),
-        // no predefined symbol: without the colon, with two, a front of one, nothing
-        ("rB", None),
-        ("::rB", None),
-        (":Text", None),
-        (":", None),
-        ("", None),
-    ] {
-        assert_eq!(rt; predefined(text.as_bytes()), want, "{text}");
+    for (text, want) in &VALUES {
+        assert_eq!(rt; predefined(text.as_bytes()), *want, "{text}");
     }
 }

@@ -57,9 +57,19 @@ impl Model for Names {
 
     ghost Value = { NameTable };
 
-    ghost view = { λ n. record { symbols = map (λ e. symbol_of e.0.items e.1) n.defined.entries; prefix = n.prefix; backs = n.backs; waiting = n.waiting } };
+    ghost view = { λ n. record {
+      symbols = map (λ e. symbol_of e.0.items e.1) n.defined.entries;
+      prefix = n.prefix;
+      backs = n.backs;
+      waiting = n.waiting;
+    } };
 
-    ghost invariant = { λ n. AreNames (record { symbols = map (λ e. symbol_of e.0.items e.1) n.defined.entries; prefix = n.prefix; backs = n.backs; waiting = n.waiting }) };
+    ghost invariant = { λ n. AreNames (record {
+      symbols = map (λ e. symbol_of e.0.items e.1) n.defined.entries;
+      prefix = n.prefix;
+      backs = n.backs;
+      waiting = n.waiting;
+    }) };
 }
 
 impl Names {

@@ -114,6 +114,17 @@ fn symbols_are_written(rt: HostRuntime) {
     );
 }
 
+/// Characters of two bytes, and the symbol of a colon and one of them.
+static WIDE: [([u8; 2], &[u8]); 7] = [
+    ([0x00, 0x80], &[0x3a, 0xc2, 0x80]),
+    ([0x00, 0xe9], &[0x3a, 0xc3, 0xa9]),
+    ([0x07, 0xff], &[0x3a, 0xdf, 0xbf]),
+    ([0x08, 0x00], &[0x3a, 0xe0, 0xa0, 0x80]),
+    ([0xd7, 0xff], &[0x3a, 0xed, 0x9f, 0xbf]),
+    ([0xe0, 0x00], &[0x3a, 0xee, 0x80, 0x80]),
+    ([0xff, 0xff], &[0x3a, 0xef, 0xbf, 0xbf]),
+];
+
 #[test]
 fn tries_are_read(rt: HostRuntime) {
     let alloc = rt.alloc();
@@ -153,73 +164,67 @@ fn tries_are_read(rt: HostRuntime) {
         is_read(alloc, &bytes, &kinds),
         "values from 2^61 on, and a register"
     );
-    for (character, name) in [
-        ([0x00, 0x80], b":\xc2\x80".as_slice()),
-        ([0x00, 0xe9], b":\xc3\xa9"),
-        ([0x07, 0xff], b":\xdf\xbf"),
-        ([0x08, 0x00], b":\xe0\xa0\x80"),
-        ([0xd7, 0xff], b":\xed\x9f\xbf"),
-        ([0xe0, 0x00], b":\xee\x80\x80"),
-        ([0xff, 0xff], b":\xef\xbf\xbf"),
-    ] {
+    for (character, name) in &WIDE {
         let [high, low] = character;
-        let bytes = [0x20, 0x3a, 0x81, high, low, 5, 0x81, 0];
+        let bytes = [0x20, 0x3a, 0x81, *high, *low, 5, 0x81, 0];
         assert!(rt;
-            is_read(alloc, &bytes, &[(name, Value::Pure(5), 1)]),
+            is_read(alloc, &bytes, &[(*name, Value::Pure(5), 1)]),
             "{high} {low}"
         );
     }
 }
 
+/// Tries, and the fault that is met first.
+static FAULTY: [(&[u8], StabFault); 17] = [
+    (&[0x20], StabFault::Truncated(1)),
+    (&[0x08, 0x3a, 1, 2, 3], StabFault::Truncated(5)),
+    (&[0x01, 0x3a, 0, 1, 2], StabFault::Truncated(5)),
+    (&[0x81, 0xd8], StabFault::Truncated(2)),
+    (&[0x01, 0x3a, 0, 0x81, 0, 0, 0, 0], StabFault::Padding(4)),
+    (&[0xc0, 0x80], StabFault::Wide(0)),
+    (&[0x40, 0x80], StabFault::Wide(1)),
+    (&[0x81, 0x00, 0x7f], StabFault::Wide(0)),
+    (
+        &[0x20, 0x3a, 0x81, 0xd8, 0x00, 5, 0x81, 0],
+        StabFault::Wide(2),
+    ),
+    (&[0x81, 0xdf, 0xff], StabFault::Wide(0)),
+    (&[0xc1, 0x01, 0x61, 0, 0x81, 0xdf, 0xff], StabFault::Wide(0)),
+    (&[0xc1, 0x80, 0xdf, 0xff], StabFault::Wide(1)),
+    (
+        &[0x11, 0x3a, 0, 0x81, 0x01, 0x3a, 0, 0x82],
+        StabFault::Twice(4),
+    ),
+    (
+        &[0x41, 0x01, 0x3a, 0, 0x81, 0x3a, 0, 0x82],
+        StabFault::Twice(0),
+    ),
+    (
+        &[
+            0x11, 0x62, 0, 0x81, 0x11, 0x61, 0, 0x82, 0x01, 0x62, 0, 0x83,
+        ],
+        StabFault::Twice(8),
+    ),
+    (
+        &[0x91, 0x00, 0xe9, 0, 0x81, 0x20, 0xc3, 0x01, 0xa9, 0, 0x82],
+        StabFault::Twice(7),
+    ),
+    (
+        &[0x11, 0x3a, 0, 0x81, 0x01, 0x3a, 0, 0x10, 0, 0, 0, 0x80],
+        StabFault::BadSerial(4),
+    ),
+];
+
 #[test]
 fn faults_are_met_in_their_order(rt: HostRuntime) {
     let alloc = rt.alloc();
-    let mut cut = BARE;
-    cut[19] = 1;
-    for (bytes, fault) in [
-        (&BARE[..16], StabFault::Truncated(16)),
-        (cut.as_slice(), StabFault::Padding(17)),
-        (&[0x20], StabFault::Truncated(1)),
-        (&[0x08, 0x3a, 1, 2, 3], StabFault::Truncated(5)),
-        (&[0x01, 0x3a, 0, 1, 2], StabFault::Truncated(5)),
-        (&[0x81, 0xd8], StabFault::Truncated(2)),
-        (&[0x01, 0x3a, 0, 0x81, 0, 0, 0, 0], StabFault::Padding(4)),
-        (&[0xc0, 0x80], StabFault::Wide(0)),
-        (&[0x40, 0x80], StabFault::Wide(1)),
-        (&[0x81, 0x00, 0x7f], StabFault::Wide(0)),
-        (
-            &[0x20, 0x3a, 0x81, 0xd8, 0x00, 5, 0x81, 0],
-            StabFault::Wide(2),
-        ),
-        (&[0x81, 0xdf, 0xff], StabFault::Wide(0)),
-        (&[0xc1, 0x01, 0x61, 0, 0x81, 0xdf, 0xff], StabFault::Wide(0)),
-        (&[0xc1, 0x80, 0xdf, 0xff], StabFault::Wide(1)),
-        (
-            &[0x11, 0x3a, 0, 0x81, 0x01, 0x3a, 0, 0x82],
-            StabFault::Twice(4),
-        ),
-        (
-            &[0x41, 0x01, 0x3a, 0, 0x81, 0x3a, 0, 0x82],
-            StabFault::Twice(0),
-        ),
-        (
-            &[
-                0x11, 0x62, 0, 0x81, 0x11, 0x61, 0, 0x82, 0x01, 0x62, 0, 0x83,
-            ],
-            StabFault::Twice(8),
-        ),
-        (
-            &[0x91, 0x00, 0xe9, 0, 0x81, 0x20, 0xc3, 0x01, 0xa9, 0, 0x82],
-            StabFault::Twice(7),
-        ),
-        (
-            &[0x11, 0x3a, 0, 0x81, 0x01, 0x3a, 0, 0x10, 0, 0, 0, 0x80],
-            StabFault::BadSerial(4),
-        ),
-    ] {
-        let answer = read(alloc, bytes).err();
+    assert!(rt; read(alloc, &BARE[..16]).err() == Some(StabFault::Truncated(16)));
+    let mut padded = BARE;
+    padded[19] = 1;
+    assert!(rt; read(alloc, &padded).err() == Some(StabFault::Padding(17)));
+    for (bytes, fault) in &FAULTY {
         assert!(rt;
-            answer == Some(fault),
+            read(alloc, bytes).err() == Some(*fault),
             "fault {} at {:?}",
             fault.number(),
             fault.place()
@@ -241,35 +246,33 @@ fn of_many(alloc: Global, bytes: &[u8], times: u32, behind: &[u8]) -> Option<Sta
     read(alloc, all.as_slice()).err()
 }
 
+/// Bytes so many times, bytes behind them, and the fault.
+static LONG: [(&[u8], u32, &[u8], Option<StabFault>); 7] = [
+    (&[0x40], 262_140, &[], Some(StabFault::Truncated(262_140))),
+    (&[0x70], 262_140, &[], Some(StabFault::Truncated(262_140))),
+    (&[0x20, 0x61], 1024, &[], Some(StabFault::Truncated(2048))),
+    (&[0x20, 0x61], 1025, &[], Some(StabFault::TooLong(2048))),
+    (&[0x20, 0x61], 1022, &[0x81, 0x00, 0xe9, 0, 0x81], None),
+    (
+        &[0x20, 0x61],
+        1023,
+        &[0x81, 0x00, 0xe9, 0, 0x81],
+        Some(StabFault::TooLong(2046)),
+    ),
+    (
+        &[0x20, 0x61],
+        1024,
+        &[0x81, 0xd8, 0x00, 0, 0x81],
+        Some(StabFault::Wide(2048)),
+    ),
+];
+
 #[test]
 fn long_tries_are_read(rt: HostRuntime) {
     let alloc = rt.alloc();
-    for (bytes, times, behind, fault) in [
-        (
-            [0x40].as_slice(),
-            262_140,
-            b"".as_slice(),
-            Some(StabFault::Truncated(262_140)),
-        ),
-        (&[0x70], 262_140, b"", Some(StabFault::Truncated(262_140))),
-        (&[0x20, 0x61], 1024, b"", Some(StabFault::Truncated(2048))),
-        (&[0x20, 0x61], 1025, b"", Some(StabFault::TooLong(2048))),
-        (&[0x20, 0x61], 1022, &[0x81, 0x00, 0xe9, 0, 0x81], None),
-        (
-            &[0x20, 0x61],
-            1023,
-            &[0x81, 0x00, 0xe9, 0, 0x81],
-            Some(StabFault::TooLong(2046)),
-        ),
-        (
-            &[0x20, 0x61],
-            1024,
-            &[0x81, 0xd8, 0x00, 0, 0x81],
-            Some(StabFault::Wide(2048)),
-        ),
-    ] {
+    for (bytes, times, behind, fault) in &LONG {
         assert!(rt;
-            of_many(alloc, bytes, times, behind) == fault,
+            of_many(alloc, bytes, *times, behind) == *fault,
             "{times} times"
         );
     }

@@ -243,7 +243,8 @@ impl<'a> Reader<'a> {
     fn add(&mut self, node: u64, value: Value, serial: u64, rest: &'a [u8]) -> Result<(), StabFault>
         requires { length rest.now ≤ length self.old.reading.rest }
         ensures same { LeadsTo result (Ok self.new)
-            (with_path self.old.path (spec.symbol_with node self.old.path value self.old.reading (Some (serial, rest.now)))) }
+            (with_path self.old.path
+            (spec.symbol_with node self.old.path value self.old.reading (Some (serial, rest.now)))) }
         ensures fewer { length self.new.reading.rest ≤ length self.old.reading.rest }
     {
         if serial >= TOO_LARGE {

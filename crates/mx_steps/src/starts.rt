@@ -4,6 +4,8 @@ use mx_core::{Machine, StartFault};
 use mx_load::Loader;
 use mx_ring::RingSize;
 use mx_word::{Bytes, Symbols};
+use std::alloc::Global;
+use std::process::Abort;
 use std::test::Fail;
 
 /// Addresses, and the octas there.
@@ -32,20 +34,30 @@ static SPECIALS: [(u8, u64); 8] = [
     (20, 2), // rL
 ];
 
-#[test]
-fn starts_with_arguments(rt: HostRuntime) -> Result<(), Fail> {
-    let alloc = rt.alloc();
+/// The machine at the start.
+fn started(rt: &impl Abort, alloc: Global) -> Result<Machine, Fail> {
     let args = [Bytes::copy(alloc, b"p")?, Bytes::copy(alloc, b"ab")?];
     let image = Loader::new(alloc).finish(Symbols::new(alloc))?;
-    let size = RingSize::of(256).expect(&rt, "a power of two");
-    let machine = Machine::start(alloc, image, &args, size)?;
-    for (a, octa) in OCTAS {
-        assert!(rt; a < 1 << 63);
-        assert_eq!(rt; machine.octa(a), octa, "at {a}");
+    let size = RingSize::of(256).expect(rt, "a power of two");
+    Ok(Machine::start(alloc, image, &args, size)?)
+}
+
+#[test]
+fn memory_at_the_start(rt: HostRuntime) -> Result<(), Fail> {
+    let machine = started(&rt, rt.alloc())?;
+    for (a, octa) in &OCTAS {
+        assert!(rt; *a < 1 << 63);
+        assert_eq!(rt; machine.octa(*a), *octa, "at {a}");
     }
-    for (code, x) in SPECIALS {
-        assert!(rt; code < 32);
-        assert_eq!(rt; machine.special(code), x, "special {code}");
+    Ok(())
+}
+
+#[test]
+fn registers_at_the_start(rt: HostRuntime) -> Result<(), Fail> {
+    let machine = started(&rt, rt.alloc())?;
+    for (code, x) in &SPECIALS {
+        assert!(rt; *code < 32);
+        assert_eq!(rt; machine.special(*code), *x, "special {code}");
     }
     assert_eq!(rt; machine.register(0), 2);
     assert_eq!(rt; machine.register(1), 0x4000_0000_0000_0008);
