@@ -9,6 +9,6 @@ mod rows;
 mod sources;
 
 pub use rows::{
-    Due, FIRST, Given, HELLO, comes_from, comes_to, done, file, gives, host, refused, stopped,
-    words,
+    Due, FIRST, Given, HELLO, comes_from, comes_to, done, file, gives, host, outcome_over, refused,
+    stopped,
 };

@@ -1,8 +1,10 @@
 //! Objects that are written and run. Their tetras were put together by hand from the table of the
 //! format.
 
-use crate::rows::{Due, FIRST, HELLO, comes_from, comes_to, done, file, host, stopped, words};
-use mx_top::{Outcome, mmixware};
+use crate::rows::{
+    Due, FIRST, HELLO, comes_from, comes_to, done, file, host, outcome_over, refused, stopped,
+};
+use mx_top::Outcome;
 use std::alloc::Global;
 use std::test::Fail;
 
@@ -101,20 +103,21 @@ fn assembles(alloc: Global, source: &str, due: Due, tetras: &[u32]) -> Result<bo
     Ok(is_due && host.file(b"hello.mmo") == Some(left.as_slice()))
 }
 
+/// Sources, and their objects.
+static ASSEMBLED: [(&str, &[u32]); 3] = [
+    (HELLO, &HELLO_OBJECT),
+    (FIRST, &FIRST_OBJECT),
+    // a source without its last newline has the same object
+    (
+        " LOC #100\nText BYTE 104,105,10,0\nMain GETA $255,Text\n TRAP 0,7,1\n TRAP 0,0,0",
+        &FIRST_OBJECT,
+    ),
+];
+
 #[test]
 fn sources_become_objects(rt: HostRuntime) -> Result<(), Fail> {
-    let alloc = rt.alloc();
-    let cases: [(&str, &[u32]); 3] = [
-        (HELLO, &HELLO_OBJECT),
-        (FIRST, &FIRST_OBJECT),
-        // a source without its last newline has the same object
-        (
-            " LOC #100\nText BYTE 104,105,10,0\nMain GETA $255,Text\n TRAP 0,7,1\n TRAP 0,0,0",
-            &FIRST_OBJECT,
-        ),
-    ];
-    for (source, tetras) in cases {
-        assert!(rt; assembles(alloc, source, done(0, b""), tetras)?);
+    for (source, tetras) in &ASSEMBLED {
+        assert!(rt; assembles(rt.alloc(), source, done(0, b""), tetras)?);
     }
     Ok(())
 }
@@ -129,177 +132,186 @@ fn objects_run_as_their_sources(rt: HostRuntime) -> Result<(), Fail> {
     Ok(())
 }
 
+/// The items of the statements before a faulty one.
+static BEFORE: [u32; 8] = [
+    0x9809_0101,
+    0,
+    0x9806_0001,
+    0x2e6d_6d73,
+    0x9801_0001,
+    0x0000_0100,
+    0x9807_0002,
+    0xfd00_0000,
+];
+
 #[test]
 fn refused_sources_leave_what_stood_before(rt: HostRuntime) -> Result<(), Fail> {
-    let alloc = rt.alloc();
-    // the items of the statements before the faulty one
-    let tetras = [
-        0x9809_0101,
-        0,
-        0x9806_0001,
-        0x2e6d_6d73,
-        0x9801_0001,
-        0x0000_0100,
-        0x9807_0002,
-        0xfd00_0000,
-    ];
-    let due = Due {
-        outcome: Outcome::Refused {
-            line: 3,
-            fault: 39,
-            from_line: 0,
-        },
-        output: b"",
-        errors: b"line 3: 39 UnknownOpcode\n",
-    };
-    assert!(rt; assembles(alloc, " LOC #100\nMain SWYM\n FROB", due, &tetras)?);
+    let due = refused(3, 39, 0, b"line 3: 39 UnknownOpcode\n");
+    assert!(rt; assembles(rt.alloc(), " LOC #100\nMain SWYM\n FROB", due, &BEFORE)?);
     Ok(())
 }
 
-#[test]
-fn objects_in_pieces(rt: HostRuntime) -> Result<(), Fail> {
-    let alloc = rt.alloc();
-    // 2,000 tetras: the object goes out in two pieces
+/// A source of 2,000 tetras.
+fn two_thousand(alloc: Global) -> Result<Vec<u8>, Fail> {
     let mut source = Vec::from_slice(alloc, b"Main TRAP 0,0,0\n")?;
     for _line in 1..2000u32 {
         source.extend_from_slice(b" TRAP 0,0,0\n")?;
     }
-    let mut host = host(alloc, file("b.mms", source.as_slice()))?;
-    assert!(rt; comes_to(alloc, &mut host, &["asm", "b.mms", "b.mmo"], done(0, b""))?);
+    Ok(source)
+}
+
+/// How many calls of its host assembling a source takes, if it is assembled.
+fn calls(alloc: Global, source: &[u8]) -> Result<Option<u64>, Fail> {
+    let mut host = host(alloc, file("b.mms", source))?;
+    let is_done = comes_to(alloc, &mut host, &["asm", "b.mms", "b.mmo"], done(0, b""))?;
+    Ok(if is_done { Some(host.calls()) } else { None })
+}
+
+#[test]
+fn objects_in_pieces(rt: HostRuntime) -> Result<(), Fail> {
+    let source = two_thousand(rt.alloc())?;
     // open, six pieces and close of the source; open, two pieces and close of the object
-    assert_eq!(rt; host.calls(), 12);
+    assert_eq!(rt; calls(rt.alloc(), source.as_slice())?, Some(12));
     Ok(())
 }
 
 /// The outcome of `sim a.mmo`.
 fn outcome_of(alloc: Global, object: &[u8]) -> Result<Outcome, Fail> {
     let mut host = host(alloc, file("a.mmo", object))?;
-    let words = words(alloc, &["sim", "a.mmo"])?;
-    Ok(mmixware(alloc, words.as_slice(), &mut host))
+    outcome_over(alloc, &mut host, &["sim", "a.mmo"])
+}
+
+/// How many bytes the first front of an object has that is not refused where its bytes are left over, or at its end.
+fn first_other_front(alloc: Global, object: &[u8]) -> Result<Option<usize>, Fail> {
+    for count in 0..object.len() {
+        let left = count % 4;
+        let due = Outcome::BadObject {
+            place: (count - left) as u64,
+            fault: if left == 0 { 64 } else { 60 },
+        };
+        if outcome_of(alloc, &object[..count])? != due {
+            return Ok(Some(count));
+        }
+    }
+    Ok(None)
 }
 
 #[test]
 fn cut_objects(rt: HostRuntime) -> Result<(), Fail> {
-    let alloc = rt.alloc();
-    let object = bytes(alloc, &HELLO_OBJECT, b"")?;
-    let mut front = Vec::new(alloc);
-    let mut count = 0u64;
-    for byte in object.as_slice() {
-        // the bytes that are left over, or the end
-        let (place, fault) = if count % 4 == 0 {
-            (count, 64)
-        } else {
-            (count - count % 4, 60)
-        };
-        let outcome = outcome_of(alloc, front.as_slice())?;
-        assert_eq!(rt; outcome, Outcome::BadObject { place, fault }, "{count}");
-        front.push(*byte)?;
-        count = count.wrapping_add(1);
-    }
-    // a tetra behind the end, and a second end
-    let zero = bytes(alloc, &HELLO_OBJECT, b"\0\0\0\0")?;
-    assert!(rt;
-        sim(
-            alloc,
-            zero.as_slice(),
-            bad(128, 64, b"byte 128: 64 Truncated\n")
-        )?
-    );
-    let twice = bytes(alloc, &HELLO_OBJECT, b"\x98\x0c\0\x0a")?;
-    assert!(rt;
-        sim(
-            alloc,
-            twice.as_slice(),
-            bad(124, 63, b"byte 124: 63 BadFields\n")
-        )?
-    );
+    let object = bytes(rt.alloc(), &HELLO_OBJECT, b"")?;
+    assert_eq!(rt; first_other_front(rt.alloc(), object.as_slice())?, None);
     Ok(())
 }
 
-/// The tetras of an object that sets up nothing but Main, at #100, with a trie of one tetra.
-fn with_trie(trie: u32) -> [u32; 8] {
-    [
-        0x9809_0101,
-        0,
-        0x980a_00ff,
-        0,
-        0x100,
-        0x980b_0000,
-        trie,
-        0x980c_0001,
-    ]
-}
+/// The tetras of an object, bytes behind them, the place and the number of the fault, and what is told.
+static BAD: [(&[u32], &[u8], u64, u16, &[u8]); 11] = [
+    // a lopcode that does not exist
+    (
+        &[0x9809_0101, 0, 0x980d_0000],
+        b"",
+        8,
+        62,
+        b"byte 8: 62 BadLop\n",
+    ),
+    // no bytes; no `pre`; a byte that is no tetra
+    (&[], b"", 0, 64, b"byte 0: 64 Truncated\n"),
+    (&[0], b"", 0, 61, b"byte 0: 61 NoPre\n"),
+    (&[0x9809_0101, 0], b"\x98", 8, 60, b"byte 8: 60 NotTetras\n"),
+    // a count of the trie that is wrong
+    (
+        &[
+            0x9809_0101,
+            0,
+            0x980a_00ff,
+            0,
+            0x100,
+            0x980b_0000,
+            0x980c_0001,
+        ],
+        b"",
+        24,
+        63,
+        b"byte 24: 63 BadFields\n",
+    ),
+    // a trie whose node has the mark of a wide character, but no character; one with more than padding behind it
+    (
+        &[
+            0x9809_0101,
+            0,
+            0x980a_00ff,
+            0,
+            0x100,
+            0x980b_0000,
+            0x8000_0000,
+            0x980c_0001,
+        ],
+        b"",
+        24,
+        72,
+        b"byte 24: 72 Wide\n",
+    ),
+    (
+        &[
+            0x9809_0101,
+            0,
+            0x980a_00ff,
+            0,
+            0x100,
+            0x980b_0000,
+            0x0040_4040,
+            0x980c_0001,
+        ],
+        b"",
+        25,
+        71,
+        b"byte 25: 71 Padding\n",
+    ),
+    // a tetra in the stack segment: the place is the tetra's
+    (
+        &[0x9809_0101, 0, 0x9801_6001, 0, 1, 0x980d_0000],
+        b"",
+        16,
+        95,
+        b"byte 16: 95 BadPlace\n",
+    ),
+    // the same behind a fault of reading, which comes first
+    (
+        &[0x9809_0101, 0, 0x980d_0000, 0x9801_6001, 0, 1],
+        b"",
+        8,
+        62,
+        b"byte 8: 62 BadLop\n",
+    ),
+    // a tetra behind the end, and a second end
+    (
+        &HELLO_OBJECT,
+        b"\0\0\0\0",
+        128,
+        64,
+        b"byte 128: 64 Truncated\n",
+    ),
+    (
+        &HELLO_OBJECT,
+        b"\x98\x0c\0\x0a",
+        124,
+        63,
+        b"byte 124: 63 BadFields\n",
+    ),
+];
 
 #[test]
 fn bad_objects(rt: HostRuntime) -> Result<(), Fail> {
-    let alloc = rt.alloc();
-    let cases: [(&[u32], &[u8], Due); 10] = [
-        // a lopcode that does not exist
-        (
-            &[0x9809_0101, 0, 0x980d_0000],
-            b"",
-            bad(8, 62, b"byte 8: 62 BadLop\n"),
-        ),
-        // no bytes; no `pre`; a byte that is no tetra
-        (&[], b"", bad(0, 64, b"byte 0: 64 Truncated\n")),
-        (&[0], b"", bad(0, 61, b"byte 0: 61 NoPre\n")),
-        (
-            &[0x9809_0101, 0],
-            b"\x98",
-            bad(8, 60, b"byte 8: 60 NotTetras\n"),
-        ),
-        // a count of the trie that is wrong
-        (
-            &[
-                0x9809_0101,
-                0,
-                0x980a_00ff,
-                0,
-                0x100,
-                0x980b_0000,
-                0x980c_0001,
-            ],
-            b"",
-            bad(24, 63, b"byte 24: 63 BadFields\n"),
-        ),
-        // a trie with no symbol and the padding behind it; one whose node has the mark of a wide
-        // character, but no character; one with more than padding behind it
-        (&with_trie(0), b"", done(0, b"")),
-        (
-            &with_trie(0x8000_0000),
-            b"",
-            bad(24, 72, b"byte 24: 72 Wide\n"),
-        ),
-        (
-            &with_trie(0x0040_4040),
-            b"",
-            bad(25, 71, b"byte 25: 71 Padding\n"),
-        ),
-        // a tetra in the stack segment: the place is the tetra's
-        (
-            &[0x9809_0101, 0, 0x9801_6001, 0, 1, 0x980d_0000],
-            b"",
-            bad(16, 95, b"byte 16: 95 BadPlace\n"),
-        ),
-        // the same behind a fault of reading, which comes first
-        (
-            &[0x9809_0101, 0, 0x980d_0000, 0x9801_6001, 0, 1],
-            b"",
-            bad(8, 62, b"byte 8: 62 BadLop\n"),
-        ),
-    ];
-    for (tetras, more, due) in cases {
-        let object = bytes(alloc, tetras, more)?;
-        assert!(rt; sim(alloc, object.as_slice(), due)?);
+    for (tetras, more, place, fault, told) in &BAD {
+        let object = bytes(rt.alloc(), tetras, more)?;
+        assert!(rt; sim(rt.alloc(), object.as_slice(), bad(*place, *fault, told))?);
     }
     Ok(())
 }
 
-#[test]
-fn objects_of_other_tools(rt: HostRuntime) -> Result<(), Fail> {
-    let alloc = rt.alloc();
-    // a time in `pre`, a file that is never named, the halt at #100, a trie with left branches
-    let tetras = [
+/// Objects that are run, to a halt at #100.
+static HALTING: [&[u32]; 2] = [
+    // of another tool: a time in `pre`, a file that is never named, a trie with left branches
+    &[
         0x9809_0101,
         0x36f4_a363,
         0x9801_0001,
@@ -315,25 +327,36 @@ fn objects_of_other_tools(rt: HostRuntime) -> Result<(), Fail> {
         0x6901_6e00,
         0x8100_0000,
         0x980c_0005,
-    ];
-    let object = bytes(alloc, &tetras, b"")?;
-    assert!(rt; sim(alloc, object.as_slice(), done(0, b""))?);
+    ],
+    // a trie with no symbol, and the padding behind it
+    &[
+        0x9809_0101,
+        0,
+        0x980a_00ff,
+        0,
+        0x100,
+        0x980b_0000,
+        0,
+        0x980c_0001,
+    ],
+];
+
+#[test]
+fn objects_that_are_run(rt: HostRuntime) -> Result<(), Fail> {
+    for tetras in &HALTING {
+        let object = bytes(rt.alloc(), tetras, b"")?;
+        assert!(rt; sim(rt.alloc(), object.as_slice(), done(0, b""))?);
+    }
     Ok(())
 }
 
 #[test]
 fn objects_that_are_too_long(rt: HostRuntime) -> Result<(), Fail> {
-    let alloc = rt.alloc();
-    // more than 2^26 bytes come before any other fault
-    let mut object = Vec::new(alloc);
+    let mut object = Vec::new(rt.alloc());
     object.resize((1 << 26) + 1, 0)?;
-    assert!(rt;
-        sim(
-            alloc,
-            object.as_slice(),
-            bad(1 << 26, 65, b"byte 67108864: 65 TooLong\n")
-        )?
-    );
+    // more than 2^26 bytes come before any other fault
+    let due = bad(1 << 26, 65, b"byte 67108864: 65 TooLong\n");
+    assert!(rt; sim(rt.alloc(), object.as_slice(), due)?);
     Ok(())
 }
 
@@ -349,24 +372,21 @@ fn on_pages(alloc: Global, pages: u32) -> Result<Vec<u8>, Fail> {
     Ok(object)
 }
 
+/// Whether an object with a tetra on so many pages comes to what is due.
+fn pages_give(alloc: Global, pages: u32, due: Due) -> Result<bool, Fail> {
+    let object = on_pages(alloc, pages)?;
+    sim(alloc, object.as_slice(), due)
+}
+
 #[test]
 fn full_pages(rt: HostRuntime) -> Result<(), Fail> {
-    let alloc = rt.alloc();
     // with 65,535 pages the arguments have the last one
-    let object = on_pages(alloc, 65535)?;
-    assert!(rt; sim(alloc, object.as_slice(), done(0, b""))?);
+    assert!(rt; pages_give(rt.alloc(), 65535, done(0, b""))?);
     // with 65,536 there is none for them
-    let object = on_pages(alloc, 65536)?;
     let due = stopped(0x100, 118, b"#0000000000000100: 118 PagesFull\n");
-    assert!(rt; sim(alloc, object.as_slice(), due)?);
+    assert!(rt; pages_give(rt.alloc(), 65536, due)?);
     // one more is a fault of the object, at the tetra that needs it
-    let object = on_pages(alloc, 65537)?;
-    assert!(rt;
-        sim(
-            alloc,
-            object.as_slice(),
-            bad(786_448, 90, b"byte 786448: 90 PagesFull\n")
-        )?
-    );
+    let due = bad(786_448, 90, b"byte 786448: 90 PagesFull\n");
+    assert!(rt; pages_give(rt.alloc(), 65537, due)?);
     Ok(())
 }

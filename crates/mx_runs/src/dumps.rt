@@ -1,7 +1,7 @@
 //! Dumps.
 
 use crate::shown::holds;
-use mx_rows::{FIRST, comes_from, done, file, host};
+use mx_rows::{FIRST, comes_from, done, file, host, outcome_over};
 use std::alloc::Global;
 use std::test::Fail;
 
@@ -61,21 +61,21 @@ fn the_first_program_is_dumped(rt: HostRuntime) -> Result<(), Fail> {
 /// Whether the dump of a source on a ring of 256 registers has this line.
 fn shows(alloc: Global, source: &str, line: &str) -> Result<bool, Fail> {
     let mut host = host(alloc, file("a.mms", source.as_bytes()))?;
-    let words = mx_rows::words(alloc, &["run", "--dump", "a.mms"])?;
-    mx_top::mmixware(alloc, words.as_slice(), &mut host);
+    outcome_over(alloc, &mut host, &["run", "--dump", "a.mms"])?;
     Ok(holds(host.output(), line.as_bytes()))
 }
 
+/// Three calls that hide 100 registers each, and a look at rS.
+const LOOKING: &str =
+    "Main PUSHJ $99,@+4\n PUSHJ $99,@+4\n PUSHJ $99,@+4\n GET $255,rS\n TRAP 0,Halt,0";
+
+/// The same without the look.
+const BLIND: &str = "Main PUSHJ $99,@+4\n PUSHJ $99,@+4\n PUSHJ $99,@+4\n TRAP 0,Halt,0";
+
 #[test]
 fn rs_is_dumped_where_a_program_looked_at_it(rt: HostRuntime) -> Result<(), Fail> {
-    let alloc = rt.alloc();
-    let three = "Main PUSHJ $99,@+4\n PUSHJ $99,@+4\n PUSHJ $99,@+4\n";
-    let mut looking = String::from_str(alloc, three)?;
-    looking.push_str(" GET $255,rS\n TRAP 0,Halt,0")?;
-    let mut blind = String::from_str(alloc, three)?;
-    blind.push_str(" TRAP 0,Halt,0")?;
     let line = "rS=#6000000000000168\n";
-    assert!(rt; shows(alloc, looking.as_str(), line)?);
-    assert!(rt; !shows(alloc, blind.as_str(), line)?);
+    assert!(rt; shows(rt.alloc(), LOOKING, line)?);
+    assert!(rt; !shows(rt.alloc(), BLIND, line)?);
     Ok(())
 }

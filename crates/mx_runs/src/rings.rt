@@ -5,7 +5,7 @@ use mx_top::Outcome;
 use std::alloc::Global;
 use std::test::Fail;
 
-const RINGS: [&str; 4] = ["256", "512", "1024", "65536"];
+static RINGS: [&str; 4] = ["256", "512", "1024", "65536"];
 
 /// Whether `run --ring` with this size comes to what is due of a source.
 fn gives_on(alloc: Global, ring: &str, source: &str, due: Due) -> Result<bool, Fail> {
@@ -19,7 +19,7 @@ const DEEP: &str =
 
 #[test]
 fn calls_go_deeper_than_the_ring(rt: HostRuntime) -> Result<(), Fail> {
-    for ring in RINGS {
+    for ring in &RINGS {
         // 45,150 modulo 256
         assert!(rt; gives_on(rt.alloc(), ring, DEEP, done(94, b""))?, "{ring}");
     }
@@ -28,7 +28,7 @@ fn calls_go_deeper_than_the_ring(rt: HostRuntime) -> Result<(), Fail> {
 
 #[test]
 fn the_stack_overfills_at_one_depth(rt: HostRuntime) -> Result<(), Fail> {
-    for ring in RINGS {
+    for ring in &RINGS {
         let due = stopped(0, 114, b"#0000000000000000: 114 StackFull\n");
         assert!(rt;
             gives_on(rt.alloc(), ring, "Main PUSHJ $255,Main", due)?,
@@ -38,36 +38,34 @@ fn the_stack_overfills_at_one_depth(rt: HostRuntime) -> Result<(), Fail> {
     Ok(())
 }
 
+/// How many blocks are generated, and the summary.
+static GENERATED: [(&str, &[u8]); 3] = [
+    ("1", b"blocks 1 bytes 222 steps 290 sum 33923\n"),
+    ("10", b"blocks 10 bytes 854 steps 12571 sum 450159\n"),
+    ("100", b"blocks 100 bytes 7293 steps 159353 sum 5378078\n"),
+];
+
+/// Whether generating so many blocks comes to this summary on each ring.
+fn sums_up(alloc: Global, blocks: &str, summary: &[u8]) -> Result<bool, Fail> {
+    let mut is_due = true;
+    for ring in &RINGS {
+        let words = &["gen", "--ring", ring, blocks];
+        is_due = is_due && comes_from(alloc, file("a", b""), words, done(0, summary))?;
+    }
+    Ok(is_due)
+}
+
 #[test]
-fn rs_shows_what_was_spilled(rt: HostRuntime) -> Result<(), Fail> {
-    let source = "Main PUSHJ $99,@+4\n PUSHJ $99,@+4\n PUSHJ $99,@+4\n GET $255,rS\n TRAP 0,Halt,0";
-    // 45 octas were spilled from a ring of 256, none from a larger one
-    for (ring, status) in [("256", 104), ("512", 0), ("1024", 0)] {
-        assert!(rt;
-            gives_on(rt.alloc(), ring, source, done(status, b""))?,
-            "{ring}"
-        );
+fn generated_programs(rt: HostRuntime) -> Result<(), Fail> {
+    for (blocks, summary) in &GENERATED {
+        assert!(rt; sums_up(rt.alloc(), blocks, summary)?, "{blocks}");
     }
     Ok(())
 }
 
 #[test]
-fn generated_programs(rt: HostRuntime) -> Result<(), Fail> {
-    let alloc = rt.alloc();
-    let cases: [(&str, &[u8]); 3] = [
-        ("1", b"blocks 1 bytes 222 steps 290 sum 33923\n"),
-        ("10", b"blocks 10 bytes 854 steps 12571 sum 450159\n"),
-        ("100", b"blocks 100 bytes 7293 steps 159353 sum 5378078\n"),
-    ];
-    for (blocks, summary) in cases {
-        for ring in RINGS {
-            let words = &["gen", "--ring", ring, blocks];
-            let due = done(0, summary);
-            assert!(rt; comes_from(alloc, file("a", b""), words, due)?, "{blocks}");
-        }
-    }
-    // the summary that can't be written
-    let broken = Given {
+fn summaries_that_cannot_be_written(rt: HostRuntime) -> Result<(), Fail> {
+    let given = Given {
         failing: &[0],
         ..file("a", b"")
     };
@@ -76,6 +74,6 @@ fn generated_programs(rt: HostRuntime) -> Result<(), Fail> {
         output: b"",
         errors: b"host fault\n",
     };
-    assert!(rt; comes_from(alloc, broken, &["gen", "1"], due)?);
+    assert!(rt; comes_from(rt.alloc(), given, &["gen", "1"], due)?);
     Ok(())
 }

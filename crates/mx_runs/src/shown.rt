@@ -1,7 +1,7 @@
 //! Runs on rings of three sizes: how a program ends, and lines of its dump.
 
-use mx_rows::{Due, comes_from, file, host, words};
-use mx_top::{Outcome, mmixware};
+use mx_rows::{Due, comes_from, file, host, outcome_over};
+use mx_top::Outcome;
 use std::alloc::Global;
 use std::test::Fail;
 
@@ -69,8 +69,8 @@ pub fn shows_on(
     lines: &[&str],
 ) -> Result<bool, Fail> {
     let mut host = host(alloc, file("a.mms", source.as_bytes()))?;
-    let words = words(alloc, &["run", "--dump", "--ring", ring, "a.mms"])?;
-    let ended = mmixware(alloc, words.as_slice(), &mut host);
+    let words = &["run", "--dump", "--ring", ring, "a.mms"];
+    let ended = outcome_over(alloc, &mut host, words)?;
     Ok(ended == outcome(end) && holds_all(host.output(), lines))
 }
 

@@ -2,8 +2,8 @@
 
 use crate::shown::End::{Done, Stop};
 use crate::shown::{Row, SIZES, first_other, holds, holds_all, shows_on};
-use mx_rows::{Due, FIRST, Given, HELLO, comes_from, comes_to, done, file, host, words};
-use mx_top::{Outcome, mmixware};
+use mx_rows::{Due, FIRST, Given, HELLO, comes_from, comes_to, done, file, host, outcome_over};
+use mx_top::Outcome;
 use std::alloc::Global;
 use std::test::Fail;
 
@@ -184,20 +184,21 @@ fn programs_leave_their_values(rt: HostRuntime) -> Result<(), Fail> {
 }
 
 /// Three calls that hide 100 registers each; then rS is read.
-static HIDING: &str =
+const HIDING: &str =
     "Main PUSHJ $99,@+4\n PUSHJ $99,@+4\n PUSHJ $99,@+4\n GET $255,rS\n TRAP 0,Halt,0";
+
+/// Rings, the status, and the line of the dump: 45 octas were spilled from a ring of 256, none from a larger one.
+static SPILLED: [(&str, u8, &str); 3] = [
+    ("256", 104, "rS=#6000000000000168\n"),
+    ("512", 0, "rS=#6000000000000000\n"),
+    ("1024", 0, "rS=#6000000000000000\n"),
+];
 
 #[test]
 fn rs_is_dumped_as_it_was_read(rt: HostRuntime) -> Result<(), Fail> {
-    let alloc = rt.alloc();
-    // 45 octas were spilled from a ring of 256, none from a larger one
-    for (ring, status, line) in [
-        ("256", 104, "rS=#6000000000000168\n"),
-        ("512", 0, "rS=#6000000000000000\n"),
-        ("1024", 0, "rS=#6000000000000000\n"),
-    ] {
+    for (ring, status, line) in &SPILLED {
         assert!(rt;
-            shows_on(alloc, ring, HIDING, Done(status), &[line])?,
+            shows_on(rt.alloc(), ring, HIDING, Done(*status), &[line])?,
             "{ring}"
         );
     }
@@ -209,7 +210,7 @@ fn has_pool(alloc: Global, ring: &str) -> Result<bool, Fail> {
     // the fourth octa, which is 0, is the status
     let source = " LOC #104\nMain LDO $255,$1,16\n TRAP 0,Halt,0";
     let mut host = host(alloc, file("p.mms", source.as_bytes()))?;
-    let words = words(alloc, &["run", "--dump", "--ring", ring, "p.mms", "ab"])?;
+    let words = &["run", "--dump", "--ring", ring, "p.mms", "ab"];
     let lines = [
         "$0=#0000000000000002\n",
         "$1=#4000000000000008\n",
@@ -219,7 +220,7 @@ fn has_pool(alloc: Global, ring: &str) -> Result<bool, Fail> {
         "M#4000000000000020=#7000000000000000\n",
         "M#4000000000000028=#6162000000000000\n",
     ];
-    let outcome = mmixware(alloc, words.as_slice(), &mut host);
+    let outcome = outcome_over(alloc, &mut host, words)?;
     Ok(outcome == Outcome::Done(0) && holds_all(host.output(), &lines))
 }
 
@@ -234,12 +235,9 @@ fn arguments_are_in_the_pool(rt: HostRuntime) -> Result<(), Fail> {
 /// Whether ten steps of a loop are spent on a ring, and its tetras are dumped.
 fn spends(alloc: Global, ring: &str) -> Result<bool, Fail> {
     let mut host = host(alloc, file("a.mms", b"Main SWYM\n2H JMP 2F\n2H JMP 2B"))?;
-    let words = words(
-        alloc,
-        &["run", "--dump", "--steps", "10", "--ring", ring, "a.mms"],
-    )?;
+    let words = &["run", "--dump", "--steps", "10", "--ring", ring, "a.mms"];
     let lines = ["M#0000000000000000=#fd000000f0000001\nM#0000000000000008=#f1ffffff00000000\n"];
-    let outcome = mmixware(alloc, words.as_slice(), &mut host);
+    let outcome = outcome_over(alloc, &mut host, words)?;
     let is_spent = outcome == Outcome::StepsSpent { steps: 10 };
     Ok(is_spent && holds_all(host.output(), &lines))
 }
@@ -316,28 +314,29 @@ fn object_holds(alloc: Global, source: &str, part: &[u8]) -> Result<bool, Fail> 
     }
 }
 
+/// Sources, and what stands in their objects.
+static ITEMS: [(&str, &[u8]); 3] = [
+    // the place #100, and there a reference that is filled in at #200, backwards
+    (
+        " LOC #200\nMain BZ $0,x\n LOC #100\nx TRAP 0,Halt,0",
+        b"\x98\x01\x00\x01\x00\x00\x01\x00\x98\x05\x00\x10\x01\x00\xff\xc0",
+    ),
+    // a tetra like a lopcode is quoted
+    (
+        "Main BYTE 1\n LOC 0\n BYTE 3\n TETRA #98000000",
+        b"\x98\x00\x00\x01\x98\x00\x00\x00",
+    ),
+    // the address of an octa is filled in at #2000000000000000
+    (
+        " LOC Data_Segment\n GREG @\nArgs OCTA Buf,8\nBuf OCTA 0\n LOC #100\nMain LDA $255,Args",
+        b"\x98\x03\x20\x01\x00\x00\x00\x00",
+    ),
+];
+
 #[test]
 fn objects_have_their_items(rt: HostRuntime) -> Result<(), Fail> {
-    let alloc = rt.alloc();
-    let cases: [(&str, &[u8]); 3] = [
-        // the place #100, and there a reference that is filled in at #200, backwards
-        (
-            " LOC #200\nMain BZ $0,x\n LOC #100\nx TRAP 0,Halt,0",
-            b"\x98\x01\x00\x01\x00\x00\x01\x00\x98\x05\x00\x10\x01\x00\xff\xc0",
-        ),
-        // a tetra like a lopcode is quoted
-        (
-            "Main BYTE 1\n LOC 0\n BYTE 3\n TETRA #98000000",
-            b"\x98\x00\x00\x01\x98\x00\x00\x00",
-        ),
-        // the address of an octa is filled in at #2000000000000000
-        (
-            " LOC Data_Segment\n GREG @\nArgs OCTA Buf,8\nBuf OCTA 0\n LOC #100\nMain LDA $255,Args",
-            b"\x98\x03\x20\x01\x00\x00\x00\x00",
-        ),
-    ];
-    for (source, part) in cases {
-        assert!(rt; object_holds(alloc, source, part)?, "{source}");
+    for (source, part) in &ITEMS {
+        assert!(rt; object_holds(rt.alloc(), source, part)?, "{source}");
     }
     Ok(())
 }
