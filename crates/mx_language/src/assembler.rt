@@ -1,9 +1,8 @@
 //! Whole sources: the items that they give, and their refusals.
 
-use mx_asm::{AsmFault, Assembler, Refused};
+use mx_asm::{Assembler, Refused};
 use mx_line::cut_line;
 use mx_mmo::{Item, Items};
-use mx_word::Bytes;
 use std::alloc::Global;
 
 /// An item as the number of its kind and a number.
@@ -24,38 +23,64 @@ fn told(item: &Item) -> (u8, u64) {
     }
 }
 
-/// The items and the trie of a source.
-fn assembled(alloc: Global, source: &[u8]) -> Result<(Items, Bytes), Refused> {
+/// Takes the first line of a text, where there is one, and gives the lines behind it.
+fn take_line<'a>(
+    assembler: &mut Assembler,
+    text: &'a [u8],
+    items: &mut Items,
+) -> Result<&'a [u8], Refused> {
+    if text.is_empty() {
+        return Ok(text);
+    }
+    let (line, rest) = cut_line(text);
+    assembler.line(line, items)?;
+    Ok(rest)
+}
+
+/// Takes the lines of a source in turn; it has no more of them than bytes.
+fn take_lines(assembler: &mut Assembler, source: &[u8], items: &mut Items) -> Result<(), Refused> {
+    let mut rest = source;
+    for _line in source {
+        rest = take_line(assembler, rest, items)?;
+    }
+    Ok(())
+}
+
+/// Takes a whole source.
+fn take(assembler: &mut Assembler, source: &[u8], items: &mut Items) -> Result<(), Refused> {
+    take_lines(assembler, source, items)?;
+    assembler.finish(items)?;
+    Ok(())
+}
+
+/// The items of a source.
+fn assembled(alloc: Global, source: &[u8]) -> Result<Items, Refused> {
     let mut assembler = Assembler::new(alloc)?;
     let mut items = Items::new(alloc);
-    let mut rest = source;
-    for _line in 0..source.len() {
-        if rest.is_empty() {
-            break;
-        }
-        let (line, others) = cut_line(rest);
-        assembler.line(line, &mut items)?;
-        rest = others;
+    take(&mut assembler, source, &mut items)?;
+    Ok(items)
+}
+
+/// Whether these are the items in their order.
+fn are(items: &[Item], want: &[(u8, u64)]) -> bool {
+    if items.len() != want.len() {
+        return false;
     }
-    let trie = assembler.finish(&mut items)?;
-    Ok((items, trie))
+    for (item, want) in items.iter().zip(want) {
+        if told(item) != *want {
+            return false;
+        }
+    }
+    true
 }
 
-/// Whether items are these, behind those that stand first and before those that stand last.
-fn are(items: &Items, want: &[(u8, u64)]) -> bool {
-    let items = items.as_slice();
-    items.len() == want.len() + 4
-        && items
-            .iter()
-            .skip(2)
-            .zip(want)
-            .all(|(item, want)| told(item) == *want)
-}
-
-/// Whether the items of a source are these.
+/// Whether the items of a source are these, behind the two that stand first and before the two that stand last.
 fn gives(alloc: Global, source: &[u8], want: &[(u8, u64)]) -> bool {
     match assembled(alloc, source) {
-        Ok((items, _)) => are(&items, want),
+        Ok(items) => match items.as_slice() {
+            [_, _, middle @ .., _, _] => are(middle, want),
+            _ => false,
+        },
         Err(_) => false,
     }
 }

@@ -11,21 +11,37 @@ fn span(places: &(usize, usize)) -> Span {
     }
 }
 
+/// Texts, each of them what the one above leaves, their first lines and what these leave: a last newline
+/// begins no line.
+static TEXTS: [(&str, &str, &str); 3] = [
+    ("ab\n\nc\n", "ab", "\nc\n"),
+    ("\nc\n", "", "c\n"),
+    ("c\n", "c", ""),
+];
+
+/// Whether a text has this first line and leaves this.
+fn begins_with(text: &str, line: &str, rest: &str) -> bool {
+    if text.is_empty() {
+        return false;
+    }
+    cut_line(text.as_bytes()) == (line.as_bytes(), rest.as_bytes())
+}
+
 #[test]
 fn lines_and_parts(rt: HostRuntime) {
-    // a last newline begins no line
-    let mut rest = b"ab\n\nc\n".as_slice();
-    for want in ["ab", "", "c"] {
-        assert!(rt; !rest.is_empty(), "{want}");
-        let (line, others) = cut_line(rest);
-        assert_eq!(rt; line, want.as_bytes());
-        rest = others;
+    for (text, line, rest) in &TEXTS {
+        assert!(rt; begins_with(text, line, rest), "{text}");
     }
-    assert!(rt; rest.is_empty());
-    assert_eq!(rt;
-        part(b"Main BYTE 1", Span { from: 5, to: 9 }),
-        b"BYTE".as_slice()
-    );
+    let operation = part(b"Main BYTE 1", Span { from: 5, to: 9 });
+    assert_eq!(rt; operation, b"BYTE".as_slice());
+}
+
+/// What is found from a place of a line on; nothing where the line has no such place.
+fn found(line: &str, at: usize) -> Option<Result<Option<Cut>, LineFault>> {
+    if at > line.len() {
+        return None;
+    }
+    Some(next_statement(line.as_bytes(), at))
 }
 
 /// The statement of a row.
@@ -78,10 +94,9 @@ static STATEMENTS: [Row; 6] = [
 fn statements_of_lines(rt: HostRuntime) {
     for row in &STATEMENTS {
         let (line, at, ..) = row;
-        assert!(rt; *at <= line.len(), "{line} has place {at}");
         assert_eq!(rt;
-            next_statement(line.as_bytes(), *at),
-            Ok(Some(cut(row))),
+            found(line, *at),
+            Some(Ok(Some(cut(row)))),
             "{line} at {at}"
         );
     }
@@ -110,22 +125,27 @@ static EMPTY: [(&str, usize); 9] = [
     (" SWYM;", 6),
 ];
 
+/// The place after a first statement whose operation ends at place 5 and that has no operands.
+fn after_bare(line: &str) -> Option<usize> {
+    match found(line, 0) {
+        Some(Ok(Some(cut))) if cut.op.to == 5 && cut.operands.from == cut.operands.to => Some(
+            cut.next,
+        ),
+        _ => None,
+    }
+}
+
 #[test]
 fn statements_without_operands(rt: HostRuntime) {
     for (line, next) in &BARE {
-        let found = next_statement(line.as_bytes(), 0);
-        let empty = matches!(&found, Ok(Some(cut)) if cut.operands.from == cut.operands.to);
-        assert!(rt; empty, "{line}");
-        let after = matches!(&found, Ok(Some(cut)) if cut.op.to == 5 && cut.next == *next);
-        assert!(rt; after, "{line}");
+        assert_eq!(rt; after_bare(line), Some(*next), "{line}");
     }
+}
+
+#[test]
+fn lines_without_statements(rt: HostRuntime) {
     for (line, at) in &EMPTY {
-        assert!(rt; *at <= line.len(), "{line} has place {at}");
-        assert_eq!(rt;
-            next_statement(line.as_bytes(), *at),
-            Ok(None),
-            "{line} at {at}"
-        );
+        assert_eq!(rt; found(line, *at), Some(Ok(None)), "{line} at {at}");
     }
 }
 
@@ -151,13 +171,11 @@ static FAULTY: [(&str, usize, LineFault, u16); 15] = [
 #[test]
 fn faulty_lines(rt: HostRuntime) {
     for (line, at, fault, number) in &FAULTY {
-        assert!(rt; *at <= line.len(), "{line} has place {at}");
         assert_eq!(rt;
-            next_statement(line.as_bytes(), *at),
-            Err(*fault),
+            (found(line, *at), fault.number()),
+            (Some(Err(*fault)), *number),
             "{line} at {at}"
         );
-        assert_eq!(rt; fault.number(), *number, "{line}");
     }
 }
 
@@ -171,7 +189,12 @@ fn stars(alloc: Global, count: usize) -> Option<Result<Option<Cut>, LineFault>> 
 
 #[test]
 fn long_lines(rt: HostRuntime) {
-    assert_eq!(rt; stars(rt.alloc(), 4096), Some(Ok(None)));
-    assert_eq!(rt; stars(rt.alloc(), 4097), Some(Err(LineFault::TooLong)));
-    assert_eq!(rt; LineFault::TooLong.number(), 1);
+    assert_eq!(rt;
+        (
+            stars(rt.alloc(), 4096),
+            stars(rt.alloc(), 4097),
+            LineFault::TooLong.number()
+        ),
+        (Some(Ok(None)), Some(Err(LineFault::TooLong)), 1)
+    );
 }

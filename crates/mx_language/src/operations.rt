@@ -3,7 +3,10 @@
 use mx_ops::{Op, Pseudo, Shape, find, name, predefined, shape_of};
 
 /// The first code of a row, how many codes each of its names has, and the names.
-static ROWS: [(u8, u8, &str); 23] = [
+type Row = (u8, u8, &'static str);
+
+/// The 256 codes and their names.
+static ROWS: [Row; 23] = [
     (0x00, 1, "TRAP FCMP FUN FEQL FADD FIX FSUB FIXU"),
     (0x08, 2, "FLOT FLOTU SFLOT SFLOTU"),
     (0x10, 1, "FMUL FCMPE FUNE FEQLE FDIV FSQRT FREM FINT"),
@@ -50,20 +53,49 @@ static OTHERS: [(&str, Option<Op>); 16] = [
     ("", None),
 ];
 
-#[test]
-fn names_and_codes(rt: HostRuntime) {
-    let mut code = 0;
-    for (first, each, names) in &ROWS {
-        assert_eq!(rt; code, *first, "the first code of a row");
-        for text in names.split(' ') {
-            assert_eq!(rt; find(text.as_bytes()), Some(Op::Code(code)), "{text}");
-            for _ in 0..*each {
-                assert_eq!(rt; name(code), text, "{code}");
-                code = code.wrapping_add(1);
-            }
+/// Whether so many codes from this one on have a name, and the name is found as this one.
+fn are_named(code: u8, each: u8, text: &str) -> bool {
+    for other in 0..each {
+        if name(code.wrapping_add(other)) != text {
+            return false;
         }
     }
-    assert_eq!(rt; code, 0, "there are 256 codes");
+    find(text.as_bytes()) == Some(Op::Code(code))
+}
+
+/// The code behind those of a row, or its first name that is not that of its codes.
+fn code_behind(row: &Row) -> Result<u8, &'static str> {
+    let (first, each, names) = row;
+    let mut code = *first;
+    for text in names.split(' ') {
+        if !are_named(code, *each, text) {
+            return Err(text);
+        }
+        code = code.wrapping_add(*each);
+    }
+    Ok(code)
+}
+
+/// The code behind those of all rows, or the first name that is out of its place.
+fn code_behind_all() -> Result<u8, &'static str> {
+    let mut code = 0;
+    for row in &ROWS {
+        if row.0 != code {
+            return Err(row.2);
+        }
+        code = code_behind(row)?;
+    }
+    Ok(code)
+}
+
+#[test]
+fn names_and_codes(rt: HostRuntime) {
+    // there are 256 codes
+    assert_eq!(rt; code_behind_all(), Ok(0));
+}
+
+#[test]
+fn other_names(rt: HostRuntime) {
     for (text, want) in &OTHERS {
         assert_eq!(rt; find(text.as_bytes()), *want, "{text}");
     }
@@ -166,15 +198,27 @@ static VALUES: [(&str, Option<u64>); 25] = [
     ("", None),
 ];
 
+/// The first of these names whose value is not its place among them.
+fn misnumbered(names: &'static str) -> Option<&'static str> {
+    let mut value = 0_u64;
+    for text in names.split(' ') {
+        if predefined(text.as_bytes()) != Some(value) {
+            return Some(text);
+        }
+        value = value.wrapping_add(1);
+    }
+    None
+}
+
+#[test]
+fn numbered_symbols(rt: HostRuntime) {
+    for names in &NUMBERED {
+        assert_eq!(rt; misnumbered(names), None);
+    }
+}
+
 #[test]
 fn predefined_symbols(rt: HostRuntime) {
-    for names in &NUMBERED {
-        let mut value = 0_u64;
-        for text in names.split(' ') {
-            assert_eq!(rt; predefined(text.as_bytes()), Some(value), "{text}");
-            value = value.wrapping_add(1);
-        }
-    }
     for (text, want) in &VALUES {
         assert_eq!(rt; predefined(text.as_bytes()), *want, "{text}");
     }

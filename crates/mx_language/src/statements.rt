@@ -9,8 +9,11 @@ use mx_line::next_statement;
 use mx_names::{NameFault, Names};
 use mx_ops::{Op, Shape, find, shape_of};
 use mx_stmt::{Effect, Env, Gregs, Label, Placed, StmtFault, encode, read_statement};
-use mx_word::{Awaited, Bytes, NoMemory, Value, WaitKind, tetra_of};
-use rows::{EFFECTS, FAULTY, FORMS, Outline, PSEUDO_OPERATIONS};
+use mx_word::{Awaited, Value, Wait, WaitKind, tetra_of};
+use rows::{
+    EFFECTS, ENDS, FAULTY, FORMS, NEAREST, Outline, PREFIXED, PSEUDO_OPERATIONS, REFERENCES,
+    Referring, Target,
+};
 use std::alloc::Global;
 use std::process::Abort;
 
@@ -38,12 +41,40 @@ fn placed(
     }
 }
 
-/// The tetra of an instruction, or the number of its fault.
-fn word(alloc: Global, names: &Names, gregs: &Gregs, at: u64, text: &[u8]) -> Result<u32, u16> {
-    match placed(alloc, names, gregs, at, text)?.bytes.as_slice() {
+/// The names behind a prefix, where the last 2H was at 4.
+fn names_behind(alloc: Global, prefix: &str) -> Result<Names, NameFault> {
+    let mut names = Names::new(alloc)?;
+    names.set_prefix(prefix.as_bytes())?;
+    names.define_local(2, Value::Pure(4));
+    Ok(names)
+}
+
+/// The same behind a prefix.
+fn placed_behind(
+    alloc: Global,
+    prefix: &str,
+    gregs: &Gregs,
+    at: u64,
+    text: &str,
+) -> Result<Placed, u16> {
+    match names_behind(alloc, prefix) {
+        Ok(names) => placed(alloc, &names, gregs, at, text.as_bytes()),
+        Err(fault) => Err(fault.number()),
+    }
+}
+
+/// The tetra that stands alone in these bytes.
+fn tetra(bytes: &[u8]) -> Result<u32, u16> {
+    match bytes {
         [a, b, c, d] => Ok(tetra_of([*a, *b, *c, *d])),
         _ => Err(0),
     }
+}
+
+/// The tetra of an instruction at a place behind a prefix, or the number of its fault.
+fn word(alloc: Global, prefix: &str, gregs: &Gregs, at: u64, text: &str) -> Result<u32, u16> {
+    let placed = placed_behind(alloc, prefix, gregs, at, text)?;
+    tetra(placed.bytes.as_slice())
 }
 
 /// $254 has the value #2000000000000000, and $253 the value 0.
@@ -54,35 +85,52 @@ fn two_gregs() -> Gregs {
     gregs
 }
 
-/// Sees that statements at a place come to these tetras, or have these faults.
-fn words_are(rt: &impl Abort, alloc: Global, at: u64, rows: &[(&str, Result<u32, u16>)]) {
-    let Ok(names) = Names::new(alloc) else {
-        assert!(rt; false, "out of memory");
-        return;
-    };
-    let gregs = two_gregs();
+/// Sees that statements at a place behind a prefix come to these tetras, or have these faults.
+fn words_are(
+    rt: &impl Abort,
+    alloc: Global,
+    prefix: &str,
+    gregs: &Gregs,
+    at: u64,
+    rows: &[(&str, Result<u32, u16>)],
+) {
     for (line, want) in rows {
-        assert_eq!(rt;
-            word(alloc, &names, &gregs, at, line.as_bytes()),
-            *want,
-            "{line}"
-        );
+        assert_eq!(rt; word(alloc, prefix, gregs, at, line), *want, "{line}");
     }
 }
 
 #[test]
 fn forms_of_operands(rt: HostRuntime) {
-    words_are(&rt, rt.alloc(), 0xff, &FORMS);
+    words_are(&rt, rt.alloc(), ":", &two_gregs(), 0xff, &FORMS);
 }
 
 #[test]
 fn first_faults(rt: HostRuntime) {
-    words_are(&rt, rt.alloc(), 0x6000_0000_0000_0000, &FAULTY);
+    let at = 0x6000_0000_0000_0000;
+    words_are(&rt, rt.alloc(), ":", &two_gregs(), at, &FAULTY);
+}
+
+#[test]
+fn predefined_symbols_behind_a_prefix(rt: HostRuntime) {
+    words_are(&rt, rt.alloc(), ":p:", &Gregs::new(), 0, &PREFIXED);
+}
+
+/// $254 has the value 8, and $253 the value -4.
+fn near_gregs() -> Gregs {
+    let mut gregs = Gregs::new();
+    gregs.set(254, 8);
+    gregs.set(253, 0xffff_ffff_ffff_fffc);
+    gregs
+}
+
+#[test]
+fn nearest_bases(rt: HostRuntime) {
+    words_are(&rt, rt.alloc(), ":", &near_gregs(), 0, &NEAREST);
 }
 
 /// What a statement at #101 comes to, or the number of its fault.
-fn outline(alloc: Global, names: &Names, gregs: &Gregs, text: &[u8]) -> Result<Outline, u16> {
-    let placed = placed(alloc, names, gregs, 0x101, text)?;
+fn outline(alloc: Global, gregs: &Gregs, text: &str) -> Result<Outline, u16> {
+    let placed = placed_behind(alloc, ":", gregs, 0x101, text)?;
     Ok((
         placed.start,
         placed.bytes.as_slice().len(),
@@ -91,263 +139,139 @@ fn outline(alloc: Global, names: &Names, gregs: &Gregs, text: &[u8]) -> Result<O
     ))
 }
 
-/// Sees that statements at #101 come to this, or have these faults.
-fn outlines_are(rt: &impl Abort, alloc: Global, rows: &[(&str, Result<Outline, u16>)]) {
-    let Ok(names) = Names::new(alloc) else {
-        assert!(rt; false, "out of memory");
-        return;
-    };
+#[test]
+fn pseudo_operations(rt: HostRuntime) {
     let gregs = two_gregs();
-    for (line, want) in rows {
-        assert_eq!(rt;
-            outline(alloc, &names, &gregs, line.as_bytes()),
-            *want,
-            "{line}"
-        );
+    for (line, want) in &PSEUDO_OPERATIONS {
+        assert_eq!(rt; outline(rt.alloc(), &gregs, line), *want, "{line}");
     }
 }
 
-#[test]
-fn pseudo_operations(rt: HostRuntime) {
-    outlines_are(&rt, rt.alloc(), &PSEUDO_OPERATIONS);
+/// Whether a reference waits for this name or local label.
+fn waits_for(who: &Awaited, want: &Target) -> bool {
+    match (who, want) {
+        (Awaited::Name(full), Target::Name(name)) => full.as_slice() == name.as_bytes(),
+        (Awaited::Local(label), Target::Local(digit)) => label == digit,
+        _ => false,
+    }
 }
 
 /// Whether these references, in this order, are what a statement waits for.
-fn waits_are(placed: &Placed, want: &[(Awaited, u64, WaitKind)]) -> bool {
-    let waits = placed.waits.as_slice();
+fn waits_are(waits: &[Wait], want: &[(Target, u64, WaitKind)]) -> bool {
     if waits.len() != want.len() {
         return false;
     }
-    waits.iter().zip(want).all(|(wait, want)| wait.who.is_same(&want.0)
-        && wait.at == want.1
-        && wait.kind == want.2)
-}
-
-/// A name to wait for.
-fn name(alloc: Global, text: &[u8]) -> Result<Awaited, NoMemory> {
-    Ok(Awaited::Name(Bytes::copy(alloc, text)?))
-}
-
-/// Whether a statement comes to these bytes, and waits for these references.
-fn comes_to(
-    alloc: Global,
-    names: &Names,
-    at: u64,
-    text: &[u8],
-    bytes: &[u8],
-    waits: &[(Awaited, u64, WaitKind)],
-) -> bool {
-    match placed(alloc, names, &Gregs::new(), at, text) {
-        Ok(placed) => placed.bytes.as_slice() == bytes && waits_are(&placed, waits),
-        Err(_) => false,
+    for (wait, (target, at, kind)) in waits.iter().zip(want) {
+        if !waits_for(&wait.who, target) || wait.at != *at || wait.kind != *kind {
+            return false;
+        }
     }
+    true
+}
+
+/// Whether the statement of a row comes to its bytes, and whether it waits for its references.
+fn comes_to(alloc: Global, row: &Referring) -> Result<(bool, bool), u16> {
+    let (at, text, bytes, waits) = row;
+    let placed = placed_behind(alloc, ":", &Gregs::new(), *at, text)?;
+    Ok((
+        placed.bytes.as_slice() == *bytes,
+        waits_are(placed.waits.as_slice(), waits),
+    ))
 }
 
 #[test]
-fn references_to_names(rt: HostRuntime) {
-    let alloc = rt.alloc();
-    let (Ok(names), Ok(x), Ok(buf)) = (Names::new(alloc), name(alloc, b":x"), name(alloc, b":Buf"))
-    else {
-        assert!(rt; false, "out of memory");
-        return;
-    };
-    // a branch to a name that is not known, with zero for it
-    let branch = comes_to(
-        alloc,
-        &names,
-        0,
-        b"Main BZ $0,x",
-        &[0x42, 0, 0, 0],
-        &[(x, 0, WaitKind::Near)],
-    );
-    assert!(rt; branch, "a branch");
-    // references in OCTA, in their order
-    let octas = comes_to(
-        alloc,
-        &names,
-        0x100,
-        b"1H OCTA (Buf),8,1F",
-        &[
-            0, 0, 0, 0, 0, 0, 0, 0, 0, 0, 0, 0, 0, 0, 0, 8, 0, 0, 0, 0, 0, 0, 0, 0,
-        ],
-        &[
-            (buf, 0x100, WaitKind::Octa),
-            (Awaited::Local(1), 0x110, WaitKind::Octa),
-        ],
-    );
-    assert!(rt; octas, "octas");
-}
-
-#[test]
-fn references_to_local_labels(rt: HostRuntime) {
-    let alloc = rt.alloc();
-    let Ok(mut names) = Names::new(alloc) else {
-        assert!(rt; false, "out of memory");
-        return;
-    };
-    names.define_local(2, Value::Pure(4));
-    // a jump on a line labelled 2H waits for the next 2H, and one to 2B is backward
-    let ahead = comes_to(
-        alloc,
-        &names,
-        4,
-        b"2H JMP ((2F))",
-        &[0xf0, 0, 0, 0],
-        &[(Awaited::Local(2), 4, WaitKind::Far)],
-    );
-    assert!(rt; ahead, "ahead");
-    let back = comes_to(
-        alloc,
-        &names,
-        8,
-        b"2H JMP 2B",
-        &[0xf1, 0xff, 0xff, 0xff],
-        &[],
-    );
-    assert!(rt; back, "back");
-}
-
-/// Whether the effect of a statement is this one: of a prefix its length, of a register its number.
-fn effect_is(placed: &Placed, kind: &str, number: usize) -> bool {
-    match &placed.effect {
-        Effect::Plain => kind == "plain",
-        Effect::Prefix(full) => kind == "prefix" && full.as_slice().len() == number,
-        Effect::Greg { reg, .. } => kind == "greg" && usize::from(*reg) == number,
-        Effect::Local(reg) => kind == "local" && usize::from(*reg) == number,
+fn references(rt: HostRuntime) {
+    for row in &REFERENCES {
+        assert_eq!(rt; comes_to(rt.alloc(), row), Ok((true, true)), "{}", row.1);
     }
 }
 
-/// Whether a statement has this effect.
-fn has_effect(alloc: Global, names: &Names, text: &[u8], kind: &str, number: usize) -> bool {
-    match placed(alloc, names, &Gregs::new(), 0, text) {
-        Ok(placed) => effect_is(&placed, kind, number),
-        Err(_) => false,
+/// An effect by its kind and a number: of a prefix its length, of a register its own.
+fn told(effect: &Effect) -> (&'static str, usize) {
+    match effect {
+        Effect::Plain => ("plain", 0),
+        Effect::Prefix(full) => ("prefix", full.as_slice().len()),
+        Effect::Greg { reg, .. } => ("greg", usize::from(*reg)),
+        Effect::Local(reg) => ("local", usize::from(*reg)),
     }
 }
 
-/// The names where the prefix is `:p:`.
-fn prefixed(alloc: Global) -> Result<Names, NameFault> {
-    let mut names = Names::new(alloc)?;
-    names.set_prefix(b"p:")?;
-    Ok(names)
+/// The effect of a statement behind the prefix `:p:`, or the number of its fault.
+fn effect_of(alloc: Global, text: &str) -> Result<(&'static str, usize), u16> {
+    let placed = placed_behind(alloc, ":p:", &Gregs::new(), 0, text)?;
+    Ok(told(&placed.effect))
 }
 
 #[test]
 fn effects_of_statements(rt: HostRuntime) {
-    let Ok(names) = prefixed(rt.alloc()) else {
-        assert!(rt; false, "out of memory");
-        return;
-    };
-    for (line, kind, number) in EFFECTS {
-        let has = has_effect(rt.alloc(), &names, line.as_bytes(), kind, number);
-        assert!(rt; has, "{line}");
+    for (line, kind, number) in &EFFECTS {
+        assert_eq!(rt; effect_of(rt.alloc(), line), Ok((*kind, *number)), "{line}");
     }
 }
 
-#[test]
-fn predefined_symbols_behind_a_prefix(rt: HostRuntime) {
-    let Ok(names) = prefixed(rt.alloc()) else {
-        assert!(rt; false, "out of memory");
-        return;
-    };
-    let gregs = Gregs::new();
-    assert_eq!(rt;
-        word(rt.alloc(), &names, &gregs, 0, b"x TRAP 0,Halt,0"),
-        Err(17)
-    );
-    assert_eq!(rt;
-        word(rt.alloc(), &names, &gregs, 0, b":Main TRAP 0,:Halt,0"),
-        Ok(0)
-    );
-}
-
 /// The start of a statement and the place after it, or the number of its fault.
-fn places(alloc: Global, at: u64, text: &[u8]) -> Result<(u64, u64), u16> {
-    let Ok(names) = Names::new(alloc) else {
-        return Err(0);
-    };
-    let placed = placed(alloc, &names, &Gregs::new(), at, text)?;
+fn places(alloc: Global, at: u64, text: &str) -> Result<(u64, u64), u16> {
+    let placed = placed_behind(alloc, ":", &Gregs::new(), at, text)?;
     Ok((placed.start, placed.after))
 }
 
 #[test]
 fn ends_of_the_addresses(rt: HostRuntime) {
-    let last = 0x5fff_ffff_ffff_ffff;
-    assert_eq!(rt; places(rt.alloc(), last, b" BYTE 1"), Ok((last, last + 1)));
-    assert_eq!(rt; places(rt.alloc(), last, b" BYTE 1,2"), Err(49));
-    assert_eq!(rt; places(rt.alloc(), u64::MAX, b" TETRA 1"), Ok((0, 4)));
-    assert_eq!(rt; places(rt.alloc(), u64::MAX - 7, b" BYTE 1"), Err(49));
-}
-
-#[test]
-fn nearest_bases(rt: HostRuntime) {
-    let Ok(names) = Names::new(rt.alloc()) else {
-        assert!(rt; false, "out of memory");
-        return;
-    };
-    let mut gregs = Gregs::new();
-    gregs.set(254, 8);
-    gregs.set(253, 0xffff_ffff_ffff_fffc);
-    // 5 lies 9 above -4 and below 8; 9 lies 1 above 8 and 13 above -4
-    assert_eq!(rt;
-        word(rt.alloc(), &names, &gregs, 0, b" LDO $1,5"),
-        Ok(0x8d01_fd09)
-    );
-    assert_eq!(rt;
-        word(rt.alloc(), &names, &gregs, 0, b" LDO $1,9"),
-        Ok(0x8d01_fe01)
-    );
+    for (at, line, want) in &ENDS {
+        assert_eq!(rt; places(rt.alloc(), *at, line), *want, "{line} at {at}");
+    }
 }
 
 /// Operands that the shape of a code takes, with the first code of its name or the second.
-fn operands_of(shape: Shape, second: bool) -> &'static [u8] {
+fn operands_of(shape: Shape, second: bool) -> &'static str {
     match (shape, second) {
-        (Shape::Three | Shape::Regs | Shape::Mem, false) => b"$1,$2,$3",
-        (Shape::Three | Shape::Regs | Shape::Mem, true) => b"$1,$2,3",
-        (Shape::Round | Shape::Neg, false) => b"$1,2,$3",
-        (Shape::Round | Shape::Neg, true) => b"$1,2,3",
-        (Shape::Rel, false) => b"$1,@+4",
-        (Shape::Rel, true) => b"$1,@-4",
-        (Shape::MemPure, false) => b"1,$2,$3",
-        (Shape::MemPure, true) => b"1,$2,3",
-        (Shape::Jump, false) => b"@+4",
-        (Shape::Jump, true) => b"@-4",
-        (Shape::Put, false) => b"4,$5",
-        (Shape::Put, true) => b"4,5",
-        (Shape::Wyde | Shape::Get | Shape::Save, _) => b"$1,2",
-        (Shape::Unsave, _) => b"0,$1",
-        (Shape::Pop | Shape::One | Shape::Free, _) => b"1",
+        (Shape::Three | Shape::Regs | Shape::Mem, false) => "$1,$2,$3",
+        (Shape::Three | Shape::Regs | Shape::Mem, true) => "$1,$2,3",
+        (Shape::Round | Shape::Neg, false) => "$1,2,$3",
+        (Shape::Round | Shape::Neg, true) => "$1,2,3",
+        (Shape::Rel, false) => "$1,@+4",
+        (Shape::Rel, true) => "$1,@-4",
+        (Shape::MemPure, false) => "1,$2,$3",
+        (Shape::MemPure, true) => "1,$2,3",
+        (Shape::Jump, false) => "@+4",
+        (Shape::Jump, true) => "@-4",
+        (Shape::Put, false) => "4,$5",
+        (Shape::Put, true) => "4,5",
+        (Shape::Wyde | Shape::Get | Shape::Save, _) => "$1,2",
+        (Shape::Unsave, _) => "0,$1",
+        (Shape::Pop | Shape::One | Shape::Free, _) => "1",
     }
 }
 
-/// The code of an instruction with the name of a code and operands for it, or the number of a fault.
-fn code_of(alloc: Global, names: &Names, code: u8) -> Result<u32, u16> {
-    let Some(Op::Code(lowest)) = find(mx_ops::name(code).as_bytes()) else {
-        return Err(0);
-    };
-    let Ok(mut line) = Bytes::copy(alloc, b" ") else {
-        return Err(0);
-    };
-    let operands = operands_of(shape_of(code), code != lowest);
-    if line.extend(mx_ops::name(code).as_bytes()).is_err()
-        || line.push(b' ').is_err()
-        || line.extend(operands).is_err()
-    {
-        return Err(0);
+/// The lowest code of the instruction of this name.
+fn lowest_code(name: &str) -> Option<u8> {
+    match find(name.as_bytes()) {
+        Some(Op::Code(code)) => Some(code),
+        _ => None,
     }
-    Ok(word(alloc, names, &Gregs::new(), 0x100, line.as_slice())? >> 24)
+}
+
+/// A statement of an operation and operands, with ample memory.
+fn line_of(alloc: Global, operation: &str, operands: &str) -> Option<String> {
+    format!(in alloc; " {operation} {operands}").ok()
+}
+
+/// The code of an instruction with the name of a code and operands for it, or the number of a fault.
+fn code_of(alloc: Global, code: u8) -> Result<u32, u16> {
+    let operation = mx_ops::name(code);
+    let operands = operands_of(shape_of(code), lowest_code(operation) != Some(code));
+    match line_of(alloc, operation, operands) {
+        Some(line) => Ok(word(alloc, ":", &Gregs::new(), 0x100, line.as_str())? >> 24),
+        None => Err(0),
+    }
 }
 
 #[test]
 fn each_code(rt: HostRuntime) {
-    let Ok(names) = Names::new(rt.alloc()) else {
-        assert!(rt; false, "out of memory");
-        return;
-    };
     // each code by its name and operands that ask for it
     for code in 0..=255 {
         assert_eq!(rt;
-            code_of(rt.alloc(), &names, code),
+            code_of(rt.alloc(), code),
             Ok(u32::from(code)),
             "code {code}"
         );
@@ -355,11 +279,9 @@ fn each_code(rt: HostRuntime) {
 }
 
 /// The label of a GREG with these registers, or the number of its fault.
-fn greg(alloc: Global, gregs: &Gregs, text: &[u8]) -> Result<Option<Value>, u16> {
-    let Ok(names) = Names::new(alloc) else {
-        return Err(0);
-    };
-    Ok(placed(alloc, &names, gregs, 0, text)?.label)
+fn greg(alloc: Global, gregs: &Gregs, text: &str) -> Result<Option<Value>, u16> {
+    let placed = placed_behind(alloc, ":", gregs, 0, text)?;
+    Ok(placed.label)
 }
 
 /// $G to $254 have their numbers as values.
@@ -374,35 +296,51 @@ fn numbered_gregs(g: u8) -> Gregs
     gregs
 }
 
+/// A label, or the number of a fault.
+type Labelled = Result<Option<Value>, u16>;
+
+/// The label of the last register; then, with the lowest one, that of one more and of one that is there.
+fn last_registers(alloc: Global) -> (Labelled, u8, Labelled, Labelled) {
+    let mut gregs = numbered_gregs(33);
+    let last = greg(alloc, &gregs, "x GREG 0");
+    gregs.set(32, 0);
+    (
+        last,
+        gregs.lowest(),
+        greg(alloc, &gregs, "x GREG 0"),
+        greg(alloc, &gregs, "x GREG 33"),
+    )
+}
+
 #[test]
 fn registers_run_out(rt: HostRuntime) {
-    let mut gregs = numbered_gregs(33);
-    assert_eq!(rt;
-        greg(rt.alloc(), &gregs, b"x GREG 0"),
-        Ok(Some(Value::Reg(32)))
-    );
-    gregs.set(32, 0);
-    assert_eq!(rt; gregs.lowest(), 32);
-    assert_eq!(rt; greg(rt.alloc(), &gregs, b"x GREG 0"), Err(47));
-    assert_eq!(rt;
-        greg(rt.alloc(), &gregs, b"x GREG 33"),
-        Ok(Some(Value::Reg(33)))
-    );
+    let last = Ok(Some(Value::Reg(32)));
+    let same = Ok(Some(Value::Reg(33)));
+    assert_eq!(rt; last_registers(rt.alloc()), (last, 32, Err(47), same));
+}
+
+/// Whether the label of the first statement of line 7 is 2H, its line, its operation, and how many
+/// operands it has.
+fn read(alloc: Global, text: &[u8]) -> Option<(bool, u32, Op, usize)> {
+    let Ok(Some(cut)) = next_statement(text, 0) else {
+        return None;
+    };
+    let statement = read_statement(alloc, text, &cut, 7).ok()?;
+    Some((
+        matches!(statement.label, Some(Label::Local(2))),
+        statement.line,
+        statement.op,
+        statement.operands.as_slice().len(),
+    ))
 }
 
 #[test]
 fn statements_read(rt: HostRuntime) {
-    let text = b"2H LDA $1,2";
-    let Ok(Some(cut)) = next_statement(text, 0) else {
-        assert!(rt; false, "a statement");
-        return;
-    };
-    let Ok(statement) = read_statement(rt.alloc(), text, &cut, 7) else {
-        assert!(rt; false, "out of memory");
-        return;
-    };
-    assert!(rt; matches!(statement.label, Some(Label::Local(2))));
-    assert_eq!(rt; (statement.line, statement.op), (7, Op::Lda));
-    assert_eq!(rt; statement.operands.as_slice().len(), 2);
-    assert_eq!(rt; StmtFault::OutOfMemory.number(), 0);
+    assert_eq!(rt;
+        (
+            read(rt.alloc(), b"2H LDA $1,2"),
+            StmtFault::OutOfMemory.number()
+        ),
+        (Some((true, 7, Op::Lda, 2)), 0)
+    );
 }

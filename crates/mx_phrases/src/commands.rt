@@ -2,12 +2,11 @@
 
 use mx_cmd::{Breaks, Command, Subject, command_of};
 use mx_text::Form;
-use std::test::Fail;
 
 const BASE: u64 = 0x6000_0000_0000_0000;
 
 /// Lines, and the commands that they are.
-const LINES: [(&str, Option<Command>); 40] = [
+static LINES: [(&str, Option<Command>); 40] = [
     ("", Some(Command::Step)),
     ("n", Some(Command::Step)),
     ("c", Some(Command::Continue)),
@@ -118,9 +117,8 @@ const LINES: [(&str, Option<Command>); 40] = [
 ];
 
 #[test]
-fn lines_are_commands(rt: HostRuntime) -> Result<(), Fail> {
-    for (line, command) in LINES {
-        assert_eq!(rt; command_of(line.as_bytes()), command, "{line}");
+fn lines_are_commands(rt: HostRuntime) {
+    for (line, command) in &LINES {
+        assert_eq!(rt; command_of(line.as_bytes()), *command, "{line}");
     }
-    Ok(())
 }

@@ -1,13 +1,12 @@
 //! The words, row by row.
 
-use mx_ring::RingSize;
-use mx_words::{Command, Order, WordsFault, read};
-use std::alloc::Global;
-use std::process::Abort;
-use std::test::Fail;
+use mx_words::{Command, Order, read};
+use std::alloc::{AllocError, Global};
 
 /// Words with one blank between two of them, and their fault.
-const FAULTS: [(&str, u16, usize); 42] = [
+static FAULTS: [(&str, u16, usize); 43] = [
+    // no word
+    ("", 1, 0),
     // the command
     ("go", 2, 0),
     ("RUN a.mms", 2, 0),
@@ -63,7 +62,7 @@ const FAULTS: [(&str, u16, usize); 42] = [
 type Fields = (Command, u32, u64, bool, bool, usize, usize, u64);
 
 /// Words with one blank between two of them, and their order.
-const ORDERS: [(&str, Fields); 17] = [
+static ORDERS: [(&str, Fields); 17] = [
     (
         "run a.mms",
         (Command::Run, 256, 1_000_000_000, false, false, 1, 2, 0),
@@ -136,43 +135,53 @@ const ORDERS: [(&str, Fields); 17] = [
     ),
 ];
 
-/// What the words of a line order.
-fn read_line(rt: &impl Abort, alloc: Global, line: &str) -> Result<Order, WordsFault> {
+/// The words of a line; an empty line has none.
+fn words(alloc: Global, line: &str) -> Result<Vec<String>, AllocError> {
     let mut words = Vec::new(alloc);
-    for word in line.split(' ') {
-        words
-            .push(String::from_str(alloc, word).expect(rt, "memory"))
-            .expect(rt, "memory");
+    if line.is_empty() {
+        return Ok(words);
     }
-    read(words.as_slice())
+    for word in line.split(' ') {
+        words.push(String::from_str(alloc, word)?)?;
+    }
+    Ok(words)
+}
+
+/// The fields of an order.
+fn fields(order: &Order) -> Fields {
+    (
+        order.command,
+        order.ring.registers(),
+        order.steps,
+        order.interactive,
+        order.dump,
+        order.file,
+        order.rest,
+        order.number,
+    )
+}
+
+/// What the words of a line order, or the kind and the word of their fault; 0 where there is no memory.
+fn told(alloc: Global, line: &str) -> Result<Fields, (u16, usize)> {
+    let Ok(words) = words(alloc, line) else {
+        return Err((0, 0));
+    };
+    match read(words.as_slice()) {
+        Ok(order) => Ok(fields(&order)),
+        Err(fault) => Err((fault.kind, fault.word)),
+    }
 }
 
 #[test]
 fn faults(rt: HostRuntime) {
-    assert_eq!(rt; read(&[]), Err(WordsFault { kind: 1, word: 0 }));
-    for (line, kind, word) in FAULTS {
-        assert_eq!(rt;
-            read_line(&rt, rt.alloc(), line),
-            Err(WordsFault { kind, word }),
-            "{line}"
-        );
+    for (line, kind, word) in &FAULTS {
+        assert_eq!(rt; told(rt.alloc(), line), Err((*kind, *word)), "{line}");
     }
 }
 
 #[test]
-fn orders(rt: HostRuntime) -> Result<(), Fail> {
-    for (line, (command, registers, steps, interactive, dump, file, rest, number)) in ORDERS {
-        let want = Order {
-            command,
-            ring: RingSize::of(registers).expect(&rt, "a size"),
-            steps,
-            interactive,
-            dump,
-            file,
-            rest,
-            number,
-        };
-        assert_eq!(rt; read_line(&rt, rt.alloc(), line), Ok(want), "{line}");
+fn orders(rt: HostRuntime) {
+    for (line, order) in &ORDERS {
+        assert_eq!(rt; told(rt.alloc(), line), Ok(*order), "{line}");
     }
-    Ok(())
 }

@@ -1,6 +1,6 @@
 //! Statements, and what they come to.
 
-use mx_word::Value;
+use mx_word::{Value, WaitKind};
 
 /// Each shape with each of its forms, and with a fault of each kind that it can have: the tetra at #ff.
 pub(crate) static FORMS: [(&str, Result<u32, u16>); 63] = [
@@ -97,6 +97,19 @@ pub(crate) static FAULTY: [(&str, Result<u32, u16>); 20] = [
     (" BYTE 256", Err(43)),
 ];
 
+/// Statements behind the prefix `:p:`, where a predefined symbol is written with its colon.
+pub(crate) static PREFIXED: [(&str, Result<u32, u16>); 2] = [
+    ("x TRAP 0,Halt,0", Err(17)),
+    (":Main TRAP 0,:Halt,0", Ok(0)),
+];
+
+/// Statements where $254 is 8 and $253 is -4.
+pub(crate) static NEAREST: [(&str, Result<u32, u16>); 2] = [
+    // 5 lies 9 above -4 and below 8; 9 lies 1 above 8 and 13 above -4
+    (" LDO $1,5", Ok(0x8d01_fd09)),
+    (" LDO $1,9", Ok(0x8d01_fe01)),
+];
+
 /// What a statement comes to: its start, its number of bytes, its label's value and the next place.
 pub(crate) type Outline = (u64, usize, Option<Value>, u64);
 
@@ -159,4 +172,63 @@ pub(crate) static EFFECTS: [(&str, &str, usize); 4] = [
     (" PREFIX q", "prefix", 4),
     (" GREG 8", "greg", 254),
     (" LOCAL $99", "local", 99),
+];
+
+/// What a reference waits for: a complete name, or a local label.
+pub(crate) enum Target {
+    Name(&'static str),
+    Local(u8),
+}
+
+/// A place, a statement there, its bytes, and what it waits for: for what, where and how.
+pub(crate) type Referring = (
+    u64,
+    &'static str,
+    &'static [u8],
+    &'static [(Target, u64, WaitKind)],
+);
+
+/// Statements with references, where the last 2H was at 4.
+pub(crate) static REFERENCES: [Referring; 4] = [
+    // a branch to a name that is not known, with zero for it
+    (
+        0,
+        "Main BZ $0,x",
+        &[0x42, 0, 0, 0],
+        &[(Target::Name(":x"), 0, WaitKind::Near)],
+    ),
+    // references in OCTA, in their order
+    (
+        0x100,
+        "1H OCTA (Buf),8,1F",
+        &[
+            0, 0, 0, 0, 0, 0, 0, 0, 0, 0, 0, 0, 0, 0, 0, 8, 0, 0, 0, 0, 0, 0, 0, 0,
+        ],
+        &[
+            (Target::Name(":Buf"), 0x100, WaitKind::Octa),
+            (Target::Local(1), 0x110, WaitKind::Octa),
+        ],
+    ),
+    // a jump on a line labelled 2H waits for the next 2H, and one to 2B is backward
+    (
+        4,
+        "2H JMP ((2F))",
+        &[0xf0, 0, 0, 0],
+        &[(Target::Local(2), 4, WaitKind::Far)],
+    ),
+    (8, "2H JMP 2B", &[0xf1, 0xff, 0xff, 0xff], &[]),
+];
+
+/// The last address at which a statement may stand, before the negative ones.
+const LAST: u64 = 0x5fff_ffff_ffff_ffff;
+
+/// A place, a statement there, and its start and the place after it, or the number of its fault.
+type Ended = (u64, &'static str, Result<(u64, u64), u16>);
+
+/// Statements at the ends of the addresses.
+pub(crate) static ENDS: [Ended; 4] = [
+    (LAST, " BYTE 1", Ok((LAST, LAST + 1))),
+    (LAST, " BYTE 1,2", Err(49)),
+    (u64::MAX, " TETRA 1", Ok((0, 4))),
+    (u64::MAX - 7, " BYTE 1", Err(49)),
 ];
