@@ -97,6 +97,19 @@ static ROWS: [Row; 43] = [
     (Write(259, b"lost"), Failed, "call 42 fails"),
 ];
 
+/// Standard output and error, the files `in`, `out` and `none`, and the number of calls.
+type Left<'a> = (&'a [u8], &'a [u8], Files<'a>, u64);
+
+type Files<'a> = (Option<&'a [u8]>, Option<&'a [u8]>, Option<&'a [u8]>);
+
+/// What the calls leave.
+static LEFT: Left<'static> = (
+    b"hi!",
+    b"e",
+    (Some(b"abcdef"), Some(b"\0\0\0\0\0\0z"), None),
+    43,
+);
+
 fn refused(fault: HostFault) -> Answer {
     match fault {
         HostFault::Failed => Answer::Failed,
@@ -170,20 +183,24 @@ fn check<H: Host>(rt: &impl Abort, host: &mut H, rows: &[Row]) {
     }
 }
 
+/// What a host has.
+fn left(host: &MemHost) -> Left<'_> {
+    (
+        host.output(),
+        host.errors(),
+        (host.file(b"in"), host.file(b"out"), host.file(b"none")),
+        host.calls(),
+    )
+}
+
+/// Sees what the calls leave.
+fn is_left(rt: &impl Abort, host: &MemHost) {
+    assert_eq!(rt; left(host), LEFT);
+}
+
 #[test]
 fn calls_answer_by_the_rules(rt: HostRuntime) {
     let mut host = start(&rt, rt.alloc());
     check(&rt, &mut host, &ROWS);
-    assert_eq!(rt;
-        (host.output(), host.errors(), host.calls()),
-        (b"hi!".as_slice(), b"e".as_slice(), 43)
-    );
-    assert_eq!(rt;
-        (host.file(b"in"), host.file(b"out"), host.file(b"none")),
-        (
-            Some(b"abcdef".as_slice()),
-            Some(b"\0\0\0\0\0\0z".as_slice()),
-            None
-        )
-    );
+    is_left(&rt, &host);
 }

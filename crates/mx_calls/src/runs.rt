@@ -118,12 +118,22 @@ fn machine(rt: &impl Abort, alloc: Global) -> Machine {
     machine
 }
 
-/// How a run with these flags at an address ends, and how many steps it makes.
-fn run(rt: &impl Abort, alloc: Global, a: u64, flags: Flags, n: u64, pass: bool) -> (End, u64) {
+/// A runner of the program, with flags at an address.
+fn runner(rt: &impl Abort, alloc: Global, a: u64, flags: Flags) -> Runner {
     let mut runner = Runner::new(alloc, machine(rt, alloc));
     runner.set_flags(a, flags).expect(rt, "memory");
-    let mut host = MemHost::new(alloc, Vec::new(alloc), Vec::new(alloc)).expect(rt, "memory");
-    let end = runner.go(alloc, &mut host, n, pass);
+    runner
+}
+
+/// A host without input and files.
+fn host(rt: &impl Abort, alloc: Global) -> MemHost {
+    MemHost::new(alloc, Vec::new(alloc), Vec::new(alloc)).expect(rt, "memory")
+}
+
+/// How a run with these flags at an address ends, and how many steps it makes.
+fn run(rt: &impl Abort, alloc: Global, a: u64, flags: Flags, n: u64, pass: bool) -> (End, u64) {
+    let mut runner = runner(rt, alloc, a, flags);
+    let end = runner.go(alloc, &mut host(rt, alloc), n, pass);
     (end, runner.machine().steps())
 }
 

@@ -32,8 +32,9 @@ const MINUS_ONE: u64 = u64::MAX;
 /// Ftell p is what $255 has.
 type Row = (u8, u8, u64, u64, TrapAnswer, &'static str);
 
-/// The standard streams, and misuses of them.
-static STREAMS: [Row; 17] = [
+/// What the services do, one call after another.
+static SERVICES: [Row; 35] = [
+    // the standard streams, and misuses of them
     (7, 1, HI, 0, Value(3), "a text is written"),
     (7, 0, HI, 0, Value(MINUS_ONE), "but not to standard input"),
     (6, 2, HI, 2, Value(0), "two bytes to standard error"),
@@ -65,10 +66,7 @@ static STREAMS: [Row; 17] = [
     ),
     (2, 0, 0, 0, Value(0), "a slot is closed"),
     (2, 0, 0, 0, Value(MINUS_ONE), "once"),
-];
-
-/// A file is made, written, read and closed.
-static FILES: [Row; 18] = [
+    // a file is made, written, read and closed
     (1, 3, NONE, 2, Value(MINUS_ONE), "there is no such file"),
     (1, 3, OUT, 5, Value(MINUS_ONE), "there is no such mode"),
     (2, 3, 0, 0, Value(MINUS_ONE), "so the slot is not open"),
@@ -88,6 +86,10 @@ static FILES: [Row; 18] = [
     (10, 3, 0, 0, Value(MINUS_ONE), "has no place"),
     (6, 3, HI, 3, Value(MINUS_ONE - 2), "and is for reading"),
 ];
+
+/// What the services leave: standard output and error, and the octas at the end of a page and on the
+/// next page.
+static LEFT: (&[u8], &[u8], (u64, u64)) = (b"hi\n", b"hi", (0x6869, 0x0a00_0000_0000_0000));
 
 /// Stops, in the order in which they are tried.
 static STOPS: [Row; 14] = [
@@ -139,6 +141,13 @@ static TOUCHES: [(u64, u64, u8, bool); 11] = [
     (0, 0x6000_0000_0000_0000, 5, false),
     (0, 0x6000_0000_0000_0000, 9, false),
     (3 << 61, 0, 0, true),
+];
+
+/// Those arguments, and the last octa of Stack_Segment.
+static AT_THE_END: [(u64, u64); 3] = [
+    (ARGS, 0x5fff_ffff_ffff_ffff),
+    (ARGS + 8, 1),
+    (0x5fff_ffff_ffff_ffff, 1),
 ];
 
 /// Input, a failing call, Y, the answer, and the octa of the buffer, for 8 bytes from standard input.
@@ -246,15 +255,18 @@ fn call(
     trap(alloc, memory, host, &call)
 }
 
-/// Makes these calls, one after another.
-fn check(rt: &impl Abort, alloc: Global, memory: &mut Memory, host: &mut MemHost, rows: &[Row]) {
+/// A memory and a host after these calls, one after another, over an input.
+fn after(rt: &impl Abort, alloc: Global, input: &[u8], rows: &[Row]) -> (Memory, MemHost) {
+    let mut memory = texts(rt, alloc);
+    let mut host = start(rt, alloc, input, 99);
     for (y, z, p, q, want, what) in rows {
         assert_eq!(rt;
-            call(rt, alloc, memory, host, *y, *z, *p, *q),
+            call(rt, alloc, &mut memory, &mut host, *y, *z, *p, *q),
             *want,
             "{what}"
         );
     }
+    (memory, host)
 }
 
 /// What a call comes to over an input, where the call of the host with a number fails: its answer,
@@ -288,51 +300,53 @@ fn reads_standard_input(rt: HostRuntime) {
     }
 }
 
+/// Sees what the services leave.
+fn is_left(rt: &impl Abort, memory: &Memory, host: &MemHost) {
+    let octas = (memory.load(EDGE), memory.load(EDGE + 2));
+    assert_eq!(rt; (host.output(), host.errors(), octas), LEFT);
+}
+
 #[test]
 fn services_answer_by_the_table(rt: HostRuntime) {
-    let mut memory = texts(&rt, rt.alloc());
-    let mut host = start(&rt, rt.alloc(), b"a\nbcd", 99);
-    check(&rt, rt.alloc(), &mut memory, &mut host, &STREAMS);
-    assert_eq!(rt;
-        (host.output(), host.errors()),
-        (b"hi\n".as_slice(), b"hi".as_slice())
-    );
-    check(&rt, rt.alloc(), &mut memory, &mut host, &FILES);
-    assert_eq!(rt;
-        (memory.load(EDGE), memory.load(EDGE + 2)),
-        (0x6869, 0x0a00_0000_0000_0000),
-        "the end of a page, and the next page"
-    );
+    let (memory, host) = after(&rt, rt.alloc(), b"a\nbcd", &SERVICES);
+    is_left(&rt, &memory, &host);
+}
+
+/// How many calls a host has had after these.
+fn calls_after(rt: &impl Abort, alloc: Global, rows: &[Row]) -> u64 {
+    let (_, host) = after(rt, alloc, b"", rows);
+    host.calls()
 }
 
 #[test]
 fn stops(rt: HostRuntime) {
-    let mut memory = texts(&rt, rt.alloc());
-    let mut host = start(&rt, rt.alloc(), b"", 99);
-    check(&rt, rt.alloc(), &mut memory, &mut host, &STOPS);
-    assert_eq!(rt; host.calls(), 2, "calls of the host come last");
+    let calls = calls_after(&rt, rt.alloc(), &STOPS);
+    assert_eq!(rt; calls, 2, "calls of the host come last");
+}
+
+#[test]
+fn numbers_of_stops(rt: HostRuntime) {
     for (stop, number) in &NUMBERS {
         assert_eq!(rt; stop.number(), *number);
     }
 }
 
+/// What a call comes to with nothing in memory, and how many calls the host had.
+fn answer_alone(rt: &impl Abort, alloc: Global, word: u32, arg: u64) -> (TrapAnswer, u64) {
+    let call = TrapCall { pc: 0, word, arg };
+    let mut host = start(rt, alloc, b"", 99);
+    let answer = trap(alloc, &mut Memory::new(alloc), &mut host, &call);
+    (answer, host.calls())
+}
+
 #[test]
 fn calls_that_are_none(rt: HostRuntime) {
-    let mut memory = Memory::new(rt.alloc());
-    let mut host = start(&rt, rt.alloc(), b"", 99);
     for (word, arg, want, what) in &NO_CALLS {
-        let call = TrapCall {
-            pc: 0,
-            word: *word,
-            arg: *arg,
-        };
+        // calls of the host come last
         assert_eq!(rt;
-            (
-                trap(rt.alloc(), &mut memory, &mut host, &call),
-                host.calls()
-            ),
+            answer_alone(&rt, rt.alloc(), *word, *arg),
             (*want, 0),
-            "{what}; calls of the host come last"
+            "{what}"
         );
     }
 }
@@ -340,8 +354,7 @@ fn calls_that_are_none(rt: HostRuntime) {
 #[test]
 fn touches_of_the_stack_segment(rt: HostRuntime) {
     let mut memory = Memory::new(rt.alloc());
-    let p = 0x5fff_ffff_ffff_ffff;
-    store(&rt, &mut memory, &[(ARGS, p), (ARGS + 8, 1), (p, 1)]);
+    store(&rt, &mut memory, &AT_THE_END);
     for (pc, arg, y, want) in &TOUCHES {
         let call = TrapCall {
             pc: *pc,
