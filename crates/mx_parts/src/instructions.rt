@@ -357,12 +357,20 @@ fn products_and_quotients(rt: HostRuntime) {
     }
 }
 
+/// What a row of `CONDITIONS` says of the condition of a code.
+fn is_wanted(conditions: &[u8; 8], code: u8) -> bool {
+    conditions[usize::from(code / 2 % 8)] == 1
+}
+
 #[test]
 fn conditions(rt: HostRuntime) {
     for (x, wanted) in &CONDITIONS {
-        for code in 0x40..0x80u8 {
-            let holds = wanted[usize::from(code / 2 % 8)] == 1;
-            assert_eq!(rt; truth(code, *x), holds, "code {code} of {x}");
+        for code in 0x40..0x80 {
+            assert_eq!(rt;
+                truth(code, *x),
+                is_wanted(wanted, code),
+                "code {code} of {x}"
+            );
         }
     }
 }

@@ -29,10 +29,14 @@ static QUOTIENTS: [(u64, u64, u64, Option<(u64, u64)>); 5] = [
 ];
 
 #[test]
-fn products_and_quotients(rt: HostRuntime) {
+fn products(rt: HostRuntime) {
     for (x, y, want) in &PRODUCTS {
         assert_eq!(rt; product(*x, *y), *want, "{x} times {y}");
     }
+}
+
+#[test]
+fn quotients(rt: HostRuntime) {
     for (d, y, z, want) in &QUOTIENTS {
         assert_eq!(rt; quotient(*d, *y, *z), *want, "{d} and {y} by {z}");
     }
@@ -81,18 +85,30 @@ static SIGNED: [(u64, i64); 4] = [
     ((1 << 63) - 1, i64::MAX),
 ];
 
+/// An octa and a tetra, and their bytes.
+static WORDS: ([u8; 8], u64, [u8; 4], u32) = (
+    [1, 2, 3, 4, 5, 6, 7, 0xf8],
+    0x0102_0304_0506_07f8,
+    [0xf5, 0xff, 0xff, 1],
+    0xf5ff_ff01,
+);
+
 #[test]
 fn bytes_of_words(rt: HostRuntime) {
-    let octa = [1, 2, 3, 4, 5, 6, 7, 0xf8];
+    let (eight, octa, four, tetra) = &WORDS;
     assert_eq!(rt;
-        (octa_bytes(0x0102_0304_0506_07f8), octa_of(octa)),
-        (octa, 0x0102_0304_0506_07f8)
+        (
+            octa_bytes(*octa),
+            octa_of(*eight),
+            tetra_bytes(*tetra),
+            tetra_of(*four)
+        ),
+        WORDS
     );
-    let tetra = [0xf5, 0xff, 0xff, 1];
-    assert_eq!(rt;
-        (tetra_bytes(0xf5ff_ff01), tetra_of(tetra)),
-        (tetra, 0xf5ff_ff01)
-    );
+}
+
+#[test]
+fn signed_octas(rt: HostRuntime) {
     for (x, want) in &SIGNED {
         assert_eq!(rt; signed(*x), *want, "{x}");
     }
@@ -145,6 +161,11 @@ fn only_symbol(symbols: &Symbols) -> Option<(&[u8], Value, u32)> {
     }
 }
 
+/// The name of the last symbol, taken out of its list.
+fn taken_name(rt: &impl Abort, symbols: Symbols) -> Bytes {
+    symbols.into_vec().pop().expect(rt, "a symbol").name
+}
+
 /// The only reference of a list, without what it waits for.
 fn only_wait(waits: &Waits) -> Option<(u64, u32, WaitKind)> {
     match waits.as_slice() {
@@ -153,31 +174,56 @@ fn only_wait(waits: &Waits) -> Option<(u64, u32, WaitKind)> {
     }
 }
 
-/// Whether the only reference of a list waits for this.
-fn waits_for(waits: &Waits, who: &Awaited) -> bool {
+/// Whether the only reference of a list waits for local labels 2 and 3, and for a name.
+fn waits_for(waits: &Waits, name: Bytes) -> [bool; 3] {
     match waits.as_slice() {
-        [wait] => wait.who.is_same(who),
-        _ => false,
+        [wait] => [
+            wait.who.is_same(&Awaited::Local(2)),
+            wait.who.is_same(&Awaited::Local(3)),
+            wait.who.is_same(&Awaited::Name(name)),
+        ],
+        _ => [false; 3],
     }
+}
+
+/// The bytes, the symbol, the reference, and what it waits for.
+type Lists<'a> = (
+    &'a [u8],
+    Option<(&'a [u8], Value, u32)>,
+    Option<(u64, u32, WaitKind)>,
+    [bool; 3],
+);
+
+static LISTS: Lists<'static> = (
+    b"abcde\0\0z",
+    Some((b":a", Value::Reg(1), 1)),
+    Some((256, 3, WaitKind::Near)),
+    [true, false, false],
+);
+
+/// Compares the lists with `LISTS`.
+fn lists_are(
+    rt: &impl Abort,
+    bytes: &Bytes,
+    symbols: &Symbols,
+    waits: &Waits,
+    waits_for: [bool; 3],
+) {
+    assert_eq!(rt;
+        (
+            bytes.as_slice(),
+            only_symbol(symbols),
+            only_wait(waits),
+            waits_for
+        ),
+        LISTS
+    );
 }
 
 #[test]
 fn lists_with_ample_memory(rt: HostRuntime) {
     let alloc = rt.alloc();
-    assert_eq!(rt; bytes(&rt, alloc).as_slice(), b"abcde\0\0z".as_slice());
-    assert_eq!(rt;
-        only_symbol(&symbols(&rt, alloc)),
-        Some((b":a".as_slice(), Value::Reg(1), 1))
-    );
     let waits = waits(&rt, alloc);
-    let named = Awaited::Name(copy(&rt, alloc, b":a"));
-    assert_eq!(rt;
-        (
-            only_wait(&waits),
-            waits_for(&waits, &Awaited::Local(2)),
-            waits_for(&waits, &Awaited::Local(3)),
-            waits_for(&waits, &named)
-        ),
-        (Some((256, 3, WaitKind::Near)), true, false, false)
-    );
+    let kinds = waits_for(&waits, taken_name(&rt, symbols(&rt, alloc)));
+    lists_are(&rt, &bytes(&rt, alloc), &symbols(&rt, alloc), &waits, kinds);
 }

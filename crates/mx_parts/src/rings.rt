@@ -2,7 +2,7 @@
 
 mod rows;
 
-use mx_ring::{Ring, RingFault, RingSize};
+use mx_ring::{Ring, RingFault, RingSize, Saved};
 use rows::{BASE, CALLS, END, FRAMES, FULL, GLOBALS, Op, Row, SHORT_FRAMES, SPECIALS};
 use std::alloc::Global;
 use std::process::Abort;
@@ -64,8 +64,7 @@ fn check(rt: &impl Abort, ring: &mut Ring, rows: &[Row]) {
 fn operations(rt: HostRuntime) {
     for size in &SIZES {
         for rows in [CALLS.as_slice(), &GLOBALS, &FRAMES, &SHORT_FRAMES] {
-            let mut ring = ring(&rt, rt.alloc(), *size);
-            check(&rt, &mut ring, rows);
+            check(&rt, &mut ring(&rt, rt.alloc(), *size), rows);
         }
     }
 }
@@ -77,20 +76,17 @@ fn push(rt: &impl Abort, ring: &mut Ring, x: u8, count: u32) {
     }
 }
 
-/// POP 0,0 so many times.
-fn pop(rt: &impl Abort, ring: &mut Ring, count: u32) {
-    for _ in 0..count {
-        ring.pop(0).expect(rt, "a caller");
-    }
+/// Fills the stack, and sees what is refused then.
+fn fill(rt: &impl Abort, ring: &mut Ring) {
+    push(rt, ring, 254, 4112);
+    check(rt, ring, &FULL);
+    assert_eq!(rt; (ring.ro(), ring.rs()), (END, END));
 }
 
 #[test]
 fn a_full_stack(rt: HostRuntime) {
     for size in &SIZES {
-        let mut ring = ring(&rt, rt.alloc(), *size);
-        push(&rt, &mut ring, 254, 4112);
-        check(&rt, &mut ring, &FULL);
-        assert_eq!(rt; (ring.ro(), ring.rs()), (END, END));
+        fill(&rt, &mut ring(&rt, rt.alloc(), *size));
     }
 }
 
@@ -114,25 +110,41 @@ fn come_back(rt: &impl Abort, ring: &mut Ring) {
     }
 }
 
+/// SETL $1,300; PUSHJ $0,Rec, down to the last routine.
+fn deepest(rt: &impl Abort, alloc: Global, size: u32) -> Ring {
+    let mut ring = ring(rt, alloc, size);
+    ring.set(1, 300).expect(rt, "room");
+    ring.push(0).expect(rt, "room");
+    go_down(rt, &mut ring);
+    ring
+}
+
+/// The hidden registers at the last routine, and L, $0 and rO once all are done.
+fn sum(rt: &impl Abort, alloc: Global, size: u32) -> (u32, u8, u64, u64) {
+    let mut ring = deepest(rt, alloc, size);
+    let hidden = ring.hidden();
+    ring.pop(1).expect(rt, "a caller");
+    come_back(rt, &mut ring);
+    (hidden, ring.l(), ring.get(0), ring.ro())
+}
+
 /// The sum of the numbers up to 300 by a routine that calls itself: SETL $1,300; PUSHJ $0,Rec; and
 /// Rec: BZ $0,1F; GET $1,rJ; SUBU $3,$0,1; PUSHJ $2,Rec; ADDU $0,$0,$2; PUT rJ,$1; 1H POP 1,0.
 #[test]
 fn a_recursive_sum(rt: HostRuntime) {
     for size in &SIZES {
-        let mut ring = ring(&rt, rt.alloc(), *size);
-        ring.set(1, 300).expect(&rt, "room");
-        ring.push(0).expect(&rt, "room");
-        go_down(&rt, &mut ring);
-        assert_eq!(rt; ring.hidden(), 901);
-        ring.pop(1).expect(&rt, "a caller");
-        come_back(&rt, &mut ring);
-        assert_eq!(rt; (ring.l(), ring.get(0), ring.ro()), (1, 45150, BASE));
+        assert_eq!(rt; sum(&rt, rt.alloc(), *size), (901, 1, 45150, BASE));
     }
 }
 
-/// The registers of a ring, how many of them are spilled once 300 are hidden, and what $0 is when
-/// they are back, where the first octa of the stack area was 3 and became 7.
-static SPILLS: [(u32, u32, u64); 4] = [(256, 45, 7), (512, 0, 3), (1024, 0, 3), (65_536, 0, 3)];
+/// The registers of a ring, how many of them are spilled once 300 are hidden, the octa that is then at
+/// the start of the stack area, and what $0 is when they are back, where that octa became 7.
+static SPILLS: [(u32, u32, u64, u64); 4] = [
+    (256, 45, 3, 7),
+    (512, 0, 0, 3),
+    (1024, 0, 0, 3),
+    (65_536, 0, 0, 3),
+];
 
 /// A ring where $0 is 3, $1 is 5 and L is 2, after PUSHJ $99 three times.
 fn calls(rt: &impl Abort, alloc: Global, size: u32) -> Ring {
@@ -143,29 +155,49 @@ fn calls(rt: &impl Abort, alloc: Global, size: u32) -> Ring {
     ring
 }
 
-/// The octa at the start of the stack area before and after it becomes 7.
-fn overwritten(ring: &mut Ring) -> (u64, u64) {
-    let old = ring.stack_octa(0);
+/// The hidden and the spilled registers, rS, and the octa at the start of the stack area before and
+/// after it becomes 7.
+type Spilled = (u32, u32, u64, u64, u64);
+
+fn spilled(ring: &mut Ring) -> Spilled {
+    let (hidden, spilled, rs) = (ring.hidden(), ring.spilled(), ring.rs());
+    let first = ring.stack_octa(0);
     ring.set_stack_octa(0, 7);
-    (old, ring.stack_octa(0))
+    (hidden, spilled, rs, first, ring.stack_octa(0))
+}
+
+/// $0, $1 and the spilled registers after POP 0,0 three times, and what UNSAVE then gives.
+type Returned = (u64, u64, u32, Result<Saved, RingFault>);
+
+fn returned(rt: &impl Abort, ring: &mut Ring) -> Returned {
+    for _ in 0..3 {
+        ring.pop(0).expect(rt, "a caller");
+    }
+    let (below, next) = (ring.get(0), ring.get(1));
+    // UNSAVE reads the stack area, also above what is spilled: G 0 there is no frame
+    (below, next, ring.spilled(), ring.unsave(BASE + 8 * 299))
+}
+
+/// What is seen while 300 registers are hidden, and once they are back.
+fn there_and_back(rt: &impl Abort, alloc: Global, size: u32) -> (Spilled, Returned) {
+    let mut ring = calls(rt, alloc, size);
+    (spilled(&mut ring), returned(rt, &mut ring))
 }
 
 /// PUSHJ $99 three times with L = 2 leaves 300 hidden registers. Where the ring has 256 registers, 45
 /// of them are spilled, and what is written there comes back; where it has more, none is.
 #[test]
 fn spilled_registers(rt: HostRuntime) {
-    for (size, spilled, below) in &SPILLS {
-        let mut ring = calls(&rt, rt.alloc(), *size);
+    for (size, spilled, first, below) in &SPILLS {
+        let rs = BASE + 8 * u64::from(*spilled);
         assert_eq!(rt;
-            (ring.hidden(), ring.spilled(), ring.rs()),
-            (300, *spilled, BASE + 8 * u64::from(*spilled))
+            there_and_back(&rt, rt.alloc(), *size),
+            (
+                (300, *spilled, rs, *first, 7),
+                (*below, 5, 0, Err(RingFault::BadFrame))
+            ),
+            "a ring of {size}"
         );
-        let first = if *spilled > 0 { 3 } else { 0 };
-        assert_eq!(rt; overwritten(&mut ring), (first, 7));
-        pop(&rt, &mut ring, 3);
-        assert_eq!(rt; (ring.get(0), ring.get(1), ring.spilled()), (*below, 5, 0));
-        // UNSAVE reads the stack area, also above what is spilled: G 0 there is no frame
-        assert_eq!(rt; ring.unsave(BASE + 8 * 299), Err(RingFault::BadFrame));
     }
 }
 
