@@ -1,7 +1,6 @@
 //! The flags of tetras: what is set, and what is found then.
 
 use mx_run::{FlagMap, Flags};
-use std::test::Fail;
 
 pub(crate) const NONE: Flags = Flags {
     r: false,
@@ -40,15 +39,20 @@ static SET: [(u64, Flags, Option<(u64, Flags)>); 6] = [
 ];
 
 #[test]
-fn sets_and_finds_flags(rt: HostRuntime) -> Result<(), Fail> {
+fn sets_and_finds_flags(rt: HostRuntime) {
     let mut flags = FlagMap::new(rt.alloc());
-    for (a, set, found) in SET {
-        flags.set_flags(a, set)?;
-        assert_eq!(rt; flags.flags(a), set, "at {a}");
-        assert_eq!(rt; flags.next_flagged(0x104), found, "after {a}");
-        // an address within a tetra is not its own address
-        assert_eq!(rt; flags.next_flagged(0x101), found, "after {a}");
+    for (a, set, found) in &SET {
+        flags.set_flags(*a, *set).expect(&rt, "memory");
+        // #101 lies within a tetra, and is not its own address
+        assert_eq!(rt;
+            (
+                flags.flags(*a),
+                flags.next_flagged(0x104),
+                flags.next_flagged(0x101)
+            ),
+            (*set, *found, *found),
+            "after {a}"
+        );
     }
     assert_eq!(rt; (flags.flags(0x103), flags.flags(0x104)), (EXECUTE, NONE));
-    Ok(())
 }

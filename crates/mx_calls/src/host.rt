@@ -5,10 +5,8 @@ use Call::{Close, Open, Read, Seek, Tell, Write};
 use mx_host::{Host, HostFault, MemHost, Mode, OpenFault};
 use std::alloc::Global;
 use std::process::Abort;
-use std::test::Fail;
 
 /// One call; a read asks for 4 bytes.
-#[derive(Clone, Copy)]
 enum Call {
     Open(u16, &'static [u8], Mode),
     Close(u16),
@@ -33,8 +31,9 @@ enum Answer {
 /// A call, what it answers, and what that shows.
 type Row = (Call, Answer, &'static str);
 
-/// Reading and seeking in a file that is there.
-const READING: [Row; 19] = [
+/// The calls, one after another.
+static ROWS: [Row; 43] = [
+    // reading and seeking in a file that is there
     (
         Open(3, b"none", Mode::TextRead),
         Absent,
@@ -62,10 +61,7 @@ const READING: [Row; 19] = [
     ),
     (Seek(4, 0), Misused, "does not move"),
     (Tell(4), Misused, "and tells no place"),
-];
-
-/// Making, extending, changing and emptying a file.
-const WRITING: [Row; 15] = [
+    // making, extending, changing and emptying a file
     (
         Open(5, b"out", Mode::BinaryReadWrite),
         Done,
@@ -89,10 +85,7 @@ const WRITING: [Row; 15] = [
     (Close(5), Done, "a slot is closed"),
     (Close(5), Misused, "once"),
     (Read(5), Misused, "and reads nothing then"),
-];
-
-/// The standard streams.
-const STREAMS: [Row; 9] = [
+    // the standard streams
     (Read(0), Bytes(4, *b"hell"), "standard input"),
     (Read(258), Bytes(1, *b"o..."), "is one for both slots"),
     (Write(1, b"hi"), Done, "standard output"),
@@ -103,6 +96,19 @@ const STREAMS: [Row; 9] = [
     (Seek(259, 0), Misused, "has no place"),
     (Write(259, b"lost"), Failed, "call 42 fails"),
 ];
+
+/// Standard output and error, the files `in`, `out` and `none`, and the number of calls.
+type Left<'a> = (&'a [u8], &'a [u8], Files<'a>, u64);
+
+type Files<'a> = (Option<&'a [u8]>, Option<&'a [u8]>, Option<&'a [u8]>);
+
+/// What the calls leave.
+static LEFT: Left<'static> = (
+    b"hi!",
+    b"e",
+    (Some(b"abcdef"), Some(b"\0\0\0\0\0\0z"), None),
+    43,
+);
 
 fn refused(fault: HostFault) -> Answer {
     match fault {
@@ -119,78 +125,82 @@ fn done(answer: Result<(), HostFault>) -> Answer {
     }
 }
 
-fn answer_to<H: Host>(host: &mut H, call: Call) -> Answer {
-    match call {
-        Call::Open(slot, name, mode) => match host.open_file(slot.min(257), name, mode) {
-            Ok(()) => Answer::Done,
-            Err(OpenFault::Absent) => Answer::Absent,
-            Err(OpenFault::Failed) => Answer::Failed,
-            Err(OpenFault::OutOfMemory) => Answer::OutOfMemory,
-        },
+fn opened(answer: Result<(), OpenFault>) -> Answer {
+    match answer {
+        Ok(()) => Answer::Done,
+        Err(OpenFault::Absent) => Answer::Absent,
+        Err(OpenFault::Failed) => Answer::Failed,
+        Err(OpenFault::OutOfMemory) => Answer::OutOfMemory,
+    }
+}
+
+fn told(answer: Result<u64, HostFault>) -> Answer {
+    match answer {
+        Ok(place) => Answer::Place(place),
+        Err(fault) => refused(fault),
+    }
+}
+
+fn read<H: Host>(host: &mut H, slot: u16) -> Answer {
+    let mut into = *b"....";
+    match host.read_slot(slot.min(260), &mut into) {
+        Ok(count) => Answer::Bytes(count, into),
+        Err(fault) => refused(fault),
+    }
+}
+
+fn answer_to<H: Host>(host: &mut H, call: &Call) -> Answer {
+    match *call {
+        Call::Open(slot, name, mode) => opened(host.open_file(slot.min(257), name, mode)),
         Call::Close(slot) => done(host.close_slot(slot.min(260))),
-        Call::Read(slot) => {
-            let mut into = *b"....";
-            match host.read_slot(slot.min(260), &mut into) {
-                Ok(count) => Answer::Bytes(count, into),
-                Err(fault) => refused(fault),
-            }
-        }
+        Call::Read(slot) => read(host, slot),
         Call::Write(slot, from) => done(host.write_slot(slot.min(260), from)),
         Call::Seek(slot, to) => done(host.seek_slot(slot.min(260), to)),
-        Call::Tell(slot) => match host.tell_slot(slot.min(260)) {
-            Ok(place) => Answer::Place(place),
-            Err(fault) => refused(fault),
-        },
+        Call::Tell(slot) => told(host.tell_slot(slot.min(260))),
     }
+}
+
+/// Puts a file there.
+fn put(rt: &impl Abort, alloc: Global, host: &mut MemHost, name: &[u8], bytes: &[u8]) {
+    let bytes = Vec::from_slice(alloc, bytes).expect(rt, "memory");
+    host.put_file(name, bytes).expect(rt, "memory");
 }
 
 /// A host with one file, `in`, and two failing calls.
-fn start(alloc: Global) -> Result<MemHost, Fail> {
-    let input = Vec::from_slice(alloc, b"hello")?;
-    let failing = Vec::from_slice(alloc, &[2, 42])?;
-    let mut host = MemHost::new(alloc, input, failing)?;
-    host.put_file(b"in", Vec::from_slice(alloc, b"old")?)?;
-    host.put_file(b"in", Vec::from_slice(alloc, b"abcdef")?)?;
-    Ok(host)
-}
-
-fn bytes_of<'a>(host: &'a MemHost, name: &[u8]) -> &'a [u8] {
-    match host.file(name) {
-        Some(bytes) => bytes,
-        None => b"missing",
-    }
+fn start(rt: &impl Abort, alloc: Global) -> MemHost {
+    let input = Vec::from_slice(alloc, b"hello").expect(rt, "memory");
+    let failing = Vec::from_slice(alloc, &[2, 42]).expect(rt, "memory");
+    let mut host = MemHost::new(alloc, input, failing).expect(rt, "memory");
+    put(rt, alloc, &mut host, b"in", b"old");
+    put(rt, alloc, &mut host, b"in", b"abcdef");
+    host
 }
 
 /// Makes these calls, one after another.
 fn check<H: Host>(rt: &impl Abort, host: &mut H, rows: &[Row]) {
     for (call, want, what) in rows {
-        assert_eq!(rt; answer_to(host, *call), *want, "{what}");
+        assert_eq!(rt; answer_to(host, call), *want, "{what}");
     }
 }
 
-fn reads<H: Host>(rt: &impl Abort, host: &mut H) {
-    check(rt, host, &READING);
+/// What a host has.
+fn left(host: &MemHost) -> Left<'_> {
+    (
+        host.output(),
+        host.errors(),
+        (host.file(b"in"), host.file(b"out"), host.file(b"none")),
+        host.calls(),
+    )
 }
 
-fn writes<H: Host>(rt: &impl Abort, host: &mut H) {
-    check(rt, host, &WRITING);
-}
-
-fn streams<H: Host>(rt: &impl Abort, host: &mut H) {
-    check(rt, host, &STREAMS);
+/// Sees what the calls leave.
+fn is_left(rt: &impl Abort, host: &MemHost) {
+    assert_eq!(rt; left(host), LEFT);
 }
 
 #[test]
-fn calls_answer_by_the_rules(rt: HostRuntime) -> Result<(), Fail> {
-    let mut host = start(rt.alloc())?;
-    reads(&rt, &mut host);
-    writes(&rt, &mut host);
-    streams(&rt, &mut host);
-    assert_eq!(rt; host.output(), b"hi!".as_slice());
-    assert_eq!(rt; host.errors(), b"e".as_slice());
-    assert_eq!(rt; bytes_of(&host, b"in"), b"abcdef".as_slice());
-    assert_eq!(rt; bytes_of(&host, b"out"), b"\0\0\0\0\0\0z".as_slice());
-    assert!(rt; host.file(b"none").is_none());
-    assert_eq!(rt; host.calls(), 43);
-    Ok(())
+fn calls_answer_by_the_rules(rt: HostRuntime) {
+    let mut host = start(&rt, rt.alloc());
+    check(&rt, &mut host, &ROWS);
+    is_left(&rt, &host);
 }

@@ -9,10 +9,9 @@ use mx_run::{BreakKind, End, Flags, Runner};
 use mx_word::{Bytes, Symbols};
 use std::alloc::Global;
 use std::process::Abort;
-use std::test::Fail;
 
 /// Addresses, and two instructions at each.
-static PROGRAM: [(u64, u64); 3] = [
+static PROGRAM: [(u32, u64); 3] = [
     // SETL $0,#200 and SETL $1,7
     (0x100, 0xe300_0200_e301_0007),
     // STO $1,$0,0 and LDT $2,$0,4
@@ -99,37 +98,52 @@ static ROWS: [Row; 11] = [
     (0x104, TRACE, 1, false, End::Spent, 1),
 ];
 
-/// Sees that runs of the program end and count their steps as is due.
-fn runs_are(rt: &impl Abort, alloc: Global, rows: &[Row]) -> Result<(), Fail> {
-    for (a, set, n, pass, end, steps) in rows {
-        let mut runner = started(rt, alloc)?;
-        runner.set_flags(*a, *set)?;
-        let mut host = MemHost::new(alloc, Vec::new(alloc), Vec::new(alloc))?;
-        assert_eq!(rt;
-            runner.go(alloc, &mut host, *n, *pass),
-            *end,
-            "flags at {a}"
-        );
-        assert_eq!(rt; runner.machine().steps(), *steps, "flags at {a}");
-    }
-    Ok(())
-}
-
-#[test]
-fn runs_by_the_flags(rt: HostRuntime) -> Result<(), Fail> {
-    runs_are(&rt, rt.alloc(), &ROWS)
+/// A machine at the start, with nothing in its memory but the word that it is called by.
+fn bare(rt: &impl Abort, alloc: Global) -> Machine {
+    let image = Loader::new(alloc)
+        .finish(Symbols::new(alloc))
+        .expect(rt, "an image");
+    let size = RingSize::of(256).expect(rt, "a power of two");
+    let args = [Bytes::copy(alloc, b"p").expect(rt, "memory")];
+    Machine::start(alloc, image, &args, size).expect(rt, "a machine")
 }
 
 /// A machine with the program, about to begin.
-fn started(rt: &impl Abort, alloc: Global) -> Result<Runner, Fail> {
-    let image = Loader::new(alloc).finish(Symbols::new(alloc))?;
-    let size = RingSize::of(256).expect(rt, "a power of two");
-    let args = [Bytes::copy(alloc, b"p")?];
-    let mut machine = Machine::start(alloc, image, &args, size)?;
-    for (a, octa) in PROGRAM {
-        assert!(rt; a < 1 << 63);
-        machine.set_octa(a, octa)?;
+fn machine(rt: &impl Abort, alloc: Global) -> Machine {
+    let mut machine = bare(rt, alloc);
+    for (a, octa) in &PROGRAM {
+        machine.set_octa(u64::from(*a), *octa).expect(rt, "memory");
     }
     machine.set_pc(0x100);
-    Ok(Runner::new(alloc, machine))
+    machine
+}
+
+/// A runner of the program, with flags at an address.
+fn runner(rt: &impl Abort, alloc: Global, a: u64, flags: Flags) -> Runner {
+    let mut runner = Runner::new(alloc, machine(rt, alloc));
+    runner.set_flags(a, flags).expect(rt, "memory");
+    runner
+}
+
+/// A host without input and files.
+fn host(rt: &impl Abort, alloc: Global) -> MemHost {
+    MemHost::new(alloc, Vec::new(alloc), Vec::new(alloc)).expect(rt, "memory")
+}
+
+/// How a run with these flags at an address ends, and how many steps it makes.
+fn run(rt: &impl Abort, alloc: Global, a: u64, flags: Flags, n: u64, pass: bool) -> (End, u64) {
+    let mut runner = runner(rt, alloc, a, flags);
+    let end = runner.go(alloc, &mut host(rt, alloc), n, pass);
+    (end, runner.machine().steps())
+}
+
+#[test]
+fn runs_by_the_flags(rt: HostRuntime) {
+    for (a, flags, n, pass, end, steps) in &ROWS {
+        assert_eq!(rt;
+            run(&rt, rt.alloc(), *a, *flags, *n, *pass),
+            (*end, *steps),
+            "flags at {a}"
+        );
+    }
 }

@@ -2,14 +2,13 @@
 //! services in MMIXware, "Simulating a simple operating system".
 
 use mx_host::MemHost;
-use mx_mem::{MemFault, Memory};
+use mx_mem::Memory;
 use mx_trap::TrapAnswer::{Halt, Stopped, Value};
 use mx_trap::TrapStop::{Negative, TransferTooLarge, TrapPagesFull, UnknownTrap, WideTrap};
 use mx_trap::{TrapAnswer, TrapStop, touches, trap};
 use mx_trip::TrapCall;
 use std::alloc::Global;
 use std::process::Abort;
-use std::test::Fail;
 
 /// Where the arguments stand, and the buffer behind them.
 const ARGS: u64 = 0x2000_0000_0000_0000;
@@ -33,8 +32,9 @@ const MINUS_ONE: u64 = u64::MAX;
 /// Ftell p is what $255 has.
 type Row = (u8, u8, u64, u64, TrapAnswer, &'static str);
 
-/// The standard streams, and misuses of them.
-static STREAMS: [Row; 17] = [
+/// What the services do, one call after another.
+static SERVICES: [Row; 35] = [
+    // the standard streams, and misuses of them
     (7, 1, HI, 0, Value(3), "a text is written"),
     (7, 0, HI, 0, Value(MINUS_ONE), "but not to standard input"),
     (6, 2, HI, 2, Value(0), "two bytes to standard error"),
@@ -66,10 +66,7 @@ static STREAMS: [Row; 17] = [
     ),
     (2, 0, 0, 0, Value(0), "a slot is closed"),
     (2, 0, 0, 0, Value(MINUS_ONE), "once"),
-];
-
-/// A file is made, written, read and closed.
-static FILES: [Row; 18] = [
+    // a file is made, written, read and closed
     (1, 3, NONE, 2, Value(MINUS_ONE), "there is no such file"),
     (1, 3, OUT, 5, Value(MINUS_ONE), "there is no such mode"),
     (2, 3, 0, 0, Value(MINUS_ONE), "so the slot is not open"),
@@ -89,6 +86,10 @@ static FILES: [Row; 18] = [
     (10, 3, 0, 0, Value(MINUS_ONE), "has no place"),
     (6, 3, HI, 3, Value(MINUS_ONE - 2), "and is for reading"),
 ];
+
+/// What the services leave: standard output and error, and the octas at the end of a page and on the
+/// next page.
+static LEFT: (&[u8], &[u8], (u64, u64)) = (b"hi\n", b"hi", (0x6869, 0x0a00_0000_0000_0000));
 
 /// Stops, in the order in which they are tried.
 static STOPS: [Row; 14] = [
@@ -142,6 +143,13 @@ static TOUCHES: [(u64, u64, u8, bool); 11] = [
     (3 << 61, 0, 0, true),
 ];
 
+/// Those arguments, and the last octa of Stack_Segment.
+static AT_THE_END: [(u64, u64); 3] = [
+    (ARGS, 0x5fff_ffff_ffff_ffff),
+    (ARGS + 8, 1),
+    (0x5fff_ffff_ffff_ffff, 1),
+];
+
 /// Input, a failing call, Y, the answer, and the octa of the buffer, for 8 bytes from standard input.
 type Reading = (&'static [u8], u64, u8, u64, u64, &'static str);
 
@@ -181,14 +189,56 @@ static FAILURES: [(u8, u64, u64, u64); 8] = [
     (10, 0, 0, MINUS_ONE),
 ];
 
-fn store(memory: &mut Memory, rows: &[(u64, u64)]) -> Result<(), MemFault> {
+/// The reasons to stop, and their numbers.
+static NUMBERS: [(TrapStop, u16); 5] = [
+    (Negative, 113),
+    (WideTrap, 121),
+    (TransferTooLarge, 122),
+    (TrapPagesFull, 123),
+    (UnknownTrap, 124),
+];
+
+/// The texts, by their addresses.
+static TEXTS: [(u64, u64); 3] = [
+    (OUT, 0x6f75_7400_0000_0000),
+    (NONE, 0x6e6f_6e65_0000_0000),
+    (HI, 0x6869_0a00_0000_0000),
+];
+
+fn store(rt: &impl Abort, memory: &mut Memory, rows: &[(u64, u64)]) {
     for (a, x) in rows {
-        memory.store(*a % (1 << 63), *x)?;
+        memory.store(*a % (1 << 63), *x).expect(rt, "memory");
     }
-    Ok(())
 }
 
+/// A memory with the texts.
+fn texts(rt: &impl Abort, alloc: Global) -> Memory {
+    let mut memory = Memory::new(alloc);
+    store(rt, &mut memory, &TEXTS);
+    memory
+}
+
+/// A host with this input, whose call of this number fails.
+fn start(rt: &impl Abort, alloc: Global, input: &[u8], failing: u64) -> MemHost {
+    let input = Vec::from_slice(alloc, input).expect(rt, "memory");
+    let failing = Vec::from_slice(alloc, &[failing]).expect(rt, "memory");
+    MemHost::new(alloc, input, failing).expect(rt, "memory")
+}
+
+/// What $255 has for these arguments: p alone, or where both stand.
+fn argument(rt: &impl Abort, memory: &mut Memory, y: u8, p: u64, q: u64) -> u64 {
+    match y {
+        2 | 7 | 9 | 10 => p,
+        _ => {
+            store(rt, memory, &[(ARGS, p), (ARGS + 8, q)]);
+            ARGS
+        }
+    }
+}
+
+/// What a call comes to that stands at #100.
 fn call(
+    rt: &impl Abort,
     alloc: Global,
     memory: &mut Memory,
     host: &mut MemHost,
@@ -197,112 +247,114 @@ fn call(
     p: u64,
     q: u64,
 ) -> TrapAnswer {
-    let word = u32::from(y) * 256 + u32::from(z);
-    let arg = if y == 2 || y == 7 || y == 9 || y == 10 {
-        p
-    } else {
-        ARGS
+    let call = TrapCall {
+        pc: 0x100,
+        word: u32::from(y) * 256 + u32::from(z),
+        arg: argument(rt, memory, y, p, q),
     };
-    if arg == ARGS && store(memory, &[(ARGS, p), (ARGS + 8, q)]).is_err() {
-        return TrapAnswer::OutOfMemory;
-    }
-    trap(
-        alloc,
-        memory,
-        host,
-        &TrapCall {
-            pc: 0x100,
-            word,
-            arg,
-        },
-    )
+    trap(alloc, memory, host, &call)
 }
 
-fn check(rt: &impl Abort, alloc: Global, memory: &mut Memory, host: &mut MemHost, rows: &[Row]) {
+/// A memory and a host after these calls, one after another, over an input.
+fn after(rt: &impl Abort, alloc: Global, input: &[u8], rows: &[Row]) -> (Memory, MemHost) {
+    let mut memory = texts(rt, alloc);
+    let mut host = start(rt, alloc, input, 99);
     for (y, z, p, q, want, what) in rows {
-        assert_eq!(rt; call(alloc, memory, host, *y, *z, *p, *q), *want, "{what}");
-    }
-}
-
-fn start(alloc: Global, input: &[u8], failing: u64) -> Result<MemHost, Fail> {
-    let input = Vec::from_slice(alloc, input)?;
-    Ok(MemHost::new(alloc, input, Vec::from_slice(alloc, &[failing])?)?)
-}
-
-fn texts(alloc: Global) -> Result<Memory, Fail> {
-    let mut memory = Memory::new(alloc);
-    let rows = [
-        (OUT, 0x6f75_7400_0000_0000),
-        (NONE, 0x6e6f_6e65_0000_0000),
-        (HI, 0x6869_0a00_0000_0000),
-    ];
-    store(&mut memory, &rows)?;
-    Ok(memory)
-}
-
-#[test]
-fn reads_standard_input(rt: HostRuntime) -> Result<(), Fail> {
-    for (input, failing, y, want, octa, what) in READINGS {
-        let mut memory = texts(rt.alloc())?;
-        let mut host = start(rt.alloc(), input, failing)?;
-        let answer = call(rt.alloc(), &mut memory, &mut host, y, 0, BUFFER, 8);
-        assert_eq!(rt; answer, Value(want), "{what}");
-        assert_eq!(rt; memory.load(BUFFER), octa, "{what}");
-    }
-    Ok(())
-}
-
-#[test]
-fn services_answer_by_the_table(rt: HostRuntime) -> Result<(), Fail> {
-    let mut memory = texts(rt.alloc())?;
-    let mut host = start(rt.alloc(), b"a\nbcd", 99)?;
-    check(&rt, rt.alloc(), &mut memory, &mut host, &STREAMS);
-    assert_eq!(rt; host.output(), b"hi\n".as_slice());
-    assert_eq!(rt; host.errors(), b"hi".as_slice());
-    check(&rt, rt.alloc(), &mut memory, &mut host, &FILES);
-    assert_eq!(rt; memory.load(EDGE), 0x6869, "the end of a page");
-    assert_eq!(rt;
-        memory.load(EDGE + 2),
-        0x0a00_0000_0000_0000,
-        "the next page"
-    );
-    Ok(())
-}
-
-#[test]
-fn stops(rt: HostRuntime) -> Result<(), Fail> {
-    let mut memory = texts(rt.alloc())?;
-    let mut host = start(rt.alloc(), b"", 99)?;
-    check(&rt, rt.alloc(), &mut memory, &mut host, &STOPS);
-    assert_eq!(rt; host.calls(), 2, "calls of the host come last");
-    Ok(())
-}
-
-#[test]
-fn calls_that_are_none(rt: HostRuntime) -> Result<(), Fail> {
-    let mut memory = Memory::new(rt.alloc());
-    let mut host = start(rt.alloc(), b"", 99)?;
-    for (word, arg, want, what) in &NO_CALLS {
-        let call = TrapCall {
-            pc: 0,
-            word: *word,
-            arg: *arg,
-        };
         assert_eq!(rt;
-            trap(rt.alloc(), &mut memory, &mut host, &call),
+            call(rt, alloc, &mut memory, &mut host, *y, *z, *p, *q),
             *want,
             "{what}"
         );
     }
-    assert_eq!(rt; host.calls(), 0, "calls of the host come last");
-    Ok(())
+    (memory, host)
+}
+
+/// What a call comes to over an input, where the call of the host with a number fails: its answer,
+/// the octa of the buffer, how many calls the host had, and how much standard output.
+fn alone(
+    rt: &impl Abort,
+    alloc: Global,
+    input: &[u8],
+    failing: u64,
+    y: u8,
+    z: u8,
+    p: u64,
+    q: u64,
+) -> (TrapAnswer, u64, u64, usize) {
+    let mut memory = texts(rt, alloc);
+    let mut host = start(rt, alloc, input, failing);
+    let answer = call(rt, alloc, &mut memory, &mut host, y, z, p, q);
+    (
+        answer,
+        memory.load(BUFFER),
+        host.calls(),
+        host.output().len(),
+    )
 }
 
 #[test]
-fn touches_of_the_stack_segment(rt: HostRuntime) -> Result<(), Fail> {
+fn reads_standard_input(rt: HostRuntime) {
+    for (input, failing, y, want, octa, what) in &READINGS {
+        let (answer, buffer, _, _) = alone(&rt, rt.alloc(), input, *failing, *y, 0, BUFFER, 8);
+        assert_eq!(rt; (answer, buffer), (Value(*want), *octa), "{what}");
+    }
+}
+
+/// Sees what the services leave.
+fn is_left(rt: &impl Abort, memory: &Memory, host: &MemHost) {
+    let octas = (memory.load(EDGE), memory.load(EDGE + 2));
+    assert_eq!(rt; (host.output(), host.errors(), octas), LEFT);
+}
+
+#[test]
+fn services_answer_by_the_table(rt: HostRuntime) {
+    let (memory, host) = after(&rt, rt.alloc(), b"a\nbcd", &SERVICES);
+    is_left(&rt, &memory, &host);
+}
+
+/// How many calls a host has had after these.
+fn calls_after(rt: &impl Abort, alloc: Global, rows: &[Row]) -> u64 {
+    let (_, host) = after(rt, alloc, b"", rows);
+    host.calls()
+}
+
+#[test]
+fn stops(rt: HostRuntime) {
+    let calls = calls_after(&rt, rt.alloc(), &STOPS);
+    assert_eq!(rt; calls, 2, "calls of the host come last");
+}
+
+#[test]
+fn numbers_of_stops(rt: HostRuntime) {
+    for (stop, number) in &NUMBERS {
+        assert_eq!(rt; stop.number(), *number);
+    }
+}
+
+/// What a call comes to with nothing in memory, and how many calls the host had.
+fn answer_alone(rt: &impl Abort, alloc: Global, word: u32, arg: u64) -> (TrapAnswer, u64) {
+    let call = TrapCall { pc: 0, word, arg };
+    let mut host = start(rt, alloc, b"", 99);
+    let answer = trap(alloc, &mut Memory::new(alloc), &mut host, &call);
+    (answer, host.calls())
+}
+
+#[test]
+fn calls_that_are_none(rt: HostRuntime) {
+    for (word, arg, want, what) in &NO_CALLS {
+        // calls of the host come last
+        assert_eq!(rt;
+            answer_alone(&rt, rt.alloc(), *word, *arg),
+            (*want, 0),
+            "{what}"
+        );
+    }
+}
+
+#[test]
+fn touches_of_the_stack_segment(rt: HostRuntime) {
     let mut memory = Memory::new(rt.alloc());
-    let p = 0x5fff_ffff_ffff_ffff;
-    store(&mut memory, &[(ARGS, p), (ARGS + 8, 1), (p, 1)])?;
+    store(&rt, &mut memory, &AT_THE_END);
     for (pc, arg, y, want) in &TOUCHES {
         let call = TrapCall {
             pc: *pc,
@@ -311,51 +363,44 @@ fn touches_of_the_stack_segment(rt: HostRuntime) -> Result<(), Fail> {
         };
         assert_eq!(rt; touches(&memory, &call), *want, "{y} with {arg}");
     }
-    Ok(())
 }
 
 #[test]
-fn failing_calls_are_no_stops(rt: HostRuntime) -> Result<(), Fail> {
-    let mut memory = texts(rt.alloc())?;
-    for (y, p, q, want) in FAILURES {
-        let mut host = start(rt.alloc(), b"abcd", 0)?;
-        let answer = call(rt.alloc(), &mut memory, &mut host, y, 0, p, q);
-        assert_eq!(rt; answer, Value(want), "service {y}");
-        assert_eq!(rt; host.calls(), 1, "service {y}");
+fn failing_calls_are_no_stops(rt: HostRuntime) {
+    for (y, p, q, want) in &FAILURES {
+        let (answer, _, calls, _) = alone(&rt, rt.alloc(), b"abcd", 0, *y, 0, *p, *q);
+        assert_eq!(rt; (answer, calls), (Value(*want), 1), "service {y}");
     }
-    Ok(())
 }
 
-#[test]
-fn one_page_too_many_keeps_what_was_moved(rt: HostRuntime) -> Result<(), Fail> {
-    let mut memory = texts(rt.alloc())?;
+/// A memory with 65,535 pages, and one with the texts.
+fn full(rt: &impl Abort, alloc: Global) -> Memory {
+    let mut memory = texts(rt, alloc);
     for page in 0..65535 {
-        memory.store(page * 4096, 0)?;
+        memory.store(page * 4096, 0).expect(rt, "memory");
     }
-    let mut host = start(rt.alloc(), b"abc", 99)?;
-    let edge = 65535 * 4096 - 2;
-    let answer = call(rt.alloc(), &mut memory, &mut host, 3, 0, edge, 3);
-    assert_eq!(rt; answer, Stopped(TrapPagesFull));
-    assert_eq!(rt; memory.load(edge), 0x6162, "the bytes before stand");
-    Ok(())
+    memory
 }
 
 #[test]
-fn pieces_before_a_failing_call_count(rt: HostRuntime) -> Result<(), Fail> {
-    let mut memory = texts(rt.alloc())?;
-    let mut host = start(rt.alloc(), b"", 1)?;
-    let answer = call(rt.alloc(), &mut memory, &mut host, 6, 1, BUFFER, 5000);
-    assert_eq!(rt; answer, Value(MINUS_ONE - 903), "4,096 of 5,000 bytes");
-    assert_eq!(rt; host.output().len(), 4096);
-    let numbers = [
-        Negative,
-        WideTrap,
-        TransferTooLarge,
-        TrapPagesFull,
-        UnknownTrap,
-    ];
-    for (stop, number) in numbers.iter().zip([113, 121, 122, 123, 124]) {
-        assert_eq!(rt; TrapStop::number(*stop), number);
-    }
-    Ok(())
+fn one_page_too_many_keeps_what_was_moved(rt: HostRuntime) {
+    let mut memory = full(&rt, rt.alloc());
+    let mut host = start(&rt, rt.alloc(), b"abc", 99);
+    let edge = 65535 * 4096 - 2;
+    let answer = call(&rt, rt.alloc(), &mut memory, &mut host, 3, 0, edge, 3);
+    assert_eq!(rt;
+        (answer, memory.load(edge)),
+        (Stopped(TrapPagesFull), 0x6162),
+        "the bytes before stand"
+    );
+}
+
+#[test]
+fn pieces_before_a_failing_call_count(rt: HostRuntime) {
+    let (answer, _, _, written) = alone(&rt, rt.alloc(), b"", 1, 6, 1, BUFFER, 5000);
+    assert_eq!(rt;
+        (answer, written),
+        (Value(MINUS_ONE - 903), 4096),
+        "4,096 of 5,000 bytes"
+    );
 }

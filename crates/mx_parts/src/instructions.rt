@@ -27,7 +27,7 @@ const IDENTITY: u64 = 0x8040_2010_0804_0201;
 const REVERSAL: u64 = 0x0102_0408_1020_4080;
 
 /// The code, the operands and the result of instructions that give nothing else.
-const PLAIN: [(u8, u64, u64, u64); 128] = [
+static PLAIN: [(u8, u64, u64, u64); 128] = [
     // signed products: the edges of the octas, and signs
     (0x18, MIN, 1, MIN), // MUL
     (0x19, 0xffff_ffff_ffff_fffd, 7, 0xffff_ffff_ffff_ffeb), // MUL
@@ -175,7 +175,7 @@ const PLAIN: [(u8, u64, u64, u64); 128] = [
 ];
 
 /// The same of instructions that overflow.
-const OVERFLOWS: [(u8, u64, u64, u64); 17] = [
+static OVERFLOWS: [(u8, u64, u64, u64); 17] = [
     // signed products: the edges of the octas, and signs
     (0x18, MIN, ONES, MIN), // MUL
     (0x19, MAX, 2, 0xffff_ffff_ffff_fffe), // MUL
@@ -200,7 +200,7 @@ const OVERFLOWS: [(u8, u64, u64, u64); 17] = [
 ];
 
 /// Factors, and the low and the high half of their product.
-const PRODUCTS: [(u64, u64, u64, u64); 5] = [
+static PRODUCTS: [(u64, u64, u64, u64); 5] = [
     (ONES, ONES, 1, 0xffff_ffff_ffff_fffe),
     (ONES, 2, 0xffff_ffff_ffff_fffe, 1),
     (0x0001_0000_0000, 0x0001_0000_0000, 0, 1),
@@ -210,7 +210,7 @@ const PRODUCTS: [(u64, u64, u64, u64); 5] = [
 
 /// Dividend, divisor, quotient, remainder and event: either sign, by 0, and the quotient that is no
 /// signed octa.
-const QUOTIENTS: [(u64, u64, u64, u64, Option<Event>); 10] = [
+static QUOTIENTS: [(u64, u64, u64, u64, Option<Event>); 10] = [
     (0xffff_ffff_ffff_fff9, 2, 0xffff_ffff_ffff_fffc, 1, None),
     (7, 0xffff_ffff_ffff_fffe, 0xffff_ffff_ffff_fffc, ONES, None),
     (0xffff_ffff_ffff_fff9, 0xffff_ffff_ffff_fffe, 3, ONES, None),
@@ -231,7 +231,7 @@ const QUOTIENTS: [(u64, u64, u64, u64, Option<Event>); 10] = [
 
 /// The high and the low half of the dividend, the divisor, and what x and rR are: the high half
 /// below, at and above the divisor.
-const LONG_QUOTIENTS: [(u64, u64, u64, u64, u64); 7] = [
+static LONG_QUOTIENTS: [(u64, u64, u64, u64, u64); 7] = [
     (1, 0, 2, MIN, 0),
     (2, 0, 2, 2, 0),
     (3, 5, 2, 3, 5),
@@ -254,7 +254,7 @@ const LONG_QUOTIENTS: [(u64, u64, u64, u64, u64); 7] = [
 ];
 
 /// Two octas, the mask, and what it takes from them.
-const MASKED: [(u64, u64, u64, u64); 4] = [
+static MASKED: [(u64, u64, u64, u64); 4] = [
     (A, B, C, 0xd167_fd5e_871b_01a8),
     (A, B, 0, B),
     (A, B, ONES, A),
@@ -262,7 +262,7 @@ const MASKED: [(u64, u64, u64, u64); 4] = [
 ];
 
 /// An octa, and which of the eight conditions hold of it, in the order of their codes; 1 for those that do.
-const CONDITIONS: [(u64, [u8; 8]); 8] = [
+static CONDITIONS: [(u64, [u8; 8]); 8] = [
     (0, [0, 1, 0, 0, 1, 0, 1, 1]),
     (1, [0, 0, 1, 1, 1, 1, 0, 0]),
     (2, [0, 0, 1, 0, 1, 1, 0, 1]),
@@ -275,8 +275,7 @@ const CONDITIONS: [(u64, [u8; 8]); 8] = [
 
 /// Compares what the instruction of a code gives.
 fn gives(rt: &impl Abort, code: u8, y: u64, z: u64, extra: Extra, wanted: Answer) {
-    assert!(rt; code >= 0x18 && code <= 0xef);
-    assert!(rt; code <= 0x3f || code >= 0xc0);
+    assert!(rt; matches!(code, 0x18..=0x3f | 0xc0..=0xef));
     assert_eq!(rt;
         alu(code, y, z, extra),
         wanted,
@@ -294,63 +293,84 @@ fn only(x: u64, event: Option<Event>) -> Answer {
     }
 }
 
+/// The answer of a division: quotient, remainder and event.
+fn divided(x: u64, r: u64, event: Option<Event>) -> Answer {
+    Answer {
+        r: Some(r),
+        ..only(x, event)
+    }
+}
+
+/// Compares the results of instructions that all raise this event or none. What rD and rM hold is
+/// nothing to them.
+fn give(rt: &impl Abort, rows: &[(u8, u64, u64, u64)], event: Option<Event>) {
+    for (code, y, z, x) in rows {
+        gives(rt, *code, *y, *z, Extra { d: 7, m: 9 }, only(*x, event));
+    }
+}
+
 #[test]
 fn results_alone(rt: HostRuntime) {
-    // what rD and rM hold is nothing to most instructions
-    let extra = Extra { d: 7, m: 9 };
-    for (code, y, z, x) in PLAIN {
-        gives(&rt, code, y, z, extra, only(x, None));
-    }
-    for (code, y, z, x) in OVERFLOWS {
-        gives(&rt, code, y, z, extra, only(x, Some(Event::Overflow)));
-    }
-    for (y, z, m, x) in MASKED {
-        gives(&rt, 0xd8, y, z, Extra { d: 7, m }, only(x, None));
-        gives(&rt, 0xd9, y, z, Extra { d: 7, m }, only(x, None));
+    give(&rt, &PLAIN, None);
+    give(&rt, &OVERFLOWS, Some(Event::Overflow));
+    for (y, z, m, x) in &MASKED {
+        for code in 0xd8..0xda {
+            gives(&rt, code, *y, *z, Extra { d: 7, m: *m }, only(*x, None));
+        }
     }
 }
 
 #[test]
 fn products_and_quotients(rt: HostRuntime) {
-    for code in 0x1a..0x1c {
-        for (y, z, x, high) in PRODUCTS {
+    for (y, z, x, high) in &PRODUCTS {
+        for code in 0x1a..0x1c {
             let wanted = Answer {
-                h: Some(high),
-                ..only(x, None)
+                h: Some(*high),
+                ..only(*x, None)
             };
-            gives(&rt, code, y, z, Extra { d: 7, m: 9 }, wanted);
+            gives(&rt, code, *y, *z, Extra { d: 7, m: 9 }, wanted);
         }
     }
-    for code in 0x1c..0x1e {
-        for (y, z, x, r, event) in QUOTIENTS {
-            let wanted = Answer {
-                r: Some(r),
-                ..only(x, event)
-            };
-            gives(&rt, code, y, z, Extra { d: 7, m: 9 }, wanted);
+    for (y, z, x, r, event) in &QUOTIENTS {
+        for code in 0x1c..0x1e {
+            gives(
+                &rt,
+                code,
+                *y,
+                *z,
+                Extra { d: 7, m: 9 },
+                divided(*x, *r, *event),
+            );
         }
     }
-    for code in 0x1e..0x20 {
-        for (d, y, z, x, r) in LONG_QUOTIENTS {
-            let wanted = Answer {
-                r: Some(r),
-                ..only(x, None)
-            };
-            gives(&rt, code, y, z, Extra { d, m: 9 }, wanted);
+    for (d, y, z, x, r) in &LONG_QUOTIENTS {
+        for code in 0x1e..0x20 {
+            gives(
+                &rt,
+                code,
+                *y,
+                *z,
+                Extra { d: *d, m: 9 },
+                divided(*x, *r, None),
+            );
         }
     }
 }
 
+/// What a row of `CONDITIONS` says of the condition of a code.
+fn is_wanted(conditions: &[u8; 8], code: u8) -> bool {
+    conditions[usize::from(code / 2 % 8)] == 1
+}
+
 #[test]
 fn conditions(rt: HostRuntime) {
-    for (x, wanted) in CONDITIONS {
-        for i in 0..8u8 {
-            let holds = wanted[usize::from(i)] == 1;
-            for row in 0..4u8 {
-                let code = 0x40 + 16 * row + 2 * i;
-                assert_eq!(rt; truth(code, x), holds, "code {code} of {x}");
-                assert_eq!(rt; truth(code + 1, x), holds, "code {code} + 1 of {x}");
-            }
+    for (x, wanted) in &CONDITIONS {
+        for code in 0x40..0x80 {
+            assert_eq!(rt;
+                truth(code, *x),
+                is_wanted(wanted, code),
+                "code {code} of {x}"
+            );
         }
     }
 }

@@ -1,11 +1,11 @@
 //! Values from outside.
 
 use mx_word::{
-    Awaited, Bytes, NoMemory, Symbol, Symbols, Value, Wait, WaitKind, Waits, is_digit,
-    is_hexadecimal, is_letter, is_name_byte, octa_bytes, octa_of, product, quotient, signed,
-    tetra_bytes, tetra_of,
+    Awaited, Bytes, Symbol, Symbols, Value, Wait, WaitKind, Waits, is_digit, is_hexadecimal,
+    is_letter, is_name_byte, octa_bytes, octa_of, product, quotient, signed, tetra_bytes, tetra_of,
 };
 use std::alloc::Global;
+use std::process::Abort;
 
 /// Factors, and the halves of their product: at the edges, and one of mixed digits.
 static PRODUCTS: [(u64, u64, (u64, u64)); 3] = [
@@ -29,10 +29,14 @@ static QUOTIENTS: [(u64, u64, u64, Option<(u64, u64)>); 5] = [
 ];
 
 #[test]
-fn products_and_quotients(rt: HostRuntime) {
+fn products(rt: HostRuntime) {
     for (x, y, want) in &PRODUCTS {
         assert_eq!(rt; product(*x, *y), *want, "{x} times {y}");
     }
+}
+
+#[test]
+fn quotients(rt: HostRuntime) {
     for (d, y, z, want) in &QUOTIENTS {
         assert_eq!(rt; quotient(*d, *y, *z), *want, "{d} and {y} by {z}");
     }
@@ -81,65 +85,145 @@ static SIGNED: [(u64, i64); 4] = [
     ((1 << 63) - 1, i64::MAX),
 ];
 
+/// An octa and a tetra, and their bytes.
+static WORDS: ([u8; 8], u64, [u8; 4], u32) = (
+    [1, 2, 3, 4, 5, 6, 7, 0xf8],
+    0x0102_0304_0506_07f8,
+    [0xf5, 0xff, 0xff, 1],
+    0xf5ff_ff01,
+);
+
 #[test]
 fn bytes_of_words(rt: HostRuntime) {
+    let (eight, octa, four, tetra) = &WORDS;
     assert_eq!(rt;
-        octa_bytes(0x0102_0304_0506_07f8),
-        [1, 2, 3, 4, 5, 6, 7, 0xf8]
+        (
+            octa_bytes(*octa),
+            octa_of(*eight),
+            tetra_bytes(*tetra),
+            tetra_of(*four)
+        ),
+        WORDS
     );
-    assert_eq!(rt; octa_of([1, 2, 3, 4, 5, 6, 7, 0xf8]), 0x0102_0304_0506_07f8);
-    assert_eq!(rt; tetra_bytes(0xf5ff_ff01), [0xf5, 0xff, 0xff, 1]);
-    assert_eq!(rt; tetra_of([0xf5, 0xff, 0xff, 1]), 0xf5ff_ff01);
+}
+
+#[test]
+fn signed_octas(rt: HostRuntime) {
     for (x, want) in &SIGNED {
         assert_eq!(rt; signed(*x), *want, "{x}");
     }
 }
 
-/// The lists, built with ample memory.
-fn lists(alloc: Global) -> Result<(Bytes, Symbols, Waits), NoMemory> {
-    let mut bytes = Bytes::copy(alloc, b"ab")?;
-    bytes.push(99)?;
-    bytes.extend(b"de")?;
-    bytes.overwrite(7, b"z")?;
+/// A copy of bytes.
+fn copy(rt: &impl Abort, alloc: Global, bytes: &[u8]) -> Bytes {
+    Bytes::copy(alloc, bytes).expect(rt, "memory")
+}
+
+/// A list of bytes, built by each of its calls.
+fn bytes(rt: &impl Abort, alloc: Global) -> Bytes {
+    let mut bytes = copy(rt, alloc, b"ab");
+    bytes.push(99).expect(rt, "memory");
+    bytes.extend(b"de").expect(rt, "memory");
+    bytes.overwrite(7, b"z").expect(rt, "memory");
+    bytes
+}
+
+/// A list of one symbol.
+fn symbols(rt: &impl Abort, alloc: Global) -> Symbols {
     let mut symbols = Symbols::new(alloc);
-    symbols.push(Symbol {
-        name: Bytes::copy(alloc, b":a")?,
+    let symbol = Symbol {
+        name: copy(rt, alloc, b":a"),
         value: Value::Reg(1),
         serial: 1,
-    })?;
+    };
+    symbols.push(symbol).expect(rt, "memory");
+    symbols
+}
+
+/// A list of one reference.
+fn waits(rt: &impl Abort, alloc: Global) -> Waits {
     let mut waits = Waits::new(alloc);
-    waits.push(Wait {
+    let wait = Wait {
         who: Awaited::Local(2),
         at: 256,
         line: 3,
         kind: WaitKind::Near,
-    })?;
-    Ok((bytes, symbols, waits))
+    };
+    waits.push(wait).expect(rt, "memory");
+    waits
+}
+
+/// The only symbol of a list.
+fn only_symbol(symbols: &Symbols) -> Option<(&[u8], Value, u32)> {
+    match symbols.as_slice() {
+        [symbol] => Some((symbol.name.as_slice(), symbol.value, symbol.serial)),
+        _ => None,
+    }
+}
+
+/// The name of the last symbol, taken out of its list.
+fn taken_name(rt: &impl Abort, symbols: Symbols) -> Bytes {
+    symbols.into_vec().pop().expect(rt, "a symbol").name
+}
+
+/// The only reference of a list, without what it waits for.
+fn only_wait(waits: &Waits) -> Option<(u64, u32, WaitKind)> {
+    match waits.as_slice() {
+        [wait] => Some((wait.at, wait.line, wait.kind)),
+        _ => None,
+    }
+}
+
+/// Whether the only reference of a list waits for local labels 2 and 3, and for a name.
+fn waits_for(waits: &Waits, name: Bytes) -> [bool; 3] {
+    match waits.as_slice() {
+        [wait] => [
+            wait.who.is_same(&Awaited::Local(2)),
+            wait.who.is_same(&Awaited::Local(3)),
+            wait.who.is_same(&Awaited::Name(name)),
+        ],
+        _ => [false; 3],
+    }
+}
+
+/// The bytes, the symbol, the reference, and what it waits for.
+type Lists<'a> = (
+    &'a [u8],
+    Option<(&'a [u8], Value, u32)>,
+    Option<(u64, u32, WaitKind)>,
+    [bool; 3],
+);
+
+static LISTS: Lists<'static> = (
+    b"abcde\0\0z",
+    Some((b":a", Value::Reg(1), 1)),
+    Some((256, 3, WaitKind::Near)),
+    [true, false, false],
+);
+
+/// Compares the lists with `LISTS`.
+fn lists_are(
+    rt: &impl Abort,
+    bytes: &Bytes,
+    symbols: &Symbols,
+    waits: &Waits,
+    waits_for: [bool; 3],
+) {
+    assert_eq!(rt;
+        (
+            bytes.as_slice(),
+            only_symbol(symbols),
+            only_wait(waits),
+            waits_for
+        ),
+        LISTS
+    );
 }
 
 #[test]
 fn lists_with_ample_memory(rt: HostRuntime) {
-    let Ok((bytes, symbols, waits)) = lists(rt.alloc()) else {
-        assert!(rt; false, "out of memory");
-        return;
-    };
-    assert!(rt; bytes.as_slice() == b"abcde\0\0z".as_slice());
-    let [symbol] = symbols.as_slice() else {
-        assert!(rt; false, "one symbol");
-        return;
-    };
-    assert!(rt; symbol.name.as_slice() == b":a".as_slice());
-    assert_eq!(rt; (symbol.value, symbol.serial), (Value::Reg(1), 1));
-    let [wait] = waits.as_slice() else {
-        assert!(rt; false, "one reference");
-        return;
-    };
-    assert_eq!(rt; (wait.at, wait.line, wait.kind), (256, 3, WaitKind::Near));
-    assert!(rt; wait.who.is_same(&Awaited::Local(2)));
-    assert!(rt; !wait.who.is_same(&Awaited::Local(3)));
-    assert!(rt;
-        !wait
-            .who
-            .is_same(&Awaited::Name(symbols.into_vec().remove(0).name))
-    );
+    let alloc = rt.alloc();
+    let waits = waits(&rt, alloc);
+    let kinds = waits_for(&waits, taken_name(&rt, symbols(&rt, alloc)));
+    lists_are(&rt, &bytes(&rt, alloc), &symbols(&rt, alloc), &waits, kinds);
 }

@@ -4,12 +4,12 @@ use mx_spec::{Put, may_put};
 use std::process::Abort;
 
 /// The codes of registers that take any value: rB to rBB, and rF to rZZ.
-const PLAIN: [u8; 18] = [
+static PLAIN: [u8; 18] = [
     0, 1, 2, 3, 4, 5, 6, 7, 22, 23, 24, 25, 26, 27, 28, 29, 30, 31,
 ];
 
 /// The codes of registers that take none, and why.
-const REFUSED: [(u8, Put); 11] = [
+static REFUSED: [(u8, Put); 11] = [
     (8, Put::Privileged), // rC
     (9, Put::Illegal), // rN
     (10, Put::Illegal), // rO
@@ -24,7 +24,7 @@ const REFUSED: [(u8, Put); 11] = [
 ];
 
 /// A register that asks for its value, the value, and what PUT comes to, where G is 200 and L is 40.
-const BOUNDED: [(u8, u64, Put); 16] = [
+static BOUNDED: [(u8, u64, Put); 16] = [
     // rG: from L to 255
     (19, 40, Put::Store(40)),
     (19, 39, Put::Illegal),
@@ -46,26 +46,43 @@ const BOUNDED: [(u8, u64, Put); 16] = [
     (21, u64::MAX, Put::Illegal),
 ];
 
+/// The same where L is 4, and rG takes values from 32.
+static FEW_LOCALS: [(u8, u64, Put); 2] = [
+    // the least rG, and less than any rG
+    (19, 32, Put::Store(32)),
+    (19, 31, Put::Illegal),
+];
+
 /// PUT to a register that there is.
 fn put(rt: &impl Abort, code: u8, value: u64, l: u8) -> Put {
     assert!(rt; code < 32, "{code}");
     may_put(code, value, 200, l)
 }
 
+/// PUT of the least and of the greatest value.
+fn put_ends(rt: &impl Abort, code: u8) -> (Put, Put) {
+    (put(rt, code, 0, 40), put(rt, code, u64::MAX, 40))
+}
+
+/// Sees what PUT comes to where L is `l`.
+fn puts_are(rt: &impl Abort, l: u8, rows: &[(u8, u64, Put)]) {
+    for (code, value, want) in rows {
+        assert_eq!(rt; put(rt, *code, *value, l), *want, "{code} {value}");
+    }
+}
+
 #[test]
 fn puts(rt: HostRuntime) {
-    for value in [0, u64::MAX] {
-        for code in PLAIN {
-            assert_eq!(rt; put(&rt, code, value, 40), Put::Store(value), "{code}");
-        }
-        for (code, want) in REFUSED {
-            assert_eq!(rt; put(&rt, code, value, 40), want, "{code}");
-        }
+    for code in &PLAIN {
+        assert_eq!(rt;
+            put_ends(&rt, *code),
+            (Put::Store(0), Put::Store(u64::MAX)),
+            "{code}"
+        );
     }
-    for (code, value, want) in BOUNDED {
-        assert_eq!(rt; put(&rt, code, value, 40), want, "{code} {value}");
+    for (code, want) in &REFUSED {
+        assert_eq!(rt; put_ends(&rt, *code), (*want, *want), "{code}");
     }
-    // rG with few local registers: from 32
-    assert_eq!(rt; put(&rt, 19, 32, 4), Put::Store(32), "the least rG");
-    assert_eq!(rt; put(&rt, 19, 31, 4), Put::Illegal, "less than any rG");
+    puts_are(&rt, 40, &BOUNDED);
+    puts_are(&rt, 4, &FEW_LOCALS);
 }

@@ -5,7 +5,7 @@ use mx_trip::{Insert, Kind, Trip, decide, inserted};
 use std::process::Abort;
 
 /// rA, the event, and what it comes to.
-const EVENTS: [(u64, Event, Trip); 9] = [
+static EVENTS: [(u64, Event, Trip); 9] = [
     // a sum overflows: V is enabled, and no bit is set
     (0x4000, Event::Overflow, Trip::Taken(32)),
     (0, Event::Overflow, Trip::Noted(0x40)),
@@ -24,13 +24,13 @@ const EVENTS: [(u64, Event, Trip); 9] = [
 
 #[test]
 fn events(rt: HostRuntime) {
-    for (ra, event, trip) in EVENTS {
-        assert_eq!(rt; decide(ra, event), trip, "{ra} {event:?}");
+    for (ra, event, trip) in &EVENTS {
+        assert_eq!(rt; decide(*ra, *event), *trip, "{ra} {event:?}");
     }
 }
 
 /// rX, rW, and the address that RESUME 0 goes to.
-const BACK: [(u64, u64, u64); 4] = [
+static BACK: [(u64, u64, u64); 4] = [
     // ADD $0,$0,1 at #110 tripped
     (0x8000_0000_2100_0001, 0x114, 0x114),
     // rW is lowered to a multiple of 4
@@ -41,7 +41,7 @@ const BACK: [(u64, u64, u64); 4] = [
 ];
 
 /// rX, rW, and the kind, the place and the tetra that RESUME 0 performs, where L is 4 and G is 255.
-const PERFORMED: [(u64, u64, Kind, u64, u32); 17] = [
+static PERFORMED: [(u64, u64, Kind, u64, u32); 17] = [
     // ADDU $0,$0,1, and the instruction behind RESUME at 24 or 40
     (0x2300_0001, 24, Kind::Again, 20, 0x2300_0001),
     (0x0100_0000_2300_0001, 40, Kind::Continue, 36, 0x2300_0001),
@@ -68,7 +68,7 @@ const PERFORMED: [(u64, u64, Kind, u64, u32); 17] = [
 ];
 
 /// rX, and whether RESUME 0 is illegal or left out, where L is 4 and G is 255.
-const REFUSED: [(u64, Insert); 21] = [
+static REFUSED: [(u64, Insert); 21] = [
     // no such kind
     (0x0300_0000_0000_0000, Insert::Illegal),
     (0x7fff_ffff_ffff_ffff, Insert::Illegal),
@@ -101,18 +101,22 @@ const REFUSED: [(u64, Insert); 21] = [
 
 #[test]
 fn resumption(rt: HostRuntime) {
-    for (rx, rw, address) in BACK {
+    for (rx, rw, address) in &BACK {
         assert_eq!(rt;
-            inserted(rx, rw, 4, 255),
-            Insert::Back(address),
+            inserted(*rx, *rw, 4, 255),
+            Insert::Back(*address),
             "{rx} {rw}"
         );
     }
-    for (rx, rw, kind, at, word) in PERFORMED {
-        let want = Insert::Perform { kind, at, word };
-        assert_eq!(rt; inserted(rx, rw, 4, 255), want, "{rx} {rw}");
+    for (rx, rw, kind, at, word) in &PERFORMED {
+        let want = Insert::Perform {
+            kind: *kind,
+            at: *at,
+            word: *word,
+        };
+        assert_eq!(rt; inserted(*rx, *rw, 4, 255), want, "{rx} {rw}");
     }
-    for (rx, want) in REFUSED {
-        assert_eq!(rt; inserted(rx, 24, 4, 255), want, "{rx}");
+    for (rx, want) in &REFUSED {
+        assert_eq!(rt; inserted(*rx, 24, 4, 255), *want, "{rx}");
     }
 }
