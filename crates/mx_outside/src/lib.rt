@@ -8,4 +8,6 @@ mod console;
 #[cfg(test)]
 mod failing;
 #[cfg(test)]
+mod row;
+#[cfg(test)]
 mod usage;

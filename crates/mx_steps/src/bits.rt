@@ -1,6 +1,6 @@
 //! Bits and bytes, and the immediate wydes.
 
-use crate::row::{Computed, Given, PLAIN, RA, first_uncomputed, first_unset};
+use crate::row::{Computed, Given, PLAIN, RA, all_compute, all_set};
 use std::test::Fail;
 
 /// y, and z in a register; rM is #ffff0000ff000f0f.
@@ -149,24 +149,20 @@ static WYDES: [(u32, u64); 16] = [
 
 #[test]
 fn bits(rt: HostRuntime) -> Result<(), Fail> {
-    assert_eq!(rt; first_unset(rt.alloc(), MIXED, &BITS)?, 0);
-    Ok(())
+    all_set(rt.alloc(), &MIXED, &BITS)
 }
 
 #[test]
 fn parts(rt: HostRuntime) -> Result<(), Fail> {
-    assert_eq!(rt; first_unset(rt.alloc(), MIXED, &PARTS)?, 0);
-    Ok(())
+    all_set(rt.alloc(), &MIXED, &PARTS)
 }
 
 #[test]
 fn differences(rt: HostRuntime) -> Result<(), Fail> {
-    assert_eq!(rt; first_uncomputed(rt.alloc(), PLAIN, &DIFFERENCES)?, 0);
-    Ok(())
+    all_compute(rt.alloc(), &PLAIN, &DIFFERENCES)
 }
 
 #[test]
 fn wydes(rt: HostRuntime) -> Result<(), Fail> {
-    assert_eq!(rt; first_unset(rt.alloc(), OLD, &WYDES)?, 0);
-    Ok(())
+    all_set(rt.alloc(), &OLD, &WYDES)
 }

@@ -1,8 +1,8 @@
 //! Events: noted in rA, or a trip to a handler where rA enables them.
 
 use crate::row::{
-    Computed, DATA, Due, GOES_ON, Given, NEXT, PLAIN, RA, RB, RR, RW, RX, RY, RZ, TOP, answers,
-    first_uncomputed, goes, sets,
+    Computed, DATA, Due, GOES_ON, Given, NEXT, PLAIN, RA, RB, RR, RW, RX, RY, RZ, TOP, all_compute,
+    answers, goes, sets,
 };
 use mx_core::{Reason, Step, Touch};
 use std::alloc::Global;
@@ -155,45 +155,55 @@ static STORES: [(u32, u64, u8, u64, u64); 6] = [
 /// TRIP, with any fields.
 static TRIP: [u32; 2] = [0xff09_0203, 0xff00_0203];
 
-/// Whether a step trips with these operands: it leaves rA, rW is the next address, rX has the tetra, and
+/// Sees that a step trips with these operands: it leaves rA, rW is the next address, rX has the tetra, and
 /// rB has what $255 had, which gets rJ. Without an instruction at the handler it is a stop.
-fn trips(alloc: Global, given: Given, due: Due, (y, z): (u64, u64)) -> Result<bool, Fail> {
+fn trips(alloc: Global, given: &Given, due: &Due, (y, z): (u64, u64)) -> Result<(), Fail> {
     let specials = [
         ((RY, y), (RZ, z)),
         ((RW, NEXT), (RX, (1 << 63) | given.word as u64)),
         ((RB, TOP), (RA, ENABLED)),
     ];
-    let mut is_due = true;
-    for (special, other) in specials {
+    for (special, other) in &specials {
         let due = Due {
-            special,
-            other,
-            ..due
+            special: *special,
+            other: *other,
+            ..*due
         };
-        is_due = is_due && goes(alloc, given, due)?;
+        goes(alloc, given, &due)?;
     }
-    Ok(is_due && gives_rj(alloc, given, due)? && stops(alloc, given)?)
+    gives_rj(alloc, given, due)?;
+    stops(alloc, given)
 }
 
-fn gives_rj(alloc: Global, given: Given, due: Due) -> Result<bool, Fail> {
+fn gives_rj(alloc: Global, given: &Given, due: &Due) -> Result<(), Fail> {
     let due = Due {
         register: (255, 0x3000),
         special: (RA, ENABLED),
-        ..due
+        ..*due
     };
-    goes(alloc, given, due)
+    goes(alloc, given, &due)
 }
 
-fn stops(alloc: Global, given: Given) -> Result<bool, Fail> {
+fn stops(alloc: Global, given: &Given) -> Result<(), Fail> {
     let given = Given {
         handler: 0,
-        ..given
+        ..*given
     };
-    answers(alloc, given, Step::Stopped(Reason::UnhandledTrip))
+    answers(alloc, &given, Step::Stopped(Reason::UnhandledTrip))
 }
 
-/// The first tetra that does not come to what is due of it, or 0.
-fn first_unnoted(alloc: Global) -> Result<u32, Fail> {
+#[test]
+fn overflows_are_noted(rt: HostRuntime) -> Result<(), Fail> {
+    all_compute(rt.alloc(), &PLAIN, &OVERFLOWS)
+}
+
+#[test]
+fn quotients_at_the_edges(rt: HostRuntime) -> Result<(), Fail> {
+    all_compute(rt.alloc(), &PLAIN, &QUOTIENTS)
+}
+
+#[test]
+fn events_go_by_their_own_bits(rt: HostRuntime) -> Result<(), Fail> {
     for row in &NOTED {
         let (word, y, z, value, before, after) = *row;
         let given = Given {
@@ -207,38 +217,32 @@ fn first_unnoted(alloc: Global) -> Result<u32, Fail> {
             special: (RA, after),
             ..sets(value)
         };
-        if !goes(alloc, given, due)? {
-            return Ok(word);
-        }
+        goes(rt.alloc(), &given, &due)?;
     }
-    Ok(0)
+    Ok(())
 }
 
-fn first_untripped(alloc: Global) -> Result<u32, Fail> {
+#[test]
+fn numbers_trip(rt: HostRuntime) -> Result<(), Fail> {
     for row in &TRIPS {
         let (word, y, z, value, next, operands) = *row;
+        let given = Given {
+            word,
+            y,
+            z,
+            ..STORED
+        };
         let due = Due {
             next,
             ..sets(value)
         };
-        if !trips(
-            alloc,
-            Given {
-                word,
-                y,
-                z,
-                ..STORED
-            },
-            due,
-            operands,
-        )? {
-            return Ok(word);
-        }
+        trips(rt.alloc(), &given, &due, operands)?;
     }
-    Ok(0)
+    Ok(())
 }
 
-fn first_untripped_store(alloc: Global) -> Result<u32, Fail> {
+#[test]
+fn stores_trip(rt: HostRuntime) -> Result<(), Fail> {
     for row in &STORES {
         let (word, at, size, octa, y) = *row;
         let due = Due {
@@ -248,67 +252,24 @@ fn first_untripped_store(alloc: Global) -> Result<u32, Fail> {
             register: (9, X),
             ..GOES_ON
         };
-        if !trips(alloc, Given { word, ..STORED }, due, (y, X))? {
-            return Ok(word);
-        }
+        trips(rt.alloc(), &Given { word, ..STORED }, &due, (y, X))?;
     }
-    Ok(0)
-}
-
-fn first_untripped_trip(alloc: Global) -> Result<u32, Fail> {
-    for word in &TRIP {
-        let due = Due {
-            next: 0,
-            register: (9, X),
-            ..GOES_ON
-        };
-        if !trips(
-            alloc,
-            Given {
-                word: *word,
-                ..STORED
-            },
-            due,
-            (DATA + 4, 10),
-        )? {
-            return Ok(*word);
-        }
-    }
-    Ok(0)
-}
-
-#[test]
-fn overflows_are_noted(rt: HostRuntime) -> Result<(), Fail> {
-    assert_eq!(rt; first_uncomputed(rt.alloc(), PLAIN, &OVERFLOWS)?, 0);
-    Ok(())
-}
-
-#[test]
-fn quotients_at_the_edges(rt: HostRuntime) -> Result<(), Fail> {
-    assert_eq!(rt; first_uncomputed(rt.alloc(), PLAIN, &QUOTIENTS)?, 0);
-    Ok(())
-}
-
-#[test]
-fn events_go_by_their_own_bits(rt: HostRuntime) -> Result<(), Fail> {
-    assert_eq!(rt; first_unnoted(rt.alloc())?, 0);
-    Ok(())
-}
-
-#[test]
-fn numbers_trip(rt: HostRuntime) -> Result<(), Fail> {
-    assert_eq!(rt; first_untripped(rt.alloc())?, 0);
-    Ok(())
-}
-
-#[test]
-fn stores_trip(rt: HostRuntime) -> Result<(), Fail> {
-    assert_eq!(rt; first_untripped_store(rt.alloc())?, 0);
     Ok(())
 }
 
 #[test]
 fn trip_trips(rt: HostRuntime) -> Result<(), Fail> {
-    assert_eq!(rt; first_untripped_trip(rt.alloc())?, 0);
+    for word in &TRIP {
+        let given = Given {
+            word: *word,
+            ..STORED
+        };
+        let due = Due {
+            next: 0,
+            register: (9, X),
+            ..GOES_ON
+        };
+        trips(rt.alloc(), &given, &due, (DATA + 4, 10))?;
+    }
     Ok(())
 }

@@ -3,9 +3,7 @@
 //! A is #..e with the register $3 and #..7 with the byte 3. So the parts that hold it lie at the end of
 //! the octa, and the low bits of A are to be ignored.
 
-use crate::row::{
-    DATA, Due, GOES_ON, Given, PLAIN, RA, RP, first_busy, first_unstopped, goes, sets,
-};
+use crate::row::{DATA, Due, GOES_ON, Given, PLAIN, RA, RP, all_idle, all_stop, goes, sets};
 use mx_core::{Reason, Touch};
 use std::alloc::Global;
 use std::test::Fail;
@@ -301,8 +299,8 @@ fn octa_at(place: u64) -> u64 {
     if place < 8 { DATA } else { DATA + 8 }
 }
 
-/// The first tetra that does not come to what is due of it, or 0.
-fn first_misloaded(alloc: Global, given: Given, rows: &[Load]) -> Result<u32, Fail> {
+/// Sees that each tetra loads what is due.
+fn all_load(alloc: Global, given: &Given, rows: &[Load]) -> Result<(), Fail> {
     for row in rows {
         let (word, value, place, size) = *row;
         let due = Due {
@@ -310,14 +308,13 @@ fn first_misloaded(alloc: Global, given: Given, rows: &[Load]) -> Result<u32, Fa
             octa: (DATA, given.octas.0),
             ..sets(value)
         };
-        if !goes(alloc, Given { word, ..given }, due)? {
-            return Ok(word);
-        }
+        goes(alloc, &Given { word, ..*given }, &due)?;
     }
-    Ok(0)
+    Ok(())
 }
 
-fn first_misstored(alloc: Global, rows: &[Store]) -> Result<u32, Fail> {
+/// Sees that each tetra stores what is due.
+fn all_store(alloc: Global, rows: &[Store]) -> Result<(), Fail> {
     for row in rows {
         let (word, x, place, size, octa, a) = *row;
         let due = Due {
@@ -326,14 +323,33 @@ fn first_misstored(alloc: Global, rows: &[Store]) -> Result<u32, Fail> {
             special: (RA, a),
             ..GOES_ON
         };
-        if !goes(alloc, Given { word, x, ..PLACES }, due)? {
-            return Ok(word);
-        }
+        goes(alloc, &Given { word, x, ..PLACES }, &due)?;
     }
-    Ok(0)
+    Ok(())
 }
 
-fn first_misswapped(alloc: Global) -> Result<u32, Fail> {
+#[test]
+fn loads(rt: HostRuntime) -> Result<(), Fail> {
+    all_load(rt.alloc(), &PLACES, &LOADS)
+}
+
+#[test]
+fn loads_of_positive_parts(rt: HostRuntime) -> Result<(), Fail> {
+    all_load(rt.alloc(), &POSITIVE, &POSITIVE_LOADS)
+}
+
+#[test]
+fn stores(rt: HostRuntime) -> Result<(), Fail> {
+    all_store(rt.alloc(), &STORES)
+}
+
+#[test]
+fn stores_of_what_just_fits(rt: HostRuntime) -> Result<(), Fail> {
+    all_store(rt.alloc(), &FITS)
+}
+
+#[test]
+fn swaps(rt: HostRuntime) -> Result<(), Fail> {
     for row in &SWAPS {
         let (word, before, place, writes, octa, value, after) = *row;
         let given = Given {
@@ -348,54 +364,17 @@ fn first_misswapped(alloc: Global) -> Result<u32, Fail> {
             special: (RP, after),
             ..sets(value)
         };
-        if !goes(alloc, given, due)? {
-            return Ok(word);
-        }
+        goes(rt.alloc(), &given, &due)?;
     }
-    Ok(0)
-}
-
-#[test]
-fn loads(rt: HostRuntime) -> Result<(), Fail> {
-    assert_eq!(rt; first_misloaded(rt.alloc(), PLACES, &LOADS)?, 0);
-    Ok(())
-}
-
-#[test]
-fn loads_of_positive_parts(rt: HostRuntime) -> Result<(), Fail> {
-    assert_eq!(rt; first_misloaded(rt.alloc(), POSITIVE, &POSITIVE_LOADS)?, 0);
-    Ok(())
-}
-
-#[test]
-fn stores(rt: HostRuntime) -> Result<(), Fail> {
-    assert_eq!(rt; first_misstored(rt.alloc(), &STORES)?, 0);
-    Ok(())
-}
-
-#[test]
-fn stores_of_what_just_fits(rt: HostRuntime) -> Result<(), Fail> {
-    assert_eq!(rt; first_misstored(rt.alloc(), &FITS)?, 0);
-    Ok(())
-}
-
-#[test]
-fn swaps(rt: HostRuntime) -> Result<(), Fail> {
-    assert_eq!(rt; first_misswapped(rt.alloc())?, 0);
     Ok(())
 }
 
 #[test]
 fn nothing_at_any_address(rt: HostRuntime) -> Result<(), Fail> {
-    assert_eq!(rt; first_busy(rt.alloc(), NEGATIVE, &IDLE)?, 0);
-    Ok(())
+    all_idle(rt.alloc(), &NEGATIVE, &IDLE)
 }
 
 #[test]
 fn negative_addresses(rt: HostRuntime) -> Result<(), Fail> {
-    assert_eq!(rt;
-        first_unstopped(rt.alloc(), NEGATIVE, &TOUCHING, Reason::Negative)?,
-        0
-    );
-    Ok(())
+    all_stop(rt.alloc(), &NEGATIVE, &TOUCHING, Reason::Negative)
 }

@@ -1,8 +1,6 @@
 //! Whole numbers: sums, products, quotients, comparisons and shifts, and what becomes local.
 
-use crate::row::{
-    Computed, Given, Going, NEXT, PLAIN, RA, RH, RR, first_uncomputed, first_ungone, first_unset,
-};
+use crate::row::{Computed, Given, Going, NEXT, PLAIN, RA, RH, RR, all_compute, all_go, all_set};
 use std::test::Fail;
 
 const MINUS_7: u64 = 0xffff_ffff_ffff_fff9;
@@ -163,30 +161,25 @@ const BROAD: Given = Given {
 
 #[test]
 fn sums_and_comparisons(rt: HostRuntime) -> Result<(), Fail> {
-    assert_eq!(rt; first_unset(rt.alloc(), SMALL, &SUMS)?, 0);
-    Ok(())
+    all_set(rt.alloc(), &SMALL, &SUMS)
 }
 
 #[test]
 fn shifts(rt: HostRuntime) -> Result<(), Fail> {
-    assert_eq!(rt; first_unset(rt.alloc(), BROAD, &SHIFTS)?, 0);
-    Ok(())
+    all_set(rt.alloc(), &BROAD, &SHIFTS)
 }
 
 #[test]
 fn products_and_quotients(rt: HostRuntime) -> Result<(), Fail> {
-    assert_eq!(rt; first_uncomputed(rt.alloc(), PLAIN, &PRODUCTS)?, 0);
-    Ok(())
+    all_compute(rt.alloc(), &PLAIN, &PRODUCTS)
 }
 
 #[test]
 fn other_operands(rt: HostRuntime) -> Result<(), Fail> {
-    assert_eq!(rt; first_uncomputed(rt.alloc(), PLAIN, &OTHERS)?, 0);
-    Ok(())
+    all_compute(rt.alloc(), &PLAIN, &OTHERS)
 }
 
 #[test]
 fn destinations_become_local(rt: HostRuntime) -> Result<(), Fail> {
-    assert_eq!(rt; first_ungone(rt.alloc(), SMALL, &DESTINATIONS)?, 0);
-    Ok(())
+    all_go(rt.alloc(), &SMALL, &DESTINATIONS)
 }

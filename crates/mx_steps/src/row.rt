@@ -1,9 +1,9 @@
 //! One step of a machine, and what is due of it.
 //!
-//! The calls that take rows answer the first tetra that does not come to what is due of it, or 0. Most
-//! rows have the operands X = 9, Y = 2 and Z = 3. Ten registers are local before the step.
+//! The calls that take rows fail at the first one that does not come to what is due of it, and name its
+//! tetra. Most rows have the operands X = 9, Y = 2 and Z = 3. Ten registers are local before the step.
 
-use mx_core::{Machine, Reason, Step, Touch, Trace};
+use mx_core::{Machine, Reason, SetFault, Step, Touch, Trace};
 use mx_load::Loader;
 use mx_ring::RingSize;
 use mx_word::{Bytes, Symbols};
@@ -54,7 +54,7 @@ pub const RY: u8 = 26;
 pub const RZ: u8 = 27;
 
 /// What the special registers have before the step that may get a value, but for rA, which has 0.
-const SPECIALS: [(u8, u64); 18] = [
+static SPECIALS: [(u8, u64); 18] = [
     (0, 0xb00),
     (1, 2),
     (2, 0xe00),
@@ -145,70 +145,125 @@ pub fn sets(value: u64) -> Due {
     }
 }
 
-/// A machine that has what is given, before its step.
-fn machine(alloc: Global, size: RingSize, given: Given) -> Result<Machine, Fail> {
+/// A machine with arguments and a ring of so many registers, before any step.
+pub fn started_with(alloc: Global, registers: u32, args: &[Bytes]) -> Result<Machine, Fail> {
+    let Some(size) = RingSize::of(registers) else {
+        return Err(Fail::new("no size of a ring"));
+    };
+    if args.is_empty() {
+        return Err(Fail::new("no argument"));
+    }
     let image = Loader::new(alloc).finish(Symbols::new(alloc))?;
-    let args = [Bytes::copy(alloc, b"p")?];
-    let mut machine = Machine::start(alloc, image, &args, size)?;
-    set_specials(&mut machine)?;
-    set_special(&mut machine, given.special)?;
-    machine.set_register(9, given.x)?;
-    machine.set_register(2, given.y)?;
-    machine.set_register(3, given.z)?;
-    machine.set_register(255, TOP)?;
-    set_memory(&mut machine, given)?;
+    Ok(Machine::start(alloc, image, args, size)?)
+}
+
+/// The same with the argument `p`.
+pub fn started(alloc: Global, registers: u32) -> Result<Machine, Fail> {
+    started_with(alloc, registers, &[Bytes::copy(alloc, b"p")?])
+}
+
+/// Gives special registers values, by their codes.
+fn set_specials(machine: &mut Machine, specials: &[(u8, u64)]) -> Result<(), SetFault> {
+    for (code, value) in specials {
+        if *code >= 32 {
+            return Err(SetFault::NotAllowed);
+        }
+        machine.set_special(*code, *value)?;
+    }
+    Ok(())
+}
+
+/// Gives registers values.
+fn set_registers(machine: &mut Machine, registers: &[(u8, u64)]) -> Result<(), SetFault> {
+    for (k, value) in registers {
+        machine.set_register(*k, *value)?;
+    }
+    Ok(())
+}
+
+/// Stores octas at their addresses.
+pub fn set_octas(machine: &mut Machine, octas: &[(u64, u64)]) -> Result<(), SetFault> {
+    for (at, octa) in octas {
+        if *at >= 1 << 63 {
+            return Err(SetFault::NotAllowed);
+        }
+        machine.set_octa(*at, *octa)?;
+    }
+    Ok(())
+}
+
+/// The registers of a machine get what is given.
+fn prepare_registers(machine: &mut Machine, given: &Given) -> Result<(), SetFault> {
+    let registers = [(9, given.x), (2, given.y), (3, given.z), (255, TOP)];
+    set_specials(machine, &SPECIALS)?;
+    set_specials(machine, &[given.special])?;
+    set_registers(machine, &registers)
+}
+
+/// The memory of a machine gets what is given.
+fn prepare_memory(machine: &mut Machine, given: &Given) -> Result<(), SetFault> {
+    let handler = (given.handler as u64) << 32;
+    let octas = [
+        (0, handler),
+        (0x10, handler),
+        (0x20, handler),
+        (DATA, given.octas.0),
+        (DATA + 8, given.octas.1),
+        (AT - 4, ((given.first as u64) << 32) | given.word as u64),
+    ];
+    set_octas(machine, &octas)
+}
+
+/// A machine that has what is given, before its step.
+fn machine(alloc: Global, given: &Given) -> Result<Machine, Fail> {
+    let mut machine = started(alloc, 256)?;
+    prepare_registers(&mut machine, given)?;
+    prepare_memory(&mut machine, given)?;
     machine.set_pc(AT - 4);
     machine.advance();
     Ok(machine)
 }
 
-fn set_specials(machine: &mut Machine) -> Result<(), Fail> {
-    for special in SPECIALS {
-        set_special(machine, special)?;
-    }
-    Ok(())
-}
-
-fn set_special(machine: &mut Machine, (code, value): (u8, u64)) -> Result<(), Fail> {
-    if code < 32 {
-        machine.set_special(code, value)?;
-    }
-    Ok(())
-}
-
-fn set_memory(machine: &mut Machine, given: Given) -> Result<(), Fail> {
-    let handler = (given.handler as u64) << 32;
-    machine.set_octa(0, handler)?;
-    machine.set_octa(0x10, handler)?;
-    machine.set_octa(0x20, handler)?;
-    machine.set_octa(DATA, given.octas.0)?;
-    machine.set_octa(DATA + 8, given.octas.1)?;
-    machine.set_octa(AT - 4, ((given.first as u64) << 32) | given.word as u64)?;
-    Ok(())
-}
-
-fn has_special(machine: &Machine, (code, value): (u8, u64)) -> bool {
+/// Whether a special register, by its code, has a value.
+pub fn has_special(machine: &Machine, (code, value): (u8, u64)) -> bool {
     code < 32 && machine.special(code) == value
 }
 
-fn has_octa(machine: &Machine, (at, value): (u64, u64)) -> bool {
+/// Whether memory has an octa at an address.
+pub fn has_octa(machine: &Machine, (at, value): (u64, u64)) -> bool {
     at < 1 << 63 && machine.octa(at) == value
 }
 
-fn has_all(machine: &Machine, due: Due) -> bool {
-    machine.register(due.register.0) == due.register.1
+/// Whether a machine has all that is due.
+fn has_all(machine: &Machine, due: &Due) -> bool {
+    machine.pc() == due.next
+        && machine.register(due.register.0) == due.register.1
         && has_special(machine, due.special)
         && has_special(machine, due.other)
         && has_octa(machine, due.octa)
         && machine.l() == due.l
 }
 
-/// Whether the step goes on, and comes to what is due.
-pub fn goes(alloc: Global, given: Given, due: Due) -> Result<bool, Fail> {
-    let Some(size) = RingSize::of(256) else {
-        return Ok(false);
-    };
-    let mut machine = machine(alloc, size, given)?;
+/// Whether the step answers this, and the machine has what is due then.
+fn makes(alloc: Global, given: &Given, answer: Step, due: &Due) -> Result<bool, Fail> {
+    let mut machine = machine(alloc, given)?;
+    Ok(machine.step() == answer && has_all(&machine, due))
+}
+
+/// Fails, and names the tetra and the special register that were given, where they do not come to what is due.
+fn see(given: &Given, is_due: bool) -> Result<(), Fail> {
+    if is_due {
+        return Ok(());
+    }
+    let (code, value) = given.special;
+    Err(Fail::new(format_args!(
+        "tetra {:#010x}, special register {code}: {value:#x}",
+        given.word
+    )))
+}
+
+/// Sees that the step goes on, and comes to what is due.
+pub fn goes(alloc: Global, given: &Given, due: &Due) -> Result<(), Fail> {
     let trace = Trace {
         pc: AT,
         word: given.word,
@@ -217,66 +272,62 @@ pub fn goes(alloc: Global, given: Given, due: Due) -> Result<bool, Fail> {
         writes: due.writes,
         next: due.next,
     };
-    Ok(machine.step() == Step::Went(trace) && machine.pc() == due.next && has_all(&machine, due))
+    see(given, makes(alloc, given, Step::Went(trace), due)?)
 }
 
-/// Whether the step answers this without going on, and leaves the machine as it was.
-pub fn answers(alloc: Global, given: Given, answer: Step) -> Result<bool, Fail> {
-    let Some(size) = RingSize::of(256) else {
-        return Ok(false);
-    };
-    let mut machine = machine(alloc, size, given)?;
+/// Sees that the step answers this without going on, and leaves the machine as it was.
+pub fn answers(alloc: Global, given: &Given, answer: Step) -> Result<(), Fail> {
     let due = Due {
+        next: AT,
         special: given.special,
         octa: (DATA, given.octas.0),
         ..GOES_ON
     };
-    Ok(machine.step() == answer && machine.pc() == AT && has_all(&machine, due))
+    see(given, makes(alloc, given, answer, &due)?)
 }
 
 /// Rows of what goes on with nothing but a value for $9: the tetra and the value.
-pub fn first_unset(alloc: Global, given: Given, rows: &[(u32, u64)]) -> Result<u32, Fail> {
-    for row in rows {
-        let (word, value) = *row;
-        if !goes(alloc, Given { word, ..given }, sets(value))? {
-            return Ok(word);
-        }
+pub fn all_set(alloc: Global, given: &Given, rows: &[(u32, u64)]) -> Result<(), Fail> {
+    for (word, value) in rows {
+        let given = Given {
+            word: *word,
+            ..*given
+        };
+        goes(alloc, &given, &sets(*value))?;
     }
-    Ok(0)
+    Ok(())
 }
 
 /// Rows of what gives $9 a value and may set a special register: the tetra, y and z, the value, and a
 /// special register with what it has then.
 pub type Computed = (u32, u64, u64, u64, (u8, u64));
 
-pub fn first_uncomputed(alloc: Global, given: Given, rows: &[Computed]) -> Result<u32, Fail> {
+pub fn all_compute(alloc: Global, given: &Given, rows: &[Computed]) -> Result<(), Fail> {
     for row in rows {
         let (word, y, z, value, special) = *row;
         let due = Due {
             special,
             ..sets(value)
         };
-        if !goes(
+        goes(
             alloc,
-            Given {
+            &Given {
                 word,
                 y,
                 z,
-                ..given
+                ..*given
             },
-            due,
-        )? {
-            return Ok(word);
-        }
+            &due,
+        )?;
     }
-    Ok(0)
+    Ok(())
 }
 
 /// Rows of what touches no memory: the tetra, its destination, the next address, a register and a special
 /// register with what they have then, and how many registers are local then.
 pub type Going = (u32, Option<u8>, u64, (u8, u64), (u8, u64), u8);
 
-pub fn first_ungone(alloc: Global, given: Given, rows: &[Going]) -> Result<u32, Fail> {
+pub fn all_go(alloc: Global, given: &Given, rows: &[Going]) -> Result<(), Fail> {
     for row in rows {
         let (word, dest, next, register, special, l) = *row;
         let due = Due {
@@ -287,48 +338,31 @@ pub fn first_ungone(alloc: Global, given: Given, rows: &[Going]) -> Result<u32, 
             l,
             ..GOES_ON
         };
-        if !goes(alloc, Given { word, ..given }, due)? {
-            return Ok(word);
-        }
+        goes(alloc, &Given { word, ..*given }, &due)?;
     }
-    Ok(0)
+    Ok(())
 }
 
 /// Rows of what does nothing but to go on: the tetras.
-pub fn first_busy(alloc: Global, given: Given, words: &[u32]) -> Result<u32, Fail> {
+pub fn all_idle(alloc: Global, given: &Given, words: &[u32]) -> Result<(), Fail> {
     for word in words {
-        if !goes(
-            alloc,
-            Given {
-                word: *word,
-                ..given
-            },
-            GOES_ON,
-        )? {
-            return Ok(*word);
-        }
+        let given = Given {
+            word: *word,
+            ..*given
+        };
+        goes(alloc, &given, &GOES_ON)?;
     }
-    Ok(0)
+    Ok(())
 }
 
 /// Rows of what stops for a reason, with the machine as it was: the tetras.
-pub fn first_unstopped(
-    alloc: Global,
-    given: Given,
-    words: &[u32],
-    reason: Reason,
-) -> Result<u32, Fail> {
+pub fn all_stop(alloc: Global, given: &Given, words: &[u32], reason: Reason) -> Result<(), Fail> {
     for word in words {
-        if !answers(
-            alloc,
-            Given {
-                word: *word,
-                ..given
-            },
-            Step::Stopped(reason),
-        )? {
-            return Ok(*word);
-        }
+        let given = Given {
+            word: *word,
+            ..*given
+        };
+        answers(alloc, &given, Step::Stopped(reason))?;
     }
-    Ok(0)
+    Ok(())
 }

@@ -1,11 +1,9 @@
 //! A program that starts with the arguments `p` and `ab`, by the rules of the simulator.
 
+use crate::row::{has_octa, has_special, started_with};
 use mx_core::{Machine, StartFault};
-use mx_load::Loader;
-use mx_ring::RingSize;
-use mx_word::{Bytes, Symbols};
+use mx_word::Bytes;
 use std::alloc::Global;
-use std::process::Abort;
 use std::test::Fail;
 
 /// Addresses, and the octas there.
@@ -35,33 +33,49 @@ static SPECIALS: [(u8, u64); 8] = [
 ];
 
 /// The machine at the start.
-fn started(rt: &impl Abort, alloc: Global) -> Result<Machine, Fail> {
+fn machine(alloc: Global) -> Result<Machine, Fail> {
     let args = [Bytes::copy(alloc, b"p")?, Bytes::copy(alloc, b"ab")?];
-    let image = Loader::new(alloc).finish(Symbols::new(alloc))?;
-    let size = RingSize::of(256).expect(rt, "a power of two");
-    Ok(Machine::start(alloc, image, &args, size)?)
+    started_with(alloc, 256, &args)
+}
+
+/// Sees that a machine has the octas.
+fn has_octas(machine: &Machine) -> Result<(), Fail> {
+    for (at, octa) in &OCTAS {
+        if !has_octa(machine, (*at, *octa)) {
+            return Err(Fail::new(format_args!("at {at:#x}")));
+        }
+    }
+    Ok(())
+}
+
+/// Sees that a machine has the special registers.
+fn has_specials(machine: &Machine) -> Result<(), Fail> {
+    for (code, value) in &SPECIALS {
+        if !has_special(machine, (*code, *value)) {
+            return Err(Fail::new(format_args!("special {code}")));
+        }
+    }
+    Ok(())
 }
 
 #[test]
 fn memory_at_the_start(rt: HostRuntime) -> Result<(), Fail> {
-    let machine = started(&rt, rt.alloc())?;
-    for (a, octa) in &OCTAS {
-        assert!(rt; *a < 1 << 63);
-        assert_eq!(rt; machine.octa(*a), *octa, "at {a}");
+    has_octas(&machine(rt.alloc())?)
+}
+
+/// Sees that a machine has $0, $1 and the next address.
+fn has_registers(machine: &Machine) -> Result<(), Fail> {
+    let found = (machine.register(0), machine.register(1), machine.pc());
+    if found == (2, 0x4000_0000_0000_0008, 0) {
+        return Ok(());
     }
-    Ok(())
+    Err(Fail::new(format_args!("found {found:?}")))
 }
 
 #[test]
 fn registers_at_the_start(rt: HostRuntime) -> Result<(), Fail> {
-    let machine = started(&rt, rt.alloc())?;
-    for (code, x) in &SPECIALS {
-        assert!(rt; *code < 32);
-        assert_eq!(rt; machine.special(*code), *x, "special {code}");
-    }
-    assert_eq!(rt; machine.register(0), 2);
-    assert_eq!(rt; machine.register(1), 0x4000_0000_0000_0008);
-    assert_eq!(rt; machine.pc(), 0);
     assert_eq!(rt; StartFault::PagesFull.number(), 118);
-    Ok(())
+    let machine = machine(rt.alloc())?;
+    has_specials(&machine)?;
+    has_registers(&machine)
 }

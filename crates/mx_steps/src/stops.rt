@@ -1,10 +1,9 @@
 //! What stops the machine whatever its memory has, and TRAP, which waits for its result. The machine is
 //! as it was then.
 
-use crate::row::{AT, Given, PLAIN, RX, TOP, answers, first_unstopped};
+use crate::row::{AT, Given, PLAIN, RX, TOP, all_stop, answers};
 use mx_core::{Reason, Step};
 use mx_trip::TrapCall;
-use std::alloc::Global;
 use std::test::Fail;
 
 /// The instructions on floating-point numbers; LDSF and STSF.
@@ -121,87 +120,61 @@ const LARGE: Given = Given {
     ..PLAIN
 };
 
-/// The first rX whose instruction is not refused, or 0.
-fn first_inserted(alloc: Global) -> Result<u64, Fail> {
-    for row in &INSERTED {
-        let (rx, reason) = *row;
-        let given = Given {
-            word: 0xf900_0000,
-            special: (RX, rx),
-            ..PLAIN
-        };
-        if !answers(alloc, given, Step::Stopped(reason))? {
-            return Ok(rx);
-        }
-    }
-    Ok(0)
-}
-
-/// Whether a step is a call of a file trap, whose argument is $255.
-fn waits(alloc: Global, word: u32) -> Result<bool, Fail> {
-    let call = TrapCall {
-        pc: AT,
-        word,
-        arg: TOP,
-    };
-    answers(alloc, Given { word, ..PLAIN }, Step::Trap(call))
-}
+/// TRAP, with any fields.
+static TRAPS: [u32; 2] = [0x0000_0701, 0x0009_0203];
 
 #[test]
 fn floats(rt: HostRuntime) -> Result<(), Fail> {
-    assert_eq!(rt;
-        first_unstopped(rt.alloc(), PLAIN, &FLOATS, Reason::Float)?,
-        0
-    );
-    Ok(())
+    all_stop(rt.alloc(), &PLAIN, &FLOATS, Reason::Float)
 }
 
 #[test]
 fn privileged(rt: HostRuntime) -> Result<(), Fail> {
-    assert_eq!(rt;
-        first_unstopped(rt.alloc(), PLAIN, &PRIVILEGED, Reason::Privileged)?,
-        0
-    );
-    Ok(())
+    all_stop(rt.alloc(), &PLAIN, &PRIVILEGED, Reason::Privileged)
 }
 
 #[test]
 fn illegal_fields(rt: HostRuntime) -> Result<(), Fail> {
-    assert_eq!(rt;
-        first_unstopped(rt.alloc(), LARGE, &ILLEGAL, Reason::Illegal)?,
-        0
-    );
-    Ok(())
+    all_stop(rt.alloc(), &LARGE, &ILLEGAL, Reason::Illegal)
 }
 
 #[test]
 fn nothing_hidden(rt: HostRuntime) -> Result<(), Fail> {
-    assert_eq!(rt;
-        first_unstopped(rt.alloc(), LARGE, &UNDERFLOWS, Reason::Underflow)?,
-        0
-    );
-    Ok(())
+    all_stop(rt.alloc(), &LARGE, &UNDERFLOWS, Reason::Underflow)
 }
 
 #[test]
 fn no_frame(rt: HostRuntime) -> Result<(), Fail> {
-    assert_eq!(rt;
-        first_unstopped(rt.alloc(), LARGE, &BAD_FRAMES, Reason::BadFrame)?,
-        0
-    );
-    Ok(())
+    all_stop(rt.alloc(), &LARGE, &BAD_FRAMES, Reason::BadFrame)
 }
 
 #[test]
 fn what_is_not_inserted(rt: HostRuntime) -> Result<(), Fail> {
-    assert_eq!(rt; first_inserted(rt.alloc())?, 0);
+    for (rx, reason) in &INSERTED {
+        let given = Given {
+            word: 0xf900_0000,
+            special: (RX, *rx),
+            ..PLAIN
+        };
+        answers(rt.alloc(), &given, Step::Stopped(*reason))?;
+    }
     Ok(())
 }
 
-/// TRAP, with any fields.
+/// A step is a call of a file trap, whose argument is $255.
 #[test]
 fn traps_wait(rt: HostRuntime) -> Result<(), Fail> {
-    assert!(rt; waits(rt.alloc(), 0x0000_0701)?);
-    assert!(rt; waits(rt.alloc(), 0x0009_0203)?);
+    for word in &TRAPS {
+        let call = TrapCall {
+            pc: AT,
+            word: *word,
+            arg: TOP,
+        };
+        let given = Given {
+            word: *word,
+            ..PLAIN
+        };
+        answers(rt.alloc(), &given, Step::Trap(call))?;
+    }
     Ok(())
 }
