@@ -1,6 +1,6 @@
 //! The item that stands first in what was fed.
 
-ghost use Rattle.std.specs.Prelude.{◌≡◌, ◌≢◌, ◌≤◌, ◌*◌, ◌+◌, Some, false, IfOk, IfSome, length, take, drop};
+ghost use Rattle.std.specs.Prelude.{◌≡◌, ◌≢◌, ◌≤◌, ◌*◌, ◌+◌, Some, false, IfOk, IfSome, [], length, take, drop};
 ghost use Rattle.mx_mmo.specs.Reading as spec;
 ghost use Rattle.mx_mmo.specs.Reading.{IsWithin};
 ghost use Rattle.mx_mmo.specs.Skipping.{quoted_behind, skipped};
@@ -81,6 +81,30 @@ fn lop_item(
     }
 }
 
+/// `pre`, which every object begins with.
+fn start_item(alloc: Global, at: u64, a: u8, code: u8, y: u8, z: u8, more: &[u8]) -> Due
+    ensures { result ≢ Err MmoFault.OutOfMemory → result ≡ spec.due_item Phase.Start at a code y z more.now }
+{
+    if a == 0x98 && code == 9 && y == 1 {
+        pre_item(alloc, z, more)
+    } else {
+        Err(MmoFault::NoPre(at))
+    }
+}
+
+/// `stab`, which alone follows `post`.
+fn posted_item(at: u64, a: u8, code: u8, y: u8, z: u8) -> Due
+    ensures { result ≡ spec.due_item Phase.Posted at a code y z [] }
+{
+    if a != 0x98 || code != 11 {
+        Err(MmoFault::BadLop(at))
+    } else if y != 0 || z != 0 {
+        Err(MmoFault::BadFields(at))
+    } else {
+        Ok(Some((Item::Stab, 4)))
+    }
+}
+
 /// The item that a first tetra begins.
 fn due_item(alloc: Global, scan: &mut Scan, phase: Phase, at: u64, rest: &[u8]) -> Due
     requires within { scan.old.size ≤ length (drop 4 rest.now) }
@@ -93,13 +117,10 @@ fn due_item(alloc: Global, scan: &mut Scan, phase: Phase, at: u64, rest: &[u8]) 
         return Ok(None);
     };
     match phase {
-        Phase::Start if *a == 0x98 && *code == 9 && *y == 1 => pre_item(alloc, *z, more),
-        Phase::Start => Err(MmoFault::NoPre(at)),
+        Phase::Start => start_item(alloc, at, *a, *code, *y, *z, more),
         Phase::Middle if *a == 0x98 => lop_item(alloc, scan, at, lop_of(*code), *y, *z, more),
         Phase::Middle => Ok(Some((Item::Load(tetra_of([*a, *code, *y, *z])), 4))),
-        Phase::Posted if *a != 0x98 || *code != 11 => Err(MmoFault::BadLop(at)),
-        Phase::Posted if *y != 0 || *z != 0 => Err(MmoFault::BadFields(at)),
-        Phase::Posted => Ok(Some((Item::Stab, 4))),
+        Phase::Posted => posted_item(at, *a, *code, *y, *z),
         Phase::Ended => Ok(None),
     }
 }
