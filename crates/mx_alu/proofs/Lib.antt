@@ -1,5 +1,6 @@
 pub mod Shifts
 pub mod Floors
+pub mod Products
 pub mod Fields
 pub mod Logic
 pub mod Places

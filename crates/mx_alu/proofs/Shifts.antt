@@ -73,4 +73,6 @@ shifted-out (pos zero) z h ne = absurd (ne refl)
 shifted-out (pos (suc a)) z h ne = left-of (suc a * 2 ^ z) (big (suc a) z (omega arith) h) (high-left (suc a) z h)
 shifted-out (negsuc a) z h ne = left-of-negative (suc a * 2 ^ z) (big (suc a) z (omega arith) h) (high-left (suc a) z h)
 
-pub ruleset signed_shifts = (right-signed, shifted-out)
+pub ruleset signed_right = (right-signed)
+
+pub ruleset signed_left = (shifted-out)

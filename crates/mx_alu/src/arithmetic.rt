@@ -1,6 +1,7 @@
 //! Sums, products, quotients, comparisons and shifts.
 
-ghost use Rattle.std.specs.Prelude.{ℕ, ◌≡◌, ◌≢◌, ◌+◌, ◌*◌, ◌/◌, ◌%◌, ◌^◌, ◌<◌, pos, ◌-ℤ◌, ◌*ℤ◌};
+ghost use Rattle.std.specs.Prelude.{ℕ, ◌≡◌, ◌≢◌, ◌+◌, ◌*◌, ◌/◌, ◌%◌, ◌^◌, ◌<◌, ◌≤◌};
+ghost use Rattle.std.specs.Prelude.{pos, unsigned_abs, ◌+ℤ◌, ◌-ℤ◌, ◌*ℤ◌};
 ghost use Rattle.mx_word.specs.Words.{signed_value};
 ghost use Rattle.mx_alu.specs.Arithmetic as spec;
 ghost use Rattle.mx_alu.specs.Answers.{checked_answer, lone_value};
@@ -18,13 +19,13 @@ pub(crate) fn perform(name: Arithmetic, y: u64, z: u64, d: u64) -> Answer
     ensures { result ≡ spec.arithmetic name y z d }
 {
     match name {
-        Arithmetic::Mul => Answer::checked(value(y) * value(z)),
+        Arithmetic::Mul => Answer::checked(signed_product(y, z)),
         Arithmetic::Mulu => multiply(y, z),
         Arithmetic::Div => divide(y, z),
         Arithmetic::Divu => divide_long(d, y, z),
-        Arithmetic::Add => Answer::checked(value(y) + value(z)),
+        Arithmetic::Add => Answer::checked(signed_sum(y, z)),
         Arithmetic::Addu => Answer::alone(y.wrapping_add(z)),
-        Arithmetic::Sub => Answer::checked(value(y) - value(z)),
+        Arithmetic::Sub => Answer::checked(signed_difference(y, z)),
         Arithmetic::Subu => Answer::alone(subtract(y, z)),
         Arithmetic::TwoAddu => Answer::alone((y << 1).wrapping_add(z)),
         Arithmetic::FourAddu => Answer::alone((y << 2).wrapping_add(z)),
@@ -32,7 +33,7 @@ pub(crate) fn perform(name: Arithmetic, y: u64, z: u64, d: u64) -> Answer
         Arithmetic::SixteenAddu => Answer::alone((y << 4).wrapping_add(z)),
         Arithmetic::Cmp => Answer::alone(sign(signed(y).cmp(&signed(z)))),
         Arithmetic::Cmpu => Answer::alone(sign(y.cmp(&z))),
-        Arithmetic::Neg => Answer::checked(i128::from(y) - value(z)),
+        Arithmetic::Neg => Answer::checked(less_signed(y, z)),
         Arithmetic::Negu => Answer::alone(subtract(y, z)),
         Arithmetic::Sl => shift_left_signed(y, z),
         Arithmetic::Slu => Answer::alone(shift_left(y, z)),
@@ -59,10 +60,10 @@ pub(crate) fn perform_alone(name: Arithmetic, y: u64, z: u64) -> Option<u64>
         Arithmetic::Slu => Some(shift_left(y, z)),
         Arithmetic::Sr => Some(shift_right_signed(y, z)),
         Arithmetic::Sru => Some(shift_right(y, z)),
-        Arithmetic::Add => fitting(value(y) + value(z)),
-        Arithmetic::Sub => fitting(value(y) - value(z)),
+        Arithmetic::Add => fitting(signed_sum(y, z)),
+        Arithmetic::Sub => fitting(signed_difference(y, z)),
         Arithmetic::Mul => lone(&perform(Arithmetic::Mul, y, z, 0)),
-        Arithmetic::Neg => fitting(i128::from(y) - value(z)),
+        Arithmetic::Neg => fitting(less_signed(y, z)),
         Arithmetic::Sl => lone(&shift_left_signed(y, z)),
         Arithmetic::Mulu => None,
         Arithmetic::Div => None,
@@ -76,6 +77,38 @@ fn value(x: u64) -> i128
     ensures { result ≡ signed_value x }
 {
     i128::from(signed(x))
+}
+
+/// The sum of two signed octas.
+#[inline(always)]
+fn signed_sum(y: u64, z: u64) -> i128
+    ensures { result ≡ signed_value y +ℤ signed_value z }
+{
+    value(y) + value(z)
+}
+
+/// The difference of two signed octas.
+#[inline(always)]
+fn signed_difference(y: u64, z: u64) -> i128
+    ensures { result ≡ signed_value y -ℤ signed_value z }
+{
+    value(y) - value(z)
+}
+
+/// The product of two signed octas.
+#[inline(always)]
+fn signed_product(y: u64, z: u64) -> i128
+    ensures { result ≡ signed_value y *ℤ signed_value z }
+{
+    value(y) * value(z)
+}
+
+/// A number less a signed octa.
+#[inline(always)]
+fn less_signed(y: u64, z: u64) -> i128
+    ensures { result ≡ pos y -ℤ signed_value z }
+{
+    i128::from(y) - value(z)
 }
 
 /// The low half of a product of unsigned octas, with the high half in rH.
@@ -107,16 +140,26 @@ fn divide(y: u64, z: u64) -> Answer
     Answer {
         x: low(q),
         h: None,
-        r: Some(low(value(y) - value(z) * q)),
+        r: Some(low(remainder(y, z, q))),
         event: overflow(q),
     }
+}
+
+/// A signed octa less another that is taken so many times.
+#[inline(always)]
+fn remainder(y: u64, z: u64, q: i128) -> i128
+    requires { unsigned_abs q ≤ 2 ^ 63 }
+    ensures { result ≡ signed_value y -ℤ signed_value z *ℤ q }
+{
+    value(y) - value(z) * q
 }
 
 /// The floor of a signed quotient. A negative divisor and its dividend change their signs together.
 #[tactic(auto, using(crate::proofs::Floors::floors))]
 fn floor(y: u64, z: u64) -> i128
     requires { z ≢ 0 }
-    ensures { result ≡ floor_quotient (signed_value y) (signed_value z) }
+    ensures floor { result ≡ floor_quotient (signed_value y) (signed_value z) }
+    ensures most { unsigned_abs result ≤ 2 ^ 63 }
 {
     let a = value(y);
     let b = value(z);
@@ -161,14 +204,23 @@ fn sign(order: Ordering) -> u64
     }
 }
 
-/// A signed octa times 2^z.
-#[tactic(auto, using(crate::proofs::Shifts::signed_shifts))]
+/// A signed octa times 2^z, whole.
+#[inline(always)]
+fn scaled(y: u64, z: u64) -> i128
+    requires { z < 64 }
+    ensures { result ≡ signed_value y *ℤ pos (2 ^ z) }
+{
+    value(y) * i128::from(1u64 << z)
+}
+
+/// A signed octa times 2^z, as an octa.
+#[tactic(auto, using(crate::proofs::Shifts::signed_left))]
 #[inline(always)]
 fn shift_left_signed(y: u64, z: u64) -> Answer
     ensures { result ≡ checked_answer (signed_value y *ℤ pos (2 ^ z)) }
 {
     if z < 64 {
-        return Answer::checked(value(y) * i128::from(1u64 << z));
+        return Answer::checked(scaled(y, z));
     }
     Answer {
         x: 0,
@@ -188,7 +240,7 @@ fn shift_left(y: u64, z: u64) -> u64
 }
 
 /// The floor of a signed octa by 2^z, as an octa.
-#[tactic(auto, using(crate::proofs::Shifts::signed_shifts))]
+#[tactic(auto, using(crate::proofs::Shifts::signed_right))]
 #[inline(always)]
 fn shift_right_signed(y: u64, z: u64) -> u64
     ensures { result ≡ octa (floor_by (signed_value y) (2 ^ z)) }

@@ -4,14 +4,14 @@ ghost use Rattle.std.specs.Prelude.{◌≡◌, ◌≢◌, ◌<◌, ◌≤◌, �
 ghost use Rattle.std.specs.Prelude.{List, ℕ, ◌++◌, ◌%◌, ◌/◌, ◌^◌};
 ghost use Rattle.std.specs.List.{concat};
 ghost use Rattle.mx_mmo.specs.Reading.{first_item};
-ghost use Rattle.mx_mmo.specs.Replies.{limit};
+ghost use Rattle.mx_mmo.specs.Replies.{fresh, limit, tail_of};
 ghost use Rattle.mx_mmo.specs.Spelling.{ending, written};
 ghost use Rattle.mx_mmo.specs.Valid.{AreBytes, Valid};
 ghost use Rattle.mx_mmo.specs.declared.items.Item.{Item};
 ghost use Rattle.mx_mmo.specs.declared.items.Object.{Object};
 ghost use Rattle.mx_mmo.specs.declared.due.Phase.{Phase};
 ghost use Rattle.mx_mmo.specs.Whole.{SpellsObject, extended, fed, items_of, left_of, object_fault, object_of};
-ghost use Rattle.mx_mmo.specs.Whole.{passed_limit, pieces_within, walk_on, with_more, with_rest};
+ghost use Rattle.mx_mmo.specs.Whole.{passed_limit, pieces_within, walk_on, with_more, with_rest, with_tail};
 
 use crate::{Items, MmoFault, Object, Phase, Reader};
 use mx_word::Bytes;
@@ -77,6 +77,41 @@ fn take_piece(reader: &mut Reader, items: &mut Items, piece: &[u8]) -> Result<()
     }
 }
 
+/// Feeds the pieces from first to last, and takes all items that are whole in them.
+fn take_pieces(reader: &mut Reader, items: &mut Items, pieces: &[Bytes]) -> Result<(), MmoFault>
+    requires unfed { reader.old ≡ fresh }
+    requires none { items.old ≡ [] }
+    ensures last { OnOk result (items_of Phase.Start 0 (concat pieces.now)
+        ≡ (items.new, Ok (left_of reader.new))) }
+    ensures well { OnOk result (reader.new.fault ≡ None) }
+    ensures most { OnOk result (length (concat pieces.now) ≤ limit) }
+    ensures bytes { OnOk result (AreBytes (concat pieces.now)) }
+    ensures fault { length (concat pieces.now) ≤ limit → result ≢ Err MmoFault.OutOfMemory →
+        IfErr result (λ f. Err f ≡ object_of (concat pieces.now)) }
+    ensures long { limit < length (concat pieces.now) → result ≢ Err MmoFault.OutOfMemory →
+        IfErr result (λ f. Err f ≡ passed_limit (items_of Phase.Start 0 (pieces_within 0 pieces.now)).1) }
+{
+    for piece in pieces {
+        match take_piece(reader, items, piece.as_slice()) {
+            Ok(()) => {}
+            Err(fault) => return Err(fault),
+        }
+    }
+    Ok(())
+}
+
+/// The object of these items, where a reader that took them is told that no more comes.
+fn end_object(mut reader: Reader, items: Items) -> Result<Object, MmoFault>
+    requires { reader.fault ≡ None }
+    ensures { result ≢ Err MmoFault.OutOfMemory →
+        result ≡ with_tail items (tail_of reader.phase reader.at reader.rest) }
+{
+    match reader.finish() {
+        Ok(tail) => Ok(Object { items, tail }),
+        Err(fault) => Err(fault),
+    }
+}
+
 /// Reads the pieces from first to last.
 fn read_pieces(alloc: Global, pieces: &[Bytes]) -> Result<Object, MmoFault>
     ensures exact { length (concat pieces.now) ≤ limit → result ≢ Err MmoFault.OutOfMemory →
@@ -87,14 +122,8 @@ fn read_pieces(alloc: Global, pieces: &[Bytes]) -> Result<Object, MmoFault>
 {
     let mut reader = Reader::new(alloc);
     let mut items = Items::new(alloc);
-    for piece in pieces {
-        match take_piece(&mut reader, &mut items, piece.as_slice()) {
-            Ok(()) => {}
-            Err(fault) => return Err(fault),
-        }
-    }
-    match reader.finish() {
-        Ok(tail) => Ok(Object { items, tail }),
+    match take_pieces(&mut reader, &mut items, pieces) {
+        Ok(()) => end_object(reader, items),
         Err(fault) => Err(fault),
     }
 }

@@ -1,60 +1,7 @@
-use Rattle.std.proofs.Common.{inl, inr, ap, sym, ◌∙◌, Ok, Err, length, refl, arith, ◌≡◌, ◌+◌}
-use Rattle.std.specs.Prelude.{Result}
+use Rattle.std.proofs.Common.{sym, ◌∙◌}
 use Rattle.std.specs.List.{concat}
-use Rattle.mx_mmo.specs.declared.faults.MmoFault.{MmoFault}
-use Rattle.mx_mmo.specs.declared.faults.MmoFault.TheVariants.{TooLong}
-use Rattle.std.proofs.lemmas.Bool.{cases_lt}
-use Rattle.mx_mmo.specs.Replies.{limit}
-use Rattle.mx_mmo.specs.Whole.{fed, items_of, left_of, with_tail}
-use Rattle.mx_mmo.specs.declared.due.Phase.TheVariants.{Start}
-use Rattle.mx_mmo.proofs.Nexts.{finish-fault}
-use Rattle.mx_mmo.proofs.Pieces.{nothing-yet, exact-fault, long-fault, long-passed, not-passed, items-of-piece, length-of-piece, all-pieces, object-of-all, bytes-of-piece, all-bytes}
+use Rattle.mx_mmo.proofs.Pieces.{object-of-all}
 use Rattle.mx_mmo.proofs.whole.read_pieces.Goals as goal
 
-same-fault : (f g : MmoFault) → ◌≡◌ {A = Result (Unit {0}) MmoFault} (Err f) (Err g) → f ≡ g
-same-fault f g e = cc
-
-pub loop-piece-init : goal.loop-piece-init
-loop-piece-init c = rw (c.new-reader.ensures, c.new-items.ensures) (record { well = refl; same = nothing-yet; end = refl; most = omega arith; bytes = tt })
-
-pub returns-in-Err-clause-exact : goal.returns-in-Err-clause-exact
-returns-in-Err-clause-exact c = λ l ne.
-    let is = c.as_slice.ensures ∙ c.piece-item.is in
-    let here = not-passed c.args.pieces.now c.loop-piece.piece-index c.as_slice.result.now c.piece-item.result c.loop-piece.reader c.loop-piece-test.true is c.loop-piece.invariant.end l in
-    exact-fault c.args.pieces.now c.loop-piece.piece-index c.as_slice.result.now c.piece-item.result c.loop-piece.items c.loop-piece.reader c.in-Err.fault
-    c.loop-piece-test.true is c.loop-piece.invariant.same (c.in-Err.ensures.fault here (λ e. ne (cc))) l
-
-pub returns-in-Err-clause-long : goal.returns-in-Err-clause-long
-returns-in-Err-clause-long c = λ l ne.
-    let is = c.as_slice.ensures ∙ c.piece-item.is in
-    elim (cases_lt limit (fed c.loop-piece.reader + length c.as_slice.result.now)) [
-      | inl far ↦ ap (λ f. Err f) (same-fault c.in-Err.fault (TooLong limit) (c.in-Err.ensures.long far (λ e. ne (cc))))
-          ∙ long-passed c.args.pieces.now c.loop-piece.piece-index c.as_slice.result.now c.piece-item.result c.loop-piece.items c.loop-piece.reader
-          c.loop-piece-test.true is c.loop-piece.invariant.same c.loop-piece.invariant.end c.loop-piece.invariant.most far
-      | inr near ↦ long-fault c.args.pieces.now c.loop-piece.piece-index c.as_slice.result.now c.piece-item.result c.loop-piece.items c.loop-piece.reader c.in-Err.fault
-          c.loop-piece-test.true is c.loop-piece.invariant.same (c.in-Err.ensures.fault near (λ e. ne (cc)))
-          (omega (arith, c.loop-piece.invariant.end, length-of-piece c.args.pieces.now c.loop-piece.piece-index c.as_slice.result.now c.piece-item.result c.loop-piece-test.true is))
-    ]
-
-pub loop-piece-preserved : goal.loop-piece-preserved
-loop-piece-preserved c =
-    let is = c.as_slice.ensures ∙ c.piece-item.is in
-    record {
-      well = c.in-Ok.ensures.well;
-      same = items-of-piece c.args.pieces.now c.loop-piece.piece-index c.as_slice.result.now c.piece-item.result c.loop-piece.items c.take_piece.new.items c.loop-piece.reader
-          c.take_piece.new.reader c.loop-piece-test.true is c.loop-piece.invariant.same c.in-Ok.ensures.last;
-      end = c.in-Ok.ensures.end ∙ ap (λ n. n + length c.as_slice.result.now) c.loop-piece.invariant.end
-          ∙ sym (length-of-piece c.args.pieces.now c.loop-piece.piece-index c.as_slice.result.now c.piece-item.result c.loop-piece-test.true is);
-      most = omega (arith, c.in-Ok.ensures.end, c.in-Ok.ensures.most);
-      bytes = bytes-of-piece c.args.pieces.now c.loop-piece.piece-index c.as_slice.result.now c.piece-item.result c.loop-piece-test.true is c.loop-piece.invariant.bytes c.take_piece.ensures.bytes;
-    }
-
-pub returns-clause-exact : goal.returns-clause-exact
-returns-clause-exact c = λ l ne.
-    let all : items_of Start 0 (concat c.args.pieces.now) ≡ (c.loop-piece.items, Ok (left_of c.loop-piece.reader)) =
-    ap (items_of Start 0) (sym (all-pieces c.args.pieces.now c.loop-piece.piece-index c.loop-piece-test.false)) ∙ c.loop-piece.invariant.same in
-    let fault = finish-fault c.loop-piece.reader c.finish.new.self c.in-Err-finish.fault c.loop-piece.invariant.well (c.in-Err-finish.ensures.answers (λ e. ne (cc))) in
-    sym (object-of-all (concat c.args.pieces.now) c.loop-piece.items c.loop-piece.reader all l ∙ ap (with_tail c.loop-piece.items) fault)
-
-pub returns-in-Ok-finish-clause-bytes : goal.returns-in-Ok-finish-clause-bytes
-returns-in-Ok-finish-clause-bytes c = all-bytes c.args.pieces.now c.loop-piece.piece-index c.loop-piece-test.false c.loop-piece.invariant.bytes
+pub returns-in-Ok-clause-exact : goal.returns-in-Ok-clause-exact
+returns-in-Ok-clause-exact c = λ l ne. c.end_object.ensures ne ∙ sym (object-of-all (concat c.args.pieces.now) c.take_pieces.new.items c.take_pieces.new.reader c.in-Ok.ensures.last l)

@@ -4,7 +4,7 @@ use Rattle.mx_mmo.specs.Replies.{limit}
 use Rattle.mx_mmo.specs.Whole.{fed, items_of, left_of}
 use Rattle.mx_mmo.specs.Valid.{AreBytes}
 use Rattle.mx_mmo.specs.declared.due.Phase.TheVariants.{Start}
-use Rattle.mx_mmo.proofs.whole.read_pieces.Given as goal
+use Rattle.mx_mmo.proofs.whole.take_pieces.Given as goal
 
 -- the pieces so far have these items and this rest, and no fault
 abbrev pub invariant-loop-piece : goal.invariant-loop-piece
