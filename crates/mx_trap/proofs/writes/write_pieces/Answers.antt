@@ -63,3 +63,18 @@ returns-clause-front g c = λ t e.
     let here = contents (g.H.Host.told c.loop-moved.host) in
     front-of here.output _ _ _ (c.write_piece-2.ensures.memory (subst IsTrue (sym c.loop-moved.invariant.keeps.telling) t) e)
     (ap (λ p. p.1.output) (c.loop-moved.invariant.told t)) (left-front c.args.slot _ _ _ _ here)
+
+pub returns-in-Short-clause-front : goal.returns-in-Short-clause-front
+returns-in-Short-clause-front g c = λ t e. absurd (cc)
+
+pub returns-in-Short-clause-keeps : goal.returns-in-Short-clause-keeps
+returns-in-Short-clause-keeps g c = keeps-then _ _ _ _ _ _ c.loop-moved.invariant.keeps c.in-Short.ensures.keeps
+
+pub returns-in-OutOfMemory-clause-told : goal.returns-in-OutOfMemory-clause-told
+returns-in-OutOfMemory-clause-told g c = λ t ne. absurd (ne refl)
+
+pub returns-in-OutOfMemory-clause-keeps : goal.returns-in-OutOfMemory-clause-keeps
+returns-in-OutOfMemory-clause-keeps g c = keeps-then _ _ _ _ _ _ c.loop-moved.invariant.keeps c.in-OutOfMemory.ensures.keeps
+
+pub returns-clause-keeps : goal.returns-clause-keeps
+returns-clause-keeps g c = keeps-then _ _ _ _ _ _ c.loop-moved.invariant.keeps c.write_piece-2.ensures.keeps
