@@ -337,35 +337,18 @@ fn no_references(rt: HostRuntime) {
     assert_eq!(rt; first_of_none(rt.alloc()), Ok(None));
 }
 
-/// Makes so many references to as many names.
-fn wait_by_number(names: &mut Names, alloc: Global, count: u32) -> Result<(), NameFault> {
-    for n in 0..count {
-        wait_for_number(names, alloc, n, u64::from(n))?;
-    }
-    Ok(())
-}
-
-/// Whether the reference to the name of a number, which is then taken, is at that address.
-fn is_at_number(names: &mut Names, alloc: Global, n: u32) -> Result<bool, NameFault> {
-    let name = numbered(alloc, n)?;
-    places(names, &name, &[u64::from(n)])
-}
-
-/// Whether the references to so many names, which are then taken, are all that there are.
-fn are_by_number(names: &mut Names, alloc: Global, count: u32) -> Result<bool, NameFault> {
-    for n in 0..count {
-        if !is_at_number(names, alloc, n)? {
-            return Ok(false);
-        }
-    }
-    Ok(first_place(names) == None)
-}
-
 /// So many references to as many names, each taken.
 fn many(alloc: Global, count: u32) -> Result<bool, NameFault> {
     let mut names = Names::new(alloc)?;
-    wait_by_number(&mut names, alloc, count)?;
-    are_by_number(&mut names, alloc, count)
+    for n in 0..count {
+        names.wait_for(octa_wait(numbered(alloc, n)?, u64::from(n)))?;
+    }
+    for n in 0..count {
+        if !places(&mut names, &numbered(alloc, n)?, &[u64::from(n)])? {
+            return Ok(false);
+        }
+    }
+    Ok(first_place(&names) == None)
 }
 
 #[test]

@@ -49,7 +49,7 @@ fn names_behind(alloc: Global, prefix: &str) -> Result<Names, NameFault> {
     Ok(names)
 }
 
-/// The same behind a prefix.
+/// What the first statement of a line comes to at a place behind a prefix, or the number of its fault.
 fn placed_behind(
     alloc: Global,
     prefix: &str,

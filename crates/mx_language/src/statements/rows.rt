@@ -219,7 +219,7 @@ pub(crate) static REFERENCES: [Referring; 4] = [
     (8, "2H JMP 2B", &[0xf1, 0xff, 0xff, 0xff], &[]),
 ];
 
-/// The last address at which a statement may stand, before the negative ones.
+/// The last address before #6000000000000000.
 const LAST: u64 = 0x5fff_ffff_ffff_ffff;
 
 /// A place, a statement there, and its start and the place after it, or the number of its fault.
