@@ -157,33 +157,58 @@ fn other_line(image: &Image, lines: &[(u64, u32)]) -> Option<u64> {
     None
 }
 
-/// The octas and the lines of the small program.
-static SMALL: (&[(u64, u64)], &[(u64, u32)]) = (
-    &[
-        (0x100, 0x6869_0a00_f5ff_ffff),
-        (0x108, 0x0000_0701_0000_0000),
-    ],
-    &[(0xff, 0), (0x100, 2), (0x107, 3), (0x10c, 5), (0x110, 0)],
-);
+/// The first address where an image has another octa, the number of its pages, and the first address
+/// where it has another line.
+type Seen = (Option<u64>, u32, Option<u64>);
+
+/// What is seen of an image that should have these octas and lines.
+fn seen(image: &Image, octas: &[(u64, u64)], lines: &[(u64, u32)]) -> Seen {
+    (
+        other_octa(image, octas),
+        image.memory().pages(),
+        other_line(image, lines),
+    )
+}
+
+/// The number of the first global register, and the values of the last three.
+fn globals(image: &Image) -> (u8, [u64; 3]) {
+    (
+        image.g(),
+        [image.global(253), image.global(254), image.global(255)],
+    )
+}
+
+/// The octas of the small program.
+static SMALL_OCTAS: [(u64, u64); 2] = [
+    (0x100, 0x6869_0a00_f5ff_ffff),
+    (0x108, 0x0000_0701_0000_0000),
+];
+
+/// Its lines.
+static SMALL_LINES: [(u64, u32); 5] = [(0xff, 0), (0x100, 2), (0x107, 3), (0x10c, 5), (0x110, 0)];
+
+/// What is seen of the small program, its registers, whether it has the symbol, and its last octa.
+fn small_seen(alloc: Global) -> Option<(Seen, (u8, [u64; 3]), bool, u64)> {
+    let image = small(alloc)?;
+    Some((
+        seen(&image, &SMALL_OCTAS, &SMALL_LINES),
+        globals(&image),
+        is_main(image.symbols().as_slice()),
+        image.into_memory().load(0x10f),
+    ))
+}
 
 #[test]
 fn small_program(rt: HostRuntime) {
-    let image = small(rt.alloc()).expect(&rt, "memory");
-    let (octas, lines) = SMALL;
     assert_eq!(rt;
-        (
-            other_octa(&image, octas),
-            image.memory().pages(),
-            other_line(&image, lines)
-        ),
-        (None, 1, None)
+        small_seen(rt.alloc()),
+        Some((
+            (None, 1, None),
+            (255, [0, 0, 0x104]),
+            true,
+            0x0000_0701_0000_0000
+        ))
     );
-    assert_eq!(rt;
-        (image.g(), image.global(255), image.global(254)),
-        (255, 0x104, 0)
-    );
-    assert!(rt; is_main(image.symbols().as_slice()));
-    assert_eq!(rt; image.into_memory().load(0x10f), 0x0000_0701_0000_0000);
 }
 
 /// Items; octas by their addresses; the number of pages; lines by addresses.
@@ -308,33 +333,38 @@ static IMAGES: [(&[Row], &[(u64, u64)], u32, &[(u64, u32)]); 14] = [
     ),
 ];
 
+/// What is seen of the image of rows that should have these octas and lines.
+fn rows_seen(
+    alloc: Global,
+    rows: &[Row],
+    octas: &[(u64, u64)],
+    lines: &[(u64, u32)],
+) -> Result<Seen, LoadFault> {
+    let image = image_of_rows(alloc, rows)?;
+    Ok(seen(&image, octas, lines))
+}
+
 #[test]
 fn images(rt: HostRuntime) {
-    let alloc = rt.alloc();
     for (rows, octas, pages, lines) in &IMAGES {
-        let image = image_of_rows(alloc, rows).expect(&rt, "no fault");
         assert_eq!(rt;
-            (
-                other_octa(&image, octas),
-                image.memory().pages(),
-                other_line(&image, lines)
-            ),
-            (None, *pages, None)
+            rows_seen(rt.alloc(), rows, octas, lines),
+            Ok((None, *pages, None))
         );
     }
 }
 
+/// The registers of the image of rows.
+fn rows_globals(alloc: Global, rows: &[Row]) -> Result<(u8, [u64; 3]), LoadFault> {
+    let image = image_of_rows(alloc, rows)?;
+    Ok(globals(&image))
+}
+
 #[test]
 fn registers(rt: HostRuntime) {
-    let image = image_of_rows(rt.alloc(), &[Post(7, 0x100)]).expect(&rt, "no fault");
     assert_eq!(rt;
-        (
-            image.g(),
-            image.global(253),
-            image.global(254),
-            image.global(255)
-        ),
-        (254, 0, 7, 0x100)
+        rows_globals(rt.alloc(), &[Post(7, 0x100)]),
+        Ok((254, [0, 7, 0x100]))
     );
 }
 
@@ -392,22 +422,31 @@ fn full(alloc: Global) -> Result<Loader, LoadFault> {
     Ok(loader)
 }
 
-/// What a loader answers whose memory is full, in turn.
-static FULL: [(Row, Result<(), LoadFault>); 5] = [
-    (Load(2), Ok(())),
-    (Loc(1 << 40), Ok(())),
-    (Load(0), Err(LoadFault::PagesFull)),
-    // the fault is answered again
-    (Loc(0), Err(LoadFault::PagesFull)),
-    (Line(1), Err(LoadFault::PagesFull)),
+/// A row, and what is answered to it.
+type Turn = (Row, Result<(), LoadFault>);
+
+/// What a loader answers in turn whose memory is full, and the fault that it ends with.
+static FULL: [(&[Turn], LoadFault); 2] = [
+    (
+        &[
+            (Load(2), Ok(())),
+            (Loc(1 << 40), Ok(())),
+            (Load(0), Err(LoadFault::PagesFull)),
+            // the fault is answered again
+            (Loc(0), Err(LoadFault::PagesFull)),
+            (Line(1), Err(LoadFault::PagesFull)),
+        ],
+        LoadFault::PagesFull,
+    ),
+    // an octa that would lie in the stack segment by half is refused for that
+    (
+        &[(FixOcta(0x5fff_ffff_ffff_fffc), Err(LoadFault::BadPlace))],
+        LoadFault::BadPlace,
+    ),
 ];
 
-/// The number of the first row to which a loader answers otherwise, if there is one.
-fn answer_otherwise(
-    alloc: Global,
-    loader: &mut Loader,
-    turns: &[(Row, Result<(), LoadFault>)],
-) -> Option<usize> {
+/// The first turn at which a loader answers otherwise, if there is one.
+fn turn_otherwise(alloc: Global, loader: &mut Loader, turns: &[Turn]) -> Option<usize> {
     for (turn, (row, answer)) in turns.iter().enumerate() {
         if take_row(alloc, loader, row) != *answer {
             return Some(turn);
@@ -416,19 +455,19 @@ fn answer_otherwise(
     None
 }
 
+/// The first turn at which a loader whose memory is full answers otherwise, and the fault that it ends with.
+fn full_otherwise(
+    alloc: Global,
+    turns: &[Turn],
+) -> Result<(Option<usize>, Option<LoadFault>), LoadFault> {
+    let mut loader = full(alloc)?;
+    let turn = turn_otherwise(alloc, &mut loader, turns);
+    Ok((turn, loader.finish(Symbols::new(alloc)).err()))
+}
+
 #[test]
 fn full_memory(rt: HostRuntime) {
-    let alloc = rt.alloc();
-    let mut loader = full(alloc).expect(&rt, "memory");
-    assert_eq!(rt; answer_otherwise(alloc, &mut loader, &FULL), None);
-    assert_eq!(rt;
-        loader.finish(Symbols::new(alloc)).err(),
-        Some(LoadFault::PagesFull)
-    );
-    // an octa that would lie in the stack segment by half is refused for that
-    let mut loader = full(alloc).expect(&rt, "memory");
-    assert_eq!(rt;
-        loader.take(&Item::FixOcta(0x5fff_ffff_ffff_fffc)),
-        Err(LoadFault::BadPlace)
-    );
+    for (turns, fault) in &FULL {
+        assert_eq!(rt; full_otherwise(rt.alloc(), turns), Ok((None, Some(*fault))));
+    }
 }

@@ -109,8 +109,9 @@ enum Due {
     Load(u32),
     Loc(u64),
     FixNear(u16),
-    /// With its name.
+    /// With its name, and with a name of so many bytes.
     File(u8, &'static [u8]),
+    Named(u8, usize),
     Line(u16),
     Spec(u16),
     Pre(&'static [u32]),
@@ -147,6 +148,13 @@ fn is_due(item: &Item, due: &Due) -> bool {
             },
             Due::File(want, text),
         ) => number == want && name.as_slice() == *text,
+        (
+            Item::File {
+                number,
+                name: Some(name),
+            },
+            Due::Named(want, length),
+        ) => number == want && name.as_slice().len() == *length,
         (Item::Pre(words), Due::Pre(want)) => words.as_slice() == *want,
         (Item::Post { g, values }, Due::Post(want, octas)) => {
             g == want && values.as_slice() == *octas
@@ -168,59 +176,28 @@ fn is_first(object: &Object) -> bool {
         && object.tail.trie.as_slice().len() == 24
 }
 
-/// Whether the object of `first.mms`, in pieces of a size, is read as it.
-fn reads_first(alloc: Global, size: usize) -> Result<bool, NoMemory>
+/// The object that is read from tetras in pieces of a size.
+fn read_in_pieces(alloc: Global, tetras: &[u32], size: usize) -> Option<Object>
     requires { 0 < size }
 {
-    let bytes = object(alloc, &FIRST, &[])?;
-    let pieces = pieces(alloc, bytes.as_slice(), size)?;
-    Ok(read(alloc, pieces.as_slice()).is_ok_and(|object| is_first(&object)))
+    let bytes = object(alloc, tetras, &[]).ok()?;
+    let pieces = pieces(alloc, bytes.as_slice(), size).ok()?;
+    read(alloc, pieces.as_slice()).ok()
+}
+
+/// The first size of pieces in which the object of `first.mms` is read otherwise, if there is one.
+fn first_otherwise(alloc: Global) -> Option<usize> {
+    for size in [88, 1, 7] {
+        if !read_in_pieces(alloc, &FIRST, size).is_some_and(|object| is_first(&object)) {
+            return Some(size);
+        }
+    }
+    None
 }
 
 #[test]
 fn first_in_pieces(rt: HostRuntime) {
-    for size in [88, 1, 7] {
-        assert_eq!(rt;
-            reads_first(rt.alloc(), size),
-            Ok(true),
-            "in pieces of {size}"
-        );
-    }
-}
-
-/// An object that stops behind a name of 255 tetras.
-fn longest_named(alloc: Global) -> Result<Bytes, NoMemory> {
-    let mut bytes = object(alloc, &[0x9809_0100, 0x9806_00ff], &[])?;
-    for _ in 0..255 {
-        bytes.extend(b"aaaa")?;
-    }
-    Ok(bytes)
-}
-
-/// The length of the name of file 0, where that item stands behind `pre`.
-fn name_length(alloc: Global, bytes: &[u8]) -> Result<Option<usize>, MmoFault> {
-    let mut reader = Reader::new(alloc);
-    reader.feed(bytes)?;
-    if !matches!(reader.next()?, Some(Item::Pre(_))) {
-        return Ok(None);
-    }
-    match reader.next()? {
-        Some(
-            Item::File {
-                number: 0,
-                name: Some(name),
-            },
-        ) => Ok(Some(name.as_slice().len())),
-        _ => Ok(None),
-    }
-}
-
-/// A name of 1,020 bytes, in an object that stops behind it.
-#[test]
-fn longest_name(rt: HostRuntime) {
-    let alloc = rt.alloc();
-    let bytes = longest_named(alloc).expect(&rt, "memory");
-    assert_eq!(rt; name_length(alloc, bytes.as_slice()), Ok(Some(1020)));
+    assert_eq!(rt; first_otherwise(rt.alloc()), None);
 }
 
 /// What reading refuses: the fault's number and place.
@@ -294,51 +271,62 @@ fn size_taken_otherwise(
     Ok(None)
 }
 
+/// The fault and the place of the first row that is not refused so, and the size of its pieces, if there is one.
+fn row_taken_otherwise(alloc: Global) -> Result<Option<(u16, u64, usize)>, NoMemory> {
+    for (tetras, more, number, place) in &REFUSED {
+        if let Some(size) = size_taken_otherwise(alloc, tetras, more, (*number, *place))? {
+            return Ok(Some((*number, *place, size)));
+        }
+    }
+    Ok(None)
+}
+
 #[test]
 fn first_faults(rt: HostRuntime) {
-    for (tetras, more, number, place) in &REFUSED {
-        assert_eq!(rt;
-            size_taken_otherwise(rt.alloc(), tetras, more, (*number, *place)),
-            Ok(None),
-            "{number} at {place}"
-        );
+    assert_eq!(rt; row_taken_otherwise(rt.alloc()), Ok(None));
+}
+
+/// The fault that is due where an object is cut off behind so many bytes, and its place: that of the
+/// tetra that is cut, or the end.
+fn due_of_cut(n: usize) -> (u16, Option<u64>) {
+    if n % 4 == 0 {
+        (64, Some(n as u64))
+    } else {
+        (60, Some((4 * (n / 4)) as u64))
     }
 }
 
-/// The first length to which 124 bytes of an object can be cut without the fault that is due, if there is one.
-fn cut_taken_otherwise(alloc: Global, bytes: &[u8]) -> Result<Option<usize>, NoMemory> {
+/// The first length to which the 124 bytes of `hello.mms` can be cut without the fault that is due, if there is one.
+fn cut_taken_otherwise(alloc: Global) -> Result<Option<usize>, NoMemory> {
+    let bytes = object(alloc, &HELLO, &[])?;
     for n in 0..124usize {
-        let Some(front) = bytes.get(..n) else {
-            return Ok(Some(n));
-        };
-        // within a tetra its place is told, and between two that of the end
-        let due = if n % 4 == 0 {
-            (64, Some(n as u64))
-        } else {
-            (60, Some((4 * (n / 4)) as u64))
-        };
-        if refusal(alloc, front, 200)? != Some(due) {
+        let front = bytes.as_slice().get(..n).unwrap_or(&[]);
+        if refusal(alloc, front, 200)? != Some(due_of_cut(n)) {
             return Ok(Some(n));
         }
     }
     Ok(None)
 }
 
+/// Bytes behind the object of `hello.mms`, and the fault that is met.
+static BEHIND: [(&[u8], (u16, u64)); 2] = [
+    (&[0, 0, 0, 0], (64, 128)),
+    (&[0x98, 12, 0, 10], (63, 124)),
+];
+
 /// An object that is cut off anywhere, or that goes on behind its end.
 #[test]
 fn cut_objects(rt: HostRuntime) {
     let alloc = rt.alloc();
-    let bytes = object(alloc, &HELLO, &[]).expect(&rt, "memory");
-    assert_eq!(rt; cut_taken_otherwise(alloc, bytes.as_slice()), Ok(None));
-    let rows: [(&[u32], &[u8], (u16, u64)); 3] = [
-        (&HELLO, &[0, 0, 0, 0], (64, 128)),
-        (&HELLO, &[0x98, 12, 0, 10], (63, 124)),
-        // a count that is wrong by one
-        (&TIMED[..14], &[0x98, 12, 0, 4], (63, 56)),
-    ];
-    for (tetras, more, fault) in rows {
-        assert_eq!(rt; size_taken_otherwise(alloc, tetras, more, fault), Ok(None));
+    assert_eq!(rt; cut_taken_otherwise(alloc), Ok(None));
+    for (more, fault) in &BEHIND {
+        assert_eq!(rt; size_taken_otherwise(alloc, &HELLO, more, *fault), Ok(None));
     }
+    // a count that is wrong by one
+    assert_eq!(rt;
+        size_taken_otherwise(alloc, &TIMED[..14], &[0x98, 12, 0, 4], (63, 56)),
+        Ok(None)
+    );
 }
 
 /// Pieces of an object; the items that are whole with each, and their places.
@@ -354,12 +342,19 @@ static PIECES: [(&[u8], &[(Due, u64)]); 4] = [
     (b"\x02", &[(Due::Spec(80), 16), (Due::FixNear(2), 28)]),
 ];
 
+/// Whether a reader gives this item next, and tells this place.
+fn gives_next(reader: &mut Reader, due: &Due, place: u64) -> Result<bool, MmoFault> {
+    match reader.next()? {
+        Some(item) => Ok(is_due(&item, due) && reader.place() == place),
+        None => Ok(false),
+    }
+}
+
 /// Whether a reader gives these items next, with their places, and then none.
 fn gives(reader: &mut Reader, items: &[(Due, u64)]) -> Result<bool, MmoFault> {
     for (due, place) in items {
-        match reader.next()? {
-            Some(item) if is_due(&item, due) && reader.place() == *place => {}
-            _ => return Ok(false),
+        if !gives_next(reader, due, *place)? {
+            return Ok(false);
         }
     }
     Ok(reader.next()?.is_none())
@@ -394,6 +389,29 @@ fn reads_item_by_item(rt: HostRuntime) {
     assert_eq!(rt;
         last_faults(&mut reader),
         [Some(MmoFault::Truncated(32)); 3]
+    );
+}
+
+/// An object that stops behind a name of 255 tetras.
+fn longest_named(alloc: Global) -> Result<Bytes, NoMemory> {
+    let mut bytes = object(alloc, &[0x9809_0100, 0x9806_00ff], &[])?;
+    for _ in 0..255 {
+        bytes.extend(b"aaaa")?;
+    }
+    Ok(bytes)
+}
+
+/// Its items.
+static LONGEST: [(Due, u64); 2] = [(Due::Pre(&[]), 0), (Due::Named(0, 1020), 4)];
+
+/// A name of 1,020 bytes, in an object that stops behind it.
+#[test]
+fn longest_name(rt: HostRuntime) {
+    let bytes = longest_named(rt.alloc()).expect(&rt, "memory");
+    let mut reader = Reader::new(rt.alloc());
+    assert_eq!(rt;
+        gives_after(&mut reader, bytes.as_slice(), &LONGEST),
+        Ok(true)
     );
 }
 

@@ -88,23 +88,40 @@ fn found(memory: &Memory, from: u64) -> Result<Option<(u64, u64)>, SpaceFault> {
     Ok(memory.next_nonzero(from))
 }
 
+/// The octa at an address, the count of pages, and the first octa that is not 0.
+fn seen(memory: &Memory, a: u64) -> Option<(u64, u32, Option<(u64, u64)>)> {
+    if a >= 1 << 63 {
+        return None;
+    }
+    Some((memory.load(a), memory.pages(), memory.next_nonzero(0)))
+}
+
+/// The first address at which a row is joined otherwise, if there is one.
+fn joined_otherwise(memory: &mut Memory) -> Option<u64> {
+    for (a, t, octa, pages) in &JOINED {
+        if joined(memory, *a, *t) != Some((*octa, *pages)) {
+            return Some(*a);
+        }
+    }
+    None
+}
+
+/// The first address from which another octa is found, if there is one.
+fn found_otherwise(memory: &Memory) -> Option<u64> {
+    for (from, next) in &NEXT {
+        if found(memory, *from) != Ok(*next) {
+            return Some(*from);
+        }
+    }
+    None
+}
+
 #[test]
 fn joins_tetras(rt: HostRuntime) {
     let mut memory = Memory::new(rt.alloc());
-    assert_eq!(rt;
-        (memory.pages(), memory.load(0), memory.next_nonzero(0)),
-        (0, 0, None)
-    );
-    for (a, t, octa, pages) in &JOINED {
-        assert_eq!(rt;
-            joined(&mut memory, *a, *t),
-            Some((*octa, *pages)),
-            "at {a}"
-        );
-    }
-    for (from, next) in &NEXT {
-        assert_eq!(rt; found(&memory, *from), Ok(*next), "from {from}");
-    }
+    assert_eq!(rt; seen(&memory, 0), Some((0, 0, None)));
+    assert_eq!(rt; joined_otherwise(&mut memory), None);
+    assert_eq!(rt; found_otherwise(&memory), None);
     // a fetch from within the low half
     assert_eq!(rt; (memory.tetra(0x106), memory.byte(0x107)), (0x0701, 0x01));
 }
@@ -152,25 +169,22 @@ fn full(alloc: Global) -> Result<Memory, MemFault> {
     Ok(memory)
 }
 
+/// What a memory answers where an octa and a byte are stored on a page that is not there.
+fn stored_beyond(memory: &mut Memory) -> (Result<(), MemFault>, Result<(), SpaceFault>) {
+    (memory.store(1 << 62, 1), memory.put_byte(1 << 62, 1))
+}
+
 #[test]
 fn refuses_one_page_too_many(rt: HostRuntime) {
     let mut memory = full(rt.alloc()).expect(&rt, "memory");
     assert_eq!(rt;
-        (memory.store(1 << 62, 1), memory.put_byte(1 << 62, 1)),
+        stored_beyond(&mut memory),
         (Err(MemFault::PagesFull), Err(SpaceFault::PagesFull))
     );
-    assert_eq!(rt;
-        (memory.load(1 << 62), memory.pages(), memory.next_nonzero(0)),
-        (0, 65536, None)
-    );
+    assert_eq!(rt; seen(&memory, 1 << 62), Some((0, 65536, None)));
     // a page that is there is not refused, and its octa is found over all pages of zeros
-    assert_eq!(rt;
-        (
-            memory.xor_tetra(65535 * 4096 + 4, 1),
-            memory.next_nonzero(0)
-        ),
-        (Ok(()), Some((65535 * 4096, 1)))
-    );
+    assert_eq!(rt; joined(&mut memory, 65535 * 4096 + 4, 1), Some((1, 65536)));
+    assert_eq!(rt; seen(&memory, 0), Some((0, 65536, Some((65535 * 4096, 1)))));
     assert_eq!(rt;
         (MemFault::PagesFull.number(), MemFault::OutOfMemory.number()),
         (90, 0)

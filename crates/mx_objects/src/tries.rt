@@ -5,12 +5,6 @@ use mx_stab::{StabFault, read, write};
 use mx_word::{Bytes, NoMemory, Symbol, Symbols, Value};
 use std::alloc::Global;
 
-/// A trie of one symbol with nodes that have no character, and three zeros behind it.
-const BARE: [u8; 20] = [
-    0x20, 0x3a, 0x40, 0x40, 0x10, 0x40, 0x40, 0x20, 0x4d, 0x20, 0x61, 0x20, 0x69, 0x01, 0x6e, 0x00,
-    0x81, 0x00, 0x00, 0x00,
-];
-
 /// A list of symbols.
 fn symbols(alloc: Global, of: &[(&[u8], Value, u32)]) -> Result<Symbols, NoMemory> {
     let mut symbols = Symbols::new(alloc);
@@ -141,7 +135,10 @@ fn is_read_wide(alloc: Global, character: &[u8; 2], name: &[u8]) -> bool {
 static READ: [(&[u8], &[Row], &str); 4] = [
     (&[0, 0, 0, 0], &[], "one node with no symbol, padded"),
     (
-        &BARE,
+        &[
+            0x20, 0x3a, 0x40, 0x40, 0x10, 0x40, 0x40, 0x20, 0x4d, 0x20, 0x61, 0x20, 0x69, 0x01,
+            0x6e, 0x00, 0x81, 0x00, 0x00, 0x00,
+        ],
         &[(b":Main", Value::Pure(0), 1)],
         "nodes without a character",
     ),
@@ -183,7 +180,22 @@ fn tries_are_read(rt: HostRuntime) {
 }
 
 /// Tries, and the fault that is met first.
-static FAULTY: [(&[u8], StabFault); 17] = [
+static FAULTY: [(&[u8], StabFault); 19] = [
+    // nodes without a character, cut off before the serial number, and with a byte behind that is not 0
+    (
+        &[
+            0x20, 0x3a, 0x40, 0x40, 0x10, 0x40, 0x40, 0x20, 0x4d, 0x20, 0x61, 0x20, 0x69, 0x01,
+            0x6e, 0x00,
+        ],
+        StabFault::Truncated(16),
+    ),
+    (
+        &[
+            0x20, 0x3a, 0x40, 0x40, 0x10, 0x40, 0x40, 0x20, 0x4d, 0x20, 0x61, 0x20, 0x69, 0x01,
+            0x6e, 0x00, 0x81, 0x00, 0x00, 0x01,
+        ],
+        StabFault::Padding(17),
+    ),
     (&[0x20], StabFault::Truncated(1)),
     (&[0x08, 0x3a, 1, 2, 3], StabFault::Truncated(5)),
     (&[0x01, 0x3a, 0, 1, 2], StabFault::Truncated(5)),
@@ -230,15 +242,8 @@ fn fault_of(alloc: Global, bytes: &[u8]) -> Option<StabFault> {
 
 #[test]
 fn faults_are_met_in_their_order(rt: HostRuntime) {
-    let alloc = rt.alloc();
-    let mut padded = BARE;
-    padded[19] = 1;
-    assert_eq!(rt;
-        (fault_of(alloc, &BARE[..16]), fault_of(alloc, &padded)),
-        (Some(StabFault::Truncated(16)), Some(StabFault::Padding(17)))
-    );
     for (bytes, fault) in &FAULTY {
-        assert_eq!(rt; fault_of(alloc, bytes), Some(*fault));
+        assert_eq!(rt; fault_of(rt.alloc(), bytes), Some(*fault));
     }
 }
 
