@@ -344,14 +344,20 @@ fn rows_seen(
     Ok(seen(&image, octas, lines))
 }
 
+/// The number of the first row whose image is otherwise, and what is seen of it, if there is one.
+fn image_otherwise(alloc: Global) -> Option<(usize, Result<Seen, LoadFault>)> {
+    for (number, (rows, octas, pages, lines)) in IMAGES.iter().enumerate() {
+        let found = rows_seen(alloc, rows, octas, lines);
+        if found != Ok((None, *pages, None)) {
+            return Some((number, found));
+        }
+    }
+    None
+}
+
 #[test]
 fn images(rt: HostRuntime) {
-    for (rows, octas, pages, lines) in &IMAGES {
-        assert_eq!(rt;
-            rows_seen(rt.alloc(), rows, octas, lines),
-            Ok((None, *pages, None))
-        );
-    }
+    assert_eq!(rt; image_otherwise(rt.alloc()), None);
 }
 
 /// The registers of the image of rows.

@@ -89,7 +89,10 @@ fn found(memory: &Memory, from: u64) -> Result<Option<(u64, u64)>, SpaceFault> {
 }
 
 /// The octa at an address, the count of pages, and the first octa that is not 0.
-fn seen(memory: &Memory, a: u64) -> Option<(u64, u32, Option<(u64, u64)>)> {
+type Seen = (u64, u32, Option<(u64, u64)>);
+
+/// What is seen of a memory, with the octa at an address below 2^63.
+fn seen(memory: &Memory, a: u64) -> Option<Seen> {
     if a >= 1 << 63 {
         return None;
     }
@@ -120,8 +123,10 @@ fn found_otherwise(memory: &Memory) -> Option<u64> {
 fn joins_tetras(rt: HostRuntime) {
     let mut memory = Memory::new(rt.alloc());
     assert_eq!(rt; seen(&memory, 0), Some((0, 0, None)));
-    assert_eq!(rt; joined_otherwise(&mut memory), None);
-    assert_eq!(rt; found_otherwise(&memory), None);
+    assert_eq!(rt;
+        (joined_otherwise(&mut memory), found_otherwise(&memory)),
+        (None, None)
+    );
     // a fetch from within the low half
     assert_eq!(rt; (memory.tetra(0x106), memory.byte(0x107)), (0x0701, 0x01));
 }
@@ -174,17 +179,27 @@ fn stored_beyond(memory: &mut Memory) -> (Result<(), MemFault>, Result<(), Space
     (memory.store(1 << 62, 1), memory.put_byte(1 << 62, 1))
 }
 
+/// Whether a full memory refuses those stores, and is as before.
+fn refuses_beyond(memory: &mut Memory) -> bool {
+    stored_beyond(memory) == (Err(MemFault::PagesFull), Err(SpaceFault::PagesFull))
+        && seen(memory, 1 << 62) == Some((0, 65536, None))
+}
+
+/// Whether a page that is there is not refused, and its octa is found over all pages of zeros.
+fn joins_on_a_page(memory: &mut Memory) -> bool {
+    joined(memory, 65535 * 4096 + 4, 1) == Some((1, 65536))
+        && seen(memory, 0) == Some((0, 65536, Some((65535 * 4096, 1))))
+}
+
+/// What a full memory does of both.
+fn full_does(alloc: Global) -> Result<(bool, bool), MemFault> {
+    let mut memory = full(alloc)?;
+    Ok((refuses_beyond(&mut memory), joins_on_a_page(&mut memory)))
+}
+
 #[test]
 fn refuses_one_page_too_many(rt: HostRuntime) {
-    let mut memory = full(rt.alloc()).expect(&rt, "memory");
-    assert_eq!(rt;
-        stored_beyond(&mut memory),
-        (Err(MemFault::PagesFull), Err(SpaceFault::PagesFull))
-    );
-    assert_eq!(rt; seen(&memory, 1 << 62), Some((0, 65536, None)));
-    // a page that is there is not refused, and its octa is found over all pages of zeros
-    assert_eq!(rt; joined(&mut memory, 65535 * 4096 + 4, 1), Some((1, 65536)));
-    assert_eq!(rt; seen(&memory, 0), Some((0, 65536, Some((65535 * 4096, 1)))));
+    assert_eq!(rt; full_does(rt.alloc()), Ok((true, true)));
     assert_eq!(rt;
         (MemFault::PagesFull.number(), MemFault::OutOfMemory.number()),
         (90, 0)
