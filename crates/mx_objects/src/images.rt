@@ -7,10 +7,8 @@ use mx_load::{Image, LoadFault, Loader, load};
 use mx_mmo::{Item, Octas, Words};
 use mx_word::{Bytes, Symbol, Symbols, Value};
 use std::alloc::Global;
-use std::process::Abort;
 
 /// An item of a row.
-#[derive(Clone, Copy)]
 enum Row {
     Load(u32),
     Loc(u64),
@@ -34,32 +32,41 @@ enum Row {
 use Row::*;
 
 /// The item of a row; nothing where there is no memory, or where the word of a far fix is too big.
-fn item_of(alloc: Global, row: Row) -> Option<Item>
+fn item_of(alloc: Global, row: &Row) -> Option<Item>
     ensures { IfSome result Fits }
 {
     Some(match row {
-        Load(t) => Item::Load(t),
-        Loc(a) => Item::Loc(a),
-        Skip(n) => Item::Skip(n),
-        FixOcta(a) => Item::FixOcta(a),
-        FixNear(n) => Item::FixNear(n),
-        Fix16(word) if word < 1 << 25 => Item::FixFar { bits: 16, word },
-        Fix24(word) if word < 1 << 25 => Item::FixFar { bits: 24, word },
+        Load(t) => Item::Load(*t),
+        Loc(a) => Item::Loc(*a),
+        Skip(n) => Item::Skip(*n),
+        FixOcta(a) => Item::FixOcta(*a),
+        FixNear(n) => Item::FixNear(*n),
+        Fix16(word) if *word < 1 << 25 => Item::FixFar {
+            bits: 16,
+            word: *word,
+        },
+        Fix24(word) if *word < 1 << 25 => Item::FixFar {
+            bits: 24,
+            word: *word,
+        },
         Fix16(_) | Fix24(_) => return None,
-        File(number) => Item::File { number, name: None },
+        File(number) => Item::File {
+            number: *number,
+            name: None,
+        },
         Named(number) => {
             let name = Bytes::copy(alloc, b"a").ok()?;
             Item::File {
-                number,
+                number: *number,
                 name: Some(name),
             }
         }
-        Line(n) => Item::Line(n),
-        Spec(n) => Item::Spec(n),
+        Line(n) => Item::Line(*n),
+        Spec(n) => Item::Spec(*n),
         Pre => Item::Pre(Words::new(alloc)),
         Post(x, y) => Item::Post {
             g: 254,
-            values: two(alloc, x, y)?,
+            values: two(alloc, *x, *y)?,
         },
         Stab => Item::Stab,
     })
@@ -75,14 +82,19 @@ fn two(alloc: Global, x: u64, y: u64) -> Option<Octas>
     Some(octas)
 }
 
+/// What a loader answers to a row.
+fn take_row(alloc: Global, loader: &mut Loader, row: &Row) -> Result<(), LoadFault> {
+    match item_of(alloc, row) {
+        Some(item) => loader.take(&item),
+        None => Err(LoadFault::OutOfMemory),
+    }
+}
+
 /// The image of rows.
 fn image_of_rows(alloc: Global, rows: &[Row]) -> Result<Image, LoadFault> {
     let mut loader = Loader::new(alloc);
     for row in rows {
-        match item_of(alloc, *row) {
-            Some(item) => loader.take(&item)?,
-            None => return Err(LoadFault::OutOfMemory),
-        }
+        take_row(alloc, &mut loader, row)?;
     }
     loader.finish(Symbols::new(alloc))
 }
@@ -94,7 +106,7 @@ fn small(alloc: Global) -> Option<Image> {
     values.push(0x104).ok()?;
     let mut symbols = Symbols::new(alloc);
     let name = Bytes::copy(alloc, b":Main").ok()?;
-    let file = item_of(alloc, Named(0))?;
+    let file = item_of(alloc, &Named(0))?;
     symbols
         .push(Symbol {
             name,
@@ -125,38 +137,78 @@ fn is_main(symbols: &[Symbol]) -> bool {
     }
 }
 
+/// The first address where an image has another octa, if there is one.
+fn other_octa(image: &Image, octas: &[(u64, u64)]) -> Option<u64> {
+    for (a, x) in octas {
+        if *a >= 1 << 63 || image.memory().load(*a) != *x {
+            return Some(*a);
+        }
+    }
+    None
+}
+
+/// The first address where an image has another line, if there is one.
+fn other_line(image: &Image, lines: &[(u64, u32)]) -> Option<u64> {
+    for (a, line) in lines {
+        if image.line_of(*a) != *line {
+            return Some(*a);
+        }
+    }
+    None
+}
+
+/// The first address where an image has another octa, the number of its pages, and the first address
+/// where it has another line.
+type Seen = (Option<u64>, u32, Option<u64>);
+
+/// What is seen of an image that should have these octas and lines.
+fn seen(image: &Image, octas: &[(u64, u64)], lines: &[(u64, u32)]) -> Seen {
+    (
+        other_octa(image, octas),
+        image.memory().pages(),
+        other_line(image, lines),
+    )
+}
+
+/// The number of the first global register, and the values of the last three.
+fn globals(image: &Image) -> (u8, [u64; 3]) {
+    (
+        image.g(),
+        [image.global(253), image.global(254), image.global(255)],
+    )
+}
+
+/// The octas of the small program.
+static SMALL_OCTAS: [(u64, u64); 2] = [
+    (0x100, 0x6869_0a00_f5ff_ffff),
+    (0x108, 0x0000_0701_0000_0000),
+];
+
+/// Its lines.
+static SMALL_LINES: [(u64, u32); 5] = [(0xff, 0), (0x100, 2), (0x107, 3), (0x10c, 5), (0x110, 0)];
+
+/// What is seen of the small program, its registers, whether it has the symbol, and its last octa.
+fn small_seen(alloc: Global) -> Option<(Seen, (u8, [u64; 3]), bool, u64)> {
+    let image = small(alloc)?;
+    Some((
+        seen(&image, &SMALL_OCTAS, &SMALL_LINES),
+        globals(&image),
+        is_main(image.symbols().as_slice()),
+        image.into_memory().load(0x10f),
+    ))
+}
+
 #[test]
 fn small_program(rt: HostRuntime) {
-    let image = small(rt.alloc()).expect(&rt, "memory");
-    assert_eq!(rt; image.memory().load(0x100), 0x6869_0a00_f5ff_ffff);
-    assert_eq!(rt; image.memory().load(0x108), 0x0000_0701_0000_0000);
-    assert_eq!(rt; image.memory().pages(), 1);
-    has_lines(
-        &rt,
-        &image,
-        &[(0xff, 0), (0x100, 2), (0x107, 3), (0x10c, 5), (0x110, 0)],
-    );
     assert_eq!(rt;
-        (image.g(), image.global(255), image.global(254)),
-        (255, 0x104, 0)
+        small_seen(rt.alloc()),
+        Some((
+            (None, 1, None),
+            (255, [0, 0, 0x104]),
+            true,
+            0x0000_0701_0000_0000
+        ))
     );
-    assert!(rt; is_main(image.symbols().as_slice()));
-    assert_eq!(rt; image.into_memory().load(0x10f), 0x0000_0701_0000_0000);
-}
-
-/// Sees that an image has these octas at these addresses.
-fn has_octas(rt: &impl Abort, image: &Image, octas: &[(u64, u64)]) {
-    for (a, x) in octas {
-        assert!(rt; *a < 1 << 63);
-        assert_eq!(rt; image.memory().load(*a), *x, "at {a}");
-    }
-}
-
-/// Sees that an image has these lines at these addresses.
-fn has_lines(rt: &impl Abort, image: &Image, lines: &[(u64, u32)]) {
-    for (a, line) in lines {
-        assert_eq!(rt; image.line_of(*a), *line, "of {a}");
-    }
 }
 
 /// Items; octas by their addresses; the number of pages; lines by addresses.
@@ -281,24 +333,45 @@ static IMAGES: [(&[Row], &[(u64, u64)], u32, &[(u64, u32)]); 14] = [
     ),
 ];
 
+/// What is seen of the image of rows that should have these octas and lines.
+fn rows_seen(
+    alloc: Global,
+    rows: &[Row],
+    octas: &[(u64, u64)],
+    lines: &[(u64, u32)],
+) -> Result<Seen, LoadFault> {
+    let image = image_of_rows(alloc, rows)?;
+    Ok(seen(&image, octas, lines))
+}
+
+/// The number of the first row whose image is otherwise, and what is seen of it, if there is one.
+fn image_otherwise(alloc: Global) -> Option<(usize, Result<Seen, LoadFault>)> {
+    for (number, (rows, octas, pages, lines)) in IMAGES.iter().enumerate() {
+        let found = rows_seen(alloc, rows, octas, lines);
+        if found != Ok((None, *pages, None)) {
+            return Some((number, found));
+        }
+    }
+    None
+}
+
 #[test]
 fn images(rt: HostRuntime) {
-    let alloc = rt.alloc();
-    for (rows, octas, pages, lines) in IMAGES {
-        let image = image_of_rows(alloc, rows).expect(&rt, "no fault");
-        has_octas(&rt, &image, octas);
-        assert_eq!(rt; image.memory().pages(), pages);
-        has_lines(&rt, &image, lines);
-    }
+    assert_eq!(rt; image_otherwise(rt.alloc()), None);
+}
+
+/// The registers of the image of rows.
+fn rows_globals(alloc: Global, rows: &[Row]) -> Result<(u8, [u64; 3]), LoadFault> {
+    let image = image_of_rows(alloc, rows)?;
+    Ok(globals(&image))
 }
 
 #[test]
 fn registers(rt: HostRuntime) {
-    let image = image_of_rows(rt.alloc(), &[Post(7, 0x100)]).expect(&rt, "no fault");
-    assert_eq!(rt; image.g(), 254);
-    for (k, x) in [(253, 0), (254, 7), (255, 0x100)] {
-        assert_eq!(rt; image.global(k), x, "in {k}");
-    }
+    assert_eq!(rt;
+        rows_globals(rt.alloc(), &[Post(7, 0x100)]),
+        Ok((254, [0, 7, 0x100]))
+    );
 }
 
 /// Items that are refused, and the number of the fault.
@@ -317,12 +390,18 @@ static REFUSED: [(&[Row], u16); 9] = [
     (&[Named(1), File(2)], 96),
 ];
 
+/// The number of the fault for which rows are refused; nothing where they have an image.
+fn fault_of(alloc: Global, rows: &[Row]) -> Option<u16> {
+    match image_of_rows(alloc, rows) {
+        Ok(_) => None,
+        Err(fault) => Some(fault.number()),
+    }
+}
+
 #[test]
 fn faults(rt: HostRuntime) {
-    let alloc = rt.alloc();
-    for (rows, number) in REFUSED {
-        let fault = image_of_rows(alloc, rows).err().expect(&rt, "a fault");
-        assert_eq!(rt; fault.number(), number);
+    for (rows, number) in &REFUSED {
+        assert_eq!(rt; fault_of(rt.alloc(), rows), Some(*number));
     }
     assert_eq!(rt;
         (
@@ -333,34 +412,68 @@ fn faults(rt: HostRuntime) {
     );
 }
 
-/// A loader whose memory has as many pages as there may be.
-fn full(alloc: Global) -> Result<Loader, LoadFault> {
-    let mut loader = Loader::new(alloc);
+/// Gives a loader a tetra on each of as many pages as there may be.
+fn fill(loader: &mut Loader) -> Result<(), LoadFault> {
     for page in 0..65536 {
         loader.take(&Item::Loc(page * 4096))?;
         loader.take(&Item::Load(1))?;
     }
+    Ok(())
+}
+
+/// A loader whose memory has as many pages as there may be.
+fn full(alloc: Global) -> Result<Loader, LoadFault> {
+    let mut loader = Loader::new(alloc);
+    fill(&mut loader)?;
     Ok(loader)
+}
+
+/// A row, and what is answered to it.
+type Turn = (Row, Result<(), LoadFault>);
+
+/// What a loader answers in turn whose memory is full, and the fault that it ends with.
+static FULL: [(&[Turn], LoadFault); 2] = [
+    (
+        &[
+            (Load(2), Ok(())),
+            (Loc(1 << 40), Ok(())),
+            (Load(0), Err(LoadFault::PagesFull)),
+            // the fault is answered again
+            (Loc(0), Err(LoadFault::PagesFull)),
+            (Line(1), Err(LoadFault::PagesFull)),
+        ],
+        LoadFault::PagesFull,
+    ),
+    // an octa that would lie in the stack segment by half is refused for that
+    (
+        &[(FixOcta(0x5fff_ffff_ffff_fffc), Err(LoadFault::BadPlace))],
+        LoadFault::BadPlace,
+    ),
+];
+
+/// The first turn at which a loader answers otherwise, if there is one.
+fn turn_otherwise(alloc: Global, loader: &mut Loader, turns: &[Turn]) -> Option<usize> {
+    for (turn, (row, answer)) in turns.iter().enumerate() {
+        if take_row(alloc, loader, row) != *answer {
+            return Some(turn);
+        }
+    }
+    None
+}
+
+/// The first turn at which a loader whose memory is full answers otherwise, and the fault that it ends with.
+fn full_otherwise(
+    alloc: Global,
+    turns: &[Turn],
+) -> Result<(Option<usize>, Option<LoadFault>), LoadFault> {
+    let mut loader = full(alloc)?;
+    let turn = turn_otherwise(alloc, &mut loader, turns);
+    Ok((turn, loader.finish(Symbols::new(alloc)).err()))
 }
 
 #[test]
 fn full_memory(rt: HostRuntime) {
-    let alloc = rt.alloc();
-    let mut loader = full(alloc).expect(&rt, "memory");
-    assert_eq!(rt; loader.take(&Item::Load(2)), Ok(()));
-    assert_eq!(rt; loader.take(&Item::Loc(1 << 40)), Ok(()));
-    assert_eq!(rt; loader.take(&Item::Load(0)), Err(LoadFault::PagesFull));
-    // the fault is answered again
-    assert_eq!(rt; loader.take(&Item::Loc(0)), Err(LoadFault::PagesFull));
-    assert_eq!(rt; loader.take(&Item::Line(1)), Err(LoadFault::PagesFull));
-    assert_eq!(rt;
-        loader.finish(Symbols::new(alloc)).err(),
-        Some(LoadFault::PagesFull)
-    );
-    // an octa that would lie in the stack segment by half is refused for that
-    let mut loader = full(alloc).expect(&rt, "memory");
-    assert_eq!(rt;
-        loader.take(&Item::FixOcta(0x5fff_ffff_ffff_fffc)),
-        Err(LoadFault::BadPlace)
-    );
+    for (turns, fault) in &FULL {
+        assert_eq!(rt; full_otherwise(rt.alloc(), turns), Ok((None, Some(*fault))));
+    }
 }

@@ -1,10 +1,10 @@
 //! Values from outside: tetras of published programs, and sums done by hand.
 
 use mx_mem::{MemFault, Memory, Part, Space, SpaceFault};
-use std::test::Fail;
+use std::alloc::Global;
 
 /// What is joined, and what the octa there and the count of pages are afterwards.
-const JOINED: [(u64, u32, u64, u32); 11] = [
+static JOINED: [(u64, u32, u64, u32); 11] = [
     // two bytes 1 and 3 at one address make 2
     (0, 0x0100_0000, 0x0100_0000_0000_0000, 1),
     (0, 0x0300_0000, 0x0200_0000_0000_0000, 1),
@@ -26,7 +26,7 @@ const JOINED: [(u64, u32, u64, u32); 11] = [
 ];
 
 /// Where to look from, and the octa that is found.
-const NEXT: [(u64, Option<(u64, u64)>); 7] = [
+static NEXT: [(u64, Option<(u64, u64)>); 7] = [
     (0, Some((0, 0x0200_0000_0000_0701))),
     // the octa's own address counts
     (1, Some((0x100, 0x8fff_0100_0000_0701))),
@@ -39,7 +39,7 @@ const NEXT: [(u64, Option<(u64, u64)>); 7] = [
 ];
 
 /// What part is stored, and what the octa there and the count of pages are afterwards.
-const STORED: [(u64, Part, u64, u64, u32); 9] = [
+static STORED: [(u64, Part, u64, u64, u32); 9] = [
     // STB of 384 stores its low byte
     (
         0x2000_0000_0000_0001,
@@ -62,37 +62,85 @@ const STORED: [(u64, Part, u64, u64, u32); 9] = [
     (0x7fff_ffff_ffff_ffff, Part::Byte, 1, 1, 4),
 ];
 
-#[test]
-fn joins_tetras(rt: HostRuntime) -> Result<(), Fail> {
-    let mut memory = Memory::new(rt.alloc());
-    assert_eq!(rt; memory.pages(), 0);
-    assert_eq!(rt; memory.load(0), 0);
-    assert_eq!(rt; memory.next_nonzero(0), None);
-    for (a, t, octa, pages) in JOINED {
-        assert!(rt; a < 1 << 63);
-        memory.xor_tetra(a, t)?;
-        assert_eq!(rt; memory.load(a), octa, "at {a}");
-        assert_eq!(rt; memory.pages(), pages, "after {a}");
+/// What the octa at an address and the count of pages are once a tetra is joined there.
+fn joined(memory: &mut Memory, a: u64, t: u32) -> Option<(u64, u32)> {
+    if a >= 1 << 63 {
+        return None;
     }
-    for (from, found) in NEXT {
-        assert!(rt; from < 1 << 63);
-        assert_eq!(rt; memory.next_nonzero(from), found, "from {from}");
+    memory.xor_tetra(a, t).ok()?;
+    Some((memory.load(a), memory.pages()))
+}
+
+/// What the octa at an address and the count of pages are once a part is stored there.
+fn stored(memory: &mut Memory, a: u64, part: Part, x: u64) -> Option<(u64, u32)> {
+    if a >= 1 << 63 {
+        return None;
     }
-    // a fetch from within the low half
-    assert_eq!(rt; (memory.tetra(0x106), memory.byte(0x107)), (0x0701, 0x01));
-    Ok(())
+    memory.store_part(a, part, x).ok()?;
+    Some((memory.load(a), memory.pages()))
+}
+
+/// The octa that is found from an address on.
+fn found(memory: &Memory, from: u64) -> Result<Option<(u64, u64)>, SpaceFault> {
+    if from >= 1 << 63 {
+        return Err(SpaceFault::Negative);
+    }
+    Ok(memory.next_nonzero(from))
+}
+
+/// The octa at an address, the count of pages, and the first octa that is not 0.
+type Seen = (u64, u32, Option<(u64, u64)>);
+
+/// What is seen of a memory, with the octa at an address below 2^63.
+fn seen(memory: &Memory, a: u64) -> Option<Seen> {
+    if a >= 1 << 63 {
+        return None;
+    }
+    Some((memory.load(a), memory.pages(), memory.next_nonzero(0)))
+}
+
+/// The first address at which a row is joined otherwise, if there is one.
+fn joined_otherwise(memory: &mut Memory) -> Option<u64> {
+    for (a, t, octa, pages) in &JOINED {
+        if joined(memory, *a, *t) != Some((*octa, *pages)) {
+            return Some(*a);
+        }
+    }
+    None
+}
+
+/// The first address from which another octa is found, if there is one.
+fn found_otherwise(memory: &Memory) -> Option<u64> {
+    for (from, next) in &NEXT {
+        if found(memory, *from) != Ok(*next) {
+            return Some(*from);
+        }
+    }
+    None
 }
 
 #[test]
-fn stores_parts(rt: HostRuntime) -> Result<(), Fail> {
+fn joins_tetras(rt: HostRuntime) {
     let mut memory = Memory::new(rt.alloc());
-    for (a, part, x, octa, pages) in STORED {
-        assert!(rt; a < 1 << 63);
-        memory.store_part(a, part, x)?;
-        assert_eq!(rt; memory.load(a), octa, "at {a}");
-        assert_eq!(rt; memory.pages(), pages, "after {a}");
+    assert_eq!(rt; seen(&memory, 0), Some((0, 0, None)));
+    assert_eq!(rt;
+        (joined_otherwise(&mut memory), found_otherwise(&memory)),
+        (None, None)
+    );
+    // a fetch from within the low half
+    assert_eq!(rt; (memory.tetra(0x106), memory.byte(0x107)), (0x0701, 0x01));
+}
+
+#[test]
+fn stores_parts(rt: HostRuntime) {
+    let mut memory = Memory::new(rt.alloc());
+    for (a, part, x, octa, pages) in &STORED {
+        assert_eq!(rt;
+            stored(&mut memory, *a, *part, *x),
+            Some((*octa, *pages)),
+            "at {a}"
+        );
     }
-    Ok(())
 }
 
 /// Puts a byte at an address, and gives what stands there then.
@@ -101,39 +149,59 @@ fn put_and_read<S: Space>(space: &mut S, a: u64, b: u8) -> Result<(u8, u64), Spa
     Ok((space.byte_at(a)?, space.octa_at(a)?))
 }
 
-#[test]
-fn is_a_space(rt: HostRuntime) -> Result<(), Fail> {
-    let mut memory = Memory::new(rt.alloc());
-    assert_eq!(rt;
-        put_and_read(&mut memory, 0x6000_0000_0000_0006, 0xab),
-        Ok((0xab, 0xab00))
-    );
-    assert_eq!(rt; put_and_read(&mut memory, (1 << 63) - 1, 7), Ok((7, 7)));
-    assert_eq!(rt;
-        put_and_read(&mut memory, 1 << 63, 7),
-        Err(SpaceFault::Negative)
-    );
-    assert_eq!(rt; memory.pages(), 2);
-    Ok(())
-}
+/// Where a byte is put, the byte, and what stands there then.
+static PUT: [(u64, u8, Result<(u8, u64), SpaceFault>); 3] = [
+    (0x6000_0000_0000_0006, 0xab, Ok((0xab, 0xab00))),
+    ((1 << 63) - 1, 7, Ok((7, 7))),
+    (1 << 63, 7, Err(SpaceFault::Negative)),
+];
 
 #[test]
-fn refuses_one_page_too_many(rt: HostRuntime) -> Result<(), Fail> {
+fn is_a_space(rt: HostRuntime) {
     let mut memory = Memory::new(rt.alloc());
+    for (a, b, answer) in &PUT {
+        assert_eq!(rt; put_and_read(&mut memory, *a, *b), *answer, "at {a}");
+    }
+    assert_eq!(rt; memory.pages(), 2);
+}
+
+/// A memory with as many pages as there may be, all of zeros.
+fn full(alloc: Global) -> Result<Memory, MemFault> {
+    let mut memory = Memory::new(alloc);
     for page in 0..65536 {
         memory.store(page * 4096 + 5, 0)?;
     }
-    assert_eq!(rt; memory.store(1 << 62, 1), Err(MemFault::PagesFull));
-    assert_eq!(rt; memory.put_byte(1 << 62, 1), Err(SpaceFault::PagesFull));
-    assert_eq!(rt; memory.load(1 << 62), 0);
-    assert_eq!(rt; memory.pages(), 65536);
-    assert_eq!(rt; memory.next_nonzero(0), None);
-    // a page that is there is not refused, and its octa is found over all pages of zeros
-    assert_eq!(rt; memory.xor_tetra(65535 * 4096 + 4, 1), Ok(()));
-    assert_eq!(rt; memory.next_nonzero(0), Some((65535 * 4096, 1)));
+    Ok(memory)
+}
+
+/// What a memory answers where an octa and a byte are stored on a page that is not there.
+fn stored_beyond(memory: &mut Memory) -> (Result<(), MemFault>, Result<(), SpaceFault>) {
+    (memory.store(1 << 62, 1), memory.put_byte(1 << 62, 1))
+}
+
+/// Whether a full memory refuses those stores, and is as before.
+fn refuses_beyond(memory: &mut Memory) -> bool {
+    stored_beyond(memory) == (Err(MemFault::PagesFull), Err(SpaceFault::PagesFull))
+        && seen(memory, 1 << 62) == Some((0, 65536, None))
+}
+
+/// Whether a page that is there is not refused, and its octa is found over all pages of zeros.
+fn joins_on_a_page(memory: &mut Memory) -> bool {
+    joined(memory, 65535 * 4096 + 4, 1) == Some((1, 65536))
+        && seen(memory, 0) == Some((0, 65536, Some((65535 * 4096, 1))))
+}
+
+/// What a full memory does of both.
+fn full_does(alloc: Global) -> Result<(bool, bool), MemFault> {
+    let mut memory = full(alloc)?;
+    Ok((refuses_beyond(&mut memory), joins_on_a_page(&mut memory)))
+}
+
+#[test]
+fn refuses_one_page_too_many(rt: HostRuntime) {
+    assert_eq!(rt; full_does(rt.alloc()), Ok((true, true)));
     assert_eq!(rt;
         (MemFault::PagesFull.number(), MemFault::OutOfMemory.number()),
         (90, 0)
     );
-    Ok(())
 }

@@ -5,25 +5,6 @@ use mx_stab::{StabFault, read, write};
 use mx_word::{Bytes, NoMemory, Symbol, Symbols, Value};
 use std::alloc::Global;
 
-/// The trie of the worked object of `hello.mms`.
-const HELLO: [u8; 38] = [
-    0x20, 0x3a, 0x30, 0x4d, 0x20, 0x61, 0x20, 0x69, 0x02, 0x6e, 0x01, 0x00, 0x82, 0x30, 0x53, 0x20,
-    0x74, 0x20, 0x72, 0x20, 0x69, 0x20, 0x6e, 0x02, 0x67, 0x01, 0x14, 0x83, 0x20, 0x61, 0x20, 0x72,
-    0x20, 0x67, 0x0f, 0x76, 0x01, 0x81,
-];
-
-/// The trie of the worked object of `first.mms`.
-const FIRST: [u8; 24] = [
-    0x20, 0x3a, 0x30, 0x4d, 0x20, 0x61, 0x20, 0x69, 0x02, 0x6e, 0x01, 0x04, 0x82, 0x20, 0x54, 0x20,
-    0x65, 0x20, 0x78, 0x02, 0x74, 0x01, 0x00, 0x81,
-];
-
-/// A trie of one symbol with nodes that have no character, and three zeros behind it.
-const BARE: [u8; 20] = [
-    0x20, 0x3a, 0x40, 0x40, 0x10, 0x40, 0x40, 0x20, 0x4d, 0x20, 0x61, 0x20, 0x69, 0x01, 0x6e, 0x00,
-    0x81, 0x00, 0x00, 0x00,
-];
-
 /// A list of symbols.
 fn symbols(alloc: Global, of: &[(&[u8], Value, u32)]) -> Result<Symbols, NoMemory> {
     let mut symbols = Symbols::new(alloc);
@@ -61,57 +42,75 @@ fn is_written(alloc: Global, of: &[(&[u8], Value, u32)], want: &[u8]) -> bool {
     }
 }
 
+/// A symbol's name, value and serial number.
+type Row = (&'static [u8], Value, u32);
+
+/// Symbols, their trie, and what the row shows.
+static WRITTEN: [(&[Row], &[u8], &str); 6] = [
+    (&[], b"", "no symbols"),
+    (
+        &[
+            (b":Main", Value::Pure(0x100), 2),
+            (b":String", Value::Pure(0x114), 3),
+            (b":argv", Value::Reg(1), 1),
+        ],
+        &[
+            0x20, 0x3a, 0x30, 0x4d, 0x20, 0x61, 0x20, 0x69, 0x02, 0x6e, 0x01, 0x00, 0x82, 0x30,
+            0x53, 0x20, 0x74, 0x20, 0x72, 0x20, 0x69, 0x20, 0x6e, 0x02, 0x67, 0x01, 0x14, 0x83,
+            0x20, 0x61, 0x20, 0x72, 0x20, 0x67, 0x0f, 0x76, 0x01, 0x81,
+        ],
+        "the symbols of the worked object of `hello.mms`",
+    ),
+    (
+        &[
+            (b":Main", Value::Pure(0x104), 2),
+            (b":Text", Value::Pure(0x100), 1),
+        ],
+        &[
+            0x20, 0x3a, 0x30, 0x4d, 0x20, 0x61, 0x20, 0x69, 0x02, 0x6e, 0x01, 0x04, 0x82, 0x20,
+            0x54, 0x20, 0x65, 0x20, 0x78, 0x02, 0x74, 0x01, 0x00, 0x81,
+        ],
+        "the symbols of the worked object of `first.mms`",
+    ),
+    (
+        &[
+            (b":", Value::Reg(255), 4),
+            (b":a", Value::Pure(0xff), 3),
+            (b":ab", Value::Pure(0x100), 2),
+            (b":b", Value::Pure(0x100_0000), 1),
+        ],
+        &[
+            0x2f, 0x3a, 0xff, 0x84, 0x31, 0x61, 0xff, 0x83, 0x02, 0x62, 0x01, 0x00, 0x82, 0x04,
+            0x62, 0x01, 0x00, 0x00, 0x00, 0x81,
+        ],
+        "names that go on",
+    ),
+    (
+        &[
+            (b":a", Value::Pure(0x1fff_ffff_ffff_ffff), 1),
+            (b":b", Value::Pure(0x2000_0000_0000_0000), 2),
+            (b":c", Value::Pure(0x2000_ffff_ffff_ffff), 128),
+            (b":d", Value::Pure(0x2001_0000_0000_0000), 0xffff_ffff),
+        ],
+        &[
+            0x20, 0x3a, 0x18, 0x61, 0x1f, 0xff, 0xff, 0xff, 0xff, 0xff, 0xff, 0xff, 0x81, 0x19,
+            0x62, 0x00, 0x82, 0x1e, 0x63, 0xff, 0xff, 0xff, 0xff, 0xff, 0xff, 0x01, 0x80, 0x08,
+            0x64, 0x20, 0x01, 0x00, 0x00, 0x00, 0x00, 0x00, 0x00, 0x0f, 0x7f, 0x7f, 0x7f, 0xff,
+        ],
+        "values beside 2^61, long serials",
+    ),
+    (
+        &[(b":\xc3\xa9", Value::Pure(5), 1)],
+        &[0x20, 0x3a, 0x20, 0xc3, 0x01, 0xa9, 0x05, 0x81],
+        "a character of UTF-8 byte by byte",
+    ),
+];
+
 #[test]
 fn symbols_are_written(rt: HostRuntime) {
-    let alloc = rt.alloc();
-    assert!(rt; is_written(alloc, &[], b""), "no symbols");
-    let hello = [
-        (b":Main".as_slice(), Value::Pure(0x100), 2),
-        (b":String".as_slice(), Value::Pure(0x114), 3),
-        (b":argv".as_slice(), Value::Reg(1), 1),
-    ];
-    assert!(rt; is_written(alloc, &hello, &HELLO), "the symbols of hello");
-    let first = [
-        (b":Main".as_slice(), Value::Pure(0x104), 2),
-        (b":Text".as_slice(), Value::Pure(0x100), 1),
-    ];
-    assert!(rt; is_written(alloc, &first, &FIRST), "the symbols of first");
-    let longer = [
-        (b":".as_slice(), Value::Reg(255), 4),
-        (b":a".as_slice(), Value::Pure(0xff), 3),
-        (b":ab".as_slice(), Value::Pure(0x100), 2),
-        (b":b".as_slice(), Value::Pure(0x100_0000), 1),
-    ];
-    let bytes = [
-        0x2f, 0x3a, 0xff, 0x84, 0x31, 0x61, 0xff, 0x83, 0x02, 0x62, 0x01, 0x00, 0x82, 0x04, 0x62,
-        0x01, 0x00, 0x00, 0x00, 0x81,
-    ];
-    assert!(rt; is_written(alloc, &longer, &bytes), "names that go on");
-    let beside = [
-        (b":a".as_slice(), Value::Pure(0x1fff_ffff_ffff_ffff), 1),
-        (b":b".as_slice(), Value::Pure(0x2000_0000_0000_0000), 2),
-        (b":c".as_slice(), Value::Pure(0x2000_ffff_ffff_ffff), 128),
-        (
-            b":d".as_slice(),
-            Value::Pure(0x2001_0000_0000_0000),
-            0xffff_ffff,
-        ),
-    ];
-    let bytes = [
-        0x20, 0x3a, 0x18, 0x61, 0x1f, 0xff, 0xff, 0xff, 0xff, 0xff, 0xff, 0xff, 0x81, 0x19, 0x62,
-        0x00, 0x82, 0x1e, 0x63, 0xff, 0xff, 0xff, 0xff, 0xff, 0xff, 0x01, 0x80, 0x08, 0x64, 0x20,
-        0x01, 0x00, 0x00, 0x00, 0x00, 0x00, 0x00, 0x0f, 0x7f, 0x7f, 0x7f, 0xff,
-    ];
-    assert!(rt;
-        is_written(alloc, &beside, &bytes),
-        "values beside 2^61, long serials"
-    );
-    let wide = [(b":\xc3\xa9".as_slice(), Value::Pure(5), 1)];
-    let bytes = [0x20, 0x3a, 0x20, 0xc3, 0x01, 0xa9, 0x05, 0x81];
-    assert!(rt;
-        is_written(alloc, &wide, &bytes),
-        "a character of UTF-8 byte by byte"
-    );
+    for (symbols, trie, what) in &WRITTEN {
+        assert!(rt; is_written(rt.alloc(), symbols, trie), "{what}");
+    }
 }
 
 /// Characters of two bytes, and the symbol of a colon and one of them.
@@ -125,57 +124,78 @@ static WIDE: [([u8; 2], &[u8]); 7] = [
     ([0xff, 0xff], &[0x3a, 0xef, 0xbf, 0xbf]),
 ];
 
+/// Whether a trie of a colon and a character of two bytes is read as a symbol of this name.
+fn is_read_wide(alloc: Global, character: &[u8; 2], name: &[u8]) -> bool {
+    let [high, low] = character;
+    let bytes = [0x20, 0x3a, 0x81, *high, *low, 5, 0x81, 0];
+    is_read(alloc, &bytes, &[(name, Value::Pure(5), 1)])
+}
+
+/// Tries, their symbols, and what the row shows.
+static READ: [(&[u8], &[Row], &str); 4] = [
+    (&[0, 0, 0, 0], &[], "one node with no symbol, padded"),
+    (
+        &[
+            0x20, 0x3a, 0x40, 0x40, 0x10, 0x40, 0x40, 0x20, 0x4d, 0x20, 0x61, 0x20, 0x69, 0x01,
+            0x6e, 0x00, 0x81, 0x00, 0x00, 0x00,
+        ],
+        &[(b":Main", Value::Pure(0), 1)],
+        "nodes without a character",
+    ),
+    (
+        &[
+            0x51, 0x01, 0x62, 0x00, 0x00, 0x81, 0x61, 0x08, 0x82, 0x08, 0x63, 0x01, 0x02, 0x03,
+            0x04, 0x05, 0x06, 0x07, 0x08, 0x0f, 0x7f, 0x7f, 0x7f, 0xff, 0x00,
+        ],
+        &[
+            (b"b", Value::Pure(0), 1),
+            (b"a", Value::Pure(8), 2),
+            (b"c", Value::Pure(0x0102_0304_0506_0708), 0xffff_ffff),
+        ],
+        "left before right, names out of order, serials with zeros",
+    ),
+    (
+        &[
+            0x29, 0x3a, 0x00, 0x80, 0x1e, 0x61, 0xff, 0xff, 0xff, 0xff, 0xff, 0xff, 0x83, 0x0f,
+            0x62, 0xff, 0x84,
+        ],
+        &[
+            (b":", Value::Pure(0x2000_0000_0000_0000), 0),
+            (b":a", Value::Pure(0x2000_ffff_ffff_ffff), 3),
+            (b":b", Value::Reg(255), 4),
+        ],
+        "values from 2^61 on, and a register",
+    ),
+];
+
 #[test]
 fn tries_are_read(rt: HostRuntime) {
     let alloc = rt.alloc();
-    assert!(rt;
-        is_read(alloc, &[0, 0, 0, 0], &[]),
-        "one node with no symbol, padded"
-    );
-    let main = [(b":Main".as_slice(), Value::Pure(0), 1)];
-    assert!(rt; is_read(alloc, &BARE, &main), "nodes without a character");
-    let sides = [
-        (b"b".as_slice(), Value::Pure(0), 1),
-        (b"a".as_slice(), Value::Pure(8), 2),
-        (
-            b"c".as_slice(),
-            Value::Pure(0x0102_0304_0506_0708),
-            0xffff_ffff,
-        ),
-    ];
-    let bytes = [
-        0x51, 0x01, 0x62, 0x00, 0x00, 0x81, 0x61, 0x08, 0x82, 0x08, 0x63, 0x01, 0x02, 0x03, 0x04,
-        0x05, 0x06, 0x07, 0x08, 0x0f, 0x7f, 0x7f, 0x7f, 0xff, 0x00,
-    ];
-    assert!(rt;
-        is_read(alloc, &bytes, &sides),
-        "left before right, names out of order, serials with zeros"
-    );
-    let kinds = [
-        (b":".as_slice(), Value::Pure(0x2000_0000_0000_0000), 0),
-        (b":a".as_slice(), Value::Pure(0x2000_ffff_ffff_ffff), 3),
-        (b":b".as_slice(), Value::Reg(255), 4),
-    ];
-    let bytes = [
-        0x29, 0x3a, 0x00, 0x80, 0x1e, 0x61, 0xff, 0xff, 0xff, 0xff, 0xff, 0xff, 0x83, 0x0f, 0x62,
-        0xff, 0x84,
-    ];
-    assert!(rt;
-        is_read(alloc, &bytes, &kinds),
-        "values from 2^61 on, and a register"
-    );
+    for (trie, symbols, what) in &READ {
+        assert!(rt; is_read(alloc, trie, symbols), "{what}");
+    }
     for (character, name) in &WIDE {
-        let [high, low] = character;
-        let bytes = [0x20, 0x3a, 0x81, *high, *low, 5, 0x81, 0];
-        assert!(rt;
-            is_read(alloc, &bytes, &[(*name, Value::Pure(5), 1)]),
-            "{high} {low}"
-        );
+        assert!(rt; is_read_wide(alloc, character, name), "{character:?}");
     }
 }
 
 /// Tries, and the fault that is met first.
-static FAULTY: [(&[u8], StabFault); 17] = [
+static FAULTY: [(&[u8], StabFault); 19] = [
+    // nodes without a character, cut off before the serial number, and with a byte behind that is not 0
+    (
+        &[
+            0x20, 0x3a, 0x40, 0x40, 0x10, 0x40, 0x40, 0x20, 0x4d, 0x20, 0x61, 0x20, 0x69, 0x01,
+            0x6e, 0x00,
+        ],
+        StabFault::Truncated(16),
+    ),
+    (
+        &[
+            0x20, 0x3a, 0x40, 0x40, 0x10, 0x40, 0x40, 0x20, 0x4d, 0x20, 0x61, 0x20, 0x69, 0x01,
+            0x6e, 0x00, 0x81, 0x00, 0x00, 0x01,
+        ],
+        StabFault::Padding(17),
+    ),
     (&[0x20], StabFault::Truncated(1)),
     (&[0x08, 0x3a, 1, 2, 3], StabFault::Truncated(5)),
     (&[0x01, 0x3a, 0, 1, 2], StabFault::Truncated(5)),
@@ -215,20 +235,15 @@ static FAULTY: [(&[u8], StabFault); 17] = [
     ),
 ];
 
+/// The fault for which a trie is refused, if it is.
+fn fault_of(alloc: Global, bytes: &[u8]) -> Option<StabFault> {
+    read(alloc, bytes).err()
+}
+
 #[test]
 fn faults_are_met_in_their_order(rt: HostRuntime) {
-    let alloc = rt.alloc();
-    assert!(rt; read(alloc, &BARE[..16]).err() == Some(StabFault::Truncated(16)));
-    let mut padded = BARE;
-    padded[19] = 1;
-    assert!(rt; read(alloc, &padded).err() == Some(StabFault::Padding(17)));
     for (bytes, fault) in &FAULTY {
-        assert!(rt;
-            read(alloc, bytes).err() == Some(*fault),
-            "fault {} at {:?}",
-            fault.number(),
-            fault.place()
-        );
+        assert_eq!(rt; fault_of(rt.alloc(), bytes), Some(*fault));
     }
 }
 
@@ -269,10 +284,10 @@ static LONG: [(&[u8], u32, &[u8], Option<StabFault>); 7] = [
 
 #[test]
 fn long_tries_are_read(rt: HostRuntime) {
-    let alloc = rt.alloc();
     for (bytes, times, behind, fault) in &LONG {
-        assert!(rt;
-            of_many(alloc, bytes, *times, behind) == *fault,
+        assert_eq!(rt;
+            of_many(rt.alloc(), bytes, *times, behind),
+            *fault,
             "{times} times"
         );
     }
