@@ -49,8 +49,7 @@ pub fn host(alloc: Global, given: Given) -> Result<MemHost, Fail> {
     Ok(host)
 }
 
-/// The outcome of words over a host. Only here is the program called: a crate that calls it proves anew what it
-/// does over this host, which takes half a minute.
+/// The outcome of words over a host.
 pub fn outcome_over(alloc: Global, host: &mut MemHost, all: &[&str]) -> Result<Outcome, Fail> {
     let words = words(alloc, all)?;
     Ok(mmixware(alloc, words.as_slice(), host))
