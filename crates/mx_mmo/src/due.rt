@@ -1,6 +1,6 @@
 //! The item that stands first in what was fed.
 
-ghost use Rattle.std.specs.Prelude.{◌≡◌, ◌≢◌, ◌≤◌, ◌*◌, ◌+◌, Some, false, IfOk, IfSome, [], length, take, drop};
+ghost use Rattle.std.specs.Prelude.{◌≡◌, ◌≢◌, ◌≤◌, ◌*◌, ◌+◌, Some, false, IfOk, IfSome, length, take, drop};
 ghost use Rattle.mx_mmo.specs.Reading as spec;
 ghost use Rattle.mx_mmo.specs.Reading.{IsWithin};
 ghost use Rattle.mx_mmo.specs.Skipping.{quoted_behind, skipped};
@@ -26,15 +26,6 @@ pub enum Phase {
     Posted,
     /// `stab` was given: the trie and `end` follow.
     Ended,
-}
-
-/// The tetra that an item begins with: its first byte, the code of a lopcode, and two fields.
-#[derive(Clone, Copy)]
-struct First {
-    a: u8,
-    code: u8,
-    y: u8,
-    z: u8,
 }
 
 /// The number of the bytes Y and Z.
@@ -90,73 +81,7 @@ fn lop_item(
     }
 }
 
-/// `pre`, which every object begins with.
-fn start_item(alloc: Global, at: u64, tetra: First, more: &[u8]) -> Due
-    ensures { result ≢ Err MmoFault.OutOfMemory →
-        result ≡ spec.due_item Phase.Start at tetra.a tetra.code tetra.y tetra.z more.now }
-{
-    if tetra.a == 0x98 && tetra.code == 9 && tetra.y == 1 {
-        pre_item(alloc, tetra.z, more)
-    } else {
-        Err(MmoFault::NoPre(at))
-    }
-}
-
-/// A lopcode between `pre` and `post`, or a tetra that is loaded.
-fn middle_item(alloc: Global, scan: &mut Scan, at: u64, tetra: First, more: &[u8]) -> Due
-    requires within { scan.old.size ≤ length more.now }
-    requires looked { quoted_behind false (take scan.old.size more.now) ≡ Some scan.old.quoted }
-    ensures item { result ≢ Err MmoFault.OutOfMemory →
-        result ≡ spec.due_item Phase.Middle at tetra.a tetra.code tetra.y tetra.z more.now }
-    ensures within { scan.new.size ≤ length more.now }
-    ensures looked { quoted_behind false (take scan.new.size more.now) ≡ Some scan.new.quoted }
-{
-    let First { a, code, y, z } = tetra;
-    if a == 0x98 {
-        lop_item(alloc, scan, at, lop_of(code), y, z, more)
-    } else {
-        Ok(Some((Item::Load(tetra_of([a, code, y, z])), 4)))
-    }
-}
-
-/// `stab`, which alone follows `post`.
-fn posted_item(at: u64, tetra: First) -> Due
-    ensures { result ≡ spec.due_item Phase.Posted at tetra.a tetra.code tetra.y tetra.z [] }
-{
-    if tetra.a != 0x98 || tetra.code != 11 {
-        Err(MmoFault::BadLop(at))
-    } else if tetra.y != 0 || tetra.z != 0 {
-        Err(MmoFault::BadFields(at))
-    } else {
-        Ok(Some((Item::Stab, 4)))
-    }
-}
-
-/// The item that a first tetra begins, with the bytes that follow it.
-fn phase_item(
-    alloc: Global,
-    scan: &mut Scan,
-    phase: Phase,
-    at: u64,
-    tetra: First,
-    more: &[u8],
-) -> Due
-    requires within { scan.old.size ≤ length more.now }
-    requires looked { quoted_behind false (take scan.old.size more.now) ≡ Some scan.old.quoted }
-    ensures item { result ≢ Err MmoFault.OutOfMemory →
-        result ≡ spec.due_item phase at tetra.a tetra.code tetra.y tetra.z more.now }
-    ensures within { scan.new.size ≤ length more.now }
-    ensures looked { quoted_behind false (take scan.new.size more.now) ≡ Some scan.new.quoted }
-{
-    match phase {
-        Phase::Start => start_item(alloc, at, tetra, more),
-        Phase::Middle => middle_item(alloc, scan, at, tetra, more),
-        Phase::Posted => posted_item(at, tetra),
-        Phase::Ended => Ok(None),
-    }
-}
-
-/// The item whose first tetra and what follows it stand in these bytes.
+/// The item that a first tetra begins.
 fn due_item(alloc: Global, scan: &mut Scan, phase: Phase, at: u64, rest: &[u8]) -> Due
     requires within { scan.old.size ≤ length (drop 4 rest.now) }
     requires looked { quoted_behind false (take scan.old.size (drop 4 rest.now)) ≡ Some scan.old.quoted }
@@ -164,16 +89,19 @@ fn due_item(alloc: Global, scan: &mut Scan, phase: Phase, at: u64, rest: &[u8]) 
     ensures size { scan.new.size ≤ length (drop 4 rest.now) }
     ensures looked { quoted_behind false (take scan.new.size (drop 4 rest.now)) ≡ Some scan.new.quoted }
 {
-    if rest.len() < 4 {
+    let [a, code, y, z, more @ ..] = rest else {
         return Ok(None);
-    }
-    let tetra = First {
-        a: rest[0],
-        code: rest[1],
-        y: rest[2],
-        z: rest[3],
     };
-    phase_item(alloc, scan, phase, at, tetra, &rest[4..])
+    match phase {
+        Phase::Start if *a == 0x98 && *code == 9 && *y == 1 => pre_item(alloc, *z, more),
+        Phase::Start => Err(MmoFault::NoPre(at)),
+        Phase::Middle if *a == 0x98 => lop_item(alloc, scan, at, lop_of(*code), *y, *z, more),
+        Phase::Middle => Ok(Some((Item::Load(tetra_of([*a, *code, *y, *z])), 4))),
+        Phase::Posted if *a != 0x98 || *code != 11 => Err(MmoFault::BadLop(at)),
+        Phase::Posted if *y != 0 || *z != 0 => Err(MmoFault::BadFields(at)),
+        Phase::Posted => Ok(Some((Item::Stab, 4))),
+        Phase::Ended => Ok(None),
+    }
 }
 
 /// The item that stands first in bytes that begin at a byte place, where the tetras behind a spec
