@@ -4,6 +4,7 @@
 - Links lead to files. Each crate is described, and what it offers stands in docs/PROVED.md.
 - Names in backquotes are there: crates `mx_..`, paths, the modules that docs/ARCHITECTURE.md names, and the files,
   clauses and definitions of docs/PROVED.md. In a path a word of capitals, as NAME, or a * stands for any word.
+- A table of CONTRIBUTING.md with the head "`WORD` in" names the files of sources, definitions and proofs that have the word.
 - The numbers and names of docs/MESSAGES.md are those of the program's table.
 - The blocks marked `console` on every page are run on the program, if it is built and no source is newer: a line that
   begins with "$ " is a command, and the lines after it are what it prints. Where a block has a console session whose
@@ -49,6 +50,11 @@ def lines_of(page):
             is_fenced = not is_fenced
         elif not is_fenced:
             yield f"{page}:{number}", line
+
+
+def cells_of(line):
+    """The cells of a row of a table."""
+    return [it.replace("\\|", "|") for it in re.findall(r" ((?:[^|\\]|\\.)*) \|", line)]
 
 
 def is_there(path):
@@ -125,6 +131,31 @@ def check_claims():
                 call, _, clause = name.partition(".")
                 if not promises(path, call, clause):
                     wrong(where, f"{path} has no such clause as {name}")
+
+
+def sources_with(word):
+    """The files of code, definitions and proofs that have a word."""
+    every = glob.glob("crates/*/src/**/*.rt", recursive=True)
+    every += [it for part in ("specs", "proofs") for it in glob.glob(f"crates/*/{part}/**/*.antt", recursive=True)]
+    return {it for it in every if re.search(rf"\b{word}\b", text_of(it))}
+
+
+def check_file_tables():
+    listed = {}
+    for where, line in lines_of("CONTRIBUTING.md"):
+        cells = cells_of(line)
+        head = re.fullmatch(r"`(\w+)` in", cells[0]) if cells else None
+        if head:
+            listed[head[1]] = (where, set())
+        elif listed and len(cells) == 2 and cells[0].startswith("`crates/"):
+            folder, names = cells[0].strip("`"), re.findall("`([^`]+)`", cells[1])
+            [*listed.values()][-1][1].update(f"{folder}/{it}" for it in names)
+    for word, (where, named) in listed.items():
+        there = sources_with(word)
+        for it in sorted(there - named):
+            wrong(where, f"{it} has {word}, too")
+        for it in sorted(named - there):
+            wrong(where, f"{it} has no {word}")
 
 
 def check_messages():
@@ -245,11 +276,6 @@ def answered(example, room):
     return subprocess.run(["./mmixware", *words], **how).stderr.decode(errors="replace")
 
 
-def cells_of(line):
-    """The cells of a row of a table."""
-    return [it.replace("\\|", "|") for it in re.findall(r" ((?:[^|\\]|\\.)*) \|", line)]
-
-
 def check_examples_of_messages():
     """In a row of five cells an example in backquotes, the fourth, gives the message of the row: its number and name, or
     its line, where that has no word of capitals, which stands for others."""
@@ -282,8 +308,8 @@ def check_what_beginners_write():
 
 def main():
     os.chdir(TOP)
-    for check in (check_links_and_paths, check_architecture, check_claims, check_messages, check_crates, check_sessions,
-                  check_manual, check_examples_of_messages, check_what_beginners_write):
+    for check in (check_links_and_paths, check_architecture, check_claims, check_file_tables, check_messages, check_crates,
+                  check_sessions, check_manual, check_examples_of_messages, check_what_beginners_write):
         check()
     for it in wrongs:
         print(f"checks/documents.py: {it}", file=sys.stderr)
