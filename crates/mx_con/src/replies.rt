@@ -15,7 +15,7 @@ ghost use Rattle.mx_con.specs.Subjects as subjects;
 use crate::SessionEnd;
 use crate::changes::{change, go_on_at, note_if, set_breaks, set_trace};
 use crate::dialog::Dialog;
-use crate::host_lines::write_line;
+use crate::host_lines::{write_line, write_text};
 use crate::judgement::{Bad, flag_bad, go_to_bad, more_bad, subject_bad};
 use crate::listings::{write_flags, write_octas};
 use crate::subjects::shown_line;
@@ -64,7 +64,7 @@ pub(crate) fn show_state<H: Host>(
         (H.faults host.old) (H.faults host.new) }
     ensures keeps { Keeps (H.told host.old) (H.told host.new) (H.faults host.old) (H.faults host.new) }
 {
-    write_line(host, state_line(alloc, runner.machine())?)
+    write_text(host, state_line(alloc, runner.machine())?.as_slice())
 }
 
 /// Shows a subject.

@@ -12,7 +12,7 @@ ghost use Rattle.mx_con.specs.Session as spec;
 
 use crate::SessionEnd;
 use crate::dialog::Dialog;
-use crate::host_lines::write_line;
+use crate::host_lines::{write_line, write_text};
 use crate::texts::{break_line, trace_line};
 use mx_core::{Machine, Trace};
 use mx_host::Host;
@@ -70,7 +70,7 @@ fn write_trace<H: Host>(
     ensures unwritten { IsTrue (tells (H.told host.old)) → result ≡ Err SessionEnd.OutOfMemory →
         (contents (H.told host.new)).output ≡ (contents (H.told host.old)).output }
 {
-    write_line(host, trace_line(alloc, trace, machine)?)
+    write_text(host, trace_line(alloc, trace, machine)?.as_slice())
 }
 
 /// Goes on up to a break or the end. A traced step writes its line, and the run goes on.
