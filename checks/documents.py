@@ -206,6 +206,8 @@ def with_room(call, saved=None):
     with tempfile.TemporaryDirectory() as room:
         shutil.copytree("examples", f"{room}/examples")
         os.symlink(os.path.realpath(PROGRAM), f"{room}/mmixware")
+        for script in glob.glob("grade"):
+            shutil.copy(script, room)
         for name, text in (saved or {}).items():
             with open(f"{room}/{name}", "w", encoding="utf-8") as file:
                 file.write(text)
