@@ -1,7 +1,7 @@
 #!/usr/bin/env python3
 """Checks what the documents say against the repository, and prints only what is wrong.
 
-- Links lead to files. Each crate is described, and what it offers stands in docs/PROVED.md.
+- Links lead to files, and to headings in them. Each crate is described, and what it offers stands in docs/PROVED.md.
 - Names in backquotes are there: crates `mx_..`, paths, the modules that docs/ARCHITECTURE.md names, and the files,
   clauses and definitions of docs/PROVED.md. In a path a word of capitals, as NAME, or a * stands for any word.
 - A table of CONTRIBUTING.md with the head "`WORD` in" names the files of sources, definitions and proofs that have the word.
@@ -61,11 +61,23 @@ def is_there(path):
     return "/out" in path or bool(glob.glob(re.sub(r"\b[A-Z]{4,}\b(?!\.md)", "*", path)))
 
 
+def anchors(page):
+    """The headings of a page, as a link names them: in small letters, with dashes for blanks."""
+    heads = re.findall(r"^#+ (.*)$", text_of(page), re.M)
+    return {re.sub(r"[^\w\- ]", "", it.lower()).replace(" ", "-") for it in heads}
+
+
+def leads_somewhere(page, link):
+    name, _, heading = link.partition("#")
+    path = os.path.join(os.path.dirname(page), name) if name else page
+    return os.path.exists(path) and (not heading or heading in anchors(path))
+
+
 def check_links_and_paths():
     for page in pages():
         for where, line in lines_of(page):
-            for link in re.findall(r"\]\(([^)#]+)", line):
-                if not link.startswith("http") and not os.path.exists(os.path.join(os.path.dirname(page), link)):
+            for link in re.findall(r"\]\(([^)]+)\)", line):
+                if not link.startswith("http") and not leads_somewhere(page, link):
                     wrong(where, f"the link to {link} leads nowhere")
             for name in re.findall(r"`([^`\s]+)`", line):
                 if re.fullmatch(r"mx_\w+", name) and not os.path.isdir(f"crates/{name}"):
@@ -206,6 +218,8 @@ def with_room(call, saved=None):
     with tempfile.TemporaryDirectory() as room:
         shutil.copytree("examples", f"{room}/examples")
         os.symlink(os.path.realpath(PROGRAM), f"{room}/mmixware")
+        for script in glob.glob("grade"):
+            shutil.copy(script, room)
         for name, text in (saved or {}).items():
             with open(f"{room}/{name}", "w", encoding="utf-8") as file:
                 file.write(text)
