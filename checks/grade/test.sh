@@ -71,7 +71,7 @@ compare() {
     awk -v task="$task" -v room="$room" '$1 == task && $3 != "-" { print room "/solutions/" task "/" $2 }' "$table" |
       while read -r path; do ls "$path".mm[so]; done >"$room/paths"
     # shellcheck disable=SC2046
-    grade --json --time 3 --shield "$shield" --with "$with" "$room/tasks/$task" $(cat "$room/paths") | verdicts_of "$task" \
+    grade --json --time 5 --shield "$shield" --with "$with" "$room/tasks/$task" $(cat "$room/paths") | verdicts_of "$task" \
       >>"$room/got"
   done
   diff "$room/wanted" "$room/got" >"$room/differences" ||
