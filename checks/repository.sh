@@ -39,6 +39,9 @@ fi
 # the scripts at the top do what they say
 sh checks/scripts.sh || bad=1
 
+# the grader gives each solution its verdict
+sh checks/grade/test.sh || bad=1
+
 # what the documents say is so
 if command -v python3 >/dev/null; then
   python3 checks/documents.py || bad=1
