@@ -3,7 +3,7 @@ use Rattle.std.specs.Prelude.{ℕ, zero, suc, Bool, true, false, ◌∷◌, ◌=
 use Rattle.mx_host.specs.HostModel.{HostModel}
 use Rattle.mx_host.specs.HostAnswer.{Then}
 use Rattle.mx_mem.specs.Space.{Contents}
-use Rattle.mx_trap.specs.Counts.{unscheduled}
+use Rattle.mx_plan.specs.Counts.{unscheduled}
 use Rattle.mx_trap.specs.Moves.{Leaves}
 use Rattle.mx_trap.specs.declared.answer.TrapAnswer.{TrapAnswer}
 
