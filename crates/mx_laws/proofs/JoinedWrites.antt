@@ -12,7 +12,8 @@ use Rattle.mx_host.specs.declared.slots.Lead.TheVariants.{Input, Output, Errors,
 use Rattle.mx_host.proofs.Still.{still}
 use Rattle.mx_plan.specs.Counts.{NoneFailed, unscheduled}
 use Rattle.mx_trap.specs.Laws.{SameButCalls}
-use Rattle.mx_trap.specs.Moves.{write_last, write_piece, write_next, write_pieces, whole_pieces, written}
+use Rattle.mx_trap.specs.Moves.{whole_pieces}
+use Rattle.mx_trap.proofs.Walks.{write_last, write_piece, write_next, write_pieces, written}
 use Rattle.mx_trap.specs.declared.writes.Written.{Written}
 use Rattle.mx_trap.specs.declared.writes.Written.TheVariants.{Whole, Short, OutOfMemory}
 use Rattle.mx_trap.proofs.JoinedWrites.{written-joined}

@@ -1,6 +1,6 @@
 -- What every call keeps, every plan keeps.
-use Rattle.std.proofs.Common.{◌⊎◌, inl, inr}
-use Rattle.mx_plan.specs.Plan.{Plan, returns, calls, bind, Acts, end_of, Stops}
+use Rattle.std.proofs.Common.{inl, inr}
+use Rattle.mx_plan.specs.Plan.{Plan, returns, calls, Acts, end_of, Stops}
 use Rattle.mx_plan.specs.Held.{Held, Makes, NeverLacks}
 
 pub held-end : {O : Type 0} {R : O → Type 0} {W A : Type 0} (d : Acts O R W) (Rel : W → W → Type 0) → Held d Rel → (p : Plan O R A) (w : W) → Rel w (end_of d p w).1

@@ -3,3 +3,4 @@ pub mod HeldLaws
 pub mod Streams
 pub mod WildLaws
 pub mod Spared
+pub mod Giving

@@ -1,7 +1,7 @@
 -- Where no call that is made fails, what is answered and left does not depend on the count of calls, nor on the list of
 -- those that fail: for calls, and for all plans.
 use Rattle.std.proofs.Common.{◌≡◌, ℕ, ℤ, ◌+◌, ◌≤◌, ◌<◌, List, [], length, Bool, true, false, cond, refl, sym, ◌∙◌, ap, Some, None, arith, le_refl}
-use Rattle.std.specs.Prelude.{Option, Result, Err, nat_lt, nat_le}
+use Rattle.std.specs.Prelude.{Option, nat_lt, nat_le}
 use Rattle.std.proofs.lemmas.Bool.{and_parts}
 use Rattle.mx_host.specs.HostModel.{HostModel, counted, is_failing, is_listed, last_call, slot_at, is_read_only, is_write_only, is_binary, place_of}
 use Rattle.mx_host.specs.HostAnswer.{Then, open_answer, opened, read_answer, read_from, read_lead, write_answer, write_to, write_lead, close_answer, closed, seek_answer, seek_in, seek_lead, moved, place_sought, tell_answer, bytes_at}
@@ -11,7 +11,7 @@ use Rattle.mx_host.specs.declared.slots.Mode.{Mode}
 use Rattle.mx_host.specs.declared.slots.Lead.{Lead}
 use Rattle.mx_host.specs.declared.slots.Lead.TheVariants.{Input, Output, Errors, File}
 use Rattle.mx_host.proofs.Still.{still}
-use Rattle.mx_plan.specs.Calls.{HostCall, HostSays, opening, closing, reading, writing, seeking, telling, needing, host, HostPlan, BothCall, BothSays, of_host, of_space, looking, Both, BothPlan, both}
+use Rattle.mx_plan.specs.Calls.{HostCall, HostSays, opening, closing, reading, writing, seeking, telling, needing, host, HostPlan, of_host, of_space, looking, Both, BothPlan, both}
 use Rattle.mx_plan.specs.Counts.{NoneFailed, without_count, unscheduled, end_unscheduled}
 use Rattle.mx_plan.specs.Plan.{returns, calls, end_of}
 

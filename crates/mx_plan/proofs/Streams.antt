@@ -1,6 +1,6 @@
 -- A call only adds to standard output, and leaves the slots that lead to the tool's streams where they lead.
-use Rattle.std.proofs.Common.{◌≡◌, ◌≢◌, ℕ, ℤ, ◌+◌, ◌<◌, ◌≤◌, List, Bool, true, false, cond, nat_le, nat_lt, length, take, drop, Some, None, refl, sym, subst, ap, ◌∙◌, arith, Err}
-use Rattle.std.specs.Prelude.{Option, Result, slice_get, slice_set, unwrap_or, ◌==◌}
+use Rattle.std.proofs.Common.{◌≡◌, ◌≢◌, ℕ, ℤ, ◌<◌, ◌≤◌, List, Bool, true, false, cond, nat_le, nat_lt, length, Some, None, refl, sym, subst, ap, ◌∙◌, arith}
+use Rattle.std.specs.Prelude.{Option, slice_get, slice_set, unwrap_or, ◌==◌}
 use Rattle.std.proofs.lemmas.List.{length-set, get_or-set_other}
 use Rattle.std.proofs.lemmas.Option.{slice_get-get_or, slice_get_past}
 use Rattle.std.proofs.lemmas.Bool.Decides.{nat_tests}
@@ -9,8 +9,7 @@ use Rattle.mx_word.proofs.Comparisons.{same-number, other-number}
 use Rattle.mx_word.proofs.Fronts.{front-self, front-through}
 use Rattle.mx_mem.specs.Space.{Contents}
 use Rattle.mx_host.specs.HostModel.{HostModel, counted, is_failing, is_read_only, is_write_only, is_binary, slot_at, with_slot, place_of, to_input, to_output, to_errors}
-use Rattle.mx_host.specs.HostAnswer.{Then, open_answer, opened, close_answer, closed, read_answer, read_from, read_lead, write_answer, write_to, write_lead, seek_answer, seek_in, seek_lead, moved, place_sought, tell_answer, bytes_at}
-use Rattle.mx_host.specs.declared.faults.HostFault.{HostFault}
+use Rattle.mx_host.specs.HostAnswer.{Then, open_answer, opened, close_answer, closed, read_answer, read_from, read_lead, write_answer, write_to, seek_answer, seek_in, seek_lead, moved, place_sought, tell_answer, bytes_at}
 use Rattle.mx_host.specs.declared.slots.Lead.{Lead}
 use Rattle.mx_host.specs.declared.slots.Lead.TheVariants.{Input, Output, Errors, File}
 use Rattle.mx_host.specs.declared.slots.Mode.{Mode}
@@ -30,7 +29,7 @@ on-either P true x y h k = h
 on-either P false x y h k = k
 
 -- a slot that leads to a stream
-abbrev IsStream : Slot → Type 0
+abbrev pub IsStream : Slot → Type 0
 IsStream Closed = ⊥
 IsStream (Open Input mode place) = Unit {0}
 IsStream (Open Output mode place) = Unit {0}
@@ -65,7 +64,7 @@ file-other m slot k at mode place new to s f e = on (k == slot) refl
         absurd (subst IsStream is s)
     on false t = set-other m.slots slot k new (other-number k slot t) ∙ e
 
-abbrev Leads : ℕ → Slot → HostModel → Type 0
+abbrev pub Leads : ℕ → Slot → HostModel → Type 0
 Leads k to m = slot_at m k ≡ to
 
 opened-leads : (k : ℕ) (to : Slot) (m : HostModel) (reads : Bool) (slot : ℕ) (name : List ℕ) (mode : Mode) (at : Option ℕ) → slot ≤ 257 → 257 < k → Leads k to m → Leads k to (opened reads m slot name mode at).1
@@ -111,7 +110,7 @@ guarded P slot x y h k = on (nat_le slot 257) refl
     on true e = h (grind (arith, nat_tests))
     on false e = k
 
-call-leads : (k : ℕ) (to : Slot) (o : HostCall) (m : HostModel) → 257 < k → IsStream to → Leads k to m → Leads k to (host_act o m).1
+pub call-leads : (k : ℕ) (to : Slot) (o : HostCall) (m : HostModel) → 257 < k → IsStream to → Leads k to m → Leads k to (host_act o m).1
 unfolding open_answer close_answer read_answer write_answer seek_answer tell_answer
 call-leads k to (opening slot name mode) m h i e =
     guarded (Leads k to) slot _ _ (λ l. on-either (Leads k to) (is_failing m) _ _ e (opened-leads k to (counted m) (is_read_only mode) slot name mode (place_of m.files name) l h e)) e
@@ -223,11 +222,11 @@ pub streams-held : Held host KeepsStreams
 streams-held = record {
   self = λ m. record { growing = front-self m.output; input = λ e. e; output = λ e. e; errors = λ e. e };
   through = λ l m n h k. record {
-      growing = front-through l.output m.output n.output h.growing k.growing;
-      input = λ e. k.input (h.input e);
-      output = λ e. k.output (h.output e);
-      errors = λ e. k.errors (h.errors e);
-    };
+    growing = front-through l.output m.output n.output h.growing k.growing;
+    input = λ e. k.input (h.input e);
+    output = λ e. k.output (h.output e);
+    errors = λ e. k.errors (h.errors e);
+  };
   acting = λ o m. record { growing = adds-held.acting o m; input = input.acting o m; output = output.acting o m; errors = errors.acting o m };
   lacking = λ o m n e. record { growing = adds-held.lacking o m n e; input = input.lacking o m n e; output = output.lacking o m n e; errors = errors.lacking o m n e };
   between = λ o m n e. record { growing = adds-held.between o m n e; input = input.between o m n e; output = output.between o m n e; errors = errors.between o m n e };

@@ -1,14 +1,14 @@
 -- What a file trap keeps, whatever it asks for.
-use Rattle.std.proofs.Common.{◌≡◌, ◌≢◌, ℕ, ◌+◌, ◌≤◌, IsTrue, Bool, true, false, cond, arith, refl, sym, ◌∙◌, ap, Ok, Err}
+use Rattle.std.proofs.Common.{◌≡◌, ◌≢◌, ℕ, ◌+◌, ◌≤◌, IsTrue, Bool, true, false, cond, arith, refl, sym, ◌∙◌, ap}
 use Rattle.std.specs.Prelude.{Option, Result, ◌==◌, not}
 use Rattle.std.proofs.lemmas.Bool.Decides.{nat_tests}
 use Rattle.mx_word.specs.Lists.{IsFront}
-use Rattle.mx_mem.specs.Space.{Contents, put_answer, begins_page, is_negative}
+use Rattle.mx_mem.specs.Space.{Contents, begins_page, is_negative}
 use Rattle.mx_mem.specs.declared.space.SpaceFault.{SpaceFault}
 use Rattle.mx_host.specs.HostModel.{HostModel, tells, contents}
 use Rattle.mx_host.specs.Keeping.{Keeps}
 use Rattle.mx_host.proofs.Still.{still}
-use Rattle.mx_plan.specs.Plan.{end_of, Stops, Comes}
+use Rattle.mx_plan.specs.Plan.{Comes}
 use Rattle.mx_plan.specs.Calls.{SpaceCall, putting, space, Both, BothPlan, both}
 use Rattle.mx_plan.specs.Clauses.{Stands}
 use Rattle.mx_plan.specs.Counts.{NoneFailed, unscheduled}

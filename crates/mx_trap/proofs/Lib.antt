@@ -16,3 +16,5 @@ pub mod TextReach
 pub mod ApartBytes
 pub mod ApartMoves
 pub mod ApartCalls
+pub mod ToldTraps
+pub mod GoodBuffers

@@ -1,5 +1,5 @@
 -- What the moves come to: as functions from world to world, which are the ends of their plans.
-use Rattle.std.proofs.Common.{◌≡◌, ℕ, ℤ, zero, suc, ◌+◌, ◌-◌, List, [], ◌∷◌, length, take, drop, Bool, true, false, cond, refl, sym, ◌∙◌, ap, Ok, Err}
+use Rattle.std.proofs.Common.{◌≡◌, ℕ, zero, suc, ◌+◌, ◌-◌, List, [], ◌∷◌, length, take, drop, Bool, true, false, cond, refl, ◌∙◌, ap, Ok, Err}
 use Rattle.std.specs.Prelude.{Result, ◌==◌, if◌then◌else◌}
 use Rattle.mx_mem.specs.Space.{Contents, put_answer}
 use Rattle.mx_mem.specs.declared.space.SpaceFault.{SpaceFault}

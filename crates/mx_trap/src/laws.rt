@@ -7,11 +7,11 @@ ghost use Rattle.mx_host.specs.HostAnswer.{read_answer};
 ghost use Rattle.mx_mem.specs.Space.{Contents};
 ghost use Rattle.mx_trap.specs.FileTraps.{trap_answer};
 ghost use Rattle.mx_trap.specs.Laws.{ComesTo, SameButCalls, IsText, RunsOut, IsLong, line_ends, line_front};
-ghost use Rattle.mx_trap.specs.Laws.{stored_byte, LooksAt};
+ghost use Rattle.mx_trap.specs.Laws.{stored_byte, LiesBelow, LooksAt};
 ghost use Rattle.mx_plan.specs.Calls.{both, host, space};
 ghost use Rattle.mx_plan.specs.Plan.{end_of};
 ghost use Rattle.mx_trap.specs.Moves.{leaving, minus_one, bytes_stored, fgets, fread, octa_minus, written, write_piece};
-ghost use Rattle.mx_trap.specs.Requests.{text_length, most_bytes};
+ghost use Rattle.mx_trap.specs.Requests.{good_buffer, text_length, most_bytes};
 ghost use Rattle.mx_trap.specs.Touches.{is_in_segment, meets_segment, text_touches};
 ghost use Rattle.mx_trap.specs.declared.answer.TrapStop.{TrapStop};
 ghost use Rattle.mx_trap.specs.declared.answer.TrapAnswer.{TrapAnswer};
@@ -106,4 +106,21 @@ pub fn texts_touch_where_they_are_read()
         (i : ℕ) × LooksAt most_bytes bytes a i × (is_in_segment (a + i) ≡ true) }
     ensures only { (bytes : ℕ → ℕ) (a i : ℕ) → a < 2 ^ 64 → LooksAt most_bytes bytes a i →
         is_in_segment (a + i) ≡ true → text_touches bytes a ≡ true }
+{}
+
+/// A buffer is good exactly where it has at most 2^24 bytes and each of them lies below 2^63. One of more bytes is
+/// too large, wherever it lies; else one with a byte at 2^63 or above is negative. One of no bytes is good anywhere.
+#[tactic(auto, using(crate::proofs::GoodBuffers::goodness))]
+pub fn buffers_are_good_below()
+    ensures good { (p q : ℕ) → q ≤ most_bytes → LiesBelow p q → good_buffer (Ok (p, q)) ≡ Ok (p, q) }
+    ensures large { (p q : ℕ) → most_bytes < q → good_buffer (Ok (p, q)) ≡ Err TrapStop.TransferTooLarge }
+    ensures negative { (p q i : ℕ) → q ≤ most_bytes → i < q → 2 ^ 63 ≤ p + i →
+        good_buffer (Ok (p, q)) ≡ Err TrapStop.Negative }
+{}
+
+/// By its definition a file trap is never out of memory, whatever the space, the files and the failing calls.
+#[tactic(auto, using(crate::proofs::ToldTraps::told))]
+pub fn traps_end_by_themselves<M: Space>()
+    ensures { (s : Contents M.Rest) (m : HostModel) (call : TrapCall) →
+        (trap_answer s m call).0 ≢ TrapAnswer.OutOfMemory }
 {}
