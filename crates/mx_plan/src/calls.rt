@@ -3,7 +3,8 @@
 ghost use Rattle.std.specs.Prelude.{◌≡◌, ◌≤◌, ◌^◌, Ok, Err, IfOk, length, take};
 ghost use Rattle.mx_host.specs.HostModel.{Rose};
 ghost use Rattle.mx_host.specs.Keeping.{ComesByFault};
-ghost use Rattle.mx_plan.specs.Calls.{close_plan, open_plan, put_plan, read_plan, seek_plan, space, tell_plan, write_plan};
+ghost use Rattle.mx_plan.specs.Calls.{close_plan, open_plan, put_plan, read_plan, seek_plan, space, tell_plan};
+ghost use Rattle.mx_plan.specs.Calls.{write_plan};
 ghost use Rattle.mx_plan.specs.Clauses.{CarriesOut, Stands};
 ghost use Rattle.mx_plan.specs.Plan.{Comes};
 ghost use Rattle.mx_word.specs.Results.{map_ok};
