@@ -1,7 +1,7 @@
 -- What differs in the number of calls alone, or in it and in the list of those that fail.
 use Rattle.std.specs.Prelude.{ℕ, ◌≡◌, ◌≤◌, ◌<◌, false, []}
 use Rattle.mx_host.specs.HostModel.{HostModel, is_listed}
-use Rattle.mx_trap.specs.Moves.{Leaves}
+use Rattle.mx_plan.specs.Calls.{Both}
 
 -- the model with no call counted
 abbrev pub without_count : HostModel → HostModel
@@ -16,6 +16,6 @@ unscheduled m = record m { calls = 0; failing = [] }
 abbrev pub NoneFailed : HostModel → HostModel → Type 0
 NoneFailed before after = (call : ℕ) → before.calls ≤ call → call < after.calls → is_listed call before.failing ≡ false
 
--- what a call answers and leaves, but for the number of calls and the list of those that fail
-abbrev pub leaves_unscheduled : {A Rest : Type 0} → Leaves A Rest → Leaves A Rest
-leaves_unscheduled t = (t.0, t.1, unscheduled t.2)
+-- an answer, the space and the model, but for the number of calls and the list of those that fail
+abbrev pub end_unscheduled : {A Rest : Type 0} → A × Both Rest → A × Both Rest
+end_unscheduled t = (t.0, (t.1.0, unscheduled t.1.1))
