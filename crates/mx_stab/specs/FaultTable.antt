@@ -1,5 +1,5 @@
--- Which bytes have which fault: a table of the causes and places, apart from how a trie is read. The nodes of a trie are
--- those of MMIXware, "MMIXAL", the symbol table; its faults are rules of this program.
+-- Which bytes have which fault: a table of the causes and places, apart from how a trie is read. The nodes are those
+-- of the grammar (MMIXware, MMIXAL, "Binary MMO output", the symbol table); the faults are rules of this program.
 use Rattle.std.specs.Prelude.{◌≡◌, ◌≢◌, ℕ, ◌+◌, ◌*◌, ◌/◌, ◌%◌, ◌^◌, ◌<◌, ◌≤◌, ◌⊎◌, List, [], ◌∷◌, ◌++◌, length, replicate, IsTrue}
 use Rattle.mx_word.specs.declared.symbols.Symbol.{Symbol}
 use Rattle.mx_word.specs.declared.symbols.Value.{Value}
@@ -21,8 +21,8 @@ HasCharacter m = (m % 16 ≢ 0) ⊎ (flag 0x20 m ≡ 1)
 abbrev pub IsWideBare : ℕ → Type 0
 IsWideBare m = (flag 0x80 m ≡ 1) × ¬ HasCharacter m
 
--- a node with the byte m, up to behind its left subtrie: the path to it and the symbols before it; its bytes so far, and
--- all symbols so far, among which no name stands twice
+-- a node with the byte m, up to behind its left subtrie: the path to it and the symbols before it; its bytes so far,
+-- and all symbols so far, among which no name stands twice
 pub data UpToLeft : List ℕ → List Symbol → ℕ → List ℕ → List Symbol → Type 0 where
   left : (path : List ℕ) (before : List Symbol) (m : ℕ) (left : List ℕ) (symbols : List Symbol) → ¬ IsWideBare m →
       IsSubtrie (flag 0x40 m) path left symbols → AreDistinct (before ++ symbols) →
@@ -58,7 +58,8 @@ pub data IsDue : List ℕ → List ℕ → List Symbol → Type 0 where
       IsDue front path before → UpToLeft path before m node found → ¬ HasCharacter m → flag 0x10 m ≡ 1 →
       IsDue (front ++ node) path found
   right : (front path : List ℕ) (before : List Symbol) (m : ℕ) (node name : List ℕ) (found : List Symbol)
-      (middle : List ℕ) (symbols : List Symbol) → IsDue front path before → UpToSymbol path before m node name found →
+      (middle : List ℕ) (symbols : List Symbol) → IsDue front path before →
+      UpToSymbol path before m node name found →
       IsSubtrie (flag 0x20 m) name middle symbols → AreDistinct (found ++ symbols) → flag 0x10 m ≡ 1 →
       IsDue (front ++ (node ++ middle)) path (found ++ symbols)
 
@@ -66,8 +67,8 @@ pub data IsDue : List ℕ → List ℕ → List Symbol → Type 0 where
 -- at its serial number
 pub data EndsWithin (path : List ℕ) (before : List Symbol) : List ℕ → Type 0 where
   at_byte : EndsWithin path before []
-  at_character : (m : ℕ) (node rest : List ℕ) (found : List Symbol) → UpToLeft path before m node found → HasCharacter m →
-      length rest < 1 + flag 0x80 m → EndsWithin path before (node ++ rest)
+  at_character : (m : ℕ) (node rest : List ℕ) (found : List Symbol) → UpToLeft path before m node found →
+      HasCharacter m → length rest < 1 + flag 0x80 m → EndsWithin path before (node ++ rest)
   at_value : (m : ℕ) (node name rest : List ℕ) (found : List Symbol) → UpToCharacter path before m node name found →
       m % 16 ≢ 0 → length rest < value_size (m % 16) → EndsWithin path before (node ++ rest)
   at_serial : (m : ℕ) (node name : List ℕ) (found : List Symbol) (value : Value) (told digits : List ℕ) →
@@ -91,15 +92,16 @@ pub data IsTooDeep (path : List ℕ) (before : List Symbol) : List ℕ → Type 
 -- its serial number is 2^32 or more
 pub data CountsTooFar (path : List ℕ) (before : List Symbol) : List ℕ → Type 0 where
   serial_is : (m last : ℕ) (node name : List ℕ) (found : List Symbol) (value : Value) (told digits rest : List ℕ) →
-      UpToCharacter path before m node name found → SpellsValue (m % 16) value told → AreBelow 128 digits → last < 128 →
-      2 ^ 32 ≤ number 128 (digits ++ last ∷ []) → CountsTooFar path before (node ++ told ++ digits ++ (last + 128) ∷ rest)
+      UpToCharacter path before m node name found → SpellsValue (m % 16) value told → AreBelow 128 digits →
+      last < 128 → 2 ^ 32 ≤ number 128 (digits ++ last ∷ []) →
+      CountsTooFar path before (node ++ told ++ digits ++ (last + 128) ∷ rest)
 
 -- its name is that of a symbol before it
 pub data NamesAgain (path : List ℕ) (before : List Symbol) : List ℕ → Type 0 where
-  name_is : (m : ℕ) (node : List ℕ) (earlier : List Symbol) (s : Symbol) (later : List Symbol) (value : Value) (serial : ℕ)
-      (told counted rest : List ℕ) → UpToCharacter path before m node s.name (earlier ++ s ∷ later) →
-      SpellsValue (m % 16) value told → SpellsSerial serial counted →
-      NamesAgain path before (node ++ told ++ counted ++ rest)
+  name_is : (m : ℕ) (node : List ℕ) (earlier : List Symbol) (s : Symbol) (later : List Symbol)
+      (value : Value) (serial : ℕ) (told counted rest : List ℕ) →
+      UpToCharacter path before m node s.name (earlier ++ s ∷ later) → SpellsValue (m % 16) value told →
+      SpellsSerial serial counted → NamesAgain path before (node ++ told ++ counted ++ rest)
 
 -- the fault of bytes, with its place: where bytes are missing, their number; where more than three zeros stand behind a
 -- trie, or other bytes, the first byte behind it; and else where the node begins that has the fault
@@ -114,5 +116,5 @@ pub data FaultOf : List ℕ → StabFault → Type 0 where
       FaultOf (front ++ rest) (Twice (length front))
   too_long : (front path rest : List ℕ) (before : List Symbol) → IsDue front path before → IsTooDeep path before rest →
       FaultOf (front ++ rest) (TooLong (length front))
-  bad_serial : (front path rest : List ℕ) (before : List Symbol) → IsDue front path before → CountsTooFar path before rest →
-      FaultOf (front ++ rest) (BadSerial (length front))
+  bad_serial : (front path rest : List ℕ) (before : List Symbol) → IsDue front path before →
+      CountsTooFar path before rest → FaultOf (front ++ rest) (BadSerial (length front))

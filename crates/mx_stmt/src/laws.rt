@@ -45,8 +45,9 @@ pub fn registers_are_bytes()
         IsPossible k.gregs p.effect }
 {}
 
-/// What is known stays sound: before the first statement, behind the label of a symbol that was not
-/// defined, behind a local label, and behind a register that is given.
+/// What is known stays sound: no name and no local label stands for a register above $255, and none
+/// below $32 is allocated. It is so before the first statement, behind the label of a symbol that was
+/// not defined, behind a local label, and behind a register that is given.
 pub fn knowledge_stays_sound()
     ensures start { (at : ℕ) → IsSound (record { names = start; at = at; gregs = [] }) }
     ensures symbol { (k : Known) (full : List ℕ) (v : Value) → value_in full k.names.symbols ≡ None →
