@@ -38,6 +38,14 @@ fi
 
 # the scripts at the top do what they say
 sh checks/scripts.sh || bad=1
+if command -v bash >/dev/null; then
+  bash checks/completion.bash || bad=1
+fi
+
+# a release has the same bytes again, and runs where there is no kit; this needs the program
+if command -v dpkg-deb >/dev/null; then
+  sh checks/release.sh || bad=1
+fi
 
 # the grader gives each solution its verdict
 sh checks/grade/test.sh || bad=1
