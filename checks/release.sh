@@ -49,8 +49,8 @@ name=$(basename "$PWD")
 [ "$(ldd mmixware | grep -c '=> /')" = 1 ] || wrong "the program needs more than the C library: $(ldd mmixware)"
 grep -q "$(sha256sum <mmixware | cut -d ' ' -f 1)" MADE-FROM || wrong 'MADE-FROM does not name the program'
 ./install "$room/there" 2>/dev/null || wrong 'the release is not installed'
-for file in bin/mmixware bin/grade share/man/man1/mmixware.1 share/bash-completion/completions/mmixware \
-  share/zsh/site-functions/_mmixware; do
+for file in bin/mmixware bin/grade share/man/man1/mmixware.1 share/man/man1/grade.1 \
+  share/bash-completion/completions/mmixware share/zsh/site-functions/_mmixware; do
   [ -s "$room/there/$file" ] || wrong "install puts no $file"
 done
 

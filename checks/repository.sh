@@ -30,10 +30,12 @@ for file in $(find crates -name out -prune -o \( -name '*.rt' -o -name '*.antt' 
   [ "$(wc -l <"$file")" -le 500 ] || wrong "$file has more than 500 lines"
 done
 
-# the manual page is in order
+# the manual pages are in order
 if command -v groff >/dev/null; then
-  said=$(groff -man -Tutf8 -ww -z docs/mmixware.1 2>&1)
-  [ -z "$said" ] || wrong "docs/mmixware.1: $said"
+  for page in docs/*.1; do
+    said=$(groff -man -Tutf8 -ww -z "$page" 2>&1)
+    [ -z "$said" ] || wrong "$page: $said"
+  done
 fi
 
 # the scripts at the top do what they say

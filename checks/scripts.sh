@@ -21,7 +21,7 @@ prints() {
 
 mkdir -p repo/crates/mmixware/src repo/crates/mmixware/out repo/docs bin
 cp "$here/mmixware" "$here/install" "$here/try" "$here/release" "$here/grade" repo
-cp "$here/docs/mmixware.1" repo/docs
+cp "$here"/docs/*.1 repo/docs
 cp -R "$here/completion" repo
 echo 'mmixware:' >repo/crates.txt
 echo 'fn main() {}' >repo/crates/mmixware/src/main.rt
@@ -102,10 +102,19 @@ status 64' repo/install a b
 prints 'install: to/bin/mmixware
 install: to/bin/grade
 install: to/share/man/man1/mmixware.1
+install: to/share/man/man1/grade.1
 install: to/share/bash-completion/completions/mmixware
 install: to/share/zsh/site-functions/_mmixware
 status 0' repo/install to
 prints 'built a
 status 0' to/bin/mmixware a
+
+# the manual page of the grader has each of its options
+for option in $(repo/grade --help | grep -o -e '--[a-z]*'); do
+  if ! sed 's/\\-/-/g' "$here/docs/grade.1" | grep -q -e "$option"; then
+    echo "checks/scripts.sh: docs/grade.1 has no $option" >&2
+    bad=1
+  fi
+done
 
 exit $bad
