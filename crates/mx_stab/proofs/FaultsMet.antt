@@ -1,7 +1,7 @@
 -- The fault that the table has is met by the reader.
 use Rattle.std.proofs.Common.{◌≡◌, ◌≢◌, ℕ, ◌+◌, ◌*◌, ◌%◌, ◌^◌, ◌≤◌, ◌<◌, ◌==◌, Bool, true, false, cond, ◌||◌, List, [], ◌∷◌, ◌++◌, length, replicate, None, Err, arith, refl, sym, ap, ◌∙◌, append_assoc, length-append, zero-add, bytes_eq}
 use Rattle.std.specs.Prelude.{nat_le, nat_lt, IsTrue, IfSome}
-use Rattle.std.proofs.lemmas.Bool.{lt-ltb, lt-leb, le-leb, ne_eqb}
+use Rattle.std.proofs.lemmas.Bool.{cond-false, cond-true, lt-ltb, lt-leb, le-leb, ne_eqb}
 use Rattle.std.proofs.lemmas.Slice.Eq.{bytes_eq-Decides}
 use Rattle.mx_word.specs.declared.symbols.Symbol.{Symbol}
 use Rattle.mx_stab.specs.declared.faults.StabFault.{StabFault}
@@ -15,12 +15,7 @@ use Rattle.mx_stab.specs.Reading.{Reading, Answer, and_then, part_if, is_among, 
 use Rattle.mx_stab.proofs.NodeParts.{behind-character, behind-left, behind-symbol, character-none, character-there, not-bare, there, wide-bare}
 use Rattle.mx_stab.proofs.Parts.{next-node}
 use Rattle.mx_stab.proofs.Sound.{padding-zeros}
-use Rattle.mx_stab.proofs.Whole.{character-is, picked, read-some, serial-fits, serial-spelt, serial-told, some-bytes, symbol-valued, tells-subtrie}
-
--- a test that is met
-met : {A : Type 0} (b : Bool) (x y : A) → b ≡ true → cond b x y ≡ x
-met true x y h = refl
-met false x y h = absurd (cc)
+use Rattle.mx_stab.proofs.Whole.{character-is, read-some, serial-fits, serial-spelt, serial-told, some-bytes, symbol-valued, tells-subtrie}
 
 -- a subtrie is due at a place
 abbrev due_at : ℕ → List ℕ → List Symbol → Reading
@@ -32,7 +27,7 @@ due-met : {front path : List ℕ} {before : List Symbol} → IsDue front path be
 due-met IsDue.first rest fault e = e
 due-met (IsDue.left front path before m h narrow left) rest fault e =
     ap (λ bytes. next_subtrie [] (start bytes)) (append_assoc front (m ∷ []) rest)
-    ∙ due-met h (m ∷ rest) fault (next-node path (length front) before (m ∷ rest) ∙ picked (is_wide_bare m) _ _ (not-bare m narrow)
+    ∙ due-met h (m ∷ rest) fault (next-node path (length front) before (m ∷ rest) ∙ cond-false (is_wide_bare m) _ _ (not-bare m narrow)
     ∙ ap (and_then (node_rest next_subtrie (length front) m path)) (there (next_subtrie path) (due_at (length front + 1) rest before) left
     ∙ ap (λ at. next_subtrie path (due_at at rest before)) (sym (length-append front (m ∷ []))) ∙ e))
 due-met (IsDue.middle front path before m node name found h k below) rest fault e =
@@ -71,12 +66,12 @@ cut-character node m at found [] l = one (has 0x80 m) ∙ ap (λ n. Err (Truncat
     one : (b : Bool) → cond b (reading.two_bytes node at found []) (reading.one_byte at found []) ≡ Err (Truncated at)
     one true = refl
     one false = refl
-cut-character node m at found (high ∷ []) l = met (has 0x80 m) _ _ (marked m (omega (arith, l)))
+cut-character node m at found (high ∷ []) l = cond-true (has 0x80 m) _ _ (marked m (omega (arith, l)))
 cut-character node m at found (high ∷ low ∷ rest) l = absurd (omega (arith, l))
 
 no-serial : (x : ℕ) (digits : List ℕ) → AreBelow 128 digits → serial_behind x digits ≡ None
 no-serial x [] h = refl
-no-serial x (d ∷ more) h = met (nat_lt d 128) _ _ (lt-ltb d 128 h.0) ∙ no-serial (x * 128 + d) more h.1
+no-serial x (d ∷ more) h = cond-true (nat_lt d 128) _ _ (lt-ltb d 128 h.0) ∙ no-serial (x * 128 + d) more h.1
 
 -- behind the value of a node
 at-serial : {path : List ℕ} {before : List Symbol} {m : ℕ} {node name : List ℕ} {found : List Symbol} → UpToCharacter path before m node name found → (told : List ℕ) (at : ℕ) (rest : List ℕ) (a : Answer) →
@@ -97,7 +92,7 @@ ends-met {path} (EndsWithin.at_character m node rest found h some few) at =
 ends-met {path} (EndsWithin.at_value m node name rest found h some few) at =
     behind-character h at rest
     ∙ ap (λ a. and_then (part_if (has 0x10 m) (next_subtrie path)) (and_then (part_if (has 0x20 m) (next_subtrie name)) a))
-    (picked (m % 16 == 0) _ _ (ne_eqb (m % 16) 0 some) ∙ met (nat_lt (length rest) (value_size (m % 16))) _ _ (lt-ltb (length rest) (value_size (m % 16)) few))
+    (cond-false (m % 16 == 0) _ _ (ne_eqb (m % 16) 0 some) ∙ cond-true (nat_lt (length rest) (value_size (m % 16))) _ _ (lt-ltb (length rest) (value_size (m % 16)) few))
     ∙ ap (λ n. Err (Truncated n)) (omega (arith, length-append node rest))
 ends-met {path} (EndsWithin.at_serial m node name found value told digits h v below) at =
     let s = due_at (at + length node) (told ++ digits) found in
@@ -106,11 +101,11 @@ ends-met {path} (EndsWithin.at_serial m node name found value told digits h v be
 
 -- no character of two bytes where one is marked
 wide-met : {path : List ℕ} {before : List Symbol} {bytes : List ℕ} → LacksWide path before bytes → (at : ℕ) → next_subtrie path (due_at at bytes before) ≡ Err (Wide at)
-wide-met {path} {before} (LacksWide.bare m rest bare) at = next-node path at before (m ∷ rest) ∙ met (is_wide_bare m) _ _ (wide-bare m bare)
+wide-met {path} {before} (LacksWide.bare m rest bare) at = next-node path at before (m ∷ rest) ∙ cond-true (is_wide_bare m) _ _ (wide-bare m bare)
 wide-met {path} (LacksWide.no_character m high low node rest found h some mark none) at =
     at-character h some at (high ∷ low ∷ rest)
     ∙ ap (λ c. and_then (part_if (has 0x10 m) (next_subtrie path)) (with_character (character_part next_subtrie at m path) c))
-    (met (has 0x80 m) _ _ (marked m mark) ∙ picked (is_wide_character (wide_number high low)) _ _ (other (is_wide_character (wide_number high low)) none))
+    (cond-true (has 0x80 m) _ _ (marked m mark) ∙ cond-false (is_wide_character (wide_number high low)) _ _ (other (is_wide_character (wide_number high low)) none))
   where
     other : (b : Bool) → ¬ IsTrue b → b ≡ false
     other true h = absurd (h refl)
@@ -123,7 +118,7 @@ deep-met {path} {before} (IsTooDeep.path_is m node name character rest found h s
     ∙ at-character h some at (character ++ rest)
     ∙ ap (λ c. and_then (part_if (has 0x10 m) (next_subtrie path)) (with_character (character_part next_subtrie at m path) c))
     (character-is spelt at m (due_at (at + length node) (character ++ rest) found) rest (omega arith) refl)
-    ∙ ap (and_then (part_if (has 0x10 m) (next_subtrie path))) (met (nat_lt 1024 (length (path ++ name))) _ _ (lt-ltb 1024 (length (path ++ name)) long))
+    ∙ ap (and_then (part_if (has 0x10 m) (next_subtrie path))) (cond-true (nat_lt 1024 (length (path ++ name))) _ _ (lt-ltb 1024 (length (path ++ name)) long))
 
 -- a serial number that is too large
 far-met : {path : List ℕ} {before : List Symbol} {bytes : List ℕ} → CountsTooFar path before bytes → (at : ℕ) → next_subtrie path (due_at at bytes before) ≡ Err (BadSerial at)
@@ -132,7 +127,7 @@ far-met {path} {before} (CountsTooFar.serial_is m last node name found value tol
     let s = due_at (at + length node) (told ++ all) found in
     ap (λ bytes. next_subtrie path (due_at at bytes before)) (append_assoc (node ++ told) digits ((last + 128) ∷ rest))
     ∙ at-serial h told at all _ (symbol-valued (m % 16) at name value told all s v refl ∙ ap (symbol_with at name value s) (serial-spelt 0 digits last rest below small)
-    ∙ met (nat_le (2 ^ 32) (number 128 (digits ++ last ∷ []))) _ _ (le-leb (2 ^ 32) (number 128 (digits ++ last ∷ [])) large))
+    ∙ cond-true (nat_le (2 ^ 32) (number 128 (digits ++ last ∷ []))) _ _ (le-leb (2 ^ 32) (number 128 (digits ++ last ∷ [])) large))
 
 -- a name that came before
 among : (earlier : List Symbol) (s : Symbol) (later : List Symbol) → is_among s.name (earlier ++ s ∷ later) ≡ true
@@ -149,7 +144,7 @@ again-met {path} {before} (NamesAgain.name_is m node earlier t later value seria
     let s = due_at (at + length node) (told ++ all) (earlier ++ t ∷ later) in
     ap (λ bytes. next_subtrie path (due_at at bytes before)) (append_assoc (node ++ told) counted rest)
     ∙ at-serial h told at all _ (symbol-valued (m % 16) at t.name value told all s v refl ∙ ap (symbol_with at t.name value s) (serial-told serial counted rest k)
-    ∙ picked (nat_le (2 ^ 32) serial) _ _ (lt-leb (2 ^ 32) serial (serial-fits serial counted k)) ∙ met (is_among t.name (earlier ++ t ∷ later)) _ _ (among earlier t later))
+    ∙ cond-false (nat_le (2 ^ 32) serial) _ _ (lt-leb (2 ^ 32) serial (serial-fits serial counted k)) ∙ cond-true (is_among t.name (earlier ++ t ∷ later)) _ _ (among earlier t later))
 
 -- a fault of a trie that has bytes
 read-fault : (bytes : List ℕ) (fault : StabFault) → fault ≢ Truncated 0 → next_subtrie [] (start bytes) ≡ Err fault → trie_answer bytes ≡ Err fault
@@ -174,7 +169,7 @@ read-behind : (trie rest : List ℕ) (symbols : List Symbol) → IsSubtrie 1 [] 
 read-behind trie rest symbols h distinct none =
     read-some (trie ++ rest) (omega (arith, length-append trie rest, some-bytes h (omega arith)))
     ∙ ap symbols_at_end (tells-subtrie h (start (trie ++ rest)) rest refl distinct)
-    ∙ picked (is_padding rest) _ _ none ∙ ap (λ n. Err (Padding n)) (zero-add (length trie))
+    ∙ cond-false (is_padding rest) _ _ none ∙ ap (λ n. Err (Padding n)) (zero-add (length trie))
 
 -- what the table has is met
 pub fault-met : {bytes : List ℕ} {fault : StabFault} → FaultOf bytes fault → trie_answer bytes ≡ Err fault

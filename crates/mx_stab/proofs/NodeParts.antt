@@ -1,13 +1,13 @@
 -- A node is read piece by piece.
 use Rattle.std.proofs.Common.{◌≡◌, ◌≢◌, ℕ, ◌+◌, ◌%◌, ◌==◌, Bool, true, false, ◌&&◌, ◌||◌, not, List, [], ◌∷◌, ◌++◌, length, arith, refl, ap, ◌∙◌, inl, inr, append_assoc, length-append}
 use Rattle.std.specs.Prelude.{nat_lt}
-use Rattle.std.proofs.lemmas.Bool.{and_parts, eqb-true, eqb-false, le-ltb}
+use Rattle.std.proofs.lemmas.Bool.{cond-false, and_parts, eqb-true, eqb-false, le-ltb}
 use Rattle.mx_word.specs.declared.symbols.Symbol.{Symbol}
 use Rattle.mx_stab.specs.FaultTable.{HasCharacter, IsWideBare, UpToCharacter, UpToLeft, UpToSymbol, flag}
 use Rattle.mx_stab.specs.Reading as reading
 use Rattle.mx_stab.specs.Reading.{Reading, Answer, and_then, part_if, symbol, has, has_character, is_wide_bare, character_part, with_character, node_rest, next_subtrie}
 use Rattle.mx_stab.proofs.Parts.{next-node}
-use Rattle.mx_stab.proofs.Whole.{picked, tells-symbol, character-is, tells-subtrie}
+use Rattle.mx_stab.proofs.Whole.{tells-symbol, character-is, tells-subtrie}
 
 -- the tests of a byte m say what they mean
 or-there : (a b : Bool) → b ≡ true → (a || b) ≡ true
@@ -71,7 +71,7 @@ there part s e = ap (λ n. part_if (n == 1) part s) e
 pub behind-left : {path : List ℕ} {before : List Symbol} {m : ℕ} {bytes : List ℕ} {found : List Symbol} → UpToLeft path before m bytes found → (at : ℕ) (rest : List ℕ) →
     next_subtrie path (record { at = at; rest = bytes ++ rest; found = before }) ≡ node_rest next_subtrie at m path (record { at = at + length bytes; rest = rest; found = found })
 behind-left (UpToLeft.left path before m left symbols narrow h distinct) at rest =
-    next-node path at before (m ∷ left ++ rest) ∙ picked (is_wide_bare m) _ _ (not-bare m narrow)
+    next-node path at before (m ∷ left ++ rest) ∙ cond-false (is_wide_bare m) _ _ (not-bare m narrow)
     ∙ ap (and_then (node_rest next_subtrie at m path)) (tells-subtrie h (record { at = at + 1; rest = left ++ rest; found = before }) rest refl distinct)
     ∙ ap (λ place. node_rest next_subtrie at m path (record { at = place; rest = rest; found = before ++ symbols })) (omega arith)
 
@@ -86,7 +86,7 @@ behind-character (UpToCharacter.character path before m front found name charact
     ∙ ap (and_then (part_if (has 0x10 m) (next_subtrie path)))
     (ap (λ b. part_if b (reading.character next_subtrie at m path) s) (character-there m some)
     ∙ ap (with_character (character_part next_subtrie at m path)) (character-is spelt at m s rest (omega arith) refl)
-    ∙ picked (nat_lt 1024 (length (path ++ name))) _ _ (le-ltb 1024 (length (path ++ name)) short)
+    ∙ cond-false (nat_lt 1024 (length (path ++ name))) _ _ (le-ltb 1024 (length (path ++ name)) short)
     ∙ ap (λ place. and_then (part_if (has 0x20 m) (next_subtrie (path ++ name))) (symbol (m % 16) at (path ++ name) (record { at = place; rest = rest; found = found }))) (omega (arith, length-append front character)))
 
 -- behind its symbol

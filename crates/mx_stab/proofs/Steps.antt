@@ -1,7 +1,7 @@
 -- What is due, step by step.
 use Rattle.std.proofs.Common.{◌≡◌, ℕ, ◌+◌, ◌≤◌, ◌<◌, ◌%◌, Bool, true, false, cond, List, [], ◌∷◌, ◌++◌, length, take, drop, Result, Ok, Err, arith, refl, sym, ap, ◌∙◌}
 use Rattle.std.specs.Prelude.{nat_lt}
-use Rattle.std.proofs.lemmas.Bool.{le-ltb}
+use Rattle.std.proofs.lemmas.Bool.{cond-false, cond-true, le-ltb}
 use Rattle.std.proofs.lemmas.List.{take_at}
 use Rattle.mx_word.specs.declared.symbols.Symbol.{Symbol}
 use Rattle.mx_stab.specs.declared.faults.StabFault.{StabFault}
@@ -41,15 +41,6 @@ after-node node m path s =
     ap (and_next (after_due (Rest node m))) (after-subtrie (has 0x40 m) path s)
     ∙ next-path (after_due (Rest node m)) (node_rest next_subtrie node m path) path (part_if (has 0x40 m) (next_subtrie path) s) (λ t. refl)
 
--- a test that fails, and one that passes
-no-fault : {A : Type 0} (b : Bool) (x a : A) → b ≡ false → a ≡ cond b x a
-no-fault true x a h = absurd (cc)
-no-fault false x a h = refl
-
-a-fault : {A : Type 0} (b : Bool) (x a : A) → b ≡ true → x ≡ cond b x a
-a-fault true x a h = refl
-a-fault false x a h = absurd (cc)
-
 -- the byte m was read, and what stands behind it was noted
 node-went-from : (before : List Due) (path : List ℕ) (at m : ℕ) (rest bytes : List ℕ) (found : List Symbol) → bytes ≡ m ∷ rest → is_wide_bare m ≡ false →
     after_all (before ++ node_due at m) (record { path = path; reading = record { at = at + 1; rest = rest; found = found } })
@@ -57,7 +48,7 @@ node-went-from : (before : List Due) (path : List ℕ) (at m : ℕ) (rest bytes 
 node-went-from before path at m rest bytes found e h =
     rw e (all-append before (node_due at m) _
     ∙ ap (and_next (after_all before)) (after-node at m path (record { at = at + 1; rest = rest; found = found })
-    ∙ ap (with_path path) (no-fault (is_wide_bare m) (Err (Wide at)) _ h ∙ sym (next-node path at found (m ∷ rest)))))
+    ∙ ap (with_path path) (sym (cond-false (is_wide_bare m) (Err (Wide at)) _ h) ∙ sym (next-node path at found (m ∷ rest)))))
 
 pub node-went : (before due : List Due) (old new : Point) (m node : ℕ) → old.reading.rest ≡ m ∷ drop 1 old.reading.rest → new ≡ next_point old → node ≡ old.reading.at → is_wide_bare m ≡ false → due ≡ before ++ node_due node m →
     after_all due new ≡ and_next (after_all before) (after_due Subtrie old)
@@ -65,7 +56,7 @@ node-went before due old new m node byte step place h noted =
     rw (noted, step, place) (node-went-from before old.path old.reading.at m (drop 1 old.reading.rest) old.reading.rest old.reading.found byte h)
 
 wide-from : (path : List ℕ) (at m : ℕ) (rest bytes : List ℕ) (found : List Symbol) → bytes ≡ m ∷ rest → is_wide_bare m ≡ true → Err (Wide at) ≡ next_subtrie path (record { at = at; rest = bytes; found = found })
-wide-from path at m rest bytes found e h = rw e (a-fault (is_wide_bare m) (Err (Wide at)) _ h ∙ sym (next-node path at found (m ∷ rest)))
+wide-from path at m rest bytes found e h = rw e (sym (cond-true (is_wide_bare m) (Err (Wide at)) _ h) ∙ sym (next-node path at found (m ∷ rest)))
 
 pub node-wide : (before : List Due) (old : Point) (m node : ℕ) → old.reading.rest ≡ m ∷ drop 1 old.reading.rest → node ≡ old.reading.at → is_wide_bare m ≡ true →
     Err (Wide node) ≡ and_next (after_all before) (after_due Subtrie old)
@@ -131,7 +122,7 @@ pub symbol-went : (before due : List Due) (old new : Point) (depth node m : ℕ)
     after_all due new ≡ and_next (after_all before) (after_character depth node m old)
 symbol-went before due old new depth node m l e noted =
     rw noted (all-append before (symbol_due depth m) new ∙ ap (and_next (after_all before)) (ap (and_next (after_all (symbol_due depth m))) e
-    ∙ no-fault (nat_lt 1024 (length old.path)) (Err (TooLong node)) _ (le-ltb 1024 (length old.path) l)))
+    ∙ sym (cond-false (nat_lt 1024 (length old.path)) (Err (TooLong node)) _ (le-ltb 1024 (length old.path) l))))
 
 -- one part that was due was taken
 taken-behind : (before whole : List Due) (next : Due) (p : Point) → whole ≡ before ++ next ∷ [] → after_all whole p ≡ and_next (after_all before) (after_due next p)

@@ -2,7 +2,7 @@
 use Rattle.std.proofs.Common.{◌≡◌, ℕ, zero, suc, ◌+◌, ◌-◌, ◌*◌, ◌/◌, ◌%◌, ◌^◌, ◌≤◌, ◌<◌, ◌==◌, Bool, true, false, cond, ◌&&◌, ◌||◌, not, List, [], ◌∷◌, ◌++◌, length, take, drop, replicate, Some, Ok, Err, arith, refl, sym, ap, ◌∙◌, subst, append_assoc, append-nil, length-append}
 use Rattle.std.specs.Prelude.{nat_le, nat_lt}
 use Rattle.std.proofs.Math.Bool.{and-false}
-use Rattle.std.proofs.lemmas.Bool.{lt-leb, lt-ltb, le-ltb, le-leb, ne_eqb}
+use Rattle.std.proofs.lemmas.Bool.{cond-false, lt-leb, lt-ltb, le-ltb, le-leb, ne_eqb}
 use Rattle.std.proofs.lemmas.List.{take_at, drop_at}
 use Rattle.mx_word.specs.declared.symbols.Symbol.{Symbol}
 use Rattle.mx_word.specs.declared.symbols.Value.{Value}
@@ -42,15 +42,11 @@ tells-then p q bs cs xs ys hp hq s more e d =
 tells-none : Tells (λ s. Ok s) [] []
 tells-none s more e d = same-reading s.at (s.at + 0) s.rest more s.found (s.found ++ []) (omega arith) e (sym (append-nil s.found))
 
-pub picked : {A : Type 0} (b : Bool) (x y : A) → b ≡ false → cond b x y ≡ y
-picked true x y h = absurd (cc)
-picked false x y h = refl
-
 tells-node : (m : ℕ) (path bs : List ℕ) (xs : List Symbol) → is_wide_bare m ≡ false →
     ((node : ℕ) → Tells (λ s. and_then (node_rest next_subtrie node m path) (part_if (has 0x40 m) (next_subtrie path) s)) bs xs) → Tells (next_subtrie path) (m ∷ bs) xs
 tells-node m path bs xs l h s more e d =
     let t : Reading = record { at = s.at + 1; rest = bs ++ more; found = s.found } in
-    next-node path s.at s.found s.rest ∙ ap (node next_subtrie path s.at s.found) e ∙ picked (is_wide_bare m) _ _ l
+    next-node path s.at s.found s.rest ∙ ap (node next_subtrie path s.at s.found) e ∙ cond-false (is_wide_bare m) _ _ l
     ∙ h s.at t more refl d ∙ same-reading _ _ more more _ _ (omega arith) refl refl
 
 -- whether a character takes two bytes, as a bit
@@ -62,7 +58,7 @@ pub character-is : {wide : ℕ} {name character : List ℕ} → SpellsCharacter 
     character_of node m s ≡ Ok (record { name = name; behind = record { at = s.at + length character; rest = more; found = s.found } })
 character-is (grammar.SpellsCharacter.one_byte c small) node m s more w e =
     let narrow : has 0x80 m ≡ false = ap (λ n. n == 1) w in
-    picked (has 0x80 m) _ _ narrow ∙ ap (reading.one_byte s.at s.found) e
+    cond-false (has 0x80 m) _ _ narrow ∙ ap (reading.one_byte s.at s.found) e
 character-is (grammar.SpellsCharacter.two_bytes high low h l good) node m s more w e =
     let wide : has 0x80 m ≡ true = ap (λ n. n == 1) w in
     ap (λ b. cond b (reading.two_bytes node s.at s.found s.rest) (reading.one_byte s.at s.found s.rest)) wide
@@ -75,7 +71,7 @@ tells-character : (wide node m : ℕ) (path name character bs : List ℕ) (xs : 
 tells-character wide node m path name character bs xs hc w l h s more e d =
     let t : Reading = record { at = s.at + length character; rest = bs ++ more; found = s.found } in
     ap (with_character (character_part next_subtrie node m path)) (character-is hc node m s (bs ++ more) w (e ∙ append_assoc character bs more))
-    ∙ picked (nat_lt 1024 (length (path ++ name))) _ _ (le-ltb 1024 (length (path ++ name)) l)
+    ∙ cond-false (nat_lt 1024 (length (path ++ name))) _ _ (le-ltb 1024 (length (path ++ name)) l)
     ∙ h t more refl d ∙ same-reading _ _ more more _ _ (omega (arith, length-append character bs)) refl refl
 
 -- no symbol
@@ -86,7 +82,7 @@ tells-no-symbol kind node name k s more e d = ap (λ n. symbol n node name s) k 
 pub serial-spelt : (x : ℕ) (front : List ℕ) (last : ℕ) (more : List ℕ) → AreBelow 128 front → last < 128 →
     serial_behind x (front ++ (last + 128) ∷ more) ≡ Some (number_behind 128 x (front ++ last ∷ []), more)
 serial-spelt x [] last more h l =
-    picked (nat_lt (last + 128) 128) _ _ (le-ltb (last + 128) 128 (omega arith)) ∙ ap (λ n. Some (x * 128 + n, more)) (omega arith)
+    cond-false (nat_lt (last + 128) 128) _ _ (le-ltb (last + 128) 128 (omega arith)) ∙ ap (λ n. Some (x * 128 + n, more)) (omega arith)
 serial-spelt x (b ∷ front) last more h l =
     ap (λ t. cond t (serial_behind (x * 128 + b) (front ++ (last + 128) ∷ more)) (Some (x * 128 + (b - 128), front ++ (last + 128) ∷ more))) (lt-ltb b 128 h.0)
     ∙ serial-spelt (x * 128 + b) front last more h.1 l
@@ -109,21 +105,21 @@ value-spelt : (kind : ℕ) (value : Value) (bytes : List ℕ) → SpellsValue ki
 value-spelt _ _ _ (grammar.SpellsValue.pure bytes h least most) = record {
   least = least;
   most = omega (arith, most);
-  size = picked (length bytes == 15) _ _ (ne_eqb (length bytes) 15 (omega (arith, most))) ∙ ap (λ b. cond b (length bytes) (length bytes - 8)) (le-leb (length bytes) 8 most);
-  same = picked (length bytes == 15) _ _ (ne_eqb (length bytes) 15 (omega (arith, most))) ∙ ap (λ b. cond b (Pure (number 256 bytes)) (Pure (2 ^ 61 + number 256 bytes))) (le-leb (length bytes) 8 most);
+  size = cond-false (length bytes == 15) _ _ (ne_eqb (length bytes) 15 (omega (arith, most))) ∙ ap (λ b. cond b (length bytes) (length bytes - 8)) (le-leb (length bytes) 8 most);
+  same = cond-false (length bytes == 15) _ _ (ne_eqb (length bytes) 15 (omega (arith, most))) ∙ ap (λ b. cond b (Pure (number 256 bytes)) (Pure (2 ^ 61 + number 256 bytes))) (le-leb (length bytes) 8 most);
 }
 value-spelt _ _ _ (grammar.SpellsValue.offset bytes h least most) = record {
   least = omega arith;
   most = omega (arith, most);
-  size = picked (8 + length bytes == 15) _ _ (ne_eqb (8 + length bytes) 15 (omega (arith, most))) ∙ picked (nat_le (8 + length bytes) 8) _ _ (lt-leb (8 + length bytes) 8 (omega (arith, least))) ∙ omega arith;
-  same = picked (8 + length bytes == 15) _ _ (ne_eqb (8 + length bytes) 15 (omega (arith, most))) ∙ picked (nat_le (8 + length bytes) 8) _ _ (lt-leb (8 + length bytes) 8 (omega (arith, least)));
+  size = cond-false (8 + length bytes == 15) _ _ (ne_eqb (8 + length bytes) 15 (omega (arith, most))) ∙ cond-false (nat_le (8 + length bytes) 8) _ _ (lt-leb (8 + length bytes) 8 (omega (arith, least))) ∙ omega arith;
+  same = cond-false (8 + length bytes == 15) _ _ (ne_eqb (8 + length bytes) 15 (omega (arith, most))) ∙ cond-false (nat_le (8 + length bytes) 8) _ _ (lt-leb (8 + length bytes) 8 (omega (arith, least)));
 }
 value-spelt _ _ _ (grammar.SpellsValue.register k h) = record { least = omega arith; most = omega arith; size = refl; same = refl }
 
 -- a whole serial number ends a symbol
 symbol_with-is : (node : ℕ) (name : List ℕ) (value : Value) (s : Reading) (serial : ℕ) (more : List ℕ) → serial < 2 ^ 32 → is_among name s.found ≡ false →
     symbol_with node name value s (Some (serial, more)) ≡ Ok (record { at = s.at + (length s.rest - length more); rest = more; found = s.found ++ record { name = name; value = value; serial = serial } ∷ [] })
-symbol_with-is node name value s serial more l a = picked (nat_le (2 ^ 32) serial) _ _ (lt-leb (2 ^ 32) serial l) ∙ picked (is_among name s.found) _ _ a
+symbol_with-is node name value s serial more l a = cond-false (nat_le (2 ^ 32) serial) _ _ (lt-leb (2 ^ 32) serial l) ∙ cond-false (is_among name s.found) _ _ a
 
 -- a value that is told, before its serial number
 pub symbol-valued : (kind node : ℕ) (name : List ℕ) (value : Value) (told more : List ℕ) (s : Reading) → SpellsValue kind value told → s.rest ≡ told ++ more →
@@ -133,8 +129,8 @@ symbol-valued kind node name value told more s v e =
     let taken : take (value_size kind) s.rest ≡ told = ap (take (value_size kind)) e ∙ take_at told more (value_size kind) (sym w.size) in
     let left : drop (value_size kind) s.rest ≡ more = ap (drop (value_size kind)) e ∙ drop_at told more (value_size kind) (sym w.size) in
     let long : length s.rest ≡ length told + length more = ap length e ∙ length-append told more in
-    picked (kind == 0) _ _ (ne_eqb kind 0 (omega (arith, w.least)))
-    ∙ picked (nat_lt (length s.rest) (value_size kind)) _ _ (le-ltb (length s.rest) (value_size kind) (omega (arith, w.size, long)))
+    cond-false (kind == 0) _ _ (ne_eqb kind 0 (omega (arith, w.least)))
+    ∙ cond-false (nat_lt (length s.rest) (value_size kind)) _ _ (le-ltb (length s.rest) (value_size kind) (omega (arith, w.size, long)))
     ∙ ap (λ x. symbol_with node name (value_of kind x) s (serial_behind 0 (drop (value_size kind) s.rest))) taken
     ∙ ap (λ x. symbol_with node name x s (serial_behind 0 (drop (value_size kind) s.rest))) w.same
     ∙ ap (λ x. symbol_with node name value s (serial_behind 0 x)) left

@@ -1,8 +1,8 @@
 -- A statement waits only for names that are not known at it, and for local labels.
-use Rattle.std.proofs.Common.{◌≡◌, ℕ, ◌+◌, ◌%◌, ◌^◌, ◌==◌, nat_lt, Bool, true, false, cond, List, [], ◌∷◌, ◌++◌, length, Option, None, Some, Result, Ok, Err, refl, sym, ap, ◌∙◌, subst}
+use Rattle.std.proofs.Common.{◌≡◌, ℕ, ◌+◌, ◌%◌, ◌^◌, ◌==◌, nat_lt, List, [], ◌∷◌, length, Option, None, Some, Result, Ok, Err, refl, sym, ap, ◌∙◌, subst}
 use Rattle.std.specs.List.{AllByRecursion}
+use Rattle.std.proofs.lemmas.Bool.{cond_both}
 use Rattle.mx_word.specs.declared.symbols.Value.{Value}
-use Rattle.mx_word.specs.declared.symbols.Value.TheVariants.{Pure}
 use Rattle.mx_word.specs.declared.waits.Awaited.{Awaited}
 use Rattle.mx_word.specs.declared.waits.Awaited.TheVariants as awaited
 use Rattle.mx_word.specs.declared.waits.Wait.{Wait}
@@ -17,14 +17,14 @@ use Rattle.mx_stmt.specs.declared.forms.Tetra.{Tetra}
 use Rattle.mx_stmt.specs.declared.operands.Target.{Target}
 use Rattle.mx_stmt.specs.declared.operands.Target.TheVariants as target
 use Rattle.mx_stmt.specs.declared.statement.Label.{Label}
-use Rattle.mx_stmt.specs.declared.placed.Effect.TheVariants.{Plain}
 use Rattle.mx_stmt.specs.declared.placed.Placed.{Placed}
 use Rattle.mx_stmt.specs.declared.faults.StmtFault.TheVariants.{BadPlace}
 use Rattle.mx_stmt.specs.Steps.{Answer, and_then}
 use Rattle.mx_stmt.specs.Operands.{Known, Targets, symbol_form, register_at, pure_at, name_unless_known, awaited_name, reference_of, known_target, target_by, target_at}
 use Rattle.mx_stmt.specs.Forms.{plain_tetra, near_reach, far_reach, relative_word, relative_form, form_by, tetra_wyde, tetra_whole}
 use Rattle.mx_stmt.specs.Data.{data_number, data_target, datum, with_rest, data_of, data_form}
-use Rattle.mx_stmt.specs.Encoding.{StatementTree, label_value, with_bytes, tetra_waits, tetra_data, with_tetra, with_data, encoding}
+use Rattle.mx_stmt.specs.Encoding.{StatementTree, with_bytes, tetra_waits, tetra_data, with_tetra, with_data, encoding}
+use Rattle.mx_stmt.proofs.LaidBytes.{all-append}
 use Rattle.mx_stmt.proofs.EveryForm.{HasNoWait, every-code}
 use Rattle.mx_stmt.proofs.EveryStatement.{at_place, every-statement}
 use Rattle.mx_stmt.proofs.SilentStatements.{AreSilent}
@@ -47,10 +47,6 @@ then-gives P (Ok x) next h = h x
 after-gives : {A B : Type 0} (Q : A → Type 0) (P : B → Type 0) (a : Answer A) (next : A → Answer B) → Gives Q a → ((x : A) → Q x → Gives P (next x)) → Gives P (and_then a next)
 after-gives Q P (Err fault) next q h = tt
 after-gives Q P (Ok x) next q h = h x q
-
-all-append : (P : Wait → Type 0) (xs ys : List Wait) → AllByRecursion P xs → AllByRecursion P ys → AllByRecursion P (xs ++ ys)
-all-append P [] ys h g = g
-all-append P (x ∷ xs) ys h g = (h.0, all-append P xs ys h.1 g)
 
 -- ---- operands
 
@@ -127,11 +123,7 @@ module _ (k : Known) where
   known-is (Ok n) = tt
 
   data-target : (size : ℕ) (e : Tree) → Gives (IfFuture k.names) (data_target k size e)
-  data-target size e = by (size == 8)
-    where
-      by : (b : Bool) → Gives (IfFuture k.names) (cond b (target_at k e) (known_target (and_then (pure_at k e) (data_number size))))
-      by true = target-unknown k e
-      by false = known-is (and_then (pure_at k e) (data_number size))
+  data-target size e = cond_both (size == 8) (target_at k e) (known_target (and_then (pure_at k e) (data_number size))) (Gives (IfFuture k.names)) (λ eight. target-unknown k e) (λ other. known-is _)
 
   datum-waits : (t : Targets) (line size place : ℕ) (target : Target) → IfFuture k.names target → AreUnknown k.names (datum t line size place target).waits
   datum-waits t line size place (target.Known n) h = tt
@@ -160,11 +152,7 @@ module _ (k : Known) where
   StatementWaits a = Gives (λ (p : Placed). AreUnknown k.names p.waits) a
 
   bytes-wait : (label : Option Label) (d : Data) → AreUnknown k.names d.waits → StatementWaits (with_bytes k label d)
-  bytes-wait label d h = by (nat_lt 0x6000_0000_0000_0000 (k.at + length d.bytes))
-    where
-      by : (high : Bool) → StatementWaits (cond high (Err BadPlace) (Ok (record { start = k.at; bytes = d.bytes; waits = d.waits; label = label_value label (Pure k.at); effect = Plain; after = k.at + length d.bytes })))
-      by true = tt
-      by false = h
+  bytes-wait label d h = cond_both (nat_lt 0x6000_0000_0000_0000 (k.at + length d.bytes)) (Err BadPlace) _ StatementWaits (λ high. tt) (λ low. h)
 
   data-wait : (label : Option Label) (a : Answer Data) → DataWaits a → StatementWaits (with_data k label a)
   data-wait label a h = after-gives (λ (d : Data). AreUnknown k.names d.waits) (λ (p : Placed). AreUnknown k.names p.waits) a (with_bytes k label) h (bytes-wait label)

@@ -1,5 +1,6 @@
 -- What holds of tetras without a reference and of relative addresses holds of the forms of all instructions.
-use Rattle.std.proofs.Common.{◌≡◌, ℕ, ◌^◌, Bool, true, false, cond, List, [], ◌∷◌, None, Ok, Err, refl}
+use Rattle.std.proofs.Common.{◌≡◌, ℕ, ◌^◌, true, List, [], ◌∷◌, None, Ok, Err, refl}
+use Rattle.std.proofs.lemmas.Bool.{cond_both}
 use Rattle.mx_word.specs.declared.symbols.Value.{Value}
 use Rattle.mx_word.specs.declared.symbols.Value.TheVariants.{Pure, Reg}
 use Rattle.mx_expr.specs.Tree.{Tree}
@@ -32,10 +33,6 @@ unfolding HasNoWait
 none-then (Err fault) next h = tt
 none-then (Ok x) next h = h x
 
-none-cond : (b : Bool) (x y : Answer Tetra) → HasNoWait x → HasNoWait y → HasNoWait (cond b x y)
-none-cond true x y h g = h
-none-cond false x y h g = g
-
 module _ (k : Known) (code : ℕ) where
   none-last : (x y : ℕ) (z : Tree) → HasNoWait (last_form k code x y z)
   none-last x y z = none-then (register_or_byte_at k z) (λ z. plain_tetra (last_word code x y z)) (λ z. none-plain _)
@@ -47,7 +44,7 @@ module _ (k : Known) (code : ℕ) where
   none-two x y z = none-then (register_at k y) (λ y. last_form k code x y z) (λ y. none-last x y z)
 
   none-rounded : (x y : ℕ) (z : Tree) → HasNoWait (rounded_last k code x y z)
-  none-rounded x y z = none-cond (takes_byte code) _ _ (none-last x y z) (none-register x y z)
+  none-rounded x y z = cond_both (takes_byte code) _ _ HasNoWait (λ b. none-last x y z) (λ b. none-register x y z)
 
   none-address-of : (x : ℕ) (a : Value) → HasNoWait (address_of k code x a)
   none-address-of x (Reg y) = none-plain _

@@ -1,7 +1,7 @@
 -- What data operands place, with their targets known and with none.
-use Rattle.std.proofs.Common.{◌≡◌, ◌<◌, ◌≤◌, ℕ, ◌+◌, ◌-◌, ◌%◌, ◌^◌, ◌==◌, Bool, true, false, cond, List, [], ◌∷◌, ◌++◌, length, unwrap_or, Ok, Err, bit_xor, refl, sym, ap, ◌∙◌, arith, append-nil, append_assoc}
+use Rattle.std.proofs.Common.{◌≡◌, ◌<◌, ◌≤◌, ℕ, ◌+◌, ◌-◌, ◌%◌, ◌^◌, ◌==◌, List, [], ◌∷◌, ◌++◌, length, unwrap_or, Ok, Err, bit_xor, refl, sym, ap, ◌∙◌, arith, append-nil, append_assoc}
 use Rattle.std.specs.Int.Bits.{xor_zero_l}
-use Rattle.std.proofs.lemmas.Bool.{eqb-true}
+use Rattle.std.proofs.lemmas.Bool.{cond_both, eqb-true}
 use Rattle.std.proofs.lemmas.List.{length-append, length-drop}
 use Rattle.mx_word.specs.Words.{octa_to_bytes}
 use Rattle.mx_word.specs.declared.waits.Wait.{Wait}
@@ -31,7 +31,7 @@ fixes-append t (w ∷ waits) ys =
     ∙ sym (append_assoc (from_place w.at (fix_bytes w.kind w.at (t w.who))) (fix_placements t waits) (fix_placements t ys))
 
 -- an operand of another size than 8 is no reference
-abbrev HasSize : ℕ → Target → Type 0
+abbrev pub HasSize : ℕ → Target → Type 0
 HasSize size (target.Known n) = Unit {0}
 HasSize size (target.Future who) = size ≡ 8
 
@@ -44,12 +44,9 @@ target-sized : (size : ℕ) (target : Target) → size ≡ 8 → HasSize size ta
 target-sized size (target.Known n) is = tt
 target-sized size (target.Future who) is = is
 
-sized : (k : Known) (size : ℕ) (e : Tree) (target : Target) → data_target k size e ≡ Ok target → HasSize size target
-sized k size e target is = by (size == 8) (eqb-true size 8) is
-  where
-    by : (b : Bool) → (b ≡ true → size ≡ 8) → cond b (target_at k e) (known_target (and_then (pure_at k e) (data_number size))) ≡ Ok target → HasSize size target
-    by true eight is = target-sized size target (eight refl)
-    by false eight is = known-sized size _ target is
+pub sized : (k : Known) (size : ℕ) (e : Tree) (target : Target) → data_target k size e ≡ Ok target → HasSize size target
+sized k size e target is = cond_both (size == 8) (target_at k e) (known_target (and_then (pure_at k e) (data_number size))) (λ a. a ≡ Ok target → HasSize size target)
+    (λ eight is. target-sized size target (eqb-true size 8 eight)) (λ other is. known-sized size _ target is) is
 
 -- one datum
 record IsJoinedDatum (t : Targets) (size place : ℕ) (before after : Data) : Type 0 where

@@ -1,14 +1,12 @@
 -- What always holds of a statement that is placed: its bytes are bytes below the stack segment, and each of its references
 -- stands at a multiple of 4 within them.
-use Rattle.std.proofs.Common.{◌≡◌, ◌<◌, ◌≤◌, ℕ, ◌+◌, ◌-◌, ◌%◌, ◌^◌, nat_lt, Bool, true, false, cond, List, [], ◌∷◌, ◌++◌, length, Option, None, Some, Ok, Err, refl, sym, ap, ◌∙◌, arith, subst, unwrap_or}
-use Rattle.std.specs.Prelude.{◌==◌}
+use Rattle.std.proofs.Common.{◌≡◌, ◌<◌, ◌≤◌, ℕ, ◌+◌, ◌-◌, ◌%◌, ◌^◌, nat_lt, List, [], ◌∷◌, ◌++◌, length, Option, None, Some, Ok, Err, refl, sym, ap, ◌∙◌, arith, subst, unwrap_or}
 use Rattle.std.specs.List.{AllByRecursion}
-use Rattle.std.proofs.lemmas.Bool.{ltb-false, eqb-true}
+use Rattle.std.proofs.lemmas.Bool.{cond_both, ltb-false}
 use Rattle.std.proofs.lemmas.List.{length-append, length-drop}
 use Rattle.mx_word.specs.Ranges.{AreBytes}
 use Rattle.mx_word.specs.Words.{octa_to_bytes, tetra_to_bytes}
 use Rattle.mx_word.proofs.Ranges.{bytes-append, bytes-behind}
-use Rattle.mx_word.specs.declared.symbols.Value.TheVariants.{Pure}
 use Rattle.mx_word.specs.declared.waits.Awaited.{Awaited}
 use Rattle.mx_word.specs.declared.waits.Wait.{Wait}
 use Rattle.mx_word.specs.declared.waits.WaitKind.{WaitKind}
@@ -20,15 +18,15 @@ use Rattle.mx_stmt.specs.declared.operands.Target.TheVariants as target
 use Rattle.mx_stmt.specs.declared.data.Data.{Data}
 use Rattle.mx_stmt.specs.declared.forms.Tetra.{Tetra}
 use Rattle.mx_stmt.specs.declared.statement.Label.{Label}
-use Rattle.mx_stmt.specs.declared.placed.Effect.TheVariants as effect
 use Rattle.mx_stmt.specs.declared.placed.Placed.{Placed}
 use Rattle.mx_stmt.specs.declared.faults.StmtFault.TheVariants.{BadPlace}
 use Rattle.mx_stmt.specs.Steps.{Answer, and_then}
-use Rattle.mx_stmt.specs.Operands.{Known, Targets, pure_at, register_at, known_target, target_at}
+use Rattle.mx_stmt.specs.Operands.{Known, Targets, register_at, target_at}
 use Rattle.mx_stmt.specs.Forms.{plain_tetra, near_reach, far_reach, relative_word, relative_form, form_by, tetra_wyde, tetra_whole}
-use Rattle.mx_stmt.specs.Data.{low_bytes, data_number, data_target, datum, joined_data, with_rest, data_of, data_form}
-use Rattle.mx_stmt.specs.Encoding.{StatementTree, label_value, with_bytes, tetra_data, tetra_waits, with_data, encoding}
+use Rattle.mx_stmt.specs.Data.{low_bytes, data_target, datum, joined_data, with_rest, data_of, data_form}
+use Rattle.mx_stmt.specs.Encoding.{StatementTree, with_bytes, tetra_data, tetra_waits, with_data, encoding}
 use Rattle.mx_stmt.specs.Laid.{IsInside, IsLaid}
+use Rattle.mx_stmt.proofs.JoinedData.{HasSize, sized}
 use Rattle.mx_stmt.proofs.EveryForm.{HasNoWait, every-code}
 use Rattle.mx_stmt.proofs.EveryStatement.{at_place, every-statement}
 use Rattle.mx_stmt.proofs.SilentStatements.{AreSilent}
@@ -86,27 +84,6 @@ data-then : {A : Type 0} (place : ℕ) (a : Answer A) (next : A → Answer Data)
 unfolding HasData
 data-then place (Err fault) next h = tt
 data-then place (Ok x) next h = h x refl
-
--- an operand of another size than 8 is no reference
-abbrev HasSize : ℕ → Target → Type 0
-HasSize size (target.Known n) = Unit {0}
-HasSize size (target.Future who) = size ≡ 8
-
-known-sized : (size : ℕ) (n : Answer ℕ) (target : Target) → known_target n ≡ Ok target → HasSize size target
-known-sized size (Err fault) target is = absurd (cc)
-known-sized size (Ok n) (target.Known m) is = tt
-known-sized size (Ok n) (target.Future who) is = absurd (cc)
-
-target-sized : (size : ℕ) (target : Target) → size ≡ 8 → HasSize size target
-target-sized size (target.Known n) is = tt
-target-sized size (target.Future who) is = is
-
-sized : (k : Known) (size : ℕ) (e : Tree) (target : Target) → data_target k size e ≡ Ok target → HasSize size target
-sized k size e target is = by (size == 8) (eqb-true size 8) is
-  where
-    by : (b : Bool) → (b ≡ true → size ≡ 8) → cond b (target_at k e) (known_target (and_then (pure_at k e) (data_number size))) ≡ Ok target → HasSize size target
-    by true eight is = target-sized size target (eight refl)
-    by false eight is = known-sized size _ target is
 
 octa-bytes : (n : ℕ) → AreBytes (octa_to_bytes n)
 octa-bytes n = (omega arith, (omega arith, (omega arith, (omega arith, (omega arith, (omega arith, (omega arith, (omega arith, tt))))))))
@@ -184,12 +161,8 @@ Laid (Err fault) = Unit {0}
 Laid (Ok p) = IsLaid p
 
 bytes-laid : (k : Known) (label : Option Label) (d : Data) → IsData k.at d → Laid (with_bytes k label d)
-bytes-laid k label d is = by (nat_lt 0x6000_0000_0000_0000 (k.at + length d.bytes)) (ltb-false 0x6000_0000_0000_0000 (k.at + length d.bytes))
-  where
-    by : (b : Bool) → (b ≡ false → k.at + length d.bytes ≤ 0x6000_0000_0000_0000) →
-        Laid (cond b (Err BadPlace) (Ok (record { start = k.at; bytes = d.bytes; waits = d.waits; label = label_value label (Pure k.at); effect = effect.Plain; after = k.at + length d.bytes })))
-    by true h = tt
-    by false h = let low = h refl in record { bytes = is.bytes; low = λ some. low; waits = is.waits (omega (arith, low)) }
+bytes-laid k label d is = cond_both (nat_lt 0x6000_0000_0000_0000 (k.at + length d.bytes)) (Err BadPlace) _ Laid (λ high. tt)
+    (λ holds. let low = ltb-false 0x6000_0000_0000_0000 (k.at + length d.bytes) holds in record { bytes = is.bytes; low = λ some. low; waits = is.waits (omega (arith, low)) })
 
 data-placed : (k : Known) (label : Option Label) (d : Answer Data) → HasData k.at d → Laid (with_data k label d)
 unfolding HasData

@@ -1,9 +1,9 @@
 -- The nearest base, register by register.
-use Rattle.std.proofs.Common.{◌≡◌, ◌≢◌, ◌<◌, ◌≤◌, ℕ, zero, suc, ◌+◌, ◌-◌, ◌==◌, nat_le, Bool, true, false, if◌then◌else◌, List, [], ◌∷◌, length, drop, Option, None, Some, slice_index, arith, add-one, refl, ap, sym, subst, ◌∙◌}
+use Rattle.std.proofs.Common.{◌≡◌, ◌≢◌, ◌<◌, ◌≤◌, ℕ, zero, suc, ◌+◌, ◌-◌, ◌==◌, nat_le, List, [], ◌∷◌, length, drop, Option, None, Some, slice_index, arith, add-one, refl, ap, sym, subst, ◌∙◌}
 use Rattle.std.proofs.lemmas.List.{drop_more}
 use Rattle.std.proofs.Math.Seq.{drop-length}
 use Rattle.mx_stmt.specs.declared.gregs.Base.{Base}
-use Rattle.std.proofs.lemmas.Bool.{eqb-true, eqb-false, leb-true, leb-false}
+use Rattle.std.proofs.lemmas.Bool.{cond_both, eqb-true, eqb-false, leb-true, leb-false}
 use Rattle.mx_expr.specs.Value.{difference}
 use Rattle.mx_stmt.specs.Gregs.{IsNearest, greg_value, lowest_of, nearest_base, nearest_from, nearer_base, with_register}
 
@@ -73,18 +73,15 @@ found-later address first value values other closer found = record {
 
 found-nearer : (address first value : ℕ) (values : List ℕ) (others : Option Base) → value ≢ 0 → Found address (first + 1) values others → Found address first (value ∷ values) (Some (nearer_base (base_at address first value) others))
 found-nearer address first value values None some found = found-first address first value values some (λ i h other. absurd (other (found i h)))
-found-nearer address first value values (Some other) some found = by (nat_le (difference address value) other.above) (leb-true (difference address value) other.above) (leb-false (difference address value) other.above)
-  where
-    by : (b : Bool) → (b ≡ true → difference address value ≤ other.above) → (b ≡ false → other.above < difference address value) → Found address first (value ∷ values) (Some (if b then base_at address first value else other))
-    by true holds fails = found-first address first value values some (λ i h nonzero. omega (arith, holds refl, found.least i h nonzero))
-    by false holds fails = found-later address first value values other (omega (arith, fails refl)) found
+found-nearer address first value values (Some other) some found =
+    cond_both (nat_le (difference address value) other.above) (base_at address first value) other (λ b. Found address first (value ∷ values) (Some b))
+    (λ holds. let nearer = leb-true (difference address value) other.above holds in found-first address first value values some (λ i h nonzero. omega (arith, nearer, found.least i h nonzero)))
+    (λ fails. let further = leb-false (difference address value) other.above fails in found-later address first value values other (omega (arith, further)) found)
 
 found-more : (address first value : ℕ) (values : List ℕ) (others : Option Base) → Found address (first + 1) values others → Found address first (value ∷ values) (with_register address first value others)
-found-more address first value values others found = by (value == 0) (eqb-true value 0) (eqb-false value 0)
-  where
-    by : (b : Bool) → (b ≡ true → value ≡ 0) → (b ≡ false → value ≢ 0) → Found address first (value ∷ values) (if b then others else Some (nearer_base (base_at address first value) others))
-    by true holds fails = found-zero address first value values others (holds refl) found
-    by false holds fails = found-nearer address first value values others (fails refl) found
+found-more address first value values others found =
+    cond_both (value == 0) others (Some (nearer_base (base_at address first value) others)) (Found address first (value ∷ values))
+    (λ zero. found-zero address first value values others (eqb-true value 0 zero) found) (λ some. found-nearer address first value values others (eqb-false value 0 some) found)
 
 nearest-found : (address first : ℕ) (values : List ℕ) → Found address first values (nearest_from address first values)
 unfolding nearest_from

@@ -1,6 +1,6 @@
 -- A value of an operand that is a register has a byte as its number.
-use Rattle.std.proofs.Common.{◌≡◌, ◌<◌, ◌≤◌, ℕ, ◌^◌, nat_le, Bool, true, false, cond, IfOk, List, Option, None, Some, Result, Ok, Err, refl, subst, arith}
-use Rattle.std.proofs.lemmas.Bool.{leb-true}
+use Rattle.std.proofs.Common.{◌≡◌, ◌<◌, ℕ, ◌^◌, nat_le, Bool, true, false, cond, IfOk, List, Option, None, Some, Result, Ok, Err, subst, arith}
+use Rattle.std.proofs.lemmas.Bool.{cond_both, leb-true}
 use Rattle.std.specs.Option.{IfSome}
 use Rattle.mx_word.specs.declared.symbols.Value.{Value}
 use Rattle.mx_word.specs.declared.symbols.Value.TheVariants.{Pure, Reg}
@@ -22,11 +22,7 @@ abbrev IsNumbered : Valued → Type 0
 IsNumbered value = IfOk value HasRegisterNumber
 
 register-numbered : (n : ℕ) → IsNumbered (register n)
-register-numbered n = by (nat_le n 255) (leb-true n 255)
-  where
-    by : (b : Bool) → (b ≡ true → n ≤ 255) → IsNumbered (cond b (Ok (Reg n)) (Err RegisterNumber))
-    by true small = omega (arith, small refl)
-    by false small = tt
+register-numbered n = cond_both (nat_le n 255) (Ok (Reg n)) (Err RegisterNumber) IsNumbered (λ fits. let small = leb-true n 255 fits in omega (arith, small)) (λ more. tt)
 
 pure-numbered : (b : Bool) (fault : ExprFault) (n : ℕ) → IsNumbered (cond b (Err fault) (Ok (Pure n)))
 pure-numbered true fault n = tt

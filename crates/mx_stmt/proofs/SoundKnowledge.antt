@@ -1,7 +1,7 @@
 -- What is known stays sound when a label is defined or a register is given.
-use Rattle.std.proofs.Common.{◌≡◌, ◌<◌, ◌≤◌, ℕ, zero, suc, ◌-◌, nat_lt, Bool, true, false, cond, List, [], ◌∷◌, replicate, slice_index_or, slice_set, Option, None, Some, bytes_eq, refl, sym, subst, arith}
+use Rattle.std.proofs.Common.{◌≡◌, ◌≤◌, ℕ, zero, suc, ◌-◌, nat_lt, Bool, true, false, cond, List, [], ◌∷◌, replicate, slice_index_or, slice_set, Option, None, Some, bytes_eq, sym, subst, arith}
 use Rattle.std.specs.Option.{IfSome}
-use Rattle.std.proofs.lemmas.Bool.{ltb-true}
+use Rattle.std.proofs.lemmas.Bool.{cond_both, ltb-true}
 use Rattle.std.proofs.lemmas.List.{length-set}
 use Rattle.mx_word.specs.declared.symbols.Value.{Value}
 use Rattle.mx_word.specs.declared.symbols.Value.TheVariants.{Pure}
@@ -46,11 +46,8 @@ pub sound-local : (k : Known) (d : ℕ) (value : Value) → HasRegisterNumber va
 sound-local k d value fits sound = record { symbols = sound.symbols; backs = λ e. set-numbered k.names.backs d e value fits (sound.backs e); gregs = sound.gregs }
 
 lowest-kept : (gregs : List ℕ) (reg value : ℕ) → IsAllocable gregs reg → 32 ≤ lowest_of gregs → 32 ≤ lowest_of (with_greg gregs reg value)
-lowest-kept gregs reg value free low = by (nat_lt reg (lowest_of gregs)) (ltb-true reg (lowest_of gregs))
-  where
-    by : (b : Bool) → (b ≡ true → reg < lowest_of gregs) → 32 ≤ lowest_of (cond b (value ∷ gregs) (slice_set gregs (reg - lowest_of gregs) value))
-    by true below = omega (arith, below refl, free.least, free.next)
-    by false below = omega (arith, length-set gregs (reg - lowest_of gregs) value, low)
+lowest-kept gregs reg value free low = cond_both (nat_lt reg (lowest_of gregs)) (value ∷ gregs) (slice_set gregs (reg - lowest_of gregs) value) (λ gs. 32 ≤ lowest_of gs)
+    (λ holds. let below = ltb-true reg (lowest_of gregs) holds in omega (arith, below, free.least, free.next)) (λ other. omega (arith, length-set gregs (reg - lowest_of gregs) value, low))
 
 pub sound-greg : (k : Known) (reg value : ℕ) → IsAllocable k.gregs reg → IsSound k → IsSound (record k { gregs = with_greg k.gregs reg value })
 sound-greg k reg value free sound = record { symbols = sound.symbols; backs = sound.backs; gregs = lowest-kept k.gregs reg value free sound.gregs }

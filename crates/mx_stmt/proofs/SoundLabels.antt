@@ -1,16 +1,16 @@
 -- The value of a label and the register of a GREG are sound where what is known is.
-use Rattle.std.proofs.Common.{◌≡◌, ℕ, ◌+◌, nat_lt, Bool, true, false, cond, List, length, Option, Ok, Err, refl, subst}
+use Rattle.std.proofs.Common.{◌≡◌, ℕ, ◌+◌, nat_lt, List, length, Option, Ok, Err, refl, subst}
+use Rattle.std.proofs.lemmas.Bool.{cond_both}
 use Rattle.mx_word.specs.declared.symbols.Value.TheVariants.{Pure}
 use Rattle.mx_stmt.specs.declared.data.Data.{Data}
 use Rattle.mx_stmt.specs.declared.statement.Label.{Label}
-use Rattle.mx_stmt.specs.declared.placed.Effect.TheVariants.{Plain}
 use Rattle.mx_stmt.specs.declared.placed.Placed.{Placed}
 use Rattle.mx_stmt.specs.declared.faults.StmtFault.TheVariants.{BadPlace}
 use Rattle.mx_stmt.specs.Steps.{Answer, and_then}
 use Rattle.mx_stmt.specs.Operands.{Known, Targets}
 use Rattle.mx_stmt.specs.Forms.{form_by}
 use Rattle.mx_stmt.specs.Data.{data_form}
-use Rattle.mx_stmt.specs.Encoding.{StatementTree, label_value, with_bytes, tetra_data, encoding}
+use Rattle.mx_stmt.specs.Encoding.{StatementTree, with_bytes, tetra_data, encoding}
 use Rattle.mx_stmt.specs.Fixes.{IsSound}
 use Rattle.mx_stmt.proofs.EveryStatement.{at_place, every-statement}
 use Rattle.mx_stmt.proofs.SilentStatements.{AreSilent, IsFine, label-fits}
@@ -26,11 +26,7 @@ fine-then gregs (Ok x) next h = h x refl
 
 fine-bytes : (k : Known) (label : Option Label) (d : Data) → AllFine k.gregs (with_bytes k label d)
 unfolding AllFine
-fine-bytes k label d = by (nat_lt 0x6000_0000_0000_0000 (k.at + length d.bytes))
-  where
-    by : (b : Bool) → AllFine k.gregs (cond b (Err BadPlace) (Ok (record { start = k.at; bytes = d.bytes; waits = d.waits; label = label_value label (Pure k.at); effect = Plain; after = k.at + length d.bytes })))
-    by true = tt
-    by false = record { label = label-fits label (Pure k.at) tt; effect = tt }
+fine-bytes k label d = cond_both (nat_lt 0x6000_0000_0000_0000 (k.at + length d.bytes)) (Err BadPlace) _ (AllFine k.gregs) (λ high. tt) (λ low. record { label = label-fits label (Pure k.at) tt; effect = tt })
 
 fine-silent : (k : Known) (a : Answer Placed) → IsSound k → AreSilent k a → AllFine k.gregs a
 unfolding AllFine AreSilent
