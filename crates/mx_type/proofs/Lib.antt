@@ -1,0 +1,6 @@
+pub mod Lambdas
+pub mod Listed
+pub mod Rows
+pub mod Readings
+pub mod TrieBytes
+pub mod Once
