@@ -1,12 +1,14 @@
 -- Lists of items that fit.
-use Rattle.std.proofs.Common.{◌≢◌, ◌<◌, ◌≤◌, ℕ, ◌+◌, ◌^◌, List, [], ◌∷◌, ◌++◌, length, length-append, ◌-◌, Some, ap, ◌∙◌, arith}
+use Rattle.std.proofs.Common.{◌≢◌, ◌<◌, ◌≤◌, ℕ, ◌+◌, ◌^◌, List, [], ◌∷◌, ◌++◌, length, length-append, ◌-◌, Some, refl, sym, ap, subst, ◌∙◌, arith, append_assoc, append-nil}
 use Rattle.std.specs.Prelude.{codes}
+use Rattle.std.proofs.lemmas.List.{append_cancel_left}
 use Rattle.mx_stab.proofs.Orders.{all-front, all-both}
 use Rattle.mx_word.specs.Ranges.{AreOctas}
 use Rattle.mx_mmo.specs.declared.items.Item.{Item}
 use Rattle.mx_mmo.specs.declared.items.Item.TheVariants.{File, Pre, Post}
 use Rattle.mx_mmo.specs.Valid.{Fits}
-use Rattle.mx_asm.specs.Fitting.{AreFit}
+use Rattle.mx_asm.specs.Fitting.{AreFit, GrowsFit}
+use Rattle.mx_asm.specs.Fronts.{IsFront, GrowsAlike}
 
 pub fit-none : AreFit []
 unfolding AreFit
@@ -44,9 +46,52 @@ fit-time = (omega arith, (omega arith, tt))
 pub fit-file : Fits (File 0 (Some (codes ".mms")))
 fit-file = (omega arith, record { bytes = (omega arith, (omega arith, (omega arith, (omega arith, tt)))); least = omega arith; most = omega arith; last = no-zero })
 
-pub fit-registers : (out : List Item) (gregs : List ℕ) (main : ℕ) → length gregs ≤ 223 → AreOctas gregs → main < 2 ^ 64 → AreFit out → AreFit (out ++ Post (255 - length gregs) (gregs ++ main ∷ []) ∷ [])
-fit-registers out gregs main few octas low fit =
-    fit-push out (Post (255 - length gregs) (gregs ++ main ∷ [])) fit
+pub fit-registers : (gregs : List ℕ) (main : ℕ) → length gregs ≤ 223 → AreOctas gregs → main < 2 ^ 64 → Fits (Post (255 - length gregs) (gregs ++ main ∷ []))
+fit-registers gregs main few octas low =
     (omega (arith, few), omega (arith, few), ap (λ n. n + (255 - length gregs)) (length-append gregs (main ∷ [])) ∙ omega (arith, few), octas-push gregs main octas low)
 
+-- ---- lists that grow by items that fit
+
+pub grows-by : (xs ys : List Item) → AreFit ys → GrowsFit xs (xs ++ ys)
+grows-by xs ys h = record { items = ys; added = refl; fit = h }
+
+pub grows-none : (xs : List Item) → GrowsFit xs xs
+grows-none xs = record { items = []; added = sym (append-nil xs); fit = fit-none }
+
+pub grows-on : (xs ys zs : List Item) → GrowsFit xs ys → GrowsFit ys zs → GrowsFit xs zs
+grows-on xs ys zs h g = record {
+  items = h.items ++ g.items;
+  added = g.added ∙ ap (λ l. l ++ g.items) h.added ∙ append_assoc xs h.items g.items;
+  fit = fit-both h.items g.items h.fit g.fit;
+}
+
+pub grows-one : (xs : List Item) (i : Item) → Fits i → GrowsFit xs (xs ++ i ∷ [])
+grows-one xs i h = grows-by xs (i ∷ []) (fit-one i h)
+
+pub grows-two : (xs : List Item) (i j : Item) → Fits i → Fits j → GrowsFit xs ((xs ++ i ∷ []) ++ j ∷ [])
+grows-two xs i j h g = grows-on xs (xs ++ i ∷ []) ((xs ++ i ∷ []) ++ j ∷ []) (grows-one xs i h) (grows-one (xs ++ i ∷ []) j g)
+
+pub grows-next : (xs ys rest : List Item) (i : Item) → GrowsFit xs ys → AreFit (i ∷ rest) → GrowsFit xs (ys ++ i ∷ [])
+unfolding AreFit
+grows-next xs ys rest i h fit = grows-on xs ys (ys ++ i ∷ []) h (grows-one ys i fit.0)
+
+pub fit-rest : (i : Item) (rest : List Item) → AreFit (i ∷ rest) → AreFit rest
+unfolding AreFit
+fit-rest i rest fit = fit.1
+
+pub grows-fit : (xs ys : List Item) → GrowsFit xs ys → AreFit xs → AreFit ys
+grows-fit xs ys h fit = subst AreFit (sym h.added) (fit-both xs h.items fit h.fit)
+
+pub grows-front : (xs ys : List Item) → GrowsFit xs ys → IsFront xs ys
+grows-front xs ys h = (h.items, h.added)
+
+-- what is added fits, so the whole does where its front does
+pub grows-whole : (front whole old new : List Item) → GrowsAlike front whole old new → GrowsFit old new → AreFit front → AreFit whole
+grows-whole front whole old new g h fit =
+    subst AreFit (sym g.due) (fit-both front g.items fit (subst AreFit (append_cancel_left old h.items g.items (sym h.added ∙ g.added)) h.fit))
+
 pub ruleset fitting = (fit-none, fit-one, fit-both, fit-push, fit-time, fit-file, octas-push)
+
+pub ruleset grown = (grows-fit, grows-front)
+
+pub ruleset growing = (grows-none, grows-one, grows-two, grows-next, fit-rest)

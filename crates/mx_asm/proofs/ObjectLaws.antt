@@ -31,7 +31,7 @@ use Rattle.mx_asm.specs.Fitting.{AreFit, IsPadded, AreWritable}
 use Rattle.mx_asm.specs.OnePass.{Ended}
 use Rattle.mx_asm.specs.Whole.{assembled_source}
 use Rattle.mx_asm.proofs.EndWaits.{both-none}
-use Rattle.mx_asm.proofs.Fitting.{fit-none, fit-one, fit-both, fit-registers, fit-time, fit-file}
+use Rattle.mx_asm.proofs.Fitting.{fit-one, fit-both, fit-registers, fit-time, fit-file}
 use Rattle.mx_asm.proofs.InTurn.{source-accepted, source-refused}
 use Rattle.mx_asm.proofs.MeaningStatements.{IsWord}
 use Rattle.mx_asm.proofs.MeaningSteady.{steady-all}
@@ -54,7 +54,7 @@ main-low (Some (Reg r)) h = omega arith
 closing-fits : (k : Known) → IsTellable 0 k → AreFit (closing k.names k.gregs)
 closing-fits k h =
     fit-both (Post (lowest_of k.gregs) (k.gregs ++ main_of k.names ∷ []) ∷ []) (Stab ∷ [])
-    (fit-registers [] k.gregs (main_of k.names) (few-registers k.gregs h.sound.gregs) h.gregs (main-low (value_of_name k.names main_name) (h.words.symbols main_name)) fit-none)
+    (fit-one _ (fit-registers k.gregs (main_of k.names) (few-registers k.gregs h.sound.gregs) h.gregs (main-low (value_of_name k.names main_name) (h.words.symbols main_name))))
     (fit-one Stab tt)
 
 opening-fits : AreFit opening

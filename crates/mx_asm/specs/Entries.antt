@@ -1,4 +1,5 @@
--- The statements of a source, each read; what is not read is listed as its refusal.
+-- The statements of a source, each read; what is not read is listed as its refusal. That this goes by the grammar of the
+-- fields is the law `entries_are_read`. (MMIXware, MMIXAL: label, operation and operands.)
 use Rattle.std.specs.Prelude.{ℕ, Bool, true, false, List, [], ◌∷◌, map, is_some, option_map, Option, None, Some, Result, Ok, Err}
 use Rattle.mx_line.specs.declared.faults.LineFault.{LineFault}
 use Rattle.mx_line.specs.declared.cutter.Cut.{Cut}

@@ -1,11 +1,17 @@
 -- Items that fit the object format: their numbers have their bytes, and their counts are what follows.
-use Rattle.std.specs.Prelude.{◌≡◌, ◌<◌, ℕ, ◌/◌, ◌%◌, ◌^◌, ◌⊎◌, List, length}
+use Rattle.std.specs.Prelude.{◌≡◌, ◌<◌, ℕ, ◌/◌, ◌%◌, ◌^◌, ◌⊎◌, List, ◌++◌, length}
 use Rattle.std.specs.List.{AllByRecursion}
 use Rattle.mx_mmo.specs.declared.items.Item.{Item}
 use Rattle.mx_mmo.specs.Valid.{Fits, Valid}
 
 unfoldable pub AreFit : List Item → Type 0
 AreFit items = AllByRecursion Fits items
+
+-- One list grows to another: it stays as it is, and items that fit are added behind it.
+pub record GrowsFit (old new : List Item) : Type 0 where
+  pub items : List Item
+  pub added : new ≡ old ++ items
+  pub fit : AreFit items
 
 -- how many bits the relative address of a far fix has
 abbrev pub IsWidth : ℕ → Type 0

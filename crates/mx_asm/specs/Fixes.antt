@@ -1,4 +1,5 @@
 -- The references that wait for a label: what each of them is refused with, and the fix records that set them right.
+-- (MMIXware, MMIXAL, future references; MMO, lop_fixo, lop_fixr and lop_fixrx.)
 use Rattle.std.specs.Prelude.{ℕ, ◌^◌, nat_lt, if◌then◌else◌, List, [], ◌∷◌, ◌++◌, Option, None, Some, unwrap_or, Result, Ok, Err}
 use Rattle.std.specs.List.{list_any}
 use Rattle.mx_word.specs.declared.symbols.Value.{Value}

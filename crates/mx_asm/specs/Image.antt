@@ -1,4 +1,5 @@
--- The image of a source: memory, pages, lines and global registers; and its symbols.
+-- The image of a source: memory, pages, lines and global registers; and its symbols. (MMIXware, MMIXAL: data is loaded by
+-- exclusive or; MMO, lop_line; GREG and Main.)
 use Rattle.std.specs.Prelude.{ℕ, zero, suc, ◌+◌, ◌-◌, ◌*◌, ◌/◌, ◌^◌, ◌==◌, ◌&&◌, Bool, nat_le, if◌then◌else◌, List, [], ◌∷◌, ◌++◌, fold}
 use Rattle.std.specs.List.{list_any}
 use Rattle.mx_word.specs.Words.{octa_from_bytes}

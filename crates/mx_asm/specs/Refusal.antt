@@ -1,5 +1,5 @@
 -- The refusal of a source: its first faulty statement or line; without one, the first reference to what is never defined;
--- without that, what is missing at the end.
+-- without that, what is missing at the end. (MMIXware, MMIXAL: future references, Main, GREG and LOCAL.)
 use Rattle.std.specs.Prelude.{ℕ, ◌/◌, nat_lt, nat_le, if◌then◌else◌, List, [], ◌∷◌, ◌++◌, length, Option, None, Some, is_some, Result, Ok, Err, Option}
 use Rattle.std.specs.List.{list_any}
 use Rattle.mx_word.specs.declared.symbols.Value.{Value}

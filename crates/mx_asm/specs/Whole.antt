@@ -79,9 +79,7 @@ lines_taken lines = fold line_after ([], Ok beginning) lines
 abbrev pub one_pass : List Line → Ended
 one_pass lines = end_behind (lines_taken lines).0 (lines_taken lines).1
 
--- What stands once an assembler has taken these lines, one after another: it has added the items that they give, and it is
--- refused as they are.
-pub record HasTaken (lines : List Line) (out : List Item) (a : Standing) : Type 0 where
-  pub taken : (out, a) ≡ lines_taken lines
-  pub items : out ≡ lines_items lines
+-- What stands once an assembler has taken these lines, one after another: it is refused as they are.
+pub record HasTaken (lines : List Line) (a : Standing) : Type 0 where
+  pub taken : a ≡ (lines_taken lines).1
   pub refusal : result_err a ≡ lines_refusal lines

@@ -4,11 +4,11 @@ ghost use Rattle.std.specs.Prelude.{◌≡◌, ◌≢◌, ◌+◌, ◌<◌, ◌�
 ghost use Rattle.std.specs.Prelude.{Ok, Err, IfOk, IfErr, OnOk, OnErr, length};
 ghost use Rattle.mx_word.specs.Results.{map_ok};
 ghost use Rattle.mx_asm.specs.Faults.{no_memory};
-ghost use Rattle.mx_asm.specs.Fitting.{AreFit, AreWritable, IsPadded};
-ghost use Rattle.mx_asm.specs.Fronts.{IsFront};
+ghost use Rattle.mx_asm.specs.Fitting.{AreFit, AreWritable, GrowsFit, IsPadded};
+ghost use Rattle.mx_asm.specs.Fronts.{GrowsAlike, IsFront};
 ghost use Rattle.mx_asm.specs.Entries.{holds_statement};
 ghost use Rattle.mx_asm.specs.OnePass as spec;
-ghost use Rattle.mx_asm.specs.Whole.{HasTaken, assembled_lines};
+ghost use Rattle.mx_asm.specs.Whole.{HasTaken, assembled_lines, lines_items};
 
 use crate::Refused;
 use crate::assembly::Assembly;
@@ -41,7 +41,7 @@ impl Assembler {
     #[tactic(auto, using(crate::proofs::InTurn::turns))]
     pub fn new(alloc: Global) -> Result<Assembler, Refused>
         ensures start { IfOk result (λ a. a ≡ Ok spec.beginning) }
-        ensures none { IfOk result (λ a. HasTaken [] [] a) }
+        ensures none { IfOk result (λ a. HasTaken [] a) }
         ensures memory { IfErr result (λ refused. refused ≡ no_memory) }
     {
         Ok(Assembler {
@@ -51,19 +51,23 @@ impl Assembler {
         })
     }
 
-    /// Takes the next line, a text without a newline byte, and adds the items of its statements. The
-    /// first call of `line` or `finish` adds what stands first in an object. After a refusal every
-    /// later call answers it again, and `out` has the items of the statements before the faulty one.
-    /// From `new` on, items and refusals are those of two passes over the lines so far. Behind a line
-    /// that was taken, one that holds no statement takes no memory.
+    /// Takes the next line, a text without a newline byte, and adds the items of its statements to any
+    /// list: what stands there stays, out of memory too. The first call of `line` or `finish` adds what
+    /// stands first in an object. After a refusal every later call answers it again, and the items that
+    /// were added are those of the statements before the faulty one. From `new` on, items and refusals
+    /// are those of two passes over the lines so far. Behind a line that was taken, one that holds no
+    /// statement takes no memory.
+    #[tactic(auto, using(crate::proofs::Fitting::grown, crate::proofs::Fronts::fronts))]
     pub fn line(&mut self, text: &[u8], out: &mut Items) -> Result<(), Refused>
         ensures answer { result ≡ map_ok (λ _. tt) self.new }
         ensures taken { result ≢ Err no_memory → (out.new, self.new) ≡ spec.line_behind out.old self.old text.now }
-        ensures lines { (lines : List (List ℕ)) → HasTaken lines out.old self.old → result ≢ Err no_memory →
-            HasTaken (lines ++ text.now ∷ []) out.new self.new }
+        ensures lines { (lines : List (List ℕ)) → HasTaken lines self.old → result ≢ Err no_memory →
+            HasTaken (lines ++ text.now ∷ []) self.new }
+        ensures items { (lines : List (List ℕ)) → HasTaken lines self.old → result ≢ Err no_memory →
+            GrowsAlike (lines_items lines) (lines_items (lines ++ text.now ∷ [])) out.old out.new }
         ensures open { OnOk result (spec.is_open self.new ≡ true) }
         ensures sparing { spec.is_open self.old ≡ true → holds_statement text.now ≡ false → result ≢ Err no_memory }
-        ensures front { IsFront out.new (spec.line_behind out.old self.old text.now).0 }
+        ensures front { IsFront out.old out.new × IsFront out.new (spec.line_behind out.old self.old text.now).0 }
         ensures fits { AreFit out.old → AreFit out.new }
         ensures again { OnErr self.old ((out.new ≡ out.old) × (self.new ≡ self.old)) }
     {
@@ -79,20 +83,24 @@ impl Assembler {
         }
     }
 
-    /// Ends the source: adds the global registers, and gives the symbol trie with the zeros that
-    /// complete its last tetra. After a refusal every later call answers it again, and `out` has the
-    /// items of all statements, or of those before a faulty one. From `new` on, items, trie and refusal
-    /// are those of two passes over all lines, and an object can be written from items and trie.
+    /// Ends the source: adds the global registers to any list, where what stands stays, and gives the
+    /// symbol trie with the zeros that complete its last tetra. After a refusal every later call answers
+    /// it again, and the items that were added are those of all statements, or of those before a faulty
+    /// one. From `new` on, items, trie and refusal are those of two passes over all lines, and an object
+    /// can be written from items and trie.
+    #[tactic(auto, using(crate::proofs::Fitting::grown, crate::proofs::Fronts::fronts))]
     pub fn finish(&mut self, out: &mut Items) -> Result<Bytes, Refused>
         ensures ended { result ≢ Err no_memory → (out.new, result) ≡ spec.end_behind out.old self.old }
-        ensures whole { (lines : List (List ℕ)) → HasTaken lines out.old self.old → result ≢ Err no_memory →
-            (out.new, result) ≡ assembled_lines lines }
+        ensures whole { (lines : List (List ℕ)) → HasTaken lines self.old → result ≢ Err no_memory →
+            result ≡ (assembled_lines lines).1 }
+        ensures items { (lines : List (List ℕ)) → HasTaken lines self.old → result ≢ Err no_memory →
+            GrowsAlike (lines_items lines) (assembled_lines lines).0 out.old out.new }
         ensures refused { IfErr result (λ refused. self.new ≡ Err refused) }
         ensures accepted { OnOk result (self.new ≡ map_ok spec.opened self.old) }
-        ensures front { IsFront out.new (spec.end_behind out.old self.old).0 }
+        ensures front { IsFront out.old out.new × IsFront out.new (spec.end_behind out.old self.old).0 }
         ensures fits { AreFit out.old → AreFit out.new }
-        ensures object { (lines : List (List ℕ)) → HasTaken lines out.old self.old → AreFit out.old →
-            IfOk result (λ trie. AreWritable out.new trie) }
+        ensures object { (lines : List (List ℕ)) → HasTaken lines self.old → AreFit (lines_items lines) →
+            IfOk result (λ trie. AreWritable (assembled_lines lines).0 trie) }
         ensures again { OnErr self.old ((out.new ≡ out.old) × (self.new ≡ self.old)) }
     {
         if let Some(refused) = self.refused {
@@ -113,7 +121,7 @@ fn end(assembly: &mut Assembly, out: &mut Items) -> Result<Bytes, Refused>
     ensures ended { result ≢ Err no_memory → (out.new, result) ≡ spec.end_behind out.old (Ok assembly.old) }
     ensures opened { OnOk result (assembly.new ≡ spec.opened assembly.old) }
     ensures front { IsFront out.new (spec.end_behind out.old (Ok assembly.old)).0 }
-    ensures fits { AreFit out.old → AreFit out.new }
+    ensures fits { GrowsFit out.old out.new }
     ensures trie { IfOk result IsPadded }
 {
     assembly.open(out)?;
@@ -131,7 +139,7 @@ fn take_line(
         (out.new, spec.standing_after result assembly.new) ≡ spec.line_behind out.old (Ok assembly.old) text.now }
     ensures sparing { assembly.old.opened ≡ true → holds_statement text.now ≡ false → result ≢ Err no_memory }
     ensures front { IsFront out.new (spec.line_behind out.old (Ok assembly.old) text.now).0 }
-    ensures fits { AreFit out.old → AreFit out.new }
+    ensures fits { GrowsFit out.old out.new }
 {
     assembly.open(out)?;
     let line = assembly.count(text)?;

@@ -9,7 +9,7 @@ ghost use Rattle.mx_stmt.specs.Reading.{LabelHasDigit, StatementHasDigits};
 ghost use Rattle.mx_asm.specs.Effects.{IsEffect, IsPlaced};
 ghost use Rattle.mx_asm.specs.Emission.{opening, piece_items, piece_head};
 ghost use Rattle.mx_asm.specs.Faults.{no_memory};
-ghost use Rattle.mx_asm.specs.Fitting.{AreFit, IsPadded};
+ghost use Rattle.mx_asm.specs.Fitting.{AreFit, GrowsFit, IsPadded};
 ghost use Rattle.mx_asm.specs.Fronts.{IsFront};
 ghost use Rattle.mx_asm.specs.Fixes.{awaited_value};
 ghost use Rattle.mx_asm.specs.TwoPass.{with_effect};
@@ -93,12 +93,13 @@ impl Assembly {
     }
 
     /// Adds what stands first in an object, unless it is there.
+    #[tactic(auto, using(crate::proofs::Fitting::growing))]
     pub(crate) fn open(&mut self, out: &mut Items) -> Result<(), NoMemory>
         ensures out { OnOk result (out.new ≡ spec.with_opening self.old.opened out.old) }
         ensures opened { OnOk result (self.new ≡ spec.opened self.old) }
         ensures front { IsFront out.new (spec.with_opening self.old.opened out.old) }
         ensures sparing { OnErr result (self.old.opened ≡ false) }
-        ensures fits { AreFit out.old → AreFit out.new }
+        ensures fits { GrowsFit out.old out.new }
     {
         if !self.opened {
             push_opening(self.alloc, out)?;
@@ -124,10 +125,11 @@ impl Assembly {
     }
 
     /// Ends the source: adds the global registers, and gives the symbol trie.
+    #[tactic(auto, using(crate::proofs::Fitting::growing))]
     pub(crate) fn end(&self, out: &mut Items) -> Result<Bytes, Refused>
         ensures ended { result ≢ Err no_memory → (out.new, result) ≡ spec.ended out.old self.now }
         ensures front { IsFront out.new (spec.ended out.old self.now).0 }
-        ensures fits { AreFit out.old → AreFit out.new }
+        ensures fits { GrowsFit out.old out.new }
         ensures trie { IfOk result IsPadded }
     {
         if let Some(wait) = self.names.first_waiting() {
@@ -257,11 +259,11 @@ impl Assembly {
 }
 
 /// Adds a time of 0, and the file.
-#[tactic(auto, using(crate::proofs::Fitting::fitting))]
+#[tactic(auto, using(crate::proofs::Fitting::fitting, crate::proofs::Fitting::growing))]
 fn push_opening(alloc: Global, out: &mut Items) -> Result<(), NoMemory>
     ensures all { OnOk result (out.new ≡ out.old ++ opening) }
     ensures front { IsFront out.new (out.old ++ opening) }
-    ensures fits { AreFit out.old → AreFit out.new }
+    ensures fits { GrowsFit out.old out.new }
 {
     let mut tetras = Words::new(alloc);
     tetras.push(0)?;

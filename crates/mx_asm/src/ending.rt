@@ -3,7 +3,7 @@
 ghost use Rattle.std.specs.Prelude.{◌≡◌, ◌≢◌, ◌≤◌, ◌++◌, ◌%◌, Ok, Err, IfOk, OnOk, length};
 ghost use Rattle.mx_names.specs.Names.{value_of_name};
 ghost use Rattle.mx_asm.specs.Emission as emission;
-ghost use Rattle.mx_asm.specs.Fitting.{AreFit};
+ghost use Rattle.mx_asm.specs.Fitting.{GrowsFit};
 ghost use Rattle.mx_asm.specs.Fronts.{IsFront};
 ghost use Rattle.mx_word.specs.Ranges.{AreOctas};
 ghost use Rattle.mx_asm.specs.Refusal.{undefined};
@@ -96,7 +96,7 @@ fn values(alloc: Global, gregs: &Gregs) -> Result<Octas, NoMemory>
 }
 
 /// Adds the global registers, and that the trie follows.
-#[tactic(auto, using(crate::proofs::Fitting::fitting))]
+#[tactic(auto, using(crate::proofs::Fitting::fitting, crate::proofs::Fitting::growing))]
 pub(crate) fn close(
     alloc: Global,
     out: &mut Items,
@@ -106,7 +106,7 @@ pub(crate) fn close(
     requires { length gregs.now ≤ 223 }
     ensures all { OnOk result (out.new ≡ out.old ++ emission.closing names.now gregs.now) }
     ensures front { IsFront out.new (out.old ++ emission.closing names.now gregs.now) }
-    ensures fits { AreFit out.old → AreFit out.new }
+    ensures fits { GrowsFit out.old out.new }
 {
     let mut values = values(alloc, gregs)?;
     values.push(main_address(names))?;

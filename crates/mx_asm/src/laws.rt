@@ -11,6 +11,7 @@ ghost use Rattle.mx_stmt.specs.declared.faults.StmtFault.{StmtFault};
 ghost use Rattle.mx_asm.specs.Emission.{emission, front, padded_trie};
 ghost use Rattle.mx_asm.specs.Entries.{entry_of, source_entries, statements_in};
 ghost use Rattle.mx_asm.specs.Faults.{refused};
+ghost use Rattle.mx_asm.specs.Fronts.{GrowsAlike};
 ghost use Rattle.mx_asm.specs.OnePass.{Standing, beginning, end_behind, line_behind};
 ghost use Rattle.mx_asm.specs.Refusal.{refusal};
 ghost use Rattle.mx_asm.specs.TwoPass.{final_known};
@@ -40,14 +41,19 @@ pub fn one_pass_gives_the_whole()
     ensures { (lines : List (List ℕ)) → one_pass lines ≡ assembled_lines lines }
 {}
 
-/// Before the first line nothing was taken. A line more is taken behind those before it, and the end
-/// gives what the two passes give of all lines.
+/// Before the first line nothing was taken. Behind the lines that were taken a line more is taken, and
+/// the end gives what the two passes give of all lines. The items may be added to any list: it grows as
+/// the items of the lines grow.
 pub fn lines_are_taken_in_turn()
-    ensures none { HasTaken [] [] (Ok beginning) }
-    ensures line { (lines : List (List ℕ)) (text : List ℕ) (out : List Item) (a : Standing) → HasTaken lines out a →
-        HasTaken (lines ++ text ∷ []) (line_behind out a text).0 (line_behind out a text).1 }
-    ensures end { (lines : List (List ℕ)) (out : List Item) (a : Standing) → HasTaken lines out a →
-        end_behind out a ≡ assembled_lines lines }
+    ensures none { HasTaken [] (Ok beginning) }
+    ensures line { (lines : List (List ℕ)) (text : List ℕ) (out : List Item) (a : Standing) → HasTaken lines a →
+        HasTaken (lines ++ text ∷ []) (line_behind out a text).1 }
+    ensures items { (lines : List (List ℕ)) (text : List ℕ) (out : List Item) (a : Standing) → HasTaken lines a →
+        GrowsAlike (lines_items lines) (lines_items (lines ++ text ∷ [])) out (line_behind out a text).0 }
+    ensures end { (lines : List (List ℕ)) (out : List Item) (a : Standing) → HasTaken lines a →
+        (end_behind out a).1 ≡ (assembled_lines lines).1 }
+    ensures whole { (lines : List (List ℕ)) (out : List Item) (a : Standing) → HasTaken lines a →
+        GrowsAlike (lines_items lines) (assembled_lines lines).0 out (end_behind out a).0 }
 {}
 
 /// A source that is not refused is assembled into what its statements emit, and their symbol trie.

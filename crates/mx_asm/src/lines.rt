@@ -8,7 +8,7 @@ ghost use Rattle.mx_stmt.specs.Encoding.{statement_tree};
 ghost use Rattle.mx_stmt.specs.Reading.{CutWithin, StatementHasDigits};
 ghost use Rattle.mx_asm.specs.Entries as entries;
 ghost use Rattle.mx_asm.specs.Faults.{no_memory};
-ghost use Rattle.mx_asm.specs.Fitting.{AreFit};
+ghost use Rattle.mx_asm.specs.Fitting.{AreFit, GrowsFit};
 ghost use Rattle.mx_asm.specs.Fronts.{IsFront};
 ghost use Rattle.mx_asm.specs.OnePass as spec;
 
@@ -21,10 +21,11 @@ use mx_word::NoMemory;
 use std::alloc::Global;
 
 /// Adds items to others. Where there is no memory, a front of them is added.
+#[tactic(auto, using(crate::proofs::Fitting::growing))]
 fn append(out: &mut Items, items: Items) -> Result<(), NoMemory>
     ensures all { OnOk result (out.new ≡ out.old ++ items) }
     ensures front { IsFront out.new (out.old ++ items) }
-    ensures fits { AreFit out.old → AreFit items → AreFit out.new }
+    ensures fits { AreFit items → GrowsFit out.old out.new }
 {
     for item in items.into_vec() {
         out.push(item)?;
@@ -48,7 +49,7 @@ fn read(alloc: Global, text: &[u8], cut: &Cut, line: u32) -> Result<Statement, R
 }
 
 /// Takes the statement that was cut from a line with this number, and adds its items.
-#[tactic(auto, using(crate::proofs::Fronts::fronts))]
+#[tactic(auto, using(crate::proofs::Fronts::fronts, crate::proofs::Fitting::growing))]
 fn take_cut(
     alloc: Global,
     assembly: &mut Assembly,
@@ -61,7 +62,7 @@ fn take_cut(
     ensures taken { result ≢ Err no_memory → (out.new, spec.standing_after result assembly.new) ≡
         spec.cut_taken line text.now cut.now out.old assembly.old }
     ensures front { IsFront out.new (spec.cut_taken line text.now cut.now out.old assembly.old).0 }
-    ensures fits { AreFit out.old → AreFit out.new }
+    ensures fits { GrowsFit out.old out.new }
 {
     let statement = read(alloc, text, cut, line)?;
     let items = assembly.take(&statement)?;
@@ -70,7 +71,7 @@ fn take_cut(
 }
 
 /// Takes the statements of a line with this number.
-#[tactic(auto, using(crate::proofs::LineEntries::entering))]
+#[tactic(auto, using(crate::proofs::LineEntries::entering, crate::proofs::Fitting::growing))]
 pub(crate) fn take_statements(
     alloc: Global,
     assembly: &mut Assembly,
@@ -82,7 +83,7 @@ pub(crate) fn take_statements(
         spec.entries_taken (entries.line_entries line text.now) out.old assembly.old }
     ensures front { IsFront out.new (spec.entries_taken (entries.line_entries line text.now) out.old assembly.old).0 }
     ensures sparing { entries.holds_statement text.now ≡ false → result ≢ Err no_memory }
-    ensures fits { AreFit out.old → AreFit out.new }
+    ensures fits { GrowsFit out.old out.new }
 {
     let mut at = 0;
     'statements: loop {

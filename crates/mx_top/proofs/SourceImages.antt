@@ -1,27 +1,26 @@
 -- A source that is loaded line by line comes to what it means: the lines that were taken stand for the statements before the
 -- first refusal, and what is loaded of them is what their items mean.
-use Rattle.std.proofs.Common.{◌≡◌, ℕ, ◌+◌, Bool, true, false, not, cond, List, [], ◌∷◌, ◌++◌, fold, length, refl, sym, ap, subst, ◌∙◌, is_some, Option, Some, None, Result, Ok, Err, append_assoc, append-nil, length-append}
+use Rattle.std.proofs.Common.{◌≡◌, ℕ, ◌+◌, Bool, true, false, not, cond, List, [], ◌∷◌, ◌++◌, length, refl, sym, ap, subst, ◌∙◌, is_some, Option, Some, None, Result, Ok, Err, append_assoc, append-nil, length-append}
 use Rattle.std.specs.List.{AllByRecursion}
 use Rattle.std.specs.Result.{result_err}
-use Rattle.std.proofs.lemmas.List.Sums.{fold-append}
 use Rattle.mx_word.specs.Ranges.{AreBytes}
-use Rattle.mx_word.specs.declared.waits.Wait.{Wait}
 use Rattle.mx_line.specs.Lines.{lines_of}
 use Rattle.mx_mmo.specs.Image.{Image}
 use Rattle.mx_mmo.specs.Meaning.{Loading, Meaningless, PagesFull, nothing, take_item, take_items, image_in, meaning}
 use Rattle.mx_mmo.specs.declared.items.Item.{Item}
 use Rattle.mx_load.specs.Faults.{number_of, fault_of, told}
 use Rattle.mx_load.specs.declared.fault.LoadFault.{LoadFault}
-use Rattle.mx_asm.specs.declared.faults.AsmFault.{AsmFault}
 use Rattle.mx_asm.specs.declared.refused.Refused.{Refused}
-use Rattle.mx_asm.specs.Entries.{Entry, line_entries, source_entries, statements_in}
+use Rattle.mx_asm.specs.Entries.{source_entries, statements_in}
 use Rattle.mx_asm.specs.TwoPass.{Sight}
 use Rattle.mx_asm.specs.Image.{image}
 use Rattle.mx_asm.specs.Pages.{accepted_in, has_room, outlined, page_fault, page_refusal, RunRefusal, run_refusal, run_refusal_with}
 use Rattle.mx_asm.specs.Refusal.{first_of, end_refusal, last_line, refusal}
-use Rattle.mx_asm.specs.OnePass.{Assembly, Taken, Progress, Ended, beginning, behind_entry, and_entries, entry_taken, entries_taken, count_fault, counted, line_unless, line_taken, with_opening, opened, line_behind, ended_main, ended_waits, ended, end_behind}
-use Rattle.mx_asm.specs.Whole.{Line, HasTaken, assembled_lines, assembled_source, line_after, lines_entries, lines_items, lines_taken}
-use Rattle.mx_asm.proofs.InTurn.{none-taken, line-taken, taken-ends, source-accepted, source-refused}
+use Rattle.mx_asm.specs.OnePass.{Assembly, Progress, Ended, beginning, line_behind, end_behind}
+use Rattle.mx_asm.specs.Fronts.{GrowsAlike}
+use Rattle.mx_asm.specs.Whole.{Line, HasTaken, assembled_lines, assembled_source, lines_entries, lines_items, lines_taken}
+use Rattle.mx_asm.proofs.InTurn.{none-taken, line-taken, line-grows, taken-ends, taken-grows, refusal-lasts, source-accepted, source-refused}
+use Rattle.mx_asm.proofs.OnePassLaw.{items-are, refusal-is}
 use Rattle.mx_asm.proofs.MeaningLaws.{page-refusal-is}
 use Rattle.mx_asm.proofs.MeaningLines.{line-is-refused}
 use Rattle.mx_asm.proofs.MeaningSources.{bytes-fault, run-means, source-bytes}
@@ -32,60 +31,6 @@ use Rattle.mx_top.specs.declared.refusal.Refusal.{Refusal}
 use Rattle.mx_top.specs.declared.refusal.SourceFault.{SourceFault}
 use Rattle.mx_top.specs.declared.refusal.SourceFault.TheVariants.{Refused as Refusing, OutOfMemory as NoRoom}
 use Rattle.mx_top.proofs.LoadedItems.{fault-stays}
-use Rattle.mx_top.proofs.TakenLines.{refusal-stays, source-taken}
-
--- ---- what was added before makes no difference
-
-abbrev pub behind_items : List Item → Progress → Progress
-behind_items out p = (out ++ p.0, p.1)
-
-entry-behind : (out front : List Item) (t : Taken) → behind_entry (out ++ front) t ≡ behind_items out (behind_entry front t)
-entry-behind out front (Err refused) = refl
-entry-behind out front (Ok (items, a)) = ap (λ l. (l, Ok a)) (append_assoc out front items)
-
-and-behind : (more : List Item → Assembly → Progress) (out : List Item) → ((front : List Item) (a : Assembly) → more (out ++ front) a ≡ behind_items out (more front a)) →
-    (p : Progress) → and_entries more (behind_items out p) ≡ behind_items out (and_entries more p)
-and-behind more out h (front, Err refused) = refl
-and-behind more out h (front, Ok a) = h front a
-
-entries-behind : (entries : List Entry) (out front : List Item) (a : Assembly) → entries_taken entries (out ++ front) a ≡ behind_items out (entries_taken entries front a)
-unfolding entries_taken
-entries-behind [] out front a = refl
-entries-behind (e ∷ entries) out front a =
-    ap (and_entries (entries_taken entries)) (entry-behind out front (entry_taken a e))
-    ∙ and-behind (entries_taken entries) out (entries-behind entries out) (behind_entry front (entry_taken a e))
-
-unless-behind : (f : Option Refused) (out front : List Item) (a : Assembly) (text : List ℕ) → line_unless f (out ++ front) a text ≡ behind_items out (line_unless f front a text)
-unless-behind (Some refused) out front a text = refl
-unless-behind None out front a text = entries-behind (line_entries (a.lines + 1) text) out front (counted a text)
-
-opening-behind : (b : Bool) (out : List Item) → with_opening b out ≡ out ++ with_opening b []
-opening-behind true out = sym (append-nil out)
-opening-behind false out = refl
-
-line-behind : (out : List Item) (a : Assembly) (text : List ℕ) → line_behind out (Ok a) text ≡ behind_items out (line_behind [] (Ok a) text)
-line-behind out a text =
-    ap (λ l. line_taken l (opened a) text) (opening-behind a.opened out)
-    ∙ unless-behind (count_fault (opened a) text) out (with_opening a.opened []) (opened a) text
-
-abbrev behind_ended : List Item → Ended → Ended
-behind_ended out p = (out ++ p.0, p.1)
-
-trie-behind : (long : Bool) (out front more : List Item) (r : Refused) (trie : List ℕ) →
-    cond {A = Ended} long (out ++ front, Err r) (out ++ front ++ more, Ok trie) ≡ behind_ended out (cond {A = Ended} long (front, Err r) (front ++ more, Ok trie))
-trie-behind true out front more r trie = refl
-trie-behind false out front more r trie = ap (λ l. (l, Ok trie)) (append_assoc out front more)
-
-main-behind : (f : Option AsmFault) (out front : List Item) (a : Assembly) → ended_main (out ++ front) a f ≡ behind_ended out (ended_main front a f)
-main-behind (Some fault) out front a = refl
-main-behind None out front a = trie-behind _ out front _ _ _
-
-waits-behind : (w : Option Wait) (out front : List Item) (a : Assembly) → ended_waits (out ++ front) a w ≡ behind_ended out (ended_waits front a w)
-waits-behind (Some wait) out front a = refl
-waits-behind None out front a = main-behind _ out front a
-
-end-behind : (out : List Item) (a : Assembly) → end_behind out (Ok a) ≡ behind_ended out (end_behind [] (Ok a))
-end-behind out a = ap (λ l. ended l a) (opening-behind a.opened out) ∙ waits-behind _ out (with_opening a.opened []) a
 
 -- ---- items are loaded as they mean
 
@@ -128,11 +73,11 @@ full-only false e h = cc
 -- ---- the lines of a source
 
 module _ (source : List ℕ) (bytes : AreBytes source) where
-  -- what lines before the rest stand for: they were taken, and what was added means something
-  record Stands (front rest : List Line) (out : List Item) (a : Assembly) (s : Loading) : Type 0 where
+  -- what lines before the rest stand for: they were taken, and their items mean something
+  record Stands (front rest : List Line) (a : Assembly) (s : Loading) : Type 0 where
     whole : lines_of source ≡ front ++ rest
-    taken : HasTaken front out (Ok a)
-    loaded : take_items out (Ok nothing) ≡ Ok s
+    taken : HasTaken front (Ok a)
+    loaded : take_items (lines_items front) (Ok nothing) ≡ Ok s
 
   abbrev refused_pages : Option ℕ
   refused_pages = page_refusal (accepted_in (source_entries source))
@@ -155,10 +100,10 @@ module _ (source : List ℕ) (bytes : AreBytes source) where
   image-means none e = λ i. meaning_unless (run_refusal_with (sym none i) (sym e i)) (image (statements_in (source_entries source)))
 
   -- what was added is loaded, so that there is no refusal for pages
-  no-pages : (out : List Item) (s : Loading) → out ≡ lines_items (lines_of source) → take_items out (Ok nothing) ≡ Ok s → refused_pages ≡ None
-  no-pages out s items loaded =
+  no-pages : (lines : List Line) (s : Loading) → lines_items (lines_of source) ≡ lines_items lines → take_items (lines_items lines) (Ok nothing) ≡ Ok s → refused_pages ≡ None
+  no-pages lines s items loaded =
       unrefused (accepted_in (source_entries source))
-      (sym (fault-of (lines_of source) [] (sym (append-nil (lines_of source)))) ∙ ap (λ l. result_err (take_items l (Ok nothing))) (sym items) ∙ ap result_err loaded)
+      (sym (fault-of (lines_of source) [] (sym (append-nil (lines_of source)))) ∙ ap (λ l. result_err (take_items l (Ok nothing))) items ∙ ap result_err loaded)
 
   -- ---- no line is left
 
@@ -174,26 +119,32 @@ module _ (source : List ℕ) (bytes : AreBytes source) where
   image-of (Ok s) m e = cc
   image-of (Err why) m e = absurd (cc)
 
-  ends : (front : List Line) (out : List Item) (a : Assembly) (s : Loading) → Stands front [] out a s → ended_with (Ok s) (end_behind [] (Ok a)) ≡ source_meaning source
-  ends front out a s h = by (refusal source) refl
+  ends : (front : List Line) (a : Assembly) (s : Loading) → Stands front [] a s → ended_with (Ok s) (end_behind [] (Ok a)) ≡ source_meaning source
+  ends front a s h = by (refusal source) refl
     where
       whole : lines_of source ≡ front
       whole = h.whole ∙ append-nil front
 
-      is : behind_ended out (end_behind [] (Ok a)) ≡ assembled_source source
-      is = sym (end-behind out a) ∙ taken-ends front out (Ok a) h.taken ∙ ap assembled_lines (sym whole)
+      grows : GrowsAlike (lines_items front) (assembled_lines front).0 [] (end_behind [] (Ok a)).0
+      grows = taken-grows front [] (Ok a) h.taken
+
+      items : lines_items front ++ (end_behind [] (Ok a)).0 ≡ (assembled_source source).0
+      items = ap (λ l. lines_items front ++ l) grows.added ∙ sym grows.due ∙ ap (λ ls. (assembled_lines ls).0) (sym whole)
+
+      trie : (end_behind [] (Ok a)).1 ≡ (assembled_source source).1
+      trie = taken-ends front [] (Ok a) h.taken ∙ ap (λ ls. (assembled_lines ls).1) (sym whole)
 
       pages : refused_pages ≡ None
-      pages = no-pages out s (h.taken.items ∙ ap lines_items (sym whole)) h.loaded
+      pages = no-pages front s (ap lines_items whole) h.loaded
 
       by : (r : Option Refused) → refusal source ≡ r → ended_with (Ok s) (end_behind [] (Ok a)) ≡ source_meaning source
       by (Some r) e =
-          with-refusal (Ok s) (end_behind [] (Ok a)) r (ap (λ (p : Ended). p.1) is ∙ ap (λ (p : Ended). p.1) (source-refused source r e))
+          with-refusal (Ok s) (end_behind [] (Ok a)) r (trie ∙ ap (λ (p : Ended). p.1) (source-refused source r e))
           ∙ refusal-means r pages e
       by None e =
-          with-trie (Ok s) (end_behind [] (Ok a)) _ (ap (λ (p : Ended). p.1) is ∙ ap (λ (p : Ended). p.1) (source-accepted source e))
-          ∙ ap image_loaded (loaded-behind out (end_behind [] (Ok a)).0 s h.loaded)
-          ∙ ap (λ (p : Ended). image_loaded (told (take_items p.0 (Ok nothing)))) is
+          with-trie (Ok s) (end_behind [] (Ok a)) _ (trie ∙ ap (λ (p : Ended). p.1) (source-accepted source e))
+          ∙ ap image_loaded (loaded-behind (lines_items front) (end_behind [] (Ok a)).0 s h.loaded)
+          ∙ ap (λ l. image_loaded (told (take_items l (Ok nothing)))) items
           ∙ image-of (take_items (assembled_source source).0 (Ok nothing)) (image (statements_in (source_entries source)))
           (run-means source bytes (λ i. run_refusal_with (pages i) (e i)))
           ∙ image-means pages e
@@ -201,15 +152,15 @@ module _ (source : List ℕ) (bytes : AreBytes source) where
   -- ---- a line more
 
   abbrev Whole : List Line → List Line → Type 0
-  Whole front rest = (out : List Item) (a : Assembly) (s : Loading) → Stands front rest out a s →
+  Whole front rest = (a : Assembly) (s : Loading) → Stands front rest a s →
       end_loaded (lines_loaded (length front + 1) rest (standing (Ok a) (Ok s))) ≡ source_meaning source
 
   next : (front texts : List Line) (text : Line) → Whole (front ++ text ∷ []) texts → Whole front (text ∷ texts)
   unfolding lines_loaded
-  next front texts text more out a s h = step (line_behind [] (Ok a) text) refl
+  next front texts text more a s h = step (line_behind [] (Ok a) text) refl
     where
       few : page_fault (accepted_in (lines_entries front)) ≡ None
-      few = sym (fault-of front (text ∷ texts) h.whole) ∙ ap (λ l. result_err (take_items l (Ok nothing))) (sym h.taken.items) ∙ ap result_err h.loaded
+      few = sym (fault-of front (text ∷ texts) h.whole) ∙ ap result_err h.loaded
 
       whole : lines_of source ≡ (front ++ text ∷ []) ++ texts
       whole = h.whole ∙ sym (append_assoc front (text ∷ []) texts)
@@ -221,26 +172,30 @@ module _ (source : List ℕ) (bytes : AreBytes source) where
           ∙ pages-mean (length front + 1)
           (ap (λ ls. page_refusal (accepted_in (lines_entries ls))) h.whole ∙ line-is-refused front texts text few (sym is ∙ ap Some only))
 
-      refuses : (out : List Item) (r : Refused) (t : Loading) → HasTaken (front ++ text ∷ []) out (Err r) → take_items out (Ok nothing) ≡ Ok t → Err (refusal_of r) ≡ source_meaning source
-      refuses out r t taken loaded =
-          let all : HasTaken (lines_of source) out (Err r) =
-          source-taken (lines_of source) out (Err r)
-          (sym (ap lines_taken whole ∙ fold-append line_after ([], Ok beginning) (front ++ text ∷ []) texts ∙ ap (λ p. fold line_after p texts) (sym taken.taken) ∙ refusal-stays texts out r)) in
-          refusal-means r (no-pages out t all.items loaded) (ap (λ f. first_of f (end_refusal (last_line (lines_of source)) (statements_in (source_entries source)))) (sym all.refusal))
+      next_lines : List Line
+      next_lines = front ++ text ∷ []
 
-      by : (items : List Item) (b : Result Assembly Refused) (r : Result Loading Meaningless) → HasTaken (front ++ text ∷ []) (out ++ items) b → take_items (out ++ items) (Ok nothing) ≡ r →
+      refuses : (r : Refused) (t : Loading) → HasTaken next_lines (Err r) → take_items (lines_items next_lines) (Ok nothing) ≡ Ok t → Err (refusal_of r) ≡ source_meaning source
+      refuses r t taken loaded =
+          let all : lines_taken (lines_of source) ≡ (lines_items next_lines, Err r) = ap lines_taken whole ∙ refusal-lasts next_lines texts r taken in
+          refusal-means r (no-pages next_lines t (sym (items-are (lines_of source)) ∙ ap (λ (p : Progress). p.0) all) loaded)
+          (ap (λ f. first_of f (end_refusal (last_line (lines_of source)) (statements_in (source_entries source)))) (sym (refusal-is (lines_of source)) ∙ ap (λ (p : Progress). result_err p.1) all))
+
+      by : (b : Result Assembly Refused) (r : Result Loading Meaningless) → HasTaken next_lines b → take_items (lines_items next_lines) (Ok nothing) ≡ r →
           end_loaded (and_lines (lines_loaded (length front + 1 + 1) texts) (judged (length front + 1) b (told r))) ≡ source_meaning source
-      by items b (Err e) taken loaded =
-          full e (sym (ap result_err loaded) ∙ ap (λ l. result_err (take_items l (Ok nothing))) taken.items ∙ fault-of (front ++ text ∷ []) texts whole)
-      by items (Err r) (Ok t) taken loaded = refuses (out ++ items) r t taken loaded
-      by items (Ok b) (Ok t) taken loaded =
+      by b (Err e) taken loaded = full e (sym (ap result_err loaded) ∙ fault-of next_lines texts whole)
+      by (Err r) (Ok t) taken loaded = refuses r t taken loaded
+      by (Ok b) (Ok t) taken loaded =
           ap (λ n. end_loaded (lines_loaded (n + 1) texts (standing (Ok b) (Ok t)))) (sym (length-append front (text ∷ [])))
-          ∙ more (out ++ items) b t (record { whole = whole; taken = taken; loaded = loaded })
+          ∙ more b t (record { whole = whole; taken = taken; loaded = loaded })
 
       step : (p : Progress) → line_behind [] (Ok a) text ≡ p → end_loaded (and_lines (lines_loaded (length front + 1 + 1) texts) (progress_loaded (length front + 1) (Ok s) p)) ≡ source_meaning source
       step (items, b) e =
-          ap (λ l. end_loaded (and_lines (lines_loaded (length front + 1 + 1) texts) (judged (length front + 1) b l))) (loaded-behind out items s h.loaded)
-          ∙ by items b (take_items (out ++ items) (Ok nothing)) (line-taken front text out (out ++ items) (Ok a) b (sym (line-behind out a text ∙ ap (behind_items out) e)) h.taken) refl
+          let grows = line-grows front text [] items (Ok a) b (sym e) h.taken in
+          let all : lines_items front ++ items ≡ lines_items next_lines = ap (λ l. lines_items front ++ l) grows.added ∙ sym grows.due in
+          ap (λ l. end_loaded (and_lines (lines_loaded (length front + 1 + 1) texts) (judged (length front + 1) b l)))
+          (loaded-behind (lines_items front) items s h.loaded ∙ ap (λ l. told (take_items l (Ok nothing))) all)
+          ∙ by b (take_items (lines_items next_lines) (Ok nothing)) (line-taken front text [] items (Ok a) b (sym e) h.taken) refl
 
   lines-are : (rest front : List Line) → Whole front rest
   unfolding lines_loaded
@@ -249,7 +204,7 @@ module _ (source : List ℕ) (bytes : AreBytes source) where
 
   pub source-is : source_image source ≡ source_meaning source
   unfolding source_image
-  source-is = lines-are (lines_of source) [] [] beginning nothing (record { whole = refl; taken = none-taken; loaded = refl })
+  source-is = lines-are (lines_of source) [] beginning nothing (record { whole = refl; taken = none-taken; loaded = refl })
 
 -- ---- what is answered
 

@@ -1,13 +1,16 @@
-use Rattle.std.proofs.Common.{sym, subst}
-use Rattle.mx_asm.specs.Fitting.{AreFit}
-use Rattle.mx_asm.proofs.Fitting.{fit-both, fit-front}
+use Rattle.std.proofs.Common.{rules, ◌≡◌, ◌++◌, ◌∷◌, [], ap, subst, sym, ◌∙◌, append_assoc}
+use Rattle.mx_asm.specs.Fitting.{AreFit, GrowsFit}
+use Rattle.mx_asm.proofs.Fitting.{grows-next, fit-rest}
 use Rattle.mx_asm.proofs.lines.append.Goals as goal
 
-pub returns-in_err-push-clause-fits : goal.returns-in_err-push-clause-fits
-returns-in_err-push-clause-fits c = λ fit more.
-    subst AreFit (sym c.in_err-push.ensures.err)
-    (fit-front c.loop-item.out c.loop-item.item-iterator.rest.items (subst AreFit (sym c.loop-item.invariant) (fit-both c.args.out.now c.args.items fit more)))
-
-pub returns-clause-fits : goal.returns-clause-fits
-returns-clause-fits c = λ fit more.
-    fit-front c.loop-item.out c.loop-item.item-iterator.rest.items (subst AreFit (sym c.loop-item.invariant) (fit-both c.args.out.now c.args.items fit more))
+pub loop-item-preserved : goal.loop-item-preserved
+loop-item-preserved c =
+    let rest = c.next.new.self.rest.items in
+    let next : c.loop-item.item-iterator.rest.items ≡ c.in-Some.item ∷ rest = search rules in
+    let pushed : c.loop-item.out ++ c.in-Some.item ∷ [] ≡ c.push.new.self = search rules in (
+      ap (λ l. l ++ rest) (sym pushed) ∙ append_assoc c.loop-item.out (c.in-Some.item ∷ []) rest ∙ ap (λ l. c.loop-item.out ++ l) (sym next) ∙ c.loop-item.invariant.0,
+      λ fit.
+          let so_far = c.loop-item.invariant.1 fit in
+          let more = subst AreFit next so_far.1 in
+          (subst (GrowsFit c.args.out.now) pushed (grows-next _ _ rest c.in-Some.item so_far.0 more), fit-rest c.in-Some.item rest more),
+    )

@@ -3,6 +3,7 @@ use Rattle.std.proofs.lemmas.Result.{err_from_is_err_and}
 use Rattle.mx_asm.proofs.LineEntries.{taken-none, taken-fault, taken-failed, taken-next, taken-front, within-line}
 use Rattle.mx_asm.proofs.Sparing.{no-statement}
 use Rattle.mx_asm.specs.Fronts.{IsFront}
+use Rattle.mx_asm.proofs.Fitting.{grows-on}
 use Rattle.mx_asm.proofs.Fronts.{front-same, front-trans}
 use Rattle.mx_asm.proofs.lines.take_statements.Goals as goal
 
@@ -25,7 +26,7 @@ statements-preserved c = (
       (c.in_ok-take_cut-in-Ok-Some.ensures.taken (λ same. cc))
       ∙ c.statements.invariant.1,
   λ none. absurd (no-statement c.args.text.now c.statements.at c.in-Ok-Some.field-0 c.in-Ok-Some.cut (c.statements.invariant.2 none) (cc) c.in-Ok-Some.ensures.list none),
-  λ fit. c.in_ok-take_cut-in-Ok-Some.ensures.fits (c.statements.invariant.3 fit),
+  grows-on _ _ _ c.statements.invariant.3 c.in_ok-take_cut-in-Ok-Some.ensures.fits,
 )
 
 pub returns-in-Err-clause-taken : goal.returns-in-Err-clause-taken
@@ -51,3 +52,6 @@ returns-in_err-take_cut-in-Ok-Some-clause-front c =
 pub returns-in_err-take_cut-in-Ok-Some-clause-sparing : goal.returns-in_err-take_cut-in-Ok-Some-clause-sparing
 returns-in_err-take_cut-in-Ok-Some-clause-sparing c = λ none.
     absurd (no-statement c.args.text.now c.statements.at c.in-Ok-Some.field-0 c.in-Ok-Some.cut (c.statements.invariant.2 none) (cc) c.in-Ok-Some.ensures.list none)
+
+pub returns-in_err-take_cut-in-Ok-Some-clause-fits : goal.returns-in_err-take_cut-in-Ok-Some-clause-fits
+returns-in_err-take_cut-in-Ok-Some-clause-fits c = grows-on _ _ _ c.statements.invariant.3 c.in_err-take_cut-in-Ok-Some.ensures.fits

@@ -1,7 +1,7 @@
 use Rattle.std.proofs.Common.{◌≡◌, ◌≤◌, ◌-◌, false, length}
 use Rattle.mx_asm.proofs.LineEntries.{taken_from}
 use Rattle.mx_asm.specs.Entries.{line_entries, holds_statement}
-use Rattle.mx_asm.specs.Fitting.{AreFit}
+use Rattle.mx_asm.specs.Fitting.{GrowsFit}
 use Rattle.mx_asm.specs.OnePass.{entries_taken}
 use Rattle.mx_asm.proofs.lines.take_statements.Given as goal
 
@@ -10,7 +10,7 @@ invariant-statements l =
     (l.at ≤ length l.text)
     × (taken_from l.line l.text l.at l.out l.assembly ≡ entries_taken (line_entries l.line l.text) l.fn.out l.fn.assembly)
     × (holds_statement l.text ≡ false → l.at ≡ 0)
-    × (AreFit l.fn.out → AreFit l.out)
+    × GrowsFit l.fn.out l.out
 
 abbrev pub decreases-statements : goal.decreases-statements
 decreases-statements l = length l.text - l.at
