@@ -41,8 +41,10 @@ subtrie-part (grammar.IsSubtrie.passage path name character wide l r left middle
     let m : Part 1 1 middle = subtrie-part hm in
     let b : Part 1 r right = subtrie-part hr in
     record {
-      are = (omega (arith, c.small, a.small, b.small),
-        bytes-append (left ++ character ++ middle) right (bytes-append (left ++ character) middle (bytes-append left character a.are c.are) m.are) b.are);
+      are = (
+        omega (arith, c.small, a.small, b.small),
+        bytes-append (left ++ character ++ middle) right (bytes-append (left ++ character) middle (bytes-append left character a.are c.are) m.are) b.are,
+      );
       small = omega arith;
     }
 subtrie-part (grammar.IsSubtrie.symbol path name character wide l m r kind serial value left told counted middle right before below after hc long hv hs hl hm hr) =
@@ -52,11 +54,13 @@ subtrie-part (grammar.IsSubtrie.symbol path name character wide l m r kind seria
     let d : Part 1 m middle = subtrie-part hm in
     let b : Part 1 r right = subtrie-part hr in
     record {
-      are = (omega (arith, c.small, v.small, a.small, d.small, b.small),
+      are = (
+        omega (arith, c.small, v.small, a.small, d.small, b.small),
         bytes-append (left ++ character ++ told ++ counted ++ middle) right
-        (bytes-append (left ++ character ++ told ++ counted) middle
-        (bytes-append (left ++ character ++ told) counted
-        (bytes-append (left ++ character) told (bytes-append left character a.are c.are) v.are) (serial-bytes hs)) d.are) b.are);
+            (bytes-append (left ++ character ++ told ++ counted) middle
+            (bytes-append (left ++ character ++ told) counted
+            (bytes-append (left ++ character) told (bytes-append left character a.are c.are) v.are) (serial-bytes hs)) d.are) b.are,
+      );
       small = omega arith;
     }
 
