@@ -1,4 +1,5 @@
 -- The faults of sources: their numbers, and refusals.
+-- A rule of this program.
 use Rattle.std.specs.Prelude.{ℕ}
 use Rattle.mx_line.specs.Faults as lines
 use Rattle.mx_stmt.specs.Faults as statements

@@ -1,5 +1,6 @@
 -- The pages that statements touch: at most 65,536 are loaded. The first statement that passes them is refused when a source
 -- is run.
+-- A rule of this program.
 use Rattle.std.specs.Prelude.{◌≡◌, ℕ, Bool, nat_le, if◌then◌else◌, List, [], ◌∷◌, ◌++◌, Option, None, Some, Result, Ok, Err}
 use Rattle.std.specs.List.{AllByRecursion}
 use Rattle.mx_mmo.specs.Image.{Image}

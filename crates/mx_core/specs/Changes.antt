@@ -1,4 +1,5 @@
 -- What a user changes at the console: a register, a special register, an octa of memory, the next address.
+-- A rule of this program.
 use Rattle.std.specs.Prelude.{ℕ, ◌≡◌, ◌≤◌, ◌<◌, ◌^◌, ◌/◌, ◌*◌, Bool, ◌==◌, if◌then◌else◌, Result, Ok, Err}
 use Rattle.mx_ring.specs.Stack.{set_overfills, cut_to, with_global_start}
 use Rattle.mx_spec.specs.Puts.{put_of}

@@ -1,4 +1,5 @@
 -- What a step carries out: the instruction that was fetched, or the one that RESUME inserts.
+-- (MMIXware, the part on MMIX: instructions, and RESUME; TAOCP 1, Fascicle 1, section 1.3.1'.)
 use Rattle.std.specs.Prelude.{ℕ, ◌+◌, ◌*◌, ◌/◌, ◌%◌, ◌^◌, ◌==◌, ◌&&◌, ◌||◌, not, nat_le, min, Bool, true, false, if◌then◌else◌, List, [], ◌∷◌, Option, None, Some, Result, Ok, Err}
 use Rattle.std.specs.Option.{unwrap_or}
 use Rattle.mx_ring.specs.Stack.{Stack, register, hidden_count, in_stack_area, stack_index, pushed, popped, saved, unsaved, cut_to, with_global_start}

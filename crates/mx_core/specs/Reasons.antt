@@ -1,4 +1,5 @@
 -- The numbers of the reasons why the machine stops.
+-- A rule of this program.
 use Rattle.std.specs.Prelude.{ℕ}
 use Rattle.mx_core.specs.declared.reason.Reason.{Reason}
 use Rattle.mx_core.specs.declared.reason.Reason.TheVariants.{Float, Illegal, Privileged, Negative, StackFull, Underflow, BadFrame, UnhandledTrip, PagesFull, ResumeInsert}

@@ -1,4 +1,5 @@
 -- What hexadecimal digits count, and the bytes of strings.
+-- (MMIXware, the part on MMIXAL: constants and strings; TAOCP 1, Fascicle 1, section 1.3.2'.)
 use Rattle.std.specs.Prelude.{ℕ, ◌-◌, Bool, not, ◌==◌, ◌&&◌, nat_le, if◌then◌else◌}
 pub use Rattle.mx_word.specs.Kinds.{is_digit, is_hexadecimal, is_letter, is_name_byte}
 

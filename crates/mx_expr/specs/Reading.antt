@@ -1,5 +1,7 @@
 -- How the code reads an operand field, byte by byte. That it reads what `Spelling` says is the law
 -- `fields_are_read_as_spelled`.
+-- (MMIXware, the part on MMIXAL: expressions; TAOCP 1, Fascicle 1, section 1.3.2'.) How many parentheses and which
+-- constants are taken: a rule of this program.
 use Rattle.std.specs.Prelude.{ℕ, ◌+◌, ◌-◌, ◌*◌, ◌^◌, List, [], ◌∷◌, ◌++◌, Bool, true, false, ◌==◌, ◌&&◌, nat_le, if◌then◌else◌, Option, None, Some, Result, Ok, Err}
 use Rattle.mx_expr.specs.declared.faults.ExprFault.{ExprFault}
 use Rattle.mx_expr.specs.declared.faults.ExprFault.TheVariants.{Syntax, TooWide, TooDeep, EmptyString}

@@ -1,4 +1,5 @@
 -- The numbers of the refusals of the register stack.
+-- A rule of this program.
 use Rattle.std.specs.Prelude.{ℕ}
 use Rattle.mx_ring.specs.declared.fault.RingFault.{RingFault}
 use Rattle.mx_ring.specs.declared.fault.RingFault.TheVariants.{StackFull, Underflow, BadFrame, OutOfMemory}

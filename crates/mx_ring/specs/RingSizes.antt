@@ -1,4 +1,5 @@
 -- How many registers a ring may have.
+-- A rule of this program.
 use Rattle.std.specs.Prelude.{ℕ, Bool, ◌&&◌, nat_le, Option, Some, None, if◌then◌else◌}
 use Rattle.std.specs.Int.{is_power_of_two}
 

@@ -1,5 +1,6 @@
 -- The register stack, as a list or as a window. One definition of each operation and each refusal serves both: they
 -- differ in where the hidden octas lie.
+-- (MMIXware, the part on MMIX, "The register stack"; TAOCP 1, Fascicle 1, section 1.4.1'.)
 use Rattle.std.specs.Prelude.{ℕ, ◌+◌, ◌-◌, ◌*◌, ◌/◌, ◌%◌, ◌^◌, ◌||◌, ◌&&◌, Bool, not, max, nat_lt, nat_le, if◌then◌else◌, List, [], ◌∷◌, ◌++◌, length, take, drop, slice_index}
 use Rattle.mx_ring.specs.Frames.{frame_length, frame, frame_bottom, is_bad_frame, frame_specials, frame_registers}
 use Rattle.mx_ring.specs.HiddenPart.{octas_of, with_hidden, with_spilled, with_room, with_first, with_stack_first, with_octa}

@@ -38,7 +38,8 @@ pub fn calls_go_as_lists()
     ensures pop { (w : Window) (x : ℕ) → IsRing w → GoesAsList w (λ s. popped s x) }
 {}
 
-/// So does SAVE where it is not refused, and UNSAVE below the number of spilled octas.
+/// SAVE where it is not refused, and UNSAVE below the number of spilled octas, do the same for a ring and for the
+/// list that it stands for.
 pub fn frames_go_as_lists()
     ensures save { (w : Window) (x : ℕ) (specials : Saved) → IsRing w → save_overfills (windowed w) ≡ false
         → GoesAsList w (λ s. saved s x specials) }
@@ -69,7 +70,7 @@ pub fn writes_keep_rings()
     ensures stack_octa { (w : Window) (i x : ℕ) → IsRing w → BecomesRing w (λ s. with_stack_octa s i x) }
 {}
 
-/// So do PUSH and POP where they are not refused.
+/// PUSH and POP, where they are not refused, keep what holds of a ring.
 pub fn calls_keep_rings()
     ensures push { (w : Window) (x : ℕ) → IsRing w → push_overfills (windowed w) x ≡ false
         → BecomesRing w (λ s. pushed s x) }
@@ -77,8 +78,8 @@ pub fn calls_keep_rings()
         → BecomesRing w (λ s. popped s x) }
 {}
 
-/// So do SAVE and UNSAVE where they are not refused; the octa that UNSAVE reads first is below 2^64,
-/// as each octa of a machine is.
+/// SAVE and UNSAVE, where they are not refused, keep what holds of a ring; the octa that UNSAVE reads first is below
+/// 2^64, as each octa of a machine is.
 pub fn frames_keep_rings()
     ensures save { (w : Window) (x : ℕ) (specials : Saved)
         → IsRing w → w.visible.first_global ≤ x → save_overfills (windowed w) ≡ false

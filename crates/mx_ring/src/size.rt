@@ -35,7 +35,7 @@ impl RingSize {
         None
     }
 
-    /// The number of registers.
+    /// The number of registers of the ring: a power of two from 256 to 65,536.
     pub fn registers(&self) -> u32
         ensures { result ≡ self.now }
     {

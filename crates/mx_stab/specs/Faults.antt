@@ -1,4 +1,5 @@
 -- The numbers and places of the faults of symbol tries.
+-- A rule of this program.
 use Rattle.std.specs.Prelude.{ℕ, Option, Some, None}
 use Rattle.mx_stab.specs.declared.faults.StabFault.{StabFault}
 use Rattle.mx_stab.specs.declared.faults.StabFault.TheVariants.{Truncated, Padding, Wide, Twice, TooLong, BadSerial, OutOfMemory}

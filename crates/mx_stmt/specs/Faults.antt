@@ -1,4 +1,5 @@
 -- The faults of statements: their numbers, and those that come from expressions.
+-- A rule of this program.
 use Rattle.std.specs.Prelude.{ℕ}
 use Rattle.mx_expr.specs.declared.faults.ExprFault.TheVariants as expr
 use Rattle.mx_expr.specs.declared.faults.ExprFault.{ExprFault}
