@@ -3,7 +3,7 @@
 //! `Host` is the outside as a trait, and `MemHost` a host that keeps all of it in memory. A host may
 //! tell its contents, as a model of files, slots and streams; then each call answers by the rules
 //! over that model. Of a host that tells nothing only the count of its faults is known. The calls
-//! are what the file traps of MMIX need (MMIXware, MMIX-SIM; TAOCP 1, Fascicle 1, section 1.3.1').
+//! are what the file traps of MMIX need (MMIXware, MMIX-SIM).
 #![tactic(auto)]
 
 mod faults;

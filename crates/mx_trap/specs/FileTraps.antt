@@ -1,5 +1,5 @@
--- What a file trap does, answers and leaves (MMIXware, MMIX-SIM, "Simulating a simple operating system"; TAOCP 1,
--- Fascicle 1, section 1.4.3').
+-- What a file trap does, answers and leaves (MMIXware, MMIX-SIM, "Simulating a simple operating
+-- system").
 use Rattle.std.specs.Prelude.{ℕ, ℤ, ◌==◌, List, Option, None, Some, Result, Ok, Err, if◌then◌else◌}
 use Rattle.mx_mem.specs.Space.{Contents}
 use Rattle.mx_host.specs.HostModel.{HostModel}

@@ -1,7 +1,7 @@
 //! File traps: the calls of the operating system that read and write files and streams.
 //!
-//! The rules are those of MMIX-SIM (MMIXware, LNCS 1750, "Simulating a simple operating system") and
-//! of TAOCP 1, Fascicle 1, section 1.4.3', "Elementary input/output".
+//! The rules are those of MMIX-SIM (MMIXware, LNCS 1750, "Simulating a simple operating
+//! system").
 #![tactic(auto)]
 
 mod answer;
