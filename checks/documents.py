@@ -6,14 +6,15 @@
   clauses and definitions of docs/PROVED.md. In a path a word of capitals, as NAME, or a * stands for any word.
 - A table of CONTRIBUTING.md with the head "`WORD` in" names the files of sources, definitions and proofs that have the word.
 - The numbers and names of docs/MESSAGES.md are those of the program's table.
-- The blocks marked `console` on every page are run on the program, if it is built and no source is newer: a line that
-  begins with "$ " is a command, and the lines after it are what it prints. Where a block has a console session whose
+- The blocks marked `console` on every page are run on the program that is kept, if it is that of these sources: a line
+  that begins with "$ " is a command, and the lines after it are what it prints. Where a block has a console session whose
   input is no file, what stands behind each prompt is typed. A block marked `mms NAME` is a file that the reader has
   saved under that name. Nothing is built here.
 - The examples of docs/MESSAGES.md give the number and name of their row: words of a command line, a source of one line, or
   an object in hexadecimal tetras. Of what beginners write, the mended source gives no message.
 - The examples of the manual page are run where the sources of examples/ are, with the program on the path.
 """
+import functools
 import glob
 import os
 import re
@@ -24,7 +25,7 @@ import sys
 import tempfile
 
 TOP = os.path.dirname(os.path.dirname(os.path.realpath(__file__)))
-PROGRAM = "crates/mmixware/out/mmixware"
+PROGRAM = ".built/mmixware"
 PROMPT = "mmix> "
 wrongs = []
 
@@ -206,11 +207,10 @@ def printed(commands, typed, folder, room):
     return subprocess.run(["sh", "-c", script], **how).stdout.decode(errors="replace")
 
 
+@functools.cache
 def is_fresh():
-    if not os.access(PROGRAM, os.X_OK):
-        return False
-    made = os.path.getmtime(PROGRAM)
-    return all(os.path.getmtime(it) <= made for it in glob.glob("crates/*/src/**/*.rt", recursive=True))
+    """Whether the program that is kept was built from these sources."""
+    return subprocess.run(["sh", "-c", "here=$PWD; . packaging/kept.sh; is_ready"]).returncode == 0
 
 
 def with_room(call, saved=None):

@@ -1,12 +1,18 @@
 #!/bin/sh
-# Tries ./mmixware, ./try, ./install, and what ./release refuses, in a small repository of its own, whose program and whose
-# `rt` are scripts of a line or two. It prints only what is wrong.
+# Tries ./mmixware, ./try, ./install, and what ./release refuses, in small repositories of its own, whose program and
+# whose `rt` are scripts of a few lines. It prints only what is wrong.
 here=$(cd "$(dirname "$0")/.." && pwd) || exit 1
 room=$(mktemp -d) || exit 1
 trap 'rm -rf "$room"' EXIT
 trap 'exit 1' INT TERM
 cd "$room" || exit 1
+PATH=$room/bin:$PATH
 bad=0
+
+wrong() {
+  echo "checks/scripts.sh: $*" >&2
+  bad=1
+}
 
 # what a command prints, standard error among it, and its status have to be these
 prints() {
@@ -14,33 +20,181 @@ prints() {
   shift
   got=$("$@" 2>&1; echo "status $?")
   if [ "$got" != "$wanted" ]; then
-    printf 'checks/scripts.sh: %s\nprints\n%s\nand has to print\n%s\n' "$*" "$got" "$wanted" >&2
-    bad=1
+    wrong "$(printf '%s\nprints\n%s\nand has to print\n%s' "$*" "$got" "$wanted")"
   fi
 }
 
-mkdir -p repo/crates/mmixware/src repo/crates/mmixware/out repo/docs bin
-cp "$here/mmixware" "$here/install" "$here/try" "$here/release" "$here/grade" repo
-cp "$here"/docs/*.1 repo/docs
-cp -R "$here/completion" repo
-echo 'mmixware:' >repo/crates.txt
-echo 'fn main() {}' >repo/crates/mmixware/src/main.rt
-cat >bin/rt <<'END'
+# makes a repository of two crates and one that the program does not stand on
+make_repository() {
+  for crate in mmixware mx_word mx_rows; do
+    mkdir -p "$1/crates/$crate/src"
+    echo 'fn main() {}' >"$1/crates/$crate/src/main.rt"
+  done
+  mkdir "$1/.git" "$1/docs" "$1/packaging"
+  printf '# Crates.\nmx_word: thiserror\nmx_rows: mx_word\nmmixware: mx_word\n' >"$1/crates.txt"
+  cp "$here/mmixware" "$here/install" "$here/try" "$here/release" "$here/grade" "$1"
+  cp "$here/packaging/kept.sh" "$1/packaging"
+  cp "$here"/docs/*.1 "$1/docs"
+  cp -R "$here/completion" "$1"
+}
+
+# what rt does: it builds a program, and sets each out/ aside for the gate; before that it does what $meanwhile says
+rt_builds() {
+  cat >bin/rt <<'END'
 #!/bin/sh
+build() {
+  printf '#!/bin/sh\necho built "$@"\n' >"$1/mmixware"
+  chmod +x "$1/mmixware"
+}
 case $1 in
-  all) echo 'rt: waiting for another rt to finish in here' >&2; echo '== mx_word' ;;
-  run) printf '#!/bin/sh\necho built "$@"\n' >out/mmixware; chmod +x out/mmixware; echo 'linked out/mmixware' >&2 ;;
+  all)
+    mkdir -p out
+    echo 'rt: waiting for another rt to finish in here' >&2
+    printf '== mx_word\nmx_word: proved\n== mmixware\n== summary\n'
+    sh -c "$meanwhile"
+    ;;
+  run)
+    build out
+    echo 'linked out/mmixware' >&2
+    ;;
+  ci)
+    exec 8>.git/rt-ci.lock
+    flock 8
+    rm -rf crates/*/out
+    for crate in crates/*; do
+      mkdir "$crate/out"
+    done
+    sleep 0.1
+    sh -c "$meanwhile" 8>&-
+    build crates/mmixware/out
+    sleep 0.1
+    cp crates/mmixware/out/mmixware crates/mmixware/out/mmixware.by-rattle
+    ;;
 esac
 END
-chmod +x bin/rt
-PATH=$room/bin:$PATH
+  chmod +x bin/rt
+}
 
-prints 'mmixware: proving and building the program; from nothing this took 26 minutes on four processors
-mmixware: rt: waiting for another rt to finish in here
-mmixware: checked mx_word
-mmixware: the program is built
+# from here on nothing is built
+rt_fails() {
+  echo 'exit 1' >bin/rt
+}
+
+gate() (
+  cd "$1" && rt ci
+)
+
+# begins a gate of a second, and waits until it has set each out/ aside
+begin_gate() {
+  rm -f begun
+  meanwhile="touch $room/begun; sleep 1" sh -c 'cd "$0" && exec rt ci' "$1" &
+  running=$!
+  while [ ! -e begun ]; do
+    sleep 0.05
+  done
+}
+
+proving='mmixware: proving and building the program; from nothing this took 26 minutes on four processors'
+progress='mmixware: waiting for another rt to finish in here
+mmixware: 1 of 2 crates, 0 minutes
+mmixware: 2 of 2 crates, 0 minutes'
+building="$proving
+$progress
+mmixware: the program is built"
+failing="$proving
+mmixware: the program was not built; the lines above are the last that rt said"
+mkdir bin
+meanwhile=
+export meanwhile
+
+# the first command, then the gate: during it and when it is cut off the program that is kept answers at once
+make_repository repo
+rt_builds
+prints "$building
 built a b  c
-status 0' repo/mmixware a 'b  c'
+status 0" repo/mmixware a 'b  c'
+begin_gate repo
+prints 'built a
+status 0' repo/mmixware a
+kill "$running"
+wait "$running" 2>/dev/null
+prints 'built a
+status 0' repo/mmixware a
+[ ! -e repo/crates/mmixware/out/mmixware ] || wrong 'the gate was not cut off'
+gate repo
+prints 'built a
+status 0' repo/mmixware a
+
+# the gate, then the first command, which proves nothing
+make_repository gated
+gate gated
+rt_fails
+prints 'built a
+status 0' gated/mmixware a
+cmp gated/.built/mmixware.sums repo/.built/mmixware.sums || bad=1
+
+# during the gate, where no program is kept: it waits, and takes over what the gate has built
+rt_builds
+make_repository waiting
+begin_gate waiting
+prints 'mmixware: waiting for the rt ci or ./mmixware that runs here
+built a
+status 0' waiting/mmixware a
+wait "$running" 2>/dev/null
+
+# a gate during which a source, or a folder of them, was moved away and put back; and one whose program is not whole
+for moved in crates/mx_word/src/main.rt crates/mx_word/src; do
+  rm -rf again
+  make_repository again
+  meanwhile="mv $moved away; mv away $moved"
+  gate again
+  meanwhile=
+  rt_fails
+  prints "$failing
+status 1" again/mmixware a
+  rt_builds
+done
+gate again
+touch again/crates/mmixware/out/mmixware
+rt_fails
+prints "$failing
+status 1" again/mmixware a
+
+# a gate's repository in which a source was changed afterwards and given an old time, and copies of it
+rt_builds
+gate again
+echo '// changed' >>again/crates/mx_word/src/main.rt
+touch -d '2 days ago' again/crates/mx_word/src/main.rt
+rt_fails
+prints "$failing
+status 1" again/mmixware a
+for how in -R -a; do
+  cp $how again "again$how"
+  sleep 0.1
+  prints "$failing
+status 1" "again$how/mmixware" a
+done
+
+# a first command that is cut off leaves a part of a program, which is not run, nor is one whose sources were changed
+rt_builds
+make_repository cut
+meanwhile='echo part >out/mmixware; chmod +x out/mmixware; sleep 1'
+cut/mmixware a >said 2>&1 &
+running=$!
+while [ ! -e cut/crates/mmixware/out/mmixware ]; do
+  sleep 0.05
+done
+kill "$running"
+wait "$running" 2>/dev/null
+[ -z "$(ls cut/.built)" ] || wrong 'a first command that is cut off leaves something behind'
+meanwhile='echo "// changed" >>../mx_word/src/main.rt'
+prints "$building
+mmixware: the sources were changed while the program was built: call it again
+status 1" cut/mmixware a
+meanwhile=
+prints "$building
+built a
+status 0" cut/mmixware a
 
 # ./try hands on its words, and the files that they name from the folder that it is called in
 cat >bin/rt <<'END'
@@ -61,10 +215,8 @@ status 64" repo/try run "../$(basename "$room")/a.mms"
 prints 'try: usage: ./try WORDS...  as in ./try run examples/hello.mms
 status 64' repo/try
 
-# from here on nothing is built
-echo 'exit 1' >bin/rt
-
 # through links: one beside the repository, one to that one, and a folder
+rt_fails
 ln -s repo/mmixware link
 mkdir far
 ln -s ../link far/mmixware
@@ -74,17 +226,31 @@ for name in ./link far/mmixware "$room/far/mmixware" folder/mmixware; do
 status 0' "$name" a
 done
 
-# from a copy whose times are all new, and then with a change in it
+# from a copy whose times are all new, without what rt made; there and back; with a change that the program does not
+# stand on; with another program; and with a change that the program stands on
 cp -r repo 'a copy'
+rm -r 'a copy/crates/mmixware/out'
 sleep 0.1
 touch 'a copy/crates.txt' 'a copy/crates/mmixware/src/main.rt'
 prints 'built a
 status 0' 'a copy/mmixware' a
-sleep 0.1
+mv 'a copy/crates/mx_word/src/main.rt' 'a copy/crates/mx_word/src/other.rt'
+prints "$failing
+status 1" 'a copy/mmixware' a
+mv 'a copy/crates/mx_word/src/other.rt' 'a copy/crates/mx_word/src/main.rt'
+prints 'built a
+status 0' 'a copy/mmixware' a
+echo '// changed' >>'a copy/crates/mx_rows/src/main.rt'
+prints 'built a
+status 0' 'a copy/mmixware' a
+cp 'a copy/.built/mmixware' good
+echo '# changed' >>'a copy/.built/mmixware'
+prints "$failing
+status 1" 'a copy/mmixware' a
+cp good 'a copy/.built/mmixware'
 echo '// changed' >>'a copy/crates/mmixware/src/main.rt'
-prints 'mmixware: proving and building the program; from nothing this took 26 minutes on four processors
-mmixware: the program was not built; the lines above are the last that rt said
-status 1' 'a copy/mmixware' a
+prints "$failing
+status 1" 'a copy/mmixware' a
 prints 'release: the program is not built from these sources: first call ./mmixware --version, or rt ci
 status 1' 'a copy/release' "$room/made"
 
@@ -112,8 +278,7 @@ status 0' to/bin/mmixware a
 # the manual page of the grader has each of its options
 for option in $(repo/grade --help | grep -o -e '--[a-z]*'); do
   if ! sed 's/\\-/-/g' "$here/docs/grade.1" | grep -q -e "$option"; then
-    echo "checks/scripts.sh: docs/grade.1 has no $option" >&2
-    bad=1
+    wrong "docs/grade.1 has no $option"
   fi
 done
 
