@@ -4,7 +4,7 @@
 # Usage: bench/measure.sh [PROGRAM [OTHER]]
 # OTHER is another simulator that takes an object file; it is timed in turns with PROGRAM on the loops, and the ratio told.
 here=$(cd "$(dirname "$0")/.." && pwd) || exit 1
-program=$(realpath "${1:-$here/crates/mmixware/out/mmixware}") || exit 1
+program=$(realpath "${1:-$here/.built/mmixware}") || exit 1
 other=${2:+$(realpath "$2")} || exit 1
 folder=$(mktemp -d) || exit 1
 trap 'rm -r "$folder"' EXIT

@@ -49,12 +49,12 @@ if command -v dpkg-deb >/dev/null; then
   sh checks/release.sh || bad=1
 fi
 
-# the grader gives each solution its verdict
-sh checks/grade/test.sh || bad=1
-
 # what the documents say is so
 if command -v python3 >/dev/null; then
   python3 checks/documents.py || bad=1
 fi
+
+# the grader gives each solution its verdict
+sh checks/grade/test.sh || bad=1
 
 exit $bad

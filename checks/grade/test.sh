@@ -4,7 +4,7 @@
 # nothing, and leaves nothing behind. Without a built program nothing is tested.
 cd "$(dirname "$0")/../.." || exit 1
 top=$(pwd)
-program=${1:-$top/crates/mmixware/out/mmixware}
+program=${1:-$top/.built/mmixware}
 [ -x "$program" ] || exit 0
 room=$(mktemp -d) || exit 1
 trap 'cd /; rm -rf "$room"' EXIT
