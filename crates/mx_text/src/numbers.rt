@@ -40,7 +40,7 @@ pub fn octa_hex(x: u64) -> [u8; 17]
     text
 }
 
-/// An octa in one of the forms.
+/// The text of an octa in one of the forms. It refuses only where it is out of memory.
 pub fn shown(alloc: Global, x: u64, form: Form) -> Result<Bytes, NoMemory>
     ensures { IfOk result (λ text. text ≡ spec.shown_text form x) }
 {
