@@ -1,16 +1,18 @@
 #!/usr/bin/env python3
 """Checks what the documents say against the repository, and prints only what is wrong.
 
-- Links lead to files. Each crate is described, and what it offers stands in docs/PROVED.md.
+- Links lead to files, and to headings in them. Each crate is described, and what it offers stands in docs/PROVED.md.
 - Names in backquotes are there: crates `mx_..`, paths, the modules that docs/ARCHITECTURE.md names, and the files,
   clauses and definitions of docs/PROVED.md. In a path a word of capitals, as NAME, or a * stands for any word.
+- A table of CONTRIBUTING.md with the head "`WORD` in" names the files of sources, definitions and proofs that have the word.
 - The numbers and names of docs/MESSAGES.md are those of the program's table.
 - The blocks marked `console` on every page are run on the program, if it is built and no source is newer: a line that
   begins with "$ " is a command, and the lines after it are what it prints. Where a block has a console session whose
   input is no file, what stands behind each prompt is typed. A block marked `mms NAME` is a file that the reader has
   saved under that name. Nothing is built here.
 - The examples of docs/MESSAGES.md give the number and name of their row: words of a command line, a source of one line, or
-  an object in hexadecimal tetras.
+  an object in hexadecimal tetras. Of what beginners write, the mended source gives no message.
+- The examples of the manual page are run where the sources of examples/ are, with the program on the path.
 """
 import glob
 import os
@@ -50,15 +52,32 @@ def lines_of(page):
             yield f"{page}:{number}", line
 
 
+def cells_of(line):
+    """The cells of a row of a table."""
+    return [it.replace("\\|", "|") for it in re.findall(r" ((?:[^|\\]|\\.)*) \|", line)]
+
+
 def is_there(path):
     return "/out" in path or bool(glob.glob(re.sub(r"\b[A-Z]{4,}\b(?!\.md)", "*", path)))
+
+
+def anchors(page):
+    """The headings of a page, as a link names them: in small letters, with dashes for blanks."""
+    heads = re.findall(r"^#+ (.*)$", text_of(page), re.M)
+    return {re.sub(r"[^\w\- ]", "", it.lower()).replace(" ", "-") for it in heads}
+
+
+def leads_somewhere(page, link):
+    name, _, heading = link.partition("#")
+    path = os.path.join(os.path.dirname(page), name) if name else page
+    return os.path.exists(path) and (not heading or heading in anchors(path))
 
 
 def check_links_and_paths():
     for page in pages():
         for where, line in lines_of(page):
-            for link in re.findall(r"\]\(([^)#]+)", line):
-                if not link.startswith("http") and not os.path.exists(os.path.join(os.path.dirname(page), link)):
+            for link in re.findall(r"\]\(([^)]+)\)", line):
+                if not link.startswith("http") and not leads_somewhere(page, link):
                     wrong(where, f"the link to {link} leads nowhere")
             for name in re.findall(r"`([^`\s]+)`", line):
                 if re.fullmatch(r"mx_\w+", name) and not os.path.isdir(f"crates/{name}"):
@@ -126,6 +145,31 @@ def check_claims():
                     wrong(where, f"{path} has no such clause as {name}")
 
 
+def sources_with(word):
+    """The files of code, definitions and proofs that have a word."""
+    every = glob.glob("crates/*/src/**/*.rt", recursive=True)
+    every += [it for part in ("specs", "proofs") for it in glob.glob(f"crates/*/{part}/**/*.antt", recursive=True)]
+    return {it for it in every if re.search(rf"\b{word}\b", text_of(it))}
+
+
+def check_file_tables():
+    listed = {}
+    for where, line in lines_of("CONTRIBUTING.md"):
+        cells = cells_of(line)
+        head = re.fullmatch(r"`(\w+)` in", cells[0]) if cells else None
+        if head:
+            listed[head[1]] = (where, set())
+        elif listed and len(cells) == 2 and cells[0].startswith("`crates/"):
+            folder, names = cells[0].strip("`"), re.findall("`([^`]+)`", cells[1])
+            [*listed.values()][-1][1].update(f"{folder}/{it}" for it in names)
+    for word, (where, named) in listed.items():
+        there = sources_with(word)
+        for it in sorted(there - named):
+            wrong(where, f"{it} has {word}, too")
+        for it in sorted(named - there):
+            wrong(where, f"{it} has no {word}")
+
+
 def check_messages():
     names = text_of("crates/mx_top/specs/Names.antt")
     fault_names = set(re.findall(r'n == (\d+) then codes "(\w+)"', names))
@@ -154,10 +198,11 @@ def is_typed(commands):
     return any(" -i " in it and " <" not in it and "|" not in it for it in commands)
 
 
-def printed(commands, typed, room):
-    """What a shell prints for commands, each with its line before it, where these lines are typed."""
+def printed(commands, typed, folder, room):
+    """What a shell prints in a folder for commands, each with its line before it, where these lines are typed."""
     script = "".join(f"status=$?; printf '%s\\n' {shlex.quote('$ ' + it)}; (exit $status)\n{it}\n" for it in commands)
-    how = {"cwd": room, "input": typed.encode(), "stdout": subprocess.PIPE, "stderr": subprocess.STDOUT, "timeout": 120}
+    how = {"cwd": folder, "input": typed.encode(), "stdout": subprocess.PIPE, "stderr": subprocess.STDOUT, "timeout": 120}
+    how["env"] = {**os.environ, "PATH": f"{room}:{os.environ['PATH']}"}
     return subprocess.run(["sh", "-c", script], **how).stdout.decode(errors="replace")
 
 
@@ -169,10 +214,12 @@ def is_fresh():
 
 
 def with_room(call, saved=None):
-    """The answer of a call in a new folder with the program, the examples and the files that were saved."""
+    """The answer of a call on a new folder with the program, the examples and the files that were saved."""
     with tempfile.TemporaryDirectory() as room:
         shutil.copytree("examples", f"{room}/examples")
         os.symlink(os.path.realpath(PROGRAM), f"{room}/mmixware")
+        for script in glob.glob("grade"):
+            shutil.copy(script, room)
         for name, text in (saved or {}).items():
             with open(f"{room}/{name}", "w", encoding="utf-8") as file:
                 file.write(text)
@@ -184,14 +231,21 @@ def trimmed(text):
     return "\n".join(line.rstrip() for line in text.rstrip("\n").split("\n"))
 
 
-def session(block, saved):
-    """What a block shows of the program's output, and what it prints now."""
+def session(block, saved, folder="."):
+    """What a block shows of the program's output, and what it prints now in a folder of the room."""
     commands, typed, shown = re.findall(r"^\$ (.*)$", block, re.M), "", block
     if is_typed(commands):
         prompt = re.compile(r"^mmix>(?: (.*))?\n", re.M)
         typed = "".join(f"{line}\n" for line in prompt.findall(block))
         shown = prompt.sub(PROMPT, block)
-    return shown, with_room(lambda room: printed(commands, typed, room), saved)
+    return shown, with_room(lambda room: printed(commands, typed, f"{room}/{folder}", room), saved)
+
+
+def check_session(page, block, saved, folder="."):
+    if is_fresh():
+        shown, got = session(block, saved, folder)
+        if trimmed(got) != trimmed(shown):
+            wrong(page, f"a session prints\n{got}and the page has\n{shown}")
 
 
 def check_sessions():
@@ -203,13 +257,21 @@ def check_sessions():
                 saved[kind.split()[1]] = block
                 continue
             every += block
-            if is_fresh():
-                shown, got = session(block, saved)
-                if trimmed(got) != trimmed(shown):
-                    wrong(page, f"a session prints\n{got}and the page has\n{shown}")
+            check_session(page, block, saved)
     for source in sorted(glob.glob("examples/*.mm[so]") + glob.glob("examples/*.txt")):
         if source not in every:
             wrong("examples/README.md", f"no session uses {source}")
+
+
+def check_manual():
+    """Each block without filling is a session in the folder of the examples."""
+    page = "docs/mmixware.1"
+    for block in re.findall(r"^\.nf\n(.*?)^\.fi", text_of(page), re.M | re.S):
+        for written, meant in ((r"\-", "-"), (r"\(dq", '"'), (r"\&", ""), (r"\e", "\\")):
+            block = block.replace(written, meant)
+        if not block.startswith("$ "):
+            wrong(page, f"an example begins with no command:\n{block}")
+        check_session(page, block, {}, "examples")
 
 
 def answered(example, room):
@@ -234,7 +296,7 @@ def check_examples_of_messages():
     if not is_fresh():
         return
     for where, line in lines_of("docs/MESSAGES.md"):
-        cells = [it.replace("\\|", "|") for it in re.findall(r" ((?:[^|\\]|\\.)*) \|", line)]
+        cells = cells_of(line)
         if len(cells) != 5 or not re.fullmatch("`.+`", cells[3]):
             continue
         message = " ".join(cells[:2]) if cells[0].isdigit() else cells[0].strip("`")
@@ -244,10 +306,24 @@ def check_examples_of_messages():
                 wrong(where, f"the example {cells[3]} gives {got.strip() or 'no message'}")
 
 
+def check_what_beginners_write():
+    """In a row of four cells the first one, a source, gives the message of the second; the last one gives none."""
+    if not is_fresh():
+        return
+    for where, line in lines_of("docs/MESSAGES.md"):
+        cells = cells_of(line)
+        if len(cells) != 4 or not re.fullmatch(r"\d+ \w+", cells[1]):
+            continue
+        for source, message in ((cells[0], f".*: {cells[1]}"), (cells[3], "")):
+            got = with_room(lambda room: answered(source[1:-1], room)).strip() if source.startswith("`") else ""
+            if not re.fullmatch(message, got):
+                wrong(where, f"the source {source} gives {got or 'no message'}")
+
+
 def main():
     os.chdir(TOP)
-    for check in (check_links_and_paths, check_architecture, check_claims, check_messages, check_crates, check_sessions,
-                  check_examples_of_messages):
+    for check in (check_links_and_paths, check_architecture, check_claims, check_file_tables, check_messages, check_crates,
+                  check_sessions, check_manual, check_examples_of_messages, check_what_beginners_write):
         check()
     for it in wrongs:
         print(f"checks/documents.py: {it}", file=sys.stderr)

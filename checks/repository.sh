@@ -36,6 +36,12 @@ if command -v groff >/dev/null; then
   [ -z "$said" ] || wrong "docs/mmixware.1: $said"
 fi
 
+# the scripts at the top do what they say
+sh checks/scripts.sh || bad=1
+
+# the grader gives each solution its verdict
+sh checks/grade/test.sh || bad=1
+
 # what the documents say is so
 if command -v python3 >/dev/null; then
   python3 checks/documents.py || bad=1

@@ -1,6 +1,6 @@
 -- A statement that is read is the one that is listed.
-use Rattle.std.proofs.Common.{◌≡◌, ℕ, List, Option, None, Some, Result, Ok, Err, refl, ap, sym, ◌∙◌}
-use Rattle.std.specs.Prelude.{option_map}
+use Rattle.std.proofs.Common.{◌≡◌, ℕ, List, Option, None, Some, Result, Ok, Err, refl, ap, subst, sym, ◌∙◌, inl, inr}
+use Rattle.std.specs.Prelude.{◌⊎◌, ◌↔◌, is_some, option_map}
 use Rattle.mx_line.specs.declared.spans.Span.{Span}
 use Rattle.mx_line.specs.declared.cutter.Cut.{Cut}
 use Rattle.mx_line.specs.Spans.{part}
@@ -8,25 +8,18 @@ use Rattle.mx_line.specs.Source.{item_of}
 use Rattle.mx_expr.specs.declared.faults.ExprFault.{ExprFault}
 use Rattle.mx_expr.specs.Tree.{Tree}
 use Rattle.mx_expr.specs.Reading.{reading}
-use Rattle.mx_expr.specs.Spelling.{Spells, Faultless, IsFirst}
-use Rattle.mx_expr.proofs.Exact.{reading-ok, reading-err, one-fault}
-use Rattle.mx_expr.proofs.Fields.{one-list}
+use Rattle.mx_expr.proofs.Exact.{reading-ok, reading-err, list-read, fault-read}
 use Rattle.mx_stmt.specs.declared.faults.StmtFault.{StmtFault}
+use Rattle.mx_ops.specs.declared.op.Op.{Op}
 use Rattle.mx_stmt.specs.Encoding.{StatementTree}
-use Rattle.mx_stmt.specs.Reading.{Fields, IsRead, IsFault, label_of, label_in, fields_of}
+use Rattle.mx_stmt.specs.Steps.{Answer}
+use Rattle.mx_stmt.specs.Reading.{Fields, IsRead, IsFault, label_of, label_in, fields_of, operation_for}
 use Rattle.mx_stmt.specs.Reading.IsFault.{operation, operand_list}
+use Rattle.mx_asm.specs.declared.faults.AsmFault.{AsmFault}
 use Rattle.mx_asm.specs.declared.faults.AsmFault.TheVariants.{Stmt}
+use Rattle.mx_asm.specs.declared.refused.Refused.{Refused}
 use Rattle.mx_asm.specs.Faults.{refused}
 use Rattle.mx_asm.specs.Entries.{with_operands, with_operation, statement_in, entry_with, entry_of}
-
--- the operand list is the one that the field spells
-list-is : (field : List ℕ) (list : List Tree) (r : Result (List Tree) ExprFault) → reading field ≡ r → Spells field list → Faultless field → r ≡ Ok list
-list-is field list (Ok found) is spelled none = ap (λ l. Ok l) (one-list field found list (reading-ok field found is).0 spelled)
-list-is field list (Err fault) is spelled none = let first = reading-err field fault is in absurd (none fault first.place first.stands)
-
-fault-is : (field : List ℕ) (fault : ExprFault) (r : Result (List Tree) ExprFault) → reading field ≡ r → IsFirst field fault → r ≡ Err fault
-fault-is field fault (Ok found) is first = absurd ((reading-ok field found is).1 fault first.place first.stands)
-fault-is field fault (Err other) is first = ap (λ f. Err f) (one-fault field other fault (reading-err field other is) first)
 
 same-statement : (a b : StatementTree) → a.line ≡ b.line → a.label ≡ b.label → a.op ≡ b.op → a.operands ≡ b.operands → a ≡ b
 same-statement a b line label op operands = λ i. record { line = line i; label = label i; op = op i; operands = operands i }
@@ -34,13 +27,31 @@ same-statement a b line label op operands = λ i. record { line = line i; label 
 pub read-is : (fields : Fields) (line : ℕ) (s : StatementTree) → IsRead fields line s → statement_in fields line ≡ Ok s
 read-is fields line s h =
     ap (with_operation fields line) h.op_is
-    ∙ ap (with_operands fields line s.op) (list-is fields.operands s.operands (reading fields.operands) refl h.spelled h.faultless)
+    ∙ ap (with_operands fields line s.op) ((list-read fields.operands s.operands).1 (h.spelled, h.faultless))
     ∙ ap (λ s. Ok s) (same-statement _ s (sym h.line_is) (sym h.label_is) refl refl)
 
 pub faulty-is : (fields : Fields) (line : ℕ) (fault : StmtFault) → IsFault fields fault → statement_in fields line ≡ Err fault
 faulty-is fields line fault (operation fault' is) = ap (with_operation fields line) is
 faulty-is fields line fault (operand_list op first is least) =
-    ap (with_operation fields line) is ∙ ap (with_operands fields line op) (fault-is fields.operands first (reading fields.operands) refl least)
+    ap (with_operation fields line) is ∙ ap (with_operands fields line op) ((fault-read fields.operands first).1 least)
+
+-- what fields say: a statement, or the first fault
+abbrev Says : Fields → ℕ → Answer StatementTree → Type 0
+Says fields line (Ok s) = IsRead fields line s
+Says fields line (Err fault) = IsFault fields fault
+
+operands-say : (fields : Fields) (line : ℕ) (op : Op) (r : Result (List Tree) ExprFault) → operation_for (is_some fields.label) fields.op ≡ Ok op → reading fields.operands ≡ r →
+    Says fields line (with_operands fields line op r)
+operands-say fields line op (Ok list) is e =
+    let h = reading-ok fields.operands list e in record { line_is = refl; label_is = refl; op_is = is; spelled = h.0; faultless = h.1 }
+operands-say fields line op (Err fault) is e = operand_list op fault is (reading-err fields.operands fault e)
+
+operation-says : (fields : Fields) (line : ℕ) (a : Answer Op) → operation_for (is_some fields.label) fields.op ≡ a → Says fields line (with_operation fields line a)
+operation-says fields line (Ok op) is = operands-say fields line op (reading fields.operands) is refl
+operation-says fields line (Err fault) is = operation fault is
+
+said : (fields : Fields) (line : ℕ) → Says fields line (statement_in fields line)
+said fields line = operation-says fields line (operation_for (is_some fields.label) fields.op) refl
 
 -- the fields of a cut
 label-is : (text : List ℕ) (span : Option Span) → option_map label_of (option_map (part text) span) ≡ label_in text span
@@ -55,5 +66,37 @@ entry-read line text cut s h = sym (entry-fields line text cut ∙ ap (entry_wit
 
 pub entry-faulty : (line : ℕ) (text : List ℕ) (cut : Cut) (fault : StmtFault) → IsFault (fields_of text cut) fault → Err (refused line (Stmt fault)) ≡ entry_of (item_of line text (Ok cut))
 entry-faulty line text cut fault h = sym (entry-fields line text cut ∙ ap (entry_with line) (faulty-is (fields_of text cut) line fault h))
+
+-- ... and the other way
+read-back : (fields : Fields) (line : ℕ) (s : StatementTree) (a : Answer StatementTree) → Says fields line a → entry_with line a ≡ Ok s → IsRead fields line s
+read-back fields line s (Ok t) h e = let same : t ≡ s = cc in subst (IsRead fields line) same h
+read-back fields line s (Err fault) h e = absurd (cc)
+
+faulty-back : (fields : Fields) (line : ℕ) (fault : StmtFault) (a : Answer StatementTree) → Says fields line a → entry_with line a ≡ Err (refused line (Stmt fault)) → IsFault fields fault
+faulty-back fields line fault (Ok t) h e = absurd (cc)
+faulty-back fields line fault (Err other) h e =
+    let refusal : refused line (Stmt other) ≡ refused line (Stmt fault) = cc in
+    let told : ◌≡◌ {A = AsmFault} (Stmt other) (Stmt fault) = ap (λ (r : Refused). r.fault) refusal in
+    let same : other ≡ fault = cc in
+    subst (IsFault fields) same h
+
+pub statement-listed : (line : ℕ) (text : List ℕ) (cut : Cut) (s : StatementTree) → (entry_of (item_of line text (Ok cut)) ≡ Ok s) ↔ IsRead (fields_of text cut) line s
+statement-listed line text cut s = (
+  λ e. read-back (fields_of text cut) line s _ (said (fields_of text cut) line) (sym (entry-fields line text cut) ∙ e),
+  λ h. sym (entry-read line text cut s h),
+)
+
+pub fault-listed : (line : ℕ) (text : List ℕ) (cut : Cut) (fault : StmtFault) → (entry_of (item_of line text (Ok cut)) ≡ Err (refused line (Stmt fault))) ↔ IsFault (fields_of text cut) fault
+fault-listed line text cut fault = (
+  λ e. faulty-back (fields_of text cut) line fault _ (said (fields_of text cut) line) (sym (entry-fields line text cut) ∙ e),
+  λ h. sym (entry-faulty line text cut fault h),
+)
+
+one-of : (fields : Fields) (line : ℕ) (a : Answer StatementTree) → Says fields line a → ((s : StatementTree) × IsRead fields line s) ⊎ ((fault : StmtFault) × IsFault fields fault)
+one-of fields line (Ok s) h = inl (s, h)
+one-of fields line (Err fault) h = inr (fault, h)
+
+pub read-or-faulty : (fields : Fields) (line : ℕ) → ((s : StatementTree) × IsRead fields line s) ⊎ ((fault : StmtFault) × IsFault fields fault)
+read-or-faulty fields line = one-of fields line (statement_in fields line) (said fields line)
 
 pub ruleset reads = (entry-read, entry-faulty)

@@ -1,12 +1,12 @@
 //! What holds of sources over lists alone.
 
-ghost use Rattle.std.specs.Prelude.{◌≡◌, ℕ, List, [], ◌∷◌, ◌++◌, None, Some, Ok, Err};
+ghost use Rattle.std.specs.Prelude.{◌≡◌, ◌↔◌, ◌⊎◌, ℕ, List, [], ◌∷◌, ◌++◌, None, Some, Ok, Err};
 ghost use Rattle.std.specs.Result.{result_err};
 ghost use Rattle.mx_line.specs.Source.{item_of};
 ghost use Rattle.mx_line.specs.declared.cutter.Cut.{Cut};
 ghost use Rattle.mx_mmo.specs.declared.items.Item.{Item};
 ghost use Rattle.mx_stmt.specs.Encoding.{StatementTree};
-ghost use Rattle.mx_stmt.specs.Reading.{IsFault, IsRead, fields_of};
+ghost use Rattle.mx_stmt.specs.Reading.{Fields, IsFault, IsRead, fields_of};
 ghost use Rattle.mx_stmt.specs.declared.faults.StmtFault.{StmtFault};
 ghost use Rattle.mx_asm.specs.Emission.{emission, front, padded_trie};
 ghost use Rattle.mx_asm.specs.Entries.{entry_of, source_entries, statements_in};
@@ -62,11 +62,14 @@ pub fn sources_are_emitted_or_refused()
         assembled_source source ≡ (front (accepted_in (source_entries source)), Err r) }
 {}
 
-/// What is listed for a statement that was cut from a line is the statement that its fields say, or
-/// the refusal of the line with their fault.
+/// What is listed for a statement that was cut from a line goes by the grammar of its fields: a statement
+/// exactly where its fields say that one, and the refusal of the line with a fault exactly where that is
+/// the first one of its fields. Fields say a statement or have a first fault.
 pub fn entries_are_read()
-    ensures read { (line : ℕ) (text : List ℕ) (cut : Cut) (s : StatementTree) → IsRead (fields_of text cut) line s →
-        entry_of (item_of line text (Ok cut)) ≡ Ok s }
-    ensures faulty { (line : ℕ) (text : List ℕ) (cut : Cut) (fault : StmtFault) → IsFault (fields_of text cut) fault →
-        entry_of (item_of line text (Ok cut)) ≡ Err (refused line (Stmt fault)) }
+    ensures read { (line : ℕ) (text : List ℕ) (cut : Cut) (s : StatementTree) →
+        (entry_of (item_of line text (Ok cut)) ≡ Ok s) ↔ IsRead (fields_of text cut) line s }
+    ensures faulty { (line : ℕ) (text : List ℕ) (cut : Cut) (fault : StmtFault) →
+        (entry_of (item_of line text (Ok cut)) ≡ Err (refused line (Stmt fault))) ↔ IsFault (fields_of text cut) fault }
+    ensures either { (fields : Fields) (line : ℕ) →
+        ((s : StatementTree) × IsRead fields line s) ⊎ ((fault : StmtFault) × IsFault fields fault) }
 {}

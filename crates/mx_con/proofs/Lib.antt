@@ -4,6 +4,7 @@ pub mod LineReads
 pub mod Outputs
 pub mod Answers
 pub mod ListedLines
+pub mod StepBounds
 pub mod StepLaws
 pub mod SessionLines
 pub mod QuietTraces

@@ -1,6 +1,6 @@
 -- The words of clauses over a runner, a session and a host: `old` and `new` are what the host told before and after, r
 -- and s the runners, d and e what the session remembers.
-use Rattle.std.specs.Prelude.{ℕ, ◌≡◌, ◌≢◌, IsTrue, false, List, Option, Result, Ok, Err}
+use Rattle.std.specs.Prelude.{ℕ, ◌≡◌, ◌≢◌, ◌≤◌, ◌+◌, ◌-◌, IsTrue, false, List, Option, Result, Ok, Err}
 use Rattle.mx_word.specs.Lists.{IsFront}
 use Rattle.mx_host.specs.HostModel.{HostModel, tells, contents}
 use Rattle.mx_core.specs.Bounds.{as_list_state}
@@ -41,6 +41,11 @@ abbrev pub GoesFront : {A : Type 0} → Option HostModel → Option HostModel �
     (Console → Progress A) → Type 0
 GoesFront old new r d result f =
     IsTrue (tells old) → result ≡ Err OutOfMemory → IsFront (contents new).output (output_of (f (console_of r d old)))
+
+-- the count of steps is as it was, or has grown and is at most so many; so it is over every host, and out of memory too
+pub record StepsWithin (steps : ℕ) (s t : State) : Type 0 where
+  pub grown : s.steps ≤ t.steps
+  pub few : t.steps ≤ s.steps + (steps - s.steps)
 
 -- SESSIONS
 

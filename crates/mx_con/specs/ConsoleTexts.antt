@@ -1,4 +1,4 @@
--- The lines that the console writes on steps, breaks, flags and the state, without their ends.
+-- The lines that the console writes on steps, breaks, flags and the state, without the newline that ends each.
 use Rattle.std.specs.Prelude.{ℕ, ◌+◌, ◌/◌, ◌%◌, ◌^◌, ◌==◌, Bool, if◌then◌else◌, List, [], ◌∷◌, ◌++◌, codes, decimal, Option, None, Some}
 use Rattle.mx_ring.specs.Stack.{register}
 use Rattle.mx_text.specs.Instructions.{instruction_text}
@@ -10,6 +10,10 @@ use Rattle.mx_run.specs.declared.end.BreakKind.{BreakKind}
 use Rattle.mx_run.specs.declared.end.BreakKind.TheVariants.{Read, Write, Execute}
 use Rattle.mx_run.specs.declared.flags.Flags.{Flags}
 use Rattle.mx_con.specs.Subjects.{octa_shown, octa_start}
+
+-- a line with the newline that ends it
+abbrev pub ended : List ℕ → List ℕ
+ended line = line ++ 10 ∷ []
 
 -- ---- a step that was made: the address, the tetra, the instruction, and what it changed
 

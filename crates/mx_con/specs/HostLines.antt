@@ -5,6 +5,7 @@ use Rattle.mx_host.specs.HostModel.{HostModel}
 use Rattle.mx_host.specs.declared.faults.HostFault.{HostFault}
 use Rattle.mx_host.specs.declared.faults.HostFault.TheVariants.{Failed, Misused}
 use Rattle.mx_host.specs.declared.faults.HostFault.TheVariants as fault
+use Rattle.mx_con.specs.ConsoleTexts.{ended}
 use Rattle.mx_con.specs.declared.end.SessionEnd.{SessionEnd}
 use Rattle.mx_con.specs.declared.end.SessionEnd.TheVariants.{Quit, Limit, HostFault as BadHost, OutOfMemory}
 
@@ -33,7 +34,7 @@ unfoldable pub text_write : HostModel → List ℕ → Written
 text_write m text = written (write_answer m output_slot text)
 
 abbrev pub line_write : HostModel → List ℕ → Written
-line_write m line = text_write m (line ++ 10 ∷ [])
+line_write m line = text_write m (ended line)
 
 -- what follows a write
 abbrev pub after_write : (HostModel → Written) → Written → Written

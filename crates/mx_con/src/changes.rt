@@ -17,11 +17,13 @@ use mx_word::NoMemory;
 /// Gives a subject another value.
 ///
 /// Errors: `NotAllowed` where that is refused, and out of memory; then nothing changed.
+#[tactic(auto, using(crate::proofs::StepBounds::changing))]
 pub(crate) fn change(runner: &mut Runner, subject: Subject, value: u64) -> Result<(), SetFault>
     requires { IsSound subject }
     ensures ok { result ≢ Err SetFault.OutOfMemory →
         Changes (λ s. subject_changed s subject value) result runner.old.machine runner.new.machine }
     ensures err { OnErr result (state_of runner.new.machine ≡ state_of runner.old.machine) }
+    ensures still { (state_of runner.new.machine).steps ≡ (state_of runner.old.machine).steps }
     ensures flags { runner.new.flags ≡ runner.old.flags }
 {
     set_subject(runner.machine_mut(), subject, value)

@@ -15,7 +15,7 @@ ghost use Rattle.mx_con.specs.Subjects as subjects;
 use crate::SessionEnd;
 use crate::changes::{change, go_on_at, note_if, set_breaks, set_trace};
 use crate::dialog::Dialog;
-use crate::host_lines::write_line;
+use crate::host_lines::{write_line, write_text};
 use crate::judgement::{Bad, flag_bad, go_to_bad, more_bad, subject_bad};
 use crate::listings::{write_flags, write_octas};
 use crate::subjects::shown_line;
@@ -64,7 +64,7 @@ pub(crate) fn show_state<H: Host>(
         (H.faults host.old) (H.faults host.new) }
     ensures keeps { Keeps (H.told host.old) (H.told host.new) (H.faults host.old) (H.faults host.new) }
 {
-    write_line(host, state_line(alloc, runner.machine())?)
+    write_text(host, state_line(alloc, runner.machine())?.as_slice())
 }
 
 /// Shows a subject.
@@ -81,6 +81,7 @@ pub(crate) fn show<H: Host>(
         (λ c. spec.answered window_machine c (Command.Show subject form)) }
     ensures front { GoesFront (H.told host.old) (H.told host.new) runner.old dialog.old result
         (λ c. spec.answered window_machine c (Command.Show subject form)) }
+    ensures still { (state_of runner.new.machine).steps ≡ (state_of runner.old.machine).steps }
     ensures cause { ComesByFault (H.told host.old) (Err SessionEnd.HostFault) result
         (H.faults host.old) (H.faults host.new) }
     ensures keeps { Keeps (H.told host.old) (H.told host.new) (H.faults host.old) (H.faults host.new) }
@@ -92,7 +93,7 @@ pub(crate) fn show<H: Host>(
 }
 
 /// Shows a subject that is not bad.
-#[tactic(auto, using(crate::proofs::Answers::answers))]
+#[tactic(auto, using(crate::proofs::Answers::answers, crate::proofs::StepBounds::noting))]
 fn show_sound<H: Host>(
     alloc: Global,
     runner: &mut Runner,
@@ -106,6 +107,7 @@ fn show_sound<H: Host>(
         (λ c. spec.carried_out c (Command.Show subject form)) }
     ensures front { GoesFront (H.told host.old) (H.told host.new) runner.old dialog.old result
         (λ c. spec.carried_out c (Command.Show subject form)) }
+    ensures still { (state_of runner.new.machine).steps ≡ (state_of runner.old.machine).steps }
     ensures cause { ComesByFault (H.told host.old) (Err SessionEnd.HostFault) result
         (H.faults host.old) (H.faults host.new) }
     ensures keeps { Keeps (H.told host.old) (H.told host.new) (H.faults host.old) (H.faults host.new) }
@@ -157,6 +159,7 @@ pub(crate) fn change_subject<H: Host>(
         (λ c. spec.answered window_machine c (Command.Change subject value)) }
     ensures front { GoesFront (H.told host.old) (H.told host.new) runner.old dialog.old result
         (λ c. spec.answered window_machine c (Command.Change subject value)) }
+    ensures still { (state_of runner.new.machine).steps ≡ (state_of runner.old.machine).steps }
     ensures cause { ComesByFault (H.told host.old) (Err SessionEnd.HostFault) result
         (H.faults host.old) (H.faults host.new) }
     ensures keeps { Keeps (H.told host.old) (H.told host.new) (H.faults host.old) (H.faults host.new) }
@@ -186,6 +189,7 @@ fn change_sound<H: Host>(
         (λ c. spec.answered window_machine c (Command.Change subject (Some value))) }
     ensures front { GoesFront (H.told host.old) (H.told host.new) runner.old dialog.old result
         (λ c. spec.answered window_machine c (Command.Change subject (Some value))) }
+    ensures still { (state_of runner.new.machine).steps ≡ (state_of runner.old.machine).steps }
     ensures cause { ComesByFault (H.told host.old) (Err SessionEnd.HostFault) result
         (H.faults host.old) (H.faults host.new) }
     ensures keeps { Keeps (H.told host.old) (H.told host.new) (H.faults host.old) (H.faults host.new) }
@@ -211,6 +215,7 @@ pub(crate) fn show_more<H: Host>(
         (λ c. spec.answered window_machine c (Command.ShowMore n form)) }
     ensures front { GoesFront (H.told host.old) (H.told host.new) runner.old dialog.old result
         (λ c. spec.answered window_machine c (Command.ShowMore n form)) }
+    ensures still { (state_of runner.new.machine).steps ≡ (state_of runner.old.machine).steps }
     ensures cause { ComesByFault (H.told host.old) (Err SessionEnd.HostFault) result
         (H.faults host.old) (H.faults host.new) }
     ensures keeps { Keeps (H.told host.old) (H.told host.new) (H.faults host.old) (H.faults host.new) }
@@ -225,7 +230,7 @@ pub(crate) fn show_more<H: Host>(
 }
 
 /// The same where it is not bad.
-#[tactic(auto, using(crate::proofs::Answers::answers))]
+#[tactic(auto, using(crate::proofs::Answers::answers, crate::proofs::StepBounds::noting))]
 fn show_octas<H: Host>(
     alloc: Global,
     runner: &mut Runner,
@@ -239,6 +244,7 @@ fn show_octas<H: Host>(
         (λ c. spec.carried_out c (Command.ShowMore (Some n) form)) }
     ensures front { GoesFront (H.told host.old) (H.told host.new) runner.old dialog.old result
         (λ c. spec.carried_out c (Command.ShowMore (Some n) form)) }
+    ensures still { (state_of runner.new.machine).steps ≡ (state_of runner.old.machine).steps }
     ensures cause { ComesByFault (H.told host.old) (Err SessionEnd.HostFault) result
         (H.faults host.old) (H.faults host.new) }
     ensures keeps { Keeps (H.told host.old) (H.told host.new) (H.faults host.old) (H.faults host.new) }
@@ -253,7 +259,7 @@ fn show_octas<H: Host>(
 }
 
 /// The machine goes on at an address.
-#[tactic(auto, using(crate::proofs::Answers::answers))]
+#[tactic(auto, using(crate::proofs::Answers::answers, crate::proofs::StepBounds::noting))]
 pub(crate) fn go_to<H: Host>(
     alloc: Global,
     runner: &mut Runner,
@@ -265,6 +271,7 @@ pub(crate) fn go_to<H: Host>(
         (λ c. spec.answered window_machine c (Command.GoTo a)) }
     ensures front { GoesFront (H.told host.old) (H.told host.new) runner.old dialog.old result
         (λ c. spec.answered window_machine c (Command.GoTo a)) }
+    ensures still { (state_of runner.new.machine).steps ≡ (state_of runner.old.machine).steps }
     ensures cause { ComesByFault (H.told host.old) (Err SessionEnd.HostFault) result
         (H.faults host.old) (H.faults host.new) }
     ensures keeps { Keeps (H.told host.old) (H.told host.new) (H.faults host.old) (H.faults host.new) }
@@ -291,6 +298,7 @@ pub(crate) fn set_tetra_breaks<H: Host>(
         (λ c. spec.answered window_machine c (Command.Break breaks a)) }
     ensures front { GoesFront (H.told host.old) (H.told host.new) runner.old dialog.old result
         (λ c. spec.answered window_machine c (Command.Break breaks a)) }
+    ensures still { (state_of runner.new.machine).steps ≡ (state_of runner.old.machine).steps }
     ensures cause { ComesByFault (H.told host.old) (Err SessionEnd.HostFault) result
         (H.faults host.old) (H.faults host.new) }
     ensures keeps { Keeps (H.told host.old) (H.told host.new) (H.faults host.old) (H.faults host.new) }
@@ -315,6 +323,7 @@ pub(crate) fn trace_tetra<H: Host>(
         (λ c. spec.answered window_machine c (Command.Trace a)) }
     ensures front { GoesFront (H.told host.old) (H.told host.new) runner.old dialog.old result
         (λ c. spec.answered window_machine c (Command.Trace a)) }
+    ensures still { (state_of runner.new.machine).steps ≡ (state_of runner.old.machine).steps }
     ensures cause { ComesByFault (H.told host.old) (Err SessionEnd.HostFault) result
         (H.faults host.old) (H.faults host.new) }
     ensures keeps { Keeps (H.told host.old) (H.told host.new) (H.faults host.old) (H.faults host.new) }
@@ -339,6 +348,7 @@ pub(crate) fn untrace_tetra<H: Host>(
         (λ c. spec.answered window_machine c (Command.Untrace a)) }
     ensures front { GoesFront (H.told host.old) (H.told host.new) runner.old dialog.old result
         (λ c. spec.answered window_machine c (Command.Untrace a)) }
+    ensures still { (state_of runner.new.machine).steps ≡ (state_of runner.old.machine).steps }
     ensures cause { ComesByFault (H.told host.old) (Err SessionEnd.HostFault) result
         (H.faults host.old) (H.faults host.new) }
     ensures keeps { Keeps (H.told host.old) (H.told host.new) (H.faults host.old) (H.faults host.new) }

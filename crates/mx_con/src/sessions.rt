@@ -6,7 +6,7 @@ ghost use Rattle.mx_host.specs.Keeping.{ComesByFault, Keeps};
 ghost use Rattle.mx_core.specs.Kept.{state_of};
 ghost use Rattle.mx_run.specs.FlagMaps.{flags_at};
 ghost use Rattle.mx_run.specs.WildRuns.{window_machine, list_machine};
-ghost use Rattle.mx_con.specs.Clauses.{EndsAsListSession, EndsAsSession, EndsFront, Goes, GoesFront, PartsAsList};
+ghost use Rattle.mx_con.specs.Clauses.{EndsAsListSession, EndsAsSession, EndsFront, Goes, GoesFront, PartsAsList, StepsWithin};
 ghost use Rattle.mx_con.specs.HostLines.{line_read, text_write};
 ghost use Rattle.mx_con.specs.Session as spec;
 
@@ -43,6 +43,7 @@ pub fn session<H: Host>(alloc: Global, runner: &mut Runner, host: &mut H, steps:
         (λ s f m. spec.session window_machine steps s f m) }
     ensures listed { EndsAsListSession (H.told host.old) (H.told host.new) runner.old runner.new result
         (λ s f m. spec.session list_machine steps s f m) }
+    ensures bound { StepsWithin steps (state_of runner.old.machine) (state_of runner.new.machine) }
     ensures cause { ComesByFault (H.told host.old) SessionEnd.HostFault result (H.faults host.old) (H.faults host.new) }
     ensures keeps { Keeps (H.told host.old) (H.told host.new) (H.faults host.old) (H.faults host.new) }
 {
@@ -57,7 +58,7 @@ pub fn session<H: Host>(alloc: Global, runner: &mut Runner, host: &mut H, steps:
 }
 
 /// Line after line; each takes a byte of the input or ends the session.
-#[tactic(auto, using(crate::proofs::SessionLines::lines))]
+#[tactic(auto, using(crate::proofs::SessionLines::lines, crate::proofs::StepBounds::going))]
 fn all_lines<H: Host>(
     alloc: Global,
     runner: &mut Runner,
@@ -71,6 +72,7 @@ fn all_lines<H: Host>(
         (λ c. spec.session_lines (spec.most_input + 1) window_machine steps c) }
     ensures listed { PartsAsList (H.told host.old) (H.told host.new) runner.old runner.new dialog.old dialog.new result
         (λ c. spec.session_lines (spec.most_input + 1) list_machine steps c) }
+    ensures bound { StepsWithin steps (state_of runner.old.machine) (state_of runner.new.machine) }
     ensures cause { ComesByFault (H.told host.old) (Err SessionEnd.HostFault) result
         (H.faults host.old) (H.faults host.new) }
     ensures keeps { Keeps (H.told host.old) (H.told host.new) (H.faults host.old) (H.faults host.new) }
@@ -99,6 +101,7 @@ fn one_line<H: Host>(
         (λ c. spec.one_line window_machine steps c) }
     ensures listed { PartsAsList (H.told host.old) (H.told host.new) runner.old runner.new dialog.old dialog.new result
         (λ c. spec.one_line list_machine steps c) }
+    ensures bound { StepsWithin steps (state_of runner.old.machine) (state_of runner.new.machine) }
     ensures cause { ComesByFault (H.told host.old) (Err SessionEnd.HostFault) result
         (H.faults host.old) (H.faults host.new) }
     ensures keeps { Keeps (H.told host.old) (H.told host.new) (H.faults host.old) (H.faults host.new) }
@@ -136,7 +139,7 @@ fn ask<H: Host>(
 }
 
 /// Carries a line out.
-#[tactic(auto, unfolding(crate::specs::Session::command_done))]
+#[tactic(auto, using(crate::proofs::StepBounds::staying), unfolding(crate::specs::Session::command_done))]
 fn carry_out<H: Host>(
     alloc: Global,
     runner: &mut Runner,
@@ -152,6 +155,7 @@ fn carry_out<H: Host>(
     ensures runs { command ≡ Some Command.Continue →
         PartsAsList (H.told host.old) (H.told host.new) runner.old runner.new dialog.old dialog.new result
         (λ c. spec.command_done list_machine steps c command) }
+    ensures bound { StepsWithin steps (state_of runner.old.machine) (state_of runner.new.machine) }
     ensures cause { ComesByFault (H.told host.old) (Err SessionEnd.HostFault) result
         (H.faults host.old) (H.faults host.new) }
     ensures keeps { Keeps (H.told host.old) (H.told host.new) (H.faults host.old) (H.faults host.new) }

@@ -5,15 +5,16 @@ ghost use Rattle.mx_host.specs.HostModel.{tells, contents};
 ghost use Rattle.mx_host.specs.Keeping.{Answers, ComesByFault, Keeps, WritesFront};
 ghost use Rattle.mx_core.specs.Kept.{state_of};
 ghost use Rattle.mx_run.specs.WildRuns.{window_machine, list_machine};
-ghost use Rattle.mx_con.specs.Clauses.{Goes, GoesFront, PartsAsList};
+ghost use Rattle.mx_con.specs.Clauses.{Goes, GoesFront, PartsAsList, StepsWithin};
 ghost use Rattle.mx_con.specs.ConsoleTexts.{trace_text, break_text};
 ghost use Rattle.mx_con.specs.HostLines.{line_write, lines_write};
 ghost use Rattle.mx_con.specs.Session as spec;
 
 use crate::SessionEnd;
 use crate::dialog::Dialog;
-use crate::host_lines::write_line;
+use crate::host_lines::{write_line, write_text};
 use crate::texts::{break_line, trace_line};
+use crate::windows::know_count;
 use mx_core::{Machine, Trace};
 use mx_host::Host;
 use mx_run::{BreakKind, End, Runner, TurnAnswer};
@@ -27,7 +28,7 @@ fn steps_left(steps: u64, runner: &Runner) -> u64
 }
 
 /// Makes one step, whatever the flags, and writes its line.
-#[tactic(auto, using(crate::proofs::StepLaws::stepping))]
+#[tactic(auto, using(crate::proofs::StepLaws::stepping, crate::proofs::StepBounds::stepping))]
 pub(crate) fn step_once<H: Host>(
     alloc: Global,
     runner: &mut Runner,
@@ -39,6 +40,7 @@ pub(crate) fn step_once<H: Host>(
         (λ c. spec.stepped window_machine steps c) }
     ensures front { GoesFront (H.told host.old) (H.told host.new) runner.old dialog.now result
         (λ c. spec.stepped window_machine steps c) }
+    ensures bound { StepsWithin steps (state_of runner.old.machine) (state_of runner.new.machine) }
     ensures cause { ComesByFault (H.told host.old) (Err SessionEnd.HostFault) result
         (H.faults host.old) (H.faults host.new) }
     ensures keeps { Keeps (H.told host.old) (H.told host.new) (H.faults host.old) (H.faults host.new) }
@@ -46,8 +48,11 @@ pub(crate) fn step_once<H: Host>(
     if steps_left(steps, runner) == 0 {
         return Err(SessionEnd::Spent);
     }
+    know_count(runner);
     let pc = runner.machine().pc();
-    match runner.step(alloc, host) {
+    let answer = runner.step(alloc, host);
+    know_count(runner);
+    match answer {
         TurnAnswer::Went(trace) => write_trace(alloc, runner.machine(), host, &trace),
         TurnAnswer::Halted(status) => Err(SessionEnd::Halted(status)),
         TurnAnswer::Stopped(reason) => Err(SessionEnd::Stopped { pc, reason }),
@@ -70,11 +75,11 @@ fn write_trace<H: Host>(
     ensures unwritten { IsTrue (tells (H.told host.old)) → result ≡ Err SessionEnd.OutOfMemory →
         (contents (H.told host.new)).output ≡ (contents (H.told host.old)).output }
 {
-    write_line(host, trace_line(alloc, trace, machine)?)
+    write_text(host, trace_line(alloc, trace, machine)?.as_slice())
 }
 
 /// Goes on up to a break or the end. A traced step writes its line, and the run goes on.
-#[tactic(auto, using(crate::proofs::StepLaws::running))]
+#[tactic(auto, using(crate::proofs::StepLaws::running, crate::proofs::StepBounds::going))]
 pub(crate) fn go_on<H: Host>(
     alloc: Global,
     runner: &mut Runner,
@@ -88,6 +93,7 @@ pub(crate) fn go_on<H: Host>(
         (λ c. spec.runs window_machine (spec.steps_left steps c.state) steps true c) }
     ensures listed { PartsAsList (H.told host.old) (H.told host.new) runner.old runner.new dialog.now dialog.now result
         (λ c. spec.runs list_machine (spec.steps_left steps c.state) steps true c) }
+    ensures bound { StepsWithin steps (state_of runner.old.machine) (state_of runner.new.machine) }
     ensures cause { ComesByFault (H.told host.old) (Err SessionEnd.HostFault) result
         (H.faults host.old) (H.faults host.new) }
     ensures keeps { Keeps (H.told host.old) (H.told host.new) (H.faults host.old) (H.faults host.new) }
@@ -105,7 +111,7 @@ pub(crate) fn go_on<H: Host>(
 }
 
 /// Runs up to a break, a traced step or the end, and says whether the run goes on then.
-#[tactic(auto, using(crate::proofs::StepLaws::single_runs))]
+#[tactic(auto, using(crate::proofs::StepLaws::single_runs, crate::proofs::StepBounds::stepping))]
 fn run_once<H: Host>(
     alloc: Global,
     runner: &mut Runner,
@@ -120,11 +126,14 @@ fn run_once<H: Host>(
         (λ c. spec.one_run window_machine steps pass c) }
     ensures listed { PartsAsList (H.told host.old) (H.told host.new) runner.old runner.new dialog.now dialog.now result
         (λ c. spec.one_run list_machine steps pass c) }
+    ensures bound { StepsWithin steps (state_of runner.old.machine) (state_of runner.new.machine) }
     ensures cause { ComesByFault (H.told host.old) (Err SessionEnd.HostFault) result
         (H.faults host.old) (H.faults host.new) }
     ensures keeps { Keeps (H.told host.old) (H.told host.new) (H.faults host.old) (H.faults host.new) }
 {
+    know_count(runner);
     let end = runner.go(alloc, host, steps_left(steps, runner), pass);
+    know_count(runner);
     end_run(alloc, runner.machine(), host, end)
 }
 

@@ -37,16 +37,17 @@ pub(crate) fn octa_at(machine: &Machine, a: u64) -> u64
 }
 
 /// The line of a step that was made, over the machine that it leaves: the address, the tetra, the
-/// instruction and what it changed.
+/// instruction and what it changed. It ends with its newline.
 #[tactic(auto, unfolding(crate::specs::ConsoleTexts::trace_text))]
 pub fn trace_line(alloc: Global, trace: &Trace, machine: &Machine) -> Result<Bytes, NoMemory>
-    ensures { IfOk result (λ text. text ≡ spec.trace_text trace.now (state_of machine.now)) }
+    ensures { IfOk result (λ text. text ≡ spec.ended (spec.trace_text trace.now (state_of machine.now))) }
 {
     let mut text = step_text(alloc, trace)?;
     add_destination(&mut text, machine, trace.dest)?;
     add_write(&mut text, machine, trace.writes)?;
     add_trap(&mut text, machine, trace.word)?;
     add_next(&mut text, trace.pc, trace.next)?;
+    text.push(b'\n')?;
     Ok(text)
 }
 
@@ -121,10 +122,11 @@ fn add_next(text: &mut Bytes, pc: u64, next: u64) -> Result<(), NoMemory>
     add_hex(text, next)
 }
 
-/// The line on the state: the steps made, the address of the next instruction, L and G.
+/// The line on the state: the steps made, the address of the next instruction, L and G. It ends with
+/// its newline.
 #[tactic(auto, unfolding(crate::specs::ConsoleTexts::state_text))]
 pub fn state_line(alloc: Global, machine: &Machine) -> Result<Bytes, NoMemory>
-    ensures { IfOk result (λ text. text ≡ spec.state_text (state_of machine.now)) }
+    ensures { IfOk result (λ text. text ≡ spec.ended (spec.state_text (state_of machine.now))) }
 {
     let mut text = Bytes::copy(alloc, b"steps ")?;
     add_decimal(&mut text, machine.steps())?;
@@ -134,6 +136,7 @@ pub fn state_line(alloc: Global, machine: &Machine) -> Result<Bytes, NoMemory>
     add_decimal(&mut text, u64::from(machine.l()))?;
     text.extend(b" G ")?;
     add_decimal(&mut text, u64::from(machine.g()))?;
+    text.push(b'\n')?;
     Ok(text)
 }
 

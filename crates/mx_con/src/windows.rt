@@ -1,5 +1,6 @@
 //! What holds of each runner, for proofs.
 
+ghost use Rattle.std.specs.Prelude.{◌<◌, ◌^◌};
 ghost use Rattle.mx_core.specs.Kept.{state_of};
 ghost use Rattle.mx_run.specs.WildRuns.{HasWindow};
 
@@ -14,4 +15,12 @@ pub(crate) fn know_window(runner: &Runner)
 {
     machines_keep_the_invariant(runner.machine());
     machines_are_whole(runner.machine());
+}
+
+/// Tells that a runner's count of steps is an octa. It does nothing.
+#[inline(always)]
+pub(crate) fn know_count(runner: &Runner)
+    ensures { (state_of runner.now.machine).steps < 2 ^ 64 }
+{
+    let _count = runner.machine().steps();
 }

@@ -1,16 +1,16 @@
 -- What is read is what is spelled, and a fault is the first one.
 use Rattle.std.proofs.Common.{◌≡◌, ℕ, ◌<◌, ◌≤◌, List, [], ◌∷◌, ◌++◌, length, Some, None, Result, Ok, Err, refl, sym, ap, ◌∙◌, arith, append_assoc, subst, length-append, ⊎_elim, inl, inr}
-use Rattle.std.specs.Prelude.{◌⊎◌}
+use Rattle.std.specs.Prelude.{◌⊎◌, ◌↔◌}
 use Rattle.std.proofs.lemmas.Bool.{cases_lt}
 use Rattle.mx_expr.specs.declared.faults.ExprFault.{ExprFault}
 use Rattle.mx_expr.specs.declared.faults.ExprFault.TheVariants.{Syntax, TooWide, EmptyString}
 use Rattle.mx_expr.specs.Tree.{Tree, number}
 use Rattle.mx_expr.specs.Reading.{State, Read, passed_bound, steps, field_end, reading_end, reading, start}
-use Rattle.mx_expr.specs.Spelling.{Spells, Before, Begins, FaultAt, IsFirst, Faultless}
+use Rattle.mx_expr.specs.Spelling.{Spells, Before, Begins, FaultAt, IsFirst, Faultless, IsList}
 use Rattle.mx_expr.specs.Spelling.Spells.{empty}
 use Rattle.mx_expr.specs.Spelling.FaultAt.{no_front, no_list}
 use Rattle.mx_expr.proofs.Moves.{move, moves, moves-on}
-use Rattle.mx_expr.proofs.Fields.{free-some, spelled-free}
+use Rattle.mx_expr.proofs.Fields.{free-some, one-list, spelled-free}
 use Rattle.mx_expr.proofs.Holds.{Holds, Good}
 use Rattle.mx_expr.proofs.Steps.{holds-read, move-good}
 use Rattle.mx_expr.proofs.Endings.{GoodList, finish-good, begins}
@@ -80,7 +80,7 @@ none-at-empty f p (mark_seen m) =
     let go = steps-none start in
     absurd (cc)
 
-pub reading-ok : (field : List ℕ) (list : List Tree) → reading field ≡ Ok list → Spells field list × Faultless field
+pub reading-ok : (field : List ℕ) (list : List Tree) → reading field ≡ Ok list → IsList field list
 reading-ok [] list h = let same : number 0 ∷ [] ≡ list = cc in (subst (Spells []) same empty, λ f p g. none-at-empty f p (seen g))
 reading-ok (b ∷ bs) list h = let w = ends-ok (steps start (b ∷ bs)) list h in read-ok (b ∷ bs) w.0 list w.1 w.2
 
@@ -225,3 +225,29 @@ one-fault field f g a b =
     (λ (i : f ≡ Syntax). ⊎_elim (λ (j : g ≡ Syntax). i ∙ sym j) (λ (j : f ≡ g). j) (b.only f here))
     (λ (i : g ≡ f). sym i)
     (a.only g there)
+
+-- ---- reading goes by the grammar
+
+pub not-both : (field : List ℕ) (list : List Tree) (fault : ExprFault) → IsList field list → IsFirst field fault → ⊥
+not-both field list fault h first = h.1 fault first.place first.stands
+
+list-as : (field : List ℕ) (list : List Tree) (r : Result (List Tree) ExprFault) → reading field ≡ r → IsList field list → r ≡ Ok list
+list-as field list (Ok found) is h = ap (λ l. Ok l) (one-list field found list (reading-ok field found is).0 h.0)
+list-as field list (Err fault) is h = absurd (not-both field list fault h (reading-err field fault is))
+
+fault-at : (field : List ℕ) (fault : ExprFault) (r : Result (List Tree) ExprFault) → reading field ≡ r → IsFirst field fault → r ≡ Err fault
+fault-at field fault (Ok found) is first = absurd (not-both field found fault (reading-ok field found is) first)
+fault-at field fault (Err other) is first = ap (λ f. Err f) (one-fault field other fault (reading-err field other is) first)
+
+pub list-read : (field : List ℕ) (list : List Tree) → (reading field ≡ Ok list) ↔ IsList field list
+list-read field list = (reading-ok field list, list-as field list (reading field) refl)
+
+pub fault-read : (field : List ℕ) (fault : ExprFault) → (reading field ≡ Err fault) ↔ IsFirst field fault
+fault-read field fault = (reading-err field fault, fault-at field fault (reading field) refl)
+
+one-of : (field : List ℕ) (r : Result (List Tree) ExprFault) → reading field ≡ r → ((list : List Tree) × IsList field list) ⊎ ((fault : ExprFault) × IsFirst field fault)
+one-of field (Ok list) is = inl (list, reading-ok field list is)
+one-of field (Err fault) is = inr (fault, reading-err field fault is)
+
+pub list-or-fault : (field : List ℕ) → ((list : List Tree) × IsList field list) ⊎ ((fault : ExprFault) × IsFirst field fault)
+list-or-fault field = one-of field (reading field) refl

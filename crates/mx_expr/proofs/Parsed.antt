@@ -1,5 +1,5 @@
 -- What a list or a fault that was read says of the field.
-use Rattle.std.proofs.Common.{◌≡◌, ◌≢◌, ℕ, List, [], ◌∷◌, ◌++◌, map, Result, Ok, Err, IfOk, sym, ap, arith}
+use Rattle.std.proofs.Common.{◌≡◌, ◌≢◌, ℕ, List, [], ◌∷◌, ◌++◌, map, Result, Ok, Err, IfOk, sym, ◌∙◌, arith}
 use Rattle.std.specs.Prelude.{IfErr}
 use Rattle.std.specs.List.{All, AllByRecursion}
 use Rattle.std.proofs.lemmas.List.Elements.{All-from_recursion}
@@ -16,9 +16,8 @@ use Rattle.mx_expr.specs.Spelling.Sum.{product, plus}
 use Rattle.mx_expr.specs.Spelling.Operand.{expression, string}
 use Rattle.mx_expr.specs.Spelling.Operands.{none, more}
 use Rattle.mx_expr.specs.Spelling.Spells.{empty, operands}
-use Rattle.mx_expr.proofs.Fields.{one-list}
 use Rattle.mx_expr.proofs.Marks.{digit-small}
-use Rattle.mx_expr.proofs.Exact.{reading-ok, reading-err, one-fault}
+use Rattle.mx_expr.proofs.Exact.{reading-ok, reading-err, list-read, fault-read}
 
 -- The digits of local labels are 0 to 9.
 mutual
@@ -82,9 +81,7 @@ parsed-digits (Ok es) field h =
 parsed-digits (Err f) field h = tt
 
 pub parsed-spelled : (r : Result (List Expr) ExprFault) (field : List ℕ) → IsReading r field → (list : List Tree) → Spells field list → Faultless field → r ≢ Err OutOfMemory → map_ok trees_of r ≡ Ok list
-parsed-spelled (Ok es) field h list s n m = ap (λ l. Ok l) (one-list field (trees_of es) list (reading-ok field (trees_of es) (sym (h m))).0 s)
-parsed-spelled (Err f) field h list s n m = let w = reading-err field f (sym (h m)) in absurd (n f w.place w.stands)
+parsed-spelled r field h list s n m = h m ∙ (list-read field list).1 (s, n)
 
 pub parsed-first : (r : Result (List Expr) ExprFault) (field : List ℕ) → IsReading r field → (f : ExprFault) → IsFirst field f → r ≢ Err OutOfMemory → map_ok trees_of r ≡ Err f
-parsed-first (Ok es) field h f w m = absurd ((reading-ok field (trees_of es) (sym (h m))).1 f w.place w.stands)
-parsed-first (Err g) field h f w m = ap (λ x. Err x) (one-fault field g f (reading-err field g (sym (h m))) w)
+parsed-first r field h f w m = h m ∙ (fault-read field f).1 w

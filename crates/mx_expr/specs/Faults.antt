@@ -1,4 +1,4 @@
--- The numbers of the faults of expressions.
+-- The numbers of the faults of expressions. They are this repository's own.
 use Rattle.std.specs.Prelude.{ℕ}
 use Rattle.mx_expr.specs.declared.faults.ExprFault.{ExprFault}
 use Rattle.mx_expr.specs.declared.faults.ExprFault.TheVariants.{Syntax, TooWide, DivZero, FractionTooBig, PureOnly, TwoRegisters, RegisterFromPure, Future, TooDeep, EmptyString, RegisterNumber, NameTooLong, OutOfMemory}

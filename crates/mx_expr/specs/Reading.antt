@@ -1,4 +1,5 @@
--- How an operand field is read, byte by byte.
+-- How the code reads an operand field, byte by byte. That it reads what `Spelling` says is the law
+-- `fields_are_read_as_spelled`.
 use Rattle.std.specs.Prelude.{ℕ, ◌+◌, ◌-◌, ◌*◌, ◌^◌, List, [], ◌∷◌, ◌++◌, Bool, true, false, ◌==◌, ◌&&◌, nat_le, if◌then◌else◌, Option, None, Some, Result, Ok, Err}
 use Rattle.mx_expr.specs.declared.faults.ExprFault.{ExprFault}
 use Rattle.mx_expr.specs.declared.faults.ExprFault.TheVariants.{Syntax, TooWide, TooDeep, EmptyString}

@@ -1,5 +1,6 @@
--- How lists of expressions are spelled (MMIXAL, expressions): a grammar by cases on the bytes of
--- an operand field. It knows no bound on constants and on open parentheses.
+-- How lists of expressions are spelled: a grammar by cases on the bytes of an operand field. It knows no bound on constants
+-- and on open parentheses. Then the faults of a field, with the bounds. (MMIXware, "MMIXAL", expressions; TAOCP 1, Fascicle 1,
+-- 1.3.2'.)
 use Rattle.std.specs.Prelude.{◌≡◌, ℕ, ◌+◌, ◌*◌, ◌^◌, ◌<◌, ◌≤◌, List, [], ◌∷◌, ◌++◌, length, map, fold, true, ◌⊎◌}
 use Rattle.std.specs.List.{list_all}
 use Rattle.mx_expr.specs.declared.faults.ExprFault.{ExprFault}
@@ -109,3 +110,7 @@ pub record IsFirst (field : List ℕ) (fault : ExprFault) : Type 0 where
 -- no fault stands anywhere
 abbrev pub Faultless : List ℕ → Type 0
 Faultless field = (fault : ExprFault) (place : ℕ) → FaultAt field fault place → ⊥
+
+-- The list is that of the field: the field spells it, and has no fault.
+abbrev pub IsList : List ℕ → List Tree → Type 0
+IsList field list = Spells field list × Faultless field

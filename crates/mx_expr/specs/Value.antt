@@ -1,4 +1,4 @@
--- The value of an expression, by whole numbers.
+-- The value of an expression, by whole numbers modulo 2^64. (MMIXware, "MMIXAL", expressions.)
 use Rattle.std.specs.Prelude.{ℕ, ◌+◌, ◌-◌, ◌*◌, ◌/◌, ◌%◌, ◌^◌, ◌==◌, nat_lt, nat_le, if◌then◌else◌, List, Option, None, Some, Result, Ok, Err, bit_and, bit_or, bit_xor}
 use Rattle.mx_word.specs.declared.symbols.Value.{Value}
 use Rattle.mx_word.specs.declared.symbols.Value.TheVariants.{Pure, Reg}

@@ -22,7 +22,7 @@ pub trait Known {
         ensures told { result ≢ Err ExprFault.OutOfMemory → result ≡ symbols self.now name.now }
         ensures refuses { IfErr result (λ e. (e ≡ ExprFault.NameTooLong) ⊎ (e ≡ ExprFault.OutOfMemory)) };
 
-    /// The value of the last local label `dH`.
+    /// The value of the last local label `dH`. The digit d is at most 9.
     fn back(&self, d: u8) -> Value
         requires { d ≤ 9 }
         ensures { result ≡ backs self.now d };

@@ -5,6 +5,7 @@ mod faults;
 mod joining;
 mod kinds;
 mod known;
+mod laws;
 mod operators;
 mod parsing;
 mod reader;
@@ -14,6 +15,7 @@ mod waiting;
 
 pub use faults::ExprFault;
 pub use known::Known;
-pub use parsing::{one_fault, one_list, parse_list};
+pub use laws::{fields_are_lists_or_faulty, fields_are_read_as_spelled, one_fault, one_list};
+pub use parsing::parse_list;
 pub use tree::{BinOp, Expr, Exprs, UnOp};
 pub use valuing::value;

@@ -1,18 +1,18 @@
 //! Operand fields are read into lists of expressions.
 
-ghost use Rattle.std.specs.Prelude.{◌≡◌, ◌≢◌, ℕ, List, [], Ok, Err, IfOk, IfErr};
+ghost use Rattle.std.specs.Prelude.{◌≡◌, ◌≢◌, List, [], Ok, Err, IfOk, IfErr};
 ghost use Rattle.std.specs.List.{All};
 ghost use Rattle.mx_word.specs.Results.{map_ok};
 ghost use Rattle.mx_expr.specs.declared.faults.ExprFault.{ExprFault};
 ghost use Rattle.mx_expr.specs.Tree.{Tree, tree_of, trees_of, HasDigits};
 ghost use Rattle.mx_expr.specs.Reading.{reading};
-ghost use Rattle.mx_expr.specs.Spelling.{Spells, Faultless, IsFirst};
+ghost use Rattle.mx_expr.specs.Spelling.{IsList, Spells, Faultless, IsFirst};
 
 use crate::reader::{Mode, Reader};
 use crate::{Expr, ExprFault, Exprs};
 use std::alloc::Global;
 
-/// Reads an operand field (MMIXAL, expressions) into the list of expressions that it spells. A
+/// Reads an operand field (MMIXware, "MMIXAL", expressions) into the list of expressions that it spells. A
 /// string stands for its bytes, and an empty field for `0`.
 ///
 /// Where the field is not spelled as a list, or passes a bound, the answer is its first fault from
@@ -20,7 +20,7 @@ use std::alloc::Global;
 /// none, or at the end; `TooWide`, `TooDeep` and `EmptyString` at the first byte of the constant,
 /// the parenthesis and the string. At one place `Syntax` comes first.
 pub fn parse_list(alloc: Global, field: &[u8]) -> Result<Exprs, ExprFault>
-    ensures list { IfOk result (λ es. Spells field.now (trees_of es) × Faultless field.now) }
+    ensures list { IfOk result (λ es. IsList field.now (trees_of es)) }
     ensures spelled { (list : List Tree) → Spells field.now list → Faultless field.now →
         result ≢ Err ExprFault.OutOfMemory → map_ok trees_of result ≡ Ok list }
     ensures fault { IfErr result (λ f. f ≢ ExprFault.OutOfMemory → IsFirst field.now f) }
@@ -58,13 +58,3 @@ fn zero(alloc: Global) -> Result<Exprs, ExprFault>
     list.push(Expr::Number(0))?;
     Ok(list)
 }
-
-/// A field has at most one list.
-pub fn one_list()
-    ensures { (field : List ℕ) (list other : List Tree) → Spells field list → Spells field other → list ≡ other }
-{}
-
-/// A field has at most one first fault.
-pub fn one_fault()
-    ensures { (field : List ℕ) (fault other : ExprFault) → IsFirst field fault → IsFirst field other → fault ≡ other }
-{}

@@ -59,7 +59,9 @@ pub enum Expr {
     Ahead(u8),
     /// `@`, the place.
     Here,
+    /// An operator before its operand.
     Unary(UnOp, Box<Expr>),
+    /// An operator between its left and its right operand.
     Binary(BinOp, Box<Expr>, Box<Expr>),
 }
 

@@ -29,8 +29,9 @@ enum Next<'a> {
     Right(&'a Expr),
 }
 
-/// The value of an expression. A fault of the left side comes first, then one of the right side,
-/// then one of the operator.
+/// The value of an expression (MMIXware, "MMIXAL"), whose local labels have digits of 0 to 9, as those
+/// of a field that was read do. A fault of the left side comes first, then one of the right side, then
+/// one of the operator; out of memory may come at any place.
 #[tactic(auto, using(crate::proofs::FrameLaws::frames))]
 pub fn value<E: Known>(alloc: Global, e: &Expr, env: &E) -> Result<Value, ExprFault>
     requires { HasDigits (tree_of e.now) }

@@ -13,7 +13,7 @@ use Rattle.mx_words.specs.declared.order.Order.{Order}
 use Rattle.mx_top.specs.Arguments.{Word, word_at, arguments}
 use Rattle.mx_gen.specs.Generator.{generated}
 use Rattle.mx_top.specs.Product.{after_image, after_source, after_loading, after_object, generated_run, source_generated, ordered, carried_out, with_message, product}
-use Rattle.mx_laws.specs.Rings.{DifferInRing}
+use Rattle.mx_laws.specs.Rings.{DifferInRing, HandsArguments}
 use Rattle.mx_top.specs.Runs.{image_run, run_from}
 use Rattle.mx_top.specs.Source.{file_bytes, source_pieces, object_pieces}
 use Rattle.mx_top.specs.declared.outcome.Outcome.{Outcome}
@@ -58,18 +58,18 @@ same-made : (words others : List Word) (o p : Order) (e : DifferInRing words oth
 same-made words others o p e text m = same-generated words others o p e _ _ m
 
 same-ordered : (words others : List Word) (o p : Order) (e : DifferInRing words others o p) (c : Command) (m : HostModel) →
-    ordered list_machine words o c m ≡ ordered list_machine others p c m
-same-ordered words others o p e Run m = rw (e.arguments, e.file) (same-source words others o p e (arguments others p) (file_bytes source_pieces (word_at others p.file) m))
-same-ordered words others o p e Sim m = rw (e.arguments, e.file) (same-object words others o p e (arguments others p) (file_bytes object_pieces (word_at others p.file) m))
-same-ordered words others o p e Asm m = rw (e.object, e.file) refl
-same-ordered words others o p e Gen m =
+    (HandsArguments c → arguments words o ≡ arguments others p) → ordered list_machine words o c m ≡ ordered list_machine others p c m
+same-ordered words others o p e Run m h = rw (h tt, e.file) (same-source words others o p e (arguments others p) (file_bytes source_pieces (word_at others p.file) m))
+same-ordered words others o p e Sim m h = rw (h tt, e.file) (same-object words others o p e (arguments others p) (file_bytes object_pieces (word_at others p.file) m))
+same-ordered words others o p e Asm m h = rw (e.object, e.file) refl
+same-ordered words others o p e Gen m h =
     same-made words others o p e (generated o.number) m ∙ ap (λ n. source_generated list_machine p (generated n) m) e.blocks
 
 pub rings-agree : (words others : List Word) (o p : Order) (m : HostModel) → order_of words ≡ Ok o → order_of others ≡ Ok p →
     DifferInRing words others o p → product list_machine words m ≡ product list_machine others m
 rings-agree words others o p m f g e =
     ap (λ r. with_message (carried_out list_machine words r m)) f
-    ∙ ap with_message (same-ordered words others o p e o.command m ∙ ap (λ c. ordered list_machine others p c m) e.command)
+    ∙ ap with_message (same-ordered words others o p e o.command m e.arguments ∙ ap (λ c. ordered list_machine others p c m) e.command)
     ∙ sym (ap (λ r. with_message (carried_out list_machine others r m)) g)
 
 pub ruleset rings = (rings-agree)

@@ -9,3 +9,4 @@ pub mod Searches
 pub mod Fields
 pub mod PartBytes
 pub mod Spaces
+pub mod Tetras

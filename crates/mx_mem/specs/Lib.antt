@@ -4,3 +4,4 @@ pub mod Count
 pub mod Held
 pub mod Parts
 pub mod Space
+pub mod Tetras

@@ -1,4 +1,5 @@
--- Memory as contracts see it: the octas and bytes by their addresses, and the pages that are there.
+-- Memory as contracts see it: the octas and bytes by their addresses, and the pages that are there (MMIXware, LNCS
+-- 1750; TAOCP 1, Fascicle 1, section 1.3.1').
 use Rattle.std.specs.Prelude.{ℕ, ◌+◌, ◌/◌, ◌%◌, ◌^◌, Bool, ◌==◌, ◌&&◌, not, nat_lt, if◌then◌else◌, List, length, Option, None, Some, slice_index_or, ◌≡◌, ◌≢◌, ◌≤◌, ◌<◌}
 pub use Rattle.mx_word.specs.Octas.{byte_of, byte_in, in_half, with_tetra, tetra_byte, bytes_with_tetra, with_page}
 use Rattle.std.specs.List.{list_any}

@@ -1,4 +1,5 @@
--- The parts of an octa, and the bytes of a space.
+-- The parts of an octa: bytes, wydes and tetras from the high end, each at a multiple of its size (MMIXware, LNCS 1750;
+-- TAOCP 1, Fascicle 1, section 1.3.1').
 use Rattle.std.specs.Prelude.{ℕ, ◌+◌, ◌-◌, ◌*◌, ◌/◌, ◌%◌, ◌^◌, ◌==◌, if◌then◌else◌}
 use Rattle.mx_mem.specs.declared.part.Part.{Part}
 use Rattle.mx_mem.specs.declared.part.Part.TheVariants.{Byte, Wyde, Tetra, Octa}

@@ -6,7 +6,7 @@ ghost use Rattle.std.specs.Ordering.{nat_cmp};
 ghost use Rattle.std.specs.List.Sorted.{IsStrictlySortedBy};
 ghost use Rattle.mx_mem.specs.Parts as spec;
 ghost use Rattle.mx_mem.specs.Parts.{bytes_with_part};
-ghost use Rattle.mx_mem.specs.Memory.{octa_at, byte_at, tetra_at, tetra_of, page_numbers, has_page, page_count};
+ghost use Rattle.mx_mem.specs.Memory.{octa_at, byte_at, tetra_at, page_numbers, has_page, page_count};
 ghost use Rattle.mx_mem.specs.Memory.{is_refused, with_page, count_with_page, stored_at, stored_bytes, in_half};
 ghost use Rattle.mx_mem.specs.Memory.{with_tetra, bytes_with_tetra, IsNextNonzero};
 
@@ -26,13 +26,14 @@ const PAGE: u64 = 4096;
 /// How many pages there may be: 256 MiB.
 const MOST_PAGES: usize = 65536;
 
-/// Pages by their numbers, and where pages may stand that were used lately. What is remembered is
-/// tested at each use, so it may be wrong.
+/// The memory of a machine below 2^63: an octa at each multiple of 8, 0 where nothing was stored. It has
+/// pages of 4,096 bytes, at most 65,536 of them, which is 256 MiB. The first store in a page begins it.
 #[derive(Drop)]
 pub struct Memory {
     alloc: Global,
     pages: Vec<Page>,
     places: BTreeMap<u64, usize>,
+    // Where pages may stand that were used lately. It is tested at each use, so it may be wrong.
     code: Cell<usize>,
     guesses: [Cell<usize>; GUESSES],
 }
@@ -66,7 +67,8 @@ impl Memory {
         }
     }
 
-    /// The octa that holds an address; 0 where nothing stands. It takes no memory.
+    /// The octa that holds an address, which is below 2^63; 0 where nothing was stored, and then its page
+    /// need not be there. It takes no memory.
     #[inline(always)]
     pub fn load(&self, a: u64) -> u64
         requires { a < 2 ^ 63 }
@@ -76,17 +78,20 @@ impl Memory {
         self.octa(&self.guesses[slot(a / PAGE)], a)
     }
 
-    /// The tetra that holds an address, as an instruction; 0 where nothing stands. Its page is
-    /// remembered apart from those of `load`. It takes no memory.
+    /// The tetra that holds an address, which is below 2^63; 0 where nothing was stored. It is for
+    /// instructions: their page is remembered apart from those of `load`. It takes no memory.
     #[inline(always)]
     pub fn tetra(&self, a: u64) -> u32
         requires { a < 2 ^ 63 }
         ensures { result ≡ tetra_at self.now a }
     {
-        half(self.octa(&self.code, a), a)
+        match guessed_place(&self.pages, &self.places, &self.code, a / PAGE) {
+            Some(place) => self.pages[place].tetra(a),
+            None => 0,
+        }
     }
 
-    /// The byte at an address; 0 where nothing stands. It takes no memory.
+    /// The byte at an address, which is below 2^63; 0 where nothing was stored. It takes no memory.
     #[inline(always)]
     pub fn byte(&self, a: u64) -> u8
         requires { a < 2 ^ 63 }
@@ -95,8 +100,8 @@ impl Memory {
         (self.load(a) >> (8 * (7 - a % 8)) & 0xff) as u8
     }
 
-    /// Stores an octa in place of the one that holds an address. Its page is there afterwards, also
-    /// for an octa of 0. It takes no memory where the page is there.
+    /// Stores an octa in place of the one that holds an address, which is below 2^63. Its page is there
+    /// afterwards, also for an octa of 0. It takes no memory where the page is there.
     ///
     /// Errors: `PagesFull` where that would be one page too many, and out of memory; then nothing
     /// changed.
@@ -121,8 +126,8 @@ impl Memory {
         }
     }
 
-    /// Stores the low bytes of `x` in place of the part that holds an address. Its page is there
-    /// afterwards. It takes no memory where the page is there.
+    /// Stores the low bytes of `x` in place of the part that holds an address, which is below 2^63. Its
+    /// page is there afterwards. It takes no memory where the page is there.
     ///
     /// Errors: `PagesFull` where that would be one page too many, and out of memory; then nothing
     /// changed.
@@ -141,8 +146,8 @@ impl Memory {
         self.store(a, with_part(part, self.load(a), a, x))
     }
 
-    /// Joins a tetra by exclusive or to the one that holds an address. Its page is there afterwards,
-    /// also for a tetra of 0. It takes no memory where the page is there.
+    /// Joins a tetra by exclusive or to the one that holds an address, which is below 2^63. Its page is
+    /// there afterwards, also for a tetra of 0. It takes no memory where the page is there.
     ///
     /// Errors: `PagesFull` where that would be one page too many, and out of memory; then nothing
     /// changed.
@@ -160,7 +165,7 @@ impl Memory {
         self.store(a, self.load(a) ^ in_its_half(a, t))
     }
 
-    /// The octa that holds an address, whose page may stand where it is remembered.
+    /// The octa that holds an address, which is below 2^63. Its page may stand where it is remembered.
     #[inline(always)]
     fn octa(&self, guess: &Cell<usize>, a: u64) -> u64
         requires { a < 2 ^ 63 }
@@ -172,7 +177,7 @@ impl Memory {
         }
     }
 
-    /// Stores an octa on a page that is not there yet.
+    /// Stores an octa at an address below 2^63, whose page is not there yet.
     #[inline(never)]
     fn begin(&mut self, a: u64, x: u64) -> Result<(), MemFault>
         requires range { a < 2 ^ 63 }
@@ -202,8 +207,8 @@ impl Memory {
         self.places.len() as u32
     }
 
-    /// The least octa other than 0 whose own address is at or above `from`: its address and its
-    /// value. Nothing where there is none. A page of zeros is passed over as a whole.
+    /// The least octa other than 0 whose own address is at or above `from`, which is below 2^63: its
+    /// address and its value. Nothing where there is none.
     pub fn next_nonzero(&self, from: u64) -> Option<(u64, u64)>
         requires { from < 2 ^ 63 }
         ensures { IsNextNonzero (octa_at self.now) from result }
@@ -217,18 +222,6 @@ impl Memory {
             at = 512 * (number + 1);
         }
         None
-    }
-}
-
-/// The tetra in the half of an octa where the address lies.
-#[inline(always)]
-fn half(octa: u64, a: u64) -> u32
-    ensures { result ≡ tetra_of octa a }
-{
-    if a % 8 < 4 {
-        (octa >> 32) as u32
-    } else {
-        (octa & 0xffff_ffff) as u32
     }
 }
 

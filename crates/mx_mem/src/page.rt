@@ -1,7 +1,9 @@
 //! One page of memory.
 
-ghost use Rattle.std.specs.Prelude.{◌≡◌, ◌≤◌, ◌<◌, IfOk, replicate, slice_index_or, slice_set};
+ghost use Rattle.std.specs.Prelude.{◌≡◌, ◌≤◌, ◌<◌, ◌/◌, ◌%◌, ◌^◌, ℕ, IfOk, replicate, slice_index, slice_index_or, slice_set};
+ghost use Rattle.mx_mem.specs.Memory.{tetra_of};
 ghost use Rattle.mx_mem.specs.Count.{IsNextIn};
+ghost use Rattle.mx_mem.specs.Tetras.{octas_of};
 
 use mx_word::NoMemory;
 use std::alloc::Global;
@@ -10,27 +12,32 @@ use std::marker::Model;
 /// How many octas a page has.
 pub const OCTAS: usize = 512;
 
-/// A page with its number; it has the addresses from 4096 times its number on. How many of its
-/// octas are not 0 is kept, so that a page of zeros need not be searched.
+/// How many tetras a page has.
+const TETRAS: usize = 1024;
+
+/// A page of 512 octas with its number; it has the addresses from 4096 times its number on. It is kept
+/// as tetras, the high one of each octa first, since an instruction is a tetra.
 #[derive(Drop)]
 pub struct Page {
     number: u64,
-    octas: Box<[u64; OCTAS]>,
+    tetras: Box<[u32; TETRAS]>,
+    // How many of the octas are not 0, so that a page of zeros need not be searched.
     nonzero: u32,
 }
 
 impl Model for Page {
     ghost use Rattle.std.specs.Prelude.{◌≡◌, ℕ, List, length};
     ghost use Rattle.mx_mem.specs.Count.{nonzero_count};
+    ghost use Rattle.mx_mem.specs.Tetras.{octas_of};
 
     ghost Value = { ℕ × List ℕ };
 
-    ghost view = { λ p. (p.number, p.octas.value) };
+    ghost view = { λ p. (p.number, octas_of p.tetras.value) };
 
-    ghost invariant = { λ p. p.nonzero ≡ nonzero_count p.octas.value };
+    ghost invariant = { λ p. p.nonzero ≡ nonzero_count (octas_of p.tetras.value) };
 }
 
-#[tactic(auto, using(crate::proofs::Counts::counts))]
+#[tactic(auto, using(crate::proofs::Counts::counts, crate::proofs::Tetras::tetras))]
 impl Page {
     /// A page of zeros.
     fn new(alloc: Global, number: u64) -> Result<Page, NoMemory>
@@ -38,12 +45,12 @@ impl Page {
     {
         Ok(Page {
             number,
-            octas: Box::new(alloc, [0; OCTAS])?,
+            tetras: Box::new(alloc, [0; TETRAS])?,
             nonzero: 0,
         })
     }
 
-    /// A page of zeros but for one octa.
+    /// A page of zeros but for one octa, at a place below 512.
     pub fn with_octa(alloc: Global, number: u64, at: usize, x: u64) -> Result<Page, NoMemory>
         requires { at < 512 }
         ensures { IfOk result (λ page. page ≡ (number, slice_set (replicate 512 0) at x)) }
@@ -61,27 +68,35 @@ impl Page {
         self.number
     }
 
-    /// The octa at a place.
+    /// The octa at a place below 512.
     #[inline(always)]
     pub fn octa(&self, at: usize) -> u64
         requires { at < 512 }
         ensures { result ≡ slice_index_or self.now.1 at 0 }
     {
-        self.octas[at]
+        (u64::from(self.tetras[2 * at]) << 32) + u64::from(self.tetras[2 * at + 1])
     }
 
-    /// Puts an octa at a place.
+    /// The tetra that holds an address, if the page has it.
+    #[inline(always)]
+    pub fn tetra(&self, a: u64) -> u32
+        ensures { result ≡ tetra_of (slice_index_or self.now.1 (a / 8 % 512) 0) a }
+    {
+        tetra_in(&self.tetras, a)
+    }
+
+    /// Puts an octa at a place below 512.
     #[inline(always)]
     pub fn put(&mut self, at: usize, x: u64)
         requires { at < 512 }
         ensures { self.new ≡ (self.old.0, slice_set self.old.1 at x) }
     {
-        let before = self.octas[at];
-        self.octas[at] = x;
+        let before = self.octa(at);
+        put_octa(&mut self.tetras, at, x);
         self.nonzero = self.nonzero + u32::from(x != 0) - u32::from(before != 0);
     }
 
-    /// The first octa other than 0 from a place on, and its place.
+    /// The first octa other than 0 from a place on, which is at most 512, and its place.
     pub fn next_nonzero(&self, from: usize) -> Option<(usize, u64)>
         requires { from ≤ 512 }
         ensures { IsNextIn self.now.1 from result }
@@ -90,10 +105,38 @@ impl Page {
             return None;
         }
         for at in from..OCTAS {
-            if self.octas[at] != 0 {
-                return Some((at, self.octas[at]));
+            let x = self.octa(at);
+            if x != 0 {
+                return Some((at, x));
             }
         }
         None
     }
+}
+
+/// Of the tetras of a page, the one that holds an address.
+#[inline(always)]
+fn tetra_in(tetras: &[u32; TETRAS], a: u64) -> u32
+    ensures { result ≡ tetra_of (slice_index_or (octas_of tetras.now) (a / 8 % 512) 0) a }
+{
+    know_tetras(tetras.as_slice());
+    tetras[(a / 4 % 1024) as usize]
+}
+
+/// Tells that each item of a slice of tetras is below 2^32. It does nothing.
+#[inline(always)]
+fn know_tetras(tetras: &[u32])
+    ensures { (i : ℕ) → slice_index tetras.now i < 2 ^ 32 }
+{
+    let _tetras = tetras;
+}
+
+/// An octa in place of the two tetras at a place below 512.
+#[inline(always)]
+fn put_octa(tetras: &mut [u32; TETRAS], at: usize, x: u64)
+    requires { at < 512 }
+    ensures { octas_of tetras.new ≡ slice_set (octas_of tetras.old) at x }
+{
+    tetras[2 * at] = (x / (1 << 32)) as u32;
+    tetras[2 * at + 1] = (x % (1 << 32)) as u32;
 }

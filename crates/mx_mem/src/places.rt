@@ -15,6 +15,8 @@ use std::collections::BTreeMap;
 pub const GUESSES: usize = 64;
 
 /// Adds a page that is not there yet.
+///
+/// Errors: out of memory alone; then nothing changed.
 pub fn add(
     pages: &mut Vec<Page>,
     places: &mut BTreeMap<u64, usize>,
@@ -42,7 +44,7 @@ pub fn add(
     }
 }
 
-/// Which of the remembered places a page has. Pages at the beginning of the four segments, which
+/// Which of the remembered places a page has, whose number is below 2^51. Pages at the beginning of the four segments, which
 /// are 2^61 bytes apart, have different ones.
 #[inline(always)]
 pub fn slot(number: u64) -> usize
@@ -52,7 +54,7 @@ pub fn slot(number: u64) -> usize
     ((number + (number >> 45)) % 64) as usize
 }
 
-/// The place of the page with a number: one of those that are remembered, or else by the map.
+/// The place of the page with a number below 2^51: one of those that are remembered, or else by the map.
 #[inline(always)]
 pub fn place_of(
     pages: &[Page],

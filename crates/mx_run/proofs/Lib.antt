@@ -7,5 +7,6 @@ pub mod FlaggedTetras
 pub mod TurnAnswers
 pub mod RunSteps
 pub mod ListSteps
+pub mod Later
 pub mod StepCounts
 pub mod SteadyRuns

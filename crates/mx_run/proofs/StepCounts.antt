@@ -19,21 +19,12 @@ use Rattle.mx_core.proofs.StepCounts.{CountsOne, step-count}
 use Rattle.mx_run.specs.Runs.{FlagsOf, Ended, ended, break_of, as_ended, after_trace, after_turn, run, IsLater}
 use Rattle.mx_run.specs.Turns.{Turn, went_on, halts, stops, area_size, with_touch_if, moves_before, turn_with, turn_of, turn}
 use Rattle.mx_run.specs.WildRuns.{state_after}
+use Rattle.mx_run.proofs.Later.{one-later, none-later, both-later, trapped-count}
 use Rattle.mx_run.specs.declared.end.BreakKind.{BreakKind}
 use Rattle.mx_run.specs.declared.end.BreakKind.TheVariants.{Execute}
 use Rattle.mx_run.specs.declared.end.End.TheVariants.{Broke}
 
 -- A TURN
-
-one-later : (s t : State) → t.steps ≡ (s.steps + 1) % 2 ^ 64 → IsLater 1 s t
-one-later s t h = (1, omega arith, omega (arith, h))
-
-pub none-later : (n : ℕ) (s t : State) → t.steps ≡ s.steps → IsLater n s t
-none-later n s t h = (0, omega arith, omega (arith, h))
-
-trapped-count : (s : State) (call : TrapCall) (value : ℕ) → (trapped s call value).steps ≡ (s.steps + 1) % 2 ^ 64
-unfolding trapped
-trapped-count s call value = refl
 
 left-count : (c : Contents State) (n : ℕ) → (state_in c n).steps ≡ c.rest.steps
 unfolding state_in
@@ -58,9 +49,6 @@ turn-count s m = stepped-count s m (step s) (step-count s)
 
 -- A RUN
 
-both-later : (n : ℕ) (s t u : State) → IsLater 1 s t → IsLater n t u → IsLater (suc n) s u
-both-later n s t u h k = (h.0 + k.0, omega (arith, h.1, k.1), omega (arith, h.2, k.2))
-
 abbrev CountsAtMost : ℕ → (State → HostModel → Ended) → Type 0
 CountsAtMost n more = (s : State) (m : HostModel) → IsLater n s (more s m).state
 
@@ -76,7 +64,9 @@ after-count n more f pc (went_on s m trace) g = trace-count n more (f (pc / 4)).
 
 run-step : (n : ℕ) (more : State → HostModel → Ended) (f : FlagsOf) (c : Bool) (s : State) (m : HostModel) → CountsAtMost n more → IsLater (suc n) s (cond c (ended (Broke Execute s.pc None) s m) (after_turn as_ended more f s.pc (turn s m))).state
 run-step n more f true s m g = none-later (suc n) s s refl
-run-step n more f false s m g = both-later n s (state_after (turn s m)) (after_turn as_ended more f s.pc (turn s m)).state (turn-count s m) (after-count n more f s.pc (turn s m) g)
+run-step n more f false s m g =
+    let next : suc n ≡ 1 + n = omega arith in
+    rw next (both-later 1 n s (state_after (turn s m)) (after_turn as_ended more f s.pc (turn s m)).state (turn-count s m) (after-count n more f s.pc (turn s m) g))
 
 pub run-count : (n : ℕ) (f : FlagsOf) (pass : Bool) (s : State) (m : HostModel) → IsLater n s (run n f pass s m).state
 unfolding run

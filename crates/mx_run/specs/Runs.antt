@@ -87,5 +87,7 @@ run zero f pass s m = ended Spent s m
 run (suc n) f pass s m = step_of_run (run n f false) f pass s m
 
 -- the count of steps, which is one modulo 2^64, is up to n more
-abbrev pub IsLater : ℕ → State → State → Type 0
-IsLater n s t = (k : ℕ) × (k ≤ n) × (t.steps % 2 ^ 64 ≡ (s.steps + k) % 2 ^ 64)
+pub record IsLater (n : ℕ) (s t : State) : Type 0 where
+  pub made : ℕ
+  pub few : made ≤ n
+  pub counted : t.steps % 2 ^ 64 ≡ (s.steps + made) % 2 ^ 64

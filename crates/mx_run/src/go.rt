@@ -16,6 +16,7 @@ use std::alloc::Global;
 
 /// Makes at most n steps, and breaks and ends where the flags say. With `pass` the first step is made
 /// also where the run would break before it.
+#[tactic(auto, using(crate::proofs::Later::running))]
 pub fn go_by_flags<H: Host>(
     alloc: Global,
     machine: &mut Machine,
@@ -30,6 +31,7 @@ pub fn go_by_flags<H: Host>(
         (λ s m. spec.run n (flags_at flags.now) pass s m) }
     ensures listed { EndsAsList (H.told host.old) (H.told host.new) (state_of machine.old) (state_of machine.new) result
         (λ s m. run_by list_machine n (flags_at flags.now) pass s m) }
+    ensures bound { spec.IsLater n (state_of machine.old) (state_of machine.new) }
     ensures keeps { Keeps (H.told host.old) (H.told host.new) (H.faults host.old) (H.faults host.new) }
 {
     let mut first = pass;
@@ -43,6 +45,7 @@ pub fn go_by_flags<H: Host>(
 }
 
 /// Makes at most n steps, where no tetra has a flag.
+#[tactic(auto, using(crate::proofs::Later::running))]
 pub fn go_freely<H: Host>(
     alloc: Global,
     machine: &mut Machine,
@@ -57,6 +60,7 @@ pub fn go_freely<H: Host>(
         (λ s m. spec.run n (flags_at flags.now) true s m) }
     ensures listed { EndsAsList (H.told host.old) (H.told host.new) (state_of machine.old) (state_of machine.new) result
         (λ s m. run_by list_machine n (flags_at flags.now) true s m) }
+    ensures bound { spec.IsLater n (state_of machine.old) (state_of machine.new) }
     ensures keeps { Keeps (H.told host.old) (H.told host.new) (H.faults host.old) (H.faults host.new) }
 {
     let mut end = End::Spent;

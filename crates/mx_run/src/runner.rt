@@ -104,6 +104,7 @@ impl Runner {
         ensures listed { TurnsAsList (H.told host.old) (H.told host.new) (state_of self.old.machine)
             (state_of self.new.machine) result }
         ensures flags { self.new.flags ≡ self.old.flags }
+        ensures bound { spec.IsLater 1 (state_of self.old.machine) (state_of self.new.machine) }
         ensures keeps { Keeps (H.told host.old) (H.told host.new) (H.faults host.old) (H.faults host.new) }
     {
         turn(alloc, &mut self.machine, host)
@@ -124,6 +125,7 @@ impl Runner {
         ensures listed { EndsAsList (H.told host.old) (H.told host.new) (state_of self.old.machine)
             (state_of self.new.machine) result (λ s m. run_by list_machine n (flags_at self.old.flags) pass s m) }
         ensures flags { self.new.flags ≡ self.old.flags }
+        ensures bound { spec.IsLater n (state_of self.old.machine) (state_of self.new.machine) }
         ensures keeps { Keeps (H.told host.old) (H.told host.new) (H.faults host.old) (H.faults host.new) }
     {
         if self.flags.is_empty() {

@@ -8,6 +8,7 @@ ghost use Rattle.mx_core.specs.Stepping.{advanced};
 ghost use Rattle.mx_run.specs.Clauses.{LeavesMachine, LeavesFront};
 ghost use Rattle.mx_run.specs.FlagMaps.{flags_at};
 ghost use Rattle.mx_run.specs.RunSteps as spec;
+ghost use Rattle.mx_run.specs.Runs.{IsLater};
 ghost use Rattle.mx_run.specs.Turns as turns;
 ghost use Rattle.mx_run.specs.WildRuns.{HasWindow};
 
@@ -21,7 +22,7 @@ use std::alloc::Global;
 
 /// A step of a run, or the end of the run. With `pass` it is made also where the run would break
 /// before it.
-#[tactic(auto, using(crate::proofs::RunSteps::breaking))]
+#[tactic(auto, using(crate::proofs::RunSteps::breaking, crate::proofs::Later::advancing))]
 pub fn run_step<H: Host>(
     alloc: Global,
     machine: &mut Machine,
@@ -34,6 +35,7 @@ pub fn run_step<H: Host>(
     ensures front { LeavesFront (H.told host.old) (H.told host.new) (state_of machine.old)
         (Err End.OutOfMemory) result (λ s m. spec.run_step (flags_at flags.now) pass s m) }
     ensures over { HasWindow (state_of machine.old) }
+    ensures bound { IsLater 1 (state_of machine.old) (state_of machine.new) }
     ensures keeps { Keeps (H.told host.old) (H.told host.new) (H.faults host.old) (H.faults host.new) }
 {
     know_window(machine);
@@ -70,6 +72,7 @@ fn turn_and_end<H: Host>(
     ensures front { LeavesFront (H.told host.old) (H.told host.new) (state_of machine.old)
         (Err End.OutOfMemory) result
         (λ s m. spec.turn_ended (flags_at flags.now) s.pc (turns.turn_answer (turns.turn s m))) }
+    ensures bound { IsLater 1 (state_of machine.old) (state_of machine.new) }
     ensures keeps { Keeps (H.told host.old) (H.told host.new) (H.faults host.old) (H.faults host.new) }
 {
     let pc = machine.pc();
@@ -86,7 +89,7 @@ pub enum Going {
 /// A step of a run without flags. No trace is made but for a file trap. Where the run is over, `end`
 /// becomes its end; so a step that goes on writes none.
 #[inline(always)]
-#[tactic(auto, using(crate::proofs::RunSteps::freely))]
+#[tactic(auto, using(crate::proofs::RunSteps::freely, crate::proofs::Later::advancing))]
 pub fn free_step<H: Host>(
     alloc: Global,
     machine: &mut Machine,
@@ -100,6 +103,7 @@ pub fn free_step<H: Host>(
     ensures front { LeavesFront (H.told host.old) (H.told host.new) (state_of machine.old)
         (Err End.OutOfMemory) (spec.answer_by result end.new) (λ s m. spec.run_step (flags_at flags.now) true s m) }
     ensures over { HasWindow (state_of machine.old) }
+    ensures bound { IsLater 1 (state_of machine.old) (state_of machine.new) }
     ensures keeps { Keeps (H.told host.old) (H.told host.new) (H.faults host.old) (H.faults host.new) }
 {
     know_window(machine);
@@ -112,7 +116,7 @@ pub fn free_step<H: Host>(
 /// What follows a step that did not go on, which left the machine as it is. It stands apart, so that a
 /// step that goes on pays nothing for it.
 #[inline(never)]
-#[tactic(auto, using(crate::proofs::RunSteps::freely))]
+#[tactic(auto, using(crate::proofs::RunSteps::freely, crate::proofs::Later::advancing))]
 fn step_over<H: Host>(
     alloc: Global,
     machine: &mut Machine,
@@ -128,6 +132,7 @@ fn step_over<H: Host>(
         (Err End.OutOfMemory) (spec.answer_by result end.new) (λ s m. spec.run_step (flags_at flags.now) true s m) }
     ensures front { LeavesFront (H.told host.old) (H.told host.new) (state_of machine.old)
         (Err End.OutOfMemory) (spec.answer_by result end.new) (λ s m. spec.run_step (flags_at flags.now) true s m) }
+    ensures bound { IsLater 1 (state_of machine.old) (state_of machine.new) }
     ensures keeps { Keeps (H.told host.old) (H.told host.new) (H.faults host.old) (H.faults host.new) }
 {
     match other {
@@ -160,6 +165,7 @@ fn trap_step<H: Host>(
         (Err End.OutOfMemory) (spec.answer_by result end.new) (λ s m. spec.run_step (flags_at flags.now) true s m) }
     ensures front { LeavesFront (H.told host.old) (H.told host.new) (state_of machine.old)
         (Err End.OutOfMemory) (spec.answer_by result end.new) (λ s m. spec.run_step (flags_at flags.now) true s m) }
+    ensures bound { IsLater 1 (state_of machine.old) (state_of machine.new) }
     ensures keeps { Keeps (H.told host.old) (H.told host.new) (H.faults host.old) (H.faults host.new) }
 {
     match run_step(alloc, machine, flags, host, true) {

@@ -10,6 +10,7 @@ ghost use Rattle.mx_trap.specs.FileTraps.{trap_answer};
 ghost use Rattle.mx_trap.specs.Touches as touching;
 ghost use Rattle.mx_run.specs.Clauses.{LeavesMachine, LeavesFront};
 ghost use Rattle.mx_run.specs.RunSteps.{state_left};
+ghost use Rattle.mx_run.specs.Runs.{IsLater};
 ghost use Rattle.mx_run.specs.Turns.{turn_answer};
 ghost use Rattle.mx_run.specs.Turns as spec;
 ghost use Rattle.mx_run.specs.WildRuns.{HasWindow};
@@ -23,13 +24,14 @@ use mx_trip::TrapCall;
 use std::alloc::Global;
 
 /// A turn of the machine over a host.
-#[tactic(auto, using(crate::proofs::TurnAnswers::turns))]
+#[tactic(auto, using(crate::proofs::TurnAnswers::turns, crate::proofs::Later::stepping))]
 pub fn turn<H: Host>(alloc: Global, machine: &mut Machine, host: &mut H) -> TurnAnswer
     ensures told { LeavesMachine (H.told host.old) (H.told host.new) (state_of machine.old) (state_of machine.new)
         TurnAnswer.OutOfMemory result (λ s m. turn_answer (spec.turn s m)) }
     ensures front { LeavesFront (H.told host.old) (H.told host.new) (state_of machine.old)
         TurnAnswer.OutOfMemory result (λ s m. turn_answer (spec.turn s m)) }
     ensures over { HasWindow (state_of machine.old) }
+    ensures bound { IsLater 1 (state_of machine.old) (state_of machine.new) }
     ensures keeps { Keeps (H.told host.old) (H.told host.new) (H.faults host.old) (H.faults host.new) }
 {
     know_window(machine);
@@ -42,7 +44,7 @@ pub fn turn<H: Host>(alloc: Global, machine: &mut Machine, host: &mut H) -> Turn
 }
 
 /// A file trap as a whole.
-#[tactic(auto, using(crate::proofs::TurnAnswers::traps))]
+#[tactic(auto, using(crate::proofs::TurnAnswers::traps, crate::proofs::Later::counting))]
 fn trap_turn<H: Host>(
     alloc: Global,
     machine: &mut Machine,
@@ -55,6 +57,7 @@ fn trap_turn<H: Host>(
     ensures front { LeavesFront (H.told host.old) (H.told host.new) (state_of machine.old)
         TurnAnswer.OutOfMemory result (λ s m. turn_answer (spec.trap_turn (touching.touches (machine_contents s).bytes
         call.now) call.now (trap_answer (machine_contents s) m call.now))) }
+    ensures bound { IsLater 1 (state_of machine.old) (state_of machine.new) }
     ensures keeps { Keeps (H.told host.old) (H.told host.new) (H.faults host.old) (H.faults host.new) }
 {
     let looks = touches(machine, call);
@@ -63,7 +66,7 @@ fn trap_turn<H: Host>(
 }
 
 /// Carries out a file trap on the machine's memory.
-#[tactic(auto, using(crate::proofs::TurnAnswers::spaces))]
+#[tactic(auto, using(crate::proofs::TurnAnswers::spaces, crate::proofs::Later::resting))]
 fn carry_out<H: Host>(
     alloc: Global,
     machine: &mut Machine,
@@ -74,6 +77,7 @@ fn carry_out<H: Host>(
         TrapAnswer.OutOfMemory result (λ s m. state_left (trap_answer (machine_contents s) m call.now)) }
     ensures front { LeavesFront (H.told host.old) (H.told host.new) (state_of machine.old)
         TrapAnswer.OutOfMemory result (λ s m. state_left (trap_answer (machine_contents s) m call.now)) }
+    ensures steps { (state_of machine.new).steps ≡ (state_of machine.old).steps }
     ensures keeps { Keeps (H.told host.old) (H.told host.new) (H.faults host.old) (H.faults host.new) }
 {
     let answer = trap(alloc, machine, host, call);
@@ -82,10 +86,12 @@ fn carry_out<H: Host>(
 }
 
 /// Completes a file trap with its answer.
+#[tactic(auto, using(crate::proofs::Later::finishing))]
 fn finish(machine: &mut Machine, call: &TrapCall, looks: bool, answer: TrapAnswer) -> TurnAnswer
     ensures told { answer ≢ TrapAnswer.OutOfMemory → (m : HostModel) → (result, state_of machine.new, m)
         ≡ turn_answer (spec.turn_with looks call.now (state_of machine.old) m answer) }
     ensures memory { result ≡ TurnAnswer.OutOfMemory → answer ≡ TrapAnswer.OutOfMemory }
+    ensures bound { IsLater 1 (state_of machine.old) (state_of machine.new) }
     ensures unmade { answer ≡ TrapAnswer.OutOfMemory → result ≡ TurnAnswer.OutOfMemory }
     ensures touch { answer ≡ TrapAnswer.OutOfMemory
         → state_of machine.new ≡ spec.with_touch_if looks (state_of machine.old) }

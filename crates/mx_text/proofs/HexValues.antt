@@ -48,4 +48,9 @@ hex-numeral x lt = (omega arith, all 16 x)
 pub hex-value : (x : ℕ) → x < 2 ^ 64 → digits_value 16 (hex_digits 16 x) ≡ x
 hex-value x lt = after 16 0 x ∙ zero-add (x % 2 ^ 64) ∙ mod-eq_of_lt lt
 
+pub hex-counted : (k x : ℕ) → x < 16 ^ k → digits_value 16 (hex_digits k x) ≡ x
+hex-counted k x lt =
+    let none : 0 * 16 ^ k + x % 16 ^ k ≡ x % 16 ^ k = omega arith in
+    after k 0 x ∙ none ∙ mod-eq_of_lt lt
+
 pub ruleset values = (hex-numeral, hex-value)

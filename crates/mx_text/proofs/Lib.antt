@@ -1,5 +1,7 @@
 pub mod SecondCodes
 pub mod Digits
+pub mod TetraDigits
+pub mod Rows
 pub mod Joined
 pub mod ByShape
 pub mod LowestCodes

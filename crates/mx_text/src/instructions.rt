@@ -23,6 +23,15 @@ pub fn instruction(alloc: Global, word: u32, pc: u64) -> Result<Bytes, NoMemory>
     Ok(text)
 }
 
+/// Adds the text of the tetra `word` at the address `pc`.
+pub fn add_instruction(text: &mut Bytes, word: u32, pc: u64) -> Result<(), NoMemory>
+    ensures { OnOk result (text.new ≡ text.old ++ spec.instruction_text word pc) }
+{
+    text.extend(name(code(word)).as_bytes())?;
+    text.push(b' ')?;
+    add_shown(text, word, pc)
+}
+
 /// Adds the operands that are shown.
 fn add_shown(text: &mut Bytes, word: u32, pc: u64) -> Result<(), NoMemory>
     ensures { OnOk result (text.new ≡ text.old ++ spec.operands_text (spec.shown_operands word pc)) }

@@ -8,8 +8,8 @@ mod laws;
 mod numbers;
 mod operands;
 
-pub use instructions::instruction;
+pub use instructions::{add_instruction, instruction};
 pub use laws::{
     hex_digits_count_the_octa, names_are_found, texts_of_octas_differ, texts_tell_their_instruction,
 };
-pub use numbers::{Form, octa_hex, shown};
+pub use numbers::{Form, add_decimal, byte_hex, octa_hex, shown, tetra_hex};

@@ -1,6 +1,6 @@
 //! The texts of octas.
 
-ghost use Rattle.std.specs.Prelude.{◌≡◌, ◌<◌, ◌++◌, IfOk, OnOk, map};
+ghost use Rattle.std.specs.Prelude.{◌≡◌, ◌<◌, ◌++◌, IfOk, OnErr, OnOk, decimal, map};
 ghost use Rattle.std.specs.Fmt.{signed_decimal};
 ghost use Rattle.mx_text.specs.Numbers as spec;
 
@@ -38,6 +38,36 @@ pub fn octa_hex(x: u64) -> [u8; 17]
         text[place + 1] = hex_digit(digit);
     }
     text
+}
+
+/// A tetra as eight hexadecimal digits, in lower case and from the high end.
+#[tactic(auto, using(crate::proofs::TetraDigits::writing))]
+pub fn tetra_hex(word: u32) -> [u8; 8]
+    ensures { result ≡ spec.hex_digits 8 word }
+{
+    let mut text = [b'0'; 8];
+    for place in 0..8 {
+        let digit = ((word >> (4 * (7 - place))) % 16) as u8;
+        text[place] = hex_digit(digit);
+    }
+    text
+}
+
+/// A byte as two hexadecimal digits, in lower case and from the high end.
+#[tactic(auto, using(crate::proofs::TetraDigits::writing))]
+pub fn byte_hex(b: u8) -> [u8; 2]
+    ensures { result ≡ spec.hex_digits 2 b }
+{
+    [hex_digit(b / 16), hex_digit(b % 16)]
+}
+
+/// Adds a number in decimal digits, and nothing where there is no memory.
+pub fn add_decimal(text: &mut Bytes, n: u32) -> Result<(), NoMemory>
+    ensures ok { OnOk result (text.new ≡ text.old ++ decimal n) }
+    ensures err { OnErr result (text.new ≡ text.old) }
+{
+    let mut buffer = Buffer::new();
+    text.extend(buffer.format(n).as_bytes())
 }
 
 /// The text of an octa in one of the forms. It refuses only where it is out of memory.

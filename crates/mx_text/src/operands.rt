@@ -1,11 +1,10 @@
 //! Operands as they are shown.
 
-ghost use Rattle.std.specs.Prelude.{◌≡◌, ◌++◌, OnOk, decimal};
+ghost use Rattle.std.specs.Prelude.{◌≡◌, ◌++◌, OnOk};
 ghost use Rattle.std.specs.List.{flat_map};
 ghost use Rattle.mx_text.specs.Instructions as spec;
 
-use crate::numbers::octa_hex;
-use itoa::Buffer;
+use crate::numbers::{add_decimal, octa_hex};
 use mx_word::{Bytes, NoMemory};
 
 /// An operand as a text shows it.
@@ -17,14 +16,6 @@ pub(crate) enum Operand {
     Number(u32),
     /// The target of a relative address.
     Address(u64),
-}
-
-/// Adds a number in decimal digits.
-fn add_decimal(text: &mut Bytes, n: u32) -> Result<(), NoMemory>
-    ensures { OnOk result (text.new ≡ text.old ++ decimal n) }
-{
-    let mut buffer = Buffer::new();
-    text.extend(buffer.format(n).as_bytes())
 }
 
 /// Adds an operand.

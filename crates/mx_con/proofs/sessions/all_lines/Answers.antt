@@ -6,6 +6,7 @@ use Rattle.mx_host.proofs.Keeping.{keeps-then}
 use Rattle.mx_con.specs.Clauses.{output_of, console_of}
 use Rattle.mx_con.specs.Session.{most_input}
 use Rattle.mx_con.proofs.ListedSessions.{lines-went, lines-ended, lines-limited}
+use Rattle.mx_con.proofs.StepBounds.{within-then}
 use Rattle.mx_con.proofs.SessionLines.{lines-on, lines-one-at}
 use Rattle.mx_con.proofs.sessions.all_lines.Goals as goal
 
@@ -24,6 +25,7 @@ loop-turn-preserved g c = record {
       (console_of c.loop-turn.runner c.loop-turn.dialog (g.H.Host.told c.loop-turn.host))
       (console_of c.one_line.new.runner c.one_line.new.dialog (g.H.Host.told c.one_line.new.host))
       c.loop-turn-test.true (λ v. c.in-Ok.ensures.listed here (λ e. absurd (cc)) v) (c.in-Ok.ensures.keeps.growing here) (c.loop-turn.invariant.listed t u);
+  bound = within-then _ _ _ _ c.loop-turn.invariant.bound c.in-Ok.ensures.bound;
   keeps = keeps-then _ _ _ _ _ _ c.loop-turn.invariant.keeps c.in-Ok.ensures.keeps;
 }
 

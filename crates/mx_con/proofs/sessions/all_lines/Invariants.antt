@@ -4,7 +4,7 @@ use Rattle.mx_core.specs.Kept.{state_of}
 use Rattle.mx_host.specs.Keeping.{Keeps}
 use Rattle.mx_host.specs.HostModel.{tells}
 use Rattle.mx_run.specs.WildRuns.{window_machine, list_machine}
-use Rattle.mx_con.specs.Clauses.{console_of, as_list_console}
+use Rattle.mx_con.specs.Clauses.{console_of, as_list_console, StepsWithin}
 use Rattle.mx_con.specs.Session.{session_lines, most_input}
 use Rattle.mx_con.proofs.ListedSessions.{LinesFrom}
 use Rattle.mx_con.proofs.sessions.all_lines.Given as goal
@@ -18,5 +18,6 @@ invariant-loop-turn g l = record {
       LinesFrom
       (session_lines (most_input + 1) list_machine l.fn.steps (as_list_console (console_of l.fn.runner l.fn.dialog (g.H.Host.told l.fn.host))))
       (most_input + 1) l.turn l.fn.steps (console_of l.runner l.dialog (g.H.Host.told l.host));
+  bound : StepsWithin l.fn.steps (state_of l.fn.runner.machine) (state_of l.runner.machine);
   keeps : Keeps (g.H.Host.told l.fn.host) (g.H.Host.told l.host) (g.H.Host.faults l.fn.host) (g.H.Host.faults l.host);
 }

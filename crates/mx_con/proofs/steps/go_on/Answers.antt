@@ -5,6 +5,7 @@ use Rattle.mx_host.specs.HostModel.{contents}
 use Rattle.mx_host.proofs.Keeping.{keeps-then}
 use Rattle.mx_con.specs.Clauses.{output_of, console_of}
 use Rattle.mx_con.proofs.ListedRuns.{runs-went, runs-paused, runs-ended, runs-spent}
+use Rattle.mx_con.proofs.StepBounds.{within-then}
 use Rattle.mx_con.proofs.StepLaws.{runs-over, runs-on, runs-one-at}
 use Rattle.mx_con.proofs.steps.go_on.Goals as goal
 
@@ -30,6 +31,7 @@ loop-turn-preserved g c = record {
       (console_of c.run_once.new.runner c.args.dialog.now (g.H.Host.told c.run_once.new.host))
       c.loop-turn-test.true (λ v. rw c.in-Ok-true.field-0-test at (c.in-Ok-true.ensures.listed here (λ e. absurd (cc)) v))
       (c.in-Ok-true.ensures.keeps.growing here) (c.loop-turn.invariant.listed t u);
+  bound = within-then _ _ _ _ c.loop-turn.invariant.bound c.in-Ok-true.ensures.bound;
   keeps = keeps-then _ _ _ _ _ _ c.loop-turn.invariant.keeps c.in-Ok-true.ensures.keeps;
 }
 

@@ -3,7 +3,7 @@ use Rattle.std.specs.Prelude.{IsTrue}
 use Rattle.mx_host.specs.Keeping.{Keeps}
 use Rattle.mx_host.specs.HostModel.{tells}
 use Rattle.mx_run.specs.WildRuns.{window_machine, list_machine}
-use Rattle.mx_con.specs.Clauses.{console_of, as_list_console}
+use Rattle.mx_con.specs.Clauses.{console_of, as_list_console, StepsWithin}
 use Rattle.mx_con.specs.Session.{runs, steps_left}
 use Rattle.mx_core.specs.Kept.{state_of}
 use Rattle.mx_con.proofs.ListedRuns.{RunsFrom}
@@ -18,5 +18,6 @@ invariant-loop-turn g l = record {
       RunsFrom
       (runs list_machine (steps_left l.fn.steps (state_of l.fn.runner.machine)) l.fn.steps true (as_list_console (console_of l.fn.runner l.fn.dialog (g.H.Host.told l.fn.host))))
       l.most l.turn l.fn.steps l.pass (console_of l.runner l.fn.dialog (g.H.Host.told l.host));
+  bound : StepsWithin l.fn.steps (state_of l.fn.runner.machine) (state_of l.runner.machine);
   keeps : Keeps (g.H.Host.told l.fn.host) (g.H.Host.told l.host) (g.H.Host.faults l.fn.host) (g.H.Host.faults l.host);
 }

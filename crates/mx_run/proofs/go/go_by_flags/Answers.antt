@@ -4,6 +4,7 @@ use Rattle.mx_host.proofs.Keeping.{keeps-all, keeps-then}
 use Rattle.mx_core.specs.Kept.{state_of}
 use Rattle.mx_run.specs.FlagMaps.{flags_at}
 use Rattle.mx_run.specs.Runs.{Ended}
+use Rattle.mx_run.proofs.Later.{begun-later, turned-later}
 use Rattle.mx_run.proofs.ListSteps.{list-begun, list-went, list-ended, list-spent}
 use Rattle.mx_run.proofs.RunSteps.{run-begun, run-went, run-ended, run-spent, run-wanting}
 use Rattle.mx_run.proofs.go.go_by_flags.Goals as goal
@@ -12,6 +13,7 @@ pub loop-turn-init : goal.loop-turn-init
 loop-turn-init g c = record {
   told = λ t. run-begun c.args.n (flags_at c.args.flags.now) c.args.pass (state_of c.args.machine.now) (contents (g.H.Host.told c.args.host.now));
   listed = λ t u. list-begun c.args.n (flags_at c.args.flags.now) c.args.pass (state_of c.args.machine.now) (contents (g.H.Host.told c.args.host.now)) u;
+  bound = begun-later (state_of c.args.machine.now);
   keeps = keeps-all (g.H.Host.told c.args.host.now) (g.H.Host.faults c.args.host.now);
 }
 
@@ -26,6 +28,7 @@ loop-turn-preserved g c = record {
       (c.in-Ok.ensures.told (subst IsTrue (sym c.loop-turn.invariant.keeps.telling) t) (λ e. cc));
   listed = λ t u. list-went _ _ _ _ _ _ _ _ _ _ c.loop-turn-test.true c.in-Ok.ensures.over
       (c.in-Ok.ensures.told (subst IsTrue (sym c.loop-turn.invariant.keeps.telling) t) (λ e. cc)) (c.loop-turn.invariant.listed t u);
+  bound = turned-later _ _ _ _ c.loop-turn.invariant.bound c.run_step.ensures.bound;
   keeps = keeps-then _ _ _ _ _ _ c.loop-turn.invariant.keeps c.run_step.ensures.keeps;
 }
 

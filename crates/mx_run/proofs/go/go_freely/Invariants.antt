@@ -4,7 +4,7 @@ use Rattle.mx_host.specs.HostModel.{tells, contents}
 use Rattle.mx_core.specs.Bounds.{as_list_state}
 use Rattle.mx_core.specs.Kept.{state_of}
 use Rattle.mx_run.specs.FlagMaps.{flags_at}
-use Rattle.mx_run.specs.Runs.{run}
+use Rattle.mx_run.specs.Runs.{run, IsLater}
 use Rattle.mx_run.specs.WildRuns.{run_by, list_machine}
 use Rattle.mx_run.proofs.ListSteps.{Beside}
 use Rattle.mx_run.proofs.go.go_freely.Given as goal
@@ -18,5 +18,6 @@ invariant-loop-turn g l = record {
       Beside (run_by list_machine l.n (flags_at l.flags) true (as_list_state (state_of l.fn.machine)) (contents (g.H.Host.told l.fn.host)))
       (run_by list_machine (l.n - l.turn) (flags_at l.flags) true (as_list_state (state_of l.machine)) (contents (g.H.Host.told l.host)))
       (state_of l.machine) (contents (g.H.Host.told l.host));
+  bound : IsLater l.turn (state_of l.fn.machine) (state_of l.machine);
   keeps : Keeps (g.H.Host.told l.fn.host) (g.H.Host.told l.host) (g.H.Host.faults l.fn.host) (g.H.Host.faults l.host);
 }

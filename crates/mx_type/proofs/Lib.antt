@@ -1,0 +1,5 @@
+pub mod Lambdas
+pub mod Listed
+pub mod Rows
+pub mod Readings
+pub mod Once

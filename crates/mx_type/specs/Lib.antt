@@ -1,0 +1,4 @@
+pub mod Lines
+pub mod Lambda
+pub mod Listing
+pub mod Texts

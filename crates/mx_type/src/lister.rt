@@ -1,0 +1,104 @@
+//! The listing of an object, item by item and as a whole.
+
+ghost use Rattle.std.specs.Prelude.{◌≡◌, ◌++◌, ◌∷◌, [], List, ℕ, IfOk, OnErr, OnOk};
+ghost use Rattle.mx_mmo.specs.declared.items.Item.{Item};
+ghost use Rattle.mx_stab.specs.Grammar.{IsTrie};
+ghost use Rattle.mx_type.specs.Lambda.{lambda_after};
+ghost use Rattle.mx_type.specs.Listing.{HasListed, IsListing};
+ghost use Rattle.mx_type.specs.Texts.{item_text, items_text, listing_text, tail_text};
+
+use crate::lines::{add_item, lambda_after};
+use crate::symbols::add_tail;
+use mx_mmo::{Item, Items};
+use mx_word::{Bytes, NoMemory, Symbols};
+use std::alloc::Global;
+use std::marker::Model;
+
+/// Most lines of items have no more bytes than these.
+const USUAL_LINE: usize = 64;
+
+/// Lists the items of an object, one after another. Contracts see lambda after those that were
+/// listed.
+#[derive(Drop)]
+pub struct Lister {
+    alloc: Global,
+    lambda: u64,
+}
+
+impl Model for Lister {
+    ghost use Rattle.std.specs.Prelude.{ℕ};
+
+    ghost Value = { ℕ };
+
+    ghost view = { λ l. l.lambda };
+}
+
+impl Lister {
+    /// A lister that no item was given to. It takes no memory.
+    pub fn new(alloc: Global) -> Lister
+        ensures lambda { result ≡ 0 }
+        ensures none { HasListed result [] [] }
+    {
+        Lister { alloc, lambda: 0 }
+    }
+
+    /// The line of the next item with its newline; no bytes for `stab`. Out of memory, the lister is
+    /// as it was.
+    pub fn item(&mut self, item: &Item) -> Result<Bytes, NoMemory>
+        ensures text { IfOk result (λ text. text ≡ item_text self.old item.now) }
+        ensures lambda { OnOk result (self.new ≡ lambda_after self.old item.now) }
+        // What was listed, and this text behind it, are the lines of all these items.
+        ensures joined { IfOk result (λ text. (items : List Item) (lines : List ℕ) →
+            HasListed self.old items lines → HasListed self.new (items ++ item.now ∷ []) (lines ++ text)) }
+        ensures err { OnErr result (self.new ≡ self.old) }
+    {
+        let mut text = Bytes::from_vec(Vec::with_capacity(self.alloc, USUAL_LINE)?);
+        add_item(&mut text, self.lambda, item)?;
+        self.lambda = lambda_after(self.lambda, item);
+        Ok(text)
+    }
+
+    /// The lines that stand behind those of all items, from that of the trie on. The symbols have to
+    /// be those of the trie.
+    pub fn tail(&self, trie: &Bytes, symbols: &Symbols) -> Result<Bytes, NoMemory>
+        requires { IsTrie trie.now symbols.now }
+        ensures text { IfOk result (λ text. text ≡ tail_text trie.now symbols.now) }
+        // What was listed, and this text behind it, are the listing of the items and the trie.
+        ensures joined { IfOk result (λ text. (items : List Item) (lines : List ℕ) →
+            HasListed self.now items lines → IsListing (lines ++ text) items trie.now) }
+    {
+        let mut text = Bytes::new(self.alloc);
+        add_tail(&mut text, trie.as_slice(), symbols.as_slice())?;
+        Ok(text)
+    }
+}
+
+/// Adds the lines of items, where lambda is an address before the first of them.
+fn add_items(text: &mut Bytes, items: &[Item]) -> Result<(), NoMemory>
+    ensures { OnOk result (text.new ≡ text.old ++ items_text 0 items.now) }
+{
+    let mut lambda = 0;
+    for item in items {
+        add_item(text, lambda, item)?;
+        lambda = lambda_after(lambda, item);
+    }
+    Ok(())
+}
+
+/// The listing of items and of a trie, whose symbols have to be these.
+pub fn listing(
+    alloc: Global,
+    items: &Items,
+    trie: &Bytes,
+    symbols: &Symbols,
+) -> Result<Bytes, NoMemory>
+    requires { IsTrie trie.now symbols.now }
+    ensures listing { IfOk result (λ text. IsListing text items.now trie.now) }
+    // It is what a lister gives for the items and at the end, joined.
+    ensures joined { IfOk result (λ text. text ≡ listing_text items.now trie.now symbols.now) }
+{
+    let mut text = Bytes::new(alloc);
+    add_items(&mut text, items.as_slice())?;
+    add_tail(&mut text, trie.as_slice(), symbols.as_slice())?;
+    Ok(text)
+}
