@@ -4,12 +4,14 @@
 mod help;
 mod opening;
 mod real;
+mod standard;
 mod streams;
 #[cfg(test)]
 mod tests;
 
 use crate::help::{HELP, VERSION, answered};
 use crate::real::RealHost;
+use crate::standard::StandIns;
 use mx_top::mmixware;
 use std::env;
 use std::io::ErrorKind;
@@ -21,6 +23,7 @@ const FAULTY_WORDS: u8 = 64;
 const OUT_OF_MEMORY: u8 = 71;
 
 fn main(rt: HostRuntime) -> ExitCode {
+    let _stand_ins = StandIns::new(&rt);
     let alloc = rt.alloc();
     let args = match env::args(&rt) {
         Ok(args) => args,

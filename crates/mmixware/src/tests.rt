@@ -1,7 +1,10 @@
 //! The real host on a file of its own.
 
 use crate::real::RealHost;
+use crate::standard::stand_in;
 use mx_host::{Host, HostFault, Mode, OpenFault};
+use std::fs::File;
+use std::os::fd::AsRawFd;
 
 /// Reads at most 8 bytes of slot 256, and compares.
 fn reads<H: Host>(host: &mut H, want: &[u8]) -> bool {
@@ -37,4 +40,26 @@ fn a_file_is_written_read_back_and_sought_in(rt: HostRuntime) {
     assert_eq!(rt; host.seek_slot(256, 7), Err(HostFault::Misused));
     assert_eq!(rt; host.seek_slot(256, -8), Err(HostFault::Misused));
     assert_eq!(rt; host.write_slot(256, b"x"), Err(HostFault::Misused));
+}
+
+/// The lowest free descriptor of the system.
+fn free_descriptor(rt: &HostRuntime) -> i32 {
+    match File::open(rt, "/dev/null") {
+        Ok(file) => file.as_raw_fd(),
+        Err(_) => -1,
+    }
+}
+
+#[test]
+fn a_free_descriptor_is_filled_and_an_open_one_is_left(rt: HostRuntime) {
+    let free = free_descriptor(&rt);
+    assert!(rt; free > 2);
+    for open in 0..3 {
+        assert!(rt; stand_in(&rt, open).is_none());
+    }
+    // kept until the end, as the program keeps it
+    let kept = stand_in(&rt, free);
+    assert!(rt; kept.is_some());
+    assert!(rt; stand_in(&rt, free).is_none());
+    assert!(rt; free < free_descriptor(&rt));
 }
