@@ -15,7 +15,7 @@ for folder in crates/*/; do
   [ -d "$folder/src" ] || continue
   grep -q "^$crate[ :]" crates.txt || wrong "$crate is not in crates.txt"
   case $crate in
-    mx_parts | mx_objects | mx_language | mx_calls | mx_phrases | mx_steps | mx_rows | mx_runs | mx_corners | mx_outside) continue ;;
+    mx_parts | mx_objects | test_listing | mx_language | mx_calls | mx_phrases | mx_steps | mx_rows | mx_runs | mx_corners | mx_outside) continue ;;
   esac
   [ -n "$(ls "$folder/must-fail" 2>/dev/null)" ] || wrong "$crate has no must-fail edit"
 done
@@ -30,14 +30,24 @@ for file in $(find crates -name out -prune -o \( -name '*.rt' -o -name '*.antt' 
   [ "$(wc -l <"$file")" -le 500 ] || wrong "$file has more than 500 lines"
 done
 
-# the manual page is in order
+# the manual pages are in order
 if command -v groff >/dev/null; then
-  said=$(groff -man -Tutf8 -ww -z docs/mmixware.1 2>&1)
-  [ -z "$said" ] || wrong "docs/mmixware.1: $said"
+  for page in docs/*.1; do
+    said=$(groff -man -Tutf8 -ww -z "$page" 2>&1)
+    [ -z "$said" ] || wrong "$page: $said"
+  done
 fi
 
 # the scripts at the top do what they say
 sh checks/scripts.sh || bad=1
+if command -v bash >/dev/null; then
+  bash checks/completion.bash || bad=1
+fi
+
+# a release has the same bytes again, and runs where there is no kit; this needs the program
+if command -v dpkg-deb >/dev/null; then
+  sh checks/release.sh || bad=1
+fi
 
 # the grader gives each solution its verdict
 sh checks/grade/test.sh || bad=1

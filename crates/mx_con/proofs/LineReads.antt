@@ -1,7 +1,7 @@
 -- A line is read byte by byte.
 use Rattle.std.proofs.Common.{◌≡◌, ℕ, zero, suc, [], ◌∷◌, length, take, slice_index_or, ◌≢◌, ◌+◌, ◌-◌, ◌<◌, ◌≤◌, true, false, List, arith, refl, Ok, Err}
 use Rattle.mx_host.specs.HostModel.{HostModel}
-use Rattle.mx_trap.proofs.Readings.{read-output}
+use Rattle.mx_plan.proofs.Streams.{read-output}
 use Rattle.mx_con.specs.HostLines.{grown, line_read}
 use Rattle.mx_con.specs.declared.end.SessionEnd.{SessionEnd}
 use Rattle.mx_con.specs.declared.end.SessionEnd.TheVariants.{Limit}

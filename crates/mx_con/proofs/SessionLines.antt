@@ -5,7 +5,7 @@ use Rattle.mx_word.proofs.Fronts.{front-self, front-through}
 use Rattle.mx_host.specs.HostAnswer.{Then, read_answer}
 use Rattle.mx_host.specs.HostModel.{HostModel}
 use Rattle.mx_host.specs.declared.faults.HostFault.{HostFault}
-use Rattle.mx_trap.proofs.Readings.{read-output}
+use Rattle.mx_plan.proofs.Streams.{read-output}
 use Rattle.mx_core.specs.State.{State}
 use Rattle.mx_run.specs.Runs.{FlagsOf}
 use Rattle.mx_run.specs.WildRuns.{window_machine}

@@ -5,7 +5,7 @@ use Rattle.mx_host.proofs.Still.{still}
 use Rattle.mx_host.specs.HostAnswer.{Then, read_answer, write_answer}
 use Rattle.mx_host.specs.HostModel.{HostModel}
 use Rattle.mx_host.specs.declared.faults.HostFault.{HostFault}
-use Rattle.mx_trap.proofs.Spared.{Spares, Spared, uncalled, after, then, read-spared, write-spared}
+use Rattle.mx_plan.proofs.Spared.{Spares, Spared, uncalled, after, then, read-spared, write-spared}
 use Rattle.mx_core.specs.State.{State}
 use Rattle.mx_run.proofs.SteadyRuns.{turn_still, SparedTurns, turn-steady, end_still, SparedEnds, run-steady}
 use Rattle.mx_run.specs.Counts.{end_host}

@@ -85,3 +85,6 @@ lone-outcome s i y z x a e = lone-by s i y z x a.x a.h a.r a.event e
 
 pub compute_alone : (s : State) (i : Instruction) (x : ℕ) → Some x ≡ lone_value (alu_answer s i (y_operand s i) (z_operand s i)) → outcome s (deed_of op.Compute s i) ≡ settled s (x_of i) x (next_of i)
 compute_alone s i x e = compute_outcome s i ∙ lone-outcome s i (y_operand s i) (z_operand s i) x (alu_answer s i (y_operand s i) (z_operand s i)) e
+
+pub negate_alone : (s : State) (i : Instruction) (x : ℕ) → Some x ≡ lone_value (alu_answer s i (y_of i) (z_operand s i)) → outcome s (deed_of op.Negate s i) ≡ settled s (x_of i) x (next_of i)
+negate_alone s i x e = negate_outcome s i ∙ lone-outcome s i (y_of i) (z_operand s i) x (alu_answer s i (y_of i) (z_operand s i)) e

@@ -63,7 +63,7 @@ backward-at code below = agree (λ k. get_or BACKWARD k false) (λ k. is_backwar
 -- the codes that an operation may have
 is_among : Operation → ℕ → Bool
 is_among op.Compute code = is_alu code && nat_lt code 0xe0
-is_among op.Negate code = is_alu code
+is_among op.Negate code = is_alu code && nat_lt code 0xe0
 is_among op.Wyde code = nat_le 0xe0 code && nat_le code 0xef
 is_among op.Branch code = nat_le 0x40 code && nat_le code 0x7f
 is_among op.ConditionalSet code = nat_le 0x40 code && nat_le code 0x7f
@@ -87,9 +87,15 @@ computes code below e = (compute-bounds code below e).0
 pub computes_low : (code : ℕ) → code < 256 → operation_of code ≡ op.Compute → code < 0xe0
 computes_low code below e = (compute-bounds code below e).1
 
-pub negates : (code : ℕ) → code < 256 → operation_of code ≡ op.Negate → is_alu code ≡ true
+abbrev negate-bounds : (code : ℕ) → code < 256 → operation_of code ≡ op.Negate → (is_alu code ≡ true) × (code < 0xe0)
 unfolding is_among
-negates code below e = sym (ap (λ o. is_among o code) e) ∙ among code below
+negate-bounds code below e = both-tests code (sym (ap (λ o. is_among o code) e) ∙ among code below)
+
+pub negates : (code : ℕ) → code < 256 → operation_of code ≡ op.Negate → is_alu code ≡ true
+negates code below e = (negate-bounds code below e).0
+
+pub negates_low : (code : ℕ) → code < 256 → operation_of code ≡ op.Negate → code < 0xe0
+negates_low code below e = (negate-bounds code below e).1
 
 -- the tests apart
 both-bounds : (low high code : ℕ) → (nat_le low code && nat_le code high) ≡ true → (low ≤ code) × (code ≤ high)

@@ -9,6 +9,7 @@ use Rattle.mx_core.specs.declared.operation.Operation.TheVariants as op
 -- the operation of a code of a group: the group tells it, but for loads and stores, and for all others
 abbrev pub operation_by : Group → ℕ → Operation
 operation_by group.Compute code = op.Compute
+operation_by group.Negate code = op.Negate
 operation_by group.Move code = operation_of code
 operation_by group.Branch code = op.Branch
 operation_by group.Wyde code = op.Wyde

@@ -1,4 +1,5 @@
--- Instructions: a tetra, the address where it is carried out, and the fields that it has.
+-- Instructions: a tetra, the address where it is carried out, and the fields that it has (MMIXware, the part on MMIX;
+-- TAOCP 1, Fascicle 1, section 1.3.1').
 use Rattle.std.specs.Prelude.{ℕ, ◌+◌, ◌-◌, ◌*◌, ◌/◌, ◌%◌, ◌^◌, None, Some, if◌then◌else◌}
 use Rattle.mx_ops.specs.Opcodes.{opcode_kind, is_backward}
 use Rattle.mx_core.specs.Operations.{operation_of}

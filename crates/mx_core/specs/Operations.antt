@@ -1,4 +1,5 @@
--- The operations that the machine carries out, by their names in the table of codes (`mx_ops`).
+-- The operations that the machine carries out, by their names in the table of codes of `mx_ops` (MMIXware, the part on
+-- MMIX; TAOCP 1, Fascicle 1, section 1.3.1').
 use Rattle.std.specs.Prelude.{ℕ, List, ◌++◌, map, codes, Bool, true, false}
 use Rattle.std.specs.Option.{unwrap_or}
 use Rattle.mx_mem.specs.declared.part.Part.TheVariants.{Byte, Wyde, Tetra, Octa}

@@ -1,4 +1,4 @@
--- One step of the machine: the next state with its trace, a call of a file trap, or a stop.
+-- One step of the machine: the next state with its trace, a call of a file trap, or a stop (MMIXware, the part on MMIX).
 use Rattle.std.specs.Prelude.{◌||◌, if◌then◌else◌, Option, None, Some}
 use Rattle.std.specs.Option.{option_map}
 use Rattle.mx_ring.specs.Stack.{register}

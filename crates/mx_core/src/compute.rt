@@ -1,12 +1,13 @@
 //! Instructions that give $X a value and do nothing else.
 
-ghost use Rattle.std.specs.Prelude.{◌≡◌, true};
+ghost use Rattle.std.specs.Prelude.{◌≡◌, true, IsTrue};
 ghost use Rattle.mx_core.specs.Calls.{CarriesOut, Makes, answer_outcome};
 ghost use Rattle.mx_core.specs.Effects as spec;
 ghost use Rattle.mx_core.specs.Instructions.{code_of, instruction, operation_in};
 ghost use Rattle.mx_core.specs.Kept.{state_of};
 ghost use Rattle.mx_core.specs.Operations.{has_condition};
 ghost use Rattle.mx_core.specs.Told.{answer_in};
+ghost use Rattle.mx_alu.specs.Alu.{is_alu};
 ghost use Rattle.mx_alu.specs.Truth as conditions;
 
 use crate::Machine;
@@ -30,12 +31,11 @@ impl Machine {
         }
     }
 
-    /// The same with what they give beside the result. It is given words and no reference, so that the
-    /// instruction need not stand in memory.
-    #[tactic(auto, using(crate::proofs::Tables::computes))]
+    /// An instruction on whole numbers, of its operands, with what it gives beside the result. It is given
+    /// words and no reference, so that the instruction need not stand in memory.
     #[inline(never)]
     fn compute_wholly(&mut self, at: u64, word: u32, y: u64, z: u64) -> Told
-        requires { operation_in (instruction at word) ≡ Operation.Compute }
+        requires { IsTrue (is_alu (code_of (instruction at word))) }
         ensures { Makes (λ s. answer_outcome s (instruction at word) y z (spec.alu_answer s (instruction at word) y z))
             (answer_in result) self.old self.new }
     {
@@ -44,16 +44,18 @@ impl Machine {
         Told::of(self.answer(&i, y, z, &a))
     }
 
-    /// NEG and NEGU.
-    #[tactic(auto, using(crate::proofs::Events::negate_outcome, crate::proofs::Tables::negates))]
+    /// NEG and NEGU. Mostly the result is all that they give.
+    #[tactic(auto, using(crate::proofs::Events::negate_outcome, crate::proofs::Events::negate_alone, crate::proofs::Plain::answer_plain, crate::proofs::Tables::negates, crate::proofs::Tables::negates_low))]
     #[inline(always)]
     pub(crate) fn negate(&mut self, i: &Instruction) -> Result<(), Stop>
         requires { operation_in i.now ≡ Operation.Negate }
         ensures { CarriesOut Operation.Negate i.now result self.old self.new }
     {
         let (y, z) = (u64::from(i.y()), self.z_operand(i));
-        let a = alu(i.code(), y, z, self.extra());
-        self.answer(i, y, z, &a)
+        match lone_result(i.code(), y, z, self.extra()) {
+            Some(x) => self.settle(i, x, i.next()),
+            None => self.compute_wholly(i.at, i.word, y, z).answer(),
+        }
     }
 
     /// rD and rM, which divisions and MUX read.

@@ -21,6 +21,6 @@ pub fn contents_tell_the_state()
 pub fn machines_are_whole(machine: &Machine)
     ensures { IsWholeSpace (state_of machine.now) }
 {
-    machine.ring.stack_area();
+    machine.ring.know_stack_area();
     machine.memory.pages();
 }

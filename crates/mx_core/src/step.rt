@@ -29,7 +29,8 @@ pub enum Step {
     OutOfMemory,
 }
 
-/// The same without the trace and the call.
+/// What a step comes to, without its trace or its call: the machine went on; it calls a file trap, and is to
+/// be told its result; it stopped; or it is out of memory. But for the first the machine is as it was.
 #[derive(Clone, Copy, Debug, PartialEq, Eq)]
 pub enum Advance {
     Went,
@@ -118,7 +119,7 @@ impl Machine {
         }
     }
 
-    /// The same for each address and each instruction.
+    /// One step without its trace, for each address and each instruction.
     #[inline(never)]
     fn advance_anyhow(&mut self) -> Advance
         ensures answer { result ≢ Advance.OutOfMemory →
@@ -184,6 +185,7 @@ impl Machine {
     {
         match group {
             Group::Compute => self.compute(i),
+            Group::Negate => self.negate(i),
             Group::Move => self.carry_out_move(i),
             Group::Branch => self.branch(i),
             Group::Wyde => self.set_wyde(i),

@@ -11,9 +11,9 @@ use Rattle.mx_host.proofs.Still.{still}
 use Rattle.mx_mmo.specs.Image.{Image}
 use Rattle.mx_core.specs.State.{State}
 use Rattle.mx_asm.specs.Refusal.{refusal}
-use Rattle.mx_trap.specs.Counts.{NoneFailed, without_count}
-use Rattle.mx_trap.proofs.Spared.{uncalled, steady-of}
-use Rattle.mx_trap.proofs.SteadyTraps.{uncounted-of}
+use Rattle.mx_plan.specs.Counts.{NoneFailed, without_count}
+use Rattle.mx_plan.proofs.Spared.{uncalled, steady-of}
+use Rattle.mx_plan.proofs.Spared.{uncounted-of}
 use Rattle.mx_run.specs.Counts.{end_host}
 use Rattle.mx_run.specs.Runs.{no_flags}
 use Rattle.mx_run.specs.WildRuns.{MachineKind, RunEnd, run_ended, run_wild, run_by}

@@ -18,8 +18,8 @@ use Rattle.mx_host.proofs.NamedFiles.{home, lies, at-home, place-home, place-oth
 use Rattle.mx_mmo.specs.Image.{Image}
 use Rattle.mx_mmo.specs.Replies.{limit}
 use Rattle.mx_load.specs.Objects.{object_loaded}
-use Rattle.mx_trap.specs.Counts.{NoneFailed}
-use Rattle.mx_trap.proofs.Spared.{sooner}
+use Rattle.mx_plan.specs.Counts.{NoneFailed}
+use Rattle.mx_plan.proofs.Spared.{sooner}
 use Rattle.mx_run.specs.WildRuns.{MachineKind}
 use Rattle.mx_words.specs.Orders.{order_of, options_from, asm_order, defaults}
 use Rattle.mx_words.specs.Values.{is_option}

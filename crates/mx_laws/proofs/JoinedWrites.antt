@@ -10,13 +10,14 @@ use Rattle.mx_host.specs.declared.slots.Mode.{Mode}
 use Rattle.mx_host.specs.declared.slots.Lead.{Lead}
 use Rattle.mx_host.specs.declared.slots.Lead.TheVariants.{Input, Output, Errors, File}
 use Rattle.mx_host.proofs.Still.{still}
-use Rattle.mx_trap.specs.Counts.{NoneFailed, unscheduled}
+use Rattle.mx_plan.specs.Counts.{NoneFailed, unscheduled}
 use Rattle.mx_trap.specs.Laws.{SameButCalls}
-use Rattle.mx_trap.specs.Moves.{write_last, write_piece, write_next, write_pieces, whole_pieces, written}
+use Rattle.mx_trap.specs.Moves.{whole_pieces}
+use Rattle.mx_trap.proofs.Walks.{write_last, write_piece, write_next, write_pieces, written}
 use Rattle.mx_trap.specs.declared.writes.Written.{Written}
 use Rattle.mx_trap.specs.declared.writes.Written.TheVariants.{Whole, Short, OutOfMemory}
 use Rattle.mx_trap.proofs.JoinedWrites.{written-joined}
-use Rattle.mx_trap.proofs.Spared.{sooner}
+use Rattle.mx_plan.proofs.Spared.{sooner}
 use Rattle.mx_laws.proofs.SteadyFiles.{piece-steady, pieces_put-steady, text-steady}
 use Rattle.mx_top.specs.Pieces.{put_piece, piece_put, pieces_after, put_pieces, put_text}
 

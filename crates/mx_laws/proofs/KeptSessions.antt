@@ -171,7 +171,7 @@ byte-case (Err why) m h = h
 
 byte-kept : (m : HostModel) → Shows m → Kept (byte_read m)
 unfolding byte_read
-byte-kept m h = then byte_of (read_answer m 258 1) byte-case (read-kept m 258 1 (omega arith) h)
+byte-kept m h = then byte_of (read_answer m 258 1) byte-case (read-kept m 258 1 h)
 
 with_byte-kept : (got : List ℕ) (left : ℕ) (t : Then (Result (Option ℕ) SessionEnd)) → Kept t → Shows (with_byte got left t).3
 with_byte-kept got left (Err end, m) h = h

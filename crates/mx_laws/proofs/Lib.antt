@@ -13,6 +13,5 @@ pub mod SparedPrograms
 pub mod SteadyFiles
 pub mod SteadyProduct
 pub mod ToldPrograms
-pub mod ToldTraps
 pub mod UnbrokenRuns
 pub mod WholeFiles

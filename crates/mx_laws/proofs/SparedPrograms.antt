@@ -10,8 +10,8 @@ use Rattle.mx_mmo.specs.Image.{Image}
 use Rattle.mx_asm.specs.Refusal.{refusal}
 use Rattle.mx_core.specs.State.{State}
 use Rattle.mx_ring.specs.Stack.{register}
-use Rattle.mx_trap.specs.Counts.{unscheduled, without_count}
-use Rattle.mx_trap.proofs.Spared.{steady-of}
+use Rattle.mx_plan.specs.Counts.{unscheduled, without_count}
+use Rattle.mx_plan.proofs.Spared.{steady-of}
 use Rattle.mx_run.specs.Runs.{no_flags}
 use Rattle.mx_run.specs.WildRuns.{MachineKind, window_machine}
 use Rattle.mx_con.specs.Session.{SessionRun, session_ended, session_wild, session}

@@ -9,7 +9,7 @@ use Rattle.mx_host.specs.declared.faults.HostFault.{HostFault as SlotFault}
 use Rattle.mx_host.specs.declared.faults.OpenFault.{OpenFault}
 use Rattle.mx_host.specs.declared.faults.OpenFault.TheVariants as opening
 use Rattle.mx_host.proofs.Still.{still}
-use Rattle.mx_trap.proofs.Spared.{Spared, uncalled, then, open-spared, read-spared, write-spared, close-spared}
+use Rattle.mx_plan.proofs.Spared.{Spared, uncalled, then, open-spared, read-spared, write-spared, close-spared}
 use Rattle.mx_top.specs.Lines.{lines_put}
 use Rattle.mx_top.specs.Pieces.{put_piece, piece_put, pieces_after, put_pieces, put_text}
 use Rattle.mx_top.specs.Source.{pieces, one_piece, piece_read, next_piece, closed_with, closed_after, read_after, file_bytes}

@@ -14,9 +14,9 @@ use Rattle.mx_mmo.specs.Image.{Image}
 use Rattle.mx_load.specs.Objects.{object_loaded}
 use Rattle.mx_core.specs.State.{State}
 use Rattle.mx_ring.specs.Stack.{register}
-use Rattle.mx_trap.specs.Counts.{NoneFailed, unscheduled, without_count}
-use Rattle.mx_trap.proofs.Spared.{Spares, Spared, uncalled, after, then, open-spared, write-spared, close-spared}
-use Rattle.mx_trap.proofs.SteadyTraps.{uncounted-of, still-same}
+use Rattle.mx_plan.specs.Counts.{NoneFailed, unscheduled, without_count}
+use Rattle.mx_plan.proofs.Spared.{Spares, Spared, uncalled, after, then, open-spared, write-spared, close-spared}
+use Rattle.mx_plan.proofs.Spared.{uncounted-of, still-same}
 use Rattle.mx_run.specs.Counts.{end_host}
 use Rattle.mx_run.specs.Runs.{no_flags}
 use Rattle.mx_run.specs.WildRuns.{MachineKind, RunEnd, run_ended, run_wild, run_by}

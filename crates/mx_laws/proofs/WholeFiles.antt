@@ -4,7 +4,7 @@ use Rattle.mx_host.specs.HostModel.{HostModel, HasStartSlots, place_of}
 use Rattle.mx_host.specs.HostAnswer.{Then, bytes_at}
 use Rattle.std.specs.Prelude.{Result}
 use Rattle.mx_host.proofs.Start.{start_slots-length}
-use Rattle.mx_trap.specs.Counts.{NoneFailed}
+use Rattle.mx_plan.specs.Counts.{NoneFailed}
 use Rattle.mx_top.specs.Source.{file_bytes}
 use Rattle.mx_top.specs.declared.outcome.Outcome.{Outcome}
 use Rattle.mx_top.specs.declared.outcome.Outcome.TheVariants.{NoFile}

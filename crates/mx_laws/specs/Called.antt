@@ -1,7 +1,7 @@
 -- A call of the program over a host that tells its contents, and a call in which no call of the host fails.
 use Rattle.std.specs.Prelude.{IsTrue, List, Option}
 use Rattle.mx_host.specs.HostModel.{HostModel, tells}
-use Rattle.mx_trap.specs.Counts.{NoneFailed}
+use Rattle.mx_plan.specs.Counts.{NoneFailed}
 use Rattle.mx_run.specs.WildRuns.{MachineKind, window_machine}
 use Rattle.mx_top.specs.Answers.{AnswersAs}
 use Rattle.mx_top.specs.Arguments.{Word}

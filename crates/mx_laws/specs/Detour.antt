@@ -3,7 +3,7 @@ use Rattle.std.specs.Prelude.{ℕ, ◌≡◌, ◌+◌, List, [], ◌∷◌, ◌+
 use Rattle.std.specs.Str.{bytes_eq}
 use Rattle.mx_word.specs.Ranges.{AreBytes}
 use Rattle.mx_host.specs.HostModel.{HostModel}
-use Rattle.mx_trap.specs.Counts.{NoneFailed, unscheduled, without_count}
+use Rattle.mx_plan.specs.Counts.{NoneFailed, unscheduled, without_count}
 use Rattle.mx_run.specs.WildRuns.{MachineKind}
 use Rattle.mx_words.specs.Orders.{order_of}
 use Rattle.mx_words.specs.declared.order.Command.TheVariants.{Run, Sim}

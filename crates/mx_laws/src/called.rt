@@ -6,7 +6,7 @@ ghost use Rattle.mx_mmo.specs.Image.{Image};
 ghost use Rattle.mx_asm.specs.Refusal.{refusal};
 ghost use Rattle.mx_core.specs.State.{State};
 ghost use Rattle.mx_ring.specs.Stack.{register};
-ghost use Rattle.mx_trap.specs.Counts.{unscheduled};
+ghost use Rattle.mx_plan.specs.Counts.{unscheduled};
 ghost use Rattle.mx_run.specs.WildRuns.{MachineKind, window_machine};
 ghost use Rattle.mx_words.specs.declared.order.Command.{Command};
 ghost use Rattle.mx_words.specs.declared.order.Order.{Order};

@@ -13,7 +13,7 @@ ghost use Rattle.mx_asm.specs.Pages.{run_refusal};
 ghost use Rattle.mx_asm.specs.Refusal.{refusal};
 ghost use Rattle.mx_gen.specs.Generator.{generated};
 ghost use Rattle.mx_gen.specs.Program.{generated_image};
-ghost use Rattle.mx_trap.specs.Counts.{NoneFailed, unscheduled, without_count};
+ghost use Rattle.mx_plan.specs.Counts.{NoneFailed, unscheduled, without_count};
 ghost use Rattle.mx_run.specs.WildRuns.{MachineKind};
 ghost use Rattle.mx_words.specs.declared.order.Command.{Command};
 ghost use Rattle.mx_words.specs.declared.order.Order.{Order};

@@ -10,7 +10,7 @@ ghost use Rattle.mx_asm.specs.Image.{symbols_of};
 ghost use Rattle.mx_asm.specs.Pages.{RunRefusal, run_refusal};
 ghost use Rattle.mx_asm.specs.Refusal.{refusal};
 ghost use Rattle.mx_run.specs.WildRuns.{MachineKind};
-ghost use Rattle.mx_trap.specs.Counts.{unscheduled};
+ghost use Rattle.mx_plan.specs.Counts.{unscheduled};
 ghost use Rattle.mx_top.specs.Arguments.{Word};
 ghost use Rattle.mx_laws.specs.Called.{NoCallFails};
 ghost use Rattle.mx_laws.specs.Detour.{AreOrdered, IsAssembled, run_words, sim_words};

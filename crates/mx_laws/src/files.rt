@@ -3,7 +3,7 @@
 ghost use Rattle.std.specs.Prelude.{◌≡◌, ◌*◌, List, ℕ, None, Some, Ok, Err, take};
 ghost use Rattle.mx_host.specs.HostModel.{HostModel, HasStartSlots, place_of};
 ghost use Rattle.mx_host.specs.HostAnswer.{bytes_at};
-ghost use Rattle.mx_trap.specs.Counts.{NoneFailed};
+ghost use Rattle.mx_plan.specs.Counts.{NoneFailed};
 ghost use Rattle.mx_trap.specs.Laws.{SameButCalls};
 ghost use Rattle.mx_top.specs.Pieces.{put_piece, put_text};
 ghost use Rattle.mx_top.specs.Source.{file_bytes};

@@ -24,5 +24,5 @@ pub use dumps::dumps_show_what_programs_see;
 pub use files::{files_are_read_whole, pieces_come_to_one_write};
 pub use images::sources_are_loaded_as_they_mean;
 pub use rings::{
-    programs_end_by_themselves, runs_end_by_themselves, traps_end_by_themselves, two_rings_agree,
+    programs_end_by_themselves, runs_end_by_themselves, two_rings_agree,
 };

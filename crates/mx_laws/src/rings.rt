@@ -1,11 +1,8 @@
-//! What holds of runs of the program, and of file traps, whatever the ring.
+//! What holds of runs of the program, whatever the ring.
 
-ghost use Rattle.std.specs.Prelude.{◌≡◌, ◌≢◌, ℕ, List, Ok, true};
-ghost use Rattle.mx_mem.specs.Space.{Contents};
+ghost use Rattle.std.specs.Prelude.{◌≡◌, ℕ, List, Ok, true};
 ghost use Rattle.mx_core.specs.State.{State};
 ghost use Rattle.mx_host.specs.HostModel.{HostModel};
-ghost use Rattle.mx_trap.specs.FileTraps.{trap_answer};
-ghost use Rattle.mx_trap.specs.declared.answer.TrapAnswer.{TrapAnswer};
 ghost use Rattle.mx_run.specs.WildRuns.{MachineKind, list_machine};
 ghost use Rattle.mx_words.specs.Orders.{order_of};
 ghost use Rattle.mx_words.specs.declared.order.Order.{Order};
@@ -14,8 +11,6 @@ ghost use Rattle.mx_top.specs.Product.{product};
 ghost use Rattle.mx_laws.specs.Rings.{DifferInRing};
 ghost use Rattle.mx_top.specs.Runs.{machine_ran};
 ghost use Rattle.mx_laws.specs.Unbroken.{is_answer_told, is_told};
-
-use mx_mem::Space;
 
 /// Orders that differ in the size of the ring alone come to the same over the list machine. So, by the
 /// clause `headline` of the top call, two rings give the same outcome and the same host, where the
@@ -40,12 +35,4 @@ pub fn runs_end_by_themselves()
 #[tactic(auto, using(crate::proofs::ToldPrograms::unbroken_programs))]
 pub fn programs_end_by_themselves()
     ensures { (kind : MachineKind) (words : List Word) (m : HostModel) → is_answer_told (product kind words m) ≡ true }
-{}
-
-/// By its definition a file trap is never out of memory, whatever the space, the files and the failing
-/// calls.
-#[tactic(auto, using(crate::proofs::ToldTraps::told_traps))]
-pub fn traps_end_by_themselves<M: Space>()
-    ensures { (s : Contents M.Rest) (m : HostModel) (call : _) →
-        (trap_answer s m call).0 ≢ TrapAnswer.OutOfMemory }
 {}

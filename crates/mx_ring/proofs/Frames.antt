@@ -1,11 +1,19 @@
 -- What SAVE keeps comes back.
-use Rattle.std.proofs.Common.{◌≡◌, ℕ, ◌+◌, ◌-◌, ◌*◌, ◌%◌, ◌^◌, ◌<◌, false, List, [], ◌∷◌, ◌++◌, length, take, drop, get_or, arith, refl, sym, ap}
+use Rattle.std.proofs.Common.{◌≡◌, ℕ, ◌+◌, ◌-◌, ◌*◌, ◌%◌, ◌^◌, ◌<◌, true, false, List, [], ◌∷◌, ◌++◌, length, take, drop, get_or, arith, refl, sym, ap, ◌∙◌}
 use Rattle.std.proofs.lemmas.Bool.Decides.{nat_tests}
-use Rattle.std.proofs.lemmas.List.{append_assoc, length-append, get_or_at, get_or-append-add, take_at, take_all, drop_at}
+use Rattle.std.proofs.lemmas.List.{append_assoc, length-append, get_or_at, get_or-take, get_or-append-add, take_at, take_all, drop_at}
 use Rattle.mx_ring.specs.Bounds.{AreInBounds}
 use Rattle.mx_ring.specs.Frames.{frame, saved_specials, frame_global, frame_middle, frame_locals, frame_bottom, frame_specials, frame_registers, is_bad_frame}
 use Rattle.mx_ring.specs.Registers.{Registers}
 use Rattle.mx_ring.specs.declared.saved.Saved.{Saved}
+
+-- an octa that is 0 ends no frame
+pub no-frame : (octas : List ℕ) (i : ℕ) → get_or octas i 0 ≡ 0 → is_bad_frame (take (i + 1) octas) i ≡ true
+unfolding is_bad_frame
+no-frame octas i e =
+    let same : i - 0 ≡ i = omega arith in
+    let zero : get_or (take (i + 1) octas) (i - 0) 0 ≡ 0 = rw same (get_or-take (i + 1) octas i 0 (omega arith) ∙ e) in
+    rw zero refl
 
 -- what stands below a frame, its locals, L, its globals, its special registers and its last octa
 abbrev whole : List ℕ → List ℕ → ℕ → List ℕ → List ℕ → ℕ → List ℕ

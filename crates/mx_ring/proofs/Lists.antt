@@ -1,5 +1,5 @@
 -- The list that a window stands for goes through each operation as a list does.
-use Rattle.std.proofs.Common.{◌≡◌, ℕ, ◌+◌, ◌-◌, ◌^◌, ◌≤◌, ◌<◌, Bool, true, false, not, ◌||◌, ◌&&◌, List, [], ◌∷◌, ◌++◌, length, take, drop, max, cond, Some, None, if◌then◌else◌, arith, refl, sym, ◌∙◌, ap, ⊎_elim}
+use Rattle.std.proofs.Common.{◌≡◌, ℕ, ◌+◌, ◌-◌, ◌^◌, ◌≤◌, ◌<◌, Bool, true, false, not, ◌||◌, ◌&&◌, List, [], ◌∷◌, ◌++◌, length, take, drop, max, cond, Some, None, Ok, Err, if◌then◌else◌, arith, refl, sym, ◌∙◌, ap, ⊎_elim}
 use Rattle.std.proofs.lemmas.Bool.{cases_Bool}
 use Rattle.std.proofs.lemmas.Bool.Decides.{nat_tests}
 use Rattle.std.proofs.lemmas.List.{append-nil, length-take-le, take-take, take-append-le, length_push}
@@ -7,11 +7,13 @@ use Rattle.mx_ring.proofs.Octas.{Fits, spilled-below, room-octas, spilled-octas,
 use Rattle.mx_ring.proofs.Rings.{fits-of, grown-count, length-below, length-frame}
 use Rattle.mx_ring.proofs.Values.{with_value-bounds, from-bounds}
 use Rattle.mx_ring.specs.Bounds.{AreInBounds, IsRing}
+use Rattle.mx_ring.specs.Calls.{frame_answer}
 use Rattle.mx_ring.specs.Frames.{frame, frame_length, frame_bottom, frame_registers, frame_specials, is_bad_frame}
 use Rattle.mx_ring.specs.HiddenPart.{HiddenPart, octas_of, with_hidden, with_room}
 use Rattle.mx_ring.specs.Registers.{Registers, is_marginal, with_value, with_locals_cut, push_number, registers_below, registers_from, with_returned}
 use Rattle.mx_ring.specs.Stack.{Stack, listed, windowed, as_listed, visible, with_visible, after_growth, is_too_many, register, pop_underflows, set_overfills, with_register, cut_to, with_global_start, push_overfills, pushed, hole_in, popped, save_overfills, saved, frame_top, stack_address, stack_index, in_stack_area, octas_to, with_read_back, unsave_refused, unsaved_specials, unsaved, list_of, hidden_octas}
 use Rattle.mx_ring.specs.Window.{Window, as_list}
+use Rattle.mx_ring.specs.declared.fault.RingFault.TheVariants.{BadFrame}
 use Rattle.mx_ring.specs.declared.saved.Saved.{Saved}
 
 -- ROOM
@@ -153,6 +155,10 @@ unfolding unsaved
 unsaved-list w i r f =
     let os : List ℕ = octas_to (windowed w) i in
     read-back w (frame_registers os i) (frame_bottom os i) r (omega arith) ∙ ap (λ (xs : List ℕ). with_read_back (as_listed (windowed w)) (frame_bottom xs i) (frame_registers xs i)) (sym (same-octas w i r f))
+
+pub frame-answer-list : (w : Window) (i : ℕ) → IsRing w → i < w.hidden.spilled → frame_answer (as_listed (windowed w)) i ≡ frame_answer (windowed w) i
+unfolding unsaved_specials
+frame-answer-list w i r f = ap (λ (os : List ℕ). if is_bad_frame os i then Err BadFrame else Ok (frame_specials os i)) (same-octas w i r f)
 
 -- an address outside the stack area is refused at once
 refused-outside : (s : Stack) (a : ℕ) → in_stack_area a ≡ false → unsave_refused s a ≡ true

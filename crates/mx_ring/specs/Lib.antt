@@ -11,4 +11,5 @@ pub mod RingFaults
 pub mod RingParts
 pub mod RingSizes
 pub mod Stack
+pub mod StackArea
 pub mod Window

@@ -27,13 +27,13 @@ pub record HoldsRegisters (i : VisibleInside) : Type 0 where
 
 -- the hidden octas in a list of all of them; those that are spilled stand in the stack area too
 abbrev pub part_in : HiddenInside → HiddenPart
-part_in i = record { stack = i.stack.items; spilled = i.spilled; resident = drop i.spilled i.octas.items }
+part_in i = record { stack = i.stack; spilled = i.spilled; resident = drop i.spilled i.octas.items }
 
 -- the spilled octas are the same in both places, and there is memory for all octas that may be hidden
 pub record HoldsHidden (i : HiddenInside) : Type 0 where
   pub spilled_are_hidden : i.spilled ≤ length i.octas.items
-  pub same_spilled : take i.spilled i.octas.items ≡ take i.spilled i.stack.items
-  pub all_stack : length i.stack.items ≡ 2 ^ 20
+  pub same_spilled : take i.spilled i.octas.items ≡ take i.spilled i.stack
+  pub all_stack : length i.stack ≡ 2 ^ 20
   pub has_room : length i.octas.items ≤ 2 ^ 20
   pub has_memory : 2 ^ 20 ≤ vec_capacity i.octas
 

@@ -1,15 +1,15 @@
 //! The hidden octas: a list of all of them, and the stack area, where the older ones stand too.
 
-ghost use Rattle.std.specs.Prelude.{◌≡◌, ◌≤◌, ◌<◌, ◌+◌, ◌-◌, ◌^◌, ◌++◌, [], ◌∷◌, IfOk, OnErr, Err, length, take};
-ghost use Rattle.std.specs.Prelude.{replicate, slice_index};
+ghost use Rattle.std.specs.Prelude.{◌≡◌, ◌≤◌, ◌<◌, ◌+◌, ◌-◌, ◌^◌, ◌++◌, [], ◌∷◌, ℕ, IfOk, OnErr, Err, length, take};
+ghost use Rattle.std.specs.Prelude.{None, IfSome, slice_index};
 ghost use Rattle.std.specs.Vec.{vec_len, vec_capacity};
-ghost use Rattle.mx_word.specs.Lists.{with_part};
 ghost use Rattle.mx_ring.specs.HiddenPart.{octas_of, with_hidden, with_spilled, with_room, with_first};
-ghost use Rattle.mx_ring.specs.HiddenPart.{with_stack_first, with_octa, nothing_hidden, zeros};
+ghost use Rattle.mx_ring.specs.HiddenPart.{with_stack_first, with_octa, nothing_hidden};
 
 use crate::RingFault;
-use crate::slices::put;
-use std::alloc::{AllocError, Global};
+use crate::area::Area;
+use crate::slices::append;
+use std::alloc::Global;
 use std::marker::Model;
 
 /// How many octas the stack area has, which is also how many hidden and local registers there may be.
@@ -19,7 +19,7 @@ pub(crate) const ROOM: usize = 1 << 20;
 #[derive(Drop)]
 pub(crate) struct Hidden {
     octas: Vec<u64>,
-    stack: Vec<u64>,
+    stack: Area,
     spilled: usize,
 }
 
@@ -33,18 +33,6 @@ impl Model for Hidden {
     ghost view = { part_in };
 
     ghost invariant = { HoldsHidden };
-}
-
-/// Appends items to a list that has room for them.
-#[inline(always)]
-fn append(list: &mut Vec<u64>, items: &[u64])
-    requires { vec_len list.old + length items.now ≤ vec_capacity list.old }
-    ensures items { list.new.items ≡ list.old.items ++ items.now }
-    ensures capacity { vec_capacity list.old ≤ vec_capacity list.new }
-{
-    let Ok(()) = list.extend_from_slice(items) else {
-        unreachable!()
-    };
 }
 
 /// Appends the first `n` of some items, and that number. All of them are written first, since a number of
@@ -63,25 +51,6 @@ fn append_counted(list: &mut Vec<u64>, items: &[u64], n: usize)
     list[place] = n as u64;
 }
 
-/// Other items in place of as many of a list from `place` on.
-#[inline(always)]
-fn write(list: &mut Vec<u64>, place: usize, items: &[u64])
-    requires { place + length items.now ≤ vec_len list.old }
-    ensures { list.new.items ≡ with_part list.old.items place items.now }
-{
-    put(list, place, items);
-}
-
-/// So many zeros.
-#[tactic(auto, unfolding(crate::specs::HiddenPart::zeros))]
-fn zeros(alloc: Global, n: usize) -> Result<Vec<u64>, AllocError>
-    ensures zeros { IfOk result (λ v. v.items ≡ zeros n) }
-    ensures count { IfOk result (λ v. length v.items ≡ n) }
-{
-    let zeros = vec![in alloc; 0u64; n]?;
-    Ok(zeros)
-}
-
 #[tactic(auto, unfolding(crate::specs::HiddenPart::with_spilled, crate::specs::HiddenPart::with_room, crate::specs::HiddenPart::with_first))]
 impl Hidden {
     /// Nothing is hidden, and the stack area has zeros. The room for all octas is taken at once.
@@ -91,7 +60,7 @@ impl Hidden {
     {
         Ok(Hidden {
             octas: Vec::with_capacity(alloc, ROOM)?,
-            stack: zeros(alloc, ROOM)?,
+            stack: Area::new(alloc)?,
             spilled: 0,
         })
     }
@@ -122,12 +91,30 @@ impl Hidden {
         self.octas.as_slice()
     }
 
-    /// The octas of the stack area.
-    #[inline(always)]
-    pub(crate) fn stack(&self) -> &[u64]
-        ensures { result.now ≡ self.now.stack }
+    /// The octa of the stack area at a place below 2^20.
+    #[inline]
+    pub(crate) fn octa(&self, i: usize) -> u64
+        requires { i < 2 ^ 20 }
+        ensures { result ≡ slice_index self.now.stack i }
     {
-        self.stack.as_slice()
+        self.stack.octa(i)
+    }
+
+    /// Tells that each octa of the stack area is below 2^64. It does nothing.
+    #[inline(always)]
+    pub(crate) fn know_stack(&self)
+        ensures { (i : ℕ) → slice_index self.now.stack i < 2 ^ 64 }
+    {
+        self.stack.know_octas();
+    }
+
+    /// The octas of the stack area up to the one at a place below 2^20; nothing only where that one is 0.
+    pub(crate) fn stack_to(&self, i: usize) -> Option<&[u64]>
+        requires { i < 2 ^ 20 }
+        ensures some { IfSome result (λ octas. octas.now ≡ take (i + 1) self.now.stack) }
+        ensures none { result ≡ None → slice_index self.now.stack i ≡ 0 }
+    {
+        self.stack.up_to(i)
     }
 
     /// Hides octas.
@@ -170,11 +157,8 @@ impl Hidden {
         ensures { self.new ≡ with_spilled self.old n }
     {
         let end = self.spilled + n;
-        write(
-            &mut self.stack,
-            self.spilled,
-            &self.octas[self.spilled..end],
-        );
+        self.stack
+            .write(self.spilled, &self.octas[self.spilled..end]);
         self.spilled = end;
     }
 
@@ -202,7 +186,7 @@ impl Hidden {
     {
         let start = n.min(self.spilled);
         self.octas.truncate(start);
-        append(&mut self.octas, &self.stack[start..n]);
+        self.stack.append_to(start, n, &mut self.octas);
         self.spilled = n;
     }
 
@@ -214,6 +198,6 @@ impl Hidden {
         if i < self.spilled {
             self.octas[i] = x;
         }
-        self.stack[i] = x;
+        self.stack.set(i, x);
     }
 }

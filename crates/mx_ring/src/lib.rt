@@ -4,6 +4,7 @@
 //! TAOCP 1, Fascicle 1, section 1.4.1'.
 #![tactic(auto)]
 
+mod area;
 mod fault;
 mod frame;
 mod hidden;

@@ -53,7 +53,7 @@ impl Model for Ring {
 #[tactic(auto, unfolding(crate::specs::Stack::register, crate::specs::Stack::set_overfills, crate::specs::Stack::with_register, crate::specs::Stack::cut_to, crate::specs::Stack::with_global_start, crate::specs::Stack::push_overfills, crate::specs::Stack::pushed, crate::specs::Stack::pop_underflows, crate::specs::Stack::popped, crate::specs::Stack::stack_octa, crate::specs::Stack::with_stack_octa, crate::specs::Stack::save_overfills, crate::specs::Stack::saved, crate::specs::Stack::unsave_refused, crate::specs::Stack::unsaved_specials, crate::specs::Stack::unsaved, crate::specs::Window::as_list))]
 impl Ring {
     /// Registers at the start of the machine: none is local or hidden, and $255 alone is global. The
-    /// room for all registers and the stack area is taken at once; no other call takes memory.
+    /// room for all registers and the stack area is taken at once, so no other call takes memory.
     ///
     /// Errors: `OutOfMemory` alone.
     pub fn with_size(alloc: Global, r: RingSize) -> Result<Ring, RingFault>
@@ -115,16 +115,13 @@ impl Ring {
         BASE + 8 * self.hidden.spilled() as u64
     }
 
-    /// The 2^20 octas of the stack area.
+    /// Tells that the stack area has 2^20 octas, each below 2^64. It does nothing.
     #[inline(always)]
-    pub fn stack_area(&self) -> &[u64]
-        ensures value { result.now ≡ self.now.hidden.stack }
+    pub fn know_stack_area(&self)
         ensures octas { (i : ℕ) → slice_index self.now.hidden.stack i < 2 ^ 64 }
         ensures bounds { IsRing self.now }
     {
-        let stack = self.hidden.stack();
-        know_octas(stack);
-        stack
+        self.hidden.know_stack();
     }
 
     /// The value of $k: 0 where it is neither local nor global.
@@ -174,7 +171,7 @@ impl Ring {
         Ok(())
     }
 
-    /// L falls to `l`.
+    /// L falls to `l`, which is at most L.
     pub fn cut_locals(&mut self, l: u8)
         requires { l ≤ local_count (windowed self.old) }
         ensures window { windowed self.new ≡ cut_to (windowed self.old) l }
@@ -183,7 +180,8 @@ impl Ring {
         self.visible.cut(usize::from(l));
     }
 
-    /// G becomes `g`. A register that is global only before or only afterwards is 0.
+    /// G becomes `g`, which is at least 32 and at least L. A register that is global only before or only
+    /// afterwards is 0.
     pub fn set_global_start(&mut self, g: u8)
         requires least { 32 ≤ g }
         requires not_local { local_count (windowed self.old) ≤ g }
@@ -266,10 +264,10 @@ impl Ring {
         requires { i < 2 ^ 20 }
         ensures { result ≡ stack_octa (windowed self.now) i }
     {
-        self.hidden.stack()[i as usize]
+        self.hidden.octa(i as usize)
     }
 
-    /// Overwrites that octa.
+    /// Overwrites the octa of the stack area at an index below 2^20.
     pub fn set_stack_octa(&mut self, i: u32, x: u64)
         requires { i < 2 ^ 20 }
         ensures { windowed self.new ≡ with_stack_octa (windowed self.old) i x }
@@ -279,7 +277,8 @@ impl Ring {
 
     /// SAVE: hides a frame with all local and global registers and these special ones, and moves all
     /// that is hidden to the stack area. Afterwards L is 0, and the global register $X has the
-    /// address of the frame's last octa. UNSAVE there brings all of them back.
+    /// address of the frame's last octa. UNSAVE there brings all of them back. X is at least G, and rA is
+    /// below 2^18.
     ///
     /// Errors: `StackFull` exactly where the frame would make the hidden registers pass 2^20; then
     /// nothing changed.
@@ -337,7 +336,7 @@ impl Ring {
         self.unsave_at(((a - BASE) / 8) as usize)
     }
 
-    /// Brings the registers of the frame back whose last octa is at an index of the stack area.
+    /// Brings the registers of the frame back whose last octa is at an index of the stack area, below 2^20.
     fn unsave_at(&mut self, i: usize) -> Result<Saved, RingFault>
         requires { i < 2 ^ 20 }
         ensures answer { result ≡ frame_answer (windowed self.old) i }
@@ -347,7 +346,20 @@ impl Ring {
             → OnOk result (list_of self.new ≡ unsaved (list_of self.old) i) }
         ensures err { OnErr result (self.new ≡ self.old) }
     {
-        let octas = &self.hidden.stack()[..i + 1];
+        self.read_frame(i)
+    }
+
+    /// The same for the window alone.
+    fn read_frame(&mut self, i: usize) -> Result<Saved, RingFault>
+        requires { i < 2 ^ 20 }
+        ensures bounds { IsRing self.old }
+        ensures answer { result ≡ frame_answer (windowed self.old) i }
+        ensures ok { OnOk result (windowed self.new ≡ unsaved (windowed self.old) i) }
+        ensures err { OnErr result (self.new ≡ self.old) }
+    {
+        let Some(octas) = self.hidden.stack_to(i) else {
+            return Err(RingFault::BadFrame);
+        };
         match frame_at(octas, i) {
             Some((g, l)) => {
                 let specials = specials_at(octas, i);
@@ -420,12 +432,4 @@ fn hide_registers(hidden: &mut Hidden, visible: &Visible, s: &Saved)
     hidden.append(&[l as u64]);
     hidden.append(visible.globals());
     hidden.append(&upper_octas(s, visible.first_global()));
-}
-
-/// Tells that each item of a slice of octas is below 2^64. It does nothing.
-#[inline(always)]
-fn know_octas(octas: &[u64])
-    ensures { (i : ℕ) → slice_index octas.now i < 2 ^ 64 }
-{
-    let _octas = octas;
 }

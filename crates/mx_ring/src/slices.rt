@@ -1,8 +1,21 @@
-//! Pieces of slices that are written in place.
+//! Pieces of lists that are written in place or behind them.
 
 ghost use Rattle.std.specs.Prelude.{◌≡◌, ◌≤◌, ◌+◌, ◌-◌, ◌++◌, length, take, drop};
+ghost use Rattle.std.specs.Vec.{vec_len, vec_capacity};
 ghost use Rattle.mx_word.specs.Lists.{with_part};
 ghost use Rattle.mx_ring.specs.Parts.{with_zeros_at};
+
+/// Appends items to a list that has room for them.
+#[inline(always)]
+pub(crate) fn append(list: &mut Vec<u64>, items: &[u64])
+    requires { vec_len list.old + length items.now ≤ vec_capacity list.old }
+    ensures items { list.new.items ≡ list.old.items ++ items.now }
+    ensures capacity { vec_capacity list.old ≤ vec_capacity list.new }
+{
+    let Ok(()) = list.extend_from_slice(items) else {
+        unreachable!()
+    };
+}
 
 /// Zeros in place of what stands from `from` up to `to`.
 #[inline]

@@ -16,7 +16,7 @@ use Rattle.mx_trap.specs.Touches.{touches, is_in_segment}
 use Rattle.mx_trap.specs.declared.answer.TrapAnswer.{TrapAnswer}
 use Rattle.mx_trap.specs.declared.answer.TrapAnswer.TheVariants as trap
 use Rattle.mx_trap.proofs.ApartCalls.{trap-apart, untouched-apart}
-use Rattle.mx_trap.proofs.KeptContents.{pages-kept}
+use Rattle.mx_trap.proofs.KeptTraps.{pages-kept}
 use Rattle.mx_core.specs.Bounds.{IsMachine, as_list_state, as_list_step}
 use Rattle.mx_core.specs.MachineSpace.{with_area, rest_of, machine_contents, area_in, state_in}
 use Rattle.mx_core.specs.State.{State, octa}

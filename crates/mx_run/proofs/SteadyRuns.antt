@@ -4,14 +4,15 @@ use Rattle.std.proofs.Common.{◌≡◌, ℕ, zero, suc, ◌/◌, Bool, true, fa
 use Rattle.mx_host.specs.HostModel.{HostModel}
 use Rattle.mx_host.proofs.Still.{still}
 use Rattle.mx_trip.specs.declared.call.TrapCall.{TrapCall}
-use Rattle.mx_trap.specs.Counts.{NoneFailed, unscheduled}
+use Rattle.mx_plan.specs.Counts.{NoneFailed, unscheduled}
 use Rattle.mx_trap.specs.FileTraps.{trap_answer}
 use Rattle.mx_trap.specs.Moves.{Leaves}
 use Rattle.mx_trap.specs.Touches.{touches}
 use Rattle.mx_trap.specs.declared.answer.TrapAnswer.{TrapAnswer}
 use Rattle.mx_trap.specs.declared.answer.TrapAnswer.TheVariants as trap
-use Rattle.mx_trap.proofs.Spared.{Spares, uncalled, after}
-use Rattle.mx_trap.proofs.SteadyTraps.{SparedLeaves, trap-steady, still-same}
+use Rattle.mx_plan.proofs.Spared.{Spares, uncalled, after}
+use Rattle.mx_plan.proofs.Spared.{still-same}
+use Rattle.mx_trap.proofs.KeptTraps.{SparedLeaves, trap-steady}
 use Rattle.mx_core.specs.MachineSpace.{machine_contents, state_in}
 use Rattle.mx_core.specs.State.{State}
 use Rattle.mx_core.specs.Step.{Stepped, went, calls, stopped, step}

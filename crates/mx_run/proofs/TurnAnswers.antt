@@ -1,14 +1,18 @@
 -- What a turn answers.
-use Rattle.std.proofs.Common.{◌≡◌, ℕ, Bool, true, false, List, refl, sym, ◌∙◌, ap}
+use Rattle.std.proofs.Common.{◌≡◌, ◌≢◌, ℕ, Bool, true, false, List, refl, sym, ◌∙◌, ap}
 use Rattle.std.specs.Prelude.{◌||◌}
 use Rattle.mx_word.specs.Lists.{IsFront}
 use Rattle.mx_host.specs.HostModel.{HostModel}
 use Rattle.mx_trip.specs.declared.call.TrapCall.{TrapCall}
-use Rattle.mx_trap.specs.FileTraps.{trap_answer}
+use Rattle.mx_plan.specs.Plan.{Comes}
+use Rattle.mx_plan.specs.Calls.{both}
+use Rattle.mx_trap.specs.FileTraps.{trap_plan, trap_answer}
 use Rattle.mx_trap.specs.Moves.{Leaves}
 use Rattle.mx_trap.specs.Touches.{touches}
 use Rattle.mx_trap.specs.declared.answer.TrapAnswer.{TrapAnswer}
 use Rattle.mx_trap.specs.declared.answer.TrapAnswer.TheVariants as trap
+use Rattle.mx_trap.proofs.KeptTraps.{trap-begun, trap-keeps}
+use Rattle.mx_trap.proofs.KeptTraps.{trap-told as outcome}
 use Rattle.mx_core.specs.MachineSpace.{machine_contents, IsWholeSpace}
 use Rattle.mx_core.specs.Reasons.{number_of}
 use Rattle.mx_core.specs.State.{State}
@@ -49,13 +53,22 @@ pub ruleset touching = (touch-noted, no-touch)
 -- SPACES
 
 -- the contents that a trap leaves are those of a state
-pub state-left : (s : State) (value : TrapAnswer) (m : HostModel) (t : Leaves TrapAnswer State) → IsWholeSpace s → (value, machine_contents s, m) ≡ t → (value, s, m) ≡ state_left t
+state-left : (s : State) (value : TrapAnswer) (m : HostModel) (t : Leaves TrapAnswer State) → IsWholeSpace s → (value, machine_contents s, m) ≡ t → (value, s, m) ≡ state_left t
 state-left s value m t h e = ap (λ x. (value, x, m)) (sym (told s h)) ∙ ap state_left e
 
-pub left-output : (t : Leaves TrapAnswer State) (xs : List ℕ) → IsFront xs t.2.output → IsFront xs (state_left t).2.output
+left-output : (t : Leaves TrapAnswer State) (xs : List ℕ) → IsFront xs t.2.output → IsFront xs (state_left t).2.output
 left-output (value, c, m) xs h = h
 
-pub ruleset spaces = (state-left, left-output)
+-- what comes of a trap over the machine's memory, where there is memory and where there is none
+pub space-told : (s t : State) (m n : HostModel) (value : TrapAnswer) (call : TrapCall) → Comes both (machine_contents s, m) (machine_contents t, n) trap.OutOfMemory value (trap_plan call) →
+    value ≢ trap.OutOfMemory → IsWholeSpace t → (value, t, n) ≡ state_left (trap_answer (machine_contents s) m call)
+space-told s t m n value call c h whole = state-left t value n (trap_answer (machine_contents s) m call) whole (outcome (machine_contents s) (machine_contents t) m n value call c h)
+
+pub space-begun : (s t : State) (m n : HostModel) (value : TrapAnswer) (call : TrapCall) → Comes both (machine_contents s, m) (machine_contents t, n) trap.OutOfMemory value (trap_plan call) →
+    value ≡ trap.OutOfMemory → IsFront n.output (state_left (trap_answer (machine_contents s) m call)).2.output
+space-begun s t m n value call c h = left-output (trap_answer (machine_contents s) m call) n.output (trap-begun (machine_contents s) (machine_contents t) m n value call c h)
+
+pub ruleset spaces = (space-told, space-begun, trap-keeps)
 
 -- TRAPS
 

@@ -1,6 +1,6 @@
 -- What turns and runs come to, but for the number of calls and the list of those that fail.
 use Rattle.mx_host.specs.HostModel.{HostModel}
-use Rattle.mx_trap.specs.Counts.{unscheduled}
+use Rattle.mx_plan.specs.Counts.{unscheduled}
 use Rattle.mx_run.specs.Runs.{Ended}
 use Rattle.mx_run.specs.Turns.{Turn, went_on, halts, stops}
 use Rattle.mx_run.specs.WildRuns.{RunEnd, run_ended, run_wild}

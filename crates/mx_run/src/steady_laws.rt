@@ -2,7 +2,7 @@
 
 ghost use Rattle.std.specs.Prelude.{◌≡◌, ℕ, Bool};
 ghost use Rattle.mx_host.specs.HostModel.{HostModel};
-ghost use Rattle.mx_trap.specs.Counts.{NoneFailed, unscheduled};
+ghost use Rattle.mx_plan.specs.Counts.{NoneFailed, unscheduled};
 ghost use Rattle.mx_core.specs.State.{State};
 ghost use Rattle.mx_run.specs.Counts.{end_host, end_unscheduled, turn_unscheduled};
 ghost use Rattle.mx_run.specs.Runs.{FlagsOf};

@@ -9,8 +9,11 @@ pub mod NameSets
 pub mod Parts
 pub mod Steps
 pub mod Whole
+pub mod NodeParts
 pub mod Sound
-pub mod Places
+pub mod FaultsMet
+pub mod FaultsFound
+pub mod FaultRows
 pub mod Spelt
 pub mod Law
 pub mod NamesLaw

@@ -22,10 +22,10 @@ use Rattle.mx_stab.proofs.Orders.{all-back, all-front}
 pub record Between (s t : Reading) (bytes : List ℕ) (symbols : List Symbol) : Type 0 where
   pub split : s.rest ≡ bytes ++ t.rest
   pub place : t.at ≡ s.at + length bytes
-  grown : t.found ≡ s.found ++ symbols
-  distinct : AreDistinct s.found → AreDistinct t.found
+  pub grown : t.found ≡ s.found ++ symbols
+  pub distinct : AreDistinct s.found → AreDistinct t.found
 
-between-both : (s t u : Reading) (bs cs : List ℕ) (xs ys : List Symbol) → Between s t bs xs → Between t u cs ys → Between s u (bs ++ cs) (xs ++ ys)
+pub between-both : (s t u : Reading) (bs cs : List ℕ) (xs ys : List Symbol) → Between s t bs xs → Between t u cs ys → Between s u (bs ++ cs) (xs ++ ys)
 between-both s t u bs cs xs ys h k = record {
   split = h.split ∙ ap (λ r. bs ++ r) k.split ∙ sym (append_assoc bs cs u.rest);
   place = omega (arith, h.place, k.place, length-append bs cs);
@@ -33,11 +33,11 @@ between-both s t u bs cs xs ys h k = record {
   distinct = λ d. k.distinct (h.distinct d);
 }
 
-between-none : (s : Reading) → Between s s [] []
+pub between-none : (s : Reading) → Between s s [] []
 between-none s = record { split = refl; place = omega arith; grown = sym (append-nil s.found); distinct = λ d. d }
 
 -- bytes stay bytes
-below-rest : (s t : Reading) (bs : List ℕ) (xs : List Symbol) → Between s t bs xs → AreBytes s.rest → AreBytes t.rest
+pub below-rest : (s t : Reading) (bs : List ℕ) (xs : List Symbol) → Between s t bs xs → AreBytes s.rest → AreBytes t.rest
 below-rest s t bs xs h b = all-back (λ d. d < 256) bs t.rest (subst (AreBytes) h.split b)
 
 -- what went well
@@ -57,7 +57,7 @@ not-refused false fault a t h = (refl, h)
 abbrev read-to : Reading → Answer
 read-to s = Ok s
 
-same-reading : (s t : Reading) → read-to s ≡ read-to t → s ≡ t
+pub same-reading : (s t : Reading) → read-to s ≡ read-to t → s ≡ t
 same-reading s t h = cc
 
 abbrev pair-of : ℕ → List ℕ → Option (ℕ × List ℕ)
@@ -69,15 +69,15 @@ some-parts a b r t h =
     (ap (λ (p : ℕ × List ℕ). p.0) pair, ap (λ (p : ℕ × List ℕ). p.1) pair)
 
 -- the digits of a serial number
-record SerialCut (x serial : ℕ) (bytes more : List ℕ) : Type 0 where
-  front : List ℕ
-  last : ℕ
-  split : bytes ≡ (front ++ (last + 128) ∷ []) ++ more
-  below : AreBelow 128 front
-  small : last < 128
-  same : serial ≡ number_behind 128 x (front ++ last ∷ [])
+pub record SerialCut (x serial : ℕ) (bytes more : List ℕ) : Type 0 where
+  pub front : List ℕ
+  pub last : ℕ
+  pub split : bytes ≡ (front ++ (last + 128) ∷ []) ++ more
+  pub below : AreBelow 128 front
+  pub small : last < 128
+  pub same : serial ≡ number_behind 128 x (front ++ last ∷ [])
 
-serial-cut : (x serial : ℕ) (bytes more : List ℕ) → AreBytes bytes → serial_behind x bytes ≡ Some (serial, more) → SerialCut x serial bytes more
+pub serial-cut : (x serial : ℕ) (bytes more : List ℕ) → AreBytes bytes → serial_behind x bytes ≡ Some (serial, more) → SerialCut x serial bytes more
 serial-cut x serial [] more b h = absurd (cc)
 serial-cut x serial (d ∷ bytes) more b h = one (nat_lt d 128) (ltb-true d 128) (ltb-false d 128) h (serial-cut (x * 128 + d) serial bytes more b.1)
   where
@@ -101,7 +101,7 @@ register-spelt [] l b = absurd (omega (arith, l))
 register-spelt (k ∷ []) l b = grammar.SpellsValue.register k b.0
 register-spelt (k ∷ d ∷ more) l b = absurd (omega (arith, l))
 
-value-spelt : (kind : ℕ) (bytes : List ℕ) → 1 ≤ kind → kind < 16 → length bytes ≡ value_size kind → AreBytes bytes → SpellsValue kind (value_of kind bytes) bytes
+pub value-spelt : (kind : ℕ) (bytes : List ℕ) → 1 ≤ kind → kind < 16 → length bytes ≡ value_size kind → AreBytes bytes → SpellsValue kind (value_of kind bytes) bytes
 value-spelt kind bytes least most size b = one (kind == 15) (nat_le kind 8) (eqb-true kind 15) (eqb-false kind 15) (leb-true kind 8) (leb-false kind 8) size
   where
     one : (p q : Bool) → (p ≡ true → kind ≡ 15) → (p ≡ false → kind ≢ 15) → (q ≡ true → kind ≤ 8) → (q ≡ false → 8 < kind) →
@@ -136,7 +136,7 @@ symbol_with-read node name value s t (Some (serial, more)) h =
     record { serial = serial; more = more; is = refl; fits = leb-false (2 ^ 32) serial one.0; new = two.0; rest-is = ap (λ u. u.rest) same; place-is = sym (ap (λ u. u.at) same); found-is = sym (ap (λ u. u.found) same) }
 
 -- what ends with a character: no symbol, or one
-data SymbolRead (kind : ℕ) (name : List ℕ) (s t : Reading) : Type 0 where
+pub data SymbolRead (kind : ℕ) (name : List ℕ) (s t : Reading) : Type 0 where
   no-symbol : kind ≡ 0 → Between s t [] [] → SymbolRead kind name s t
   one-symbol : (value : Value) (serial : ℕ) (told counted : List ℕ) → SpellsValue kind value told → SpellsSerial serial counted →
       Between s t (told ++ counted) (record { name = name; value = value; serial = serial } ∷ []) → SymbolRead kind name s t
@@ -164,7 +164,7 @@ symbol-whole kind node name s t most some b fits h =
       distinct = λ d. subst AreDistinct (sym c.found-is) (distinct-push s.found (record { name = name; value = value; serial = c.serial }) c.new d);
     })
 
-symbol-read : (kind node : ℕ) (name : List ℕ) (s t : Reading) → kind < 16 → AreBytes s.rest → symbol kind node name s ≡ Ok t → SymbolRead kind name s t
+pub symbol-read : (kind node : ℕ) (name : List ℕ) (s t : Reading) → kind < 16 → AreBytes s.rest → symbol kind node name s ≡ Ok t → SymbolRead kind name s t
 symbol-read kind node name s t most b h = one (kind == 0) (eqb-true kind 0) (eqb-false kind 0) h
   where
     one : (p : Bool) → (p ≡ true → kind ≡ 0) → (p ≡ false → kind ≢ 0) →
@@ -175,11 +175,11 @@ symbol-read kind node name s t most b h = one (kind == 0) (eqb-true kind 0) (eqb
         let two = not-refused (nat_lt (length s.rest) (value_size kind)) _ _ t h in
         symbol-whole kind node name s t most (other refl) b (ltb-false (length s.rest) (value_size kind) two.0) two.1
 
-abbrev flag : Bool → ℕ
+abbrev pub flag : Bool → ℕ
 flag true = 1
 flag false = 0
 
-flag-is : (x : ℕ) → x < 2 → flag (x == 1) ≡ x
+pub flag-is : (x : ℕ) → x < 2 → flag (x == 1) ≡ x
 flag-is zero h = refl
 flag-is (suc zero) h = refl
 flag-is (suc (suc x)) h = absurd (omega (arith, h))
@@ -200,18 +200,18 @@ pub record Tells (l : ℕ) (path : List ℕ) (s t : Reading) : Type 0 where
   pub between : Between s t bytes symbols
   pub is : IsSubtrie l path bytes symbols
 
-abbrev Sounds : (List ℕ → Reading → Answer) → Type 0
+abbrev pub Sounds : (List ℕ → Reading → Answer) → Type 0
 Sounds inner = (path : List ℕ) (s t : Reading) → AreBytes s.rest → inner path s ≡ Ok t → Tells 1 path s t
 
-sounds-if : (b : Bool) (inner : List ℕ → Reading → Answer) → Sounds inner → (path : List ℕ) (s t : Reading) → AreBytes s.rest → part_if b (inner path) s ≡ Ok t → Tells (flag b) path s t
+pub sounds-if : (b : Bool) (inner : List ℕ → Reading → Answer) → Sounds inner → (path : List ℕ) (s t : Reading) → AreBytes s.rest → part_if b (inner path) s ≡ Ok t → Tells (flag b) path s t
 sounds-if true inner h path s t b e = h path s t b e
 sounds-if false inner h path s t b e = record { bytes = []; symbols = []; between = subst (λ u. Between s u [] []) (same-reading s t e) (between-none s); is = grammar.IsSubtrie.none path }
 
 -- a character that was read
-record CharacterRead (wide : ℕ) (s : Reading) (c : Character) : Type 0 where
-  bytes : List ℕ
-  is : SpellsCharacter wide c.name bytes
-  between : Between s c.behind bytes []
+pub record CharacterRead (wide : ℕ) (s : Reading) (c : Character) : Type 0 where
+  pub bytes : List ℕ
+  pub is : SpellsCharacter wide c.name bytes
+  pub between : Between s c.behind bytes []
 
 one_byte-read : (at : ℕ) (found : List Symbol) (bytes : List ℕ) (c : Character) → AreBytes bytes → reading.one_byte at found bytes ≡ Ok c → CharacterRead 0 (record { at = at; rest = bytes; found = found }) c
 one_byte-read at found [] c b e = absurd (cc)
@@ -236,7 +236,7 @@ two_bytes-read node at found (high ∷ low ∷ rest) c b e = one (is_wide_charac
         subst (CharacterRead 0x80 (record { at = at; rest = high ∷ low ∷ rest; found = found })) same
         (record { bytes = high ∷ low ∷ []; is = grammar.SpellsCharacter.two_bytes high low b.0 b.1.0 is; between = record { split = refl; place = refl; grown = sym (append-nil found); distinct = λ d. d } })
 
-character_of-read : (node m : ℕ) (s : Reading) (c : Character) → AreBytes s.rest → character_of node m s ≡ Ok c → CharacterRead (0x80 * flag (has 0x80 m)) s c
+pub character_of-read : (node m : ℕ) (s : Reading) (c : Character) → AreBytes s.rest → character_of node m s ≡ Ok c → CharacterRead (0x80 * flag (has 0x80 m)) s c
 character_of-read node m s c b e = one (has 0x80 m) e
   where
     one : (p : Bool) → cond p (reading.two_bytes node s.at s.found s.rest) (reading.one_byte s.at s.found s.rest) ≡ Ok c → CharacterRead (0x80 * flag p) s c
@@ -244,7 +244,7 @@ character_of-read node m s c b e = one (has 0x80 m) e
     one false e = one_byte-read s.at s.found s.rest c b e
 
 -- what was read with a character
-data NameRead (m : ℕ) (path : List ℕ) (s t : Reading) : Type 0 where
+pub data NameRead (m : ℕ) (path : List ℕ) (s t : Reading) : Type 0 where
   no-name : (name character middle : List ℕ) (below : List Symbol) → SpellsCharacter (0x80 * flag (has 0x80 m)) name character → length (path ++ name) ≤ 1024 → m % 16 ≡ 0 →
       IsSubtrie (flag (has 0x20 m)) (path ++ name) middle below → Between s t (character ++ middle) below → NameRead m path s t
   a-name : (name character : List ℕ) (value : Value) (serial : ℕ) (told counted middle : List ℕ) (below : List Symbol) → SpellsCharacter (0x80 * flag (has 0x80 m)) name character → length (path ++ name) ≤ 1024 →
@@ -252,7 +252,7 @@ data NameRead (m : ℕ) (path : List ℕ) (s t : Reading) : Type 0 where
       IsSubtrie (flag (has 0x20 m)) (path ++ name) middle below →
       Between s t (character ++ ((told ++ counted) ++ middle)) (record { name = path ++ name; value = value; serial = serial } ∷ below) → NameRead m path s t
 
-one-byte : (at c : ℕ) (rest : List ℕ) (found : List Symbol) → Between (record { at = at; rest = c ∷ rest; found = found }) (record { at = at + 1; rest = rest; found = found }) (c ∷ []) []
+pub one-byte : (at c : ℕ) (rest : List ℕ) (found : List Symbol) → Between (record { at = at; rest = c ∷ rest; found = found }) (record { at = at + 1; rest = rest; found = found }) (c ∷ []) []
 one-byte at c rest found = record { split = refl; place = refl; grown = sym (append-nil found); distinct = λ d. d }
 
 below-name : (m : ℕ) (path : List ℕ) (s t : Reading) → NameRead m path s t → AreBytes s.rest → AreBytes t.rest
@@ -282,7 +282,7 @@ character_part-read inner h place m path s (Ok c) t b r e =
     symbol-then inner h m path s c w.middle t k (ltb-false 1024 (length (path ++ c.name)) short.0) b1
     (symbol-read (m % 16) place (path ++ c.name) c.behind w.middle (omega arith) b1 w.first) w.second
 
-character-read : (inner : List ℕ → Reading → Answer) → Sounds inner → (place m : ℕ) (path : List ℕ) (s t : Reading) → AreBytes s.rest → reading.character inner place m path s ≡ Ok t → NameRead m path s t
+pub character-read : (inner : List ℕ → Reading → Answer) → Sounds inner → (place m : ℕ) (path : List ℕ) (s t : Reading) → AreBytes s.rest → reading.character inner place m path s ≡ Ok t → NameRead m path s t
 character-read inner h place m path s t b e = character_part-read inner h place m path s (character_of place m s) t b (λ d is. character_of-read place m s d b is) e
 
 -- whether a node has a character, by its kind and its bit for a middle subtrie
@@ -405,6 +405,11 @@ zeros-are (b ∷ more) h =
     let parts = and_parts (b == 0) (are_zeros more) h in
     ap (λ d. d ∷ more) (eqb-true b 0 parts.0) ∙ ap (λ r. 0 ∷ r) (zeros-are more parts.1)
 
+pub padding-zeros : (rest : List ℕ) → is_padding rest ≡ true → (length rest ≤ 3) × (rest ≡ replicate (length rest) 0)
+padding-zeros rest h =
+    let parts = and_parts (nat_le (length rest) 3) (are_zeros rest) h in
+    (leb-true (length rest) 3 parts.0, zeros-are rest parts.1)
+
 -- a trie that was read to its end
 record Ended (a : Answer) (symbols : List Symbol) : Type 0 where
   last : Reading
@@ -423,11 +428,10 @@ ended-well (Ok t) symbols h = one (is_padding t.rest) refl h
 -- the trie behind which only zeros are left
 trie-whole : (bytes : List ℕ) (symbols : List Symbol) (t : Reading) → Tells 1 [] (start bytes) t → is_padding t.rest ≡ true → t.found ≡ symbols → IsTrie bytes symbols
 trie-whole bytes symbols t w p f =
-    let parts = and_parts (nat_le (length t.rest) 3) (are_zeros t.rest) p in
-    let rest-is = zeros-are t.rest parts.1 in
+    let parts = padding-zeros t.rest p in
     let symbols-are : w.symbols ≡ symbols = sym w.between.grown ∙ f in
-    subst (λ bs. IsTrie bs symbols) (ap (λ r. w.bytes ++ r) (sym rest-is) ∙ sym w.between.split)
-    (grammar.IsTrie.whole w.bytes (length t.rest) symbols (subst (IsSubtrie 1 [] w.bytes) symbols-are w.is) (leb-true (length t.rest) 3 parts.0)
+    subst (λ bs. IsTrie bs symbols) (ap (λ r. w.bytes ++ r) (sym parts.1) ∙ sym w.between.split)
+    (grammar.IsTrie.whole w.bytes (length t.rest) symbols (subst (IsSubtrie 1 [] w.bytes) symbols-are w.is) parts.0
     (subst AreDistinct f (w.between.distinct tt)))
 
 -- what is read of bytes is in the grammar

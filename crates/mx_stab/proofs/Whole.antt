@@ -42,7 +42,7 @@ tells-then p q bs cs xs ys hp hq s more e d =
 tells-none : Tells (λ s. Ok s) [] []
 tells-none s more e d = same-reading s.at (s.at + 0) s.rest more s.found (s.found ++ []) (omega arith) e (sym (append-nil s.found))
 
-picked : {A : Type 0} (b : Bool) (x y : A) → b ≡ false → cond b x y ≡ y
+pub picked : {A : Type 0} (b : Bool) (x y : A) → b ≡ false → cond b x y ≡ y
 picked true x y h = absurd (cc)
 picked false x y h = refl
 
@@ -58,7 +58,7 @@ is-wide : {wide : ℕ} {name character : List ℕ} → SpellsCharacter wide name
 is-wide (grammar.SpellsCharacter.one_byte c small) = (omega arith, omega arith)
 is-wide (grammar.SpellsCharacter.two_bytes high low h l wide) = (omega arith, omega arith)
 
-character-is : {wide : ℕ} {name character : List ℕ} → SpellsCharacter wide name character → (node m : ℕ) (s : Reading) (more : List ℕ) → m / 0x80 % 2 ≡ wide / 0x80 → s.rest ≡ character ++ more →
+pub character-is : {wide : ℕ} {name character : List ℕ} → SpellsCharacter wide name character → (node m : ℕ) (s : Reading) (more : List ℕ) → m / 0x80 % 2 ≡ wide / 0x80 → s.rest ≡ character ++ more →
     character_of node m s ≡ Ok (record { name = name; behind = record { at = s.at + length character; rest = more; found = s.found } })
 character-is (grammar.SpellsCharacter.one_byte c small) node m s more w e =
     let narrow : has 0x80 m ≡ false = ap (λ n. n == 1) w in
@@ -79,11 +79,11 @@ tells-character wide node m path name character bs xs hc w l h s more e d =
     ∙ h t more refl d ∙ same-reading _ _ more more _ _ (omega (arith, length-append character bs)) refl refl
 
 -- no symbol
-tells-no-symbol : (kind node : ℕ) (name : List ℕ) → kind ≡ 0 → Tells (symbol kind node name) [] []
+pub tells-no-symbol : (kind node : ℕ) (name : List ℕ) → kind ≡ 0 → Tells (symbol kind node name) [] []
 tells-no-symbol kind node name k s more e d = ap (λ n. symbol n node name s) k ∙ tells-none s more e d
 
 -- the digits of a serial number
-serial-spelt : (x : ℕ) (front : List ℕ) (last : ℕ) (more : List ℕ) → AreBelow 128 front → last < 128 →
+pub serial-spelt : (x : ℕ) (front : List ℕ) (last : ℕ) (more : List ℕ) → AreBelow 128 front → last < 128 →
     serial_behind x (front ++ (last + 128) ∷ more) ≡ Some (number_behind 128 x (front ++ last ∷ []), more)
 serial-spelt x [] last more h l =
     picked (nat_lt (last + 128) 128) _ _ (le-ltb (last + 128) 128 (omega arith)) ∙ ap (λ n. Some (x * 128 + n, more)) (omega arith)
@@ -125,20 +125,27 @@ symbol_with-is : (node : ℕ) (name : List ℕ) (value : Value) (s : Reading) (s
     symbol_with node name value s (Some (serial, more)) ≡ Ok (record { at = s.at + (length s.rest - length more); rest = more; found = s.found ++ record { name = name; value = value; serial = serial } ∷ [] })
 symbol_with-is node name value s serial more l a = picked (nat_le (2 ^ 32) serial) _ _ (lt-leb (2 ^ 32) serial l) ∙ picked (is_among name s.found) _ _ a
 
-tells-symbol : (kind serial node : ℕ) (name : List ℕ) (value : Value) (spelt digits : List ℕ) → SpellsValue kind value spelt → SpellsSerial serial digits →
-    Tells (symbol kind node name) (spelt ++ digits) (record { name = name; value = value; serial = serial } ∷ [])
-tells-symbol kind serial node name value spelt digits v h s more e d =
-    let own : Symbol = record { name = name; value = value; serial = serial } in
-    let w = value-spelt kind value spelt v in
-    let rest : s.rest ≡ spelt ++ (digits ++ more) = e ∙ append_assoc spelt digits more in
-    let taken : take (value_size kind) s.rest ≡ spelt = ap (take (value_size kind)) rest ∙ take_at spelt (digits ++ more) (value_size kind) (sym w.size) in
-    let left : drop (value_size kind) s.rest ≡ digits ++ more = ap (drop (value_size kind)) rest ∙ drop_at spelt (digits ++ more) (value_size kind) (sym w.size) in
-    let long : length s.rest ≡ length spelt + length digits + length more = ap length e ∙ length-append (spelt ++ digits) more ∙ ap (λ n. n + length more) (length-append spelt digits) in
+-- a value that is told, before its serial number
+pub symbol-valued : (kind node : ℕ) (name : List ℕ) (value : Value) (told more : List ℕ) (s : Reading) → SpellsValue kind value told → s.rest ≡ told ++ more →
+    symbol kind node name s ≡ symbol_with node name value s (serial_behind 0 more)
+symbol-valued kind node name value told more s v e =
+    let w = value-spelt kind value told v in
+    let taken : take (value_size kind) s.rest ≡ told = ap (take (value_size kind)) e ∙ take_at told more (value_size kind) (sym w.size) in
+    let left : drop (value_size kind) s.rest ≡ more = ap (drop (value_size kind)) e ∙ drop_at told more (value_size kind) (sym w.size) in
+    let long : length s.rest ≡ length told + length more = ap length e ∙ length-append told more in
     picked (kind == 0) _ _ (ne_eqb kind 0 (omega (arith, w.least)))
     ∙ picked (nat_lt (length s.rest) (value_size kind)) _ _ (le-ltb (length s.rest) (value_size kind) (omega (arith, w.size, long)))
     ∙ ap (λ x. symbol_with node name (value_of kind x) s (serial_behind 0 (drop (value_size kind) s.rest))) taken
     ∙ ap (λ x. symbol_with node name x s (serial_behind 0 (drop (value_size kind) s.rest))) w.same
-    ∙ ap (symbol_with node name value s) (ap (serial_behind 0) left ∙ serial-told serial digits more h)
+    ∙ ap (λ x. symbol_with node name value s (serial_behind 0 x)) left
+
+pub tells-symbol : (kind serial node : ℕ) (name : List ℕ) (value : Value) (spelt digits : List ℕ) → SpellsValue kind value spelt → SpellsSerial serial digits →
+    Tells (symbol kind node name) (spelt ++ digits) (record { name = name; value = value; serial = serial } ∷ [])
+tells-symbol kind serial node name value spelt digits v h s more e d =
+    let own : Symbol = record { name = name; value = value; serial = serial } in
+    let long : length s.rest ≡ length spelt + length digits + length more = ap length e ∙ length-append (spelt ++ digits) more ∙ ap (λ n. n + length more) (length-append spelt digits) in
+    symbol-valued kind node name value spelt (digits ++ more) s v (e ∙ append_assoc spelt digits more)
+    ∙ ap (symbol_with node name value s) (serial-told serial digits more h)
     ∙ symbol_with-is node name value s serial more (serial-fits serial digits h) (not-among s.found own [] d)
     ∙ same-reading _ _ more more _ _ (omega (arith, long, length-append spelt digits)) refl refl
 
@@ -211,7 +218,7 @@ some-kind kind m l = ap (λ b. not b || m == 1) (ne_eqb kind 0 (omega (arith, l)
 in-line : (left character told counted middle : List ℕ) → left ++ (character ++ ((told ++ counted) ++ middle)) ≡ left ++ character ++ told ++ counted ++ middle
 in-line left character told counted middle = simp append_assoc
 
-tells-subtrie : {l : ℕ} {path bytes : List ℕ} {symbols : List Symbol} → IsSubtrie l path bytes symbols → Tells (part_if (l == 1) (next_subtrie path)) bytes symbols
+pub tells-subtrie : {l : ℕ} {path bytes : List ℕ} {symbols : List Symbol} → IsSubtrie l path bytes symbols → Tells (part_if (l == 1) (next_subtrie path)) bytes symbols
 tells-subtrie (grammar.IsSubtrie.none path) = tells-none
 tells-subtrie (grammar.IsSubtrie.bare path l r left right before after hl hr) =
     tells-bare l r path left right before after (flag-fits hl) (flag-fits hr) (tells-subtrie hl) (tells-subtrie hr)
@@ -228,17 +235,17 @@ tells-subtrie (grammar.IsSubtrie.symbol path name character wide l m r kind seri
     (tells-spelled wide l m r kind byte path name character left (told ++ counted) middle right before (own ∷ []) below after hc (flag-fits hl) (flag-fits hm) (flag-fits hr) w.most (some-kind kind m w.least) refl long
     (tells-subtrie hl) (λ node. tells-symbol kind serial node (path ++ name) value told counted hv hs) (tells-subtrie hm) (tells-subtrie hr))
 
-some-bytes : {l : ℕ} {path bytes : List ℕ} {symbols : List Symbol} → IsSubtrie l path bytes symbols → 1 ≤ l → 0 < length bytes
+pub some-bytes : {l : ℕ} {path bytes : List ℕ} {symbols : List Symbol} → IsSubtrie l path bytes symbols → 1 ≤ l → 0 < length bytes
 some-bytes (grammar.IsSubtrie.none path) h = absurd (omega (arith, h))
 some-bytes (grammar.IsSubtrie.bare path l r left right before after hl hr) h = omega arith
 some-bytes (grammar.IsSubtrie.passage path name character wide l r left middle right before below after hc long hl hm hr) h = omega arith
 some-bytes (grammar.IsSubtrie.symbol path name character wide l m r kind serial value left told counted middle right before below after hc long hv hs hl hm hr) h = omega arith
 
-read-some : (bytes : List ℕ) → 0 < length bytes → trie_answer bytes ≡ symbols_at_end (next_subtrie [] (start bytes))
+pub read-some : (bytes : List ℕ) → 0 < length bytes → trie_answer bytes ≡ symbols_at_end (next_subtrie [] (start bytes))
 read-some [] h = absurd (omega (arith, h))
 read-some (b ∷ more) h = refl
 
-padding-is : (zeros : ℕ) → zeros ≤ 3 → is_padding (replicate zeros 0) ≡ true
+pub padding-is : (zeros : ℕ) → zeros ≤ 3 → is_padding (replicate zeros 0) ≡ true
 padding-is zero h = refl
 padding-is (suc zero) h = refl
 padding-is (suc (suc zero)) h = refl

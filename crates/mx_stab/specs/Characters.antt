@@ -1,4 +1,4 @@
--- The characters of names that take two bytes in a trie.
+-- The characters of names that take two bytes in a trie (MMIXware, MMIXAL, "Binary MMO output", the symbol table).
 use Rattle.std.specs.Prelude.{ℕ, ◌+◌, ◌*◌, Bool, ◌&&◌, ◌||◌, nat_le, nat_lt, Option, Some, None, if◌then◌else◌}
 
 -- the number of a character of two bytes, high byte first

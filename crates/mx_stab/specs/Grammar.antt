@@ -1,4 +1,5 @@
--- The grammar of symbol tries.
+-- The grammar of symbol tries (MMIXware, MMIXAL, "Binary MMO output", the symbol table). That a path has at most
+-- 1,024 bytes, and a serial number is below 2^32, are rules of this program.
 use Rattle.std.specs.Prelude.{◌≢◌, ℕ, ◌+◌, ◌*◌, ◌^◌, ◌<◌, ◌≤◌, List, [], ◌∷◌, ◌++◌, length, replicate, IsTrue}
 use Rattle.std.specs.Char.{encode_utf8}
 use Rattle.std.specs.List.{AllByRecursion}

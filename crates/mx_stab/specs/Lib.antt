@@ -6,6 +6,7 @@ pub mod Numbers
 pub mod Trie
 pub mod Writing
 pub mod Reading
+pub mod FaultTable
 pub mod Names
 pub mod Due
 pub mod Faults

@@ -1,4 +1,5 @@
--- How a writer spells values and serial numbers in a trie: in the fewest bytes, at least one.
+-- How a writer spells values and serial numbers in a trie: in the fewest bytes, at least one (MMIXware, MMIXAL,
+-- "Binary MMO output", the symbol table).
 use Rattle.std.specs.Prelude.{ℕ, ◌+◌, ◌-◌, ◌/◌, ◌%◌, ◌^◌, ◌==◌, Bool, ◌&&◌, nat_le, nat_lt, List, [], ◌∷◌, length, if◌then◌else◌}
 use Rattle.mx_word.specs.Words.{octa_to_bytes}
 use Rattle.mx_word.specs.declared.symbols.Value.{Value}

@@ -1,4 +1,5 @@
--- The trie that a writer writes of symbols.
+-- The trie that a writer writes of symbols (MMIXware, MMIXAL, "Binary MMO output", the symbol table). That it has no
+-- left subtries is a rule of this program.
 use Rattle.std.specs.Prelude.{ℕ, zero, suc, ◌+◌, ◌-◌, ◌==◌, Bool, true, false, nat_le, List, [], ◌∷◌, ◌++◌, length, if◌then◌else◌, slice_index_or}
 use Rattle.mx_word.specs.declared.symbols.Symbol.{Symbol}
 use Rattle.mx_stab.specs.Numbers.{value_bytes, kind, serial_bytes}

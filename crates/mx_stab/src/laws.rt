@@ -1,15 +1,18 @@
 //! What holds of tries over lists alone.
 
-ghost use Rattle.std.specs.Prelude.{◌≡◌, ◌↔◌, ◌≤◌, ℕ, List, ◌++◌, length, replicate, None, Ok};
+ghost use Rattle.std.specs.Prelude.{◌≡◌, ◌↔◌, ◌≤◌, ◌⊎◌, ℕ, List, ◌++◌, length, replicate, None, Ok, Some, IfSome};
 ghost use Rattle.std.specs.List.{AllByRecursion};
 ghost use Rattle.mx_word.specs.Ranges.{AreBytes};
 ghost use Rattle.mx_word.specs.declared.symbols.Symbol.{Symbol};
 ghost use Rattle.mx_word.specs.declared.symbols.Value as values;
+ghost use Rattle.mx_stab.specs.FaultTable.{FaultOf};
+ghost use Rattle.mx_stab.specs.Faults.{place_of};
 ghost use Rattle.mx_stab.specs.Grammar.{AreDistinct, IsTrie, SpellsSerial, SpellsValue};
 ghost use Rattle.mx_stab.specs.Numbers.{serial_bytes, value_bytes};
 ghost use Rattle.mx_word.specs.Symbols.{InByteOrder, IsNamed};
 ghost use Rattle.mx_stab.specs.Reading.{trie_answer, trie_fault};
 ghost use Rattle.mx_stab.specs.Trie.{trie_of};
+ghost use Rattle.mx_stab.specs.declared.faults.StabFault.{StabFault};
 
 /// The trie that is written of symbols, with up to three zeros behind it, is one that the grammar
 /// gives these symbols.
@@ -28,6 +31,19 @@ pub fn reading_is_the_grammar()
 pub fn a_trie_has_no_fault()
     ensures { (bytes : List ℕ) → AreBytes bytes →
         (trie_fault bytes ≡ None) ↔ ((symbols : List Symbol) × IsTrie bytes symbols) }
+{}
+
+/// The fault of bytes is the one that the table of faults has for them. Bytes that are no trie have
+/// one, and only one; its place is at most their number.
+pub fn faults_are_the_table()
+    ensures fault { (bytes : List ℕ) (fault : StabFault) → AreBytes bytes →
+        (trie_fault bytes ≡ Some fault) ↔ FaultOf bytes fault }
+    ensures some { (bytes : List ℕ) → AreBytes bytes →
+        ((symbols : List Symbol) × IsTrie bytes symbols) ⊎ ((fault : StabFault) × FaultOf bytes fault) }
+    ensures one { (bytes : List ℕ) (fault other : StabFault) → FaultOf bytes fault → FaultOf bytes other →
+        fault ≡ other }
+    ensures within { (bytes : List ℕ) (fault : StabFault) → FaultOf bytes fault →
+        IfSome (place_of fault) (λ at. at ≤ length bytes) }
 {}
 
 /// A trie tells one list of symbols.

@@ -17,7 +17,7 @@ mod writing;
 
 pub use faults::StabFault;
 pub use laws::{
-    a_trie_has_no_fault, a_trie_tells_one_list, fewest_bytes_are_written,
+    a_trie_has_no_fault, a_trie_tells_one_list, faults_are_the_table, fewest_bytes_are_written,
     names_of_a_trie_are_distinct, reading_is_the_grammar, what_is_written_is_read,
     writing_is_the_grammar,
 };

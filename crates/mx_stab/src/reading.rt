@@ -8,7 +8,7 @@ ghost use Rattle.mx_word.specs.declared.symbols.Symbol.{Symbol};
 ghost use Rattle.mx_stab.specs.Characters.{wide_character, wide_number};
 ghost use Rattle.mx_stab.specs.Due.{after_all, after_character, after_due, and_next, due_weight};
 ghost use Rattle.mx_stab.specs.Due.{longer_path, next_point, weight, with_path, LeadsTo};
-ghost use Rattle.mx_stab.specs.Faults.{IsPlaced};
+ghost use Rattle.mx_stab.specs.FaultTable.{FaultOf};
 ghost use Rattle.mx_stab.specs.Grammar.{AreDistinct, IsTrie};
 ghost use Rattle.mx_word.specs.Symbols.{IsNamed};
 ghost use Rattle.mx_stab.specs.Reading as spec;
@@ -346,7 +346,7 @@ pub fn read(alloc: Global, bytes: &[u8]) -> Result<Symbols, StabFault>
     ensures only { result ≢ Err StabFault.OutOfMemory →
         (symbols : List Symbol) → IsTrie bytes.now symbols → result ≡ Ok symbols }
     ensures names { IfOk result (λ symbols. AreDistinct symbols × AllByRecursion IsNamed symbols) }
-    ensures places { IfErr result (IsPlaced bytes.now) }
+    ensures table { IfErr result (λ fault. fault ≢ StabFault.OutOfMemory → FaultOf bytes.now fault) }
 {
     symbols_of(alloc, bytes)
 }

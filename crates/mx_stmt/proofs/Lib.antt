@@ -8,6 +8,9 @@ pub mod JoinedBytes
 pub mod JoinedWords
 pub mod Alike
 pub mod RegisterNumbers
+pub mod EveryForm
+pub mod SilentStatements
+pub mod EveryStatement
 pub mod JoinedTetras
 pub mod JoinedData
 pub mod JoinedStatements

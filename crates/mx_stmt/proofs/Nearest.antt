@@ -5,7 +5,7 @@ use Rattle.std.proofs.Math.Seq.{drop-length}
 use Rattle.mx_stmt.specs.declared.gregs.Base.{Base}
 use Rattle.std.proofs.lemmas.Bool.{eqb-true, eqb-false, leb-true, leb-false}
 use Rattle.mx_expr.specs.Value.{difference}
-use Rattle.mx_stmt.specs.Gregs.{IsNearest, lowest_of, nearest_base, nearest_from, nearer_base, with_register}
+use Rattle.mx_stmt.specs.Gregs.{IsNearest, greg_value, lowest_of, nearest_base, nearest_from, nearer_base, with_register}
 
 pub nearest-none : (address first : ℕ) (values : List ℕ) → nearest_from address first (drop (length values) values) ≡ None
 unfolding nearest_from
@@ -104,3 +104,14 @@ nearest-is gregs address base bound is = as_least (subst (Found address (lowest_
           above = rw place found.above;
           least = λ other low high some. found.least (other - lowest_of gregs) (omega arith) some;
         }
+
+-- there is none where all values are 0
+pub nearest-none-is : (gregs : List ℕ) (address : ℕ) → nearest_base gregs address ≡ None → (reg : ℕ) → lowest_of gregs ≤ reg → reg < 255 → greg_value gregs reg ≡ 0
+nearest-none-is gregs address is reg low high = subst (Found address (lowest_of gregs) gregs) is (nearest-found address (lowest_of gregs) gregs) (reg - lowest_of gregs) (omega arith)
+
+pub nearest-is-none : (gregs : List ℕ) (address : ℕ) → length gregs ≤ 255 → ((reg : ℕ) → lowest_of gregs ≤ reg → reg < 255 → greg_value gregs reg ≡ 0) → nearest_base gregs address ≡ None
+nearest-is-none gregs address bound zeros = by (nearest_base gregs address) refl
+  where
+    by : (nearest : Option Base) → nearest_base gregs address ≡ nearest → nearest ≡ None
+    by None is = refl
+    by (Some base) is = let n = nearest-is gregs address base bound is in absurd (n.nonzero (zeros base.reg n.allocated n.global))

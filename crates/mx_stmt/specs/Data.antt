@@ -1,4 +1,5 @@
--- The operands of BYTE, WYDE, TETRA and OCTA, and the bytes that they place.
+-- The operands of BYTE, WYDE, TETRA and OCTA, and the bytes that they place (MMIXware, MMIXAL; TAOCP 1, Fascicle 1,
+-- section 1.3.2').
 use Rattle.std.specs.Prelude.{ℕ, ◌+◌, ◌-◌, ◌/◌, ◌%◌, ◌^◌, ◌==◌, ◌||◌, nat_lt, nat_le, Bool, if◌then◌else◌, List, [], ◌∷◌, ◌++◌, drop, unwrap_or, Ok, Err}
 use Rattle.mx_word.specs.declared.waits.WaitKind.TheVariants.{Octa}
 use Rattle.mx_word.specs.Words.{octa_to_bytes}

@@ -1,5 +1,6 @@
 -- The bytes of one statement: what it places, its label's value, its effect and the next place, or its first fault.
--- Each future reference has its target's value, or zero where there is no target.
+-- Each future reference has its target's value, or zero where there is no target (MMIXware, MMIXAL; TAOCP 1, Fascicle
+-- 1, section 1.3.2').
 use Rattle.std.specs.Prelude.{ℕ, ◌+◌, ◌-◌, ◌*◌, ◌/◌, ◌%◌, ◌^◌, nat_lt, if◌then◌else◌, List, [], ◌∷◌, length, Option, None, Some, Result, Ok, Err}
 use Rattle.mx_word.specs.declared.symbols.Value.{Value}
 use Rattle.mx_word.specs.declared.symbols.Value.TheVariants.{Pure, Reg}

@@ -1,4 +1,5 @@
--- What a future reference adds to the bytes of its statement once its target is known.
+-- What a future reference adds to the bytes of its statement once its target is known (MMIXware, MMIXAL, "Binary MMO
+-- output": lop_fixo, lop_fixr and lop_fixrx).
 use Rattle.std.specs.Prelude.{◌≡◌, ◌<◌, ◌≤◌, ℕ, ◌^◌, List, [], ◌∷◌, ◌++◌, length, Option, Some, IfSome, unwrap_or}
 use Rattle.mx_word.specs.declared.symbols.Value.{Value}
 use Rattle.mx_word.specs.declared.symbols.Value.TheVariants.{Pure, Reg}

@@ -1,4 +1,5 @@
--- The allocated global registers, as the list of the values of $G to $254.
+-- The allocated global registers, as the list of the values of $G to $254 (MMIXware, MMIXAL, GREG and base addresses;
+-- TAOCP 1, Fascicle 1, section 1.3.2').
 use Rattle.std.specs.Prelude.{◌≡◌, ◌≢◌, ◌<◌, ◌≤◌, ℕ, ◌+◌, ◌-◌, ◌==◌, nat_lt, nat_le, if◌then◌else◌, List, [], ◌∷◌, length, position, slice_index, slice_set, Option, None, Some, option_map, Ok, Err}
 use Rattle.mx_expr.specs.Value.{difference}
 use Rattle.mx_stmt.specs.declared.gregs.Base.{Base}

@@ -1,4 +1,5 @@
--- What an operand is: a value that is known, or a future reference.
+-- What an operand is: a value that is known, or a future reference (MMIXware, MMIXAL; TAOCP 1, Fascicle 1, section
+-- 1.3.2').
 use Rattle.std.specs.Prelude.{ℕ, nat_lt, if◌then◌else◌, List, Option, None, Some, Result, Ok, Err}
 use Rattle.mx_word.specs.declared.symbols.Value.{Value}
 use Rattle.mx_word.specs.declared.symbols.Value.TheVariants.{Pure, Reg}

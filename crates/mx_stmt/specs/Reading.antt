@@ -1,4 +1,5 @@
--- How a statement that was cut from a line is read: its label, its operation and its operands.
+-- How a statement that was cut from a line is read: its label, its operation and its operands (MMIXware, MMIXAL;
+-- TAOCP 1, Fascicle 1, section 1.3.2').
 use Rattle.std.specs.Prelude.{◌≡◌, ◌≤◌, ℕ, ◌-◌, IfSome, is_some, ◌&&◌, not, Bool, true, false, if◌then◌else◌, List, [], ◌∷◌, Option, None, Some, Ok, Err}
 use Rattle.std.specs.List.{All}
 use Rattle.mx_word.specs.Kinds.{is_digit}

@@ -153,7 +153,8 @@ fn place_at(multiple: u64, at: u64) -> u64
 
 /// What a statement places, with zero for each future reference, and these references in order; its
 /// label's value, its effect and the next place. The environment has the place before the
-/// statement; the operands and the label see it aligned.
+/// statement; the operands and the label see it aligned. The local labels in its operands have one
+/// digit, as those of `read_statement` have.
 ///
 /// It is refused with the first fault of the operands, one after another, and then with the first of
 /// NotMultiple, TooFar, NoBase, TooManyGregs and BadPlace.

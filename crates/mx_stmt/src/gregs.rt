@@ -50,7 +50,7 @@ impl Gregs {
         self.lowest
     }
 
-    /// The value of an allocated register.
+    /// The value of an allocated register, which is one of $G to $254.
     pub fn value_of(&self, reg: u8) -> u64
         requires allocated { spec.lowest_of self.now ≤ reg }
         requires global { reg < 255 }
@@ -59,7 +59,7 @@ impl Gregs {
         self.values[usize::from(reg)]
     }
 
-    /// Gives a register its value. It is allocated, or the next one downwards, and at least $32.
+    /// Gives a register its value. It is allocated, or the next one downwards, and one of $32 to $254.
     pub fn set(&mut self, reg: u8, value: u64)
         requires { spec.IsAllocable self.old reg }
         ensures registers { self.new ≡ spec.with_greg self.old reg value }

@@ -1,6 +1,6 @@
 //! What holds of the definitions alone.
 
-ghost use Rattle.std.specs.Prelude.{◌≡◌, ◌≤◌, ℕ, List, [], length, slice_set, Some, None, Ok, IfSome};
+ghost use Rattle.std.specs.Prelude.{◌≡◌, ◌↔◌, ◌<◌, ◌≤◌, ℕ, List, [], length, slice_set, Some, None, Ok, IfSome};
 ghost use Rattle.std.specs.List.{AllByRecursion};
 ghost use Rattle.mx_names.specs.Names.{start, value_in, value_of_name, with_symbol};
 ghost use Rattle.mx_word.specs.declared.symbols.Value.{Value};
@@ -11,16 +11,18 @@ ghost use Rattle.mx_stmt.specs.declared.placed.Placed.{Placed};
 ghost use Rattle.mx_stmt.specs.Encoding.{StatementTree, IsPossible, encoding};
 ghost use Rattle.mx_stmt.specs.Fixes.{IsFixed, IsOperation, IsSound, HasRegisterNumber};
 ghost use Rattle.mx_stmt.specs.Laid.{IsLaid};
-ghost use Rattle.mx_stmt.specs.Gregs.{IsAllocable, IsNearest, nearest_base, with_greg};
+ghost use Rattle.mx_stmt.specs.Gregs.{IsAllocable, IsNearest, greg_value, lowest_of, nearest_base, with_greg};
 ghost use Rattle.mx_stmt.specs.Operands.{Known, Targets, no_targets};
 ghost use Rattle.mx_stmt.specs.Reading.{Fields, IsRead};
 ghost use Rattle.mx_stmt.specs.Steps.{AreAlike};
 
 /// The nearest base is an allocated register with a value that is not 0 and the least address - value
-/// modulo 2^64.
+/// modulo 2^64. There is none exactly where no allocated register has such a value.
 pub fn nearest_base_is_least()
-    ensures { (gregs : List ℕ) (address : ℕ) (base : Base) → length gregs ≤ 255 →
+    ensures base { (gregs : List ℕ) (address : ℕ) (base : Base) → length gregs ≤ 255 →
         nearest_base gregs address ≡ Some base → IsNearest gregs address base }
+    ensures none { (gregs : List ℕ) (address : ℕ) → length gregs ≤ 255 → (nearest_base gregs address ≡ None) ↔
+        ((reg : ℕ) → lowest_of gregs ≤ reg → reg < 255 → greg_value gregs reg ≡ 0) }
 {}
 
 /// The operation of a statement that was read is that of a name.
@@ -43,8 +45,9 @@ pub fn registers_are_bytes()
         IsPossible k.gregs p.effect }
 {}
 
-/// What is known stays sound: before the first statement, behind the label of a symbol that was not
-/// defined, behind a local label, and behind a register that is given.
+/// What is known stays sound: no name and no local label stands for a register above $255, and none
+/// below $32 is allocated. It is so before the first statement, behind the label of a symbol that was
+/// not defined, behind a local label, and behind a register that is given.
 pub fn knowledge_stays_sound()
     ensures start { (at : ℕ) → IsSound (record { names = start; at = at; gregs = [] }) }
     ensures symbol { (k : Known) (full : List ℕ) (v : Value) → value_in full k.names.symbols ≡ None →

@@ -59,7 +59,8 @@ fn operation_for(labelled: bool, name: &[u8]) -> Result<Op, StmtFault>
     }
 }
 
-/// Reads the statement that was cut from a line: its label, its operation and its operands.
+/// Reads the statement that was cut from a line, in which the spans of the cut lie: its label, its
+/// operation and its operands.
 ///
 /// It is refused with UnknownOpcode, then LabelNotAllowed, then the first fault of the operand list.
 pub fn read_statement(

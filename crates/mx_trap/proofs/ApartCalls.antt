@@ -4,10 +4,14 @@ use Rattle.std.specs.Prelude.{Result, ◌&&◌, ◌||◌, nat_lt}
 use Rattle.mx_word.specs.Results.{map_ok}
 use Rattle.mx_mem.specs.Space.{Contents}
 use Rattle.mx_host.specs.HostModel.{HostModel}
+use Rattle.mx_plan.specs.Plan.{end_of}
+use Rattle.mx_plan.specs.Calls.{host}
 use Rattle.mx_trip.specs.declared.call.TrapCall.{TrapCall}
 use Rattle.mx_trap.specs.Apart.{apart, leaves_apart, with_segment, IsClear}
-use Rattle.mx_trap.specs.FileTraps.{carried_out, answer_to, beside, fopen, trap_answer}
-use Rattle.mx_trap.specs.Moves.{fwrite, fputs}
+use Rattle.mx_trap.specs.FileTraps.{trap_answer, fopen}
+use Rattle.mx_trap.specs.Moves.{Leaves, fwrite, fputs}
+use Rattle.mx_trap.specs.declared.answer.TrapAnswer.{TrapAnswer}
+use Rattle.mx_trap.proofs.Walks.{carried_out, answer_to, beside, trap-same}
 use Rattle.mx_trap.specs.Requests.{request_of, request_by, request_after, opening_with, good_buffer, buffer, arguments, text_length}
 use Rattle.mx_trap.specs.Services.{z_of, service_of}
 use Rattle.mx_trap.specs.Touches.{is_in_segment, meets_segment, text_touches, text_reach, arguments_touch, follows, service_touches, touches_by, is_wild, touches}
@@ -32,7 +36,7 @@ text-clear f a n h e =
 named-apart : {A B : Type 0} (others : ℕ → ℕ) (rest : B) (s : Contents A) (m : HostModel) (slot p q : ℕ) (r : Result ℕ TrapStop) → ((n : ℕ) → r ≡ Ok n → IsClear p (p + n)) →
     answer_to slot (apart others rest s) m (map_ok (λ size. Opening p size q) r) ≡ leaves_apart others rest (answer_to slot s m (map_ok (λ size. Opening p size q) r))
 named-apart others rest s m slot p q (Err stop) h = refl
-named-apart {A} {B} others rest s m slot p q (Ok n) h = ap (λ bs. beside (apart others rest s) (fopen slot bs q m)) (same-bytes others s.bytes p n (h n refl))
+named-apart {A} {B} others rest s m slot p q (Ok n) h = ap (λ bs. beside (apart others rest s) (end_of host (fopen slot bs q) m)) (same-bytes others s.bytes p n (h n refl))
 
 opening-apart : {A B : Type 0} (others : ℕ → ℕ) (rest : B) (s : Contents A) (m : HostModel) (slot : ℕ) (r : Result (ℕ × ℕ) TrapStop) → follows (λ p q. text_touches s.bytes p) r ≡ false →
     answer_to slot (apart others rest s) m (opening_with (with_segment others s.bytes) r) ≡ leaves_apart others rest (answer_to slot s m (opening_with s.bytes r))
@@ -69,12 +73,12 @@ buffer-apart others rest s m slot b make h f =
     ∙ good-apart others rest s m slot make (arguments s.bytes b) parts.2 f
 
 write-apart : {A B : Type 0} (others : ℕ → ℕ) (rest : B) (s : Contents A) (m : HostModel) (slot p q : ℕ) → IsClear p (p + q) → carried_out slot (apart others rest s) m (Writing p q) ≡ leaves_apart others rest (carried_out slot s m (Writing p q))
-write-apart others rest s m slot p q h = ap (λ bs. beside (apart others rest s) (fwrite slot bs m)) (same-bytes others s.bytes p q h)
+write-apart others rest s m slot p q h = ap (λ bs. beside (apart others rest s) (end_of host (fwrite slot bs) m)) (same-bytes others s.bytes p q h)
 
 texts-apart : {A B : Type 0} (others : ℕ → ℕ) (rest : B) (s : Contents A) (m : HostModel) (slot b : ℕ) (r : Result ℕ TrapStop) → ((n : ℕ) → r ≡ Ok n → IsClear b (b + n)) →
     answer_to slot (apart others rest s) m (map_ok (λ size. WritingText b size) r) ≡ leaves_apart others rest (answer_to slot s m (map_ok (λ size. WritingText b size) r))
 texts-apart others rest s m slot b (Err stop) h = refl
-texts-apart others rest s m slot b (Ok n) h = ap (λ bs. beside (apart others rest s) (fputs slot bs m)) (same-bytes others s.bytes b n (h n refl))
+texts-apart others rest s m slot b (Ok n) h = ap (λ bs. beside (apart others rest s) (end_of host (fputs slot bs) m)) (same-bytes others s.bytes b n (h n refl))
 
 fputs-apart : {A B : Type 0} (others : ℕ → ℕ) (rest : B) (s : Contents A) (m : HostModel) (slot b : ℕ) → text_touches s.bytes b ≡ false →
     answer_to slot (apart others rest s) m (request_by (with_segment others s.bytes) b Fputs) ≡ leaves_apart others rest (answer_to slot s m (request_by s.bytes b Fputs))
@@ -107,8 +111,10 @@ both-false false c e = (refl, e)
 
 pub trap-apart : {A B : Type 0} (others : ℕ → ℕ) (rest : B) (s : Contents A) (m : HostModel) (call : TrapCall) → touches s.bytes call ≡ false →
     trap_answer (apart others rest s) m call ≡ leaves_apart others rest (trap_answer s m call)
-unfolding trap_answer request_of touches is_wild
-trap-apart others rest s m call h = after-apart others rest s m (z_of call.word) call.arg (service_of call.word) (both-false _ _ h).1
+unfolding request_of touches is_wild
+trap-apart {A} others rest s m call h =
+    trap-same (apart others rest s) m call ∙ after-apart others rest s m (z_of call.word) call.arg (service_of call.word) (both-false _ _ h).1
+    ∙ ap (λ (t : Leaves TrapAnswer A). leaves_apart others rest t) (sym (trap-same s m call))
 
 -- ---- whether it touches
 

@@ -16,7 +16,8 @@ use Rattle.mx_host.specs.declared.slots.Mode.{Mode}
 use Rattle.mx_host.specs.declared.slots.Lead.{Lead}
 use Rattle.mx_host.specs.declared.slots.Lead.TheVariants.{Input, Output, Errors, File}
 use Rattle.mx_trap.specs.Apart.{apart, leaves_apart, with_segment, IsClear}
-use Rattle.mx_trap.specs.Moves.{Leaves, minus_one, octa_minus, whole_pieces, stored, byte_stored, stored_next, bytes_stored, piece_stored, piece_got, read_piece, read_last, read_next, read_pieces, fread, line_ended, line_end, byte_put, byte_got, line_byte, line_next, line_bytes, fgets}
+use Rattle.mx_trap.specs.Moves.{Leaves, minus_one, octa_minus, whole_pieces}
+use Rattle.mx_trap.proofs.Walks.{stored, byte_stored, stored_next, bytes_stored, piece_stored, piece_got, read_piece, read_last, read_next, read_pieces, fread, line_ended, line_end, byte_put, byte_got, line_byte, line_next, line_bytes, fgets}
 use Rattle.mx_trap.specs.Touches.{is_in_segment}
 use Rattle.mx_trap.specs.declared.answer.TrapAnswer.{TrapAnswer}
 use Rattle.mx_trap.specs.declared.answer.TrapAnswer.TheVariants.{Value}

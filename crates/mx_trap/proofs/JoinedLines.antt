@@ -10,8 +10,13 @@ use Rattle.mx_host.specs.HostModel.{HostModel, slot_at, to_input}
 use Rattle.mx_host.specs.HostAnswer.{Then, read_answer}
 use Rattle.mx_word.proofs.Comparisons.{other-test}
 use Rattle.mx_host.proofs.Still.{still, read-still}
-use Rattle.mx_trap.specs.Moves.{Leaves, line_bytes, line_byte, line_next, line_end, byte_got, bytes_stored, byte_stored, stored_next, fgets}
-use Rattle.mx_trap.specs.Counts.{unscheduled}
+use Rattle.mx_trap.specs.Moves.{Leaves}
+use Rattle.mx_plan.specs.Calls.{space, both}
+use Rattle.mx_plan.specs.Plan.{end_of}
+use Rattle.mx_trap.specs.Moves as moves
+use Rattle.mx_trap.specs.Moves.{leaving}
+use Rattle.mx_trap.proofs.Walks.{bytes-same, fgets-same, line_bytes, line_byte, line_next, line_end, byte_got, bytes_stored, byte_stored, stored_next, fgets}
+use Rattle.mx_plan.specs.Counts.{unscheduled}
 use Rattle.mx_trap.specs.Laws.{ComesTo, line_front, line_ends}
 use Rattle.mx_trap.specs.declared.answer.TrapAnswer.{TrapAnswer}
 use Rattle.mx_trap.specs.declared.answer.TrapAnswer.TheVariants.{Value}
@@ -195,4 +200,17 @@ fgets-cut {Rest} slot p q s m l f e ends h =
       model = ap (λ (t : Leaves TrapAnswer Rest). unscheduled t.2) some ∙ ap unscheduled came.model;
     }
 
-pub ruleset joined = (fgets-joined, fgets-cut)
+-- ---- the same of the ends of the plans
+
+pub lines-one : {Rest : Type 0} (slot p q : ℕ) (s : Contents Rest) (m : HostModel) → 0 < q → m.failing ≡ [] → slot_at m slot ≡ to_input → line_ends (q - 1) m.input ≡ true →
+    (end_of space (moves.bytes_stored (line_front (q - 1) m.input ++ 0 ∷ []) p) s).0 ≡ Ok tt →
+    ComesTo (leaving (end_of both (moves.fgets slot p q) (s, m))) (Value (length (line_front (q - 1) m.input))) (end_of space (moves.bytes_stored (line_front (q - 1) m.input ++ 0 ∷ []) p) s).1
+    (record m { input = drop (length (line_front (q - 1) m.input)) m.input })
+lines-one slot p q s m = rw (bytes-same (line_front (q - 1) m.input ++ 0 ∷ []) p s, fgets-same slot p q s m) (fgets-joined slot p q s m)
+
+pub lines-cut : {Rest : Type 0} (slot p q : ℕ) (s : Contents Rest) (m : HostModel) → 0 < q → m.failing ≡ [] → slot_at m slot ≡ to_input → line_ends (q - 1) m.input ≡ false →
+    (end_of space (moves.bytes_stored (line_front (q - 1) m.input) p) s).0 ≡ Ok tt →
+    ComesTo (leaving (end_of both (moves.fgets slot p q) (s, m))) (Value 0xffff_ffff_ffff_ffff) (end_of space (moves.bytes_stored (line_front (q - 1) m.input) p) s).1 (record m { input = [] })
+lines-cut slot p q s m = rw (bytes-same (line_front (q - 1) m.input) p s, fgets-same slot p q s m) (fgets-cut slot p q s m)
+
+pub ruleset joined = (lines-one, lines-cut)

@@ -15,8 +15,13 @@ use Rattle.mx_host.specs.HostModel.{HostModel, slot_at, is_write_only, with_slot
 use Rattle.mx_host.specs.HostAnswer.{Then, read_answer, read_from, read_lead, bytes_at}
 use Rattle.mx_host.proofs.Still.{still, read-still}
 use Rattle.mx_word.proofs.Comparisons.{same-number, other-number, other-test}
-use Rattle.mx_trap.specs.Moves.{Leaves, octa_minus, read_pieces, read_piece, read_next, read_last, piece_got, bytes_stored, byte_stored, stored_next, fread, whole_pieces}
-use Rattle.mx_trap.specs.Counts.{unscheduled}
+use Rattle.mx_trap.specs.Moves.{Leaves, octa_minus, whole_pieces}
+use Rattle.mx_plan.specs.Calls.{space, both}
+use Rattle.mx_plan.specs.Plan.{end_of}
+use Rattle.mx_trap.specs.Moves as moves
+use Rattle.mx_trap.specs.Moves.{leaving}
+use Rattle.mx_trap.proofs.Walks.{bytes-same, fread-same, read_pieces, read_piece, read_next, read_last, piece_got, bytes_stored, byte_stored, stored_next, fread}
+use Rattle.mx_plan.specs.Counts.{unscheduled}
 use Rattle.mx_trap.specs.Laws.{ComesTo}
 use Rattle.mx_trap.specs.declared.answer.TrapAnswer.{TrapAnswer}
 use Rattle.mx_trap.specs.declared.answer.TrapAnswer.TheVariants.{Value}
@@ -220,4 +225,8 @@ fread-joined {Rest} slot p q s m got f h stored =
     let came = pieces-came (whole_pieces q) slot p q 0 s (bytes_stored got p s).1 m (still t.1) got (whole-few q) f (ap (read_answer (still m) slot) all ∙ one) (ap (λ a. bytes_stored got a s) here ∙ kept) in
     record { answer = came.answer ∙ ap (λ n. Value (octa_minus n q)) none; space = came.space; model = ap unscheduled came.model }
 
-pub ruleset joined = (fread-joined)
+pub pieces-one : {Rest : Type 0} (slot p q : ℕ) (s : Contents Rest) (m : HostModel) (got : List ℕ) → m.failing ≡ [] → (read_answer m slot q).0 ≡ Ok got → (end_of space (moves.bytes_stored got p) s).0 ≡ Ok tt →
+    ComesTo (leaving (end_of both (moves.fread slot p q) (s, m))) (Value (octa_minus (length got) q)) (end_of space (moves.bytes_stored got p) s).1 (read_answer m slot q).1
+pieces-one slot p q s m got = rw (bytes-same got p s, fread-same slot p q s m) (fread-joined slot p q s m got)
+
+pub ruleset joined = (pieces-one)

@@ -17,8 +17,12 @@ use Rattle.mx_host.specs.HostModel.{HostModel, slot_at, is_read_only}
 use Rattle.mx_host.specs.HostAnswer.{Then, write_answer, write_to, write_lead, changed_at, with_bytes, bytes_at}
 use Rattle.mx_host.proofs.Still.{still, Steady, then, write-still}
 use Rattle.mx_host.proofs.NamedFiles.{at-home, put-put}
-use Rattle.mx_trap.specs.Moves.{write_piece, write_last, write_next, write_pieces, written, whole_pieces}
-use Rattle.mx_trap.specs.Counts.{unscheduled}
+use Rattle.mx_trap.specs.Moves.{whole_pieces}
+use Rattle.mx_plan.specs.Calls.{host}
+use Rattle.mx_plan.specs.Plan.{end_of}
+use Rattle.mx_trap.specs.Moves as moves
+use Rattle.mx_trap.proofs.Walks.{written-same, piece-written-same, write_piece, write_last, write_next, write_pieces, written}
+use Rattle.mx_plan.specs.Counts.{unscheduled}
 use Rattle.mx_trap.specs.Laws.{SameButCalls}
 use Rattle.mx_trap.specs.declared.writes.Written.{Written}
 use Rattle.mx_trap.specs.declared.writes.Written.TheVariants.{Whole, Short, OutOfMemory}
@@ -220,4 +224,7 @@ written-joined slot bytes m h =
     same-but_calls (written slot bytes m) (write_piece slot bytes 0 m) (write_piece slot bytes 0 (still m))
     (pieces.0 ∙ pieces-joined (whole_pieces (length bytes)) slot bytes 0 m, pieces.1) (piece-steady slot bytes 0 m h)
 
-pub ruleset joined = (written-joined)
+pub pieces-one : (slot : ℕ) (bytes : List ℕ) (m : HostModel) → m.failing ≡ [] → SameButCalls (end_of host (moves.written slot bytes) m) (end_of host (moves.write_piece slot bytes 0) m)
+pieces-one slot bytes m h = rw (written-same slot bytes m, piece-written-same slot bytes 0 m) (written-joined slot bytes m h)
+
+pub ruleset joined = (pieces-one)

@@ -1,16 +1,13 @@
 -- Bytes are written piece by piece.
-use Rattle.std.proofs.Common.{◌≡◌, ℕ, suc, zero, ◌+◌, ◌-◌, ◌/◌, ◌<◌, ◌≤◌, List, take, drop, arith, refl, sym, ◌∙◌, ap}
-use Rattle.std.specs.Prelude.{Result, Ok, Err}
+use Rattle.std.proofs.Common.{◌≡◌, ℕ, suc, ◌+◌, ◌-◌, ◌/◌, ◌<◌, ◌≤◌, drop, arith, refl, sym, ◌∙◌, ap, subst}
 use Rattle.mx_host.specs.HostModel.{HostModel}
-use Rattle.mx_host.specs.HostAnswer.{Then, write_answer}
-use Rattle.mx_host.specs.declared.faults.HostFault.{HostFault}
-use Rattle.mx_host.proofs.Output.{write-front}
-use Rattle.mx_word.specs.Lists.{IsFront}
-use Rattle.mx_word.proofs.Fronts.{front-through}
+use Rattle.mx_plan.specs.Plan.{bind, IsRest, end_of}
+use Rattle.mx_plan.specs.Calls.{HostPlan, host}
+use Rattle.mx_plan.proofs.Plans.{rest_after}
 use Rattle.mx_trap.specs.Requests.{bytes_from}
-use Rattle.mx_trap.specs.Moves.{whole_pieces, written, write_pieces, write_piece, write_next, write_last}
+use Rattle.mx_trap.specs.Moves.{whole_pieces, written, write_pieces, write_piece, write_next}
 use Rattle.mx_trap.specs.declared.writes.Written.{Written}
-use Rattle.mx_trap.specs.declared.writes.Written.TheVariants.{Whole, Short, OutOfMemory}
+use Rattle.mx_trap.specs.declared.writes.Written.TheVariants.{Whole}
 use Rattle.mx_trap.proofs.Buffers.{bytes-length, bytes-front, bytes-behind}
 
 -- one piece more than of what follows the first
@@ -20,60 +17,40 @@ more-pieces n h = grind arith
 pub no-more : (n : ℕ) → n ≤ 4096 → (n - 1) / 4096 ≡ 0
 no-more n h = grind arith
 
--- what is left to write: n bytes from p on, behind `moved`
-abbrev pub left_written : ℕ → (ℕ → ℕ) → ℕ → ℕ → ℕ → HostModel → Then Written
-left_written slot f p n moved m = write_pieces (whole_pieces n) slot (bytes_from f p n) moved m
+-- what is left to write, of `size` bytes at `start`, behind `moved`
+unfoldable pub left : ℕ → (ℕ → ℕ) → ℕ → ℕ → ℕ → HostPlan Written
+left slot f start size moved = write_pieces (whole_pieces (size - moved)) slot (bytes_from f (start + moved) (size - moved)) moved
 
-front-of-piece : (f : ℕ → ℕ) (p n k : ℕ) → 4096 < n → k ≡ n - 4096 → drop 4096 (bytes_from f p n) ≡ bytes_from f (p + 4096) k
-front-of-piece f p n k h e =
-    let all : 4096 + k ≡ n = omega (arith, h, e) in
-    ap (λ x. drop 4096 (bytes_from f p x)) (sym all) ∙ bytes-behind f p k 4096
+pub left-all : (slot : ℕ) (f : ℕ → ℕ) (start size : ℕ) → left slot f start size 0 ≡ written slot (bytes_from f start size)
+unfolding left written
+left-all slot f start size =
+    let a : start + 0 ≡ start = omega arith in
+    let b : size - 0 ≡ size = omega arith in
+    rw (a, b, bytes-length f start size) refl
 
-pub written-all : (slot : ℕ) (f : ℕ → ℕ) (p n : ℕ) (m : HostModel) → written slot (bytes_from f p n) m ≡ left_written slot f p n 0 m
-written-all slot f p n m = ap (λ x. write_pieces (whole_pieces x) slot (bytes_from f p n) 0 m) (bytes-length f p n)
+pub left-more : (slot : ℕ) (f : ℕ → ℕ) (start size moved : ℕ) → 4096 < size - moved →
+    left slot f start size moved ≡ bind (write_next (left slot f start size (moved + 4096))) (write_piece slot (bytes_from f (start + moved) 4096) moved)
+unfolding left write_pieces
+left-more slot f start size moved h =
+    let n = size - moved in
+    let k = size - (moved + 4096) in
+    let all : 4096 + k ≡ n = omega (arith, h) in
+    let less : n - 4096 ≡ k = omega (arith, h) in
+    let on : start + moved + 4096 ≡ start + (moved + 4096) = omega arith in
+    let front : drop 4096 (bytes_from f (start + moved) n) ≡ bytes_from f (start + (moved + 4096)) k =
+    ap (λ x. drop 4096 (bytes_from f (start + moved) x)) (sym all) ∙ bytes-behind f (start + moved) k 4096 ∙ ap (λ x. bytes_from f x k) on in
+    rw (more-pieces n h, bytes-front f (start + moved) n 4096 (omega (arith, h)), front, less) refl
 
--- before the first piece
-pub written-begun : (slot : ℕ) (f : ℕ → ℕ) (p n q k : ℕ) (m : HostModel) → q ≡ p → k ≡ n → written slot (bytes_from f p n) m ≡ left_written slot f q k 0 m
-written-begun slot f p n q k m d e = rw (d, e) (written-all slot f p n m)
+pub left-last : (slot : ℕ) (f : ℕ → ℕ) (start size moved : ℕ) → size - moved ≤ 4096 →
+    left slot f start size moved ≡ write_piece slot (bytes_from f (start + moved) (size - moved)) moved
+unfolding left write_pieces
+left-last slot f start size moved h = rw (no-more (size - moved) h) refl
 
-pub written-next : (slot : ℕ) (f : ℕ → ℕ) (p n q k moved : ℕ) (m after : HostModel) → 4096 < n → q ≡ p + 4096 → k ≡ n - 4096 →
-    (Whole, after) ≡ write_piece slot (bytes_from f p 4096) moved m → left_written slot f p n moved m ≡ left_written slot f q k (moved + 4096) after
-unfolding write_pieces
-written-next slot f p n q k moved m after h e d w =
-    rw (more-pieces n h, bytes-front f p n 4096 (omega (arith, h)), front-of-piece f p n k h d, ← w, e, d) refl
+pub left-next : (slot : ℕ) (f : ℕ → ℕ) (start size moved : ℕ) (m after old : HostModel) (whole : HostPlan Written) → 4096 < size - moved →
+    IsRest host (left slot f start size moved) m whole old → (Whole, after) ≡ end_of host (write_piece slot (bytes_from f (start + moved) 4096) moved) m →
+    IsRest host (left slot f start size (moved + 4096)) after whole old
+left-next slot f start size moved m after old whole h r e =
+    rest_after host (write_next (left slot f start size (moved + 4096))) (write_piece slot (bytes_from f (start + moved) 4096) moved) Whole after m old whole e
+    (subst (λ p. IsRest host p m whole old) (left-more slot f start size moved h) r)
 
-pub written-failed : (slot : ℕ) (f : ℕ → ℕ) (p n moved k : ℕ) (m after : HostModel) → 4096 < n →
-    (Short k, after) ≡ write_piece slot (bytes_from f p 4096) moved m → left_written slot f p n moved m ≡ (Short k, after)
-unfolding write_pieces
-written-failed slot f p n moved k m after h w =
-    rw (more-pieces n h, bytes-front f p n 4096 (omega (arith, h)), ← w) refl
-
-pub written-last : (slot : ℕ) (f : ℕ → ℕ) (p n moved : ℕ) (m : HostModel) → n ≤ 4096 → left_written slot f p n moved m ≡ write_piece slot (bytes_from f p n) moved m
-unfolding write_pieces
-written-last slot f p n moved m h = rw (no-more n h) refl
-
-pub ruleset writing = (written-all, written-next, written-failed, written-last)
-
--- writing only adds to standard output
-piece-front : (m : HostModel) (slot : ℕ) (bytes : List ℕ) (moved : ℕ) → IsFront m.output (write_piece slot bytes moved m).1.output
-piece-front m slot bytes moved = last-front (write_answer m slot bytes) (write-front m slot bytes)
-  where
-    last-front : (t : Then (Result (Unit {0}) HostFault)) → IsFront m.output t.1.output → IsFront m.output (write_last moved t).1.output
-    last-front (Ok u, n) h = h
-    last-front (Err e, n) h = h
-
-next-front : (m : HostModel) (more : HostModel → Then Written) → ((n : HostModel) → IsFront n.output (more n).1.output) →
-    (t : Then Written) → IsFront m.output t.1.output → IsFront m.output (write_next more t).1.output
-next-front m more f (Whole, n) h = front-through m.output n.output (more n).1.output h (f n)
-next-front m more f (Short k, n) h = h
-next-front m more f (OutOfMemory, n) h = h
-
-pub pieces-front : (more slot : ℕ) (bytes : List ℕ) (moved : ℕ) (m : HostModel) → IsFront m.output (write_pieces more slot bytes moved m).1.output
-unfolding write_pieces
-pieces-front zero slot bytes moved m = piece-front m slot bytes moved
-pieces-front (suc more) slot bytes moved m =
-    next-front m (write_pieces more slot (drop 4096 bytes) (moved + 4096)) (λ n. pieces-front more slot (drop 4096 bytes) (moved + 4096) n) (write_piece slot (take 4096 bytes) moved m)
-    (piece-front m slot (take 4096 bytes) moved)
-
-pub left-front : (slot : ℕ) (f : ℕ → ℕ) (p n moved : ℕ) (m : HostModel) → IsFront m.output (left_written slot f p n moved m).1.output
-left-front slot f p n moved m = pieces-front (whole_pieces n) slot (bytes_from f p n) moved m
+pub ruleset writing = (left-all, left-more, left-last, left-next)

@@ -4,7 +4,10 @@ use Rattle.std.specs.Prelude.{Result, ◌==◌, ◌&&◌, nat_le, nat_lt, not}
 use Rattle.std.proofs.lemmas.Bool.Decides.{nat_tests}
 use Rattle.mx_mem.specs.Space.{Contents, is_negative, begins_page, with_byte, with_byte_page}
 use Rattle.mx_mem.specs.declared.space.SpaceFault.TheVariants.{Negative, PagesFull}
-use Rattle.mx_trap.specs.Moves.{bytes_stored, byte_stored, stored, stored_next}
+use Rattle.mx_plan.specs.Calls.{space}
+use Rattle.mx_plan.specs.Plan.{end_of}
+use Rattle.mx_trap.specs.Moves as moves
+use Rattle.mx_trap.proofs.Walks.{bytes-same, bytes_stored, byte_stored, stored, stored_next}
 use Rattle.mx_trap.specs.Laws.{stored_byte}
 use Rattle.mx_trap.specs.declared.answer.TrapAnswer.{TrapAnswer}
 
@@ -87,4 +90,10 @@ unfolding bytes_stored
 stored-rest [] a s = refl
 stored-rest (b ∷ bs) a s = next-rest bs a s (byte_stored a b s) (byte-rest s a b) (λ n. stored-rest bs (a + 1) n)
 
-pub ruleset storing = (stored-stand, stored-rest)
+pub end-stands : {Rest : Type 0} (bytes : List ℕ) (a : ℕ) (s : Contents Rest) (q : ℕ) → (end_of space (moves.bytes_stored bytes a) s).0 ≡ Ok tt → (end_of space (moves.bytes_stored bytes a) s).1.bytes q ≡ stored_byte bytes a s.bytes q
+end-stands bytes a s q = rw (bytes-same bytes a s) (stored-stand bytes a s q)
+
+pub end-rest : {Rest : Type 0} (bytes : List ℕ) (a : ℕ) (s : Contents Rest) → (end_of space (moves.bytes_stored bytes a) s).1.rest ≡ s.rest
+end-rest bytes a s = rw (bytes-same bytes a s) (stored-rest bytes a s)
+
+pub ruleset storing = (end-stands, end-rest)

@@ -1,6 +1,7 @@
 -- Spaces that are the same outside Stack_Segment, the addresses from #6000000000000000 up to below 2^63.
 use Rattle.std.specs.Prelude.{ℕ, ◌≡◌, ◌≤◌, ◌<◌, false, if◌then◌else◌}
 use Rattle.mx_mem.specs.Space.{Contents}
+use Rattle.mx_plan.specs.Counts.{unscheduled}
 use Rattle.mx_trap.specs.Moves.{Leaves}
 use Rattle.mx_trap.specs.Touches.{is_in_segment}
 
@@ -25,3 +26,7 @@ leaves_apart others rest t = (t.0, apart others rest t.1, t.2)
 -- none of the addresses from a up to below e lies in Stack_Segment
 abbrev pub IsClear : ℕ → ℕ → Type 0
 IsClear a e = (q : ℕ) → a ≤ q → q < e → is_in_segment q ≡ false
+
+-- what a call answers and leaves, but for the number of calls and the list of those that fail
+abbrev pub leaves_unscheduled : {A Rest : Type 0} → Leaves A Rest → Leaves A Rest
+leaves_unscheduled t = (t.0, t.1, unscheduled t.2)

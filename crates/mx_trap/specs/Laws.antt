@@ -3,7 +3,7 @@ use Rattle.std.specs.Prelude.{ℕ, zero, suc, Bool, true, false, ◌∷◌, ◌=
 use Rattle.mx_host.specs.HostModel.{HostModel}
 use Rattle.mx_host.specs.HostAnswer.{Then}
 use Rattle.mx_mem.specs.Space.{Contents}
-use Rattle.mx_trap.specs.Counts.{unscheduled}
+use Rattle.mx_plan.specs.Counts.{unscheduled}
 use Rattle.mx_trap.specs.Moves.{Leaves}
 use Rattle.mx_trap.specs.declared.answer.TrapAnswer.{TrapAnswer}
 
@@ -55,3 +55,7 @@ line_ends (suc room) (b ∷ bs) = if b == 10 then true else line_ends room bs
 pub record LooksAt (most : ℕ) (bytes : ℕ → ℕ) (a i : ℕ) : Type 0 where
   pub few : i ≤ most
   pub nonzero : (j : ℕ) → j < i → bytes (a + j) ≢ 0
+
+-- each of q bytes at p lies below 2^63
+abbrev pub LiesBelow : ℕ → ℕ → Type 0
+LiesBelow p q = (i : ℕ) → i < q → p + i < 2 ^ 63

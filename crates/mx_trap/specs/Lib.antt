@@ -7,4 +7,3 @@ pub mod Clauses
 pub mod Laws
 pub mod Touches
 pub mod Apart
-pub mod Counts

@@ -23,7 +23,7 @@ pub fn calls_go_apart<M: Space, N: Space>()
 {}
 
 /// A call leaves what else belongs to the space, and at most 65,536 pages where there were no more.
-#[tactic(auto, using(crate::proofs::KeptContents::keeping))]
+#[tactic(auto, using(crate::proofs::KeptTraps::keeping))]
 pub fn calls_keep_contents<M: Space>()
     ensures rest { (s : Contents M.Rest) (m : HostModel) (call : TrapCall)
         → (trap_answer s m call).1.rest ≡ s.rest }

@@ -1,9 +1,9 @@
 //! A file trap as a whole.
 
 ghost use Rattle.std.specs.Prelude.{◌≡◌, ◌≢◌, ◌≤◌, IfErr};
-ghost use Rattle.mx_host.specs.HostModel.{contents, tells};
 ghost use Rattle.mx_host.specs.Keeping.{Keeps};
-ghost use Rattle.mx_trap.specs.Clauses.{LeavesBoth, LeavesFront};
+ghost use Rattle.mx_plan.specs.Clauses.{CarriesOutBoth, Stands};
+ghost use Rattle.mx_trap.specs.Clauses.{IsStopped, StopsByPages};
 ghost use Rattle.mx_trap.specs.FileTraps as spec;
 ghost use Rattle.mx_trap.specs.Requests.{request_of, IsInBounds, AreInBounds, bytes_from};
 
@@ -18,25 +18,24 @@ use mx_mem::Space;
 use mx_trip::TrapCall;
 use std::alloc::Global;
 
-/// Carries out a file trap on the bytes of a space and the slots of a host.
+/// Carries out a file trap on the bytes of a space and the slots of a host. Where there is no memory, the
+/// bytes that it moved and the calls that it made stay, and nothing else changed.
 ///
 /// Stops come before any call of the host, but for one page too many, which leaves the bytes stored
 /// before. A call of the host that fails or is misused is no stop: the program sees -1 or a count.
-#[tactic(auto, unfolding(crate::specs::FileTraps::trap_answer))]
+#[tactic(auto, using(mx_plan::proofs::Plans::plans, mx_plan::proofs::Plans::looking), unfolding(crate::specs::FileTraps::trap_plan))]
 pub fn trap<M: Space, H: Host>(
     alloc: Global,
     memory: &mut M,
     host: &mut H,
     call: &TrapCall,
 ) -> TrapAnswer
-    ensures told { LeavesBoth (H.told host.old) (H.told host.new) (M.contents memory.old) (M.contents memory.new)
-        TrapAnswer.OutOfMemory result (λ s m. spec.trap_answer s m call.now) }
-    ensures front { LeavesFront (H.told host.old) (H.told host.new) (M.contents memory.old)
-        TrapAnswer.OutOfMemory result (λ s m. spec.trap_answer s m call.now) }
-    ensures stops { IfErr (request_of (M.contents memory.old).bytes call.now)
-        (λ stop. (result ≡ TrapAnswer.Stopped stop) × (M.contents memory.new ≡ M.contents memory.old)) }
+    ensures told { CarriesOutBoth (H.told host.old) (H.told host.new) (M.contents memory.old) (M.contents memory.new)
+        TrapAnswer.OutOfMemory result (spec.trap_plan call.now) }
+    ensures stops { IsStopped (request_of (M.contents memory.old).bytes call.now) result
+        ((M.contents memory.new ≡ M.contents memory.old) × (host.new ≡ host.old)) }
     ensures rest { (M.contents memory.new).rest ≡ (M.contents memory.old).rest }
-    ensures keeps { Keeps (H.told host.old) (H.told host.new) (H.faults host.old) (H.faults host.new) }
+    ensures stands { Stands (H.told host.old) (H.told host.new) (H.faults host.old) (H.faults host.new) }
 {
     let slot = (call.word % 256) as u16;
     match request_of(memory, call) {
@@ -46,7 +45,7 @@ pub fn trap<M: Space, H: Host>(
 }
 
 /// Carries out what is asked for.
-#[tactic(auto, using(crate::proofs::Outputs::fronts))]
+#[tactic(auto, using(mx_plan::proofs::Plans::plans, mx_plan::proofs::Plans::lifting))]
 fn carry_out<M: Space, H: Host>(
     alloc: Global,
     memory: &mut M,
@@ -56,12 +55,11 @@ fn carry_out<M: Space, H: Host>(
 ) -> TrapAnswer
     requires slot { slot ≤ 255 }
     requires bounds { IsInBounds request }
-    ensures told { LeavesBoth (H.told host.old) (H.told host.new) (M.contents memory.old) (M.contents memory.new)
-        TrapAnswer.OutOfMemory result (λ s m. spec.carried_out slot s m request) }
-    ensures front { LeavesFront (H.told host.old) (H.told host.new) (M.contents memory.old)
-        TrapAnswer.OutOfMemory result (λ s m. spec.carried_out slot s m request) }
+    ensures told { CarriesOutBoth (H.told host.old) (H.told host.new) (M.contents memory.old) (M.contents memory.new)
+        TrapAnswer.OutOfMemory result (spec.carried_out slot (M.contents memory.old).bytes request) }
+    ensures stops { StopsByPages result }
     ensures rest { (M.contents memory.new).rest ≡ (M.contents memory.old).rest }
-    ensures keeps { Keeps (H.told host.old) (H.told host.new) (H.faults host.old) (H.faults host.new) }
+    ensures stands { Stands (H.told host.old) (H.told host.new) (H.faults host.old) (H.faults host.new) }
 {
     match request {
         Request::Ending => TrapAnswer::Halt,

@@ -1,9 +1,10 @@
 //! The services that move no bytes: opening, closing, and the place in a file.
 
 ghost use Rattle.std.specs.Prelude.{◌≡◌, ◌≤◌};
-ghost use Rattle.mx_host.specs.Keeping.{Answers, Keeps};
-ghost use Rattle.mx_host.specs.HostAnswer.{open_answer};
-ghost use Rattle.mx_trap.specs.Clauses.{LeavesOutput};
+ghost use Rattle.mx_plan.specs.Calls.{open_plan};
+ghost use Rattle.mx_plan.specs.Clauses.{CarriesOut, Stands};
+ghost use Rattle.mx_plan.specs.Plan.{bind};
+ghost use Rattle.mx_trap.specs.Clauses.{StopsByPages};
 ghost use Rattle.mx_trap.specs.Requests.{AreInBounds, bytes_from};
 ghost use Rattle.mx_trap.specs.FileTraps as spec;
 
@@ -11,6 +12,7 @@ use crate::answer::TrapAnswer;
 use crate::space::bytes_at;
 use mx_host::{Host, HostFault, Mode, OpenFault};
 use mx_mem::Space;
+use mx_plan::{close, open, seek, tell};
 use std::alloc::Global;
 
 /// The octa -1, which tells that a call failed or was misused.
@@ -18,6 +20,7 @@ pub const MINUS_ONE: u64 = u64::MAX;
 
 /// Opens the file whose name stands at an address, in the mode of this number. It takes memory for
 /// the name where there is such a mode.
+#[tactic(auto, using(mx_plan::proofs::Plans::plans, mx_plan::proofs::Plans::needs), unfolding(crate::specs::FileTraps::fopen))]
 pub fn fopen<M: Space, H: Host>(
     alloc: Global,
     memory: &M,
@@ -29,10 +32,10 @@ pub fn fopen<M: Space, H: Host>(
 ) -> TrapAnswer
     requires slot { slot ≤ 255 }
     requires bounds { AreInBounds at size }
-    ensures told { Answers (H.told host.old) (H.told host.new) TrapAnswer.OutOfMemory result
-        (λ m. spec.fopen slot (bytes_from (M.contents memory.now).bytes at size) mode m) }
-    ensures memory { LeavesOutput (H.told host.old) (H.told host.new) TrapAnswer.OutOfMemory result }
-    ensures keeps { Keeps (H.told host.old) (H.told host.new) (H.faults host.old) (H.faults host.new) }
+    ensures told { CarriesOut (H.told host.old) (H.told host.new) TrapAnswer.OutOfMemory result
+        (spec.fopen slot (bytes_from (M.contents memory.now).bytes at size) mode) }
+    ensures stops { StopsByPages result }
+    ensures stands { Stands (H.told host.old) (H.told host.new) (H.faults host.old) (H.faults host.new) }
 {
     let Some(mode) = mode_of(mode) else {
         return TrapAnswer::Value(MINUS_ONE);
@@ -44,15 +47,15 @@ pub fn fopen<M: Space, H: Host>(
 }
 
 /// Opens a file.
-#[tactic(auto, unfolding(mx_host::specs::HostAnswer::open_answer))]
+#[tactic(auto, using(mx_plan::proofs::Plans::plans))]
 fn open_file<H: Host>(host: &mut H, slot: u16, name: &[u8], mode: Mode) -> TrapAnswer
     requires { slot ≤ 255 }
-    ensures told { Answers (H.told host.old) (H.told host.new) TrapAnswer.OutOfMemory result
-        (λ m. spec.done_value (open_answer m slot name.now mode)) }
-    ensures memory { LeavesOutput (H.told host.old) (H.told host.new) TrapAnswer.OutOfMemory result }
-    ensures keeps { Keeps (H.told host.old) (H.told host.new) (H.faults host.old) (H.faults host.new) }
+    ensures told { CarriesOut (H.told host.old) (H.told host.new) TrapAnswer.OutOfMemory result
+        (bind spec.done_value (open_plan slot name.now mode)) }
+    ensures stops { StopsByPages result }
+    ensures stands { Stands (H.told host.old) (H.told host.new) (H.faults host.old) (H.faults host.new) }
 {
-    match host.open_file(slot, name, mode) {
+    match open(host, slot, name, mode) {
         Ok(()) => TrapAnswer::Value(0),
         Err(OpenFault::OutOfMemory) => TrapAnswer::OutOfMemory,
         Err(_) => TrapAnswer::Value(MINUS_ONE),
@@ -74,15 +77,15 @@ fn mode_of(number: u64) -> Option<Mode>
 }
 
 /// Closes a slot.
-#[tactic(auto, unfolding(mx_host::specs::HostAnswer::close_answer))]
+#[tactic(auto, using(mx_plan::proofs::Plans::plans), unfolding(crate::specs::FileTraps::fclose))]
 pub fn fclose<H: Host>(host: &mut H, slot: u16) -> TrapAnswer
     requires { slot ≤ 255 }
-    ensures told { Answers (H.told host.old) (H.told host.new) TrapAnswer.OutOfMemory result
-        (λ m. spec.fclose slot m) }
-    ensures memory { LeavesOutput (H.told host.old) (H.told host.new) TrapAnswer.OutOfMemory result }
-    ensures keeps { Keeps (H.told host.old) (H.told host.new) (H.faults host.old) (H.faults host.new) }
+    ensures told { CarriesOut (H.told host.old) (H.told host.new) TrapAnswer.OutOfMemory result
+        (spec.fclose slot) }
+    ensures stops { StopsByPages result }
+    ensures stands { Stands (H.told host.old) (H.told host.new) (H.faults host.old) (H.faults host.new) }
 {
-    match host.close_slot(slot) {
+    match close(host, slot) {
         Ok(()) => TrapAnswer::Value(0),
         Err(HostFault::OutOfMemory) => TrapAnswer::OutOfMemory,
         Err(_) => TrapAnswer::Value(MINUS_ONE),
@@ -90,14 +93,15 @@ pub fn fclose<H: Host>(host: &mut H, slot: u16) -> TrapAnswer
 }
 
 /// Moves the place; a number below 0 counts from the end.
+#[tactic(auto, using(mx_plan::proofs::Plans::plans), unfolding(crate::specs::FileTraps::fseek))]
 pub fn fseek<H: Host>(host: &mut H, slot: u16, to: i64) -> TrapAnswer
     requires { slot ≤ 255 }
-    ensures told { Answers (H.told host.old) (H.told host.new) TrapAnswer.OutOfMemory result
-        (λ m. spec.fseek slot to m) }
-    ensures memory { LeavesOutput (H.told host.old) (H.told host.new) TrapAnswer.OutOfMemory result }
-    ensures keeps { Keeps (H.told host.old) (H.told host.new) (H.faults host.old) (H.faults host.new) }
+    ensures told { CarriesOut (H.told host.old) (H.told host.new) TrapAnswer.OutOfMemory result
+        (spec.fseek slot to) }
+    ensures stops { StopsByPages result }
+    ensures stands { Stands (H.told host.old) (H.told host.new) (H.faults host.old) (H.faults host.new) }
 {
-    match host.seek_slot(slot, to) {
+    match seek(host, slot, to) {
         Ok(()) => TrapAnswer::Value(0),
         Err(HostFault::OutOfMemory) => TrapAnswer::OutOfMemory,
         Err(HostFault::Failed) => TrapAnswer::Value(MINUS_ONE),
@@ -106,15 +110,15 @@ pub fn fseek<H: Host>(host: &mut H, slot: u16, to: i64) -> TrapAnswer
 }
 
 /// Tells the place.
-#[tactic(auto, unfolding(mx_host::specs::HostAnswer::tell_answer))]
+#[tactic(auto, using(mx_plan::proofs::Plans::plans), unfolding(crate::specs::FileTraps::ftell))]
 pub fn ftell<H: Host>(host: &mut H, slot: u16) -> TrapAnswer
     requires { slot ≤ 255 }
-    ensures told { Answers (H.told host.old) (H.told host.new) TrapAnswer.OutOfMemory result
-        (λ m. spec.ftell slot m) }
-    ensures memory { LeavesOutput (H.told host.old) (H.told host.new) TrapAnswer.OutOfMemory result }
-    ensures keeps { Keeps (H.told host.old) (H.told host.new) (H.faults host.old) (H.faults host.new) }
+    ensures told { CarriesOut (H.told host.old) (H.told host.new) TrapAnswer.OutOfMemory result
+        (spec.ftell slot) }
+    ensures stops { StopsByPages result }
+    ensures stands { Stands (H.told host.old) (H.told host.new) (H.faults host.old) (H.faults host.new) }
 {
-    match host.tell_slot(slot) {
+    match tell(host, slot) {
         Ok(place) => TrapAnswer::Value(place),
         Err(HostFault::OutOfMemory) => TrapAnswer::OutOfMemory,
         Err(_) => TrapAnswer::Value(MINUS_ONE),

@@ -1,9 +1,10 @@
 //! Reading a line of a slot into a space: Fgets.
 
-ghost use Rattle.std.specs.Prelude.{◌≡◌, ◌≢◌, ◌≤◌, ◌<◌, ◌+◌, ◌^◌, length, Ok, Err, IfOk};
-ghost use Rattle.mx_host.specs.Keeping.{Keeps, KeepsOutput};
-ghost use Rattle.mx_host.specs.HostModel.{HostModel};
-ghost use Rattle.mx_trap.specs.Clauses.{LeavesBoth};
+ghost use Rattle.std.specs.Prelude.{◌≡◌, ◌≢◌, ◌≤◌, ◌<◌, ◌+◌, ◌^◌, length, Ok, Err, IfErr};
+ghost use Rattle.mx_plan.specs.Calls.{space};
+ghost use Rattle.mx_plan.specs.Clauses.{CarriesOutBoth, Stands};
+ghost use Rattle.mx_plan.specs.Plan.{Comes};
+ghost use Rattle.mx_trap.specs.Clauses.{StopsByPages};
 ghost use Rattle.mx_trap.specs.Moves as spec;
 ghost use Rattle.mx_trap.specs.Requests.{AreInBounds};
 
@@ -12,9 +13,10 @@ use crate::files::MINUS_ONE;
 use crate::space::store_byte;
 use mx_host::{Host, HostFault};
 use mx_mem::Space;
+use mx_plan::read;
 
 /// Reads a line into a buffer and puts a zero byte behind it.
-#[tactic(auto, using(crate::proofs::Readings::lines))]
+#[tactic(auto, using(mx_plan::proofs::Plans::plans, mx_plan::proofs::Plans::lifting, crate::proofs::LineBytes::lining), unfolding(crate::specs::Moves::fgets))]
 pub fn fgets<M: Space, H: Host>(
     memory: &mut M,
     host: &mut H,
@@ -24,11 +26,11 @@ pub fn fgets<M: Space, H: Host>(
 ) -> TrapAnswer
     requires slot { slot ≤ 255 }
     requires bounds { AreInBounds at size }
-    ensures told { LeavesBoth (H.told host.old) (H.told host.new) (M.contents memory.old) (M.contents memory.new)
-        TrapAnswer.OutOfMemory result (λ s m. spec.fgets slot at size s m) }
-    ensures output { KeepsOutput (H.told host.old) (H.told host.new) }
+    ensures told { CarriesOutBoth (H.told host.old) (H.told host.new) (M.contents memory.old) (M.contents memory.new)
+        TrapAnswer.OutOfMemory result (spec.fgets slot at size) }
     ensures rest { (M.contents memory.new).rest ≡ (M.contents memory.old).rest }
-    ensures keeps { Keeps (H.told host.old) (H.told host.new) (H.faults host.old) (H.faults host.new) }
+    ensures stops { StopsByPages result }
+    ensures stands { Stands (H.told host.old) (H.told host.new) (H.faults host.old) (H.faults host.new) }
 {
     if size == 0 {
         return TrapAnswer::Value(MINUS_ONE);
@@ -44,7 +46,7 @@ pub fn fgets<M: Space, H: Host>(
 }
 
 /// Reads and stores one byte of a line, and says whether it is the newline.
-#[tactic(auto, using(crate::proofs::Readings::line_bytes_read))]
+#[tactic(auto, using(mx_plan::proofs::Plans::plans, mx_plan::proofs::Plans::lifting), unfolding(crate::specs::Moves::line_byte))]
 fn line_byte<M: Space, H: Host>(
     memory: &mut M,
     host: &mut H,
@@ -52,29 +54,44 @@ fn line_byte<M: Space, H: Host>(
     at: u64,
 ) -> Result<bool, TrapAnswer>
     requires slot { slot ≤ 255 }
-    ensures told { LeavesBoth (H.told host.old) (H.told host.new) (M.contents memory.old) (M.contents memory.new)
-        (Err TrapAnswer.OutOfMemory) result (λ s m. spec.line_byte slot at s m) }
-    ensures output { KeepsOutput (H.told host.old) (H.told host.new) }
+    requires below { at < 2 ^ 63 }
+    ensures told { CarriesOutBoth (H.told host.old) (H.told host.new) (M.contents memory.old) (M.contents memory.new)
+        (Err TrapAnswer.OutOfMemory) result (spec.line_byte slot at) }
     ensures rest { (M.contents memory.new).rest ≡ (M.contents memory.old).rest }
-    ensures keeps { Keeps (H.told host.old) (H.told host.new) (H.faults host.old) (H.faults host.new) }
+    ensures stops { IfErr result StopsByPages }
+    ensures stands { Stands (H.told host.old) (H.told host.new) (H.faults host.old) (H.faults host.new) }
 {
     let mut byte = [0u8; 1];
-    match host.read_slot(slot, &mut byte) {
+    match read(host, slot, &mut byte) {
         Ok(0) => Err(TrapAnswer::Value(MINUS_ONE)),
-        Ok(_) => match store_byte(memory, at, byte[0]) {
-            Ok(()) => Ok(byte[0] == b'\n'),
-            Err(answer) => Err(answer),
-        },
+        Ok(_) => put_byte(memory, at, byte[0]),
         Err(HostFault::OutOfMemory) => Err(TrapAnswer::OutOfMemory),
         Err(_) => Err(TrapAnswer::Value(MINUS_ONE)),
     }
 }
 
+/// Stores one byte of a line, and says whether it is the newline.
+#[tactic(auto, using(mx_plan::proofs::Plans::plans), unfolding(crate::specs::Moves::byte_put))]
+fn put_byte<M: Space>(memory: &mut M, at: u64, b: u8) -> Result<bool, TrapAnswer>
+    requires { at < 2 ^ 63 }
+    ensures told { Comes space (M.contents memory.old) (M.contents memory.new) (Err TrapAnswer.OutOfMemory) result
+        (spec.byte_put at b) }
+    ensures stops { IfErr result StopsByPages }
+    ensures rest { (M.contents memory.new).rest ≡ (M.contents memory.old).rest }
+{
+    match store_byte(memory, at, b) {
+        Ok(()) => Ok(b == b'\n'),
+        Err(answer) => Err(answer),
+    }
+}
+
 /// Puts the zero byte behind a line of `count` bytes.
+#[tactic(auto, using(mx_plan::proofs::Plans::plans), unfolding(crate::specs::Moves::line_end))]
 fn end_line<M: Space>(memory: &mut M, at: u64, count: u64) -> TrapAnswer
-    requires { at + count < 2 ^ 64 }
-    ensures told { result ≢ TrapAnswer.OutOfMemory →
-        (m : HostModel) → (result, M.contents memory.new, m) ≡ spec.line_end at count (M.contents memory.old) m }
+    requires { at + count < 2 ^ 63 }
+    ensures told { Comes space (M.contents memory.old) (M.contents memory.new) TrapAnswer.OutOfMemory result
+        (spec.line_end at count) }
+    ensures stops { StopsByPages result }
     ensures rest { (M.contents memory.new).rest ≡ (M.contents memory.old).rest }
 {
     match store_byte(memory, at + count, 0) {

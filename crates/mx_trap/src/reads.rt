@@ -1,8 +1,8 @@
 //! Reading bytes of a slot into a space, piece by piece: Fread.
 
-ghost use Rattle.std.specs.Prelude.{◌≡◌, ◌≢◌, ◌≤◌, ◌<◌, ◌+◌, ◌^◌, length, Ok, Err, IfOk};
-ghost use Rattle.mx_host.specs.Keeping.{Keeps, KeepsOutput};
-ghost use Rattle.mx_trap.specs.Clauses.{LeavesBoth};
+ghost use Rattle.std.specs.Prelude.{◌≡◌, ◌≢◌, ◌≤◌, ◌<◌, ◌+◌, ◌^◌, length, Ok, Err, IfOk, IfErr};
+ghost use Rattle.mx_plan.specs.Clauses.{CarriesOutBoth, Stands};
+ghost use Rattle.mx_trap.specs.Clauses.{StopsByPages};
 ghost use Rattle.mx_trap.specs.Moves as spec;
 ghost use Rattle.mx_trap.specs.Requests.{AreInBounds};
 
@@ -11,9 +11,10 @@ use crate::files::MINUS_ONE;
 use crate::space::store_bytes;
 use mx_host::{Host, HostFault};
 use mx_mem::Space;
+use mx_plan::read;
 
 /// Reads into a buffer, in pieces of 4,096 bytes, up to one that comes short.
-#[tactic(auto, using(crate::proofs::Readings::reading))]
+#[tactic(auto, using(mx_plan::proofs::Plans::plans, crate::proofs::Readings::reading))]
 pub fn fread<M: Space, H: Host>(
     memory: &mut M,
     host: &mut H,
@@ -23,11 +24,11 @@ pub fn fread<M: Space, H: Host>(
 ) -> TrapAnswer
     requires slot { slot ≤ 255 }
     requires bounds { AreInBounds at size }
-    ensures told { LeavesBoth (H.told host.old) (H.told host.new) (M.contents memory.old) (M.contents memory.new)
-        TrapAnswer.OutOfMemory result (λ s m. spec.fread slot at size s m) }
-    ensures output { KeepsOutput (H.told host.old) (H.told host.new) }
+    ensures told { CarriesOutBoth (H.told host.old) (H.told host.new) (M.contents memory.old) (M.contents memory.new)
+        TrapAnswer.OutOfMemory result (spec.fread slot at size) }
     ensures rest { (M.contents memory.new).rest ≡ (M.contents memory.old).rest }
-    ensures keeps { Keeps (H.told host.old) (H.told host.new) (H.faults host.old) (H.faults host.new) }
+    ensures stops { StopsByPages result }
+    ensures stands { Stands (H.told host.old) (H.told host.new) (H.faults host.old) (H.faults host.new) }
 {
     let mut buffer = [0u8; 4096];
     let mut moved = 0;
@@ -51,7 +52,7 @@ pub fn fread<M: Space, H: Host>(
 
 /// Reads one piece, of as many bytes as the buffer has, and stores it. It gives the number of bytes
 /// that came, or the answer of the trap, which reads `size` bytes in all.
-#[tactic(auto, using(crate::proofs::Readings::piece))]
+#[tactic(auto, using(mx_plan::proofs::Plans::plans, mx_plan::proofs::Plans::lifting), unfolding(crate::specs::Moves::read_piece))]
 fn read_piece<M: Space, H: Host>(
     memory: &mut M,
     host: &mut H,
@@ -62,15 +63,15 @@ fn read_piece<M: Space, H: Host>(
 ) -> Result<u64, TrapAnswer>
     requires slot { slot ≤ 255 }
     requires bounds { AreInBounds at (length buffer.old) }
-    ensures told { LeavesBoth (H.told host.old) (H.told host.new) (M.contents memory.old) (M.contents memory.new)
-        (Err TrapAnswer.OutOfMemory) result (λ s m. spec.read_piece slot at (length buffer.old) size s m) }
-    ensures output { KeepsOutput (H.told host.old) (H.told host.new) }
+    ensures told { CarriesOutBoth (H.told host.old) (H.told host.new) (M.contents memory.old) (M.contents memory.new)
+        (Err TrapAnswer.OutOfMemory) result (spec.read_piece slot at (length buffer.old) size) }
     ensures count { IfOk result (λ n. n ≤ length buffer.old) }
     ensures length { length buffer.new ≡ length buffer.old }
     ensures rest { (M.contents memory.new).rest ≡ (M.contents memory.old).rest }
-    ensures keeps { Keeps (H.told host.old) (H.told host.new) (H.faults host.old) (H.faults host.new) }
+    ensures stops { IfErr result StopsByPages }
+    ensures stands { Stands (H.told host.old) (H.told host.new) (H.faults host.old) (H.faults host.new) }
 {
-    match host.read_slot(slot, buffer) {
+    match read(host, slot, buffer) {
         Ok(count) => match store_bytes(memory, at, &buffer[..count]) {
             Ok(()) => Ok(count as u64),
             Err(answer) => Err(answer),

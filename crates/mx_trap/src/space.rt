@@ -1,11 +1,15 @@
 //! Bytes between a space and a buffer.
 
-ghost use Rattle.std.specs.Prelude.{◌≡◌, ◌≢◌, ◌≤◌, ◌<◌, ◌+◌, ◌^◌, length, Ok, Err, IfOk};
+ghost use Rattle.std.specs.Prelude.{◌≡◌, ◌≢◌, ◌≤◌, ◌<◌, ◌+◌, ◌^◌, length, Ok, Err, IfOk, IfErr};
+ghost use Rattle.mx_plan.specs.Calls.{space};
+ghost use Rattle.mx_plan.specs.Plan.{Comes};
+ghost use Rattle.mx_trap.specs.Clauses.{StopsByPages};
 ghost use Rattle.mx_trap.specs.Moves as spec;
 ghost use Rattle.mx_trap.specs.Requests.{bytes_from, AreInBounds};
 
 use crate::answer::{TrapAnswer, TrapStop};
 use mx_mem::{Space, SpaceFault};
+use mx_plan::put;
 use mx_word::{Bytes, NoMemory};
 use std::alloc::Global;
 
@@ -33,11 +37,12 @@ pub fn bytes_at<M: Space>(alloc: Global, memory: &M, at: u64, size: u64) -> Resu
 }
 
 /// Stores bytes at an address and those that follow it, up to the first one that is refused.
-#[tactic(auto, using(crate::proofs::Buffers::storing))]
+#[tactic(auto, using(mx_plan::proofs::Plans::plans, crate::proofs::Storing::storing))]
 pub fn store_bytes<M: Space>(memory: &mut M, at: u64, bytes: &[u8]) -> Result<(), TrapAnswer>
     requires { AreInBounds at (length bytes.now) }
-    ensures told { result ≢ Err TrapAnswer.OutOfMemory →
-        (result, M.contents memory.new) ≡ spec.bytes_stored bytes.now at (M.contents memory.old) }
+    ensures told { Comes space (M.contents memory.old) (M.contents memory.new) (Err TrapAnswer.OutOfMemory) result
+        (spec.bytes_stored bytes.now at) }
+    ensures stops { IfErr result StopsByPages }
     ensures rest { (M.contents memory.new).rest ≡ (M.contents memory.old).rest }
 {
     for (place, b) in bytes.iter().enumerate() {
@@ -50,12 +55,15 @@ pub fn store_bytes<M: Space>(memory: &mut M, at: u64, bytes: &[u8]) -> Result<()
 }
 
 /// Stores a byte. What it answers where that is refused is the answer of the trap.
+#[tactic(auto, using(mx_plan::proofs::Plans::plans), unfolding(crate::specs::Moves::byte_stored))]
 pub fn store_byte<M: Space>(memory: &mut M, at: u64, b: u8) -> Result<(), TrapAnswer>
-    ensures told { result ≢ Err TrapAnswer.OutOfMemory →
-        (result, M.contents memory.new) ≡ spec.byte_stored at b (M.contents memory.old) }
+    requires { at < 2 ^ 63 }
+    ensures told { Comes space (M.contents memory.old) (M.contents memory.new) (Err TrapAnswer.OutOfMemory) result
+        (spec.byte_stored at b) }
+    ensures stops { IfErr result StopsByPages }
     ensures rest { (M.contents memory.new).rest ≡ (M.contents memory.old).rest }
 {
-    match memory.put_byte(at, b) {
+    match put(memory, at, b) {
         Ok(()) => Ok(()),
         Err(SpaceFault::Negative) => Err(TrapAnswer::Stopped(TrapStop::Negative)),
         Err(SpaceFault::PagesFull) => Err(TrapAnswer::Stopped(TrapStop::TrapPagesFull)),

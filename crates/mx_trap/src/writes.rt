@@ -1,8 +1,8 @@
 //! Writing bytes of a space to a slot, piece by piece: Fwrite and Fputs.
 
 ghost use Rattle.std.specs.Prelude.{◌≡◌, ◌≢◌, ◌≤◌, ◌<◌, ◌+◌, ◌^◌, length, Ok, Err};
-ghost use Rattle.mx_host.specs.Keeping.{Answers, Keeps, WritesFront};
-ghost use Rattle.mx_trap.specs.Clauses.{LeavesOutput};
+ghost use Rattle.mx_plan.specs.Clauses.{CarriesOut, Stands};
+ghost use Rattle.mx_trap.specs.Clauses.{StopsByPages};
 ghost use Rattle.mx_trap.specs.Moves as spec;
 ghost use Rattle.mx_trap.specs.Requests.{bytes_from, AreInBounds};
 
@@ -11,6 +11,7 @@ use crate::files::MINUS_ONE;
 use crate::space::fill;
 use mx_host::{Host, HostFault};
 use mx_mem::Space;
+use mx_plan::write;
 
 /// What came of the writing of bytes.
 #[derive(Clone, Copy, Debug, PartialEq, Eq)]
@@ -24,7 +25,7 @@ pub enum Written {
 }
 
 /// Writes the bytes of a buffer.
-#[tactic(auto, using(crate::proofs::Buffers::sizing))]
+#[tactic(auto, using(mx_plan::proofs::Plans::plans, crate::proofs::Buffers::sizing), unfolding(crate::specs::Moves::fwrite))]
 pub fn fwrite<M: Space, H: Host>(
     memory: &M,
     host: &mut H,
@@ -34,11 +35,10 @@ pub fn fwrite<M: Space, H: Host>(
 ) -> TrapAnswer
     requires slot { slot ≤ 255 }
     requires bounds { AreInBounds at size }
-    ensures told { Answers (H.told host.old) (H.told host.new) TrapAnswer.OutOfMemory result
-        (λ m. spec.fwrite slot (bytes_from (M.contents memory.now).bytes at size) m) }
-    ensures front { WritesFront (H.told host.old) (H.told host.new) TrapAnswer.OutOfMemory result
-        (λ m. spec.fwrite slot (bytes_from (M.contents memory.now).bytes at size) m) }
-    ensures keeps { Keeps (H.told host.old) (H.told host.new) (H.faults host.old) (H.faults host.new) }
+    ensures told { CarriesOut (H.told host.old) (H.told host.new) TrapAnswer.OutOfMemory result
+        (spec.fwrite slot (bytes_from (M.contents memory.now).bytes at size)) }
+    ensures stops { StopsByPages result }
+    ensures stands { Stands (H.told host.old) (H.told host.new) (H.faults host.old) (H.faults host.new) }
 {
     match write_pieces(memory, host, slot, at, size) {
         Written::Whole => TrapAnswer::Value(0),
@@ -48,7 +48,7 @@ pub fn fwrite<M: Space, H: Host>(
 }
 
 /// Writes a text.
-#[tactic(auto, using(crate::proofs::Buffers::sizing))]
+#[tactic(auto, using(mx_plan::proofs::Plans::plans, crate::proofs::Buffers::sizing), unfolding(crate::specs::Moves::fputs))]
 pub fn fputs<M: Space, H: Host>(
     memory: &M,
     host: &mut H,
@@ -58,11 +58,10 @@ pub fn fputs<M: Space, H: Host>(
 ) -> TrapAnswer
     requires slot { slot ≤ 255 }
     requires bounds { AreInBounds at size }
-    ensures told { Answers (H.told host.old) (H.told host.new) TrapAnswer.OutOfMemory result
-        (λ m. spec.fputs slot (bytes_from (M.contents memory.now).bytes at size) m) }
-    ensures front { WritesFront (H.told host.old) (H.told host.new) TrapAnswer.OutOfMemory result
-        (λ m. spec.fputs slot (bytes_from (M.contents memory.now).bytes at size) m) }
-    ensures keeps { Keeps (H.told host.old) (H.told host.new) (H.faults host.old) (H.faults host.new) }
+    ensures told { CarriesOut (H.told host.old) (H.told host.new) TrapAnswer.OutOfMemory result
+        (spec.fputs slot (bytes_from (M.contents memory.now).bytes at size)) }
+    ensures stops { StopsByPages result }
+    ensures stands { Stands (H.told host.old) (H.told host.new) (H.faults host.old) (H.faults host.new) }
 {
     match write_pieces(memory, host, slot, at, size) {
         Written::Whole => TrapAnswer::Value(size),
@@ -72,7 +71,7 @@ pub fn fputs<M: Space, H: Host>(
 }
 
 /// Writes bytes in pieces of 4,096, up to one that is not written.
-#[tactic(auto, using(crate::proofs::Pieces::writing))]
+#[tactic(auto, using(mx_plan::proofs::Plans::plans, crate::proofs::Pieces::writing))]
 fn write_pieces<M: Space, H: Host>(
     memory: &M,
     host: &mut H,
@@ -82,11 +81,9 @@ fn write_pieces<M: Space, H: Host>(
 ) -> Written
     requires slot { slot ≤ 255 }
     requires bounds { AreInBounds at size }
-    ensures told { Answers (H.told host.old) (H.told host.new) Written.OutOfMemory result
-        (λ m. spec.written slot (bytes_from (M.contents memory.now).bytes at size) m) }
-    ensures front { WritesFront (H.told host.old) (H.told host.new) Written.OutOfMemory result
-        (λ m. spec.written slot (bytes_from (M.contents memory.now).bytes at size) m) }
-    ensures keeps { Keeps (H.told host.old) (H.told host.new) (H.faults host.old) (H.faults host.new) }
+    ensures told { CarriesOut (H.told host.old) (H.told host.new) Written.OutOfMemory result
+        (spec.written slot (bytes_from (M.contents memory.now).bytes at size)) }
+    ensures stands { Stands (H.told host.old) (H.told host.new) (H.faults host.old) (H.faults host.new) }
 {
     let mut buffer = [0u8; 4096];
     let mut moved = 0;
@@ -108,7 +105,7 @@ fn write_pieces<M: Space, H: Host>(
 }
 
 /// Writes one piece, as many bytes as the buffer has, behind others that were written.
-#[tactic(auto, using(crate::proofs::Buffers::sizing))]
+#[tactic(auto, using(mx_plan::proofs::Plans::plans, crate::proofs::Buffers::sizing), unfolding(crate::specs::Moves::write_piece))]
 fn write_piece<M: Space, H: Host>(
     memory: &M,
     host: &mut H,
@@ -119,14 +116,13 @@ fn write_piece<M: Space, H: Host>(
 ) -> Written
     requires slot { slot ≤ 255 }
     requires bounds { AreInBounds at (length buffer.old) }
-    ensures told { Answers (H.told host.old) (H.told host.new) Written.OutOfMemory result
-        (λ m. spec.write_piece slot (bytes_from (M.contents memory.now).bytes at (length buffer.old)) moved m) }
-    ensures memory { LeavesOutput (H.told host.old) (H.told host.new) Written.OutOfMemory result }
+    ensures told { CarriesOut (H.told host.old) (H.told host.new) Written.OutOfMemory result
+        (spec.write_piece slot (bytes_from (M.contents memory.now).bytes at (length buffer.old)) moved) }
     ensures length { length buffer.new ≡ length buffer.old }
-    ensures keeps { Keeps (H.told host.old) (H.told host.new) (H.faults host.old) (H.faults host.new) }
+    ensures stands { Stands (H.told host.old) (H.told host.new) (H.faults host.old) (H.faults host.new) }
 {
     fill(memory, at, buffer);
-    match host.write_slot(slot, buffer) {
+    match write(host, slot, buffer) {
         Ok(()) => Written::Whole,
         Err(HostFault::OutOfMemory) => Written::OutOfMemory,
         Err(_) => Written::Short(moved),

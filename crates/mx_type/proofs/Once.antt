@@ -12,6 +12,7 @@ use Rattle.mx_type.specs.Lines.{ended, stab_line, symbol_line}
 use Rattle.mx_type.specs.Listing.{IsListing}
 use Rattle.mx_type.specs.Texts.{item_text, items_text}
 use Rattle.mx_type.proofs.Listed.{are-text, text-more}
+use Rattle.mx_type.proofs.TrieBytes.{trie-bytes}
 use Rattle.mx_type.proofs.Readings.{IsShown, bytes_in, first_in, item-read, stab-lacks, stab-read, trie-told}
 
 -- the items before `stab`
@@ -119,7 +120,8 @@ items-once text items others trie other v w h k =
     let g : Front others = front-of others w in
     f.whole ∙ ap (λ l. l ++ Stab ∷ []) (fronts-told text items others trie other f g h k).items ∙ sym g.whole
 
-pub trie-once : (text : List ℕ) (items others : List Item) (trie other : List ℕ) → Valid items → Valid others → AreBytes trie → AreBytes other →
+pub trie-once : (text : List ℕ) (items others : List Item) (trie other : List ℕ) → Valid items → Valid others →
     IsListing text items trie → IsListing text others other → trie ≡ other
-trie-once text items others trie other v w bt bo h k =
-    same-tries trie other _ _ bt bo (fronts-told text items others trie other (front-of items v) (front-of others w) h k).rest
+trie-once text items others trie other v w h k =
+    same-tries trie other _ _ (trie-bytes h.told) (trie-bytes k.told)
+    (fronts-told text items others trie other (front-of items v) (front-of others w) h k).rest

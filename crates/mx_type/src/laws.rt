@@ -1,7 +1,6 @@
 //! What holds of listings over their definitions alone.
 
 ghost use Rattle.std.specs.Prelude.{◌≡◌, ◌↔◌, ℕ, List, Ok};
-ghost use Rattle.mx_word.specs.Ranges.{AreBytes};
 ghost use Rattle.mx_word.specs.declared.symbols.Symbol.{Symbol};
 ghost use Rattle.mx_mmo.specs.Meaning.{Loading, nothing, take_item, take_items};
 ghost use Rattle.mx_mmo.specs.Valid.{Valid};
@@ -33,5 +32,5 @@ pub fn a_listing_loses_nothing()
     ensures items { (text : List ℕ) (items others : List Item) (trie other : List ℕ) → Valid items → Valid others →
         IsListing text items trie → IsListing text others other → items ≡ others }
     ensures trie { (text : List ℕ) (items others : List Item) (trie other : List ℕ) → Valid items → Valid others →
-        AreBytes trie → AreBytes other → IsListing text items trie → IsListing text others other → trie ≡ other }
+        IsListing text items trie → IsListing text others other → trie ≡ other }
 {}

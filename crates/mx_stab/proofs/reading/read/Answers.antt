@@ -4,13 +4,13 @@ use Rattle.mx_word.proofs.Ranges.{bytes-each}
 use Rattle.mx_word.specs.Ranges.{AreBytes}
 use Rattle.mx_word.specs.declared.symbols.Symbol.{Symbol}
 use Rattle.mx_stab.specs.declared.faults.StabFault.{StabFault}
-use Rattle.mx_stab.specs.declared.faults.StabFault.TheVariants.{Truncated, Padding, Wide, Twice, TooLong, BadSerial, OutOfMemory}
-use Rattle.mx_stab.specs.Faults.{IsPlaced}
+use Rattle.mx_stab.specs.declared.faults.StabFault.TheVariants.{OutOfMemory}
+use Rattle.mx_stab.specs.FaultTable.{FaultOf}
 use Rattle.mx_stab.specs.Grammar.{AreDistinct, IsTrie}
 use Rattle.mx_word.specs.Symbols.{IsNamed}
 use Rattle.mx_stab.specs.Reading.{trie_answer}
 use Rattle.mx_stab.proofs.NamesLaw.{trie-named}
-use Rattle.mx_stab.proofs.Places.{fault-placed}
+use Rattle.mx_stab.proofs.FaultsFound.{fault-found}
 use Rattle.mx_stab.proofs.Sound.{read-trie}
 use Rattle.mx_stab.proofs.Whole.{trie-read}
 use Rattle.mx_stab.proofs.reading.read.Goals as goal
@@ -35,18 +35,12 @@ returns-clause-names c = well-named c.args.bytes.now _ (returns-clause-grammar c
 abbrev refusal : StabFault → Result (List Symbol) StabFault
 refusal fault = Err fault
 
-placed : (bytes : List ℕ) (fault : StabFault) → AreBytes bytes → (refusal fault ≢ refusal OutOfMemory → refusal fault ≡ trie_answer bytes) → IsPlaced bytes fault
-placed bytes (Truncated place) b h = fault-placed bytes (Truncated place) b (h (λ e. cc))
-placed bytes (Padding place) b h = fault-placed bytes (Padding place) b (h (λ e. cc))
-placed bytes (Wide place) b h = fault-placed bytes (Wide place) b (h (λ e. cc))
-placed bytes (Twice place) b h = fault-placed bytes (Twice place) b (h (λ e. cc))
-placed bytes (TooLong place) b h = fault-placed bytes (TooLong place) b (h (λ e. cc))
-placed bytes (BadSerial place) b h = fault-placed bytes (BadSerial place) b (h (λ e. cc))
-placed bytes OutOfMemory b h = tt
+tabled : (bytes : List ℕ) (r : Result (List Symbol) StabFault) → AreBytes bytes → (r ≢ Err OutOfMemory → r ≡ trie_answer bytes) → IfErr r (λ fault. fault ≢ OutOfMemory → FaultOf bytes fault)
+tabled bytes (Ok symbols) b h = tt
+tabled bytes (Err fault) b h = λ other. fault-found bytes fault b (sym (h (λ e. other (same e))))
+  where
+    same : refusal fault ≡ refusal OutOfMemory → fault ≡ OutOfMemory
+    same e = cc
 
-all-placed : (bytes : List ℕ) (r : Result (List Symbol) StabFault) → AreBytes bytes → (r ≢ Err OutOfMemory → r ≡ trie_answer bytes) → IfErr r (IsPlaced bytes)
-all-placed bytes (Ok symbols) b h = tt
-all-placed bytes (Err fault) b h = placed bytes fault b h
-
-pub returns-clause-places : goal.returns-clause-places
-returns-clause-places c = all-placed c.args.bytes.now _ (bytes-each c.args.bytes.now (λ i. omega (arith, c.type_inv.bytes i))) c.symbols_of.ensures
+pub returns-clause-table : goal.returns-clause-table
+returns-clause-table c = tabled c.args.bytes.now _ (bytes-each c.args.bytes.now (λ i. omega (arith, c.type_inv.bytes i))) c.symbols_of.ensures

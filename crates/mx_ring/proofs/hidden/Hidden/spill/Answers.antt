@@ -7,7 +7,7 @@ pub invariant_of-self : goal.invariant_of-self
 invariant_of-self c =
     let s = c.self.inside.spilled in
     let octas = c.self.inside.octas.items in
-    let stack = c.self.inside.stack.items in
+    let stack = c.self.inside.stack in
     let few : c.args.n ≤ length (drop s octas) = rw (← c.self.view_is) at c.requires in
     let rest : length (drop s octas) ≡ length octas - s = length-drop s octas in
     let size : length (take c.args.n (drop s octas)) ≡ c.args.n = length-take-le c.args.n (drop s octas) few in

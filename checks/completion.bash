@@ -1,0 +1,41 @@
+#!/usr/bin/env bash
+# Tries the completion for bash in a folder of its own, and prints only what is wrong.
+here=$(cd "$(dirname "$0")/.." && pwd) || exit 1
+room=$(mktemp -d) || exit 1
+trap 'rm -rf "$room"' EXIT
+cd "$room" && mkdir programs && touch a.mms 'b c.mms' d.mmo notes || exit 1
+. "$here/completion/mmixware.bash"
+bad=0
+
+# offers WANTED WORDS...: what the last one of the words can become, in order
+offers() {
+  local wanted=$1 got
+  shift
+  COMP_WORDS=("$@")
+  COMP_CWORD=$(($# - 1))
+  _mmixware
+  got=$(printf '%s\n' "${COMPREPLY[@]}" | LC_ALL=C sort | paste -sd '|')
+  if [ "$got" != "$wanted" ]; then
+    printf 'checks/completion.bash: %s\noffers %s\nand has to offer %s\n' "$*" "$got" "$wanted" >&2
+    bad=1
+  fi
+}
+
+offers '--help|--version|asm|gen|run|sim' mmixware ''
+offers run mmixware r
+offers 'a.mms|b c.mms|programs' mmixware run ''
+offers 'b c.mms' mmixware run b
+offers '--dump|--ring|--steps|-i' mmixware run -
+offers '1024|16384' mmixware sim --ring 1
+offers a.mms mmixware run --ring 256 --steps 9 -i a
+offers 'a.mms|b c.mms|d.mmo|notes|programs' mmixware run a.mms ''
+offers '' mmixware run a.mms --r
+offers 'd.mmo|programs' mmixware sim --dump ''
+offers 'a.mms|b c.mms|programs' mmixware asm ''
+offers 'd.mmo|programs' mmixware asm a.mms ''
+offers '' mmixware asm a.mms d.mmo ''
+offers --ring mmixware gen -
+offers --ring mmixware gen ''
+offers '' mmixware run --steps ''
+offers '' mmixware other ''
+exit $bad

@@ -1,0 +1,75 @@
+#!/bin/sh
+# Tries ./release, where the program is built from these sources: two releases have the same bytes, and what is in them
+# runs on a system that has the C library alone. It prints only what is wrong, and builds no program.
+here=$(cd "$(dirname "$0")/.." && pwd) || exit 1
+room=$(mktemp -d) || exit 1
+trap 'rm -rf "$room"' EXIT
+trap 'exit 1' INT TERM
+bad=0
+wrong() {
+  echo "checks/release.sh: $*" >&2
+  bad=1
+}
+
+# a command in a folder that is the whole system for it, where such a folder can be had
+within() {
+  if [ "$(id -u)" = 0 ]; then
+    chroot "$@"
+  else
+    unshare -r chroot "$@"
+  fi
+}
+
+# puts the program's libraries into a folder, and nothing else
+make_system() {
+  for file in $(ldd "$1" | grep -o '/[^ ]*'); do
+    mkdir -p "$2$(dirname "$file")" && cp -L "$file" "$2$file"
+  done
+}
+
+# what a program prints of a source, both by their paths in that system
+greets() {
+  got=$(within "$room/system" "$1" run "$2" 2>&1)
+  [ "$got" = 'Hello, reader' ] || wrong "$1 run $2 prints $got"
+}
+
+said=$("$here/release" "$room/one" 2>&1) || {
+  case $said in
+    *'is not built from these sources'*) exit 0 ;;
+  esac
+  wrong "$said"
+  exit 1
+}
+(umask 077; LC_ALL=C.UTF-8 TZ=Asia/Tokyo "$here/release" "$room/two" >/dev/null 2>&1)
+diff -r "$room/one" "$room/two" >&2 || wrong 'two releases differ'
+(cd "$room/one" && sha256sum --quiet -c SHA256SUMS) || wrong 'a sum is not that of its file'
+
+mkdir "$room/system" && tar -C "$room/system" -xzf "$room/one"/mmixware-*.tar.gz && cd "$room/system"/mmixware-* || exit 1
+name=$(basename "$PWD")
+[ "$(ldd mmixware | grep -c '=> /')" = 1 ] || wrong "the program needs more than the C library: $(ldd mmixware)"
+grep -q "$(sha256sum <mmixware | cut -d ' ' -f 1)" MADE-FROM || wrong 'MADE-FROM does not name the program'
+./install "$room/there" 2>/dev/null || wrong 'the release is not installed'
+for file in bin/mmixware bin/grade share/man/man1/mmixware.1 share/man/man1/grade.1 \
+  share/bash-completion/completions/mmixware share/zsh/site-functions/_mmixware; do
+  [ -s "$room/there/$file" ] || wrong "install puts no $file"
+done
+
+mkdir "$room/package"
+if [ -e "$room"/one/mmixware_*.deb ]; then
+  dpkg-deb -x "$room"/one/mmixware_*.deb "$room/package" || wrong 'the package is not unpacked'
+  (cd "$room/package" && dpkg-deb --ctrl-tarfile "$room"/one/mmixware_*.deb | tar -xO ./md5sums | md5sum --quiet -c) ||
+    wrong 'a sum of the package is not that of its file'
+  cp -R "$room/package/usr" "$room/system"
+  if command -v man >/dev/null; then
+    MANPATH=$room/package/usr/share/man MANPAGER=cat man mmixware 2>&1 | grep -q 'assemble, run and step' ||
+      wrong 'man does not show the page of the package'
+  fi
+fi
+
+if make_system mmixware "$room/system" && within "$room/system" "/$name/mmixware" --version >/dev/null 2>&1; then
+  greets "/$name/mmixware" "/$name/examples/hello.mms"
+  [ ! -d "$room/system/usr" ] || greets /usr/bin/mmixware /usr/share/doc/mmixware/examples/hello.mms
+elif [ "$(id -u)" = 0 ]; then
+  wrong 'the program does not run where there is the C library alone'
+fi
+exit $bad

@@ -1,0 +1,6 @@
+pub mod Plans
+pub mod HeldLaws
+pub mod Streams
+pub mod WildLaws
+pub mod Spared
+pub mod Giving

@@ -1,0 +1,21 @@
+-- The words of clauses over a host, and over a space and a host. `old` and `new` are what the host told before and after,
+-- `first` and `last` the contents of the space, `earlier` and `later` the counts of faults.
+use Rattle.std.specs.Prelude.{ℕ, ◌≡◌, ◌≤◌, IsTrue, Option}
+use Rattle.mx_mem.specs.Space.{Contents}
+use Rattle.mx_host.specs.HostModel.{HostModel, tells, contents}
+use Rattle.mx_plan.specs.Plan.{Comes}
+use Rattle.mx_plan.specs.Calls.{host, HostPlan, both, BothPlan}
+
+-- whether the host tells its contents is as before, and its count of faults did not fall
+abbrev pub Stands : Option HostModel → Option HostModel → ℕ → ℕ → Type 0
+Stands old new earlier later = (tells new ≡ tells old) × (earlier ≤ later)
+
+-- Over a host that tells its contents, the plan is carried out: unless the answer is `none`, which is that of no memory, the
+-- answer and the contents are its end; where it is, the calls that were completed stay, and nothing else changed.
+abbrev pub CarriesOut : {A : Type 0} → Option HostModel → Option HostModel → A → A → HostPlan A → Type 0
+CarriesOut old new none result plan = IsTrue (tells old) → Comes host (contents old) (contents new) none result plan
+
+-- the same over a space and such a host: the bytes that were put stay, and the calls that were completed
+abbrev pub CarriesOutBoth : {A Rest : Type 0} → Option HostModel → Option HostModel → Contents Rest → Contents Rest → A → A → BothPlan A → Type 0
+CarriesOutBoth old new first last none result plan =
+    IsTrue (tells old) → Comes both (first, contents old) (last, contents new) none result plan

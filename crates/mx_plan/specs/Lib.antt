@@ -1,0 +1,6 @@
+pub mod Plan
+pub mod Calls
+pub mod Clauses
+pub mod Held
+pub mod Counts
+pub mod Wild

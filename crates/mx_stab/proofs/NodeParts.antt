@@ -1,0 +1,109 @@
+-- A node is read piece by piece.
+use Rattle.std.proofs.Common.{◌≡◌, ◌≢◌, ℕ, ◌+◌, ◌%◌, ◌==◌, Bool, true, false, ◌&&◌, ◌||◌, not, List, [], ◌∷◌, ◌++◌, length, arith, refl, ap, ◌∙◌, inl, inr, append_assoc, length-append}
+use Rattle.std.specs.Prelude.{nat_lt}
+use Rattle.std.proofs.lemmas.Bool.{and_parts, eqb-true, eqb-false, le-ltb}
+use Rattle.mx_word.specs.declared.symbols.Symbol.{Symbol}
+use Rattle.mx_stab.specs.FaultTable.{HasCharacter, IsWideBare, UpToCharacter, UpToLeft, UpToSymbol, flag}
+use Rattle.mx_stab.specs.Reading as reading
+use Rattle.mx_stab.specs.Reading.{Reading, Answer, and_then, part_if, symbol, has, has_character, is_wide_bare, character_part, with_character, node_rest, next_subtrie}
+use Rattle.mx_stab.proofs.Parts.{next-node}
+use Rattle.mx_stab.proofs.Whole.{picked, tells-symbol, character-is, tells-subtrie}
+
+-- the tests of a byte m say what they mean
+or-there : (a b : Bool) → b ≡ true → (a || b) ≡ true
+or-there true b h = refl
+or-there false b h = h
+
+none-or : (a b : Bool) → (a ≡ false → ⊥) → (b ≡ true → ⊥) → (not a || b) ≡ false
+none-or true true h k = absurd (k refl)
+none-or true false h k = refl
+none-or false b h k = absurd (h refl)
+
+pub character-there : (m : ℕ) → HasCharacter m → has_character m ≡ true
+character-there m (inl some) = one (m % 16 == 0) (eqb-true (m % 16) 0)
+  where
+    one : (b : Bool) → (b ≡ true → m % 16 ≡ 0) → (not b || has 0x20 m) ≡ true
+    one true h = absurd (some (h refl))
+    one false h = refl
+character-there m (inr below) = or-there (not (m % 16 == 0)) (has 0x20 m) (ap (λ n. n == 1) below)
+
+pub character-none : (m : ℕ) → ¬ HasCharacter m → has_character m ≡ false
+character-none m h = none-or (m % 16 == 0) (has 0x20 m) (λ e. h (inl (eqb-false (m % 16) 0 e))) (λ e. h (inr (eqb-true (flag 0x20 m) 1 e)))
+
+pub has-one : (m : ℕ) → has_character m ≡ true → HasCharacter m
+has-one m h = one (m % 16 == 0) (eqb-false (m % 16) 0) h
+  where
+    one : (b : Bool) → (b ≡ false → m % 16 ≢ 0) → (not b || has 0x20 m) ≡ true → HasCharacter m
+    one true k h = inr (eqb-true (flag 0x20 m) 1 h)
+    one false k h = inl (k refl)
+
+pub has-none : (m : ℕ) → has_character m ≡ false → ¬ HasCharacter m
+has-none m h k = let there = character-there m k in cc (h, there)
+
+pub wide-bare : (m : ℕ) → IsWideBare m → is_wide_bare m ≡ true
+wide-bare m h = ap (λ n. n == 1 && not (has_character m)) h.0 ∙ ap not (character-none m h.1)
+
+pub not-bare : (m : ℕ) → ¬ IsWideBare m → is_wide_bare m ≡ false
+not-bare m h = one (has 0x80 m) (has_character m) (eqb-true (flag 0x80 m) 1) (has-none m)
+  where
+    one : (a b : Bool) → (a ≡ true → flag 0x80 m ≡ 1) → (b ≡ false → ¬ HasCharacter m) → (a && not b) ≡ false
+    one true true p q = refl
+    one true false p q = absurd (h (p refl, q refl))
+    one false b p q = refl
+
+pub is-bare : (m : ℕ) → is_wide_bare m ≡ true → IsWideBare m
+is-bare m h =
+    let parts = and_parts (has 0x80 m) (not (has_character m)) h in
+    (eqb-true (flag 0x80 m) 1 parts.0, has-none m (one (has_character m) parts.1))
+  where
+    one : (b : Bool) → not b ≡ true → b ≡ false
+    one true h = cc
+    one false h = refl
+
+pub is-no-bare : (m : ℕ) → is_wide_bare m ≡ false → ¬ IsWideBare m
+is-no-bare m h k = let bare = wide-bare m k in cc (h, bare)
+
+-- a part that is there
+pub there : {n : ℕ} (part : Reading → Answer) (s : Reading) → n ≡ 1 → part_if (n == 1) part s ≡ part s
+there part s e = ap (λ n. part_if (n == 1) part s) e
+
+-- behind the left subtrie of a node
+pub behind-left : {path : List ℕ} {before : List Symbol} {m : ℕ} {bytes : List ℕ} {found : List Symbol} → UpToLeft path before m bytes found → (at : ℕ) (rest : List ℕ) →
+    next_subtrie path (record { at = at; rest = bytes ++ rest; found = before }) ≡ node_rest next_subtrie at m path (record { at = at + length bytes; rest = rest; found = found })
+behind-left (UpToLeft.left path before m left symbols narrow h distinct) at rest =
+    next-node path at before (m ∷ left ++ rest) ∙ picked (is_wide_bare m) _ _ (not-bare m narrow)
+    ∙ ap (and_then (node_rest next_subtrie at m path)) (tells-subtrie h (record { at = at + 1; rest = left ++ rest; found = before }) rest refl distinct)
+    ∙ ap (λ place. node_rest next_subtrie at m path (record { at = place; rest = rest; found = before ++ symbols })) (omega arith)
+
+-- behind its character
+pub behind-character : {path : List ℕ} {before : List Symbol} {m : ℕ} {bytes name : List ℕ} {found : List Symbol} → UpToCharacter path before m bytes name found → (at : ℕ) (rest : List ℕ) →
+    next_subtrie path (record { at = at; rest = bytes ++ rest; found = before }) ≡ and_then (part_if (has 0x10 m) (next_subtrie path))
+    (and_then (part_if (has 0x20 m) (next_subtrie name)) (symbol (m % 16) at name (record { at = at + length bytes; rest = rest; found = found })))
+behind-character (UpToCharacter.character path before m front found name character h some spelt short) at rest =
+    let s : Reading = record { at = at + length front; rest = character ++ rest; found = found } in
+    ap (λ bytes. next_subtrie path (record { at = at; rest = bytes; found = before })) (append_assoc front character rest)
+    ∙ behind-left h at (character ++ rest)
+    ∙ ap (and_then (part_if (has 0x10 m) (next_subtrie path)))
+    (ap (λ b. part_if b (reading.character next_subtrie at m path) s) (character-there m some)
+    ∙ ap (with_character (character_part next_subtrie at m path)) (character-is spelt at m s rest (omega arith) refl)
+    ∙ picked (nat_lt 1024 (length (path ++ name))) _ _ (le-ltb 1024 (length (path ++ name)) short)
+    ∙ ap (λ place. and_then (part_if (has 0x20 m) (next_subtrie (path ++ name))) (symbol (m % 16) at (path ++ name) (record { at = place; rest = rest; found = found }))) (omega (arith, length-append front character)))
+
+-- behind its symbol
+pub behind-symbol : {path : List ℕ} {before : List Symbol} {m : ℕ} {bytes name : List ℕ} {found : List Symbol} → UpToSymbol path before m bytes name found → (at : ℕ) (rest : List ℕ) →
+    next_subtrie path (record { at = at; rest = bytes ++ rest; found = before }) ≡ and_then (part_if (has 0x10 m) (next_subtrie path))
+    (part_if (has 0x20 m) (next_subtrie name) (record { at = at + length bytes; rest = rest; found = found }))
+behind-symbol (UpToSymbol.none path before m bytes name found h no-name) at rest =
+    behind-character h at rest
+    ∙ ap (λ k. and_then (part_if (has 0x10 m) (next_subtrie path)) (and_then (part_if (has 0x20 m) (next_subtrie name)) (symbol k at name (record { at = at + length bytes; rest = rest; found = found })))) no-name
+behind-symbol (UpToSymbol.symbol path before m front name found value serial told counted h hv hs distinct) at rest =
+    let own : Symbol = record { name = name; value = value; serial = serial } in
+    ap (λ bytes. next_subtrie path (record { at = at; rest = bytes; found = before })) (in-line front told counted rest)
+    ∙ behind-character h at ((told ++ counted) ++ rest)
+    ∙ ap (λ a. and_then (part_if (has 0x10 m) (next_subtrie path)) (and_then (part_if (has 0x20 m) (next_subtrie name)) a))
+    (tells-symbol (m % 16) serial at name value told counted hv hs (record { at = at + length front; rest = (told ++ counted) ++ rest; found = found }) rest refl distinct)
+    ∙ ap (λ place. and_then (part_if (has 0x10 m) (next_subtrie path)) (part_if (has 0x20 m) (next_subtrie name) (record { at = place; rest = rest; found = found ++ own ∷ [] })))
+    (omega (arith, length-append (front ++ told) counted, length-append front told, length-append told counted))
+  where
+    in-line : (front told counted rest : List ℕ) → front ++ told ++ counted ++ rest ≡ front ++ ((told ++ counted) ++ rest)
+    in-line front told counted rest = simp append_assoc
