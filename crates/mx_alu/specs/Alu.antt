@@ -1,4 +1,5 @@
 -- The whole-number instructions by their codes. The rows are in `Arithmetic`, `Bitwise` and `Wydes`, the names in `Names`.
+-- (MMIXware, the part on MMIX: what each instruction does; TAOCP 1, Fascicle 1, section 1.3.1'.)
 use Rattle.std.specs.Prelude.{ℕ, ◌*◌, ◌^◌, Bool, ◌&&◌, ◌||◌, nat_lt, nat_le, if◌then◌else◌}
 use Rattle.mx_alu.specs.declared.answer.Answer.{Answer}
 use Rattle.mx_alu.specs.declared.answer.Extra.{Extra}

@@ -1,4 +1,6 @@
 -- What instructions give.
+-- (MMIXware, the part on MMIX: results, rH and rR, overflow and division by zero; TAOCP 1, Fascicle 1, section
+-- 1.3.1'.)
 use Rattle.std.specs.Prelude.{ℕ, ℤ, Option, None, Some, if◌then◌else◌}
 use Rattle.mx_alu.specs.declared.answer.Answer.{Answer}
 use Rattle.mx_alu.specs.declared.answer.Event.{Event}

@@ -1,4 +1,6 @@
 -- Sums, products, quotients, comparisons and shifts: a row for each name.
+-- (MMIXware, the part on MMIX: adding, subtracting, multiplying, dividing, comparing and shifting; TAOCP 1, Fascicle
+-- 1, section 1.3.1'.)
 use Rattle.std.specs.Prelude.{ℕ, ◌+◌, ◌*◌, ◌/◌, ◌%◌, ◌^◌, ◌==◌, ℤ, pos, negsuc, ◌+ℤ◌, ◌-ℤ◌, ◌*ℤ◌, nat_lt, None, Some, if◌then◌else◌}
 use Rattle.std.specs.Ordering.{nat_cmp, int_cmp}
 use Rattle.std.specs.declared.cmp.Ordering.{Ordering}

@@ -1,4 +1,6 @@
 -- Logic, differences of fields and matrices of bits: a row for each name.
+-- (MMIXware, the part on MMIX: bitwise operations, differences of bytes, wydes, tetras and octas, and MOR and MXOR;
+-- TAOCP 1, Fascicle 1, section 1.3.1'.)
 use Rattle.std.specs.Prelude.{ℕ, ◌+◌, ◌-◌, ◌*◌, ◌/◌, ◌≡◌, ◌⊎◌, Bool, ◌&&◌, ◌||◌, not, bit_or, bit_xor, if◌then◌else◌}
 use Rattle.mx_alu.specs.declared.names.Bitwise.{Bitwise}
 use Rattle.mx_alu.specs.declared.names.Bitwise.TheVariants.{Or, Orn, Nor, Xor, And, Andn, Nand, Nxor, Bdif, Wdif, Tdif, Odif, Mux, Sadd, Mor, Mxor}

@@ -1,4 +1,5 @@
 -- The conditions of the branches.
+-- (MMIXware, the part on MMIX: conditional instructions; TAOCP 1, Fascicle 1, section 1.3.1'.)
 use Rattle.std.specs.Prelude.{ℕ, ◌%◌, ℤ, pos, Bool, not, ◌==◌, int_lt, unsigned_abs}
 use Rattle.mx_word.specs.Words.{signed_value}
 use Rattle.mx_alu.specs.declared.names.Condition.{Condition}

@@ -1,4 +1,5 @@
 -- Immediate wydes: a row for each name.
+-- (MMIXware, the part on MMIX: immediate constants; TAOCP 1, Fascicle 1, section 1.3.1'.)
 use Rattle.std.specs.Prelude.{ℕ, ◌+◌, ◌%◌, ◌^◌, ◌&&◌, ◌||◌, not}
 use Rattle.mx_alu.specs.declared.names.Wyde.{Wyde}
 use Rattle.mx_alu.specs.declared.names.Wyde.TheVariants.{Set, Inc, OrIn, AndNot}

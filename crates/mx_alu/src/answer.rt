@@ -4,7 +4,8 @@ ghost use Rattle.std.specs.Prelude.{◌≡◌};
 ghost use Rattle.mx_alu.specs.Answers as spec;
 ghost use Rattle.mx_alu.specs.Numbers.{octa};
 
-/// What an instruction raises: a division by zero, or a result that is no signed octa.
+/// What an instruction raises: D where it divides by zero, or V where its result is no signed octa, from -2^63 to
+/// 2^63 - 1.
 #[derive(Clone, Copy, Debug, PartialEq, Eq)]
 pub enum Event {
     Divide,
@@ -18,7 +19,8 @@ pub struct Extra {
     pub m: u64,
 }
 
-/// The result, the new rH and rR where the instruction sets them, and what it raises.
+/// What an instruction gives: its result x, the new rH and rR where it sets them, and the event that it raises, if
+/// any.
 #[derive(Clone, Copy, Debug, PartialEq, Eq)]
 pub struct Answer {
     pub x: u64,

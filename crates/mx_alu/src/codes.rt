@@ -11,8 +11,8 @@ use crate::names::{ARITHMETIC, Arithmetic, BITWISE, Bitwise, CONDITIONS, Conditi
 use crate::{Answer, Extra, arithmetic, bitwise, wydes};
 use mx_word::signed;
 
-/// What the instruction of this code, from #18 to #3f or from #c0 to #ef, gives: y and z are $Y and
-/// $Z or Z. At NEG and NEGU y is the byte Y; from #e0 on y is the old $X and z is YZ.
+/// What the instruction of a code gives. The code is one from #18 to #3f or from #c0 to #ef. y and z are $Y and $Z or
+/// Z; at NEG and NEGU y is the byte Y; from #e0 on y is the old $X and z is YZ.
 #[tactic(auto, unfolding(crate::specs::Alu::alu))]
 #[inline(always)]
 pub fn alu(code: u8, y: u64, z: u64, extra: Extra) -> Answer
@@ -29,8 +29,8 @@ pub fn alu(code: u8, y: u64, z: u64, extra: Extra) -> Answer
     }
 }
 
-/// The result of the instruction of this code, from #18 to #3f or from #c0 to #df, where it gives
-/// nothing else: no rH, no rR, and no event.
+/// The result of the instruction of a code, where it gives nothing else: no rH, no rR and no event. The code is one
+/// from #18 to #3f or from #c0 to #df. It is `alu` without the rest, for the step of every day.
 #[tactic(auto, unfolding(crate::specs::Alu::alu))]
 #[inline(always)]
 pub fn lone_result(code: u8, y: u64, z: u64, extra: Extra) -> Option<u64>
@@ -45,8 +45,8 @@ pub fn lone_result(code: u8, y: u64, z: u64, extra: Extra) -> Option<u64>
     }
 }
 
-/// What the instruction of this code, from #e0 to #ef, makes of the old $X and of a wyde that stands
-/// at its place.
+/// The new $X of the instruction of a code from #e0 to #ef, from the old $X and a wyde v that stands at its place in
+/// an octa of zeros.
 #[inline(always)]
 pub fn wyde(code: u8, x: u64, v: u64) -> u64
     requires low { 0xe0 ≤ code }
@@ -98,7 +98,7 @@ fn condition(code: u8) -> Condition
     CONDITIONS[usize::from(code / 2 % 8)]
 }
 
-/// Whether the condition of a code from #40 to #7f holds of the signed value of an octa.
+/// Whether the condition of a code, which is one from #40 to #7f, holds of the signed value of an octa.
 #[tactic(auto, unfolding(crate::specs::Truth::truth))]
 #[inline(always)]
 pub fn truth(code: u8, x: u64) -> bool

@@ -1,4 +1,5 @@
 -- Numbers as a line of the console writes them.
+-- A rule of this program.
 use Rattle.std.specs.Prelude.{ℕ, ◌+◌, ◌-◌, ◌*◌, ◌^◌, ◌%◌, ◌==◌, nat_le, nat_lt, Bool, if◌then◌else◌, List, [], ◌∷◌, length, drop, fold, take_while, Option, None, Some}
 use Rattle.std.specs.List.{list_all}
 use Rattle.mx_word.specs.Kinds.{is_digit, is_hexadecimal}

@@ -1,4 +1,5 @@
 -- The special registers by their names.
+-- (Their names: MMIXware, the part on MMIX, "Special registers"; TAOCP 1, Fascicle 1, section 1.3.1'.)
 use Rattle.std.specs.Prelude.{ℕ, List, [], ◌∷◌, position, bytes_eq, slice_index_or, Option}
 use Rattle.mx_ops.specs.Predefined.{special_registers}
 

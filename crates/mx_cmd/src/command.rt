@@ -15,8 +15,8 @@ pub enum Subject {
     Memory(u64),
 }
 
-/// Where a run breaks at a tetra: after a step that read it, after one that wrote it, and before it
-/// is carried out.
+/// Where a run breaks at a tetra: `r` after a step that read it, `w` after one that wrote it, and `x` before it is
+/// carried out.
 #[derive(Clone, Copy, Debug, PartialEq, Eq)]
 pub struct Breaks {
     pub r: bool,
@@ -46,9 +46,9 @@ pub enum Command {
     GoTo(u64),
     /// `b` with letters: the breaks at the tetra that holds an address.
     Break(Breaks, u64),
-    /// `tx`: each step of this tetra is traced.
+    /// `tx`: each step that carries out the tetra at this address is traced from now on.
     Trace(u64),
-    /// `ux`: no more.
+    /// `ux`: the steps that carry out the tetra at this address are traced no more.
     Untrace(u64),
     /// `B`: all tetras with flags.
     Flags,

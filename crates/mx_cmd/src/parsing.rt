@@ -17,8 +17,8 @@ use mx_word::is_letter;
 /// The longest line that is a command, in bytes.
 const LONGEST_LINE: usize = 4096;
 
-/// The command of a line without its end. None where the line has none of the forms, or more than
-/// 4,096 bytes.
+/// The command of a line of the console without its newline; nothing where the line has none of the forms, or more
+/// than 4,096 bytes.
 #[tactic(auto, unfolding(crate::specs::Commands::command_of))]
 pub fn command_of(line: &[u8]) -> Option<Command>
     ensures { result ≡ spec.command_of line.now }

@@ -34,7 +34,7 @@ fn place(names: &[&str], name: &[u8]) -> Option<usize>
     names.iter().position(|own| own.as_bytes() == name)
 }
 
-/// The name of the special register with a code below 32, with the r.
+/// The name of the special register with a code below 32, with the r in front: `rB` for 0, `rZZ` for 31.
 pub fn special_name(code: u8) -> &'static str
     requires { code < 32 }
     ensures { result.now ≡ spec.special_name code }

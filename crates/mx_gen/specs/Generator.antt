@@ -1,5 +1,6 @@
 -- The source that `gen` makes: so many blocks, each of which calls a procedure that calls itself, and the line that tells
 -- what came of it.
+-- A rule of this program.
 use Rattle.std.specs.Prelude.{ℕ, zero, suc, ◌+◌, ◌*◌, ◌/◌, ◌%◌, ◌^◌, List, [], ◌++◌, codes, decimal}
 
 -- numbers that seem random: x_0 is 0

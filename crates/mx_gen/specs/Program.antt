@@ -1,4 +1,5 @@
 -- The statements of the source that `gen` makes, and the image that it means.
+-- A rule of this program.
 use Rattle.std.specs.Prelude.{ℕ, zero, suc, ◌+◌, List, [], ◌∷◌, ◌++◌, codes, decimal, Option, None, Some}
 use Rattle.mx_mmo.specs.Image.{Image}
 use Rattle.mx_expr.specs.declared.tree.UnOp.TheVariants.{Register}

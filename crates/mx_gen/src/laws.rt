@@ -14,8 +14,8 @@ pub fn generated_sources_are_read()
     ensures statements { (n : ℕ) → n ≤ 10000 → statements_in (source_entries (generated n)) ≡ program n }
 {}
 
-/// Such a source is not refused: not when it is assembled, and not when it is run, where the pages that it
-/// touches count too. So it means the image of the statements of the program.
+/// A source of at most 10,000 blocks that is generated is not refused: not when it is assembled, and not when it is
+/// run, where the pages that it touches count too. So it means the image of the statements of the program.
 pub fn generated_sources_are_accepted()
     ensures assembled { (n : ℕ) → n ≤ 10000 → refusal (generated n) ≡ None }
     ensures run { (n : ℕ) → n ≤ 10000 → run_refusal (generated n) ≡ None }

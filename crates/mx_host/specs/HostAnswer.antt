@@ -1,5 +1,7 @@
 -- What each call answers and leaves, over a host that tells its contents.
 -- A call that finds no memory is not spoken of here: it answers that and leaves `counted`.
+-- (What the file traps ask for: MMIXware, the part on MMIX-SIM. Which places of a file can be sought: a rule of this
+-- program.)
 use Rattle.std.specs.Prelude.{ℕ, ◌+◌, ◌-◌, ℤ, pos, negsuc, Bool, false, true, List, [], ◌∷◌, ◌++◌, length, take, drop, slice_get, slice_set, Option, None, Some, Result, Ok, Err, nat_le, if◌then◌else◌}
 use Rattle.std.specs.Option.{option_map}
 use Rattle.mx_word.specs.Lists.{with_written}

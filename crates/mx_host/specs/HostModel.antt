@@ -1,5 +1,7 @@
 -- What a host that tells its contents is seen as: files, slots, the standard streams, and calls that
 -- are numbered from 0.
+-- (The modes of Fopen, and the standard handles: MMIXware, the part on MMIX-SIM. The tool's own slots, and calls that
+-- are numbered and fail: a rule of this program.)
 use Rattle.std.specs.Prelude.{ℕ, ◌≡◌, ◌+◌, ◌<◌, ◌^◌, ◌⊎◌, Bool, false, true, not, List, [], ◌∷◌, ◌++◌, length, map, replicate, All, slice_get, slice_set, nat_lt, is_some, unwrap_or, Option, None, Some, ◌&&◌, ◌==◌, if◌then◌else◌}
 use Rattle.std.specs.List.{IsDistinct, list_any, position}
 use Rattle.std.specs.Str.{bytes_eq}

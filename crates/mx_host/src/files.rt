@@ -2,7 +2,7 @@
 
 use mx_word::Bytes;
 
-/// A file and its name.
+/// A file of a host that tells its contents: its name and its bytes.
 #[derive(Drop)]
 pub struct StoredFile {
     /// The name, which is any bytes.

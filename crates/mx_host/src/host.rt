@@ -26,10 +26,10 @@ pub trait Host {
     /// How many calls have failed; it never falls, and stays at 2^64 - 1.
     ghost faults: { Self → ℕ };
 
-    /// Opens a file on a slot from 0 to 257, which is closed first if it is open.
+    /// Opens a file on a slot, which is one from 0 to 257 and is closed first if it is open. The place is 0.
     ///
-    /// The modes for reading only answer Absent where the name is missing; the others make the file
-    /// or empty it. The place is 0.
+    /// Errors: `Absent` where the mode is for reading only and no file has the name, `Failed` and `OutOfMemory`.
+    /// The other modes make the file or empty it.
     fn open_file(&mut self, slot: u16, name: &[u8], mode: Mode) -> Result<(), OpenFault>
         requires { slot ≤ 257 }
         ensures answers { Answers (told self.old) (told self.new) (Err OpenFault.OutOfMemory) result
@@ -40,7 +40,9 @@ pub trait Host {
             (faults self.old) (faults self.new) }
         ensures keeps { Keeps (told self.old) (told self.new) (faults self.old) (faults self.new) };
 
-    /// Closes a slot. Misused where it is not open.
+    /// Closes a slot, which is one from 0 to 260.
+    ///
+    /// Errors: `Misused` where it is not open, `Failed` and `OutOfMemory`.
     fn close_slot(&mut self, slot: u16) -> Result<(), HostFault>
         requires { slot ≤ 260 }
         ensures answers { Answers (told self.old) (told self.new) (Err HostFault.OutOfMemory) result
@@ -53,10 +55,10 @@ pub trait Host {
         ensures never_falls { faults self.old ≤ faults self.new }
         ensures keeps { slot ≤ 257 → Keeps (told self.old) (told self.new) (faults self.old) (faults self.new) };
 
-    /// Puts the next bytes at the front of `into`, moves the place past them and gives their number,
-    /// which is below the length of `into` only at the end of the input.
+    /// Puts the next bytes of a slot, one from 0 to 260, at the front of `into`, moves the place past them and
+    /// gives their number, which is below the length of `into` only at the end of the input.
     ///
-    /// Misused where the slot is not open or is for writing only.
+    /// Errors: `Misused` where the slot is not open or is for writing only, `Failed` and `OutOfMemory`.
     fn read_slot(&mut self, slot: u16, into: &mut [u8]) -> Result<usize, HostFault>
         requires { slot ≤ 260 }
         ensures count { IfOk result (λ n. n ≤ length into.old) }
@@ -72,10 +74,10 @@ pub trait Host {
             (faults self.old) (faults self.new) }
         ensures keeps { Keeps (told self.old) (told self.new) (faults self.old) (faults self.new) };
 
-    /// Writes all these bytes at the place and moves the place past them; on standard output and
-    /// error it appends them. A gap before the place is filled with zeros.
+    /// Writes all these bytes at the place of a slot, one from 0 to 260, and moves the place past them; on
+    /// standard output and error it appends them. A gap before the place is filled with zeros.
     ///
-    /// Misused where the slot is not open or is for reading only.
+    /// Errors: `Misused` where the slot is not open or is for reading only, `Failed` and `OutOfMemory`.
     fn write_slot(&mut self, slot: u16, from: &[u8]) -> Result<(), HostFault>
         requires { slot ≤ 260 }
         ensures answers { Answers (told self.old) (told self.new) (Err HostFault.OutOfMemory) result
@@ -86,11 +88,11 @@ pub trait Host {
             (faults self.old) (faults self.new) }
         ensures keeps { Keeps (told self.old) (told self.new) (faults self.old) (faults self.new) };
 
-    /// Moves the place to `to` where it is at least 0, and otherwise to length + to + 1, so that -1
-    /// means the end.
+    /// Moves the place of a slot, one from 0 to 260, to `to` bytes from the start where `to` is at least 0, and
+    /// otherwise to length + to + 1, so that -1 means the end.
     ///
-    /// Misused where the slot is not a file in a binary mode or the new place would lie outside 0 to
-    /// the length.
+    /// Errors: `Misused` where the slot is not a file in a binary mode or the new place would lie outside 0 to
+    /// the length, `Failed` and `OutOfMemory`.
     fn seek_slot(&mut self, slot: u16, to: i64) -> Result<(), HostFault>
         requires { slot ≤ 260 }
         ensures answers { Answers (told self.old) (told self.new) (Err HostFault.OutOfMemory) result
@@ -101,7 +103,9 @@ pub trait Host {
             (faults self.old) (faults self.new) }
         ensures keeps { Keeps (told self.old) (told self.new) (faults self.old) (faults self.new) };
 
-    /// The place, in bytes from the start. Misused where the slot is not a file in a binary mode.
+    /// The place of a slot, one from 0 to 260, in bytes from the start of its file.
+    ///
+    /// Errors: `Misused` where the slot is not a file in a binary mode, `Failed` and `OutOfMemory`.
     fn tell_slot(&mut self, slot: u16) -> Result<u64, HostFault>
         requires { slot ≤ 260 }
         ensures answers { Answers (told self.old) (told self.new) (Err HostFault.OutOfMemory) result

@@ -91,7 +91,7 @@ impl MemHost {
         }
     }
 
-    /// The bytes of the file of this name; none where the name is missing.
+    /// The bytes of the file of this name; nothing where no file has it.
     pub fn file(&self, name: &[u8]) -> Option<&[u8]>
         ensures bytes { option_map (λ b. b.now) result ≡ file_of self.now name.now }
         ensures sound { IsSound self.now.files self.now.slots }
@@ -102,14 +102,14 @@ impl MemHost {
         }
     }
 
-    /// What standard output was given.
+    /// The bytes that standard output was given, from the first on.
     pub fn output(&self) -> &[u8]
         ensures { result.now ≡ self.now.output }
     {
         self.output.as_slice()
     }
 
-    /// What standard error was given.
+    /// The bytes that standard error was given, from the first on.
     pub fn errors(&self) -> &[u8]
         ensures { result.now ≡ self.now.errors }
     {

@@ -3,24 +3,24 @@
 ghost use Rattle.std.specs.Prelude.{◌≡◌};
 ghost use Rattle.mx_host.specs.HostModel as spec;
 
-/// How a slot is opened. The text modes read and write bytes as the binary modes do; a place in the
-/// file is told and changed only in the binary modes.
+/// How a slot is opened. In this order the modes are those that Fopen numbers 0 to 4. The text modes read and write
+/// bytes as the binary modes do; the place in the file is told and changed only in the binary modes.
 #[derive(Clone, Copy, Debug, PartialEq, Eq)]
 pub enum Mode {
-    /// For reading only.
+    /// Mode 0, for reading only.
     TextRead,
-    /// For writing only; the file is made or emptied.
+    /// Mode 1, for writing only; the file is made or emptied.
     TextWrite,
-    /// For reading only.
+    /// Mode 2, for reading only.
     BinaryRead,
-    /// For writing only; the file is made or emptied.
+    /// Mode 3, for writing only; the file is made or emptied.
     BinaryWrite,
-    /// For both; the file is made or emptied.
+    /// Mode 4, for both; the file is made or emptied.
     BinaryReadWrite,
 }
 
 impl Mode {
-    /// Whether nothing may be written.
+    /// Whether a slot in this mode may be read and not written: TextRead and BinaryRead.
     pub fn is_read_only(self) -> bool
         ensures { result ≡ spec.is_read_only self }
     {
@@ -30,7 +30,7 @@ impl Mode {
         }
     }
 
-    /// Whether nothing may be read.
+    /// Whether a slot in this mode may be written and not read: TextWrite and BinaryWrite.
     pub fn is_write_only(self) -> bool
         ensures { result ≡ spec.is_write_only self }
     {
@@ -40,7 +40,7 @@ impl Mode {
         }
     }
 
-    /// Whether a place in the file is told and changed.
+    /// Whether the place in a file in this mode is told and changed: BinaryRead, BinaryWrite and BinaryReadWrite.
     pub fn is_binary(self) -> bool
         ensures { result ≡ spec.is_binary self }
     {
@@ -51,7 +51,7 @@ impl Mode {
     }
 }
 
-/// Where an open slot leads.
+/// Where an open slot leads: to a standard stream, or to a file.
 #[derive(Clone, Copy, Debug, PartialEq, Eq)]
 pub enum Lead {
     /// To standard input.
@@ -64,7 +64,7 @@ pub enum Lead {
     File(usize),
 }
 
-/// What a slot is.
+/// What a slot of a host is, as contracts see it: closed, or open with what it leads to, its mode and its place.
 #[derive(Clone, Copy, Debug, PartialEq, Eq)]
 pub enum Slot {
     /// It is not open.

@@ -50,8 +50,9 @@ pub fn sources_that_halt_are_done()
         product kind words m ≡ answered (Outcome.Done status) last }
 {}
 
-/// An object that is read and loaded, and whose machine starts and halts within the steps of the order,
-/// is done in the same way.
+/// An object that is read and loaded, and whose machine starts and halts within the steps of the order, is done: the
+/// program answers the status that the machine halted with, and leaves the host as the machine left it, or as the
+/// last line of the dump did, where a dump is asked for and each of its lines is written.
 #[tactic(auto, using(crate::proofs::Completed::completed))]
 pub fn objects_that_halt_are_done()
     ensures plain { (kind : MachineKind) (words : List Word) (o : Order) (image : Image) (status : ℕ) (ended : State)
@@ -149,7 +150,10 @@ pub fn sources_that_are_there_are_run()
         answered (Outcome.Done status) (unscheduled (with_output after (concat (dump_lines ended)))) }
 {}
 
-/// An object that is there, and that is loaded, is run in the same way.
+/// Where no call that the program makes fails and the slots stand as at the start, an object that is there, and that
+/// is loaded, is run in the host as it stands, with no call counted and none that fails: the program answers and
+/// leaves what the run of the image and the message do, but for the number of calls and the list of those that fail.
+/// Where its machine halts within the steps of the order, the program is done.
 #[tactic(auto, using(crate::proofs::SparedPrograms::spared))]
 pub fn objects_that_are_there_are_run()
     ensures run { (kind : MachineKind) (words : List Word) (o : Order) (image : Image) (m : HostModel) →

@@ -1,4 +1,5 @@
 -- Blanks, and runs of bytes of a kind.
+-- (MMIXware, the part on MMIXAL: the form of a line; TAOCP 1, Fascicle 1, section 1.3.2'.)
 use Rattle.std.specs.Prelude.{ℕ, List, length, drop, Bool, ◌==◌, ◌||◌, take_while}
 pub use Rattle.mx_word.specs.Kinds.{is_digit, is_letter, is_name_byte}
 

@@ -1,4 +1,6 @@
 -- The statements of a line, cut one after another.
+-- (MMIXware, the part on MMIXAL: labels, operations, operands, comments, and `;`; TAOCP 1, Fascicle 1, section
+-- 1.3.2'.)
 use Rattle.std.specs.Prelude.{◌≡◌, ℕ, zero, suc, ◌+◌, ◌<◌, ◌≤◌, IfOk, IfSome, ◌-◌, List, [], ◌∷◌, length, drop, Bool, true, false, not, ◌==◌, ◌&&◌, nat_lt, if◌then◌else◌, Option, None, Some, Result, Ok, Err, codes}
 use Rattle.std.specs.Str.{bytes_eq}
 use Rattle.mx_line.specs.declared.spans.Span.{Span}

@@ -1,4 +1,6 @@
 -- Operand fields.
+-- (MMIXware, the part on MMIXAL: where operands end; strings and character constants; TAOCP 1, Fascicle 1, section
+-- 1.3.2'.)
 use Rattle.std.specs.Prelude.{ℕ, ◌+◌, List, [], ◌∷◌, Bool, true, ◌==◌, ◌||◌, if◌then◌else◌, Result, Ok, Err, drop}
 use Rattle.mx_word.specs.Results.{map_ok}
 use Rattle.mx_line.specs.declared.faults.LineFault.{LineFault}

@@ -1,4 +1,5 @@
 -- The lines of a source.
+-- (MMIXware, the part on MMIXAL: a source is lines. How far a source may reach: a rule of this program.)
 use Rattle.std.specs.Prelude.{ℕ, ◌+◌, ◌-◌, ◌^◌, List, [], ◌∷◌, length, take, sum_by, Bool, nat_lt}
 use Rattle.mx_line.specs.Pieces.{split}
 

@@ -1,4 +1,5 @@
 -- The statements of a source, line by line.
+-- (MMIXware, the part on MMIXAL: the form of a line. That the first fault ends a source: a rule of this program.)
 use Rattle.std.specs.Prelude.{ℕ, ◌+◌, List, [], ◌∷◌, map, if◌then◌else◌, Option, Result, Ok, Err}
 use Rattle.std.specs.Option.{option_map}
 use Rattle.mx_line.specs.declared.faults.LineFault.{LineFault}

@@ -1,5 +1,7 @@
--- The statements of a line, rule by rule: a relation between a line, a place in it and what stands
--- there (MMIXAL, format of lines). A text here is what stands in the line from a place on.
+-- The statements of a line, rule by rule: a relation between a line, a place in it and what stands there. A text here
+-- is what stands in the line from a place on.
+-- (MMIXware, the part on MMIXAL: the form of a line; TAOCP 1, Fascicle 1, section 1.3.2'. The bound of 4,096 bytes and
+-- the order of faults: a rule of this program.)
 use Rattle.std.specs.Prelude.{◌≡◌, ℕ, ◌+◌, ◌<◌, ◌≤◌, List, [], ◌∷◌, ◌++◌, length, drop, Bool, true, false, not, ◌==◌, ◌||◌, Option, None, Some, Result, Ok, Err}
 use Rattle.std.specs.List.{list_all}
 use Rattle.mx_line.specs.declared.spans.Span.{Span}

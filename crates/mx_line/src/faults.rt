@@ -3,7 +3,7 @@
 ghost use Rattle.std.specs.Prelude.{◌≡◌};
 ghost use Rattle.mx_line.specs.Faults.{fault_number};
 
-/// A fault of a line.
+/// What is wrong with a line as a whole, or with a statement on it before its operands are read.
 #[derive(Clone, Copy, Debug, PartialEq, Eq)]
 pub enum LineFault {
     /// The line has more than 4,096 bytes.

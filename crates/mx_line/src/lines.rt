@@ -5,7 +5,8 @@ ghost use Rattle.mx_line.specs.Lines.{lines_of};
 
 use crate::pieces::cut;
 
-/// The first line of a source, and what follows its newline.
+/// The first line of a source without its newline, and what follows the newline. The source has at least one byte; a
+/// last line may have no newline.
 #[tactic(auto, using(crate::proofs::LineLemmas::lines))]
 pub fn cut_line(text: &[u8]) -> (&[u8], &[u8])
     requires { 0 < length text.now }

@@ -1,4 +1,5 @@
 -- The faults of loading, and what they tell of items.
+-- A rule of this program.
 use Rattle.std.specs.Prelude.{ℕ, Result, Ok, Err}
 use Rattle.mx_mmo.specs.Meaning.{Meaningless}
 use Rattle.mx_mmo.specs.Meaning as why

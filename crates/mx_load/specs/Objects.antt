@@ -1,4 +1,6 @@
 -- What is loaded of the object that bytes are, or its first fault.
+-- (What objects mean: MMIXware, the part on MMIX-SIM, "Loading an object file". Which fault is the first: a rule of
+-- this program.)
 use Rattle.std.specs.Prelude.{◌≡◌, ℕ, zero, suc, ◌+◌, List, length, drop, Some, None, Result, Ok, Err, nat_lt, unwrap_or, if◌then◌else◌}
 use Rattle.mx_mmo.specs.Image.{Image}
 use Rattle.mx_mmo.specs.Meaning.{Loading, Meaningless, nothing, take_item, take_items}

@@ -3,7 +3,7 @@
 ghost use Rattle.std.specs.Prelude.{◌≡◌};
 ghost use Rattle.mx_load.specs.Faults.{number_of};
 
-/// Why an item is refused.
+/// Why an item of an object cannot be loaded.
 #[derive(Clone, Copy, Debug, PartialEq, Eq)]
 pub enum LoadFault {
     /// Memory would have more than 65,536 pages.

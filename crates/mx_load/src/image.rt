@@ -17,7 +17,8 @@ use std::marker::Model;
 /// Where the stack segment begins.
 const STACK: u64 = 0x6000_0000_0000_0000;
 
-/// Memory, the lines of its tetras, the global registers and the symbols of an object.
+/// What the items of an object set up before a program runs: memory, the lines of its tetras, the global registers
+/// and the symbols. Memory has at most 65,536 pages.
 #[derive(Drop)]
 pub struct Image {
     memory: Memory,
@@ -46,7 +47,7 @@ impl Model for Image {
 }
 
 impl Image {
-    /// The memory.
+    /// The memory before the program runs, with at most 65,536 pages.
     pub fn memory(&self) -> &Memory
         ensures value { result.now ≡ self.now.memory }
         ensures few { page_count self.now.memory ≤ 65536 }
@@ -54,7 +55,7 @@ impl Image {
         &self.memory
     }
 
-    /// The memory, without the rest. It takes no memory.
+    /// The memory before the program runs, without the rest of the image. It takes no memory.
     pub fn into_memory(self) -> Memory
         ensures value { result ≡ self.memory }
         ensures few { page_count result ≤ 65536 }
@@ -70,7 +71,7 @@ impl Image {
         line_in(&self.lines, a)
     }
 
-    /// The number of the first global register, at least 32.
+    /// The number of the first global register, from 32 to 255.
     pub fn g(&self) -> u8
         ensures value { result ≡ (image_of self.now).g }
         ensures bounds { 32 ≤ result }
@@ -91,7 +92,7 @@ impl Image {
             .unwrap_or(0)
     }
 
-    /// The symbols.
+    /// The symbols that the loader was ended with: those of the object's trie, or of the source.
     pub fn symbols(&self) -> &Symbols
         ensures { result.now ≡ self.now.symbols }
     {

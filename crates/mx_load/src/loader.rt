@@ -43,10 +43,11 @@ impl Loader {
         }
     }
 
-    /// Takes the next item.
+    /// Takes the next item of an object. Its numbers fit their fields, as those of each item that a reader gives
+    /// do.
     ///
-    /// Errors: `PagesFull`, `BadPlace` and `NoFile` where the items so far have no meaning for that
-    /// reason, and out of memory.
+    /// Errors: `PagesFull`, `BadPlace` and `NoFile` where the items so far have no meaning for that reason; out
+    /// of memory; the fault that was answered before.
     #[tactic(auto, unfolding(crate::specs::Standing::standing))]
     pub fn take(&mut self, item: &Item) -> Result<(), LoadFault>
         requires { Fits item.now }
@@ -69,7 +70,7 @@ impl Loader {
 
     /// The image that the items set up, with these symbols.
     ///
-    /// Errors: the fault that was answered.
+    /// Errors: the fault that `take` answered.
     #[tactic(auto, unfolding(crate::specs::Standing::standing))]
     pub fn finish(self, symbols: Symbols) -> Result<Image, LoadFault>
         ensures meaning { map_ok image_of result ≡ image_in (standing self) }

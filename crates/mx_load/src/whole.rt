@@ -13,7 +13,8 @@ use mx_mmo::Item;
 use mx_word::Symbols;
 use std::alloc::Global;
 
-/// The image that items set up, with these symbols.
+/// The image that items set up, with these symbols. The numbers of each item fit their fields. Only rows of tests
+/// call it.
 ///
 /// Errors: the first fault of the items, from the left, and out of memory.
 pub fn load(alloc: Global, items: &[Item], symbols: Symbols) -> Result<Image, LoadFault>

@@ -1,4 +1,5 @@
 -- Which bytes have which fault, tetra by tetra.
+-- A rule of this program.
 use Rattle.std.specs.Prelude.{◌≡◌, ◌≢◌, ℕ, ◌-◌, ◌*◌, ◌/◌, ◌%◌, ◌^◌, ◌<◌, ◌≤◌, ◌⊎◌, List, ◌∷◌, ◌++◌, length, replicate, Option, Some, None}
 use Rattle.mx_word.specs.Words.{tetra_to_bytes}
 use Rattle.mx_mmo.specs.Tetras.{wide_lop}

@@ -1,4 +1,5 @@
 -- The numbers and places of the faults of objects.
+-- A rule of this program.
 use Rattle.std.specs.Prelude.{ℕ, Option, Some, None}
 use Rattle.mx_mmo.specs.declared.faults.MmoFault.{MmoFault}
 use Rattle.mx_mmo.specs.declared.faults.MmoFault.TheVariants.{NotTetras, NoPre, BadLop, BadFields, Truncated, TooLong, OutOfMemory}

@@ -1,4 +1,5 @@
 -- What an object sets up before a program runs.
+-- (MMIXware, the part on MMIXAL, "Binary MMO output".)
 use Rattle.std.specs.Prelude.{ℕ, Bool}
 
 -- memory gives at each address the octa that holds it, `pages` tells the pages of 4,096 bytes by

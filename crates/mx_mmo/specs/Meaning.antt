@@ -1,4 +1,6 @@
 -- What a list of items means, item by item.
+-- (MMIXware, the part on MMIXAL, "Binary MMO output", and the part on MMIX-SIM, "Loading an object file". Which items
+-- mean nothing: a rule of this program.)
 use Rattle.std.specs.Prelude.{ℕ, ◌+◌, ◌-◌, ◌*◌, ◌/◌, ◌%◌, ◌^◌, ◌==◌, ◌&&◌, Bool, true, false, not, nat_le, List, [], ◌∷◌, Option, Some, None, Result, Ok, Err, slice_index, min, if◌then◌else◌}
 pub use Rattle.mx_word.specs.Octas.{with_tetra, with_page}
 use Rattle.mx_mmo.specs.Image.{Image}

@@ -1,4 +1,5 @@
 -- What stands first in bytes: an item and how many bytes it takes, a fault, or nothing that is whole.
+-- (MMIXware, the part on MMIXAL, "Binary MMO output".)
 use Rattle.std.specs.Prelude.{ℕ, ◌+◌, ◌-◌, ◌*◌, ◌%◌, ◌^◌, ◌==◌, ◌&&◌, ◌||◌, ◌<◌, ◌≤◌, nat_le, nat_lt, false, List, [], ◌∷◌, length, take, Option, Some, None, Result, Ok, Err, if◌then◌else◌}
 use Rattle.mx_word.specs.Words.{tetra_from_bytes, octa_from_bytes}
 use Rattle.mx_mmo.specs.Skipping.{skipped}

@@ -1,4 +1,5 @@
 -- The tetras that a spec skips.
+-- (MMIXware, the part on MMIXAL, "Binary MMO output".)
 use Rattle.std.specs.Prelude.{ℕ, ◌+◌, ◌==◌, ◌&&◌, Bool, true, false, List, [], ◌∷◌, Option, Some, None, if◌then◌else◌}
 
 -- whether the tetra behind this one is quoted, by whether this one is; nothing where this one ends a spec: a lopcode other

@@ -1,4 +1,5 @@
 -- The bytes that an item is written as.
+-- (MMIXware, the part on MMIXAL, "Binary MMO output".)
 use Rattle.std.specs.Prelude.{ℕ, ◌/◌, ◌^◌, ◌==◌, List, ◌++◌, length, Option, Some, None, if◌then◌else◌}
 use Rattle.std.specs.List.{flat_map}
 use Rattle.mx_word.specs.Words.{tetra_to_bytes, octa_to_bytes}

@@ -1,4 +1,5 @@
 -- The bytes of lopcodes, of addresses and of padded names.
+-- (MMIXware, the part on MMIXAL, "Binary MMO output".)
 use Rattle.std.specs.Prelude.{ℕ, ◌+◌, ◌-◌, ◌*◌, ◌/◌, ◌%◌, ◌^◌, ◌==◌, List, [], ◌∷◌, ◌++◌, length, replicate, if◌then◌else◌}
 use Rattle.mx_word.specs.Words.{tetra_to_bytes, octa_to_bytes}
 

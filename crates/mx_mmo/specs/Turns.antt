@@ -1,4 +1,5 @@
 -- Which items stand first in bytes, one after the other.
+-- (MMIXware, the part on MMIXAL, "Binary MMO output".)
 use Rattle.std.specs.Prelude.{◌≡◌, ℕ, List, [], ◌∷◌, ◌++◌}
 use Rattle.mx_mmo.specs.Object.{EndsSpec, Spelled}
 use Rattle.mx_mmo.specs.Replies.{phase_after}

@@ -1,4 +1,5 @@
 -- Which lists of items an object is written from.
+-- (MMIXware, the part on MMIXAL, "Binary MMO output".)
 use Rattle.std.specs.Prelude.{◌≡◌, ◌≢◌, ℕ, ◌+◌, ◌^◌, ◌<◌, ◌≤◌, ◌⊎◌, List, [], ◌∷◌, ◌++◌, length, IfSome}
 use Rattle.std.specs.List.{AllByRecursion}
 pub use Rattle.mx_word.specs.Ranges.{AreBytes, AreTetras, AreOctas}

@@ -1,4 +1,6 @@
 -- What whole byte lists are: an object, or the first fault.
+-- (The grammar of objects: MMIXware, the part on MMIXAL, "Binary MMO output". Which fault is the first: a rule of
+-- this program.)
 use Rattle.std.specs.Prelude.{◌≡◌, ℕ, zero, suc, ◌+◌, nat_lt, List, [], ◌∷◌, ◌++◌, length, drop, Option, Some, None, Result, Ok, Err, if◌then◌else◌}
 use Rattle.mx_mmo.specs.Object.{IsObject}
 use Rattle.mx_mmo.specs.Reading.{Due, first_item}

@@ -41,7 +41,7 @@ pub struct Tail {
     pub place: u64,
 }
 
-/// A whole object: its items, `stab` the last of them, and what stands behind that.
+/// A whole object: its items, of which `stab` is the last, and the trie behind it.
 #[derive(Drop)]
 pub struct Object {
     pub items: Items,

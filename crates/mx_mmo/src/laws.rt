@@ -31,7 +31,7 @@ pub fn reading_is_the_grammar()
         length bytes ≤ limit → object_of bytes ≡ Ok object }
 {}
 
-/// The fault of bytes is the one that the table of faults has for them.
+/// The first fault of an object's bytes is the one that the table of faults has for them.
 pub fn faults_are_the_table()
     ensures found { (bytes : List ℕ) (fault : MmoFault) → AreBytes bytes → length bytes ≤ limit →
         object_fault bytes ≡ Some fault → FaultOf bytes fault }

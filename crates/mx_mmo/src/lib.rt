@@ -1,7 +1,7 @@
 //! Object files in the mmo format: what stands in them, how it is written and how it is read.
 //!
 //! An object is a sequence of tetras. One whose first byte is #98 is a lopcode, which says what the
-//! tetras after it are; any other tetra is loaded (MMIXware, "MMIX Object Format" in MMIXAL).
+//! tetras after it are; any other tetra is loaded (MMIXware, the part on MMIXAL, "Binary MMO output").
 #![tactic(auto)]
 
 mod due;
@@ -27,7 +27,6 @@ pub use laws::{
     written_is_read,
 };
 pub use lists::{Items, Octas, Words};
-pub use lops::Lop;
 pub use reader::Reader;
 pub use whole::read;
 pub use writer::Writer;

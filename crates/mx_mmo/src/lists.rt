@@ -9,5 +9,5 @@ pub type Words = Sequence<u32>;
 /// A list of octas.
 pub type Octas = Sequence<u64>;
 
-/// A list of items.
+/// A list of the items of an object.
 pub type Items = Sequence<Item>;

@@ -5,7 +5,7 @@ ghost use Rattle.mx_mmo.specs.Reading as spec;
 
 /// What a tetra that begins with #98 says, by its second byte.
 #[derive(Clone, Copy, Debug, PartialEq, Eq)]
-pub enum Lop {
+pub(crate) enum Lop {
     /// The next tetra is loaded, whatever it is.
     Quote,
     /// Lambda becomes an address.
@@ -35,7 +35,7 @@ pub enum Lop {
 }
 
 /// The lopcode of a code byte; nothing for a code above #0c.
-pub fn lop_of(code: u8) -> Option<Lop>
+pub(crate) fn lop_of(code: u8) -> Option<Lop>
     ensures { result ≡ spec.lop_of code }
 {
     match code {

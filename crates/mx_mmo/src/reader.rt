@@ -80,7 +80,10 @@ impl Reader {
         }
     }
 
-    /// Takes the next piece of the object. The pieces are at most 2^26 bytes together.
+    /// Takes the next piece of the object.
+    ///
+    /// Errors: `TooLong` where more than 2^26 bytes would have come with it, with the place 2^26; then none of
+    /// the piece is taken, and the fault stays. The fault that was answered before. Out of memory.
     pub fn feed(&mut self, piece: &[u8]) -> Result<(), MmoFault>
         ensures answers { result ≢ Err MmoFault.OutOfMemory →
             (result, self.new) ≡ spec.feed_answer self.old piece.now }
@@ -96,8 +99,10 @@ impl Reader {
         self.hold(piece)
     }
 
-    /// The next whole item; nothing where neither a whole item nor a fault stands next, and always
-    /// after `stab`.
+    /// The next whole item; nothing where neither a whole item nor a fault stands next, and always after `stab`.
+    ///
+    /// Errors: `NoPre`, `BadLop` and `BadFields`, each with the byte place of the tetra that has it. The fault
+    /// that was answered before. Out of memory.
     pub fn next(&mut self) -> Result<Option<Item>, MmoFault>
         ensures answers { result ≢ Err MmoFault.OutOfMemory →
             (result, self.new) ≡ spec.next_answer self.old }
@@ -132,7 +137,7 @@ impl Reader {
         }
     }
 
-    /// The byte place of the item given last; 0 where none was given.
+    /// The byte place, from 0, where the item that was given last begins; 0 where none was given.
     pub fn place(&self) -> u64
         ensures { result ≡ self.now.place }
     {
@@ -140,6 +145,10 @@ impl Reader {
     }
 
     /// Says that no more comes, once `next` gives nothing, and gives what stands behind `stab`.
+    ///
+    /// Errors: `NotTetras` where the bytes left over are no whole tetras; `Truncated` where `stab` or the last
+    /// tetra `end` is missing, or an item is not whole; `BadFields` where `end` has not the number of the trie's
+    /// tetras. The fault that was answered before. Out of memory.
     pub fn finish(&mut self) -> Result<Tail, MmoFault>
         ensures answers { result ≢ Err MmoFault.OutOfMemory →
             (result, self.new) ≡ spec.finish_answer self.old }

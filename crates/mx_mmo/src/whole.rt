@@ -128,7 +128,9 @@ fn read_pieces(alloc: Global, pieces: &[Bytes]) -> Result<Object, MmoFault>
     }
 }
 
-/// The object that comes in these pieces, or the first fault.
+/// The object that comes in these pieces from first to last, or its first fault; how the bytes are cut into pieces
+/// makes no difference. More than 2^26 bytes are `TooLong`, unless an item before the piece that goes past them has a
+/// fault. Only rows of tests call it.
 pub fn read(alloc: Global, pieces: &[Bytes]) -> Result<Object, MmoFault>
     // However the bytes are cut into pieces, the object is that of all bytes, and so is the fault.
     ensures exact { length (concat pieces.now) ≤ limit → result ≢ Err MmoFault.OutOfMemory →

@@ -13,7 +13,7 @@ use mx_word::Bytes;
 use std::alloc::Global;
 use std::marker::Model;
 
-/// Writes the items of an object, which contracts see as the bytes that were put so far.
+/// Writes an object, item by item. Contracts see it as the bytes of the items that were put so far.
 #[derive(Drop)]
 pub struct Writer {
     bytes: Vec<u8>,
@@ -37,8 +37,9 @@ impl Writer {
         }
     }
 
-    /// Puts an item behind those that were put. It refuses only where it is out of memory, and then
-    /// nothing changed.
+    /// Puts an item behind those that were put. Its numbers fit their fields: so does each item that a reader
+    /// gives or an assembler makes (`Fits` in `specs/Valid.antt`). It refuses only where it is out of memory, and
+    /// then nothing changed.
     pub fn put(&mut self, item: &Item) -> Result<(), MmoFault>
         requires { Fits item.now }
         ensures ok { OnOk result (self.new ≡ self.old ++ bytes_of item.now) }
@@ -55,8 +56,8 @@ impl Writer {
         }
     }
 
-    /// The object: what was put, the trie, and the lopcode `end` with the number of the trie's
-    /// tetras. It refuses only where it is out of memory.
+    /// The bytes of the object: what was put, the trie, and the lopcode `end` with the number of the trie's
+    /// tetras. The trie is whole tetras, at most 65,535 of them. It refuses only where it is out of memory.
     pub fn end(self, trie: &[u8]) -> Result<Bytes, MmoFault>
         requires whole { length trie.now % 4 ≡ 0 }
         requires most { length trie.now / 4 < 2 ^ 16 }
@@ -73,7 +74,7 @@ impl Writer {
         }
     }
 
-    /// What was put.
+    /// The bytes of the items that were put, without a trie and an end: the front of an object.
     pub fn so_far(self) -> Bytes
         ensures { result ≡ self }
     {

@@ -1,4 +1,5 @@
 -- The names of a source: the defined symbols, the prefix, the last label of each local one, and the references that wait.
+-- (MMIXware, the part on MMIXAL: symbols, PREFIX, local symbols and future references.)
 use Rattle.std.specs.Prelude.{◌≡◌, ◌≤◌, IsTrue, ℕ, ◌+◌, ◌==◌, Bool, nat_lt, List, [], ◌∷◌, ◌++◌, length, replicate, slice_index, slice_index_or, Option, None, Some, is_some, Result, Ok, Err, bytes_eq, if◌then◌else◌}
 use Rattle.std.specs.Ordering.{nat_cmp, is_lt}
 use Rattle.std.specs.Cmp.Lexicographic.{slice_cmp}

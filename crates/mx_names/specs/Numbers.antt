@@ -1,4 +1,5 @@
 -- The numbers of the faults; there is none where there was no memory.
+-- A rule of this program.
 use Rattle.std.specs.Prelude.{ℕ}
 use Rattle.mx_names.specs.declared.fault.NameFault.{NameFault}
 use Rattle.mx_names.specs.declared.fault.NameFault.TheVariants.{Twice, Predefined, NameTooLong, OutOfMemory}

@@ -1,5 +1,6 @@
 -- The references that wait: one list in the order of their making. They are kept in groups, one for each name or label,
 -- and each has its number in that order.
+-- (MMIXware, the part on MMIXAL: future references; TAOCP 1, Fascicle 1, section 1.3.2'.)
 use Rattle.std.specs.Prelude.{◌≡◌, ◌<◌, ℕ, not, nat_lt, if◌then◌else◌, List, [], ◌∷◌, map, filter, Option, None, Some, option_map}
 use Rattle.std.specs.Borrow.{Bor}
 use Rattle.std.specs.List.{AllByRecursion}

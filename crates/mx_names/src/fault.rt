@@ -5,7 +5,7 @@ ghost use Rattle.mx_names.specs.Numbers.{number_of};
 
 use mx_word::NoMemory;
 
-/// Why a name is refused.
+/// Why a symbol or a definition is refused.
 #[derive(Clone, Copy, Debug, PartialEq, Eq)]
 pub enum NameFault {
     /// The name is defined already.

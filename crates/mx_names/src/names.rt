@@ -115,8 +115,9 @@ impl Names {
         Ok(())
     }
 
-    /// Defines a complete name of at most 1,024 bytes. It is refused where it is predefined or
-    /// defined already; a refusal changes nothing.
+    /// Gives a symbol its value. The name is a complete one, with its colon and at most 1,024 bytes, and fewer
+    /// than 2^32 - 1 symbols are defined. It is refused where the name is predefined or defined already; a
+    /// refusal changes nothing.
     pub fn define(&mut self, full: Bytes, v: Value) -> Result<(), NameFault>
         requires full { spec.IsFullName full }
         requires room { length self.old.symbols < 0xffff_ffff }
@@ -164,7 +165,7 @@ impl Names {
         Ok(())
     }
 
-    /// The value of a complete name that is defined or predefined.
+    /// The value of a complete name that is defined or predefined; nothing where the name is neither.
     pub fn lookup(&self, full: &[u8]) -> Option<Value>
         ensures { result ≡ spec.value_of_name self.now full.now }
     {
@@ -177,7 +178,7 @@ impl Names {
         }
     }
 
-    /// Makes this the value of the last local label dH.
+    /// Makes this the value of the last local label dH, for a digit d from 0 to 9.
     pub fn define_local(&mut self, d: u8, v: Value)
         requires { d ≤ 9 }
         ensures changed { self.new ≡ record self.old { backs = slice_set self.old.backs d v } }
@@ -186,7 +187,7 @@ impl Names {
         self.backs[usize::from(d)] = v;
     }
 
-    /// The value of the last local label dH, or pure 0 before any.
+    /// The value of the last local label dH, for a digit d from 0 to 9: what dB stands for, or pure 0 before any.
     pub fn local_back(&self, d: u8) -> Value
         requires { d ≤ 9 }
         ensures { result ≡ spec.back_of self.now d }
@@ -225,7 +226,7 @@ impl Names {
         self.waiting.first()
     }
 
-    /// The defined symbols in byte order of their names.
+    /// The defined symbols, without the predefined ones, in byte order of their names.
     pub fn sorted(&self) -> Result<Symbols, NameFault>
         ensures symbols { IfOk result (λ symbols. symbols ≡ self.now.symbols) }
         ensures order { IfOk result (λ symbols. InByteOrder symbols) }

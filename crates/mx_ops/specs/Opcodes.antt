@@ -1,4 +1,6 @@
 -- The operations: their names and codes.
+-- (MMIXware, the part on MMIX: the table of codes, and the part on MMIXAL: the pseudo-operations, LDA and SET; TAOCP
+-- 1, Fascicle 1, sections 1.3.1' and 1.3.2'.)
 use Rattle.std.specs.Prelude.{◌≡◌, ◌<◌, ◌≤◌, ℕ, ◌+◌, ◌*◌, Bool, true, false, ◌==◌, ◌&&◌, List, [], ◌∷◌, ◌++◌, length, map, Option, None, Some, codes, slice_index_or}
 use Rattle.std.specs.List.{flat_map}
 use Rattle.mx_ops.specs.Tables.{words, numbered, first_of}

@@ -1,4 +1,5 @@
 -- The predefined symbols.
+-- (MMIXware, the part on MMIXAL: predefined symbols.)
 use Rattle.std.specs.Prelude.{ℕ, ◌==◌, List, [], ◌∷◌, ◌++◌, Option, None, codes, if◌then◌else◌}
 use Rattle.mx_ops.specs.Tables.{words, numbered, first_of}
 

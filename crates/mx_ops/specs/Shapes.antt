@@ -1,4 +1,5 @@
 -- The shapes of operands.
+-- (MMIXware, the part on MMIXAL: the operands of instructions; TAOCP 1, Fascicle 1, section 1.3.2'.)
 use Rattle.std.specs.Prelude.{ℕ, ◌&&◌, nat_le, List, [], ◌∷◌, if◌then◌else◌}
 use Rattle.mx_ops.specs.declared.op.Shape.{Shape}
 use Rattle.mx_ops.specs.declared.op.Shape.TheVariants.{Three, Regs, Round, Neg, Rel, Mem, MemPure, Wyde, Jump, Put, Get, Pop, One, Save, Unsave, Free}

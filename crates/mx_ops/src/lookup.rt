@@ -27,14 +27,14 @@ pub fn find(name: &[u8]) -> Option<Op>
     }
 }
 
-/// Which operands a code takes.
+/// Which operands the instruction of a code takes.
 pub fn shape_of(code: u8) -> Shape
     ensures { shapes_of code ≡ result ∷ [] }
 {
     SHAPES[usize::from(code)]
 }
 
-/// The name of a code.
+/// The name of the instruction of a code; the two codes of one name have the same one.
 pub fn name(code: u8) -> &'static str
     ensures value { result.now ≡ opcode_name code }
     ensures found { IsTrue (is_instruction (operation_of result.now)) }

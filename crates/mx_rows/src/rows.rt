@@ -22,7 +22,7 @@ pub struct Given<'a> {
     pub failing: &'a [u64],
 }
 
-/// A file alone.
+/// A host that has this file alone.
 pub fn file<'a>(name: &'a str, bytes: &'a [u8]) -> Given<'a> {
     Given {
         name,

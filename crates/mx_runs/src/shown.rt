@@ -44,7 +44,8 @@ pub fn shows(alloc: Global, source: &str, end: End, lines: &[&str]) -> Result<bo
     Ok(is_shown)
 }
 
-/// The source of the first row that does not, if there is one. Each source stands behind the same text.
+/// The source of the first row that does not end and dump as it says, if there is one. Each source stands behind the
+/// same text.
 pub fn first_other(
     alloc: Global,
     before: &str,
@@ -60,7 +61,7 @@ pub fn first_other(
     Ok(None)
 }
 
-/// Whether it does on a ring.
+/// Whether `run --dump` of a source ends so on a ring of this size, and its dump has these lines.
 pub fn shows_on(
     alloc: Global,
     ring: &str,

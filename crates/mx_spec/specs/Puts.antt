@@ -1,4 +1,5 @@
 -- What PUT gives a special register, and where it is refused.
+-- (MMIXware, the part on MMIX, "Special registers": PUT; TAOCP 1, Fascicle 1, section 1.3.1'.)
 use Rattle.std.specs.Prelude.{ℕ, Bool, not, ◌&&◌, ◌||◌, ◌==◌, nat_le, nat_lt, min, if◌then◌else◌}
 use Rattle.mx_spec.specs.SpecialRegisters.{rC, rN, rS, rI, rV, rG, rL, rA}
 use Rattle.mx_spec.specs.declared.put.Put.{Put}

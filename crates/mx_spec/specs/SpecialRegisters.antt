@@ -1,4 +1,5 @@
 -- The 32 special registers by their codes, which GET and PUT name.
+-- (MMIXware, the part on MMIX, "Special registers": their codes; TAOCP 1, Fascicle 1, section 1.3.1'.)
 use Rattle.std.specs.Prelude.{ℕ}
 
 -- bootstrap register: what $255 had when a trip came

@@ -21,10 +21,10 @@ const LOCAL_THRESHOLD: u8 = 20;
 /// The code of rA, the arithmetic status.
 const ARITHMETIC_STATUS: u8 = 21;
 
-/// What PUT of a value to the special register with a code comes to, where rL is l; no rule asks for
-/// rG, which is _g. Codes 9 to 11 are illegal, and 8 and 12 to 18 privileged. rA takes at most #3ffff,
-/// and rG takes 32 to 255 and not below rL; another value is illegal. rL takes the smaller of its own
-/// value and the new one. Every other register takes any value.
+/// What PUT of a value to the special register with a code below 32 comes to, where rL is l; no rule asks for rG,
+/// which is _g. Codes 9 to 11 are illegal, and 8 and 12 to 18 privileged. rA takes at most #3ffff, and rG takes 32 to
+/// 255 and not below rL; another value is illegal. rL takes the smaller of its own value and the new one. Every other
+/// register takes any value.
 pub fn may_put(code: u8, value: u64, _g: u8, l: u8) -> Put
     requires { code < 32 }
     ensures { result ≡ spec.put_of code value _g l }

@@ -1,4 +1,5 @@
 -- The texts of instructions.
+-- A rule of this program.
 use Rattle.std.specs.Prelude.{ℕ, ◌+◌, ◌-◌, ◌*◌, ◌/◌, ◌%◌, ◌^◌, List, [], ◌∷◌, ◌++◌, map, if◌then◌else◌, codes, decimal, slice_index_or}
 use Rattle.std.specs.List.{join_with_byte}
 use Rattle.mx_ops.specs.Opcodes.{opcode_name, opcode_kind, is_immediate, is_backward}

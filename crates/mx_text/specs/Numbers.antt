@@ -1,4 +1,5 @@
 -- The texts of octas.
+-- A rule of this program.
 use Rattle.std.specs.Prelude.{ℕ, zero, suc, ◌+◌, ◌/◌, ◌%◌, ◌^◌, List, [], ◌∷◌, ◌++◌, map, ◌&&◌, nat_lt, nat_le, if◌then◌else◌, codes}
 use Rattle.std.specs.Fmt.{signed_decimal}
 use Rattle.mx_word.specs.Words.{signed_value, octa_to_bytes}

@@ -70,7 +70,7 @@ pub fn add_decimal(text: &mut Bytes, n: u32) -> Result<(), NoMemory>
     text.extend(buffer.format(n).as_bytes())
 }
 
-/// An octa in one of the forms.
+/// The text of an octa in one of the forms. It refuses only where it is out of memory.
 pub fn shown(alloc: Global, x: u64, form: Form) -> Result<Bytes, NoMemory>
     ensures { IfOk result (λ text. text ≡ spec.shown_text form x) }
 {

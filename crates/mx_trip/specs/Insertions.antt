@@ -1,4 +1,5 @@
 -- RESUME 0: it goes back to where a trip came from, or performs an instruction that rX holds.
+-- (MMIXware, the part on MMIX, "Trips and traps": RESUME, rW and rX. What is left out: a rule of this program.)
 use Rattle.std.specs.Prelude.{ℕ, ◌+◌, ◌-◌, ◌*◌, ◌/◌, ◌%◌, ◌^◌, Bool, not, ◌&&◌, ◌||◌, ◌==◌, nat_le, nat_lt, Option, None, Some, if◌then◌else◌}
 use Rattle.mx_trip.specs.declared.insertion.Insert.{Insert}
 use Rattle.mx_trip.specs.declared.insertion.Insert.TheVariants.{Back, Perform, Illegal, LeftOut}

@@ -1,4 +1,5 @@
 -- Trips: what an event comes to, by the bits of rA.
+-- (MMIXware, the part on MMIX, "Trips and traps": rA and the handlers; TAOCP 1, Fascicle 1, section 1.3.1'.)
 use Rattle.std.specs.Prelude.{ℕ, ◌*◌, ◌^◌, Bool, not, ◌==◌, if◌then◌else◌}
 use Rattle.std.specs.Int.Bits.{bit_and, bit_or}
 use Rattle.mx_alu.specs.declared.answer.Event.{Event}

@@ -1,6 +1,6 @@
 //! The call of a file trap.
 
-/// A call of a file trap: the address of the TRAP, its tetra, and the argument, which is what $255 has.
+/// A call of a file trap: the address of the TRAP, its tetra, and its argument, which is the value of $255.
 #[derive(Clone, Copy, Debug, PartialEq, Eq)]
 pub struct TrapCall {
     pub pc: u64,

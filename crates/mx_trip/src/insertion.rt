@@ -28,13 +28,14 @@ const TRAP: u8 = 0x00;
 /// The code of RESUME.
 const RESUME: u8 = 0xf9;
 
-/// What RESUME 0 comes to where rX is rx, rW is rw, and rL and rG are l and g. With the top bit of rX
-/// set it goes to rW, lowered to a multiple of 4. Else it performs the low tetra of rX, one tetra before
-/// that address modulo 2^64; the top byte of rX is 0, 1 or 2 for the kinds in their order.
+/// What RESUME 0 comes to where rX is rx, rW is rw, and rL and rG are l and g. With the top bit of rX set it goes to
+/// rW, lowered to a multiple of 4. Else it performs the low tetra of rX, one tetra before that address modulo 2^64;
+/// the top byte of rX is 0, 1 or 2 for the kinds in their order.
 ///
-/// It is illegal with another top byte; to insert RESUME; to continue a branch, a load, a store or a
-/// code from #f0 on; and to continue or set with an X that is neither local nor global. What is then
-/// left out: TRAP again or continued, and a register set with bits 40 to 47 of rX not all 0.
+/// It is illegal with another top byte; to insert RESUME; to continue a code that has operands of its own, which are
+/// #40 to #5f (branches), #80 to #bf (loads and stores, and among them GO, PUSHGO, PRELD, PREGO, PREST, SYNCD and
+/// SYNCID) and #f0 to #ff; and to continue or set with an X that is neither local nor global. What is then left out:
+/// TRAP again or continued, and a register set with bits 40 to 47 of rX not all 0.
 pub fn inserted(rx: u64, rw: u64, l: u8, g: u8) -> Insert
     ensures { result ≡ spec.insertion rx rw l g }
 {

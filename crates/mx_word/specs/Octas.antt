@@ -1,4 +1,5 @@
 -- Memory octa by octa: each address gives the octa that holds it. Octas, tetras and bytes stand from the high end.
+-- (MMIXware, the part on MMIX: octabytes in memory; TAOCP 1, Fascicle 1, section 1.3.1'.)
 use Rattle.std.specs.Prelude.{ℕ, ◌-◌, ◌*◌, ◌/◌, ◌%◌, ◌^◌, Bool, true, ◌==◌, nat_lt, if◌then◌else◌, bit_xor}
 
 -- the byte of an address in the octa that holds it

@@ -1,4 +1,5 @@
 -- Symbols: their names, values and order.
+-- (MMIXware, the part on MMIXAL, "The symbol table".)
 use Rattle.std.specs.Prelude.{◌^◌, ◌<◌, ◌≤◌, List, length, map}
 use Rattle.std.specs.Cmp.Lexicographic.{slice_cmp}
 use Rattle.std.specs.List.Sorted.{IsStrictlySortedBy}

@@ -1,4 +1,5 @@
 -- Future references.
+-- (MMIXware, the part on MMIXAL: future references; TAOCP 1, Fascicle 1, section 1.3.2'.)
 use Rattle.std.specs.Prelude.{Bool, false, ◌==◌}
 use Rattle.std.specs.Str.{bytes_eq}
 use Rattle.mx_word.specs.declared.waits.Awaited.{Awaited}

@@ -10,7 +10,7 @@ use std::alloc::Global;
 pub type Bytes = Sequence<u8>;
 
 impl Sequence<u8> {
-    /// A copy of these bytes.
+    /// A list with these bytes of its own. `NoMemory` where there is no memory for them.
     pub fn copy(alloc: Global, from: &[u8]) -> Result<Bytes, NoMemory>
         ensures { IfOk result (λ b. b ≡ from.now) }
     {
@@ -19,7 +19,7 @@ impl Sequence<u8> {
         })
     }
 
-    /// Adds bytes at the end. Nothing changes where there is no memory.
+    /// Adds bytes at the end. `NoMemory` where there is no memory for them; then nothing changed.
     pub fn extend(&mut self, from: &[u8]) -> Result<(), NoMemory>
         ensures ok { OnOk result (self.new ≡ self.old ++ from.now) }
         ensures err { OnErr result (self.new ≡ self.old) }
@@ -28,8 +28,9 @@ impl Sequence<u8> {
         Ok(())
     }
 
-    /// Writes bytes at a place, and fills a gap before the place with zeros. Nothing changes where
-    /// there are no bytes, or no memory.
+    /// Writes bytes at a place, counted from 0, and fills a gap before the place with zeros. It needs a last
+    /// place below 2^63 - 1: the place and the number of bytes together are below 2^63. No bytes change nothing,
+    /// and fill no gap. `NoMemory` where there is no memory for the longer list; then nothing changed.
     pub fn overwrite(&mut self, place: usize, from: &[u8]) -> Result<(), NoMemory>
         requires { place + length from.now < 2 ^ 63 }
         ensures ok { OnOk result (self.new ≡ with_written self.old place from.now) }

@@ -44,7 +44,8 @@ impl<T: Drop> Sequence<T> {
         self.elements
     }
 
-    /// Adds an element at the end. Where there is no memory it is dropped, and nothing changes.
+    /// Adds an element at the end. `NoMemory` where there is no memory for it; then it is dropped, and nothing
+    /// changed.
     pub fn push(&mut self, x: T) -> Result<(), NoMemory>
         ensures ok { OnOk result (self.new ≡ self.old ++ x ∷ []) }
         ensures err { OnErr result (self.new ≡ self.old) }
@@ -53,7 +54,7 @@ impl<T: Drop> Sequence<T> {
         Ok(())
     }
 
-    /// The elements.
+    /// The elements, from the first one on.
     pub fn as_slice(&self) -> &[T]
         ensures { result.now ≡ self.now }
     {

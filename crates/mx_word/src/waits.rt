@@ -5,7 +5,8 @@ ghost use Rattle.mx_word.specs.Waits.{same_awaited};
 
 use crate::{Bytes, Sequence};
 
-/// What a reference waits for: a complete name, or the next definition of a local label.
+/// What a reference waits for: a complete name, or the next definition `dH` of the local label with this digit d, 0
+/// to 9.
 #[derive(Drop)]
 pub enum Awaited {
     Name(Bytes),
@@ -13,7 +14,7 @@ pub enum Awaited {
 }
 
 impl Awaited {
-    /// Whether both are the same name, or the same local label.
+    /// Whether both are the same name, or the same local label. Only rows of tests call it.
     pub fn is_same(&self, other: &Awaited) -> bool
         ensures { result ≡ same_awaited self.now other.now }
     {
@@ -25,8 +26,8 @@ impl Awaited {
     }
 }
 
-/// Where the value of a reference goes: into an octa, or into the relative address of a branch
-/// or of a jump.
+/// Where the value of a reference goes: into an octa; or into a relative address, counted in tetras, of 16 bits, as
+/// in a branch, GETA or PUSHJ (`Near`), or of 24 bits, as in JMP (`Far`).
 #[derive(Clone, Copy, Debug, PartialEq, Eq)]
 pub enum WaitKind {
     Octa,
@@ -34,7 +35,8 @@ pub enum WaitKind {
     Far,
 }
 
-/// A reference that waits: what it waits for, the address of its octa or tetra, and its line.
+/// A reference that waits for a label: what it waits for, the address of the octa or the instruction that it stands
+/// in, the line of the source, from 1, and the kind, which says where its value goes.
 #[derive(Drop)]
 pub struct Wait {
     pub who: Awaited,
@@ -43,5 +45,5 @@ pub struct Wait {
     pub kind: WaitKind,
 }
 
-/// A list of waiting references.
+/// A list of waiting references, in the order of their making.
 pub type Waits = Sequence<Wait>;

@@ -1,5 +1,6 @@
 -- What the words of the command line order. A fault has its kind, and the place of the word that is at fault, or the
 -- number of words where one is missing. The words are read from the left, and the first fault counts.
+-- A rule of this program.
 use Rattle.std.specs.Prelude.{ℕ, ◌+◌, ◌^◌, Bool, true, false, ◌&&◌, List, [], ◌∷◌, Option, None, Some, Result, Ok, Err, if◌then◌else◌, codes}
 use Rattle.std.specs.Str.{bytes_eq}
 use Rattle.mx_words.specs.Values.{Word, is_option, ring_value, steps_value, blocks_value}

@@ -3,6 +3,7 @@
 --   sim [--ring R] [--steps N] [-i] [--dump] OBJ [ARG ..]
 --   asm SRC OBJ
 --   gen [--ring R] N
+-- A rule of this program.
 use Rattle.std.specs.Prelude.{◌≡◌, ℕ, ◌+◌, true, false, List, [], ◌∷◌, ◌++◌, length, Ok, codes}
 use Rattle.mx_words.specs.Values.{Word, is_option, ring_value, steps_value, blocks_value}
 use Rattle.mx_words.specs.Orders.{runs_file, takes_ring, defaults, with_console, with_dump, with_ring, with_steps, run_order, asm_order, gen_order}

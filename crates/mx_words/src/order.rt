@@ -2,7 +2,7 @@
 
 use mx_ring::RingSize;
 
-/// What the first word asks for.
+/// What the first word of the command line asks for.
 #[derive(Clone, Copy, Debug, PartialEq, Eq)]
 pub enum Command {
     /// `run`: assemble a source and run it.
