@@ -33,6 +33,7 @@ pub mod Applied
 pub mod Shapes
 pub mod Destinations
 pub mod QuietDeeds
+pub mod HeldOctas
 pub mod Insertions
 pub mod SameSteps
 pub mod KeptMachines

@@ -14,6 +14,7 @@ mod jumps;
 mod laws;
 mod load;
 mod machine;
+mod octa_laws;
 mod operands;
 mod operation;
 mod part;
@@ -46,6 +47,7 @@ pub use laws::{
     traps_keep_machines,
 };
 pub use machine::Machine;
+pub use octa_laws::machines_hold_octas;
 pub use reason::Reason;
 pub use space_laws::{contents_tell_the_state, machines_are_whole};
 pub use start::StartFault;

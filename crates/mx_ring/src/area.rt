@@ -9,6 +9,7 @@ ghost use Rattle.mx_ring.specs.StackArea.{AreKept, filled};
 
 use crate::RingFault;
 use crate::hidden::ROOM;
+use crate::knowing::know_octas;
 use crate::slices::{append, put};
 use std::alloc::Global;
 use std::marker::Model;
@@ -118,14 +119,6 @@ fn write(list: &mut Vec<u64>, place: usize, items: &[u64])
     ensures kept { AreKept list.old → AreKept list.new }
 {
     put(list, place, items);
-}
-
-/// Tells that each item of a slice of octas is below 2^64. It does nothing.
-#[inline(always)]
-fn know_octas(octas: &[u64])
-    ensures { (i : ℕ) → slice_index octas.now i < 2 ^ 64 }
-{
-    let _octas = octas;
 }
 
 /// Keeps zeros behind the octas that are kept, up to a number of octas that is at most 2^20.

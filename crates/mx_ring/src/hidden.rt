@@ -3,11 +3,13 @@
 ghost use Rattle.std.specs.Prelude.{◌≡◌, ◌≤◌, ◌<◌, ◌+◌, ◌-◌, ◌^◌, ◌++◌, [], ◌∷◌, ℕ, IfOk, OnErr, Err, length, take};
 ghost use Rattle.std.specs.Prelude.{None, IfSome, slice_index};
 ghost use Rattle.std.specs.Vec.{vec_len, vec_capacity};
+ghost use Rattle.mx_word.specs.Ranges.{AreOctas};
 ghost use Rattle.mx_ring.specs.HiddenPart.{octas_of, with_hidden, with_spilled, with_room, with_first};
 ghost use Rattle.mx_ring.specs.HiddenPart.{with_stack_first, with_octa, nothing_hidden};
 
 use crate::RingFault;
 use crate::area::Area;
+use crate::knowing::know_octas;
 use crate::slices::append;
 use std::alloc::Global;
 use std::marker::Model;
@@ -105,6 +107,17 @@ impl Hidden {
     pub(crate) fn know_stack(&self)
         ensures { (i : ℕ) → slice_index self.now.stack i < 2 ^ 64 }
     {
+        self.stack.know_octas();
+    }
+
+    /// Tells that each hidden octa and each octa of the stack area is below 2^64. It does nothing.
+    #[tactic(auto, using(crate::proofs::OctaLists::parts))]
+    #[inline(always)]
+    pub(crate) fn know_octas(&self)
+        ensures resident { AreOctas self.now.resident }
+        ensures area { AreOctas self.now.stack }
+    {
+        know_octas(self.octas.as_slice());
         self.stack.know_octas();
     }
 

@@ -8,6 +8,7 @@ mod area;
 mod fault;
 mod frame;
 mod hidden;
+mod knowing;
 mod laws;
 mod results;
 mod ring;

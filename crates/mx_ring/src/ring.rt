@@ -15,6 +15,7 @@ ghost use Rattle.mx_ring.specs.Stack.{with_pushed, hole_in, pop_underflows, popp
 ghost use Rattle.mx_ring.specs.Stack.{in_stack_area, stack_index, stack_octa, with_stack_octa, frame_top};
 ghost use Rattle.mx_ring.specs.Stack.{save_overfills, saved, unsave_refused, octas_to, unsaved_specials, unsaved};
 ghost use Rattle.mx_ring.specs.Window.{window_at_start};
+ghost use Rattle.mx_word.specs.Ranges.{AreOctas};
 
 use crate::frame::{frame_at, specials_at, upper_octas};
 use crate::hidden::{Hidden, ROOM};
@@ -122,6 +123,19 @@ impl Ring {
         ensures bounds { IsRing self.now }
     {
         self.hidden.know_stack();
+    }
+
+    /// Tells that each register, each hidden one and each octa of the stack area is below 2^64. It does
+    /// nothing.
+    #[inline(always)]
+    pub fn know_octas(&self)
+        ensures locals { AreOctas self.now.visible.locals }
+        ensures globals { AreOctas self.now.visible.globals }
+        ensures resident { AreOctas self.now.hidden.resident }
+        ensures area { AreOctas self.now.hidden.stack }
+    {
+        self.visible.know_octas();
+        self.hidden.know_octas();
     }
 
     /// The value of $k: 0 where it is neither local nor global.

@@ -3,11 +3,13 @@
 ghost use Rattle.std.specs.Prelude.{◌≡◌, ◌≤◌, ◌<◌, ◌+◌, ◌-◌, true, false, length, take, drop, max};
 ghost use Rattle.mx_ring.specs.Bounds.{AreInBounds};
 ghost use Rattle.mx_word.specs.Lists.{with_part};
+ghost use Rattle.mx_word.specs.Ranges.{AreOctas};
 ghost use Rattle.mx_ring.specs.Parts.{with_zeros_at};
 ghost use Rattle.mx_ring.specs.Registers.{registers_at_start, is_marginal, value_of, with_value, with_locals_cut};
 ghost use Rattle.mx_ring.specs.Registers.{with_globals_from, push_number, registers_below, registers_from};
 ghost use Rattle.mx_ring.specs.Registers.{with_returned};
 
+use crate::knowing::know_octas;
 use crate::results::bring_back;
 use crate::slices::{clear, copy, put};
 use std::marker::Model;
@@ -64,6 +66,16 @@ impl Visible {
         ensures bounds { AreInBounds self.now }
     {
         self.first_global
+    }
+
+    /// Tells that what each register has is below 2^64. It does nothing.
+    #[tactic(auto, using(crate::proofs::OctaLists::parts))]
+    #[inline(always)]
+    pub(crate) fn know_octas(&self)
+        ensures locals { AreOctas self.now.locals }
+        ensures globals { AreOctas self.now.globals }
+    {
+        know_octas(&self.values);
     }
 
     /// What $k has.
