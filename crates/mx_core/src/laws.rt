@@ -45,11 +45,14 @@ pub fn starts_go_as_lists()
 {}
 
 /// A step that is not wild, where nothing was touched, has the same answer and the same trace, and
-/// leaves the list that the next state stands for. It is wild for the one where it is for the other.
+/// leaves the list that the next state stands for. It is wild for the one where it is for the other. So
+/// it reads no octa of the stack area that no list has: those from rS on.
 pub fn steps_go_as_lists()
     ensures step { (s : State) (w : Window) → IsMachine s w → IsQuiet s
         → step (as_list_state s) ≡ as_list_step (step s) }
     ensures wild { (s : State) (w : Window) → IsMachine s w → is_wild (as_list_state s) ≡ is_wild s }
+    ensures unread { (s t : State) (w x : Window) → IsMachine s w → IsMachine t x → IsQuiet s → IsQuiet t
+        → as_list_state s ≡ as_list_state t → as_list_step (step s) ≡ as_list_step (step t) }
 {}
 
 /// A step, wild or not, leaves a machine over a window, or gives a call with a tetra. Saved frames are

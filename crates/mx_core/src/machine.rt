@@ -1,6 +1,6 @@
 //! The machine's state, and what is read and written of it.
 
-ghost use Rattle.std.specs.Prelude.{◌≡◌, ◌≢◌, ◌<◌, ◌≤◌, ◌^◌, ◌/◌, Err, false};
+ghost use Rattle.std.specs.Prelude.{◌≡◌, ◌≢◌, ◌<◌, ◌≤◌, ◌^◌, ◌/◌, ◌%◌, Err, false};
 ghost use Rattle.mx_mem.specs.Memory.{tetra_of};
 ghost use Rattle.mx_ring.specs.Bounds.{IsRing};
 ghost use Rattle.mx_ring.specs.Stack as stacks;
@@ -65,7 +65,8 @@ impl Machine {
     /// The address of the next instruction, a multiple of 4.
     #[inline(always)]
     pub fn pc(&self) -> u64
-        ensures { result ≡ (state_of self.now).pc }
+        ensures value { result ≡ (state_of self.now).pc }
+        ensures aligned { result % 4 ≡ 0 }
     {
         self.pc
     }

@@ -1,6 +1,6 @@
-use Rattle.mx_core.proofs.SameSteps.{step-listed}
+use Rattle.mx_core.proofs.SameSteps.{step-listed, step-unread}
 use Rattle.mx_core.proofs.SameWild.{same-wild}
 use Rattle.mx_core.proofs.laws.steps_go_as_lists.Goals as goal
 
 pub returns : goal.returns
-returns c = record { step = step-listed; wild = same-wild }
+returns c = record { step = step-listed; wild = same-wild; unread = step-unread }
