@@ -20,5 +20,5 @@ returns-in-Halted-clause-told g c = λ t ne.
 pub returns-in-Stopped-clause-told : goal.returns-in-Stopped-clause-told
 returns-in-Stopped-clause-told g c = λ t ne.
     stepped-stops c.args.steps c.steps_left.result (console_of c.args.runner.now c.args.dialog.now (g.H.Host.told c.args.host.now)) c.pc-pc.result c.in-Stopped.reason _ _ _
-    c.steps_left.ensures c.if-steps_left-eq0.false (c.pc-pc.ensures ∙ ap (λ k. (state_of k).pc) c.machine.ensures)
+    c.steps_left.ensures c.if-steps_left-eq0.false (c.pc-pc.ensures.value ∙ ap (λ k. (state_of k).pc) c.machine.ensures)
     (ap flags_at c.in-Stopped.ensures.flags) (c.in-Stopped.ensures.told t (λ e. absurd (cc)))

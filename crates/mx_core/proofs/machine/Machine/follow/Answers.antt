@@ -15,7 +15,7 @@ returns-in-Ok-clause-answer c = λ m.
     let u = state_of c.note_where.new.self in
     let w = went_as s t u c.args.i.now c.is_in_segment.result c.requires.fetched c.requires.range c.requires.other (c.in-Ok.ensures.answer (λ e. cc)) c.is_in_segment.ensures c.note_where.ensures in
     let trace = trace_told s t u c.args.i.now c.sight_at-sight.result c.is_in_segment.result c.written.result c.pc.result c.requires.fetched (c.in-Ok.ensures.answer (λ e. cc)) c.is_in_segment.ensures c.note_where.ensures
-    c.sight_at-sight.ensures c.written.ensures c.pc.ensures in
+    c.sight_at-sight.ensures c.written.ensures c.pc.ensures.value in
     ap (λ (t : Trace). (answer.Went t, u)) trace ∙ ap (step_answer s) (sym w)
 
 pub returns-in-Err-Stopped-clause-answer : goal.returns-in-Err-Stopped-clause-answer

@@ -12,12 +12,12 @@ use Rattle.mx_core.proofs.machine.Machine.step.Goals as goal
 pub returns-then-at-clause-answer : goal.returns-then-at-clause-answer
 returns-then-at-clause-answer c = λ m.
     let s = state_of c.args.self.now in
-    let l : 2 ^ 63 ≤ s.pc = omega (arith, c.if-at.true, c.pc-at.ensures) in
+    let l : 2 ^ 63 ≤ s.pc = omega (arith, c.if-at.true, c.pc-at.ensures.value) in
     ap (step_answer s) (sym (step_negative s l))
 
 pub returns-in-Trap-clause-answer : goal.returns-in-Trap-clause-answer
 returns-in-Trap-clause-answer c = λ m.
     let s = state_of c.args.self.now in
-    let l : s.pc < 2 ^ 63 = omega (arith, c.if-at.false, c.pc-at.ensures) in
+    let l : s.pc < 2 ^ 63 = omega (arith, c.if-at.false, c.pc-at.ensures.value) in
     let traps : operation_in (fetched s) ≡ op.Trap = ap operation_in (sym c.fetched-i.ensures) ∙ sym c.operation.ensures ∙ c.in-Trap.is in
     ap (λ (call : TrapCall). (answer.Trap call, s)) c.call.ensures ∙ ap (step_answer s) (sym (step_traps s l traps))
