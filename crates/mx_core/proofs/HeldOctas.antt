@@ -1,5 +1,5 @@
 -- What each machine holds are octas.
-use Rattle.std.proofs.Common.{◌≡◌, ℕ, ◌<◌, ◌^◌}
+use Rattle.std.proofs.Common.{ℕ, ◌<◌, ◌^◌}
 use Rattle.std.specs.Prelude.{slice_index}
 use Rattle.mx_mem.specs.Memory.{octa_at}
 use Rattle.mx_ring.proofs.OctaLists.{EachIsOcta, are-octas}
