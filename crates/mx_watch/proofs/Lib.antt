@@ -1,0 +1,3 @@
+pub mod Profiled
+pub mod Covered
+pub mod Noted

@@ -1,0 +1,17 @@
+-- How many addresses were carried out.
+use Rattle.std.specs.Prelude.{ℕ, false, List, [], ◌∷◌, ◌++◌, codes, decimal, length}
+use Rattle.std.specs.Ordering.{nat_cmp}
+use Rattle.std.specs.BTreeSet.{insert_key}
+use Rattle.mx_core.specs.declared.trace.Trace.{Trace}
+use Rattle.mx_watch.specs.Watching.{Watching}
+
+-- the addresses of the steps beside those that were there, each once, in ascending order
+unfoldable pub addresses_after : List ℕ → List Trace → List ℕ
+addresses_after addresses [] = addresses
+addresses_after addresses (t ∷ ts) = addresses_after (insert_key nat_cmp addresses t.pc) ts
+
+abbrev pub cover_text : ℕ → List ℕ
+cover_text n = codes "cover " ++ decimal n ++ codes "\n"
+
+abbrev pub covering : List ℕ → Watching
+covering addresses = record { text = λ h. cover_text (length (addresses_after addresses h)); full = λ h. false }

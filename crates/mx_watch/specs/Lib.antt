@@ -1,0 +1,4 @@
+pub mod Watching
+pub mod Profiles
+pub mod Covers
+pub mod Writings

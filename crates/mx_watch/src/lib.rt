@@ -1,0 +1,14 @@
+//! Watchers of a run: each is told the traces of its steps, one after another, and gives a report.
+#![tactic(auto)]
+
+mod cover;
+mod numbers;
+mod profile;
+mod telling;
+mod watcher;
+mod writes;
+
+pub use cover::Cover;
+pub use profile::Profile;
+pub use watcher::{Watcher, Wish};
+pub use writes::{Write, Writes};
