@@ -4,7 +4,7 @@ use Rattle.std.specs.BTreeSet.{insert_key}
 use Rattle.std.specs.Ordering.{nat_cmp}
 use Rattle.mx_core.specs.declared.trace.Trace.{Trace}
 use Rattle.mx_watch.specs.Covers.{addresses_after, covering}
-use Rattle.mx_watch.specs.Watching.{Watching, later}
+use Rattle.mx_watch.specs.Watching.{later}
 
 pub cover_told : (addresses after : List ℕ) (t : Trace) → after ≡ insert_key nat_cmp addresses t.pc → covering after ≡ later t (covering addresses)
 unfolding addresses_after

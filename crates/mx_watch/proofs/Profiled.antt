@@ -1,11 +1,11 @@
 -- A profile that was told a trace.
-use Rattle.std.proofs.Common.{◌≡◌, ℕ, zero, suc, ◌+◌, List, [], ◌∷◌, ◌++◌, slice_index, arith, ap, refl, ◌∙◌, sym}
+use Rattle.std.proofs.Common.{◌≡◌, ℕ, zero, suc, ◌+◌, List, [], ◌∷◌, ◌++◌, slice_index, arith, ap, ◌∙◌, sym}
 use Rattle.std.specs.List.{flat_map, range_with_len}
 use Rattle.std.proofs.lemmas.Grind.{flat_map-append}
 use Rattle.std.proofs.lemmas.List.{append_assoc, append-nil}
 use Rattle.mx_core.specs.declared.trace.Trace.{Trace}
 use Rattle.mx_watch.specs.Profiles.{code_in, one_more, counts_after, profile_line, profile_lines, profile_text, profiling}
-use Rattle.mx_watch.specs.Watching.{Watching, later}
+use Rattle.mx_watch.specs.Watching.{later}
 
 pub profile_told : (counts after : List ℕ) (t : Trace) → after ≡ one_more counts (code_in t) → profiling after ≡ later t (profiling counts)
 unfolding counts_after

@@ -1,6 +1,6 @@
 //! How many addresses were carried out.
 
-ghost use Rattle.std.specs.Prelude.{◌≡◌, ◌++◌, OnOk};
+ghost use Rattle.std.specs.Prelude.{◌≡◌, ◌++◌, [], IfOk, OnOk};
 ghost use Rattle.mx_watch.specs.Covers as spec;
 ghost use Rattle.mx_watch.specs.Covers.{covering};
 
@@ -22,7 +22,9 @@ impl Cover {
     /// A cover of no steps.
     ///
     /// Errors: out of memory.
-    pub fn new(alloc: Global) -> Result<Cover, NoMemory> {
+    pub fn new(alloc: Global) -> Result<Cover, NoMemory>
+        ensures { IfOk result (λ c. ⟦<Cover as Watcher>⟧.meaning c ≡ covering []) }
+    {
         Ok(Cover {
             addresses: BTreeSet::new(alloc),
             alloc,

@@ -1,6 +1,6 @@
 //! How often each instruction was carried out.
 
-ghost use Rattle.std.specs.Prelude.{◌≡◌, ◌++◌, ◌<◌, IfOk, OnOk};
+ghost use Rattle.std.specs.Prelude.{◌≡◌, ◌++◌, ◌<◌, IfOk, OnOk, replicate};
 ghost use Rattle.mx_watch.specs.Profiles as spec;
 ghost use Rattle.mx_watch.specs.Profiles.{profiling};
 
@@ -23,7 +23,9 @@ impl Profile {
     /// A profile of no steps.
     ///
     /// Errors: out of memory.
-    pub fn new(alloc: Global) -> Result<Profile, NoMemory> {
+    pub fn new(alloc: Global) -> Result<Profile, NoMemory>
+        ensures { IfOk result (λ p. ⟦<Profile as Watcher>⟧.meaning p ≡ profiling (replicate 256 0)) }
+    {
         Ok(Profile {
             counts: [0; 256],
             alloc,

@@ -1,6 +1,6 @@
 //! What was written to a part of memory.
 
-ghost use Rattle.std.specs.Prelude.{◌≡◌, ◌≤◌, ◌++◌, OnOk, OnErr, Some, length, nat_le};
+ghost use Rattle.std.specs.Prelude.{◌≡◌, ◌≤◌, ◌++◌, [], IfOk, OnOk, OnErr, Some, length, nat_le};
 ghost use Rattle.mx_watch.specs.Writings as spec;
 ghost use Rattle.mx_watch.specs.Writings.{noting};
 
@@ -38,6 +38,7 @@ impl Writes {
     /// Errors: out of memory.
     pub fn new(alloc: Global, from: u64, to: u64, cap: u32) -> Result<Writes, NoMemory>
         requires { 1 ≤ cap }
+        ensures { IfOk result (λ w. ⟦<Writes as Watcher>⟧.meaning w ≡ noting from to cap []) }
     {
         Ok(Writes {
             from,
