@@ -1,5 +1,5 @@
 -- How many addresses were carried out.
-use Rattle.std.specs.Prelude.{ℕ, false, List, [], ◌∷◌, ◌++◌, codes, decimal, length}
+use Rattle.std.specs.Prelude.{ℕ, false, List, [], ◌∷◌, ◌++◌, codes, decimal, length, map}
 use Rattle.std.specs.Ordering.{nat_cmp}
 use Rattle.std.specs.BTreeSet.{insert_key}
 use Rattle.mx_core.specs.declared.trace.Trace.{Trace}
@@ -15,3 +15,7 @@ cover_text n = codes "cover " ++ decimal n ++ codes "\n"
 
 abbrev pub covering : List ℕ → Watching
 covering addresses = record { text = λ h. cover_text (length (addresses_after addresses h)); full = λ h. false }
+
+-- the address of the instruction of each step, in turn
+abbrev pub addresses_of : List Trace → List ℕ
+addresses_of h = map (λ t. t.pc) h

@@ -2,3 +2,4 @@ pub mod Watching
 pub mod Profiles
 pub mod Covers
 pub mod Writings
+pub mod Listening

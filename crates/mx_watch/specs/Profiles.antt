@@ -33,3 +33,8 @@ profile_text counts = profile_lines counts 0 256
 
 abbrev pub profiling : List ℕ → Watching
 profiling counts = record { text = λ h. profile_text (counts_after counts h); full = λ h. false }
+
+-- how many of these steps fetched an instruction of the code
+unfoldable pub occurrences : ℕ → List Trace → ℕ
+occurrences code [] = 0
+occurrences code (t ∷ ts) = (if code_in t == code then 1 else 0) + occurrences code ts

@@ -2,6 +2,7 @@
 #![tactic(auto)]
 
 mod cover;
+mod laws;
 mod numbers;
 mod profile;
 mod telling;
@@ -9,6 +10,7 @@ mod watcher;
 mod writes;
 
 pub use cover::Cover;
+pub use laws::{addresses_stand_once, codes_are_counted, writes_stand_in_turn};
 pub use profile::Profile;
 pub use watcher::{Watcher, Wish};
 pub use writes::{Write, Writes};

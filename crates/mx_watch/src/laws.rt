@@ -1,0 +1,32 @@
+//! What the three watchers come to, in words of the traces alone.
+
+ghost use Rattle.std.specs.Prelude.{◌≡◌, ◌<◌, ◌-◌, ◌^◌, ◌↔◌, ℕ, List, [], min, replicate, slice_index};
+ghost use Rattle.std.specs.List.{Contains, flat_map};
+ghost use Rattle.std.specs.List.Sorted.{IsStrictlySortedBy};
+ghost use Rattle.std.specs.Ordering.{nat_cmp};
+ghost use Rattle.mx_core.specs.declared.trace.Trace.{Trace};
+ghost use Rattle.mx_watch.specs.Covers.{addresses_after, addresses_of};
+ghost use Rattle.mx_watch.specs.Profiles.{counts_after, occurrences};
+ghost use Rattle.mx_watch.specs.Writings.{write_of, writes_after};
+
+/// A new profile counts how many of the traces have a code, up to 2^64 - 1.
+#[tactic(auto, using(crate::proofs::CountLaws::counting_laws))]
+pub fn codes_are_counted()
+    ensures { (h : List Trace) (code : ℕ) → code < 256 →
+        slice_index (counts_after (replicate 256 0) h) code ≡ min (occurrences code h) (2 ^ 64 - 1) }
+{}
+
+/// A new cover has the addresses of the traces, each once: they ascend, and an address is among them exactly where
+/// it is that of a trace. So their number is that of the different addresses.
+#[tactic(auto, using(crate::proofs::AddressLaws::address_laws))]
+pub fn addresses_stand_once()
+    ensures ascending { (h : List Trace) → IsStrictlySortedBy nat_cmp (addresses_after [] h) }
+    ensures those { (h : List Trace) (a : ℕ) → Contains (addresses_after [] h) a ↔ Contains (addresses_of h) a }
+{}
+
+/// New `Writes` have the writes of the traces to their part of memory, in turn.
+#[tactic(auto, using(crate::proofs::WriteLaws::write_laws))]
+pub fn writes_stand_in_turn()
+    ensures { (from to : ℕ) (h : List Trace) →
+        writes_after from to [] h ≡ flat_map (λ t. write_of from to t.pc t.writes) h }
+{}
