@@ -78,8 +78,9 @@ or-false false = refl
 
 pub those : (h : List Trace) (a : ℕ) → Contains (addresses_after [] h) a ↔ Contains (addresses_of h) a
 those h a =
-    let same = any-after h a [] ∙ or-false (list_any (eqb a) (addresses_of h)) in
-    (λ c. Contains-from_any exact_unsigned_eq a (addresses_of h) (sym same ∙ list_any-from_Contains nat_eq_equiv a (addresses_after [] h) c),
-    λ c. Contains-from_any exact_unsigned_eq a (addresses_after [] h) (same ∙ list_any-from_Contains nat_eq_equiv a (addresses_of h) c))
+    let same = any-after h a [] ∙ or-false (list_any (eqb a) (addresses_of h)) in (
+      λ c. Contains-from_any exact_unsigned_eq a (addresses_of h) (sym same ∙ list_any-from_Contains nat_eq_equiv a (addresses_after [] h) c),
+      λ c. Contains-from_any exact_unsigned_eq a (addresses_after [] h) (same ∙ list_any-from_Contains nat_eq_equiv a (addresses_of h) c),
+    )
 
 pub ruleset address_laws = (ascending)

@@ -5,3 +5,5 @@ pub mod CountLaws
 pub mod AddressLaws
 pub mod WriteLaws
 pub mod OneTold
+pub mod Passed
+pub mod Front

@@ -1,7 +1,7 @@
 -- A list of watchers, one of which is told a trace or leaves.
 use Rattle.std.proofs.Common.{◌≡◌, ◌<◌, ◌+◌, ℕ, suc, List, [], ◌∷◌, ◌++◌, map, take, drop, length, get_or, set, remove, arith, ap, ◌∙◌, sym}
 use Rattle.std.proofs.Math.Seq.{map-set_same}
-use Rattle.std.proofs.lemmas.List.{map-set, map-append, take-map, drop-map, get_or-map, get_or_default, length-map}
+use Rattle.std.proofs.lemmas.List.{map-set, map-append, take-map, drop-map, get_or-map}
 use Rattle.mx_core.specs.declared.trace.Trace.{Trace}
 use Rattle.mx_watch.specs.Watching.{Watching, later}
 
@@ -12,8 +12,7 @@ map-removed f xs ys i e =
 pub map-told : {A : Type 0} (f : A → Watching) (xs : List A) (i : ℕ) (x y : A) (t : Trace) (d : Watching) → i < length xs → x ≡ get_or xs i x → f y ≡ later t (f x)
     → map f (set xs i y) ≡ set (map f xs) i (later t (get_or (map f xs) i d))
 map-told f xs i x y t d inside at e =
-    let long : length (map f xs) ≡ length xs = length-map f xs in
-    let here : f x ≡ get_or (map f xs) i d = ap f at ∙ sym (get_or-map f xs i x) ∙ get_or_default (map f xs) i (f x) d (rw long inside) in
+    let here : f x ≡ get_or (map f xs) i d = ap f at ∙ sym (get_or-map f xs i x d inside) in
     map-set f xs i y ∙ ap (λ w. set (map f xs) i w) (e ∙ ap (later t) here)
 
 pub map-untold : {A : Type 0} (f : A → Watching) (xs : List A) (i : ℕ) (x y : A) → x ≡ get_or xs i x → f y ≡ f x → map f (set xs i y) ≡ map f xs

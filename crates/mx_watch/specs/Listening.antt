@@ -1,5 +1,5 @@
 -- Watchers that listen, and the reports of those that were full.
-use Rattle.std.specs.Prelude.{ℕ, if◌then◌else◌, List, [], ◌∷◌, ◌++◌}
+use Rattle.std.specs.Prelude.{ℕ, ◌+◌, if◌then◌else◌, List, [], ◌∷◌, ◌++◌, take, drop}
 use Rattle.std.specs.List.{flat_map, zip}
 use Rattle.mx_core.specs.declared.trace.Trace.{Trace}
 use Rattle.mx_watch.specs.Watching.{Watching, later}
@@ -22,6 +22,10 @@ still_listening t ws = flat_map (stays t) ws
 
 abbrev pub reports_at : Trace → List (ℕ × Watching) → List Report
 reports_at t ws = flat_map (leaves t) ws
+
+-- the one at an index is told a trace
+abbrev pub told_at : Trace → ℕ → List (ℕ × Watching) → List (ℕ × Watching)
+told_at t at ws = take at ws ++ still_listening t (take 1 (drop at ws)) ++ drop (at + 1) ws
 
 abbrev pub told : Trace → Listening → Listening
 told t l = record { left = still_listening t l.left; kept = l.kept ++ reports_at t l.left }

@@ -1,8 +1,9 @@
 //! Watchers that are told a trace.
 
-ghost use Rattle.std.specs.Prelude.{◌≡◌, ◌<◌, ◌++◌, [], ◌∷◌, IfOk, OnOk, OnErr, length, map, slice_index_or, slice_set};
-ghost use Rattle.std.specs.List.{remove};
+ghost use Rattle.std.specs.Prelude.{◌≡◌, ◌<◌, ◌+◌, ◌++◌, [], ◌∷◌, IfOk, OnOk, OnErr, drop, length, map, slice_index, slice_index_or, slice_set, take};
+ghost use Rattle.std.specs.List.{remove, zip};
 ghost use Rattle.mx_watch.specs.Watching.{Watching, later, wish_if};
+ghost use Rattle.mx_watch.specs.Listening.{listening, reports_at, still_listening, told, told_at};
 
 use crate::{Watcher, Wish};
 use mx_core::Trace;
@@ -43,6 +44,7 @@ fn tell_at(watchers: &mut Vec<Box<dyn Watcher>>, at: usize, t: &Trace) -> Result
     ensures ok { (d : Watching) → OnOk result (map meaning watchers.new.items ≡
         slice_set (map meaning watchers.old.items) at (later t.now (slice_index_or (map meaning watchers.old.items) at d))) }
     ensures err { OnErr result (map meaning watchers.new.items ≡ map meaning watchers.old.items) }
+    ensures count { length watchers.new.items ≡ length watchers.old.items }
 {
     tell_one(&mut watchers[at], t)
 }
@@ -59,7 +61,104 @@ fn report_at(watchers: &Vec<Box<dyn Watcher>>, at: usize) -> Result<Bytes, NoMem
 #[tactic(auto, using(crate::proofs::OneTold::one_told))]
 fn leave(watchers: &mut Vec<Box<dyn Watcher>>, at: usize)
     requires { at < length watchers.now.items }
-    ensures { map meaning watchers.new.items ≡ remove (map meaning watchers.old.items) at }
+    ensures left { map meaning watchers.new.items ≡ remove (map meaning watchers.old.items) at }
+    ensures count { length watchers.new.items + 1 ≡ length watchers.old.items }
 {
     watchers.remove(at);
+}
+
+/// Keeps the report of the watcher at an index.
+fn keep_report(
+    watchers: &Vec<Box<dyn Watcher>>,
+    places: &Vec<usize>,
+    kept: &mut Reports,
+    at: usize,
+) -> Result<(), NoMemory>
+    requires inside { at < length watchers.now.items }
+    requires same { length places.now.items ≡ length watchers.now.items }
+    ensures { (d : Watching) → OnOk result (kept.new ≡ kept.old ++ record {
+      place = slice_index places.now.items at;
+      text = (slice_index_or (map meaning watchers.now.items) at d).text [];
+    } ∷ []) }
+{
+    let text = report_at(watchers, at)?;
+    kept.push(Report {
+        place: places[at],
+        text,
+    })
+}
+
+/// Keeps the report of the watcher at an index, which then leaves the list with its place.
+fn dismiss(
+    watchers: &mut Vec<Box<dyn Watcher>>,
+    places: &mut Vec<usize>,
+    kept: &mut Reports,
+    at: usize,
+) -> Result<(), NoMemory>
+    requires inside { at < length watchers.now.items }
+    requires same { length places.now.items ≡ length watchers.now.items }
+    ensures left { OnOk result (map meaning watchers.new.items ≡ remove (map meaning watchers.old.items) at) }
+    ensures places { OnOk result (places.new.items ≡ remove places.old.items at) }
+    ensures kept { (d : Watching) → OnOk result (kept.new ≡ kept.old ++ record {
+      place = slice_index places.old.items at;
+      text = (slice_index_or (map meaning watchers.old.items) at d).text [];
+    } ∷ []) }
+    ensures same { length places.new.items ≡ length watchers.new.items }
+{
+    keep_report(watchers, places, kept, at)?;
+    leave(watchers, at);
+    places.remove(at);
+    Ok(())
+}
+
+/// Tells the watcher at an index a trace. Where it is full, its report is kept and it leaves the list with its
+/// place. Answers the index of the one behind it.
+fn pass(
+    watchers: &mut Vec<Box<dyn Watcher>>,
+    places: &mut Vec<usize>,
+    kept: &mut Reports,
+    at: usize,
+    t: &Trace,
+) -> Result<usize, NoMemory>
+    requires inside { at < length watchers.now.items }
+    requires same { length places.now.items ≡ length watchers.now.items }
+    ensures left { OnOk result (zip places.new.items (map meaning watchers.new.items) ≡
+        told_at t.now at (zip places.old.items (map meaning watchers.old.items))) }
+    ensures kept { OnOk result (kept.new ≡
+        kept.old ++ reports_at t.now (take 1 (drop at (zip places.old.items (map meaning watchers.old.items))))) }
+    ensures next { IfOk result (λ next. next ≡ at +
+        length (still_listening t.now (take 1 (drop at (zip places.old.items (map meaning watchers.old.items)))))) }
+    ensures same { length places.new.items ≡ length watchers.new.items }
+{
+    match tell_at(watchers, at, t) {
+        Ok(Wish::More) => Ok(at + 1),
+        Ok(Wish::Full) => {
+            dismiss(watchers, places, kept, at)?;
+            Ok(at)
+        }
+        Err(_) => Err(NoMemory),
+    }
+}
+
+/// Tells each watcher a trace, in order. The report of one that is full is kept, and it leaves the list with its
+/// place.
+///
+/// Errors: out of memory.
+#[tactic(auto, using(crate::proofs::Front::turns))]
+pub(crate) fn tell_all(
+    watchers: &mut Vec<Box<dyn Watcher>>,
+    places: &mut Vec<usize>,
+    kept: &mut Reports,
+    t: &Trace,
+) -> Result<(), NoMemory>
+    requires { length places.now.items ≡ length watchers.now.items }
+    ensures told { OnOk result (listening places.new.items (map meaning watchers.new.items) kept.new ≡
+        told t.now (listening places.old.items (map meaning watchers.old.items) kept.old)) }
+    ensures same { length places.new.items ≡ length watchers.new.items }
+{
+    let mut at = 0;
+    for _turn in 0..watchers.len() {
+        at = pass(watchers, places, kept, at, t)?;
+    }
+    Ok(())
 }
