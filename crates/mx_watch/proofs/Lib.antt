@@ -7,3 +7,4 @@ pub mod WriteLaws
 pub mod OneTold
 pub mod Passed
 pub mod Front
+pub mod Heard

@@ -13,7 +13,7 @@ profile_told counts after t e = ap profiling e
 
 pub ruleset counting = (profile_told)
 
-range-more : (a n : ℕ) → range_with_len a (suc n) ≡ range_with_len a n ++ (a + n) ∷ []
+pub range-more : (a n : ℕ) → range_with_len a (suc n) ≡ range_with_len a n ++ (a + n) ∷ []
 range-more a zero = let same : a ≡ a + 0 = omega arith in ap (λ k. k ∷ []) same
 range-more a (suc n) =
     let last : a + 1 + n ≡ a + suc n = omega arith in

@@ -1,6 +1,6 @@
 -- Watchers that listen, and the reports of those that were full.
-use Rattle.std.specs.Prelude.{ℕ, ◌+◌, if◌then◌else◌, List, [], ◌∷◌, ◌++◌, take, drop}
-use Rattle.std.specs.List.{flat_map, zip}
+use Rattle.std.specs.Prelude.{ℕ, ◌+◌, if◌then◌else◌, List, [], ◌∷◌, ◌++◌, take, drop, length, map}
+use Rattle.std.specs.List.{flat_map, range_with_len, zip}
 use Rattle.mx_core.specs.declared.trace.Trace.{Trace}
 use Rattle.mx_watch.specs.Watching.{Watching, later}
 use Rattle.mx_watch.specs.declared.telling.Report.{Report}
@@ -37,3 +37,11 @@ watched (t ∷ ts) l = watched ts (told t l)
 
 abbrev pub listening : List ℕ → List Watching → List Report → Listening
 listening places watchers kept = record { left = zip places watchers; kept = kept }
+
+-- at the start each has its index in the list as its place
+abbrev pub starting : List Watching → List Report → Listening
+starting watchers kept = listening (range_with_len 0 (length watchers)) watchers kept
+
+-- those that are left, without their places
+abbrev pub watchers_left : Listening → List Watching
+watchers_left l = map (λ w. w.1) l.left

@@ -7,10 +7,13 @@ mod numbers;
 mod profile;
 mod telling;
 mod watcher;
+mod watching;
 mod writes;
 
 pub use cover::Cover;
 pub use laws::{addresses_stand_once, codes_are_counted, writes_stand_in_turn};
 pub use profile::Profile;
+pub use telling::{Report, Reports};
 pub use watcher::{Watcher, Wish};
+pub use watching::watch;
 pub use writes::{Write, Writes};
