@@ -40,6 +40,7 @@ pub mod Validity
 pub mod FrontLaw
 pub mod Weights
 pub mod OperandWeights
+pub mod FieldBytes
 pub mod StatementRooms
 pub mod SourceWeights
 pub mod WrittenLengths

@@ -39,26 +39,19 @@ primary-list front text part es k d e p a =
     product-list front text part es (with_strong k e).1 d (with_strong k e).0 p s.plain (record { front = s.front; part = s.part; before = s.before; shape = s.whole; spelled = a.spelled ∙ s.spelled })
 
 list-good : (mode : Mode) (front text part : List ℕ) (es done : List Tree) (k : List Waiting) (d : ℕ) → Place front text part es → At mode k d done es part → GoodList (field_end mode k done) front
-list-good operand front text part es done k d p a = refl
 list-good (whole e) front text part es done k d p a = subst (λ x. GoodList (listed (with_weak k e) x) front) (sym a.0) (product-list front text part es k d e p a.1 a.2)
 list-good (digit n) front text part es done k d p a =
     subst (λ x. GoodList (field_end (digit n) k x) front) (sym a.0) (primary-list front text part es k d (number n) p (reshaped k d (OneDigit n) (λ x. Primary x (number n)) part (λ x h. decimal-primary n x (one-digit n x h)) a.1))
 list-good (decimal n) front text part es done k d p a =
     subst (λ x. GoodList (field_end (decimal n) k x) front) (sym a.0) (primary-list front text part es k d (number n) p (reshaped k d (Digits is_digit 10 n) (λ x. Primary x (number n)) part (λ x h. decimal-primary n x h) a.1))
-list-good hash front text part es done k d p a = refl
 list-good (hexadecimal n) front text part es done k d p a =
     subst (λ x. GoodList (field_end (hexadecimal n) k x) front) (sym a.0) (primary-list front text part es k d (number n) p (reshaped k d (Hashed n) (λ x. Primary x (number n)) part (λ x h. hexadecimal-primary n x h) a.1))
-list-good quote front text part es done k d p a = refl
-list-good (character c) front text part es done k d p a = refl
 list-good (symbol word) front text part es done k d p a =
     subst (λ x. GoodList (field_end (symbol word) k x) front) (sym a.0) (primary-list front text part es k d (name word) p (reshaped k d (Letters word) (λ x. Primary x (name word)) part (λ x h. symbol-primary word x h) a.1))
-list-good (slash e) front text part es done k d p a = refl
-list-good (less e) front text part es done k d p a = refl
-list-good (greater e) front text part es done k d p a = refl
-list-good (string fresh) front text part es done k d p a = refl
 list-good closed front text part es done k d p a =
     subst (λ x. Spells front x) (sym a.listed) (subst (λ t. Spells t (es ++ map number a.bytes)) (sym p.spelled)
     (operands text part es (map number a.bytes) p.before (subst (λ t. Operand t (map number a.bytes)) (sym a.shape) (spelled_string a.bytes a.all))))
+list-good mode front text part es done k d p a = refl
 
 placed : (s : State) (front : List ℕ) (h : Holds s front) → Place front h.text h.part h.es
 placed s front h = record { before = h.before; spelled = h.spelled }

@@ -80,7 +80,7 @@ product-some : {text : List ℕ} {e : Tree} → Product text e → 0 < length te
 product-some (primary t e h) = let head = primary-headed t e h in omega (arith, ap length head.spelled)
 product-some (times t word part op l r h w g) = let some = product-some h in omega (arith, length-append t (word ++ part))
 
-sum-some : {text : List ℕ} {e : Tree} → Sum text e → 0 < length text
+pub sum-some : {text : List ℕ} {e : Tree} → Sum text e → 0 < length text
 sum-some (product t e h) = product-some h
 sum-some (sum_plus t b part op l r h w g) = omega (arith, length-append t (b ∷ part))
 

@@ -125,25 +125,19 @@ Level (weak op l ∷ k) = ⊥
 Level (parenthesis ∷ k) = Unit {0}
 
 pub plain-settled : (k : List Waiting) (e : Tree) → Plain k → with_strong k e ≡ (e, k)
-plain-settled [] e h = refl
 plain-settled (sign op ∷ k) e h = absurd h
 plain-settled (strong op l ∷ k) e h = absurd h
-plain-settled (weak op l ∷ k) e h = refl
-plain-settled (parenthesis ∷ k) e h = refl
+plain-settled k e h = refl
 
 pub level-plain : (k : List Waiting) → Level k → Plain k
 level-plain [] h = tt
-level-plain (sign op ∷ k) h = absurd h
-level-plain (strong op l ∷ k) h = absurd h
-level-plain (weak op l ∷ k) h = absurd h
 level-plain (parenthesis ∷ k) h = tt
+level-plain k h = absurd h
 
 level-summed : (k : List Waiting) (e : Tree) → Level k → with_weak k e ≡ (e, k)
 level-summed [] e h = refl
-level-summed (sign op ∷ k) e h = absurd h
-level-summed (strong op l ∷ k) e h = absurd h
-level-summed (weak op l ∷ k) e h = absurd h
 level-summed (parenthesis ∷ k) e h = refl
+level-summed k e h = absurd h
 
 -- No primary begins with `/`.
 pub record Headed (text : List ℕ) : Type 0 where
@@ -160,9 +154,7 @@ letter-other b h = grind (arith, nat_tests)
 
 pub sign-other : (b : ℕ) (op : UnOp) → Sign b op → (b == 47) ≡ false
 sign-other b op plus = refl
-sign-other b op minus = refl
-sign-other b op not = refl
-sign-other b op register = refl
+sign-other b op _ = refl
 
 pub constant-headed : (text : List ℕ) (n : ℕ) → Constant text n → Headed text
 constant-headed text n (decimal_digits [] some all) = absurd (omega arith)
@@ -181,9 +173,7 @@ primary-headed text e (signed b op t x s h) = record { b = b; bs = t; spelled = 
 
 pub sign-step : (b : ℕ) (op : UnOp) (k : List Waiting) (d : ℕ) (es : List Tree) → Sign b op → move (st operand k d es) b ≡ Ok (st operand (sign op ∷ k) d es)
 sign-step b op k d es plus = refl
-sign-step b op k d es minus = refl
-sign-step b op k d es not = refl
-sign-step b op k d es register = refl
+sign-step b op k d es _ = refl
 
 -- after `/` stands what stands after the operator, unless it is `/`
 pub slash-move : (l : Tree) (k : List Waiting) (d : ℕ) (es : List Tree) (b : ℕ) → (b == 47) ≡ false → move (st (slash l) k d es) b ≡ move (st operand (strong Div l ∷ k) d es) b

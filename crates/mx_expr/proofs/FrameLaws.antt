@@ -12,8 +12,7 @@ finished-push k (e ∷ fs) f x = ap (value_through k e) (finished-push k fs f x)
 
 passed-err : (k : Knowledge) (f : Frame) (e : ExprFault) → value_through k f (Err e) ≡ Err e
 passed-err k (Operand op) e = refl
-passed-err k (Left op right) e = refl
-passed-err k (Right op left) e = refl
+passed-err k f e = refl
 
 pub finished-err : (k : Knowledge) (fs : List Frame) (e : ExprFault) → value_after k fs (Err e) ≡ Err e
 finished-err k [] e = refl

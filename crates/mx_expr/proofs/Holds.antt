@@ -179,10 +179,6 @@ weakly-good front text part es d b op q p s w =
     (refl, record { level = s.level; front = s.front; part = s.part; b = b; whole = s.whole; operator = w; before = s.before; spelled = grown s.front s.part (b ∷ []) part s.spelled })
 
 enclosed-good : (front text part : List ℕ) (es : List Tree) (d : ℕ) (x : Tree) (k : List Waiting) → Place front text (part ++ 41 ∷ []) es → SumIs d part (x, k) → Good (enclosed (x, k) d es) front
-enclosed-good front text part es d x [] p s = refl
-enclosed-good front text part es d x (sign op ∷ k) p s = refl
-enclosed-good front text part es d x (strong op l ∷ k) p s = refl
-enclosed-good front text part es d x (weak op l ∷ k) p s = refl
 enclosed-good front text part es d x (parenthesis ∷ k) p s =
     let o = s.before in
     let less : d - 1 ≡ o.below = omega (arith, o.deeper) in
@@ -195,6 +191,7 @@ enclosed-good front text part es d x (parenthesis ∷ k) p s =
       shape = spelled_enclosed s.part x s.whole;
       spelled = grown s.front s.part (41 ∷ []) part s.spelled ∙ ap (λ t. t ++ (s.part ++ 41 ∷ [])) o.spelled ∙ append_assoc o.front (40 ∷ []) (s.part ++ 41 ∷ []);
     }))
+enclosed-good front text part es d x k p s = refl
 
 pub whole-sum : (d : ℕ) (part : List ℕ) (x : Tree) → SumIs d part (x, []) → Sum part x
 whole-sum d part x s = subst (λ t. Sum t x) (sym (s.spelled ∙ ap (λ t. t ++ s.part) s.before.1)) s.whole

@@ -53,7 +53,6 @@ value-small : (b : ℕ) → digit_value b ≤ b
 value-small b = grind (arith, nat_tests)
 
 pub wide-stops : {s : State} {k : List Waiting} {d : ℕ} {es : List Tree} → Wants s k d es → (text rest : List ℕ) (n : ℕ) → Constant text n → 2 ^ 64 ≤ n → steps s (text ++ rest) ≡ Err TooWide
-wide-stops w text rest n (decimal_digits [] some all) h = absurd (omega arith)
 wide-stops w text rest n (decimal_digits (b ∷ []) some all) h = let small : digit_value b < 10 = digit-small b (and_parts _ _ all).0 in absurd (omega (arith, h, small))
 wide-stops {s = s} {k = k} {d = d} {es = es} w text rest n (decimal_digits (b ∷ c ∷ bs) some all) h =
     let one : is_digit b ≡ true = (and_parts _ _ all).0 in
@@ -68,7 +67,6 @@ wide-stops {s = s} {k = k} {d = d} {es = es} w text rest n (decimal_digits (b �
     let h2 : 2 ^ 64 ≤ fold (λ v x. v * 10 + digit_value x) ((b - 48) * 10 + digit_value c) bs = subst (λ v. 2 ^ 64 ≤ fold (λ v x. v * 10 + digit_value x) (v * 10 + digit_value c) bs) (sym e) h in
     let third : steps (st (decimal ((b - 48) * 10 + digit_value c)) k d es) (bs ++ rest) ≡ Err TooWide = wide-decimal ((b - 48) * 10 + digit_value c) bs rest k d es (and_parts _ _ later).1 (omega (arith, e, small, small2)) h2 in
     steps-first _ _ b (c ∷ (bs ++ rest)) first ∙ steps-first _ _ c (bs ++ rest) second ∙ third
-wide-stops w text rest n (hexadecimal_digits [] some all) h = absurd (omega arith)
 wide-stops {s = s} {k = k} {d = d} {es = es} w text rest n (hexadecimal_digits (b ∷ bs) some all) h =
     let one : is_hexadecimal b ≡ true = (and_parts _ _ all).0 in
     let first : step s 35 ≡ Ok (st hash k d es) = step-wants w 35 refl refl in
@@ -77,6 +75,7 @@ wide-stops {s = s} {k = k} {d = d} {es = es} w text rest n (hexadecimal_digits (
     let h2 : 2 ^ 64 ≤ fold (λ v x. v * 16 + digit_value x) (digit_value b) bs = subst (λ v. 2 ^ 64 ≤ fold (λ v x. v * 16 + digit_value x) v bs) (sym e) h in
     steps-first _ _ 35 (b ∷ (bs ++ rest)) first ∙ steps-first _ _ b (bs ++ rest) second
     ∙ wide-hexadecimal (digit_value b) bs rest k d es (and_parts _ _ all).1 (omega (arith, value-small b, hexadecimal-small b one)) h2
+wide-stops w text rest n _ h = absurd (omega arith)
 
 deep-stops : {s : State} {k : List Waiting} {d : ℕ} {es : List Tree} → Wants s k d es → (rest : List ℕ) → 255 ≤ d → steps s (40 ∷ rest) ≡ Err TooDeep
 deep-stops (at_operand k d es) rest h = let t : nat_le 255 d ≡ true = le-leb 255 d h in steps-refused _ TooDeep 40 rest (rw t refl)

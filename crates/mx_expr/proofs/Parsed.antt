@@ -22,14 +22,11 @@ use Rattle.mx_expr.proofs.Exact.{reading-ok, reading-err, list-read, fault-read}
 -- The digits of local labels are 0 to 9.
 mutual
   primary-digits : {text : List ℕ} {e : Tree} → Primary text e → HasDigits e
-  primary-digits (constant t n h) = tt
-  primary-digits (character c) = tt
-  primary-digits (symbol b t h a) = tt
   primary-digits (last_label b h) = omega (arith, digit-small b h)
   primary-digits (next_label b h) = omega (arith, digit-small b h)
-  primary-digits place = tt
   primary-digits (enclosed t e h) = sum-digits h
   primary-digits (signed b op t e s h) = primary-digits h
+  primary-digits _ = tt
 
   product-digits : {text : List ℕ} {e : Tree} → Product text e → HasDigits e
   product-digits (primary t e h) = primary-digits h

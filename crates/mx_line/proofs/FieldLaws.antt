@@ -44,9 +44,7 @@ unquoted (b ∷ bs) h = let both = and_parts (is_no_quote b) (list_all is_no_quo
 
 none-of : (x y z : Bool) → not (x || y || z) ≡ true → (x ≡ false) × (y ≡ false) × (z ≡ false)
 none-of false false false h = (refl, refl, refl)
-none-of true y z h = absurd (cc)
-none-of false true z h = absurd (cc)
-none-of false false true h = absurd (cc)
+none-of x y z h = absurd (cc)
 
 other-byte : (b : ℕ) (rest : List ℕ) → is_other b ≡ true → field_length (b ∷ rest) ≡ more 1 (field_length rest)
 unfolding field_from
@@ -87,9 +85,8 @@ open-string front inner f h = measured front f (34 ∷ inner) ∙ ap (λ r. more
 
 unclosed : (after : List ℕ) → closes after ≡ false → field_from constant after ≡ Err OpenChar
 unfolding field_from
-unclosed [] h = refl
-unclosed (b ∷ []) h = refl
 unclosed (b ∷ c ∷ bs) h = ap (λ t. more 1 (cond t (more 1 (field_from nothing bs)) (Err OpenChar))) h
+unclosed after h = refl
 
 pub open-char : (front after : List ℕ) → IsField front → closes after ≡ false → field_length (front ++ 39 ∷ after) ≡ Err OpenChar
 unfolding field_from
@@ -157,11 +154,7 @@ grown v w b bs grow s c d (Err OpenString) (inside e f) = s e f
 grown v w b bs grow s c d (Err OpenChar) (opened_char bytes after e l f) = opened_char (b ∷ bytes) after (ap (λ t. b ∷ t) e) (grow bytes l) f
 grown v w b bs grow s c d (Err OpenChar) (at_byte e f) = c e f
 grown v w b bs grow s c d (Err OpenChar) (at_close e f) = d e f
-grown v w b bs grow s c d (Err TooLong) h = h
-grown v w b bs grow s c d (Err BadLabel) h = h
-grown v w b bs grow s c d (Err BadLocal) h = h
-grown v w b bs grow s c d (Err BadOpcode) h = h
-grown v w b bs grow s c d (Err NoOpcode) h = h
+grown v w b bs grow s c d r h = h
 
 from-quote : (bs : List ℕ) → Spelled string bs (field_from string bs) → Spelled nothing (34 ∷ bs) (more 1 (field_from string bs))
 from-quote bs h =

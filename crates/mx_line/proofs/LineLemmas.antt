@@ -18,16 +18,14 @@ onto-before (x ∷ xs) b [] = refl
 onto-before (x ∷ xs) b (p ∷ ps) = refl
 
 more-before : (t : Bool) (line : List ℕ) (b : ℕ) (pieces : List (List ℕ)) → without_empty_last (line ∷ cond t ([] ∷ pieces) (onto_first b pieces)) ≡ line ∷ without_empty_last (cond t ([] ∷ pieces) (onto_first b pieces))
-more-before true [] b pieces = refl
-more-before true (x ∷ xs) b pieces = refl
 more-before false line b pieces = onto-before line b pieces
+more-before true line b pieces = refl
 
 -- a line before another piece
 before : (line rest : List ℕ) → without_empty_last (line ∷ split 10 rest) ≡ line ∷ without_empty_last (split 10 rest)
 unfolding split
-before [] [] = refl
-before (x ∷ xs) [] = refl
 before line (b ∷ bs) = more-before (b == 10) line b (slice_split (λ x. x == 10) bs)
+before line [] = refl
 
 pub first-line : (text line rest : List ℕ) → split 10 text ≡ line ∷ split 10 rest → lines_of text ≡ line ∷ lines_of rest
 unfolding lines_of

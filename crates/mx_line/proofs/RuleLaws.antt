@@ -52,11 +52,7 @@ with-is label op place text gap rest run (Err OpenString) (inside e f) = absurd 
 with-is label op place text gap rest run (Err OpenChar) (opened_char bytes after e l f) = open_char gap rest bytes after run e l f
 with-is label op place text gap rest run (Err OpenChar) (at_byte e f) = absurd (cc)
 with-is label op place text gap rest run (Err OpenChar) (at_close e f) = absurd (cc)
-with-is label op place text gap rest run (Err TooLong) h = absurd h
-with-is label op place text gap rest run (Err BadLabel) h = absurd h
-with-is label op place text gap rest run (Err BadLocal) h = absurd h
-with-is label op place text gap rest run (Err BadOpcode) h = absurd h
-with-is label op place text gap rest run (Err NoOpcode) h = absurd h
+with-is label op place text gap rest run r h = absurd h
 
 operands-are : (label : Option Span) (op : Span) (place : ℕ) (text : List ℕ) → Operands label op place text (operands_at label op place text)
 operands-are label op place text = with-is label op place text (run is_blank text) (past is_blank text) (run-is is_blank text) (field_length (past is_blank text)) (spelled-is nothing (past is_blank text))

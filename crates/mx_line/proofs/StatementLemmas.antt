@@ -79,17 +79,15 @@ past-label place (Some s) op (a, b, d) = omega arith
 
 -- what is listed rests on what stands later
 same-later : (place end : ℕ) (f g : ℕ → List (Result Cut LineFault)) → ((p : ℕ) → place < p → p ≤ end → f p ≡ g p) → (r : Result (Option Cut) LineFault) → CutInOrder place end r → list_with f r ≡ list_with g r
-same-later place end f g h (Err fault) o = refl
-same-later place end f g h (Ok None) o = refl
 same-later place end f g h (Ok (Some cut)) o = let after = past-label place cut.label cut.op.from o.label in ap (λ l. Ok cut ∷ l) (h cut.next (omega arith) o.within)
+same-later place end f g h r o = refl
 
 -- More turns than the line has bytes left change nothing.
 same-list : (line : List ℕ) (m n place : ℕ) → length line < m + place → length line < n + place → place ≤ length line → cuts_within m line place ≡ cuts_within n line place
 unfolding cuts_within
-same-list line zero n place h k l = absurd (omega arith)
-same-list line (suc m) zero place h k l = absurd (omega arith)
 same-list line (suc m) (suc n) place h k l =
     same-later place (length line) (cuts_within m line) (cuts_within n line) (λ p a b. same-list line m n p (omega arith) (omega arith) b) (statement_of line place) (statement-order line place l)
+same-list line m n place h k l = absurd (omega arith)
 
 -- the statements of a line from a place on: the first, and those from its end on
 pub list-is : (line : List ℕ) (place : ℕ) → place ≤ length line → cuts_from line place ≡ list_with (cuts_from line) (statement_of line place)

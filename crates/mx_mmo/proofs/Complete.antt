@@ -47,10 +47,7 @@ walk-spelled phase at rest (Spelled.next item items bytes more sp others) s d e 
 
 ended-first : (at : ℕ) (bytes : List ℕ) → first_item Ended at bytes ≡ Ok None
 ended-first at (a ∷ b ∷ c ∷ d ∷ more) = refl
-ended-first at [] = refl
-ended-first at (a ∷ []) = refl
-ended-first at (a ∷ b ∷ []) = refl
-ended-first at (a ∷ b ∷ c ∷ []) = refl
+ended-first at bytes = refl
 
 -- what is left behind the items of an object
 abbrev pub left_behind : ℕ → List ℕ → Left
@@ -64,9 +61,8 @@ onto-none items left = rw append-nil refl
 
 -- the last item of an object is no spec
 stab-last : (items : List Item) (g : ℕ) (values rest : List ℕ) → EndsLast (items ++ Post g values ∷ Stab ∷ []) rest
-stab-last [] g values rest = tt
-stab-last (item ∷ []) g values rest = tt
 stab-last (item ∷ next ∷ items) g values rest = stab-last (next ∷ items) g values rest
+stab-last items g values rest = tt
 
 pub items-read : (items : List Item) (front rest : List ℕ) → Spelled items front → Reaches Start items → SpecsEnd items → EndsLast items rest →
     items_of Start 0 (front ++ rest) ≡ (items, Ok (left_behind (length front) rest))

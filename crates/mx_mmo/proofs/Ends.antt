@@ -9,8 +9,6 @@ use Rattle.mx_mmo.specs.declared.items.Item.TheVariants.{Load, Spec}
 
 -- an item that is not loaded begins with a lopcode that ends a spec
 ends-before : {item : Item} {bytes : List ℕ} (n : ℕ) (rest : List ℕ) → Spells item bytes → MayFollow (Spec n) item → EndsSpec (bytes ++ rest)
-ends-before n rest (Spells.bare t p) m = absurd m
-ends-before n rest (Spells.quoted t h) m = absurd m
 ends-before n rest (Spells.loc a bytes (SpellsAddress.by_tetra code y t h k)) m = (refl, λ t. omega (arith, t.0))
 ends-before n rest (Spells.loc a bytes (SpellsAddress.by_octa code y x h k)) m = (refl, λ t. omega (arith, t.0))
 ends-before n rest (Spells.skip k h) m = (refl, λ t. omega (arith, t.0))
@@ -25,6 +23,7 @@ ends-before n rest (Spells.spec k front h s) m = (refl, λ t. omega (arith, t.0)
 ends-before n rest (Spells.pre tetras l h) m = (refl, λ t. omega (arith, t.0))
 ends-before n rest (Spells.post g values l k c h) m = (refl, λ t. omega (arith, t.0))
 ends-before n rest Spells.stab m = (refl, λ t. omega (arith, t.0))
+ends-before n rest _ m = absurd m
 
 ends-by : (item : Item) {next : Item} {bytes : List ℕ} (rest : List ℕ) → Spells next bytes → MayFollow item next → EndsItem item (bytes ++ rest)
 ends-by (Spec n) rest s m = ends-before n rest s m

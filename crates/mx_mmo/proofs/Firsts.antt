@@ -27,8 +27,7 @@ record Grown {A : Type 0} (first later : DueOf A) : Type 0 where
 
 same-grown : {A : Type 0} (d : DueOf A) → Grown d d
 same-grown (Ok None) = record { is = tt }
-same-grown (Ok (Some x)) = record { is = refl }
-same-grown (Err f) = record { is = refl }
+same-grown d = record { is = refl }
 
 none-grown : {A : Type 0} (d : DueOf A) → Grown (Ok None) d
 none-grown d = record { is = tt }
@@ -39,21 +38,11 @@ cond-grown false x y x' y' p q = q
 
 tetra-grown : {A : Type 0} (due : ℕ → DueOf A) (more ys : List ℕ) → Grown (on_tetra due more) (on_tetra due (more ++ ys))
 tetra-grown due (a ∷ b ∷ c ∷ d ∷ more) ys = same-grown (due (tetra_from_bytes (a ∷ b ∷ c ∷ d ∷ [])))
-tetra-grown due [] ys = none-grown _
-tetra-grown due (a ∷ []) ys = none-grown _
-tetra-grown due (a ∷ b ∷ []) ys = none-grown _
-tetra-grown due (a ∷ b ∷ c ∷ []) ys = none-grown _
+tetra-grown due more ys = none-grown _
 
 octa-grown : {A : Type 0} (due : ℕ → DueOf A) (more ys : List ℕ) → Grown (on_octa due more) (on_octa due (more ++ ys))
 octa-grown due (a ∷ b ∷ c ∷ d ∷ e ∷ f ∷ g ∷ h ∷ more) ys = same-grown (due (octa_from_bytes (a ∷ b ∷ c ∷ d ∷ e ∷ f ∷ g ∷ h ∷ [])))
-octa-grown due [] ys = none-grown _
-octa-grown due (a ∷ []) ys = none-grown _
-octa-grown due (a ∷ b ∷ []) ys = none-grown _
-octa-grown due (a ∷ b ∷ c ∷ []) ys = none-grown _
-octa-grown due (a ∷ b ∷ c ∷ d ∷ []) ys = none-grown _
-octa-grown due (a ∷ b ∷ c ∷ d ∷ e ∷ []) ys = none-grown _
-octa-grown due (a ∷ b ∷ c ∷ d ∷ e ∷ f ∷ []) ys = none-grown _
-octa-grown due (a ∷ b ∷ c ∷ d ∷ e ∷ f ∷ g ∷ []) ys = none-grown _
+octa-grown due more ys = none-grown _
 
 item-grows : (item : ℕ → Item) (d e : DueOf ℕ) → Grows d e → Grown (item_due item d) (item_due item e)
 item-grows item (Ok None) e h = none-grown _
@@ -107,11 +96,8 @@ lop-grown at (Some lops.Fixrx) y z more ys = cond-grown (y == 0 && (z == 16 || z
 lop-grown at (Some lops.File) y z more ys = file-grown at y z more ys
 lop-grown at (Some lops.Line) y z more ys = same-grown (Ok (Some (Line (256 * y + z), 4)))
 lop-grown at (Some lops.Spec) y z more ys = ended-grows (256 * y + z) (skipped false more) (skipped false (more ++ ys)) (skip-grows false more ys)
-lop-grown at (Some lops.Pre) y z more ys = same-grown (Err (BadLop at))
 lop-grown at (Some lops.Post) y z more ys = cond-grown (y == 0 && nat_le 32 z) _ _ _ _ (post-grown z more ys) (same-grown (Err (BadFields at)))
-lop-grown at (Some lops.Stab) y z more ys = same-grown (Err (BadLop at))
-lop-grown at (Some lops.End) y z more ys = same-grown (Err (BadLop at))
-lop-grown at None y z more ys = same-grown (Err (BadLop at))
+lop-grown at lop y z more ys = same-grown (Err (BadLop at))
 
 due-grown : (phase : Phase) (at a code y z : ℕ) (more ys : List ℕ) → Grown (due_item phase at a code y z more) (due_item phase at a code y z (more ++ ys))
 due-grown Start at a code y z more ys = cond-grown (a == 0x98 && code == 9 && y == 1) _ _ _ _ (pre-grown z more ys) (same-grown (Err (NoPre at)))
@@ -123,10 +109,7 @@ due-grown Ended at a code y z more ys = none-grown _
 
 pub first-grows : (phase : Phase) (at : ℕ) (xs ys : List ℕ) → Grows (first_item phase at xs) (first_item phase at (xs ++ ys))
 first-grows phase at (a ∷ code ∷ y ∷ z ∷ more) ys = (due-grown phase at a code y z more ys).is
-first-grows phase at [] ys = tt
-first-grows phase at (a ∷ []) ys = tt
-first-grows phase at (a ∷ code ∷ []) ys = tt
-first-grows phase at (a ∷ code ∷ y ∷ []) ys = tt
+first-grows phase at xs ys = tt
 
 -- an item takes some of the bytes
 record Within {A : Type 0} (due : DueOf A) (n : ℕ) : Type 0 where
@@ -152,21 +135,11 @@ more-within (Err f) m n l h = fault-within f n
 
 tetra-within : {A : Type 0} (due : ℕ → DueOf A) (more : List ℕ) → ((t : ℕ) → Within (due t) 8) → Within (on_tetra due more) (4 + length more)
 tetra-within due (a ∷ b ∷ c ∷ d ∷ more) h = more-within (due (tetra_from_bytes (a ∷ b ∷ c ∷ d ∷ []))) 8 _ (omega arith) (h _)
-tetra-within due [] h = none-within _
-tetra-within due (a ∷ []) h = none-within _
-tetra-within due (a ∷ b ∷ []) h = none-within _
-tetra-within due (a ∷ b ∷ c ∷ []) h = none-within _
+tetra-within due more h = none-within _
 
 octa-within : {A : Type 0} (due : ℕ → DueOf A) (more : List ℕ) → ((x : ℕ) → Within (due x) 12) → Within (on_octa due more) (4 + length more)
 octa-within due (a ∷ b ∷ c ∷ d ∷ e ∷ f ∷ g ∷ h ∷ more) w = more-within (due (octa_from_bytes (a ∷ b ∷ c ∷ d ∷ e ∷ f ∷ g ∷ h ∷ []))) 12 _ (omega arith) (w _)
-octa-within due [] w = none-within _
-octa-within due (a ∷ []) w = none-within _
-octa-within due (a ∷ b ∷ []) w = none-within _
-octa-within due (a ∷ b ∷ c ∷ []) w = none-within _
-octa-within due (a ∷ b ∷ c ∷ d ∷ []) w = none-within _
-octa-within due (a ∷ b ∷ c ∷ d ∷ e ∷ []) w = none-within _
-octa-within due (a ∷ b ∷ c ∷ d ∷ e ∷ f ∷ []) w = none-within _
-octa-within due (a ∷ b ∷ c ∷ d ∷ e ∷ f ∷ g ∷ []) w = none-within _
+octa-within due more w = none-within _
 
 address-within : (at y z : ℕ) (more : List ℕ) → Within (address_due at y z more) (4 + length more)
 address-within at y z more =
@@ -219,11 +192,8 @@ lop-within at (Some lops.Fixrx) y z more = cond-within (y == 0 && (z == 16 || z 
 lop-within at (Some lops.File) y z more = file-within at y z more
 lop-within at (Some lops.Line) y z more = four-within (Line (256 * y + z)) _
 lop-within at (Some lops.Spec) y z more = spec-within (256 * y + z) (skipped false more) (length more) (skip-within false more)
-lop-within at (Some lops.Pre) y z more = fault-within (BadLop at) _
 lop-within at (Some lops.Post) y z more = cond-within (y == 0 && nat_le 32 z) _ _ _ (post-within z more) (fault-within (BadFields at) _)
-lop-within at (Some lops.Stab) y z more = fault-within (BadLop at) _
-lop-within at (Some lops.End) y z more = fault-within (BadLop at) _
-lop-within at None y z more = fault-within (BadLop at) _
+lop-within at lop y z more = fault-within (BadLop at) _
 
 due-within : (phase : Phase) (at a code y z : ℕ) (more : List ℕ) → Within (due_item phase at a code y z more) (4 + length more)
 due-within Start at a code y z more = cond-within (a == 0x98 && code == 9 && y == 1) _ _ _ (pre-within z more) (fault-within (NoPre at) _)
@@ -240,10 +210,7 @@ pub first-within : (phase : Phase) (at : ℕ) (xs : List ℕ) → IsWithin (firs
 first-within phase at (a ∷ code ∷ y ∷ z ∷ more) =
     let e = four-more a code y z (4 + length more) more refl in
     subst (λ (n : ℕ). IsWithin (due_item phase at a code y z more) n) e (due-within phase at a code y z more).is
-first-within phase at [] = tt
-first-within phase at (a ∷ []) = tt
-first-within phase at (a ∷ code ∷ []) = tt
-first-within phase at (a ∷ code ∷ y ∷ []) = tt
+first-within phase at xs = tt
 
 -- what is given where memory does not run out is within what is there
 pub given-within : (given due : Due) (n : ℕ) → (given ≢ Err OutOfMemory → given ≡ due) → IsWithin due n → IsWithin given n

@@ -37,13 +37,12 @@ gave items m item size well e p q = record {
 
 gave-step : (items : List Item) (m n : ReaderModel) (item : Item) (d : Due) → m.fault ≡ None → first_item m.phase m.at m.rest ≡ d → IsWithin d (length m.rest) →
     (Ok (Some item), n) ≡ next_item m d → Gave items m n item
-gave-step items m n item (Ok None) well e w h = let r = result-is _ _ h in absurd (cc)
-gave-step items m n item (Err fault) well e w h = let r = result-is _ _ h in absurd (cc)
 gave-step items m n item (Ok (Some (other, size))) well e w h =
     let is : n ≡ given m other size = reader-is _ _ h in
     let r : ◌≡◌ {A = Result (Option Item) MmoFault} (Ok (Some item)) (Ok (Some other)) = result-is _ _ h in
     let it : other ≡ item = cc in
     subst (λ (o : ReaderModel). Gave items m o item) (sym is) (subst (λ (i : Item). Gave items m (given m other size) i) it (gave items m other size well e w.0 w.1))
+gave-step items m n item d well e w h = let r = result-is _ _ h in absurd (cc)
 
 next-is : (m : ReaderModel) → m.fault ≡ None → next_answer m ≡ next_item m (first_item m.phase m.at m.rest)
 next-is m well = ap (λ f. next_due f m) well
@@ -54,8 +53,7 @@ next-gave items m n item well h =
 
 none-step : (m n : ReaderModel) (d : Due) → first_item m.phase m.at m.rest ≡ d → (Ok None, n) ≡ next_item m d → (n ≡ m) × (items_of m.phase m.at m.rest ≡ ([], Ok (left_of m)))
 none-step m n (Ok None) e h = (reader-is _ _ h, items-none m.phase m.at m.rest e)
-none-step m n (Err fault) e h = let r = result-is _ _ h in absurd (cc)
-none-step m n (Ok (Some (other, size))) e h = let r = result-is _ _ h in absurd (cc)
+none-step m n d e h = let r = result-is _ _ h in absurd (cc)
 
 pub next-none : (m n : ReaderModel) → m.fault ≡ None → (Ok None, n) ≡ next_answer m → (n ≡ m) × (items_of m.phase m.at m.rest ≡ ([], Ok (left_of m)))
 next-none m n well h = none-step m n (first_item m.phase m.at m.rest) refl (h ∙ next-is m well)

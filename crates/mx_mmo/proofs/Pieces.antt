@@ -24,9 +24,8 @@ concat-more (p ∷ ps) (suc i) d h =
 
 pub concat-rest : (pieces : List (List ℕ)) (i : ℕ) → concat pieces ≡ concat (take i pieces) ++ concat (drop i pieces)
 concat-rest [] zero = refl
-concat-rest [] (suc i) = refl
-concat-rest (p ∷ ps) zero = refl
 concat-rest (p ∷ ps) (suc i) = ap (λ l. p ++ l) (concat-rest ps i) ∙ sym (append_assoc p (concat (take i ps)) (concat (drop i ps)))
+concat-rest pieces i = refl
 
 pub nothing-yet : items_of Start 0 [] ≡ ([], Ok (left_of fresh))
 nothing-yet = items-none Start 0 [] refl
@@ -76,12 +75,11 @@ within-from n (suc i) (p ∷ ps) l =
     ∙ ap (λ (k : ℕ). (p ++ front) ++ pieces_within k (drop i ps)) there
 
 within-passed : (n i : ℕ) (pieces : List (List ℕ)) (d : List ℕ) → i < length pieces → limit < n + length (get_or pieces i d) → pieces_within n (drop i pieces) ≡ []
-within-passed n zero [] d l h = absurd (omega arith)
-within-passed n (suc i) [] d l h = absurd (omega arith)
 within-passed n zero (p ∷ ps) d l h =
     let many : nat_lt limit (n + length p) ≡ true = grind (arith, nat_tests) in
     cond-true (nat_lt limit (n + length p)) [] (p ++ pieces_within (n + length p) ps) many
 within-passed n (suc i) (p ∷ ps) d l h = within-passed n i ps d (omega arith) h
+within-passed n i [] d l h = absurd (omega arith)
 
 -- the fault of an item in the pieces so far, whatever follows
 item-fault : (bytes : List ℕ) (fault : MmoFault) → (items_of Start 0 bytes).1 ≡ Err fault → length bytes ≤ limit → object_of bytes ≡ Err fault

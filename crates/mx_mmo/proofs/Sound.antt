@@ -143,11 +143,7 @@ counts (a ∷ code ∷ y ∷ z ∷ []) count b e =
     let t = end-tetra (a == 0x98 && code == 12) count (256 * y + z) e in
     let u = both-tests a 0x98 code 12 t.0 in
     record { is = rw (u.0, u.1, t.1) (sym (wide-back 12 y z b.1.1.1.0)); most = omega (arith, t.1, b.1.1.0, b.1.1.1.0) }
-counts [] count b e = absurd (cc)
-counts (a ∷ []) count b e = absurd (cc)
-counts (a ∷ c ∷ []) count b e = absurd (cc)
-counts (a ∷ c ∷ y ∷ []) count b e = absurd (cc)
-counts (a ∷ c ∷ y ∷ z ∷ x ∷ more) count b e = absurd (cc)
+counts last count b e = absurd (cc)
 
 split-tail : (n : ℕ) (rest last : List ℕ) → drop n rest ≡ last → rest ≡ take n rest ++ last
 split-tail n rest last e = sym (take-append-drop n rest) ∙ ap (λ x. take n rest ++ x) e

@@ -112,9 +112,7 @@ no-end at rest o e = rw e refl
 
 cut-behind : (phase : Phase) (at : ℕ) (rest : List ℕ) → (phase ≡ Ended → end_count (drop (length rest - 4) rest) ≡ None) → tail_behind phase at rest ≡ Err (Truncated (at + length rest))
 cut-behind Ended at rest h = no-end at rest (end_count (drop (length rest - 4) rest)) (h refl)
-cut-behind Start at rest h = refl
-cut-behind Middle at rest h = refl
-cut-behind Posted at rest h = refl
+cut-behind phase at rest h = refl
 
 -- the lopcode `end` that stands last
 ends-with : (bytes : List ℕ) (items : List Item) (left : Left) (s : Stood Start 0 bytes items left) (count : ℕ) → AreBytes left.rest → left.phase ≡ Ended →

@@ -46,22 +46,12 @@ cond-told false phase at bytes x y p q = q refl
 tetra-fine : {A : Type 0} (phase : Phase) (at : ℕ) (bytes : List ℕ) (due : ℕ → DueOf A) (more : List ℕ) → ((t : ℕ) → FaultTold phase at bytes (due t)) →
     FaultTold phase at bytes (on_tetra due more)
 tetra-fine phase at bytes due (a ∷ b ∷ c ∷ d ∷ more) h = h (tetra_from_bytes (a ∷ b ∷ c ∷ d ∷ []))
-tetra-fine phase at bytes due [] h = fine _ _ _ _
-tetra-fine phase at bytes due (a ∷ []) h = fine _ _ _ _
-tetra-fine phase at bytes due (a ∷ b ∷ []) h = fine _ _ _ _
-tetra-fine phase at bytes due (a ∷ b ∷ c ∷ []) h = fine _ _ _ _
+tetra-fine phase at bytes due more h = fine _ _ _ _
 
 octa-fine : {A : Type 0} (phase : Phase) (at : ℕ) (bytes : List ℕ) (due : ℕ → DueOf A) (more : List ℕ) → ((x : ℕ) → FaultTold phase at bytes (due x)) →
     FaultTold phase at bytes (on_octa due more)
 octa-fine phase at bytes due (a ∷ b ∷ c ∷ d ∷ e ∷ f ∷ g ∷ h ∷ more) w = w (octa_from_bytes (a ∷ b ∷ c ∷ d ∷ e ∷ f ∷ g ∷ h ∷ []))
-octa-fine phase at bytes due [] w = fine _ _ _ _
-octa-fine phase at bytes due (a ∷ []) w = fine _ _ _ _
-octa-fine phase at bytes due (a ∷ b ∷ []) w = fine _ _ _ _
-octa-fine phase at bytes due (a ∷ b ∷ c ∷ []) w = fine _ _ _ _
-octa-fine phase at bytes due (a ∷ b ∷ c ∷ d ∷ []) w = fine _ _ _ _
-octa-fine phase at bytes due (a ∷ b ∷ c ∷ d ∷ e ∷ []) w = fine _ _ _ _
-octa-fine phase at bytes due (a ∷ b ∷ c ∷ d ∷ e ∷ f ∷ []) w = fine _ _ _ _
-octa-fine phase at bytes due (a ∷ b ∷ c ∷ d ∷ e ∷ f ∷ g ∷ []) w = fine _ _ _ _
+octa-fine phase at bytes due more w = fine _ _ _ _
 
 item-told : (item : ℕ → Item) (phase : Phase) (at : ℕ) (bytes : List ℕ) (due : DueOf ℕ) → FaultTold phase at bytes due → FaultTold phase at bytes (item_due item due)
 item-told item phase at bytes (Ok None) t = fine _ _ _ _
@@ -151,12 +141,9 @@ lop-told at code y z more (Some Fixrx) e h = cond-told (y == 0 && (z == 16 || z 
 lop-told at code y z more (Some File) e h = file-told at code y z more (lop-code code _ e) h
 lop-told at code y z more (Some Line) e h = fine _ _ _ _
 lop-told at code y z more (Some Spec) e h = spec-fine at (256 * y + z) _ (skipped false more)
-lop-told at code y z more (Some Pre) e h = faulty _ _ _ _ (TetraFault.bad_lop at code y z more (λ m. rw e at m))
 lop-told at code y z more (Some Post) e h = cond-told (y == 0 && nat_le 32 z) Middle at _ _ _ (λ _. post-fine at z _ more)
     (λ n. faulty _ _ _ _ (TetraFault.fields at code y z more Post e tt (λ f. not-both _ (post-test y z f) n)))
-lop-told at code y z more (Some Stab) e h = faulty _ _ _ _ (TetraFault.bad_lop at code y z more (λ m. rw e at m))
-lop-told at code y z more (Some End) e h = faulty _ _ _ _ (TetraFault.bad_lop at code y z more (λ m. rw e at m))
-lop-told at code y z more None e h = faulty _ _ _ _ (TetraFault.bad_lop at code y z more (λ m. rw e at m))
+lop-told at code y z more lop e h = faulty _ _ _ _ (TetraFault.bad_lop at code y z more (λ m. rw e at m))
 
 due-told : (phase : Phase) (at a code y z : ℕ) (more : List ℕ) → AreBytes more → FaultTold phase at (a ∷ code ∷ y ∷ z ∷ more) (due_item phase at a code y z more)
 due-told Start at a code y z more h = cond-told (a == 0x98 && code == 9 && y == 1) Start at _ _ _ (λ _. pre-fine Start at z _ more)
@@ -175,10 +162,7 @@ due-told Ended at a code y z more h = fine _ _ _ _
 
 first-told : (phase : Phase) (at : ℕ) (bytes : List ℕ) → AreBytes bytes → FaultTold phase at bytes (first_item phase at bytes)
 first-told phase at (a ∷ code ∷ y ∷ z ∷ more) h = due-told phase at a code y z more h.1.1.1.1
-first-told phase at [] h = fine _ _ _ _
-first-told phase at (a ∷ []) h = fine _ _ _ _
-first-told phase at (a ∷ b ∷ []) h = fine _ _ _ _
-first-told phase at (a ∷ b ∷ c ∷ []) h = fine _ _ _ _
+first-told phase at bytes h = fine _ _ _ _
 
 pub fault-found : (phase : Phase) (at : ℕ) (bytes : List ℕ) (fault : MmoFault) → AreBytes bytes → first_item phase at bytes ≡ Err fault → TetraFault phase at bytes fault
 fault-found phase at bytes fault h e = subst (λ (d : Due). FaultTells phase at bytes d) e (first-told phase at bytes h).is
@@ -197,36 +181,23 @@ neither item at y z more n =
 fields-first : (at : ℕ) (lop : Lop) (y z : ℕ) (more : List ℕ) → MayStand (Some lop) → ¬ HasFields lop y z → lop_item at (Some lop) y z more ≡ Err (BadFields at)
 fields-first at Quote y z more m n = let t : (y == 0 && z == 1) ≡ false = false-by _ (λ t. n (both-tests y 0 z 1 t)) in rw t refl
 fields-first at Loc y z more m n = neither (λ a. items.Loc a) at y z more n
-fields-first at Skip y z more m n = absurd (n tt)
 fields-first at Fixo y z more m n = neither (λ a. items.FixOcta a) at y z more n
-fields-first at Fixr y z more m n = absurd (n tt)
 fields-first at Fixrx y z more m n =
     let t : (y == 0 && (z == 16 || z == 24)) ≡ false =
     false-by _ (λ t. let b = both-true (y == 0) (z == 16 || z == 24) t in n (same-number y 0 b.0, bits-are z b.1)) in
     rw t refl
-fields-first at File y z more m n = absurd (n tt)
-fields-first at Line y z more m n = absurd (n tt)
-fields-first at Spec y z more m n = absurd (n tt)
 fields-first at Pre y z more m n = absurd m
 fields-first at Post y z more m n = let t : (y == 0 && nat_le 32 z) ≡ false = false-by _ (λ t. n (zero-and-least y z t)) in rw t refl
 fields-first at Stab y z more m n = absurd m
 fields-first at End y z more m n = absurd m
+fields-first at lop y z more m n = absurd (n tt)
 
 bad-first : (at : ℕ) (lop : Option Lop) (y z : ℕ) (more : List ℕ) → ¬ MayStand lop → lop_item at lop y z more ≡ Err (BadLop at)
-bad-first at (Some Quote) y z more n = absurd (n tt)
-bad-first at (Some Loc) y z more n = absurd (n tt)
-bad-first at (Some Skip) y z more n = absurd (n tt)
-bad-first at (Some Fixo) y z more n = absurd (n tt)
-bad-first at (Some Fixr) y z more n = absurd (n tt)
-bad-first at (Some Fixrx) y z more n = absurd (n tt)
-bad-first at (Some File) y z more n = absurd (n tt)
-bad-first at (Some Line) y z more n = absurd (n tt)
-bad-first at (Some Spec) y z more n = absurd (n tt)
 bad-first at (Some Pre) y z more n = refl
-bad-first at (Some Post) y z more n = absurd (n tt)
 bad-first at (Some Stab) y z more n = refl
 bad-first at (Some End) y z more n = refl
 bad-first at None y z more n = refl
+bad-first at lop y z more n = absurd (n tt)
 
 far-bad : (at bits t : ℕ) (more : List ℕ) → 2 ^ 25 ≤ t → t < 2 ^ 32 → on_tetra (far_tetra at bits) (tetra_to_bytes t ++ more) ≡ Err (BadFields at)
 far-bad at bits t more l h =

@@ -60,24 +60,14 @@ pub tetra-told : {A : Type 0} (P : DueOf A → Type 0) (due : ℕ → DueOf A) (
     ((t : ℕ) → t < 2 ^ 32 → tetra_to_bytes t ≡ take 4 more → P (due t)) → P (on_tetra due more)
 tetra-told P due (a ∷ b ∷ c ∷ d ∷ more) h none some =
     some (tetra_from_bytes (a ∷ b ∷ c ∷ d ∷ [])) (four-fit a b c d h.0 h.1.0 h.1.1.0 h.1.1.1.0) (four-bytes a b c d h.0 h.1.0 h.1.1.0 h.1.1.1.0)
-tetra-told P due [] h none some = none
-tetra-told P due (a ∷ []) h none some = none
-tetra-told P due (a ∷ b ∷ []) h none some = none
-tetra-told P due (a ∷ b ∷ c ∷ []) h none some = none
+tetra-told P due more h none some = none
 
 octa-told : {A : Type 0} (P : DueOf A → Type 0) (due : ℕ → DueOf A) (more : List ℕ) → AreBytes more → P (Ok None) →
     ((x : ℕ) → x < 2 ^ 64 → octa_to_bytes x ≡ take 8 more → P (due x)) → P (on_octa due more)
 octa-told P due (a ∷ b ∷ c ∷ d ∷ e ∷ f ∷ g ∷ h ∷ more) s none some =
     let t : AreBytes (a ∷ b ∷ c ∷ d ∷ e ∷ f ∷ g ∷ h ∷ []) = bytes-front 8 (a ∷ b ∷ c ∷ d ∷ e ∷ f ∷ g ∷ h ∷ more) s in
     some (octa_from_bytes (a ∷ b ∷ c ∷ d ∷ e ∷ f ∷ g ∷ h ∷ [])) (eight-fit a b c d e f g h t) (eight-bytes a b c d e f g h t)
-octa-told P due [] s none some = none
-octa-told P due (a ∷ []) s none some = none
-octa-told P due (a ∷ b ∷ []) s none some = none
-octa-told P due (a ∷ b ∷ c ∷ []) s none some = none
-octa-told P due (a ∷ b ∷ c ∷ d ∷ []) s none some = none
-octa-told P due (a ∷ b ∷ c ∷ d ∷ e ∷ []) s none some = none
-octa-told P due (a ∷ b ∷ c ∷ d ∷ e ∷ f ∷ []) s none some = none
-octa-told P due (a ∷ b ∷ c ∷ d ∷ e ∷ f ∷ g ∷ []) s none some = none
+octa-told P due more s none some = none
 
 -- the bytes of tetras and of octas
 record Tetras (n : ℕ) (bytes : List ℕ) (tetras : List ℕ) : Type 0 where
@@ -259,12 +249,9 @@ lop-tells at code y z more (Some lops.File) e p q h = file-tells at code y z mor
 lop-tells at code y z more (Some lops.Line) e p q h =
     item-tells Middle _ _ (Line (256 * y + z)) 4 (same-wide 7 y z code [] q (lop-code code _ e)) (Spells.line (256 * y + z) (wide-fit y z p q)) tt (wide-fit y z p q) tt
 lop-tells at code y z more (Some lops.Spec) e p q h = spec-tells code y z more (skipped false more) (lop-code code _ e) p q h refl
-lop-tells at code y z more (Some lops.Pre) e p q h = fault-tells _ _ _
 lop-tells at code y z more (Some lops.Post) e p q h = cond-tells (y == 0 && nat_le 32 z) Middle _ _ _
     (λ f. let t = zero-and-least y z f in post-tells code y z more (lop-code code _ e) t.0 t.1 q h) (λ _. fault-tells _ _ (BadFields at))
-lop-tells at code y z more (Some lops.Stab) e p q h = fault-tells _ _ _
-lop-tells at code y z more (Some lops.End) e p q h = fault-tells _ _ _
-lop-tells at code y z more None e p q h = fault-tells _ _ _
+lop-tells at code y z more lop e p q h = fault-tells _ _ _
 
 bare-tells : (a b c d : ℕ) (more : List ℕ) → (a == 0x98) ≡ false → a < 256 → b < 256 → c < 256 → d < 256 →
     Told Middle (a ∷ b ∷ c ∷ d ∷ more) (Ok (Some (Load (tetra_from_bytes (a ∷ b ∷ c ∷ d ∷ [])), 4)))
@@ -293,15 +280,11 @@ due-tells Ended at a code y z more p q r s h = nothing-tells _ _
 
 pub first-tells : (phase : Phase) (at : ℕ) (bytes : List ℕ) → AreBytes bytes → Tells phase bytes (first_item phase at bytes)
 first-tells phase at (a ∷ code ∷ y ∷ z ∷ more) h = (due-tells phase at a code y z more h.0 h.1.0 h.1.1.0 h.1.1.1.0 h.1.1.1.1).is
-first-tells phase at [] h = tt
-first-tells phase at (a ∷ []) h = tt
-first-tells phase at (a ∷ b ∷ []) h = tt
-first-tells phase at (a ∷ b ∷ c ∷ []) h = tt
+first-tells phase at bytes h = tt
 
 tells-fits : (phase : Phase) (bytes : List ℕ) (d : Due) → Tells phase bytes d → IfOk d (λ due. IfSome due (λ found. Fits found.0))
 tells-fits phase bytes (Ok (Some (item, size))) t = t.fits
-tells-fits phase bytes (Ok None) t = tt
-tells-fits phase bytes (Err fault) t = tt
+tells-fits phase bytes d t = tt
 
 -- what is given where memory does not run out fits
 pub given-fits : (phase : Phase) (bytes : List ℕ) (given due : Due) → (given ≢ Err OutOfMemory → given ≡ due) → Tells phase bytes due →

@@ -14,20 +14,17 @@ shorter size bytes p q = omega (arith, length-drop size bytes)
 
 walk_on-same : (f g : Phase → ℕ → List ℕ → Walk) (phase : Phase) (at : ℕ) (bytes : List ℕ) (d : Due) → IsWithin d (length bytes) →
     ((p : Phase) (a : ℕ) (bs : List ℕ) → length bs < length bytes → f p a bs ≡ g p a bs) → walk_on f phase at bytes d ≡ walk_on g phase at bytes d
-walk_on-same f g phase at bytes (Ok None) w h = refl
-walk_on-same f g phase at bytes (Err e) w h = refl
 walk_on-same f g phase at bytes (Ok (Some (item, size))) w h = ap (behind item) (h _ _ _ (shorter size bytes w.0 w.1))
+walk_on-same f g phase at bytes d w h = refl
 
 -- as many steps as bytes are enough
 enough : (n m : ℕ) (phase : Phase) (at : ℕ) (bytes : List ℕ) → length bytes ≤ n → length bytes ≤ m → walk n phase at bytes ≡ walk m phase at bytes
 unfolding walk
-enough zero zero phase at bytes p q = refl
-enough zero (suc m) phase at [] p q = refl
 enough zero (suc m) phase at (b ∷ bs) p q = absurd (omega arith)
-enough (suc n) zero phase at [] p q = refl
 enough (suc n) zero phase at (b ∷ bs) p q = absurd (omega arith)
 enough (suc n) (suc m) phase at bytes p q =
     walk_on-same (walk n) (walk m) phase at bytes _ (first-within phase at bytes) (λ f a bs l. enough n m f a bs (omega arith) (omega arith))
+enough n m phase at bytes p q = refl
 
 -- the items of bytes are the first and those of the bytes behind it
 pub items-step : (phase : Phase) (at : ℕ) (bytes : List ℕ) → items_of phase at bytes ≡ walk_on items_of phase at bytes (first_item phase at bytes)

@@ -24,9 +24,8 @@ use Rattle.mx_names.specs.Entries.{symbol_of, IsInRange}
 -- a look-up in the symbols is one in the map
 found-step : (b c : Bool) (v : Value) (d : Definition) (rest : Option Value) (more : Option Definition) → c ≡ b → v ≡ d.value → rest ≡ option_map (λ (d : Definition). d.value) more → cond b (Some v) rest ≡ option_map (λ (d : Definition). d.value) (cond c (Some d) more)
 found-step true true v d rest more same value h = ap (λ v. Some v) value
-found-step true false v d rest more same value h = cc
-found-step false true v d rest more same value h = cc
 found-step false false v d rest more same value h = h
+found-step b c v d rest more same value h = cc
 
 abbrev tabled : List ℕ → List Value → List Wait → List Symbol → NameTable
 tabled prefix backs waiting symbols = record { symbols = symbols; prefix = prefix; backs = backs; waiting = waiting }
@@ -89,8 +88,7 @@ none-rest false v rest h = h
 
 swapped : (here is : Bool) (a b c : Option Value) → (is ≡ true → here ≡ true → false ≡ true) → cond here a (cond is b c) ≡ cond is b (cond here a c)
 swapped true true a b c apart = absurd (false≢true (apart refl refl))
-swapped true false a b c apart = refl
-swapped false is a b c apart = refl
+swapped here is a b c apart = refl
 
 -- a look-up after a symbol is put in
 pub value-inserted : (new : Symbol) (symbols : List Symbol) (name : List ℕ) → value_in new.name symbols ≡ None → value_in name (symbols_with new symbols) ≡ cond (bytes_eq name new.name) (Some new.value) (value_in name symbols)

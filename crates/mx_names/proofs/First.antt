@@ -29,8 +29,6 @@ first-group (x ∷ y ∷ xs) l rising =
     first-one x (with_group (y ∷ xs) l) ∙ ap (earlier_of_two (Some x)) (first-group (y ∷ xs) l rising.1) ∙ earlier-two x y (first_of l) rising.0.0
 
 earlier-parts : (a b c : Option Numbered) → earlier_of_two (earlier_of_two a b) c ≡ earlier_of_two a (earlier_of_two b c)
-earlier-parts None b c = refl
-earlier-parts (Some x) None c = refl
 earlier-parts (Some x) (Some y) None = by (nat_lt x.0 y.0)
   where
     by : (b : Bool) → earlier_of_two (cond b (Some x) (Some y)) None ≡ cond b (Some x) (Some y)
@@ -43,6 +41,7 @@ earlier-parts (Some x) (Some y) (Some z) = by (nat_lt x.0 y.0) (nat_lt y.0 z.0) 
     by true false is there xy yx yz zy = refl
     by false true is there xy yx yz zy = rw (is, there) refl
     by false false is there xy yx yz zy = rw (there, le-ltb x.0 z.0 (omega (arith, yx refl, zy refl))) refl
+earlier-parts a b c = refl
 
 -- one group more
 pub first-more : {K : Type 0} (first found : Option Numbered) (e : K × List Numbered) (es : List (K × List Numbered)) → AreRising e.1 → found ≡ earlier_of_two first (first_of e.1) → earlier_of_two found (first_of (all_in_order es)) ≡ earlier_of_two first (first_of (all_in_order (e ∷ es)))

@@ -15,15 +15,13 @@ use Rattle.mx_names.specs.Waiting.{Numbered, with_one, with_group, all_in_order,
 
 pub zip-push : (ns : List ℕ) (ws : List Wait) (n : ℕ) (w : Wait) → length ns ≡ length ws → zip (ns ++ n ∷ []) (ws ++ w ∷ []) ≡ zip ns ws ++ (n, w) ∷ []
 zip-push [] [] n w same = refl
-zip-push [] (v ∷ ws) n w same = absurd (omega (arith, same))
-zip-push (m ∷ ns) [] n w same = absurd (omega (arith, same))
 zip-push (m ∷ ns) (v ∷ ws) n w same = ap (λ l. (m, v) ∷ l) (zip-push ns ws n w (omega (arith, same)))
+zip-push ns ws n w same = absurd (omega (arith, same))
 
 pub waits-zip : (ns : List ℕ) (ws : List Wait) → length ns ≡ length ws → waits_of (zip ns ws) ≡ ws
 waits-zip [] [] same = refl
-waits-zip [] (v ∷ ws) same = absurd (omega (arith, same))
-waits-zip (m ∷ ns) [] same = absurd (omega (arith, same))
 waits-zip (m ∷ ns) (v ∷ ws) same = ap (λ l. v ∷ l) (waits-zip ns ws (omega (arith, same)))
+waits-zip ns ws same = absurd (omega (arith, same))
 
 pub ruleset pairs = (zip-push, waits-zip)
 

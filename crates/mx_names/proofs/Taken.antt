@@ -146,15 +146,13 @@ numbers-swap a b = grind (arith, nat_tests)
 
 bytes-swap : (a b : List ℕ) → bytes_eq a b ≡ bytes_eq b a
 bytes-swap [] [] = refl
-bytes-swap [] (y ∷ ys) = refl
-bytes-swap (x ∷ xs) [] = refl
 bytes-swap (x ∷ xs) (y ∷ ys) = rw (numbers-swap x y, bytes-swap xs ys) refl
+bytes-swap a b = refl
 
 same-key : (a b : Awaited) → same_awaited a b ≡ bytes_eq (key_of a) (key_of b)
 same-key (Name a) (Name b) = refl
-same-key (Name a) (Local e) = refl
-same-key (Local d) (Name b) = refl
 same-key (Local d) (Local e) = sym (and-true (d == e))
+same-key a b = refl
 
 abbrev test_for : {K : Type 0} → (K → List ℕ) → List ℕ → K → Bool
 test_for bytes key k = is_eq (slice_cmp nat_cmp key (bytes k))

@@ -59,8 +59,6 @@ number-zero base e more = ap (λ x. number_behind base x more) (zero-first base 
 
 -- a number that n digits tell is written in no more than n
 pub fewest-least : (base : ℕ) (ds : List ℕ) (n : ℕ) → 1 ≤ base → 1 ≤ n → number base ds < base ^ n → length (fewest_digits ds) ≤ n
-fewest-least base [] n p l h = omega arith
-fewest-least base (d ∷ []) n p l h = omega arith
 fewest-least base (d ∷ e ∷ more) n p l h = one (d == 0) (eqb-true d 0) (eqb-false d 0) (fewest-least base (e ∷ more) n p l)
   where
     short : 1 ≤ d → length (d ∷ e ∷ more) ≤ n
@@ -78,6 +76,7 @@ fewest-least base (d ∷ e ∷ more) n p l h = one (d == 0) (eqb-true d 0) (eqb-
     one false is other rest =
         let some = other refl in
         short (omega (arith, some))
+fewest-least base ds n p l h = omega arith
 
 -- how many digits are left does not hang on the last one
 pub fewest-last : (ds : List ℕ) (a b : ℕ) → length (fewest_digits (ds ++ a ∷ [])) ≡ length (fewest_digits (ds ++ b ∷ []))

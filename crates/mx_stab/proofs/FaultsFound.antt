@@ -2,7 +2,7 @@
 use Rattle.std.proofs.Common.{◌≡◌, ◌≢◌, ℕ, zero, suc, ◌+◌, ◌-◌, ◌*◌, ◌^◌, ◌≤◌, ◌<◌, ◌==◌, ◌%◌, ◌/◌, Bool, true, false, cond, ◌||◌, List, [], ◌∷◌, ◌++◌, length, take, drop, Option, Some, None, Ok, Err, Result, arith, refl, sym, ap, ◌∙◌, subst, length-append, append_assoc, append-nil}
 use Rattle.std.specs.Prelude.{nat_le, nat_lt, bytes_eq}
 use Rattle.std.specs.Char.{encode_utf8}
-use Rattle.std.proofs.lemmas.Bool.{eqb-true, eqb-false, leb-true, leb-false, ltb-true, ltb-false}
+use Rattle.std.proofs.lemmas.Bool.{cond_both, eqb-true, eqb-false, leb-true, leb-false, ltb-true, ltb-false}
 use Rattle.std.proofs.lemmas.List.{length-take-le, take-append-drop}
 use Rattle.std.proofs.lemmas.Slice.Eq.{bytes_eq-Decides}
 use Rattle.mx_word.specs.Ranges.{AreBytes}
@@ -204,11 +204,9 @@ two_bytes-found bytes k front path before at m node a found (high ∷ low ∷ re
 
 character_of-found : (bytes : List ℕ) (k : ℕ) (front path : List ℕ) (before : List Symbol) (at m : ℕ) (node : List ℕ) (s : Reading) → 0 < length bytes →
     InNode bytes k front path before at node s → UpToLeft path before m node s.found → HasCharacter m → CharacterInTable bytes (character_of at m s)
-character_of-found bytes k front path before at m node s some n h there = one (has 0x80 m) (eqb-true (table.flag 0x80 m) 1)
-  where
-    one : (b : Bool) → (b ≡ true → table.flag 0x80 m ≡ 1) → CharacterInTable bytes (cond b (reading.two_bytes at s.at s.found s.rest) (reading.one_byte s.at s.found s.rest))
-    one true mark = two_bytes-found bytes k front path before at m node s.at s.found s.rest some n h there (mark refl)
-    one false mark = one_byte-found bytes k front path before at m node s.at s.found s.rest some n h there
+character_of-found bytes k front path before at m node s some n h there = cond_both (has 0x80 m) _ _ (CharacterInTable bytes)
+    (λ e. two_bytes-found bytes k front path before at m node s.at s.found s.rest some n h there (eqb-true (table.flag 0x80 m) 1 e))
+    (λ _. one_byte-found bytes k front path before at m node s.at s.found s.rest some n h there)
 
 bit-is : (weight m : ℕ) → flag (has weight m) ≡ table.flag weight m
 bit-is weight m = flag-is (m / weight % 2) (omega arith)

@@ -61,9 +61,8 @@ concat-step true s t group groups = refl
 concat-step false s t group groups = refl
 
 concat-groups_with : (at : ℕ) (s : Symbol) (groups : List (List Symbol)) → all-of (groups_with at s groups) ≡ s ∷ all-of groups
-concat-groups_with at s [] = refl
-concat-groups_with at s ([] ∷ groups) = refl
 concat-groups_with at s ((t ∷ group) ∷ groups) = concat-step (next_byte at t == next_byte at s) s t group groups
+concat-groups_with at s groups = refl
 
 concat-groups_of : (at : ℕ) (symbols : List Symbol) → all-of (groups_of at symbols) ≡ symbols
 concat-groups_of at [] = refl

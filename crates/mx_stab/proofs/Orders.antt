@@ -68,9 +68,6 @@ below-first a b xs ys = one (nat_cmp a b) (ranked a b (nat_cmp a b) refl)
     one Greater l h = absurd (cc)
 
 not-same : (a b : List ℕ) → Below a b → a ≡ b → ⊥
-not-same [] [] h e = absurd (cc)
-not-same [] (b ∷ ys) h e = absurd (cc)
-not-same (a ∷ xs) [] h e = absurd (cc)
 not-same (a ∷ xs) (b ∷ ys) h e =
     let first : a ≡ b = cc in
     let rest : xs ≡ ys = cc in
@@ -78,14 +75,12 @@ not-same (a ∷ xs) (b ∷ ys) h e =
       | inl l ↦ absurd (omega (arith, first, l))
       | inr p ↦ not-same xs ys p.1 rest
     ]
+not-same a b h e = absurd (cc)
 
 -- no name is below one that it begins with
 pub no-front-behind : (n : ℕ) (a b : List ℕ) → Below a b → take n a ≡ b → ⊥
 no-front-behind n [] [] h e = absurd (cc)
 no-front-behind zero [] (b ∷ ys) h e = absurd (cc)
-no-front-behind (suc n) [] (b ∷ ys) h e = absurd (cc)
-no-front-behind n (a ∷ xs) [] h e = absurd (cc)
-no-front-behind zero (a ∷ xs) (b ∷ ys) h e = absurd (cc)
 no-front-behind (suc n) (a ∷ xs) (b ∷ ys) h e =
     let first : a ≡ b = cc in
     let rest : take n xs ≡ ys = cc in
@@ -93,6 +88,7 @@ no-front-behind (suc n) (a ∷ xs) (b ∷ ys) h e =
       | inl l ↦ absurd (omega (arith, first, l))
       | inr p ↦ no-front-behind n xs ys p.1 rest
     ]
+no-front-behind n a b h e = absurd (cc)
 
 distinct-first : (s : Symbol) (more : List Symbol) → AllByRecursion (λ (t : Symbol). Below s.name t.name) more → AllByRecursion (λ (t : Symbol). s.name ≢ t.name) more
 distinct-first s [] h = tt
@@ -106,8 +102,7 @@ in-order-distinct (s ∷ more) h = (distinct-first s more h.0, in-order-distinct
 -- a name above the last one keeps the order
 less-is : (o : Ordering) → is_lt o ≡ true → o ≡ Less
 less-is Less h = refl
-less-is Equal h = absurd (cc)
-less-is Greater h = absurd (cc)
+less-is o h = absurd (cc)
 
 pub order-push : (symbols : List Symbol) (new : Symbol) → AreInOrder symbols → is_above new.name symbols ≡ true → AreInOrder (symbols ++ new ∷ [])
 order-push [] new o h = (tt, tt)

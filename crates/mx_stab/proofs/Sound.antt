@@ -97,9 +97,8 @@ serial-cut x serial (d ∷ bytes) more b h = one (nat_lt d 128) (ltb-true d 128)
 
 -- a value of a kind
 register-spelt : (bytes : List ℕ) → length bytes ≡ 1 → AreBytes bytes → SpellsValue 15 (Reg (slice_index bytes 0)) bytes
-register-spelt [] l b = absurd (omega (arith, l))
 register-spelt (k ∷ []) l b = grammar.SpellsValue.register k b.0
-register-spelt (k ∷ d ∷ more) l b = absurd (omega (arith, l))
+register-spelt bytes l b = absurd (omega (arith, l))
 
 pub value-spelt : (kind : ℕ) (bytes : List ℕ) → 1 ≤ kind → kind < 16 → length bytes ≡ value_size kind → AreBytes bytes → SpellsValue kind (value_of kind bytes) bytes
 value-spelt kind bytes least most size b = one (kind == 15) (nat_le kind 8) (eqb-true kind 15) (eqb-false kind 15) (leb-true kind 8) (leb-false kind 8) size
@@ -180,9 +179,8 @@ flag true = 1
 flag false = 0
 
 pub flag-is : (x : ℕ) → x < 2 → flag (x == 1) ≡ x
-flag-is zero h = refl
-flag-is (suc zero) h = refl
 flag-is (suc (suc x)) h = absurd (omega (arith, h))
+flag-is x h = refl
 
 -- the byte m from its bits
 byte-is : (m : ℕ) → m < 256 → m ≡ 0x80 * flag (has 0x80 m) + 0x40 * flag (has 0x40 m) + 0x20 * flag (has 0x20 m) + 0x10 * flag (has 0x10 m) + m % 16
@@ -222,8 +220,6 @@ one_byte-read at found (d ∷ rest) c b e =
     (record { bytes = d ∷ []; is = grammar.SpellsCharacter.one_byte d b.0; between = record { split = refl; place = refl; grown = sym (append-nil found); distinct = λ d. d } })
 
 two_bytes-read : (node at : ℕ) (found : List Symbol) (bytes : List ℕ) (c : Character) → AreBytes bytes → reading.two_bytes node at found bytes ≡ Ok c → CharacterRead 0x80 (record { at = at; rest = bytes; found = found }) c
-two_bytes-read node at found [] c b e = absurd (cc)
-two_bytes-read node at found (high ∷ []) c b e = absurd (cc)
 two_bytes-read node at found (high ∷ low ∷ rest) c b e = one (is_wide_character (wide_number high low)) refl e
   where
     own : Character
@@ -235,6 +231,7 @@ two_bytes-read node at found (high ∷ low ∷ rest) c b e = one (is_wide_charac
         let same : own ≡ c = cc in
         subst (CharacterRead 0x80 (record { at = at; rest = high ∷ low ∷ rest; found = found })) same
         (record { bytes = high ∷ low ∷ []; is = grammar.SpellsCharacter.two_bytes high low b.0 b.1.0 is; between = record { split = refl; place = refl; grown = sym (append-nil found); distinct = λ d. d } })
+two_bytes-read node at found bytes c b e = absurd (cc)
 
 pub character_of-read : (node m : ℕ) (s : Reading) (c : Character) → AreBytes s.rest → character_of node m s ≡ Ok c → CharacterRead (0x80 * flag (has 0x80 m)) s c
 character_of-read node m s c b e = one (has 0x80 m) e

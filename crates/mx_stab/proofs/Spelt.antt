@@ -19,9 +19,8 @@ skip-same true base d e more h k = k ∙ rw (h refl) (number-zero base e more)
 skip-same false base d e more h k = refl
 
 fewest_digits-same : (base : ℕ) (ds : List ℕ) → number base (fewest_digits ds) ≡ number base ds
-fewest_digits-same base [] = refl
-fewest_digits-same base (d ∷ []) = refl
 fewest_digits-same base (d ∷ e ∷ more) = skip-same (d == 0) base d e more (eqb-true d 0) (fewest_digits-same base (e ∷ more))
+fewest_digits-same base ds = refl
 
 skip-below : (b : Bool) (base d e : ℕ) (more : List ℕ) → AreBelow base (d ∷ e ∷ more) → AreBelow base (fewest_digits (e ∷ more)) → AreBelow base (cond b (fewest_digits (e ∷ more)) (d ∷ e ∷ more))
 skip-below true base d e more h k = k

@@ -152,9 +152,7 @@ bits-are w l m r kind f a b c d byte e = (omega arith, omega arith, omega arith,
 
 flag-fits : {l : ℕ} {path bytes : List ℕ} {symbols : List Symbol} → IsSubtrie l path bytes symbols → l ≤ 1
 flag-fits (grammar.IsSubtrie.none path) = omega arith
-flag-fits (grammar.IsSubtrie.bare path l r left right before after hl hr) = omega arith
-flag-fits (grammar.IsSubtrie.passage path name character wide l r left middle right before below after hc long hl hm hr) = omega arith
-flag-fits (grammar.IsSubtrie.symbol path name character wide l m r kind serial value left told counted middle right before below after hc long hv hs hl hm hr) = omega arith
+flag-fits _ = omega arith
 
 -- whether a node has a character, by its kind and its bit for a middle subtrie
 abbrev spells : ℕ → ℕ → Bool
@@ -233,20 +231,15 @@ tells-subtrie (grammar.IsSubtrie.symbol path name character wide l m r kind seri
 
 pub some-bytes : {l : ℕ} {path bytes : List ℕ} {symbols : List Symbol} → IsSubtrie l path bytes symbols → 1 ≤ l → 0 < length bytes
 some-bytes (grammar.IsSubtrie.none path) h = absurd (omega (arith, h))
-some-bytes (grammar.IsSubtrie.bare path l r left right before after hl hr) h = omega arith
-some-bytes (grammar.IsSubtrie.passage path name character wide l r left middle right before below after hc long hl hm hr) h = omega arith
-some-bytes (grammar.IsSubtrie.symbol path name character wide l m r kind serial value left told counted middle right before below after hc long hv hs hl hm hr) h = omega arith
+some-bytes _ h = omega arith
 
 pub read-some : (bytes : List ℕ) → 0 < length bytes → trie_answer bytes ≡ symbols_at_end (next_subtrie [] (start bytes))
 read-some [] h = absurd (omega (arith, h))
 read-some (b ∷ more) h = refl
 
 pub padding-is : (zeros : ℕ) → zeros ≤ 3 → is_padding (replicate zeros 0) ≡ true
-padding-is zero h = refl
-padding-is (suc zero) h = refl
-padding-is (suc (suc zero)) h = refl
-padding-is (suc (suc (suc zero))) h = refl
 padding-is (suc (suc (suc (suc n)))) h = absurd (omega (arith, h))
+padding-is zeros h = refl
 
 -- the symbols of a trie are read
 pub trie-read : (bytes : List ℕ) (symbols : List Symbol) → IsTrie bytes symbols → trie_answer bytes ≡ Ok symbols

@@ -22,6 +22,5 @@ module _ {B : Type 0} (R : B → B → Type 0) where
   pub alike-after : {A : Type 0} (S : A → A → Type 0) (a b : Answer A) (f g : A → Answer B) → AreAlike S a b → ((x y : A) → S x y → AreAlike R (f x) (g y)) → AreAlike R (and_then a f) (and_then b g)
   unfolding AreAlike
   alike-after S (Err fault) (Err other) f g same h = same
-  alike-after S (Err fault) (Ok y) f g same h = absurd same
-  alike-after S (Ok x) (Err other) f g same h = absurd same
   alike-after S (Ok x) (Ok y) f g same h = h x y same
+  alike-after S a b f g same h = absurd same

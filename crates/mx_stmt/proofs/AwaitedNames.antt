@@ -68,17 +68,12 @@ module _ (names : NameTable) where
 
   target-by : (reference : Option Awaited) (n : Answer ℕ) → ((who : Awaited) → reference ≡ Some who → IsUnknown names who) → Gives IfFuture (target_by reference n)
   target-by (Some who) n h = h who refl
-  target-by None (Err fault) h = tt
-  target-by None (Ok n) h = tt
+  target-by None n h = tt
 
 reference-unknown : (k : Known) (e : Tree) (who : Awaited) → reference_of k e ≡ Some who → IsUnknown k.names who
-reference-unknown k (number n) who h = absurd (cc)
 reference-unknown k (name text) who h = unknown-form k.names (symbol_form k.names text) who h
-reference-unknown k (back d) who h = absurd (cc)
 reference-unknown k (ahead d) who h = λ full same. absurd (let differ : awaited.Local d ≡ awaited.Name full = cc in cc)
-reference-unknown k here who h = absurd (cc)
-reference-unknown k (unary op e) who h = absurd (cc)
-reference-unknown k (binary op l r) who h = absurd (cc)
+reference-unknown k e who h = absurd (cc)
 
 target-unknown : (k : Known) (e : Tree) → Gives (IfFuture k.names) (target_at k e)
 target-unknown k e = target-by k.names (reference_of k e) (pure_at k e) (reference-unknown k e)

@@ -100,12 +100,11 @@ module _ (k : Known) (code : ℕ) (P : (Targets → Answer Tetra) → Type 0) (p
   every-form Wyde branch jump l = by-number (Forms Wyde) none (λ x. none) (λ x n. after-register x _ (λ x. none-wyde k code x n)) (λ x y z. none) (λ x y z w more. none) l
   every-form Jump branch jump l = by-number (Forms Jump) none (λ a. jump refl a) (λ x y. none) (λ x y z. none) (λ x y z w more. none) l
   every-form Put branch jump l = by-number (Forms Put) none (λ x. none) (λ x z. after-byte x _ (λ x. none-last k code x 0 z)) (λ x y z. none) (λ x y z w more. none) l
-  every-form Get branch jump l = by-number (Forms Get) none (λ x. none) (λ x z. after-register x _ (λ x. none-byte k code x z)) (λ x y z. none) (λ x y z w more. none) l
   every-form Pop branch jump l = by-number (Forms Pop) none (λ n. plain _ (none-whole k code n)) (λ x n. after-byte x _ (λ x. none-wyde k code x n)) (λ x y z. none) (λ x y z w more. none) l
   every-form One branch jump l = by-number (Forms One) none (λ n. plain _ (none-whole k code n)) (λ x n. none) (λ x y z. none) (λ x y z w more. none) l
-  every-form Save branch jump l = by-number (Forms Save) none (λ x. none) (λ x z. after-register x _ (λ x. none-byte k code x z)) (λ x y z. none) (λ x y z w more. none) l
   every-form Unsave branch jump l = by-number (Forms Unsave) none (λ z. plain _ (none-register k code 0 0 z)) (λ x z. after-byte x _ (λ x. none-register k code x 0 z)) (λ x y z. none) (λ x y z w more. none) l
   every-form Free branch jump l = by-number (Forms Free) none (λ n. plain _ (none-whole k code n)) (λ x n. plain _ (none-then (free_at k x) _ (λ x. none-wyde k code x n))) (λ x y z. plain _ (none-free k code x y z)) (λ x y z w more. none) l
+  every-form shape branch jump l = by-number (Forms shape) none (λ x. none) (λ x z. after-register x _ (λ x. none-byte k code x z)) (λ x y z. none) (λ x y z w more. none) l
 
   pub every-code : (shapes : List Shape) → (has_address shapes ≡ true → (x a : Tree) → P (λ t. with_register k x (λ x. branch_form t k code x a))) →
       (has_address shapes ≡ true → (a : Tree) → P (λ t. jump_form t k code a)) → (l : List Tree) → P (λ t. form_by t k shapes code l)

@@ -24,17 +24,7 @@ use Rattle.mx_stmt.proofs.SilentStatements.{AreSilent, silent-operand}
 
 aligned : (op : Op) (at : ℕ) → place_at (alignment op) at % alignment op ≡ 0
 aligned (PseudoOp pseudo.Wyde) at = omega arith
-aligned (PseudoOp pseudo.Tetra) at = omega arith
-aligned (PseudoOp pseudo.Octa) at = omega arith
-aligned (PseudoOp pseudo.Byte) at = omega arith
-aligned (PseudoOp pseudo.Is) at = omega arith
-aligned (PseudoOp pseudo.Loc) at = omega arith
-aligned (PseudoOp pseudo.Prefix) at = omega arith
-aligned (PseudoOp pseudo.Greg) at = omega arith
-aligned (PseudoOp pseudo.Local) at = omega arith
-aligned (Code code) at = omega arith
-aligned Lda at = omega arith
-aligned Set at = omega arith
+aligned op at = omega arith
 
 -- one property of the answers with any targets, where `@` is raised
 module _ (k : Known) (line : ℕ) (label : Option Label) (P : (Targets → Answer Placed) → Type 0) (silent : (a : Answer Placed) → AreSilent k a → P (λ t. a)) where

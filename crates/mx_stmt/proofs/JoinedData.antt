@@ -36,9 +36,8 @@ HasSize size (target.Known n) = Unit {0}
 HasSize size (target.Future who) = size ≡ 8
 
 known-sized : (size : ℕ) (n : Answer ℕ) (target : Target) → known_target n ≡ Ok target → HasSize size target
-known-sized size (Err fault) target is = cc
 known-sized size (Ok n) (target.Known m) is = tt
-known-sized size (Ok n) (target.Future who) is = cc
+known-sized size n target is = cc
 
 target-sized : (size : ℕ) (target : Target) → size ≡ 8 → HasSize size target
 target-sized size (target.Known n) is = tt
@@ -102,9 +101,8 @@ rest-joined t size place first other rest last one more = record {
 with-rest-joined : (t : Targets) (size place : ℕ) (first other : Data) (rest last : Answer Data) → IsJoinedDatum t size place first other → AreAlike (IsJoinedData t ((place + size) % 2 ^ 64)) rest last → AreAlike (IsJoinedData t place) (with_rest first rest) (with_rest other last)
 unfolding AreAlike
 with-rest-joined t size place first other (Err fault) (Err more) one is = is
-with-rest-joined t size place first other (Err fault) (Ok last) one is = absurd is
-with-rest-joined t size place first other (Ok rest) (Err more) one is = absurd is
 with-rest-joined t size place first other (Ok rest) (Ok last) one is = rest-joined t size place first other rest last one is
+with-rest-joined t size place first other rest last one is = absurd is
 
 data-joined : (t : Targets) (k : Known) (line size place : ℕ) (es : List Tree) → size ≤ 8 → AreAlike (IsJoinedData t place) (data_of no_targets k line size place es) (data_of t k line size place es)
 unfolding data_of

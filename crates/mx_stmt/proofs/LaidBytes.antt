@@ -175,8 +175,7 @@ tetra-bytes t = (omega arith, (omega arith, (omega arith, (omega arith, tt))))
 tetra-waits : (line place : ℕ) (wait : Option (Awaited × WaitKind)) → IsRelative wait → place % 4 ≡ 0 → AllByRecursion (IsInside place 4) (tetra_waits line place wait)
 tetra-waits line place None is m = tt
 tetra-waits line place (Some (who, Octa)) is m = absurd is
-tetra-waits line place (Some (who, Near)) is m = (record { first = omega arith; last = omega arith; fours = m }, tt)
-tetra-waits line place (Some (who, Far)) is m = (record { first = omega arith; last = omega arith; fours = m }, tt)
+tetra-waits line place wait is m = (record { first = omega arith; last = omega arith; fours = m }, tt)
 
 tetra-laid : (k : Known) (line : ℕ) (label : Option Label) (a : Answer Tetra) → HasRelative a → k.at % 4 ≡ 0 → Laid (and_then a (λ tetra. with_bytes k label (tetra_data line k.at tetra)))
 unfolding HasRelative

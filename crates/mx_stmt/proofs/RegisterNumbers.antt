@@ -30,10 +30,8 @@ pure-numbered false fault n = tt
 
 unary-numbered : (op : UnOp) (x : Value) → HasRegisterNumber x → IsNumbered (unary_value op x)
 unary-numbered Plus x h = h
-unary-numbered Minus (Pure x) h = tt
-unary-numbered Not (Pure x) h = tt
 unary-numbered Register (Pure x) h = register-numbered x
-unary-numbered op (Reg x) h = tt
+unary-numbered op x h = tt
 
 binary-numbered : (op : BinOp) (x y : Value) → IsNumbered (binary_value op x y)
 binary-numbered Div (Pure x) (Pure y) = pure-numbered _ _ _
@@ -42,20 +40,15 @@ binary-numbered Rem (Pure x) (Pure y) = pure-numbered _ _ _
 binary-numbered Add (Reg x) (Pure y) = register-numbered _
 binary-numbered Add (Pure x) (Reg y) = register-numbered _
 binary-numbered Sub (Reg x) (Pure y) = register-numbered _
-binary-numbered Sub (Reg x) (Reg y) = tt
-binary-numbered op (Pure x) (Pure y) = tt
-binary-numbered op (Pure x) (Reg y) = tt
-binary-numbered op (Reg x) (Pure y) = tt
-binary-numbered op (Reg x) (Reg y) = tt
+binary-numbered op x y = tt
 
 operand-numbered : (op : UnOp) (value : Valued) → IsNumbered value → IsNumbered (after_operand op value)
 operand-numbered op (Err fault) h = tt
 operand-numbered op (Ok x) h = unary-numbered op x h
 
 both-numbered : (op : BinOp) (left right : Valued) → IsNumbered (after_both op left right)
-both-numbered op (Err fault) right = tt
-both-numbered op (Ok x) (Err fault) = tt
 both-numbered op (Ok x) (Ok y) = binary-numbered op x y
+both-numbered op left right = tt
 
 some-numbered : (value : Option Value) → IfSome value HasRegisterNumber → IsNumbered (of_symbol (Ok value))
 some-numbered None h = tt
@@ -66,18 +59,15 @@ symbol-numbered names (Err fault) h = tt
 symbol-numbered names (Ok full) h = some-numbered (value_of_name names full) (h full)
 
 pub value-numbered : (k : Known) (e : Tree) → IsSound k → IsNumbered (value_of (knowledge_of k) e)
-value-numbered k (number n) sound = tt
 value-numbered k (name text) sound = symbol-numbered k.names (symbol_form k.names text) sound.symbols
 value-numbered k (back d) sound = sound.backs d
-value-numbered k (ahead d) sound = tt
-value-numbered k here sound = tt
 value-numbered k (unary op e) sound = operand-numbered op (value_of (knowledge_of k) e) (value-numbered k e sound)
 value-numbered k (binary op l r) sound = both-numbered op (value_of (knowledge_of k) l) (value_of (knowledge_of k) r)
+value-numbered k e sound = tt
 
 number-fits : (value : Valued) (r : ℕ) → IsNumbered value → and_then (answer_of value) register_number ≡ Ok r → r < 2 ^ 8
-number-fits (Err fault) r h is = cc
-number-fits (Ok (Pure n)) r h is = cc
 number-fits (Ok (Reg n)) r h is = let same : n ≡ r = cc in subst (λ n. n < 2 ^ 8) same h
+number-fits value r h is = cc
 
 pub register-fits : (k : Known) (e : Tree) (r : ℕ) → IsSound k → register_at k e ≡ Ok r → r < 2 ^ 8
 register-fits k e r sound is = number-fits (value_of (knowledge_of k) e) r (value-numbered k e sound) is

@@ -93,6 +93,5 @@ silent-one k label pseudo.Local e = silent-then k (register_at k e) _ (λ reg is
 silent-one k label p e = silent-fault k Operands
 
 pub silent-operand : (k : Known) (label : Option Label) (p : Pseudo) (operands : List Tree) → AreSilent k (one_operand k label p operands)
-silent-operand k label p [] = silent-fault k Operands
 silent-operand k label p (e ∷ []) = silent-one k label p e
-silent-operand k label p (e ∷ f ∷ more) = silent-fault k Operands
+silent-operand k label p operands = silent-fault k Operands

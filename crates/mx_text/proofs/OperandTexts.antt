@@ -64,10 +64,9 @@ same-operand (Address a) (Address b) lo lp same = ap Address (hex-differ a b lo 
 
 pub same-operands : (os ps : List Operand) → AreShown os → AreShown ps → map operand_text os ≡ map operand_text ps → os ≡ ps
 same-operands [] [] so sp same = refl
-same-operands [] (p ∷ ps) so sp same = cc same
-same-operands (o ∷ os) [] so sp same = cc same
 same-operands (o ∷ os) (p ∷ ps) so sp same =
     cc (same-operand o p so.0 sp.0 (first _ _ _ _ same), same-operands os ps so.1 sp.1 (ap (drop 1) same))
   where
     first : (x y : List ℕ) (xs ys : List (List ℕ)) → x ∷ xs ≡ y ∷ ys → x ≡ y
     first x y xs ys is = cc is
+same-operands os ps so sp same = cc same

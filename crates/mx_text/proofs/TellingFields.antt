@@ -80,10 +80,9 @@ same-target false false pc n m most lp ln lm le is = (refl, ahead pc n m most lp
 
 -- $Z or the byte Z tells which it is
 same-last : (a b : Bool) (z y : ℕ) → cond a (Number z) (Register z) ≡ cond b (Number y) (Register y) → (a ≡ b) × (z ≡ y)
-same-last true true z y is = (refl, cc is)
 same-last true false z y is = cc is
 same-last false true z y is = cc is
-same-last false false z y is = (refl, cc is)
+same-last a b z y is = (refl, cc is)
 
 one : (o p : Operand) → o ∷ [] ≡ p ∷ [] → o ≡ p
 one o p is = cc is
