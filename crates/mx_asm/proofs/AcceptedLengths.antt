@@ -46,19 +46,17 @@ gregs-few statements none = let low = (sound-end statements nothing_known [] non
 -- ---- the symbols
 
 not-long : (far long : Bool) → ◌≡◌ {A = Option AsmFault} (cond far (Some LocalAboveGlobals) (cond long (Some SymbolsTooMany) None)) None → long ≡ false
-not-long true long h = absurd (cc)
-not-long false true h = absurd (cc)
 not-long false false h = refl
+not-long far long h = absurd (cc)
 
 within-limit : (tetras : ℕ) → nat_lt trie_limit tetras ≡ false → tetras < 2 ^ 16
 within-limit tetras h = grind (arith, nat_tests)
 
 trie-by : (k : Known) (registers : List ℕ) (main : Option Value) → last_fault k registers main ≡ None → length (padded_trie k.names) / 4 < 2 ^ 16
-trie-by k registers None none = absurd (cc)
-trie-by k registers (Some (Reg r)) none = absurd (cc)
 trie-by k registers (Some (Pure main)) none =
     within-limit (length (padded_trie k.names) / 4)
     (not-long (list_any (λ reg. nat_le (lowest_of k.gregs) reg) registers) (nat_lt trie_limit (length (padded_trie k.names) / 4)) none)
+trie-by k registers main none = absurd (cc)
 
 no-fault : (line : ℕ) (fault : Option AsmFault) → at_line line fault ≡ None → fault ≡ None
 no-fault line None h = refl

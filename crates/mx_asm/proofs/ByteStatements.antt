@@ -33,12 +33,9 @@ pub record IsOfBytes (s : StatementTree) : Type 0 where
 
 pub has-octas : (e : Tree) → HasBytes e → HasOctas e
 has-octas (number n) h = h
-has-octas (name text) h = tt
-has-octas (back d) h = tt
-has-octas (ahead d) h = tt
-has-octas here h = tt
 has-octas (unary op e) h = has-octas e h
 has-octas (binary op l r) h = (has-octas l h.0, has-octas r h.1)
+has-octas e h = tt
 
 pub all-octas : (es : List Tree) → AllByRecursion HasBytes es → AllByRecursion HasOctas es
 all-octas [] h = tt

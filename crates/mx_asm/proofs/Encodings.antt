@@ -127,12 +127,7 @@ prefix-placed k label (name text) h =
     then-good (IsPlaced k.gregs) IsFullName (complete_symbol k text) (λ full. without_bytes k label (Pure k.at) (effect.Prefix full) k.at)
     (λ full is. symbol-full k.names text full h (answer-full (symbol_form k.names text) full is))
     (λ full is. silent-placed k label (Pure k.at) (effect.Prefix full) k.at is)
-prefix-placed k label (number n) h = tt
-prefix-placed k label (back d) h = tt
-prefix-placed k label (ahead d) h = tt
-prefix-placed k label here h = tt
-prefix-placed k label (unary op e) h = tt
-prefix-placed k label (binary op l r) h = tt
+prefix-placed k label e h = tt
 
 one-placed : (k : Known) (label : Option Label) (p : Pseudo) (e : Tree) → IsFullName k.names.prefix → length k.gregs ≤ 223 → IfPlaced (IsPlaced k.gregs) (one_form k label p e)
 one-placed k label pseudo.Is e h few = then-placed (IsPlaced k.gregs) (operand_value k e) (λ value. without_bytes k label value effect.Plain k.at) (λ value. silent-placed k label value effect.Plain k.at tt)
@@ -143,26 +138,18 @@ one-placed k label pseudo.Greg e h few =
     (λ reg is. greg-is k.gregs value reg (value == 0) few is)
     (λ reg is. silent-placed k label (Reg reg) (effect.Greg reg value) k.at is))
 one-placed k label pseudo.Local e h few = then-placed (IsPlaced k.gregs) (register_at k e) (λ reg. without_bytes k label (Pure k.at) (effect.Local reg) k.at) (λ reg. silent-placed k label (Pure k.at) (effect.Local reg) k.at tt)
-one-placed k label pseudo.Byte e h few = tt
-one-placed k label pseudo.Wyde e h few = tt
-one-placed k label pseudo.Tetra e h few = tt
-one-placed k label pseudo.Octa e h few = tt
+one-placed k label p e h few = tt
 
 operand-placed : (k : Known) (label : Option Label) (p : Pseudo) (operands : List Tree) → IsFullName k.names.prefix → length k.gregs ≤ 223 → IfPlaced (IsPlaced k.gregs) (one_operand k label p operands)
-operand-placed k label p [] h few = tt
 operand-placed k label p (e ∷ []) h few = one-placed k label p e h few
-operand-placed k label p (e ∷ f ∷ operands) h few = tt
+operand-placed k label p operands h few = tt
 
 pseudo-placed : (t : Targets) (k : Known) (line : ℕ) (label : Option Label) (p : Pseudo) (operands : List Tree) → IsFullName k.names.prefix → length k.gregs ≤ 223 → IfPlaced (IsPlaced k.gregs) (pseudo_form t k line label p operands)
 pseudo-placed t k line label pseudo.Byte operands h few = then-placed (IsPlaced k.gregs) (data_form t k line 1 operands) (with_bytes k label) (λ d. placed-bytes _ k label d.bytes d.waits refl)
 pseudo-placed t k line label pseudo.Wyde operands h few = then-placed (IsPlaced k.gregs) (data_form t k line 2 operands) (with_bytes k label) (λ d. placed-bytes _ k label d.bytes d.waits refl)
 pseudo-placed t k line label pseudo.Tetra operands h few = then-placed (IsPlaced k.gregs) (data_form t k line 4 operands) (with_bytes k label) (λ d. placed-bytes _ k label d.bytes d.waits refl)
 pseudo-placed t k line label pseudo.Octa operands h few = then-placed (IsPlaced k.gregs) (data_form t k line 8 operands) (with_bytes k label) (λ d. placed-bytes _ k label d.bytes d.waits refl)
-pseudo-placed t k line label pseudo.Is operands h few = operand-placed k label pseudo.Is operands h few
-pseudo-placed t k line label pseudo.Loc operands h few = operand-placed k label pseudo.Loc operands h few
-pseudo-placed t k line label pseudo.Prefix operands h few = operand-placed k label pseudo.Prefix operands h few
-pseudo-placed t k line label pseudo.Greg operands h few = operand-placed k label pseudo.Greg operands h few
-pseudo-placed t k line label pseudo.Local operands h few = operand-placed k label pseudo.Local operands h few
+pseudo-placed t k line label p operands h few = operand-placed k label p operands h few
 
 op-placed : (t : Targets) (k : Known) (line : ℕ) (label : Option Label) (op : Op) (operands : List Tree) → IsFullName k.names.prefix → length k.gregs ≤ 223 → IfPlaced (IsPlaced k.gregs) (op_form t k line label op operands)
 op-placed t k line label (PseudoOp p) operands h few = pseudo-placed t k line label p operands h few

@@ -46,10 +46,8 @@ below-greater : (n l reg : ℕ) → nat_lt n (max l (reg + 1)) ≡ (nat_lt n l |
 below-greater n l reg = grind (arith, nat_tests)
 
 effect-local : (n l : ℕ) (e : Effect) → nat_lt n (with_local l e) ≡ (nat_lt n l || list_any (λ reg. nat_le n reg) (local_of e))
-effect-local n l effect.Plain = sym (or-false _)
-effect-local n l (effect.Prefix full) = sym (or-false _)
-effect-local n l (effect.Greg reg value) = sym (or-false _)
 effect-local n l (effect.Local reg) = below-greater n l reg ∙ ap (λ b. nat_lt n l || b) (sym (or-false _))
+effect-local n l e = sym (or-false _)
 
 answer-local : (n l : ℕ) (r : Answer Placed) → nat_lt n (sight_local l r) ≡ (nat_lt n l || list_any (λ reg. nat_le n reg) (local_in r))
 answer-local n l (Err fault) = sym (or-false _)

@@ -43,9 +43,7 @@ mutual
       (record { field = s.field; whole = simp append_assoc (simp append_assoc at s.whole); sound = s.sound; bytes = (bytes-cut t (41 ∷ []) s.bytes.1).0 })
   primary-bytes (signed c op t e g h) front rest d b s =
       primary-bytes h (front ++ c ∷ []) rest d (sign d front c op b g) (record { field = s.field; whole = simp append_assoc (simp append_assoc at s.whole); sound = s.sound; bytes = s.bytes.1 })
-  primary-bytes (last_label c h) front rest d b s = tt
-  primary-bytes (next_label c h) front rest d b s = tt
-  primary-bytes place front rest d b s = tt
+  primary-bytes _ front rest d b s = tt
 
   product-bytes : {text : List ℕ} {e : Tree} → Product text e → (front rest : List ℕ) (d : ℕ) → Before d front → Part front text rest → HasBytes e
   product-bytes (primary t e h) front rest d b s = primary-bytes h front rest d b s

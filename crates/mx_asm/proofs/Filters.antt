@@ -45,14 +45,12 @@ or_assoc false b c = refl
 
 -- a test within another, and one that excludes it
 within-and : (a b : Bool) → (b ≡ true → a ≡ true) → (a && b) ≡ b
-within-and true b h = refl
 within-and false true h = absurd (let no : false ≡ true = h refl in cc)
-within-and false false h = refl
+within-and a b h = refl
 
 without-and : (a b : Bool) → (b ≡ true → a ≡ false) → (a && b) ≡ false
 without-and true true h = absurd (let no : true ≡ false = h refl in cc)
-without-and true false h = refl
-without-and false b h = refl
+without-and a b h = refl
 
 pub filter-within : {X : Type 0} (p q : X → Bool) → ((x : X) → q x ≡ true → p x ≡ true) → (xs : List X) → filter q (filter p xs) ≡ filter q xs
 filter-within p q h xs = filter-filter p q xs ∙ filter-same (λ x. p x && q x) q (λ x. within-and (p x) (q x) (h x)) xs

@@ -34,11 +34,7 @@ octas-push xs x h g = all-both (λ x. x < 2 ^ 64) xs (x ∷ []) h (g, tt)
 
 no-zero : (front : List ℕ) → codes ".mms" ≢ front ++ 0 ∷ []
 no-zero [] is = cc
-no-zero (a ∷ []) is = cc
-no-zero (a ∷ b ∷ []) is = cc
-no-zero (a ∷ b ∷ c ∷ []) is = cc
-no-zero (a ∷ b ∷ c ∷ d ∷ []) is = cc
-no-zero (a ∷ b ∷ c ∷ d ∷ e ∷ front) is = cc
+no-zero front is = cc
 
 pub fit-time : Fits (Pre (0 ∷ []))
 fit-time = (omega arith, (omega arith, tt))

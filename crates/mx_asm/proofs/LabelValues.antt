@@ -48,12 +48,7 @@ bytes-labelled false k label bytes waits = has-value label (Pure k.at)
 prefix-labelled : (k : Known) (label : Option Label) (e : Tree) → Labelled label (prefix_form k label e)
 prefix-labelled k label (name text) =
     then-labelled label (complete_symbol k text) (λ full. without_bytes k label (Pure k.at) (effect.Prefix full) k.at) (λ full. has-value label (Pure k.at))
-prefix-labelled k label (number n) = tt
-prefix-labelled k label (back d) = tt
-prefix-labelled k label (ahead d) = tt
-prefix-labelled k label here = tt
-prefix-labelled k label (unary op e) = tt
-prefix-labelled k label (binary op l r) = tt
+prefix-labelled k label e = tt
 
 one-labelled : (k : Known) (label : Option Label) (p : Pseudo) (e : Tree) → Labelled label (one_form k label p e)
 one-labelled k label pseudo.Is e = then-labelled label (operand_value k e) (λ value. without_bytes k label value effect.Plain k.at) (λ value. has-value label value)
@@ -63,26 +58,18 @@ one-labelled k label pseudo.Greg e =
     then-labelled label (pure_at k e) (λ value. and_then (register_for k.gregs value) (λ reg. without_bytes k label (Reg reg) (effect.Greg reg value) k.at))
     (λ value. then-labelled label (register_for k.gregs value) (λ reg. without_bytes k label (Reg reg) (effect.Greg reg value) k.at) (λ reg. has-value label (Reg reg)))
 one-labelled k label pseudo.Local e = then-labelled label (register_at k e) (λ reg. without_bytes k label (Pure k.at) (effect.Local reg) k.at) (λ reg. has-value label (Pure k.at))
-one-labelled k label pseudo.Byte e = tt
-one-labelled k label pseudo.Wyde e = tt
-one-labelled k label pseudo.Tetra e = tt
-one-labelled k label pseudo.Octa e = tt
+one-labelled k label p e = tt
 
 operand-labelled : (k : Known) (label : Option Label) (p : Pseudo) (operands : List Tree) → Labelled label (one_operand k label p operands)
-operand-labelled k label p [] = tt
 operand-labelled k label p (e ∷ []) = one-labelled k label p e
-operand-labelled k label p (e ∷ f ∷ operands) = tt
+operand-labelled k label p operands = tt
 
 pseudo-labelled : (t : Targets) (k : Known) (line : ℕ) (label : Option Label) (p : Pseudo) (operands : List Tree) → Labelled label (pseudo_form t k line label p operands)
 pseudo-labelled t k line label pseudo.Byte operands = then-labelled label (data_form t k line 1 operands) (with_bytes k label) (λ d. bytes-labelled _ k label d.bytes d.waits)
 pseudo-labelled t k line label pseudo.Wyde operands = then-labelled label (data_form t k line 2 operands) (with_bytes k label) (λ d. bytes-labelled _ k label d.bytes d.waits)
 pseudo-labelled t k line label pseudo.Tetra operands = then-labelled label (data_form t k line 4 operands) (with_bytes k label) (λ d. bytes-labelled _ k label d.bytes d.waits)
 pseudo-labelled t k line label pseudo.Octa operands = then-labelled label (data_form t k line 8 operands) (with_bytes k label) (λ d. bytes-labelled _ k label d.bytes d.waits)
-pseudo-labelled t k line label pseudo.Is operands = operand-labelled k label pseudo.Is operands
-pseudo-labelled t k line label pseudo.Loc operands = operand-labelled k label pseudo.Loc operands
-pseudo-labelled t k line label pseudo.Prefix operands = operand-labelled k label pseudo.Prefix operands
-pseudo-labelled t k line label pseudo.Greg operands = operand-labelled k label pseudo.Greg operands
-pseudo-labelled t k line label pseudo.Local operands = operand-labelled k label pseudo.Local operands
+pseudo-labelled t k line label p operands = operand-labelled k label p operands
 
 tetra-labelled : (t : Targets) (k : Known) (line : ℕ) (label : Option Label) (op : Op) (operands : List Tree) → Labelled label (op_form t k line label op operands)
 tetra-labelled t k line label (PseudoOp p) operands = pseudo-labelled t k line label p operands

@@ -29,10 +29,8 @@ use Rattle.mx_asm.proofs.MeaningLaws.{no-room}
 -- ---- the items of lines
 
 before-both : (a b c : List Item) → before (before a b) c ≡ before a (before b c)
-before-both [] b c = refl
 before-both (statement line label op operands ∷ items) b c = ap (λ is. statement line label op operands ∷ is) (before-both items b c)
-before-both (faulty line why ∷ items) b c = refl
-before-both (too_far line ∷ items) b c = refl
+before-both a b c = refl
 
 items-split : (all : List Line) (n : ℕ) (us vs : List Line) → items_from all n (us ++ vs) ≡ before (items_from all n us) (items_from all (n + length us) vs)
 unfolding items_from
@@ -69,15 +67,13 @@ continued (faulty line why ∷ items) more = []
 continued (too_far line ∷ items) more = []
 
 statements-split : (a b : List Item) → statements_in (entries_of (before a b)) ≡ statements_in (entries_of a) ++ continued a (statements_in (entries_of b))
-statements-split [] b = refl
 statements-split (statement line label op operands ∷ items) b = by (entry_of (statement line label op operands)) (statements-split items b)
   where
     by : (e : Entry) → statements_in (entries_of (before items b)) ≡ statements_in (entries_of items) ++ continued items (statements_in (entries_of b)) →
         statements_in (e ∷ entries_of (before items b)) ≡ statements_in (e ∷ entries_of items) ++ behind e (continued items (statements_in (entries_of b)))
     by (Err refused) h = refl
     by (Ok s) h = ap (λ ss. s ∷ ss) h
-statements-split (faulty line why ∷ items) b = refl
-statements-split (too_far line ∷ items) b = refl
+statements-split a b = refl
 
 module _ (P : StatementTree → Type 0) where
   continued-all : (a : List Item) (more : List StatementTree) → AllByRecursion P more → AllByRecursion P (continued a more)
@@ -87,8 +83,7 @@ module _ (P : StatementTree → Type 0) where
       by : (e : Entry) → AllByRecursion P (continued items more) → AllByRecursion P (behind e (continued items more))
       by (Err refused) rest = tt
       by (Ok s) rest = rest
-  continued-all (faulty line why ∷ items) more h = tt
-  continued-all (too_far line ∷ items) more h = tt
+  continued-all a more h = tt
 
   -- the statements of these that are accepted
   accepted-holds : (statements : List StatementTree) (k : Known) (earlier : List Sight) → AllByRecursion P statements → AllByRecursion (λ (s : Sight). P s.statement) (accepted earlier (sights_from k statements))

@@ -16,27 +16,14 @@ HaveBytes bytes = (q : ℕ) → bytes q < 2 ^ 8
 
 -- the byte of an octa at a place
 byte-of : (x a i : ℕ) → i < 8 → a % 8 ≡ i → byte_of x a ≡ byte_at (7 - i) x
-byte-of x a zero l e = rw e refl
-byte-of x a (suc zero) l e = rw e refl
-byte-of x a (suc (suc zero)) l e = rw e refl
-byte-of x a (suc (suc (suc zero))) l e = rw e refl
-byte-of x a (suc (suc (suc (suc zero)))) l e = rw e refl
-byte-of x a (suc (suc (suc (suc (suc zero))))) l e = rw e refl
-byte-of x a (suc (suc (suc (suc (suc (suc zero)))))) l e = rw e refl
 byte-of x a (suc (suc (suc (suc (suc (suc (suc zero))))))) l e = ap (λ i. x / 2 ^ (8 * (7 - i)) % 256) e ∙ (let whole : x / 1 % 256 ≡ x % 256 = omega arith in whole)
 byte-of x a (suc (suc (suc (suc (suc (suc (suc (suc i)))))))) l e = absurd (omega arith)
+byte-of x a i l e = rw e refl
 
 -- the byte of an octa by its place
 place-of : (x i : ℕ) → i < 8 → byte_at (7 - i) x ≡ get_or (octa_to_bytes x) i 0
-place-of x zero l = refl
-place-of x (suc zero) l = refl
-place-of x (suc (suc zero)) l = refl
-place-of x (suc (suc (suc zero))) l = refl
-place-of x (suc (suc (suc (suc zero)))) l = refl
-place-of x (suc (suc (suc (suc (suc zero))))) l = refl
-place-of x (suc (suc (suc (suc (suc (suc zero)))))) l = refl
-place-of x (suc (suc (suc (suc (suc (suc (suc zero))))))) l = refl
 place-of x (suc (suc (suc (suc (suc (suc (suc (suc i)))))))) l = absurd (omega arith)
+place-of x i l = refl
 
 -- one octa at all addresses of eight bytes
 abbrev pub IsEven : (ℕ → ℕ) → Type 0
@@ -72,14 +59,8 @@ eight-are f a h = (h a, (h (a + 1), (h (a + 2), (h (a + 3), (h (a + 4), (h (a + 
 eight-at : (f : ℕ → ℕ) (a q i : ℕ) → i < 8 → q ≡ a + i → get_or (eight f a) i 0 ≡ f q
 unfolding eight
 eight-at f a q zero l e = ap f (omega arith)
-eight-at f a q (suc zero) l e = ap f (sym e)
-eight-at f a q (suc (suc zero)) l e = ap f (sym e)
-eight-at f a q (suc (suc (suc zero))) l e = ap f (sym e)
-eight-at f a q (suc (suc (suc (suc zero)))) l e = ap f (sym e)
-eight-at f a q (suc (suc (suc (suc (suc zero))))) l e = ap f (sym e)
-eight-at f a q (suc (suc (suc (suc (suc (suc zero)))))) l e = ap f (sym e)
-eight-at f a q (suc (suc (suc (suc (suc (suc (suc zero))))))) l e = ap f (sym e)
 eight-at f a q (suc (suc (suc (suc (suc (suc (suc (suc i)))))))) l e = absurd (omega arith)
+eight-at f a q i l e = ap f (sym e)
 
 eight-back : (f : ℕ → ℕ) (a : ℕ) → HaveBytes f → octa_to_bytes (octa_from f a) ≡ eight f a
 unfolding eight

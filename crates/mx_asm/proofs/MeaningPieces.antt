@@ -70,10 +70,8 @@ covered-pages start bytes p l =
 
 pub tetras-length : (bytes : List ℕ) → length bytes % 4 ≡ 0 → 4 * length (tetras_of bytes) ≡ length bytes
 tetras-length [] l = refl
-tetras-length (b ∷ []) l = absurd (omega arith)
-tetras-length (b ∷ c ∷ []) l = absurd (omega arith)
-tetras-length (b ∷ c ∷ d ∷ []) l = absurd (omega arith)
 tetras-length (b ∷ c ∷ d ∷ e ∷ more) l = omega (arith, tetras-length more (omega arith))
+tetras-length bytes l = absurd (omega arith)
 
 pub covering-length : (start : ℕ) (bytes : List ℕ) → length (covering start bytes) ≡ tetra_count start (length bytes)
 covering-length start bytes =

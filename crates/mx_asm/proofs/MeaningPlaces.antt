@@ -56,9 +56,8 @@ fixed-to t s p steady e = fixed-by t s p (outline s) (encoding t s.known s.state
 -- tests of addresses hang on how many bytes there are
 pub same-addresses : (f : ℕ → Bool) (a : ℕ) (xs ys : List ℕ) → length xs ≡ length ys → list_any (λ (q : ℕ × ℕ). f q.0) (from_place a xs) ≡ list_any (λ (q : ℕ × ℕ). f q.0) (from_place a ys)
 same-addresses f a [] [] e = refl
-same-addresses f a [] (y ∷ ys) e = absurd (omega (arith, e))
-same-addresses f a (x ∷ xs) [] e = absurd (omega (arith, e))
 same-addresses f a (x ∷ xs) (y ∷ ys) e = ap (λ b. f a || b) (same-addresses f (a + 1) xs ys (omega (arith, e)))
+same-addresses f a xs ys e = absurd (omega (arith, e))
 
 fixed-addresses : (f : ℕ → Bool) (t : Targets) (p q : Placed) → IsFixed t p q → list_any (λ (r : ℕ × ℕ). f r.0) (from_place q.start q.bytes) ≡ list_any (λ (r : ℕ × ℕ). f r.0) (from_place p.start p.bytes)
 fixed-addresses f t p q is = ap (λ a. list_any (λ (r : ℕ × ℕ). f r.0) (from_place a q.bytes)) is.start ∙ same-addresses f p.start q.bytes p.bytes is.count
@@ -86,8 +85,7 @@ bytes-lines s line start (b ∷ bytes) = refl
 
 fixes-lines : (s : State) (value : Value) (waits : List Wait) → (behind_fixes s value waits).lines ≡ s.lines
 fixes-lines s value [] = refl
-fixes-lines s (Pure v) (w ∷ waits) = refl
-fixes-lines s (Reg r) (w ∷ waits) = refl
+fixes-lines s value waits = refl
 
 placed-lines : (s : State) (line : ℕ) (p : Placed) (waits : List Wait) → (behind_placed s line p waits).lines ≡ with_lines s.lines (piece_at line p.start p.bytes)
 placed-lines s line p waits =
@@ -144,8 +142,7 @@ inside-on start placed_bytes w is bytes l = by placed_bytes bytes is.first (subs
 -- the pages of records
 fix-length : (kind : WaitKind) (place : ℕ) (target : Option ℕ) → length (fix_bytes kind place target) ≡ kind_size kind
 fix-length Octa place target = refl
-fix-length Near place target = refl
-fix-length Far place target = refl
+fix-length kind place target = refl
 
 fixes-on : (t : Targets) (waits : List Wait) (ps : List (ℕ × ℕ)) → AllByRecursion (IsOn ps) waits → AreMore (pages_of ps) (pages_of (fix_placements t waits))
 fixes-on t [] ps on = λ p h. absurd (cc)
@@ -161,20 +158,18 @@ fixes-on t (w ∷ waits) ps on =
     by p rest false b e f h = rest (f ∙ h)
 
 between : (a f b : Bool) → (f ≡ true → (a || b) ≡ true) → ((a || f) || b) ≡ (a || b)
-between true f b h = refl
 between false true b h = sym (h refl)
-between false false b h = refl
+between a f b h = refl
 
 fixes-pages : (s : State) (value : Value) (waits : List Wait) (qs : List (ℕ × ℕ)) (p : ℕ) → AllByRecursion (IsOn (s.placements ++ qs)) waits →
     pages_of ((behind_fixes s value waits).placements ++ qs) p ≡ pages_of (s.placements ++ qs) p
-fixes-pages s value [] qs p on = refl
-fixes-pages s (Reg r) (w ∷ waits) qs p on = refl
 fixes-pages s (Pure v) (w ∷ waits) qs p on =
     let fixed : List (ℕ × ℕ) = fix_placements (at_value v) (w ∷ waits) in
     append-pages (s.placements ++ fixed) qs p
     ∙ ap (λ b. b || pages_of qs p) (append-pages s.placements fixed p)
     ∙ between (pages_of s.placements p) (pages_of fixed p) (pages_of qs p) (λ h. sym (append-pages s.placements qs p) ∙ fixes-on (at_value v) (w ∷ waits) (s.placements ++ qs) on p h)
     ∙ sym (append-pages s.placements qs p)
+fixes-pages s value waits qs p on = refl
 
 bytes-pages : (s : State) (line start : ℕ) (bytes : List ℕ) (p : ℕ) → pages_of (behind_bytes s line start bytes).placements p ≡ pages_of (s.placements ++ from_place start bytes) p
 bytes-pages s line start [] p = ap (λ ps. pages_of ps p) (sym (append-nil s.placements))

@@ -76,8 +76,7 @@ entry-has : (i : Item) → ItemHas i → EntryHas (entry_of i)
 entry-has (statement line label op operands) h =
     operation-has (record { label = option_map label_of label; op = op; operands = operands }) line (operation_for (is_some (option_map label_of label)) op) h.0 (labels-have label h.1)
     (λ o is. operation-named (is_some (option_map label_of label)) op (operation_of op) o refl is) h.2
-entry-has (faulty line why) h = tt
-entry-has (too_far line) h = tt
+entry-has i h = tt
 
 entries-have : (items : List Item) → AllByRecursion ItemHas items → AllByRecursion IsOfBytes (statements_in (entries_of items))
 entries-have [] h = tt
@@ -107,8 +106,7 @@ map-has n line (r ∷ rs) some h = (item-has n line r some h, map-has n line rs 
 before-has : (items later : List Item) → AllByRecursion ItemHas items → AllByRecursion ItemHas later → AllByRecursion ItemHas (before items later)
 before-has [] later h g = g
 before-has (statement line label op operands ∷ items) later h g = (h.0, before-has items later h.1 g)
-before-has (faulty line why ∷ items) later h g = (tt, tt)
-before-has (too_far line ∷ items) later h g = (tt, tt)
+before-has items later h g = (tt, tt)
 
 items-have : (all : List (List ℕ)) (n : ℕ) (lines : List (List ℕ)) → 0 < n → AllByRecursion AreBytes lines → AllByRecursion ItemHas (items_from all n lines)
 unfolding items_from

@@ -49,10 +49,9 @@ unfolding split
 split-bytes source h = parts-bytes (λ b. b == 10) source h
 
 last-bytes : (lines : List (List ℕ)) → AllByRecursion AreBytes lines → AllByRecursion AreBytes (without_empty_last lines)
-last-bytes [] h = tt
-last-bytes ([] ∷ []) h = tt
 last-bytes ((b ∷ bs) ∷ []) h = h
 last-bytes (line ∷ next ∷ lines) h = (h.0, last-bytes (next ∷ lines) h.1)
+last-bytes lines h = tt
 
 pub source-bytes : (source : List ℕ) → AreBytes source → AllByRecursion AreBytes (lines_of source)
 unfolding lines_of
@@ -85,9 +84,8 @@ room-is statements h =
     (same-pages _ _ (λ page. outlined-pages (final_known statements).names (sights_of statements) [] page h.faultless (steady-all statements h.read h.faultless)))
 
 both-runs : (pages : Option ℕ) (refused : Option Refused) → run_refusal_with pages refused ≡ None → (pages ≡ None) × (refused ≡ None)
-both-runs (Some line) refused h = absurd (cc)
-both-runs None (Some r) h = absurd (cc)
 both-runs None None h = (refl, refl)
+both-runs pages refused h = absurd (cc)
 
 -- what is not refused for its pages has room
 room-of : (ss : List Sight) → page_refusal ss ≡ None → has_room (outlined ss) ≡ true

@@ -45,8 +45,7 @@ pub record IsLow (w : Wait) : Type 0 where
 
 some-size : (kind : WaitKind) → 4 ≤ kind_size kind
 some-size Octa = omega arith
-some-size Near = omega arith
-some-size Far = omega arith
+some-size kind = omega arith
 
 inside-low : (p : Placed) (w : Wait) → IsLaid p → IsInside p.start (length p.bytes) w → IsLow w
 inside-low p w laid h =
@@ -99,8 +98,7 @@ octa-are n = (omega arith, (omega arith, (omega arith, (omega arith, (omega arit
 
 fix-are : (kind : WaitKind) (place : ℕ) (target : Option ℕ) → AreBytes (fix_bytes kind place target)
 fix-are Octa place target = octa-are _
-fix-are Near place target = word-bytes _
-fix-are Far place target = word-bytes _
+fix-are kind place target = word-bytes _
 
 pub fixes-have : (t : Targets) (waits : List Wait) (ps : List (ℕ × ℕ)) → HaveBytes (placed ps) → HaveBytes (placed (ps ++ fix_placements t waits))
 fixes-have t [] ps have = subst (λ qs. HaveBytes (placed qs)) (sym (append-nil ps)) have
@@ -191,14 +189,12 @@ module _ (n : ℕ) (big : 2 ^ 51 ≤ n) where
   takes-fix-items line value (w ∷ waits) items s have word low h = takes-onto line value w waits items s (fixes line value (w ∷ waits)) have word low refl h
 
 pub fixed-have : (s : State) (value : Value) (waits : List Wait) → HaveBytes (placed s.placements) → HaveBytes (placed (behind_fixes s value waits).placements)
-fixed-have s value [] have = have
 fixed-have s (Pure v) (w ∷ waits) have = fixes-have (at_value v) (w ∷ waits) s.placements have
-fixed-have s (Reg r) (w ∷ waits) have = have
+fixed-have s value waits have = have
 
 fixed-head : (s : State) (value : Value) (waits : List Wait) → head_of (behind_fixes s value waits) ≡ head_at_fixes (head_of s) value waits
 fixed-head s value [] = refl
-fixed-head s (Pure v) (w ∷ waits) = refl
-fixed-head s (Reg r) (w ∷ waits) = refl
+fixed-head s value waits = refl
 
 bytes-head : (s : State) (line start : ℕ) (bytes : List ℕ) → head_of (behind_bytes s line start bytes) ≡ head_at_bytes (head_of s) line start bytes
 bytes-head s line start [] = refl

@@ -63,10 +63,9 @@ take-failed [] e = refl
 take-failed (x ∷ items) e = refl
 
 pub take-append : (xs ys : List Item) (r : Result Loading Meaningless) → take_items (xs ++ ys) r ≡ take_items ys (take_items xs r)
-take-append [] ys (Ok s) = refl
 take-append (x ∷ xs) ys (Ok s) = take-append xs ys (take_item s x)
-take-append [] ys (Err e) = refl
 take-append (x ∷ xs) ys (Err e) = sym (take-failed ys e)
+take-append [] ys r = refl
 
 pub takes-both : (n : ℕ) (xs ys : List Item) (s t u : State) → Takes n xs s t → Takes n ys t u → Takes n (xs ++ ys) s u
 takes-both n xs ys s t u first second = record { taken = take-append xs ys (limited n s) ∙ ap (take_items ys) first.taken ∙ second.taken }
@@ -203,9 +202,6 @@ pub takes-tetras : (n : ℕ) (bytes : List ℕ) (s : State) → 2 ^ 51 ≤ n →
     Takes n (map Load (tetras_of bytes)) s (behind_tetras s bytes)
 takes-tetras n [] s big m l low are have =
     takes-equal n [] s s (behind_tetras s []) (same-state s (behind_tetras s []) (no-bytes s.placements) refl (omega arith) refl) (takes-none n s)
-takes-tetras n (b ∷ []) s big m l low are have = absurd (omega (arith, l))
-takes-tetras n (b ∷ c ∷ []) s big m l low are have = absurd (omega (arith, l))
-takes-tetras n (b ∷ c ∷ d ∷ []) s big m l low are have = absurd (omega (arith, l))
 takes-tetras n (b ∷ c ∷ d ∷ e ∷ more) s big m l low are have =
     let t : State = behind_tetra s b c d e in
     let four_are : AreBytes (b ∷ c ∷ d ∷ e ∷ []) = (are.0, (are.1.0, (are.1.1.0, (are.1.1.1.0, tt)))) in
@@ -216,3 +212,4 @@ takes-tetras n (b ∷ c ∷ d ∷ e ∷ more) s big m l low are have =
     (takes-both n (Load (tetra_from_bytes (b ∷ c ∷ d ∷ e ∷ [])) ∷ []) (map Load (tetras_of more)) s t (behind_tetras t more)
     (takes-tetra n b c d e s big m (omega (arith, low)) four_are have)
     (takes-tetras n more t big (omega (arith, m)) (omega (arith, l)) (omega (arith, low)) are.1.1.1.1 (more-bytes s.placements s.lambda (b ∷ c ∷ d ∷ e ∷ []) have four_are)))
+takes-tetras n bytes s big m l low are have = absurd (omega (arith, l))

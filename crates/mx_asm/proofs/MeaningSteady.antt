@@ -31,18 +31,15 @@ sound-at k at h = record { symbols = h.symbols; backs = h.backs; gregs = h.gregs
 
 sound-label : (k : Known) (label : Option Label) (value : Option Value) (at : ℕ) → label_fault k.names label ≡ None → IfSome value HasRegisterNumber → IsSound k →
     IsSound (record { names = with_label k.names label value; at = at; gregs = k.gregs })
-sound-label k None value at none fits h = sound-at k at h
-sound-label k (Some (Name text)) None at none fits h = sound-at k at h
-sound-label k (Some (Local d)) None at none fits h = sound-at k at h
 sound-label k (Some (Name text)) (Some v) at none fits h =
     sound-at _ at (sound-symbol k (complete_form k.names.prefix text) v (not-some _ (name-new k.names text (symbol_form k.names text) refl none)) fits h)
 sound-label k (Some (Local d)) (Some v) at none fits h = sound-at _ at (sound-local k d v fits h)
+sound-label k label value at none fits h = sound-at k at h
 
 sound-effect : (k : Known) (e : Effect) → IsPossible k.gregs e → IsSound k → IsSound (with_effect k e)
-sound-effect k effect.Plain possible h = h
 sound-effect k (effect.Prefix full) possible h = record { symbols = h.symbols; backs = h.backs; gregs = h.gregs }
 sound-effect k (effect.Greg reg value) possible h = sound-greg k reg value possible h
-sound-effect k (effect.Local reg) possible h = h
+sound-effect k e possible h = h
 
 pub sound-kept : (k : Known) (s : StatementTree) (p : Placed) → IsSound k → encoding no_targets k s ≡ Ok p → label_fault k.names s.label ≡ None → IsSound (known_after k s)
 unfolding known_after

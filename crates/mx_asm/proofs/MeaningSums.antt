@@ -105,11 +105,8 @@ symbol-kept names form full value v new h = value-inserted _ names.symbols full 
 
 label-kept : (names : NameTable) (label : Option Label) (value : Option Value) (full : List ℕ) (v : Value) → label_fault names label ≡ None → symbol_in full names.symbols ≡ Some v →
     symbol_in full (with_label names label value).symbols ≡ Some v
-label-kept names None value full v none h = h
-label-kept names (Some (Name text)) None full v none h = h
-label-kept names (Some (Local d)) None full v none h = h
 label-kept names (Some (Name text)) (Some value) full v none h = symbol-kept names (complete_form names.prefix text) full value v (not-some _ (name-new names text (symbol_form names text) refl none)) h
-label-kept names (Some (Local d)) (Some value) full v none h = h
+label-kept names label value full v none h = h
 
 pub after-is : (k : Known) (st : StatementTree) (p : Placed) → encoding no_targets k st ≡ Ok p → (known_after k st).names.symbols ≡ (with_label k.names st.label p.label).symbols
 unfolding known_after

@@ -18,11 +18,8 @@ pick a b c d (suc (suc zero)) = c
 pick a b c d (suc (suc (suc n))) = d
 
 digit : (a b c d t i : ℕ) → a < 256 → b < 256 → c < 256 → d < 256 → t ≡ a * 16777216 + b * 65536 + c * 256 + d → i < 4 → t / 2 ^ (8 * (3 - i)) % 256 ≡ pick a b c d i
-digit a b c d t zero la lb lc ld e l = omega arith
-digit a b c d t (suc zero) la lb lc ld e l = omega arith
-digit a b c d t (suc (suc zero)) la lb lc ld e l = omega arith
-digit a b c d t (suc (suc (suc zero))) la lb lc ld e l = omega arith
 digit a b c d t (suc (suc (suc (suc i)))) la lb lc ld e l = absurd (omega arith)
+digit a b c d t i la lb lc ld e l = omega arith
 
 -- a tetra's byte at an address in it, and at an address outside it
 tetra-inside : (a b c d x q : ℕ) → a < 256 → b < 256 → c < 256 → d < 256 → q / 4 ≡ x / 4 →

@@ -62,8 +62,6 @@ module _ (final : NameTable) (k : Known) (st : StatementTree) (statements : List
   settles-by : (p : Placed) (label : Option Label) (value : Option Value) → outline here ≡ Ok p → HasLabel label value → st.label ≡ label → p.label ≡ value → label_fault k.names label ≡ None →
       AreLabels k.names earlier → first_fault (earlier ++ here ∷ []) rest ≡ None → final ≡ (fold known_after (known_after k st) statements).names → Settles final earlier rest here p q
   settles-by p None None is has e v none labels others ends = unlabelled-settles final earlier rest here p q is e
-  settles-by p None (Some value) is has e v none labels others ends = absurd has
-  settles-by p (Some label) None is has e v none labels others ends = absurd has
   settles-by p (Some (Name text)) (Some value) is has e v none labels others ends =
       let full : List ℕ = complete_form k.names.prefix text in
       let new : is_some (symbol_in full k.names.symbols) ≡ false = name-new k.names text (symbol_form k.names text) refl none in
@@ -71,6 +69,7 @@ module _ (final : NameTable) (k : Known) (st : StatementTree) (statements : List
       named-settles final earlier rest here p q is text e (labels full ∙ new)
       (valued final full (awaited_value p.label) (ap (λ (n : NameTable). symbol_in full n.symbols) ends ∙ there ∙ ap (λ v. Some (awaited_value v)) (sym v)))
   settles-by p (Some (Local d)) (Some value) is has e v none labels others ends = local-settles final earlier rest here p q is d value e v
+  settles-by p label value is has e v none labels others ends = absurd has
 
 -- ---- the sum
 

@@ -66,15 +66,12 @@ unary-word Plus v h = h
 unary-word Minus (Pure x) h = omega arith
 unary-word Not (Pure x) h = omega arith
 unary-word Register (Pure x) h = register-word x
-unary-word Minus (Reg x) h = tt
-unary-word Not (Reg x) h = tt
-unary-word Register (Reg x) h = tt
+unary-word op (Reg x) h = tt
 
 less-of : (x y z : ℕ) → x ≤ y → y < z → x < z
 less-of x y z l m = omega (arith, l, m)
 
 pure-word : (op : BinOp) (x y : ℕ) → x < 2 ^ 64 → y < 2 ^ 64 → HasWord (pure_value op x y)
-pure-word Mul x y l m = omega arith
 pure-word Div x y l m = by (y == 0)
   where
     by : (b : Bool) → HasWord (cond b (Err DivZero) (Ok (Pure (x / y))))
@@ -101,46 +98,25 @@ pure-word Right x y l m = by (nat_lt y 64)
     by true = less-of (x / 2 ^ y) x (2 ^ 64) (div-le_self x (2 ^ y)) l
     by false = omega arith
 pure-word And x y l m = less-of (bit_and x y) x (2 ^ 64) (and_le_l x y) l
-pure-word Add x y l m = omega arith
-pure-word Sub x y l m = omega arith
 pure-word Or x y l m = or_lt 64 x y l m
 pure-word Xor x y l m = xor_lt 64 x y l m
+pure-word op x y l m = omega arith
 
 binary-word : (op : BinOp) (v w : Value) → IsWord v → IsWord w → HasWord (binary_value op v w)
 binary-word op (Pure x) (Pure y) h g = pure-word op x y h g
 binary-word Add (Reg x) (Pure y) h g = register-word ((x + y) % 2 ^ 64)
 binary-word Add (Pure x) (Reg y) h g = register-word ((x + y) % 2 ^ 64)
-binary-word Add (Reg x) (Reg y) h g = tt
 binary-word Sub (Reg x) (Pure y) h g = register-word (difference x y)
 binary-word Sub (Reg x) (Reg y) h g = omega arith
-binary-word Sub (Pure x) (Reg y) h g = tt
-binary-word Mul (Reg x) w h g = tt
-binary-word Mul (Pure x) (Reg y) h g = tt
-binary-word Div (Reg x) w h g = tt
-binary-word Div (Pure x) (Reg y) h g = tt
-binary-word Fraction (Reg x) w h g = tt
-binary-word Fraction (Pure x) (Reg y) h g = tt
-binary-word Rem (Reg x) w h g = tt
-binary-word Rem (Pure x) (Reg y) h g = tt
-binary-word Left (Reg x) w h g = tt
-binary-word Left (Pure x) (Reg y) h g = tt
-binary-word Right (Reg x) w h g = tt
-binary-word Right (Pure x) (Reg y) h g = tt
-binary-word And (Reg x) w h g = tt
-binary-word And (Pure x) (Reg y) h g = tt
-binary-word Or (Reg x) w h g = tt
-binary-word Or (Pure x) (Reg y) h g = tt
-binary-word Xor (Reg x) w h g = tt
-binary-word Xor (Pure x) (Reg y) h g = tt
+binary-word op v w h g = tt
 
 operand-word : (op : UnOp) (r : Valued) → HasWord r → HasWord (after_operand op r)
 operand-word op (Err fault) h = tt
 operand-word op (Ok v) h = unary-word op v h
 
 both-word : (op : BinOp) (l r : Valued) → HasWord l → HasWord r → HasWord (after_both op l r)
-both-word op (Err fault) r h g = tt
-both-word op (Ok v) (Err fault) h g = tt
 both-word op (Ok v) (Ok w) h g = binary-word op v w h g
+both-word op l r h g = tt
 
 -- ---- what is known
 
@@ -190,9 +166,8 @@ predefined-word (b ∷ bare) = by (b == 58)
     by false = tt
 
 zeros-word : (n d : ℕ) → IsWord (slice_index_or (replicate n (Pure 0)) d (Pure 0))
-zeros-word zero d = omega arith
-zeros-word (suc n) zero = omega arith
 zeros-word (suc n) (suc d) = zeros-word n d
+zeros-word n d = omega arith
 
 pub words-start : KnowsWords (record { names = start; at = 0; gregs = [] })
 words-start = record { symbols = λ full. predefined-word full; backs = λ d. zeros-word 10 d; at = omega arith }
@@ -230,18 +205,12 @@ value-then (Err fault) next h f = tt
 value-then (Ok v) next h f = f v h
 
 pure-then : (r : Valued) (next : ℕ → Answer Placed) → HasWord r → ((n : ℕ) → n < 2 ^ 64 → Worded (next n)) → Worded (and_then (and_then (answer_of r) pure_number) next)
-pure-then (Err fault) next h f = tt
 pure-then (Ok (Pure n)) next h f = f n h
-pure-then (Ok (Reg r)) next h f = tt
+pure-then r next h f = tt
 
 prefix-words : (k : Known) (label : Option Label) (e : Tree) → k.at < 2 ^ 64 → Worded (prefix_form k label e)
 prefix-words k label (name text) at = then-words (complete_symbol k text) (λ full. without_bytes k label (Pure k.at) (effect.Prefix full) k.at) (λ full. silent-words k label (Pure k.at) (effect.Prefix full) k.at at at)
-prefix-words k label (number n) at = tt
-prefix-words k label (back d) at = tt
-prefix-words k label (ahead d) at = tt
-prefix-words k label here at = tt
-prefix-words k label (unary op e) at = tt
-prefix-words k label (binary op l r) at = tt
+prefix-words k label e at = tt
 
 one-words : (k : Known) (label : Option Label) (p : Pseudo) (e : Tree) → KnowsWords k → HasOctas e → Worded (one_form k label p e)
 one-words k label pseudo.Is e h is = value-then (value_of (knowledge_of k) e) (λ value. without_bytes k label value effect.Plain k.at) (value-word k e h is) (λ v w. silent-words k label v effect.Plain k.at w h.at)
@@ -251,26 +220,18 @@ one-words k label pseudo.Greg e h is =
     then-words (pure_at k e) (λ value. and_then (register_for k.gregs value) (λ reg. without_bytes k label (Reg reg) (effect.Greg reg value) k.at))
     (λ value. then-words (register_for k.gregs value) (λ reg. without_bytes k label (Reg reg) (effect.Greg reg value) k.at) (λ reg. silent-words k label (Reg reg) (effect.Greg reg value) k.at tt h.at))
 one-words k label pseudo.Local e h is = then-words (register_at k e) (λ reg. without_bytes k label (Pure k.at) (effect.Local reg) k.at) (λ reg. silent-words k label (Pure k.at) (effect.Local reg) k.at h.at h.at)
-one-words k label pseudo.Byte e h is = tt
-one-words k label pseudo.Wyde e h is = tt
-one-words k label pseudo.Tetra e h is = tt
-one-words k label pseudo.Octa e h is = tt
+one-words k label p e h is = tt
 
 operand-words : (k : Known) (label : Option Label) (p : Pseudo) (operands : List Tree) → KnowsWords k → AllByRecursion HasOctas operands → Worded (one_operand k label p operands)
-operand-words k label p [] h are = tt
 operand-words k label p (e ∷ []) h are = one-words k label p e h are.0
-operand-words k label p (e ∷ f ∷ operands) h are = tt
+operand-words k label p operands h are = tt
 
 pseudo-words : (t : Targets) (k : Known) (line : ℕ) (label : Option Label) (p : Pseudo) (operands : List Tree) → KnowsWords k → AllByRecursion HasOctas operands → Worded (pseudo_form t k line label p operands)
 pseudo-words t k line label pseudo.Byte operands h are = then-words (data_form t k line 1 operands) (with_bytes k label) (λ d. bytes-words k label d.bytes d.waits h.at)
 pseudo-words t k line label pseudo.Wyde operands h are = then-words (data_form t k line 2 operands) (with_bytes k label) (λ d. bytes-words k label d.bytes d.waits h.at)
 pseudo-words t k line label pseudo.Tetra operands h are = then-words (data_form t k line 4 operands) (with_bytes k label) (λ d. bytes-words k label d.bytes d.waits h.at)
 pseudo-words t k line label pseudo.Octa operands h are = then-words (data_form t k line 8 operands) (with_bytes k label) (λ d. bytes-words k label d.bytes d.waits h.at)
-pseudo-words t k line label pseudo.Is operands h are = operand-words k label pseudo.Is operands h are
-pseudo-words t k line label pseudo.Loc operands h are = operand-words k label pseudo.Loc operands h are
-pseudo-words t k line label pseudo.Prefix operands h are = operand-words k label pseudo.Prefix operands h are
-pseudo-words t k line label pseudo.Greg operands h are = operand-words k label pseudo.Greg operands h are
-pseudo-words t k line label pseudo.Local operands h are = operand-words k label pseudo.Local operands h are
+pseudo-words t k line label p operands h are = operand-words k label p operands h are
 
 op-words : (t : Targets) (k : Known) (line : ℕ) (label : Option Label) (op : Op) (operands : List Tree) → KnowsWords k → AllByRecursion HasOctas operands → Worded (op_form t k line label op operands)
 op-words t k line label (PseudoOp p) operands h are = pseudo-words t k line label p operands h are
@@ -294,17 +255,12 @@ awaited-word (Some v) h = h
 -- ---- behind a statement
 
 set-word : (values : List Value) (d e : ℕ) (v : Value) → IsWord v → IsWord (slice_index_or values e (Pure 0)) → IsWord (slice_index_or (slice_set values d v) e (Pure 0))
-set-word [] d e v fits h = h
 set-word (x ∷ values) zero zero v fits h = fits
-set-word (x ∷ values) zero (suc e) v fits h = h
-set-word (x ∷ values) (suc d) zero v fits h = h
 set-word (x ∷ values) (suc d) (suc e) v fits h = set-word values d e v fits h
+set-word values d e v fits h = h
 
 label-words : (k : Known) (label : Option Label) (value : Option Value) (after : ℕ) → label_fault k.names label ≡ None → IfSome value IsWord → after < 2 ^ 64 → KnowsWords k →
     KnowsWords (record { names = with_label k.names label value; at = after; gregs = k.gregs })
-label-words k None value after none word l h = record { symbols = h.symbols; backs = h.backs; at = l }
-label-words k (Some (Name text)) None after none word l h = record { symbols = h.symbols; backs = h.backs; at = l }
-label-words k (Some (Local d)) None after none word l h = record { symbols = h.symbols; backs = h.backs; at = l }
 label-words k (Some (Local d)) (Some v) after none word l h = record { symbols = h.symbols; backs = λ e. set-word k.names.backs d e v word (h.backs e); at = l }
 label-words k (Some (Name text)) (Some v) after none word l h =
     let full : List ℕ = complete_form k.names.prefix text in
@@ -318,12 +274,12 @@ label-words k (Some (Name text)) (Some v) after none word l h =
     by : (b : Bool) (other : Option Value) → IfSome other IsWord → IfSome (cond b (Some v) other) IsWord
     by true other g = word
     by false other g = g
+label-words k label value after none word l h = record { symbols = h.symbols; backs = h.backs; at = l }
 
 effect-words : (k : Known) (e : Effect) → KnowsWords k → KnowsWords (with_effect k e)
-effect-words k effect.Plain h = h
 effect-words k (effect.Prefix full) h = record { symbols = h.symbols; backs = h.backs; at = h.at }
 effect-words k (effect.Greg reg value) h = record { symbols = h.symbols; backs = h.backs; at = h.at }
-effect-words k (effect.Local reg) h = h
+effect-words k e h = h
 
 pub words-kept : (k : Known) (s : StatementTree) (p : Placed) → KnowsWords k → IsStatement s → encoding no_targets k s ≡ Ok p → label_fault k.names s.label ≡ None → KnowsWords (known_after k s)
 unfolding known_after

@@ -57,9 +57,8 @@ full-bytes names text full h g is = subst AreBytes (sym (form-is names text full
 -- ---- each operation
 
 pure-low : (r : Valued) (n : ℕ) → HasWord r → and_then (answer_of r) pure_number ≡ Ok n → n < 2 ^ 64
-pure-low (Err fault) n h is = absurd (cc)
-pure-low (Ok (Reg r)) n h is = absurd (cc)
 pure-low (Ok (Pure m)) n h is = let same : m ≡ n = cc in subst (λ x. x < 2 ^ 64) same h
+pure-low r n h is = absurd (cc)
 
 bytes-effect : (high : Bool) (k : Known) (label : Option Label) (bytes : List ℕ) (waits : List Wait) →
     IfPlaced HasEffect (cond high (Err BadPlace) (Ok (record { start = k.at; bytes = bytes; waits = waits; label = label_value label (Pure k.at); effect = effect.Plain; after = k.at + length bytes })))
@@ -70,12 +69,7 @@ prefix-effect : (k : Known) (label : Option Label) (e : Tree) → AreBytes k.nam
 prefix-effect k label (name text) prefix has =
     then-good HasEffect AreBytes (complete_symbol k text) (λ full. without_bytes k label (Pure k.at) (effect.Prefix full) k.at)
     (λ full is. full-bytes k.names text full prefix has (answer-full (symbol_form k.names text) full is)) (λ full bytes. bytes)
-prefix-effect k label (number n) prefix has = tt
-prefix-effect k label (back d) prefix has = tt
-prefix-effect k label (ahead d) prefix has = tt
-prefix-effect k label here prefix has = tt
-prefix-effect k label (unary op e) prefix has = tt
-prefix-effect k label (binary op l r) prefix has = tt
+prefix-effect k label e prefix has = tt
 
 greg-effect : (k : Known) (label : Option Label) (e : Tree) → KnowsWords k → HasBytes e → IfPlaced HasEffect (one_form k label pseudo.Greg e)
 greg-effect k label e words has =
@@ -89,26 +83,18 @@ one-effect k label pseudo.Loc e words prefix has = then-placed HasEffect (pure_a
 one-effect k label pseudo.Prefix e words prefix has = prefix-effect k label e prefix has
 one-effect k label pseudo.Greg e words prefix has = greg-effect k label e words has
 one-effect k label pseudo.Local e words prefix has = then-placed HasEffect (register_at k e) (λ reg. without_bytes k label (Pure k.at) (effect.Local reg) k.at) (λ reg. tt)
-one-effect k label pseudo.Byte e words prefix has = tt
-one-effect k label pseudo.Wyde e words prefix has = tt
-one-effect k label pseudo.Tetra e words prefix has = tt
-one-effect k label pseudo.Octa e words prefix has = tt
+one-effect k label p e words prefix has = tt
 
 operand-effect : (k : Known) (label : Option Label) (p : Pseudo) (operands : List Tree) → KnowsWords k → AreBytes k.names.prefix → AllByRecursion HasBytes operands → IfPlaced HasEffect (one_operand k label p operands)
-operand-effect k label p [] words prefix has = tt
 operand-effect k label p (e ∷ []) words prefix has = one-effect k label p e words prefix has.0
-operand-effect k label p (e ∷ f ∷ operands) words prefix has = tt
+operand-effect k label p operands words prefix has = tt
 
 pseudo-effect : (t : Targets) (k : Known) (line : ℕ) (label : Option Label) (p : Pseudo) (operands : List Tree) → KnowsWords k → AreBytes k.names.prefix → AllByRecursion HasBytes operands → IfPlaced HasEffect (pseudo_form t k line label p operands)
 pseudo-effect t k line label pseudo.Byte operands words prefix has = then-placed HasEffect (data_form t k line 1 operands) (with_bytes k label) (λ d. bytes-effect _ k label d.bytes d.waits)
 pseudo-effect t k line label pseudo.Wyde operands words prefix has = then-placed HasEffect (data_form t k line 2 operands) (with_bytes k label) (λ d. bytes-effect _ k label d.bytes d.waits)
 pseudo-effect t k line label pseudo.Tetra operands words prefix has = then-placed HasEffect (data_form t k line 4 operands) (with_bytes k label) (λ d. bytes-effect _ k label d.bytes d.waits)
 pseudo-effect t k line label pseudo.Octa operands words prefix has = then-placed HasEffect (data_form t k line 8 operands) (with_bytes k label) (λ d. bytes-effect _ k label d.bytes d.waits)
-pseudo-effect t k line label pseudo.Is operands words prefix has = operand-effect k label pseudo.Is operands words prefix has
-pseudo-effect t k line label pseudo.Loc operands words prefix has = operand-effect k label pseudo.Loc operands words prefix has
-pseudo-effect t k line label pseudo.Prefix operands words prefix has = operand-effect k label pseudo.Prefix operands words prefix has
-pseudo-effect t k line label pseudo.Greg operands words prefix has = operand-effect k label pseudo.Greg operands words prefix has
-pseudo-effect t k line label pseudo.Local operands words prefix has = operand-effect k label pseudo.Local operands words prefix has
+pseudo-effect t k line label p operands words prefix has = operand-effect k label p operands words prefix has
 
 op-effect : (t : Targets) (k : Known) (line : ℕ) (label : Option Label) (op : Op) (operands : List Tree) → KnowsWords k → AreBytes k.names.prefix → AllByRecursion HasBytes operands → IfPlaced HasEffect (op_form t k line label op operands)
 op-effect t k line label (PseudoOp p) operands words prefix has = pseudo-effect t k line label p operands words prefix has

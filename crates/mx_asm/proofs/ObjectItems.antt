@@ -39,15 +39,13 @@ IfWord (Err fault) = Unit {0}
 IfWord (Ok word) = word < 2 ^ 25
 
 forward-fits : (odd near : Bool) (reach n : ℕ) → (near ≡ true → n < reach) → reach ≤ 2 ^ 24 → IfWord (cond odd (Err NotMultiple) (cond near (Ok (0 + n)) (Err TooFar)))
-forward-fits true near reach n below few = tt
 forward-fits false true reach n below few = omega (arith, below refl, few)
-forward-fits false false reach n below few = tt
+forward-fits odd near reach n below few = tt
 
 backward-fits : (same near : Bool) (reach distance : ℕ) → (same ≡ true → distance % 4 ≡ 0) → (near ≡ true → distance / 4 ≤ reach) → 0 < distance → reach ≤ 2 ^ 24 →
     IfWord (cond (not same) (Err NotMultiple) (cond near (Ok (0 + 2 ^ 24 + (reach - distance / 4))) (Err TooFar)))
-backward-fits false near reach distance fours below some few = tt
 backward-fits true true reach distance fours below some few = omega (arith, fours refl, below refl, some, few)
-backward-fits true false reach distance fours below some few = tt
+backward-fits same near reach distance fours below some few = tt
 
 word-fits : (reach place target : ℕ) → reach ≤ 2 ^ 24 → IfWord (relative_word 0 reach place target)
 word-fits reach place target few = by (nat_le place target) (leb-false place target)
@@ -70,9 +68,8 @@ record-fits true bits word near width fits = near refl
 record-fits false bits word near width fits = (width, fits)
 
 relative-fits : (bits : ℕ) (r : Answer ℕ) → IsWidth bits → IfWord r → IfFits (relative_fix bits r)
-relative-fits bits (Err NotMultiple) width h = tt
-relative-fits bits (Err fault) width h = tt
 relative-fits bits (Ok word) width h = record-fits (nat_lt word (2 ^ 16)) bits word (ltb-true word (2 ^ 16)) width h
+relative-fits bits r width h = tt
 
 pure-fits : (place : ℕ) (kind : WaitKind) (value : ℕ) → place < 2 ^ 64 → IfFits (pure_fix place kind value)
 pure-fits place Octa value low = low
@@ -90,9 +87,8 @@ IfFit (Err refused) = Unit {0}
 IfFit (Ok items) = AreFit items
 
 with-fit : (line from : ℕ) (r : Result Item AsmFault) (later : Result (List Item) Refused) → IfFits r → IfFit later → IfFit (with_fix line from r later)
-with-fit line from (Err fault) later h g = tt
-with-fit line from (Ok fix) (Err refused) h g = tt
 with-fit line from (Ok fix) (Ok fixes) h g = fit-both (fix ∷ []) fixes (fit-one fix h) g
+with-fit line from r later h g = tt
 
 fixes-fit : (line : ℕ) (value : Value) (waits : List Wait) → AllByRecursion IsLow waits → IfFit (fixes line value waits)
 unfolding fixes
@@ -122,13 +118,10 @@ four-fit : (a b c d : ℕ) → a < 2 ^ 8 → b < 2 ^ 8 → c < 2 ^ 8 → d < 2 ^
 four-fit a b c d p q r s = let sum = tetra-sum a b c d in omega (arith, sum, p, q, r, s)
 
 tetras-fit : (bytes : List ℕ) → AreBytes bytes → AreFit (map Load (tetras_of bytes))
-tetras-fit [] h = fit-none
-tetras-fit (a ∷ []) h = fit-none
-tetras-fit (a ∷ b ∷ []) h = fit-none
-tetras-fit (a ∷ b ∷ c ∷ []) h = fit-none
 tetras-fit (a ∷ b ∷ c ∷ d ∷ more) h =
     let t : ℕ = tetra_from_bytes (a ∷ b ∷ c ∷ d ∷ []) in
     fit-both (Load t ∷ []) (map Load (tetras_of more)) (fit-one (Load t) (four-fit a b c d h.0 h.1.0 h.1.1.0 h.1.1.1.0)) (tetras-fit more h.1.1.1.1)
+tetras-fit bytes h = fit-none
 
 told-fits : (line : ℕ) → Fits (Line (told_line line))
 told-fits line = by (nat_lt 65535 line) (ltb-false 65535 line)

@@ -47,9 +47,8 @@ use Rattle.mx_asm.proofs.StatementCounts.{few-statements}
 -- ---- the end of an object
 
 main-low : (value : Option Value) → IfSome value IsWord → pure_or_zero value < 2 ^ 64
-main-low None h = omega arith
 main-low (Some (Pure n)) h = h
-main-low (Some (Reg r)) h = omega arith
+main-low value h = omega arith
 
 closing-fits : (k : Known) → IsTellable 0 k → AreFit (closing k.names k.gregs)
 closing-fits k h =
@@ -80,10 +79,9 @@ globals-kept true above tetras e none = absurd (cc)
 globals-kept false above tetras e none = limit-kept above tetras e none
 
 few-tetras : (k : Known) (registers : List ℕ) (main : Option Value) → last_fault k registers main ≡ None → length (padded_trie k.names) / 4 < 2 ^ 16
-few-tetras k registers None none = absurd (cc)
-few-tetras k registers (Some (Reg r)) none = absurd (cc)
 few-tetras k registers (Some (Pure main)) none =
     globals-kept (list_any (λ reg. nat_le (lowest_of k.gregs) reg) registers) (nat_lt trie_limit (length (padded_trie k.names) / 4)) (length (padded_trie k.names) / 4) refl none
+few-tetras k registers main none = absurd (cc)
 
 no-fault : (line : ℕ) (fault : Option AsmFault) → at_line line fault ≡ None → fault ≡ None
 no-fault line None h = refl

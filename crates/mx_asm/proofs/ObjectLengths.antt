@@ -62,9 +62,8 @@ word-short true bits word = omega arith
 word-short false bits word = omega arith
 
 relative-short : (bits : ℕ) (r : Answer ℕ) → IfShort (relative_fix bits r)
-relative-short bits (Err NotMultiple) = tt
-relative-short bits (Err fault) = tt
 relative-short bits (Ok word) = word-short (nat_lt word (2 ^ 16)) bits word
+relative-short bits r = tt
 
 pure-short : (place : ℕ) (kind : WaitKind) (value : ℕ) → IfShort (pure_fix place kind value)
 pure-short place Octa value = address-most 3 place
@@ -81,9 +80,8 @@ IfWithin most (Err refused) = Unit {0}
 IfWithin most (Ok items) = size items ≤ most
 
 with-within : (line from : ℕ) (r : Result Item AsmFault) (later : Result (List Item) Refused) (most more : ℕ) → 12 + most ≤ more → IfShort r → IfWithin most later → IfWithin more (with_fix line from r later)
-with-within line from (Err fault) later most more room h g = tt
-with-within line from (Ok fix) (Err refused) most more room h g = tt
 with-within line from (Ok fix) (Ok fixes) most more room h g = omega (arith, room, h, g, written-cons fix fixes)
+with-within line from r later most more room h g = tt
 
 fixes-within : (line : ℕ) (value : Value) (waits : List Wait) → IfWithin (12 * length waits) (fixes line value waits)
 unfolding fixes

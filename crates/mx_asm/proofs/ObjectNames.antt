@@ -75,9 +75,6 @@ symbol-tellable left names full v is are value new h =
 
 label-tellable : (left : ℕ) (names : NameTable) (label : Option Label) (value : Option Value) → label_fault names label ≡ None → IfLabelOfBytes label → IfSome value IsWord → IfSome value HasRegisterNumber →
     AreTellable (suc left) names → AreTellable left (with_label names label value)
-label-tellable left names None value none bytes word number h = one-statement-less left names h
-label-tellable left names (Some (Name text)) None none bytes word number h = one-statement-less left names h
-label-tellable left names (Some (Local d)) None none bytes word number h = one-statement-less left names h
 label-tellable left names (Some (Local d)) (Some v) none bytes word number h =
     let less = one-statement-less left names h in
     record { prefix = less.prefix; bytes = less.bytes; order = less.order; named = less.named; room = less.room }
@@ -85,12 +82,11 @@ label-tellable left names (Some (Name text)) (Some v) none bytes word number h =
     symbol-tellable left names (complete_form names.prefix text) v
     (label-full names text (symbol_form names text) h.prefix refl none) (form-bytes names.prefix text h.bytes bytes) (value-is v word number)
     (not-some _ (name-new names text (symbol_form names text) refl none)) h
+label-tellable left names label value none bytes word number h = one-statement-less left names h
 
 effect-tellable : (left : ℕ) (k : Known) (gregs : List ℕ) (e : Effect) → IsEffect gregs e → IsEffectOfBytes e → AreTellable left k.names → AreTellable left (with_effect k e).names
-effect-tellable left k gregs effect.Plain is of h = h
 effect-tellable left k gregs (effect.Prefix full) is of h = record { prefix = is; bytes = of; order = h.order; named = h.named; room = h.room }
-effect-tellable left k gregs (effect.Greg reg value) is of h = h
-effect-tellable left k gregs (effect.Local reg) is of h = h
+effect-tellable left k gregs e is of h = h
 
 -- ---- registers
 
@@ -107,10 +103,8 @@ octas-given gregs reg value low h = by (nat_lt reg (lowest_of gregs))
     by false = octas-set gregs (reg - lowest_of gregs) value low h
 
 effect-octas : (k : Known) (e : Effect) → IsEffectOfBytes e → AreOctas k.gregs → AreOctas (with_effect k e).gregs
-effect-octas k effect.Plain of h = h
-effect-octas k (effect.Prefix full) of h = h
 effect-octas k (effect.Greg reg value) of h = octas-given k.gregs reg value of h
-effect-octas k (effect.Local reg) of h = h
+effect-octas k e of h = h
 
 -- ---- statements
 

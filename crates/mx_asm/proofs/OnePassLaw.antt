@@ -35,8 +35,7 @@ same-before : (xs ys : List Listed) (fs : List Entry) → Same (entries_of ys) f
 same-before [] ys fs h = h
 same-before (statement line label op operands ∷ xs) ys fs h =
     same-more (entry_of (statement line label op operands)) (entries_of (listed_before xs ys)) (entries_of xs ++ fs) (same-before xs ys fs h)
-same-before (faulty line why ∷ xs) ys fs h = (refl, refl)
-same-before (too_far line ∷ xs) ys fs h = (refl, refl)
+same-before xs ys fs h = (refl, refl)
 
 -- the bytes of lines, with a newline after each
 abbrev size_of : List Line → ℕ

@@ -67,9 +67,7 @@ items-by h line p (w ∷ waits) a = by (moved h.lambda (awaited_value p.label)) 
 -- the effect, whatever waits
 effect-waiting : (k : Known) (w : List Wait) (e : Effect) → with_effect (with_waiting k w) e ≡ with_waiting (with_effect k e) w
 effect-waiting k w effect.Plain = refl
-effect-waiting k w (effect.Prefix full) = refl
-effect-waiting k w (effect.Greg reg value) = refl
-effect-waiting k w (effect.Local reg) = refl
+effect-waiting k w e = refl
 
 -- ---- names
 
@@ -81,9 +79,8 @@ pub form-is : (names : NameTable) (text full : List ℕ) → symbol_form names t
 form-is names text full h = fitting-is (nat_lt 1024 (length (complete_form names.prefix text))) (complete_form names.prefix text) full h
 
 absent-by : (predefined defined : Bool) (u : Unit {0}) → ◌≡◌ {A = Result (Unit {0}) NameFault} (cond predefined (Err Predefined) (cond defined (Err Twice) (Ok tt))) (Ok u) → defined ≡ false
-absent-by true defined u h = absurd (cc)
-absent-by false true u h = absurd (cc)
 absent-by false false u h = refl
+absent-by predefined defined u h = absurd (cc)
 
 absent : (names : NameTable) (full : List ℕ) (u : Unit {0}) → define_answer names full ≡ Ok u → is_some (value_in full names.symbols) ≡ false
 absent names full u h = absent-by (is_some (predefined_value full)) (is_some (value_in full names.symbols)) u h
@@ -168,10 +165,9 @@ module _ (k : Known) (h : Head) (before : List Sight) (l : ℕ) (st : StatementT
   -- by the label and its value
   placed-comes : (p : Placed) (label : Option Label) (value : Option Value) → HasLabel label value → st.label ≡ label → p.label ≡ value → outline here ≡ Ok p → AreLabels k.names before → Comes p label value p.waits
   placed-comes p None None has e v is labels = unlabelled-comes p e v is
-  placed-comes p None (Some value) has e v is labels = absurd has
-  placed-comes p (Some label) None has e v is labels = absurd has
   placed-comes p (Some (Name text)) (Some value) has e v is labels = named-comes p text value e v is labels
   placed-comes p (Some (Local d)) (Some value) has e v is labels = local-comes p d value e v is
+  placed-comes p label value has e v is labels = absurd has
 
   step-with : (r : Answer Placed) → outline here ≡ r → AreLabels k.names before →
       taken_with (standing_at k h before l) st.line st.label r
@@ -190,9 +186,8 @@ module _ (k : Known) (h : Head) (before : List Sight) (l : ℕ) (st : StatementT
 -- ---- the symbols are the labels
 
 is-some-cond : (b : Bool) (value : Value) (o : Option Value) → is_some (cond b (Some value) o) ≡ (is_some o || b)
-is-some-cond true value None = refl
-is-some-cond true value (Some other) = refl
 is-some-cond false value o = sym (or-false (is_some o))
+is-some-cond true value o = refl
 
 symbol-more : (names : NameTable) (text full : List ℕ) (value : Value) → is_some (value_in (complete_form names.prefix text) names.symbols) ≡ false →
     is_some (value_in full (with_symbol names (complete_form names.prefix text) value).symbols) ≡ (is_some (value_in full names.symbols) || bytes_eq full (complete_form names.prefix text))
@@ -210,17 +205,14 @@ name-new names text (Ok full) form none = name-new-by names text full (define_an
 
 label-more : (names : NameTable) (label : Option Label) (value : Option Value) (full : List ℕ) → HasLabel label value → label_fault names label ≡ None →
     is_some (value_in full (with_label names label value).symbols) ≡ (is_some (value_in full names.symbols) || settled_by names label (awaited.Name full))
-label-more names None None full has none = sym (or-false _)
 label-more names None (Some value) full has none = absurd has
 label-more names (Some label) None full has none = absurd has
 label-more names (Some (Name text)) (Some value) full has none = symbol-more names text full value (name-new names text (symbol_form names text) refl none)
-label-more names (Some (Local d)) (Some value) full has none = sym (or-false _)
+label-more names label value full has none = sym (or-false _)
 
 pub effect-symbols : (k : Known) (e : Effect) → (with_effect k e).names.symbols ≡ k.names.symbols
 effect-symbols k effect.Plain = refl
-effect-symbols k (effect.Prefix full) = refl
-effect-symbols k (effect.Greg reg value) = refl
-effect-symbols k (effect.Local reg) = refl
+effect-symbols k e = refl
 
 pub no-label-fault : (before : List Sight) (s : Sight) (p : Placed) (f : Option AsmFault) → fault_behind before s p f ≡ None → f ≡ None
 no-label-fault before s p None h = refl

@@ -132,8 +132,6 @@ next-fits line place cut op operands (Ok s) rest o r a b m f entries same = reco
 
 cuts-fit : (n : ℕ) (line : List ℕ) (place : ℕ) (cuts : List (Result Cut LineFault)) → AreBytes line → place ≤ length line → Statements line place cuts →
     Fits line place (weights (statements_in (entries_of (map (item_of n line) cuts))))
-cuts-fit n line place _ h l (nothing_left _ s) = record { bounded = omega (arith, l); none = λ k. refl }
-cuts-fit n line place _ h l (fault_there _ why s) = record { bounded = omega (arith, l); none = λ k. refl }
 cuts-fit n line place _ h l (one_more _ cut cuts s later) =
     let order : InOrder place (length line) cut = subst (CutInOrder place (length line)) (statement_of-only line place (Ok (Some cut)) s) (statement-order line place l) in
     let entries : List Entry = entries_of (map (item_of n line) cuts) in
@@ -141,6 +139,7 @@ cuts-fit n line place _ h l (one_more _ cut cuts s later) =
     (part-few line cut.op (omega (arith, order.op))) (part-few line cut.operands order.operands)
     (entry-most n (option_map (part line) cut.label) (part line cut.op) (part line cut.operands) (part-bytes line cut.operands h))
     (cuts-fit n line cut.next cuts h order.within later) entries refl
+cuts-fit n line place _ h l _ = record { bounded = omega (arith, l); none = λ k. refl }
 
 line-weight : (n : ℕ) (line : List ℕ) → AreBytes line → weights (statements_in (line_entries n line)) ≤ 15 * (length line + 1)
 line-weight n line h =
@@ -150,15 +149,13 @@ line-weight n line h =
 -- ---- the lines of a source
 
 before-weight : (a b : List Item) → weights (statements_in (entries_of (before a b))) ≤ weights (statements_in (entries_of a)) + weights (statements_in (entries_of b))
-before-weight [] b = omega arith
 before-weight (statement line label op operands ∷ items) b = by (entry_of (statement line label op operands)) (before-weight items b)
   where
     by : (e : Entry) → weights (statements_in (entries_of (before items b))) ≤ weights (statements_in (entries_of items)) + weights (statements_in (entries_of b)) →
         weights (statements_in (e ∷ entries_of (before items b))) ≤ weights (statements_in (e ∷ entries_of items)) + weights (statements_in (entries_of b))
     by (Err refused) h = omega arith
     by (Ok s) h = omega (arith, h, sum_by-cons weight s (statements_in (entries_of (before items b))), sum_by-cons weight s (statements_in (entries_of items)))
-before-weight (faulty line why ∷ items) b = omega arith
-before-weight (too_far line ∷ items) b = omega arith
+before-weight a b = omega arith
 
 -- the bytes of lines, with a newline behind each
 abbrev with_newline : List ℕ → ℕ
@@ -197,14 +194,12 @@ record Nearly (a b : ℕ) : Type 0 where
   least : b ≤ a + 1
 
 last-room : (lines : List (List ℕ)) → Nearly (room (without_empty_last lines)) (room lines)
-last-room [] = record { most = omega arith; least = omega arith }
-last-room ([] ∷ []) = record { most = omega arith; least = omega arith }
-last-room ((b ∷ bs) ∷ []) = record { most = omega arith; least = omega arith }
 last-room (line ∷ next ∷ lines) =
     let rest = last-room (next ∷ lines) in
     let a = sum_by-cons with_newline line (without_empty_last (next ∷ lines)) in
     let b = sum_by-cons with_newline line (next ∷ lines) in
     record { most = omega (arith, rest.most, a, b); least = omega (arith, rest.least, a, b) }
+last-room lines = record { most = omega arith; least = omega arith }
 
 lines-room : (source : List ℕ) → Nearly (room (lines_of source)) (length source + 1)
 unfolding lines_of split
@@ -225,8 +220,7 @@ later-none (statement line label op operands ∷ items) b h = by (entry_of (stat
     by : (e : Entry) → refusal_in (e ∷ entries_of (before items b)) ≡ None → (refusal_in (entries_of (before items b)) ≡ None → refusal_in (entries_of b) ≡ None) → refusal_in (entries_of b) ≡ None
     by (Err refused) h rest = absurd (cc)
     by (Ok s) h rest = rest h
-later-none (faulty line why ∷ items) b h = absurd (cc)
-later-none (too_far line ∷ items) b h = absurd (cc)
+later-none a b h = absurd (cc)
 
 near-by : (n : ℕ) (b : Bool) (items : List Item) → refusal_in (entries_of (cond b (too_far n ∷ []) items)) ≡ None → (b ≡ false) × (refusal_in (entries_of items) ≡ None)
 near-by n true items h = absurd (cc)

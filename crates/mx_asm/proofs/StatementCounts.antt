@@ -16,9 +16,8 @@ use Rattle.mx_asm.specs.Whole.{Line, lines_entries}
 -- ---- a line
 
 list-few : (most : ℕ) (later : ℕ → List (Result Cut LineFault)) (r : Result (Option Cut) LineFault) → ((place : ℕ) → length (later place) ≤ most) → length (list_with later r) ≤ suc most
-list-few most later (Err fault) h = omega arith
-list-few most later (Ok None) h = omega arith
 list-few most later (Ok (Some cut)) h = let few = h cut.next in omega (arith, few)
+list-few most later r h = omega arith
 
 cuts-few : (most : ℕ) (line : List ℕ) (place : ℕ) → length (cuts_within most line place) ≤ most
 unfolding cuts_within
@@ -34,10 +33,8 @@ items-of-few n line =
 -- ---- a source
 
 before-few : (items later : List Item) → length (before items later) ≤ length items + length later
-before-few [] later = omega arith
 before-few (statement line label op operands ∷ items) later = let few = before-few items later in omega (arith, few)
-before-few (faulty line why ∷ items) later = omega arith
-before-few (too_far line ∷ items) later = omega arith
+before-few items later = omega arith
 
 -- lines with a newline after each
 abbrev size : List Line → ℕ
@@ -77,9 +74,8 @@ items-few all earlier (line ∷ lines) n whole at few =
         omega (arith, rest, here, both, more)
 
 statements-few : (entries : List Entry) → length (statements_in entries) ≤ length entries
-statements-few [] = omega arith
-statements-few (Err refused ∷ entries) = omega arith
 statements-few (Ok s ∷ entries) = let few = statements-few entries in omega (arith, few)
+statements-few entries = omega arith
 
 pub few-statements : (lines : List Line) → length (statements_in (lines_entries lines)) < 2 ^ 32
 few-statements lines =

@@ -75,12 +75,7 @@ number-least false = omega arith
 
 weight-least : (e : Tree) → 8 ≤ operand_weight e
 weight-least (number n) = number-least (nat_lt n 256)
-weight-least (name text) = omega arith
-weight-least (back d) = omega arith
-weight-least (ahead d) = omega arith
-weight-least here = omega arith
-weight-least (unary op e) = omega arith
-weight-least (binary op l r) = omega arith
+weight-least e = omega arith
 
 -- ---- bytes, wydes and tetras
 
@@ -107,10 +102,9 @@ module _ (t : Targets) (k : Known) (line size : ℕ) (small : size ≤ 4) where
 
   small-step : (place : ℕ) (e : Tree) (es : List Tree) (n : Answer ℕ) (rest : Answer Placing) → AreSmall es rest →
       AreSmall (e ∷ es) (and_then (known_target n) (λ target. with_rest (datum t line size place target) rest))
-  small-step place e es (Err fault) rest h = tt
-  small-step place e es (Ok n) (Err fault) h = tt
   small-step place e es (Ok n) (Ok rest) h =
       omega (arith, h, low-most size n small, length-append (low_bytes size n) rest.bytes, weight-least e, sum_by-cons operand_weight e es)
+  small-step place e es n rest h = tt
 
   small-fits : (place : ℕ) (es : List Tree) → AreSmall es (data_of t k line size place es)
   unfolding data_of
@@ -176,15 +170,13 @@ module _ (t : Targets) (k : Known) (line : ℕ) where
 
   heavy-step : (place : ℕ) (e : Tree) (es : List Tree) (reference : Option Awaited) (n : Answer ℕ) (rest : Answer Placing) → IsHeavy e → AreOctas es rest →
       AreOctas (e ∷ es) (octa_then place reference n rest)
-  heavy-step place e es (Some who) n (Err fault) heavy h = tt
   heavy-step place e es (Some who) n (Ok rest) heavy h =
       let target = unwrap_or (t who) 0 in
       let waits = record { who = who; at = place; line = line; kind = Octa } ∷ [] in
       joined-octas e es (low_bytes 8 target) rest.bytes waits rest.waits refl (heavy-paid e target waits heavy (omega arith)) h
-  heavy-step place e es None (Err fault) rest heavy h = tt
-  heavy-step place e es None (Ok n) (Err fault) heavy h = tt
   heavy-step place e es None (Ok n) (Ok rest) heavy h =
       joined-octas e es (low_bytes 8 n) rest.bytes [] rest.waits refl (heavy-paid e n [] heavy (omega arith)) h
+  heavy-step place e es reference n rest heavy h = tt
 
   number-step : (place n : ℕ) (es : List Tree) (rest : Answer Placing) → AreOctas es rest → AreOctas (number n ∷ es) (octa_then place None (Ok n) rest)
   number-step place n es (Err fault) h = tt
@@ -193,11 +185,9 @@ module _ (t : Targets) (k : Known) (line : ℕ) where
   octa-step : (place : ℕ) (e : Tree) (es : List Tree) (rest : Answer Placing) → AreOctas es rest → AreOctas (e ∷ es) (octa_then place (reference_of k e) (pure_at k e) rest)
   octa-step place (number n) es rest h = number-step place n es rest h
   octa-step place (name text) es rest h = heavy-step place (name text) es (reference_of k (name text)) (pure_at k (name text)) rest refl h
-  octa-step place (back d) es rest h = heavy-step place (back d) es None (pure_at k (back d)) rest refl h
   octa-step place (ahead d) es rest h = heavy-step place (ahead d) es (reference_of k (ahead d)) (pure_at k (ahead d)) rest refl h
-  octa-step place here es rest h = heavy-step place here es None (pure_at k here) rest refl h
   octa-step place (unary op e) es rest h = heavy-step place (unary op e) es None (pure_at k (unary op e)) rest refl h
-  octa-step place (binary op l r) es rest h = heavy-step place (binary op l r) es None (pure_at k (binary op l r)) rest refl h
+  octa-step place e es rest h = heavy-step place e es None (pure_at k e) rest refl h
 
   octas-fit : (place : ℕ) (es : List Tree) → AreOctas es (data_of t k line 8 place es)
   unfolding data_of
@@ -260,9 +250,8 @@ module _ (k : Known) (label : Option Label) (operands : List Tree) where
   one-fits p e = tt
 
 operand-fits : (k : Known) (label : Option Label) (p : Pseudo) (operands : List Tree) → Fits operands (one_operand k label p operands)
-operand-fits k label p [] = tt
 operand-fits k label p (e ∷ []) = one-fits k label (e ∷ []) p e
-operand-fits k label p (e ∷ f ∷ more) = tt
+operand-fits k label p operands = tt
 
 -- ---- instructions
 
@@ -280,21 +269,7 @@ with-operand e es (Ok tetra) = some-asked e es
 module _ (t : Targets) (k : Known) where
   form-none : (shape : Shape) (code : ℕ) → HasOperand [] (form t k shape code [])
   form-none Three code = tt
-  form-none Regs code = tt
-  form-none Round code = tt
-  form-none Neg code = tt
-  form-none Rel code = tt
-  form-none Mem code = tt
-  form-none MemPure code = tt
-  form-none Wyde code = tt
-  form-none Jump code = tt
-  form-none Put code = tt
-  form-none Get code = tt
-  form-none Pop code = tt
-  form-none One code = tt
-  form-none Save code = tt
-  form-none Unsave code = tt
-  form-none Free code = tt
+  form-none shape code = tt
 
   form-operands : (shape : Shape) (code : ℕ) (operands : List Tree) → HasOperand operands (form t k shape code operands)
   form-operands shape code [] = form-none shape code
@@ -331,11 +306,7 @@ module _ (t : Targets) (k : Known) (line : ℕ) (label : Option Label) where
   pseudo-fits pseudo.Wyde operands = small-data (known_at_place 2 k) label operands _ (small-form t (known_at_place 2 k) line 2 (omega arith) operands)
   pseudo-fits pseudo.Tetra operands = small-data (known_at_place 4 k) label operands _ (small-form t (known_at_place 4 k) line 4 (omega arith) operands)
   pseudo-fits pseudo.Octa operands = octa-data (known_at_place 8 k) label operands _ (octa-place k.at) (octa-form t (known_at_place 8 k) line operands)
-  pseudo-fits pseudo.Is operands = operand-fits (known_at_place 1 k) label pseudo.Is operands
-  pseudo-fits pseudo.Loc operands = operand-fits (known_at_place 1 k) label pseudo.Loc operands
-  pseudo-fits pseudo.Prefix operands = operand-fits (known_at_place 1 k) label pseudo.Prefix operands
-  pseudo-fits pseudo.Greg operands = operand-fits (known_at_place 1 k) label pseudo.Greg operands
-  pseudo-fits pseudo.Local operands = operand-fits (known_at_place 1 k) label pseudo.Local operands
+  pseudo-fits p operands = operand-fits (known_at_place 1 k) label p operands
 
   op-fits : (op : Op) (operands : List Tree) → Fits operands (op_form t (known_at_place (alignment op) k) line label op operands)
   op-fits (PseudoOp p) operands = pseudo-fits p operands

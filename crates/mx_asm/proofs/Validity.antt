@@ -55,9 +55,8 @@ word-inner true bits word = tt
 word-inner false bits word = tt
 
 relative-inner : (bits : ℕ) (r : Answer ℕ) → IfInnerFix (relative_fix bits r)
-relative-inner bits (Err NotMultiple) = tt
-relative-inner bits (Err fault) = tt
 relative-inner bits (Ok word) = word-inner (nat_lt word (2 ^ 16)) bits word
+relative-inner bits r = tt
 
 pure-inner : (place : ℕ) (kind : WaitKind) (value : ℕ) → IfInnerFix (pure_fix place kind value)
 pure-inner place Octa value = tt
@@ -69,9 +68,8 @@ fix-inner (Reg r) wait = tt
 fix-inner (Pure value) wait = pure-inner wait.at wait.kind value
 
 with-inner : (line from : ℕ) (r : Result Item AsmFault) (later : Result (List Item) Refused) → IfInnerFix r → IfInner later → IfInner (with_fix line from r later)
-with-inner line from (Err fault) later h g = tt
-with-inner line from (Ok fix) (Err refused) h g = tt
 with-inner line from (Ok fix) (Ok fixes) h g = (h, g)
+with-inner line from r later h g = tt
 
 fixes-inner : (line : ℕ) (value : Value) (waits : List Wait) → IfInner (fixes line value waits)
 unfolding fixes
@@ -131,18 +129,10 @@ items-inner (s ∷ later) earlier h =
 -- ---- an object
 
 inner-middle : (i : Item) → IsInner i → IsMiddle i
-inner-middle (Load t) h = tt
-inner-middle (Loc a) h = tt
-inner-middle (Skip n) h = tt
-inner-middle (FixOcta a) h = tt
-inner-middle (FixNear n) h = tt
-inner-middle (FixFar bits word) h = tt
-inner-middle (File number name) h = tt
-inner-middle (Line n) h = tt
-inner-middle (Spec n) h = tt
 inner-middle (Pre tetras) h = h
 inner-middle (Post g values) h = h
 inner-middle Stab h = h
+inner-middle i h = tt
 
 all-middle : (items : List Item) → AreInner items → AllByRecursion IsMiddle items
 all-middle [] h = tt
@@ -153,37 +143,16 @@ IsNoSpec (Spec n) = ⊥
 IsNoSpec _ = Unit {0}
 
 inner-no-spec : (i : Item) → IsInner i → IsNoSpec i
-inner-no-spec (Load t) h = tt
-inner-no-spec (Loc a) h = tt
-inner-no-spec (Skip n) h = tt
-inner-no-spec (FixOcta a) h = tt
-inner-no-spec (FixNear n) h = tt
-inner-no-spec (FixFar bits word) h = tt
-inner-no-spec (File number name) h = tt
-inner-no-spec (Line n) h = tt
 inner-no-spec (Spec n) h = h
-inner-no-spec (Pre tetras) h = tt
-inner-no-spec (Post g values) h = tt
-inner-no-spec Stab h = tt
+inner-no-spec i h = tt
 
 may-follow : (i j : Item) → IsNoSpec i → MayFollow i j
-may-follow (Load t) j h = tt
-may-follow (Loc a) j h = tt
-may-follow (Skip n) j h = tt
-may-follow (FixOcta a) j h = tt
-may-follow (FixNear n) j h = tt
-may-follow (FixFar bits word) j h = tt
-may-follow (File number name) j h = tt
-may-follow (Line n) j h = tt
 may-follow (Spec n) j h = absurd h
-may-follow (Pre tetras) j h = tt
-may-follow (Post g values) j h = tt
-may-follow Stab j h = tt
+may-follow i j h = tt
 
 specs-end : (items : List Item) → AllByRecursion IsNoSpec items → SpecsEnd items
-specs-end [] h = tt
-specs-end (i ∷ []) h = tt
 specs-end (i ∷ j ∷ more) h = (may-follow i j h.0, specs-end (j ∷ more) h.1)
+specs-end items h = tt
 
 no-specs : (items end : List Item) → AreInner items → AllByRecursion IsNoSpec end → AllByRecursion IsNoSpec (items ++ end)
 no-specs [] end h g = g

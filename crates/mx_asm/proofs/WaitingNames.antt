@@ -32,17 +32,11 @@ module _ (t : Targets) (k : Known) (w : List Wait) where
   pseudo-same line label pseudo.Wyde operands = ap (with_data k label) (data-form-same line 2 operands)
   pseudo-same line label pseudo.Tetra operands = ap (with_data k label) (data-form-same line 4 operands)
   pseudo-same line label pseudo.Octa operands = ap (with_data k label) (data-form-same line 8 operands)
-  pseudo-same line label pseudo.Is operands = refl
-  pseudo-same line label pseudo.Loc operands = refl
-  pseudo-same line label pseudo.Prefix operands = refl
-  pseudo-same line label pseudo.Greg operands = refl
-  pseudo-same line label pseudo.Local operands = refl
+  pseudo-same line label p operands = refl
 
   op-same : (line : ℕ) (label : Option Label) (op : Op) (operands : List Tree) → op_form t (with_waiting k w) line label op operands ≡ op_form t k line label op operands
   op-same line label (PseudoOp p) operands = pseudo-same line label p operands
-  op-same line label (Code code) operands = refl
-  op-same line label Lda operands = refl
-  op-same line label Set operands = refl
+  op-same line label op operands = refl
 
 -- what a statement comes to
 pub encoding-same : (t : Targets) (k : Known) (w : List Wait) (s : StatementTree) → encoding t (with_waiting k w) s ≡ encoding t k s

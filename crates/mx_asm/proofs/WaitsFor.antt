@@ -20,9 +20,8 @@ use Rattle.mx_asm.proofs.OpenWaits.{settled_by, settles, any_settles, is_settled
 
 pub same-is : (a b : Awaited) → same_awaited a b ≡ true → a ≡ b
 same-is (awaited.Name a) (awaited.Name b) h = ap (λ full. awaited.Name full) ((bytes_eq-Decides a b).0 h)
-same-is (awaited.Name a) (awaited.Local e) h = absurd (cc)
-same-is (awaited.Local d) (awaited.Name b) h = absurd (cc)
 same-is (awaited.Local d) (awaited.Local e) h = ap (λ d. awaited.Local d) ((Decides-eqb d e).0 h)
+same-is a b h = absurd (cc)
 
 pub references-append : (xs ys : List Sight) → references (xs ++ ys) ≡ references xs ++ references ys
 unfolding references
@@ -65,8 +64,7 @@ module _ (full : List ℕ) where
 
 pub local-is : (names : NameTable) (d : ℕ) (label : Option Label) → settled_by names label (awaited.Local d) ≡ is_local d label
 local-is names d None = refl
-local-is names d (Some (Name text)) = refl
-local-is names d (Some (Local e)) = refl
+local-is names d label = refl
 
 module _ (d : ℕ) where
   abbrev dH : Awaited

@@ -54,11 +54,8 @@ pub load-tetra : (a b c d : ℕ) (more : List ℕ) → load_length (a ∷ b ∷ 
 load-tetra a b c d more = written-cons (Load (tetra_from_bytes (a ∷ b ∷ c ∷ d ∷ []))) (map Load (tetras_of more))
 
 pub load-most : (bytes : List ℕ) → load_length bytes ≤ 2 * length bytes
-load-most [] = omega arith
-load-most (a ∷ []) = omega arith
-load-most (a ∷ b ∷ []) = omega arith
-load-most (a ∷ b ∷ c ∷ []) = omega arith
 load-most (a ∷ b ∷ c ∷ d ∷ more) = omega (arith, load-tetra a b c d more, loaded-most (tetra_from_bytes (a ∷ b ∷ c ∷ d ∷ [])), load-most more)
+load-most bytes = omega arith
 
 -- ---- the tetras that cover bytes
 

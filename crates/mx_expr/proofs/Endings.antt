@@ -1,19 +1,10 @@
 -- What a state that was reached says of the field: its list, a spelled field that begins so, and a
 -- bound that is passed.
 use Rattle.std.proofs.Common.{◌≡◌, ℕ, List, [], ◌∷◌, ◌++◌, map, Result, Ok, Err, refl, sym, ◌∙◌, arith, append-nil, subst}
-use Rattle.mx_expr.specs.declared.faults.ExprFault.{ExprFault}
-use Rattle.mx_expr.specs.declared.faults.ExprFault.TheVariants.{Syntax}
-use Rattle.mx_expr.specs.declared.tree.BinOp.TheVariants.{Div, Left, Right}
-use Rattle.mx_expr.specs.Tree.{Tree, number, name, here, binary}
-use Rattle.mx_expr.specs.Bytes.{is_digit}
-use Rattle.mx_expr.specs.Reading.{Waiting, Mode, operand, whole, digit, decimal, hash, hexadecimal, quote, character, symbol, slash, less, greater, string, closed, State, with_strong, with_weak, listed, field_end}
-use Rattle.mx_expr.specs.Spelling.{Primary, Product, Operand, Spells, Begins}
+use Rattle.mx_expr.proofs.Words.{ExprFault, Syntax, Div, Left, Right, Tree, number, name, here, binary, is_digit, Waiting, Mode, operand, whole, digit, decimal, hash, hexadecimal, quote, character, symbol, slash, less, greater, string, closed, State, with_strong, with_weak, listed, field_end, Primary, Product, Operand, Spells, Begins, div, left, right, constant, place, times, expression, operands}
 use Rattle.mx_expr.specs.Spelling.Constant.{hexadecimal as hexadecimal_digits}
-use Rattle.mx_expr.specs.Spelling.StrongOperator.{div, left, right}
-use Rattle.mx_expr.specs.Spelling.Primary.{constant, character as spelled_character, place}
-use Rattle.mx_expr.specs.Spelling.Product.{times}
-use Rattle.mx_expr.specs.Spelling.Operand.{expression, string as spelled_string}
-use Rattle.mx_expr.specs.Spelling.Spells.{operands}
+use Rattle.mx_expr.specs.Spelling.Primary.{character as spelled_character}
+use Rattle.mx_expr.specs.Spelling.Operand.{string as spelled_string}
 use Rattle.mx_expr.proofs.Forward.{Plain}
 use Rattle.mx_expr.proofs.Partial.{Partial, SumIs, settle-is, sum-is, Piece, Closed, closes, closed-by, same-closed}
 use Rattle.mx_expr.proofs.Partial.Piece.{a_primary, a_product}
@@ -73,9 +64,6 @@ closed-with k d part f q tail e s h g = closed-by part (f ++ (q ++ tail)) tail (
 closed-as : (k : List Waiting) (d : ℕ) (part f q : List ℕ) (e : Tree) → part ≡ f ++ q → Partial k d f → Piece k q e → Closed part
 closed-as k d part f q e s h g = same-closed part (f ++ q) (sym s) (closes k d f q e h g)
 
-zero-digit : Primary (35 ∷ 48 ∷ []) (number 0)
-zero-digit = constant (35 ∷ 48 ∷ []) 0 (hexadecimal_digits (48 ∷ []) (omega arith) refl)
-
 two-times : (k : List Waiting) (d : ℕ) (part : List ℕ) (e : Tree) (b : ℕ) (tail : List ℕ) (x : Tree) → Plain k → (a : After k d (Operating e b) part) → Product (a.shape.part ++ (b ∷ tail)) x → Closed part
 two-times k d part e b tail x n a g =
     let o = a.shape in
@@ -89,7 +77,7 @@ begun-closed (digit n) part es done k d a text front p = let w = a.1 in from-clo
 begun-closed (decimal n) part es done k d a text front p = let w = a.1 in from-closed front text part es p (closed-as k d part w.front w.part (number n) w.spelled w.before (a_primary (decimal-primary n w.part w.shape)))
 begun-closed hash part es done k d a text front p =
     let w = a.1 in
-    from-closed front text part es p (closed-with k d part w.front w.part (48 ∷ []) (number 0) w.spelled w.before (a_primary (subst (λ t. Primary (t ++ 48 ∷ []) (number 0)) (sym w.shape) zero-digit)))
+    from-closed front text part es p (closed-with k d part w.front w.part (48 ∷ []) (number 0) w.spelled w.before (a_primary (subst (λ t. Primary (t ++ 48 ∷ []) (number 0)) (sym w.shape) (constant (35 ∷ 48 ∷ []) 0 (hexadecimal_digits (48 ∷ []) (omega arith) refl)))))
 begun-closed (hexadecimal n) part es done k d a text front p = let w = a.1 in from-closed front text part es p (closed-as k d part w.front w.part (number n) w.spelled w.before (a_primary (hexadecimal-primary n w.part w.shape)))
 begun-closed quote part es done k d a text front p =
     let w = a.1 in

@@ -1,17 +1,9 @@
 -- Where a bound is passed, reading stops.
 use Rattle.std.proofs.Common.{◌≡◌, ℕ, ◌+◌, ◌-◌, ◌*◌, ◌^◌, ◌<◌, ◌≤◌, List, [], ◌∷◌, ◌++◌, length, Bool, true, false, cond, Some, None, Ok, Err, refl, sym, ap, ◌∙◌, arith, append_assoc, subst, ⊎_elim, inl, inr}
 use Rattle.std.specs.Prelude.{◌==◌, ◌&&◌, nat_le, fold, ◌⊎◌}
-use Rattle.std.specs.List.{list_all}
-use Rattle.std.proofs.lemmas.Bool.{and_parts, le-leb, cases_lt}
-use Rattle.std.proofs.lemmas.Bool.Decides.{nat_tests}
-use Rattle.mx_expr.specs.declared.faults.ExprFault.{ExprFault}
-use Rattle.mx_expr.specs.declared.faults.ExprFault.TheVariants.{Syntax, TooWide, TooDeep, EmptyString}
-use Rattle.mx_expr.specs.Tree.{Tree, number}
-use Rattle.mx_expr.specs.Bytes.{is_digit, is_hexadecimal, digit_value}
-use Rattle.mx_expr.specs.Reading.{Waiting, Mode, operand, digit, decimal, hash, hexadecimal, slash, string, State, with_strong, step, steps, within, start}
-use Rattle.mx_expr.specs.Spelling.{digits_value, Constant, Operands, Spells, Before, Begins, FaultAt}
+use Rattle.mx_expr.proofs.Words.{list_all, and_parts, le-leb, cases_lt, nat_tests, ExprFault, Syntax, TooWide, TooDeep, EmptyString, Tree, number, is_digit, is_hexadecimal, digit_value, Waiting, Mode, operand, digit, decimal, hash, hexadecimal, slash, string, State, with_strong, step, steps, within, start, digits_value, Constant, Operands, Spells, Before, Begins, FaultAt, no_front, no_list}
 use Rattle.mx_expr.specs.Spelling.Constant.{decimal as decimal_digits, hexadecimal as hexadecimal_digits}
-use Rattle.mx_expr.specs.Spelling.FaultAt.{no_front, no_list, too_wide as stands_wide, too_deep as stands_deep, empty_string as stands_empty}
+use Rattle.mx_expr.specs.Spelling.FaultAt.{too_wide as stands_wide, too_deep as stands_deep, empty_string as stands_empty}
 use Rattle.mx_expr.proofs.Moves.{st, move, moves, moves-on, moves-one, ends}
 use Rattle.mx_expr.proofs.Forward.{Headed, constant-ended, constant-headed, slash-move}
 use Rattle.mx_expr.proofs.Fields.{Wants, wants-moves, Stood, before-stood, operands-read}
@@ -43,9 +35,6 @@ step-wants (at_slash l k d es) b h i = ap (λ c. within (cond (c && nat_le 255 d
 pub digit-small : (b : ℕ) → is_digit b ≡ true → digit_value b < 10
 digit-small b h = let e : digit_value b ≡ b - 48 = rw h refl in let few : b - 48 < 10 = grind (arith, nat_tests) in omega (arith, e, few)
 
-digit-is : (b : ℕ) → is_digit b ≡ true → ((b == 40) ≡ false) × ((b == 47) ≡ false)
-digit-is b h = (grind (arith, nat_tests), grind (arith, nat_tests))
-
 hexadecimal-small : (b : ℕ) → is_hexadecimal b ≡ true → b < 103
 hexadecimal-small b h = grind (arith, nat_tests)
 
@@ -58,7 +47,7 @@ wide-stops {s = s} {k = k} {d = d} {es = es} w text rest n (decimal_digits (b �
     let one : is_digit b ≡ true = (and_parts _ _ all).0 in
     let later : list_all is_digit (c ∷ bs) ≡ true = (and_parts (is_digit b) (list_all is_digit (c ∷ bs)) all).1 in
     let two : is_digit c ≡ true = (and_parts (is_digit c) (list_all is_digit bs) later).0 in
-    let others = digit-is b one in
+    let others : ((b == 40) ≡ false) × ((b == 47) ≡ false) = (grind (arith, nat_tests), grind (arith, nat_tests)) in
     let first : step s b ≡ Ok (st (digit (b - 48)) k d es) = step-wants w b others.0 others.1 ∙ rw one refl in
     let e : b - 48 ≡ 0 * 10 + digit_value b = omega (arith, value-of-digit b one) in
     let second : step (st (digit (b - 48)) k d es) c ≡ Ok (st (decimal ((b - 48) * 10 + digit_value c)) k d es) = rw two refl in

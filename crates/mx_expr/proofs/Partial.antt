@@ -1,14 +1,8 @@
 -- What was read of an operand, by what waits.
 use Rattle.std.proofs.Common.{◌≡◌, ℕ, ◌+◌, List, [], ◌∷◌, ◌++◌, refl, sym, ap, ◌∙◌, append_assoc, append-nil, subst}
-use Rattle.mx_expr.specs.declared.tree.UnOp.{UnOp}
-use Rattle.mx_expr.specs.declared.tree.BinOp.{BinOp}
-use Rattle.mx_expr.specs.Tree.{Tree, unary, binary}
-use Rattle.mx_expr.specs.Reading.{with_strong, with_weak, Waiting, sign, strong, weak, parenthesis}
-use Rattle.mx_expr.specs.Spelling.{Sign, StrongOperator, WeakOperator, Primary, Product, Sum, Operands, Before}
-use Rattle.mx_expr.specs.Spelling.Primary.{enclosed, signed}
-use Rattle.mx_expr.specs.Spelling.Product.{primary, times}
-use Rattle.mx_expr.specs.Spelling.Sum.{product, plus as sum_plus}
-use Rattle.mx_expr.specs.Spelling.Before.{first, sign as before_sign, parenthesis as before_parenthesis, strong as before_strong, weak as before_weak}
+use Rattle.mx_expr.proofs.Words.{UnOp, BinOp, Tree, unary, binary, with_strong, with_weak, Waiting, sign, strong, weak, parenthesis, Sign, StrongOperator, WeakOperator, Primary, Product, Sum, Operands, Before, enclosed, signed, primary, times, product, first}
+use Rattle.mx_expr.specs.Spelling.Sum.{plus as sum_plus}
+use Rattle.mx_expr.specs.Spelling.Before.{sign as before_sign, parenthesis as before_parenthesis, strong as before_strong, weak as before_weak}
 use Rattle.mx_expr.proofs.Forward.{Plain, Level}
 
 pub record SignBy (op : UnOp) (P : List ℕ → Type 0) (text : List ℕ) : Type 0 where

@@ -1,11 +1,8 @@
 -- The lines of a source, line by line.
 use Rattle.std.proofs.Common.{◌≡◌, ℕ, ◌+◌, ◌<◌, List, [], ◌∷◌, length, Bool, true, false, cond, refl, ap, ◌∙◌, arith, ◌++◌, take, take_at, append_assoc, sum_by}
-use Rattle.std.proofs.lemmas.List.{length_push}
+use Rattle.mx_line.proofs.Words.{length_push, lines_of, without_empty_last, size_up_to, onto_first, slice_split, split}
 use Rattle.std.proofs.lemmas.List.Sums.{sum_by-append}
 use Rattle.std.specs.Prelude.{◌==◌}
-use Rattle.mx_line.specs.Lines.{lines_of, without_empty_last, size_up_to}
-use Rattle.std.specs.List.{onto_first, slice_split}
-use Rattle.mx_line.specs.Pieces.{split}
 
 pub no-lines : lines_of [] ≡ []
 unfolding lines_of split

@@ -1,15 +1,7 @@
 -- The statements of a line, one after another.
 use Rattle.std.proofs.Common.{◌≡◌, ℕ, zero, suc, ◌+◌, ◌-◌, ◌<◌, ◌≤◌, List, [], ◌∷◌, length, drop, Bool, true, cond, Option, Some, None, Result, Ok, Err, IfOk, arith, refl, ap, length-drop}
-use Rattle.std.proofs.lemmas.Bool.{cond_both}
+use Rattle.mx_line.proofs.Words.{cond_both, prefix_len, Span, LineFault, Cut, is_blank, is_name_byte, run, past, ends_here, field_length, span, next_from, with_field, operands_at, no_opcode, opcode_at, operation_at, ends_label, is_bad_local, labelled_at, statement_at, is_too_long, statement_of, list_with, cuts_within, cuts_from, LabelBefore, CutInOrder}
 use Rattle.std.specs.Prelude.{◌==◌}
-use Rattle.std.specs.List.{prefix_len}
-use Rattle.mx_line.specs.declared.spans.Span.{Span}
-use Rattle.mx_line.specs.declared.faults.LineFault.{LineFault}
-use Rattle.mx_line.specs.declared.cutter.Cut.{Cut}
-use Rattle.mx_line.specs.Bytes.{is_blank, is_name_byte, run, past}
-use Rattle.mx_line.specs.Fields.{ends_here, field_length}
-use Rattle.mx_line.specs.Spans.{span}
-use Rattle.mx_line.specs.Cutting.{next_from, with_field, operands_at, no_opcode, opcode_at, operation_at, ends_label, is_bad_local, labelled_at, statement_at, is_too_long, statement_of, list_with, cuts_within, cuts_from, LabelBefore, CutInOrder}
 use Rattle.mx_line.proofs.KindLemmas.{run-whole, run-length}
 use Rattle.mx_line.proofs.FieldLemmas.{field_length-few}
 
@@ -45,12 +37,9 @@ operation-order start end place label text l e =
     opcode-order start end (place + length (run is_blank text)) label (run is_name_byte (past is_blank text)) (past is_name_byte (past is_blank text)) (l _ refl)
     (omega (arith, run-whole is_blank text, run-whole is_name_byte (past is_blank text)))
 
-some-step : (t : Bool) (n : ℕ) → t ≡ true → 0 < cond t (1 + n) 0
-some-step t n h = rw h (omega arith)
-
 -- a text that begins with a byte of a kind has a run of it
 pub some-run : (kind : ℕ → Bool) (b : ℕ) (bs : List ℕ) → kind b ≡ true → 0 < length (run kind (b ∷ bs))
-some-run kind b bs h = rw (run-length kind (b ∷ bs)) (some-step (kind b) (prefix_len kind bs) h)
+some-run kind b bs h = rw (run-length kind (b ∷ bs)) (rw h (omega arith))
 
 after-order : (start end place : ℕ) (label : Span) (rest : List ℕ) → label.from ≡ start → start < label.to → label.to ≡ place → place + length rest ≡ end → ends_label rest ≡ true →
     CutInOrder start end (operation_at (Some label) place rest)

@@ -12,9 +12,8 @@ none-more (Err e) = refl
 
 next-from : (front : List Item) (item : Item) (r : Result Loading Meaningless) → told (take_items (front ++ item ∷ []) r) ≡ after (told (take_items front r)) item
 next-from [] item (Ok s) = ap told (none-more (take_item s item))
-next-from [] item (Err e) = refl
 next-from (x ∷ front) item (Ok s) = next-from front item (take_item s x)
-next-from (x ∷ front) item (Err e) = refl
+next-from front item (Err e) = refl
 
 pub next-item : (front : List Item) (item : Item) → told (take_items (front ++ item ∷ []) (Ok nothing)) ≡ after (told (take_items front (Ok nothing))) item
 next-item front item = next-from front item (Ok nothing)

@@ -1,11 +1,6 @@
 -- What follows a spec ends it.
 use Rattle.std.proofs.Common.{ℕ, List, ◌∷◌, ◌++◌, arith, refl, sym, subst, append_assoc}
-use Rattle.mx_word.specs.Words.{tetra_to_bytes}
-use Rattle.mx_mmo.specs.Valid.{MayFollow, SpecsEnd}
-use Rattle.mx_mmo.specs.Object.{EndsSpec, IsNoLop, Spells, SpellsAddress, Spelled}
-use Rattle.mx_mmo.specs.Turns.{EndsItem, EndsLast}
-use Rattle.mx_mmo.specs.declared.items.Item.{Item}
-use Rattle.mx_mmo.specs.declared.items.Item.TheVariants.{Load, Spec}
+use Rattle.mx_mmo.proofs.Words.{tetra_to_bytes, MayFollow, SpecsEnd, EndsSpec, IsNoLop, Spells, SpellsAddress, Spelled, EndsItem, EndsLast, Item, Load, Spec}
 
 -- an item that is not loaded begins with a lopcode that ends a spec
 ends-before : {item : Item} {bytes : List ℕ} (n : ℕ) (rest : List ℕ) → Spells item bytes → MayFollow (Spec n) item → EndsSpec (bytes ++ rest)

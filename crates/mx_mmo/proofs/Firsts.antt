@@ -3,18 +3,8 @@ use Rattle.std.proofs.Common.{◌≡◌, ◌≢◌, sym, ℕ, ◌+◌, ◌-◌, 
 use Rattle.std.specs.Prelude.{Option, nat_lt, nat_le, ◌==◌, ◌&&◌, ◌||◌}
 use Rattle.std.proofs.lemmas.Bool.Decides.{nat_tests}
 use Rattle.std.proofs.lemmas.Grind.{common_steps}
-use Rattle.mx_mmo.specs.Skipping.{skipped}
-use Rattle.mx_mmo.specs.Reading.{DueOf, Due, IsWithin, first_item, due_item, lop_item, lop_of, on_tetra, on_octa, quoted_tetra, short_address, long_address, address_due, item_due, far_tetra, named_file, file_item, ended_spec, pre_item, post_item, tetras_of, octas_of, trimmed}
-use Rattle.mx_mmo.specs.declared.items.Item.{Item}
-use Rattle.mx_mmo.specs.declared.items.Item.TheVariants.{Load, Loc, Skip, FixOcta, FixNear, FixFar, File, Line, Spec, Pre, Post, Stab}
-use Rattle.mx_mmo.specs.declared.lops.Lop.{Lop}
+use Rattle.mx_mmo.proofs.Words.{skipped, DueOf, Due, IsWithin, first_item, due_item, lop_item, lop_of, on_tetra, on_octa, quoted_tetra, short_address, long_address, address_due, item_due, far_tetra, named_file, file_item, ended_spec, pre_item, post_item, tetras_of, octas_of, trimmed, Item, Load, Loc, Skip, FixOcta, FixNear, FixFar, File, Line, Spec, Pre, Post, Stab, Lop, MmoFault, NoPre, BadLop, BadFields, OutOfMemory, tetra_from_bytes, octa_from_bytes, Phase, Start, Middle, Posted, Ended, not-less}
 use Rattle.mx_mmo.specs.declared.lops.Lop.TheVariants as lops
-use Rattle.mx_mmo.specs.declared.faults.MmoFault.{MmoFault}
-use Rattle.mx_mmo.specs.declared.faults.MmoFault.TheVariants.{NoPre, BadLop, BadFields, OutOfMemory}
-use Rattle.mx_word.specs.Words.{tetra_from_bytes, octa_from_bytes}
-use Rattle.mx_mmo.specs.declared.due.Phase.{Phase}
-use Rattle.mx_mmo.specs.declared.due.Phase.TheVariants.{Start, Middle, Posted, Ended}
-use Rattle.mx_word.proofs.Comparisons.{not-less}
 use Rattle.mx_mmo.proofs.Skips.{SkipGrows, SkipWithin, skip-grows, skip-within}
 
 -- where something stands first, it stands there too after more bytes came
@@ -65,18 +55,9 @@ counted-step false b' x x' h = let p = h refl in rw (p.0, p.1) (same-grown x)
 not-more : (n : ℕ) (more ys : List ℕ) → nat_lt (length more) n ≡ false → nat_lt (length (more ++ ys)) n ≡ false
 not-more n more ys h = grind (arith, nat_tests, common_steps)
 
-same-front : (n : ℕ) (more ys : List ℕ) → nat_lt (length more) n ≡ false → take n (more ++ ys) ≡ take n more
-same-front n more ys h = grind (arith, nat_tests, common_steps)
-
 counted-grown : {A : Type 0} (n : ℕ) (due : List ℕ → DueOf A) (more ys : List ℕ) →
     Grown (cond (nat_lt (length more) n) (Ok None) (due (take n more))) (cond (nat_lt (length (more ++ ys)) n) (Ok None) (due (take n (more ++ ys))))
-counted-grown n due more ys = counted-step _ _ _ _ (λ h. (not-more n more ys h, ap due (same-front n more ys h)))
-
-pre-grown : (z : ℕ) (more ys : List ℕ) → Grown (pre_item z more) (pre_item z (more ++ ys))
-pre-grown z more ys = counted-grown (4 * z) (λ front. Ok (Some (Pre (tetras_of front), 4 + 4 * z))) more ys
-
-post-grown : (g : ℕ) (more ys : List ℕ) → Grown (post_item g more) (post_item g (more ++ ys))
-post-grown g more ys = counted-grown (8 * (256 - g)) (λ front. Ok (Some (Post g (octas_of front), 4 + 8 * (256 - g)))) more ys
+counted-grown n due more ys = counted-step _ _ _ _ (λ h. (not-more n more ys h, ap due (grind (arith, nat_tests, common_steps))))
 
 file-grown : (at number z : ℕ) (more ys : List ℕ) → Grown (file_item at number z more) (file_item at number z (more ++ ys))
 file-grown at number z more ys =
@@ -96,11 +77,11 @@ lop-grown at (Some lops.Fixrx) y z more ys = cond-grown (y == 0 && (z == 16 || z
 lop-grown at (Some lops.File) y z more ys = file-grown at y z more ys
 lop-grown at (Some lops.Line) y z more ys = same-grown (Ok (Some (Line (256 * y + z), 4)))
 lop-grown at (Some lops.Spec) y z more ys = ended-grows (256 * y + z) (skipped false more) (skipped false (more ++ ys)) (skip-grows false more ys)
-lop-grown at (Some lops.Post) y z more ys = cond-grown (y == 0 && nat_le 32 z) _ _ _ _ (post-grown z more ys) (same-grown (Err (BadFields at)))
+lop-grown at (Some lops.Post) y z more ys = cond-grown (y == 0 && nat_le 32 z) _ _ _ _ (counted-grown (8 * (256 - z)) (λ front. Ok (Some (Post z (octas_of front), 4 + 8 * (256 - z)))) more ys) (same-grown (Err (BadFields at)))
 lop-grown at lop y z more ys = same-grown (Err (BadLop at))
 
 due-grown : (phase : Phase) (at a code y z : ℕ) (more ys : List ℕ) → Grown (due_item phase at a code y z more) (due_item phase at a code y z (more ++ ys))
-due-grown Start at a code y z more ys = cond-grown (a == 0x98 && code == 9 && y == 1) _ _ _ _ (pre-grown z more ys) (same-grown (Err (NoPre at)))
+due-grown Start at a code y z more ys = cond-grown (a == 0x98 && code == 9 && y == 1) _ _ _ _ (counted-grown (4 * z) (λ front. Ok (Some (Pre (tetras_of front), 4 + 4 * z))) more ys) (same-grown (Err (NoPre at)))
 due-grown Middle at a code y z more ys =
     cond-grown (a == 0x98) _ _ _ _ (lop-grown at (lop_of code) y z more ys) (same-grown (Ok (Some (Load (tetra_from_bytes (a ∷ code ∷ y ∷ z ∷ [])), 4))))
 due-grown Posted at a code y z more ys =
@@ -164,12 +145,6 @@ counted-step-within false due n m h w = more-within due n m (h refl) w
 counted-within : {A : Type 0} (n : ℕ) (due : DueOf A) (more : List ℕ) → Within due (4 + n) → Within (cond (nat_lt (length more) n) (Ok None) due) (4 + length more)
 counted-within n due more w = counted-step-within (nat_lt (length more) n) due (4 + n) _ (λ h. let l = not-less (length more) n h in omega (arith, l)) w
 
-pre-within : (z : ℕ) (more : List ℕ) → Within (pre_item z more) (4 + length more)
-pre-within z more = counted-within (4 * z) _ more (some-within _ _ _ (omega arith) (omega arith))
-
-post-within : (g : ℕ) (more : List ℕ) → Within (post_item g more) (4 + length more)
-post-within g more = counted-within (8 * (256 - g)) _ more (some-within _ _ _ (omega arith) (omega arith))
-
 named-within : (at number n : ℕ) (name : List ℕ) → Within (named_file at number (4 + n) name) (4 + n)
 named-within at number n [] = fault-within (BadFields at) _
 named-within at number n (b ∷ name) = some-within _ _ _ (omega arith) (omega arith)
@@ -192,23 +167,20 @@ lop-within at (Some lops.Fixrx) y z more = cond-within (y == 0 && (z == 16 || z 
 lop-within at (Some lops.File) y z more = file-within at y z more
 lop-within at (Some lops.Line) y z more = four-within (Line (256 * y + z)) _
 lop-within at (Some lops.Spec) y z more = spec-within (256 * y + z) (skipped false more) (length more) (skip-within false more)
-lop-within at (Some lops.Post) y z more = cond-within (y == 0 && nat_le 32 z) _ _ _ (post-within z more) (fault-within (BadFields at) _)
+lop-within at (Some lops.Post) y z more = cond-within (y == 0 && nat_le 32 z) _ _ _ (counted-within (8 * (256 - z)) _ more (some-within _ _ _ (omega arith) (omega arith))) (fault-within (BadFields at) _)
 lop-within at lop y z more = fault-within (BadLop at) _
 
 due-within : (phase : Phase) (at a code y z : ℕ) (more : List ℕ) → Within (due_item phase at a code y z more) (4 + length more)
-due-within Start at a code y z more = cond-within (a == 0x98 && code == 9 && y == 1) _ _ _ (pre-within z more) (fault-within (NoPre at) _)
+due-within Start at a code y z more = cond-within (a == 0x98 && code == 9 && y == 1) _ _ _ (counted-within (4 * z) _ more (some-within _ _ _ (omega arith) (omega arith))) (fault-within (NoPre at) _)
 due-within Middle at a code y z more =
     cond-within (a == 0x98) _ _ _ (lop-within at (lop_of code) y z more) (four-within (Load (tetra_from_bytes (a ∷ code ∷ y ∷ z ∷ []))) _)
 due-within Posted at a code y z more =
     cond-within (a == 0x98 && code == 11) _ _ _ (cond-within (y == 0 && z == 0) _ _ _ (four-within Stab _) (fault-within (BadFields at) _)) (fault-within (BadLop at) _)
 due-within Ended at a code y z more = none-within _
 
-four-more : (a b c d n : ℕ) (more : List ℕ) → n ≡ 4 + length more → n ≡ length (a ∷ b ∷ c ∷ d ∷ more)
-four-more a b c d n more h = omega arith
-
 pub first-within : (phase : Phase) (at : ℕ) (xs : List ℕ) → IsWithin (first_item phase at xs) (length xs)
 first-within phase at (a ∷ code ∷ y ∷ z ∷ more) =
-    let e = four-more a code y z (4 + length more) more refl in
+    let e : (4 + length more) ≡ length (a ∷ code ∷ y ∷ z ∷ more) = omega arith in
     subst (λ (n : ℕ). IsWithin (due_item phase at a code y z more) n) e (due-within phase at a code y z more).is
 first-within phase at xs = tt
 

@@ -1,9 +1,7 @@
 -- Names, and the zeros behind them.
 use Rattle.std.proofs.Common.{◌≡◌, ◌≢◌, ℕ, zero, suc, ◌+◌, ◌<◌, ◌≤◌, length, List, [], ◌∷◌, ◌++◌, take, get_or, replicate, Bool, true, false, cond, arith, refl, ◌∙◌, ap, subst}
 use Rattle.std.specs.Prelude.{◌==◌}
-use Rattle.mx_mmo.specs.Valid.{AreBytes, IsName}
-use Rattle.mx_mmo.specs.Reading.{onto_trimmed, trimmed}
-use Rattle.mx_word.proofs.Comparisons.{same-number, other-number, other-test}
+use Rattle.mx_mmo.proofs.Words.{AreBytes, IsName, onto_trimmed, trimmed, same-number, other-number, other-test}
 
 -- what is left without the zeros, and how many they were
 record Trimmed (bytes name : List ℕ) : Type 0 where

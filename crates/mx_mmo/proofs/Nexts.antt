@@ -1,12 +1,7 @@
 -- What an answer of a reader says of the items that it still gives.
 use Rattle.std.proofs.Common.{◌≡◌, ℕ, ◌+◌, ◌<◌, ◌≤◌, length, List, [], ◌∷◌, ◌++◌, drop, arith, refl, sym, ◌∙◌, ap, subst, Ok, Err, Some, None, length-drop, append_assoc}
 use Rattle.std.specs.Prelude.{Result, Option}
-use Rattle.mx_mmo.specs.Reading.{Due, IsWithin, first_item}
-use Rattle.mx_mmo.specs.Replies.{ReaderModel, phase_after, next_item, next_due, next_answer, given, tail_of, finished, finish_next, finish_answer}
-use Rattle.mx_mmo.specs.Whole.{Walk, behind, items_of, onto, with_rest, left_of, fed}
-use Rattle.mx_mmo.specs.declared.items.Item.{Item}
-use Rattle.mx_mmo.specs.declared.items.Tail.{Tail}
-use Rattle.mx_mmo.specs.declared.faults.MmoFault.{MmoFault}
+use Rattle.mx_mmo.proofs.Words.{Due, IsWithin, first_item, ReaderModel, phase_after, next_item, next_due, next_answer, given, tail_of, finished, finish_next, finish_answer, Walk, behind, items_of, onto, with_rest, left_of, fed, Item, Tail, MmoFault}
 use Rattle.mx_mmo.proofs.Firsts.{first-within}
 use Rattle.mx_mmo.proofs.Walks.{items-more, items-none, items-fault}
 
@@ -23,13 +18,10 @@ pub record Gave (items : List Item) (m n : ReaderModel) (item : Item) : Type 0 w
   pub less : length n.rest < length m.rest
   pub end : fed n ≡ fed m
 
-regroup : (items : List Item) (item : Item) (w : Walk) → onto (items ++ item ∷ []) w ≡ onto items (behind item w)
-regroup items item w = rw append_assoc refl
-
 gave : (items : List Item) (m : ReaderModel) (item : Item) (size : ℕ) → m.fault ≡ None → first_item m.phase m.at m.rest ≡ Ok (Some (item, size)) →
     0 < size → size ≤ length m.rest → Gave items m (given m item size) item
 gave items m item size well e p q = record {
-  same = regroup items item (items_of (phase_after item m.phase) (m.at + size) (drop size m.rest)) ∙ ap (onto items) (sym (items-more m.phase m.at m.rest item size e));
+  same = (rw append_assoc refl) ∙ ap (onto items) (sym (items-more m.phase m.at m.rest item size e));
   well = well;
   less = omega (arith, length-drop size m.rest);
   end = omega (arith, length-drop size m.rest);

@@ -1,12 +1,7 @@
 -- The items of an object come in turn.
 use Rattle.std.proofs.Common.{◌≡◌, ℕ, List, [], ◌∷◌, ◌++◌, refl, sym, ap, subst}
 use Rattle.std.specs.List.{AllByRecursion}
-use Rattle.mx_mmo.specs.Valid.{IsMiddle, IsPlaced}
-use Rattle.mx_mmo.specs.Turns.{MayCome, ComeInTurn, phase_end}
-use Rattle.mx_mmo.specs.declared.items.Item.{Item}
-use Rattle.mx_mmo.specs.declared.items.Item.TheVariants.{Load, Loc, Skip, FixOcta, FixNear, FixFar, File, Line, Spec, Pre, Post, Stab}
-use Rattle.mx_mmo.specs.declared.due.Phase.{Phase}
-use Rattle.mx_mmo.specs.declared.due.Phase.TheVariants.{Start, Middle, Posted, Ended}
+use Rattle.mx_mmo.proofs.Words.{IsMiddle, IsPlaced, MayCome, ComeInTurn, phase_end, Item, Load, Loc, Skip, FixOcta, FixNear, FixFar, File, Line, Spec, Pre, Post, Stab, Phase, Start, Middle, Posted, Ended}
 
 pub record Reaches (phase : Phase) (items : List Item) : Type 0 where
   pub turn : ComeInTurn phase items

@@ -1,18 +1,10 @@
 -- Reading goes on over more pieces.
 use Rattle.std.proofs.Common.{◌≡◌, ℕ, zero, suc, ◌+◌, ◌<◌, ◌≤◌, length, List, [], ◌∷◌, ◌++◌, take, drop, get_or, arith, refl, sym, ◌∙◌, ap, Ok, Err, length-append, append_assoc, append-nil, Bool, true, false, cond, add-one, add-zero}
 use Rattle.std.specs.Prelude.{Result, nat_lt}
-use Rattle.mx_mmo.specs.declared.items.Object.{Object}
-use Rattle.mx_mmo.specs.declared.faults.MmoFault.TheVariants.{TooLong}
+use Rattle.mx_mmo.proofs.Words.{Object, TooLong, bytes-append, AreBytes, ReaderModel, limit, fresh, tail_of, Walk, passed_limit, pieces_within, with_rest, fed, items_of, left_of, object_of, object_behind, with_tail, with_more, extended, Item, MmoFault, Start}
 use Rattle.std.specs.List.{concat}
 use Rattle.std.proofs.lemmas.Grind.{common_steps}
 use Rattle.std.proofs.lemmas.Bool.Decides.{nat_tests}
-use Rattle.mx_word.proofs.Ranges.{bytes-append}
-use Rattle.mx_mmo.specs.Valid.{AreBytes}
-use Rattle.mx_mmo.specs.Replies.{ReaderModel, limit, fresh, tail_of}
-use Rattle.mx_mmo.specs.Whole.{Walk, passed_limit, pieces_within, with_rest, fed, items_of, left_of, object_of, object_behind, with_tail, with_more, extended}
-use Rattle.mx_mmo.specs.declared.items.Item.{Item}
-use Rattle.mx_mmo.specs.declared.faults.MmoFault.{MmoFault}
-use Rattle.mx_mmo.specs.declared.due.Phase.TheVariants.{Start}
 use Rattle.mx_mmo.proofs.Walks.{items-none, extends}
 
 -- one piece more, and all pieces from those so far
@@ -57,9 +49,6 @@ length-of-piece pieces i piece d l is =
 cond-false : {A : Type 0} (b : Bool) (x y : A) → b ≡ false → cond b x y ≡ y
 cond-false b x y e = rw e refl
 
-cond-true : {A : Type 0} (b : Bool) (x y : A) → b ≡ true → cond b x y ≡ x
-cond-true b x y e = rw e refl
-
 within-from : (n i : ℕ) (pieces : List (List ℕ)) → n + length (concat (take i pieces)) ≤ limit →
     pieces_within n pieces ≡ concat (take i pieces) ++ pieces_within (n + length (concat (take i pieces))) (drop i pieces)
 within-from n zero pieces l = ap (λ (k : ℕ). pieces_within k pieces) (sym (add-zero n))
@@ -77,7 +66,7 @@ within-from n (suc i) (p ∷ ps) l =
 within-passed : (n i : ℕ) (pieces : List (List ℕ)) (d : List ℕ) → i < length pieces → limit < n + length (get_or pieces i d) → pieces_within n (drop i pieces) ≡ []
 within-passed n zero (p ∷ ps) d l h =
     let many : nat_lt limit (n + length p) ≡ true = grind (arith, nat_tests) in
-    cond-true (nat_lt limit (n + length p)) [] (p ++ pieces_within (n + length p) ps) many
+    rw many refl
 within-passed n (suc i) (p ∷ ps) d l h = within-passed n i ps d (omega arith) h
 within-passed n i [] d l h = absurd (omega arith)
 

@@ -2,14 +2,8 @@
 use Rattle.std.proofs.Common.{◌≡◌, ℕ, zero, suc, ◌+◌, ◌-◌, ◌/◌, ◌^◌, ◌<◌, ◌≤◌, length, List, [], ◌∷◌, ◌++◌, take, drop, get_or, Bool, true, false, cond, arith, refl, sym, ◌∙◌, ap, subst, Some, None, length-take, length-drop, add-zero, zero-add}
 use Rattle.std.specs.Prelude.{Option, ◌==◌, ◌&&◌}
 use Rattle.std.proofs.lemmas.List.{take-append-drop, take_all, drop-drop}
-use Rattle.mx_word.specs.Words.{tetra_to_bytes, tetra_from_bytes}
-use Rattle.mx_mmo.specs.Valid.{AreBytes}
-use Rattle.mx_mmo.specs.Object.{EndsSpec, IsNoLop, IsSkipped}
-use Rattle.mx_mmo.specs.Skipping.{quote_behind, four_more, skip_on, skipped, quoted_on, quoted_behind}
-use Rattle.mx_word.proofs.Tetras.{four-bytes, four-fit, top-byte}
+use Rattle.mx_mmo.proofs.Words.{tetra_to_bytes, tetra_from_bytes, AreBytes, EndsSpec, IsNoLop, IsSkipped, quote_behind, four_more, skip_on, skipped, quoted_on, quoted_behind, four-bytes, four-fit, top-byte, take-four, drop-four, all-tests, other-number, same-number}
 use Rattle.mx_mmo.proofs.Codes.{no-lop-first}
-use Rattle.mx_word.proofs.Ranges.{take-four, drop-four}
-use Rattle.mx_word.proofs.Comparisons.{all-tests, other-number, same-number}
 
 -- what is skipped stays so, whatever follows
 abbrev pub SkipGrows : Option ℕ → Option ℕ → Type 0
@@ -157,13 +151,10 @@ ends-skipped (a ∷ code ∷ y ∷ z ∷ more) e =
     rw (e.0, f) refl
 ends-skipped rest e = absurd e
 
-other-skipped : (t : ℕ) (more : List ℕ) → IsNoLop t → skipped false (tetra_to_bytes t ++ more) ≡ four_more (skipped false more)
-other-skipped t more p = rw (no-lop-first t p) refl
-
 pub skipped-all : {front : List ℕ} (rest : List ℕ) → IsSkipped front → EndsSpec rest → skipped false (front ++ rest) ≡ Some (length front)
 skipped-all rest IsSkipped.none e = ends-skipped rest e
 skipped-all rest (IsSkipped.other t more p others) e =
-    other-skipped t (more ++ rest) p ∙ ap four_more (skipped-all rest others e) ∙ ap Some (omega arith)
+    (rw (no-lop-first t p) refl) ∙ ap four_more (skipped-all rest others e) ∙ ap Some (omega arith)
 skipped-all rest (IsSkipped.quoted t more p others) e =
     ap (λ (o : Option ℕ). four_more (four_more o)) (skipped-all rest others e) ∙ ap Some (omega arith)
 

@@ -3,22 +3,9 @@ use Rattle.std.proofs.Common.{◌≡◌, ◌≢◌, ℕ, ◌+◌, ◌-◌, ◌*�
 use Rattle.std.specs.Prelude.{Option, nat_lt, nat_le, ◌==◌, ◌&&◌, ◌||◌}
 use Rattle.std.proofs.lemmas.Bool.Decides.{nat_tests}
 use Rattle.std.proofs.lemmas.List.{take-append-drop, take_at, length-replicate}
-use Rattle.mx_word.specs.Words.{tetra_to_bytes, tetra_from_bytes, octa_from_bytes}
-use Rattle.mx_mmo.specs.Valid.{AreBytes}
-use Rattle.mx_mmo.specs.Skipping.{skipped}
-use Rattle.mx_mmo.specs.Reading.{DueOf, Due, first_item, due_item, lop_item, lop_of, on_tetra, on_octa, quoted_tetra, short_address, long_address, address_due, item_due, far_tetra, named_file, file_item, ended_spec, pre_item, post_item, trimmed}
-use Rattle.mx_mmo.specs.FaultTable.{MayStand, HasFields, TetraFault}
-use Rattle.mx_mmo.specs.declared.items.Item.{Item}
+use Rattle.mx_mmo.proofs.Words.{tetra_to_bytes, tetra_from_bytes, octa_from_bytes, AreBytes, skipped, DueOf, Due, first_item, due_item, lop_item, lop_of, on_tetra, on_octa, quoted_tetra, short_address, long_address, address_due, item_due, far_tetra, named_file, file_item, ended_spec, pre_item, post_item, trimmed, MayStand, HasFields, TetraFault, Item, Lop, Quote, Fixo, Fixr, Fixrx, End, MmoFault, BadLop, BadFields, Phase, Start, Middle, Posted, Ended, tetra-back, bytes-front, same-number, other-number, other-test, both-tests, all-tests, both-true, not-less}
 use Rattle.mx_mmo.specs.declared.items.Item.TheVariants as items
-use Rattle.mx_mmo.specs.declared.lops.Lop.{Lop}
-use Rattle.mx_mmo.specs.declared.lops.Lop.TheVariants.{Quote, Loc, Skip, Fixo, Fixr, Fixrx, File, Line, Spec, Pre, Post, Stab, End}
-use Rattle.mx_mmo.specs.declared.faults.MmoFault.{MmoFault}
-use Rattle.mx_mmo.specs.declared.faults.MmoFault.TheVariants.{BadLop, BadFields}
-use Rattle.mx_mmo.specs.declared.due.Phase.{Phase}
-use Rattle.mx_mmo.specs.declared.due.Phase.TheVariants.{Start, Middle, Posted, Ended}
-use Rattle.mx_word.proofs.Tetras.{tetra-back}
-use Rattle.mx_word.proofs.Ranges.{bytes-front}
-use Rattle.mx_word.proofs.Comparisons.{same-number, other-number, other-test, both-tests, all-tests, both-true, not-less}
+use Rattle.mx_mmo.specs.declared.lops.Lop.TheVariants.{Loc, Skip, File, Line, Spec, Pre, Post, Stab}
 use Rattle.mx_mmo.proofs.Codes.{lop-code}
 use Rattle.mx_mmo.proofs.Names.{all-zeros, zeros-trimmed}
 use Rattle.mx_mmo.proofs.Spelt.{enough-there}
@@ -107,21 +94,12 @@ post-fine at g bytes more = cond-told (nat_lt (length more) (8 * (256 - g))) Mid
 quote-test : (y z : ℕ) → (y ≡ 0) × (z ≡ 1) → (y == 0 && z == 1) ≡ true
 quote-test y z h = rw (h.0, h.1) refl
 
-zeros-test : (y z : ℕ) → (y ≡ 0) × (z ≡ 0) → (y == 0 && z == 0) ≡ true
-zeros-test y z h = rw (h.0, h.1) refl
-
 bits-test : (y z : ℕ) → (y ≡ 0) × ((z ≡ 16) ⊎ (z ≡ 24)) → (y == 0 && (z == 16 || z == 24)) ≡ true
 bits-test y z (p, inl e) = rw (p, e) refl
 bits-test y z (p, inr e) = rw (p, e) refl
 
 post-test : (y z : ℕ) → (y ≡ 0) × (32 ≤ z) → (y == 0 && nat_le 32 z) ≡ true
 post-test y z h = let l : nat_le 32 z ≡ true = let k = h.1 in grind (arith, nat_tests) in rw (h.0, l) refl
-
-pre-test : (a code y : ℕ) → (a ≡ 0x98) × (code ≡ 9) × (y ≡ 1) → (a == 0x98 && code == 9 && y == 1) ≡ true
-pre-test a code y h = rw (h.0, h.1, h.2) refl
-
-stab-test : (a code : ℕ) → (a ≡ 0x98) × (code ≡ 11) → (a == 0x98 && code == 11) ≡ true
-stab-test a code h = rw (h.0, h.1) refl
 
 not-both : (b : Bool) → b ≡ true → b ≡ false → ⊥
 not-both true p q = cc
@@ -147,7 +125,7 @@ lop-told at code y z more lop e h = faulty _ _ _ _ (TetraFault.bad_lop at code y
 
 due-told : (phase : Phase) (at a code y z : ℕ) (more : List ℕ) → AreBytes more → FaultTold phase at (a ∷ code ∷ y ∷ z ∷ more) (due_item phase at a code y z more)
 due-told Start at a code y z more h = cond-told (a == 0x98 && code == 9 && y == 1) Start at _ _ _ (λ _. pre-fine Start at z _ more)
-    (λ n. faulty _ _ _ _ (TetraFault.no_pre at a code y z more (λ f. not-both _ (pre-test a code y f) n)))
+    (λ n. faulty _ _ _ _ (TetraFault.no_pre at a code y z more (λ f. not-both _ (rw (f.0, f.1, f.2) refl) n)))
 due-told Middle at a code y z more h = cond-told (a == 0x98) Middle at _ _ _
     (λ e. let is = same-number a 0x98 e in
     subst (λ (b : ℕ). FaultTold Middle at (b ∷ code ∷ y ∷ z ∷ more) (lop_item at (lop_of code) y z more)) (sym is) (lop-told at code y z more (lop_of code) refl h))
@@ -156,8 +134,8 @@ due-told Posted at a code y z more h = cond-told (a == 0x98 && code == 11) Poste
     (λ e. cond-told (y == 0 && z == 0) Posted at _ _ _ (λ _. fine _ _ _ _)
     (λ n. let t = both-tests a 0x98 code 11 e in
     let bytes : 0x98 ∷ 11 ∷ y ∷ z ∷ more ≡ a ∷ code ∷ y ∷ z ∷ more = rw (t.0, t.1) refl in
-    faulty _ _ _ _ (subst (λ (b : List ℕ). TetraFault Posted at b (BadFields at)) bytes (TetraFault.stab_fields at y z more (λ f. not-both _ (zeros-test y z f) n)))))
-    (λ n. faulty _ _ _ _ (TetraFault.no_stab at a code y z more (λ f. not-both _ (stab-test a code f) n)))
+    faulty _ _ _ _ (subst (λ (b : List ℕ). TetraFault Posted at b (BadFields at)) bytes (TetraFault.stab_fields at y z more (λ f. not-both _ (rw (f.0, f.1) refl) n)))))
+    (λ n. faulty _ _ _ _ (TetraFault.no_stab at a code y z more (λ f. not-both _ (rw (f.0, f.1) refl) n)))
 due-told Ended at a code y z more h = fine _ _ _ _
 
 first-told : (phase : Phase) (at : ℕ) (bytes : List ℕ) → AreBytes bytes → FaultTold phase at bytes (first_item phase at bytes)

@@ -2,24 +2,8 @@
 use Rattle.std.proofs.Common.{◌≡◌, ◌≢◌, ℕ, zero, suc, ◌+◌, ◌-◌, ◌*◌, ◌/◌, ◌%◌, ◌^◌, ◌<◌, ◌≤◌, ◌⊎◌, length, List, [], ◌∷◌, ◌++◌, take, drop, arith, refl, sym, ◌∙◌, ap, subst, Ok, Err, Some, None, Bool, true, false, cond, length-take, replicate, inl, inr}
 use Rattle.std.specs.Prelude.{Option, nat_lt, nat_le, ◌==◌, ◌&&◌, ◌||◌, IfOk, IfSome}
 use Rattle.std.specs.List.{flat_map}
-use Rattle.mx_word.specs.Words.{tetra_to_bytes, octa_to_bytes, tetra_from_bytes, octa_from_bytes}
-use Rattle.mx_mmo.specs.Tetras.{lop, wide_lop}
-use Rattle.mx_mmo.specs.Valid.{AreBytes, AreTetras, AreOctas, Fits}
-use Rattle.mx_mmo.specs.Object.{Spells, SpellsAddress, EndsSpec}
-use Rattle.mx_mmo.specs.Skipping.{skipped}
-use Rattle.mx_mmo.specs.Reading.{DueOf, Due, first_item, due_item, lop_item, lop_of, on_tetra, on_octa, quoted_tetra, short_address, long_address, address_due, item_due, far_tetra, named_file, file_item, ended_spec, pre_item, post_item, tetras_of, octas_of, trimmed}
-use Rattle.mx_mmo.specs.Turns.{MayCome, EndsItem}
-use Rattle.mx_mmo.specs.declared.items.Item.{Item}
-use Rattle.mx_mmo.specs.declared.items.Item.TheVariants.{Load, Loc, Skip, FixOcta, FixNear, FixFar, File, Line, Spec, Pre, Post, Stab}
-use Rattle.mx_mmo.specs.declared.lops.Lop.{Lop}
+use Rattle.mx_mmo.proofs.Words.{tetra_to_bytes, octa_to_bytes, tetra_from_bytes, octa_from_bytes, lop, wide_lop, AreBytes, AreTetras, AreOctas, Fits, Spells, SpellsAddress, EndsSpec, skipped, DueOf, Due, first_item, due_item, lop_item, lop_of, on_tetra, on_octa, quoted_tetra, short_address, long_address, address_due, item_due, far_tetra, named_file, file_item, ended_spec, pre_item, post_item, tetras_of, octas_of, trimmed, MayCome, EndsItem, Item, Load, Loc, Skip, FixOcta, FixNear, FixFar, File, Line, Spec, Pre, Post, Stab, Lop, MmoFault, NoPre, BadLop, BadFields, OutOfMemory, Phase, Start, Middle, Posted, Ended, four-bytes, four-fit, eight-bytes, eight-fit, top-byte, bytes-front, take-four, drop-four, same-number, other-number, both-true, both-tests, all-tests, not-less, is-least, is-less}
 use Rattle.mx_mmo.specs.declared.lops.Lop.TheVariants as lops
-use Rattle.mx_mmo.specs.declared.faults.MmoFault.{MmoFault}
-use Rattle.mx_mmo.specs.declared.faults.MmoFault.TheVariants.{NoPre, BadLop, BadFields, OutOfMemory}
-use Rattle.mx_mmo.specs.declared.due.Phase.{Phase}
-use Rattle.mx_mmo.specs.declared.due.Phase.TheVariants.{Start, Middle, Posted, Ended}
-use Rattle.mx_word.proofs.Tetras.{four-bytes, four-fit, eight-bytes, eight-fit, top-byte}
-use Rattle.mx_word.proofs.Ranges.{bytes-front, take-four, drop-four}
-use Rattle.mx_word.proofs.Comparisons.{same-number, other-number, both-true, both-tests, all-tests, not-less, is-least, is-less}
 use Rattle.mx_mmo.proofs.Codes.{lop-code}
 use Rattle.mx_mmo.proofs.Names.{is-named}
 use Rattle.mx_mmo.proofs.Skips.{skipped-ended}
@@ -139,20 +123,14 @@ cond-address false code bytes x y p q = q refl
 address-as : (code a : ℕ) (bytes others : List ℕ) → bytes ≡ others → SpellsAddress code a bytes → SpellsAddress code a others
 address-as code a bytes others e s = subst (λ (b : List ℕ). SpellsAddress code a b) e s
 
-short-fit : (y t : ℕ) → y < 2 ^ 8 → t < 2 ^ 32 → y * 2 ^ 56 + t < 2 ^ 64
-short-fit y t p q = omega arith
-
-mod-fit : (n : ℕ) → n % 2 ^ 64 < 2 ^ 64
-mod-fit n = omega arith
-
 address-tells : (at code y z : ℕ) (more : List ℕ) → y < 2 ^ 8 → AreBytes more → AddressTold code (0x98 ∷ code ∷ y ∷ z ∷ more) (address_due at y z more)
 address-tells at code y z more f h =
     cond-address (z == 1) code _ _ _
     (λ g. tetra-told (AddressTold code (0x98 ∷ code ∷ y ∷ z ∷ more)) (short_address y) more h (record { is = tt })
-    (λ t fit is. record { is = (address-as code (y * 2 ^ 56 + t) _ _ (same-lop code y 1 code y z _ _ refl refl (same-number z 1 g) is) (SpellsAddress.by_tetra code y t f fit), short-fit y t f fit) }))
+    (λ t fit is. record { is = (address-as code (y * 2 ^ 56 + t) _ _ (same-lop code y 1 code y z _ _ refl refl (same-number z 1 g) is) (SpellsAddress.by_tetra code y t f fit), omega arith) }))
     (λ _. cond-address (z == 2) code _ _ _
     (λ g. octa-told (AddressTold code (0x98 ∷ code ∷ y ∷ z ∷ more)) (long_address y) more h (record { is = tt })
-    (λ x fit is. record { is = (address-as code ((y * 2 ^ 56 + x) % 2 ^ 64) _ _ (same-lop code y 2 code y z _ _ refl refl (same-number z 2 g) is) (SpellsAddress.by_octa code y x f fit), mod-fit (y * 2 ^ 56 + x)) }))
+    (λ x fit is. record { is = (address-as code ((y * 2 ^ 56 + x) % 2 ^ 64) _ _ (same-lop code y 2 code y z _ _ refl refl (same-number z 2 g) is) (SpellsAddress.by_octa code y x f fit), omega arith) }))
     (λ _. record { is = tt }))
 
 loc-tells : (code : ℕ) (bytes : List ℕ) (due : DueOf ℕ) → code ≡ 1 → AddressTells code bytes due → Told Middle bytes (item_due (λ a. Loc a) due)
@@ -261,9 +239,6 @@ bare-tells a b c d more e p q r s =
     let other : t / 2 ^ 24 ≢ 0x98 = rw (top-byte a b c d q r s) (other-number a 0x98 e) in
     item-tells Middle _ _ (Load t) 4 (four-bytes a b c d p q r s) (Spells.bare t (fit, other)) tt fit tt
 
-stab-tells : (a code y z : ℕ) (more : List ℕ) → a ≡ 0x98 → code ≡ 11 → y ≡ 0 → z ≡ 0 → Told Posted (a ∷ code ∷ y ∷ z ∷ more) (Ok (Some (Stab, 4)))
-stab-tells a code y z more d e f g = item-tells Posted _ _ Stab 4 (rw (d, e, f, g) refl) Spells.stab tt tt tt
-
 due-tells : (phase : Phase) (at a code y z : ℕ) (more : List ℕ) → a < 256 → code < 256 → y < 256 → z < 256 → AreBytes more →
     Told phase (a ∷ code ∷ y ∷ z ∷ more) (due_item phase at a code y z more)
 due-tells Start at a code y z more p q r s h = cond-tells (a == 0x98 && code == 9 && y == 1) Start _ _ _
@@ -273,7 +248,7 @@ due-tells Middle at a code y z more p q r s h = cond-tells (a == 0x98) Middle _ 
     subst (λ (b : ℕ). Told Middle (b ∷ code ∷ y ∷ z ∷ more) (lop_item at (lop_of code) y z more)) (sym is) (lop-tells at code y z more (lop_of code) refl r s h))
     (λ e. bare-tells a code y z more e p q r s)
 due-tells Posted at a code y z more p q r s h = cond-tells (a == 0x98 && code == 11) Posted _ _ _
-    (λ e. cond-tells (y == 0 && z == 0) Posted _ _ _ (λ f. let t = both-tests a 0x98 code 11 e in let u = both-tests y 0 z 0 f in stab-tells a code y z more t.0 t.1 u.0 u.1)
+    (λ e. cond-tells (y == 0 && z == 0) Posted _ _ _ (λ f. let t = both-tests a 0x98 code 11 e in let u = both-tests y 0 z 0 f in (item-tells Posted _ _ Stab 4 (rw (t.0, t.1, u.0, u.1) refl) Spells.stab tt tt tt))
     (λ _. fault-tells _ _ (BadFields at)))
     (λ _. fault-tells _ _ (BadLop at))
 due-tells Ended at a code y z more p q r s h = nothing-tells _ _

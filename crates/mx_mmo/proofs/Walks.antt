@@ -1,12 +1,7 @@
 -- The items of bytes: one step, and what more bytes add.
 use Rattle.std.proofs.Common.{◌≡◌, ℕ, zero, suc, ◌+◌, ◌<◌, ◌≤◌, length, List, [], ◌∷◌, ◌++◌, drop, arith, refl, sym, ◌∙◌, ap, Ok, Err, Some, None, length-drop}
 use Rattle.std.proofs.lemmas.Grind.{common_steps}
-use Rattle.mx_mmo.specs.Reading.{Due, IsWithin, first_item}
-use Rattle.mx_mmo.specs.Replies.{phase_after}
-use Rattle.mx_mmo.specs.Whole.{Walk, behind, walk_on, walk, items_of, extended}
-use Rattle.mx_mmo.specs.declared.items.Item.{Item}
-use Rattle.mx_mmo.specs.declared.faults.MmoFault.{MmoFault}
-use Rattle.mx_mmo.specs.declared.due.Phase.{Phase}
+use Rattle.mx_mmo.proofs.Words.{Due, IsWithin, first_item, phase_after, Walk, behind, walk_on, walk, items_of, extended, Item, MmoFault, Phase}
 use Rattle.mx_mmo.proofs.Firsts.{Grows, first-grows, first-within}
 
 pub shorter : (size : ℕ) (bytes : List ℕ) → 0 < size → size ≤ length bytes → length (drop size bytes) < length bytes
@@ -52,16 +47,13 @@ extended-behind item (items, Ok left) ys = refl
 abbrev Extends : Phase → ℕ → List ℕ → List ℕ → Type 0
 Extends phase at xs ys = items_of phase at (xs ++ ys) ≡ extended (items_of phase at xs) ys
 
-drop-front : (size : ℕ) (xs ys : List ℕ) → size ≤ length xs → drop size (xs ++ ys) ≡ drop size xs ++ ys
-drop-front size xs ys h = grind (arith, common_steps)
-
 extend-step : (phase : Phase) (at : ℕ) (xs ys : List ℕ) (d : Due) → first_item phase at xs ≡ d → IsWithin d (length xs) → Grows d (first_item phase at (xs ++ ys)) →
     ((p : Phase) (a : ℕ) (zs : List ℕ) → length zs < length xs → Extends p a zs ys) → Extends phase at xs ys
 extend-step phase at xs ys (Ok None) e w g h = ap (λ v. extended v ys) (sym (items-none phase at xs e))
 extend-step phase at xs ys (Err fault) e w g h = items-fault phase at (xs ++ ys) fault g ∙ ap (λ v. extended v ys) (sym (items-fault phase at xs fault e))
 extend-step phase at xs ys (Ok (Some (item, size))) e w g h =
     items-more phase at (xs ++ ys) item size g
-    ∙ ap (λ bs. behind item (items_of (phase_after item phase) (at + size) bs)) (drop-front size xs ys w.1)
+    ∙ ap (λ bs. behind item (items_of (phase_after item phase) (at + size) bs)) (grind (arith, common_steps, w.1))
     ∙ ap (behind item) (h (phase_after item phase) (at + size) (drop size xs) (shorter size xs w.0 w.1))
     ∙ sym (extended-behind item (items_of (phase_after item phase) (at + size) (drop size xs)) ys)
     ∙ ap (λ v. extended v ys) (sym (items-more phase at xs item size e))

@@ -1,9 +1,6 @@
 -- The first node of a trie, and what has_symbols behind it.
 use Rattle.std.proofs.Common.{◌≡◌, ℕ, zero, suc, ◌+◌, ◌-◌, ◌<◌, ◌==◌, List, [], ◌∷◌, ◌++◌, length, take, drop, Bool, true, false, cond, refl, sym, ap, ◌∙◌, arith, append_assoc, append-nil, length-append, ◌≤◌}
-use Rattle.std.proofs.lemmas.Bool.{cond_both, eqb-true}
-use Rattle.mx_word.specs.declared.symbols.Symbol.{Symbol}
-use Rattle.mx_stab.specs.Trie.{next_byte, groups_with, groups_of, symbols_below, has_symbols, node_front, nodes, trie, trie_from, longest}
-use Rattle.mx_stab.specs.Writing.{bytes_due, run_length, group_size}
+use Rattle.mx_stab.proofs.Words.{cond_both, eqb-true, Symbol, next_byte, groups_with, groups_of, symbols_below, has_symbols, node_front, nodes, trie, trie_from, longest, bytes_due, run_length, group_size}
 use Rattle.mx_stab.specs.declared.writing.Pending.{Pending}
 
 group-step : (b : Bool) (at : ℕ) (s t : Symbol) (ts : List Symbol) (r q : ℕ) → (b ≡ true → q ≡ r) →

@@ -1,20 +1,9 @@
 -- What is read is in the grammar.
 use Rattle.std.proofs.Common.{◌≡◌, ◌≢◌, ℕ, zero, suc, ◌+◌, ◌-◌, ◌*◌, ◌/◌, ◌%◌, ◌^◌, ◌≤◌, ◌<◌, ◌==◌, Bool, true, false, cond, ◌||◌, not, List, [], ◌∷◌, ◌++◌, length, take, drop, replicate, Option, Some, None, Result, Ok, Err, arith, refl, sym, ap, ◌∙◌, subst, append_assoc, append-nil, length-append}
 use Rattle.std.specs.Prelude.{nat_le, nat_lt, slice_index, ◌&&◌}
-use Rattle.std.specs.Char.{encode_utf8}
-use Rattle.std.proofs.lemmas.Bool.{leb-false, leb-true, ltb-true, ltb-false, eqb-true, eqb-false, or_parts, and_parts}
-use Rattle.std.proofs.lemmas.List.{length-take-le, take-append-drop}
-use Rattle.mx_word.specs.Ranges.{AreBytes}
-use Rattle.mx_word.specs.declared.symbols.Symbol.{Symbol}
-use Rattle.mx_word.specs.declared.symbols.Value.{Value}
-use Rattle.mx_word.specs.declared.symbols.Value.TheVariants.{Pure, Reg}
-use Rattle.mx_stab.specs.declared.faults.StabFault.{StabFault}
-use Rattle.mx_stab.specs.declared.faults.StabFault.TheVariants.{Padding, Truncated, Wide}
-use Rattle.mx_stab.specs.Characters.{wide_number, is_wide_character}
+use Rattle.mx_stab.proofs.Words.{encode_utf8, leb-false, leb-true, ltb-true, ltb-false, eqb-true, eqb-false, or_parts, and_parts, length-take-le, take-append-drop, AreBytes, Symbol, Value, Pure, Reg, StabFault, Padding, Truncated, Wide, wide_number, is_wide_character, Reading, Answer, Character, and_then, part_if, is_among, value_size, value_of, serial_behind, symbol_with, symbol, has, has_character, is_wide_bare, character_of, character_part, with_character, node_rest, node, subtrie, next_subtrie, are_zeros, is_padding, symbols_at_end, start, trie_answer, AreBelow, AreDistinct, IsSubtrie, IsTrie, SpellsCharacter, SpellsValue, SpellsSerial, number_behind, number}
 use Rattle.mx_stab.specs.Reading as reading
-use Rattle.mx_stab.specs.Reading.{Reading, Answer, Character, and_then, part_if, is_among, value_size, value_of, serial_behind, symbol_with, symbol, has, has_character, is_wide_bare, character_of, character_part, with_character, node_rest, node, subtrie, next_subtrie, are_zeros, is_padding, symbols_at_end, start, trie_answer}
 use Rattle.mx_stab.specs.Grammar as grammar
-use Rattle.mx_stab.specs.Grammar.{AreBelow, AreDistinct, IsSubtrie, IsTrie, SpellsCharacter, SpellsValue, SpellsSerial, number_behind, number}
 use Rattle.mx_stab.proofs.Distinct.{distinct-push}
 use Rattle.mx_stab.proofs.Orders.{all-back, all-front}
 

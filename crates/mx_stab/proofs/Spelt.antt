@@ -1,15 +1,9 @@
 -- Values and serial numbers as they are written.
 use Rattle.std.proofs.Common.{◌≡◌, ℕ, ◌+◌, ◌-◌, ◌/◌, ◌%◌, ◌^◌, ◌<◌, ◌≤◌, ◌==◌, Bool, true, false, cond, List, [], ◌∷◌, ◌++◌, length, arith, refl, sym, ap, ◌∙◌, subst}
 use Rattle.std.specs.Prelude.{nat_le, nat_lt, ◌&&◌}
-use Rattle.std.proofs.lemmas.Bool.{and_parts, eqb-true, leb-true, ltb-true}
-use Rattle.mx_word.specs.Words.{octa_to_bytes}
-use Rattle.mx_word.specs.declared.symbols.Value.{Value}
-use Rattle.mx_word.specs.declared.symbols.Value.TheVariants.{Pure, Reg}
-use Rattle.mx_stab.specs.Numbers.{fewest_digits, octa_digits, is_offset, value_bytes, kind, serial_bytes}
-use Rattle.mx_stab.specs.Grammar.{number, AreBelow, SpellsValue, SpellsSerial}
+use Rattle.mx_stab.proofs.Words.{and_parts, eqb-true, leb-true, ltb-true, octa_to_bytes, Value, Pure, Reg, fewest_digits, octa_digits, is_offset, value_bytes, kind, serial_bytes, number, AreBelow, SpellsValue, SpellsSerial, IsValue}
 use Rattle.mx_stab.specs.Grammar.SpellsValue.{pure, offset, register}
 use Rattle.mx_stab.specs.Grammar.SpellsSerial.{digits}
-use Rattle.mx_word.specs.Symbols.{IsValue}
 use Rattle.mx_stab.proofs.Digits.{number-zero}
 
 -- the digits without zeros in front: their bound, their number, and how many they are
@@ -120,15 +114,12 @@ shortened (d ∷ e ∷ more) last h = shorten-step (d == 0) d (e ∷ more) last 
 abbrev pub serial-front : ℕ → List ℕ
 serial-front x = (x / 2 ^ 28) ∷ (x / 2 ^ 21 % 128) ∷ (x / 2 ^ 14 % 128) ∷ (x / 2 ^ 7 % 128) ∷ []
 
-serial-below : (x : ℕ) → x < 2 ^ 32 → AreBelow 128 (serial-front x)
-serial-below x h = (omega (arith, h), (omega arith, (omega arith, (omega arith, tt))))
-
 pub serial-number : (x : ℕ) → number 128 (serial-front x ++ (x % 128) ∷ []) ≡ x
 serial-number x = omega arith
 
 pub spell-serial : (x : ℕ) → x < 2 ^ 32 → SpellsSerial x (serial_bytes x)
 spell-serial x h =
-    let s = shortened (serial-front x) (x % 128) (serial-below x h) in
+    let s = shortened (serial-front x) (x % 128) ((omega (arith, h), (omega arith, (omega arith, (omega arith, tt))))) in
     let back : number 128 (s.short ++ (x % 128) ∷ []) ≡ x = s.tells ∙ serial-number x in
     subst (λ y. SpellsSerial y (serial_bytes x)) back
     (subst (λ bs. SpellsSerial (number 128 (s.short ++ (x % 128) ∷ [])) bs) (sym s.same)

@@ -1,7 +1,6 @@
 -- Answers that are alike.
 use Rattle.std.proofs.Common.{◌≡◌, Ok, Err, refl}
-use Rattle.mx_stmt.specs.declared.faults.StmtFault.{StmtFault}
-use Rattle.mx_stmt.specs.Steps.{Answer, AreAlike, and_then}
+use Rattle.mx_stmt.proofs.Words.{StmtFault, Answer, AreAlike, and_then}
 
 module _ {B : Type 0} (R : B → B → Type 0) where
   pub alike-fault : (fault : StmtFault) → AreAlike R (Err fault) (Err fault)

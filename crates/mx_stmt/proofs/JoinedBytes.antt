@@ -1,11 +1,8 @@
 -- Bytes that are placed one after another, and bytes that are joined.
 use Rattle.std.proofs.Common.{◌≡◌, ℕ, zero, suc, ◌+◌, ◌*◌, ◌/◌, ◌%◌, ◌^◌, ◌==◌, Bool, true, false, cond, List, [], ◌∷◌, ◌++◌, length, replicate, bit_xor, refl, sym, ap, ◌∙◌, arith}
-use Rattle.std.proofs.lemmas.Bool.{cond_both}
+use Rattle.mx_stmt.proofs.Words.{cond_both, xor_assoc, xor_zero_l, xor_comm, xor_shr, xor_mod, pow-add, from_place, placed}
 use Rattle.std.specs.Int.{bytes_high_first, byte_at}
-use Rattle.std.specs.Int.Bits.{xor_assoc, xor_zero_l}
-use Rattle.std.proofs.lemmas.Nat.{xor_comm, xor_shr, xor_mod, pow-add}
 use Rattle.std.proofs.Math.Nat.{pow-suc}
-use Rattle.mx_stmt.specs.Placements.{from_place, placed}
 
 -- two pairs that are joined in another order
 pub xor-pairs : (a b c d : ℕ) → bit_xor (bit_xor a b) (bit_xor c d) ≡ bit_xor (bit_xor a c) (bit_xor b d)

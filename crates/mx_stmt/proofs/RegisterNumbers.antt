@@ -1,22 +1,11 @@
 -- A value of an operand that is a register has a byte as its number.
 use Rattle.std.proofs.Common.{◌≡◌, ◌<◌, ℕ, ◌^◌, nat_le, Bool, true, false, cond, IfOk, List, Option, None, Some, Result, Ok, Err, subst, arith}
-use Rattle.std.proofs.lemmas.Bool.{cond_both, leb-true}
-use Rattle.std.specs.Option.{IfSome}
-use Rattle.mx_word.specs.declared.symbols.Value.{Value}
-use Rattle.mx_word.specs.declared.symbols.Value.TheVariants.{Pure, Reg}
-use Rattle.mx_expr.specs.declared.faults.ExprFault.{ExprFault}
+use Rattle.mx_stmt.proofs.Words.{cond_both, leb-true, IfSome, Value, Pure, Reg, ExprFault, Tree, number, name, back, ahead, here, unary, binary, Valued, register, unary_value, binary_value, after_operand, after_both, of_symbol, value_of, NameFault, NameTable, value_of_name, and_then, Known, knowledge_of, symbol_form, value_in, answer_of, operand_value, register_number, register_at, HasRegisterNumber, IsSound}
 use Rattle.mx_expr.specs.declared.faults.ExprFault.TheVariants.{RegisterNumber}
 use Rattle.mx_expr.specs.declared.tree.UnOp.{UnOp}
 use Rattle.mx_expr.specs.declared.tree.UnOp.TheVariants.{Plus, Minus, Not, Register}
 use Rattle.mx_expr.specs.declared.tree.BinOp.{BinOp}
 use Rattle.mx_expr.specs.declared.tree.BinOp.TheVariants.{Div, Fraction, Rem, Add, Sub}
-use Rattle.mx_expr.specs.Tree.{Tree, number, name, back, ahead, here, unary, binary}
-use Rattle.mx_expr.specs.Value.{Valued, register, unary_value, binary_value, after_operand, after_both, of_symbol, value_of}
-use Rattle.mx_names.specs.declared.fault.NameFault.{NameFault}
-use Rattle.mx_names.specs.Names.{NameTable, value_of_name}
-use Rattle.mx_stmt.specs.Steps.{and_then}
-use Rattle.mx_stmt.specs.Operands.{Known, knowledge_of, symbol_form, value_in, answer_of, operand_value, register_number, register_at}
-use Rattle.mx_stmt.specs.Fixes.{HasRegisterNumber, IsSound}
 
 abbrev IsNumbered : Valued → Type 0
 IsNumbered value = IfOk value HasRegisterNumber
@@ -30,8 +19,10 @@ pure-numbered false fault n = tt
 
 unary-numbered : (op : UnOp) (x : Value) → HasRegisterNumber x → IsNumbered (unary_value op x)
 unary-numbered Plus x h = h
+unary-numbered Minus (Pure x) h = tt
+unary-numbered Not (Pure x) h = tt
 unary-numbered Register (Pure x) h = register-numbered x
-unary-numbered op x h = tt
+unary-numbered op (Reg x) h = tt
 
 binary-numbered : (op : BinOp) (x y : Value) → IsNumbered (binary_value op x y)
 binary-numbered Div (Pure x) (Pure y) = pure-numbered _ _ _
@@ -40,15 +31,20 @@ binary-numbered Rem (Pure x) (Pure y) = pure-numbered _ _ _
 binary-numbered Add (Reg x) (Pure y) = register-numbered _
 binary-numbered Add (Pure x) (Reg y) = register-numbered _
 binary-numbered Sub (Reg x) (Pure y) = register-numbered _
-binary-numbered op x y = tt
+binary-numbered Sub (Reg x) (Reg y) = tt
+binary-numbered op (Pure x) (Pure y) = tt
+binary-numbered op (Pure x) (Reg y) = tt
+binary-numbered op (Reg x) (Pure y) = tt
+binary-numbered op (Reg x) (Reg y) = tt
 
 operand-numbered : (op : UnOp) (value : Valued) → IsNumbered value → IsNumbered (after_operand op value)
 operand-numbered op (Err fault) h = tt
 operand-numbered op (Ok x) h = unary-numbered op x h
 
 both-numbered : (op : BinOp) (left right : Valued) → IsNumbered (after_both op left right)
+both-numbered op (Err fault) right = tt
+both-numbered op (Ok x) (Err fault) = tt
 both-numbered op (Ok x) (Ok y) = binary-numbered op x y
-both-numbered op left right = tt
 
 some-numbered : (value : Option Value) → IfSome value HasRegisterNumber → IsNumbered (of_symbol (Ok value))
 some-numbered None h = tt

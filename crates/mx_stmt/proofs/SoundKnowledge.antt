@@ -1,16 +1,9 @@
 -- What is known stays sound when a label is defined or a register is given.
 use Rattle.std.proofs.Common.{◌≡◌, ◌≤◌, ℕ, zero, suc, ◌-◌, nat_lt, Bool, true, false, cond, List, [], ◌∷◌, replicate, slice_index_or, slice_set, Option, None, Some, bytes_eq, sym, subst, arith}
-use Rattle.std.specs.Option.{IfSome}
-use Rattle.std.proofs.lemmas.Bool.{cond_both, ltb-true}
-use Rattle.std.proofs.lemmas.List.{length-set}
-use Rattle.mx_word.specs.declared.symbols.Value.{Value}
-use Rattle.mx_word.specs.declared.symbols.Value.TheVariants.{Pure}
+use Rattle.mx_stmt.proofs.Words.{IfSome, cond_both, ltb-true, length-set, Value, Pure, start, pure_of, value_of_name, with_symbol, IsAllocable, lowest_of, with_greg, Known, HasRegisterNumber, IsSound}
 use Rattle.mx_ops.specs.Predefined.{predefined_value}
-use Rattle.mx_names.specs.Names.{start, value_in, pure_of, value_of_name, with_symbol}
+use Rattle.mx_names.specs.Names.{value_in}
 use Rattle.mx_names.proofs.Entries.{value-defined}
-use Rattle.mx_stmt.specs.Gregs.{IsAllocable, lowest_of, with_greg}
-use Rattle.mx_stmt.specs.Operands.{Known}
-use Rattle.mx_stmt.specs.Fixes.{HasRegisterNumber, IsSound}
 
 pure-numbered : (value : Option ℕ) → IfSome (pure_of value) HasRegisterNumber
 pure-numbered None = tt

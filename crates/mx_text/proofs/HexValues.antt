@@ -1,11 +1,6 @@
 -- The value of hexadecimal digits.
 use Rattle.std.proofs.Common.{◌≡◌, ℕ, zero, suc, ◌+◌, ◌*◌, ◌/◌, ◌%◌, ◌^◌, ◌<◌, sym, ap, ◌∙◌, arith, zero-add}
-use Rattle.std.specs.Str.Parse.{AllDigits, IsNumeral, digits_value, digits_value_after}
-use Rattle.std.specs.Char.{digit_value}
-use Rattle.std.proofs.lemmas.Nat.{mod-pow-add}
-use Rattle.std.proofs.lemmas.Bool.Decides.{nat_tests}
-use Rattle.std.proofs.Math.Nat.{pow-succ', mod-lt, mod-eq_of_lt, add-mul, mul_assoc}
-use Rattle.mx_text.specs.Numbers.{hex_digit, hex_digits}
+use Rattle.mx_text.proofs.Words.{AllDigits, IsNumeral, digits_value, digits_value_after, digit_value, mod-pow-add, nat_tests, pow-succ', mod-lt, mod-eq_of_lt, add-mul, mul_assoc, hex_digit, hex_digits}
 use Rattle.mx_text.proofs.Digits.{sixteen}
 
 digit : (d : ℕ) → d < 16 → digit_value (hex_digit d) ≡ d

@@ -1,14 +1,6 @@
 -- Operands are told by their texts.
 use Rattle.std.proofs.Common.{◌≡◌, ℕ, ◌<◌, ◌≤◌, ◌^◌, Bool, true, false, not, eqb, List, [], ◌∷◌, map, refl, sym, ap, arith, drop}
-use Rattle.std.specs.Fmt.{decimal}
-use Rattle.std.specs.Char.{digit_value}
-use Rattle.std.specs.Str.Parse.{AllDigits}
-use Rattle.std.proofs.lemmas.Bool.{eqb-true}
-use Rattle.std.proofs.lemmas.Fmt.{decimal_injective, decimal_is_IsNumeral}
-use Rattle.mx_text.specs.Numbers.{hex_digits}
-use Rattle.mx_text.specs.Instructions.{operand_text}
-use Rattle.mx_text.specs.declared.operands.Operand.{Operand}
-use Rattle.mx_text.specs.declared.operands.Operand.TheVariants.{Register, Number, Address}
+use Rattle.mx_text.proofs.Words.{decimal, digit_value, AllDigits, eqb-true, decimal_injective, decimal_is_IsNumeral, hex_digits, operand_text, Operand, Register, Number, Address}
 use Rattle.mx_text.proofs.HexValues.{all}
 use Rattle.mx_text.proofs.Different.{hex-differ}
 use Rattle.mx_text.proofs.Parts.{lacks, each-lacks}

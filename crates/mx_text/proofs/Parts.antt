@@ -1,7 +1,6 @@
 -- The parts of a text: before its blank, and between its commas.
 use Rattle.std.proofs.Common.{◌≡◌, ℕ, Bool, true, false, not, ◌&&◌, eqb, List, [], ◌∷◌, ◌++◌, refl, sym, ◌∙◌, ap, arith, drop, get_or}
-use Rattle.std.specs.List.{join_with_byte}
-use Rattle.std.proofs.lemmas.Bool.{and_parts, not-true, false≢true}
+use Rattle.mx_text.proofs.Words.{join_with_byte, and_parts, not-true, false≢true}
 
 -- no byte is c
 abbrev pub lacks : ℕ → List ℕ → Bool
@@ -38,9 +37,10 @@ cut-first c (x ∷ xs) ys (u ∷ us) vs lx lu same =
 
 -- a text with c does not lack it
 has : (c : ℕ) (xs us vs : List ℕ) → lacks c xs ≡ true → xs ≡ us ++ c ∷ vs → false ≡ true
+has c [] [] vs l is = cc is
+has c [] (u ∷ us) vs l is = cc is
 has c (x ∷ xs) [] vs l is = other c x xs l (head-of x c xs vs is)
 has c (x ∷ xs) (u ∷ us) vs l is = has c xs us vs (and_parts _ _ l).1 (tail-of x u xs (us ++ c ∷ vs) is)
-has c [] us vs l is = cc is
 
 -- joined parts that lack the byte between them
 pub same-parts : (c : ℕ) (p : List ℕ) (ps : List (List ℕ)) (q : List ℕ) (qs : List (List ℕ)) → each-lacks c (p ∷ ps) ≡ true → each-lacks c (q ∷ qs) ≡ true →

@@ -1,17 +1,6 @@
 -- The text of an instruction tells the instruction.
 use Rattle.std.proofs.Common.{◌≡◌, ℕ, ◌<◌, ◌+◌, ◌-◌, ◌*◌, ◌%◌, ◌^◌, Bool, true, false, not, ◌||◌, nat_le, cond, List, [], ◌∷◌, ◌++◌, map, refl, sym, ◌∙◌, ap, arith, Some, slice_index_or, append_assoc, length}
-use Rattle.std.specs.List.{range_with_len}
-use Rattle.std.proofs.Math.Nat.{mod-lt}
-use Rattle.std.proofs.lemmas.Bool.Decides.{nat_tests}
-use Rattle.mx_ops.specs.Opcodes.{opcode_rows, opcode_kinds, opcode_kind, opcode_names, opcode_name, operation_of, is_immediate, is_backward}
-use Rattle.mx_ops.specs.Shapes.{shape_spans, shapes_of}
-use Rattle.mx_ops.specs.declared.op.Op.TheVariants.{Code}
-use Rattle.mx_ops.specs.declared.op.Shape.{Shape}
-use Rattle.mx_ops.specs.declared.op.Shape.TheVariants.{Three, Regs, Round, Neg, Rel, Mem, MemPure, Wyde, Jump, Put, Get, Pop, One, Save, Unsave, Free}
-use Rattle.mx_text.specs.Instructions.{field_code, field_x, field_y, field_z, shape, operands, shown_operands, operand_text, operands_text, instruction_text}
-use Rattle.mx_text.specs.Reading.{lowest_code, hides_y, shown_part}
-use Rattle.mx_text.specs.declared.operands.Operand.{Operand}
-use Rattle.mx_text.specs.declared.operands.Operand.TheVariants.{Register, Number}
+use Rattle.mx_text.proofs.Words.{range_with_len, mod-lt, nat_tests, opcode_rows, opcode_kinds, opcode_kind, opcode_names, opcode_name, operation_of, is_immediate, is_backward, shape_spans, shapes_of, Code, Shape, Three, Regs, Round, Neg, Rel, Mem, MemPure, Wyde, Jump, Put, Get, Pop, One, Save, Unsave, Free, field_code, field_x, field_y, field_z, shape, operands, shown_operands, operand_text, operands_text, instruction_text, lowest_code, hides_y, shown_part, Operand, Register, Number}
 use Rattle.mx_text.proofs.SecondCodes.{each}
 use Rattle.mx_text.proofs.LowestCodes.{name-found}
 use Rattle.mx_text.proofs.Parts.{lacks, cut-first, same-parts}

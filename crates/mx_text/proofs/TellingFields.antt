@@ -1,13 +1,6 @@
 -- The fields of a tetra are told by its operands.
 use Rattle.std.proofs.Common.{◌≡◌, ℕ, ◌<◌, ◌≤◌, ◌+◌, ◌-◌, ◌*◌, ◌%◌, ◌^◌, Bool, true, false, not, ◌||◌, cond, [], ◌∷◌, refl, sym, arith}
-use Rattle.std.proofs.Math.Nat.{mod-lt}
-use Rattle.mx_ops.specs.Opcodes.{opcode_kind, is_immediate, is_backward}
-use Rattle.mx_ops.specs.declared.op.Shape.{Shape}
-use Rattle.mx_ops.specs.declared.op.Shape.TheVariants.{Three, Regs, Round, Neg, Rel, Mem, MemPure, Wyde, Jump, Put, Get, Pop, One, Save, Unsave, Free}
-use Rattle.mx_text.specs.Instructions.{field_code, field_x, field_y, field_z, field_yz, field_xyz, operands}
-use Rattle.mx_text.specs.Reading.{hides_y}
-use Rattle.mx_text.specs.declared.operands.Operand.{Operand}
-use Rattle.mx_text.specs.declared.operands.Operand.TheVariants.{Register, Number, Address}
+use Rattle.mx_text.proofs.Words.{mod-lt, opcode_kind, is_immediate, is_backward, Shape, Three, Regs, Round, Neg, Rel, Mem, MemPure, Wyde, Jump, Put, Get, Pop, One, Save, Unsave, Free, field_code, field_x, field_y, field_z, field_yz, field_xyz, operands, hides_y, Operand, Register, Number, Address}
 
 -- the part of a tetra behind its code that is shown
 abbrev pub behind_code : Shape → ℕ → ℕ
