@@ -70,7 +70,7 @@ none-first phase bytes = record { whole = refl; spelled = Spelled.none; turn = t
 nothing-stands : (phase : Phase) (at : ℕ) (bytes : List ℕ) → Stood phase at bytes [] (record { phase = phase; at = at; rest = bytes })
 nothing-stands phase at bytes = record { front = []; first = none-first phase bytes; fits = tt; end = refl; place = sym (add-zero at) }
 
-stand-step : (others : Phase → ℕ → List ℕ → Walk) (phase : Phase) (at : ℕ) (bytes : List ℕ) (d : Due) → first_item phase at bytes ≡ d → AreBytes bytes → Tells phase bytes d →
+stand-step : (others : Phase → ℕ → List ℕ → Walk) (phase : Phase) (at : ℕ) (bytes : List ℕ) (d : Due) → first_item phase at bytes ≡ d → AreBytes bytes → Tells phase at bytes d →
     IsWithin d (length bytes) → ((p : Phase) (a size : ℕ) → Stands p a (drop size bytes) (others p a (drop size bytes))) → Stands phase at bytes (walk_on others phase at bytes d)
 stand-step others phase at bytes (Ok None) e b t w h = nothing-stands phase at bytes
 stand-step others phase at bytes (Err fault) e b t w h =

@@ -7,7 +7,8 @@ use Rattle.mx_mmo.proofs.Complete.{end-told, items-read, left_behind, tail-read,
 use Rattle.mx_mmo.proofs.Pieces.{not-long}
 use Rattle.mx_mmo.proofs.Sound.{Stood, Stopped, Stands, counts, left-bytes, stands}
 use Rattle.mx_mmo.proofs.Spelt.{tetras-length, octas-length}
-use Rattle.mx_mmo.proofs.TetraFaults.{fault-first, fault-found}
+use Rattle.mx_mmo.proofs.TetraFaults.{fault-first}
+use Rattle.mx_mmo.proofs.Told.{fault-found}
 use Rattle.mx_mmo.proofs.Walks.{items-fault}
 
 -- items take whole tetras

@@ -75,9 +75,6 @@ byte-below n = omega (arith, mod-lt n {m = 2 ^ 8} (omega arith))
 wyde-below : (n : ℕ) → n % 2 ^ 16 < 2 ^ 64
 wyde-below n = omega (arith, mod-lt n {m = 2 ^ 16} (omega arith))
 
-long-below : (n : ℕ) → n % 2 ^ 24 < 2 ^ 64
-long-below n = omega (arith, mod-lt n {m = 2 ^ 24} (omega arith))
-
 last-shown : (t : Bool) (z : ℕ) → z < 2 ^ 64 → IsShown (cond t (Number z) (Register z))
 last-shown true z lt = lt
 last-shown false z lt = lt
@@ -94,7 +91,7 @@ all-shown Jump w pc = ((target-shown _ _ _, tt), omega arith)
 all-shown Put w pc = ((byte-below _, (last-shown _ _ (byte-below w), tt)), omega arith)
 all-shown Get w pc = ((byte-below _, (byte-below _, tt)), omega arith)
 all-shown Pop w pc = ((byte-below _, (wyde-below w, tt)), omega arith)
-all-shown One w pc = ((long-below w, tt), omega arith)
+all-shown One w pc = (((omega (arith, mod-lt w {m = 2 ^ 24} (omega arith))), tt), omega arith)
 all-shown Save w pc = ((byte-below _, (byte-below _, tt)), omega arith)
 all-shown Unsave w pc = ((byte-below _, (byte-below _, tt)), omega arith)
 all-shown Free w pc = ((byte-below _, (byte-below _, (byte-below _, tt))), omega arith)

@@ -52,13 +52,6 @@ by-wyde w v hx hyz = omega (arith, hx, hyz)
 by-ends : (w v : ℕ) → field_x w ≡ field_x v → field_z w ≡ field_z v → 2 ^ 16 * field_x w + field_z w ≡ 2 ^ 16 * field_x v + field_z v
 by-ends w v hx hz = rw (hx, hz) refl
 
-ahead : (pc n m most : ℕ) → pc < 2 ^ 64 → n < most → m < most → most ≤ 2 ^ 24 → (pc + 4 * n) % 2 ^ 64 ≡ (pc + 4 * m) % 2 ^ 64 → n ≡ m
-ahead pc n m most lp ln lm le is = omega arith
-
-back : (pc n m most : ℕ) → pc < 2 ^ 64 → n < most → m < most → most ≤ 2 ^ 24 →
-    (2 ^ 64 + pc + 4 * n - 4 * most) % 2 ^ 64 ≡ (2 ^ 64 + pc + 4 * m - 4 * most) % 2 ^ 64 → n ≡ m
-back pc n m most lp ln lm le is = omega arith
-
 apart : (pc n m most : ℕ) → pc < 2 ^ 64 → n < most → m < most → most ≤ 2 ^ 24 →
     (2 ^ 64 + pc + 4 * n - 4 * most) % 2 ^ 64 ≡ (pc + 4 * m) % 2 ^ 64 → true ≡ false
 apart pc n m most lp ln lm le is = absurd (omega arith)
@@ -66,10 +59,10 @@ apart pc n m most lp ln lm le is = absurd (omega arith)
 -- a target tells its direction and its field
 same-target : (a b : Bool) (pc n m most : ℕ) → pc < 2 ^ 64 → n < most → m < most → most ≤ 2 ^ 24 →
     cond a ((2 ^ 64 + pc + 4 * n - 4 * most) % 2 ^ 64) ((pc + 4 * n) % 2 ^ 64) ≡ cond b ((2 ^ 64 + pc + 4 * m - 4 * most) % 2 ^ 64) ((pc + 4 * m) % 2 ^ 64) → (a ≡ b) × (n ≡ m)
-same-target true true pc n m most lp ln lm le is = (refl, back pc n m most lp ln lm le is)
+same-target true true pc n m most lp ln lm le is = (refl, omega arith)
 same-target true false pc n m most lp ln lm le is = absurd (cc (apart pc n m most lp ln lm le is))
 same-target false true pc n m most lp ln lm le is = absurd (cc (apart pc m n most lp lm ln le (sym is)))
-same-target false false pc n m most lp ln lm le is = (refl, ahead pc n m most lp ln lm le is)
+same-target false false pc n m most lp ln lm le is = (refl, omega arith)
 
 -- $Z or the byte Z tells which it is
 same-last : (a b : Bool) (z y : ℕ) → cond a (Number z) (Register z) ≡ cond b (Number y) (Register y) → (a ≡ b) × (z ≡ y)
