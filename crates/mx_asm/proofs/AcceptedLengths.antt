@@ -1,25 +1,7 @@
 -- The object of a source that is accepted has at most the weights of its statements and 2^20 bytes.
 use Rattle.std.proofs.Common.{◌≡◌, ◌<◌, ◌≤◌, ℕ, ◌+◌, ◌/◌, ◌^◌, Bool, true, false, cond, nat_lt, List, [], ◌∷◌, ◌++◌, length, fold, Option, None, Some, Ok, Err, arith, refl}
-use Rattle.std.specs.List.{list_any}
+use Rattle.mx_asm.proofs.Words.{list_any, nat_tests, lines_of, Value, Pure, Reg, written, ending, Placed, Answer, IsSound, lowest_of, Known, no_targets, StatementTree, encoding, sound-start, AsmFault, LocalAboveGlobals, SymbolsTooMany, statements_in, refusal_in, source_entries, Sight, nothing_known, known_after, sights_from, sights_of, final_known, label_fault, fault_with, statement_fault, first_fault, first_undefined, locals, trie_limit, last_fault, end_fault, last_line, at_line, end_refusal, entries_refusal, refusal, emission, padded_trie}
 use Rattle.std.specs.Prelude.{nat_le}
-use Rattle.std.proofs.lemmas.Bool.Decides.{nat_tests}
-use Rattle.mx_line.specs.Lines.{lines_of}
-use Rattle.mx_word.specs.declared.symbols.Value.{Value}
-use Rattle.mx_word.specs.declared.symbols.Value.TheVariants.{Pure, Reg}
-use Rattle.mx_mmo.specs.Spelling.{written, ending}
-use Rattle.mx_stmt.specs.declared.placed.Placed.{Placed}
-use Rattle.mx_stmt.specs.Steps.{Answer}
-use Rattle.mx_stmt.specs.Fixes.{IsSound}
-use Rattle.mx_stmt.specs.Gregs.{lowest_of}
-use Rattle.mx_stmt.specs.Operands.{Known, no_targets}
-use Rattle.mx_stmt.specs.Encoding.{StatementTree, encoding}
-use Rattle.mx_stmt.proofs.SoundKnowledge.{sound-start}
-use Rattle.mx_asm.specs.declared.faults.AsmFault.{AsmFault}
-use Rattle.mx_asm.specs.declared.faults.AsmFault.TheVariants.{LocalAboveGlobals, SymbolsTooMany}
-use Rattle.mx_asm.specs.Entries.{statements_in, refusal_in, source_entries}
-use Rattle.mx_asm.specs.TwoPass.{Sight, nothing_known, known_after, sights_from, sights_of, final_known}
-use Rattle.mx_asm.specs.Refusal.{label_fault, fault_with, statement_fault, first_fault, first_undefined, locals, trie_limit, last_fault, end_fault, last_line, at_line, end_refusal, entries_refusal, refusal}
-use Rattle.mx_asm.specs.Emission.{emission, padded_trie}
 use Rattle.mx_asm.proofs.Weights.{weights}
 use Rattle.mx_asm.proofs.OneStatement.{no-label-fault}
 use Rattle.mx_asm.proofs.EndWaits.{both-none}

@@ -1,29 +1,17 @@
 -- The trees of a field of bytes: their numbers are octas, and their names are bytes.
 use Rattle.std.proofs.Common.{◌≡◌, ℕ, ◌+◌, ◌^◌, ◌<◌, ◌≤◌, List, [], ◌∷◌, ◌++◌, length, map, arith, refl, subst, append_assoc, append-nil, ⊎_elim, Result, Ok, Err}
-use Rattle.std.specs.List.{AllByRecursion}
-use Rattle.std.proofs.lemmas.Bool.{cases_lt}
-use Rattle.mx_word.specs.Ranges.{AreBytes}
-use Rattle.mx_stab.proofs.Orders.{all-both}
-use Rattle.mx_expr.specs.declared.faults.ExprFault.{ExprFault}
-use Rattle.mx_expr.specs.declared.faults.ExprFault.TheVariants.{TooWide}
-use Rattle.mx_expr.specs.Tree.{Tree, number}
-use Rattle.mx_expr.specs.Reading.{reading}
-use Rattle.mx_expr.specs.Spelling.{Primary, Product, Sum, Operand, Operands, Spells, Before, FaultAt, Faultless}
+use Rattle.mx_asm.proofs.Words.{AllByRecursion, cases_lt, AreBytes, all-both, ExprFault, TooWide, Tree, number, reading, Primary, Product, Sum, Operand, Operands, Spells, Before, FaultAt, Faultless, expression, string, none, more, empty, operands, list-read}
 use Rattle.mx_expr.specs.Spelling.Primary.{constant, character, symbol, last_label, next_label, place, enclosed, signed}
 use Rattle.mx_expr.specs.Spelling.Product.{primary, times}
 use Rattle.mx_expr.specs.Spelling.Sum.{product, plus}
-use Rattle.mx_expr.specs.Spelling.Operand.{expression, string}
-use Rattle.mx_expr.specs.Spelling.Operands.{none, more}
-use Rattle.mx_expr.specs.Spelling.Spells.{empty, operands}
 use Rattle.mx_expr.specs.Spelling.Before.{first, sign, parenthesis}
 use Rattle.mx_expr.specs.Spelling.FaultAt.{too_wide}
-use Rattle.mx_expr.proofs.Exact.{list-read}
 use Rattle.mx_expr.proofs.Partial.{before-product, before-sum}
 use Rattle.mx_asm.proofs.ByteStatements.{HasBytes}
 
-pub bytes-cut : (front more : List ℕ) → AreBytes (front ++ more) → AreBytes front × AreBytes more
-bytes-cut [] more h = (tt, h)
-bytes-cut (b ∷ front) more h = let rest = bytes-cut front more h.1 in ((h.0, rest.0), rest.1)
+pub bytes-cut : (front behind : List ℕ) → AreBytes (front ++ behind) → AreBytes front × AreBytes behind
+bytes-cut [] behind h = (tt, h)
+bytes-cut (b ∷ front) behind h = let rest = bytes-cut front behind h.1 in ((h.0, rest.0), rest.1)
 
 -- a part of a field without a fault, and what stands around it
 record Part (front text rest : List ℕ) : Type 0 where
@@ -42,7 +30,8 @@ mutual
       sum-bytes h (front ++ 40 ∷ []) (41 ∷ rest) (d + 1) (parenthesis d front b)
       (record { field = s.field; whole = simp append_assoc (simp append_assoc at s.whole); sound = s.sound; bytes = (bytes-cut t (41 ∷ []) s.bytes.1).0 })
   primary-bytes (signed c op t e g h) front rest d b s =
-      primary-bytes h (front ++ c ∷ []) rest d (sign d front c op b g) (record { field = s.field; whole = simp append_assoc (simp append_assoc at s.whole); sound = s.sound; bytes = s.bytes.1 })
+      primary-bytes h (front ++ c ∷ []) rest d (sign d front c op b g) (record { field = s.field; whole = simp append_assoc s.whole; sound = s.sound; bytes = s.bytes.1 })
+  primary-bytes (last_label c h) front rest d b s = tt
   primary-bytes _ front rest d b s = tt
 
   product-bytes : {text : List ℕ} {e : Tree} → Product text e → (front rest : List ℕ) (d : ℕ) → Before d front → Part front text rest → HasBytes e
@@ -57,13 +46,13 @@ mutual
   sum-bytes (product t e h) front rest d b s = product-bytes h front rest d b s
   sum-bytes (plus t c part op l r h w g) front rest d b s =
       let cut = bytes-cut t (c ∷ part) s.bytes in
-      (sum-bytes h front ((c ∷ part) ++ rest) d b (record { field = s.field; whole = simp append_assoc (simp append_assoc at s.whole); sound = s.sound; bytes = cut.0 }),
+      (sum-bytes h front ((c ∷ part) ++ rest) d b (record { field = s.field; whole = simp append_assoc at s.whole; sound = s.sound; bytes = cut.0 }),
       product-bytes g (front ++ (t ++ c ∷ [])) rest d (before-sum d front h b c op w)
       (record { field = s.field; whole = simp append_assoc (simp append_assoc at s.whole); sound = s.sound; bytes = cut.1.1 }))
 
-numbers-bytes : (bytes more : List ℕ) → AreBytes (bytes ++ more) → AllByRecursion HasBytes (map number bytes)
-numbers-bytes [] more l = tt
-numbers-bytes (b ∷ bytes) more l = let byte = l.0 in (omega (arith, byte), numbers-bytes bytes more l.1)
+numbers-bytes : (bytes behind : List ℕ) → AreBytes (bytes ++ behind) → AllByRecursion HasBytes (map number bytes)
+numbers-bytes [] behind l = tt
+numbers-bytes (b ∷ bytes) behind l = let byte = l.0 in (omega (arith, byte), numbers-bytes bytes behind l.1)
 
 operand-bytes : {part : List ℕ} {fs : List Tree} → Operand part fs → (front rest : List ℕ) (es : List Tree) → Operands front es → Part front part rest → AllByRecursion HasBytes fs
 operand-bytes (expression t e h) front rest es o s = (sum-bytes h front rest 0 (first front es o) s, tt)
@@ -75,7 +64,7 @@ operands-bytes (more t part es fs h g) rest s =
     let cut = bytes-cut t (part ++ 44 ∷ []) s.bytes in
     all-both HasBytes es fs
     (operands-bytes h ((part ++ 44 ∷ []) ++ rest) (record { field = s.field; whole = simp append_assoc (simp append_assoc at s.whole); sound = s.sound; bytes = cut.0 }))
-    (operand-bytes g t (44 ∷ rest) es h (record { field = s.field; whole = simp append_assoc (simp append_assoc at s.whole); sound = s.sound; bytes = (bytes-cut part (44 ∷ []) cut.1).0 }))
+    (operand-bytes g t (44 ∷ rest) es h (record { field = s.field; whole = simp append_assoc at s.whole; sound = s.sound; bytes = (bytes-cut part (44 ∷ []) cut.1).0 }))
 
 spelled-bytes : {field : List ℕ} {es : List Tree} → Spells field es → Faultless field → AreBytes field → AllByRecursion HasBytes es
 spelled-bytes empty sound l = (omega arith, tt)

@@ -2,6 +2,7 @@
 use Rattle.std.proofs.Common.{◌≡◌, Bool, true, false, not, cond, List, [], ◌∷◌, refl, ap, ◌∙◌}
 use Rattle.std.specs.Prelude.{◌&&◌, ◌||◌}
 use Rattle.std.specs.List.{filter}
+use Rattle.std.proofs.lemmas.Bool.{or_parts as both-false}
 
 module _ {X : Type 0} where
   kept-with : (b : Bool) (x : X) (xs ys : List X) → xs ≡ ys → cond b (x ∷ xs) xs ≡ cond b (x ∷ ys) ys
@@ -57,7 +58,3 @@ filter-within p q h xs = filter-filter p q xs ∙ filter-same (λ x. p x && q x)
 
 pub filter-without : {X : Type 0} (p q : X → Bool) → ((x : X) → q x ≡ true → p x ≡ false) → (xs : List X) → filter q (filter p xs) ≡ []
 filter-without p q h xs = filter-filter p q xs ∙ filter-none (λ x. p x && q x) (λ x. without-and (p x) (q x) (h x)) xs
-
-pub both-false : (a b : Bool) → (a || b) ≡ false → (a ≡ false) × (b ≡ false)
-both-false true b h = absurd (cc)
-both-false false b h = (refl, h)

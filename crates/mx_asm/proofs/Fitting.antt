@@ -1,14 +1,7 @@
 -- Lists of items that fit.
 use Rattle.std.proofs.Common.{◌≢◌, ◌<◌, ◌≤◌, ℕ, ◌+◌, ◌^◌, List, [], ◌∷◌, ◌++◌, length, length-append, ◌-◌, Some, refl, sym, ap, subst, ◌∙◌, arith, append_assoc, append-nil}
 use Rattle.std.specs.Prelude.{codes}
-use Rattle.std.proofs.lemmas.List.{append_cancel_left}
-use Rattle.mx_stab.proofs.Orders.{all-front, all-both}
-use Rattle.mx_word.specs.Ranges.{AreOctas}
-use Rattle.mx_mmo.specs.declared.items.Item.{Item}
-use Rattle.mx_mmo.specs.declared.items.Item.TheVariants.{File, Pre, Post}
-use Rattle.mx_mmo.specs.Valid.{Fits}
-use Rattle.mx_asm.specs.Fitting.{AreFit, GrowsFit}
-use Rattle.mx_asm.specs.Fronts.{IsFront, GrowsAlike}
+use Rattle.mx_asm.proofs.Words.{append_cancel_left, all-front, all-both, AreOctas, Item, File, Pre, Post, Fits, AreFit, GrowsFit, IsFront, GrowsAlike}
 
 pub fit-none : AreFit []
 unfolding AreFit
@@ -34,7 +27,11 @@ octas-push xs x h g = all-both (λ x. x < 2 ^ 64) xs (x ∷ []) h (g, tt)
 
 no-zero : (front : List ℕ) → codes ".mms" ≢ front ++ 0 ∷ []
 no-zero [] is = cc
-no-zero front is = cc
+no-zero (a ∷ []) is = cc
+no-zero (a ∷ b ∷ []) is = cc
+no-zero (a ∷ b ∷ c ∷ []) is = cc
+no-zero (a ∷ b ∷ c ∷ d ∷ []) is = cc
+no-zero (a ∷ b ∷ c ∷ d ∷ e ∷ front) is = cc
 
 pub fit-time : Fits (Pre (0 ∷ []))
 fit-time = (omega arith, (omega arith, tt))

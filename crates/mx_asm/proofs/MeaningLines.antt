@@ -1,30 +1,10 @@
 -- Where pages are full, line by line.
 use Rattle.std.proofs.Common.{◌≡◌, ℕ, ◌+◌, ◌-◌, ◌^◌, ◌≤◌, List, [], ◌∷◌, ◌++◌, length, map, Bool, true, false, cond, nat_lt, arith, refl, sym, ◌∙◌, ap, subst, Option, Some, None, Result, Ok, Err, append_assoc, append-nil}
+use Rattle.mx_asm.proofs.Words.{cond_both, AllByRecursion, take-append-le, LineFault, Cut, is_too_far, part, cuts_from, statement, faulty, too_far, item_of, before, items_of, Meaningless, PagesFull, ExprFault, Tree, reading, Op, Answer, Known, StatementTree, Fields, label_of, operation_for, Refused, Entry, with_operands, with_operation, entry_with, entry_of, entries_of, statements_in, Sight, nothing_known, known_after, sights_from, sights_of, statement_fault, Line, accepted, accepted_with, lines_entries, outlined, has_room, page_fault, page_refusal_from, page_refusal, accepted_in}
 use Rattle.std.specs.Prelude.{sum_by, is_some, option_map}
-use Rattle.std.specs.List.{AllByRecursion}
-use Rattle.std.proofs.lemmas.List.{take-append-le}
-use Rattle.mx_line.specs.declared.faults.LineFault.{LineFault}
-use Rattle.mx_line.specs.declared.cutter.Cut.{Cut}
-use Rattle.mx_line.specs.Lines.{is_too_far}
-use Rattle.mx_line.specs.Spans.{part}
-use Rattle.mx_line.specs.Cutting.{cuts_from}
-use Rattle.mx_line.specs.Source.{Item, statement, faulty, too_far, item_of, before, items_of, items_from}
-use Rattle.mx_mmo.specs.Meaning.{Meaningless, PagesFull}
-use Rattle.mx_expr.specs.declared.faults.ExprFault.{ExprFault}
-use Rattle.mx_expr.specs.Tree.{Tree}
-use Rattle.mx_expr.specs.Reading.{reading}
-use Rattle.mx_ops.specs.declared.op.Op.{Op}
-use Rattle.mx_stmt.specs.Steps.{Answer}
-use Rattle.mx_stmt.specs.Operands.{Known}
-use Rattle.mx_stmt.specs.Encoding.{StatementTree}
-use Rattle.mx_stmt.specs.Reading.{Fields, label_of, operation_for}
-use Rattle.mx_asm.specs.declared.refused.Refused.{Refused}
-use Rattle.mx_asm.specs.Entries.{Entry, with_operands, with_operation, entry_with, entry_of, entries_of, statements_in}
-use Rattle.mx_asm.specs.TwoPass.{Sight, nothing_known, known_after, sights_from, sights_of}
-use Rattle.mx_asm.specs.Refusal.{statement_fault}
-use Rattle.mx_asm.specs.Whole.{Line, accepted, accepted_with, lines_entries}
-use Rattle.mx_asm.specs.Pages.{outlined, has_room, page_fault, page_refusal_from, page_refusal, accepted_in}
+use Rattle.mx_line.specs.Source.{Item, items_from}
 use Rattle.mx_asm.proofs.MeaningLaws.{no-room}
+use Rattle.mx_stab.proofs.Orders.{all-both as all-append}
 
 -- ---- the items of lines
 
@@ -157,19 +137,13 @@ cuts-at n line (r ∷ rs) = by (entry_of (item_of n line r)) (cut-at n line r) (
     by (Err refused) h rest = tt
     by (Ok s) h rest = (h, rest)
 
-all-append : (P : StatementTree → Type 0) (xs ys : List StatementTree) → AllByRecursion P xs → AllByRecursion P ys → AllByRecursion P (xs ++ ys)
-all-append P [] ys h g = g
-all-append P (x ∷ xs) ys h g = (h.0, all-append P xs ys h.1 g)
-
 one-line : (all : List Line) (n : ℕ) (line : Line) → AllByRecursion (IsAt n) (statements_in (entries_of (items_from all n (line ∷ []))))
 unfolding items_from
-one-line all n line = by (is_too_far all n)
-  where
-    by : (b : Bool) → AllByRecursion (IsAt n) (statements_in (entries_of (cond b (too_far n ∷ []) (before (items_of n line) []))))
-    by true = tt
-    by false =
-        subst (AllByRecursion (IsAt n)) (sym (statements-split (items_of n line) []))
-        (all-append (IsAt n) (statements_in (entries_of (items_of n line))) (continued (items_of n line) []) (cuts-at n line (cuts_from line 0)) (continued-all (IsAt n) (items_of n line) [] tt))
+one-line all n line = cond_both (is_too_far all n) _ _ (λ x. AllByRecursion (IsAt n) (statements_in (entries_of x)))
+    (λ _. tt)
+    (λ _.
+      subst (AllByRecursion (IsAt n)) (sym (statements-split (items_of n line) []))
+      (all-append (IsAt n) (statements_in (entries_of (items_of n line))) (continued (items_of n line) []) (cuts-at n line (cuts_from line 0)) (continued-all (IsAt n) (items_of n line) [] tt)))
 
 -- ---- pages
 

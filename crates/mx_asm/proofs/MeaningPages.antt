@@ -1,14 +1,8 @@
 -- How many pages there are, and one page more.
 use Rattle.std.proofs.Common.{◌≡◌, ℕ, zero, suc, ◌+◌, ◌/◌, ◌%◌, ◌<◌, ◌≤◌, List, [], ◌∷◌, ◌++◌, length, Bool, true, false, cond, arith, refl, sym, ◌∙◌, ap, ⊎_elim, ◌⊎◌, inl, inr, add-zero, Result, Ok, Err}
 use Rattle.std.specs.Prelude.{◌==◌, ◌||◌, ◌&&◌, nat_le}
-use Rattle.std.specs.List.{list_any}
-use Rattle.std.proofs.lemmas.Bool.Decides.{nat_tests}
-use Rattle.std.proofs.lemmas.Bool.{cases_eq, cases_lt}
-use Rattle.std.proofs.lemmas.List.Folds.{list_any-append}
-use Rattle.mx_mmo.specs.Image.{Image}
-use Rattle.mx_mmo.specs.Meaning.{Meaningless, PagesFull, with_page, paged}
-use Rattle.mx_stmt.specs.Placements.{from_place}
-use Rattle.mx_asm.specs.Image.{pages_of, pages_below}
+use Rattle.mx_asm.proofs.Words.{list_any, nat_tests, cases_eq, cases_lt, list_any-append, Image, Meaningless, PagesFull, with_page, paged, from_place, pages_of, pages_below}
+use Rattle.std.proofs.lemmas.Bool.{or_left as or-more}
 
 pub same-pages : (f g : ℕ → Bool) → ((p : ℕ) → f p ≡ g p) → f ≡ g
 same-pages f g h = λ i p. h p i
@@ -25,10 +19,6 @@ pub more-count : (n : ℕ) (more pages : ℕ → Bool) → AreMore more pages �
 unfolding pages_below
 more-count zero more pages h = omega arith
 more-count (suc n) more pages h = omega (arith, one-count (pages n) (more n) (h n), more-count n more pages h)
-
-or-more : (s t : Bool) → s ≡ true → (s || t) ≡ true
-or-more true t h = refl
-or-more false t h = absurd (cc)
 
 pub append-pages : (ps qs : List (ℕ × ℕ)) (p : ℕ) → pages_of (ps ++ qs) p ≡ (pages_of ps p || pages_of qs p)
 append-pages ps qs p = list_any-append (λ q. q.0 / 4096 == p) ps qs

@@ -1,38 +1,17 @@
 -- The pages and the lines of what statements place, with their targets known and with none.
 use Rattle.std.proofs.Common.{◌≡◌, ℕ, ◌+◌, ◌-◌, ◌/◌, ◌≤◌, List, [], ◌∷◌, ◌++◌, length, fold, Bool, true, false, cond, arith, refl, sym, ◌∙◌, ap, subst, Option, Some, None, Ok, Err, append-nil}
 use Rattle.std.specs.Prelude.{◌==◌, ◌||◌, ◌&&◌, nat_le}
-use Rattle.std.specs.List.{AllByRecursion, list_any}
-use Rattle.std.proofs.lemmas.Bool.Decides.{nat_tests}
-use Rattle.mx_word.specs.declared.symbols.Value.{Value}
-use Rattle.mx_word.specs.declared.symbols.Value.TheVariants.{Pure, Reg}
+use Rattle.mx_asm.proofs.Words.{AllByRecursion, list_any, nat_tests, Value, Pure, Reg, Wait, WaitKind, Octa, Near, Far, same_awaited, NameTable, complete_form, Label, Name, Local, Placed, Answer, AreAlike, Targets, encoding, fix_bytes, fix_placements, IsFixed, kind_size, IsInside, from_place, all-into, all-append, Sight, outline, waits_in, references, is_local, targets, piece_with, pieces_of, from_last, awaited_value, waiting_for, waiting_at, placements, pages_of, with_lines, statement_fault, first_fault}
 use Rattle.mx_word.specs.declared.waits.Awaited.TheVariants as awaited
-use Rattle.mx_word.specs.declared.waits.Wait.{Wait}
-use Rattle.mx_word.specs.declared.waits.WaitKind.{WaitKind}
-use Rattle.mx_word.specs.declared.waits.WaitKind.TheVariants.{Octa, Near, Far}
-use Rattle.mx_word.specs.Waits.{same_awaited}
-use Rattle.mx_names.specs.Names.{NameTable, complete_form}
-use Rattle.mx_stmt.specs.declared.statement.Label.{Label}
-use Rattle.mx_stmt.specs.declared.statement.Label.TheVariants.{Name, Local}
-use Rattle.mx_stmt.specs.declared.placed.Placed.{Placed}
-use Rattle.mx_stmt.specs.Steps.{Answer, AreAlike}
-use Rattle.mx_stmt.specs.Operands.{Targets}
-use Rattle.mx_stmt.specs.Encoding.{encoding}
-use Rattle.mx_stmt.specs.Fixes.{fix_bytes, fix_placements, IsFixed}
-use Rattle.mx_stmt.specs.Laid.{kind_size, IsInside}
-use Rattle.mx_stmt.specs.Placements.{from_place}
 use Rattle.mx_stmt.proofs.JoinedStatements.{encoding-joined}
-use Rattle.mx_stmt.proofs.LaidBytes.{all-into, all-append}
-use Rattle.mx_asm.specs.TwoPass.{Sight, outline, waits_in, references, is_local, targets, piece_with, pieces_of}
-use Rattle.mx_asm.specs.Fixes.{from_last, awaited_value, waiting_for, waiting_at}
-use Rattle.mx_asm.specs.Image.{placements, pages_of, with_lines}
-use Rattle.mx_asm.specs.Refusal.{statement_fault, first_fault}
-use Rattle.mx_asm.proofs.WaitsFor.{references-append}
+use Rattle.mx_asm.proofs.WaitsFor.{references-append, references-one as one-reference}
 use Rattle.mx_asm.proofs.EndWaits.{both-none}
 use Rattle.mx_asm.proofs.MeaningPages.{AreMore, append-pages, append-more, pages-run}
 use Rattle.mx_asm.proofs.MeaningStates.{State, same-numbers}
 use Rattle.mx_asm.proofs.MeaningBytes.{piece_at, behind_bytes}
 use Rattle.mx_asm.proofs.MeaningStatements.{all-filter, at_value, behind_fixes, behind_placed}
 use Rattle.mx_asm.proofs.MeaningFronts.{IsSteady, faultless, laid, behind_sight, after_sights}
+use Rattle.std.proofs.lemmas.Bool.{or_right as or-right}
 
 -- ---- a statement with its targets known
 
@@ -85,7 +64,8 @@ bytes-lines s line start (b ∷ bytes) = refl
 
 fixes-lines : (s : State) (value : Value) (waits : List Wait) → (behind_fixes s value waits).lines ≡ s.lines
 fixes-lines s value [] = refl
-fixes-lines s value waits = refl
+fixes-lines s (Pure v) (w ∷ waits) = refl
+fixes-lines s (Reg r) (w ∷ waits) = refl
 
 placed-lines : (s : State) (line : ℕ) (p : Placed) (waits : List Wait) → (behind_placed s line p waits).lines ≡ with_lines s.lines (piece_at line p.start p.bytes)
 placed-lines s line p waits =
@@ -112,10 +92,6 @@ lines-of-sights final (t ∷ later) earlier s none steady =
 -- the bytes of a reference lie on these pages
 abbrev pub IsOn : List (ℕ × ℕ) → Wait → Type 0
 IsOn ps w = (bytes : List ℕ) → length bytes ≡ kind_size w.kind → AreMore (pages_of ps) (pages_of (from_place w.at bytes))
-
-or-right : (s t : Bool) → t ≡ true → (s || t) ≡ true
-or-right true t h = refl
-or-right false t h = h
 
 on-same : (ps qs : List (ℕ × ℕ)) (w : Wait) → AreMore (pages_of qs) (pages_of ps) → IsOn ps w → IsOn qs w
 on-same ps qs w more on = λ bytes l p h. more p (on bytes l p h)
@@ -163,13 +139,14 @@ between a f b h = refl
 
 fixes-pages : (s : State) (value : Value) (waits : List Wait) (qs : List (ℕ × ℕ)) (p : ℕ) → AllByRecursion (IsOn (s.placements ++ qs)) waits →
     pages_of ((behind_fixes s value waits).placements ++ qs) p ≡ pages_of (s.placements ++ qs) p
+fixes-pages s value [] qs p on = refl
+fixes-pages s (Reg r) (w ∷ waits) qs p on = refl
 fixes-pages s (Pure v) (w ∷ waits) qs p on =
     let fixed : List (ℕ × ℕ) = fix_placements (at_value v) (w ∷ waits) in
     append-pages (s.placements ++ fixed) qs p
     ∙ ap (λ b. b || pages_of qs p) (append-pages s.placements fixed p)
     ∙ between (pages_of s.placements p) (pages_of fixed p) (pages_of qs p) (λ h. sym (append-pages s.placements qs p) ∙ fixes-on (at_value v) (w ∷ waits) (s.placements ++ qs) on p h)
     ∙ sym (append-pages s.placements qs p)
-fixes-pages s value waits qs p on = refl
 
 bytes-pages : (s : State) (line start : ℕ) (bytes : List ℕ) (p : ℕ) → pages_of (behind_bytes s line start bytes).placements p ≡ pages_of (s.placements ++ from_place start bytes) p
 bytes-pages s line start [] p = ap (λ ps. pages_of ps p) (sym (append-nil s.placements))
@@ -204,10 +181,6 @@ waiting-on P earlier s (Some (Name text)) h = all-filter P (λ (w : Wait). same_
 waiting-on P earlier s (Some (Local d)) h =
     all-filter P (λ (w : Wait). same_awaited w.who (awaited.Local d)) (references (from_last d earlier))
     (last-on P d earlier (front-of P (references earlier) (references (s ∷ [])) (subst (AllByRecursion P) (references-append earlier (s ∷ [])) h)))
-
-one-reference : (s : Sight) → references (s ∷ []) ≡ waits_in (outline s)
-unfolding references
-one-reference s = append-nil (waits_in (outline s))
 
 -- the references of a statement and of those before it lie on the pages of what they place
 references-on : (ps : List (ℕ × ℕ)) (earlier : List Sight) (t : Sight) (p : Placed) → outline t ≡ Ok p → AllByRecursion (IsOn ps) (references earlier) →

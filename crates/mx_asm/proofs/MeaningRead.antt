@@ -1,33 +1,12 @@
 -- The statements of lines of bytes are as statements are that were read, and their names and labels are bytes.
 use Rattle.std.proofs.Common.{◌≡◌, ℕ, ◌+◌, ◌-◌, ◌<◌, List, [], ◌∷◌, map, drop, Bool, true, false, not, cond, arith, refl, ◌∙◌, ap, Option, Some, None, is_some, Result, Ok, Err}
+use Rattle.mx_asm.proofs.Words.{cond_both, AllByRecursion, IfSome, AreBytes, bytes-front, bytes-behind, Span, LineFault, Cut, is_too_far, part, cuts_from, statement, faulty, too_far, item_of, before, items_of, ExprFault, Tree, reading, Op, operation_of, Name, Local, LabelNotAllowed, Answer, IsOperation, Fields, label_of, takes_label, operation_with, operation_for, Entry, with_operands, with_operation, entry_with, entry_of, entries_of, statements_in, IsStatement, Line, lines_entries}
 use Rattle.std.specs.Prelude.{◌&&◌, option_map}
-use Rattle.std.specs.List.{AllByRecursion}
-use Rattle.std.specs.Option.{IfSome}
-use Rattle.mx_word.specs.Ranges.{AreBytes}
-use Rattle.mx_word.proofs.Ranges.{bytes-front, bytes-behind}
-use Rattle.mx_line.specs.declared.spans.Span.{Span}
-use Rattle.mx_line.specs.declared.faults.LineFault.{LineFault}
-use Rattle.mx_line.specs.declared.cutter.Cut.{Cut}
-use Rattle.mx_line.specs.Lines.{is_too_far}
-use Rattle.mx_line.specs.Spans.{part}
-use Rattle.mx_line.specs.Cutting.{cuts_from}
-use Rattle.mx_line.specs.Source.{Item, statement, faulty, too_far, item_of, before, items_of, items_from}
-use Rattle.mx_expr.specs.declared.faults.ExprFault.{ExprFault}
-use Rattle.mx_expr.specs.Tree.{Tree}
+use Rattle.mx_line.specs.Source.{Item, items_from}
 use Rattle.mx_expr.specs.Bytes.{is_digit}
-use Rattle.mx_expr.specs.Reading.{reading}
-use Rattle.mx_ops.specs.declared.op.Op.{Op}
-use Rattle.mx_ops.specs.Opcodes.{operation_of}
-use Rattle.mx_stmt.specs.declared.statement.Label.TheVariants.{Name, Local}
-use Rattle.mx_stmt.specs.declared.faults.StmtFault.TheVariants.{LabelNotAllowed}
-use Rattle.mx_stmt.specs.Steps.{Answer}
-use Rattle.mx_stmt.specs.Fixes.{IsOperation}
-use Rattle.mx_stmt.specs.Reading.{Fields, label_of, takes_label, operation_with, operation_for}
-use Rattle.mx_asm.specs.Entries.{Entry, with_operands, with_operation, entry_with, entry_of, entries_of, statements_in}
-use Rattle.mx_asm.specs.Statements.{IsStatement}
-use Rattle.mx_asm.specs.Whole.{Line, lines_entries}
 use Rattle.mx_asm.proofs.ByteStatements.{IsLabelOfBytes, IfLabelOfBytes, IsOfBytes, all-octas, are-statements}
 use Rattle.mx_asm.proofs.FieldBytes.{ListHas, field-has}
+use Rattle.mx_stmt.proofs.FieldsRead.{operation-named}
 
 -- ---- statements
 
@@ -47,21 +26,9 @@ operation-has : (fields : Fields) (line : ℕ) (r : Answer Op) → 0 < line → 
 operation-has fields line (Err fault) some label is l = tt
 operation-has fields line (Ok op) some label is l = operands-has fields line op (reading fields.operands) some label (is op refl) (field-has fields.operands l)
 
-operation-named : (labelled : Bool) (bare : List ℕ) (r : Option Op) (op : Op) → operation_of bare ≡ r → operation_with labelled r ≡ Ok op → IsOperation op
-operation-named labelled bare None op e h = absurd (cc)
-operation-named labelled bare (Some other) op e h = by (labelled && not (takes_label other)) h
-  where
-    by : (b : Bool) → ◌≡◌ {A = Answer Op} (cond b (Err LabelNotAllowed) (Ok other)) (Ok op) → IsOperation op
-    by true h = absurd (cc)
-    by false h = let same : other ≡ op = cc in (bare, e ∙ ap Some same)
-
 label-has : (text : List ℕ) → AreBytes text → IsLabelOfBytes (label_of text)
 label-has [] l = tt
-label-has (b ∷ bs) l = by (is_digit b)
-  where
-    by : (c : Bool) → IsLabelOfBytes (cond c (Local (b - 48)) (Name (b ∷ bs)))
-    by true = tt
-    by false = l
+label-has (b ∷ bs) l = cond_both (is_digit b) _ _ IsLabelOfBytes (λ _. tt) (λ _. l)
 
 labels-have : (label : Option (List ℕ)) → IfSome label AreBytes → IfLabelOfBytes (option_map label_of label)
 labels-have None l = tt
@@ -111,11 +78,9 @@ before-has items later h g = (tt, tt)
 items-have : (all : List (List ℕ)) (n : ℕ) (lines : List (List ℕ)) → 0 < n → AllByRecursion AreBytes lines → AllByRecursion ItemHas (items_from all n lines)
 unfolding items_from
 items-have all n [] some h = tt
-items-have all n (line ∷ lines) some h = by (is_too_far all n) (before-has (items_of n line) (items_from all (n + 1) lines) (map-has n line (cuts_from line 0) some h.0) (items-have all (n + 1) lines (omega arith) h.1))
-  where
-    by : (b : Bool) → AllByRecursion ItemHas (before (items_of n line) (items_from all (n + 1) lines)) → AllByRecursion ItemHas (cond b (too_far n ∷ []) (before (items_of n line) (items_from all (n + 1) lines)))
-    by true rest = (tt, tt)
-    by false rest = rest
+items-have all n (line ∷ lines) some h = cond_both (is_too_far all n) _ _ (AllByRecursion ItemHas)
+    (λ _. (tt, tt))
+    (λ _. before-has (items_of n line) (items_from all (n + 1) lines) (map-has n line (cuts_from line 0) some h.0) (items-have all (n + 1) lines (omega arith) h.1))
 
 pub lines-of-bytes : (lines : List Line) → AllByRecursion AreBytes lines → AllByRecursion IsOfBytes (statements_in (lines_entries lines))
 lines-of-bytes lines h = entries-have (items_from lines 1 lines) (items-have lines 1 lines (omega arith) h)

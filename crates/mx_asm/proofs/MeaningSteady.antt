@@ -1,25 +1,7 @@
 -- What is known at the statements that are accepted is sound, and their values are octas.
 use Rattle.std.proofs.Common.{◌≡◌, ℕ, List, [], ◌∷◌, ◌++◌, refl, sym, ◌∙◌, ap, subst, Option, Some, None, Ok}
-use Rattle.std.specs.List.{AllByRecursion}
-use Rattle.std.specs.Option.{IfSome}
-use Rattle.mx_word.specs.declared.symbols.Value.{Value}
-use Rattle.mx_names.specs.Names.{complete_form}
-use Rattle.mx_names.proofs.Entries.{not-some}
-use Rattle.mx_stmt.specs.declared.statement.Label.{Label}
-use Rattle.mx_stmt.specs.declared.statement.Label.TheVariants.{Name, Local}
-use Rattle.mx_stmt.specs.declared.placed.Effect.{Effect}
+use Rattle.mx_asm.proofs.Words.{AllByRecursion, IfSome, Value, complete_form, not-some, Label, Name, Local, Effect, Placed, Known, no_targets, symbol_form, StatementTree, IsPossible, encoding, HasRegisterNumber, IsSound, sound-start, sound-symbol, sound-local, sound-greg, encoding-fine, Refused, Sight, with_label, with_effect, known_with, known_after, nothing_known, sights_from, sights_of, label_fault, statement_fault, first_fault, first_of, IsStatement, accepted, accepted_with}
 use Rattle.mx_stmt.specs.declared.placed.Effect.TheVariants as effect
-use Rattle.mx_stmt.specs.declared.placed.Placed.{Placed}
-use Rattle.mx_stmt.specs.Operands.{Known, no_targets, symbol_form}
-use Rattle.mx_stmt.specs.Encoding.{StatementTree, IsPossible, encoding}
-use Rattle.mx_stmt.specs.Fixes.{HasRegisterNumber, IsSound}
-use Rattle.mx_stmt.proofs.SoundKnowledge.{sound-start, sound-symbol, sound-local, sound-greg}
-use Rattle.mx_stmt.proofs.SoundLabels.{encoding-fine}
-use Rattle.mx_asm.specs.declared.refused.Refused.{Refused}
-use Rattle.mx_asm.specs.TwoPass.{Sight, with_label, with_effect, known_with, known_after, nothing_known, sights_from, sights_of}
-use Rattle.mx_asm.specs.Refusal.{label_fault, statement_fault, first_fault, first_of}
-use Rattle.mx_asm.specs.Statements.{IsStatement}
-use Rattle.mx_asm.specs.Whole.{accepted, accepted_with}
 use Rattle.mx_asm.proofs.OneStatement.{name-new}
 use Rattle.mx_asm.proofs.EndWaits.{both-none}
 use Rattle.mx_asm.proofs.MeaningFronts.{IsSteady, faultless}

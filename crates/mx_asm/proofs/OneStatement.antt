@@ -1,34 +1,9 @@
 -- One statement in one pass, as the two passes have it.
 use Rattle.std.proofs.Common.{◌≡◌, ℕ, ◌+◌, Bool, true, false, cond, nat_lt, List, [], ◌∷◌, ◌++◌, length, Option, None, Some, is_some, Result, Ok, Err, refl, ap, sym, ◌∙◌, slice_set}
 use Rattle.std.specs.Prelude.{◌||◌, bytes_eq}
-use Rattle.std.specs.Result.{result_unwrap_or}
-use Rattle.std.proofs.lemmas.List.Folds.{list_any-append}
-use Rattle.mx_word.specs.declared.symbols.Value.{Value}
+use Rattle.mx_asm.proofs.Words.{result_unwrap_or, list_any-append, Value, Wait, Item, predefined_value, NameFault, Twice, Predefined, NameTooLong, NameTable, complete_form, value_in, define_answer, with_symbol, waits_for, waits_for_others, value-inserted, not-some, Label, Name, Local, Effect, Placed, Answer, Known, no_targets, symbol_form, StatementTree, encoding, AsmFault, Refused, Head, Sight, outline, waits_in, with_label, with_effect, known_behind, known_with, known_after, fixes, awaited_value, waiting_for, waiting_at, onto, moved, byte_items, head_at_fixes, with_bytes, statement_items, statement_head, sight_items, sight_head, refusal_of, name_refusal, name_fault, label_fault, fault_behind, fault_with, statement_fault, Assembly, Taken, labelled, symbol_label, symbol_defined, with_local, taken_items, taken_label, taken_with, statement_taken}
 use Rattle.mx_word.specs.declared.waits.Awaited.TheVariants as awaited
-use Rattle.mx_word.specs.declared.waits.Wait.{Wait}
-use Rattle.mx_mmo.specs.declared.items.Item.{Item}
-use Rattle.mx_ops.specs.Predefined.{predefined_value}
-use Rattle.mx_names.specs.declared.fault.NameFault.{NameFault}
-use Rattle.mx_names.specs.declared.fault.NameFault.TheVariants.{Twice, Predefined, NameTooLong}
-use Rattle.mx_names.specs.Names.{NameTable, complete_form, value_in, define_answer, with_symbol}
-use Rattle.mx_names.specs.Waiting.{waits_for, waits_for_others}
-use Rattle.mx_names.proofs.Entries.{value-inserted, not-some}
-use Rattle.mx_stmt.specs.declared.statement.Label.{Label}
-use Rattle.mx_stmt.specs.declared.statement.Label.TheVariants.{Name, Local}
-use Rattle.mx_stmt.specs.declared.placed.Effect.{Effect}
 use Rattle.mx_stmt.specs.declared.placed.Effect.TheVariants as effect
-use Rattle.mx_stmt.specs.declared.placed.Placed.{Placed}
-use Rattle.mx_stmt.specs.Steps.{Answer}
-use Rattle.mx_stmt.specs.Operands.{Known, no_targets, symbol_form}
-use Rattle.mx_stmt.specs.Encoding.{StatementTree, encoding}
-use Rattle.mx_asm.specs.declared.faults.AsmFault.{AsmFault}
-use Rattle.mx_asm.specs.declared.refused.Refused.{Refused}
-use Rattle.mx_asm.specs.declared.head.Head.{Head}
-use Rattle.mx_asm.specs.TwoPass.{Sight, outline, waits_in, with_label, with_effect, known_behind, known_with, known_after}
-use Rattle.mx_asm.specs.Fixes.{fixes, awaited_value, waiting_for, waiting_at}
-use Rattle.mx_asm.specs.Emission.{onto, moved, byte_items, head_at_fixes, with_bytes, statement_items, statement_head, sight_items, sight_head}
-use Rattle.mx_asm.specs.Refusal.{refusal_of, name_refusal, name_fault, label_fault, fault_behind, fault_with, statement_fault}
-use Rattle.mx_asm.specs.OnePass.{Assembly, Taken, labelled, symbol_label, symbol_defined, with_local, taken_items, taken_label, taken_with, statement_taken}
 use Rattle.mx_asm.proofs.Filters.{or-false}
 use Rattle.mx_asm.proofs.WaitingNames.{with_waiting, encoding-same}
 use Rattle.mx_asm.proofs.LabelValues.{HasLabel, encoding-label}
@@ -186,8 +161,9 @@ module _ (k : Known) (h : Head) (before : List Sight) (l : ℕ) (st : StatementT
 -- ---- the symbols are the labels
 
 is-some-cond : (b : Bool) (value : Value) (o : Option Value) → is_some (cond b (Some value) o) ≡ (is_some o || b)
+is-some-cond true value None = refl
+is-some-cond true value (Some other) = refl
 is-some-cond false value o = sym (or-false (is_some o))
-is-some-cond true value o = refl
 
 symbol-more : (names : NameTable) (text full : List ℕ) (value : Value) → is_some (value_in (complete_form names.prefix text) names.symbols) ≡ false →
     is_some (value_in full (with_symbol names (complete_form names.prefix text) value).symbols) ≡ (is_some (value_in full names.symbols) || bytes_eq full (complete_form names.prefix text))

@@ -1,17 +1,6 @@
 -- What an operand field asks for is bounded by its bytes.
 use Rattle.std.proofs.Common.{◌≡◌, ℕ, ◌+◌, ◌*◌, ◌^◌, ◌<◌, ◌≤◌, List, [], ◌∷◌, ◌++◌, length, map, sum_by, nat_lt, arith, refl, length-append, Result, Ok, Err}
-use Rattle.std.proofs.lemmas.Bool.{cond_both}
-use Rattle.std.proofs.lemmas.Bool.Decides.{nat_tests}
-use Rattle.std.proofs.lemmas.List.Sums.{sum_by-cons, sum_by-append}
-use Rattle.mx_word.specs.Ranges.{AreBytes}
-use Rattle.mx_expr.specs.declared.faults.ExprFault.{ExprFault}
-use Rattle.mx_expr.specs.Tree.{Tree, number, name, back, ahead, here, unary, binary}
-use Rattle.mx_expr.specs.Reading.{reading}
-use Rattle.mx_expr.specs.Spelling.{Operand, Operands, Spells}
-use Rattle.mx_expr.specs.Spelling.Operand.{expression, string}
-use Rattle.mx_expr.specs.Spelling.Operands.{none, more}
-use Rattle.mx_expr.specs.Spelling.Spells.{empty, operands}
-use Rattle.mx_expr.proofs.Exact.{list-read}
+use Rattle.mx_asm.proofs.Words.{cond_both, nat_tests, sum_by-cons, sum_by-append, AreBytes, ExprFault, Tree, number, name, back, ahead, here, unary, binary, reading, Operand, Operands, Spells, expression, string, none, more, empty, operands, list-read}
 use Rattle.mx_expr.proofs.Fields.{sum-some}
 use Rattle.mx_asm.proofs.FieldBytes.{bytes-cut}
 use Rattle.mx_asm.proofs.Weights.{operand_weight}
@@ -30,9 +19,9 @@ operand-most e = omega arith
 byte-weight : (b : ℕ) → b < 2 ^ 8 → operand_weight (number b) ≡ 8
 byte-weight b l = grind (arith, nat_tests)
 
-string-weighs : (bytes more : List ℕ) → AreBytes (bytes ++ more) → total (map number bytes) ≡ 8 * length bytes
-string-weighs [] more l = refl
-string-weighs (b ∷ bytes) more l = omega (arith, byte-weight b l.0, sum_by-cons operand_weight (number b) (map number bytes), string-weighs bytes more l.1)
+string-weighs : (bytes behind : List ℕ) → AreBytes (bytes ++ behind) → total (map number bytes) ≡ 8 * length bytes
+string-weighs [] behind l = refl
+string-weighs (b ∷ bytes) behind l = omega (arith, byte-weight b l.0, sum_by-cons operand_weight (number b) (map number bytes), string-weighs bytes behind l.1)
 
 -- Each byte adds at most 14: a byte of a string is an operand of 8, and another operand of 28 has a byte and a comma.
 operand-weighs : {part : List ℕ} {fs : List Tree} → Operand part fs → AreBytes part → total fs ≤ 14 * length part + 14

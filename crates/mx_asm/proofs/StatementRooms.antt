@@ -1,11 +1,9 @@
 -- How many bytes of a line a statement takes at least.
 use Rattle.std.proofs.Common.{◌≡◌, ℕ, ◌+◌, ◌<◌, ◌≤◌, List, [], ◌∷◌, ◌++◌, length, drop, Bool, true, false, not, ◌⊎◌, inl, inr, Option, Some, None, IfOk, IfSome, arith, refl, sym, ap, ◌∙◌, length-append, length-drop}
 use Rattle.std.specs.Prelude.{◌==◌, ◌||◌}
-use Rattle.mx_line.specs.declared.spans.Span.{Span}
-use Rattle.mx_line.specs.declared.cutter.Cut.{Cut}
+use Rattle.mx_asm.proofs.Words.{Span, Cut, span, Found, IsField, Next, Operation, Statement, StatementOf}
 use Rattle.mx_line.specs.Fields.{ends_field, ends_here}
-use Rattle.mx_line.specs.Spans.{span}
-use Rattle.mx_line.specs.Statements.{Found, IsField, Next, Operands, Operation, Statement, StatementOf}
+use Rattle.mx_line.specs.Statements.{Operands}
 use Rattle.mx_line.specs.Statements.IsField.{empty, string_first, constant_first, byte_first}
 use Rattle.mx_line.specs.Statements.Next.{another, nothing_more}
 use Rattle.mx_line.specs.Statements.Operands.{field, open_string, open_char}

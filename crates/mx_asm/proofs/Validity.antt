@@ -1,33 +1,9 @@
 -- The items of a source that is assembled are those of an object.
 use Rattle.std.proofs.Common.{◌≡◌, ℕ, ◌==◌, Bool, true, false, cond, nat_lt, List, [], ◌∷◌, ◌++◌, map, Option, None, Some, Result, Ok, Err, refl, ap, sym, subst}
+use Rattle.mx_asm.proofs.Words.{cond_both, AllByRecursion, result_unwrap_or, all-both, Value, Pure, Reg, Wait, WaitKind, Octa, Near, Far, Item, Load, Loc, Skip, FixOcta, FixNear, FixFar, File, Spec, Pre, Post, Stab, IsMiddle, MayFollow, SpecsEnd, Valid, relative_word, near_reach, far_reach, Answer, lowest_of, Placed, NotMultiple, StatementTree, AsmFault, Refused, Head, statements_in, Sight, outline, final_known, waiting_at, relative_fix, pure_fix, fix_of, with_fix, fixes, awaited_value, moved, onto, fix_items, lowered, covering, told_line, located, lined, byte_items, head_at_fixes, with_bytes, sight_items, sight_head, items_from, opening, closing, main_of, first_of, entries_refusal, end_refusal, last_line, AreFit, lines_entries, entries_items, assembled_with, assembled_lines}
 use Rattle.std.specs.Prelude.{◌^◌, codes}
-use Rattle.std.specs.List.{AllByRecursion}
-use Rattle.std.specs.Result.{result_unwrap_or}
-use Rattle.mx_stab.proofs.Orders.{all-both}
-use Rattle.mx_word.specs.declared.symbols.Value.{Value}
-use Rattle.mx_word.specs.declared.symbols.Value.TheVariants.{Pure, Reg}
-use Rattle.mx_word.specs.declared.waits.Wait.{Wait}
-use Rattle.mx_word.specs.declared.waits.WaitKind.{WaitKind}
-use Rattle.mx_word.specs.declared.waits.WaitKind.TheVariants.{Octa, Near, Far}
-use Rattle.mx_mmo.specs.declared.items.Item.{Item}
-use Rattle.mx_mmo.specs.declared.items.Item.TheVariants.{Load, Loc, Skip, FixOcta, FixNear, FixFar, File, Line, Spec, Pre, Post, Stab}
-use Rattle.mx_mmo.specs.Valid.{IsMiddle, MayFollow, SpecsEnd, Valid}
-use Rattle.mx_stmt.specs.Forms.{relative_word, near_reach, far_reach}
-use Rattle.mx_stmt.specs.Steps.{Answer}
-use Rattle.mx_stmt.specs.Gregs.{lowest_of}
-use Rattle.mx_stmt.specs.declared.placed.Placed.{Placed}
-use Rattle.mx_stmt.specs.declared.faults.StmtFault.TheVariants.{NotMultiple}
-use Rattle.mx_stmt.specs.Encoding.{StatementTree}
-use Rattle.mx_asm.specs.declared.faults.AsmFault.{AsmFault}
-use Rattle.mx_asm.specs.declared.refused.Refused.{Refused}
-use Rattle.mx_asm.specs.declared.head.Head.{Head}
-use Rattle.mx_asm.specs.Entries.{statements_in}
-use Rattle.mx_asm.specs.TwoPass.{Sight, outline, final_known}
-use Rattle.mx_asm.specs.Fixes.{waiting_at, relative_fix, pure_fix, fix_of, with_fix, fixes, awaited_value}
-use Rattle.mx_asm.specs.Emission.{moved, onto, fix_items, lowered, covering, told_line, located, lined, byte_items, head_at_fixes, with_bytes, sight_items, sight_head, items_from, opening, closing, main_of}
-use Rattle.mx_asm.specs.Refusal.{first_of, entries_refusal, end_refusal, last_line}
-use Rattle.mx_asm.specs.Fitting.{AreFit}
-use Rattle.mx_asm.specs.Whole.{Line as Text, lines_entries, entries_items, assembled_with, assembled_lines}
+use Rattle.mx_mmo.specs.declared.items.Item.TheVariants.{Line}
+use Rattle.mx_asm.specs.Whole.{Line as Text}
 
 -- an item that a statement may give
 abbrev IsInner : Item → Type 0
@@ -50,13 +26,10 @@ abbrev IfInnerFix : Result Item AsmFault → Type 0
 IfInnerFix (Err fault) = Unit {0}
 IfInnerFix (Ok item) = IsInner item
 
-word-inner : (short : Bool) (bits word : ℕ) → IsInner (cond short (FixNear word) (FixFar bits word))
-word-inner true bits word = tt
-word-inner false bits word = tt
-
 relative-inner : (bits : ℕ) (r : Answer ℕ) → IfInnerFix (relative_fix bits r)
-relative-inner bits (Ok word) = word-inner (nat_lt word (2 ^ 16)) bits word
-relative-inner bits r = tt
+relative-inner bits (Err NotMultiple) = tt
+relative-inner bits (Err fault) = tt
+relative-inner bits (Ok word) = cond_both (nat_lt word (2 ^ 16)) _ _ IsInner (λ _. tt) (λ _. tt)
 
 pure-inner : (place : ℕ) (kind : WaitKind) (value : ℕ) → IfInnerFix (pure_fix place kind value)
 pure-inner place Octa value = tt

@@ -1,16 +1,8 @@
 -- What waits makes no difference to what a statement comes to.
 use Rattle.std.proofs.Common.{◌≡◌, ℕ, ◌+◌, ◌%◌, ◌^◌, List, [], ◌∷◌, Option, refl, ap}
-use Rattle.mx_word.specs.declared.waits.Wait.{Wait}
-use Rattle.mx_expr.specs.Tree.{Tree}
-use Rattle.mx_ops.specs.declared.op.Op.{Op}
-use Rattle.mx_ops.specs.declared.op.Op.TheVariants.{Pseudo as PseudoOp, Code, Lda, Set}
-use Rattle.mx_ops.specs.declared.op.Pseudo.{Pseudo}
+use Rattle.mx_asm.proofs.Words.{Wait, Tree, Op, Code, Lda, Set, Pseudo, Label, and_then, Known, Targets, data_of, data_form, data_target, with_rest, datum, StatementTree, pseudo_form, op_form, with_data, known_at_place, alignment, encoding}
+use Rattle.mx_ops.specs.declared.op.Op.TheVariants.{Pseudo as PseudoOp}
 use Rattle.mx_ops.specs.declared.op.Pseudo.TheVariants as pseudo
-use Rattle.mx_stmt.specs.declared.statement.Label.{Label}
-use Rattle.mx_stmt.specs.Steps.{and_then}
-use Rattle.mx_stmt.specs.Operands.{Known, Targets}
-use Rattle.mx_stmt.specs.Data.{data_of, data_form, data_target, with_rest, datum}
-use Rattle.mx_stmt.specs.Encoding.{StatementTree, pseudo_form, op_form, with_data, known_at_place, alignment, encoding}
 
 -- the same, with these references waiting
 abbrev pub with_waiting : Known → List Wait → Known

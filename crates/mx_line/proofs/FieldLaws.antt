@@ -4,9 +4,7 @@ use Rattle.mx_line.proofs.Words.{cond_both, and_parts, list_all, eqb-true, eqb_t
 use Rattle.std.specs.Prelude.{◌==◌, ◌||◌}
 use Rattle.mx_line.specs.Statements.IsField.{empty, string_first, constant_first, byte_first}
 use Rattle.mx_line.proofs.FieldLemmas.{more-more}
-
-is-eq : (b n : ℕ) → (b == n) ≡ true → b ≡ n
-is-eq b n h = eqb-true b n h
+use Rattle.mx_word.proofs.Comparisons.{same-number as is-eq}
 
 -- a byte that passes a test is no byte that does not
 not-at : (n b : ℕ) (test : ℕ → Bool) → test n ≡ false → test b ≡ true → (b == n) ≡ false

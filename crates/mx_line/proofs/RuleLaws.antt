@@ -12,6 +12,7 @@ use Rattle.mx_line.specs.Statements.Operands.{field, open_string, open_char}
 use Rattle.mx_line.specs.Statements.Operation.{named, bad_opcode, only_blanks, only_label}
 use Rattle.mx_line.specs.Statements.Statement.{comment, unlabelled, labelled, bad_local, bad_label}
 use Rattle.mx_line.specs.Statements.StatementOf.{too_long, later, first}
+use Rattle.std.proofs.lemmas.Bool.{and_right as and-false}
 
 -- The rules hold of what is cut.
 next-from-is : (place : ℕ) (text gap rest : List ℕ) → Run is_blank text gap rest → Next place text (next_from place gap rest)
@@ -179,10 +180,6 @@ statement-only place text _ (bad_label label rest r l b e) = statement-after-lab
 too-long : (line : List ℕ) (place : ℕ) (t : Bool) → is_too_long line place ≡ t → statement_of line place ≡ cond t (Err TooLong) (statement_at place (drop place line))
 unfolding statement_of
 too-long line place t e = rw e refl
-
-and-false : (s t : Bool) → t ≡ false → (s && t) ≡ false
-and-false true t e = e
-and-false false t e = refl
 
 is-long : (line : List ℕ) → 4096 < length line → nat_lt 4096 (length line) ≡ true
 is-long line l = grind (arith, nat_tests)

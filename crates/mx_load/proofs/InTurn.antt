@@ -1,10 +1,8 @@
 -- Items that are loaded one after another.
 use Rattle.std.proofs.Common.{◌≡◌, List, [], ◌∷◌, ◌++◌, refl, ap, Ok, Err}
 use Rattle.std.specs.Prelude.{Result}
-use Rattle.mx_mmo.specs.Meaning.{Loading, Meaningless, nothing, take_item, take_items, image_in, meaning}
-use Rattle.mx_mmo.specs.declared.items.Item.{Item}
-use Rattle.mx_load.specs.Faults.{told}
-use Rattle.mx_load.specs.Standing.{after, image_in as image_of_standing}
+use Rattle.mx_load.proofs.Words.{Loading, Meaningless, nothing, take_item, take_items, image_in, meaning, Item, told, after}
+use Rattle.mx_load.specs.Standing.{image_in as image_of_standing}
 
 none-more : (r : Result Loading Meaningless) → take_items [] r ≡ r
 none-more (Ok s) = refl

@@ -2,22 +2,11 @@
 use Rattle.std.proofs.Common.{◌≡◌, ◌≢◌, ℕ, zero, suc, ◌<◌, length, Bool, true, Some, None, Ok, Err, refl, sym, ◌∙◌, ap, arith}
 use Rattle.std.specs.Prelude.{Result, IfErr}
 use Rattle.mx_load.specs.Faults as loads
-use Rattle.mx_load.specs.Faults.{told, fault_of}
-use Rattle.mx_load.specs.Standing.{loading_of}
+use Rattle.mx_load.proofs.Words.{told, fault_of, loading_of, LoadFault, Loading, Meaningless, take_item, Due, first_item, ReaderModel, given, next_item, next_due, next_answer, left_of, Item, MmoFault, NotTetras, NoPre, BadLop, BadFields, Truncated, TooLong, loaded_from, loaded_behind, item_answer, unread, unloaded, place_and_number, Loaded, item_loaded, first_loaded, items_loaded, taken, fault_at, OutOfMemory}
 use Rattle.mx_load.specs.declared.progress.Progress.{Progress}
-use Rattle.mx_load.specs.declared.fault.LoadFault.{LoadFault}
 use Rattle.mx_load.specs.declared.fault.LoadFault.TheVariants.{PagesFull, BadPlace, NoFile, OutOfMemory as NoRoom}
-use Rattle.mx_mmo.specs.Meaning.{Loading, Meaningless, take_item}
-use Rattle.mx_mmo.specs.Reading.{Due, first_item}
-use Rattle.mx_mmo.specs.Replies.{ReaderModel, given, next_item, next_due, next_answer}
-use Rattle.mx_mmo.specs.Whole.{left_of}
-use Rattle.mx_mmo.specs.declared.items.Item.{Item}
-use Rattle.mx_mmo.specs.declared.faults.MmoFault.{MmoFault}
-use Rattle.mx_mmo.specs.declared.faults.MmoFault.TheVariants.{NotTetras, NoPre, BadLop, BadFields, Truncated, TooLong, OutOfMemory as NoBytes}
-use Rattle.mx_load.specs.Answers.{loaded_from, loaded_behind, item_answer, unread, unloaded, place_and_number}
-use Rattle.mx_load.specs.Objects.{Loaded, item_loaded, first_loaded, items_loaded, taken, fault_at}
+use Rattle.mx_mmo.specs.declared.faults.MmoFault.TheVariants.{OutOfMemory as NoBytes}
 use Rattle.mx_load.specs.declared.objects.ObjectFault.{ObjectFault}
-use Rattle.mx_load.specs.declared.objects.ObjectFault.TheVariants.{OutOfMemory}
 
 -- the faults of reading and of loading keep their place and number
 pub unread-is : (f : MmoFault) → unread f ≢ OutOfMemory → place_and_number (unread f) ≡ fault_at f

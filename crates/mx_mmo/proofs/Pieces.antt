@@ -6,6 +6,7 @@ use Rattle.std.specs.List.{concat}
 use Rattle.std.proofs.lemmas.Grind.{common_steps}
 use Rattle.std.proofs.lemmas.Bool.Decides.{nat_tests}
 use Rattle.mx_mmo.proofs.Walks.{items-none, extends}
+use Rattle.std.proofs.lemmas.Bool.{cond-false}
 
 -- one piece more, and all pieces from those so far
 pub concat-more : (pieces : List (List ℕ)) (i : ℕ) (d : List ℕ) → i < length pieces → concat (take (i + 1) pieces) ≡ concat (take i pieces) ++ get_or pieces i d
@@ -44,10 +45,6 @@ pub length-of-piece : (pieces : List (List ℕ)) (i : ℕ) (piece d : List ℕ) 
     length (concat (take (i + 1) pieces)) ≡ length (concat (take i pieces)) + length piece
 length-of-piece pieces i piece d l is =
     ap (λ (b : List ℕ). length b) (concat-more pieces i d l ∙ ap (λ p. concat (take i pieces) ++ p) (sym is)) ∙ length-append (concat (take i pieces)) piece
-
--- the pieces so far are within the limit, and so is the next one or not
-cond-false : {A : Type 0} (b : Bool) (x y : A) → b ≡ false → cond b x y ≡ y
-cond-false b x y e = rw e refl
 
 within-from : (n i : ℕ) (pieces : List (List ℕ)) → n + length (concat (take i pieces)) ≤ limit →
     pieces_within n pieces ≡ concat (take i pieces) ++ pieces_within (n + length (concat (take i pieces))) (drop i pieces)

@@ -9,11 +9,7 @@ use Rattle.mx_mmo.specs.declared.lops.Lop.TheVariants.{Loc, Pre, Post, Stab}
 use Rattle.mx_mmo.proofs.Names.{zeros-trimmed}
 use Rattle.mx_mmo.proofs.Spelt.{enough-there}
 use Rattle.mx_mmo.proofs.Told.{bits-are, zero-and-least}
-
--- a tetra that has a fault is told
-false-by : (b : Bool) → ¬ (b ≡ true) → b ≡ false
-false-by true n = absurd (n refl)
-false-by false n = refl
+use Rattle.std.proofs.lemmas.Bool.{false_from_ne_true as false-by}
 
 neither : (item : ℕ → Item) (at y z : ℕ) (more : List ℕ) → ¬ ((z ≡ 1) ⊎ (z ≡ 2)) → item_due item (address_due at y z more) ≡ Err (BadFields at)
 neither item at y z more n =

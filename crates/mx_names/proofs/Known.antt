@@ -2,7 +2,7 @@
 use Rattle.std.proofs.Common.{ℕ, Bool, true, false, cond, List, [], ◌∷◌}
 use Rattle.mx_names.proofs.Words.{cond_both, nat_cmp, is_lt, slice_cmp, AllByRecursion, Symbol, Value, NameTable, IsFullName, AreNames, symbols_with, with_symbol}
 
-all-inserted : (P : Symbol → Type 0) (new : Symbol) (symbols : List Symbol) → P new → AllByRecursion P symbols → AllByRecursion P (symbols_with new symbols)
+pub all-inserted : (P : Symbol → Type 0) (new : Symbol) (symbols : List Symbol) → P new → AllByRecursion P symbols → AllByRecursion P (symbols_with new symbols)
 all-inserted P new [] p h = (p, tt)
 all-inserted P new (s ∷ ss) p h = cond_both (is_lt (slice_cmp nat_cmp new.name s.name)) _ _ (AllByRecursion P) (λ _. (p, h)) (λ _. (h.0, (all-inserted P new ss p h.1)))
 

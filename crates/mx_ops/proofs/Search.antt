@@ -27,7 +27,7 @@ abbrev pub covers : {X A : Type 0} → (X → List ℕ) → List X → List (Lis
 covers key xs [] = true
 covers key xs (entry ∷ entries) = among key entry.0 xs && covers key xs entries
 
-same-name : (a b : List ℕ) → bytes_eq a b ≡ true → a ≡ b
+pub same-name : (a b : List ℕ) → bytes_eq a b ≡ true → a ≡ b
 same-name a b h = (bytes_eq-Decides a b).0 h
 
 -- what stands at a place after the first is what stands in the rest at the place before

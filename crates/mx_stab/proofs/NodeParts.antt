@@ -5,11 +5,7 @@ use Rattle.mx_stab.proofs.Words.{cond-false, and_parts, eqb-true, eqb-false, le-
 use Rattle.mx_stab.specs.Reading as reading
 use Rattle.mx_stab.proofs.Parts.{next-node}
 use Rattle.mx_stab.proofs.Whole.{tells-symbol, character-is, tells-subtrie}
-
--- the tests of a byte m say what they mean
-or-there : (a b : Bool) → b ≡ true → (a || b) ≡ true
-or-there true b h = refl
-or-there false b h = h
+use Rattle.std.proofs.lemmas.Bool.{or_right as or-there}
 
 none-or : (a b : Bool) → (a ≡ false → ⊥) → (b ≡ true → ⊥) → (not a || b) ≡ false
 none-or true true h k = absurd (k refl)

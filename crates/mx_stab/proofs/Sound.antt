@@ -6,6 +6,7 @@ use Rattle.mx_stab.specs.Reading as reading
 use Rattle.mx_stab.specs.Grammar as grammar
 use Rattle.mx_stab.proofs.Distinct.{distinct-push}
 use Rattle.mx_stab.proofs.Orders.{all-back, all-front}
+use Rattle.std.proofs.lemmas.Bool.{not-false}
 
 -- a reading and a later one, with the bytes and the symbols between them
 pub record Between (s t : Reading) (bytes : List ℕ) (symbols : List Symbol) : Type 0 where
@@ -274,10 +275,6 @@ character-read inner h place m path s t b e = character_part-read inner h place 
 -- whether a node has a character, by its kind and its bit for a middle subtrie
 abbrev spells : ℕ → ℕ → Bool
 spells kind m = not (kind == 0) || m == 1
-
-not-false : (b : Bool) → not b ≡ false → b ≡ true
-not-false true h = refl
-not-false false h = cc
 
 not-spelt : (kind m : ℕ) → spells kind m ≡ false → (kind ≡ 0) × (m ≢ 1)
 not-spelt kind m h =

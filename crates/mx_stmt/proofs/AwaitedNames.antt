@@ -15,15 +15,15 @@ abbrev pub AreUnknown : NameTable → List Wait → Type 0
 AreUnknown names waits = AllByRecursion (λ (w : Wait). IsUnknown names w.who) waits
 
 -- what holds of the value of an answer
-abbrev Gives : {A : Type 0} → (A → Type 0) → Answer A → Type 0
+abbrev pub Gives : {A : Type 0} → (A → Type 0) → Answer A → Type 0
 Gives P (Err fault) = Unit {0}
 Gives P (Ok x) = P x
 
-then-gives : {A B : Type 0} (P : B → Type 0) (a : Answer A) (next : A → Answer B) → ((x : A) → Gives P (next x)) → Gives P (and_then a next)
+pub then-gives : {A B : Type 0} (P : B → Type 0) (a : Answer A) (next : A → Answer B) → ((x : A) → Gives P (next x)) → Gives P (and_then a next)
 then-gives P (Err fault) next h = tt
 then-gives P (Ok x) next h = h x
 
-after-gives : {A B : Type 0} (Q : A → Type 0) (P : B → Type 0) (a : Answer A) (next : A → Answer B) → Gives Q a → ((x : A) → Q x → Gives P (next x)) → Gives P (and_then a next)
+pub after-gives : {A B : Type 0} (Q : A → Type 0) (P : B → Type 0) (a : Answer A) (next : A → Answer B) → Gives Q a → ((x : A) → Q x → Gives P (next x)) → Gives P (and_then a next)
 after-gives Q P (Err fault) next q h = tt
 after-gives Q P (Ok x) next q h = h x q
 
@@ -146,7 +146,7 @@ module _ (k : Known) where
   silent-waits (Err fault) h = tt
   silent-waits (Ok p) h = subst (AreUnknown k.names) (sym h.waits) tt
 
-gives-value : {A : Type 0} (P : A → Type 0) (a : Answer A) (x : A) → Gives P a → a ≡ Ok x → P x
+pub gives-value : {A : Type 0} (P : A → Type 0) (a : Answer A) (x : A) → Gives P a → a ≡ Ok x → P x
 gives-value P (Err fault) x h is = absurd (cc)
 gives-value P (Ok y) x h is = let same : y ≡ x = cc in subst P same h
 

@@ -41,7 +41,7 @@ pub same-first : {A : Type 0} (first other : ExprFault) (answer : Result A ExprF
 same-first first other answer is there = let same : first ≡ other = cc in ap fault_of same
 
 -- the operation of a name
-operation-named : (labelled : Bool) (name : List ℕ) (found : Option Op) (op : Op) → operation_of name ≡ found → operation_with labelled found ≡ Ok op → IsOperation op
+pub operation-named : (labelled : Bool) (name : List ℕ) (found : Option Op) (op : Op) → operation_of name ≡ found → operation_with labelled found ≡ Ok op → IsOperation op
 operation-named labelled name None op is with = cc
 operation-named labelled name (Some other) op is with = by (labelled && not (takes_label other)) with
   where

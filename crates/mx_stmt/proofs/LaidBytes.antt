@@ -65,7 +65,7 @@ unfolding HasData
 data-then place (Err fault) next h = tt
 data-then place (Ok x) next h = h x refl
 
-octa-bytes : (n : ℕ) → AreBytes (octa_to_bytes n)
+pub octa-bytes : (n : ℕ) → AreBytes (octa_to_bytes n)
 octa-bytes n = (omega arith, (omega arith, (omega arith, (omega arith, (omega arith, (omega arith, (omega arith, (omega arith, tt))))))))
 
 record IsDatum (size place : ℕ) (d : Data) : Type 0 where
