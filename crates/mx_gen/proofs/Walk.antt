@@ -1,26 +1,9 @@
 -- The statements of the program are good, and what is known at the end.
 use Rattle.std.proofs.Common.{◌≡◌, ℕ, zero, suc, ◌+◌, ◌*◌, ◌%◌, ◌^◌, ◌<◌, ◌≤◌, true, List, [], ◌∷◌, length, codes, fold, replicate, slice_set, None, Some, refl, sym, ap, ◌∙◌, arith, subst, ⊎_elim}
 use Rattle.std.specs.Prelude.{is_some}
-use Rattle.std.specs.List.{AllByRecursion}
-use Rattle.std.proofs.lemmas.Bool.{cases_lt}
-use Rattle.mx_word.specs.declared.symbols.Symbol.{Symbol}
-use Rattle.mx_word.specs.declared.symbols.Value.{Value}
-use Rattle.mx_word.specs.declared.symbols.Value.TheVariants.{Pure}
+use Rattle.mx_gen.proofs.Words.{AllByRecursion, cases_lt, Symbol, Value, Pure, Near, number, name, ahead, Pseudo, Code, Set, Loc, NameTable, value_in, value_of_name, Name, Local, Known, tetra_xyz, tetra_wyde, StatementTree, known_after, nothing_known, sights_from, next_local, unreferenced, depth, increment, random, stated, reg, block_name, procedure_name, block_before, closing_at, blocks_at, program}
 use Rattle.mx_word.specs.declared.waits.Awaited.TheVariants as awaited
-use Rattle.mx_word.specs.declared.waits.WaitKind.TheVariants.{Near}
-use Rattle.mx_expr.specs.Tree.{number, name, ahead}
-use Rattle.mx_ops.specs.declared.op.Op.TheVariants.{Pseudo, Code, Set}
-use Rattle.mx_ops.specs.declared.op.Pseudo.TheVariants.{Loc}
-use Rattle.mx_names.specs.Names.{NameTable, value_in, value_of_name}
-use Rattle.mx_stmt.specs.declared.statement.Label.TheVariants.{Name, Local}
 use Rattle.mx_stmt.specs.declared.placed.Effect.TheVariants as effect
-use Rattle.mx_stmt.specs.Operands.{Known}
-use Rattle.mx_stmt.specs.Forms.{tetra_xyz, tetra_wyde}
-use Rattle.mx_stmt.specs.Encoding.{StatementTree}
-use Rattle.mx_asm.specs.TwoPass.{known_after, nothing_known, sights_from, next_local}
-use Rattle.mx_asm.specs.Refusal.{unreferenced}
-use Rattle.mx_gen.specs.Generator.{depth, increment, random}
-use Rattle.mx_gen.specs.Program.{stated, reg, block_name, procedure_name, block_before, closing_at, blocks_at, program}
 use Rattle.mx_gen.proofs.SourceRead.{random-low, depth-low, increment-low}
 use Rattle.mx_gen.proofs.Refusals.{AreGood, Leads, Ends, ends-none, ends-then, good-then}
 use Rattle.mx_gen.proofs.Tries.{IsLight}
@@ -131,8 +114,8 @@ module _ (b c : ℕ) (is : c ≡ b + 1) (few : c ≤ 10001) (symbols : List Symb
   abbrev end_backs : List Value
   end_backs = slice_set no_backs 1 (Pure (to 9))
 
-  place : (j : ℕ) → j ≤ 10 → IsPlace (at_of at j)
-  place = place-of at whole low
+  lies : (j : ℕ) → j ≤ 10 → IsPlace (at_of at j)
+  lies = place-of at whole low
 
   last-new : value_in (block_full c) symbols ≡ None
   last-new = stands.next c (omega (arith, is)) (omega (arith, few))
@@ -147,27 +130,27 @@ module _ (b c : ℕ) (is : c ≡ b + 1) (few : c ≤ 10001) (symbols : List Symb
   link-none = other-value last procedure_full (to 2) all-new link_full refl ∙ last-stands.link
 
   end0 : Leads (known symbols no_backs at) (stated line (Some (Name (block_name c))) Set (reg 255 ∷ reg 0 ∷ [])) (placing line at (Some (Name (block_name c))) (tetra_xyz 0xc1 255 0 0) None) (known last no_backs (to 1))
-  end0 = record { placed = set-placed symbols no_backs at (place 0 (omega arith)) line (Some (Name (block_name c))); behind = refl }
+  end0 = record { placed = set-placed symbols no_backs at (lies 0 (omega arith)) line (Some (Name (block_name c))); behind = refl }
 
   end1 : Leads (known last no_backs (to 1)) (stated (line + 1) None (Code 0) (number 0 ∷ name (codes "Halt") ∷ number 0 ∷ [])) (placing (line + 1) (to 1) None (tetra_xyz 0 0 0 0) None) (known last no_backs (to 2))
   end1 = record {
-    placed = code-placed last no_backs (to 1) (place 1 (omega arith)) (line + 1) None 0 (number 0 ∷ name (codes "Halt") ∷ number 0 ∷ []) (tetra_xyz 0 0 0 0) None
+    placed = code-placed last no_backs (to 1) (lies 1 (omega arith)) (line + 1) None 0 (number 0 ∷ name (codes "Halt") ∷ number 0 ∷ []) (tetra_xyz 0 0 0 0) None
         (trap-tetra (known last no_backs (to 1)) (codes "Halt") halt_full refl (value-predefined last no_backs (to 1) halt_full 0 last-stands.halt halt-predefined));
     behind = refl;
   }
 
   end2 : Leads (known last no_backs (to 2)) (stated (line + 2) (Some (Name procedure_name)) (Code 0x42) (reg 0 ∷ ahead 1 ∷ [])) (placing (line + 2) (to 2) (Some (Name procedure_name)) (tetra_wyde 0x42 0 0) (Some (awaited.Local 1, Near))) (known all no_backs (to 3))
-  end2 = record { placed = code-placed last no_backs (to 2) (place 2 (omega arith)) (line + 2) (Some (Name procedure_name)) 0x42 (reg 0 ∷ ahead 1 ∷ []) (tetra_wyde 0x42 0 0) (Some (awaited.Local 1, Near)) (skip-tetra (known last no_backs (to 2))); behind = refl }
+  end2 = record { placed = code-placed last no_backs (to 2) (lies 2 (omega arith)) (line + 2) (Some (Name procedure_name)) 0x42 (reg 0 ∷ ahead 1 ∷ []) (tetra_wyde 0x42 0 0) (Some (awaited.Local 1, Near)) (skip-tetra (known last no_backs (to 2))); behind = refl }
 
   end3 : Leads (known all no_backs (to 3)) (stated (line + 2 + 1) None (Code 0xfe) (reg 1 ∷ name (codes "rJ") ∷ [])) (placing (line + 2 + 1) (to 3) None (tetra_xyz 0xfe 1 0 4) None) (known all no_backs (to 4))
   end3 = record {
-    placed = code-placed all no_backs (to 3) (place 3 (omega arith)) (line + 2 + 1) None 0xfe (reg 1 ∷ name (codes "rJ") ∷ []) (tetra_xyz 0xfe 1 0 4) None
+    placed = code-placed all no_backs (to 3) (lies 3 (omega arith)) (line + 2 + 1) None 0xfe (reg 1 ∷ name (codes "rJ") ∷ []) (tetra_xyz 0xfe 1 0 4) None
         (get-tetra (known all no_backs (to 3)) (codes "rJ") link_full refl (value-predefined all no_backs (to 3) link_full 4 link-none link-predefined));
     behind = refl;
   }
 
   end4 : Leads (known all no_backs (to 4)) (stated (line + 2 + 2) None (Code 0x26) (reg 3 ∷ reg 0 ∷ number 1 ∷ [])) (placing (line + 2 + 2) (to 4) None (tetra_xyz 0x27 3 0 1) None) (known all no_backs (to 5))
-  end4 = record { placed = code-placed all no_backs (to 4) (place 4 (omega arith)) (line + 2 + 2) None 0x26 (reg 3 ∷ reg 0 ∷ number 1 ∷ []) (tetra_xyz 0x27 3 0 1) None (less-tetra (known all no_backs (to 4))); behind = refl }
+  end4 = record { placed = code-placed all no_backs (to 4) (lies 4 (omega arith)) (line + 2 + 2) None 0x26 (reg 3 ∷ reg 0 ∷ number 1 ∷ []) (tetra_xyz 0x27 3 0 1) None (less-tetra (known all no_backs (to 4))); behind = refl }
 
   again : (word : ℕ) × (Tetras (known all no_backs (to 5)) 0xf2 (reg 2 ∷ name procedure_name ∷ []) word None)
   again =
@@ -175,23 +158,23 @@ module _ (b c : ℕ) (is : c ≡ b + 1) (few : c ≤ 10001) (symbols : List Symb
       (omega (arith, whole)) (omega (arith, whole)) (omega (arith, low)) (omega (arith, low))
 
   end5 : Leads (known all no_backs (to 5)) (stated (line + 2 + 3) None (Code 0xf2) (reg 2 ∷ name procedure_name ∷ [])) (placing (line + 2 + 3) (to 5) None again.0 None) (known all no_backs (to 6))
-  end5 = record { placed = code-placed all no_backs (to 5) (place 5 (omega arith)) (line + 2 + 3) None 0xf2 (reg 2 ∷ name procedure_name ∷ []) again.0 None again.1; behind = refl }
+  end5 = record { placed = code-placed all no_backs (to 5) (lies 5 (omega arith)) (line + 2 + 3) None 0xf2 (reg 2 ∷ name procedure_name ∷ []) again.0 None again.1; behind = refl }
 
   end6 : Leads (known all no_backs (to 6)) (stated (line + 2 + 4) None (Code 0x22) (reg 0 ∷ reg 0 ∷ reg 2 ∷ [])) (placing (line + 2 + 4) (to 6) None (tetra_xyz 0x22 0 0 2) None) (known all no_backs (to 7))
-  end6 = record { placed = code-placed all no_backs (to 6) (place 6 (omega arith)) (line + 2 + 4) None 0x22 (reg 0 ∷ reg 0 ∷ reg 2 ∷ []) (tetra_xyz 0x22 0 0 2) None (more-tetra (known all no_backs (to 6))); behind = refl }
+  end6 = record { placed = code-placed all no_backs (to 6) (lies 6 (omega arith)) (line + 2 + 4) None 0x22 (reg 0 ∷ reg 0 ∷ reg 2 ∷ []) (tetra_xyz 0x22 0 0 2) None (more-tetra (known all no_backs (to 6))); behind = refl }
 
   end7 : Leads (known all no_backs (to 7)) (stated (line + 2 + 5) None (Code 0xf6) (name (codes "rJ") ∷ reg 1 ∷ [])) (placing (line + 2 + 5) (to 7) None (tetra_xyz 0xf6 4 0 1) None) (known all no_backs (to 8))
   end7 = record {
-    placed = code-placed all no_backs (to 7) (place 7 (omega arith)) (line + 2 + 5) None 0xf6 (name (codes "rJ") ∷ reg 1 ∷ []) (tetra_xyz 0xf6 4 0 1) None
+    placed = code-placed all no_backs (to 7) (lies 7 (omega arith)) (line + 2 + 5) None 0xf6 (name (codes "rJ") ∷ reg 1 ∷ []) (tetra_xyz 0xf6 4 0 1) None
         (put-tetra (known all no_backs (to 7)) (codes "rJ") link_full refl (value-predefined all no_backs (to 7) link_full 4 link-none link-predefined));
     behind = refl;
   }
 
   end8 : Leads (known all no_backs (to 8)) (stated (line + 2 + 6) None (Code 0xf8) (number 1 ∷ number 0 ∷ [])) (placing (line + 2 + 6) (to 8) None (tetra_wyde 0xf8 1 0) None) (known all no_backs (to 9))
-  end8 = record { placed = code-placed all no_backs (to 8) (place 8 (omega arith)) (line + 2 + 6) None 0xf8 (number 1 ∷ number 0 ∷ []) (tetra_wyde 0xf8 1 0) None (pop-tetra (known all no_backs (to 8))); behind = refl }
+  end8 = record { placed = code-placed all no_backs (to 8) (lies 8 (omega arith)) (line + 2 + 6) None 0xf8 (number 1 ∷ number 0 ∷ []) (tetra_wyde 0xf8 1 0) None (pop-tetra (known all no_backs (to 8))); behind = refl }
 
   end9 : Leads (known all no_backs (to 9)) (stated (line + 2 + 7) (Some (Local 1)) (Code 0xf8) (number 1 ∷ number 0 ∷ [])) (placing (line + 2 + 7) (to 9) (Some (Local 1)) (tetra_wyde 0xf8 1 0) None) (known all end_backs (to 10))
-  end9 = record { placed = code-placed all no_backs (to 9) (place 9 (omega arith)) (line + 2 + 7) (Some (Local 1)) 0xf8 (number 1 ∷ number 0 ∷ []) (tetra_wyde 0xf8 1 0) None (pop-tetra (known all no_backs (to 9))); behind = refl }
+  end9 = record { placed = code-placed all no_backs (to 9) (lies 9 (omega arith)) (line + 2 + 7) (Some (Local 1)) 0xf8 (number 1 ∷ number 0 ∷ []) (tetra_wyde 0xf8 1 0) None (pop-tetra (known all no_backs (to 9))); behind = refl }
 
   pub closing-ends : Ends (known symbols no_backs at) (closing_at line c) (known all end_backs (to 10))
   closing-ends =
@@ -206,17 +189,17 @@ module _ (b c : ℕ) (is : c ≡ b + 1) (few : c ≤ 10001) (symbols : List Symb
 
   pub closing-good : (final : NameTable) → AreGood final (known symbols no_backs at) (closing_at line c)
   closing-good final =
-      plain-good final symbols no_backs at (place 0 (omega arith)) _ _ _ _ (tetra_xyz 0xc1 255 0 0) _ _
+      plain-good final symbols no_backs at (lies 0 (omega arith)) _ _ _ _ (tetra_xyz 0xc1 255 0 0) _ _
       (label-new symbols no_backs at (block_name c) (block_full c) (block-form symbols no_backs at c (omega (arith, few))) (block-free c (omega (arith, few))) last-new) end0
-      (plain-good final last no_backs (to 1) (place 1 (omega arith)) _ _ _ _ (tetra_xyz 0 0 0 0) _ _ refl end1
-      (waiting-good final last no_backs (to 2) (place 2 (omega arith)) _ _ _ _ (tetra_wyde 0x42 0 0) _ _ _ (label-new last no_backs (to 2) procedure_name procedure_full refl procedure-free all-new) end2 local-there
-      (plain-good final all no_backs (to 3) (place 3 (omega arith)) _ _ _ _ (tetra_xyz 0xfe 1 0 4) _ _ refl end3
-      (plain-good final all no_backs (to 4) (place 4 (omega arith)) _ _ _ _ (tetra_xyz 0x27 3 0 1) _ _ refl end4
-      (plain-good final all no_backs (to 5) (place 5 (omega arith)) _ _ _ _ again.0 _ _ refl end5
-      (plain-good final all no_backs (to 6) (place 6 (omega arith)) _ _ _ _ (tetra_xyz 0x22 0 0 2) _ _ refl end6
-      (plain-good final all no_backs (to 7) (place 7 (omega arith)) _ _ _ _ (tetra_xyz 0xf6 4 0 1) _ _ refl end7
-      (plain-good final all no_backs (to 8) (place 8 (omega arith)) _ _ _ _ (tetra_wyde 0xf8 1 0) _ _ refl end8
-      (plain-good final all no_backs (to 9) (place 9 (omega arith)) _ _ _ _ (tetra_wyde 0xf8 1 0) _ [] refl end9 (good-end final (known all end_backs (to 10))))))))))))
+      (plain-good final last no_backs (to 1) (lies 1 (omega arith)) _ _ _ _ (tetra_xyz 0 0 0 0) _ _ refl end1
+      (waiting-good final last no_backs (to 2) (lies 2 (omega arith)) _ _ _ _ (tetra_wyde 0x42 0 0) _ _ _ (label-new last no_backs (to 2) procedure_name procedure_full refl procedure-free all-new) end2 local-there
+      (plain-good final all no_backs (to 3) (lies 3 (omega arith)) _ _ _ _ (tetra_xyz 0xfe 1 0 4) _ _ refl end3
+      (plain-good final all no_backs (to 4) (lies 4 (omega arith)) _ _ _ _ (tetra_xyz 0x27 3 0 1) _ _ refl end4
+      (plain-good final all no_backs (to 5) (lies 5 (omega arith)) _ _ _ _ again.0 _ _ refl end5
+      (plain-good final all no_backs (to 6) (lies 6 (omega arith)) _ _ _ _ (tetra_xyz 0x22 0 0 2) _ _ refl end6
+      (plain-good final all no_backs (to 7) (lies 7 (omega arith)) _ _ _ _ (tetra_xyz 0xf6 4 0 1) _ _ refl end7
+      (plain-good final all no_backs (to 8) (lies 8 (omega arith)) _ _ _ _ (tetra_wyde 0xf8 1 0) _ _ refl end8
+      (plain-good final all no_backs (to 9) (lies 9 (omega arith)) _ _ _ _ (tetra_wyde 0xf8 1 0) _ [] refl end9 (good-end final (known all end_backs (to 10))))))))))))
 
 -- ---- all blocks
 
