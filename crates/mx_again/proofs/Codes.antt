@@ -1,6 +1,5 @@
 -- The shapes and kinds of the codes, by computing.
-use Rattle.std.proofs.Common.{◌≡◌, ℕ, ◌+◌, ◌<◌, ◌≤◌, length, List, Bool, true, false, not, ◌&&◌, ◌||◌, cond, [], ◌∷◌, map, refl, ◌⊎◌, inl, inr}
-use Rattle.std.specs.Prelude.{nat_lt, nat_le}
+use Rattle.std.proofs.Common.{◌≡◌, ℕ, ◌+◌, ◌<◌, ◌≤◌, length, List, Bool, true, false, not, ◌&&◌, ◌||◌, cond, [], ◌∷◌, map, refl, ◌⊎◌, inl, inr, nat_lt, nat_le}
 use Rattle.mx_again.proofs.Words.{list_all, range_with_len, and_parts, opcode_rows, opcode_names, opcode_name, opcode_kinds, opcode_kind, is_immediate, is_backward, shape_spans, shapes_of, Shape, Three, Regs, Round, Neg, Rel, Mem, MemPure, Wyde, Jump, Put, Get, Pop, One, Save, Unsave, Free, takes_byte, shape, lowest_code}
 use Rattle.mx_word.specs.Kinds.{is_name_byte}
 use Rattle.mx_word.proofs.Comparisons.{is-less, is-least}

@@ -1,6 +1,5 @@
 -- Operands are read one after another, each from its first byte to the comma behind it or to the end.
-use Rattle.std.proofs.Common.{◌≡◌, ℕ, ◌+◌, ◌-◌, ◌*◌, ◌^◌, ◌<◌, ◌≤◌, Bool, true, false, ◌&&◌, List, [], ◌∷◌, ◌++◌, Some, None, Ok, refl, sym, ap, ◌∙◌, arith, subst, append_assoc, fold, length, nat_eq}
-use Rattle.std.specs.Prelude.{nat_le}
+use Rattle.std.proofs.Common.{◌≡◌, ℕ, ◌+◌, ◌-◌, ◌*◌, ◌^◌, ◌<◌, ◌≤◌, Bool, true, false, ◌&&◌, List, [], ◌∷◌, ◌++◌, Some, None, Ok, refl, sym, ap, ◌∙◌, arith, subst, append_assoc, fold, length, nat_eq, nat_le}
 use Rattle.mx_again.proofs.Words.{join_with_byte, list_all, and_parts, nat_tests, Register, Tree, number, unary, is_digit, is_hexadecimal, Waiting, sign, Mode, operand, too_deep, passed_bound, next_reading, with_strong, within, step, steps, reading_end, start, Constant, digits_value}
 use Rattle.mx_expr.specs.Bytes.{digit_value}
 use Rattle.mx_expr.specs.Reading as reading

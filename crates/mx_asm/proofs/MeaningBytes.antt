@@ -1,6 +1,5 @@
 -- The items of bytes that a statement places lead to the state with these bytes.
-use Rattle.std.proofs.Common.{◌≡◌, ℕ, ◌+◌, ◌-◌, ◌/◌, ◌^◌, ◌<◌, ◌≤◌, List, [], ◌∷◌, ◌++◌, length, map, Bool, true, false, cond, arith, refl, sym, ◌∙◌, ap, bit_xor}
-use Rattle.std.specs.Prelude.{◌==◌, ◌||◌, ◌&&◌, nat_le, nat_lt}
+use Rattle.std.proofs.Common.{◌≡◌, ℕ, ◌+◌, ◌-◌, ◌/◌, ◌^◌, ◌<◌, ◌≤◌, List, [], ◌∷◌, ◌++◌, length, map, Bool, true, false, cond, arith, refl, sym, ◌∙◌, ap, bit_xor, ◌==◌, ◌||◌, ◌&&◌, nat_le, nat_lt}
 use Rattle.mx_asm.proofs.Words.{cond_both, ltb-false, nat_tests, AreBytes, Load, from_place, placed, placed-append, Piece, pages_of, pages_below, is_covered, with_lines, Head, lowered, raised, covered, covering, tetra_count, located, told_line, lined, byte_items}
 use Rattle.mx_asm.specs.Emission.{line_behind}
 use Rattle.mx_asm.proofs.MeaningMemory.{HaveBytes}

@@ -1,6 +1,5 @@
 -- The items of statements without a fault lead from the state before them to the state behind them.
-use Rattle.std.proofs.Common.{◌≡◌, ℕ, zero, suc, ◌+◌, ◌^◌, ◌<◌, ◌≤◌, List, [], ◌∷◌, ◌++◌, true, false, cond, arith, refl, sym, ◌∙◌, ap, Option, Some, None, Result, Ok, Err}
-use Rattle.std.specs.Prelude.{nat_le}
+use Rattle.std.proofs.Common.{◌≡◌, ℕ, zero, suc, ◌+◌, ◌^◌, ◌<◌, ◌≤◌, List, [], ◌∷◌, ◌++◌, true, false, cond, arith, refl, sym, ◌∙◌, ap, Option, Some, None, Result, Ok, Err, nat_le}
 use Rattle.mx_asm.proofs.Words.{result_unwrap_or, AllByRecursion, Wait, PagesFull, nothing, with_name, take_items, Item, Placed, Answer, no_targets, IsOperation, IsSound, IsLaid, placed, encoding-laid, AsmFault, Refused, Head, Sight, outline, fixes, awaited_value, waiting_at, pages_below, onto, moved, byte_items, head_at_fixes, with_bytes, statement_items, opening, sight_items, sight_head, items_from, refusal_of, label_fault, fault_behind, fault_with, statement_fault, first_fault}
 use Rattle.mx_asm.proofs.EndWaits.{both-none}
 use Rattle.mx_asm.proofs.MeaningMemory.{HaveBytes}

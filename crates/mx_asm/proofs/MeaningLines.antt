@@ -1,7 +1,6 @@
 -- Where pages are full, line by line.
-use Rattle.std.proofs.Common.{◌≡◌, ℕ, ◌+◌, ◌-◌, ◌^◌, ◌≤◌, List, [], ◌∷◌, ◌++◌, length, map, Bool, true, false, cond, nat_lt, arith, refl, sym, ◌∙◌, ap, subst, Option, Some, None, Result, Ok, Err, append_assoc, append-nil}
+use Rattle.std.proofs.Common.{◌≡◌, ℕ, ◌+◌, ◌-◌, ◌^◌, ◌≤◌, List, [], ◌∷◌, ◌++◌, length, map, Bool, true, false, cond, nat_lt, arith, refl, sym, ◌∙◌, ap, subst, Option, Some, None, Result, Ok, Err, append_assoc, append-nil, sum_by, is_some, option_map}
 use Rattle.mx_asm.proofs.Words.{cond_both, AllByRecursion, take-append-le, LineFault, Cut, is_too_far, part, cuts_from, statement, faulty, too_far, item_of, before, items_of, Meaningless, PagesFull, ExprFault, Tree, reading, Op, Answer, Known, StatementTree, Fields, label_of, operation_for, Refused, Entry, with_operands, with_operation, entry_with, entry_of, entries_of, statements_in, Sight, nothing_known, known_after, sights_from, sights_of, statement_fault, Line, accepted, accepted_with, lines_entries, outlined, has_room, page_fault, page_refusal_from, page_refusal, accepted_in}
-use Rattle.std.specs.Prelude.{sum_by, is_some, option_map}
 use Rattle.mx_line.specs.Source.{Item, items_from}
 use Rattle.mx_asm.proofs.MeaningLaws.{no-room}
 use Rattle.mx_stab.proofs.Orders.{all-both as all-append}

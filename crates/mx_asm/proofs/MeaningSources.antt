@@ -1,7 +1,6 @@
 -- What holds of the statements of lines and sources that are bytes.
-use Rattle.std.proofs.Common.{◌≡◌, ◌<◌, ℕ, ◌^◌, List, [], ◌∷◌, ◌++◌, Bool, true, false, not, cond, refl, sym, ◌∙◌, ap, is_some, Option, Some, None, Result, Ok, Err}
+use Rattle.std.proofs.Common.{◌≡◌, ◌<◌, ℕ, ◌^◌, List, [], ◌∷◌, ◌++◌, Bool, true, false, not, cond, refl, sym, ◌∙◌, ap, is_some, Option, Some, None, Result, Ok, Err, ◌==◌, nat_le}
 use Rattle.mx_asm.proofs.Words.{cond_both, result_err, AllByRecursion, slice_split, onto_first, AreBytes, lines_of, without_empty_last, split, PagesFull, nothing, take_items, meaning, Loading, Meaningless, Post, Stab, lowest_of, front, closing, main_of, StatementTree, Refused, statements_in, refusal_in, source_entries, Sight, final_known, sights_of, pieces, page_count, image, first_fault, first_undefined, entries_refusal, end_refusal, last_line, refusal, IsStatement, Line, accepted, lines_entries, lines_items, assembled_source, AreAccepted, outlined, has_room, loaded_image, page_fault, page_refusal, run_refusal_with, accepted_in, run_refusal}
-use Rattle.std.specs.Prelude.{◌==◌, nat_le}
 use Rattle.mx_asm.proofs.EndWaits.{both-none}
 use Rattle.mx_asm.proofs.InTurn.{source-accepted, source-refused}
 use Rattle.mx_asm.proofs.MeaningStates.{take-append}

@@ -1,7 +1,6 @@
 -- The bytes that are placed and then joined by fix records are those that are placed with all targets known.
-use Rattle.std.proofs.Common.{◌≡◌, ℕ, List, [], ◌∷◌, ◌++◌, fold, Bool, true, false, not, cond, refl, sym, ◌∙◌, ap, subst, bit_xor, Option, Some, None, Ok, append_assoc}
+use Rattle.std.proofs.Common.{◌≡◌, ℕ, List, [], ◌∷◌, ◌++◌, fold, Bool, true, false, not, cond, refl, sym, ◌∙◌, ap, subst, bit_xor, Option, Some, None, Ok, append_assoc, ◌==◌, bytes_eq}
 use Rattle.mx_asm.proofs.Words.{cond_both, AllByRecursion, filter, xor_assoc, xor_zero_l, xor_zero_r, xor_comm, Decides-eqb, bytes_eq-Decides, Value, Pure, Reg, Awaited, Wait, same_awaited, NameTable, complete_form, value_of_name, with_symbol, waits_for, waits_for_others, value-inserted, not-some, Label, Name, Local, Placed, Known, Targets, no_targets, symbol_form, StatementTree, encoding, fix_bytes, fix_placements, from_place, placed, placed-append, Sight, outline, waits_in, is_local, next_local, pure_number, targets, with_label, known_with, known_after, sights_from, fixes, awaited_value, waiting_for, waiting_at, refusal_of, label_fault, statement_fault, first_fault}
-use Rattle.std.specs.Prelude.{◌==◌, bytes_eq}
 use Rattle.mx_word.specs.declared.waits.Awaited.TheVariants as awaited
 use Rattle.mx_names.specs.Names.{value_in as symbol_in}
 use Rattle.mx_asm.specs.TwoPass.{value_in}

@@ -1,6 +1,5 @@
 -- A tetra that is joined to memory, as four bytes that are placed.
-use Rattle.std.proofs.Common.{◌≡◌, ℕ, zero, suc, ◌+◌, ◌-◌, ◌*◌, ◌/◌, ◌%◌, ◌^◌, ◌<◌, ◌≤◌, List, [], ◌∷◌, length, Bool, true, false, cond, arith, refl, sym, ◌∙◌, ap, bit_xor, ⊎_elim, ◌⊎◌, inl, inr}
-use Rattle.std.specs.Prelude.{◌==◌}
+use Rattle.std.proofs.Common.{◌≡◌, ℕ, zero, suc, ◌+◌, ◌-◌, ◌*◌, ◌/◌, ◌%◌, ◌^◌, ◌<◌, ◌≤◌, List, [], ◌∷◌, length, Bool, true, false, cond, arith, refl, sym, ◌∙◌, ap, bit_xor, ⊎_elim, ◌⊎◌, inl, inr, ◌==◌}
 use Rattle.mx_asm.proofs.Words.{xor_zero_r, common_steps, nat_tests, cases_eq, cases_lt, tetra_from_bytes, tetra_byte, tetra-sum, placed, from_place}
 
 -- the four bytes of a tetra, by their places

@@ -1,6 +1,5 @@
 -- The references that still wait behind statements: those that neither their own statement nor a later one settles.
-use Rattle.std.proofs.Common.{◌≡◌, ℕ, Bool, false, not, List, [], ◌∷◌, ◌++◌, Option, None, Some, refl, ap, sym, ◌∙◌, append_assoc, append-nil}
-use Rattle.std.specs.Prelude.{◌&&◌, ◌||◌}
+use Rattle.std.proofs.Common.{◌≡◌, ℕ, Bool, false, not, List, [], ◌∷◌, ◌++◌, Option, None, Some, refl, ap, sym, ◌∙◌, append_assoc, append-nil, ◌&&◌, ◌||◌}
 use Rattle.mx_asm.proofs.Words.{filter, list_any, filter-append, list_any-append, Awaited, Wait, same_awaited, NameTable, complete_form, waits_for_others, Label, Name, Local, Sight, outline, waits_in}
 use Rattle.mx_word.specs.declared.waits.Awaited.TheVariants as awaited
 use Rattle.mx_asm.proofs.Filters.{filter-same, filter-all, filter-filter, not-or, or-false, or_assoc}

@@ -1,6 +1,5 @@
 -- A statement that is read is the one that is listed.
-use Rattle.std.proofs.Common.{◌≡◌, ℕ, List, Option, None, Some, Result, Ok, Err, refl, ap, subst, sym, ◌∙◌, inl, inr}
-use Rattle.std.specs.Prelude.{◌⊎◌, ◌↔◌, is_some, option_map}
+use Rattle.std.proofs.Common.{◌≡◌, ℕ, List, Option, None, Some, Result, Ok, Err, refl, ap, subst, sym, ◌∙◌, inl, inr, ◌⊎◌, ◌↔◌, is_some, option_map}
 use Rattle.mx_asm.proofs.Words.{Span, Cut, part, item_of, ExprFault, Tree, reading, reading-ok, reading-err, list-read, fault-read, Op, StatementTree, Answer, Fields, IsRead, IsFault, label_of, label_in, fields_of, operation_for, AsmFault, Stmt, Refused, refused, with_operands, with_operation, statement_in, entry_with, entry_of}
 use Rattle.mx_stmt.specs.declared.faults.StmtFault.{StmtFault}
 use Rattle.mx_stmt.specs.Reading.IsFault.{operation, operand_list}

@@ -1,6 +1,5 @@
 -- How many bytes of a line a statement takes at least.
-use Rattle.std.proofs.Common.{◌≡◌, ℕ, ◌+◌, ◌<◌, ◌≤◌, List, [], ◌∷◌, ◌++◌, length, drop, Bool, true, false, not, ◌⊎◌, inl, inr, Option, Some, None, IfOk, IfSome, arith, refl, sym, ap, ◌∙◌, length-append, length-drop}
-use Rattle.std.specs.Prelude.{◌==◌, ◌||◌}
+use Rattle.std.proofs.Common.{◌≡◌, ℕ, ◌+◌, ◌<◌, ◌≤◌, List, [], ◌∷◌, ◌++◌, length, drop, Bool, true, false, not, ◌⊎◌, inl, inr, Option, Some, None, IfOk, IfSome, arith, refl, sym, ap, ◌∙◌, length-append, length-drop, ◌==◌, ◌||◌}
 use Rattle.mx_asm.proofs.Words.{Span, Cut, span, Found, IsField, Next, Operation, Statement, StatementOf}
 use Rattle.mx_line.specs.Fields.{ends_field, ends_here}
 use Rattle.mx_line.specs.Statements.{Operands}

@@ -1,6 +1,5 @@
 -- The references that wait for a label are those that the two passes name.
-use Rattle.std.proofs.Common.{◌≡◌, ℕ, Bool, true, false, not, cond, List, [], ◌∷◌, ◌++◌, Option, None, Some, refl, ap, sym, ◌∙◌, append_assoc, append-nil}
-use Rattle.std.specs.Prelude.{◌||◌}
+use Rattle.std.proofs.Common.{◌≡◌, ℕ, Bool, true, false, not, cond, List, [], ◌∷◌, ◌++◌, Option, None, Some, refl, ap, sym, ◌∙◌, append_assoc, append-nil, ◌||◌}
 use Rattle.mx_asm.proofs.Words.{list_any, Decides-eqb, filter-append, bytes_eq-Decides, Awaited, Wait, same_awaited, NameTable, waits_for, Label, Name, Local, Sight, outline, waits_in, references, is_local, from_last}
 use Rattle.mx_word.specs.declared.waits.Awaited.TheVariants as awaited
 use Rattle.mx_asm.proofs.Filters.{filter-within, filter-without}

@@ -1,6 +1,5 @@
 -- What is read is what is spelled, and a fault is the first one.
-use Rattle.std.proofs.Common.{◌≡◌, ℕ, ◌<◌, ◌≤◌, List, [], ◌∷◌, ◌++◌, length, Some, None, Result, Ok, Err, refl, sym, ap, ◌∙◌, arith, append_assoc, subst, length-append, ⊎_elim, inl, inr}
-use Rattle.std.specs.Prelude.{◌⊎◌, ◌↔◌}
+use Rattle.std.proofs.Common.{◌≡◌, ℕ, ◌<◌, ◌≤◌, List, [], ◌∷◌, ◌++◌, length, Some, None, Result, Ok, Err, refl, sym, ap, ◌∙◌, arith, append_assoc, subst, length-append, ⊎_elim, inl, inr, ◌⊎◌, ◌↔◌}
 use Rattle.mx_expr.proofs.Words.{cases_lt, ExprFault, Syntax, TooWide, EmptyString, Tree, number, State, Read, passed_bound, steps, field_end, reading_end, reading, start, Spells, Before, Begins, FaultAt, IsFirst, Faultless, IsList, empty, no_front, no_list}
 use Rattle.mx_expr.proofs.Moves.{move, moves, moves-on}
 use Rattle.mx_expr.proofs.Fields.{free-some, one-list, spelled-free}

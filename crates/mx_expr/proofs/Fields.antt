@@ -1,7 +1,6 @@
 -- What is spelled is read: operands, fields, and what stands before a primary.
-use Rattle.std.proofs.Common.{◌≡◌, ℕ, ◌+◌, ◌<◌, List, [], ◌∷◌, ◌++◌, length, map, Bool, true, false, Some, Result, Ok, refl, sym, ap, ◌∙◌, arith, append_assoc, append-nil, length-append}
+use Rattle.std.proofs.Common.{◌≡◌, ℕ, ◌+◌, ◌<◌, List, [], ◌∷◌, ◌++◌, length, map, Bool, true, false, Some, Result, Ok, refl, sym, ap, ◌∙◌, arith, append_assoc, append-nil, length-append, ◌==◌}
 use Rattle.mx_expr.proofs.Words.{and_parts, not-true, list_all, ExprFault, BinOp, Div, Tree, number, is_no_quote, with_strong, Waiting, sign, strong, weak, parenthesis, Mode, operand, slash, closed, State, with_weak, and_then, field_end, reading_end, start, listed, next_operand, StrongOperator, Product, Sum, Operand, Operands, Spells, Before, mul, div, fraction, rem, left, right, and, primary, times, product, expression, none, more, empty, operands, first}
-use Rattle.std.specs.Prelude.{◌==◌}
 use Rattle.mx_expr.specs.Reading as reading
 use Rattle.mx_expr.specs.Spelling.Sum.{plus as sum_plus}
 use Rattle.mx_expr.specs.Spelling.Operand.{string}

@@ -1,6 +1,5 @@
 -- What was read up to a state.
-use Rattle.std.proofs.Common.{◌≡◌, ℕ, ◌+◌, ◌-◌, ◌<◌, List, [], ◌∷◌, ◌++◌, length, map, Bool, true, false, Option, Some, Ok, Err, refl, sym, ap, ◌∙◌, arith, append_assoc, append-nil, subst}
-use Rattle.std.specs.Prelude.{◌==◌}
+use Rattle.std.proofs.Common.{◌≡◌, ℕ, ◌+◌, ◌-◌, ◌<◌, List, [], ◌∷◌, ◌++◌, length, map, Bool, true, false, Option, Some, Ok, Err, refl, sym, ap, ◌∙◌, arith, append_assoc, append-nil, subst, ◌==◌}
 use Rattle.mx_expr.proofs.Words.{list_all, cond_both, eqb-true, Syntax, UnOp, BinOp, Mul, Rem, And, Add, Sub, Or, Xor, Tree, number, here, is_digit, is_hexadecimal, is_letter, is_name_byte, is_no_quote, digit_value, with_strong, with_weak, Waiting, sign, strong, weak, parenthesis, Mode, operand, whole, digit, decimal, hash, hexadecimal, quote, character, symbol, slash, less, greater, string, closed, State, Read, primary_start, mark_start, string_start, primary_end, weakly, listed, next_operand, weakly_or_end, strongly, after, beyond, digits_value, Sign, StrongOperator, WeakOperator, Primary, Product, Sum, Operands, plus, minus, register, mul, rem, and, add, sub, or, xor, place, expression}
 use Rattle.mx_expr.specs.declared.tree.UnOp.TheVariants.{Plus, Minus, Not, Register}
 use Rattle.mx_expr.specs.Reading.{signed, enclosed}

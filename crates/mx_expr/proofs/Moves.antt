@@ -1,7 +1,6 @@
 -- Reading where constants and parentheses have no bound.
-use Rattle.std.proofs.Common.{◌≡◌, ℕ, List, [], ◌∷◌, ◌++◌, false, Option, Some, None, Ok, Err, refl, sym, ap, ◌∙◌, arith}
+use Rattle.std.proofs.Common.{◌≡◌, ℕ, List, [], ◌∷◌, ◌++◌, false, Option, Some, None, Ok, Err, refl, sym, ap, ◌∙◌, arith, ◌==◌}
 use Rattle.std.proofs.lemmas.Option.{same_Some}
-use Rattle.std.specs.Prelude.{◌==◌}
 use Rattle.mx_expr.proofs.Words.{nat_tests, Tree, number, name, is_digit, is_hexadecimal, is_name_byte, Waiting, Mode, operand, whole, digit, decimal, hash, hexadecimal, quote, character, symbol, slash, less, greater, string, closed, State, Read, and_then, next_reading, with_strong, with_weak, after, listed, field_end}
 
 abbrev pub st : Mode → List Waiting → ℕ → List Tree → State

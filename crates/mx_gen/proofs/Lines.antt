@@ -1,6 +1,5 @@
 -- A text of lines, each with one statement, comes to the entries of these statements.
-use Rattle.std.proofs.Common.{◌≡◌, ℕ, ◌+◌, ◌*◌, ◌^◌, ◌≤◌, Bool, true, false, not, cond, List, [], ◌∷◌, ◌++◌, length, map, sum_by, Option, None, Some, Ok, refl, sym, ap, ◌∙◌, arith, append_assoc, length-append}
-use Rattle.std.specs.Prelude.{◌==◌}
+use Rattle.std.proofs.Common.{◌≡◌, ℕ, ◌+◌, ◌*◌, ◌^◌, ◌≤◌, Bool, true, false, not, cond, List, [], ◌∷◌, ◌++◌, length, map, sum_by, Option, None, Some, Ok, refl, sym, ap, ◌∙◌, arith, append_assoc, length-append, ◌==◌}
 use Rattle.mx_gen.proofs.Words.{list_all, AllByRecursion, and_parts, le-ltb, Cut, cuts_from, lines_of, is_too_far, size_up_to, is_other, StatementTree, Fields, fields_of, Entry, entry_with, entry_of, entries_of, statement_in, source_entries, statements_in, refusal_in}
 use Rattle.std.proofs.lemmas.List.{length_push}
 use Rattle.std.proofs.lemmas.List.Sums.{sum_by-append}

@@ -1,6 +1,5 @@
 -- The names of the program, and the symbols that are defined behind so many blocks.
-use Rattle.std.proofs.Common.{◌≡◌, ℕ, ◌+◌, ◌^◌, ◌<◌, ◌≤◌, Bool, true, false, cond, List, [], ◌∷◌, length, drop, codes, Option, None, Some, Result, Ok, Err, bytes_eq, refl, ap, ◌∙◌, arith}
-use Rattle.std.specs.Prelude.{◌==◌, is_some}
+use Rattle.std.proofs.Common.{◌≡◌, ℕ, ◌+◌, ◌^◌, ◌<◌, ◌≤◌, Bool, true, false, cond, List, [], ◌∷◌, length, drop, codes, Option, None, Some, Result, Ok, Err, bytes_eq, refl, ap, ◌∙◌, arith, ◌==◌, is_some}
 use Rattle.mx_gen.proofs.Words.{decimal, digit_value, AllByRecursion, AllDigits, le-ltb, nat_tests, decimal_is_IsNumeral, decimal_injective, Symbol, Value, Pure, special_registers, predefined_names, predefined_value, NameTable, value_in, pure_of, first_value, value_of_name, symbols_with, Name, symbol_form, name_fault, name_refusal, label_fault, block_name}
 use Rattle.std.proofs.lemmas.Slice.Eq.{bytes_eq-Decides}
 use Rattle.mx_names.specs.declared.fault.NameFault.{NameFault}

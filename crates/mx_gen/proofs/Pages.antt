@@ -1,6 +1,5 @@
 -- Bytes that are placed below 2^18 touch few pages.
-use Rattle.std.proofs.Common.{◌≡◌, ℕ, zero, suc, ◌+◌, ◌/◌, ◌^◌, ◌<◌, ◌≤◌, Bool, true, false, cond, List, [], ◌∷◌, ◌++◌, length, Option, None, Some, refl, sym, ap, ◌∙◌, arith, subst, ⊎_elim}
-use Rattle.std.specs.Prelude.{◌==◌, nat_le}
+use Rattle.std.proofs.Common.{◌≡◌, ℕ, zero, suc, ◌+◌, ◌/◌, ◌^◌, ◌<◌, ◌≤◌, Bool, true, false, cond, List, [], ◌∷◌, ◌++◌, length, Option, None, Some, refl, sym, ap, ◌∙◌, arith, subst, ⊎_elim, ◌==◌, nat_le}
 use Rattle.mx_gen.proofs.Words.{AllByRecursion, cases_lt, le-leb, nat_tests, Sight, Piece, piece_with, outline, outlined, page_refusal_from, statement_fault, accepted, accepted_with}
 use Rattle.mx_stmt.specs.Placements.{from_place}
 use Rattle.mx_asm.specs.Image.{placements, pages_of, pages_below}

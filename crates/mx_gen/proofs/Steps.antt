@@ -1,6 +1,5 @@
 -- One statement of the program after another.
-use Rattle.std.proofs.Common.{◌≡◌, ℕ, true, false, cond, List, [], ◌∷◌, Option, None, Some, refl, ap, ◌∙◌, arith}
-use Rattle.std.specs.Prelude.{is_some}
+use Rattle.std.proofs.Common.{◌≡◌, ℕ, true, false, cond, List, [], ◌∷◌, Option, None, Some, refl, ap, ◌∙◌, arith, is_some}
 use Rattle.mx_gen.proofs.Words.{Symbol, Value, Pure, Awaited, Wait, Near, Tree, Op, NameTable, Label, Placed, Known, StatementTree, label_value, sights_from, is_local, outline, next_local, referent, label_fault, undefined, unreferenced, stated}
 use Rattle.mx_asm.specs.TwoPass.{value_in as label_value_in}
 use Rattle.mx_asm.specs.Faults.{refused}

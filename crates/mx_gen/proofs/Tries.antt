@@ -1,7 +1,6 @@
 -- The trie of symbols of which each tells few bytes is short.
-use Rattle.std.proofs.Common.{◌≡◌, ℕ, zero, suc, ◌+◌, ◌-◌, ◌*◌, ◌/◌, ◌%◌, ◌^◌, ◌<◌, ◌≤◌, Bool, true, false, cond, List, [], ◌∷◌, ◌++◌, length, refl, sym, ap, ◌∙◌, arith, subst, length-append}
+use Rattle.std.proofs.Common.{◌≡◌, ℕ, zero, suc, ◌+◌, ◌-◌, ◌*◌, ◌/◌, ◌%◌, ◌^◌, ◌<◌, ◌≤◌, Bool, true, false, cond, List, [], ◌∷◌, ◌++◌, length, refl, sym, ap, ◌∙◌, arith, subst, length-append, ◌==◌, ◌&&◌, nat_lt, nat_le}
 use Rattle.mx_gen.proofs.Words.{cond_both, AllByRecursion, nat_tests, common_steps, Symbol, Pure, NameTable, zeros_after, padded_trie}
-use Rattle.std.specs.Prelude.{◌==◌, ◌&&◌, nat_lt, nat_le}
 use Rattle.mx_stab.specs.Numbers.{fewest_digits, octa_digits, value_bytes, kind, serial_bytes}
 use Rattle.mx_stab.specs.Trie.{next_byte, is_last_byte, groups_with, groups_of, symbols_below, bit, has_symbols, node_front, nodes, trie, longest, trie_of}
 

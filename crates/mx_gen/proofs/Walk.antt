@@ -1,6 +1,5 @@
 -- The statements of the program are good, and what is known at the end.
-use Rattle.std.proofs.Common.{◌≡◌, ℕ, zero, suc, ◌+◌, ◌*◌, ◌%◌, ◌^◌, ◌<◌, ◌≤◌, true, List, [], ◌∷◌, length, codes, fold, replicate, slice_set, None, Some, refl, sym, ap, ◌∙◌, arith, subst, ⊎_elim}
-use Rattle.std.specs.Prelude.{is_some}
+use Rattle.std.proofs.Common.{◌≡◌, ℕ, zero, suc, ◌+◌, ◌*◌, ◌%◌, ◌^◌, ◌<◌, ◌≤◌, true, List, [], ◌∷◌, length, codes, fold, replicate, slice_set, None, Some, refl, sym, ap, ◌∙◌, arith, subst, ⊎_elim, is_some}
 use Rattle.mx_gen.proofs.Words.{AllByRecursion, cases_lt, Symbol, Value, Pure, Near, number, name, ahead, Pseudo, Code, Set, Loc, NameTable, value_in, value_of_name, Name, Local, Known, tetra_xyz, tetra_wyde, StatementTree, known_after, nothing_known, sights_from, next_local, unreferenced, depth, increment, random, stated, reg, block_name, procedure_name, block_before, closing_at, blocks_at, program}
 use Rattle.mx_word.specs.declared.waits.Awaited.TheVariants as awaited
 use Rattle.mx_stmt.specs.declared.placed.Effect.TheVariants as effect

@@ -1,7 +1,6 @@
 -- Operand fields by what stands first in them.
-use Rattle.std.proofs.Common.{◌≡◌, ◌≢◌, ℕ, suc, ◌+◌, ◌<◌, ◌≤◌, List, [], ◌∷◌, length, drop, get_or, Bool, true, false, cond, not, Result, Ok, Err, IfOk, arith, refl, sym, ap, ◌∙◌}
+use Rattle.std.proofs.Common.{◌≡◌, ◌≢◌, ℕ, suc, ◌+◌, ◌<◌, ◌≤◌, List, [], ◌∷◌, length, drop, get_or, Bool, true, false, cond, not, Result, Ok, Err, IfOk, arith, refl, sym, ap, ◌∙◌, ◌==◌}
 use Rattle.mx_line.proofs.Words.{cond-false, cond_both, nat_tests, position_or_len, drop-drop, LineFault, OpenString, OpenChar, Within, field_from, field_length, after_first, more, ends_field, nothing, string, constant, closing}
-use Rattle.std.specs.Prelude.{◌==◌}
 
 pub more-more : (a b : ℕ) (r : Result ℕ LineFault) → more a (more b r) ≡ more (a + b) r
 more-more a b (Ok n) = let e : a + (b + n) ≡ a + b + n = omega arith in ap (λ m. Ok m) e

@@ -1,8 +1,7 @@
 -- The lines of a source, line by line.
-use Rattle.std.proofs.Common.{◌≡◌, ℕ, ◌+◌, ◌<◌, List, [], ◌∷◌, length, Bool, true, false, cond, refl, ap, ◌∙◌, arith, ◌++◌, take, take_at, append_assoc, sum_by}
+use Rattle.std.proofs.Common.{◌≡◌, ℕ, ◌+◌, ◌<◌, List, [], ◌∷◌, length, Bool, true, false, cond, refl, ap, ◌∙◌, arith, ◌++◌, take, take_at, append_assoc, sum_by, ◌==◌}
 use Rattle.mx_line.proofs.Words.{length_push, lines_of, without_empty_last, size_up_to, onto_first, slice_split, split}
 use Rattle.std.proofs.lemmas.List.Sums.{sum_by-append}
-use Rattle.std.specs.Prelude.{◌==◌}
 
 pub no-lines : lines_of [] ≡ []
 unfolding lines_of split

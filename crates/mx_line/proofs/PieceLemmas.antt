@@ -1,6 +1,5 @@
 -- A text cut at the first byte of a kind.
-use Rattle.std.proofs.Common.{◌≡◌, ℕ, ◌+◌, ◌-◌, ◌<◌, List, [], ◌∷◌, length, take, drop, Bool, true, false, cond, arith, refl, sym, ap, None, not}
-use Rattle.std.specs.Prelude.{◌==◌}
+use Rattle.std.proofs.Common.{◌≡◌, ℕ, ◌+◌, ◌-◌, ◌<◌, List, [], ◌∷◌, length, take, drop, Bool, true, false, cond, arith, refl, sym, ap, None, not, ◌==◌}
 use Rattle.mx_line.proofs.Words.{position, position_or_len, onto_first, slice_split, length-prefix_len, split}
 use Rattle.std.proofs.lemmas.List.Splits.{slice_split_first}
 use Rattle.std.proofs.lemmas.Grind.{common_steps}

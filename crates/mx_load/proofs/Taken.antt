@@ -1,6 +1,5 @@
 -- Items are taken one by one.
-use Rattle.std.proofs.Common.{◌≡◌, refl, sym, ◌∙◌, ap, ℕ, ◌+◌, ◌<◌, ◌≤◌, length, List, [], ◌∷◌, get_or, drop, Ok, Err}
-use Rattle.std.specs.Prelude.{Result}
+use Rattle.std.proofs.Common.{◌≡◌, refl, sym, ◌∙◌, ap, ℕ, ◌+◌, ◌<◌, ◌≤◌, length, List, [], ◌∷◌, get_or, drop, Ok, Err, Result}
 use Rattle.mx_load.proofs.Words.{AllByRecursion, Loading, Meaningless, nothing, take_item, take_items, Fits, Item, told, after, answer, LoadFault}
 use Rattle.std.proofs.Math.ListN.{drop_of_length-le}
 use Rattle.std.proofs.lemmas.List.{drop_more}

@@ -1,6 +1,5 @@
 -- Each lopcode by its code byte.
-use Rattle.std.proofs.Common.{◌≡◌, ℕ, ◌/◌, ◌%◌, ◌^◌, Bool, true, false, cond, arith, refl, Some, None}
-use Rattle.std.specs.Prelude.{Option, ◌==◌}
+use Rattle.std.proofs.Common.{◌≡◌, ℕ, ◌/◌, ◌%◌, ◌^◌, Bool, true, false, cond, arith, refl, Some, None, Option, ◌==◌}
 use Rattle.mx_mmo.proofs.Words.{IsNoLop, lop_of, Lop, Quote, Fixo, Fixr, Fixrx, End, other-test, same-number}
 use Rattle.mx_mmo.specs.declared.lops.Lop.TheVariants.{Loc, Skip, File, Line, Spec, Pre, Post, Stab}
 

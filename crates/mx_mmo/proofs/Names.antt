@@ -1,6 +1,5 @@
 -- Names, and the zeros behind them.
-use Rattle.std.proofs.Common.{◌≡◌, ◌≢◌, ℕ, zero, suc, ◌+◌, ◌<◌, ◌≤◌, length, List, [], ◌∷◌, ◌++◌, take, get_or, replicate, Bool, true, false, cond, arith, refl, ◌∙◌, ap, subst}
-use Rattle.std.specs.Prelude.{◌==◌}
+use Rattle.std.proofs.Common.{◌≡◌, ◌≢◌, ℕ, zero, suc, ◌+◌, ◌<◌, ◌≤◌, length, List, [], ◌∷◌, ◌++◌, take, get_or, replicate, Bool, true, false, cond, arith, refl, ◌∙◌, ap, subst, ◌==◌}
 use Rattle.mx_mmo.proofs.Words.{AreBytes, IsName, onto_trimmed, trimmed, same-number, other-number, other-test}
 
 -- what is left without the zeros, and how many they were

@@ -1,7 +1,5 @@
 -- What is read stands there: an item is spelled by the bytes that it takes, and a fault is that of a tetra of the table.
-use Rattle.std.proofs.Common.{◌≡◌, ◌≢◌, ℕ, zero, suc, ◌+◌, ◌-◌, ◌*◌, ◌/◌, ◌%◌, ◌^◌, ◌<◌, ◌≤◌, ◌⊎◌, length, List, [], ◌∷◌, ◌++◌, take, drop, arith, refl, sym, ◌∙◌, ap, subst, Ok, Err, Some, None, Bool, true, false, cond, length-take, take-append-drop, replicate, inl, inr}
-use Rattle.std.specs.Prelude.{Option, nat_lt, nat_le, ◌==◌, ◌&&◌, ◌||◌, IfOk, IfSome}
-use Rattle.std.specs.List.{flat_map}
+use Rattle.std.proofs.Common.{◌≡◌, ◌≢◌, ℕ, zero, suc, ◌+◌, ◌-◌, ◌*◌, ◌/◌, ◌%◌, ◌^◌, ◌<◌, ◌≤◌, ◌⊎◌, length, List, [], ◌∷◌, ◌++◌, take, drop, arith, refl, sym, ◌∙◌, ap, subst, Ok, Err, Some, None, Bool, true, false, cond, length-take, take-append-drop, replicate, inl, inr, Option, nat_lt, nat_le, ◌==◌, ◌&&◌, ◌||◌, IfOk, IfSome, flat_map}
 use Rattle.std.proofs.lemmas.Bool.{both_ways}
 use Rattle.std.proofs.lemmas.Bool.Decides.{nat_tests}
 use Rattle.mx_mmo.specs.FaultTable.{TetraFault}

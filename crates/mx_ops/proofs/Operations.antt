@@ -1,7 +1,5 @@
 -- The laws of the operations, from the computed facts on their tables.
-use Rattle.std.proofs.Common.{ℕ, zero, suc, ◌+◌, ◌<◌, ◌≤◌, ◌≡◌, Bool, true, false, not, ◌&&◌, cond, List, [], ◌∷◌, ◌++◌, map, length, get_or, Option, Some, None, IsTrue, Decides, refl, sym, ◌∙◌, ap, arith, bytes_eq, ◌⊎◌, inl, inr, drop, eqb, zero-add, take, ◌-◌}
-use Rattle.std.specs.Option.{is_none}
-use Rattle.std.specs.List.{Contains}
+use Rattle.std.proofs.Common.{ℕ, zero, suc, ◌+◌, ◌<◌, ◌≤◌, ◌≡◌, Bool, true, false, not, ◌&&◌, cond, List, [], ◌∷◌, ◌++◌, map, length, get_or, Option, Some, None, IsTrue, Decides, refl, sym, ◌∙◌, ap, arith, bytes_eq, ◌⊎◌, inl, inr, drop, eqb, zero-add, take, ◌-◌, is_none, Contains}
 use Rattle.std.proofs.lemmas.Bool.{and_parts, false≢true, eqb-true, not-true}
 use Rattle.std.proofs.lemmas.Slice.Eq.{bytes_eq-Decides}
 use Rattle.std.proofs.lemmas.Grind.{common_steps}

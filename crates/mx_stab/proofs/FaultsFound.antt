@@ -1,6 +1,5 @@
 -- The fault that is read is in the table.
-use Rattle.std.proofs.Common.{◌≡◌, ◌≢◌, ℕ, zero, suc, ◌+◌, ◌-◌, ◌*◌, ◌^◌, ◌≤◌, ◌<◌, ◌==◌, ◌%◌, ◌/◌, Bool, true, false, cond, ◌||◌, List, [], ◌∷◌, ◌++◌, length, take, drop, Option, Some, None, Ok, Err, Result, arith, refl, sym, ap, ◌∙◌, subst, length-append, append_assoc, append-nil}
-use Rattle.std.specs.Prelude.{nat_le, nat_lt, bytes_eq}
+use Rattle.std.proofs.Common.{◌≡◌, ◌≢◌, ℕ, zero, suc, ◌+◌, ◌-◌, ◌*◌, ◌^◌, ◌≤◌, ◌<◌, ◌==◌, ◌%◌, ◌/◌, Bool, true, false, cond, ◌||◌, List, [], ◌∷◌, ◌++◌, length, take, drop, Option, Some, None, Ok, Err, Result, arith, refl, sym, ap, ◌∙◌, subst, length-append, append_assoc, append-nil, nat_le, nat_lt, bytes_eq}
 use Rattle.mx_stab.proofs.Words.{encode_utf8, cond_both, eqb-true, eqb-false, leb-true, leb-false, ltb-true, ltb-false, length-take-le, take-append-drop, bytes_eq-Decides, AreBytes, Symbol, Value, StabFault, Truncated, Padding, Wide, Twice, TooLong, BadSerial, wide_number, is_wide_character, CountsTooFar, EndsWithin, FaultOf, HasCharacter, IsDue, IsTooDeep, IsWideBare, LacksWide, NamesAgain, UpToCharacter, UpToLeft, UpToSymbol, AreBelow, AreDistinct, IsSubtrie, SpellsCharacter, SpellsSerial, SpellsValue, Reading, Answer, Character, and_then, part_if, is_among, value_size, value_of, serial_behind, symbol_with, symbol, has, has_character, is_wide_bare, character_of, character_part, with_character, node_rest, node, subtrie, next_subtrie, is_padding, symbols_at_end, start, trie_answer}
 use Rattle.mx_stab.specs.FaultTable as table
 use Rattle.mx_stab.specs.Reading as reading

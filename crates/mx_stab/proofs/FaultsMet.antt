@@ -1,6 +1,5 @@
 -- The fault that the table has is met by the reader.
-use Rattle.std.proofs.Common.{◌≡◌, ◌≢◌, ℕ, ◌+◌, ◌*◌, ◌%◌, ◌^◌, ◌≤◌, ◌<◌, ◌==◌, Bool, true, false, cond, ◌||◌, List, [], ◌∷◌, ◌++◌, length, replicate, None, Err, arith, refl, sym, ap, ◌∙◌, append_assoc, length-append, zero-add, bytes_eq}
-use Rattle.std.specs.Prelude.{nat_le, nat_lt, IsTrue, IfSome}
+use Rattle.std.proofs.Common.{◌≡◌, ◌≢◌, ℕ, ◌+◌, ◌*◌, ◌%◌, ◌^◌, ◌≤◌, ◌<◌, ◌==◌, Bool, true, false, cond, ◌||◌, List, [], ◌∷◌, ◌++◌, length, replicate, None, Err, arith, refl, sym, ap, ◌∙◌, append_assoc, length-append, zero-add, bytes_eq, nat_le, nat_lt, IsTrue, IfSome}
 use Rattle.mx_stab.proofs.Words.{cond-false, cond-true, lt-ltb, lt-leb, le-leb, ne_eqb, bytes_eq-Decides, Symbol, StabFault, Truncated, Padding, Wide, Twice, TooLong, BadSerial, wide_number, is_wide_character, CountsTooFar, EndsWithin, FaultOf, HasCharacter, IsDue, IsTooDeep, LacksWide, NamesAgain, UpToCharacter, UpToLeft, flag, AreBelow, AreDistinct, IsSubtrie, number, Reading, Answer, and_then, part_if, is_among, value_size, serial_behind, symbol_with, symbol, has, is_wide_bare, character_of, character_part, with_character, node_rest, next_subtrie, is_padding, symbols_at_end, start, trie_answer}
 use Rattle.mx_stab.specs.Faults.{place_of}
 use Rattle.mx_stab.specs.Reading as reading

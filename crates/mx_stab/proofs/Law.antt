@@ -1,6 +1,5 @@
 -- What is written is in the grammar.
-use Rattle.std.proofs.Common.{◌≡◌, ℕ, zero, suc, ◌+◌, ◌*◌, ◌<◌, ◌≤◌, ◌==◌, Bool, true, false, cond, List, [], ◌∷◌, ◌++◌, length, take, replicate, arith, refl, sym, ap, ◌∙◌, subst, inl, inr, length-append}
-use Rattle.std.specs.Prelude.{slice_index_or}
+use Rattle.std.proofs.Common.{◌≡◌, ℕ, zero, suc, ◌+◌, ◌*◌, ◌<◌, ◌≤◌, ◌==◌, Bool, true, false, cond, List, [], ◌∷◌, ◌++◌, length, take, replicate, arith, refl, sym, ap, ◌∙◌, subst, inl, inr, length-append, slice_index_or}
 use Rattle.mx_stab.proofs.Words.{AllByRecursion, eqb-true, leb-true, leb-false, cases_lt, AreBytes, Symbol, value_bytes, kind, serial_bytes, next_byte, is_last_byte, groups_with, groups_of, bit, has_symbols, nodes, trie, trie_of, InByteOrder, IsNamed, IsSubtrie, IsTrie}
 use Rattle.std.proofs.Math.Seq.{take-suc}
 use Rattle.mx_stab.specs.Grammar.IsSubtrie.{none, bare, passage, symbol}

@@ -1,6 +1,5 @@
 -- The symbols of a trie are named.
-use Rattle.std.proofs.Common.{◌≡◌, ℕ, ◌+◌, ◌/◌, ◌%◌, ◌<◌, Bool, true, false, cond, List, [], ◌∷◌, ◌++◌, length, arith, refl, length-append}
-use Rattle.std.specs.Prelude.{nat_lt}
+use Rattle.std.proofs.Common.{◌≡◌, ℕ, ◌+◌, ◌/◌, ◌%◌, ◌<◌, Bool, true, false, cond, List, [], ◌∷◌, ◌++◌, length, arith, refl, length-append, nat_lt}
 use Rattle.mx_stab.proofs.Words.{encode_utf8, AllByRecursion, lt-ltb, ltb-true, bytes-append, AreBytes, Symbol, Value, wide_number, AreDistinct, IsSubtrie, IsTrie, SpellsCharacter, SpellsValue, IsNamed, IsValue}
 use Rattle.mx_stab.specs.Grammar as grammar
 use Rattle.mx_stab.proofs.Digits.{number-below}

@@ -1,6 +1,5 @@
 -- A node is read piece by piece.
-use Rattle.std.proofs.Common.{◌≡◌, ◌≢◌, ℕ, ◌+◌, ◌%◌, ◌==◌, Bool, true, false, ◌&&◌, ◌||◌, not, List, [], ◌∷◌, ◌++◌, length, arith, refl, ap, ◌∙◌, inl, inr, append_assoc, length-append}
-use Rattle.std.specs.Prelude.{nat_lt}
+use Rattle.std.proofs.Common.{◌≡◌, ◌≢◌, ℕ, ◌+◌, ◌%◌, ◌==◌, Bool, true, false, ◌&&◌, ◌||◌, not, List, [], ◌∷◌, ◌++◌, length, arith, refl, ap, ◌∙◌, inl, inr, append_assoc, length-append, nat_lt}
 use Rattle.mx_stab.proofs.Words.{cond-false, and_parts, eqb-true, eqb-false, le-ltb, Symbol, HasCharacter, IsWideBare, UpToCharacter, UpToLeft, UpToSymbol, flag, Reading, Answer, and_then, part_if, symbol, has, has_character, is_wide_bare, character_part, with_character, node_rest, next_subtrie}
 use Rattle.mx_stab.specs.Reading as reading
 use Rattle.mx_stab.proofs.Parts.{next-node}

@@ -1,6 +1,5 @@
 -- Values and serial numbers as they are written.
-use Rattle.std.proofs.Common.{◌≡◌, ℕ, ◌+◌, ◌-◌, ◌/◌, ◌%◌, ◌^◌, ◌<◌, ◌≤◌, ◌==◌, Bool, true, false, cond, List, [], ◌∷◌, ◌++◌, length, arith, refl, sym, ap, ◌∙◌, subst}
-use Rattle.std.specs.Prelude.{nat_le, nat_lt, ◌&&◌}
+use Rattle.std.proofs.Common.{◌≡◌, ℕ, ◌+◌, ◌-◌, ◌/◌, ◌%◌, ◌^◌, ◌<◌, ◌≤◌, ◌==◌, Bool, true, false, cond, List, [], ◌∷◌, ◌++◌, length, arith, refl, sym, ap, ◌∙◌, subst, nat_le, nat_lt, ◌&&◌}
 use Rattle.mx_stab.proofs.Words.{and_parts, eqb-true, leb-true, ltb-true, octa_to_bytes, Value, Pure, Reg, fewest_digits, octa_digits, is_offset, value_bytes, kind, serial_bytes, number, AreBelow, SpellsValue, SpellsSerial, IsValue}
 use Rattle.mx_stab.specs.Grammar.SpellsValue.{pure, offset, register}
 use Rattle.mx_stab.specs.Grammar.SpellsSerial.{digits}

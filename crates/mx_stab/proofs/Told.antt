@@ -1,6 +1,5 @@
 -- Numbers from their digits.
-use Rattle.std.proofs.Common.{◌≡◌, ◌≢◌, ◌==◌, ℕ, ◌+◌, ◌-◌, ◌*◌, ◌^◌, ◌<◌, ◌≤◌, Bool, true, false, cond, List, [], ◌∷◌, Option, Some, arith, refl, sym, ap, ◌∙◌, min}
-use Rattle.std.specs.Prelude.{nat_lt, nat_le}
+use Rattle.std.proofs.Common.{◌≡◌, ◌≢◌, ◌==◌, ℕ, ◌+◌, ◌-◌, ◌*◌, ◌^◌, ◌<◌, ◌≤◌, Bool, true, false, cond, List, [], ◌∷◌, Option, Some, arith, refl, sym, ap, ◌∙◌, min, nat_lt, nat_le}
 use Rattle.mx_stab.proofs.Words.{pow-le-pow_right, eqb-true, lt-leb, lt-ltb, pow_more, serial_behind, value_size, cap, serial_cap}
 
 -- fewer digits tell less

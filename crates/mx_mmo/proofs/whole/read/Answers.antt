@@ -1,5 +1,4 @@
-use Rattle.std.proofs.Common.{sym, ◌∙◌, ◌≡◌, ◌≢◌, ◌<◌, ◌≤◌, ℕ, List, length, Ok, Err, inl, inr}
-use Rattle.std.specs.Prelude.{Result, IfOk, OnOk}
+use Rattle.std.proofs.Common.{sym, ◌∙◌, ◌≡◌, ◌≢◌, ◌<◌, ◌≤◌, ℕ, List, length, Ok, Err, inl, inr, Result, IfOk, OnOk}
 use Rattle.std.specs.List.{concat}
 use Rattle.std.proofs.lemmas.Bool.{cases_lt}
 use Rattle.mx_mmo.proofs.Words.{limit, AreBytes, Left, SpellsObject, object_of, passed_limit, Object, MmoFault, OutOfMemory}

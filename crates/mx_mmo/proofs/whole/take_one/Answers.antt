@@ -1,5 +1,4 @@
-use Rattle.std.proofs.Common.{◌≡◌, ap, ◌∙◌, Ok, refl, append-nil}
-use Rattle.std.specs.Prelude.{List, []}
+use Rattle.std.proofs.Common.{◌≡◌, ap, ◌∙◌, Ok, refl, append-nil, List, []}
 use Rattle.mx_mmo.proofs.Words.{Item, ReaderModel, Walk, with_rest, fed, left_of, onto, items_of}
 use Rattle.mx_mmo.proofs.Nexts.{next-gave, next-none, next-fault}
 use Rattle.mx_mmo.proofs.whole.take_one.Goals as goal

@@ -1,5 +1,4 @@
-use Rattle.std.proofs.Common.{rules, map, Ok, Err, sym, ap}
-use Rattle.std.specs.Ordering.{nat_cmp}
+use Rattle.std.proofs.Common.{rules, map, Ok, Err, sym, ap, nat_cmp}
 use Rattle.std.specs.Cmp.Lexicographic.{slice_cmp}
 use Rattle.std.proofs.lemmas.Fn.{always_returns_same}
 use Rattle.mx_ops.specs.Predefined.{predefined_names}
