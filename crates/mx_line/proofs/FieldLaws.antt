@@ -1,6 +1,6 @@
 -- Operand fields: what the rules spell is what is measured, and what is measured is spelled so.
 use Rattle.std.proofs.Common.{◌≡◌, ℕ, suc, ◌+◌, List, [], ◌∷◌, ◌++◌, length, Bool, true, false, cond, not, Result, Ok, Err, refl, sym, ap, ◌∙◌, arith, subst, append_assoc, length-append, inl, inr, ◌==◌, ◌||◌}
-use Rattle.mx_line.proofs.Words.{cond_both, and_parts, list_all, eqb-true, eqb_tells, LineFault, TooLong, BadLabel, BadLocal, BadOpcode, OpenString, OpenChar, NoOpcode, Within, field_from, field_length, more, ends_field, ends_here, nothing, string, constant, closing, begins, is_no_quote, is_other, IsField, closes}
+use Rattle.mx_line.proofs.Words.{cond_both, and_parts, list_all, eqb_tells, LineFault, TooLong, BadLabel, BadLocal, BadOpcode, OpenString, OpenChar, NoOpcode, Within, field_from, field_length, more, ends_field, ends_here, nothing, string, constant, closing, begins, is_no_quote, is_other, IsField, closes}
 use Rattle.mx_line.specs.Statements.IsField.{empty, string_first, constant_first, byte_first}
 use Rattle.mx_line.proofs.FieldLemmas.{more-more}
 use Rattle.mx_word.proofs.Comparisons.{same-number as is-eq}

@@ -1,6 +1,6 @@
 -- The statements of a line, one after another.
-use Rattle.std.proofs.Common.{◌≡◌, ℕ, zero, suc, ◌+◌, ◌-◌, ◌<◌, ◌≤◌, List, [], ◌∷◌, length, drop, Bool, true, cond, Option, Some, None, Result, Ok, Err, IfOk, arith, refl, ap, length-drop, ◌==◌}
-use Rattle.mx_line.proofs.Words.{cond_both, prefix_len, Span, LineFault, Cut, is_blank, is_name_byte, run, past, ends_here, field_length, span, next_from, with_field, operands_at, no_opcode, opcode_at, operation_at, ends_label, is_bad_local, labelled_at, statement_at, is_too_long, statement_of, list_with, cuts_within, cuts_from, LabelBefore, CutInOrder}
+use Rattle.std.proofs.Common.{◌≡◌, ℕ, suc, ◌+◌, ◌-◌, ◌<◌, ◌≤◌, List, [], ◌∷◌, length, drop, Bool, true, Option, Some, None, Result, Ok, Err, IfOk, arith, refl, ap, length-drop, ◌==◌}
+use Rattle.mx_line.proofs.Words.{cond_both, Span, LineFault, Cut, is_blank, is_name_byte, run, past, ends_here, field_length, span, next_from, with_field, operands_at, no_opcode, opcode_at, operation_at, ends_label, is_bad_local, labelled_at, statement_at, is_too_long, statement_of, list_with, cuts_within, cuts_from, LabelBefore, CutInOrder}
 use Rattle.mx_line.proofs.KindLemmas.{run-whole, run-length}
 use Rattle.mx_line.proofs.FieldLemmas.{field_length-few}
 

@@ -1,8 +1,6 @@
 -- An object is read as its items and its trie.
 use Rattle.std.proofs.Common.{◌≡◌, ℕ, ◌+◌, ◌-◌, ◌*◌, ◌/◌, ◌%◌, ◌^◌, ◌<◌, ◌≤◌, length, List, [], ◌∷◌, ◌++◌, take, drop, arith, refl, sym, ◌∙◌, ap, subst, Ok, Some, None, true, length-append, append_assoc, append-nil, add-zero, zero-add, ◌==◌}
-use Rattle.std.proofs.lemmas.Bool.Decides.{nat_tests}
-use Rattle.std.proofs.lemmas.List.{drop_at, take_at}
-use Rattle.mx_mmo.proofs.Words.{wide_lop, Spells, Spelled, SpecsEnd, first_item, limit, phase_after, tail_of, counted_tail, end_count, ComeInTurn, EndsItem, EndsLast, phase_end, Left, Walk, behind, items_of, SpellsObject, object_of, object_behind, onto, with_tail, Item, Pre, Post, Stab, Object, Phase, Start, Ended}
+use Rattle.mx_mmo.proofs.Words.{nat_tests, drop_at, take_at, wide_lop, Spells, Spelled, SpecsEnd, first_item, limit, phase_after, tail_of, counted_tail, end_count, ComeInTurn, EndsItem, EndsLast, phase_end, Left, Walk, behind, items_of, SpellsObject, object_of, object_behind, onto, with_tail, Item, Pre, Post, Stab, Object, Phase, Start, Ended}
 use Rattle.mx_mmo.proofs.Ends.{ends-next}
 use Rattle.mx_mmo.proofs.Phases.{Reaches, placed-reaches}
 use Rattle.mx_mmo.proofs.Pieces.{not-long}

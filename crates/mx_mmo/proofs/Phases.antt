@@ -1,7 +1,6 @@
 -- The items of an object come in turn.
 use Rattle.std.proofs.Common.{◌≡◌, ℕ, List, [], ◌∷◌, ◌++◌, refl, sym, ap, subst}
-use Rattle.std.specs.List.{AllByRecursion}
-use Rattle.mx_mmo.proofs.Words.{IsMiddle, IsPlaced, MayCome, ComeInTurn, phase_end, Item, Load, Loc, Skip, FixOcta, FixNear, FixFar, File, Line, Spec, Pre, Post, Stab, Phase, Start, Middle, Posted, Ended}
+use Rattle.mx_mmo.proofs.Words.{AllByRecursion, IsMiddle, IsPlaced, MayCome, ComeInTurn, phase_end, Item, Load, Loc, Skip, FixOcta, FixNear, FixFar, File, Line, Spec, Pre, Post, Stab, Phase, Start, Middle, Posted, Ended}
 
 pub record Reaches (phase : Phase) (items : List Item) : Type 0 where
   pub turn : ComeInTurn phase items

@@ -1,8 +1,6 @@
 -- What is read is in the grammar.
 use Rattle.std.proofs.Common.{◌≡◌, ℕ, zero, suc, ◌+◌, ◌-◌, ◌*◌, ◌/◌, ◌%◌, ◌^◌, ◌<◌, ◌≤◌, length, List, [], ◌∷◌, ◌++◌, take, drop, arith, refl, sym, ◌∙◌, ap, subst, Ok, Err, Some, None, Bool, true, false, cond, length-append, append_assoc, add-zero, zero-add, length-take, length-drop, Result, Option, nat_lt, ◌==◌, ◌&&◌}
-use Rattle.std.specs.List.{AllByRecursion}
-use Rattle.std.proofs.lemmas.List.{take-append-drop}
-use Rattle.mx_mmo.proofs.Words.{wide_lop, AreBytes, Fits, Spelled, Due, IsWithin, first_item, limit, phase_after, tail_of, tail_behind, counted_tail, end_count, StandFirst, phase_end, Left, StandAt, Walk, behind, walk_on, walk, items_of, SpellsObject, object_of, object_behind, with_tail, Item, Tail, Object, MmoFault, TooLong, NotTetras, BadFields, Phase, Start, Ended, bytes-behind, same-number, both-tests}
+use Rattle.mx_mmo.proofs.Words.{AllByRecursion, take-append-drop, wide_lop, AreBytes, Fits, Spelled, Due, IsWithin, first_item, limit, phase_after, tail_of, tail_behind, counted_tail, end_count, StandFirst, phase_end, Left, StandAt, Walk, behind, walk_on, walk, items_of, SpellsObject, object_of, object_behind, with_tail, Item, Tail, Object, MmoFault, TooLong, NotTetras, BadFields, Phase, Start, Ended, bytes-behind, same-number, both-tests}
 use Rattle.mx_mmo.proofs.Ends.{last-cons, specs-cons}
 use Rattle.mx_mmo.proofs.Firsts.{first-within}
 use Rattle.mx_mmo.proofs.Phases.{Reaches, placed-items}

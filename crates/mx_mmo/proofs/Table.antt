@@ -1,7 +1,6 @@
 -- The first fault of bytes is the one that the table tells.
 use Rattle.std.proofs.Common.{◌≡◌, ◌≢◌, ℕ, ◌+◌, ◌-◌, ◌*◌, ◌/◌, ◌%◌, ◌^◌, ◌<◌, ◌≤◌, length, List, [], ◌++◌, take, drop, arith, refl, sym, ◌∙◌, ap, subst, Ok, Err, Some, None, Bool, true, false, length-append, length-take, zero-add, replicate, Result, Option, ◌==◌}
-use Rattle.std.proofs.lemmas.List.{take-append-drop, drop_at, length-replicate}
-use Rattle.mx_mmo.proofs.Words.{wide_lop, AreBytes, IsSkipped, Spells, SpellsAddress, Spelled, limit, tail_of, tail_behind, counted_tail, end_count, StandFirst, phase_end, TetraFault, ItemFault, EndsWith, FaultOf, Left, Walk, items_of, object_of, object_behind, object_fault, fault_in, onto, with_tail, Item, Object, MmoFault, NotTetras, BadFields, Truncated, Phase, Start, Middle, Posted, Ended, bytes-behind, other-test, same-number, other-number}
+use Rattle.mx_mmo.proofs.Words.{take-append-drop, drop_at, length-replicate, wide_lop, AreBytes, IsSkipped, Spells, SpellsAddress, Spelled, limit, tail_of, tail_behind, counted_tail, end_count, StandFirst, phase_end, TetraFault, ItemFault, EndsWith, FaultOf, Left, Walk, items_of, object_of, object_behind, object_fault, fault_in, onto, with_tail, Item, Object, MmoFault, NotTetras, BadFields, Truncated, Phase, Start, Middle, Posted, Ended, bytes-behind, other-test, same-number, other-number}
 use Rattle.mx_mmo.proofs.Complete.{end-told, items-read, left_behind, tail-read, walk-spelled}
 use Rattle.mx_mmo.proofs.Pieces.{not-long}
 use Rattle.mx_mmo.proofs.Sound.{Stood, Stopped, Stands, counts, left-bytes, stands}

@@ -1,9 +1,6 @@
 -- What is read stands there: an item is spelled by the bytes that it takes, and a fault is that of a tetra of the table.
 use Rattle.std.proofs.Common.{◌≡◌, ◌≢◌, ℕ, zero, suc, ◌+◌, ◌-◌, ◌*◌, ◌/◌, ◌%◌, ◌^◌, ◌<◌, ◌≤◌, ◌⊎◌, length, List, [], ◌∷◌, ◌++◌, take, drop, arith, refl, sym, ◌∙◌, ap, subst, Ok, Err, Some, None, Bool, true, false, cond, length-take, take-append-drop, replicate, inl, inr, Option, nat_lt, nat_le, ◌==◌, ◌&&◌, ◌||◌, IfOk, IfSome, flat_map}
-use Rattle.std.proofs.lemmas.Bool.{both_ways}
-use Rattle.std.proofs.lemmas.Bool.Decides.{nat_tests}
-use Rattle.mx_mmo.specs.FaultTable.{TetraFault}
-use Rattle.mx_mmo.proofs.Words.{tetra_to_bytes, octa_to_bytes, tetra_from_bytes, octa_from_bytes, lop, wide_lop, AreBytes, AreTetras, AreOctas, Fits, Spells, SpellsAddress, EndsSpec, skipped, DueOf, Due, first_item, due_item, lop_item, lop_of, on_tetra, on_octa, quoted_tetra, short_address, long_address, address_due, item_due, far_tetra, named_file, file_item, ended_spec, pre_item, post_item, tetras_of, octas_of, trimmed, MayCome, EndsItem, Item, Load, Loc, Skip, FixOcta, FixNear, FixFar, File, Line, Spec, Pre, Post, Stab, Lop, MmoFault, BadFields, OutOfMemory, Phase, Start, Middle, Posted, Ended, four-bytes, four-fit, eight-bytes, eight-fit, top-byte, bytes-front, take-four, drop-four, same-number, other-number, both-true, both-tests, all-tests, not-less, is-least, is-less}
+use Rattle.mx_mmo.proofs.Words.{both_ways, nat_tests, TetraFault, tetra_to_bytes, octa_to_bytes, tetra_from_bytes, octa_from_bytes, lop, wide_lop, AreBytes, AreTetras, AreOctas, Fits, Spells, SpellsAddress, EndsSpec, skipped, DueOf, Due, first_item, due_item, lop_item, lop_of, on_tetra, on_octa, quoted_tetra, short_address, long_address, address_due, item_due, far_tetra, named_file, file_item, ended_spec, pre_item, post_item, tetras_of, octas_of, trimmed, MayCome, EndsItem, Item, Load, Loc, Skip, FixOcta, FixNear, FixFar, File, Line, Spec, Pre, Post, Stab, Lop, MmoFault, BadFields, OutOfMemory, Phase, Start, Middle, Posted, Ended, four-bytes, four-fit, eight-bytes, eight-fit, top-byte, bytes-front, take-four, drop-four, same-number, other-number, both-true, both-tests, all-tests, not-less, is-least, is-less}
 use Rattle.mx_mmo.specs.declared.lops.Lop.TheVariants as lops
 use Rattle.mx_mmo.proofs.Codes.{lop-code}
 use Rattle.mx_mmo.proofs.Names.{is-named, all-zeros}

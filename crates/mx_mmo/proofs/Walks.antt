@@ -1,7 +1,6 @@
 -- The items of bytes: one step, and what more bytes add.
 use Rattle.std.proofs.Common.{◌≡◌, ℕ, zero, suc, ◌+◌, ◌<◌, ◌≤◌, length, List, [], ◌∷◌, ◌++◌, drop, arith, refl, sym, ◌∙◌, ap, Ok, Err, Some, None, length-drop}
-use Rattle.std.proofs.lemmas.Grind.{common_steps}
-use Rattle.mx_mmo.proofs.Words.{Due, IsWithin, first_item, phase_after, Walk, behind, walk_on, walk, items_of, extended, Item, MmoFault, Phase}
+use Rattle.mx_mmo.proofs.Words.{common_steps, Due, IsWithin, first_item, phase_after, Walk, behind, walk_on, walk, items_of, extended, Item, MmoFault, Phase}
 use Rattle.mx_mmo.proofs.Firsts.{Grows, first-grows, first-within}
 
 pub shorter : (size : ℕ) (bytes : List ℕ) → 0 < size → size ≤ length bytes → length (drop size bytes) < length bytes

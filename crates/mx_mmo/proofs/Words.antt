@@ -1,6 +1,11 @@
 -- The words that the proofs of this crate cite, passed on from one place. Declares nothing.
+pub use Rattle.std.proofs.lemmas.Bool.{both_ways, cases_lt, cond-false}
+pub use Rattle.std.proofs.lemmas.Bool.Decides.{nat_tests}
+pub use Rattle.std.proofs.lemmas.Grind.{common_steps}
+pub use Rattle.std.proofs.lemmas.List.{drop-drop, drop_at, length-replicate, take-append-drop, take_all, take_at}
+pub use Rattle.std.specs.List.{AllByRecursion, concat}
 pub use Rattle.mx_word.proofs.Comparisons.{all-tests, both-tests, both-true, is-least, is-less, not-less, other-number, other-test, same-number}
-pub use Rattle.mx_word.proofs.Ranges.{bytes-append, bytes-behind, bytes-each, bytes-front, drop-four, take-four}
+pub use Rattle.mx_word.proofs.Ranges.{bytes-append, bytes-behind, bytes-front, drop-four, take-four}
 pub use Rattle.mx_word.proofs.Tetras.{eight-bytes, eight-fit, four-bytes, four-fit, octa-back, tetra-back, top-byte}
 pub use Rattle.mx_word.specs.Words.{octa_from_bytes, octa_to_bytes, tetra_from_bytes, tetra_to_bytes}
 pub use Rattle.mx_mmo.specs.FaultTable.{EndsWith, FaultOf, HasFields, ItemFault, MayStand, TetraFault}

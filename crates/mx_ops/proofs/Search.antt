@@ -1,14 +1,11 @@
 -- What a binary search in a rising list finds, against a look-up in a table that lists the same names.
 use Rattle.std.proofs.Common.{ℕ, zero, suc, add-one, ◌⊎◌, ⊎_elim, ◌+◌, ◌<◌, ◌≤◌, ◌≡◌, Bool, true, false, not, ◌&&◌, ◌||◌, cond, List, [], ◌∷◌, map, length, get_or, Option, Some, None, Result, Ok, Err, MatchResult, refl, sym, ◌∙◌, ap, arith, bytes_eq, nat_cmp, is_lt, is_eq}
-use Rattle.std.specs.Cmp.Lexicographic.{slice_cmp}
+use Rattle.mx_ops.proofs.Words.{slice_cmp, and_parts, cases_lt, not-true, bytes_eq-Decides, first_of}
 use Rattle.std.specs.List.Sorted.{IsBinarySearchResult, IsSearchInRange}
 use Rattle.std.proofs.lemmas.List.{get_or-map}
 use Rattle.std.proofs.lemmas.List.Sorted.{searchable_from_sorted}
 use Rattle.std.proofs.lemmas.Cmp.{nat_list_cmp_total}
-use Rattle.std.proofs.lemmas.Bool.{and_parts, cases_lt, not-true}
 use Rattle.std.proofs.lemmas.Map.Text.{is_eq-slice_cmp}
-use Rattle.std.proofs.lemmas.Slice.Eq.{bytes_eq-Decides}
-use Rattle.mx_ops.specs.Tables.{first_of}
 
 -- no name is above the next one
 abbrev pub rising : {X : Type 0} → (X → List ℕ) → List X → Bool

@@ -1,7 +1,5 @@
 use Rattle.std.proofs.Common.{sym, ◌∙◌, ◌≡◌, ◌≢◌, ◌<◌, ◌≤◌, ℕ, List, length, Ok, Err, inl, inr, Result, IfOk, OnOk}
-use Rattle.std.specs.List.{concat}
-use Rattle.std.proofs.lemmas.Bool.{cases_lt}
-use Rattle.mx_mmo.proofs.Words.{limit, AreBytes, Left, SpellsObject, object_of, passed_limit, Object, MmoFault, OutOfMemory}
+use Rattle.mx_mmo.proofs.Words.{concat, cases_lt, limit, AreBytes, Left, SpellsObject, object_of, passed_limit, Object, MmoFault, OutOfMemory}
 use Rattle.mx_mmo.proofs.Complete.{object-only}
 use Rattle.mx_mmo.proofs.Sound.{object-stands}
 use Rattle.mx_mmo.proofs.whole.read.Goals as goal
