@@ -1,17 +1,8 @@
 -- The shapes and kinds of the codes, by computing.
-use Rattle.std.proofs.Common.{◌≡◌, ℕ, ◌+◌, ◌<◌, ◌≤◌, length, List, Bool, true, false, not, ◌&&◌, ◌||◌, cond, [], ◌∷◌, map, refl, ◌⊎◌, inl, inr}
-use Rattle.std.specs.Prelude.{nat_lt, nat_le}
-use Rattle.std.specs.List.{list_all, range_with_len}
-use Rattle.std.proofs.lemmas.Bool.{and_parts}
+use Rattle.std.proofs.Common.{◌≡◌, ℕ, ◌+◌, ◌<◌, ◌≤◌, length, List, Bool, true, false, not, ◌&&◌, ◌||◌, cond, [], ◌∷◌, map, refl, ◌⊎◌, inl, inr, nat_lt, nat_le}
+use Rattle.mx_again.proofs.Words.{list_all, range_with_len, and_parts, opcode_rows, opcode_names, opcode_name, opcode_kinds, opcode_kind, is_immediate, is_backward, shape_spans, shapes_of, Shape, Three, Regs, Round, Neg, Rel, Mem, MemPure, Wyde, Jump, Put, Get, Pop, One, Save, Unsave, Free, takes_byte, shape, lowest_code}
 use Rattle.mx_word.specs.Kinds.{is_name_byte}
 use Rattle.mx_word.proofs.Comparisons.{is-less, is-least}
-use Rattle.mx_ops.specs.Opcodes.{opcode_rows, opcode_names, opcode_name, opcode_kinds, opcode_kind, is_immediate, is_backward}
-use Rattle.mx_ops.specs.Shapes.{shape_spans, shapes_of}
-use Rattle.mx_ops.specs.declared.op.Shape.{Shape}
-use Rattle.mx_ops.specs.declared.op.Shape.TheVariants.{Three, Regs, Round, Neg, Rel, Mem, MemPure, Wyde, Jump, Put, Get, Pop, One, Save, Unsave, Free}
-use Rattle.mx_stmt.specs.Forms.{takes_byte}
-use Rattle.mx_text.specs.Instructions.{shape}
-use Rattle.mx_text.specs.Reading.{lowest_code}
 use Rattle.mx_text.proofs.SecondCodes.{each}
 
 -- whether a shape may be that of a code of this name: an immediate one, or one for a backward address
@@ -42,20 +33,7 @@ is_relative shape = false
 pub by-relative : (s : Shape) → (is_relative s ≡ false) ⊎ ((s ≡ Rel) ⊎ (s ≡ Jump))
 by-relative Rel = inr (inl refl)
 by-relative Jump = inr (inr refl)
-by-relative Three = inl refl
-by-relative Regs = inl refl
-by-relative Round = inl refl
-by-relative Neg = inl refl
-by-relative Mem = inl refl
-by-relative MemPure = inl refl
-by-relative Wyde = inl refl
-by-relative Put = inl refl
-by-relative Get = inl refl
-by-relative Pop = inl refl
-by-relative One = inl refl
-by-relative Save = inl refl
-by-relative Unsave = inl refl
-by-relative Free = inl refl
+by-relative s = inl refl
 
 -- whether the rounding mode of the lowest code goes before a byte, where the code is immediate
 abbrev pub rounds_byte : Shape → Bool → ℕ → Bool

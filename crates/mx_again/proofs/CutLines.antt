@@ -1,14 +1,9 @@
 -- A line of a blank, a name, a blank and a plain operand field is cut to one statement.
 use Rattle.std.proofs.Common.{◌≡◌, ℕ, ◌+◌, ◌<◌, ◌≤◌, true, false, List, [], ◌∷◌, ◌++◌, length, drop, None, Some, Ok, refl, sym, ap, ◌∙◌, arith, subst, append-nil, append_assoc, length-append}
-use Rattle.std.specs.List.{list_all, slice_range}
+use Rattle.mx_again.proofs.Words.{list_all, slice_range, and_parts, nat_tests, Cut, cuts_from, begins, is_other, IsField, Operands, Statement, StatementOf, Fields, fields_of}
 use Rattle.std.proofs.lemmas.Grind.{common_steps}
-use Rattle.std.proofs.lemmas.Bool.{and_parts}
-use Rattle.std.proofs.lemmas.Bool.Decides.{nat_tests}
-use Rattle.mx_line.specs.declared.cutter.Cut.{Cut}
 use Rattle.mx_line.specs.Bytes.{is_blank, is_name_byte}
 use Rattle.mx_line.specs.Spans.{span}
-use Rattle.mx_line.specs.Cutting.{cuts_from}
-use Rattle.mx_line.specs.Statements.{begins, is_other, IsField, Operands, Statement, StatementOf}
 use Rattle.mx_line.specs.Statements.IsField.{empty, byte_first}
 use Rattle.mx_line.specs.Statements.Next.{nothing_more}
 use Rattle.mx_line.specs.Statements.Operands.{field}
@@ -17,25 +12,18 @@ use Rattle.mx_line.specs.Statements.Statement.{comment, unlabelled}
 use Rattle.mx_line.specs.Statements.StatementOf.{later, first}
 use Rattle.mx_line.specs.Statements.Statements.{none, next}
 use Rattle.mx_line.proofs.ListLaws.{no-other-list}
-use Rattle.mx_stmt.specs.Reading.{Fields, fields_of}
 
 pub is-field : (text : List ℕ) → list_all is_other text ≡ true → IsField text
 is-field [] all = empty
 is-field (b ∷ bs) all = let p = and_parts (is_other b) (list_all is_other bs) all in byte_first b bs p.0 (is-field bs p.1)
 
-other-no-blank : (b : ℕ) → is_other b ≡ true → is_blank b ≡ false
-other-no-blank b is = grind (arith, nat_tests)
-
-name-no-blank : (b : ℕ) → is_name_byte b ≡ true → is_blank b ≡ false
-name-no-blank b is = grind (arith, nat_tests)
-
 pub field-begins : (text : List ℕ) → list_all is_other text ≡ true → begins is_blank text ≡ false
 field-begins [] all = refl
-field-begins (b ∷ bs) all = other-no-blank b (and_parts (is_other b) (list_all is_other bs) all).0
+field-begins (b ∷ bs) all = grind (arith, nat_tests, (and_parts (is_other b) (list_all is_other bs) all).0)
 
 pub name-begins : (name rest : List ℕ) → 0 < length name → list_all is_name_byte name ≡ true → begins is_blank (name ++ rest) ≡ false
 name-begins [] rest some all = absurd (omega (arith, some))
-name-begins (b ∷ bs) rest some all = name-no-blank b (and_parts (is_name_byte b) (list_all is_name_byte bs) all).0
+name-begins (b ∷ bs) rest some all = grind (arith, nat_tests, (and_parts (is_name_byte b) (list_all is_name_byte bs) all).0)
 
 -- the parts of the line
 name-part : (name rest : List ℕ) → slice_range (32 ∷ (name ++ rest)) 1 (1 + length name) ≡ name

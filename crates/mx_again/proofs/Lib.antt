@@ -11,3 +11,4 @@ pub mod PlacedTetras
 pub mod ShownAgain
 pub mod ShownLines
 pub mod Rows
+pub mod Words

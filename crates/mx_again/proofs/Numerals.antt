@@ -1,17 +1,8 @@
 -- The digits that are shown are constants that are read as the same numbers.
 use Rattle.std.proofs.Common.{◌≡◌, ℕ, ◌+◌, ◌*◌, ◌^◌, ◌<◌, true, List, [], ◌∷◌, fold, refl, ap, ◌∙◌, arith, subst}
-use Rattle.std.specs.Fmt.{decimal}
-use Rattle.std.specs.Char.{digit_value}
-use Rattle.std.specs.List.{list_all}
-use Rattle.std.specs.Str.Parse.{AllDigits, digits_value_after}
-use Rattle.std.proofs.lemmas.Bool.Decides.{nat_tests}
-use Rattle.std.proofs.lemmas.Fmt.{decimal_is_IsNumeral}
+use Rattle.mx_again.proofs.Words.{decimal, digit_value, list_all, AllDigits, digits_value_after, nat_tests, decimal_is_IsNumeral, is_digit, is_hexadecimal, Constant, hex_digits, hex_text, hex-numeral, hex-value}
 use Rattle.mx_expr.specs.Bytes as expr
-use Rattle.mx_expr.specs.Bytes.{is_digit, is_hexadecimal}
-use Rattle.mx_expr.specs.Spelling.{Constant}
 use Rattle.mx_expr.specs.Spelling.Constant.{decimal as decimal_digits, hexadecimal as hexadecimal_digits}
-use Rattle.mx_text.specs.Numbers.{hex_digits, hex_text}
-use Rattle.mx_text.proofs.HexValues.{hex-numeral, hex-value}
 
 decimal-digit : (b : ℕ) → digit_value b < 10 → is_digit b ≡ true
 decimal-digit b lt = grind (arith, nat_tests)

@@ -1,15 +1,8 @@
 -- Operands are read one after another, each from its first byte to the comma behind it or to the end.
-use Rattle.std.proofs.Common.{◌≡◌, ℕ, ◌+◌, ◌-◌, ◌*◌, ◌^◌, ◌<◌, ◌≤◌, Bool, true, false, ◌&&◌, List, [], ◌∷◌, ◌++◌, Some, None, Ok, refl, sym, ap, ◌∙◌, arith, subst, append_assoc, fold, length, nat_eq}
-use Rattle.std.specs.Prelude.{nat_le}
-use Rattle.std.specs.List.{join_with_byte, list_all}
-use Rattle.std.proofs.lemmas.Bool.{and_parts}
-use Rattle.std.proofs.lemmas.Bool.Decides.{nat_tests}
-use Rattle.mx_expr.specs.declared.tree.UnOp.TheVariants.{Register}
-use Rattle.mx_expr.specs.Tree.{Tree, number, unary}
-use Rattle.mx_expr.specs.Bytes.{is_digit, is_hexadecimal, digit_value}
+use Rattle.std.proofs.Common.{◌≡◌, ℕ, ◌+◌, ◌-◌, ◌*◌, ◌^◌, ◌<◌, ◌≤◌, Bool, true, false, ◌&&◌, List, [], ◌∷◌, ◌++◌, Some, None, Ok, refl, sym, ap, ◌∙◌, arith, subst, append_assoc, fold, length, nat_eq, nat_le}
+use Rattle.mx_again.proofs.Words.{join_with_byte, list_all, and_parts, nat_tests, Register, Tree, number, unary, is_digit, is_hexadecimal, Waiting, sign, Mode, operand, too_deep, passed_bound, next_reading, with_strong, within, step, steps, reading_end, start, Constant, digits_value}
+use Rattle.mx_expr.specs.Bytes.{digit_value}
 use Rattle.mx_expr.specs.Reading as reading
-use Rattle.mx_expr.specs.Reading.{Waiting, sign, Mode, operand, too_deep, passed_bound, next_reading, with_strong, within, step, steps, reading_end, start}
-use Rattle.mx_expr.specs.Spelling.{Constant, digits_value}
 use Rattle.mx_expr.specs.Spelling.Constant.{decimal as decimal_digits, hexadecimal as hexadecimal_digits}
 use Rattle.mx_expr.proofs.Moves.{st, ends, goes-beyond, finish-ends}
 use Rattle.mx_expr.proofs.Stops.{steps-on, steps-first, steps-none}
@@ -176,13 +169,12 @@ comma-read mode rest e done ending =
 behind : (t : List ℕ) (ts : List (List ℕ)) (e : Tree) (es done : List Tree) → Each IsTaken (t ∷ ts) (e ∷ es) →
     reading_end (steps (st operand [] 0 done) (join_with_byte 44 (t ∷ ts))) ≡ Ok (done ++ e ∷ es)
 behind t [] e [] done are = let q = are.0 done in ap reading_end q.read ∙ finish-ends q.mode q.rest (e, []) done q.ending
-behind t [] e (f ∷ es) done are = absurd are.1
-behind t (u ∷ ts) e [] done are = absurd are.1
 behind t (u ∷ ts) e (f ∷ es) done are =
     let q = are.0 done in
     ap reading_end (steps-on _ _ t (44 ∷ join_with_byte 44 (u ∷ ts)) q.read ∙ steps-first _ _ 44 (join_with_byte 44 (u ∷ ts)) (comma-read q.mode q.rest e done q.ending))
     ∙ behind u ts f es (done ++ e ∷ []) are.1
     ∙ ap Ok (append_assoc done (e ∷ []) (f ∷ es))
+behind t ts e es done are = absurd are.1
 
 field-read : (field : List ℕ) (list : List Tree) → reading_end (steps start field) ≡ Ok list → reading.reading field ≡ Ok list
 field-read [] list is = absurd (cc (ap reading_end (steps-none start), is))

@@ -1,18 +1,9 @@
 -- The operands that are shown, as trees.
 use Rattle.std.proofs.Common.{◌≡◌, ℕ, ◌<◌, ◌≤◌, ◌^◌, Bool, true, false, cond, List, [], ◌∷◌, length, map, Ok, refl, arith}
-use Rattle.std.specs.Fmt.{decimal}
+use Rattle.mx_again.proofs.Words.{decimal, opcode_kind, is_immediate, is_backward, Shape, Three, Regs, Round, Neg, Rel, Mem, MemPure, Wyde, Jump, Put, Get, Pop, One, Save, Unsave, Free, Register, Tree, number, unary, reading, Spells, Faultless, hex_text, field_code, field_x, field_y, field_z, field_yz, field_xyz, shape, target, last, operand_text, operands, operands_text, shown_operands}
 use Rattle.std.proofs.Math.Nat.{mod-lt}
-use Rattle.mx_ops.specs.Opcodes.{opcode_kind, is_immediate, is_backward}
-use Rattle.mx_ops.specs.declared.op.Shape.{Shape}
-use Rattle.mx_ops.specs.declared.op.Shape.TheVariants.{Three, Regs, Round, Neg, Rel, Mem, MemPure, Wyde, Jump, Put, Get, Pop, One, Save, Unsave, Free}
-use Rattle.mx_expr.specs.declared.tree.UnOp.TheVariants.{Register}
-use Rattle.mx_expr.specs.Tree.{Tree, number, unary}
-use Rattle.mx_expr.specs.Reading.{reading}
-use Rattle.mx_expr.specs.Spelling.{Spells, Faultless}
 use Rattle.mx_expr.proofs.Exact.{reading-ok}
 use Rattle.mx_expr.proofs.Fields.{one-list}
-use Rattle.mx_text.specs.Numbers.{hex_text}
-use Rattle.mx_text.specs.Instructions.{field_code, field_x, field_y, field_z, field_yz, field_xyz, shape, target, last, operand_text, operands, operands_text, shown_operands}
 use Rattle.mx_again.proofs.Numerals.{decimal-constant, hexadecimal-constant}
 use Rattle.mx_again.proofs.OperandLists.{IsTaken, Each, constant-taken, register-taken, list-read}
 use Rattle.mx_again.proofs.Parts.{x-below, y-below, z-below, yz-below, xyz-below}
@@ -83,45 +74,27 @@ module _ (R : List ℕ → Tree → Type 0) (of-number : (n : ℕ) → n < 2 ^ 6
   number-yz : R (decimal (field_yz word)) (number (field_yz word))
   number-yz = of-number (field_yz word) (omega (arith, yz-below word))
 
-  number-xyz : R (decimal (field_xyz word)) (number (field_xyz word))
-  number-xyz = of-number (field_xyz word) (omega (arith, xyz-below word))
-
   pub each-shown : (s : Shape) → Each R (map operand_text (operands s word pc)) (trees s word pc)
-  each-shown Three = (x, (y, (z, tt)))
   each-shown Regs = (x, (y, (register-z, tt)))
   each-shown Round = (x, (number-y, (z, tt)))
   each-shown Neg = (x, (number-y, (z, tt)))
   each-shown Rel = (x, (of-target (field_yz word) (2 ^ 16), tt))
-  each-shown Mem = (x, (y, (z, tt)))
   each-shown MemPure = (number-x, (y, (z, tt)))
   each-shown Wyde = (x, (number-yz, tt))
   each-shown Jump = (of-target (field_xyz word) (2 ^ 24), tt)
   each-shown Put = (number-x, (z, tt))
   each-shown Get = (x, (number-z, tt))
   each-shown Pop = (number-x, (number-yz, tt))
-  each-shown One = (number-xyz, tt)
+  each-shown One = ((of-number (field_xyz word) (omega (arith, xyz-below word))), tt)
   each-shown Save = (x, (number-z, tt))
   each-shown Unsave = (number-x, (register-z, tt))
   each-shown Free = (number-x, (number-y, (number-z, tt)))
+  each-shown s = (x, (y, (z, tt)))
 
 -- There are one to three operands.
 pub few : (s : Shape) (word pc : ℕ) → (0 < length (trees s word pc)) × (length (trees s word pc) ≤ 3)
 few Three word pc = (omega arith, omega arith)
-few Regs word pc = (omega arith, omega arith)
-few Round word pc = (omega arith, omega arith)
-few Neg word pc = (omega arith, omega arith)
-few Rel word pc = (omega arith, omega arith)
-few Mem word pc = (omega arith, omega arith)
-few MemPure word pc = (omega arith, omega arith)
-few Wyde word pc = (omega arith, omega arith)
-few Jump word pc = (omega arith, omega arith)
-few Put word pc = (omega arith, omega arith)
-few Get word pc = (omega arith, omega arith)
-few Pop word pc = (omega arith, omega arith)
-few One word pc = (omega arith, omega arith)
-few Save word pc = (omega arith, omega arith)
-few Unsave word pc = (omega arith, omega arith)
-few Free word pc = (omega arith, omega arith)
+few s word pc = (omega arith, omega arith)
 
 number-taken : (n : ℕ) → n < 2 ^ 64 → IsTaken (decimal n) (number n)
 number-taken n lt = constant-taken (decimal n) n lt (decimal-constant n lt)

@@ -1,7 +1,6 @@
 -- The parts of a tetra, and the tetra of its parts.
 use Rattle.std.proofs.Common.{◌≡◌, ℕ, ◌-◌, ◌*◌, ◌^◌, ◌<◌, arith}
-use Rattle.mx_stmt.specs.Forms.{tetra_xyz, tetra_wyde, tetra_whole}
-use Rattle.mx_text.specs.Instructions.{field_code, field_x, field_y, field_z, field_yz, field_xyz}
+use Rattle.mx_again.proofs.Words.{tetra_xyz, tetra_wyde, tetra_whole, field_code, field_x, field_y, field_z, field_yz, field_xyz}
 
 pub code-below : (word : ℕ) → word < 2 ^ 32 → field_code word < 256
 code-below word lt = omega arith

@@ -1,15 +1,8 @@
 -- The tetra of a statement at its place.
 use Rattle.std.proofs.Common.{◌≡◌, ℕ, ◌+◌, ◌≤◌, Bool, true, false, cond, [], Option, Ok, Err, refl, sym, ap}
-use Rattle.std.specs.Result.{IsOk}
-use Rattle.std.proofs.lemmas.Bool.{ltb-false, le-ltb}
+use Rattle.mx_again.proofs.Words.{IsOk, ltb-false, le-ltb, Placed, Label, Answer, and_then, Known, plain_tetra, with_tetra}
 use Rattle.mx_word.specs.Words.{tetra_to_bytes}
-use Rattle.mx_stmt.specs.declared.placed.Placed.{Placed}
-use Rattle.mx_stmt.specs.declared.statement.Label.{Label}
 use Rattle.mx_stmt.specs.declared.faults.StmtFault.{StmtFault}
-use Rattle.mx_stmt.specs.Steps.{Answer, and_then}
-use Rattle.mx_stmt.specs.Operands.{Known}
-use Rattle.mx_stmt.specs.Forms.{plain_tetra}
-use Rattle.mx_stmt.specs.Encoding.{with_tetra}
 use Rattle.mx_again.proofs.RelativeForms.{highest}
 
 -- the word is placed, with nothing that waits

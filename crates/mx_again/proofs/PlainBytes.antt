@@ -1,18 +1,7 @@
 -- The bytes of shown operands are those of an operand field with no string, and they are few.
 use Rattle.std.proofs.Common.{◌≡◌, ℕ, ◌*◌, ◌^◌, ◌<◌, ◌≤◌, true, List, [], ◌∷◌, length, map, refl, ◌∙◌, arith, length-append}
-use Rattle.std.specs.Fmt.{decimal}
-use Rattle.std.specs.Char.{digit_value}
-use Rattle.std.specs.List.{join_with_byte, list_all}
-use Rattle.std.specs.Str.Parse.{AllDigits}
-use Rattle.std.proofs.lemmas.Bool.Decides.{nat_tests}
-use Rattle.std.proofs.lemmas.Fmt.{decimal_is_IsNumeral, length-decimal-le}
+use Rattle.mx_again.proofs.Words.{decimal, digit_value, join_with_byte, list_all, AllDigits, nat_tests, decimal_is_IsNumeral, length-decimal-le, Tree, number, Shape, is_other, hex_digits, hex_text, field_code, operand_text, operands, operands_text, shape, shown_operands, hex-numeral}
 use Rattle.std.proofs.lemmas.List.Folds.{list_all-append}
-use Rattle.mx_expr.specs.Tree.{Tree, number}
-use Rattle.mx_ops.specs.declared.op.Shape.{Shape}
-use Rattle.mx_line.specs.Statements.{is_other}
-use Rattle.mx_text.specs.Numbers.{hex_digits, hex_text}
-use Rattle.mx_text.specs.Instructions.{field_code, operand_text, operands, operands_text, shape, shown_operands}
-use Rattle.mx_text.proofs.HexValues.{hex-numeral}
 use Rattle.mx_again.proofs.OperandLists.{Each}
 use Rattle.mx_again.proofs.OperandTrees.{register, trees, each-shown, few}
 
@@ -47,18 +36,16 @@ address-plain n lt =
 
 joined-other : (ts : List (List ℕ)) (es : List Tree) → Each IsPlain ts es → list_all is_other (join_with_byte 44 ts) ≡ true
 joined-other [] [] are = refl
-joined-other [] (e ∷ es) are = absurd are
-joined-other (t ∷ ts) [] are = absurd are
 joined-other (t ∷ []) (e ∷ es) are = are.0.0
 joined-other (t ∷ u ∷ ts) (e ∷ es) are =
     list_all-append is_other t (44 ∷ join_with_byte 44 (u ∷ ts)) ∙ rw (are.0.0, joined-other (u ∷ ts) es are.1) refl
+joined-other ts es are = absurd are
 
 joined-length : (ts : List (List ℕ)) (es : List Tree) → Each IsPlain ts es → length (join_with_byte 44 ts) ≤ 22 * length es
 joined-length [] [] are = omega arith
-joined-length [] (e ∷ es) are = absurd are
-joined-length (t ∷ ts) [] are = absurd are
 joined-length (t ∷ []) (e ∷ es) are = omega (arith, are.0.1)
 joined-length (t ∷ u ∷ ts) (e ∷ es) are = omega (arith, are.0.1, joined-length (u ∷ ts) es are.1, length-append t (44 ∷ join_with_byte 44 (u ∷ ts)))
+joined-length ts es are = absurd are
 
 module _ (word pc : ℕ) where
   each-plain : (s : Shape) → Each IsPlain (map operand_text (operands s word pc)) (trees s word pc)

@@ -1,16 +1,7 @@
 -- The operands of an instruction with no relative address give its tetra.
 use Rattle.std.proofs.Common.{◌≡◌, ℕ, ◌+◌, ◌-◌, ◌*◌, ◌^◌, ◌<◌, Bool, true, false, not, ◌&&◌, ◌||◌, cond, Ok, refl, ap, ◌∙◌, arith}
-use Rattle.std.proofs.lemmas.Bool.{lt-ltb, le-leb}
+use Rattle.mx_again.proofs.Words.{lt-ltb, le-leb, number, opcode_kind, is_immediate, is_backward, Shape, Three, Regs, Round, Neg, Rel, Mem, MemPure, Wyde, Jump, Put, Get, Pop, One, Save, Unsave, Free, Answer, and_then, Known, no_targets, register_at, field_at, register_or_byte_at, register_or_byte, plain_tetra, last_word, last_form, last_register, last_two, takes_byte, wyde_form, whole_form, byte_form, free_at, free_form, form, tetra_xyz, tetra_wyde, tetra_whole, field_code, field_x, field_y, field_z, field_yz, field_xyz, hides_y}
 use Rattle.mx_word.specs.declared.symbols.Value.TheVariants.{Reg}
-use Rattle.mx_expr.specs.Tree.{number}
-use Rattle.mx_ops.specs.Opcodes.{opcode_kind, is_immediate, is_backward}
-use Rattle.mx_ops.specs.declared.op.Shape.{Shape}
-use Rattle.mx_ops.specs.declared.op.Shape.TheVariants.{Three, Regs, Round, Neg, Rel, Mem, MemPure, Wyde, Jump, Put, Get, Pop, One, Save, Unsave, Free}
-use Rattle.mx_stmt.specs.Steps.{Answer, and_then}
-use Rattle.mx_stmt.specs.Operands.{Known, no_targets, register_at, field_at, register_or_byte_at, register_or_byte}
-use Rattle.mx_stmt.specs.Forms.{plain_tetra, last_word, last_form, last_register, last_two, takes_byte, wyde_form, whole_form, byte_form, free_at, free_form, form, tetra_xyz, tetra_wyde, tetra_whole}
-use Rattle.mx_text.specs.Instructions.{field_code, field_x, field_y, field_z, field_yz, field_xyz}
-use Rattle.mx_text.specs.Reading.{hides_y}
 use Rattle.mx_again.proofs.OperandTrees.{register, either, trees}
 use Rattle.mx_again.proofs.Codes.{fits, rounds_byte, is_relative}
 use Rattle.mx_again.proofs.Parts.{x-below, y-below, z-below, yz-below, xyz-below, three-bytes, byte-and-wyde, one-number, no-y}
@@ -34,17 +25,11 @@ module _ (k : Known) where
   last-register : (code x y z : ℕ) → z < 256 → last_register k code x y (register z) ≡ plain_tetra (tetra_xyz code x y z)
   last-register code x y z lt = ap (λ a. and_then a (λ z. plain_tetra (tetra_xyz code x y z))) (register-read z lt)
 
-  last-either : (code x y z : ℕ) → z < 256 → last_form k code x y (register z) ≡ plain_tetra (tetra_xyz code x y z)
-  last-either code x y z lt = ap (λ a. and_then a (λ z. plain_tetra (last_word code x y z))) (either-register z lt)
-
-  last-byte : (code x y z : ℕ) → z < 256 → last_form k code x y (number z) ≡ plain_tetra (tetra_xyz (code + 1) x y z)
-  last-byte code x y z lt = rw (lt-ltb z 256 lt) refl
-
   -- the last operand, and the code by it
   last-read : (i : Bool) (low code x y z : ℕ) → z < 256 → cond i (low + 1) low ≡ code →
       last_form k low x y (either i z) ≡ plain_tetra (tetra_xyz code x y z)
-  last-read true low code x y z lt is = last-byte low x y z lt ∙ ap (λ c. plain_tetra (tetra_xyz c x y z)) is
-  last-read false low code x y z lt is = last-either low x y z lt ∙ ap (λ c. plain_tetra (tetra_xyz c x y z)) is
+  last-read true low code x y z lt is = (rw (lt-ltb z 256 lt) refl) ∙ ap (λ c. plain_tetra (tetra_xyz c x y z)) is
+  last-read false low code x y z lt is = (ap (λ a. and_then a (λ z. plain_tetra (last_word low x y z))) (either-register z lt)) ∙ ap (λ c. plain_tetra (tetra_xyz c x y z)) is
 
   two-read : (i : Bool) (low code x y z : ℕ) → y < 256 → z < 256 → cond i (low + 1) low ≡ code →
       last_two k low x (register y) (either i z) ≡ plain_tetra (tetra_xyz code x y z)
@@ -84,9 +69,8 @@ by-immediate true false low code fit is = is
 by-immediate false false low code fit is = is
 
 by-neither : (immediate backward : Bool) (low code : ℕ) → (not immediate && not backward) ≡ true → code_by immediate backward low ≡ code → low ≡ code
-by-neither true backward low code fit is = absurd (cc)
-by-neither false true low code fit is = absurd (cc)
 by-neither false false low code fit is = is
+by-neither immediate backward low code fit is = absurd (cc)
 
 -- the word that a shape shows
 abbrev pub word_by : Shape → ℕ → ℕ

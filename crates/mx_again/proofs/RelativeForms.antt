@@ -1,13 +1,6 @@
 -- The shown target of a relative address gives its field again.
-use Rattle.std.proofs.Common.{◌≡◌, ℕ, ◌+◌, ◌-◌, ◌*◌, ◌/◌, ◌%◌, ◌^◌, ◌<◌, ◌≤◌, Bool, true, false, cond, Ok, refl, ap, ◌∙◌, arith, ⊎_elim}
-use Rattle.std.proofs.lemmas.Bool.{lt-ltb, le-leb, le-ltb, cases_lt}
-use Rattle.std.proofs.lemmas.Bool.Decides.{nat_tests}
-use Rattle.std.specs.Prelude.{nat_le}
-use Rattle.mx_ops.specs.declared.op.Shape.TheVariants.{Rel, Jump}
-use Rattle.mx_stmt.specs.Steps.{and_then}
-use Rattle.mx_stmt.specs.Operands.{Known, no_targets}
-use Rattle.mx_stmt.specs.Forms.{plain_tetra, forward_word, backward_word, relative_word, form, tetra_wyde, tetra_whole}
-use Rattle.mx_text.specs.Instructions.{field_code, field_x, field_yz, field_xyz, target}
+use Rattle.std.proofs.Common.{◌≡◌, ℕ, ◌+◌, ◌-◌, ◌*◌, ◌/◌, ◌%◌, ◌^◌, ◌<◌, ◌≤◌, Bool, true, false, cond, Ok, refl, ap, ◌∙◌, arith, ⊎_elim, nat_le}
+use Rattle.mx_again.proofs.Words.{lt-ltb, le-leb, le-ltb, cases_lt, nat_tests, Rel, Jump, and_then, Known, no_targets, plain_tetra, forward_word, backward_word, relative_word, form, tetra_wyde, tetra_whole, field_code, field_x, field_yz, field_xyz, target}
 use Rattle.mx_again.proofs.OperandTrees.{trees}
 use Rattle.mx_again.proofs.Parts.{x-below}
 use Rattle.mx_again.proofs.PlainForms.{behind-register}

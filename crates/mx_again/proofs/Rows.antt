@@ -1,22 +1,9 @@
 -- Worked rows: a line, its operands as they are read, and the bytes that they give.
 use Rattle.std.proofs.Common.{◌≡◌, ℕ, List, [], ◌∷◌, codes, None, Ok, Err, refl}
-use Rattle.std.specs.Fmt.{digits}
-use Rattle.mx_expr.specs.declared.tree.UnOp.TheVariants.{Register}
-use Rattle.mx_expr.specs.Tree.{Tree, number, unary}
-use Rattle.mx_expr.specs.Reading.{reading, steps}
-use Rattle.mx_ops.specs.Opcodes.{opcode_rows, opcode_names, opcode_name, opcode_kinds, opcode_kind}
-use Rattle.mx_ops.specs.Shapes.{shape_spans, shapes_of}
-use Rattle.mx_ops.specs.declared.op.Op.TheVariants.{Code}
+use Rattle.mx_again.proofs.Words.{digits, Register, Tree, number, unary, reading, steps, opcode_rows, opcode_names, opcode_name, opcode_kinds, opcode_kind, shape_spans, shapes_of, Code, Placed, Answer, no_targets, encoding, hex_digits, shown_operands, operands_text, shown_line}
 use Rattle.mx_names.specs.Names.{start}
 use Rattle.mx_stmt.specs.declared.placed.Effect.TheVariants.{Plain}
-use Rattle.mx_stmt.specs.declared.placed.Placed.{Placed}
 use Rattle.mx_stmt.specs.declared.faults.StmtFault.TheVariants.{TooFar}
-use Rattle.mx_stmt.specs.Steps.{Answer}
-use Rattle.mx_stmt.specs.Operands.{no_targets}
-use Rattle.mx_stmt.specs.Encoding.{encoding}
-use Rattle.mx_text.specs.Numbers.{hex_digits}
-use Rattle.mx_text.specs.Instructions.{shown_operands, operands_text}
-use Rattle.mx_again.specs.ShownStatements.{shown_line}
 
 -- what a statement at a place comes to, with no symbols and no allocated register
 abbrev encoded : ℕ → ℕ → List Tree → Answer Placed

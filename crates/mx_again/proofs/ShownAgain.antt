@@ -1,22 +1,8 @@
 -- A text of an instruction is assembled to the tetra that it shows.
 use Rattle.std.proofs.Common.{◌≡◌, ◌↔◌, ℕ, ◌+◌, ◌%◌, ◌^◌, ◌<◌, ◌≤◌, Bool, true, false, not, cond, Option, None, Some, Ok, Err, refl, sym, ap, ◌∙◌, arith, subst, ⊎_elim}
-use Rattle.std.specs.Result.{IsOk}
-use Rattle.mx_ops.specs.Opcodes.{opcode_kind, is_backward, is_immediate, operation_of, opcode_name}
+use Rattle.mx_again.proofs.Words.{IsOk, opcode_kind, is_backward, is_immediate, operation_of, opcode_name, Code, Shape, Three, Regs, Round, Neg, Rel, Mem, MemPure, Wyde, Jump, Put, Get, Pop, One, Save, Unsave, Free, Placed, Label, Answer, and_then, Known, no_targets, plain_tetra, relative_word, form, form_by, tetra_wyde, tetra_whole, StatementTree, alignment, known_at_place, with_tetra, op_form, encoding, IsRead, operation_with, field_code, field_x, field_yz, field_xyz, shape, target, lowest_code, shown_fields, IsShownPart, TargetStays, IsPlaceable}
 use Rattle.mx_ops.specs.declared.op.Op.{Op}
-use Rattle.mx_ops.specs.declared.op.Op.TheVariants.{Code}
-use Rattle.mx_ops.specs.declared.op.Shape.{Shape}
-use Rattle.mx_ops.specs.declared.op.Shape.TheVariants.{Three, Regs, Round, Neg, Rel, Mem, MemPure, Wyde, Jump, Put, Get, Pop, One, Save, Unsave, Free}
-use Rattle.mx_stmt.specs.declared.placed.Placed.{Placed}
-use Rattle.mx_stmt.specs.declared.statement.Label.{Label}
-use Rattle.mx_stmt.specs.Steps.{Answer, and_then}
-use Rattle.mx_stmt.specs.Operands.{Known, no_targets}
-use Rattle.mx_stmt.specs.Forms.{plain_tetra, relative_word, form, form_by, tetra_wyde, tetra_whole}
-use Rattle.mx_stmt.specs.Encoding.{StatementTree, alignment, known_at_place, with_tetra, op_form, encoding}
-use Rattle.mx_stmt.specs.Reading.{IsRead, operation_with}
-use Rattle.mx_text.specs.Instructions.{field_code, field_x, field_yz, field_xyz, shape, target}
-use Rattle.mx_text.specs.Reading.{lowest_code}
 use Rattle.mx_text.proofs.LowestCodes.{name-found}
-use Rattle.mx_again.specs.ShownStatements.{shown_fields, IsShownPart, TargetStays, IsPlaceable}
 use Rattle.mx_again.proofs.Parts.{code-below, yz-below, xyz-below}
 use Rattle.mx_again.proofs.OperandTrees.{trees, shown-spelled, trees-shown}
 use Rattle.mx_again.proofs.Codes.{fits, rounds_byte, is_relative, by-relative, one-shape, shape-fits, byte-rounds, second-next}
@@ -41,20 +27,7 @@ jump-word false false word low fit is = omega (arith, is)
 no-target : (s : Shape) (word pc : ℕ) → is_relative s ≡ false → TargetStays s word pc
 no-target Rel word pc is = absurd (cc)
 no-target Jump word pc is = absurd (cc)
-no-target Three word pc is = tt
-no-target Regs word pc is = tt
-no-target Round word pc is = tt
-no-target Neg word pc is = tt
-no-target Mem word pc is = tt
-no-target MemPure word pc is = tt
-no-target Wyde word pc is = tt
-no-target Put word pc is = tt
-no-target Get word pc is = tt
-no-target Pop word pc is = tt
-no-target One word pc is = tt
-no-target Save word pc is = tt
-no-target Unsave word pc is = tt
-no-target Free word pc is = tt
+no-target s word pc is = tt
 
 module _ (k : Known) (line : ℕ) (label : Option Label) (word low : ℕ) where
   abbrev immediate : Bool

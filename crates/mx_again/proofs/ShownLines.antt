@@ -1,11 +1,6 @@
 -- A line with the text of an instruction is cut to one statement.
 use Rattle.std.proofs.Common.{◌≡◌, ℕ, ◌^◌, ◌<◌, List, [], ◌∷◌, ◌++◌, Ok, sym, arith, subst, append_assoc}
-use Rattle.mx_ops.specs.Opcodes.{opcode_name}
-use Rattle.mx_line.specs.declared.cutter.Cut.{Cut}
-use Rattle.mx_line.specs.Cutting.{cuts_from}
-use Rattle.mx_stmt.specs.Reading.{Fields, fields_of}
-use Rattle.mx_text.specs.Instructions.{field_code, shown_operands, operands_text}
-use Rattle.mx_again.specs.ShownStatements.{shown_fields, shown_line}
+use Rattle.mx_again.proofs.Words.{opcode_name, Cut, cuts_from, Fields, fields_of, field_code, shown_operands, operands_text, shown_fields, shown_line}
 use Rattle.mx_again.proofs.Parts.{code-below}
 use Rattle.mx_again.proofs.Codes.{code-named}
 use Rattle.mx_again.proofs.PlainBytes.{operands-other, operands-few}

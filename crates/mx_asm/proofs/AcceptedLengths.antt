@@ -1,25 +1,6 @@
 -- The object of a source that is accepted has at most the weights of its statements and 2^20 bytes.
-use Rattle.std.proofs.Common.{◌≡◌, ◌<◌, ◌≤◌, ℕ, ◌+◌, ◌/◌, ◌^◌, Bool, true, false, cond, nat_lt, List, [], ◌∷◌, ◌++◌, length, fold, Option, None, Some, Ok, Err, arith, refl}
-use Rattle.std.specs.List.{list_any}
-use Rattle.std.specs.Prelude.{nat_le}
-use Rattle.std.proofs.lemmas.Bool.Decides.{nat_tests}
-use Rattle.mx_line.specs.Lines.{lines_of}
-use Rattle.mx_word.specs.declared.symbols.Value.{Value}
-use Rattle.mx_word.specs.declared.symbols.Value.TheVariants.{Pure, Reg}
-use Rattle.mx_mmo.specs.Spelling.{written, ending}
-use Rattle.mx_stmt.specs.declared.placed.Placed.{Placed}
-use Rattle.mx_stmt.specs.Steps.{Answer}
-use Rattle.mx_stmt.specs.Fixes.{IsSound}
-use Rattle.mx_stmt.specs.Gregs.{lowest_of}
-use Rattle.mx_stmt.specs.Operands.{Known, no_targets}
-use Rattle.mx_stmt.specs.Encoding.{StatementTree, encoding}
-use Rattle.mx_stmt.proofs.SoundKnowledge.{sound-start}
-use Rattle.mx_asm.specs.declared.faults.AsmFault.{AsmFault}
-use Rattle.mx_asm.specs.declared.faults.AsmFault.TheVariants.{LocalAboveGlobals, SymbolsTooMany}
-use Rattle.mx_asm.specs.Entries.{statements_in, refusal_in, source_entries}
-use Rattle.mx_asm.specs.TwoPass.{Sight, nothing_known, known_after, sights_from, sights_of, final_known}
-use Rattle.mx_asm.specs.Refusal.{label_fault, fault_with, statement_fault, first_fault, first_undefined, locals, trie_limit, last_fault, end_fault, last_line, at_line, end_refusal, entries_refusal, refusal}
-use Rattle.mx_asm.specs.Emission.{emission, padded_trie}
+use Rattle.std.proofs.Common.{◌≡◌, ◌<◌, ◌≤◌, ℕ, ◌+◌, ◌/◌, ◌^◌, Bool, true, false, cond, nat_lt, List, [], ◌∷◌, ◌++◌, length, fold, Option, None, Some, Ok, Err, arith, refl, nat_le}
+use Rattle.mx_asm.proofs.Words.{list_any, nat_tests, lines_of, Value, Pure, Reg, written, ending, Placed, Answer, IsSound, lowest_of, Known, no_targets, StatementTree, encoding, sound-start, AsmFault, LocalAboveGlobals, SymbolsTooMany, statements_in, refusal_in, source_entries, Sight, nothing_known, known_after, sights_from, sights_of, final_known, label_fault, fault_with, statement_fault, first_fault, first_undefined, locals, trie_limit, last_fault, end_fault, last_line, at_line, end_refusal, entries_refusal, refusal, emission, padded_trie}
 use Rattle.mx_asm.proofs.Weights.{weights}
 use Rattle.mx_asm.proofs.OneStatement.{no-label-fault}
 use Rattle.mx_asm.proofs.EndWaits.{both-none}
@@ -46,19 +27,17 @@ gregs-few statements none = let low = (sound-end statements nothing_known [] non
 -- ---- the symbols
 
 not-long : (far long : Bool) → ◌≡◌ {A = Option AsmFault} (cond far (Some LocalAboveGlobals) (cond long (Some SymbolsTooMany) None)) None → long ≡ false
-not-long true long h = absurd (cc)
-not-long false true h = absurd (cc)
 not-long false false h = refl
+not-long far long h = absurd (cc)
 
 within-limit : (tetras : ℕ) → nat_lt trie_limit tetras ≡ false → tetras < 2 ^ 16
 within-limit tetras h = grind (arith, nat_tests)
 
 trie-by : (k : Known) (registers : List ℕ) (main : Option Value) → last_fault k registers main ≡ None → length (padded_trie k.names) / 4 < 2 ^ 16
-trie-by k registers None none = absurd (cc)
-trie-by k registers (Some (Reg r)) none = absurd (cc)
 trie-by k registers (Some (Pure main)) none =
     within-limit (length (padded_trie k.names) / 4)
     (not-long (list_any (λ reg. nat_le (lowest_of k.gregs) reg) registers) (nat_lt trie_limit (length (padded_trie k.names) / 4)) none)
+trie-by k registers main none = absurd (cc)
 
 no-fault : (line : ℕ) (fault : Option AsmFault) → at_line line fault ≡ None → fault ≡ None
 no-fault line None h = refl

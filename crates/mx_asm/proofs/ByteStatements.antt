@@ -1,12 +1,6 @@
 -- What holds of each statement of a source of bytes: names and labels are bytes, too.
 use Rattle.std.proofs.Common.{◌<◌, ◌^◌, List, [], ◌∷◌, Option, None, Some}
-use Rattle.std.specs.List.{AllByRecursion}
-use Rattle.mx_word.specs.Ranges.{AreBytes}
-use Rattle.mx_expr.specs.Tree.{Tree, number, name, back, ahead, here, unary, binary}
-use Rattle.mx_stmt.specs.declared.statement.Label.{Label}
-use Rattle.mx_stmt.specs.declared.statement.Label.TheVariants.{Name, Local}
-use Rattle.mx_stmt.specs.Encoding.{StatementTree}
-use Rattle.mx_asm.specs.Statements.{HasOctas, IsStatement}
+use Rattle.mx_asm.proofs.Words.{AllByRecursion, AreBytes, Tree, number, name, back, ahead, here, unary, binary, Label, Name, Local, StatementTree, HasOctas, IsStatement}
 
 -- the numbers of an operand are octas, and its names are bytes
 abbrev pub HasBytes : Tree → Type 0
@@ -33,12 +27,9 @@ pub record IsOfBytes (s : StatementTree) : Type 0 where
 
 pub has-octas : (e : Tree) → HasBytes e → HasOctas e
 has-octas (number n) h = h
-has-octas (name text) h = tt
-has-octas (back d) h = tt
-has-octas (ahead d) h = tt
-has-octas here h = tt
 has-octas (unary op e) h = has-octas e h
 has-octas (binary op l r) h = (has-octas l h.0, has-octas r h.1)
+has-octas e h = tt
 
 pub all-octas : (es : List Tree) → AllByRecursion HasBytes es → AllByRecursion HasOctas es
 all-octas [] h = tt

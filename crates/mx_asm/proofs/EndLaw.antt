@@ -1,34 +1,9 @@
 -- The end of a source in one pass is that of the two passes.
-use Rattle.std.proofs.Common.{◌≡◌, ℕ, suc, ◌+◌, ◌/◌, Bool, true, false, cond, nat_lt, nat_le, max, List, [], ◌∷◌, ◌++◌, length, Option, None, Some, Ok, Err, refl, ap, sym, ◌∙◌, arith}
-use Rattle.std.specs.Prelude.{◌||◌}
-use Rattle.std.specs.List.{list_any}
-use Rattle.std.proofs.lemmas.List.Folds.{list_any-append}
-use Rattle.std.proofs.lemmas.Bool.Decides.{nat_tests}
-use Rattle.mx_word.specs.declared.symbols.Value.{Value}
-use Rattle.mx_word.specs.declared.symbols.Value.TheVariants.{Pure, Reg}
-use Rattle.mx_word.specs.declared.waits.Wait.{Wait}
+use Rattle.std.proofs.Common.{◌≡◌, ℕ, suc, ◌+◌, ◌/◌, Bool, true, false, cond, nat_lt, nat_le, max, List, [], ◌∷◌, ◌++◌, length, Option, None, Some, Ok, Err, refl, ap, sym, ◌∙◌, arith, ◌||◌}
+use Rattle.mx_asm.proofs.Words.{list_any, list_any-append, nat_tests, Value, Pure, Reg, Wait, Item, value_of_name, Effect, Placed, Answer, lowest_of, Known, StatementTree, AsmFault, MainUndefined, MainRegister, SymbolsTooMany, LocalAboveGlobals, Refused, Head, refused, statements_in, refusal_in, Sight, outline, nothing_known, sights_from, sights_of, final_known, opening, first_head, items_from, closing, main_name, padded_trie, first_of, first_fault, undefined, local_in, local_of, locals, trie_limit, last_fault, end_fault, last_line, at_line, end_refusal, assembly_fault, Assembly, Ended, beginning, last_number, main_fault, ended_main, ended_waits, end_behind, with_local, Line, accepted, lines_entries, entries_items, assembled_with, assembled_lines, one_pass}
 use Rattle.mx_line.specs.Source.{items_from as line_items}
-use Rattle.mx_mmo.specs.declared.items.Item.{Item}
-use Rattle.mx_names.specs.Names.{value_of_name}
 use Rattle.mx_names.specs.Waiting.{first_of as earliest}
-use Rattle.mx_stmt.specs.declared.placed.Effect.{Effect}
 use Rattle.mx_stmt.specs.declared.placed.Effect.TheVariants as effect
-use Rattle.mx_stmt.specs.declared.placed.Placed.{Placed}
-use Rattle.mx_stmt.specs.Steps.{Answer}
-use Rattle.mx_stmt.specs.Gregs.{lowest_of}
-use Rattle.mx_stmt.specs.Operands.{Known}
-use Rattle.mx_stmt.specs.Encoding.{StatementTree}
-use Rattle.mx_asm.specs.declared.faults.AsmFault.{AsmFault}
-use Rattle.mx_asm.specs.declared.faults.AsmFault.TheVariants.{MainUndefined, MainRegister, SymbolsTooMany, LocalAboveGlobals}
-use Rattle.mx_asm.specs.declared.refused.Refused.{Refused}
-use Rattle.mx_asm.specs.declared.head.Head.{Head}
-use Rattle.mx_asm.specs.Faults.{refused}
-use Rattle.mx_asm.specs.Entries.{statements_in, refusal_in}
-use Rattle.mx_asm.specs.TwoPass.{Sight, outline, nothing_known, sights_from, sights_of, final_known}
-use Rattle.mx_asm.specs.Emission.{opening, first_head, items_from, closing, main_name, padded_trie}
-use Rattle.mx_asm.specs.Refusal.{first_of, first_fault, undefined, local_in, local_of, locals, trie_limit, last_fault, end_fault, last_line, at_line, end_refusal}
-use Rattle.mx_asm.specs.OnePass.{assembly_fault, Assembly, Ended, beginning, last_number, main_fault, ended_main, ended_waits, end_behind, with_local}
-use Rattle.mx_asm.specs.Whole.{Line, accepted, lines_entries, entries_items, assembled_with, assembled_lines, one_pass}
 use Rattle.mx_asm.proofs.Filters.{or-false, or_assoc}
 use Rattle.mx_asm.proofs.OpenWaits.{open_waits}
 use Rattle.mx_asm.proofs.OneStatement.{standing_at, sight_local}
@@ -42,14 +17,9 @@ use Rattle.mx_asm.proofs.EndWaits.{wait_refusal, both-none, labels-at-end, first
 none-below : (n : ℕ) → nat_lt n 0 ≡ false
 none-below n = grind (arith, nat_tests)
 
-below-greater : (n l reg : ℕ) → nat_lt n (max l (reg + 1)) ≡ (nat_lt n l || nat_le n reg)
-below-greater n l reg = grind (arith, nat_tests)
-
 effect-local : (n l : ℕ) (e : Effect) → nat_lt n (with_local l e) ≡ (nat_lt n l || list_any (λ reg. nat_le n reg) (local_of e))
-effect-local n l effect.Plain = sym (or-false _)
-effect-local n l (effect.Prefix full) = sym (or-false _)
-effect-local n l (effect.Greg reg value) = sym (or-false _)
-effect-local n l (effect.Local reg) = below-greater n l reg ∙ ap (λ b. nat_lt n l || b) (sym (or-false _))
+effect-local n l (effect.Local reg) = (grind (arith, nat_tests)) ∙ ap (λ b. nat_lt n l || b) (sym (or-false _))
+effect-local n l e = sym (or-false _)
 
 answer-local : (n l : ℕ) (r : Answer Placed) → nat_lt n (sight_local l r) ≡ (nat_lt n l || list_any (λ reg. nat_le n reg) (local_in r))
 answer-local n l (Err fault) = sym (or-false _)
@@ -74,13 +44,10 @@ unfolding lines_behind
 behind-more [] n = omega arith
 behind-more (line ∷ lines) n = behind-more lines (n + 1) ∙ omega arith
 
-number-of-last : (n : ℕ) → last_number (suc n) ≡ suc n
-number-of-last n = refl
-
 last-is : (line : Line) (lines : List Line) → last_number (lines_behind 0 (line ∷ lines)) ≡ last_line (line ∷ lines)
 last-is line lines =
     let count : lines_behind 0 (line ∷ lines) ≡ suc (length lines) = behind-more (line ∷ lines) 0 ∙ omega arith in
-    ap last_number count ∙ number-of-last (length lines) ∙ omega arith
+    ap last_number count ∙ refl ∙ omega arith
 
 -- ---- the end
 

@@ -1,25 +1,11 @@
 -- The first reference that still waits behind all statements is the first one that is never defined.
-use Rattle.std.proofs.Common.{◌≡◌, ℕ, Bool, true, false, not, cond, List, [], ◌∷◌, ◌++◌, fold, Option, None, Some, is_some, Ok, Err, refl, ap, sym, ◌∙◌, subst, append_assoc, append-nil}
-use Rattle.std.specs.Prelude.{◌||◌}
-use Rattle.std.specs.List.{filter, AllByRecursion}
-use Rattle.std.proofs.lemmas.List.Folds.{list_any-append}
-use Rattle.mx_word.specs.declared.symbols.Value.{Value}
-use Rattle.mx_word.specs.declared.waits.Awaited.{Awaited}
+use Rattle.std.proofs.Common.{◌≡◌, ℕ, Bool, true, false, not, cond, List, [], ◌∷◌, ◌++◌, fold, Option, None, Some, is_some, Ok, Err, refl, ap, sym, ◌∙◌, subst, append_assoc, append-nil, ◌||◌}
+use Rattle.mx_asm.proofs.Words.{filter, AllByRecursion, list_any-append, Value, Awaited, Wait, predefined_value, NameTable, first_value, pure_of, value_of_name, Label, Placed, Answer, Known, no_targets, StatementTree, encoding, Refused, refused, Sight, outline, waits_in, is_local, next_local, referent, sights_from, known_after, fault_with, statement_fault, first_of, first_fault, undefined, unreferenced, first_undefined}
 use Rattle.mx_word.specs.declared.waits.Awaited.TheVariants as awaited
-use Rattle.mx_word.specs.declared.waits.Wait.{Wait}
-use Rattle.mx_ops.specs.Predefined.{predefined_value}
-use Rattle.mx_names.specs.Names.{NameTable, first_value, pure_of, value_in as symbol_in, value_of_name}
+use Rattle.mx_names.specs.Names.{value_in as symbol_in}
 use Rattle.mx_names.specs.Waiting.{first_of as earliest}
-use Rattle.mx_stmt.specs.declared.statement.Label.{Label}
-use Rattle.mx_stmt.specs.declared.placed.Placed.{Placed}
-use Rattle.mx_stmt.specs.Steps.{Answer}
-use Rattle.mx_stmt.specs.Operands.{Known, no_targets}
-use Rattle.mx_stmt.specs.Encoding.{StatementTree, encoding}
 use Rattle.mx_stmt.proofs.AwaitedNames.{IsUnknown, AreUnknown, encoding-awaits}
-use Rattle.mx_asm.specs.declared.refused.Refused.{Refused}
-use Rattle.mx_asm.specs.Faults.{refused}
-use Rattle.mx_asm.specs.TwoPass.{Sight, outline, waits_in, value_in, is_local, next_local, referent, sights_from, known_after}
-use Rattle.mx_asm.specs.Refusal.{fault_with, statement_fault, first_of, first_fault, undefined, unreferenced, first_undefined}
+use Rattle.mx_asm.specs.TwoPass.{value_in}
 use Rattle.mx_asm.proofs.LabelValues.{HasLabel, encoding-label}
 use Rattle.mx_asm.proofs.OpenWaits.{settles, any_settles, is_settled, unsettled, open_waits}
 use Rattle.mx_asm.proofs.WaitsFor.{local-is}

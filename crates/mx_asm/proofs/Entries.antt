@@ -1,16 +1,6 @@
 -- Entries that are taken one after another, as the two passes have them.
 use Rattle.std.proofs.Common.{◌≡◌, ℕ, List, [], ◌∷◌, ◌++◌, fold, Option, None, Some, Ok, Err, refl, ap, sym, ◌∙◌, append_assoc, append-nil}
-use Rattle.mx_mmo.specs.declared.items.Item.{Item}
-use Rattle.mx_stmt.specs.Operands.{Known}
-use Rattle.mx_stmt.specs.Encoding.{StatementTree}
-use Rattle.mx_asm.specs.declared.refused.Refused.{Refused}
-use Rattle.mx_asm.specs.declared.head.Head.{Head}
-use Rattle.mx_asm.specs.Entries.{Entry, statements_in, refusal_in}
-use Rattle.mx_asm.specs.TwoPass.{Sight, outline, sights_from, known_after}
-use Rattle.mx_asm.specs.Emission.{sight_items, sight_head, items_from}
-use Rattle.mx_asm.specs.Refusal.{statement_fault, first_fault, first_of}
-use Rattle.mx_asm.specs.OnePass.{Assembly, Progress, behind_entry, and_entries, entries_taken}
-use Rattle.mx_asm.specs.Whole.{accepted, accepted_with}
+use Rattle.mx_asm.proofs.Words.{Item, Known, StatementTree, Refused, Head, Entry, statements_in, refusal_in, Sight, outline, sights_from, known_after, sight_items, sight_head, items_from, statement_fault, first_fault, first_of, Assembly, Progress, behind_entry, and_entries, entries_taken, accepted, accepted_with}
 use Rattle.mx_asm.proofs.OneStatement.{standing_at, AreLabels, sight_local, stepped, one-statement, labels-kept}
 
 -- the head and the greatest register of LOCAL behind statements

@@ -1,7 +1,6 @@
 -- Lists that are filtered twice.
-use Rattle.std.proofs.Common.{◌≡◌, Bool, true, false, not, cond, List, [], ◌∷◌, refl, ap, ◌∙◌}
-use Rattle.std.specs.Prelude.{◌&&◌, ◌||◌}
-use Rattle.std.specs.List.{filter}
+use Rattle.std.proofs.Common.{◌≡◌, Bool, true, false, not, cond, List, [], ◌∷◌, refl, ap, ◌∙◌, ◌&&◌, ◌||◌, filter}
+use Rattle.std.proofs.lemmas.Bool.{or_parts as both-false}
 
 module _ {X : Type 0} where
   kept-with : (b : Bool) (x : X) (xs ys : List X) → xs ≡ ys → cond b (x ∷ xs) xs ≡ cond b (x ∷ ys) ys
@@ -45,21 +44,15 @@ or_assoc false b c = refl
 
 -- a test within another, and one that excludes it
 within-and : (a b : Bool) → (b ≡ true → a ≡ true) → (a && b) ≡ b
-within-and true b h = refl
 within-and false true h = absurd (let no : false ≡ true = h refl in cc)
-within-and false false h = refl
+within-and a b h = refl
 
 without-and : (a b : Bool) → (b ≡ true → a ≡ false) → (a && b) ≡ false
 without-and true true h = absurd (let no : true ≡ false = h refl in cc)
-without-and true false h = refl
-without-and false b h = refl
+without-and a b h = refl
 
 pub filter-within : {X : Type 0} (p q : X → Bool) → ((x : X) → q x ≡ true → p x ≡ true) → (xs : List X) → filter q (filter p xs) ≡ filter q xs
 filter-within p q h xs = filter-filter p q xs ∙ filter-same (λ x. p x && q x) q (λ x. within-and (p x) (q x) (h x)) xs
 
 pub filter-without : {X : Type 0} (p q : X → Bool) → ((x : X) → q x ≡ true → p x ≡ false) → (xs : List X) → filter q (filter p xs) ≡ []
 filter-without p q h xs = filter-filter p q xs ∙ filter-none (λ x. p x && q x) (λ x. without-and (p x) (q x) (h x)) xs
-
-pub both-false : (a b : Bool) → (a || b) ≡ false → (a ≡ false) × (b ≡ false)
-both-false true b h = absurd (cc)
-both-false false b h = (refl, h)

@@ -1,14 +1,6 @@
 -- Lists of items that fit.
-use Rattle.std.proofs.Common.{◌≢◌, ◌<◌, ◌≤◌, ℕ, ◌+◌, ◌^◌, List, [], ◌∷◌, ◌++◌, length, length-append, ◌-◌, Some, refl, sym, ap, subst, ◌∙◌, arith, append_assoc, append-nil}
-use Rattle.std.specs.Prelude.{codes}
-use Rattle.std.proofs.lemmas.List.{append_cancel_left}
-use Rattle.mx_stab.proofs.Orders.{all-front, all-both}
-use Rattle.mx_word.specs.Ranges.{AreOctas}
-use Rattle.mx_mmo.specs.declared.items.Item.{Item}
-use Rattle.mx_mmo.specs.declared.items.Item.TheVariants.{File, Pre, Post}
-use Rattle.mx_mmo.specs.Valid.{Fits}
-use Rattle.mx_asm.specs.Fitting.{AreFit, GrowsFit}
-use Rattle.mx_asm.specs.Fronts.{IsFront, GrowsAlike}
+use Rattle.std.proofs.Common.{◌≢◌, ◌<◌, ◌≤◌, ℕ, ◌+◌, ◌^◌, List, [], ◌∷◌, ◌++◌, length, length-append, ◌-◌, Some, refl, sym, ap, subst, ◌∙◌, arith, append_assoc, append-nil, codes}
+use Rattle.mx_asm.proofs.Words.{append_cancel_left, all-front, all-both, AreOctas, Item, File, Pre, Post, Fits, AreFit, GrowsFit, IsFront, GrowsAlike}
 
 pub fit-none : AreFit []
 unfolding AreFit

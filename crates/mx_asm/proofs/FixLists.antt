@@ -1,14 +1,6 @@
 -- The records of references, one after another.
 use Rattle.std.proofs.Common.{◌≡◌, ◌<◌, ◌≤◌, ℕ, ◌+◌, List, [], ◌∷◌, ◌++◌, length, drop, get_or, Result, Ok, Err, refl, ap, sym, ◌∙◌, append_assoc, append-nil}
-use Rattle.std.proofs.lemmas.List.{drop_more, drop_all}
-use Rattle.mx_word.specs.declared.symbols.Value.{Value}
-use Rattle.mx_word.specs.declared.waits.Wait.{Wait}
-use Rattle.mx_mmo.specs.declared.items.Item.{Item}
-use Rattle.mx_asm.specs.declared.faults.AsmFault.{AsmFault}
-use Rattle.mx_asm.specs.declared.refused.Refused.{Refused}
-use Rattle.mx_asm.specs.Faults.{refused_from}
-use Rattle.mx_asm.specs.Fixes.{fix_of, with_fix, fixes}
-use Rattle.mx_asm.specs.Emission.{onto}
+use Rattle.mx_asm.proofs.Words.{drop_more, drop_all, Value, Wait, Item, AsmFault, Refused, refused_from, fix_of, with_fix, fixes, onto}
 
 onto-both : (front : List Item) (fix : Item) (line from : ℕ) (later : Result (List Item) Refused) → onto front (with_fix line from (Ok fix) later) ≡ onto (front ++ fix ∷ []) later
 onto-both front fix line from (Err r) = refl

@@ -1,13 +1,7 @@
 -- The items of lines are the front of an object of the statements before the first refusal.
 use Rattle.std.proofs.Common.{◌≡◌, ℕ, List, [], ◌∷◌, ◌++◌, map, Option, None, Some, Err, refl, ap, sym, ◌∙◌}
-use Rattle.mx_stmt.specs.Operands.{Known}
-use Rattle.mx_stmt.specs.Encoding.{StatementTree}
-use Rattle.mx_asm.specs.declared.refused.Refused.{Refused}
-use Rattle.mx_asm.specs.Entries.{statements_in, refusal_in, source_entries}
-use Rattle.mx_asm.specs.TwoPass.{Sight, nothing_known, known_after, sights_from, sights_of}
-use Rattle.mx_asm.specs.Emission.{opening, first_head, items_from, front}
-use Rattle.mx_asm.specs.Refusal.{statement_fault, first_fault, refusal}
-use Rattle.mx_asm.specs.Whole.{Line, accepted, accepted_with, accepted_in, assembled_source, lines_entries, lines_items, lines_refusal}
+use Rattle.mx_asm.proofs.Words.{Known, StatementTree, Refused, statements_in, refusal_in, source_entries, Sight, nothing_known, known_after, sights_from, sights_of, opening, first_head, items_from, front, statement_fault, first_fault, refusal, Line, accepted, accepted_with, assembled_source, lines_entries, lines_items, lines_refusal}
+use Rattle.mx_asm.specs.Whole.{accepted_in}
 use Rattle.mx_asm.proofs.EndWaits.{both-none}
 use Rattle.mx_asm.proofs.InTurn.{all-accepted, source-refused}
 use Rattle.mx_asm.proofs.OnePassLaw.{items-are, refusal-is}

@@ -1,12 +1,6 @@
 -- What is added so far is a front of what is due.
 use Rattle.std.proofs.Common.{◌≡◌, ℕ, ◌+◌, Bool, true, false, cond, List, [], ◌∷◌, ◌++◌, Option, None, Some, Result, Ok, Err, refl, ap, sym, ◌∙◌, append_assoc, append-nil}
-use Rattle.mx_word.specs.declared.waits.Wait.{Wait}
-use Rattle.mx_mmo.specs.declared.items.Item.{Item}
-use Rattle.mx_asm.specs.declared.faults.AsmFault.{AsmFault}
-use Rattle.mx_asm.specs.declared.refused.Refused.{Refused}
-use Rattle.mx_asm.specs.Entries.{Entry, line_entries}
-use Rattle.mx_asm.specs.Fronts.{IsFront}
-use Rattle.mx_asm.specs.OnePass.{Assembly, Taken, Progress, behind_entry, and_entries, entry_taken, entries_taken, count_fault, counted, line_unless, line_taken, ended_main, ended_waits, ended}
+use Rattle.mx_asm.proofs.Words.{Wait, Item, AsmFault, Refused, Entry, line_entries, IsFront, Assembly, Taken, Progress, behind_entry, and_entries, entry_taken, entries_taken, count_fault, counted, line_unless, line_taken, ended_main, ended_waits, ended}
 
 pub front-refl : (xs : List Item) → IsFront xs xs
 front-refl xs = ([], sym (append-nil xs))

@@ -1,19 +1,6 @@
 -- Lines that an assembler has taken, and one line more.
 use Rattle.std.proofs.Common.{◌≡◌, ℕ, ◌+◌, Bool, true, false, cond, List, [], ◌∷◌, ◌++◌, fold, Option, None, Some, Ok, Err, refl, ap, sym, ◌∙◌, append_assoc, append-nil}
-use Rattle.std.specs.Result.{result_err}
-use Rattle.std.proofs.lemmas.List.Sums.{fold-append}
-use Rattle.mx_line.specs.Lines.{lines_of}
-use Rattle.mx_mmo.specs.declared.items.Item.{Item}
-use Rattle.mx_asm.specs.declared.refused.Refused.{Refused}
-use Rattle.mx_word.specs.declared.waits.Wait.{Wait}
-use Rattle.mx_asm.specs.declared.faults.AsmFault.{AsmFault}
-use Rattle.mx_asm.specs.Entries.{Entry, line_entries, statements_in, source_entries}
-use Rattle.mx_asm.specs.TwoPass.{Sight, final_known, sights_of}
-use Rattle.mx_asm.specs.Emission.{opening, first_head, items_from, closing, emission, padded_trie}
-use Rattle.mx_asm.specs.Refusal.{statement_fault, first_fault, entries_refusal, end_refusal, last_line, refusal}
-use Rattle.mx_asm.specs.OnePass.{Assembly, Standing, Taken, Progress, Ended, beginning, behind_entry, and_entries, entry_taken, entries_taken, count_fault, counted, line_unless, line_taken, with_opening, opened, line_behind, ended_main, ended_waits, ended, end_behind}
-use Rattle.mx_asm.specs.Fronts.{GrowsAlike}
-use Rattle.mx_asm.specs.Whole.{Line, accepted, accepted_with, entries_items, assembled_with, assembled_lines, assembled_source, line_after, lines_items, lines_taken, HasTaken}
+use Rattle.mx_asm.proofs.Words.{result_err, fold-append, lines_of, Item, Refused, Wait, AsmFault, Entry, line_entries, statements_in, source_entries, Sight, final_known, sights_of, opening, first_head, items_from, closing, emission, padded_trie, statement_fault, first_fault, entries_refusal, end_refusal, last_line, refusal, Assembly, Standing, Taken, Progress, Ended, beginning, behind_entry, and_entries, entry_taken, entries_taken, count_fault, counted, line_unless, line_taken, with_opening, opened, line_behind, ended_main, ended_waits, ended, end_behind, GrowsAlike, Line, accepted, accepted_with, entries_items, assembled_with, assembled_lines, assembled_source, line_after, lines_items, lines_taken, HasTaken}
 use Rattle.mx_asm.proofs.OnePassLaw.{items-are, refusal-is}
 use Rattle.mx_asm.proofs.EndWaits.{both-none}
 use Rattle.mx_asm.proofs.EndLaw.{whole-is}

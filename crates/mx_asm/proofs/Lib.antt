@@ -40,6 +40,9 @@ pub mod Validity
 pub mod FrontLaw
 pub mod Weights
 pub mod OperandWeights
+pub mod StatementForms
+pub mod BackLabels
+pub mod FieldBytes
 pub mod StatementRooms
 pub mod SourceWeights
 pub mod WrittenLengths
@@ -53,3 +56,4 @@ pub mod ObjectEffects
 pub mod ObjectNames
 pub mod StatementCounts
 pub mod ObjectLaws
+pub mod Words

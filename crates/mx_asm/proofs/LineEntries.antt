@@ -1,19 +1,8 @@
 -- The entries of a line, taken one after another.
 use Rattle.std.proofs.Common.{◌≡◌, ◌<◌, ◌≤◌, ℕ, List, [], map, Option, None, Some, Ok, Err, ap, sym, ◌∙◌, arith, IfSome, subst}
-use Rattle.mx_line.specs.declared.spans.Span.{Span}
-use Rattle.mx_line.specs.declared.faults.LineFault.{LineFault}
-use Rattle.mx_line.specs.declared.cutter.Cut.{Cut}
-use Rattle.mx_line.specs.Cutting.{cuts_from, list_with, LabelBefore, InOrder}
-use Rattle.mx_line.specs.Source.{item_of}
-use Rattle.mx_mmo.specs.declared.items.Item.{Item}
-use Rattle.mx_stmt.specs.Reading.{CutWithin, SpanWithin}
+use Rattle.mx_asm.proofs.Words.{Span, LineFault, Cut, cuts_from, list_with, LabelBefore, InOrder, item_of, Item, CutWithin, SpanWithin, Refused, refused, entry_of, entries_of, IsFront, Assembly, Progress, behind_entry, and_entries, entry_taken, entries_taken}
 use Rattle.mx_asm.specs.declared.faults.AsmFault.TheVariants.{Line}
-use Rattle.mx_asm.specs.declared.refused.Refused.{Refused}
-use Rattle.mx_asm.specs.Faults.{refused}
-use Rattle.mx_asm.specs.Entries.{entry_of, entries_of}
-use Rattle.mx_asm.specs.Fronts.{IsFront}
 use Rattle.mx_asm.proofs.Fronts.{rest-front}
-use Rattle.mx_asm.specs.OnePass.{Assembly, Progress, behind_entry, and_entries, entry_taken, entries_taken}
 
 -- what the statements of a line from a place on come to
 abbrev pub taken_from : ℕ → List ℕ → ℕ → List Item → Assembly → Progress

@@ -1,18 +1,6 @@
 -- Lines that are taken one after another: their entries are.
 use Rattle.std.proofs.Common.{◌≡◌, ℕ, ◌+◌, ◌^◌, Bool, true, false, cond, nat_lt, List, [], ◌∷◌, ◌++◌, fold, length, Option, None, Some, Result, Ok, Err, refl, ap, sym, ◌∙◌}
-use Rattle.mx_mmo.specs.declared.items.Item.{Item}
-use Rattle.mx_stmt.specs.declared.placed.Placed.{Placed}
-use Rattle.mx_stmt.specs.declared.statement.Label.{Label}
-use Rattle.mx_stmt.specs.Steps.{Answer}
-use Rattle.mx_stmt.specs.Operands.{no_targets}
-use Rattle.mx_stmt.specs.Encoding.{encoding}
-use Rattle.mx_asm.specs.declared.faults.AsmFault.TheVariants.{SourceTooLong}
-use Rattle.mx_asm.specs.declared.refused.Refused.{Refused}
-use Rattle.mx_asm.specs.Faults.{refused}
-use Rattle.mx_asm.specs.Entries.{Entry, line_entries}
-use Rattle.mx_asm.specs.Emission.{statement_items}
-use Rattle.mx_asm.specs.OnePass.{Assembly, Taken, Progress, Labelled, labelled, assembled, taken_items, taken_label, taken_with, entry_taken, behind_entry, and_entries, entries_taken, line_unless}
-use Rattle.mx_asm.specs.Whole.{Line, line_after}
+use Rattle.mx_asm.proofs.Words.{Item, Placed, Label, Answer, no_targets, encoding, SourceTooLong, Refused, refused, Entry, line_entries, statement_items, Assembly, Taken, Progress, Labelled, labelled, assembled, taken_items, taken_label, taken_with, entry_taken, behind_entry, and_entries, entries_taken, line_unless, Line, line_after}
 
 -- an assembly behind so many lines and bytes
 abbrev pub counting : ℕ → ℕ → Assembly → Assembly

@@ -1,16 +1,7 @@
 -- The items of bytes that a statement places lead to the state with these bytes.
-use Rattle.std.proofs.Common.{◌≡◌, ℕ, ◌+◌, ◌-◌, ◌/◌, ◌^◌, ◌<◌, ◌≤◌, List, [], ◌∷◌, ◌++◌, length, map, Bool, true, false, cond, arith, refl, sym, ◌∙◌, ap, bit_xor}
-use Rattle.std.specs.Prelude.{◌==◌, ◌||◌, ◌&&◌, nat_le, nat_lt}
-use Rattle.std.proofs.lemmas.Bool.{ltb-false}
-use Rattle.std.proofs.lemmas.Bool.Decides.{nat_tests}
-use Rattle.mx_word.specs.Ranges.{AreBytes}
-use Rattle.mx_mmo.specs.declared.items.Item.TheVariants.{Load}
-use Rattle.mx_stmt.specs.Placements.{from_place, placed}
-use Rattle.mx_stmt.proofs.JoinedBytes.{placed-append}
-use Rattle.mx_asm.specs.TwoPass.{Piece}
-use Rattle.mx_asm.specs.Image.{pages_of, pages_below, is_covered, with_lines}
-use Rattle.mx_asm.specs.declared.head.Head.{Head}
-use Rattle.mx_asm.specs.Emission.{lowered, raised, covered, covering, tetra_count, located, told_line, lined, line_behind, byte_items}
+use Rattle.std.proofs.Common.{◌≡◌, ℕ, ◌+◌, ◌-◌, ◌/◌, ◌^◌, ◌<◌, ◌≤◌, List, [], ◌∷◌, ◌++◌, length, map, Bool, true, false, cond, arith, refl, sym, ◌∙◌, ap, bit_xor, ◌==◌, ◌||◌, ◌&&◌, nat_le, nat_lt}
+use Rattle.mx_asm.proofs.Words.{cond_both, ltb-false, nat_tests, AreBytes, Load, from_place, placed, placed-append, Piece, pages_of, pages_below, is_covered, with_lines, Head, lowered, raised, covered, covering, tetra_count, located, told_line, lined, byte_items}
+use Rattle.mx_asm.specs.Emission.{line_behind}
 use Rattle.mx_asm.proofs.MeaningMemory.{HaveBytes}
 use Rattle.mx_asm.proofs.MeaningPages.{append-pages, pages-run, tetras-run, many-pages}
 use Rattle.mx_asm.proofs.MeaningStates.{State, Takes, takes-both, takes-none, same-numbers, line_after, lines_with, behind_tetras, takes-tetras}
@@ -66,19 +57,12 @@ told-lines false line start b q bytes lines high some few =
     ∙ lines-are k (lowered start) line q lines some (omega (arith, small, few))
     ∙ ap (λ u. cond (nat_le u (q / 4) && nat_lt (q / 4) (u + k)) (line + (q / 4 - u)) (lines q)) first
     ∙ ap (λ u. cond (nat_le (start / 4) (q / 4) && nat_lt (q / 4) u) (line + (q / 4 - start / 4)) (lines q)) last
-    ∙ ap (λ t. cond (nat_le (start / 4) (q / 4) && t) (line + (q / 4 - start / 4)) (lines q)) (until (q / 4) ((start + length bytes) / 4))
+    ∙ ap (λ t. cond (nat_le (start / 4) (q / 4) && t) (line + (q / 4 - start / 4)) (lines q)) (grind (arith, nat_tests))
     ∙ sym (ap (λ t. cond (t && is_covered (piece_at line start (b ∷ bytes)) q) (line + (q / 4 - start / 4)) (lines q)) below
     ∙ ap (λ t. cond t (line + (q / 4 - start / 4)) (lines q)) (tetras-run start b bytes (q / 4)))
-  where
-    until : (p u : ℕ) → nat_lt p (u + 1) ≡ nat_le p u
-    until p u = grind (arith, nat_tests)
 
 told-small : (line : ℕ) → told_line line ≤ 2 ^ 32 - 1
-told-small line = on (nat_lt 65535 line) (λ e. ltb-false 65535 line e)
-  where
-    on : (b : Bool) → (b ≡ false → line ≤ 65535) → cond b 0 line ≤ 2 ^ 32 - 1
-    on true h = omega arith
-    on false h = let l = h refl in omega (arith, l)
+told-small line = cond_both (nat_lt 65535 line) _ _ (λ x. x ≤ 2 ^ 32 - 1) (λ _. omega arith) (λ e. let l = ltb-false 65535 line e in omega (arith, l))
 
 -- ---- the bytes
 

@@ -1,37 +1,14 @@
 -- A fix record joins what its reference adds to the bytes at its place.
-use Rattle.std.proofs.Common.{◌≡◌, ℕ, ◌+◌, ◌-◌, ◌*◌, ◌/◌, ◌%◌, ◌^◌, ◌<◌, ◌≤◌, List, [], ◌∷◌, ◌++◌, Bool, true, false, not, cond, arith, refl, sym, ◌∙◌, ap, Some, Result, Ok, Err, ◌⊎◌, inl, inr, append_assoc}
-use Rattle.std.specs.Prelude.{◌==◌, ◌&&◌, nat_le, nat_lt}
-use Rattle.std.specs.Result.{result_unwrap_or}
-use Rattle.std.specs.Int.{byte_at}
-use Rattle.std.proofs.lemmas.Bool.{eqb-true, leb-true, leb-false, ltb-true}
-use Rattle.std.proofs.lemmas.Bool.Decides.{nat_tests}
-use Rattle.mx_word.specs.Words.{octa_to_bytes, tetra_to_bytes}
-use Rattle.mx_word.specs.Ranges.{AreBytes}
-use Rattle.mx_word.proofs.Tetras.{tetra-back}
-use Rattle.mx_word.specs.declared.symbols.Value.TheVariants.{Pure}
-use Rattle.mx_word.specs.declared.waits.Wait.{Wait}
-use Rattle.mx_word.specs.declared.waits.WaitKind.{WaitKind}
-use Rattle.mx_word.specs.declared.waits.WaitKind.TheVariants.{Octa, Near, Far}
-use Rattle.mx_mmo.specs.Meaning.{PagesFull, BadPlace, is_below, join, then_join, join_octa, tetras_before, tetras_behind, far_place, with_image, take_item, take_items}
-use Rattle.mx_mmo.specs.declared.items.Item.{Item}
-use Rattle.mx_mmo.specs.declared.items.Item.TheVariants.{FixNear, FixFar}
-use Rattle.mx_stmt.specs.declared.faults.StmtFault.TheVariants.{NotMultiple, TooFar}
-use Rattle.mx_stmt.specs.Forms.{relative_word, forward_word, backward_word, future_word, near_reach, far_reach}
-use Rattle.mx_stmt.specs.Fixes.{fix_bytes}
-use Rattle.mx_stmt.specs.Laid.{kind_size}
-use Rattle.mx_stmt.specs.Placements.{from_place, placed}
-use Rattle.mx_stmt.proofs.JoinedBytes.{from-append}
-use Rattle.mx_asm.specs.declared.faults.AsmFault.{AsmFault}
-use Rattle.mx_asm.specs.Image.{pages_of, pages_below}
-use Rattle.mx_asm.specs.Fixes.{word_fix, relative_fix, pure_fix, fix_of}
+use Rattle.std.proofs.Common.{◌≡◌, ℕ, ◌+◌, ◌-◌, ◌*◌, ◌/◌, ◌%◌, ◌^◌, ◌<◌, ◌≤◌, List, [], ◌∷◌, ◌++◌, Bool, true, false, not, cond, arith, refl, sym, ◌∙◌, ap, Some, Result, Ok, Err, ◌⊎◌, inl, inr, append_assoc, ◌==◌, ◌&&◌, nat_le, nat_lt}
+use Rattle.mx_asm.proofs.Words.{result_unwrap_or, byte_at, eqb-true, leb-true, leb-false, ltb-true, nat_tests, octa_to_bytes, tetra_to_bytes, AreBytes, tetra-back, Pure, Wait, WaitKind, Octa, Near, Far, PagesFull, BadPlace, is_below, join, then_join, join_octa, tetras_before, tetras_behind, far_place, with_image, take_item, take_items, Item, FixNear, FixFar, NotMultiple, TooFar, relative_word, forward_word, backward_word, future_word, near_reach, far_reach, fix_bytes, kind_size, from_place, placed, from-append, AsmFault, pages_of, pages_below, word_fix, relative_fix, pure_fix, fix_of}
 use Rattle.mx_asm.proofs.MeaningMemory.{HaveBytes}
 use Rattle.mx_asm.proofs.MeaningPages.{more-count, append-more, unless_full}
 use Rattle.mx_asm.proofs.MeaningStates.{State, image_at, stands, count_of, limited, Takes, take-none, takes-few, tetra-joined, more-bytes}
 
--- ---- a word that is joined
-
 pub word-bytes : (t : ℕ) → AreBytes (tetra_to_bytes t)
 word-bytes t = (omega arith, (omega arith, (omega arith, (omega arith, tt))))
+
+-- ---- a word that is joined
 
 word-joined : (n a t : ℕ) (ps : List (ℕ × ℕ)) (lines : ℕ → ℕ) → 2 ^ 51 ≤ n → a % 4 ≡ 0 → a < 0x6000_0000_0000_0000 → t < 2 ^ 32 → HaveBytes (placed ps) → pages_below n (pages_of ps) ≤ 65536 →
     join (image_at n ps lines) a t ≡ unless_full (pages_below n (pages_of (ps ++ from_place a (tetra_to_bytes t)))) (image_at n (ps ++ from_place a (tetra_to_bytes t)) lines)

@@ -1,26 +1,6 @@
 -- The items of statements without a fault lead from the state before them to the state behind them.
-use Rattle.std.proofs.Common.{◌≡◌, ℕ, zero, suc, ◌+◌, ◌^◌, ◌<◌, ◌≤◌, List, [], ◌∷◌, ◌++◌, true, false, cond, arith, refl, sym, ◌∙◌, ap, Option, Some, None, Result, Ok, Err}
-use Rattle.std.specs.Prelude.{nat_le}
-use Rattle.std.specs.Result.{result_unwrap_or}
-use Rattle.std.specs.List.{AllByRecursion}
-use Rattle.mx_word.specs.declared.waits.Wait.{Wait}
-use Rattle.mx_mmo.specs.Meaning.{PagesFull, nothing, with_name, take_items}
-use Rattle.mx_mmo.specs.declared.items.Item.{Item}
-use Rattle.mx_stmt.specs.declared.placed.Placed.{Placed}
-use Rattle.mx_stmt.specs.Steps.{Answer}
-use Rattle.mx_stmt.specs.Operands.{no_targets}
-use Rattle.mx_stmt.specs.Fixes.{IsOperation, IsSound}
-use Rattle.mx_stmt.specs.Laid.{IsLaid}
-use Rattle.mx_stmt.specs.Placements.{placed}
-use Rattle.mx_stmt.proofs.LaidBytes.{encoding-laid}
-use Rattle.mx_asm.specs.declared.faults.AsmFault.{AsmFault}
-use Rattle.mx_asm.specs.declared.refused.Refused.{Refused}
-use Rattle.mx_asm.specs.declared.head.Head.{Head}
-use Rattle.mx_asm.specs.TwoPass.{Sight, outline}
-use Rattle.mx_asm.specs.Fixes.{fixes, awaited_value, waiting_at}
-use Rattle.mx_asm.specs.Image.{pages_below}
-use Rattle.mx_asm.specs.Emission.{onto, moved, byte_items, head_at_fixes, with_bytes, statement_items, opening, sight_items, sight_head, items_from}
-use Rattle.mx_asm.specs.Refusal.{refusal_of, label_fault, fault_behind, fault_with, statement_fault, first_fault}
+use Rattle.std.proofs.Common.{◌≡◌, ℕ, zero, suc, ◌+◌, ◌^◌, ◌<◌, ◌≤◌, List, [], ◌∷◌, ◌++◌, true, false, cond, arith, refl, sym, ◌∙◌, ap, Option, Some, None, Result, Ok, Err, nat_le}
+use Rattle.mx_asm.proofs.Words.{result_unwrap_or, AllByRecursion, Wait, PagesFull, nothing, with_name, take_items, Item, Placed, Answer, no_targets, IsOperation, IsSound, IsLaid, placed, encoding-laid, AsmFault, Refused, Head, Sight, outline, fixes, awaited_value, waiting_at, pages_below, onto, moved, byte_items, head_at_fixes, with_bytes, statement_items, opening, sight_items, sight_head, items_from, refusal_of, label_fault, fault_behind, fault_with, statement_fault, first_fault}
 use Rattle.mx_asm.proofs.EndWaits.{both-none}
 use Rattle.mx_asm.proofs.MeaningMemory.{HaveBytes}
 use Rattle.mx_asm.proofs.MeaningStates.{State, stands, limited, Takes, takes-both, takes-none}

@@ -1,23 +1,7 @@
 -- The items of statements mean their image, and the items of lines are loaded unless there are too many pages.
-use Rattle.std.proofs.Common.{◌≡◌, ℕ, ◌^◌, ◌≤◌, List, [], ◌∷◌, ◌++◌, Bool, true, false, not, cond, arith, lit≤, refl, sym, ◌∙◌, ap, is_some, Some, None, Ok, Err, append_assoc, append-nil}
-use Rattle.std.specs.Prelude.{nat_le, ◌||◌}
-use Rattle.std.specs.Result.{result_err}
-use Rattle.std.specs.List.{AllByRecursion}
-use Rattle.std.proofs.lemmas.Bool.Decides.{nat_tests}
-use Rattle.mx_mmo.specs.Meaning.{PagesFull, nothing, take_items, meaning}
+use Rattle.std.proofs.Common.{◌≡◌, ℕ, ◌^◌, ◌≤◌, List, [], ◌∷◌, ◌++◌, Bool, true, false, not, cond, arith, lit≤, refl, sym, ◌∙◌, ap, is_some, Some, None, Ok, Err, append_assoc, append-nil, nat_le, ◌||◌}
+use Rattle.mx_asm.proofs.Words.{result_err, AllByRecursion, nat_tests, PagesFull, nothing, take_items, meaning, Placed, StatementTree, from_place, NameTable, statements_in, Sight, Piece, outline, references, targets, nothing_known, sights_from, sights_of, piece_with, pieces_of, placements, pages_of, pages_below, page_count, opening, first_head, items_from, emission, statement_fault, first_fault, IsStatement, Line, accepted, lines_entries, lines_items, AreAccepted, outlined, has_room, loaded_image, page_fault, page_refusal_from, page_refusal, accepted_in}
 use Rattle.mx_line.specs.Source.{items_from as line_items}
-use Rattle.mx_stmt.specs.declared.placed.Placed.{Placed}
-use Rattle.mx_stmt.specs.Encoding.{StatementTree}
-use Rattle.mx_stmt.specs.Placements.{from_place}
-use Rattle.mx_names.specs.Names.{NameTable}
-use Rattle.mx_asm.specs.Entries.{statements_in}
-use Rattle.mx_asm.specs.TwoPass.{Sight, Piece, outline, references, targets, nothing_known, sights_from, sights_of, piece_with, pieces_of}
-use Rattle.mx_asm.specs.Image.{placements, pages_of, pages_below, page_count}
-use Rattle.mx_asm.specs.Emission.{opening, first_head, items_from, emission}
-use Rattle.mx_asm.specs.Refusal.{statement_fault, first_fault}
-use Rattle.mx_asm.specs.Statements.{IsStatement}
-use Rattle.mx_asm.specs.Whole.{Line, accepted, lines_entries, lines_items}
-use Rattle.mx_asm.specs.Pages.{AreAccepted, outlined, has_room, loaded_image, page_fault, page_refusal_from, page_refusal, accepted_in}
 use Rattle.mx_asm.proofs.EndWaits.{both-none}
 use Rattle.mx_asm.proofs.MeaningPages.{same-pages, more-count, append-pages, append-more}
 use Rattle.mx_asm.proofs.MeaningStates.{stands, count_of, limited, take-append}

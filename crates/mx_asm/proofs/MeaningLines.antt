@@ -1,38 +1,15 @@
 -- Where pages are full, line by line.
-use Rattle.std.proofs.Common.{◌≡◌, ℕ, ◌+◌, ◌-◌, ◌^◌, ◌≤◌, List, [], ◌∷◌, ◌++◌, length, map, Bool, true, false, cond, nat_lt, arith, refl, sym, ◌∙◌, ap, subst, Option, Some, None, Result, Ok, Err, append_assoc, append-nil}
-use Rattle.std.specs.Prelude.{sum_by, is_some, option_map}
-use Rattle.std.specs.List.{AllByRecursion}
-use Rattle.std.proofs.lemmas.List.{take-append-le}
-use Rattle.mx_line.specs.declared.faults.LineFault.{LineFault}
-use Rattle.mx_line.specs.declared.cutter.Cut.{Cut}
-use Rattle.mx_line.specs.Lines.{is_too_far}
-use Rattle.mx_line.specs.Spans.{part}
-use Rattle.mx_line.specs.Cutting.{cuts_from}
-use Rattle.mx_line.specs.Source.{Item, statement, faulty, too_far, item_of, before, items_of, items_from}
-use Rattle.mx_mmo.specs.Meaning.{Meaningless, PagesFull}
-use Rattle.mx_expr.specs.declared.faults.ExprFault.{ExprFault}
-use Rattle.mx_expr.specs.Tree.{Tree}
-use Rattle.mx_expr.specs.Reading.{reading}
-use Rattle.mx_ops.specs.declared.op.Op.{Op}
-use Rattle.mx_stmt.specs.Steps.{Answer}
-use Rattle.mx_stmt.specs.Operands.{Known}
-use Rattle.mx_stmt.specs.Encoding.{StatementTree}
-use Rattle.mx_stmt.specs.Reading.{Fields, label_of, operation_for}
-use Rattle.mx_asm.specs.declared.refused.Refused.{Refused}
-use Rattle.mx_asm.specs.Entries.{Entry, with_operands, with_operation, entry_with, entry_of, entries_of, statements_in}
-use Rattle.mx_asm.specs.TwoPass.{Sight, nothing_known, known_after, sights_from, sights_of}
-use Rattle.mx_asm.specs.Refusal.{statement_fault}
-use Rattle.mx_asm.specs.Whole.{Line, accepted, accepted_with, lines_entries}
-use Rattle.mx_asm.specs.Pages.{outlined, has_room, page_fault, page_refusal_from, page_refusal, accepted_in}
+use Rattle.std.proofs.Common.{◌≡◌, ℕ, ◌+◌, ◌-◌, ◌^◌, ◌≤◌, List, [], ◌∷◌, ◌++◌, length, map, Bool, true, false, cond, nat_lt, arith, refl, sym, ◌∙◌, ap, subst, Option, Some, None, Result, Ok, Err, append_assoc, append-nil, sum_by, is_some, option_map}
+use Rattle.mx_asm.proofs.Words.{cond_both, AllByRecursion, take-append-le, LineFault, Cut, is_too_far, part, cuts_from, statement, faulty, too_far, item_of, before, items_of, Meaningless, PagesFull, ExprFault, Tree, reading, Op, Answer, Known, StatementTree, Fields, label_of, operation_for, Refused, Entry, with_operands, with_operation, entry_with, entry_of, entries_of, statements_in, Sight, nothing_known, known_after, sights_from, sights_of, statement_fault, Line, accepted, accepted_with, lines_entries, outlined, has_room, page_fault, page_refusal_from, page_refusal, accepted_in}
+use Rattle.mx_line.specs.Source.{Item, items_from}
 use Rattle.mx_asm.proofs.MeaningLaws.{no-room}
+use Rattle.mx_stab.proofs.Orders.{all-both as all-append}
 
 -- ---- the items of lines
 
 before-both : (a b c : List Item) → before (before a b) c ≡ before a (before b c)
-before-both [] b c = refl
 before-both (statement line label op operands ∷ items) b c = ap (λ is. statement line label op operands ∷ is) (before-both items b c)
-before-both (faulty line why ∷ items) b c = refl
-before-both (too_far line ∷ items) b c = refl
+before-both a b c = refl
 
 items-split : (all : List Line) (n : ℕ) (us vs : List Line) → items_from all n (us ++ vs) ≡ before (items_from all n us) (items_from all (n + length us) vs)
 unfolding items_from
@@ -69,15 +46,13 @@ continued (faulty line why ∷ items) more = []
 continued (too_far line ∷ items) more = []
 
 statements-split : (a b : List Item) → statements_in (entries_of (before a b)) ≡ statements_in (entries_of a) ++ continued a (statements_in (entries_of b))
-statements-split [] b = refl
 statements-split (statement line label op operands ∷ items) b = by (entry_of (statement line label op operands)) (statements-split items b)
   where
     by : (e : Entry) → statements_in (entries_of (before items b)) ≡ statements_in (entries_of items) ++ continued items (statements_in (entries_of b)) →
         statements_in (e ∷ entries_of (before items b)) ≡ statements_in (e ∷ entries_of items) ++ behind e (continued items (statements_in (entries_of b)))
     by (Err refused) h = refl
     by (Ok s) h = ap (λ ss. s ∷ ss) h
-statements-split (faulty line why ∷ items) b = refl
-statements-split (too_far line ∷ items) b = refl
+statements-split a b = refl
 
 module _ (P : StatementTree → Type 0) where
   continued-all : (a : List Item) (more : List StatementTree) → AllByRecursion P more → AllByRecursion P (continued a more)
@@ -87,8 +62,7 @@ module _ (P : StatementTree → Type 0) where
       by : (e : Entry) → AllByRecursion P (continued items more) → AllByRecursion P (behind e (continued items more))
       by (Err refused) rest = tt
       by (Ok s) rest = rest
-  continued-all (faulty line why ∷ items) more h = tt
-  continued-all (too_far line ∷ items) more h = tt
+  continued-all a more h = tt
 
   -- the statements of these that are accepted
   accepted-holds : (statements : List StatementTree) (k : Known) (earlier : List Sight) → AllByRecursion P statements → AllByRecursion (λ (s : Sight). P s.statement) (accepted earlier (sights_from k statements))
@@ -162,19 +136,13 @@ cuts-at n line (r ∷ rs) = by (entry_of (item_of n line r)) (cut-at n line r) (
     by (Err refused) h rest = tt
     by (Ok s) h rest = (h, rest)
 
-all-append : (P : StatementTree → Type 0) (xs ys : List StatementTree) → AllByRecursion P xs → AllByRecursion P ys → AllByRecursion P (xs ++ ys)
-all-append P [] ys h g = g
-all-append P (x ∷ xs) ys h g = (h.0, all-append P xs ys h.1 g)
-
 one-line : (all : List Line) (n : ℕ) (line : Line) → AllByRecursion (IsAt n) (statements_in (entries_of (items_from all n (line ∷ []))))
 unfolding items_from
-one-line all n line = by (is_too_far all n)
-  where
-    by : (b : Bool) → AllByRecursion (IsAt n) (statements_in (entries_of (cond b (too_far n ∷ []) (before (items_of n line) []))))
-    by true = tt
-    by false =
-        subst (AllByRecursion (IsAt n)) (sym (statements-split (items_of n line) []))
-        (all-append (IsAt n) (statements_in (entries_of (items_of n line))) (continued (items_of n line) []) (cuts-at n line (cuts_from line 0)) (continued-all (IsAt n) (items_of n line) [] tt))
+one-line all n line = cond_both (is_too_far all n) _ _ (λ x. AllByRecursion (IsAt n) (statements_in (entries_of x)))
+    (λ _. tt)
+    (λ _.
+      subst (AllByRecursion (IsAt n)) (sym (statements-split (items_of n line) []))
+      (all-append (IsAt n) (statements_in (entries_of (items_of n line))) (continued (items_of n line) []) (cuts-at n line (cuts_from line 0)) (continued-all (IsAt n) (items_of n line) [] tt)))
 
 -- ---- pages
 

@@ -1,14 +1,7 @@
 -- Memory octa by octa, as the bytes at each address tell it.
-use Rattle.std.proofs.Common.{◌≡◌, ℕ, zero, suc, ◌+◌, ◌-◌, ◌*◌, ◌/◌, ◌%◌, ◌^◌, ◌<◌, List, [], ◌∷◌, Bool, true, false, cond, get_or, arith, refl, sym, ◌∙◌, ap, bit_xor}
-use Rattle.std.specs.Prelude.{◌==◌, nat_lt}
-use Rattle.std.specs.Int.{byte_at}
-use Rattle.std.proofs.lemmas.Nat.{xor_lt}
-use Rattle.mx_word.specs.Words.{octa_from_bytes, octa_to_bytes}
-use Rattle.mx_word.specs.Octas.{byte_of, byte_in, with_tetra, in_half, bytes_with_tetra}
-use Rattle.mx_word.specs.Ranges.{AreBytes}
+use Rattle.std.proofs.Common.{◌≡◌, ℕ, zero, suc, ◌+◌, ◌-◌, ◌*◌, ◌/◌, ◌%◌, ◌^◌, ◌<◌, List, [], ◌∷◌, Bool, true, false, cond, get_or, arith, refl, sym, ◌∙◌, ap, bit_xor, ◌==◌, nat_lt}
+use Rattle.mx_asm.proofs.Words.{cond_both, byte_at, xor_lt, octa_from_bytes, octa_to_bytes, byte_of, byte_in, with_tetra, in_half, bytes_with_tetra, AreBytes, octa-back, eight-bytes, eight-fit, octa_from, octa_in}
 use Rattle.mx_word.proofs.JoinedTetra.{byte_in-joined}
-use Rattle.mx_word.proofs.Tetras.{octa-back, eight-bytes, eight-fit}
-use Rattle.mx_asm.specs.Image.{octa_from, octa_in}
 
 -- a byte at each address
 abbrev pub HaveBytes : (ℕ → ℕ) → Type 0
@@ -16,27 +9,14 @@ HaveBytes bytes = (q : ℕ) → bytes q < 2 ^ 8
 
 -- the byte of an octa at a place
 byte-of : (x a i : ℕ) → i < 8 → a % 8 ≡ i → byte_of x a ≡ byte_at (7 - i) x
-byte-of x a zero l e = rw e refl
-byte-of x a (suc zero) l e = rw e refl
-byte-of x a (suc (suc zero)) l e = rw e refl
-byte-of x a (suc (suc (suc zero))) l e = rw e refl
-byte-of x a (suc (suc (suc (suc zero)))) l e = rw e refl
-byte-of x a (suc (suc (suc (suc (suc zero))))) l e = rw e refl
-byte-of x a (suc (suc (suc (suc (suc (suc zero)))))) l e = rw e refl
 byte-of x a (suc (suc (suc (suc (suc (suc (suc zero))))))) l e = ap (λ i. x / 2 ^ (8 * (7 - i)) % 256) e ∙ (let whole : x / 1 % 256 ≡ x % 256 = omega arith in whole)
 byte-of x a (suc (suc (suc (suc (suc (suc (suc (suc i)))))))) l e = absurd (omega arith)
+byte-of x a i l e = rw e refl
 
 -- the byte of an octa by its place
 place-of : (x i : ℕ) → i < 8 → byte_at (7 - i) x ≡ get_or (octa_to_bytes x) i 0
-place-of x zero l = refl
-place-of x (suc zero) l = refl
-place-of x (suc (suc zero)) l = refl
-place-of x (suc (suc (suc zero))) l = refl
-place-of x (suc (suc (suc (suc zero)))) l = refl
-place-of x (suc (suc (suc (suc (suc zero))))) l = refl
-place-of x (suc (suc (suc (suc (suc (suc zero)))))) l = refl
-place-of x (suc (suc (suc (suc (suc (suc (suc zero))))))) l = refl
 place-of x (suc (suc (suc (suc (suc (suc (suc (suc i)))))))) l = absurd (omega arith)
+place-of x i l = refl
 
 -- one octa at all addresses of eight bytes
 abbrev pub IsEven : (ℕ → ℕ) → Type 0
@@ -72,14 +52,8 @@ eight-are f a h = (h a, (h (a + 1), (h (a + 2), (h (a + 3), (h (a + 4), (h (a + 
 eight-at : (f : ℕ → ℕ) (a q i : ℕ) → i < 8 → q ≡ a + i → get_or (eight f a) i 0 ≡ f q
 unfolding eight
 eight-at f a q zero l e = ap f (omega arith)
-eight-at f a q (suc zero) l e = ap f (sym e)
-eight-at f a q (suc (suc zero)) l e = ap f (sym e)
-eight-at f a q (suc (suc (suc zero))) l e = ap f (sym e)
-eight-at f a q (suc (suc (suc (suc zero)))) l e = ap f (sym e)
-eight-at f a q (suc (suc (suc (suc (suc zero))))) l e = ap f (sym e)
-eight-at f a q (suc (suc (suc (suc (suc (suc zero)))))) l e = ap f (sym e)
-eight-at f a q (suc (suc (suc (suc (suc (suc (suc zero))))))) l e = ap f (sym e)
 eight-at f a q (suc (suc (suc (suc (suc (suc (suc (suc i)))))))) l e = absurd (omega arith)
+eight-at f a q i l e = ap f (sym e)
 
 eight-back : (f : ℕ → ℕ) (a : ℕ) → HaveBytes f → octa_to_bytes (octa_from f a) ≡ eight f a
 unfolding eight
@@ -101,21 +75,13 @@ octa-fits f q h =
 -- ---- a tetra that is joined
 
 half-fits : (a t : ℕ) → t < 2 ^ 32 → in_half a t < 2 ^ 64
-half-fits a t l = by (nat_lt (a % 8) 4)
-  where
-    by : (b : Bool) → cond b (t * 2 ^ 32) t < 2 ^ 64
-    by true = omega arith
-    by false = omega arith
-
-cond-fits : (b : Bool) (x y : ℕ) → x < 2 ^ 64 → y < 2 ^ 64 → cond b (bit_xor x y) x < 2 ^ 64
-cond-fits true x y l m = xor_lt 64 x y l m
-cond-fits false x y l m = l
+half-fits a t l = cond_both (nat_lt (a % 8) 4) _ _ (λ x. x < 2 ^ 64) (λ _. omega arith) (λ _. omega arith)
 
 joined-even : (f : ℕ → ℕ) (a t : ℕ) → IsEven (with_tetra (octa_in f) a t)
 joined-even f a t = λ q r e. ap (λ n. cond (n == a / 8) (bit_xor (octa_from f (n * 8)) (in_half a t)) (octa_from f (n * 8))) e
 
 joined-fits : (f : ℕ → ℕ) (a t q : ℕ) → HaveBytes f → t < 2 ^ 32 → with_tetra (octa_in f) a t q < 2 ^ 64
-joined-fits f a t q h l = cond-fits (q / 8 == a / 8) (octa_in f q) (in_half a t) (octa-fits f q h) (half-fits a t l)
+joined-fits f a t q h l = cond_both (q / 8 == a / 8) _ _ (λ it. it < 2 ^ 64) (λ _. xor_lt 64 (octa_in f q) (in_half a t) (octa-fits f q h) (half-fits a t l)) (λ _. octa-fits f q h)
 
 same-numbers : (f g : ℕ → ℕ) → ((q : ℕ) → f q ≡ g q) → f ≡ g
 same-numbers f g h = λ i q. h q i

@@ -1,14 +1,7 @@
 -- How many pages there are, and one page more.
-use Rattle.std.proofs.Common.{◌≡◌, ℕ, zero, suc, ◌+◌, ◌/◌, ◌%◌, ◌<◌, ◌≤◌, List, [], ◌∷◌, ◌++◌, length, Bool, true, false, cond, arith, refl, sym, ◌∙◌, ap, ⊎_elim, ◌⊎◌, inl, inr, add-zero, Result, Ok, Err}
-use Rattle.std.specs.Prelude.{◌==◌, ◌||◌, ◌&&◌, nat_le}
-use Rattle.std.specs.List.{list_any}
-use Rattle.std.proofs.lemmas.Bool.Decides.{nat_tests}
-use Rattle.std.proofs.lemmas.Bool.{cases_eq, cases_lt}
-use Rattle.std.proofs.lemmas.List.Folds.{list_any-append}
-use Rattle.mx_mmo.specs.Image.{Image}
-use Rattle.mx_mmo.specs.Meaning.{Meaningless, PagesFull, with_page, paged}
-use Rattle.mx_stmt.specs.Placements.{from_place}
-use Rattle.mx_asm.specs.Image.{pages_of, pages_below}
+use Rattle.std.proofs.Common.{◌≡◌, ℕ, zero, suc, ◌+◌, ◌/◌, ◌%◌, ◌<◌, ◌≤◌, List, [], ◌∷◌, ◌++◌, length, Bool, true, false, cond, arith, refl, sym, ◌∙◌, ap, ⊎_elim, ◌⊎◌, inl, inr, add-zero, Result, Ok, Err, ◌==◌, ◌||◌, ◌&&◌, nat_le}
+use Rattle.mx_asm.proofs.Words.{list_any, nat_tests, cases_eq, cases_lt, list_any-append, Image, Meaningless, PagesFull, with_page, paged, from_place, pages_of, pages_below}
+use Rattle.std.proofs.lemmas.Bool.{or_left as or-more}
 
 pub same-pages : (f g : ℕ → Bool) → ((p : ℕ) → f p ≡ g p) → f ≡ g
 same-pages f g h = λ i p. h p i
@@ -18,19 +11,13 @@ abbrev pub AreMore : (ℕ → Bool) → (ℕ → Bool) → Type 0
 AreMore more pages = (p : ℕ) → pages p ≡ true → more p ≡ true
 
 one-count : (s t : Bool) → (s ≡ true → t ≡ true) → cond s 1 0 ≤ cond t 1 0
-one-count true true h = omega arith
 one-count true false h = absurd (let e = h refl in cc)
-one-count false true h = omega arith
-one-count false false h = omega arith
+one-count s t h = omega arith
 
 pub more-count : (n : ℕ) (more pages : ℕ → Bool) → AreMore more pages → pages_below n pages ≤ pages_below n more
 unfolding pages_below
 more-count zero more pages h = omega arith
 more-count (suc n) more pages h = omega (arith, one-count (pages n) (more n) (h n), more-count n more pages h)
-
-or-more : (s t : Bool) → s ≡ true → (s || t) ≡ true
-or-more true t h = refl
-or-more false t h = absurd (cc)
 
 pub append-pages : (ps qs : List (ℕ × ℕ)) (p : ℕ) → pages_of (ps ++ qs) p ≡ (pages_of ps p || pages_of qs p)
 append-pages ps qs p = list_any-append (λ q. q.0 / 4096 == p) ps qs
@@ -149,20 +136,17 @@ last-byte a n e h = omega arith
 
 pub pages-alike : (a b e f : ℕ) (xs ys : List ℕ) (p : ℕ) → 0 < length xs → 0 < length ys → a + length xs ≡ e + 1 → b + length ys ≡ f + 1 → a / 4096 ≡ b / 4096 → e / 4096 ≡ f / 4096 →
     pages_of (from_place a xs) p ≡ pages_of (from_place b ys) p
-pages-alike a b e f [] ys p l k u v g h = absurd (omega arith)
-pages-alike a b e f (x ∷ xs) [] p l k u v g h = absurd (omega arith)
 pages-alike a b e f (x ∷ xs) (y ∷ ys) p l k u v g h =
     pages-run a x xs p
     ∙ ap (λ n. nat_le (a / 4096) p && nat_le p (n / 4096)) (last-byte a (length xs) e u)
     ∙ ap (λ n. nat_le n p && nat_le p (e / 4096)) g
     ∙ ap (λ n. nat_le (b / 4096) p && nat_le p n) h
     ∙ sym (pages-run b y ys p ∙ ap (λ n. nat_le (b / 4096) p && nat_le p (n / 4096)) (last-byte b (length ys) f v))
+pages-alike a b e f xs ys p l k u v g h = absurd (omega arith)
 
 -- so many pages one after another are at least so many
 pub many-pages : (n u k : ℕ) (pages : ℕ → Bool) → u + k ≤ n → ((p : ℕ) → u ≤ p → p < u + k → pages p ≡ true) → k ≤ pages_below n pages
 unfolding pages_below
-many-pages zero u k pages l h = omega arith
-many-pages (suc n) u zero pages l h = omega arith
 many-pages (suc n) u (suc k) pages l h =
     by (λ l. many-pages n u (suc k) pages l h) (λ l. many-pages n u k pages l (λ p a b. h p a (omega arith))) (cases_lt (u + k) n)
   where
@@ -172,3 +156,4 @@ many-pages (suc n) u (suc k) pages l h =
         let there : pages n ≡ true = h n (omega arith) (omega arith) in
         let rest = last (omega arith) in
         rw there (omega (arith, rest))
+many-pages n u k pages l h = omega arith

@@ -1,22 +1,9 @@
 -- The items of bytes that a statement places, and what stands behind them.
-use Rattle.std.proofs.Common.{◌≡◌, ℕ, zero, suc, ◌+◌, ◌-◌, ◌*◌, ◌/◌, ◌%◌, ◌^◌, ◌<◌, ◌≤◌, List, [], ◌∷◌, ◌++◌, length, length-append, map, Bool, true, false, not, cond, arith, refl, sym, ◌∙◌, ap, bit_xor, replicate, min, Result, Ok, Err, ⊎_elim, ◌⊎◌, inl, inr}
-use Rattle.std.specs.Prelude.{◌==◌, ◌&&◌, nat_le, nat_lt}
-use Rattle.std.specs.Int.Bits.{xor_zero_r, xor_zero_l}
-use Rattle.std.proofs.lemmas.List.{length-replicate}
-use Rattle.std.proofs.lemmas.Bool.{cases_eq, cases_lt, eqb-true}
-use Rattle.std.proofs.lemmas.Bool.Decides.{nat_tests}
-use Rattle.mx_word.specs.Octas.{with_tetra}
-use Rattle.mx_word.specs.Ranges.{AreBytes}
-use Rattle.mx_word.proofs.Ranges.{bytes-append, bytes-zeros}
-use Rattle.mx_mmo.specs.Image.{Image}
-use Rattle.mx_mmo.specs.Reading.{tetras_of}
-use Rattle.mx_mmo.specs.Meaning.{Meaningless, PagesFull, BadPlace, image_with_tetra, paged, join, lined as lined_with, noted, next_line, after_load, with_name, take_item, take_items}
-use Rattle.mx_mmo.specs.declared.items.Item.{Item}
-use Rattle.mx_mmo.specs.declared.items.Item.TheVariants.{Load, Loc, Line}
-use Rattle.mx_stmt.specs.Placements.{from_place, placed}
-use Rattle.mx_stmt.proofs.JoinedBytes.{placed-append, from-append, placed-zeros}
-use Rattle.mx_asm.specs.Image.{octa_in, pages_of, pages_below}
-use Rattle.mx_asm.specs.Emission.{lowered, raised, zeros_after, covered, covering, tetra_count, located, told_line, lined, line_behind}
+use Rattle.std.proofs.Common.{◌≡◌, ℕ, zero, suc, ◌+◌, ◌-◌, ◌*◌, ◌/◌, ◌%◌, ◌^◌, ◌<◌, ◌≤◌, List, [], ◌∷◌, ◌++◌, length, length-append, map, Bool, true, false, not, cond, arith, refl, sym, ◌∙◌, ap, bit_xor, replicate, min, Result, Ok, Err, ⊎_elim, ◌⊎◌, inl, inr, ◌==◌, ◌&&◌, nat_le, nat_lt}
+use Rattle.mx_asm.proofs.Words.{xor_zero_r, xor_zero_l, length-replicate, cond_both, cases_eq, cases_lt, eqb-true, nat_tests, with_tetra, AreBytes, bytes-append, bytes-zeros, Image, tetras_of, Meaningless, PagesFull, BadPlace, image_with_tetra, paged, join, noted, next_line, after_load, with_name, take_item, take_items, Item, Load, Loc, from_place, placed, placed-append, from-append, placed-zeros, octa_in, pages_of, pages_below, lowered, raised, zeros_after, covered, covering, tetra_count, located, told_line, lined}
+use Rattle.mx_mmo.specs.Meaning.{lined as lined_with}
+use Rattle.mx_mmo.specs.declared.items.Item.TheVariants.{Line}
+use Rattle.mx_asm.specs.Emission.{line_behind}
 use Rattle.mx_asm.proofs.MeaningPages.{same-pages, unless_full, pages-alike}
 use Rattle.mx_asm.proofs.MeaningStates.{State, image_at, stands, count_of, limited, Takes, take-none, takes-none, same-numbers, noted_lines, lines_with, line_after}
 
@@ -49,10 +36,7 @@ covered-sum start bytes =
     ∙ ap (λ k. start % 4 + length bytes + k) (length-replicate ((4 - (start + length bytes) % 4) % 4) 0)
 
 pub covered-length : (start : ℕ) (bytes : List ℕ) → lowered start + length (covered start bytes) ≡ raised (start + length bytes)
-covered-length start bytes = ap (λ k. lowered start + k) (covered-sum start bytes) ∙ sum (length bytes)
-  where
-    sum : (n : ℕ) → lowered start + (start % 4 + n + (4 - (start + n) % 4) % 4) ≡ raised (start + n)
-    sum n = omega arith
+covered-length start bytes = ap (λ k. lowered start + k) (covered-sum start bytes) ∙ (omega arith)
 
 pub covered-fours : (start : ℕ) (bytes : List ℕ) → length (covered start bytes) % 4 ≡ 0
 covered-fours start bytes = let e = covered-length start bytes in omega (arith, e)
@@ -70,10 +54,8 @@ covered-pages start bytes p l =
 
 pub tetras-length : (bytes : List ℕ) → length bytes % 4 ≡ 0 → 4 * length (tetras_of bytes) ≡ length bytes
 tetras-length [] l = refl
-tetras-length (b ∷ []) l = absurd (omega arith)
-tetras-length (b ∷ c ∷ []) l = absurd (omega arith)
-tetras-length (b ∷ c ∷ d ∷ []) l = absurd (omega arith)
 tetras-length (b ∷ c ∷ d ∷ e ∷ more) l = omega (arith, tetras-length more (omega arith))
+tetras-length bytes l = absurd (omega arith)
 
 pub covering-length : (start : ℕ) (bytes : List ℕ) → length (covering start bytes) ≡ tetra_count start (length bytes)
 covering-length start bytes =
@@ -167,18 +149,13 @@ takes-located n s start = on (lowered s.lambda == lowered start)
     on false = takes-still n _ s (at_lambda s (lowered start)) refl refl refl
 
 pub located-at : (s : State) (start : ℕ) → cond (lowered s.lambda == lowered start) s.lambda (lowered start) / 4 ≡ lowered start / 4
-located-at s start = on (lowered s.lambda == lowered start) (λ e. eqb-true (lowered s.lambda) (lowered start) e)
-  where
-    on : (b : Bool) → (b ≡ true → lowered s.lambda ≡ lowered start) → cond b s.lambda (lowered start) / 4 ≡ lowered start / 4
-    on true h = let e = h refl in omega (arith, e)
-    on false h = refl
+located-at s start = cond_both (lowered s.lambda == lowered start) _ _ (λ x. x / 4 ≡ lowered start / 4)
+    (λ q. let e = eqb-true (lowered s.lambda) (lowered start) q in omega (arith, e)) (λ _. refl)
 
 pub takes-lined : (n : ℕ) (s : State) (line : ℕ) → Takes n (lined s.line line) s (record s { line = told_line line })
-takes-lined n s line = on (s.line == told_line line) (λ e. eqb-true s.line (told_line line) e)
-  where
-    on : (b : Bool) → (b ≡ true → s.line ≡ told_line line) → Takes n (cond b [] (Line (told_line line) ∷ [])) s (record s { line = told_line line })
-    on true h = record { taken = take-none (limited n s) ∙ ap (λ k. limited n (record s { line = k })) (h refl) }
-    on false h = takes-still n _ s (record s { line = told_line line }) refl refl refl
+takes-lined n s line = cond_both (s.line == told_line line) _ _ (λ x. Takes n x s (record s { line = told_line line }))
+    (λ e. record { taken = take-none (limited n s) ∙ ap (λ k. limited n (record s { line = k })) (eqb-true s.line (told_line line) e) })
+    (λ _. takes-still n _ s (record s { line = told_line line }) refl refl refl)
 
 -- ---- lines
 
@@ -232,11 +209,7 @@ lines-are (suc k) a line q lines some few =
     ∙ one-line (a / 4) (q / 4) k line (lines q)
 
 pub line-after : (k line : ℕ) → line ≤ 2 ^ 32 - 1 → line_after line k ≡ line_behind line k
-line-after zero line few = on (line == 0) (λ e. eqb-true line 0 e)
-  where
-    on : (b : Bool) → (b ≡ true → line ≡ 0) → line ≡ cond b 0 (min (line + 0) (2 ^ 32 - 1))
-    on true h = h refl
-    on false h = omega (arith, few)
+line-after zero line few = cond_both (line == 0) _ _ (λ x. line ≡ x) (λ e. eqb-true line 0 e) (λ _. omega (arith, few))
 line-after (suc k) line few = on (line == 0) (line-after k (min (line + 1) (2 ^ 32 - 1)) (omega arith))
   where
     none : (k : ℕ) → line_after 0 k ≡ 0

@@ -1,38 +1,16 @@
 -- The pages and the lines of what statements place, with their targets known and with none.
-use Rattle.std.proofs.Common.{◌≡◌, ℕ, ◌+◌, ◌-◌, ◌/◌, ◌≤◌, List, [], ◌∷◌, ◌++◌, length, fold, Bool, true, false, cond, arith, refl, sym, ◌∙◌, ap, subst, Option, Some, None, Ok, Err, append-nil}
-use Rattle.std.specs.Prelude.{◌==◌, ◌||◌, ◌&&◌, nat_le}
-use Rattle.std.specs.List.{AllByRecursion, list_any}
-use Rattle.std.proofs.lemmas.Bool.Decides.{nat_tests}
-use Rattle.mx_word.specs.declared.symbols.Value.{Value}
-use Rattle.mx_word.specs.declared.symbols.Value.TheVariants.{Pure, Reg}
+use Rattle.std.proofs.Common.{◌≡◌, ℕ, ◌+◌, ◌-◌, ◌/◌, ◌≤◌, List, [], ◌∷◌, ◌++◌, length, fold, Bool, true, false, cond, arith, refl, sym, ◌∙◌, ap, subst, Option, Some, None, Ok, Err, append-nil, ◌==◌, ◌||◌, ◌&&◌, nat_le}
+use Rattle.mx_asm.proofs.Words.{AllByRecursion, list_any, nat_tests, Value, Pure, Reg, Wait, WaitKind, Octa, Near, Far, same_awaited, NameTable, complete_form, Label, Name, Local, Placed, Answer, AreAlike, Targets, encoding, fix_bytes, fix_placements, IsFixed, kind_size, IsInside, from_place, all-into, all-append, Sight, outline, waits_in, references, is_local, targets, piece_with, pieces_of, from_last, awaited_value, waiting_for, waiting_at, placements, pages_of, with_lines, statement_fault, first_fault}
 use Rattle.mx_word.specs.declared.waits.Awaited.TheVariants as awaited
-use Rattle.mx_word.specs.declared.waits.Wait.{Wait}
-use Rattle.mx_word.specs.declared.waits.WaitKind.{WaitKind}
-use Rattle.mx_word.specs.declared.waits.WaitKind.TheVariants.{Octa, Near, Far}
-use Rattle.mx_word.specs.Waits.{same_awaited}
-use Rattle.mx_names.specs.Names.{NameTable, complete_form}
-use Rattle.mx_stmt.specs.declared.statement.Label.{Label}
-use Rattle.mx_stmt.specs.declared.statement.Label.TheVariants.{Name, Local}
-use Rattle.mx_stmt.specs.declared.placed.Placed.{Placed}
-use Rattle.mx_stmt.specs.Steps.{Answer, AreAlike}
-use Rattle.mx_stmt.specs.Operands.{Targets}
-use Rattle.mx_stmt.specs.Encoding.{encoding}
-use Rattle.mx_stmt.specs.Fixes.{fix_bytes, fix_placements, IsFixed}
-use Rattle.mx_stmt.specs.Laid.{kind_size, IsInside}
-use Rattle.mx_stmt.specs.Placements.{from_place}
 use Rattle.mx_stmt.proofs.JoinedStatements.{encoding-joined}
-use Rattle.mx_stmt.proofs.LaidBytes.{all-into, all-append}
-use Rattle.mx_asm.specs.TwoPass.{Sight, outline, waits_in, references, is_local, targets, piece_with, pieces_of}
-use Rattle.mx_asm.specs.Fixes.{from_last, awaited_value, waiting_for, waiting_at}
-use Rattle.mx_asm.specs.Image.{placements, pages_of, with_lines}
-use Rattle.mx_asm.specs.Refusal.{statement_fault, first_fault}
-use Rattle.mx_asm.proofs.WaitsFor.{references-append}
+use Rattle.mx_asm.proofs.WaitsFor.{references-append, references-one as one-reference}
 use Rattle.mx_asm.proofs.EndWaits.{both-none}
 use Rattle.mx_asm.proofs.MeaningPages.{AreMore, append-pages, append-more, pages-run}
 use Rattle.mx_asm.proofs.MeaningStates.{State, same-numbers}
 use Rattle.mx_asm.proofs.MeaningBytes.{piece_at, behind_bytes}
 use Rattle.mx_asm.proofs.MeaningStatements.{all-filter, at_value, behind_fixes, behind_placed}
 use Rattle.mx_asm.proofs.MeaningFronts.{IsSteady, faultless, laid, behind_sight, after_sights}
+use Rattle.std.proofs.lemmas.Bool.{or_right as or-right}
 
 -- ---- a statement with its targets known
 
@@ -56,9 +34,8 @@ fixed-to t s p steady e = fixed-by t s p (outline s) (encoding t s.known s.state
 -- tests of addresses hang on how many bytes there are
 pub same-addresses : (f : ℕ → Bool) (a : ℕ) (xs ys : List ℕ) → length xs ≡ length ys → list_any (λ (q : ℕ × ℕ). f q.0) (from_place a xs) ≡ list_any (λ (q : ℕ × ℕ). f q.0) (from_place a ys)
 same-addresses f a [] [] e = refl
-same-addresses f a [] (y ∷ ys) e = absurd (omega (arith, e))
-same-addresses f a (x ∷ xs) [] e = absurd (omega (arith, e))
 same-addresses f a (x ∷ xs) (y ∷ ys) e = ap (λ b. f a || b) (same-addresses f (a + 1) xs ys (omega (arith, e)))
+same-addresses f a xs ys e = absurd (omega (arith, e))
 
 fixed-addresses : (f : ℕ → Bool) (t : Targets) (p q : Placed) → IsFixed t p q → list_any (λ (r : ℕ × ℕ). f r.0) (from_place q.start q.bytes) ≡ list_any (λ (r : ℕ × ℕ). f r.0) (from_place p.start p.bytes)
 fixed-addresses f t p q is = ap (λ a. list_any (λ (r : ℕ × ℕ). f r.0) (from_place a q.bytes)) is.start ∙ same-addresses f p.start q.bytes p.bytes is.count
@@ -115,10 +92,6 @@ lines-of-sights final (t ∷ later) earlier s none steady =
 abbrev pub IsOn : List (ℕ × ℕ) → Wait → Type 0
 IsOn ps w = (bytes : List ℕ) → length bytes ≡ kind_size w.kind → AreMore (pages_of ps) (pages_of (from_place w.at bytes))
 
-or-right : (s t : Bool) → t ≡ true → (s || t) ≡ true
-or-right true t h = refl
-or-right false t h = h
-
 on-same : (ps qs : List (ℕ × ℕ)) (w : Wait) → AreMore (pages_of qs) (pages_of ps) → IsOn ps w → IsOn qs w
 on-same ps qs w more on = λ bytes l p h. more p (on bytes l p h)
 
@@ -144,8 +117,7 @@ inside-on start placed_bytes w is bytes l = by placed_bytes bytes is.first (subs
 -- the pages of records
 fix-length : (kind : WaitKind) (place : ℕ) (target : Option ℕ) → length (fix_bytes kind place target) ≡ kind_size kind
 fix-length Octa place target = refl
-fix-length Near place target = refl
-fix-length Far place target = refl
+fix-length kind place target = refl
 
 fixes-on : (t : Targets) (waits : List Wait) (ps : List (ℕ × ℕ)) → AllByRecursion (IsOn ps) waits → AreMore (pages_of ps) (pages_of (fix_placements t waits))
 fixes-on t [] ps on = λ p h. absurd (cc)
@@ -161,9 +133,8 @@ fixes-on t (w ∷ waits) ps on =
     by p rest false b e f h = rest (f ∙ h)
 
 between : (a f b : Bool) → (f ≡ true → (a || b) ≡ true) → ((a || f) || b) ≡ (a || b)
-between true f b h = refl
 between false true b h = sym (h refl)
-between false false b h = refl
+between a f b h = refl
 
 fixes-pages : (s : State) (value : Value) (waits : List Wait) (qs : List (ℕ × ℕ)) (p : ℕ) → AllByRecursion (IsOn (s.placements ++ qs)) waits →
     pages_of ((behind_fixes s value waits).placements ++ qs) p ≡ pages_of (s.placements ++ qs) p
@@ -209,10 +180,6 @@ waiting-on P earlier s (Some (Name text)) h = all-filter P (λ (w : Wait). same_
 waiting-on P earlier s (Some (Local d)) h =
     all-filter P (λ (w : Wait). same_awaited w.who (awaited.Local d)) (references (from_last d earlier))
     (last-on P d earlier (front-of P (references earlier) (references (s ∷ [])) (subst (AllByRecursion P) (references-append earlier (s ∷ [])) h)))
-
-one-reference : (s : Sight) → references (s ∷ []) ≡ waits_in (outline s)
-unfolding references
-one-reference s = append-nil (waits_in (outline s))
 
 -- the references of a statement and of those before it lie on the pages of what they place
 references-on : (ps : List (ℕ × ℕ)) (earlier : List Sight) (t : Sight) (p : Placed) → outline t ≡ Ok p → AllByRecursion (IsOn ps) (references earlier) →

@@ -1,24 +1,6 @@
 -- What holds of the statements of lines and sources that are bytes.
-use Rattle.std.proofs.Common.{◌≡◌, ◌<◌, ℕ, ◌^◌, List, [], ◌∷◌, ◌++◌, Bool, true, false, not, cond, refl, sym, ◌∙◌, ap, is_some, Option, Some, None, Result, Ok, Err}
-use Rattle.std.specs.Prelude.{◌==◌, nat_le}
-use Rattle.std.specs.Result.{result_err}
-use Rattle.std.specs.List.{AllByRecursion, slice_split, onto_first}
-use Rattle.mx_word.specs.Ranges.{AreBytes}
-use Rattle.mx_line.specs.Lines.{lines_of, without_empty_last}
-use Rattle.mx_line.specs.Pieces.{split}
-use Rattle.mx_mmo.specs.Meaning.{PagesFull, nothing, take_items, meaning, Loading, Meaningless}
-use Rattle.mx_mmo.specs.declared.items.Item.TheVariants.{Post, Stab}
-use Rattle.mx_stmt.specs.Gregs.{lowest_of}
-use Rattle.mx_asm.specs.Emission.{front, closing, main_of}
-use Rattle.mx_stmt.specs.Encoding.{StatementTree}
-use Rattle.mx_asm.specs.declared.refused.Refused.{Refused}
-use Rattle.mx_asm.specs.Entries.{statements_in, refusal_in, source_entries}
-use Rattle.mx_asm.specs.TwoPass.{Sight, final_known, sights_of, pieces}
-use Rattle.mx_asm.specs.Image.{page_count, image}
-use Rattle.mx_asm.specs.Refusal.{first_fault, first_undefined, entries_refusal, end_refusal, last_line, refusal}
-use Rattle.mx_asm.specs.Statements.{IsStatement}
-use Rattle.mx_asm.specs.Whole.{Line, accepted, lines_entries, lines_items, assembled_source}
-use Rattle.mx_asm.specs.Pages.{AreAccepted, outlined, has_room, loaded_image, page_fault, page_refusal, run_refusal_with, accepted_in, run_refusal}
+use Rattle.std.proofs.Common.{◌≡◌, ◌<◌, ℕ, ◌^◌, List, [], ◌∷◌, ◌++◌, Bool, true, false, not, cond, refl, sym, ◌∙◌, ap, is_some, Option, Some, None, Result, Ok, Err, ◌==◌, nat_le}
+use Rattle.mx_asm.proofs.Words.{cond_both, result_err, AllByRecursion, slice_split, onto_first, AreBytes, lines_of, without_empty_last, split, PagesFull, nothing, take_items, meaning, Loading, Meaningless, Post, Stab, lowest_of, front, closing, main_of, StatementTree, Refused, statements_in, refusal_in, source_entries, Sight, final_known, sights_of, pieces, page_count, image, first_fault, first_undefined, entries_refusal, end_refusal, last_line, refusal, IsStatement, Line, accepted, lines_entries, lines_items, assembled_source, AreAccepted, outlined, has_room, loaded_image, page_fault, page_refusal, run_refusal_with, accepted_in, run_refusal}
 use Rattle.mx_asm.proofs.EndWaits.{both-none}
 use Rattle.mx_asm.proofs.InTurn.{source-accepted, source-refused}
 use Rattle.mx_asm.proofs.MeaningStates.{take-append}
@@ -38,21 +20,17 @@ first-bytes b (part ∷ parts) l h = ((l, h.0), h.1)
 
 parts-bytes : (f : ℕ → Bool) (source : List ℕ) → AreBytes source → AllByRecursion AreBytes (slice_split f source)
 parts-bytes f [] h = (tt, tt)
-parts-bytes f (b ∷ source) h = by (f b) (parts-bytes f source h.1)
-  where
-    by : (c : Bool) → AllByRecursion AreBytes (slice_split f source) → AllByRecursion AreBytes (cond c ([] ∷ slice_split f source) (onto_first b (slice_split f source)))
-    by true rest = (tt, rest)
-    by false rest = first-bytes b (slice_split f source) h.0 rest
+parts-bytes f (b ∷ source) h = cond_both (f b) _ _ (AllByRecursion AreBytes)
+    (λ _. (tt, (parts-bytes f source h.1))) (λ _. first-bytes b (slice_split f source) h.0 (parts-bytes f source h.1))
 
 split-bytes : (source : List ℕ) → AreBytes source → AllByRecursion AreBytes (split 10 source)
 unfolding split
 split-bytes source h = parts-bytes (λ b. b == 10) source h
 
 last-bytes : (lines : List (List ℕ)) → AllByRecursion AreBytes lines → AllByRecursion AreBytes (without_empty_last lines)
-last-bytes [] h = tt
-last-bytes ([] ∷ []) h = tt
 last-bytes ((b ∷ bs) ∷ []) h = h
 last-bytes (line ∷ next ∷ lines) h = (h.0, last-bytes (next ∷ lines) h.1)
+last-bytes lines h = tt
 
 pub source-bytes : (source : List ℕ) → AreBytes source → AllByRecursion AreBytes (lines_of source)
 unfolding lines_of
@@ -85,9 +63,8 @@ room-is statements h =
     (same-pages _ _ (λ page. outlined-pages (final_known statements).names (sights_of statements) [] page h.faultless (steady-all statements h.read h.faultless)))
 
 both-runs : (pages : Option ℕ) (refused : Option Refused) → run_refusal_with pages refused ≡ None → (pages ≡ None) × (refused ≡ None)
-both-runs (Some line) refused h = absurd (cc)
-both-runs None (Some r) h = absurd (cc)
 both-runs None None h = (refl, refl)
+both-runs pages refused h = absurd (cc)
 
 -- what is not refused for its pages has room
 room-of : (ss : List Sight) → page_refusal ss ≡ None → has_room (outlined ss) ≡ true

@@ -1,41 +1,13 @@
 -- The items of one statement, and those of statements one after another.
-use Rattle.std.proofs.Common.{◌≡◌, ℕ, ◌+◌, ◌%◌, ◌^◌, ◌<◌, ◌≤◌, List, [], ◌∷◌, ◌++◌, length, Bool, true, false, cond, arith, refl, sym, ◌∙◌, ap, subst, Option, Some, None, Result, Ok, Err, append_assoc, append-nil}
-use Rattle.std.specs.Prelude.{◌==◌}
-use Rattle.std.specs.List.{AllByRecursion, filter}
-use Rattle.std.proofs.lemmas.Bool.{eqb-true}
-use Rattle.mx_word.specs.Words.{octa_to_bytes}
-use Rattle.mx_word.specs.Ranges.{AreBytes}
-use Rattle.mx_word.specs.declared.symbols.Value.{Value}
-use Rattle.mx_word.specs.declared.symbols.Value.TheVariants.{Pure, Reg}
+use Rattle.std.proofs.Common.{◌≡◌, ℕ, ◌+◌, ◌%◌, ◌^◌, ◌<◌, ◌≤◌, List, [], ◌∷◌, ◌++◌, length, Bool, true, false, cond, arith, refl, sym, ◌∙◌, ap, subst, Option, Some, None, Result, Ok, Err, append_assoc, append-nil, ◌==◌}
+use Rattle.mx_asm.proofs.Words.{AllByRecursion, filter, cond_both, eqb-true, octa_to_bytes, AreBytes, Value, Pure, Reg, Wait, WaitKind, Octa, Near, Far, same_awaited, take_items, Item, Loc, complete_form, Label, Name, Local, Placed, Answer, Targets, no_targets, encoding, fix_bytes, fix_placements, kind_size, IsInside, IsLaid, from_place, placed, encoding-laid, all-into, all-append, AsmFault, Refused, Sight, outline, waits_in, references, from_last, fix_of, with_fix, fixes, awaited_value, waiting_for, waiting_at, moved, onto, fix_items, head_at_fixes, byte_items, head_at_bytes, with_bytes, statement_items, statement_head}
 use Rattle.mx_word.specs.declared.waits.Awaited.TheVariants as awaited
-use Rattle.mx_word.specs.declared.waits.Wait.{Wait}
-use Rattle.mx_word.specs.declared.waits.WaitKind.{WaitKind}
-use Rattle.mx_word.specs.declared.waits.WaitKind.TheVariants.{Octa, Near, Far}
-use Rattle.mx_word.specs.Waits.{same_awaited}
-use Rattle.mx_mmo.specs.Meaning.{take_items}
-use Rattle.mx_mmo.specs.declared.items.Item.{Item}
-use Rattle.mx_mmo.specs.declared.items.Item.TheVariants.{Loc}
-use Rattle.mx_names.specs.Names.{complete_form}
-use Rattle.mx_stmt.specs.declared.statement.Label.{Label}
-use Rattle.mx_stmt.specs.declared.statement.Label.TheVariants.{Name, Local}
-use Rattle.mx_stmt.specs.declared.placed.Placed.{Placed}
-use Rattle.mx_stmt.specs.Steps.{Answer}
-use Rattle.mx_stmt.specs.Operands.{Targets, no_targets}
-use Rattle.mx_stmt.specs.Encoding.{encoding}
-use Rattle.mx_stmt.specs.Fixes.{fix_bytes, fix_placements}
-use Rattle.mx_stmt.specs.Laid.{kind_size, IsInside, IsLaid}
-use Rattle.mx_stmt.specs.Placements.{from_place, placed}
-use Rattle.mx_stmt.proofs.LaidBytes.{encoding-laid, all-into, all-append}
-use Rattle.mx_asm.specs.declared.faults.AsmFault.{AsmFault}
-use Rattle.mx_asm.specs.declared.refused.Refused.{Refused}
-use Rattle.mx_asm.specs.TwoPass.{Sight, outline, waits_in, references}
-use Rattle.mx_asm.specs.Fixes.{from_last, fix_of, with_fix, fixes, awaited_value, waiting_for, waiting_at}
-use Rattle.mx_asm.specs.Emission.{moved, onto, fix_items, head_at_fixes, byte_items, head_at_bytes, with_bytes, statement_items, statement_head}
 use Rattle.mx_asm.proofs.MeaningMemory.{HaveBytes}
 use Rattle.mx_asm.proofs.MeaningStates.{State, limited, Takes, take-none, takes-both, more-bytes}
 use Rattle.mx_asm.proofs.MeaningPieces.{takes-still, at_lambda}
 use Rattle.mx_asm.proofs.MeaningBytes.{head_of, behind_bytes, takes-bytes}
 use Rattle.mx_asm.proofs.MeaningFixes.{behind_fix, takes-fix, word-bytes}
+use Rattle.mx_stmt.proofs.LaidBytes.{octa-bytes as octa-are}
 
 -- ---- references lie low
 
@@ -45,8 +17,7 @@ pub record IsLow (w : Wait) : Type 0 where
 
 some-size : (kind : WaitKind) → 4 ≤ kind_size kind
 some-size Octa = omega arith
-some-size Near = omega arith
-some-size Far = omega arith
+some-size kind = omega arith
 
 inside-low : (p : Placed) (w : Wait) → IsLaid p → IsInside p.start (length p.bytes) w → IsLow w
 inside-low p w laid h =
@@ -70,11 +41,7 @@ references-low (s ∷ later) = all-append IsLow (waits_in (outline s)) (referenc
 
 pub all-filter : (P : Wait → Type 0) (f : Wait → Bool) (waits : List Wait) → AllByRecursion P waits → AllByRecursion P (filter f waits)
 all-filter P f [] h = tt
-all-filter P f (w ∷ waits) h = by (f w) (all-filter P f waits h.1)
-  where
-    by : (b : Bool) → AllByRecursion P (filter f waits) → AllByRecursion P (cond b (w ∷ filter f waits) (filter f waits))
-    by true rest = (h.0, rest)
-    by false rest = rest
+all-filter P f (w ∷ waits) h = cond_both (f w) _ _ (AllByRecursion P) (λ _. (h.0, (all-filter P f waits h.1))) (λ _. all-filter P f waits h.1)
 
 waiting-by : (earlier : List Sight) (s : Sight) (label : Option Label) → AllByRecursion IsLow (waiting_for earlier s label)
 waiting-by earlier s None = tt
@@ -94,13 +61,9 @@ IsWord (Reg r) = Unit {0}
 abbrev pub at_value : ℕ → Targets
 at_value value who = Some value
 
-octa-are : (n : ℕ) → AreBytes (octa_to_bytes n)
-octa-are n = (omega arith, (omega arith, (omega arith, (omega arith, (omega arith, (omega arith, (omega arith, (omega arith, tt))))))))
-
 fix-are : (kind : WaitKind) (place : ℕ) (target : Option ℕ) → AreBytes (fix_bytes kind place target)
 fix-are Octa place target = octa-are _
-fix-are Near place target = word-bytes _
-fix-are Far place target = word-bytes _
+fix-are kind place target = word-bytes _
 
 pub fixes-have : (t : Targets) (waits : List Wait) (ps : List (ℕ × ℕ)) → HaveBytes (placed ps) → HaveBytes (placed (ps ++ fix_placements t waits))
 fixes-have t [] ps have = subst (λ qs. HaveBytes (placed qs)) (sym (append-nil ps)) have
@@ -159,11 +122,9 @@ module _ (n : ℕ) (big : 2 ^ 51 ≤ n) where
       }
 
   takes-moved : (value : ℕ) (s : State) → Takes n (moved s.lambda (Pure value)) s (at_lambda s value)
-  takes-moved value s = on (s.lambda == value) (λ e. eqb-true s.lambda value e)
-    where
-      on : (b : Bool) → (b ≡ true → s.lambda ≡ value) → Takes n (cond b [] (Loc value ∷ [])) s (at_lambda s value)
-      on true h = record { taken = take-none (limited n s) ∙ ap (λ a. limited n (at_lambda s a)) (h refl) }
-      on false h = takes-still n _ s (at_lambda s value) refl refl refl
+  takes-moved value s = cond_both (s.lambda == value) _ _ (λ x. Takes n x s (at_lambda s value))
+      (λ e. record { taken = take-none (limited n s) ∙ ap (λ a. limited n (at_lambda s a)) (eqb-true s.lambda value e) })
+      (λ _. takes-still n _ s (at_lambda s value) refl refl refl)
 
   -- ---- a statement
 

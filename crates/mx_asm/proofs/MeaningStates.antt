@@ -1,20 +1,8 @@
 -- What stands once items were loaded, by the bytes that they placed, and one tetra more.
-use Rattle.std.proofs.Common.{◌≡◌, ℕ, zero, suc, ◌+◌, ◌*◌, ◌/◌, ◌%◌, ◌^◌, ◌<◌, ◌≤◌, List, [], ◌∷◌, ◌++◌, length, map, Bool, true, false, not, cond, arith, refl, sym, ◌∙◌, ap, bit_xor, subst, Result, Ok, Err, append_assoc}
-use Rattle.std.specs.Prelude.{◌==◌, ◌||◌, nat_le}
-use Rattle.std.proofs.lemmas.Nat.{xor_of_8}
-use Rattle.std.proofs.lemmas.Bool.Decides.{nat_tests}
-use Rattle.mx_word.specs.Words.{tetra_from_bytes}
-use Rattle.mx_word.specs.Octas.{with_tetra, with_page}
-use Rattle.mx_word.specs.Ranges.{AreBytes}
-use Rattle.mx_word.proofs.Tetras.{four-fit}
-use Rattle.mx_mmo.specs.Image.{Image}
-use Rattle.mx_mmo.specs.Reading.{tetras_of}
-use Rattle.mx_mmo.specs.Meaning.{Loading, Meaningless, PagesFull, BadPlace, paged, image_with_tetra, join, lined, noted, next_line, after_load, with_name, take_item, take_items}
-use Rattle.mx_mmo.specs.declared.items.Item.{Item}
-use Rattle.mx_mmo.specs.declared.items.Item.TheVariants.{Load}
-use Rattle.mx_stmt.specs.Placements.{from_place, placed}
-use Rattle.mx_stmt.proofs.JoinedBytes.{placed-append, from-append}
-use Rattle.mx_asm.specs.Image.{octa_in, pages_of, pages_below}
+use Rattle.std.proofs.Common.{◌≡◌, ℕ, zero, suc, ◌+◌, ◌*◌, ◌/◌, ◌%◌, ◌^◌, ◌<◌, ◌≤◌, List, [], ◌∷◌, ◌++◌, length, map, Bool, true, false, not, cond, arith, refl, sym, ◌∙◌, ap, bit_xor, subst, Result, Ok, Err, append_assoc, ◌==◌, ◌||◌, nat_le}
+use Rattle.mx_asm.proofs.Words.{cond_both, xor_of_8, nat_tests, tetra_from_bytes, with_tetra, AreBytes, four-fit, Image, tetras_of, Loading, Meaningless, PagesFull, BadPlace, paged, image_with_tetra, join, noted, next_line, after_load, with_name, take_item, take_items, Item, Load, from_place, placed, placed-append, from-append, octa_in, pages_of, pages_below}
+use Rattle.mx_word.specs.Octas.{with_page}
+use Rattle.mx_mmo.specs.Meaning.{lined}
 use Rattle.mx_asm.proofs.MeaningTetras.{four, tetra-placed}
 use Rattle.mx_asm.proofs.MeaningMemory.{HaveBytes, octas-joined}
 use Rattle.mx_asm.proofs.MeaningPages.{same-pages, AreMore, more-count, append-pages, append-more, unless_full, paged-is, tetra-page}
@@ -162,11 +150,9 @@ takes-tetra n b c d e s big m l are have =
 
 placed-byte : (a : ℕ) (bytes : List ℕ) (q : ℕ) → AreBytes bytes → placed (from_place a bytes) q < 2 ^ 8
 placed-byte a [] q h = omega arith
-placed-byte a (b ∷ bytes) q h = by (q == a) (placed-byte (a + 1) bytes q h.1)
-  where
-    by : (t : Bool) → placed (from_place (a + 1) bytes) q < 2 ^ 8 → cond t (bit_xor b (placed (from_place (a + 1) bytes) q)) (placed (from_place (a + 1) bytes) q) < 2 ^ 8
-    by true rest = xor_of_8 b (placed (from_place (a + 1) bytes) q) h.0 rest
-    by false rest = rest
+placed-byte a (b ∷ bytes) q h = cond_both (q == a) _ _ (λ x. x < 2 ^ 8)
+    (λ _. xor_of_8 b (placed (from_place (a + 1) bytes) q) h.0 (placed-byte (a + 1) bytes q h.1))
+    (λ _. placed-byte (a + 1) bytes q h.1)
 
 pub more-bytes : (ps : List (ℕ × ℕ)) (a : ℕ) (bytes : List ℕ) → HaveBytes (placed ps) → AreBytes bytes → HaveBytes (placed (ps ++ from_place a bytes))
 more-bytes ps a bytes have are = λ q. subst (λ n. n < 2 ^ 8) (sym (placed-append ps (from_place a bytes) q)) (xor_of_8 (placed ps q) (placed (from_place a bytes) q) (have q) (placed-byte a bytes q are))
@@ -203,9 +189,6 @@ pub takes-tetras : (n : ℕ) (bytes : List ℕ) (s : State) → 2 ^ 51 ≤ n →
     Takes n (map Load (tetras_of bytes)) s (behind_tetras s bytes)
 takes-tetras n [] s big m l low are have =
     takes-equal n [] s s (behind_tetras s []) (same-state s (behind_tetras s []) (no-bytes s.placements) refl (omega arith) refl) (takes-none n s)
-takes-tetras n (b ∷ []) s big m l low are have = absurd (omega (arith, l))
-takes-tetras n (b ∷ c ∷ []) s big m l low are have = absurd (omega (arith, l))
-takes-tetras n (b ∷ c ∷ d ∷ []) s big m l low are have = absurd (omega (arith, l))
 takes-tetras n (b ∷ c ∷ d ∷ e ∷ more) s big m l low are have =
     let t : State = behind_tetra s b c d e in
     let four_are : AreBytes (b ∷ c ∷ d ∷ e ∷ []) = (are.0, (are.1.0, (are.1.1.0, (are.1.1.1.0, tt)))) in
@@ -216,3 +199,4 @@ takes-tetras n (b ∷ c ∷ d ∷ e ∷ more) s big m l low are have =
     (takes-both n (Load (tetra_from_bytes (b ∷ c ∷ d ∷ e ∷ [])) ∷ []) (map Load (tetras_of more)) s t (behind_tetras t more)
     (takes-tetra n b c d e s big m (omega (arith, low)) four_are have)
     (takes-tetras n more t big (omega (arith, m)) (omega (arith, l)) (omega (arith, low)) are.1.1.1.1 (more-bytes s.placements s.lambda (b ∷ c ∷ d ∷ e ∷ []) have four_are)))
+takes-tetras n bytes s big m l low are have = absurd (omega (arith, l))

@@ -1,25 +1,7 @@
 -- What is known at the statements that are accepted is sound, and their values are octas.
 use Rattle.std.proofs.Common.{◌≡◌, ℕ, List, [], ◌∷◌, ◌++◌, refl, sym, ◌∙◌, ap, subst, Option, Some, None, Ok}
-use Rattle.std.specs.List.{AllByRecursion}
-use Rattle.std.specs.Option.{IfSome}
-use Rattle.mx_word.specs.declared.symbols.Value.{Value}
-use Rattle.mx_names.specs.Names.{complete_form}
-use Rattle.mx_names.proofs.Entries.{not-some}
-use Rattle.mx_stmt.specs.declared.statement.Label.{Label}
-use Rattle.mx_stmt.specs.declared.statement.Label.TheVariants.{Name, Local}
-use Rattle.mx_stmt.specs.declared.placed.Effect.{Effect}
+use Rattle.mx_asm.proofs.Words.{AllByRecursion, IfSome, Value, complete_form, not-some, Label, Name, Local, Effect, Placed, Known, no_targets, symbol_form, StatementTree, IsPossible, encoding, HasRegisterNumber, IsSound, sound-start, sound-symbol, sound-local, sound-greg, encoding-fine, Refused, Sight, with_label, with_effect, known_with, known_after, nothing_known, sights_from, sights_of, label_fault, statement_fault, first_fault, first_of, IsStatement, accepted, accepted_with}
 use Rattle.mx_stmt.specs.declared.placed.Effect.TheVariants as effect
-use Rattle.mx_stmt.specs.declared.placed.Placed.{Placed}
-use Rattle.mx_stmt.specs.Operands.{Known, no_targets, symbol_form}
-use Rattle.mx_stmt.specs.Encoding.{StatementTree, IsPossible, encoding}
-use Rattle.mx_stmt.specs.Fixes.{HasRegisterNumber, IsSound}
-use Rattle.mx_stmt.proofs.SoundKnowledge.{sound-start, sound-symbol, sound-local, sound-greg}
-use Rattle.mx_stmt.proofs.SoundLabels.{encoding-fine}
-use Rattle.mx_asm.specs.declared.refused.Refused.{Refused}
-use Rattle.mx_asm.specs.TwoPass.{Sight, with_label, with_effect, known_with, known_after, nothing_known, sights_from, sights_of}
-use Rattle.mx_asm.specs.Refusal.{label_fault, statement_fault, first_fault, first_of}
-use Rattle.mx_asm.specs.Statements.{IsStatement}
-use Rattle.mx_asm.specs.Whole.{accepted, accepted_with}
 use Rattle.mx_asm.proofs.OneStatement.{name-new}
 use Rattle.mx_asm.proofs.EndWaits.{both-none}
 use Rattle.mx_asm.proofs.MeaningFronts.{IsSteady, faultless}
@@ -31,18 +13,15 @@ sound-at k at h = record { symbols = h.symbols; backs = h.backs; gregs = h.gregs
 
 sound-label : (k : Known) (label : Option Label) (value : Option Value) (at : ℕ) → label_fault k.names label ≡ None → IfSome value HasRegisterNumber → IsSound k →
     IsSound (record { names = with_label k.names label value; at = at; gregs = k.gregs })
-sound-label k None value at none fits h = sound-at k at h
-sound-label k (Some (Name text)) None at none fits h = sound-at k at h
-sound-label k (Some (Local d)) None at none fits h = sound-at k at h
 sound-label k (Some (Name text)) (Some v) at none fits h =
     sound-at _ at (sound-symbol k (complete_form k.names.prefix text) v (not-some _ (name-new k.names text (symbol_form k.names text) refl none)) fits h)
 sound-label k (Some (Local d)) (Some v) at none fits h = sound-at _ at (sound-local k d v fits h)
+sound-label k label value at none fits h = sound-at k at h
 
 sound-effect : (k : Known) (e : Effect) → IsPossible k.gregs e → IsSound k → IsSound (with_effect k e)
-sound-effect k effect.Plain possible h = h
 sound-effect k (effect.Prefix full) possible h = record { symbols = h.symbols; backs = h.backs; gregs = h.gregs }
 sound-effect k (effect.Greg reg value) possible h = sound-greg k reg value possible h
-sound-effect k (effect.Local reg) possible h = h
+sound-effect k e possible h = h
 
 pub sound-kept : (k : Known) (s : StatementTree) (p : Placed) → IsSound k → encoding no_targets k s ≡ Ok p → label_fault k.names s.label ≡ None → IsSound (known_after k s)
 unfolding known_after

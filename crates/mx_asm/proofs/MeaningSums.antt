@@ -1,31 +1,9 @@
 -- The bytes that are placed and then joined by fix records are those that are placed with all targets known.
-use Rattle.std.proofs.Common.{◌≡◌, ℕ, List, [], ◌∷◌, ◌++◌, fold, Bool, true, false, not, cond, refl, sym, ◌∙◌, ap, subst, bit_xor, Option, Some, None, Ok, append_assoc}
-use Rattle.std.specs.Prelude.{◌==◌, bytes_eq}
-use Rattle.std.specs.List.{AllByRecursion, filter}
-use Rattle.std.specs.Int.Bits.{xor_assoc, xor_zero_l, xor_zero_r}
-use Rattle.std.proofs.lemmas.Nat.{xor_comm}
-use Rattle.std.proofs.lemmas.Bool.Decides.{Decides-eqb}
-use Rattle.std.proofs.lemmas.Slice.Eq.{bytes_eq-Decides}
-use Rattle.mx_word.specs.declared.symbols.Value.{Value}
-use Rattle.mx_word.specs.declared.symbols.Value.TheVariants.{Pure, Reg}
-use Rattle.mx_word.specs.declared.waits.Awaited.{Awaited}
+use Rattle.std.proofs.Common.{◌≡◌, ℕ, List, [], ◌∷◌, ◌++◌, fold, Bool, true, false, not, cond, refl, sym, ◌∙◌, ap, subst, bit_xor, Option, Some, None, Ok, append_assoc, ◌==◌, bytes_eq}
+use Rattle.mx_asm.proofs.Words.{cond_both, AllByRecursion, filter, xor_assoc, xor_zero_l, xor_zero_r, xor_comm, Decides-eqb, bytes_eq-Decides, Value, Pure, Reg, Awaited, Wait, same_awaited, NameTable, complete_form, value_of_name, with_symbol, waits_for, waits_for_others, value-inserted, not-some, Label, Name, Local, Placed, Known, Targets, no_targets, symbol_form, StatementTree, encoding, fix_bytes, fix_placements, from_place, placed, placed-append, Sight, outline, waits_in, is_local, next_local, pure_number, targets, with_label, known_with, known_after, sights_from, fixes, awaited_value, waiting_for, waiting_at, refusal_of, label_fault, statement_fault, first_fault}
 use Rattle.mx_word.specs.declared.waits.Awaited.TheVariants as awaited
-use Rattle.mx_word.specs.declared.waits.Wait.{Wait}
-use Rattle.mx_word.specs.Waits.{same_awaited}
-use Rattle.mx_names.specs.Names.{NameTable, complete_form, value_in as symbol_in, value_of_name, with_symbol}
-use Rattle.mx_names.specs.Waiting.{waits_for, waits_for_others}
-use Rattle.mx_names.proofs.Entries.{value-inserted, not-some}
-use Rattle.mx_stmt.specs.declared.statement.Label.{Label}
-use Rattle.mx_stmt.specs.declared.statement.Label.TheVariants.{Name, Local}
-use Rattle.mx_stmt.specs.declared.placed.Placed.{Placed}
-use Rattle.mx_stmt.specs.Operands.{Known, Targets, no_targets, symbol_form}
-use Rattle.mx_stmt.specs.Encoding.{StatementTree, encoding}
-use Rattle.mx_stmt.specs.Fixes.{fix_bytes, fix_placements}
-use Rattle.mx_stmt.specs.Placements.{from_place, placed}
-use Rattle.mx_stmt.proofs.JoinedBytes.{placed-append}
-use Rattle.mx_asm.specs.TwoPass.{Sight, outline, waits_in, value_in, is_local, next_local, pure_number, targets, with_label, known_with, known_after, sights_from}
-use Rattle.mx_asm.specs.Fixes.{fixes, awaited_value, waiting_for, waiting_at}
-use Rattle.mx_asm.specs.Refusal.{refusal_of, label_fault, statement_fault, first_fault}
+use Rattle.mx_names.specs.Names.{value_in as symbol_in}
+use Rattle.mx_asm.specs.TwoPass.{value_in}
 use Rattle.mx_asm.proofs.OpenWaits.{any_settles, open_waits, open-unlabelled, open-named, open-local}
 use Rattle.mx_asm.proofs.WaitsFor.{same-is, named-waits, local-waits}
 use Rattle.mx_asm.proofs.OneStatement.{name-new, effect-symbols}
@@ -63,11 +41,7 @@ every P (w ∷ waits) h = (h w, every P waits h)
 
 passing : (P : Wait → Type 0) (f : Wait → Bool) (waits : List Wait) → ((w : Wait) → f w ≡ true → P w) → AllByRecursion P (filter f waits)
 passing P f [] h = tt
-passing P f (w ∷ waits) h = by (f w) refl (passing P f waits h)
-  where
-    by : (b : Bool) → f w ≡ b → AllByRecursion P (filter f waits) → AllByRecursion P (cond b (w ∷ filter f waits) (filter f waits))
-    by true e rest = (h w e, rest)
-    by false e rest = rest
+passing P f (w ∷ waits) h = cond_both (f w) _ _ (AllByRecursion P) (λ q. (h w q, (passing P f waits h))) (λ _. passing P f waits h)
 
 -- one more among the first or the others
 first-more : (x a b c : ℕ) → c ≡ bit_xor a b → bit_xor x c ≡ bit_xor (bit_xor x a) b
@@ -93,11 +67,8 @@ added-split t who (w ∷ waits) q =
 
 -- ---- names keep their values
 
-same-name : (a b : List ℕ) → bytes_eq a b ≡ true → a ≡ b
-same-name a b h = (bytes_eq-Decides a b).0 h
-
 symbol-kept : (names : NameTable) (form full : List ℕ) (value v : Value) → symbol_in form names.symbols ≡ None → symbol_in full names.symbols ≡ Some v → symbol_in full (with_symbol names form value).symbols ≡ Some v
-symbol-kept names form full value v new h = value-inserted _ names.symbols full new ∙ by (bytes_eq full form) (same-name full form)
+symbol-kept names form full value v new h = value-inserted _ names.symbols full new ∙ by (bytes_eq full form) (λ h. (bytes_eq-Decides full form).0 h)
   where
     by : (b : Bool) → (b ≡ true → full ≡ form) → cond b (Some value) (symbol_in full names.symbols) ≡ Some v
     by true same = let none : None ≡ Some v = sym new ∙ ap (λ n. symbol_in n names.symbols) (sym (same refl)) ∙ h in absurd (cc)

@@ -1,14 +1,6 @@
 -- A tetra that is joined to memory, as four bytes that are placed.
-use Rattle.std.proofs.Common.{◌≡◌, ℕ, zero, suc, ◌+◌, ◌-◌, ◌*◌, ◌/◌, ◌%◌, ◌^◌, ◌<◌, ◌≤◌, List, [], ◌∷◌, length, Bool, true, false, cond, arith, refl, sym, ◌∙◌, ap, bit_xor, ⊎_elim, ◌⊎◌, inl, inr}
-use Rattle.std.specs.Prelude.{◌==◌}
-use Rattle.std.specs.Int.Bits.{xor_zero_r}
-use Rattle.std.proofs.lemmas.Grind.{common_steps}
-use Rattle.std.proofs.lemmas.Bool.Decides.{nat_tests}
-use Rattle.std.proofs.lemmas.Bool.{cases_eq, cases_lt}
-use Rattle.mx_word.specs.Words.{tetra_from_bytes}
-use Rattle.mx_word.specs.Octas.{tetra_byte}
-use Rattle.mx_word.proofs.Tetras.{tetra-sum}
-use Rattle.mx_stmt.specs.Placements.{placed, from_place}
+use Rattle.std.proofs.Common.{◌≡◌, ℕ, zero, suc, ◌+◌, ◌-◌, ◌*◌, ◌/◌, ◌%◌, ◌^◌, ◌<◌, ◌≤◌, List, [], ◌∷◌, length, Bool, true, false, cond, arith, refl, sym, ◌∙◌, ap, bit_xor, ⊎_elim, ◌⊎◌, inl, inr, ◌==◌}
+use Rattle.mx_asm.proofs.Words.{xor_zero_r, common_steps, nat_tests, cases_eq, cases_lt, tetra_from_bytes, tetra_byte, tetra-sum, placed, from_place}
 
 -- the four bytes of a tetra, by their places
 abbrev pub pick : ℕ → ℕ → ℕ → ℕ → ℕ → ℕ
@@ -18,11 +10,8 @@ pick a b c d (suc (suc zero)) = c
 pick a b c d (suc (suc (suc n))) = d
 
 digit : (a b c d t i : ℕ) → a < 256 → b < 256 → c < 256 → d < 256 → t ≡ a * 16777216 + b * 65536 + c * 256 + d → i < 4 → t / 2 ^ (8 * (3 - i)) % 256 ≡ pick a b c d i
-digit a b c d t zero la lb lc ld e l = omega arith
-digit a b c d t (suc zero) la lb lc ld e l = omega arith
-digit a b c d t (suc (suc zero)) la lb lc ld e l = omega arith
-digit a b c d t (suc (suc (suc zero))) la lb lc ld e l = omega arith
 digit a b c d t (suc (suc (suc (suc i)))) la lb lc ld e l = absurd (omega arith)
+digit a b c d t i la lb lc ld e l = omega arith
 
 -- a tetra's byte at an address in it, and at an address outside it
 tetra-inside : (a b c d x q : ℕ) → a < 256 → b < 256 → c < 256 → d < 256 → q / 4 ≡ x / 4 →
@@ -32,31 +21,22 @@ tetra-inside a b c d x q la lb lc ld e =
     ap (λ t. cond t (tetra_from_bytes (a ∷ b ∷ c ∷ d ∷ []) / 2 ^ (8 * (3 - q % 4)) % 256) 0) here
     ∙ digit a b c d (tetra_from_bytes (a ∷ b ∷ c ∷ d ∷ [])) (q % 4) la lb lc ld (tetra-sum a b c d) (omega arith)
 
-tetra-outside : (x t q : ℕ) → (q / 4 ≡ x / 4 → ⊥) → tetra_byte x t q ≡ 0
-tetra-outside x t q ne = grind (arith, common_steps)
-
 -- a test of an address
 first-test : (t : Bool) (x r : ℕ) → t ≡ false → cond t (bit_xor x r) r ≡ r
 first-test t x r e = rw e refl
 
-same-test : (t : Bool) (x r : ℕ) → t ≡ true → r ≡ 0 → cond t (bit_xor x r) r ≡ x
-same-test t x r e z = rw (e, z) (xor_zero_r x)
-
 abbrev pub four : ℕ → ℕ → ℕ → ℕ → ℕ → List (ℕ × ℕ)
 four x a b c d = from_place x (a ∷ b ∷ c ∷ d ∷ [])
-
-no-test : (q x : ℕ) → (q ≡ x → ⊥) → (q == x) ≡ false
-no-test q x ne = grind (arith, nat_tests)
 
 yes-test : (q x : ℕ) → q ≡ x → (q == x) ≡ true
 yes-test q x e = grind (arith, nat_tests)
 
 -- at an address outside, placements one after another
 next-placed : (x y q : ℕ) (ps : List (ℕ × ℕ)) → (q ≡ x → ⊥) → placed ((x, y) ∷ ps) q ≡ placed ps q
-next-placed x y q ps ne = first-test (q == x) y (placed ps q) (no-test q x ne)
+next-placed x y q ps ne = first-test (q == x) y (placed ps q) (grind (arith, nat_tests))
 
 this-placed : (x y q : ℕ) (ps : List (ℕ × ℕ)) → q ≡ x → placed ps q ≡ 0 → placed ((x, y) ∷ ps) q ≡ y
-this-placed x y q ps e z = same-test (q == x) y (placed ps q) (yes-test q x e) z
+this-placed x y q ps e z = rw ((yes-test q x e), z) (xor_zero_r y)
 
 -- bytes from a place on lie nowhere below it, and nowhere at their end or above
 below-none : (x q : ℕ) (bytes : List ℕ) → q < x → placed (from_place x bytes) q ≡ 0
@@ -86,13 +66,10 @@ four-at x a b c d (suc (suc (suc (suc i)))) q l e = absurd (omega arith)
 -- a tetra has at each address what its bytes have that are placed
 pub tetra-placed : (x a b c d q : ℕ) → x % 4 ≡ 0 → a < 256 → b < 256 → c < 256 → d < 256 →
     tetra_byte x (tetra_from_bytes (a ∷ b ∷ c ∷ d ∷ [])) q ≡ placed (four x a b c d) q
-tetra-placed x a b c d q m la lb lc ld = ⊎_elim (λ e. inside e) (λ ne. outside ne) (cases_eq (q / 4) (x / 4))
+tetra-placed x a b c d q m la lb lc ld = ⊎_elim (λ e. tetra-inside a b c d x q la lb lc ld e ∙ sym (four-at x a b c d (q % 4) q (omega arith) (omega arith))) (λ ne. outside ne) (cases_eq (q / 4) (x / 4))
   where
-    inside : q / 4 ≡ x / 4 → tetra_byte x (tetra_from_bytes (a ∷ b ∷ c ∷ d ∷ [])) q ≡ placed (four x a b c d) q
-    inside e = tetra-inside a b c d x q la lb lc ld e ∙ sym (four-at x a b c d (q % 4) q (omega arith) (omega arith))
-
     outside : (q / 4 ≡ x / 4 → ⊥) → tetra_byte x (tetra_from_bytes (a ∷ b ∷ c ∷ d ∷ [])) q ≡ placed (four x a b c d) q
-    outside ne = tetra-outside x (tetra_from_bytes (a ∷ b ∷ c ∷ d ∷ [])) q ne ∙ sym (apart (cases_lt q x))
+    outside ne = (grind (arith, common_steps)) ∙ sym (apart (cases_lt q x))
       where
         apart : (q < x) ⊎ (x ≤ q) → placed (four x a b c d) q ≡ 0
         apart (inl l) = below-none x q (a ∷ b ∷ c ∷ d ∷ []) l

@@ -1,31 +1,8 @@
 -- The items of statements mean their image.
-use Rattle.std.proofs.Common.{◌≡◌, ℕ, ◌^◌, ◌≤◌, List, [], ◌∷◌, ◌++◌, fold, Bool, true, false, cond, lit≤, refl, sym, ◌∙◌, ap, bit_xor, Option, Some, None, Ok, Err, append_assoc, append-nil}
-use Rattle.std.specs.Prelude.{bytes_eq, is_some, nat_le}
-use Rattle.std.specs.List.{AllByRecursion}
-use Rattle.std.specs.Int.Bits.{xor_assoc, xor_zero_l, xor_zero_r}
-use Rattle.std.proofs.lemmas.Slice.Eq.{bytes_eq-Decides}
-use Rattle.mx_word.specs.declared.symbols.Value.{Value}
-use Rattle.mx_word.specs.declared.waits.Wait.{Wait}
-use Rattle.mx_mmo.specs.Meaning.{PagesFull, nothing, value_at, with_globals, take_items, image_in, meaning}
-use Rattle.mx_mmo.specs.declared.items.Item.TheVariants.{Post, Stab}
-use Rattle.mx_names.specs.Names.{NameTable, complete_form, value_in as symbol_in, value_of_name, first_value, pure_of}
+use Rattle.std.proofs.Common.{◌≡◌, ℕ, ◌^◌, ◌≤◌, List, [], ◌∷◌, ◌++◌, fold, Bool, true, false, cond, lit≤, refl, sym, ◌∙◌, ap, bit_xor, Option, Some, None, Ok, Err, append_assoc, append-nil, bytes_eq, is_some, nat_le}
+use Rattle.mx_asm.proofs.Words.{AllByRecursion, xor_assoc, xor_zero_l, xor_zero_r, bytes_eq-Decides, Value, Wait, PagesFull, nothing, value_at, with_globals, take_items, image_in, meaning, Post, Stab, NameTable, complete_form, value_of_name, first_value, pure_of, value-inserted, not-some, predefined_value, Label, Name, Local, Placed, lowest_of, Known, Targets, no_targets, symbol_form, StatementTree, encoding, from_place, placed, placed-append, xor-pairs, fix_placements, Sight, outline, references, targets, with_label, nothing_known, known_after, sights_from, sights_of, final_known, piece_with, pieces_of, pieces, awaited_value, waiting_at, octa_in, placements, pages_of, pages_below, page_count, lines_in, image_with, image, opening, first_head, items_from, front, main_of, closing, emission, label_fault, statement_fault, first_fault, first_undefined}
+use Rattle.mx_names.specs.Names.{value_in as symbol_in}
 use Rattle.mx_names.specs.Waiting.{first_of as earliest}
-use Rattle.mx_names.proofs.Entries.{value-inserted, not-some}
-use Rattle.mx_ops.specs.Predefined.{predefined_value}
-use Rattle.mx_stmt.specs.declared.statement.Label.{Label}
-use Rattle.mx_stmt.specs.declared.statement.Label.TheVariants.{Name, Local}
-use Rattle.mx_stmt.specs.declared.placed.Placed.{Placed}
-use Rattle.mx_stmt.specs.Gregs.{lowest_of}
-use Rattle.mx_stmt.specs.Operands.{Known, Targets, no_targets, symbol_form}
-use Rattle.mx_stmt.specs.Encoding.{StatementTree, encoding}
-use Rattle.mx_stmt.specs.Placements.{from_place, placed}
-use Rattle.mx_stmt.proofs.JoinedBytes.{placed-append, xor-pairs}
-use Rattle.mx_stmt.specs.Fixes.{fix_placements}
-use Rattle.mx_asm.specs.TwoPass.{Sight, outline, references, targets, with_label, nothing_known, known_after, sights_from, sights_of, final_known, piece_with, pieces_of, pieces}
-use Rattle.mx_asm.specs.Fixes.{awaited_value, waiting_at}
-use Rattle.mx_asm.specs.Image.{octa_in, placements, pages_of, pages_below, page_count, lines_in, image_with, image}
-use Rattle.mx_asm.specs.Emission.{opening, first_head, items_from, front, main_of, closing, emission}
-use Rattle.mx_asm.specs.Refusal.{label_fault, statement_fault, first_fault, first_undefined}
 use Rattle.mx_asm.proofs.LabelValues.{HasLabel, encoding-label}
 use Rattle.mx_asm.proofs.OpenWaits.{open_waits}
 use Rattle.mx_asm.proofs.OneStatement.{AreLabels, labels-kept, name-new}
@@ -49,9 +26,6 @@ defined-here k st p text value is label labelled new =
     ∙ value-inserted _ k.names.symbols full new
     ∙ ap (λ b. cond b (Some value) (symbol_in full k.names.symbols)) same
 
-valued : (final : NameTable) (full : List ℕ) (v : Value) → symbol_in full final.symbols ≡ Some v → value_of_name final full ≡ Some v
-valued final full v h = ap (λ o. first_value o (pure_of (predefined_value full))) h
-
 module _ (final : NameTable) (k : Known) (st : StatementTree) (statements : List StatementTree) (earlier : List Sight) (q : ℕ) where
   abbrev here : Sight
   here = sight_at k st
@@ -62,15 +36,14 @@ module _ (final : NameTable) (k : Known) (st : StatementTree) (statements : List
   settles-by : (p : Placed) (label : Option Label) (value : Option Value) → outline here ≡ Ok p → HasLabel label value → st.label ≡ label → p.label ≡ value → label_fault k.names label ≡ None →
       AreLabels k.names earlier → first_fault (earlier ++ here ∷ []) rest ≡ None → final ≡ (fold known_after (known_after k st) statements).names → Settles final earlier rest here p q
   settles-by p None None is has e v none labels others ends = unlabelled-settles final earlier rest here p q is e
-  settles-by p None (Some value) is has e v none labels others ends = absurd has
-  settles-by p (Some label) None is has e v none labels others ends = absurd has
   settles-by p (Some (Name text)) (Some value) is has e v none labels others ends =
       let full : List ℕ = complete_form k.names.prefix text in
       let new : is_some (symbol_in full k.names.symbols) ≡ false = name-new k.names text (symbol_form k.names text) refl none in
       let there = symbol-at-end statements (known_after k st) (earlier ++ here ∷ []) full value others (defined-here k st p text value is e v (not-some _ new)) in
       named-settles final earlier rest here p q is text e (labels full ∙ new)
-      (valued final full (awaited_value p.label) (ap (λ (n : NameTable). symbol_in full n.symbols) ends ∙ there ∙ ap (λ v. Some (awaited_value v)) (sym v)))
+      (ap (λ o. first_value o (pure_of (predefined_value full))) (ap (λ (n : NameTable). symbol_in full n.symbols) ends ∙ there ∙ ap (λ v. Some (awaited_value v)) (sym v)))
   settles-by p (Some (Local d)) (Some value) is has e v none labels others ends = local-settles final earlier rest here p q is d value e v
+  settles-by p label value is has e v none labels others ends = absurd has
 
 -- ---- the sum
 
@@ -158,9 +131,6 @@ module _ (n : ℕ) (big : 2 ^ 51 ≤ n) (statements : List StatementTree) (none 
   unfolding references
   pages-are = same-pages _ _ (λ page. pages-of-sights final.names (sights_of statements) [] first_state page none steady tt)
 
-  lines-are : end.lines ≡ lines_in (pieces statements)
-  lines-are = lines-of-sights final.names (sights_of statements) [] first_state none steady
-
   bytes-are : first_undefined final.names (sights_of statements) ≡ None → placed end.placements ≡ placed ps
   bytes-are defined = same-numbers _ _ (λ q.
       bytes-of-sights final.names statements nothing_known [] first_state q no-labels none steady (no-open statements none defined) refl
@@ -178,7 +148,7 @@ module _ (n : ℕ) (big : 2 ^ 51 ≤ n) (statements : List StatementTree) (none 
         memory = octa_in (bytes i);
         pages = pages i;
         page_count = pages_below n (pages i);
-        line_of = lines-are i;
+        line_of = (lines-of-sights final.names (sights_of statements) [] first_state none steady) i;
         g = lowest_of final.gregs;
         global = value_at (lowest_of final.gregs) (final.gregs ++ main_of final.names ∷ []);
       }))

@@ -1,32 +1,7 @@
 -- The items of statements fit the object format.
-use Rattle.std.proofs.Common.{◌≡◌, ◌<◌, ◌≤◌, ℕ, ◌+◌, ◌-◌, ◌/◌, ◌%◌, ◌^◌, Bool, true, false, not, cond, nat_le, nat_lt, List, [], ◌∷◌, ◌++◌, length, map, Result, Ok, Err, refl, arith, inl, inr}
-use Rattle.std.specs.Prelude.{◌==◌}
-use Rattle.std.specs.List.{AllByRecursion}
-use Rattle.std.specs.Result.{result_unwrap_or}
-use Rattle.std.proofs.lemmas.Bool.{ltb-true, ltb-false, leb-true, leb-false, eqb-true}
-use Rattle.mx_word.specs.Ranges.{AreBytes}
-use Rattle.mx_word.proofs.Tetras.{tetra-sum}
-use Rattle.mx_word.specs.declared.symbols.Value.{Value}
-use Rattle.mx_word.specs.declared.symbols.Value.TheVariants.{Pure, Reg}
-use Rattle.mx_word.specs.declared.waits.Wait.{Wait}
-use Rattle.mx_word.specs.declared.waits.WaitKind.{WaitKind}
-use Rattle.mx_word.specs.declared.waits.WaitKind.TheVariants.{Octa, Near, Far}
-use Rattle.mx_word.specs.Words.{tetra_from_bytes}
-use Rattle.mx_mmo.specs.Reading.{tetras_of}
-use Rattle.mx_mmo.specs.declared.items.Item.{Item}
-use Rattle.mx_mmo.specs.declared.items.Item.TheVariants.{Load, Loc, FixNear, FixFar, Line}
-use Rattle.mx_mmo.specs.Valid.{Fits}
-use Rattle.mx_stmt.specs.declared.placed.Placed.{Placed}
-use Rattle.mx_stmt.specs.declared.faults.StmtFault.TheVariants.{NotMultiple, TooFar}
-use Rattle.mx_stmt.specs.Steps.{Answer}
-use Rattle.mx_stmt.specs.Forms.{relative_word, near_reach, far_reach}
-use Rattle.mx_asm.specs.declared.faults.AsmFault.{AsmFault}
-use Rattle.mx_asm.specs.declared.refused.Refused.{Refused}
-use Rattle.mx_asm.specs.declared.head.Head.{Head}
-use Rattle.mx_asm.specs.TwoPass.{Sight, outline}
-use Rattle.mx_asm.specs.Fixes.{waiting_at, relative_fix, pure_fix, fix_of, with_fix, fixes, awaited_value}
-use Rattle.mx_asm.specs.Emission.{moved, onto, fix_items, lowered, covered, covering, told_line, located, lined, byte_items, head_at_fixes, with_bytes, sight_items, sight_head, items_from}
-use Rattle.mx_asm.specs.Fitting.{AreFit, IsWidth}
+use Rattle.std.proofs.Common.{◌≡◌, ◌<◌, ◌≤◌, ℕ, ◌+◌, ◌-◌, ◌/◌, ◌%◌, ◌^◌, Bool, true, false, not, cond, nat_le, nat_lt, List, [], ◌∷◌, ◌++◌, length, map, Result, Ok, Err, refl, arith, inl, inr, ◌==◌}
+use Rattle.mx_asm.proofs.Words.{AllByRecursion, result_unwrap_or, cond_both, ltb-true, ltb-false, leb-true, leb-false, eqb-true, AreBytes, tetra-sum, Value, Pure, Reg, Wait, WaitKind, Octa, Near, Far, tetra_from_bytes, tetras_of, Item, Load, Loc, FixNear, FixFar, Fits, Placed, NotMultiple, TooFar, Answer, relative_word, near_reach, far_reach, AsmFault, Refused, Head, Sight, outline, waiting_at, relative_fix, pure_fix, fix_of, with_fix, fixes, awaited_value, moved, onto, fix_items, lowered, covered, covering, told_line, located, lined, byte_items, head_at_fixes, with_bytes, sight_items, sight_head, items_from, AreFit, IsWidth}
+use Rattle.mx_mmo.specs.declared.items.Item.TheVariants.{Line}
 use Rattle.mx_asm.proofs.Fitting.{fit-none, fit-one, fit-both}
 use Rattle.mx_asm.proofs.MeaningStatements.{IsLow, IsWord, waiting-low}
 use Rattle.mx_asm.proofs.MeaningPieces.{covered-bytes}
@@ -39,40 +14,30 @@ IfWord (Err fault) = Unit {0}
 IfWord (Ok word) = word < 2 ^ 25
 
 forward-fits : (odd near : Bool) (reach n : ℕ) → (near ≡ true → n < reach) → reach ≤ 2 ^ 24 → IfWord (cond odd (Err NotMultiple) (cond near (Ok (0 + n)) (Err TooFar)))
-forward-fits true near reach n below few = tt
 forward-fits false true reach n below few = omega (arith, below refl, few)
-forward-fits false false reach n below few = tt
+forward-fits odd near reach n below few = tt
 
 backward-fits : (same near : Bool) (reach distance : ℕ) → (same ≡ true → distance % 4 ≡ 0) → (near ≡ true → distance / 4 ≤ reach) → 0 < distance → reach ≤ 2 ^ 24 →
     IfWord (cond (not same) (Err NotMultiple) (cond near (Ok (0 + 2 ^ 24 + (reach - distance / 4))) (Err TooFar)))
-backward-fits false near reach distance fours below some few = tt
 backward-fits true true reach distance fours below some few = omega (arith, fours refl, below refl, some, few)
-backward-fits true false reach distance fours below some few = tt
+backward-fits same near reach distance fours below some few = tt
 
 word-fits : (reach place target : ℕ) → reach ≤ 2 ^ 24 → IfWord (relative_word 0 reach place target)
-word-fits reach place target few = by (nat_le place target) (leb-false place target)
-  where
-    by : (b : Bool) → (b ≡ false → target < place) →
-        IfWord (cond b (cond (not ((target - place) % 4 == 0)) (Err NotMultiple) (cond (nat_lt ((target - place) / 4) reach) (Ok (0 + (target - place) / 4)) (Err TooFar)))
-        (cond (not ((place - target) % 4 == 0)) (Err NotMultiple) (cond (nat_le ((place - target) / 4) reach) (Ok (0 + 2 ^ 24 + (reach - (place - target) / 4))) (Err TooFar))))
-    by true less = forward-fits (not ((target - place) % 4 == 0)) (nat_lt ((target - place) / 4) reach) reach ((target - place) / 4) (ltb-true ((target - place) / 4) reach) few
-    by false less =
-        let below = less refl in
-        backward-fits ((place - target) % 4 == 0) (nat_le ((place - target) / 4) reach) reach (place - target)
-        (eqb-true ((place - target) % 4) 0) (leb-true ((place - target) / 4) reach) (omega (arith, below)) few
+word-fits reach place target few = cond_both (nat_le place target) _ _ IfWord
+    (λ _. forward-fits (not ((target - place) % 4 == 0)) (nat_lt ((target - place) / 4) reach) reach ((target - place) / 4) (ltb-true ((target - place) / 4) reach) few)
+    (λ e.
+      let below = leb-false place target e in
+      backward-fits ((place - target) % 4 == 0) (nat_le ((place - target) / 4) reach) reach (place - target)
+      (eqb-true ((place - target) % 4) 0) (leb-true ((place - target) / 4) reach) (omega (arith, below)) few)
 
 abbrev IfFits : Result Item AsmFault → Type 0
 IfFits (Err fault) = Unit {0}
 IfFits (Ok item) = Fits item
 
-record-fits : (short : Bool) (bits word : ℕ) → (short ≡ true → word < 2 ^ 16) → IsWidth bits → word < 2 ^ 25 → Fits (cond short (FixNear word) (FixFar bits word))
-record-fits true bits word near width fits = near refl
-record-fits false bits word near width fits = (width, fits)
-
 relative-fits : (bits : ℕ) (r : Answer ℕ) → IsWidth bits → IfWord r → IfFits (relative_fix bits r)
 relative-fits bits (Err NotMultiple) width h = tt
 relative-fits bits (Err fault) width h = tt
-relative-fits bits (Ok word) width h = record-fits (nat_lt word (2 ^ 16)) bits word (ltb-true word (2 ^ 16)) width h
+relative-fits bits (Ok word) width h = cond_both (nat_lt word (2 ^ 16)) _ _ Fits (λ e. ltb-true word (2 ^ 16) e) (λ _. (width, h))
 
 pure-fits : (place : ℕ) (kind : WaitKind) (value : ℕ) → place < 2 ^ 64 → IfFits (pure_fix place kind value)
 pure-fits place Octa value low = low
@@ -90,9 +55,8 @@ IfFit (Err refused) = Unit {0}
 IfFit (Ok items) = AreFit items
 
 with-fit : (line from : ℕ) (r : Result Item AsmFault) (later : Result (List Item) Refused) → IfFits r → IfFit later → IfFit (with_fix line from r later)
-with-fit line from (Err fault) later h g = tt
-with-fit line from (Ok fix) (Err refused) h g = tt
 with-fit line from (Ok fix) (Ok fixes) h g = fit-both (fix ∷ []) fixes (fit-one fix h) g
+with-fit line from r later h g = tt
 
 fixes-fit : (line : ℕ) (value : Value) (waits : List Wait) → AllByRecursion IsLow waits → IfFit (fixes line value waits)
 unfolding fixes
@@ -122,20 +86,13 @@ four-fit : (a b c d : ℕ) → a < 2 ^ 8 → b < 2 ^ 8 → c < 2 ^ 8 → d < 2 ^
 four-fit a b c d p q r s = let sum = tetra-sum a b c d in omega (arith, sum, p, q, r, s)
 
 tetras-fit : (bytes : List ℕ) → AreBytes bytes → AreFit (map Load (tetras_of bytes))
-tetras-fit [] h = fit-none
-tetras-fit (a ∷ []) h = fit-none
-tetras-fit (a ∷ b ∷ []) h = fit-none
-tetras-fit (a ∷ b ∷ c ∷ []) h = fit-none
 tetras-fit (a ∷ b ∷ c ∷ d ∷ more) h =
     let t : ℕ = tetra_from_bytes (a ∷ b ∷ c ∷ d ∷ []) in
     fit-both (Load t ∷ []) (map Load (tetras_of more)) (fit-one (Load t) (four-fit a b c d h.0 h.1.0 h.1.1.0 h.1.1.1.0)) (tetras-fit more h.1.1.1.1)
+tetras-fit bytes h = fit-none
 
 told-fits : (line : ℕ) → Fits (Line (told_line line))
-told-fits line = by (nat_lt 65535 line) (ltb-false 65535 line)
-  where
-    by : (b : Bool) → (b ≡ false → line ≤ 65535) → Fits (Line (cond b 0 line))
-    by true h = omega arith
-    by false h = let few = h refl in omega (arith, few)
+told-fits line = cond_both (nat_lt 65535 line) _ _ (λ x. Fits (Line x)) (λ _. omega arith) (λ e. let few = ltb-false 65535 line e in omega (arith, few))
 
 bytes-fit : (h : Head) (line start : ℕ) (bytes : List ℕ) → (0 < length bytes → start + length bytes ≤ 0x6000_0000_0000_0000) → AreBytes bytes → AreFit (byte_items h line start bytes)
 bytes-fit h line start [] low are = fit-none

@@ -1,35 +1,10 @@
 -- An object can be written of what a source is assembled into, and its trie tells its symbols.
-use Rattle.std.proofs.Common.{◌≡◌, ◌<◌, ◌≤◌, ℕ, ◌-◌, ◌/◌, ◌%◌, ◌^◌, Bool, true, false, cond, nat_lt, List, [], ◌∷◌, ◌++◌, length, Option, None, Some, Result, Ok, Err, refl, sym, ap, ◌∙◌, subst, arith, length-append}
-use Rattle.std.specs.List.{list_any}
-use Rattle.std.specs.Option.{IfSome}
-use Rattle.std.specs.Prelude.{nat_le, codes}
-use Rattle.std.proofs.lemmas.Bool.{ltb-false}
-use Rattle.std.proofs.lemmas.List.{length-replicate}
-use Rattle.mx_word.specs.Ranges.{AreBytes}
-use Rattle.mx_word.specs.declared.symbols.Value.{Value}
-use Rattle.mx_word.specs.declared.symbols.Value.TheVariants.{Pure, Reg}
-use Rattle.mx_mmo.specs.declared.items.Item.{Item}
-use Rattle.mx_mmo.specs.declared.items.Item.TheVariants.{File, Pre, Post, Stab}
+use Rattle.std.proofs.Common.{◌≡◌, ◌<◌, ◌≤◌, ℕ, ◌-◌, ◌/◌, ◌%◌, ◌^◌, Bool, true, false, cond, nat_lt, List, [], ◌∷◌, ◌++◌, length, Option, None, Some, Result, Ok, Err, refl, sym, ap, ◌∙◌, subst, arith, length-append, nat_le, codes}
+use Rattle.mx_asm.proofs.Words.{list_any, IfSome, ltb-false, length-replicate, AreBytes, Value, Pure, Reg, Item, File, Pre, Post, Stab, lines_of, value_of_name, lowest_of, Known, StatementTree, AsmFault, SymbolsTooMany, LocalAboveGlobals, Refused, statements_in, source_entries, sights_of, final_known, zeros_after, opening, first_head, items_from, main_name, pure_or_zero, main_of, closing, emission, padded_trie, symbols_of, trie_limit, last_fault, end_fault, at_line, first_undefined, locals, entries_refusal, end_refusal, last_line, refusal, AreFit, IsPadded, AreWritable, Ended, assembled_source, written, ending}
 use Rattle.mx_stab.specs.Reading.{trie_answer}
 use Rattle.mx_stab.specs.Trie.{trie_of}
 use Rattle.mx_stab.proofs.Law.{written-is-trie}
 use Rattle.mx_stab.proofs.Whole.{trie-read}
-use Rattle.mx_line.specs.Lines.{lines_of}
-use Rattle.mx_names.specs.Names.{value_of_name}
-use Rattle.mx_stmt.specs.Gregs.{lowest_of}
-use Rattle.mx_stmt.specs.Operands.{Known}
-use Rattle.mx_stmt.specs.Encoding.{StatementTree}
-use Rattle.mx_asm.specs.declared.faults.AsmFault.{AsmFault}
-use Rattle.mx_asm.specs.declared.faults.AsmFault.TheVariants.{SymbolsTooMany, LocalAboveGlobals}
-use Rattle.mx_asm.specs.declared.refused.Refused.{Refused}
-use Rattle.mx_asm.specs.Entries.{statements_in, source_entries}
-use Rattle.mx_asm.specs.TwoPass.{sights_of, final_known}
-use Rattle.mx_asm.specs.Emission.{zeros_after, opening, first_head, items_from, main_name, pure_or_zero, main_of, closing, emission, padded_trie}
-use Rattle.mx_asm.specs.Image.{symbols_of}
-use Rattle.mx_asm.specs.Refusal.{trie_limit, last_fault, end_fault, at_line, first_undefined, locals, entries_refusal, end_refusal, last_line, refusal}
-use Rattle.mx_asm.specs.Fitting.{AreFit, IsPadded, AreWritable}
-use Rattle.mx_asm.specs.OnePass.{Ended}
-use Rattle.mx_asm.specs.Whole.{assembled_source}
 use Rattle.mx_asm.proofs.EndWaits.{both-none}
 use Rattle.mx_asm.proofs.Fitting.{fit-one, fit-both, fit-registers, fit-time, fit-file}
 use Rattle.mx_asm.proofs.InTurn.{source-accepted, source-refused}
@@ -39,7 +14,6 @@ use Rattle.mx_asm.proofs.MeaningRead.{lines-of-bytes}
 use Rattle.mx_asm.proofs.MeaningSources.{source-bytes, source-are-accepted}
 use Rattle.mx_asm.proofs.Validity.{assembled-valid}
 use Rattle.mx_asm.proofs.ObjectItems.{items-fit}
-use Rattle.mx_mmo.specs.Spelling.{written, ending}
 use Rattle.mx_asm.proofs.ObjectShort.{object-short}
 use Rattle.mx_asm.proofs.ObjectNames.{IsTellable, few-registers, tellable-end}
 use Rattle.mx_asm.proofs.StatementCounts.{few-statements}
@@ -47,9 +21,8 @@ use Rattle.mx_asm.proofs.StatementCounts.{few-statements}
 -- ---- the end of an object
 
 main-low : (value : Option Value) → IfSome value IsWord → pure_or_zero value < 2 ^ 64
-main-low None h = omega arith
 main-low (Some (Pure n)) h = h
-main-low (Some (Reg r)) h = omega arith
+main-low value h = omega arith
 
 closing-fits : (k : Known) → IsTellable 0 k → AreFit (closing k.names k.gregs)
 closing-fits k h =
@@ -61,9 +34,6 @@ opening-fits : AreFit opening
 opening-fits = fit-both (Pre (0 ∷ []) ∷ []) (File 0 (Some (codes ".mms")) ∷ []) (fit-one (Pre (0 ∷ [])) fit-time) (fit-one (File 0 (Some (codes ".mms"))) fit-file)
 
 -- ---- the trie
-
-few-zeros : (n : ℕ) → (4 - n % 4) % 4 ≤ 3
-few-zeros n = omega arith
 
 whole-tetras : (bytes : List ℕ) → length (bytes ++ zeros_after (length bytes)) % 4 ≡ 0
 whole-tetras bytes =
@@ -80,10 +50,9 @@ globals-kept true above tetras e none = absurd (cc)
 globals-kept false above tetras e none = limit-kept above tetras e none
 
 few-tetras : (k : Known) (registers : List ℕ) (main : Option Value) → last_fault k registers main ≡ None → length (padded_trie k.names) / 4 < 2 ^ 16
-few-tetras k registers None none = absurd (cc)
-few-tetras k registers (Some (Reg r)) none = absurd (cc)
 few-tetras k registers (Some (Pure main)) none =
     globals-kept (list_any (λ reg. nat_le (lowest_of k.gregs) reg) registers) (nat_lt trie_limit (length (padded_trie k.names) / 4)) (length (padded_trie k.names) / 4) refl none
+few-tetras k registers main none = absurd (cc)
 
 no-fault : (line : ℕ) (fault : Option AsmFault) → at_line line fault ≡ None → fault ≡ None
 no-fault line None h = refl
@@ -96,7 +65,7 @@ told : (k : Known) → IsTellable 0 k → trie_answer (padded_trie k.names) ≡ 
 told k h =
     let count : ℕ = length (trie_of k.names.symbols) in
     trie-read (padded_trie k.names) k.names.symbols
-    (written-is-trie k.names.symbols ((4 - count % 4) % 4) h.names.order h.names.named (few-zeros count))
+    (written-is-trie k.names.symbols ((4 - count % 4) % 4) h.names.order h.names.named (omega arith))
 
 -- ---- a source
 

@@ -1,42 +1,9 @@
 -- The object of statements that are accepted has at most the sum of their weights, and what its front and its end take.
-use Rattle.std.proofs.Common.{◌≡◌, ◌<◌, ◌≤◌, ℕ, ◌+◌, ◌*◌, ◌/◌, ◌^◌, Bool, true, false, not, cond, List, [], ◌∷◌, ◌++◌, length, Option, None, Some, Result, Ok, Err, arith, refl, ap, ◌∙◌, length-append}
-use Rattle.std.specs.Prelude.{◌==◌, nat_lt, map}
-use Rattle.std.specs.Result.{result_unwrap_or}
-use Rattle.std.specs.List.{flat_map}
+use Rattle.std.proofs.Common.{◌≡◌, ◌<◌, ◌≤◌, ℕ, ◌+◌, ◌*◌, ◌/◌, ◌^◌, Bool, true, false, not, cond, List, [], ◌∷◌, ◌++◌, length, Option, None, Some, Result, Ok, Err, arith, refl, ap, ◌∙◌, length-append, ◌==◌, nat_lt, map}
+use Rattle.mx_asm.proofs.Words.{cond_both, result_unwrap_or, flat_map, flat_map-cons, sum_by-cons, Value, Pure, Reg, Awaited, Wait, WaitKind, Octa, Near, Far, same_awaited, octa_to_bytes, Item, Load, Loc, FixNear, FixFar, Post, Stab, wide_lop, bytes_of, written, ending, NameTable, complete_form, waits_for, waits_for_others, Label, Name, Local, Placed, NotMultiple, Answer, relative_word, near_reach, far_reach, lowest_of, Known, no_targets, symbol_form, StatementTree, AsmFault, Head, Refused, fixes, relative_fix, pure_fix, fix_of, with_fix, awaited_value, waiting_for, waiting_at, Sight, outline, waits_in, nothing_known, known_after, sights_from, sights_of, final_known, label_fault, fault_with, statement_fault, first_fault, moved, onto, fix_items, head_at_fixes, lowered, covered, covering, located, told_line, lined, byte_items, with_bytes, opening, first_head, sight_items, sight_head, items_from, main_of, closing, padded_trie}
 use Rattle.std.proofs.lemmas.List.Filters.{length-filter_both}
-use Rattle.std.proofs.lemmas.List.Concat.{flat_map-cons}
-use Rattle.std.proofs.lemmas.List.Sums.{sum_by-cons}
-use Rattle.mx_word.specs.declared.symbols.Value.{Value}
-use Rattle.mx_word.specs.declared.symbols.Value.TheVariants.{Pure, Reg}
-use Rattle.mx_word.specs.declared.waits.Awaited.{Awaited}
 use Rattle.mx_word.specs.declared.waits.Awaited.TheVariants as awaited
-use Rattle.mx_word.specs.declared.waits.Wait.{Wait}
-use Rattle.mx_word.specs.declared.waits.WaitKind.{WaitKind}
-use Rattle.mx_word.specs.declared.waits.WaitKind.TheVariants.{Octa, Near, Far}
-use Rattle.mx_word.specs.Waits.{same_awaited}
-use Rattle.mx_word.specs.Words.{octa_to_bytes}
-use Rattle.mx_mmo.specs.declared.items.Item.{Item}
-use Rattle.mx_mmo.specs.declared.items.Item.TheVariants.{Load, Loc, FixNear, FixFar, Line, Post, Stab}
-use Rattle.mx_mmo.specs.Tetras.{wide_lop}
-use Rattle.mx_mmo.specs.Spelling.{bytes_of, written, ending}
-use Rattle.mx_names.specs.Names.{NameTable, complete_form}
-use Rattle.mx_names.specs.Waiting.{waits_for, waits_for_others}
-use Rattle.mx_stmt.specs.declared.statement.Label.{Label}
-use Rattle.mx_stmt.specs.declared.statement.Label.TheVariants.{Name, Local}
-use Rattle.mx_stmt.specs.declared.placed.Placed.{Placed}
-use Rattle.mx_stmt.specs.declared.faults.StmtFault.TheVariants.{NotMultiple}
-use Rattle.mx_stmt.specs.Steps.{Answer}
-use Rattle.mx_stmt.specs.Forms.{relative_word, near_reach, far_reach}
-use Rattle.mx_stmt.specs.Gregs.{lowest_of}
-use Rattle.mx_stmt.specs.Operands.{Known, no_targets, symbol_form}
-use Rattle.mx_stmt.specs.Encoding.{StatementTree}
-use Rattle.mx_asm.specs.declared.faults.AsmFault.{AsmFault}
-use Rattle.mx_asm.specs.declared.head.Head.{Head}
-use Rattle.mx_asm.specs.declared.refused.Refused.{Refused}
-use Rattle.mx_asm.specs.Fixes.{fixes, relative_fix, pure_fix, fix_of, with_fix, awaited_value, waiting_for, waiting_at}
-use Rattle.mx_asm.specs.TwoPass.{Sight, outline, waits_in, nothing_known, known_after, sights_from, sights_of, final_known}
-use Rattle.mx_asm.specs.Refusal.{label_fault, fault_with, statement_fault, first_fault}
-use Rattle.mx_asm.specs.Emission.{moved, onto, fix_items, head_at_fixes, lowered, covered, covering, located, told_line, lined, byte_items, with_bytes, opening, first_head, sight_items, sight_head, items_from, main_of, closing, padded_trie}
+use Rattle.mx_mmo.specs.declared.items.Item.TheVariants.{Line}
 use Rattle.mx_asm.proofs.Weights.{weight, weights}
 use Rattle.mx_asm.proofs.OpenWaits.{any_settles, open_waits, open-unlabelled, open-named, open-local}
 use Rattle.mx_asm.proofs.WaitsFor.{named-waits, local-waits}
@@ -45,6 +12,7 @@ use Rattle.mx_asm.proofs.OnePassLaw.{no-labels}
 use Rattle.mx_asm.proofs.EndWaits.{both-none}
 use Rattle.mx_asm.proofs.WrittenLengths.{written-append, written-cons, one-unless, address-most, load_length}
 use Rattle.mx_asm.proofs.StatementLengths.{encoding-fits}
+use Rattle.mx_mmo.proofs.Spelt.{octas-length}
 
 -- the bytes that items are written as
 abbrev pub size : List Item → ℕ
@@ -57,14 +25,10 @@ abbrev IfShort : Result Item AsmFault → Type 0
 IfShort (Err fault) = Unit {0}
 IfShort (Ok item) = length (bytes_of item) ≤ 12
 
-word-short : (short : Bool) (bits word : ℕ) → length (bytes_of (cond short (FixNear word) (FixFar bits word))) ≤ 12
-word-short true bits word = omega arith
-word-short false bits word = omega arith
-
 relative-short : (bits : ℕ) (r : Answer ℕ) → IfShort (relative_fix bits r)
 relative-short bits (Err NotMultiple) = tt
 relative-short bits (Err fault) = tt
-relative-short bits (Ok word) = word-short (nat_lt word (2 ^ 16)) bits word
+relative-short bits (Ok word) = cond_both (nat_lt word (2 ^ 16)) _ _ (λ x. length (bytes_of x) ≤ 12) (λ _. omega arith) (λ _. omega arith)
 
 pure-short : (place : ℕ) (kind : WaitKind) (value : ℕ) → IfShort (pure_fix place kind value)
 pure-short place Octa value = address-most 3 place
@@ -81,9 +45,8 @@ IfWithin most (Err refused) = Unit {0}
 IfWithin most (Ok items) = size items ≤ most
 
 with-within : (line from : ℕ) (r : Result Item AsmFault) (later : Result (List Item) Refused) (most more : ℕ) → 12 + most ≤ more → IfShort r → IfWithin most later → IfWithin more (with_fix line from r later)
-with-within line from (Err fault) later most more room h g = tt
-with-within line from (Ok fix) (Err refused) most more room h g = tt
 with-within line from (Ok fix) (Ok fixes) most more room h g = omega (arith, room, h, g, written-cons fix fixes)
+with-within line from r later most more room h g = tt
 
 fixes-within : (line : ℕ) (value : Value) (waits : List Wait) → IfWithin (12 * length waits) (fixes line value waits)
 unfolding fixes
@@ -214,11 +177,6 @@ unfolding open_waits
 items-length statements none = omega (arith, items-most statements nothing_known [] first_head no-labels none)
 
 -- ---- the front and the end
-
-octas-length : (values : List ℕ) → length (flat_map octa_to_bytes values) ≡ 8 * length values
-octas-length [] = refl
-octas-length (v ∷ values) =
-    omega (arith, ap length (flat_map-cons octa_to_bytes v values), length-append (octa_to_bytes v) (flat_map octa_to_bytes values), octas-length values)
 
 closing-length : (names : NameTable) (gregs : List ℕ) → size (closing names gregs) ≡ 16 + 8 * length gregs
 closing-length names gregs =

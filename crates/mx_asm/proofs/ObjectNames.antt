@@ -1,30 +1,8 @@
 -- What is known behind statements of bytes: symbols that a trie can tell, and registers whose values are octas.
 use Rattle.std.proofs.Common.{◌≡◌, ◌<◌, ◌≤◌, ℕ, zero, suc, ◌+◌, ◌-◌, ◌^◌, Bool, true, false, cond, nat_lt, List, [], ◌∷◌, ◌++◌, length, fold, slice_set, Option, None, Some, Result, Ok, Err, refl, sym, subst, arith}
-use Rattle.std.specs.List.{AllByRecursion}
+use Rattle.mx_asm.proofs.Words.{cond_both, AllByRecursion, IfSome, AreBytes, AreOctas, InByteOrder, IsValue, IsNamed, Symbol, Value, Pure, Reg, NameFault, NameTable, IsFullName, complete_form, value_in, with_symbol, not-some, length-inserted, Label, Name, Local, Effect, Placed, HasRegisterNumber, IsSound, lowest_of, with_greg, Known, no_targets, symbol_form, StatementTree, encoding, sound-start, encoding-fine, IsEffect, Sight, with_label, with_effect, known_with, known_after, nothing_known, sights_from, name_fault, label_fault, statement_fault, first_fault}
 use Rattle.std.specs.List.Sorted.{IsStrictlySortedBy}
-use Rattle.std.specs.Option.{IfSome}
-use Rattle.mx_word.specs.Ranges.{AreBytes, AreOctas}
-use Rattle.mx_word.specs.Symbols.{InByteOrder, IsValue, IsNamed}
-use Rattle.mx_word.specs.declared.symbols.Symbol.{Symbol}
-use Rattle.mx_word.specs.declared.symbols.Value.{Value}
-use Rattle.mx_word.specs.declared.symbols.Value.TheVariants.{Pure, Reg}
-use Rattle.mx_names.specs.declared.fault.NameFault.{NameFault}
-use Rattle.mx_names.specs.Names.{NameTable, IsFullName, complete_form, value_in, with_symbol}
-use Rattle.mx_names.proofs.Entries.{not-some, length-inserted}
-use Rattle.mx_stmt.specs.declared.statement.Label.{Label}
-use Rattle.mx_stmt.specs.declared.statement.Label.TheVariants.{Name, Local}
-use Rattle.mx_stmt.specs.declared.placed.Effect.{Effect}
 use Rattle.mx_stmt.specs.declared.placed.Effect.TheVariants as effect
-use Rattle.mx_stmt.specs.declared.placed.Placed.{Placed}
-use Rattle.mx_stmt.specs.Fixes.{HasRegisterNumber, IsSound}
-use Rattle.mx_stmt.specs.Gregs.{lowest_of, with_greg}
-use Rattle.mx_stmt.specs.Operands.{Known, no_targets, symbol_form}
-use Rattle.mx_stmt.specs.Encoding.{StatementTree, encoding}
-use Rattle.mx_stmt.proofs.SoundKnowledge.{sound-start}
-use Rattle.mx_stmt.proofs.SoundLabels.{encoding-fine}
-use Rattle.mx_asm.specs.Effects.{IsEffect}
-use Rattle.mx_asm.specs.TwoPass.{Sight, with_label, with_effect, known_with, known_after, nothing_known, sights_from}
-use Rattle.mx_asm.specs.Refusal.{name_fault, label_fault, statement_fault, first_fault}
 use Rattle.mx_asm.proofs.Encodings.{symbol-full, encoding-prefixed}
 use Rattle.mx_asm.proofs.OneStatement.{form-is, name-new}
 use Rattle.mx_asm.proofs.EndWaits.{both-none}
@@ -33,7 +11,8 @@ use Rattle.mx_asm.proofs.MeaningStatements.{IsWord}
 use Rattle.mx_asm.proofs.MeaningWords.{KnowsWords, words-start, encoding-words, words-kept}
 use Rattle.mx_asm.proofs.MeaningSteady.{sound-kept}
 use Rattle.mx_asm.proofs.MeaningFronts.{faultless}
-use Rattle.mx_asm.proofs.ObjectSymbols.{all-inserted, byte-order-inserted}
+use Rattle.mx_names.proofs.Known.{all-inserted}
+use Rattle.mx_asm.proofs.ObjectSymbols.{byte-order-inserted}
 use Rattle.mx_asm.proofs.ObjectEffects.{IsEffectOfBytes, form-bytes, encoding-effect}
 
 -- ---- names
@@ -75,9 +54,6 @@ symbol-tellable left names full v is are value new h =
 
 label-tellable : (left : ℕ) (names : NameTable) (label : Option Label) (value : Option Value) → label_fault names label ≡ None → IfLabelOfBytes label → IfSome value IsWord → IfSome value HasRegisterNumber →
     AreTellable (suc left) names → AreTellable left (with_label names label value)
-label-tellable left names None value none bytes word number h = one-statement-less left names h
-label-tellable left names (Some (Name text)) None none bytes word number h = one-statement-less left names h
-label-tellable left names (Some (Local d)) None none bytes word number h = one-statement-less left names h
 label-tellable left names (Some (Local d)) (Some v) none bytes word number h =
     let less = one-statement-less left names h in
     record { prefix = less.prefix; bytes = less.bytes; order = less.order; named = less.named; room = less.room }
@@ -85,12 +61,11 @@ label-tellable left names (Some (Name text)) (Some v) none bytes word number h =
     symbol-tellable left names (complete_form names.prefix text) v
     (label-full names text (symbol_form names text) h.prefix refl none) (form-bytes names.prefix text h.bytes bytes) (value-is v word number)
     (not-some _ (name-new names text (symbol_form names text) refl none)) h
+label-tellable left names label value none bytes word number h = one-statement-less left names h
 
 effect-tellable : (left : ℕ) (k : Known) (gregs : List ℕ) (e : Effect) → IsEffect gregs e → IsEffectOfBytes e → AreTellable left k.names → AreTellable left (with_effect k e).names
-effect-tellable left k gregs effect.Plain is of h = h
 effect-tellable left k gregs (effect.Prefix full) is of h = record { prefix = is; bytes = of; order = h.order; named = h.named; room = h.room }
-effect-tellable left k gregs (effect.Greg reg value) is of h = h
-effect-tellable left k gregs (effect.Local reg) is of h = h
+effect-tellable left k gregs e is of h = h
 
 -- ---- registers
 
@@ -100,17 +75,11 @@ octas-set (x ∷ values) zero value low h = (low, h.1)
 octas-set (x ∷ values) (suc i) value low h = (h.0, octas-set values i value low h.1)
 
 octas-given : (gregs : List ℕ) (reg value : ℕ) → value < 2 ^ 64 → AreOctas gregs → AreOctas (with_greg gregs reg value)
-octas-given gregs reg value low h = by (nat_lt reg (lowest_of gregs))
-  where
-    by : (b : Bool) → AreOctas (cond b (value ∷ gregs) (slice_set gregs (reg - lowest_of gregs) value))
-    by true = (low, h)
-    by false = octas-set gregs (reg - lowest_of gregs) value low h
+octas-given gregs reg value low h = cond_both (nat_lt reg (lowest_of gregs)) _ _ AreOctas (λ _. (low, h)) (λ _. octas-set gregs (reg - lowest_of gregs) value low h)
 
 effect-octas : (k : Known) (e : Effect) → IsEffectOfBytes e → AreOctas k.gregs → AreOctas (with_effect k e).gregs
-effect-octas k effect.Plain of h = h
-effect-octas k (effect.Prefix full) of h = h
 effect-octas k (effect.Greg reg value) of h = octas-given k.gregs reg value of h
-effect-octas k (effect.Local reg) of h = h
+effect-octas k e of h = h
 
 -- ---- statements
 

@@ -1,11 +1,6 @@
 -- The object of a source is not too long.
 use Rattle.std.proofs.Common.{◌≡◌, ℕ, ◌^◌, ◌≤◌, List, ◌++◌, length, arith, None}
-use Rattle.mx_word.specs.Ranges.{AreBytes}
-use Rattle.mx_mmo.specs.Spelling.{written, ending}
-use Rattle.mx_asm.specs.Emission.{emission, padded_trie}
-use Rattle.mx_asm.specs.Entries.{statements_in, source_entries}
-use Rattle.mx_asm.specs.Refusal.{refusal}
-use Rattle.mx_asm.specs.TwoPass.{final_known}
+use Rattle.mx_asm.proofs.Words.{AreBytes, written, ending, emission, padded_trie, statements_in, source_entries, refusal, final_known}
 use Rattle.mx_asm.proofs.AcceptedLengths.{accepted-length}
 use Rattle.mx_asm.proofs.SourceWeights.{source-weights, source-short}
 

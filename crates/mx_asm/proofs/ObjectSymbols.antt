@@ -1,24 +1,12 @@
 -- Symbols with one more: they stay in byte order, and what holds of each stays.
 use Rattle.std.proofs.Common.{◌≡◌, ℕ, Bool, true, false, cond, List, [], ◌∷◌, Option, None, Some, Ordering, bytes_eq, refl, sym, ◌∙◌, ap}
-use Rattle.std.specs.List.{AllByRecursion}
+use Rattle.mx_asm.proofs.Words.{cond_both, AllByRecursion, Symbol, Value, InByteOrder, Below, AreInOrder, in-order, in-byte-order, value_in, symbols_with}
 use Rattle.std.specs.Ordering.{nat_cmp, is_lt, is_eq, ordering_reverse}
 use Rattle.std.specs.declared.cmp.Ordering.TheVariants.{Less, Equal, Greater}
 use Rattle.std.specs.Cmp.Lexicographic.{slice_cmp}
 use Rattle.std.proofs.lemmas.Cmp.{nat_list_cmp_total}
 use Rattle.std.proofs.lemmas.Map.Text.{is_eq-slice_cmp}
-use Rattle.mx_word.specs.declared.symbols.Symbol.{Symbol}
-use Rattle.mx_word.specs.declared.symbols.Value.{Value}
-use Rattle.mx_word.specs.Symbols.{InByteOrder}
-use Rattle.mx_stab.proofs.Orders.{Below, AreInOrder, in-order, in-byte-order}
-use Rattle.mx_names.specs.Names.{value_in, symbols_with}
-
-pub all-inserted : (P : Symbol → Type 0) (new : Symbol) (symbols : List Symbol) → P new → AllByRecursion P symbols → AllByRecursion P (symbols_with new symbols)
-all-inserted P new [] p h = (p, tt)
-all-inserted P new (s ∷ ss) p h = by (is_lt (slice_cmp nat_cmp new.name s.name)) (all-inserted P new ss p h.1)
-  where
-    by : (b : Bool) → AllByRecursion P (symbols_with new ss) → AllByRecursion P (cond b (new ∷ s ∷ ss) (s ∷ symbols_with new ss))
-    by true rest = (p, h)
-    by false rest = (h.0, rest)
+use Rattle.mx_names.proofs.Known.{all-inserted}
 
 -- what is below a name is below all that stand behind it
 below-all : (a b : List ℕ) (more : List Symbol) → Below a b → AllByRecursion (λ (t : Symbol). Below b t.name) more → AllByRecursion (λ (t : Symbol). Below a t.name) more

@@ -1,20 +1,7 @@
 -- The lines of a source in one pass come to what the two passes say.
-use Rattle.std.proofs.Common.{◌≡◌, ℕ, ◌+◌, ◌-◌, ◌^◌, Bool, true, false, cond, nat_lt, List, [], ◌∷◌, ◌++◌, fold, length, take, Option, None, Some, Ok, Err, refl, ap, sym, ◌∙◌, subst, arith, append_assoc, length-append}
-use Rattle.std.specs.Prelude.{sum_by}
-use Rattle.std.specs.Result.{result_err}
-use Rattle.std.proofs.lemmas.List.Sums.{sum_by-append}
-use Rattle.std.proofs.Math.Seq.{take-append_seam}
-use Rattle.mx_line.specs.Lines.{is_too_far, size_up_to}
-use Rattle.mx_line.specs.Source.{Item as Listed, statement, faulty, too_far, before as listed_before, items_of, items_from as line_items}
-use Rattle.mx_mmo.specs.declared.items.Item.{Item}
-use Rattle.mx_stmt.specs.Encoding.{StatementTree}
-use Rattle.mx_asm.specs.declared.refused.Refused.{Refused}
-use Rattle.mx_asm.specs.Entries.{Entry, entry_of, entries_of, line_entries, statements_in, refusal_in}
-use Rattle.mx_asm.specs.TwoPass.{nothing_known, sights_from}
-use Rattle.mx_asm.specs.Emission.{opening, first_head}
-use Rattle.mx_asm.specs.Refusal.{first_fault, entries_refusal}
-use Rattle.mx_asm.specs.OnePass.{Assembly, Progress, beginning}
-use Rattle.mx_asm.specs.Whole.{Line, lines_entries, lines_items, line_after, lines_taken}
+use Rattle.std.proofs.Common.{◌≡◌, ℕ, ◌+◌, ◌-◌, ◌^◌, Bool, true, false, cond, nat_lt, List, [], ◌∷◌, ◌++◌, fold, length, take, Option, None, Some, Ok, Err, refl, ap, sym, ◌∙◌, subst, arith, append_assoc, length-append, sum_by}
+use Rattle.mx_asm.proofs.Words.{result_err, sum_by-append, take-append_seam, is_too_far, size_up_to, statement, faulty, too_far, items_of, Item, StatementTree, Refused, Entry, entry_of, entries_of, line_entries, statements_in, refusal_in, nothing_known, sights_from, opening, first_head, first_fault, entries_refusal, Assembly, Progress, beginning, Line, lines_entries, lines_items, line_after, lines_taken}
+use Rattle.mx_line.specs.Source.{Item as Listed, before as listed_before, items_from as line_items}
 use Rattle.mx_asm.proofs.OpenWaits.{open_waits}
 use Rattle.mx_asm.proofs.OneStatement.{standing_at, AreLabels}
 use Rattle.mx_asm.proofs.Entries.{outcome, entries_outcome, entries-are}
@@ -35,8 +22,7 @@ same-before : (xs ys : List Listed) (fs : List Entry) → Same (entries_of ys) f
 same-before [] ys fs h = h
 same-before (statement line label op operands ∷ xs) ys fs h =
     same-more (entry_of (statement line label op operands)) (entries_of (listed_before xs ys)) (entries_of xs ++ fs) (same-before xs ys fs h)
-same-before (faulty line why ∷ xs) ys fs h = (refl, refl)
-same-before (too_far line ∷ xs) ys fs h = (refl, refl)
+same-before xs ys fs h = (refl, refl)
 
 -- the bytes of lines, with a newline after each
 abbrev size_of : List Line → ℕ
@@ -48,9 +34,6 @@ far-size prev line lines =
     let front : take (length prev + 1) (prev ++ line ∷ lines) ≡ prev ++ line ∷ [] =
     ap (take (length prev + 1)) whole ∙ ap (λ n. take n ((prev ++ line ∷ []) ++ lines)) (sym (length-append prev (line ∷ []))) ∙ take-append_seam (prev ++ line ∷ []) lines in
     ap (λ ls. sum_by length ls + (length prev + 1 - 1)) front ∙ simp sum_by-append (omega arith)
-
-size-push : (prev : List Line) (line : Line) → size_of (prev ++ line ∷ []) ≡ size_of prev + length line + 1
-size-push prev line = simp (sum_by-append, length-append) (omega arith)
 
 one-listed : (far : Bool) (n : ℕ) (xs ys : List Listed) (fs : List Entry) → Same (entries_of ys) fs →
     Same (entries_of (cond far (too_far n ∷ []) (listed_before xs ys))) (unless_far far n (entries_of xs ++ fs))
@@ -65,14 +48,11 @@ are-listed (line ∷ lines) prev all e =
     ap (λ ls. is_too_far ls (length prev + 1)) e ∙ ap (nat_lt (2 ^ 22)) (far-size prev line lines) in
     let later : Same (entries_of (line_items all (length prev + 1 + 1) lines)) (entries_behind (length prev + 1) (size_of prev + length line + 1) lines) =
     subst (λ n. Same (entries_of (line_items all (n + 1) lines)) (entries_behind n (size_of prev + length line + 1) lines)) (length-append prev (line ∷ []))
-    (subst (λ m. Same (entries_of (line_items all (length (prev ++ line ∷ []) + 1) lines)) (entries_behind (length (prev ++ line ∷ [])) m lines)) (size-push prev line)
+    (subst (λ m. Same (entries_of (line_items all (length (prev ++ line ∷ []) + 1) lines)) (entries_behind (length (prev ++ line ∷ [])) m lines)) (simp (sum_by-append, length-append) (omega arith))
     (are-listed lines (prev ++ line ∷ []) all (e ∙ sym (append_assoc prev (line ∷ []) lines)))) in
     subst (λ b. Same (entries_of (cond b (too_far (length prev + 1) ∷ []) (listed_before (items_of (length prev + 1) line) (line_items all (length prev + 1 + 1) lines))))
     (unless_far (nat_lt (2 ^ 22) (size_of prev + length line)) (length prev + 1) (line_entries (length prev + 1) line ++ entries_behind (length prev + 1) (size_of prev + length line + 1) lines))) (sym far)
     (one-listed (nat_lt (2 ^ 22) (size_of prev + length line)) (length prev + 1) (items_of (length prev + 1) line) (line_items all (length prev + 1 + 1) lines) _ later)
-
-all-listed : (lines : List Line) → Same (lines_entries lines) (entries_behind 0 0 lines)
-all-listed lines = are-listed lines [] lines refl
 
 -- ---- the law
 
@@ -90,7 +70,7 @@ begun line lines = refl
 pub some-lines : (line : Line) (lines : List Line) →
     lines_taken (line ∷ lines) ≡ counted_progress (lines_behind 0 (line ∷ lines)) (size_behind 0 (line ∷ lines)) (lines_outcome (statements_in (lines_entries (line ∷ lines))) (refusal_in (lines_entries (line ∷ lines))))
 some-lines line lines =
-    let listed = all-listed (line ∷ lines) in
+    let listed : Same (lines_entries (line ∷ lines)) (entries_behind 0 0 (line ∷ lines)) = are-listed (line ∷ lines) [] (line ∷ lines) refl in
     begun line lines
     ∙ lines-are (line ∷ lines) 0 0 opening (standing_at nothing_known first_head [] 0)
     ∙ ap (counted_progress (lines_behind 0 (line ∷ lines)) (size_behind 0 (line ∷ lines)))

@@ -1,34 +1,8 @@
 -- One statement in one pass, as the two passes have it.
-use Rattle.std.proofs.Common.{◌≡◌, ℕ, ◌+◌, Bool, true, false, cond, nat_lt, List, [], ◌∷◌, ◌++◌, length, Option, None, Some, is_some, Result, Ok, Err, refl, ap, sym, ◌∙◌, slice_set}
-use Rattle.std.specs.Prelude.{◌||◌, bytes_eq}
-use Rattle.std.specs.Result.{result_unwrap_or}
-use Rattle.std.proofs.lemmas.List.Folds.{list_any-append}
-use Rattle.mx_word.specs.declared.symbols.Value.{Value}
+use Rattle.std.proofs.Common.{◌≡◌, ℕ, ◌+◌, Bool, true, false, cond, nat_lt, List, [], ◌∷◌, ◌++◌, length, Option, None, Some, is_some, Result, Ok, Err, refl, ap, sym, ◌∙◌, slice_set, ◌||◌, bytes_eq}
+use Rattle.mx_asm.proofs.Words.{result_unwrap_or, list_any-append, Value, Wait, Item, predefined_value, NameFault, Twice, Predefined, NameTooLong, NameTable, complete_form, value_in, define_answer, with_symbol, waits_for, waits_for_others, value-inserted, not-some, Label, Name, Local, Effect, Placed, Answer, Known, no_targets, symbol_form, StatementTree, encoding, AsmFault, Refused, Head, Sight, outline, waits_in, with_label, with_effect, known_behind, known_with, known_after, fixes, awaited_value, waiting_for, waiting_at, onto, moved, byte_items, head_at_fixes, with_bytes, statement_items, statement_head, sight_items, sight_head, refusal_of, name_refusal, name_fault, label_fault, fault_behind, fault_with, statement_fault, Assembly, Taken, labelled, symbol_label, symbol_defined, with_local, taken_items, taken_label, taken_with, statement_taken}
 use Rattle.mx_word.specs.declared.waits.Awaited.TheVariants as awaited
-use Rattle.mx_word.specs.declared.waits.Wait.{Wait}
-use Rattle.mx_mmo.specs.declared.items.Item.{Item}
-use Rattle.mx_ops.specs.Predefined.{predefined_value}
-use Rattle.mx_names.specs.declared.fault.NameFault.{NameFault}
-use Rattle.mx_names.specs.declared.fault.NameFault.TheVariants.{Twice, Predefined, NameTooLong}
-use Rattle.mx_names.specs.Names.{NameTable, complete_form, value_in, define_answer, with_symbol}
-use Rattle.mx_names.specs.Waiting.{waits_for, waits_for_others}
-use Rattle.mx_names.proofs.Entries.{value-inserted, not-some}
-use Rattle.mx_stmt.specs.declared.statement.Label.{Label}
-use Rattle.mx_stmt.specs.declared.statement.Label.TheVariants.{Name, Local}
-use Rattle.mx_stmt.specs.declared.placed.Effect.{Effect}
 use Rattle.mx_stmt.specs.declared.placed.Effect.TheVariants as effect
-use Rattle.mx_stmt.specs.declared.placed.Placed.{Placed}
-use Rattle.mx_stmt.specs.Steps.{Answer}
-use Rattle.mx_stmt.specs.Operands.{Known, no_targets, symbol_form}
-use Rattle.mx_stmt.specs.Encoding.{StatementTree, encoding}
-use Rattle.mx_asm.specs.declared.faults.AsmFault.{AsmFault}
-use Rattle.mx_asm.specs.declared.refused.Refused.{Refused}
-use Rattle.mx_asm.specs.declared.head.Head.{Head}
-use Rattle.mx_asm.specs.TwoPass.{Sight, outline, waits_in, with_label, with_effect, known_behind, known_with, known_after}
-use Rattle.mx_asm.specs.Fixes.{fixes, awaited_value, waiting_for, waiting_at}
-use Rattle.mx_asm.specs.Emission.{onto, moved, byte_items, head_at_fixes, with_bytes, statement_items, statement_head, sight_items, sight_head}
-use Rattle.mx_asm.specs.Refusal.{refusal_of, name_refusal, name_fault, label_fault, fault_behind, fault_with, statement_fault}
-use Rattle.mx_asm.specs.OnePass.{Assembly, Taken, labelled, symbol_label, symbol_defined, with_local, taken_items, taken_label, taken_with, statement_taken}
 use Rattle.mx_asm.proofs.Filters.{or-false}
 use Rattle.mx_asm.proofs.WaitingNames.{with_waiting, encoding-same}
 use Rattle.mx_asm.proofs.LabelValues.{HasLabel, encoding-label}
@@ -67,9 +41,7 @@ items-by h line p (w ∷ waits) a = by (moved h.lambda (awaited_value p.label)) 
 -- the effect, whatever waits
 effect-waiting : (k : Known) (w : List Wait) (e : Effect) → with_effect (with_waiting k w) e ≡ with_waiting (with_effect k e) w
 effect-waiting k w effect.Plain = refl
-effect-waiting k w (effect.Prefix full) = refl
-effect-waiting k w (effect.Greg reg value) = refl
-effect-waiting k w (effect.Local reg) = refl
+effect-waiting k w e = refl
 
 -- ---- names
 
@@ -81,9 +53,8 @@ pub form-is : (names : NameTable) (text full : List ℕ) → symbol_form names t
 form-is names text full h = fitting-is (nat_lt 1024 (length (complete_form names.prefix text))) (complete_form names.prefix text) full h
 
 absent-by : (predefined defined : Bool) (u : Unit {0}) → ◌≡◌ {A = Result (Unit {0}) NameFault} (cond predefined (Err Predefined) (cond defined (Err Twice) (Ok tt))) (Ok u) → defined ≡ false
-absent-by true defined u h = absurd (cc)
-absent-by false true u h = absurd (cc)
 absent-by false false u h = refl
+absent-by predefined defined u h = absurd (cc)
 
 absent : (names : NameTable) (full : List ℕ) (u : Unit {0}) → define_answer names full ≡ Ok u → is_some (value_in full names.symbols) ≡ false
 absent names full u h = absent-by (is_some (predefined_value full)) (is_some (value_in full names.symbols)) u h
@@ -168,10 +139,9 @@ module _ (k : Known) (h : Head) (before : List Sight) (l : ℕ) (st : StatementT
   -- by the label and its value
   placed-comes : (p : Placed) (label : Option Label) (value : Option Value) → HasLabel label value → st.label ≡ label → p.label ≡ value → outline here ≡ Ok p → AreLabels k.names before → Comes p label value p.waits
   placed-comes p None None has e v is labels = unlabelled-comes p e v is
-  placed-comes p None (Some value) has e v is labels = absurd has
-  placed-comes p (Some label) None has e v is labels = absurd has
   placed-comes p (Some (Name text)) (Some value) has e v is labels = named-comes p text value e v is labels
   placed-comes p (Some (Local d)) (Some value) has e v is labels = local-comes p d value e v is
+  placed-comes p label value has e v is labels = absurd has
 
   step-with : (r : Answer Placed) → outline here ≡ r → AreLabels k.names before →
       taken_with (standing_at k h before l) st.line st.label r
@@ -210,17 +180,14 @@ name-new names text (Ok full) form none = name-new-by names text full (define_an
 
 label-more : (names : NameTable) (label : Option Label) (value : Option Value) (full : List ℕ) → HasLabel label value → label_fault names label ≡ None →
     is_some (value_in full (with_label names label value).symbols) ≡ (is_some (value_in full names.symbols) || settled_by names label (awaited.Name full))
-label-more names None None full has none = sym (or-false _)
 label-more names None (Some value) full has none = absurd has
 label-more names (Some label) None full has none = absurd has
 label-more names (Some (Name text)) (Some value) full has none = symbol-more names text full value (name-new names text (symbol_form names text) refl none)
-label-more names (Some (Local d)) (Some value) full has none = sym (or-false _)
+label-more names label value full has none = sym (or-false _)
 
 pub effect-symbols : (k : Known) (e : Effect) → (with_effect k e).names.symbols ≡ k.names.symbols
 effect-symbols k effect.Plain = refl
-effect-symbols k (effect.Prefix full) = refl
-effect-symbols k (effect.Greg reg value) = refl
-effect-symbols k (effect.Local reg) = refl
+effect-symbols k e = refl
 
 pub no-label-fault : (before : List Sight) (s : Sight) (p : Placed) (f : Option AsmFault) → fault_behind before s p f ≡ None → f ≡ None
 no-label-fault before s p None h = refl

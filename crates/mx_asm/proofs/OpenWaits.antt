@@ -1,18 +1,7 @@
 -- The references that still wait behind statements: those that neither their own statement nor a later one settles.
-use Rattle.std.proofs.Common.{◌≡◌, ℕ, Bool, false, not, List, [], ◌∷◌, ◌++◌, Option, None, Some, refl, ap, sym, ◌∙◌, append_assoc, append-nil}
-use Rattle.std.specs.Prelude.{◌&&◌, ◌||◌}
-use Rattle.std.specs.List.{filter, list_any}
-use Rattle.std.proofs.lemmas.List.Elements.{filter-append}
-use Rattle.std.proofs.lemmas.List.Folds.{list_any-append}
-use Rattle.mx_word.specs.declared.waits.Awaited.{Awaited}
+use Rattle.std.proofs.Common.{◌≡◌, ℕ, Bool, false, not, List, [], ◌∷◌, ◌++◌, Option, None, Some, refl, ap, sym, ◌∙◌, append_assoc, append-nil, ◌&&◌, ◌||◌}
+use Rattle.mx_asm.proofs.Words.{filter, list_any, filter-append, list_any-append, Awaited, Wait, same_awaited, NameTable, complete_form, waits_for_others, Label, Name, Local, Sight, outline, waits_in}
 use Rattle.mx_word.specs.declared.waits.Awaited.TheVariants as awaited
-use Rattle.mx_word.specs.declared.waits.Wait.{Wait}
-use Rattle.mx_word.specs.Waits.{same_awaited}
-use Rattle.mx_names.specs.Names.{NameTable, complete_form}
-use Rattle.mx_names.specs.Waiting.{waits_for_others}
-use Rattle.mx_stmt.specs.declared.statement.Label.{Label}
-use Rattle.mx_stmt.specs.declared.statement.Label.TheVariants.{Name, Local}
-use Rattle.mx_asm.specs.TwoPass.{Sight, outline, waits_in}
 use Rattle.mx_asm.proofs.Filters.{filter-same, filter-all, filter-filter, not-or, or-false, or_assoc}
 
 -- what the label of a statement is waited for as
@@ -50,9 +39,6 @@ open_waits (s ∷ later) = unsettled s later ++ open_waits later
 abbrev others : Sight → List Wait → List Wait
 others s waits = filter (λ (w : Wait). not (settles s w.who)) waits
 
-last-unsettled : (s : Sight) → unsettled s [] ≡ filter (λ (w : Wait). not (settles_own s w.who)) (waits_in (outline s))
-last-unsettled s = filter-same _ _ (λ w. ap not (or-false (settles_own s w.who))) (waits_in (outline s))
-
 more-test : (t s : Sight) (before : List Sight) (who : Awaited) → not (is_settled t (before ++ s ∷ []) who) ≡ (not (is_settled t before who) && not (settles s who))
 more-test t s before who =
     ap (λ b. not (settles_own t who || b)) (list_any-append (λ (u : Sight). settles u who) before (s ∷ []) ∙ ap (λ b. any_settles before who || b) (or-false (settles s who)))
@@ -66,7 +52,7 @@ more-unsettled t s before =
 
 pub open-push : (before : List Sight) (s : Sight) → open_waits (before ++ s ∷ []) ≡ others s (open_waits before) ++ filter (λ (w : Wait). not (settles_own s w.who)) (waits_in (outline s))
 unfolding open_waits
-open-push [] s = append-nil (unsettled s []) ∙ last-unsettled s
+open-push [] s = append-nil (unsettled s []) ∙ (filter-same _ _ (λ w. ap not (or-false (settles_own s w.who))) (waits_in (outline s)))
 open-push (t ∷ before) s =
     ap (λ ws. ws ++ open_waits (before ++ s ∷ [])) (more-unsettled t s before)
     ∙ ap (λ ws. others s (unsettled t before) ++ ws) (open-push before s)

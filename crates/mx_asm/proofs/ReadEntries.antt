@@ -1,28 +1,9 @@
 -- A statement that is read is the one that is listed.
-use Rattle.std.proofs.Common.{◌≡◌, ℕ, List, Option, None, Some, Result, Ok, Err, refl, ap, subst, sym, ◌∙◌, inl, inr}
-use Rattle.std.specs.Prelude.{◌⊎◌, ◌↔◌, is_some, option_map}
-use Rattle.mx_line.specs.declared.spans.Span.{Span}
-use Rattle.mx_line.specs.declared.cutter.Cut.{Cut}
-use Rattle.mx_line.specs.Spans.{part}
-use Rattle.mx_line.specs.Source.{item_of}
-use Rattle.mx_expr.specs.declared.faults.ExprFault.{ExprFault}
-use Rattle.mx_expr.specs.Tree.{Tree}
-use Rattle.mx_expr.specs.Reading.{reading}
-use Rattle.mx_expr.proofs.Exact.{reading-ok, reading-err, list-read, fault-read}
+use Rattle.std.proofs.Common.{◌≡◌, ℕ, List, Option, None, Some, Result, Ok, Err, refl, ap, subst, sym, ◌∙◌, inl, inr, ◌⊎◌, ◌↔◌, is_some, option_map}
+use Rattle.mx_asm.proofs.Words.{Span, Cut, part, item_of, ExprFault, Tree, reading, reading-ok, reading-err, list-read, fault-read, Op, StatementTree, Answer, Fields, IsRead, IsFault, label_of, label_in, fields_of, operation_for, AsmFault, Stmt, Refused, refused, with_operands, with_operation, statement_in, entry_with, entry_of}
 use Rattle.mx_stmt.specs.declared.faults.StmtFault.{StmtFault}
-use Rattle.mx_ops.specs.declared.op.Op.{Op}
-use Rattle.mx_stmt.specs.Encoding.{StatementTree}
-use Rattle.mx_stmt.specs.Steps.{Answer}
-use Rattle.mx_stmt.specs.Reading.{Fields, IsRead, IsFault, label_of, label_in, fields_of, operation_for}
 use Rattle.mx_stmt.specs.Reading.IsFault.{operation, operand_list}
-use Rattle.mx_asm.specs.declared.faults.AsmFault.{AsmFault}
-use Rattle.mx_asm.specs.declared.faults.AsmFault.TheVariants.{Stmt}
-use Rattle.mx_asm.specs.declared.refused.Refused.{Refused}
-use Rattle.mx_asm.specs.Faults.{refused}
-use Rattle.mx_asm.specs.Entries.{with_operands, with_operation, statement_in, entry_with, entry_of}
-
-same-statement : (a b : StatementTree) → a.line ≡ b.line → a.label ≡ b.label → a.op ≡ b.op → a.operands ≡ b.operands → a ≡ b
-same-statement a b line label op operands = λ i. record { line = line i; label = label i; op = op i; operands = operands i }
+use Rattle.mx_stmt.proofs.FieldsRead.{same-parsed as same-statement}
 
 pub read-is : (fields : Fields) (line : ℕ) (s : StatementTree) → IsRead fields line s → statement_in fields line ≡ Ok s
 read-is fields line s h =

@@ -1,39 +1,12 @@
 -- What the statements of a source ask for is bounded by the bytes of the source.
-use Rattle.std.proofs.Common.{◌≡◌, ℕ, ◌+◌, ◌-◌, ◌*◌, ◌^◌, ◌<◌, ◌≤◌, List, [], ◌∷◌, map, length, take, drop, sum_by, bytes_eq, Bool, true, false, cond, nat_lt, ◌⊎◌, inl, inr, Option, Some, None, is_some, Result, Ok, Err, arith, refl, ap, ◌∙◌, subst}
-use Rattle.std.specs.Prelude.{◌==◌, option_map}
-use Rattle.std.specs.List.{AllByRecursion, list_all, slice_split, onto_first}
-use Rattle.std.proofs.Math.Seq.{take-length}
-use Rattle.std.proofs.lemmas.Bool.{and_parts, ltb-true, ltb-false}
-use Rattle.std.proofs.lemmas.List.{length-take}
-use Rattle.std.proofs.lemmas.List.Sums.{sum_by-cons}
-use Rattle.std.proofs.lemmas.Slice.Eq.{bytes_eq-Decides}
-use Rattle.mx_word.specs.Ranges.{AreBytes}
-use Rattle.mx_line.specs.declared.spans.Span.{Span}
-use Rattle.mx_line.specs.declared.faults.LineFault.{LineFault}
-use Rattle.mx_line.specs.declared.cutter.Cut.{Cut}
-use Rattle.mx_line.specs.Lines.{lines_of, without_empty_last, size_up_to, is_too_far}
-use Rattle.mx_line.specs.Pieces.{split}
-use Rattle.mx_line.specs.Spans.{part}
-use Rattle.mx_line.specs.Cutting.{cuts_from, InOrder, CutInOrder}
-use Rattle.mx_line.specs.Source.{Item, statement, faulty, too_far, item_of, before, items_of, items_from}
-use Rattle.mx_line.specs.Statements.{Statements}
+use Rattle.std.proofs.Common.{◌≡◌, ℕ, ◌+◌, ◌-◌, ◌*◌, ◌^◌, ◌<◌, ◌≤◌, List, [], ◌∷◌, map, length, take, drop, sum_by, bytes_eq, Bool, true, false, cond, nat_lt, ◌⊎◌, inl, inr, Option, Some, None, is_some, Result, Ok, Err, arith, refl, ap, ◌∙◌, subst, ◌==◌, option_map}
+use Rattle.mx_asm.proofs.Words.{AllByRecursion, list_all, slice_split, onto_first, take-length, cond_both, and_parts, ltb-true, ltb-false, length-take, sum_by-cons, bytes_eq-Decides, AreBytes, Span, LineFault, Cut, lines_of, without_empty_last, size_up_to, is_too_far, split, part, cuts_from, InOrder, CutInOrder, statement, faulty, too_far, item_of, before, items_of, Statements, ExprFault, Tree, reading, Op, opcode_rows, opcode_names, pseudo_operations, chosen_operations, operations, operation_of, Answer, StatementTree, Fields, label_of, operation_with, operation_for, Entry, with_operands, with_operation, entry_with, entry_of, entries_of, line_entries, source_entries, statements_in, refusal_in, first_fault, entries_refusal, end_refusal, last_line, refusal, sights_of, Line, lines_entries}
+use Rattle.mx_line.specs.Source.{Item, items_from}
 use Rattle.mx_line.specs.Statements.Statements.{none as nothing_left, fault as fault_there, next as one_more}
 use Rattle.mx_line.proofs.StatementLemmas.{past-label, statement-order}
 use Rattle.mx_line.proofs.RuleLaws.{statement_of-only}
 use Rattle.mx_line.proofs.ListLaws.{list-by-rules}
-use Rattle.mx_expr.specs.declared.faults.ExprFault.{ExprFault}
-use Rattle.mx_expr.specs.Tree.{Tree}
-use Rattle.mx_expr.specs.Reading.{reading}
-use Rattle.mx_ops.specs.declared.op.Op.{Op}
 use Rattle.mx_ops.specs.Tables.{first_of}
-use Rattle.mx_ops.specs.Opcodes.{opcode_rows, opcode_names, pseudo_operations, chosen_operations, operations, operation_of}
-use Rattle.mx_stmt.specs.Steps.{Answer}
-use Rattle.mx_stmt.specs.Encoding.{StatementTree}
-use Rattle.mx_stmt.specs.Reading.{Fields, label_of, operation_with, operation_for}
-use Rattle.mx_asm.specs.Entries.{Entry, with_operands, with_operation, entry_with, entry_of, entries_of, line_entries, source_entries, statements_in, refusal_in}
-use Rattle.mx_asm.specs.Refusal.{first_fault, entries_refusal, end_refusal, last_line, refusal}
-use Rattle.mx_asm.specs.TwoPass.{sights_of}
-use Rattle.mx_asm.specs.Whole.{Line, lines_entries}
 use Rattle.mx_asm.proofs.Weights.{weight, weights}
 use Rattle.mx_asm.proofs.EndWaits.{both-none}
 use Rattle.mx_asm.proofs.MeaningRead.{part-bytes}
@@ -132,8 +105,6 @@ next-fits line place cut op operands (Ok s) rest o r a b m f entries same = reco
 
 cuts-fit : (n : ℕ) (line : List ℕ) (place : ℕ) (cuts : List (Result Cut LineFault)) → AreBytes line → place ≤ length line → Statements line place cuts →
     Fits line place (weights (statements_in (entries_of (map (item_of n line) cuts))))
-cuts-fit n line place _ h l (nothing_left _ s) = record { bounded = omega (arith, l); none = λ k. refl }
-cuts-fit n line place _ h l (fault_there _ why s) = record { bounded = omega (arith, l); none = λ k. refl }
 cuts-fit n line place _ h l (one_more _ cut cuts s later) =
     let order : InOrder place (length line) cut = subst (CutInOrder place (length line)) (statement_of-only line place (Ok (Some cut)) s) (statement-order line place l) in
     let entries : List Entry = entries_of (map (item_of n line) cuts) in
@@ -141,6 +112,7 @@ cuts-fit n line place _ h l (one_more _ cut cuts s later) =
     (part-few line cut.op (omega (arith, order.op))) (part-few line cut.operands order.operands)
     (entry-most n (option_map (part line) cut.label) (part line cut.op) (part line cut.operands) (part-bytes line cut.operands h))
     (cuts-fit n line cut.next cuts h order.within later) entries refl
+cuts-fit n line place _ h l _ = record { bounded = omega (arith, l); none = λ k. refl }
 
 line-weight : (n : ℕ) (line : List ℕ) → AreBytes line → weights (statements_in (line_entries n line)) ≤ 15 * (length line + 1)
 line-weight n line h =
@@ -150,15 +122,13 @@ line-weight n line h =
 -- ---- the lines of a source
 
 before-weight : (a b : List Item) → weights (statements_in (entries_of (before a b))) ≤ weights (statements_in (entries_of a)) + weights (statements_in (entries_of b))
-before-weight [] b = omega arith
 before-weight (statement line label op operands ∷ items) b = by (entry_of (statement line label op operands)) (before-weight items b)
   where
     by : (e : Entry) → weights (statements_in (entries_of (before items b))) ≤ weights (statements_in (entries_of items)) + weights (statements_in (entries_of b)) →
         weights (statements_in (e ∷ entries_of (before items b))) ≤ weights (statements_in (e ∷ entries_of items)) + weights (statements_in (entries_of b))
     by (Err refused) h = omega arith
     by (Ok s) h = omega (arith, h, sum_by-cons weight s (statements_in (entries_of (before items b))), sum_by-cons weight s (statements_in (entries_of items)))
-before-weight (faulty line why ∷ items) b = omega arith
-before-weight (too_far line ∷ items) b = omega arith
+before-weight a b = omega arith
 
 -- the bytes of lines, with a newline behind each
 abbrev with_newline : List ℕ → ℕ
@@ -170,12 +140,9 @@ room lines = sum_by with_newline lines
 items-weight : (all : List Line) (n : ℕ) (lines : List Line) → AllByRecursion AreBytes lines → weights (statements_in (entries_of (items_from all n lines))) ≤ 15 * room lines
 unfolding items_from
 items-weight all n [] h = omega arith
-items-weight all n (line ∷ lines) h = by (is_too_far all n) (items-weight all (n + 1) lines h.1)
-  where
-    by : (b : Bool) → weights (statements_in (entries_of (items_from all (n + 1) lines))) ≤ 15 * room lines →
-        weights (statements_in (entries_of (cond b (too_far n ∷ []) (before (items_of n line) (items_from all (n + 1) lines))))) ≤ 15 * room (line ∷ lines)
-    by true rest = omega arith
-    by false rest = omega (arith, rest, before-weight (items_of n line) (items_from all (n + 1) lines), line-weight n line h.0, sum_by-cons with_newline line lines)
+items-weight all n (line ∷ lines) h = cond_both (is_too_far all n) _ _ (λ x. weights (statements_in (entries_of x)) ≤ 15 * room (line ∷ lines))
+    (λ _. omega arith)
+    (λ _. omega (arith, (items-weight all (n + 1) lines h.1), before-weight (items_of n line) (items_from all (n + 1) lines), line-weight n line h.0, sum_by-cons with_newline line lines))
 
 -- ---- the bytes of a source and those of its lines
 
@@ -225,8 +192,7 @@ later-none (statement line label op operands ∷ items) b h = by (entry_of (stat
     by : (e : Entry) → refusal_in (e ∷ entries_of (before items b)) ≡ None → (refusal_in (entries_of (before items b)) ≡ None → refusal_in (entries_of b) ≡ None) → refusal_in (entries_of b) ≡ None
     by (Err refused) h rest = absurd (cc)
     by (Ok s) h rest = rest h
-later-none (faulty line why ∷ items) b h = absurd (cc)
-later-none (too_far line ∷ items) b h = absurd (cc)
+later-none a b h = absurd (cc)
 
 near-by : (n : ℕ) (b : Bool) (items : List Item) → refusal_in (entries_of (cond b (too_far n ∷ []) items)) ≡ None → (b ≡ false) × (refusal_in (entries_of items) ≡ None)
 near-by n true items h = absurd (cc)

@@ -1,11 +1,6 @@
 -- A line without a statement takes no memory.
 use Rattle.std.proofs.Common.{◌≡◌, ℕ, ◌+◌, true, false, List, length, Option, None, Some, Ok, Err, refl, ap, sym, ◌∙◌, subst}
-use Rattle.mx_line.specs.declared.cutter.Cut.{Cut}
-use Rattle.mx_line.specs.Cutting.{cuts_from, list_with}
-use Rattle.mx_mmo.specs.declared.items.Item.{Item}
-use Rattle.mx_asm.specs.declared.refused.Refused.{Refused}
-use Rattle.mx_asm.specs.Entries.{line_entries, begins_with_statement, holds_statement}
-use Rattle.mx_asm.specs.OnePass.{Assembly, Standing, Progress, is_open, entries_taken, count_fault, line_unless, line_behind, with_opening, opened}
+use Rattle.mx_asm.proofs.Words.{Cut, cuts_from, list_with, Item, Refused, line_entries, begins_with_statement, holds_statement, Assembly, Standing, Progress, is_open, entries_taken, count_fault, line_unless, line_behind, with_opening, opened}
 use Rattle.mx_asm.proofs.LinesTaken.{counted_progress, entries-counted}
 
 pub no-statement : (text : List ℕ) (at : ℕ) (found : Option Cut) (cut : Cut) → at ≡ 0 → found ≡ Some cut → cuts_from text at ≡ list_with (cuts_from text) (Ok found) → holds_statement text ≡ false → ⊥

@@ -1,24 +1,15 @@
 -- A source has few statements: each takes a byte or the end of its line, and the lines before one that is too far have at
 -- most 2^22 bytes with the newlines between them.
 use Rattle.std.proofs.Common.{◌≡◌, ◌<◌, ◌≤◌, ℕ, zero, suc, ◌+◌, ◌-◌, ◌^◌, Bool, true, false, cond, List, [], ◌∷◌, ◌++◌, length, sum_by, Option, None, Some, Result, Ok, Err, refl, sym, ap, ◌∙◌, arith, append_assoc, length-append}
-use Rattle.std.proofs.lemmas.Bool.{ltb-false}
-use Rattle.std.proofs.lemmas.List.Sums.{sum_by-append}
-use Rattle.std.proofs.lemmas.List.{length-map}
-use Rattle.mx_line.specs.declared.faults.LineFault.{LineFault}
-use Rattle.mx_line.specs.declared.cutter.Cut.{Cut}
-use Rattle.mx_line.specs.Lines.{size_up_to, is_too_far}
-use Rattle.mx_line.specs.Cutting.{statement_of, list_with, cuts_within, cuts_from}
-use Rattle.mx_line.specs.Source.{Item, statement, faulty, too_far, item_of, before, items_of, items_from}
+use Rattle.mx_asm.proofs.Words.{ltb-false, sum_by-append, length-map, LineFault, Cut, size_up_to, is_too_far, statement_of, list_with, cuts_within, cuts_from, statement, faulty, too_far, item_of, before, items_of, Entry, entry_of, statements_in, Line, lines_entries}
+use Rattle.mx_line.specs.Source.{Item, items_from}
 use Rattle.mx_line.proofs.LineLemmas.{size-next}
-use Rattle.mx_asm.specs.Entries.{Entry, entry_of, statements_in}
-use Rattle.mx_asm.specs.Whole.{Line, lines_entries}
 
 -- ---- a line
 
 list-few : (most : ℕ) (later : ℕ → List (Result Cut LineFault)) (r : Result (Option Cut) LineFault) → ((place : ℕ) → length (later place) ≤ most) → length (list_with later r) ≤ suc most
-list-few most later (Err fault) h = omega arith
-list-few most later (Ok None) h = omega arith
 list-few most later (Ok (Some cut)) h = let few = h cut.next in omega (arith, few)
+list-few most later r h = omega arith
 
 cuts-few : (most : ℕ) (line : List ℕ) (place : ℕ) → length (cuts_within most line place) ≤ most
 unfolding cuts_within
@@ -34,10 +25,8 @@ items-of-few n line =
 -- ---- a source
 
 before-few : (items later : List Item) → length (before items later) ≤ length items + length later
-before-few [] later = omega arith
 before-few (statement line label op operands ∷ items) later = let few = before-few items later in omega (arith, few)
-before-few (faulty line why ∷ items) later = omega arith
-before-few (too_far line ∷ items) later = omega arith
+before-few items later = omega arith
 
 -- lines with a newline after each
 abbrev size : List Line → ℕ
@@ -56,14 +45,8 @@ items-few all earlier [] n whole at few = omega (arith, few)
 items-few all earlier (line ∷ lines) n whole at few =
     by (is_too_far all n) (ltb-false (2 ^ 22) (size_up_to n all)) (items-few all (earlier ++ line ∷ []) lines (n + 1) (whole ∙ sym (append_assoc earlier (line ∷ []) lines)))
   where
-    reached : size_up_to n all ≡ size earlier + length line
-    reached = ap (λ i. size_up_to i all) at ∙ ap (size_up_to (length earlier + 1)) whole ∙ size-next earlier line lines
-
     more : size (earlier ++ line ∷ []) ≡ size earlier + length line + 1
     more = size-more earlier line
-
-    count : length (earlier ++ line ∷ []) ≡ length earlier + 1
-    count = length-append earlier (line ∷ [])
 
     by : (b : Bool) → (b ≡ false → size_up_to n all ≤ 2 ^ 22) →
         (n + 1 ≡ length (earlier ++ line ∷ []) + 1 → size (earlier ++ line ∷ []) ≤ 2 ^ 22 + 1 → length (items_from all (n + 1) lines) + size (earlier ++ line ∷ []) ≤ 2 ^ 22 + 2) →
@@ -71,15 +54,14 @@ items-few all earlier (line ∷ lines) n whole at few =
     by true near later = omega (arith, few)
     by false near later =
         let within = near refl in
-        let rest = later (omega (arith, at, count)) (omega (arith, within, reached, more)) in
+        let rest = later (omega (arith, at, length-append earlier (line ∷ []))) (omega (arith, within, ap (λ i. size_up_to i all) at ∙ ap (size_up_to (length earlier + 1)) whole ∙ size-next earlier line lines, more)) in
         let here = items-of-few n line in
         let both = before-few (items_of n line) (items_from all (n + 1) lines) in
         omega (arith, rest, here, both, more)
 
 statements-few : (entries : List Entry) → length (statements_in entries) ≤ length entries
-statements-few [] = omega arith
-statements-few (Err refused ∷ entries) = omega arith
 statements-few (Ok s ∷ entries) = let few = statements-few entries in omega (arith, few)
+statements-few entries = omega arith
 
 pub few-statements : (lines : List Line) → length (statements_in (lines_entries lines)) < 2 ^ 32
 few-statements lines =

@@ -1,57 +1,15 @@
 -- The tetras of a statement and the records of its references have at most the weights of its operands and 12 bytes.
-use Rattle.std.proofs.Common.{◌≡◌, ◌<◌, ◌≤◌, ℕ, ◌+◌, ◌-◌, ◌*◌, ◌%◌, ◌^◌, Bool, true, false, cond, List, [], ◌∷◌, ◌++◌, length, Option, None, Some, Ok, Err, unwrap_or, arith, refl, ap, sym, subst, le_of_eq, length-append, length-drop}
-use Rattle.std.specs.Prelude.{◌==◌, nat_lt, sum_by}
-use Rattle.std.specs.Int.{byte_at}
-use Rattle.std.proofs.lemmas.Bool.Decides.{nat_tests}
-use Rattle.std.proofs.lemmas.List.Sums.{sum_by-cons}
-use Rattle.mx_word.specs.declared.symbols.Value.{Value}
-use Rattle.mx_word.specs.declared.symbols.Value.TheVariants.{Pure, Reg}
-use Rattle.mx_word.specs.declared.waits.Awaited.{Awaited}
-use Rattle.mx_word.specs.declared.waits.WaitKind.{WaitKind}
-use Rattle.mx_word.specs.declared.waits.WaitKind.TheVariants.{Octa}
-use Rattle.mx_word.specs.declared.waits.Wait.{Wait}
-use Rattle.mx_word.specs.Words.{tetra_to_bytes, octa_to_bytes, tetra_from_bytes}
-use Rattle.mx_expr.specs.Tree.{Tree, number, name, back, ahead, here, unary, binary}
-use Rattle.mx_ops.specs.declared.op.Op.{Op}
-use Rattle.mx_ops.specs.declared.op.Op.TheVariants.{Pseudo as PseudoOp, Code, Lda, Set}
-use Rattle.mx_ops.specs.declared.op.Pseudo.{Pseudo}
+use Rattle.std.proofs.Common.{◌≡◌, ◌<◌, ◌≤◌, ℕ, ◌+◌, ◌-◌, ◌*◌, ◌%◌, ◌^◌, Bool, true, false, cond, List, [], ◌∷◌, ◌++◌, length, Option, None, Some, Ok, Err, unwrap_or, arith, refl, ap, sym, subst, le_of_eq, length-append, length-drop, ◌==◌, nat_lt, sum_by}
+use Rattle.mx_asm.proofs.Words.{cond_both, byte_at, nat_tests, sum_by-cons, Pure, Awaited, WaitKind, Octa, Wait, tetra_to_bytes, octa_to_bytes, tetra_from_bytes, Tree, number, name, ahead, unary, Op, Code, Lda, Set, Pseudo, Three, Mem, Wyde, shapes_of, loaded, Label, Placed, Answer, and_then, Known, Targets, pure_at, known_target, target_by, target_at, reference_of, no_targets, form, form_by, set_form, data_number, low_bytes, data_target, datum, with_rest, data_of, data_form, StatementTree, alignment, place_at, known_at_place, label_value, tetra_waits, tetra_data, with_data, one_operand, pseudo_form, op_form, encoding, AreSilent, silent-operand, nothing_known, covered}
+use Rattle.mx_ops.specs.declared.op.Op.TheVariants.{Pseudo as PseudoOp}
 use Rattle.mx_ops.specs.declared.op.Pseudo.TheVariants as pseudo
 use Rattle.mx_ops.specs.declared.op.Shape.{Shape}
-use Rattle.mx_ops.specs.declared.op.Shape.TheVariants.{Three, Regs, Round, Neg, Rel, Mem, MemPure, Wyde, Jump, Put, Get, Pop, One, Save, Unsave, Free}
-use Rattle.mx_ops.specs.Shapes.{shapes_of}
-use Rattle.mx_mmo.specs.Spelling.{loaded}
-use Rattle.mx_stmt.specs.declared.statement.Label.{Label}
-use Rattle.mx_stmt.specs.declared.placed.Effect.{Effect}
-use Rattle.mx_stmt.specs.declared.placed.Effect.TheVariants.{Plain, Prefix, Greg, Local}
-use Rattle.mx_stmt.specs.declared.placed.Placed.{Placed}
+use Rattle.mx_stmt.specs.declared.placed.Effect.TheVariants.{Plain}
 use Rattle.mx_stmt.specs.declared.faults.StmtFault.TheVariants.{BadPlace}
-use Rattle.mx_stmt.specs.Steps.{Answer, and_then}
-use Rattle.mx_stmt.specs.Gregs.{register_for}
-use Rattle.mx_stmt.specs.Operands.{Known, Targets, operand_value, register_at, pure_at, known_target, target_by, target_at, reference_of, no_targets}
-use Rattle.mx_stmt.specs.Forms.{form, form_by, set_form}
-use Rattle.mx_stmt.specs.Data.{data_number, low_bytes, data_target, datum, with_rest, data_of, data_form}
-use Rattle.mx_stmt.specs.Encoding.{StatementTree, alignment, place_at, known_at_place, label_value, with_bytes, tetra_waits, tetra_data, with_tetra, with_data, without_bytes, complete_symbol, prefix_form, one_form, one_operand, pseudo_form, op_form, encoding}
-use Rattle.mx_asm.specs.TwoPass.{nothing_known}
+use Rattle.mx_stmt.specs.Encoding.{with_bytes, with_tetra}
 use Rattle.mx_asm.proofs.Weights.{operand_weight}
-use Rattle.mx_asm.specs.Emission.{covered}
 use Rattle.mx_asm.proofs.WrittenLengths.{load_length, load-most, load-tetra, loaded-most, loaded-low, covered-most, covered-whole}
-
--- what holds of the value of an answer
-abbrev Gives : {A : Type 0} → (A → Type 0) → Answer A → Type 0
-Gives P (Err fault) = Unit {0}
-Gives P (Ok x) = P x
-
-then-gives : {A B : Type 0} (P : B → Type 0) (a : Answer A) (next : A → Answer B) → ((x : A) → Gives P (next x)) → Gives P (and_then a next)
-then-gives P (Err fault) next h = tt
-then-gives P (Ok x) next h = h x
-
-after-gives : {A B : Type 0} (Q : A → Type 0) (P : B → Type 0) (a : Answer A) (next : A → Answer B) → Gives Q a → ((x : A) → Q x → Gives P (next x)) → Gives P (and_then a next)
-after-gives Q P (Err fault) next q h = tt
-after-gives Q P (Ok x) next q h = h x q
-
-gives-value : {A : Type 0} (P : A → Type 0) (a : Answer A) (x : A) → Gives P a → a ≡ Ok x → P x
-gives-value P (Err fault) x h is = absurd (cc)
-gives-value P (Ok y) x h is = let same : y ≡ x = cc in subst P same h
+use Rattle.mx_stmt.proofs.AwaitedNames.{then-gives, after-gives, gives-value, Gives}
 
 -- What an answer holds: data, which are bytes and references, and the tetra of an instruction have no name outside their
 -- crate.
@@ -69,18 +27,9 @@ Instruction = Held (set_form nothing_known [])
 abbrev asked : List Tree → ℕ
 asked operands = sum_by operand_weight operands
 
-number-least : (low : Bool) → 8 ≤ cond low 8 28
-number-least true = omega arith
-number-least false = omega arith
-
 weight-least : (e : Tree) → 8 ≤ operand_weight e
-weight-least (number n) = number-least (nat_lt n 256)
-weight-least (name text) = omega arith
-weight-least (back d) = omega arith
-weight-least (ahead d) = omega arith
-weight-least here = omega arith
-weight-least (unary op e) = omega arith
-weight-least (binary op l r) = omega arith
+weight-least (number n) = cond_both (nat_lt n 256) _ _ (λ x. 8 ≤ x) (λ _. omega arith) (λ _. omega arith)
+weight-least e = omega arith
 
 -- ---- bytes, wydes and tetras
 
@@ -102,22 +51,18 @@ module _ (t : Targets) (k : Known) (line size : ℕ) (small : size ≤ 4) where
   no-octa : (size == 8) ≡ false
   no-octa = grind (arith, nat_tests)
 
-  target-known : (e : Tree) → data_target k size e ≡ known_target (value_at e)
-  target-known e = ap (λ octa. cond octa (target_at k e) (known_target (value_at e))) no-octa
-
   small-step : (place : ℕ) (e : Tree) (es : List Tree) (n : Answer ℕ) (rest : Answer Placing) → AreSmall es rest →
       AreSmall (e ∷ es) (and_then (known_target n) (λ target. with_rest (datum t line size place target) rest))
-  small-step place e es (Err fault) rest h = tt
-  small-step place e es (Ok n) (Err fault) h = tt
   small-step place e es (Ok n) (Ok rest) h =
       omega (arith, h, low-most size n small, length-append (low_bytes size n) rest.bytes, weight-least e, sum_by-cons operand_weight e es)
+  small-step place e es n rest h = tt
 
   small-fits : (place : ℕ) (es : List Tree) → AreSmall es (data_of t k line size place es)
   unfolding data_of
   small-fits place [] = omega arith
   small-fits place (e ∷ es) =
       let rest = data_of t k line size ((place + size) % 2 ^ 64) es in
-      subst (λ a. AreSmall (e ∷ es) (and_then a (λ target. with_rest (datum t line size place target) rest))) (sym (target-known e))
+      subst (λ a. AreSmall (e ∷ es) (and_then a (λ target. with_rest (datum t line size place target) rest))) (sym (ap (λ octa. cond octa (target_at k e) (known_target (value_at e))) no-octa))
       (small-step place e es (value_at e) rest (small-fits ((place + size) % 2 ^ 64) es))
 
   small-form : (es : List Tree) → AreSmall es (data_form t k line size es)
@@ -176,15 +121,13 @@ module _ (t : Targets) (k : Known) (line : ℕ) where
 
   heavy-step : (place : ℕ) (e : Tree) (es : List Tree) (reference : Option Awaited) (n : Answer ℕ) (rest : Answer Placing) → IsHeavy e → AreOctas es rest →
       AreOctas (e ∷ es) (octa_then place reference n rest)
-  heavy-step place e es (Some who) n (Err fault) heavy h = tt
   heavy-step place e es (Some who) n (Ok rest) heavy h =
       let target = unwrap_or (t who) 0 in
       let waits = record { who = who; at = place; line = line; kind = Octa } ∷ [] in
       joined-octas e es (low_bytes 8 target) rest.bytes waits rest.waits refl (heavy-paid e target waits heavy (omega arith)) h
-  heavy-step place e es None (Err fault) rest heavy h = tt
-  heavy-step place e es None (Ok n) (Err fault) heavy h = tt
   heavy-step place e es None (Ok n) (Ok rest) heavy h =
       joined-octas e es (low_bytes 8 n) rest.bytes [] rest.waits refl (heavy-paid e n [] heavy (omega arith)) h
+  heavy-step place e es reference n rest heavy h = tt
 
   number-step : (place n : ℕ) (es : List Tree) (rest : Answer Placing) → AreOctas es rest → AreOctas (number n ∷ es) (octa_then place None (Ok n) rest)
   number-step place n es (Err fault) h = tt
@@ -193,11 +136,9 @@ module _ (t : Targets) (k : Known) (line : ℕ) where
   octa-step : (place : ℕ) (e : Tree) (es : List Tree) (rest : Answer Placing) → AreOctas es rest → AreOctas (e ∷ es) (octa_then place (reference_of k e) (pure_at k e) rest)
   octa-step place (number n) es rest h = number-step place n es rest h
   octa-step place (name text) es rest h = heavy-step place (name text) es (reference_of k (name text)) (pure_at k (name text)) rest refl h
-  octa-step place (back d) es rest h = heavy-step place (back d) es None (pure_at k (back d)) rest refl h
   octa-step place (ahead d) es rest h = heavy-step place (ahead d) es (reference_of k (ahead d)) (pure_at k (ahead d)) rest refl h
-  octa-step place here es rest h = heavy-step place here es None (pure_at k here) rest refl h
   octa-step place (unary op e) es rest h = heavy-step place (unary op e) es None (pure_at k (unary op e)) rest refl h
-  octa-step place (binary op l r) es rest h = heavy-step place (binary op l r) es None (pure_at k (binary op l r)) rest refl h
+  octa-step place e es rest h = heavy-step place e es None (pure_at k e) rest refl h
 
   octas-fit : (place : ℕ) (es : List Tree) → AreOctas es (data_of t k line 8 place es)
   unfolding data_of
@@ -218,11 +159,7 @@ abbrev Fits : List Tree → Answer Placed → Type 0
 Fits operands a = Gives (FitsOperands operands) a
 
 bytes-fit : (k : Known) (label : Option Label) (operands : List Tree) (d : Placing) → load_length (covered k.at d.bytes) + 12 * length d.waits ≤ 12 + asked operands → Fits operands (with_bytes k label d)
-bytes-fit k label operands d h = by (nat_lt 0x6000_0000_0000_0000 (k.at + length d.bytes))
-  where
-    by : (high : Bool) → Fits operands (cond high (Err BadPlace) (Ok (record { start = k.at; bytes = d.bytes; waits = d.waits; label = label_value label (Pure k.at); effect = Plain; after = k.at + length d.bytes })))
-    by true = tt
-    by false = h
+bytes-fit k label operands d h = cond_both (nat_lt 0x6000_0000_0000_0000 (k.at + length d.bytes)) _ _ (Fits operands) (λ _. tt) (λ _. h)
 
 -- the same where tetras are filled
 whole-fit : (k : Known) (label : Option Label) (operands : List Tree) (d : Placing) → k.at % 4 ≡ 0 → length d.bytes % 4 ≡ 0 → load_length d.bytes + 12 * length d.waits ≤ 12 + asked operands → Fits operands (with_bytes k label d)
@@ -240,29 +177,11 @@ module _ (k : Known) (label : Option Label) (operands : List Tree) where
       after-gives (λ (d : Placing). FitsOctas operands d.bytes d.waits) (FitsOperands operands) a (with_bytes k label) h
       (λ d fit. whole-fit k label operands d place fit.whole (omega (arith, fit.few)))
 
-  silent-fits : (value : Value) (effect : Effect) (next : ℕ) → Fits operands (without_bytes k label value effect next)
-  silent-fits value effect next = omega (arith, load-most (covered k.at []), covered-most k.at [])
-
-  silent-then : {A : Type 0} (a : Answer A) (next : A → Answer Placed) → ((x : A) → Fits operands (next x)) → Fits operands (and_then a next)
-  silent-then a next h = then-gives (FitsOperands operands) a next h
-
-  prefix-fits : (e : Tree) → Fits operands (prefix_form k label e)
-  prefix-fits (name text) = silent-then (complete_symbol k text) (λ full. without_bytes k label (Pure k.at) (Prefix full) k.at) (λ full. silent-fits (Pure k.at) (Prefix full) k.at)
-  prefix-fits e = tt
-
-  one-fits : (p : Pseudo) (e : Tree) → Fits operands (one_form k label p e)
-  one-fits pseudo.Is e = silent-then (operand_value k e) (λ value. without_bytes k label value Plain k.at) (λ value. silent-fits value Plain k.at)
-  one-fits pseudo.Loc e = silent-then (pure_at k e) (λ next. without_bytes k label (Pure k.at) Plain next) (λ next. silent-fits (Pure k.at) Plain next)
-  one-fits pseudo.Prefix e = prefix-fits e
-  one-fits pseudo.Greg e =
-      silent-then (pure_at k e) _ (λ value. silent-then (register_for k.gregs value) (λ reg. without_bytes k label (Reg reg) (Greg reg value) k.at) (λ reg. silent-fits (Reg reg) (Greg reg value) k.at))
-  one-fits pseudo.Local e = silent-then (register_at k e) (λ reg. without_bytes k label (Pure k.at) (Local reg) k.at) (λ reg. silent-fits (Pure k.at) (Local reg) k.at)
-  one-fits p e = tt
-
-operand-fits : (k : Known) (label : Option Label) (p : Pseudo) (operands : List Tree) → Fits operands (one_operand k label p operands)
-operand-fits k label p [] = tt
-operand-fits k label p (e ∷ []) = one-fits k label (e ∷ []) p e
-operand-fits k label p (e ∷ f ∷ more) = tt
+-- a statement that places nothing
+silent-fits : (k : Known) (operands : List Tree) (a : Answer Placed) → AreSilent k a → Fits operands a
+unfolding AreSilent
+silent-fits k operands (Err fault) h = tt
+silent-fits k operands (Ok p) h = omega (arith, load-most (covered p.start p.bytes), covered-most p.start p.bytes, ap length h.bytes, ap length h.waits)
 
 -- ---- instructions
 
@@ -270,31 +189,14 @@ operand-fits k label p (e ∷ f ∷ more) = tt
 abbrev HasOperand : List Tree → Answer Instruction → Type 0
 HasOperand operands a = Gives (λ (tetra : Instruction). 8 ≤ asked operands) a
 
-some-asked : (e : Tree) (es : List Tree) → 8 ≤ asked (e ∷ es)
-some-asked e es = omega (arith, weight-least e, sum_by-cons operand_weight e es)
-
 with-operand : (e : Tree) (es : List Tree) (a : Answer Instruction) → HasOperand (e ∷ es) a
 with-operand e es (Err fault) = tt
-with-operand e es (Ok tetra) = some-asked e es
+with-operand e es (Ok tetra) = omega (arith, weight-least e, sum_by-cons operand_weight e es)
 
 module _ (t : Targets) (k : Known) where
   form-none : (shape : Shape) (code : ℕ) → HasOperand [] (form t k shape code [])
   form-none Three code = tt
-  form-none Regs code = tt
-  form-none Round code = tt
-  form-none Neg code = tt
-  form-none Rel code = tt
-  form-none Mem code = tt
-  form-none MemPure code = tt
-  form-none Wyde code = tt
-  form-none Jump code = tt
-  form-none Put code = tt
-  form-none Get code = tt
-  form-none Pop code = tt
-  form-none One code = tt
-  form-none Save code = tt
-  form-none Unsave code = tt
-  form-none Free code = tt
+  form-none shape code = tt
 
   form-operands : (shape : Shape) (code : ℕ) (operands : List Tree) → HasOperand operands (form t k shape code operands)
   form-operands shape code [] = form-none shape code
@@ -319,9 +221,6 @@ tetra-fits k line label operands a place h =
 
 -- ---- all operations
 
-octa-place : (at : ℕ) → place_at 8 at % 4 ≡ 0
-octa-place at = omega arith
-
 tetra-place : (at : ℕ) → place_at 4 at % 4 ≡ 0
 tetra-place at = omega arith
 
@@ -330,12 +229,8 @@ module _ (t : Targets) (k : Known) (line : ℕ) (label : Option Label) where
   pseudo-fits pseudo.Byte operands = small-data (known_at_place 1 k) label operands _ (small-form t (known_at_place 1 k) line 1 (omega arith) operands)
   pseudo-fits pseudo.Wyde operands = small-data (known_at_place 2 k) label operands _ (small-form t (known_at_place 2 k) line 2 (omega arith) operands)
   pseudo-fits pseudo.Tetra operands = small-data (known_at_place 4 k) label operands _ (small-form t (known_at_place 4 k) line 4 (omega arith) operands)
-  pseudo-fits pseudo.Octa operands = octa-data (known_at_place 8 k) label operands _ (octa-place k.at) (octa-form t (known_at_place 8 k) line operands)
-  pseudo-fits pseudo.Is operands = operand-fits (known_at_place 1 k) label pseudo.Is operands
-  pseudo-fits pseudo.Loc operands = operand-fits (known_at_place 1 k) label pseudo.Loc operands
-  pseudo-fits pseudo.Prefix operands = operand-fits (known_at_place 1 k) label pseudo.Prefix operands
-  pseudo-fits pseudo.Greg operands = operand-fits (known_at_place 1 k) label pseudo.Greg operands
-  pseudo-fits pseudo.Local operands = operand-fits (known_at_place 1 k) label pseudo.Local operands
+  pseudo-fits pseudo.Octa operands = octa-data (known_at_place 8 k) label operands _ (omega arith) (octa-form t (known_at_place 8 k) line operands)
+  pseudo-fits p operands = silent-fits (known_at_place 1 k) operands (one_operand (known_at_place 1 k) label p operands) (silent-operand (known_at_place 1 k) label p operands)
 
   op-fits : (op : Op) (operands : List Tree) → Fits operands (op_form t (known_at_place (alignment op) k) line label op operands)
   op-fits (PseudoOp p) operands = pseudo-fits p operands

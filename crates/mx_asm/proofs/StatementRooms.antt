@@ -1,11 +1,8 @@
 -- How many bytes of a line a statement takes at least.
-use Rattle.std.proofs.Common.{◌≡◌, ℕ, ◌+◌, ◌<◌, ◌≤◌, List, [], ◌∷◌, ◌++◌, length, drop, Bool, true, false, not, ◌⊎◌, inl, inr, Option, Some, None, IfOk, IfSome, arith, refl, sym, ap, ◌∙◌, length-append, length-drop}
-use Rattle.std.specs.Prelude.{◌==◌, ◌||◌}
-use Rattle.mx_line.specs.declared.spans.Span.{Span}
-use Rattle.mx_line.specs.declared.cutter.Cut.{Cut}
+use Rattle.std.proofs.Common.{◌≡◌, ℕ, ◌+◌, ◌<◌, ◌≤◌, List, [], ◌∷◌, ◌++◌, length, drop, Bool, true, false, not, ◌⊎◌, inl, inr, Option, Some, None, IfOk, IfSome, arith, refl, sym, ap, ◌∙◌, length-append, length-drop, ◌==◌, ◌||◌}
+use Rattle.mx_asm.proofs.Words.{Span, Cut, span, Found, IsField, Next, Operation, Statement, StatementOf}
 use Rattle.mx_line.specs.Fields.{ends_field, ends_here}
-use Rattle.mx_line.specs.Spans.{span}
-use Rattle.mx_line.specs.Statements.{Found, IsField, Next, Operands, Operation, Statement, StatementOf}
+use Rattle.mx_line.specs.Statements.{Operands}
 use Rattle.mx_line.specs.Statements.IsField.{empty, string_first, constant_first, byte_first}
 use Rattle.mx_line.specs.Statements.Next.{another, nothing_more}
 use Rattle.mx_line.specs.Statements.Operands.{field, open_string, open_char}
@@ -23,16 +20,13 @@ FoundRoom end found = IfOk found (λ o. IfSome o (HasRoom end))
 
 last-not : (x y z : Bool) → not (x || y || z) ≡ true → z ≡ false
 last-not false false false h = refl
-last-not true y z h = absurd (cc)
-last-not false true z h = absurd (cc)
-last-not false false true h = absurd (cc)
+last-not x y z h = absurd (cc)
 
 -- a field that begins with what ends one is empty
 no-field : (operands after : List ℕ) → IsField operands → ends_here (operands ++ after) ≡ true → length operands ≡ 0
 no-field [] after empty h = refl
-no-field _ after (string_first inner rest n f) h = absurd (cc)
-no-field _ after (constant_first b rest f) h = absurd (cc)
 no-field _ after (byte_first b rest o f) h = let none = last-not (b == 34) (b == 39) (ends_field b) o in absurd (cc)
+no-field _ after _ h = absurd (cc)
 
 -- a `;` or nothing more
 next-last : (place end : ℕ) (text : List ℕ) (next : ℕ) → place + length text ≡ end → Next place text next → (place < next) ⊎ (next ≡ end)
@@ -62,17 +56,13 @@ operation-room : (end : ℕ) (label : Option Span) (place : ℕ) (text : List �
 operation-room end label place text found l (named gap rest op after _ r q s e h) =
     operands-room end label (span (place + length gap) op) (place + length gap + length op) after found e refl
     (omega (arith, l, ap length r.spelled, length-append gap rest, ap length q.spelled, length-append op after)) h
-operation-room end label place text _ l (bad_opcode gap rest op after r q s e) = tt
-operation-room end label place text _ l (only_blanks gap rest r h e) = tt
-operation-room end label place text _ l (only_label gap rest before r h e) = tt
+operation-room end label place text _ l _ = tt
 
 statement-room : (end place : ℕ) (text : List ℕ) (found : Found) → place + length text ≡ end → Statement place text found → FoundRoom end found
-statement-room end place text _ l (comment w k) = tt
 statement-room end place text found l (unlabelled _ w k h) = operation-room end None place text found l h
 statement-room end place text found l (labelled label rest _ r s b e h) =
     operation-room end (Some (span place label)) (place + length label) rest found (omega (arith, l, ap length r.spelled, length-append label rest)) h
-statement-room end place text _ l (bad_local label rest r s b) = tt
-statement-room end place text _ l (bad_label label rest r s b e) = tt
+statement-room end place text _ l _ = tt
 
 pub room-of : (line : List ℕ) (place : ℕ) (found : Found) → place ≤ length line → StatementOf line place found → FoundRoom (length line) found
 room-of line place _ l (too_long e s) = tt

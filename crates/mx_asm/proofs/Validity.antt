@@ -1,33 +1,8 @@
 -- The items of a source that is assembled are those of an object.
-use Rattle.std.proofs.Common.{◌≡◌, ℕ, ◌==◌, Bool, true, false, cond, nat_lt, List, [], ◌∷◌, ◌++◌, map, Option, None, Some, Result, Ok, Err, refl, ap, sym, subst}
-use Rattle.std.specs.Prelude.{◌^◌, codes}
-use Rattle.std.specs.List.{AllByRecursion}
-use Rattle.std.specs.Result.{result_unwrap_or}
-use Rattle.mx_stab.proofs.Orders.{all-both}
-use Rattle.mx_word.specs.declared.symbols.Value.{Value}
-use Rattle.mx_word.specs.declared.symbols.Value.TheVariants.{Pure, Reg}
-use Rattle.mx_word.specs.declared.waits.Wait.{Wait}
-use Rattle.mx_word.specs.declared.waits.WaitKind.{WaitKind}
-use Rattle.mx_word.specs.declared.waits.WaitKind.TheVariants.{Octa, Near, Far}
-use Rattle.mx_mmo.specs.declared.items.Item.{Item}
-use Rattle.mx_mmo.specs.declared.items.Item.TheVariants.{Load, Loc, Skip, FixOcta, FixNear, FixFar, File, Line, Spec, Pre, Post, Stab}
-use Rattle.mx_mmo.specs.Valid.{IsMiddle, MayFollow, SpecsEnd, Valid}
-use Rattle.mx_stmt.specs.Forms.{relative_word, near_reach, far_reach}
-use Rattle.mx_stmt.specs.Steps.{Answer}
-use Rattle.mx_stmt.specs.Gregs.{lowest_of}
-use Rattle.mx_stmt.specs.declared.placed.Placed.{Placed}
-use Rattle.mx_stmt.specs.declared.faults.StmtFault.TheVariants.{NotMultiple}
-use Rattle.mx_stmt.specs.Encoding.{StatementTree}
-use Rattle.mx_asm.specs.declared.faults.AsmFault.{AsmFault}
-use Rattle.mx_asm.specs.declared.refused.Refused.{Refused}
-use Rattle.mx_asm.specs.declared.head.Head.{Head}
-use Rattle.mx_asm.specs.Entries.{statements_in}
-use Rattle.mx_asm.specs.TwoPass.{Sight, outline, final_known}
-use Rattle.mx_asm.specs.Fixes.{waiting_at, relative_fix, pure_fix, fix_of, with_fix, fixes, awaited_value}
-use Rattle.mx_asm.specs.Emission.{moved, onto, fix_items, lowered, covering, told_line, located, lined, byte_items, head_at_fixes, with_bytes, sight_items, sight_head, items_from, opening, closing, main_of}
-use Rattle.mx_asm.specs.Refusal.{first_of, entries_refusal, end_refusal, last_line}
-use Rattle.mx_asm.specs.Fitting.{AreFit}
-use Rattle.mx_asm.specs.Whole.{Line as Text, lines_entries, entries_items, assembled_with, assembled_lines}
+use Rattle.std.proofs.Common.{◌≡◌, ℕ, ◌==◌, Bool, true, false, cond, nat_lt, List, [], ◌∷◌, ◌++◌, map, Option, None, Some, Result, Ok, Err, refl, ap, sym, subst, ◌^◌, codes}
+use Rattle.mx_asm.proofs.Words.{cond_both, AllByRecursion, result_unwrap_or, all-both, Value, Pure, Reg, Wait, WaitKind, Octa, Near, Far, Item, Load, Loc, Skip, FixOcta, FixNear, FixFar, File, Spec, Pre, Post, Stab, IsMiddle, MayFollow, SpecsEnd, Valid, relative_word, near_reach, far_reach, Answer, lowest_of, Placed, NotMultiple, StatementTree, AsmFault, Refused, Head, statements_in, Sight, outline, final_known, waiting_at, relative_fix, pure_fix, fix_of, with_fix, fixes, awaited_value, moved, onto, fix_items, lowered, covering, told_line, located, lined, byte_items, head_at_fixes, with_bytes, sight_items, sight_head, items_from, opening, closing, main_of, first_of, entries_refusal, end_refusal, last_line, AreFit, lines_entries, entries_items, assembled_with, assembled_lines}
+use Rattle.mx_mmo.specs.declared.items.Item.TheVariants.{Line}
+use Rattle.mx_asm.specs.Whole.{Line as Text}
 
 -- an item that a statement may give
 abbrev IsInner : Item → Type 0
@@ -50,14 +25,10 @@ abbrev IfInnerFix : Result Item AsmFault → Type 0
 IfInnerFix (Err fault) = Unit {0}
 IfInnerFix (Ok item) = IsInner item
 
-word-inner : (short : Bool) (bits word : ℕ) → IsInner (cond short (FixNear word) (FixFar bits word))
-word-inner true bits word = tt
-word-inner false bits word = tt
-
 relative-inner : (bits : ℕ) (r : Answer ℕ) → IfInnerFix (relative_fix bits r)
 relative-inner bits (Err NotMultiple) = tt
 relative-inner bits (Err fault) = tt
-relative-inner bits (Ok word) = word-inner (nat_lt word (2 ^ 16)) bits word
+relative-inner bits (Ok word) = cond_both (nat_lt word (2 ^ 16)) _ _ IsInner (λ _. tt) (λ _. tt)
 
 pure-inner : (place : ℕ) (kind : WaitKind) (value : ℕ) → IfInnerFix (pure_fix place kind value)
 pure-inner place Octa value = tt
@@ -69,9 +40,8 @@ fix-inner (Reg r) wait = tt
 fix-inner (Pure value) wait = pure-inner wait.at wait.kind value
 
 with-inner : (line from : ℕ) (r : Result Item AsmFault) (later : Result (List Item) Refused) → IfInnerFix r → IfInner later → IfInner (with_fix line from r later)
-with-inner line from (Err fault) later h g = tt
-with-inner line from (Ok fix) (Err refused) h g = tt
 with-inner line from (Ok fix) (Ok fixes) h g = (h, g)
+with-inner line from r later h g = tt
 
 fixes-inner : (line : ℕ) (value : Value) (waits : List Wait) → IfInner (fixes line value waits)
 unfolding fixes
@@ -131,18 +101,10 @@ items-inner (s ∷ later) earlier h =
 -- ---- an object
 
 inner-middle : (i : Item) → IsInner i → IsMiddle i
-inner-middle (Load t) h = tt
-inner-middle (Loc a) h = tt
-inner-middle (Skip n) h = tt
-inner-middle (FixOcta a) h = tt
-inner-middle (FixNear n) h = tt
-inner-middle (FixFar bits word) h = tt
-inner-middle (File number name) h = tt
-inner-middle (Line n) h = tt
-inner-middle (Spec n) h = tt
 inner-middle (Pre tetras) h = h
 inner-middle (Post g values) h = h
 inner-middle Stab h = h
+inner-middle i h = tt
 
 all-middle : (items : List Item) → AreInner items → AllByRecursion IsMiddle items
 all-middle [] h = tt
@@ -153,37 +115,16 @@ IsNoSpec (Spec n) = ⊥
 IsNoSpec _ = Unit {0}
 
 inner-no-spec : (i : Item) → IsInner i → IsNoSpec i
-inner-no-spec (Load t) h = tt
-inner-no-spec (Loc a) h = tt
-inner-no-spec (Skip n) h = tt
-inner-no-spec (FixOcta a) h = tt
-inner-no-spec (FixNear n) h = tt
-inner-no-spec (FixFar bits word) h = tt
-inner-no-spec (File number name) h = tt
-inner-no-spec (Line n) h = tt
 inner-no-spec (Spec n) h = h
-inner-no-spec (Pre tetras) h = tt
-inner-no-spec (Post g values) h = tt
-inner-no-spec Stab h = tt
+inner-no-spec i h = tt
 
 may-follow : (i j : Item) → IsNoSpec i → MayFollow i j
-may-follow (Load t) j h = tt
-may-follow (Loc a) j h = tt
-may-follow (Skip n) j h = tt
-may-follow (FixOcta a) j h = tt
-may-follow (FixNear n) j h = tt
-may-follow (FixFar bits word) j h = tt
-may-follow (File number name) j h = tt
-may-follow (Line n) j h = tt
 may-follow (Spec n) j h = absurd h
-may-follow (Pre tetras) j h = tt
-may-follow (Post g values) j h = tt
-may-follow Stab j h = tt
+may-follow i j h = tt
 
 specs-end : (items : List Item) → AllByRecursion IsNoSpec items → SpecsEnd items
-specs-end [] h = tt
-specs-end (i ∷ []) h = tt
 specs-end (i ∷ j ∷ more) h = (may-follow i j h.0, specs-end (j ∷ more) h.1)
+specs-end items h = tt
 
 no-specs : (items end : List Item) → AreInner items → AllByRecursion IsNoSpec end → AllByRecursion IsNoSpec (items ++ end)
 no-specs [] end h g = g

@@ -1,16 +1,8 @@
 -- What waits makes no difference to what a statement comes to.
 use Rattle.std.proofs.Common.{◌≡◌, ℕ, ◌+◌, ◌%◌, ◌^◌, List, [], ◌∷◌, Option, refl, ap}
-use Rattle.mx_word.specs.declared.waits.Wait.{Wait}
-use Rattle.mx_expr.specs.Tree.{Tree}
-use Rattle.mx_ops.specs.declared.op.Op.{Op}
-use Rattle.mx_ops.specs.declared.op.Op.TheVariants.{Pseudo as PseudoOp, Code, Lda, Set}
-use Rattle.mx_ops.specs.declared.op.Pseudo.{Pseudo}
+use Rattle.mx_asm.proofs.Words.{Wait, Tree, Op, Code, Lda, Set, Pseudo, Label, and_then, Known, Targets, data_of, data_form, data_target, with_rest, datum, StatementTree, pseudo_form, op_form, with_data, known_at_place, alignment, encoding}
+use Rattle.mx_ops.specs.declared.op.Op.TheVariants.{Pseudo as PseudoOp}
 use Rattle.mx_ops.specs.declared.op.Pseudo.TheVariants as pseudo
-use Rattle.mx_stmt.specs.declared.statement.Label.{Label}
-use Rattle.mx_stmt.specs.Steps.{and_then}
-use Rattle.mx_stmt.specs.Operands.{Known, Targets}
-use Rattle.mx_stmt.specs.Data.{data_of, data_form, data_target, with_rest, datum}
-use Rattle.mx_stmt.specs.Encoding.{StatementTree, pseudo_form, op_form, with_data, known_at_place, alignment, encoding}
 
 -- the same, with these references waiting
 abbrev pub with_waiting : Known → List Wait → Known
@@ -32,17 +24,11 @@ module _ (t : Targets) (k : Known) (w : List Wait) where
   pseudo-same line label pseudo.Wyde operands = ap (with_data k label) (data-form-same line 2 operands)
   pseudo-same line label pseudo.Tetra operands = ap (with_data k label) (data-form-same line 4 operands)
   pseudo-same line label pseudo.Octa operands = ap (with_data k label) (data-form-same line 8 operands)
-  pseudo-same line label pseudo.Is operands = refl
-  pseudo-same line label pseudo.Loc operands = refl
-  pseudo-same line label pseudo.Prefix operands = refl
-  pseudo-same line label pseudo.Greg operands = refl
-  pseudo-same line label pseudo.Local operands = refl
+  pseudo-same line label p operands = refl
 
   op-same : (line : ℕ) (label : Option Label) (op : Op) (operands : List Tree) → op_form t (with_waiting k w) line label op operands ≡ op_form t k line label op operands
   op-same line label (PseudoOp p) operands = pseudo-same line label p operands
-  op-same line label (Code code) operands = refl
-  op-same line label Lda operands = refl
-  op-same line label Set operands = refl
+  op-same line label op operands = refl
 
 -- what a statement comes to
 pub encoding-same : (t : Targets) (k : Known) (w : List Wait) (s : StatementTree) → encoding t (with_waiting k w) s ≡ encoding t k s

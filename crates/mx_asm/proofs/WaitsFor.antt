@@ -1,35 +1,22 @@
 -- The references that wait for a label are those that the two passes name.
-use Rattle.std.proofs.Common.{◌≡◌, ℕ, Bool, true, false, not, cond, List, [], ◌∷◌, ◌++◌, Option, None, Some, refl, ap, sym, ◌∙◌, append_assoc, append-nil}
-use Rattle.std.specs.Prelude.{◌||◌}
-use Rattle.std.specs.List.{list_any}
-use Rattle.std.proofs.lemmas.Bool.Decides.{Decides-eqb}
-use Rattle.std.proofs.lemmas.List.Elements.{filter-append}
-use Rattle.std.proofs.lemmas.Slice.Eq.{bytes_eq-Decides}
-use Rattle.mx_word.specs.declared.waits.Awaited.{Awaited}
+use Rattle.std.proofs.Common.{◌≡◌, ℕ, Bool, true, false, not, cond, List, [], ◌∷◌, ◌++◌, Option, None, Some, refl, ap, sym, ◌∙◌, append_assoc, append-nil, ◌||◌}
+use Rattle.mx_asm.proofs.Words.{list_any, Decides-eqb, filter-append, bytes_eq-Decides, Awaited, Wait, same_awaited, NameTable, waits_for, Label, Name, Local, Sight, outline, waits_in, references, is_local, from_last}
 use Rattle.mx_word.specs.declared.waits.Awaited.TheVariants as awaited
-use Rattle.mx_word.specs.declared.waits.Wait.{Wait}
-use Rattle.mx_word.specs.Waits.{same_awaited}
-use Rattle.mx_names.specs.Names.{NameTable}
-use Rattle.mx_names.specs.Waiting.{waits_for}
-use Rattle.mx_stmt.specs.declared.statement.Label.{Label}
-use Rattle.mx_stmt.specs.declared.statement.Label.TheVariants.{Name, Local}
-use Rattle.mx_asm.specs.TwoPass.{Sight, outline, waits_in, references, is_local}
-use Rattle.mx_asm.specs.Fixes.{from_last}
-use Rattle.mx_asm.proofs.Filters.{filter-within, filter-without, both-false}
+use Rattle.mx_asm.proofs.Filters.{filter-within, filter-without}
+use Rattle.std.proofs.lemmas.Bool.{or_parts as both-false}
 use Rattle.mx_asm.proofs.OpenWaits.{settled_by, settles, any_settles, is_settled, unsettled, open_waits}
 
 pub same-is : (a b : Awaited) → same_awaited a b ≡ true → a ≡ b
 same-is (awaited.Name a) (awaited.Name b) h = ap (λ full. awaited.Name full) ((bytes_eq-Decides a b).0 h)
-same-is (awaited.Name a) (awaited.Local e) h = absurd (cc)
-same-is (awaited.Local d) (awaited.Name b) h = absurd (cc)
 same-is (awaited.Local d) (awaited.Local e) h = ap (λ d. awaited.Local d) ((Decides-eqb d e).0 h)
+same-is a b h = absurd (cc)
 
 pub references-append : (xs ys : List Sight) → references (xs ++ ys) ≡ references xs ++ references ys
 unfolding references
 references-append [] ys = refl
 references-append (s ∷ xs) ys = ap (λ ws. waits_in (outline s) ++ ws) (references-append xs ys) ∙ sym (append_assoc (waits_in (outline s)) (references xs) (references ys))
 
-references-one : (s : Sight) → references (s ∷ []) ≡ waits_in (outline s)
+pub references-one : (s : Sight) → references (s ∷ []) ≡ waits_in (outline s)
 unfolding references
 references-one s = append-nil (waits_in (outline s))
 

@@ -1,7 +1,6 @@
 -- How many bytes of an object a statement asks for at most.
 use Rattle.std.specs.Prelude.{ℕ, ◌+◌, nat_lt, if◌then◌else◌, List, sum_by}
-use Rattle.mx_expr.specs.Tree.{Tree, number, name, back, ahead, here, unary, binary}
-use Rattle.mx_stmt.specs.Encoding.{StatementTree}
+use Rattle.mx_asm.proofs.Words.{Tree, number, name, back, ahead, here, unary, binary, StatementTree}
 
 -- the most object bytes that an operand asks for: its bytes where each tetra is quoted, and the record of a reference
 abbrev pub operand_weight : Tree → ℕ

@@ -1,15 +1,6 @@
 -- How many bytes items are written as.
-use Rattle.std.proofs.Common.{◌≡◌, ◌<◌, ◌≤◌, ℕ, ◌+◌, ◌-◌, ◌*◌, ◌/◌, ◌%◌, ◌^◌, Bool, true, false, cond, List, [], ◌∷◌, ◌++◌, length, replicate, map, arith, ap, ◌∙◌, length-append, append-nil}
-use Rattle.std.specs.Prelude.{◌==◌}
-use Rattle.std.proofs.lemmas.Grind.{flat_map-append}
-use Rattle.std.proofs.lemmas.List.Concat.{flat_map-cons}
-use Rattle.mx_word.specs.Words.{tetra_to_bytes, octa_to_bytes, tetra_from_bytes}
-use Rattle.mx_mmo.specs.Reading.{tetras_of}
-use Rattle.mx_mmo.specs.Tetras.{lop, address}
-use Rattle.mx_mmo.specs.declared.items.Item.{Item}
-use Rattle.mx_mmo.specs.declared.items.Item.TheVariants.{Load}
-use Rattle.mx_mmo.specs.Spelling.{loaded, bytes_of, written}
-use Rattle.mx_asm.specs.Emission.{zeros_after, covered}
+use Rattle.std.proofs.Common.{◌≡◌, ◌<◌, ◌≤◌, ℕ, ◌+◌, ◌-◌, ◌*◌, ◌/◌, ◌%◌, ◌^◌, Bool, true, false, cond, List, [], ◌∷◌, ◌++◌, length, replicate, map, arith, ap, ◌∙◌, length-append, append-nil, ◌==◌}
+use Rattle.mx_asm.proofs.Words.{cond_both, flat_map-append, flat_map-cons, tetra_to_bytes, octa_to_bytes, tetra_from_bytes, tetras_of, lop, address, Item, Load, loaded, bytes_of, written, zeros_after, covered}
 use Rattle.mx_asm.proofs.MeaningPieces.{covered-length}
 
 pub written-append : (xs ys : List Item) → length (written (xs ++ ys)) ≡ length (written xs) + length (written ys)
@@ -23,21 +14,13 @@ pub one-unless : (same : Bool) (i : Item) (most : ℕ) → length (bytes_of i) �
 one-unless true i most few = omega (arith, few)
 one-unless false i most few = omega (arith, few, written-cons i [])
 
-address-by : (short : Bool) (code a : ℕ) → length (cond short (lop code (a / 2 ^ 56) 1 ++ tetra_to_bytes (a % 2 ^ 32)) (lop code 0 2 ++ octa_to_bytes a)) ≤ 12
-address-by true code a = omega arith
-address-by false code a = omega arith
-
 pub address-most : (code a : ℕ) → length (address code a) ≤ 12
-address-most code a = address-by (a / 2 ^ 32 % 2 ^ 24 == 0) code a
+address-most code a = cond_both (a / 2 ^ 32 % 2 ^ 24 == 0) _ _ (λ x. length x ≤ 12) (λ _. omega arith) (λ _. omega arith)
 
 -- ---- tetras that are loaded
 
-loaded-by : (quoted : Bool) (t : ℕ) → length (cond quoted (lop 0 0 1 ++ tetra_to_bytes t) (tetra_to_bytes t)) ≤ 8
-loaded-by true t = omega arith
-loaded-by false t = omega arith
-
 pub loaded-most : (t : ℕ) → length (loaded t) ≤ 8
-loaded-most t = loaded-by (t / 2 ^ 24 == 0x98) t
+loaded-most t = cond_both (t / 2 ^ 24 == 0x98) _ _ (λ x. length x ≤ 8) (λ _. omega arith) (λ _. omega arith)
 
 not-quoted : (t : ℕ) → t < 256 → (t / 2 ^ 24 == 0x98) ≡ false
 not-quoted t low = let none : t / 2 ^ 24 ≡ 0 = omega (arith, low) in ap (λ n. n == 0x98) none
@@ -54,11 +37,8 @@ pub load-tetra : (a b c d : ℕ) (more : List ℕ) → load_length (a ∷ b ∷ 
 load-tetra a b c d more = written-cons (Load (tetra_from_bytes (a ∷ b ∷ c ∷ d ∷ []))) (map Load (tetras_of more))
 
 pub load-most : (bytes : List ℕ) → load_length bytes ≤ 2 * length bytes
-load-most [] = omega arith
-load-most (a ∷ []) = omega arith
-load-most (a ∷ b ∷ []) = omega arith
-load-most (a ∷ b ∷ c ∷ []) = omega arith
 load-most (a ∷ b ∷ c ∷ d ∷ more) = omega (arith, load-tetra a b c d more, loaded-most (tetra_from_bytes (a ∷ b ∷ c ∷ d ∷ [])), load-most more)
+load-most bytes = omega arith
 
 -- ---- the tetras that cover bytes
 

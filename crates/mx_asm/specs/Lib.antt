@@ -12,3 +12,4 @@ pub mod Effects
 pub mod Statements
 pub mod Pages
 pub mod Fitting
+pub mod Locals

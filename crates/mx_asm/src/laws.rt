@@ -1,20 +1,27 @@
 //! What holds of sources over lists alone.
 
-ghost use Rattle.std.specs.Prelude.{◌≡◌, ◌↔◌, ◌⊎◌, ℕ, List, [], ◌∷◌, ◌++◌, None, Some, Ok, Err};
+ghost use Rattle.std.specs.Prelude.{◌≡◌, ◌≤◌, ◌↔◌, ◌⊎◌, ℕ, List, [], ◌∷◌, ◌++◌, None, Some, Ok, Err};
 ghost use Rattle.std.specs.Result.{result_err};
+ghost use Rattle.mx_expr.specs.Tree.{back};
+ghost use Rattle.mx_expr.specs.Value.{value_of};
 ghost use Rattle.mx_line.specs.Source.{item_of};
 ghost use Rattle.mx_line.specs.declared.cutter.Cut.{Cut};
 ghost use Rattle.mx_mmo.specs.declared.items.Item.{Item};
-ghost use Rattle.mx_stmt.specs.Encoding.{StatementTree};
+ghost use Rattle.mx_stmt.specs.Encoding.{StatementTree, encoding};
+ghost use Rattle.mx_stmt.specs.Operands.{knowledge_of, no_targets};
 ghost use Rattle.mx_stmt.specs.Reading.{Fields, IsFault, IsRead, fields_of};
 ghost use Rattle.mx_stmt.specs.declared.faults.StmtFault.{StmtFault};
+ghost use Rattle.mx_stmt.specs.declared.statement.Label.TheVariants.{Local};
+ghost use Rattle.mx_word.specs.declared.symbols.Value.TheVariants.{Pure};
+ghost use Rattle.mx_word.specs.declared.symbols.Value.{Value};
 ghost use Rattle.mx_asm.specs.Emission.{emission, front, padded_trie};
 ghost use Rattle.mx_asm.specs.Entries.{entry_of, source_entries, statements_in};
 ghost use Rattle.mx_asm.specs.Faults.{refused};
 ghost use Rattle.mx_asm.specs.Fronts.{GrowsAlike};
+ghost use Rattle.mx_asm.specs.Locals.{HasNoLocal};
 ghost use Rattle.mx_asm.specs.OnePass.{Standing, beginning, end_behind, line_behind};
 ghost use Rattle.mx_asm.specs.Refusal.{refusal};
-ghost use Rattle.mx_asm.specs.TwoPass.{final_known};
+ghost use Rattle.mx_asm.specs.TwoPass.{final_known, value_in};
 ghost use Rattle.mx_asm.specs.Whole.{HasTaken, accepted_in, assembled_lines, assembled_source, lines_entries};
 ghost use Rattle.mx_asm.specs.Whole.{lines_items, lines_refusal, lines_taken, one_pass};
 ghost use Rattle.mx_asm.specs.declared.faults.AsmFault.TheVariants.{Stmt};
@@ -78,4 +85,15 @@ pub fn entries_are_read()
         (entry_of (item_of line text (Ok cut)) ≡ Err (refused line (Stmt fault))) ↔ IsFault (fields_of text cut) fault }
     ensures either { (fields : Fields) (line : ℕ) →
         ((s : StatementTree) × IsRead fields line s) ⊎ ((fault : StmtFault) × IsFault fields fault) }
+{}
+
+/// Behind the statements of a source the operand `dB` stands for the value of the last label `dH` among
+/// them: that of a statement behind which none has this label. Where none of them has it, it stands for
+/// pure 0.
+pub fn back_labels_are_the_last()
+    ensures last { (front between : List StatementTree) (s : StatementTree) (d : ℕ) (value : Value) → d ≤ 9 →
+        s.label ≡ Some (Local d) → value_in (encoding no_targets (final_known front) s) ≡ Some value → HasNoLocal d between →
+        value_of (knowledge_of (final_known (front ++ s ∷ between))) (back d) ≡ Ok value }
+    ensures none { (statements : List StatementTree) (d : ℕ) → HasNoLocal d statements →
+        value_of (knowledge_of (final_known statements)) (back d) ≡ Ok (Pure 0) }
 {}

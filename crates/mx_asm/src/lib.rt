@@ -17,6 +17,7 @@ mod refused;
 pub use assembler::Assembler;
 pub use faults::AsmFault;
 pub use laws::{
+    back_labels_are_the_last,
     entries_are_read, lines_are_taken_in_turn, lines_give_the_front, one_pass_gives_the_whole,
     sources_are_emitted_or_refused,
 };

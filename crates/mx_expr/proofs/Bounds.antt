@@ -1,16 +1,7 @@
 -- The bounds: where one is passed, and what it does to reading.
-use Rattle.std.proofs.Common.{◌≡◌, ℕ, ◌+◌, ◌-◌, ◌*◌, ◌^◌, ◌≤◌, List, [], ◌∷◌, ◌++◌, length, Bool, true, false, cond, Option, Some, None, Ok, refl, sym, ap, ◌∙◌, arith, append_assoc, subst, length-append}
-use Rattle.std.specs.Prelude.{◌==◌, ◌&&◌, nat_le}
-use Rattle.std.proofs.lemmas.Bool.{and_parts, eqb-true, leb-true}
-use Rattle.mx_expr.specs.declared.faults.ExprFault.{ExprFault}
-use Rattle.mx_expr.specs.declared.faults.ExprFault.TheVariants.{TooWide, TooDeep, EmptyString}
-use Rattle.mx_expr.specs.declared.tree.BinOp.TheVariants.{Div}
-use Rattle.mx_expr.specs.Tree.{Tree}
-use Rattle.mx_expr.specs.Bytes.{is_digit, is_hexadecimal, digit_value}
-use Rattle.mx_expr.specs.Reading.{Waiting, strong, parenthesis, Mode, operand, whole, digit, decimal, hash, hexadecimal, quote, character, symbol, slash, less, greater, string, closed, State, passed_bound, too_wide, too_deep}
-use Rattle.mx_expr.specs.Spelling.{digits_value, Constant, Before, FaultAt}
+use Rattle.std.proofs.Common.{◌≡◌, ℕ, ◌+◌, ◌-◌, ◌*◌, ◌^◌, ◌≤◌, List, [], ◌∷◌, ◌++◌, length, Bool, true, false, cond, Option, Some, None, Ok, refl, sym, ap, ◌∙◌, arith, append_assoc, subst, length-append, ◌==◌, ◌&&◌, nat_le}
+use Rattle.mx_expr.proofs.Words.{and_parts, eqb-true, leb-true, ExprFault, TooWide, TooDeep, EmptyString, Div, Tree, is_digit, is_hexadecimal, digit_value, Waiting, strong, parenthesis, Mode, operand, whole, digit, decimal, hash, hexadecimal, quote, character, symbol, slash, less, greater, string, closed, State, passed_bound, too_wide, too_deep, digits_value, Constant, Before, FaultAt, div}
 use Rattle.mx_expr.specs.Spelling.Constant.{decimal as decimal_digits, hexadecimal as hexadecimal_digits}
-use Rattle.mx_expr.specs.Spelling.StrongOperator.{div}
 use Rattle.mx_expr.specs.Spelling.FaultAt.{too_wide as stands_wide, too_deep as stands_deep, empty_string as stands_empty}
 use Rattle.mx_expr.proofs.Moves.{st, move}
 use Rattle.mx_expr.proofs.Partial.{Partial, partial-before}
@@ -94,31 +85,22 @@ chosen-some false o f h = absurd (cc)
 
 passed-at : (mode : Mode) (front text part rest : List ℕ) (es done : List Tree) (k : List Waiting) (d b : ℕ) (f : ExprFault) → Place front text part es → At mode k d done es part → passed_bound mode d b ≡ Some f → Passed (front ++ b ∷ rest) front f
 passed-at operand front text part rest es done k d b f p a e = deep-passed front rest d b f (subst (Before d) (sym p.spelled) (partial-before text es p.before k d part a.1)) e
-passed-at (whole x) front text part rest es done k d b f p a e = absurd (cc)
-passed-at (digit n) front text part rest es done k d b f p a e = absurd (cc)
 passed-at (decimal n) front text part rest es done k d b f p a e =
     let w = chosen-some (is_digit b) (too_wide (n * 10 + (b - 48))) f e in
     let o = a.1 in
     wide-passed front text o.front o.part rest es k d b (n * 10 + (b - 48)) f part p o.before o.spelled (decimal-constant n b o.part o.shape w.0) w.1
-passed-at hash front text part rest es done k d b f p a e = absurd (cc)
 passed-at (hexadecimal n) front text part rest es done k d b f p a e =
     let w = chosen-some (is_hexadecimal b) (too_wide (n * 16 + digit_value b)) f e in
     let o = a.1 in
     wide-passed front text o.front o.part rest es k d b (n * 16 + digit_value b) f part p o.before o.spelled (hexadecimal-constant n b o.part o.shape w.0) w.1
-passed-at quote front text part rest es done k d b f p a e = absurd (cc)
-passed-at (character c) front text part rest es done k d b f p a e = absurd (cc)
-passed-at (symbol t) front text part rest es done k d b f p a e = absurd (cc)
 passed-at (slash x) front text part rest es done k d b f p a e =
     let o = a.2 in
     let before : Before d (text ++ part) =
     partial-before text es p.before (strong Div x ∷ k) d part
     (record { plain = a.1; front = o.front; part = o.shape.part; word = 47 ∷ []; whole = o.shape.whole; operator = div; before = o.before; spelled = o.spelled ∙ ap (λ t. o.front ++ t) o.shape.spelled }) in
     deep-passed front rest d b f (subst (Before d) (sym p.spelled) before) e
-passed-at (less x) front text part rest es done k d b f p a e = absurd (cc)
-passed-at (greater x) front text part rest es done k d b f p a e = absurd (cc)
 passed-at (string true) front text part rest es done k d b f p a e = quote-passed front text rest a.bytes es b f part p a.shape.0 a.shape.1 e
-passed-at (string false) front text part rest es done k d b f p a e = absurd (cc)
-passed-at closed front text part rest es done k d b f p a e = absurd (cc)
+passed-at mode front text part rest es done k d b f p a e = absurd (cc)
 
 pub passed : (s : State) (front rest : List ℕ) (b : ℕ) (f : ExprFault) → Holds s front → passed_bound s.mode s.depth b ≡ Some f → Passed (front ++ b ∷ rest) front f
 passed s front rest b f h e = passed-at s.mode front h.text h.part rest h.es s.done s.waiting s.depth b f (record { before = h.before; spelled = h.spelled }) h.stands e
@@ -132,17 +114,8 @@ deep-moves mode k d b es t e h = (t, ap (move (st mode k d es)) e ∙ h)
 -- A byte that passes a bound would be read without it.
 pub passes-moves : (mode : Mode) (k : List Waiting) (d : ℕ) (es : List Tree) (b : ℕ) (f : ExprFault) → passed_bound mode d b ≡ Some f → (t : State) × (move (st mode k d es) b ≡ Ok t)
 passes-moves operand k d es b f e = deep-moves operand k d b es (st operand (parenthesis ∷ k) (d + 1) es) (deep-byte d b f e) refl
-passes-moves (whole x) k d es b f e = absurd (cc)
-passes-moves (digit n) k d es b f e = absurd (cc)
 passes-moves (decimal n) k d es b f e = let w = chosen-some (is_digit b) (too_wide (n * 10 + (b - 48))) f e in let h : is_digit b ≡ true = w.0 in (st (decimal (n * 10 + (b - 48))) k d es, rw h refl)
-passes-moves hash k d es b f e = absurd (cc)
 passes-moves (hexadecimal n) k d es b f e = let w = chosen-some (is_hexadecimal b) (too_wide (n * 16 + digit_value b)) f e in let h : is_hexadecimal b ≡ true = w.0 in (st (hexadecimal (n * 16 + digit_value b)) k d es, rw h refl)
-passes-moves quote k d es b f e = absurd (cc)
-passes-moves (character c) k d es b f e = absurd (cc)
-passes-moves (symbol t) k d es b f e = absurd (cc)
 passes-moves (slash x) k d es b f e = deep-moves (slash x) k d b es (st operand (parenthesis ∷ strong Div x ∷ k) (d + 1) es) (deep-byte d b f e) refl
-passes-moves (less x) k d es b f e = absurd (cc)
-passes-moves (greater x) k d es b f e = absurd (cc)
 passes-moves (string true) k d es b f e = let w = some-when (b == 34) EmptyString f e in let h : (b == 34) ≡ true = w.0 in (st closed k d es, rw h refl)
-passes-moves (string false) k d es b f e = absurd (cc)
-passes-moves closed k d es b f e = absurd (cc)
+passes-moves mode k d es b f e = absurd (cc)

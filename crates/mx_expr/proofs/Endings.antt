@@ -1,19 +1,10 @@
 -- What a state that was reached says of the field: its list, a spelled field that begins so, and a
 -- bound that is passed.
 use Rattle.std.proofs.Common.{◌≡◌, ℕ, List, [], ◌∷◌, ◌++◌, map, Result, Ok, Err, refl, sym, ◌∙◌, arith, append-nil, subst}
-use Rattle.mx_expr.specs.declared.faults.ExprFault.{ExprFault}
-use Rattle.mx_expr.specs.declared.faults.ExprFault.TheVariants.{Syntax}
-use Rattle.mx_expr.specs.declared.tree.BinOp.TheVariants.{Div, Left, Right}
-use Rattle.mx_expr.specs.Tree.{Tree, number, name, here, binary}
-use Rattle.mx_expr.specs.Bytes.{is_digit}
-use Rattle.mx_expr.specs.Reading.{Waiting, Mode, operand, whole, digit, decimal, hash, hexadecimal, quote, character, symbol, slash, less, greater, string, closed, State, with_strong, with_weak, listed, field_end}
-use Rattle.mx_expr.specs.Spelling.{Primary, Product, Operand, Spells, Begins}
+use Rattle.mx_expr.proofs.Words.{ExprFault, Syntax, Div, Left, Right, Tree, number, name, here, binary, is_digit, Waiting, Mode, operand, whole, digit, decimal, hash, hexadecimal, quote, character, symbol, slash, less, greater, string, closed, State, with_strong, with_weak, listed, field_end, Primary, Product, Operand, Spells, Begins, div, left, right, constant, place, times, expression, operands}
 use Rattle.mx_expr.specs.Spelling.Constant.{hexadecimal as hexadecimal_digits}
-use Rattle.mx_expr.specs.Spelling.StrongOperator.{div, left, right}
-use Rattle.mx_expr.specs.Spelling.Primary.{constant, character as spelled_character, place}
-use Rattle.mx_expr.specs.Spelling.Product.{times}
-use Rattle.mx_expr.specs.Spelling.Operand.{expression, string as spelled_string}
-use Rattle.mx_expr.specs.Spelling.Spells.{operands}
+use Rattle.mx_expr.specs.Spelling.Primary.{character as spelled_character}
+use Rattle.mx_expr.specs.Spelling.Operand.{string as spelled_string}
 use Rattle.mx_expr.proofs.Forward.{Plain}
 use Rattle.mx_expr.proofs.Partial.{Partial, SumIs, settle-is, sum-is, Piece, Closed, closes, closed-by, same-closed}
 use Rattle.mx_expr.proofs.Partial.Piece.{a_primary, a_product}
@@ -39,26 +30,19 @@ primary-list front text part es k d e p a =
     product-list front text part es (with_strong k e).1 d (with_strong k e).0 p s.plain (record { front = s.front; part = s.part; before = s.before; shape = s.whole; spelled = a.spelled ∙ s.spelled })
 
 list-good : (mode : Mode) (front text part : List ℕ) (es done : List Tree) (k : List Waiting) (d : ℕ) → Place front text part es → At mode k d done es part → GoodList (field_end mode k done) front
-list-good operand front text part es done k d p a = refl
 list-good (whole e) front text part es done k d p a = subst (λ x. GoodList (listed (with_weak k e) x) front) (sym a.0) (product-list front text part es k d e p a.1 a.2)
 list-good (digit n) front text part es done k d p a =
     subst (λ x. GoodList (field_end (digit n) k x) front) (sym a.0) (primary-list front text part es k d (number n) p (reshaped k d (OneDigit n) (λ x. Primary x (number n)) part (λ x h. decimal-primary n x (one-digit n x h)) a.1))
 list-good (decimal n) front text part es done k d p a =
     subst (λ x. GoodList (field_end (decimal n) k x) front) (sym a.0) (primary-list front text part es k d (number n) p (reshaped k d (Digits is_digit 10 n) (λ x. Primary x (number n)) part (λ x h. decimal-primary n x h) a.1))
-list-good hash front text part es done k d p a = refl
 list-good (hexadecimal n) front text part es done k d p a =
     subst (λ x. GoodList (field_end (hexadecimal n) k x) front) (sym a.0) (primary-list front text part es k d (number n) p (reshaped k d (Hashed n) (λ x. Primary x (number n)) part (λ x h. hexadecimal-primary n x h) a.1))
-list-good quote front text part es done k d p a = refl
-list-good (character c) front text part es done k d p a = refl
 list-good (symbol word) front text part es done k d p a =
     subst (λ x. GoodList (field_end (symbol word) k x) front) (sym a.0) (primary-list front text part es k d (name word) p (reshaped k d (Letters word) (λ x. Primary x (name word)) part (λ x h. symbol-primary word x h) a.1))
-list-good (slash e) front text part es done k d p a = refl
-list-good (less e) front text part es done k d p a = refl
-list-good (greater e) front text part es done k d p a = refl
-list-good (string fresh) front text part es done k d p a = refl
 list-good closed front text part es done k d p a =
     subst (λ x. Spells front x) (sym a.listed) (subst (λ t. Spells t (es ++ map number a.bytes)) (sym p.spelled)
     (operands text part es (map number a.bytes) p.before (subst (λ t. Operand t (map number a.bytes)) (sym a.shape) (spelled_string a.bytes a.all))))
+list-good mode front text part es done k d p a = refl
 
 placed : (s : State) (front : List ℕ) (h : Holds s front) → Place front h.text h.part h.es
 placed s front h = record { before = h.before; spelled = h.spelled }
@@ -80,9 +64,6 @@ closed-with k d part f q tail e s h g = closed-by part (f ++ (q ++ tail)) tail (
 closed-as : (k : List Waiting) (d : ℕ) (part f q : List ℕ) (e : Tree) → part ≡ f ++ q → Partial k d f → Piece k q e → Closed part
 closed-as k d part f q e s h g = same-closed part (f ++ q) (sym s) (closes k d f q e h g)
 
-zero-digit : Primary (35 ∷ 48 ∷ []) (number 0)
-zero-digit = constant (35 ∷ 48 ∷ []) 0 (hexadecimal_digits (48 ∷ []) (omega arith) refl)
-
 two-times : (k : List Waiting) (d : ℕ) (part : List ℕ) (e : Tree) (b : ℕ) (tail : List ℕ) (x : Tree) → Plain k → (a : After k d (Operating e b) part) → Product (a.shape.part ++ (b ∷ tail)) x → Closed part
 two-times k d part e b tail x n a g =
     let o = a.shape in
@@ -96,7 +77,7 @@ begun-closed (digit n) part es done k d a text front p = let w = a.1 in from-clo
 begun-closed (decimal n) part es done k d a text front p = let w = a.1 in from-closed front text part es p (closed-as k d part w.front w.part (number n) w.spelled w.before (a_primary (decimal-primary n w.part w.shape)))
 begun-closed hash part es done k d a text front p =
     let w = a.1 in
-    from-closed front text part es p (closed-with k d part w.front w.part (48 ∷ []) (number 0) w.spelled w.before (a_primary (subst (λ t. Primary (t ++ 48 ∷ []) (number 0)) (sym w.shape) zero-digit)))
+    from-closed front text part es p (closed-with k d part w.front w.part (48 ∷ []) (number 0) w.spelled w.before (a_primary (subst (λ t. Primary (t ++ 48 ∷ []) (number 0)) (sym w.shape) (constant (35 ∷ 48 ∷ []) 0 (hexadecimal_digits (48 ∷ []) (omega arith) refl)))))
 begun-closed (hexadecimal n) part es done k d a text front p = let w = a.1 in from-closed front text part es p (closed-as k d part w.front w.part (number n) w.spelled w.before (a_primary (hexadecimal-primary n w.part w.shape)))
 begun-closed quote part es done k d a text front p =
     let w = a.1 in

@@ -1,14 +1,6 @@
 -- What is read is what is spelled, and a fault is the first one.
-use Rattle.std.proofs.Common.{◌≡◌, ℕ, ◌<◌, ◌≤◌, List, [], ◌∷◌, ◌++◌, length, Some, None, Result, Ok, Err, refl, sym, ap, ◌∙◌, arith, append_assoc, subst, length-append, ⊎_elim, inl, inr}
-use Rattle.std.specs.Prelude.{◌⊎◌, ◌↔◌}
-use Rattle.std.proofs.lemmas.Bool.{cases_lt}
-use Rattle.mx_expr.specs.declared.faults.ExprFault.{ExprFault}
-use Rattle.mx_expr.specs.declared.faults.ExprFault.TheVariants.{Syntax, TooWide, EmptyString}
-use Rattle.mx_expr.specs.Tree.{Tree, number}
-use Rattle.mx_expr.specs.Reading.{State, Read, passed_bound, steps, field_end, reading_end, reading, start}
-use Rattle.mx_expr.specs.Spelling.{Spells, Before, Begins, FaultAt, IsFirst, Faultless, IsList}
-use Rattle.mx_expr.specs.Spelling.Spells.{empty}
-use Rattle.mx_expr.specs.Spelling.FaultAt.{no_front, no_list}
+use Rattle.std.proofs.Common.{◌≡◌, ℕ, ◌<◌, ◌≤◌, List, [], ◌∷◌, ◌++◌, length, Some, None, Result, Ok, Err, refl, sym, ap, ◌∙◌, arith, append_assoc, subst, length-append, ⊎_elim, inl, inr, ◌⊎◌, ◌↔◌}
+use Rattle.mx_expr.proofs.Words.{cases_lt, ExprFault, Syntax, TooWide, EmptyString, Tree, number, State, Read, passed_bound, steps, field_end, reading_end, reading, start, Spells, Before, Begins, FaultAt, IsFirst, Faultless, IsList, empty, no_front, no_list}
 use Rattle.mx_expr.proofs.Moves.{move, moves, moves-on}
 use Rattle.mx_expr.proofs.Fields.{free-some, one-list, spelled-free}
 use Rattle.mx_expr.proofs.Holds.{Holds, Good}

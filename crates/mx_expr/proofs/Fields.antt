@@ -1,23 +1,10 @@
 -- What is spelled is read: operands, fields, and what stands before a primary.
-use Rattle.std.proofs.Common.{◌≡◌, ℕ, ◌+◌, ◌<◌, List, [], ◌∷◌, ◌++◌, length, map, Bool, true, false, Some, Result, Ok, refl, sym, ap, ◌∙◌, arith, append_assoc, append-nil, length-append}
-use Rattle.std.proofs.lemmas.Bool.{and_parts, not-true}
-use Rattle.std.specs.Prelude.{◌==◌}
-use Rattle.std.specs.List.{list_all}
-use Rattle.mx_expr.specs.declared.faults.ExprFault.{ExprFault}
-use Rattle.mx_expr.specs.declared.tree.BinOp.{BinOp}
-use Rattle.mx_expr.specs.declared.tree.BinOp.TheVariants.{Div}
-use Rattle.mx_expr.specs.Tree.{Tree, number}
-use Rattle.mx_expr.specs.Bytes.{is_no_quote}
+use Rattle.std.proofs.Common.{◌≡◌, ℕ, ◌+◌, ◌<◌, List, [], ◌∷◌, ◌++◌, length, map, Bool, true, false, Some, Result, Ok, refl, sym, ap, ◌∙◌, arith, append_assoc, append-nil, length-append, ◌==◌}
+use Rattle.mx_expr.proofs.Words.{and_parts, not-true, list_all, ExprFault, BinOp, Div, Tree, number, is_no_quote, with_strong, Waiting, sign, strong, weak, parenthesis, Mode, operand, slash, closed, State, with_weak, and_then, field_end, reading_end, start, listed, next_operand, StrongOperator, Product, Sum, Operand, Operands, Spells, Before, mul, div, fraction, rem, left, right, and, primary, times, product, expression, none, more, empty, operands, first}
 use Rattle.mx_expr.specs.Reading as reading
-use Rattle.mx_expr.specs.Reading.{with_strong, Waiting, sign, strong, weak, parenthesis, Mode, operand, slash, closed, State, with_weak, and_then, field_end, reading_end, start, listed, next_operand}
-use Rattle.mx_expr.specs.Spelling.{StrongOperator, Product, Sum, Operand, Operands, Spells, Before}
-use Rattle.mx_expr.specs.Spelling.StrongOperator.{mul, div, fraction, rem, left, right, and}
-use Rattle.mx_expr.specs.Spelling.Product.{primary, times}
-use Rattle.mx_expr.specs.Spelling.Sum.{product, plus as sum_plus}
-use Rattle.mx_expr.specs.Spelling.Operand.{expression, string}
-use Rattle.mx_expr.specs.Spelling.Operands.{none, more}
-use Rattle.mx_expr.specs.Spelling.Spells.{empty, operands}
-use Rattle.mx_expr.specs.Spelling.Before.{first, sign as before_sign, parenthesis as before_parenthesis, strong as before_strong, weak as before_weak}
+use Rattle.mx_expr.specs.Spelling.Sum.{plus as sum_plus}
+use Rattle.mx_expr.specs.Spelling.Operand.{string}
+use Rattle.mx_expr.specs.Spelling.Before.{sign as before_sign, parenthesis as before_parenthesis, strong as before_strong, weak as before_weak}
 use Rattle.mx_expr.proofs.Moves.{st, move, moves, moves-on, moves-first, moves-none, moves-one, ends, goes-beyond, finish-ends}
 use Rattle.mx_expr.proofs.Forward.{Headed, primary-ended, sum-ended, primary-headed, sign-step, sign-other, slash-move, weak-step}
 
@@ -80,7 +67,7 @@ product-some : {text : List ℕ} {e : Tree} → Product text e → 0 < length te
 product-some (primary t e h) = let head = primary-headed t e h in omega (arith, ap length head.spelled)
 product-some (times t word part op l r h w g) = let some = product-some h in omega (arith, length-append t (word ++ part))
 
-sum-some : {text : List ℕ} {e : Tree} → Sum text e → 0 < length text
+pub sum-some : {text : List ℕ} {e : Tree} → Sum text e → 0 < length text
 sum-some (product t e h) = product-some h
 sum-some (sum_plus t b part op l r h w g) = omega (arith, length-append t (b ∷ part))
 

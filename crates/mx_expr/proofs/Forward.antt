@@ -1,24 +1,10 @@
 -- What is spelled is read, where constants and parentheses have no bound.
-use Rattle.std.proofs.Common.{◌≡◌, ℕ, ◌+◌, ◌-◌, ◌*◌, List, [], ◌∷◌, ◌++◌, true, false, Some, Ok, refl, sym, ap, ◌∙◌, arith, append_assoc, append-nil, subst}
-use Rattle.std.specs.Prelude.{◌==◌, fold}
-use Rattle.std.specs.List.{list_all}
-use Rattle.std.proofs.lemmas.Bool.{and_parts}
-use Rattle.std.proofs.lemmas.Bool.Decides.{nat_tests}
-use Rattle.mx_expr.specs.declared.tree.UnOp.{UnOp}
-use Rattle.mx_expr.specs.declared.tree.BinOp.{BinOp}
-use Rattle.mx_expr.specs.declared.tree.BinOp.TheVariants.{Div}
-use Rattle.mx_expr.specs.Tree.{Tree, number, name, back, ahead, here}
-use Rattle.mx_expr.specs.Bytes.{is_digit, is_hexadecimal, is_letter, is_name_byte, digit_value}
+use Rattle.std.proofs.Common.{◌≡◌, ℕ, ◌+◌, ◌-◌, ◌*◌, List, [], ◌∷◌, ◌++◌, true, false, Some, Ok, refl, sym, ap, ◌∙◌, arith, append_assoc, append-nil, subst, ◌==◌, fold}
+use Rattle.mx_expr.proofs.Words.{list_all, and_parts, nat_tests, UnOp, BinOp, Div, Tree, number, name, back, ahead, here, is_digit, is_hexadecimal, is_letter, is_name_byte, digit_value, Waiting, sign, strong, weak, parenthesis, Mode, operand, whole, slash, with_strong, with_weak, primary_end, and_then, digits_value, Constant, Sign, StrongOperator, WeakOperator, Primary, Product, Sum, plus, minus, not, register, mul, div, fraction, rem, left, right, and, add, sub, or, xor, constant, last_label, next_label, place, enclosed, signed, primary, times, product}
 use Rattle.mx_expr.specs.Reading as reading
-use Rattle.mx_expr.specs.Reading.{Waiting, sign, strong, weak, parenthesis, Mode, operand, whole, slash, with_strong, with_weak, primary_end, and_then}
-use Rattle.mx_expr.specs.Spelling.{digits_value, Constant, Sign, StrongOperator, WeakOperator, Primary, Product, Sum}
 use Rattle.mx_expr.specs.Spelling.Constant.{decimal as decimal_digits, hexadecimal as hexadecimal_digits}
-use Rattle.mx_expr.specs.Spelling.Sign.{plus, minus, not, register}
-use Rattle.mx_expr.specs.Spelling.StrongOperator.{mul, div, fraction, rem, left, right, and}
-use Rattle.mx_expr.specs.Spelling.WeakOperator.{add, sub, or, xor}
-use Rattle.mx_expr.specs.Spelling.Primary.{constant, character, symbol, last_label, next_label, place, enclosed, signed}
-use Rattle.mx_expr.specs.Spelling.Product.{primary, times}
-use Rattle.mx_expr.specs.Spelling.Sum.{product, plus as sum_plus}
+use Rattle.mx_expr.specs.Spelling.Primary.{character, symbol}
+use Rattle.mx_expr.specs.Spelling.Sum.{plus as sum_plus}
 use Rattle.mx_expr.proofs.Moves.{st, move, moves, moves-on, moves-first, moves-none, moves-one, ends, goes-beyond}
 
 -- constants and symbols
@@ -125,25 +111,19 @@ Level (weak op l ∷ k) = ⊥
 Level (parenthesis ∷ k) = Unit {0}
 
 pub plain-settled : (k : List Waiting) (e : Tree) → Plain k → with_strong k e ≡ (e, k)
-plain-settled [] e h = refl
 plain-settled (sign op ∷ k) e h = absurd h
 plain-settled (strong op l ∷ k) e h = absurd h
-plain-settled (weak op l ∷ k) e h = refl
-plain-settled (parenthesis ∷ k) e h = refl
+plain-settled k e h = refl
 
 pub level-plain : (k : List Waiting) → Level k → Plain k
 level-plain [] h = tt
-level-plain (sign op ∷ k) h = absurd h
-level-plain (strong op l ∷ k) h = absurd h
-level-plain (weak op l ∷ k) h = absurd h
 level-plain (parenthesis ∷ k) h = tt
+level-plain k h = absurd h
 
 level-summed : (k : List Waiting) (e : Tree) → Level k → with_weak k e ≡ (e, k)
 level-summed [] e h = refl
-level-summed (sign op ∷ k) e h = absurd h
-level-summed (strong op l ∷ k) e h = absurd h
-level-summed (weak op l ∷ k) e h = absurd h
 level-summed (parenthesis ∷ k) e h = refl
+level-summed k e h = absurd h
 
 -- No primary begins with `/`.
 pub record Headed (text : List ℕ) : Type 0 where
@@ -155,14 +135,9 @@ pub record Headed (text : List ℕ) : Type 0 where
 digit-other : (b : ℕ) → is_digit b ≡ true → (b == 47) ≡ false
 digit-other b h = grind (arith, nat_tests)
 
-letter-other : (b : ℕ) → is_letter b ≡ true → (b == 47) ≡ false
-letter-other b h = grind (arith, nat_tests)
-
 pub sign-other : (b : ℕ) (op : UnOp) → Sign b op → (b == 47) ≡ false
 sign-other b op plus = refl
-sign-other b op minus = refl
-sign-other b op not = refl
-sign-other b op register = refl
+sign-other b op _ = refl
 
 pub constant-headed : (text : List ℕ) (n : ℕ) → Constant text n → Headed text
 constant-headed text n (decimal_digits [] some all) = absurd (omega arith)
@@ -172,7 +147,7 @@ constant-headed text n (hexadecimal_digits digits some all) = record { b = 35; b
 pub primary-headed : (text : List ℕ) (e : Tree) → Primary text e → Headed text
 primary-headed text e (constant t n h) = constant-headed t n h
 primary-headed text e (character c) = record { b = 39; bs = _; spelled = refl; other = refl }
-primary-headed text e (symbol b t h a) = record { b = b; bs = t; spelled = refl; other = letter-other b h }
+primary-headed text e (symbol b t h a) = record { b = b; bs = t; spelled = refl; other = (grind (arith, nat_tests)) }
 primary-headed text e (last_label b h) = record { b = b; bs = _; spelled = refl; other = digit-other b h }
 primary-headed text e (next_label b h) = record { b = b; bs = _; spelled = refl; other = digit-other b h }
 primary-headed text e place = record { b = 64; bs = _; spelled = refl; other = refl }
@@ -181,9 +156,7 @@ primary-headed text e (signed b op t x s h) = record { b = b; bs = t; spelled = 
 
 pub sign-step : (b : ℕ) (op : UnOp) (k : List Waiting) (d : ℕ) (es : List Tree) → Sign b op → move (st operand k d es) b ≡ Ok (st operand (sign op ∷ k) d es)
 sign-step b op k d es plus = refl
-sign-step b op k d es minus = refl
-sign-step b op k d es not = refl
-sign-step b op k d es register = refl
+sign-step b op k d es _ = refl
 
 -- after `/` stands what stands after the operator, unless it is `/`
 pub slash-move : (l : Tree) (k : List Waiting) (d : ℕ) (es : List Tree) (b : ℕ) → (b == 47) ≡ false → move (st (slash l) k d es) b ≡ move (st operand (strong Div l ∷ k) d es) b

@@ -1,10 +1,8 @@
 -- One more frame at the end of a list of them.
 use Rattle.std.proofs.Common.{◌≡◌, ◌+◌, List, [], ◌∷◌, ◌++◌, Err, refl, ap, ◌∙◌, arith}
-use Rattle.mx_expr.specs.declared.faults.ExprFault.{ExprFault}
+use Rattle.mx_expr.proofs.Words.{ExprFault, Valued, Knowledge, value_through, value_after, nodes_of, nodes_left, FrameHasDigits, AllHaveDigits}
 use Rattle.mx_expr.specs.declared.valuing.Frame.{Frame}
 use Rattle.mx_expr.specs.declared.valuing.Frame.TheVariants.{Operand, Left, Right}
-use Rattle.mx_expr.specs.Value.{Valued, Knowledge}
-use Rattle.mx_expr.specs.Frames.{value_through, value_after, nodes_of, nodes_left, FrameHasDigits, AllHaveDigits}
 
 pub finished-push : (k : Knowledge) (fs : List Frame) (f : Frame) (x : Valued) → value_after k (fs ++ f ∷ []) x ≡ value_after k fs (value_through k f x)
 finished-push k [] f x = refl
@@ -12,8 +10,7 @@ finished-push k (e ∷ fs) f x = ap (value_through k e) (finished-push k fs f x)
 
 passed-err : (k : Knowledge) (f : Frame) (e : ExprFault) → value_through k f (Err e) ≡ Err e
 passed-err k (Operand op) e = refl
-passed-err k (Left op right) e = refl
-passed-err k (Right op left) e = refl
+passed-err k f e = refl
 
 pub finished-err : (k : Knowledge) (fs : List Frame) (e : ExprFault) → value_after k fs (Err e) ≡ Err e
 finished-err k [] e = refl

@@ -1,22 +1,10 @@
 -- What was read up to a state.
-use Rattle.std.proofs.Common.{◌≡◌, ℕ, ◌+◌, ◌-◌, ◌<◌, List, [], ◌∷◌, ◌++◌, length, map, Bool, true, false, Option, Some, Ok, Err, refl, sym, ap, ◌∙◌, arith, append_assoc, append-nil, subst}
-use Rattle.std.specs.Prelude.{◌==◌}
-use Rattle.std.specs.List.{list_all}
-use Rattle.std.proofs.lemmas.Bool.{cond_both, eqb-true}
-use Rattle.mx_expr.specs.declared.faults.ExprFault.TheVariants.{Syntax}
-use Rattle.mx_expr.specs.declared.tree.UnOp.{UnOp}
+use Rattle.std.proofs.Common.{◌≡◌, ℕ, ◌+◌, ◌-◌, ◌<◌, List, [], ◌∷◌, ◌++◌, length, map, Bool, true, false, Option, Some, Ok, Err, refl, sym, ap, ◌∙◌, arith, append_assoc, append-nil, subst, ◌==◌}
+use Rattle.mx_expr.proofs.Words.{list_all, cond_both, eqb-true, Syntax, UnOp, BinOp, Mul, Rem, And, Add, Sub, Or, Xor, Tree, number, here, is_digit, is_hexadecimal, is_letter, is_name_byte, is_no_quote, digit_value, with_strong, with_weak, Waiting, sign, strong, weak, parenthesis, Mode, operand, whole, digit, decimal, hash, hexadecimal, quote, character, symbol, slash, less, greater, string, closed, State, Read, primary_start, mark_start, string_start, primary_end, weakly, listed, next_operand, weakly_or_end, strongly, after, beyond, digits_value, Sign, StrongOperator, WeakOperator, Primary, Product, Sum, Operands, plus, minus, register, mul, rem, and, add, sub, or, xor, place, expression}
 use Rattle.mx_expr.specs.declared.tree.UnOp.TheVariants.{Plus, Minus, Not, Register}
-use Rattle.mx_expr.specs.declared.tree.BinOp.{BinOp}
-use Rattle.mx_expr.specs.declared.tree.BinOp.TheVariants.{Mul, Rem, And, Add, Sub, Or, Xor}
-use Rattle.mx_expr.specs.Tree.{Tree, number, here}
-use Rattle.mx_expr.specs.Bytes.{is_digit, is_hexadecimal, is_letter, is_name_byte, is_no_quote, digit_value}
-use Rattle.mx_expr.specs.Reading.{with_strong, with_weak, Waiting, sign, strong, weak, parenthesis, Mode, operand, whole, digit, decimal, hash, hexadecimal, quote, character, symbol, slash, less, greater, string, closed, State, Read, primary_start, mark_start, string_start, signed, primary_end, weakly, enclosed, listed, next_operand, weakly_or_end, strongly, after, beyond}
-use Rattle.mx_expr.specs.Spelling.{digits_value, Sign, StrongOperator, WeakOperator, Primary, Product, Sum, Operands}
-use Rattle.mx_expr.specs.Spelling.Sign.{plus, minus, not as not_sign, register}
-use Rattle.mx_expr.specs.Spelling.StrongOperator.{mul, rem, and}
-use Rattle.mx_expr.specs.Spelling.WeakOperator.{add, sub, or, xor}
-use Rattle.mx_expr.specs.Spelling.Primary.{place, enclosed as spelled_enclosed}
-use Rattle.mx_expr.specs.Spelling.Operand.{expression}
+use Rattle.mx_expr.specs.Reading.{signed, enclosed}
+use Rattle.mx_expr.specs.Spelling.Sign.{not as not_sign}
+use Rattle.mx_expr.specs.Spelling.Primary.{enclosed as spelled_enclosed}
 use Rattle.mx_expr.specs.Spelling.Operands.{more as one_more}
 use Rattle.mx_expr.proofs.Moves.{st}
 use Rattle.mx_expr.proofs.Forward.{Plain}
@@ -179,10 +167,6 @@ weakly-good front text part es d b op q p s w =
     (refl, record { level = s.level; front = s.front; part = s.part; b = b; whole = s.whole; operator = w; before = s.before; spelled = grown s.front s.part (b ∷ []) part s.spelled })
 
 enclosed-good : (front text part : List ℕ) (es : List Tree) (d : ℕ) (x : Tree) (k : List Waiting) → Place front text (part ++ 41 ∷ []) es → SumIs d part (x, k) → Good (enclosed (x, k) d es) front
-enclosed-good front text part es d x [] p s = refl
-enclosed-good front text part es d x (sign op ∷ k) p s = refl
-enclosed-good front text part es d x (strong op l ∷ k) p s = refl
-enclosed-good front text part es d x (weak op l ∷ k) p s = refl
 enclosed-good front text part es d x (parenthesis ∷ k) p s =
     let o = s.before in
     let less : d - 1 ≡ o.below = omega (arith, o.deeper) in
@@ -195,6 +179,7 @@ enclosed-good front text part es d x (parenthesis ∷ k) p s =
       shape = spelled_enclosed s.part x s.whole;
       spelled = grown s.front s.part (41 ∷ []) part s.spelled ∙ ap (λ t. t ++ (s.part ++ 41 ∷ [])) o.spelled ∙ append_assoc o.front (40 ∷ []) (s.part ++ 41 ∷ []);
     }))
+enclosed-good front text part es d x k p s = refl
 
 pub whole-sum : (d : ℕ) (part : List ℕ) (x : Tree) → SumIs d part (x, []) → Sum part x
 whole-sum d part x s = subst (λ t. Sum t x) (sym (s.spelled ∙ ap (λ t. t ++ s.part) s.before.1)) s.whole

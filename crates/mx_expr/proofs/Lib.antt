@@ -12,3 +12,4 @@ pub mod Stops
 pub mod Marks
 pub mod Exact
 pub mod Parsed
+pub mod Words

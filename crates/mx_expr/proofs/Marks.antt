@@ -1,17 +1,8 @@
 -- Where a bound is passed, reading stops.
-use Rattle.std.proofs.Common.{◌≡◌, ℕ, ◌+◌, ◌-◌, ◌*◌, ◌^◌, ◌<◌, ◌≤◌, List, [], ◌∷◌, ◌++◌, length, Bool, true, false, cond, Some, None, Ok, Err, refl, sym, ap, ◌∙◌, arith, append_assoc, subst, ⊎_elim, inl, inr}
-use Rattle.std.specs.Prelude.{◌==◌, ◌&&◌, nat_le, fold, ◌⊎◌}
-use Rattle.std.specs.List.{list_all}
-use Rattle.std.proofs.lemmas.Bool.{and_parts, le-leb, cases_lt}
-use Rattle.std.proofs.lemmas.Bool.Decides.{nat_tests}
-use Rattle.mx_expr.specs.declared.faults.ExprFault.{ExprFault}
-use Rattle.mx_expr.specs.declared.faults.ExprFault.TheVariants.{Syntax, TooWide, TooDeep, EmptyString}
-use Rattle.mx_expr.specs.Tree.{Tree, number}
-use Rattle.mx_expr.specs.Bytes.{is_digit, is_hexadecimal, digit_value}
-use Rattle.mx_expr.specs.Reading.{Waiting, Mode, operand, digit, decimal, hash, hexadecimal, slash, string, State, with_strong, step, steps, within, start}
-use Rattle.mx_expr.specs.Spelling.{digits_value, Constant, Operands, Spells, Before, Begins, FaultAt}
+use Rattle.std.proofs.Common.{◌≡◌, ℕ, ◌+◌, ◌-◌, ◌*◌, ◌^◌, ◌<◌, ◌≤◌, List, [], ◌∷◌, ◌++◌, length, Bool, true, false, cond, Some, None, Ok, Err, refl, sym, ap, ◌∙◌, arith, append_assoc, subst, ⊎_elim, inl, inr, ◌==◌, ◌&&◌, nat_le, fold, ◌⊎◌}
+use Rattle.mx_expr.proofs.Words.{list_all, and_parts, le-leb, cases_lt, nat_tests, ExprFault, Syntax, TooWide, TooDeep, EmptyString, Tree, number, is_digit, is_hexadecimal, digit_value, Waiting, Mode, operand, digit, decimal, hash, hexadecimal, slash, string, State, with_strong, step, steps, within, start, digits_value, Constant, Operands, Spells, Before, Begins, FaultAt, no_front, no_list}
 use Rattle.mx_expr.specs.Spelling.Constant.{decimal as decimal_digits, hexadecimal as hexadecimal_digits}
-use Rattle.mx_expr.specs.Spelling.FaultAt.{no_front, no_list, too_wide as stands_wide, too_deep as stands_deep, empty_string as stands_empty}
+use Rattle.mx_expr.specs.Spelling.FaultAt.{too_wide as stands_wide, too_deep as stands_deep, empty_string as stands_empty}
 use Rattle.mx_expr.proofs.Moves.{st, move, moves, moves-on, moves-one, ends}
 use Rattle.mx_expr.proofs.Forward.{Headed, constant-ended, constant-headed, slash-move}
 use Rattle.mx_expr.proofs.Fields.{Wants, wants-moves, Stood, before-stood, operands-read}
@@ -43,9 +34,6 @@ step-wants (at_slash l k d es) b h i = ap (λ c. within (cond (c && nat_le 255 d
 pub digit-small : (b : ℕ) → is_digit b ≡ true → digit_value b < 10
 digit-small b h = let e : digit_value b ≡ b - 48 = rw h refl in let few : b - 48 < 10 = grind (arith, nat_tests) in omega (arith, e, few)
 
-digit-is : (b : ℕ) → is_digit b ≡ true → ((b == 40) ≡ false) × ((b == 47) ≡ false)
-digit-is b h = (grind (arith, nat_tests), grind (arith, nat_tests))
-
 hexadecimal-small : (b : ℕ) → is_hexadecimal b ≡ true → b < 103
 hexadecimal-small b h = grind (arith, nat_tests)
 
@@ -53,13 +41,12 @@ value-small : (b : ℕ) → digit_value b ≤ b
 value-small b = grind (arith, nat_tests)
 
 pub wide-stops : {s : State} {k : List Waiting} {d : ℕ} {es : List Tree} → Wants s k d es → (text rest : List ℕ) (n : ℕ) → Constant text n → 2 ^ 64 ≤ n → steps s (text ++ rest) ≡ Err TooWide
-wide-stops w text rest n (decimal_digits [] some all) h = absurd (omega arith)
 wide-stops w text rest n (decimal_digits (b ∷ []) some all) h = let small : digit_value b < 10 = digit-small b (and_parts _ _ all).0 in absurd (omega (arith, h, small))
 wide-stops {s = s} {k = k} {d = d} {es = es} w text rest n (decimal_digits (b ∷ c ∷ bs) some all) h =
     let one : is_digit b ≡ true = (and_parts _ _ all).0 in
     let later : list_all is_digit (c ∷ bs) ≡ true = (and_parts (is_digit b) (list_all is_digit (c ∷ bs)) all).1 in
     let two : is_digit c ≡ true = (and_parts (is_digit c) (list_all is_digit bs) later).0 in
-    let others = digit-is b one in
+    let others : ((b == 40) ≡ false) × ((b == 47) ≡ false) = (grind (arith, nat_tests), grind (arith, nat_tests)) in
     let first : step s b ≡ Ok (st (digit (b - 48)) k d es) = step-wants w b others.0 others.1 ∙ rw one refl in
     let e : b - 48 ≡ 0 * 10 + digit_value b = omega (arith, value-of-digit b one) in
     let second : step (st (digit (b - 48)) k d es) c ≡ Ok (st (decimal ((b - 48) * 10 + digit_value c)) k d es) = rw two refl in
@@ -68,7 +55,6 @@ wide-stops {s = s} {k = k} {d = d} {es = es} w text rest n (decimal_digits (b �
     let h2 : 2 ^ 64 ≤ fold (λ v x. v * 10 + digit_value x) ((b - 48) * 10 + digit_value c) bs = subst (λ v. 2 ^ 64 ≤ fold (λ v x. v * 10 + digit_value x) (v * 10 + digit_value c) bs) (sym e) h in
     let third : steps (st (decimal ((b - 48) * 10 + digit_value c)) k d es) (bs ++ rest) ≡ Err TooWide = wide-decimal ((b - 48) * 10 + digit_value c) bs rest k d es (and_parts _ _ later).1 (omega (arith, e, small, small2)) h2 in
     steps-first _ _ b (c ∷ (bs ++ rest)) first ∙ steps-first _ _ c (bs ++ rest) second ∙ third
-wide-stops w text rest n (hexadecimal_digits [] some all) h = absurd (omega arith)
 wide-stops {s = s} {k = k} {d = d} {es = es} w text rest n (hexadecimal_digits (b ∷ bs) some all) h =
     let one : is_hexadecimal b ≡ true = (and_parts _ _ all).0 in
     let first : step s 35 ≡ Ok (st hash k d es) = step-wants w 35 refl refl in
@@ -77,6 +63,7 @@ wide-stops {s = s} {k = k} {d = d} {es = es} w text rest n (hexadecimal_digits (
     let h2 : 2 ^ 64 ≤ fold (λ v x. v * 16 + digit_value x) (digit_value b) bs = subst (λ v. 2 ^ 64 ≤ fold (λ v x. v * 16 + digit_value x) v bs) (sym e) h in
     steps-first _ _ 35 (b ∷ (bs ++ rest)) first ∙ steps-first _ _ b (bs ++ rest) second
     ∙ wide-hexadecimal (digit_value b) bs rest k d es (and_parts _ _ all).1 (omega (arith, value-small b, hexadecimal-small b one)) h2
+wide-stops w text rest n _ h = absurd (omega arith)
 
 deep-stops : {s : State} {k : List Waiting} {d : ℕ} {es : List Tree} → Wants s k d es → (rest : List ℕ) → 255 ≤ d → steps s (40 ∷ rest) ≡ Err TooDeep
 deep-stops (at_operand k d es) rest h = let t : nat_le 255 d ≡ true = le-leb 255 d h in steps-refused _ TooDeep 40 rest (rw t refl)

@@ -1,11 +1,7 @@
 -- Reading where constants and parentheses have no bound.
-use Rattle.std.proofs.Common.{◌≡◌, ℕ, List, [], ◌∷◌, ◌++◌, false, Option, Some, None, Ok, Err, refl, sym, ap, ◌∙◌, arith}
+use Rattle.std.proofs.Common.{◌≡◌, ℕ, List, [], ◌∷◌, ◌++◌, false, Option, Some, None, Ok, Err, refl, sym, ap, ◌∙◌, arith, ◌==◌}
 use Rattle.std.proofs.lemmas.Option.{same_Some}
-use Rattle.std.specs.Prelude.{◌==◌}
-use Rattle.std.proofs.lemmas.Bool.Decides.{nat_tests}
-use Rattle.mx_expr.specs.Tree.{Tree, number, name}
-use Rattle.mx_expr.specs.Bytes.{is_digit, is_hexadecimal, is_name_byte}
-use Rattle.mx_expr.specs.Reading.{Waiting, Mode, operand, whole, digit, decimal, hash, hexadecimal, quote, character, symbol, slash, less, greater, string, closed, State, Read, and_then, next_reading, with_strong, with_weak, after, listed, field_end}
+use Rattle.mx_expr.proofs.Words.{nat_tests, Tree, number, name, is_digit, is_hexadecimal, is_name_byte, Waiting, Mode, operand, whole, digit, decimal, hash, hexadecimal, quote, character, symbol, slash, less, greater, string, closed, State, Read, and_then, next_reading, with_strong, with_weak, after, listed, field_end}
 
 abbrev pub st : Mode → List Waiting → ℕ → List Tree → State
 st mode k d es = record { mode = mode; waiting = k; depth = d; done = es }
@@ -81,33 +77,17 @@ no-next b h = grind (arith, nat_tests)
 
 -- A byte that is no letter and no digit ends a primary.
 pub goes-beyond : (mode : Mode) (k : List Waiting) (p : Tree × List Waiting) (d : ℕ) (es : List Tree) (b : ℕ) → ends mode k ≡ Some p → is_name_byte b ≡ false → next_reading mode k d es b ≡ after b p d es
-goes-beyond operand k p d es b e w = absurd (cc)
 goes-beyond (whole x) k p d es b e w = ap (λ q. after b q d es) (same_Some _ _ e)
 goes-beyond (digit n) k p d es b e w = rw (no-digit b w, no-last b w, no-next b w) (ap (λ q. after b q d es) (same_Some _ _ e))
 goes-beyond (decimal n) k p d es b e w = rw (no-digit b w) (ap (λ q. after b q d es) (same_Some _ _ e))
-goes-beyond hash k p d es b e w = absurd (cc)
 goes-beyond (hexadecimal n) k p d es b e w = rw (no-hexadecimal b w) (ap (λ q. after b q d es) (same_Some _ _ e))
-goes-beyond quote k p d es b e w = absurd (cc)
-goes-beyond (character c) k p d es b e w = absurd (cc)
 goes-beyond (symbol text) k p d es b e w = rw w (ap (λ q. after b q d es) (same_Some _ _ e))
-goes-beyond (slash x) k p d es b e w = absurd (cc)
-goes-beyond (less x) k p d es b e w = absurd (cc)
-goes-beyond (greater x) k p d es b e w = absurd (cc)
-goes-beyond (string x) k p d es b e w = absurd (cc)
-goes-beyond closed k p d es b e w = absurd (cc)
+goes-beyond mode k p d es b e w = absurd (cc)
 
 pub finish-ends : (mode : Mode) (k : List Waiting) (p : Tree × List Waiting) (es : List Tree) → ends mode k ≡ Some p → field_end mode k es ≡ listed (with_weak p.1 p.0) es
-finish-ends operand k p es e = absurd (cc)
 finish-ends (whole x) k p es e = ap (λ (q : Tree × List Waiting). listed (with_weak q.1 q.0) es) (same_Some _ _ e)
 finish-ends (digit n) k p es e = ap (λ (q : Tree × List Waiting). listed (with_weak q.1 q.0) es) (same_Some _ _ e)
 finish-ends (decimal n) k p es e = ap (λ (q : Tree × List Waiting). listed (with_weak q.1 q.0) es) (same_Some _ _ e)
-finish-ends hash k p es e = absurd (cc)
 finish-ends (hexadecimal n) k p es e = ap (λ (q : Tree × List Waiting). listed (with_weak q.1 q.0) es) (same_Some _ _ e)
-finish-ends quote k p es e = absurd (cc)
-finish-ends (character c) k p es e = absurd (cc)
 finish-ends (symbol text) k p es e = ap (λ (q : Tree × List Waiting). listed (with_weak q.1 q.0) es) (same_Some _ _ e)
-finish-ends (slash x) k p es e = absurd (cc)
-finish-ends (less x) k p es e = absurd (cc)
-finish-ends (greater x) k p es e = absurd (cc)
-finish-ends (string x) k p es e = absurd (cc)
-finish-ends closed k p es e = absurd (cc)
+finish-ends mode k p es e = absurd (cc)

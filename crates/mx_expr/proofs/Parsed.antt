@@ -1,35 +1,23 @@
 -- What a list or a fault that was read says of the field.
-use Rattle.std.proofs.Common.{◌≡◌, ◌≢◌, ℕ, List, [], ◌∷◌, ◌++◌, map, Result, Ok, Err, IfOk, sym, ◌∙◌, arith}
-use Rattle.std.specs.Prelude.{IfErr}
-use Rattle.std.specs.List.{All, AllByRecursion}
+use Rattle.std.proofs.Common.{◌≡◌, ◌≢◌, ℕ, List, [], ◌∷◌, ◌++◌, map, Result, Ok, Err, IfOk, sym, ◌∙◌, arith, IfErr}
+use Rattle.mx_expr.proofs.Words.{All, AllByRecursion, ExprFault, OutOfMemory, Tree, number, tree_of, trees_of, HasDigits, reading, Primary, Product, Sum, Operand, Operands, Spells, IsFirst, Faultless, constant, last_label, next_label, place, enclosed, signed, primary, times, product, expression, none, more, empty, operands}
 use Rattle.std.proofs.lemmas.List.Elements.{All-from_recursion}
 use Rattle.mx_word.specs.Results.{map_ok}
-use Rattle.mx_expr.specs.declared.faults.ExprFault.{ExprFault}
-use Rattle.mx_expr.specs.declared.faults.ExprFault.TheVariants.{OutOfMemory}
 use Rattle.mx_expr.specs.declared.tree.Expr.{Expr}
-use Rattle.mx_expr.specs.Tree.{Tree, number, tree_of, trees_of, HasDigits}
-use Rattle.mx_expr.specs.Reading.{reading}
-use Rattle.mx_expr.specs.Spelling.{Primary, Product, Sum, Operand, Operands, Spells, IsFirst, Faultless}
-use Rattle.mx_expr.specs.Spelling.Primary.{constant, character, symbol, last_label, next_label, place, enclosed, signed}
-use Rattle.mx_expr.specs.Spelling.Product.{primary, times}
-use Rattle.mx_expr.specs.Spelling.Sum.{product, plus}
-use Rattle.mx_expr.specs.Spelling.Operand.{expression, string}
-use Rattle.mx_expr.specs.Spelling.Operands.{none, more}
-use Rattle.mx_expr.specs.Spelling.Spells.{empty, operands}
+use Rattle.mx_expr.specs.Spelling.Primary.{character, symbol}
+use Rattle.mx_expr.specs.Spelling.Sum.{plus}
+use Rattle.mx_expr.specs.Spelling.Operand.{string}
 use Rattle.mx_expr.proofs.Marks.{digit-small}
 use Rattle.mx_expr.proofs.Exact.{reading-ok, reading-err, list-read, fault-read}
 
 -- The digits of local labels are 0 to 9.
 mutual
   primary-digits : {text : List ℕ} {e : Tree} → Primary text e → HasDigits e
-  primary-digits (constant t n h) = tt
-  primary-digits (character c) = tt
-  primary-digits (symbol b t h a) = tt
   primary-digits (last_label b h) = omega (arith, digit-small b h)
   primary-digits (next_label b h) = omega (arith, digit-small b h)
-  primary-digits place = tt
   primary-digits (enclosed t e h) = sum-digits h
   primary-digits (signed b op t e s h) = primary-digits h
+  primary-digits _ = tt
 
   product-digits : {text : List ℕ} {e : Tree} → Product text e → HasDigits e
   product-digits (primary t e h) = primary-digits h

@@ -1,14 +1,8 @@
 -- What was read of an operand, by what waits.
 use Rattle.std.proofs.Common.{◌≡◌, ℕ, ◌+◌, List, [], ◌∷◌, ◌++◌, refl, sym, ap, ◌∙◌, append_assoc, append-nil, subst}
-use Rattle.mx_expr.specs.declared.tree.UnOp.{UnOp}
-use Rattle.mx_expr.specs.declared.tree.BinOp.{BinOp}
-use Rattle.mx_expr.specs.Tree.{Tree, unary, binary}
-use Rattle.mx_expr.specs.Reading.{with_strong, with_weak, Waiting, sign, strong, weak, parenthesis}
-use Rattle.mx_expr.specs.Spelling.{Sign, StrongOperator, WeakOperator, Primary, Product, Sum, Operands, Before}
-use Rattle.mx_expr.specs.Spelling.Primary.{enclosed, signed}
-use Rattle.mx_expr.specs.Spelling.Product.{primary, times}
-use Rattle.mx_expr.specs.Spelling.Sum.{product, plus as sum_plus}
-use Rattle.mx_expr.specs.Spelling.Before.{first, sign as before_sign, parenthesis as before_parenthesis, strong as before_strong, weak as before_weak}
+use Rattle.mx_expr.proofs.Words.{UnOp, BinOp, Tree, unary, binary, with_strong, with_weak, Waiting, sign, strong, weak, parenthesis, Sign, StrongOperator, WeakOperator, Primary, Product, Sum, Operands, Before, enclosed, signed, primary, times, product, first}
+use Rattle.mx_expr.specs.Spelling.Sum.{plus as sum_plus}
+use Rattle.mx_expr.specs.Spelling.Before.{sign as before_sign, parenthesis as before_parenthesis, strong as before_strong, weak as before_weak}
 use Rattle.mx_expr.proofs.Forward.{Plain, Level}
 
 pub record SignBy (op : UnOp) (P : List ℕ → Type 0) (text : List ℕ) : Type 0 where
@@ -88,11 +82,9 @@ settle-is (strong op l ∷ k) d front part e h g =
       whole = times h.part h.word part op l e h.whole h.operator g;
       spelled = ap (λ t. t ++ part) h.spelled ∙ regroup h.front h.part h.word part;
     }
-settle-is (weak op l ∷ k) d front part e h g = record { front = front; part = part; before = h; plain = tt; whole = primary part e g; spelled = refl }
-settle-is (parenthesis ∷ k) d front part e h g = record { front = front; part = part; before = h; plain = tt; whole = primary part e g; spelled = refl }
+settle-is k d front part e h g = record { front = front; part = part; before = h; plain = tt; whole = primary part e g; spelled = refl }
 
 pub sum-is : (k : List Waiting) (d : ℕ) (front part : List ℕ) (e : Tree) → Partial k d front → Plain k → Product part e → SumIs d (front ++ part) (with_weak k e)
-sum-is [] d front part e h p g = record { front = front; part = part; before = h; level = tt; whole = product part e g; spelled = refl }
 sum-is (sign op ∷ k) d front part e h p g = absurd p
 sum-is (strong op l ∷ k) d front part e h p g = absurd p
 sum-is (weak op l ∷ k) d front part e h p g =
@@ -104,7 +96,7 @@ sum-is (weak op l ∷ k) d front part e h p g =
       whole = sum_plus h.part h.b part op l e h.whole h.operator g;
       spelled = ap (λ t. t ++ part) h.spelled ∙ regroup h.front h.part (h.b ∷ []) part;
     }
-sum-is (parenthesis ∷ k) d front part e h p g = record { front = front; part = part; before = h; level = tt; whole = product part e g; spelled = refl }
+sum-is k d front part e h p g = record { front = front; part = part; before = h; level = tt; whole = product part e g; spelled = refl }
 
 -- What waits closes to a sum: some text goes on what was read to an expression.
 pub data Piece (k : List Waiting) (part : List ℕ) (e : Tree) : Type 0 where
@@ -160,7 +152,7 @@ closes (parenthesis ∷ k) d front part e h g =
     (closes k h.below h.front (40 ∷ (part ++ 41 ∷ [])) e h.before (a_primary (enclosed part e (piece-sum (parenthesis ∷ k) part e g))))
 
 -- what stands before a primary, with operands before it
-before-product : (d : ℕ) (text : List ℕ) {part : List ℕ} {e : Tree} → Product part e → Before d text → (word : List ℕ) (op : BinOp) → StrongOperator word op → Before d (text ++ (part ++ word))
+pub before-product : (d : ℕ) (text : List ℕ) {part : List ℕ} {e : Tree} → Product part e → Before d text → (word : List ℕ) (op : BinOp) → StrongOperator word op → Before d (text ++ (part ++ word))
 before-product d text (primary part e h) t word op w = before_strong d text part word e op t h w
 before-product d text (times left word1 right op1 l r h w1 g) t word op w =
     let e : (text ++ (left ++ word1)) ++ (right ++ word) ≡ text ++ ((left ++ (word1 ++ right)) ++ word) = simp append_assoc refl in
@@ -172,7 +164,7 @@ before-last d text (times left word1 right op1 l r h w1 g) t b op w =
     let e : (text ++ (left ++ word1)) ++ (right ++ b ∷ []) ≡ text ++ ((left ++ (word1 ++ right)) ++ b ∷ []) = simp append_assoc refl in
     subst (Before d) e (before_weak d (text ++ (left ++ word1)) right b r op (before-product d text h t word1 op1 w1) g w)
 
-before-sum : (d : ℕ) (text : List ℕ) {part : List ℕ} {e : Tree} → Sum part e → Before d text → (b : ℕ) (op : BinOp) → WeakOperator b op → Before d (text ++ (part ++ b ∷ []))
+pub before-sum : (d : ℕ) (text : List ℕ) {part : List ℕ} {e : Tree} → Sum part e → Before d text → (b : ℕ) (op : BinOp) → WeakOperator b op → Before d (text ++ (part ++ b ∷ []))
 before-sum d text (product part e h) t b op w = before-last d text h t b op w
 before-sum d text (sum_plus left c right op1 l r h w1 g) t b op w =
     let e : (text ++ (left ++ c ∷ [])) ++ (right ++ b ∷ []) ≡ text ++ ((left ++ c ∷ right) ++ b ∷ []) = simp append_assoc refl in

@@ -2,9 +2,7 @@
 use Rattle.std.proofs.Common.{◌≡◌, ℕ, ◌+◌, ◌<◌, ◌≤◌, List, [], ◌∷◌, Ok, Err, refl, ap, sym, ◌∙◌, arith, length, drop, get_or, add-one}
 use Rattle.std.proofs.Math.Seq.{drop-cons}
 use Rattle.std.proofs.Math.ListN.{drop_of_length-le}
-use Rattle.mx_expr.specs.Tree.{Tree}
-use Rattle.mx_expr.specs.declared.faults.ExprFault.{ExprFault}
-use Rattle.mx_expr.specs.Reading.{Mode, Waiting, bounded_step, reading_end, reading, State, step, steps, start}
+use Rattle.mx_expr.proofs.Words.{Tree, ExprFault, Mode, Waiting, bounded_step, reading_end, reading, State, step, steps, start}
 
 pub steps-more : (s t : State) (xs : List ℕ) (i : ℕ) → i < length xs → step s (get_or xs i 0) ≡ Ok t → steps s (drop i xs) ≡ steps t (drop (i + 1) xs)
 unfolding steps

@@ -1,18 +1,9 @@
 -- What was read up to a state, with one more byte.
-use Rattle.std.proofs.Common.{◌≡◌, ℕ, ◌+◌, ◌-◌, ◌*◌, List, [], ◌∷◌, ◌++◌, map, Bool, true, false, Ok, Err, refl, sym, ap, ◌∙◌, arith, append_assoc, append-nil, subst, length-append}
-use Rattle.std.proofs.lemmas.Bool.{cond_both}
-use Rattle.std.specs.Prelude.{◌==◌, ◌&&◌}
-use Rattle.std.specs.List.{list_all}
+use Rattle.std.proofs.Common.{◌≡◌, ℕ, ◌+◌, ◌-◌, ◌*◌, List, [], ◌∷◌, ◌++◌, map, Bool, true, false, Ok, Err, refl, sym, ap, ◌∙◌, arith, append_assoc, append-nil, subst, length-append, ◌==◌, ◌&&◌}
+use Rattle.mx_expr.proofs.Words.{cond_both, list_all, BinOp, Div, Fraction, Left, Right, Tree, number, name, back, ahead, is_digit, is_hexadecimal, is_name_byte, is_no_quote, digit_value, Waiting, strong, Mode, operand, whole, digit, decimal, hash, hexadecimal, quote, character, symbol, slash, less, greater, string, closed, State, Read, primary_start, next_reading, in_string, start, and_then, digits_value, StrongOperator, Primary, Operand, div, fraction, left, right, constant, last_label, next_label}
 use Rattle.std.proofs.lemmas.Grind.{fold-append}
-use Rattle.mx_expr.specs.declared.tree.BinOp.{BinOp}
-use Rattle.mx_expr.specs.declared.tree.BinOp.TheVariants.{Div, Fraction, Left, Right}
-use Rattle.mx_expr.specs.Tree.{Tree, number, name, back, ahead}
-use Rattle.mx_expr.specs.Bytes.{is_digit, is_hexadecimal, is_name_byte, is_no_quote, digit_value}
-use Rattle.mx_expr.specs.Reading.{Waiting, strong, Mode, operand, whole, digit, decimal, hash, hexadecimal, quote, character, symbol, slash, less, greater, string, closed, State, Read, primary_start, next_reading, in_string, start, and_then}
-use Rattle.mx_expr.specs.Spelling.{digits_value, StrongOperator, Primary, Operand}
 use Rattle.mx_expr.specs.Spelling.Constant.{decimal as decimal_digits, hexadecimal as hexadecimal_digits}
-use Rattle.mx_expr.specs.Spelling.StrongOperator.{div, fraction, left, right}
-use Rattle.mx_expr.specs.Spelling.Primary.{constant, character as spelled_character, symbol as spelled_symbol, last_label, next_label}
+use Rattle.mx_expr.specs.Spelling.Primary.{character as spelled_character, symbol as spelled_symbol}
 use Rattle.mx_expr.specs.Spelling.Operand.{string as spelled_string}
 use Rattle.mx_expr.specs.Spelling.Operands.{none as no_operands, more as one_more}
 use Rattle.mx_expr.proofs.Moves.{st, move, moves}
@@ -82,9 +73,6 @@ more-hexadecimal n b t k h = record { digits = h.digits ++ b ∷ []; are = digit
 more-letters : (b : ℕ) (word t : List ℕ) → is_name_byte b ≡ true → Letters word t → Letters (word ++ b ∷ []) (t ++ b ∷ [])
 more-letters b word t k h =
     record { b = h.b; bs = h.bs ++ b ∷ []; is = h.is; all = all-longer is_name_byte h.bs b h.all k; value = ap (λ x. x ++ b ∷ []) h.value; spelled = ap (λ x. x ++ b ∷ []) h.spelled }
-
-closing-character : (c : ℕ) (t : List ℕ) → t ≡ 39 ∷ c ∷ [] → Primary (t ++ 39 ∷ []) (number c)
-closing-character c t e = subst (λ x. Primary (x ++ 39 ∷ []) (number c)) (sym e) (spelled_character c)
 
 -- an operator of two bytes
 doubled-good : (front text part : List ℕ) (es : List Tree) (k : List Waiting) (d b c : ℕ) (e : Tree) (op : BinOp) → Place front text (part ++ c ∷ []) es → Plain k → After k d (Operating e b) part → StrongOperator (b ∷ c ∷ []) op →
@@ -188,7 +176,7 @@ moved-good (character c) front text part es done k d b p a =
     let P : Read → Type 0 = λ r. Good r front in
     subst (λ x. Good (next_reading (character c) k d x b) front) (sym a.0)
     (cond_both (b == 39) _ _ P
-    (λ t. completes front text (part ++ 39 ∷ []) es k d (number c) (at-byte front text part es b 39 t p) (longer-by k d (λ x. x ≡ 39 ∷ c ∷ []) (λ x. Primary x (number c)) part 39 (λ x h. closing-character c x h) a.1))
+    (λ t. completes front text (part ++ 39 ∷ []) es k d (number c) (at-byte front text part es b 39 t p) (longer-by k d (λ x. x ≡ 39 ∷ c ∷ []) (λ x. Primary x (number c)) part 39 (λ x h. subst (λ x. Primary (x ++ 39 ∷ []) (number c)) (sym h) (spelled_character c)) a.1))
     (λ _. refl))
 moved-good (symbol word) front text part es done k d b p a =
     let P : Read → Type 0 = λ r. Good r front in

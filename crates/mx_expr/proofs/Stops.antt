@@ -1,15 +1,7 @@
 -- Where reading stops.
-use Rattle.std.proofs.Common.{◌≡◌, ℕ, ◌+◌, ◌-◌, ◌*◌, ◌^◌, ◌<◌, ◌≤◌, List, [], ◌∷◌, ◌++◌, true, false, Option, Some, None, Ok, Err, refl, sym, ap, ◌∙◌, arith, subst, ⊎_elim}
+use Rattle.std.proofs.Common.{◌≡◌, ℕ, ◌+◌, ◌-◌, ◌*◌, ◌^◌, ◌<◌, ◌≤◌, List, [], ◌∷◌, ◌++◌, true, false, Option, Some, None, Ok, Err, refl, sym, ap, ◌∙◌, arith, subst, ⊎_elim, nat_le, fold, ◌⊎◌}
 use Rattle.std.proofs.Common.{inl, inr}
-use Rattle.std.specs.Prelude.{nat_le, fold, ◌⊎◌}
-use Rattle.std.specs.List.{list_all}
-use Rattle.std.proofs.lemmas.Bool.{and_parts, le-leb, cases_lt}
-use Rattle.std.proofs.lemmas.Bool.Decides.{nat_tests}
-use Rattle.mx_expr.specs.declared.faults.ExprFault.{ExprFault}
-use Rattle.mx_expr.specs.declared.faults.ExprFault.TheVariants.{TooWide}
-use Rattle.mx_expr.specs.Tree.{Tree}
-use Rattle.mx_expr.specs.Bytes.{is_digit, is_hexadecimal, digit_value}
-use Rattle.mx_expr.specs.Reading.{Waiting, decimal, hexadecimal, State, Read, passed_bound, step, steps, within, and_then}
+use Rattle.mx_expr.proofs.Words.{list_all, and_parts, le-leb, cases_lt, nat_tests, ExprFault, TooWide, Tree, is_digit, is_hexadecimal, digit_value, Waiting, decimal, hexadecimal, State, Read, passed_bound, step, steps, within, and_then}
 use Rattle.mx_expr.proofs.Moves.{st, move, moves, and-then-then, and-then-same}
 use Rattle.mx_expr.proofs.Holds.{value-of-digit}
 

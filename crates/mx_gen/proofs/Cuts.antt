@@ -1,12 +1,7 @@
 -- A line of a label, a blank, a name, a blank and a plain operand field is cut to one statement.
 use Rattle.std.proofs.Common.{◌≡◌, ℕ, ◌+◌, ◌<◌, ◌≤◌, true, false, List, [], ◌∷◌, ◌++◌, length, None, Some, Ok, refl, sym, ap, ◌∙◌, arith, subst, append-nil, append_assoc, length-append}
-use Rattle.std.specs.List.{list_all, slice_range}
-use Rattle.std.proofs.lemmas.Grind.{common_steps}
-use Rattle.mx_line.specs.declared.cutter.Cut.{Cut}
-use Rattle.mx_line.specs.Bytes.{is_name_byte}
+use Rattle.mx_gen.proofs.Words.{list_all, slice_range, common_steps, Cut, is_name_byte, cuts_from, is_bad_local, is_other, Operands, Operation, Statement, StatementOf, label_of, fields_of, is-field, field-begins, name-begins, nothing-left}
 use Rattle.mx_line.specs.Spans.{span}
-use Rattle.mx_line.specs.Cutting.{cuts_from, is_bad_local}
-use Rattle.mx_line.specs.Statements.{is_other, Operands, Operation, Statement, StatementOf}
 use Rattle.mx_line.specs.Statements.Next.{nothing_more}
 use Rattle.mx_line.specs.Statements.Operands.{field}
 use Rattle.mx_line.specs.Statements.Operation.{named}
@@ -14,8 +9,6 @@ use Rattle.mx_line.specs.Statements.Statement.{comment, labelled}
 use Rattle.mx_line.specs.Statements.StatementOf.{later, first}
 use Rattle.mx_line.specs.Statements.Statements.{none, next}
 use Rattle.mx_line.proofs.ListLaws.{no-other-list}
-use Rattle.mx_stmt.specs.Reading.{label_of, fields_of}
-use Rattle.mx_again.proofs.CutLines.{is-field, field-begins, name-begins, nothing-left}
 
 -- parts of a line
 front-part : (front rest : List ℕ) → slice_range (front ++ rest) 0 (0 + length front) ≡ front

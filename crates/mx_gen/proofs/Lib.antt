@@ -11,3 +11,4 @@ pub mod Names
 pub mod Steps
 pub mod Walk
 pub mod Meaning
+pub mod Words

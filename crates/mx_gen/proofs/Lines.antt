@@ -1,21 +1,12 @@
 -- A text of lines, each with one statement, comes to the entries of these statements.
-use Rattle.std.proofs.Common.{◌≡◌, ℕ, ◌+◌, ◌*◌, ◌^◌, ◌≤◌, Bool, true, false, not, cond, List, [], ◌∷◌, ◌++◌, length, map, sum_by, Option, None, Some, Ok, refl, sym, ap, ◌∙◌, arith, append_assoc, length-append}
-use Rattle.std.specs.Prelude.{◌==◌}
-use Rattle.std.specs.List.{list_all, AllByRecursion}
-use Rattle.std.proofs.lemmas.Bool.{and_parts, le-ltb}
+use Rattle.std.proofs.Common.{◌≡◌, ℕ, ◌+◌, ◌*◌, ◌^◌, ◌≤◌, Bool, true, false, not, cond, List, [], ◌∷◌, ◌++◌, length, map, sum_by, Option, None, Some, Ok, refl, sym, ap, ◌∙◌, arith, append_assoc, length-append, ◌==◌}
+use Rattle.mx_gen.proofs.Words.{list_all, AllByRecursion, and_parts, le-ltb, Cut, cuts_from, lines_of, is_too_far, size_up_to, is_other, StatementTree, Fields, fields_of, Entry, entry_with, entry_of, entries_of, statement_in, source_entries, statements_in, refusal_in}
 use Rattle.std.proofs.lemmas.List.{length_push}
 use Rattle.std.proofs.lemmas.List.Sums.{sum_by-append}
 use Rattle.mx_line.specs.declared.spans.Span.{Span}
-use Rattle.mx_line.specs.declared.cutter.Cut.{Cut}
-use Rattle.mx_line.specs.Cutting.{cuts_from}
-use Rattle.mx_line.specs.Lines.{lines_of, is_too_far, size_up_to}
 use Rattle.mx_line.specs.Pieces.{split}
-use Rattle.mx_line.specs.Statements.{is_other}
 use Rattle.mx_line.specs.Source.{Item, too_far, item_of, before as in_front, items_of, items_from}
 use Rattle.mx_line.proofs.LineLemmas.{no-lines, first-line, size-next}
-use Rattle.mx_stmt.specs.Encoding.{StatementTree}
-use Rattle.mx_stmt.specs.Reading.{Fields, fields_of}
-use Rattle.mx_asm.specs.Entries.{Entry, entry_with, entry_of, entries_of, statement_in, source_entries, statements_in, refusal_in}
 
 -- lines, each with a newline behind it
 abbrev pub text_of : List (List ℕ) → List ℕ
@@ -67,9 +58,8 @@ AreLines number (l ∷ ls) (s ∷ ss) = IsNumbered number l s × AreLines (numbe
 
 plain-lines : (number : ℕ) (ls : List (List ℕ)) (ss : List StatementTree) → AreLines number ls ss → AllByRecursion (λ l. list_all no_newline l ≡ true) ls
 plain-lines number [] [] h = tt
-plain-lines number [] (s ∷ ss) h = absurd h
-plain-lines number (l ∷ ls) [] h = absurd h
 plain-lines number (l ∷ ls) (s ∷ ss) h = (h.0.line_is.plain, plain-lines (number + 1) ls ss h.1)
+plain-lines number ls ss h = absurd h
 
 -- the item of a cut is read as its fields are
 cut-read : (number : ℕ) (line : List ℕ) (label : Option Span) (op operands : Span) (next : ℕ) →
@@ -101,8 +91,6 @@ pub entries-from : (all before lines : List (List ℕ)) (number : ℕ) (ss : Lis
     sum_by length before ≤ 40 * length before → 41 * length all ≤ 2 ^ 22 → AreLines number lines ss → entries_of (items_from all number lines) ≡ map Ok ss
 unfolding items_from
 entries-from all before [] number [] is e few most are = refl
-entries-from all before [] number (s ∷ ss) is e few most are = absurd are
-entries-from all before (l ∷ ls) number [] is e few most are = absurd are
 entries-from all before (l ∷ ls) number (s ∷ ss) is e few most are =
     let short = are.0.line_is.short in
     let push = length_push before l in
@@ -113,6 +101,7 @@ entries-from all before (l ∷ ls) number (s ∷ ss) is e few most are =
     ∙ ap (λ es. Ok s ∷ es)
     (entries-from all (before ++ l ∷ []) ls (number + 1) ss (omega (arith, is, push)) (e ∙ sym (append_assoc before (l ∷ []) ls))
     (omega (arith, few, short, push, sums, one)) most are.1)
+entries-from all before lines number ss is e few most are = absurd are
 
 -- the entries of a text of lines
 pub text-entries : (ls : List (List ℕ)) (ss : List StatementTree) → AreLines 1 ls ss → 41 * length ls ≤ 2 ^ 22 → source_entries (text_of ls) ≡ map Ok ss

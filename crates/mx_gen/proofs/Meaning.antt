@@ -1,23 +1,8 @@
 -- A source that is generated is not refused.
-use Rattle.std.proofs.Common.{◌≡◌, ℕ, ◌/◌, ◌≤◌, Bool, true, false, cond, List, [], length, map, Option, None, Some, Ok, refl, ap, ◌∙◌, arith}
-use Rattle.std.specs.Prelude.{nat_lt, is_some}
-use Rattle.std.proofs.lemmas.Bool.{le-ltb}
-use Rattle.mx_word.specs.declared.symbols.Value.{Value}
-use Rattle.mx_word.specs.declared.symbols.Value.TheVariants.{Pure}
-use Rattle.mx_line.specs.Lines.{lines_of}
-use Rattle.mx_ops.specs.Predefined.{predefined_value}
-use Rattle.mx_names.specs.Names.{value_in, pure_of, first_value, value_of_name}
-use Rattle.mx_stmt.specs.Operands.{Known}
-use Rattle.mx_asm.specs.Entries.{Entry, source_entries, statements_in, refusal_in}
-use Rattle.mx_asm.specs.TwoPass.{nothing_known, final_known, sights_of}
-use Rattle.mx_asm.specs.Emission.{main_name, padded_trie}
-use Rattle.mx_asm.specs.Refusal.{first_of, first_fault, locals, trie_limit, last_fault, end_fault, at_line, last_line, end_refusal, entries_refusal, refusal}
-use Rattle.mx_asm.specs.Whole.{accepted}
-use Rattle.mx_asm.specs.Pages.{page_refusal, accepted_in, run_refusal_with, run_refusal}
+use Rattle.std.proofs.Common.{◌≡◌, ℕ, ◌/◌, ◌≤◌, Bool, true, false, cond, List, [], length, map, Option, None, Some, Ok, refl, ap, ◌∙◌, arith, nat_lt, is_some}
+use Rattle.mx_gen.proofs.Words.{le-ltb, Value, Pure, lines_of, predefined_value, value_in, pure_of, first_value, value_of_name, Known, Entry, source_entries, statements_in, refusal_in, nothing_known, final_known, sights_of, main_name, padded_trie, first_of, first_fault, locals, trie_limit, last_fault, end_fault, at_line, last_line, end_refusal, entries_refusal, refusal, accepted, page_refusal, accepted_in, run_refusal_with, run_refusal, generated, program}
 use Rattle.mx_asm.specs.declared.faults.AsmFault.{AsmFault}
 use Rattle.mx_asm.specs.declared.faults.AsmFault.TheVariants.{SymbolsTooMany}
-use Rattle.mx_gen.specs.Generator.{generated}
-use Rattle.mx_gen.specs.Program.{program}
 use Rattle.mx_gen.proofs.Lines.{statements-are, none-refused}
 use Rattle.mx_gen.proofs.SourceRead.{generated-read}
 use Rattle.mx_gen.proofs.Refusals.{AreGood, faultless, all-defined, no-locals}
@@ -48,9 +33,6 @@ module _ (n : ℕ) (few : n ≤ 10000) where
   good : AreGood end.names nothing_known (program n)
   good = program-good end.names n few finals
 
-  main-is : value_of_name end.names main_name ≡ Some (Pure 0x100)
-  main-is = ap (λ o. first_value o (pure_of (predefined_value main_name))) (program-known n few).main
-
   trie-fits : nat_lt trie_limit (length (padded_trie end.names) / 4) ≡ false
   trie-fits =
       let known = program-known n few in
@@ -59,7 +41,7 @@ module _ (n : ℕ) (few : n ≤ 10000) where
 
   no-end-fault : end_fault end (locals (sights_of (program n))) ≡ None
   no-end-fault =
-      ap (last_fault end (locals (sights_of (program n)))) main-is
+      ap (last_fault end (locals (sights_of (program n)))) (ap (λ o. first_value o (pure_of (predefined_value main_name))) (program-known n few).main)
       ∙ ap (λ registers. last_fault end registers (Some (Pure 0x100))) (no-locals (sights_of (program n)) good.fine)
       ∙ ap too_many trie-fits
 

@@ -1,27 +1,11 @@
 -- The names of the program, and the symbols that are defined behind so many blocks.
-use Rattle.std.proofs.Common.{◌≡◌, ℕ, ◌+◌, ◌^◌, ◌<◌, ◌≤◌, Bool, true, false, cond, List, [], ◌∷◌, length, drop, codes, Option, None, Some, Result, Ok, Err, bytes_eq, refl, ap, ◌∙◌, arith}
-use Rattle.std.specs.Prelude.{◌==◌, is_some}
-use Rattle.std.specs.Fmt.{decimal}
-use Rattle.std.specs.Char.{digit_value}
-use Rattle.std.specs.List.{AllByRecursion}
-use Rattle.std.specs.Str.Parse.{AllDigits}
-use Rattle.std.proofs.lemmas.Bool.{le-ltb}
-use Rattle.std.proofs.lemmas.Bool.Decides.{nat_tests}
-use Rattle.std.proofs.lemmas.Fmt.{decimal_is_IsNumeral, decimal_injective}
+use Rattle.std.proofs.Common.{◌≡◌, ℕ, ◌+◌, ◌^◌, ◌<◌, ◌≤◌, Bool, true, false, cond, List, [], ◌∷◌, length, drop, codes, Option, None, Some, Result, Ok, Err, bytes_eq, refl, ap, ◌∙◌, arith, ◌==◌, is_some}
+use Rattle.mx_gen.proofs.Words.{decimal, digit_value, AllByRecursion, AllDigits, le-ltb, nat_tests, decimal_is_IsNumeral, decimal_injective, Symbol, Value, Pure, special_registers, predefined_names, predefined_value, NameTable, value_in, pure_of, first_value, value_of_name, symbols_with, Name, symbol_form, name_fault, name_refusal, label_fault, block_name}
 use Rattle.std.proofs.lemmas.Slice.Eq.{bytes_eq-Decides}
-use Rattle.mx_word.specs.declared.symbols.Symbol.{Symbol}
-use Rattle.mx_word.specs.declared.symbols.Value.{Value}
-use Rattle.mx_word.specs.declared.symbols.Value.TheVariants.{Pure}
-use Rattle.mx_ops.specs.Predefined.{special_registers, predefined_names, predefined_value}
 use Rattle.mx_names.specs.declared.fault.NameFault.{NameFault}
 use Rattle.mx_names.specs.declared.fault.NameFault.TheVariants.{Twice, Predefined, NameTooLong}
-use Rattle.mx_names.specs.Names.{NameTable, value_in, pure_of, first_value, value_of_name, symbols_with}
 use Rattle.mx_names.proofs.Entries.{value-inserted, length-inserted}
-use Rattle.mx_stmt.specs.declared.statement.Label.TheVariants.{Name}
-use Rattle.mx_stmt.specs.Operands.{symbol_form}
-use Rattle.mx_asm.specs.Refusal.{name_fault, name_refusal, label_fault}
-use Rattle.mx_asm.proofs.ObjectSymbols.{all-inserted}
-use Rattle.mx_gen.specs.Program.{block_name}
+use Rattle.mx_names.proofs.Known.{all-inserted}
 use Rattle.mx_gen.proofs.Operands.{short-digits}
 use Rattle.mx_gen.proofs.Placings.{known}
 use Rattle.mx_gen.proofs.Tries.{IsLight, light}

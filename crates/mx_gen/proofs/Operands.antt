@@ -1,23 +1,13 @@
 -- The operand fields of the source are read as their trees.
 use Rattle.std.proofs.Common.{◌≡◌, ℕ, ◌+◌, ◌^◌, ◌<◌, ◌≤◌, Bool, true, List, [], ◌∷◌, ◌++◌, length, codes, Ok, refl, ap, ◌∙◌, arith, append_assoc, append-nil, sym}
-use Rattle.std.specs.Fmt.{decimal}
-use Rattle.std.specs.Char.{digit_value}
-use Rattle.std.specs.List.{list_all}
-use Rattle.std.specs.Str.Parse.{AllDigits}
-use Rattle.std.proofs.lemmas.Bool.{and_parts}
-use Rattle.std.proofs.lemmas.Bool.Decides.{nat_tests}
-use Rattle.std.proofs.lemmas.Fmt.{decimal_is_IsNumeral, length-decimal-le}
-use Rattle.mx_line.specs.Statements.{is_other}
+use Rattle.mx_gen.proofs.Words.{decimal, digit_value, list_all, AllDigits, and_parts, nat_tests, decimal_is_IsNumeral, length-decimal-le, is_other, Tree, number, name, ahead, sign, step, steps, reg, block_name, procedure_name}
 use Rattle.mx_expr.specs.declared.tree.UnOp.TheVariants.{Register}
-use Rattle.mx_expr.specs.Tree.{Tree, number, name, ahead}
 use Rattle.mx_expr.specs.Bytes.{is_name_byte}
 use Rattle.mx_expr.specs.Reading as reading
-use Rattle.mx_expr.specs.Reading.{sign, step, steps}
 use Rattle.mx_expr.proofs.Moves.{st}
 use Rattle.mx_expr.proofs.Stops.{steps-first, steps-none}
 use Rattle.mx_again.proofs.Numerals.{decimal-constant}
 use Rattle.mx_again.proofs.OperandLists.{IsTaken, constant-taken, list-read}
-use Rattle.mx_gen.specs.Program.{reg, block_name, procedure_name}
 use Rattle.mx_gen.proofs.Lines.{no_newline, IsClean}
 
 -- ---- decimal digits

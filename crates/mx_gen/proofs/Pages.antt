@@ -1,15 +1,8 @@
 -- Bytes that are placed below 2^18 touch few pages.
-use Rattle.std.proofs.Common.{◌≡◌, ℕ, zero, suc, ◌+◌, ◌/◌, ◌^◌, ◌<◌, ◌≤◌, Bool, true, false, cond, List, [], ◌∷◌, ◌++◌, length, Option, None, Some, refl, sym, ap, ◌∙◌, arith, subst, ⊎_elim}
-use Rattle.std.specs.Prelude.{◌==◌, nat_le}
-use Rattle.std.specs.List.{AllByRecursion}
-use Rattle.std.proofs.lemmas.Bool.{cases_lt, le-leb}
-use Rattle.std.proofs.lemmas.Bool.Decides.{nat_tests}
+use Rattle.std.proofs.Common.{◌≡◌, ℕ, zero, suc, ◌+◌, ◌/◌, ◌^◌, ◌<◌, ◌≤◌, Bool, true, false, cond, List, [], ◌∷◌, ◌++◌, length, Option, None, Some, refl, sym, ap, ◌∙◌, arith, subst, ⊎_elim, ◌==◌, nat_le}
+use Rattle.mx_gen.proofs.Words.{AllByRecursion, cases_lt, le-leb, nat_tests, Sight, Piece, piece_with, outline, outlined, page_refusal_from, statement_fault, accepted, accepted_with}
 use Rattle.mx_stmt.specs.Placements.{from_place}
-use Rattle.mx_asm.specs.TwoPass.{Sight, Piece, piece_with, outline}
 use Rattle.mx_asm.specs.Image.{placements, pages_of, pages_below}
-use Rattle.mx_asm.specs.Pages.{outlined, page_refusal_from}
-use Rattle.mx_asm.specs.Refusal.{statement_fault}
-use Rattle.mx_asm.specs.Whole.{accepted, accepted_with}
 use Rattle.mx_asm.specs.declared.refused.Refused.{Refused}
 use Rattle.mx_gen.proofs.Refusals.{all-append, IsFine}
 

@@ -1,30 +1,15 @@
 -- What each statement of the program comes to, by what is known at it.
-use Rattle.std.proofs.Common.{◌≡◌, ℕ, ◌+◌, ◌-◌, ◌%◌, ◌^◌, ◌<◌, ◌≤◌, false, List, [], ◌∷◌, Option, None, Some, Ok, refl, ap, ◌∙◌, arith}
-use Rattle.std.specs.Prelude.{nat_lt}
-use Rattle.std.proofs.lemmas.Bool.{lt-ltb, le-ltb}
+use Rattle.std.proofs.Common.{◌≡◌, ℕ, ◌+◌, ◌-◌, ◌%◌, ◌^◌, ◌<◌, ◌≤◌, false, List, [], ◌∷◌, Option, None, Some, Ok, refl, ap, ◌∙◌, arith, nat_lt}
+use Rattle.mx_gen.proofs.Words.{lt-ltb, le-ltb, Symbol, Value, Pure, Awaited, Near, Tree, number, name, ahead, Code, Set, value_of_name, Label, Name, Local, Placed, Known, no_targets, symbol_form, answer_of, operand_value, pure_number, field_number, register_or_byte, pure_at, reference_of, name_unless_known, awaited_name, known_target, target_by, tetra_xyz, tetra_wyde, plain_tetra, last_form, near_reach, relative_form, free_byte, free_at, form_by, place_at, label_value, tetra_waits, with_tetra, op_form, encoding, stated, reg}
 use Rattle.mx_word.specs.Words.{tetra_to_bytes}
-use Rattle.mx_word.specs.declared.symbols.Symbol.{Symbol}
-use Rattle.mx_word.specs.declared.symbols.Value.{Value}
-use Rattle.mx_word.specs.declared.symbols.Value.TheVariants.{Pure}
-use Rattle.mx_word.specs.declared.waits.Awaited.{Awaited}
 use Rattle.mx_word.specs.declared.waits.Awaited.TheVariants as awaited
 use Rattle.mx_word.specs.declared.waits.WaitKind.{WaitKind}
-use Rattle.mx_word.specs.declared.waits.WaitKind.TheVariants.{Near}
-use Rattle.mx_expr.specs.Tree.{Tree, number, name, ahead}
 use Rattle.mx_expr.specs.Value.{of_symbol}
-use Rattle.mx_ops.specs.declared.op.Op.TheVariants.{Code, Set}
 use Rattle.mx_ops.specs.Shapes.{shape_spans, shapes_of}
-use Rattle.mx_names.specs.Names.{value_of_name}
-use Rattle.mx_stmt.specs.declared.statement.Label.{Label}
-use Rattle.mx_stmt.specs.declared.statement.Label.TheVariants.{Name, Local}
 use Rattle.mx_stmt.specs.declared.placed.Effect.TheVariants as effect
-use Rattle.mx_stmt.specs.declared.placed.Placed.{Placed}
 use Rattle.mx_stmt.specs.Steps.{and_then}
-use Rattle.mx_stmt.specs.Operands.{Known, no_targets, symbol_form, value_in as symbol_in, answer_of, operand_value, pure_number, field_number, register_or_byte, pure_at, reference_of, name_unless_known, awaited_name, known_target, target_by}
-use Rattle.mx_stmt.specs.Forms.{tetra_xyz, tetra_wyde, plain_tetra, last_form, near_reach, relative_form, free_byte, free_at, form_by}
-use Rattle.mx_stmt.specs.Encoding.{place_at, label_value, tetra_waits, with_tetra, op_form, encoding}
+use Rattle.mx_stmt.specs.Operands.{value_in as symbol_in}
 use Rattle.mx_gen.proofs.Refusals.{word-there}
-use Rattle.mx_gen.specs.Program.{stated, reg}
 
 -- what is known: symbols, the last local labels, and the place
 abbrev pub known : List Symbol → List Value → ℕ → Known

@@ -1,27 +1,11 @@
 -- Statements that place few bytes low in memory, and whose references are near, are not refused.
-use Rattle.std.proofs.Common.{◌≡◌, ℕ, ◌+◌, ◌-◌, ◌/◌, ◌%◌, ◌^◌, ◌<◌, ◌≤◌, Bool, true, false, cond, List, [], ◌∷◌, ◌++◌, length, fold, filter, Option, None, Some, Ok, refl, sym, ap, ◌∙◌, arith, subst, ⊎_elim}
-use Rattle.std.specs.Prelude.{nat_le}
-use Rattle.std.specs.List.{AllByRecursion, list_any}
-use Rattle.std.proofs.lemmas.Bool.{cases_lt, le-leb, lt-ltb}
-use Rattle.std.proofs.lemmas.Bool.Decides.{nat_tests}
-use Rattle.mx_word.specs.declared.symbols.Value.{Value}
-use Rattle.mx_word.specs.declared.symbols.Value.TheVariants.{Pure, Reg}
+use Rattle.std.proofs.Common.{◌≡◌, ℕ, ◌+◌, ◌-◌, ◌/◌, ◌%◌, ◌^◌, ◌<◌, ◌≤◌, Bool, true, false, cond, List, [], ◌∷◌, ◌++◌, length, fold, filter, Option, None, Some, Ok, refl, sym, ap, ◌∙◌, arith, subst, ⊎_elim, nat_le}
+use Rattle.mx_gen.proofs.Words.{AllByRecursion, list_any, cond_both, cases_lt, le-leb, lt-ltb, nat_tests, Value, Pure, Reg, Wait, Near, NameTable, complete_form, Label, Name, Local, Placed, near_reach, forward_word, backward_word, relative_word, Known, no_targets, StatementTree, encoding, Sight, known_behind, known_with, known_after, sights_from, outline, waits_in, references, is_local, label_fault, refusal_of, fault_behind, fault_with, statement_fault, first_of, first_fault, unreferenced, first_undefined, local_of, local_in, locals}
 use Rattle.mx_word.specs.declared.waits.Awaited.TheVariants as awaited
-use Rattle.mx_word.specs.declared.waits.Wait.{Wait}
-use Rattle.mx_word.specs.declared.waits.WaitKind.TheVariants.{Near}
 use Rattle.mx_word.specs.Waits.{same_awaited}
 use Rattle.mx_mmo.specs.declared.items.Item.{Item}
-use Rattle.mx_names.specs.Names.{NameTable, complete_form}
-use Rattle.mx_stmt.specs.declared.statement.Label.{Label}
-use Rattle.mx_stmt.specs.declared.statement.Label.TheVariants.{Name, Local}
 use Rattle.mx_stmt.specs.declared.placed.Effect.TheVariants as effect
-use Rattle.mx_stmt.specs.declared.placed.Placed.{Placed}
-use Rattle.mx_stmt.specs.Forms.{near_reach, forward_word, backward_word, relative_word}
-use Rattle.mx_stmt.specs.Operands.{Known, no_targets}
-use Rattle.mx_stmt.specs.Encoding.{StatementTree, encoding}
 use Rattle.mx_asm.specs.Fixes.{from_last, waiting_for, waiting_at, relative_fix, word_fix, pure_fix, fix_of, with_fix, fixes, awaited_value}
-use Rattle.mx_asm.specs.TwoPass.{Sight, known_behind, known_with, known_after, sights_from, outline, waits_in, references, is_local}
-use Rattle.mx_asm.specs.Refusal.{label_fault, refusal_of, fault_behind, fault_with, statement_fault, first_of, first_fault, unreferenced, first_undefined, local_of, local_in, locals}
 
 -- ---- relative addresses
 
@@ -82,11 +66,7 @@ all-append P (x ∷ xs) ys h g = (h.0, all-append P xs ys h.1 g)
 
 all-filter : {A : Type 0} (P : A → Type 0) (keep : A → Bool) (xs : List A) → AllByRecursion P xs → AllByRecursion P (filter keep xs)
 all-filter P keep [] h = tt
-all-filter P keep (x ∷ xs) h = by (keep x) (all-filter P keep xs h.1)
-  where
-    by : (b : Bool) → AllByRecursion P (filter keep xs) → AllByRecursion P (cond b (x ∷ filter keep xs) (filter keep xs))
-    by true rest = (h.0, rest)
-    by false rest = rest
+all-filter P keep (x ∷ xs) h = cond_both (keep x) _ _ (AllByRecursion P) (λ _. (h.0, (all-filter P keep xs h.1))) (λ _. all-filter P keep xs h.1)
 
 -- ---- a statement
 
@@ -101,11 +81,7 @@ near-references (s ∷ later) h = all-append IsNear (waits_in (outline s)) (refe
 near-from-last : (d : ℕ) (sights : List Sight) → AllByRecursion HasNear sights → AllByRecursion HasNear (from_last d sights)
 unfolding from_last
 near-from-last d [] h = tt
-near-from-last d (s ∷ later) h = by (list_any (λ (t : Sight). is_local d t.statement.label) later) (near-from-last d later h.1)
-  where
-    by : (b : Bool) → AllByRecursion HasNear (from_last d later) → AllByRecursion HasNear (cond b (from_last d later) (s ∷ later))
-    by true rest = rest
-    by false rest = h
+near-from-last d (s ∷ later) h = cond_both (list_any (λ (t : Sight). is_local d t.statement.label) later) _ _ (AllByRecursion HasNear) (λ _. near-from-last d later h.1) (λ _. h)
 
 near-waiting : (earlier : List Sight) (s : Sight) (label : Option Label) → AllByRecursion HasNear earlier → HasNear s → AreNear (waiting_for earlier s label)
 near-waiting earlier s None h g = tt

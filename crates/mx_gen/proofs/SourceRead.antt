@@ -1,27 +1,9 @@
 -- The lines of the source are read as the statements of the program.
 use Rattle.std.proofs.Common.{◌≡◌, ℕ, zero, suc, ◌+◌, ◌*◌, ◌^◌, ◌<◌, ◌≤◌, Bool, true, false, List, [], ◌∷◌, ◌++◌, length, codes, map, Option, None, Some, Ok, refl, sym, ap, ◌∙◌, arith, subst, length-append}
-use Rattle.std.specs.Fmt.{decimal}
-use Rattle.std.specs.List.{list_all}
+use Rattle.mx_gen.proofs.Words.{decimal, list_all, and_parts, nat_tests, is_name_byte, is_bad_local, Tree, number, name, ahead, reading, Op, Pseudo, Code, Set, Loc, Label, Name, Local, StatementTree, label_of, operation_with, entry_with, with_operation, with_operands, source_entries, line-cut, depth, increment, random, generated, stated, reg, block_name, procedure_name, procedure_at, closing_at, blocks_at, program}
 use Rattle.std.proofs.Math.Nat.{mod-lt}
-use Rattle.std.proofs.lemmas.Bool.{and_parts}
-use Rattle.std.proofs.lemmas.Bool.Decides.{nat_tests}
 use Rattle.std.proofs.lemmas.List.Folds.{list_all-append}
-use Rattle.mx_line.specs.Bytes.{is_name_byte}
-use Rattle.mx_line.specs.Cutting.{is_bad_local}
-use Rattle.mx_expr.specs.Tree.{Tree, number, name, ahead}
-use Rattle.mx_expr.specs.Reading.{reading}
-use Rattle.mx_ops.specs.declared.op.Op.{Op}
-use Rattle.mx_ops.specs.declared.op.Op.TheVariants.{Pseudo, Code, Set}
-use Rattle.mx_ops.specs.declared.op.Pseudo.TheVariants.{Loc}
 use Rattle.mx_ops.specs.Opcodes.{opcode_rows, opcode_names, pseudo_operations, chosen_operations, operations, operation_of}
-use Rattle.mx_stmt.specs.declared.statement.Label.{Label}
-use Rattle.mx_stmt.specs.declared.statement.Label.TheVariants.{Name, Local}
-use Rattle.mx_stmt.specs.Encoding.{StatementTree}
-use Rattle.mx_stmt.specs.Reading.{label_of, operation_with}
-use Rattle.mx_asm.specs.Entries.{entry_with, with_operation, with_operands, source_entries}
-use Rattle.mx_again.proofs.CutLines.{line-cut}
-use Rattle.mx_gen.specs.Generator.{depth, increment, random, generated}
-use Rattle.mx_gen.specs.Program.{stated, reg, block_name, procedure_name, procedure_at, closing_at, blocks_at, program}
 use Rattle.mx_gen.proofs.Lines.{no_newline, IsClean, IsLine, IsNumbered, AreLines, text-entries}
 use Rattle.mx_gen.proofs.Cuts.{labelled-cut}
 use Rattle.mx_gen.proofs.Operands.{decimal-names, decimal-clean, short-digits, setl-read, incl-read, bod-read, loc-read, main-read, call-read, sum-read, set-read, trap-read, skip-read, get-read, less-read, again-read, more-read, put-read, pop-read}
@@ -43,9 +25,6 @@ rest-plain op ops names clean =
 line-plain : (label op ops : List ℕ) → list_all is_name_byte label ≡ true → list_all is_name_byte op ≡ true → list_all no_newline ops ≡ true → list_all no_newline (line_with label op ops) ≡ true
 line-plain label op ops labels names clean =
     list_all-append no_newline label (32 ∷ (op ++ 32 ∷ ops)) ∙ rw (all-plain is_name_byte name-plain label labels, rest-plain op ops names clean) refl
-
-line-short : (label op ops : List ℕ) → length label + length op + length ops ≤ 38 → length (line_with label op ops) ≤ 40
-line-short label op ops few = omega (arith, few, length-append label (32 ∷ (op ++ 32 ∷ ops)), length-append op (32 ∷ ops))
 
 said-read : (line : ℕ) (label : Option Label) (op_name ops : List ℕ) (op : Op) (trees : List Tree) (labelled : Bool) → operation_with labelled (operation_of op_name) ≡ Ok op → reading ops ≡ Ok trees →
     entry_with line (with_operation (record { label = label; op = op_name; operands = ops }) line (operation_with labelled (operation_of op_name))) ≡ Ok (stated line label op trees)
@@ -76,7 +55,7 @@ labelled line label op_name ops as_label op trees labels by good label_is names 
     let c = labelled-cut label op_name ops labels by good names some others.0 (omega (arith, few)) in
     record {
       plain = line-plain label op_name ops labels names others.1;
-      short = line-short label op_name ops few;
+      short = omega (arith, few, length-append label (32 ∷ (op_name ++ 32 ∷ ops)), length-append op_name (32 ∷ ops));
       cut = c.0;
       fields = record { label = Some as_label; op = op_name; operands = ops };
       cuts = c.1;

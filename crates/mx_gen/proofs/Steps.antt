@@ -1,23 +1,8 @@
 -- One statement of the program after another.
-use Rattle.std.proofs.Common.{◌≡◌, ℕ, true, false, cond, List, [], ◌∷◌, Option, None, Some, refl, ap, ◌∙◌, arith}
-use Rattle.std.specs.Prelude.{is_some}
-use Rattle.mx_word.specs.declared.symbols.Symbol.{Symbol}
-use Rattle.mx_word.specs.declared.symbols.Value.{Value}
-use Rattle.mx_word.specs.declared.symbols.Value.TheVariants.{Pure}
-use Rattle.mx_word.specs.declared.waits.Awaited.{Awaited}
-use Rattle.mx_word.specs.declared.waits.Wait.{Wait}
-use Rattle.mx_word.specs.declared.waits.WaitKind.TheVariants.{Near}
-use Rattle.mx_expr.specs.Tree.{Tree}
-use Rattle.mx_ops.specs.declared.op.Op.{Op}
-use Rattle.mx_names.specs.Names.{NameTable}
-use Rattle.mx_stmt.specs.declared.statement.Label.{Label}
-use Rattle.mx_stmt.specs.declared.placed.Placed.{Placed}
-use Rattle.mx_stmt.specs.Operands.{Known}
-use Rattle.mx_stmt.specs.Encoding.{StatementTree, label_value}
-use Rattle.mx_asm.specs.TwoPass.{sights_from, is_local, value_in as label_value_in, outline, next_local, referent}
-use Rattle.mx_asm.specs.Refusal.{label_fault, undefined, unreferenced}
+use Rattle.std.proofs.Common.{◌≡◌, ℕ, true, false, cond, List, [], ◌∷◌, Option, None, Some, refl, ap, ◌∙◌, arith, is_some}
+use Rattle.mx_gen.proofs.Words.{Symbol, Value, Pure, Awaited, Wait, Near, Tree, Op, NameTable, Label, Placed, Known, StatementTree, label_value, sights_from, is_local, outline, next_local, referent, label_fault, undefined, unreferenced, stated}
+use Rattle.mx_asm.specs.TwoPass.{value_in as label_value_in}
 use Rattle.mx_asm.specs.Faults.{refused}
-use Rattle.mx_gen.specs.Program.{stated}
 use Rattle.mx_gen.proofs.Refusals.{IsLow, AreGood, Leads, sights-then, good-then}
 use Rattle.mx_gen.proofs.Placings.{known, placing, IsPlace}
 

@@ -1,8 +1,6 @@
 -- The source as lines.
 use Rattle.std.proofs.Common.{◌≡◌, ℕ, zero, suc, ◌+◌, List, [], ◌∷◌, ◌++◌, codes, refl, sym, ap, ◌∙◌, arith, append_assoc}
-use Rattle.std.specs.Fmt.{decimal}
-use Rattle.mx_gen.specs.Generator.{depth, increment, random, opening, block_with, blocks, closing, generated}
-use Rattle.mx_gen.specs.Program.{block_name}
+use Rattle.mx_gen.proofs.Words.{decimal, depth, increment, random, opening, block_with, blocks, closing, generated, block_name}
 use Rattle.mx_gen.proofs.Lines.{text_of}
 
 -- a line by its label, which may be empty, its operation and its operands
@@ -40,35 +38,26 @@ rest_lines b (suc more) = block_lines (suc b) (depth (random (suc b))) (incremen
 abbrev pub all_lines : ℕ → List (List ℕ)
 all_lines n = line_with [] (codes "LOC") (codes "#100") ∷ line_with (codes "Main") (codes "SETL") (codes "$0,0") ∷ rest_lines 0 n
 
-all-append : (a x b y c z d w e t : List ℕ) → (a ++ x ++ b ++ y ++ c ++ z ++ d ++ w ++ e) ++ t ≡ a ++ (x ++ (b ++ (y ++ (c ++ (z ++ (d ++ (w ++ (e ++ t))))))))
-all-append a x b y c z d w e t = simp append_assoc refl
-
 block-text-of : (x y z w t : List ℕ) →
     (codes "B" ++ x ++ codes " SETL $2," ++ y ++ codes "\n PUSHJ $1,Rec\n ADDU $0,$0,$1\n BOD $0,B" ++ z ++ codes "\n INCL $0," ++ w ++ codes "\n") ++ t
     ≡ line_with (codes "B" ++ x) (codes "SETL") (codes "$2," ++ y) ++ 10 ∷ (codes " PUSHJ $1,Rec\n ADDU $0,$0,$1\n" ++ (line_with [] (codes "BOD") (codes "$0,B" ++ z) ++ 10 ∷ (line_with [] (codes "INCL") (codes "$0," ++ w) ++ 10 ∷ t)))
 block-text-of x y z w t =
-    all-append (codes "B") x (codes " SETL $2,") y (codes "\n PUSHJ $1,Rec\n ADDU $0,$0,$1\n BOD $0,B") z (codes "\n INCL $0,") w (codes "\n") t
+    simp append_assoc refl
     ∙ ap (λ l. 66 ∷ l) (sym (append_assoc x (32 ∷ (codes "SETL" ++ 32 ∷ (codes "$2," ++ y)))
     (10 ∷ (codes " PUSHJ $1,Rec\n ADDU $0,$0,$1\n" ++ (line_with [] (codes "BOD") (codes "$0,B" ++ z) ++ 10 ∷ (line_with [] (codes "INCL") (codes "$0," ++ w) ++ 10 ∷ t))))))
-
-block-text : (b deep more : ℕ) (later : List (List ℕ)) → block_with b deep more ++ text_of later ≡ text_of (block_lines b deep more later)
-block-text b deep more later = block-text-of (decimal b) (decimal deep) (decimal (b + 1)) (decimal more) (text_of later)
 
 closing-text-of : (x : List ℕ) (t : List ℕ) → codes "B" ++ x ++ codes " SET $255,$0\n TRAP 0,Halt,0\n" ++ t ≡ line_with (codes "B" ++ x) (codes "SET") (codes "$255,$0") ++ 10 ∷ (codes " TRAP 0,Halt,0\n" ++ t)
 closing-text-of x t =
     append_assoc (codes "B" ++ x) (codes " SET $255,$0\n TRAP 0,Halt,0\n") t
     ∙ ap (λ l. 66 ∷ l) (sym (append_assoc x (32 ∷ (codes "SET" ++ 32 ∷ codes "$255,$0")) (10 ∷ (codes " TRAP 0,Halt,0\n" ++ t))))
 
-closing-text : (n : ℕ) → text_of (closing_lines (n + 1)) ≡ closing n
-closing-text n = sym (closing-text-of (decimal (n + 1)) (text_of procedure_lines))
-
 blocks-text : (b more n : ℕ) → n ≡ b + more → blocks b ++ text_of (rest_lines b more) ≡ blocks n ++ closing n
 unfolding blocks rest_lines
 blocks-text b zero n is =
     let same : n ≡ b = omega (arith, is) in
-    ap (λ t. blocks b ++ t) (closing-text b) ∙ ap (λ k. blocks k ++ closing k) (sym same)
+    ap (λ t. blocks b ++ t) (sym (closing-text-of (decimal (b + 1)) (text_of procedure_lines))) ∙ ap (λ k. blocks k ++ closing k) (sym same)
 blocks-text b (suc more) n is =
-    ap (λ t. blocks b ++ t) (sym (block-text (suc b) (depth (random (suc b))) (increment (random (suc b))) (rest_lines (suc b) more)))
+    ap (λ t. blocks b ++ t) (sym (block-text-of (decimal (suc b)) (decimal (depth (random (suc b)))) (decimal ((suc b) + 1)) (decimal (increment (random (suc b)))) (text_of (rest_lines (suc b) more))))
     ∙ sym (append_assoc (blocks b) (block_with (suc b) (depth (random (suc b))) (increment (random (suc b)))) (text_of (rest_lines (suc b) more)))
     ∙ blocks-text (suc b) more n (omega (arith, is))
 

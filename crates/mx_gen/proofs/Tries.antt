@@ -1,26 +1,18 @@
 -- The trie of symbols of which each tells few bytes is short.
-use Rattle.std.proofs.Common.{◌≡◌, ℕ, zero, suc, ◌+◌, ◌-◌, ◌*◌, ◌/◌, ◌%◌, ◌^◌, ◌<◌, ◌≤◌, Bool, true, false, cond, List, [], ◌∷◌, ◌++◌, length, refl, sym, ap, ◌∙◌, arith, subst, length-append}
-use Rattle.std.specs.Prelude.{◌==◌, ◌&&◌, nat_lt, nat_le}
-use Rattle.std.specs.List.{AllByRecursion}
-use Rattle.std.proofs.lemmas.Bool.Decides.{nat_tests}
-use Rattle.std.proofs.lemmas.Grind.{common_steps}
-use Rattle.mx_word.specs.declared.symbols.Symbol.{Symbol}
-use Rattle.mx_word.specs.declared.symbols.Value.TheVariants.{Pure}
+use Rattle.std.proofs.Common.{◌≡◌, ℕ, zero, suc, ◌+◌, ◌-◌, ◌*◌, ◌/◌, ◌%◌, ◌^◌, ◌<◌, ◌≤◌, Bool, true, false, cond, List, [], ◌∷◌, ◌++◌, length, refl, sym, ap, ◌∙◌, arith, subst, length-append, ◌==◌, ◌&&◌, nat_lt, nat_le}
+use Rattle.mx_gen.proofs.Words.{cond_both, AllByRecursion, nat_tests, common_steps, Symbol, Pure, NameTable, zeros_after, padded_trie}
 use Rattle.mx_stab.specs.Numbers.{fewest_digits, octa_digits, value_bytes, kind, serial_bytes}
 use Rattle.mx_stab.specs.Trie.{next_byte, is_last_byte, groups_with, groups_of, symbols_below, bit, has_symbols, node_front, nodes, trie, longest, trie_of}
-use Rattle.mx_names.specs.Names.{NameTable}
-use Rattle.mx_asm.specs.Emission.{zeros_after, padded_trie}
 
 -- ---- what a symbol tells
 
 fewest-most : (ds : List ℕ) → length (fewest_digits ds) ≤ length ds
-fewest-most [] = omega arith
-fewest-most (d ∷ []) = omega arith
 fewest-most (d ∷ e ∷ more) = by (d == 0) (fewest-most (e ∷ more))
   where
     by : (b : Bool) → length (fewest_digits (e ∷ more)) ≤ length (e ∷ more) → length (cond b (fewest_digits (e ∷ more)) (d ∷ e ∷ more)) ≤ length (d ∷ e ∷ more)
     by true h = omega (arith, h)
     by false h = omega arith
+fewest-most ds = omega arith
 
 no-front : (d e : ℕ) (more : List ℕ) → d ≡ 0 → fewest_digits (d ∷ e ∷ more) ≡ fewest_digits (e ∷ more)
 no-front d e more is = ap (λ x. cond (x == 0) (fewest_digits (e ∷ more)) (x ∷ e ∷ more)) is
@@ -92,9 +84,8 @@ join-costs at s t group groups true = omega arith
 join-costs at s t group groups false = omega arith
 
 with-costs : (at : ℕ) (s : Symbol) (groups : List (List Symbol)) → group_costs at (groups_with at s groups) ≡ cost at s + group_costs at groups
-with-costs at s [] = omega arith
-with-costs at s ([] ∷ groups) = omega arith
 with-costs at s ((t ∷ group) ∷ groups) = join-costs at s t group groups (next_byte at t == next_byte at s)
+with-costs at s groups = omega arith
 
 grouped-costs : (at : ℕ) (symbols : List Symbol) → group_costs at (groups_of at symbols) ≡ costs at symbols
 grouped-costs at [] = refl
@@ -119,9 +110,6 @@ costs-less : (at : ℕ) (symbols : List Symbol) → costs (at + 1) symbols ≤ c
 costs-less at [] = omega arith
 costs-less at (s ∷ more) = omega (arith, costs-less at more)
 
-goes-on : (a b : ℕ) → nat_le a b ≡ false → b < a
-goes-on a b h = grind (arith, nat_tests)
-
 -- the front of a node and the symbols below it
 front-by : (at : ℕ) (s : Symbol) (more : List Symbol) (goes others is_last : Bool) → is_last_byte at s ≡ is_last → IsLight s →
     length (cond is_last (0 ∷ next_byte at s ∷ value_bytes s.value ++ serial_bytes s.serial) (0 ∷ next_byte at s ∷ [])) + costs (at + 1) (cond is_last more (s ∷ more)) ≤ costs at (s ∷ more)
@@ -130,7 +118,7 @@ front-by at s more goes others true is light =
     let both = length-append (value_bytes s.value) (serial_bytes s.serial) in
     omega (arith, told, both, costs-less at more)
 front-by at s more goes others false is light =
-    let longer = goes-on (length s.name) (at + 1) is in
+    let longer : (at + 1) < (length s.name) = grind (arith, nat_tests) in
     omega (arith, longer, costs-less at more)
 
 same-length : (at : ℕ) (s : Symbol) (goes others is_last : Bool) (m n : ℕ) →
@@ -149,11 +137,7 @@ node-costs at (s ∷ more) others are =
 
 below-light : (at : ℕ) (group : List Symbol) → AreLight group → AreLight (symbols_below at group)
 below-light at [] are = tt
-below-light at (s ∷ more) are = by (is_last_byte at s)
-  where
-    by : (b : Bool) → AreLight (cond b more (s ∷ more))
-    by true = are.1
-    by false = are
+below-light at (s ∷ more) are = cond_both (is_last_byte at s) _ _ AreLight (λ _. are.1) (λ _. are)
 
 nodes-costs : (middle : List Symbol → List ℕ) (at : ℕ) (groups : List (List Symbol)) → ((symbols : List Symbol) → AreLight symbols → length (middle symbols) ≤ costs (at + 1) symbols) → GroupsAreLight groups →
     length (nodes middle at groups) ≤ group_costs at groups

@@ -1,26 +1,8 @@
 -- The statements of the program are good, and what is known at the end.
-use Rattle.std.proofs.Common.{◌≡◌, ℕ, zero, suc, ◌+◌, ◌*◌, ◌%◌, ◌^◌, ◌<◌, ◌≤◌, true, List, [], ◌∷◌, length, codes, fold, replicate, slice_set, None, Some, refl, sym, ap, ◌∙◌, arith, subst, ⊎_elim}
-use Rattle.std.specs.Prelude.{is_some}
-use Rattle.std.specs.List.{AllByRecursion}
-use Rattle.std.proofs.lemmas.Bool.{cases_lt}
-use Rattle.mx_word.specs.declared.symbols.Symbol.{Symbol}
-use Rattle.mx_word.specs.declared.symbols.Value.{Value}
-use Rattle.mx_word.specs.declared.symbols.Value.TheVariants.{Pure}
+use Rattle.std.proofs.Common.{◌≡◌, ℕ, zero, suc, ◌+◌, ◌*◌, ◌%◌, ◌^◌, ◌<◌, ◌≤◌, true, List, [], ◌∷◌, length, codes, fold, replicate, slice_set, None, Some, refl, sym, ap, ◌∙◌, arith, subst, ⊎_elim, is_some}
+use Rattle.mx_gen.proofs.Words.{AllByRecursion, cases_lt, Symbol, Value, Pure, Near, number, name, ahead, Pseudo, Code, Set, Loc, NameTable, value_in, value_of_name, Name, Local, Known, tetra_xyz, tetra_wyde, StatementTree, known_after, nothing_known, sights_from, next_local, unreferenced, depth, increment, random, stated, reg, block_name, procedure_name, block_before, closing_at, blocks_at, program}
 use Rattle.mx_word.specs.declared.waits.Awaited.TheVariants as awaited
-use Rattle.mx_word.specs.declared.waits.WaitKind.TheVariants.{Near}
-use Rattle.mx_expr.specs.Tree.{number, name, ahead}
-use Rattle.mx_ops.specs.declared.op.Op.TheVariants.{Pseudo, Code, Set}
-use Rattle.mx_ops.specs.declared.op.Pseudo.TheVariants.{Loc}
-use Rattle.mx_names.specs.Names.{NameTable, value_in, value_of_name}
-use Rattle.mx_stmt.specs.declared.statement.Label.TheVariants.{Name, Local}
 use Rattle.mx_stmt.specs.declared.placed.Effect.TheVariants as effect
-use Rattle.mx_stmt.specs.Operands.{Known}
-use Rattle.mx_stmt.specs.Forms.{tetra_xyz, tetra_wyde}
-use Rattle.mx_stmt.specs.Encoding.{StatementTree}
-use Rattle.mx_asm.specs.TwoPass.{known_after, nothing_known, sights_from, next_local}
-use Rattle.mx_asm.specs.Refusal.{unreferenced}
-use Rattle.mx_gen.specs.Generator.{depth, increment, random}
-use Rattle.mx_gen.specs.Program.{stated, reg, block_name, procedure_name, block_before, closing_at, blocks_at, program}
 use Rattle.mx_gen.proofs.SourceRead.{random-low, depth-low, increment-low}
 use Rattle.mx_gen.proofs.Refusals.{AreGood, Leads, Ends, ends-none, ends-then, good-then}
 use Rattle.mx_gen.proofs.Tries.{IsLight}
@@ -37,26 +19,26 @@ pub record Room (at more : ℕ) : Type 0 where
   pub whole : at % 4 ≡ 0
   pub low : at + 20 * more + 60 ≤ 2 ^ 18
 
+-- the places behind so many tetras
+abbrev at_of : ℕ → ℕ → ℕ
+at_of at zero = at
+at_of at (suc j) = at_of at j + 4
+
+at-is : (at j : ℕ) → at_of at j ≡ at + 4 * j
+at-is at zero = omega arith
+at-is at (suc j) = omega (arith, at-is at j)
+
+place-of : (at : ℕ) → at % 4 ≡ 0 → at + 60 ≤ 2 ^ 18 → (j : ℕ) → j ≤ 10 → IsPlace (at_of at j)
+place-of at whole low j few = let e = at-is at j in record { whole = omega (arith, whole, e); low = omega (arith, low, few, e) }
+
 -- ---- a block
 
 module _ (b c : ℕ) (is : c ≡ b + 1) (few : c ≤ 10001) (symbols : List Symbol) (stands : Stands b symbols) (at : ℕ) (whole : at % 4 ≡ 0) (low : at + 60 ≤ 2 ^ 18) where
   abbrev grown : List Symbol
   grown = with_one symbols (block_full c) at
 
-  place0 : IsPlace at
-  place0 = record { whole = whole; low = omega (arith, low) }
-
-  place1 : IsPlace (at + 4)
-  place1 = record { whole = omega (arith, whole); low = omega (arith, low) }
-
-  place2 : IsPlace (at + 4 + 4)
-  place2 = record { whole = omega (arith, whole); low = omega (arith, low) }
-
-  place3 : IsPlace (at + 4 + 4 + 4)
-  place3 = record { whole = omega (arith, whole); low = omega (arith, low) }
-
-  place4 : IsPlace (at + 4 + 4 + 4 + 4)
-  place4 = record { whole = omega (arith, whole); low = omega (arith, low) }
+  place : (j : ℕ) → j ≤ 10 → IsPlace (at_of at j)
+  place = place-of at whole low
 
   new : value_in (block_full c) symbols ≡ None
   new = stands.next c (omega (arith, is)) (omega (arith, few))
@@ -66,28 +48,28 @@ module _ (b c : ℕ) (is : c ≡ b + 1) (few : c ≤ 10001) (symbols : List Symb
 
   module _ (line deep more : ℕ) (deep_low : deep < 2 ^ 16) (more_low : more < 2 ^ 16) where
     lead0 : Leads (known symbols no_backs at) (stated line (Some (Name (block_name c))) (Code 0xe3) (reg 2 ∷ number deep ∷ [])) (placing line at (Some (Name (block_name c))) (tetra_wyde 0xe3 2 deep) None) (known grown no_backs (at + 4))
-    lead0 = record { placed = code-placed symbols no_backs at place0 line (Some (Name (block_name c))) 0xe3 (reg 2 ∷ number deep ∷ []) (tetra_wyde 0xe3 2 deep) None (setl-tetra (known symbols no_backs at) deep deep_low); behind = refl }
+    lead0 = record { placed = code-placed symbols no_backs at (place 0 (omega arith)) line (Some (Name (block_name c))) 0xe3 (reg 2 ∷ number deep ∷ []) (tetra_wyde 0xe3 2 deep) None (setl-tetra (known symbols no_backs at) deep deep_low); behind = refl }
 
     lead1 : Leads (known grown no_backs (at + 4)) (stated (line + 1) None (Code 0xf2) (reg 1 ∷ name procedure_name ∷ [])) (placing (line + 1) (at + 4) None (tetra_wyde 0xf2 1 0) (Some (awaited.Name procedure_full, Near))) (known grown no_backs (at + 4 + 4))
     lead1 = record {
-      placed = code-placed grown no_backs (at + 4) place1 (line + 1) None 0xf2 (reg 1 ∷ name procedure_name ∷ []) (tetra_wyde 0xf2 1 0) (Some (awaited.Name procedure_full, Near))
+      placed = code-placed grown no_backs (at + 4) (place 1 (omega arith)) (line + 1) None 0xf2 (reg 1 ∷ name procedure_name ∷ []) (tetra_wyde 0xf2 1 0) (Some (awaited.Name procedure_full, Near))
           (call-tetra (known grown no_backs (at + 4)) procedure_name procedure_full refl (value-none grown no_backs (at + 4) procedure_full grown-stands.procedure procedure-free));
       behind = refl;
     }
 
     lead2 : Leads (known grown no_backs (at + 4 + 4)) (stated (line + 2) None (Code 0x22) (reg 0 ∷ reg 0 ∷ reg 1 ∷ [])) (placing (line + 2) (at + 4 + 4) None (tetra_xyz 0x22 0 0 1) None) (known grown no_backs (at + 4 + 4 + 4))
-    lead2 = record { placed = code-placed grown no_backs (at + 4 + 4) place2 (line + 2) None 0x22 (reg 0 ∷ reg 0 ∷ reg 1 ∷ []) (tetra_xyz 0x22 0 0 1) None (sum-tetra (known grown no_backs (at + 4 + 4))); behind = refl }
+    lead2 = record { placed = code-placed grown no_backs (at + 4 + 4) (place 2 (omega arith)) (line + 2) None 0x22 (reg 0 ∷ reg 0 ∷ reg 1 ∷ []) (tetra_xyz 0x22 0 0 1) None (sum-tetra (known grown no_backs (at + 4 + 4))); behind = refl }
 
     lead3 : Leads (known grown no_backs (at + 4 + 4 + 4)) (stated (line + 3) None (Code 0x46) (reg 0 ∷ name (block_name (c + 1)) ∷ [])) (placing (line + 3) (at + 4 + 4 + 4) None (tetra_wyde 0x46 0 0) (Some (awaited.Name (block_full (c + 1)), Near))) (known grown no_backs (at + 4 + 4 + 4 + 4))
     lead3 = record {
-      placed = code-placed grown no_backs (at + 4 + 4 + 4) place3 (line + 3) None 0x46 (reg 0 ∷ name (block_name (c + 1)) ∷ []) (tetra_wyde 0x46 0 0) (Some (awaited.Name (block_full (c + 1)), Near))
+      placed = code-placed grown no_backs (at + 4 + 4 + 4) (place 3 (omega arith)) (line + 3) None 0x46 (reg 0 ∷ name (block_name (c + 1)) ∷ []) (tetra_wyde 0x46 0 0) (Some (awaited.Name (block_full (c + 1)), Near))
           (bod-tetra (known grown no_backs (at + 4 + 4 + 4)) (block_name (c + 1)) (block_full (c + 1)) (block-form grown no_backs (at + 4 + 4 + 4) (c + 1) (omega (arith, few)))
           (value-none grown no_backs (at + 4 + 4 + 4) (block_full (c + 1)) (grown-stands.next (c + 1) (omega arith) (omega (arith, few))) (block-free (c + 1) (omega (arith, few)))));
       behind = refl;
     }
 
     lead4 : Leads (known grown no_backs (at + 4 + 4 + 4 + 4)) (stated (line + 4) None (Code 0xe7) (reg 0 ∷ number more ∷ [])) (placing (line + 4) (at + 4 + 4 + 4 + 4) None (tetra_wyde 0xe7 0 more) None) (known grown no_backs (at + 4 + 4 + 4 + 4 + 4))
-    lead4 = record { placed = code-placed grown no_backs (at + 4 + 4 + 4 + 4) place4 (line + 4) None 0xe7 (reg 0 ∷ number more ∷ []) (tetra_wyde 0xe7 0 more) None (incl-tetra (known grown no_backs (at + 4 + 4 + 4 + 4)) more more_low); behind = refl }
+    lead4 = record { placed = code-placed grown no_backs (at + 4 + 4 + 4 + 4) (place 4 (omega arith)) (line + 4) None 0xe7 (reg 0 ∷ number more ∷ []) (tetra_wyde 0xe7 0 more) None (incl-tetra (known grown no_backs (at + 4 + 4 + 4 + 4)) more more_low); behind = refl }
 
     pub block-ends : (later : List StatementTree) (end : Known) → Ends (known grown no_backs (at + 4 + 4 + 4 + 4 + 4)) later end → Ends (known symbols no_backs at) (block_before line c deep more later) end
     block-ends later end rest =
@@ -96,12 +78,12 @@ module _ (b c : ℕ) (is : c ≡ b + 1) (few : c ≤ 10001) (symbols : List Symb
     pub block-good : (final : NameTable) (later : List StatementTree) → is_some (value_of_name final procedure_full) ≡ true → is_some (value_of_name final (block_full (c + 1))) ≡ true →
         AreGood final (known grown no_backs (at + 4 + 4 + 4 + 4 + 4)) later → AreGood final (known symbols no_backs at) (block_before line c deep more later)
     block-good final later called onward rest =
-        plain-good final symbols no_backs at place0 _ _ _ _ (tetra_wyde 0xe3 2 deep) _ _
+        plain-good final symbols no_backs at (place 0 (omega arith)) _ _ _ _ (tetra_wyde 0xe3 2 deep) _ _
         (label-new symbols no_backs at (block_name c) (block_full c) (block-form symbols no_backs at c (omega (arith, few))) (block-free c (omega (arith, few))) new) lead0
-        (waiting-good final grown no_backs (at + 4) place1 _ _ _ _ (tetra_wyde 0xf2 1 0) _ _ _ refl lead1 called
-        (plain-good final grown no_backs (at + 4 + 4) place2 _ _ _ _ (tetra_xyz 0x22 0 0 1) _ _ refl lead2
-        (waiting-good final grown no_backs (at + 4 + 4 + 4) place3 _ _ _ _ (tetra_wyde 0x46 0 0) _ _ _ refl lead3 onward
-        (plain-good final grown no_backs (at + 4 + 4 + 4 + 4) place4 _ _ _ _ (tetra_wyde 0xe7 0 more) _ _ refl lead4 rest))))
+        (waiting-good final grown no_backs (at + 4) (place 1 (omega arith)) _ _ _ _ (tetra_wyde 0xf2 1 0) _ _ _ refl lead1 called
+        (plain-good final grown no_backs (at + 4 + 4) (place 2 (omega arith)) _ _ _ _ (tetra_xyz 0x22 0 0 1) _ _ refl lead2
+        (waiting-good final grown no_backs (at + 4 + 4 + 4) (place 3 (omega arith)) _ _ _ _ (tetra_wyde 0x46 0 0) _ _ _ refl lead3 onward
+        (plain-good final grown no_backs (at + 4 + 4 + 4 + 4) (place 4 (omega arith)) _ _ _ _ (tetra_wyde 0xe7 0 more) _ _ refl lead4 rest))))
 
 -- ---- the end
 
@@ -121,75 +103,18 @@ module _ (b c : ℕ) (is : c ≡ b + 1) (few : c ≤ 10001) (symbols : List Symb
   abbrev last : List Symbol
   last = with_one symbols (block_full c) at
 
-  abbrev at1 : ℕ
-  at1 = at + 4
-
-  abbrev at2 : ℕ
-  at2 = at1 + 4
-
-  abbrev at3 : ℕ
-  at3 = at2 + 4
-
-  abbrev at4 : ℕ
-  at4 = at3 + 4
-
-  abbrev at5 : ℕ
-  at5 = at4 + 4
-
-  abbrev at6 : ℕ
-  at6 = at5 + 4
-
-  abbrev at7 : ℕ
-  at7 = at6 + 4
-
-  abbrev at8 : ℕ
-  at8 = at7 + 4
-
-  abbrev at9 : ℕ
-  at9 = at8 + 4
-
-  abbrev at10 : ℕ
-  at10 = at9 + 4
+  abbrev to : ℕ → ℕ
+  to j = at_of at j
 
   -- with the procedure
   abbrev all : List Symbol
-  all = with_one last procedure_full at2
+  all = with_one last procedure_full (to 2)
 
   abbrev end_backs : List Value
-  end_backs = slice_set no_backs 1 (Pure at9)
+  end_backs = slice_set no_backs 1 (Pure (to 9))
 
-  in-place : (a : ℕ) → a % 4 ≡ 0 → a + 4 ≤ 2 ^ 18 → IsPlace a
-  in-place a w l = record { whole = w; low = l }
-
-  place-at0 : IsPlace at
-  place-at0 = in-place at whole (omega (arith, low))
-
-  place-at1 : IsPlace at1
-  place-at1 = in-place at1 (omega (arith, whole)) (omega (arith, low))
-
-  place-at2 : IsPlace at2
-  place-at2 = in-place at2 (omega (arith, whole)) (omega (arith, low))
-
-  place-at3 : IsPlace at3
-  place-at3 = in-place at3 (omega (arith, whole)) (omega (arith, low))
-
-  place-at4 : IsPlace at4
-  place-at4 = in-place at4 (omega (arith, whole)) (omega (arith, low))
-
-  place-at5 : IsPlace at5
-  place-at5 = in-place at5 (omega (arith, whole)) (omega (arith, low))
-
-  place-at6 : IsPlace at6
-  place-at6 = in-place at6 (omega (arith, whole)) (omega (arith, low))
-
-  place-at7 : IsPlace at7
-  place-at7 = in-place at7 (omega (arith, whole)) (omega (arith, low))
-
-  place-at8 : IsPlace at8
-  place-at8 = in-place at8 (omega (arith, whole)) (omega (arith, low))
-
-  place-at9 : IsPlace at9
-  place-at9 = in-place at9 (omega (arith, whole)) (omega (arith, low))
+  lies : (j : ℕ) → j ≤ 10 → IsPlace (at_of at j)
+  lies = place-of at whole low
 
   last-new : value_in (block_full c) symbols ≡ None
   last-new = stands.next c (omega (arith, is)) (omega (arith, few))
@@ -201,79 +126,79 @@ module _ (b c : ℕ) (is : c ≡ b + 1) (few : c ≤ 10001) (symbols : List Symb
   all-new = last-stands.procedure
 
   link-none : value_in link_full all ≡ None
-  link-none = other-value last procedure_full at2 all-new link_full refl ∙ last-stands.link
+  link-none = other-value last procedure_full (to 2) all-new link_full refl ∙ last-stands.link
 
-  end0 : Leads (known symbols no_backs at) (stated line (Some (Name (block_name c))) Set (reg 255 ∷ reg 0 ∷ [])) (placing line at (Some (Name (block_name c))) (tetra_xyz 0xc1 255 0 0) None) (known last no_backs at1)
-  end0 = record { placed = set-placed symbols no_backs at place-at0 line (Some (Name (block_name c))); behind = refl }
+  end0 : Leads (known symbols no_backs at) (stated line (Some (Name (block_name c))) Set (reg 255 ∷ reg 0 ∷ [])) (placing line at (Some (Name (block_name c))) (tetra_xyz 0xc1 255 0 0) None) (known last no_backs (to 1))
+  end0 = record { placed = set-placed symbols no_backs at (lies 0 (omega arith)) line (Some (Name (block_name c))); behind = refl }
 
-  end1 : Leads (known last no_backs at1) (stated (line + 1) None (Code 0) (number 0 ∷ name (codes "Halt") ∷ number 0 ∷ [])) (placing (line + 1) at1 None (tetra_xyz 0 0 0 0) None) (known last no_backs at2)
+  end1 : Leads (known last no_backs (to 1)) (stated (line + 1) None (Code 0) (number 0 ∷ name (codes "Halt") ∷ number 0 ∷ [])) (placing (line + 1) (to 1) None (tetra_xyz 0 0 0 0) None) (known last no_backs (to 2))
   end1 = record {
-    placed = code-placed last no_backs at1 place-at1 (line + 1) None 0 (number 0 ∷ name (codes "Halt") ∷ number 0 ∷ []) (tetra_xyz 0 0 0 0) None
-        (trap-tetra (known last no_backs at1) (codes "Halt") halt_full refl (value-predefined last no_backs at1 halt_full 0 last-stands.halt halt-predefined));
+    placed = code-placed last no_backs (to 1) (lies 1 (omega arith)) (line + 1) None 0 (number 0 ∷ name (codes "Halt") ∷ number 0 ∷ []) (tetra_xyz 0 0 0 0) None
+        (trap-tetra (known last no_backs (to 1)) (codes "Halt") halt_full refl (value-predefined last no_backs (to 1) halt_full 0 last-stands.halt halt-predefined));
     behind = refl;
   }
 
-  end2 : Leads (known last no_backs at2) (stated (line + 2) (Some (Name procedure_name)) (Code 0x42) (reg 0 ∷ ahead 1 ∷ [])) (placing (line + 2) at2 (Some (Name procedure_name)) (tetra_wyde 0x42 0 0) (Some (awaited.Local 1, Near))) (known all no_backs at3)
-  end2 = record { placed = code-placed last no_backs at2 place-at2 (line + 2) (Some (Name procedure_name)) 0x42 (reg 0 ∷ ahead 1 ∷ []) (tetra_wyde 0x42 0 0) (Some (awaited.Local 1, Near)) (skip-tetra (known last no_backs at2)); behind = refl }
+  end2 : Leads (known last no_backs (to 2)) (stated (line + 2) (Some (Name procedure_name)) (Code 0x42) (reg 0 ∷ ahead 1 ∷ [])) (placing (line + 2) (to 2) (Some (Name procedure_name)) (tetra_wyde 0x42 0 0) (Some (awaited.Local 1, Near))) (known all no_backs (to 3))
+  end2 = record { placed = code-placed last no_backs (to 2) (lies 2 (omega arith)) (line + 2) (Some (Name procedure_name)) 0x42 (reg 0 ∷ ahead 1 ∷ []) (tetra_wyde 0x42 0 0) (Some (awaited.Local 1, Near)) (skip-tetra (known last no_backs (to 2))); behind = refl }
 
-  end3 : Leads (known all no_backs at3) (stated (line + 2 + 1) None (Code 0xfe) (reg 1 ∷ name (codes "rJ") ∷ [])) (placing (line + 2 + 1) at3 None (tetra_xyz 0xfe 1 0 4) None) (known all no_backs at4)
+  end3 : Leads (known all no_backs (to 3)) (stated (line + 2 + 1) None (Code 0xfe) (reg 1 ∷ name (codes "rJ") ∷ [])) (placing (line + 2 + 1) (to 3) None (tetra_xyz 0xfe 1 0 4) None) (known all no_backs (to 4))
   end3 = record {
-    placed = code-placed all no_backs at3 place-at3 (line + 2 + 1) None 0xfe (reg 1 ∷ name (codes "rJ") ∷ []) (tetra_xyz 0xfe 1 0 4) None
-        (get-tetra (known all no_backs at3) (codes "rJ") link_full refl (value-predefined all no_backs at3 link_full 4 link-none link-predefined));
+    placed = code-placed all no_backs (to 3) (lies 3 (omega arith)) (line + 2 + 1) None 0xfe (reg 1 ∷ name (codes "rJ") ∷ []) (tetra_xyz 0xfe 1 0 4) None
+        (get-tetra (known all no_backs (to 3)) (codes "rJ") link_full refl (value-predefined all no_backs (to 3) link_full 4 link-none link-predefined));
     behind = refl;
   }
 
-  end4 : Leads (known all no_backs at4) (stated (line + 2 + 2) None (Code 0x26) (reg 3 ∷ reg 0 ∷ number 1 ∷ [])) (placing (line + 2 + 2) at4 None (tetra_xyz 0x27 3 0 1) None) (known all no_backs at5)
-  end4 = record { placed = code-placed all no_backs at4 place-at4 (line + 2 + 2) None 0x26 (reg 3 ∷ reg 0 ∷ number 1 ∷ []) (tetra_xyz 0x27 3 0 1) None (less-tetra (known all no_backs at4)); behind = refl }
+  end4 : Leads (known all no_backs (to 4)) (stated (line + 2 + 2) None (Code 0x26) (reg 3 ∷ reg 0 ∷ number 1 ∷ [])) (placing (line + 2 + 2) (to 4) None (tetra_xyz 0x27 3 0 1) None) (known all no_backs (to 5))
+  end4 = record { placed = code-placed all no_backs (to 4) (lies 4 (omega arith)) (line + 2 + 2) None 0x26 (reg 3 ∷ reg 0 ∷ number 1 ∷ []) (tetra_xyz 0x27 3 0 1) None (less-tetra (known all no_backs (to 4))); behind = refl }
 
-  again : (word : ℕ) × (Tetras (known all no_backs at5) 0xf2 (reg 2 ∷ name procedure_name ∷ []) word None)
+  again : (word : ℕ) × (Tetras (known all no_backs (to 5)) 0xf2 (reg 2 ∷ name procedure_name ∷ []) word None)
   again =
-      again-tetra (known all no_backs at5) procedure_name procedure_full at2 refl (value-some all no_backs at5 procedure_full (Pure at2) (own-value last procedure_full at2 all-new))
+      again-tetra (known all no_backs (to 5)) procedure_name procedure_full (to 2) refl (value-some all no_backs (to 5) procedure_full (Pure (to 2)) (own-value last procedure_full (to 2) all-new))
       (omega (arith, whole)) (omega (arith, whole)) (omega (arith, low)) (omega (arith, low))
 
-  end5 : Leads (known all no_backs at5) (stated (line + 2 + 3) None (Code 0xf2) (reg 2 ∷ name procedure_name ∷ [])) (placing (line + 2 + 3) at5 None again.0 None) (known all no_backs at6)
-  end5 = record { placed = code-placed all no_backs at5 place-at5 (line + 2 + 3) None 0xf2 (reg 2 ∷ name procedure_name ∷ []) again.0 None again.1; behind = refl }
+  end5 : Leads (known all no_backs (to 5)) (stated (line + 2 + 3) None (Code 0xf2) (reg 2 ∷ name procedure_name ∷ [])) (placing (line + 2 + 3) (to 5) None again.0 None) (known all no_backs (to 6))
+  end5 = record { placed = code-placed all no_backs (to 5) (lies 5 (omega arith)) (line + 2 + 3) None 0xf2 (reg 2 ∷ name procedure_name ∷ []) again.0 None again.1; behind = refl }
 
-  end6 : Leads (known all no_backs at6) (stated (line + 2 + 4) None (Code 0x22) (reg 0 ∷ reg 0 ∷ reg 2 ∷ [])) (placing (line + 2 + 4) at6 None (tetra_xyz 0x22 0 0 2) None) (known all no_backs at7)
-  end6 = record { placed = code-placed all no_backs at6 place-at6 (line + 2 + 4) None 0x22 (reg 0 ∷ reg 0 ∷ reg 2 ∷ []) (tetra_xyz 0x22 0 0 2) None (more-tetra (known all no_backs at6)); behind = refl }
+  end6 : Leads (known all no_backs (to 6)) (stated (line + 2 + 4) None (Code 0x22) (reg 0 ∷ reg 0 ∷ reg 2 ∷ [])) (placing (line + 2 + 4) (to 6) None (tetra_xyz 0x22 0 0 2) None) (known all no_backs (to 7))
+  end6 = record { placed = code-placed all no_backs (to 6) (lies 6 (omega arith)) (line + 2 + 4) None 0x22 (reg 0 ∷ reg 0 ∷ reg 2 ∷ []) (tetra_xyz 0x22 0 0 2) None (more-tetra (known all no_backs (to 6))); behind = refl }
 
-  end7 : Leads (known all no_backs at7) (stated (line + 2 + 5) None (Code 0xf6) (name (codes "rJ") ∷ reg 1 ∷ [])) (placing (line + 2 + 5) at7 None (tetra_xyz 0xf6 4 0 1) None) (known all no_backs at8)
+  end7 : Leads (known all no_backs (to 7)) (stated (line + 2 + 5) None (Code 0xf6) (name (codes "rJ") ∷ reg 1 ∷ [])) (placing (line + 2 + 5) (to 7) None (tetra_xyz 0xf6 4 0 1) None) (known all no_backs (to 8))
   end7 = record {
-    placed = code-placed all no_backs at7 place-at7 (line + 2 + 5) None 0xf6 (name (codes "rJ") ∷ reg 1 ∷ []) (tetra_xyz 0xf6 4 0 1) None
-        (put-tetra (known all no_backs at7) (codes "rJ") link_full refl (value-predefined all no_backs at7 link_full 4 link-none link-predefined));
+    placed = code-placed all no_backs (to 7) (lies 7 (omega arith)) (line + 2 + 5) None 0xf6 (name (codes "rJ") ∷ reg 1 ∷ []) (tetra_xyz 0xf6 4 0 1) None
+        (put-tetra (known all no_backs (to 7)) (codes "rJ") link_full refl (value-predefined all no_backs (to 7) link_full 4 link-none link-predefined));
     behind = refl;
   }
 
-  end8 : Leads (known all no_backs at8) (stated (line + 2 + 6) None (Code 0xf8) (number 1 ∷ number 0 ∷ [])) (placing (line + 2 + 6) at8 None (tetra_wyde 0xf8 1 0) None) (known all no_backs at9)
-  end8 = record { placed = code-placed all no_backs at8 place-at8 (line + 2 + 6) None 0xf8 (number 1 ∷ number 0 ∷ []) (tetra_wyde 0xf8 1 0) None (pop-tetra (known all no_backs at8)); behind = refl }
+  end8 : Leads (known all no_backs (to 8)) (stated (line + 2 + 6) None (Code 0xf8) (number 1 ∷ number 0 ∷ [])) (placing (line + 2 + 6) (to 8) None (tetra_wyde 0xf8 1 0) None) (known all no_backs (to 9))
+  end8 = record { placed = code-placed all no_backs (to 8) (lies 8 (omega arith)) (line + 2 + 6) None 0xf8 (number 1 ∷ number 0 ∷ []) (tetra_wyde 0xf8 1 0) None (pop-tetra (known all no_backs (to 8))); behind = refl }
 
-  end9 : Leads (known all no_backs at9) (stated (line + 2 + 7) (Some (Local 1)) (Code 0xf8) (number 1 ∷ number 0 ∷ [])) (placing (line + 2 + 7) at9 (Some (Local 1)) (tetra_wyde 0xf8 1 0) None) (known all end_backs at10)
-  end9 = record { placed = code-placed all no_backs at9 place-at9 (line + 2 + 7) (Some (Local 1)) 0xf8 (number 1 ∷ number 0 ∷ []) (tetra_wyde 0xf8 1 0) None (pop-tetra (known all no_backs at9)); behind = refl }
+  end9 : Leads (known all no_backs (to 9)) (stated (line + 2 + 7) (Some (Local 1)) (Code 0xf8) (number 1 ∷ number 0 ∷ [])) (placing (line + 2 + 7) (to 9) (Some (Local 1)) (tetra_wyde 0xf8 1 0) None) (known all end_backs (to 10))
+  end9 = record { placed = code-placed all no_backs (to 9) (lies 9 (omega arith)) (line + 2 + 7) (Some (Local 1)) 0xf8 (number 1 ∷ number 0 ∷ []) (tetra_wyde 0xf8 1 0) None (pop-tetra (known all no_backs (to 9))); behind = refl }
 
-  pub closing-ends : Ends (known symbols no_backs at) (closing_at line c) (known all end_backs at10)
+  pub closing-ends : Ends (known symbols no_backs at) (closing_at line c) (known all end_backs (to 10))
   closing-ends =
       ends-then _ _ _ _ _ _ end0 (ends-then _ _ _ _ _ _ end1 (ends-then _ _ _ _ _ _ end2 (ends-then _ _ _ _ _ _ end3 (ends-then _ _ _ _ _ _ end4
-      (ends-then _ _ _ _ _ _ end5 (ends-then _ _ _ _ _ _ end6 (ends-then _ _ _ _ _ _ end7 (ends-then _ _ _ _ _ _ end8 (ends-then _ _ _ _ [] _ end9 (ends-none (known all end_backs at10)))))))))))
+      (ends-then _ _ _ _ _ _ end5 (ends-then _ _ _ _ _ _ end6 (ends-then _ _ _ _ _ _ end7 (ends-then _ _ _ _ _ _ end8 (ends-then _ _ _ _ [] _ end9 (ends-none (known all end_backs (to 10))))))))))))
 
   -- the label 1H is behind the procedure's first line
-  local-there : is_some (next_local 1 (sights_from (known all no_backs at3) (procedure_behind (line + 2)))) ≡ true
+  local-there : is_some (next_local 1 (sights_from (known all no_backs (to 3)) (procedure_behind (line + 2)))) ≡ true
   local-there =
       local-later _ _ _ _ _ end3 refl (local-later _ _ _ _ _ end4 refl (local-later _ _ _ _ _ end5 refl (local-later _ _ _ _ _ end6 refl
       (local-later _ _ _ _ _ end7 refl (local-later _ _ _ _ _ end8 refl (local-here _ _ _ _ [] end9 refl refl))))))
 
   pub closing-good : (final : NameTable) → AreGood final (known symbols no_backs at) (closing_at line c)
   closing-good final =
-      plain-good final symbols no_backs at place-at0 _ _ _ _ (tetra_xyz 0xc1 255 0 0) _ _
+      plain-good final symbols no_backs at (lies 0 (omega arith)) _ _ _ _ (tetra_xyz 0xc1 255 0 0) _ _
       (label-new symbols no_backs at (block_name c) (block_full c) (block-form symbols no_backs at c (omega (arith, few))) (block-free c (omega (arith, few))) last-new) end0
-      (plain-good final last no_backs at1 place-at1 _ _ _ _ (tetra_xyz 0 0 0 0) _ _ refl end1
-      (waiting-good final last no_backs at2 place-at2 _ _ _ _ (tetra_wyde 0x42 0 0) _ _ _ (label-new last no_backs at2 procedure_name procedure_full refl procedure-free all-new) end2 local-there
-      (plain-good final all no_backs at3 place-at3 _ _ _ _ (tetra_xyz 0xfe 1 0 4) _ _ refl end3
-      (plain-good final all no_backs at4 place-at4 _ _ _ _ (tetra_xyz 0x27 3 0 1) _ _ refl end4
-      (plain-good final all no_backs at5 place-at5 _ _ _ _ again.0 _ _ refl end5
-      (plain-good final all no_backs at6 place-at6 _ _ _ _ (tetra_xyz 0x22 0 0 2) _ _ refl end6
-      (plain-good final all no_backs at7 place-at7 _ _ _ _ (tetra_xyz 0xf6 4 0 1) _ _ refl end7
-      (plain-good final all no_backs at8 place-at8 _ _ _ _ (tetra_wyde 0xf8 1 0) _ _ refl end8
-      (plain-good final all no_backs at9 place-at9 _ _ _ _ (tetra_wyde 0xf8 1 0) _ [] refl end9 (good-end final (known all end_backs at10)))))))))))
+      (plain-good final last no_backs (to 1) (lies 1 (omega arith)) _ _ _ _ (tetra_xyz 0 0 0 0) _ _ refl end1
+      (waiting-good final last no_backs (to 2) (lies 2 (omega arith)) _ _ _ _ (tetra_wyde 0x42 0 0) _ _ _ (label-new last no_backs (to 2) procedure_name procedure_full refl procedure-free all-new) end2 local-there
+      (plain-good final all no_backs (to 3) (lies 3 (omega arith)) _ _ _ _ (tetra_xyz 0xfe 1 0 4) _ _ refl end3
+      (plain-good final all no_backs (to 4) (lies 4 (omega arith)) _ _ _ _ (tetra_xyz 0x27 3 0 1) _ _ refl end4
+      (plain-good final all no_backs (to 5) (lies 5 (omega arith)) _ _ _ _ again.0 _ _ refl end5
+      (plain-good final all no_backs (to 6) (lies 6 (omega arith)) _ _ _ _ (tetra_xyz 0x22 0 0 2) _ _ refl end6
+      (plain-good final all no_backs (to 7) (lies 7 (omega arith)) _ _ _ _ (tetra_xyz 0xf6 4 0 1) _ _ refl end7
+      (plain-good final all no_backs (to 8) (lies 8 (omega arith)) _ _ _ _ (tetra_wyde 0xf8 1 0) _ _ refl end8
+      (plain-good final all no_backs (to 9) (lies 9 (omega arith)) _ _ _ _ (tetra_wyde 0xf8 1 0) _ [] refl end9 (good-end final (known all end_backs (to 10))))))))))))
 
 -- ---- all blocks
 

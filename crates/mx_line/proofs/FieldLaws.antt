@@ -1,20 +1,9 @@
 -- Operand fields: what the rules spell is what is measured, and what is measured is spelled so.
-use Rattle.std.proofs.Common.{◌≡◌, ℕ, suc, ◌+◌, List, [], ◌∷◌, ◌++◌, length, Bool, true, false, cond, not, Result, Ok, Err, refl, sym, ap, ◌∙◌, arith, subst, append_assoc, length-append, inl, inr}
-use Rattle.std.proofs.lemmas.Bool.{cond_both, and_parts}
-use Rattle.std.specs.Prelude.{◌==◌, ◌||◌}
-use Rattle.std.specs.List.{list_all}
-use Rattle.std.proofs.lemmas.Bool.{eqb-true}
-use Rattle.std.proofs.lemmas.Bool.Decides.{eqb_tells}
-use Rattle.mx_line.specs.declared.faults.LineFault.{LineFault}
-use Rattle.mx_line.specs.declared.faults.LineFault.TheVariants.{TooLong, BadLabel, BadLocal, BadOpcode, OpenString, OpenChar, NoOpcode}
-use Rattle.mx_line.specs.Fields.{Within, field_from, field_length, more, ends_field, ends_here}
-use Rattle.mx_line.specs.Fields.Within.{nothing, string, constant, closing}
-use Rattle.mx_line.specs.Statements.{begins, is_no_quote, is_other, IsField, closes}
+use Rattle.std.proofs.Common.{◌≡◌, ℕ, suc, ◌+◌, List, [], ◌∷◌, ◌++◌, length, Bool, true, false, cond, not, Result, Ok, Err, refl, sym, ap, ◌∙◌, arith, subst, append_assoc, length-append, inl, inr, ◌==◌, ◌||◌}
+use Rattle.mx_line.proofs.Words.{cond_both, and_parts, list_all, eqb_tells, LineFault, TooLong, BadLabel, BadLocal, BadOpcode, OpenString, OpenChar, NoOpcode, Within, field_from, field_length, more, ends_field, ends_here, nothing, string, constant, closing, begins, is_no_quote, is_other, IsField, closes}
 use Rattle.mx_line.specs.Statements.IsField.{empty, string_first, constant_first, byte_first}
 use Rattle.mx_line.proofs.FieldLemmas.{more-more}
-
-is-eq : (b n : ℕ) → (b == n) ≡ true → b ≡ n
-is-eq b n h = eqb-true b n h
+use Rattle.mx_word.proofs.Comparisons.{same-number as is-eq}
 
 -- a byte that passes a test is no byte that does not
 not-at : (n b : ℕ) (test : ℕ → Bool) → test n ≡ false → test b ≡ true → (b == n) ≡ false
@@ -44,9 +33,7 @@ unquoted (b ∷ bs) h = let both = and_parts (is_no_quote b) (list_all is_no_quo
 
 none-of : (x y z : Bool) → not (x || y || z) ≡ true → (x ≡ false) × (y ≡ false) × (z ≡ false)
 none-of false false false h = (refl, refl, refl)
-none-of true y z h = absurd (cc)
-none-of false true z h = absurd (cc)
-none-of false false true h = absurd (cc)
+none-of x y z h = absurd (cc)
 
 other-byte : (b : ℕ) (rest : List ℕ) → is_other b ≡ true → field_length (b ∷ rest) ≡ more 1 (field_length rest)
 unfolding field_from
@@ -68,13 +55,10 @@ measured _ (constant_first b after f) rest =
     ∙ ap (more 1) (one-more (suc (length after)) (field_length rest)) ∙ one-more (suc (suc (length after))) (field_length rest)
 measured _ (byte_first b after h f) rest = other-byte b (after ++ rest) h ∙ ap (more 1) (measured after f rest) ∙ one-more (length after) (field_length rest)
 
-ended-step : (x y t : Bool) (p q r : Result ℕ LineFault) → x ≡ false → y ≡ false → t ≡ true → cond x p (cond y q (cond t (Ok 0) r)) ≡ Ok 0
-ended-step x y t p q r e f g = rw (e, f, g) refl
-
 pub ended : (rest : List ℕ) → ends_here rest ≡ true → field_length rest ≡ Ok 0
 unfolding field_from
 ended [] h = refl
-ended (b ∷ bs) h = ended-step (b == 34) (b == 39) (ends_field b) _ _ _ (not-at 34 b ends_field refl h) (not-at 39 b ends_field refl h) h
+ended (b ∷ bs) h = rw ((not-at 34 b ends_field refl h), (not-at 39 b ends_field refl h), h) refl
 
 pub whole-field : (front rest : List ℕ) → IsField front → ends_here rest ≡ true → field_length (front ++ rest) ≡ Ok (length front)
 whole-field front rest f h =
@@ -87,9 +71,8 @@ open-string front inner f h = measured front f (34 ∷ inner) ∙ ap (λ r. more
 
 unclosed : (after : List ℕ) → closes after ≡ false → field_from constant after ≡ Err OpenChar
 unfolding field_from
-unclosed [] h = refl
-unclosed (b ∷ []) h = refl
 unclosed (b ∷ c ∷ bs) h = ap (λ t. more 1 (cond t (more 1 (field_from nothing bs)) (Err OpenChar))) h
+unclosed after h = refl
 
 pub open-char : (front after : List ℕ) → IsField front → closes after ≡ false → field_length (front ++ 39 ∷ after) ≡ Err OpenChar
 unfolding field_from
@@ -157,11 +140,7 @@ grown v w b bs grow s c d (Err OpenString) (inside e f) = s e f
 grown v w b bs grow s c d (Err OpenChar) (opened_char bytes after e l f) = opened_char (b ∷ bytes) after (ap (λ t. b ∷ t) e) (grow bytes l) f
 grown v w b bs grow s c d (Err OpenChar) (at_byte e f) = c e f
 grown v w b bs grow s c d (Err OpenChar) (at_close e f) = d e f
-grown v w b bs grow s c d (Err TooLong) h = h
-grown v w b bs grow s c d (Err BadLabel) h = h
-grown v w b bs grow s c d (Err BadLocal) h = h
-grown v w b bs grow s c d (Err BadOpcode) h = h
-grown v w b bs grow s c d (Err NoOpcode) h = h
+grown v w b bs grow s c d r h = h
 
 from-quote : (bs : List ℕ) → Spelled string bs (field_from string bs) → Spelled nothing (34 ∷ bs) (more 1 (field_from string bs))
 from-quote bs h =
@@ -202,9 +181,6 @@ constant-ends : (bs : List ℕ) → Spelled nothing bs (field_from nothing bs) �
 constant-ends bs h =
     grown nothing closing 39 bs (λ bytes l. record { rest = bytes; spelled = refl; field = l }) (λ e f. absurd (cc)) (λ e f. absurd (cc)) (λ e f. absurd (cc)) (field_from nothing bs) h
 
-is-other : (b : ℕ) → (b == 34) ≡ false → (b == 39) ≡ false → ends_field b ≡ false → is_other b ≡ true
-is-other b e f g = rw (e, f, g) refl
-
 pub spelled-is : (w : Within) (text : List ℕ) → Spelled w text (field_from w text)
 unfolding field_from
 spelled-is nothing [] = record { bytes = []; after = []; spelled = refl; counted = refl; left = empty; ends = refl }
@@ -216,7 +192,7 @@ spelled-is nothing (b ∷ bs) =
     cond_both (b == 34) _ _ P (λ e. subst (λ c. Spelled nothing (c ∷ bs) (more 1 (field_from string bs))) (sym (is-eq b 34 e)) (from-quote bs (spelled-is string bs))) (λ e.
     cond_both (b == 39) _ _ P (λ f. subst (λ c. Spelled nothing (c ∷ bs) (more 1 (field_from constant bs))) (sym (is-eq b 39 f)) (from-apostrophe bs (spelled-is constant bs))) (λ f.
     cond_both (ends_field b) _ _ P (λ g. record { bytes = []; after = b ∷ bs; spelled = refl; counted = refl; left = empty; ends = g })
-    (λ g. from-byte b bs (is-other b e f g) (spelled-is nothing bs))))
+    (λ g. from-byte b bs (rw (e, f, g) refl) (spelled-is nothing bs))))
 spelled-is string (b ∷ bs) =
     let P : Result ℕ LineFault → Type 0 = Spelled string (b ∷ bs) in
     cond_both (b == 34) _ _ P (λ e. subst (λ c. Spelled string (c ∷ bs) (more 1 (field_from nothing bs))) (sym (is-eq b 34 e)) (string-ends bs (spelled-is nothing bs)))

@@ -1,14 +1,6 @@
 -- Operand fields by what stands first in them.
-use Rattle.std.proofs.Common.{◌≡◌, ◌≢◌, ℕ, suc, ◌+◌, ◌<◌, ◌≤◌, List, [], ◌∷◌, length, drop, get_or, Bool, true, false, cond, not, Result, Ok, Err, IfOk, arith, refl, sym, ap, ◌∙◌}
-use Rattle.std.proofs.lemmas.Bool.{cond-false, cond_both}
-use Rattle.std.specs.Prelude.{◌==◌}
-use Rattle.std.proofs.lemmas.Bool.Decides.{nat_tests}
-use Rattle.std.specs.List.{position_or_len}
-use Rattle.std.proofs.lemmas.List.{drop-drop}
-use Rattle.mx_line.specs.declared.faults.LineFault.{LineFault}
-use Rattle.mx_line.specs.declared.faults.LineFault.TheVariants.{OpenString, OpenChar}
-use Rattle.mx_line.specs.Fields.{Within, field_from, field_length, after_first, more, ends_field}
-use Rattle.mx_line.specs.Fields.Within.{nothing, string, constant, closing}
+use Rattle.std.proofs.Common.{◌≡◌, ◌≢◌, ℕ, suc, ◌+◌, ◌<◌, ◌≤◌, List, [], ◌∷◌, length, drop, get_or, Bool, true, false, cond, not, Result, Ok, Err, IfOk, arith, refl, sym, ap, ◌∙◌, ◌==◌}
+use Rattle.mx_line.proofs.Words.{cond-false, cond_both, nat_tests, position_or_len, drop-drop, LineFault, OpenString, OpenChar, Within, field_from, field_length, after_first, more, ends_field, nothing, string, constant, closing}
 
 pub more-more : (a b : ℕ) (r : Result ℕ LineFault) → more a (more b r) ≡ more (a + b) r
 more-more a b (Ok n) = let e : a + (b + n) ≡ a + b + n = omega arith in ap (λ m. Ok m) e
@@ -67,24 +59,21 @@ string-none xs n e l m = ap (more 1) (string-open xs (omega arith))
 -- a character constant, by the bytes after its apostrophe
 pub constant-short : (xs : List ℕ) → length xs < 2 → field_length (39 ∷ xs) ≡ Err OpenChar
 unfolding field_from
-constant-short [] h = refl
-constant-short (x ∷ []) h = refl
 constant-short (x ∷ y ∷ ys) h = absurd (omega arith)
+constant-short xs h = refl
 
 pub constant-closed : (xs : List ℕ) → 2 ≤ length xs → get_or xs 1 0 ≡ 39 → field_length (39 ∷ xs) ≡ more 3 (field_length (drop 2 xs))
 unfolding field_from
-constant-closed [] h e = absurd (omega arith)
-constant-closed (x ∷ []) h e = absurd (omega arith)
 constant-closed (x ∷ y ∷ ys) h e = rw e (ap (more 1) (more-more 1 1 (field_from nothing ys)) ∙ more-more 1 2 (field_from nothing ys))
+constant-closed xs h e = absurd (omega arith)
 
 open-step : (t : Bool) (ys : List ℕ) → t ≡ false → more 1 (more 1 (cond t (more 1 (field_from nothing ys)) (Err OpenChar))) ≡ Err OpenChar
 open-step t ys e = rw e refl
 
 pub constant-open : (xs : List ℕ) → 2 ≤ length xs → get_or xs 1 0 ≢ 39 → field_length (39 ∷ xs) ≡ Err OpenChar
 unfolding field_from
-constant-open [] h e = absurd (omega arith)
-constant-open (x ∷ []) h e = absurd (omega arith)
 constant-open (x ∷ y ∷ ys) h e = open-step (y == 39) ys (grind (arith, nat_tests))
+constant-open xs h e = absurd (omega arith)
 
 -- another byte
 other-step : (s t u : Bool) (r q p : Result ℕ LineFault) → s ≡ false → t ≡ false → cond s r (cond t q (cond u (Ok 0) p)) ≡ cond u (Ok 0) p
@@ -108,9 +97,6 @@ more-few (Err f) k h = tt
 field-few : (w : Within) (text : List ℕ) → IfOk (field_from w text) (λ n. n ≤ length text)
 unfolding field_from
 field-few nothing [] = omega arith
-field-few string [] = tt
-field-few constant [] = tt
-field-few closing [] = tt
 field-few nothing (b ∷ bs) =
     let P : Result ℕ LineFault → Type 0 = λ r. IfOk r (λ n. n ≤ suc (length bs)) in
     cond_both (b == 34) _ _ P (λ _. more-few (field_from string bs) (length bs) (field-few string bs)) (λ _.
@@ -123,6 +109,7 @@ field-few constant (b ∷ bs) = more-few (field_from closing bs) (length bs) (fi
 field-few closing (b ∷ bs) =
     let P : Result ℕ LineFault → Type 0 = λ r. IfOk r (λ n. n ≤ suc (length bs)) in
     cond_both (b == 39) _ _ P (λ _. more-few (field_from nothing bs) (length bs) (field-few nothing bs)) (λ _. tt)
+field-few w [] = tt
 
 pub field_length-few : (text : List ℕ) → IfOk (field_length text) (λ n. n ≤ length text)
 field_length-few text = field-few nothing text

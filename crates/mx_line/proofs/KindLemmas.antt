@@ -1,9 +1,6 @@
 -- Runs of one kind of bytes.
 use Rattle.std.proofs.Common.{◌≡◌, ℕ, ◌≤◌, ◌+◌, List, length, take, Bool, arith, ap}
-use Rattle.std.specs.List.{prefix_len}
-use Rattle.std.proofs.lemmas.List.{length-take, length-drop}
-use Rattle.std.proofs.lemmas.List.Folds.{length-prefix_len}
-use Rattle.mx_line.specs.Bytes.{run, past}
+use Rattle.mx_line.proofs.Words.{prefix_len, length-take, length-drop, length-prefix_len, run, past}
 
 pub run-length : (kind : ℕ → Bool) (text : List ℕ) → length (run kind text) ≡ prefix_len kind text
 run-length kind text = let most = length-prefix_len kind text in omega (arith, length-take (prefix_len kind text) text)

@@ -8,3 +8,4 @@ pub mod FieldLaws
 pub mod RuleLaws
 pub mod ListLaws
 mod Rows
+pub mod Words

@@ -1,11 +1,7 @@
 -- The lines of a source, line by line.
-use Rattle.std.proofs.Common.{◌≡◌, ℕ, ◌+◌, ◌<◌, List, [], ◌∷◌, length, Bool, true, false, cond, refl, ap, ◌∙◌, arith, ◌++◌, take, take_at, append_assoc, sum_by}
-use Rattle.std.proofs.lemmas.List.{length_push}
+use Rattle.std.proofs.Common.{◌≡◌, ℕ, ◌+◌, ◌<◌, List, [], ◌∷◌, length, Bool, true, false, cond, refl, ap, ◌∙◌, arith, ◌++◌, take, take_at, append_assoc, sum_by, ◌==◌}
+use Rattle.mx_line.proofs.Words.{length_push, lines_of, without_empty_last, size_up_to, onto_first, slice_split, split}
 use Rattle.std.proofs.lemmas.List.Sums.{sum_by-append}
-use Rattle.std.specs.Prelude.{◌==◌}
-use Rattle.mx_line.specs.Lines.{lines_of, without_empty_last, size_up_to}
-use Rattle.std.specs.List.{onto_first, slice_split}
-use Rattle.mx_line.specs.Pieces.{split}
 
 pub no-lines : lines_of [] ≡ []
 unfolding lines_of split
@@ -18,16 +14,14 @@ onto-before (x ∷ xs) b [] = refl
 onto-before (x ∷ xs) b (p ∷ ps) = refl
 
 more-before : (t : Bool) (line : List ℕ) (b : ℕ) (pieces : List (List ℕ)) → without_empty_last (line ∷ cond t ([] ∷ pieces) (onto_first b pieces)) ≡ line ∷ without_empty_last (cond t ([] ∷ pieces) (onto_first b pieces))
-more-before true [] b pieces = refl
-more-before true (x ∷ xs) b pieces = refl
 more-before false line b pieces = onto-before line b pieces
+more-before true line b pieces = refl
 
 -- a line before another piece
 before : (line rest : List ℕ) → without_empty_last (line ∷ split 10 rest) ≡ line ∷ without_empty_last (split 10 rest)
 unfolding split
-before [] [] = refl
-before (x ∷ xs) [] = refl
 before line (b ∷ bs) = more-before (b == 10) line b (slice_split (λ x. x == 10) bs)
+before line [] = refl
 
 pub first-line : (text line rest : List ℕ) → split 10 text ≡ line ∷ split 10 rest → lines_of text ≡ line ∷ lines_of rest
 unfolding lines_of

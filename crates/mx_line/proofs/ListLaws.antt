@@ -1,9 +1,6 @@
 -- The statements of a line are one list.
 use Rattle.std.proofs.Common.{◌≡◌, ℕ, zero, suc, ◌+◌, ◌-◌, ◌<◌, ◌≤◌, List, ◌∷◌, length, Some, None, Result, Ok, Err, sym, ap, ◌∙◌, arith, subst}
-use Rattle.mx_line.specs.declared.faults.LineFault.{LineFault}
-use Rattle.mx_line.specs.declared.cutter.Cut.{Cut}
-use Rattle.mx_line.specs.Cutting.{statement_of, list_with, cuts_within, cuts_from, CutInOrder}
-use Rattle.mx_line.specs.Statements.{Found, StatementOf, Statements}
+use Rattle.mx_line.proofs.Words.{LineFault, Cut, statement_of, list_with, cuts_within, cuts_from, CutInOrder, Found, StatementOf, Statements}
 use Rattle.mx_line.specs.Statements.Statements.{none, fault, next}
 use Rattle.mx_line.proofs.StatementLemmas.{past-label, statement-order, list-is}
 use Rattle.mx_line.proofs.RuleLaws.{statement_of-is, statement_of-only}
@@ -27,15 +24,12 @@ list-by-rules line place h = within-is (length line + 1 - place) line place (ome
 made : (line : List ℕ) (place : ℕ) (found : Found) → place ≤ length line → StatementOf line place found → cuts_from line place ≡ list_with (cuts_from line) found
 made line place found h s = list-is line place h ∙ ap (list_with (cuts_from line)) (statement_of-only line place found s)
 
-order-of : (line : List ℕ) (place : ℕ) (found : Found) → place ≤ length line → StatementOf line place found → CutInOrder place (length line) found
-order-of line place found h s = subst (CutInOrder place (length line)) (statement_of-only line place found s) (statement-order line place h)
-
 -- and no other list is
 pub no-other-list : (line : List ℕ) (place : ℕ) (cuts : List (Result Cut LineFault)) → Statements line place cuts → place ≤ length line → cuts ≡ cuts_from line place
 no-other-list line place _ (none _ s) h = sym (made line place (Ok None) h s)
 no-other-list line place _ (fault _ why s) h = sym (made line place (Err why) h s)
 no-other-list line place _ (next _ cut cuts s later) h =
-    let order = order-of line place (Ok (Some cut)) h s in
+    let order : CutInOrder place (length line) (Ok (Some cut)) = subst (CutInOrder place (length line)) (statement_of-only line place (Ok (Some cut)) s) (statement-order line place h) in
     ap (λ l. Ok cut ∷ l) (no-other-list line cut.next cuts later order.within) ∙ sym (made line place (Ok (Some cut)) h s)
 
 pub ruleset lists = (list-by-rules, no-other-list)

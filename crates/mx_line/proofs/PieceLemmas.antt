@@ -1,11 +1,8 @@
 -- A text cut at the first byte of a kind.
-use Rattle.std.proofs.Common.{◌≡◌, ℕ, ◌+◌, ◌-◌, ◌<◌, List, [], ◌∷◌, length, take, drop, Bool, true, false, cond, arith, refl, sym, ap, None, not}
-use Rattle.std.specs.Prelude.{◌==◌}
-use Rattle.std.specs.List.{position, position_or_len, onto_first, slice_split}
+use Rattle.std.proofs.Common.{◌≡◌, ℕ, ◌+◌, ◌-◌, ◌<◌, List, [], ◌∷◌, length, take, drop, Bool, true, false, cond, arith, refl, sym, ap, None, not, ◌==◌}
+use Rattle.mx_line.proofs.Words.{position, position_or_len, onto_first, slice_split, length-prefix_len, split}
 use Rattle.std.proofs.lemmas.List.Splits.{slice_split_first}
 use Rattle.std.proofs.lemmas.Grind.{common_steps}
-use Rattle.std.proofs.lemmas.List.Folds.{length-prefix_len}
-use Rattle.mx_line.specs.Pieces.{split}
 
 pub none-length : (at : ℕ) (xs : List ℕ) → position (λ x. x == at) xs ≡ None → length xs ≡ position_or_len (λ x. x == at) xs
 none-length at xs h = let most = length-prefix_len (λ x. not (x == at)) xs in grind (arith, common_steps)

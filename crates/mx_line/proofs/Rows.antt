@@ -1,10 +1,6 @@
 -- The definitions on worked rows.
 use Rattle.std.proofs.Common.{◌≡◌, [], ◌∷◌, ◌++◌, Some, None, codes, refl}
-use Rattle.mx_line.specs.declared.faults.LineFault.TheVariants.{BadLabel, NoOpcode}
-use Rattle.mx_line.specs.Pieces.{split}
-use Rattle.mx_line.specs.Lines.{lines_of, size_up_to}
-use Rattle.mx_line.specs.Fields.{field_from}
-use Rattle.mx_line.specs.Cutting.{statement_of, cuts_within}
+use Rattle.mx_line.proofs.Words.{BadLabel, NoOpcode, split, lines_of, size_up_to, field_from, statement_of, cuts_within}
 use Rattle.mx_line.specs.Source.{items_from, statements_of}
 use Rattle.mx_line.specs.Source.Item.{statement, faulty}
 

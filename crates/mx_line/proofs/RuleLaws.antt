@@ -1,18 +1,6 @@
 -- What stands at a place by the rules of statements is what is cut there, and nothing else is.
-use Rattle.std.proofs.Common.{◌≡◌, ℕ, zero, suc, ◌+◌, ◌<◌, ◌≤◌, List, [], ◌∷◌, ◌++◌, length, drop, Bool, true, false, cond, Option, Some, None, Result, Ok, Err, refl, sym, ap, ◌∙◌, arith, subst, length-append, drop_at}
-use Rattle.std.proofs.lemmas.Bool.{cond_both, and_parts}
-use Rattle.std.specs.Prelude.{◌==◌, ◌&&◌, nat_lt}
-use Rattle.std.proofs.lemmas.Bool.{eqb-true, eq-eqb}
-use Rattle.std.proofs.lemmas.Bool.Decides.{nat_tests}
-use Rattle.mx_line.specs.declared.spans.Span.{Span}
-use Rattle.mx_line.specs.declared.faults.LineFault.{LineFault}
-use Rattle.mx_line.specs.declared.faults.LineFault.TheVariants.{TooLong, BadLabel, BadLocal, BadOpcode, OpenString, OpenChar, NoOpcode}
-use Rattle.mx_line.specs.Bytes.{is_blank, is_name_byte, run, past}
-use Rattle.mx_line.specs.Fields.{field_length, ends_here}
-use Rattle.mx_line.specs.Fields.Within.{nothing}
-use Rattle.mx_line.specs.Spans.{span}
-use Rattle.mx_line.specs.Cutting.{next_from, next_after, with_field, operands_at, no_opcode, opcode_at, operation_at, ends_label, is_bad_local, labelled_at, statement_at, is_too_long, statement_of}
-use Rattle.mx_line.specs.Statements.{Found, begins, Run, Next, Operands, Operation, Statement, StatementOf}
+use Rattle.std.proofs.Common.{◌≡◌, ℕ, zero, suc, ◌+◌, ◌<◌, List, [], ◌∷◌, ◌++◌, length, drop, Bool, true, false, cond, Option, Some, None, Result, Ok, Err, refl, sym, ap, ◌∙◌, arith, subst, length-append, drop_at, ◌==◌, ◌&&◌, nat_lt}
+use Rattle.mx_line.proofs.Words.{cond_both, and_parts, eqb-true, eq-eqb, nat_tests, Span, LineFault, TooLong, BadLabel, BadLocal, BadOpcode, OpenString, OpenChar, is_blank, is_name_byte, run, past, field_length, ends_here, nothing, span, next_from, next_after, with_field, operands_at, no_opcode, opcode_at, operation_at, ends_label, is_bad_local, labelled_at, statement_at, is_too_long, statement_of, Found, begins, Run, Next, Operands, Operation, Statement, StatementOf}
 use Rattle.mx_line.proofs.RunLaws.{run-is, run-only, past-only}
 use Rattle.mx_line.proofs.StatementLemmas.{some-run}
 use Rattle.mx_line.proofs.FieldLaws.{Spelled, spelled-is, whole-field, open-string, open-char}
@@ -23,6 +11,7 @@ use Rattle.mx_line.specs.Statements.Operands.{field, open_string, open_char}
 use Rattle.mx_line.specs.Statements.Operation.{named, bad_opcode, only_blanks, only_label}
 use Rattle.mx_line.specs.Statements.Statement.{comment, unlabelled, labelled, bad_local, bad_label}
 use Rattle.mx_line.specs.Statements.StatementOf.{too_long, later, first}
+use Rattle.std.proofs.lemmas.Bool.{and_right as and-false}
 
 -- The rules hold of what is cut.
 next-from-is : (place : ℕ) (text gap rest : List ℕ) → Run is_blank text gap rest → Next place text (next_from place gap rest)
@@ -52,11 +41,7 @@ with-is label op place text gap rest run (Err OpenString) (inside e f) = absurd 
 with-is label op place text gap rest run (Err OpenChar) (opened_char bytes after e l f) = open_char gap rest bytes after run e l f
 with-is label op place text gap rest run (Err OpenChar) (at_byte e f) = absurd (cc)
 with-is label op place text gap rest run (Err OpenChar) (at_close e f) = absurd (cc)
-with-is label op place text gap rest run (Err TooLong) h = absurd h
-with-is label op place text gap rest run (Err BadLabel) h = absurd h
-with-is label op place text gap rest run (Err BadLocal) h = absurd h
-with-is label op place text gap rest run (Err BadOpcode) h = absurd h
-with-is label op place text gap rest run (Err NoOpcode) h = absurd h
+with-is label op place text gap rest run r h = absurd h
 
 operands-are : (label : Option Span) (op : Span) (place : ℕ) (text : List ℕ) → Operands label op place text (operands_at label op place text)
 operands-are label op place text = with-is label op place text (run is_blank text) (past is_blank text) (run-is is_blank text) (field_length (past is_blank text)) (spelled-is nothing (past is_blank text))
@@ -90,12 +75,9 @@ long-true line place h = let both = and_parts (place == 0) (nat_lt 4096 (length 
     long : nat_lt 4096 (length line) ≡ true → 4096 < length line
     long t = grind (arith, nat_tests)
 
-short : (line : List ℕ) → nat_lt 4096 (length line) ≡ false → length line ≤ 4096
-short line t = grind (arith, nat_tests)
-
 -- at the front of a line, and further on
 placed : (line : List ℕ) (place : ℕ) → is_too_long line place ≡ false → StatementOf line place (statement_at place (drop place line))
-placed line zero h = first _ refl (short line h) (statement-is zero line)
+placed line zero h = first _ refl (grind (arith, nat_tests)) (statement-is zero line)
 placed line (suc n) h = later _ (omega arith) (statement-is (suc n) (drop (suc n) line))
 
 pub statement_of-is : (line : List ℕ) (place : ℕ) → StatementOf line place (statement_of line place)
@@ -198,27 +180,17 @@ too-long : (line : List ℕ) (place : ℕ) (t : Bool) → is_too_long line place
 unfolding statement_of
 too-long line place t e = rw e refl
 
-and-true : (s t : Bool) → s ≡ true → t ≡ true → (s && t) ≡ true
-and-true s t e f = rw (e, f) refl
-
-and-false : (s t : Bool) → t ≡ false → (s && t) ≡ false
-and-false true t e = e
-and-false false t e = refl
-
 is-long : (line : List ℕ) → 4096 < length line → nat_lt 4096 (length line) ≡ true
 is-long line l = grind (arith, nat_tests)
-
-is-short : (line : List ℕ) → length line ≤ 4096 → nat_lt 4096 (length line) ≡ false
-is-short line l = grind (arith, nat_tests)
 
 not-first : (place : ℕ) (t : Bool) → 0 < place → (place == 0 && t) ≡ false
 not-first place t l = let e : (place == 0) ≡ false = grind (arith, nat_tests) in rw e refl
 
 pub statement_of-only : (line : List ℕ) (place : ℕ) (found : Found) → StatementOf line place found → statement_of line place ≡ found
-statement_of-only line place _ (too_long e l) = too-long line place true (and-true (place == 0) (nat_lt 4096 (length line)) (eq-eqb place 0 e) (is-long line l))
+statement_of-only line place _ (too_long e l) = too-long line place true (rw ((eq-eqb place 0 e), (is-long line l)) refl)
 statement_of-only line place found (later _ l h) = too-long line place false (not-first place (nat_lt 4096 (length line)) l) ∙ statement-only place (drop place line) _ h
 statement_of-only line place found (first _ e l h) =
-    too-long line place false (and-false (place == 0) (nat_lt 4096 (length line)) (is-short line l))
+    too-long line place false (and-false (place == 0) (nat_lt 4096 (length line)) (grind (arith, nat_tests)))
     ∙ ap (λ p. statement_at p (drop p line)) e ∙ statement-only 0 line _ (subst (λ p. Statement p line found) e h)
 
 -- what was answered is by the rules, and nothing else is

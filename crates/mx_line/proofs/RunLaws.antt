@@ -1,9 +1,6 @@
 -- A text is in one way a run of one kind of bytes and a rest.
 use Rattle.std.proofs.Common.{◌≡◌, ℕ, suc, ◌+◌, List, [], ◌∷◌, ◌++◌, length, take, drop, Bool, true, false, cond, refl, sym, ap, ◌∙◌, arith, take-append-drop, take_at, drop_at}
-use Rattle.std.proofs.lemmas.Bool.{and_parts}
-use Rattle.std.specs.List.{prefix_len, list_all}
-use Rattle.mx_line.specs.Bytes.{run, past}
-use Rattle.mx_line.specs.Statements.{begins, Run}
+use Rattle.mx_line.proofs.Words.{and_parts, prefix_len, list_all, run, past, begins, Run}
 use Rattle.mx_line.proofs.KindLemmas.{run-length}
 
 joined : (kind : ℕ → Bool) (text : List ℕ) → text ≡ run kind text ++ past kind text

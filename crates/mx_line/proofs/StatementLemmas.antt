@@ -1,15 +1,6 @@
 -- The statements of a line, one after another.
-use Rattle.std.proofs.Common.{◌≡◌, ℕ, zero, suc, ◌+◌, ◌-◌, ◌<◌, ◌≤◌, List, [], ◌∷◌, length, drop, Bool, true, cond, Option, Some, None, Result, Ok, Err, IfOk, arith, refl, ap, length-drop}
-use Rattle.std.proofs.lemmas.Bool.{cond_both}
-use Rattle.std.specs.Prelude.{◌==◌}
-use Rattle.std.specs.List.{prefix_len}
-use Rattle.mx_line.specs.declared.spans.Span.{Span}
-use Rattle.mx_line.specs.declared.faults.LineFault.{LineFault}
-use Rattle.mx_line.specs.declared.cutter.Cut.{Cut}
-use Rattle.mx_line.specs.Bytes.{is_blank, is_name_byte, run, past}
-use Rattle.mx_line.specs.Fields.{ends_here, field_length}
-use Rattle.mx_line.specs.Spans.{span}
-use Rattle.mx_line.specs.Cutting.{next_from, with_field, operands_at, no_opcode, opcode_at, operation_at, ends_label, is_bad_local, labelled_at, statement_at, is_too_long, statement_of, list_with, cuts_within, cuts_from, LabelBefore, CutInOrder}
+use Rattle.std.proofs.Common.{◌≡◌, ℕ, suc, ◌+◌, ◌-◌, ◌<◌, ◌≤◌, List, [], ◌∷◌, length, drop, Bool, true, Option, Some, None, Result, Ok, Err, IfOk, arith, refl, ap, length-drop, ◌==◌}
+use Rattle.mx_line.proofs.Words.{cond_both, Span, LineFault, Cut, is_blank, is_name_byte, run, past, ends_here, field_length, span, next_from, with_field, operands_at, no_opcode, opcode_at, operation_at, ends_label, is_bad_local, labelled_at, statement_at, is_too_long, statement_of, list_with, cuts_within, cuts_from, LabelBefore, CutInOrder}
 use Rattle.mx_line.proofs.KindLemmas.{run-whole, run-length}
 use Rattle.mx_line.proofs.FieldLemmas.{field_length-few}
 
@@ -45,12 +36,9 @@ operation-order start end place label text l e =
     opcode-order start end (place + length (run is_blank text)) label (run is_name_byte (past is_blank text)) (past is_name_byte (past is_blank text)) (l _ refl)
     (omega (arith, run-whole is_blank text, run-whole is_name_byte (past is_blank text)))
 
-some-step : (t : Bool) (n : ℕ) → t ≡ true → 0 < cond t (1 + n) 0
-some-step t n h = rw h (omega arith)
-
 -- a text that begins with a byte of a kind has a run of it
 pub some-run : (kind : ℕ → Bool) (b : ℕ) (bs : List ℕ) → kind b ≡ true → 0 < length (run kind (b ∷ bs))
-some-run kind b bs h = rw (run-length kind (b ∷ bs)) (some-step (kind b) (prefix_len kind bs) h)
+some-run kind b bs h = rw (run-length kind (b ∷ bs)) (rw h (omega arith))
 
 after-order : (start end place : ℕ) (label : Span) (rest : List ℕ) → label.from ≡ start → start < label.to → label.to ≡ place → place + length rest ≡ end → ends_label rest ≡ true →
     CutInOrder start end (operation_at (Some label) place rest)
@@ -79,17 +67,15 @@ past-label place (Some s) op (a, b, d) = omega arith
 
 -- what is listed rests on what stands later
 same-later : (place end : ℕ) (f g : ℕ → List (Result Cut LineFault)) → ((p : ℕ) → place < p → p ≤ end → f p ≡ g p) → (r : Result (Option Cut) LineFault) → CutInOrder place end r → list_with f r ≡ list_with g r
-same-later place end f g h (Err fault) o = refl
-same-later place end f g h (Ok None) o = refl
 same-later place end f g h (Ok (Some cut)) o = let after = past-label place cut.label cut.op.from o.label in ap (λ l. Ok cut ∷ l) (h cut.next (omega arith) o.within)
+same-later place end f g h r o = refl
 
 -- More turns than the line has bytes left change nothing.
 same-list : (line : List ℕ) (m n place : ℕ) → length line < m + place → length line < n + place → place ≤ length line → cuts_within m line place ≡ cuts_within n line place
 unfolding cuts_within
-same-list line zero n place h k l = absurd (omega arith)
-same-list line (suc m) zero place h k l = absurd (omega arith)
 same-list line (suc m) (suc n) place h k l =
     same-later place (length line) (cuts_within m line) (cuts_within n line) (λ p a b. same-list line m n p (omega arith) (omega arith) b) (statement_of line place) (statement-order line place l)
+same-list line m n place h k l = absurd (omega arith)
 
 -- the statements of a line from a place on: the first, and those from its end on
 pub list-is : (line : List ℕ) (place : ℕ) → place ≤ length line → cuts_from line place ≡ list_with (cuts_from line) (statement_of line place)

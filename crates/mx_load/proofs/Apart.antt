@@ -1,25 +1,16 @@
 -- What bytes are loaded to, by reading and by meaning apart.
-use Rattle.std.proofs.Common.{◌≡◌, ℕ, zero, suc, ◌+◌, ◌<◌, ◌≤◌, List, [], ◌∷◌, length, drop, Bool, true, false, cond, Some, None, Ok, Err, refl, sym, ◌∙◌, ap, subst, arith}
-use Rattle.std.specs.Prelude.{Result, nat_lt}
+use Rattle.std.proofs.Common.{◌≡◌, ℕ, zero, suc, ◌+◌, ◌<◌, ◌≤◌, List, [], ◌∷◌, length, drop, Bool, true, false, cond, Some, None, Ok, Err, refl, sym, ◌∙◌, ap, subst, arith, Result, nat_lt}
 use Rattle.std.proofs.lemmas.Bool.Decides.{nat_tests}
 use Rattle.mx_mmo.specs.Image.{Image}
-use Rattle.mx_mmo.specs.Meaning.{Loading, Meaningless, nothing, take_item, take_items, image_in, meaning}
-use Rattle.mx_mmo.specs.Reading.{Due, IsWithin, first_item}
-use Rattle.mx_mmo.specs.Replies.{limit, phase_after, tail_of}
-use Rattle.mx_mmo.specs.Whole.{Left, Walk, behind, walk_on, walk, items_of, object_behind, object_of, with_tail}
-use Rattle.mx_mmo.specs.declared.items.Item.{Item}
+use Rattle.mx_load.proofs.Words.{Loading, Meaningless, nothing, take_item, take_items, image_in, meaning, Due, IsWithin, first_item, limit, phase_after, tail_of, Left, Walk, behind, walk_on, walk, items_of, object_behind, object_of, with_tail, Item, MmoFault, TooLong, MeansNothing, fault_at, Loaded, item_loaded, first_loaded, items_loaded, taken, trie_read, tail_read, with_symbols, whole_loaded, object_loaded, StabFault}
 use Rattle.mx_mmo.specs.declared.items.Tail.{Tail}
 use Rattle.mx_mmo.specs.declared.items.Object.{Object}
-use Rattle.mx_mmo.specs.declared.faults.MmoFault.{MmoFault}
-use Rattle.mx_mmo.specs.declared.faults.MmoFault.TheVariants.{TooLong}
 use Rattle.mx_mmo.specs.declared.due.Phase.{Phase}
 use Rattle.mx_mmo.specs.declared.due.Phase.TheVariants.{Start}
 use Rattle.mx_mmo.proofs.Firsts.{first-within}
 use Rattle.mx_mmo.proofs.Walks.{shorter}
 use Rattle.mx_load.specs.Faults as loads
-use Rattle.mx_load.specs.Objects.{MeansNothing, fault_at, Loaded, item_loaded, first_loaded, items_loaded, taken, trie_read, tail_read, with_symbols, whole_loaded, object_loaded}
 use Rattle.mx_stab.specs.Reading.{trie_answer}
-use Rattle.mx_stab.specs.declared.faults.StabFault.{StabFault}
 use Rattle.mx_word.specs.declared.symbols.Symbol.{Symbol}
 
 -- ---- the items
@@ -69,8 +60,6 @@ stops-here s phase at bytes item size e d h = record {
 more-comes : (s u : Loading) (phase : Phase) (at : ℕ) (bytes : List ℕ) (item : Item) (size : ℕ) (r : Result Loading Meaningless) (end : Result Left MmoFault) (loaded : Loaded) →
     first_item phase at bytes ≡ Ok (Some (item, size)) → take_item s item ≡ Ok u →
     Comes u (phase_after item phase) (at + size) (drop size bytes) r end loaded → Comes s phase at bytes r end loaded
-more-comes s u phase at bytes item size (Ok t) (Ok left) loaded d h c = c
-more-comes s u phase at bytes item size (Ok t) (Err fault) loaded d h c = c
 more-comes s u phase at bytes item size (Err e) end loaded d h (place, stops, c) = (place, more, c)
   where
     step : (n : ℕ) → take_items (walk (suc n) phase at bytes).0 (Ok s) ≡ take_items (walk n (phase_after item phase) (at + size) (drop size bytes)).0 (Ok u)
@@ -88,6 +77,7 @@ more-comes s u phase at bytes item size (Err e) end loaded d h (place, stops, c)
       next = step (suc stops.count) ∙ stops.next;
       begins = stops.begins;
     }
+more-comes s u phase at bytes item size (Ok t) end loaded d h c = c
 
 item-comes : (others : Loading → Phase → ℕ → List ℕ → Loaded) (s : Loading) (phase : Phase) (at : ℕ) (bytes : List ℕ) (item : Item) (size : ℕ) (w : Walk) (r : Result Loading Meaningless) →
     first_item phase at bytes ≡ Ok (Some (item, size)) → take_item s item ≡ r →
@@ -102,11 +92,10 @@ item-comes others s phase at bytes item size w (Err e) d h more =
 first-comes : (n : ℕ) (s : Loading) (phase : Phase) (at : ℕ) (bytes : List ℕ) (d : Due) → first_item phase at bytes ≡ d → IsWithin d (length bytes) →
     ((u : Loading) (p : Phase) (a : ℕ) (bs : List ℕ) → length bs < length bytes → Comes u p a bs (take_items (walk n p a bs).0 (Ok u)) (walk n p a bs).1 (items_loaded (suc n) u p a bs)) →
     Comes s phase at bytes (take_items (walk_on (walk n) phase at bytes d).0 (Ok s)) (walk_on (walk n) phase at bytes d).1 (first_loaded (items_loaded (suc n)) s phase at bytes d)
-first-comes n s phase at bytes (Ok None) f w more = refl
-first-comes n s phase at bytes (Err fault) f w more = refl
 first-comes n s phase at bytes (Ok (Some (item, size))) f w more =
     item-comes (items_loaded (suc n)) s phase at bytes item size (walk n (phase_after item phase) (at + size) (drop size bytes)) (take_item s item) f refl
     (λ u. more u (phase_after item phase) (at + size) (drop size bytes) (shorter size bytes w.0 w.1))
+first-comes n s phase at bytes d f w more = refl
 
 -- as many steps as bytes, and one more, load all items
 comes-along : (n : ℕ) (s : Loading) (phase : Phase) (at : ℕ) (bytes : List ℕ) → length bytes ≤ n →

@@ -1,10 +1,7 @@
 -- Items that are loaded one after another.
-use Rattle.std.proofs.Common.{◌≡◌, List, [], ◌∷◌, ◌++◌, refl, ap, Ok, Err}
-use Rattle.std.specs.Prelude.{Result}
-use Rattle.mx_mmo.specs.Meaning.{Loading, Meaningless, nothing, take_item, take_items, image_in, meaning}
-use Rattle.mx_mmo.specs.declared.items.Item.{Item}
-use Rattle.mx_load.specs.Faults.{told}
-use Rattle.mx_load.specs.Standing.{after, image_in as image_of_standing}
+use Rattle.std.proofs.Common.{◌≡◌, List, [], ◌∷◌, ◌++◌, refl, ap, Ok, Err, Result}
+use Rattle.mx_load.proofs.Words.{Loading, Meaningless, nothing, take_item, take_items, image_in, meaning, Item, told, after}
+use Rattle.mx_load.specs.Standing.{image_in as image_of_standing}
 
 none-more : (r : Result Loading Meaningless) → take_items [] r ≡ r
 none-more (Ok s) = refl
@@ -12,9 +9,8 @@ none-more (Err e) = refl
 
 next-from : (front : List Item) (item : Item) (r : Result Loading Meaningless) → told (take_items (front ++ item ∷ []) r) ≡ after (told (take_items front r)) item
 next-from [] item (Ok s) = ap told (none-more (take_item s item))
-next-from [] item (Err e) = refl
 next-from (x ∷ front) item (Ok s) = next-from front item (take_item s x)
-next-from (x ∷ front) item (Err e) = refl
+next-from front item (Err e) = refl
 
 pub next-item : (front : List Item) (item : Item) → told (take_items (front ++ item ∷ []) (Ok nothing)) ≡ after (told (take_items front (Ok nothing))) item
 next-item front item = next-from front item (Ok nothing)

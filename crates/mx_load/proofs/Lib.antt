@@ -3,3 +3,4 @@ pub mod Loading
 pub mod Tails
 pub mod Taken
 pub mod InTurn
+pub mod Words

@@ -1,39 +1,20 @@
 -- Items of an object are loaded one after another.
-use Rattle.std.proofs.Common.{◌≡◌, ◌≢◌, ℕ, zero, suc, ◌<◌, length, Bool, true, Some, None, Ok, Err, refl, sym, ◌∙◌, ap, arith}
-use Rattle.std.specs.Prelude.{Result, IfErr}
+use Rattle.std.proofs.Common.{◌≡◌, ◌≢◌, ℕ, zero, suc, ◌<◌, length, Bool, true, Some, None, Ok, Err, refl, sym, ◌∙◌, ap, arith, Result, IfErr}
 use Rattle.mx_load.specs.Faults as loads
-use Rattle.mx_load.specs.Faults.{told, fault_of}
-use Rattle.mx_load.specs.Standing.{loading_of}
+use Rattle.mx_load.proofs.Words.{told, fault_of, loading_of, LoadFault, Loading, Meaningless, take_item, Due, first_item, ReaderModel, given, next_item, next_due, next_answer, left_of, Item, MmoFault, NotTetras, NoPre, BadLop, BadFields, Truncated, TooLong, loaded_from, loaded_behind, item_answer, unread, unloaded, place_and_number, Loaded, item_loaded, first_loaded, items_loaded, taken, fault_at, OutOfMemory}
 use Rattle.mx_load.specs.declared.progress.Progress.{Progress}
-use Rattle.mx_load.specs.declared.fault.LoadFault.{LoadFault}
 use Rattle.mx_load.specs.declared.fault.LoadFault.TheVariants.{PagesFull, BadPlace, NoFile, OutOfMemory as NoRoom}
-use Rattle.mx_mmo.specs.Meaning.{Loading, Meaningless, take_item}
-use Rattle.mx_mmo.specs.Reading.{Due, first_item}
-use Rattle.mx_mmo.specs.Replies.{ReaderModel, given, next_item, next_due, next_answer}
-use Rattle.mx_mmo.specs.Whole.{left_of}
-use Rattle.mx_mmo.specs.declared.items.Item.{Item}
-use Rattle.mx_mmo.specs.declared.faults.MmoFault.{MmoFault}
-use Rattle.mx_mmo.specs.declared.faults.MmoFault.TheVariants.{NotTetras, NoPre, BadLop, BadFields, Truncated, TooLong, OutOfMemory as NoBytes}
-use Rattle.mx_load.specs.Answers.{loaded_from, loaded_behind, item_answer, unread, unloaded, place_and_number}
-use Rattle.mx_load.specs.Objects.{Loaded, item_loaded, first_loaded, items_loaded, taken, fault_at}
+use Rattle.mx_mmo.specs.declared.faults.MmoFault.TheVariants.{OutOfMemory as NoBytes}
 use Rattle.mx_load.specs.declared.objects.ObjectFault.{ObjectFault}
-use Rattle.mx_load.specs.declared.objects.ObjectFault.TheVariants.{OutOfMemory}
 
 -- the faults of reading and of loading keep their place and number
 pub unread-is : (f : MmoFault) → unread f ≢ OutOfMemory → place_and_number (unread f) ≡ fault_at f
-unread-is (NotTetras place) h = refl
-unread-is (NoPre place) h = refl
-unread-is (BadLop place) h = refl
-unread-is (BadFields place) h = refl
-unread-is (Truncated place) h = refl
-unread-is (TooLong place) h = refl
 unread-is NoBytes h = absurd (h refl)
+unread-is f h = refl
 
 unloaded-is : (place : ℕ) (f : LoadFault) → unloaded place f ≢ OutOfMemory → place_and_number (unloaded place f) ≡ (place, loads.number_of f)
-unloaded-is place PagesFull h = refl
-unloaded-is place BadPlace h = refl
-unloaded-is place NoFile h = refl
 unloaded-is place NoRoom h = absurd (h refl)
+unloaded-is place f h = refl
 
 pub taken-ok : (place : ℕ) (s : Loading) (r : Result Loading Meaningless) → Ok s ≡ told r → ◌≡◌ {A = Result Loading (ℕ × ℕ)} (Ok s) (taken place r)
 taken-ok place s (Ok t) h = ap Ok (cc)
@@ -52,8 +33,7 @@ due m h = ap (λ o. next_due o m) h
 -- nothing whole stands next
 none-on : (k : ℕ) (s : Loading) (m n : ReaderModel) (d : Due) → (Ok None, n) ≡ next_item m d → first_loaded (items_loaded k) s m.phase m.at m.rest d ≡ Ok (s, left_of n)
 none-on k s m n (Ok None) h = ap (λ r. Ok (s, left_of r)) (sym (ap (λ p. p.1) h))
-none-on k s m n (Ok (Some (item, size))) h = let e = ap (λ p. p.0) h in absurd (cc)
-none-on k s m n (Err fault) h = let e = ap (λ p. p.0) h in absurd (cc)
+none-on k s m n d h = let e = ap (λ p. p.0) h in absurd (cc)
 
 pub next-none : (k : ℕ) (l : Progress) (m n : ReaderModel) → m.fault ≡ None → (Ok None, n) ≡ next_answer m → loaded_from (suc k) l m ≡ Ok (loading_of l, left_of n)
 unfolding items_loaded
@@ -77,14 +57,13 @@ follow-is k m item size (Err fault) = refl
 
 item-on : (k : ℕ) (s : Loading) (m n : ReaderModel) (item : Item) (d : Due) → (Ok (Some item), n) ≡ next_item m d →
     first_loaded (items_loaded k) s m.phase m.at m.rest d ≡ loaded_behind k n (taken n.place (take_item s item))
-item-on k s m n item (Ok None) h = let e = ap (λ p. p.0) h in absurd (cc)
 item-on k s m n item (Ok (Some (i, size))) h =
     let after : n ≡ given m i size = ap (λ p. p.1) h in
     let answer = ap (λ p. p.0) h in
     let same : item ≡ i = cc in
     follow-is k m i size (taken m.at (take_item s i))
     ∙ sym (ap (λ (r : ReaderModel). loaded_behind k r (taken r.place (take_item s item))) after ∙ ap (λ j. loaded_behind k (given m i size) (taken m.at (take_item s j))) same)
-item-on k s m n item (Err g) h = let e = ap (λ p. p.0) h in absurd (cc)
+item-on k s m n item d h = let e = ap (λ p. p.0) h in absurd (cc)
 
 pub next-item : (k : ℕ) (l : Progress) (m n : ReaderModel) (item : Item) (place : ℕ) (r : Result Loading (ℕ × ℕ)) → m.fault ≡ None → (Ok (Some item), n) ≡ next_answer m →
     place ≡ n.place → r ≡ taken place (take_item (loading_of l) item) → loaded_from (suc k) l m ≡ loaded_behind k n r

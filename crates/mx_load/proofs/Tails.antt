@@ -1,6 +1,5 @@
 -- What stands behind the items of an object.
-use Rattle.std.proofs.Common.{◌≢◌, ℕ, ◌<◌, ◌≤◌, ◌^◌, List, Option, Some, None, length, arith}
-use Rattle.std.specs.Prelude.{IfSome}
+use Rattle.std.proofs.Common.{◌≢◌, ℕ, ◌<◌, ◌≤◌, ◌^◌, List, Option, Some, None, length, arith, IfSome}
 use Rattle.mx_stab.specs.Faults.{place_of}
 use Rattle.mx_stab.specs.FaultTable.{FaultOf}
 use Rattle.mx_stab.specs.declared.faults.StabFault.{StabFault}

@@ -1,16 +1,10 @@
 -- Items are taken one by one.
-use Rattle.std.proofs.Common.{◌≡◌, refl, sym, ◌∙◌, ap, ℕ, ◌+◌, ◌<◌, ◌≤◌, length, List, [], ◌∷◌, get_or, drop, Ok, Err}
-use Rattle.std.specs.Prelude.{Result}
-use Rattle.std.specs.List.{AllByRecursion}
+use Rattle.std.proofs.Common.{◌≡◌, refl, sym, ◌∙◌, ap, ℕ, ◌+◌, ◌<◌, ◌≤◌, length, List, [], ◌∷◌, get_or, drop, Ok, Err, Result}
+use Rattle.mx_load.proofs.Words.{AllByRecursion, Loading, Meaningless, nothing, take_item, take_items, Fits, Item, told, after, answer, LoadFault}
 use Rattle.std.proofs.Math.ListN.{drop_of_length-le}
 use Rattle.std.proofs.lemmas.List.{drop_more}
 use Rattle.mx_mmo.specs.Meaning as spec
-use Rattle.mx_mmo.specs.Meaning.{Loading, Meaningless, nothing, take_item, take_items}
-use Rattle.mx_mmo.specs.Valid.{Fits}
-use Rattle.mx_mmo.specs.declared.items.Item.{Item}
-use Rattle.mx_load.specs.Faults.{told}
-use Rattle.mx_load.specs.Standing.{after, answer, image_in}
-use Rattle.mx_load.specs.declared.fault.LoadFault.{LoadFault}
+use Rattle.mx_load.specs.Standing.{image_in}
 
 -- what stands after items more
 abbrev pub after_all : Result Loading LoadFault → List Item → Result Loading LoadFault

@@ -1,11 +1,7 @@
 -- Each lopcode by its code byte.
-use Rattle.std.proofs.Common.{◌≡◌, ℕ, ◌/◌, ◌%◌, ◌^◌, Bool, true, false, cond, arith, refl, Some, None}
-use Rattle.std.specs.Prelude.{Option, ◌==◌}
-use Rattle.mx_mmo.specs.Object.{IsNoLop}
-use Rattle.mx_mmo.specs.Reading.{lop_of}
-use Rattle.mx_mmo.specs.declared.lops.Lop.{Lop}
-use Rattle.mx_mmo.specs.declared.lops.Lop.TheVariants.{Quote, Loc, Skip, Fixo, Fixr, Fixrx, File, Line, Spec, Pre, Post, Stab, End}
-use Rattle.mx_word.proofs.Comparisons.{other-test, same-number}
+use Rattle.std.proofs.Common.{◌≡◌, ℕ, ◌/◌, ◌%◌, ◌^◌, Bool, true, false, cond, arith, refl, Some, None, Option, ◌==◌}
+use Rattle.mx_mmo.proofs.Words.{IsNoLop, lop_of, Lop, Quote, Fixo, Fixr, Fixrx, End, other-test, same-number}
+use Rattle.mx_mmo.specs.declared.lops.Lop.TheVariants.{Loc, Skip, File, Line, Spec, Pre, Post, Stab}
 
 abbrev pub code_of : Lop → ℕ
 code_of Quote = 0

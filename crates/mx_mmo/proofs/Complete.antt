@@ -1,20 +1,6 @@
 -- An object is read as its items and its trie.
-use Rattle.std.proofs.Common.{◌≡◌, ℕ, ◌+◌, ◌-◌, ◌*◌, ◌/◌, ◌%◌, ◌^◌, ◌<◌, ◌≤◌, length, List, [], ◌∷◌, ◌++◌, take, drop, arith, refl, sym, ◌∙◌, ap, subst, Ok, Some, None, true, length-append, append_assoc, append-nil, add-zero, zero-add}
-use Rattle.std.specs.Prelude.{◌==◌}
-use Rattle.std.proofs.lemmas.Bool.Decides.{nat_tests}
-use Rattle.std.proofs.lemmas.List.{drop_at, take_at}
-use Rattle.mx_mmo.specs.Tetras.{wide_lop}
-use Rattle.mx_mmo.specs.Object.{Spells, Spelled}
-use Rattle.mx_mmo.specs.Valid.{SpecsEnd}
-use Rattle.mx_mmo.specs.Reading.{first_item}
-use Rattle.mx_mmo.specs.Replies.{limit, phase_after, tail_of, counted_tail, end_count}
-use Rattle.mx_mmo.specs.Turns.{ComeInTurn, EndsItem, EndsLast, phase_end}
-use Rattle.mx_mmo.specs.Whole.{Left, Walk, behind, items_of, SpellsObject, object_of, object_behind, onto, with_tail}
-use Rattle.mx_mmo.specs.declared.items.Item.{Item}
-use Rattle.mx_mmo.specs.declared.items.Item.TheVariants.{Pre, Post, Stab}
-use Rattle.mx_mmo.specs.declared.items.Object.{Object}
-use Rattle.mx_mmo.specs.declared.due.Phase.{Phase}
-use Rattle.mx_mmo.specs.declared.due.Phase.TheVariants.{Start, Ended}
+use Rattle.std.proofs.Common.{◌≡◌, ℕ, ◌+◌, ◌-◌, ◌*◌, ◌/◌, ◌%◌, ◌^◌, ◌<◌, ◌≤◌, length, List, [], ◌∷◌, ◌++◌, take, drop, arith, refl, sym, ◌∙◌, ap, subst, Ok, Some, None, true, length-append, append_assoc, append-nil, add-zero, zero-add, ◌==◌}
+use Rattle.mx_mmo.proofs.Words.{nat_tests, drop_at, take_at, wide_lop, Spells, Spelled, SpecsEnd, first_item, limit, phase_after, tail_of, counted_tail, end_count, ComeInTurn, EndsItem, EndsLast, phase_end, Left, Walk, behind, items_of, SpellsObject, object_of, object_behind, onto, with_tail, Item, Pre, Post, Stab, Object, Phase, Start, Ended}
 use Rattle.mx_mmo.proofs.Ends.{ends-next}
 use Rattle.mx_mmo.proofs.Phases.{Reaches, placed-reaches}
 use Rattle.mx_mmo.proofs.Pieces.{not-long}
@@ -47,33 +33,26 @@ walk-spelled phase at rest (Spelled.next item items bytes more sp others) s d e 
 
 ended-first : (at : ℕ) (bytes : List ℕ) → first_item Ended at bytes ≡ Ok None
 ended-first at (a ∷ b ∷ c ∷ d ∷ more) = refl
-ended-first at [] = refl
-ended-first at (a ∷ []) = refl
-ended-first at (a ∷ b ∷ []) = refl
-ended-first at (a ∷ b ∷ c ∷ []) = refl
+ended-first at bytes = refl
 
 -- what is left behind the items of an object
 abbrev pub left_behind : ℕ → List ℕ → Left
 left_behind at rest = record { phase = Ended; at = at; rest = rest }
-
-ended-none : (at : ℕ) (phase : Phase) (rest : List ℕ) → phase ≡ Ended → items_of phase at rest ≡ ([], Ok (left_behind at rest))
-ended-none at phase rest e = rw e (items-none Ended at rest (ended-first at rest))
 
 onto-none : (items : List Item) (left : Left) → onto items ([], Ok left) ≡ (items, Ok left)
 onto-none items left = rw append-nil refl
 
 -- the last item of an object is no spec
 stab-last : (items : List Item) (g : ℕ) (values rest : List ℕ) → EndsLast (items ++ Post g values ∷ Stab ∷ []) rest
-stab-last [] g values rest = tt
-stab-last (item ∷ []) g values rest = tt
 stab-last (item ∷ next ∷ items) g values rest = stab-last (next ∷ items) g values rest
+stab-last items g values rest = tt
 
 pub items-read : (items : List Item) (front rest : List ℕ) → Spelled items front → Reaches Start items → SpecsEnd items → EndsLast items rest →
     items_of Start 0 (front ++ rest) ≡ (items, Ok (left_behind (length front) rest))
 items-read items front rest sp r d e =
     walk-spelled Start 0 rest sp r.turn d e
     ∙ ap (λ (n : ℕ). onto items (items_of (phase_end Start items) n rest)) (zero-add (length front))
-    ∙ ap (onto items) (ended-none (length front) (phase_end Start items) rest r.end) ∙ onto-none items (left_behind (length front) rest)
+    ∙ ap (onto items) (rw r.end (items-none Ended (length front) rest (ended-first (length front) rest))) ∙ onto-none items (left_behind (length front) rest)
 
 -- the lopcode that ends an object tells its count
 pub end-told : (count : ℕ) → count < 2 ^ 16 → end_count (wide_lop 12 count) ≡ Some count

@@ -1,16 +1,9 @@
 -- What follows a spec ends it.
 use Rattle.std.proofs.Common.{ℕ, List, ◌∷◌, ◌++◌, arith, refl, sym, subst, append_assoc}
-use Rattle.mx_word.specs.Words.{tetra_to_bytes}
-use Rattle.mx_mmo.specs.Valid.{MayFollow, SpecsEnd}
-use Rattle.mx_mmo.specs.Object.{EndsSpec, IsNoLop, Spells, SpellsAddress, Spelled}
-use Rattle.mx_mmo.specs.Turns.{EndsItem, EndsLast}
-use Rattle.mx_mmo.specs.declared.items.Item.{Item}
-use Rattle.mx_mmo.specs.declared.items.Item.TheVariants.{Load, Spec}
+use Rattle.mx_mmo.proofs.Words.{tetra_to_bytes, MayFollow, SpecsEnd, EndsSpec, IsNoLop, Spells, SpellsAddress, Spelled, EndsItem, EndsLast, Item, Load, Spec}
 
 -- an item that is not loaded begins with a lopcode that ends a spec
 ends-before : {item : Item} {bytes : List ℕ} (n : ℕ) (rest : List ℕ) → Spells item bytes → MayFollow (Spec n) item → EndsSpec (bytes ++ rest)
-ends-before n rest (Spells.bare t p) m = absurd m
-ends-before n rest (Spells.quoted t h) m = absurd m
 ends-before n rest (Spells.loc a bytes (SpellsAddress.by_tetra code y t h k)) m = (refl, λ t. omega (arith, t.0))
 ends-before n rest (Spells.loc a bytes (SpellsAddress.by_octa code y x h k)) m = (refl, λ t. omega (arith, t.0))
 ends-before n rest (Spells.skip k h) m = (refl, λ t. omega (arith, t.0))
@@ -25,6 +18,7 @@ ends-before n rest (Spells.spec k front h s) m = (refl, λ t. omega (arith, t.0)
 ends-before n rest (Spells.pre tetras l h) m = (refl, λ t. omega (arith, t.0))
 ends-before n rest (Spells.post g values l k c h) m = (refl, λ t. omega (arith, t.0))
 ends-before n rest Spells.stab m = (refl, λ t. omega (arith, t.0))
+ends-before n rest _ m = absurd m
 
 ends-by : (item : Item) {next : Item} {bytes : List ℕ} (rest : List ℕ) → Spells next bytes → MayFollow item next → EndsItem item (bytes ++ rest)
 ends-by (Spec n) rest s m = ends-before n rest s m

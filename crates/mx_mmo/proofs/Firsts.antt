@@ -1,20 +1,7 @@
 -- What stands first in bytes does not depend on what comes later.
-use Rattle.std.proofs.Common.{◌≡◌, ◌≢◌, sym, ℕ, ◌+◌, ◌-◌, ◌*◌, ◌^◌, ◌<◌, ◌≤◌, length, List, [], ◌∷◌, ◌++◌, take, Bool, true, false, cond, arith, refl, ap, subst, Ok, Err, Some, None}
-use Rattle.std.specs.Prelude.{Option, nat_lt, nat_le, ◌==◌, ◌&&◌, ◌||◌}
-use Rattle.std.proofs.lemmas.Bool.Decides.{nat_tests}
-use Rattle.std.proofs.lemmas.Grind.{common_steps}
-use Rattle.mx_mmo.specs.Skipping.{skipped}
-use Rattle.mx_mmo.specs.Reading.{DueOf, Due, IsWithin, first_item, due_item, lop_item, lop_of, on_tetra, on_octa, quoted_tetra, short_address, long_address, address_due, item_due, far_tetra, named_file, file_item, ended_spec, pre_item, post_item, tetras_of, octas_of, trimmed}
-use Rattle.mx_mmo.specs.declared.items.Item.{Item}
-use Rattle.mx_mmo.specs.declared.items.Item.TheVariants.{Load, Loc, Skip, FixOcta, FixNear, FixFar, File, Line, Spec, Pre, Post, Stab}
-use Rattle.mx_mmo.specs.declared.lops.Lop.{Lop}
+use Rattle.std.proofs.Common.{◌≡◌, ◌≢◌, sym, ℕ, ◌+◌, ◌-◌, ◌*◌, ◌^◌, ◌<◌, ◌≤◌, length, List, [], ◌∷◌, ◌++◌, take, Bool, true, false, cond, arith, refl, ap, subst, Ok, Err, Some, None, Option, nat_lt, nat_le, ◌==◌, ◌&&◌, ◌||◌}
+use Rattle.mx_mmo.proofs.Words.{nat_tests, common_steps, skipped, DueOf, Due, IsWithin, first_item, due_item, lop_item, lop_of, on_tetra, on_octa, quoted_tetra, short_address, long_address, address_due, item_due, far_tetra, named_file, file_item, ended_spec, pre_item, post_item, tetras_of, octas_of, trimmed, Item, Load, Loc, Skip, FixOcta, FixNear, FixFar, File, Line, Spec, Pre, Post, Stab, Lop, MmoFault, NoPre, BadLop, BadFields, OutOfMemory, tetra_from_bytes, octa_from_bytes, Phase, Start, Middle, Posted, Ended, not-less}
 use Rattle.mx_mmo.specs.declared.lops.Lop.TheVariants as lops
-use Rattle.mx_mmo.specs.declared.faults.MmoFault.{MmoFault}
-use Rattle.mx_mmo.specs.declared.faults.MmoFault.TheVariants.{NoPre, BadLop, BadFields, OutOfMemory}
-use Rattle.mx_word.specs.Words.{tetra_from_bytes, octa_from_bytes}
-use Rattle.mx_mmo.specs.declared.due.Phase.{Phase}
-use Rattle.mx_mmo.specs.declared.due.Phase.TheVariants.{Start, Middle, Posted, Ended}
-use Rattle.mx_word.proofs.Comparisons.{not-less}
 use Rattle.mx_mmo.proofs.Skips.{SkipGrows, SkipWithin, skip-grows, skip-within}
 
 -- where something stands first, it stands there too after more bytes came
@@ -27,8 +14,7 @@ record Grown {A : Type 0} (first later : DueOf A) : Type 0 where
 
 same-grown : {A : Type 0} (d : DueOf A) → Grown d d
 same-grown (Ok None) = record { is = tt }
-same-grown (Ok (Some x)) = record { is = refl }
-same-grown (Err f) = record { is = refl }
+same-grown d = record { is = refl }
 
 none-grown : {A : Type 0} (d : DueOf A) → Grown (Ok None) d
 none-grown d = record { is = tt }
@@ -39,21 +25,11 @@ cond-grown false x y x' y' p q = q
 
 tetra-grown : {A : Type 0} (due : ℕ → DueOf A) (more ys : List ℕ) → Grown (on_tetra due more) (on_tetra due (more ++ ys))
 tetra-grown due (a ∷ b ∷ c ∷ d ∷ more) ys = same-grown (due (tetra_from_bytes (a ∷ b ∷ c ∷ d ∷ [])))
-tetra-grown due [] ys = none-grown _
-tetra-grown due (a ∷ []) ys = none-grown _
-tetra-grown due (a ∷ b ∷ []) ys = none-grown _
-tetra-grown due (a ∷ b ∷ c ∷ []) ys = none-grown _
+tetra-grown due more ys = none-grown _
 
 octa-grown : {A : Type 0} (due : ℕ → DueOf A) (more ys : List ℕ) → Grown (on_octa due more) (on_octa due (more ++ ys))
 octa-grown due (a ∷ b ∷ c ∷ d ∷ e ∷ f ∷ g ∷ h ∷ more) ys = same-grown (due (octa_from_bytes (a ∷ b ∷ c ∷ d ∷ e ∷ f ∷ g ∷ h ∷ [])))
-octa-grown due [] ys = none-grown _
-octa-grown due (a ∷ []) ys = none-grown _
-octa-grown due (a ∷ b ∷ []) ys = none-grown _
-octa-grown due (a ∷ b ∷ c ∷ []) ys = none-grown _
-octa-grown due (a ∷ b ∷ c ∷ d ∷ []) ys = none-grown _
-octa-grown due (a ∷ b ∷ c ∷ d ∷ e ∷ []) ys = none-grown _
-octa-grown due (a ∷ b ∷ c ∷ d ∷ e ∷ f ∷ []) ys = none-grown _
-octa-grown due (a ∷ b ∷ c ∷ d ∷ e ∷ f ∷ g ∷ []) ys = none-grown _
+octa-grown due more ys = none-grown _
 
 item-grows : (item : ℕ → Item) (d e : DueOf ℕ) → Grows d e → Grown (item_due item d) (item_due item e)
 item-grows item (Ok None) e h = none-grown _
@@ -76,18 +52,9 @@ counted-step false b' x x' h = let p = h refl in rw (p.0, p.1) (same-grown x)
 not-more : (n : ℕ) (more ys : List ℕ) → nat_lt (length more) n ≡ false → nat_lt (length (more ++ ys)) n ≡ false
 not-more n more ys h = grind (arith, nat_tests, common_steps)
 
-same-front : (n : ℕ) (more ys : List ℕ) → nat_lt (length more) n ≡ false → take n (more ++ ys) ≡ take n more
-same-front n more ys h = grind (arith, nat_tests, common_steps)
-
 counted-grown : {A : Type 0} (n : ℕ) (due : List ℕ → DueOf A) (more ys : List ℕ) →
     Grown (cond (nat_lt (length more) n) (Ok None) (due (take n more))) (cond (nat_lt (length (more ++ ys)) n) (Ok None) (due (take n (more ++ ys))))
-counted-grown n due more ys = counted-step _ _ _ _ (λ h. (not-more n more ys h, ap due (same-front n more ys h)))
-
-pre-grown : (z : ℕ) (more ys : List ℕ) → Grown (pre_item z more) (pre_item z (more ++ ys))
-pre-grown z more ys = counted-grown (4 * z) (λ front. Ok (Some (Pre (tetras_of front), 4 + 4 * z))) more ys
-
-post-grown : (g : ℕ) (more ys : List ℕ) → Grown (post_item g more) (post_item g (more ++ ys))
-post-grown g more ys = counted-grown (8 * (256 - g)) (λ front. Ok (Some (Post g (octas_of front), 4 + 8 * (256 - g)))) more ys
+counted-grown n due more ys = counted-step _ _ _ _ (λ h. (not-more n more ys h, ap due (grind (arith, nat_tests, common_steps))))
 
 file-grown : (at number z : ℕ) (more ys : List ℕ) → Grown (file_item at number z more) (file_item at number z (more ++ ys))
 file-grown at number z more ys =
@@ -107,14 +74,11 @@ lop-grown at (Some lops.Fixrx) y z more ys = cond-grown (y == 0 && (z == 16 || z
 lop-grown at (Some lops.File) y z more ys = file-grown at y z more ys
 lop-grown at (Some lops.Line) y z more ys = same-grown (Ok (Some (Line (256 * y + z), 4)))
 lop-grown at (Some lops.Spec) y z more ys = ended-grows (256 * y + z) (skipped false more) (skipped false (more ++ ys)) (skip-grows false more ys)
-lop-grown at (Some lops.Pre) y z more ys = same-grown (Err (BadLop at))
-lop-grown at (Some lops.Post) y z more ys = cond-grown (y == 0 && nat_le 32 z) _ _ _ _ (post-grown z more ys) (same-grown (Err (BadFields at)))
-lop-grown at (Some lops.Stab) y z more ys = same-grown (Err (BadLop at))
-lop-grown at (Some lops.End) y z more ys = same-grown (Err (BadLop at))
-lop-grown at None y z more ys = same-grown (Err (BadLop at))
+lop-grown at (Some lops.Post) y z more ys = cond-grown (y == 0 && nat_le 32 z) _ _ _ _ (counted-grown (8 * (256 - z)) (λ front. Ok (Some (Post z (octas_of front), 4 + 8 * (256 - z)))) more ys) (same-grown (Err (BadFields at)))
+lop-grown at lop y z more ys = same-grown (Err (BadLop at))
 
 due-grown : (phase : Phase) (at a code y z : ℕ) (more ys : List ℕ) → Grown (due_item phase at a code y z more) (due_item phase at a code y z (more ++ ys))
-due-grown Start at a code y z more ys = cond-grown (a == 0x98 && code == 9 && y == 1) _ _ _ _ (pre-grown z more ys) (same-grown (Err (NoPre at)))
+due-grown Start at a code y z more ys = cond-grown (a == 0x98 && code == 9 && y == 1) _ _ _ _ (counted-grown (4 * z) (λ front. Ok (Some (Pre (tetras_of front), 4 + 4 * z))) more ys) (same-grown (Err (NoPre at)))
 due-grown Middle at a code y z more ys =
     cond-grown (a == 0x98) _ _ _ _ (lop-grown at (lop_of code) y z more ys) (same-grown (Ok (Some (Load (tetra_from_bytes (a ∷ code ∷ y ∷ z ∷ [])), 4))))
 due-grown Posted at a code y z more ys =
@@ -123,10 +87,7 @@ due-grown Ended at a code y z more ys = none-grown _
 
 pub first-grows : (phase : Phase) (at : ℕ) (xs ys : List ℕ) → Grows (first_item phase at xs) (first_item phase at (xs ++ ys))
 first-grows phase at (a ∷ code ∷ y ∷ z ∷ more) ys = (due-grown phase at a code y z more ys).is
-first-grows phase at [] ys = tt
-first-grows phase at (a ∷ []) ys = tt
-first-grows phase at (a ∷ code ∷ []) ys = tt
-first-grows phase at (a ∷ code ∷ y ∷ []) ys = tt
+first-grows phase at xs ys = tt
 
 -- an item takes some of the bytes
 record Within {A : Type 0} (due : DueOf A) (n : ℕ) : Type 0 where
@@ -152,21 +113,11 @@ more-within (Err f) m n l h = fault-within f n
 
 tetra-within : {A : Type 0} (due : ℕ → DueOf A) (more : List ℕ) → ((t : ℕ) → Within (due t) 8) → Within (on_tetra due more) (4 + length more)
 tetra-within due (a ∷ b ∷ c ∷ d ∷ more) h = more-within (due (tetra_from_bytes (a ∷ b ∷ c ∷ d ∷ []))) 8 _ (omega arith) (h _)
-tetra-within due [] h = none-within _
-tetra-within due (a ∷ []) h = none-within _
-tetra-within due (a ∷ b ∷ []) h = none-within _
-tetra-within due (a ∷ b ∷ c ∷ []) h = none-within _
+tetra-within due more h = none-within _
 
 octa-within : {A : Type 0} (due : ℕ → DueOf A) (more : List ℕ) → ((x : ℕ) → Within (due x) 12) → Within (on_octa due more) (4 + length more)
 octa-within due (a ∷ b ∷ c ∷ d ∷ e ∷ f ∷ g ∷ h ∷ more) w = more-within (due (octa_from_bytes (a ∷ b ∷ c ∷ d ∷ e ∷ f ∷ g ∷ h ∷ []))) 12 _ (omega arith) (w _)
-octa-within due [] w = none-within _
-octa-within due (a ∷ []) w = none-within _
-octa-within due (a ∷ b ∷ []) w = none-within _
-octa-within due (a ∷ b ∷ c ∷ []) w = none-within _
-octa-within due (a ∷ b ∷ c ∷ d ∷ []) w = none-within _
-octa-within due (a ∷ b ∷ c ∷ d ∷ e ∷ []) w = none-within _
-octa-within due (a ∷ b ∷ c ∷ d ∷ e ∷ f ∷ []) w = none-within _
-octa-within due (a ∷ b ∷ c ∷ d ∷ e ∷ f ∷ g ∷ []) w = none-within _
+octa-within due more w = none-within _
 
 address-within : (at y z : ℕ) (more : List ℕ) → Within (address_due at y z more) (4 + length more)
 address-within at y z more =
@@ -191,12 +142,6 @@ counted-step-within false due n m h w = more-within due n m (h refl) w
 counted-within : {A : Type 0} (n : ℕ) (due : DueOf A) (more : List ℕ) → Within due (4 + n) → Within (cond (nat_lt (length more) n) (Ok None) due) (4 + length more)
 counted-within n due more w = counted-step-within (nat_lt (length more) n) due (4 + n) _ (λ h. let l = not-less (length more) n h in omega (arith, l)) w
 
-pre-within : (z : ℕ) (more : List ℕ) → Within (pre_item z more) (4 + length more)
-pre-within z more = counted-within (4 * z) _ more (some-within _ _ _ (omega arith) (omega arith))
-
-post-within : (g : ℕ) (more : List ℕ) → Within (post_item g more) (4 + length more)
-post-within g more = counted-within (8 * (256 - g)) _ more (some-within _ _ _ (omega arith) (omega arith))
-
 named-within : (at number n : ℕ) (name : List ℕ) → Within (named_file at number (4 + n) name) (4 + n)
 named-within at number n [] = fault-within (BadFields at) _
 named-within at number n (b ∷ name) = some-within _ _ _ (omega arith) (omega arith)
@@ -219,31 +164,22 @@ lop-within at (Some lops.Fixrx) y z more = cond-within (y == 0 && (z == 16 || z 
 lop-within at (Some lops.File) y z more = file-within at y z more
 lop-within at (Some lops.Line) y z more = four-within (Line (256 * y + z)) _
 lop-within at (Some lops.Spec) y z more = spec-within (256 * y + z) (skipped false more) (length more) (skip-within false more)
-lop-within at (Some lops.Pre) y z more = fault-within (BadLop at) _
-lop-within at (Some lops.Post) y z more = cond-within (y == 0 && nat_le 32 z) _ _ _ (post-within z more) (fault-within (BadFields at) _)
-lop-within at (Some lops.Stab) y z more = fault-within (BadLop at) _
-lop-within at (Some lops.End) y z more = fault-within (BadLop at) _
-lop-within at None y z more = fault-within (BadLop at) _
+lop-within at (Some lops.Post) y z more = cond-within (y == 0 && nat_le 32 z) _ _ _ (counted-within (8 * (256 - z)) _ more (some-within _ _ _ (omega arith) (omega arith))) (fault-within (BadFields at) _)
+lop-within at lop y z more = fault-within (BadLop at) _
 
 due-within : (phase : Phase) (at a code y z : ℕ) (more : List ℕ) → Within (due_item phase at a code y z more) (4 + length more)
-due-within Start at a code y z more = cond-within (a == 0x98 && code == 9 && y == 1) _ _ _ (pre-within z more) (fault-within (NoPre at) _)
+due-within Start at a code y z more = cond-within (a == 0x98 && code == 9 && y == 1) _ _ _ (counted-within (4 * z) _ more (some-within _ _ _ (omega arith) (omega arith))) (fault-within (NoPre at) _)
 due-within Middle at a code y z more =
     cond-within (a == 0x98) _ _ _ (lop-within at (lop_of code) y z more) (four-within (Load (tetra_from_bytes (a ∷ code ∷ y ∷ z ∷ []))) _)
 due-within Posted at a code y z more =
     cond-within (a == 0x98 && code == 11) _ _ _ (cond-within (y == 0 && z == 0) _ _ _ (four-within Stab _) (fault-within (BadFields at) _)) (fault-within (BadLop at) _)
 due-within Ended at a code y z more = none-within _
 
-four-more : (a b c d n : ℕ) (more : List ℕ) → n ≡ 4 + length more → n ≡ length (a ∷ b ∷ c ∷ d ∷ more)
-four-more a b c d n more h = omega arith
-
 pub first-within : (phase : Phase) (at : ℕ) (xs : List ℕ) → IsWithin (first_item phase at xs) (length xs)
 first-within phase at (a ∷ code ∷ y ∷ z ∷ more) =
-    let e = four-more a code y z (4 + length more) more refl in
+    let e : (4 + length more) ≡ length (a ∷ code ∷ y ∷ z ∷ more) = omega arith in
     subst (λ (n : ℕ). IsWithin (due_item phase at a code y z more) n) e (due-within phase at a code y z more).is
-first-within phase at [] = tt
-first-within phase at (a ∷ []) = tt
-first-within phase at (a ∷ code ∷ []) = tt
-first-within phase at (a ∷ code ∷ y ∷ []) = tt
+first-within phase at xs = tt
 
 -- what is given where memory does not run out is within what is there
 pub given-within : (given due : Due) (n : ℕ) → (given ≢ Err OutOfMemory → given ≡ due) → IsWithin due n → IsWithin given n

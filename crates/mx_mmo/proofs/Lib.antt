@@ -15,3 +15,4 @@ pub mod Table
 pub mod TetraFaults
 pub mod Walks
 pub mod Written
+pub mod Words

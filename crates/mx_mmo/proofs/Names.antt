@@ -1,9 +1,6 @@
 -- Names, and the zeros behind them.
-use Rattle.std.proofs.Common.{◌≡◌, ◌≢◌, ℕ, zero, suc, ◌+◌, ◌<◌, ◌≤◌, length, List, [], ◌∷◌, ◌++◌, take, get_or, replicate, Bool, true, false, cond, arith, refl, ◌∙◌, ap, subst}
-use Rattle.std.specs.Prelude.{◌==◌}
-use Rattle.mx_mmo.specs.Valid.{AreBytes, IsName}
-use Rattle.mx_mmo.specs.Reading.{onto_trimmed, trimmed}
-use Rattle.mx_word.proofs.Comparisons.{same-number, other-number, other-test}
+use Rattle.std.proofs.Common.{◌≡◌, ◌≢◌, ℕ, zero, suc, ◌+◌, ◌<◌, ◌≤◌, length, List, [], ◌∷◌, ◌++◌, take, get_or, replicate, Bool, true, false, cond, arith, refl, ◌∙◌, ap, subst, ◌==◌}
+use Rattle.mx_mmo.proofs.Words.{AreBytes, IsName, onto_trimmed, trimmed, same-number, other-number, other-test}
 
 -- what is left without the zeros, and how many they were
 record Trimmed (bytes name : List ℕ) : Type 0 where
@@ -79,17 +76,15 @@ name-back name zeros n = with-zeros name zeros ∙ kept name n.least n.last
 
 -- a zero at the end goes, and any other byte stays
 pub last-zero : (n : ℕ) (name : List ℕ) → length name ≡ n + 1 → get_or name n 0 ≡ 0 → trimmed (take n name) ≡ trimmed name
-last-zero n [] l e = absurd (omega arith)
 last-zero zero (b ∷ []) l e = rw e refl
-last-zero zero (b ∷ c ∷ name) l e = absurd (omega arith)
 last-zero (suc n) (b ∷ name) l e = ap (onto_trimmed b) (last-zero n name (omega arith) e)
+last-zero n name l e = absurd (omega arith)
 
 onto-some : (b : ℕ) (name : List ℕ) → 0 < length name → onto_trimmed b name ≡ b ∷ name
 onto-some b [] l = absurd (omega arith)
 onto-some b (c ∷ name) l = refl
 
 pub last-stays : (n : ℕ) (name : List ℕ) → length name ≡ n + 1 → get_or name n 0 ≢ 0 → trimmed name ≡ name
-last-stays n [] l e = absurd (omega arith)
 last-stays zero (b ∷ []) l e = let o : (b == 0) ≡ false = other-test b 0 e in rw o refl
-last-stays zero (b ∷ c ∷ name) l e = absurd (omega arith)
 last-stays (suc n) (b ∷ name) l e = ap (onto_trimmed b) (last-stays n name (omega arith) e) ∙ onto-some b name (omega arith)
+last-stays n name l e = absurd (omega arith)

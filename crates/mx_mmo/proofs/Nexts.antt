@@ -1,12 +1,6 @@
 -- What an answer of a reader says of the items that it still gives.
-use Rattle.std.proofs.Common.{◌≡◌, ℕ, ◌+◌, ◌<◌, ◌≤◌, length, List, [], ◌∷◌, ◌++◌, drop, arith, refl, sym, ◌∙◌, ap, subst, Ok, Err, Some, None, length-drop, append_assoc}
-use Rattle.std.specs.Prelude.{Result, Option}
-use Rattle.mx_mmo.specs.Reading.{Due, IsWithin, first_item}
-use Rattle.mx_mmo.specs.Replies.{ReaderModel, phase_after, next_item, next_due, next_answer, given, tail_of, finished, finish_next, finish_answer}
-use Rattle.mx_mmo.specs.Whole.{Walk, behind, items_of, onto, with_rest, left_of, fed}
-use Rattle.mx_mmo.specs.declared.items.Item.{Item}
-use Rattle.mx_mmo.specs.declared.items.Tail.{Tail}
-use Rattle.mx_mmo.specs.declared.faults.MmoFault.{MmoFault}
+use Rattle.std.proofs.Common.{◌≡◌, ℕ, ◌+◌, ◌<◌, ◌≤◌, length, List, [], ◌∷◌, ◌++◌, drop, arith, refl, sym, ◌∙◌, ap, subst, Ok, Err, Some, None, length-drop, append_assoc, Result, Option}
+use Rattle.mx_mmo.proofs.Words.{Due, IsWithin, first_item, ReaderModel, phase_after, next_item, next_due, next_answer, given, tail_of, finished, finish_next, finish_answer, Walk, behind, items_of, onto, with_rest, left_of, fed, Item, Tail, MmoFault}
 use Rattle.mx_mmo.proofs.Firsts.{first-within}
 use Rattle.mx_mmo.proofs.Walks.{items-more, items-none, items-fault}
 
@@ -23,13 +17,10 @@ pub record Gave (items : List Item) (m n : ReaderModel) (item : Item) : Type 0 w
   pub less : length n.rest < length m.rest
   pub end : fed n ≡ fed m
 
-regroup : (items : List Item) (item : Item) (w : Walk) → onto (items ++ item ∷ []) w ≡ onto items (behind item w)
-regroup items item w = rw append_assoc refl
-
 gave : (items : List Item) (m : ReaderModel) (item : Item) (size : ℕ) → m.fault ≡ None → first_item m.phase m.at m.rest ≡ Ok (Some (item, size)) →
     0 < size → size ≤ length m.rest → Gave items m (given m item size) item
 gave items m item size well e p q = record {
-  same = regroup items item (items_of (phase_after item m.phase) (m.at + size) (drop size m.rest)) ∙ ap (onto items) (sym (items-more m.phase m.at m.rest item size e));
+  same = (rw append_assoc refl) ∙ ap (onto items) (sym (items-more m.phase m.at m.rest item size e));
   well = well;
   less = omega (arith, length-drop size m.rest);
   end = omega (arith, length-drop size m.rest);
@@ -37,13 +28,12 @@ gave items m item size well e p q = record {
 
 gave-step : (items : List Item) (m n : ReaderModel) (item : Item) (d : Due) → m.fault ≡ None → first_item m.phase m.at m.rest ≡ d → IsWithin d (length m.rest) →
     (Ok (Some item), n) ≡ next_item m d → Gave items m n item
-gave-step items m n item (Ok None) well e w h = let r = result-is _ _ h in absurd (cc)
-gave-step items m n item (Err fault) well e w h = let r = result-is _ _ h in absurd (cc)
 gave-step items m n item (Ok (Some (other, size))) well e w h =
     let is : n ≡ given m other size = reader-is _ _ h in
     let r : ◌≡◌ {A = Result (Option Item) MmoFault} (Ok (Some item)) (Ok (Some other)) = result-is _ _ h in
     let it : other ≡ item = cc in
     subst (λ (o : ReaderModel). Gave items m o item) (sym is) (subst (λ (i : Item). Gave items m (given m other size) i) it (gave items m other size well e w.0 w.1))
+gave-step items m n item d well e w h = let r = result-is _ _ h in absurd (cc)
 
 next-is : (m : ReaderModel) → m.fault ≡ None → next_answer m ≡ next_item m (first_item m.phase m.at m.rest)
 next-is m well = ap (λ f. next_due f m) well
@@ -54,8 +44,7 @@ next-gave items m n item well h =
 
 none-step : (m n : ReaderModel) (d : Due) → first_item m.phase m.at m.rest ≡ d → (Ok None, n) ≡ next_item m d → (n ≡ m) × (items_of m.phase m.at m.rest ≡ ([], Ok (left_of m)))
 none-step m n (Ok None) e h = (reader-is _ _ h, items-none m.phase m.at m.rest e)
-none-step m n (Err fault) e h = let r = result-is _ _ h in absurd (cc)
-none-step m n (Ok (Some (other, size))) e h = let r = result-is _ _ h in absurd (cc)
+none-step m n d e h = let r = result-is _ _ h in absurd (cc)
 
 pub next-none : (m n : ReaderModel) → m.fault ≡ None → (Ok None, n) ≡ next_answer m → (n ≡ m) × (items_of m.phase m.at m.rest ≡ ([], Ok (left_of m)))
 next-none m n well h = none-step m n (first_item m.phase m.at m.rest) refl (h ∙ next-is m well)

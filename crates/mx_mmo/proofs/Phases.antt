@@ -1,12 +1,6 @@
 -- The items of an object come in turn.
 use Rattle.std.proofs.Common.{◌≡◌, ℕ, List, [], ◌∷◌, ◌++◌, refl, sym, ap, subst}
-use Rattle.std.specs.List.{AllByRecursion}
-use Rattle.mx_mmo.specs.Valid.{IsMiddle, IsPlaced}
-use Rattle.mx_mmo.specs.Turns.{MayCome, ComeInTurn, phase_end}
-use Rattle.mx_mmo.specs.declared.items.Item.{Item}
-use Rattle.mx_mmo.specs.declared.items.Item.TheVariants.{Load, Loc, Skip, FixOcta, FixNear, FixFar, File, Line, Spec, Pre, Post, Stab}
-use Rattle.mx_mmo.specs.declared.due.Phase.{Phase}
-use Rattle.mx_mmo.specs.declared.due.Phase.TheVariants.{Start, Middle, Posted, Ended}
+use Rattle.mx_mmo.proofs.Words.{AllByRecursion, IsMiddle, IsPlaced, MayCome, ComeInTurn, phase_end, Item, Load, Loc, Skip, FixOcta, FixNear, FixFar, File, Line, Spec, Pre, Post, Stab, Phase, Start, Middle, Posted, Ended}
 
 pub record Reaches (phase : Phase) (items : List Item) : Type 0 where
   pub turn : ComeInTurn phase items
@@ -14,18 +8,10 @@ pub record Reaches (phase : Phase) (items : List Item) : Type 0 where
 
 -- the items of an object come in turn
 cons-reaches : (item : Item) (items : List Item) → IsMiddle item → Reaches Middle items → Reaches Middle (item ∷ items)
-cons-reaches (Load t) items m r = record { turn = (tt, r.turn); end = r.end }
-cons-reaches (Loc a) items m r = record { turn = (tt, r.turn); end = r.end }
-cons-reaches (Skip n) items m r = record { turn = (tt, r.turn); end = r.end }
-cons-reaches (FixOcta a) items m r = record { turn = (tt, r.turn); end = r.end }
-cons-reaches (FixNear n) items m r = record { turn = (tt, r.turn); end = r.end }
-cons-reaches (FixFar bits t) items m r = record { turn = (tt, r.turn); end = r.end }
-cons-reaches (File number name) items m r = record { turn = (tt, r.turn); end = r.end }
-cons-reaches (Line n) items m r = record { turn = (tt, r.turn); end = r.end }
-cons-reaches (Spec n) items m r = record { turn = (tt, r.turn); end = r.end }
 cons-reaches (Pre tetras) items m r = absurd m
 cons-reaches (Post g values) items m r = absurd m
 cons-reaches Stab items m r = absurd m
+cons-reaches item items m r = record { turn = (tt, r.turn); end = r.end }
 
 middle-reaches : (middle : List Item) (g : ℕ) (values : List ℕ) → AllByRecursion IsMiddle middle → Reaches Middle (middle ++ Post g values ∷ Stab ∷ [])
 middle-reaches [] g values m = record { turn = (tt, (tt, tt)); end = refl }
@@ -46,17 +32,7 @@ record Shaped (items : List Item) : Type 0 where
 
 none-ended : (item : Item) → MayCome Ended item → ⊥
 none-ended (Load t) m = m
-none-ended (Loc a) m = m
-none-ended (Skip n) m = m
-none-ended (FixOcta a) m = m
-none-ended (FixNear n) m = m
-none-ended (FixFar bits t) m = m
-none-ended (File number name) m = m
-none-ended (Line n) m = m
-none-ended (Spec n) m = m
-none-ended (Pre tetras) m = m
-none-ended (Post g values) m = m
-none-ended Stab m = m
+none-ended item m = m
 
 stab-alone : (items : List Item) → Reaches Posted items → items ≡ Stab ∷ []
 stab-alone [] r = absurd (cc (r.end))
@@ -81,8 +57,7 @@ shaped (Line n ∷ items) r = cons-shaped (Line n) items tt (shaped items (recor
 shaped (Spec n ∷ items) r = cons-shaped (Spec n) items tt (shaped items (record { turn = r.turn.1; end = r.end }))
 shaped (Post g values ∷ items) r =
     record { middle = []; g = g; values = values; whole = ap (λ is. Post g values ∷ is) (stab-alone items (record { turn = r.turn.1; end = r.end })); between = tt }
-shaped (Pre tetras ∷ items) r = absurd r.turn.0
-shaped (Stab ∷ items) r = absurd r.turn.0
+shaped items r = absurd r.turn.0
 
 pub placed-items : (items : List Item) → Reaches Start items → IsPlaced items
 placed-items [] r = absurd (cc (r.end))

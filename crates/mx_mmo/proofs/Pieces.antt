@@ -1,18 +1,6 @@
 -- Reading goes on over more pieces.
-use Rattle.std.proofs.Common.{◌≡◌, ℕ, zero, suc, ◌+◌, ◌<◌, ◌≤◌, length, List, [], ◌∷◌, ◌++◌, take, drop, get_or, arith, refl, sym, ◌∙◌, ap, Ok, Err, length-append, append_assoc, append-nil, Bool, true, false, cond, add-one, add-zero}
-use Rattle.std.specs.Prelude.{Result, nat_lt}
-use Rattle.mx_mmo.specs.declared.items.Object.{Object}
-use Rattle.mx_mmo.specs.declared.faults.MmoFault.TheVariants.{TooLong}
-use Rattle.std.specs.List.{concat}
-use Rattle.std.proofs.lemmas.Grind.{common_steps}
-use Rattle.std.proofs.lemmas.Bool.Decides.{nat_tests}
-use Rattle.mx_word.proofs.Ranges.{bytes-append}
-use Rattle.mx_mmo.specs.Valid.{AreBytes}
-use Rattle.mx_mmo.specs.Replies.{ReaderModel, limit, fresh, tail_of}
-use Rattle.mx_mmo.specs.Whole.{Walk, passed_limit, pieces_within, with_rest, fed, items_of, left_of, object_of, object_behind, with_tail, with_more, extended}
-use Rattle.mx_mmo.specs.declared.items.Item.{Item}
-use Rattle.mx_mmo.specs.declared.faults.MmoFault.{MmoFault}
-use Rattle.mx_mmo.specs.declared.due.Phase.TheVariants.{Start}
+use Rattle.std.proofs.Common.{◌≡◌, ℕ, zero, suc, ◌+◌, ◌<◌, ◌≤◌, length, List, [], ◌∷◌, ◌++◌, take, drop, get_or, arith, refl, sym, ◌∙◌, ap, Ok, Err, length-append, append_assoc, append-nil, Bool, true, false, cond, add-one, add-zero, Result, nat_lt}
+use Rattle.mx_mmo.proofs.Words.{Object, TooLong, bytes-append, AreBytes, ReaderModel, limit, fresh, tail_of, Walk, passed_limit, pieces_within, with_rest, fed, items_of, left_of, object_of, object_behind, with_tail, with_more, extended, Item, MmoFault, Start, concat, common_steps, nat_tests, cond-false}
 use Rattle.mx_mmo.proofs.Walks.{items-none, extends}
 
 -- one piece more, and all pieces from those so far
@@ -24,9 +12,8 @@ concat-more (p ∷ ps) (suc i) d h =
 
 pub concat-rest : (pieces : List (List ℕ)) (i : ℕ) → concat pieces ≡ concat (take i pieces) ++ concat (drop i pieces)
 concat-rest [] zero = refl
-concat-rest [] (suc i) = refl
-concat-rest (p ∷ ps) zero = refl
 concat-rest (p ∷ ps) (suc i) = ap (λ l. p ++ l) (concat-rest ps i) ∙ sym (append_assoc p (concat (take i ps)) (concat (drop i ps)))
+concat-rest pieces i = refl
 
 pub nothing-yet : items_of Start 0 [] ≡ ([], Ok (left_of fresh))
 nothing-yet = items-none Start 0 [] refl
@@ -54,13 +41,6 @@ pub length-of-piece : (pieces : List (List ℕ)) (i : ℕ) (piece d : List ℕ) 
 length-of-piece pieces i piece d l is =
     ap (λ (b : List ℕ). length b) (concat-more pieces i d l ∙ ap (λ p. concat (take i pieces) ++ p) (sym is)) ∙ length-append (concat (take i pieces)) piece
 
--- the pieces so far are within the limit, and so is the next one or not
-cond-false : {A : Type 0} (b : Bool) (x y : A) → b ≡ false → cond b x y ≡ y
-cond-false b x y e = rw e refl
-
-cond-true : {A : Type 0} (b : Bool) (x y : A) → b ≡ true → cond b x y ≡ x
-cond-true b x y e = rw e refl
-
 within-from : (n i : ℕ) (pieces : List (List ℕ)) → n + length (concat (take i pieces)) ≤ limit →
     pieces_within n pieces ≡ concat (take i pieces) ++ pieces_within (n + length (concat (take i pieces))) (drop i pieces)
 within-from n zero pieces l = ap (λ (k : ℕ). pieces_within k pieces) (sym (add-zero n))
@@ -76,12 +56,11 @@ within-from n (suc i) (p ∷ ps) l =
     ∙ ap (λ (k : ℕ). (p ++ front) ++ pieces_within k (drop i ps)) there
 
 within-passed : (n i : ℕ) (pieces : List (List ℕ)) (d : List ℕ) → i < length pieces → limit < n + length (get_or pieces i d) → pieces_within n (drop i pieces) ≡ []
-within-passed n zero [] d l h = absurd (omega arith)
-within-passed n (suc i) [] d l h = absurd (omega arith)
 within-passed n zero (p ∷ ps) d l h =
     let many : nat_lt limit (n + length p) ≡ true = grind (arith, nat_tests) in
-    cond-true (nat_lt limit (n + length p)) [] (p ++ pieces_within (n + length p) ps) many
+    rw many refl
 within-passed n (suc i) (p ∷ ps) d l h = within-passed n i ps d (omega arith) h
+within-passed n i [] d l h = absurd (omega arith)
 
 -- the fault of an item in the pieces so far, whatever follows
 item-fault : (bytes : List ℕ) (fault : MmoFault) → (items_of Start 0 bytes).1 ≡ Err fault → length bytes ≤ limit → object_of bytes ≡ Err fault

@@ -1,15 +1,7 @@
 -- The tetras that a spec skips, read and spelled.
-use Rattle.std.proofs.Common.{◌≡◌, ℕ, zero, suc, ◌+◌, ◌-◌, ◌/◌, ◌^◌, ◌<◌, ◌≤◌, length, List, [], ◌∷◌, ◌++◌, take, drop, get_or, Bool, true, false, cond, arith, refl, sym, ◌∙◌, ap, subst, Some, None, length-take, length-drop, add-zero, zero-add}
-use Rattle.std.specs.Prelude.{Option, ◌==◌, ◌&&◌}
-use Rattle.std.proofs.lemmas.List.{take-append-drop, take_all, drop-drop}
-use Rattle.mx_word.specs.Words.{tetra_to_bytes, tetra_from_bytes}
-use Rattle.mx_mmo.specs.Valid.{AreBytes}
-use Rattle.mx_mmo.specs.Object.{EndsSpec, IsNoLop, IsSkipped}
-use Rattle.mx_mmo.specs.Skipping.{quote_behind, four_more, skip_on, skipped, quoted_on, quoted_behind}
-use Rattle.mx_word.proofs.Tetras.{four-bytes, four-fit, top-byte}
+use Rattle.std.proofs.Common.{◌≡◌, ℕ, zero, suc, ◌+◌, ◌-◌, ◌/◌, ◌^◌, ◌<◌, ◌≤◌, length, List, [], ◌∷◌, ◌++◌, take, drop, get_or, Bool, true, false, cond, arith, refl, sym, ◌∙◌, ap, subst, Some, None, length-take, length-drop, add-zero, zero-add, Option, ◌==◌, ◌&&◌}
+use Rattle.mx_mmo.proofs.Words.{take-append-drop, take_all, drop-drop, tetra_to_bytes, tetra_from_bytes, AreBytes, EndsSpec, IsNoLop, IsSkipped, quote_behind, four_more, skip_on, skipped, quoted_on, quoted_behind, four-bytes, four-fit, top-byte, take-four, drop-four, all-tests, other-number, same-number}
 use Rattle.mx_mmo.proofs.Codes.{no-lop-first}
-use Rattle.mx_word.proofs.Ranges.{take-four, drop-four}
-use Rattle.mx_word.proofs.Comparisons.{all-tests, other-number, same-number}
 
 -- what is skipped stays so, whatever follows
 abbrev pub SkipGrows : Option ℕ → Option ℕ → Type 0
@@ -27,10 +19,7 @@ on-grows (Some q) f g h = four-grows (f q) (g q) (h q)
 pub skip-grows : (quoted : Bool) (xs ys : List ℕ) → SkipGrows (skipped quoted xs) (skipped quoted (xs ++ ys))
 skip-grows quoted (a ∷ code ∷ y ∷ z ∷ more) ys =
     on-grows (quote_behind quoted a code y z) (λ q. skipped q more) (λ q. skipped q (more ++ ys)) (λ q. skip-grows q more ys)
-skip-grows quoted [] ys = tt
-skip-grows quoted (a ∷ []) ys = tt
-skip-grows quoted (a ∷ b ∷ []) ys = tt
-skip-grows quoted (a ∷ b ∷ c ∷ []) ys = tt
+skip-grows quoted xs ys = tt
 
 -- no more is skipped than there is
 abbrev pub SkipWithin : Option ℕ → ℕ → Type 0
@@ -48,10 +37,7 @@ on-within (Some q) f n m e h = four-within (f q) n m e (h q)
 pub skip-within : (quoted : Bool) (xs : List ℕ) → SkipWithin (skipped quoted xs) (length xs)
 skip-within quoted (a ∷ code ∷ y ∷ z ∷ more) =
     on-within (quote_behind quoted a code y z) (λ q. skipped q more) (length more) (length (a ∷ code ∷ y ∷ z ∷ more)) (omega arith) (λ q. skip-within q more)
-skip-within quoted [] = tt
-skip-within quoted (a ∷ []) = tt
-skip-within quoted (a ∷ b ∷ []) = tt
-skip-within quoted (a ∷ b ∷ c ∷ []) = tt
+skip-within quoted xs = tt
 
 -- what is skipped, behind a quote and elsewhere
 record Behind (front : List ℕ) : Type 0 where
@@ -138,10 +124,7 @@ on-tell quoted a b c d more (Some q) k l m n t h = four-tell quoted q a b c d mo
 skip-tells : (quoted : Bool) (bytes : List ℕ) → AreBytes bytes → SkipTells quoted bytes (skipped quoted bytes)
 skip-tells quoted (a ∷ b ∷ c ∷ d ∷ more) h =
     on-tell quoted a b c d more (quote_behind quoted a b c d) h.0 h.1.0 h.1.1.0 h.1.1.1.0 (told quoted a b c d).is (λ q. skip-tells q more h.1.1.1.1)
-skip-tells quoted [] h = tt
-skip-tells quoted (a ∷ []) h = tt
-skip-tells quoted (a ∷ b ∷ []) h = tt
-skip-tells quoted (a ∷ b ∷ c ∷ []) h = tt
+skip-tells quoted bytes h = tt
 
 pub record Ended (bytes : List ℕ) (size : ℕ) : Type 0 where
   pub front : IsSkipped (take size bytes)
@@ -164,18 +147,12 @@ ends-skipped : (rest : List ℕ) → EndsSpec rest → skipped false rest ≡ So
 ends-skipped (a ∷ code ∷ y ∷ z ∷ more) e =
     let f : (code == 0 && y == 0 && z == 1) ≡ false = not-quote (code == 0 && y == 0 && z == 1) code y z refl e.1 in
     rw (e.0, f) refl
-ends-skipped [] e = absurd e
-ends-skipped (a ∷ []) e = absurd e
-ends-skipped (a ∷ b ∷ []) e = absurd e
-ends-skipped (a ∷ b ∷ c ∷ []) e = absurd e
-
-other-skipped : (t : ℕ) (more : List ℕ) → IsNoLop t → skipped false (tetra_to_bytes t ++ more) ≡ four_more (skipped false more)
-other-skipped t more p = rw (no-lop-first t p) refl
+ends-skipped rest e = absurd e
 
 pub skipped-all : {front : List ℕ} (rest : List ℕ) → IsSkipped front → EndsSpec rest → skipped false (front ++ rest) ≡ Some (length front)
 skipped-all rest IsSkipped.none e = ends-skipped rest e
 skipped-all rest (IsSkipped.other t more p others) e =
-    other-skipped t (more ++ rest) p ∙ ap four_more (skipped-all rest others e) ∙ ap Some (omega arith)
+    (rw (no-lop-first t p) refl) ∙ ap four_more (skipped-all rest others e) ∙ ap Some (omega arith)
 skipped-all rest (IsSkipped.quoted t more p others) e =
     ap (λ (o : Option ℕ). four_more (four_more o)) (skipped-all rest others e) ∙ ap Some (omega arith)
 
@@ -202,9 +179,7 @@ skipped-on quoted q [] rest e = let is : quoted ≡ q = cc in rw is (sym (plus-n
 skipped-on quoted q (a ∷ code ∷ y ∷ z ∷ more) rest e =
     on-looked (λ p. quoted_behind p more) (λ p. skipped p (more ++ rest)) (λ p. skipped p rest) (quote_behind quoted a code y z) q (length more) (length (a ∷ code ∷ y ∷ z ∷ more)) (omega arith) e
     (λ p i. skipped-on p q more rest i)
-skipped-on quoted q (a ∷ []) rest e = absurd (cc)
-skipped-on quoted q (a ∷ b ∷ []) rest e = absurd (cc)
-skipped-on quoted q (a ∷ b ∷ c ∷ []) rest e = absurd (cc)
+skipped-on quoted q front rest e = absurd (cc)
 
 step-more : (f g : Bool → Option Bool) (o : Option Bool) (q r : Bool) → quoted_on f o ≡ Some q → ((p : Bool) → f p ≡ Some q → g p ≡ Some r) → quoted_on g o ≡ Some r
 step-more f g None q r e h = absurd (cc)
@@ -215,17 +190,12 @@ behind-more : (quoted q r : Bool) (front : List ℕ) (a b c d : ℕ) → quoted_
 behind-more quoted q r [] a b c d e h = let is : quoted ≡ q = cc in rw (is, h) refl
 behind-more quoted q r (k ∷ l ∷ m ∷ n ∷ more) a b c d e h =
     step-more (λ p. quoted_behind p more) (λ p. quoted_behind p (more ++ a ∷ b ∷ c ∷ d ∷ [])) (quote_behind quoted k l m n) q r e (λ p i. behind-more p q r more a b c d i h)
-behind-more quoted q r (k ∷ []) a b c d e h = absurd (cc)
-behind-more quoted q r (k ∷ l ∷ []) a b c d e h = absurd (cc)
-behind-more quoted q r (k ∷ l ∷ m ∷ []) a b c d e h = absurd (cc)
+behind-more quoted q r front a b c d e h = absurd (cc)
 
 -- the tetra that stands first in what is left
 pub four-first : (r : List ℕ) → 4 ≤ length r → r ≡ get_or r 0 0 ∷ get_or r 1 0 ∷ get_or r 2 0 ∷ get_or r 3 0 ∷ drop 4 r
 four-first (a ∷ b ∷ c ∷ d ∷ more) l = refl
-four-first [] l = absurd (omega arith)
-four-first (a ∷ []) l = absurd (omega arith)
-four-first (a ∷ b ∷ []) l = absurd (omega arith)
-four-first (a ∷ b ∷ c ∷ []) l = absurd (omega arith)
+four-first r l = absurd (omega arith)
 
 front-grows : (n : ℕ) (more : List ℕ) (a b c d : ℕ) (others : List ℕ) → drop n more ≡ a ∷ b ∷ c ∷ d ∷ others → take (n + 4) more ≡ take n more ++ a ∷ b ∷ c ∷ d ∷ []
 front-grows zero more a b c d others e = rw e refl
@@ -253,11 +223,8 @@ pub looked-end : (n : ℕ) (more : List ℕ) (q : Bool) (a b c d : ℕ) (others 
 looked-end n more q a b c d others l e h i = looked-on n more q l h ∙ ap (λ r. plus n (skipped q r)) e ∙ rw i (ap Some (add-zero n))
 
 few-none : (q : Bool) (r : List ℕ) → length r < 4 → skipped q r ≡ None
-few-none q [] l = refl
-few-none q (a ∷ []) l = refl
-few-none q (a ∷ b ∷ []) l = refl
-few-none q (a ∷ b ∷ c ∷ []) l = refl
 few-none q (a ∷ b ∷ c ∷ d ∷ r) l = absurd (omega arith)
+few-none q r l = refl
 
 pub looked-none : (n : ℕ) (more : List ℕ) (q : Bool) → n ≤ length more → quoted_behind false (take n more) ≡ Some q → length (drop n more) < 4 → skipped false more ≡ None
 looked-none n more q l h few = looked-on n more q l h ∙ ap (λ o. plus n o) (few-none q (drop n more) few)

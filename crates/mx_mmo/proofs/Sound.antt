@@ -1,24 +1,6 @@
 -- What is read is in the grammar.
-use Rattle.std.proofs.Common.{◌≡◌, ℕ, zero, suc, ◌+◌, ◌-◌, ◌*◌, ◌/◌, ◌%◌, ◌^◌, ◌<◌, ◌≤◌, length, List, [], ◌∷◌, ◌++◌, take, drop, arith, refl, sym, ◌∙◌, ap, subst, Ok, Err, Some, None, Bool, true, false, cond, length-append, append_assoc, add-zero, zero-add, length-take, length-drop}
-use Rattle.std.specs.Prelude.{Result, Option, nat_lt, ◌==◌, ◌&&◌}
-use Rattle.std.specs.List.{AllByRecursion}
-use Rattle.std.proofs.lemmas.List.{take-append-drop}
-use Rattle.mx_mmo.specs.Tetras.{wide_lop}
-use Rattle.mx_mmo.specs.Valid.{AreBytes, Fits}
-use Rattle.mx_mmo.specs.Object.{Spelled}
-use Rattle.mx_mmo.specs.Reading.{Due, IsWithin, first_item}
-use Rattle.mx_mmo.specs.Replies.{limit, phase_after, tail_of, tail_behind, counted_tail, end_count}
-use Rattle.mx_mmo.specs.Turns.{StandFirst, phase_end}
-use Rattle.mx_mmo.specs.Whole.{Left, StandAt, Walk, behind, walk_on, walk, items_of, SpellsObject, object_of, object_behind, with_tail}
-use Rattle.mx_mmo.specs.declared.items.Item.{Item}
-use Rattle.mx_mmo.specs.declared.items.Tail.{Tail}
-use Rattle.mx_mmo.specs.declared.items.Object.{Object}
-use Rattle.mx_mmo.specs.declared.faults.MmoFault.{MmoFault}
-use Rattle.mx_mmo.specs.declared.faults.MmoFault.TheVariants.{TooLong, NotTetras, BadFields}
-use Rattle.mx_mmo.specs.declared.due.Phase.{Phase}
-use Rattle.mx_mmo.specs.declared.due.Phase.TheVariants.{Start, Ended}
-use Rattle.mx_word.proofs.Ranges.{bytes-behind}
-use Rattle.mx_word.proofs.Comparisons.{same-number, both-tests}
+use Rattle.std.proofs.Common.{◌≡◌, ℕ, zero, suc, ◌+◌, ◌-◌, ◌*◌, ◌/◌, ◌%◌, ◌^◌, ◌<◌, ◌≤◌, length, List, [], ◌∷◌, ◌++◌, take, drop, arith, refl, sym, ◌∙◌, ap, subst, Ok, Err, Some, None, Bool, true, false, cond, length-append, append_assoc, add-zero, zero-add, length-take, length-drop, Result, Option, nat_lt, ◌==◌, ◌&&◌}
+use Rattle.mx_mmo.proofs.Words.{AllByRecursion, take-append-drop, wide_lop, AreBytes, Fits, Spelled, Due, IsWithin, first_item, limit, phase_after, tail_of, tail_behind, counted_tail, end_count, StandFirst, phase_end, Left, StandAt, Walk, behind, walk_on, walk, items_of, SpellsObject, object_of, object_behind, with_tail, Item, Tail, Object, MmoFault, TooLong, NotTetras, BadFields, Phase, Start, Ended, bytes-behind, same-number, both-tests}
 use Rattle.mx_mmo.proofs.Ends.{last-cons, specs-cons}
 use Rattle.mx_mmo.proofs.Firsts.{first-within}
 use Rattle.mx_mmo.proofs.Phases.{Reaches, placed-items}
@@ -85,7 +67,7 @@ none-first phase bytes = record { whole = refl; spelled = Spelled.none; turn = t
 nothing-stands : (phase : Phase) (at : ℕ) (bytes : List ℕ) → Stood phase at bytes [] (record { phase = phase; at = at; rest = bytes })
 nothing-stands phase at bytes = record { front = []; first = none-first phase bytes; fits = tt; end = refl; place = sym (add-zero at) }
 
-stand-step : (others : Phase → ℕ → List ℕ → Walk) (phase : Phase) (at : ℕ) (bytes : List ℕ) (d : Due) → first_item phase at bytes ≡ d → AreBytes bytes → Tells phase bytes d →
+stand-step : (others : Phase → ℕ → List ℕ → Walk) (phase : Phase) (at : ℕ) (bytes : List ℕ) (d : Due) → first_item phase at bytes ≡ d → AreBytes bytes → Tells phase at bytes d →
     IsWithin d (length bytes) → ((p : Phase) (a size : ℕ) → Stands p a (drop size bytes) (others p a (drop size bytes))) → Stands phase at bytes (walk_on others phase at bytes d)
 stand-step others phase at bytes (Ok None) e b t w h = nothing-stands phase at bytes
 stand-step others phase at bytes (Err fault) e b t w h =
@@ -143,14 +125,7 @@ counts (a ∷ code ∷ y ∷ z ∷ []) count b e =
     let t = end-tetra (a == 0x98 && code == 12) count (256 * y + z) e in
     let u = both-tests a 0x98 code 12 t.0 in
     record { is = rw (u.0, u.1, t.1) (sym (wide-back 12 y z b.1.1.1.0)); most = omega (arith, t.1, b.1.1.0, b.1.1.1.0) }
-counts [] count b e = absurd (cc)
-counts (a ∷ []) count b e = absurd (cc)
-counts (a ∷ c ∷ []) count b e = absurd (cc)
-counts (a ∷ c ∷ y ∷ []) count b e = absurd (cc)
-counts (a ∷ c ∷ y ∷ z ∷ x ∷ more) count b e = absurd (cc)
-
-split-tail : (n : ℕ) (rest last : List ℕ) → drop n rest ≡ last → rest ≡ take n rest ++ last
-split-tail n rest last e = sym (take-append-drop n rest) ∙ ap (λ x. take n rest ++ x) e
+counts last count b e = absurd (cc)
 
 trie-tail : (at count : ℕ) (rest : List ℕ) → AreBytes rest → length rest % 4 ≡ 0 → Some count ≡ end_count (drop (length rest - 4) rest) → count ≡ length rest / 4 - 1 →
     Ends Ended at rest (record { trie = take (length rest - 4) rest; place = at })
@@ -163,7 +138,7 @@ trie-tail at count rest b m e c =
       place = refl;
       counted = omega (arith, length-take (length rest - 4) rest, length-drop (length rest - 4) rest);
       most = k.most;
-      whole = split-tail (length rest - 4) rest (wide_lop 12 count) k.is;
+      whole = sym (take-append-drop (length rest - 4) rest) ∙ ap (λ x. take (length rest - 4) rest ++ x) k.is;
     }
 
 counted-tells : (at : ℕ) (rest : List ℕ) (o : Option ℕ) → AreBytes rest → length rest % 4 ≡ 0 → o ≡ end_count (drop (length rest - 4) rest) → TailTold Ended at rest (counted_tail at rest o)

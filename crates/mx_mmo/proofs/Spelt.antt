@@ -1,28 +1,9 @@
 -- What is spelled so is read so.
-use Rattle.std.proofs.Common.{◌≡◌, ℕ, ◌+◌, ◌-◌, ◌*◌, ◌/◌, ◌%◌, ◌^◌, ◌<◌, length, List, [], ◌∷◌, ◌++◌, take, arith, refl, ◌∙◌, ap, Ok, Some, true, false, inl, inr, length-append, replicate}
-use Rattle.std.specs.Prelude.{nat_lt, nat_le, ◌==◌}
-use Rattle.std.specs.List.{flat_map}
-use Rattle.std.proofs.lemmas.Grind.{common_steps}
-use Rattle.std.proofs.lemmas.List.{take_at}
-use Rattle.std.proofs.lemmas.Bool.Decides.{nat_tests}
-use Rattle.mx_word.specs.Words.{tetra_to_bytes, octa_to_bytes, tetra_from_bytes}
-use Rattle.mx_mmo.specs.Tetras.{wide_lop}
-use Rattle.mx_mmo.specs.Valid.{AreTetras, AreOctas, IsName}
-use Rattle.mx_mmo.specs.Object.{Spells, SpellsAddress}
-use Rattle.mx_mmo.specs.Skipping.{skipped}
-use Rattle.mx_mmo.specs.Reading.{Due, first_item, tetras_of, octas_of, on_tetra, on_octa, quoted_tetra, short_address, long_address, item_due, far_tetra, named_file, file_item, ended_spec, pre_item, post_item}
-use Rattle.mx_mmo.specs.Turns.{MayCome, EndsItem}
-use Rattle.mx_mmo.specs.declared.items.Item.{Item}
-use Rattle.mx_mmo.specs.declared.items.Item.TheVariants.{Load, Loc, Skip, FixOcta, FixNear, FixFar, File, Line, Spec, Pre, Post}
-use Rattle.mx_mmo.specs.declared.due.Phase.{Phase}
-use Rattle.mx_mmo.specs.declared.due.Phase.TheVariants.{Start, Middle, Posted}
-use Rattle.mx_word.proofs.Tetras.{tetra-back, octa-back}
+use Rattle.std.proofs.Common.{◌≡◌, ℕ, ◌+◌, ◌-◌, ◌*◌, ◌/◌, ◌%◌, ◌^◌, ◌<◌, length, List, [], ◌∷◌, ◌++◌, take, arith, refl, ◌∙◌, ap, Ok, Some, true, false, inl, inr, length-append, replicate, nat_lt, nat_le, ◌==◌, flat_map}
+use Rattle.mx_mmo.proofs.Words.{common_steps, take_at, nat_tests, tetra_to_bytes, octa_to_bytes, tetra_from_bytes, wide_lop, AreTetras, AreOctas, IsName, Spells, SpellsAddress, skipped, Due, first_item, tetras_of, octas_of, on_tetra, on_octa, quoted_tetra, short_address, long_address, item_due, far_tetra, named_file, file_item, ended_spec, pre_item, post_item, MayCome, EndsItem, Item, Load, Loc, Skip, FixOcta, FixNear, FixFar, File, Line, Spec, Pre, Post, Phase, Start, Middle, Posted, tetra-back, octa-back}
 use Rattle.mx_mmo.proofs.Codes.{no-lop-first}
 use Rattle.mx_mmo.proofs.Names.{name-back}
 use Rattle.mx_mmo.proofs.Skips.{skipped-all}
-
-tetra-read : {A : Type 0} (due : ℕ → A) (t : ℕ) → t < 2 ^ 32 → due (tetra_from_bytes (tetra_to_bytes t)) ≡ due t
-tetra-read due t h = ap due (tetra-back t h)
 
 short-read : (item : ℕ → Item) (y t : ℕ) (rest : List ℕ) → t < 2 ^ 32 → item_due item (on_tetra (short_address y) (tetra_to_bytes t ++ rest)) ≡ Ok (Some (item (y * 2 ^ 56 + t), 8))
 short-read item y t rest h = ap (λ u. Ok (Some (item (y * 2 ^ 56 + u), 8))) (tetra-back t h)
@@ -96,7 +77,7 @@ spec-read n front o e =
 pub spells-first : {item : Item} {bytes : List ℕ} (phase : Phase) (at : ℕ) (rest : List ℕ) → Spells item bytes → MayCome phase item → EndsItem item rest →
     first_item phase at (bytes ++ rest) ≡ Ok (Some (item, length bytes))
 spells-first Middle at rest (Spells.bare t p) s e = rw (no-lop-first t p) (ap (λ (u : ℕ). Ok (Some (Load u, 4))) (tetra-back t p.0))
-spells-first Middle at rest (Spells.quoted t h) s e = tetra-read quoted_tetra t h
+spells-first Middle at rest (Spells.quoted t h) s e = ap quoted_tetra (tetra-back t h)
 spells-first Middle at rest (Spells.loc a bytes (SpellsAddress.by_tetra code y t h k)) s e = short-read (λ a. Loc a) y t rest k
 spells-first Middle at rest (Spells.loc a bytes (SpellsAddress.by_octa code y x h k)) s e = long-read (λ a. Loc a) y x rest k
 spells-first Middle at rest (Spells.skip n h) s e = wide-read (λ n. Skip n) n

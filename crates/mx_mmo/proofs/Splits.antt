@@ -1,8 +1,6 @@
 -- The tetras and the octas of bytes, one at a time.
 use Rattle.std.proofs.Common.{◌≡◌, ℕ, ◌+◌, ◌-◌, ◌≤◌, length, List, [], ◌∷◌, get_or, take, drop, arith, refl}
-use Rattle.std.proofs.lemmas.Grind.{common_steps}
-use Rattle.mx_word.specs.Words.{tetra_from_bytes, octa_from_bytes}
-use Rattle.mx_mmo.specs.Reading.{tetras_of, octas_of}
+use Rattle.mx_mmo.proofs.Words.{common_steps, tetra_from_bytes, octa_from_bytes, tetras_of, octas_of}
 
 take-rest : (more : List ℕ) (n size : ℕ) → n ≡ length more + size → take (n - size) more ≡ more
 take-rest more n size e = grind (arith, common_steps)

@@ -1,27 +1,12 @@
 -- The first fault of bytes is the one that the table tells.
-use Rattle.std.proofs.Common.{◌≡◌, ◌≢◌, ℕ, ◌+◌, ◌-◌, ◌*◌, ◌/◌, ◌%◌, ◌^◌, ◌<◌, ◌≤◌, length, List, [], ◌++◌, take, drop, arith, refl, sym, ◌∙◌, ap, subst, Ok, Err, Some, None, Bool, true, false, length-append, length-take, zero-add, replicate}
-use Rattle.std.specs.Prelude.{Result, Option, ◌==◌}
-use Rattle.std.proofs.lemmas.List.{take-append-drop, drop_at, length-replicate}
-use Rattle.mx_mmo.specs.Tetras.{wide_lop}
-use Rattle.mx_mmo.specs.Valid.{AreBytes}
-use Rattle.mx_mmo.specs.Object.{IsSkipped, Spells, SpellsAddress, Spelled}
-use Rattle.mx_mmo.specs.Replies.{limit, tail_of, tail_behind, counted_tail, end_count}
-use Rattle.mx_mmo.specs.Turns.{StandFirst, phase_end}
-use Rattle.mx_mmo.specs.FaultTable.{TetraFault, ItemFault, EndsWith, FaultOf}
-use Rattle.mx_mmo.specs.Whole.{Left, Walk, items_of, object_of, object_behind, object_fault, fault_in, onto, with_tail}
-use Rattle.mx_mmo.specs.declared.items.Item.{Item}
-use Rattle.mx_mmo.specs.declared.items.Object.{Object}
-use Rattle.mx_mmo.specs.declared.faults.MmoFault.{MmoFault}
-use Rattle.mx_mmo.specs.declared.faults.MmoFault.TheVariants.{NotTetras, BadFields, Truncated}
-use Rattle.mx_mmo.specs.declared.due.Phase.{Phase}
-use Rattle.mx_mmo.specs.declared.due.Phase.TheVariants.{Start, Middle, Posted, Ended}
-use Rattle.mx_word.proofs.Ranges.{bytes-behind}
-use Rattle.mx_word.proofs.Comparisons.{other-test, same-number, other-number}
+use Rattle.std.proofs.Common.{◌≡◌, ◌≢◌, ℕ, ◌+◌, ◌-◌, ◌*◌, ◌/◌, ◌%◌, ◌^◌, ◌<◌, ◌≤◌, length, List, [], ◌++◌, take, drop, arith, refl, sym, ◌∙◌, ap, subst, Ok, Err, Some, None, Bool, true, false, length-append, length-take, zero-add, replicate, Result, Option, ◌==◌}
+use Rattle.mx_mmo.proofs.Words.{take-append-drop, drop_at, length-replicate, wide_lop, AreBytes, IsSkipped, Spells, SpellsAddress, Spelled, limit, tail_of, tail_behind, counted_tail, end_count, StandFirst, phase_end, TetraFault, ItemFault, EndsWith, FaultOf, Left, Walk, items_of, object_of, object_behind, object_fault, fault_in, onto, with_tail, Item, Object, MmoFault, NotTetras, BadFields, Truncated, Phase, Start, Middle, Posted, Ended, bytes-behind, other-test, same-number, other-number}
 use Rattle.mx_mmo.proofs.Complete.{end-told, items-read, left_behind, tail-read, walk-spelled}
 use Rattle.mx_mmo.proofs.Pieces.{not-long}
 use Rattle.mx_mmo.proofs.Sound.{Stood, Stopped, Stands, counts, left-bytes, stands}
 use Rattle.mx_mmo.proofs.Spelt.{tetras-length, octas-length}
-use Rattle.mx_mmo.proofs.TetraFaults.{fault-first, fault-found}
+use Rattle.mx_mmo.proofs.TetraFaults.{fault-first}
+use Rattle.mx_mmo.proofs.Told.{fault-found}
 use Rattle.mx_mmo.proofs.Walks.{items-fault}
 
 -- items take whole tetras
@@ -91,9 +76,6 @@ end-fault : (bytes : List ℕ) (fault : MmoFault) → AreBytes bytes → length 
     ((items : List Item) (left : Left) → Stood Start 0 bytes items left → tail_of left.phase left.at left.rest ≡ Err fault) → object_of bytes ≡ Err fault
 end-fault bytes fault b l n h = not-long bytes l ∙ behind-fault bytes fault (items_of Start 0 bytes) refl (stands bytes b) n h
 
-over-place : (at f r n : ℕ) → at ≡ 0 + f → f % 4 ≡ 0 → n ≡ f + r → at + r - r % 4 ≡ 4 * (n / 4)
-over-place at f r n p q s = omega arith
-
 sizes : (bytes : List ℕ) (items : List Item) (left : Left) (s : Stood Start 0 bytes items left) → length bytes ≡ length s.front + length left.rest
 sizes bytes items left s = ap (λ (b : List ℕ). length b) s.first.whole ∙ length-append s.front left.rest
 
@@ -102,7 +84,7 @@ over-tail bytes items left s h =
     let size = sizes bytes items left s in
     let whole = items-tetras s.first.spelled in
     let over : (length left.rest % 4 == 0) ≡ false = other-test (length left.rest % 4) 0 (λ e. h (omega (arith, size, whole, e))) in
-    rw over (ap (λ (n : ℕ). Err (NotTetras n)) (over-place left.at (length s.front) (length left.rest) (length bytes) s.place whole size))
+    rw over (ap (λ (n : ℕ). Err (NotTetras n)) (omega (arith, s.place)))
 
 cut-place : (bytes : List ℕ) (items : List Item) (left : Left) → Stood Start 0 bytes items left → left.at + length left.rest ≡ length bytes
 cut-place bytes items left s = omega (arith, sizes bytes items left s, s.place)
@@ -112,9 +94,7 @@ no-end at rest o e = rw e refl
 
 cut-behind : (phase : Phase) (at : ℕ) (rest : List ℕ) → (phase ≡ Ended → end_count (drop (length rest - 4) rest) ≡ None) → tail_behind phase at rest ≡ Err (Truncated (at + length rest))
 cut-behind Ended at rest h = no-end at rest (end_count (drop (length rest - 4) rest)) (h refl)
-cut-behind Start at rest h = refl
-cut-behind Middle at rest h = refl
-cut-behind Posted at rest h = refl
+cut-behind phase at rest h = refl
 
 -- the lopcode `end` that stands last
 ends-with : (bytes : List ℕ) (items : List Item) (left : Left) (s : Stood Start 0 bytes items left) (count : ℕ) → AreBytes left.rest → left.phase ≡ Ended →

@@ -1,12 +1,6 @@
 -- The items of bytes: one step, and what more bytes add.
 use Rattle.std.proofs.Common.{◌≡◌, ℕ, zero, suc, ◌+◌, ◌<◌, ◌≤◌, length, List, [], ◌∷◌, ◌++◌, drop, arith, refl, sym, ◌∙◌, ap, Ok, Err, Some, None, length-drop}
-use Rattle.std.proofs.lemmas.Grind.{common_steps}
-use Rattle.mx_mmo.specs.Reading.{Due, IsWithin, first_item}
-use Rattle.mx_mmo.specs.Replies.{phase_after}
-use Rattle.mx_mmo.specs.Whole.{Walk, behind, walk_on, walk, items_of, extended}
-use Rattle.mx_mmo.specs.declared.items.Item.{Item}
-use Rattle.mx_mmo.specs.declared.faults.MmoFault.{MmoFault}
-use Rattle.mx_mmo.specs.declared.due.Phase.{Phase}
+use Rattle.mx_mmo.proofs.Words.{common_steps, Due, IsWithin, first_item, phase_after, Walk, behind, walk_on, walk, items_of, extended, Item, MmoFault, Phase}
 use Rattle.mx_mmo.proofs.Firsts.{Grows, first-grows, first-within}
 
 pub shorter : (size : ℕ) (bytes : List ℕ) → 0 < size → size ≤ length bytes → length (drop size bytes) < length bytes
@@ -14,20 +8,17 @@ shorter size bytes p q = omega (arith, length-drop size bytes)
 
 walk_on-same : (f g : Phase → ℕ → List ℕ → Walk) (phase : Phase) (at : ℕ) (bytes : List ℕ) (d : Due) → IsWithin d (length bytes) →
     ((p : Phase) (a : ℕ) (bs : List ℕ) → length bs < length bytes → f p a bs ≡ g p a bs) → walk_on f phase at bytes d ≡ walk_on g phase at bytes d
-walk_on-same f g phase at bytes (Ok None) w h = refl
-walk_on-same f g phase at bytes (Err e) w h = refl
 walk_on-same f g phase at bytes (Ok (Some (item, size))) w h = ap (behind item) (h _ _ _ (shorter size bytes w.0 w.1))
+walk_on-same f g phase at bytes d w h = refl
 
 -- as many steps as bytes are enough
 enough : (n m : ℕ) (phase : Phase) (at : ℕ) (bytes : List ℕ) → length bytes ≤ n → length bytes ≤ m → walk n phase at bytes ≡ walk m phase at bytes
 unfolding walk
-enough zero zero phase at bytes p q = refl
-enough zero (suc m) phase at [] p q = refl
 enough zero (suc m) phase at (b ∷ bs) p q = absurd (omega arith)
-enough (suc n) zero phase at [] p q = refl
 enough (suc n) zero phase at (b ∷ bs) p q = absurd (omega arith)
 enough (suc n) (suc m) phase at bytes p q =
     walk_on-same (walk n) (walk m) phase at bytes _ (first-within phase at bytes) (λ f a bs l. enough n m f a bs (omega arith) (omega arith))
+enough n m phase at bytes p q = refl
 
 -- the items of bytes are the first and those of the bytes behind it
 pub items-step : (phase : Phase) (at : ℕ) (bytes : List ℕ) → items_of phase at bytes ≡ walk_on items_of phase at bytes (first_item phase at bytes)
@@ -55,16 +46,13 @@ extended-behind item (items, Ok left) ys = refl
 abbrev Extends : Phase → ℕ → List ℕ → List ℕ → Type 0
 Extends phase at xs ys = items_of phase at (xs ++ ys) ≡ extended (items_of phase at xs) ys
 
-drop-front : (size : ℕ) (xs ys : List ℕ) → size ≤ length xs → drop size (xs ++ ys) ≡ drop size xs ++ ys
-drop-front size xs ys h = grind (arith, common_steps)
-
 extend-step : (phase : Phase) (at : ℕ) (xs ys : List ℕ) (d : Due) → first_item phase at xs ≡ d → IsWithin d (length xs) → Grows d (first_item phase at (xs ++ ys)) →
     ((p : Phase) (a : ℕ) (zs : List ℕ) → length zs < length xs → Extends p a zs ys) → Extends phase at xs ys
 extend-step phase at xs ys (Ok None) e w g h = ap (λ v. extended v ys) (sym (items-none phase at xs e))
 extend-step phase at xs ys (Err fault) e w g h = items-fault phase at (xs ++ ys) fault g ∙ ap (λ v. extended v ys) (sym (items-fault phase at xs fault e))
 extend-step phase at xs ys (Ok (Some (item, size))) e w g h =
     items-more phase at (xs ++ ys) item size g
-    ∙ ap (λ bs. behind item (items_of (phase_after item phase) (at + size) bs)) (drop-front size xs ys w.1)
+    ∙ ap (λ bs. behind item (items_of (phase_after item phase) (at + size) bs)) (grind (arith, common_steps, w.1))
     ∙ ap (behind item) (h (phase_after item phase) (at + size) (drop size xs) (shorter size xs w.0 w.1))
     ∙ sym (extended-behind item (items_of (phase_after item phase) (at + size) (drop size xs)) ys)
     ∙ ap (λ v. extended v ys) (sym (items-more phase at xs item size e))

@@ -1,48 +1,24 @@
 -- What is written is in the grammar.
-use Rattle.std.proofs.Common.{◌≡◌, ◌≢◌, ℕ, ◌+◌, ◌-◌, ◌*◌, ◌/◌, ◌%◌, ◌^◌, ◌<◌, ◌≤◌, length, List, [], ◌∷◌, ◌++◌, arith, refl, sym, subst, Some, None, Bool, true, false, cond, append_assoc, replicate, Ok}
-use Rattle.std.specs.Prelude.{Option, ◌==◌}
-use Rattle.std.specs.List.{AllByRecursion}
-use Rattle.mx_word.specs.Words.{tetra_to_bytes, octa_to_bytes}
-use Rattle.mx_mmo.specs.Tetras.{lop, wide_lop, tetras_for}
-use Rattle.mx_mmo.specs.Spelling.{bytes_of, file, written, ending}
-use Rattle.mx_mmo.specs.Valid.{Fits, Valid}
-use Rattle.mx_mmo.specs.Object.{IsObject, SpellsAddress, Spells, Spelled}
-use Rattle.mx_mmo.specs.Object.{IsSkipped}
-use Rattle.mx_mmo.specs.declared.items.Item.{Item}
-use Rattle.mx_mmo.specs.declared.items.Item.TheVariants.{Load, Loc, Skip, FixOcta, FixNear, FixFar, File, Line, Spec, Pre, Post, Stab}
-use Rattle.mx_mmo.specs.Replies.{limit}
-use Rattle.mx_mmo.specs.Whole.{object_of}
+use Rattle.std.proofs.Common.{◌≡◌, ◌≢◌, ℕ, ◌+◌, ◌-◌, ◌*◌, ◌/◌, ◌%◌, ◌^◌, ◌<◌, ◌≤◌, length, List, [], ◌∷◌, ◌++◌, arith, refl, sym, subst, Some, None, Bool, true, false, cond, append_assoc, replicate, Ok, Option, ◌==◌}
+use Rattle.mx_mmo.proofs.Words.{AllByRecursion, tetra_to_bytes, octa_to_bytes, lop, wide_lop, tetras_for, bytes_of, file, written, ending, Fits, Valid, IsObject, SpellsAddress, Spells, Spelled, IsSkipped, Item, Load, Loc, Skip, FixOcta, FixNear, FixFar, File, Line, Spec, Pre, Post, Stab, limit, object_of, same-number, other-number}
 use Rattle.mx_mmo.proofs.Complete.{object-only}
-use Rattle.mx_word.proofs.Comparisons.{same-number, other-number}
 use Rattle.mx_mmo.proofs.Told.{spelled-as}
 
 loaded-spells : (b : Bool) (t : ℕ) → t < 2 ^ 32 → (b ≡ false → t / 2 ^ 24 ≢ 0x98) → Spells (Load t) (cond b (lop 0 0 1 ++ tetra_to_bytes t) (tetra_to_bytes t))
 loaded-spells true t h p = Spells.quoted t h
 loaded-spells false t h p = Spells.bare t (h, p refl)
 
-short-address : (a : ℕ) → a / 2 ^ 32 % 2 ^ 24 ≡ 0 → a / 2 ^ 56 * 2 ^ 56 + a % 2 ^ 32 ≡ a
-short-address a h = omega arith
-
-long-address : (a : ℕ) → a < 2 ^ 64 → (0 * 2 ^ 56 + a) % 2 ^ 64 ≡ a
-long-address a h = omega arith
-
 address-spells : (b : Bool) (code a : ℕ) → a < 2 ^ 64 → (b ≡ true → a / 2 ^ 32 % 2 ^ 24 ≡ 0) →
     SpellsAddress code a (cond b (lop code (a / 2 ^ 56) 1 ++ tetra_to_bytes (a % 2 ^ 32)) (lop code 0 2 ++ octa_to_bytes a))
-address-spells true code a h p = subst (λ (n : ℕ). SpellsAddress code n (lop code (a / 2 ^ 56) 1 ++ tetra_to_bytes (a % 2 ^ 32))) (short-address a (p refl))
+address-spells true code a h p = subst (λ (n : ℕ). SpellsAddress code n (lop code (a / 2 ^ 56) 1 ++ tetra_to_bytes (a % 2 ^ 32))) (omega (arith, (p refl)))
     (SpellsAddress.by_tetra code (a / 2 ^ 56) (a % 2 ^ 32) (omega arith) (omega arith))
-address-spells false code a h p = subst (λ (n : ℕ). SpellsAddress code n (lop code 0 2 ++ octa_to_bytes a)) (long-address a h) (SpellsAddress.by_octa code 0 a (omega arith) h)
-
-few-tetras : (n : ℕ) → n ≤ 1020 → tetras_for n < 2 ^ 8
-few-tetras n h = omega arith
-
-filled : (n : ℕ) → n + (4 * tetras_for n - n) ≡ 4 * tetras_for n
-filled n = omega arith
+address-spells false code a h p = subst (λ (n : ℕ). SpellsAddress code n (lop code 0 2 ++ octa_to_bytes a)) (omega arith) (SpellsAddress.by_octa code 0 a (omega arith) h)
 
 file-spells : (number : ℕ) (name : Option (List ℕ)) → Fits (File number name) → Spells (File number name) (file number name)
 file-spells number None f = Spells.selected number f.0
 file-spells number (Some name) f =
     spelled-as (File number (Some name)) _ _ (append_assoc (lop 6 number (tetras_for (length name))) name (replicate (4 * tetras_for (length name) - length name) 0))
-    (Spells.named number (tetras_for (length name)) (4 * tetras_for (length name) - length name) name f.0 (few-tetras (length name) f.1.most) f.1 (filled (length name)))
+    (Spells.named number (tetras_for (length name)) (4 * tetras_for (length name) - length name) name f.0 (omega (arith, f.1.most)) f.1 (omega arith))
 
 pub item-spells : (item : Item) → Fits item → Spells item (bytes_of item)
 item-spells (Load t) f = loaded-spells (t / 2 ^ 24 == 0x98) t f (λ e. other-number (t / 2 ^ 24) 0x98 e)

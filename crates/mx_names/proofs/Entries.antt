@@ -1,32 +1,15 @@
 -- What the entries of the map say as a list of symbols.
 use Rattle.std.proofs.Common.{ℕ, ◌+◌, ◌≡◌, Bool, true, false, cond, List, [], ◌∷◌, map, length, Option, Some, None, is_some, Ordering, refl, sym, ◌∙◌, ap, arith, bytes_eq}
-use Rattle.std.specs.Option.{option_map}
-use Rattle.std.specs.Map.{lookup, keys_of}
-use Rattle.std.specs.BTreeMap.{is_at, insert_entry}
-use Rattle.std.specs.Ordering.{nat_cmp, is_lt, is_eq, match_ordering}
-use Rattle.std.specs.declared.cmp.Ordering.TheVariants.{Less, Equal, Greater}
-use Rattle.std.specs.Cmp.Lexicographic.{slice_cmp}
-use Rattle.std.specs.List.{AllByRecursion}
+use Rattle.mx_names.proofs.Words.{option_map, lookup, keys_of, is_at, insert_entry, nat_cmp, is_lt, is_eq, match_ordering, Less, Equal, Greater, slice_cmp, AllByRecursion, is_eq-slice_cmp, bytes_eq-Decides, cond_both, false≢true, InByteOrder, IsNamed, Value, Symbol, Wait, predefined_value, IsFullName, value_in, symbols_with, first_value, pure_of, value_of_name, with_symbol, NameTable, symbol_of, IsInRange}
 use Rattle.std.specs.List.Sorted.{IsStrictlySortedBy}
-use Rattle.std.proofs.lemmas.Map.Text.{is_eq-slice_cmp}
-use Rattle.std.proofs.lemmas.Slice.Eq.{bytes_eq-Decides}
-use Rattle.std.proofs.lemmas.Bool.{false≢true}
 use Rattle.std.proofs.Math.ListN.{length-map}
-use Rattle.mx_word.specs.Symbols.{InByteOrder, IsNamed}
-use Rattle.mx_word.specs.declared.symbols.Value.{Value}
-use Rattle.mx_word.specs.declared.symbols.Symbol.{Symbol}
-use Rattle.mx_word.specs.declared.waits.Wait.{Wait}
-use Rattle.mx_ops.specs.Predefined.{predefined_value}
 use Rattle.mx_names.specs.declared.names.Definition.{Definition}
-use Rattle.mx_names.specs.Names.{IsFullName, value_in, symbols_with, first_value, pure_of, value_of_name, with_symbol, NameTable}
-use Rattle.mx_names.specs.Entries.{symbol_of, IsInRange}
 
 -- a look-up in the symbols is one in the map
 found-step : (b c : Bool) (v : Value) (d : Definition) (rest : Option Value) (more : Option Definition) → c ≡ b → v ≡ d.value → rest ≡ option_map (λ (d : Definition). d.value) more → cond b (Some v) rest ≡ option_map (λ (d : Definition). d.value) (cond c (Some d) more)
 found-step true true v d rest more same value h = ap (λ v. Some v) value
-found-step true false v d rest more same value h = cc
-found-step false true v d rest more same value h = cc
 found-step false false v d rest more same value h = h
+found-step b c v d rest more same value h = cc
 
 abbrev tabled : List ℕ → List Value → List Wait → List Symbol → NameTable
 tabled prefix backs waiting symbols = record { symbols = symbols; prefix = prefix; backs = backs; waiting = waiting }
@@ -89,8 +72,7 @@ none-rest false v rest h = h
 
 swapped : (here is : Bool) (a b c : Option Value) → (is ≡ true → here ≡ true → false ≡ true) → cond here a (cond is b c) ≡ cond is b (cond here a c)
 swapped true true a b c apart = absurd (false≢true (apart refl refl))
-swapped true false a b c apart = refl
-swapped false is a b c apart = refl
+swapped here is a b c apart = refl
 
 -- a look-up after a symbol is put in
 pub value-inserted : (new : Symbol) (symbols : List Symbol) (name : List ℕ) → value_in new.name symbols ≡ None → value_in name (symbols_with new symbols) ≡ cond (bytes_eq name new.name) (Some new.value) (value_in name symbols)
@@ -125,8 +107,5 @@ some-mapped f (Some x) = refl
 -- one symbol more
 pub length-inserted : (new : Symbol) (symbols : List Symbol) → length (symbols_with new symbols) ≡ length symbols + 1
 length-inserted new [] = refl
-length-inserted new (s ∷ ss) = by (is_lt (slice_cmp nat_cmp new.name s.name)) (length-inserted new ss)
-  where
-    by : (lt : Bool) → length (symbols_with new ss) ≡ length ss + 1 → length (cond lt (new ∷ s ∷ ss) (s ∷ symbols_with new ss)) ≡ length (s ∷ ss) + 1
-    by true rest = omega arith
-    by false rest = omega (arith, rest)
+length-inserted new (s ∷ ss) = cond_both (is_lt (slice_cmp nat_cmp new.name s.name)) _ _ (λ x. length x ≡ length (s ∷ ss) + 1)
+    (λ _. omega arith) (λ _. omega (arith, (length-inserted new ss)))

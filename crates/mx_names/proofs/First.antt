@@ -1,9 +1,6 @@
 -- The earliest of all references.
 use Rattle.std.proofs.Common.{◌≡◌, ◌<◌, ◌≤◌, ℕ, Bool, true, false, nat_lt, cond, List, [], ◌∷◌, Option, None, Some, option_map, refl, sym, ap, ◌∙◌, arith}
-use Rattle.std.specs.List.{AllByRecursion}
-use Rattle.std.proofs.lemmas.Bool.{lt-ltb, ltb-true, ltb-false, le-ltb}
-use Rattle.mx_word.specs.declared.waits.Wait.{Wait}
-use Rattle.mx_names.specs.Waiting.{Numbered, with_one, with_group, all_in_order, waits_of, first_of, earlier_of_two, AreRising, AreGroups}
+use Rattle.mx_names.proofs.Words.{AllByRecursion, cond_both, lt-ltb, ltb-true, ltb-false, le-ltb, Wait, Numbered, with_one, with_group, all_in_order, waits_of, first_of, earlier_of_two, AreRising, AreGroups}
 
 first-one : (x : Numbered) (l : List Numbered) → first_of (with_one x l) ≡ earlier_of_two (Some x) (first_of l)
 first-one x [] = refl
@@ -16,11 +13,8 @@ first-one x (y ∷ ys) = by (nat_lt x.0 y.0)
 -- an earlier one stands for a later one
 earlier-two : (x y : Numbered) (other : Option Numbered) → x.0 < y.0 → earlier_of_two (Some x) (earlier_of_two (Some y) other) ≡ earlier_of_two (Some x) other
 earlier-two x y None less = rw (lt-ltb x.0 y.0 less) refl
-earlier-two x y (Some z) less = by (nat_lt y.0 z.0) (ltb-true y.0 z.0)
-  where
-    by : (b : Bool) → (b ≡ true → y.0 < z.0) → earlier_of_two (Some x) (cond b (Some y) (Some z)) ≡ earlier_of_two (Some x) (Some z)
-    by true below = rw (lt-ltb x.0 y.0 less, lt-ltb x.0 z.0 (omega (arith, below refl))) refl
-    by false below = refl
+earlier-two x y (Some z) less = cond_both (nat_lt y.0 z.0) _ _ (λ it. earlier_of_two (Some x) it ≡ earlier_of_two (Some x) (Some z))
+    (λ e. rw (lt-ltb x.0 y.0 less, lt-ltb x.0 z.0 (omega (arith, (ltb-true y.0 z.0 e)))) refl) (λ _. refl)
 
 first-group : (xs l : List Numbered) → AreRising xs → first_of (with_group xs l) ≡ earlier_of_two (first_of xs) (first_of l)
 first-group [] l rising = refl
@@ -29,8 +23,6 @@ first-group (x ∷ y ∷ xs) l rising =
     first-one x (with_group (y ∷ xs) l) ∙ ap (earlier_of_two (Some x)) (first-group (y ∷ xs) l rising.1) ∙ earlier-two x y (first_of l) rising.0.0
 
 earlier-parts : (a b c : Option Numbered) → earlier_of_two (earlier_of_two a b) c ≡ earlier_of_two a (earlier_of_two b c)
-earlier-parts None b c = refl
-earlier-parts (Some x) None c = refl
 earlier-parts (Some x) (Some y) None = by (nat_lt x.0 y.0)
   where
     by : (b : Bool) → earlier_of_two (cond b (Some x) (Some y)) None ≡ cond b (Some x) (Some y)
@@ -43,6 +35,7 @@ earlier-parts (Some x) (Some y) (Some z) = by (nat_lt x.0 y.0) (nat_lt y.0 z.0) 
     by true false is there xy yx yz zy = refl
     by false true is there xy yx yz zy = rw (is, there) refl
     by false false is there xy yx yz zy = rw (there, le-ltb x.0 z.0 (omega (arith, yx refl, zy refl))) refl
+earlier-parts a b c = refl
 
 -- one group more
 pub first-more : {K : Type 0} (first found : Option Numbered) (e : K × List Numbered) (es : List (K × List Numbered)) → AreRising e.1 → found ≡ earlier_of_two first (first_of e.1) → earlier_of_two found (first_of (all_in_order es)) ≡ earlier_of_two first (first_of (all_in_order (e ∷ es)))

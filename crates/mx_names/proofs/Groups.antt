@@ -1,40 +1,24 @@
 -- Groups of references, and all of them in the order of their numbers.
 use Rattle.std.proofs.Common.{◌≡◌, ◌<◌, ℕ, ◌+◌, Bool, true, false, nat_lt, cond, List, [], ◌∷◌, ◌++◌, length, None, Some, refl, sym, ap, subst, ◌∙◌, arith}
-use Rattle.std.specs.List.{zip, AllByRecursion}
-use Rattle.std.specs.Map.{lookup, set_value}
-use Rattle.std.specs.BTreeMap.{is_at, insert_entry}
-use Rattle.std.specs.Ordering.{nat_cmp, is_eq, match_ordering}
-use Rattle.std.specs.Cmp.Lexicographic.{slice_cmp}
-use Rattle.std.proofs.lemmas.Map.Text.{is_eq-slice_cmp}
-use Rattle.std.proofs.lemmas.Slice.Eq.{bytes_eq-Decides}
+use Rattle.mx_names.proofs.Words.{zip, AllByRecursion, lookup, set_value, is_at, insert_entry, nat_cmp, is_eq, match_ordering, slice_cmp, is_eq-slice_cmp, bytes_eq-Decides, Less, Equal, Greater, cond_both, lt-ltb, le-ltb, Wait, Numbered, with_one, with_group, all_in_order, waits_of, key_of, AreRising, IsGroup, AreGroups}
 use Rattle.std.specs.declared.cmp.Ordering.{Ordering}
-use Rattle.std.specs.declared.cmp.Ordering.TheVariants.{Less, Equal, Greater}
-use Rattle.std.proofs.lemmas.Bool.{lt-ltb, le-ltb}
-use Rattle.mx_word.specs.declared.waits.Wait.{Wait}
-use Rattle.mx_names.specs.Waiting.{Numbered, with_one, with_group, all_in_order, waits_of, key_of, AreRising, IsGroup, AreGroups}
 
 pub zip-push : (ns : List ℕ) (ws : List Wait) (n : ℕ) (w : Wait) → length ns ≡ length ws → zip (ns ++ n ∷ []) (ws ++ w ∷ []) ≡ zip ns ws ++ (n, w) ∷ []
 zip-push [] [] n w same = refl
-zip-push [] (v ∷ ws) n w same = absurd (omega (arith, same))
-zip-push (m ∷ ns) [] n w same = absurd (omega (arith, same))
 zip-push (m ∷ ns) (v ∷ ws) n w same = ap (λ l. (m, v) ∷ l) (zip-push ns ws n w (omega (arith, same)))
+zip-push ns ws n w same = absurd (omega (arith, same))
 
 pub waits-zip : (ns : List ℕ) (ws : List Wait) → length ns ≡ length ws → waits_of (zip ns ws) ≡ ws
 waits-zip [] [] same = refl
-waits-zip [] (v ∷ ws) same = absurd (omega (arith, same))
-waits-zip (m ∷ ns) [] same = absurd (omega (arith, same))
 waits-zip (m ∷ ns) (v ∷ ws) same = ap (λ l. v ∷ l) (waits-zip ns ws (omega (arith, same)))
+waits-zip ns ws same = absurd (omega (arith, same))
 
 pub ruleset pairs = (zip-push, waits-zip)
 
 -- every reference: what holds of each one holds of all in order
 pub one-all : (P : Numbered → Type 0) (x : Numbered) (l : List Numbered) → P x → AllByRecursion P l → AllByRecursion P (with_one x l)
 one-all P x [] here rest = (here, tt)
-one-all P x (y ∷ ys) here rest = by (nat_lt x.0 y.0) (one-all P x ys here rest.1)
-  where
-    by : (b : Bool) → AllByRecursion P (with_one x ys) → AllByRecursion P (cond b (x ∷ y ∷ ys) (y ∷ with_one x ys))
-    by true more = (here, rest)
-    by false more = (rest.0, more)
+one-all P x (y ∷ ys) here rest = cond_both (nat_lt x.0 y.0) _ _ (AllByRecursion P) (λ _. (here, rest)) (λ _. (rest.0, (one-all P x ys here rest.1)))
 
 pub group-all : (P : Numbered → Type 0) (xs l : List Numbered) → AllByRecursion P xs → AllByRecursion P l → AllByRecursion P (with_group xs l)
 group-all P [] l here rest = rest
@@ -44,15 +28,12 @@ group-all P (x ∷ xs) l here rest = one-all P x _ here.0 (group-all P xs l here
 lt-not : (a b : ℕ) → b < a → nat_lt a b ≡ false
 lt-not a b less = le-ltb a b (omega arith)
 
-lt-yes : (a b : ℕ) → a < b → nat_lt a b ≡ true
-lt-yes a b less = lt-ltb a b less
-
 one-last : (x : Numbered) (l : List Numbered) → AllByRecursion (λ (y : Numbered). y.0 < x.0) l → with_one x l ≡ l ++ x ∷ []
 one-last x [] below = refl
 one-last x (y ∷ ys) below = rw (lt-not x.0 y.0 below.0) (ap (λ l. y ∷ l) (one-last x ys below.1))
 
 one-before-last : (x z : Numbered) (l : List Numbered) → x.0 < z.0 → with_one x (l ++ z ∷ []) ≡ with_one x l ++ z ∷ []
-one-before-last x z [] less = rw (lt-yes x.0 z.0 less) refl
+one-before-last x z [] less = rw (lt-ltb x.0 z.0 less) refl
 one-before-last x z (y ∷ ys) less = by (nat_lt x.0 y.0) (one-before-last x z ys less)
   where
     by : (b : Bool) → with_one x (ys ++ z ∷ []) ≡ with_one x ys ++ z ∷ [] → cond b (x ∷ y ∷ (ys ++ z ∷ [])) (y ∷ with_one x (ys ++ z ∷ [])) ≡ cond b (x ∷ y ∷ ys) (y ∷ with_one x ys) ++ z ∷ []

@@ -3,3 +3,4 @@ pub mod First
 pub mod Groups
 pub mod Known
 pub mod Taken
+pub mod Words

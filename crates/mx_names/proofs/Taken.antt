@@ -1,19 +1,12 @@
 -- What is taken of all references when a group is, and what is left.
 use Rattle.std.proofs.Common.{◌≡◌, ◌<◌, ◌≤◌, ℕ, Bool, true, false, not, ◌==◌, nat_lt, cond, List, [], ◌∷◌, Option, None, Some, filter, refl, sym, ap, ◌∙◌, arith, nat_cmp, bytes_eq}
 use Rattle.std.specs.Bool.{MatchBool}
-use Rattle.std.specs.List.{AllByRecursion}
-use Rattle.std.specs.Map.{lookup, remove_entry}
-use Rattle.std.specs.Cmp.Lexicographic.{slice_cmp}
-use Rattle.std.proofs.lemmas.Bool.{lt-ltb, ltb-true, ltb-false}
+use Rattle.mx_names.proofs.Words.{AllByRecursion, lookup, remove_entry, slice_cmp, cond_both, lt-ltb, ltb-true, ltb-false, is_eq, is_eq-slice_cmp, Wait, Numbered, with_one, with_group, all_in_order, waits_of, waits_for, waits_for_others, key_of, AreRising, AreGroups}
 use Rattle.std.proofs.Math.Bool.{and-true}
 use Rattle.std.proofs.lemmas.Bool.Decides.{nat_tests}
-use Rattle.std.specs.Ordering.{is_eq}
-use Rattle.std.proofs.lemmas.Map.Text.{is_eq-slice_cmp}
 use Rattle.mx_word.specs.declared.waits.Awaited.{Awaited}
 use Rattle.mx_word.specs.declared.waits.Awaited.TheVariants.{Name, Local}
-use Rattle.mx_word.specs.declared.waits.Wait.{Wait}
 use Rattle.mx_word.specs.Waits.{same_awaited}
-use Rattle.mx_names.specs.Waiting.{Numbered, with_one, with_group, all_in_order, waits_of, waits_for, waits_for_others, key_of, AreRising, AreGroups}
 use Rattle.mx_names.proofs.Groups.{one-all, all-weaker}
 
 -- numbers that do not fall
@@ -23,11 +16,9 @@ AreSorted (x ∷ xs) = AllByRecursion (λ (y : Numbered). x.0 ≤ y.0) xs × Are
 
 one-sorted : (x : Numbered) (l : List Numbered) → AreSorted l → AreSorted (with_one x l)
 one-sorted x [] sorted = (tt, tt)
-one-sorted x (y ∷ ys) sorted = by (nat_lt x.0 y.0) (ltb-true x.0 y.0) (ltb-false x.0 y.0) (one-sorted x ys sorted.1)
-  where
-    by : (b : Bool) → (b ≡ true → x.0 < y.0) → (b ≡ false → y.0 ≤ x.0) → AreSorted (with_one x ys) → AreSorted (cond b (x ∷ y ∷ ys) (y ∷ with_one x ys))
-    by true less more rest = ((omega (arith, less refl), all-weaker _ _ ys (λ z above. omega (arith, less refl)) sorted.0), sorted)
-    by false less more rest = (one-all _ x ys (more refl) sorted.0, rest)
+one-sorted x (y ∷ ys) sorted = cond_both (nat_lt x.0 y.0) _ _ AreSorted
+    (λ e. ((omega (arith, (ltb-true x.0 y.0 e)), all-weaker _ _ ys (λ z above. omega (arith, (ltb-true x.0 y.0 e))) sorted.0), sorted))
+    (λ e. (one-all _ x ys (ltb-false x.0 y.0 e) sorted.0, (one-sorted x ys sorted.1)))
 
 group-sorted : (xs l : List Numbered) → AreSorted l → AreSorted (with_group xs l)
 group-sorted [] l sorted = sorted
@@ -59,11 +50,7 @@ module _ (f : Numbered → Bool) where
 
   filter-all : (P : Numbered → Type 0) (xs : List Numbered) → AllByRecursion P xs → AllByRecursion P (filter f xs)
   filter-all P [] each = tt
-  filter-all P (x ∷ xs) each = by (f x) (filter-all P xs each.1)
-    where
-      by : (b : Bool) → AllByRecursion P (filter f xs) → AllByRecursion P (cond b (x ∷ filter f xs) (filter f xs))
-      by true rest = (each.0, rest)
-      by false rest = rest
+  filter-all P (x ∷ xs) each = cond_both (f x) _ _ (AllByRecursion P) (λ _. (each.0, (filter-all P xs each.1))) (λ _. filter-all P xs each.1)
 
   filter-yes : (xs : List Numbered) → Yes xs → filter f xs ≡ xs
   filter-yes [] passes = refl
@@ -71,11 +58,7 @@ module _ (f : Numbered → Bool) where
 
   one-no : (x : Numbered) (l : List Numbered) → f x ≡ false → filter f (with_one x l) ≡ filter f l
   one-no x [] fails = rw fails refl
-  one-no x (y ∷ ys) fails = by (nat_lt x.0 y.0) (one-no x ys fails)
-    where
-      by : (b : Bool) → filter f (with_one x ys) ≡ filter f ys → filter f (cond b (x ∷ y ∷ ys) (y ∷ with_one x ys)) ≡ filter f (y ∷ ys)
-      by true rest = rw fails refl
-      by false rest = ap (λ l. cond (f y) (y ∷ l) l) rest
+  one-no x (y ∷ ys) fails = cond_both (nat_lt x.0 y.0) _ _ (λ x. filter f x ≡ filter f (y ∷ ys)) (λ _. rw fails refl) (λ _. ap (λ l. cond (f y) (y ∷ l) l) (one-no x ys fails))
 
   one-yes : (x : Numbered) (l : List Numbered) → f x ≡ true → AreSorted l → filter f (with_one x l) ≡ with_one x (filter f l)
   one-yes x [] passes sorted = rw passes refl
@@ -146,15 +129,13 @@ numbers-swap a b = grind (arith, nat_tests)
 
 bytes-swap : (a b : List ℕ) → bytes_eq a b ≡ bytes_eq b a
 bytes-swap [] [] = refl
-bytes-swap [] (y ∷ ys) = refl
-bytes-swap (x ∷ xs) [] = refl
 bytes-swap (x ∷ xs) (y ∷ ys) = rw (numbers-swap x y, bytes-swap xs ys) refl
+bytes-swap a b = refl
 
 same-key : (a b : Awaited) → same_awaited a b ≡ bytes_eq (key_of a) (key_of b)
 same-key (Name a) (Name b) = refl
-same-key (Name a) (Local e) = refl
-same-key (Local d) (Name b) = refl
 same-key (Local d) (Local e) = sym (and-true (d == e))
+same-key a b = refl
 
 abbrev test_for : {K : Type 0} → (K → List ℕ) → List ℕ → K → Bool
 test_for bytes key k = is_eq (slice_cmp nat_cmp key (bytes k))
@@ -197,11 +178,7 @@ module _ {K : Type 0} (bytes : K → List ℕ) (made : ℕ) (who : Awaited) (key
   -- the groups after one is taken
   pub groups-less : (es : List (K × List Numbered)) → AreGroups bytes made es → AreGroups bytes made (remove_entry test es)
   groups-less [] groups = tt
-  groups-less (e ∷ es) groups = by (test e.0) (groups-less es groups.1)
-    where
-      by : (b : Bool) → AreGroups bytes made (remove_entry test es) → AreGroups bytes made (cond b es (e ∷ remove_entry test es))
-      by true rest = groups.1
-      by false rest = (groups.0, rest)
+  groups-less (e ∷ es) groups = cond_both (test e.0) _ _ (AreGroups bytes made) (λ _. groups.1) (λ _. (groups.0, (groups-less es groups.1)))
 
   module _ (es : List (K × List Numbered)) (groups : AreGroups bytes made es) where
     pub taken-group : (group : List Numbered) → Some group ≡ lookup test es → lookup test (remove_entry test es) ≡ None → waits_of group ≡ waits_for who (waits_of (all_in_order es))

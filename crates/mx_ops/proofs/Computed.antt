@@ -1,9 +1,6 @@
 -- The rising tables of the code against the tables of the definitions, by computing.
 use Rattle.std.proofs.Common.{ℕ, List, map, refl}
-use Rattle.mx_ops.specs.Opcodes.{opcode_rows, opcode_names, pseudo_operations, chosen_operations, operations}
-use Rattle.mx_ops.specs.Predefined.{special_registers, predefined_names}
-use Rattle.mx_ops.specs.declared.op.Op.{Op}
-use Rattle.mx_ops.specs.declared.table.TheConstants.{OPERATIONS}
+use Rattle.mx_ops.proofs.Words.{opcode_rows, opcode_names, pseudo_operations, chosen_operations, operations, special_registers, predefined_names, Op, OPERATIONS}
 use Rattle.mx_ops.specs.declared.symbols.TheConstants.{PREDEFINED}
 use Rattle.mx_ops.proofs.Search.{Lists}
 

@@ -4,3 +4,4 @@ pub mod Tables
 pub mod Computed
 pub mod Operations
 pub mod Rows
+pub mod Words

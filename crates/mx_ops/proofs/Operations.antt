@@ -1,14 +1,7 @@
 -- The laws of the operations, from the computed facts on their tables.
-use Rattle.std.proofs.Common.{ℕ, zero, suc, ◌+◌, ◌<◌, ◌≤◌, ◌≡◌, Bool, true, false, not, ◌&&◌, cond, List, [], ◌∷◌, ◌++◌, map, length, get_or, Option, Some, None, IsTrue, Decides, refl, sym, ◌∙◌, ap, arith, bytes_eq, ◌⊎◌, inl, inr, drop, eqb, zero-add, take, ◌-◌}
-use Rattle.std.specs.Option.{is_none}
-use Rattle.std.specs.List.{Contains}
-use Rattle.std.proofs.lemmas.Bool.{and_parts, false≢true, eqb-true, not-true}
-use Rattle.std.proofs.lemmas.Slice.Eq.{bytes_eq-Decides}
+use Rattle.std.proofs.Common.{ℕ, zero, suc, ◌+◌, ◌<◌, ◌≤◌, ◌≡◌, Bool, true, false, not, ◌&&◌, cond, List, [], ◌∷◌, ◌++◌, map, length, get_or, Option, Some, None, IsTrue, Decides, refl, sym, ◌∙◌, ap, arith, bytes_eq, ◌⊎◌, inl, inr, drop, eqb, zero-add, take, ◌-◌, is_none, Contains}
+use Rattle.mx_ops.proofs.Words.{and_parts, false≢true, eqb-true, not-true, bytes_eq-Decides, first_of, numbered, names_once, instruction, opcode_rows, opcode_names, opcode_name, pseudo_operations, chosen_operations, operations, operation_of, is_code, is_instruction, rows_follow, IsLowestCode, special_registers, predefined_names, predefined_value, Op}
 use Rattle.std.proofs.lemmas.Grind.{common_steps}
-use Rattle.mx_ops.specs.Tables.{first_of, numbered, names_once}
-use Rattle.mx_ops.specs.Opcodes.{instruction, opcode_rows, opcode_names, opcode_name, pseudo_operations, chosen_operations, operations, operation_of, is_code, is_instruction, rows_follow, IsLowestCode}
-use Rattle.mx_ops.specs.Predefined.{special_registers, predefined_names, predefined_value}
-use Rattle.mx_ops.specs.declared.op.Op.{Op}
 use Rattle.mx_ops.specs.declared.op.Op.TheVariants.{Code}
 use Rattle.mx_ops.proofs.Tables.{first_of-append, first_of-front, first_of-once}
 

@@ -3,8 +3,7 @@ use Rattle.std.proofs.Common.{ℕ, ◌<◌, ◌≡◌, List, [], ◌∷◌, map,
 use Rattle.std.proofs.Math.ListN.{get_or-map}
 use Rattle.std.proofs.lemmas.List.FromFn.{get_or-map-range_with_len}
 use Rattle.std.specs.List.{range_with_len}
-use Rattle.mx_ops.specs.Opcodes.{opcode_names, opcode_name}
-use Rattle.mx_ops.specs.Shapes.{shapes_of}
+use Rattle.mx_ops.proofs.Words.{opcode_names, opcode_name, shapes_of}
 use Rattle.mx_ops.specs.declared.op.Shape.{Shape}
 
 pub name-at : (xs : List (Bor (List ℕ))) (i code : ℕ) (d : Bor (List ℕ)) → map (λ s. s.now) xs ≡ opcode_names → d.now ≡ [] → i ≡ code → (get_or xs i d).now ≡ opcode_name code

@@ -1,9 +1,7 @@
 -- Where the codes of a row stand in the table.
-use Rattle.std.proofs.Common.{◌≡◌, ◌<◌, ℕ, zero, suc, ◌+◌, ◌*◌, true, List, [], ◌∷◌, ◌++◌, length, map, get_or, refl, sym, ◌∙◌, ap, subst, arith, eqb}
-use Rattle.std.specs.List.{Contains, flat_map}
-use Rattle.std.proofs.lemmas.Bool.{and_parts, eqb-true}
+use Rattle.std.proofs.Common.{◌≡◌, ◌<◌, ℕ, zero, suc, ◌+◌, ◌*◌, true, List, [], ◌∷◌, ◌++◌, length, map, get_or, refl, sym, ◌∙◌, ap, subst, arith, eqb, Contains, flat_map}
+use Rattle.mx_ops.proofs.Words.{and_parts, eqb-true, Kind, own_code, Row, row_names, row_kinds, row_length, opcode_rows, opcode_names, opcode_kinds, opcode_name, opcode_kind, rows_follow, IsCodeOf}
 use Rattle.std.proofs.lemmas.List.{append_assoc, get_or_append_left, get_or-append-add, length-map}
-use Rattle.mx_ops.specs.Opcodes.{Kind, own_code, Row, row_names, row_kinds, row_length, opcode_rows, opcode_names, opcode_kinds, opcode_name, opcode_kind, rows_follow, IsCodeOf}
 use Rattle.mx_ops.proofs.Operations.{rows}
 
 module _ {X A : Type 0} (f : X → List A) (n : ℕ) (long : (x : X) → length (f x) ≡ n) where

@@ -1,15 +1,11 @@
 -- What a binary search in a rising list finds, against a look-up in a table that lists the same names.
-use Rattle.std.proofs.Common.{ℕ, zero, suc, add-one, ◌⊎◌, ⊎_elim, ◌+◌, ◌<◌, ◌≤◌, ◌≡◌, Bool, true, false, not, ◌&&◌, ◌||◌, cond, List, [], ◌∷◌, map, length, get_or, Option, Some, None, Result, Ok, Err, MatchResult, refl, sym, ◌∙◌, ap, arith, bytes_eq}
-use Rattle.std.specs.Ordering.{nat_cmp, is_lt, is_eq}
-use Rattle.std.specs.Cmp.Lexicographic.{slice_cmp}
+use Rattle.std.proofs.Common.{ℕ, zero, suc, add-one, ◌⊎◌, ⊎_elim, ◌+◌, ◌<◌, ◌≤◌, ◌≡◌, Bool, true, false, not, ◌&&◌, ◌||◌, cond, List, [], ◌∷◌, map, length, get_or, Option, Some, None, Result, Ok, Err, MatchResult, refl, sym, ◌∙◌, ap, arith, bytes_eq, nat_cmp, is_lt, is_eq}
+use Rattle.mx_ops.proofs.Words.{slice_cmp, and_parts, cases_lt, not-true, bytes_eq-Decides, first_of}
 use Rattle.std.specs.List.Sorted.{IsBinarySearchResult, IsSearchInRange}
 use Rattle.std.proofs.lemmas.List.{get_or-map}
 use Rattle.std.proofs.lemmas.List.Sorted.{searchable_from_sorted}
 use Rattle.std.proofs.lemmas.Cmp.{nat_list_cmp_total}
-use Rattle.std.proofs.lemmas.Bool.{and_parts, cases_lt, not-true}
 use Rattle.std.proofs.lemmas.Map.Text.{is_eq-slice_cmp}
-use Rattle.std.proofs.lemmas.Slice.Eq.{bytes_eq-Decides}
-use Rattle.mx_ops.specs.Tables.{first_of}
 
 -- no name is above the next one
 abbrev pub rising : {X : Type 0} → (X → List ℕ) → List X → Bool
@@ -27,7 +23,7 @@ abbrev pub covers : {X A : Type 0} → (X → List ℕ) → List X → List (Lis
 covers key xs [] = true
 covers key xs (entry ∷ entries) = among key entry.0 xs && covers key xs entries
 
-same-name : (a b : List ℕ) → bytes_eq a b ≡ true → a ≡ b
+pub same-name : (a b : List ℕ) → bytes_eq a b ≡ true → a ≡ b
 same-name a b h = (bytes_eq-Decides a b).0 h
 
 -- what stands at a place after the first is what stands in the rest at the place before
@@ -35,11 +31,10 @@ later : {X : Type 0} (x : X) (xs : List X) (k : ℕ) (d : X) → get_or (x ∷ x
 later x xs k d = rw add-one (rw add-one refl)
 
 sorted : {X : Type 0} (key : X → List ℕ) (xs : List X) → rising key xs ≡ true → (k : ℕ) (d : X) → k + 1 < length xs → is_lt (slice_cmp nat_cmp (key (get_or xs (k + 1) d)) (key (get_or xs k d))) ≡ false
-sorted key [] up k d lt = absurd (omega arith)
-sorted key (x ∷ []) up k d lt = absurd (omega arith)
 sorted key (x ∷ y ∷ ys) up zero d lt = not-true _ (and_parts _ _ up).0
 sorted key (x ∷ y ∷ ys) up (suc k) d lt =
     ap (λ z. is_lt (slice_cmp nat_cmp (key z) (key (get_or (y ∷ ys) k d)))) (later x (y ∷ ys) k d) ∙ sorted key (y ∷ ys) (and_parts _ _ up).1 k d (omega arith)
+sorted key xs up k d lt = absurd (omega arith)
 
 -- an element with this name, where there is one
 absent : {X : Type 0} (key : X → List ℕ) (name : List ℕ) (xs : List X) → ((k : ℕ) (d : X) → k < length xs → bytes_eq (key (get_or xs k d)) name ≡ false) → among key name xs ≡ false
@@ -91,9 +86,8 @@ abbrev pub plain : {X A : Type 0} → (X → List ℕ) → (X → A) → X → L
 plain key value x = (key x, value x)
 
 rising-plain : {X A : Type 0} (key : X → List ℕ) (value : X → A) (xs : List X) → rising key xs ≡ rising (λ (e : List ℕ × A). e.0) (map (plain key value) xs)
-rising-plain key value [] = refl
-rising-plain key value (x ∷ []) = refl
 rising-plain key value (x ∷ y ∷ ys) = ap (λ b. not (is_lt (slice_cmp nat_cmp (key y) (key x))) && b) (rising-plain key value (y ∷ ys))
+rising-plain key value xs = refl
 
 among-plain : {X A : Type 0} (key : X → List ℕ) (value : X → A) (name : List ℕ) (xs : List X) → among key name xs ≡ among (λ (e : List ℕ × A). e.0) name (map (plain key value) xs)
 among-plain key value name [] = refl

@@ -1,9 +1,6 @@
 -- Look-ups in a table of names.
-use Rattle.std.proofs.Common.{ℕ, zero, suc, ◌<◌, ◌≡◌, Bool, true, false, cond, List, [], ◌∷◌, ◌++◌, length, get_or, Option, Some, None, Decides, refl, sym, ◌∙◌, ap, arith, bytes_eq}
-use Rattle.std.specs.List.{Contains}
-use Rattle.std.proofs.lemmas.Slice.Eq.{bytes_eq-Decides}
-use Rattle.std.proofs.lemmas.Bool.{and_parts, not-true}
-use Rattle.mx_ops.specs.Tables.{first_of, lacks, names_once}
+use Rattle.std.proofs.Common.{ℕ, zero, suc, ◌<◌, ◌≡◌, Bool, true, false, cond, List, [], ◌∷◌, ◌++◌, length, get_or, Option, Some, None, Decides, refl, sym, ◌∙◌, ap, arith, bytes_eq, Contains}
+use Rattle.mx_ops.proofs.Words.{bytes_eq-Decides, and_parts, not-true, first_of, lacks, names_once}
 
 -- a test that is not true
 not-same : (a b : List ℕ) → bytes_eq a b ≡ false → a ≡ b → false ≡ true

@@ -1,20 +1,12 @@
 -- Numbers, and how many digits they take.
 use Rattle.std.proofs.Common.{◌≡◌, ℕ, suc, ◌+◌, ◌*◌, ◌^◌, ◌<◌, ◌≤◌, ◌==◌, Bool, true, false, cond, List, [], ◌∷◌, ◌++◌, length, arith, refl, sym, ap, ◌∙◌, subst, inl, inr}
-use Rattle.std.proofs.Math.Nat.{add-mul, mul_assoc, mul_comm, mul-le-mul_right, pow-le-pow_right, pow-zero}
-use Rattle.std.proofs.lemmas.Bool.{cases_lt, eqb-true, eqb-false}
-use Rattle.std.proofs.lemmas.Grind.{pow_more}
-use Rattle.mx_word.specs.Ranges.{AreBytes}
-use Rattle.mx_stab.specs.Grammar.{AreBelow, number, number_behind}
-use Rattle.mx_stab.specs.Numbers.{fewest_digits}
+use Rattle.mx_stab.proofs.Words.{add-mul, mul_assoc, mul_comm, mul-le-mul_right, pow-le-pow_right, pow-zero, cases_lt, eqb-true, eqb-false, pow_more, AreBytes, AreBelow, number, number_behind, fewest_digits}
 
 one-more : (base x p : ℕ) → x * (p * base) ≡ x * base * p
 one-more base x p = ap (λ n. x * n) (mul_comm p base) ∙ sym (mul_assoc x base p)
 
-no-power : (base : ℕ) → base ^ 0 ≡ 1
-no-power base = pow-zero base
-
 no-digits : (base x : ℕ) → x * base ^ 0 ≡ x
-no-digits base x = ap (λ n. x * n) (no-power base) ∙ omega arith
+no-digits base x = ap (λ n. x * n) (pow-zero base) ∙ omega arith
 
 power : (base : ℕ) (n : ℕ) → base ^ suc n ≡ base ^ n * base
 power base n = ap (λ m. base ^ m) (omega arith) ∙ pow_more base n
@@ -50,17 +42,12 @@ number-below bytes i j b l p =
     let more : 256 ^ length bytes ≤ 256 ^ i = pow-le-pow_right (omega arith) l in
     omega (arith, number-power 256 bytes b, more, p)
 
-zero-first : (base e : ℕ) → 0 * base + e ≡ (0 * base + 0) * base + e
-zero-first base e = grind (arith)
-
 -- the zeros in front tell nothing
 pub number-zero : (base e : ℕ) (more : List ℕ) → number base (e ∷ more) ≡ number base (0 ∷ e ∷ more)
-number-zero base e more = ap (λ x. number_behind base x more) (zero-first base e)
+number-zero base e more = ap (λ x. number_behind base x more) (grind (arith))
 
 -- a number that n digits tell is written in no more than n
 pub fewest-least : (base : ℕ) (ds : List ℕ) (n : ℕ) → 1 ≤ base → 1 ≤ n → number base ds < base ^ n → length (fewest_digits ds) ≤ n
-fewest-least base [] n p l h = omega arith
-fewest-least base (d ∷ []) n p l h = omega arith
 fewest-least base (d ∷ e ∷ more) n p l h = one (d == 0) (eqb-true d 0) (eqb-false d 0) (fewest-least base (e ∷ more) n p l)
   where
     short : 1 ≤ d → length (d ∷ e ∷ more) ≤ n
@@ -78,6 +65,7 @@ fewest-least base (d ∷ e ∷ more) n p l h = one (d == 0) (eqb-true d 0) (eqb-
     one false is other rest =
         let some = other refl in
         short (omega (arith, some))
+fewest-least base ds n p l h = omega arith
 
 -- how many digits are left does not hang on the last one
 pub fewest-last : (ds : List ℕ) (a b : ℕ) → length (fewest_digits (ds ++ a ∷ [])) ≡ length (fewest_digits (ds ++ b ∷ []))

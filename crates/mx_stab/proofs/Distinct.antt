@@ -1,10 +1,6 @@
 -- Names that are distinct.
 use Rattle.std.proofs.Common.{◌≡◌, ◌≢◌, Bool, true, false, ◌||◌, List, [], ◌∷◌, ◌++◌, sym, bytes_eq}
-use Rattle.std.specs.List.{AllByRecursion}
-use Rattle.std.proofs.lemmas.Slice.Eq.{bytes_eq-Decides}
-use Rattle.mx_word.specs.declared.symbols.Symbol.{Symbol}
-use Rattle.mx_stab.specs.Grammar.{AreDistinct}
-use Rattle.mx_stab.specs.Reading.{is_among}
+use Rattle.mx_stab.proofs.Words.{AllByRecursion, bytes_eq-Decides, Symbol, AreDistinct, is_among}
 use Rattle.mx_stab.proofs.Orders.{all-front}
 
 pub distinct-front : (xs ys : List Symbol) → AreDistinct (xs ++ ys) → AreDistinct xs

@@ -1,10 +1,6 @@
 -- Worked rows of the table of faults.
 use Rattle.std.proofs.Common.{ℕ, [], ◌∷◌, length, ap, refl, arith, inl, inr}
-use Rattle.std.proofs.lemmas.List.{length-replicate}
-use Rattle.mx_word.specs.declared.symbols.Value.TheVariants.{Pure}
-use Rattle.mx_stab.specs.declared.faults.StabFault.TheVariants.{Truncated, Padding, Wide, Twice, BadSerial}
-use Rattle.mx_stab.specs.FaultTable.{CountsTooFar, EndsWithin, FaultOf, IsDue, LacksWide, NamesAgain, UpToCharacter, UpToLeft, UpToSymbol}
-use Rattle.mx_stab.specs.Grammar.{IsSubtrie, SpellsCharacter, SpellsSerial, SpellsValue}
+use Rattle.mx_stab.proofs.Words.{length-replicate, Pure, Truncated, Padding, Wide, Twice, BadSerial, CountsTooFar, EndsWithin, FaultOf, IsDue, LacksWide, NamesAgain, UpToCharacter, UpToLeft, UpToSymbol, IsSubtrie, SpellsCharacter, SpellsSerial, SpellsValue}
 
 -- a node with the character `:` below which names go on
 colon : UpToSymbol [] [] 0x20 (0x20 ∷ 0x3a ∷ []) (0x3a ∷ []) []

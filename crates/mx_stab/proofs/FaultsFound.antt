@@ -1,21 +1,8 @@
 -- The fault that is read is in the table.
-use Rattle.std.proofs.Common.{◌≡◌, ◌≢◌, ℕ, zero, suc, ◌+◌, ◌-◌, ◌*◌, ◌^◌, ◌≤◌, ◌<◌, ◌==◌, ◌%◌, ◌/◌, Bool, true, false, cond, ◌||◌, List, [], ◌∷◌, ◌++◌, length, take, drop, Option, Some, None, Ok, Err, Result, arith, refl, sym, ap, ◌∙◌, subst, length-append, append_assoc, append-nil}
-use Rattle.std.specs.Prelude.{nat_le, nat_lt, bytes_eq}
-use Rattle.std.specs.Char.{encode_utf8}
-use Rattle.std.proofs.lemmas.Bool.{eqb-true, eqb-false, leb-true, leb-false, ltb-true, ltb-false}
-use Rattle.std.proofs.lemmas.List.{length-take-le, take-append-drop}
-use Rattle.std.proofs.lemmas.Slice.Eq.{bytes_eq-Decides}
-use Rattle.mx_word.specs.Ranges.{AreBytes}
-use Rattle.mx_word.specs.declared.symbols.Symbol.{Symbol}
-use Rattle.mx_word.specs.declared.symbols.Value.{Value}
-use Rattle.mx_stab.specs.declared.faults.StabFault.{StabFault}
-use Rattle.mx_stab.specs.declared.faults.StabFault.TheVariants.{Truncated, Padding, Wide, Twice, TooLong, BadSerial}
-use Rattle.mx_stab.specs.Characters.{wide_number, is_wide_character}
+use Rattle.std.proofs.Common.{◌≡◌, ◌≢◌, ℕ, zero, suc, ◌+◌, ◌-◌, ◌*◌, ◌^◌, ◌≤◌, ◌<◌, ◌==◌, ◌%◌, ◌/◌, Bool, true, false, cond, ◌||◌, List, [], ◌∷◌, ◌++◌, length, take, drop, Option, Some, None, Ok, Err, Result, arith, refl, sym, ap, ◌∙◌, subst, length-append, append_assoc, append-nil, nat_le, nat_lt, bytes_eq}
+use Rattle.mx_stab.proofs.Words.{encode_utf8, cond_both, eqb-true, eqb-false, leb-true, leb-false, ltb-true, ltb-false, length-take-le, take-append-drop, bytes_eq-Decides, AreBytes, Symbol, Value, StabFault, Truncated, Padding, Wide, Twice, TooLong, BadSerial, wide_number, is_wide_character, CountsTooFar, EndsWithin, FaultOf, HasCharacter, IsDue, IsTooDeep, IsWideBare, LacksWide, NamesAgain, UpToCharacter, UpToLeft, UpToSymbol, AreBelow, AreDistinct, IsSubtrie, SpellsCharacter, SpellsSerial, SpellsValue, Reading, Answer, Character, and_then, part_if, is_among, value_size, value_of, serial_behind, symbol_with, symbol, has, has_character, is_wide_bare, character_of, character_part, with_character, node_rest, node, subtrie, next_subtrie, is_padding, symbols_at_end, start, trie_answer}
 use Rattle.mx_stab.specs.FaultTable as table
-use Rattle.mx_stab.specs.FaultTable.{CountsTooFar, EndsWithin, FaultOf, HasCharacter, IsDue, IsTooDeep, IsWideBare, LacksWide, NamesAgain, UpToCharacter, UpToLeft, UpToSymbol}
-use Rattle.mx_stab.specs.Grammar.{AreBelow, AreDistinct, IsSubtrie, SpellsCharacter, SpellsSerial, SpellsValue}
 use Rattle.mx_stab.specs.Reading as reading
-use Rattle.mx_stab.specs.Reading.{Reading, Answer, Character, and_then, part_if, is_among, value_size, value_of, serial_behind, symbol_with, symbol, has, has_character, is_wide_bare, character_of, character_part, with_character, node_rest, node, subtrie, next_subtrie, is_padding, symbols_at_end, start, trie_answer}
 use Rattle.mx_stab.proofs.Distinct.{distinct-front}
 use Rattle.mx_stab.proofs.NodeParts.{has-none, has-one, is-bare, is-no-bare}
 use Rattle.mx_stab.proofs.Orders.{all-back, all-front}
@@ -204,11 +191,9 @@ two_bytes-found bytes k front path before at m node a found (high ∷ low ∷ re
 
 character_of-found : (bytes : List ℕ) (k : ℕ) (front path : List ℕ) (before : List Symbol) (at m : ℕ) (node : List ℕ) (s : Reading) → 0 < length bytes →
     InNode bytes k front path before at node s → UpToLeft path before m node s.found → HasCharacter m → CharacterInTable bytes (character_of at m s)
-character_of-found bytes k front path before at m node s some n h there = one (has 0x80 m) (eqb-true (table.flag 0x80 m) 1)
-  where
-    one : (b : Bool) → (b ≡ true → table.flag 0x80 m ≡ 1) → CharacterInTable bytes (cond b (reading.two_bytes at s.at s.found s.rest) (reading.one_byte s.at s.found s.rest))
-    one true mark = two_bytes-found bytes k front path before at m node s.at s.found s.rest some n h there (mark refl)
-    one false mark = one_byte-found bytes k front path before at m node s.at s.found s.rest some n h there
+character_of-found bytes k front path before at m node s some n h there = cond_both (has 0x80 m) _ _ (CharacterInTable bytes)
+    (λ e. two_bytes-found bytes k front path before at m node s.at s.found s.rest some n h there (eqb-true (table.flag 0x80 m) 1 e))
+    (λ _. one_byte-found bytes k front path before at m node s.at s.found s.rest some n h there)
 
 bit-is : (weight m : ℕ) → flag (has weight m) ≡ table.flag weight m
 bit-is weight m = flag-is (m / weight % 2) (omega arith)

@@ -3,6 +3,5 @@ use Rattle.std.proofs.Common.{◌≡◌, ℕ, ◌<◌, List, [], ◌∷◌, leng
 use Rattle.mx_stab.specs.Numbers.{fewest_digits}
 
 pub few-stay : (digits : List ℕ) → length digits < 2 → fewest_digits digits ≡ digits
-few-stay [] l = refl
-few-stay (d ∷ []) l = refl
 few-stay (d ∷ e ∷ more) l = absurd (omega arith)
+few-stay digits l = refl

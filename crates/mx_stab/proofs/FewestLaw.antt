@@ -1,12 +1,8 @@
 -- No fewer bytes tell a value or a serial number than those that are written.
 use Rattle.std.proofs.Common.{◌≡◌, ℕ, ◌+◌, ◌-◌, ◌%◌, ◌^◌, ◌<◌, ◌≤◌, Bool, true, false, cond, List, [], ◌∷◌, ◌++◌, length, arith, subst, length-append}
 use Rattle.std.specs.Cmp.Derive.{both_true}
-use Rattle.std.proofs.lemmas.Bool.{le-leb, lt-ltb}
-use Rattle.mx_word.specs.Words.{octa_to_bytes}
-use Rattle.mx_word.specs.declared.symbols.Value.{Value}
+use Rattle.mx_stab.proofs.Words.{le-leb, lt-ltb, octa_to_bytes, Value, AreBelow, SpellsValue, SpellsSerial, number, is_offset, octa_digits, value_bytes, serial_bytes}
 use Rattle.mx_stab.specs.Grammar as grammar
-use Rattle.mx_stab.specs.Grammar.{AreBelow, SpellsValue, SpellsSerial, number}
-use Rattle.mx_stab.specs.Numbers.{is_offset, octa_digits, value_bytes, serial_bytes}
 use Rattle.mx_stab.proofs.Digits.{number-power, number-below, fewest-least, fewest-last}
 use Rattle.mx_stab.proofs.Spelt.{octa-number, serial-front, serial-number}
 

@@ -1,9 +1,6 @@
 -- The first node of a trie, and what has_symbols behind it.
 use Rattle.std.proofs.Common.{◌≡◌, ℕ, zero, suc, ◌+◌, ◌-◌, ◌<◌, ◌==◌, List, [], ◌∷◌, ◌++◌, length, take, drop, Bool, true, false, cond, refl, sym, ap, ◌∙◌, arith, append_assoc, append-nil, length-append, ◌≤◌}
-use Rattle.std.proofs.lemmas.Bool.{eqb-true}
-use Rattle.mx_word.specs.declared.symbols.Symbol.{Symbol}
-use Rattle.mx_stab.specs.Trie.{next_byte, groups_with, groups_of, symbols_below, has_symbols, node_front, nodes, trie, trie_from, longest}
-use Rattle.mx_stab.specs.Writing.{bytes_due, run_length, group_size}
+use Rattle.mx_stab.proofs.Words.{cond_both, eqb-true, Symbol, next_byte, groups_with, groups_of, symbols_below, has_symbols, node_front, nodes, trie, trie_from, longest, bytes_due, run_length, group_size}
 use Rattle.mx_stab.specs.declared.writing.Pending.{Pending}
 
 group-step : (b : Bool) (at : ℕ) (s t : Symbol) (ts : List Symbol) (r q : ℕ) → (b ≡ true → q ≡ r) →
@@ -22,13 +19,8 @@ groups_of-first at s (t ∷ ts) =
     (λ e. ap (λ x. run_length at x ts) (eqb-true (next_byte at t) (next_byte at s) e)) rest
 
 has_symbols-groups_with : (at : ℕ) (s : Symbol) (groups : List (List Symbol)) → has_symbols (groups_with at s groups) ≡ true
-has_symbols-groups_with at s [] = refl
-has_symbols-groups_with at s ([] ∷ groups) = refl
-has_symbols-groups_with at s ((t ∷ group) ∷ groups) = pick (next_byte at t == next_byte at s)
-  where
-    pick : (b : Bool) → has_symbols (cond b ((s ∷ t ∷ group) ∷ groups) ((s ∷ []) ∷ (t ∷ group) ∷ groups)) ≡ true
-    pick true = refl
-    pick false = refl
+has_symbols-groups_with at s ((t ∷ group) ∷ groups) = cond_both (next_byte at t == next_byte at s) _ _ (λ x. has_symbols x ≡ true) (λ _. refl) (λ _. refl)
+has_symbols-groups_with at s groups = refl
 
 pub has_symbols-groups_of : (at : ℕ) (symbols : List Symbol) → has_symbols (groups_of at symbols) ≡ has_symbols symbols
 has_symbols-groups_of at [] = refl

@@ -1,15 +1,7 @@
 -- What is written is in the grammar.
-use Rattle.std.proofs.Common.{◌≡◌, ℕ, zero, suc, ◌+◌, ◌*◌, ◌<◌, ◌≤◌, ◌==◌, Bool, true, false, cond, List, [], ◌∷◌, ◌++◌, length, take, replicate, arith, refl, sym, ap, ◌∙◌, subst, inl, inr, length-append}
-use Rattle.std.specs.Prelude.{slice_index_or}
-use Rattle.std.specs.List.{AllByRecursion}
+use Rattle.std.proofs.Common.{◌≡◌, ℕ, zero, suc, ◌+◌, ◌*◌, ◌<◌, ◌≤◌, ◌==◌, Bool, true, false, cond, List, [], ◌∷◌, ◌++◌, length, take, replicate, arith, refl, sym, ap, ◌∙◌, subst, inl, inr, length-append, slice_index_or}
+use Rattle.mx_stab.proofs.Words.{AllByRecursion, eqb-true, leb-true, leb-false, cases_lt, AreBytes, Symbol, value_bytes, kind, serial_bytes, next_byte, is_last_byte, groups_with, groups_of, bit, has_symbols, nodes, trie, trie_of, InByteOrder, IsNamed, IsSubtrie, IsTrie}
 use Rattle.std.proofs.Math.Seq.{take-suc}
-use Rattle.std.proofs.lemmas.Bool.{eqb-true, leb-true, leb-false, cases_lt}
-use Rattle.mx_word.specs.Ranges.{AreBytes}
-use Rattle.mx_word.specs.declared.symbols.Symbol.{Symbol}
-use Rattle.mx_stab.specs.Numbers.{value_bytes, kind, serial_bytes}
-use Rattle.mx_stab.specs.Trie.{next_byte, is_last_byte, groups_with, groups_of, bit, has_symbols, nodes, trie, trie_of}
-use Rattle.mx_word.specs.Symbols.{InByteOrder, IsNamed}
-use Rattle.mx_stab.specs.Grammar.{IsSubtrie, IsTrie}
 use Rattle.mx_stab.specs.Grammar.IsSubtrie.{none, bare, passage, symbol}
 use Rattle.mx_stab.specs.Grammar.IsTrie.{empty, whole}
 use Rattle.mx_stab.specs.Grammar.SpellsCharacter.{one_byte}
@@ -61,9 +53,8 @@ concat-step true s t group groups = refl
 concat-step false s t group groups = refl
 
 concat-groups_with : (at : ℕ) (s : Symbol) (groups : List (List Symbol)) → all-of (groups_with at s groups) ≡ s ∷ all-of groups
-concat-groups_with at s [] = refl
-concat-groups_with at s ([] ∷ groups) = refl
 concat-groups_with at s ((t ∷ group) ∷ groups) = concat-step (next_byte at t == next_byte at s) s t group groups
+concat-groups_with at s groups = refl
 
 concat-groups_of : (at : ℕ) (symbols : List Symbol) → all-of (groups_of at symbols) ≡ symbols
 concat-groups_of at [] = refl
@@ -134,9 +125,6 @@ holds-below deep holds path c symbols n u o =
     subst (λ at. IsSubtrie (flag (has_symbols symbols)) (path ++ c ∷ []) (trie deep at symbols) symbols) long
     (holds (path ++ c ∷ []) symbols (omega (arith, long, n)) u o)
 
-own-name : (path : List ℕ) (s : Symbol) → Under path s → length s.name ≤ length path + 1 → path ++ next_byte (length path) s ∷ [] ≡ s.name
-own-name path s u l = sym (next-path path s u) ∙ take-whole (length path + 1) s.name l
-
 byte-below : (name : List ℕ) (n : ℕ) → AreBytes name → n < length name → slice_index_or name n 0 < 256
 byte-below [] n h l = absurd (omega (arith, l))
 byte-below (b ∷ more) zero h l = h.0
@@ -154,7 +142,7 @@ node-is_last_byte path s more others r middle right u l m o =
     (one_byte c (byte-below s.name (length path) u.named.bytes u.longer)) (path-fits path s u) (spell-value s.value u.named.value) (spell-serial s.serial u.named.serial)
     (none path) m o in
     let named = subst (λ name. IsSubtrie 1 path (((0 + 0x40 * 0 + 0x20 * flag (has_symbols more) + 0x10 * flag r + kind s.value) ∷ c ∷ value_bytes s.value ++ serial_bytes s.serial) ++ middle ++ right)
-    ((record { name = name; value = s.value; serial = s.serial } ∷ more) ++ others)) (own-name path s u l) built in
+    ((record { name = name; value = s.value; serial = s.serial } ∷ more) ++ others)) (sym (next-path path s u) ∙ take-whole (length path + 1) s.name l) built in
     subst (λ b. IsSubtrie 1 path ((b ∷ c ∷ value_bytes s.value ++ serial_bytes s.serial) ++ middle ++ right) ((s ∷ more) ++ others)) (byte-symbol (has_symbols more) r (kind s.value)) named
 
 node-passes : (path : List ℕ) (s : Symbol) (more others : List Symbol) (r : Bool) (middle right : List ℕ) → Under path s →
@@ -184,12 +172,6 @@ node-is false deep holds path s more others r right t f n u g o k =
     (holds-below deep holds path (next_byte (length path) s) (s ∷ more) n
     (below-path path (next_byte (length path) s) s u.0 refl (f refl), more-below path s more u.0 u.1 g o.0) o) k
 
-is_last_byte-true : (at : ℕ) (s : Symbol) → is_last_byte at s ≡ true → length s.name ≤ at + 1
-is_last_byte-true at s h = leb-true (length s.name) (at + 1) h
-
-is_last_byte-false : (at : ℕ) (s : Symbol) → is_last_byte at s ≡ false → at + 1 < length s.name
-is_last_byte-false at s h = leb-false (length s.name) (at + 1) h
-
 nodes-are : (deep : ℕ) → Holds deep → (path : List ℕ) (groups : List (List Symbol)) → length path + suc deep ≡ 1024 →
     AllByRecursion (IsGroup (length path)) groups → AreUnder path (all-of groups) → AreInOrder (all-of groups) →
     IsSubtrie (flag (has_symbols groups)) path (nodes (trie deep (length path + 1)) (length path) groups) (all-of groups)
@@ -197,7 +179,7 @@ nodes-are deep holds path [] n g u o = none path
 nodes-are deep holds path ([] ∷ groups) n g u o = absurd (g.0)
 nodes-are deep holds path ((s ∷ more) ∷ groups) n g u o =
     node-is (is_last_byte (length path) s) deep holds path s more (all-of groups) (has_symbols groups) (nodes (trie deep (length path + 1)) (length path) groups)
-    (is_last_byte-true (length path) s) (is_last_byte-false (length path) s) n (all-front (Under path) (s ∷ more) (all-of groups) u) g.0 (order-front (s ∷ more) (all-of groups) o)
+    (λ h. leb-true (length s.name) ((length path) + 1) h) (λ h. leb-false (length s.name) ((length path) + 1) h) n (all-front (Under path) (s ∷ more) (all-of groups) u) g.0 (order-front (s ∷ more) (all-of groups) o)
     (nodes-are deep holds path groups n g.1 (all-back (Under path) (s ∷ more) (all-of groups) u) (order-back (s ∷ more) (all-of groups) o))
 
 too-deep : (path : List ℕ) (symbols : List Symbol) → length path + zero ≡ 1024 → AreUnder path symbols → symbols ≡ []

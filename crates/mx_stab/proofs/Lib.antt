@@ -18,3 +18,4 @@ pub mod Spelt
 pub mod Law
 pub mod NamesLaw
 pub mod FewestLaw
+pub mod Words

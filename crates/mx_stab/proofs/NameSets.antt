@@ -1,21 +1,9 @@
 -- The names of the symbols that were found.
 use Rattle.std.proofs.Common.{◌≡◌, ◌≢◌, ℕ, suc, ◌+◌, ◌-◌, ◌<◌, ◌≤◌, Bool, true, false, not, ◌||◌, List, [], ◌∷◌, ◌++◌, length, get_or, take, Ordering, Vec, Result, Ok, Err, OnOk, OnErr, arith, refl, sym, ap, subst, ◌∙◌, bytes_eq}
-use Rattle.std.specs.List.{AllByRecursion, list_any}
-use Rattle.std.specs.Ordering.{nat_cmp, is_eq, is_lt, match_ordering}
-use Rattle.std.specs.declared.cmp.Ordering.TheVariants.{Less, Equal, Greater}
+use Rattle.mx_stab.proofs.Words.{AllByRecursion, list_any, nat_cmp, is_eq, is_lt, match_ordering, Less, Equal, Greater, slice_cmp, or_comm, or_assoc, take_at_read, bytes_eq-Decides, Symbol, Pure, AreDistinct, is_above, is_key, HasNames, InByteOrder, is_among}
 use Rattle.std.specs.BTreeMap.{is_at}
 use Rattle.std.specs.BTreeSet.{BTreeSet, insert_key}
-use Rattle.std.specs.Cmp.Lexicographic.{slice_cmp}
-use Rattle.std.proofs.Math.Bool.{or_comm, or_assoc}
-use Rattle.std.proofs.lemmas.Grind.{take_at_read}
 use Rattle.std.proofs.lemmas.Map.Text.{is_eq-slice_cmp}
-use Rattle.std.proofs.lemmas.Slice.Eq.{bytes_eq-Decides}
-use Rattle.mx_word.specs.declared.symbols.Symbol.{Symbol}
-use Rattle.mx_word.specs.declared.symbols.Value.TheVariants.{Pure}
-use Rattle.mx_stab.specs.Grammar.{AreDistinct}
-use Rattle.mx_stab.specs.Names.{is_above, is_key, HasNames}
-use Rattle.mx_word.specs.Symbols.{InByteOrder}
-use Rattle.mx_stab.specs.Reading.{is_among}
 use Rattle.mx_stab.proofs.Orders.{in-order, in-byte-order, in-order-distinct, order-push}
 
 -- a symbol more at the end

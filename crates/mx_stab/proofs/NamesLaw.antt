@@ -1,17 +1,7 @@
 -- The symbols of a trie are named.
-use Rattle.std.proofs.Common.{◌≡◌, ℕ, ◌+◌, ◌/◌, ◌%◌, ◌<◌, Bool, true, false, cond, List, [], ◌∷◌, ◌++◌, length, arith, refl, length-append}
-use Rattle.std.specs.Prelude.{nat_lt}
-use Rattle.std.specs.Char.{encode_utf8}
-use Rattle.std.specs.List.{AllByRecursion}
-use Rattle.std.proofs.lemmas.Bool.{lt-ltb, ltb-true}
-use Rattle.mx_word.proofs.Ranges.{bytes-append}
-use Rattle.mx_word.specs.Ranges.{AreBytes}
-use Rattle.mx_word.specs.declared.symbols.Symbol.{Symbol}
-use Rattle.mx_word.specs.declared.symbols.Value.{Value}
-use Rattle.mx_stab.specs.Characters.{wide_number}
+use Rattle.std.proofs.Common.{◌≡◌, ℕ, ◌+◌, ◌/◌, ◌%◌, ◌<◌, Bool, true, false, cond, List, [], ◌∷◌, ◌++◌, length, arith, refl, length-append, nat_lt}
+use Rattle.mx_stab.proofs.Words.{encode_utf8, AllByRecursion, lt-ltb, ltb-true, bytes-append, AreBytes, Symbol, Value, wide_number, AreDistinct, IsSubtrie, IsTrie, SpellsCharacter, SpellsValue, IsNamed, IsValue}
 use Rattle.mx_stab.specs.Grammar as grammar
-use Rattle.mx_stab.specs.Grammar.{AreDistinct, IsSubtrie, IsTrie, SpellsCharacter, SpellsValue}
-use Rattle.mx_word.specs.Symbols.{IsNamed, IsValue}
 use Rattle.mx_stab.proofs.Digits.{number-below}
 use Rattle.mx_stab.proofs.Orders.{all-both}
 use Rattle.mx_stab.proofs.Whole.{serial-fits}

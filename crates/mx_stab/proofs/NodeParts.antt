@@ -1,18 +1,10 @@
 -- A node is read piece by piece.
-use Rattle.std.proofs.Common.{◌≡◌, ◌≢◌, ℕ, ◌+◌, ◌%◌, ◌==◌, Bool, true, false, ◌&&◌, ◌||◌, not, List, [], ◌∷◌, ◌++◌, length, arith, refl, ap, ◌∙◌, inl, inr, append_assoc, length-append}
-use Rattle.std.specs.Prelude.{nat_lt}
-use Rattle.std.proofs.lemmas.Bool.{cond-false, and_parts, eqb-true, eqb-false, le-ltb}
-use Rattle.mx_word.specs.declared.symbols.Symbol.{Symbol}
-use Rattle.mx_stab.specs.FaultTable.{HasCharacter, IsWideBare, UpToCharacter, UpToLeft, UpToSymbol, flag}
+use Rattle.std.proofs.Common.{◌≡◌, ◌≢◌, ℕ, ◌+◌, ◌%◌, ◌==◌, Bool, true, false, ◌&&◌, ◌||◌, not, List, [], ◌∷◌, ◌++◌, length, arith, refl, ap, ◌∙◌, inl, inr, append_assoc, length-append, nat_lt}
+use Rattle.mx_stab.proofs.Words.{cond-false, and_parts, eqb-true, eqb-false, le-ltb, Symbol, HasCharacter, IsWideBare, UpToCharacter, UpToLeft, UpToSymbol, flag, Reading, Answer, and_then, part_if, symbol, has, has_character, is_wide_bare, character_part, with_character, node_rest, next_subtrie}
 use Rattle.mx_stab.specs.Reading as reading
-use Rattle.mx_stab.specs.Reading.{Reading, Answer, and_then, part_if, symbol, has, has_character, is_wide_bare, character_part, with_character, node_rest, next_subtrie}
 use Rattle.mx_stab.proofs.Parts.{next-node}
 use Rattle.mx_stab.proofs.Whole.{tells-symbol, character-is, tells-subtrie}
-
--- the tests of a byte m say what they mean
-or-there : (a b : Bool) → b ≡ true → (a || b) ≡ true
-or-there true b h = refl
-or-there false b h = h
+use Rattle.std.proofs.lemmas.Bool.{or_right as or-there}
 
 none-or : (a b : Bool) → (a ≡ false → ⊥) → (b ≡ true → ⊥) → (not a || b) ≡ false
 none-or true true h k = absurd (k refl)

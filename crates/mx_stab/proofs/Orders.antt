@@ -1,15 +1,8 @@
 -- Names in byte order.
 use Rattle.std.proofs.Common.{◌≡◌, ◌≢◌, ℕ, zero, suc, ◌<◌, ◌⊎◌, true, List, [], ◌∷◌, ◌++◌, take, map, Ordering, arith, refl, inl, inr}
-use Rattle.std.specs.List.{AllByRecursion}
+use Rattle.mx_stab.proofs.Words.{AllByRecursion, slice_cmp, nat_cmp, is_lt, ordering_then, MatchOrdering, Less, Equal, Greater, Symbol, AreDistinct, is_above, InByteOrder}
 use Rattle.std.specs.List.Sorted.{IsStrictlySortedBy}
-use Rattle.std.specs.Cmp.Lexicographic.{slice_cmp}
-use Rattle.std.specs.Ordering.{nat_cmp, is_lt, ordering_then, MatchOrdering}
-use Rattle.std.specs.declared.cmp.Ordering.TheVariants.{Less, Equal, Greater}
 use Rattle.std.proofs.lemmas.Cmp.{nat_list_cmp_total, ranked}
-use Rattle.mx_word.specs.declared.symbols.Symbol.{Symbol}
-use Rattle.mx_stab.specs.Grammar.{AreDistinct}
-use Rattle.mx_stab.specs.Names.{is_above}
-use Rattle.mx_word.specs.Symbols.{InByteOrder}
 
 pub all-front : {A : Type 0} (P : A → Type 0) (xs ys : List A) → AllByRecursion P (xs ++ ys) → AllByRecursion P xs
 all-front P [] ys h = tt
@@ -68,9 +61,6 @@ below-first a b xs ys = one (nat_cmp a b) (ranked a b (nat_cmp a b) refl)
     one Greater l h = absurd (cc)
 
 not-same : (a b : List ℕ) → Below a b → a ≡ b → ⊥
-not-same [] [] h e = absurd (cc)
-not-same [] (b ∷ ys) h e = absurd (cc)
-not-same (a ∷ xs) [] h e = absurd (cc)
 not-same (a ∷ xs) (b ∷ ys) h e =
     let first : a ≡ b = cc in
     let rest : xs ≡ ys = cc in
@@ -78,14 +68,12 @@ not-same (a ∷ xs) (b ∷ ys) h e =
       | inl l ↦ absurd (omega (arith, first, l))
       | inr p ↦ not-same xs ys p.1 rest
     ]
+not-same a b h e = absurd (cc)
 
 -- no name is below one that it begins with
 pub no-front-behind : (n : ℕ) (a b : List ℕ) → Below a b → take n a ≡ b → ⊥
 no-front-behind n [] [] h e = absurd (cc)
 no-front-behind zero [] (b ∷ ys) h e = absurd (cc)
-no-front-behind (suc n) [] (b ∷ ys) h e = absurd (cc)
-no-front-behind n (a ∷ xs) [] h e = absurd (cc)
-no-front-behind zero (a ∷ xs) (b ∷ ys) h e = absurd (cc)
 no-front-behind (suc n) (a ∷ xs) (b ∷ ys) h e =
     let first : a ≡ b = cc in
     let rest : take n xs ≡ ys = cc in
@@ -93,6 +81,7 @@ no-front-behind (suc n) (a ∷ xs) (b ∷ ys) h e =
       | inl l ↦ absurd (omega (arith, first, l))
       | inr p ↦ no-front-behind n xs ys p.1 rest
     ]
+no-front-behind n a b h e = absurd (cc)
 
 distinct-first : (s : Symbol) (more : List Symbol) → AllByRecursion (λ (t : Symbol). Below s.name t.name) more → AllByRecursion (λ (t : Symbol). s.name ≢ t.name) more
 distinct-first s [] h = tt
@@ -106,8 +95,7 @@ in-order-distinct (s ∷ more) h = (distinct-first s more h.0, in-order-distinct
 -- a name above the last one keeps the order
 less-is : (o : Ordering) → is_lt o ≡ true → o ≡ Less
 less-is Less h = refl
-less-is Equal h = absurd (cc)
-less-is Greater h = absurd (cc)
+less-is o h = absurd (cc)
 
 pub order-push : (symbols : List Symbol) (new : Symbol) → AreInOrder symbols → is_above new.name symbols ≡ true → AreInOrder (symbols ++ new ∷ [])
 order-push [] new o h = (tt, tt)

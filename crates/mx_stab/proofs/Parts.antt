@@ -1,13 +1,7 @@
 -- The meaning of a subtrie does not hang on the bound of its nodes.
-use Rattle.std.proofs.Common.{◌≡◌, ℕ, zero, suc, ◌+◌, ◌-◌, ◌*◌, ◌^◌, ◌≤◌, ◌==◌, ◌%◌, Bool, true, false, cond, List, [], ◌∷◌, ◌++◌, length, take, drop, Option, Some, None, Result, Ok, Err, arith, refl, sym, ap, ◌∙◌, length-drop}
-use Rattle.std.specs.Prelude.{nat_le, nat_lt}
-use Rattle.mx_word.specs.declared.symbols.Symbol.{Symbol}
-use Rattle.mx_word.specs.declared.symbols.Value.{Value}
-use Rattle.mx_stab.specs.declared.faults.StabFault.{StabFault}
-use Rattle.mx_stab.specs.declared.faults.StabFault.TheVariants.{Truncated, Wide, TooLong}
-use Rattle.std.specs.Char.{encode_utf8}
-use Rattle.mx_stab.specs.Characters.{wide_number, is_wide_character}
-use Rattle.mx_stab.specs.Reading.{Reading, Answer, Character, and_then, part_if, is_among, value_size, value_of, serial_behind, symbol_with, symbol, has, has_character, is_wide_bare, one_byte, two_bytes, character_of, character_part, with_character, character, node_rest, node, subtrie, next_subtrie}
+use Rattle.std.proofs.Common.{◌≡◌, ℕ, zero, suc, ◌+◌, ◌-◌, ◌*◌, ◌^◌, ◌≤◌, ◌==◌, ◌%◌, Bool, true, false, cond, List, [], ◌∷◌, ◌++◌, length, take, drop, Option, Some, None, Result, Ok, Err, arith, refl, sym, ap, ◌∙◌, length-drop, nat_le, nat_lt}
+use Rattle.mx_stab.proofs.Words.{cond_both, Symbol, Value, StabFault, Truncated, Wide, TooLong, encode_utf8, wide_number, is_wide_character, Reading, Answer, Character, and_then, part_if, is_among, value_size, value_of, serial_behind, symbol_with, symbol, has, has_character, is_wide_bare, two_bytes, character_of, character_part, with_character, character, node_rest, node, subtrie, next_subtrie}
+use Rattle.mx_stab.specs.Reading.{one_byte}
 
 -- no more than so many bytes are left
 abbrev pub Leaves : ℕ → Answer → Type 0
@@ -45,12 +39,9 @@ behind-more n m (Some (serial, more)) l h = omega (arith, l, h)
 
 pub serial-leaves : (x : ℕ) (bytes : List ℕ) → LeavesBehind (length bytes) (serial_behind x bytes)
 serial-leaves x [] = tt
-serial-leaves x (b ∷ more) = one (nat_lt b 128) (serial-leaves (x * 128 + b) more)
-  where
-    one : (t : Bool) → LeavesBehind (length more) (serial_behind (x * 128 + b) more) →
-        LeavesBehind (length (b ∷ more)) (cond t (serial_behind (x * 128 + b) more) (Some (x * 128 + (b - 128), more)))
-    one true h = behind-more (length more) (length (b ∷ more)) (serial_behind (x * 128 + b) more) (omega arith) h
-    one false h = omega arith
+serial-leaves x (b ∷ more) = cond_both (nat_lt b 128) _ _ (LeavesBehind (length (b ∷ more)))
+    (λ _. behind-more (length more) (length (b ∷ more)) (serial_behind (x * 128 + b) more) (omega arith) (serial-leaves (x * 128 + b) more))
+    (λ _. omega arith)
 
 symbol_with-leaves : (n node : ℕ) (name : List ℕ) (value : Value) (s : Reading) (r : Option (ℕ × List ℕ)) → LeavesBehind n r → Leaves n (symbol_with node name value s r)
 symbol_with-leaves n node name value s None h = tt
@@ -76,20 +67,11 @@ one_byte-leaves at found [] = tt
 one_byte-leaves at found (c ∷ rest) = omega arith
 
 two_bytes-leaves : (node at : ℕ) (found : List Symbol) (bytes : List ℕ) → LeavesCharacter (length bytes) (two_bytes node at found bytes)
-two_bytes-leaves node at found [] = tt
-two_bytes-leaves node at found (high ∷ []) = tt
-two_bytes-leaves node at found (high ∷ low ∷ rest) = one (is_wide_character (wide_number high low))
-  where
-    one : (b : Bool) → LeavesCharacter (length (high ∷ low ∷ rest)) (cond b (Ok (record { name = encode_utf8 (wide_number high low); behind = record { at = at + 2; rest = rest; found = found } })) (Err (Wide node)))
-    one true = omega arith
-    one false = tt
+two_bytes-leaves node at found (high ∷ low ∷ rest) = cond_both (is_wide_character (wide_number high low)) _ _ (LeavesCharacter (length (high ∷ low ∷ rest))) (λ _. omega arith) (λ _. tt)
+two_bytes-leaves node at found bytes = tt
 
 pub character_of-leaves : (node m : ℕ) (s : Reading) → LeavesCharacter (length s.rest) (character_of node m s)
-character_of-leaves node m s = one (has 0x80 m)
-  where
-    one : (b : Bool) → LeavesCharacter (length s.rest) (cond b (two_bytes node s.at s.found s.rest) (one_byte s.at s.found s.rest))
-    one true = two_bytes-leaves node s.at s.found s.rest
-    one false = one_byte-leaves s.at s.found s.rest
+character_of-leaves node m s = cond_both (has 0x80 m) _ _ (LeavesCharacter (length s.rest)) (λ _. two_bytes-leaves node s.at s.found s.rest) (λ _. one_byte-leaves s.at s.found s.rest)
 
 character_part-leaves : (inner : List ℕ → Reading → Answer) → ((path : List ℕ) → Reads (inner path)) → (n node m : ℕ) (path : List ℕ) (c : Result Character StabFault) → LeavesCharacter n c →
     Leaves n (with_character (character_part inner node m path) c)

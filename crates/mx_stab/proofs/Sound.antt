@@ -1,22 +1,11 @@
 -- What is read is in the grammar.
-use Rattle.std.proofs.Common.{◌≡◌, ◌≢◌, ℕ, zero, suc, ◌+◌, ◌-◌, ◌*◌, ◌/◌, ◌%◌, ◌^◌, ◌≤◌, ◌<◌, ◌==◌, Bool, true, false, cond, ◌||◌, not, List, [], ◌∷◌, ◌++◌, length, take, drop, replicate, Option, Some, None, Result, Ok, Err, arith, refl, sym, ap, ◌∙◌, subst, append_assoc, append-nil, length-append}
-use Rattle.std.specs.Prelude.{nat_le, nat_lt, slice_index, ◌&&◌}
-use Rattle.std.specs.Char.{encode_utf8}
-use Rattle.std.proofs.lemmas.Bool.{leb-false, leb-true, ltb-true, ltb-false, eqb-true, eqb-false, or_parts, and_parts}
-use Rattle.std.proofs.lemmas.List.{length-take-le, take-append-drop}
-use Rattle.mx_word.specs.Ranges.{AreBytes}
-use Rattle.mx_word.specs.declared.symbols.Symbol.{Symbol}
-use Rattle.mx_word.specs.declared.symbols.Value.{Value}
-use Rattle.mx_word.specs.declared.symbols.Value.TheVariants.{Pure, Reg}
-use Rattle.mx_stab.specs.declared.faults.StabFault.{StabFault}
-use Rattle.mx_stab.specs.declared.faults.StabFault.TheVariants.{Padding, Truncated, Wide}
-use Rattle.mx_stab.specs.Characters.{wide_number, is_wide_character}
+use Rattle.std.proofs.Common.{◌≡◌, ◌≢◌, ℕ, zero, suc, ◌+◌, ◌-◌, ◌*◌, ◌/◌, ◌%◌, ◌^◌, ◌≤◌, ◌<◌, ◌==◌, Bool, true, false, cond, ◌||◌, not, List, [], ◌∷◌, ◌++◌, length, take, drop, replicate, Option, Some, None, Result, Ok, Err, arith, refl, sym, ap, ◌∙◌, subst, append_assoc, append-nil, length-append, nat_le, nat_lt, slice_index, ◌&&◌}
+use Rattle.mx_stab.proofs.Words.{encode_utf8, leb-false, leb-true, ltb-true, ltb-false, eqb-true, eqb-false, or_parts, and_parts, length-take-le, take-append-drop, AreBytes, Symbol, Value, Pure, Reg, StabFault, Padding, Truncated, Wide, wide_number, is_wide_character, Reading, Answer, Character, and_then, part_if, is_among, value_size, value_of, serial_behind, symbol_with, symbol, has, has_character, is_wide_bare, character_of, character_part, with_character, node_rest, node, subtrie, next_subtrie, are_zeros, is_padding, symbols_at_end, start, trie_answer, AreBelow, AreDistinct, IsSubtrie, IsTrie, SpellsCharacter, SpellsValue, SpellsSerial, number_behind, number}
 use Rattle.mx_stab.specs.Reading as reading
-use Rattle.mx_stab.specs.Reading.{Reading, Answer, Character, and_then, part_if, is_among, value_size, value_of, serial_behind, symbol_with, symbol, has, has_character, is_wide_bare, character_of, character_part, with_character, node_rest, node, subtrie, next_subtrie, are_zeros, is_padding, symbols_at_end, start, trie_answer}
 use Rattle.mx_stab.specs.Grammar as grammar
-use Rattle.mx_stab.specs.Grammar.{AreBelow, AreDistinct, IsSubtrie, IsTrie, SpellsCharacter, SpellsValue, SpellsSerial, number_behind, number}
 use Rattle.mx_stab.proofs.Distinct.{distinct-push}
 use Rattle.mx_stab.proofs.Orders.{all-back, all-front}
+use Rattle.std.proofs.lemmas.Bool.{not-false}
 
 -- a reading and a later one, with the bytes and the symbols between them
 pub record Between (s t : Reading) (bytes : List ℕ) (symbols : List Symbol) : Type 0 where
@@ -97,9 +86,8 @@ serial-cut x serial (d ∷ bytes) more b h = one (nat_lt d 128) (ltb-true d 128)
 
 -- a value of a kind
 register-spelt : (bytes : List ℕ) → length bytes ≡ 1 → AreBytes bytes → SpellsValue 15 (Reg (slice_index bytes 0)) bytes
-register-spelt [] l b = absurd (omega (arith, l))
 register-spelt (k ∷ []) l b = grammar.SpellsValue.register k b.0
-register-spelt (k ∷ d ∷ more) l b = absurd (omega (arith, l))
+register-spelt bytes l b = absurd (omega (arith, l))
 
 pub value-spelt : (kind : ℕ) (bytes : List ℕ) → 1 ≤ kind → kind < 16 → length bytes ≡ value_size kind → AreBytes bytes → SpellsValue kind (value_of kind bytes) bytes
 value-spelt kind bytes least most size b = one (kind == 15) (nat_le kind 8) (eqb-true kind 15) (eqb-false kind 15) (leb-true kind 8) (leb-false kind 8) size
@@ -180,9 +168,8 @@ flag true = 1
 flag false = 0
 
 pub flag-is : (x : ℕ) → x < 2 → flag (x == 1) ≡ x
-flag-is zero h = refl
-flag-is (suc zero) h = refl
 flag-is (suc (suc x)) h = absurd (omega (arith, h))
+flag-is x h = refl
 
 -- the byte m from its bits
 byte-is : (m : ℕ) → m < 256 → m ≡ 0x80 * flag (has 0x80 m) + 0x40 * flag (has 0x40 m) + 0x20 * flag (has 0x20 m) + 0x10 * flag (has 0x10 m) + m % 16
@@ -222,8 +209,6 @@ one_byte-read at found (d ∷ rest) c b e =
     (record { bytes = d ∷ []; is = grammar.SpellsCharacter.one_byte d b.0; between = record { split = refl; place = refl; grown = sym (append-nil found); distinct = λ d. d } })
 
 two_bytes-read : (node at : ℕ) (found : List Symbol) (bytes : List ℕ) (c : Character) → AreBytes bytes → reading.two_bytes node at found bytes ≡ Ok c → CharacterRead 0x80 (record { at = at; rest = bytes; found = found }) c
-two_bytes-read node at found [] c b e = absurd (cc)
-two_bytes-read node at found (high ∷ []) c b e = absurd (cc)
 two_bytes-read node at found (high ∷ low ∷ rest) c b e = one (is_wide_character (wide_number high low)) refl e
   where
     own : Character
@@ -235,6 +220,7 @@ two_bytes-read node at found (high ∷ low ∷ rest) c b e = one (is_wide_charac
         let same : own ≡ c = cc in
         subst (CharacterRead 0x80 (record { at = at; rest = high ∷ low ∷ rest; found = found })) same
         (record { bytes = high ∷ low ∷ []; is = grammar.SpellsCharacter.two_bytes high low b.0 b.1.0 is; between = record { split = refl; place = refl; grown = sym (append-nil found); distinct = λ d. d } })
+two_bytes-read node at found bytes c b e = absurd (cc)
 
 pub character_of-read : (node m : ℕ) (s : Reading) (c : Character) → AreBytes s.rest → character_of node m s ≡ Ok c → CharacterRead (0x80 * flag (has 0x80 m)) s c
 character_of-read node m s c b e = one (has 0x80 m) e
@@ -288,10 +274,6 @@ character-read inner h place m path s t b e = character_part-read inner h place 
 -- whether a node has a character, by its kind and its bit for a middle subtrie
 abbrev spells : ℕ → ℕ → Bool
 spells kind m = not (kind == 0) || m == 1
-
-not-false : (b : Bool) → not b ≡ false → b ≡ true
-not-false true h = refl
-not-false false h = cc
 
 not-spelt : (kind m : ℕ) → spells kind m ≡ false → (kind ≡ 0) × (m ≢ 1)
 not-spelt kind m h =

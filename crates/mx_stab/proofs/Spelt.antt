@@ -1,15 +1,8 @@
 -- Values and serial numbers as they are written.
-use Rattle.std.proofs.Common.{◌≡◌, ℕ, ◌+◌, ◌-◌, ◌/◌, ◌%◌, ◌^◌, ◌<◌, ◌≤◌, ◌==◌, Bool, true, false, cond, List, [], ◌∷◌, ◌++◌, length, arith, refl, sym, ap, ◌∙◌, subst}
-use Rattle.std.specs.Prelude.{nat_le, nat_lt, ◌&&◌}
-use Rattle.std.proofs.lemmas.Bool.{and_parts, eqb-true, leb-true, ltb-true}
-use Rattle.mx_word.specs.Words.{octa_to_bytes}
-use Rattle.mx_word.specs.declared.symbols.Value.{Value}
-use Rattle.mx_word.specs.declared.symbols.Value.TheVariants.{Pure, Reg}
-use Rattle.mx_stab.specs.Numbers.{fewest_digits, octa_digits, is_offset, value_bytes, kind, serial_bytes}
-use Rattle.mx_stab.specs.Grammar.{number, AreBelow, SpellsValue, SpellsSerial}
+use Rattle.std.proofs.Common.{◌≡◌, ℕ, ◌+◌, ◌-◌, ◌/◌, ◌%◌, ◌^◌, ◌<◌, ◌≤◌, ◌==◌, Bool, true, false, cond, List, [], ◌∷◌, ◌++◌, length, arith, refl, sym, ap, ◌∙◌, subst, nat_le, nat_lt, ◌&&◌}
+use Rattle.mx_stab.proofs.Words.{and_parts, eqb-true, leb-true, ltb-true, octa_to_bytes, Value, Pure, Reg, fewest_digits, octa_digits, is_offset, value_bytes, kind, serial_bytes, number, AreBelow, SpellsValue, SpellsSerial, IsValue}
 use Rattle.mx_stab.specs.Grammar.SpellsValue.{pure, offset, register}
 use Rattle.mx_stab.specs.Grammar.SpellsSerial.{digits}
-use Rattle.mx_word.specs.Symbols.{IsValue}
 use Rattle.mx_stab.proofs.Digits.{number-zero}
 
 -- the digits without zeros in front: their bound, their number, and how many they are
@@ -19,9 +12,8 @@ skip-same true base d e more h k = k ∙ rw (h refl) (number-zero base e more)
 skip-same false base d e more h k = refl
 
 fewest_digits-same : (base : ℕ) (ds : List ℕ) → number base (fewest_digits ds) ≡ number base ds
-fewest_digits-same base [] = refl
-fewest_digits-same base (d ∷ []) = refl
 fewest_digits-same base (d ∷ e ∷ more) = skip-same (d == 0) base d e more (eqb-true d 0) (fewest_digits-same base (e ∷ more))
+fewest_digits-same base ds = refl
 
 skip-below : (b : Bool) (base d e : ℕ) (more : List ℕ) → AreBelow base (d ∷ e ∷ more) → AreBelow base (fewest_digits (e ∷ more)) → AreBelow base (cond b (fewest_digits (e ∷ more)) (d ∷ e ∷ more))
 skip-below true base d e more h k = k
@@ -121,15 +113,12 @@ shortened (d ∷ e ∷ more) last h = shorten-step (d == 0) d (e ∷ more) last 
 abbrev pub serial-front : ℕ → List ℕ
 serial-front x = (x / 2 ^ 28) ∷ (x / 2 ^ 21 % 128) ∷ (x / 2 ^ 14 % 128) ∷ (x / 2 ^ 7 % 128) ∷ []
 
-serial-below : (x : ℕ) → x < 2 ^ 32 → AreBelow 128 (serial-front x)
-serial-below x h = (omega (arith, h), (omega arith, (omega arith, (omega arith, tt))))
-
 pub serial-number : (x : ℕ) → number 128 (serial-front x ++ (x % 128) ∷ []) ≡ x
 serial-number x = omega arith
 
 pub spell-serial : (x : ℕ) → x < 2 ^ 32 → SpellsSerial x (serial_bytes x)
 spell-serial x h =
-    let s = shortened (serial-front x) (x % 128) (serial-below x h) in
+    let s = shortened (serial-front x) (x % 128) ((omega (arith, h), (omega arith, (omega arith, (omega arith, tt))))) in
     let back : number 128 (s.short ++ (x % 128) ∷ []) ≡ x = s.tells ∙ serial-number x in
     subst (λ y. SpellsSerial y (serial_bytes x)) back
     (subst (λ bs. SpellsSerial (number 128 (s.short ++ (x % 128) ∷ [])) bs) (sym s.same)

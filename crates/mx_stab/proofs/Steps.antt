@@ -1,15 +1,6 @@
 -- What is due, step by step.
-use Rattle.std.proofs.Common.{◌≡◌, ℕ, ◌+◌, ◌≤◌, ◌<◌, ◌%◌, Bool, true, false, cond, List, [], ◌∷◌, ◌++◌, length, take, drop, Result, Ok, Err, arith, refl, sym, ap, ◌∙◌}
-use Rattle.std.specs.Prelude.{nat_lt}
-use Rattle.std.proofs.lemmas.Bool.{cond-false, cond-true, le-ltb}
-use Rattle.std.proofs.lemmas.List.{take_at}
-use Rattle.mx_word.specs.declared.symbols.Symbol.{Symbol}
-use Rattle.mx_stab.specs.declared.faults.StabFault.{StabFault}
-use Rattle.mx_stab.specs.declared.faults.StabFault.TheVariants.{Truncated, Wide, TooLong}
-use Rattle.mx_stab.specs.Reading.{Reading, Answer, Character, and_then, part_if, has, has_character, is_wide_bare, character_of, character, node_rest, symbol, next_subtrie, with_character, character_part}
-use Rattle.mx_stab.specs.Due.{Point, Progress, and_next, with_path, after_due, after_all, due_if, node_due, symbol_due, after_character, longer_path, reading_of, next_point, due_weight, all_weight, weight}
-use Rattle.mx_stab.specs.declared.due.Due.{Due}
-use Rattle.mx_stab.specs.declared.due.Due.TheVariants.{Subtrie, Rest, Right}
+use Rattle.std.proofs.Common.{◌≡◌, ℕ, ◌+◌, ◌≤◌, ◌<◌, ◌%◌, Bool, true, false, cond, List, [], ◌∷◌, ◌++◌, length, take, drop, Result, Ok, Err, arith, refl, sym, ap, ◌∙◌, nat_lt}
+use Rattle.mx_stab.proofs.Words.{cond-false, cond-true, le-ltb, take_at, Symbol, StabFault, Truncated, Wide, TooLong, Reading, Answer, Character, and_then, part_if, has, has_character, is_wide_bare, character_of, character, node_rest, symbol, next_subtrie, with_character, character_part, Point, Progress, and_next, with_path, after_due, after_all, due_if, node_due, symbol_due, after_character, longer_path, reading_of, next_point, due_weight, all_weight, weight, Due, Subtrie, Rest, Right}
 use Rattle.mx_stab.proofs.Parts.{next-node}
 use Rattle.mx_stab.proofs.Weights.{all_weight-push}
 

@@ -1,11 +1,6 @@
 -- Numbers from their digits.
-use Rattle.std.proofs.Common.{◌≡◌, ◌≢◌, ◌==◌, ℕ, ◌+◌, ◌-◌, ◌*◌, ◌^◌, ◌<◌, ◌≤◌, Bool, true, false, cond, List, [], ◌∷◌, Option, Some, arith, refl, sym, ap, ◌∙◌, min}
-use Rattle.std.specs.Prelude.{nat_lt, nat_le}
-use Rattle.std.proofs.Math.Nat.{pow-le-pow_right}
-use Rattle.std.proofs.lemmas.Bool.{eqb-true, lt-leb, lt-ltb}
-use Rattle.std.proofs.lemmas.Grind.{pow_more}
-use Rattle.mx_stab.specs.Reading.{serial_behind, value_size}
-use Rattle.mx_stab.specs.Due.{cap, serial_cap}
+use Rattle.std.proofs.Common.{◌≡◌, ◌≢◌, ◌==◌, ℕ, ◌+◌, ◌-◌, ◌*◌, ◌^◌, ◌<◌, ◌≤◌, Bool, true, false, cond, List, [], ◌∷◌, Option, Some, arith, refl, sym, ap, ◌∙◌, min, nat_lt, nat_le}
+use Rattle.mx_stab.proofs.Words.{pow-le-pow_right, eqb-true, lt-leb, lt-ltb, pow_more, serial_behind, value_size, cap, serial_cap}
 
 -- fewer digits tell less
 pub digits-below : (x i j : ℕ) → i ≤ j → x < 256 ^ i → x < 256 ^ j

@@ -1,15 +1,10 @@
 -- How much is due.
 use Rattle.std.proofs.Common.{◌≡◌, ℕ, ◌+◌, ◌≤◌, List, [], ◌∷◌, ◌++◌, Bool, true, false, arith}
-use Rattle.mx_stab.specs.Due.{due_weight, all_weight, due_if}
-use Rattle.mx_stab.specs.declared.due.Due.{Due}
-use Rattle.mx_stab.specs.declared.due.Due.TheVariants.{Subtrie}
-
-sum-more : (d a b all : ℕ) → all ≡ a + b → d + all ≡ d + a + b
-sum-more d a b all h = omega (arith, h)
+use Rattle.mx_stab.proofs.Words.{due_weight, all_weight, due_if, Due, Subtrie}
 
 pub all_weight-append : (before above : List Due) → all_weight (before ++ above) ≡ all_weight before + all_weight above
 all_weight-append [] above = omega arith
-all_weight-append (d ∷ before) above = sum-more (due_weight d) (all_weight before) (all_weight above) _ (all_weight-append before above)
+all_weight-append (d ∷ before) above = omega (arith, (all_weight-append before above))
 
 pub all_weight-push : (before : List Due) (d : Due) → all_weight (before ++ d ∷ []) ≡ all_weight before + due_weight d
 all_weight-push before d = omega (arith, all_weight-append before (d ∷ []))

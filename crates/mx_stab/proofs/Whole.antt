@@ -1,19 +1,8 @@
 -- What is in the grammar is read.
-use Rattle.std.proofs.Common.{◌≡◌, ℕ, zero, suc, ◌+◌, ◌-◌, ◌*◌, ◌/◌, ◌%◌, ◌^◌, ◌≤◌, ◌<◌, ◌==◌, Bool, true, false, cond, ◌&&◌, ◌||◌, not, List, [], ◌∷◌, ◌++◌, length, take, drop, replicate, Some, Ok, Err, arith, refl, sym, ap, ◌∙◌, subst, append_assoc, append-nil, length-append}
-use Rattle.std.specs.Prelude.{nat_le, nat_lt}
-use Rattle.std.proofs.Math.Bool.{and-false}
-use Rattle.std.proofs.lemmas.Bool.{cond-false, lt-leb, lt-ltb, le-ltb, le-leb, ne_eqb}
-use Rattle.std.proofs.lemmas.List.{take_at, drop_at}
-use Rattle.mx_word.specs.declared.symbols.Symbol.{Symbol}
-use Rattle.mx_word.specs.declared.symbols.Value.{Value}
-use Rattle.mx_word.specs.declared.symbols.Value.TheVariants.{Pure}
-use Rattle.mx_stab.specs.declared.faults.StabFault.TheVariants.{Padding, Wide}
-use Rattle.mx_stab.specs.Characters.{wide_number}
-use Rattle.mx_stab.specs.Reading.{Reading, Answer, and_then, part_if, is_among, value_size, value_of, serial_behind, symbol_with, symbol, has, has_character, is_wide_bare, character_of, character_part, with_character, node_rest, node, next_subtrie, is_padding, symbols_at_end, start, trie_answer}
+use Rattle.std.proofs.Common.{◌≡◌, ℕ, zero, suc, ◌+◌, ◌-◌, ◌*◌, ◌/◌, ◌%◌, ◌^◌, ◌≤◌, ◌<◌, ◌==◌, Bool, true, false, cond, ◌&&◌, ◌||◌, not, List, [], ◌∷◌, ◌++◌, length, take, drop, replicate, Some, Ok, Err, arith, refl, sym, ap, ◌∙◌, subst, append_assoc, append-nil, length-append, nat_le, nat_lt}
+use Rattle.mx_stab.proofs.Words.{and-false, cond-false, lt-leb, lt-ltb, le-ltb, le-leb, ne_eqb, take_at, drop_at, Symbol, Value, Pure, Padding, Wide, wide_number, Reading, Answer, and_then, part_if, is_among, value_size, value_of, serial_behind, symbol_with, symbol, has, has_character, is_wide_bare, character_of, character_part, with_character, node_rest, node, next_subtrie, is_padding, symbols_at_end, start, trie_answer, encode_utf8, AreBelow, AreDistinct, IsSubtrie, IsTrie, SpellsCharacter, SpellsValue, SpellsSerial, number_behind, number}
 use Rattle.mx_stab.specs.Reading as reading
 use Rattle.mx_stab.specs.Grammar as grammar
-use Rattle.std.specs.Char.{encode_utf8}
-use Rattle.mx_stab.specs.Grammar.{AreBelow, AreDistinct, IsSubtrie, IsTrie, SpellsCharacter, SpellsValue, SpellsSerial, number_behind, number}
 use Rattle.mx_stab.proofs.Distinct.{distinct-front}
 use Rattle.mx_stab.proofs.NameSets.{not-among}
 use Rattle.mx_stab.proofs.Parts.{next-node}
@@ -152,9 +141,7 @@ bits-are w l m r kind f a b c d byte e = (omega arith, omega arith, omega arith,
 
 flag-fits : {l : ℕ} {path bytes : List ℕ} {symbols : List Symbol} → IsSubtrie l path bytes symbols → l ≤ 1
 flag-fits (grammar.IsSubtrie.none path) = omega arith
-flag-fits (grammar.IsSubtrie.bare path l r left right before after hl hr) = omega arith
-flag-fits (grammar.IsSubtrie.passage path name character wide l r left middle right before below after hc long hl hm hr) = omega arith
-flag-fits (grammar.IsSubtrie.symbol path name character wide l m r kind serial value left told counted middle right before below after hc long hv hs hl hm hr) = omega arith
+flag-fits _ = omega arith
 
 -- whether a node has a character, by its kind and its bit for a middle subtrie
 abbrev spells : ℕ → ℕ → Bool
@@ -208,9 +195,6 @@ tells-spelled wide l m r kind byte path name character left value middle right b
     (subst (λ k. Tells (symbol k node (path ++ name)) value own) (sym bits.4) (hv node))
     (subst (λ n. Tells (part_if (n == 1) (next_subtrie (path ++ name))) middle below) (sym bits.2) hm)))) hr
 
-some-kind : (kind m : ℕ) → 1 ≤ kind → spells kind m ≡ true
-some-kind kind m l = ap (λ b. not b || m == 1) (ne_eqb kind 0 (omega (arith, l)))
-
 in-line : (left character told counted middle : List ℕ) → left ++ (character ++ ((told ++ counted) ++ middle)) ≡ left ++ character ++ told ++ counted ++ middle
 in-line left character told counted middle = simp append_assoc
 
@@ -228,25 +212,20 @@ tells-subtrie (grammar.IsSubtrie.symbol path name character wide l m r kind seri
     let own : Symbol = record { name = path ++ name; value = value; serial = serial } in
     let w = value-spelt kind value told hv in
     subst (λ bs. Tells (next_subtrie path) (byte ∷ bs ++ right) (before ++ own ∷ below ++ after)) (in-line left character told counted middle)
-    (tells-spelled wide l m r kind byte path name character left (told ++ counted) middle right before (own ∷ []) below after hc (flag-fits hl) (flag-fits hm) (flag-fits hr) w.most (some-kind kind m w.least) refl long
+    (tells-spelled wide l m r kind byte path name character left (told ++ counted) middle right before (own ∷ []) below after hc (flag-fits hl) (flag-fits hm) (flag-fits hr) w.most (ap (λ b. not b || m == 1) (ne_eqb kind 0 (omega (arith, w.least)))) refl long
     (tells-subtrie hl) (λ node. tells-symbol kind serial node (path ++ name) value told counted hv hs) (tells-subtrie hm) (tells-subtrie hr))
 
 pub some-bytes : {l : ℕ} {path bytes : List ℕ} {symbols : List Symbol} → IsSubtrie l path bytes symbols → 1 ≤ l → 0 < length bytes
 some-bytes (grammar.IsSubtrie.none path) h = absurd (omega (arith, h))
-some-bytes (grammar.IsSubtrie.bare path l r left right before after hl hr) h = omega arith
-some-bytes (grammar.IsSubtrie.passage path name character wide l r left middle right before below after hc long hl hm hr) h = omega arith
-some-bytes (grammar.IsSubtrie.symbol path name character wide l m r kind serial value left told counted middle right before below after hc long hv hs hl hm hr) h = omega arith
+some-bytes _ h = omega arith
 
 pub read-some : (bytes : List ℕ) → 0 < length bytes → trie_answer bytes ≡ symbols_at_end (next_subtrie [] (start bytes))
 read-some [] h = absurd (omega (arith, h))
 read-some (b ∷ more) h = refl
 
 pub padding-is : (zeros : ℕ) → zeros ≤ 3 → is_padding (replicate zeros 0) ≡ true
-padding-is zero h = refl
-padding-is (suc zero) h = refl
-padding-is (suc (suc zero)) h = refl
-padding-is (suc (suc (suc zero))) h = refl
 padding-is (suc (suc (suc (suc n)))) h = absurd (omega (arith, h))
+padding-is zeros h = refl
 
 -- the symbols of a trie are read
 pub trie-read : (bytes : List ℕ) (symbols : List Symbol) → IsTrie bytes symbols → trie_answer bytes ≡ Ok symbols

@@ -1,7 +1,6 @@
 -- Answers that are alike.
 use Rattle.std.proofs.Common.{◌≡◌, Ok, Err, refl}
-use Rattle.mx_stmt.specs.declared.faults.StmtFault.{StmtFault}
-use Rattle.mx_stmt.specs.Steps.{Answer, AreAlike, and_then}
+use Rattle.mx_stmt.proofs.Words.{StmtFault, Answer, AreAlike, and_then}
 
 module _ {B : Type 0} (R : B → B → Type 0) where
   pub alike-fault : (fault : StmtFault) → AreAlike R (Err fault) (Err fault)
@@ -22,6 +21,5 @@ module _ {B : Type 0} (R : B → B → Type 0) where
   pub alike-after : {A : Type 0} (S : A → A → Type 0) (a b : Answer A) (f g : A → Answer B) → AreAlike S a b → ((x y : A) → S x y → AreAlike R (f x) (g y)) → AreAlike R (and_then a f) (and_then b g)
   unfolding AreAlike
   alike-after S (Err fault) (Err other) f g same h = same
-  alike-after S (Err fault) (Ok y) f g same h = absurd same
-  alike-after S (Ok x) (Err other) f g same h = absurd same
   alike-after S (Ok x) (Ok y) f g same h = h x y same
+  alike-after S a b f g same h = absurd same

@@ -1,29 +1,8 @@
 -- A statement waits only for names that are not known at it, and for local labels.
 use Rattle.std.proofs.Common.{◌≡◌, ℕ, ◌+◌, ◌%◌, ◌^◌, ◌==◌, nat_lt, List, [], ◌∷◌, length, Option, None, Some, Result, Ok, Err, refl, sym, ap, ◌∙◌, subst}
-use Rattle.std.specs.List.{AllByRecursion}
-use Rattle.std.proofs.lemmas.Bool.{cond_both}
-use Rattle.mx_word.specs.declared.symbols.Value.{Value}
-use Rattle.mx_word.specs.declared.waits.Awaited.{Awaited}
+use Rattle.mx_stmt.proofs.Words.{AllByRecursion, cond_both, Value, Awaited, Wait, WaitKind, Near, Far, Tree, number, name, back, ahead, here, unary, binary, NameFault, NameTable, value_of_name, Shape, Data, Tetra, Target, Label, Placed, BadPlace, Answer, and_then, Known, Targets, symbol_form, register_at, pure_at, name_unless_known, awaited_name, reference_of, known_target, target_by, target_at, plain_tetra, near_reach, far_reach, relative_word, relative_form, form_by, tetra_wyde, tetra_whole, data_number, data_target, datum, with_rest, data_of, data_form, StatementTree, with_bytes, tetra_waits, tetra_data, with_tetra, with_data, encoding}
 use Rattle.mx_word.specs.declared.waits.Awaited.TheVariants as awaited
-use Rattle.mx_word.specs.declared.waits.Wait.{Wait}
-use Rattle.mx_word.specs.declared.waits.WaitKind.{WaitKind}
-use Rattle.mx_word.specs.declared.waits.WaitKind.TheVariants.{Near, Far}
-use Rattle.mx_expr.specs.Tree.{Tree, number, name, back, ahead, here, unary, binary}
-use Rattle.mx_names.specs.declared.fault.NameFault.{NameFault}
-use Rattle.mx_names.specs.Names.{NameTable, value_of_name}
-use Rattle.mx_ops.specs.declared.op.Shape.{Shape}
-use Rattle.mx_stmt.specs.declared.data.Data.{Data}
-use Rattle.mx_stmt.specs.declared.forms.Tetra.{Tetra}
-use Rattle.mx_stmt.specs.declared.operands.Target.{Target}
 use Rattle.mx_stmt.specs.declared.operands.Target.TheVariants as target
-use Rattle.mx_stmt.specs.declared.statement.Label.{Label}
-use Rattle.mx_stmt.specs.declared.placed.Placed.{Placed}
-use Rattle.mx_stmt.specs.declared.faults.StmtFault.TheVariants.{BadPlace}
-use Rattle.mx_stmt.specs.Steps.{Answer, and_then}
-use Rattle.mx_stmt.specs.Operands.{Known, Targets, symbol_form, register_at, pure_at, name_unless_known, awaited_name, reference_of, known_target, target_by, target_at}
-use Rattle.mx_stmt.specs.Forms.{plain_tetra, near_reach, far_reach, relative_word, relative_form, form_by, tetra_wyde, tetra_whole}
-use Rattle.mx_stmt.specs.Data.{data_number, data_target, datum, with_rest, data_of, data_form}
-use Rattle.mx_stmt.specs.Encoding.{StatementTree, with_bytes, tetra_waits, tetra_data, with_tetra, with_data, encoding}
 use Rattle.mx_stmt.proofs.LaidBytes.{all-append}
 use Rattle.mx_stmt.proofs.EveryForm.{HasNoWait, every-code}
 use Rattle.mx_stmt.proofs.EveryStatement.{at_place, every-statement}
@@ -36,15 +15,15 @@ abbrev pub AreUnknown : NameTable → List Wait → Type 0
 AreUnknown names waits = AllByRecursion (λ (w : Wait). IsUnknown names w.who) waits
 
 -- what holds of the value of an answer
-abbrev Gives : {A : Type 0} → (A → Type 0) → Answer A → Type 0
+abbrev pub Gives : {A : Type 0} → (A → Type 0) → Answer A → Type 0
 Gives P (Err fault) = Unit {0}
 Gives P (Ok x) = P x
 
-then-gives : {A B : Type 0} (P : B → Type 0) (a : Answer A) (next : A → Answer B) → ((x : A) → Gives P (next x)) → Gives P (and_then a next)
+pub then-gives : {A B : Type 0} (P : B → Type 0) (a : Answer A) (next : A → Answer B) → ((x : A) → Gives P (next x)) → Gives P (and_then a next)
 then-gives P (Err fault) next h = tt
 then-gives P (Ok x) next h = h x
 
-after-gives : {A B : Type 0} (Q : A → Type 0) (P : B → Type 0) (a : Answer A) (next : A → Answer B) → Gives Q a → ((x : A) → Q x → Gives P (next x)) → Gives P (and_then a next)
+pub after-gives : {A B : Type 0} (Q : A → Type 0) (P : B → Type 0) (a : Answer A) (next : A → Answer B) → Gives Q a → ((x : A) → Q x → Gives P (next x)) → Gives P (and_then a next)
 after-gives Q P (Err fault) next q h = tt
 after-gives Q P (Ok x) next q h = h x q
 
@@ -72,13 +51,9 @@ module _ (names : NameTable) where
   target-by None (Ok n) h = tt
 
 reference-unknown : (k : Known) (e : Tree) (who : Awaited) → reference_of k e ≡ Some who → IsUnknown k.names who
-reference-unknown k (number n) who h = absurd (cc)
 reference-unknown k (name text) who h = unknown-form k.names (symbol_form k.names text) who h
-reference-unknown k (back d) who h = absurd (cc)
 reference-unknown k (ahead d) who h = λ full same. absurd (let differ : awaited.Local d ≡ awaited.Name full = cc in cc)
-reference-unknown k here who h = absurd (cc)
-reference-unknown k (unary op e) who h = absurd (cc)
-reference-unknown k (binary op l r) who h = absurd (cc)
+reference-unknown k e who h = absurd (cc)
 
 target-unknown : (k : Known) (e : Tree) → Gives (IfFuture k.names) (target_at k e)
 target-unknown k e = target-by k.names (reference_of k e) (pure_at k e) (reference-unknown k e)
@@ -171,7 +146,7 @@ module _ (k : Known) where
   silent-waits (Err fault) h = tt
   silent-waits (Ok p) h = subst (AreUnknown k.names) (sym h.waits) tt
 
-gives-value : {A : Type 0} (P : A → Type 0) (a : Answer A) (x : A) → Gives P a → a ≡ Ok x → P x
+pub gives-value : {A : Type 0} (P : A → Type 0) (a : Answer A) (x : A) → Gives P a → a ≡ Ok x → P x
 gives-value P (Err fault) x h is = absurd (cc)
 gives-value P (Ok y) x h is = let same : y ≡ x = cc in subst P same h
 

@@ -1,15 +1,8 @@
 -- An instruction with a relative address has an even code, which is the first of two of its name.
 use Rattle.std.proofs.Common.{◌≡◌, ◌<◌, ◌≤◌, ℕ, ◌-◌, ◌%◌, ◌==◌, ◌||◌, ◌&&◌, not, nat_lt, Bool, true, false, cond, List, [], ◌∷◌, map, get_or, Some, slice_index_or, refl, sym, ap, ◌∙◌, arith, bytes_eq}
-use Rattle.std.specs.List.{range_with_len}
+use Rattle.mx_stmt.proofs.Words.{range_with_len, false≢true, eqb-true, ltb-true, and_parts, Op, Code, Shape, Rel, Jump, opcode_rows, opcode_names, opcode_name, pseudo_operations, chosen_operations, operations, operation_of, shape_spans, shapes_of}
 use Rattle.std.proofs.lemmas.List.FromFn.{get_or-map-range_with_len}
-use Rattle.std.proofs.lemmas.Bool.{false≢true, eqb-true, ltb-true, and_parts}
 use Rattle.std.proofs.lemmas.Slice.Eq.{bytes_eq-Decides}
-use Rattle.mx_ops.specs.declared.op.Op.{Op}
-use Rattle.mx_ops.specs.declared.op.Op.TheVariants.{Code}
-use Rattle.mx_ops.specs.declared.op.Shape.{Shape}
-use Rattle.mx_ops.specs.declared.op.Shape.TheVariants.{Rel, Jump}
-use Rattle.mx_ops.specs.Opcodes.{opcode_rows, opcode_names, opcode_name, pseudo_operations, chosen_operations, operations, operation_of}
-use Rattle.mx_ops.specs.Shapes.{shape_spans, shapes_of}
 use Rattle.mx_ops.specs.Tables.{first_of}
 use Rattle.mx_ops.proofs.Operations.{lowest-found}
 

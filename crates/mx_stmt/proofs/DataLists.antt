@@ -1,14 +1,7 @@
 -- What a list of data operands places, operand by operand.
 use Rattle.std.proofs.Common.{◌≡◌, ◌<◌, ◌≤◌, ℕ, ◌+◌, ◌%◌, ◌^◌, List, [], ◌∷◌, length, drop, get_or, Ok, Err, arith, refl, ap, sym, ◌∙◌, append_assoc, append-nil}
-use Rattle.std.proofs.lemmas.List.{drop_more, drop_all}
+use Rattle.mx_stmt.proofs.Words.{drop_more, drop_all, tree_of, trees_of, Data, Target, StmtFault, Answer, and_then, Known, Targets, data_of, data_form, data_target, datum, joined_data, with_rest, no_data}
 use Rattle.mx_expr.specs.declared.tree.Expr.{Expr}
-use Rattle.mx_expr.specs.Tree.{tree_of, trees_of}
-use Rattle.mx_stmt.specs.declared.data.Data.{Data}
-use Rattle.mx_stmt.specs.declared.operands.Target.{Target}
-use Rattle.mx_stmt.specs.declared.faults.StmtFault.{StmtFault}
-use Rattle.mx_stmt.specs.Steps.{Answer, and_then}
-use Rattle.mx_stmt.specs.Operands.{Known, Targets}
-use Rattle.mx_stmt.specs.Data.{data_of, data_form, data_target, datum, joined_data, with_rest, no_data}
 
 with-nothing : (rest : Answer Data) → with_rest no_data rest ≡ rest
 with-nothing (Err fault) = refl
@@ -17,9 +10,6 @@ with-nothing (Ok rest) = refl
 with-both : (first second : Data) (rest : Answer Data) → with_rest first (with_rest second rest) ≡ with_rest (joined_data first second) rest
 with-both first second (Err fault) = refl
 with-both first second (Ok rest) = ap (λ d. Ok d) (simp append_assoc)
-
-with-no-more : (first : Data) → with_rest first (Ok no_data) ≡ Ok first
-with-no-more first = ap (λ d. Ok d) (simp append-nil)
 
 module _ (t : Targets) (k : Known) (line size : ℕ) where
   pub data-begins : (es : List Expr) → 0 < length es → with_rest no_data (data_of t k line size k.at (trees_of es)) ≡ data_form t k line size (trees_of es)
@@ -43,4 +33,4 @@ module _ (t : Targets) (k : Known) (line size : ℕ) where
 
   pub data-ends : (first : Data) (place i : ℕ) (es : List Expr) → length es ≤ i → with_rest first (data_of t k line size place (trees_of (drop i es))) ≡ Ok first
   unfolding data_of
-  data-ends first place i es past = ap (λ l. with_rest first (data_of t k line size place (trees_of l))) (drop_all i es past) ∙ with-no-more first
+  data-ends first place i es past = ap (λ l. with_rest first (data_of t k line size place (trees_of l))) (drop_all i es past) ∙ (ap (λ d. Ok d) (simp append-nil))

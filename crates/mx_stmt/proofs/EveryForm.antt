@@ -1,18 +1,6 @@
 -- What holds of tetras without a reference and of relative addresses holds of the forms of all instructions.
 use Rattle.std.proofs.Common.{◌≡◌, ℕ, ◌^◌, true, List, [], ◌∷◌, None, Ok, Err, refl}
-use Rattle.std.proofs.lemmas.Bool.{cond_both}
-use Rattle.mx_word.specs.declared.symbols.Value.{Value}
-use Rattle.mx_word.specs.declared.symbols.Value.TheVariants.{Pure, Reg}
-use Rattle.mx_expr.specs.Tree.{Tree}
-use Rattle.mx_ops.specs.declared.op.Shape.{Shape}
-use Rattle.mx_ops.specs.declared.op.Shape.TheVariants.{Three, Regs, Round, Neg, Rel, Mem, MemPure, Wyde, Jump, Put, Get, Pop, One, Save, Unsave, Free}
-use Rattle.mx_stmt.specs.declared.forms.Tetra.{Tetra}
-use Rattle.mx_stmt.specs.declared.faults.StmtFault.{StmtFault}
-use Rattle.mx_stmt.specs.declared.faults.StmtFault.TheVariants.{Operands}
-use Rattle.mx_stmt.specs.Steps.{Answer, and_then}
-use Rattle.mx_stmt.specs.Gregs.{base_for}
-use Rattle.mx_stmt.specs.Operands.{Known, Targets, operand_value, register_at, field_at, register_or_byte_at, number_below}
-use Rattle.mx_stmt.specs.Forms.{plain_tetra, last_word, last_form, last_register, last_two, takes_byte, rounded_last, address_word, address_of, address_form, branch_form, jump_form, wyde_form, whole_form, byte_form, free_at, free_form, with_register, with_byte, form, form_by, set_to, set_form, tetra_xyz, tetra_wyde, tetra_whole}
+use Rattle.mx_stmt.proofs.Words.{cond_both, Value, Pure, Reg, Tree, Shape, Three, Regs, Round, Neg, Rel, Mem, MemPure, Wyde, Jump, Put, Get, Pop, One, Save, Unsave, Free, Tetra, StmtFault, Operands, Answer, and_then, base_for, Known, Targets, operand_value, register_at, field_at, register_or_byte_at, number_below, plain_tetra, last_word, last_form, last_register, last_two, takes_byte, rounded_last, address_word, address_of, address_form, branch_form, jump_form, wyde_form, whole_form, byte_form, free_at, free_form, with_register, with_byte, form, form_by, set_to, set_form, tetra_xyz, tetra_wyde, tetra_whole}
 use Rattle.mx_stmt.proofs.CodesOfTargets.{has_address}
 
 -- an answer without a reference
@@ -100,12 +88,11 @@ module _ (k : Known) (code : ℕ) (P : (Targets → Answer Tetra) → Type 0) (p
   every-form Wyde branch jump l = by-number (Forms Wyde) none (λ x. none) (λ x n. after-register x _ (λ x. none-wyde k code x n)) (λ x y z. none) (λ x y z w more. none) l
   every-form Jump branch jump l = by-number (Forms Jump) none (λ a. jump refl a) (λ x y. none) (λ x y z. none) (λ x y z w more. none) l
   every-form Put branch jump l = by-number (Forms Put) none (λ x. none) (λ x z. after-byte x _ (λ x. none-last k code x 0 z)) (λ x y z. none) (λ x y z w more. none) l
-  every-form Get branch jump l = by-number (Forms Get) none (λ x. none) (λ x z. after-register x _ (λ x. none-byte k code x z)) (λ x y z. none) (λ x y z w more. none) l
   every-form Pop branch jump l = by-number (Forms Pop) none (λ n. plain _ (none-whole k code n)) (λ x n. after-byte x _ (λ x. none-wyde k code x n)) (λ x y z. none) (λ x y z w more. none) l
   every-form One branch jump l = by-number (Forms One) none (λ n. plain _ (none-whole k code n)) (λ x n. none) (λ x y z. none) (λ x y z w more. none) l
-  every-form Save branch jump l = by-number (Forms Save) none (λ x. none) (λ x z. after-register x _ (λ x. none-byte k code x z)) (λ x y z. none) (λ x y z w more. none) l
   every-form Unsave branch jump l = by-number (Forms Unsave) none (λ z. plain _ (none-register k code 0 0 z)) (λ x z. after-byte x _ (λ x. none-register k code x 0 z)) (λ x y z. none) (λ x y z w more. none) l
   every-form Free branch jump l = by-number (Forms Free) none (λ n. plain _ (none-whole k code n)) (λ x n. plain _ (none-then (free_at k x) _ (λ x. none-wyde k code x n))) (λ x y z. plain _ (none-free k code x y z)) (λ x y z w more. none) l
+  every-form shape branch jump l = by-number (Forms shape) none (λ x. none) (λ x z. after-register x _ (λ x. none-byte k code x z)) (λ x y z. none) (λ x y z w more. none) l
 
   pub every-code : (shapes : List Shape) → (has_address shapes ≡ true → (x a : Tree) → P (λ t. with_register k x (λ x. branch_form t k code x a))) →
       (has_address shapes ≡ true → (a : Tree) → P (λ t. jump_form t k code a)) → (l : List Tree) → P (λ t. form_by t k shapes code l)

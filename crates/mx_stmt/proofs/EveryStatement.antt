@@ -1,40 +1,15 @@
 -- What holds of statements that place no bytes, of data and of instructions holds of all statements.
 use Rattle.std.proofs.Common.{◌≡◌, ◌≤◌, ℕ, ◌%◌, true, List, [], ◌∷◌, Option, arith}
-use Rattle.std.proofs.lemmas.Bool.{false≢true}
-use Rattle.mx_expr.specs.Tree.{Tree}
-use Rattle.mx_ops.specs.declared.op.Op.{Op}
-use Rattle.mx_ops.specs.declared.op.Op.TheVariants.{Pseudo as PseudoOp, Code, Lda, Set}
-use Rattle.mx_ops.specs.declared.op.Pseudo.{Pseudo}
+use Rattle.mx_stmt.proofs.Words.{false≢true, Tree, Op, Code, Lda, Set, Pseudo, Shape, Mem, shapes_of, Tetra, Label, Placed, Answer, Known, Targets, form_by, set_form, data_form, StatementTree, alignment, place_at, known_at_place, with_tetra, with_data, one_operand, pseudo_form, op_form, encoding, IsOperation}
+use Rattle.mx_ops.specs.declared.op.Op.TheVariants.{Pseudo as PseudoOp}
 use Rattle.mx_ops.specs.declared.op.Pseudo.TheVariants as pseudo
-use Rattle.mx_ops.specs.declared.op.Shape.{Shape}
-use Rattle.mx_ops.specs.declared.op.Shape.TheVariants.{Mem}
-use Rattle.mx_ops.specs.Shapes.{shapes_of}
-use Rattle.mx_stmt.specs.declared.forms.Tetra.{Tetra}
-use Rattle.mx_stmt.specs.declared.statement.Label.{Label}
-use Rattle.mx_stmt.specs.declared.placed.Placed.{Placed}
-use Rattle.mx_stmt.specs.Steps.{Answer}
-use Rattle.mx_stmt.specs.Operands.{Known, Targets}
-use Rattle.mx_stmt.specs.Forms.{form_by, set_form}
-use Rattle.mx_stmt.specs.Data.{data_form}
-use Rattle.mx_stmt.specs.Encoding.{StatementTree, alignment, place_at, known_at_place, with_tetra, with_data, one_operand, pseudo_form, op_form, encoding}
-use Rattle.mx_stmt.specs.Fixes.{IsOperation}
 use Rattle.mx_stmt.proofs.CodesOfTargets.{even-code, has_address}
 use Rattle.mx_stmt.proofs.EveryForm.{HasNoWait, set-plain}
 use Rattle.mx_stmt.proofs.SilentStatements.{AreSilent, silent-operand}
 
 aligned : (op : Op) (at : ℕ) → place_at (alignment op) at % alignment op ≡ 0
 aligned (PseudoOp pseudo.Wyde) at = omega arith
-aligned (PseudoOp pseudo.Tetra) at = omega arith
-aligned (PseudoOp pseudo.Octa) at = omega arith
-aligned (PseudoOp pseudo.Byte) at = omega arith
-aligned (PseudoOp pseudo.Is) at = omega arith
-aligned (PseudoOp pseudo.Loc) at = omega arith
-aligned (PseudoOp pseudo.Prefix) at = omega arith
-aligned (PseudoOp pseudo.Greg) at = omega arith
-aligned (PseudoOp pseudo.Local) at = omega arith
-aligned (Code code) at = omega arith
-aligned Lda at = omega arith
-aligned Set at = omega arith
+aligned op at = omega arith
 
 -- one property of the answers with any targets, where `@` is raised
 module _ (k : Known) (line : ℕ) (label : Option Label) (P : (Targets → Answer Placed) → Type 0) (silent : (a : Answer Placed) → AreSilent k a → P (λ t. a)) where

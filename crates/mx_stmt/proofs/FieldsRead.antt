@@ -3,19 +3,8 @@ use Rattle.std.proofs.Common.{◌≡◌, ℕ, ◌&&◌, not, cond, Bool, true, f
 use Rattle.mx_line.specs.declared.spans.Span.{Span}
 use Rattle.mx_line.specs.declared.cutter.Cut.{Cut}
 use Rattle.mx_line.specs.Spans.{part}
-use Rattle.mx_expr.specs.declared.faults.ExprFault.{ExprFault}
+use Rattle.mx_stmt.proofs.Words.{ExprFault, IsFirst, Op, operation_of, StmtFault, LabelNotAllowed, OutOfMemory, fault_of, Answer, StatementTree, Fields, IsFault, IsRead, fields_of, label_in, takes_label, operation_for, operation_with, IsOperation, operation, operand_list}
 use Rattle.mx_expr.specs.declared.faults.ExprFault.TheVariants as expr
-use Rattle.mx_expr.specs.Spelling.{IsFirst}
-use Rattle.mx_ops.specs.declared.op.Op.{Op}
-use Rattle.mx_ops.specs.Opcodes.{operation_of}
-use Rattle.mx_stmt.specs.declared.faults.StmtFault.{StmtFault}
-use Rattle.mx_stmt.specs.declared.faults.StmtFault.TheVariants.{LabelNotAllowed, OutOfMemory}
-use Rattle.mx_stmt.specs.Faults.{fault_of}
-use Rattle.mx_stmt.specs.Steps.{Answer}
-use Rattle.mx_stmt.specs.Encoding.{StatementTree}
-use Rattle.mx_stmt.specs.Reading.{Fields, IsFault, IsRead, fields_of, label_in, takes_label, operation_for, operation_with}
-use Rattle.mx_stmt.specs.Fixes.{IsOperation}
-use Rattle.mx_stmt.specs.Reading.IsFault.{operation, operand_list}
 
 some-label : (text : List ℕ) (span : Option Span) → is_some (label_in text span) ≡ is_some span
 some-label text None = refl
@@ -52,7 +41,7 @@ pub same-first : {A : Type 0} (first other : ExprFault) (answer : Result A ExprF
 same-first first other answer is there = let same : first ≡ other = cc in ap fault_of same
 
 -- the operation of a name
-operation-named : (labelled : Bool) (name : List ℕ) (found : Option Op) (op : Op) → operation_of name ≡ found → operation_with labelled found ≡ Ok op → IsOperation op
+pub operation-named : (labelled : Bool) (name : List ℕ) (found : Option Op) (op : Op) → operation_of name ≡ found → operation_with labelled found ≡ Ok op → IsOperation op
 operation-named labelled name None op is with = cc
 operation-named labelled name (Some other) op is with = by (labelled && not (takes_label other)) with
   where

@@ -1,10 +1,8 @@
 -- Bytes that are placed one after another, and bytes that are joined.
 use Rattle.std.proofs.Common.{◌≡◌, ℕ, zero, suc, ◌+◌, ◌*◌, ◌/◌, ◌%◌, ◌^◌, ◌==◌, Bool, true, false, cond, List, [], ◌∷◌, ◌++◌, length, replicate, bit_xor, refl, sym, ap, ◌∙◌, arith}
+use Rattle.mx_stmt.proofs.Words.{cond_both, xor_assoc, xor_zero_l, xor_comm, xor_shr, xor_mod, pow-add, from_place, placed}
 use Rattle.std.specs.Int.{bytes_high_first, byte_at}
-use Rattle.std.specs.Int.Bits.{xor_assoc, xor_zero_l}
-use Rattle.std.proofs.lemmas.Nat.{xor_comm, xor_shr, xor_mod, pow-add}
 use Rattle.std.proofs.Math.Nat.{pow-suc}
-use Rattle.mx_stmt.specs.Placements.{from_place, placed}
 
 -- two pairs that are joined in another order
 pub xor-pairs : (a b c d : ℕ) → bit_xor (bit_xor a b) (bit_xor c d) ≡ bit_xor (bit_xor a c) (bit_xor b d)
@@ -29,11 +27,7 @@ from-append a (x ∷ xs) ys =
 -- zeros change nothing
 pub placed-zeros : (a n q : ℕ) → placed (from_place a (replicate n 0)) q ≡ 0
 placed-zeros a zero q = refl
-placed-zeros a (suc n) q = by (q == a) (placed-zeros (a + 1) n q)
-  where
-    by : (b : Bool) → placed (from_place (a + 1) (replicate n 0)) q ≡ 0 → cond b (bit_xor 0 (placed (from_place (a + 1) (replicate n 0)) q)) (placed (from_place (a + 1) (replicate n 0)) q) ≡ 0
-    by true rest = xor_zero_l (placed (from_place (a + 1) (replicate n 0)) q) ∙ rest
-    by false rest = rest
+placed-zeros a (suc n) q = cond_both (q == a) _ _ (λ x. x ≡ 0) (λ _. xor_zero_l (placed (from_place (a + 1) (replicate n 0)) q) ∙ (placed-zeros (a + 1) n q)) (λ _. placed-zeros (a + 1) n q)
 
 power : (i : ℕ) → 256 ^ i ≡ 2 ^ (8 * i)
 power zero = refl

@@ -1,20 +1,7 @@
 -- What data operands place, with their targets known and with none.
 use Rattle.std.proofs.Common.{◌≡◌, ◌<◌, ◌≤◌, ℕ, ◌+◌, ◌-◌, ◌%◌, ◌^◌, ◌==◌, List, [], ◌∷◌, ◌++◌, length, unwrap_or, Ok, Err, bit_xor, refl, sym, ap, ◌∙◌, arith, append-nil, append_assoc}
-use Rattle.std.specs.Int.Bits.{xor_zero_l}
-use Rattle.std.proofs.lemmas.Bool.{cond_both, eqb-true}
-use Rattle.std.proofs.lemmas.List.{length-append, length-drop}
-use Rattle.mx_word.specs.Words.{octa_to_bytes}
-use Rattle.mx_word.specs.declared.waits.Wait.{Wait}
-use Rattle.mx_expr.specs.Tree.{Tree}
-use Rattle.mx_stmt.specs.declared.operands.Target.{Target}
+use Rattle.mx_stmt.proofs.Words.{xor_zero_l, cond_both, eqb-true, length-append, length-drop, octa_to_bytes, Wait, Tree, Target, Data, Operands, Answer, AreAlike, and_then, Known, Targets, no_targets, pure_at, known_target, target_at, low_bytes, data_number, data_target, datum, joined_data, with_rest, no_data, data_of, data_form, from_place, placed, fix_bytes, fix_placements}
 use Rattle.mx_stmt.specs.declared.operands.Target.TheVariants as target
-use Rattle.mx_stmt.specs.declared.data.Data.{Data}
-use Rattle.mx_stmt.specs.declared.faults.StmtFault.TheVariants.{Operands}
-use Rattle.mx_stmt.specs.Steps.{Answer, AreAlike, and_then}
-use Rattle.mx_stmt.specs.Operands.{Known, Targets, no_targets, pure_at, known_target, target_at}
-use Rattle.mx_stmt.specs.Data.{low_bytes, data_number, data_target, datum, joined_data, with_rest, no_data, data_of, data_form}
-use Rattle.mx_stmt.specs.Placements.{from_place, placed}
-use Rattle.mx_stmt.specs.Fixes.{fix_bytes, fix_placements}
 use Rattle.mx_stmt.proofs.Alike.{alike-fault, alike-values, alike-then}
 use Rattle.mx_stmt.proofs.JoinedBytes.{xor-pairs, placed-append, from-append, placed-zeros}
 
@@ -36,9 +23,8 @@ HasSize size (target.Known n) = Unit {0}
 HasSize size (target.Future who) = size ≡ 8
 
 known-sized : (size : ℕ) (n : Answer ℕ) (target : Target) → known_target n ≡ Ok target → HasSize size target
-known-sized size (Err fault) target is = cc
 known-sized size (Ok n) (target.Known m) is = tt
-known-sized size (Ok n) (target.Future who) is = cc
+known-sized size n target is = cc
 
 target-sized : (size : ℕ) (target : Target) → size ≡ 8 → HasSize size target
 target-sized size (target.Known n) is = tt
@@ -102,9 +88,8 @@ rest-joined t size place first other rest last one more = record {
 with-rest-joined : (t : Targets) (size place : ℕ) (first other : Data) (rest last : Answer Data) → IsJoinedDatum t size place first other → AreAlike (IsJoinedData t ((place + size) % 2 ^ 64)) rest last → AreAlike (IsJoinedData t place) (with_rest first rest) (with_rest other last)
 unfolding AreAlike
 with-rest-joined t size place first other (Err fault) (Err more) one is = is
-with-rest-joined t size place first other (Err fault) (Ok last) one is = absurd is
-with-rest-joined t size place first other (Ok rest) (Err more) one is = absurd is
 with-rest-joined t size place first other (Ok rest) (Ok last) one is = rest-joined t size place first other rest last one is
+with-rest-joined t size place first other rest last one is = absurd is
 
 data-joined : (t : Targets) (k : Known) (line size place : ℕ) (es : List Tree) → size ≤ 8 → AreAlike (IsJoinedData t place) (data_of no_targets k line size place es) (data_of t k line size place es)
 unfolding data_of

@@ -1,18 +1,6 @@
 -- What a statement places, with its targets known and with none.
 use Rattle.std.proofs.Common.{◌≡◌, ◌≤◌, ℕ, ◌+◌, nat_lt, Bool, true, false, cond, ◌++◌, length, Option, Ok, Err, refl, sym, ap, ◌∙◌, arith, append-nil}
-use Rattle.std.proofs.lemmas.Bool.{ltb-false, false≢true}
-use Rattle.mx_word.specs.declared.symbols.Value.TheVariants.{Pure}
-use Rattle.mx_stmt.specs.declared.data.Data.{Data}
-use Rattle.mx_stmt.specs.declared.forms.Tetra.{Tetra}
-use Rattle.mx_stmt.specs.declared.statement.Label.{Label}
-use Rattle.mx_stmt.specs.declared.placed.Effect.TheVariants.{Plain}
-use Rattle.mx_stmt.specs.declared.placed.Placed.{Placed}
-use Rattle.mx_stmt.specs.declared.faults.StmtFault.TheVariants.{BadPlace}
-use Rattle.mx_stmt.specs.Steps.{Answer, AreAlike}
-use Rattle.mx_stmt.specs.Operands.{Known, Targets, no_targets}
-use Rattle.mx_stmt.specs.Encoding.{StatementTree, label_value, with_bytes, tetra_waits, tetra_data, with_tetra, with_data, encoding}
-use Rattle.mx_stmt.specs.Placements.{from_place, placed}
-use Rattle.mx_stmt.specs.Fixes.{fix_placements, IsFixed, IsOperation, IsSound}
+use Rattle.mx_stmt.proofs.Words.{ltb-false, false≢true, Pure, Data, Tetra, Label, Plain, Placed, BadPlace, Answer, AreAlike, Known, Targets, no_targets, StatementTree, label_value, with_bytes, tetra_waits, tetra_data, with_tetra, with_data, encoding, from_place, placed, fix_placements, IsFixed, IsOperation, IsSound}
 use Rattle.mx_stmt.proofs.Alike.{alike-fault, alike-values, alike-after}
 use Rattle.mx_stmt.proofs.JoinedTetras.{IsJoined, alike-none, coded-joined}
 use Rattle.mx_stmt.proofs.EveryStatement.{at_place, every-statement}

@@ -1,19 +1,7 @@
 -- The tetra of an instruction, with its target known and with none.
 use Rattle.std.proofs.Common.{◌≡◌, ℕ, ◌%◌, true, List, [], ◌++◌, Option, Ok, Err, bit_xor, refl, sym, ap, ◌∙◌, append-nil}
-use Rattle.mx_word.specs.Words.{tetra_to_bytes}
-use Rattle.mx_word.specs.declared.waits.WaitKind.{WaitKind}
-use Rattle.mx_word.specs.declared.waits.WaitKind.TheVariants.{Near, Far}
-use Rattle.mx_expr.specs.Tree.{Tree}
-use Rattle.mx_ops.specs.declared.op.Shape.{Shape}
-use Rattle.mx_stmt.specs.declared.operands.Target.{Target}
+use Rattle.mx_stmt.proofs.Words.{tetra_to_bytes, WaitKind, Near, Far, Tree, Shape, Target, Tetra, Answer, AreAlike, and_then, Known, Targets, no_targets, register_at, target_at, plain_tetra, near_reach, far_reach, relative_word, future_word, relative_form, branch_form, jump_form, with_register, form_by, tetra_wyde, tetra_whole, tetra_waits, from_place, placed, fix_bytes, fix_placements, IsSound}
 use Rattle.mx_stmt.specs.declared.operands.Target.TheVariants as target
-use Rattle.mx_stmt.specs.declared.forms.Tetra.{Tetra}
-use Rattle.mx_stmt.specs.Steps.{Answer, AreAlike, and_then}
-use Rattle.mx_stmt.specs.Operands.{Known, Targets, no_targets, register_at, target_at}
-use Rattle.mx_stmt.specs.Forms.{plain_tetra, near_reach, far_reach, relative_word, future_word, relative_form, branch_form, jump_form, with_register, form_by, tetra_wyde, tetra_whole}
-use Rattle.mx_stmt.specs.Encoding.{tetra_waits}
-use Rattle.mx_stmt.specs.Placements.{from_place, placed}
-use Rattle.mx_stmt.specs.Fixes.{fix_bytes, fix_placements, IsSound}
 use Rattle.mx_stmt.proofs.Alike.{alike-fault, alike-values, alike-then}
 use Rattle.mx_stmt.proofs.JoinedBytes.{placed-append, placed-joined}
 use Rattle.mx_stmt.proofs.JoinedWords.{IsHead, word-joined, jump-head, branch-head}

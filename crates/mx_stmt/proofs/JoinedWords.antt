@@ -1,11 +1,7 @@
 -- A relative address is joined to its instruction by exclusive or.
 use Rattle.std.proofs.Common.{◌≡◌, ◌<◌, ◌≤◌, ℕ, ◌+◌, ◌-◌, ◌*◌, ◌/◌, ◌%◌, ◌^◌, ◌==◌, not, nat_le, nat_lt, Bool, true, false, cond, Option, None, Some, Ok, Err, bit_xor, refl, sym, ap, ◌∙◌, arith}
 use Rattle.std.specs.Result.{result_unwrap_or}
-use Rattle.std.specs.Int.Bits.{xor_zero_l, xor_zero_r}
-use Rattle.std.proofs.lemmas.Nat.{xor_block}
-use Rattle.std.proofs.lemmas.Bool.{eqb-true, leb-true, leb-false, ltb-true}
-use Rattle.mx_stmt.specs.declared.faults.StmtFault.TheVariants.{NotMultiple, TooFar}
-use Rattle.mx_stmt.specs.Forms.{forward_word, backward_word, future_word, tetra_wyde, tetra_whole, near_reach, far_reach}
+use Rattle.mx_stmt.proofs.Words.{xor_zero_l, xor_zero_r, xor_block, eqb-true, leb-true, leb-false, ltb-true, NotMultiple, TooFar, forward_word, backward_word, future_word, tetra_wyde, tetra_whole, near_reach, far_reach}
 
 -- A head takes a number below the reach, and the second code with it.
 pub record IsHead (head reach : ℕ) : Type 0 where

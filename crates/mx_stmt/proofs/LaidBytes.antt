@@ -1,30 +1,10 @@
 -- What always holds of a statement that is placed: its bytes are bytes below the stack segment, and each of its references
 -- stands at a multiple of 4 within them.
 use Rattle.std.proofs.Common.{◌≡◌, ◌<◌, ◌≤◌, ℕ, ◌+◌, ◌-◌, ◌%◌, ◌^◌, nat_lt, List, [], ◌∷◌, ◌++◌, length, Option, None, Some, Ok, Err, refl, sym, ap, ◌∙◌, arith, subst, unwrap_or}
-use Rattle.std.specs.List.{AllByRecursion}
-use Rattle.std.proofs.lemmas.Bool.{cond_both, ltb-false}
-use Rattle.std.proofs.lemmas.List.{length-append, length-drop}
+use Rattle.mx_stmt.proofs.Words.{AllByRecursion, cond_both, ltb-false, length-append, length-drop, octa_to_bytes, tetra_to_bytes, Awaited, Wait, WaitKind, Octa, Near, Far, Tree, Shape, Target, Data, Tetra, Label, Placed, BadPlace, Answer, and_then, Known, Targets, register_at, target_at, plain_tetra, near_reach, far_reach, relative_word, relative_form, form_by, tetra_wyde, tetra_whole, low_bytes, data_target, datum, joined_data, with_rest, data_of, data_form, StatementTree, with_bytes, tetra_data, tetra_waits, with_data, encoding}
 use Rattle.mx_word.specs.Ranges.{AreBytes}
-use Rattle.mx_word.specs.Words.{octa_to_bytes, tetra_to_bytes}
 use Rattle.mx_word.proofs.Ranges.{bytes-append, bytes-behind}
-use Rattle.mx_word.specs.declared.waits.Awaited.{Awaited}
-use Rattle.mx_word.specs.declared.waits.Wait.{Wait}
-use Rattle.mx_word.specs.declared.waits.WaitKind.{WaitKind}
-use Rattle.mx_word.specs.declared.waits.WaitKind.TheVariants.{Octa, Near, Far}
-use Rattle.mx_expr.specs.Tree.{Tree}
-use Rattle.mx_ops.specs.declared.op.Shape.{Shape}
-use Rattle.mx_stmt.specs.declared.operands.Target.{Target}
 use Rattle.mx_stmt.specs.declared.operands.Target.TheVariants as target
-use Rattle.mx_stmt.specs.declared.data.Data.{Data}
-use Rattle.mx_stmt.specs.declared.forms.Tetra.{Tetra}
-use Rattle.mx_stmt.specs.declared.statement.Label.{Label}
-use Rattle.mx_stmt.specs.declared.placed.Placed.{Placed}
-use Rattle.mx_stmt.specs.declared.faults.StmtFault.TheVariants.{BadPlace}
-use Rattle.mx_stmt.specs.Steps.{Answer, and_then}
-use Rattle.mx_stmt.specs.Operands.{Known, Targets, register_at, target_at}
-use Rattle.mx_stmt.specs.Forms.{plain_tetra, near_reach, far_reach, relative_word, relative_form, form_by, tetra_wyde, tetra_whole}
-use Rattle.mx_stmt.specs.Data.{low_bytes, data_target, datum, joined_data, with_rest, data_of, data_form}
-use Rattle.mx_stmt.specs.Encoding.{StatementTree, with_bytes, tetra_data, tetra_waits, with_data, encoding}
 use Rattle.mx_stmt.specs.Laid.{IsInside, IsLaid}
 use Rattle.mx_stmt.proofs.JoinedData.{HasSize, sized}
 use Rattle.mx_stmt.proofs.EveryForm.{HasNoWait, every-code}
@@ -85,11 +65,8 @@ unfolding HasData
 data-then place (Err fault) next h = tt
 data-then place (Ok x) next h = h x refl
 
-octa-bytes : (n : ℕ) → AreBytes (octa_to_bytes n)
+pub octa-bytes : (n : ℕ) → AreBytes (octa_to_bytes n)
 octa-bytes n = (omega arith, (omega arith, (omega arith, (omega arith, (omega arith, (omega arith, (omega arith, (omega arith, tt))))))))
-
-low-length : (size n : ℕ) → size ≤ 8 → length (low_bytes size n) ≡ size
-low-length size n small = length-drop (8 - size) (octa_to_bytes n) ∙ omega arith
 
 record IsDatum (size place : ℕ) (d : Data) : Type 0 where
   bytes : AreBytes d.bytes
@@ -97,7 +74,7 @@ record IsDatum (size place : ℕ) (d : Data) : Type 0 where
   waits : AllByRecursion (IsInside place size) d.waits
 
 datum-laid : (t : Targets) (line size place : ℕ) (target : Target) → size ≤ 8 → HasSize size target → (size ≡ 8 → place % 8 ≡ 0) → IsDatum size place (datum t line size place target)
-datum-laid t line size place (target.Known n) small has eights = record { bytes = bytes-behind (8 - size) (octa_to_bytes n) (octa-bytes n); count = low-length size n small; waits = tt }
+datum-laid t line size place (target.Known n) small has eights = record { bytes = bytes-behind (8 - size) (octa_to_bytes n) (octa-bytes n); count = length-drop (8 - size) (octa_to_bytes n) ∙ omega arith; waits = tt }
 datum-laid t line size place (target.Future who) small has eights =
     let eight = eights has in
     record {
@@ -169,19 +146,15 @@ unfolding HasData
 data-placed k label (Err fault) h = tt
 data-placed k label (Ok d) h = bytes-laid k label d h
 
-tetra-bytes : (t : ℕ) → AreBytes (tetra_to_bytes t)
-tetra-bytes t = (omega arith, (omega arith, (omega arith, (omega arith, tt))))
-
 tetra-waits : (line place : ℕ) (wait : Option (Awaited × WaitKind)) → IsRelative wait → place % 4 ≡ 0 → AllByRecursion (IsInside place 4) (tetra_waits line place wait)
 tetra-waits line place None is m = tt
 tetra-waits line place (Some (who, Octa)) is m = absurd is
-tetra-waits line place (Some (who, Near)) is m = (record { first = omega arith; last = omega arith; fours = m }, tt)
-tetra-waits line place (Some (who, Far)) is m = (record { first = omega arith; last = omega arith; fours = m }, tt)
+tetra-waits line place wait is m = (record { first = omega arith; last = omega arith; fours = m }, tt)
 
 tetra-laid : (k : Known) (line : ℕ) (label : Option Label) (a : Answer Tetra) → HasRelative a → k.at % 4 ≡ 0 → Laid (and_then a (λ tetra. with_bytes k label (tetra_data line k.at tetra)))
 unfolding HasRelative
 tetra-laid k line label (Err fault) h m = tt
-tetra-laid k line label (Ok tetra) h m = bytes-laid k label (tetra_data line k.at tetra) (record { bytes = tetra-bytes tetra.word; waits = λ fits. tetra-waits line k.at tetra.wait h m })
+tetra-laid k line label (Ok tetra) h m = bytes-laid k label (tetra_data line k.at tetra) (record { bytes = (omega arith, (omega arith, (omega arith, (omega arith, tt)))); waits = λ fits. tetra-waits line k.at tetra.wait h m })
 
 silent-laid : (k : Known) (a : Answer Placed) → AreSilent k a → Laid a
 unfolding AreSilent

@@ -18,3 +18,4 @@ pub mod SoundLabels
 pub mod SoundKnowledge
 pub mod LaidBytes
 pub mod AwaitedNames
+pub mod Words

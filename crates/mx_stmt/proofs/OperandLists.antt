@@ -2,12 +2,9 @@
 use Rattle.std.proofs.Common.{◌≡◌, ◌<◌, ◌≤◌, List, [], ◌∷◌, length, get_or, arith, sym, ap}
 
 pub one-read : {X : Type 0} (xs : List X) (x : X) → 1 ≤ length xs → length xs < 2 → x ≡ get_or xs 0 x → xs ≡ x ∷ []
-one-read [] x low high first = absurd (omega arith)
 one-read (a ∷ []) x low high first = ap (λ a. a ∷ []) (sym first)
-one-read (a ∷ b ∷ xs) x low high first = absurd (omega arith)
+one-read xs x low high first = absurd (omega arith)
 
 pub two-read : {X : Type 0} (xs : List X) (x y : X) → 2 ≤ length xs → length xs < 3 → x ≡ get_or xs 0 x → y ≡ get_or xs 1 y → xs ≡ x ∷ y ∷ []
-two-read [] x y low high first second = absurd (omega arith)
-two-read (a ∷ []) x y low high first second = absurd (omega arith)
 two-read (a ∷ b ∷ []) x y low high first second = cc
-two-read (a ∷ b ∷ c ∷ xs) x y low high first second = absurd (omega arith)
+two-read xs x y low high first second = absurd (omega arith)

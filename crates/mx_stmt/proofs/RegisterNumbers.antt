@@ -1,22 +1,11 @@
 -- A value of an operand that is a register has a byte as its number.
 use Rattle.std.proofs.Common.{◌≡◌, ◌<◌, ℕ, ◌^◌, nat_le, Bool, true, false, cond, IfOk, List, Option, None, Some, Result, Ok, Err, subst, arith}
-use Rattle.std.proofs.lemmas.Bool.{cond_both, leb-true}
-use Rattle.std.specs.Option.{IfSome}
-use Rattle.mx_word.specs.declared.symbols.Value.{Value}
-use Rattle.mx_word.specs.declared.symbols.Value.TheVariants.{Pure, Reg}
-use Rattle.mx_expr.specs.declared.faults.ExprFault.{ExprFault}
+use Rattle.mx_stmt.proofs.Words.{cond_both, leb-true, IfSome, Value, Pure, Reg, ExprFault, Tree, number, name, back, ahead, here, unary, binary, Valued, register, unary_value, binary_value, after_operand, after_both, of_symbol, value_of, NameFault, NameTable, value_of_name, and_then, Known, knowledge_of, symbol_form, value_in, answer_of, operand_value, register_number, register_at, HasRegisterNumber, IsSound}
 use Rattle.mx_expr.specs.declared.faults.ExprFault.TheVariants.{RegisterNumber}
 use Rattle.mx_expr.specs.declared.tree.UnOp.{UnOp}
 use Rattle.mx_expr.specs.declared.tree.UnOp.TheVariants.{Plus, Minus, Not, Register}
 use Rattle.mx_expr.specs.declared.tree.BinOp.{BinOp}
 use Rattle.mx_expr.specs.declared.tree.BinOp.TheVariants.{Div, Fraction, Rem, Add, Sub}
-use Rattle.mx_expr.specs.Tree.{Tree, number, name, back, ahead, here, unary, binary}
-use Rattle.mx_expr.specs.Value.{Valued, register, unary_value, binary_value, after_operand, after_both, of_symbol, value_of}
-use Rattle.mx_names.specs.declared.fault.NameFault.{NameFault}
-use Rattle.mx_names.specs.Names.{NameTable, value_of_name}
-use Rattle.mx_stmt.specs.Steps.{and_then}
-use Rattle.mx_stmt.specs.Operands.{Known, knowledge_of, symbol_form, value_in, answer_of, operand_value, register_number, register_at}
-use Rattle.mx_stmt.specs.Fixes.{HasRegisterNumber, IsSound}
 
 abbrev IsNumbered : Valued → Type 0
 IsNumbered value = IfOk value HasRegisterNumber
@@ -66,18 +55,15 @@ symbol-numbered names (Err fault) h = tt
 symbol-numbered names (Ok full) h = some-numbered (value_of_name names full) (h full)
 
 pub value-numbered : (k : Known) (e : Tree) → IsSound k → IsNumbered (value_of (knowledge_of k) e)
-value-numbered k (number n) sound = tt
 value-numbered k (name text) sound = symbol-numbered k.names (symbol_form k.names text) sound.symbols
 value-numbered k (back d) sound = sound.backs d
-value-numbered k (ahead d) sound = tt
-value-numbered k here sound = tt
 value-numbered k (unary op e) sound = operand-numbered op (value_of (knowledge_of k) e) (value-numbered k e sound)
 value-numbered k (binary op l r) sound = both-numbered op (value_of (knowledge_of k) l) (value_of (knowledge_of k) r)
+value-numbered k e sound = tt
 
 number-fits : (value : Valued) (r : ℕ) → IsNumbered value → and_then (answer_of value) register_number ≡ Ok r → r < 2 ^ 8
-number-fits (Err fault) r h is = cc
-number-fits (Ok (Pure n)) r h is = cc
 number-fits (Ok (Reg n)) r h is = let same : n ≡ r = cc in subst (λ n. n < 2 ^ 8) same h
+number-fits value r h is = cc
 
 pub register-fits : (k : Known) (e : Tree) (r : ℕ) → IsSound k → register_at k e ≡ Ok r → r < 2 ^ 8
 register-fits k e r sound is = number-fits (value_of (knowledge_of k) e) r (value-numbered k e sound) is

@@ -1,10 +1,6 @@
 -- A code with a second one is not one of the last two.
 use Rattle.std.proofs.Common.{◌≡◌, ◌≢◌, ◌<◌, ℕ, ◌^◌, Bool, false, List, [], ◌∷◌, IsTrue, arith, refl, sym, ap, subst, ◌∙◌}
-use Rattle.std.proofs.lemmas.Bool.{false≢true}
-use Rattle.mx_ops.specs.declared.op.Shape.{Shape}
-use Rattle.mx_ops.specs.declared.op.Shape.TheVariants.{Get, Free}
-use Rattle.mx_ops.specs.Shapes.{shapes_of, shape_spans}
-use Rattle.mx_stmt.specs.Forms.{has_second}
+use Rattle.mx_stmt.proofs.Words.{false≢true, Shape, Get, Free, shapes_of, shape_spans, has_second}
 
 abbrev first_has : List Shape → Bool
 first_has [] = false

@@ -1,25 +1,9 @@
 -- Statements that place no bytes: where what is known is sound, so are their labels and the registers of GREGs.
 use Rattle.std.proofs.Common.{◌≡◌, ◌<◌, ◌≤◌, ℕ, ◌+◌, ◌-◌, ◌==◌, nat_le, Bool, true, false, cond, List, [], ◌∷◌, length, Option, None, Some, option_map, Ok, Err, refl, arith}
-use Rattle.std.specs.Option.{IfSome}
-use Rattle.std.specs.List.{position}
-use Rattle.std.proofs.lemmas.Bool.{leb-false}
+use Rattle.mx_stmt.proofs.Words.{IfSome, position, leb-false, Value, Pure, Reg, Tree, name, Pseudo, Label, Plain, Prefix, Greg, Local, Placed, StmtFault, Operands, TooManyGregs, Answer, and_then, IsAllocable, lowest_of, next_register, register_or_next, register_of_value, register_for, Known, operand_value, register_at, pure_at, IsPossible, label_value, without_bytes, complete_symbol, prefix_form, one_form, one_operand, HasRegisterNumber, IsSound}
 use Rattle.std.proofs.lemmas.List.Quantifiers.{position-Some}
-use Rattle.mx_word.specs.declared.symbols.Value.{Value}
-use Rattle.mx_word.specs.declared.symbols.Value.TheVariants.{Pure, Reg}
-use Rattle.mx_expr.specs.Tree.{Tree, name}
-use Rattle.mx_ops.specs.declared.op.Pseudo.{Pseudo}
 use Rattle.mx_ops.specs.declared.op.Pseudo.TheVariants as pseudo
-use Rattle.mx_stmt.specs.declared.statement.Label.{Label}
 use Rattle.mx_stmt.specs.declared.placed.Effect.{Effect}
-use Rattle.mx_stmt.specs.declared.placed.Effect.TheVariants.{Plain, Prefix, Greg, Local}
-use Rattle.mx_stmt.specs.declared.placed.Placed.{Placed}
-use Rattle.mx_stmt.specs.declared.faults.StmtFault.{StmtFault}
-use Rattle.mx_stmt.specs.declared.faults.StmtFault.TheVariants.{Operands, TooManyGregs}
-use Rattle.mx_stmt.specs.Steps.{Answer, and_then}
-use Rattle.mx_stmt.specs.Gregs.{IsAllocable, lowest_of, next_register, register_or_next, register_of_value, register_for}
-use Rattle.mx_stmt.specs.Operands.{Known, operand_value, register_at, pure_at}
-use Rattle.mx_stmt.specs.Encoding.{IsPossible, label_value, without_bytes, complete_symbol, prefix_form, one_form, one_operand}
-use Rattle.mx_stmt.specs.Fixes.{HasRegisterNumber, IsSound}
 use Rattle.mx_stmt.proofs.RegisterNumbers.{operand-fits}
 
 -- the register of a GREG
@@ -40,7 +24,7 @@ place-allocable gregs value reg (Some place) low found is =
     let within : place < length gregs = (position-Some (λ v. v == value) gregs place 0 found).0 in
     record { next = omega (arith, same); least = omega (arith, low, same); global = omega (arith, low, same, within) }
 
-allocable : (gregs : List ℕ) (value reg : ℕ) → 32 ≤ lowest_of gregs → register_for gregs value ≡ Ok reg → IsAllocable gregs reg
+pub allocable : (gregs : List ℕ) (value reg : ℕ) → 32 ≤ lowest_of gregs → register_for gregs value ≡ Ok reg → IsAllocable gregs reg
 allocable gregs value reg low is = by (value == 0) is
   where
     by : (b : Bool) → cond b (next_register gregs) (register_or_next gregs (register_of_value gregs value)) ≡ Ok reg → IsAllocable gregs reg
@@ -93,6 +77,5 @@ silent-one k label pseudo.Local e = silent-then k (register_at k e) _ (λ reg is
 silent-one k label p e = silent-fault k Operands
 
 pub silent-operand : (k : Known) (label : Option Label) (p : Pseudo) (operands : List Tree) → AreSilent k (one_operand k label p operands)
-silent-operand k label p [] = silent-fault k Operands
 silent-operand k label p (e ∷ []) = silent-one k label p e
-silent-operand k label p (e ∷ f ∷ more) = silent-fault k Operands
+silent-operand k label p operands = silent-fault k Operands

@@ -1,25 +1,17 @@
 -- What is known stays sound when a label is defined or a register is given.
 use Rattle.std.proofs.Common.{◌≡◌, ◌≤◌, ℕ, zero, suc, ◌-◌, nat_lt, Bool, true, false, cond, List, [], ◌∷◌, replicate, slice_index_or, slice_set, Option, None, Some, bytes_eq, sym, subst, arith}
-use Rattle.std.specs.Option.{IfSome}
-use Rattle.std.proofs.lemmas.Bool.{cond_both, ltb-true}
-use Rattle.std.proofs.lemmas.List.{length-set}
-use Rattle.mx_word.specs.declared.symbols.Value.{Value}
-use Rattle.mx_word.specs.declared.symbols.Value.TheVariants.{Pure}
+use Rattle.mx_stmt.proofs.Words.{IfSome, cond_both, ltb-true, length-set, Value, Pure, start, pure_of, value_of_name, with_symbol, IsAllocable, lowest_of, with_greg, Known, HasRegisterNumber, IsSound}
 use Rattle.mx_ops.specs.Predefined.{predefined_value}
-use Rattle.mx_names.specs.Names.{start, value_in, pure_of, value_of_name, with_symbol}
+use Rattle.mx_names.specs.Names.{value_in}
 use Rattle.mx_names.proofs.Entries.{value-defined}
-use Rattle.mx_stmt.specs.Gregs.{IsAllocable, lowest_of, with_greg}
-use Rattle.mx_stmt.specs.Operands.{Known}
-use Rattle.mx_stmt.specs.Fixes.{HasRegisterNumber, IsSound}
 
 pure-numbered : (value : Option ℕ) → IfSome (pure_of value) HasRegisterNumber
 pure-numbered None = tt
 pure-numbered (Some n) = tt
 
 zeros-numbered : (n d : ℕ) → HasRegisterNumber (slice_index_or (replicate n (Pure 0)) d (Pure 0))
-zeros-numbered zero d = tt
-zeros-numbered (suc n) zero = tt
 zeros-numbered (suc n) (suc d) = zeros-numbered n d
+zeros-numbered n d = tt
 
 pub sound-start : (at : ℕ) → IsSound (record { names = start; at = at; gregs = [] })
 sound-start at = record { symbols = λ name. pure-numbered (predefined_value name); backs = zeros-numbered 10; gregs = omega arith }
@@ -36,11 +28,9 @@ sound-symbol k full value absent fits sound = record {
     by false other h = h
 
 set-numbered : (values : List Value) (d e : ℕ) (value : Value) → HasRegisterNumber value → HasRegisterNumber (slice_index_or values e (Pure 0)) → HasRegisterNumber (slice_index_or (slice_set values d value) e (Pure 0))
-set-numbered [] d e value fits h = h
 set-numbered (v ∷ values) zero zero value fits h = fits
-set-numbered (v ∷ values) zero (suc e) value fits h = h
-set-numbered (v ∷ values) (suc d) zero value fits h = h
 set-numbered (v ∷ values) (suc d) (suc e) value fits h = set-numbered values d e value fits h
+set-numbered values d e value fits h = h
 
 pub sound-local : (k : Known) (d : ℕ) (value : Value) → HasRegisterNumber value → IsSound k → IsSound (record k { names = record k.names { backs = slice_set k.names.backs d value } })
 sound-local k d value fits sound = record { symbols = sound.symbols; backs = λ e. set-numbered k.names.backs d e value fits (sound.backs e); gregs = sound.gregs }

@@ -1,17 +1,6 @@
 -- The value of a label and the register of a GREG are sound where what is known is.
 use Rattle.std.proofs.Common.{◌≡◌, ℕ, ◌+◌, nat_lt, List, length, Option, Ok, Err, refl, subst}
-use Rattle.std.proofs.lemmas.Bool.{cond_both}
-use Rattle.mx_word.specs.declared.symbols.Value.TheVariants.{Pure}
-use Rattle.mx_stmt.specs.declared.data.Data.{Data}
-use Rattle.mx_stmt.specs.declared.statement.Label.{Label}
-use Rattle.mx_stmt.specs.declared.placed.Placed.{Placed}
-use Rattle.mx_stmt.specs.declared.faults.StmtFault.TheVariants.{BadPlace}
-use Rattle.mx_stmt.specs.Steps.{Answer, and_then}
-use Rattle.mx_stmt.specs.Operands.{Known, Targets}
-use Rattle.mx_stmt.specs.Forms.{form_by}
-use Rattle.mx_stmt.specs.Data.{data_form}
-use Rattle.mx_stmt.specs.Encoding.{StatementTree, with_bytes, tetra_data, encoding}
-use Rattle.mx_stmt.specs.Fixes.{IsSound}
+use Rattle.mx_stmt.proofs.Words.{cond_both, Pure, Data, Label, Placed, BadPlace, Answer, and_then, Known, Targets, form_by, data_form, StatementTree, with_bytes, tetra_data, encoding, IsSound}
 use Rattle.mx_stmt.proofs.EveryStatement.{at_place, every-statement}
 use Rattle.mx_stmt.proofs.SilentStatements.{AreSilent, IsFine, label-fits}
 

@@ -1,11 +1,7 @@
 -- The operands by the one shape of a code.
 use Rattle.std.proofs.Common.{◌≡◌, ℕ, List, [], ◌∷◌, ◌++◌, slice_index_or, ap, sym, OnOk, Result, ◌⊎◌, inl, inr, ◌∙◌}
-use Rattle.mx_ops.specs.Shapes.{shapes_of}
-use Rattle.mx_ops.specs.declared.op.Shape.{Shape}
-use Rattle.mx_ops.specs.declared.op.Shape.TheVariants.{Free}
+use Rattle.mx_text.proofs.Words.{shapes_of, Shape, Free, field_code, operands, operands_text, shown_operands, Operand}
 use Rattle.mx_word.specs.declared.no_memory.NoMemory.{NoMemory}
-use Rattle.mx_text.specs.Instructions.{field_code, operands, operands_text, shown_operands}
-use Rattle.mx_text.specs.declared.operands.Operand.{Operand}
 
 pub by-shape : (word pc code : ℕ) (s : Shape) → code ≡ field_code word → shapes_of code ≡ s ∷ [] → shown_operands word pc ≡ operands s word pc
 unfolding shown_operands

@@ -1,10 +1,6 @@
 -- Different octas have different texts.
 use Rattle.std.proofs.Common.{◌≡◌, ℕ, suc, ◌-◌, ◌<◌, ◌^◌, pos, negsuc, Bool, true, false, cond, nat_lt, List, ◌∷◌, sym, ap, refl, ◌∙◌, arith, drop}
-use Rattle.std.specs.Str.Parse.{digits_value}
-use Rattle.std.proofs.lemmas.Bool.Decides.{nat_tests}
-use Rattle.std.specs.Fmt.{decimal, signed_decimal}
-use Rattle.std.proofs.lemmas.Fmt.{decimal_injective, decimal_is_IsNumeral}
-use Rattle.mx_text.specs.Numbers.{decimal_text, hex_text}
+use Rattle.mx_text.proofs.Words.{digits_value, nat_tests, decimal, signed_decimal, decimal_injective, decimal_is_IsNumeral, decimal_text, hex_text}
 use Rattle.mx_text.proofs.HexValues.{hex-value}
 
 pub hex-differ : (x y : ℕ) → x < 2 ^ 64 → y < 2 ^ 64 → hex_text x ≡ hex_text y → x ≡ y

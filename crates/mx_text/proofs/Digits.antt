@@ -1,10 +1,6 @@
 -- Hexadecimal digits are written from the high end.
 use Rattle.std.proofs.Common.{◌≡◌, ℕ, zero, suc, ◌+◌, ◌-◌, ◌*◌, ◌/◌, ◌%◌, ◌^◌, ◌<◌, List, [], ◌∷◌, ◌++◌, arith, sym, ap, refl, ◌∙◌, append_assoc, length, take, slice_set}
-use Rattle.std.proofs.lemmas.Grind.{common_steps}
-use Rattle.std.proofs.lemmas.List.{take_more_set}
-use Rattle.std.proofs.lemmas.Nat.{pow-add}
-use Rattle.std.proofs.Math.Nat.{pow-succ'}
-use Rattle.mx_text.specs.Numbers.{hex_digit, hex_digits}
+use Rattle.mx_text.proofs.Words.{common_steps, take_more_set, pow-add, pow-succ', hex_digit, hex_digits}
 
 -- a digit has four bits
 pub sixteen : (k : ℕ) → 2 ^ (4 * k) ≡ 16 ^ k

@@ -1,11 +1,6 @@
 -- The value of hexadecimal digits.
 use Rattle.std.proofs.Common.{◌≡◌, ℕ, zero, suc, ◌+◌, ◌*◌, ◌/◌, ◌%◌, ◌^◌, ◌<◌, sym, ap, ◌∙◌, arith, zero-add}
-use Rattle.std.specs.Str.Parse.{AllDigits, IsNumeral, digits_value, digits_value_after}
-use Rattle.std.specs.Char.{digit_value}
-use Rattle.std.proofs.lemmas.Nat.{mod-pow-add}
-use Rattle.std.proofs.lemmas.Bool.Decides.{nat_tests}
-use Rattle.std.proofs.Math.Nat.{pow-succ', mod-lt, mod-eq_of_lt, add-mul, mul_assoc}
-use Rattle.mx_text.specs.Numbers.{hex_digit, hex_digits}
+use Rattle.mx_text.proofs.Words.{AllDigits, IsNumeral, digits_value, digits_value_after, digit_value, mod-pow-add, nat_tests, pow-succ', mod-lt, mod-eq_of_lt, add-mul, mul_assoc, hex_digit, hex_digits}
 use Rattle.mx_text.proofs.Digits.{sixteen}
 
 digit : (d : ℕ) → d < 16 → digit_value (hex_digit d) ≡ d
@@ -22,9 +17,6 @@ split k x =
     ∙ mod-pow-add x 4 (4 * k)
     ∙ ap (λ p. (x / p % 16) * p + x % p) (sixteen k)
 
-joined : (n d p r : ℕ) → (n * 16 + d) * p + r ≡ n * (16 * p) + (d * p + r)
-joined n d p r = ap (λ m. m + r) (add-mul (n * 16) d p ∙ ap (λ m. m + d * p) (mul_assoc n 16 p)) ∙ omega arith
-
 -- the digits behind those of n
 after : (k n x : ℕ) → digits_value_after 16 n (hex_digits k x) ≡ n * 16 ^ k + x % 16 ^ k
 unfolding hex_digits
@@ -32,7 +24,7 @@ after zero n x = omega arith
 after (suc k) n x =
     ap (λ v. digits_value_after 16 (n * 16 + v) (hex_digits k x)) (digit _ (below (x / 16 ^ k)))
     ∙ after k (n * 16 + x / 16 ^ k % 16) x
-    ∙ joined n (x / 16 ^ k % 16) (16 ^ k) (x % 16 ^ k)
+    ∙ (ap (λ m. m + (x % 16 ^ k)) (add-mul (n * 16) (x / 16 ^ k % 16) (16 ^ k) ∙ ap (λ m. m + (x / 16 ^ k % 16) * (16 ^ k)) (mul_assoc n 16 (16 ^ k))) ∙ omega arith)
     ∙ ap (λ p. n * p + ((x / 16 ^ k % 16) * 16 ^ k + x % 16 ^ k)) (sym (pow-succ' 16 k))
     ∙ ap (λ r. n * 16 ^ suc k + r) (sym (split k x))
 

@@ -1,9 +1,6 @@
 -- Operands behind commas.
 use Rattle.std.proofs.Common.{◌≡◌, ℕ, suc, ◌<◌, ◌-◌, List, [], ◌∷◌, ◌++◌, ap, sym, ◌∙◌, append_assoc, append-nil, length, take, drop, slice_index_or, arith}
-use Rattle.std.specs.List.{flat_map}
-use Rattle.std.proofs.lemmas.Grind.{common_steps}
-use Rattle.mx_text.specs.Instructions.{operand_text, operands_text, next_text}
-use Rattle.mx_text.specs.declared.operands.Operand.{Operand}
+use Rattle.mx_text.proofs.Words.{flat_map, common_steps, operand_text, operands_text, next_text, Operand}
 
 -- the first operand, and the others behind commas
 joined : (o : Operand) (os : List Operand) → operand_text o ++ flat_map next_text os ≡ operands_text (o ∷ os)

@@ -11,3 +11,4 @@ pub mod Parts
 pub mod OperandTexts
 pub mod TellingFields
 pub mod Telling
+pub mod Words

@@ -1,9 +1,6 @@
 -- The names of the codes are found, by computing.
 use Rattle.std.proofs.Common.{◌≡◌, ℕ, ◌<◌, map, refl, None, Some}
-use Rattle.std.specs.List.{range_with_len}
-use Rattle.mx_ops.specs.Opcodes.{opcode_rows, opcode_kinds, opcode_kind, opcode_names, opcode_name, operations, operation_of, pseudo_operations, chosen_operations}
-use Rattle.mx_ops.specs.declared.op.Op.TheVariants.{Code}
-use Rattle.mx_text.specs.Reading.{lowest_code}
+use Rattle.mx_text.proofs.Words.{range_with_len, opcode_rows, opcode_kinds, opcode_kind, opcode_names, opcode_name, operations, operation_of, pseudo_operations, chosen_operations, Code, lowest_code}
 use Rattle.mx_text.proofs.SecondCodes.{each}
 
 all-found : map (λ code. operation_of (opcode_name code)) (range_with_len 0 256) ≡ map (λ code. Some (Code (lowest_code code))) (range_with_len 0 256)

@@ -1,14 +1,6 @@
 -- Operands are told by their texts.
 use Rattle.std.proofs.Common.{◌≡◌, ℕ, ◌<◌, ◌≤◌, ◌^◌, Bool, true, false, not, eqb, List, [], ◌∷◌, map, refl, sym, ap, arith, drop}
-use Rattle.std.specs.Fmt.{decimal}
-use Rattle.std.specs.Char.{digit_value}
-use Rattle.std.specs.Str.Parse.{AllDigits}
-use Rattle.std.proofs.lemmas.Bool.{eqb-true}
-use Rattle.std.proofs.lemmas.Fmt.{decimal_injective, decimal_is_IsNumeral}
-use Rattle.mx_text.specs.Numbers.{hex_digits}
-use Rattle.mx_text.specs.Instructions.{operand_text}
-use Rattle.mx_text.specs.declared.operands.Operand.{Operand}
-use Rattle.mx_text.specs.declared.operands.Operand.TheVariants.{Register, Number, Address}
+use Rattle.mx_text.proofs.Words.{decimal, digit_value, AllDigits, eqb-true, decimal_injective, decimal_is_IsNumeral, hex_digits, operand_text, Operand, Register, Number, Address}
 use Rattle.mx_text.proofs.HexValues.{all}
 use Rattle.mx_text.proofs.Different.{hex-differ}
 use Rattle.mx_text.proofs.Parts.{lacks, each-lacks}
@@ -64,10 +56,9 @@ same-operand (Address a) (Address b) lo lp same = ap Address (hex-differ a b lo 
 
 pub same-operands : (os ps : List Operand) → AreShown os → AreShown ps → map operand_text os ≡ map operand_text ps → os ≡ ps
 same-operands [] [] so sp same = refl
-same-operands [] (p ∷ ps) so sp same = cc same
-same-operands (o ∷ os) [] so sp same = cc same
 same-operands (o ∷ os) (p ∷ ps) so sp same =
     cc (same-operand o p so.0 sp.0 (first _ _ _ _ same), same-operands os ps so.1 sp.1 (ap (drop 1) same))
   where
     first : (x y : List ℕ) (xs ys : List (List ℕ)) → x ∷ xs ≡ y ∷ ys → x ≡ y
     first x y xs ys is = cc is
+same-operands os ps so sp same = cc same

@@ -1,7 +1,6 @@
 -- The parts of a text: before its blank, and between its commas.
 use Rattle.std.proofs.Common.{◌≡◌, ℕ, Bool, true, false, not, ◌&&◌, eqb, List, [], ◌∷◌, ◌++◌, refl, sym, ◌∙◌, ap, arith, drop, get_or}
-use Rattle.std.specs.List.{join_with_byte}
-use Rattle.std.proofs.lemmas.Bool.{and_parts, not-true, false≢true}
+use Rattle.mx_text.proofs.Words.{join_with_byte, and_parts, not-true, false≢true}
 
 -- no byte is c
 abbrev pub lacks : ℕ → List ℕ → Bool
@@ -12,14 +11,11 @@ abbrev pub each-lacks : ℕ → List (List ℕ) → Bool
 each-lacks c [] = true
 each-lacks c (p ∷ ps) = lacks c p && each-lacks c ps
 
-eqb-self : (c : ℕ) → eqb c c ≡ true
-eqb-self c = grind (arith)
-
 -- what lacks c does not begin with it
 other : (c : ℕ) (b : ℕ) (bs : List ℕ) → lacks c (b ∷ bs) ≡ true → b ≡ c → false ≡ true
 other c b bs l is =
     let tested : eqb b c ≡ false = not-true _ (and_parts _ _ l).0 in
-    sym tested ∙ ap (λ d. eqb d c) is ∙ eqb-self c
+    sym tested ∙ ap (λ d. eqb d c) is ∙ (grind (arith))
 
 head-of : (a b : ℕ) (xs ys : List ℕ) → a ∷ xs ≡ b ∷ ys → a ≡ b
 head-of a b xs ys is = ap (λ l. get_or l 0 0) is

@@ -1,10 +1,6 @@
 -- Worked rows of instructions.
 use Rattle.std.proofs.Common.{◌≡◌, refl, codes}
-use Rattle.std.specs.Fmt.{digits}
-use Rattle.mx_ops.specs.Opcodes.{opcode_kind, opcode_kinds, opcode_name, opcode_names, opcode_rows}
-use Rattle.mx_ops.specs.Shapes.{shape_spans, shapes_of}
-use Rattle.mx_text.specs.Numbers.{hex_digits}
-use Rattle.mx_text.specs.Instructions.{instruction_text, operands_text, shown_operands}
+use Rattle.mx_text.proofs.Words.{digits, opcode_kind, opcode_kinds, opcode_name, opcode_names, opcode_rows, shape_spans, shapes_of, hex_digits, instruction_text, operands_text, shown_operands}
 
 pub stopped : instruction_text 0 0x100 ≡ codes "TRAP 0,0,0"
 unfolding digits hex_digits opcode_name opcode_names opcode_kind opcode_kinds opcode_rows shapes_of shape_spans operands_text shown_operands

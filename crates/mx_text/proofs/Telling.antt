@@ -1,17 +1,6 @@
 -- The text of an instruction tells the instruction.
 use Rattle.std.proofs.Common.{◌≡◌, ℕ, ◌<◌, ◌+◌, ◌-◌, ◌*◌, ◌%◌, ◌^◌, Bool, true, false, not, ◌||◌, nat_le, cond, List, [], ◌∷◌, ◌++◌, map, refl, sym, ◌∙◌, ap, arith, Some, slice_index_or, append_assoc, length}
-use Rattle.std.specs.List.{range_with_len}
-use Rattle.std.proofs.Math.Nat.{mod-lt}
-use Rattle.std.proofs.lemmas.Bool.Decides.{nat_tests}
-use Rattle.mx_ops.specs.Opcodes.{opcode_rows, opcode_kinds, opcode_kind, opcode_names, opcode_name, operation_of, is_immediate, is_backward}
-use Rattle.mx_ops.specs.Shapes.{shape_spans, shapes_of}
-use Rattle.mx_ops.specs.declared.op.Op.TheVariants.{Code}
-use Rattle.mx_ops.specs.declared.op.Shape.{Shape}
-use Rattle.mx_ops.specs.declared.op.Shape.TheVariants.{Three, Regs, Round, Neg, Rel, Mem, MemPure, Wyde, Jump, Put, Get, Pop, One, Save, Unsave, Free}
-use Rattle.mx_text.specs.Instructions.{field_code, field_x, field_y, field_z, shape, operands, shown_operands, operand_text, operands_text, instruction_text}
-use Rattle.mx_text.specs.Reading.{lowest_code, hides_y, shown_part}
-use Rattle.mx_text.specs.declared.operands.Operand.{Operand}
-use Rattle.mx_text.specs.declared.operands.Operand.TheVariants.{Register, Number}
+use Rattle.mx_text.proofs.Words.{range_with_len, mod-lt, nat_tests, opcode_rows, opcode_kinds, opcode_kind, opcode_names, opcode_name, operation_of, is_immediate, is_backward, shape_spans, shapes_of, Code, Shape, Three, Regs, Round, Neg, Rel, Mem, MemPure, Wyde, Jump, Put, Get, Pop, One, Save, Unsave, Free, field_code, field_x, field_y, field_z, shape, operands, shown_operands, operand_text, operands_text, instruction_text, lowest_code, hides_y, shown_part, Operand, Register, Number}
 use Rattle.mx_text.proofs.SecondCodes.{each}
 use Rattle.mx_text.proofs.LowestCodes.{name-found}
 use Rattle.mx_text.proofs.Parts.{lacks, cut-first, same-parts}
@@ -76,9 +65,8 @@ same-shape c d lc ld same =
 -- a code is its lowest one, and whether it is a second one
 one-code : (c d : ℕ) (s t : Bool) → s ≡ t → (not s || nat_le 1 c) ≡ true → (not t || nat_le 1 d) ≡ true → cond s (c - 1) c ≡ cond t (d - 1) d → c ≡ d
 one-code c d true true is hc hd same = grind (arith, nat_tests)
-one-code c d true false is hc hd same = cc is
-one-code c d false true is hc hd same = cc is
 one-code c d false false is hc hd same = same
+one-code c d s t is hc hd same = cc is
 
 -- the operands have numbers below 2^64, and there is one at least
 byte-below : (n : ℕ) → n % 2 ^ 8 < 2 ^ 64
@@ -86,9 +74,6 @@ byte-below n = omega (arith, mod-lt n {m = 2 ^ 8} (omega arith))
 
 wyde-below : (n : ℕ) → n % 2 ^ 16 < 2 ^ 64
 wyde-below n = omega (arith, mod-lt n {m = 2 ^ 16} (omega arith))
-
-long-below : (n : ℕ) → n % 2 ^ 24 < 2 ^ 64
-long-below n = omega (arith, mod-lt n {m = 2 ^ 24} (omega arith))
 
 last-shown : (t : Bool) (z : ℕ) → z < 2 ^ 64 → IsShown (cond t (Number z) (Register z))
 last-shown true z lt = lt
@@ -99,30 +84,25 @@ target-shown true m n = mod-lt m (omega arith)
 target-shown false m n = mod-lt n (omega arith)
 
 all-shown : (s : Shape) (w pc : ℕ) → AreShown (operands s w pc) × (0 < length (operands s w pc))
-all-shown Three w pc = ((byte-below _, (byte-below _, (last-shown _ _ (byte-below w), tt))), omega arith)
 all-shown Regs w pc = ((byte-below _, (byte-below _, (byte-below _, tt))), omega arith)
-all-shown Round w pc = ((byte-below _, (byte-below _, (last-shown _ _ (byte-below w), tt))), omega arith)
-all-shown Neg w pc = ((byte-below _, (byte-below _, (last-shown _ _ (byte-below w), tt))), omega arith)
 all-shown Rel w pc = ((byte-below _, (target-shown _ _ _, tt)), omega arith)
-all-shown Mem w pc = ((byte-below _, (byte-below _, (last-shown _ _ (byte-below w), tt))), omega arith)
-all-shown MemPure w pc = ((byte-below _, (byte-below _, (last-shown _ _ (byte-below w), tt))), omega arith)
 all-shown Wyde w pc = ((byte-below _, (wyde-below w, tt)), omega arith)
 all-shown Jump w pc = ((target-shown _ _ _, tt), omega arith)
 all-shown Put w pc = ((byte-below _, (last-shown _ _ (byte-below w), tt)), omega arith)
 all-shown Get w pc = ((byte-below _, (byte-below _, tt)), omega arith)
 all-shown Pop w pc = ((byte-below _, (wyde-below w, tt)), omega arith)
-all-shown One w pc = ((long-below w, tt), omega arith)
+all-shown One w pc = (((omega (arith, mod-lt w {m = 2 ^ 24} (omega arith))), tt), omega arith)
 all-shown Save w pc = ((byte-below _, (byte-below _, tt)), omega arith)
 all-shown Unsave w pc = ((byte-below _, (byte-below _, tt)), omega arith)
 all-shown Free w pc = ((byte-below _, (byte-below _, (byte-below _, tt))), omega arith)
+all-shown s w pc = ((byte-below _, (byte-below _, (last-shown _ _ (byte-below w), tt))), omega arith)
 
 same-lists : (os ps : List Operand) → AreShown os → AreShown ps → 0 < length os → 0 < length ps → operands_text os ≡ operands_text ps → os ≡ ps
 unfolding operands_text
-same-lists [] ps so sp lo lp same = absurd (omega arith)
-same-lists (o ∷ os) [] so sp lo lp same = absurd (omega arith)
 same-lists (o ∷ os) (p ∷ ps) so sp lo lp same =
     same-operands (o ∷ os) (p ∷ ps) so sp
     (same-parts 44 (operand_text o) (map operand_text os) (operand_text p) (map operand_text ps) (texts-lack (o ∷ os) so) (texts-lack (p ∷ ps) sp) same)
+same-lists os ps so sp lo lp same = absurd (omega arith)
 
 -- a tetra is its code and the part behind it
 part : (t : Bool) (w : ℕ) → cond t (w - 2 ^ 8 * field_y w) w ≡ 2 ^ 24 * field_code w + cond t (2 ^ 16 * field_x w + field_z w) (w % 2 ^ 24)
@@ -167,18 +147,7 @@ alike Put u w pc hides hc hx hz = rw (hc, hx, hz) refl
 alike Get u w pc hides hc hx hz = rw (hx, hz) refl
 alike Save u w pc hides hc hx hz = rw (hx, hz) refl
 alike Unsave u w pc hides hc hx hz = rw (hx, hz) refl
-alike Three u w pc hides hc hx hz = cc hides
-alike Regs u w pc hides hc hx hz = cc hides
-alike Round u w pc hides hc hx hz = cc hides
-alike Neg u w pc hides hc hx hz = cc hides
-alike Rel u w pc hides hc hx hz = cc hides
-alike Mem u w pc hides hc hx hz = cc hides
-alike MemPure u w pc hides hc hx hz = cc hides
-alike Wyde u w pc hides hc hx hz = cc hides
-alike Jump u w pc hides hc hx hz = cc hides
-alike Pop u w pc hides hc hx hz = cc hides
-alike One u w pc hides hc hx hz = cc hides
-alike Free u w pc hides hc hx hz = cc hides
+alike s u w pc hides hc hx hz = cc hides
 
 same-text : (t : Bool) (w pc : ℕ) → w < 2 ^ 32 → hides_y (shape (field_code w)) ≡ t → instruction_text (cond t (w - 2 ^ 8 * field_y w) w) pc ≡ instruction_text w pc
 unfolding shown_operands

@@ -1,13 +1,6 @@
 -- The fields of a tetra are told by its operands.
 use Rattle.std.proofs.Common.{◌≡◌, ℕ, ◌<◌, ◌≤◌, ◌+◌, ◌-◌, ◌*◌, ◌%◌, ◌^◌, Bool, true, false, not, ◌||◌, cond, [], ◌∷◌, refl, sym, arith}
-use Rattle.std.proofs.Math.Nat.{mod-lt}
-use Rattle.mx_ops.specs.Opcodes.{opcode_kind, is_immediate, is_backward}
-use Rattle.mx_ops.specs.declared.op.Shape.{Shape}
-use Rattle.mx_ops.specs.declared.op.Shape.TheVariants.{Three, Regs, Round, Neg, Rel, Mem, MemPure, Wyde, Jump, Put, Get, Pop, One, Save, Unsave, Free}
-use Rattle.mx_text.specs.Instructions.{field_code, field_x, field_y, field_z, field_yz, field_xyz, operands}
-use Rattle.mx_text.specs.Reading.{hides_y}
-use Rattle.mx_text.specs.declared.operands.Operand.{Operand}
-use Rattle.mx_text.specs.declared.operands.Operand.TheVariants.{Register, Number, Address}
+use Rattle.mx_text.proofs.Words.{mod-lt, opcode_kind, is_immediate, is_backward, Shape, Three, Regs, Round, Neg, Rel, Mem, MemPure, Wyde, Jump, Put, Get, Pop, One, Save, Unsave, Free, field_code, field_x, field_y, field_z, field_yz, field_xyz, operands, hides_y, Operand, Register, Number, Address}
 
 -- the part of a tetra behind its code that is shown
 abbrev pub behind_code : Shape → ℕ → ℕ
@@ -59,13 +52,6 @@ by-wyde w v hx hyz = omega (arith, hx, hyz)
 by-ends : (w v : ℕ) → field_x w ≡ field_x v → field_z w ≡ field_z v → 2 ^ 16 * field_x w + field_z w ≡ 2 ^ 16 * field_x v + field_z v
 by-ends w v hx hz = rw (hx, hz) refl
 
-ahead : (pc n m most : ℕ) → pc < 2 ^ 64 → n < most → m < most → most ≤ 2 ^ 24 → (pc + 4 * n) % 2 ^ 64 ≡ (pc + 4 * m) % 2 ^ 64 → n ≡ m
-ahead pc n m most lp ln lm le is = omega arith
-
-back : (pc n m most : ℕ) → pc < 2 ^ 64 → n < most → m < most → most ≤ 2 ^ 24 →
-    (2 ^ 64 + pc + 4 * n - 4 * most) % 2 ^ 64 ≡ (2 ^ 64 + pc + 4 * m - 4 * most) % 2 ^ 64 → n ≡ m
-back pc n m most lp ln lm le is = omega arith
-
 apart : (pc n m most : ℕ) → pc < 2 ^ 64 → n < most → m < most → most ≤ 2 ^ 24 →
     (2 ^ 64 + pc + 4 * n - 4 * most) % 2 ^ 64 ≡ (pc + 4 * m) % 2 ^ 64 → true ≡ false
 apart pc n m most lp ln lm le is = absurd (omega arith)
@@ -73,17 +59,16 @@ apart pc n m most lp ln lm le is = absurd (omega arith)
 -- a target tells its direction and its field
 same-target : (a b : Bool) (pc n m most : ℕ) → pc < 2 ^ 64 → n < most → m < most → most ≤ 2 ^ 24 →
     cond a ((2 ^ 64 + pc + 4 * n - 4 * most) % 2 ^ 64) ((pc + 4 * n) % 2 ^ 64) ≡ cond b ((2 ^ 64 + pc + 4 * m - 4 * most) % 2 ^ 64) ((pc + 4 * m) % 2 ^ 64) → (a ≡ b) × (n ≡ m)
-same-target true true pc n m most lp ln lm le is = (refl, back pc n m most lp ln lm le is)
+same-target true true pc n m most lp ln lm le is = (refl, omega arith)
 same-target true false pc n m most lp ln lm le is = absurd (cc (apart pc n m most lp ln lm le is))
 same-target false true pc n m most lp ln lm le is = absurd (cc (apart pc m n most lp lm ln le (sym is)))
-same-target false false pc n m most lp ln lm le is = (refl, ahead pc n m most lp ln lm le is)
+same-target false false pc n m most lp ln lm le is = (refl, omega arith)
 
 -- $Z or the byte Z tells which it is
 same-last : (a b : Bool) (z y : ℕ) → cond a (Number z) (Register z) ≡ cond b (Number y) (Register y) → (a ≡ b) × (z ≡ y)
-same-last true true z y is = (refl, cc is)
 same-last true false z y is = cc is
 same-last false true z y is = cc is
-same-last false false z y is = (refl, cc is)
+same-last a b z y is = (refl, cc is)
 
 one : (o p : Operand) → o ∷ [] ≡ p ∷ [] → o ≡ p
 one o p is = cc is

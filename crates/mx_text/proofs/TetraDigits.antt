@@ -1,8 +1,6 @@
 -- The hexadecimal digits of a tetra and of a byte are written from the high end.
 use Rattle.std.proofs.Common.{◌≡◌, ℕ, suc, ◌+◌, ◌-◌, ◌*◌, ◌/◌, ◌%◌, ◌^◌, ◌<◌, List, [], ◌∷◌, ◌++◌, arith, ap, ◌∙◌, append_assoc, length, take, slice_set}
-use Rattle.std.proofs.lemmas.Grind.{common_steps}
-use Rattle.std.proofs.lemmas.List.{take_more_set}
-use Rattle.mx_text.specs.Numbers.{hex_digit, hex_digits}
+use Rattle.mx_text.proofs.Words.{common_steps, take_more_set, hex_digit, hex_digits}
 use Rattle.mx_text.proofs.Digits.{sixteen}
 
 -- one digit more

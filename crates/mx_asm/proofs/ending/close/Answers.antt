@@ -1,6 +1,5 @@
 use Rattle.std.proofs.Common.{rules, ◌≡◌, ◌++◌, ◌∷◌, ◌-◌, [], length, subst}
-use Rattle.mx_mmo.specs.declared.items.Item.TheVariants.{Post, Stab}
-use Rattle.mx_asm.specs.Fitting.{GrowsFit}
+use Rattle.mx_asm.proofs.Words.{Post, Stab, GrowsFit}
 use Rattle.mx_asm.proofs.Fitting.{fit-registers, grows-one, grows-two}
 use Rattle.mx_asm.proofs.ending.close.Goals as goal
 

@@ -1,7 +1,5 @@
 use Rattle.std.proofs.Common.{◌≡◌, drop}
-use Rattle.mx_asm.specs.Emission.{onto}
-use Rattle.mx_asm.specs.Fixes.{fixes}
-use Rattle.mx_asm.specs.Fitting.{AreFit}
+use Rattle.mx_asm.proofs.Words.{onto, fixes, AreFit}
 use Rattle.mx_asm.proofs.fixes.with_fixes.Given as goal
 
 abbrev pub invariant-loop-wait : goal.invariant-loop-wait

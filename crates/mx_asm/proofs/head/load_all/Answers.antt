@@ -1,7 +1,5 @@
 use Rattle.std.proofs.Common.{rules, arith, sym, subst}
-use Rattle.std.proofs.lemmas.Grind.{common_steps}
-use Rattle.mx_mmo.specs.declared.items.Item.TheVariants.{Load}
-use Rattle.mx_asm.specs.Fitting.{AreFit}
+use Rattle.mx_asm.proofs.Words.{common_steps, Load, AreFit}
 use Rattle.mx_asm.proofs.Fitting.{fit-push}
 use Rattle.mx_asm.proofs.head.load_all.Goals as goal
 

@@ -1,7 +1,5 @@
 use Rattle.std.proofs.Common.{◌≡◌, ◌++◌, length, map}
-use Rattle.mx_mmo.specs.Reading.{tetras_of}
-use Rattle.mx_mmo.specs.declared.items.Item.TheVariants.{Load}
-use Rattle.mx_asm.specs.Fitting.{AreFit}
+use Rattle.mx_asm.proofs.Words.{tetras_of, Load, AreFit}
 use Rattle.mx_asm.proofs.head.load_all.Given as goal
 
 -- the items so far, and the tetras of the bytes that are left, are all

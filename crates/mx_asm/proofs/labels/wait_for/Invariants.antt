@@ -1,6 +1,5 @@
 use Rattle.std.proofs.Common.{◌≡◌}
-use Rattle.mx_names.specs.Names.{AreNames}
-use Rattle.mx_asm.specs.OnePass.{with_waits}
+use Rattle.mx_asm.proofs.Words.{AreNames, with_waits}
 use Rattle.mx_asm.proofs.labels.wait_for.Given as goal
 
 abbrev pub invariant-loop-wait : goal.invariant-loop-wait

@@ -1,8 +1,6 @@
 use Rattle.std.proofs.Common.{◌≡◌, ◌≤◌, ◌-◌, false, length}
 use Rattle.mx_asm.proofs.LineEntries.{taken_from}
-use Rattle.mx_asm.specs.Entries.{line_entries, holds_statement}
-use Rattle.mx_asm.specs.Fitting.{GrowsFit}
-use Rattle.mx_asm.specs.OnePass.{entries_taken}
+use Rattle.mx_asm.proofs.Words.{line_entries, holds_statement, GrowsFit, entries_taken}
 use Rattle.mx_asm.proofs.lines.take_statements.Given as goal
 
 abbrev pub invariant-statements : goal.invariant-statements

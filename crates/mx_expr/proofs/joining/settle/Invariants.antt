@@ -1,7 +1,5 @@
 use Rattle.std.proofs.Common.{◌≡◌, length}
-use Rattle.mx_expr.specs.Tree.{tree_of}
-use Rattle.mx_expr.specs.Reading.{with_strong}
-use Rattle.mx_expr.specs.Machine.{all_waiting}
+use Rattle.mx_expr.proofs.Words.{tree_of, with_strong, all_waiting}
 use Rattle.mx_expr.proofs.joining.settle.Given as goal
 
 abbrev pub invariant-loop-op : goal.invariant-loop-op

@@ -1,7 +1,5 @@
 use Rattle.std.proofs.Common.{◌≡◌, drop}
-use Rattle.mx_expr.specs.Tree.{trees_of}
-use Rattle.mx_expr.specs.Reading.{steps, start}
-use Rattle.mx_expr.specs.Machine.{mode_of, all_waiting}
+use Rattle.mx_expr.proofs.Words.{trees_of, steps, start, mode_of, all_waiting}
 use Rattle.mx_expr.proofs.parsing.read.Given as goal
 
 abbrev pub invariant-loop-b : goal.invariant-loop-b

@@ -1,7 +1,5 @@
 use Rattle.std.proofs.Common.{◌≡◌, ◌+◌, ◌≤◌}
-use Rattle.mx_expr.specs.Tree.{tree_of, HasDigits}
-use Rattle.mx_expr.specs.Value.{value_of, knowledge}
-use Rattle.mx_expr.specs.Frames.{value_after, nodes, nodes_left, AllHaveDigits}
+use Rattle.mx_expr.proofs.Words.{tree_of, HasDigits, value_of, knowledge, value_after, nodes, nodes_left, AllHaveDigits}
 use Rattle.mx_expr.proofs.valuing.down.Given as goal
 
 abbrev pub invariant-loop-at : goal.invariant-loop-at

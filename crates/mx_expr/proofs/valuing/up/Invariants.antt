@@ -1,6 +1,5 @@
 use Rattle.std.proofs.Common.{◌≡◌, ◌≤◌, Ok, vec_len}
-use Rattle.mx_expr.specs.Value.{Knowledge}
-use Rattle.mx_expr.specs.Frames.{value_after, nodes_left, AllHaveDigits}
+use Rattle.mx_expr.proofs.Words.{Knowledge, value_after, nodes_left, AllHaveDigits}
 use Rattle.mx_expr.proofs.valuing.up.Given as goal
 
 abbrev pub invariant-loop-frame : goal.invariant-loop-frame

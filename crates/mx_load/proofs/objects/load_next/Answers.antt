@@ -1,7 +1,6 @@
 use Rattle.std.proofs.Common.{◌≢◌, ◌∙◌, sym, ap, Err}
 use Rattle.mx_mmo.specs.declared.faults.MmoFault.TheVariants.{OutOfMemory as NoBytes}
-use Rattle.mx_load.specs.Answers.{unread, place_and_number}
-use Rattle.mx_load.specs.declared.objects.ObjectFault.TheVariants.{OutOfMemory}
+use Rattle.mx_load.proofs.Words.{unread, place_and_number, OutOfMemory}
 use Rattle.mx_load.proofs.Loading.{next-none, next-fault, next-went, next-failed}
 use Rattle.mx_load.proofs.objects.load_next.Goals as goal
 

@@ -1,7 +1,6 @@
 use Rattle.std.proofs.Common.{◌∙◌, sym, ap, Ok, drop, ◌+◌}
-use Rattle.mx_mmo.specs.Meaning.{nothing, take_items}
-use Rattle.mx_load.specs.Faults.{told}
-use Rattle.mx_load.specs.Standing.{image_in, standing}
+use Rattle.mx_load.proofs.Words.{nothing, take_items, told, standing}
+use Rattle.mx_load.specs.Standing.{image_in}
 use Rattle.mx_load.proofs.Taken.{after_all, begins, ends-failed, ends-well, fits-more, goes-on, image-told}
 use Rattle.mx_load.proofs.whole.load.Goals as goal
 

@@ -1,9 +1,5 @@
 use Rattle.std.proofs.Common.{◌≡◌, Ok, drop}
-use Rattle.std.specs.List.{AllByRecursion}
-use Rattle.mx_mmo.specs.Meaning.{nothing, take_items}
-use Rattle.mx_mmo.specs.Valid.{Fits}
-use Rattle.mx_load.specs.Faults.{told}
-use Rattle.mx_load.specs.Standing.{standing}
+use Rattle.mx_load.proofs.Words.{AllByRecursion, nothing, take_items, Fits, told, standing}
 use Rattle.mx_load.proofs.Taken.{after_all}
 use Rattle.mx_load.proofs.whole.load.Given as goal
 

@@ -10,5 +10,5 @@ returns-clause-within c =
 
 pub returns-clause-fits : goal.returns-clause-fits
 returns-clause-fits c =
-    given-fits c.args.phase c.args.rest.now c.due_item.result _ c.due_item.ensures.item
+    given-fits c.args.phase c.args.at c.args.rest.now c.due_item.result _ c.due_item.ensures.item
     (first-tells c.args.phase c.args.at c.args.rest.now (bytes-each c.args.rest.now (λ i. omega (arith, c.type_inv.rest i))))

@@ -1,5 +1,4 @@
-use Rattle.std.proofs.Common.{◌≡◌, ◌++◌, take}
-use Rattle.std.specs.List.{flat_map}
+use Rattle.std.proofs.Common.{◌≡◌, ◌++◌, take, flat_map}
 use Rattle.mx_word.specs.Words.{octa_to_bytes}
 use Rattle.mx_mmo.proofs.spell.append_octas.Given as goal
 

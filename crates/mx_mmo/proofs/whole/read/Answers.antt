@@ -1,13 +1,5 @@
-use Rattle.std.proofs.Common.{sym, ◌∙◌, ◌≡◌, ◌≢◌, ◌<◌, ◌≤◌, ℕ, List, length, Ok, Err, inl, inr}
-use Rattle.std.specs.Prelude.{Result, IfOk, OnOk}
-use Rattle.std.specs.List.{concat}
-use Rattle.std.proofs.lemmas.Bool.{cases_lt}
-use Rattle.mx_mmo.specs.Replies.{limit}
-use Rattle.mx_mmo.specs.Valid.{AreBytes}
-use Rattle.mx_mmo.specs.Whole.{Left, SpellsObject, object_of, passed_limit}
-use Rattle.mx_mmo.specs.declared.items.Object.{Object}
-use Rattle.mx_mmo.specs.declared.faults.MmoFault.{MmoFault}
-use Rattle.mx_mmo.specs.declared.faults.MmoFault.TheVariants.{OutOfMemory}
+use Rattle.std.proofs.Common.{sym, ◌∙◌, ◌≡◌, ◌≢◌, ◌<◌, ◌≤◌, ℕ, List, length, Ok, Err, inl, inr, Result, IfOk, OnOk}
+use Rattle.mx_mmo.proofs.Words.{concat, cases_lt, limit, AreBytes, Left, SpellsObject, object_of, passed_limit, Object, MmoFault, OutOfMemory}
 use Rattle.mx_mmo.proofs.Complete.{object-only}
 use Rattle.mx_mmo.proofs.Sound.{object-stands}
 use Rattle.mx_mmo.proofs.whole.read.Goals as goal

@@ -1,13 +1,7 @@
-use Rattle.std.proofs.Common.{◌≡◌, ap, ◌∙◌, Ok, refl, append-nil}
-use Rattle.std.specs.Prelude.{List, []}
-use Rattle.mx_mmo.specs.declared.items.Item.{Item}
-use Rattle.mx_mmo.specs.Replies.{ReaderModel}
-use Rattle.mx_mmo.specs.Whole.{Walk, with_rest, fed, left_of, onto, items_of}
+use Rattle.std.proofs.Common.{◌≡◌, ap, ◌∙◌, Ok, refl, append-nil, List, []}
+use Rattle.mx_mmo.proofs.Words.{Item, ReaderModel, Walk, with_rest, fed, left_of, onto, items_of}
 use Rattle.mx_mmo.proofs.Nexts.{next-gave, next-none, next-fault}
 use Rattle.mx_mmo.proofs.whole.take_one.Goals as goal
-
-last : (items : List Item) (m n : ReaderModel) → n ≡ m → items_of m.phase m.at m.rest ≡ ([], Ok (left_of m)) → with_rest items m ≡ (items, Ok (left_of n))
-last items m n e h = ap (onto items) h ∙ rw (e, append-nil) refl
 
 pub returns-in-Ok-clause-same : goal.returns-in-Ok-clause-same
 returns-in-Ok-clause-same c = λ _.
@@ -23,7 +17,7 @@ pub returns-in-Ok-None-clause-last : goal.returns-in-Ok-None-clause-last
 returns-in-Ok-None-clause-last c = λ _.
     let h = rw c.in-Ok-None.field-0-is at c.in-Ok-None.ensures.answers in
     let is = next-none c.args.reader.now c.next.new.self c.requires (h (λ e. cc)) in
-    last _ _ _ is.0 is.1
+    ap (onto _) is.1 ∙ rw (is.0, append-nil) refl
 
 pub returns-in-Ok-None-clause-end : goal.returns-in-Ok-None-clause-end
 returns-in-Ok-None-clause-end c =

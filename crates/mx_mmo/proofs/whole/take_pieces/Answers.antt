@@ -1,11 +1,5 @@
-use Rattle.std.proofs.Common.{inl, inr, ap, sym, ◌∙◌, Err, length, List, ℕ, refl, arith, ◌≡◌, ◌+◌}
-use Rattle.std.specs.Prelude.{Result}
-use Rattle.mx_mmo.specs.declared.faults.MmoFault.{MmoFault}
-use Rattle.mx_mmo.specs.declared.faults.MmoFault.TheVariants.{TooLong}
-use Rattle.std.proofs.lemmas.Bool.{cases_lt}
-use Rattle.mx_mmo.specs.Replies.{limit}
-use Rattle.mx_mmo.specs.Whole.{fed, items_of}
-use Rattle.mx_mmo.specs.declared.due.Phase.TheVariants.{Start}
+use Rattle.std.proofs.Common.{inl, inr, ap, sym, ◌∙◌, Err, length, List, ℕ, refl, arith, ◌≡◌, ◌+◌, Result}
+use Rattle.mx_mmo.proofs.Words.{MmoFault, TooLong, limit, fed, items_of, Start, cases_lt}
 use Rattle.mx_mmo.proofs.Pieces.{nothing-yet, exact-fault, long-fault, long-passed, not-passed, items-of-piece, length-of-piece, all-pieces, bytes-of-piece, all-bytes}
 use Rattle.mx_mmo.proofs.whole.take_pieces.Goals as goal
 

@@ -1,9 +1,5 @@
 use Rattle.std.proofs.Common.{◌≡◌, ◌≤◌, Ok, None, length, take}
-use Rattle.std.specs.List.{concat}
-use Rattle.mx_mmo.specs.Replies.{limit}
-use Rattle.mx_mmo.specs.Whole.{fed, items_of, left_of}
-use Rattle.mx_mmo.specs.Valid.{AreBytes}
-use Rattle.mx_mmo.specs.declared.due.Phase.TheVariants.{Start}
+use Rattle.mx_mmo.proofs.Words.{concat, limit, fed, items_of, left_of, AreBytes, Start}
 use Rattle.mx_mmo.proofs.whole.take_pieces.Given as goal
 
 -- the pieces so far have these items and this rest, and no fault

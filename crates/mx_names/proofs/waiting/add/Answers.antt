@@ -1,8 +1,5 @@
 use Rattle.std.proofs.Common.{sym, ◌∙◌, ap, nat_cmp}
-use Rattle.std.specs.Map.{lookup, set_value}
-use Rattle.std.specs.BTreeMap.{is_at, insert_entry}
-use Rattle.std.specs.Cmp.Lexicographic.{slice_cmp}
-use Rattle.std.proofs.lemmas.Result.{on_ok_weaker, on_err_weaker}
+use Rattle.mx_names.proofs.Words.{lookup, set_value, is_at, insert_entry, slice_cmp, on_ok_weaker, on_err_weaker}
 use Rattle.std.proofs.lemmas.Map.Steps.{set_value_same}
 use Rattle.mx_names.proofs.Groups.{grown-order, grown-groups, new-order, new-groups, key-tells}
 use Rattle.mx_names.proofs.waiting.add.Goals as goal

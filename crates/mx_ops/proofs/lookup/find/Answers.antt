@@ -1,8 +1,5 @@
-use Rattle.std.proofs.Common.{rules, map, Ok, Err, sym, ap, ◌∙◌}
-use Rattle.std.specs.Ordering.{nat_cmp}
-use Rattle.std.specs.Cmp.Lexicographic.{slice_cmp}
-use Rattle.std.proofs.lemmas.Fn.{always_returns_same}
-use Rattle.mx_ops.specs.Opcodes.{operations, operation_of, is_instruction}
+use Rattle.std.proofs.Common.{rules, map, Ok, Err, sym, ap, ◌∙◌, nat_cmp}
+use Rattle.mx_ops.proofs.Words.{slice_cmp, always_returns_same, operations, operation_of, is_instruction}
 use Rattle.mx_ops.proofs.Search.{plain, lists-plain, found}
 use Rattle.mx_ops.proofs.Operations.{lowest-found, instruction-found, other-found}
 use Rattle.mx_ops.proofs.Computed.{operations-listed}

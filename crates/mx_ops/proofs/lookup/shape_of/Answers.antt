@@ -1,7 +1,6 @@
 use Rattle.std.proofs.Common.{refl, arith}
-use Rattle.mx_ops.specs.Shapes.{shapes_of, shape_spans}
+use Rattle.mx_ops.proofs.Words.{shapes_of, shape_spans, SHAPES}
 use Rattle.mx_ops.specs.declared.op.Shape.TheVariants.{Three}
-use Rattle.mx_ops.specs.declared.table.TheConstants.{SHAPES}
 use Rattle.mx_ops.proofs.Places.{shape-at}
 use Rattle.mx_ops.proofs.lookup.shape_of.Goals as goal
 

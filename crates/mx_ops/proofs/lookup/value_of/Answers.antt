@@ -1,8 +1,5 @@
-use Rattle.std.proofs.Common.{rules, map, Ok, Err, sym, ap}
-use Rattle.std.specs.Ordering.{nat_cmp}
-use Rattle.std.specs.Cmp.Lexicographic.{slice_cmp}
-use Rattle.std.proofs.lemmas.Fn.{always_returns_same}
-use Rattle.mx_ops.specs.Predefined.{predefined_names}
+use Rattle.std.proofs.Common.{rules, map, Ok, Err, sym, ap, nat_cmp}
+use Rattle.mx_ops.proofs.Words.{slice_cmp, always_returns_same, predefined_names}
 use Rattle.mx_ops.proofs.Search.{plain, lists-plain, found}
 use Rattle.mx_ops.proofs.Computed.{symbols-listed}
 use Rattle.mx_ops.proofs.lookup.value_of.Goals as goal

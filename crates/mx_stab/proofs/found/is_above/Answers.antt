@@ -1,6 +1,5 @@
 use Rattle.std.proofs.Common.{ap, ◌∙◌}
-use Rattle.std.specs.Cmp.Lexicographic.{slice_cmp}
-use Rattle.std.specs.Ordering.{nat_cmp, is_lt}
+use Rattle.mx_stab.proofs.Words.{slice_cmp, nat_cmp, is_lt}
 use Rattle.mx_stab.proofs.NameSets.{above-last}
 use Rattle.mx_stab.proofs.found.is_above.Goals as goal
 

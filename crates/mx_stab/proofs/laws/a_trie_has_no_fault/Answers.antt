@@ -1,9 +1,5 @@
 use Rattle.std.proofs.Common.{◌≡◌, ℕ, List, None, Ok, Err, Result, ap, refl}
-use Rattle.mx_word.specs.Ranges.{AreBytes}
-use Rattle.mx_word.specs.declared.symbols.Symbol.{Symbol}
-use Rattle.mx_stab.specs.declared.faults.StabFault.{StabFault}
-use Rattle.mx_stab.specs.Grammar.{IsTrie}
-use Rattle.mx_stab.specs.Reading.{fault_in, trie_answer}
+use Rattle.mx_stab.proofs.Words.{AreBytes, Symbol, StabFault, IsTrie, fault_in, trie_answer}
 use Rattle.mx_stab.proofs.Sound.{read-trie}
 use Rattle.mx_stab.proofs.Whole.{trie-read}
 use Rattle.mx_stab.proofs.laws.a_trie_has_no_fault.Goals as goal

@@ -1,6 +1,5 @@
 use Rattle.std.proofs.Common.{◌≡◌, List, Ok, Result, sym, ◌∙◌}
-use Rattle.mx_word.specs.declared.symbols.Symbol.{Symbol}
-use Rattle.mx_stab.specs.declared.faults.StabFault.{StabFault}
+use Rattle.mx_stab.proofs.Words.{Symbol, StabFault}
 use Rattle.mx_stab.proofs.Whole.{trie-read}
 use Rattle.mx_stab.proofs.laws.a_trie_tells_one_list.Goals as goal
 

@@ -1,10 +1,5 @@
 use Rattle.std.proofs.Common.{◌≡◌, ℕ, List, Some, Ok, Err, Result, ap, sym, ◌∙◌, inl, inr, ◌⊎◌, refl}
-use Rattle.mx_word.specs.Ranges.{AreBytes}
-use Rattle.mx_word.specs.declared.symbols.Symbol.{Symbol}
-use Rattle.mx_stab.specs.declared.faults.StabFault.{StabFault}
-use Rattle.mx_stab.specs.FaultTable.{FaultOf}
-use Rattle.mx_stab.specs.Grammar.{IsTrie}
-use Rattle.mx_stab.specs.Reading.{fault_in, trie_answer}
+use Rattle.mx_stab.proofs.Words.{AreBytes, Symbol, StabFault, FaultOf, IsTrie, fault_in, trie_answer}
 use Rattle.mx_stab.proofs.FaultsFound.{fault-found}
 use Rattle.mx_stab.proofs.FaultsMet.{fault-met, fault-within}
 use Rattle.mx_stab.proofs.Sound.{read-trie}

@@ -1,14 +1,5 @@
 use Rattle.std.proofs.Common.{◌≡◌, ◌≢◌, ◌∙◌, List, Ok, Err, Result, IfErr, IfOk, sym, ℕ, arith}
-use Rattle.std.specs.List.{AllByRecursion}
-use Rattle.mx_word.proofs.Ranges.{bytes-each}
-use Rattle.mx_word.specs.Ranges.{AreBytes}
-use Rattle.mx_word.specs.declared.symbols.Symbol.{Symbol}
-use Rattle.mx_stab.specs.declared.faults.StabFault.{StabFault}
-use Rattle.mx_stab.specs.declared.faults.StabFault.TheVariants.{OutOfMemory}
-use Rattle.mx_stab.specs.FaultTable.{FaultOf}
-use Rattle.mx_stab.specs.Grammar.{AreDistinct, IsTrie}
-use Rattle.mx_word.specs.Symbols.{IsNamed}
-use Rattle.mx_stab.specs.Reading.{trie_answer}
+use Rattle.mx_stab.proofs.Words.{AllByRecursion, bytes-each, AreBytes, Symbol, StabFault, OutOfMemory, FaultOf, AreDistinct, IsTrie, IsNamed, trie_answer}
 use Rattle.mx_stab.proofs.NamesLaw.{trie-named}
 use Rattle.mx_stab.proofs.FaultsFound.{fault-found}
 use Rattle.mx_stab.proofs.Sound.{read-trie}

@@ -1,6 +1,5 @@
 use Rattle.std.proofs.Common.{◌≡◌, []}
-use Rattle.mx_stab.specs.Reading.{next_subtrie, start}
-use Rattle.mx_stab.specs.Due.{reading_of, after_all, weight}
+use Rattle.mx_stab.proofs.Words.{next_subtrie, start, reading_of, after_all, weight}
 use Rattle.mx_stab.proofs.reading.read_all.Given as goal
 
 -- what is due leads from here to what the whole trie leads to

@@ -1,6 +1,5 @@
 use Rattle.std.proofs.Common.{◌≡◌, ◌≤◌, ◌^◌, length}
-use Rattle.mx_stab.specs.Reading.{serial_behind}
-use Rattle.mx_stab.specs.Due.{serial_cap}
+use Rattle.mx_stab.proofs.Words.{serial_behind, serial_cap}
 use Rattle.mx_stab.proofs.values.serial.Given as goal
 
 abbrev pub invariant-loop-rest : goal.invariant-loop-rest

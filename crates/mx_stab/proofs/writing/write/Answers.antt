@@ -1,6 +1,5 @@
 use Rattle.std.proofs.Common.{ap, sym, ◌∙◌, subst, append-nil, arith}
-use Rattle.mx_stab.specs.Grammar.{IsTrie}
-use Rattle.mx_stab.specs.Trie.{trie_of}
+use Rattle.mx_stab.proofs.Words.{IsTrie, trie_of}
 use Rattle.mx_stab.proofs.Law.{written-is-trie}
 use Rattle.mx_stab.proofs.writing.write.Goals as goal
 

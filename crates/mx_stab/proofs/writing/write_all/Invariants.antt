@@ -1,6 +1,5 @@
 use Rattle.std.proofs.Common.{◌≡◌, ◌+◌, ◌++◌, length}
-use Rattle.mx_stab.specs.Trie.{trie_of}
-use Rattle.mx_stab.specs.Writing.{bytes_due}
+use Rattle.mx_stab.proofs.Words.{trie_of, bytes_due}
 use Rattle.mx_stab.proofs.writing.write_all.Given as goal
 
 -- what is written, and what is still to be written behind it, are the trie

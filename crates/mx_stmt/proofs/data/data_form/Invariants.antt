@@ -1,7 +1,5 @@
 use Rattle.std.proofs.Common.{◌≡◌, drop}
-use Rattle.mx_expr.specs.Tree.{trees_of}
-use Rattle.mx_stmt.specs.Data.{data_of, data_form, size_bytes, with_rest}
-use Rattle.mx_stmt.specs.Operands.{known_of, no_targets}
+use Rattle.mx_stmt.proofs.Words.{trees_of, data_of, data_form, size_bytes, with_rest, known_of, no_targets}
 use Rattle.mx_stmt.proofs.data.data_form.Given as goal
 
 abbrev pub invariant-loop-e : goal.invariant-loop-e

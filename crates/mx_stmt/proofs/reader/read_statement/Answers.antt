@@ -1,10 +1,5 @@
 use Rattle.std.proofs.Common.{Ok, Err, sym, ap, subst, ◌∙◌, refl}
-use Rattle.std.proofs.lemmas.Result.{err_from_is_err_and}
-use Rattle.mx_expr.specs.Tree.{trees_of}
-use Rattle.mx_expr.specs.Spelling.{Spells, Faultless, IsFirst}
-use Rattle.mx_stmt.specs.Faults.{fault_of}
-use Rattle.mx_stmt.specs.Reading.{IsFault, fields_of}
-use Rattle.mx_stmt.specs.Reading.IsFault.{operation, operand_list}
+use Rattle.mx_stmt.proofs.Words.{err_from_is_err_and, trees_of, Spells, Faultless, IsFirst, fault_of, IsFault, fields_of, operation, operand_list}
 use Rattle.mx_stmt.proofs.FieldsRead.{operation-is, operation-only, of-operands, same-parsed, memory-of, same-first}
 use Rattle.mx_stmt.proofs.reader.read_statement.Goals as goal
 

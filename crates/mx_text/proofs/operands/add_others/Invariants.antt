@@ -1,6 +1,5 @@
 use Rattle.std.proofs.Common.{◌≡◌, ◌++◌, take}
-use Rattle.std.specs.List.{flat_map}
-use Rattle.mx_text.specs.Instructions.{next_text}
+use Rattle.mx_text.proofs.Words.{flat_map, next_text}
 use Rattle.mx_text.proofs.operands.add_others.Given as goal
 
 abbrev pub invariant-loop-operand : goal.invariant-loop-operand

@@ -1,6 +1,5 @@
 use Rattle.std.proofs.Common.{rules, Ok, Err}
-use Rattle.mx_asm.specs.OnePass.{Ended}
-use Rattle.mx_asm.specs.Whole.{assembled_lines}
+use Rattle.mx_asm.proofs.Words.{Ended, assembled_lines}
 use Rattle.mx_asm.proofs.Fitting.{grows-whole}
 use Rattle.mx_asm.proofs.Validity.{assembled-valid}
 use Rattle.mx_asm.proofs.InTurn.{end-taken, end-grows}

@@ -1,6 +1,5 @@
 use Rattle.std.proofs.Common.{sym}
-use Rattle.mx_stmt.specs.Operands.{no_targets}
-use Rattle.mx_stmt.specs.Encoding.{statement_tree}
+use Rattle.mx_asm.proofs.Words.{no_targets, statement_tree}
 use Rattle.mx_asm.proofs.Encodings.{encoding-placed}
 use Rattle.mx_asm.proofs.assembly.Assembly.take.Goals as goal
 

@@ -1,6 +1,5 @@
 -- with no entries there are no lines, and with no values every register is 0
-use Rattle.std.proofs.Common.{◌≡◌, ℕ, Bool, true, false, cond, [], refl, ap}
-use Rattle.std.specs.Prelude.{nat_le}
+use Rattle.std.proofs.Common.{◌≡◌, ℕ, Bool, true, false, cond, [], refl, ap, nat_le}
 use Rattle.mx_mmo.specs.Meaning.{value_at}
 use Rattle.mx_load.specs.Kept.{line_at}
 use Rattle.mx_load.proofs.image.Image.empty.Goals as goal

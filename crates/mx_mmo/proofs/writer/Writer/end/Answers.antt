@@ -1,6 +1,5 @@
 use Rattle.std.proofs.Common.{◌++◌, List, ℕ, ap, sym, ◌∙◌, subst}
-use Rattle.mx_mmo.specs.Object.{IsObject}
-use Rattle.mx_mmo.specs.Spelling.{ending}
+use Rattle.mx_mmo.proofs.Words.{IsObject, ending}
 use Rattle.mx_mmo.proofs.Written.{written-object}
 use Rattle.mx_mmo.proofs.writer.Writer.end.Goals as goal
 

@@ -1,7 +1,6 @@
 use Rattle.std.proofs.Common.{◌≡◌, length, None, sym, ◌∙◌, ap}
-use Rattle.mx_names.specs.Names.{value_in, value_of_name}
+use Rattle.mx_names.proofs.Words.{value_in, value_of_name, on_ok_weaker}
 use Rattle.mx_names.proofs.Entries.{value-defined, not-some, length-inserted}
-use Rattle.std.proofs.lemmas.Result.{on_ok_weaker}
 use Rattle.mx_names.proofs.names.Names.define.Goals as goal
 
 pub returns-clause-looked_up : goal.returns-clause-looked_up

@@ -1,7 +1,5 @@
 use Rattle.std.proofs.Common.{sym, ◌∙◌, ap}
-use Rattle.std.specs.Option.{option_map}
-use Rattle.mx_ops.specs.Predefined.{predefined_value}
-use Rattle.mx_names.specs.Names.{value_of_name, first_value, pure_of}
+use Rattle.mx_names.proofs.Words.{option_map, predefined_value, value_of_name, first_value, pure_of}
 use Rattle.mx_names.proofs.Entries.{found}
 use Rattle.mx_names.proofs.names.Names.lookup.Goals as goal
 

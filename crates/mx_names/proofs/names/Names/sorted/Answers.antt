@@ -1,8 +1,5 @@
 use Rattle.std.proofs.Common.{rules, ◌≡◌, sym, ◌∙◌, ap, subst}
-use Rattle.std.specs.List.{AllByRecursion}
-use Rattle.mx_word.specs.declared.symbols.Symbol.{Symbol}
-use Rattle.mx_word.specs.Symbols.{InByteOrder}
-use Rattle.mx_names.specs.Names.{IsFullName}
+use Rattle.mx_names.proofs.Words.{AllByRecursion, Symbol, InByteOrder, IsFullName}
 use Rattle.mx_names.proofs.Entries.{in-order, all-are-named}
 use Rattle.mx_names.proofs.names.Names.sorted.Goals as goal
 

@@ -1,6 +1,5 @@
 use Rattle.std.proofs.Common.{◌≡◌, ◌++◌, map}
-use Rattle.std.specs.List.{AllByRecursion}
-use Rattle.mx_names.specs.Entries.{symbol_of, IsInRange}
+use Rattle.mx_names.proofs.Words.{AllByRecursion, symbol_of, IsInRange}
 use Rattle.mx_names.proofs.names.Names.sorted.Given as goal
 
 abbrev pub invariant-loop-name : goal.invariant-loop-name

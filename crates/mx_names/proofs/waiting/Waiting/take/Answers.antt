@@ -1,8 +1,5 @@
 use Rattle.std.proofs.Common.{sym, ◌∙◌, ap, subst, nat_cmp}
-use Rattle.std.specs.Map.{lookup}
-use Rattle.std.specs.BTreeMap.{is_at}
-use Rattle.std.specs.Cmp.Lexicographic.{slice_cmp}
-use Rattle.mx_names.specs.Waiting.{all_in_order, waits_of, waits_for, waits_for_others, AreGroups}
+use Rattle.mx_names.proofs.Words.{lookup, is_at, slice_cmp, all_in_order, waits_of, waits_for, waits_for_others, AreGroups}
 use Rattle.mx_names.proofs.Taken.{groups-less, taken-group, taken-none, left-group, left-all}
 use Rattle.mx_names.proofs.waiting.Waiting.take.Goals as goal
 

@@ -1,6 +1,5 @@
 use Rattle.std.proofs.Common.{ap, ◌∙◌}
-use Rattle.mx_stab.specs.Names.{is_above}
-use Rattle.mx_stab.specs.Reading.{is_among}
+use Rattle.mx_stab.proofs.Words.{is_above, is_among}
 use Rattle.mx_stab.proofs.NameSets.{above-not-among}
 use Rattle.mx_stab.proofs.found.Found.has.Goals as goal
 

@@ -1,0 +1,68 @@
+-- What a statement that is placed comes to, by its operation: bytes at the place, or a label and an effect.
+use Rattle.std.proofs.Common.{◌≡◌, ◌≤◌, ℕ, ◌+◌, cond, nat_lt, List, [], ◌∷◌, length, Option, Ok, Err, refl, subst}
+use Rattle.mx_asm.proofs.Words.{cond_both, ltb-false, Value, Pure, Reg, Wait, tetra_to_bytes, Tree, name, Op, Code, Lda, Set, Pseudo, Mem, shapes_of, Label, Effect, Placed, Answer, and_then, register_for, Known, Targets, operand_value, pure_at, register_at, form, form_by, set_form, data_form, StatementTree, alignment, known_at_place, label_value, tetra_waits, complete_symbol, one_form, one_operand, pseudo_form, op_form, encoding, IfPlaced}
+use Rattle.mx_ops.specs.declared.op.Op.TheVariants.{Pseudo as PseudoOp}
+use Rattle.mx_ops.specs.declared.op.Pseudo.TheVariants as pseudo
+use Rattle.mx_stmt.specs.declared.placed.Effect.TheVariants as effect
+use Rattle.mx_stmt.specs.declared.faults.StmtFault.TheVariants.{BadPlace}
+
+abbrev pub laid : Known → Option Label → List ℕ → List Wait → Placed
+laid k label bytes waits = record { start = k.at; bytes = bytes; waits = waits; label = label_value label (Pure k.at); effect = effect.Plain; after = k.at + length bytes }
+
+abbrev pub silent : Known → Option Label → Value → Effect → ℕ → Placed
+silent k label value e next = record { start = k.at; bytes = []; waits = []; label = label_value label value; effect = e; after = next }
+
+pub data Comes (k : Known) (label : Option Label) (operands : List Tree) : Placed → Type 0 where
+  placed : (bytes : List ℕ) (waits : List Wait) → k.at + length bytes ≤ 0x6000_0000_0000_0000 → Comes k label operands (laid k label bytes waits)
+  by_is : (e : Tree) (value : Value) → operands ≡ e ∷ [] → operand_value k e ≡ Ok value → Comes k label operands (silent k label value effect.Plain k.at)
+  by_loc : (e : Tree) (next : ℕ) → operands ≡ e ∷ [] → pure_at k e ≡ Ok next → Comes k label operands (silent k label (Pure k.at) effect.Plain next)
+  by_prefix : (text full : List ℕ) → operands ≡ name text ∷ [] → complete_symbol k text ≡ Ok full → Comes k label operands (silent k label (Pure k.at) (effect.Prefix full) k.at)
+  by_greg : (e : Tree) (value reg : ℕ) → operands ≡ e ∷ [] → pure_at k e ≡ Ok value → register_for k.gregs value ≡ Ok reg → Comes k label operands (silent k label (Reg reg) (effect.Greg reg value) k.at)
+  by_local : (e : Tree) (reg : ℕ) → operands ≡ e ∷ [] → register_at k e ≡ Ok reg → Comes k label operands (silent k label (Pure k.at) (effect.Local reg) k.at)
+
+module _ (k : Known) (label : Option Label) (operands : List Tree) where
+  abbrev Come : Answer Placed → Type 0
+  Come r = IfPlaced (Comes k label operands) r
+
+  then-comes : {A : Type 0} (r : Answer A) (next : A → Answer Placed) → ((x : A) → r ≡ Ok x → Come (next x)) → Come (and_then r next)
+  then-comes (Err fault) next h = tt
+  then-comes (Ok x) next h = h x refl
+
+  bytes-come : (bytes : List ℕ) (waits : List Wait) → Come (cond (nat_lt 0x6000_0000_0000_0000 (k.at + length bytes)) (Err BadPlace) (Ok (laid k label bytes waits)))
+  bytes-come bytes waits = cond_both (nat_lt 0x6000_0000_0000_0000 (k.at + length bytes)) _ _ Come (λ _. tt) (λ e. placed bytes waits (ltb-false _ _ e))
+
+  one-comes : (p : Pseudo) (e : Tree) → operands ≡ e ∷ [] → Come (one_form k label p e)
+  one-comes pseudo.Is e o = then-comes (operand_value k e) _ (λ value is. by_is e value o is)
+  one-comes pseudo.Loc e o = then-comes (pure_at k e) _ (λ next is. by_loc e next o is)
+  one-comes pseudo.Prefix (name text) o = then-comes (complete_symbol k text) _ (λ full is. by_prefix text full o is)
+  one-comes pseudo.Greg e o = then-comes (pure_at k e) _ (λ value is. then-comes (register_for k.gregs value) _ (λ reg found. by_greg e value reg o is found))
+  one-comes pseudo.Local e o = then-comes (register_at k e) _ (λ reg is. by_local e reg o is)
+  one-comes p e o = tt
+
+  operand-comes : (p : Pseudo) (l : List Tree) → operands ≡ l → Come (one_operand k label p l)
+  operand-comes p (e ∷ []) o = one-comes p e o
+  operand-comes p l o = tt
+
+  pseudo-comes : (t : Targets) (line : ℕ) (p : Pseudo) → Come (pseudo_form t k line label p operands)
+  pseudo-comes t line pseudo.Byte = then-comes (data_form t k line 1 operands) _ (λ d is. bytes-come d.bytes d.waits)
+  pseudo-comes t line pseudo.Wyde = then-comes (data_form t k line 2 operands) _ (λ d is. bytes-come d.bytes d.waits)
+  pseudo-comes t line pseudo.Tetra = then-comes (data_form t k line 4 operands) _ (λ d is. bytes-come d.bytes d.waits)
+  pseudo-comes t line pseudo.Octa = then-comes (data_form t k line 8 operands) _ (λ d is. bytes-come d.bytes d.waits)
+  pseudo-comes t line p = operand-comes p operands refl
+
+  op-comes : (t : Targets) (line : ℕ) (op : Op) → Come (op_form t k line label op operands)
+  op-comes t line (PseudoOp p) = pseudo-comes t line p
+  op-comes t line (Code code) = then-comes (form_by t k (shapes_of code) code operands) _ (λ d is. bytes-come (tetra_to_bytes d.word) (tetra_waits line k.at d.wait))
+  op-comes t line Lda = then-comes (form t k Mem 0x22 operands) _ (λ d is. bytes-come (tetra_to_bytes d.word) (tetra_waits line k.at d.wait))
+  op-comes t line Set = then-comes (set_form k operands) _ (λ d is. bytes-come (tetra_to_bytes d.word) (tetra_waits line k.at d.wait))
+
+pub if-placed : (P : Placed → Type 0) (r : Answer Placed) (p : Placed) → IfPlaced P r → r ≡ Ok p → P p
+if-placed P (Err fault) p h is = absurd (cc)
+if-placed P (Ok q) p h is = let same : q ≡ p = cc in subst P same h
+
+-- what is known where a statement lies
+abbrev pub at_place : Known → StatementTree → Known
+at_place k s = known_at_place (alignment s.op) k
+
+pub encoding-comes : (t : Targets) (k : Known) (s : StatementTree) (p : Placed) → encoding t k s ≡ Ok p → Comes (at_place k s) s.label s.operands p
+encoding-comes t k s p is = if-placed (Comes (at_place k s) s.label s.operands) (encoding t k s) p (op-comes (at_place k s) s.label s.operands t s.line s.op) is
