@@ -1,9 +1,9 @@
 -- What `type` writes for an object, line by line, and what it comes to.
-use Rattle.std.specs.Prelude.{ℕ, ◌+◌, ◌≡◌, ◌≢◌, Bool, true, false, nat_lt, List, [], ◌∷◌, ◌++◌, length, map, Option, Some, None, Result, Ok, Err, if◌then◌else◌}
+use Rattle.std.specs.Prelude.{ℕ, ◌+◌, ◌≡◌, ◌≢◌, Bool, true, false, nat_lt, List, [], ◌∷◌, ◌++◌, length, map, Option, Result, Ok, Err, unwrap_or, if◌then◌else◌}
 use Rattle.mx_host.specs.HostModel.{HostModel}
 use Rattle.mx_host.specs.HostAnswer.{Then}
 use Rattle.mx_host.specs.Keeping.{ComesByFault, Keeps}
-use Rattle.mx_mmo.specs.Faults as objects
+use Rattle.mx_load.specs.Objects.{fault_at}
 use Rattle.mx_mmo.specs.Replies.{ReaderModel, limit, tail_of}
 use Rattle.mx_mmo.specs.Whole.{Left, Walk, items_of}
 use Rattle.mx_mmo.specs.declared.due.Phase.TheVariants.{Start}
@@ -11,7 +11,7 @@ use Rattle.mx_mmo.specs.declared.faults.MmoFault.{MmoFault}
 use Rattle.mx_mmo.specs.declared.faults.MmoFault.TheVariants.{TooLong}
 use Rattle.mx_mmo.specs.declared.items.Item.{Item}
 use Rattle.mx_mmo.specs.declared.items.Tail.{Tail}
-use Rattle.mx_stab.specs.Faults as tries
+use Rattle.mx_stab.specs.Faults.{number_of, place_of}
 use Rattle.mx_stab.specs.Reading.{trie_answer}
 use Rattle.mx_stab.specs.declared.faults.StabFault.{StabFault}
 use Rattle.mx_type.specs.Lambda.{lambda_after}
@@ -43,21 +43,13 @@ item_lines lambda (item ∷ items) = shown (item_text lambda item) ++ item_lines
 abbrev pub tail_lines : List ℕ → List Symbol → List (List ℕ)
 tail_lines trie symbols = ended (stab_line trie) ∷ map (λ s. ended (symbol_line s)) symbols
 
--- bytes are refused that are no object
-abbrev pub refused_at : Option ℕ → ℕ → Outcome
-refused_at None fault = OutOfMemory
-refused_at (Some place) fault = BadObject place fault
-
+-- the refusal of bytes that are no object
 abbrev pub unread : MmoFault → Outcome
-unread fault = refused_at (objects.place_of fault) (objects.number_of fault)
+unread fault = BadObject (fault_at fault).0 (fault_at fault).1
 
--- so are those of a trie, whose places count from where it stands in the object
-abbrev pub refused_behind : ℕ → Option ℕ → ℕ → Outcome
-refused_behind place None fault = OutOfMemory
-refused_behind place (Some at) fault = BadObject (place + at) fault
-
+-- so with those of a trie, whose places count from where it stands in the object
 abbrev pub unread_trie : ℕ → StabFault → Outcome
-unread_trie place fault = refused_behind place (tries.place_of fault) (tries.number_of fault)
+unread_trie place fault = BadObject (place + unwrap_or (place_of fault) 0) (number_of fault)
 
 -- what stands behind the items: the trie and its symbols, or what is wrong there
 abbrev pub trie_typed : ℕ → List ℕ → Result (List Symbol) StabFault → Typed

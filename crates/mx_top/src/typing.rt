@@ -26,7 +26,8 @@ use std::alloc::Global;
 
 /// What comes of bytes that are no object.
 fn unread(fault: MmoFault) -> Outcome
-    ensures value { result ≡ spec.unread fault }
+    ensures value { result ≢ Outcome.OutOfMemory → result ≡ spec.unread fault }
+    ensures memory { fault ≡ MmoFault.OutOfMemory → result ≡ Outcome.OutOfMemory }
     ensures well { result ≢ Outcome.HostFault }
     ensures present { result ≢ Outcome.NoFile }
     ensures words { is_usage result ≡ false }
@@ -44,7 +45,8 @@ fn unread(fault: MmoFault) -> Outcome
 fn unread_trie(place: u64, fault: StabFault) -> Outcome
     requires front { place ≤ 2 ^ 26 }
     requires within { IfSome (tries.place_of fault) (λ at. at < 2 ^ 63) }
-    ensures value { result ≡ spec.unread_trie place fault }
+    ensures value { result ≢ Outcome.OutOfMemory → result ≡ spec.unread_trie place fault }
+    ensures memory { fault ≡ StabFault.OutOfMemory → result ≡ Outcome.OutOfMemory }
     ensures well { result ≢ Outcome.HostFault }
     ensures present { result ≢ Outcome.NoFile }
     ensures words { is_usage result ≡ false }
@@ -70,7 +72,7 @@ fn outcome_of_lines(written: Result<bool, NoMemory>) -> Outcome
 }
 
 /// Writes a text as a line, if it has bytes.
-#[tactic(auto, using(crate::proofs::Typing::typing))]
+#[tactic(auto, using(crate::proofs::TypedLines::typing))]
 fn put_shown<H: Host>(host: &mut H, text: &[u8]) -> Result<bool, NoMemory>
     ensures { Puts (H.told host.old) (H.told host.new) (H.faults host.old) (H.faults host.new) result
         (spec.shown text.now) }
@@ -82,7 +84,7 @@ fn put_shown<H: Host>(host: &mut H, text: &[u8]) -> Result<bool, NoMemory>
 }
 
 /// Writes the line of an item, if it has one.
-#[tactic(auto, using(crate::proofs::Typing::typing))]
+#[tactic(auto, using(crate::proofs::TypedLines::typing))]
 fn put_item<H: Host>(host: &mut H, lister: &mut Lister, item: &Item) -> Result<bool, NoMemory>
     ensures line { Puts (H.told host.old) (H.told host.new) (H.faults host.old) (H.faults host.new) result
         (spec.shown (item_text lister.old item.now)) }
@@ -95,7 +97,7 @@ fn put_item<H: Host>(host: &mut H, lister: &mut Lister, item: &Item) -> Result<b
 }
 
 /// Lists an item, and says that the listing goes on; or what it comes to.
-#[tactic(auto, using(crate::proofs::Typing::typing))]
+#[tactic(auto, using(crate::proofs::TypedLines::typing))]
 fn list_item<H: Host>(host: &mut H, lister: &mut Lister, item: &Item) -> Result<bool, Outcome>
     ensures more { OnOk result (Puts (H.told host.old) (H.told host.new) (H.faults host.old) (H.faults host.new)
         (Ok true) (spec.shown (item_text lister.old item.now))) }
@@ -163,7 +165,7 @@ fn list_items<H: Host>(
 }
 
 /// Writes the line of a symbol.
-#[tactic(auto, using(crate::proofs::Typing::typing))]
+#[tactic(auto, using(crate::proofs::TypedLines::typing))]
 fn put_symbol<H: Host>(host: &mut H, lister: &Lister, symbol: &Symbol) -> Result<bool, NoMemory>
     ensures { Puts (H.told host.old) (H.told host.new) (H.faults host.old) (H.faults host.new) result
         (ended (symbol_line symbol.now) ∷ []) }
@@ -179,20 +181,18 @@ fn put_symbols<H: Host>(host: &mut H, lister: &Lister, symbols: &[Symbol]) -> Re
     ensures { Puts (H.told host.old) (H.told host.new) (H.faults host.old) (H.faults host.new) result
         (map (λ s. ended (symbol_line s)) symbols.now) }
 {
-    let mut rest = symbols;
-    while let [symbol, others @ ..] = rest {
+    for symbol in symbols {
         match put_symbol(host, lister, symbol) {
             Ok(true) => {}
             Ok(false) => return Ok(false),
             Err(e) => return Err(e),
         }
-        rest = others;
     }
     Ok(true)
 }
 
 /// Writes the line of a trie.
-#[tactic(auto, using(crate::proofs::Typing::typing))]
+#[tactic(auto, using(crate::proofs::TypedLines::typing))]
 fn put_trie<H: Host>(host: &mut H, lister: &Lister, trie: &[u8]) -> Result<bool, NoMemory>
     ensures { Puts (H.told host.old) (H.told host.new) (H.faults host.old) (H.faults host.new) result
         (ended (stab_line trie.now) ∷ []) }
@@ -204,7 +204,7 @@ fn put_trie<H: Host>(host: &mut H, lister: &Lister, trie: &[u8]) -> Result<bool,
 }
 
 /// Writes the lines of a trie and its symbols.
-#[tactic(auto, using(crate::proofs::Typing::typing))]
+#[tactic(auto, using(crate::proofs::TypedLines::typing))]
 fn put_tail<H: Host>(
     host: &mut H,
     lister: &Lister,
@@ -222,7 +222,7 @@ fn put_tail<H: Host>(
 }
 
 /// Lists what stands behind the items.
-#[tactic(auto, using(crate::proofs::Typing::typing, mx_load::proofs::Tails::tails))]
+#[tactic(auto, using(crate::proofs::TypedLines::typing, mx_load::proofs::Tails::tails))]
 fn list_tail<H: Host>(alloc: Global, host: &mut H, lister: &Lister, tail: &Tail) -> Outcome
     requires { tail.now.place ≤ 2 ^ 26 }
     ensures { Types (H.told host.old) (H.told host.new) (H.faults host.old) (H.faults host.new) result
@@ -240,7 +240,7 @@ fn list_tail<H: Host>(alloc: Global, host: &mut H, lister: &Lister, tail: &Tail)
 }
 
 /// Lists the end of an object, where no item stands next.
-#[tactic(auto, using(crate::proofs::Typing::typing))]
+#[tactic(auto, using(crate::proofs::TypedLines::typing))]
 fn list_end<H: Host>(alloc: Global, host: &mut H, lister: &Lister, reader: &mut Reader) -> Outcome
     requires { reader.old.fault ≡ None }
     ensures { Types (H.told host.old) (H.told host.new) (H.faults host.old) (H.faults host.new) result
@@ -253,7 +253,7 @@ fn list_end<H: Host>(alloc: Global, host: &mut H, lister: &Lister, reader: &mut 
 }
 
 /// Lists the object that a reader was fed.
-#[tactic(auto, using(crate::proofs::Typing::typing))]
+#[tactic(auto, using(crate::proofs::TypedLines::typing))]
 fn list_fed<H: Host>(alloc: Global, host: &mut H, reader: &mut Reader) -> Outcome
     requires { reader.old.fault ≡ None }
     ensures { Types (H.told host.old) (H.told host.new) (H.faults host.old) (H.faults host.new) result
@@ -267,7 +267,7 @@ fn list_fed<H: Host>(alloc: Global, host: &mut H, reader: &mut Reader) -> Outcom
 }
 
 /// Lists an object, or the items before its first fault.
-#[tactic(auto, using(crate::proofs::Typing::typing))]
+#[tactic(auto, using(crate::proofs::TypedLines::typing))]
 fn list_object<H: Host>(alloc: Global, host: &mut H, bytes: &[u8]) -> Outcome
     ensures { Types (H.told host.old) (H.told host.new) (H.faults host.old) (H.faults host.new) result
         (spec.typed bytes.now) }
@@ -280,7 +280,7 @@ fn list_object<H: Host>(alloc: Global, host: &mut H, bytes: &[u8]) -> Outcome
 }
 
 /// Lists the object in the file of this name.
-#[tactic(auto, using(crate::proofs::Typing::typing))]
+#[tactic(auto, using(crate::proofs::TypedLines::typing))]
 pub fn list_file<H: Host>(alloc: Global, host: &mut H, name: &[u8]) -> Outcome
     ensures told { AnswersAs (H.told host.old) (H.told host.new) result
         (λ m. spec.after_typing (file_bytes 16385 name.now m)) }
