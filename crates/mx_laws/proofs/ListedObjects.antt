@@ -239,4 +239,4 @@ listed-called words o bytes old new result call h there none kept =
     called words old new result outcome call kept
     (spoken.0, listed-spared window_machine words o bytes (contents old) h there none ∙ spoken.1)
 
-pub ruleset listed = (listing-typed, done-typed, once-typed, fault-typed, trie-fault, long-typed, listed-spared, listed-called)
+pub ruleset listed = (done-typed, fault-typed, long-typed)

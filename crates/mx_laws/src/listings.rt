@@ -54,7 +54,6 @@ pub fn what_is_written_for_an_object_is_its_listing()
 /// listed: the program answers what the listing comes to, and leaves the host with its lines behind standard
 /// output, but for the number of calls, the list of those that fail and the message. So a call answers that, or
 /// is out of memory.
-#[tactic(auto, using(crate::proofs::ListedObjects::listed))]
 pub fn objects_that_are_there_are_listed()
     ensures listed { (kind : MachineKind) (words : List Word) (o : Order) (bytes : List ℕ) (m : HostModel) →
         IsOrdered words o Command.Show → IsThere (word_at words o.file) object_pieces bytes m →
