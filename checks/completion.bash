@@ -21,7 +21,7 @@ offers() {
   fi
 }
 
-offers '--help|--version|asm|gen|run|sim' mmixware ''
+offers '--help|--version|asm|gen|run|sim|type' mmixware ''
 offers run mmixware r
 offers 'a.mms|b c.mms|programs' mmixware run ''
 offers 'b c.mms' mmixware run b
@@ -36,6 +36,8 @@ offers 'd.mmo|programs' mmixware asm a.mms ''
 offers '' mmixware asm a.mms d.mmo ''
 offers --ring mmixware gen -
 offers --ring mmixware gen ''
+offers 'd.mmo|programs' mmixware type ''
+offers '' mmixware type d.mmo ''
 offers '' mmixware run --steps ''
 offers '' mmixware other ''
 exit $bad

@@ -90,7 +90,8 @@ class Cases:
             data = assembly.object() if assembly.refusal is None else maker.object()
         else:
             data = maker.object()
-        return Case(self.seed, "object", ["sim", *self.options(100), "p.mmo"], {"p.mmo": maker.damaged(data)})
+        words = ["type", "p.mmo"] if self.rng.random() < 0.4 else ["sim", *self.options(100), "p.mmo"]
+        return Case(self.seed, "object", words, {"p.mmo": maker.damaged(data)})
 
     def console(self):
         """A program with console commands."""
@@ -120,11 +121,11 @@ class Cases:
 
     def words(self):
         """Random words."""
-        pool = ("run sim asm gen --ring --steps -i --dump 256 512 300 1 10 0 0000000000010 x -1 p.mms none.mms p.mmo - "
+        pool = ("run sim asm gen type --ring --steps -i --dump 256 512 300 1 10 0 0000000000010 x -1 p.mms none.mms p.mmo - "
                 "-- --x 1000000000000 1000000000001 99999999999999 10000 10001 65536 131072").split() + [""]
         words = [self.rng.choice(pool) for _ in range(self.rng.randrange(7))]
         if self.rng.random() < 0.8:
-            words[:1] = [self.rng.choice(("run", "sim", "asm", "gen"))]
+            words[:1] = [self.rng.choice(("run", "sim", "asm", "gen", "type"))]
         if words[:1] == ["gen"] and any(int(it) > 30 for it in words[1:] if it.isdigit() and it not in RINGS):
             words = ["gen", "--ring", self.rng.choice(RINGS), str(self.rng.randrange(12))]
         files = {"p.mms": b"Main SET $255,7\n TRAP 0,Halt,0\n", "p.mmo": b""}

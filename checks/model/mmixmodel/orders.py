@@ -4,6 +4,7 @@
     sim [--ring R] [--steps N] [-i] [--dump] OBJ [ARG ...]
     asm SRC OBJ
     gen [--ring R] N
+    type OBJ
 
 Options stand before the file and may repeat; the last counts. R is a power of two from 256 to 65,536, by default 256. N
 of --steps is 1 to 10^12, by default 10^9, and N of gen is 1 to 10,000. Numbers are 1 to 13 decimal digits.
@@ -12,7 +13,7 @@ import re
 from dataclasses import dataclass
 
 OPTIONS = {"run": ("--ring", "--steps", "-i", "--dump"), "sim": ("--ring", "--steps", "-i", "--dump"), "asm": (),
-           "gen": ("--ring",)}
+           "gen": ("--ring",), "type": ()}
 RINGS = tuple(1 << it for it in range(8, 17))
 
 
@@ -90,6 +91,6 @@ def read_order(words):
     if order.command == "asm" and order.rest == len(words):
         raise UsageFault(7, order.rest)
     last = order.rest + (order.command == "asm")
-    if order.command in ("asm", "gen") and last < len(words):
+    if order.command in ("asm", "gen", "type") and last < len(words):
         raise UsageFault(8, last)
     return order

@@ -10,6 +10,7 @@ from .console import End, Session
 from .faults import Fault, Stop, Wild
 from .hosts import BINARY_READ, BINARY_WRITE, Absent, Failed
 from .lines import SOURCE_LIMIT
+from .listing import listing
 from .machine import Machine
 from .objects import OBJECT_LIMIT, read_object
 from .orders import UsageFault, read_order
@@ -81,7 +82,7 @@ class Program:
         """The outcome before its message. A failed call of the program itself ends its work at once."""
         try:
             self.order = read_order(self.words)
-            return {"asm": self.assemble, "gen": self.generate}.get(self.order.command, self.execute)()
+            return {"asm": self.assemble, "gen": self.generate, "type": self.show}.get(self.order.command, self.execute)()
         except UsageFault as fault:
             return Outcome("Usage", (fault.kind, fault.word))
         except Failed:
@@ -107,6 +108,18 @@ class Program:
         assembly = Assembly(source, with_pages=False)
         write_file(self.host, assembly.object())
         return Outcome("Refused", tuple(assembly.refusal)) if assembly.refusal else Outcome("Done", (0,))
+
+    def show(self):
+        """`type`: each line of the listing is one write."""
+        data = self.read_input(OBJECT_LIMIT)
+        if data is None:
+            return Outcome("NoFile")
+        try:
+            for line in listing(data):
+                self.host.write_slot(OUTPUT_SLOT, line.encode())
+        except Fault as fault:
+            return Outcome("BadObject", (fault.place, fault.number))
+        return Outcome("Done", (0,))
 
     def execute(self):
         """`run` and `sim`. Argument 0 is the file word without a last .mms or .mmo."""

@@ -10,12 +10,14 @@ usage: mmixware run [--ring R] [--steps N] [-i] [--dump] SRC [ARG ...]
        mmixware sim [--ring R] [--steps N] [-i] [--dump] OBJ [ARG ...]
        mmixware asm SRC OBJ
        mmixware gen [--ring R] N
+       mmixware type OBJ
 
   run          assembles the source in the file SRC and runs it
   sim          runs the object file OBJ
   asm          assembles the source in the file SRC into the object file OBJ
   gen          generates a program of N blocks (1 to 10000), runs it, and tells
                its size, its steps and its sum
+  type         lists the object file OBJ line by line
 
   --ring R     the registers of the ring: a power of two from 256 to 65536
                (256 if not given)

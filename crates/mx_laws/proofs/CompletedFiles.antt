@@ -59,7 +59,7 @@ still-read most name m at slots e =
     file-idle most m.files m.slots m name at (omega arith) e
     ∙ ap (λ ss. (Ok (take (4096 * most) (bytes_at m.files at)), idle m.files ss m)) (shut-source m.slots slots)
 
-there-read : (name : Word) (most : ℕ) (text : List ℕ) (m : HostModel) → IsThere name most text m → file_bytes most name (still m) ≡ (Ok text, still m)
+pub there-read : (name : Word) (most : ℕ) (text : List ℕ) (m : HostModel) → IsThere name most text m → file_bytes most name (still m) ≡ (Ok text, still m)
 there-read name most text m h = still-read most name m h.place h.slots h.found ∙ ap (λ xs. (Ok xs, still m)) (sym h.bytes)
 
 pub file-left : (most : ℕ) (name : List ℕ) (m : HostModel) (at : ℕ) → NoneFailed m (file_bytes most name m).1 → HasStartSlots m → place_of m.files name ≡ Some at →
@@ -75,7 +75,7 @@ write-shown : (m : HostModel) (text : List ℕ) → Shows m → write_answer (st
 unfolding write_answer
 write-shown m text h = ap (write_to (still m) 259 text) h
 
-lines-still : (lines : List (List ℕ)) (m : HostModel) → Shows m → lines_put lines (still m) ≡ (true, still (with_output m (concat lines)))
+pub lines-still : (lines : List (List ℕ)) (m : HostModel) → Shows m → lines_put lines (still m) ≡ (true, still (with_output m (concat lines)))
 unfolding lines_put
 lines-still [] m h = ap (λ xs. (true, still (record m { output = xs }))) (sym (append-nil m.output))
 lines-still (line ∷ lines) m h =

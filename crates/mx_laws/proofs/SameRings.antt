@@ -8,7 +8,7 @@ use Rattle.mx_run.specs.WildRuns.{list_machine}
 use Rattle.mx_word.specs.declared.symbols.Symbol.{Symbol}
 use Rattle.mx_words.specs.Orders.{order_of}
 use Rattle.mx_words.specs.declared.order.Command.{Command}
-use Rattle.mx_words.specs.declared.order.Command.TheVariants.{Run, Asm, Sim, Gen}
+use Rattle.mx_words.specs.declared.order.Command.TheVariants.{Run, Asm, Sim, Gen, Show}
 use Rattle.mx_words.specs.declared.order.Order.{Order}
 use Rattle.mx_top.specs.Arguments.{Word, word_at, arguments}
 use Rattle.mx_gen.specs.Generator.{generated}
@@ -64,6 +64,7 @@ same-ordered words others o p e Sim m h = rw (h tt, e.file) (same-object words o
 same-ordered words others o p e Asm m h = rw (e.object, e.file) refl
 same-ordered words others o p e Gen m h =
     same-made words others o p e (generated o.number) m ∙ ap (λ n. source_generated list_machine p (generated n) m) e.blocks
+same-ordered words others o p e Show m h = rw e.file refl
 
 pub rings-agree : (words others : List Word) (o p : Order) (m : HostModel) → order_of words ≡ Ok o → order_of others ≡ Ok p →
     DifferInRing words others o p → product list_machine words m ≡ product list_machine others m

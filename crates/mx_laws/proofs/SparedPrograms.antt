@@ -54,11 +54,11 @@ carried : (kind : MachineKind) (words : List Word) (m : HostModel) (a : Answer) 
     answer_unscheduled (product kind words m) ≡ answer_unscheduled a
 carried kind words m a none e = quiet-product kind words m none ∙ unlisted (product kind words (unscheduled m)) a e
 
-carried-as : (kind : MachineKind) (words : List Word) (m : HostModel) (a : Answer) → NoCallFails kind words m → answer_uncounted (product kind words (unscheduled m)) ≡ answer_uncounted a →
+pub carried-as : (kind : MachineKind) (words : List Word) (m : HostModel) (a : Answer) → NoCallFails kind words m → answer_uncounted (product kind words (unscheduled m)) ≡ answer_uncounted a →
     answer_unscheduled (product kind words m) ≡ answer_unscheduled a
 carried-as kind words m a none e = carried kind words m (answer_uncounted a) none e ∙ sym (unlisted a (answer_uncounted a) refl)
 
-quiet-file : (name : Word) (most : ℕ) (text : List ℕ) (m : HostModel) → IsThere name most text m → IsThere name most text (unscheduled m)
+pub quiet-file : (name : Word) (most : ℕ) (text : List ℕ) (m : HostModel) → IsThere name most text m → IsThere name most text (unscheduled m)
 quiet-file name most text m h = record { slots = h.slots; place = h.place; found = h.found; bytes = h.bytes }
 
 quiet-source : (words : List Word) (o : Order) (image : Image) (m : HostModel) → SourceIsThere words o image m → SourceIsThere words o image (unscheduled m)
@@ -123,7 +123,7 @@ pub ruleset spared = (source-spared, object-spared, told-spared, assembled-spare
 -- ---- outcomes
 
 -- the answer has this outcome
-abbrev Answers : Outcome → Answer → Type 0
+abbrev pub Answers : Outcome → Answer → Type 0
 Answers outcome a = (q : HostModel) × (answer_unscheduled a ≡ answered outcome q)
 
 -- by whether there is a dump
@@ -147,7 +147,7 @@ played-left kind steps s m outcome ended after well slots h =
     (session-kept kind steps s no_flags m (slot_at-start_output m slots))
 
 -- a message changes no outcome, nor do the lines of a dump that are written
-message-answers : (outcome : Outcome) (text : List ℕ) (m : HostModel) → Answers outcome (message_told outcome text m)
+pub message-answers : (outcome : Outcome) (text : List ℕ) (m : HostModel) → Answers outcome (message_told outcome text m)
 message-answers outcome [] m = (unscheduled m, refl)
 message-answers outcome (b ∷ bs) m = (unscheduled (write_answer m 260 (b ∷ bs)).1, refl)
 
@@ -172,7 +172,7 @@ played-answers kind words o image outcome ended m after slots h k =
 
 -- ---- what a call answers
 
-called : (words : List Word) (old new : Option HostModel) (result outcome : Outcome) → IsCalled words old new result → result ≢ OutOfMemory →
+pub called : (words : List Word) (old new : Option HostModel) (result outcome : Outcome) → IsCalled words old new result → result ≢ OutOfMemory →
     Answers outcome (product window_machine words (contents old)) → result ≡ outcome
 called words old new result outcome h k a =
     let told : answered result (unscheduled (contents new)) ≡ answered outcome a.0 = ap answer_unscheduled (h.answers h.telling k) ∙ a.1 in

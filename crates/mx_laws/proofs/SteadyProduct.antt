@@ -25,7 +25,7 @@ use Rattle.mx_con.proofs.SteadySessions.{session_host, session_still, SparedSess
 use Rattle.mx_run.proofs.SteadyRuns.{end_still, SparedEnds, run-steady}
 use Rattle.mx_words.specs.Orders.{order_of}
 use Rattle.mx_words.specs.declared.order.Command.{Command}
-use Rattle.mx_words.specs.declared.order.Command.TheVariants.{Run, Asm, Sim, Gen}
+use Rattle.mx_words.specs.declared.order.Command.TheVariants.{Run, Asm, Sim, Gen, Show}
 use Rattle.mx_words.specs.declared.order.Order.{Order}
 use Rattle.mx_words.specs.declared.order.WordsFault.{WordsFault}
 use Rattle.mx_top.specs.Answers.{Answer, answered, wild, plainly}
@@ -34,6 +34,7 @@ use Rattle.mx_laws.specs.Detour.{host_of, answer_uncounted, answer_unscheduled}
 use Rattle.mx_top.specs.Dump.{dump_lines}
 use Rattle.mx_gen.specs.Generator.{generated, summary}
 use Rattle.mx_top.specs.Lines.{lines_put}
+use Rattle.mx_top.specs.Typed.{typed, after_typing}
 use Rattle.mx_top.specs.Sources.{source_meaning}
 use Rattle.mx_top.specs.Messages.{message_of}
 use Rattle.mx_top.specs.Objects.{Assembled, source_object}
@@ -201,6 +202,15 @@ generated-steady : (kind : MachineKind) (o : Order) (size : ℕ) (r : Result Ima
 generated-steady kind o size (Err refusal) m = uncalled
 generated-steady kind o size (Ok image) m = summed-steady kind o.number size (started kind o.ring image (codes "gen" ∷ [])) m
 
+-- ---- `type`
+
+typed-case : (r : Result (List ℕ) Outcome) (m : HostModel) → SparedAnswers m (after_typing (r, m)) (after_typing (r, still m))
+typed-case (Err outcome) m = uncalled
+typed-case (Ok object) m = told-steady (typed object).1 (typed object).0 m
+
+show-order : (object : Word) (m : HostModel) → SparedAnswers m (after_typing (file_bytes object_pieces object m)) (after_typing (file_bytes object_pieces object (still m)))
+show-order object m = behind after_typing (file_bytes object_pieces object m) (file_bytes object_pieces object (still m)) typed-case (file-steady object_pieces object m)
+
 -- ---- the words, and the message
 
 ordered-steady : (kind : MachineKind) (words : List Word) (o : Order) (c : Command) (m : HostModel) → SparedAnswers m (ordered kind words o c m) (ordered kind words o c (still m))
@@ -208,6 +218,7 @@ ordered-steady kind words o Run m = run-order kind words o m
 ordered-steady kind words o Sim m = sim-order kind words o m
 ordered-steady kind words o Asm m = asm-order (word_at words o.file) (word_at words o.rest) m
 ordered-steady kind words o Gen m = generated-steady kind o (length (generated o.number)) (source_meaning (generated o.number)) m
+ordered-steady kind words o Show m = show-order (word_at words o.file) m
 
 words-steady : (kind : MachineKind) (words : List Word) (r : Result Order WordsFault) (m : HostModel) → SparedAnswers m (carried_out kind words r m) (carried_out kind words r (still m))
 words-steady kind words (Err fault) m = uncalled

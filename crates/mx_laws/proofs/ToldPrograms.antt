@@ -1,6 +1,6 @@
 -- By its definition the program does not lack memory: no file that is opened does, no run and no session.
 use Rattle.std.proofs.Common.{◌≡◌, ℕ, zero, suc, List, [], ◌∷◌, length, Bool, true, false, cond, Option, None, Some, Result, Ok, Err, refl}
-use Rattle.std.specs.Prelude.{◌&&◌, codes}
+use Rattle.std.specs.Prelude.{◌&&◌, codes, nat_lt}
 use Rattle.mx_word.specs.declared.symbols.Symbol.{Symbol}
 use Rattle.mx_host.specs.HostModel.{HostModel, counted, is_failing, is_read_only, place_of}
 use Rattle.mx_host.specs.HostAnswer.{Then, open_answer, opened, read_answer, close_answer}
@@ -10,6 +10,13 @@ use Rattle.mx_host.specs.declared.faults.OpenFault.TheVariants as opening
 use Rattle.mx_host.specs.declared.slots.Mode.{Mode}
 use Rattle.mx_host.specs.declared.slots.Mode.TheVariants.{BinaryRead, BinaryWrite}
 use Rattle.mx_mmo.specs.Image.{Image}
+use Rattle.mx_mmo.specs.Replies.{limit, tail_of}
+use Rattle.mx_mmo.specs.Whole.{Left, items_of}
+use Rattle.mx_mmo.specs.declared.due.Phase.TheVariants.{Start}
+use Rattle.mx_mmo.specs.declared.faults.MmoFault.{MmoFault}
+use Rattle.mx_mmo.specs.declared.items.Tail.{Tail}
+use Rattle.mx_stab.specs.Reading.{trie_answer}
+use Rattle.mx_stab.specs.declared.faults.StabFault.{StabFault}
 use Rattle.mx_load.specs.Objects.{object_loaded}
 use Rattle.mx_core.specs.Start.{start}
 use Rattle.mx_core.specs.State.{State}
@@ -23,7 +30,7 @@ use Rattle.mx_con.specs.declared.end.SessionEnd.TheVariants as sitting
 use Rattle.mx_con.proofs.ToldSessions.{sessions-told}
 use Rattle.mx_words.specs.Orders.{order_of}
 use Rattle.mx_words.specs.declared.order.Command.{Command}
-use Rattle.mx_words.specs.declared.order.Command.TheVariants.{Run, Asm, Sim, Gen}
+use Rattle.mx_words.specs.declared.order.Command.TheVariants.{Run, Asm, Sim, Gen, Show}
 use Rattle.mx_words.specs.declared.order.Order.{Order}
 use Rattle.mx_words.specs.declared.order.WordsFault.{WordsFault}
 use Rattle.mx_top.specs.Answers.{Answer, answered, wild, plainly}
@@ -31,6 +38,7 @@ use Rattle.mx_top.specs.Arguments.{Word, word_at, arguments}
 use Rattle.mx_top.specs.Dump.{dump_lines}
 use Rattle.mx_gen.specs.Generator.{generated, summary}
 use Rattle.mx_top.specs.Lines.{lines_put}
+use Rattle.mx_top.specs.Typed.{Typed, trie_typed, tail_typed, end_typed, typed, after_typing}
 use Rattle.mx_top.specs.Messages.{message_of}
 use Rattle.mx_top.specs.Objects.{Assembled, source_object}
 use Rattle.mx_top.specs.Pieces.{put_text}
@@ -233,6 +241,30 @@ generated-told kind o size (Ok image) m =
     (begun-told (main_address image) (start image (codes "gen" ∷ []) (stack_at_start kind o.ring)))
 generated-told kind o size (Err refusal) m = refl
 
+trie_typed-told : (place : ℕ) (trie : List ℕ) (r : Result (List Symbol) StabFault) → OutcomeTold (trie_typed place trie r).1
+trie_typed-told place trie (Ok symbols) = refl
+trie_typed-told place trie (Err fault) = refl
+
+tail_typed-told : (r : Result Tail MmoFault) → OutcomeTold (tail_typed r).1
+tail_typed-told (Ok tail) = trie_typed-told tail.place tail.trie (trie_answer tail.trie)
+tail_typed-told (Err fault) = refl
+
+end_typed-told : (r : Result Left MmoFault) → OutcomeTold (end_typed r).1
+end_typed-told (Ok left) = tail_typed-told (tail_of left.phase left.at left.rest)
+end_typed-told (Err fault) = refl
+
+either-typed : (b : Bool) (x y : Typed) → OutcomeTold x.1 → OutcomeTold y.1 → OutcomeTold (cond b x y).1
+either-typed true x y h k = h
+either-typed false x y h k = k
+
+typed-told : (object : List ℕ) → OutcomeTold (typed object).1
+unfolding typed
+typed-told object = either-typed (nat_lt limit (length object)) _ _ refl (end_typed-told (items_of Start 0 object).1)
+
+typing-told : (t : Then (Result (List ℕ) Outcome)) → ReadTold t.0 → AnswerTold (after_typing t)
+typing-told (Ok object, m) h = lines-told (typed object).1 (lines_put (typed object).0 m) (typed-told object)
+typing-told (Err outcome, m) h = h
+
 ordered-told : (kind : MachineKind) (words : List Word) (o : Order) (c : Command) (m : HostModel) → AnswerTold (ordered kind words o c m)
 ordered-told kind words o Run m = source-told kind o (arguments words o) (file_bytes 1025 (word_at words o.file) m) (file-told 1025 (word_at words o.file) m)
 ordered-told kind words o Sim m = object-told kind o (arguments words o) (file_bytes 16385 (word_at words o.file) m) (file-told 16385 (word_at words o.file) m)
@@ -240,6 +272,7 @@ ordered-told kind words o Asm m =
     plainly-told (after_reading (word_at words o.rest) (file_bytes 1025 (word_at words o.file) m))
     (reading-told (word_at words o.rest) (file_bytes 1025 (word_at words o.file) m) (file-told 1025 (word_at words o.file) m))
 ordered-told kind words o Gen m = generated-told kind o (length (generated o.number)) (source_meaning (generated o.number)) m
+ordered-told kind words o Show m = typing-told (file_bytes 16385 (word_at words o.file) m) (file-told 16385 (word_at words o.file) m)
 
 carried-told : (kind : MachineKind) (words : List Word) (r : Result Order WordsFault) (m : HostModel) → AnswerTold (carried_out kind words r m)
 carried-told kind words (Ok o) m = ordered-told kind words o o.command m

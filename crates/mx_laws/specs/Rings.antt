@@ -1,7 +1,7 @@
 -- Orders that differ in the size of the ring alone.
 use Rattle.std.specs.Prelude.{◌≡◌, List}
 use Rattle.mx_words.specs.declared.order.Command.{Command}
-use Rattle.mx_words.specs.declared.order.Command.TheVariants.{Run, Asm, Sim, Gen}
+use Rattle.mx_words.specs.declared.order.Command.TheVariants.{Run, Asm, Sim, Gen, Show}
 use Rattle.mx_words.specs.declared.order.Order.{Order}
 use Rattle.mx_top.specs.Arguments.{Word, word_at, arguments}
 
@@ -11,6 +11,7 @@ HandsArguments Run = Unit {0}
 HandsArguments Sim = Unit {0}
 HandsArguments Asm = ⊥
 HandsArguments Gen = ⊥
+HandsArguments Show = ⊥
 
 -- the same command on the same file, with the same arguments where it hands them to a program, the same bounds and wishes
 pub record DifferInRing (words others : List Word) (o p : Order) : Type 0 where

@@ -8,6 +8,7 @@ mod detour;
 mod dumps;
 mod files;
 mod images;
+mod listings;
 mod rings;
 
 pub use called::{calls_answer_what_is_due, statuses_are_low_bytes};
@@ -23,4 +24,7 @@ pub use detour::{
 pub use dumps::dumps_show_what_programs_see;
 pub use files::{files_are_read_whole, pieces_come_to_one_write};
 pub use images::sources_are_loaded_as_they_mean;
+pub use listings::{
+    objects_that_are_there_are_listed, what_is_written_for_an_object_is_its_listing,
+};
 pub use rings::{programs_end_by_themselves, runs_end_by_themselves, two_rings_agree};

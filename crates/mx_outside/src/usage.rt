@@ -7,7 +7,7 @@ use mx_words::WordsFault;
 use std::test::Fail;
 
 /// Words, the kind of the fault, the place of the word, and the message.
-static FAULTY: [(&[&str], u16, usize, &[u8]); 10] = [
+static FAULTY: [(&[&str], u16, usize, &[u8]); 11] = [
     (&[], 1, 0, b"usage fault 1 NoCommand at word 0\n"),
     (&["go"], 2, 0, b"usage fault 2 UnknownCommand at word 0\n"),
     (
@@ -53,6 +53,12 @@ static FAULTY: [(&[&str], u16, usize, &[u8]); 10] = [
         2,
         b"usage fault 5 BadNumber at word 2\n",
     ),
+    (
+        &["type", "a", "b"],
+        8,
+        2,
+        b"usage fault 8 TooMany at word 2\n",
+    ),
 ];
 
 #[test]
@@ -74,9 +80,10 @@ fn faulty_words(rt: HostRuntime) -> Result<(), Fail> {
 }
 
 /// Words that name a file that is not there.
-static MISSING: [&[&str]; 3] = [
+static MISSING: [&[&str]; 4] = [
     &["run", "none.mms"],
     &["sim", "none.mmo"],
+    &["type", "none.mmo"],
     &["asm", "none.mms", "none.mmo"],
 ];
 

@@ -4,7 +4,7 @@ use mx_words::{Command, Order, read};
 use std::alloc::{AllocError, Global};
 
 /// Words with one blank between two of them, and their fault.
-static FAULTS: [(&str, u16, usize); 43] = [
+static FAULTS: [(&str, u16, usize); 49] = [
     // no word
     ("", 1, 0),
     // the command
@@ -20,6 +20,7 @@ static FAULTS: [(&str, u16, usize); 43] = [
     ("asm a.mms", 7, 2),
     ("gen", 7, 1),
     ("gen --ring 256", 7, 3),
+    ("type", 7, 1),
     // options that the command does not have
     ("run -x a.mms", 3, 1),
     ("run - a.mms", 3, 1),
@@ -34,6 +35,9 @@ static FAULTS: [(&str, u16, usize); 43] = [
     ("gen -i 5", 3, 1),
     ("asm -i a.mms a.mmo", 3, 1),
     ("gen -5", 3, 1),
+    ("type --ring 256 a.mmo", 3, 1),
+    ("type -i a.mmo", 3, 1),
+    ("type -", 3, 1),
     // a value is missing
     ("run --steps", 4, 2),
     ("run --dump --ring", 4, 3),
@@ -56,13 +60,15 @@ static FAULTS: [(&str, u16, usize); 43] = [
     // too many words
     ("asm a b c", 8, 3),
     ("gen 5 6", 8, 2),
+    ("type a.mmo b.mmo", 8, 2),
+    ("type a.mmo -x", 8, 2),
 ];
 
 /// An order by its command, ring, steps, interactive, dump, file, rest and number.
 type Fields = (Command, u32, u64, bool, bool, usize, usize, u64);
 
 /// Words with one blank between two of them, and their order.
-static ORDERS: [(&str, Fields); 17] = [
+static ORDERS: [(&str, Fields); 18] = [
     (
         "run a.mms",
         (Command::Run, 256, 1_000_000_000, false, false, 1, 2, 0),
@@ -132,6 +138,11 @@ static ORDERS: [(&str, Fields); 17] = [
     (
         "gen --ring 4096 010",
         (Command::Gen, 4096, 1_000_000_000, false, false, 0, 0, 10),
+    ),
+    // the place behind the object has no word
+    (
+        "type a.mmo",
+        (Command::Show, 256, 1_000_000_000, false, false, 1, 2, 0),
     ),
 ];
 

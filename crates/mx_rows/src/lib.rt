@@ -1,7 +1,9 @@
 //! Whole runs of the program over a host in memory: how a row is written, for the crates of rows
-//! above; sources that are refused, and objects. Each row says what it shows.
+//! above; sources that are refused, objects, and their listings. Each row says what it shows.
 #![tactic(auto)]
 
+#[cfg(test)]
+mod listings;
 #[cfg(test)]
 mod objects;
 mod rows;

@@ -73,7 +73,7 @@ const FIRST_OBJECT: [u32; 22] = [
 ];
 
 /// The bytes of tetras, and some more behind them.
-fn bytes(alloc: Global, tetras: &[u32], more: &[u8]) -> Result<Vec<u8>, Fail> {
+pub(crate) fn bytes(alloc: Global, tetras: &[u32], more: &[u8]) -> Result<Vec<u8>, Fail> {
     let mut made = Vec::new(alloc);
     for tetra in tetras {
         made.extend_from_slice(&tetra.to_be_bytes())?;
@@ -87,7 +87,7 @@ fn sim(alloc: Global, object: &[u8], due: Due) -> Result<bool, Fail> {
     comes_from(alloc, file("a.mmo", object), &["sim", "a.mmo"], due)
 }
 
-fn bad<'a>(place: u64, fault: u16, errors: &'a [u8]) -> Due<'a> {
+pub(crate) fn bad<'a>(place: u64, fault: u16, errors: &'a [u8]) -> Due<'a> {
     Due {
         outcome: Outcome::BadObject { place, fault },
         output: b"",

@@ -19,4 +19,5 @@ pub mod StartedMachines
 pub mod Summed
 pub mod TakenLines
 pub mod Told
+pub mod TypedLines
 pub mod SourceImages

@@ -45,7 +45,7 @@ one-line line m = by (put_piece output_slot line m)
 
 -- ---- calls
 
-tells-then : (a b : Option HostModel) → tells b ≡ tells a → IsTrue (tells a) → IsTrue (tells b)
+pub tells-then : (a b : Option HostModel) → tells b ≡ tells a → IsTrue (tells a) → IsTrue (tells b)
 tells-then a b e t = subst IsTrue (sym e) t
 
 -- no line
@@ -60,7 +60,7 @@ puts-failed a k e lines = record { told = λ t. tt; memory = λ t. lines-front l
 pub puts-lacking : (Q : NoMemory → Type 0) (a : Option HostModel) (k : ℕ) (r : Result Bool NoMemory) (lines : List (List ℕ)) → IsErrAnd r Q → Puts a a k k r lines
 puts-lacking Q a k r lines h = let p = err_from_is_err_and r h in subst (λ (s : Result Bool NoMemory). Puts a a k k s lines) (sym p.1) (puts-failed a k p.0 lines)
 
-rose-on : (k m n : ℕ) → k ≤ m → Rose m n → Rose k n
+pub rose-on : (k m n : ℕ) → k ≤ m → Rose m n → Rose k n
 rose-on k m n l (inl h) = inl (omega (arith, l, h))
 rose-on k m n l (inr e) = inr e
 

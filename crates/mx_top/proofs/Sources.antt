@@ -74,7 +74,7 @@ text_generated-front o source m = generated-front o _ (source_meaning source) m
 
 -- FILES THAT ARE READ
 
-quiet-front : {A : Type 0} (m : HostModel) (t : Then A) → Quiet m t → IsFront m.output t.1.output
+pub quiet-front : {A : Type 0} (m : HostModel) (t : Then A) → Quiet m t → IsFront m.output t.1.output
 quiet-front m t h = ([], h ∙ sym (append-nil m.output))
 
 after-source-front : (o : Order) (arguments : List Word) (m : HostModel) (t : Then (Result (List ℕ) Outcome)) → Quiet m t → IsFront m.output (output_of (after_source window_machine o arguments t))

@@ -12,5 +12,6 @@ pub mod Shown
 pub mod Loading
 pub mod Objects
 pub mod Runs
+pub mod Typed
 pub mod Product
 pub mod Sources

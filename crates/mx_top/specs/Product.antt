@@ -15,7 +15,7 @@ use Rattle.mx_run.specs.WildRuns.{MachineKind}
 use Rattle.mx_word.specs.declared.symbols.Symbol.{Symbol}
 use Rattle.mx_words.specs.Orders.{order_of}
 use Rattle.mx_words.specs.declared.order.Command.{Command}
-use Rattle.mx_words.specs.declared.order.Command.TheVariants.{Run, Asm, Sim, Gen}
+use Rattle.mx_words.specs.declared.order.Command.TheVariants.{Run, Asm, Sim, Gen, Show}
 use Rattle.mx_words.specs.declared.order.Order.{Order}
 use Rattle.mx_words.specs.declared.order.WordsFault.{WordsFault}
 use Rattle.mx_top.specs.Answers.{Answer, answered, wild, plainly, and_then}
@@ -28,6 +28,7 @@ use Rattle.mx_top.specs.Pieces.{put_text}
 use Rattle.mx_top.specs.Runs.{Ran, ran, ran_wild, machine_ran, started, after_lines, image_run}
 use Rattle.mx_top.specs.Source.{file_bytes, source_pieces, object_pieces}
 use Rattle.mx_top.specs.Sources.{source_meaning}
+use Rattle.mx_top.specs.Typed.{after_typing}
 use Rattle.mx_top.specs.declared.refusal.Refusal.{Refusal}
 use Rattle.mx_top.specs.declared.outcome.Outcome.{Outcome}
 use Rattle.mx_top.specs.declared.outcome.Outcome.TheVariants.{Done, Usage, HostFault, Refused, BadObject, OutOfMemory}
@@ -128,6 +129,7 @@ ordered kind words o Run m = run_ordered kind words o m
 ordered kind words o Sim m = sim_ordered kind words o m
 ordered kind words o Asm m = plainly (after_reading (word_at words o.rest) (file_bytes source_pieces (word_at words o.file) m))
 ordered kind words o Gen m = source_generated kind o (generated o.number) m
+ordered kind words o Show m = after_typing (file_bytes object_pieces (word_at words o.file) m)
 
 -- the outcome of the words before its message
 abbrev pub carried_out : MachineKind → List Word → Result Order WordsFault → HostModel → Answer

@@ -18,6 +18,7 @@ mod refusal;
 mod run;
 mod source;
 mod top;
+mod typing;
 
 pub use names::{fault_name, usage_name};
 pub use outcome::Outcome;

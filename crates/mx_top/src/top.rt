@@ -18,6 +18,7 @@ use crate::message::message;
 use crate::objects::sim_file;
 use crate::outcome::Outcome;
 use crate::run::run_file;
+use crate::typing::list_file;
 use mx_host::{Host, HostFault};
 use mx_words::{Command, Order, read};
 use std::alloc::Global;
@@ -114,6 +115,7 @@ fn carry_order<H: Host>(alloc: Global, words: &[String], order: &Order, host: &m
             word(words, order.rest),
         ),
         Command::Gen => generate(alloc, host, order),
+        Command::Show => list_file(alloc, host, word(words, order.file)),
     }
 }
 
@@ -166,10 +168,10 @@ fn tell<H: Host>(alloc: Global, host: &mut H, outcome: Outcome) -> Outcome
 /// outcome.
 ///
 /// The words `run SRC` assemble the source in the file SRC and run it, `asm SRC OBJ` assemble it
-/// into the object file OBJ, `sim OBJ` run an object file, and `gen N` run a source of N blocks that is
-/// made. All else that a user sees comes by the host: the object file, the program's own output, the
-/// dump that is asked for, and a message line on slot 260 where the outcome is none of a program or of a
-/// tool that is done.
+/// into the object file OBJ, `sim OBJ` run an object file, `gen N` run a source of N blocks that is
+/// made, and `type OBJ` list an object file. All else that a user sees comes by the host: the object
+/// file, the program's own output, the dump that is asked for, the listing, and a message line on slot
+/// 260 where the outcome is none of a program or of a tool that is done.
 ///
 /// Over a host that tells its contents the outcome and all that the host then holds are those of
 /// `product`, over a register window; and over an unbounded list of registers, as long as a program

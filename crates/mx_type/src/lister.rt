@@ -4,13 +4,14 @@ ghost use Rattle.std.specs.Prelude.{◌≡◌, ◌++◌, ◌∷◌, [], List, �
 ghost use Rattle.mx_mmo.specs.declared.items.Item.{Item};
 ghost use Rattle.mx_stab.specs.Grammar.{IsTrie};
 ghost use Rattle.mx_type.specs.Lambda.{lambda_after};
+ghost use Rattle.mx_type.specs.Lines.{ended, stab_line, symbol_line};
 ghost use Rattle.mx_type.specs.Listing.{HasListed, IsListing};
 ghost use Rattle.mx_type.specs.Texts.{item_text, items_text, listing_text, tail_text};
 
 use crate::lines::{add_item, lambda_after};
-use crate::symbols::add_tail;
+use crate::symbols::{add_symbol, add_tail, add_trie};
 use mx_mmo::{Item, Items};
-use mx_word::{Bytes, NoMemory, Symbols};
+use mx_word::{Bytes, NoMemory, Symbol, Symbols};
 use std::alloc::Global;
 use std::marker::Model;
 
@@ -55,6 +56,25 @@ impl Lister {
         let mut text = Bytes::from_vec(Vec::with_capacity(self.alloc, USUAL_LINE)?);
         add_item(&mut text, self.lambda, item)?;
         self.lambda = lambda_after(self.lambda, item);
+        Ok(text)
+    }
+
+    /// The line of the trie with its newline, which stands behind those of all items.
+    pub fn trie_line(&self, trie: &[u8]) -> Result<Bytes, NoMemory>
+        ensures { IfOk result (λ text. text ≡ ended (stab_line trie.now)) }
+    {
+        let mut text = Bytes::new(self.alloc);
+        add_trie(&mut text, trie)?;
+        Ok(text)
+    }
+
+    /// The line of a symbol with its newline. Those of all symbols, in the order of the trie, stand
+    /// behind that of the trie.
+    pub fn symbol_line(&self, symbol: &Symbol) -> Result<Bytes, NoMemory>
+        ensures { IfOk result (λ text. text ≡ ended (symbol_line symbol.now)) }
+    {
+        let mut text = Bytes::from_vec(Vec::with_capacity(self.alloc, USUAL_LINE)?);
+        add_symbol(&mut text, symbol)?;
         Ok(text)
     }
 

@@ -18,7 +18,7 @@ pub(crate) fn add_tail(text: &mut Bytes, trie: &[u8], symbols: &[Symbol]) -> Res
 }
 
 /// Adds the line of the trie.
-fn add_trie(text: &mut Bytes, trie: &[u8]) -> Result<(), NoMemory>
+pub(crate) fn add_trie(text: &mut Bytes, trie: &[u8]) -> Result<(), NoMemory>
     ensures { OnOk result (text.new ≡ text.old ++ spec.ended (spec.stab_line trie.now)) }
 {
     if trie.is_empty() {
@@ -41,7 +41,7 @@ fn add_symbols(text: &mut Bytes, symbols: &[Symbol]) -> Result<(), NoMemory>
 }
 
 /// Adds the line of a symbol.
-fn add_symbol(text: &mut Bytes, symbol: &Symbol) -> Result<(), NoMemory>
+pub(crate) fn add_symbol(text: &mut Bytes, symbol: &Symbol) -> Result<(), NoMemory>
     ensures { OnOk result (text.new ≡ text.old ++ spec.ended (spec.symbol_line symbol.now)) }
 {
     text.extend(b"symbol ")?;

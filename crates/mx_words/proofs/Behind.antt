@@ -5,7 +5,8 @@ use Rattle.mx_words.specs.Values.{Word}
 use Rattle.mx_words.specs.Orders.{fault, asm_order, run_order, object_behind, none_behind}
 use Rattle.mx_words.specs.Files.{behind}
 use Rattle.mx_words.specs.declared.order.Command.{Command}
-use Rattle.mx_words.specs.declared.order.Command.TheVariants.{Run, Sim, Asm}
+use Rattle.mx_words.specs.declared.order.Order.{Order}
+use Rattle.mx_words.specs.declared.order.Command.TheVariants.{Run, Sim, Asm, Show}
 use Rattle.mx_words.specs.declared.settings.Settings.{Settings}
 use Rattle.mx_words.proofs.Chosen.{behind-word}
 use Rattle.mx_words.proofs.Places.{word-at, no-word}
@@ -20,9 +21,9 @@ two-words s p [] lt = absurd (omega arith)
 two-words s p (w ∷ []) lt = absurd (omega arith)
 two-words s p (w ∷ v ∷ ws) lt = refl
 
-some-word : (s : Settings) (n p : ℕ) (ws : List Word) → 1 ≤ length ws → none_behind s n p ws ≡ Err (fault 8 (p + 1))
-some-word s n p [] lt = absurd (omega arith)
-some-word s n p (w ∷ ws) lt = refl
+some-word : (o : Order) (p : ℕ) (ws : List Word) → 1 ≤ length ws → none_behind o p ws ≡ Err (fault 8 (p + 1))
+some-word o p [] lt = absurd (omega arith)
+some-word o p (w ∷ ws) lt = refl
 
 module _ {A : Type 0} (f : A → Word) where
   left : (xs : List A) (i : ℕ) → i ≤ length xs → length (drop i (map f xs)) + i ≡ length xs
@@ -34,8 +35,8 @@ module _ {A : Type 0} (f : A → Word) where
   pub object-followed : (s : Settings) (p : ℕ) (xs : List A) → p + 2 < length xs → Err (fault 8 (p + 2)) ≡ object_behind s p (drop (p + 1) (map f xs))
   object-followed s p xs lt = sym (two-words s p _ (omega (arith, lt, left xs (p + 1) (omega arith))))
 
-  pub blocks-followed : (s : Settings) (n p : ℕ) (xs : List A) → p + 1 < length xs → Err (fault 8 (p + 1)) ≡ none_behind s n p (drop (p + 1) (map f xs))
-  blocks-followed s n p xs lt = sym (some-word s n p _ (omega (arith, lt, left xs (p + 1) (omega arith))))
+  pub one-followed : (o : Order) (p : ℕ) (xs : List A) → p + 1 < length xs → Err (fault 8 (p + 1)) ≡ none_behind o p (drop (p + 1) (map f xs))
+  one-followed o p xs lt = sym (some-word o p _ (omega (arith, lt, left xs (p + 1) (omega arith))))
 
   -- the file of a command at a place
   pub behind-asm : (s : Settings) (p : ℕ) (xs : List A) → p < length xs → object_behind s p (drop (p + 1) (map f xs)) ≡ behind Asm s p (drop p (map f xs))
@@ -45,6 +46,14 @@ module _ {A : Type 0} (f : A → Word) where
       first [] is = absurd (omega (arith, lt, left xs p (omega arith), ap length is))
       first (w ∷ ws) is = ap (object_behind s p) (behind-word (map f xs) p w ws is)
 
+  pub behind-show : (s : Settings) (p : ℕ) (xs : List A) → p < length xs →
+      none_behind (run_order Show s p) p (drop (p + 1) (map f xs)) ≡ behind Show s p (drop p (map f xs))
+  behind-show s p xs lt = first (drop p (map f xs)) refl
+    where
+      first : (ws : List Word) → drop p (map f xs) ≡ ws → none_behind (run_order Show s p) p (drop (p + 1) (map f xs)) ≡ behind Show s p ws
+      first [] is = absurd (omega (arith, lt, left xs p (omega arith), ap length is))
+      first (w ∷ ws) is = ap (none_behind (run_order Show s p) p) (behind-word (map f xs) p w ws is)
+
   pub behind-run : (c : Command) (s : Settings) (p : ℕ) (xs : List A) → (c ≡ Run) ⊎ (c ≡ Sim) → p < length xs → Ok (run_order c s p) ≡ behind c s p (drop p (map f xs))
   behind-run c s p xs is lt = first (drop p (map f xs)) refl is
     where
@@ -53,4 +62,4 @@ module _ {A : Type 0} (f : A → Word) where
       first (w ∷ ws) some (inl is) = rw is refl
       first (w ∷ ws) some (inr is) = rw is refl
 
-pub ruleset behinds = (word-at, no-word, object-alone, object-followed, blocks-followed, behind-asm, behind-run)
+pub ruleset behinds = (word-at, no-word, object-alone, object-followed, one-followed, behind-asm, behind-run, behind-show)

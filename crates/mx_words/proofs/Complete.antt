@@ -2,9 +2,9 @@
 use Rattle.std.proofs.Common.{◌≡◌, ℕ, ◌+◌, true, List, [], ◌∷◌, ◌++◌, length, refl, ◌∙◌, ap, arith, Ok, codes}
 use Rattle.mx_words.specs.Values.{Word, ring_value, steps_value}
 use Rattle.mx_words.specs.Orders.{runs_file, takes_ring, defaults, with_console, with_dump, with_ring, with_steps, valued, options_from, order_of, blocks_at}
-use Rattle.mx_words.specs.Usage.{Options, Orders, none, console, dump, ring, steps, run, sim, asm, gen}
+use Rattle.mx_words.specs.Usage.{Options, Orders, none, console, dump, ring, steps, run, sim, asm, gen, list}
 use Rattle.mx_words.specs.declared.order.Command.{Command}
-use Rattle.mx_words.specs.declared.order.Command.TheVariants.{Run, Sim, Asm, Gen}
+use Rattle.mx_words.specs.declared.order.Command.TheVariants.{Run, Sim, Asm, Gen, Show}
 use Rattle.mx_words.specs.declared.order.Order.{Order}
 use Rattle.mx_words.specs.declared.settings.Settings.{Settings}
 use Rattle.mx_words.proofs.Chosen.{not-option}
@@ -16,6 +16,7 @@ console-step Run s p word words is = refl
 console-step Sim s p word words is = refl
 console-step Asm s p word words is = cc is
 console-step Gen s p word words is = cc is
+console-step Show s p word words is = cc is
 
 dump-step : (c : Command) (s : Settings) (p : ℕ) (word : Word) (words : List Word) → runs_file c ≡ true →
     options_from c s p (codes "--dump" ∷ word ∷ words) ≡ options_from c (with_dump s) (p + 1) (word ∷ words)
@@ -24,6 +25,7 @@ dump-step Run s p word words is = refl
 dump-step Sim s p word words is = refl
 dump-step Asm s p word words is = cc is
 dump-step Gen s p word words is = cc is
+dump-step Show s p word words is = cc is
 
 ring-step : (c : Command) (s : Settings) (p : ℕ) (value : Word) (words : List Word) → takes_ring c ≡ true →
     options_from c s p (codes "--ring" ∷ value ∷ words) ≡ valued (ring_value value) (p + 1) (λ n. options_from c (with_ring s n) (p + 2) words)
@@ -32,6 +34,7 @@ ring-step Run s p value words is = refl
 ring-step Sim s p value words is = refl
 ring-step Asm s p value words is = cc is
 ring-step Gen s p value words is = refl
+ring-step Show s p value words is = cc is
 
 steps-step : (c : Command) (s : Settings) (p : ℕ) (value : Word) (words : List Word) → runs_file c ≡ true →
     options_from c s p (codes "--steps" ∷ value ∷ words) ≡ valued (steps_value value) (p + 1) (λ n. options_from c (with_steps s n) (p + 2) words)
@@ -40,6 +43,7 @@ steps-step Run s p value words is = refl
 steps-step Sim s p value words is = refl
 steps-step Asm s p value words is = cc is
 steps-step Gen s p value words is = cc is
+steps-step Show s p value words is = cc is
 
 -- options in front of a file
 played : (c : Command) (s : Settings) (p : ℕ) (words : List Word) (file : Word) (behind : List Word) → runs_file c ≡ true →
@@ -87,3 +91,4 @@ order-read _ _ (gen s options number n set file is) =
     options-read Gen defaults s options set 1 number []
     ∙ not-option Gen s (1 + length options) number [] file
     ∙ ap (λ v. blocks_at s (1 + length options) v []) is
+order-read _ _ (list object file) = not-option Show defaults 1 object [] file

@@ -5,7 +5,7 @@ use Rattle.std.proofs.lemmas.Bool.Decides.{nat_tests}
 use Rattle.mx_words.specs.Values.{Word, is_option, number_of, up_to, ring_value, steps_value, blocks_value}
 use Rattle.mx_words.specs.Orders.{Ordered, command_of, is_console, is_dump, is_ring, is_steps, defaults, with_console, with_dump, with_ring, with_steps, blocks_at, file_at, valued, options_from, commanded, order_of}
 use Rattle.mx_words.specs.declared.order.Command.{Command}
-use Rattle.mx_words.specs.declared.order.Command.TheVariants.{Run, Asm, Sim, Gen}
+use Rattle.mx_words.specs.declared.order.Command.TheVariants.{Run, Asm, Sim, Gen, Show}
 use Rattle.mx_words.specs.declared.order.Order.{Order}
 use Rattle.mx_words.specs.declared.settings.Settings.{Settings}
 
@@ -45,6 +45,8 @@ file-few Asm s place word [] = tt
 file-few Asm s place word (object ∷ []) = omega arith
 file-few Asm s place word (object ∷ other ∷ others) = tt
 file-few Gen s place word words = blocks-few s place (blocks_value word) words (value-few 10000 (number_of word))
+file-few Show s place word [] = omega arith
+file-few Show s place word (other ∷ others) = tt
 
 valued-few : (r : Result ℕ ℕ) (place : ℕ) (go : ℕ → Ordered) → ((n : ℕ) → IfFew (go n)) → IfFew (valued r place go)
 valued-few (Err kind) place go h = tt

@@ -3,10 +3,10 @@ use Rattle.std.proofs.Common.{◌≡◌, ℕ, ◌+◌, Bool, true, false, cond, 
 use Rattle.std.proofs.lemmas.Slice.Eq.{bytes_eq-Decides}
 use Rattle.std.proofs.lemmas.Bool.{and_parts}
 use Rattle.mx_words.specs.Values.{Word, is_option, ring_value, steps_value, blocks_value}
-use Rattle.mx_words.specs.Orders.{Ordered, fault, runs_file, takes_ring, is_console, is_dump, is_ring, is_steps, defaults, with_console, with_dump, with_ring, with_steps, valued, options_from, file_at, commanded, order_of, run_order, object_behind, blocks_at}
-use Rattle.mx_words.specs.Usage.{Options, Orders, none, console, dump, ring, steps, run, sim, asm, gen}
+use Rattle.mx_words.specs.Orders.{Ordered, fault, runs_file, takes_ring, is_console, is_dump, is_ring, is_steps, defaults, with_console, with_dump, with_ring, with_steps, valued, options_from, file_at, commanded, order_of, run_order, object_behind, none_behind, blocks_at}
+use Rattle.mx_words.specs.Usage.{Options, Orders, none, console, dump, ring, steps, run, sim, asm, gen, list}
 use Rattle.mx_words.specs.declared.order.Command.{Command}
-use Rattle.mx_words.specs.declared.order.Command.TheVariants.{Run, Sim, Asm, Gen}
+use Rattle.mx_words.specs.declared.order.Command.TheVariants.{Run, Sim, Asm, Gen, Show}
 use Rattle.mx_words.specs.declared.order.Order.{Order}
 use Rattle.mx_words.specs.declared.order.WordsFault.{WordsFault}
 use Rattle.mx_words.specs.declared.settings.Settings.{Settings}
@@ -154,13 +154,13 @@ parted c s p (word ∷ value ∷ words) o is =
     (λ n. parted c (with_steps s n) (p + 2) words o)
     is
 
--- `asm` has no options
-asm-bare : (s t : Settings) (options : List Word) → Options Asm s options t → (options ≡ []) × (s ≡ t)
-asm-bare _ _ _ (none c s) = (refl, refl)
-asm-bare _ _ _ (console c s t words takes rest) = cc takes
-asm-bare _ _ _ (dump c s t words takes rest) = cc takes
-asm-bare _ _ _ (ring c s t value n words takes is rest) = cc takes
-asm-bare _ _ _ (steps c s t value n words takes is rest) = cc takes
+-- `asm` and `type` have no options
+bare : (c : Command) (s t : Settings) (options : List Word) → runs_file c ≡ false → takes_ring c ≡ false → Options c s options t → (options ≡ []) × (s ≡ t)
+bare _ _ _ _ file on (none c s) = (refl, refl)
+bare _ _ _ _ file on (console c s t words takes rest) = absurd (cc (file, takes))
+bare _ _ _ _ file on (dump c s t words takes rest) = absurd (cc (file, takes))
+bare _ _ _ _ file on (ring c s t value n words takes is rest) = absurd (cc (on, takes))
+bare _ _ _ _ file on (steps c s t value n words takes is rest) = absurd (cc (file, takes))
 
 run-order : (words : List Word) (o : Order) → Parted Run defaults 1 words o → Orders (codes "run" ∷ words) o
 run-order words o parts =
@@ -180,10 +180,23 @@ asm-from s file (object ∷ other ∷ others) o dash is ordered = refused _ o or
 
 asm-order : (words : List Word) (o : Order) → Parted Asm defaults 1 words o → Orders (codes "asm" ∷ words) o
 asm-order words o parts =
-    let bare : (parts.options ≡ []) × (defaults ≡ parts.after) = asm-bare defaults parts.after parts.options parts.set in
-    let whole : words ≡ parts.file ∷ parts.behind = parts.whole ∙ ap (λ l. l ++ parts.file ∷ parts.behind) bare.0 in
-    let ordered : object_behind parts.after 1 parts.behind ≡ Ok o = ap (λ l. object_behind parts.after (1 + length l) parts.behind) (sym bare.0) ∙ parts.ordered in
-    rw whole (asm-from parts.after parts.file parts.behind o parts.no_dash bare.1 ordered)
+    let none_set : (parts.options ≡ []) × (defaults ≡ parts.after) = bare Asm defaults parts.after parts.options refl refl parts.set in
+    let whole : words ≡ parts.file ∷ parts.behind = parts.whole ∙ ap (λ l. l ++ parts.file ∷ parts.behind) none_set.0 in
+    let ordered : object_behind parts.after 1 parts.behind ≡ Ok o = ap (λ l. object_behind parts.after (1 + length l) parts.behind) (sym none_set.0) ∙ parts.ordered in
+    rw whole (asm-from parts.after parts.file parts.behind o parts.no_dash none_set.1 ordered)
+
+list-from : (s : Settings) (file : Word) (behind : List Word) (o : Order) → is_option file ≡ false → defaults ≡ s → none_behind (run_order Show s 1) 1 behind ≡ Ok o →
+    Orders (codes "type" ∷ file ∷ behind) o
+list-from s file [] o dash is ordered = rw (← ok _ _ ordered, ← is) (list file dash)
+list-from s file (other ∷ others) o dash is ordered = refused _ o ordered
+
+list-order : (words : List Word) (o : Order) → Parted Show defaults 1 words o → Orders (codes "type" ∷ words) o
+list-order words o parts =
+    let none_set : (parts.options ≡ []) × (defaults ≡ parts.after) = bare Show defaults parts.after parts.options refl refl parts.set in
+    let whole : words ≡ parts.file ∷ parts.behind = parts.whole ∙ ap (λ l. l ++ parts.file ∷ parts.behind) none_set.0 in
+    let ordered : none_behind (run_order Show parts.after 1) 1 parts.behind ≡ Ok o =
+        ap (λ l. none_behind (run_order Show parts.after (1 + length l)) (1 + length l) parts.behind) (sym none_set.0) ∙ parts.ordered in
+    rw whole (list-from parts.after parts.file parts.behind o parts.no_dash none_set.1 ordered)
 
 gen-order : (words : List Word) (o : Order) → Parted Gen defaults 1 words o → Orders (codes "gen" ∷ words) o
 gen-order words o parts = from parts.behind (blocks_value parts.file) refl parts.whole parts.ordered
@@ -195,16 +208,17 @@ gen-order words o parts = from parts.behind (blocks_value parts.file) refl parts
     from (other ∷ others) (Ok n) is whole ordered = refused _ o ordered
 
 -- the command
-by-command : (word : Word) (words : List Word) (o : Order) (r a s g : Bool) →
-    bytes_eq word (codes "run") ≡ r → bytes_eq word (codes "asm") ≡ a → bytes_eq word (codes "sim") ≡ s → bytes_eq word (codes "gen") ≡ g →
-    commanded (cond r (Some Run) (cond a (Some Asm) (cond s (Some Sim) (cond g (Some Gen) None)))) words ≡ Ok o → Orders (word ∷ words) o
-by-command word words o true a s g hr ha hs hg is = rw ((bytes_eq-Decides word (codes "run")).0 hr) (run-order words o (parted Run defaults 1 words o is))
-by-command word words o false true s g hr ha hs hg is = rw ((bytes_eq-Decides word (codes "asm")).0 ha) (asm-order words o (parted Asm defaults 1 words o is))
-by-command word words o false false true g hr ha hs hg is = rw ((bytes_eq-Decides word (codes "sim")).0 hs) (sim-order words o (parted Sim defaults 1 words o is))
-by-command word words o false false false true hr ha hs hg is = rw ((bytes_eq-Decides word (codes "gen")).0 hg) (gen-order words o (parted Gen defaults 1 words o is))
-by-command word words o false false false false hr ha hs hg is = refused _ o is
+by-command : (word : Word) (words : List Word) (o : Order) (r a s g t : Bool) →
+    bytes_eq word (codes "run") ≡ r → bytes_eq word (codes "asm") ≡ a → bytes_eq word (codes "sim") ≡ s → bytes_eq word (codes "gen") ≡ g → bytes_eq word (codes "type") ≡ t →
+    commanded (cond r (Some Run) (cond a (Some Asm) (cond s (Some Sim) (cond g (Some Gen) (cond t (Some Show) None))))) words ≡ Ok o → Orders (word ∷ words) o
+by-command word words o true a s g t hr ha hs hg ht is = rw ((bytes_eq-Decides word (codes "run")).0 hr) (run-order words o (parted Run defaults 1 words o is))
+by-command word words o false true s g t hr ha hs hg ht is = rw ((bytes_eq-Decides word (codes "asm")).0 ha) (asm-order words o (parted Asm defaults 1 words o is))
+by-command word words o false false true g t hr ha hs hg ht is = rw ((bytes_eq-Decides word (codes "sim")).0 hs) (sim-order words o (parted Sim defaults 1 words o is))
+by-command word words o false false false true t hr ha hs hg ht is = rw ((bytes_eq-Decides word (codes "gen")).0 hg) (gen-order words o (parted Gen defaults 1 words o is))
+by-command word words o false false false false true hr ha hs hg ht is = rw ((bytes_eq-Decides word (codes "type")).0 ht) (list-order words o (parted Show defaults 1 words o is))
+by-command word words o false false false false false hr ha hs hg ht is = refused _ o is
 
 pub order-spelled : (words : List Word) (o : Order) → order_of words ≡ Ok o → Orders words o
 order-spelled [] o is = refused _ o is
 order-spelled (word ∷ words) o is =
-    by-command word words o (bytes_eq word (codes "run")) (bytes_eq word (codes "asm")) (bytes_eq word (codes "sim")) (bytes_eq word (codes "gen")) refl refl refl refl is
+    by-command word words o (bytes_eq word (codes "run")) (bytes_eq word (codes "asm")) (bytes_eq word (codes "sim")) (bytes_eq word (codes "gen")) (bytes_eq word (codes "type")) refl refl refl refl refl is

@@ -5,7 +5,7 @@ use Rattle.std.specs.Prelude.{ℕ, ◌+◌, ◌^◌, Bool, true, false, ◌&&◌
 use Rattle.std.specs.Str.{bytes_eq}
 use Rattle.mx_words.specs.Values.{Word, is_option, ring_value, steps_value, blocks_value}
 use Rattle.mx_words.specs.declared.order.Command.{Command}
-use Rattle.mx_words.specs.declared.order.Command.TheVariants.{Run, Asm, Sim, Gen}
+use Rattle.mx_words.specs.declared.order.Command.TheVariants.{Run, Asm, Sim, Gen, Show}
 use Rattle.mx_words.specs.declared.order.Order.{Order}
 use Rattle.mx_words.specs.declared.order.WordsFault.{WordsFault}
 use Rattle.mx_words.specs.declared.settings.Settings.{Settings}
@@ -23,6 +23,7 @@ command_of word =
     else if bytes_eq word (codes "asm") then Some Asm
     else if bytes_eq word (codes "sim") then Some Sim
     else if bytes_eq word (codes "gen") then Some Gen
+    else if bytes_eq word (codes "type") then Some Show
     else None
 
 -- whether a command runs a file that the words name
@@ -31,6 +32,7 @@ runs_file Run = true
 runs_file Sim = true
 runs_file Asm = false
 runs_file Gen = false
+runs_file Show = false
 
 -- whether a command runs a program on a ring
 abbrev pub takes_ring : Command → Bool
@@ -38,6 +40,7 @@ takes_ring Run = true
 takes_ring Sim = true
 takes_ring Asm = false
 takes_ring Gen = true
+takes_ring Show = false
 
 -- whether a word is this option of the command
 abbrev pub is_console : Command → Word → Bool
@@ -68,7 +71,7 @@ with_steps s n = record s { steps = n }
 abbrev pub with_ring : Settings → ℕ → Settings
 with_ring s n = record s { ring = n }
 
--- an order to run the file at a place, with the arguments behind it
+-- an order to run or to list the file at a place, with the arguments behind it
 abbrev pub run_order : Command → Settings → ℕ → Order
 run_order c s place =
     record { command = c; ring = s.ring; steps = s.steps; interactive = s.interactive; dump = s.dump; file = place; rest = place + 1; number = 0 }
@@ -89,15 +92,15 @@ object_behind s place [] = Err (fault 7 (place + 1))
 object_behind s place (object ∷ []) = Ok (asm_order s place)
 object_behind s place (object ∷ other ∷ others) = Err (fault 8 (place + 2))
 
--- the words behind the N of `gen`: none
-abbrev pub none_behind : Settings → ℕ → ℕ → List Word → Ordered
-none_behind s n place [] = Ok (gen_order s n)
-none_behind s n place (other ∷ others) = Err (fault 8 (place + 1))
+-- the words behind the last one of an order, which is at a place: none
+abbrev pub none_behind : Order → ℕ → List Word → Ordered
+none_behind o place [] = Ok o
+none_behind o place (other ∷ others) = Err (fault 8 (place + 1))
 
 -- the N of `gen` at a place, with the words behind it
 abbrev pub blocks_at : Settings → ℕ → Result ℕ ℕ → List Word → Ordered
 blocks_at s place (Err kind) words = Err (fault kind place)
-blocks_at s place (Ok n) words = none_behind s n place words
+blocks_at s place (Ok n) words = none_behind (gen_order s n) place words
 
 -- a word at a place that is no option, with the words behind it: a file, or the N of `gen`
 abbrev pub file_at : Command → Settings → ℕ → Word → List Word → Ordered
@@ -105,6 +108,7 @@ file_at Run s place word words = Ok (run_order Run s place)
 file_at Sim s place word words = Ok (run_order Sim s place)
 file_at Asm s place word words = object_behind s place words
 file_at Gen s place word words = blocks_at s place (blocks_value word) words
+file_at Show s place word words = none_behind (run_order Show s place) place words
 
 -- a value at a place, and what follows it
 abbrev pub valued : Result ℕ ℕ → ℕ → (ℕ → Ordered) → Ordered

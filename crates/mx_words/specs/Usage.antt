@@ -3,12 +3,13 @@
 --   sim [--ring R] [--steps N] [-i] [--dump] OBJ [ARG ..]
 --   asm SRC OBJ
 --   gen [--ring R] N
+--   type OBJ
 -- A rule of this program.
 use Rattle.std.specs.Prelude.{◌≡◌, ℕ, ◌+◌, true, false, List, [], ◌∷◌, ◌++◌, length, Ok, codes}
 use Rattle.mx_words.specs.Values.{Word, is_option, ring_value, steps_value, blocks_value}
 use Rattle.mx_words.specs.Orders.{runs_file, takes_ring, defaults, with_console, with_dump, with_ring, with_steps, run_order, asm_order, gen_order}
 use Rattle.mx_words.specs.declared.order.Command.{Command}
-use Rattle.mx_words.specs.declared.order.Command.TheVariants.{Run, Sim, Gen}
+use Rattle.mx_words.specs.declared.order.Command.TheVariants.{Run, Sim, Gen, Show}
 use Rattle.mx_words.specs.declared.order.Order.{Order}
 use Rattle.mx_words.specs.declared.settings.Settings.{Settings}
 
@@ -25,6 +26,7 @@ pub data Options : Command → Settings → List Word → Settings → Type 0 wh
       Options c (with_steps s n) words t → Options c s (codes "--steps" ∷ value ∷ words) t
 
 -- The words of an order. A file, and the N of `gen`, begin with no dash; arguments and the object of `asm` may.
+-- `type` takes no options.
 pub data Orders : List Word → Order → Type 0 where
   run : (s : Settings) (options : List Word) (source : Word) (arguments : List Word) → Options Run defaults options s → is_option source ≡ false →
       Orders (codes "run" ∷ (options ++ source ∷ arguments)) (run_order Run s (1 + length options))
@@ -33,3 +35,4 @@ pub data Orders : List Word → Order → Type 0 where
   asm : (source object : Word) → is_option source ≡ false → Orders (codes "asm" ∷ source ∷ object ∷ []) (asm_order defaults 1)
   gen : (s : Settings) (options : List Word) (number : Word) (n : ℕ) → Options Gen defaults options s → is_option number ≡ false → blocks_value number ≡ Ok n →
       Orders (codes "gen" ∷ (options ++ number ∷ [])) (gen_order s n)
+  list : (object : Word) → is_option object ≡ false → Orders (codes "type" ∷ object ∷ []) (run_order Show defaults 1)

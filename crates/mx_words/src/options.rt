@@ -19,7 +19,7 @@ fn runs_file(command: Command) -> bool
 fn takes_ring(command: Command) -> bool
     ensures { result ≡ orders.takes_ring command }
 {
-    !matches!(command, Command::Asm)
+    matches!(command, Command::Run | Command::Sim | Command::Gen)
 }
 
 /// Whether a word is `-i`, where the command takes it.

@@ -13,6 +13,8 @@ pub enum Command {
     Sim,
     /// `gen`: generate a source, assemble it and run it.
     Gen,
+    /// `type`: list an object.
+    Show,
 }
 
 /// What the words order. A field that the command does not use has its default, 0 or false.
@@ -30,7 +32,8 @@ pub struct Order {
     pub dump: bool,
     /// The place of the source or object among the words.
     pub file: usize,
-    /// The place behind the file: that of the first argument, or of the object that `asm` writes.
+    /// The place behind the file: that of the first argument, or of the object that `asm` writes. No
+    /// word stands there for `type`.
     pub rest: usize,
     /// How many blocks `gen` makes: 1 to 10,000.
     pub number: u64,

@@ -13,9 +13,9 @@ use mx_ring::RingSize;
 /// What the words order, without the name of the program, or the first fault from the left. It takes
 /// no memory.
 ///
-/// The words are `run` or `sim`, options, a file and its arguments; `asm`, a source and an object; or
-/// `gen`, options and a number. Options are `--ring R`, and for `run` and `sim` `--steps N`, `-i`
-/// and `--dump`; they may repeat, and the last one counts.
+/// The words are `run` or `sim`, options, a file and its arguments; `asm`, a source and an object;
+/// `gen`, options and a number; or `type` and an object. Options are `--ring R`, and for `run` and
+/// `sim` `--steps N`, `-i` and `--dump`; they may repeat, and the last one counts.
 #[tactic(auto, using(crate::proofs::Places::places))]
 pub fn read(words: &[String]) -> Result<Order, WordsFault>
     ensures value { result ≡ spec.order_of (map string_bytes words.now) }
@@ -47,6 +47,9 @@ fn command_of(word: &String) -> Option<Command>
     }
     if word.as_str() == "gen" {
         return Some(Command::Gen);
+    }
+    if word.as_str() == "type" {
+        return Some(Command::Show);
     }
     None
 }
@@ -106,10 +109,11 @@ fn file(
         Command::Run | Command::Sim => Ok(run_order(command, settings, at)),
         Command::Asm => asm_order(settings, words, at),
         Command::Gen => gen_order(settings, words, at),
+        Command::Show => show_order(settings, words, at),
     }
 }
 
-/// An order to run the file at a place, with the arguments behind it.
+/// An order to run or to list the file at a place, with the arguments behind it.
 fn run_order(command: Command, settings: Settings, at: usize) -> Order
     requires { at + 1 < 2 ^ 63 }
     ensures { result ≡ spec.run_order command settings at }
@@ -124,6 +128,25 @@ fn run_order(command: Command, settings: Settings, at: usize) -> Order
         rest: at + 1,
         number: 0,
     }
+}
+
+/// An order to list the object at a place: no word stands behind it.
+#[tactic(auto, using(crate::proofs::Behind::behinds))]
+fn show_order(settings: Settings, words: &[String], at: usize) -> Result<Order, WordsFault>
+    requires { at < length words.now }
+    ensures value { result ≡ spec.none_behind (spec.run_order Command.Show settings at) at
+        (drop (at + 1) (map string_bytes words.now)) }
+    ensures places { IfOk result (λ o. (o.file < length words.now) × (o.rest ≤ length words.now)) }
+    ensures object { IfOk result (λ o. o.command ≡ Command.Asm → o.rest < length words.now) }
+    ensures blocks { IfOk result (λ o. o.number ≤ 10000) }
+{
+    if words.len() > at + 1 {
+        return Err(WordsFault {
+            kind: 8,
+            word: at + 1,
+        });
+    }
+    Ok(run_order(Command::Show, settings, at))
 }
 
 /// An order to assemble the source at a place: one word stands behind it.
