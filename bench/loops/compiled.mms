@@ -1,6 +1,6 @@
-% What a C compiler makes of a program without optimization: each variable stands in a frame in memory, texts are read and
-% written byte by byte, functions are called by address, and what is far is jumped to. Each turn makes a text upper case and
-% lower case again, reverses it and takes its length.
+* compiled.mms: 25 million steps as a C compiler makes them without optimization: each variable stands in a frame in
+* memory, texts are read and written byte by byte, functions are called by their addresses, some of them far away. Each
+* turn makes a text upper case and lower case in turn, reverses it and takes its length.
 sp      GREG  0
         LOC   Data_Segment
 text    GREG  @
