@@ -2,6 +2,7 @@
 # Times the program: asm and run on sources of several sizes, sim on objects of several sizes and on the programs in
 # loops/. Each time is in seconds, the least of three.
 # Usage: bench/measure.sh [PROGRAM [OTHER]]
+# Where valgrind is there, the machine instructions that a step takes are counted too, which other work does not change.
 # OTHER is another simulator that takes an object file; it is timed in turns with PROGRAM on the loops, and the ratio told.
 here=$(cd "$(dirname "$0")/.." && pwd) || exit 1
 program=$(realpath "${1:-$here/.built/mmixware}") || exit 1
@@ -48,6 +49,18 @@ least() {
   done | sort -n | head -n 1
 }
 
+# the machine instructions of a run
+instructions() {
+  valgrind --tool=callgrind --callgrind-out-file=/dev/null "$@" 2>&1 >/dev/null </dev/null | sed -n 's/.*Collected : //p'
+}
+
+# those of a step of an object that makes more than two million of them; the start is taken off by a run of one step
+per_step() {
+  many=$(instructions "$program" sim --steps 2000000 "$1")
+  one=$(instructions "$program" sim --steps 1 "$1")
+  awk -v many="$many" -v one="$one" 'BEGIN { printf "%.1f", (many - one) / 1999999 }'
+}
+
 timed() {
   printf '%-28s %8s s\n' "$*" "$(least "$program" "$@")"
 }
@@ -72,4 +85,5 @@ for loop in "$here"/bench/loops/*.mms; do
   else
     printf '%-28s %8s s\n' "$name" "$mine"
   fi
+  ! command -v valgrind >/dev/null || echo "  $(per_step "$name.mmo") machine instructions a step"
 done
