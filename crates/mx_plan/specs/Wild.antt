@@ -1,17 +1,19 @@
--- A world whose calls may go wild: then nothing is said any more.
-use Rattle.std.specs.Prelude.{◌≡◌, Option, None, Some}
-use Rattle.mx_plan.specs.Plan.{Plan, returns, calls}
+-- A world whose calls may go wild: there a plan is not carried on, and nothing is said any more.
+use Rattle.std.specs.Prelude.{◌≡◌, Bool, if◌then◌else◌}
+use Rattle.mx_plan.specs.Plan.{Plan, returns, calls, Acts}
 
-abbrev pub tried : {A B V : Type 0} → (A → V → Option (B × V)) → Option (A × V) → Option (B × V)
-tried f None = None
-tried f (Some (a, v)) = f a v
+-- what a plan comes to: it ends with an answer, or it meets a call that would go wild, which is not made; and the world then
+pub data Course (A W : Type 0) : Type 0 where
+  ends : A → W → Course A W
+  meets_wild : W → Course A W
 
--- the end of a plan where no call goes wild
-unfoldable pub tries : {O : Type 0} {R : O → Type 0} {V A : Type 0} → ((o : O) → V → Option (R o × V)) → Plan O R A → V → Option (A × V)
-tries e (returns a) v = Some (a, v)
-tries e (calls o k) v = tried (λ r u. tries e (k r) u) (e o v)
+unfoldable pub course : {O : Type 0} {R : O → Type 0} {W A : Type 0} → Acts O R W → (O → W → Bool) → Plan O R A → W → Course A W
+course d is_wild (returns a) w = ends a w
+course d is_wild (calls o k) w =
+    if is_wild o w then meets_wild w else course d is_wild (k (d.act o w).0) (d.act o w).1
 
--- what is not wild is the same answer, and worlds that stand so to each other
-abbrev pub Agrees : {V W A : Type 0} → (W → V → Type 0) → Option (A × V) → A × W → Type 0
-Agrees Stand None t = Unit {0}
-Agrees Stand (Some (a, v)) (b, w) = (a ≡ b) × Stand w v
+-- What a plan comes to where calls may go wild, beside its end in another world: the same answer, and worlds that stand to each
+-- other as `Stand` says; or, where it met something wild, worlds of which the one was passed before the other.
+abbrev pub GoesBeside : {V W A : Type 0} → (V → W → Type 0) → (V → W → Type 0) → Course A V → A × W → Type 0
+GoesBeside Stand Passed (ends a v) t = (a ≡ t.0) × Stand v t.1
+GoesBeside Stand Passed (meets_wild v) t = Passed v t.1
