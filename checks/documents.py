@@ -86,7 +86,7 @@ def check_links_and_paths():
                 if re.match(r"(crates|docs|examples|checks|bench|\.ci)/", name) and not is_there(name):
                     wrong(where, f"there is no {name}")
             for name, path in re.findall(r"`(\w+)` in `(crates/\S+\.antt)`", line):
-                if not defines(*re.match(r"crates/(\w+)/specs/(\w+)", path).groups(), name):
+                if not declares(path, name):
                     wrong(where, f"{path} does not define {name}")
 
 
@@ -116,7 +116,10 @@ def check_architecture():
 
 
 def defines(crate, module, name):
-    path = f"crates/{crate}/specs/{module}.antt"
+    return declares(f"crates/{crate}/specs/{module}.antt", name)
+
+
+def declares(path, name):
     return os.path.isfile(path) and re.search(rf"^ *(\w+ )?pub (data |record )?{name}\b", text_of(path), re.M)
 
 
