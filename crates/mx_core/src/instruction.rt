@@ -33,6 +33,20 @@ impl Instruction {
         }
     }
 
+    /// The same instruction, once its code is known: where that is a literal, what is done at it is settled when the
+    /// program is compiled.
+    #[inline(always)]
+    pub(crate) fn with_code(&self, code: u8) -> Instruction
+        requires { code ≡ spec.code_of self.now }
+        ensures { result ≡ self.now }
+    {
+        Instruction {
+            at: self.at,
+            word: (u32::from(code) << 24) + (self.word & 0xff_ffff),
+            given: self.given,
+        }
+    }
+
     /// The code OP.
     #[inline(always)]
     pub(crate) fn code(&self) -> u8

@@ -37,6 +37,7 @@ mod swap;
 mod trace;
 mod traps;
 mod trips;
+mod usual;
 
 pub use bounds::machines_keep_the_invariant;
 pub use changes::SetFault;

@@ -140,7 +140,7 @@ impl Machine {
         ensures there { result.last ≡ Advance.OutOfMemory → IsTrue (step_needs_page (state_of self.new)) }
     {
         for made in 0..n {
-            match self.advance() {
+            match self.advance_quickly() {
                 Advance::Went => {}
                 last => return Advanced { made, last },
             }
@@ -149,6 +149,20 @@ impl Machine {
             made: n,
             last: Advance::Went,
         }
+    }
+
+    /// One step without its trace, first as a usual one.
+    #[inline(always)]
+    fn advance_quickly(&mut self) -> Advance
+        ensures answer { result ≢ Advance.OutOfMemory →
+            (result, state_of self.new) ≡ advanced (state_of self.old) (spec.step (state_of self.old)) }
+        ensures memory { result ≡ Advance.OutOfMemory → state_of self.new ≡ state_of self.old }
+        ensures there { result ≡ Advance.OutOfMemory → IsTrue (step_needs_page (state_of self.old)) }
+    {
+        if self.advance_if_usual() {
+            return Advance::Went;
+        }
+        self.advance_anyhow()
     }
 
     /// One step without its trace, for each address and each instruction.
@@ -255,7 +269,7 @@ impl Machine {
     /// Carries a PUT out. That of rJ stands in each subroutine that calls others.
     #[tactic(auto, using(crate::proofs::Unchanged::unchanged, crate::proofs::PutValues::put_link))]
     #[inline(always)]
-    fn carry_out_put(&mut self, i: &Instruction) -> Result<(), Stop>
+    pub(crate) fn carry_out_put(&mut self, i: &Instruction) -> Result<(), Stop>
         requires plain { i.now ≡ instruction i.now.at i.now.word }
         requires put { operation_in i.now ≡ Operation.Put }
         ensures answer { MakesWithMemory (λ s. outcome s (deed_at s i.now)) result self.old self.new }
