@@ -33,18 +33,14 @@ impl Instruction {
         }
     }
 
-    /// The same instruction, once its code is known: where that is a literal, what is done at it is settled when the
-    /// program is compiled.
+    /// An instruction of a program, once its code is known: where that is a literal, what is done at it is settled
+    /// when the program is compiled.
     #[inline(always)]
-    pub(crate) fn with_code(&self, code: u8) -> Instruction
-        requires { code ≡ spec.code_of self.now }
-        ensures { result ≡ self.now }
+    pub(crate) fn coded(at: u64, code: u8, word: u32) -> Instruction
+        requires { code ≡ spec.code_of (spec.instruction at word) }
+        ensures { result ≡ spec.instruction at word }
     {
-        Instruction {
-            at: self.at,
-            word: (u32::from(code) << 24) + (self.word & 0xff_ffff),
-            given: self.given,
-        }
+        Instruction::new(at, (u32::from(code) << 24) + (word & 0xff_ffff))
     }
 
     /// The code OP.
