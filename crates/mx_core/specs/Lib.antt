@@ -25,3 +25,4 @@ pub mod Machines
 pub mod Wild
 pub mod MemoryAtStart
 pub mod Walks
+pub mod UsualDeeds

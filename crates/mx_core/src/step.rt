@@ -139,8 +139,9 @@ impl Machine {
             (result.last, state_of self.new) ≡ advanced (state_of self.new) (spec.step (state_of self.new)) }
         ensures there { result.last ≡ Advance.OutOfMemory → IsTrue (step_needs_page (state_of self.new)) }
     {
+        let mut place = self.memory.code_place();
         for made in 0..n {
-            match self.advance_quickly() {
+            match self.advance_quickly(&mut place) {
                 Advance::Went => {}
                 last => return Advanced { made, last },
             }
@@ -151,18 +152,21 @@ impl Machine {
         }
     }
 
-    /// One step without its trace, first as a usual one.
+    /// One step without its trace, first as a usual one. A place in memory where the page of the instruction may be
+    /// is kept.
     #[inline(always)]
-    fn advance_quickly(&mut self) -> Advance
+    fn advance_quickly(&mut self, place: &mut usize) -> Advance
         ensures answer { result ≢ Advance.OutOfMemory →
             (result, state_of self.new) ≡ advanced (state_of self.old) (spec.step (state_of self.old)) }
         ensures memory { result ≡ Advance.OutOfMemory → state_of self.new ≡ state_of self.old }
         ensures there { result ≡ Advance.OutOfMemory → IsTrue (step_needs_page (state_of self.old)) }
     {
-        if self.advance_if_usual() {
+        if self.advance_if_usual(*place) {
             return Advance::Went;
         }
-        self.advance_anyhow()
+        let answer = self.advance_anyhow();
+        *place = self.memory.code_place();
+        answer
     }
 
     /// One step without its trace, for each address and each instruction.

@@ -91,13 +91,19 @@ impl Memory {
         }
     }
 
-    /// The tetra that `tetra` gives, where its page is the one that is remembered for instructions; else nothing.
+    /// The place among the pages where `tetra` found the page of the last instruction, or any other number.
     #[inline(always)]
-    pub fn near_tetra(&self, a: u64) -> Option<u32>
+    pub fn code_place(&self) -> usize {
+        self.code.get()
+    }
+
+    /// The tetra that `tetra` gives, where its page stands at a place among the pages; else nothing.
+    #[inline(always)]
+    pub fn near_tetra(&self, place: usize, a: u64) -> Option<u32>
         requires { a < 2 ^ 63 }
         ensures { IfSome result (λ t. t ≡ tetra_at self.now a) }
     {
-        match near_place(&self.pages, &self.places, self.code.get(), a / PAGE) {
+        match near_place(&self.pages, &self.places, place, a / PAGE) {
             Some(place) => Some(self.pages[place].tetra(a)),
             None => None,
         }
