@@ -4,6 +4,7 @@
 //! 1.3.1'.
 #![tactic(auto)]
 
+mod apart;
 mod bounds;
 mod changes;
 mod codes;
@@ -38,6 +39,7 @@ mod trace;
 mod traps;
 mod trips;
 mod usual;
+mod values;
 
 pub use bounds::machines_keep_the_invariant;
 pub use changes::SetFault;
