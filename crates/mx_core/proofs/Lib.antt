@@ -4,6 +4,7 @@ pub mod Outcomes
 pub mod Events
 pub mod Loads
 pub mod Answered
+pub mod Pages
 pub mod Stores
 pub mod Plain
 pub mod Others
@@ -48,3 +49,5 @@ pub mod OctaSteps
 pub mod Started
 pub mod SavedFrames
 pub mod MemoryAtStart
+pub mod UsualSteps
+mod Walks

@@ -1,5 +1,5 @@
 -- What stores come to, with their events.
-use Rattle.std.proofs.Common.{◌≡◌, ◌<◌, ◌≤◌, ℕ, ◌^◌, ◌==◌, ◌||◌, Bool, true, false, if◌then◌else◌, Option, None, Some, Result, Ok, Err, refl, sym, ap, ◌∙◌, arith}
+use Rattle.std.proofs.Common.{◌≡◌, ◌<◌, ◌≤◌, ℕ, ◌^◌, ◌==◌, ◌||◌, ◌&&◌, Bool, true, false, if◌then◌else◌, Option, None, Some, Result, Ok, Err, refl, sym, ap, ◌∙◌, arith}
 use Rattle.mx_alu.specs.declared.answer.Event.{Event}
 use Rattle.mx_mem.specs.declared.part.Part.{Part}
 use Rattle.mx_spec.specs.SpecialRegisters.{rA}
@@ -11,8 +11,9 @@ use Rattle.mx_alu.specs.declared.answer.Event.TheVariants.{Overflow}
 use Rattle.mx_core.specs.declared.stop.Stop.{Stop}
 use Rattle.mx_core.specs.declared.stop.Stop.TheVariants.{Stopped}
 use Rattle.mx_core.proofs.Answered.{unless-ok, unless-err}
-use Rattle.mx_core.specs.Calls.{left, store_outcome, unless, store_seen, store_raised, store_decided, store_settled}
-use Rattle.mx_core.specs.Deeds.{applied, onward, outcome, deed_of, unless_refused, loads_in_segment, stores_in_segment}
+use Rattle.mx_core.proofs.Pages.{absent-made}
+use Rattle.mx_core.specs.Calls.{is_made, makes_page, left, store_outcome, unless, store_seen, store_raised, store_decided, store_settled}
+use Rattle.mx_core.specs.Deeds.{applied, onward, outcome, state_done, deed_of, unless_refused, loads_in_segment, stores_in_segment}
 use Rattle.mx_core.specs.Effects.{Effect, Store, effect_of, data_address, x_register, going_on, stored_in, stored_part, stored_value, stored_event, with_event, with_decision}
 use Rattle.mx_core.specs.Instructions.{Instruction, x_of, next_of}
 use Rattle.mx_core.specs.State.{State, begins_page, special_register, is_negative, is_in_stack_segment, is_page_refused, tetra}
@@ -96,11 +97,17 @@ store_outcome_is how s i =
     ∙ raised-is s i a x (stored_part how) (stored_value how x (x_of i)) event
 
 -- the page that it needs
-pub store_page : (how : Storing) (s : State) (i : Instruction) → needs_page s (deed_of (op.Store how) s i) ≡ begins_page s (data_address s i)
+page-of-store : (how : Storing) (s : State) (i : Instruction) → begins_page_at s (deed_of (op.Store how) s i).effect.store ≡ begins_page s (data_address s i)
 unfolding effect_of
-store_page how s i =
+page-of-store how s i =
     let x = x_register s i in
     ap (begins_page_at s) (event-store s i (data_address s i) x (stored_in (data_address s i) (stored_part how) (stored_value how x (x_of i))) (stored_event how x))
+
+pub store_page : (how : Storing) (s : State) (i : Instruction) (a : ℕ) → a ≡ data_address s i → needs_page s (deed_of (op.Store how) s i) ≡ makes_page s a (outcome s (deed_of (op.Store how) s i))
+store_page how s i a e =
+    let d = deed_of (op.Store how) s i in
+    ap (λ b. b && begins_page_at s d.effect.store) (absent-made d.refused (state_done s d))
+    ∙ ap (λ b. is_made (outcome s d) && b) (page-of-store how s i ∙ ap (λ b. begins_page s b) (sym e))
 
 -- FOR THE CODE
 

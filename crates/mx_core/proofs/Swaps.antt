@@ -6,12 +6,13 @@ use Rattle.mx_ring.specs.Stack.{register, set_overfills, in_stack_area}
 use Rattle.mx_spec.specs.SpecialRegisters.{rP}
 use Rattle.mx_core.specs.declared.stop.Stop.{Stop}
 use Rattle.mx_core.proofs.Locals.{stack-fits}
-use Rattle.mx_core.specs.Calls.{left, unless, exchange_done, exchanged, left_alone, swap_made, swap_settled, store_seen, settled}
-use Rattle.mx_core.specs.Deeds.{applied, onward, outcome, deed_of, unless_refused}
+use Rattle.mx_core.specs.Calls.{left, unless, is_made, makes_page, exchange_done, exchanged, left_alone, swap_made, swap_settled, store_seen, settled}
+use Rattle.mx_core.specs.Deeds.{applied, onward, outcome, state_done, deed_of, unless_refused}
 use Rattle.mx_core.specs.Effects.{Effect, effect_of, data_address, x_register, touch, loading_from, stored_in}
 use Rattle.mx_core.specs.Instructions.{Instruction, x_of, next_of}
 use Rattle.mx_core.specs.State.{State, begins_page, octa, with_octa, with_stored, with_special, with_value_in, with_local, special_register, is_negative, is_in_stack_segment, is_page_refused}
 use Rattle.mx_core.specs.Stepping.{begins_page_at, needs_page}
+use Rattle.mx_core.proofs.Pages.{absent-made}
 use Rattle.mx_core.specs.Stops.{reason_where, first_reason, form_fault, stack_fault}
 use Rattle.mx_core.specs.declared.operation.Operation.TheVariants as op
 use Rattle.mx_core.specs.declared.reason.Reason.{Reason}
@@ -162,11 +163,19 @@ swap-page : (s : State) (i : Instruction) (a v found : ℕ) (b : Bool) → begin
 swap-page s i a v found true = refl
 swap-page s i a v found false = refl
 
-pub swap_needs : (s : State) (i : Instruction) (a : ℕ) → a ≡ data_address s i → in_stack_area a ≡ false → (octa s a == special_register s rP) ≡ true → begins_page s a ≡ needs_page s (deed_of op.CompareAndSwap s i)
+page-of-swap : (s : State) (i : Instruction) (a : ℕ) → a ≡ data_address s i → in_stack_area a ≡ false → (octa s a == special_register s rP) ≡ true → begins_page s a ≡ begins_page_at s (deed_of op.CompareAndSwap s i).effect.store
 unfolding effect_of special_register
-swap_needs s i a e out same =
+page-of-swap s i a e out same =
     let k = x_of i in
     let t = with_local s k in
     sym (ap (λ c. begins_page_at s (cond (octa t c == special_register t rP) (exchange_effect i c (x_register t i)) (leave_effect i c (octa t c))).store) (address_kept s i k ∙ sym e)
     ∙ swap-page s i a (x_register t i) (octa t a) (octa t a == special_register t rP)
     ∙ ap (λ b. b && begins_page s a) (ap (λ o. o == special_register s rP) (outside-kept s k a out) ∙ same))
+
+pub swap_needs : (s : State) (i : Instruction) (a : ℕ) → a ≡ data_address s i → a < 2 ^ 63 → in_stack_area a ≡ false → (octa s a == special_register s rP) ≡ true → makes_page s a (exchanged s i a) ≡ needs_page s (deed_of op.CompareAndSwap s i)
+swap_needs s i a e l out same =
+    let d = deed_of op.CompareAndSwap s i in
+    let done : outcome s d ≡ exchanged s i a = swap_outside s i a e l out ∙ rw same refl in
+    sym (ap (λ b. b && begins_page_at s d.effect.store) (absent-made d.refused (state_done s d))
+    ∙ ap (λ r. is_made r && begins_page_at s d.effect.store) done
+    ∙ ap (λ b. is_made (exchanged s i a) && b) (sym (page-of-swap s i a e out same)))

@@ -12,6 +12,9 @@ keeps s t whole (Ok x) e = tt
 keeps s t (Ok u) (Err stop) e = let f = ap (λ (p : Left). p.0) e in absurd (cc)
 keeps s t (Err reason) (Err stop) e = ap (λ (p : Left). p.1) e
 
+pub err_keeps : (s t : State) (whole : Result State Reason) (stop : Stop) → (Err stop, t) ≡ left s whole → t ≡ s
+err_keeps s t whole stop e = keeps s t whole (Err stop) e
+
 -- what makes a state or stops is never out of memory
 pub lasts : (needed : Bool) (s t : State) (whole : Result State Reason) (r : Result (Unit {0}) Stop) → (r, t) ≡ left s whole → LacksMemoryOnlyWhere needed r
 lasts needed s t whole (Ok done) e = tt

@@ -1,5 +1,5 @@
 -- What the machine's own calls answer, with the state that they leave.
-use Rattle.std.specs.Prelude.{ℕ, IsTrue, ◌≡◌, ◌≢◌, OnErr, ◌+◌, ◌*◌, ◌%◌, ◌^◌, ◌&&◌, not, min, nat_lt, nat_le, Bool, if◌then◌else◌, Result, Ok, Err, List, [], ◌∷◌, ◌++◌, ◌==◌, ◌||◌, Option, None, Some}
+use Rattle.std.specs.Prelude.{ℕ, IsTrue, ◌≡◌, ◌≢◌, OnErr, ◌+◌, ◌*◌, ◌%◌, ◌^◌, ◌&&◌, not, min, nat_lt, nat_le, Bool, true, false, if◌then◌else◌, Result, Ok, Err, List, [], ◌∷◌, ◌++◌, ◌==◌, ◌||◌, Option, None, Some}
 use Rattle.mx_alu.specs.declared.answer.Answer.{Answer}
 use Rattle.mx_alu.specs.declared.answer.Event.{Event}
 use Rattle.mx_spec.specs.Puts.{put_of}
@@ -17,7 +17,7 @@ use Rattle.mx_core.specs.Deeds.{onward, with_specials, with_stack, with_stack_ma
 use Rattle.mx_core.specs.Effects.{x_register, y_operand, z_operand, specials_saved, specials_back, Tripping, if_told, stored_part, stored_value, stored_event}
 use Rattle.mx_core.specs.Instructions.{Instruction, x_of, y_of, z_of, yz_of, xyz_of, next_of}
 use Rattle.mx_core.specs.Kept.{Kept, state_of}
-use Rattle.mx_core.specs.State.{State, with_local, global_start, locals, with_value_in, with_stored, is_page_refused, is_in_stack_segment, is_negative, with_special, tetra, special_register}
+use Rattle.mx_core.specs.State.{State, begins_page, with_local, global_start, locals, with_value_in, with_stored, is_page_refused, is_in_stack_segment, is_negative, with_special, tetra, special_register}
 use Rattle.mx_mem.specs.declared.part.Part.{Part}
 use Rattle.mx_mem.specs.declared.part.Part.TheVariants.{Octa}
 use Rattle.mx_core.specs.declared.operation.Operation.{Operation}
@@ -41,6 +41,13 @@ left s (Err reason) = (Err (Stopped reason), s)
 abbrev pub Makes : (State → Result State Reason) → Result (Unit {0}) Stop → Kept → Kept → Type 0
 Makes f result old new = (result, state_of new) ≡ left (state_of old) (f (state_of old))
 
+-- a call that tells whether it made this of the old machine; where it did not nothing changed
+abbrev pub MakesWhereTold : (State → Result State Reason) → Bool → Kept → Kept → Type 0
+MakesWhereTold f told old new = IsTrue told → Makes f (Ok tt) old new
+
+abbrev pub KeepsWhereNot : Bool → Kept → Kept → Type 0
+KeepsWhereNot told old new = told ≡ false → state_of new ≡ state_of old
+
 -- the same, unless it finds no memory; then nothing changed
 abbrev pub MakesWithMemory : (State → Result State Reason) → Result (Unit {0}) Stop → Kept → Kept → Type 0
 MakesWithMemory f result old new = result ≢ Err OutOfMemory → Makes f result old new
@@ -53,6 +60,15 @@ abbrev pub LacksMemoryOnlyWhere : Bool → Result (Unit {0}) Stop → Type 0
 LacksMemoryOnlyWhere needed (Ok done) = Unit {0}
 LacksMemoryOnlyWhere needed (Err (Stopped reason)) = Unit {0}
 LacksMemoryOnlyWhere needed (Err OutOfMemory) = IsTrue needed
+
+-- whether a state is made, and nothing refused
+abbrev pub is_made : Result State Reason → Bool
+is_made (Ok t) = true
+is_made (Err reason) = false
+
+-- whether a state is made by a store at an address to a page that is not there
+abbrev pub makes_page : State → ℕ → Result State Reason → Bool
+makes_page s a made = is_made made && begins_page s a
 
 -- a call carries an operation out
 abbrev pub CarriesOut : Operation → Instruction → Result (Unit {0}) Stop → Kept → Kept → Type 0

@@ -24,3 +24,5 @@ pub mod Changed
 pub mod Machines
 pub mod Wild
 pub mod MemoryAtStart
+pub mod Walks
+pub mod UsualDeeds

@@ -3,7 +3,7 @@ use Rattle.std.specs.Prelude.{ℕ, ◌≡◌, ◌==◌, Bool, true, false, not, 
 use Rattle.std.specs.Option.{option_map, is_some}
 use Rattle.mx_mem.specs.declared.part.Part.TheVariants.{Octa}
 use Rattle.mx_ring.specs.Stack.{Stack, register}
-use Rattle.mx_core.specs.Deeds.{Deed, deed_at, state_done}
+use Rattle.mx_core.specs.Deeds.{Deed, deed_at, state_done, is_absent}
 use Rattle.mx_core.specs.Effects.{Store, data_address, touch}
 use Rattle.mx_core.specs.Instructions.{Instruction, x_of}
 use Rattle.mx_core.specs.State.{State, begins_page, is_negative}
@@ -68,13 +68,14 @@ write_told s g = told_write s.stack g.dest g.reads g.writes
 abbrev pub Foretells : State → Deed → Sight → Type 0
 Foretells s d g = d.refused ≡ None → record g { writes = write_told (state_done s d) g } ≡ sight_of d
 
--- whether a deed stores to a page that is not there
+-- whether a store is to a page that is not there
 abbrev pub begins_page_at : State → Option Store → Bool
 begins_page_at s None = false
 begins_page_at s (Some store) = begins_page s store.at
 
+-- whether a deed is carried out with such a store: what is refused takes no memory
 abbrev pub needs_page : State → Deed → Bool
-needs_page s d = begins_page_at s d.effect.store
+needs_page s d = is_absent d.refused && begins_page_at s d.effect.store
 
 -- whether the next step does; at an address of 2^63 or more nothing is fetched
 abbrev pub step_needs_page : State → Bool

@@ -61,7 +61,7 @@ impl Machine {
     /// rD and rM, which divisions and MUX read.
     #[tactic(auto, unfolding(crate::specs::Kept::state_of, crate::specs::State::special_register))]
     #[inline(always)]
-    fn extra(&self) -> Extra
+    pub(crate) fn extra(&self) -> Extra
         ensures { result ≡ spec.extra_of (state_of self.now) }
     {
         Extra {
@@ -136,7 +136,7 @@ impl Machine {
 /// The immediate wyde of an instruction at its place.
 #[tactic(auto, using(crate::proofs::Tables::wyde_low, crate::proofs::Tables::wyde_high))]
 #[inline(always)]
-fn wyde_value(i: &Instruction) -> u64
+pub(crate) fn wyde_value(i: &Instruction) -> u64
     requires { operation_in i.now ≡ Operation.Wyde }
     ensures { result ≡ spec.wyde_value i.now }
 {

@@ -33,6 +33,16 @@ impl Instruction {
         }
     }
 
+    /// An instruction of a program, once its code is known: where that is a literal, what is done at it is settled
+    /// when the program is compiled.
+    #[inline(always)]
+    pub(crate) fn coded(at: u64, code: u8, word: u32) -> Instruction
+        requires { code ≡ spec.code_of (spec.instruction at word) }
+        ensures { result ≡ spec.instruction at word }
+    {
+        Instruction::new(at, (u32::from(code) << 24) + (word & 0xff_ffff))
+    }
+
     /// The code OP.
     #[inline(always)]
     pub(crate) fn code(&self) -> u8

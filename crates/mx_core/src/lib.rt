@@ -4,6 +4,7 @@
 //! 1.3.1'.
 #![tactic(auto)]
 
+mod apart;
 mod bounds;
 mod changes;
 mod codes;
@@ -38,6 +39,8 @@ mod swap;
 mod trace;
 mod traps;
 mod trips;
+mod usual;
+mod values;
 
 pub use bounds::machines_keep_the_invariant;
 pub use changes::SetFault;
@@ -52,5 +55,5 @@ pub use reason::Reason;
 pub use space_laws::{contents_tell_the_state, machines_are_whole};
 pub use start::StartFault;
 pub use start_laws::arguments_stand_in_the_pool;
-pub use step::{Advance, Step};
+pub use step::{Advance, Advanced, Step};
 pub use trace::{Touch, Trace};

@@ -1,6 +1,6 @@
 //! The machine's state, and what is read and written of it.
 
-ghost use Rattle.std.specs.Prelude.{◌≡◌, ◌≢◌, ◌<◌, ◌≤◌, ◌^◌, ◌/◌, ◌%◌, Err, false};
+ghost use Rattle.std.specs.Prelude.{◌≡◌, ◌≢◌, ◌<◌, ◌≤◌, ◌^◌, ◌/◌, ◌%◌, Err, false, true};
 ghost use Rattle.mx_mem.specs.Memory.{tetra_of};
 ghost use Rattle.mx_ring.specs.Bounds.{IsRing};
 ghost use Rattle.mx_ring.specs.Stack as stacks;
@@ -216,6 +216,7 @@ impl Machine {
         ensures answer { MakesWithMemory (λ s. store_outcome s a part x) result self.old self.new }
         ensures err { KeepsOnErr result self.old self.new }
         ensures there { spec.begins_page (state_of self.old) a ≡ false → result ≢ Err Stop.OutOfMemory }
+        ensures room { spec.is_page_refused (state_of self.old) a ≡ true → result ≢ Err Stop.OutOfMemory }
     {
         if a >= SEGMENT {
             return self.store_above(a, part, x);
@@ -235,6 +236,7 @@ impl Machine {
         ensures answer { MakesWithMemory (λ s. store_outcome s a part x) result self.old self.new }
         ensures err { KeepsOnErr result self.old self.new }
         ensures there { spec.begins_page (state_of self.old) a ≡ false → result ≢ Err Stop.OutOfMemory }
+        ensures room { spec.is_page_refused (state_of self.old) a ≡ true → result ≢ Err Stop.OutOfMemory }
     {
         if is_in_stack_area(a) {
             let i = ((a - SEGMENT) / 8) as u32;

@@ -9,7 +9,6 @@ ghost use Rattle.mx_alu.specs.declared.answer.Event.TheVariants as event;
 ghost use Rattle.mx_core.specs.Deeds.{deed_of};
 ghost use Rattle.mx_core.specs.Instructions.{instruction};
 ghost use Rattle.mx_core.specs.Kept.{state_of};
-ghost use Rattle.mx_core.specs.State.{begins_page};
 ghost use Rattle.mx_core.specs.Stepping.{needs_page};
 ghost use Rattle.mx_core.specs.Told.{answer_in};
 
@@ -59,7 +58,8 @@ impl Machine {
         ensures answer { MakesWithMemory (λ s. spec.store_settled s (instruction at word) how a x)
             (answer_in result) self.old self.new }
         ensures err { KeepsOnErr (answer_in result) self.old self.new }
-        ensures there { LacksMemoryOnlyWhere (begins_page (state_of self.old) a) (answer_in result) }
+        ensures there { LacksMemoryOnlyWhere (spec.makes_page (state_of self.old) a
+            (spec.store_settled (state_of self.old) (instruction at word) how a x)) (answer_in result) }
     {
         Told::of(self.store_overflowing(how, &Instruction::new(at, word), a, x))
     }
@@ -76,7 +76,8 @@ impl Machine {
         requires event { stored_event how x ≡ Some event.Overflow }
         ensures answer { MakesWithMemory (λ s. spec.store_settled s i.now how a x) result self.old self.new }
         ensures err { KeepsOnErr result self.old self.new }
-        ensures there { LacksMemoryOnlyWhere (begins_page (state_of self.old) a) result }
+        ensures there { LacksMemoryOnlyWhere (spec.makes_page (state_of self.old) a
+            (spec.store_settled (state_of self.old) i.now how a x)) result }
     {
         noted_events_stay_in_18_bits();
         match decide(self.status(), Event::Overflow) {
@@ -86,7 +87,7 @@ impl Machine {
     }
 
     /// The same where the event is noted in rA.
-    #[tactic(auto, using(crate::proofs::Unchanged::lacks_where), unfolding(crate::specs::Calls::store_outcome))]
+    #[tactic(auto, unfolding(crate::specs::Calls::store_outcome))]
     fn store_noted(
         &mut self,
         how: Storing,
@@ -100,7 +101,8 @@ impl Machine {
         ensures answer { MakesWithMemory (λ s. spec.overflow_decided s i.now how a x (trips.Noted status)) result
             self.old self.new }
         ensures err { KeepsOnErr result self.old self.new }
-        ensures there { LacksMemoryOnlyWhere (begins_page (state_of self.old) a) result }
+        ensures there { LacksMemoryOnlyWhere (spec.makes_page (state_of self.old) a
+            (spec.overflow_decided (state_of self.old) i.now how a x (trips.Noted status))) result }
     {
         match self.store(a, stored_part(how), stored_value(how, x, i.x())) {
             Ok(()) => {
@@ -113,7 +115,7 @@ impl Machine {
     }
 
     /// The same where the event trips.
-    #[tactic(auto, using(crate::proofs::Unchanged::lacks_where), unfolding(crate::specs::Calls::store_outcome))]
+    #[tactic(auto, unfolding(crate::specs::Calls::store_outcome))]
     fn store_tripped(
         &mut self,
         how: Storing,
@@ -127,7 +129,8 @@ impl Machine {
         ensures answer { MakesWithMemory (λ s. spec.overflow_decided s i.now how a x (trips.Taken handler)) result
             self.old self.new }
         ensures err { KeepsOnErr result self.old self.new }
-        ensures there { LacksMemoryOnlyWhere (begins_page (state_of self.old) a) result }
+        ensures there { LacksMemoryOnlyWhere (spec.makes_page (state_of self.old) a
+            (spec.overflow_decided (state_of self.old) i.now how a x (trips.Taken handler))) result }
     {
         if self.tetra(handler) == 0 {
             return Err(Stop::Stopped(Reason::UnhandledTrip));

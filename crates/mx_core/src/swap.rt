@@ -7,7 +7,7 @@ ghost use Rattle.mx_core.specs.Calls.{CarriesOutWithMemory, KeepsOnErr, LacksMem
 ghost use Rattle.mx_core.specs.Deeds.{deed_of};
 ghost use Rattle.mx_core.specs.Effects.{data_address};
 ghost use Rattle.mx_core.specs.Kept.{state_of};
-ghost use Rattle.mx_core.specs.State.{begins_page, octa};
+ghost use Rattle.mx_core.specs.State.{octa};
 ghost use Rattle.mx_core.specs.Stepping.{needs_page};
 
 use crate::instruction::Instruction;
@@ -51,7 +51,8 @@ impl Machine {
         requires outside { in_stack_area a ≡ false }
         ensures answer { MakesWithMemory (λ s. spec.exchanged s i.now a) result self.old self.new }
         ensures err { KeepsOnErr result self.old self.new }
-        ensures there { LacksMemoryOnlyWhere (begins_page (state_of self.old) a) result }
+        ensures there { LacksMemoryOnlyWhere (spec.makes_page (state_of self.old) a
+            (spec.exchanged (state_of self.old) i.now a)) result }
     {
         if self.overfills(i.x()) {
             return Err(Stop::Stopped(Reason::StackFull));

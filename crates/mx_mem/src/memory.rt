@@ -12,7 +12,7 @@ ghost use Rattle.mx_mem.specs.Memory.{with_tetra, bytes_with_tetra, IsNextNonzer
 
 use crate::page::Page;
 use crate::part::with_part;
-use crate::places::{GUESSES, add, guessed_place, next_page, place_of, slot};
+use crate::places::{GUESSES, add, guessed_place, near_place, next_page, place_of, slot};
 use crate::{MemFault, Part};
 use std::alloc::Global;
 use std::array;
@@ -88,6 +88,58 @@ impl Memory {
         match guessed_place(&self.pages, &self.places, &self.code, a / PAGE) {
             Some(place) => self.pages[place].tetra(a),
             None => 0,
+        }
+    }
+
+    /// The place among the pages where `tetra` found the page of the last instruction, or any other number.
+    #[inline(always)]
+    pub fn code_place(&self) -> usize {
+        self.code.get()
+    }
+
+    /// The tetra that `tetra` gives, where its page stands at a place among the pages; else nothing.
+    #[inline(always)]
+    pub fn near_tetra(&self, place: usize, a: u64) -> Option<u32>
+        requires { a < 2 ^ 63 }
+        ensures { IfSome result (λ t. t ≡ tetra_at self.now a) }
+    {
+        match near_place(&self.pages, &self.places, place, a / PAGE) {
+            Some(place) => Some(self.pages[place].tetra(a)),
+            None => None,
+        }
+    }
+
+    /// The octa that `load` gives, where its page stands at the place that is remembered for it; else nothing.
+    #[inline(always)]
+    pub fn near_octa(&self, a: u64) -> Option<u64>
+        requires { a < 2 ^ 63 }
+        ensures { IfSome result (λ x. x ≡ octa_at self.now a) }
+    {
+        let place = self.guesses[slot(a / PAGE)].get();
+        match near_place(&self.pages, &self.places, place, a / PAGE) {
+            Some(place) => Some(self.pages[place].octa((a / 8 % 512) as usize)),
+            None => None,
+        }
+    }
+
+    /// Stores an octa as `store` does, where its page stands at the place that is remembered for it; else nothing
+    /// changes. Whether it did. It takes no memory.
+    #[inline(always)]
+    pub fn store_if_near(&mut self, a: u64, x: u64) -> bool
+        requires { a < 2 ^ 63 }
+        ensures octas { IsTrue result → octa_at self.new ≡ stored_at (octa_at self.old) a x }
+        ensures pages { IsTrue result → has_page self.new ≡ with_page (has_page self.old) (a / 4096) }
+        ensures count { IsTrue result → page_count self.new ≡ count_with_page self.old (a / 4096) }
+        ensures there { IsTrue result → IsTrue (has_page self.old (a / 4096)) }
+        ensures unmade { result ≡ false → self.new ≡ self.old }
+    {
+        let place = self.guesses[slot(a / PAGE)].get();
+        match near_place(&self.pages, &self.places, place, a / PAGE) {
+            Some(place) => {
+                self.pages[place].put((a / 8 % 512) as usize, x);
+                true
+            }
+            None => false,
         }
     }
 

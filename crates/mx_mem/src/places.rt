@@ -82,13 +82,30 @@ pub fn guessed_place(
     ensures place { result ≡ get nat_cmp places.now number }
     ensures within { IfSome result (λ place. place < length pages.now) }
 {
-    let place = guess.get();
+    match near_place(pages, places, guess.get(), number) {
+        Some(place) => Some(place),
+        None => place_far(places, guess, number),
+    }
+}
+
+/// A place, where the page with a number stands there.
+#[inline(always)]
+pub fn near_place(
+    pages: &[Page],
+    places: &BTreeMap<u64, usize>,
+    place: usize,
+    number: u64,
+) -> Option<usize>
+    requires { Indexed pages.now places.now }
+    ensures place { IfSome result (λ i. Some i ≡ get nat_cmp places.now number) }
+    ensures within { IfSome result (λ i. i < length pages.now) }
+{
     if let Some(page) = pages.get(place) {
         if page.number() == number {
             return Some(place);
         }
     }
-    place_far(places, guess, number)
+    None
 }
 
 /// The place by the map, which is remembered.

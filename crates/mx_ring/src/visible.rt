@@ -92,7 +92,7 @@ impl Visible {
         ensures { result ≡ is_marginal self.now k }
     {
         let k = usize::from(k);
-        k < self.first_global && self.local_count <= k
+        self.local_count <= k && k < self.first_global
     }
 
     /// Gives a local or global $k a value.

@@ -1,12 +1,13 @@
-use Rattle.std.proofs.Common.{◌≡◌, false, sym, ap, ◌∙◌}
+use Rattle.std.proofs.Common.{◌≡◌, false, Err, sym, ap, ◌∙◌}
 use Rattle.mx_mem.specs.declared.part.Part.TheVariants.{Octa}
 use Rattle.mx_ring.specs.Stack.{set_overfills}
 use Rattle.mx_core.specs.Calls.{left, exchanged}
 use Rattle.mx_core.specs.Instructions.{x_of}
 use Rattle.mx_core.specs.Kept.{state_of}
+use Rattle.mx_core.proofs.Pages.{lacks_exchange}
 use Rattle.mx_core.proofs.Stores.{stored-ok}
 use Rattle.mx_core.proofs.Swaps.{exchange_settles}
-use Rattle.mx_core.proofs.Unchanged.{keeps}
+use Rattle.mx_core.proofs.Unchanged.{keeps, lasts}
 use Rattle.mx_core.proofs.machine.Machine.exchange.Goals as goal
 
 made : (c : goal.After-settle) → (c.settle.result, state_of c.settle.new.self) ≡ left (state_of c.args.self.now) (exchanged (state_of c.args.self.now) c.args.i.now c.args.a)
@@ -22,3 +23,12 @@ returns-in-Ok-clause-answer c = λ m. made c
 
 pub returns-in-Ok-clause-err : goal.returns-in-Ok-clause-err
 returns-in-Ok-clause-err c = keeps _ _ _ _ (made c)
+
+pub returns-in-Ok-clause-there : goal.returns-in-Ok-clause-there
+returns-in-Ok-clause-there c = lasts _ _ _ _ _ (made c)
+
+pub returns-in-Err-clause-there : goal.returns-in-Err-clause-there
+returns-in-Err-clause-there c =
+    let s = state_of c.args.self.now in
+    let fits : set_overfills s.stack (x_of c.args.i.now) ≡ false = ap (λ j. set_overfills s.stack j) (sym c.x.ensures) ∙ sym c.overfills.ensures ∙ c.if-overfills.false in
+    lacks_exchange s c.args.i.now c.args.a (Err c.in-Err.stop) fits c.in-Err.ensures.there c.in-Err.ensures.room

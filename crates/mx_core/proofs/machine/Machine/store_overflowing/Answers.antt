@@ -1,9 +1,10 @@
 use Rattle.std.proofs.Common.{sym, ap, ◌∙◌}
 use Rattle.mx_alu.specs.declared.answer.Event.TheVariants.{Overflow}
 use Rattle.mx_trip.specs.Trips.{decided}
-use Rattle.mx_core.specs.Calls.{left}
+use Rattle.mx_core.specs.Calls.{left, makes_page}
 use Rattle.mx_core.specs.Kept.{state_of}
 use Rattle.mx_core.proofs.Stores.{store_overflow}
+use Rattle.mx_core.proofs.Unchanged.{lacks_as}
 use Rattle.mx_core.proofs.machine.Machine.store_overflowing.Goals as goal
 
 pub store_noted-requires-clause-bits : goal.store_noted-requires-clause-bits
@@ -20,3 +21,13 @@ returns-in-Taken-clause-answer c = λ m.
     let s = state_of c.args.self.now in
     c.store_tripped.ensures.answer m
     ∙ ap (left s) (sym (store_overflow c.args.how s c.args.i.now c.args.a c.args.x _ c.requires.event (ap (λ r. decided r Overflow) (sym c.status.ensures.value) ∙ sym c.decide.ensures ∙ c.in-Taken.is)))
+
+pub returns-in-Noted-clause-there : goal.returns-in-Noted-clause-there
+returns-in-Noted-clause-there c =
+    let s = state_of c.args.self.now in
+    lacks_as _ _ c.store_noted.result (ap (makes_page s c.args.a) (sym (store_overflow c.args.how s c.args.i.now c.args.a c.args.x _ c.requires.event (ap (λ r. decided r Overflow) (sym c.status.ensures.value) ∙ sym c.decide.ensures ∙ c.in-Noted.is)))) c.store_noted.ensures.there
+
+pub returns-in-Taken-clause-there : goal.returns-in-Taken-clause-there
+returns-in-Taken-clause-there c =
+    let s = state_of c.args.self.now in
+    lacks_as _ _ c.store_tripped.result (ap (makes_page s c.args.a) (sym (store_overflow c.args.how s c.args.i.now c.args.a c.args.x _ c.requires.event (ap (λ r. decided r Overflow) (sym c.status.ensures.value) ∙ sym c.decide.ensures ∙ c.in-Taken.is)))) c.store_tripped.ensures.there

@@ -1,14 +1,17 @@
 use Rattle.std.proofs.Common.{◌≡◌, ap, ◌∙◌, refl, sym, Err, None}
-use Rattle.mx_core.specs.Calls.{store_seen}
-use Rattle.mx_core.specs.Deeds.{onward}
-use Rattle.mx_core.specs.Effects.{stored_part, stored_value, stored_event}
-use Rattle.mx_core.specs.Instructions.{x_of, next_of}
+use Rattle.mx_core.specs.Calls.{store_seen, store_settled, makes_page}
+use Rattle.mx_core.specs.Deeds.{onward, outcome, deed_of}
+use Rattle.mx_core.specs.Effects.{data_address, x_register, stored_part, stored_value, stored_event}
+use Rattle.mx_core.specs.Instructions.{instruction, x_of, next_of}
 use Rattle.mx_core.specs.Kept.{state_of}
-use Rattle.mx_core.specs.State.{State, begins_page}
+use Rattle.mx_core.specs.State.{State}
 use Rattle.mx_core.specs.Told.{answer_in}
+use Rattle.mx_core.specs.declared.operation.Operation.TheVariants as op
 use Rattle.mx_core.proofs.Answered.{refused-as, made-as}
-use Rattle.mx_core.proofs.Stores.{store_negative, store_page, store_plain, stored-ok, stored-err}
-use Rattle.mx_core.proofs.Unchanged.{lacks_as, lacks_where}
+use Rattle.mx_core.proofs.Pages.{lacks_plain}
+use Rattle.mx_core.proofs.Plain.{store_as_plain}
+use Rattle.mx_core.proofs.Stores.{store_negative, store_outcome_is, store_page, store_plain, stored-ok, stored-err}
+use Rattle.mx_core.proofs.Unchanged.{lacks_as}
 use Rattle.mx_core.proofs.machine.Machine.store_register.Goals as goal
 
 pub returns-then-a-clause-answer : goal.returns-then-a-clause-answer
@@ -35,9 +38,16 @@ returns-in-Err-clause-answer c = λ m.
 pub returns-then-overflows-clause-there : goal.returns-then-overflows-clause-there
 returns-then-overflows-clause-there c =
     let s = state_of c.args.self.now in
-    rw c.answer.ensures (lacks_as _ _ (answer_in c.store_apart.result) (ap (λ a. begins_page s a) c.data_address-a.ensures ∙ sym (store_page c.args.how s c.args.i.now)) c.store_apart.ensures.there)
+    let a = c.data_address-a.result in
+    let done : store_settled s (instruction c.args.i.now.at c.args.i.now.word) c.args.how a c.x_register-x.result ≡ outcome s (deed_of (op.Store c.args.how) s c.args.i.now) =
+    sym (store_outcome_is c.args.how s c.args.i.now ∙ rw (c.data_address-a.ensures, c.x_register-x.ensures) (store_as_plain s c.args.i.now c.args.how (data_address s c.args.i.now) (x_register s c.args.i.now))) in
+    rw c.answer.ensures (lacks_as _ _ (answer_in c.store_apart.result) (ap (makes_page s a) done ∙ sym (store_page c.args.how s c.args.i.now a c.data_address-a.ensures)) c.store_apart.ensures.there)
 
 pub returns-in-Err-clause-there : goal.returns-in-Err-clause-there
 returns-in-Err-clause-there c =
     let s = state_of c.args.self.now in
-    lacks_as _ _ (Err c.in-Err.stop) (ap (λ a. begins_page s a) c.data_address-a.ensures ∙ sym (store_page c.args.how s c.args.i.now)) (lacks_where _ _ c.in-Err.ensures.there)
+    let a = c.data_address-a.result in
+    let event : stored_event c.args.how c.x_register-x.result ≡ None = c.overflows.ensures ∙ rw c.if-overflows.false refl in
+    let done = store_plain c.args.how s c.args.i.now a c.x_register-x.result c.data_address-a.ensures c.x_register-x.ensures c.if-a.false event in
+    lacks_as _ _ (Err c.in-Err.stop) (ap (makes_page s a) (sym done) ∙ sym (store_page c.args.how s c.args.i.now a c.data_address-a.ensures))
+    (lacks_plain s _ a (Err c.in-Err.stop) c.in-Err.ensures.there c.in-Err.ensures.room)

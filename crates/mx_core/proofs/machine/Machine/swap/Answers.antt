@@ -29,4 +29,4 @@ returns-then-found-special-clause-there c =
     let s = state_of c.args.self.now in
     let a = c.data_address-a.result in
     let same : (octa s a == special_register s rP) ≡ true = found-same _ _ c.octa-found.result c.special.result c.octa-found.ensures c.special.ensures c.if-found-special.true in
-    lacks_as _ _ c.exchange.result (swap_needs s c.args.i.now a c.data_address-a.ensures (sym c.is_in_stack_area.ensures ∙ c.if-is_in_stack_area.false) same) c.exchange.ensures.there
+    lacks_as _ _ c.exchange.result (swap_needs s c.args.i.now a c.data_address-a.ensures c.if-a.false (sym c.is_in_stack_area.ensures ∙ c.if-is_in_stack_area.false) same) c.exchange.ensures.there

@@ -1,0 +1,23 @@
+use Rattle.std.proofs.Common.{◌≡◌, ◌<◌, ◌^◌, ap, ◌∙◌, refl, None, arith}
+use Rattle.mx_core.specs.Calls.{store_seen}
+use Rattle.mx_core.specs.Deeds.{onward}
+use Rattle.mx_core.specs.Effects.{stored_part, stored_value, stored_event}
+use Rattle.mx_core.specs.Instructions.{x_of, next_of}
+use Rattle.mx_core.specs.Kept.{state_of}
+use Rattle.mx_core.specs.State.{State}
+use Rattle.mx_core.proofs.Answered.{made-as}
+use Rattle.mx_core.proofs.Stores.{store_plain, stored-ok}
+use Rattle.mx_core.proofs.machine.Machine.store_if_usual.Goals as goal
+
+pub returns-then-store_if_near-clause-made : goal.returns-then-store_if_near-clause-made
+returns-then-store_if_near-clause-made c = λ _.
+    let s = state_of c.args.self.now in
+    let t = state_of c.store_if_near.new.self in
+    let a = c.data_address-a.result in
+    let low : a < 2 ^ 63 = omega (arith, c.if-a-ge-SEGMENT.false) in
+    let event : stored_event c.args.how c.x_register-x.result ≡ None = c.overflows.ensures ∙ rw c.if-overflows.false refl in
+    let ok = stored-ok s t a c.stored_part.result c.stored_value.result (c.store_if_near.ensures.made c.if-store_if_near.true) in
+    let after : t ≡ store_seen s a (stored_part c.args.how) (stored_value c.args.how c.x_register-x.result (x_of c.args.i.now)) =
+    ok.1 ∙ rw (c.stored_part.ensures, c.stored_value.ensures, c.x.ensures) refl in
+    made-as _ _ s (state_of c.go_to.new.self) _ _ (store_plain c.args.how s c.args.i.now a c.x_register-x.result c.data_address-a.ensures c.x_register-x.ensures low event) ok.0
+    (c.go_to.ensures ∙ ap (λ n. onward t n) c.next.ensures ∙ ap (λ (u : State). onward u (next_of c.args.i.now)) after)

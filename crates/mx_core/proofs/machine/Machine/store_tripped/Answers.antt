@@ -1,0 +1,9 @@
+use Rattle.std.proofs.Common.{Err}
+use Rattle.mx_core.specs.Kept.{state_of}
+use Rattle.mx_core.proofs.Pages.{lacks_tripped}
+use Rattle.mx_core.proofs.machine.Machine.store_tripped.Goals as goal
+
+pub returns-in-Err-clause-there : goal.returns-in-Err-clause-there
+returns-in-Err-clause-there c =
+    lacks_tripped (state_of c.args.self.now) c.args.i.now c.args.how c.args.a c.args.x c.args.handler c.tetra.result (Err c.in-Err.stop)
+    c.requires.address c.tetra.ensures c.if-tetra-eq0.false c.in-Err.ensures.there c.in-Err.ensures.room

@@ -1,0 +1,185 @@
+//! Usual instructions that do more than give a value or go elsewhere. Each is given with its code as a literal.
+
+ghost use Rattle.std.specs.Prelude.{◌≡◌, ◌<◌, false};
+ghost use Rattle.mx_core.specs.Calls.{KeepsWhereNot, MakesWhereTold, settled, store_outcome};
+ghost use Rattle.mx_core.specs.Deeds.{deed_at, deed_of, outcome};
+ghost use Rattle.mx_core.specs.Instructions.{operation_in, x_of};
+ghost use Rattle.mx_core.specs.Kept.{state_of};
+
+use crate::Machine;
+use crate::instruction::Instruction;
+use crate::machine::SEGMENT;
+use crate::operation::{Operation, Storing};
+use crate::part::{overflows, stored_part, stored_value};
+use crate::trips::RJ;
+use mx_mem::{Part, with_part};
+
+impl Machine {
+    /// MULU, DIV and DIVU, which give more than a result.
+    #[inline(always)]
+    pub(crate) fn compute_known(&mut self, i: &Instruction) -> bool
+        ensures made { MakesWhereTold (λ s. outcome s (deed_at s i.now)) result self.old self.new }
+        ensures kept { KeepsWhereNot result self.old self.new }
+    {
+        match i.operation() {
+            Operation::Compute => match self.compute(i) {
+                Ok(()) => true,
+                Err(_) => false,
+            },
+            _ => false,
+        }
+    }
+
+    /// GO.
+    #[inline(always)]
+    pub(crate) fn go_known(&mut self, i: &Instruction) -> bool
+        ensures made { MakesWhereTold (λ s. outcome s (deed_at s i.now)) result self.old self.new }
+        ensures kept { KeepsWhereNot result self.old self.new }
+    {
+        match i.operation() {
+            Operation::Go => match self.go(i) {
+                Ok(()) => true,
+                Err(_) => false,
+            },
+            _ => false,
+        }
+    }
+
+    /// STB to STCO.
+    #[inline(always)]
+    pub(crate) fn store_known(&mut self, i: &Instruction) -> bool
+        ensures made { MakesWhereTold (λ s. outcome s (deed_at s i.now)) result self.old self.new }
+        ensures kept { KeepsWhereNot result self.old self.new }
+    {
+        match i.operation() {
+            Operation::Store(how) => self.store_if_usual(how, i),
+            _ => false,
+        }
+    }
+
+    /// PUSHJ.
+    #[inline(always)]
+    pub(crate) fn push_known(&mut self, i: &Instruction) -> bool
+        ensures made { MakesWhereTold (λ s. outcome s (deed_at s i.now)) result self.old self.new }
+        ensures kept { KeepsWhereNot result self.old self.new }
+    {
+        match i.operation() {
+            Operation::PushJump => match self.push_jump(i) {
+                Ok(()) => true,
+                Err(_) => false,
+            },
+            _ => false,
+        }
+    }
+
+    /// POP.
+    #[inline(always)]
+    pub(crate) fn pop_known(&mut self, i: &Instruction) -> bool
+        ensures made { MakesWhereTold (λ s. outcome s (deed_at s i.now)) result self.old self.new }
+        ensures kept { KeepsWhereNot result self.old self.new }
+    {
+        match i.operation() {
+            Operation::Pop => match self.pop(i) {
+                Ok(()) => true,
+                Err(_) => false,
+            },
+            _ => false,
+        }
+    }
+
+    /// PUT.
+    #[inline(always)]
+    pub(crate) fn put_known(&mut self, i: &Instruction) -> bool
+        ensures made { MakesWhereTold (λ s. outcome s (deed_at s i.now)) result self.old self.new }
+        ensures kept { KeepsWhereNot result self.old self.new }
+    {
+        match i.operation() {
+            Operation::Put => self.put_link_if_usual(i),
+            _ => false,
+        }
+    }
+
+    /// GET.
+    #[inline(always)]
+    pub(crate) fn get_known(&mut self, i: &Instruction) -> bool
+        ensures made { MakesWhereTold (λ s. outcome s (deed_at s i.now)) result self.old self.new }
+        ensures kept { KeepsWhereNot result self.old self.new }
+    {
+        match i.operation() {
+            Operation::Get => match self.get_special(i) {
+                Ok(()) => true,
+                Err(_) => false,
+            },
+            _ => false,
+        }
+    }
+
+    /// STB to STCO below Stack_Segment, where the page is near and no sign is lost.
+    #[tactic(auto)]
+    #[inline(always)]
+    fn store_if_usual(&mut self, how: Storing, i: &Instruction) -> bool
+        ensures made { MakesWhereTold (λ s. outcome s (deed_of (Operation.Store how) s i.now)) result self.old self.new }
+        ensures kept { KeepsWhereNot result self.old self.new }
+    {
+        let a = self.data_address(i);
+        let x = self.x_register(i);
+        if a >= SEGMENT {
+            return false;
+        }
+        if overflows(how, x) {
+            return false;
+        }
+        if self.store_if_near(a, stored_part(how), stored_value(how, x, i.x())) {
+            self.go_to(i.next());
+            true
+        } else {
+            false
+        }
+    }
+
+    /// PUT of rJ, which stands in each subroutine that calls others.
+    #[tactic(auto, using(crate::proofs::PutValues::put_link))]
+    #[inline(always)]
+    fn put_link_if_usual(&mut self, i: &Instruction) -> bool
+        requires { operation_in i.now ≡ Operation.Put }
+        ensures made { MakesWhereTold (λ s. outcome s (deed_of Operation.Put s i.now)) result self.old self.new }
+        ensures kept { KeepsWhereNot result self.old self.new }
+    {
+        if i.x() != RJ || i.y() != 0 {
+            return false;
+        }
+        self.put(RJ, self.z_operand(i));
+        self.go_to(i.next());
+        true
+    }
+
+    /// $X gets a value, and the machine goes on at an address, if there is room for the register.
+    #[tactic(auto, unfolding(crate::specs::Calls::set_outcome, crate::specs::Calls::settled))]
+    #[inline(always)]
+    pub(crate) fn settle_if_room(&mut self, i: &Instruction, x: u64, next: u64) -> bool
+        ensures made { MakesWhereTold (λ s. settled s (x_of i.now) x next) result self.old self.new }
+        ensures kept { KeepsWhereNot result self.old self.new }
+    {
+        match self.set(i.x(), x) {
+            Ok(()) => {
+                self.go_to(next);
+                true
+            }
+            Err(_) => false,
+        }
+    }
+
+    /// The low bytes of `x` are stored in the part that holds an address below Stack_Segment, if its page is near.
+    #[tactic(auto, unfolding(crate::specs::Kept::state_of, crate::specs::State::octa, crate::specs::State::with_octa, crate::specs::Calls::store_outcome))]
+    #[inline(always)]
+    fn store_if_near(&mut self, a: u64, part: Part, x: u64) -> bool
+        requires { a < 0x6000_0000_0000_0000 }
+        ensures made { MakesWhereTold (λ s. store_outcome s a part x) result self.old self.new }
+        ensures kept { KeepsWhereNot result self.old self.new }
+    {
+        match self.memory.near_octa(a) {
+            Some(octa) => self.memory.store_if_near(a, with_part(part, octa, a, x)),
+            None => false,
+        }
+    }
+}

@@ -1,0 +1,217 @@
+//! What usual instructions give, and where they go. Each is given with its code as a literal.
+
+ghost use Rattle.std.specs.Prelude.{◌≡◌, IfSome, Ok};
+ghost use Rattle.mx_core.specs.Calls.{settled};
+ghost use Rattle.mx_core.specs.Deeds.{deed_of, onward, outcome};
+ghost use Rattle.mx_core.specs.Instructions.{next_of, operation_in, x_of};
+ghost use Rattle.mx_core.specs.Kept.{state_of};
+ghost use Rattle.mx_core.specs.UsualDeeds.{IsUsual};
+
+use crate::Machine;
+use crate::compute::{holds, wyde_value};
+use crate::instruction::Instruction;
+use crate::machine::SEGMENT;
+use crate::operation::{Loading, Operation};
+use crate::part::loaded_value;
+use crate::usual::Usual;
+use mx_alu::{lone_result, wyde};
+
+impl Machine {
+    /// What MUL to SRU and OR to MXOR give $X, where it is all that they give.
+    #[tactic(auto, using(crate::proofs::Events::compute_alone, crate::proofs::Tables::computes, crate::proofs::Tables::computes_low))]
+    #[inline(always)]
+    fn computed_value(&self, i: &Instruction) -> Option<u64>
+        requires { operation_in i.now ≡ Operation.Compute }
+        ensures { IfSome result (λ x. outcome (state_of self.now) (deed_of Operation.Compute (state_of self.now) i.now)
+            ≡ settled (state_of self.now) (x_of i.now) x (next_of i.now)) }
+    {
+        lone_result(i.code(), self.y_operand(i), self.z_operand(i), self.extra())
+    }
+
+    /// The same, once the code is known.
+    #[inline(always)]
+    pub(crate) fn computed(&self, i: &Instruction) -> Usual
+        ensures { IsUsual result (state_of self.now) i.now }
+    {
+        match i.operation() {
+            Operation::Compute => match self.computed_value(i) {
+                Some(x) => Usual::Gives(x),
+                None => Usual::Other,
+            },
+            _ => Usual::Other,
+        }
+    }
+
+    /// What NEG and NEGU give $X, where it is all that they give.
+    #[tactic(auto, using(crate::proofs::Events::negate_alone, crate::proofs::Tables::negates, crate::proofs::Tables::negates_low))]
+    #[inline(always)]
+    fn negated_value(&self, i: &Instruction) -> Option<u64>
+        requires { operation_in i.now ≡ Operation.Negate }
+        ensures { IfSome result (λ x. outcome (state_of self.now) (deed_of Operation.Negate (state_of self.now) i.now)
+            ≡ settled (state_of self.now) (x_of i.now) x (next_of i.now)) }
+    {
+        lone_result(i.code(), u64::from(i.y()), self.z_operand(i), self.extra())
+    }
+
+    /// The same, once the code is known.
+    #[inline(always)]
+    pub(crate) fn negated(&self, i: &Instruction) -> Usual
+        ensures { IsUsual result (state_of self.now) i.now }
+    {
+        match i.operation() {
+            Operation::Negate => match self.negated_value(i) {
+                Some(x) => Usual::Gives(x),
+                None => Usual::Other,
+            },
+            _ => Usual::Other,
+        }
+    }
+
+    /// What SETH to ANDNL give $X.
+    #[tactic(auto, using(crate::proofs::Outcomes::wyde_outcome, crate::proofs::Tables::wyde_low, crate::proofs::Tables::wyde_high))]
+    #[inline(always)]
+    fn with_wyde_value(&self, i: &Instruction) -> Option<u64>
+        requires { operation_in i.now ≡ Operation.Wyde }
+        ensures { IfSome result (λ x. outcome (state_of self.now) (deed_of Operation.Wyde (state_of self.now) i.now)
+            ≡ settled (state_of self.now) (x_of i.now) x (next_of i.now)) }
+    {
+        match i.given {
+            None => Some(wyde(i.code(), self.x_register(i), wyde_value(i))),
+            Some((y, z)) => Some(wyde(i.code(), y, z)),
+        }
+    }
+
+    /// The same, once the code is known.
+    #[inline(always)]
+    pub(crate) fn with_wyde(&self, i: &Instruction) -> Usual
+        ensures { IsUsual result (state_of self.now) i.now }
+    {
+        match i.operation() {
+            Operation::Wyde => match self.with_wyde_value(i) {
+                Some(x) => Usual::Gives(x),
+                None => Usual::Other,
+            },
+            _ => Usual::Other,
+        }
+    }
+
+    /// What CSN to CSEV give $X.
+    #[tactic(auto, using(crate::proofs::Outcomes::conditional_outcome), unfolding(crate::specs::Operations::has_condition))]
+    #[inline(always)]
+    fn chosen_value(&self, i: &Instruction) -> Option<u64>
+        requires { operation_in i.now ≡ Operation.ConditionalSet }
+        ensures { IfSome result (λ x. outcome (state_of self.now) (deed_of Operation.ConditionalSet (state_of self.now) i.now)
+            ≡ settled (state_of self.now) (x_of i.now) x (next_of i.now)) }
+    {
+        if holds(i, self.y_operand(i)) {
+            Some(self.z_operand(i))
+        } else {
+            Some(self.x_register(i))
+        }
+    }
+
+    /// The same, once the code is known.
+    #[inline(always)]
+    pub(crate) fn chosen(&self, i: &Instruction) -> Usual
+        ensures { IsUsual result (state_of self.now) i.now }
+    {
+        match i.operation() {
+            Operation::ConditionalSet => match self.chosen_value(i) {
+                Some(x) => Usual::Gives(x),
+                None => Usual::Other,
+            },
+            _ => Usual::Other,
+        }
+    }
+
+    /// What LDB to LDUNC give $X below Stack_Segment, where the page is near.
+    #[tactic(auto, using(crate::proofs::Loads::load_below))]
+    #[inline(always)]
+    fn loaded_here(&self, how: Loading, i: &Instruction) -> Option<u64>
+        ensures { IfSome result (λ x. outcome (state_of self.now) (deed_of (Operation.Load how) (state_of self.now) i.now)
+            ≡ settled (state_of self.now) (x_of i.now) x (next_of i.now)) }
+    {
+        let a = self.data_address(i);
+        if a >= SEGMENT {
+            return None;
+        }
+        match self.near_octa(a) {
+            Some(octa) => Some(loaded_value(how, octa, a)),
+            None => None,
+        }
+    }
+
+    /// The same, once the code is known.
+    #[inline(always)]
+    pub(crate) fn brought(&self, i: &Instruction) -> Usual
+        ensures { IsUsual result (state_of self.now) i.now }
+    {
+        match i.operation() {
+            Operation::Load(how) => match self.loaded_here(how, i) {
+                Some(x) => Usual::Gives(x),
+                None => Usual::Other,
+            },
+            _ => Usual::Other,
+        }
+    }
+
+    /// What GETA gives $X.
+    #[tactic(auto, using(crate::proofs::Outcomes::address_outcome))]
+    #[inline(always)]
+    pub(crate) fn near_one(&self, i: &Instruction) -> Usual
+        ensures { IsUsual result (state_of self.now) i.now }
+    {
+        match i.operation() {
+            Operation::Address => Usual::Gives(i.near_address()),
+            _ => Usual::Other,
+        }
+    }
+
+    /// Where BN to PBEV go.
+    #[tactic(auto, using(crate::proofs::Others::branch_outcome), unfolding(crate::specs::Operations::has_condition))]
+    #[inline(always)]
+    fn branched_address(&self, i: &Instruction) -> u64
+        requires { operation_in i.now ≡ Operation.Branch }
+        ensures { outcome (state_of self.now) (deed_of Operation.Branch (state_of self.now) i.now)
+            ≡ Ok (onward (state_of self.now) result) }
+    {
+        if holds(i, self.x_register(i)) {
+            i.near_address()
+        } else {
+            i.next()
+        }
+    }
+
+    /// The same, once the code is known.
+    #[inline(always)]
+    pub(crate) fn branched(&self, i: &Instruction) -> Usual
+        ensures { IsUsual result (state_of self.now) i.now }
+    {
+        match i.operation() {
+            Operation::Branch => Usual::GoesTo(self.branched_address(i)),
+            _ => Usual::Other,
+        }
+    }
+
+    /// Where JMP goes.
+    #[tactic(auto, using(crate::proofs::Others::jump_outcome))]
+    #[inline(always)]
+    fn jumped_address(&self, i: &Instruction) -> u64
+        requires { operation_in i.now ≡ Operation.Jump }
+        ensures { outcome (state_of self.now) (deed_of Operation.Jump (state_of self.now) i.now)
+            ≡ Ok (onward (state_of self.now) result) }
+    {
+        i.far_address()
+    }
+
+    /// The same, once the code is known.
+    #[inline(always)]
+    pub(crate) fn jumped(&self, i: &Instruction) -> Usual
+        ensures { IsUsual result (state_of self.now) i.now }
+    {
+        match i.operation() {
+            Operation::Jump => Usual::GoesTo(self.jumped_address(i)),
+            _ => Usual::Other,
+        }
+    }
+}

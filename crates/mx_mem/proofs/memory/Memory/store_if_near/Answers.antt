@@ -1,0 +1,52 @@
+use Rattle.std.proofs.Common.{length, ◌<◌, ◌/◌, ◌%◌, ◌≡◌, true, refl, sym, ◌∙◌, ap, arith}
+use Rattle.std.proofs.Math.ListN.{set}
+use Rattle.std.proofs.lemmas.Grind.{common_steps}
+use Rattle.mx_mem.specs.Memory.{octa_at, has_page, page_count, stored_at}
+use Rattle.mx_mem.specs.Held.{view_of}
+use Rattle.mx_mem.proofs.Stores.{rewritten, rewritten-by, rewritten-indexed, rewritten-bounded, length-kept, stored-octas, stored-pages, stored-count, stored-there, stored-new}
+use Rattle.std.proofs.lemmas.Result.{on_ok_weaker}
+use Rattle.mx_mem.proofs.PartBytes.{octa-bytes}
+use Rattle.mx_mem.proofs.Fits.{store-fits}
+use Rattle.mx_mem.proofs.memory.Memory.store_if_near.Goals as goal
+
+-- the page that was written to, among the pages
+pages-after : (c : goal.After-self-1) → set c.self.inside.pages.items c.in-Some.place c.put.new.self ≡ rewritten c.self.inside.pages.items c.in-Some.place (c.args.a / 8 % 512) c.args.x
+pages-after c =
+    let within : c.in-Some.place < length c.self.inside.pages.items = rw c.deref.ensures.value at c.in-Some.ensures.within in
+    rewritten-by c.self.inside.pages.items c.in-Some.place (c.args.a / 8 % 512) c.args.x c.index_mut.result.now c.put.new.self within c.index_mut.ensures.value c.put.ensures
+
+-- the octas after the store
+octas-after : (c : goal.After-self-1) → octa_at (view_of (set c.self.inside.pages.items c.in-Some.place c.put.new.self) c.self.inside.places.entries) ≡ stored_at (octa_at (view_of c.self.inside.pages.items c.self.inside.places.entries)) c.args.a c.args.x
+octas-after c =
+    ap (λ pages. octa_at (view_of pages c.self.inside.places.entries)) (pages-after c)
+    ∙ stored-octas c.self.inside.pages.items c.self.inside.places _ c.args.a c.args.x c.in-Some.place c.self.invariant.indexed c.self.invariant.bounded refl c.in-Some.ensures.place
+
+pub invariant_of-self : goal.invariant_of-self
+invariant_of-self c =
+    let within : c.in-Some.place < length c.self.inside.pages.items = rw c.deref.ensures.value at c.in-Some.ensures.within in
+    record {
+      indexed = rw (pages-after c) (rewritten-indexed c.self.inside.pages.items c.self.inside.places c.in-Some.place (c.args.a / 8 % 512) c.args.x within c.self.invariant.indexed);
+      bounded = rw (pages-after c) (rewritten-bounded c.self.inside.pages.items c.in-Some.place (c.args.a / 8 % 512) c.args.x within c.self.invariant.bounded);
+      count = c.self.invariant.count ∙ sym (ap length (pages-after c) ∙ length-kept c.self.inside.pages.items c.in-Some.place (c.args.a / 8 % 512) c.args.x);
+      fits = store-fits (octa_at (view_of c.self.inside.pages.items c.self.inside.places.entries)) _ c.args.a c.args.x (octas-after c) (omega (arith, c.ranges.x)) c.self.invariant.fits;
+    }
+
+pub returns-in-Some-clause-octas : goal.returns-in-Some-clause-octas
+returns-in-Some-clause-octas c _ =
+    ap (λ pages. octa_at (view_of pages c.self.inside.places.entries)) (pages-after c)
+    ∙ stored-octas c.self.inside.pages.items c.self.inside.places _ c.args.a c.args.x c.in-Some.place c.self.invariant.indexed c.self.invariant.bounded c.self.view_is c.in-Some.ensures.place
+
+pub returns-in-Some-clause-pages : goal.returns-in-Some-clause-pages
+returns-in-Some-clause-pages c _ =
+    ap (λ pages. has_page (view_of pages c.self.inside.places.entries)) (pages-after c)
+    ∙ stored-pages c.self.inside.pages.items c.self.inside.places _ (c.args.a / 4096) (c.args.a / 8 % 512) c.args.x c.in-Some.place c.self.view_is c.in-Some.ensures.place
+
+pub returns-in-Some-clause-count : goal.returns-in-Some-clause-count
+returns-in-Some-clause-count c _ =
+    let there : has_page c.args.self.now (c.args.a / 4096) ≡ true = stored-there c.self.inside.pages.items c.self.inside.places _ (c.args.a / 4096) c.in-Some.place c.self.view_is c.in-Some.ensures.place in
+    ap (λ pages. page_count (view_of pages c.self.inside.places.entries)) (pages-after c)
+    ∙ stored-count c.self.inside.pages.items c.self.inside.places c.args.self.now (c.args.a / 8 % 512) c.args.x c.in-Some.place c.self.view_is
+    ∙ grind (arith, common_steps)
+
+pub returns-in-Some-clause-there : goal.returns-in-Some-clause-there
+returns-in-Some-clause-there c _ = stored-there c.self.inside.pages.items c.self.inside.places _ (c.args.a / 4096) c.in-Some.place c.self.view_is c.in-Some.ensures.place
