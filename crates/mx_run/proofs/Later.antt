@@ -13,7 +13,7 @@ use Rattle.mx_core.specs.declared.step.Step.TheVariants as made
 use Rattle.mx_core.proofs.StepCounts.{CountsOne, step-count}
 use Rattle.mx_run.specs.Runs.{IsLater}
 use Rattle.mx_run.specs.Turns.{with_touch_if}
-use Rattle.mx_run.proofs.RunSteps.{free-unmoved}
+use Rattle.mx_run.proofs.FreeSteps.{free-unmoved}
 
 -- COUNTS
 

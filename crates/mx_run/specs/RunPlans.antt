@@ -1,6 +1,6 @@
 -- A run as a plan: the turns that it makes of the machine, one after another, up to its end (MMIXware, the part on
 -- MMIX-SIM, the commands `b`, `t` and `c`).
-use Rattle.std.specs.Prelude.{ℕ, zero, suc, ◌*◌, ◌/◌, ◌&&◌, not, ◌≡◌, ◌⊎◌, IsTrue, Bool, false, if◌then◌else◌, Option, None, Some}
+use Rattle.std.specs.Prelude.{ℕ, zero, suc, ◌/◌, ◌&&◌, not, ◌≡◌, ◌⊎◌, IsTrue, Bool, false, if◌then◌else◌, None, Result, Ok, Err}
 use Rattle.mx_mem.specs.Space.{Contents}
 use Rattle.mx_host.specs.HostModel.{HostModel}
 use Rattle.mx_plan.specs.Plan.{Plan, returns, bind, Acts, Stops}
@@ -13,10 +13,9 @@ use Rattle.mx_core.specs.MachineSpace.{machine_contents, state_in}
 use Rattle.mx_core.specs.State.{State}
 use Rattle.mx_core.specs.Step.{Stepped, went, calls, stopped, step}
 use Rattle.mx_core.specs.Stepping.{step_needs_page}
-use Rattle.mx_core.specs.declared.trace.Trace.{Trace}
-use Rattle.mx_run.specs.Runs.{FlagsOf, break_of, trace_if}
-use Rattle.mx_run.specs.Turns.{area_size, with_touch_if, turn, turn_answer}
-use Rattle.mx_run.specs.declared.end.BreakKind.{BreakKind}
+use Rattle.mx_run.specs.RunSteps.{end_of_turn}
+use Rattle.mx_run.specs.Runs.{FlagsOf, Ended}
+use Rattle.mx_run.specs.Turns.{Answered, area_size, with_touch_if, turn, turn_answer}
 use Rattle.mx_run.specs.declared.end.BreakKind.TheVariants.{Execute}
 use Rattle.mx_run.specs.declared.end.End.{End}
 use Rattle.mx_run.specs.declared.end.End.TheVariants as end
@@ -38,8 +37,15 @@ RunSays looking = ℕ
 abbrev pub RunWorld : Type 0
 RunWorld = State × HostModel
 
+-- an answer beside such a world; and the end of a run
+abbrev pub beside_world : {A : Type 0} → Answered A → A × RunWorld
+beside_world t = (t.0, (t.1, t.2))
+
+abbrev pub ended_world : Ended → End × RunWorld
+ended_world e = (e.end, (e.state, e.host))
+
 abbrev pub run_act : (o : RunCall) → RunWorld → RunSays o × RunWorld
-run_act turning w = turn_answer (turn w.0 w.1)
+run_act turning w = beside_world (turn_answer (turn w.0 w.1))
 run_act looking w = (w.0.pc, w)
 
 -- A file trap that lacks memory leaves the bytes that it moved and the calls that it made, and nothing else changed; it
@@ -74,30 +80,28 @@ look = plan.calls looking (λ pc. returns pc)
 
 -- ---- a run
 
--- what follows a step that was made from an address: the run breaks where the step read or wrote a tetra with that flag; it
--- ends where the step was to be traced; else it goes on
-abbrev pub after_step : RunPlan End → Bool → Trace → Option (BreakKind × ℕ) → RunPlan End
-after_step more traced trace (Some (kind, n)) = returns (end.Broke kind (4 * n) (trace_if traced trace))
-after_step more traced trace None = if traced then returns (end.Traced trace) else more
-
--- what follows a turn from an address
-abbrev pub after_turning : RunPlan End → FlagsOf → ℕ → TurnAnswer → RunPlan End
-after_turning more f pc (answer.Went trace) = after_step more (f (pc / 4)).t trace (break_of f trace)
-after_turning more f pc (answer.Halted status) = returns (end.Halted status)
-after_turning more f pc (answer.Stopped reason) = returns (end.Stopped pc reason)
-after_turning more f pc answer.OutOfMemory = returns end.OutOfMemory
+-- a turn from an address, and whether the run ends with it
+unfoldable pub ended_turn : FlagsOf → ℕ → RunPlan (Result (Unit {0}) End)
+ended_turn f pc = bind (λ answer. returns (end_of_turn f pc answer)) turn_plan
 
 -- at an address: the run breaks where the tetra there has the flag of its execution, but not with `pass`; else there is a
 -- turn
-abbrev pub turn_at : RunPlan End → FlagsOf → Bool → ℕ → RunPlan End
-turn_at more f pass pc =
-    if (f (pc / 4)).x && not pass then returns (end.Broke Execute pc None)
-    else bind (after_turning more f pc) turn_plan
+abbrev pub step_at : FlagsOf → Bool → ℕ → RunPlan (Result (Unit {0}) End)
+step_at f pass pc = if (f (pc / 4)).x && not pass then returns (Err (end.Broke Execute pc None)) else ended_turn f pc
+
+-- a step of a run, or its end
+unfoldable pub step_plan : FlagsOf → Bool → RunPlan (Result (Unit {0}) End)
+step_plan f pass = bind (step_at f pass) look
+
+-- what follows a step: the run goes on, or it ended
+abbrev pub run_next : RunPlan End → Result (Unit {0}) End → RunPlan End
+run_next more (Ok u) = more
+run_next more (Err end) = returns end
 
 -- at most n steps; with `pass` the first one is made also where the run would break before it
 unfoldable pub run_plan : ℕ → FlagsOf → Bool → RunPlan End
 run_plan zero f pass = returns end.Spent
-run_plan (suc n) f pass = bind (turn_at (run_plan n f false) f pass) look
+run_plan (suc n) f pass = bind (run_next (run_plan n f false)) (step_plan f pass)
 
 -- ---- where memory may not run out
 
@@ -111,3 +115,15 @@ SparesOn Next (stopped reason) = Unit {0}
 unfoldable pub SparesMemory : ℕ → State → Type 0
 SparesMemory zero s = Unit {0}
 SparesMemory (suc n) s = (step_needs_page s ≡ false) × SparesOn (SparesMemory n) (step s)
+
+-- what is left of that where this was answered and this state left, and steps are still to be made: no want of memory, and
+-- the same of the steps that follow
+abbrev pub SparesAfter : ℕ → TurnAnswer → State → Type 0
+SparesAfter n (answer.Went trace) t = SparesMemory n t
+SparesAfter n answer.OutOfMemory t = ⊥
+SparesAfter n other t = Unit {0}
+
+abbrev pub SparesStep : ℕ → Result (Unit {0}) End → State → Type 0
+SparesStep n (Ok u) t = SparesMemory n t
+SparesStep n (Err end.OutOfMemory) t = ⊥
+SparesStep n (Err other) t = Unit {0}

@@ -1,13 +1,7 @@
--- A step of a run: what it answers and leaves, and whether the run ends with it.
+-- A step of a run: whether the run ends with it.
 use Rattle.std.specs.Prelude.{ℕ, ◌/◌, ◌*◌, Bool, if◌then◌else◌, Option, None, Some, Result, Ok, Err}
-use Rattle.mx_host.specs.HostModel.{HostModel}
-use Rattle.mx_trap.specs.Moves.{Leaves}
-use Rattle.mx_trap.specs.declared.answer.TrapAnswer.{TrapAnswer}
-use Rattle.mx_core.specs.MachineSpace.{state_in}
-use Rattle.mx_core.specs.State.{State}
 use Rattle.mx_core.specs.declared.trace.Trace.{Trace}
-use Rattle.mx_run.specs.Runs.{FlagsOf, Ended, ended, break_of, trace_if, breaks_before}
-use Rattle.mx_run.specs.Turns.{Answered, turn_answer, turn, area_size}
+use Rattle.mx_run.specs.Runs.{FlagsOf, break_of, trace_if}
 use Rattle.mx_run.specs.declared.end.BreakKind.{BreakKind}
 use Rattle.mx_run.specs.declared.end.BreakKind.TheVariants.{Read, Write, Execute}
 use Rattle.mx_run.specs.declared.end.End.{End}
@@ -17,10 +11,6 @@ use Rattle.mx_run.specs.declared.steps.Going.{Going}
 use Rattle.mx_run.specs.declared.steps.Going.TheVariants as going
 use Rattle.mx_run.specs.declared.turn_answer.TurnAnswer.{TurnAnswer}
 use Rattle.mx_run.specs.declared.turn_answer.TurnAnswer.TheVariants as answer
-
--- the state that a file trap leaves, for the contents of the machine
-abbrev pub state_left : Leaves TrapAnswer State → Answered TrapAnswer
-state_left (value, c, m) = (value, state_in c area_size, m)
 
 -- the flag of a tetra that a break of a kind stands for
 abbrev pub break_flag : BreakKind → Flags → Bool
@@ -39,21 +29,7 @@ end_of_turn f pc (answer.Halted status) = Err (end.Halted status)
 end_of_turn f pc (answer.Stopped reason) = Err (end.Stopped pc reason)
 end_of_turn f pc answer.OutOfMemory = Err end.OutOfMemory
 
-abbrev pub turn_ended : FlagsOf → ℕ → Answered TurnAnswer → Answered (Result (Unit {0}) End)
-turn_ended f pc a = (end_of_turn f pc a.0, a.1, a.2)
-
--- a step of a run, or its end
-unfoldable pub run_step : FlagsOf → Bool → State → HostModel → Answered (Result (Unit {0}) End)
-run_step f pass s m =
-    if breaks_before f pass s then (Err (end.Broke Execute s.pc None), s, m)
-    else turn_ended f s.pc (turn_answer (turn s m))
-
 -- the answer of a step, by whether the run goes on after it
 abbrev pub answer_by : Going → End → Result (Unit {0}) End
 answer_by going.On end = Ok tt
 answer_by going.Over end = Err end
-
--- what follows a step of a run
-abbrev pub run_after : (State → HostModel → Ended) → Answered (Result (Unit {0}) End) → Ended
-run_after more (Ok u, s, m) = more s m
-run_after more (Err e, s, m) = ended e s m
