@@ -47,3 +47,4 @@ pub mod OctaSteps
 pub mod Started
 pub mod SavedFrames
 pub mod MemoryAtStart
+mod Walks

@@ -24,3 +24,4 @@ pub mod Changed
 pub mod Machines
 pub mod Wild
 pub mod MemoryAtStart
+pub mod Walks

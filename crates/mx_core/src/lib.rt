@@ -50,5 +50,5 @@ pub use reason::Reason;
 pub use space_laws::{contents_tell_the_state, machines_are_whole};
 pub use start::StartFault;
 pub use start_laws::arguments_stand_in_the_pool;
-pub use step::{Advance, Step};
+pub use step::{Advance, Advanced, Step};
 pub use trace::{Touch, Trace};

@@ -1,6 +1,6 @@
 //! One step.
 
-ghost use Rattle.std.specs.Prelude.{◌≡◌, ◌≢◌, ◌<◌, ◌^◌, IsTrue};
+ghost use Rattle.std.specs.Prelude.{◌≡◌, ◌≢◌, ◌<◌, ◌≤◌, ◌^◌, IsTrue};
 ghost use Rattle.mx_core.specs.Calls.{KeepsOnErr, LacksMemoryOnlyWhere, MakesWithMemory};
 ghost use Rattle.mx_core.specs.Deeds.{deed_at, outcome};
 ghost use Rattle.mx_core.specs.Instructions.{code_of, instruction, operation_in};
@@ -8,6 +8,7 @@ ghost use Rattle.mx_core.specs.Kept.{state_of};
 ghost use Rattle.mx_core.specs.Groups.{operation_by};
 ghost use Rattle.mx_core.specs.Step as spec;
 ghost use Rattle.mx_core.specs.Told.{answer_in};
+ghost use Rattle.mx_core.specs.Walks.{Goes};
 ghost use Rattle.mx_core.specs.Stepping.{advanced, needs_page, step_answer, step_needs_page};
 
 use crate::groups::{Group, group_of};
@@ -37,6 +38,14 @@ pub enum Advance {
     Trap,
     Stopped(Reason),
     OutOfMemory,
+}
+
+/// How many steps went on, one after another, and what the last call of a step came to: `Went` where as many
+/// steps as were asked for went on, and else what the step behind them comes to, which changed nothing.
+#[derive(Clone, Copy, Debug, PartialEq, Eq)]
+pub struct Advanced {
+    pub made: u64,
+    pub last: Advance,
 }
 
 impl Machine {
@@ -116,6 +125,29 @@ impl Machine {
             Group::Trap => Advance::Trap,
             Group::Other => self.advance_anyhow(),
             group => self.make(group, &i),
+        }
+    }
+
+    /// At most `n` steps without their traces, up to the first that does not go on. They take memory only
+    /// for a store to a page that is not there.
+    #[inline(never)]
+    pub fn advance_many(&mut self, n: u64) -> Advanced
+        ensures goes { Goes result.made (state_of self.old) (state_of self.new) }
+        ensures most { result.made ≤ n }
+        ensures all { result.last ≡ Advance.Went → result.made ≡ n }
+        ensures last { result.last ≢ Advance.Went → result.last ≢ Advance.OutOfMemory →
+            (result.last, state_of self.new) ≡ advanced (state_of self.new) (spec.step (state_of self.new)) }
+        ensures there { result.last ≡ Advance.OutOfMemory → IsTrue (step_needs_page (state_of self.new)) }
+    {
+        for made in 0..n {
+            match self.advance() {
+                Advance::Went => {}
+                last => return Advanced { made, last },
+            }
+        }
+        Advanced {
+            made: n,
+            last: Advance::Went,
         }
     }
 
