@@ -2,7 +2,7 @@
 use Rattle.std.proofs.Common.{◌≡◌, ◌≢◌, ℕ, suc, ◌+◌, ◌/◌, Bool, true, false, IsTrue, cond, List, [], Option, None, Some, Ok, Err, inl, inr, refl, sym, subst, ◌∙◌, ap}
 use Rattle.std.specs.Prelude.{◌&&◌, nat_lt, Result}
 use Rattle.mx_host.specs.HostModel.{HostModel}
-use Rattle.mx_plan.specs.Plan.{Comes, Stops, end_of, bind}
+use Rattle.mx_plan.specs.Plan.{Comes, Stops, bind}
 use Rattle.mx_core.specs.Reasons.{number_of}
 use Rattle.mx_core.specs.State.{State}
 use Rattle.mx_core.specs.Step.{Stepped, went, calls, stopped, step}

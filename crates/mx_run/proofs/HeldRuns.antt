@@ -1,8 +1,8 @@
 -- What every call of a host keeps, every run over it keeps.
-use Rattle.std.proofs.Common.{◌≡◌, ◌≢◌, inl, inr, refl, sym, subst, ap}
-use Rattle.std.specs.Prelude.{Bool, Result, IsTrue}
+use Rattle.std.proofs.Common.{◌≡◌, inl, inr, refl, sym, subst}
+use Rattle.std.specs.Prelude.{Bool}
 use Rattle.mx_host.specs.HostModel.{HostModel}
-use Rattle.mx_plan.specs.Plan.{Comes, Stops, end_of}
+use Rattle.mx_plan.specs.Plan.{Stops, end_of}
 use Rattle.mx_plan.specs.Calls.{host, both, Both}
 use Rattle.mx_plan.specs.Held.{Held, KeepsStreams, OnlyAdds}
 use Rattle.mx_plan.proofs.HeldLaws.{held-end, held-stop, held-on}

@@ -1,5 +1,5 @@
 -- A run only adds to standard output.
-use Rattle.std.proofs.Common.{◌≡◌, ℕ, Bool, refl, sym, subst}
+use Rattle.std.proofs.Common.{◌≡◌, ℕ, Bool, refl, subst}
 use Rattle.std.specs.Prelude.{Result}
 use Rattle.mx_word.specs.Lists.{IsFront}
 use Rattle.mx_host.specs.HostModel.{HostModel}

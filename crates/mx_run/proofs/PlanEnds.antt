@@ -3,7 +3,7 @@ use Rattle.std.proofs.Common.{◌≡◌, ℕ, zero, suc, ◌+◌, ◌-◌, ◌/�
 use Rattle.std.specs.Prelude.{Result, ◌&&◌, not}
 use Rattle.mx_host.specs.HostModel.{HostModel}
 use Rattle.mx_plan.specs.Plan.{returns, bind, Comes, IsRest, Stops, end_of, end_after}
-use Rattle.mx_plan.proofs.Plans.{end_bind, stops_first, stops_after, end_returns, rest_after}
+use Rattle.mx_plan.proofs.Plans.{end_bind, stops_first, end_returns, rest_after}
 use Rattle.mx_core.specs.State.{State}
 use Rattle.mx_core.specs.declared.trace.Trace.{Trace}
 use Rattle.mx_run.specs.FlagMaps.{flags_at}

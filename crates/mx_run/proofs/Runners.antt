@@ -1,16 +1,16 @@
 -- What a runner's clauses say, from the plans that it carries out.
-use Rattle.std.proofs.Common.{◌≡◌, ◌≢◌, ℕ, ◌+◌, ◌-◌, ◌<◌, suc, Bool, ◌≤◌, le_refl, IsTrue, Ok, Err, arith, refl, sym, subst, ◌∙◌, ap}
+use Rattle.std.proofs.Common.{◌≡◌, ◌≢◌, ℕ, ◌+◌, ◌-◌, ◌<◌, suc, Bool, ◌≤◌, le_refl, IsTrue, Ok, Err, arith, refl, subst, ◌∙◌, ap}
 use Rattle.std.specs.Prelude.{Option, Result}
 use Rattle.mx_word.specs.Lists.{IsFront}
 use Rattle.mx_host.specs.HostModel.{HostModel, tells, contents}
 use Rattle.mx_host.specs.Keeping.{Keeps}
 use Rattle.mx_plan.specs.Clauses.{Stands}
 use Rattle.mx_plan.specs.Held.{KeepsStreams}
-use Rattle.mx_plan.specs.Plan.{Comes, end_of}
+use Rattle.mx_plan.specs.Plan.{Comes}
 use Rattle.mx_core.specs.State.{State}
 use Rattle.mx_run.specs.RunPlans.{RunPlan, RunWorld, running, turn_plan, run_plan, SparesMemory, SparesAfter, SparesStep}
-use Rattle.mx_run.specs.Runs.{FlagsOf, Ended, ended, run}
-use Rattle.mx_run.specs.Turns.{Answered, turn_answer, turn}
+use Rattle.mx_run.specs.Runs.{FlagsOf, ended, run}
+use Rattle.mx_run.specs.Turns.{turn_answer, turn}
 use Rattle.mx_run.specs.declared.end.End.{End}
 use Rattle.mx_run.specs.declared.end.End.TheVariants as end
 use Rattle.mx_run.specs.declared.turn_answer.TurnAnswer.{TurnAnswer}

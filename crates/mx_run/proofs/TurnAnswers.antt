@@ -3,7 +3,7 @@ use Rattle.std.proofs.Common.{◌≡◌, ◌≢◌, ℕ, suc, Bool, true, false,
 use Rattle.std.specs.Prelude.{◌||◌}
 use Rattle.mx_host.specs.HostModel.{HostModel}
 use Rattle.mx_trip.specs.declared.call.TrapCall.{TrapCall}
-use Rattle.mx_plan.specs.Plan.{Comes, Stops, end_of}
+use Rattle.mx_plan.specs.Plan.{Comes, Stops}
 use Rattle.mx_plan.specs.Calls.{both}
 use Rattle.mx_trap.specs.FileTraps.{trap_plan, trap_answer}
 use Rattle.mx_trap.specs.Touches.{touches}
@@ -20,8 +20,8 @@ use Rattle.mx_core.specs.declared.reason.Reason.{Reason}
 use Rattle.mx_core.specs.declared.step.Step.TheVariants as made
 use Rattle.mx_core.specs.declared.trace.Trace.{Trace}
 use Rattle.mx_core.proofs.SpaceStates.{told}
-use Rattle.mx_run.specs.RunPlans.{RunWorld, running, beside_world, turn_plan, SparesOn, SparesMemory}
-use Rattle.mx_run.specs.Turns.{Answered, turn_answer, with_touch_if, turn_with, trap_turn, turn_of, turn, area_size}
+use Rattle.mx_run.specs.RunPlans.{running, beside_world, turn_plan, SparesOn, SparesMemory}
+use Rattle.mx_run.specs.Turns.{turn_answer, with_touch_if, turn_with, trap_turn, turn_of, turn}
 use Rattle.mx_run.specs.declared.turn_answer.TurnAnswer.{TurnAnswer}
 use Rattle.mx_run.specs.declared.turn_answer.TurnAnswer.TheVariants as answer
 use Rattle.mx_run.proofs.PlanEnds.{turn-end}

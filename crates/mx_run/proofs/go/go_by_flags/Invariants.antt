@@ -1,4 +1,4 @@
-use Rattle.std.proofs.Common.{IsTrue, false, true, ◌≡◌, ◌-◌}
+use Rattle.std.proofs.Common.{IsTrue, false, ◌≡◌, ◌-◌}
 use Rattle.mx_host.specs.HostModel.{tells, contents}
 use Rattle.mx_plan.specs.Clauses.{Stands}
 use Rattle.mx_plan.specs.Plan.{IsRest}
