@@ -1,5 +1,5 @@
 -- A step of a run without flags, and where a step spares memory.
-use Rattle.std.proofs.Common.{◌≡◌, ◌≢◌, ℕ, suc, ◌+◌, ◌/◌, Bool, true, false, IsTrue, cond, List, [], Option, None, Some, Ok, Err, inl, inr, refl, sym, subst, ◌∙◌, ap}
+use Rattle.std.proofs.Common.{◌≡◌, ℕ, suc, ◌+◌, ◌/◌, Bool, true, false, IsTrue, cond, List, [], Option, None, Some, Ok, Err, inl, inr, refl, sym, subst, ◌∙◌, ap}
 use Rattle.std.specs.Prelude.{◌&&◌, nat_lt, Result}
 use Rattle.mx_host.specs.HostModel.{HostModel}
 use Rattle.mx_plan.specs.Plan.{Comes, Stops, bind}
@@ -8,13 +8,12 @@ use Rattle.mx_core.specs.State.{State}
 use Rattle.mx_core.specs.Step.{Stepped, went, calls, stopped, step}
 use Rattle.mx_core.specs.Stepping.{advanced, step_needs_page}
 use Rattle.mx_core.specs.declared.reason.Reason.{Reason}
-use Rattle.mx_core.specs.declared.step.Advance.{Advance}
 use Rattle.mx_core.specs.declared.step.Advance.TheVariants as advance
 use Rattle.mx_core.specs.declared.trace.Touch.{Touch}
 use Rattle.mx_core.specs.declared.trace.Trace.{Trace}
 use Rattle.mx_run.specs.FlagMaps.{flags_at}
-use Rattle.mx_run.specs.RunPlans.{RunPlan, RunWorld, running, beside_world, look, turn_plan, ended_turn, step_plan, SparesOn, SparesMemory, SparesAfter, SparesStep}
-use Rattle.mx_run.specs.RunSteps.{end_of_trace, end_of_turn}
+use Rattle.mx_run.specs.RunPlans.{RunWorld, running, beside_world, look, turn_plan, ended_turn, step_plan, SparesOn, SparesMemory, SparesAfter, SparesStep}
+use Rattle.mx_run.specs.RunPlans.{end_of_trace, end_of_turn}
 use Rattle.mx_run.specs.Runs.{FlagsOf, flagged_in, break_of}
 use Rattle.mx_run.specs.Turns.{turn_answer, turn_of, turn}
 use Rattle.mx_run.specs.declared.end.BreakKind.{BreakKind}
@@ -81,20 +80,7 @@ pub free-lacking : (entries : List (ℕ × Flags)) (s : State) (m : HostModel) �
     Comes running (s, m) (s, m) (Err OutOfMemory) (Err OutOfMemory) (step_plan (flags_at entries) true)
 free-lacking entries s m h e = with-none entries (s, m) (s, m) _ h (record { ending = λ ne. absurd (ne refl); stopping = λ o. lacking-free s m e })
 
-unmoved-by : (a : Advance) (s t : State) (x : Stepped) → (a, t) ≡ advanced s x → a ≢ advance.Went → t ≡ s
-unmoved-by a s t (went u trace) e other = let first : a ≡ advance.Went = ap (λ p. p.0) e in absurd (other first)
-unmoved-by a s t (calls call) e other = ap (λ p. p.1) e
-unmoved-by a s t (stopped reason) e other = ap (λ p. p.1) e
-
--- whoever does not go on leaves the machine as it is
-pub free-unmoved : (a : Advance) (s t : State) → (a, t) ≡ advanced s (step s) → a ≢ advance.Went → t ≡ s
-free-unmoved a s t e other = unmoved-by a s t (step s) e other
-
-pub same-comes : (s t : State) (m : HostModel) (w : RunWorld) (r : Result (Unit {0}) End) (p : RunPlan (Result (Unit {0}) End)) → t ≡ s → Comes running (t, m) w (Err OutOfMemory) r p →
-    Comes running (s, m) w (Err OutOfMemory) r p
-same-comes s t m w r p e c = subst (λ (u : State). Comes running (u, m) w (Err OutOfMemory) r p) e c
-
-pub ruleset freely = (free-went, free-stopped, free-lacking, free-unmoved, same-comes)
+pub ruleset freely = (free-went, free-stopped, free-lacking)
 
 -- ---- want of memory
 

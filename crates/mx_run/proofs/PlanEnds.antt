@@ -7,8 +7,7 @@ use Rattle.mx_plan.proofs.Plans.{end_bind, stops_first, end_returns, rest_after}
 use Rattle.mx_core.specs.State.{State}
 use Rattle.mx_core.specs.declared.trace.Trace.{Trace}
 use Rattle.mx_run.specs.FlagMaps.{flags_at}
-use Rattle.mx_run.specs.RunPlans.{RunPlan, RunWorld, running, beside_world, ended_world, turn_plan, look, ended_turn, step_plan, run_next, run_plan}
-use Rattle.mx_run.specs.RunSteps.{end_of_trace, end_of_turn}
+use Rattle.mx_run.specs.RunPlans.{RunPlan, RunWorld, running, beside_world, ended_world, turn_plan, look, ended_turn, step_plan, run_next, run_plan, end_of_trace, end_of_turn}
 use Rattle.mx_run.specs.Runs.{FlagsOf, Ended, ended, break_of, as_ended, after_trace, after_turn, breaks_before, run}
 use Rattle.mx_run.specs.Turns.{Answered, turn_answer, Turn, went_on, halts, stops, turn}
 use Rattle.mx_run.specs.declared.end.BreakKind.{BreakKind}

@@ -72,7 +72,7 @@ turn-begun s t m n r c e = subst (λ (p : TurnAnswer × RunWorld). IsFront n.out
 pub turn-spared : (n : ℕ) (r : TurnAnswer) (t : State) → SparesAfter n r t → r ≢ answer.OutOfMemory
 turn-spared n r t h e = subst (λ a. SparesAfter n a t) e h
 
-pub ruleset turns = (turn-told, turn-begun, turn-keeps, turn-spared)
+pub ruleset turns = (turn-spared)
 
 -- ---- a run
 
@@ -83,8 +83,6 @@ run-told n f pass s t m k r c ne = ap (λ (p : End × RunWorld). ended p.0 p.1.0
 pub run-begun : (n : ℕ) (f : FlagsOf) (pass : Bool) (s t : State) (m k : HostModel) (r : End) → Comes running (s, m) (t, k) end.OutOfMemory r (run_plan n f pass) → r ≡ end.OutOfMemory →
     IsFront k.output (run n f pass s m).host.output
 run-begun n f pass s t m k r c e = subst (λ (p : End × RunWorld). IsFront k.output p.1.1.output) (run-end n f pass s m) (output-front (run_plan n f pass) (t, k) (s, m) (c.stopping e))
-
-pub ruleset runs = (run-told, run-begun, run-keeps)
 
 -- ---- want of memory, for the loops
 
@@ -102,5 +100,3 @@ spares-went n i s t u l g h = g (n - (i + 1)) (subst (λ k. SparesMemory k s) (l
 
 pub spares-ended : (n i : ℕ) (s t : State) (e : End) → i < n → Spares (Err e) s t → SparesMemory (n - i) s → e ≢ end.OutOfMemory
 spares-ended n i s t e l g h o = subst (λ (x : End). SparesStep (n - (i + 1)) (Err x) t) o (g (n - (i + 1)) (subst (λ k. SparesMemory k s) (left-after n i l) h))
-
-pub ruleset sparing = (spares-begun, spares-went, spares-ended)

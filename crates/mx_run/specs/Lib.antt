@@ -1,6 +1,5 @@
 pub mod Turns
 pub mod Runs
-pub mod RunSteps
 pub mod WildRuns
 pub mod Clauses
 pub mod FlagMaps

@@ -1,6 +1,6 @@
 -- A run as a plan: the turns that it makes of the machine, one after another, up to its end (MMIXware, the part on
 -- MMIX-SIM, the commands `b`, `t` and `c`).
-use Rattle.std.specs.Prelude.{ℕ, zero, suc, ◌/◌, ◌&&◌, not, ◌≡◌, ◌⊎◌, IsTrue, Bool, false, if◌then◌else◌, None, Result, Ok, Err}
+use Rattle.std.specs.Prelude.{ℕ, zero, suc, ◌*◌, ◌/◌, ◌&&◌, not, ◌≡◌, ◌⊎◌, IsTrue, Bool, false, if◌then◌else◌, Option, None, Some, Result, Ok, Err}
 use Rattle.mx_mem.specs.Space.{Contents}
 use Rattle.mx_host.specs.HostModel.{HostModel}
 use Rattle.mx_plan.specs.Plan.{Plan, returns, bind, Acts, Stops}
@@ -13,9 +13,10 @@ use Rattle.mx_core.specs.MachineSpace.{machine_contents, state_in}
 use Rattle.mx_core.specs.State.{State}
 use Rattle.mx_core.specs.Step.{Stepped, went, calls, stopped, step}
 use Rattle.mx_core.specs.Stepping.{step_needs_page}
-use Rattle.mx_run.specs.RunSteps.{end_of_turn}
-use Rattle.mx_run.specs.Runs.{FlagsOf, Ended}
+use Rattle.mx_core.specs.declared.trace.Trace.{Trace}
+use Rattle.mx_run.specs.Runs.{FlagsOf, Ended, break_of, trace_if}
 use Rattle.mx_run.specs.Turns.{Answered, area_size, with_touch_if, turn, turn_answer}
+use Rattle.mx_run.specs.declared.end.BreakKind.{BreakKind}
 use Rattle.mx_run.specs.declared.end.BreakKind.TheVariants.{Execute}
 use Rattle.mx_run.specs.declared.end.End.{End}
 use Rattle.mx_run.specs.declared.end.End.TheVariants as end
@@ -79,6 +80,19 @@ unfoldable pub look : RunPlan ℕ
 look = plan.calls looking (λ pc. returns pc)
 
 -- ---- a run
+
+-- whether a run ends with a step: it breaks where the step read or wrote a tetra with that flag, and ends where the step was
+-- to be traced
+abbrev pub end_of_trace : Bool → Trace → Option (BreakKind × ℕ) → Result (Unit {0}) End
+end_of_trace traced trace (Some (kind, n)) = Err (end.Broke kind (4 * n) (trace_if traced trace))
+end_of_trace traced trace None = if traced then Err (end.Traced trace) else Ok tt
+
+-- whether it ends with a turn from an address
+abbrev pub end_of_turn : FlagsOf → ℕ → TurnAnswer → Result (Unit {0}) End
+end_of_turn f pc (answer.Went trace) = end_of_trace (f (pc / 4)).t trace (break_of f trace)
+end_of_turn f pc (answer.Halted status) = Err (end.Halted status)
+end_of_turn f pc (answer.Stopped reason) = Err (end.Stopped pc reason)
+end_of_turn f pc answer.OutOfMemory = Err end.OutOfMemory
 
 -- a turn from an address, and whether the run ends with it
 unfoldable pub ended_turn : FlagsOf → ℕ → RunPlan (Result (Unit {0}) End)

@@ -9,7 +9,7 @@ ghost use Rattle.mx_run.specs.RunPlans.{run_plan, SparesMemory};
 ghost use Rattle.mx_run.specs.Runs.{IsLater};
 ghost use Rattle.mx_run.specs.WildRuns.{run_by, list_machine};
 
-use crate::steps::{Going, free_step, run_step};
+use crate::steps::{run_step, step_over};
 use crate::{End, FlagMap};
 use mx_core::Machine;
 use mx_host::Host;
@@ -45,7 +45,6 @@ pub fn go_by_flags<H: Host>(
 }
 
 /// Makes at most n steps, where no tetra has a flag.
-#[tactic(auto, using(crate::proofs::Later::running))]
 pub fn go_freely<H: Host>(
     alloc: Global,
     machine: &mut Machine,
@@ -62,12 +61,16 @@ pub fn go_freely<H: Host>(
     ensures bound { IsLater n (state_of machine.old) (state_of machine.new) }
     ensures stands { Stands (H.told host.old) (H.told host.new) (H.faults host.old) (H.faults host.new) }
 {
-    let mut end = End::Spent;
-    for turn in 0..n {
-        match free_step(alloc, machine, flags, host, &mut end) {
-            Going::On => {}
-            Going::Over => return end,
+    let mut left = n;
+    loop {
+        let walk = machine.advance_many(left);
+        left -= walk.made;
+        if left == 0 {
+            return End::Spent;
+        }
+        match step_over(alloc, machine, flags, host, walk.last) {
+            Ok(()) => left -= 1,
+            Err(end) => return end,
         }
     }
-    End::Spent
 }

@@ -98,7 +98,7 @@ impl Runner {
     ///
     /// Out of memory, a step left the machine as it was. A file trap left the bytes that it moved and the
     /// calls that it made; what was written to standard output is a front of what the turn writes.
-    #[tactic(auto, using(crate::proofs::ListSteps::turning, crate::proofs::Runners::turns))]
+    #[tactic(auto, using(crate::proofs::Runners::turns))]
     pub fn step<H: Host>(&mut self, alloc: Global, host: &mut H) -> TurnAnswer
         ensures plan { CarriesOutRun (H.told host.old) (H.told host.new) (state_of self.old.machine)
             (state_of self.new.machine) TurnAnswer.OutOfMemory result turn_plan }
@@ -123,7 +123,7 @@ impl Runner {
     ///
     /// Out of memory, the turns that were made stay, and of the last one what it leaves then; what was
     /// written to standard output is a front of what the run writes.
-    #[tactic(auto, using(crate::proofs::PlanEnds::choosing, crate::proofs::ListSteps::choosing, crate::proofs::Runners::runs))]
+    #[tactic(auto, using(crate::proofs::PlanEnds::choosing, crate::proofs::ListSteps::choosing))]
     pub fn go<H: Host>(&mut self, alloc: Global, host: &mut H, n: u64, pass: bool) -> End
         ensures plan { CarriesOutRun (H.told host.old) (H.told host.new) (state_of self.old.machine)
             (state_of self.new.machine) End.OutOfMemory result (run_plan n (flags_at self.old.flags) pass) }

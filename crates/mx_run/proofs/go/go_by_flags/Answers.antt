@@ -3,7 +3,7 @@ use Rattle.mx_host.specs.HostModel.{contents}
 use Rattle.mx_core.specs.Kept.{state_of}
 use Rattle.mx_run.specs.FlagMaps.{flags_at}
 use Rattle.mx_run.proofs.Later.{begun-later, turned-later}
-use Rattle.mx_run.proofs.ListSteps.{list-begun, list-went, list-ended, list-spent}
+use Rattle.mx_run.proofs.ListSteps.{list-window, list-begun, list-went, list-ended, list-spent}
 use Rattle.mx_run.proofs.PlanEnds.{rest-begun, rest-went, rest-ended, rest-spent, step-answer}
 use Rattle.mx_run.proofs.Runners.{stands-all, stands-then, spares-begun, spares-went, spares-ended}
 use Rattle.mx_run.proofs.go.go_by_flags.Goals as goal
@@ -20,7 +20,7 @@ loop-turn-init g c = record {
 pub loop-turn-preserved : goal.loop-turn-preserved
 loop-turn-preserved g c = record {
   told = λ t. rest-went _ _ _ _ _ _ _ _ _ c.loop-turn-test.true (c.loop-turn.invariant.told t) ((c.in-Ok.ensures.told (subst IsTrue (sym c.loop-turn.invariant.stands.0) t)).ending (λ e. absurd (cc)));
-  listed = λ t u. list-went _ _ _ _ _ _ _ _ _ _ c.loop-turn-test.true c.in-Ok.ensures.over
+  listed = λ t u. list-went _ _ _ _ _ _ _ _ _ _ c.loop-turn-test.true (list-window _ c.in-Ok.ensures.over)
       (step-answer _ _ _ _ _ _ _ ((c.in-Ok.ensures.told (subst IsTrue (sym c.loop-turn.invariant.stands.0) t)).ending (λ e. absurd (cc)))) (c.loop-turn.invariant.listed t u);
   spared = λ h. spares-went _ _ _ _ _ c.loop-turn-test.true c.in-Ok.ensures.spared (c.loop-turn.invariant.spared h);
   bound = turned-later _ _ _ _ c.loop-turn.invariant.bound c.run_step.ensures.bound;
@@ -40,7 +40,7 @@ returns-in-Err-clause-spared g c = λ h. spares-ended _ _ _ _ _ c.loop-turn-test
 -- beside the list machine
 pub returns-in-Err-clause-listed : goal.returns-in-Err-clause-listed
 returns-in-Err-clause-listed g c = λ t ne u.
-    list-ended _ _ _ _ _ _ _ _ _ _ c.loop-turn-test.true c.in-Err.ensures.over
+    list-ended _ _ _ _ _ _ _ _ _ _ c.loop-turn-test.true (list-window _ c.in-Err.ensures.over)
     (step-answer _ _ _ _ _ _ _ ((c.in-Err.ensures.told (subst IsTrue (sym c.loop-turn.invariant.stands.0) t)).ending (λ e. ne (cc)))) (c.loop-turn.invariant.listed t u)
 
 pub returns-clause-listed : goal.returns-clause-listed

@@ -1,47 +1,50 @@
-use Rattle.std.proofs.Common.{sym, subst, IsTrue, true, false}
-use Rattle.mx_host.specs.HostModel.{contents}
-use Rattle.mx_core.specs.Kept.{state_of}
-use Rattle.mx_run.specs.FlagMaps.{flags_at}
-use Rattle.mx_run.proofs.Later.{begun-later, turned-later}
-use Rattle.mx_run.proofs.ListSteps.{list-begun, list-went, list-ended, list-spent, list-freely}
-use Rattle.mx_run.proofs.PlanEnds.{rest-begun, rest-went, rest-ended, rest-spent, step-answer, rest-freely}
-use Rattle.mx_run.proofs.Runners.{stands-all, stands-then, spares-begun, spares-went, spares-ended}
+use Rattle.std.proofs.Common.{sym, subst, IsTrue}
+use Rattle.mx_run.proofs.Runners.{stands-then}
+use Rattle.mx_run.proofs.Walked.{not-last, all-made, fewer-left, walk-goes-on, walk-ends, walk-spends, walk-listed-on, walk-listed-end, walk-listed-spent, walk-spares-on, walk-spares-end, walk-later, walk-later-on, walk-later-end}
 use Rattle.mx_run.proofs.go.go_freely.Goals as goal
 
-pub loop-turn-init : goal.loop-turn-init
-loop-turn-init g c = record {
-  told = λ t. rest-begun c.args.n (flags_at c.args.flags.now) true (state_of c.args.machine.now, contents (g.H.Host.told c.args.host.now));
-  listed = λ t u. list-begun c.args.n (flags_at c.args.flags.now) true (state_of c.args.machine.now) (contents (g.H.Host.told c.args.host.now)) u;
-  spared = spares-begun c.args.n (state_of c.args.machine.now);
-  bound = begun-later (state_of c.args.machine.now);
-  stands = stands-all (g.H.Host.told c.args.host.now) (g.H.Host.faults c.args.host.now);
-}
+pub returns-then-left-eq0-clause-told : goal.returns-then-left-eq0-clause-told
+returns-then-left-eq0-clause-told g c = λ t.
+    walk-spends _ _ _ _ _ _ _ _ c.requires c.advance_many-walk.ensures.most (all-made _ _ c.if-left-eq0.true) c.advance_many-walk.ensures.goes (c.loop-left.invariant.told t)
 
-pub loop-turn-preserved : goal.loop-turn-preserved
-loop-turn-preserved g c = record {
-  told = λ t. rest-freely _ c.args.flags.now false _ _ _ c.requires (rest-went _ _ _ _ _ _ _ _ _ c.loop-turn-test.true (c.loop-turn.invariant.told t) ((c.in-On.ensures.told (subst IsTrue (sym c.loop-turn.invariant.stands.0) t)).ending (λ e. absurd (cc))));
-  listed = λ t u. list-freely _ c.args.flags.now false _ _ _ c.requires (list-went _ _ _ _ _ _ _ _ _ _ c.loop-turn-test.true c.in-On.ensures.over
-      (step-answer _ _ _ _ _ _ _ ((c.in-On.ensures.told (subst IsTrue (sym c.loop-turn.invariant.stands.0) t)).ending (λ e. absurd (cc)))) (c.loop-turn.invariant.listed t u));
-  spared = λ h. spares-went _ _ _ _ _ c.loop-turn-test.true c.in-On.ensures.spared (c.loop-turn.invariant.spared h);
-  bound = turned-later _ _ _ _ c.loop-turn.invariant.bound c.free_step.ensures.bound;
-  stands = stands-then _ _ _ _ _ _ c.loop-turn.invariant.stands c.free_step.ensures.stands;
-}
+pub returns-then-left-eq0-clause-listed : goal.returns-then-left-eq0-clause-listed
+returns-then-left-eq0-clause-listed g c = λ t ne u.
+    walk-listed-spent _ _ _ _ _ _ _ c.requires c.advance_many-walk.ensures.most (all-made _ _ c.if-left-eq0.true) c.advance_many-walk.ensures.goes (c.loop-left.invariant.listed t u)
 
-pub returns-in-Over-clause-told : goal.returns-in-Over-clause-told
-returns-in-Over-clause-told g c = λ t.
-    rest-ended _ _ _ _ _ _ _ _ _ c.loop-turn-test.true (c.loop-turn.invariant.told t) (c.in-Over.ensures.told (subst IsTrue (sym c.loop-turn.invariant.stands.0) t))
+pub returns-then-left-eq0-clause-bound : goal.returns-then-left-eq0-clause-bound
+returns-then-left-eq0-clause-bound g c = walk-later _ _ _ _ _ _ c.loop-left.invariant.few c.advance_many-walk.ensures.most c.loop-left.invariant.bound c.advance_many-walk.ensures.goes
 
-pub returns-clause-told : goal.returns-clause-told
-returns-clause-told g c = λ t. rest-spent _ _ _ _ _ _ _ c.loop-turn-test.false (c.loop-turn.invariant.told t)
+pub loop-left-preserved : goal.loop-left-preserved
+loop-left-preserved g c =
+    let some = not-last _ _ c.advance_many-walk.ensures.most c.if-left-eq0.false in
+    let walk = c.advance_many-walk.ensures.goes in
+    record {
+      told = λ t. walk-goes-on _ _ _ _ _ _ _ _ _ _ c.requires some walk (c.loop-left.invariant.told t) (c.in-Ok.ensures.told (subst IsTrue (sym c.loop-left.invariant.stands.0) t));
+      listed = λ t u. walk-listed-on _ _ _ _ _ _ _ _ _ _ c.requires some walk c.in-Ok.ensures.over (c.loop-left.invariant.listed t u)
+          (c.in-Ok.ensures.told (subst IsTrue (sym c.loop-left.invariant.stands.0) t));
+      spared = λ h. walk-spares-on _ _ _ _ _ _ some walk c.in-Ok.ensures.spared (c.loop-left.invariant.spared h);
+      few = fewer-left _ _ _ c.loop-left.invariant.few;
+      bound = walk-later-on _ _ _ _ _ _ _ c.loop-left.invariant.few some c.loop-left.invariant.bound walk c.step_over.ensures.bound;
+      stands = stands-then _ _ _ _ _ _ c.loop-left.invariant.stands c.step_over.ensures.stands;
+    }
 
-pub returns-in-Over-clause-spared : goal.returns-in-Over-clause-spared
-returns-in-Over-clause-spared g c = λ h. spares-ended _ _ _ _ _ c.loop-turn-test.true c.in-Over.ensures.spared (c.loop-turn.invariant.spared h)
+pub returns-in-Err-clause-told : goal.returns-in-Err-clause-told
+returns-in-Err-clause-told g c = λ t.
+    let some = not-last _ _ c.advance_many-walk.ensures.most c.if-left-eq0.false in
+    walk-ends _ _ _ _ _ _ _ _ _ _ c.requires some c.advance_many-walk.ensures.goes (c.loop-left.invariant.told t) (c.in-Err.ensures.told (subst IsTrue (sym c.loop-left.invariant.stands.0) t))
 
--- beside the list machine
-pub returns-in-Over-clause-listed : goal.returns-in-Over-clause-listed
-returns-in-Over-clause-listed g c = λ t ne u.
-    list-ended _ _ _ _ _ _ _ _ _ _ c.loop-turn-test.true c.in-Over.ensures.over
-    (step-answer _ _ _ _ _ _ _ ((c.in-Over.ensures.told (subst IsTrue (sym c.loop-turn.invariant.stands.0) t)).ending (λ e. ne (cc)))) (c.loop-turn.invariant.listed t u)
+pub returns-in-Err-clause-listed : goal.returns-in-Err-clause-listed
+returns-in-Err-clause-listed g c = λ t ne u.
+    let some = not-last _ _ c.advance_many-walk.ensures.most c.if-left-eq0.false in
+    walk-listed-end _ _ _ _ _ _ _ _ _ _ c.requires some c.advance_many-walk.ensures.goes c.in-Err.ensures.over ne (c.loop-left.invariant.listed t u)
+    (c.in-Err.ensures.told (subst IsTrue (sym c.loop-left.invariant.stands.0) t))
 
-pub returns-clause-listed : goal.returns-clause-listed
-returns-clause-listed g c = λ t ne u. list-spent _ _ _ _ _ _ _ c.loop-turn-test.false (c.loop-turn.invariant.listed t u)
+pub returns-in-Err-clause-spared : goal.returns-in-Err-clause-spared
+returns-in-Err-clause-spared g c = λ h.
+    let some = not-last _ _ c.advance_many-walk.ensures.most c.if-left-eq0.false in
+    walk-spares-end _ _ _ _ _ _ some c.advance_many-walk.ensures.goes c.in-Err.ensures.spared (c.loop-left.invariant.spared h)
+
+pub returns-in-Err-clause-bound : goal.returns-in-Err-clause-bound
+returns-in-Err-clause-bound g c =
+    let some = not-last _ _ c.advance_many-walk.ensures.most c.if-left-eq0.false in
+    walk-later-end _ _ _ _ _ _ _ c.loop-left.invariant.few some c.loop-left.invariant.bound c.advance_many-walk.ensures.goes c.step_over.ensures.bound
