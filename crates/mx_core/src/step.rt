@@ -11,6 +11,7 @@ ghost use Rattle.mx_core.specs.Told.{answer_in};
 ghost use Rattle.mx_core.specs.Walks.{Goes};
 ghost use Rattle.mx_core.specs.Stepping.{advanced, needs_page, step_answer, step_needs_page};
 
+use crate::bounds::machines_keep_the_invariant;
 use crate::groups::{Group, group_of};
 use crate::instruction::Instruction;
 use crate::machine::{SEGMENT, is_in_segment};
@@ -141,6 +142,7 @@ impl Machine {
     {
         let mut place = self.memory.code_place();
         for made in 0..n {
+            machines_keep_the_invariant(self);
             match self.advance_quickly(&mut place) {
                 Advance::Went => {}
                 last => return Advanced { made, last },

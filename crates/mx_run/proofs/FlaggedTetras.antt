@@ -1,8 +1,7 @@
 -- Breaks come at tetras that have a flag.
 use Rattle.std.proofs.Common.{◌≡◌, Bool, true, false, refl}
 use Rattle.std.specs.Prelude.{◌||◌}
-use Rattle.mx_run.specs.FlagMaps.{has_flag}
-use Rattle.mx_run.specs.RunSteps.{break_flag}
+use Rattle.mx_run.specs.FlagMaps.{break_flag, has_flag}
 use Rattle.mx_run.specs.declared.end.BreakKind.{BreakKind}
 use Rattle.mx_run.specs.declared.end.BreakKind.TheVariants.{Read, Write, Execute}
 use Rattle.mx_run.specs.declared.flags.Flags.{Flags}

@@ -1,5 +1,5 @@
 -- The count of steps goes up by at most one in a turn, whatever the host tells.
-use Rattle.std.proofs.Common.{◌≡◌, ◌≢◌, ℕ, ◌+◌, ◌%◌, ◌^◌, ◌≤◌, ◌<◌, Bool, arith, refl, ◌∙◌, ap}
+use Rattle.std.proofs.Common.{◌≡◌, ℕ, ◌+◌, ◌%◌, ◌^◌, ◌≤◌, ◌<◌, Bool, arith, refl, ◌∙◌, ap}
 use Rattle.mx_trip.specs.declared.call.TrapCall.{TrapCall}
 use Rattle.mx_core.specs.MachineSpace.{rest_of}
 use Rattle.mx_core.specs.State.{State}
@@ -7,13 +7,11 @@ use Rattle.mx_core.specs.Step.{Stepped, went, calls, stopped, step}
 use Rattle.mx_core.specs.Stepping.{advanced, step_answer}
 use Rattle.mx_core.specs.Traps.{trapped, halted}
 use Rattle.mx_core.specs.declared.step.Advance.{Advance}
-use Rattle.mx_core.specs.declared.step.Advance.TheVariants as advance
 use Rattle.mx_core.specs.declared.step.Step.{Step}
 use Rattle.mx_core.specs.declared.step.Step.TheVariants as made
 use Rattle.mx_core.proofs.StepCounts.{CountsOne, step-count}
 use Rattle.mx_run.specs.Runs.{IsLater}
 use Rattle.mx_run.specs.Turns.{with_touch_if}
-use Rattle.mx_run.proofs.RunSteps.{free-unmoved}
 
 -- COUNTS
 
@@ -93,13 +91,7 @@ advanced-by a s t (stopped reason) h e = none-later 1 s t (ap (λ (p : Advance �
 pub advanced-later : (a : Advance) (s t : State) → (a, t) ≡ advanced s (step s) → IsLater 1 s t
 advanced-later a s t e = advanced-by a s t (step s) (step-count s) e
 
-pub unmoved-later : (a : Advance) (s t u : State) → (a, t) ≡ advanced s (step s) → a ≢ advance.Went → IsLater 1 t u → IsLater 1 s u
-unmoved-later a s t u e other h = same-later 1 s t u (ap (λ (r : State). r.steps) (free-unmoved a s t e other)) h
-
-pub wanting-later : (s t u : State) → t ≡ s → IsLater 1 t u → IsLater 1 s u
-wanting-later s t u e h = same-later 1 s t u (ap (λ (r : State). r.steps) e) h
-
-pub ruleset advancing = (advanced-later, unmoved-later, wanting-later, unmade-later)
+pub ruleset advancing = (unmade-later)
 
 -- RUNS
 

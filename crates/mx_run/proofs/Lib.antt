@@ -5,7 +5,11 @@ pub mod Outputs
 pub mod HeldFlags
 pub mod FlaggedTetras
 pub mod TurnAnswers
-pub mod RunSteps
+pub mod PlanEnds
+pub mod HeldRuns
+pub mod FreeSteps
+pub mod Runners
+pub mod Walked
 pub mod ListSteps
 pub mod Later
 pub mod StepCounts

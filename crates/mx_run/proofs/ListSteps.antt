@@ -9,7 +9,7 @@ use Rattle.mx_core.specs.State.{State}
 use Rattle.mx_core.specs.declared.trace.Trace.{Trace}
 use Rattle.mx_run.specs.Clauses.{GoesAsList, as_list_answer, TurnGoesAsList}
 use Rattle.mx_run.specs.FlagMaps.{flags_at}
-use Rattle.mx_run.specs.RunSteps.{end_of_trace, turn_ended, run_step}
+use Rattle.mx_run.specs.RunPlans.{end_of_trace}
 use Rattle.mx_run.specs.Runs.{FlagsOf, Ended, ended, break_of, after_trace, after_turn, breaks_before}
 use Rattle.mx_run.specs.Turns.{Turn, went_on, halts, stops, turn, Answered, turn_answer}
 use Rattle.mx_run.specs.WildRuns.{list_machine, RunEnd, run_ended, run_wild, turn_is_wild, run_by, HasWindow, as_list_turn, state_after}
@@ -19,9 +19,9 @@ use Rattle.mx_run.specs.declared.end.End.{End}
 use Rattle.mx_run.specs.declared.end.End.TheVariants.{Broke, Spent}
 use Rattle.mx_run.specs.declared.flags.Flags.{Flags}
 use Rattle.mx_run.specs.declared.turn_answer.TurnAnswer.{TurnAnswer}
-use Rattle.mx_run.proofs.ListTurns.{turn-listed, wild-listed, turn-untouched}
-use Rattle.mx_run.proofs.RunSteps.{step-unmade}
-use Rattle.mx_run.proofs.TurnAnswers.{turn-unmade}
+use Rattle.mx_run.proofs.ListTurns.{TurnWindow, turn-listed-on, wild-listed, turn-untouched}
+use Rattle.mx_run.proofs.Outputs.{step-front, answer-front}
+use Rattle.mx_run.proofs.PlanEnds.{turn_ended, step_by_break, run_step}
 
 -- ONE TURN
 
@@ -35,22 +35,24 @@ answer-state (went_on s m trace) = refl
 answer-state (halts status s m) = refl
 answer-state (stops reason s m) = refl
 
-turned : (s : State) (m : HostModel) → HasWindow s → s.touched ≡ false → turn_is_wild s ≡ false → as_list_answer (turn_answer (turn s m)) ≡ turn_answer (turn (as_list_state s) m)
-turned s m h u e = answer-listed (turn s m) ∙ ap turn_answer (sym (turn-listed s h.window m h.machine h.octas u e))
+turned : (s : State) (m : HostModel) → TurnWindow s → s.touched ≡ false → turn_is_wild s ≡ false → as_list_answer (turn_answer (turn s m)) ≡ turn_answer (turn (as_list_state s) m)
+turned s m h u e = answer-listed (turn s m) ∙ ap turn_answer (sym (turn-listed-on s m h u e))
 
 left-untouched : (s : State) (m : HostModel) → s.touched ≡ false → turn_is_wild s ≡ false → (turn_answer (turn s m)).1.touched ≡ false
 left-untouched s m u e = ap (λ (t : State). t.touched) (answer-state (turn s m)) ∙ turn-untouched s m u e
 
-turn-by : (s : State) (m : HostModel) (b : Bool) → HasWindow s → s.touched ≡ false → turn_is_wild s ≡ b → TurnGoesAsList b (as_list_state s) m (turn_answer (turn s m))
-turn-by s m true h u e = turn-unmade s m
+turn-by : (s : State) (m : HostModel) (b : Bool) → TurnWindow s → s.touched ≡ false → turn_is_wild s ≡ b → TurnGoesAsList b (as_list_state s) m (turn_answer (turn s m))
+turn-by s m true h u e = answer-front s m
 turn-by s m false h u e = (turned s m h u e, left-untouched s m u e)
+
+-- a machine of the code
+pub list-window : (s : State) → HasWindow s → TurnWindow s
+list-window s h = record { window = h.window; machine = h.machine; octas = λ call e. h.octas }
 
 pub turn-goes : (s t : State) (m n : HostModel) (r : TurnAnswer) → HasWindow s → (r, t, n) ≡ turn_answer (turn s m) → s.touched ≡ false → TurnGoesAsList (turn_is_wild (as_list_state s)) (as_list_state s) m (r, t, n)
 turn-goes s t m n r h e u =
     subst (λ b. TurnGoesAsList b (as_list_state s) m (r, t, n)) (sym (wild-listed s h.window h.machine u))
-    (subst (TurnGoesAsList (turn_is_wild s) (as_list_state s) m) (sym e) (turn-by s m (turn_is_wild s) h u refl))
-
-pub ruleset turning = (turn-goes)
+    (subst (TurnGoesAsList (turn_is_wild s) (as_list_state s) m) (sym e) (turn-by s m (turn_is_wild s) (list-window s h) u refl))
 
 -- A STEP OF THE LIST'S RUN
 
@@ -97,42 +99,39 @@ ended-listed f pc (r, s, m) = refl
 abbrev list-step : Bool → Bool → (State → HostModel → RunEnd) → FlagsOf → State → HostModel → RunEnd
 list-step b c more f s m = cond b (run_ended (ended (Broke Execute s.pc None) s m)) (cond c (run_wild m) (after_turn run_ended more f s.pc (turn s m)))
 
-abbrev window-step : Bool → FlagsOf → State → HostModel → Answered (Result (Unit {0}) End)
-window-step b f s m = cond b (Err (Broke Execute s.pc None), s, m) (turn_ended f s.pc (turn_answer (turn s m)))
-
-step-by-cases : (whole : RunEnd) (more : State → HostModel → RunEnd) (f : FlagsOf) (b c : Bool) (s : State) (m : HostModel) → HasWindow s → s.touched ≡ false → turn_is_wild s ≡ c → whole ≡ list-step b c more f (as_list_state s) m → IsFront m.output (window-step b f s m).2.output → Follows whole more (window-step b f s m)
+step-by-cases : (whole : RunEnd) (more : State → HostModel → RunEnd) (f : FlagsOf) (b c : Bool) (s : State) (m : HostModel) → TurnWindow s → s.touched ≡ false → turn_is_wild s ≡ c → whole ≡ list-step b c more f (as_list_state s) m → IsFront m.output (step_by_break b f s m).2.output → Follows whole more (step_by_break b f s m)
 step-by-cases whole more f true c s m h u w e o = subst (λ w. GoesAsList w (ended (Broke Execute s.pc None) s m)) (sym e) (refl, u)
-step-by-cases whole more f false true s m h u w e o = after-wild whole more (window-step false f s m) m e o
+step-by-cases whole more f false true s m h u w e o = after-wild whole more (step_by_break false f s m) m e o
 step-by-cases whole more f false false s m h u w e o =
-    after-step whole more (window-step false f s m)
+    after-step whole more (step_by_break false f s m)
     (e ∙ turn-run-by more f s.pc (turn (as_list_state s) m) ∙ ap (λ a. run-by more (turn_ended f s.pc a)) (sym (turned s m h u w)) ∙ ap (run-by more) (ended-listed f s.pc (turn_answer (turn s m))))
     (left-untouched s m u w)
 
 left-after : (k i : ℕ) → i < k → k - i ≡ suc (k - (i + 1))
 left-after k i l = omega arith
 
-list-runs : (k i : ℕ) (f : FlagsOf) (pass : Bool) (s : State) (m : HostModel) → HasWindow s → s.touched ≡ false → i < k → run_by list_machine (k - i) f pass (as_list_state s) m ≡ list-step (breaks_before f pass s) (turn_is_wild s) (run_by list_machine (k - (i + 1)) f false) f (as_list_state s) m
+list-runs : (k i : ℕ) (f : FlagsOf) (pass : Bool) (s : State) (m : HostModel) → TurnWindow s → s.touched ≡ false → i < k → run_by list_machine (k - i) f pass (as_list_state s) m ≡ list-step (breaks_before f pass s) (turn_is_wild s) (run_by list_machine (k - (i + 1)) f false) f (as_list_state s) m
 unfolding run_by
 list-runs k i f pass s m h u l =
     rw (left-after k i l) (ap (λ c. list-step (breaks_before f pass s) c (run_by list_machine (k - (i + 1)) f false) f (as_list_state s) m) (wild-listed s h.window h.machine u))
 
-goes-on : (whole : RunEnd) (k i : ℕ) (f : FlagsOf) (pass : Bool) (s : State) (m : HostModel) → i < k → HasWindow s → Beside whole (run_by list_machine (k - i) f pass (as_list_state s) m) s m → Follows whole (run_by list_machine (k - (i + 1)) f false) (run_step f pass s m)
+goes-on : (whole : RunEnd) (k i : ℕ) (f : FlagsOf) (pass : Bool) (s : State) (m : HostModel) → i < k → TurnWindow s → Beside whole (run_by list_machine (k - i) f pass (as_list_state s) m) s m → Follows whole (run_by list_machine (k - (i + 1)) f false) (run_step f pass s m)
 unfolding run_step
 goes-on whole k i f pass s m l h (as_list u e) =
-    step-by-cases whole (run_by list_machine (k - (i + 1)) f false) f (breaks_before f pass s) (turn_is_wild s) s m h u refl (e ∙ list-runs k i f pass s m h u l) (step-unmade f pass s m)
+    step-by-cases whole (run_by list_machine (k - (i + 1)) f false) f (breaks_before f pass s) (turn_is_wild s) s m h u refl (e ∙ list-runs k i f pass s m h u l) (step-front f pass s m)
 goes-on whole k i f pass s m l h (was_wild g e o) =
-    after-wild whole (run_by list_machine (k - (i + 1)) f false) (run_step f pass s m) g e (front-through g.output m.output _ o (step-unmade f pass s m))
+    after-wild whole (run_by list_machine (k - (i + 1)) f false) (run_step f pass s m) g e (front-through g.output m.output _ o (step-front f pass s m))
 
 -- FOR THE LOOPS
 
 pub list-begun : (k : ℕ) (f : FlagsOf) (pass : Bool) (s : State) (m : HostModel) → s.touched ≡ false → Beside (run_by list_machine k f pass (as_list_state s) m) (run_by list_machine (k - 0) f pass (as_list_state s) m) s m
 list-begun k f pass s m u = let all : k - 0 ≡ k = omega arith in as_list u (rw all refl)
 
-pub list-went : (whole : RunEnd) (k i : ℕ) (f : FlagsOf) (pass : Bool) (s t : State) (m n : HostModel) (u : Unit {0}) → i < k → HasWindow s → (Ok u, t, n) ≡ run_step f pass s m → Beside whole (run_by list_machine (k - i) f pass (as_list_state s) m) s m →
+pub list-went : (whole : RunEnd) (k i : ℕ) (f : FlagsOf) (pass : Bool) (s t : State) (m n : HostModel) (u : Unit {0}) → i < k → TurnWindow s → (Ok u, t, n) ≡ run_step f pass s m → Beside whole (run_by list_machine (k - i) f pass (as_list_state s) m) s m →
     Beside whole (run_by list_machine (k - (i + 1)) f false (as_list_state t) n) t n
 list-went whole k i f pass s t m n u l h e b = subst (Follows whole (run_by list_machine (k - (i + 1)) f false)) (sym e) (goes-on whole k i f pass s m l h b)
 
-pub list-ended : (whole : RunEnd) (k i : ℕ) (f : FlagsOf) (pass : Bool) (s t : State) (m n : HostModel) (end : End) → i < k → HasWindow s → (Err end, t, n) ≡ run_step f pass s m → Beside whole (run_by list_machine (k - i) f pass (as_list_state s) m) s m → GoesAsList whole (ended end t n)
+pub list-ended : (whole : RunEnd) (k i : ℕ) (f : FlagsOf) (pass : Bool) (s t : State) (m n : HostModel) (end : End) → i < k → TurnWindow s → (Err end, t, n) ≡ run_step f pass s m → Beside whole (run_by list_machine (k - i) f pass (as_list_state s) m) s m → GoesAsList whole (ended end t n)
 list-ended whole k i f pass s t m n end l h e b = subst (Follows whole (run_by list_machine (k - (i + 1)) f false)) (sym e) (goes-on whole k i f pass s m l h b)
 
 spent : (whole : RunEnd) (s : State) (m : HostModel) → Beside whole (run_ended (ended Spent (as_list_state s) m)) s m → GoesAsList whole (ended Spent s m)

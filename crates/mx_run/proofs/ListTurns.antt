@@ -167,20 +167,30 @@ calls-listed s w m call h o e =
 
 -- TURNS
 
-stepped-listed : (s : State) (w : Window) (m : HostModel) (x : Stepped) → IsMachine s w → AreOctas w.hidden.stack → trap_touches s x ≡ false → turn_of (as_list_state s) m (as_list_step x) ≡ as_list_turn (turn_of s m x)
+stepped-listed : (s : State) (w : Window) (m : HostModel) (x : Stepped) → IsMachine s w → ((call : TrapCall) → x ≡ calls call → AreOctas w.hidden.stack) → trap_touches s x ≡ false →
+    turn_of (as_list_state s) m (as_list_step x) ≡ as_list_turn (turn_of s m x)
 stepped-listed s w m (went t trace) h o e = refl
-stepped-listed s w m (calls call) h o e = calls-listed s w m call h o e
+stepped-listed s w m (calls call) h o e = calls-listed s w m call h (o call refl) e
 stepped-listed s w m (stopped reason) h o e = refl
 
 both-false : (b c : Bool) → (b || c) ≡ false → (b ≡ false) × (c ≡ false)
 both-false true c e = absurd (cc)
 both-false false c e = (refl, e)
 
-pub turn-listed : (s : State) (w : Window) (m : HostModel) → IsMachine s w → AreOctas w.hidden.stack → s.touched ≡ false → turn_is_wild s ≡ false → turn (as_list_state s) m ≡ as_list_turn (turn s m)
+-- a window, with octas in its stack area where the next step calls a file trap
+pub record TurnWindow (s : State) : Type 0 where
+  pub window : Window
+  pub machine : IsMachine s window
+  pub octas : (call : TrapCall) → step s ≡ calls call → AreOctas window.hidden.stack
+
+pub turn-listed-on : (s : State) (m : HostModel) → TurnWindow s → s.touched ≡ false → turn_is_wild s ≡ false → turn (as_list_state s) m ≡ as_list_turn (turn s m)
 unfolding turn
-turn-listed s w m h o t e =
+turn-listed-on s m h t e =
     let parts : (is_wild s ≡ false) × (trap_touches s (step s) ≡ false) = both-false _ _ e in
-    ap (turn_of (as_list_state s) m) (step-listed s w h (record { untouched = t; not_wild = parts.0 })) ∙ stepped-listed s w m (step s) h o parts.1
+    ap (turn_of (as_list_state s) m) (step-listed s h.window h.machine (record { untouched = t; not_wild = parts.0 })) ∙ stepped-listed s h.window m (step s) h.machine h.octas parts.1
+
+pub turn-listed : (s : State) (w : Window) (m : HostModel) → IsMachine s w → AreOctas w.hidden.stack → s.touched ≡ false → turn_is_wild s ≡ false → turn (as_list_state s) m ≡ as_list_turn (turn s m)
+turn-listed s w m h o t e = turn-listed-on s m (record { window = w; machine = h; octas = λ call f. o }) t e
 
 -- WHICH TURNS ARE WILD
 

@@ -3,8 +3,10 @@
 use Rattle.std.specs.Prelude.{◌≡◌, ◌≢◌, IsTrue, Bool, true, false, Option}
 use Rattle.mx_word.specs.Lists.{IsFront}
 use Rattle.mx_host.specs.HostModel.{HostModel, tells, contents}
+use Rattle.mx_plan.specs.Plan.{Comes}
 use Rattle.mx_core.specs.Bounds.{as_list_state}
 use Rattle.mx_core.specs.State.{State}
+use Rattle.mx_run.specs.RunPlans.{RunPlan, running}
 use Rattle.mx_run.specs.Runs.{Ended, ended}
 use Rattle.mx_run.specs.Turns.{Answered, turn_answer, turn}
 use Rattle.mx_run.specs.WildRuns.{RunEnd, run_ended, run_wild, turn_is_wild, as_list_ended}
@@ -12,6 +14,13 @@ use Rattle.mx_run.specs.declared.end.End.{End}
 use Rattle.mx_run.specs.declared.end.End.TheVariants.{OutOfMemory}
 use Rattle.mx_run.specs.declared.turn_answer.TurnAnswer.{TurnAnswer}
 use Rattle.mx_run.specs.declared.turn_answer.TurnAnswer.TheVariants as answer
+
+-- Over a host that tells its contents, the plan is carried out: unless the answer is `none`, which is that of no memory, the
+-- answer, the machine and the contents are its end; where it is, the turns that were completed stay, and of one that lacked
+-- memory what it leaves then; nothing else changed.
+abbrev pub CarriesOutRun : {A : Type 0} → Option HostModel → Option HostModel → State → State → A → A → RunPlan A → Type 0
+CarriesOutRun old new before after none result plan =
+    IsTrue (tells old) → Comes running (before, contents old) (after, contents new) none result plan
 
 -- over a host that tells its contents, the answer and what it leaves are those of f, unless the answer is `none`, which is
 -- that of no memory

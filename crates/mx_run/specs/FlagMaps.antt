@@ -5,11 +5,19 @@ use Rattle.std.specs.Ordering.{nat_cmp}
 use Rattle.std.specs.BTreeMap as tree
 use Rattle.std.specs.BTreeMap.{BTreeMap}
 use Rattle.mx_run.specs.Runs.{FlagsOf}
+use Rattle.mx_run.specs.declared.end.BreakKind.{BreakKind}
+use Rattle.mx_run.specs.declared.end.BreakKind.TheVariants.{Read, Write, Execute}
 use Rattle.mx_run.specs.declared.flags.Flags.{Flags}
 
 -- whether there is one
 abbrev pub has_flag : Flags → Bool
 has_flag f = f.r || f.w || f.x || f.t
+
+-- the flag of a tetra that a break of a kind stands for
+abbrev pub break_flag : BreakKind → Flags → Bool
+break_flag Read f = f.r
+break_flag Write f = f.w
+break_flag Execute f = f.x
 
 -- the flags by the entries of a map, which has a tetra's number and its flags; a tetra without a flag has no entry
 abbrev pub flags_or_none : Option Flags → Flags

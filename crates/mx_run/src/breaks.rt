@@ -1,8 +1,8 @@
 //! What a turn means for a run, by the flags of tetras.
 
 ghost use Rattle.std.specs.Prelude.{◌≡◌, ◌≢◌, ◌<◌, ◌/◌, ◌^◌, Err, IfSome};
-ghost use Rattle.mx_run.specs.FlagMaps.{flags_at};
-ghost use Rattle.mx_run.specs.RunSteps as spec;
+ghost use Rattle.mx_run.specs.FlagMaps.{break_flag, flags_at};
+ghost use Rattle.mx_run.specs.RunPlans.{end_of_trace, end_of_turn};
 ghost use Rattle.mx_run.specs.Runs as runs;
 
 use crate::{BreakKind, End, FlagMap, Flags, TurnAnswer};
@@ -10,7 +10,7 @@ use mx_core::{Touch, Trace};
 
 /// Whether a run ends with a turn from an address.
 pub fn end_of_turn(flags: &FlagMap, pc: u64, answer: TurnAnswer) -> Result<(), End>
-    ensures value { result ≡ spec.end_of_turn (flags_at flags.now) pc answer }
+    ensures value { result ≡ end_of_turn (flags_at flags.now) pc answer }
     ensures memory { result ≡ Err End.OutOfMemory → answer ≡ TurnAnswer.OutOfMemory }
 {
     match answer {
@@ -23,7 +23,7 @@ pub fn end_of_turn(flags: &FlagMap, pc: u64, answer: TurnAnswer) -> Result<(), E
 
 /// Whether a run ends with a step from an address, by its trace.
 fn end_of_trace(flags: &FlagMap, pc: u64, trace: Trace) -> Result<(), End>
-    ensures value { result ≡ spec.end_of_trace (flags_at flags.now (pc / 4)).t trace
+    ensures value { result ≡ end_of_trace (flags_at flags.now (pc / 4)).t trace
         (runs.break_of (flags_at flags.now) trace) }
     ensures memory { result ≢ Err End.OutOfMemory }
 {
@@ -67,7 +67,7 @@ fn break_of(flags: &FlagMap, trace: &Trace) -> Option<(BreakKind, u64)>
 
 /// The lowest tetra of what is touched that has the flag of a kind.
 fn flagged_in(flags: &FlagMap, kind: BreakKind, touch: Option<Touch>) -> Option<u64>
-    ensures value { result ≡ runs.flagged_in (λ n. spec.break_flag kind (flags_at flags.now n)) touch }
+    ensures value { result ≡ runs.flagged_in (λ n. break_flag kind (flags_at flags.now n)) touch }
     ensures below { IfSome result (λ n. n < 2 ^ 62) }
 {
     match touch {
@@ -79,7 +79,7 @@ fn flagged_in(flags: &FlagMap, kind: BreakKind, touch: Option<Touch>) -> Option<
 /// The lowest tetra of a touch that has the flag of a kind.
 #[tactic(auto, using(crate::proofs::FlaggedTetras::breaking))]
 fn first_flagged(flags: &FlagMap, kind: BreakKind, touch: Touch) -> Option<u64>
-    ensures value { result ≡ runs.first_flagged (λ n. spec.break_flag kind (flags_at flags.now n)) touch }
+    ensures value { result ≡ runs.first_flagged (λ n. break_flag kind (flags_at flags.now n)) touch }
     ensures below { IfSome result (λ n. n < 2 ^ 62) }
 {
     let n = touch.at / 4;
@@ -94,7 +94,7 @@ fn first_flagged(flags: &FlagMap, kind: BreakKind, touch: Touch) -> Option<u64>
 
 /// Whether flags have the one of a kind.
 fn breaks(kind: BreakKind, flags: Flags) -> bool
-    ensures { result ≡ spec.break_flag kind flags }
+    ensures { result ≡ break_flag kind flags }
 {
     match kind {
         BreakKind::Read => flags.r,

@@ -1,14 +1,15 @@
 //! Steps of a run one after another.
 
-ghost use Rattle.std.specs.Prelude.{◌≡◌, [], true};
-ghost use Rattle.mx_host.specs.Keeping.{Keeps};
+ghost use Rattle.std.specs.Prelude.{◌≡◌, ◌≢◌, [], true};
+ghost use Rattle.mx_plan.specs.Clauses.{Stands};
 ghost use Rattle.mx_core.specs.Kept.{state_of};
-ghost use Rattle.mx_run.specs.Clauses.{EndsAs, EndsFront, EndsAsList};
+ghost use Rattle.mx_run.specs.Clauses.{CarriesOutRun, EndsAsList};
 ghost use Rattle.mx_run.specs.FlagMaps.{flags_at};
-ghost use Rattle.mx_run.specs.Runs as spec;
+ghost use Rattle.mx_run.specs.RunPlans.{run_plan, SparesMemory};
+ghost use Rattle.mx_run.specs.Runs.{IsLater};
 ghost use Rattle.mx_run.specs.WildRuns.{run_by, list_machine};
 
-use crate::steps::{Going, free_step, run_step};
+use crate::steps::{run_step, step_over};
 use crate::{End, FlagMap};
 use mx_core::Machine;
 use mx_host::Host;
@@ -25,14 +26,13 @@ pub fn go_by_flags<H: Host>(
     n: u64,
     pass: bool,
 ) -> End
-    ensures told { EndsAs (H.told host.old) (H.told host.new) (state_of machine.old) (state_of machine.new) result
-        (λ s m. spec.run n (flags_at flags.now) pass s m) }
-    ensures front { EndsFront (H.told host.old) (H.told host.new) (state_of machine.old) result
-        (λ s m. spec.run n (flags_at flags.now) pass s m) }
+    ensures told { CarriesOutRun (H.told host.old) (H.told host.new) (state_of machine.old) (state_of machine.new)
+        End.OutOfMemory result (run_plan n (flags_at flags.now) pass) }
     ensures listed { EndsAsList (H.told host.old) (H.told host.new) (state_of machine.old) (state_of machine.new) result
         (λ s m. run_by list_machine n (flags_at flags.now) pass s m) }
-    ensures bound { spec.IsLater n (state_of machine.old) (state_of machine.new) }
-    ensures keeps { Keeps (H.told host.old) (H.told host.new) (H.faults host.old) (H.faults host.new) }
+    ensures spared { SparesMemory n (state_of machine.old) → result ≢ End.OutOfMemory }
+    ensures bound { IsLater n (state_of machine.old) (state_of machine.new) }
+    ensures stands { Stands (H.told host.old) (H.told host.new) (H.faults host.old) (H.faults host.new) }
 {
     let mut first = pass;
     for turn in 0..n {
@@ -45,7 +45,6 @@ pub fn go_by_flags<H: Host>(
 }
 
 /// Makes at most n steps, where no tetra has a flag.
-#[tactic(auto, using(crate::proofs::Later::running))]
 pub fn go_freely<H: Host>(
     alloc: Global,
     machine: &mut Machine,
@@ -54,21 +53,24 @@ pub fn go_freely<H: Host>(
     n: u64,
 ) -> End
     requires { flags.now ≡ [] }
-    ensures told { EndsAs (H.told host.old) (H.told host.new) (state_of machine.old) (state_of machine.new) result
-        (λ s m. spec.run n (flags_at flags.now) true s m) }
-    ensures front { EndsFront (H.told host.old) (H.told host.new) (state_of machine.old) result
-        (λ s m. spec.run n (flags_at flags.now) true s m) }
+    ensures told { CarriesOutRun (H.told host.old) (H.told host.new) (state_of machine.old) (state_of machine.new)
+        End.OutOfMemory result (run_plan n (flags_at flags.now) true) }
     ensures listed { EndsAsList (H.told host.old) (H.told host.new) (state_of machine.old) (state_of machine.new) result
         (λ s m. run_by list_machine n (flags_at flags.now) true s m) }
-    ensures bound { spec.IsLater n (state_of machine.old) (state_of machine.new) }
-    ensures keeps { Keeps (H.told host.old) (H.told host.new) (H.faults host.old) (H.faults host.new) }
+    ensures spared { SparesMemory n (state_of machine.old) → result ≢ End.OutOfMemory }
+    ensures bound { IsLater n (state_of machine.old) (state_of machine.new) }
+    ensures stands { Stands (H.told host.old) (H.told host.new) (H.faults host.old) (H.faults host.new) }
 {
-    let mut end = End::Spent;
-    for turn in 0..n {
-        match free_step(alloc, machine, flags, host, &mut end) {
-            Going::On => {}
-            Going::Over => return end,
+    let mut left = n;
+    loop {
+        let walk = machine.advance_many(left);
+        left -= walk.made;
+        if left == 0 {
+            return End::Spent;
+        }
+        match step_over(alloc, machine, flags, host, walk.last) {
+            Ok(()) => left -= 1,
+            Err(end) => return end,
         }
     }
-    End::Spent
 }

@@ -4,13 +4,17 @@
 
 ghost use Rattle.std.specs.Prelude.{◌≡◌, ℕ, Bool, false};
 ghost use Rattle.mx_host.specs.HostModel.{HostModel};
+ghost use Rattle.mx_plan.specs.Held.{KeepsStreams, OnlyAdds};
+ghost use Rattle.mx_plan.specs.Plan.{Stops, end_of};
 ghost use Rattle.mx_ring.specs.Window.{Window};
 ghost use Rattle.mx_word.specs.Lists.{IsFront};
 ghost use Rattle.mx_word.specs.Ranges.{AreOctas};
 ghost use Rattle.mx_core.specs.Bounds.{IsMachine, as_list_state};
 ghost use Rattle.mx_core.specs.State.{State};
+ghost use Rattle.mx_run.specs.RunPlans.{RunPlan, RunWorld, ended_world, run_plan, running};
 ghost use Rattle.mx_run.specs.Runs.{FlagsOf, run, IsLater};
 ghost use Rattle.mx_run.specs.Turns.{turn};
+ghost use Rattle.mx_run.specs.declared.end.End.{End};
 ghost use Rattle.mx_run.specs.WildRuns.{turn_is_wild, as_list_turn, state_after, run_by, run_ended, window_machine};
 
 /// A turn that is not wild, where nothing was touched, comes to the same with the same trace and the
@@ -38,6 +42,18 @@ pub fn windows_are_never_wild()
 pub fn runs_add_to_output()
     ensures { (n : ℕ) (f : FlagsOf) (pass : Bool) (s : State) (m : HostModel)
         → IsFront m.output (run n f pass s m).host.output }
+{}
+
+/// A run is what its plan comes to. Where a plan over turns stops for want of memory, it only added to
+/// standard output, and what stands there is a front of what would stand there at its end; the slots of
+/// the tool lead where they led.
+#[tactic(auto, using(crate::proofs::HeldRuns::laws, crate::proofs::PlanEnds::ends))]
+pub fn runs_are_their_plans()
+    ensures ending { (n : ℕ) (f : FlagsOf) (pass : Bool) (s : State) (m : HostModel)
+        → end_of running (run_plan n f pass) (s, m) ≡ ended_world (run n f pass s m) }
+    ensures stopping { (p : RunPlan End) (v w : RunWorld) → Stops running v p w → KeepsStreams w.1 v.1 }
+    ensures front { (p : RunPlan End) (v w : RunWorld) → Stops running v p w
+        → OnlyAdds v.1 (end_of running p w).1.1 }
 {}
 
 /// A run of at most n steps adds at most n to the count of steps.

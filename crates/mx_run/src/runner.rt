@@ -1,13 +1,15 @@
 //! A machine that runs over a host, with the flags of tetras.
 
-ghost use Rattle.std.specs.Prelude.{◌≡◌, ◌/◌, false, IsOk, OnOk, OnErr};
+ghost use Rattle.std.specs.Prelude.{◌≡◌, ◌≢◌, ◌/◌, false, IsOk, OnOk, OnErr};
 ghost use Rattle.std.specs.Borrow.{sem};
 ghost use Rattle.mx_host.specs.Keeping.{Keeps};
 ghost use Rattle.mx_core.specs.Kept.{state_of};
-ghost use Rattle.mx_run.specs.Clauses.{LeavesMachine, LeavesFront, TurnsAsList, EndsAs, EndsFront, EndsAsList};
+ghost use Rattle.mx_run.specs.Clauses.{CarriesOutRun, LeavesMachine, LeavesFront, TurnsAsList};
+ghost use Rattle.mx_run.specs.Clauses.{EndsAs, EndsFront, EndsAsList};
 ghost use Rattle.mx_run.specs.FlagMaps as maps;
 ghost use Rattle.mx_run.specs.FlagMaps.{flags_at};
 ghost use Rattle.mx_run.specs.Lending.{LendsMachine};
+ghost use Rattle.mx_run.specs.RunPlans.{SparesMemory, run_plan, turn_plan};
 ghost use Rattle.mx_run.specs.Runs as spec;
 ghost use Rattle.mx_run.specs.Turns as turns;
 ghost use Rattle.mx_run.specs.Turns.{turn_answer};
@@ -94,9 +96,13 @@ impl Runner {
 
     /// Makes one turn over a host, whatever the flags: a step, or a file trap as a whole.
     ///
-    /// Out of memory, what was written to standard output is a front of what the turn writes.
-    #[tactic(auto, using(crate::proofs::ListSteps::turning))]
+    /// Out of memory, a step left the machine as it was. A file trap left the bytes that it moved and the
+    /// calls that it made; what was written to standard output is a front of what the turn writes.
+    #[tactic(auto, using(crate::proofs::Runners::turns))]
     pub fn step<H: Host>(&mut self, alloc: Global, host: &mut H) -> TurnAnswer
+        ensures plan { CarriesOutRun (H.told host.old) (H.told host.new) (state_of self.old.machine)
+            (state_of self.new.machine) TurnAnswer.OutOfMemory result turn_plan }
+        ensures spared { SparesMemory 1 (state_of self.old.machine) → result ≢ TurnAnswer.OutOfMemory }
         ensures told { LeavesMachine (H.told host.old) (H.told host.new) (state_of self.old.machine)
             (state_of self.new.machine) TurnAnswer.OutOfMemory result (λ s m. turn_answer (turns.turn s m)) }
         ensures front { LeavesFront (H.told host.old) (H.told host.new) (state_of self.old.machine)
@@ -115,9 +121,13 @@ impl Runner {
     /// touched it goes as over an unbounded list of registers, up to the first turn that looks at rS
     /// or at the memory of the register stack.
     ///
-    /// Out of memory, what was written to standard output is a front of what the run writes.
-    #[tactic(auto, using(crate::proofs::RunSteps::choosing, crate::proofs::ListSteps::choosing))]
+    /// Out of memory, the turns that were made stay, and of the last one what it leaves then; what was
+    /// written to standard output is a front of what the run writes.
+    #[tactic(auto, using(crate::proofs::PlanEnds::choosing, crate::proofs::ListSteps::choosing))]
     pub fn go<H: Host>(&mut self, alloc: Global, host: &mut H, n: u64, pass: bool) -> End
+        ensures plan { CarriesOutRun (H.told host.old) (H.told host.new) (state_of self.old.machine)
+            (state_of self.new.machine) End.OutOfMemory result (run_plan n (flags_at self.old.flags) pass) }
+        ensures spared { SparesMemory n (state_of self.old.machine) → result ≢ End.OutOfMemory }
         ensures told { EndsAs (H.told host.old) (H.told host.new) (state_of self.old.machine)
             (state_of self.new.machine) result (λ s m. spec.run n (flags_at self.old.flags) pass s m) }
         ensures front { EndsFront (H.told host.old) (H.told host.new) (state_of self.old.machine) result

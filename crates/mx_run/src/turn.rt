@@ -1,15 +1,15 @@
 //! A turn: a step of the machine over a host, with a file trap as a whole.
 
-ghost use Rattle.std.specs.Prelude.{◌≡◌, ◌≢◌};
+ghost use Rattle.std.specs.Prelude.{◌≡◌, ◌≢◌, ℕ, suc};
 ghost use Rattle.mx_host.specs.HostModel.{HostModel};
-ghost use Rattle.mx_host.specs.Keeping.{Keeps};
+ghost use Rattle.mx_plan.specs.Clauses.{CarriesOutBoth, Stands};
 ghost use Rattle.mx_core.specs.Kept.{state_of};
-ghost use Rattle.mx_core.specs.MachineSpace.{machine_contents};
+ghost use Rattle.mx_core.specs.MachineSpace.{machine_contents, IsWholeSpace};
+ghost use Rattle.mx_core.specs.Step.{calls, step};
 ghost use Rattle.mx_core.specs.Traps as traps;
-ghost use Rattle.mx_trap.specs.FileTraps.{trap_answer};
-ghost use Rattle.mx_trap.specs.Touches as touching;
-ghost use Rattle.mx_run.specs.Clauses.{LeavesMachine, LeavesFront};
-ghost use Rattle.mx_run.specs.RunSteps.{state_left};
+ghost use Rattle.mx_trap.specs.FileTraps.{trap_plan};
+ghost use Rattle.mx_run.specs.Clauses.{CarriesOutRun};
+ghost use Rattle.mx_run.specs.RunPlans.{turn_plan, SparesAfter, SparesMemory};
 ghost use Rattle.mx_run.specs.Runs.{IsLater};
 ghost use Rattle.mx_run.specs.Turns.{turn_answer};
 ghost use Rattle.mx_run.specs.Turns as spec;
@@ -24,15 +24,14 @@ use mx_trip::TrapCall;
 use std::alloc::Global;
 
 /// A turn of the machine over a host.
-#[tactic(auto, using(crate::proofs::TurnAnswers::turns, crate::proofs::Later::stepping))]
+#[tactic(auto, using(crate::proofs::TurnAnswers::turns, crate::proofs::TurnAnswers::sparing, crate::proofs::Later::stepping))]
 pub fn turn<H: Host>(alloc: Global, machine: &mut Machine, host: &mut H) -> TurnAnswer
-    ensures told { LeavesMachine (H.told host.old) (H.told host.new) (state_of machine.old) (state_of machine.new)
-        TurnAnswer.OutOfMemory result (λ s m. turn_answer (spec.turn s m)) }
-    ensures front { LeavesFront (H.told host.old) (H.told host.new) (state_of machine.old)
-        TurnAnswer.OutOfMemory result (λ s m. turn_answer (spec.turn s m)) }
+    ensures told { CarriesOutRun (H.told host.old) (H.told host.new) (state_of machine.old) (state_of machine.new)
+        TurnAnswer.OutOfMemory result turn_plan }
     ensures over { HasWindow (state_of machine.old) }
+    ensures spared { (n : ℕ) → SparesMemory (suc n) (state_of machine.old) → SparesAfter n result (state_of machine.new) }
     ensures bound { IsLater 1 (state_of machine.old) (state_of machine.new) }
-    ensures keeps { Keeps (H.told host.old) (H.told host.new) (H.faults host.old) (H.faults host.new) }
+    ensures stands { Stands (H.told host.old) (H.told host.new) (H.faults host.old) (H.faults host.new) }
 {
     know_window(machine);
     match machine.step() {
@@ -44,21 +43,18 @@ pub fn turn<H: Host>(alloc: Global, machine: &mut Machine, host: &mut H) -> Turn
 }
 
 /// A file trap as a whole.
-#[tactic(auto, using(crate::proofs::TurnAnswers::traps, crate::proofs::Later::counting))]
+#[tactic(auto, using(crate::proofs::Later::counting))]
 fn trap_turn<H: Host>(
     alloc: Global,
     machine: &mut Machine,
     host: &mut H,
     call: &TrapCall,
 ) -> TurnAnswer
-    ensures told { LeavesMachine (H.told host.old) (H.told host.new) (state_of machine.old) (state_of machine.new)
-        TurnAnswer.OutOfMemory result (λ s m. turn_answer (spec.trap_turn (touching.touches (machine_contents s).bytes
-        call.now) call.now (trap_answer (machine_contents s) m call.now))) }
-    ensures front { LeavesFront (H.told host.old) (H.told host.new) (state_of machine.old)
-        TurnAnswer.OutOfMemory result (λ s m. turn_answer (spec.trap_turn (touching.touches (machine_contents s).bytes
-        call.now) call.now (trap_answer (machine_contents s) m call.now))) }
+    requires { step (state_of machine.old) ≡ calls call.now }
+    ensures told { CarriesOutRun (H.told host.old) (H.told host.new) (state_of machine.old) (state_of machine.new)
+        TurnAnswer.OutOfMemory result turn_plan }
     ensures bound { IsLater 1 (state_of machine.old) (state_of machine.new) }
-    ensures keeps { Keeps (H.told host.old) (H.told host.new) (H.faults host.old) (H.faults host.new) }
+    ensures stands { Stands (H.told host.old) (H.told host.new) (H.faults host.old) (H.faults host.new) }
 {
     let looks = touches(machine, call);
     let answer = carry_out(alloc, machine, host, call);
@@ -66,19 +62,18 @@ fn trap_turn<H: Host>(
 }
 
 /// Carries out a file trap on the machine's memory.
-#[tactic(auto, using(crate::proofs::TurnAnswers::spaces, crate::proofs::Later::resting))]
+#[tactic(auto, using(crate::proofs::Later::resting))]
 fn carry_out<H: Host>(
     alloc: Global,
     machine: &mut Machine,
     host: &mut H,
     call: &TrapCall,
 ) -> TrapAnswer
-    ensures told { LeavesMachine (H.told host.old) (H.told host.new) (state_of machine.old) (state_of machine.new)
-        TrapAnswer.OutOfMemory result (λ s m. state_left (trap_answer (machine_contents s) m call.now)) }
-    ensures front { LeavesFront (H.told host.old) (H.told host.new) (state_of machine.old)
-        TrapAnswer.OutOfMemory result (λ s m. state_left (trap_answer (machine_contents s) m call.now)) }
+    ensures told { CarriesOutBoth (H.told host.old) (H.told host.new) (machine_contents (state_of machine.old))
+        (machine_contents (state_of machine.new)) TrapAnswer.OutOfMemory result (trap_plan call.now) }
+    ensures whole { IsWholeSpace (state_of machine.new) }
     ensures steps { (state_of machine.new).steps ≡ (state_of machine.old).steps }
-    ensures keeps { Keeps (H.told host.old) (H.told host.new) (H.faults host.old) (H.faults host.new) }
+    ensures stands { Stands (H.told host.old) (H.told host.new) (H.faults host.old) (H.faults host.new) }
 {
     let answer = trap(alloc, machine, host, call);
     machines_are_whole(machine);

@@ -1,53 +1,47 @@
-use Rattle.std.proofs.Common.{sym, ◌∙◌, subst, ap, Err, IsTrue}
+use Rattle.std.proofs.Common.{sym, subst, IsTrue}
 use Rattle.mx_host.specs.HostModel.{contents}
-use Rattle.mx_host.proofs.Keeping.{keeps-all, keeps-then}
 use Rattle.mx_core.specs.Kept.{state_of}
 use Rattle.mx_run.specs.FlagMaps.{flags_at}
-use Rattle.mx_run.specs.Runs.{Ended}
 use Rattle.mx_run.proofs.Later.{begun-later, turned-later}
-use Rattle.mx_run.proofs.ListSteps.{list-begun, list-went, list-ended, list-spent}
-use Rattle.mx_run.proofs.RunSteps.{run-begun, run-went, run-ended, run-spent, run-wanting}
+use Rattle.mx_run.proofs.ListSteps.{list-window, list-begun, list-went, list-ended, list-spent}
+use Rattle.mx_run.proofs.PlanEnds.{rest-begun, rest-went, rest-ended, rest-spent, step-answer}
+use Rattle.mx_run.proofs.Runners.{stands-all, stands-then, spares-begun, spares-went, spares-ended}
 use Rattle.mx_run.proofs.go.go_by_flags.Goals as goal
 
 pub loop-turn-init : goal.loop-turn-init
 loop-turn-init g c = record {
-  told = λ t. run-begun c.args.n (flags_at c.args.flags.now) c.args.pass (state_of c.args.machine.now) (contents (g.H.Host.told c.args.host.now));
+  told = λ t. rest-begun c.args.n (flags_at c.args.flags.now) c.args.pass (state_of c.args.machine.now, contents (g.H.Host.told c.args.host.now));
   listed = λ t u. list-begun c.args.n (flags_at c.args.flags.now) c.args.pass (state_of c.args.machine.now) (contents (g.H.Host.told c.args.host.now)) u;
+  spared = spares-begun c.args.n (state_of c.args.machine.now);
   bound = begun-later (state_of c.args.machine.now);
-  keeps = keeps-all (g.H.Host.told c.args.host.now) (g.H.Host.faults c.args.host.now);
+  stands = stands-all (g.H.Host.told c.args.host.now) (g.H.Host.faults c.args.host.now);
 }
-
-pub returns-in-Err-clause-told : goal.returns-in-Err-clause-told
-returns-in-Err-clause-told g c = λ t ne.
-    sym (c.loop-turn.invariant.told t ∙ run-ended _ _ _ _ _ _ _ _ _ c.loop-turn-test.true
-    (c.in-Err.ensures.told (subst IsTrue (sym c.loop-turn.invariant.keeps.telling) t) (λ e. ne (cc))))
 
 pub loop-turn-preserved : goal.loop-turn-preserved
 loop-turn-preserved g c = record {
-  told = λ t. c.loop-turn.invariant.told t ∙ run-went _ _ _ _ _ _ _ _ _ c.loop-turn-test.true
-      (c.in-Ok.ensures.told (subst IsTrue (sym c.loop-turn.invariant.keeps.telling) t) (λ e. cc));
-  listed = λ t u. list-went _ _ _ _ _ _ _ _ _ _ c.loop-turn-test.true c.in-Ok.ensures.over
-      (c.in-Ok.ensures.told (subst IsTrue (sym c.loop-turn.invariant.keeps.telling) t) (λ e. cc)) (c.loop-turn.invariant.listed t u);
+  told = λ t. rest-went _ _ _ _ _ _ _ _ _ c.loop-turn-test.true (c.loop-turn.invariant.told t) ((c.in-Ok.ensures.told (subst IsTrue (sym c.loop-turn.invariant.stands.0) t)).ending (λ e. absurd (cc)));
+  listed = λ t u. list-went _ _ _ _ _ _ _ _ _ _ c.loop-turn-test.true (list-window _ c.in-Ok.ensures.over)
+      (step-answer _ _ _ _ _ _ _ ((c.in-Ok.ensures.told (subst IsTrue (sym c.loop-turn.invariant.stands.0) t)).ending (λ e. absurd (cc)))) (c.loop-turn.invariant.listed t u);
+  spared = λ h. spares-went _ _ _ _ _ c.loop-turn-test.true c.in-Ok.ensures.spared (c.loop-turn.invariant.spared h);
   bound = turned-later _ _ _ _ c.loop-turn.invariant.bound c.run_step.ensures.bound;
-  keeps = keeps-then _ _ _ _ _ _ c.loop-turn.invariant.keeps c.run_step.ensures.keeps;
+  stands = stands-then _ _ _ _ _ _ c.loop-turn.invariant.stands c.run_step.ensures.stands;
 }
 
-pub returns-clause-told : goal.returns-clause-told
-returns-clause-told g c = λ t ne. sym (c.loop-turn.invariant.told t ∙ run-spent _ _ _ _ _ _ c.loop-turn-test.false)
+pub returns-in-Err-clause-told : goal.returns-in-Err-clause-told
+returns-in-Err-clause-told g c = λ t.
+    rest-ended _ _ _ _ _ _ _ _ _ c.loop-turn-test.true (c.loop-turn.invariant.told t) (c.in-Err.ensures.told (subst IsTrue (sym c.loop-turn.invariant.stands.0) t))
 
--- the step that found no memory wrote a front of what the run writes
-pub returns-in-Err-clause-front : goal.returns-in-Err-clause-front
-returns-in-Err-clause-front g c = λ t oom.
-    let here = contents (g.H.Host.told c.loop-turn.host) in
-    let front = c.in-Err.ensures.front (subst IsTrue (sym c.loop-turn.invariant.keeps.telling) t) (ap Err oom) in
-    let left = run-wanting c.args.n c.loop-turn.turn (flags_at c.args.flags.now) c.loop-turn.first (state_of c.loop-turn.machine) here _ c.loop-turn-test.true front in
-    (left.0, ap (λ (r : Ended). r.host.output) (c.loop-turn.invariant.told t) ∙ left.1)
+pub returns-clause-told : goal.returns-clause-told
+returns-clause-told g c = λ t. rest-spent _ _ _ _ _ _ _ c.loop-turn-test.false (c.loop-turn.invariant.told t)
+
+pub returns-in-Err-clause-spared : goal.returns-in-Err-clause-spared
+returns-in-Err-clause-spared g c = λ h. spares-ended _ _ _ _ _ c.loop-turn-test.true c.in-Err.ensures.spared (c.loop-turn.invariant.spared h)
 
 -- beside the list machine
 pub returns-in-Err-clause-listed : goal.returns-in-Err-clause-listed
 returns-in-Err-clause-listed g c = λ t ne u.
-    list-ended _ _ _ _ _ _ _ _ _ _ c.loop-turn-test.true c.in-Err.ensures.over
-    (c.in-Err.ensures.told (subst IsTrue (sym c.loop-turn.invariant.keeps.telling) t) (λ e. ne (cc))) (c.loop-turn.invariant.listed t u)
+    list-ended _ _ _ _ _ _ _ _ _ _ c.loop-turn-test.true (list-window _ c.in-Err.ensures.over)
+    (step-answer _ _ _ _ _ _ _ ((c.in-Err.ensures.told (subst IsTrue (sym c.loop-turn.invariant.stands.0) t)).ending (λ e. ne (cc)))) (c.loop-turn.invariant.listed t u)
 
 pub returns-clause-listed : goal.returns-clause-listed
 returns-clause-listed g c = λ t ne u. list-spent _ _ _ _ _ _ _ c.loop-turn-test.false (c.loop-turn.invariant.listed t u)

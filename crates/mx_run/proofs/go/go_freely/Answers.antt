@@ -1,54 +1,50 @@
-use Rattle.std.proofs.Common.{sym, ◌∙◌, subst, ap, Err, IsTrue, true, false}
-use Rattle.mx_host.specs.HostModel.{contents}
-use Rattle.mx_host.proofs.Keeping.{keeps-all, keeps-then}
-use Rattle.mx_core.specs.Kept.{state_of}
-use Rattle.mx_run.specs.FlagMaps.{flags_at}
-use Rattle.mx_run.specs.Runs.{Ended}
-use Rattle.mx_run.proofs.Later.{begun-later, turned-later}
-use Rattle.mx_run.proofs.ListSteps.{list-begun, list-went, list-ended, list-spent, list-freely}
-use Rattle.mx_run.proofs.RunSteps.{run-begun, run-went, run-ended, run-spent, run-wanting, free-run}
+use Rattle.std.proofs.Common.{sym, subst, IsTrue}
+use Rattle.mx_run.proofs.Runners.{stands-then}
+use Rattle.mx_run.proofs.Walked.{not-last, all-made, fewer-left, walk-goes-on, walk-ends, walk-spends, walk-listed-on, walk-listed-end, walk-listed-spent, walk-spares-on, walk-spares-end, walk-later, walk-later-on, walk-later-end}
 use Rattle.mx_run.proofs.go.go_freely.Goals as goal
 
-pub loop-turn-init : goal.loop-turn-init
-loop-turn-init g c = record {
-  told = λ t. run-begun c.args.n (flags_at c.args.flags.now) true (state_of c.args.machine.now) (contents (g.H.Host.told c.args.host.now));
-  listed = λ t u. list-begun c.args.n (flags_at c.args.flags.now) true (state_of c.args.machine.now) (contents (g.H.Host.told c.args.host.now)) u;
-  bound = begun-later (state_of c.args.machine.now);
-  keeps = keeps-all (g.H.Host.told c.args.host.now) (g.H.Host.faults c.args.host.now);
-}
+pub returns-then-left-eq0-clause-told : goal.returns-then-left-eq0-clause-told
+returns-then-left-eq0-clause-told g c = λ t.
+    walk-spends _ _ _ _ _ _ _ _ c.requires c.advance_many-walk.ensures.most (all-made _ _ c.if-left-eq0.true) c.advance_many-walk.ensures.goes (c.loop-left.invariant.told t)
 
-pub returns-in-Over-clause-told : goal.returns-in-Over-clause-told
-returns-in-Over-clause-told g c = λ t ne.
-    sym (c.loop-turn.invariant.told t ∙ run-ended _ _ _ _ _ _ _ _ _ c.loop-turn-test.true
-    (c.in-Over.ensures.told (subst IsTrue (sym c.loop-turn.invariant.keeps.telling) t) (λ e. ne (cc))))
+pub returns-then-left-eq0-clause-listed : goal.returns-then-left-eq0-clause-listed
+returns-then-left-eq0-clause-listed g c = λ t ne u.
+    walk-listed-spent _ _ _ _ _ _ _ c.requires c.advance_many-walk.ensures.most (all-made _ _ c.if-left-eq0.true) c.advance_many-walk.ensures.goes (c.loop-left.invariant.listed t u)
 
-pub loop-turn-preserved : goal.loop-turn-preserved
-loop-turn-preserved g c = record {
-  told = λ t. c.loop-turn.invariant.told t ∙ run-went _ _ _ _ _ _ _ _ _ c.loop-turn-test.true
-      (c.in-On.ensures.told (subst IsTrue (sym c.loop-turn.invariant.keeps.telling) t) (λ e. cc))
-      ∙ free-run _ c.args.flags.now false _ _ c.requires;
-  listed = λ t u. list-freely _ c.args.flags.now false _ _ _ c.requires (list-went _ _ _ _ _ _ _ _ _ _ c.loop-turn-test.true c.in-On.ensures.over
-      (c.in-On.ensures.told (subst IsTrue (sym c.loop-turn.invariant.keeps.telling) t) (λ e. cc)) (c.loop-turn.invariant.listed t u));
-  bound = turned-later _ _ _ _ c.loop-turn.invariant.bound c.free_step.ensures.bound;
-  keeps = keeps-then _ _ _ _ _ _ c.loop-turn.invariant.keeps c.free_step.ensures.keeps;
-}
+pub returns-then-left-eq0-clause-bound : goal.returns-then-left-eq0-clause-bound
+returns-then-left-eq0-clause-bound g c = walk-later _ _ _ _ _ _ c.loop-left.invariant.few c.advance_many-walk.ensures.most c.loop-left.invariant.bound c.advance_many-walk.ensures.goes
 
-pub returns-clause-told : goal.returns-clause-told
-returns-clause-told g c = λ t ne. sym (c.loop-turn.invariant.told t ∙ run-spent _ _ _ _ _ _ c.loop-turn-test.false)
+pub loop-left-preserved : goal.loop-left-preserved
+loop-left-preserved g c =
+    let some = not-last _ _ c.advance_many-walk.ensures.most c.if-left-eq0.false in
+    let walk = c.advance_many-walk.ensures.goes in
+    record {
+      told = λ t. walk-goes-on _ _ _ _ _ _ _ _ _ _ c.requires some walk (c.loop-left.invariant.told t) (c.in-Ok.ensures.told (subst IsTrue (sym c.loop-left.invariant.stands.0) t));
+      listed = λ t u. walk-listed-on _ _ _ _ _ _ _ _ _ _ c.requires some walk c.in-Ok.ensures.over (c.loop-left.invariant.listed t u)
+          (c.in-Ok.ensures.told (subst IsTrue (sym c.loop-left.invariant.stands.0) t));
+      spared = λ h. walk-spares-on _ _ _ _ _ _ some walk c.in-Ok.ensures.spared (c.loop-left.invariant.spared h);
+      few = fewer-left _ _ _ c.loop-left.invariant.few;
+      bound = walk-later-on _ _ _ _ _ _ _ c.loop-left.invariant.few some c.loop-left.invariant.bound walk c.step_over.ensures.bound;
+      stands = stands-then _ _ _ _ _ _ c.loop-left.invariant.stands c.step_over.ensures.stands;
+    }
 
--- the step that found no memory wrote a front of what the run writes
-pub returns-in-Over-clause-front : goal.returns-in-Over-clause-front
-returns-in-Over-clause-front g c = λ t oom.
-    let here = contents (g.H.Host.told c.loop-turn.host) in
-    let front = c.in-Over.ensures.front (subst IsTrue (sym c.loop-turn.invariant.keeps.telling) t) (ap Err oom) in
-    let left = run-wanting c.args.n c.loop-turn.turn (flags_at c.args.flags.now) true (state_of c.loop-turn.machine) here _ c.loop-turn-test.true front in
-    (left.0, ap (λ (r : Ended). r.host.output) (c.loop-turn.invariant.told t) ∙ left.1)
+pub returns-in-Err-clause-told : goal.returns-in-Err-clause-told
+returns-in-Err-clause-told g c = λ t.
+    let some = not-last _ _ c.advance_many-walk.ensures.most c.if-left-eq0.false in
+    walk-ends _ _ _ _ _ _ _ _ _ _ c.requires some c.advance_many-walk.ensures.goes (c.loop-left.invariant.told t) (c.in-Err.ensures.told (subst IsTrue (sym c.loop-left.invariant.stands.0) t))
 
--- beside the list machine
-pub returns-in-Over-clause-listed : goal.returns-in-Over-clause-listed
-returns-in-Over-clause-listed g c = λ t ne u.
-    list-ended _ _ _ _ _ _ _ _ _ _ c.loop-turn-test.true c.in-Over.ensures.over
-    (c.in-Over.ensures.told (subst IsTrue (sym c.loop-turn.invariant.keeps.telling) t) (λ e. ne (cc))) (c.loop-turn.invariant.listed t u)
+pub returns-in-Err-clause-listed : goal.returns-in-Err-clause-listed
+returns-in-Err-clause-listed g c = λ t ne u.
+    let some = not-last _ _ c.advance_many-walk.ensures.most c.if-left-eq0.false in
+    walk-listed-end _ _ _ _ _ _ _ _ _ _ c.requires some c.advance_many-walk.ensures.goes c.in-Err.ensures.over ne (c.loop-left.invariant.listed t u)
+    (c.in-Err.ensures.told (subst IsTrue (sym c.loop-left.invariant.stands.0) t))
 
-pub returns-clause-listed : goal.returns-clause-listed
-returns-clause-listed g c = λ t ne u. list-spent _ _ _ _ _ _ _ c.loop-turn-test.false (c.loop-turn.invariant.listed t u)
+pub returns-in-Err-clause-spared : goal.returns-in-Err-clause-spared
+returns-in-Err-clause-spared g c = λ h.
+    let some = not-last _ _ c.advance_many-walk.ensures.most c.if-left-eq0.false in
+    walk-spares-end _ _ _ _ _ _ some c.advance_many-walk.ensures.goes c.in-Err.ensures.spared (c.loop-left.invariant.spared h)
+
+pub returns-in-Err-clause-bound : goal.returns-in-Err-clause-bound
+returns-in-Err-clause-bound g c =
+    let some = not-last _ _ c.advance_many-walk.ensures.most c.if-left-eq0.false in
+    walk-later-end _ _ _ _ _ _ _ c.loop-left.invariant.few some c.loop-left.invariant.bound c.advance_many-walk.ensures.goes c.step_over.ensures.bound

@@ -15,4 +15,4 @@ pub loop-made-preserved : goal.loop-made-preserved
 loop-made-preserved c =
     let other : advance.Went ≢ advance.OutOfMemory = grind (arith, common_steps) in
     let same : c.loop-made.made + 1 ≡ suc c.loop-made.made = omega arith in
-    subst (λ k. Goes k (state_of c.args.self.now) (state_of c.advance_quickly.new.self)) (sym same) (goes-end c.loop-made.made (state_of c.args.self.now) (state_of c.loop-made.self) (state_of c.advance_quickly.new.self) c.loop-made.invariant (c.in-Went.ensures.answer other))
+    subst (λ k. Goes k (state_of c.args.self.now) (state_of c.advance_quickly.new.self)) (sym same) (goes-end c.loop-made.made (state_of c.args.self.now) (state_of c.loop-made.self) (state_of c.advance_quickly.new.self) (record { window = c.loop-made.self.ring; machine = c.machines_keep_the_invariant.ensures }) c.loop-made.invariant (c.in-Went.ensures.answer other))
