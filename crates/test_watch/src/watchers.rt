@@ -160,28 +160,6 @@ fn are_reports(kept: &[Report], want: &[(usize, &str)]) -> bool {
     true
 }
 
-/// The reports that are kept where watchers are told the traces of rows.
-fn kept_of(alloc: Global, rows: &[Row], watchers: &mut Vec<Box<dyn Watcher>>) -> Option<Reports> {
-    let traces = traces_of(alloc, rows)?;
-    let mut kept = Reports::new(alloc);
-    watch(alloc, traces.as_slice(), watchers, &mut kept).ok()?;
-    Some(kept)
-}
-
-/// Whether so many watchers are left and these reports are kept where watchers are told the traces of rows.
-fn is_watched(
-    alloc: Global,
-    rows: &[Row],
-    watchers: &mut Vec<Box<dyn Watcher>>,
-    left: usize,
-    want: &[(usize, &str)],
-) -> bool {
-    match kept_of(alloc, rows, watchers) {
-        Some(kept) => watchers.len() == left && are_reports(kept.as_slice(), want),
-        None => false,
-    }
-}
-
 /// A watcher that is full after a trace.
 fn once(alloc: Global) -> Once {
     Once {
@@ -203,7 +181,10 @@ fn full_after_one(rt: HostRuntime) {
     let third: Box<dyn Watcher> = Box::new(alloc, once(alloc)).expect(&rt, "memory");
     watchers.push(third).expect(&rt, "memory");
     let want = [(0, "last #0000000000000100"), (2, "last #0000000000000100")];
-    assert!(rt; is_watched(alloc, &TURNS, &mut watchers, 1, &want));
+    let traces = traces_of(alloc, &TURNS).expect(&rt, "memory");
+    let mut kept = Reports::new(alloc);
+    watch(alloc, traces.as_slice(), &mut watchers, &mut kept).expect(&rt, "memory");
+    assert!(rt; watchers.len() == 1 && are_reports(kept.as_slice(), &want));
 }
 
 /// The traces of 150 writes of a byte, the first one 150 bytes behind the start of the data segment and each next one a
@@ -217,27 +198,13 @@ fn stores(alloc: Global) -> Option<Vec<Trace>> {
     Some(traces)
 }
 
-/// The report of one that is full after 100 of them, with its place.
-fn hundred(alloc: Global, watchers: &mut Vec<Box<dyn Watcher>>) -> Option<Reports> {
-    let traces = stores(alloc)?;
-    let mut kept = Reports::new(alloc);
-    watch(alloc, traces.as_slice(), watchers, &mut kept).ok()?;
-    Some(kept)
-}
-
 /// Whether one report is kept, of the watcher at this place, with so many bytes and this end.
-fn is_one(kept: &Option<Reports>, place: usize, size: usize, end: &str) -> bool {
-    let Some(reports) = kept else {
-        return false;
-    };
-    let Some(report) = reports.as_slice().first() else {
+fn is_one(kept: &[Report], place: usize, size: usize, end: &str) -> bool {
+    let Some(report) = kept.first() else {
         return false;
     };
     let text = report.text.as_slice();
-    reports.as_slice().len() == 1
-        && report.place == place
-        && text.len() == size
-        && text.ends_with(end.as_bytes())
+    kept.len() == 1 && report.place == place && text.len() == size && text.ends_with(end.as_bytes())
 }
 
 #[test]
@@ -247,7 +214,9 @@ fn full_after_a_hundred(rt: HostRuntime) {
     let writes = writes_up_to(alloc, 100).expect(&rt, "memory");
     let watcher: Box<dyn Watcher> = Box::new(alloc, writes).expect(&rt, "memory");
     watchers.push(watcher).expect(&rt, "memory");
-    let kept = hundred(alloc, &mut watchers);
+    let traces = stores(alloc).expect(&rt, "memory");
+    let mut kept = Reports::new(alloc);
+    watch(alloc, traces.as_slice(), &mut watchers, &mut kept).expect(&rt, "memory");
     let last = "write #0000000000000104 #2000000000000033 1\n";
-    assert!(rt; watchers.is_empty() && is_one(&kept, 0, 4400, last));
+    assert!(rt; watchers.is_empty() && is_one(kept.as_slice(), 0, 4400, last));
 }
