@@ -32,9 +32,6 @@ module _ {A : Type 0} (f : A → Watching) (ts : List Trace) (P Q : List ℕ) (x
   pub heard_left : length Q ≡ length ys → map f ys ≡ watchers_left (watched ts (starting (map f xs) K))
   heard_left same = let long = length-map ys f in sym (zip-second Q (map f ys) (omega arith)) ∙ ap watchers_left from_start
 
-  pub heard_kept : R ≡ (watched ts (starting (map f xs) K)).kept
-  heard_kept = ap (λ (l : Listening). l.kept) from_start
-
 pub places_more : (ps : List ℕ) (n : ℕ) → ps ≡ range_with_len 0 n → ps ++ n ∷ [] ≡ range_with_len 0 (n + 1)
 places_more ps n e =
     let next : n + 1 ≡ suc n = omega arith in

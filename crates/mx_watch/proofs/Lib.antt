@@ -8,3 +8,4 @@ pub mod OneTold
 pub mod Passed
 pub mod Front
 pub mod Heard
+pub mod HearingLaws

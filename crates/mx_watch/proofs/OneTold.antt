@@ -1,5 +1,5 @@
 -- A list of watchers, one of which is told a trace or leaves.
-use Rattle.std.proofs.Common.{◌≡◌, ◌<◌, ◌+◌, ℕ, suc, List, [], ◌∷◌, ◌++◌, map, take, drop, length, get_or, set, remove, arith, ap, ◌∙◌, sym}
+use Rattle.std.proofs.Common.{◌≡◌, ◌<◌, ℕ, suc, List, ◌++◌, map, take, drop, length, get_or, set, remove, ap, ◌∙◌, sym}
 use Rattle.std.proofs.Math.Seq.{map-set_same}
 use Rattle.std.proofs.lemmas.List.{map-set, map-append, take-map, drop-map, get_or-map}
 use Rattle.mx_core.specs.declared.trace.Trace.{Trace}

@@ -3,9 +3,8 @@ use Rattle.std.proofs.Common.{◌≡◌, refl, ◌<◌, ◌+◌, ℕ, zero, suc,
 use Rattle.std.proofs.lemmas.List.{append_assoc, append-nil, take-set, drop-set-lt, get_or-set_same, length-map}
 use Rattle.mx_core.specs.declared.trace.Trace.{Trace}
 use Rattle.mx_watch.specs.Watching.{Watching, later, wish_if}
-use Rattle.mx_watch.specs.Listening.{told_at, stays, leaves, still_listening, reports_at}
+use Rattle.mx_watch.specs.Listening.{told_at, still_listening, reports_at}
 use Rattle.mx_watch.specs.declared.telling.Report.{Report}
-use Rattle.mx_watch.specs.declared.watcher.Wish.{Wish}
 use Rattle.mx_watch.specs.declared.watcher.Wish.TheVariants.{More, Full}
 
 abbrev pub nobody : Watching

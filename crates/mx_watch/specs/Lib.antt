@@ -3,3 +3,4 @@ pub mod Profiles
 pub mod Covers
 pub mod Writings
 pub mod Listening
+pub mod Hearing

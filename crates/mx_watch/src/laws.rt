@@ -1,11 +1,13 @@
 //! What the three watchers come to, in words of the traces alone.
 
-ghost use Rattle.std.specs.Prelude.{◌≡◌, ◌<◌, ◌-◌, ◌^◌, ◌↔◌, ℕ, List, [], min, replicate, slice_index};
+ghost use Rattle.std.specs.Prelude.{◌≡◌, ◌<◌, ◌-◌, ◌^◌, ◌↔◌, ◌++◌, ℕ, List, [], min, replicate, slice_index};
 ghost use Rattle.std.specs.List.{Contains, flat_map};
 ghost use Rattle.std.specs.List.Sorted.{IsStrictlySortedBy};
 ghost use Rattle.std.specs.Ordering.{nat_cmp};
 ghost use Rattle.mx_core.specs.declared.trace.Trace.{Trace};
 ghost use Rattle.mx_watch.specs.Covers.{addresses_after, addresses_of};
+ghost use Rattle.mx_watch.specs.Hearing.{remains, reports_in_turn};
+ghost use Rattle.mx_watch.specs.Listening.{Listening, watched};
 ghost use Rattle.mx_watch.specs.Profiles.{counts_after, occurrences};
 ghost use Rattle.mx_watch.specs.Writings.{write_of, writes_after};
 
@@ -29,4 +31,13 @@ pub fn addresses_stand_once()
 pub fn writes_stand_in_turn()
     ensures { (from to : ℕ) (h : List Trace) →
         writes_after from to [] h ≡ flat_map (λ t. write_of from to t.pc t.writes) h }
+{}
+
+/// After traces, those watchers are left of which no front of the traces is full, in order, each told all of them. The
+/// report of another one is on its shortest front that is full: the shorter one first, and of one length in the order of
+/// the watchers.
+#[tactic(auto, using(crate::proofs::HearingLaws::hearing))]
+pub fn each_hears_its_front()
+    ensures left { (h : List Trace) (l : Listening) → (watched h l).left ≡ flat_map (remains h) l.left }
+    ensures kept { (h : List Trace) (l : Listening) → (watched h l).kept ≡ l.kept ++ reports_in_turn h l.left }
 {}

@@ -11,7 +11,9 @@ mod watching;
 mod writes;
 
 pub use cover::Cover;
-pub use laws::{addresses_stand_once, codes_are_counted, writes_stand_in_turn};
+pub use laws::{
+    addresses_stand_once, codes_are_counted, each_hears_its_front, writes_stand_in_turn,
+};
 pub use profile::Profile;
 pub use telling::{Report, Reports};
 pub use watcher::{Watcher, Wish};
