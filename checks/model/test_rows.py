@@ -179,6 +179,15 @@ def test_objects():
         check(f"first {length} bytes", Ran(whole[:length], "sim p.mmo").shown()[0], wanted)
     check("more zeros", Ran(whole + bytes(4), "sim p.mmo").shown()[0], ("BadObject", 128, 64))
     check("another end", Ran(whole + plain("980c000a"), "sim p.mmo").shown()[0], ("BadObject", 124, 63))
+    timed = plain("98090101 36f4a363 98010001 00000100 00000000 980a00ff 00000000 00000100 980b0000 203a4040 10404020 "
+                  "4d206120 69016e00 81000000 980c0005")
+    lines = ("pre 36f4a363\nloc #0000000000000100\n#0000000000000100 00000000 TRAP 0,0,0\npost 255 #0000000000000100\n"
+             "stab 203a4040104040204d20612069016e0081000000\nsymbol :Main #0000000000000000 1\n")
+    check("listed object", Ran(timed, "type p.mmo").shown(), (("Done", 0), lines))
+    check("listed to a fault", Ran(plain("98090101 00000000 980d0000"), "type p.mmo").shown(),
+          (("BadObject", 8, 62), "pre 00000000\n"))
+    check("line not written", Ran(timed, "type p.mmo", failing=(5,)).shown(),
+          (("HostFault",), "pre 36f4a363\nloc #0000000000000100\n"))
 
 
 def test_corners():

@@ -1,5 +1,5 @@
 -- Objects that are listed, beside what is loaded of them.
-use Rattle.std.proofs.Common.{◌≡◌, ◌≢◌, ℕ, ◌<◌, ◌≤◌, List, length, Bool, true, false, cond, Result, Ok, Err, refl, sym, ◌∙◌, ap, inl, inr}
+use Rattle.std.proofs.Common.{◌≡◌, ◌≢◌, ℕ, ◌≤◌, List, length, Bool, true, false, cond, Result, Ok, Err, refl, sym, ◌∙◌, ap, inl, inr}
 use Rattle.std.specs.Prelude.{nat_lt}
 use Rattle.std.proofs.lemmas.Bool.{cases_lt}
 use Rattle.mx_word.specs.declared.symbols.Symbol.{Symbol}
@@ -18,8 +18,7 @@ use Rattle.mx_load.specs.Objects.{fault_at, object_loaded, trie_read, with_symbo
 use Rattle.mx_load.proofs.Apart.{object-holds, loaded-means, fault-of-reading, fault-of-meaning, too-long}
 use Rattle.mx_stab.specs.Reading.{trie_answer}
 use Rattle.mx_stab.specs.declared.faults.StabFault.{StabFault}
-use Rattle.mx_top.specs.Typed.{Typed, trie_typed, unread, unread_trie, typed}
-use Rattle.mx_top.specs.declared.outcome.Outcome.{Outcome}
+use Rattle.mx_top.specs.Typed.{Typed, trie_typed, typed}
 use Rattle.mx_top.specs.declared.outcome.Outcome.TheVariants.{Done, BadObject}
 use Rattle.mx_laws.proofs.ListedObjects.{object-typed, fault-typed, trie-fault, long-outcome}
 
