@@ -482,7 +482,8 @@ def test_words():
             "asm a b c": (8, 3), "run --steps": (4, 2), "go": (2, 0), "run --ring 131072 a.mms": (6, 2), "run": (7, 1),
             "gen": (7, 1), "gen 1 2": (8, 2), "run --steps -5 a": (5, 2), "run -": (3, 1), "asm -i a b": (3, 1),
             "run --steps 1000000000001 a": (5, 2), "run --ring x a": (5, 2), "gen --ring 256": (7, 3), "gen -5": (3, 1),
-            "run --steps 00000000000001 a": (5, 2), "type a": (2, 0)}
+            "run --steps 00000000000001 a": (5, 2), "list a": (2, 0),
+            "type": (7, 1), "type --ring 256 a": (3, 1), "type a b": (8, 2)}
     for words, wanted in rows.items():
         check(words, Ran(None, words).shown()[0], ("Usage", *wanted))
     check("message", Ran(None, "run --ring 300 a.mms").errors, "usage fault 6 BadRing at word 2\n")
