@@ -179,6 +179,15 @@ def test_objects():
         check(f"first {length} bytes", Ran(whole[:length], "sim p.mmo").shown()[0], wanted)
     check("more zeros", Ran(whole + bytes(4), "sim p.mmo").shown()[0], ("BadObject", 128, 64))
     check("another end", Ran(whole + plain("980c000a"), "sim p.mmo").shown()[0], ("BadObject", 124, 63))
+    timed = plain("98090101 36f4a363 98010001 00000100 00000000 980a00ff 00000000 00000100 980b0000 203a4040 10404020 "
+                  "4d206120 69016e00 81000000 980c0005")
+    lines = ("pre 36f4a363\nloc #0000000000000100\n#0000000000000100 00000000 TRAP 0,0,0\npost 255 #0000000000000100\n"
+             "stab 203a4040104040204d20612069016e0081000000\nsymbol :Main #0000000000000000 1\n")
+    check("listed object", Ran(timed, "type p.mmo").shown(), (("Done", 0), lines))
+    check("listed to a fault", Ran(plain("98090101 00000000 980d0000"), "type p.mmo").shown(),
+          (("BadObject", 8, 62), "pre 00000000\n"))
+    check("line not written", Ran(timed, "type p.mmo", failing=(5,)).shown(),
+          (("HostFault",), "pre 36f4a363\nloc #0000000000000100\n"))
 
 
 def test_corners():
@@ -473,7 +482,8 @@ def test_words():
             "asm a b c": (8, 3), "run --steps": (4, 2), "go": (2, 0), "run --ring 131072 a.mms": (6, 2), "run": (7, 1),
             "gen": (7, 1), "gen 1 2": (8, 2), "run --steps -5 a": (5, 2), "run -": (3, 1), "asm -i a b": (3, 1),
             "run --steps 1000000000001 a": (5, 2), "run --ring x a": (5, 2), "gen --ring 256": (7, 3), "gen -5": (3, 1),
-            "run --steps 00000000000001 a": (5, 2), "type a": (2, 0)}
+            "run --steps 00000000000001 a": (5, 2), "list a": (2, 0),
+            "type": (7, 1), "type --ring 256 a": (3, 1), "type a b": (8, 2)}
     for words, wanted in rows.items():
         check(words, Ran(None, words).shown()[0], ("Usage", *wanted))
     check("message", Ran(None, "run --ring 300 a.mms").errors, "usage fault 6 BadRing at word 2\n")

@@ -1,5 +1,5 @@
 -- A session of the console leaves the tool's standard output where it leads.
-use Rattle.std.proofs.Common.{◌≡◌, ℕ, zero, suc, ◌+◌, ◌==◌, List, [], ◌∷◌, Bool, true, false, cond, Option, None, Some, Result, Ok, Err, sym, subst, arith}
+use Rattle.std.proofs.Common.{◌≡◌, ℕ, zero, suc, ◌+◌, ◌==◌, List, [], ◌∷◌, Bool, true, false, cond, Option, None, Some, Result, Ok, Err, sym, subst}
 use Rattle.mx_host.specs.HostAnswer.{Then, read_answer, write_answer, write_to}
 use Rattle.mx_host.specs.HostModel.{HostModel, counted, is_failing, slot_at, to_output}
 use Rattle.mx_host.specs.declared.faults.HostFault.{HostFault}

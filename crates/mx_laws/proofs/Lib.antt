@@ -7,6 +7,7 @@ pub mod IdleFiles
 pub mod JoinedWrites
 pub mod KeptSessions
 pub mod KeptSlots
+pub mod ListedFaults
 pub mod ListedObjects
 pub mod LowBytes
 pub mod SameRings

@@ -1,17 +1,16 @@
 -- Objects that are listed.
-use Rattle.std.proofs.Common.{◌≡◌, ◌≢◌, ℕ, ◌<◌, ◌≤◌, List, [], ◌∷◌, ◌++◌, map, length, Bool, true, false, cond, Option, Result, Ok, Err, refl, sym, ◌∙◌, ap, subst, append_assoc, arith}
+use Rattle.std.proofs.Common.{◌≡◌, ◌≢◌, ℕ, ◌<◌, List, [], ◌∷◌, ◌++◌, map, length, Bool, true, false, cond, Option, Result, Ok, Err, refl, sym, ◌∙◌, ap, subst, append_assoc, arith}
 use Rattle.std.specs.Prelude.{nat_lt}
 use Rattle.std.specs.List.{concat, flat_map}
 use Rattle.std.proofs.lemmas.Bool.Decides.{nat_tests}
 use Rattle.mx_word.specs.Ranges.{AreBytes}
 use Rattle.mx_word.specs.declared.symbols.Symbol.{Symbol}
 use Rattle.mx_host.specs.HostModel.{HostModel, contents}
-use Rattle.mx_host.specs.HostAnswer.{Then}
 use Rattle.mx_host.proofs.Start.{slot_at-start_output}
 use Rattle.mx_host.proofs.Still.{still}
 use Rattle.mx_mmo.specs.Replies.{limit, tail_of}
 use Rattle.mx_mmo.specs.Valid.{Valid}
-use Rattle.mx_mmo.specs.Whole.{Left, Walk, items_of, object_of, object_behind, with_tail}
+use Rattle.mx_mmo.specs.Whole.{Walk, items_of, object_of, object_behind, with_tail}
 use Rattle.mx_mmo.specs.declared.due.Phase.TheVariants.{Start}
 use Rattle.mx_mmo.specs.declared.faults.MmoFault.{MmoFault}
 use Rattle.mx_mmo.specs.declared.faults.MmoFault.TheVariants.{TooLong}
@@ -39,12 +38,11 @@ use Rattle.mx_words.specs.declared.order.Command.TheVariants.{Show}
 use Rattle.mx_words.specs.declared.order.Order.{Order}
 use Rattle.mx_top.specs.Answers.{Answer, answered}
 use Rattle.mx_top.specs.Arguments.{Word, word_at}
-use Rattle.mx_top.specs.Lines.{lines_put}
 use Rattle.mx_top.specs.Messages.{message_of}
 use Rattle.mx_top.specs.Product.{message_told, with_message, product}
 use Rattle.mx_top.specs.Runs.{after_lines}
-use Rattle.mx_top.specs.Source.{file_bytes, object_pieces}
-use Rattle.mx_top.specs.Typed.{Typed, shown, item_lines, tail_lines, trie_typed, tail_typed, end_typed, unread, unread_trie, behind, walk_typed, typed, typed_put, after_typing}
+use Rattle.mx_top.specs.Source.{object_pieces}
+use Rattle.mx_top.specs.Typed.{Typed, shown, item_lines, tail_lines, trie_typed, tail_typed, unread, unread_trie, behind, walk_typed, typed, after_typing}
 use Rattle.mx_top.specs.declared.outcome.Outcome.{Outcome}
 use Rattle.mx_top.specs.declared.outcome.Outcome.TheVariants.{Done, OutOfMemory}
 use Rattle.mx_laws.specs.Called.{IsCalled, NoCallFails}
@@ -102,7 +100,7 @@ either-object : (b : Bool) (long : MmoFault) (w : Walk) (object : Object) → co
 either-object true long w object e = absurd (cc)
 either-object false long w object e = walk-typed w object e
 
-object-typed : (bytes : List ℕ) (object : Object) → object_of bytes ≡ Ok object → typed bytes ≡ behind (item_lines 0 object.items) (tail_typed (Ok object.tail))
+pub object-typed : (bytes : List ℕ) (object : Object) → object_of bytes ≡ Ok object → typed bytes ≡ behind (item_lines 0 object.items) (tail_typed (Ok object.tail))
 unfolding typed
 object-typed bytes object e = either-object (nat_lt limit (length bytes)) (TooLong limit) (items_of Start 0 bytes) object e
 
@@ -138,6 +136,14 @@ is-long n h = grind (arith, nat_tests)
 pub long-typed : (bytes : List ℕ) → limit < length bytes → (typed bytes).0 ≡ []
 unfolding typed
 long-typed bytes h = either-long (nat_lt limit (length bytes)) ([], unread (TooLong limit)) (walk_typed 0 (items_of Start 0 bytes)) (is-long (length bytes) h) refl
+
+either-outcome : (b : Bool) (x y : Typed) → b ≡ true → (cond b x y).1 ≡ x.1
+either-outcome true x y h = refl
+either-outcome false x y h = absurd (cc)
+
+pub long-outcome : (bytes : List ℕ) → limit < length bytes → (typed bytes).1 ≡ unread (TooLong limit)
+unfolding typed
+long-outcome bytes h = either-outcome (nat_lt limit (length bytes)) ([], unread (TooLong limit)) (walk_typed 0 (items_of Start 0 bytes)) (is-long (length bytes) h)
 
 -- ---- the listing
 

@@ -25,6 +25,7 @@ pub use dumps::dumps_show_what_programs_see;
 pub use files::{files_are_read_whole, pieces_come_to_one_write};
 pub use images::sources_are_loaded_as_they_mean;
 pub use listings::{
-    objects_that_are_there_are_listed, what_is_written_for_an_object_is_its_listing,
+    objects_are_listed_beside_what_they_mean, objects_that_are_there_are_listed,
+    what_is_written_for_an_object_is_its_listing,
 };
 pub use rings::{programs_end_by_themselves, runs_end_by_themselves, two_rings_agree};

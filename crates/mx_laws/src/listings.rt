@@ -5,10 +5,12 @@ ghost use Rattle.std.specs.List.{concat};
 ghost use Rattle.mx_word.specs.Ranges.{AreBytes};
 ghost use Rattle.mx_word.specs.declared.symbols.Symbol.{Symbol};
 ghost use Rattle.mx_host.specs.HostModel.{HostModel, contents};
+ghost use Rattle.mx_mmo.specs.Image.{Image};
 ghost use Rattle.mx_mmo.specs.Replies.{limit};
 ghost use Rattle.mx_mmo.specs.Whole.{object_of};
 ghost use Rattle.mx_mmo.specs.declared.faults.MmoFault.{MmoFault};
 ghost use Rattle.mx_mmo.specs.declared.items.Object.{Object};
+ghost use Rattle.mx_load.specs.Objects.{object_loaded};
 ghost use Rattle.mx_plan.specs.Counts.{unscheduled};
 ghost use Rattle.mx_run.specs.WildRuns.{MachineKind, window_machine};
 ghost use Rattle.mx_stab.specs.Grammar.{IsTrie};
@@ -48,6 +50,15 @@ pub fn what_is_written_for_an_object_is_its_listing()
     ensures trie { (bytes : List ℕ) (object : Object) (fault : StabFault) → object_of bytes ≡ Ok object →
         trie_answer object.tail.trie ≡ Err fault → (typed bytes).1 ≡ unread_trie object.tail.place fault }
     ensures long { (bytes : List ℕ) → limit < length bytes → (typed bytes).0 ≡ [] }
+{}
+
+/// What is loaded is listed. A fault of loading is that of listing, unless it is one of what the items mean:
+/// too many pages, a place in the stack segment or above it, or a file that was never named.
+pub fn objects_are_listed_beside_what_they_mean()
+    ensures loaded { (bytes : List ℕ) (m : Image) (symbols : List Symbol) → object_loaded bytes ≡ Ok (m, symbols) →
+        (typed bytes).1 ≡ Outcome.Done 0 }
+    ensures faults { (bytes : List ℕ) (place fault : ℕ) → object_loaded bytes ≡ Err (place, fault) → fault ≢ 90 →
+        fault ≢ 95 → fault ≢ 96 → (typed bytes).1 ≡ Outcome.BadObject place fault }
 {}
 
 /// Where no call that the program makes fails and the slots stand as at the start, an object that is there is

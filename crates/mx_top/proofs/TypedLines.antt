@@ -6,8 +6,6 @@ use Rattle.std.proofs.lemmas.List.{drop_more}
 use Rattle.std.specs.Prelude.{◌+◌, ◌==◌, Result, Ok, Err, IfErr, OnOk, ◌<◌, ◌≤◌, drop, get_or, length, nat_lt}
 use Rattle.mx_word.specs.Lists.{IsFront}
 use Rattle.mx_word.specs.declared.no_memory.NoMemory.{NoMemory}
-use Rattle.mx_word.specs.declared.symbols.Symbol.{Symbol}
-use Rattle.mx_word.proofs.Fronts.{front-self, front-of}
 use Rattle.mx_host.specs.HostModel.{HostModel, contents}
 use Rattle.mx_host.specs.HostAnswer.{Then}
 use Rattle.mx_host.proofs.Keeping.{keeps-then, keeps-all}
@@ -21,7 +19,7 @@ use Rattle.mx_mmo.specs.declared.items.Tail.{Tail}
 use Rattle.mx_mmo.proofs.Nexts.{next-gave, next-none, next-fault, finish-fault, reader-is, result-is}
 use Rattle.mx_type.specs.Lambda.{lambda_after}
 use Rattle.mx_type.specs.Texts.{item_text}
-use Rattle.mx_top.specs.Answers.{Answer, answered, output_of, is_usage, GoesAs}
+use Rattle.mx_top.specs.Answers.{Answer, answered, output_of, is_usage}
 use Rattle.mx_top.specs.Lines.{Puts, lines_put}
 use Rattle.mx_top.specs.Pieces.{pieces_after}
 use Rattle.mx_top.specs.Runs.{after_lines}

@@ -195,7 +195,7 @@ list-order words o parts =
     let none_set : (parts.options ≡ []) × (defaults ≡ parts.after) = bare Show defaults parts.after parts.options refl refl parts.set in
     let whole : words ≡ parts.file ∷ parts.behind = parts.whole ∙ ap (λ l. l ++ parts.file ∷ parts.behind) none_set.0 in
     let ordered : none_behind (run_order Show parts.after 1) 1 parts.behind ≡ Ok o =
-        ap (λ l. none_behind (run_order Show parts.after (1 + length l)) (1 + length l) parts.behind) (sym none_set.0) ∙ parts.ordered in
+    ap (λ l. none_behind (run_order Show parts.after (1 + length l)) (1 + length l) parts.behind) (sym none_set.0) ∙ parts.ordered in
     rw whole (list-from parts.after parts.file parts.behind o parts.no_dash none_set.1 ordered)
 
 gen-order : (words : List Word) (o : Order) → Parted Gen defaults 1 words o → Orders (codes "gen" ∷ words) o

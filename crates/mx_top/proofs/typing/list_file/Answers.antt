@@ -1,4 +1,4 @@
-use Rattle.std.proofs.Common.{refl, ap, ◌∙◌}
+use Rattle.std.proofs.Common.{refl}
 use Rattle.mx_host.specs.HostModel.{contents}
 use Rattle.mx_word.proofs.Fronts.{front-of}
 use Rattle.mx_top.proofs.TypedLines.{listed-front}
