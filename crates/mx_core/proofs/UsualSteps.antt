@@ -1,5 +1,5 @@
 -- Steps that are made at an address below Stack_Segment.
-use Rattle.std.proofs.Common.{◌≡◌, ◌≢◌, ◌<◌, ◌^◌, ◌||◌, Bool, true, false, Option, None, Some, Ok, Err, refl, sym, ap, ◌∙◌, arith}
+use Rattle.std.proofs.Common.{◌≡◌, ◌≢◌, ◌<◌, ◌^◌, false, Ok, sym, ap, ◌∙◌, arith}
 use Rattle.std.proofs.lemmas.Bool.Decides.{nat_tests}
 use Rattle.mx_core.specs.Calls.{Left, left, with_touch_where}
 use Rattle.mx_core.specs.Deeds.{deed_at, deed_for, deed_of, outcome}

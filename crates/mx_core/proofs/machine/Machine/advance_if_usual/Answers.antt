@@ -1,4 +1,4 @@
-use Rattle.std.proofs.Common.{◌≡◌, ◌<◌, refl, ◌∙◌, arith}
+use Rattle.std.proofs.Common.{◌≡◌, ◌<◌, refl, arith}
 use Rattle.mx_core.specs.Instructions.{instruction}
 use Rattle.mx_core.specs.Kept.{state_of}
 use Rattle.mx_core.specs.Step.{fetched}

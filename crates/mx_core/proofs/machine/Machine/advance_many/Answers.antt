@@ -1,9 +1,7 @@
-use Rattle.std.proofs.Common.{◌≡◌, ◌≢◌, ℕ, ◌+◌, suc, sym, subst, arith}
+use Rattle.std.proofs.Common.{◌≡◌, ◌≢◌, ◌+◌, suc, sym, subst, arith}
 use Rattle.std.proofs.lemmas.Grind.{common_steps}
 use Rattle.mx_core.specs.Walks.{Goes}
 use Rattle.mx_core.specs.Kept.{state_of}
-use Rattle.mx_core.specs.Step as spec
-use Rattle.mx_core.specs.Stepping.{advanced}
 use Rattle.mx_core.specs.declared.step.Advance.TheVariants as advance
 use Rattle.mx_core.proofs.Walks.{goes-end, goes-none}
 use Rattle.mx_core.proofs.machine.Machine.advance_many.Goals as goal

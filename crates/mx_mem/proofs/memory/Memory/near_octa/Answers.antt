@@ -1,4 +1,4 @@
-use Rattle.std.proofs.Common.{ℕ, List, [], length, get_or, ◌<◌, ◌/◌, ◌%◌, Some, None, sym, ◌∙◌, ap}
+use Rattle.std.proofs.Common.{ℕ, List, [], length, get_or, ◌<◌, ◌/◌, ◌%◌, Some, sym, ◌∙◌, ap}
 use Rattle.std.proofs.lemmas.List.{get_or_read}
 use Rattle.mx_mem.proofs.Views.{octa-found}
 use Rattle.mx_mem.proofs.memory.Memory.near_octa.Goals as goal

@@ -3,9 +3,7 @@ use Rattle.std.proofs.Math.ListN.{set}
 use Rattle.std.proofs.lemmas.Grind.{common_steps}
 use Rattle.mx_mem.specs.Memory.{octa_at, has_page, page_count, stored_at}
 use Rattle.mx_mem.specs.Held.{view_of}
-use Rattle.mx_mem.proofs.Stores.{rewritten, rewritten-by, rewritten-indexed, rewritten-bounded, length-kept, stored-octas, stored-pages, stored-count, stored-there, stored-new}
-use Rattle.std.proofs.lemmas.Result.{on_ok_weaker}
-use Rattle.mx_mem.proofs.PartBytes.{octa-bytes}
+use Rattle.mx_mem.proofs.Stores.{rewritten, rewritten-by, rewritten-indexed, rewritten-bounded, length-kept, stored-octas, stored-pages, stored-count, stored-there}
 use Rattle.mx_mem.proofs.Fits.{store-fits}
 use Rattle.mx_mem.proofs.memory.Memory.store_if_near.Goals as goal
 
