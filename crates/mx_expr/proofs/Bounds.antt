@@ -1,6 +1,6 @@
 -- The bounds: where one is passed, and what it does to reading.
 use Rattle.std.proofs.Common.{◌≡◌, ℕ, ◌+◌, ◌-◌, ◌*◌, ◌^◌, ◌≤◌, List, [], ◌∷◌, ◌++◌, length, Bool, true, false, cond, Option, Some, None, Ok, refl, sym, ap, ◌∙◌, arith, append_assoc, subst, length-append, ◌==◌, ◌&&◌, nat_le}
-use Rattle.mx_expr.proofs.Words.{and_parts, eqb-true, leb-true, ExprFault, TooWide, TooDeep, EmptyString, Div, Tree, is_digit, is_hexadecimal, digit_value, Waiting, strong, parenthesis, Mode, operand, whole, digit, decimal, hash, hexadecimal, quote, character, symbol, slash, less, greater, string, closed, State, passed_bound, too_wide, too_deep, digits_value, Constant, Before, FaultAt, div}
+use Rattle.mx_expr.proofs.Words.{and_parts, eqb-true, leb-true, ExprFault, TooWide, TooDeep, EmptyString, Div, Tree, is_digit, is_hexadecimal, digit_value, Waiting, strong, parenthesis, Mode, operand, decimal, hexadecimal, slash, string, closed, State, passed_bound, too_wide, too_deep, digits_value, Constant, Before, FaultAt, div}
 use Rattle.mx_expr.specs.Spelling.Constant.{decimal as decimal_digits, hexadecimal as hexadecimal_digits}
 use Rattle.mx_expr.specs.Spelling.FaultAt.{too_wide as stands_wide, too_deep as stands_deep, empty_string as stands_empty}
 use Rattle.mx_expr.proofs.Moves.{st, move}

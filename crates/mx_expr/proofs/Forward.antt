@@ -1,6 +1,6 @@
 -- What is spelled is read, where constants and parentheses have no bound.
 use Rattle.std.proofs.Common.{◌≡◌, ℕ, ◌+◌, ◌-◌, ◌*◌, List, [], ◌∷◌, ◌++◌, true, false, Some, Ok, refl, sym, ap, ◌∙◌, arith, append_assoc, append-nil, subst, ◌==◌, fold}
-use Rattle.mx_expr.proofs.Words.{list_all, and_parts, nat_tests, UnOp, BinOp, Div, Tree, number, name, back, ahead, here, is_digit, is_hexadecimal, is_letter, is_name_byte, digit_value, Waiting, sign, strong, weak, parenthesis, Mode, operand, whole, slash, with_strong, with_weak, primary_end, and_then, digits_value, Constant, Sign, StrongOperator, WeakOperator, Primary, Product, Sum, plus, minus, not, register, mul, div, fraction, rem, left, right, and, add, sub, or, xor, constant, last_label, next_label, place, enclosed, signed, primary, times, product}
+use Rattle.mx_expr.proofs.Words.{list_all, and_parts, nat_tests, UnOp, BinOp, Div, Tree, number, name, back, ahead, here, is_digit, is_hexadecimal, is_letter, is_name_byte, digit_value, Waiting, sign, strong, weak, parenthesis, Mode, operand, whole, slash, with_strong, with_weak, primary_end, and_then, digits_value, Constant, Sign, StrongOperator, WeakOperator, Primary, Product, Sum, plus, mul, div, fraction, rem, left, right, and, add, sub, or, xor, constant, last_label, next_label, place, enclosed, signed, primary, times, product}
 use Rattle.mx_expr.specs.Reading as reading
 use Rattle.mx_expr.specs.Spelling.Constant.{decimal as decimal_digits, hexadecimal as hexadecimal_digits}
 use Rattle.mx_expr.specs.Spelling.Primary.{character, symbol}

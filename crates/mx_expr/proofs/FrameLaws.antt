@@ -2,7 +2,7 @@
 use Rattle.std.proofs.Common.{◌≡◌, ◌+◌, List, [], ◌∷◌, ◌++◌, Err, refl, ap, ◌∙◌, arith}
 use Rattle.mx_expr.proofs.Words.{ExprFault, Valued, Knowledge, value_through, value_after, nodes_of, nodes_left, FrameHasDigits, AllHaveDigits}
 use Rattle.mx_expr.specs.declared.valuing.Frame.{Frame}
-use Rattle.mx_expr.specs.declared.valuing.Frame.TheVariants.{Operand, Left, Right}
+use Rattle.mx_expr.specs.declared.valuing.Frame.TheVariants.{Operand}
 
 pub finished-push : (k : Knowledge) (fs : List Frame) (f : Frame) (x : Valued) → value_after k (fs ++ f ∷ []) x ≡ value_after k fs (value_through k f x)
 finished-push k [] f x = refl

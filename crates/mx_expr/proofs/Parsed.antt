@@ -1,10 +1,9 @@
 -- What a list or a fault that was read says of the field.
 use Rattle.std.proofs.Common.{◌≡◌, ◌≢◌, ℕ, List, [], ◌∷◌, ◌++◌, map, Result, Ok, Err, IfOk, sym, ◌∙◌, arith, IfErr}
-use Rattle.mx_expr.proofs.Words.{All, AllByRecursion, ExprFault, OutOfMemory, Tree, number, tree_of, trees_of, HasDigits, reading, Primary, Product, Sum, Operand, Operands, Spells, IsFirst, Faultless, constant, last_label, next_label, place, enclosed, signed, primary, times, product, expression, none, more, empty, operands}
+use Rattle.mx_expr.proofs.Words.{All, AllByRecursion, ExprFault, OutOfMemory, Tree, number, tree_of, trees_of, HasDigits, reading, Primary, Product, Sum, Operand, Operands, Spells, IsFirst, Faultless, last_label, next_label, enclosed, signed, primary, times, product, expression, none, more, empty, operands}
 use Rattle.std.proofs.lemmas.List.Elements.{All-from_recursion}
 use Rattle.mx_word.specs.Results.{map_ok}
 use Rattle.mx_expr.specs.declared.tree.Expr.{Expr}
-use Rattle.mx_expr.specs.Spelling.Primary.{character, symbol}
 use Rattle.mx_expr.specs.Spelling.Sum.{plus}
 use Rattle.mx_expr.specs.Spelling.Operand.{string}
 use Rattle.mx_expr.proofs.Marks.{digit-small}

@@ -1,6 +1,6 @@
 -- What stands first in bytes does not depend on what comes later.
 use Rattle.std.proofs.Common.{◌≡◌, ◌≢◌, sym, ℕ, ◌+◌, ◌-◌, ◌*◌, ◌^◌, ◌<◌, ◌≤◌, length, List, [], ◌∷◌, ◌++◌, take, Bool, true, false, cond, arith, refl, ap, subst, Ok, Err, Some, None, Option, nat_lt, nat_le, ◌==◌, ◌&&◌, ◌||◌}
-use Rattle.mx_mmo.proofs.Words.{nat_tests, common_steps, skipped, DueOf, Due, IsWithin, first_item, due_item, lop_item, lop_of, on_tetra, on_octa, quoted_tetra, short_address, long_address, address_due, item_due, far_tetra, named_file, file_item, ended_spec, pre_item, post_item, tetras_of, octas_of, trimmed, Item, Load, Loc, Skip, FixOcta, FixNear, FixFar, File, Line, Spec, Pre, Post, Stab, Lop, MmoFault, NoPre, BadLop, BadFields, OutOfMemory, tetra_from_bytes, octa_from_bytes, Phase, Start, Middle, Posted, Ended, not-less}
+use Rattle.mx_mmo.proofs.Words.{nat_tests, common_steps, skipped, DueOf, Due, IsWithin, first_item, due_item, lop_item, lop_of, on_tetra, on_octa, quoted_tetra, short_address, long_address, address_due, item_due, far_tetra, named_file, file_item, ended_spec, tetras_of, octas_of, trimmed, Item, Load, Loc, Skip, FixOcta, FixNear, FixFar, File, Line, Spec, Pre, Post, Stab, Lop, MmoFault, NoPre, BadLop, BadFields, OutOfMemory, tetra_from_bytes, octa_from_bytes, Phase, Start, Middle, Posted, Ended, not-less}
 use Rattle.mx_mmo.specs.declared.lops.Lop.TheVariants as lops
 use Rattle.mx_mmo.proofs.Skips.{SkipGrows, SkipWithin, skip-grows, skip-within}
 

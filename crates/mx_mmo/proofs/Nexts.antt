@@ -1,6 +1,6 @@
 -- What an answer of a reader says of the items that it still gives.
-use Rattle.std.proofs.Common.{◌≡◌, ℕ, ◌+◌, ◌<◌, ◌≤◌, length, List, [], ◌∷◌, ◌++◌, drop, arith, refl, sym, ◌∙◌, ap, subst, Ok, Err, Some, None, length-drop, append_assoc, Result, Option}
-use Rattle.mx_mmo.proofs.Words.{Due, IsWithin, first_item, ReaderModel, phase_after, next_item, next_due, next_answer, given, tail_of, finished, finish_next, finish_answer, Walk, behind, items_of, onto, with_rest, left_of, fed, Item, Tail, MmoFault}
+use Rattle.std.proofs.Common.{◌≡◌, ℕ, ◌<◌, ◌≤◌, length, List, [], ◌∷◌, ◌++◌, arith, refl, sym, ◌∙◌, ap, subst, Ok, Err, Some, None, length-drop, append_assoc, Result, Option}
+use Rattle.mx_mmo.proofs.Words.{Due, IsWithin, first_item, ReaderModel, next_item, next_due, next_answer, given, tail_of, finished, finish_next, finish_answer, items_of, onto, with_rest, left_of, fed, Item, Tail, MmoFault}
 use Rattle.mx_mmo.proofs.Firsts.{first-within}
 use Rattle.mx_mmo.proofs.Walks.{items-more, items-none, items-fault}
 

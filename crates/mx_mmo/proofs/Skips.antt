@@ -1,6 +1,6 @@
 -- The tetras that a spec skips, read and spelled.
 use Rattle.std.proofs.Common.{◌≡◌, ℕ, zero, suc, ◌+◌, ◌-◌, ◌/◌, ◌^◌, ◌<◌, ◌≤◌, length, List, [], ◌∷◌, ◌++◌, take, drop, get_or, Bool, true, false, cond, arith, refl, sym, ◌∙◌, ap, subst, Some, None, length-take, length-drop, add-zero, zero-add, Option, ◌==◌, ◌&&◌}
-use Rattle.mx_mmo.proofs.Words.{take-append-drop, take_all, drop-drop, tetra_to_bytes, tetra_from_bytes, AreBytes, EndsSpec, IsNoLop, IsSkipped, quote_behind, four_more, skip_on, skipped, quoted_on, quoted_behind, four-bytes, four-fit, top-byte, take-four, drop-four, all-tests, other-number, same-number}
+use Rattle.mx_mmo.proofs.Words.{take-append-drop, take_all, drop-drop, tetra_to_bytes, tetra_from_bytes, AreBytes, EndsSpec, IsSkipped, quote_behind, four_more, skip_on, skipped, quoted_on, quoted_behind, four-bytes, four-fit, top-byte, take-four, drop-four, all-tests, other-number, same-number}
 use Rattle.mx_mmo.proofs.Codes.{no-lop-first}
 
 -- what is skipped stays so, whatever follows

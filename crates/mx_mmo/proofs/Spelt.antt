@@ -1,6 +1,6 @@
 -- What is spelled so is read so.
 use Rattle.std.proofs.Common.{◌≡◌, ℕ, ◌+◌, ◌-◌, ◌*◌, ◌/◌, ◌%◌, ◌^◌, ◌<◌, length, List, [], ◌∷◌, ◌++◌, take, arith, refl, ◌∙◌, ap, Ok, Some, true, false, inl, inr, length-append, replicate, nat_lt, nat_le, ◌==◌, flat_map}
-use Rattle.mx_mmo.proofs.Words.{common_steps, take_at, nat_tests, tetra_to_bytes, octa_to_bytes, tetra_from_bytes, wide_lop, AreTetras, AreOctas, IsName, Spells, SpellsAddress, skipped, Due, first_item, tetras_of, octas_of, on_tetra, on_octa, quoted_tetra, short_address, long_address, item_due, far_tetra, named_file, file_item, ended_spec, pre_item, post_item, MayCome, EndsItem, Item, Load, Loc, Skip, FixOcta, FixNear, FixFar, File, Line, Spec, Pre, Post, Phase, Start, Middle, Posted, tetra-back, octa-back}
+use Rattle.mx_mmo.proofs.Words.{common_steps, take_at, nat_tests, tetra_to_bytes, octa_to_bytes, wide_lop, AreTetras, AreOctas, IsName, Spells, SpellsAddress, skipped, Due, first_item, tetras_of, octas_of, on_tetra, on_octa, quoted_tetra, short_address, long_address, item_due, far_tetra, named_file, file_item, ended_spec, pre_item, post_item, MayCome, EndsItem, Item, Load, Loc, Skip, FixOcta, FixNear, FixFar, File, Line, Spec, Pre, Post, Phase, Start, Middle, Posted, tetra-back, octa-back}
 use Rattle.mx_mmo.proofs.Codes.{no-lop-first}
 use Rattle.mx_mmo.proofs.Names.{name-back}
 use Rattle.mx_mmo.proofs.Skips.{skipped-all}

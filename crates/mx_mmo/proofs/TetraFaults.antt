@@ -1,5 +1,5 @@
 -- A tetra that has a fault of the table is told.
-use Rattle.std.proofs.Common.{◌≡◌, ℕ, ◌+◌, ◌-◌, ◌*◌, ◌^◌, ◌<◌, ◌≤◌, ◌⊎◌, length, List, ◌++◌, arith, refl, ◌∙◌, ap, Err, Some, None, Bool, true, false, inl, inr, replicate, Option, nat_lt, nat_le, ◌==◌, ◌&&◌, ◌||◌}
+use Rattle.std.proofs.Common.{◌≡◌, ℕ, ◌*◌, ◌^◌, ◌<◌, ◌≤◌, ◌⊎◌, length, List, ◌++◌, arith, refl, ◌∙◌, ap, Err, Some, None, false, inl, inr, replicate, Option, nat_lt, nat_le, ◌==◌, ◌&&◌, ◌||◌}
 use Rattle.mx_mmo.proofs.Words.{nat_tests, take_at, length-replicate, tetra_to_bytes, first_item, lop_item, lop_of, on_tetra, address_due, item_due, far_tetra, file_item, MayStand, HasFields, TetraFault, Item, Lop, Quote, Fixo, Fixrx, End, MmoFault, BadLop, BadFields, Phase, tetra-back, same-number, other-test, both-tests, all-tests, both-true}
 use Rattle.mx_mmo.specs.declared.items.Item.TheVariants as items
 use Rattle.mx_mmo.specs.declared.lops.Lop.TheVariants.{Loc, Pre, Post, Stab}

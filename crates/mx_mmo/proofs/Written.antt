@@ -1,5 +1,5 @@
 -- What is written is in the grammar.
-use Rattle.std.proofs.Common.{◌≡◌, ◌≢◌, ℕ, ◌+◌, ◌-◌, ◌*◌, ◌/◌, ◌%◌, ◌^◌, ◌<◌, ◌≤◌, length, List, [], ◌∷◌, ◌++◌, arith, refl, sym, subst, Some, None, Bool, true, false, cond, append_assoc, replicate, Ok, Option, ◌==◌}
+use Rattle.std.proofs.Common.{◌≡◌, ◌≢◌, ℕ, ◌-◌, ◌*◌, ◌/◌, ◌%◌, ◌^◌, ◌<◌, ◌≤◌, length, List, [], ◌∷◌, ◌++◌, arith, refl, sym, subst, Some, None, Bool, true, false, cond, append_assoc, replicate, Ok, Option, ◌==◌}
 use Rattle.mx_mmo.proofs.Words.{AllByRecursion, tetra_to_bytes, octa_to_bytes, lop, wide_lop, tetras_for, bytes_of, file, written, ending, Fits, Valid, IsObject, SpellsAddress, Spells, Spelled, IsSkipped, Item, Load, Loc, Skip, FixOcta, FixNear, FixFar, File, Line, Spec, Pre, Post, Stab, limit, object_of, same-number, other-number}
 use Rattle.mx_mmo.proofs.Complete.{object-only}
 use Rattle.mx_mmo.proofs.Told.{spelled-as}

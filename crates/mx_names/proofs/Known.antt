@@ -1,5 +1,5 @@
 -- What always holds of the names of a source.
-use Rattle.std.proofs.Common.{ℕ, Bool, true, false, cond, List, [], ◌∷◌}
+use Rattle.std.proofs.Common.{ℕ, List, [], ◌∷◌}
 use Rattle.mx_names.proofs.Words.{cond_both, nat_cmp, is_lt, slice_cmp, AllByRecursion, Symbol, Value, NameTable, IsFullName, AreNames, symbols_with, with_symbol}
 
 pub all-inserted : (P : Symbol → Type 0) (new : Symbol) (symbols : List Symbol) → P new → AllByRecursion P symbols → AllByRecursion P (symbols_with new symbols)

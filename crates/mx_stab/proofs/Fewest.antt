@@ -1,5 +1,5 @@
 -- Digits without zeros in front.
-use Rattle.std.proofs.Common.{◌≡◌, ℕ, ◌<◌, List, [], ◌∷◌, length, refl, arith}
+use Rattle.std.proofs.Common.{◌≡◌, ℕ, ◌<◌, List, ◌∷◌, length, refl, arith}
 use Rattle.mx_stab.specs.Numbers.{fewest_digits}
 
 pub few-stay : (digits : List ℕ) → length digits < 2 → fewest_digits digits ≡ digits

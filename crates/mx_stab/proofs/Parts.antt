@@ -1,6 +1,6 @@
 -- The meaning of a subtrie does not hang on the bound of its nodes.
 use Rattle.std.proofs.Common.{◌≡◌, ℕ, zero, suc, ◌+◌, ◌-◌, ◌*◌, ◌^◌, ◌≤◌, ◌==◌, ◌%◌, Bool, true, false, cond, List, [], ◌∷◌, ◌++◌, length, take, drop, Option, Some, None, Result, Ok, Err, arith, refl, sym, ap, ◌∙◌, length-drop, nat_le, nat_lt}
-use Rattle.mx_stab.proofs.Words.{cond_both, Symbol, Value, StabFault, Truncated, Wide, TooLong, encode_utf8, wide_number, is_wide_character, Reading, Answer, Character, and_then, part_if, is_among, value_size, value_of, serial_behind, symbol_with, symbol, has, has_character, is_wide_bare, two_bytes, character_of, character_part, with_character, character, node_rest, node, subtrie, next_subtrie}
+use Rattle.mx_stab.proofs.Words.{cond_both, Symbol, Value, StabFault, Truncated, Wide, TooLong, wide_number, is_wide_character, Reading, Answer, Character, and_then, part_if, is_among, value_size, value_of, serial_behind, symbol_with, symbol, has, has_character, is_wide_bare, two_bytes, character_of, character_part, with_character, character, node_rest, node, subtrie, next_subtrie}
 use Rattle.mx_stab.specs.Reading.{one_byte}
 
 -- no more than so many bytes are left

@@ -1,5 +1,5 @@
 -- How much is due.
-use Rattle.std.proofs.Common.{◌≡◌, ℕ, ◌+◌, ◌≤◌, List, [], ◌∷◌, ◌++◌, Bool, true, false, arith}
+use Rattle.std.proofs.Common.{◌≡◌, ◌+◌, ◌≤◌, List, [], ◌∷◌, ◌++◌, Bool, true, false, arith}
 use Rattle.mx_stab.proofs.Words.{due_weight, all_weight, due_if, Due, Subtrie}
 
 pub all_weight-append : (before above : List Due) → all_weight (before ++ above) ≡ all_weight before + all_weight above

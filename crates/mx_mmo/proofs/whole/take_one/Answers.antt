@@ -1,5 +1,5 @@
-use Rattle.std.proofs.Common.{◌≡◌, ap, ◌∙◌, Ok, refl, append-nil, List, []}
-use Rattle.mx_mmo.proofs.Words.{Item, ReaderModel, Walk, with_rest, fed, left_of, onto, items_of}
+use Rattle.std.proofs.Common.{ap, ◌∙◌, refl, append-nil}
+use Rattle.mx_mmo.proofs.Words.{Walk, fed, onto}
 use Rattle.mx_mmo.proofs.Nexts.{next-gave, next-none, next-fault}
 use Rattle.mx_mmo.proofs.whole.take_one.Goals as goal
 
