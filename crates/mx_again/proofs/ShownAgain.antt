@@ -1,6 +1,6 @@
 -- A text of an instruction is assembled to the tetra that it shows.
 use Rattle.std.proofs.Common.{◌≡◌, ◌↔◌, ℕ, ◌+◌, ◌%◌, ◌^◌, ◌<◌, ◌≤◌, Bool, true, false, not, cond, Option, None, Some, Ok, Err, refl, sym, ap, ◌∙◌, arith, subst, ⊎_elim}
-use Rattle.mx_again.proofs.Words.{IsOk, opcode_kind, is_backward, is_immediate, operation_of, opcode_name, Code, Shape, Three, Regs, Round, Neg, Rel, Mem, MemPure, Wyde, Jump, Put, Get, Pop, One, Save, Unsave, Free, Placed, Label, Answer, and_then, Known, no_targets, plain_tetra, relative_word, form, form_by, tetra_wyde, tetra_whole, StatementTree, alignment, known_at_place, with_tetra, op_form, encoding, IsRead, operation_with, field_code, field_x, field_yz, field_xyz, shape, target, lowest_code, shown_fields, IsShownPart, TargetStays, IsPlaceable}
+use Rattle.mx_again.proofs.Words.{IsOk, opcode_kind, is_backward, is_immediate, operation_of, opcode_name, Code, Shape, Rel, Jump, Placed, Label, Answer, and_then, Known, no_targets, plain_tetra, relative_word, form, form_by, tetra_wyde, tetra_whole, StatementTree, alignment, known_at_place, with_tetra, op_form, encoding, IsRead, operation_with, field_code, field_x, field_yz, field_xyz, shape, target, lowest_code, shown_fields, IsShownPart, TargetStays, IsPlaceable}
 use Rattle.mx_ops.specs.declared.op.Op.{Op}
 use Rattle.mx_text.proofs.LowestCodes.{name-found}
 use Rattle.mx_again.proofs.Parts.{code-below, yz-below, xyz-below}

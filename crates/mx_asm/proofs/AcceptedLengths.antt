@@ -1,6 +1,6 @@
 -- The object of a source that is accepted has at most the weights of its statements and 2^20 bytes.
-use Rattle.std.proofs.Common.{◌≡◌, ◌<◌, ◌≤◌, ℕ, ◌+◌, ◌/◌, ◌^◌, Bool, true, false, cond, nat_lt, List, [], ◌∷◌, ◌++◌, length, fold, Option, None, Some, Ok, Err, arith, refl, nat_le}
-use Rattle.mx_asm.proofs.Words.{list_any, nat_tests, lines_of, Value, Pure, Reg, written, ending, Placed, Answer, IsSound, lowest_of, Known, no_targets, StatementTree, encoding, sound-start, AsmFault, LocalAboveGlobals, SymbolsTooMany, statements_in, refusal_in, source_entries, Sight, nothing_known, known_after, sights_from, sights_of, final_known, label_fault, fault_with, statement_fault, first_fault, first_undefined, locals, trie_limit, last_fault, end_fault, last_line, at_line, end_refusal, entries_refusal, refusal, emission, padded_trie}
+use Rattle.std.proofs.Common.{◌≡◌, ◌<◌, ◌≤◌, ℕ, ◌+◌, ◌/◌, ◌^◌, Bool, false, cond, nat_lt, List, [], ◌∷◌, ◌++◌, length, fold, Option, None, Some, Ok, Err, arith, refl, nat_le}
+use Rattle.mx_asm.proofs.Words.{list_any, nat_tests, lines_of, Value, Pure, written, ending, Placed, Answer, IsSound, lowest_of, Known, no_targets, StatementTree, encoding, sound-start, AsmFault, LocalAboveGlobals, SymbolsTooMany, statements_in, refusal_in, source_entries, Sight, nothing_known, known_after, sights_from, sights_of, final_known, label_fault, fault_with, statement_fault, first_fault, first_undefined, locals, trie_limit, last_fault, end_fault, last_line, at_line, end_refusal, entries_refusal, refusal, emission, padded_trie}
 use Rattle.mx_asm.proofs.Weights.{weights}
 use Rattle.mx_asm.proofs.OneStatement.{no-label-fault}
 use Rattle.mx_asm.proofs.EndWaits.{both-none}

@@ -1,8 +1,6 @@
 -- What always holds of a statement that is placed.
-use Rattle.std.proofs.Common.{◌≡◌, ◌≤◌, ℕ, ◌+◌, ◌-◌, Bool, true, false, List, [], ◌∷◌, ◌++◌, length, Option, Result, Ok, Err, arith, refl, ap, nat_lt, cond, subst, IsTrue}
+use Rattle.std.proofs.Common.{◌≡◌, ◌≤◌, ℕ, Bool, true, false, List, [], ◌∷◌, ◌++◌, length, Option, Result, Ok, Err, arith, refl, ap, nat_lt, cond, subst, IsTrue}
 use Rattle.mx_asm.proofs.Words.{nat_tests, Tree, NameFault, NameTooLong, NameTable, AreNames, IsFullName, is_complete, complete_form, Label, Placed, Known, Targets, symbol_form, StatementTree, encoding, symbol_answer, IsPlaced, allocable}
-use Rattle.mx_ops.specs.declared.op.Pseudo.TheVariants as pseudo
-use Rattle.mx_stmt.specs.declared.placed.Effect.TheVariants as effect
 use Rattle.mx_asm.proofs.StatementForms.{Comes, at_place, encoding-comes}
 use Rattle.mx_asm.proofs.StatementForms.Comes.{placed, by_prefix, by_greg}
 

@@ -1,5 +1,5 @@
 -- The end of a source in one pass is that of the two passes.
-use Rattle.std.proofs.Common.{◌≡◌, ℕ, suc, ◌+◌, ◌/◌, Bool, true, false, cond, nat_lt, nat_le, max, List, [], ◌∷◌, ◌++◌, length, Option, None, Some, Ok, Err, refl, ap, sym, ◌∙◌, arith, ◌||◌}
+use Rattle.std.proofs.Common.{◌≡◌, ℕ, suc, ◌+◌, ◌/◌, Bool, true, false, cond, nat_lt, nat_le, List, [], ◌∷◌, ◌++◌, length, Option, None, Some, Ok, Err, refl, ap, sym, ◌∙◌, arith, ◌||◌}
 use Rattle.mx_asm.proofs.Words.{list_any, list_any-append, nat_tests, Value, Pure, Reg, Wait, Item, value_of_name, Effect, Placed, Answer, lowest_of, Known, StatementTree, AsmFault, MainUndefined, MainRegister, SymbolsTooMany, LocalAboveGlobals, Refused, Head, refused, statements_in, refusal_in, Sight, outline, nothing_known, sights_from, sights_of, final_known, opening, first_head, items_from, closing, main_name, padded_trie, first_of, first_fault, undefined, local_in, local_of, locals, trie_limit, last_fault, end_fault, last_line, at_line, end_refusal, assembly_fault, Assembly, Ended, beginning, last_number, main_fault, ended_main, ended_waits, end_behind, with_local, Line, accepted, lines_entries, entries_items, assembled_with, assembled_lines, one_pass}
 use Rattle.mx_line.specs.Source.{items_from as line_items}
 use Rattle.mx_names.specs.Waiting.{first_of as earliest}

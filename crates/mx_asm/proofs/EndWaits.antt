@@ -1,10 +1,9 @@
 -- The first reference that still waits behind all statements is the first one that is never defined.
 use Rattle.std.proofs.Common.{◌≡◌, ℕ, Bool, true, false, not, cond, List, [], ◌∷◌, ◌++◌, fold, Option, None, Some, is_some, Ok, Err, refl, ap, sym, ◌∙◌, subst, append_assoc, append-nil, ◌||◌}
-use Rattle.mx_asm.proofs.Words.{filter, AllByRecursion, list_any-append, Value, Awaited, Wait, predefined_value, NameTable, first_value, pure_of, value_of_name, Label, Placed, Answer, Known, no_targets, StatementTree, encoding, Refused, refused, Sight, outline, waits_in, is_local, next_local, referent, sights_from, known_after, fault_with, statement_fault, first_of, first_fault, undefined, unreferenced, first_undefined}
+use Rattle.mx_asm.proofs.Words.{filter, AllByRecursion, list_any-append, Value, Awaited, Wait, predefined_value, NameTable, first_value, pure_of, value_of_name, Label, Placed, Answer, Known, no_targets, StatementTree, encoding, Refused, refused, Sight, outline, waits_in, is_local, next_local, referent, sights_from, known_after, fault_with, statement_fault, first_of, first_fault, undefined, unreferenced, first_undefined, IsUnknown, AreUnknown, encoding-awaits}
 use Rattle.mx_word.specs.declared.waits.Awaited.TheVariants as awaited
 use Rattle.mx_names.specs.Names.{value_in as symbol_in}
 use Rattle.mx_names.specs.Waiting.{first_of as earliest}
-use Rattle.mx_stmt.proofs.AwaitedNames.{IsUnknown, AreUnknown, encoding-awaits}
 use Rattle.mx_asm.specs.TwoPass.{value_in}
 use Rattle.mx_asm.proofs.LabelValues.{HasLabel, encoding-label}
 use Rattle.mx_asm.proofs.OpenWaits.{settles, any_settles, is_settled, unsettled, open_waits}

@@ -1,7 +1,7 @@
 -- The trees of a field of bytes: their numbers are octas, and their names are bytes.
 use Rattle.std.proofs.Common.{◌≡◌, ℕ, ◌+◌, ◌^◌, ◌<◌, ◌≤◌, List, [], ◌∷◌, ◌++◌, length, map, arith, refl, subst, append_assoc, append-nil, ⊎_elim, Result, Ok, Err}
 use Rattle.mx_asm.proofs.Words.{AllByRecursion, cases_lt, AreBytes, all-both, ExprFault, TooWide, Tree, number, reading, Primary, Product, Sum, Operand, Operands, Spells, Before, FaultAt, Faultless, expression, string, none, more, empty, operands, list-read}
-use Rattle.mx_expr.specs.Spelling.Primary.{constant, character, symbol, last_label, next_label, place, enclosed, signed}
+use Rattle.mx_expr.specs.Spelling.Primary.{constant, character, symbol, last_label, enclosed, signed}
 use Rattle.mx_expr.specs.Spelling.Product.{primary, times}
 use Rattle.mx_expr.specs.Spelling.Sum.{product, plus}
 use Rattle.mx_expr.specs.Spelling.Before.{first, sign, parenthesis}
@@ -37,18 +37,20 @@ mutual
   product-bytes : {text : List ℕ} {e : Tree} → Product text e → (front rest : List ℕ) (d : ℕ) → Before d front → Part front text rest → HasBytes e
   product-bytes (primary t e h) front rest d b s = primary-bytes h front rest d b s
   product-bytes (times t word part op l r h w g) front rest d b s =
-      let cut = bytes-cut t (word ++ part) s.bytes in
-      (product-bytes h front ((word ++ part) ++ rest) d b (record { field = s.field; whole = simp append_assoc (simp append_assoc at s.whole); sound = s.sound; bytes = cut.0 }),
-      primary-bytes g (front ++ (t ++ word)) rest d (before-product d front h b word op w)
-      (record { field = s.field; whole = simp append_assoc (simp append_assoc at s.whole); sound = s.sound; bytes = (bytes-cut word part cut.1).1 }))
+      let cut = bytes-cut t (word ++ part) s.bytes in (
+        product-bytes h front ((word ++ part) ++ rest) d b (record { field = s.field; whole = simp append_assoc (simp append_assoc at s.whole); sound = s.sound; bytes = cut.0 }),
+        primary-bytes g (front ++ (t ++ word)) rest d (before-product d front h b word op w)
+            (record { field = s.field; whole = simp append_assoc (simp append_assoc at s.whole); sound = s.sound; bytes = (bytes-cut word part cut.1).1 }),
+      )
 
   sum-bytes : {text : List ℕ} {e : Tree} → Sum text e → (front rest : List ℕ) (d : ℕ) → Before d front → Part front text rest → HasBytes e
   sum-bytes (product t e h) front rest d b s = product-bytes h front rest d b s
   sum-bytes (plus t c part op l r h w g) front rest d b s =
-      let cut = bytes-cut t (c ∷ part) s.bytes in
-      (sum-bytes h front ((c ∷ part) ++ rest) d b (record { field = s.field; whole = simp append_assoc at s.whole; sound = s.sound; bytes = cut.0 }),
-      product-bytes g (front ++ (t ++ c ∷ [])) rest d (before-sum d front h b c op w)
-      (record { field = s.field; whole = simp append_assoc (simp append_assoc at s.whole); sound = s.sound; bytes = cut.1.1 }))
+      let cut = bytes-cut t (c ∷ part) s.bytes in (
+        sum-bytes h front ((c ∷ part) ++ rest) d b (record { field = s.field; whole = simp append_assoc at s.whole; sound = s.sound; bytes = cut.0 }),
+        product-bytes g (front ++ (t ++ c ∷ [])) rest d (before-sum d front h b c op w)
+            (record { field = s.field; whole = simp append_assoc (simp append_assoc at s.whole); sound = s.sound; bytes = cut.1.1 }),
+      )
 
 numbers-bytes : (bytes behind : List ℕ) → AreBytes (bytes ++ behind) → AllByRecursion HasBytes (map number bytes)
 numbers-bytes [] behind l = tt

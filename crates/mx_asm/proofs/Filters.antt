@@ -1,6 +1,5 @@
 -- Lists that are filtered twice.
 use Rattle.std.proofs.Common.{◌≡◌, Bool, true, false, not, cond, List, [], ◌∷◌, refl, ap, ◌∙◌, ◌&&◌, ◌||◌, filter}
-use Rattle.std.proofs.lemmas.Bool.{or_parts as both-false}
 
 module _ {X : Type 0} where
   kept-with : (b : Bool) (x : X) (xs ys : List X) → xs ≡ ys → cond b (x ∷ xs) xs ≡ cond b (x ∷ ys) ys

@@ -141,8 +141,8 @@ unfolding items_from
 one-line all n line = cond_both (is_too_far all n) _ _ (λ x. AllByRecursion (IsAt n) (statements_in (entries_of x)))
     (λ _. tt)
     (λ _.
-      subst (AllByRecursion (IsAt n)) (sym (statements-split (items_of n line) []))
-      (all-append (IsAt n) (statements_in (entries_of (items_of n line))) (continued (items_of n line) []) (cuts-at n line (cuts_from line 0)) (continued-all (IsAt n) (items_of n line) [] tt)))
+    subst (AllByRecursion (IsAt n)) (sym (statements-split (items_of n line) []))
+    (all-append (IsAt n) (statements_in (entries_of (items_of n line))) (continued (items_of n line) []) (cuts-at n line (cuts_from line 0)) (continued-all (IsAt n) (items_of n line) [] tt)))
 
 -- ---- pages
 

@@ -1,5 +1,5 @@
 -- Memory octa by octa, as the bytes at each address tell it.
-use Rattle.std.proofs.Common.{◌≡◌, ℕ, zero, suc, ◌+◌, ◌-◌, ◌*◌, ◌/◌, ◌%◌, ◌^◌, ◌<◌, List, [], ◌∷◌, Bool, true, false, cond, get_or, arith, refl, sym, ◌∙◌, ap, bit_xor, ◌==◌, nat_lt}
+use Rattle.std.proofs.Common.{◌≡◌, ℕ, zero, suc, ◌+◌, ◌-◌, ◌*◌, ◌/◌, ◌%◌, ◌^◌, ◌<◌, List, [], ◌∷◌, cond, get_or, arith, refl, sym, ◌∙◌, ap, bit_xor, ◌==◌, nat_lt}
 use Rattle.mx_asm.proofs.Words.{cond_both, byte_at, xor_lt, octa_from_bytes, octa_to_bytes, byte_of, byte_in, with_tetra, in_half, bytes_with_tetra, AreBytes, octa-back, eight-bytes, eight-fit, octa_from, octa_in}
 use Rattle.mx_word.proofs.JoinedTetra.{byte_in-joined}
 

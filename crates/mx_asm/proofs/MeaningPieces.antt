@@ -2,7 +2,6 @@
 use Rattle.std.proofs.Common.{◌≡◌, ℕ, zero, suc, ◌+◌, ◌-◌, ◌*◌, ◌/◌, ◌%◌, ◌^◌, ◌<◌, ◌≤◌, List, [], ◌∷◌, ◌++◌, length, length-append, map, Bool, true, false, not, cond, arith, refl, sym, ◌∙◌, ap, bit_xor, replicate, min, Result, Ok, Err, ⊎_elim, ◌⊎◌, inl, inr, ◌==◌, ◌&&◌, nat_le, nat_lt}
 use Rattle.mx_asm.proofs.Words.{xor_zero_r, xor_zero_l, length-replicate, cond_both, cases_eq, cases_lt, eqb-true, nat_tests, with_tetra, AreBytes, bytes-append, bytes-zeros, Image, tetras_of, Meaningless, PagesFull, BadPlace, image_with_tetra, paged, join, noted, next_line, after_load, with_name, take_item, take_items, Item, Load, Loc, from_place, placed, placed-append, from-append, placed-zeros, octa_in, pages_of, pages_below, lowered, raised, zeros_after, covered, covering, tetra_count, located, told_line, lined}
 use Rattle.mx_mmo.specs.Meaning.{lined as lined_with}
-use Rattle.mx_mmo.specs.declared.items.Item.TheVariants.{Line}
 use Rattle.mx_asm.specs.Emission.{line_behind}
 use Rattle.mx_asm.proofs.MeaningPages.{same-pages, unless_full, pages-alike}
 use Rattle.mx_asm.proofs.MeaningStates.{State, image_at, stands, count_of, limited, Takes, take-none, takes-none, same-numbers, noted_lines, lines_with, line_after}

@@ -1,6 +1,6 @@
 -- The pages and the lines of what statements place, with their targets known and with none.
 use Rattle.std.proofs.Common.{◌≡◌, ℕ, ◌+◌, ◌-◌, ◌/◌, ◌≤◌, List, [], ◌∷◌, ◌++◌, length, fold, Bool, true, false, cond, arith, refl, sym, ◌∙◌, ap, subst, Option, Some, None, Ok, Err, append-nil, ◌==◌, ◌||◌, ◌&&◌, nat_le}
-use Rattle.mx_asm.proofs.Words.{AllByRecursion, list_any, nat_tests, Value, Pure, Reg, Wait, WaitKind, Octa, Near, Far, same_awaited, NameTable, complete_form, Label, Name, Local, Placed, Answer, AreAlike, Targets, encoding, fix_bytes, fix_placements, IsFixed, kind_size, IsInside, from_place, all-into, all-append, Sight, outline, waits_in, references, is_local, targets, piece_with, pieces_of, from_last, awaited_value, waiting_for, waiting_at, placements, pages_of, with_lines, statement_fault, first_fault}
+use Rattle.mx_asm.proofs.Words.{AllByRecursion, list_any, nat_tests, Value, Pure, Reg, Wait, WaitKind, Octa, same_awaited, NameTable, complete_form, Label, Name, Local, Placed, Answer, AreAlike, Targets, encoding, fix_bytes, fix_placements, IsFixed, kind_size, IsInside, from_place, all-into, all-append, Sight, outline, waits_in, references, is_local, targets, piece_with, pieces_of, from_last, awaited_value, waiting_for, waiting_at, placements, pages_of, with_lines, statement_fault, first_fault}
 use Rattle.mx_word.specs.declared.waits.Awaited.TheVariants as awaited
 use Rattle.mx_stmt.proofs.JoinedStatements.{encoding-joined}
 use Rattle.mx_asm.proofs.WaitsFor.{references-append, references-one as one-reference}

@@ -1,6 +1,6 @@
 -- The statements of lines of bytes are as statements are that were read, and their names and labels are bytes.
-use Rattle.std.proofs.Common.{◌≡◌, ℕ, ◌+◌, ◌-◌, ◌<◌, List, [], ◌∷◌, map, drop, Bool, true, false, not, cond, arith, refl, ◌∙◌, ap, Option, Some, None, is_some, Result, Ok, Err, ◌&&◌, option_map}
-use Rattle.mx_asm.proofs.Words.{cond_both, AllByRecursion, IfSome, AreBytes, bytes-front, bytes-behind, Span, LineFault, Cut, is_too_far, part, cuts_from, statement, faulty, too_far, item_of, before, items_of, ExprFault, Tree, reading, Op, operation_of, Name, Local, LabelNotAllowed, Answer, IsOperation, Fields, label_of, takes_label, operation_with, operation_for, Entry, with_operands, with_operation, entry_with, entry_of, entries_of, statements_in, IsStatement, Line, lines_entries}
+use Rattle.std.proofs.Common.{◌≡◌, ℕ, ◌+◌, ◌-◌, ◌<◌, List, [], ◌∷◌, map, drop, arith, refl, Option, Some, None, is_some, Result, Ok, Err, option_map}
+use Rattle.mx_asm.proofs.Words.{cond_both, AllByRecursion, IfSome, AreBytes, bytes-front, bytes-behind, Span, LineFault, Cut, is_too_far, part, cuts_from, statement, faulty, too_far, item_of, before, items_of, ExprFault, Tree, reading, Op, operation_of, Answer, IsOperation, Fields, label_of, operation_for, Entry, with_operands, with_operation, entry_with, entry_of, entries_of, statements_in, IsStatement, Line, lines_entries}
 use Rattle.mx_line.specs.Source.{Item, items_from}
 use Rattle.mx_expr.specs.Bytes.{is_digit}
 use Rattle.mx_asm.proofs.ByteStatements.{IsLabelOfBytes, IfLabelOfBytes, IsOfBytes, all-octas, are-statements}

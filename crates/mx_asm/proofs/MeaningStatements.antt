@@ -1,6 +1,6 @@
 -- The items of one statement, and those of statements one after another.
-use Rattle.std.proofs.Common.{◌≡◌, ℕ, ◌+◌, ◌%◌, ◌^◌, ◌<◌, ◌≤◌, List, [], ◌∷◌, ◌++◌, length, Bool, true, false, cond, arith, refl, sym, ◌∙◌, ap, subst, Option, Some, None, Result, Ok, Err, append_assoc, append-nil, ◌==◌}
-use Rattle.mx_asm.proofs.Words.{AllByRecursion, filter, cond_both, eqb-true, octa_to_bytes, AreBytes, Value, Pure, Reg, Wait, WaitKind, Octa, Near, Far, same_awaited, take_items, Item, Loc, complete_form, Label, Name, Local, Placed, Answer, Targets, no_targets, encoding, fix_bytes, fix_placements, kind_size, IsInside, IsLaid, from_place, placed, encoding-laid, all-into, all-append, AsmFault, Refused, Sight, outline, waits_in, references, from_last, fix_of, with_fix, fixes, awaited_value, waiting_for, waiting_at, moved, onto, fix_items, head_at_fixes, byte_items, head_at_bytes, with_bytes, statement_items, statement_head}
+use Rattle.std.proofs.Common.{◌≡◌, ℕ, ◌+◌, ◌%◌, ◌^◌, ◌<◌, ◌≤◌, List, [], ◌∷◌, ◌++◌, length, Bool, arith, refl, sym, ◌∙◌, ap, subst, Option, Some, None, Result, Ok, Err, append_assoc, append-nil, ◌==◌}
+use Rattle.mx_asm.proofs.Words.{AllByRecursion, filter, cond_both, eqb-true, AreBytes, Value, Pure, Reg, Wait, WaitKind, Octa, same_awaited, take_items, Item, complete_form, Label, Name, Local, Placed, Answer, Targets, no_targets, encoding, fix_bytes, fix_placements, kind_size, IsInside, IsLaid, from_place, placed, encoding-laid, all-into, all-append, AsmFault, Refused, Sight, outline, waits_in, references, from_last, fix_of, with_fix, fixes, awaited_value, waiting_for, waiting_at, moved, onto, fix_items, head_at_fixes, byte_items, head_at_bytes, with_bytes, statement_items, statement_head}
 use Rattle.mx_word.specs.declared.waits.Awaited.TheVariants as awaited
 use Rattle.mx_asm.proofs.MeaningMemory.{HaveBytes}
 use Rattle.mx_asm.proofs.MeaningStates.{State, limited, Takes, take-none, takes-both, more-bytes}

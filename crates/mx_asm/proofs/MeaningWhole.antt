@@ -1,6 +1,6 @@
 -- The items of statements mean their image.
 use Rattle.std.proofs.Common.{◌≡◌, ℕ, ◌^◌, ◌≤◌, List, [], ◌∷◌, ◌++◌, fold, Bool, true, false, cond, lit≤, refl, sym, ◌∙◌, ap, bit_xor, Option, Some, None, Ok, Err, append_assoc, append-nil, bytes_eq, is_some, nat_le}
-use Rattle.mx_asm.proofs.Words.{AllByRecursion, xor_assoc, xor_zero_l, xor_zero_r, bytes_eq-Decides, Value, Wait, PagesFull, nothing, value_at, with_globals, take_items, image_in, meaning, Post, Stab, NameTable, complete_form, value_of_name, first_value, pure_of, value-inserted, not-some, predefined_value, Label, Name, Local, Placed, lowest_of, Known, Targets, no_targets, symbol_form, StatementTree, encoding, from_place, placed, placed-append, xor-pairs, fix_placements, Sight, outline, references, targets, with_label, nothing_known, known_after, sights_from, sights_of, final_known, piece_with, pieces_of, pieces, awaited_value, waiting_at, octa_in, placements, pages_of, pages_below, page_count, lines_in, image_with, image, opening, first_head, items_from, front, main_of, closing, emission, label_fault, statement_fault, first_fault, first_undefined}
+use Rattle.mx_asm.proofs.Words.{AllByRecursion, xor_assoc, xor_zero_l, xor_zero_r, bytes_eq-Decides, Value, Wait, PagesFull, nothing, value_at, with_globals, take_items, image_in, meaning, Post, Stab, NameTable, complete_form, first_value, pure_of, value-inserted, not-some, predefined_value, Label, Name, Local, Placed, lowest_of, Known, Targets, no_targets, symbol_form, StatementTree, encoding, from_place, placed, placed-append, xor-pairs, fix_placements, Sight, outline, references, targets, with_label, nothing_known, known_after, sights_from, sights_of, final_known, piece_with, pieces_of, pieces, awaited_value, waiting_at, octa_in, placements, pages_of, pages_below, page_count, image_with, image, opening, first_head, items_from, front, main_of, closing, emission, label_fault, statement_fault, first_fault, first_undefined}
 use Rattle.mx_names.specs.Names.{value_in as symbol_in}
 use Rattle.mx_names.specs.Waiting.{first_of as earliest}
 use Rattle.mx_asm.proofs.LabelValues.{HasLabel, encoding-label}

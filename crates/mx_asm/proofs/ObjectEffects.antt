@@ -1,7 +1,6 @@
 -- The effects of statements of bytes: a prefix is bytes, and the value of a register is an octa.
-use Rattle.std.proofs.Common.{◌≡◌, ◌<◌, ℕ, ◌+◌, ◌-◌, ◌^◌, Bool, true, false, cond, List, ◌++◌, Option, Ok, sym, subst}
-use Rattle.mx_asm.proofs.Words.{cond_both, AllByRecursion, AreBytes, bytes-append, Tree, NameTable, is_complete, complete_form, Label, Effect, Placed, Known, Targets, symbol_form, StatementTree, encoding}
-use Rattle.mx_ops.specs.declared.op.Pseudo.TheVariants as pseudo
+use Rattle.std.proofs.Common.{◌≡◌, ◌<◌, ℕ, ◌^◌, List, Option, Ok, sym, subst}
+use Rattle.mx_asm.proofs.Words.{cond_both, AllByRecursion, AreBytes, bytes-append, Tree, is_complete, complete_form, Label, Effect, Placed, Known, Targets, symbol_form, StatementTree, encoding}
 use Rattle.mx_stmt.specs.declared.placed.Effect.TheVariants as effect
 use Rattle.mx_asm.proofs.Encodings.{answer-full}
 use Rattle.mx_asm.proofs.StatementForms.{Comes, at_place, encoding-comes}

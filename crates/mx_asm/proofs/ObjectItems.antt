@@ -1,6 +1,6 @@
 -- The items of statements fit the object format.
 use Rattle.std.proofs.Common.{◌≡◌, ◌<◌, ◌≤◌, ℕ, ◌+◌, ◌-◌, ◌/◌, ◌%◌, ◌^◌, Bool, true, false, not, cond, nat_le, nat_lt, List, [], ◌∷◌, ◌++◌, length, map, Result, Ok, Err, refl, arith, inl, inr, ◌==◌}
-use Rattle.mx_asm.proofs.Words.{AllByRecursion, result_unwrap_or, cond_both, ltb-true, ltb-false, leb-true, leb-false, eqb-true, AreBytes, tetra-sum, Value, Pure, Reg, Wait, WaitKind, Octa, Near, Far, tetra_from_bytes, tetras_of, Item, Load, Loc, FixNear, FixFar, Fits, Placed, NotMultiple, TooFar, Answer, relative_word, near_reach, far_reach, AsmFault, Refused, Head, Sight, outline, waiting_at, relative_fix, pure_fix, fix_of, with_fix, fixes, awaited_value, moved, onto, fix_items, lowered, covered, covering, told_line, located, lined, byte_items, head_at_fixes, with_bytes, sight_items, sight_head, items_from, AreFit, IsWidth}
+use Rattle.mx_asm.proofs.Words.{AllByRecursion, result_unwrap_or, cond_both, ltb-true, ltb-false, leb-true, leb-false, eqb-true, AreBytes, tetra-sum, Value, Pure, Reg, Wait, WaitKind, Octa, Near, Far, tetra_from_bytes, tetras_of, Item, Load, Loc, Fits, Placed, NotMultiple, TooFar, Answer, relative_word, near_reach, far_reach, AsmFault, Refused, Head, Sight, outline, waiting_at, relative_fix, pure_fix, fix_of, with_fix, fixes, awaited_value, moved, onto, fix_items, lowered, covered, covering, told_line, located, lined, byte_items, head_at_fixes, with_bytes, sight_items, sight_head, items_from, AreFit, IsWidth}
 use Rattle.mx_mmo.specs.declared.items.Item.TheVariants.{Line}
 use Rattle.mx_asm.proofs.Fitting.{fit-none, fit-one, fit-both}
 use Rattle.mx_asm.proofs.MeaningStatements.{IsLow, IsWord, waiting-low}
@@ -26,9 +26,9 @@ word-fits : (reach place target : ℕ) → reach ≤ 2 ^ 24 → IfWord (relative
 word-fits reach place target few = cond_both (nat_le place target) _ _ IfWord
     (λ _. forward-fits (not ((target - place) % 4 == 0)) (nat_lt ((target - place) / 4) reach) reach ((target - place) / 4) (ltb-true ((target - place) / 4) reach) few)
     (λ e.
-      let below = leb-false place target e in
-      backward-fits ((place - target) % 4 == 0) (nat_le ((place - target) / 4) reach) reach (place - target)
-      (eqb-true ((place - target) % 4) 0) (leb-true ((place - target) / 4) reach) (omega (arith, below)) few)
+    let below = leb-false place target e in
+    backward-fits ((place - target) % 4 == 0) (nat_le ((place - target) / 4) reach) reach (place - target)
+    (eqb-true ((place - target) % 4) 0) (leb-true ((place - target) / 4) reach) (omega (arith, below)) few)
 
 abbrev IfFits : Result Item AsmFault → Type 0
 IfFits (Err fault) = Unit {0}

@@ -1,6 +1,6 @@
 -- An object can be written of what a source is assembled into, and its trie tells its symbols.
 use Rattle.std.proofs.Common.{◌≡◌, ◌<◌, ◌≤◌, ℕ, ◌-◌, ◌/◌, ◌%◌, ◌^◌, Bool, true, false, cond, nat_lt, List, [], ◌∷◌, ◌++◌, length, Option, None, Some, Result, Ok, Err, refl, sym, ap, ◌∙◌, subst, arith, length-append, nat_le, codes}
-use Rattle.mx_asm.proofs.Words.{list_any, IfSome, ltb-false, length-replicate, AreBytes, Value, Pure, Reg, Item, File, Pre, Post, Stab, lines_of, value_of_name, lowest_of, Known, StatementTree, AsmFault, SymbolsTooMany, LocalAboveGlobals, Refused, statements_in, source_entries, sights_of, final_known, zeros_after, opening, first_head, items_from, main_name, pure_or_zero, main_of, closing, emission, padded_trie, symbols_of, trie_limit, last_fault, end_fault, at_line, first_undefined, locals, entries_refusal, end_refusal, last_line, refusal, AreFit, IsPadded, AreWritable, Ended, assembled_source, written, ending}
+use Rattle.mx_asm.proofs.Words.{list_any, IfSome, ltb-false, length-replicate, AreBytes, Value, Pure, Item, File, Pre, Post, Stab, lines_of, value_of_name, lowest_of, Known, StatementTree, AsmFault, SymbolsTooMany, LocalAboveGlobals, Refused, statements_in, source_entries, sights_of, final_known, zeros_after, opening, first_head, items_from, main_name, pure_or_zero, main_of, closing, emission, padded_trie, symbols_of, trie_limit, last_fault, end_fault, at_line, first_undefined, locals, entries_refusal, end_refusal, last_line, refusal, AreFit, IsPadded, AreWritable, Ended, assembled_source, written, ending}
 use Rattle.mx_stab.specs.Reading.{trie_answer}
 use Rattle.mx_stab.specs.Trie.{trie_of}
 use Rattle.mx_stab.proofs.Law.{written-is-trie}

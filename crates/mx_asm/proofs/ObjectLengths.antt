@@ -1,6 +1,6 @@
 -- The object of statements that are accepted has at most the sum of their weights, and what its front and its end take.
-use Rattle.std.proofs.Common.{◌≡◌, ◌<◌, ◌≤◌, ℕ, ◌+◌, ◌*◌, ◌/◌, ◌^◌, Bool, true, false, not, cond, List, [], ◌∷◌, ◌++◌, length, Option, None, Some, Result, Ok, Err, arith, refl, ap, ◌∙◌, length-append, ◌==◌, nat_lt, map}
-use Rattle.mx_asm.proofs.Words.{cond_both, result_unwrap_or, flat_map, flat_map-cons, sum_by-cons, Value, Pure, Reg, Awaited, Wait, WaitKind, Octa, Near, Far, same_awaited, octa_to_bytes, Item, Load, Loc, FixNear, FixFar, Post, Stab, wide_lop, bytes_of, written, ending, NameTable, complete_form, waits_for, waits_for_others, Label, Name, Local, Placed, NotMultiple, Answer, relative_word, near_reach, far_reach, lowest_of, Known, no_targets, symbol_form, StatementTree, AsmFault, Head, Refused, fixes, relative_fix, pure_fix, fix_of, with_fix, awaited_value, waiting_for, waiting_at, Sight, outline, waits_in, nothing_known, known_after, sights_from, sights_of, final_known, label_fault, fault_with, statement_fault, first_fault, moved, onto, fix_items, head_at_fixes, lowered, covered, covering, located, told_line, lined, byte_items, with_bytes, opening, first_head, sight_items, sight_head, items_from, main_of, closing, padded_trie}
+use Rattle.std.proofs.Common.{◌≡◌, ◌<◌, ◌≤◌, ℕ, ◌+◌, ◌*◌, ◌/◌, ◌^◌, false, not, List, [], ◌∷◌, ◌++◌, length, Option, None, Some, Result, Ok, Err, arith, refl, ap, ◌∙◌, length-append, ◌==◌, nat_lt, map}
+use Rattle.mx_asm.proofs.Words.{cond_both, result_unwrap_or, sum_by-cons, Value, Pure, Reg, Awaited, Wait, WaitKind, Octa, Near, Far, same_awaited, Item, Load, Loc, Post, Stab, wide_lop, bytes_of, written, ending, NameTable, complete_form, waits_for, waits_for_others, Label, Name, Local, Placed, NotMultiple, Answer, relative_word, near_reach, far_reach, lowest_of, Known, no_targets, symbol_form, StatementTree, AsmFault, Head, Refused, fixes, relative_fix, pure_fix, fix_of, with_fix, awaited_value, waiting_for, waiting_at, Sight, outline, waits_in, nothing_known, known_after, sights_from, sights_of, final_known, label_fault, fault_with, statement_fault, first_fault, moved, onto, fix_items, head_at_fixes, lowered, covered, covering, located, told_line, lined, byte_items, with_bytes, opening, first_head, sight_items, sight_head, items_from, main_of, closing, padded_trie}
 use Rattle.std.proofs.lemmas.List.Filters.{length-filter_both}
 use Rattle.mx_word.specs.declared.waits.Awaited.TheVariants as awaited
 use Rattle.mx_mmo.specs.declared.items.Item.TheVariants.{Line}

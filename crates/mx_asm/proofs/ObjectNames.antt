@@ -1,6 +1,6 @@
 -- What is known behind statements of bytes: symbols that a trie can tell, and registers whose values are octas.
-use Rattle.std.proofs.Common.{◌≡◌, ◌<◌, ◌≤◌, ℕ, zero, suc, ◌+◌, ◌-◌, ◌^◌, Bool, true, false, cond, nat_lt, List, [], ◌∷◌, ◌++◌, length, fold, slice_set, Option, None, Some, Result, Ok, Err, refl, sym, subst, arith}
-use Rattle.mx_asm.proofs.Words.{cond_both, AllByRecursion, IfSome, AreBytes, AreOctas, InByteOrder, IsValue, IsNamed, Symbol, Value, Pure, Reg, NameFault, NameTable, IsFullName, complete_form, value_in, with_symbol, not-some, length-inserted, Label, Name, Local, Effect, Placed, HasRegisterNumber, IsSound, lowest_of, with_greg, Known, no_targets, symbol_form, StatementTree, encoding, sound-start, encoding-fine, IsEffect, Sight, with_label, with_effect, known_with, known_after, nothing_known, sights_from, name_fault, label_fault, statement_fault, first_fault}
+use Rattle.std.proofs.Common.{◌≡◌, ◌<◌, ◌≤◌, ℕ, zero, suc, ◌+◌, ◌-◌, ◌^◌, nat_lt, List, [], ◌∷◌, ◌++◌, length, fold, slice_set, Option, None, Some, Result, Ok, Err, refl, sym, subst, arith}
+use Rattle.mx_asm.proofs.Words.{cond_both, AllByRecursion, IfSome, AreBytes, AreOctas, InByteOrder, IsValue, IsNamed, Symbol, Value, Pure, Reg, NameFault, NameTable, IsFullName, complete_form, value_in, with_symbol, not-some, length-inserted, Label, Name, Local, Effect, Placed, HasRegisterNumber, IsSound, lowest_of, with_greg, Known, no_targets, symbol_form, StatementTree, encoding, sound-start, encoding-fine, IsEffect, Sight, with_label, with_effect, known_with, known_after, nothing_known, sights_from, name_fault, label_fault, statement_fault, first_fault, all-inserted}
 use Rattle.std.specs.List.Sorted.{IsStrictlySortedBy}
 use Rattle.mx_stmt.specs.declared.placed.Effect.TheVariants as effect
 use Rattle.mx_asm.proofs.Encodings.{symbol-full, encoding-prefixed}
@@ -11,7 +11,6 @@ use Rattle.mx_asm.proofs.MeaningStatements.{IsWord}
 use Rattle.mx_asm.proofs.MeaningWords.{KnowsWords, words-start, encoding-words, words-kept}
 use Rattle.mx_asm.proofs.MeaningSteady.{sound-kept}
 use Rattle.mx_asm.proofs.MeaningFronts.{faultless}
-use Rattle.mx_names.proofs.Known.{all-inserted}
 use Rattle.mx_asm.proofs.ObjectSymbols.{byte-order-inserted}
 use Rattle.mx_asm.proofs.ObjectEffects.{IsEffectOfBytes, form-bytes, encoding-effect}
 

@@ -1,12 +1,11 @@
 -- Symbols with one more: they stay in byte order, and what holds of each stays.
 use Rattle.std.proofs.Common.{◌≡◌, ℕ, Bool, true, false, cond, List, [], ◌∷◌, Option, None, Some, Ordering, bytes_eq, refl, sym, ◌∙◌, ap}
-use Rattle.mx_asm.proofs.Words.{cond_both, AllByRecursion, Symbol, Value, InByteOrder, Below, AreInOrder, in-order, in-byte-order, value_in, symbols_with}
+use Rattle.mx_asm.proofs.Words.{AllByRecursion, Symbol, Value, InByteOrder, Below, AreInOrder, in-order, in-byte-order, value_in, symbols_with, all-inserted}
 use Rattle.std.specs.Ordering.{nat_cmp, is_lt, is_eq, ordering_reverse}
 use Rattle.std.specs.declared.cmp.Ordering.TheVariants.{Less, Equal, Greater}
 use Rattle.std.specs.Cmp.Lexicographic.{slice_cmp}
 use Rattle.std.proofs.lemmas.Cmp.{nat_list_cmp_total}
 use Rattle.std.proofs.lemmas.Map.Text.{is_eq-slice_cmp}
-use Rattle.mx_names.proofs.Known.{all-inserted}
 
 -- what is below a name is below all that stand behind it
 below-all : (a b : List ℕ) (more : List Symbol) → Below a b → AllByRecursion (λ (t : Symbol). Below b t.name) more → AllByRecursion (λ (t : Symbol). Below a t.name) more

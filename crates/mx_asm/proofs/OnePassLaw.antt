@@ -1,6 +1,6 @@
 -- The lines of a source in one pass come to what the two passes say.
 use Rattle.std.proofs.Common.{◌≡◌, ℕ, ◌+◌, ◌-◌, ◌^◌, Bool, true, false, cond, nat_lt, List, [], ◌∷◌, ◌++◌, fold, length, take, Option, None, Some, Ok, Err, refl, ap, sym, ◌∙◌, subst, arith, append_assoc, length-append, sum_by}
-use Rattle.mx_asm.proofs.Words.{result_err, sum_by-append, take-append_seam, is_too_far, size_up_to, statement, faulty, too_far, items_of, Item, StatementTree, Refused, Entry, entry_of, entries_of, line_entries, statements_in, refusal_in, nothing_known, sights_from, opening, first_head, first_fault, entries_refusal, Assembly, Progress, beginning, Line, lines_entries, lines_items, line_after, lines_taken}
+use Rattle.mx_asm.proofs.Words.{result_err, sum_by-append, take-append_seam, is_too_far, size_up_to, statement, too_far, items_of, Item, StatementTree, Refused, Entry, entry_of, entries_of, line_entries, statements_in, refusal_in, nothing_known, sights_from, opening, first_head, first_fault, entries_refusal, Assembly, Progress, beginning, Line, lines_entries, lines_items, line_after, lines_taken}
 use Rattle.mx_line.specs.Source.{Item as Listed, before as listed_before, items_from as line_items}
 use Rattle.mx_asm.proofs.OpenWaits.{open_waits}
 use Rattle.mx_asm.proofs.OneStatement.{standing_at, AreLabels}

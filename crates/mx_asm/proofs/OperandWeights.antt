@@ -1,6 +1,6 @@
 -- What an operand field asks for is bounded by its bytes.
 use Rattle.std.proofs.Common.{◌≡◌, ℕ, ◌+◌, ◌*◌, ◌^◌, ◌<◌, ◌≤◌, List, [], ◌∷◌, ◌++◌, length, map, sum_by, nat_lt, arith, refl, length-append, Result, Ok, Err}
-use Rattle.mx_asm.proofs.Words.{cond_both, nat_tests, sum_by-cons, sum_by-append, AreBytes, ExprFault, Tree, number, name, back, ahead, here, unary, binary, reading, Operand, Operands, Spells, expression, string, none, more, empty, operands, list-read}
+use Rattle.mx_asm.proofs.Words.{cond_both, nat_tests, sum_by-cons, sum_by-append, AreBytes, ExprFault, Tree, number, reading, Operand, Operands, Spells, expression, string, none, more, empty, operands, list-read}
 use Rattle.mx_expr.proofs.Fields.{sum-some}
 use Rattle.mx_asm.proofs.FieldBytes.{bytes-cut}
 use Rattle.mx_asm.proofs.Weights.{operand_weight}

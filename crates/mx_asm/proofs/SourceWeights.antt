@@ -1,8 +1,8 @@
 -- What the statements of a source ask for is bounded by the bytes of the source.
 use Rattle.std.proofs.Common.{◌≡◌, ℕ, ◌+◌, ◌-◌, ◌*◌, ◌^◌, ◌<◌, ◌≤◌, List, [], ◌∷◌, map, length, take, drop, sum_by, bytes_eq, Bool, true, false, cond, nat_lt, ◌⊎◌, inl, inr, Option, Some, None, is_some, Result, Ok, Err, arith, refl, ap, ◌∙◌, subst, ◌==◌, option_map}
-use Rattle.mx_asm.proofs.Words.{AllByRecursion, list_all, slice_split, onto_first, take-length, cond_both, and_parts, ltb-true, ltb-false, length-take, sum_by-cons, bytes_eq-Decides, AreBytes, Span, LineFault, Cut, lines_of, without_empty_last, size_up_to, is_too_far, split, part, cuts_from, InOrder, CutInOrder, statement, faulty, too_far, item_of, before, items_of, Statements, ExprFault, Tree, reading, Op, opcode_rows, opcode_names, pseudo_operations, chosen_operations, operations, operation_of, Answer, StatementTree, Fields, label_of, operation_with, operation_for, Entry, with_operands, with_operation, entry_with, entry_of, entries_of, line_entries, source_entries, statements_in, refusal_in, first_fault, entries_refusal, end_refusal, last_line, refusal, sights_of, Line, lines_entries}
+use Rattle.mx_asm.proofs.Words.{AllByRecursion, list_all, slice_split, onto_first, take-length, cond_both, and_parts, ltb-true, ltb-false, length-take, sum_by-cons, bytes_eq-Decides, AreBytes, Span, LineFault, Cut, lines_of, without_empty_last, size_up_to, is_too_far, split, part, cuts_from, InOrder, CutInOrder, statement, too_far, item_of, before, items_of, Statements, ExprFault, Tree, reading, Op, opcode_rows, opcode_names, pseudo_operations, chosen_operations, operations, operation_of, Answer, StatementTree, Fields, label_of, operation_with, operation_for, Entry, with_operands, with_operation, entry_with, entry_of, entries_of, line_entries, source_entries, statements_in, refusal_in, first_fault, entries_refusal, end_refusal, last_line, refusal, sights_of, Line, lines_entries}
 use Rattle.mx_line.specs.Source.{Item, items_from}
-use Rattle.mx_line.specs.Statements.Statements.{none as nothing_left, fault as fault_there, next as one_more}
+use Rattle.mx_line.specs.Statements.Statements.{next as one_more}
 use Rattle.mx_line.proofs.StatementLemmas.{past-label, statement-order}
 use Rattle.mx_line.proofs.RuleLaws.{statement_of-only}
 use Rattle.mx_line.proofs.ListLaws.{list-by-rules}

@@ -1,7 +1,7 @@
 -- A source has few statements: each takes a byte or the end of its line, and the lines before one that is too far have at
 -- most 2^22 bytes with the newlines between them.
-use Rattle.std.proofs.Common.{◌≡◌, ◌<◌, ◌≤◌, ℕ, zero, suc, ◌+◌, ◌-◌, ◌^◌, Bool, true, false, cond, List, [], ◌∷◌, ◌++◌, length, sum_by, Option, None, Some, Result, Ok, Err, refl, sym, ap, ◌∙◌, arith, append_assoc, length-append}
-use Rattle.mx_asm.proofs.Words.{ltb-false, sum_by-append, length-map, LineFault, Cut, size_up_to, is_too_far, statement_of, list_with, cuts_within, cuts_from, statement, faulty, too_far, item_of, before, items_of, Entry, entry_of, statements_in, Line, lines_entries}
+use Rattle.std.proofs.Common.{◌≡◌, ◌<◌, ◌≤◌, ℕ, zero, suc, ◌+◌, ◌-◌, ◌^◌, Bool, true, false, cond, List, [], ◌∷◌, ◌++◌, length, sum_by, Option, Some, Result, Ok, refl, sym, ap, ◌∙◌, arith, append_assoc, length-append}
+use Rattle.mx_asm.proofs.Words.{ltb-false, sum_by-append, length-map, LineFault, Cut, size_up_to, is_too_far, statement_of, list_with, cuts_within, cuts_from, statement, too_far, item_of, before, items_of, Entry, entry_of, statements_in, Line, lines_entries}
 use Rattle.mx_line.specs.Source.{Item, items_from}
 use Rattle.mx_line.proofs.LineLemmas.{size-next}
 

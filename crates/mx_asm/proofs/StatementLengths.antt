@@ -1,15 +1,12 @@
 -- The tetras of a statement and the records of its references have at most the weights of its operands and 12 bytes.
 use Rattle.std.proofs.Common.{◌≡◌, ◌<◌, ◌≤◌, ℕ, ◌+◌, ◌-◌, ◌*◌, ◌%◌, ◌^◌, Bool, true, false, cond, List, [], ◌∷◌, ◌++◌, length, Option, None, Some, Ok, Err, unwrap_or, arith, refl, ap, sym, subst, le_of_eq, length-append, length-drop, ◌==◌, nat_lt, sum_by}
-use Rattle.mx_asm.proofs.Words.{cond_both, byte_at, nat_tests, sum_by-cons, Pure, Awaited, WaitKind, Octa, Wait, tetra_to_bytes, octa_to_bytes, tetra_from_bytes, Tree, number, name, ahead, unary, Op, Code, Lda, Set, Pseudo, Three, Mem, Wyde, shapes_of, loaded, Label, Placed, Answer, and_then, Known, Targets, pure_at, known_target, target_by, target_at, reference_of, no_targets, form, form_by, set_form, data_number, low_bytes, data_target, datum, with_rest, data_of, data_form, StatementTree, alignment, place_at, known_at_place, label_value, tetra_waits, tetra_data, with_data, one_operand, pseudo_form, op_form, encoding, AreSilent, silent-operand, nothing_known, covered}
+use Rattle.mx_asm.proofs.Words.{cond_both, byte_at, nat_tests, sum_by-cons, Awaited, WaitKind, Octa, Wait, tetra_to_bytes, octa_to_bytes, tetra_from_bytes, Tree, number, name, ahead, unary, Op, Code, Lda, Set, Pseudo, Three, Mem, shapes_of, loaded, Label, Placed, Answer, and_then, Known, Targets, pure_at, known_target, target_by, target_at, reference_of, no_targets, form, form_by, set_form, data_number, low_bytes, datum, with_rest, data_of, data_form, StatementTree, alignment, place_at, known_at_place, tetra_waits, tetra_data, with_data, one_operand, pseudo_form, op_form, encoding, AreSilent, silent-operand, nothing_known, covered, after-gives, gives-value, Gives}
 use Rattle.mx_ops.specs.declared.op.Op.TheVariants.{Pseudo as PseudoOp}
 use Rattle.mx_ops.specs.declared.op.Pseudo.TheVariants as pseudo
 use Rattle.mx_ops.specs.declared.op.Shape.{Shape}
-use Rattle.mx_stmt.specs.declared.placed.Effect.TheVariants.{Plain}
-use Rattle.mx_stmt.specs.declared.faults.StmtFault.TheVariants.{BadPlace}
 use Rattle.mx_stmt.specs.Encoding.{with_bytes, with_tetra}
 use Rattle.mx_asm.proofs.Weights.{operand_weight}
 use Rattle.mx_asm.proofs.WrittenLengths.{load_length, load-most, load-tetra, loaded-most, loaded-low, covered-most, covered-whole}
-use Rattle.mx_stmt.proofs.AwaitedNames.{then-gives, after-gives, gives-value, Gives}
 
 -- What an answer holds: data, which are bytes and references, and the tetra of an instruction have no name outside their
 -- crate.

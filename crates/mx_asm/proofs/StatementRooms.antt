@@ -3,11 +3,11 @@ use Rattle.std.proofs.Common.{◌≡◌, ℕ, ◌+◌, ◌<◌, ◌≤◌, List,
 use Rattle.mx_asm.proofs.Words.{Span, Cut, span, Found, IsField, Next, Operation, Statement, StatementOf}
 use Rattle.mx_line.specs.Fields.{ends_field, ends_here}
 use Rattle.mx_line.specs.Statements.{Operands}
-use Rattle.mx_line.specs.Statements.IsField.{empty, string_first, constant_first, byte_first}
+use Rattle.mx_line.specs.Statements.IsField.{empty, byte_first}
 use Rattle.mx_line.specs.Statements.Next.{another, nothing_more}
 use Rattle.mx_line.specs.Statements.Operands.{field, open_string, open_char}
-use Rattle.mx_line.specs.Statements.Operation.{named, bad_opcode, only_blanks, only_label}
-use Rattle.mx_line.specs.Statements.Statement.{comment, unlabelled, labelled, bad_local, bad_label}
+use Rattle.mx_line.specs.Statements.Operation.{named}
+use Rattle.mx_line.specs.Statements.Statement.{unlabelled, labelled}
 use Rattle.mx_line.specs.Statements.StatementOf.{too_long, later, first}
 
 -- An operand field that is not empty stands behind a blank, and behind the field there is a `;` or nothing more.

@@ -1,6 +1,6 @@
 -- The items of a source that is assembled are those of an object.
 use Rattle.std.proofs.Common.{◌≡◌, ℕ, ◌==◌, Bool, true, false, cond, nat_lt, List, [], ◌∷◌, ◌++◌, map, Option, None, Some, Result, Ok, Err, refl, ap, sym, subst, ◌^◌, codes}
-use Rattle.mx_asm.proofs.Words.{cond_both, AllByRecursion, result_unwrap_or, all-both, Value, Pure, Reg, Wait, WaitKind, Octa, Near, Far, Item, Load, Loc, Skip, FixOcta, FixNear, FixFar, File, Spec, Pre, Post, Stab, IsMiddle, MayFollow, SpecsEnd, Valid, relative_word, near_reach, far_reach, Answer, lowest_of, Placed, NotMultiple, StatementTree, AsmFault, Refused, Head, statements_in, Sight, outline, final_known, waiting_at, relative_fix, pure_fix, fix_of, with_fix, fixes, awaited_value, moved, onto, fix_items, lowered, covering, told_line, located, lined, byte_items, head_at_fixes, with_bytes, sight_items, sight_head, items_from, opening, closing, main_of, first_of, entries_refusal, end_refusal, last_line, AreFit, lines_entries, entries_items, assembled_with, assembled_lines}
+use Rattle.mx_asm.proofs.Words.{cond_both, AllByRecursion, result_unwrap_or, all-both, Value, Pure, Reg, Wait, WaitKind, Octa, Near, Far, Item, Load, Loc, File, Spec, Pre, Post, Stab, IsMiddle, MayFollow, SpecsEnd, Valid, relative_word, near_reach, far_reach, Answer, lowest_of, Placed, NotMultiple, StatementTree, AsmFault, Refused, Head, statements_in, Sight, outline, final_known, waiting_at, relative_fix, pure_fix, fix_of, with_fix, fixes, awaited_value, moved, onto, fix_items, lowered, covering, told_line, located, lined, byte_items, head_at_fixes, with_bytes, sight_items, sight_head, items_from, opening, closing, main_of, first_of, entries_refusal, end_refusal, last_line, AreFit, lines_entries, entries_items, assembled_with, assembled_lines}
 use Rattle.mx_mmo.specs.declared.items.Item.TheVariants.{Line}
 use Rattle.mx_asm.specs.Whole.{Line as Text}
 

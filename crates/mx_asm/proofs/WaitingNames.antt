@@ -1,6 +1,6 @@
 -- What waits makes no difference to what a statement comes to.
 use Rattle.std.proofs.Common.{◌≡◌, ℕ, ◌+◌, ◌%◌, ◌^◌, List, [], ◌∷◌, Option, refl, ap}
-use Rattle.mx_asm.proofs.Words.{Wait, Tree, Op, Code, Lda, Set, Pseudo, Label, and_then, Known, Targets, data_of, data_form, data_target, with_rest, datum, StatementTree, pseudo_form, op_form, with_data, known_at_place, alignment, encoding}
+use Rattle.mx_asm.proofs.Words.{Wait, Tree, Op, Pseudo, Label, and_then, Known, Targets, data_of, data_form, data_target, with_rest, datum, StatementTree, pseudo_form, op_form, with_data, known_at_place, alignment, encoding}
 use Rattle.mx_ops.specs.declared.op.Op.TheVariants.{Pseudo as PseudoOp}
 use Rattle.mx_ops.specs.declared.op.Pseudo.TheVariants as pseudo
 

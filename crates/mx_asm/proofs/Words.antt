@@ -4,7 +4,6 @@ pub use Rattle.std.proofs.lemmas.Bool.{and_parts, cases_eq, cases_lt, cond_both,
 pub use Rattle.std.proofs.lemmas.Bool.Decides.{Decides-eqb, nat_tests}
 pub use Rattle.std.proofs.lemmas.Grind.{common_steps, flat_map-append}
 pub use Rattle.std.proofs.lemmas.List.{append_cancel_left, drop_all, drop_more, length-map, length-replicate, length-take, take-append-le}
-pub use Rattle.std.proofs.lemmas.List.Concat.{flat_map-cons}
 pub use Rattle.std.proofs.lemmas.List.Elements.{filter-append}
 pub use Rattle.std.proofs.lemmas.List.Folds.{list_any-append}
 pub use Rattle.std.proofs.lemmas.List.Sums.{fold-append, sum_by-append, sum_by-cons}
@@ -12,7 +11,7 @@ pub use Rattle.std.proofs.lemmas.Nat.{and_le_l, mod_below, or_lt, xor_comm, xor_
 pub use Rattle.std.proofs.lemmas.Slice.Eq.{bytes_eq-Decides}
 pub use Rattle.std.specs.Int.{byte_at}
 pub use Rattle.std.specs.Int.Bits.{xor_assoc, xor_zero_l, xor_zero_r}
-pub use Rattle.std.specs.List.{AllByRecursion, filter, flat_map, list_all, list_any, onto_first, slice_split}
+pub use Rattle.std.specs.List.{AllByRecursion, filter, list_all, list_any, onto_first, slice_split}
 pub use Rattle.std.specs.Option.{IfSome}
 pub use Rattle.std.specs.Result.{result_err, result_unwrap_or}
 pub use Rattle.mx_expr.proofs.Exact.{fault-read, list-read, reading-err, reading-ok}
@@ -43,8 +42,9 @@ pub use Rattle.mx_mmo.specs.Spelling.{bytes_of, ending, loaded, written}
 pub use Rattle.mx_mmo.specs.Tetras.{address, lop, wide_lop}
 pub use Rattle.mx_mmo.specs.Valid.{Fits, IsMiddle, MayFollow, SpecsEnd, Valid}
 pub use Rattle.mx_mmo.specs.declared.items.Item.{Item}
-pub use Rattle.mx_mmo.specs.declared.items.Item.TheVariants.{File, FixFar, FixNear, FixOcta, Load, Loc, Post, Pre, Skip, Spec, Stab}
+pub use Rattle.mx_mmo.specs.declared.items.Item.TheVariants.{File, FixFar, FixNear, Load, Loc, Post, Pre, Spec, Stab}
 pub use Rattle.mx_names.proofs.Entries.{length-inserted, not-some, value-defined, value-inserted}
+pub use Rattle.mx_names.proofs.Known.{all-inserted}
 pub use Rattle.mx_names.specs.Names.{AreNames, IsFullName, NameTable, back_of, complete_form, define_answer, first_value, is_complete, pure_of, start, symbols_with, value_in, value_of_name, with_symbol}
 pub use Rattle.mx_names.specs.Waiting.{waits_for, waits_for_others}
 pub use Rattle.mx_names.specs.declared.fault.NameFault.{NameFault}
@@ -57,6 +57,7 @@ pub use Rattle.mx_ops.specs.declared.op.Op.TheVariants.{Code, Lda, Set}
 pub use Rattle.mx_ops.specs.declared.op.Pseudo.{Pseudo}
 pub use Rattle.mx_ops.specs.declared.op.Shape.TheVariants.{Mem, Three, Wyde}
 pub use Rattle.mx_stab.proofs.Orders.{AreInOrder, Below, all-both, all-front, in-byte-order, in-order}
+pub use Rattle.mx_stmt.proofs.AwaitedNames.{AreUnknown, Gives, IsUnknown, after-gives, encoding-awaits, gives-value}
 pub use Rattle.mx_stmt.proofs.JoinedBytes.{from-append, placed-append, placed-zeros, xor-pairs}
 pub use Rattle.mx_stmt.proofs.LaidBytes.{all-append, all-into, encoding-laid}
 pub use Rattle.mx_stmt.proofs.SilentStatements.{allocable, silent-operand}
@@ -72,10 +73,10 @@ pub use Rattle.mx_stmt.specs.Gregs.{lowest_of, register_for, with_greg}
 pub use Rattle.mx_stmt.specs.Laid.{IsInside, IsLaid, kind_size}
 pub use Rattle.mx_stmt.specs.Operands.{Known, Targets, answer_of, knowledge_of, known_target, no_targets, operand_value, pure_at, reference_of, register_at, symbol_form, target_at, target_by}
 pub use Rattle.mx_stmt.specs.Placements.{from_place, placed}
-pub use Rattle.mx_stmt.specs.Reading.{CutWithin, Fields, IsFault, IsRead, SpanWithin, fields_of, label_in, label_of, operation_for, operation_with, takes_label}
+pub use Rattle.mx_stmt.specs.Reading.{CutWithin, Fields, IsFault, IsRead, SpanWithin, fields_of, label_in, label_of, operation_for, operation_with}
 pub use Rattle.mx_stmt.specs.Steps.{Answer, and_then}
 unfoldable pub use Rattle.mx_stmt.specs.Steps.{AreAlike}
-pub use Rattle.mx_stmt.specs.declared.faults.StmtFault.TheVariants.{LabelNotAllowed, NotMultiple, TooFar}
+pub use Rattle.mx_stmt.specs.declared.faults.StmtFault.TheVariants.{NotMultiple, TooFar}
 pub use Rattle.mx_stmt.specs.declared.placed.Effect.{Effect}
 pub use Rattle.mx_stmt.specs.declared.placed.Placed.{Placed}
 pub use Rattle.mx_stmt.specs.declared.statement.Label.{Label}
@@ -104,7 +105,7 @@ unfoldable pub use Rattle.mx_asm.specs.Fitting.{AreFit}
 pub use Rattle.mx_asm.specs.Fixes.{awaited_value, fix_of, pure_fix, relative_fix, waiting_at, waiting_for, with_fix, word_fix}
 unfoldable pub use Rattle.mx_asm.specs.Fixes.{fixes, from_last}
 pub use Rattle.mx_asm.specs.Fronts.{GrowsAlike, IsFront}
-pub use Rattle.mx_asm.specs.Image.{image, image_with, is_covered, lines_in, octa_from, octa_in, page_count, pages_of, symbols_of, with_lines}
+pub use Rattle.mx_asm.specs.Image.{image, image_with, is_covered, octa_from, octa_in, page_count, pages_of, symbols_of, with_lines}
 unfoldable pub use Rattle.mx_asm.specs.Image.{pages_below, placements}
 pub use Rattle.mx_asm.specs.OnePass.{Assembly, Ended, Labelled, Progress, Standing, Taken, and_entries, assembled, assembly_fault, beginning, behind_entry, count_fault, counted, end_behind, ended, ended_main, ended_waits, entry_taken, is_open, labelled, last_number, line_behind, line_taken, line_unless, main_fault, opened, statement_taken, symbol_defined, symbol_label, taken_items, taken_label, taken_with, with_local, with_opening, with_waits}
 unfoldable pub use Rattle.mx_asm.specs.OnePass.{entries_taken}

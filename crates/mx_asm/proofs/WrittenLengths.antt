@@ -1,6 +1,7 @@
 -- How many bytes items are written as.
 use Rattle.std.proofs.Common.{◌≡◌, ◌<◌, ◌≤◌, ℕ, ◌+◌, ◌-◌, ◌*◌, ◌/◌, ◌%◌, ◌^◌, Bool, true, false, cond, List, [], ◌∷◌, ◌++◌, length, replicate, map, arith, ap, ◌∙◌, length-append, append-nil, ◌==◌}
-use Rattle.mx_asm.proofs.Words.{cond_both, flat_map-append, flat_map-cons, tetra_to_bytes, octa_to_bytes, tetra_from_bytes, tetras_of, lop, address, Item, Load, loaded, bytes_of, written, zeros_after, covered}
+use Rattle.mx_asm.proofs.Words.{cond_both, flat_map-append, tetra_to_bytes, tetra_from_bytes, tetras_of, lop, address, Item, Load, loaded, bytes_of, written, zeros_after, covered}
+use Rattle.std.proofs.lemmas.List.Concat.{flat_map-cons}
 use Rattle.mx_asm.proofs.MeaningPieces.{covered-length}
 
 pub written-append : (xs ys : List Item) → length (written (xs ++ ys)) ≡ length (written xs) + length (written ys)

@@ -1,6 +1,6 @@
 -- A source that is generated is not refused.
 use Rattle.std.proofs.Common.{◌≡◌, ℕ, ◌/◌, ◌≤◌, Bool, true, false, cond, List, [], length, map, Option, None, Some, Ok, refl, ap, ◌∙◌, arith, nat_lt, is_some}
-use Rattle.mx_gen.proofs.Words.{le-ltb, Value, Pure, lines_of, predefined_value, value_in, pure_of, first_value, value_of_name, Known, Entry, source_entries, statements_in, refusal_in, nothing_known, final_known, sights_of, main_name, padded_trie, first_of, first_fault, locals, trie_limit, last_fault, end_fault, at_line, last_line, end_refusal, entries_refusal, refusal, accepted, page_refusal, accepted_in, run_refusal_with, run_refusal, generated, program}
+use Rattle.mx_gen.proofs.Words.{le-ltb, Value, Pure, lines_of, predefined_value, value_in, pure_of, first_value, Known, Entry, source_entries, statements_in, refusal_in, nothing_known, final_known, sights_of, main_name, padded_trie, first_of, first_fault, locals, trie_limit, last_fault, end_fault, at_line, last_line, end_refusal, entries_refusal, refusal, accepted, page_refusal, accepted_in, run_refusal_with, run_refusal, generated, program}
 use Rattle.mx_asm.specs.declared.faults.AsmFault.{AsmFault}
 use Rattle.mx_asm.specs.declared.faults.AsmFault.TheVariants.{SymbolsTooMany}
 use Rattle.mx_gen.proofs.Lines.{statements-are, none-refused}

@@ -1,5 +1,5 @@
 -- Statements that place few bytes low in memory, and whose references are near, are not refused.
-use Rattle.std.proofs.Common.{◌≡◌, ℕ, ◌+◌, ◌-◌, ◌/◌, ◌%◌, ◌^◌, ◌<◌, ◌≤◌, Bool, true, false, cond, List, [], ◌∷◌, ◌++◌, length, fold, filter, Option, None, Some, Ok, refl, sym, ap, ◌∙◌, arith, subst, ⊎_elim, nat_le}
+use Rattle.std.proofs.Common.{◌≡◌, ℕ, ◌+◌, ◌-◌, ◌/◌, ◌%◌, ◌^◌, ◌<◌, ◌≤◌, Bool, false, cond, List, [], ◌∷◌, ◌++◌, length, fold, filter, Option, None, Some, Ok, refl, sym, ap, ◌∙◌, arith, subst, ⊎_elim, nat_le}
 use Rattle.mx_gen.proofs.Words.{AllByRecursion, list_any, cond_both, cases_lt, le-leb, lt-ltb, nat_tests, Value, Pure, Reg, Wait, Near, NameTable, complete_form, Label, Name, Local, Placed, near_reach, forward_word, backward_word, relative_word, Known, no_targets, StatementTree, encoding, Sight, known_behind, known_with, known_after, sights_from, outline, waits_in, references, is_local, label_fault, refusal_of, fault_behind, fault_with, statement_fault, first_of, first_fault, unreferenced, first_undefined, local_of, local_in, locals}
 use Rattle.mx_word.specs.declared.waits.Awaited.TheVariants as awaited
 use Rattle.mx_word.specs.Waits.{same_awaited}

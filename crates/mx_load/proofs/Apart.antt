@@ -1,8 +1,9 @@
 -- What bytes are loaded to, by reading and by meaning apart.
-use Rattle.std.proofs.Common.{◌≡◌, ℕ, zero, suc, ◌+◌, ◌<◌, ◌≤◌, List, [], ◌∷◌, length, drop, Bool, true, false, cond, Some, None, Ok, Err, refl, sym, ◌∙◌, ap, subst, arith, Result, nat_lt}
+use Rattle.std.proofs.Common.{◌≡◌, ℕ, zero, suc, ◌+◌, ◌<◌, ◌≤◌, List, [], ◌∷◌, length, drop, Bool, true, false, cond, Some, Ok, Err, refl, sym, ◌∙◌, ap, subst, arith, Result, nat_lt}
 use Rattle.std.proofs.lemmas.Bool.Decides.{nat_tests}
 use Rattle.mx_mmo.specs.Image.{Image}
-use Rattle.mx_load.proofs.Words.{Loading, Meaningless, nothing, take_item, take_items, image_in, meaning, Due, IsWithin, first_item, limit, phase_after, tail_of, Left, Walk, behind, walk_on, walk, items_of, object_behind, object_of, with_tail, Item, MmoFault, TooLong, MeansNothing, fault_at, Loaded, item_loaded, first_loaded, items_loaded, taken, trie_read, tail_read, with_symbols, whole_loaded, object_loaded, StabFault}
+use Rattle.mx_load.proofs.Words.{Loading, Meaningless, nothing, take_item, take_items, image_in, meaning, Due, IsWithin, first_item, limit, phase_after, tail_of, Left, Walk, behind, walk_on, walk, items_of, object_behind, object_of, with_tail, Item, MmoFault, MeansNothing, fault_at, Loaded, item_loaded, first_loaded, items_loaded, taken, trie_read, tail_read, with_symbols, whole_loaded, object_loaded, StabFault}
+use Rattle.mx_mmo.specs.declared.faults.MmoFault.TheVariants.{TooLong}
 use Rattle.mx_mmo.specs.declared.items.Tail.{Tail}
 use Rattle.mx_mmo.specs.declared.items.Object.{Object}
 use Rattle.mx_mmo.specs.declared.due.Phase.{Phase}

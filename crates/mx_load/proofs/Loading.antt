@@ -1,9 +1,9 @@
 -- Items of an object are loaded one after another.
 use Rattle.std.proofs.Common.{◌≡◌, ◌≢◌, ℕ, zero, suc, ◌<◌, length, Bool, true, Some, None, Ok, Err, refl, sym, ◌∙◌, ap, arith, Result, IfErr}
 use Rattle.mx_load.specs.Faults as loads
-use Rattle.mx_load.proofs.Words.{told, fault_of, loading_of, LoadFault, Loading, Meaningless, take_item, Due, first_item, ReaderModel, given, next_item, next_due, next_answer, left_of, Item, MmoFault, NotTetras, NoPre, BadLop, BadFields, Truncated, TooLong, loaded_from, loaded_behind, item_answer, unread, unloaded, place_and_number, Loaded, item_loaded, first_loaded, items_loaded, taken, fault_at, OutOfMemory}
+use Rattle.mx_load.proofs.Words.{told, fault_of, loading_of, LoadFault, Loading, Meaningless, take_item, Due, first_item, ReaderModel, given, next_item, next_due, next_answer, left_of, Item, MmoFault, loaded_from, loaded_behind, item_answer, unread, unloaded, place_and_number, Loaded, item_loaded, first_loaded, items_loaded, taken, fault_at, OutOfMemory}
 use Rattle.mx_load.specs.declared.progress.Progress.{Progress}
-use Rattle.mx_load.specs.declared.fault.LoadFault.TheVariants.{PagesFull, BadPlace, NoFile, OutOfMemory as NoRoom}
+use Rattle.mx_load.specs.declared.fault.LoadFault.TheVariants.{OutOfMemory as NoRoom}
 use Rattle.mx_mmo.specs.declared.faults.MmoFault.TheVariants.{OutOfMemory as NoBytes}
 use Rattle.mx_load.specs.declared.objects.ObjectFault.{ObjectFault}
 

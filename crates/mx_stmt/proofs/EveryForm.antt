@@ -1,6 +1,6 @@
 -- What holds of tetras without a reference and of relative addresses holds of the forms of all instructions.
 use Rattle.std.proofs.Common.{◌≡◌, ℕ, ◌^◌, true, List, [], ◌∷◌, None, Ok, Err, refl}
-use Rattle.mx_stmt.proofs.Words.{cond_both, Value, Pure, Reg, Tree, Shape, Three, Regs, Round, Neg, Rel, Mem, MemPure, Wyde, Jump, Put, Get, Pop, One, Save, Unsave, Free, Tetra, StmtFault, Operands, Answer, and_then, base_for, Known, Targets, operand_value, register_at, field_at, register_or_byte_at, number_below, plain_tetra, last_word, last_form, last_register, last_two, takes_byte, rounded_last, address_word, address_of, address_form, branch_form, jump_form, wyde_form, whole_form, byte_form, free_at, free_form, with_register, with_byte, form, form_by, set_to, set_form, tetra_xyz, tetra_wyde, tetra_whole}
+use Rattle.mx_stmt.proofs.Words.{cond_both, Value, Pure, Reg, Tree, Shape, Three, Regs, Round, Neg, Rel, Mem, MemPure, Wyde, Jump, Put, Pop, One, Unsave, Free, Tetra, StmtFault, Operands, Answer, and_then, base_for, Known, Targets, operand_value, register_at, field_at, register_or_byte_at, number_below, plain_tetra, last_word, last_form, last_register, last_two, takes_byte, rounded_last, address_word, address_of, address_form, branch_form, jump_form, wyde_form, whole_form, byte_form, free_at, free_form, with_register, with_byte, form, form_by, set_to, set_form, tetra_xyz, tetra_wyde, tetra_whole}
 use Rattle.mx_stmt.proofs.CodesOfTargets.{has_address}
 
 -- an answer without a reference

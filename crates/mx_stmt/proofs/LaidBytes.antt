@@ -1,7 +1,7 @@
 -- What always holds of a statement that is placed: its bytes are bytes below the stack segment, and each of its references
 -- stands at a multiple of 4 within them.
 use Rattle.std.proofs.Common.{◌≡◌, ◌<◌, ◌≤◌, ℕ, ◌+◌, ◌-◌, ◌%◌, ◌^◌, nat_lt, List, [], ◌∷◌, ◌++◌, length, Option, None, Some, Ok, Err, refl, sym, ap, ◌∙◌, arith, subst, unwrap_or}
-use Rattle.mx_stmt.proofs.Words.{AllByRecursion, cond_both, ltb-false, length-append, length-drop, octa_to_bytes, tetra_to_bytes, Awaited, Wait, WaitKind, Octa, Near, Far, Tree, Shape, Target, Data, Tetra, Label, Placed, BadPlace, Answer, and_then, Known, Targets, register_at, target_at, plain_tetra, near_reach, far_reach, relative_word, relative_form, form_by, tetra_wyde, tetra_whole, low_bytes, data_target, datum, joined_data, with_rest, data_of, data_form, StatementTree, with_bytes, tetra_data, tetra_waits, with_data, encoding}
+use Rattle.mx_stmt.proofs.Words.{AllByRecursion, cond_both, ltb-false, length-append, length-drop, octa_to_bytes, Awaited, Wait, WaitKind, Octa, Near, Far, Tree, Shape, Target, Data, Tetra, Label, Placed, BadPlace, Answer, and_then, Known, Targets, register_at, target_at, plain_tetra, near_reach, far_reach, relative_word, relative_form, form_by, tetra_wyde, tetra_whole, data_target, datum, joined_data, with_rest, data_of, data_form, StatementTree, with_bytes, tetra_data, tetra_waits, with_data, encoding}
 use Rattle.mx_word.specs.Ranges.{AreBytes}
 use Rattle.mx_word.proofs.Ranges.{bytes-append, bytes-behind}
 use Rattle.mx_stmt.specs.declared.operands.Target.TheVariants as target

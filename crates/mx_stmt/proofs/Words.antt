@@ -18,7 +18,7 @@ pub use Rattle.mx_ops.specs.declared.op.Op.{Op}
 pub use Rattle.mx_ops.specs.declared.op.Op.TheVariants.{Code, Lda, Set}
 pub use Rattle.mx_ops.specs.declared.op.Pseudo.{Pseudo}
 pub use Rattle.mx_ops.specs.declared.op.Shape.{Shape}
-pub use Rattle.mx_ops.specs.declared.op.Shape.TheVariants.{Free, Get, Jump, Mem, MemPure, Neg, One, Pop, Put, Regs, Rel, Round, Save, Three, Unsave, Wyde}
+pub use Rattle.mx_ops.specs.declared.op.Shape.TheVariants.{Free, Get, Jump, Mem, MemPure, Neg, One, Pop, Put, Regs, Rel, Round, Three, Unsave, Wyde}
 pub use Rattle.mx_word.specs.Words.{octa_to_bytes, tetra_to_bytes}
 pub use Rattle.mx_word.specs.declared.symbols.Value.{Value}
 pub use Rattle.mx_word.specs.declared.symbols.Value.TheVariants.{Pure, Reg}
