@@ -1,5 +1,5 @@
 -- The operand fields of the source are read as their trees.
-use Rattle.std.proofs.Common.{◌≡◌, ℕ, ◌+◌, ◌^◌, ◌<◌, ◌≤◌, Bool, true, List, [], ◌∷◌, ◌++◌, length, codes, Ok, refl, ap, ◌∙◌, arith, append_assoc, append-nil, sym}
+use Rattle.std.proofs.Common.{◌≡◌, ℕ, ◌^◌, ◌<◌, ◌≤◌, Bool, true, List, [], ◌∷◌, ◌++◌, length, codes, Ok, refl, ap, ◌∙◌, arith, append_assoc, append-nil, sym}
 use Rattle.mx_gen.proofs.Words.{decimal, digit_value, list_all, AllDigits, and_parts, nat_tests, decimal_is_IsNumeral, length-decimal-le, is_other, Tree, number, name, ahead, sign, step, steps, reg, block_name, procedure_name}
 use Rattle.mx_expr.specs.declared.tree.UnOp.TheVariants.{Register}
 use Rattle.mx_expr.specs.Bytes.{is_name_byte}

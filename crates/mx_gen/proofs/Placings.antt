@@ -1,6 +1,6 @@
 -- What each statement of the program comes to, by what is known at it.
-use Rattle.std.proofs.Common.{◌≡◌, ℕ, ◌+◌, ◌-◌, ◌%◌, ◌^◌, ◌<◌, ◌≤◌, false, List, [], ◌∷◌, Option, None, Some, Ok, refl, ap, ◌∙◌, arith, nat_lt}
-use Rattle.mx_gen.proofs.Words.{lt-ltb, le-ltb, Symbol, Value, Pure, Awaited, Near, Tree, number, name, ahead, Code, Set, value_of_name, Label, Name, Local, Placed, Known, no_targets, symbol_form, answer_of, operand_value, pure_number, field_number, register_or_byte, pure_at, reference_of, name_unless_known, awaited_name, known_target, target_by, tetra_xyz, tetra_wyde, plain_tetra, last_form, near_reach, relative_form, free_byte, free_at, form_by, place_at, label_value, tetra_waits, with_tetra, op_form, encoding, stated, reg}
+use Rattle.std.proofs.Common.{◌≡◌, ℕ, ◌+◌, ◌%◌, ◌^◌, ◌<◌, ◌≤◌, false, List, [], ◌∷◌, Option, None, Some, Ok, refl, ap, ◌∙◌, arith, nat_lt}
+use Rattle.mx_gen.proofs.Words.{lt-ltb, le-ltb, Symbol, Value, Pure, Awaited, Near, Tree, number, name, ahead, Code, Set, value_of_name, Label, Placed, Known, no_targets, symbol_form, answer_of, operand_value, pure_number, field_number, register_or_byte, pure_at, reference_of, name_unless_known, awaited_name, known_target, target_by, tetra_xyz, tetra_wyde, plain_tetra, last_form, near_reach, relative_form, free_byte, free_at, form_by, place_at, label_value, tetra_waits, with_tetra, op_form, encoding, stated, reg}
 use Rattle.mx_word.specs.Words.{tetra_to_bytes}
 use Rattle.mx_word.specs.declared.waits.Awaited.TheVariants as awaited
 use Rattle.mx_word.specs.declared.waits.WaitKind.{WaitKind}
