@@ -43,7 +43,7 @@ exit status: that of the program (the low byte of $255 at Halt), and
 ";
 
 /// What `--version` prints.
-pub const VERSION: &str = "mmixware 0.2.0\n";
+pub const VERSION: &str = "mmixware 0.3.0\n";
 
 /// The status of a write to standard output that fails.
 const WRITE_FAULT: u8 = 74;
