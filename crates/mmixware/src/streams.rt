@@ -117,7 +117,7 @@ fn read_some<R: Read>(reader: &mut R, into: &mut [u8]) -> Option<usize>
     None
 }
 
-/// Reads until the buffer is full or the input ends.
+/// Reads until the buffer is full or the input ends. Once it is full the system is not called again.
 fn read_whole<R: Read>(reader: &mut R, into: &mut [u8]) -> Option<usize>
     ensures { IfSome result (λ n. n ≤ length into.old) }
 {
@@ -127,6 +127,9 @@ fn read_whole<R: Read>(reader: &mut R, into: &mut [u8]) -> Option<usize>
             Some(0) => break,
             Some(n) => count += n,
             None => return None,
+        }
+        if count == into.len() {
+            break;
         }
     }
     Some(count)
@@ -149,7 +152,7 @@ fn write_some<W: Write>(writer: &mut W, from: &[u8]) -> Option<usize>
     None
 }
 
-/// Writes all bytes, and says whether it could.
+/// Writes all bytes, and says whether it could. Once they are written the system is not called again.
 fn write_whole<W: Write>(writer: &mut W, from: &[u8]) -> bool {
     let mut count = 0;
     for _turn in 0..from.len() {
@@ -157,6 +160,9 @@ fn write_whole<W: Write>(writer: &mut W, from: &[u8]) -> bool {
             Some(0) => break,
             Some(n) => count += n,
             None => return false,
+        }
+        if count == from.len() {
+            break;
         }
     }
     count == from.len()
