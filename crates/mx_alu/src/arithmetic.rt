@@ -60,8 +60,8 @@ pub(crate) fn perform_alone(name: Arithmetic, y: u64, z: u64) -> Option<u64>
         Arithmetic::Slu => Some(shift_left(y, z)),
         Arithmetic::Sr => Some(shift_right_signed(y, z)),
         Arithmetic::Sru => Some(shift_right(y, z)),
-        Arithmetic::Add => fitting(signed_sum(y, z)),
-        Arithmetic::Sub => fitting(signed_difference(y, z)),
+        Arithmetic::Add => fitting_sum(y, z),
+        Arithmetic::Sub => fitting_difference(y, z),
         Arithmetic::Mul => lone(&perform(Arithmetic::Mul, y, z, 0)),
         Arithmetic::Neg => fitting(less_signed(y, z)),
         Arithmetic::Sl => lone(&shift_left_signed(y, z)),
@@ -85,6 +85,28 @@ fn signed_sum(y: u64, z: u64) -> i128
     ensures { result ≡ signed_value y +ℤ signed_value z }
 {
     value(y) + value(z)
+}
+
+/// The sum of two signed octas, where it is one.
+#[inline(always)]
+fn fitting_sum(y: u64, z: u64) -> Option<u64>
+    ensures { result ≡ lone_value (checked_answer (signed_value y +ℤ signed_value z)) }
+{
+    match signed(y).checked_add(signed(z)) {
+        Some(sum) => Some(sum.cast_unsigned()),
+        None => None,
+    }
+}
+
+/// The difference of two signed octas, where it is one.
+#[inline(always)]
+fn fitting_difference(y: u64, z: u64) -> Option<u64>
+    ensures { result ≡ lone_value (checked_answer (signed_value y -ℤ signed_value z)) }
+{
+    match signed(y).checked_sub(signed(z)) {
+        Some(difference) => Some(difference.cast_unsigned()),
+        None => None,
+    }
 }
 
 /// The difference of two signed octas.

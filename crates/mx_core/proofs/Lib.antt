@@ -8,6 +8,7 @@ pub mod Pages
 pub mod Stores
 pub mod Plain
 pub mod Others
+pub mod Gets
 pub mod PutValues
 pub mod Swaps
 pub mod Unchanged

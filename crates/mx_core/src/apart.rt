@@ -1,14 +1,13 @@
 //! Usual instructions that do more than give a value or go elsewhere. Each is given with its code as a literal.
 
-ghost use Rattle.std.specs.Prelude.{◌≡◌, ◌<◌, false};
+ghost use Rattle.std.specs.Prelude.{◌≡◌, ◌<◌, ◌%◌, IsTrue, false};
 ghost use Rattle.mx_core.specs.Calls.{KeepsWhereNot, MakesWhereTold, settled, store_outcome};
 ghost use Rattle.mx_core.specs.Deeds.{deed_at, deed_of, outcome};
-ghost use Rattle.mx_core.specs.Instructions.{operation_in, x_of};
+ghost use Rattle.mx_core.specs.Instructions.{next_of, operation_in, x_of};
 ghost use Rattle.mx_core.specs.Kept.{state_of};
 
 use crate::Machine;
 use crate::instruction::Instruction;
-use crate::machine::SEGMENT;
 use crate::operation::{Operation, Storing};
 use crate::part::{overflows, stored_part, stored_value};
 use crate::trips::RJ;
@@ -99,21 +98,6 @@ impl Machine {
         }
     }
 
-    /// GET.
-    #[inline(always)]
-    pub(crate) fn get_known(&mut self, i: &Instruction) -> bool
-        ensures made { MakesWhereTold (λ s. outcome s (deed_at s i.now)) result self.old self.new }
-        ensures kept { KeepsWhereNot result self.old self.new }
-    {
-        match i.operation() {
-            Operation::Get => match self.get_special(i) {
-                Ok(()) => true,
-                Err(_) => false,
-            },
-            _ => false,
-        }
-    }
-
     /// STB to STCO below Stack_Segment, where the page is near and no sign is lost.
     #[tactic(auto)]
     #[inline(always)]
@@ -123,9 +107,6 @@ impl Machine {
     {
         let a = self.data_address(i);
         let x = self.x_register(i);
-        if a >= SEGMENT {
-            return false;
-        }
         if overflows(how, x) {
             return false;
         }
@@ -156,25 +137,28 @@ impl Machine {
     /// $X gets a value, and the machine goes on at an address, if there is room for the register.
     #[tactic(auto, unfolding(crate::specs::Calls::set_outcome, crate::specs::Calls::settled))]
     #[inline(always)]
-    pub(crate) fn settle_if_room(&mut self, i: &Instruction, x: u64, next: u64) -> bool
-        ensures made { MakesWhereTold (λ s. settled s (x_of i.now) x next) result self.old self.new }
+    pub(crate) fn settle_if_room(&mut self, i: &Instruction, x: u64) -> bool
+        requires aligned { i.now.at % 4 ≡ 0 }
+        requires low { i.now.at < 0x6000_0000_0000_0000 }
+        ensures made { MakesWhereTold (λ s. settled s (x_of i.now) x (next_of i.now)) result self.old self.new }
         ensures kept { KeepsWhereNot result self.old self.new }
     {
         match self.set(i.x(), x) {
             Ok(()) => {
-                self.go_to(next);
+                self.go_on(i.at);
                 true
             }
             Err(_) => false,
         }
     }
 
-    /// The low bytes of `x` are stored in the part that holds an address below Stack_Segment, if its page is near.
+    /// The low bytes of `x` are stored in the part that holds an address, if that is below Stack_Segment and its
+    /// page is near.
     #[tactic(auto, unfolding(crate::specs::Kept::state_of, crate::specs::State::octa, crate::specs::State::with_octa, crate::specs::Calls::store_outcome))]
     #[inline(always)]
     fn store_if_near(&mut self, a: u64, part: Part, x: u64) -> bool
-        requires { a < 0x6000_0000_0000_0000 }
         ensures made { MakesWhereTold (λ s. store_outcome s a part x) result self.old self.new }
+        ensures low { IsTrue result → a < 0x6000_0000_0000_0000 }
         ensures kept { KeepsWhereNot result self.old self.new }
     {
         match self.memory.near_octa(a) {

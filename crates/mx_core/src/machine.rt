@@ -1,6 +1,6 @@
 //! The machine's state, and what is read and written of it.
 
-ghost use Rattle.std.specs.Prelude.{◌≡◌, ◌≢◌, ◌<◌, ◌≤◌, ◌^◌, ◌/◌, ◌%◌, Err, false, true};
+ghost use Rattle.std.specs.Prelude.{◌≡◌, ◌≢◌, ◌<◌, ◌≤◌, ◌+◌, ◌^◌, ◌/◌, ◌%◌, Err, false, true};
 ghost use Rattle.mx_mem.specs.Memory.{tetra_of};
 ghost use Rattle.mx_ring.specs.Bounds.{IsRing};
 ghost use Rattle.mx_ring.specs.Stack as stacks;
@@ -161,6 +161,25 @@ impl Machine {
         ensures { state_of self.new ≡ deeds.onward (state_of self.old) a }
     {
         self.pc = a / 4 * 4;
+        self.steps = self.steps.wrapping_add(1);
+    }
+
+    /// Keeps the page of the instruction that was fetched last, so that those behind it are fetched quickly.
+    #[inline(always)]
+    pub(crate) fn keep_code(&mut self)
+        ensures { state_of self.new ≡ state_of self.old }
+    {
+        self.memory.keep_code();
+    }
+
+    /// The machine goes on behind the instruction at an address, one step later.
+    #[inline(always)]
+    pub(crate) fn go_on(&mut self, at: u64)
+        requires aligned { at % 4 ≡ 0 }
+        requires low { at < 0x6000_0000_0000_0000 }
+        ensures { state_of self.new ≡ deeds.onward (state_of self.old) ((at + 4) % 2 ^ 64) }
+    {
+        self.pc = at + 4;
         self.steps = self.steps.wrapping_add(1);
     }
 

@@ -64,10 +64,11 @@ fn sign_extended(part: Part, v: u64) -> u64
     requires { v < 2 ^ (8 * size_of part) }
     ensures { result ≡ spec.sign_extended part v }
 {
-    if v < half(part) {
-        v
-    } else {
-        v + (u64::MAX - part.mask())
+    match part {
+        Part::Byte => ((v + 0x80) % 0x100).wrapping_sub(0x80),
+        Part::Wyde => ((v + 0x8000) % 0x1_0000).wrapping_sub(0x8000),
+        Part::Tetra => ((v + 0x8000_0000) % 0x1_0000_0000).wrapping_sub(0x8000_0000),
+        Part::Octa => v,
     }
 }
 

@@ -140,10 +140,9 @@ impl Machine {
             (result.last, state_of self.new) ≡ advanced (state_of self.new) (spec.step (state_of self.new)) }
         ensures there { result.last ≡ Advance.OutOfMemory → IsTrue (step_needs_page (state_of self.new)) }
     {
-        let mut place = self.memory.code_place();
         for made in 0..n {
             machines_keep_the_invariant(self);
-            match self.advance_quickly(&mut place) {
+            match self.advance_quickly() {
                 Advance::Went => {}
                 last => return Advanced { made, last },
             }
@@ -154,20 +153,19 @@ impl Machine {
         }
     }
 
-    /// One step without its trace, first as a usual one. A place in memory where the page of the instruction may be
-    /// is kept.
+    /// One step without its trace, first as a usual one. Where it is none, the page of its instruction is kept.
     #[inline(always)]
-    fn advance_quickly(&mut self, place: &mut usize) -> Advance
+    fn advance_quickly(&mut self) -> Advance
         ensures answer { result ≢ Advance.OutOfMemory →
             (result, state_of self.new) ≡ advanced (state_of self.old) (spec.step (state_of self.old)) }
         ensures memory { result ≡ Advance.OutOfMemory → state_of self.new ≡ state_of self.old }
         ensures there { result ≡ Advance.OutOfMemory → IsTrue (step_needs_page (state_of self.old)) }
     {
-        if self.advance_if_usual(*place) {
+        if self.advance_if_usual() {
             return Advance::Went;
         }
         let answer = self.advance_anyhow();
-        *place = self.memory.code_place();
+        self.keep_code();
         answer
     }
 

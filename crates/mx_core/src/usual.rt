@@ -1,7 +1,7 @@
 //! Steps whose instruction is frequent and has nothing unusual about it, made in one place. What is not made here
 //! changes nothing, and is made as any other step.
 
-ghost use Rattle.std.specs.Prelude.{◌≡◌, ◌<◌, IfSome, IsTrue};
+ghost use Rattle.std.specs.Prelude.{◌≡◌, ◌<◌, ◌%◌, IfSome, IsTrue};
 ghost use Rattle.mx_core.specs.Calls.{KeepsWhereNot, MakesWhereTold};
 ghost use Rattle.mx_core.specs.Deeds.{deed_at, outcome};
 ghost use Rattle.mx_core.specs.Instructions.{code_of, instruction};
@@ -14,7 +14,6 @@ ghost use Rattle.mx_core.specs.declared.step.Advance.TheVariants as advance;
 
 use crate::Machine;
 use crate::instruction::Instruction;
-use crate::machine::SEGMENT;
 
 /// What a usual instruction does: $X gets a value, and the machine goes on; the machine goes to an address; what
 /// only its code tells; or it is no usual one.
@@ -27,39 +26,36 @@ pub(crate) enum Usual {
 
 impl Machine {
     /// One step without its trace, where its instruction is frequent and nothing is unusual about it. Whether it
-    /// was made; where it was not nothing changed. Its page may be the one at a place in memory.
+    /// was made; where it was not nothing changed.
     #[inline(always)]
-    pub(crate) fn advance_if_usual(&mut self, place: usize) -> bool
+    pub(crate) fn advance_if_usual(&mut self) -> bool
         ensures made { IsTrue result →
             (advance.Went, state_of self.new) ≡ advanced (state_of self.old) (spec.step (state_of self.old)) }
         ensures kept { KeepsWhereNot result self.old self.new }
     {
         let at = self.pc();
-        if at >= SEGMENT {
-            return false;
-        }
-        match self.near_tetra(place, at) {
+        match self.near_tetra(at) {
             Some(word) => self.perform_if_usual(at, word),
             None => false,
         }
     }
 
-    /// The tetra that holds an address below Stack_Segment, where its page is at this place.
+    /// The tetra that holds an address, where it is below Stack_Segment and its page is that of the last instruction.
     #[tactic(auto, unfolding(crate::specs::Kept::state_of, crate::specs::State::octa))]
     #[inline(always)]
-    fn near_tetra(&self, place: usize, a: u64) -> Option<u32>
-        requires { a < 0x6000_0000_0000_0000 }
-        ensures { IfSome result (λ t. t ≡ states.tetra (state_of self.now) a) }
+    fn near_tetra(&self, a: u64) -> Option<u32>
+        ensures value { IfSome result (λ t. t ≡ states.tetra (state_of self.now) a) }
+        ensures low { IfSome result (λ _. a < 0x6000_0000_0000_0000) }
     {
-        self.memory.near_tetra(place, a)
+        self.memory.near_tetra(a)
     }
 
-    /// The octa that holds an address below Stack_Segment, where its page is near.
+    /// The octa that holds an address, where it is below Stack_Segment and its page is near.
     #[tactic(auto, unfolding(crate::specs::Kept::state_of, crate::specs::State::octa))]
     #[inline(always)]
     pub(crate) fn near_octa(&self, a: u64) -> Option<u64>
-        requires { a < 0x6000_0000_0000_0000 }
-        ensures { IfSome result (λ x. x ≡ states.octa (state_of self.now) a) }
+        ensures value { IfSome result (λ x. x ≡ states.octa (state_of self.now) a) }
+        ensures low { IfSome result (λ _. a < 0x6000_0000_0000_0000) }
     {
         self.memory.near_octa(a)
     }
@@ -67,15 +63,13 @@ impl Machine {
     /// Carries the instruction of a tetra out, where it is frequent and nothing is unusual about it.
     #[inline(always)]
     fn perform_if_usual(&mut self, at: u64, word: u32) -> bool
+        requires aligned { at % 4 ≡ 0 }
+        requires low { at < 0x6000_0000_0000_0000 }
         ensures made { MakesWhereTold (λ s. outcome s (deed_at s (instruction at word))) result self.old self.new }
         ensures kept { KeepsWhereNot result self.old self.new }
     {
         match self.usual_at(at, word) {
-            Usual::Gives(x) => self.settle_if_room(
-                &Instruction::new(at, word),
-                x,
-                at.wrapping_add(4),
-            ),
+            Usual::Gives(x) => self.settle_if_room(&Instruction::new(at, word), x),
             Usual::GoesTo(a) => {
                 self.go_to(a);
                 true
@@ -236,8 +230,18 @@ impl Machine {
             0xf5 => self.near_one(&Instruction::coded(at, 0xf5, word)),
             0xf6 => Usual::Apart(0xf6),
             0xf8 => Usual::Apart(0xf8),
-            0xfe => Usual::Apart(0xfe),
-            _ => Usual::Other,
+            0xfe => self.got(&Instruction::coded(at, 0xfe, word)),
+            0x00..=0x17
+            | 0x66..=0x67
+            | 0x6e..=0x7f
+            | 0x90..=0x9d
+            | 0xb0..=0xbf
+            | 0xc2..=0xc5
+            | 0xca..=0xdf
+            | 0xec..=0xef
+            | 0xf7
+            | 0xf9..=0xfd
+            | 0xff => Usual::Other,
         }
     }
 
@@ -277,7 +281,6 @@ impl Machine {
             0xf3 => self.push_known(&Instruction::coded(at, 0xf3, word)),
             0xf6 => self.put_known(&Instruction::coded(at, 0xf6, word)),
             0xf8 => self.pop_known(&Instruction::coded(at, 0xf8, word)),
-            0xfe => self.get_known(&Instruction::coded(at, 0xfe, word)),
             _ => false,
         }
     }

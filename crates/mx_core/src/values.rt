@@ -10,7 +10,6 @@ ghost use Rattle.mx_core.specs.UsualDeeds.{IsUsual};
 use crate::Machine;
 use crate::compute::{holds, wyde_value};
 use crate::instruction::Instruction;
-use crate::machine::SEGMENT;
 use crate::operation::{Loading, Operation};
 use crate::part::loaded_value;
 use crate::usual::Usual;
@@ -132,9 +131,6 @@ impl Machine {
             ≡ settled (state_of self.now) (x_of i.now) x (next_of i.now)) }
     {
         let a = self.data_address(i);
-        if a >= SEGMENT {
-            return None;
-        }
         match self.near_octa(a) {
             Some(octa) => Some(loaded_value(how, octa, a)),
             None => None,
@@ -163,6 +159,33 @@ impl Machine {
     {
         match i.operation() {
             Operation::Address => Usual::Gives(i.near_address()),
+            _ => Usual::Other,
+        }
+    }
+
+    /// What GET gives $X, of rB to rBB, which have the codes below 8: rH, rJ and rR are the frequent ones.
+    #[tactic(auto, using(crate::proofs::Gets::get_alone), unfolding(crate::specs::Kept::state_of))]
+    #[inline(always)]
+    fn got_value(&self, i: &Instruction) -> Option<u64>
+        ensures { IfSome result (λ x. outcome (state_of self.now) (deed_of Operation.Get (state_of self.now) i.now)
+            ≡ settled (state_of self.now) (x_of i.now) x (next_of i.now)) }
+    {
+        if i.y() != 0 || i.z() > 7 {
+            return None;
+        }
+        Some(self.special[usize::from(i.z())])
+    }
+
+    /// The same, once the code is known.
+    #[inline(always)]
+    pub(crate) fn got(&self, i: &Instruction) -> Usual
+        ensures { IsUsual result (state_of self.now) i.now }
+    {
+        match i.operation() {
+            Operation::Get => match self.got_value(i) {
+                Some(x) => Usual::Gives(x),
+                None => Usual::Other,
+            },
             _ => Usual::Other,
         }
     }

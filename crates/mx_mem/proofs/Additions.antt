@@ -10,7 +10,7 @@ use Rattle.std.proofs.lemmas.Bool.{cases_eq, cases_lt}
 use Rattle.std.proofs.lemmas.Grind.{common_steps}
 use Rattle.std.proofs.lemmas.List.{get_or_append_left, get_or-set_same, get_or-set_other, get_or-replicate, length-replicate}
 use Rattle.mx_mem.specs.Memory.{Stored, octa_at, has_page, stored_at, with_page}
-use Rattle.mx_mem.specs.Held.{view_of, number_in, Indexed, Bounded}
+use Rattle.mx_mem.specs.Held.{view_of, number_in, Indexed, Bounded, IsKept}
 use Rattle.mx_mem.proofs.Views.{octa_at-view, has_page-view}
 use Rattle.mx_mem.proofs.Stores.{octa_of}
 
@@ -157,6 +157,15 @@ pub outcome-bounded : {E : Type 0} (r : Result (Unit {0}) E) (pages pages' : Lis
     OnOk r (pages' ≡ extended pages page) → OnErr r ((pages' ≡ pages) × K) → Bounded pages'
 outcome-bounded (Ok u) pages pages' page K b low long room added kept = subst Bounded (sym added) (added-bounded pages page b low long room)
 outcome-bounded (Err e) pages pages' page K b low long room added kept = subst Bounded (sym kept.0) b
+
+added-kept : (pages : List (ℕ × List ℕ)) (page : ℕ × List ℕ) (number at : ℕ) → IsKept number at pages → IsKept number at (extended pages page)
+added-kept pages page number at h = λ small.
+    let k = h small in
+    (k.0, omega (arith, k.1, length-append pages (page ∷ [])), ap (λ (q : ℕ × List ℕ). q.0) (earlier-page pages page at k.1) ∙ k.2)
+
+pub outcome-kept : {E : Type 0} (r : Result (Unit {0}) E) (pages pages' : List (ℕ × List ℕ)) (page : ℕ × List ℕ) (K : Type 0) (number at : ℕ) → IsKept number at pages → OnOk r (pages' ≡ extended pages page) → OnErr r ((pages' ≡ pages) × K) → IsKept number at pages'
+outcome-kept (Ok x) pages pages' page K number at h ok err = subst (λ ps. IsKept number at ps) (sym ok) (added-kept pages page number at h)
+outcome-kept (Err x) pages pages' page K number at h ok err = subst (λ ps. IsKept number at ps) (sym err.0) h
 
 pub outcome-count : {E : Type 0} (r : Result (Unit {0}) E) (pages pages' : List (ℕ × List ℕ)) (places after : BTreeMap ℕ ℕ) (page : ℕ × List ℕ) → length places.entries ≡ length pages →
     OnOk r (pages' ≡ extended pages page) → OnOk r (length after.entries ≡ length places.entries + 1) → OnErr r ((pages' ≡ pages) × (after.entries ≡ places.entries)) → length after.entries ≡ length pages'

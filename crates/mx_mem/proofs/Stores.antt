@@ -9,7 +9,7 @@ use Rattle.std.proofs.lemmas.Bool.{cases_eq}
 use Rattle.std.proofs.lemmas.Grind.{common_steps}
 use Rattle.std.proofs.lemmas.List.{get_or_read, get_or-set_same, get_or-set_other, length-set}
 use Rattle.mx_mem.specs.Memory.{Stored, octa_in, octa_at, has_page, page_count, stored_at, with_page}
-use Rattle.mx_mem.specs.Held.{view_of, octas_in, number_in, Indexed, Bounded}
+use Rattle.mx_mem.specs.Held.{view_of, octas_in, number_in, Indexed, Bounded, IsKept}
 use Rattle.mx_mem.proofs.Views.{octa_at-view, has_page-view, page_count-view}
 
 -- the octa that is found through a place, or 0
@@ -61,6 +61,12 @@ rewritten-indexed pages places place i x l ix = record {
   named = λ j m. ap (get nat_cmp places) (number-kept pages place i x j l) ∙ ix.named j (rw length-kept at m);
   placed = λ p j e. (rw (length-kept pages place i x) (ix.placed p j e).0, number-kept pages place i x j l ∙ (ix.placed p j e).1);
 }
+
+-- a page that is kept stands where it stood
+pub rewritten-kept : (pages : List (ℕ × List ℕ)) (place i x number at : ℕ) → place < length pages → IsKept number at pages → IsKept number at (rewritten pages place i x)
+rewritten-kept pages place i x number at l h = λ small.
+    let k = h small in
+    (k.0, omega (arith, k.1, length-kept pages place i x), number-kept pages place i x at l ∙ k.2)
 
 pub rewritten-bounded : (pages : List (ℕ × List ℕ)) (place i x : ℕ) → place < length pages → Bounded pages → Bounded (rewritten pages place i x)
 rewritten-bounded pages place i x l b = record {

@@ -3,6 +3,7 @@ use Rattle.std.specs.Prelude.{ℕ, ◌<◌, ◌≤◌, ◌^◌, ◌≡◌, List,
 use Rattle.std.specs.Ordering.{nat_cmp}
 use Rattle.std.specs.BTreeMap as tree
 use Rattle.std.specs.BTreeMap.{BTreeMap}
+use Rattle.mx_mem.specs.Low.{low_pages}
 use Rattle.mx_mem.specs.Memory.{Stored, octa_at}
 use Rattle.mx_mem.specs.declared.memory.Memory.TheInside.{Inside}
 
@@ -31,11 +32,16 @@ pub record Bounded (pages : List (ℕ × List ℕ)) : Type 0 where
   pub below : (i : ℕ) → i < length pages → number_in pages i < 2 ^ 51
   pub few : length pages ≤ 65536
 
+-- a number and a place that are kept: of a low page that stands there, where the number is that of a page
+abbrev pub IsKept : ℕ → ℕ → List (ℕ × List ℕ) → Type 0
+IsKept number place pages = number < 2 ^ 52 → (number < low_pages) × (place < length pages) × (number_in pages place ≡ number)
+
 pub record Holds (m : Inside) : Type 0 where
   pub indexed : Indexed m.pages.items m.places
   pub bounded : Bounded m.pages.items
   pub count : length m.places.entries ≡ length m.pages.items
   pub fits : (a : ℕ) → octa_at (stored m) a < 2 ^ 64
+  pub code : IsKept m.code_number m.code_place m.pages.items
 
 -- the least number from `number` on that has a place, with its place
 abbrev pub IsNextPage : BTreeMap ℕ ℕ → ℕ → Option (ℕ × ℕ) → Type 0

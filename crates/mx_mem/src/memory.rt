@@ -4,15 +4,16 @@ ghost use Rattle.std.specs.Prelude.{◌≡◌, ◌≢◌, ◌↔◌, ◌≤◌, 
 ghost use Rattle.std.specs.Prelude.{false, IfSome, IsTrue, IsOk, OnOk, OnErr, if◌then◌else◌};
 ghost use Rattle.std.specs.Ordering.{nat_cmp};
 ghost use Rattle.std.specs.List.Sorted.{IsStrictlySortedBy};
+ghost use Rattle.mx_mem.specs.Low.{low_pages};
 ghost use Rattle.mx_mem.specs.Parts as spec;
 ghost use Rattle.mx_mem.specs.Parts.{bytes_with_part};
 ghost use Rattle.mx_mem.specs.Memory.{octa_at, byte_at, tetra_at, page_numbers, has_page, page_count};
 ghost use Rattle.mx_mem.specs.Memory.{is_refused, with_page, count_with_page, stored_at, stored_bytes, in_half};
 ghost use Rattle.mx_mem.specs.Memory.{with_tetra, bytes_with_tetra, IsNextNonzero};
 
-use crate::page::Page;
+use crate::page::{LOW_PAGES, Page};
 use crate::part::with_part;
-use crate::places::{GUESSES, add, guessed_place, near_place, next_page, place_of, slot};
+use crate::places::{GUESSES, add, guessed_place, low_place, next_page, place_of, slot};
 use crate::{MemFault, Part};
 use std::alloc::Global;
 use std::array;
@@ -33,6 +34,9 @@ pub struct Memory {
     alloc: Global,
     pages: Vec<Page>,
     places: BTreeMap<u64, usize>,
+    // A low page with instructions, by its number and its place; or a number that is no page's.
+    code_number: u64,
+    code_place: usize,
     // Where pages may stand that were used lately. It is tested at each use, so it may be wrong.
     code: Cell<usize>,
     guesses: [Cell<usize>; GUESSES],
@@ -62,6 +66,8 @@ impl Memory {
             alloc,
             pages: Vec::new(alloc),
             places: BTreeMap::new(alloc),
+            code_number: u64::MAX,
+            code_place: 0,
             code: Cell::new(0),
             guesses: array::from_fn(|_| Cell::new(0)),
         }
@@ -91,50 +97,61 @@ impl Memory {
         }
     }
 
-    /// The place among the pages where `tetra` found the page of the last instruction, or any other number.
-    #[inline(always)]
-    pub fn code_place(&self) -> usize {
-        self.code.get()
-    }
-
-    /// The tetra that `tetra` gives, where its page stands at a place among the pages; else nothing.
-    #[inline(always)]
-    pub fn near_tetra(&self, place: usize, a: u64) -> Option<u32>
-        requires { a < 2 ^ 63 }
-        ensures { IfSome result (λ t. t ≡ tetra_at self.now a) }
+    /// Keeps the place of the page where `tetra` found the last instruction, if that is a low one: `near_tetra` is
+    /// quick there from now on.
+    pub fn keep_code(&mut self)
+        ensures { self.new ≡ self.old }
     {
-        match near_place(&self.pages, &self.places, place, a / PAGE) {
-            Some(place) => Some(self.pages[place].tetra(a)),
-            None => None,
+        let place = self.code.get();
+        if place < self.pages.len() {
+            let number = self.pages[place].number();
+            if number < LOW_PAGES {
+                self.code_number = number;
+                self.code_place = place;
+            }
         }
     }
 
-    /// The octa that `load` gives, where its page stands at the place that is remembered for it; else nothing.
+    /// The tetra that `tetra` gives, where its page is the low one whose place is kept; else nothing.
+    #[inline(always)]
+    pub fn near_tetra(&self, a: u64) -> Option<u32>
+        ensures value { IfSome result (λ t. t ≡ tetra_at self.now a) }
+        ensures low { IfSome result (λ _. a / 4096 < low_pages) }
+    {
+        if a / PAGE == self.code_number {
+            Some(self.pages[self.code_place].tetra(a))
+        } else {
+            None
+        }
+    }
+
+    /// The octa that `load` gives, where its page is a low one and stands at the place that is remembered for it; else
+    /// nothing.
     #[inline(always)]
     pub fn near_octa(&self, a: u64) -> Option<u64>
-        requires { a < 2 ^ 63 }
-        ensures { IfSome result (λ x. x ≡ octa_at self.now a) }
+        ensures value { IfSome result (λ x. x ≡ octa_at self.now a) }
+        ensures low { IfSome result (λ _. a / 4096 < low_pages) }
     {
         let place = self.guesses[slot(a / PAGE)].get();
-        match near_place(&self.pages, &self.places, place, a / PAGE) {
+        match low_place(&self.pages, &self.places, place, a / PAGE) {
             Some(place) => Some(self.pages[place].octa((a / 8 % 512) as usize)),
             None => None,
         }
     }
 
-    /// Stores an octa as `store` does, where its page stands at the place that is remembered for it; else nothing
-    /// changes. Whether it did. It takes no memory.
+    /// Stores an octa as `store` does, where its page is a low one and stands at the place that is remembered for it;
+    /// else nothing changes. Whether it did. It takes no memory.
     #[inline(always)]
     pub fn store_if_near(&mut self, a: u64, x: u64) -> bool
-        requires { a < 2 ^ 63 }
         ensures octas { IsTrue result → octa_at self.new ≡ stored_at (octa_at self.old) a x }
         ensures pages { IsTrue result → has_page self.new ≡ with_page (has_page self.old) (a / 4096) }
         ensures count { IsTrue result → page_count self.new ≡ count_with_page self.old (a / 4096) }
         ensures there { IsTrue result → IsTrue (has_page self.old (a / 4096)) }
+        ensures low { IsTrue result → a / 4096 < low_pages }
         ensures unmade { result ≡ false → self.new ≡ self.old }
     {
         let place = self.guesses[slot(a / PAGE)].get();
-        match near_place(&self.pages, &self.places, place, a / PAGE) {
+        match low_place(&self.pages, &self.places, place, a / PAGE) {
             Some(place) => {
                 self.pages[place].put((a / 8 % 512) as usize, x);
                 true

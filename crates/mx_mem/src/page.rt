@@ -1,8 +1,9 @@
 //! One page of memory.
 
-ghost use Rattle.std.specs.Prelude.{◌≡◌, ◌≤◌, ◌<◌, ◌/◌, ◌%◌, ◌^◌, ℕ, IfOk, replicate, slice_index, slice_index_or, slice_set};
+ghost use Rattle.std.specs.Prelude.{◌≡◌, ◌≤◌, ◌<◌, ◌/◌, ◌%◌, ◌^◌, ℕ, IfOk, IsTrue, replicate, slice_index, slice_index_or, slice_set};
 ghost use Rattle.mx_mem.specs.Memory.{tetra_of};
 ghost use Rattle.mx_mem.specs.Count.{IsNextIn};
+ghost use Rattle.mx_mem.specs.Low.{IsLowNumber, low_pages};
 ghost use Rattle.mx_mem.specs.Tetras.{octas_of};
 
 use mx_word::NoMemory;
@@ -15,26 +16,39 @@ pub const OCTAS: usize = 512;
 /// How many tetras a page has.
 const TETRAS: usize = 1024;
 
-/// A page of 512 octas with its number; it has the addresses from 4096 times its number on. It is kept
-/// as tetras, the high one of each octa first, since an instruction is a tetra.
+/// How many pages stand below Stack_Segment, which begins at 6 times 2^60: these are the low ones.
+pub const LOW_PAGES: u64 = 0x6_0000_0000_0000;
+
+/// A page of 512 octas with its number; it has the addresses from 4096 times its number on. It is one word, so that
+/// a list of pages is indexed quickly.
 #[derive(Drop)]
 pub struct Page {
+    sheet: Box<Sheet>,
+}
+
+/// What a page has: its octas are kept as tetras, the high one of each octa first, since an instruction is a tetra.
+#[derive(Drop)]
+struct Sheet {
     number: u64,
-    tetras: Box<[u32; TETRAS]>,
+    // The number where it is that of a low page, and else no number of a page.
+    low: u64,
     // How many of the octas are not 0, so that a page of zeros need not be searched.
     nonzero: u32,
+    tetras: [u32; TETRAS],
 }
 
 impl Model for Page {
     ghost use Rattle.std.specs.Prelude.{◌≡◌, ℕ, List, length};
     ghost use Rattle.mx_mem.specs.Count.{nonzero_count};
+    ghost use Rattle.mx_mem.specs.Low.{IsLowNumber};
     ghost use Rattle.mx_mem.specs.Tetras.{octas_of};
 
     ghost Value = { ℕ × List ℕ };
 
-    ghost view = { λ p. (p.number, octas_of p.tetras.value) };
+    ghost view = { λ p. (p.sheet.value.number, octas_of p.sheet.value.tetras) };
 
-    ghost invariant = { λ p. p.nonzero ≡ nonzero_count (octas_of p.tetras.value) };
+    ghost invariant = { λ p. (p.sheet.value.nonzero ≡ nonzero_count (octas_of p.sheet.value.tetras))
+        × IsLowNumber p.sheet.value.low p.sheet.value.number };
 }
 
 #[tactic(auto, using(crate::proofs::Counts::counts, crate::proofs::Tetras::tetras))]
@@ -43,10 +57,14 @@ impl Page {
     fn new(alloc: Global, number: u64) -> Result<Page, NoMemory>
         ensures { IfOk result (λ page. page ≡ (number, replicate 512 0)) }
     {
-        Ok(Page {
+        let sheet = Sheet {
             number,
-            tetras: Box::new(alloc, [0; TETRAS])?,
+            low: low_number(number),
             nonzero: 0,
+            tetras: [0; TETRAS],
+        };
+        Ok(Page {
+            sheet: Box::new(alloc, sheet)?,
         })
     }
 
@@ -65,7 +83,17 @@ impl Page {
     pub fn number(&self) -> u64
         ensures { result ≡ self.now.0 }
     {
-        self.number
+        self.sheet.number
+    }
+
+    /// Whether the page has this number, below 2^52, and is a low one.
+    #[inline(always)]
+    pub fn is_low(&self, number: u64) -> bool
+        requires { number < 2 ^ 52 }
+        ensures number { IsTrue result → self.now.0 ≡ number }
+        ensures low { IsTrue result → number < low_pages }
+    {
+        self.sheet.low == number
     }
 
     /// The octa at a place below 512.
@@ -74,7 +102,7 @@ impl Page {
         requires { at < 512 }
         ensures { result ≡ slice_index_or self.now.1 at 0 }
     {
-        (u64::from(self.tetras[2 * at]) << 32) + u64::from(self.tetras[2 * at + 1])
+        (u64::from(self.sheet.tetras[2 * at]) << 32) + u64::from(self.sheet.tetras[2 * at + 1])
     }
 
     /// The tetra that holds an address, if the page has it.
@@ -82,7 +110,7 @@ impl Page {
     pub fn tetra(&self, a: u64) -> u32
         ensures { result ≡ tetra_of (slice_index_or self.now.1 (a / 8 % 512) 0) a }
     {
-        tetra_in(&self.tetras, a)
+        tetra_in(&self.sheet.tetras, a)
     }
 
     /// Puts an octa at a place below 512.
@@ -92,8 +120,8 @@ impl Page {
         ensures { self.new ≡ (self.old.0, slice_set self.old.1 at x) }
     {
         let before = self.octa(at);
-        put_octa(&mut self.tetras, at, x);
-        self.nonzero = self.nonzero + u32::from(x != 0) - u32::from(before != 0);
+        put_octa(&mut self.sheet.tetras, at, x);
+        self.sheet.nonzero = self.sheet.nonzero + u32::from(x != 0) - u32::from(before != 0);
     }
 
     /// The first octa other than 0 from a place on, which is at most 512, and its place.
@@ -101,7 +129,7 @@ impl Page {
         requires { from ≤ 512 }
         ensures { IsNextIn self.now.1 from result }
     {
-        if self.nonzero == 0 {
+        if self.sheet.nonzero == 0 {
             return None;
         }
         for at in from..OCTAS {
@@ -112,6 +140,13 @@ impl Page {
         }
         None
     }
+}
+
+/// The number of a page as it is kept for a quick test: itself, or for a page that is not low 2^64 - 1.
+fn low_number(number: u64) -> u64
+    ensures { IsLowNumber result number }
+{
+    if number < LOW_PAGES { number } else { u64::MAX }
 }
 
 /// Of the tetras of a page, the one that holds an address.

@@ -5,6 +5,7 @@ ghost use Rattle.std.specs.Prelude.{OnErr, if◌then◌else◌};
 ghost use Rattle.std.specs.Ordering.{nat_cmp};
 ghost use Rattle.std.specs.BTreeMap.{get};
 ghost use Rattle.mx_mem.specs.Held.{Indexed, IsNextPage};
+ghost use Rattle.mx_mem.specs.Low.{low_pages};
 
 use crate::MemFault;
 use crate::page::Page;
@@ -44,11 +45,11 @@ pub fn add(
     }
 }
 
-/// Which of the remembered places a page has, whose number is below 2^51. Pages at the beginning of the four segments, which
+/// Which of the remembered places a page has, whose number is below 2^52. Pages at the beginning of the four segments, which
 /// are 2^61 bytes apart, have different ones.
 #[inline(always)]
 pub fn slot(number: u64) -> usize
-    requires { number < 2 ^ 51 }
+    requires { number < 2 ^ 52 }
     ensures { result < 64 }
 {
     ((number + (number >> 45)) % 64) as usize
@@ -102,6 +103,28 @@ pub fn near_place(
 {
     if let Some(page) = pages.get(place) {
         if page.number() == number {
+            return Some(place);
+        }
+    }
+    None
+}
+
+/// A place, where the low page with a number below 2^52 stands there.
+#[inline(always)]
+pub fn low_place(
+    pages: &[Page],
+    places: &BTreeMap<u64, usize>,
+    place: usize,
+    number: u64,
+) -> Option<usize>
+    requires below { number < 2 ^ 52 }
+    requires indexed { Indexed pages.now places.now }
+    ensures place { IfSome result (λ i. Some i ≡ get nat_cmp places.now number) }
+    ensures within { IfSome result (λ i. i < length pages.now) }
+    ensures low { IfSome result (λ _. number < low_pages) }
+{
+    if let Some(page) = pages.get(place) {
+        if page.is_low(number) {
             return Some(place);
         }
     }

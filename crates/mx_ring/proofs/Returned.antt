@@ -47,6 +47,13 @@ first-placed xs ys main count hole n lc h en e =
     let low : take hole (take (hole + 1) xs) ≡ take hole xs = take-take hole (hole + 1) xs (omega arith) in
     rw (rs, place) (set-between ys (take (hole + 1) xs) (take n xs ++ drop (hole + 1 + n) xs) hole main (sym front) parted ∙ ap (λ zs. zs ++ main ∷ (take n xs ++ drop (hole + 1 + n) xs)) low ∙ simp append_assoc)
 
+-- the main result alone
+pub alone-placed : (xs : List ℕ) (main count hole : ℕ) → hole < length xs → count ≡ 0 → set xs hole main ≡ with_part xs hole (take (length xs - hole) (main ∷ take count xs))
+alone-placed xs main count hole h e =
+    let none : 0 ≡ min count (length xs - hole - 1) = omega arith in
+    let one : suc hole ≡ hole + 1 = omega arith in
+    rw (first-results xs main count (length xs - hole) 0 (omega arith) none) (set_split xs hole main h ∙ ap (λ n. take hole xs ++ main ∷ drop n xs) one ∙ simp append_assoc)
+
 -- the results behind the octas that come back
 parts-placed : (xs ys zs octas rs : List ℕ) → ys ≡ with_part xs (length octas) rs → length octas ≤ length xs → zs ≡ with_part ys 0 octas → zs ≡ (octas ++ rs) ++ drop (length (octas ++ rs)) xs
 parts-placed xs ys zs octas rs ey f ez =

@@ -56,6 +56,10 @@ fn put_first(front: &mut [u64], main: u64, count: usize, hole: usize) -> usize
     ensures placed { front.new
         ≡ with_part front.old hole (take (length front.old - hole) (main ∷ take count front.old)) }
 {
+    if count == 0 {
+        front[hole] = main;
+        return 1;
+    }
     let others = count.min(front.len() - hole - 1);
     copy(front, 0, others, hole + 1);
     front[hole] = main;

@@ -168,7 +168,7 @@ impl Ring {
     }
 
     /// Gives a value to a register that is neither local nor global.
-    #[inline(never)]
+    #[inline(always)]
     fn grow(&mut self, k: u8, x: u64) -> Result<(), RingFault>
         requires { is_marginal self.old.visible k ≡ true }
         ensures answer { result ≡ set_answer (windowed self.old) k }
@@ -211,6 +211,39 @@ impl Ring {
     /// Errors: `StackFull` exactly where that would make hidden and local registers pass 2^20; then
     /// nothing changed.
     pub fn push(&mut self, x: u8) -> Result<(), RingFault>
+        ensures answer { result ≡ push_answer (windowed self.old) x }
+        ensures ok { OnOk result (windowed self.new ≡ pushed (windowed self.old) x) }
+        ensures list_answer { result ≡ push_answer (list_of self.old) x }
+        ensures list { OnOk result (list_of self.new ≡ pushed (list_of self.old) x) }
+        ensures err { OnErr result (self.new ≡ self.old) }
+    {
+        if usize::from(x) < FEW
+            && self.hidden.len() <= ROOM - 2 * FEW
+            && self.visible.local_count() <= FEW
+        {
+            self.hide_few(usize::from(x));
+            return Ok(());
+        }
+        self.push_any(x)
+    }
+
+    /// Hides the first `count` registers and that number, where few are local.
+    #[inline(always)]
+    fn hide_few(&mut self, count: usize)
+        requires count { count < 8 }
+        requires few { length self.old.visible.locals ≤ 8 }
+        requires room { hidden_count (windowed self.old) + 16 ≤ 2 ^ 20 }
+        ensures { windowed self.new ≡ with_pushed (windowed self.old) count }
+    {
+        hide_few_below(&mut self.hidden, &self.visible, count);
+        let left = self.visible.local_count().saturating_sub(count + 1);
+        self.visible.keep_few(count + 1, left);
+        self.hidden.make_room(self.visible.local_count(), self.size);
+    }
+
+    /// PUSHJ and PUSHGO for any number of registers.
+    #[inline(never)]
+    fn push_any(&mut self, x: u8) -> Result<(), RingFault>
         ensures answer { result ≡ push_answer (windowed self.old) x }
         ensures ok { OnOk result (windowed self.new ≡ pushed (windowed self.old) x) }
         ensures list_answer { result ≡ push_answer (list_of self.old) x }
@@ -416,10 +449,20 @@ fn hide_below(hidden: &mut Hidden, visible: &Visible, count: usize)
     ensures { hidden.new ≡ with_hidden hidden.old (registers_below visible.now count ++ count ∷ []) }
 {
     if count < FEW && hidden.len() + FEW <= ROOM {
-        hidden.append_counted(visible.below(FEW), count);
-        return;
+        return hide_few_below(hidden, visible, count);
     }
     hide_all_below(hidden, visible, count);
+}
+
+/// The same where they are few.
+#[inline(always)]
+fn hide_few_below(hidden: &mut Hidden, visible: &Visible, count: usize)
+    requires bounds { AreInBounds visible.now }
+    requires few { count < 8 }
+    requires room { length (octas_of hidden.old) + 8 ≤ 2 ^ 20 }
+    ensures { hidden.new ≡ with_hidden hidden.old (registers_below visible.now count ++ count ∷ []) }
+{
+    hidden.append_counted(visible.below(FEW), count);
 }
 
 /// The same for any number of registers.

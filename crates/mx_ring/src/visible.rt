@@ -180,7 +180,7 @@ impl Visible {
 
     /// The same where few locals stay: that many registers are moved at once.
     #[inline(always)]
-    fn keep_few(&mut self, n: usize, count: usize)
+    pub(crate) fn keep_few(&mut self, n: usize, count: usize)
         requires count { count ≡ length self.old.locals - n }
         requires few { count ≤ 8 }
         requires room { n + 8 ≤ self.old.first_global }

@@ -17,6 +17,8 @@ mod memory;
 #[cfg(test)]
 mod numbers;
 #[cfg(test)]
+mod patches;
+#[cfg(test)]
 mod programs;
 #[cfg(test)]
 mod row;

@@ -6,7 +6,7 @@ use std::alloc::Global;
 use std::test::Fail;
 
 /// The octas of a program with their addresses.
-type Program = &'static [(u64, u64)];
+pub(crate) type Program = &'static [(u64, u64)];
 
 /// -7 divided by 2.
 const DIVIDES: Program = &[(0, 0xe301_0007_3401_0001), (8, 0x1d00_0102_0000_0000)];
@@ -88,7 +88,7 @@ const INSERTS_KIND_3: Program = &[
 
 /// A run of a program: the size of the ring, the octas and the address where they begin, how many steps are
 /// made, a register with what it has then, and what comes next.
-type Run = (u32, Program, u64, u32, u8, u64, Advance);
+pub(crate) type Run = (u32, Program, u64, u32, u8, u64, Advance);
 
 /// Programs that come to their values.
 static RUNS: [Run; 14] = [
@@ -163,7 +163,7 @@ static HANDLERS: [(u64, u64); 5] = [
 
 /// A machine gets an octa at the handler of overflows and those of a program, and comes to an address,
 /// which $255 has then.
-fn begin(
+pub(crate) fn begin(
     machine: &mut Machine,
     handler: u64,
     octas: &[(u64, u64)],
@@ -199,7 +199,7 @@ fn comes_out(alloc: Global, handler: u64, run: &Run) -> Result<bool, Fail> {
 }
 
 /// Sees that runs come to their values with nothing at the handler.
-fn all_come_out(alloc: Global, runs: &[Run]) -> Result<(), Fail> {
+pub(crate) fn all_come_out(alloc: Global, runs: &[Run]) -> Result<(), Fail> {
     for run in runs {
         if !comes_out(alloc, 0, run)? {
             return Err(Fail::new(format_args!("ring {}, value {:#x}", run.0, run.5)));

@@ -1,4 +1,4 @@
-use Rattle.std.proofs.Common.{◌≡◌, ◌<◌, refl, arith}
+use Rattle.std.proofs.Common.{◌≡◌, ◌<◌, refl}
 use Rattle.mx_core.specs.Instructions.{instruction}
 use Rattle.mx_core.specs.Kept.{state_of}
 use Rattle.mx_core.specs.Step.{fetched}
@@ -8,6 +8,6 @@ use Rattle.mx_core.proofs.machine.Machine.advance_if_usual.Goals as goal
 pub returns-in-Some-clause-made : goal.returns-in-Some-clause-made
 returns-in-Some-clause-made c = λ t.
     let s = state_of c.args.self.now in
-    let below : s.pc < 0x6000_0000_0000_0000 = omega (arith, c.if-at-ge-SEGMENT.false, c.pc-at.ensures.value) in
-    let there : instruction c.pc-at.result c.in-Some.word ≡ fetched s = rw (c.in-Some.ensures, c.pc-at.ensures.value) refl in
+    let below : s.pc < 0x6000_0000_0000_0000 = rw c.pc-at.ensures.value at c.in-Some.ensures.low in
+    let there : instruction c.pc-at.result c.in-Some.word ≡ fetched s = rw (c.in-Some.ensures.value, c.pc-at.ensures.value) refl in
     went_usual s (state_of c.perform_if_usual.new.self) (instruction c.pc-at.result c.in-Some.word) there below (c.perform_if_usual.ensures.made t)

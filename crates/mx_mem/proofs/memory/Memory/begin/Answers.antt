@@ -7,7 +7,7 @@ use Rattle.std.proofs.lemmas.List.{length-set, length-replicate}
 use Rattle.mx_mem.specs.Held.{view_of}
 use Rattle.mx_mem.specs.Memory.{octa_at, stored_at}
 use Rattle.mx_mem.proofs.Views.{not-found}
-use Rattle.mx_mem.proofs.Additions.{Extends, outcome-indexed, outcome-bounded, outcome-count, outcome-octas, outcome-pages}
+use Rattle.mx_mem.proofs.Additions.{Extends, outcome-indexed, outcome-bounded, outcome-kept, outcome-count, outcome-octas, outcome-pages}
 use Rattle.mx_mem.proofs.Fits.{outcome-fits}
 use Rattle.mx_mem.proofs.memory.Memory.begin.Goals as goal
 
@@ -44,6 +44,7 @@ invariant_of-self c =
       bounded = outcome-bounded c.add.result c.self.inside.pages.items c.add.new.pages.items c.in-Ok.page _ c.self.invariant.bounded low long room c.add.ensures.pages c.add.ensures.err;
       count = outcome-count c.add.result c.self.inside.pages.items c.add.new.pages.items c.self.inside.places c.add.new.places c.in-Ok.page c.self.invariant.count c.add.ensures.pages c.add.ensures.count c.add.ensures.err;
       fits = outcome-fits c.add.result c.self.inside.pages.items c.add.new.pages.items c.self.inside.places c.add.new.places c.args.a c.args.x (omega (arith, c.ranges.x)) c.self.invariant.fits (octas-after c) c.add.ensures.err;
+      code = outcome-kept c.add.result c.self.inside.pages.items c.add.new.pages.items c.in-Ok.page _ c.self.inside.code_number c.self.inside.code_place c.self.invariant.code c.add.ensures.pages c.add.ensures.err;
     }
 
 pub returns-in-Ok-clause-octas : goal.returns-in-Ok-clause-octas

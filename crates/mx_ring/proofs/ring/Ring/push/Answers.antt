@@ -1,14 +1,23 @@
-use Rattle.std.proofs.Common.{◌≡◌, false, arith, ap, ◌∙◌}
+use Rattle.std.proofs.Common.{◌≡◌, ◌≤◌, ◌<◌, ℕ, nat_lt, true, false, arith, ap, sym, ◌∙◌, refl}
 use Rattle.std.proofs.lemmas.Bool.Decides.{nat_tests}
 use Rattle.mx_ring.proofs.Lists.{pushed-list}
+use Rattle.mx_ring.specs.Registers.{Registers, push_number}
 use Rattle.mx_ring.specs.RingParts.{window_in}
-use Rattle.mx_ring.specs.Stack.{windowed, as_listed, push_overfills, pushed}
+use Rattle.mx_ring.specs.Stack.{windowed, as_listed, push_overfills, pushed, with_pushed}
 use Rattle.mx_ring.proofs.ring.Ring.push.Goals as goal
 
-pub returns-clause-list : goal.returns-clause-list
+-- below every G a place is its own number
+number-below : (v : Registers) (x : ℕ) → x < v.first_global → push_number v x ≡ x
+number-below v x h =
+    let below : nat_lt x v.first_global ≡ true = grind (arith, nat_tests) in
+    rw below refl
+
+pub returns-then-local_count-le-FEW-clause-list : goal.returns-then-local_count-le-FEW-clause-list
 unfolding pushed push_overfills
-returns-clause-list c =
+returns-then-local_count-le-FEW-clause-list c =
     let w = window_in c.self.inside in
+    let small : c.args.x < w.visible.first_global = omega (arith, c.from.ensures, c.if-from-lt-FEW.true, c.self.invariant.registers.least_global) in
+    let number = number-below w.visible c.args.x small in
     let o : push_overfills (windowed w) c.args.x ≡ false = grind (arith, nat_tests) in
-    let e : windowed c.hide.new.self ≡ pushed (windowed w) c.args.x = rw (← c.self.view_is, c.push_number-count.ensures.number) at c.hide.ensures in
+    let e : windowed c.hide_few.new.self ≡ pushed (windowed w) c.args.x = rw (← c.self.view_is, c.from-then-local_count-le-FEW.ensures) at c.hide_few.ensures ∙ ap (with_pushed (windowed w)) (sym number) in
     rw (← c.self.view_is) (ap as_listed e ∙ pushed-list w c.args.x c.self.invariant o)

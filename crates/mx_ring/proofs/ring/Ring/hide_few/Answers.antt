@@ -1,0 +1,15 @@
+use Rattle.std.proofs.Common.{arith, ◌≡◌, ◌≤◌, ◌+◌, ◌^◌, ◌∷◌, [], ◌++◌, length, ◌∙◌, ap}
+use Rattle.std.proofs.lemmas.List.{length_push}
+use Rattle.mx_ring.proofs.Rings.{push-ring, length-below}
+use Rattle.mx_ring.specs.HiddenPart.{octas_of}
+use Rattle.mx_ring.specs.Registers.{registers_below}
+use Rattle.mx_ring.specs.RingParts.{window_in}
+use Rattle.mx_ring.proofs.ring.Ring.hide_few.Goals as goal
+
+pub invariant_of-self : goal.invariant_of-self
+invariant_of-self c =
+    let octas = registers_below c.self.inside.visible c.args.count ++ c.args.count ∷ [] in
+    let few : length (octas_of c.self.inside.hidden) + 16 ≤ 2 ^ 20 = rw (← c.self.view_is) at c.requires.room in
+    let f : length (octas_of c.self.inside.hidden) + (c.args.count + 1) ≤ 2 ^ 20 = omega (arith, few, c.requires.count) in
+    let size : length octas ≡ c.args.count + 1 = length_push (registers_below c.self.inside.visible c.args.count) c.args.count ∙ ap (λ n. n + 1) (length-below c.self.inside.visible c.args.count) in
+    rw (c.make_room.ensures, c.local_count-2.ensures.value, c.keep_few.ensures, c.hide_few_below.ensures) (push-ring (window_in c.self.inside) c.args.count octas c.self.invariant size f)
