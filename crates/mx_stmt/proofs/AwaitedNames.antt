@@ -1,6 +1,6 @@
 -- A statement waits only for names that are not known at it, and for local labels.
 use Rattle.std.proofs.Common.{◌≡◌, ℕ, ◌+◌, ◌%◌, ◌^◌, ◌==◌, nat_lt, List, [], ◌∷◌, length, Option, None, Some, Result, Ok, Err, refl, sym, ap, ◌∙◌, subst}
-use Rattle.mx_stmt.proofs.Words.{AllByRecursion, cond_both, Value, Awaited, Wait, WaitKind, Near, Far, Tree, name, ahead, here, NameFault, NameTable, value_of_name, Shape, Data, Tetra, Target, Label, Placed, BadPlace, Answer, and_then, Known, Targets, symbol_form, register_at, pure_at, name_unless_known, awaited_name, reference_of, known_target, target_by, target_at, plain_tetra, near_reach, far_reach, relative_word, relative_form, form_by, tetra_wyde, tetra_whole, data_number, data_target, datum, with_rest, data_of, data_form, StatementTree, with_bytes, tetra_waits, tetra_data, with_tetra, with_data, encoding}
+use Rattle.mx_stmt.proofs.Words.{AllByRecursion, cond_both, Value, Awaited, Wait, WaitKind, Near, Far, Tree, name, ahead, NameFault, NameTable, value_of_name, Shape, Data, Tetra, Target, Label, Placed, BadPlace, Answer, and_then, Known, Targets, symbol_form, register_at, pure_at, name_unless_known, awaited_name, reference_of, known_target, target_by, target_at, plain_tetra, near_reach, far_reach, relative_word, relative_form, form_by, tetra_wyde, tetra_whole, data_number, data_target, datum, with_rest, data_of, data_form, StatementTree, with_bytes, tetra_waits, tetra_data, with_tetra, with_data, encoding}
 use Rattle.mx_word.specs.declared.waits.Awaited.TheVariants as awaited
 use Rattle.mx_stmt.specs.declared.operands.Target.TheVariants as target
 use Rattle.mx_stmt.proofs.LaidBytes.{all-append}

@@ -1,6 +1,6 @@
 -- A value of an operand that is a register has a byte as its number.
 use Rattle.std.proofs.Common.{◌≡◌, ◌<◌, ℕ, ◌^◌, nat_le, Bool, true, false, cond, IfOk, List, Option, None, Some, Result, Ok, Err, subst, arith}
-use Rattle.mx_stmt.proofs.Words.{cond_both, leb-true, IfSome, Value, Pure, Reg, ExprFault, Tree, number, name, back, unary, binary, Valued, register, unary_value, binary_value, after_operand, after_both, of_symbol, value_of, NameFault, NameTable, value_of_name, and_then, Known, knowledge_of, symbol_form, value_in, answer_of, operand_value, register_number, register_at, HasRegisterNumber, IsSound}
+use Rattle.mx_stmt.proofs.Words.{cond_both, leb-true, IfSome, Value, Pure, Reg, ExprFault, Tree, name, back, unary, binary, Valued, register, unary_value, binary_value, after_operand, after_both, of_symbol, value_of, NameFault, NameTable, value_of_name, and_then, Known, knowledge_of, symbol_form, value_in, answer_of, operand_value, register_number, register_at, HasRegisterNumber, IsSound}
 use Rattle.mx_expr.specs.declared.faults.ExprFault.TheVariants.{RegisterNumber}
 use Rattle.mx_expr.specs.declared.tree.UnOp.{UnOp}
 use Rattle.mx_expr.specs.declared.tree.UnOp.TheVariants.{Plus, Minus, Not, Register}

@@ -1,6 +1,5 @@
 pub mod SecondCodes
 pub mod Digits
-pub mod TetraDigits
 pub mod Rows
 pub mod Joined
 pub mod ByShape

@@ -6,7 +6,7 @@ ghost use Rattle.mx_text.specs.Instructions as spec;
 use crate::codes::{is_backward, is_immediate};
 use crate::fields::{code, x, xyz, y, yz, z};
 use crate::operands::Operand::{Address, Number, Register};
-use crate::operands::{Operand, add_operands};
+use crate::operands::{Operand, add_operand, add_three, add_two};
 use mx_ops::{Shape, name, shape_of};
 use mx_word::{Bytes, NoMemory};
 use std::alloc::Global;
@@ -38,29 +38,27 @@ fn add_shown(text: &mut Bytes, word: u32, pc: u64) -> Result<(), NoMemory>
 {
     let (x, y, z) = (x(word), y(word), z(word));
     match shape_of(code(word)) {
-        Shape::Three | Shape::Mem => add_operands(text, &[Register(x), Register(y), last(word)]),
-        Shape::Regs => add_operands(text, &[Register(x), Register(y), Register(z)]),
-        Shape::Round | Shape::Neg => {
-            add_operands(text, &[Register(x), Number(u32::from(y)), last(word)])
-        }
-        Shape::MemPure => add_operands(text, &[Number(u32::from(x)), Register(y), last(word)]),
-        Shape::Rel => add_operands(text, &[Register(x), near(word, pc)]),
-        Shape::Jump => add_operands(text, &[far(word, pc)]),
-        Shape::Wyde => add_operands(text, &[Register(x), Number(yz(word))]),
-        Shape::Put => add_operands(text, &[Number(u32::from(x)), last(word)]),
-        Shape::Get | Shape::Save => add_operands(text, &[Register(x), Number(u32::from(z))]),
-        Shape::Pop => add_operands(text, &[Number(u32::from(x)), Number(yz(word))]),
-        Shape::One => add_operands(text, &[Number(xyz(word))]),
-        Shape::Unsave => add_operands(text, &[Number(u32::from(x)), Register(z)]),
-        Shape::Free => add_operands(
-            text,
-            &[
-                Number(u32::from(x)),
-                Number(u32::from(y)),
-                Number(u32::from(z)),
-            ],
-        ),
+        Shape::Three | Shape::Mem => add_three(text, Register(x), Register(y), last(word)),
+        Shape::Regs => add_three(text, Register(x), Register(y), Register(z)),
+        Shape::Round | Shape::Neg => add_three(text, Register(x), number(y), last(word)),
+        Shape::MemPure => add_three(text, number(x), Register(y), last(word)),
+        Shape::Rel => add_two(text, Register(x), near(word, pc)),
+        Shape::Jump => add_operand(text, far(word, pc)),
+        Shape::Wyde => add_two(text, Register(x), Number(yz(word))),
+        Shape::Put => add_two(text, number(x), last(word)),
+        Shape::Get | Shape::Save => add_two(text, Register(x), number(z)),
+        Shape::Pop => add_two(text, number(x), Number(yz(word))),
+        Shape::One => add_operand(text, Number(xyz(word))),
+        Shape::Unsave => add_two(text, number(x), Register(z)),
+        Shape::Free => add_three(text, number(x), number(y), number(z)),
     }
+}
+
+/// A byte as a number.
+fn number(byte: u8) -> Operand
+    ensures { result ≡ Operand.Number byte }
+{
+    Number(u32::from(byte))
 }
 
 /// $Z, or the byte Z at an immediate code.
@@ -68,7 +66,7 @@ fn last(word: u32) -> Operand
     ensures { result ≡ spec.last (spec.field_code word) (spec.field_z word) }
 {
     if is_immediate(code(word)) {
-        return Number(u32::from(z(word)));
+        return number(z(word));
     }
     Register(z(word))
 }

@@ -1,13 +1,14 @@
 //! The lines of items.
 
-ghost use Rattle.std.specs.Prelude.{◌≡◌, ◌++◌, OnOk};
+ghost use Rattle.std.specs.Prelude.{◌≡◌, ◌++◌, OnOk, codes};
+ghost use Rattle.mx_text.specs.Numbers.{hex_text};
 ghost use Rattle.mx_type.specs.Lambda as lambdas;
 ghost use Rattle.mx_type.specs.Lines as lines;
 ghost use Rattle.mx_type.specs.Texts as spec;
 
 use crate::fields::{add_bytes, add_counted, add_octas, add_placed, add_tetra, add_tetras};
 use mx_mmo::Item;
-use mx_text::{add_decimal, add_instruction, octa_hex};
+use mx_text::{add_decimal, add_instruction, octa_hex, tetra_hex};
 use mx_word::{Bytes, NoMemory};
 
 /// The address of the tetra that holds an address.
@@ -49,13 +50,22 @@ pub(crate) fn add_item(text: &mut Bytes, lambda: u64, item: &Item) -> Result<(),
     }
 }
 
+/// An address and the tetra that it has, each with a blank behind it.
+fn tetra_at(address: u64, word: u32) -> [u8; 27]
+    ensures { result ≡ hex_text address ++ lines.next_tetra word ++ codes " " }
+{
+    let [mark, a, b, c, d, e, f, g, h, i, j, k, l, m, n, o, p] = octa_hex(address);
+    let [q, r, s, t, u, v, w, x] = tetra_hex(word);
+    [
+        mark, a, b, c, d, e, f, g, h, i, j, k, l, m, n, o, p, b' ', q, r, s, t, u, v, w, x, b' ',
+    ]
+}
+
 /// Adds the line of a tetra at its address.
 fn add_load(text: &mut Bytes, a: u64, word: u32) -> Result<(), NoMemory>
     ensures { OnOk result (text.new ≡ text.old ++ lines.ended (spec.tetra_text a word)) }
 {
-    text.extend(&octa_hex(a))?;
-    add_tetra(text, word)?;
-    text.push(b' ')?;
+    text.extend(&tetra_at(a, word))?;
     add_instruction(text, word, a)?;
     text.push(b'\n')
 }

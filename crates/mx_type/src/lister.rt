@@ -14,6 +14,7 @@ use mx_mmo::{Item, Items};
 use mx_word::{Bytes, NoMemory, Symbol, Symbols};
 use std::alloc::Global;
 use std::marker::Model;
+use std::mem;
 
 /// Most lines of items have no more bytes than these.
 const USUAL_LINE: usize = 64;
@@ -32,6 +33,15 @@ impl Model for Lister {
     ghost Value = { ℕ };
 
     ghost view = { λ l. l.lambda };
+}
+
+/// Takes all bytes away, and keeps their memory.
+fn clear(alloc: Global, bytes: &mut Bytes)
+    ensures { bytes.new ≡ [] }
+{
+    let mut kept = mem::replace(bytes, Bytes::new(alloc)).into_vec();
+    kept.clear();
+    *bytes = Bytes::from_vec(kept);
 }
 
 impl Lister {
@@ -53,10 +63,24 @@ impl Lister {
             HasListed self.old items lines → HasListed self.new (items ++ item.now ∷ []) (lines ++ text)) }
         ensures err { OnErr result (self.new ≡ self.old) }
     {
-        let mut text = Bytes::from_vec(Vec::with_capacity(self.alloc, USUAL_LINE)?);
-        add_item(&mut text, self.lambda, item)?;
+        let mut line = Bytes::from_vec(Vec::with_capacity(self.alloc, USUAL_LINE)?);
+        self.item_into(&mut line, item)?;
+        Ok(line)
+    }
+
+    /// Puts the line of the next item with its newline in place of the bytes of `line`, whose memory
+    /// it uses; no bytes for `stab`. Out of memory, the lister is as it was.
+    pub fn item_into(&mut self, line: &mut Bytes, item: &Item) -> Result<(), NoMemory>
+        ensures text { OnOk result (line.new ≡ item_text self.old item.now) }
+        ensures lambda { OnOk result (self.new ≡ lambda_after self.old item.now) }
+        ensures joined { OnOk result ((items : List Item) (lines : List ℕ) →
+            HasListed self.old items lines → HasListed self.new (items ++ item.now ∷ []) (lines ++ line.new)) }
+        ensures err { OnErr result (self.new ≡ self.old) }
+    {
+        clear(self.alloc, line);
+        add_item(line, self.lambda, item)?;
         self.lambda = lambda_after(self.lambda, item);
-        Ok(text)
+        Ok(())
     }
 
     /// The line of the trie with its newline, which stands behind those of all items.

@@ -1,10 +1,6 @@
-use Rattle.std.proofs.Common.{◌∙◌}
-use Rattle.std.proofs.lemmas.List.{length-set}
-use Rattle.mx_text.proofs.Digits.{digits-more}
+use Rattle.std.proofs.Common.{◌∷◌, ap}
+use Rattle.mx_text.proofs.Digits.{octa-digits}
 use Rattle.mx_text.proofs.numbers.octa_hex.Goals as goal
 
-pub loop-place-preserved : goal.loop-place-preserved
-loop-place-preserved c = (
-  length-set c.loop-place.text _ _ ∙ c.loop-place.invariant.0,
-  digits-more c.loop-place.place c.args.x _ c.loop-place.text c.loop-place-test.true c.loop-place.invariant.0 c.hex_digit.ensures ∙ c.loop-place.invariant.1,
-)
+pub returns : goal.returns
+returns c = ap (λ ds. 35 ∷ ds) (octa-digits c.args.x _ _ c.tetra_hex.ensures c.tetra_hex-2.ensures)

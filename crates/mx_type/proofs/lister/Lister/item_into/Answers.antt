@@ -1,7 +1,7 @@
 use Rattle.std.proofs.Common.{arith}
 use Rattle.std.proofs.lemmas.Grind.{common_steps}
 use Rattle.mx_type.proofs.Listed.{joined-more}
-use Rattle.mx_type.proofs.lister.Lister.item.Goals as goal
+use Rattle.mx_type.proofs.lister.Lister.item_into.Goals as goal
 
 pub returns-clause-joined : goal.returns-clause-joined
 returns-clause-joined c = λ items lines had.
