@@ -34,7 +34,7 @@ unflagged : (o : Option Touch) → flagged_in (λ n. false) o ≡ None
 unflagged None = refl
 unflagged (Some t) = ap (λ b. cond b (Some (t.at / 4 + 1)) None) (and-false (nat_lt 4 t.size))
 
-no-break : (trace : Trace) → break_of (flags_at []) trace ≡ None
+pub no-break : (trace : Trace) → break_of (flags_at []) trace ≡ None
 no-break trace = rw (unflagged trace.reads, unflagged trace.writes) refl
 
 free-by : (s t : State) (m : HostModel) (x : Stepped) → (advance.Went, t) ≡ advanced s x → (Ok tt, t, m) ≡ turn_ended (flags_at []) s.pc (turn_answer (turn_of s m x))

@@ -9,6 +9,7 @@ pub mod PlanEnds
 pub mod HeldRuns
 pub mod FreeSteps
 pub mod Runners
+pub mod FreeRuns
 pub mod Walked
 pub mod ListSteps
 pub mod Later

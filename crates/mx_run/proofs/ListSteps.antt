@@ -96,7 +96,7 @@ ended-listed : (f : FlagsOf) (pc : ℕ) (a : Answered TurnAnswer) → turn_ended
 ended-listed f pc (r, s, m) = refl
 
 -- what the list's run comes to at a step, by whether it breaks before it and whether the turn is wild
-abbrev list-step : Bool → Bool → (State → HostModel → RunEnd) → FlagsOf → State → HostModel → RunEnd
+abbrev pub list-step : Bool → Bool → (State → HostModel → RunEnd) → FlagsOf → State → HostModel → RunEnd
 list-step b c more f s m = cond b (run_ended (ended (Broke Execute s.pc None) s m)) (cond c (run_wild m) (after_turn run_ended more f s.pc (turn s m)))
 
 step-by-cases : (whole : RunEnd) (more : State → HostModel → RunEnd) (f : FlagsOf) (b c : Bool) (s : State) (m : HostModel) → TurnWindow s → s.touched ≡ false → turn_is_wild s ≡ c → whole ≡ list-step b c more f (as_list_state s) m → IsFront m.output (step_by_break b f s m).2.output → Follows whole more (step_by_break b f s m)
@@ -110,7 +110,7 @@ step-by-cases whole more f false false s m h u w e o =
 left-after : (k i : ℕ) → i < k → k - i ≡ suc (k - (i + 1))
 left-after k i l = omega arith
 
-list-runs : (k i : ℕ) (f : FlagsOf) (pass : Bool) (s : State) (m : HostModel) → TurnWindow s → s.touched ≡ false → i < k → run_by list_machine (k - i) f pass (as_list_state s) m ≡ list-step (breaks_before f pass s) (turn_is_wild s) (run_by list_machine (k - (i + 1)) f false) f (as_list_state s) m
+pub list-runs : (k i : ℕ) (f : FlagsOf) (pass : Bool) (s : State) (m : HostModel) → TurnWindow s → s.touched ≡ false → i < k → run_by list_machine (k - i) f pass (as_list_state s) m ≡ list-step (breaks_before f pass s) (turn_is_wild s) (run_by list_machine (k - (i + 1)) f false) f (as_list_state s) m
 unfolding run_by
 list-runs k i f pass s m h u l =
     rw (left-after k i l) (ap (λ c. list-step (breaks_before f pass s) c (run_by list_machine (k - (i + 1)) f false) f (as_list_state s) m) (wild-listed s h.window h.machine u))

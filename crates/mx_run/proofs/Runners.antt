@@ -29,7 +29,7 @@ turn-streams v w (answer.Halted status) p c = ended-streams v w _ _ p c (λ e. a
 turn-streams v w (answer.Stopped reason) p c = ended-streams v w _ _ p c (λ e. absurd (cc))
 turn-streams v w answer.OutOfMemory p c = streams-stop p w v (c.stopping refl)
 
-run-streams : (v w : RunWorld) (r : End) (p : RunPlan End) → Comes running v w end.OutOfMemory r p → KeepsStreams v.1 w.1
+pub run-streams : (v w : RunWorld) (r : End) (p : RunPlan End) → Comes running v w end.OutOfMemory r p → KeepsStreams v.1 w.1
 run-streams v w (end.Halted status) p c = ended-streams v w _ _ p c (λ e. absurd (cc))
 run-streams v w (end.Stopped pc reason) p c = ended-streams v w _ _ p c (λ e. absurd (cc))
 run-streams v w (end.Broke kind at traced) p c = ended-streams v w _ _ p c (λ e. absurd (cc))
@@ -43,7 +43,7 @@ stands-all old earlier = (refl, le_refl earlier)
 pub stands-then : (old mid new : Option HostModel) (a b d : ℕ) → Stands old mid a b → Stands mid new b d → Stands old new a d
 stands-then old mid new a b d h k = let first : a ≤ b = h.1 in let second : b ≤ d = k.1 in (k.0 ∙ h.0, omega (arith, first, second))
 
-keeps-by : (old new : Option HostModel) (earlier later : ℕ) → Stands old new earlier later → (IsTrue (tells old) → KeepsStreams (contents old) (contents new)) → Keeps old new earlier later
+pub keeps-by : (old new : Option HostModel) (earlier later : ℕ) → Stands old new earlier later → (IsTrue (tells old) → KeepsStreams (contents old) (contents new)) → Keeps old new earlier later
 keeps-by old new earlier later h k = record {
   telling = h.0;
   counting = h.1;

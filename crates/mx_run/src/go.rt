@@ -1,12 +1,13 @@
 //! Steps of a run one after another.
 
-ghost use Rattle.std.specs.Prelude.{◌≡◌, ◌≢◌, [], true};
+ghost use Rattle.std.specs.Prelude.{◌≡◌, ◌≢◌, [], true, false};
+ghost use Rattle.mx_host.specs.Keeping.{Keeps};
 ghost use Rattle.mx_plan.specs.Clauses.{Stands};
 ghost use Rattle.mx_core.specs.Kept.{state_of};
-ghost use Rattle.mx_run.specs.Clauses.{CarriesOutRun, EndsAsList};
+ghost use Rattle.mx_run.specs.Clauses.{CarriesOutRun, EndsAs, EndsAsList, EndsFront};
 ghost use Rattle.mx_run.specs.FlagMaps.{flags_at};
 ghost use Rattle.mx_run.specs.RunPlans.{run_plan, SparesMemory};
-ghost use Rattle.mx_run.specs.Runs.{IsLater};
+ghost use Rattle.mx_run.specs.Runs.{IsLater, no_flags, run};
 ghost use Rattle.mx_run.specs.WildRuns.{run_by, list_machine};
 
 use crate::steps::{run_step, step_over};
@@ -73,4 +74,27 @@ pub fn go_freely<H: Host>(
             Err(end) => return end,
         }
     }
+}
+
+/// Makes at most n steps of a machine over a host, with no flags. From a machine that nobody touched it goes as over an
+/// unbounded list of registers, up to the first turn that looks at rS or at the memory of the register stack.
+///
+/// Out of memory, the turns that were made stay, and of the last one what it leaves then; what was
+/// written to standard output is a front of what the run writes.
+#[tactic(auto, using(crate::proofs::FreeRuns::free))]
+pub fn run_freely<H: Host>(alloc: Global, machine: &mut Machine, host: &mut H, n: u64) -> End
+    ensures plan { CarriesOutRun (H.told host.old) (H.told host.new) (state_of machine.old) (state_of machine.new)
+        End.OutOfMemory result (run_plan n no_flags false) }
+    ensures spared { SparesMemory n (state_of machine.old) → result ≢ End.OutOfMemory }
+    ensures told { EndsAs (H.told host.old) (H.told host.new) (state_of machine.old) (state_of machine.new) result
+        (λ s m. run n no_flags false s m) }
+    ensures front { EndsFront (H.told host.old) (H.told host.new) (state_of machine.old) result
+        (λ s m. run n no_flags false s m) }
+    ensures listed { EndsAsList (H.told host.old) (H.told host.new) (state_of machine.old) (state_of machine.new) result
+        (λ s m. run_by list_machine n no_flags false s m) }
+    ensures bound { IsLater n (state_of machine.old) (state_of machine.new) }
+    ensures keeps { Keeps (H.told host.old) (H.told host.new) (H.faults host.old) (H.faults host.new) }
+{
+    let flags = FlagMap::new(alloc);
+    go_freely(alloc, machine, &flags, host, n)
 }

@@ -11,13 +11,15 @@ pub mod laws;
 mod runner;
 mod steady_laws;
 mod steps;
-mod turn;
 mod turn_answer;
+mod turning;
 mod windows;
 
 pub use end::{BreakKind, End};
 pub use flag_map::FlagMap;
 pub use flags::Flags;
+pub use go::run_freely;
 pub use runner::Runner;
 pub use steady_laws::runs_go_by_no_count;
 pub use turn_answer::TurnAnswer;
+pub use turning::turn;

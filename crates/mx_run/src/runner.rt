@@ -16,7 +16,7 @@ ghost use Rattle.mx_run.specs.Turns.{turn_answer};
 ghost use Rattle.mx_run.specs.WildRuns.{run_by, list_machine};
 
 use crate::go::{go_by_flags, go_freely};
-use crate::turn::turn;
+use crate::turning::turn;
 use crate::{End, FlagMap, Flags, TurnAnswer};
 use mx_core::Machine;
 use mx_host::Host;

@@ -12,7 +12,7 @@ ghost use Rattle.mx_run.specs.Runs.{IsLater};
 ghost use Rattle.mx_run.specs.WildRuns.{HasWindow};
 
 use crate::breaks::end_of_turn;
-use crate::turn::turn;
+use crate::turning::make_turn;
 use crate::windows::know_window;
 use crate::{BreakKind, End, FlagMap};
 use mx_core::{Advance, Machine};
@@ -71,7 +71,7 @@ fn turn_and_end<H: Host>(
     ensures stands { Stands (H.told host.old) (H.told host.new) (H.faults host.old) (H.faults host.new) }
 {
     let pc = machine.pc();
-    let answer = turn(alloc, machine, host);
+    let answer = make_turn(alloc, machine, host);
     end_of_turn(flags, pc, answer)
 }
 

@@ -1,6 +1,6 @@
 use Rattle.mx_core.specs.Kept.{state_of}
 use Rattle.mx_run.proofs.TurnAnswers.{trap-comes}
-use Rattle.mx_run.proofs.turn.trap_turn.Goals as goal
+use Rattle.mx_run.proofs.turning.trap_turn.Goals as goal
 
 pub returns-clause-told : goal.returns-clause-told
 returns-clause-told g c = λ t.

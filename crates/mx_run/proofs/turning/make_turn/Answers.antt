@@ -1,6 +1,6 @@
 use Rattle.mx_run.proofs.Later.{stepped-later}
 use Rattle.mx_run.proofs.TurnAnswers.{went-spares, calls-none}
-use Rattle.mx_run.proofs.turn.turn.Goals as goal
+use Rattle.mx_run.proofs.turning.make_turn.Goals as goal
 
 pub returns-in-Went-clause-bound : goal.returns-in-Went-clause-bound
 returns-in-Went-clause-bound g c = stepped-later _ _ _ (c.in-Went.ensures.answer (λ e. absurd (cc)))
