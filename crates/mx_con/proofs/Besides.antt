@@ -7,6 +7,7 @@ use Rattle.mx_con.specs.Clauses.{output_of, as_list_console, as_list_progress, I
 use Rattle.mx_con.specs.HostLines.{Written, line_write}
 use Rattle.mx_con.specs.Session.{Console, Progress, Done, on, over, wild, and_then, write_done, line_done}
 use Rattle.mx_con.specs.declared.end.SessionEnd.{SessionEnd}
+use Rattle.mx_con.proofs.SessionJoins.{IsOver}
 
 -- ---- ONE PART
 
@@ -68,3 +69,13 @@ beside-done whole c (was_wild h e o) = subst (λ (w : Done). PartGoesAsList w (o
 pub beside-over : (whole rest : Done) (end : SessionEnd) (c : Console) → rest ≡ over end (as_list_console c) → Beside whole rest c → PartGoesAsList whole (over end c)
 beside-over whole rest end c r (as_list u e) = subst (λ (w : Done). PartGoesAsList w (over end c)) (sym (e ∙ r)) (refl, u)
 beside-over whole rest end c r (was_wild h e o) = subst (λ (w : Done). PartGoesAsList w (over end c)) (sym e) o
+
+-- a part that ended the session, whatever would have followed
+pub over-listed : {A : Type 0} (whole : Done) (next more : A → Console → Done) (p : Progress A) → IsOver p → Follows whole next p → PartGoesAsList whole (and_then more p)
+over-listed whole next more (on x c) i h = absurd i
+over-listed whole next more (over end c) i h = h
+over-listed whole next more (wild m) i h = absurd i
+
+-- the same of an equal part
+pub goes-by : {A : Type 0} (whole p q : Progress A) → p ≡ q → PartGoesAsList whole q → PartGoesAsList whole p
+goes-by {A} whole p q e h = subst (λ (r : Progress A). PartGoesAsList whole r) (sym e) h

@@ -1,32 +1,85 @@
 -- A line is read byte by byte.
-use Rattle.std.proofs.Common.{◌≡◌, ℕ, zero, suc, [], ◌∷◌, length, take, slice_index_or, ◌≢◌, ◌+◌, ◌-◌, ◌<◌, ◌≤◌, true, false, List, arith, refl, Ok, Err}
+use Rattle.std.proofs.Common.{◌≡◌, ◌≢◌, ℕ, zero, suc, [], ◌∷◌, length, take, slice_index_or, ◌++◌, ◌==◌, Bool, cond, ap, inl, Some, ◌+◌, ◌-◌, ◌<◌, ◌≤◌, true, false, List, arith, refl, subst, Ok, Err}
 use Rattle.mx_host.specs.HostModel.{HostModel}
-use Rattle.mx_plan.proofs.Streams.{read-output}
-use Rattle.mx_con.specs.HostLines.{grown, line_read}
+use Rattle.mx_plan.specs.Plan.{returns, bind, end_of, Stops, Comes, IsRest}
+use Rattle.mx_plan.specs.Calls.{host, HostPlan, need}
+use Rattle.mx_plan.proofs.Plans.{rest_after}
+use Rattle.std.specs.Prelude.{Result}
+use Rattle.mx_word.specs.Results.{map_ok}
+use Rattle.mx_con.specs.HostLines.{byte_added}
+use Rattle.mx_con.specs.LinePlans as lines
+use Rattle.mx_con.specs.LinePlans.{on_ok, byte_plan, after_byte, grown_plan, LineRead, after_growing, reading_plan}
 use Rattle.mx_con.specs.declared.end.SessionEnd.{SessionEnd}
-use Rattle.mx_con.specs.declared.end.SessionEnd.TheVariants.{Limit}
+use Rattle.mx_con.specs.declared.end.SessionEnd.TheVariants.{Limit, OutOfMemory}
+use Rattle.mx_con.proofs.Rests.{bind-comes, rest-ended, rest-done}
 
 one-more : (n : ℕ) → 0 < n → n ≡ suc (n - 1)
 one-more n l = omega arith
 
-pub line-more : (n k : ℕ) (got next : List ℕ) (m after : HostModel) → 0 < n → (Ok true, next, k, after) ≡ grown (n - 1) got m → k + 1 ≡ n →
-    line_read n got m ≡ line_read k next after
-unfolding line_read
-line-more n k got next m after l h e = let same : k ≡ n - 1 = omega arith in rw (one-more n l, ← h, same) refl
+reading-suc : (k n : ℕ) (got : List ℕ) → n ≡ suc k → reading_plan n got ≡ bind (on_ok (after_growing (reading_plan k))) (grown_plan k got)
+unfolding reading_plan
+reading-suc k n got e = rw e refl
 
-pub line-whole : (n k : ℕ) (got next : List ℕ) (m after : HostModel) → 0 < n → (Ok false, next, k, after) ≡ grown (n - 1) got m →
-    line_read n got m ≡ (Ok next, k, after)
-unfolding line_read
-line-whole n k got next m after l h = rw (one-more n l, ← h) refl
+reading-more : (n : ℕ) (got : List ℕ) → 0 < n → reading_plan n got ≡ bind (on_ok (after_growing (reading_plan (n - 1)))) (grown_plan (n - 1) got)
+reading-more n got l = reading-suc (n - 1) n got (one-more n l)
 
-pub line-ended : (n k : ℕ) (end : SessionEnd) (got next : List ℕ) (m after : HostModel) → 0 < n → (Err end, next, k, after) ≡ grown (n - 1) got m →
-    line_read n got m ≡ (Err end, k, after)
-unfolding line_read
-line-ended n k end got next m after l h = rw (one-more n l, ← h) refl
+as-bound : (n : ℕ) (got : List ℕ) (v start : HostModel) (whole : HostPlan LineRead) → 0 < n → IsRest host (reading_plan n got) v whole start →
+    IsRest host (bind (on_ok (after_growing (reading_plan (n - 1)))) (grown_plan (n - 1) got)) v whole start
+as-bound n got v start whole l r = subst (λ p. IsRest host p v whole start) (reading-more n got l) r
 
-pub line-limit : (n : ℕ) (got : List ℕ) (m : HostModel) → n ≡ 0 → line_read n got m ≡ (Err Limit, n, m)
-unfolding line_read
-line-limit n got m e = rw e refl
+pub line-more : (n k : ℕ) (got next : List ℕ) (v w start : HostModel) (whole : HostPlan LineRead) → 0 < n → IsRest host (reading_plan n got) v whole start →
+    (Ok (true, next, k), w) ≡ end_of host (grown_plan (n - 1) got) v → k + 1 ≡ n → IsRest host (reading_plan k next) w whole start
+line-more n k got next v w start whole l r e h =
+    let same : n - 1 ≡ k = omega (arith, h) in
+    subst (λ i. IsRest host (reading_plan i next) w whole start) same
+    (rest_after host (on_ok (after_growing (reading_plan (n - 1)))) (grown_plan (n - 1) got) (Ok (true, next, k)) w v start whole e (as-bound n got v start whole l r))
+
+pub line-whole : (n k : ℕ) (got next : List ℕ) (v w start : HostModel) (whole : HostPlan LineRead) → 0 < n → IsRest host (reading_plan n got) v whole start →
+    (Ok (false, next, k), w) ≡ end_of host (grown_plan (n - 1) got) v → Comes host start w (Err OutOfMemory) (Ok (next, k)) whole
+line-whole n k got next v w start whole l r e =
+    rest-done host (Ok (next, k)) w start whole (λ o. absurd (cc))
+    (rest_after host (on_ok (after_growing (reading_plan (n - 1)))) (grown_plan (n - 1) got) (Ok (false, next, k)) w v start whole e (as-bound n got v start whole l r))
+
+pub line-ended : (n : ℕ) (end : SessionEnd) (got : List ℕ) (v w start : HostModel) (whole : HostPlan LineRead) → 0 < n → IsRest host (reading_plan n got) v whole start →
+    Comes host v w (Err OutOfMemory) (Err end) (grown_plan (n - 1) got) → Comes host start w (Err OutOfMemory) (Err end) whole
+line-ended n end got v w start whole l r c =
+    rest-ended host (after_growing (reading_plan (n - 1))) (grown_plan (n - 1) got) end v w start whole (as-bound n got v start whole l r) c
+
+pub line-limit : (n : ℕ) (got : List ℕ) (w start : HostModel) (whole : HostPlan LineRead) → n ≡ 0 → IsRest host (reading_plan n got) w whole start →
+    Comes host start w (Err OutOfMemory) (Err Limit) whole
+unfolding reading_plan
+line-limit n got w start whole e r =
+    rest-done host (Err Limit) w start whole (λ o. absurd (cc)) (subst (λ i. IsRest host (reading_plan i got) w whole start) e r)
+
+-- ---- a byte more of a line
+
+lacked-of : {A B : Type 0} (f : A → B) (r : Result A SessionEnd) (end : SessionEnd) → map_ok f r ≡ Err end → r ≡ Err end
+lacked-of f (Ok x) end e = absurd (cc)
+lacked-of f (Err other) end e = cc
+
+abbrev added : Bool → List ℕ → ℕ → Result Bool SessionEnd × List ℕ
+added ends got b = cond ends (Ok false, got) (Ok true, got ++ b ∷ [])
+
+with-byte : (ends : Bool) (got next : List ℕ) (left b : ℕ) (n : HostModel) (r : Result Bool SessionEnd) → (r ≢ Err OutOfMemory → (r, next) ≡ added ends got b) →
+    (r ≡ Err OutOfMemory → ends ≡ false) →
+    Comes {A = lines.Growing} host n n (Err OutOfMemory) (map_ok (λ (more : Bool). (more, next, left)) r) (cond ends (returns (Ok (false, got, left))) (bind (λ u. returns (Ok (true, got ++ b ∷ [], left))) need))
+unfolding bind need end_of Stops host
+with-byte true got next left b n r h k = record {
+  ending = λ ne. ap (λ (p : Result Bool SessionEnd × List ℕ). (map_ok (λ (more : Bool). (more, p.1, left)) p.0, n)) (h (λ e. ne (ap (map_ok (λ (more : Bool). (more, next, left))) e)));
+  stopping = λ e. let wrong : true ≡ false = k (lacked-of (λ (more : Bool). (more, next, left)) r OutOfMemory e) in absurd (cc);
+}
+with-byte false got next left b n r h k = record {
+  ending = λ ne. ap (λ (p : Result Bool SessionEnd × List ℕ). (map_ok (λ (more : Bool). (more, p.1, left)) p.0, n)) (h (λ e. ne (ap (map_ok (λ (more : Bool). (more, next, left))) e)));
+  stopping = λ e. inl refl;
+}
+
+pub grown-byte : (got next : List ℕ) (left b : ℕ) (m n : HostModel) (r : Result Bool SessionEnd) → Comes host m n (Err OutOfMemory) (Ok (Some b)) byte_plan →
+    (r ≢ Err OutOfMemory → (r, next) ≡ byte_added got b) → (r ≡ Err OutOfMemory → (b == 10) ≡ false) →
+    Comes host m n (Err OutOfMemory) (map_ok (λ (more : Bool). (more, next, left)) r) (grown_plan left got)
+unfolding grown_plan
+grown-byte got next left b m n r c h k =
+    bind-comes host (after_byte left got) byte_plan (Ok (Some b)) m n n (Err OutOfMemory) (map_ok (λ (more : Bool). (more, next, left)) r) (c.ending (λ e. absurd (cc)))
+    (with-byte (b == 10) got next left b n r h k)
 
 pub ruleset reading = (line-more, line-whole, line-ended, line-limit)
 
@@ -38,4 +91,4 @@ first-byte (suc zero) [] one most some = absurd (omega arith)
 first-byte (suc zero) (x ∷ xs) one most some = refl
 first-byte (suc (suc n)) xs one most some = absurd (omega arith)
 
-pub ruleset bytes = (read-output, first-byte)
+pub ruleset bytes = (first-byte)

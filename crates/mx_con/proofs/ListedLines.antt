@@ -1,5 +1,5 @@
 -- Lists of lines are written line by line.
-use Rattle.std.proofs.Common.{◌≡◌, ℕ, zero, suc, ◌+◌, ◌-◌, ◌*◌, ◌/◌, ◌^◌, ◌<◌, ◌≤◌, List, [], ◌∷◌, true, false, None, Some, Ok, Err, refl, ◌∙◌, ap, arith, map}
+use Rattle.std.proofs.Common.{◌≡◌, ℕ, zero, suc, ◌+◌, ◌-◌, ◌*◌, ◌/◌, ◌^◌, ◌<◌, ◌≤◌, List, [], ◌∷◌, true, false, None, Some, Ok, Err, refl, ◌∙◌, ap, subst, arith, map}
 use Rattle.std.specs.List.{range_with_len}
 use Rattle.mx_host.specs.HostModel.{HostModel}
 use Rattle.mx_text.specs.declared.numbers.Form.{Form}
@@ -8,12 +8,17 @@ use Rattle.mx_run.specs.FlagMaps.{has_flag, IsNextFlagged}
 use Rattle.mx_run.specs.Runs.{FlagsOf}
 use Rattle.mx_run.specs.declared.flags.Flags.{Flags}
 use Rattle.mx_con.specs.ConsoleTexts.{flag_text}
-use Rattle.mx_con.specs.HostLines.{line_write, lines_write}
+use Rattle.mx_con.specs.LinePlans.{on_ok, line_plan, lines_plan}
 use Rattle.mx_con.specs.Replies.{octas_after, flag_lines, tetra_count}
 use Rattle.mx_con.specs.Subjects.{shown_line}
 use Rattle.mx_cmd.specs.declared.command.Subject.TheVariants.{Memory}
 use Rattle.mx_con.specs.declared.end.SessionEnd.{SessionEnd}
-use Rattle.mx_con.proofs.Outputs.{lines-at}
+use Rattle.mx_con.specs.declared.end.SessionEnd.TheVariants.{OutOfMemory}
+use Rattle.mx_plan.specs.Plan.{bind, end_of, Comes, IsRest}
+use Rattle.mx_plan.specs.Calls.{host, HostPlan}
+use Rattle.mx_plan.proofs.Plans.{rest_after}
+use Rattle.std.specs.Prelude.{Result}
+use Rattle.mx_con.proofs.Rests.{rest-all, rest-ended, rest-done}
 
 -- ---- octas: the lines from one on
 
@@ -28,23 +33,38 @@ octas-next : (s : State) (form : Form) (a n i : ℕ) → i < n →
     octas_from s form a (i + 1) (n - i) ≡ shown_line s (Memory (a + 8 * (i + 1))) form ∷ octas_from s form a (i + 1 + 1) (n - (i + 1))
 octas-next s form a n i l = let e : n - i ≡ suc (n - (i + 1)) = omega arith in rw e refl
 
-pub octas-more : (s : State) (form : Form) (a n i : ℕ) (m after : HostModel) → i < n →
-    (Ok tt, after) ≡ line_write m (shown_line s (Memory (a + 8 * (i + 1))) form) →
-    lines_write (octas_from s form a (i + 1) (n - i)) m ≡ lines_write (octas_from s form a (i + 1 + 1) (n - (i + 1))) after
-unfolding lines_write
-octas-more s form a n i m after l h = rw (octas-next s form a n i l, ← h) refl
+octas-left : (s : State) (form : Form) (a n i : ℕ) (v start : HostModel) (whole : HostPlan (Result (Unit {0}) SessionEnd)) → i < n →
+    IsRest host (lines_plan (octas_from s form a (i + 1) (n - i))) v whole start →
+    IsRest host (bind (on_ok (λ u. lines_plan (octas_from s form a (i + 1 + 1) (n - (i + 1))))) (line_plan (shown_line s (Memory (a + 8 * (i + 1))) form))) v whole start
+unfolding lines_plan
+octas-left s form a n i v start whole l r = subst (λ ls. IsRest host (lines_plan ls) v whole start) (octas-next s form a n i l) r
 
-pub octas-ended : (s : State) (form : Form) (a n i : ℕ) (end : SessionEnd) (m after : HostModel) → i < n →
-    (Err end, after) ≡ line_write m (shown_line s (Memory (a + 8 * (i + 1))) form) →
-    lines_write (octas_from s form a (i + 1) (n - i)) m ≡ (Err end, after)
-unfolding lines_write
-octas-ended s form a n i end m after l h = rw (octas-next s form a n i l, ← h) refl
+pub octas-more : (s : State) (form : Form) (a n i : ℕ) (v w start : HostModel) (whole : HostPlan (Result (Unit {0}) SessionEnd)) → i < n →
+    IsRest host (lines_plan (octas_from s form a (i + 1) (n - i))) v whole start → (Ok tt, w) ≡ end_of host (line_plan (shown_line s (Memory (a + 8 * (i + 1))) form)) v →
+    IsRest host (lines_plan (octas_from s form a (i + 1 + 1) (n - (i + 1)))) w whole start
+octas-more s form a n i v w start whole l r e =
+    rest_after host (on_ok (λ u. lines_plan (octas_from s form a (i + 1 + 1) (n - (i + 1))))) (line_plan (shown_line s (Memory (a + 8 * (i + 1))) form)) (Ok tt) w v start whole e
+    (octas-left s form a n i v start whole l r)
 
-pub octas-done : (s : State) (form : Form) (a n i : ℕ) (m : HostModel) → n ≤ i → lines_write (octas_from s form a (i + 1) (n - i)) m ≡ (Ok tt, m)
-unfolding lines_write
-octas-done s form a n i m l = let e : n - i ≡ 0 = omega arith in rw e refl
+pub octas-ended : (s : State) (form : Form) (a n i : ℕ) (end : SessionEnd) (v w start : HostModel) (whole : HostPlan (Result (Unit {0}) SessionEnd)) → i < n →
+    IsRest host (lines_plan (octas_from s form a (i + 1) (n - i))) v whole start → Comes host v w (Err OutOfMemory) (Err end) (line_plan (shown_line s (Memory (a + 8 * (i + 1))) form)) →
+    Comes host start w (Err OutOfMemory) (Err end) whole
+octas-ended s form a n i end v w start whole l r c =
+    rest-ended host (λ (u : Unit {0}). lines_plan (octas_from s form a (i + 1 + 1) (n - (i + 1)))) (line_plan (shown_line s (Memory (a + 8 * (i + 1))) form)) end v w start whole
+    (octas-left s form a n i v start whole l r) c
 
-pub ruleset octas = (lines-at, octas-start, octas-more, octas-ended, octas-done)
+pub octas-done : (s : State) (form : Form) (a n i : ℕ) (w start : HostModel) (whole : HostPlan (Result (Unit {0}) SessionEnd)) → n ≤ i →
+    IsRest host (lines_plan (octas_from s form a (i + 1) (n - i))) w whole start → Comes host start w (Err OutOfMemory) (Ok tt) whole
+unfolding lines_plan
+octas-done s form a n i w start whole l r =
+    let e : n - i ≡ 0 = omega arith in
+    rest-done host (Ok tt) w start whole (λ o. absurd (cc)) (subst (λ k. IsRest host (lines_plan (octas_from s form a (i + 1) k)) w whole start) e r)
+
+pub octas-begin : (s : State) (form : Form) (a n : ℕ) (m : HostModel) → IsRest host (lines_plan (octas_from s form a (0 + 1) (n - 0))) m (lines_plan (octas_after s form a n)) m
+unfolding octas_after
+octas-begin s form a n m = let e : n - 0 ≡ n = omega arith in rw e (rest-all host (lines_plan (octas_from s form a 1 n)) m)
+
+pub ruleset octas = (octas-more, octas-ended, octas-done)
 
 -- ---- flags: tetras without flags have no line
 
@@ -79,27 +99,37 @@ flags-next f t a fl h most =
     ∙ here f q (tetra_count - (q + 1)) (ap has_flag h.2 ∙ h.3)
     ∙ ap (λ line. line ∷ flag_lines f (q + 1) (tetra_count - (q + 1))) (ap (λ p. flag_text p (f q)) same ∙ ap (flag_text a) h.2)
 
-pub flags-more : (f : FlagsOf) (t a : ℕ) (fl : Flags) (m after : HostModel) → IsNextFlagged f (4 * t) (Some (a, fl)) → a < 2 ^ 64 →
-    (Ok tt, after) ≡ line_write m (flag_text a fl) →
-    lines_write (flag_lines f t (tetra_count - t)) m ≡ lines_write (flag_lines f (a / 4 + 1) (tetra_count - (a / 4 + 1))) after
-unfolding lines_write
-flags-more f t a fl m after h most e = rw (flags-next f t a fl h most, ← e) refl
+pub flags-more : (f : FlagsOf) (t a : ℕ) (fl : Flags) (v w start : HostModel) (whole : HostPlan (Result (Unit {0}) SessionEnd)) → IsNextFlagged f (4 * t) (Some (a, fl)) → a < 2 ^ 64 →
+    IsRest host (lines_plan (flag_lines f t (tetra_count - t))) v whole start → (Ok tt, w) ≡ end_of host (line_plan (flag_text a fl)) v →
+    IsRest host (lines_plan (flag_lines f (a / 4 + 1) (tetra_count - (a / 4 + 1)))) w whole start
+unfolding lines_plan
+flags-more f t a fl v w start whole h most r e =
+    rest_after host (on_ok (λ u. lines_plan (flag_lines f (a / 4 + 1) (tetra_count - (a / 4 + 1))))) (line_plan (flag_text a fl)) (Ok tt) w v start whole e
+    (subst (λ ls. IsRest host (lines_plan ls) v whole start) (flags-next f t a fl h most) r)
 
-pub flags-ended : (f : FlagsOf) (t a : ℕ) (fl : Flags) (end : SessionEnd) (m after : HostModel) → IsNextFlagged f (4 * t) (Some (a, fl)) → a < 2 ^ 64 →
-    (Err end, after) ≡ line_write m (flag_text a fl) → lines_write (flag_lines f t (tetra_count - t)) m ≡ (Err end, after)
-unfolding lines_write
-flags-ended f t a fl end m after h most e = rw (flags-next f t a fl h most, ← e) refl
+pub flags-ended : (f : FlagsOf) (t a : ℕ) (fl : Flags) (end : SessionEnd) (v w start : HostModel) (whole : HostPlan (Result (Unit {0}) SessionEnd)) → IsNextFlagged f (4 * t) (Some (a, fl)) → a < 2 ^ 64 →
+    IsRest host (lines_plan (flag_lines f t (tetra_count - t))) v whole start → Comes host v w (Err OutOfMemory) (Err end) (line_plan (flag_text a fl)) →
+    Comes host start w (Err OutOfMemory) (Err end) whole
+unfolding lines_plan
+flags-ended f t a fl end v w start whole h most r c =
+    rest-ended host (λ (u : Unit {0}). lines_plan (flag_lines f (a / 4 + 1) (tetra_count - (a / 4 + 1)))) (line_plan (flag_text a fl)) end v w start whole
+    (subst (λ ls. IsRest host (lines_plan ls) v whole start) (flags-next f t a fl h most) r) c
 
-pub flags-none : (f : FlagsOf) (t n : ℕ) (m : HostModel) → IsNextFlagged f (4 * t) None → lines_write (flag_lines f t n) m ≡ (Ok tt, m)
-unfolding lines_write
-flags-none f t n m h = rw (all-bare f t n (λ q l. h q (omega arith))) refl
+none-left : (ls : List (List ℕ)) (w start : HostModel) (whole : HostPlan (Result (Unit {0}) SessionEnd)) → ls ≡ [] → IsRest host (lines_plan ls) w whole start →
+    Comes host start w (Err OutOfMemory) (Ok tt) whole
+unfolding lines_plan
+none-left ls w start whole e r = rest-done host (Ok tt) w start whole (λ o. absurd (cc)) (subst (λ xs. IsRest host (lines_plan xs) w whole start) e r)
 
-pub flags-done : (f : FlagsOf) (t : ℕ) (m : HostModel) → tetra_count ≤ t → lines_write (flag_lines f t (tetra_count - t)) m ≡ (Ok tt, m)
-unfolding lines_write flag_lines
-flags-done f t m l = let e : tetra_count - t ≡ 0 = omega arith in rw e refl
+pub flags-none : (f : FlagsOf) (t n : ℕ) (w start : HostModel) (whole : HostPlan (Result (Unit {0}) SessionEnd)) → IsNextFlagged f (4 * t) None →
+    IsRest host (lines_plan (flag_lines f t n)) w whole start → Comes host start w (Err OutOfMemory) (Ok tt) whole
+flags-none f t n w start whole h r = none-left (flag_lines f t n) w start whole (all-bare f t n (λ q l. h q (omega arith))) r
 
-pub ruleset flags = (lines-at, flags-more, flags-ended, flags-none, flags-done)
+no-flags : (f : FlagsOf) (t n : ℕ) → n ≡ 0 → flag_lines f t n ≡ []
+unfolding flag_lines
+no-flags f t n e = rw e refl
 
-pub octas-begin : (s : State) (form : Form) (a n : ℕ) (m : HostModel) → lines_write (octas_after s form a n) m ≡ lines_write (octas_from s form a 1 (n - 0)) m
-unfolding octas_after
-octas-begin s form a n m = let e : n - 0 ≡ n = omega arith in rw e refl
+pub flags-done : (f : FlagsOf) (t : ℕ) (w start : HostModel) (whole : HostPlan (Result (Unit {0}) SessionEnd)) → tetra_count ≤ t →
+    IsRest host (lines_plan (flag_lines f t (tetra_count - t))) w whole start → Comes host start w (Err OutOfMemory) (Ok tt) whole
+flags-done f t w start whole l r = none-left (flag_lines f t (tetra_count - t)) w start whole (no-flags f t (tetra_count - t) (omega arith)) r
+
+pub ruleset flags = (flags-more, flags-ended, flags-none, flags-done)

@@ -22,7 +22,8 @@ use Rattle.mx_core.proofs.Changed.{register-listed, special-listed, octa-changed
 use Rattle.mx_core.proofs.Seen.{same-visible}
 use Rattle.mx_run.specs.Runs.{FlagsOf}
 use Rattle.mx_run.specs.WildRuns.{window_machine, list_machine}
-use Rattle.mx_con.specs.Clauses.{as_list_console, PartGoesAsList}
+use Rattle.mx_word.specs.Lists.{IsFront}
+use Rattle.mx_con.specs.Clauses.{output_of, as_list_console, PartGoesAsList}
 use Rattle.mx_con.specs.HostLines.{lines_write}
 use Rattle.mx_con.specs.Judgement.{bad_text, bad_if, first_bad, is_outside, subject_bad, past_memory, command_bad, command_wild}
 use Rattle.mx_con.specs.Replies.{Reply, reply, reply_in, reply_to, with_note, with_subject, changed_reply, octas_after, shown_after}
@@ -35,7 +36,8 @@ use Rattle.mx_cmd.specs.declared.command.Subject.TheVariants.{Register, Global, 
 use Rattle.mx_con.specs.declared.judgement.Bad.{Bad}
 use Rattle.mx_con.specs.declared.judgement.Bad.TheVariants.{BadNumber, NoSuchRegister, NoMemoryShown, CannotChange}
 use Rattle.mx_con.proofs.Besides.{goes-listed, write-listed, write-untouched, line-beside}
-use Rattle.mx_con.proofs.Outputs.{carried-at}
+use Rattle.mx_con.specs.SessionPlans as plans
+use Rattle.mx_con.proofs.SessionJoins.{shown_of, LeftAs, part-front, replied-joins}
 use Rattle.mx_con.proofs.SameTexts.{outside-area, same-state, same-line}
 
 -- ---- CHANGES
@@ -219,9 +221,15 @@ carried-beside c w line m u b e =
 abbrev good-by : Bool → Console → Command → Done
 good-by b c line = cond b (wild c.host) (carried_out c line)
 
+carried-front : (c : Console) (line : Command) → IsFront c.host.output (output_of (carried_out c line))
+unfolding carried_out
+carried-front c line =
+    let r = reply_to c.state c.flags c.shown line in
+    part-front shown_of (LeftAs c) (plans.replied (r.shown, r.lines)) (with_reply c r) (replied c r) (replied-joins c r)
+
 by-wild : (b : Bool) (c : Console) (w : Window) (line : Command) → command_wild c.shown line ≡ b → IsMachine c.state w → c.state.touched ≡ false →
     command_bad c.state c.shown line ≡ None → PartGoesAsList (good-by b (as_list_console c) line) (carried_out c line)
-by-wild true c w line e m u n = carried-at c line c.host.output refl
+by-wild true c w line e m u n = carried-front c line
 by-wild false c w line e m u n = carried-beside c w line m u n e
 
 by-bad : (bad : Option Bad) (c : Console) (w : Window) (line : Command) → command_bad c.state c.shown line ≡ bad → IsMachine c.state w → c.state.touched ≡ false →

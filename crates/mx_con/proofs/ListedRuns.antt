@@ -7,23 +7,25 @@ use Rattle.mx_host.specs.HostModel.{HostModel}
 use Rattle.mx_core.specs.Bounds.{as_list_state}
 use Rattle.mx_core.specs.State.{State}
 use Rattle.mx_run.specs.Clauses.{GoesAsList}
-use Rattle.mx_run.specs.Runs.{FlagsOf, Ended, ended}
+use Rattle.mx_run.specs.Runs.{Ended, ended, run}
 use Rattle.mx_run.specs.Turns.{Turn, went_on, halts, stops, turn, turn_answer}
 use Rattle.mx_run.specs.WildRuns.{window_machine, list_machine, RunEnd, run_ended, run_wild, run_by, turn_is_wild, HasWindow, as_list_turn, state_after}
 use Rattle.mx_run.specs.declared.end.End.{End}
 use Rattle.mx_run.specs.declared.end.End.TheVariants as ending
 use Rattle.mx_run.proofs.ListTurns.{turn-listed, wild-listed, turn-untouched}
-use Rattle.mx_run.proofs.Outputs.{turn-front}
-use Rattle.mx_con.specs.Clauses.{output_of, progress, as_list_console, as_list_progress, IsUntouched, PartGoesAsList}
+use Rattle.mx_run.proofs.BothMachines.{window-ends}
+use Rattle.mx_con.specs.Clauses.{output_of, as_list_console, as_list_progress, IsUntouched, PartGoesAsList}
 use Rattle.mx_con.specs.ConsoleTexts.{trace_text, break_text}
 use Rattle.mx_con.specs.HostLines.{line_write, lines_write}
 use Rattle.mx_con.specs.Session.{Console, Progress, Done, on, over, wild, and_then, with_run, with_host, steps_left, line_done, after_turn, stepped, goes, end_answer, end_done, after_run, one_run, run_on, runs}
 use Rattle.mx_con.specs.declared.end.SessionEnd.{SessionEnd}
 use Rattle.mx_con.specs.declared.end.SessionEnd.TheVariants.{Spent}
-use Rattle.mx_con.proofs.Besides.{Beside, Follows, follows, goes-listed, line-beside, beside-done, beside-over}
+use Rattle.mx_plan.specs.Plan.{end_of}
+use Rattle.mx_con.specs.SessionPlans.{SessionWorld, conversing, turned_plan, after_end, one_run_plan}
+use Rattle.mx_con.proofs.SessionJoins.{value, Same, world_at, console_after, part-front, joined-on, joined-over, turned-joins, ended-joins, one-run-joins}
+use Rattle.mx_con.proofs.Besides.{Beside, as_list, Follows, follows, goes-listed, line-beside, beside-done, beside-over, over-listed}
 use Rattle.mx_con.proofs.QuietTraces.{TurnOutside, turn-outside, EndOutside, RunOutside, run-outside}
 use Rattle.mx_con.proofs.SameTexts.{same-trace}
-use Rattle.mx_con.proofs.StepLaws.{turn-at, answer-host, end-front, end_done-at}
 
 -- ---- ONE STEP
 
@@ -39,10 +41,7 @@ abbrev made-by : ℕ → Console → Done
 made-by pc c = after_turn c pc (turn_answer (turn c.state c.host))
 
 made-front : (c : Console) → IsFront c.host.output (output_of (made-by c.state.pc c))
-made-front c =
-    front-through c.host.output _ _
-    (subst (λ (m : HostModel). IsFront c.host.output m.output) (sym (answer-host (turn c.state c.host))) (turn-front c.state c.host))
-    (turn-at c c.state.pc (turn_answer (turn c.state c.host)))
+made-front c = part-front value (Same c) turned_plan c (made-by c.state.pc c) (turned-joins c)
 
 made-beside : (c : Console) → HasWindow c.state → c.state.touched ≡ false → turn_is_wild c.state ≡ false →
     PartGoesAsList (made-by c.state.pc (as_list_console c)) (made-by c.state.pc c)
@@ -101,7 +100,9 @@ run-cases : (c : Console) (end : End) (s : State) (m : HostModel) (r : RunEnd) �
 run-cases c end s m (run_ended e) o h =
     subst (λ (x : Ended). PartGoesAsList (after_run (as_list_console c) (run_ended x)) (end-of c s m (end_answer s end m))) h.0
     (ended-beside c end s m (subst (λ (x : Ended). EndOutside x.end) (sym h.0) o) h.1)
-run-cases c end s m (run_wild k) o h = end_done-at (with_run c s m) (end_answer s end m) k.output (front-through k.output m.output _ h (end-front s end m))
+run-cases c end s m (run_wild k) o h =
+    let d = with_run c s m in
+    front-through k.output m.output _ h (part-front value (Same d) (after_end end) d (end_done d (end_answer s end m)) (ended-joins d end))
 
 run-listed : (steps : ℕ) (pass : Bool) (c : Console) (end : End) (s : State) (m : HostModel) →
     GoesAsList (run_by list_machine (steps_left steps c.state) c.flags pass (as_list_state c.state) c.host) (ended end s m) →
@@ -111,25 +112,17 @@ run-listed steps pass c end s m h =
     run-cases c end s m (run_by list_machine (steps_left steps c.state) c.flags pass (as_list_state c.state) c.host)
     (run-outside (steps_left steps c.state) c.flags pass (as_list_state c.state) c.host) h
 
-abbrev ran : Console → State → FlagsOf → HostModel → Console
-ran c s f m = record { state = s; flags = f; shown = c.shown; left = c.left; host = m }
-
-end-progress : (c : Console) (r : Result Bool SessionEnd) (m : HostModel) → progress r (with_host c m) ≡ end_done c (r, m)
-end-progress c (Ok going) m = refl
-end-progress c (Err e) m = refl
-
-pub one-listed : (steps k : ℕ) (pass : Bool) (c : Console) (end : End) (s seen : State) (f : FlagsOf) (m n : HostModel) (r : Result Bool SessionEnd) →
-    k ≡ steps_left steps c.state → f ≡ c.flags → seen ≡ s → GoesAsList (run_by list_machine k c.flags pass (as_list_state c.state) c.host) (ended end s m) →
-    (r, n) ≡ end_answer seen end m → PartGoesAsList (one_run list_machine steps pass (as_list_console c)) (progress r (ran c s f n))
-one-listed steps k pass c end s seen f m n r same g at h w =
-    let here : progress r (ran c s f n) ≡ end-of c s m (end_answer s end m) =
-    end-progress (ran c s f m) r n
-    ∙ ap (λ a. end_done (ran c s f m) a) w
-    ∙ ap (λ (t : State). end_done (ran c s f m) (end_answer t end m)) at
-    ∙ ap (λ fs. end_done (ran c s fs m) (end_answer s end m)) g in
+-- a run of which the code tells how it goes beside that of the list machine
+pub one-listed : (steps k : ℕ) (pass : Bool) (c : Console) (end : End) (s : State) (m : HostModel) → k ≡ steps_left steps c.state →
+    GoesAsList (run_by list_machine k c.flags pass (as_list_state c.state) c.host) (ended end s m) → ended end s m ≡ run k c.flags pass c.state c.host →
+    PartGoesAsList (one_run list_machine steps pass (as_list_console c)) (one_run window_machine steps pass c)
+unfolding one_run
+one-listed steps k pass c end s m same h e =
+    let n = steps_left steps c.state in
+    let here : after_run c (run_by window_machine n c.flags pass c.state c.host) ≡ end-of c s m (end_answer s end m) =
+    ap (λ (r : RunEnd). after_run c r) (window-ends n c.flags pass c.state c.host ∙ ap (λ (i : ℕ). run_ended (run i c.flags pass c.state c.host)) (sym same) ∙ ap (λ (x : Ended). run_ended x) (sym e)) in
     subst (λ p. PartGoesAsList (one_run list_machine steps pass (as_list_console c)) p) (sym here)
-    (run-listed steps pass c end s m
-    (subst (λ j. GoesAsList (run_by list_machine j c.flags pass (as_list_state c.state) c.host) (ended end s m)) same h))
+    (run-listed steps pass c end s m (subst (λ j. GoesAsList (run_by list_machine j c.flags pass (as_list_state c.state) c.host) (ended end s m)) same h))
 
 -- ---- RUNS
 
@@ -147,28 +140,66 @@ runs-none : (k i steps : ℕ) (pass : Bool) (c : Console) → k ≤ i → runs l
 unfolding runs
 runs-none k i steps pass c l = let e : k - i ≡ 0 = omega arith in rw e refl
 
+none-left : (k i steps : ℕ) (pass : Bool) (c : Console) → k ≤ i → runs window_machine (k - i) steps pass c ≡ over Spent c
+unfolding runs
+none-left k i steps pass c l = let e : k - i ≡ 0 = omega arith in rw e refl
+
+abbrev next-own : ℕ → ℕ → ℕ → Bool → Console → Done
+next-own k i steps = run_on (runs window_machine (k - (i + 1)) steps false)
+
+own-next : (k i steps : ℕ) (pass : Bool) (c : Console) → i < k → runs window_machine (k - i) steps pass c ≡ and_then (next-own k i steps) (one_run window_machine steps pass c)
+unfolding runs
+own-next k i steps pass c l = rw (left-after k i l) refl
+
 abbrev pub RunsFrom : Done → ℕ → ℕ → ℕ → Bool → Console → Type 0
 RunsFrom whole k i steps pass c = Beside whole (runs list_machine (k - i) steps pass (as_list_console c)) c
 
-abbrev pub RunListed : ℕ → Bool → Console → Progress Bool → Type 0
-RunListed steps pass c p = c.state.touched ≡ false → PartGoesAsList (one_run list_machine steps pass (as_list_console c)) p
+-- the run that is made next goes as that of the list machine
+abbrev pub RunListed : ℕ → Bool → Console → Type 0
+RunListed steps pass c = c.state.touched ≡ false → PartGoesAsList (one_run list_machine steps pass (as_list_console c)) (one_run window_machine steps pass c)
 
-runs-follow : (whole : Done) (k i steps : ℕ) (pass : Bool) (c : Console) (p : Progress Bool) → i < k → RunListed steps pass c p → IsFront c.host.output (output_of p) →
-    RunsFrom whole k i steps pass c → Follows whole (next-runs k i steps) p
-runs-follow whole k i steps pass c p l g f b =
-    follows whole _ (next-runs k i steps) (one_run list_machine steps pass (as_list_console c)) p c (runs-next k i steps pass (as_list_console c) l) g f b
+runs-follow : (whole : Done) (k i steps : ℕ) (pass : Bool) (c : Console) → i < k → RunListed steps pass c → RunsFrom whole k i steps pass c →
+    Follows whole (next-runs k i steps) (one_run window_machine steps pass c)
+runs-follow whole k i steps pass c l g b =
+    follows whole _ (next-runs k i steps) (one_run list_machine steps pass (as_list_console c)) (one_run window_machine steps pass c) c (runs-next k i steps pass (as_list_console c) l) g
+    (part-front value (Same c) (one_run_plan steps pass) c (one_run window_machine steps pass c) (one-run-joins steps pass c)) b
 
-pub runs-went : (whole : Done) (k i steps : ℕ) (pass : Bool) (c d : Console) → i < k → RunListed steps pass c (on true d) → IsFront c.host.output d.host.output →
-    RunsFrom whole k i steps pass c → RunsFrom whole k (i + 1) steps false d
-runs-went whole k i steps pass c d l g f b = runs-follow whole k i steps pass c (on true d) l g f b
+abbrev pub RunAnswers : ℕ → Bool → Console → Result Bool SessionEnd → SessionWorld → Type 0
+RunAnswers steps pass c r w = (r, w) ≡ end_of conversing (one_run_plan steps pass) (world_at c)
 
-pub runs-paused : (whole : Done) (k i steps : ℕ) (pass : Bool) (c d : Console) → i < k → RunListed steps pass c (on false d) → IsFront c.host.output d.host.output →
-    RunsFrom whole k i steps pass c → PartGoesAsList whole (on tt d)
-runs-paused whole k i steps pass c d l g f b = beside-done whole d (runs-follow whole k i steps pass c (on false d) l g f b)
+pub runs-went : (whole : Done) (k i steps : ℕ) (pass : Bool) (c : Console) (w : SessionWorld) → i < k → RunListed steps pass c → RunAnswers steps pass c (Ok true) w →
+    RunsFrom whole k i steps pass c → RunsFrom whole k (i + 1) steps false (console_after c w)
+runs-went whole k i steps pass c w l g e b =
+    subst (λ (p : Progress Bool). Follows whole (next-runs k i steps) p) (joined-on true c w _ (one_run window_machine steps pass c) (one-run-joins steps pass c) e) (runs-follow whole k i steps pass c l g b)
 
-pub runs-ended : (whole : Done) (k i steps : ℕ) (pass : Bool) (end : SessionEnd) (c d : Console) → i < k → RunListed steps pass c (over end d) → IsFront c.host.output d.host.output →
-    RunsFrom whole k i steps pass c → PartGoesAsList whole (over end d)
-runs-ended whole k i steps pass end c d l g f b = runs-follow whole k i steps pass c (over end d) l g f b
+-- the runs of the window machine itself, from one to the next
+pub runs-same : (k i steps : ℕ) (pass : Bool) (c : Console) (w : SessionWorld) → i < k → RunAnswers steps pass c (Ok true) w →
+    runs window_machine (k - i) steps pass c ≡ runs window_machine (k - (i + 1)) steps false (console_after c w)
+runs-same k i steps pass c w l e =
+    own-next k i steps pass c l ∙ ap (λ (p : Progress Bool). and_then (next-own k i steps) p) (joined-on true c w _ (one_run window_machine steps pass c) (one-run-joins steps pass c) e)
 
-pub runs-spent : (whole : Done) (k i steps : ℕ) (pass : Bool) (c : Console) → k ≤ i → RunsFrom whole k i steps pass c → PartGoesAsList whole (over Spent c)
-runs-spent whole k i steps pass c l b = beside-over whole _ Spent c (runs-none k i steps pass (as_list_console c) l) b
+pub runs-paused : (whole : Done) (k i steps : ℕ) (pass : Bool) (c : Console) (w : SessionWorld) → i < k → RunListed steps pass c → RunAnswers steps pass c (Ok false) w →
+    RunsFrom whole k i steps pass c → PartGoesAsList whole (runs window_machine (k - i) steps pass c)
+runs-paused whole k i steps pass c w l g e b =
+    let d = console_after c w in
+    let at = joined-on false c w _ (one_run window_machine steps pass c) (one-run-joins steps pass c) e in
+    subst (λ (p : Done). PartGoesAsList whole p) (sym (own-next k i steps pass c l ∙ ap (λ (p : Progress Bool). and_then (next-own k i steps) p) at))
+    (beside-done whole d (subst (λ (p : Progress Bool). Follows whole (next-runs k i steps) p) at (runs-follow whole k i steps pass c l g b)))
+
+pub runs-ended : (whole : Done) (k i steps : ℕ) (pass : Bool) (end : SessionEnd) (c : Console) (w : SessionWorld) → i < k → RunListed steps pass c → RunAnswers steps pass c (Err end) w →
+    RunsFrom whole k i steps pass c → PartGoesAsList whole (runs window_machine (k - i) steps pass c)
+runs-ended whole k i steps pass end c w l g e b =
+    subst (λ (p : Done). PartGoesAsList whole p) (sym (own-next k i steps pass c l))
+    (over-listed whole (next-runs k i steps) (next-own k i steps) (one_run window_machine steps pass c)
+    (joined-over value (Same c) end w _ (one_run window_machine steps pass c) (one-run-joins steps pass c) e) (runs-follow whole k i steps pass c l g b))
+
+pub runs-spent : (whole : Done) (k i steps : ℕ) (pass : Bool) (c : Console) → k ≤ i → RunsFrom whole k i steps pass c → PartGoesAsList whole (runs window_machine (k - i) steps pass c)
+runs-spent whole k i steps pass c l b =
+    subst (λ (p : Done). PartGoesAsList whole p) (sym (none-left k i steps pass c l)) (beside-over whole _ Spent c (runs-none k i steps pass (as_list_console c) l) b)
+
+-- where the first run begins
+pub runs-start : (n most steps : ℕ) (pass : Bool) (c : Console) → n ≡ most → runs window_machine n steps pass c ≡ runs window_machine (most - 0) steps pass c
+runs-start n most steps pass c e = let all : most - 0 ≡ n = omega (arith, e) in rw all refl
+
+pub runs-begun : (n most steps : ℕ) (pass : Bool) (c : Console) → n ≡ most → c.state.touched ≡ false → RunsFrom (runs list_machine n steps pass (as_list_console c)) most 0 steps pass c
+runs-begun n most steps pass c e u = let all : most - 0 ≡ n = omega (arith, e) in rw all (as_list u refl)

@@ -1,5 +1,5 @@
 -- Lines and sessions beside the list machine.
-use Rattle.std.proofs.Common.{◌≡◌, ℕ, suc, ◌+◌, ◌-◌, ◌<◌, ◌≤◌, List, [], false, Option, None, Some, Ok, Err, refl, sym, ◌∙◌, ap, subst, arith}
+use Rattle.std.proofs.Common.{◌≡◌, ℕ, suc, ◌+◌, ◌-◌, ◌<◌, ◌≤◌, List, [], true, false, Option, None, Some, Result, Ok, Err, refl, sym, ◌∙◌, ap, subst, arith}
 use Rattle.mx_word.specs.Lists.{IsFront}
 use Rattle.mx_host.specs.HostModel.{HostModel}
 use Rattle.mx_core.specs.Bounds.{as_list_state}
@@ -7,17 +7,23 @@ use Rattle.mx_core.specs.State.{State}
 use Rattle.mx_run.specs.Runs.{FlagsOf}
 use Rattle.mx_run.specs.WildRuns.{window_machine, list_machine, HasWindow}
 use Rattle.mx_run.proofs.Areas.{has-window}
-use Rattle.mx_con.specs.Clauses.{output_of, as_list_console, as_list_progress, PartGoesAsList, SessionGoesAsList}
+use Rattle.mx_con.specs.Clauses.{as_list_console, as_list_progress, IsUntouched, PartGoesAsList, SessionGoesAsList}
 use Rattle.mx_cmd.specs.Commands.{command_of}
 use Rattle.mx_con.specs.HostLines.{Written, text_write, Reading, line_read, without_return}
 use Rattle.mx_con.specs.Judgement.{bad_text}
-use Rattle.mx_con.specs.Session.{Console, Progress, Done, on, over, wild, and_then, with_host, write_done, command_done, reading_done, line_of, prompt, asked, one_line, session_lines, most_input, at_start, ended_in, run_of, session}
+use Rattle.mx_con.specs.Session.{Console, Progress, Done, on, over, wild, and_then, with_host, write_done, steps_left, runs, command_done, with_reading, reading_done, line_of, prompt, asked, one_line, session_lines, most_input, at_start, SessionEnded, session_ended, ended_in, run_of, session}
 use Rattle.mx_cmd.specs.declared.command.Command.{Command}
 use Rattle.mx_cmd.specs.declared.command.Command.TheVariants as command
 use Rattle.mx_con.specs.declared.end.SessionEnd.{SessionEnd}
 use Rattle.mx_con.specs.declared.end.SessionEnd.TheVariants.{Limit, Quit}
 use Rattle.mx_con.specs.declared.judgement.Bad.TheVariants.{UnknownCommand}
-use Rattle.mx_con.proofs.Besides.{Beside, Follows, follows, line-beside, beside-over}
+use Rattle.mx_plan.specs.Plan.{end_of}
+use Rattle.mx_plan.specs.Calls.{host}
+use Rattle.mx_con.specs.LinePlans.{asking_plan}
+use Rattle.mx_con.specs.SessionPlans.{SessionWorld, conversing, with_left, one_line_plan}
+use Rattle.mx_con.specs.declared.dialog.Dialog.{Dialog}
+use Rattle.mx_con.proofs.SessionJoins.{IsOver, Any, dialog_at, world_at, console_in, part-front, joined-in, joined-over, asked-on, asked-over, one-line-joins}
+use Rattle.mx_con.proofs.Besides.{Beside, as_list, Follows, follows, line-beside, beside-over, over-listed}
 use Rattle.mx_con.proofs.ListedReplies.{answered-beside}
 use Rattle.mx_con.proofs.ListedRuns.{stepped-beside}
 
@@ -62,22 +68,62 @@ command-goes steps c (Some (command.Trace a)) p h u g e = by-answer _ p _ e (ans
 command-goes steps c (Some (command.Untrace a)) p h u g e = by-answer _ p _ e (answered-beside c h.window (command.Untrace a) h.machine u)
 command-goes steps c (Some command.Flags) p h u g e = by-answer _ p _ e (answered-beside c h.window command.Flags h.machine u)
 
+-- the command that goes on is its runs
+pub continue-goes : (steps : ℕ) (c : Console) (line : Option Command) → line ≡ Some command.Continue →
+    PartGoesAsList (runs list_machine (steps_left steps (as_list_state c.state)) steps true (as_list_console c)) (runs window_machine (steps_left steps c.state) steps true c) →
+    PartGoesAsList (command_done list_machine steps (as_list_console c) line) (command_done window_machine steps c line)
+unfolding command_done
+continue-goes steps c line e h = rw e h
+
 abbrev on_text : ℕ → List ℕ → Console → Done
 on_text steps text c = command_done list_machine steps c (command_of (without_return text))
+
+abbrev own_text : ℕ → List ℕ → Console → Done
+own_text steps text c = command_done window_machine steps c (command_of (without_return text))
 
 line-asked : (steps : ℕ) (c : Console) (p : Progress (List ℕ)) → p ≡ asked c → one_line list_machine steps (as_list_console c) ≡ and_then (on_text steps) (as_list_progress p)
 unfolding one_line
 line-asked steps c p h = ap (λ q. and_then (on_text steps) q) (asked-listed c ∙ ap (λ q. as_list_progress q) (sym h))
 
-pub line-goes : (steps : ℕ) (c d : Console) (text : List ℕ) (line : Option Command) (p : Done) → on text d ≡ asked c → line ≡ command_of (without_return text) → HasWindow d.state →
-    d.state.touched ≡ false → (line ≡ Some command.Continue → PartGoesAsList (command_done list_machine steps (as_list_console d) line) p) →
-    p ≡ command_done window_machine steps d line → PartGoesAsList (one_line list_machine steps (as_list_console c)) p
-line-goes steps c d text line p h k w u g e =
-    subst (λ (q : Done). PartGoesAsList q p) (sym (line-asked steps c (on text d) h ∙ ap (λ x. command_done list_machine steps (as_list_console d) x) (sym k)))
-    (command-goes steps d line p w u g e)
+own-asked : (steps : ℕ) (c : Console) (p : Progress (List ℕ)) → p ≡ asked c → one_line window_machine steps c ≡ and_then (own_text steps) p
+unfolding one_line
+own-asked steps c p h = ap (λ q. and_then (own_text steps) q) (sym h)
 
-pub line-ends : (steps : ℕ) (c d : Console) (end : SessionEnd) → over end d ≡ asked c → d.state.touched ≡ false → PartGoesAsList (one_line list_machine steps (as_list_console c)) (over end d)
-line-ends steps c d end h u = subst (λ (q : Done). PartGoesAsList q (over end d)) (sym (line-asked steps c (over end d) h)) (refl, u)
+read-untouched : (c : Console) (t : Reading) → c.state.touched ≡ false → IsUntouched (reading_done c t)
+read-untouched c (Ok text, left, m) u = u
+read-untouched c (Err end, left, m) u = u
+
+prompted-untouched : (c : Console) (w : Written) → c.state.touched ≡ false → IsUntouched (and_then line_of (write_done tt c w))
+prompted-untouched c (Ok v, m) u = read-untouched (with_host c m) (line_read c.left [] m) u
+prompted-untouched c (Err end, m) u = u
+
+asked-untouched : (c : Console) → c.state.touched ≡ false → IsUntouched (asked c)
+unfolding asked
+asked-untouched c u = prompted-untouched c (text_write c.host prompt) u
+
+-- a line that is read is carried out
+pub line-goes : (steps left : ℕ) (c : Console) (text : List ℕ) (line : Option Command) (n : HostModel) → (Ok (text, left), n) ≡ end_of host (asking_plan c.left) c.host →
+    line ≡ command_of (without_return text) → HasWindow c.state → c.state.touched ≡ false →
+    (line ≡ Some command.Continue → PartGoesAsList (command_done list_machine steps (as_list_console (with_reading c left n)) line) (command_done window_machine steps (with_reading c left n) line)) →
+    PartGoesAsList (one_line list_machine steps (as_list_console c)) (one_line window_machine steps c)
+line-goes steps left c text line n h k w u g =
+    let d = with_reading c left n in
+    let at = asked-on c text left n h in
+    subst (λ (p : Done). PartGoesAsList (one_line list_machine steps (as_list_console c)) p) (sym (own-asked steps c (on text d) (sym at) ∙ ap (λ x. command_done window_machine steps d x) (sym k)))
+    (subst (λ (q : Done). PartGoesAsList q (command_done window_machine steps d line)) (sym (line-asked steps c (on text d) (sym at) ∙ ap (λ x. command_done list_machine steps (as_list_console d) x) (sym k)))
+    (command-goes steps d line (command_done window_machine steps d line) w u g refl))
+
+-- a line that is not read ends the session
+ends-by : (steps : ℕ) (c : Console) (p : Progress (List ℕ)) → p ≡ asked c → IsOver p → IsUntouched p → PartGoesAsList (one_line list_machine steps (as_list_console c)) (one_line window_machine steps c)
+ends-by steps c (on text d) h i u = absurd i
+ends-by steps c (over end d) h i u =
+    subst (λ (p : Done). PartGoesAsList (one_line list_machine steps (as_list_console c)) p) (sym (own-asked steps c (over end d) h))
+    (subst (λ (q : Done). PartGoesAsList q (over end d)) (sym (line-asked steps c (over end d) h)) (refl, u))
+ends-by steps c (wild m) h i u = absurd i
+
+pub line-ends : (steps : ℕ) (c : Console) (end : SessionEnd) (n : HostModel) → (Err end, n) ≡ end_of host (asking_plan c.left) c.host → c.state.touched ≡ false →
+    PartGoesAsList (one_line list_machine steps (as_list_console c)) (one_line window_machine steps c)
+line-ends steps c end n h u = ends-by steps c (asked c) refl (asked-over c end n h) (asked-untouched c u)
 
 -- ---- ALL LINES
 
@@ -98,24 +144,56 @@ lines-none k i steps c l = let e : k - i ≡ 0 = omega arith in rw e refl
 abbrev pub LinesFrom : Done → ℕ → ℕ → ℕ → Console → Type 0
 LinesFrom whole k i steps c = Beside whole (session_lines (k - i) list_machine steps (as_list_console c)) c
 
-abbrev pub LineListed : ℕ → Console → Done → Type 0
-LineListed steps c p = c.state.touched ≡ false → PartGoesAsList (one_line list_machine steps (as_list_console c)) p
+none-left : (k i steps : ℕ) (c : Console) → k ≤ i → session_lines (k - i) window_machine steps c ≡ over Limit c
+unfolding session_lines
+none-left k i steps c l = let e : k - i ≡ 0 = omega arith in rw e refl
 
-lines-follow : (whole : Done) (k i steps : ℕ) (c : Console) (p : Done) → i < k → LineListed steps c p → IsFront c.host.output (output_of p) →
-    LinesFrom whole k i steps c → Follows whole (next-lines k i steps) p
-lines-follow whole k i steps c p l g f b =
-    follows whole _ (next-lines k i steps) (one_line list_machine steps (as_list_console c)) p c (lines-next k i steps (as_list_console c) l) g f b
+abbrev own_lines : ℕ → ℕ → ℕ → Unit {0} → Console → Done
+own_lines k i steps u d = session_lines (k - (i + 1)) window_machine steps d
 
-pub lines-went : (whole : Done) (k i steps : ℕ) (c d : Console) → i < k → LineListed steps c (on tt d) → IsFront c.host.output d.host.output →
-    LinesFrom whole k i steps c → LinesFrom whole k (i + 1) steps d
-lines-went whole k i steps c d l g f b = lines-follow whole k i steps c (on tt d) l g f b
+own-next : (k i steps : ℕ) (c : Console) → i < k → session_lines (k - i) window_machine steps c ≡ and_then (own_lines k i steps) (one_line window_machine steps c)
+unfolding session_lines
+own-next k i steps c l = rw (left-after k i l) refl
 
-pub lines-ended : (whole : Done) (k i steps : ℕ) (end : SessionEnd) (c d : Console) → i < k → LineListed steps c (over end d) → IsFront c.host.output d.host.output →
-    LinesFrom whole k i steps c → PartGoesAsList whole (over end d)
-lines-ended whole k i steps end c d l g f b = lines-follow whole k i steps c (over end d) l g f b
+-- the line that is read next goes as that of the list machine
+abbrev pub LineListed : ℕ → Console → Type 0
+LineListed steps c = c.state.touched ≡ false → PartGoesAsList (one_line list_machine steps (as_list_console c)) (one_line window_machine steps c)
 
-pub lines-limited : (whole : Done) (k i steps : ℕ) (c : Console) → k ≤ i → LinesFrom whole k i steps c → PartGoesAsList whole (over Limit c)
-lines-limited whole k i steps c l b = beside-over whole _ Limit c (lines-none k i steps (as_list_console c) l) b
+abbrev pub LineAnswers : ℕ → Console → Result Dialog SessionEnd → SessionWorld → Type 0
+LineAnswers steps c r w = (r, w) ≡ end_of conversing (one_line_plan steps (with_left c.left c.shown)) (world_at c)
+
+lines-follow : (whole : Done) (k i steps : ℕ) (c : Console) → i < k → LineListed steps c → LinesFrom whole k i steps c → Follows whole (next-lines k i steps) (one_line window_machine steps c)
+lines-follow whole k i steps c l g b =
+    follows whole _ (next-lines k i steps) (one_line list_machine steps (as_list_console c)) (one_line window_machine steps c) c (lines-next k i steps (as_list_console c) l) g
+    (part-front dialog_at Any (one_line_plan steps (with_left c.left c.shown)) c (one_line window_machine steps c) (one-line-joins steps c)) b
+
+pub lines-went : (whole : Done) (k i steps : ℕ) (c : Console) (d : Dialog) (w : SessionWorld) → i < k → LineListed steps c → LineAnswers steps c (Ok d) w →
+    LinesFrom whole k i steps c → LinesFrom whole k (i + 1) steps (console_in d w)
+lines-went whole k i steps c d w l g e b =
+    subst (λ (p : Done). Follows whole (next-lines k i steps) p) (joined-in d w _ (one_line window_machine steps c) (one-line-joins steps c) e) (lines-follow whole k i steps c l g b)
+
+pub lines-same : (k i steps : ℕ) (c : Console) (d : Dialog) (w : SessionWorld) → i < k → LineAnswers steps c (Ok d) w →
+    session_lines (k - i) window_machine steps c ≡ session_lines (k - (i + 1)) window_machine steps (console_in d w)
+lines-same k i steps c d w l e =
+    own-next k i steps c l ∙ ap (λ (p : Done). and_then (own_lines k i steps) p) (joined-in d w _ (one_line window_machine steps c) (one-line-joins steps c) e)
+
+pub lines-ended : (whole : Done) (k i steps : ℕ) (end : SessionEnd) (c : Console) (w : SessionWorld) → i < k → LineListed steps c → LineAnswers steps c (Err end) w →
+    LinesFrom whole k i steps c → PartGoesAsList whole (session_lines (k - i) window_machine steps c)
+lines-ended whole k i steps end c w l g e b =
+    subst (λ (p : Done). PartGoesAsList whole p) (sym (own-next k i steps c l))
+    (over-listed whole (next-lines k i steps) (own_lines k i steps) (one_line window_machine steps c)
+    (joined-over dialog_at Any end w _ (one_line window_machine steps c) (one-line-joins steps c) e) (lines-follow whole k i steps c l g b))
+
+pub lines-limited : (whole : Done) (k i steps : ℕ) (c : Console) → k ≤ i → LinesFrom whole k i steps c → PartGoesAsList whole (session_lines (k - i) window_machine steps c)
+lines-limited whole k i steps c l b =
+    subst (λ (p : Done). PartGoesAsList whole p) (sym (none-left k i steps c l)) (beside-over whole _ Limit c (lines-none k i steps (as_list_console c) l) b)
+
+-- where the first line begins
+pub lines-start : (k steps : ℕ) (c : Console) → session_lines k window_machine steps c ≡ session_lines (k - 0) window_machine steps c
+lines-start k steps c = let all : k - 0 ≡ k = omega arith in rw all refl
+
+pub lines-begun : (k steps : ℕ) (c : Console) → c.state.touched ≡ false → LinesFrom (session_lines k list_machine steps (as_list_console c)) k 0 steps c
+lines-begun k steps c u = let all : k - 0 ≡ k = omega arith in rw all (as_list u refl)
 
 -- ---- SESSIONS
 
@@ -129,14 +207,17 @@ part-on (on u c) d h = subst (λ (x : Done). SessionGoesAsList (run_of x) (ended
 part-on (over e c) d h = subst (λ (x : Done). SessionGoesAsList (run_of x) (ended_in Limit d)) h.0 (refl, h.1)
 part-on (wild m) d h = h
 
-pub session-listed : (steps : ℕ) (s : State) (f : FlagsOf) (m : HostModel) (end : SessionEnd) (d : Console) →
-    PartGoesAsList (session_lines (most_input + 1) list_machine steps (as_list_console (at_start s f m))) (over end d) →
-    SessionGoesAsList (session list_machine steps (as_list_state s) f m) (ended_in end d)
-unfolding session
-session-listed steps s f m end d h = part-over (session_lines (most_input + 1) list_machine steps (as_list_console (at_start s f m))) end d h
+same-ended : (e f : SessionEnded) → session_ended e ≡ session_ended f → f ≡ e
+same-ended e f h = cc
 
-pub session-listed-on : (steps : ℕ) (s : State) (f : FlagsOf) (m : HostModel) (d : Console) →
-    PartGoesAsList (session_lines (most_input + 1) list_machine steps (as_list_console (at_start s f m))) (on tt d) →
-    SessionGoesAsList (session list_machine steps (as_list_state s) f m) (ended_in Limit d)
+part-ended : (q p : Done) (e : SessionEnded) → PartGoesAsList q p → session_ended e ≡ run_of p → SessionGoesAsList (run_of q) e
+part-ended q (on u c) e h k = subst (λ (x : SessionEnded). SessionGoesAsList (run_of q) x) (same-ended e (ended_in Limit c) k) (part-on q c h)
+part-ended q (over end c) e h k = subst (λ (x : SessionEnded). SessionGoesAsList (run_of q) x) (same-ended e (ended_in end c) k) (part-over q end c h)
+part-ended q (wild m) e h k = absurd (cc)
+
+pub session-listed : (steps : ℕ) (s : State) (f : FlagsOf) (m : HostModel) (e : SessionEnded) →
+    PartGoesAsList (session_lines (most_input + 1) list_machine steps (as_list_console (at_start s f m))) (session_lines (most_input + 1) window_machine steps (at_start s f m)) →
+    session_ended e ≡ session window_machine steps s f m → SessionGoesAsList (session list_machine steps (as_list_state s) f m) e
 unfolding session
-session-listed-on steps s f m d h = part-on (session_lines (most_input + 1) list_machine steps (as_list_console (at_start s f m))) d h
+session-listed steps s f m e h k =
+    part-ended (session_lines (most_input + 1) list_machine steps (as_list_console (at_start s f m))) (session_lines (most_input + 1) window_machine steps (at_start s f m)) e h k

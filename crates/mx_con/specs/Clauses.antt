@@ -1,46 +1,43 @@
 -- The words of clauses over a runner, a session and a host: `old` and `new` are what the host told before and after, r
 -- and s the runners, d and e what the session remembers.
-use Rattle.std.specs.Prelude.{ℕ, ◌≡◌, ◌≢◌, ◌≤◌, ◌+◌, ◌-◌, IsTrue, false, List, Option, Result, Ok, Err}
+use Rattle.std.specs.Prelude.{ℕ, ◌≡◌, ◌≢◌, ◌≤◌, ◌+◌, ◌-◌, IsTrue, false, List, Option, Result, Err}
 use Rattle.mx_word.specs.Lists.{IsFront}
 use Rattle.mx_host.specs.HostModel.{HostModel, tells, contents}
+use Rattle.mx_plan.specs.Plan.{Comes}
 use Rattle.mx_core.specs.Bounds.{as_list_state}
 use Rattle.mx_core.specs.Kept.{state_of}
 use Rattle.mx_run.specs.FlagMaps.{flags_at}
 use Rattle.mx_run.specs.Running.{Running}
 use Rattle.mx_core.specs.State.{State}
 use Rattle.mx_run.specs.Runs.{FlagsOf}
+use Rattle.mx_run.specs.WildRuns.{MachineKind, window_machine, list_machine}
 use Rattle.mx_con.specs.Session.{Console, Progress, on, over, wild, SessionEnded, SessionRun, session_ended, session_wild}
+use Rattle.mx_con.specs.SessionPlans.{SessionWorld, SessionPlan, conversing}
 use Rattle.mx_con.specs.declared.dialog.Dialog.{Dialog}
 use Rattle.mx_con.specs.declared.end.SessionEnd.{SessionEnd}
 use Rattle.mx_con.specs.declared.end.SessionEnd.TheVariants.{OutOfMemory}
+
+-- the machine, the host and the flags
+abbrev pub world_of : Running → Option HostModel → SessionWorld
+world_of r told = ((state_of r.machine, contents told), flags_at r.flags)
+
+-- Over a host that tells its contents, the plan is carried out: unless the answer is `none`, which is that of no memory, the
+-- answer, the machine, the flags and the contents are its end; where it is, the calls that were completed stay, and of one
+-- that lacked memory what it leaves then; nothing else changed.
+abbrev pub CarriesOutSession : {A : Type 0} → Option HostModel → Option HostModel → Running → Running → A → A → SessionPlan A → Type 0
+CarriesOutSession old new r s none result plan =
+    IsTrue (tells old) → Comes conversing (world_of r old) (world_of s new) none result plan
 
 -- what stands between two lines
 abbrev pub console_of : Running → Dialog → Option HostModel → Console
 console_of r d told =
     record { state = state_of r.machine; flags = flags_at r.flags; shown = d.shown; left = d.left; host = contents told }
 
-abbrev pub progress : {A : Type 0} → Result A SessionEnd → Console → Progress A
-progress (Ok x) c = on x c
-progress (Err end) c = over end c
-
 -- what standard output holds then
 abbrev pub output_of : {A : Type 0} → Progress A → List ℕ
 output_of (on x c) = c.host.output
 output_of (over end c) = c.host.output
 output_of (wild m) = m.output
-
--- over a host that tells its contents, the answer and what it leaves are those of f, unless there was no memory
-abbrev pub Goes : {A : Type 0} → Option HostModel → Option HostModel → Running → Running → Dialog → Dialog →
-    Result A SessionEnd → (Console → Progress A) → Type 0
-Goes old new r s d e result f =
-    IsTrue (tells old) → result ≢ Err OutOfMemory → progress result (console_of s e new) ≡ f (console_of r d old)
-
--- over a host that tells its contents, where there was no memory, what standard output then holds is a front of what f
--- gives it
-abbrev pub GoesFront : {A : Type 0} → Option HostModel → Option HostModel → Running → Dialog → Result A SessionEnd →
-    (Console → Progress A) → Type 0
-GoesFront old new r d result f =
-    IsTrue (tells old) → result ≡ Err OutOfMemory → IsFront (contents new).output (output_of (f (console_of r d old)))
 
 -- the count of steps is as it was, or has grown and is at most so many; so it is over every host, and out of memory too
 pub record StepsWithin (steps : ℕ) (s t : State) : Type 0 where
@@ -94,12 +91,12 @@ PartGoesAsList (on x c) p = (as_list_progress p ≡ on x c) × IsUntouched p
 PartGoesAsList (over end c) p = (as_list_progress p ≡ over end c) × IsUntouched p
 PartGoesAsList (wild m) p = IsFront m.output (output_of p)
 
--- over a host that tells its contents, from a state where nothing was touched, the part goes as f of the list machine
-abbrev pub PartsAsList : {A : Type 0} → Option HostModel → Option HostModel → Running → Running → Dialog → Dialog →
-    Result A SessionEnd → (Console → Progress A) → Type 0
-PartsAsList old new r s d e result f =
+-- over a host that tells its contents, from a state where nothing was touched, the part f of the window machine goes as that of
+-- the list machine
+abbrev pub PartsAsList : {A B : Type 0} → Option HostModel → Running → Dialog → Result B SessionEnd → (MachineKind → Console → Progress A) → Type 0
+PartsAsList old r d result f =
     IsTrue (tells old) → result ≢ Err OutOfMemory → (state_of r.machine).touched ≡ false →
-    PartGoesAsList (f (as_list_console (console_of r d old))) (progress result (console_of s e new))
+    PartGoesAsList (f list_machine (as_list_console (console_of r d old))) (f window_machine (console_of r d old))
 
 -- the same of a whole session
 abbrev pub as_list_session : SessionEnded → SessionEnded

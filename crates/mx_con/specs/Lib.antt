@@ -4,5 +4,7 @@ pub mod ConsoleTexts
 pub mod Replies
 pub mod HostLines
 pub mod Session
+pub mod LinePlans
+pub mod SessionPlans
 pub mod Clauses
 pub mod Told

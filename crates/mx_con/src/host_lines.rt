@@ -1,12 +1,15 @@
 //! Lines over the host: each is written by one call, and read byte by byte.
 
-ghost use Rattle.std.specs.Prelude.{IsTrue, ◌≡◌, ◌≢◌, ◌++◌, [], ◌∷◌, ◌<◌, ◌+◌, ◌-◌, Err, Ok, true};
-ghost use Rattle.mx_host.specs.HostModel.{tells, contents, Rose};
-ghost use Rattle.mx_host.specs.Keeping.{Answers, ComesByFault, Keeps, KeepsOutput};
+ghost use Rattle.std.specs.Prelude.{◌≡◌, ◌≢◌, [], ◌<◌, ◌+◌, ◌-◌, ◌==◌, Err, Ok, true, false};
+ghost use Rattle.mx_host.specs.Keeping.{ComesByFault};
+ghost use Rattle.mx_plan.specs.Clauses.{CarriesOut, Stands};
+ghost use Rattle.mx_word.specs.Results.{map_ok};
 ghost use Rattle.mx_con.specs.HostLines as spec;
+ghost use Rattle.mx_con.specs.LinePlans as plans;
 
 use crate::SessionEnd;
 use mx_host::{Host, HostFault};
+use mx_plan::{read, write};
 use mx_word::Bytes;
 use std::alloc::Global;
 
@@ -26,31 +29,28 @@ fn end_of(fault: HostFault) -> SessionEnd
 }
 
 /// Writes a text by one call.
-#[tactic(auto, unfolding(crate::specs::HostLines::text_write))]
+#[tactic(auto, using(mx_plan::proofs::Plans::plans), unfolding(crate::specs::LinePlans::text_plan))]
 pub(crate) fn write_text<H: Host>(host: &mut H, text: &[u8]) -> Result<(), SessionEnd>
-    ensures told { Answers (H.told host.old) (H.told host.new) (Err SessionEnd.OutOfMemory) result
-        (λ m. spec.text_write m text.now) }
+    ensures told { CarriesOut (H.told host.old) (H.told host.new) (Err SessionEnd.OutOfMemory) result
+        (plans.text_plan text.now) }
     ensures cause { ComesByFault (H.told host.old) (Err SessionEnd.HostFault) result
         (H.faults host.old) (H.faults host.new) }
-    ensures keeps { Keeps (H.told host.old) (H.told host.new) (H.faults host.old) (H.faults host.new) }
-    ensures unwritten { IsTrue (tells (H.told host.old)) → result ≡ Err SessionEnd.OutOfMemory →
-        (contents (H.told host.new)).output ≡ (contents (H.told host.old)).output }
+    ensures stands { Stands (H.told host.old) (H.told host.new) (H.faults host.old) (H.faults host.new) }
 {
-    match host.write_slot(OUTPUT, text) {
+    match write(host, OUTPUT, text) {
         Ok(()) => Ok(()),
         Err(fault) => Err(end_of(fault)),
     }
 }
 
 /// Writes a line and its newline by one call.
+#[tactic(auto, using(mx_plan::proofs::Plans::plans, mx_plan::proofs::Plans::needs), unfolding(crate::specs::LinePlans::line_plan))]
 pub(crate) fn write_line<H: Host>(host: &mut H, line: Bytes) -> Result<(), SessionEnd>
-    ensures told { Answers (H.told host.old) (H.told host.new) (Err SessionEnd.OutOfMemory) result
-        (λ m. spec.line_write m line) }
+    ensures told { CarriesOut (H.told host.old) (H.told host.new) (Err SessionEnd.OutOfMemory) result
+        (plans.line_plan line) }
     ensures cause { ComesByFault (H.told host.old) (Err SessionEnd.HostFault) result
         (H.faults host.old) (H.faults host.new) }
-    ensures keeps { Keeps (H.told host.old) (H.told host.new) (H.faults host.old) (H.faults host.new) }
-    ensures unwritten { IsTrue (tells (H.told host.old)) → result ≡ Err SessionEnd.OutOfMemory →
-        (contents (H.told host.new)).output ≡ (contents (H.told host.old)).output }
+    ensures stands { Stands (H.told host.old) (H.told host.new) (H.faults host.old) (H.faults host.new) }
 {
     let mut line = line;
     match line.push(b'\n') {
@@ -60,16 +60,15 @@ pub(crate) fn write_line<H: Host>(host: &mut H, line: Bytes) -> Result<(), Sessi
 }
 
 /// The next byte of the console's input; None at its end.
-#[tactic(auto, using(crate::proofs::LineReads::bytes), unfolding(crate::specs::HostLines::byte_read))]
+#[tactic(auto, using(crate::proofs::LineReads::bytes, mx_plan::proofs::Plans::plans), unfolding(crate::specs::LinePlans::byte_plan))]
 fn read_byte<H: Host>(host: &mut H) -> Result<Option<u8>, SessionEnd>
-    ensures told { Answers (H.told host.old) (H.told host.new) (Err SessionEnd.OutOfMemory) result spec.byte_read }
+    ensures told { CarriesOut (H.told host.old) (H.told host.new) (Err SessionEnd.OutOfMemory) result plans.byte_plan }
     ensures cause { ComesByFault (H.told host.old) (Err SessionEnd.HostFault) result
         (H.faults host.old) (H.faults host.new) }
-    ensures keeps { Keeps (H.told host.old) (H.told host.new) (H.faults host.old) (H.faults host.new) }
-    ensures output { KeepsOutput (H.told host.old) (H.told host.new) }
+    ensures stands { Stands (H.told host.old) (H.told host.new) (H.faults host.old) (H.faults host.new) }
 {
     let mut byte = [0u8; 1];
-    match host.read_slot(INPUT, &mut byte) {
+    match read(host, INPUT, &mut byte) {
         Ok(0) => Ok(None),
         Ok(_) => Ok(Some(byte[0])),
         Err(fault) => Err(end_of(fault)),
@@ -77,15 +76,14 @@ fn read_byte<H: Host>(host: &mut H) -> Result<Option<u8>, SessionEnd>
 }
 
 /// Reads one more byte of a line: whether more of it follows, or the end of the session.
+#[tactic(auto, using(mx_plan::proofs::Plans::plans, mx_plan::proofs::Plans::needs), unfolding(crate::specs::LinePlans::grown_plan))]
 fn grow<H: Host>(host: &mut H, line: &mut Bytes, left: &mut u64) -> Result<bool, SessionEnd>
     requires { 0 < left.old }
-    ensures told { IsTrue (tells (H.told host.old)) → result ≢ Err SessionEnd.OutOfMemory →
-        (result, line.new, left.new, contents (H.told host.new)) ≡
-        spec.grown (left.old - 1) line.old (contents (H.told host.old)) }
+    ensures told { CarriesOut (H.told host.old) (H.told host.new) (Err SessionEnd.OutOfMemory)
+        (map_ok (λ more. (more, line.new, left.new)) result) (plans.grown_plan (left.old - 1) line.old) }
     ensures cause { ComesByFault (H.told host.old) (Err SessionEnd.HostFault) result
         (H.faults host.old) (H.faults host.new) }
-    ensures keeps { Keeps (H.told host.old) (H.told host.new) (H.faults host.old) (H.faults host.new) }
-    ensures output { KeepsOutput (H.told host.old) (H.told host.new) }
+    ensures stands { Stands (H.told host.old) (H.told host.new) (H.faults host.old) (H.faults host.new) }
     ensures fewer { result ≡ Ok true → left.new + 1 ≡ left.old }
 {
     match read_byte(host) {
@@ -102,6 +100,7 @@ fn grow<H: Host>(host: &mut H, line: &mut Bytes, left: &mut u64) -> Result<bool,
 fn add_byte(line: &mut Bytes, b: u8) -> Result<bool, SessionEnd>
     ensures told { result ≢ Err SessionEnd.OutOfMemory → spec.Added b line.old line.new result }
     ensures cause { result ≢ Err SessionEnd.HostFault }
+    ensures lacking { result ≡ Err SessionEnd.OutOfMemory → (b == 10) ≡ false }
 {
     if b == b'\n' {
         return Ok(false);
@@ -130,12 +129,11 @@ pub(crate) fn read_line<H: Host>(
     host: &mut H,
     left: &mut u64,
 ) -> Result<Bytes, SessionEnd>
-    ensures told { IsTrue (tells (H.told host.old)) → result ≢ Err SessionEnd.OutOfMemory →
-        (result, left.new, contents (H.told host.new)) ≡ spec.line_read left.old [] (contents (H.told host.old)) }
+    ensures told { CarriesOut (H.told host.old) (H.told host.new) (Err SessionEnd.OutOfMemory)
+        (map_ok (λ text. (text, left.new)) result) (plans.reading_plan left.old []) }
     ensures cause { ComesByFault (H.told host.old) (Err SessionEnd.HostFault) result
         (H.faults host.old) (H.faults host.new) }
-    ensures keeps { Keeps (H.told host.old) (H.told host.new) (H.faults host.old) (H.faults host.new) }
-    ensures output { KeepsOutput (H.told host.old) (H.told host.new) }
+    ensures stands { Stands (H.told host.old) (H.told host.new) (H.faults host.old) (H.faults host.new) }
 {
     let mut line = Bytes::new(alloc);
     while *left > 0 {

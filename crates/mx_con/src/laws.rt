@@ -2,10 +2,14 @@
 
 ghost use Rattle.std.specs.Prelude.{◌≡◌, ℕ, true};
 ghost use Rattle.mx_host.specs.HostModel.{HostModel};
+ghost use Rattle.mx_plan.specs.Held.{KeepsStreams, OnlyAdds};
+ghost use Rattle.mx_plan.specs.Plan.{Stops, end_of};
 ghost use Rattle.mx_core.specs.State.{State};
 ghost use Rattle.mx_run.specs.Runs.{FlagsOf};
-ghost use Rattle.mx_run.specs.WildRuns.{MachineKind};
-ghost use Rattle.mx_con.specs.Session.{session};
+ghost use Rattle.mx_run.specs.WildRuns.{MachineKind, window_machine};
+ghost use Rattle.mx_con.specs.Session.{session, session_ended};
+ghost use Rattle.mx_con.specs.SessionPlans.{SessionPlan, SessionWorld, conversing, ended_session, session_plan};
+ghost use Rattle.mx_con.specs.declared.end.SessionEnd.{SessionEnd};
 ghost use Rattle.mx_con.specs.Told.{is_told};
 
 /// A session ends as the program, the machine, its bounds, the user or the host make it end, or meets
@@ -15,4 +19,18 @@ ghost use Rattle.mx_con.specs.Told.{is_told};
 pub fn sessions_end_by_themselves()
     ensures { (kind : MachineKind) (steps : ℕ) (s : State) (f : FlagsOf) (m : HostModel) →
         is_told (session kind steps s f m) ≡ true }
+{}
+
+/// A session is what its plan comes to. Where a plan over such calls stops for want of memory, it only
+/// added to standard output, and what stands there is a front of what would stand there at its end; the
+/// slots of the tool lead where they led.
+#[tactic(auto, using(crate::proofs::HeldSessions::laws, crate::proofs::SessionJoins::ends))]
+pub fn sessions_are_their_plans()
+    ensures ending { (steps : ℕ) (s : State) (f : FlagsOf) (m : HostModel)
+        → session_ended (ended_session (end_of conversing (session_plan steps) ((s, m), f)))
+        ≡ session window_machine steps s f m }
+    ensures stopping { (p : SessionPlan SessionEnd) (v w : SessionWorld) → Stops conversing v p w
+        → KeepsStreams w.0.1 v.0.1 }
+    ensures front { (p : SessionPlan SessionEnd) (v w : SessionWorld) → Stops conversing v p w
+        → OnlyAdds v.0.1 (end_of conversing p w).1.0.1 }
 {}

@@ -1,11 +1,11 @@
 //! Lines on several octas and tetras.
 
-ghost use Rattle.std.specs.Prelude.{IsTrue, ◌≡◌, ◌<◌, ◌≤◌, ◌+◌, ◌*◌, ◌^◌, Err};
-ghost use Rattle.mx_host.specs.HostModel.{tells, contents};
-ghost use Rattle.mx_host.specs.Keeping.{Answers, ComesByFault, Keeps, WritesFront};
+ghost use Rattle.std.specs.Prelude.{◌<◌, ◌+◌, ◌*◌, ◌^◌, Err};
+ghost use Rattle.mx_host.specs.Keeping.{ComesByFault};
+ghost use Rattle.mx_plan.specs.Clauses.{CarriesOut, Stands};
 ghost use Rattle.mx_core.specs.Kept.{state_of};
 ghost use Rattle.mx_run.specs.FlagMaps.{flags_at};
-ghost use Rattle.mx_con.specs.HostLines.{line_write, lines_write};
+ghost use Rattle.mx_con.specs.LinePlans.{line_plan, lines_plan};
 ghost use Rattle.mx_con.specs.ConsoleTexts.{flag_text};
 ghost use Rattle.mx_con.specs.Subjects as subjects;
 ghost use Rattle.mx_con.specs.Replies as spec;
@@ -32,13 +32,11 @@ pub(crate) fn write_octas<H: Host>(
     n: u64,
 ) -> Result<(), SessionEnd>
     requires { a + 8 * n < 2 ^ 63 }
-    ensures told { Answers (H.told host.old) (H.told host.new) (Err SessionEnd.OutOfMemory) result
-        (λ m. lines_write (spec.octas_after (state_of machine.now) form a n) m) }
-    ensures front { WritesFront (H.told host.old) (H.told host.new) (Err SessionEnd.OutOfMemory) result
-        (λ m. lines_write (spec.octas_after (state_of machine.now) form a n) m) }
+    ensures told { CarriesOut (H.told host.old) (H.told host.new) (Err SessionEnd.OutOfMemory) result
+        (lines_plan (spec.octas_after (state_of machine.now) form a n)) }
     ensures cause { ComesByFault (H.told host.old) (Err SessionEnd.HostFault) result
         (H.faults host.old) (H.faults host.new) }
-    ensures keeps { Keeps (H.told host.old) (H.told host.new) (H.faults host.old) (H.faults host.new) }
+    ensures stands { Stands (H.told host.old) (H.told host.new) (H.faults host.old) (H.faults host.new) }
 {
     for turn in 0..n {
         match write_octa(alloc, machine, host, form, a + 8 * (turn + 1)) {
@@ -50,6 +48,7 @@ pub(crate) fn write_octas<H: Host>(
 }
 
 /// Writes the octa at an address.
+#[tactic(auto, using(crate::proofs::LineEnds::lacking))]
 fn write_octa<H: Host>(
     alloc: Global,
     machine: &Machine,
@@ -58,13 +57,11 @@ fn write_octa<H: Host>(
     a: u64,
 ) -> Result<(), SessionEnd>
     requires { a < 2 ^ 63 }
-    ensures told { Answers (H.told host.old) (H.told host.new) (Err SessionEnd.OutOfMemory) result
-        (λ m. line_write m (subjects.shown_line (state_of machine.now) (Subject.Memory a) form)) }
+    ensures told { CarriesOut (H.told host.old) (H.told host.new) (Err SessionEnd.OutOfMemory) result
+        (line_plan (subjects.shown_line (state_of machine.now) (Subject.Memory a) form)) }
     ensures cause { ComesByFault (H.told host.old) (Err SessionEnd.HostFault) result
         (H.faults host.old) (H.faults host.new) }
-    ensures keeps { Keeps (H.told host.old) (H.told host.new) (H.faults host.old) (H.faults host.new) }
-    ensures unwritten { IsTrue (tells (H.told host.old)) → result ≡ Err SessionEnd.OutOfMemory →
-        (contents (H.told host.new)).output ≡ (contents (H.told host.old)).output }
+    ensures stands { Stands (H.told host.old) (H.told host.new) (H.faults host.old) (H.faults host.new) }
 {
     write_line(host, shown_line(alloc, machine, Subject::Memory(a), form)?)
 }
@@ -76,13 +73,11 @@ pub(crate) fn write_flags<H: Host>(
     runner: &Runner,
     host: &mut H,
 ) -> Result<(), SessionEnd>
-    ensures told { Answers (H.told host.old) (H.told host.new) (Err SessionEnd.OutOfMemory) result
-        (λ m. lines_write (spec.flag_lines (flags_at runner.now.flags) 0 spec.tetra_count) m) }
-    ensures front { WritesFront (H.told host.old) (H.told host.new) (Err SessionEnd.OutOfMemory) result
-        (λ m. lines_write (spec.flag_lines (flags_at runner.now.flags) 0 spec.tetra_count) m) }
+    ensures told { CarriesOut (H.told host.old) (H.told host.new) (Err SessionEnd.OutOfMemory) result
+        (lines_plan (spec.flag_lines (flags_at runner.now.flags) 0 spec.tetra_count)) }
     ensures cause { ComesByFault (H.told host.old) (Err SessionEnd.HostFault) result
         (H.faults host.old) (H.faults host.new) }
-    ensures keeps { Keeps (H.told host.old) (H.told host.new) (H.faults host.old) (H.faults host.new) }
+    ensures stands { Stands (H.told host.old) (H.told host.new) (H.faults host.old) (H.faults host.new) }
 {
     let mut tetra: u64 = 0;
     while tetra < 1 << 62 {
@@ -98,15 +93,14 @@ pub(crate) fn write_flags<H: Host>(
 }
 
 /// Writes the line of a tetra with flags.
+#[tactic(auto, using(crate::proofs::LineEnds::lacking))]
 fn write_flag<H: Host>(alloc: Global, host: &mut H, a: u64, flags: Flags) -> Result<(), SessionEnd>
-    ensures told { Answers (H.told host.old) (H.told host.new) (Err SessionEnd.OutOfMemory) result
-        (λ m. line_write m (flag_text a flags)) }
+    ensures told { CarriesOut (H.told host.old) (H.told host.new) (Err SessionEnd.OutOfMemory) result
+        (line_plan (flag_text a flags)) }
     ensures address { a < 2 ^ 64 }
     ensures cause { ComesByFault (H.told host.old) (Err SessionEnd.HostFault) result
         (H.faults host.old) (H.faults host.new) }
-    ensures keeps { Keeps (H.told host.old) (H.told host.new) (H.faults host.old) (H.faults host.new) }
-    ensures unwritten { IsTrue (tells (H.told host.old)) → result ≡ Err SessionEnd.OutOfMemory →
-        (contents (H.told host.new)).output ≡ (contents (H.told host.old)).output }
+    ensures stands { Stands (H.told host.old) (H.told host.new) (H.faults host.old) (H.faults host.new) }
 {
     write_line(host, flag_line(alloc, a, flags)?)
 }

@@ -1,23 +1,35 @@
 use Rattle.std.proofs.Common.{◌≡◌, ◌∙◌, sym, ap, subst, IsTrue}
-use Rattle.mx_con.specs.Clauses.{console_of}
+use Rattle.mx_con.specs.Clauses.{console_of, world_of}
+use Rattle.mx_con.specs.Session.{command_done}
 use Rattle.mx_cmd.specs.Commands.{command_of}
 use Rattle.mx_con.specs.HostLines.{without_return}
-use Rattle.mx_con.proofs.ListedSessions.{line-goes, line-ends}
+use Rattle.mx_con.proofs.ListedSessions.{line-goes, line-ends, continue-goes}
+use Rattle.mx_con.proofs.SessionSteps.{line-carried, line-over}
 use Rattle.mx_con.proofs.sessions.one_line.Goals as goal
 
-pub returns-in-Ok-clause-listed : goal.returns-in-Ok-clause-listed
-returns-in-Ok-clause-listed g c = λ t ne u.
-    let here = subst IsTrue (sym c.in-Ok.ensures.keeps.telling) t in
+pub returns-in-Ok-clause-told : goal.returns-in-Ok-clause-told
+returns-in-Ok-clause-told g c = λ t.
+    let here = subst IsTrue (sym c.in-Ok.ensures.stands.0) t in
     let read = c.as_slice.ensures in
     let view = c.line.view_is in
     let seen : c.as_slice.result.now ≡ c.in-Ok.line = cc in
-    line-goes c.args.steps (console_of c.args.runner.now c.args.dialog.now (g.H.Host.told c.args.host.now))
-    (console_of c.args.runner.now c.ask.new.dialog (g.H.Host.told c.ask.new.host)) _ c.command_of-command.result _
-    (c.in-Ok.ensures.told t (λ e. absurd (cc)))
+    line-carried c.args.steps _ _ _ _ _ c.command_of-command.result _ _ _ _ _ c.carry_out.result (c.in-Ok.ensures.told t)
+    (c.command_of-command.ensures ∙ ap command_of (c.without_return.ensures ∙ ap without_return seen)) (c.carry_out.ensures.told here)
+
+pub returns-in-Err-clause-told : goal.returns-in-Err-clause-told
+returns-in-Err-clause-told g c = λ t. line-over c.args.steps _ _ c.in-Err.end _ _ _ _ (c.in-Err.ensures.told t)
+
+pub returns-in-Ok-clause-listed : goal.returns-in-Ok-clause-listed
+returns-in-Ok-clause-listed g c = λ t ne u.
+    let here = subst IsTrue (sym c.in-Ok.ensures.stands.0) t in
+    let read = c.as_slice.ensures in
+    let view = c.line.view_is in
+    let seen : c.as_slice.result.now ≡ c.in-Ok.line = cc in
+    line-goes c.args.steps _ (console_of c.args.runner.now c.args.dialog.now (g.H.Host.told c.args.host.now)) _ c.command_of-command.result _
+    ((c.in-Ok.ensures.told t).ending (λ e. absurd (cc)))
     (c.command_of-command.ensures ∙ ap command_of (c.without_return.ensures ∙ ap without_return seen))
-    c.know_window.ensures u (λ k. c.carry_out.ensures.runs k here ne u) (c.carry_out.ensures.told here ne)
+    c.know_window.ensures u (λ k. continue-goes c.args.steps _ c.command_of-command.result k (c.carry_out.ensures.runs k _ here ne u))
 
 pub returns-in-Err-clause-listed : goal.returns-in-Err-clause-listed
 returns-in-Err-clause-listed g c = λ t ne u.
-    line-ends c.args.steps (console_of c.args.runner.now c.args.dialog.now (g.H.Host.told c.args.host.now))
-    (console_of c.args.runner.now c.ask.new.dialog (g.H.Host.told c.ask.new.host)) c.in-Err.end (c.in-Err.ensures.told t (λ e. ne (cc))) u
+    line-ends c.args.steps (console_of c.args.runner.now c.args.dialog.now (g.H.Host.told c.args.host.now)) c.in-Err.end _ ((c.in-Err.ensures.told t).ending (λ e. ne (cc))) u

@@ -1,23 +1,40 @@
 use Rattle.std.proofs.Common.{sym}
+use Rattle.std.specs.Prelude.{IsTrue}
 use Rattle.mx_core.specs.Kept.{state_of}
 use Rattle.mx_host.specs.HostModel.{contents}
 use Rattle.mx_run.specs.FlagMaps.{flags_at}
-use Rattle.mx_con.specs.Clauses.{console_of}
-use Rattle.mx_con.proofs.ListedSessions.{session-listed, session-listed-on}
-use Rattle.mx_con.proofs.SessionLines.{session-on}
+use Rattle.mx_con.proofs.ListedSessions.{session-listed}
+use Rattle.mx_con.proofs.SessionClauses.{session-told, session-begun, session-keeps}
+use Rattle.mx_con.proofs.SessionSteps.{session-over, session-limit}
 use Rattle.mx_con.proofs.sessions.session.Goals as goal
 
+pub returns-in-Ok-clause-plan : goal.returns-in-Ok-clause-plan
+returns-in-Ok-clause-plan g c = λ t. session-limit c.args.steps _ _ _ (c.in-Ok.ensures.told t)
+
+pub returns-in-Err-clause-plan : goal.returns-in-Err-clause-plan
+returns-in-Err-clause-plan g c = λ t. session-over c.args.steps c.in-Err.end _ _ (c.in-Err.ensures.told t)
+
 pub returns-in-Ok-clause-told : goal.returns-in-Ok-clause-told
-returns-in-Ok-clause-told g c = λ t ne.
-    sym (session-on c.args.steps (state_of c.args.runner.now.machine) (flags_at c.args.runner.now.flags) (contents (g.H.Host.told c.args.host.now)) _
-    (c.in-Ok.ensures.told t (λ e. absurd (cc))))
+returns-in-Ok-clause-told g c = λ t ne. session-told c.args.steps _ _ _ _ _ _ _ (session-limit c.args.steps _ _ _ (c.in-Ok.ensures.told t)) ne
+
+pub returns-in-Err-clause-told : goal.returns-in-Err-clause-told
+returns-in-Err-clause-told g c = λ t ne. session-told c.args.steps _ _ _ _ _ _ _ (session-over c.args.steps c.in-Err.end _ _ (c.in-Err.ensures.told t)) ne
+
+pub returns-in-Err-clause-front : goal.returns-in-Err-clause-front
+returns-in-Err-clause-front g c = λ t e. session-begun c.args.steps _ _ _ _ _ _ _ (session-over c.args.steps c.in-Err.end _ _ (c.in-Err.ensures.told t)) e
+
+pub returns-in-Ok-clause-keeps : goal.returns-in-Ok-clause-keeps
+returns-in-Ok-clause-keeps g c = session-keeps _ _ _ _ c.args.steps _ _ _ _ _ (λ t. session-limit c.args.steps _ _ _ (c.in-Ok.ensures.told t)) c.in-Ok.ensures.stands
+
+pub returns-in-Err-clause-keeps : goal.returns-in-Err-clause-keeps
+returns-in-Err-clause-keeps g c = session-keeps _ _ _ _ c.args.steps _ _ _ _ _ (λ t. session-over c.args.steps c.in-Err.end _ _ (c.in-Err.ensures.told t)) c.in-Err.ensures.stands
 
 pub returns-in-Ok-clause-listed : goal.returns-in-Ok-clause-listed
 returns-in-Ok-clause-listed g c = λ t ne u.
-    session-listed-on c.args.steps (state_of c.args.runner.now.machine) (flags_at c.args.runner.now.flags) (contents (g.H.Host.told c.args.host.now))
-    (console_of c.all_lines.new.runner c.all_lines.new.dialog (g.H.Host.told c.all_lines.new.host)) (c.in-Ok.ensures.listed t (λ e. absurd (cc)) u)
+    session-listed c.args.steps _ _ _ _ (c.in-Ok.ensures.listed t (λ e. absurd (cc)) u)
+    (session-told c.args.steps _ _ _ _ _ _ _ (session-limit c.args.steps _ _ _ (c.in-Ok.ensures.told t)) ne)
 
 pub returns-in-Err-clause-listed : goal.returns-in-Err-clause-listed
 returns-in-Err-clause-listed g c = λ t ne u.
-    session-listed c.args.steps (state_of c.args.runner.now.machine) (flags_at c.args.runner.now.flags) (contents (g.H.Host.told c.args.host.now)) c.in-Err.end
-    (console_of c.all_lines.new.runner c.all_lines.new.dialog (g.H.Host.told c.all_lines.new.host)) (c.in-Err.ensures.listed t (λ e. ne (cc)) u)
+    session-listed c.args.steps _ _ _ _ (c.in-Err.ensures.listed t (λ e. ne (cc)) u)
+    (session-told c.args.steps _ _ _ _ _ _ _ (session-over c.args.steps c.in-Err.end _ _ (c.in-Err.ensures.told t)) ne)

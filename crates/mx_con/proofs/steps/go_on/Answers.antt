@@ -1,60 +1,72 @@
-use Rattle.std.proofs.Common.{◌∙◌, sym, subst}
+use Rattle.std.proofs.Common.{◌∙◌, ◌≡◌, ◌-◌, ℕ, true, ap, sym, subst, refl, arith}
 use Rattle.std.specs.Prelude.{IsTrue}
-use Rattle.mx_word.specs.Lists.{IsFront}
-use Rattle.mx_host.specs.HostModel.{contents}
-use Rattle.mx_host.proofs.Keeping.{keeps-then}
-use Rattle.mx_con.specs.Clauses.{output_of, console_of}
-use Rattle.mx_con.proofs.ListedRuns.{runs-went, runs-paused, runs-ended, runs-spent}
-use Rattle.mx_con.proofs.StepBounds.{within-then}
-use Rattle.mx_con.proofs.StepLaws.{runs-over, runs-on, runs-one-at}
+use Rattle.mx_con.specs.Clauses.{console_of, world_of}
+use Rattle.mx_con.proofs.ListedRuns as listed
+use Rattle.mx_con.proofs.Besides.{goes-by}
+use Rattle.mx_con.proofs.Rests.{stands-all, stands-then}
+use Rattle.mx_con.proofs.StepBounds.{within-self, within-then}
+use Rattle.mx_con.proofs.StepPlans.{runs-begun, runs-went, runs-paused, runs-over, runs-spent}
 use Rattle.mx_con.proofs.steps.go_on.Goals as goal
 
-pub returns-in-Err-clause-told : goal.returns-in-Err-clause-told
-returns-in-Err-clause-told g c = λ t ne.
-    let last = c.in-Err.ensures.told (subst IsTrue (sym c.loop-turn.invariant.keeps.telling) t) (λ e. ne (cc)) in
-    sym (c.loop-turn.invariant.told t ∙ runs-over _ _ _ _ _ _ _ c.loop-turn-test.true last)
-
-pub returns-in-Err-clause-front : goal.returns-in-Err-clause-front
-returns-in-Err-clause-front g c = λ t e.
-    subst (λ p. IsFront (contents (g.H.Host.told c.run_once.new.host)).output (output_of p)) (sym (c.loop-turn.invariant.told t))
-    (runs-one-at _ _ _ _ _ _ c.loop-turn-test.true (c.in-Err.ensures.front (subst IsTrue (sym c.loop-turn.invariant.keeps.telling) t) (cc)))
+pub loop-turn-init : goal.loop-turn-init
+loop-turn-init g c = record {
+  told = λ t. runs-begun c.args.steps c.steps_left-most.result _ _ _ c.steps_left-most.ensures;
+  same = λ d t. listed.runs-start _ c.steps_left-most.result c.args.steps true (console_of c.args.runner.now d (g.H.Host.told c.args.host.now)) (sym c.steps_left-most.ensures);
+  listed = λ d t u. listed.runs-begun _ c.steps_left-most.result c.args.steps true (console_of c.args.runner.now d (g.H.Host.told c.args.host.now)) (sym c.steps_left-most.ensures) u;
+  bound = within-self _ _;
+  stands = stands-all _ _;
+}
 
 pub loop-turn-preserved : goal.loop-turn-preserved
 loop-turn-preserved g c = record {
-  told = λ t.
-      let next = rw c.in-Ok-true.field-0-test at (c.in-Ok-true.ensures.told (subst IsTrue (sym c.loop-turn.invariant.keeps.telling) t) (λ e. absurd (cc))) in
-      c.loop-turn.invariant.told t ∙ runs-on _ _ _ _ _ _ c.loop-turn-test.true next;
-  listed = λ t u.
-      let here = subst IsTrue (sym c.loop-turn.invariant.keeps.telling) t in
-      runs-went _ c.steps_left-most.result c.loop-turn.turn c.args.steps c.loop-turn.pass
-      (console_of c.loop-turn.runner c.args.dialog.now (g.H.Host.told c.loop-turn.host))
-      (console_of c.run_once.new.runner c.args.dialog.now (g.H.Host.told c.run_once.new.host))
-      c.loop-turn-test.true (λ v. rw c.in-Ok-true.field-0-test at (c.in-Ok-true.ensures.listed here (λ e. absurd (cc)) v))
-      (c.in-Ok-true.ensures.keeps.growing here) (c.loop-turn.invariant.listed t u);
+  told = λ t. runs-went _ _ _ _ _ _ _ _ c.loop-turn-test.true (c.loop-turn.invariant.told t)
+      (rw c.in-Ok-true.field-0-test at ((c.in-Ok-true.ensures.told (subst IsTrue (sym c.loop-turn.invariant.stands.0) t)).ending (λ e. absurd (cc))));
+  same = λ d t. c.loop-turn.invariant.same d t
+      ∙ listed.runs-same c.steps_left-most.result c.loop-turn.turn c.args.steps c.loop-turn.pass (console_of c.loop-turn.runner d (g.H.Host.told c.loop-turn.host))
+      (world_of c.run_once.new.runner (g.H.Host.told c.run_once.new.host)) c.loop-turn-test.true
+      (rw c.in-Ok-true.field-0-test at ((c.in-Ok-true.ensures.told (subst IsTrue (sym c.loop-turn.invariant.stands.0) t)).ending (λ e. absurd (cc))));
+  listed = λ d t u.
+      let here = subst IsTrue (sym c.loop-turn.invariant.stands.0) t in
+      listed.runs-went _ c.steps_left-most.result c.loop-turn.turn c.args.steps c.loop-turn.pass
+      (console_of c.loop-turn.runner d (g.H.Host.told c.loop-turn.host)) (world_of c.run_once.new.runner (g.H.Host.told c.run_once.new.host))
+      c.loop-turn-test.true (c.in-Ok-true.ensures.listed d here (λ e. absurd (cc)))
+      (rw c.in-Ok-true.field-0-test at ((c.in-Ok-true.ensures.told here).ending (λ e. absurd (cc)))) (c.loop-turn.invariant.listed d t u);
   bound = within-then _ _ _ _ c.loop-turn.invariant.bound c.in-Ok-true.ensures.bound;
-  keeps = keeps-then _ _ _ _ _ _ c.loop-turn.invariant.keeps c.in-Ok-true.ensures.keeps;
+  stands = stands-then _ _ _ _ _ _ c.loop-turn.invariant.stands c.in-Ok-true.ensures.stands;
 }
+
+pub returns-in-Ok-false-clause-told : goal.returns-in-Ok-false-clause-told
+returns-in-Ok-false-clause-told g c = λ t.
+    runs-paused _ _ _ _ _ _ _ _ c.loop-turn-test.true (c.loop-turn.invariant.told t)
+    (rw c.in-Ok-false.field-0-test at ((c.in-Ok-false.ensures.told (subst IsTrue (sym c.loop-turn.invariant.stands.0) t)).ending (λ e. absurd (cc))))
+
+pub returns-in-Err-clause-told : goal.returns-in-Err-clause-told
+returns-in-Err-clause-told g c = λ t.
+    runs-over _ _ _ _ _ _ _ _ _ c.loop-turn-test.true (c.loop-turn.invariant.told t) (c.in-Err.ensures.told (subst IsTrue (sym c.loop-turn.invariant.stands.0) t))
+
+pub returns-clause-told : goal.returns-clause-told
+returns-clause-told g c = λ t. runs-spent _ _ _ _ _ _ _ c.loop-turn-test.false (c.loop-turn.invariant.told t)
 
 -- beside the list machine
 pub returns-in-Ok-false-clause-listed : goal.returns-in-Ok-false-clause-listed
-returns-in-Ok-false-clause-listed g c = λ t ne u.
-    let here = subst IsTrue (sym c.loop-turn.invariant.keeps.telling) t in
-    runs-paused _ c.steps_left-most.result c.loop-turn.turn c.args.steps c.loop-turn.pass
-    (console_of c.loop-turn.runner c.args.dialog.now (g.H.Host.told c.loop-turn.host))
-    (console_of c.run_once.new.runner c.args.dialog.now (g.H.Host.told c.run_once.new.host))
-    c.loop-turn-test.true (λ v. rw c.in-Ok-false.field-0-test at (c.in-Ok-false.ensures.listed here (λ e. absurd (cc)) v))
-    (c.in-Ok-false.ensures.keeps.growing here) (c.loop-turn.invariant.listed t u)
+returns-in-Ok-false-clause-listed g c = λ d t ne u.
+    let here = subst IsTrue (sym c.loop-turn.invariant.stands.0) t in
+    goes-by _ _ _ (c.loop-turn.invariant.same d t)
+    (listed.runs-paused _ c.steps_left-most.result c.loop-turn.turn c.args.steps c.loop-turn.pass
+    (console_of c.loop-turn.runner d (g.H.Host.told c.loop-turn.host)) (world_of c.run_once.new.runner (g.H.Host.told c.run_once.new.host))
+    c.loop-turn-test.true (c.in-Ok-false.ensures.listed d here (λ e. absurd (cc)))
+    (rw c.in-Ok-false.field-0-test at ((c.in-Ok-false.ensures.told here).ending (λ e. absurd (cc)))) (c.loop-turn.invariant.listed d t u))
 
 pub returns-in-Err-clause-listed : goal.returns-in-Err-clause-listed
-returns-in-Err-clause-listed g c = λ t ne u.
-    let here = subst IsTrue (sym c.loop-turn.invariant.keeps.telling) t in
-    runs-ended _ c.steps_left-most.result c.loop-turn.turn c.args.steps c.loop-turn.pass c.in-Err.end
-    (console_of c.loop-turn.runner c.args.dialog.now (g.H.Host.told c.loop-turn.host))
-    (console_of c.run_once.new.runner c.args.dialog.now (g.H.Host.told c.run_once.new.host))
-    c.loop-turn-test.true (λ v. c.in-Err.ensures.listed here (λ e. ne (cc)) v) (c.in-Err.ensures.keeps.growing here) (c.loop-turn.invariant.listed t u)
+returns-in-Err-clause-listed g c = λ d t ne u.
+    let here = subst IsTrue (sym c.loop-turn.invariant.stands.0) t in
+    goes-by _ _ _ (c.loop-turn.invariant.same d t)
+    (listed.runs-ended _ c.steps_left-most.result c.loop-turn.turn c.args.steps c.loop-turn.pass c.in-Err.end
+    (console_of c.loop-turn.runner d (g.H.Host.told c.loop-turn.host)) (world_of c.run_once.new.runner (g.H.Host.told c.run_once.new.host))
+    c.loop-turn-test.true (c.in-Err.ensures.listed d here (λ e. ne (cc))) ((c.in-Err.ensures.told here).ending (λ e. ne (cc))) (c.loop-turn.invariant.listed d t u))
 
 pub returns-clause-listed : goal.returns-clause-listed
-returns-clause-listed g c = λ t ne u.
-    runs-spent _ c.steps_left-most.result c.loop-turn.turn c.args.steps c.loop-turn.pass
-    (console_of c.loop-turn.runner c.args.dialog.now (g.H.Host.told c.loop-turn.host))
-    c.loop-turn-test.false (c.loop-turn.invariant.listed t u)
+returns-clause-listed g c = λ d t ne u.
+    goes-by _ _ _ (c.loop-turn.invariant.same d t)
+    (listed.runs-spent _ c.steps_left-most.result c.loop-turn.turn c.args.steps c.loop-turn.pass
+    (console_of c.loop-turn.runner d (g.H.Host.told c.loop-turn.host)) c.loop-turn-test.false (c.loop-turn.invariant.listed d t u))

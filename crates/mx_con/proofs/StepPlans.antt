@@ -1,0 +1,261 @@
+-- Steps and runs as plans.
+use Rattle.std.proofs.Common.{◌≡◌, ◌≢◌, ◌⊎◌, inl, inr, ℕ, suc, ◌+◌, ◌-◌, ◌<◌, ◌≤◌, ◌==◌, Bool, true, false, cond, Option, None, Some, Result, Ok, Err, arith, refl, sym, ◌∙◌, ap, subst}
+use Rattle.std.proofs.lemmas.Bool.Decides.{nat_tests}
+use Rattle.mx_host.specs.HostModel.{HostModel}
+use Rattle.mx_plan.specs.Plan.{returns, bind, end_of, end_after, Stops, StopsAfter, Comes, IsRest}
+use Rattle.mx_plan.specs.Calls.{host, HostPlan}
+use Rattle.mx_plan.proofs.Plans.{end_bind, stops_first, stops_after, end_returns, rest_after}
+use Rattle.mx_core.specs.State.{State}
+use Rattle.mx_core.specs.declared.trace.Trace.{Trace}
+use Rattle.mx_run.specs.RunPlans.{RunWorld, running, look, turn_plan, run_plan}
+use Rattle.mx_run.specs.Runs.{FlagsOf}
+use Rattle.mx_run.specs.declared.end.BreakKind.{BreakKind}
+use Rattle.mx_run.specs.declared.end.End.{End}
+use Rattle.mx_run.specs.declared.end.End.TheVariants as ending
+use Rattle.mx_run.specs.declared.turn_answer.TurnAnswer.{TurnAnswer}
+use Rattle.mx_run.specs.declared.turn_answer.TurnAnswer.TheVariants as answer
+use Rattle.mx_con.specs.ConsoleTexts.{trace_text, break_text}
+use Rattle.mx_con.specs.LinePlans.{on_ok, line_plan}
+use Rattle.mx_con.specs.SessionPlans.{SessionWorld, SessionPlan, Part, conversing, beside_machine, beside_flags, on_host, on_run, trace_plan, count_plan, flags_plan, traced_plan, after_turn, turn_at, turned_plan, stepped_plan, step_if, broke_plan, break_plan, after_end, run_from, one_run_plan, runs_plan, run_on, continued_plan}
+use Rattle.mx_con.specs.declared.end.SessionEnd.{SessionEnd}
+use Rattle.mx_con.specs.declared.end.SessionEnd.TheVariants.{Halted, Stopped, Spent, OutOfMemory}
+use Rattle.mx_con.proofs.Rests.{bind-comes, then-comes, part-ends, returned, rest-ended, rest-done}
+use Rattle.mx_con.proofs.SessionEnds.{end_on_host, stops_on_host, end_on_run, stops_on_run}
+
+-- ---- over the host alone
+
+pub host-comes : {A : Type 0} (p : HostPlan A) (s : State) (m n : HostModel) (f : FlagsOf) (none r : A) → Comes host m n none r p → Comes conversing ((s, m), f) ((s, n), f) none r (on_host p)
+host-comes {A} p s m n f none r c = record {
+  ending = λ ne. ap (λ (t : A × HostModel). beside_machine ((s, m), f) t) (c.ending ne) ∙ sym (end_on_host p s m f);
+  stopping = λ e. stops_on_host p s m n f (c.stopping e);
+}
+
+-- the line of a step
+pub traced-comes : (trace : Trace) (s : State) (m n : HostModel) (f : FlagsOf) (r : Result (Unit {0}) SessionEnd) → Comes host m n (Err OutOfMemory) r (line_plan (trace_text trace s)) →
+    Comes conversing ((s, m), f) ((s, n), f) (Err OutOfMemory) r (traced_plan trace)
+unfolding traced_plan trace_plan bind end_of Stops conversing
+traced-comes trace s m n f r c =
+    let h = host-comes (line_plan (trace_text trace s)) s m n f (Err OutOfMemory) r c in
+    record { ending = λ ne. h.ending ne; stopping = λ e. inr (h.stopping e) }
+
+-- ---- breaks
+
+pub broke-comes : (kind : BreakKind) (at : ℕ) (s : State) (m n : HostModel) (f : FlagsOf) (r : Result (Unit {0}) SessionEnd) → Comes host m n (Err OutOfMemory) r (line_plan (break_text kind at)) →
+    Comes conversing ((s, m), f) ((s, n), f) (Err OutOfMemory) r (break_plan kind at None)
+broke-comes kind at s m n f r c = host-comes (line_plan (break_text kind at)) s m n f (Err OutOfMemory) r c
+
+pub traced-broke : (kind : BreakKind) (at : ℕ) (trace : Trace) (s : State) (m k n : HostModel) (f : FlagsOf) (u : Unit {0}) (r : Result (Unit {0}) SessionEnd) →
+    Comes host m k (Err OutOfMemory) (Ok u) (line_plan (trace_text trace s)) → Comes host k n (Err OutOfMemory) r (line_plan (break_text kind at)) →
+    Comes conversing ((s, m), f) ((s, n), f) (Err OutOfMemory) r (break_plan kind at (Some trace))
+traced-broke kind at trace s m k n f u r h c =
+    then-comes conversing (λ (v : Unit {0}). broke_plan kind at) (traced_plan trace) u ((s, m), f) ((s, k), f) ((s, n), f) r
+    ((traced-comes trace s m k f (Ok u) h).ending (λ e. absurd (cc))) (broke-comes kind at s k n f r c)
+
+pub untraced-broke : (kind : BreakKind) (at : ℕ) (trace : Trace) (s : State) (m n : HostModel) (f : FlagsOf) (end : SessionEnd) →
+    Comes host m n (Err OutOfMemory) (Err end) (line_plan (trace_text trace s)) → Comes conversing ((s, m), f) ((s, n), f) (Err OutOfMemory) (Err end) (break_plan kind at (Some trace))
+untraced-broke kind at trace s m n f end c =
+    part-ends conversing (λ (v : Unit {0}). broke_plan kind at) (traced_plan trace) end ((s, m), f) ((s, n), f) (traced-comes trace s m n f (Err end) c)
+
+pub ruleset breaking = (broke-comes, traced-broke, untraced-broke)
+
+-- ---- the end of a run
+
+pub broke-ended : (kind : BreakKind) (at : ℕ) (traced : Option Trace) (v w : SessionWorld) (u : Unit {0}) → Comes conversing v w (Err OutOfMemory) (Ok u) (break_plan kind at traced) →
+    Comes conversing v w (Err OutOfMemory) (Ok false) (after_end (ending.Broke kind at traced))
+broke-ended kind at traced v w u c =
+    then-comes conversing (λ (x : Unit {0}). returns (Ok false)) (break_plan kind at traced) u v w w (Ok false) (c.ending (λ e. absurd (cc))) (returned conversing (Ok false) w (λ e. absurd (cc)))
+
+pub broke-over : (kind : BreakKind) (at : ℕ) (traced : Option Trace) (v w : SessionWorld) (end : SessionEnd) → Comes conversing v w (Err OutOfMemory) (Err end) (break_plan kind at traced) →
+    Comes conversing v w (Err OutOfMemory) (Err end) (after_end (ending.Broke kind at traced))
+broke-over kind at traced v w end c = part-ends conversing (λ (x : Unit {0}). returns (Ok false)) (break_plan kind at traced) end v w c
+
+pub traced-ended : (trace : Trace) (s : State) (m n : HostModel) (f : FlagsOf) (u : Unit {0}) → Comes host m n (Err OutOfMemory) (Ok u) (line_plan (trace_text trace s)) →
+    Comes conversing ((s, m), f) ((s, n), f) (Err OutOfMemory) (Ok true) (after_end (ending.Traced trace))
+traced-ended trace s m n f u c =
+    then-comes conversing (λ (x : Unit {0}). returns (Ok true)) (traced_plan trace) u ((s, m), f) ((s, n), f) ((s, n), f) (Ok true)
+    ((traced-comes trace s m n f (Ok u) c).ending (λ e. absurd (cc))) (returned conversing (Ok true) ((s, n), f) (λ e. absurd (cc)))
+
+pub traced-over : (trace : Trace) (s : State) (m n : HostModel) (f : FlagsOf) (end : SessionEnd) → Comes host m n (Err OutOfMemory) (Err end) (line_plan (trace_text trace s)) →
+    Comes conversing ((s, m), f) ((s, n), f) (Err OutOfMemory) (Err end) (after_end (ending.Traced trace))
+traced-over trace s m n f end c =
+    part-ends conversing (λ (x : Unit {0}). returns (Ok true)) (traced_plan trace) end ((s, m), f) ((s, n), f) (traced-comes trace s m n f (Err end) c)
+
+pub halted-ended : (status : ℕ) (w : SessionWorld) → Comes conversing w w (Err OutOfMemory) (Err (Halted status)) (after_end (ending.Halted status))
+halted-ended status w = returned conversing (Err (Halted status)) w (λ e. absurd (cc))
+
+pub stopped-ended : (pc reason : ℕ) (w : SessionWorld) → Comes conversing w w (Err OutOfMemory) (Err (Stopped pc reason)) (after_end (ending.Stopped pc reason))
+stopped-ended pc reason w = returned conversing (Err (Stopped pc reason)) w (λ e. absurd (cc))
+
+pub spent-ended : (w : SessionWorld) → Comes conversing w w (Err OutOfMemory) (Err Spent) (after_end ending.Spent)
+spent-ended w = returned conversing (Err Spent) w (λ e. absurd (cc))
+
+pub ruleset ended_runs = (broke-ended, broke-over, traced-ended, traced-over, halted-ended, stopped-ended, spent-ended)
+
+-- ---- one run
+
+wanting : (end : End) → (end ≡ ending.OutOfMemory) ⊎ (end ≢ ending.OutOfMemory)
+wanting ending.OutOfMemory = inl refl
+wanting (ending.Halted status) = inr (λ e. absurd (cc))
+wanting (ending.Stopped pc reason) = inr (λ e. absurd (cc))
+wanting (ending.Broke kind at traced) = inr (λ e. absurd (cc))
+wanting (ending.Traced trace) = inr (λ e. absurd (cc))
+wanting ending.Spent = inr (λ e. absurd (cc))
+
+abbrev Finishes : End → State → HostModel → HostModel → FlagsOf → Result Bool SessionEnd → Type 0
+Finishes end t k u f r = end ≢ ending.OutOfMemory → Comes conversing ((t, k), f) ((t, u), f) (Err OutOfMemory) r (after_end end)
+
+ran-from : (n : ℕ) (pass : Bool) (f : FlagsOf) (end : End) (s t : State) (m k u : HostModel) (r : Result Bool SessionEnd) → Comes running (s, m) (t, k) ending.OutOfMemory end (run_plan n f pass) →
+    Finishes end t k u f r → (end ≡ ending.OutOfMemory → r ≡ Err OutOfMemory) → (end ≡ ending.OutOfMemory → u ≡ k) → (end ≡ ending.OutOfMemory) ⊎ (end ≢ ending.OutOfMemory) →
+    Comes conversing ((s, m), f) ((t, u), f) (Err OutOfMemory) r (bind after_end (on_run (run_plan n f pass)))
+ran-from n pass f end s t m k u r h c lacked same (inl e) = record {
+  ending = λ ne. absurd (ne (lacked e));
+  stopping = λ o. stops_first conversing after_end (on_run (run_plan n f pass)) ((t, u), f) ((s, m), f)
+      (stops_on_run (run_plan n f pass) (s, m) (t, u) f (subst (λ x. Stops running (t, x) (run_plan n f pass) (s, m)) (sym (same e)) (h.stopping e)));
+}
+ran-from n pass f end s t m k u r h c lacked same (inr ne) =
+    bind-comes conversing after_end (on_run (run_plan n f pass)) end ((s, m), f) ((t, k), f) ((t, u), f) (Err OutOfMemory) r
+    (ap (λ (x : End × RunWorld). beside_flags f x) (h.ending ne) ∙ sym (end_on_run (run_plan n f pass) (s, m) f)) (c ne)
+
+one-run-comes : (steps n : ℕ) (pass : Bool) (f : FlagsOf) (end : End) (s t : State) (m k u : HostModel) (r : Result Bool SessionEnd) → n ≡ steps - s.steps →
+    Comes running (s, m) (t, k) ending.OutOfMemory end (run_plan n f pass) → Finishes end t k u f r → (end ≡ ending.OutOfMemory → r ≡ Err OutOfMemory) → (end ≡ ending.OutOfMemory → u ≡ k) →
+    Comes conversing ((s, m), f) ((t, u), f) (Err OutOfMemory) r (one_run_plan steps pass)
+unfolding one_run_plan flags_plan count_plan bind end_of Stops conversing
+one-run-comes steps n pass f end s t m k u r e h c lacked same =
+    let from = ran-from (steps - s.steps) pass f end s t m k u r (subst (λ i. Comes running (s, m) (t, k) ending.OutOfMemory end (run_plan i f pass)) e h) c lacked same (wanting end) in
+    record { ending = λ ne. from.ending ne; stopping = λ o. inr (inr (from.stopping o)) }
+
+pub one-run-made : (steps n : ℕ) (pass : Bool) (f g : FlagsOf) (end : End) (s t : State) (m k u : HostModel) (r : Result Bool SessionEnd) → n ≡ steps - s.steps → g ≡ f →
+    Comes running (s, m) (t, k) ending.OutOfMemory end (run_plan n f pass) → Finishes end t k u g r → (end ≡ ending.OutOfMemory → r ≡ Err OutOfMemory) → (end ≡ ending.OutOfMemory → u ≡ k) →
+    Comes conversing ((s, m), f) ((t, u), g) (Err OutOfMemory) r (one_run_plan steps pass)
+one-run-made steps n pass f g end s t m k u r e fl h c lacked same = rw fl (one-run-comes steps n pass f end s t m k u r e h (subst (λ x. Finishes end t k u x r) fl c) lacked same)
+
+-- a run that is carried out ended with memory
+pub ended-memory : (end : End) (v w : SessionWorld) (r : Result Bool SessionEnd) → (end ≡ ending.OutOfMemory → r ≡ Err OutOfMemory) → r ≢ Err OutOfMemory → end ≢ ending.OutOfMemory
+ended-memory end v w r h ne e = ne (h e)
+
+-- ---- one step
+
+no-steps : (n : ℕ) → n ≢ 0 → (n == 0) ≡ false
+no-steps n ne = grind (arith, nat_tests)
+
+pub step-spent : (steps : ℕ) (w : SessionWorld) → steps - w.0.0.steps ≡ 0 → Comes conversing w w (Err OutOfMemory) (Err Spent) (stepped_plan steps)
+unfolding stepped_plan count_plan bind end_of Stops conversing
+step-spent steps w e = record {
+  ending = λ ne. sym (ap (λ (n : ℕ). end_of conversing (cond (n == 0) (returns (Err Spent)) turned_plan) w) e);
+  stopping = λ h. absurd (cc);
+}
+
+step-from : (steps : ℕ) (s : State) (m : HostModel) (f : FlagsOf) (u : SessionWorld) (r : Result (Unit {0}) SessionEnd) → steps - s.steps ≢ 0 →
+    Comes conversing ((s, m), f) u (Err OutOfMemory) r (turn_at s.pc) → Comes conversing ((s, m), f) u (Err OutOfMemory) r (stepped_plan steps)
+unfolding stepped_plan turned_plan count_plan on_run look bind end_of Stops conversing running
+step-from steps s m f u r ne c =
+    let e = no-steps (steps - s.steps) ne in
+    record {
+      ending = λ no. c.ending no ∙ sym (ap (λ (b : Bool). end_of conversing (cond b (returns (Err Spent)) turned_plan) ((s, m), f)) e);
+      stopping = λ h. inr (subst (λ (b : Bool). Stops conversing u (cond b (returns (Err Spent)) turned_plan) ((s, m), f)) (sym e) (inr (c.stopping h)));
+    }
+
+turned : (pc : ℕ) (a : TurnAnswer) (s t : State) (m k : HostModel) (f : FlagsOf) (u : SessionWorld) (r : Result (Unit {0}) SessionEnd) → a ≢ answer.OutOfMemory →
+    Comes running (s, m) (t, k) answer.OutOfMemory a turn_plan → Comes conversing ((t, k), f) u (Err OutOfMemory) r (after_turn pc a) → Comes conversing ((s, m), f) u (Err OutOfMemory) r (turn_at pc)
+unfolding turn_at
+turned pc a s t m k f u r ne h c =
+    bind-comes conversing (after_turn pc) (on_run turn_plan) a ((s, m), f) ((t, k), f) u (Err OutOfMemory) r (ap (λ (x : TurnAnswer × RunWorld). beside_flags f x) (h.ending ne) ∙ sym (end_on_run turn_plan (s, m) f)) c
+
+pub step-went : (steps : ℕ) (trace : Trace) (s t : State) (m k n : HostModel) (f : FlagsOf) (r : Result (Unit {0}) SessionEnd) → steps - s.steps ≢ 0 →
+    Comes running (s, m) (t, k) answer.OutOfMemory (answer.Went trace) turn_plan → Comes host k n (Err OutOfMemory) r (line_plan (trace_text trace t)) →
+    Comes conversing ((s, m), f) ((t, n), f) (Err OutOfMemory) r (stepped_plan steps)
+step-went steps trace s t m k n f r ne h c =
+    step-from steps s m f ((t, n), f) r ne (turned s.pc (answer.Went trace) s t m k f ((t, n), f) r (λ e. absurd (cc)) h (traced-comes trace t k n f r c))
+
+pub step-halted : (steps status : ℕ) (s t : State) (m k : HostModel) (f : FlagsOf) → steps - s.steps ≢ 0 → Comes running (s, m) (t, k) answer.OutOfMemory (answer.Halted status) turn_plan →
+    Comes conversing ((s, m), f) ((t, k), f) (Err OutOfMemory) (Err (Halted status)) (stepped_plan steps)
+step-halted steps status s t m k f ne h =
+    step-from steps s m f ((t, k), f) (Err (Halted status)) ne
+    (turned s.pc (answer.Halted status) s t m k f ((t, k), f) (Err (Halted status)) (λ e. absurd (cc)) h (returned conversing (Err (Halted status)) ((t, k), f) (λ e. absurd (cc))))
+
+pub step-stopped : (steps pc reason : ℕ) (s t : State) (m k : HostModel) (f : FlagsOf) → steps - s.steps ≢ 0 → pc ≡ s.pc → Comes running (s, m) (t, k) answer.OutOfMemory (answer.Stopped reason) turn_plan →
+    Comes conversing ((s, m), f) ((t, k), f) (Err OutOfMemory) (Err (Stopped pc reason)) (stepped_plan steps)
+step-stopped steps pc reason s t m k f ne e h =
+    step-from steps s m f ((t, k), f) (Err (Stopped pc reason)) ne
+    (turned s.pc (answer.Stopped reason) s t m k f ((t, k), f) (Err (Stopped pc reason)) (λ o. absurd (cc)) h
+    (subst (λ x. Comes conversing ((t, k), f) ((t, k), f) (Err OutOfMemory) (Err (Stopped pc reason)) (after_turn x (answer.Stopped reason))) e
+    (returned conversing (Err (Stopped pc reason)) ((t, k), f) (λ o. absurd (cc)))))
+
+turn-lacked : (pc : ℕ) (s t : State) (m k : HostModel) (f : FlagsOf) → Comes running (s, m) (t, k) answer.OutOfMemory answer.OutOfMemory turn_plan →
+    Comes conversing ((s, m), f) ((t, k), f) (Err OutOfMemory) (Err OutOfMemory) (turn_at pc)
+unfolding turn_at
+turn-lacked pc s t m k f h = record {
+  ending = λ no. absurd (no refl);
+  stopping = λ e. stops_first conversing (after_turn pc) (on_run turn_plan) ((t, k), f) ((s, m), f) (stops_on_run turn_plan (s, m) (t, k) f (h.stopping refl));
+}
+
+pub step-lacked : (steps : ℕ) (s t : State) (m k : HostModel) (f : FlagsOf) → steps - s.steps ≢ 0 → Comes running (s, m) (t, k) answer.OutOfMemory answer.OutOfMemory turn_plan →
+    Comes conversing ((s, m), f) ((t, k), f) (Err OutOfMemory) (Err OutOfMemory) (stepped_plan steps)
+step-lacked steps s t m k f ne h = step-from steps s m f ((t, k), f) (Err OutOfMemory) ne (turn-lacked s.pc s t m k f h)
+
+-- as the code has them: how many steps are left, the flags after the step, and the machine of which the line tells
+pub stepped-went : (steps left : ℕ) (trace : Trace) (s t seen : State) (m k n : HostModel) (f g : FlagsOf) (r : Result (Unit {0}) SessionEnd) → left ≡ steps - s.steps → left ≢ 0 → g ≡ f → seen ≡ t →
+    Comes running (s, m) (t, k) answer.OutOfMemory (answer.Went trace) turn_plan → Comes host k n (Err OutOfMemory) r (line_plan (trace_text trace seen)) →
+    Comes conversing ((s, m), f) ((t, n), g) (Err OutOfMemory) r (stepped_plan steps)
+stepped-went steps left trace s t seen m k n f g r e ne fl at h c =
+    rw fl (step-went steps trace s t m k n f r (subst (λ i. i ≢ 0) e ne) h (subst (λ (x : State). Comes host k n (Err OutOfMemory) r (line_plan (trace_text trace x))) at c))
+
+pub stepped-halted : (steps left status : ℕ) (s t : State) (m k : HostModel) (f g : FlagsOf) → left ≡ steps - s.steps → left ≢ 0 → g ≡ f → Comes running (s, m) (t, k) answer.OutOfMemory (answer.Halted status) turn_plan →
+    Comes conversing ((s, m), f) ((t, k), g) (Err OutOfMemory) (Err (Halted status)) (stepped_plan steps)
+stepped-halted steps left status s t m k f g e ne fl h = rw fl (step-halted steps status s t m k f (subst (λ i. i ≢ 0) e ne) h)
+
+pub stepped-stopped : (steps left pc reason : ℕ) (s t : State) (m k : HostModel) (f g : FlagsOf) → left ≡ steps - s.steps → left ≢ 0 → g ≡ f → pc ≡ s.pc →
+    Comes running (s, m) (t, k) answer.OutOfMemory (answer.Stopped reason) turn_plan → Comes conversing ((s, m), f) ((t, k), g) (Err OutOfMemory) (Err (Stopped pc reason)) (stepped_plan steps)
+stepped-stopped steps left pc reason s t m k f g e ne fl at h = rw fl (step-stopped steps pc reason s t m k f (subst (λ i. i ≢ 0) e ne) at h)
+
+pub stepped-lacked : (steps left : ℕ) (s t : State) (m k : HostModel) (f g : FlagsOf) → left ≡ steps - s.steps → left ≢ 0 → g ≡ f → Comes running (s, m) (t, k) answer.OutOfMemory answer.OutOfMemory turn_plan →
+    Comes conversing ((s, m), f) ((t, k), g) (Err OutOfMemory) (Err OutOfMemory) (stepped_plan steps)
+stepped-lacked steps left s t m k f g e ne fl h = rw fl (step-lacked steps s t m k f (subst (λ i. i ≢ 0) e ne) h)
+
+pub ruleset stepping = (step-spent)
+
+-- ---- runs
+
+left-after : (k i : ℕ) → i < k → k - i ≡ suc (k - (i + 1))
+left-after k i l = omega arith
+
+pub runs-begun : (steps most : ℕ) (s : State) (m : HostModel) (f : FlagsOf) → most ≡ steps - s.steps →
+    IsRest conversing (runs_plan (most - 0) steps true) ((s, m), f) (continued_plan steps) ((s, m), f)
+unfolding continued_plan count_plan bind end_of Stops conversing
+runs-begun steps most s m f e =
+    let all : most - 0 ≡ steps - s.steps = omega (arith, e) in
+    rw all (record { ending = refl; stopping = λ v h. inr h })
+
+runs-more : (n i steps : ℕ) (pass : Bool) → i < n → runs_plan (n - i) steps pass ≡ bind (on_ok (run_on (runs_plan (n - (i + 1)) steps false))) (one_run_plan steps pass)
+unfolding runs_plan
+runs-more n i steps pass l = rw (left-after n i l) refl
+
+abbrev pub RunsLeft : ℕ → ℕ → ℕ → Bool → SessionWorld → Part (Unit {0}) → SessionWorld → Type 0
+RunsLeft n i steps pass v whole start = IsRest conversing (runs_plan (n - i) steps pass) v whole start
+
+one-and-more : (n i steps : ℕ) (pass : Bool) (v start : SessionWorld) (whole : Part (Unit {0})) → i < n → RunsLeft n i steps pass v whole start →
+    IsRest conversing (bind (on_ok (run_on (runs_plan (n - (i + 1)) steps false))) (one_run_plan steps pass)) v whole start
+one-and-more n i steps pass v start whole l r = subst (λ p. IsRest conversing p v whole start) (runs-more n i steps pass l) r
+
+pub runs-went : (n i steps : ℕ) (pass : Bool) (v w start : SessionWorld) (whole : Part (Unit {0})) → i < n → RunsLeft n i steps pass v whole start →
+    (Ok true, w) ≡ end_of conversing (one_run_plan steps pass) v → RunsLeft n (i + 1) steps false w whole start
+runs-went n i steps pass v w start whole l r e =
+    rest_after conversing (on_ok (run_on (runs_plan (n - (i + 1)) steps false))) (one_run_plan steps pass) (Ok true) w v start whole e (one-and-more n i steps pass v start whole l r)
+
+pub runs-paused : (n i steps : ℕ) (pass : Bool) (v w start : SessionWorld) (whole : Part (Unit {0})) → i < n → RunsLeft n i steps pass v whole start →
+    (Ok false, w) ≡ end_of conversing (one_run_plan steps pass) v → Comes conversing start w (Err OutOfMemory) (Ok tt) whole
+runs-paused n i steps pass v w start whole l r e =
+    rest-done conversing (Ok tt) w start whole (λ o. absurd (cc))
+    (rest_after conversing (on_ok (run_on (runs_plan (n - (i + 1)) steps false))) (one_run_plan steps pass) (Ok false) w v start whole e (one-and-more n i steps pass v start whole l r))
+
+pub runs-over : (n i steps : ℕ) (pass : Bool) (end : SessionEnd) (v w start : SessionWorld) (whole : Part (Unit {0})) → i < n → RunsLeft n i steps pass v whole start →
+    Comes conversing v w (Err OutOfMemory) (Err end) (one_run_plan steps pass) → Comes conversing start w (Err OutOfMemory) (Err end) whole
+runs-over n i steps pass end v w start whole l r c =
+    rest-ended conversing (run_on (runs_plan (n - (i + 1)) steps false)) (one_run_plan steps pass) end v w start whole (one-and-more n i steps pass v start whole l r) c
+
+pub runs-spent : (n i steps : ℕ) (pass : Bool) (w start : SessionWorld) (whole : Part (Unit {0})) → n ≤ i → RunsLeft n i steps pass w whole start →
+    Comes conversing start w (Err OutOfMemory) (Err Spent) whole
+unfolding runs_plan
+runs-spent n i steps pass w start whole l r =
+    let none : n - i ≡ 0 = omega arith in
+    rest-done conversing (Err Spent) w start whole (λ o. absurd (cc)) (subst (λ k. IsRest conversing (runs_plan k steps pass) w whole start) none r)
