@@ -2,16 +2,9 @@
 #![tactic(auto)]
 
 mod help;
-mod opening;
-mod real;
-mod standard;
-mod streams;
-#[cfg(test)]
-mod tests;
 
 use crate::help::{HELP, VERSION, answered};
-use crate::real::RealHost;
-use crate::standard::StandIns;
+use mx_real::{RealHost, StandIns};
 use mx_top::mmixware;
 use std::env;
 use std::io::ErrorKind;

@@ -16,7 +16,7 @@ use Rattle.mx_asm.specs.Image as imaging
 use Rattle.mx_asm.specs.Refusal.{refusal}
 use Rattle.mx_asm.specs.declared.refused.Refused.{Refused}
 use Rattle.mx_asm.proofs.InTurn.{source-accepted}
-use Rattle.mx_top.specs.Answers.{answered, plainly}
+use Rattle.mx_files.specs.Answers.{answered, plainly, after_lines}
 use Rattle.mx_top.specs.Arguments.{Word, word_at, arguments}
 use Rattle.mx_laws.specs.Complete.{IsOrdered, HasSource, HasObject, IsStarted, IsHalted, IsPlayed, IsWritten, IsGenerated}
 use Rattle.mx_top.specs.Dump.{dump_lines}
@@ -24,16 +24,17 @@ use Rattle.mx_gen.specs.Generator.{generated}
 use Rattle.mx_gen.specs.Program.{generated_image}
 use Rattle.mx_gen.proofs.Meaning.{not-refused-run, statements-of}
 use Rattle.mx_words.proofs.OrderedBlocks.{order-few}
-use Rattle.mx_top.specs.Lines.{lines_put}
-use Rattle.mx_top.specs.Objects.{Assembled, source_object}
-use Rattle.mx_top.specs.Objects as assembling
-use Rattle.mx_top.specs.Pieces.{put_text}
-use Rattle.mx_top.specs.Product.{after_image, after_source, after_loading, after_object, refused_with, closed_object, written_object, assembled_outcome, object_put, after_opening, after_reading, summed, summed_from, generated_run, ordered, carried_out, with_message, product}
-use Rattle.mx_top.specs.Runs.{ran, machine_ran, session_ran, order_ran, after_lines, dumped, run_from, image_run}
-use Rattle.mx_top.specs.Sources.{source_meaning, meaning_unless}
-use Rattle.mx_top.specs.declared.refusal.Refusal.{Refusal}
-use Rattle.mx_top.specs.declared.outcome.Outcome.{Outcome}
-use Rattle.mx_top.specs.declared.outcome.Outcome.TheVariants.{Done}
+use Rattle.mx_files.specs.Lines.{lines_put}
+use Rattle.mx_files.specs.Objects.{Assembled, source_object}
+use Rattle.mx_files.specs.Objects as assembling
+use Rattle.mx_files.specs.Pieces.{put_text}
+use Rattle.mx_files.specs.Assembling.{refused_with, closed_object, written_object, assembled_outcome, object_put, after_opening, after_reading}
+use Rattle.mx_top.specs.Product.{after_image, after_source, after_loading, after_object, summed, summed_from, generated_run, ordered, carried_out, with_message, product}
+use Rattle.mx_top.specs.Runs.{ran, machine_ran, session_ran, order_ran, dumped, run_from, image_run}
+use Rattle.mx_files.specs.Sources.{source_meaning, meaning_unless}
+use Rattle.mx_files.specs.declared.refusal.Refusal.{Refusal}
+use Rattle.mx_files.specs.declared.outcome.Outcome.{Outcome}
+use Rattle.mx_files.specs.declared.outcome.Outcome.TheVariants.{Done}
 
 -- ---- the words, and what they name
 

@@ -20,19 +20,20 @@ use Rattle.mx_run.specs.WildRuns.{MachineKind, RunEnd, run_ended, run_wild, run_
 use Rattle.mx_run.proofs.SteadyRuns.{run-steady}
 use Rattle.mx_words.specs.declared.order.Command.TheVariants.{Asm}
 use Rattle.mx_words.specs.declared.order.Order.{Order}
-use Rattle.mx_top.specs.Answers.{Answer, answered, plainly}
+use Rattle.mx_files.specs.Answers.{Answer, answered, plainly, after_lines}
 use Rattle.mx_top.specs.Arguments.{Word, word_at, arguments}
 use Rattle.mx_laws.specs.Complete.{IsOrdered, IsThere, SourceIsThere, ObjectIsThere, IsHalted, IsGenerated, with_output}
 use Rattle.mx_laws.specs.Detour.{answer_uncounted}
 use Rattle.mx_top.specs.Dump.{dump_lines}
-use Rattle.mx_top.specs.Lines.{lines_put}
-use Rattle.mx_top.specs.Objects.{source_object}
-use Rattle.mx_top.specs.Pieces.{piece_put, pieces_after}
-use Rattle.mx_top.specs.Product.{generator_steps, after_opening, after_reading, assembled_outcome, with_message, product}
-use Rattle.mx_top.specs.Runs.{ran, ran_to, machine_ran, after_lines, dumped, image_run}
-use Rattle.mx_top.specs.Source.{file_bytes}
-use Rattle.mx_top.specs.declared.outcome.Outcome.{Outcome}
-use Rattle.mx_top.specs.declared.outcome.Outcome.TheVariants.{Done}
+use Rattle.mx_files.specs.Lines.{lines_put}
+use Rattle.mx_files.specs.Objects.{source_object}
+use Rattle.mx_files.specs.Pieces.{piece_put, pieces_after}
+use Rattle.mx_files.specs.Assembling.{after_opening, after_reading, assembled_outcome}
+use Rattle.mx_top.specs.Product.{generator_steps, with_message, product}
+use Rattle.mx_top.specs.Runs.{ran, ran_to, machine_ran, dumped, image_run}
+use Rattle.mx_files.specs.Source.{file_bytes}
+use Rattle.mx_files.specs.declared.outcome.Outcome.{Outcome}
+use Rattle.mx_files.specs.declared.outcome.Outcome.TheVariants.{Done}
 use Rattle.mx_laws.proofs.Completed.{order-is, source-run, object-run, halted-run, plain-told, accepted-object, generated-told}
 use Rattle.mx_laws.proofs.DetourRuns.{put-of}
 use Rattle.mx_laws.proofs.IdleFiles.{idle, file-idle, open-object}

@@ -30,11 +30,11 @@ use Rattle.std.proofs.lemmas.Option.{same_Some}
 use Rattle.mx_asm.specs.Emission.{emission, padded_trie}
 use Rattle.mx_asm.proofs.InTurn.{source-accepted}
 use Rattle.mx_asm.proofs.ObjectLaws.{source-writable, source-told, source-few}
-use Rattle.mx_top.specs.Sources.{meaning_unless, source_meaning}
-use Rattle.mx_top.specs.Objects.{Assembled, source_object}
-use Rattle.mx_top.specs.Objects as assembling
+use Rattle.mx_files.specs.Sources.{meaning_unless, source_meaning}
+use Rattle.mx_files.specs.Objects.{Assembled, source_object}
+use Rattle.mx_files.specs.Objects as assembling
 use Rattle.mx_asm.proofs.MeaningSources.{pages-mean}
-use Rattle.mx_top.proofs.SourceImages.{items-mean-image}
+use Rattle.mx_files.proofs.SourceImages.{items-mean-image}
 
 object-is : (text trie : List ℕ) (items : List Item) → assembled_source text ≡ (items, Ok trie) → source_object text ≡ (written items ++ ending trie, Ok tt)
 unfolding source_object

@@ -26,21 +26,22 @@ use Rattle.mx_words.specs.Values.{is_option}
 use Rattle.mx_words.specs.declared.order.Command.TheVariants.{Run, Sim}
 use Rattle.mx_words.specs.declared.order.Order.{Order}
 use Rattle.mx_words.specs.declared.order.WordsFault.{WordsFault}
-use Rattle.mx_top.specs.Answers.{Answer, answered, plainly}
+use Rattle.mx_files.specs.Answers.{Answer, answered, plainly}
 use Rattle.mx_top.specs.Arguments.{Word, word_at, arguments, program_name}
 use Rattle.mx_laws.specs.Detour.{host_of, answer_uncounted, asm_words, run_words, sim_words, AreOrdered, IsAssembled}
 use Rattle.mx_laws.proofs.DetourImages.{source-loads}
 use Rattle.mx_word.specs.Ranges.{AreBytes}
 use Rattle.mx_asm.specs.Entries.{statements_in, source_entries}
 use Rattle.mx_asm.specs.Image.{symbols_of}
-use Rattle.mx_top.specs.Sources.{source_meaning}
-use Rattle.mx_top.specs.Messages.{message_of}
-use Rattle.mx_top.specs.Objects.{Assembled, source_object}
-use Rattle.mx_top.specs.Product.{after_image, after_source, after_loading, after_object, assembled_outcome, object_put, after_opening, after_reading, carried_out, message_told, with_message, product}
+use Rattle.mx_files.specs.Sources.{source_meaning}
+use Rattle.mx_files.specs.Messages.{message_of}
+use Rattle.mx_files.specs.Objects.{Assembled, source_object}
+use Rattle.mx_files.specs.Assembling.{assembled_outcome, object_put, after_opening, after_reading}
+use Rattle.mx_top.specs.Product.{after_image, after_source, after_loading, after_object, carried_out, message_told, with_message, product}
 use Rattle.mx_top.specs.Runs.{image_run}
-use Rattle.mx_top.specs.Source.{file_bytes}
-use Rattle.mx_top.specs.declared.outcome.Outcome.{Outcome}
-use Rattle.mx_top.specs.declared.outcome.Outcome.TheVariants.{Done, Usage, NoFile}
+use Rattle.mx_files.specs.Source.{file_bytes}
+use Rattle.mx_files.specs.declared.outcome.Outcome.{Outcome}
+use Rattle.mx_files.specs.declared.outcome.Outcome.TheVariants.{Done, Usage, NoFile}
 use Rattle.mx_laws.proofs.IdleFiles.{idle, file-idle, file-absent, writing, open-object, put-idle}
 use Rattle.mx_laws.proofs.SteadyFiles.{file-steady}
 use Rattle.mx_laws.proofs.SteadyProduct.{answer_still, reading-later, product-steady, answers-same}

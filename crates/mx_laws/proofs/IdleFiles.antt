@@ -15,12 +15,12 @@ use Rattle.mx_host.specs.declared.slots.Lead.TheVariants.{File}
 use Rattle.mx_host.specs.HostModel.{HostModel, last_call, place_of}
 use Rattle.mx_host.specs.HostAnswer.{Then, open_answer, opened, read_answer, read_from, write_answer, write_to, close_answer, closed, with_bytes, bytes_at, put_at}
 use Rattle.mx_word.specs.Lists.{with_written}
-use Rattle.mx_top.specs.Pieces.{piece_put, pieces_after, put_pieces}
-use Rattle.mx_top.specs.Product.{assembled_outcome, closed_object, written_object, object_put}
-use Rattle.mx_top.specs.Source.{pieces, piece_read, next_piece, closed_with, closed_after, read_after, file_bytes}
-use Rattle.mx_top.specs.declared.outcome.Outcome.{Outcome}
-use Rattle.mx_top.specs.declared.outcome.Outcome.TheVariants.{NoFile}
-use Rattle.mx_top.specs.declared.refusal.Refusal.{Refusal}
+use Rattle.mx_files.specs.Pieces.{piece_put, pieces_after, put_pieces}
+use Rattle.mx_files.specs.Assembling.{assembled_outcome, closed_object, written_object, object_put}
+use Rattle.mx_files.specs.Source.{pieces, piece_read, next_piece, closed_with, closed_after, read_after, file_bytes}
+use Rattle.mx_files.specs.declared.outcome.Outcome.{Outcome}
+use Rattle.mx_files.specs.declared.outcome.Outcome.TheVariants.{NoFile}
+use Rattle.mx_files.specs.declared.refusal.Refusal.{Refusal}
 use Rattle.mx_host.proofs.NamedFiles.{home, Lies, at-home, put-put, overwritten-end}
 
 -- the model with no call that fails, and with these files and slots

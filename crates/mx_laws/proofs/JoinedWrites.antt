@@ -19,7 +19,7 @@ use Rattle.mx_trap.specs.declared.writes.Written.TheVariants.{Whole, Short, OutO
 use Rattle.mx_trap.proofs.JoinedWrites.{written-joined}
 use Rattle.mx_plan.proofs.Spared.{sooner}
 use Rattle.mx_laws.proofs.SteadyFiles.{piece-steady, pieces_put-steady, text-steady}
-use Rattle.mx_top.specs.Pieces.{put_piece, piece_put, pieces_after, put_pieces, put_text}
+use Rattle.mx_files.specs.Pieces.{put_piece, piece_put, pieces_after, put_pieces, put_text}
 
 -- whether all was written, by what a file trap counts
 abbrev is_whole : Written → Bool

@@ -18,8 +18,8 @@ use Rattle.mx_load.specs.Objects.{fault_at, object_loaded, trie_read, with_symbo
 use Rattle.mx_load.proofs.Apart.{object-holds, loaded-means, fault-of-reading, fault-of-meaning, too-long}
 use Rattle.mx_stab.specs.Reading.{trie_answer}
 use Rattle.mx_stab.specs.declared.faults.StabFault.{StabFault}
-use Rattle.mx_top.specs.Typed.{Typed, trie_typed, typed}
-use Rattle.mx_top.specs.declared.outcome.Outcome.TheVariants.{Done, BadObject}
+use Rattle.mx_files.specs.Typed.{Typed, trie_typed, typed}
+use Rattle.mx_files.specs.declared.outcome.Outcome.TheVariants.{Done, BadObject}
 use Rattle.mx_laws.proofs.ListedObjects.{object-typed, fault-typed, trie-fault, long-outcome}
 
 -- what is loaded is listed

@@ -36,15 +36,14 @@ use Rattle.mx_type.proofs.Listed.{all-listed}
 use Rattle.mx_type.proofs.Once.{items-once, trie-once}
 use Rattle.mx_words.specs.declared.order.Command.TheVariants.{Show}
 use Rattle.mx_words.specs.declared.order.Order.{Order}
-use Rattle.mx_top.specs.Answers.{Answer, answered}
+use Rattle.mx_files.specs.Answers.{Answer, answered, after_lines}
 use Rattle.mx_top.specs.Arguments.{Word, word_at}
-use Rattle.mx_top.specs.Messages.{message_of}
+use Rattle.mx_files.specs.Messages.{message_of}
 use Rattle.mx_top.specs.Product.{message_told, with_message, product}
-use Rattle.mx_top.specs.Runs.{after_lines}
-use Rattle.mx_top.specs.Source.{object_pieces}
-use Rattle.mx_top.specs.Typed.{Typed, shown, item_lines, tail_lines, trie_typed, tail_typed, unread, unread_trie, behind, walk_typed, typed, after_typing}
-use Rattle.mx_top.specs.declared.outcome.Outcome.{Outcome}
-use Rattle.mx_top.specs.declared.outcome.Outcome.TheVariants.{Done, OutOfMemory}
+use Rattle.mx_files.specs.Source.{object_pieces}
+use Rattle.mx_files.specs.Typed.{Typed, shown, item_lines, tail_lines, trie_typed, tail_typed, unread, unread_trie, behind, walk_typed, typed, after_typing}
+use Rattle.mx_files.specs.declared.outcome.Outcome.{Outcome}
+use Rattle.mx_files.specs.declared.outcome.Outcome.TheVariants.{Done, OutOfMemory}
 use Rattle.mx_laws.specs.Called.{IsCalled, NoCallFails}
 use Rattle.mx_laws.specs.Complete.{IsOrdered, IsThere, with_output}
 use Rattle.mx_laws.specs.Detour.{answer_uncounted, answer_unscheduled}

@@ -15,9 +15,9 @@ use Rattle.mx_gen.specs.Generator.{generated}
 use Rattle.mx_top.specs.Product.{after_image, after_source, after_loading, after_object, generated_run, source_generated, ordered, carried_out, with_message, product}
 use Rattle.mx_laws.specs.Rings.{DifferInRing, HandsArguments}
 use Rattle.mx_top.specs.Runs.{image_run, run_from}
-use Rattle.mx_top.specs.Source.{file_bytes, source_pieces, object_pieces}
-use Rattle.mx_top.specs.declared.outcome.Outcome.{Outcome}
-use Rattle.mx_top.specs.declared.refusal.Refusal.{Refusal}
+use Rattle.mx_files.specs.Source.{file_bytes, source_pieces, object_pieces}
+use Rattle.mx_files.specs.declared.outcome.Outcome.{Outcome}
+use Rattle.mx_files.specs.declared.refusal.Refusal.{Refusal}
 
 same-from : (words others : List Word) (o p : Order) (e : DifferInRing words others o p) (r : Result State Outcome) (m : HostModel) →
     run_from list_machine o r m ≡ run_from list_machine p r m

@@ -10,10 +10,10 @@ use Rattle.mx_host.specs.declared.faults.OpenFault.{OpenFault}
 use Rattle.mx_host.specs.declared.faults.OpenFault.TheVariants as opening
 use Rattle.mx_host.proofs.Still.{still}
 use Rattle.mx_plan.proofs.Spared.{Spared, uncalled, then, open-spared, read-spared, write-spared, close-spared}
-use Rattle.mx_top.specs.Lines.{lines_put}
-use Rattle.mx_top.specs.Pieces.{put_piece, piece_put, pieces_after, put_pieces, put_text}
-use Rattle.mx_top.specs.Source.{pieces, one_piece, piece_read, next_piece, closed_with, closed_after, read_after, file_bytes}
-use Rattle.mx_top.specs.declared.outcome.Outcome.{Outcome}
+use Rattle.mx_files.specs.Lines.{lines_put}
+use Rattle.mx_files.specs.Pieces.{put_piece, piece_put, pieces_after, put_pieces, put_text}
+use Rattle.mx_files.specs.Source.{pieces, one_piece, piece_read, next_piece, closed_with, closed_after, read_after, file_bytes}
+use Rattle.mx_files.specs.declared.outcome.Outcome.{Outcome}
 
 -- ---- texts and lines that are written
 

@@ -28,23 +28,24 @@ use Rattle.mx_words.specs.declared.order.Command.{Command}
 use Rattle.mx_words.specs.declared.order.Command.TheVariants.{Run, Asm, Sim, Gen, Show}
 use Rattle.mx_words.specs.declared.order.Order.{Order}
 use Rattle.mx_words.specs.declared.order.WordsFault.{WordsFault}
-use Rattle.mx_top.specs.Answers.{Answer, answered, wild, plainly}
+use Rattle.mx_files.specs.Answers.{Answer, answered, wild, plainly, leaves_machine, after_lines}
 use Rattle.mx_top.specs.Arguments.{Word, word_at, arguments}
 use Rattle.mx_laws.specs.Detour.{host_of, answer_uncounted, answer_unscheduled}
 use Rattle.mx_top.specs.Dump.{dump_lines}
 use Rattle.mx_gen.specs.Generator.{generated, summary}
-use Rattle.mx_top.specs.Lines.{lines_put}
-use Rattle.mx_top.specs.Typed.{typed, after_typing}
-use Rattle.mx_top.specs.Sources.{source_meaning}
-use Rattle.mx_top.specs.Messages.{message_of}
-use Rattle.mx_top.specs.Objects.{Assembled, source_object}
-use Rattle.mx_top.specs.Pieces.{put_text}
-use Rattle.mx_top.specs.Product.{after_image, after_source, after_loading, after_object, closed_object, written_object, assembled_outcome, object_put, after_opening, after_reading, generator_steps, summed, summed_from, generated_run, run_ordered, sim_ordered, ordered, carried_out, message_told, with_message, product}
-use Rattle.mx_top.specs.Runs.{ran, ran_to, outcome_of, machine_ran, played, session_outcome, session_ran, leaves_machine, after_lines, dumped, started, run_from, image_run}
-use Rattle.mx_top.specs.Source.{file_bytes, source_pieces, object_pieces}
-use Rattle.mx_top.specs.declared.refusal.Refusal.{Refusal}
-use Rattle.mx_top.specs.declared.outcome.Outcome.{Outcome}
-use Rattle.mx_top.specs.declared.outcome.Outcome.TheVariants.{Done, Usage, NoFile, HostFault, Refused, BadObject, Stopped, StepsSpent, Quit, ConsoleLimit, OutOfMemory}
+use Rattle.mx_files.specs.Lines.{lines_put}
+use Rattle.mx_files.specs.Typed.{typed, after_typing}
+use Rattle.mx_files.specs.Sources.{source_meaning}
+use Rattle.mx_files.specs.Messages.{message_of}
+use Rattle.mx_files.specs.Objects.{Assembled, source_object}
+use Rattle.mx_files.specs.Pieces.{put_text}
+use Rattle.mx_files.specs.Assembling.{closed_object, written_object, assembled_outcome, object_put, after_opening, after_reading}
+use Rattle.mx_top.specs.Product.{after_image, after_source, after_loading, after_object, generator_steps, summed, summed_from, generated_run, run_ordered, sim_ordered, ordered, carried_out, message_told, with_message, product}
+use Rattle.mx_top.specs.Runs.{ran, ran_to, outcome_of, machine_ran, played, session_outcome, session_ran, dumped, started, run_from, image_run}
+use Rattle.mx_files.specs.Source.{file_bytes, source_pieces, object_pieces}
+use Rattle.mx_files.specs.declared.refusal.Refusal.{Refusal}
+use Rattle.mx_files.specs.declared.outcome.Outcome.{Outcome}
+use Rattle.mx_files.specs.declared.outcome.Outcome.TheVariants.{Done, Usage, NoFile, HostFault, Refused, BadObject, Stopped, StepsSpent, Quit, ConsoleLimit, OutOfMemory}
 use Rattle.mx_laws.proofs.SteadyFiles.{text-steady, lines-steady, file-steady}
 
 -- ---- answers

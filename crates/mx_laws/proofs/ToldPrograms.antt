@@ -33,23 +33,24 @@ use Rattle.mx_words.specs.declared.order.Command.{Command}
 use Rattle.mx_words.specs.declared.order.Command.TheVariants.{Run, Asm, Sim, Gen, Show}
 use Rattle.mx_words.specs.declared.order.Order.{Order}
 use Rattle.mx_words.specs.declared.order.WordsFault.{WordsFault}
-use Rattle.mx_top.specs.Answers.{Answer, answered, wild, plainly}
+use Rattle.mx_files.specs.Answers.{Answer, answered, wild, plainly, leaves_machine, after_lines}
 use Rattle.mx_top.specs.Arguments.{Word, word_at, arguments}
 use Rattle.mx_top.specs.Dump.{dump_lines}
 use Rattle.mx_gen.specs.Generator.{generated, summary}
-use Rattle.mx_top.specs.Lines.{lines_put}
-use Rattle.mx_top.specs.Typed.{Typed, trie_typed, tail_typed, end_typed, typed, after_typing}
-use Rattle.mx_top.specs.Messages.{message_of}
-use Rattle.mx_top.specs.Objects.{Assembled, source_object}
-use Rattle.mx_top.specs.Pieces.{put_text}
-use Rattle.mx_top.specs.Product.{after_image, after_source, after_loading, after_object, object_slot, closed_object, written_object, assembled_outcome, object_put, after_opening, after_reading, generator_steps, summed, summed_from, generated_run, ordered, carried_out, message_told, with_message, product}
-use Rattle.mx_top.specs.Runs.{Ran, ran, ran_wild, machine_ran, session_outcome, played, order_ran, leaves_machine, after_lines, dumped, main_address, begun_at, stack_at_start, started, run_from, image_run}
-use Rattle.mx_top.specs.Source.{input_slot, piece_read, one_piece, next_piece, pieces, closed_with, closed_after, read_after, file_bytes}
-use Rattle.mx_top.specs.Sources.{source_meaning}
+use Rattle.mx_files.specs.Lines.{lines_put}
+use Rattle.mx_files.specs.Typed.{Typed, trie_typed, tail_typed, end_typed, typed, after_typing}
+use Rattle.mx_files.specs.Messages.{message_of}
+use Rattle.mx_files.specs.Objects.{Assembled, source_object}
+use Rattle.mx_files.specs.Pieces.{put_text}
+use Rattle.mx_files.specs.Assembling.{object_slot, closed_object, written_object, assembled_outcome, object_put, after_opening, after_reading}
+use Rattle.mx_top.specs.Product.{after_image, after_source, after_loading, after_object, generator_steps, summed, summed_from, generated_run, ordered, carried_out, message_told, with_message, product}
+use Rattle.mx_top.specs.Runs.{Ran, ran, ran_wild, machine_ran, session_outcome, played, order_ran, dumped, main_address, begun_at, stack_at_start, started, run_from, image_run}
+use Rattle.mx_files.specs.Source.{input_slot, piece_read, one_piece, next_piece, pieces, closed_with, closed_after, read_after, file_bytes}
+use Rattle.mx_files.specs.Sources.{source_meaning}
 use Rattle.mx_laws.specs.Unbroken.{is_outcome_told, is_told, is_answer_told}
-use Rattle.mx_top.specs.declared.outcome.Outcome.{Outcome}
-use Rattle.mx_top.specs.declared.outcome.Outcome.TheVariants.{Done, Usage, NoFile, HostFault, Refused, BadObject, Stopped, StepsSpent, Quit, ConsoleLimit, OutOfMemory}
-use Rattle.mx_top.specs.declared.refusal.Refusal.{Refusal}
+use Rattle.mx_files.specs.declared.outcome.Outcome.{Outcome}
+use Rattle.mx_files.specs.declared.outcome.Outcome.TheVariants.{Done, Usage, NoFile, HostFault, Refused, BadObject, Stopped, StepsSpent, Quit, ConsoleLimit, OutOfMemory}
+use Rattle.mx_files.specs.declared.refusal.Refusal.{Refusal}
 use Rattle.mx_laws.proofs.UnbrokenRuns.{machines-told}
 
 abbrev OutcomeTold : Outcome → Type 0

@@ -5,9 +5,9 @@ use Rattle.mx_host.specs.HostAnswer.{Then, bytes_at}
 use Rattle.std.specs.Prelude.{Result}
 use Rattle.mx_host.proofs.Start.{start_slots-length}
 use Rattle.mx_plan.specs.Counts.{NoneFailed}
-use Rattle.mx_top.specs.Source.{file_bytes}
-use Rattle.mx_top.specs.declared.outcome.Outcome.{Outcome}
-use Rattle.mx_top.specs.declared.outcome.Outcome.TheVariants.{NoFile}
+use Rattle.mx_files.specs.Source.{file_bytes}
+use Rattle.mx_files.specs.declared.outcome.Outcome.{Outcome}
+use Rattle.mx_files.specs.declared.outcome.Outcome.TheVariants.{NoFile}
 use Rattle.mx_laws.proofs.SteadyFiles.{file-steady}
 use Rattle.mx_laws.proofs.IdleFiles.{idle, file-idle, file-absent}
 

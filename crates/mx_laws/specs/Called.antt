@@ -3,11 +3,11 @@ use Rattle.std.specs.Prelude.{IsTrue, List, Option}
 use Rattle.mx_host.specs.HostModel.{HostModel, tells}
 use Rattle.mx_plan.specs.Counts.{NoneFailed}
 use Rattle.mx_run.specs.WildRuns.{MachineKind, window_machine}
-use Rattle.mx_top.specs.Answers.{AnswersAs}
+use Rattle.mx_files.specs.Answers.{AnswersAs}
 use Rattle.mx_top.specs.Arguments.{Word}
 use Rattle.mx_laws.specs.Detour.{host_of}
 use Rattle.mx_top.specs.Product.{product}
-use Rattle.mx_top.specs.declared.outcome.Outcome.{Outcome}
+use Rattle.mx_files.specs.declared.outcome.Outcome.{Outcome}
 
 -- None of the calls of the host that the program makes by these words fails: the list has none of their numbers.
 abbrev pub NoCallFails : MachineKind → List Word → HostModel → Type 0

@@ -17,14 +17,15 @@ use Rattle.mx_words.specs.declared.order.Order.{Order}
 use Rattle.mx_top.specs.Arguments.{Word, word_at, arguments}
 use Rattle.mx_gen.specs.Generator.{generated, summary}
 use Rattle.mx_gen.specs.Program.{generated_image}
-use Rattle.mx_top.specs.Objects.{source_object}
-use Rattle.mx_top.specs.Pieces.{put_text}
-use Rattle.mx_top.specs.Product.{object_slot, generator_steps}
+use Rattle.mx_files.specs.Objects.{source_object}
+use Rattle.mx_files.specs.Pieces.{put_text}
+use Rattle.mx_files.specs.Assembling.{object_slot}
+use Rattle.mx_top.specs.Product.{generator_steps}
 use Rattle.mx_top.specs.Runs.{ran, machine_ran, session_ran, started}
-use Rattle.mx_top.specs.Source.{file_bytes, source_pieces, object_pieces}
-use Rattle.mx_top.specs.Sources.{source_meaning}
-use Rattle.mx_top.specs.declared.outcome.Outcome.{Outcome}
-use Rattle.mx_top.specs.declared.outcome.Outcome.TheVariants.{Done}
+use Rattle.mx_files.specs.Source.{file_bytes, source_pieces, object_pieces}
+use Rattle.mx_files.specs.Sources.{source_meaning}
+use Rattle.mx_files.specs.declared.outcome.Outcome.{Outcome}
+use Rattle.mx_files.specs.declared.outcome.Outcome.TheVariants.{Done}
 
 -- The words order this, with this command.
 pub record IsOrdered (words : List Word) (o : Order) (wanted : Command) : Type 0 where

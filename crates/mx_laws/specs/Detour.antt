@@ -8,11 +8,11 @@ use Rattle.mx_run.specs.WildRuns.{MachineKind}
 use Rattle.mx_words.specs.Orders.{order_of}
 use Rattle.mx_words.specs.declared.order.Command.TheVariants.{Run, Sim}
 use Rattle.mx_words.specs.declared.order.Order.{Order}
-use Rattle.mx_top.specs.Answers.{Answer, answered, wild}
+use Rattle.mx_files.specs.Answers.{Answer, answered, wild}
 use Rattle.mx_top.specs.Arguments.{Word, program_name}
 use Rattle.mx_top.specs.Product.{product}
-use Rattle.mx_top.specs.Source.{file_bytes, source_pieces}
-use Rattle.mx_top.specs.declared.outcome.Outcome.TheVariants.{Done}
+use Rattle.mx_files.specs.Source.{file_bytes, source_pieces}
+use Rattle.mx_files.specs.declared.outcome.Outcome.TheVariants.{Done}
 
 -- the host as an answer leaves it
 abbrev pub host_of : Answer → HostModel

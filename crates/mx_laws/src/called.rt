@@ -15,8 +15,8 @@ ghost use Rattle.mx_laws.specs.Called.{IsCalled, NoCallFails};
 ghost use Rattle.mx_laws.specs.Complete.{IsGenerated, IsHalted, IsOrdered, IsPlayed, IsThere, ObjectIsThere};
 ghost use Rattle.mx_laws.specs.Complete.{SourceIsThere};
 ghost use Rattle.mx_top.specs.Runs.{machine_ran, ran};
-ghost use Rattle.mx_top.specs.Source.{source_pieces};
-ghost use Rattle.mx_top.specs.declared.outcome.Outcome.{Outcome};
+ghost use Rattle.mx_files.specs.Source.{source_pieces};
+ghost use Rattle.mx_files.specs.declared.outcome.Outcome.{Outcome};
 
 /// A program that halts does so with the low byte of its register $255.
 #[tactic(auto, using(crate::proofs::LowBytes::lowered))]

@@ -17,21 +17,22 @@ ghost use Rattle.mx_plan.specs.Counts.{NoneFailed, unscheduled, without_count};
 ghost use Rattle.mx_run.specs.WildRuns.{MachineKind};
 ghost use Rattle.mx_words.specs.declared.order.Command.{Command};
 ghost use Rattle.mx_words.specs.declared.order.Order.{Order};
-ghost use Rattle.mx_top.specs.Answers.{answered};
+ghost use Rattle.mx_files.specs.Answers.{answered};
 ghost use Rattle.mx_top.specs.Arguments.{Word, word_at, arguments};
 ghost use Rattle.mx_laws.specs.Complete.{HasObject, HasSource, IsGenerated, IsHalted, IsOrdered, IsPlayed, IsStarted};
 ghost use Rattle.mx_laws.specs.Complete.{IsThere, IsWritten, ObjectIsThere, SourceIsThere, with_output};
 ghost use Rattle.mx_laws.specs.Called.{NoCallFails};
 ghost use Rattle.mx_laws.specs.Detour.{answer_unscheduled};
 ghost use Rattle.mx_top.specs.Dump.{dump_lines};
-ghost use Rattle.mx_top.specs.Lines.{lines_put};
-ghost use Rattle.mx_top.specs.Objects.{source_object};
-ghost use Rattle.mx_top.specs.Product.{assembled_outcome, product, refused_with, with_message};
+ghost use Rattle.mx_files.specs.Lines.{lines_put};
+ghost use Rattle.mx_files.specs.Objects.{source_object};
+ghost use Rattle.mx_files.specs.Assembling.{assembled_outcome, refused_with};
+ghost use Rattle.mx_top.specs.Product.{product, with_message};
 ghost use Rattle.mx_top.specs.Runs.{dumped, image_run, session_ran};
-ghost use Rattle.mx_top.specs.Source.{file_bytes, source_pieces};
-ghost use Rattle.mx_top.specs.Sources.{source_meaning};
-ghost use Rattle.mx_top.specs.declared.outcome.Outcome.{Outcome};
-ghost use Rattle.mx_top.specs.declared.refusal.Refusal.{Refusal};
+ghost use Rattle.mx_files.specs.Source.{file_bytes, source_pieces};
+ghost use Rattle.mx_files.specs.Sources.{source_meaning};
+ghost use Rattle.mx_files.specs.declared.outcome.Outcome.{Outcome};
+ghost use Rattle.mx_files.specs.declared.refusal.Refusal.{Refusal};
 
 /// A source that is read, that means an image, and whose machine starts and halts within the steps of
 /// the order, is done: the program answers the status that the machine halted with, and leaves the host

@@ -15,9 +15,9 @@ ghost use Rattle.mx_top.specs.Arguments.{Word};
 ghost use Rattle.mx_laws.specs.Called.{NoCallFails};
 ghost use Rattle.mx_laws.specs.Detour.{AreOrdered, IsAssembled, run_words, sim_words};
 ghost use Rattle.mx_laws.specs.Detour.{answer_uncounted, answer_unscheduled, host_of};
-ghost use Rattle.mx_top.specs.Objects.{source_object};
+ghost use Rattle.mx_files.specs.Objects.{source_object};
 ghost use Rattle.mx_top.specs.Product.{product};
-ghost use Rattle.mx_top.specs.Sources.{source_meaning};
+ghost use Rattle.mx_files.specs.Sources.{source_meaning};
 
 /// Where no call that the program makes fails, it does and answers the same whatever number of calls was made
 /// before, and whatever other calls are listed as failing; only that number and that list differ in what it

@@ -5,9 +5,9 @@ use Rattle.mx_word.specs.declared.no_memory.NoMemory.{NoMemory}
 use Rattle.mx_host.specs.HostModel.{HostModel}
 use Rattle.mx_core.specs.State.{State}
 use Rattle.mx_top.specs.Dump.{Line, special_line, special_lines, register_line, register_lines, octa_line, octa_lines, dump_lines, octa_count}
-use Rattle.mx_top.specs.Lines.{Puts}
+use Rattle.mx_files.specs.Lines.{Puts}
 use Rattle.mx_top.specs.Shown.{AreHidden, IsNextShown, shown_octa}
-use Rattle.mx_top.proofs.PutLines.{puts-none, puts-then, puts-ended}
+use Rattle.mx_files.proofs.PutLines.{puts-none, puts-then, puts-ended}
 
 pub special-lines : (s : State) → special_lines s ≡ flat_map (special_line s) (range_with_len 0 32)
 unfolding special_lines

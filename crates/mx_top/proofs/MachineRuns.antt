@@ -11,10 +11,10 @@ use Rattle.mx_run.specs.declared.end.End.{End}
 use Rattle.mx_run.specs.declared.end.End.TheVariants as ending
 use Rattle.mx_word.specs.Lists.{IsFront}
 use Rattle.mx_word.proofs.Fronts.{front-through}
-use Rattle.mx_top.specs.Answers.{Answer, answered, wild, output_of, GoesAs}
+use Rattle.mx_files.specs.Answers.{Answer, answered, wild, output_of, GoesAs}
 use Rattle.mx_top.specs.Runs.{Ran, ran, ran_wild, ran_to, machine_ran, outcome_of}
-use Rattle.mx_top.specs.declared.outcome.Outcome.{Outcome}
-use Rattle.mx_top.specs.declared.outcome.Outcome.TheVariants.{OutOfMemory}
+use Rattle.mx_files.specs.declared.outcome.Outcome.{Outcome}
+use Rattle.mx_files.specs.declared.outcome.Outcome.TheVariants.{OutOfMemory}
 
 -- whether there was memory
 wanting : (end : End) → (end ≡ ending.OutOfMemory) ⊎ (end ≢ ending.OutOfMemory)

@@ -12,10 +12,10 @@ use Rattle.mx_run.specs.Runs.{FlagsOf, no_flags}
 use Rattle.mx_run.specs.WildRuns.{window_machine, list_machine}
 use Rattle.mx_word.specs.Lists.{IsFront}
 use Rattle.mx_word.proofs.Fronts.{front-through}
-use Rattle.mx_top.specs.Answers.{Answer, answered, wild, output_of, GoesAs}
+use Rattle.mx_files.specs.Answers.{Answer, answered, wild, output_of, GoesAs}
 use Rattle.mx_top.specs.Runs.{Ran, ran, ran_wild, played, session_ran, session_outcome, dumped}
-use Rattle.mx_top.specs.declared.outcome.Outcome.{Outcome}
-use Rattle.mx_top.specs.declared.outcome.Outcome.TheVariants.{HostFault, OutOfMemory}
+use Rattle.mx_files.specs.declared.outcome.Outcome.{Outcome}
+use Rattle.mx_files.specs.declared.outcome.Outcome.TheVariants.{HostFault, OutOfMemory}
 use Rattle.mx_top.proofs.MachineRuns.{goes-as}
 
 -- whether there was memory

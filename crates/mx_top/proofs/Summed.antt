@@ -7,15 +7,14 @@ use Rattle.mx_core.proofs.Seen.{same-register}
 use Rattle.mx_ring.specs.Stack.{register}
 use Rattle.mx_word.specs.Lists.{IsFront}
 use Rattle.mx_word.proofs.Fronts.{front-self}
-use Rattle.mx_top.specs.Answers.{output_of}
+use Rattle.mx_files.specs.Answers.{output_of}
 use Rattle.mx_gen.specs.Generator.{summary}
-use Rattle.mx_top.specs.Lines.{lines_put}
+use Rattle.mx_files.specs.Lines.{lines_put}
 use Rattle.mx_top.specs.Product.{summary_put, summed}
 use Rattle.mx_top.specs.Runs.{ran}
-use Rattle.mx_top.specs.declared.outcome.Outcome.{Outcome}
-use Rattle.mx_top.specs.declared.outcome.Outcome.TheVariants.{Done, Usage, NoFile, HostFault, Refused, BadObject, Stopped, StepsSpent, Quit, ConsoleLimit, OutOfMemory}
-use Rattle.mx_top.proofs.PutLines.{lines-front}
-use Rattle.mx_top.proofs.Dumped.{after_lines-front}
+use Rattle.mx_files.specs.declared.outcome.Outcome.{Outcome}
+use Rattle.mx_files.specs.declared.outcome.Outcome.TheVariants.{Done, Usage, NoFile, HostFault, Refused, BadObject, Stopped, StepsSpent, Quit, ConsoleLimit, OutOfMemory}
+use Rattle.mx_files.proofs.PutLines.{lines-front, after_lines-front}
 
 pub summary-front : (blocks size : ℕ) (s : State) (m : HostModel) → IsFront m.output (output_of (summary_put blocks size s m))
 summary-front blocks size s m =

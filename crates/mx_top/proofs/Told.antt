@@ -4,11 +4,11 @@ use Rattle.mx_host.proofs.Output.{write-front}
 use Rattle.mx_host.specs.HostModel.{HostModel}
 use Rattle.mx_word.specs.Lists.{IsFront}
 use Rattle.mx_word.proofs.Fronts.{front-self, front-through}
-use Rattle.mx_top.specs.Answers.{Answer, answered, wild, output_of, GoesAs}
-use Rattle.mx_top.specs.Messages.{message_of}
+use Rattle.mx_files.specs.Answers.{Answer, answered, wild, output_of, GoesAs}
+use Rattle.mx_files.specs.Messages.{message_of}
 use Rattle.mx_top.specs.Product.{message_told, with_message}
-use Rattle.mx_top.specs.declared.outcome.Outcome.{Outcome}
-use Rattle.mx_top.specs.declared.outcome.Outcome.TheVariants.{Done, Usage, NoFile, HostFault, Refused, BadObject, Stopped, StepsSpent, Quit, ConsoleLimit, OutOfMemory}
+use Rattle.mx_files.specs.declared.outcome.Outcome.{Outcome}
+use Rattle.mx_files.specs.declared.outcome.Outcome.TheVariants.{Done, Usage, NoFile, HostFault, Refused, BadObject, Stopped, StepsSpent, Quit, ConsoleLimit, OutOfMemory}
 use Rattle.mx_top.proofs.MachineRuns.{goes-as}
 
 told-front : (outcome : Outcome) (text : List ℕ) (m : HostModel) → IsFront m.output (output_of (message_told outcome text m))

@@ -1,17 +1,6 @@
 pub use Rattle.mx_word.specs.Results
-pub mod Status
-pub mod Names
-pub mod Messages
-pub mod Answers
-pub mod Pieces
-pub mod Lines
-pub mod Source
 pub mod Arguments
 pub mod Dump
 pub mod Shown
-pub mod Loading
-pub mod Objects
 pub mod Runs
-pub mod Typed
 pub mod Product
-pub mod Sources

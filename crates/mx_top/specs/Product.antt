@@ -2,11 +2,8 @@
 -- is that over a ring of registers, or that over an unbounded list, which goes no further where it meets something wild.
 use Rattle.std.specs.Prelude.{ℕ, ◌^◌, Bool, List, [], ◌∷◌, length, Result, Ok, Err, codes, if◌then◌else◌}
 use Rattle.mx_host.specs.HostModel.{HostModel}
-use Rattle.mx_host.specs.HostAnswer.{Then, open_answer, write_answer, close_answer}
+use Rattle.mx_host.specs.HostAnswer.{Then, write_answer}
 use Rattle.mx_host.specs.declared.faults.HostFault.{HostFault as SlotFault}
-use Rattle.mx_host.specs.declared.faults.OpenFault.{OpenFault}
-use Rattle.mx_host.specs.declared.faults.OpenFault.TheVariants as opening
-use Rattle.mx_host.specs.declared.slots.Mode.TheVariants.{BinaryWrite}
 use Rattle.mx_mmo.specs.Image.{Image}
 use Rattle.mx_load.specs.Objects.{object_loaded}
 use Rattle.mx_core.specs.State.{State}
@@ -18,25 +15,21 @@ use Rattle.mx_words.specs.declared.order.Command.{Command}
 use Rattle.mx_words.specs.declared.order.Command.TheVariants.{Run, Asm, Sim, Gen, Show}
 use Rattle.mx_words.specs.declared.order.Order.{Order}
 use Rattle.mx_words.specs.declared.order.WordsFault.{WordsFault}
-use Rattle.mx_top.specs.Answers.{Answer, answered, wild, plainly, and_then}
+use Rattle.mx_files.specs.Answers.{Answer, answered, wild, plainly, and_then, after_lines}
 use Rattle.mx_top.specs.Arguments.{Word, word_at, arguments}
 use Rattle.mx_gen.specs.Generator.{generated, summary}
-use Rattle.mx_top.specs.Lines.{lines_put}
-use Rattle.mx_top.specs.Messages.{message_of}
-use Rattle.mx_top.specs.Objects.{Assembled, source_object}
-use Rattle.mx_top.specs.Pieces.{put_text}
-use Rattle.mx_top.specs.Runs.{Ran, ran, ran_wild, machine_ran, started, after_lines, image_run}
-use Rattle.mx_top.specs.Source.{file_bytes, source_pieces, object_pieces}
-use Rattle.mx_top.specs.Sources.{source_meaning}
-use Rattle.mx_top.specs.Typed.{after_typing}
-use Rattle.mx_top.specs.declared.refusal.Refusal.{Refusal}
-use Rattle.mx_top.specs.declared.outcome.Outcome.{Outcome}
-use Rattle.mx_top.specs.declared.outcome.Outcome.TheVariants.{Done, Usage, HostFault, Refused, BadObject, OutOfMemory}
+use Rattle.mx_files.specs.Lines.{lines_put}
+use Rattle.mx_files.specs.Messages.{message_of}
+use Rattle.mx_files.specs.Assembling.{refused_with, after_reading}
+use Rattle.mx_top.specs.Runs.{Ran, ran, ran_wild, machine_ran, started, image_run}
+use Rattle.mx_files.specs.Source.{file_bytes, source_pieces, object_pieces}
+use Rattle.mx_files.specs.Sources.{source_meaning}
+use Rattle.mx_files.specs.Typed.{after_typing}
+use Rattle.mx_files.specs.declared.refusal.Refusal.{Refusal}
+use Rattle.mx_files.specs.declared.outcome.Outcome.{Outcome}
+use Rattle.mx_files.specs.declared.outcome.Outcome.TheVariants.{Done, Usage, HostFault, Refused, BadObject, OutOfMemory}
 
 -- ---- `run` and `sim`
-
-abbrev pub refused_with : Refusal → Outcome
-refused_with r = Refused r.line r.fault r.from_line
 
 -- a source is refused, or its image is run
 abbrev pub after_image : MachineKind → Order → List Word → Result Image Refusal → HostModel → Answer
@@ -55,39 +48,6 @@ after_loading kind o arguments (Ok (image, symbols)) m = image_run kind o argume
 abbrev pub after_object : MachineKind → Order → List Word → Then (Result (List ℕ) Outcome) → Answer
 after_object kind o arguments (Err outcome, m) = answered outcome m
 after_object kind o arguments (Ok object, m) = after_loading kind o arguments (object_loaded object) m
-
--- ---- `asm`
-
--- the slot of the tool's object file
-abbrev pub object_slot : ℕ
-object_slot = 257
-
--- the object file is closed
-abbrev pub closed_object : Outcome → Then (Result (Unit {0}) SlotFault) → Then Outcome
-closed_object outcome (Err e, m) = (HostFault, m)
-closed_object outcome (Ok u, m) = (outcome, m)
-
-abbrev pub written_object : Outcome → Then Bool → Then Outcome
-written_object outcome (written, m) = if written then closed_object outcome (close_answer m object_slot) else (HostFault, m)
-
--- the outcome of a source that is assembled
-abbrev pub assembled_outcome : Result (Unit {0}) Refusal → Outcome
-assembled_outcome (Ok u) = Done 0
-assembled_outcome (Err refusal) = refused_with refusal
-
--- what there is of the object is written in pieces, and the file is closed
-abbrev pub object_put : Assembled → HostModel → Then Outcome
-object_put (bytes, answer) m = written_object (assembled_outcome answer) (put_text object_slot bytes m)
-
-abbrev pub after_opening : List ℕ → Then (Result (Unit {0}) OpenFault) → Then Outcome
-after_opening source (Err opening.Absent, m) = (HostFault, m)
-after_opening source (Err opening.Failed, m) = (HostFault, m)
-after_opening source (Err opening.OutOfMemory, m) = (OutOfMemory, m)
-after_opening source (Ok u, m) = object_put (source_object source) m
-
-abbrev pub after_reading : Word → Then (Result (List ℕ) Outcome) → Then Outcome
-after_reading object (Err outcome, m) = (outcome, m)
-after_reading object (Ok source, m) = after_opening source (open_answer m object_slot object BinaryWrite)
 
 -- ---- `gen`
 

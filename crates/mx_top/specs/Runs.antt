@@ -17,11 +17,11 @@ use Rattle.mx_con.specs.Session.{SessionRun, session_ended, session_wild, sessio
 use Rattle.mx_con.specs.declared.end.SessionEnd.{SessionEnd}
 use Rattle.mx_con.specs.declared.end.SessionEnd.TheVariants as sitting
 use Rattle.mx_words.specs.declared.order.Order.{Order}
-use Rattle.mx_top.specs.Answers.{Answer, answered, wild}
+use Rattle.mx_files.specs.Answers.{Answer, answered, wild, leaves_machine, after_lines}
 use Rattle.mx_top.specs.Dump.{dump_lines}
-use Rattle.mx_top.specs.Lines.{lines_put}
-use Rattle.mx_top.specs.declared.outcome.Outcome.{Outcome}
-use Rattle.mx_top.specs.declared.outcome.Outcome.TheVariants.{Done, Usage, NoFile, HostFault, Refused, BadObject, Stopped, StepsSpent, Quit, ConsoleLimit, OutOfMemory}
+use Rattle.mx_files.specs.Lines.{lines_put}
+use Rattle.mx_files.specs.declared.outcome.Outcome.{Outcome}
+use Rattle.mx_files.specs.declared.outcome.Outcome.TheVariants.{Done, Usage, NoFile, HostFault, Refused, BadObject, Stopped, StepsSpent, Quit, ConsoleLimit, OutOfMemory}
 
 -- the register stack at the start: a ring of so many registers, or a list
 abbrev pub stack_at_start : MachineKind → ℕ → Stack
@@ -70,24 +70,7 @@ session_ran kind steps s m = played steps (session kind steps s no_flags m)
 abbrev pub order_ran : MachineKind → Order → State → HostModel → Ran
 order_ran kind o s m = if o.interactive then session_ran kind o.steps s m else machine_ran kind o.steps s m
 
--- where the machine is left with something to tell
-abbrev pub leaves_machine : Outcome → Bool
-leaves_machine (Done status) = true
-leaves_machine (Stopped pc reason) = true
-leaves_machine (StepsSpent steps) = true
-leaves_machine Quit = true
-leaves_machine ConsoleLimit = true
-leaves_machine (Usage fault) = false
-leaves_machine NoFile = false
-leaves_machine HostFault = false
-leaves_machine (Refused line fault from_line) = false
-leaves_machine (BadObject place fault) = false
-leaves_machine OutOfMemory = false
-
--- the dump is written line by line; a line that is not written is the outcome
-abbrev pub after_lines : Outcome → Then Bool → Answer
-after_lines outcome (written, m) = answered (if written then outcome else HostFault) m
-
+-- the dump is written line by line
 abbrev pub dumped : Bool → Ran → Answer
 dumped dump (ran_wild m) = wild m
 dumped dump (ran outcome s m) =

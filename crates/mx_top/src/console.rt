@@ -5,13 +5,13 @@ ghost use Rattle.mx_core.specs.Bounds.{as_list_state};
 ghost use Rattle.mx_core.specs.Kept.{state_of};
 ghost use Rattle.mx_host.specs.Keeping.{ComesByFault, Keeps};
 ghost use Rattle.mx_run.specs.WildRuns.{window_machine, list_machine};
-ghost use Rattle.mx_top.specs.Answers.{AnswersAs, AnswersAsList, WritesFrontOf, is_usage};
+ghost use Rattle.mx_files.specs.Answers.{AnswersAs, AnswersAsList, WritesFrontOf, is_usage};
 ghost use Rattle.mx_top.specs.Runs as spec;
 
-use crate::outcome::Outcome;
 use crate::run::tell_end;
 use mx_con::{SessionEnd, session};
 use mx_core::Machine;
+use mx_files::Outcome;
 use mx_host::Host;
 use mx_run::Runner;
 use mx_words::Order;

@@ -10,13 +10,12 @@ ghost use Rattle.mx_host.specs.Keeping.{ComesByFault, Keeps};
 ghost use Rattle.mx_ring.specs.Stack.{in_stack_area};
 ghost use Rattle.mx_word.specs.Lists.{IsFront};
 ghost use Rattle.mx_top.specs.Dump as spec;
-ghost use Rattle.mx_top.specs.Lines.{Puts, lines_put};
+ghost use Rattle.mx_files.specs.Lines.{Puts, lines_put};
 ghost use Rattle.mx_top.specs.Shown.{IsNextShown, shown_octa};
 
-use crate::lines::put_line;
-use crate::message::add_decimal;
 use mx_cmd::special_name;
 use mx_core::Machine;
+use mx_files::{add_decimal, put_line};
 use mx_host::Host;
 use mx_text::octa_hex;
 use mx_word::{Bytes, NoMemory};

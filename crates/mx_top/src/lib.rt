@@ -4,22 +4,11 @@
 mod arguments;
 mod console;
 mod dump;
-mod emit;
 mod generation;
 mod generator;
-mod lines;
-mod loading;
-mod message;
-mod names;
 mod objects;
-mod outcome;
-mod pieces;
-mod refusal;
 mod run;
-mod source;
 mod top;
-mod typing;
 
-pub use names::{fault_name, usage_name};
-pub use outcome::Outcome;
+pub use mx_files::{Outcome, fault_name, usage_name};
 pub use top::mmixware;

@@ -6,13 +6,12 @@ ghost use Rattle.mx_host.specs.Keeping.{ComesByFault, Keeps};
 ghost use Rattle.mx_load.specs.Objects.{object_loaded};
 ghost use Rattle.mx_ring.specs.Stack.{stack_address};
 ghost use Rattle.mx_run.specs.WildRuns.{window_machine, list_machine};
-ghost use Rattle.mx_top.specs.Answers.{AnswersAs, AnswersAsList, WritesFrontOf, is_usage};
+ghost use Rattle.mx_files.specs.Answers.{AnswersAs, AnswersAsList, WritesFrontOf, is_usage};
 ghost use Rattle.mx_top.specs.Product as product;
-ghost use Rattle.mx_top.specs.Source.{file_bytes};
+ghost use Rattle.mx_files.specs.Source.{file_bytes};
 
-use crate::outcome::Outcome;
 use crate::run::run_image;
-use crate::source::{OBJECT_PIECES, read_file};
+use mx_files::{OBJECT_PIECES, Outcome, read_file};
 use mx_host::Host;
 use mx_load::{ObjectFault, load_object};
 use mx_word::Bytes;

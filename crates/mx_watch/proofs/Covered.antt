@@ -9,3 +9,5 @@ use Rattle.mx_watch.specs.Watching.{later}
 pub cover_told : (addresses after : List ℕ) (t : Trace) → after ≡ insert_key nat_cmp addresses t.pc → covering after ≡ later t (covering addresses)
 unfolding addresses_after
 cover_told addresses after t e = ap covering e
+
+pub ruleset told = (cover_told)

@@ -18,7 +18,7 @@ pub heard_all : (ts : List Trace) (i : ℕ) (l whole : Listening) → length ts 
 unfolding watched
 heard_all ts i l whole end h = sym (at_drop_all (λ xs. watched xs l) ts i end) ∙ h
 
-zip-second : (P : List ℕ) (M : List Watching) → length P ≡ length M → map (λ w. w.1) (zip P M) ≡ M
+pub zip-second : (P : List ℕ) (M : List Watching) → length P ≡ length M → map (λ w. w.1) (zip P M) ≡ M
 zip-second [] [] same = refl
 zip-second [] (m ∷ M) same = absurd (omega arith)
 zip-second (p ∷ P) [] same = absurd (omega arith)

@@ -31,7 +31,7 @@ parts-shift F a (suc n) =
     let next : a + 1 ≡ suc a = omega arith in
     ap (λ k. F k ++ flat_map F (range_with_len (a + 1 + 1) n)) next ∙ ap (λ l. F (suc a) ++ l) (parts-shift F (a + 1) n)
 
-never-more : (full : List Trace → Bool) (t : Trace) (ts : List Trace) → never_full full (t ∷ ts) ≡ (not (full (t ∷ [])) && never_full (λ h. full (t ∷ h)) ts)
+pub never-more : (full : List Trace → Bool) (t : Trace) (ts : List Trace) → never_full full (t ∷ ts) ≡ (not (full (t ∷ [])) && never_full (λ h. full (t ∷ h)) ts)
 never-more full t ts = ap (λ b. not (full (t ∷ [])) && b) (all-shift (λ k. not (full (take k (t ∷ ts)))) 1 (length ts))
 
 one-left : (b c : Bool) (x y : ℕ × Watching) (F : ℕ × Watching → List (ℕ × Watching)) → F y ≡ cond c (x ∷ []) [] → flat_map F (cond b [] (y ∷ [])) ≡ cond (not b && c) (x ∷ []) []

@@ -9,3 +9,8 @@ pub mod Passed
 pub mod Front
 pub mod Heard
 pub mod HearingLaws
+pub mod HeardFronts
+pub mod Listened
+pub mod ListTraces
+pub mod Watched
+pub mod Remembered

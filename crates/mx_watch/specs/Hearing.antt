@@ -1,6 +1,6 @@
 -- Which watchers are left after traces, and which reports are kept, each watcher by itself.
-use Rattle.std.specs.Prelude.{ℕ, suc, Bool, not, ◌&&◌, if◌then◌else◌, List, [], ◌∷◌, ◌++◌, length, take}
-use Rattle.std.specs.List.{flat_map, list_all, range_with_len}
+use Rattle.std.specs.Prelude.{ℕ, suc, ◌≡◌, Bool, not, ◌&&◌, if◌then◌else◌, List, [], ◌∷◌, ◌++◌, length, map, take}
+use Rattle.std.specs.List.{flat_map, list_all, range_with_len, zip}
 use Rattle.mx_core.specs.declared.trace.Trace.{Trace}
 use Rattle.mx_watch.specs.Watching.{Watching}
 use Rattle.mx_watch.specs.declared.telling.Report.{Report}
@@ -25,3 +25,23 @@ reported h k w =
 -- the reports on the fronts of one trace first, then those on the fronts of two, and so on
 abbrev pub reports_in_turn : List Trace → List (ℕ × Watching) → List Report
 reports_in_turn h ws = flat_map (λ k. flat_map (reported h k) ws) (range_with_len 0 (length h))
+
+-- each watcher with its index in the list as its place
+abbrev pub placed : List Watching → List (ℕ × Watching)
+placed watchers = zip (range_with_len 0 (length watchers)) watchers
+
+-- What comes of watchers that are told traces: those are left of which no front is full, in order, each told all of them; and
+-- the reports of the others stand behind those that were there.
+pub record Hears (h : List Trace) (watchers left : List Watching) (earlier later : List Report) : Type 0 where
+  pub staying : left ≡ map (λ w. w.1) (flat_map (remains h) (placed watchers))
+  pub reports : later ≡ earlier ++ reports_in_turn h (placed watchers)
+
+-- what one hears of traces: the shortest front of one trace or more that is full, and all of them where none is
+unfoldable pub heard : (List Trace → Bool) → List Trace → List Trace
+heard full [] = []
+heard full (t ∷ ts) = if full (t ∷ []) then t ∷ [] else t ∷ heard (λ h. full (t ∷ h)) ts
+
+-- as `reported`, with the text on what it heard
+abbrev pub reported_heard : List Trace → ℕ → ℕ × Watching → List Report
+reported_heard h k w =
+    if never_full w.1.full (take k h) && w.1.full (take (suc k) h) then record { place = w.0; text = w.1.text (heard w.1.full h) } ∷ [] else []

@@ -4,3 +4,5 @@ pub mod Covers
 pub mod Writings
 pub mod Listening
 pub mod Hearing
+pub mod Traces
+pub mod WatchedRuns

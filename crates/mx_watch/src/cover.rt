@@ -1,8 +1,10 @@
 //! How many addresses were carried out.
 
-ghost use Rattle.std.specs.Prelude.{◌≡◌, ◌++◌, [], IfOk, OnOk};
+ghost use Rattle.std.specs.Prelude.{◌≡◌, ◌<◌, ◌++◌, ℕ, List, [], IfOk, IsTrue, OnOk, OnErr};
+ghost use Rattle.std.specs.BTreeSet.{insert_key};
+ghost use Rattle.std.specs.Ordering.{nat_cmp};
 ghost use Rattle.mx_watch.specs.Covers as spec;
-ghost use Rattle.mx_watch.specs.Covers.{covering};
+ghost use Rattle.mx_watch.specs.Covers.{IsKnown, Remembers, covering};
 
 use crate::numbers::add_count;
 use crate::{Watcher, Wish};
@@ -10,12 +12,26 @@ use mx_core::Trace;
 use mx_word::{Bytes, NoMemory};
 use std::alloc::Global;
 use std::collections::BTreeSet;
+use std::marker::Model;
 
 /// A watcher that counts the different addresses of the instructions that steps fetched. It is never full.
 #[derive(Drop)]
 pub struct Cover {
     addresses: BTreeSet<u64>,
+    /// Some of the addresses, each at the place that it gives: a loop does not look them up in the set again.
+    remembered: [Option<u64>; 1024],
     alloc: Global,
+}
+
+impl Model for Cover {
+    ghost use Rattle.std.specs.Prelude.{ℕ, List};
+    ghost use Rattle.mx_watch.specs.Covers.{Remembers};
+
+    ghost Value = { List ℕ };
+
+    ghost view = { λ c. c.addresses.keys };
+
+    ghost invariant = { λ c. Remembers c.addresses.keys c.remembered };
 }
 
 impl Cover {
@@ -27,17 +43,25 @@ impl Cover {
     {
         Ok(Cover {
             addresses: BTreeSet::new(alloc),
+            remembered: nothing_remembered(),
             alloc,
         })
     }
 }
 
 impl Watcher for Cover {
-    ghost meaning = { λ c. covering c.addresses.keys };
+    ghost meaning = { λ c. covering c };
 
+    #[tactic(auto, using(crate::proofs::Remembered::remembering, crate::proofs::Covered::told))]
     fn tell(&mut self, t: &Trace) -> Result<Wish, NoMemory> {
+        if is_remembered(&self.remembered, t.pc) {
+            return Ok(Wish::More);
+        }
         match self.addresses.insert(t.pc) {
-            Ok(_) => Ok(Wish::More),
+            Ok(_) => {
+                remember(&mut self.remembered, t.pc);
+                Ok(Wish::More)
+            }
             Err(_) => Err(NoMemory),
         }
     }
@@ -49,4 +73,38 @@ impl Watcher for Cover {
         text.push(b'\n')?;
         Ok(text)
     }
+}
+
+/// No address is remembered.
+fn nothing_remembered() -> [Option<u64>; 1024]
+    ensures { Remembers [] result }
+{
+    [None; 1024]
+}
+
+/// The place at which an address is remembered.
+fn place_of(a: u64) -> usize
+    ensures { result < 1024 }
+{
+    (a / 4 % 1024) as usize
+}
+
+/// Whether an address is remembered.
+#[tactic(auto, using(crate::proofs::Remembered::remembering))]
+fn is_remembered(remembered: &[Option<u64>; 1024], a: u64) -> bool
+    ensures { (addresses : List ℕ) → IsTrue result → Remembers addresses remembered.now → IsKnown addresses a }
+{
+    match remembered[place_of(a)] {
+        Some(other) => a == other,
+        None => false,
+    }
+}
+
+/// Remembers an address, which is then there. Another one of its place is forgotten.
+#[tactic(auto, using(crate::proofs::Remembered::remembering))]
+fn remember(remembered: &mut [Option<u64>; 1024], a: u64)
+    ensures { (addresses : List ℕ) → Remembers addresses remembered.old
+        → Remembers (insert_key nat_cmp addresses a) remembered.new }
+{
+    remembered[place_of(a)] = Some(a);
 }

@@ -1,14 +1,15 @@
 //! What the three watchers come to, in words of the traces alone.
 
-ghost use Rattle.std.specs.Prelude.{◌≡◌, ◌<◌, ◌-◌, ◌^◌, ◌↔◌, ◌++◌, ℕ, List, [], min, replicate, slice_index};
+ghost use Rattle.std.specs.Prelude.{◌≡◌, ◌<◌, ◌-◌, ◌^◌, ◌↔◌, ◌++◌, ℕ, suc, Bool, true, List, [], length, min, replicate, slice_index, take};
 ghost use Rattle.std.specs.List.{Contains, flat_map};
 ghost use Rattle.std.specs.List.Sorted.{IsStrictlySortedBy};
 ghost use Rattle.std.specs.Ordering.{nat_cmp};
 ghost use Rattle.mx_core.specs.declared.trace.Trace.{Trace};
 ghost use Rattle.mx_watch.specs.Covers.{addresses_after, addresses_of};
-ghost use Rattle.mx_watch.specs.Hearing.{remains, reports_in_turn};
+ghost use Rattle.mx_watch.specs.Hearing.{heard, never_full, remains, reported, reported_heard, reports_in_turn};
 ghost use Rattle.mx_watch.specs.Listening.{Listening, watched};
 ghost use Rattle.mx_watch.specs.Profiles.{counts_after, occurrences};
+ghost use Rattle.mx_watch.specs.Watching.{Watching};
 ghost use Rattle.mx_watch.specs.Writings.{write_of, writes_after};
 
 /// A new profile counts how many of the traces have a code, up to 2^64 - 1.
@@ -34,10 +35,20 @@ pub fn writes_stand_in_turn()
 {}
 
 /// After traces, those watchers are left of which no front of the traces is full, in order, each told all of them. The
-/// report of another one is on its shortest front that is full: the shorter one first, and of one length in the order of
-/// the watchers.
+/// report of another one is on its shortest front that is full: the shorter one first, and of one length in the order
+/// of the watchers.
 #[tactic(auto, using(crate::proofs::HearingLaws::hearing))]
 pub fn each_hears_its_front()
     ensures left { (h : List Trace) (l : Listening) → (watched h l).left ≡ flat_map (remains h) l.left }
     ensures kept { (h : List Trace) (l : Listening) → (watched h l).kept ≡ l.kept ++ reports_in_turn h l.left }
+{}
+
+/// A watcher hears of traces the shortest front of one or more that is full, and all of them where none is. A report
+/// that is kept is on what its watcher heard.
+pub fn reports_are_on_what_was_heard()
+    ensures all { (full : List Trace → Bool) (h : List Trace) → never_full full h ≡ true → heard full h ≡ h }
+    ensures front { (full : List Trace → Bool) (h : List Trace) (k : ℕ) → k < length h
+        → never_full full (take k h) ≡ true → full (take (suc k) h) ≡ true → heard full h ≡ take (suc k) h }
+    ensures reports { (h : List Trace) (k : ℕ) (w : ℕ × Watching) → k < length h
+        → reported h k w ≡ reported_heard h k w }
 {}

@@ -33,7 +33,7 @@ pub fn watch(
 
 /// The indices of so many watchers.
 #[tactic(auto, using(crate::proofs::Heard::first_places))]
-fn first_places(alloc: Global, count: usize) -> Result<Vec<usize>, NoMemory>
+pub(crate) fn first_places(alloc: Global, count: usize) -> Result<Vec<usize>, NoMemory>
     ensures { IfOk result (λ places. places.items ≡ range_with_len 0 count) }
 {
     let mut places = Vec::new(alloc);

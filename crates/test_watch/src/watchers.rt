@@ -148,7 +148,7 @@ fn traces_of(alloc: Global, rows: &[Row]) -> Option<Vec<Trace>> {
 }
 
 /// Whether these are the reports, by their places and texts.
-fn are_reports(kept: &[Report], want: &[(usize, &str)]) -> bool {
+pub fn are_reports(kept: &[Report], want: &[(usize, &str)]) -> bool {
     if kept.len() != want.len() {
         return false;
     }
@@ -161,7 +161,7 @@ fn are_reports(kept: &[Report], want: &[(usize, &str)]) -> bool {
 }
 
 /// A watcher that is full after a trace.
-fn once(alloc: Global) -> Once {
+pub fn once(alloc: Global) -> Once {
     Once {
         pc: 0,
         told: false,

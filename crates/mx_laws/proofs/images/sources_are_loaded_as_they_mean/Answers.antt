@@ -1,4 +1,4 @@
-use Rattle.mx_top.proofs.SourceImages.{source-is}
+use Rattle.mx_files.proofs.SourceImages.{source-is}
 use Rattle.mx_laws.proofs.images.sources_are_loaded_as_they_mean.Goals as goal
 
 pub returns : goal.returns

@@ -1,5 +1,5 @@
 use Rattle.std.proofs.Common.{◌∙◌}
-use Rattle.mx_top.proofs.PutLines.{puts-renamed, puts-lacking}
+use Rattle.mx_files.proofs.PutLines.{puts-renamed, puts-lacking}
 use Rattle.mx_top.proofs.dump.put_octa.Goals as goal
 
 pub returns-in_err-line : goal.returns-in_err-line

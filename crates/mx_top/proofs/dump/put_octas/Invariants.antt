@@ -1,7 +1,7 @@
 use Rattle.std.proofs.Common.{◌≡◌, ◌≤◌, ◌-◌, ◌/◌, ◌%◌, ◌^◌, true, Ok}
 use Rattle.mx_core.specs.Kept.{state_of}
 use Rattle.mx_top.specs.Dump.{octa_lines}
-use Rattle.mx_top.specs.Lines.{Puts}
+use Rattle.mx_files.specs.Lines.{Puts}
 use Rattle.mx_top.proofs.dump.put_octas.Given as goal
 
 -- the lines of the octas so far were written

@@ -1,7 +1,7 @@
 use Rattle.std.proofs.Common.{◌∙◌, sym}
 use Rattle.mx_core.specs.Kept.{state_of}
 use Rattle.mx_top.specs.Dump as spec
-use Rattle.mx_top.proofs.PutLines.{puts-hidden, puts-shown, puts-renamed, puts-lacking}
+use Rattle.mx_files.proofs.PutLines.{puts-hidden, puts-shown, puts-renamed, puts-lacking}
 use Rattle.mx_top.proofs.dump.put_register.Goals as goal
 
 pub returns-then-not-is_register_shown : goal.returns-then-not-is_register_shown

@@ -1,8 +1,8 @@
 use Rattle.std.proofs.Common.{true, Ok}
 use Rattle.mx_core.specs.Kept.{state_of}
 use Rattle.mx_top.specs.Dump.{register_line}
-use Rattle.mx_top.specs.Lines.{Puts}
-use Rattle.mx_top.proofs.PutLines.{lines-below}
+use Rattle.mx_files.specs.Lines.{Puts}
+use Rattle.mx_files.proofs.PutLines.{lines-below}
 use Rattle.mx_top.proofs.dump.put_registers.Given as goal
 
 -- the lines so far were written

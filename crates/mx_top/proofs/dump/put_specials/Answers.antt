@@ -2,7 +2,7 @@ use Rattle.std.proofs.Common.{arith}
 use Rattle.mx_core.specs.Kept.{state_of}
 use Rattle.mx_top.specs.Dump.{special_line}
 use Rattle.mx_top.proofs.DumpLines.{special-lines}
-use Rattle.mx_top.proofs.PutLines.{puts-none, puts-next, puts-last, puts-all}
+use Rattle.mx_files.proofs.PutLines.{puts-none, puts-next, puts-last, puts-all}
 use Rattle.mx_top.proofs.dump.put_specials.Goals as goal
 
 pub loop-code-init : goal.loop-code-init

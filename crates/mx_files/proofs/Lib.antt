@@ -1,0 +1,11 @@
+pub mod Counting
+pub mod LoadedItems
+pub mod LoadedLines
+pub mod PutPieces
+pub mod PutLines
+pub mod QuietFiles
+pub mod ReadPieces
+pub mod SourceImages
+pub mod TakenLines
+pub mod WrittenObjects
+pub mod TypedLines

@@ -1,0 +1,76 @@
+-- What a command comes to: an outcome and the host as it then stands.
+use Rattle.std.specs.Prelude.{◌≡◌, ◌≢◌, IsTrue, Bool, true, false, if◌then◌else◌, ℕ, List, Option}
+use Rattle.mx_word.specs.Lists.{IsFront}
+use Rattle.mx_host.specs.HostModel.{HostModel, tells, contents}
+use Rattle.mx_host.specs.HostAnswer.{Then}
+use Rattle.mx_files.specs.declared.outcome.Outcome.{Outcome}
+use Rattle.mx_files.specs.declared.outcome.Outcome.TheVariants.{Done, Usage, NoFile, HostFault, Refused, BadObject, Stopped, StepsSpent, Quit, ConsoleLimit, OutOfMemory}
+
+-- the outcome and the host; or, over the list machine, the host at the first step that looks at rS or at the memory of the
+-- register stack
+pub data Answer : Type 0 where
+  answered : Outcome → HostModel → Answer
+  wild : HostModel → Answer
+
+abbrev pub plainly : Then Outcome → Answer
+plainly (outcome, m) = answered outcome m
+
+-- whether an outcome tells that the words are no order
+abbrev pub is_usage : Outcome → Bool
+is_usage (Usage fault) = true
+is_usage (Done status) = false
+is_usage NoFile = false
+is_usage HostFault = false
+is_usage (Refused line fault from_line) = false
+is_usage (BadObject place fault) = false
+is_usage (Stopped pc reason) = false
+is_usage (StepsSpent steps) = false
+is_usage Quit = false
+is_usage ConsoleLimit = false
+is_usage OutOfMemory = false
+
+-- where the machine is left with something to tell
+abbrev pub leaves_machine : Outcome → Bool
+leaves_machine (Done status) = true
+leaves_machine (Stopped pc reason) = true
+leaves_machine (StepsSpent steps) = true
+leaves_machine Quit = true
+leaves_machine ConsoleLimit = true
+leaves_machine (Usage fault) = false
+leaves_machine NoFile = false
+leaves_machine HostFault = false
+leaves_machine (Refused line fault from_line) = false
+leaves_machine (BadObject place fault) = false
+leaves_machine OutOfMemory = false
+
+-- what follows an outcome
+abbrev pub and_then : (Outcome → HostModel → Answer) → Answer → Answer
+and_then more (answered outcome m) = more outcome m
+and_then more (wild m) = wild m
+
+-- lines are written one by one; a line that is not written is the outcome
+abbrev pub after_lines : Outcome → Then Bool → Answer
+after_lines outcome (written, m) = answered (if written then outcome else HostFault) m
+
+-- what standard output then has
+abbrev pub output_of : Answer → List ℕ
+output_of (answered outcome m) = m.output
+output_of (wild m) = m.output
+
+-- ---- the words of clauses: `old` and `new` are what the host told before and after
+
+-- over a host that tells its contents, the outcome and what the host then holds are those of f, unless out of memory
+abbrev pub AnswersAs : Option HostModel → Option HostModel → Outcome → (HostModel → Answer) → Type 0
+AnswersAs old new result f = IsTrue (tells old) → result ≢ OutOfMemory → answered result (contents new) ≡ f (contents old)
+
+-- the same, up to what is wild: there standard output begins with what was written before
+abbrev pub GoesAs : Answer → Outcome → HostModel → Type 0
+GoesAs (answered outcome m) result new = (result ≡ outcome) × (new ≡ m)
+GoesAs (wild m) result new = IsFront m.output new.output
+
+abbrev pub AnswersAsList : Option HostModel → Option HostModel → Outcome → (HostModel → Answer) → Type 0
+AnswersAsList old new result f = IsTrue (tells old) → result ≢ OutOfMemory → GoesAs (f (contents old)) result (contents new)
+
+-- over a host that tells its contents, out of memory, what standard output has is a front of what f writes
+abbrev pub WritesFrontOf : Option HostModel → Option HostModel → Outcome → (HostModel → Answer) → Type 0
+WritesFrontOf old new result f = IsTrue (tells old) → result ≡ OutOfMemory → IsFront (contents new).output (output_of (f (contents old)))

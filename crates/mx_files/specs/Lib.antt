@@ -1,0 +1,13 @@
+pub use Rattle.mx_word.specs.Results
+pub mod Status
+pub mod Names
+pub mod Messages
+pub mod Answers
+pub mod Pieces
+pub mod Lines
+pub mod Source
+pub mod Loading
+pub mod Objects
+pub mod Sources
+pub mod Assembling
+pub mod Typed

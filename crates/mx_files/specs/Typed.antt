@@ -1,0 +1,113 @@
+-- What `type` writes for an object, line by line, and what it comes to.
+use Rattle.std.specs.Prelude.{ℕ, ◌+◌, ◌≡◌, ◌≢◌, Bool, true, false, nat_lt, List, [], ◌∷◌, ◌++◌, length, map, Option, Result, Ok, Err, unwrap_or, if◌then◌else◌}
+use Rattle.mx_host.specs.HostModel.{HostModel}
+use Rattle.mx_host.specs.HostAnswer.{Then}
+use Rattle.mx_host.specs.Keeping.{ComesByFault, Keeps}
+use Rattle.mx_load.specs.Objects.{fault_at}
+use Rattle.mx_mmo.specs.Replies.{ReaderModel, limit, tail_of}
+use Rattle.mx_mmo.specs.Whole.{Left, Walk, items_of}
+use Rattle.mx_mmo.specs.declared.due.Phase.TheVariants.{Start}
+use Rattle.mx_mmo.specs.declared.faults.MmoFault.{MmoFault}
+use Rattle.mx_mmo.specs.declared.faults.MmoFault.TheVariants.{TooLong}
+use Rattle.mx_mmo.specs.declared.items.Item.{Item}
+use Rattle.mx_mmo.specs.declared.items.Tail.{Tail}
+use Rattle.mx_stab.specs.Faults.{number_of, place_of}
+use Rattle.mx_stab.specs.Reading.{trie_answer}
+use Rattle.mx_stab.specs.declared.faults.StabFault.{StabFault}
+use Rattle.mx_type.specs.Lambda.{lambda_after}
+use Rattle.mx_type.specs.Lines.{ended, stab_line, symbol_line}
+use Rattle.mx_type.specs.Texts.{item_text}
+use Rattle.mx_word.specs.declared.no_memory.NoMemory.{NoMemory}
+use Rattle.mx_word.specs.declared.symbols.Symbol.{Symbol}
+use Rattle.mx_files.specs.Answers.{Answer, answered, AnswersAs, WritesFrontOf, is_usage, after_lines}
+use Rattle.mx_files.specs.Lines.{Puts, lines_put}
+use Rattle.mx_files.specs.declared.outcome.Outcome.{Outcome}
+use Rattle.mx_files.specs.declared.outcome.Outcome.TheVariants.{Done, NoFile, HostFault, BadObject, OutOfMemory}
+
+-- lines, and the outcome where all of them are written
+abbrev pub Typed : Type 0
+Typed = List (List ℕ) × Outcome
+
+-- a text as the line that it is; no bytes are no line
+abbrev pub shown : List ℕ → List (List ℕ)
+shown [] = []
+shown (b ∷ text) = (b ∷ text) ∷ []
+
+-- the lines of items, where lambda is an address before the first of them
+unfoldable pub item_lines : ℕ → List Item → List (List ℕ)
+item_lines lambda [] = []
+item_lines lambda (item ∷ items) = shown (item_text lambda item) ++ item_lines (lambda_after lambda item) items
+
+-- the lines behind them: that of the trie, and one for each of its symbols
+abbrev pub tail_lines : List ℕ → List Symbol → List (List ℕ)
+tail_lines trie symbols = ended (stab_line trie) ∷ map (λ s. ended (symbol_line s)) symbols
+
+-- the refusal of bytes that are no object
+abbrev pub unread : MmoFault → Outcome
+unread fault = BadObject (fault_at fault).0 (fault_at fault).1
+
+-- so with those of a trie, whose places count from where it stands in the object
+abbrev pub unread_trie : ℕ → StabFault → Outcome
+unread_trie place fault = BadObject (place + unwrap_or (place_of fault) 0) (number_of fault)
+
+-- what stands behind the items: the trie and its symbols, or what is wrong there
+abbrev pub trie_typed : ℕ → List ℕ → Result (List Symbol) StabFault → Typed
+trie_typed place trie (Ok symbols) = (tail_lines trie symbols, Done 0)
+trie_typed place trie (Err fault) = ([], unread_trie place fault)
+
+abbrev pub tail_typed : Result Tail MmoFault → Typed
+tail_typed (Ok tail) = trie_typed tail.place tail.trie (trie_answer tail.trie)
+tail_typed (Err fault) = ([], unread fault)
+
+abbrev pub end_typed : Result Left MmoFault → Typed
+end_typed (Ok left) = tail_typed (tail_of left.phase left.at left.rest)
+end_typed (Err fault) = ([], unread fault)
+
+-- lines before others
+abbrev pub behind : List (List ℕ) → Typed → Typed
+behind lines t = (lines ++ t.0, t.1)
+
+-- the items up to the first fault, and then what stands behind them, or the fault
+abbrev pub walk_typed : ℕ → Walk → Typed
+walk_typed lambda w = behind (item_lines lambda w.0) (end_typed w.1)
+
+-- An object, line by line. Where it has a fault of its own, the lines of the items before it stand, and no line of a trie;
+-- what its items mean plays no part. Of too many bytes there is no line.
+unfoldable pub typed : List ℕ → Typed
+typed object = if nat_lt limit (length object) then ([], unread (TooLong limit)) else walk_typed 0 (items_of Start 0 object)
+
+-- the lines are written, each by one write, up to one that is not
+abbrev pub typed_put : Typed → HostModel → Answer
+typed_put t m = after_lines t.1 (lines_put t.0 m)
+
+abbrev pub after_typing : Then (Result (List ℕ) Outcome) → Answer
+after_typing (Err outcome, m) = answered outcome m
+after_typing (Ok object, m) = typed_put (typed object) m
+
+-- ---- the words of clauses: `old` and `new` are what the host told before and after, `before` and `after` its counts of
+-- faults
+
+-- what a reader still gives, with what stands behind it
+abbrev pub still_typed : ℕ → ReaderModel → Typed
+still_typed lambda m = walk_typed lambda (items_of m.phase m.at m.rest)
+
+-- what a call answers and leaves that writes these lines and comes to this outcome
+pub record Types (old new : Option HostModel) (before after : ℕ) (result : Outcome) (t : Typed) : Type 0 where
+  pub told : AnswersAs old new result (λ m. typed_put t m)
+  pub front : WritesFrontOf old new result (λ m. typed_put t m)
+  pub rose : ComesByFault old HostFault result before after
+  pub present : result ≢ NoFile
+  pub words : is_usage result ≡ false
+  pub keeps : Keeps old new before after
+
+-- what a call leaves that wrote the first lines of a whole, with those that are left of it
+pub record HasTyped (old new : Option HostModel) (before after : ℕ) (whole rest : Typed) : Type 0 where
+  pub lines : List (List ℕ)
+  pub puts : Puts old new before after (Ok true) lines
+  pub joined : whole ≡ behind lines rest
+
+-- what the writing of lines comes to, where it comes to an outcome if all of them are written
+abbrev pub outcome_of_lines : Result Bool NoMemory → Outcome → Outcome
+outcome_of_lines (Ok true) outcome = outcome
+outcome_of_lines (Ok false) outcome = HostFault
+outcome_of_lines (Err e) outcome = OutOfMemory

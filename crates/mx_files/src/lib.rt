@@ -1,0 +1,24 @@
+//! Sources and objects in files: they are read, assembled, loaded, listed and written, and what that comes to
+//! is told in a line.
+#![tactic(auto)]
+
+mod emit;
+mod lines;
+mod loading;
+mod messages;
+mod names;
+mod outcome;
+mod pieces;
+mod refusal;
+mod source;
+mod typing;
+
+pub use emit::assemble_file;
+pub use lines::put_line;
+pub use loading::load_source;
+pub use messages::{add_decimal, message};
+pub use names::{fault_name, usage_name};
+pub use outcome::Outcome;
+pub use refusal::{Refusal, SourceFault};
+pub use source::{OBJECT_PIECES, SOURCE_PIECES, read_file};
+pub use typing::list_file;

@@ -1,0 +1,190 @@
+//! A source that is loaded line by line.
+
+ghost use Rattle.std.specs.Prelude.{◌≡◌, ◌≢◌, Ok, Err, IfOk, OnOk, OnErr, [], fold};
+ghost use Rattle.mx_asm.specs.Faults.{no_memory};
+ghost use Rattle.mx_asm.specs.Fitting.{AreFit};
+ghost use Rattle.mx_asm.specs.OnePass.{line_behind};
+ghost use Rattle.mx_line.specs.Lines.{lines_of};
+ghost use Rattle.mx_load.specs.Standing as loader_spec;
+ghost use Rattle.mx_files.specs.Loading as spec;
+ghost use Rattle.mx_files.specs.Sources.{source_meaning};
+
+use crate::refusal::{Refusal, SourceFault, is_out_of_memory, refusal_of, refused_at};
+use mx_asm::{Assembler, Refused};
+use mx_line::cut_line;
+use mx_load::{Image, LoadFault, Loader};
+use mx_mmo::{Item, Items};
+use mx_word::{NoMemory, Symbols};
+use std::alloc::Global;
+
+/// Loads items in turn, up to one that cannot be loaded.
+#[tactic(auto, using(crate::proofs::LoadedItems::loading), unfolding(mx_asm::specs::Fitting::AreFit))]
+fn load_items(loader: &mut Loader, items: &[Item]) -> Result<(), LoadFault>
+    requires fit { AreFit items.now }
+    requires open { loader_spec.answer (loader_spec.standing loader.old) ≡ Ok tt }
+    ensures loaded { result ≢ Err LoadFault.OutOfMemory →
+        loader_spec.standing loader.new ≡ spec.all_loaded (loader_spec.standing loader.old) items.now }
+    ensures answer { result ≢ Err LoadFault.OutOfMemory →
+        result ≡ loader_spec.answer (loader_spec.standing loader.new) }
+{
+    let mut rest = items;
+    while let [item, others @ ..] = rest {
+        match loader.take(item) {
+            Ok(()) => {}
+            Err(fault) => return Err(fault),
+        }
+        rest = others;
+    }
+    Ok(())
+}
+
+/// The refusal that the assembler answers, unless there was no memory.
+fn told(refused: Refused) -> Result<Refusal, NoMemory>
+    ensures value { IfOk result (λ refusal. refusal ≡ spec.refusal_of refused) }
+    ensures memory { OnOk result (refused ≢ no_memory) }
+{
+    if is_out_of_memory(&refused) {
+        return Err(NoMemory);
+    }
+    Ok(refusal_of(refused))
+}
+
+/// Takes a line, and tells its refusal.
+fn take_line(
+    assembler: &mut Assembler,
+    items: &mut Items,
+    text: &[u8],
+) -> Result<Result<(), Refusal>, NoMemory>
+    ensures taken { OnOk result ((items.new, assembler.new) ≡ line_behind items.old assembler.old text.now) }
+    ensures answer { IfOk result (λ answer. answer ≡ spec.refusal_in assembler.new) }
+    ensures fits { AreFit items.old → AreFit items.new }
+{
+    match assembler.line(text, items) {
+        Ok(()) => Ok(Ok(())),
+        Err(refused) => match told(refused) {
+            Ok(refusal) => Ok(Err(refusal)),
+            Err(e) => Err(e),
+        },
+    }
+}
+
+/// Takes a line, and loads its items.
+#[tactic(auto, using(crate::proofs::LoadedItems::judging))]
+fn load_line(
+    alloc: Global,
+    assembler: &mut Assembler,
+    loader: &mut Loader,
+    text: &[u8],
+    line: u32,
+) -> Result<(), SourceFault>
+    requires open { loader_spec.answer (loader_spec.standing loader.old) ≡ Ok tt }
+    ensures open { OnOk result (loader_spec.answer (loader_spec.standing loader.new) ≡ Ok tt) }
+    ensures loaded { result ≢ Err SourceFault.OutOfMemory →
+        spec.standing_after result assembler.new (loader_spec.standing loader.new)
+        ≡ spec.line_loaded line (spec.standing assembler.old (loader_spec.standing loader.old)) text.now }
+{
+    let mut items = Items::new(alloc);
+    match take_line(assembler, &mut items, text) {
+        Ok(answer) => match load_items(loader, items.as_slice()) {
+            Ok(()) => match answer {
+                Ok(()) => Ok(()),
+                Err(refusal) => Err(SourceFault::Refused(refusal)),
+            },
+            Err(fault) => Err(refused_line(line, fault)),
+        },
+        Err(_) => Err(SourceFault::OutOfMemory),
+    }
+}
+
+/// Why a line is refused whose items cannot be loaded.
+fn refused_line(line: u32, fault: LoadFault) -> SourceFault
+    ensures memory { fault ≡ LoadFault.OutOfMemory → result ≡ SourceFault.OutOfMemory }
+    ensures refused { fault ≢ LoadFault.OutOfMemory → result ≡ spec.refused_line line fault }
+{
+    match fault {
+        LoadFault::OutOfMemory => SourceFault::OutOfMemory,
+        _ => SourceFault::Refused(refused_at(line, fault.number())),
+    }
+}
+
+/// Takes the lines of a source, and loads their items as they come.
+#[tactic(auto, using(crate::proofs::LoadedLines::lines))]
+fn load_lines(
+    alloc: Global,
+    assembler: &mut Assembler,
+    loader: &mut Loader,
+    text: &[u8],
+) -> Result<(), SourceFault>
+    requires open { loader_spec.answer (loader_spec.standing loader.old) ≡ Ok tt }
+    ensures open { OnOk result (loader_spec.answer (loader_spec.standing loader.new) ≡ Ok tt) }
+    ensures loaded { result ≢ Err SourceFault.OutOfMemory →
+        spec.standing_after result assembler.new (loader_spec.standing loader.new)
+        ≡ spec.lines_loaded 1 (lines_of text.now) (spec.standing assembler.old (loader_spec.standing loader.old)) }
+{
+    let mut rest = text;
+    let mut line = 1u32;
+    while !rest.is_empty() {
+        let (first, others) = cut_line(rest);
+        match load_line(alloc, assembler, loader, first, line) {
+            Ok(()) => {}
+            Err(fault) => return Err(fault),
+        }
+        line = match line.checked_add(1) {
+            Some(next) => next,
+            None => return Err(SourceFault::OutOfMemory),
+        };
+        rest = others;
+    }
+    Ok(())
+}
+
+/// Ends a source, and gives the image that its items set up.
+#[tactic(auto, using(crate::proofs::LoadedItems::ending))]
+fn finish_source(alloc: Global, assembler: Assembler, loader: Loader) -> Result<Image, SourceFault>
+    requires open { loader_spec.answer (loader_spec.standing loader) ≡ Ok tt }
+    ensures image { result ≢ Err SourceFault.OutOfMemory →
+        spec.image_from result ≡ spec.end_loaded (Ok (spec.standing assembler (loader_spec.standing loader))) }
+{
+    let mut assembler = assembler;
+    let mut items = Items::new(alloc);
+    match assembler.finish(&mut items) {
+        Ok(_) => end_image(alloc, loader, items.as_slice()),
+        Err(refused) => match told(refused) {
+            Ok(refusal) => Err(SourceFault::Refused(refusal)),
+            Err(_) => Err(SourceFault::OutOfMemory),
+        },
+    }
+}
+
+/// Loads the last items of a source, and gives the image that they set up.
+#[tactic(auto, using(crate::proofs::LoadedItems::ending))]
+fn end_image(alloc: Global, loader: Loader, items: &[Item]) -> Result<Image, SourceFault>
+    requires fit { AreFit items.now }
+    requires open { loader_spec.answer (loader_spec.standing loader) ≡ Ok tt }
+    ensures image { result ≢ Err SourceFault.OutOfMemory →
+        spec.image_from result ≡ spec.image_loaded (spec.all_loaded (loader_spec.standing loader) items.now) }
+{
+    let mut loader = loader;
+    match load_items(&mut loader, items) {
+        Ok(()) => match loader.finish(Symbols::new(alloc)) {
+            Ok(image) => Ok(image),
+            Err(fault) => Err(refused_line(0, fault)),
+        },
+        Err(fault) => Err(refused_line(0, fault)),
+    }
+}
+
+/// The image of a source, or why there is none.
+pub fn load_source(alloc: Global, text: &[u8]) -> Result<Image, SourceFault>
+    ensures { result ≢ Err SourceFault.OutOfMemory → spec.image_from result ≡ source_meaning text.now }
+{
+    let mut assembler = match Assembler::new(alloc) {
+        Ok(assembler) => assembler,
+        Err(_) => return Err(SourceFault::OutOfMemory),
+    };
+    let mut loader = Loader::new(alloc);
+    match load_lines(alloc, &mut assembler, &mut loader, text) {
+        Ok(()) => finish_source(alloc, assembler, loader),
+        Err(fault) => Err(fault),
+    }
+}

@@ -1,0 +1,10 @@
+//! The real host: the files and streams of the system, by numbered slots.
+#![tactic(auto)]
+
+mod opening;
+mod real;
+mod standard;
+mod streams;
+
+pub use real::RealHost;
+pub use standard::{StandIns, stand_in};

@@ -1,0 +1,144 @@
+//! A run of the machine over a host that watchers are told of.
+
+ghost use Rattle.std.specs.Prelude.{◌≡◌, ◌≢◌, [], false, length, map};
+ghost use Rattle.mx_host.specs.Keeping.{Keeps};
+ghost use Rattle.mx_plan.specs.Clauses.{Stands};
+ghost use Rattle.mx_core.specs.Kept.{state_of};
+ghost use Rattle.mx_run.specs.Clauses.{EndsAs, EndsAsList, EndsFront};
+ghost use Rattle.mx_run.specs.RunPlans.{SparesMemory};
+ghost use Rattle.mx_run.specs.Runs.{IsLater, no_flags, run};
+ghost use Rattle.mx_run.specs.WildRuns.{HasWindow, run_by, list_machine};
+ghost use Rattle.mx_watch.specs.Listening.{listening};
+ghost use Rattle.mx_watch.specs.WatchedRuns.{CarriesOutWatched, HearsAsList, HearsFrom, HearsFromList};
+ghost use Rattle.mx_watch.specs.WatchedRuns.{HearsRun, StepsTo};
+
+use crate::Watcher;
+use crate::telling::{Reports, tell_all};
+use crate::watching::first_places;
+use mx_core::{Machine, Trace};
+use mx_host::Host;
+use mx_run::{End, TurnAnswer, run_freely, turn};
+use std::alloc::Global;
+
+/// Makes at most n steps of a machine over a host, with no flags, and tells watchers the trace of each that goes on, to
+/// all of them in order. One that is full is told nothing more: it leaves the list, and its report is kept, with the
+/// index that it had in the list at the start. Answers the end of the run and the watchers that are left.
+///
+/// The watchers change nothing: end, machine and host are those of the run alone. Out of memory, where a step lacked
+/// it, they are as the run leaves them then; where a watcher or a report lacked it, the steps up to there were made,
+/// and those that are left were told some of the traces. With no watchers it takes no more memory than the run.
+pub fn watched_run<H: Host>(
+    alloc: Global,
+    machine: &mut Machine,
+    host: &mut H,
+    n: u64,
+    watchers: Vec<Box<dyn Watcher>>,
+    kept: &mut Reports,
+) -> (End, Vec<Box<dyn Watcher>>)
+    ensures plan { CarriesOutWatched (H.told host.old) (H.told host.new) (state_of machine.old) (state_of machine.new)
+        n result.0 }
+    ensures spared { watchers.items ≡ [] → SparesMemory n (state_of machine.old) → result.0 ≢ End.OutOfMemory }
+    ensures told { EndsAs (H.told host.old) (H.told host.new) (state_of machine.old) (state_of machine.new) result.0
+        (λ s m. run n no_flags false s m) }
+    ensures front { EndsFront (H.told host.old) (H.told host.new) (state_of machine.old) result.0
+        (λ s m. run n no_flags false s m) }
+    ensures listed { EndsAsList (H.told host.old) (H.told host.new) (state_of machine.old) (state_of machine.new)
+        result.0 (λ s m. run_by list_machine n no_flags false s m) }
+    ensures heard { HearsRun (H.told host.old) (state_of machine.old) n result.0
+        (map meaning watchers.items) (map meaning result.1.items) kept.old kept.new }
+    ensures list_heard { HearsAsList (H.told host.old) (state_of machine.old) n result.0
+        (map meaning watchers.items) (map meaning result.1.items) kept.old kept.new }
+    ensures bound { IsLater n (state_of machine.old) (state_of machine.new) }
+    ensures keeps { Keeps (H.told host.old) (H.told host.new) (H.faults host.old) (H.faults host.new) }
+{
+    run_watched(alloc, machine, host, n, watchers, kept)
+}
+
+/// As `watched_run`.
+fn run_watched<H: Host>(
+    alloc: Global,
+    machine: &mut Machine,
+    host: &mut H,
+    n: u64,
+    watchers: Vec<Box<dyn Watcher>>,
+    kept: &mut Reports,
+) -> (End, Vec<Box<dyn Watcher>>)
+    ensures told { CarriesOutWatched (H.told host.old) (H.told host.new) (state_of machine.old) (state_of machine.new)
+        n result.0 }
+    ensures listed { EndsAsList (H.told host.old) (H.told host.new) (state_of machine.old) (state_of machine.new)
+        result.0 (λ s m. run_by list_machine n no_flags false s m) }
+    ensures heard { HearsRun (H.told host.old) (state_of machine.old) n result.0
+        (map meaning watchers.items) (map meaning result.1.items) kept.old kept.new }
+    ensures list_heard { HearsAsList (H.told host.old) (state_of machine.old) n result.0
+        (map meaning watchers.items) (map meaning result.1.items) kept.old kept.new }
+    ensures spared { watchers.items ≡ [] → SparesMemory n (state_of machine.old) → result.0 ≢ End.OutOfMemory }
+    ensures bound { IsLater n (state_of machine.old) (state_of machine.new) }
+    ensures stands { Stands (H.told host.old) (H.told host.new) (H.faults host.old) (H.faults host.new) }
+{
+    if watchers.is_empty() {
+        return (run_freely(alloc, machine, host, n), watchers);
+    }
+    let mut left = watchers;
+    match first_places(alloc, left.len()) {
+        Ok(places) => {
+            let mut places = places;
+            let end = listen(alloc, machine, host, n, &mut left, &mut places, kept);
+            (end, left)
+        }
+        Err(_) => (End::OutOfMemory, left),
+    }
+}
+
+/// Makes at most n steps, and tells watchers with these places their traces.
+#[tactic(auto, using(mx_run::proofs::Later::running))]
+fn listen<H: Host>(
+    alloc: Global,
+    machine: &mut Machine,
+    host: &mut H,
+    n: u64,
+    watchers: &mut Vec<Box<dyn Watcher>>,
+    places: &mut Vec<usize>,
+    kept: &mut Reports,
+) -> End
+    requires { length places.now.items ≡ length watchers.now.items }
+    ensures told { CarriesOutWatched (H.told host.old) (H.told host.new) (state_of machine.old) (state_of machine.new)
+        n result }
+    ensures listed { EndsAsList (H.told host.old) (H.told host.new) (state_of machine.old) (state_of machine.new) result
+        (λ s m. run_by list_machine n no_flags false s m) }
+    ensures heard { HearsFrom (H.told host.old) (state_of machine.old) n result
+        (listening places.old.items (map meaning watchers.old.items) kept.old)
+        (map meaning watchers.new.items) kept.new }
+    ensures list_heard { HearsFromList (H.told host.old) (state_of machine.old) n result
+        (listening places.old.items (map meaning watchers.old.items) kept.old)
+        (map meaning watchers.new.items) kept.new }
+    ensures bound { IsLater n (state_of machine.old) (state_of machine.new) }
+    ensures stands { Stands (H.told host.old) (H.told host.new) (H.faults host.old) (H.faults host.new) }
+{
+    for _made in 0..n {
+        match next_trace(alloc, machine, host) {
+            Ok(trace) => match tell_all(watchers, places, kept, &trace) {
+                Ok(()) => {}
+                Err(_) => return End::OutOfMemory,
+            },
+            Err(end) => return end,
+        }
+    }
+    End::Spent
+}
+
+/// A step of a run without flags: its trace, or the end of the run.
+#[tactic(auto, using(mx_run::proofs::FreeRuns::turned))]
+fn next_trace<H: Host>(alloc: Global, machine: &mut Machine, host: &mut H) -> Result<Trace, End>
+    ensures told { StepsTo (H.told host.old) (H.told host.new) (state_of machine.old) (state_of machine.new) result }
+    ensures over { HasWindow (state_of machine.old) }
+    ensures bound { IsLater 1 (state_of machine.old) (state_of machine.new) }
+    ensures keeps { Keeps (H.told host.old) (H.told host.new) (H.faults host.old) (H.faults host.new) }
+{
+    let pc = machine.pc();
+    match turn(alloc, machine, host) {
+        TurnAnswer::Went(trace) => Ok(trace),
+        TurnAnswer::Halted(status) => Err(End::Halted(status)),
+        TurnAnswer::Stopped(reason) => Err(End::Stopped { pc, reason }),
+        TurnAnswer::OutOfMemory => Err(End::OutOfMemory),
+    }
+}

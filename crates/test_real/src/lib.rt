@@ -1,0 +1,5 @@
+//! Tests of the real host, on files of the system. There is nothing but tests here.
+#![tactic(auto)]
+
+#[cfg(test)]
+mod streams;
