@@ -9,13 +9,13 @@ wrong() {
 
 [ "$(cat HANDLES)" = 'Handles allowed: none.' ] || wrong 'HANDLES does not hold its one line'
 
-# each crate is listed, and has wrong bodies that the prover refuses, but for the crates of rows, which are tests
+# each crate is listed, and has wrong bodies that the prover refuses, but for `main` and the crates of rows, which are tests
 for folder in crates/*/; do
   crate=$(basename "$folder")
   [ -d "$folder/src" ] || continue
   grep -q "^$crate[ :]" crates.txt || wrong "$crate is not in crates.txt"
   case $crate in
-    test_* | mx_parts | mx_objects | mx_language | mx_calls | mx_phrases | mx_steps | mx_rows | mx_runs | mx_corners | mx_outside) continue ;;
+    test_* | mmixware | mx_parts | mx_objects | mx_language | mx_calls | mx_phrases | mx_steps | mx_rows | mx_runs | mx_corners | mx_outside) continue ;;
   esac
   [ -n "$(ls "$folder/must-fail" 2>/dev/null)" ] || wrong "$crate has no must-fail edit"
 done
@@ -49,8 +49,9 @@ if command -v dpkg-deb >/dev/null; then
   sh checks/release.sh || bad=1
 fi
 
-# what the documents say is so
+# the picture of the crates is that of crates.txt, and what the documents say is so
 if command -v python3 >/dev/null; then
+  python3 checks/picture.py --check || bad=1
   python3 checks/documents.py || bad=1
 fi
 

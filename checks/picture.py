@@ -1,0 +1,147 @@
+#!/usr/bin/env python3
+"""Draws the crates in their layers, from crates.txt, as docs/crates.svg.
+
+usage: checks/picture.py          writes the picture
+       checks/picture.py --check  says whether the picture is that of crates.txt
+A crate stands in the column of its area and in a layer above all that it stands on; a line leads from a crate to
+each one that it stands on and that no other line leads to. All stand on mx_word, to which no line is drawn; crates of
+tests and of laws alone have none.
+"""
+import os
+import sys
+
+HERE = os.path.dirname(os.path.dirname(os.path.abspath(__file__)))
+PICTURE = HERE + "/docs/crates.svg"
+AREAS = [
+    ("language", "mx_line mx_expr mx_ops mx_names mx_stmt mx_asm"),
+    ("objects", "mx_mmo mx_stab mx_load mx_type"),
+    ("machine", "mx_mem mx_alu mx_ring mx_trip mx_spec mx_core"),
+    ("host and runs", "mx_host mx_plan mx_trap mx_run mx_watch mx_real"),
+    ("console", "mx_text mx_cmd mx_con"),
+    ("program", "mx_words mx_files mx_top mmixware"),
+]
+BASE = "mx_word"
+LAWS = "mx_again mx_gen mx_laws".split()
+TESTS = "mx_parts mx_objects mx_language mx_calls mx_phrases mx_steps mx_rows mx_runs mx_corners mx_outside".split()
+WIDE, HIGH, GAP, STEP, LEFT, TOP = 96, 26, 10, 74, 16, 62
+FILL = ["#e8f0fa", "#eaf5e6", "#fdf1dc", "#f9e6e6", "#efe8f7", "#eeeeee"]
+
+
+def rows():
+    """The crates and what each stands on, of the repository alone."""
+    below = {}
+    for line in open(HERE + "/crates.txt"):
+        line = line.split("#")[0].strip()
+        if line:
+            name, rest = line.split(":")
+            below[name.split()[0]] = rest.split()
+    return {name: [dep for dep in deps if dep in below] for name, deps in below.items()}
+
+
+def layers(below):
+    """The layer of each crate: one above the highest that it stands on."""
+    layer = {}
+
+    def of(name):
+        if name not in layer:
+            layer[name] = 1 + max((of(dep) for dep in below[name]), default=-1)
+        return layer[name]
+
+    for name in below:
+        of(name)
+    return layer
+
+
+def reduced(below):
+    """For each crate those that it stands on, without those that are reached through another."""
+
+    def under(name):
+        found = set()
+        for dep in below[name]:
+            found |= {dep} | under(dep)
+        return found
+
+    return {name: [dep for dep in deps if not any(dep in under(other) for other in deps)] for name, deps in below.items()}
+
+
+def is_test(name):
+    return name in TESTS or name.startswith("test_")
+
+
+def box(x, y, name, fill, wide=WIDE):
+    return (
+        f'<rect x="{x}" y="{y}" width="{wide}" height="{HIGH}" rx="4" fill="{fill}" stroke="#666"/>'
+        f'<text x="{x + wide // 2}" y="{y + 17}" text-anchor="middle">{name}</text>'
+    )
+
+
+def drawing():
+    below = rows()
+    layer = layers(below)
+    area = {name: at for at, (_, names) in enumerate(AREAS) for name in names.split()}
+    program = [name for name in below if name in area]
+    unknown = [name for name in below if name not in area and name not in LAWS + [BASE] and not is_test(name)]
+    if unknown:
+        sys.exit("checks/picture.py: in no area: " + " ".join(unknown))
+    layer = {name: layer[name] - 1 for name in program}
+    high = max(layer.values())
+    # the places in a column: side by side where one layer has several
+    slots = {}
+    for name in program:
+        slots.setdefault((area[name], layer[name]), []).append(name)
+    widths = [max(len(names) for (a, _), names in slots.items() if a == at) for at in range(len(AREAS))]
+    starts = [LEFT + sum(widths[:at]) * (WIDE + GAP) + at * 26 for at in range(len(AREAS))]
+    foot = TOP + (high + 1) * STEP
+    place = {}
+    for (a, l), names in slots.items():
+        shift = (widths[a] - len(names)) * (WIDE + GAP) // 2
+        for at, name in enumerate(names):
+            place[name] = (starts[a] + shift + at * (WIDE + GAP), TOP + (high - l) * STEP)
+    out = []
+    for at, (title, _) in enumerate(AREAS):
+        wide = widths[at] * (WIDE + GAP) - GAP
+        out.append(
+            f'<rect x="{starts[at] - 10}" y="20" width="{wide + 20}" height="{foot - 34}" rx="8" fill="{FILL[at]}"/>'
+            f'<text x="{starts[at] + wide // 2}" y="42" text-anchor="middle" class="title">{title}</text>'
+        )
+    for name, deps in reduced({name: [dep for dep in below[name] if dep in area] for name in program}).items():
+        for dep in deps:
+            (x, y), (u, v) = place[name], place[dep]
+            out.append(f'<line x1="{x + WIDE // 2}" y1="{y + HIGH}" x2="{u + WIDE // 2}" y2="{v}"/>')
+    for name in program:
+        out.append(box(*place[name], name, "#fff"))
+    y = foot
+    wide = starts[-1] + widths[-1] * (WIDE + GAP) - GAP + 10 - (LEFT - 10)
+    out.append(box(LEFT - 10, y, BASE, "#fff", wide))
+    y += HIGH + 16
+    for title, names in (("laws alone", [n for n in below if n in LAWS]), ("tests", [n for n in below if is_test(n)])):
+        out.append(f'<text x="{LEFT}" y="{y + 17}" class="title">{title}</text>')
+        x = LEFT + 90
+        for name in names:
+            if x + WIDE > starts[-1] + widths[-1] * (WIDE + GAP):
+                x, y = LEFT + 90, y + HIGH + 8
+            out.append(box(x, y, name, "#fff"))
+            x += WIDE + GAP
+        y += HIGH + 16
+    width = starts[-1] + widths[-1] * (WIDE + GAP) + 12
+    head = (
+        f'<svg xmlns="http://www.w3.org/2000/svg" width="{width}" height="{y}" viewBox="0 0 {width} {y}">'
+        "<title>The crates in their layers; each stands on those that its lines lead down to</title>"
+        "<style>text{font:12px sans-serif;fill:#222}.title{font-weight:bold}line{stroke:#999;stroke-width:1}</style>"
+        f'<rect width="{width}" height="{y}" fill="#fff"/>'
+    )
+    return head + "\n" + "\n".join(out) + "\n</svg>\n"
+
+
+def longest():
+    below = rows()
+    layer = layers(below)
+    return 1 + layer["mmixware"]
+
+
+if __name__ == "__main__":
+    if sys.argv[1:] == ["--check"]:
+        if not os.path.exists(PICTURE) or open(PICTURE).read() != drawing():
+            sys.exit("checks/picture.py: docs/crates.svg is not that of crates.txt; `checks/picture.py` draws it anew")
+    else:
+        open(PICTURE, "w").write(drawing())
