@@ -1,8 +1,6 @@
 -- Numbers made of fields.
 use Rattle.std.proofs.Common.{◌≡◌, ℕ, ◌+◌, ◌*◌, ◌/◌, ◌%◌, ◌^◌, ◌<◌, zero, suc, refl, sym, ◌∙◌, ap, arith, add-one, add_comm}
-use Rattle.std.proofs.lemmas.Nat.{pow-add, mod-pow-add, mul-add-lt}
-use Rattle.std.proofs.Math.Nat.{mul-suc, mul-zero, add-mul}
-use Rattle.mx_alu.specs.Numbers.{field, fields}
+use Rattle.mx_alu.proofs.Words.{pow-add, mod-pow-add, mul-add-lt, mul-suc, mul-zero, add-mul, field, fields}
 
 -- fields that agree make one number
 pub fields-same : (w n : ℕ) (f g : ℕ → ℕ) → ((i : ℕ) → i < n → f i ≡ g i) → fields w n f ≡ fields w n g

@@ -1,10 +1,8 @@
 -- The floor of a quotient, by the quotient whose remainder is not negative.
 use Rattle.std.proofs.Common.{◌≡◌, ℕ, ◌+◌, suc, refl, sym, ◌∙◌, ap, arith, zero-add, add-one}
 use Rattle.std.specs.Prelude.{ℤ, pos, negsuc, neg_ℤ, ◌-ℤ◌, ◌<ℤ◌, ◌≤ℤ◌}
-use Rattle.std.specs.Int.{int_div_euclid}
-use Rattle.std.proofs.lemmas.Int.{ints}
+use Rattle.mx_alu.proofs.Words.{int_div_euclid, ints, floor_by, floor_quotient}
 use lib.IntN.{+ℤ_idl}
-use Rattle.mx_alu.specs.Numbers.{floor_by, floor_quotient}
 
 by-positive : (a : ℤ) (m : ℕ) → int_div_euclid a (pos m) ≡ floor_by a m
 by-positive (pos a) m = refl

@@ -1,3 +1,4 @@
+pub mod Words
 pub mod Shifts
 pub mod Floors
 pub mod Products

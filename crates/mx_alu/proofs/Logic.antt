@@ -1,12 +1,8 @@
 -- Logic on words, bit by bit.
 use Rattle.std.proofs.Common.{◌≡◌, ℕ, ◌+◌, ◌-◌, ◌*◌, ◌/◌, ◌%◌, ◌^◌, ◌<◌, zero, suc, min, max, Bool, true, false, cond, eqb, refl, sym, ◌∙◌, ap, arith, bit_or, bit_xor, bit_and, one-mul}
 use Rattle.std.specs.Prelude.{not, ◌||◌, ◌&&◌}
-use Rattle.std.proofs.lemmas.Nat.{or_lt, xor_lt, and_le_l, ones_cat, shr_split}
-use Rattle.std.proofs.lemmas.Nat.Bits.{bit_at_and, bit_at_or, bit_at_xor, bit_at_not, bit_at-lt, bit_at_cat_low}
-use Rattle.std.specs.Int.{bit_at, w64}
+use Rattle.mx_alu.proofs.Words.{or_lt, xor_lt, and_le_l, ones_cat, shr_split, bit_at_and, bit_at_or, bit_at_xor, bit_at_not, bit_at-lt, bit_at_cat_low, bit_at, w64, field, fields, count_of, bit, of_bits, each_bit, exactly_one}
 use lib.Count.{ones, ones_in}
-use Rattle.mx_alu.specs.Numbers.{field, fields, count_of, bit, of_bits}
-use Rattle.mx_alu.specs.Bitwise.{each_bit, exactly_one}
 use Rattle.mx_alu.proofs.Fields.{fields-same, fields-of, fields-below}
 
 -- a bit as a number

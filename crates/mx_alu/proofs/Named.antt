@@ -3,11 +3,7 @@ use Rattle.std.proofs.Common.{◌≡◌, ◌<◌, ◌≤◌, ℕ, ◌+◌, ◌-�
 use Rattle.std.specs.List.{range_with_len}
 use Rattle.std.proofs.lemmas.List.FromFn.{get_or-map-range_with_len}
 use Rattle.mx_ops.specs.Opcodes.{opcode_rows, opcode_names, opcode_name}
-use Rattle.mx_alu.specs.declared.names.TheConstants.{ARITHMETIC, BITWISE, WYDES, CONDITIONS}
-use Rattle.mx_alu.specs.declared.names.Arithmetic.TheVariants.{Mul}
-use Rattle.mx_alu.specs.declared.names.Bitwise.TheVariants.{Or}
-use Rattle.mx_alu.specs.declared.names.Wyde.TheVariants.{Set}
-use Rattle.mx_alu.specs.declared.names.Condition.TheVariants.{Negative}
+use Rattle.mx_alu.proofs.Words.{ARITHMETIC, BITWISE, WYDES, CONDITIONS, Mul, Or, Set, Negative}
 use Rattle.mx_alu.specs.Names.{arithmetic_names, arithmetic_of, bitwise_names, bitwise_of, wyde_fronts, wyde_ends, wyde_names, wyde_of, condition_ends, condition_names, condition_of}
 
 -- two functions that agree from a first number on, for so many

@@ -1,10 +1,6 @@
 -- Fields of words by shifts and masks, and matrices of bits.
 use Rattle.std.proofs.Common.{◌≡◌, ℕ, ◌+◌, ◌-◌, ◌*◌, ◌/◌, ◌%◌, ◌^◌, ◌<◌, ◌≤◌, zero, suc, Bool, true, false, cond, refl, sym, ◌∙◌, ap, subst, ⊎_elim, arith, add-one, add_comm, bit_or, bit_xor, bit_and, zero-mul, one-mul}
-use Rattle.std.proofs.lemmas.Nat.{or_lt, xor_lt, or_comm, or_shifted, or_block, xor_block, and_block, and_mask, shl_whole, shr-shr, shr_le, mod_below, pow_pos}
-use Rattle.std.proofs.lemmas.Nat.Bits.{ones_shr, bit_at-lt}
-use Rattle.mx_alu.specs.Numbers.{field, fields, combination, bit}
-use Rattle.mx_alu.specs.Bitwise.{IsFieldWidth}
-use Rattle.std.specs.Int.{bit_at}
+use Rattle.mx_alu.proofs.Words.{or_lt, xor_lt, or_comm, or_shifted, or_block, xor_block, and_block, and_mask, shl_whole, shr-shr, shr_le, mod_below, pow_pos, ones_shr, bit_at-lt, field, fields, combination, bit, IsFieldWidth, bit_at}
 use Rattle.mx_alu.proofs.Logic.{digit}
 use Rattle.mx_alu.proofs.Fields.{fields-same, fields-of, fields-below, fields-next, fields-times, fields-join}
 

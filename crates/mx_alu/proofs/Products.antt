@@ -1,13 +1,9 @@
 -- Products of signed octas in words of 128 bits, which hold them.
 use Rattle.std.proofs.Common.{◌≡◌, ℕ, ◌*◌, ◌%◌, ◌^◌, ◌<◌, ◌≤◌, refl, ap, ◌∙◌, arith}
 use Rattle.std.specs.Prelude.{ℤ, pos, negsuc, ◌-ℤ◌, ◌*ℤ◌, unsigned_abs}
-use Rattle.std.proofs.lemmas.Int.{ints, to_z-of_z, fits_signed_mul, unsigned_abs-mul}
-use Rattle.std.proofs.lemmas.Nat.{mul-le}
-use Rattle.std.proofs.Math.Nat.{pow-le-pow_right}
-use Rattle.std.proofs.lemmas.Bool.Decides.{nat_tests}
+use Rattle.mx_alu.proofs.Words.{ints, to_z-of_z, fits_signed_mul, unsigned_abs-mul, mul-le, pow-le-pow_right, nat_tests, signed_value}
 use mir.Val.{SFits, of_z, to_z}
 use mir.Syntax.{w128}
-use Rattle.mx_word.specs.Words.{signed_value}
 
 -- a number as a word of 128 bits holds it
 abbrev held : ℤ → ℤ

@@ -5,12 +5,9 @@ use Rattle.std.proofs.lemmas.Bool.{cases_lt}
 use lib.Signed.{shr_z}
 use mir.Val.{of_z}
 use mir.Syntax.{w64}
-use Rattle.std.proofs.lemmas.Nat.{pow-add, shr_le, mul-le}
-use Rattle.std.proofs.Math.Nat.{mul_assoc, lt_of_le_of_lt, div-eq_of_lt, pow-le-pow_right}
-use Rattle.std.proofs.lemmas.Bool.Decides.{nat_tests}
+use Rattle.mx_alu.proofs.Words.{pow-add, shr_le, mul-le, mul_assoc, lt_of_le_of_lt, div-eq_of_lt, pow-le-pow_right, nat_tests, octa, is_signed, floor_by}
 use Rattle.mx_alu.specs.declared.answer.Event.TheVariants.{Overflow}
 use Rattle.mx_alu.specs.Answers.{checked_answer}
-use Rattle.mx_alu.specs.Numbers.{octa, is_signed, floor_by}
 
 -- a power that 2^64 divides
 split : (z : ℕ) → 64 ≤ z → 2 ^ z ≡ 2 ^ (z - 64) * 2 ^ 64

@@ -3,7 +3,6 @@ pub mod FixLists
 pub mod Encodings
 pub mod ReadEntries
 pub mod LineEntries
-pub mod WaitingNames
 pub mod Filters
 pub mod OpenWaits
 pub mod WaitsFor

@@ -1,6 +1,6 @@
 -- Lines that are taken one after another: their entries are.
 use Rattle.std.proofs.Common.{◌≡◌, ℕ, ◌+◌, ◌^◌, Bool, true, false, cond, nat_lt, List, [], ◌∷◌, ◌++◌, fold, length, Option, None, Some, Result, Ok, Err, refl, ap, sym, ◌∙◌}
-use Rattle.mx_asm.proofs.Words.{Item, Placed, Label, Answer, no_targets, encoding, SourceTooLong, Refused, refused, Entry, line_entries, statement_items, Assembly, Taken, Progress, Labelled, labelled, assembled, taken_items, taken_label, taken_with, entry_taken, behind_entry, and_entries, entries_taken, line_unless, Line, line_after}
+use Rattle.mx_asm.proofs.Words.{Item, Placed, Label, Answer, no_targets, encoding, SourceTooLong, Refused, refused, Entry, line_entries, statement_items, Assembly, Taken, Progress, Labelled, labelled, naming_of, assembled, taken_items, taken_label, taken_with, entry_taken, behind_entry, and_entries, entries_taken, line_unless, Line, line_after}
 
 -- an assembly behind so many lines and bytes
 abbrev pub counting : ℕ → ℕ → Assembly → Assembly
@@ -26,7 +26,7 @@ label-counted n m a line p (Ok (names, waits)) = items-counted n m (assembled a 
 
 with-counted : (n m : ℕ) (a : Assembly) (line : ℕ) (label : Option Label) (r : Answer Placed) → taken_with (counting n m a) line label r ≡ counted_taken n m (taken_with a line label r)
 with-counted n m a line label (Err fault) = refl
-with-counted n m a line label (Ok p) = label-counted n m a line p (labelled a.known.names label p.label p.waits)
+with-counted n m a line label (Ok p) = label-counted n m a line p (labelled (naming_of a) label p.label p.waits)
 
 entry-counted : (n m : ℕ) (a : Assembly) (e : Entry) → entry_taken (counting n m a) e ≡ counted_taken n m (entry_taken a e)
 entry-counted n m a (Err refused) = refl

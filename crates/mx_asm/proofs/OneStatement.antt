@@ -1,17 +1,16 @@
 -- One statement in one pass, as the two passes have it.
 use Rattle.std.proofs.Common.{◌≡◌, ℕ, ◌+◌, Bool, true, false, cond, nat_lt, List, [], ◌∷◌, ◌++◌, length, Option, None, Some, is_some, Result, Ok, Err, refl, ap, sym, ◌∙◌, slice_set, ◌||◌, bytes_eq}
-use Rattle.mx_asm.proofs.Words.{result_unwrap_or, list_any-append, Value, Wait, Item, predefined_value, NameFault, Twice, Predefined, NameTooLong, NameTable, complete_form, value_in, define_answer, with_symbol, waits_for, waits_for_others, value-inserted, not-some, Label, Name, Local, Effect, Placed, Answer, Known, no_targets, symbol_form, StatementTree, encoding, AsmFault, Refused, Head, Sight, outline, waits_in, with_label, with_effect, known_behind, known_with, known_after, fixes, awaited_value, waiting_for, waiting_at, onto, moved, byte_items, head_at_fixes, with_bytes, statement_items, statement_head, sight_items, sight_head, refusal_of, name_refusal, name_fault, label_fault, fault_behind, fault_with, statement_fault, Assembly, Taken, labelled, symbol_label, symbol_defined, with_local, taken_items, taken_label, taken_with, statement_taken}
+use Rattle.mx_asm.proofs.Words.{result_unwrap_or, list_any-append, Value, Wait, Item, predefined_value, NameFault, Twice, Predefined, NameTooLong, NameTable, Naming, complete_form, value_in, define_answer, with_symbol, waits_for, waits_for_others, value-inserted, not-some, Label, Name, Local, Effect, Placed, Answer, Known, no_targets, symbol_form, StatementTree, encoding, AsmFault, Refused, Head, Sight, outline, waits_in, with_label, with_effect, known_behind, known_with, known_after, fixes, awaited_value, waiting_for, waiting_at, onto, moved, byte_items, head_at_fixes, with_bytes, statement_items, statement_head, sight_items, sight_head, refusal_of, name_refusal, name_fault, label_fault, fault_behind, fault_with, statement_fault, Assembly, Taken, naming_of, labelled, symbol_label, symbol_defined, with_local, taken_items, taken_label, taken_with, statement_taken}
 use Rattle.mx_word.specs.declared.waits.Awaited.TheVariants as awaited
 use Rattle.mx_stmt.specs.declared.placed.Effect.TheVariants as effect
 use Rattle.mx_asm.proofs.Filters.{or-false}
-use Rattle.mx_asm.proofs.WaitingNames.{with_waiting, encoding-same}
 use Rattle.mx_asm.proofs.LabelValues.{HasLabel, encoding-label}
 use Rattle.mx_asm.proofs.OpenWaits.{settled_by, settles, any_settles, open_waits, open-unlabelled, open-named, open-local}
 use Rattle.mx_asm.proofs.WaitsFor.{named-waits, local-waits}
 
 -- what the assembler carries behind these statements
 abbrev pub standing_at : Known → Head → List Sight → ℕ → Assembly
-standing_at k h before l = record { known = with_waiting k (open_waits before); head = h; locals = l; lines = 0; size = 0; opened = true }
+standing_at k h before l = record { known = k; waiting = open_waits before; head = h; locals = l; lines = 0; size = 0; opened = true }
 
 -- the symbols are the labels of the statements
 abbrev pub AreLabels : NameTable → List Sight → Type 0
@@ -37,11 +36,6 @@ items-by h line p (w ∷ waits) a = by (moved h.lambda (awaited_value p.label)) 
     by : (front items : List Item) (r : Result (List Item) Refused) → taken_items a (with_bytes (onto front r) items) ≡ stepped (refusal_of r) (result_unwrap_or (with_bytes (onto front r) items) []) a
     by front items (Err refused) = refl
     by front items (Ok fixes) = refl
-
--- the effect, whatever waits
-effect-waiting : (k : Known) (w : List Wait) (e : Effect) → with_effect (with_waiting k w) e ≡ with_waiting (with_effect k e) w
-effect-waiting k w effect.Plain = refl
-effect-waiting k w e = refl
 
 -- ---- names
 
@@ -69,64 +63,62 @@ module _ (k : Known) (h : Head) (before : List Sight) (l : ℕ) (st : StatementT
   after = before ++ here ∷ []
 
   -- the references that wait, and the names, are those of the two passes
-  settled : (p : Placed) (names : NameTable) (waits : List Wait) → waits ≡ waiting_at before here →
-      names ≡ record (with_label k.names st.label p.label) { waiting = open_waits after } →
-      taken_label (standing_at k h before l) st.line p (Ok (names, waits)) ≡ stepped (fault_behind before here p None)
+  settled : (p : Placed) (n : Naming) (waits : List Wait) → waits ≡ waiting_at before here →
+      n ≡ record { names = with_label k.names st.label p.label; waiting = open_waits after } →
+      taken_label (standing_at k h before l) st.line p (Ok (n, waits)) ≡ stepped (fault_behind before here p None)
       (result_unwrap_or (statement_items h st.line p (waiting_at before here)) [])
       (standing_at (known_behind k st p) (statement_head h st.line p (waiting_at before here)) after (with_local l p.effect))
-  settled p names waits ws ns =
-      ap (λ w. taken_label (standing_at k h before l) st.line p (Ok (names, w))) ws
+  settled p n waits ws ns =
+      ap (λ w. taken_label (standing_at k h before l) st.line p (Ok (n, w))) ws
       ∙ ap (λ n. taken_label (standing_at k h before l) st.line p (Ok (n, waiting_at before here))) ns
-      ∙ ap (λ known. taken_items (record { known = known; head = statement_head h st.line p (waiting_at before here); locals = with_local l p.effect; lines = 0; size = 0; opened = true }) (statement_items h st.line p (waiting_at before here)))
-      (effect-waiting (record { names = with_label k.names st.label p.label; at = p.after; gregs = k.gregs }) (open_waits after) p.effect)
       ∙ items-by h st.line p (waiting_at before here) (standing_at (known_behind k st p) (statement_head h st.line p (waiting_at before here)) after (with_local l p.effect))
 
   -- what a statement with this fault of its label comes to
   abbrev Comes : Placed → Option Label → Option Value → List Wait → Type 0
   Comes p label value waits =
-      taken_label (standing_at k h before l) st.line p (labelled (with_waiting k (open_waits before)).names label value waits)
+      taken_label (standing_at k h before l) st.line p (labelled (naming_of (standing_at k h before l)) label value waits)
       ≡ stepped (fault_behind before here p (label_fault k.names label))
       (result_unwrap_or (statement_items h st.line p (waiting_at before here)) [])
       (standing_at (known_behind k st p) (statement_head h st.line p (waiting_at before here)) after (with_local l p.effect))
 
   unlabelled-comes : (p : Placed) → st.label ≡ None → p.label ≡ None → outline here ≡ Ok p → Comes p None None p.waits
   unlabelled-comes p label value is =
-      settled p (record k.names { waiting = open_waits before ++ p.waits }) [] (ap (waiting_for before here) (sym label))
-      (λ i. record (with_label k.names (sym label i) (sym value i)) { waiting = sym (open-unlabelled before here label ∙ ap (λ r. open_waits before ++ waits_in r) is) i })
+      settled p (record { names = k.names; waiting = open_waits before ++ p.waits }) [] (ap (waiting_for before here) (sym label))
+      (λ i. record { names = with_label k.names (sym label i) (sym value i); waiting = sym (open-unlabelled before here label ∙ ap (λ r. open_waits before ++ waits_in r) is) i })
 
   local-comes : (p : Placed) (d : ℕ) (value : Value) → st.label ≡ Some (Local d) → p.label ≡ Some value → outline here ≡ Ok p → Comes p (Some (Local d)) (Some value) p.waits
   local-comes p d value label is_value is =
-      settled p (record k.names { backs = slice_set k.names.backs d value; waiting = waits_for_others (awaited.Local d) (open_waits before) ++ p.waits }) (waits_for (awaited.Local d) (open_waits before))
+      settled p (record { names = record k.names { backs = slice_set k.names.backs d value }; waiting = waits_for_others (awaited.Local d) (open_waits before) ++ p.waits }) (waits_for (awaited.Local d) (open_waits before))
       (local-waits d before ∙ ap (waiting_for before here) (sym label))
-      (λ i. record (with_label k.names (sym label i) (sym is_value i)) { waiting = sym (open-local before here d label ∙ ap (λ r. waits_for_others (awaited.Local d) (open_waits before) ++ waits_in r) is) i })
+      (λ i. record { names = with_label k.names (sym label i) (sym is_value i); waiting = sym (open-local before here d label ∙ ap (λ r. waits_for_others (awaited.Local d) (open_waits before) ++ waits_in r) is) i })
 
   module _ (p : Placed) (text : List ℕ) (value : Value) (label : st.label ≡ Some (Name text)) (is_value : p.label ≡ Some value) (is : outline here ≡ Ok p) (labels : AreLabels k.names before) where
     abbrev form : List ℕ
     form = complete_form k.names.prefix text
 
     defined-comes : (u : Unit {0}) → is_some (value_in form k.names.symbols) ≡ false →
-        taken_label (standing_at k h before l) st.line p (symbol_defined (with_waiting k (open_waits before)).names form value p.waits (Ok u))
+        taken_label (standing_at k h before l) st.line p (symbol_defined (naming_of (standing_at k h before l)) form value p.waits (Ok u))
         ≡ stepped (fault_behind before here p None)
         (result_unwrap_or (statement_items h st.line p (waiting_at before here)) [])
         (standing_at (known_behind k st p) (statement_head h st.line p (waiting_at before here)) after (with_local l p.effect))
     defined-comes u new =
-        settled p (record (with_symbol k.names form value) { waiting = waits_for_others (awaited.Name form) (open_waits before ++ p.waits) }) (waits_for (awaited.Name form) (open_waits before ++ p.waits))
+        settled p (record { names = with_symbol k.names form value; waiting = waits_for_others (awaited.Name form) (open_waits before ++ p.waits) }) (waits_for (awaited.Name form) (open_waits before ++ p.waits))
         (ap (λ r. waits_for (awaited.Name form) (open_waits before ++ waits_in r)) (sym is) ∙ named-waits form before here (labels form ∙ new) ∙ ap (waiting_for before here) (sym label))
-        (λ i. record (with_label k.names (sym label i) (sym is_value i)) { waiting = sym (open-named before here text label ∙ ap (λ r. waits_for_others (awaited.Name form) (open_waits before ++ waits_in r)) is) i })
+        (λ i. record { names = with_label k.names (sym label i) (sym is_value i); waiting = sym (open-named before here text label ∙ ap (λ r. waits_for_others (awaited.Name form) (open_waits before ++ waits_in r)) is) i })
 
     answered-comes : (full : List ℕ) (answer : Result (Unit {0}) NameFault) → symbol_form k.names text ≡ Ok full → define_answer k.names full ≡ answer →
-        taken_label (standing_at k h before l) st.line p (symbol_defined (with_waiting k (open_waits before)).names full value p.waits answer)
+        taken_label (standing_at k h before l) st.line p (symbol_defined (naming_of (standing_at k h before l)) full value p.waits answer)
         ≡ stepped (fault_behind before here p (name_refusal answer))
         (result_unwrap_or (statement_items h st.line p (waiting_at before here)) [])
         (standing_at (known_behind k st p) (statement_head h st.line p (waiting_at before here)) after (with_local l p.effect))
     answered-comes full (Err fault) form_is told = refl
     answered-comes full (Ok u) form_is told =
         let same = form-is k.names text full form_is in
-        ap (λ f. taken_label (standing_at k h before l) st.line p (symbol_defined (with_waiting k (open_waits before)).names f value p.waits (Ok u))) same
+        ap (λ f. taken_label (standing_at k h before l) st.line p (symbol_defined (naming_of (standing_at k h before l)) f value p.waits (Ok u))) same
         ∙ defined-comes u (ap (λ f. is_some (value_in f k.names.symbols)) (sym same) ∙ absent k.names full u told)
 
     formed-comes : (r : Result (List ℕ) NameFault) → symbol_form k.names text ≡ r →
-        taken_label (standing_at k h before l) st.line p (symbol_label (with_waiting k (open_waits before)).names value p.waits r)
+        taken_label (standing_at k h before l) st.line p (symbol_label (naming_of (standing_at k h before l)) value p.waits r)
         ≡ stepped (fault_behind before here p (name_fault k.names r))
         (result_unwrap_or (statement_items h st.line p (waiting_at before here)) [])
         (standing_at (known_behind k st p) (statement_head h st.line p (waiting_at before here)) after (with_local l p.effect))
@@ -154,8 +146,7 @@ module _ (k : Known) (h : Head) (before : List Sight) (l : ℕ) (st : StatementT
       ≡ stepped (statement_fault before here) (sight_items h before here (outline here)) (standing_at (known_after k st) (sight_head h before here (outline here)) after (sight_local l (outline here)))
   unfolding known_after
   one-statement labels =
-      ap (taken_with (standing_at k h before l) st.line st.label) (encoding-same no_targets k (open_waits before) st)
-      ∙ step-with (outline here) refl labels
+      step-with (outline here) refl labels
 
 -- ---- the symbols are the labels
 

@@ -10,7 +10,7 @@ use Rattle.mx_line.specs.declared.cutter.Cut.{Cut}
 use Rattle.mx_line.specs.Source.{item_of}
 use Rattle.mx_mmo.specs.declared.items.Item.{Item}
 use Rattle.mx_names.specs.declared.fault.NameFault.{NameFault}
-use Rattle.mx_names.specs.Names.{NameTable, define_answer, value_of_name, with_symbol}
+use Rattle.mx_names.specs.Names.{Naming, define_answer, value_of_name, with_symbol}
 use Rattle.mx_names.specs.Waiting.{first_of, waits_for, waits_for_others}
 use Rattle.mx_stmt.specs.declared.statement.Label.{Label}
 use Rattle.mx_stmt.specs.declared.statement.Label.TheVariants.{Name, Local}
@@ -33,8 +33,9 @@ use Rattle.mx_asm.specs.Refusal.{trie_limit, undefined}
 
 -- what the assembler carries from statement to statement
 pub record Assembly : Type 0 where
-  -- the names with the references that wait, `@`, and the global registers
+  -- the names, `@`, and the global registers
   pub known : Known
+  pub waiting : List Wait
   pub head : Head
   -- one more than the greatest register that LOCAL named; 0 where it named none
   pub locals : ℕ
@@ -54,41 +55,48 @@ is_open (Err refused) = false
 is_open (Ok a) = a.opened
 
 abbrev pub beginning : Assembly
-beginning = record { known = nothing_known; head = first_head; locals = 0; lines = 0; size = 0; opened = false }
+beginning = record { known = nothing_known; waiting = []; head = first_head; locals = 0; lines = 0; size = 0; opened = false }
+
+-- the names, and the references that wait
+abbrev pub naming_of : Assembly → Naming
+naming_of a = record { names = a.known.names; waiting = a.waiting }
 
 -- ---- the label of a statement
 
 -- the names with a label, and the references that waited for it
 abbrev pub Labelled : Type 0
-Labelled = Result (NameTable × List Wait) AsmFault
+Labelled = Result (Naming × List Wait) AsmFault
 
 -- references that begin to wait
-abbrev pub with_waits : NameTable → List Wait → NameTable
-with_waits names waits = record names { waiting = names.waiting ++ waits }
+abbrev pub with_waits : Naming → List Wait → Naming
+with_waits n waits = record n { waiting = n.waiting ++ waits }
 
 -- a symbol: the statement's own references wait for it too
-abbrev pub symbol_defined : NameTable → List ℕ → Value → List Wait → Result (Unit {0}) NameFault → Labelled
-symbol_defined names full value waits (Err fault) = Err (BadName fault)
-symbol_defined names full value waits (Ok u) =
-    let waiting = names.waiting ++ waits in
-    Ok (record (with_symbol names full value) { waiting = waits_for_others (awaited.Name full) waiting }, waits_for (awaited.Name full) waiting)
+abbrev pub symbol_defined : Naming → List ℕ → Value → List Wait → Result (Unit {0}) NameFault → Labelled
+symbol_defined n full value waits (Err fault) = Err (BadName fault)
+symbol_defined n full value waits (Ok u) =
+    let waiting = n.waiting ++ waits in
+    Ok (record { names = with_symbol n.names full value; waiting = waits_for_others (awaited.Name full) waiting }, waits_for (awaited.Name full) waiting)
 
-abbrev pub symbol_label : NameTable → Value → List Wait → Result (List ℕ) NameFault → Labelled
-symbol_label names value waits (Err fault) = Err (BadName fault)
-symbol_label names value waits (Ok full) = symbol_defined names full value waits (define_answer names full)
+abbrev pub symbol_label : Naming → Value → List Wait → Result (List ℕ) NameFault → Labelled
+symbol_label n value waits (Err fault) = Err (BadName fault)
+symbol_label n value waits (Ok full) = symbol_defined n full value waits (define_answer n.names full)
 
 -- a label dH: its own references to dF wait for a later one
-abbrev pub local_label : NameTable → ℕ → Value → List Wait → Labelled
-local_label names d value waits =
+abbrev pub local_label : Naming → ℕ → Value → List Wait → Labelled
+local_label n d value waits =
     Ok (
-      record names { backs = slice_set names.backs d value; waiting = waits_for_others (awaited.Local d) names.waiting ++ waits },
-      waits_for (awaited.Local d) names.waiting,
+      record {
+        names = record n.names { backs = slice_set n.names.backs d value };
+        waiting = waits_for_others (awaited.Local d) n.waiting ++ waits;
+      },
+      waits_for (awaited.Local d) n.waiting,
     )
 
-abbrev pub labelled : NameTable → Option Label → Option Value → List Wait → Labelled
-labelled names (Some (Name text)) (Some value) waits = symbol_label names value waits (symbol_form names text)
-labelled names (Some (Local d)) (Some value) waits = local_label names d value waits
-labelled names label value waits = Ok (with_waits names waits, [])
+abbrev pub labelled : Naming → Option Label → Option Value → List Wait → Labelled
+labelled n (Some (Name text)) (Some value) waits = symbol_label n value waits (symbol_form n.names text)
+labelled n (Some (Local d)) (Some value) waits = local_label n d value waits
+labelled n label value waits = Ok (with_waits n waits, [])
 
 -- ---- a statement
 
@@ -97,9 +105,10 @@ abbrev pub with_local : ℕ → Effect → ℕ
 with_local locals (effect.Local reg) = max locals (reg + 1)
 with_local locals e = locals
 
-abbrev pub assembled : Assembly → ℕ → Placed → NameTable → List Wait → Assembly
-assembled a line p names waits = record a {
-  known = with_effect (record { names = names; at = p.after; gregs = a.known.gregs }) p.effect;
+abbrev pub assembled : Assembly → ℕ → Placed → Naming → List Wait → Assembly
+assembled a line p n waits = record a {
+  known = with_effect (record { names = n.names; at = p.after; gregs = a.known.gregs }) p.effect;
+  waiting = n.waiting;
   head = statement_head a.head line p waits;
   locals = with_local a.locals p.effect;
 }
@@ -114,10 +123,10 @@ taken_items a (Ok items) = Ok (items, a)
 
 abbrev pub taken_label : Assembly → ℕ → Placed → Labelled → Taken
 taken_label a line p (Err fault) = Err (refused line fault)
-taken_label a line p (Ok (names, waits)) = taken_items (assembled a line p names waits) (statement_items a.head line p waits)
+taken_label a line p (Ok (n, waits)) = taken_items (assembled a line p n waits) (statement_items a.head line p waits)
 
 abbrev pub taken_placed : Assembly → ℕ → Option Label → Placed → Taken
-taken_placed a line label p = taken_label a line p (labelled a.known.names label p.label p.waits)
+taken_placed a line label p = taken_label a line p (labelled (naming_of a) label p.label p.waits)
 
 abbrev pub taken_with : Assembly → ℕ → Option Label → Answer Placed → Taken
 taken_with a line label (Err fault) = Err (refused line (Stmt fault))
@@ -214,19 +223,19 @@ ended_waits out a (Some wait) = (out, Err (refused wait.line (undefined wait.who
 ended_waits out a None = ended_main out a (assembly_fault a)
 
 abbrev pub ended : List Item → Assembly → Ended
-ended out a = ended_waits out a (first_of a.known.names.waiting)
+ended out a = ended_waits out a (first_of a.waiting)
 
 abbrev pub end_behind : List Item → Standing → Ended
 end_behind out (Err refused) = (out, Err refused)
 end_behind out (Ok a) = ended (with_opening a.opened out) a
 
 -- what calls answer, with what they leave
-abbrev pub waits_taken : Awaited → NameTable → Labelled
-waits_taken who names = Ok (record names { waiting = waits_for_others who names.waiting }, waits_for who names.waiting)
+abbrev pub waits_taken : Awaited → Naming → Labelled
+waits_taken who n = Ok (record n { waiting = waits_for_others who n.waiting }, waits_for who n.waiting)
 
-abbrev pub labelled_after : Result (List Wait) AsmFault → NameTable → Labelled
-labelled_after (Ok waits) names = Ok (names, waits)
-labelled_after (Err fault) names = Err fault
+abbrev pub labelled_after : Result (List Wait) AsmFault → Naming → Labelled
+labelled_after (Ok waits) n = Ok (n, waits)
+labelled_after (Err fault) n = Err fault
 
 abbrev pub taken_after : Result (List Item) Refused → Assembly → Taken
 taken_after (Ok items) a = Ok (items, a)

@@ -57,7 +57,8 @@ impl Model for Assembly {
     ghost Value = { Assembly };
 
     ghost view = { λ a. record {
-      known = record { names = a.names; at = a.at; gregs = a.gregs };
+      known = record { names = a.names.names; at = a.at; gregs = a.gregs };
+      waiting = a.names.waiting;
       head = a.head;
       locals = a.locals;
       lines = a.lines;
@@ -65,8 +66,8 @@ impl Model for Assembly {
       opened = a.opened;
     } };
 
-    ghost invariant = { λ a. AreNames a.names × (length a.gregs ≤ 223) × (a.lines ≤ a.size) × (a.size ≤ 2 ^ 22 + 1)
-        × (length a.names.symbols ≤ a.defined) };
+    ghost invariant = { λ a. AreNames a.names.names × (length a.gregs ≤ 223) × (a.lines ≤ a.size) × (a.size ≤ 2 ^ 22 + 1)
+        × (length a.names.names.symbols ≤ a.defined) };
 }
 
 impl Assembly {
@@ -156,9 +157,9 @@ impl Assembly {
     ) -> Result<Waits, AsmFault>
         requires digit { IfSome label.now LabelHasDigit }
         ensures labelled { result ≢ Err AsmFault.OutOfMemory →
-            spec.labelled_after result self.new.known.names ≡ spec.labelled self.old.known.names label.now value waits }
-        ensures rest { OnOk result
-            (self.new ≡ record self.old { known = record self.old.known { names = self.new.known.names } }) }
+            spec.labelled_after result (spec.naming_of self.new) ≡ spec.labelled (spec.naming_of self.old) label.now value waits }
+        ensures rest { OnOk result (self.new ≡
+            record self.old { known = record self.old.known { names = self.new.known.names }; waiting = self.new.waiting }) }
     {
         let Some(defined) = self.defined.checked_add(1) else {
             return Err(AsmFault::OutOfMemory);

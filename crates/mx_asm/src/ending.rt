@@ -31,7 +31,7 @@ pub(crate) fn undefined(who: &Awaited) -> AsmFault
 /// The fault at the end of a source with these names, with the lowest global register, and with one
 /// more than the greatest register that LOCAL named.
 pub(crate) fn main_fault(names: &Names, lowest: u8, locals: u16) -> Option<AsmFault>
-    ensures { result ≡ spec.main_fault lowest locals (value_of_name names.now emission.main_name) }
+    ensures { result ≡ spec.main_fault lowest locals (value_of_name names.now.names emission.main_name) }
 {
     match names.lookup(b":Main") {
         None => Some(AsmFault::MainUndefined),
@@ -48,7 +48,7 @@ pub(crate) fn main_fault(names: &Names, lowest: u8, locals: u16) -> Option<AsmFa
 
 /// The address of Main.
 fn main_address(names: &Names) -> u64
-    ensures { result ≡ emission.main_of names.now }
+    ensures { result ≡ emission.main_of names.now.names }
 {
     match names.lookup(b":Main") {
         Some(Value::Pure(address)) => address,
@@ -58,7 +58,7 @@ fn main_address(names: &Names) -> u64
 
 /// The symbol trie, with the zeros that complete its last tetra.
 pub(crate) fn padded_trie(alloc: Global, names: &Names) -> Result<Bytes, NoMemory>
-    ensures trie { IfOk result (λ trie. trie ≡ emission.padded_trie names.now) }
+    ensures trie { IfOk result (λ trie. trie ≡ emission.padded_trie names.now.names) }
     ensures whole { IfOk result (λ trie. length trie % 4 ≡ 0) }
 {
     let Ok(symbols) = names.sorted() else {
@@ -104,8 +104,8 @@ pub(crate) fn close(
     gregs: &Gregs,
 ) -> Result<(), NoMemory>
     requires { length gregs.now ≤ 223 }
-    ensures all { OnOk result (out.new ≡ out.old ++ emission.closing names.now gregs.now) }
-    ensures front { IsFront out.new (out.old ++ emission.closing names.now gregs.now) }
+    ensures all { OnOk result (out.new ≡ out.old ++ emission.closing names.now.names gregs.now) }
+    ensures front { IsFront out.new (out.old ++ emission.closing names.now.names gregs.now) }
     ensures fits { GrowsFit out.old out.new }
 {
     let mut values = values(alloc, gregs)?;

@@ -16,8 +16,8 @@ use std::alloc::Global;
 fn wait_for(names: &mut Names, waits: Waits) -> Result<(), AsmFault>
     ensures waiting { OnOk result (names.new ≡ spec.with_waits names.old waits) }
     ensures only { IfErr result (λ fault. fault ≡ AsmFault.OutOfMemory) }
-    ensures kept { AreNames names.old → AreNames names.new }
-    ensures symbols { names.new.symbols ≡ names.old.symbols }
+    ensures kept { AreNames names.old.names → AreNames names.new.names }
+    ensures symbols { names.new.names.symbols ≡ names.old.names.symbols }
 {
     for wait in waits.into_vec() {
         let Ok(()) = names.wait_for(wait) else {
@@ -31,8 +31,8 @@ fn wait_for(names: &mut Names, waits: Waits) -> Result<(), AsmFault>
 fn take_waiting(names: &mut Names, who: &Awaited) -> Result<Waits, AsmFault>
     ensures taken { result ≢ Err AsmFault.OutOfMemory →
         spec.labelled_after result names.new ≡ spec.waits_taken who.now names.old }
-    ensures kept { AreNames names.new }
-    ensures symbols { names.new.symbols ≡ names.old.symbols }
+    ensures kept { AreNames names.new.names }
+    ensures symbols { names.new.names.symbols ≡ names.old.names.symbols }
 {
     match names.take_waiting(who) {
         Ok(waits) => Ok(waits),
@@ -50,12 +50,12 @@ fn define_symbol(
     waits: Waits,
 ) -> Result<Waits, AsmFault>
     requires full { IsFullName full }
-    requires room { length names.old.symbols < 0xffff_ffff }
+    requires room { length names.old.names.symbols < 0xffff_ffff }
     ensures labelled { result ≢ Err AsmFault.OutOfMemory →
         spec.labelled_after result names.new ≡
-        spec.symbol_defined names.old full value waits (define_answer names.old full) }
-    ensures kept { AreNames names.old → AreNames names.new }
-    ensures few { length names.new.symbols ≤ length names.old.symbols + 1 }
+        spec.symbol_defined names.old full value waits (define_answer names.old.names full) }
+    ensures kept { AreNames names.old.names → AreNames names.new.names }
+    ensures few { length names.new.names.symbols ≤ length names.old.names.symbols + 1 }
 {
     let who = Awaited::Name(Bytes::copy(alloc, full.as_slice())?);
     wait_for(names, waits)?;
@@ -74,12 +74,12 @@ fn define_name(
     value: Value,
     waits: Waits,
 ) -> Result<Waits, AsmFault>
-    requires room { length names.old.symbols < 0xffff_ffff }
+    requires room { length names.old.names.symbols < 0xffff_ffff }
     ensures labelled { result ≢ Err AsmFault.OutOfMemory →
         spec.labelled_after result names.new ≡
-        spec.symbol_label names.old value waits (symbol_form names.old text.now) }
-    ensures kept { AreNames names.old → AreNames names.new }
-    ensures few { length names.new.symbols ≤ length names.old.symbols + 1 }
+        spec.symbol_label names.old value waits (symbol_form names.old.names text.now) }
+    ensures kept { AreNames names.old.names → AreNames names.new.names }
+    ensures few { length names.new.names.symbols ≤ length names.old.names.symbols + 1 }
 {
     match names.resolve(text) {
         Ok(full) => define_symbol(alloc, names, full, value, waits),
@@ -93,8 +93,8 @@ fn define_local(names: &mut Names, d: u8, value: Value, waits: Waits) -> Result<
     requires digit { d ≤ 9 }
     ensures labelled { result ≢ Err AsmFault.OutOfMemory →
         spec.labelled_after result names.new ≡ spec.local_label names.old d value waits }
-    ensures kept { AreNames names.old → AreNames names.new }
-    ensures few { length names.new.symbols ≤ length names.old.symbols + 1 }
+    ensures kept { AreNames names.old.names → AreNames names.new.names }
+    ensures few { length names.new.names.symbols ≤ length names.old.names.symbols + 1 }
 {
     let taken = take_waiting(names, &Awaited::Local(d))?;
     names.define_local(d, value);
@@ -111,12 +111,12 @@ pub(crate) fn define(
     value: Option<Value>,
     waits: Waits,
 ) -> Result<Waits, AsmFault>
-    requires room { length names.old.symbols < 0xffff_ffff }
+    requires room { length names.old.names.symbols < 0xffff_ffff }
     requires digit { IfSome label.now LabelHasDigit }
     ensures labelled { result ≢ Err AsmFault.OutOfMemory →
         spec.labelled_after result names.new ≡ spec.labelled names.old label.now value waits }
-    ensures kept { AreNames names.old → AreNames names.new }
-    ensures few { length names.new.symbols ≤ length names.old.symbols + 1 }
+    ensures kept { AreNames names.old.names → AreNames names.new.names }
+    ensures few { length names.new.names.symbols ≤ length names.old.names.symbols + 1 }
 {
     match (label, value) {
         (Some(Label::Name(text)), Some(value)) => define_name(

@@ -1,6 +1,6 @@
 -- What the entries of the map say as a list of symbols.
 use Rattle.std.proofs.Common.{ℕ, ◌+◌, ◌≡◌, Bool, true, false, cond, List, [], ◌∷◌, map, length, Option, Some, None, is_some, Ordering, refl, sym, ◌∙◌, ap, arith, bytes_eq}
-use Rattle.mx_names.proofs.Words.{option_map, lookup, keys_of, is_at, insert_entry, nat_cmp, is_lt, is_eq, match_ordering, Less, Equal, Greater, slice_cmp, AllByRecursion, is_eq-slice_cmp, bytes_eq-Decides, cond_both, false≢true, InByteOrder, IsNamed, Value, Symbol, Wait, predefined_value, IsFullName, value_in, symbols_with, first_value, pure_of, value_of_name, with_symbol, NameTable, symbol_of, IsInRange}
+use Rattle.mx_names.proofs.Words.{option_map, lookup, keys_of, is_at, insert_entry, nat_cmp, is_lt, is_eq, match_ordering, Less, Equal, Greater, slice_cmp, AllByRecursion, is_eq-slice_cmp, bytes_eq-Decides, cond_both, false≢true, InByteOrder, IsNamed, Value, Symbol, Wait, predefined_value, IsFullName, value_in, symbols_with, first_value, pure_of, value_of_name, with_symbol, NameTable, Naming, symbol_of, IsInRange}
 use Rattle.std.specs.List.Sorted.{IsStrictlySortedBy}
 use Rattle.std.proofs.Math.ListN.{length-map}
 use Rattle.mx_names.specs.declared.names.Definition.{Definition}
@@ -11,8 +11,11 @@ found-step true true v d rest more same value h = ap (λ v. Some v) value
 found-step false false v d rest more same value h = h
 found-step b c v d rest more same value h = cc
 
-abbrev tabled : List ℕ → List Value → List Wait → List Symbol → NameTable
-tabled prefix backs waiting symbols = record { symbols = symbols; prefix = prefix; backs = backs; waiting = waiting }
+abbrev tabled : List ℕ → List Value → List Wait → List Symbol → Naming
+tabled prefix backs waiting symbols = record { names = record { symbols = symbols; prefix = prefix; backs = backs }; waiting = waiting }
+
+abbrev naming_with : Naming → List ℕ → Value → Naming
+naming_with n name value = record n { names = with_symbol n.names name value }
 
 abbrev numbered : List ℕ → Value → ℕ → Symbol
 numbered name value serial = record { name = name; value = value; serial = serial }
@@ -38,14 +41,14 @@ module _ {K : Type 0} (bytes : K → List ℕ) where
       put-step Greater false same out rest = ap (λ l. symbol_of (bytes e.0) e.1 ∷ l) (rest out)
 
   -- the symbols after one is put in
-  pub table-put : (es more : List (K × Definition)) (prefix : List ℕ) (backs : List Value) (waiting : List Wait) (k : K) (full : List ℕ) (value : Value) (serial : ℕ) (table : NameTable) → tabled prefix backs waiting (symbols_of es) ≡ table → bytes k ≡ full → serial ≡ length es + 1 → value_in full table.symbols ≡ None → more ≡ insert_entry (λ x y. slice_cmp nat_cmp (bytes x) (bytes y)) es k (record { value = value; serial = serial }) → tabled prefix backs waiting (symbols_of more) ≡ with_symbol table full value
+  pub table-put : (es more : List (K × Definition)) (prefix : List ℕ) (backs : List Value) (waiting : List Wait) (k : K) (full : List ℕ) (value : Value) (serial : ℕ) (table : Naming) → tabled prefix backs waiting (symbols_of es) ≡ table → bytes k ≡ full → serial ≡ length es + 1 → value_in full table.names.symbols ≡ None → more ≡ insert_entry (λ x y. slice_cmp nat_cmp (bytes x) (bytes y)) es k (record { value = value; serial = serial }) → tabled prefix backs waiting (symbols_of more) ≡ naming_with table full value
   table-put es more prefix backs waiting k full value serial table is named counted absent grown =
-      let out : value_in (bytes k) (symbols_of es) ≡ None = ap (λ n. value_in n (symbols_of es)) named ∙ ap (λ (t : NameTable). value_in full t.symbols) is ∙ absent in
+      let out : value_in (bytes k) (symbols_of es) ≡ None = ap (λ n. value_in n (symbols_of es)) named ∙ ap (λ (t : Naming). value_in full t.names.symbols) is ∙ absent in
       let grew : symbols_of more ≡ symbols_with (symbol_of (bytes k) (record { value = value; serial = serial })) (symbols_of es) = ap symbols_of grown ∙ put-in k (record { value = value; serial = serial }) es out in
       ap (tabled prefix backs waiting) grew
       ∙ ap (λ n. tabled prefix backs waiting (symbols_with (numbered n value serial) (symbols_of es))) named
       ∙ ap (λ n. tabled prefix backs waiting (symbols_with (numbered full value n) (symbols_of es))) (counted ∙ ap (λ n. n + 1) (sym (length-map es (λ e. symbol_of (bytes e.0) e.1))))
-      ∙ ap (λ t. with_symbol t full value) is
+      ∙ ap (λ t. naming_with t full value) is
 
   -- the names in the order of the keys
   all-named : (name : List ℕ) (es : List (K × Definition)) → AllByRecursion (λ k. slice_cmp nat_cmp name (bytes k) ≡ Less) (keys_of es) → AllByRecursion (λ n. slice_cmp nat_cmp name n ≡ Less) (map (λ (s : Symbol). s.name) (symbols_of es))

@@ -16,5 +16,5 @@ pub use Rattle.mx_word.specs.declared.symbols.Symbol.{Symbol}
 pub use Rattle.mx_word.specs.declared.symbols.Value.{Value}
 pub use Rattle.mx_word.specs.declared.waits.Wait.{Wait}
 pub use Rattle.mx_names.specs.Entries.{IsInRange, symbol_of}
-pub use Rattle.mx_names.specs.Names.{AreNames, IsFullName, NameTable, first_value, pure_of, symbols_with, value_in, value_of_name, with_symbol}
+pub use Rattle.mx_names.specs.Names.{AreNames, IsFullName, NameTable, Naming, first_value, pure_of, symbols_with, value_in, value_of_name, with_symbol}
 pub use Rattle.mx_names.specs.Waiting.{AreGroups, AreRising, IsGroup, Numbered, all_in_order, earlier_of_two, first_of, key_of, waits_for, waits_for_others, waits_of, with_group, with_one}

@@ -12,17 +12,24 @@ use Rattle.mx_ops.specs.Predefined.{predefined_value}
 use Rattle.mx_names.specs.declared.fault.NameFault.{NameFault}
 use Rattle.mx_names.specs.declared.fault.NameFault.TheVariants.{Twice, Predefined, NameTooLong}
 
--- The defined symbols in byte order of their names, the prefix, the values of the last labels 0H to 9H, and the references
--- that wait, in the order of their making.
+-- The defined symbols in byte order of their names, the prefix, and the values of the last labels 0H to 9H.
 pub record NameTable : Type 0 where
   pub symbols : List Symbol
   pub prefix : List ℕ
   pub backs : List Value
+
+-- the names that a source has so far, and the references that wait, in the order of their making
+pub record Naming : Type 0 where
+  pub names : NameTable
   pub waiting : List Wait
 
--- before the first statement: nothing is defined, the prefix is a colon, each local label is 0, and nothing waits
+-- before the first statement: nothing is defined, the prefix is a colon, and each local label is 0
 abbrev pub start : NameTable
-start = record { symbols = []; prefix = 58 ∷ []; backs = replicate 10 (Pure 0); waiting = [] }
+start = record { symbols = []; prefix = 58 ∷ []; backs = replicate 10 (Pure 0) }
+
+-- and nothing waits
+abbrev pub naming_at_start : Naming
+naming_at_start = record { names = start; waiting = [] }
 
 -- a symbol that begins with a colon is complete
 abbrev pub is_complete : List ℕ → Bool

@@ -52,15 +52,17 @@ pub struct Names {
 
 impl Model for Names {
     ghost use Rattle.std.specs.Prelude.{map};
-    ghost use Rattle.mx_names.specs.Names.{AreNames, NameTable};
+    ghost use Rattle.mx_names.specs.Names.{AreNames, Naming};
     ghost use Rattle.mx_names.specs.Entries.{symbol_of};
 
-    ghost Value = { NameTable };
+    ghost Value = { Naming };
 
     ghost view = { λ n. record {
-      symbols = map (λ e. symbol_of e.0.items e.1) n.defined.entries;
-      prefix = n.prefix;
-      backs = n.backs;
+      names = record {
+        symbols = map (λ e. symbol_of e.0.items e.1) n.defined.entries;
+        prefix = n.prefix;
+        backs = n.backs;
+      };
       waiting = n.waiting;
     } };
 
@@ -68,7 +70,6 @@ impl Model for Names {
       symbols = map (λ e. symbol_of e.0.items e.1) n.defined.entries;
       prefix = n.prefix;
       backs = n.backs;
-      waiting = n.waiting;
     }) };
 }
 
@@ -76,7 +77,7 @@ impl Names {
     /// No symbol is defined, the prefix is a colon, each local label is pure 0, and no reference
     /// waits.
     pub fn new(alloc: Global) -> Result<Names, NameFault>
-        ensures start { IfOk result (λ names. names ≡ spec.start) }
+        ensures start { IfOk result (λ names. names ≡ spec.naming_at_start) }
         ensures memory { IfErr result (λ fault. fault ≡ NameFault.OutOfMemory) }
     {
         Ok(Names {
@@ -92,7 +93,7 @@ impl Names {
     /// the prefix followed by it. It is refused where it has more than 1,024 bytes.
     pub fn resolve(&self, name: &[u8]) -> Result<Bytes, NameFault>
         ensures answer { result ≢ Err NameFault.OutOfMemory →
-            result ≡ spec.fitting_form (spec.complete_form self.now.prefix name.now) }
+            result ≡ spec.fitting_form (spec.complete_form self.now.names.prefix name.now) }
         ensures full { IfOk result (λ full. spec.IsFullName full) }
     {
         if is_complete(name) {
@@ -106,10 +107,11 @@ impl Names {
     /// changes nothing.
     pub fn set_prefix(&mut self, name: &[u8]) -> Result<(), NameFault>
         ensures answer { result ≢ Err NameFault.OutOfMemory →
-            result ≡ map_ok (λ _. tt) (spec.fitting_form (spec.complete_form self.old.prefix name.now)) }
-        ensures ok { OnOk result (self.new ≡ record self.old { prefix = spec.complete_form self.old.prefix name.now }) }
+            result ≡ map_ok (λ _. tt) (spec.fitting_form (spec.complete_form self.old.names.prefix name.now)) }
+        ensures ok { OnOk result (self.new ≡
+            record self.old { names = record self.old.names { prefix = spec.complete_form self.old.names.prefix name.now } }) }
         ensures err { OnErr result (self.new ≡ self.old) }
-        ensures kept { spec.AreNames self.new }
+        ensures kept { spec.AreNames self.new.names }
     {
         self.prefix = self.resolve(name)?;
         Ok(())
@@ -120,14 +122,14 @@ impl Names {
     /// refusal changes nothing.
     pub fn define(&mut self, full: Bytes, v: Value) -> Result<(), NameFault>
         requires full { spec.IsFullName full }
-        requires room { length self.old.symbols < 0xffff_ffff }
-        ensures answer { result ≢ Err NameFault.OutOfMemory → result ≡ spec.define_answer self.old full }
-        ensures ok { OnOk result (self.new ≡ spec.with_symbol self.old full v) }
-        ensures count { OnOk result (length self.new.symbols ≡ length self.old.symbols + 1) }
-        ensures looked_up { OnOk result ((name : List ℕ) → spec.value_of_name self.new name ≡
-            (if bytes_eq name full then Some v else spec.value_of_name self.old name)) }
+        requires room { length self.old.names.symbols < 0xffff_ffff }
+        ensures answer { result ≢ Err NameFault.OutOfMemory → result ≡ spec.define_answer self.old.names full }
+        ensures ok { OnOk result (self.new ≡ record self.old { names = spec.with_symbol self.old.names full v }) }
+        ensures count { OnOk result (length self.new.names.symbols ≡ length self.old.names.symbols + 1) }
+        ensures looked_up { OnOk result ((name : List ℕ) → spec.value_of_name self.new.names name ≡
+            (if bytes_eq name full then Some v else spec.value_of_name self.old.names name)) }
         ensures err { OnErr result (self.new ≡ self.old) }
-        ensures kept { spec.AreNames self.new }
+        ensures kept { spec.AreNames self.new.names }
     {
         let is_defined = self.is_defined(full.as_slice());
         if predefined(full.as_slice()).is_some() {
@@ -141,8 +143,8 @@ impl Names {
 
     /// Whether a complete name is defined.
     fn is_defined(&self, full: &[u8]) -> bool
-        ensures found { result ≡ is_some (spec.value_in full.now self.now.symbols) }
-        ensures known { spec.AreNames self.now }
+        ensures found { result ≡ is_some (spec.value_in full.now self.now.names.symbols) }
+        ensures known { spec.AreNames self.now.names }
     {
         self.defined.contains_key(full)
     }
@@ -150,12 +152,12 @@ impl Names {
     /// Defines a complete name that is not defined. Where there is no memory, nothing changes.
     fn put(&mut self, full: Bytes, value: Value) -> Result<(), NameFault>
         requires full { spec.IsFullName full }
-        requires room { length self.old.symbols < 0xffff_ffff }
-        requires absent { spec.value_in full self.old.symbols ≡ None }
+        requires room { length self.old.names.symbols < 0xffff_ffff }
+        requires absent { spec.value_in full self.old.names.symbols ≡ None }
         ensures memory { IfErr result (λ fault. fault ≡ NameFault.OutOfMemory) }
-        ensures ok { OnOk result (self.new ≡ spec.with_symbol self.old full value) }
+        ensures ok { OnOk result (self.new ≡ record self.old { names = spec.with_symbol self.old.names full value }) }
         ensures err { OnErr result (self.new ≡ self.old) }
-        ensures kept { spec.AreNames self.new }
+        ensures kept { spec.AreNames self.new.names }
     {
         let serial = self.defined.len() as u32 + 1;
         let definition = Definition { value, serial };
@@ -167,7 +169,7 @@ impl Names {
 
     /// The value of a complete name that is defined or predefined; nothing where the name is neither.
     pub fn lookup(&self, full: &[u8]) -> Option<Value>
-        ensures { result ≡ spec.value_of_name self.now full.now }
+        ensures { result ≡ spec.value_of_name self.now.names full.now }
     {
         match self.defined.get(full) {
             Some(definition) => Some(definition.value),
@@ -181,8 +183,8 @@ impl Names {
     /// Makes this the value of the last local label dH, for a digit d from 0 to 9.
     pub fn define_local(&mut self, d: u8, v: Value)
         requires { d ≤ 9 }
-        ensures changed { self.new ≡ record self.old { backs = slice_set self.old.backs d v } }
-        ensures kept { spec.AreNames self.new }
+        ensures changed { self.new ≡ record self.old { names = record self.old.names { backs = slice_set self.old.names.backs d v } } }
+        ensures kept { spec.AreNames self.new.names }
     {
         self.backs[usize::from(d)] = v;
     }
@@ -190,7 +192,7 @@ impl Names {
     /// The value of the last local label dH, for a digit d from 0 to 9: what dB stands for, or pure 0 before any.
     pub fn local_back(&self, d: u8) -> Value
         requires { d ≤ 9 }
-        ensures { result ≡ spec.back_of self.now d }
+        ensures { result ≡ spec.back_of self.now.names d }
     {
         self.backs[usize::from(d)]
     }
@@ -200,7 +202,7 @@ impl Names {
         ensures memory { IfErr result (λ fault. fault ≡ NameFault.OutOfMemory) }
         ensures ok { OnOk result (self.new ≡ record self.old { waiting = self.old.waiting ++ w ∷ [] }) }
         ensures err { OnErr result (self.new ≡ self.old) }
-        ensures kept { spec.AreNames self.new }
+        ensures kept { spec.AreNames self.new.names }
     {
         self.waiting.push(w)?;
         Ok(())
@@ -214,7 +216,7 @@ impl Names {
         ensures left { OnOk result
             (self.new ≡ record self.old { waiting = waits_for_others who.now self.old.waiting }) }
         ensures err { OnErr result (self.new ≡ self.old) }
-        ensures kept { spec.AreNames self.new }
+        ensures kept { spec.AreNames self.new.names }
     {
         Ok(self.waiting.take(who)?)
     }
@@ -228,10 +230,10 @@ impl Names {
 
     /// The defined symbols, without the predefined ones, in byte order of their names.
     pub fn sorted(&self) -> Result<Symbols, NameFault>
-        ensures symbols { IfOk result (λ symbols. symbols ≡ self.now.symbols) }
+        ensures symbols { IfOk result (λ symbols. symbols ≡ self.now.names.symbols) }
         ensures order { IfOk result (λ symbols. InByteOrder symbols) }
         ensures named { IfOk result (λ symbols. AllByRecursion IsNamed symbols) }
-        ensures known { spec.AreNames self.now }
+        ensures known { spec.AreNames self.now.names }
         ensures memory { IfErr result (λ fault. fault ≡ NameFault.OutOfMemory) }
     {
         let mut symbols = Symbols::new(self.alloc);

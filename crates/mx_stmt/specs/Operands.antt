@@ -28,7 +28,7 @@ pub record Known : Type 0 where
   pub gregs : List ℕ
 
 abbrev pub known_of : Env → Known
-known_of env = record { names = env.names.now; at = env.at; gregs = env.gregs.now }
+known_of env = record { names = env.names.now.names; at = env.at; gregs = env.gregs.now }
 
 -- the complete form of a symbol as it is written
 abbrev pub symbol_form : NameTable → List ℕ → Result (List ℕ) NameFault

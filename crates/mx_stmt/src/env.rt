@@ -17,9 +17,9 @@ pub struct Env<'a> {
 }
 
 impl Known for Env<'_> {
-    ghost symbols = { λ env text. symbol_value env.names.now text };
+    ghost symbols = { λ env text. symbol_value env.names.now.names text };
 
-    ghost backs = { λ env d. back_of env.names.now d };
+    ghost backs = { λ env d. back_of env.names.now.names d };
 
     ghost at = { λ env. env.at };
 

@@ -134,7 +134,7 @@ fn reference_of(env: &Env, e: &Expr) -> Result<Option<Awaited>, StmtFault>
 
 /// The complete name that a symbol waits for, if it is not known.
 fn awaited_name(env: &Env, text: &[u8]) -> Result<Option<Awaited>, StmtFault>
-    ensures { Answers result (Ok (spec.awaited_name env.now.names.now (spec.symbol_form env.now.names.now text.now))) }
+    ensures { Answers result (Ok (spec.awaited_name env.now.names.now.names (spec.symbol_form env.now.names.now.names text.now))) }
 {
     match env.names.resolve(text) {
         Ok(full) => match env.names.lookup(full.as_slice()) {

@@ -3,9 +3,7 @@ use Rattle.std.proofs.Common.{◌≡◌, ℕ, ◌+◌, ◌*◌, ◌/◌, ◌%◌
 use Rattle.mx_mmo.specs.Image.{Image}
 use Rattle.mx_mmo.specs.Meaning.{Loading, Meaningless, after_load, join, join_octa, nothing, take_item, take_items, tetras_before, far_place, with_image}
 use Rattle.mx_mmo.specs.Meaning.Meaningless.{NoFile}
-use Rattle.mx_mmo.specs.declared.items.Item.{Item}
-use Rattle.mx_mmo.specs.declared.items.Item.TheVariants.{Load, Loc, Skip, FixOcta, FixNear, FixFar, File, Line, Spec, Pre, Post, Stab}
-use Rattle.mx_type.specs.Lambda.{lambda_after, lambda_behind, lambda_of}
+use Rattle.mx_type.proofs.Words.{Item, Load, Loc, Skip, FixOcta, FixNear, FixFar, File, Line, Spec, Pre, Post, Stab, lambda_after, lambda_behind, lambda_of}
 
 -- where something stands, lambda is this address
 abbrev LambdaIs : ℕ → Result Loading Meaningless → Type 0

@@ -1,3 +1,4 @@
+pub mod Words
 pub mod Lambdas
 pub mod Listed
 pub mod Rows

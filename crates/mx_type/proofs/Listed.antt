@@ -1,20 +1,10 @@
 -- What a lister gives is the listing, and the listing is what a lister gives.
 use Rattle.std.proofs.Common.{◌≡◌, ℕ, ◌+◌, ◌<◌, List, [], ◌∷◌, ◌++◌, Some, None, Ok, Result, refl, sym, ap, subst, ◌∙◌, append_assoc, append-nil, length, get_or, drop, drop-cons, suc, ◌≤◌, arith, codes, decimal}
-use Rattle.std.proofs.lemmas.Grind.{common_steps}
-use Rattle.std.specs.List.{flat_map}
-use Rattle.mx_word.specs.declared.symbols.Symbol.{Symbol}
-use Rattle.mx_mmo.specs.declared.items.Item.{Item}
-use Rattle.mx_mmo.specs.declared.items.Item.TheVariants.{Load, Loc, Skip, FixOcta, FixNear, FixFar, File, Line, Spec, Pre, Post, Stab}
-use Rattle.mx_stab.specs.Grammar.{IsTrie}
+use Rattle.mx_type.proofs.Words.{common_steps, flat_map, Symbol, Item, Load, Loc, Skip, FixOcta, FixNear, FixFar, File, Line, Spec, Pre, Post, Stab, IsTrie, hex_digits, lambda_after, lambda_behind, lambda_of, IsLine, bytes_text, ended, stab_line, symbol_line, AreLines, HasListed, IsListing, item_text, items_text, listing_text, tail_text}
 use Rattle.mx_stab.specs.declared.faults.StabFault.{StabFault}
 use Rattle.mx_stab.proofs.Whole.{trie-read}
-use Rattle.mx_text.specs.Numbers.{hex_digits}
-use Rattle.mx_type.specs.Lambda.{lambda_after, lambda_behind, lambda_of}
 use Rattle.mx_type.specs.Lines as Table
-use Rattle.mx_type.specs.Lines.{IsLine, bytes_text, ended, stab_line, symbol_line}
-use Rattle.mx_type.specs.Listing.{AreLines, HasListed, IsListing}
 use Rattle.mx_type.specs.Listing.AreLines.{none, next, quiet}
-use Rattle.mx_type.specs.Texts.{item_text, items_text, listing_text, tail_text}
 
 -- one item more
 lambda-more : (a : ℕ) (items : List Item) (item : Item) → lambda_behind a (items ++ item ∷ []) ≡ lambda_after (lambda_behind a items) item

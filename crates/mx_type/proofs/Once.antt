@@ -1,16 +1,7 @@
 -- One text is the listing of at most one list of items and one trie.
 use Rattle.std.proofs.Common.{◌≡◌, ℕ, List, [], ◌∷◌, ◌++◌, refl, sym, ap, subst, ◌∙◌, append_assoc, append-nil, drop}
 use Rattle.std.proofs.lemmas.List.{append_cancel_left}
-use Rattle.std.specs.List.{AllByRecursion, flat_map}
-use Rattle.mx_word.specs.Ranges.{AreBytes}
-use Rattle.mx_mmo.specs.Valid.{Fits, IsMiddle, Valid}
-use Rattle.mx_mmo.specs.declared.items.Item.{Item}
-use Rattle.mx_mmo.specs.declared.items.Item.TheVariants.{Load, Loc, Skip, FixOcta, FixNear, FixFar, File, Line, Spec, Pre, Post, Stab}
-use Rattle.mx_text.proofs.Parts.{cut-first}
-use Rattle.mx_type.specs.Lambda.{lambda_after}
-use Rattle.mx_type.specs.Lines.{ended, stab_line, symbol_line}
-use Rattle.mx_type.specs.Listing.{IsListing}
-use Rattle.mx_type.specs.Texts.{item_text, items_text}
+use Rattle.mx_type.proofs.Words.{AllByRecursion, flat_map, AreBytes, Fits, IsMiddle, Valid, Item, Load, Loc, Skip, FixOcta, FixNear, FixFar, File, Line, Spec, Pre, Post, Stab, cut-first, lambda_after, ended, stab_line, symbol_line, IsListing, item_text, items_text}
 use Rattle.mx_type.proofs.Listed.{are-text, text-more}
 use Rattle.mx_type.proofs.TrieBytes.{trie-bytes}
 use Rattle.mx_type.proofs.Readings.{IsShown, bytes_in, first_in, item-read, stab-lacks, stab-read, trie-told}

@@ -1,21 +1,12 @@
 -- What the text of an item tells of it: the item is read from its line.
 use Rattle.std.proofs.Common.{◌≡◌, ℕ, zero, suc, ◌<◌, ◌≤◌, ◌^◌, ◌⊎◌, inl, inr, Bool, true, false, not, cond, eqb, nat_le, List, [], ◌∷◌, ◌++◌, Option, Some, None, IfSome, refl, ap, ◌∙◌, arith, append_assoc, length, length-append, get_or, take, drop, codes, decimal}
-use Rattle.std.specs.List.{AllByRecursion, flat_map}
+use Rattle.mx_type.proofs.Words.{AllByRecursion, flat_map, common_steps, AreBytes, Fits, IsName, Item, Load, Loc, Skip, FixOcta, FixNear, FixFar, File, Line, Spec, Pre, Post, Stab, hex_digits, hex_text, lacks, bytes_text, ended, next_octa, next_tetra, stab_line, item_text, name_text}
 use Rattle.std.specs.Char.{digit_value}
 use Rattle.std.specs.Str.Parse.{AllDigits, digits_value}
 use Rattle.std.proofs.lemmas.Bool.{and_parts, eqb-true, not-true}
 use Rattle.std.proofs.lemmas.Bool.Decides.{nat_tests}
 use Rattle.std.proofs.lemmas.Fmt.{decimal_is_IsNumeral}
-use Rattle.std.proofs.lemmas.Grind.{common_steps}
-use Rattle.mx_word.specs.Ranges.{AreBytes}
-use Rattle.mx_mmo.specs.Valid.{Fits, IsName}
-use Rattle.mx_mmo.specs.declared.items.Item.{Item}
-use Rattle.mx_mmo.specs.declared.items.Item.TheVariants.{Load, Loc, Skip, FixOcta, FixNear, FixFar, File, Line, Spec, Pre, Post, Stab}
-use Rattle.mx_text.specs.Numbers.{hex_digits, hex_text}
 use Rattle.mx_text.proofs.HexValues.{all, hex-counted, hex-value}
-use Rattle.mx_text.proofs.Parts.{lacks}
-use Rattle.mx_type.specs.Lines.{bytes_text, ended, next_octa, next_tetra, stab_line}
-use Rattle.mx_type.specs.Texts.{item_text, name_text}
 
 -- the bytes before the first c, and those from there on
 abbrev until : ℕ → List ℕ → List ℕ

@@ -1,19 +1,11 @@
 -- Worked rows of listings.
 use Rattle.std.proofs.Common.{◌≡◌, ℕ, List, [], ◌∷◌, ◌++◌, Some, None, refl, sym, ap, ◌∙◌, codes}
 use Rattle.std.specs.Fmt.{digits}
-use Rattle.mx_word.specs.declared.symbols.Symbol.{Symbol}
+use Rattle.mx_type.proofs.Words.{Symbol, Item, Load, Loc, Skip, FixOcta, FixNear, FixFar, File, Line, Spec, Pre, Post, Stab, IsTrie, hex_digits, lambda_behind, lambda_of, ended, stab_line, symbol_line, AreLines, IsListing, items_text, listing_text}
 use Rattle.mx_word.specs.declared.symbols.Value.TheVariants.{Pure, Reg}
-use Rattle.mx_mmo.specs.declared.items.Item.{Item}
-use Rattle.mx_mmo.specs.declared.items.Item.TheVariants.{Load, Loc, Skip, FixOcta, FixNear, FixFar, File, Line, Spec, Pre, Post, Stab}
-use Rattle.mx_stab.specs.Grammar.{IsTrie}
-use Rattle.mx_text.specs.Numbers.{hex_digits}
 use Rattle.mx_text.specs.Instructions.{instruction_text}
 use Rattle.mx_text.proofs.Rows.{backward, nothing_done, stopped}
-use Rattle.mx_type.specs.Lambda.{lambda_behind, lambda_of}
 use Rattle.mx_type.specs.Lines as Table
-use Rattle.mx_type.specs.Lines.{ended, stab_line, symbol_line}
-use Rattle.mx_type.specs.Listing.{AreLines, IsListing}
-use Rattle.mx_type.specs.Texts.{items_text, listing_text}
 use Rattle.mx_type.proofs.Listed.{all-listed}
 
 -- an object with a time, one tetra and a symbol

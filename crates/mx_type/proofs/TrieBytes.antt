@@ -1,11 +1,9 @@
 -- A trie of the grammar is a list of bytes.
 use Rattle.std.proofs.Common.{ℕ, ◌+◌, ◌≤◌, List, [], ◌∷◌, ◌++◌, arith, replicate}
 use Rattle.mx_word.proofs.Ranges.{bytes-append, bytes-zeros}
-use Rattle.mx_word.specs.Ranges.{AreBytes}
-use Rattle.mx_word.specs.declared.symbols.Symbol.{Symbol}
+use Rattle.mx_type.proofs.Words.{AreBytes, Symbol, AreBelow, IsSubtrie, IsTrie, SpellsCharacter, SpellsSerial, SpellsValue}
 use Rattle.mx_word.specs.declared.symbols.Value.{Value}
 use Rattle.mx_stab.specs.Grammar as grammar
-use Rattle.mx_stab.specs.Grammar.{AreBelow, IsSubtrie, IsTrie, SpellsCharacter, SpellsSerial, SpellsValue}
 
 -- bytes of a part, and a bound of the number that the part adds to a node's byte m
 record Part (most : ℕ) (n : ℕ) (bytes : List ℕ) : Type 0 where

@@ -1,6 +1,5 @@
 use Rattle.std.proofs.Common.{◌/◌, get_or, ◌∙◌, ap}
-use Rattle.mx_alu.specs.declared.names.TheConstants.{ARITHMETIC}
-use Rattle.mx_alu.specs.declared.names.Arithmetic.TheVariants.{Mul}
+use Rattle.mx_alu.proofs.Words.{ARITHMETIC, Mul}
 use Rattle.mx_alu.proofs.Named.{arithmetic-at}
 use Rattle.mx_alu.proofs.codes.arithmetic_name.Goals as goal
 

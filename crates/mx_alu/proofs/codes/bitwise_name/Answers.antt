@@ -1,6 +1,5 @@
 use Rattle.std.proofs.Common.{◌/◌, get_or, ◌∙◌, ap}
-use Rattle.mx_alu.specs.declared.names.TheConstants.{BITWISE}
-use Rattle.mx_alu.specs.declared.names.Bitwise.TheVariants.{Or}
+use Rattle.mx_alu.proofs.Words.{BITWISE, Or}
 use Rattle.mx_alu.proofs.Named.{bitwise-at}
 use Rattle.mx_alu.proofs.codes.bitwise_name.Goals as goal
 

@@ -1,6 +1,5 @@
 use Rattle.std.proofs.Common.{get_or, ◌∙◌, ap}
-use Rattle.mx_alu.specs.declared.names.TheConstants.{CONDITIONS}
-use Rattle.mx_alu.specs.declared.names.Condition.TheVariants.{Negative}
+use Rattle.mx_alu.proofs.Words.{CONDITIONS, Negative}
 use Rattle.mx_alu.proofs.Named.{condition-at}
 use Rattle.mx_alu.proofs.codes.condition.Goals as goal
 

@@ -1,6 +1,5 @@
 use Rattle.std.proofs.Common.{◌-◌, ◌*◌, ◌/◌, get_or, ◌∙◌, ap}
-use Rattle.mx_alu.specs.declared.names.TheConstants.{WYDES}
-use Rattle.mx_alu.specs.declared.names.Wyde.TheVariants.{Set}
+use Rattle.mx_alu.proofs.Words.{WYDES, Set}
 use Rattle.mx_alu.proofs.Named.{wyde-at}
 use Rattle.mx_alu.proofs.codes.wyde_name.Goals as goal
 

@@ -1,6 +1,5 @@
 use Rattle.std.proofs.Common.{◌≡◌, ◌++◌, take}
-use Rattle.std.specs.List.{flat_map}
-use Rattle.mx_type.specs.Lines.{next_tetra}
+use Rattle.mx_type.proofs.Words.{flat_map, next_tetra}
 use Rattle.mx_type.proofs.fields.add_tetras.Given as goal
 
 abbrev pub invariant-loop-word : goal.invariant-loop-word

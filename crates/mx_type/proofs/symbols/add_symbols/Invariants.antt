@@ -1,6 +1,5 @@
 use Rattle.std.proofs.Common.{◌≡◌, ◌++◌, take}
-use Rattle.std.specs.List.{flat_map}
-use Rattle.mx_type.specs.Lines.{ended, symbol_line}
+use Rattle.mx_type.proofs.Words.{flat_map, ended, symbol_line}
 use Rattle.mx_type.proofs.symbols.add_symbols.Given as goal
 
 abbrev pub invariant-loop-symbol : goal.invariant-loop-symbol

@@ -5,4 +5,4 @@ use Rattle.mx_asm.proofs.assembly.Assembly.take.Goals as goal
 
 pub settle-requires-clause-placed : goal.settle-requires-clause-placed
 settle-requires-clause-placed c =
-    rw (← c.self.view_is) (encoding-placed no_targets (record { names = c.self.inside.names; at = c.self.inside.at; gregs = c.self.inside.gregs }) (statement_tree c.args.s.now) c.in-Ok.placed c.self.invariant.0 c.self.invariant.1 (sym (c.in-Ok.ensures.placed (λ memory. cc))))
+    rw (← c.self.view_is) (encoding-placed no_targets (record { names = c.self.inside.names.names; at = c.self.inside.at; gregs = c.self.inside.gregs }) (statement_tree c.args.s.now) c.in-Ok.placed c.self.invariant.0 c.self.invariant.1 (sym (c.in-Ok.ensures.placed (λ memory. cc))))

@@ -7,4 +7,4 @@ pub returns-clause-found : goal.returns-clause-found
 returns-clause-found c =
     c.contains_key.ensures
     ∙ some-mapped (λ d. d.value) _
-    ∙ ap is_some (sym (found (λ k. k.items) c.args.full.now c.self.inside.defined.entries) ∙ ap (λ t. value_in c.args.full.now t.symbols) c.self.view_is)
+    ∙ ap is_some (sym (found (λ k. k.items) c.args.full.now c.self.inside.defined.entries) ∙ ap (λ t. value_in c.args.full.now t.names.symbols) c.self.view_is)

@@ -1,0 +1,117 @@
+-- A text of lines, each with one statement, comes to the entries of these statements.
+use Rattle.std.proofs.Common.{◌≡◌, ℕ, ◌+◌, ◌*◌, ◌^◌, ◌≤◌, Bool, true, false, not, cond, List, [], ◌∷◌, ◌++◌, length, map, sum_by, Option, None, Some, Ok, refl, sym, ap, ◌∙◌, arith, append_assoc, length-append, ◌==◌}
+use Rattle.law_gen.proofs.Words.{list_all, AllByRecursion, and_parts, le-ltb, Cut, cuts_from, lines_of, is_too_far, size_up_to, is_other, StatementTree, Fields, fields_of, Entry, entry_with, entry_of, entries_of, statement_in, source_entries, statements_in, refusal_in}
+use Rattle.std.proofs.lemmas.List.{length_push}
+use Rattle.std.proofs.lemmas.List.Sums.{sum_by-append}
+use Rattle.mx_line.specs.declared.spans.Span.{Span}
+use Rattle.mx_line.specs.Pieces.{split}
+use Rattle.mx_line.specs.Source.{Item, too_far, item_of, before as in_front, items_of, items_from}
+use Rattle.mx_line.proofs.LineLemmas.{no-lines, first-line, size-next}
+
+-- lines, each with a newline behind it
+abbrev pub text_of : List (List ℕ) → List ℕ
+text_of [] = []
+text_of (l ∷ ls) = l ++ 10 ∷ text_of ls
+
+abbrev pub no_newline : ℕ → Bool
+no_newline b = not (b == 10)
+
+-- bytes of an operand field, without a newline
+abbrev pub IsClean : List ℕ → Type 0
+IsClean ops = (list_all is_other ops ≡ true) × (list_all no_newline ops ≡ true)
+
+not-false : (t : Bool) → not t ≡ true → t ≡ false
+not-false true h = absurd (cc)
+not-false false h = refl
+
+cut-first : (l rest : List ℕ) → list_all no_newline l ≡ true → split 10 (l ++ 10 ∷ rest) ≡ l ∷ split 10 rest
+unfolding split
+cut-first [] rest all = refl
+cut-first (b ∷ bs) rest all =
+    let p = and_parts (no_newline b) (list_all no_newline bs) all in
+    rw (not-false (b == 10) p.0, cut-first bs rest p.1) refl
+
+pub lines-are : (ls : List (List ℕ)) → AllByRecursion (λ l. list_all no_newline l ≡ true) ls → lines_of (text_of ls) ≡ ls
+lines-are [] h = no-lines
+lines-are (l ∷ ls) h = first-line (l ++ 10 ∷ text_of ls) l (text_of ls) (cut-first l (text_of ls) h.0) ∙ ap (λ t. l ∷ t) (lines-are ls h.1)
+
+-- A line of at most 40 bytes that is cut to one statement, which is read as this one.
+pub record IsLine (line : List ℕ) (s : StatementTree) : Type 0 where
+  pub plain : list_all no_newline line ≡ true
+  pub short : length line ≤ 40
+  pub cut : Cut
+  pub fields : Fields
+  pub cuts : cuts_from line 0 ≡ Ok cut ∷ []
+  pub said : fields_of line cut ≡ fields
+  pub read : entry_with s.line (statement_in fields s.line) ≡ Ok s
+
+-- a line with a number
+pub record IsNumbered (number : ℕ) (line : List ℕ) (s : StatementTree) : Type 0 where
+  pub number_is : s.line ≡ number
+  pub line_is : IsLine line s
+
+abbrev pub AreLines : ℕ → List (List ℕ) → List StatementTree → Type 0
+AreLines number [] [] = Unit {0}
+AreLines number [] (s ∷ ss) = ⊥
+AreLines number (l ∷ ls) [] = ⊥
+AreLines number (l ∷ ls) (s ∷ ss) = IsNumbered number l s × AreLines (number + 1) ls ss
+
+plain-lines : (number : ℕ) (ls : List (List ℕ)) (ss : List StatementTree) → AreLines number ls ss → AllByRecursion (λ l. list_all no_newline l ≡ true) ls
+plain-lines number [] [] h = tt
+plain-lines number (l ∷ ls) (s ∷ ss) h = (h.0.line_is.plain, plain-lines (number + 1) ls ss h.1)
+plain-lines number ls ss h = absurd h
+
+-- the item of a cut is read as its fields are
+cut-read : (number : ℕ) (line : List ℕ) (label : Option Span) (op operands : Span) (next : ℕ) →
+    entry_of (item_of number line (Ok (record { label = label; op = op; operands = operands; next = next })))
+    ≡ entry_with number (statement_in (fields_of line (record { label = label; op = op; operands = operands; next = next })) number)
+cut-read number line None op operands next = refl
+cut-read number line (Some span) op operands next = refl
+
+line-read : (line : List ℕ) (s : StatementTree) (h : IsLine line s) → entry_of (item_of s.line line (Ok h.cut)) ≡ Ok s
+line-read line s h =
+    cut-read s.line line h.cut.label h.cut.op h.cut.operands h.cut.next ∙ ap (λ f. entry_with s.line (statement_in f s.line)) h.said ∙ h.read
+
+one-entry : (number : ℕ) (line : List ℕ) (s : StatementTree) (later : List Item) → IsNumbered number line s → entries_of (in_front (items_of number line) later) ≡ Ok s ∷ entries_of later
+one-entry number line s later h =
+    let is = h.line_is in
+    ap (λ n. entries_of (in_front (items_of n line) later)) (sym h.number_is)
+    ∙ ap (λ cs. entries_of (in_front (map (item_of s.line line) cs) later)) is.cuts
+    ∙ ap (λ (e : Entry). e ∷ entries_of later) (line-read line s is)
+
+near : (all before : List (List ℕ)) (line : List ℕ) (after : List (List ℕ)) (number : ℕ) → number ≡ length before + 1 → all ≡ before ++ line ∷ after →
+    sum_by length before ≤ 40 * length before → length line ≤ 40 → 41 * length all ≤ 2 ^ 22 → is_too_far all number ≡ false
+near all before line after number is e few short most =
+    let count : length all ≡ length before + length (line ∷ after) = ap length e ∙ length-append before (line ∷ after) in
+    let size : size_up_to number all ≡ sum_by length before + length before + length line =
+    ap (λ n. size_up_to n all) is ∙ ap (size_up_to (length before + 1)) e ∙ size-next before line after in
+    le-ltb (2 ^ 22) (size_up_to number all) (omega (arith, count, size, few, short, most))
+
+pub entries-from : (all before lines : List (List ℕ)) (number : ℕ) (ss : List StatementTree) → number ≡ length before + 1 → all ≡ before ++ lines →
+    sum_by length before ≤ 40 * length before → 41 * length all ≤ 2 ^ 22 → AreLines number lines ss → entries_of (items_from all number lines) ≡ map Ok ss
+unfolding items_from
+entries-from all before [] number [] is e few most are = refl
+entries-from all before (l ∷ ls) number (s ∷ ss) is e few most are =
+    let short = are.0.line_is.short in
+    let push = length_push before l in
+    let sums : sum_by length (before ++ l ∷ []) ≡ sum_by length before + sum_by length (l ∷ []) = sum_by-append length before (l ∷ []) in
+    let one : sum_by length (l ∷ []) ≡ length l = omega arith in
+    ap (λ t. entries_of (cond t (too_far number ∷ []) (in_front (items_of number l) (items_from all (number + 1) ls)))) (near all before l ls number is e few short most)
+    ∙ one-entry number l s (items_from all (number + 1) ls) are.0
+    ∙ ap (λ es. Ok s ∷ es)
+    (entries-from all (before ++ l ∷ []) ls (number + 1) ss (omega (arith, is, push)) (e ∙ sym (append_assoc before (l ∷ []) ls))
+    (omega (arith, few, short, push, sums, one)) most are.1)
+entries-from all before lines number ss is e few most are = absurd are
+
+-- the entries of a text of lines
+pub text-entries : (ls : List (List ℕ)) (ss : List StatementTree) → AreLines 1 ls ss → 41 * length ls ≤ 2 ^ 22 → source_entries (text_of ls) ≡ map Ok ss
+text-entries ls ss are most =
+    ap (λ t. entries_of (items_from t 1 t)) (lines-are ls (plain-lines 1 ls ss are)) ∙ entries-from ls [] ls 1 ss refl refl (omega arith) most are
+
+pub statements-are : (ss : List StatementTree) → statements_in (map Ok ss) ≡ ss
+statements-are [] = refl
+statements-are (s ∷ ss) = ap (λ t. s ∷ t) (statements-are ss)
+
+pub none-refused : (ss : List StatementTree) → refusal_in (map Ok ss) ≡ None
+none-refused [] = refl
+none-refused (s ∷ ss) = none-refused ss

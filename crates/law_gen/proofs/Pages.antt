@@ -1,0 +1,90 @@
+-- Bytes that are placed below 2^18 touch few pages.
+use Rattle.std.proofs.Common.{◌≡◌, ℕ, zero, suc, ◌+◌, ◌/◌, ◌^◌, ◌<◌, ◌≤◌, Bool, true, false, cond, List, [], ◌∷◌, ◌++◌, length, Option, None, Some, refl, sym, ap, ◌∙◌, arith, subst, ⊎_elim, ◌==◌, nat_le}
+use Rattle.law_gen.proofs.Words.{AllByRecursion, cases_lt, le-leb, nat_tests, Sight, Piece, piece_with, outline, outlined, page_refusal_from, statement_fault, accepted, accepted_with}
+use Rattle.mx_stmt.specs.Placements.{from_place}
+use Rattle.mx_asm.specs.Image.{placements, pages_of, pages_below}
+use Rattle.mx_asm.specs.declared.refused.Refused.{Refused}
+use Rattle.law_gen.proofs.Refusals.{all-append, IsFine}
+
+-- ---- addresses that are low
+
+abbrev pub IsLowPlace : ℕ × ℕ → Type 0
+IsLowPlace p = p.0 < 2 ^ 18
+
+low-from : (start : ℕ) (bytes : List ℕ) → start + length bytes ≤ 2 ^ 18 → AllByRecursion IsLowPlace (from_place start bytes)
+low-from start [] h = tt
+low-from start (b ∷ bytes) h = (omega (arith, h), low-from (start + 1) bytes (omega (arith, h)))
+
+low-piece : (s : Sight) → IsFine s → AllByRecursion IsLowPlace (placements (piece_with s.statement.line (outline s)))
+unfolding placements
+low-piece s h =
+    subst (λ r. AllByRecursion IsLowPlace (placements (piece_with s.statement.line r))) (sym h.outlined)
+    (all-append IsLowPlace (from_place h.placed.start h.placed.bytes) [] (low-from h.placed.start h.placed.bytes h.room) tt)
+
+behind-front : (front old new : List (ℕ × ℕ)) → (AllByRecursion IsLowPlace old → AllByRecursion IsLowPlace new) → AllByRecursion IsLowPlace (front ++ old) → AllByRecursion IsLowPlace (front ++ new)
+behind-front [] old new f h = f h
+behind-front (x ∷ xs) old new f h = (h.0, behind-front xs old new f h.1)
+
+placements-append : (ps qs : List Piece) → AllByRecursion IsLowPlace (placements ps) → AllByRecursion IsLowPlace (placements qs) → AllByRecursion IsLowPlace (placements (ps ++ qs))
+unfolding placements
+placements-append [] qs h g = g
+placements-append (p ∷ ps) qs h g = behind-front (from_place p.start p.bytes) (placements ps) (placements (ps ++ qs)) (λ k. placements-append ps qs k g) h
+
+low-outlined : (sights : List Sight) → AllByRecursion IsFine sights → AllByRecursion IsLowPlace (placements (outlined sights))
+unfolding outlined placements
+low-outlined [] h = tt
+low-outlined (s ∷ later) h = placements-append (piece_with s.statement.line (outline s)) (outlined later) (low-piece s h.0) (low-outlined later h.1)
+
+-- ---- pages
+
+not-on : (a page : ℕ) → a < 2 ^ 18 → 64 ≤ page → (a / 4096 == page) ≡ false
+not-on a page low high = let below : a / 4096 < 64 = omega (arith, low) in grind (arith, nat_tests)
+
+no-page : (ps : List (ℕ × ℕ)) (page : ℕ) → AllByRecursion IsLowPlace ps → 64 ≤ page → pages_of ps page ≡ false
+no-page [] page h high = refl
+no-page (p ∷ ps) page h high = rw (not-on p.0 page h.0 high, no-page ps page h.1 high) refl
+
+one-most : (b : Bool) → cond b 1 0 ≤ 1
+one-most true = omega arith
+one-most false = omega arith
+
+none-more : (b : Bool) → b ≡ false → cond b 1 0 ≤ 0
+none-more true h = absurd (cc)
+none-more false h = omega arith
+
+few-below : (n : ℕ) (pages : ℕ → Bool) → pages_below n pages ≤ n
+unfolding pages_below
+few-below zero pages = omega arith
+few-below (suc n) pages = omega (arith, one-most (pages n), few-below n pages)
+
+-- where no page from 64 on is touched, at most 64 are
+few-pages : (n : ℕ) (pages : ℕ → Bool) → ((page : ℕ) → 64 ≤ page → pages page ≡ false) → pages_below n pages ≤ 64
+unfolding pages_below
+few-pages zero pages h = omega arith
+few-pages (suc n) pages h =
+    ⊎_elim
+    (λ less. let below = few-below n pages in omega (arith, one-most (pages n), below, less))
+    (λ most. omega (arith, none-more (pages n) (h n most), few-pages n pages h))
+    (cases_lt n 64)
+
+room-there : (n : ℕ) (sights : List Sight) → AllByRecursion IsFine sights → nat_le (pages_below n (pages_of (placements (outlined sights)))) 65536 ≡ true
+room-there n sights h =
+    let few = few-pages n (pages_of (placements (outlined sights))) (λ page high. no-page (placements (outlined sights)) page (low-outlined sights h) high) in
+    le-leb (pages_below n (pages_of (placements (outlined sights)))) 65536 (omega (arith, few))
+
+pub no-page-refused : (earlier later : List Sight) → AllByRecursion IsFine earlier → AllByRecursion IsFine later → page_refusal_from earlier later ≡ None
+unfolding page_refusal_from
+no-page-refused earlier [] h g = refl
+no-page-refused earlier (s ∷ later) h g =
+    let both : AllByRecursion IsFine (earlier ++ s ∷ []) = all-append IsFine earlier (s ∷ []) h (g.0, tt) in
+    ap (λ b. cond b (page_refusal_from (earlier ++ s ∷ []) later) (Some s.statement.line)) (room-there (2 ^ 51) (earlier ++ s ∷ []) both)
+    ∙ no-page-refused (earlier ++ s ∷ []) later both g.1
+
+pub fine-accepted : (earlier later : List Sight) → AllByRecursion IsFine later → AllByRecursion IsFine (accepted earlier later)
+unfolding accepted
+fine-accepted earlier [] h = tt
+fine-accepted earlier (s ∷ later) h = by (statement_fault earlier s) (fine-accepted (earlier ++ s ∷ []) later h.1)
+  where
+    by : (r : Option Refused) → AllByRecursion IsFine (accepted (earlier ++ s ∷ []) later) → AllByRecursion IsFine (accepted_with r s (accepted (earlier ++ s ∷ []) later))
+    by (Some refused) rest = tt
+    by None rest = (h.0, rest)

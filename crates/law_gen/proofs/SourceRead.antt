@@ -1,0 +1,269 @@
+-- The lines of the source are read as the statements of the program.
+use Rattle.std.proofs.Common.{◌≡◌, ℕ, zero, suc, ◌+◌, ◌*◌, ◌^◌, ◌<◌, ◌≤◌, Bool, true, false, List, [], ◌∷◌, ◌++◌, length, codes, map, Option, None, Some, Ok, refl, sym, ap, ◌∙◌, arith, subst, length-append}
+use Rattle.law_gen.proofs.Words.{decimal, list_all, and_parts, nat_tests, is_name_byte, is_bad_local, Tree, number, name, ahead, reading, Op, Pseudo, Code, Set, Loc, Label, Name, Local, StatementTree, label_of, operation_with, entry_with, with_operation, with_operands, source_entries, line-cut, depth, increment, random, generated, stated, reg, block_name, procedure_name, procedure_at, closing_at, blocks_at, program}
+use Rattle.std.proofs.Math.Nat.{mod-lt}
+use Rattle.std.proofs.lemmas.List.Folds.{list_all-append}
+use Rattle.mx_ops.specs.Opcodes.{opcode_rows, opcode_names, pseudo_operations, chosen_operations, operations, operation_of}
+use Rattle.law_gen.proofs.Lines.{no_newline, IsClean, IsLine, IsNumbered, AreLines, text-entries}
+use Rattle.law_gen.proofs.Cuts.{labelled-cut}
+use Rattle.law_gen.proofs.Operands.{decimal-names, decimal-clean, short-digits, setl-read, incl-read, bod-read, loc-read, main-read, call-read, sum-read, set-read, trap-read, skip-read, get-read, less-read, again-read, more-read, put-read, pop-read}
+use Rattle.law_gen.proofs.Texts.{line_with, procedure_lines, closing_lines, rest_lines, all_lines, generated-text}
+
+-- ---- one line
+
+name-plain : (b : ℕ) → is_name_byte b ≡ true → no_newline b ≡ true
+name-plain b is = grind (arith, nat_tests)
+
+all-plain : (P : ℕ → Bool) → ((b : ℕ) → P b ≡ true → no_newline b ≡ true) → (bs : List ℕ) → list_all P bs ≡ true → list_all no_newline bs ≡ true
+all-plain P of [] all = refl
+all-plain P of (b ∷ bs) all = let p = and_parts (P b) (list_all P bs) all in rw (of b p.0, all-plain P of bs p.1) refl
+
+rest-plain : (op ops : List ℕ) → list_all is_name_byte op ≡ true → list_all no_newline ops ≡ true → list_all no_newline (32 ∷ (op ++ 32 ∷ ops)) ≡ true
+rest-plain op ops names clean =
+    list_all-append no_newline op (32 ∷ ops) ∙ rw (all-plain is_name_byte name-plain op names, clean) refl
+
+line-plain : (label op ops : List ℕ) → list_all is_name_byte label ≡ true → list_all is_name_byte op ≡ true → list_all no_newline ops ≡ true → list_all no_newline (line_with label op ops) ≡ true
+line-plain label op ops labels names clean =
+    list_all-append no_newline label (32 ∷ (op ++ 32 ∷ ops)) ∙ rw (all-plain is_name_byte name-plain label labels, rest-plain op ops names clean) refl
+
+said-read : (line : ℕ) (label : Option Label) (op_name ops : List ℕ) (op : Op) (trees : List Tree) (labelled : Bool) → operation_with labelled (operation_of op_name) ≡ Ok op → reading ops ≡ Ok trees →
+    entry_with line (with_operation (record { label = label; op = op_name; operands = ops }) line (operation_with labelled (operation_of op_name))) ≡ Ok (stated line label op trees)
+said-read line label op_name ops op trees labelled is read =
+    ap (λ r. entry_with line (with_operation (record { label = label; op = op_name; operands = ops }) line r)) is
+    ∙ ap (λ r. entry_with line (with_operands (record { label = label; op = op_name; operands = ops }) line op r)) read
+
+-- a line without a label
+unlabelled : (line : ℕ) (op_name ops : List ℕ) (op : Op) (trees : List Tree) → list_all is_name_byte op_name ≡ true → 0 < length op_name → IsClean ops →
+    length op_name + length ops ≤ 38 → operation_with false (operation_of op_name) ≡ Ok op → reading ops ≡ Ok trees → IsLine (line_with [] op_name ops) (stated line None op trees)
+unlabelled line op_name ops op trees names some others few is read =
+    let c = line-cut op_name ops names some others.0 (omega (arith, few)) in
+    record {
+      plain = rest-plain op_name ops names others.1;
+      short = omega (arith, few, length-append op_name (32 ∷ ops));
+      cut = c.0;
+      fields = record { label = None; op = op_name; operands = ops };
+      cuts = c.1;
+      said = c.2;
+      read = said-read line None op_name ops op trees false is read;
+    }
+
+-- a line with a label
+labelled : (line : ℕ) (label op_name ops : List ℕ) (as_label : Label) (op : Op) (trees : List Tree) → list_all is_name_byte label ≡ true → 0 < length label → is_bad_local label ≡ false → label_of label ≡ as_label →
+    list_all is_name_byte op_name ≡ true → 0 < length op_name → IsClean ops →
+    length label + length op_name + length ops ≤ 38 → operation_with true (operation_of op_name) ≡ Ok op → reading ops ≡ Ok trees → IsLine (line_with label op_name ops) (stated line (Some as_label) op trees)
+labelled line label op_name ops as_label op trees labels by good label_is names some others few is read =
+    let c = labelled-cut label op_name ops labels by good names some others.0 (omega (arith, few)) in
+    record {
+      plain = line-plain label op_name ops labels names others.1;
+      short = omega (arith, few, length-append label (32 ∷ (op_name ++ 32 ∷ ops)), length-append op_name (32 ∷ ops));
+      cut = c.0;
+      fields = record { label = Some as_label; op = op_name; operands = ops };
+      cuts = c.1;
+      said = c.2 ∙ ap (λ (l : Label). record { label = Some l; op = op_name; operands = ops }) label_is;
+      read = said-read line (Some as_label) op_name ops op trees true is read;
+    }
+
+-- ---- the operations
+
+loc-named : operation_of (codes "LOC") ≡ Some (Pseudo Loc)
+unfolding operation_of operations pseudo_operations chosen_operations opcode_names opcode_rows
+loc-named = refl
+
+setl-named : operation_of (codes "SETL") ≡ Some (Code 0xe3)
+unfolding operation_of operations pseudo_operations chosen_operations opcode_names opcode_rows
+setl-named = refl
+
+pushj-named : operation_of (codes "PUSHJ") ≡ Some (Code 0xf2)
+unfolding operation_of operations pseudo_operations chosen_operations opcode_names opcode_rows
+pushj-named = refl
+
+addu-named : operation_of (codes "ADDU") ≡ Some (Code 0x22)
+unfolding operation_of operations pseudo_operations chosen_operations opcode_names opcode_rows
+addu-named = refl
+
+bod-named : operation_of (codes "BOD") ≡ Some (Code 0x46)
+unfolding operation_of operations pseudo_operations chosen_operations opcode_names opcode_rows
+bod-named = refl
+
+incl-named : operation_of (codes "INCL") ≡ Some (Code 0xe7)
+unfolding operation_of operations pseudo_operations chosen_operations opcode_names opcode_rows
+incl-named = refl
+
+set-named : operation_of (codes "SET") ≡ Some Set
+unfolding operation_of operations pseudo_operations chosen_operations opcode_names opcode_rows
+set-named = refl
+
+trap-named : operation_of (codes "TRAP") ≡ Some (Code 0)
+unfolding operation_of operations pseudo_operations chosen_operations opcode_names opcode_rows
+trap-named = refl
+
+bz-named : operation_of (codes "BZ") ≡ Some (Code 0x42)
+unfolding operation_of operations pseudo_operations chosen_operations opcode_names opcode_rows
+bz-named = refl
+
+get-named : operation_of (codes "GET") ≡ Some (Code 0xfe)
+unfolding operation_of operations pseudo_operations chosen_operations opcode_names opcode_rows
+get-named = refl
+
+subu-named : operation_of (codes "SUBU") ≡ Some (Code 0x26)
+unfolding operation_of operations pseudo_operations chosen_operations opcode_names opcode_rows
+subu-named = refl
+
+put-named : operation_of (codes "PUT") ≡ Some (Code 0xf6)
+unfolding operation_of operations pseudo_operations chosen_operations opcode_names opcode_rows
+put-named = refl
+
+pop-named : operation_of (codes "POP") ≡ Some (Code 0xf8)
+unfolding operation_of operations pseudo_operations chosen_operations opcode_names opcode_rows
+pop-named = refl
+
+-- ---- the lines
+
+numbered : (row : ℕ) (line : List ℕ) (s : StatementTree) → s.line ≡ row → IsLine line s → IsNumbered row line s
+numbered row line s is h = record { number_is = is; line_is = h }
+
+moved : (m n : ℕ) (ls : List (List ℕ)) (ss : List StatementTree) → m ≡ n → AreLines m ls ss → AreLines n ls ss
+moved m n ls ss is h = subst (λ k. AreLines k ls ss) is h
+
+module _ (line : ℕ) where
+  call-line : IsLine (line_with [] (codes "PUSHJ") (codes "$1,Rec")) (stated line None (Code 0xf2) (reg 1 ∷ name procedure_name ∷ []))
+  call-line = unlabelled line (codes "PUSHJ") (codes "$1,Rec") (Code 0xf2) (reg 1 ∷ name procedure_name ∷ []) refl (omega arith) (refl, refl) (omega arith) (ap (operation_with false) pushj-named) call-read
+
+  sum-line : IsLine (line_with [] (codes "ADDU") (codes "$0,$0,$1")) (stated line None (Code 0x22) (reg 0 ∷ reg 0 ∷ reg 1 ∷ []))
+  sum-line = unlabelled line (codes "ADDU") (codes "$0,$0,$1") (Code 0x22) (reg 0 ∷ reg 0 ∷ reg 1 ∷ []) refl (omega arith) (refl, refl) (omega arith) (ap (operation_with false) addu-named) sum-read
+
+  setl-line : (b deep : ℕ) → b < 2 ^ 16 → deep < 2 ^ 16 → IsLine (line_with (block_name b) (codes "SETL") (codes "$2," ++ decimal deep)) (stated line (Some (Name (block_name b))) (Code 0xe3) (reg 2 ∷ number deep ∷ []))
+  setl-line b deep few low =
+      labelled line (block_name b) (codes "SETL") (codes "$2," ++ decimal deep) (Name (block_name b)) (Code 0xe3) (reg 2 ∷ number deep ∷ [])
+      (decimal-names b (omega (arith, few))) (omega arith) refl refl refl (omega arith) (decimal-clean deep (omega (arith, low)))
+      (omega (arith, short-digits b few, short-digits deep low)) (ap (operation_with true) setl-named) (setl-read deep (omega (arith, low)))
+
+  bod-line : (b : ℕ) → b < 2 ^ 16 → IsLine (line_with [] (codes "BOD") (codes "$0,B" ++ decimal b)) (stated line None (Code 0x46) (reg 0 ∷ name (block_name b) ∷ []))
+  bod-line b few =
+      unlabelled line (codes "BOD") (codes "$0,B" ++ decimal b) (Code 0x46) (reg 0 ∷ name (block_name b) ∷ []) refl (omega arith) (decimal-clean b (omega (arith, few)))
+      (omega (arith, short-digits b few)) (ap (operation_with false) bod-named) (bod-read b (omega (arith, few)))
+
+  incl-line : (more : ℕ) → more < 2 ^ 16 → IsLine (line_with [] (codes "INCL") (codes "$0," ++ decimal more)) (stated line None (Code 0xe7) (reg 0 ∷ number more ∷ []))
+  incl-line more low =
+      unlabelled line (codes "INCL") (codes "$0," ++ decimal more) (Code 0xe7) (reg 0 ∷ number more ∷ []) refl (omega arith) (decimal-clean more (omega (arith, low)))
+      (omega (arith, short-digits more low)) (ap (operation_with false) incl-named) (incl-read more (omega (arith, low)))
+
+  set-line : (b : ℕ) → b < 2 ^ 16 → IsLine (line_with (block_name b) (codes "SET") (codes "$255,$0")) (stated line (Some (Name (block_name b))) Set (reg 255 ∷ reg 0 ∷ []))
+  set-line b few =
+      labelled line (block_name b) (codes "SET") (codes "$255,$0") (Name (block_name b)) Set (reg 255 ∷ reg 0 ∷ [])
+      (decimal-names b (omega (arith, few))) (omega arith) refl refl refl (omega arith) (refl, refl)
+      (omega (arith, short-digits b few)) (ap (operation_with true) set-named) set-read
+
+  trap-line : IsLine (line_with [] (codes "TRAP") (codes "0,Halt,0")) (stated line None (Code 0) (number 0 ∷ name (codes "Halt") ∷ number 0 ∷ []))
+  trap-line = unlabelled line (codes "TRAP") (codes "0,Halt,0") (Code 0) (number 0 ∷ name (codes "Halt") ∷ number 0 ∷ []) refl (omega arith) (refl, refl) (omega arith) (ap (operation_with false) trap-named) trap-read
+
+  skip-line : IsLine (line_with (codes "Rec") (codes "BZ") (codes "$0,1F")) (stated line (Some (Name procedure_name)) (Code 0x42) (reg 0 ∷ ahead 1 ∷ []))
+  skip-line = labelled line (codes "Rec") (codes "BZ") (codes "$0,1F") (Name procedure_name) (Code 0x42) (reg 0 ∷ ahead 1 ∷ []) refl (omega arith) refl refl refl (omega arith) (refl, refl) (omega arith) (ap (operation_with true) bz-named) skip-read
+
+  get-line : IsLine (line_with [] (codes "GET") (codes "$1,rJ")) (stated line None (Code 0xfe) (reg 1 ∷ name (codes "rJ") ∷ []))
+  get-line = unlabelled line (codes "GET") (codes "$1,rJ") (Code 0xfe) (reg 1 ∷ name (codes "rJ") ∷ []) refl (omega arith) (refl, refl) (omega arith) (ap (operation_with false) get-named) get-read
+
+  less-line : IsLine (line_with [] (codes "SUBU") (codes "$3,$0,1")) (stated line None (Code 0x26) (reg 3 ∷ reg 0 ∷ number 1 ∷ []))
+  less-line = unlabelled line (codes "SUBU") (codes "$3,$0,1") (Code 0x26) (reg 3 ∷ reg 0 ∷ number 1 ∷ []) refl (omega arith) (refl, refl) (omega arith) (ap (operation_with false) subu-named) less-read
+
+  again-line : IsLine (line_with [] (codes "PUSHJ") (codes "$2,Rec")) (stated line None (Code 0xf2) (reg 2 ∷ name procedure_name ∷ []))
+  again-line = unlabelled line (codes "PUSHJ") (codes "$2,Rec") (Code 0xf2) (reg 2 ∷ name procedure_name ∷ []) refl (omega arith) (refl, refl) (omega arith) (ap (operation_with false) pushj-named) again-read
+
+  more-line : IsLine (line_with [] (codes "ADDU") (codes "$0,$0,$2")) (stated line None (Code 0x22) (reg 0 ∷ reg 0 ∷ reg 2 ∷ []))
+  more-line = unlabelled line (codes "ADDU") (codes "$0,$0,$2") (Code 0x22) (reg 0 ∷ reg 0 ∷ reg 2 ∷ []) refl (omega arith) (refl, refl) (omega arith) (ap (operation_with false) addu-named) more-read
+
+  put-line : IsLine (line_with [] (codes "PUT") (codes "rJ,$1")) (stated line None (Code 0xf6) (name (codes "rJ") ∷ reg 1 ∷ []))
+  put-line = unlabelled line (codes "PUT") (codes "rJ,$1") (Code 0xf6) (name (codes "rJ") ∷ reg 1 ∷ []) refl (omega arith) (refl, refl) (omega arith) (ap (operation_with false) put-named) put-read
+
+  pop-line : IsLine (line_with [] (codes "POP") (codes "1,0")) (stated line None (Code 0xf8) (number 1 ∷ number 0 ∷ []))
+  pop-line = unlabelled line (codes "POP") (codes "1,0") (Code 0xf8) (number 1 ∷ number 0 ∷ []) refl (omega arith) (refl, refl) (omega arith) (ap (operation_with false) pop-named) pop-read
+
+  last-line : IsLine (line_with (codes "1H") (codes "POP") (codes "1,0")) (stated line (Some (Local 1)) (Code 0xf8) (number 1 ∷ number 0 ∷ []))
+  last-line = labelled line (codes "1H") (codes "POP") (codes "1,0") (Local 1) (Code 0xf8) (number 1 ∷ number 0 ∷ []) refl (omega arith) refl refl refl (omega arith) (refl, refl) (omega arith) (ap (operation_with true) pop-named) pop-read
+
+  loc-line : IsLine (line_with [] (codes "LOC") (codes "#100")) (stated line None (Pseudo Loc) (number 0x100 ∷ []))
+  loc-line = unlabelled line (codes "LOC") (codes "#100") (Pseudo Loc) (number 0x100 ∷ []) refl (omega arith) (refl, refl) (omega arith) (ap (operation_with false) loc-named) loc-read
+
+  main-line : IsLine (line_with (codes "Main") (codes "SETL") (codes "$0,0")) (stated line (Some (Name (codes "Main"))) (Code 0xe3) (reg 0 ∷ number 0 ∷ []))
+  main-line = labelled line (codes "Main") (codes "SETL") (codes "$0,0") (Name (codes "Main")) (Code 0xe3) (reg 0 ∷ number 0 ∷ []) refl (omega arith) refl refl refl (omega arith) (refl, refl) (omega arith) (ap (operation_with true) setl-named) main-read
+
+-- ---- all lines
+
+procedure-lines : (line n : ℕ) → line ≡ n → AreLines n procedure_lines (procedure_at line)
+procedure-lines line n is = (
+  numbered n _ _ is (skip-line line),
+  (
+    numbered (n + 1) _ _ (omega (arith, is)) (get-line (line + 1)),
+    (
+      numbered (n + 1 + 1) _ _ (omega (arith, is)) (less-line (line + 2)),
+      (
+        numbered (n + 1 + 1 + 1) _ _ (omega (arith, is)) (again-line (line + 3)),
+        (
+          numbered (n + 1 + 1 + 1 + 1) _ _ (omega (arith, is)) (more-line (line + 4)),
+          (
+            numbered (n + 1 + 1 + 1 + 1 + 1) _ _ (omega (arith, is)) (put-line (line + 5)),
+            (
+              numbered (n + 1 + 1 + 1 + 1 + 1 + 1) _ _ (omega (arith, is)) (pop-line (line + 6)),
+              (numbered (n + 1 + 1 + 1 + 1 + 1 + 1 + 1) _ _ (omega (arith, is)) (last-line (line + 7)), tt),
+            ),
+          ),
+        ),
+      ),
+    ),
+  ),
+)
+
+closing-lines : (line b : ℕ) → b < 2 ^ 16 → AreLines line (closing_lines b) (closing_at line b)
+closing-lines line b few = (
+  numbered line _ _ refl (set-line line b few),
+  (
+    numbered (line + 1) _ _ refl (trap-line (line + 1)),
+    procedure-lines (line + 2) (line + 1 + 1) (omega arith),
+  ),
+)
+
+-- the numbers that seem random
+pub random-low : (i : ℕ) → random i < 2 ^ 64
+unfolding random
+random-low zero = omega arith
+random-low (suc i) = mod-lt (6364136223846793005 * random i + 1442695040888963407) (omega arith)
+
+pub depth-low : (x : ℕ) → x < 2 ^ 64 → depth x < 2 ^ 16
+depth-low x lt = omega (arith, lt)
+
+pub increment-low : (x : ℕ) → increment x < 2 ^ 16
+increment-low x = omega arith
+
+rest-lines : (line b more : ℕ) → b + more ≤ 10000 → AreLines line (rest_lines b more) (blocks_at line b more)
+unfolding rest_lines blocks_at
+rest-lines line b zero few = closing-lines line (b + 1) (omega (arith, few))
+rest-lines line b (suc more) few =
+    let x = random (suc b) in (
+      numbered line _ _ refl (setl-line line (suc b) (depth x) (omega (arith, few)) (depth-low x (random-low (suc b)))),
+      (
+        numbered (line + 1) _ _ refl (call-line (line + 1)),
+        (
+          numbered (line + 1 + 1) _ _ (omega arith) (sum-line (line + 2)),
+          (
+            numbered (line + 1 + 1 + 1) _ _ (omega arith) (bod-line (line + 3) (suc b + 1) (omega (arith, few))),
+            (
+              numbered (line + 1 + 1 + 1 + 1) _ _ (omega arith) (incl-line (line + 4) (increment x) (increment-low x)),
+              moved (line + 5) (line + 1 + 1 + 1 + 1 + 1) _ _ (omega arith) (rest-lines (line + 5) (suc b) more (omega (arith, few))),
+            ),
+          ),
+        ),
+      ),
+    )
+
+rest-count : (b more : ℕ) → length (rest_lines b more) ≡ 5 * more + 10
+unfolding rest_lines
+rest-count b zero = refl
+rest-count b (suc more) = let rest = rest-count (suc b) more in omega (arith, rest)
+
+-- a source that is generated comes to these statements
+pub generated-read : (n : ℕ) → n ≤ 10000 → source_entries (generated n) ≡ map Ok (program n)
+generated-read n few =
+    let count = rest-count 0 n in
+    let are : AreLines 1 (all_lines n) (program n) =
+    (numbered 1 _ _ refl (loc-line 1), (numbered 2 _ _ refl (main-line 2), rest-lines 3 0 n (omega (arith, few)))) in
+    ap source_entries (sym (generated-text n)) ∙ text-entries (all_lines n) (program n) are (omega (arith, few, count))

@@ -1,0 +1,37 @@
+-- The tetra of a statement at its place.
+use Rattle.std.proofs.Common.{◌≡◌, ℕ, ◌+◌, ◌≤◌, Bool, true, false, cond, [], Option, Ok, Err, refl, sym, ap}
+use Rattle.law_texts.proofs.Words.{IsOk, ltb-false, le-ltb, Placed, Label, Answer, and_then, Known, plain_tetra, with_tetra}
+use Rattle.mx_word.specs.Words.{tetra_to_bytes}
+use Rattle.mx_stmt.specs.declared.faults.StmtFault.{StmtFault}
+use Rattle.law_texts.proofs.RelativeForms.{highest}
+
+-- the word is placed, with nothing that waits
+pub record IsTetra (k : Known) (word : ℕ) (placed : Placed) : Type 0 where
+  pub start : placed.start ≡ k.at
+  pub bytes : placed.bytes ≡ tetra_to_bytes word
+  pub waits : placed.waits ≡ []
+  pub room : k.at + 4 ≤ highest
+
+by-test : {A : Type 0} (b : Bool) (fault : StmtFault) (x y : A) → cond b (Err fault) (Ok x) ≡ Ok y → (b ≡ false) × (x ≡ y)
+by-test true fault x y is = absurd (cc)
+by-test false fault x y is = (refl, cc)
+
+pub word-placed : (k : Known) (line : ℕ) (label : Option Label) (word : ℕ) (placed : Placed) → with_tetra k line label (plain_tetra word) ≡ Ok placed → IsTetra k word placed
+word-placed k line label word placed is =
+    let t = by-test _ _ _ placed is in
+    record {
+      start = ap (λ (p : Placed). p.start) (sym t.1);
+      bytes = ap (λ (p : Placed). p.bytes) (sym t.1);
+      waits = ap (λ (p : Placed). p.waits) (sym t.1);
+      room = ltb-false highest (k.at + 4) t.0;
+    }
+
+-- an answer that is placed was a word
+pub answer-placed : (k : Known) (line : ℕ) (label : Option Label) (r : Answer ℕ) (placed : Placed) → with_tetra k line label (and_then r plain_tetra) ≡ Ok placed →
+    (word : ℕ) × (r ≡ Ok word) × IsTetra k word placed
+answer-placed k line label (Ok word) placed is = (word, refl, word-placed k line label word placed is)
+answer-placed k line label (Err fault) placed is = absurd (cc)
+
+-- A word is placed where there is room.
+pub word-taken : (k : Known) (line : ℕ) (label : Option Label) (word : ℕ) → k.at + 4 ≤ highest → IsOk (with_tetra k line label (plain_tetra word))
+word-taken k line label word room = rw (le-ltb highest (k.at + 4) room) refl

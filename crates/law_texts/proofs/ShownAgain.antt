@@ -1,0 +1,182 @@
+-- A text of an instruction is assembled to the tetra that it shows.
+use Rattle.std.proofs.Common.{◌≡◌, ◌↔◌, ℕ, ◌+◌, ◌%◌, ◌^◌, ◌<◌, ◌≤◌, Bool, true, false, not, cond, Option, None, Some, Ok, Err, refl, sym, ap, ◌∙◌, arith, subst, ⊎_elim}
+use Rattle.law_texts.proofs.Words.{IsOk, opcode_kind, is_backward, is_immediate, operation_of, opcode_name, Code, Shape, Rel, Jump, Placed, Label, Answer, and_then, Known, no_targets, plain_tetra, relative_word, form, form_by, tetra_wyde, tetra_whole, StatementTree, alignment, known_at_place, with_tetra, op_form, encoding, IsRead, operation_with, field_code, field_x, field_yz, field_xyz, shape, target, lowest_code, shown_fields, IsShownPart, TargetStays, IsPlaceable}
+use Rattle.mx_ops.specs.declared.op.Op.{Op}
+use Rattle.mx_text.proofs.LowestCodes.{name-found}
+use Rattle.law_texts.proofs.Parts.{code-below, yz-below, xyz-below}
+use Rattle.law_texts.proofs.OperandTrees.{trees, shown-spelled, trees-shown}
+use Rattle.law_texts.proofs.Codes.{fits, rounds_byte, is_relative, by-relative, one-shape, shape-fits, byte-rounds, second-next}
+use Rattle.law_texts.proofs.PlainForms.{code_by, word_by, plain-form}
+use Rattle.law_texts.proofs.RelativeForms.{highest, field-again, field-given, field-stays, branch-form, jump-form}
+use Rattle.law_texts.proofs.PlacedTetras.{IsTetra, word-placed, answer-placed, word-taken}
+
+-- the head of a tetra with its field, and with the second code at a backward one
+branch-word : (immediate backward : Bool) (word low : ℕ) → not immediate ≡ true → code_by immediate backward low ≡ field_code word →
+    cond backward (tetra_wyde low (field_x word) 0 + 2 ^ 24 + field_yz word) (tetra_wyde low (field_x word) 0 + field_yz word) ≡ word
+branch-word true backward word low fit is = absurd (cc)
+branch-word false true word low fit is = omega (arith, is)
+branch-word false false word low fit is = omega (arith, is)
+
+jump-word : (immediate backward : Bool) (word low : ℕ) → not immediate ≡ true → code_by immediate backward low ≡ field_code word →
+    cond backward (tetra_whole low 0 + 2 ^ 24 + field_xyz word) (tetra_whole low 0 + field_xyz word) ≡ word
+jump-word true backward word low fit is = absurd (cc)
+jump-word false true word low fit is = omega (arith, is)
+jump-word false false word low fit is = omega (arith, is)
+
+-- only relative addresses may wrap
+no-target : (s : Shape) (word pc : ℕ) → is_relative s ≡ false → TargetStays s word pc
+no-target Rel word pc is = absurd (cc)
+no-target Jump word pc is = absurd (cc)
+no-target s word pc is = tt
+
+module _ (k : Known) (line : ℕ) (label : Option Label) (word low : ℕ) where
+  abbrev immediate : Bool
+  immediate = is_immediate (opcode_kind (field_code word))
+
+  abbrev backward : Bool
+  backward = is_backward (opcode_kind (field_code word))
+
+  abbrev placed_as : Shape → Answer Placed
+  placed_as s = with_tetra k line label (form no_targets k s low (trees s word k.at))
+
+  -- the answer for a branch and for a jump
+  abbrev branch_answer : Answer ℕ
+  branch_answer = relative_word (tetra_wyde low (field_x word) 0) (2 ^ 16) k.at (target (field_code word) k.at (field_yz word) (2 ^ 16))
+
+  abbrev jump_answer : Answer ℕ
+  jump_answer = relative_word (tetra_whole low 0) (2 ^ 24) k.at (target (field_code word) k.at (field_xyz word) (2 ^ 24))
+
+  branch-placed : placed_as Rel ≡ with_tetra k line label (and_then branch_answer plain_tetra)
+  branch-placed = ap (with_tetra k line label) (branch-form k word k.at low)
+
+  jump-placed : placed_as Jump ≡ with_tetra k line label (and_then jump_answer plain_tetra)
+  jump-placed = ap (with_tetra k line label) (jump-form k word k.at low)
+
+  -- what a shape comes to, where it comes to bytes
+  abbrev Comes : Shape → Placed → Type 0
+  Comes s placed = IsTetra k (word_by s word) placed × TargetStays s word k.at
+
+  branch-again : (placed : Placed) → not immediate ≡ true → code_by immediate backward low ≡ field_code word → placed_as Rel ≡ Ok placed → Comes Rel placed
+  branch-again placed fit is ok =
+      let a = answer-placed k line label branch_answer placed (sym branch-placed ∙ ok) in
+      let room : k.at ≤ highest = omega (arith, a.2.room) in
+      let same : cond backward (tetra_wyde low (field_x word) 0 + 2 ^ 24 + field_yz word) (tetra_wyde low (field_x word) 0 + field_yz word) ≡ a.0 =
+      field-again backward (tetra_wyde low (field_x word) 0) (2 ^ 16) k.at (field_yz word) a.0 (yz-below word) (omega arith) room a.1 in (
+        subst (λ w. IsTetra k w placed) (sym same ∙ branch-word immediate backward word low fit is) a.2,
+        field-stays backward (tetra_wyde low (field_x word) 0) (2 ^ 16) k.at (field_yz word) a.0 (yz-below word) (omega arith) room a.1,
+      )
+
+  jump-again : (placed : Placed) → not immediate ≡ true → code_by immediate backward low ≡ field_code word → placed_as Jump ≡ Ok placed → Comes Jump placed
+  jump-again placed fit is ok =
+      let a = answer-placed k line label jump_answer placed (sym jump-placed ∙ ok) in
+      let room : k.at ≤ highest = omega (arith, a.2.room) in
+      let same : cond backward (tetra_whole low 0 + 2 ^ 24 + field_xyz word) (tetra_whole low 0 + field_xyz word) ≡ a.0 =
+      field-again backward (tetra_whole low 0) (2 ^ 24) k.at (field_xyz word) a.0 (xyz-below word) (omega arith) room a.1 in (
+        subst (λ w. IsTetra k w placed) (sym same ∙ jump-word immediate backward word low fit is) a.2,
+        field-stays backward (tetra_whole low 0) (2 ^ 24) k.at (field_xyz word) a.0 (xyz-below word) (omega arith) room a.1,
+      )
+
+  branch-taken : k.at + 4 ≤ highest → TargetStays Rel word k.at → IsOk (placed_as Rel)
+  branch-taken room stays =
+      let given = field-given backward (tetra_wyde low (field_x word) 0) (2 ^ 16) k.at (field_yz word) (yz-below word) (omega arith) (omega (arith, room)) stays in
+      subst IsOk (sym (branch-placed ∙ ap (λ r. with_tetra k line label (and_then r plain_tetra)) given)) (word-taken k line label _ room)
+
+  jump-taken : k.at + 4 ≤ highest → TargetStays Jump word k.at → IsOk (placed_as Jump)
+  jump-taken room stays =
+      let given = field-given backward (tetra_whole low 0) (2 ^ 24) k.at (field_xyz word) (xyz-below word) (omega arith) (omega (arith, room)) stays in
+      subst IsOk (sym (jump-placed ∙ ap (λ r. with_tetra k line label (and_then r plain_tetra)) given)) (word-taken k line label _ room)
+
+  plain-placed : (s : Shape) → is_relative s ≡ false → fits s immediate backward ≡ true → rounds_byte s immediate low ≡ true → code_by immediate backward low ≡ field_code word →
+      placed_as s ≡ with_tetra k line label (plain_tetra (word_by s word))
+  plain-placed s plain fit round is = ap (with_tetra k line label) (plain-form k word k.at low s plain fit round is)
+
+  plain-again : (s : Shape) (placed : Placed) → is_relative s ≡ false → fits s immediate backward ≡ true → rounds_byte s immediate low ≡ true → code_by immediate backward low ≡ field_code word →
+      placed_as s ≡ Ok placed → Comes s placed
+  plain-again s placed plain fit round is ok =
+      (word-placed k line label (word_by s word) placed (sym (plain-placed s plain fit round is) ∙ ok), no-target s word k.at plain)
+
+  -- each shape
+  shape-again : (s : Shape) (placed : Placed) → fits s immediate backward ≡ true → rounds_byte s immediate low ≡ true → code_by immediate backward low ≡ field_code word →
+      placed_as s ≡ Ok placed → Comes s placed
+  shape-again s placed fit round is ok =
+      ⊎_elim
+      (λ plain. plain-again s placed plain fit round is ok)
+      (⊎_elim
+      (λ same. subst (λ s. fits s immediate backward ≡ true → placed_as s ≡ Ok placed → Comes s placed) (sym same) (λ fit ok. branch-again placed fit is ok) fit ok)
+      (λ same. subst (λ s. fits s immediate backward ≡ true → placed_as s ≡ Ok placed → Comes s placed) (sym same) (λ fit ok. jump-again placed fit is ok) fit ok))
+      (by-relative s)
+
+  shape-taken : (s : Shape) → fits s immediate backward ≡ true → rounds_byte s immediate low ≡ true → code_by immediate backward low ≡ field_code word →
+      k.at + 4 ≤ highest → TargetStays s word k.at → IsOk (placed_as s)
+  shape-taken s fit round is room stays =
+      ⊎_elim
+      (λ plain. subst IsOk (sym (plain-placed s plain fit round is)) (word-taken k line label (word_by s word) room))
+      (⊎_elim
+      (λ same. subst (λ s. TargetStays s word k.at → IsOk (placed_as s)) (sym same) (branch-taken room) stays)
+      (λ same. subst (λ s. TargetStays s word k.at → IsOk (placed_as s)) (sym same) (jump-taken room) stays))
+      (by-relative s)
+
+named : (o : Option Op) (op found : Op) → o ≡ Some op → operation_with false o ≡ Ok found → found ≡ op
+named None op found is ok = absurd (cc)
+named (Some x) op found is ok = cc
+
+module _ (word pc line : ℕ) (s : StatementTree) (k : Known) (lt : word < 2 ^ 32) (below : pc < 2 ^ 64) (four : pc % 4 ≡ 0) (at : k.at ≡ pc) (read : IsRead (shown_fields word pc) line s) where
+  abbrev code : ℕ
+  code = field_code word
+
+  abbrev here : Known
+  here = known_at_place 4 k
+
+  op-shown : s.op ≡ Code (lowest_code code)
+  op-shown = named (operation_of (opcode_name code)) (Code (lowest_code code)) s.op (name-found code (code-below word lt)) read.op_is
+
+  at-here : here.at ≡ pc
+  at-here = omega (arith, at, four, below)
+
+  -- the statement is one of these operands at this place
+  encoded : encoding no_targets k s ≡ with_tetra here s.line s.label (form no_targets here (shape code) (lowest_code code) (trees (shape code) word here.at))
+  encoded =
+      ap (λ op. op_form no_targets (known_at_place (alignment op) k) s.line s.label op s.operands) op-shown
+      ∙ ap (λ l. with_tetra here s.line s.label (form_by no_targets here l (lowest_code code) s.operands)) (one-shape code (code-below word lt))
+      ∙ ap (λ es. with_tetra here s.line s.label (form no_targets here (shape code) (lowest_code code) es)) (trees-shown word pc s.operands read.spelled ∙ ap (trees (shape code) word) (sym at-here))
+
+  comes : (placed : Placed) → encoding no_targets k s ≡ Ok placed → Comes here s.line s.label word (lowest_code code) (shape code) placed
+  comes placed ok =
+      shape-again here s.line s.label word (lowest_code code) (shape code) placed (shape-fits code (code-below word lt)) (byte-rounds code (code-below word lt)) (second-next code (code-below word lt)) (sym encoded ∙ ok)
+
+  shown-again : (placed : Placed) → encoding no_targets k s ≡ Ok placed → IsShownPart word pc placed
+  shown-again placed ok = let t = comes placed ok in record { start = t.0.start ∙ at-here; bytes = t.0.bytes; waits = t.0.waits }
+
+  placeable : (r : Answer Placed) → encoding no_targets k s ≡ r → IsOk r → IsPlaceable word pc
+  placeable (Ok placed) is ok =
+      let t = comes placed is in
+      record { place = omega (arith, at-here, t.0.room); target = subst (TargetStays (shape code) word) at-here t.1 }
+  placeable (Err fault) is ok = absurd (cc)
+
+  taken : IsPlaceable word pc → IsOk (encoding no_targets k s)
+  taken p =
+      subst IsOk (sym encoded)
+      (shape-taken here s.line s.label word (lowest_code code) (shape code) (shape-fits code (code-below word lt)) (byte-rounds code (code-below word lt)) (second-next code (code-below word lt))
+      (omega (arith, at-here, p.place)) (subst (TargetStays (shape code) word) (sym at-here) p.target))
+
+pub again : (word pc line : ℕ) (s : StatementTree) (k : Known) (placed : Placed) → word < 2 ^ 32 → pc < 2 ^ 64 → pc % 4 ≡ 0 → k.at ≡ pc →
+    IsRead (shown_fields word pc) line s → encoding no_targets k s ≡ Ok placed → IsShownPart word pc placed
+again word pc line s k placed lt below four at read ok = shown-again word pc line s k lt below four at read placed ok
+
+pub where-taken : (word pc line : ℕ) (s : StatementTree) (k : Known) → word < 2 ^ 32 → pc < 2 ^ 64 → pc % 4 ≡ 0 → k.at ≡ pc →
+    IsRead (shown_fields word pc) line s → (IsOk (encoding no_targets k s) ↔ IsPlaceable word pc)
+where-taken word pc line s k lt below four at read =
+    (placeable word pc line s k lt below four at read (encoding no_targets k s) refl, taken word pc line s k lt below four at read)
+
+-- The text is read as a statement.
+pub is-read : (word pc line : ℕ) → word < 2 ^ 32 → (s : StatementTree) × IsRead (shown_fields word pc) line s
+is-read word pc line lt = (
+  record { line = line; label = None; op = Code (lowest_code (field_code word)); operands = trees (shape (field_code word)) word pc },
+  record {
+    line_is = refl;
+    label_is = refl;
+    op_is = ap (operation_with false) (name-found (field_code word) (code-below word lt));
+    spelled = (shown-spelled word pc).0;
+    faultless = (shown-spelled word pc).1;
+  },
+)
