@@ -1,5 +1,5 @@
 -- What a page that is added does to the octas, to the pages and to their places.
-use Rattle.std.proofs.Common.{◌≡◌, ◌≢◌, ◌<◌, ◌≤◌, ◌/◌, ◌%◌, ◌^◌, ◌+◌, ◌++◌, ◌∷◌, [], ℕ, true, List, length, get_or, Option, Some, None, Result, Ok, Err, arith, ap, sym, ◌∙◌, refl, eqb, cond, replicate, ⊎_elim, subst, length-append}
+use Rattle.std.proofs.Common.{◌≡◌, ◌≢◌, ◌<◌, ◌≤◌, ◌*◌, ◌/◌, ◌%◌, ◌^◌, ◌+◌, ◌++◌, ◌∷◌, [], ℕ, true, List, length, get_or, Option, Some, None, Result, Ok, Err, arith, ap, sym, ◌∙◌, refl, eqb, cond, replicate, ⊎_elim, subst, length-append}
 use Rattle.std.specs.Prelude.{is_some, OnOk, OnErr}
 use Rattle.std.proofs.Math.ListN.{set}
 use Rattle.std.proofs.Math.Seq.{get_or-append_seam}
@@ -158,14 +158,15 @@ pub outcome-bounded : {E : Type 0} (r : Result (Unit {0}) E) (pages pages' : Lis
 outcome-bounded (Ok u) pages pages' page K b low long room added kept = subst Bounded (sym added) (added-bounded pages page b low long room)
 outcome-bounded (Err e) pages pages' page K b low long room added kept = subst Bounded (sym kept.0) b
 
-added-kept : (pages : List (ℕ × List ℕ)) (page : ℕ × List ℕ) (number at : ℕ) → IsKept number at pages → IsKept number at (extended pages page)
-added-kept pages page number at h = λ small.
-    let k = h small in
-    (k.0, omega (arith, k.1, length-append pages (page ∷ [])), ap (λ (q : ℕ × List ℕ). q.0) (earlier-page pages page at k.1) ∙ k.2)
+added-kept : (pages : List (ℕ × List ℕ)) (page : ℕ × List ℕ) (start size at : ℕ) → IsKept start size at pages → IsKept start size at (extended pages page)
+added-kept pages page start size at h = λ some.
+    let k = h some in
+    let same : number_in (extended pages page) at ≡ number_in pages at = ap (λ (q : ℕ × List ℕ). q.0) (earlier-page pages page at k.1) in
+    (k.0, omega (arith, k.1, length-append pages (page ∷ [])), rw same k.2, ap (λ n. 4096 * n) same ∙ k.3)
 
-pub outcome-kept : {E : Type 0} (r : Result (Unit {0}) E) (pages pages' : List (ℕ × List ℕ)) (page : ℕ × List ℕ) (K : Type 0) (number at : ℕ) → IsKept number at pages → OnOk r (pages' ≡ extended pages page) → OnErr r ((pages' ≡ pages) × K) → IsKept number at pages'
-outcome-kept (Ok x) pages pages' page K number at h ok err = subst (λ ps. IsKept number at ps) (sym ok) (added-kept pages page number at h)
-outcome-kept (Err x) pages pages' page K number at h ok err = subst (λ ps. IsKept number at ps) (sym err.0) h
+pub outcome-kept : {E : Type 0} (r : Result (Unit {0}) E) (pages pages' : List (ℕ × List ℕ)) (page : ℕ × List ℕ) (K : Type 0) (start size at : ℕ) → IsKept start size at pages → OnOk r (pages' ≡ extended pages page) → OnErr r ((pages' ≡ pages) × K) → IsKept start size at pages'
+outcome-kept (Ok x) pages pages' page K start size at h ok err = subst (λ ps. IsKept start size at ps) (sym ok) (added-kept pages page start size at h)
+outcome-kept (Err x) pages pages' page K start size at h ok err = subst (λ ps. IsKept start size at ps) (sym err.0) h
 
 pub outcome-count : {E : Type 0} (r : Result (Unit {0}) E) (pages pages' : List (ℕ × List ℕ)) (places after : BTreeMap ℕ ℕ) (page : ℕ × List ℕ) → length places.entries ≡ length pages →
     OnOk r (pages' ≡ extended pages page) → OnOk r (length after.entries ≡ length places.entries + 1) → OnErr r ((pages' ≡ pages) × (after.entries ≡ places.entries)) → length after.entries ≡ length pages'

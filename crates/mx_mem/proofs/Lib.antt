@@ -10,3 +10,4 @@ pub mod Fields
 pub mod PartBytes
 pub mod Spaces
 pub mod Tetras
+pub mod Removals

@@ -1,5 +1,5 @@
 -- What a store does to the octas, to the pages and to their places.
-use Rattle.std.proofs.Common.{◌≡◌, ◌≢◌, ◌<◌, ◌/◌, ◌%◌, [], ℕ, true, false, List, length, get_or, Option, Some, None, arith, ap, sym, ◌∙◌, refl, ⊎_elim}
+use Rattle.std.proofs.Common.{◌≡◌, ◌≢◌, ◌<◌, ◌*◌, ◌/◌, ◌%◌, [], ℕ, true, false, List, length, get_or, Option, Some, None, arith, ap, sym, ◌∙◌, refl, ⊎_elim}
 use Rattle.std.specs.Prelude.{is_some}
 use Rattle.std.proofs.Math.ListN.{set}
 use Rattle.std.specs.Option.{option_map}
@@ -63,10 +63,11 @@ rewritten-indexed pages places place i x l ix = record {
 }
 
 -- a page that is kept stands where it stood
-pub rewritten-kept : (pages : List (ℕ × List ℕ)) (place i x number at : ℕ) → place < length pages → IsKept number at pages → IsKept number at (rewritten pages place i x)
-rewritten-kept pages place i x number at l h = λ small.
-    let k = h small in
-    (k.0, omega (arith, k.1, length-kept pages place i x), number-kept pages place i x at l ∙ k.2)
+pub rewritten-kept : (pages : List (ℕ × List ℕ)) (place i x start size at : ℕ) → place < length pages → IsKept start size at pages → IsKept start size at (rewritten pages place i x)
+rewritten-kept pages place i x start size at l h = λ some.
+    let k = h some in
+    let same = number-kept pages place i x at l in
+    (k.0, omega (arith, k.1, length-kept pages place i x), rw same k.2, ap (λ n. 4096 * n) same ∙ k.3)
 
 pub rewritten-bounded : (pages : List (ℕ × List ℕ)) (place i x : ℕ) → place < length pages → Bounded pages → Bounded (rewritten pages place i x)
 rewritten-bounded pages place i x l b = record {

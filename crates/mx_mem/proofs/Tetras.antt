@@ -1,12 +1,15 @@
 -- The octas of a page of tetras.
-use Rattle.std.proofs.Common.{◌≡◌, ◌≢◌, ◌<◌, ◌≤◌, ◌+◌, ◌*◌, ◌/◌, ◌%◌, ◌^◌, ℕ, List, length, get_or, replicate, refl, sym, ap, ◌∙◌, arith, true, false, ◌⊎◌, inl, inr}
+use Rattle.std.proofs.Common.{◌≡◌, ◌≢◌, ◌<◌, ◌≤◌, ◌+◌, ◌*◌, ◌/◌, ◌%◌, ◌^◌, ℕ, List, length, get_or, replicate, refl, sym, ap, ◌∙◌, arith, true, false, ◌⊎◌, inl, inr, ⊎_elim}
 use Rattle.std.proofs.Math.ListN.{set}
 use Rattle.std.proofs.Math.Dec.{eqb}
 use Rattle.std.proofs.lemmas.Bool.Decides.{eqb_tells, nat_tests}
-use Rattle.std.proofs.lemmas.List.{ext_get_or, length-set, length-replicate, get_or-replicate, get_or-set_same, get_or-set_other}
+use Rattle.std.proofs.lemmas.List.{ext_get_or, length-set, length-replicate, get_or-replicate, get_or-set_same, get_or-set_other, get_or_past, set-get_or}
 use Rattle.std.proofs.lemmas.List.FromFn.{get_or-map-range_with_len, length-map-range_with_len}
 use Rattle.std.proofs.lemmas.Bool.{cases_lt}
+use Rattle.mx_mem.specs.Count.{AreAtMost}
 use Rattle.mx_mem.specs.Memory.{tetra_of}
+use Rattle.mx_mem.specs.Parts.{with_part}
+use Rattle.mx_mem.specs.declared.part.Part.TheVariants.{Tetra}
 use Rattle.mx_mem.specs.Tetras.{octas_of, two_at}
 
 pub octas-length : (ts : List ℕ) → length (octas_of ts) ≡ 512
@@ -78,5 +81,77 @@ tetra-in-half ts i a o fits e at = by-half (cases_lt (a % 8) 4)
 
 pub tetra-read : (ts : List ℕ) (a : ℕ) → get_or ts (2 * (a / 8 % 512) + 1) 0 < 2 ^ 32 → get_or ts (a / 4 % 1024) 0 ≡ tetra_of (get_or (octas_of ts) (a / 8 % 512) 0) a
 tetra-read ts a fits = tetra-in-half ts (a / 8 % 512) a _ fits (octas-read ts (a / 8 % 512) (omega arith)) refl
+
+-- one of the two tetras of an octa, in place of the one that an address tells
+high-part : (h l t a : ℕ) → l < 2 ^ 32 → h < 2 ^ 32 → t < 2 ^ 32 → a % 8 < 4 → with_part Tetra (h * 2 ^ 32 + l) a t ≡ t * 2 ^ 32 + l
+high-part h l t a fl fh ft m =
+    let z : a % 8 / 4 ≡ 0 = omega arith in
+    rw z (omega arith)
+
+low-part : (h l t a : ℕ) → l < 2 ^ 32 → h < 2 ^ 32 → t < 2 ^ 32 → 4 ≤ a % 8 → with_part Tetra (h * 2 ^ 32 + l) a t ≡ h * 2 ^ 32 + t
+low-part h l t a fl fh ft m =
+    let z : a % 8 / 4 ≡ 1 = omega arith in
+    rw z (omega arith)
+
+-- the octa with a tetra in place of one
+abbrev pub octa_with : List ℕ → ℕ → ℕ → ℕ
+octa_with ts a t = with_part Tetra (get_or (octas_of ts) (a / 8 % 512) 0) a t
+
+pub octa-with-fits : (o a t : ℕ) → o < 2 ^ 64 → t < 2 ^ 32 → with_part Tetra o a t < 2 ^ 64
+octa-with-fits o a t fo ft =
+    let whole : o ≡ o / 2 ^ 32 * 2 ^ 32 + o % 2 ^ 32 = omega arith in
+    let high : o / 2 ^ 32 < 2 ^ 32 = omega arith in
+    let low : o % 2 ^ 32 < 2 ^ 32 = omega arith in
+    rw whole (⊎_elim
+    (λ m. rw (high-part (o / 2 ^ 32) (o % 2 ^ 32) t a low high ft m) (omega (arith, low)))
+    (λ m. rw (low-part (o / 2 ^ 32) (o % 2 ^ 32) t a low high ft m) (omega (arith, high)))
+    (cases_lt (a % 8) 4))
+
+pub tetra-set : (ts : List ℕ) (a t : ℕ) → length ts ≡ 1024 → ((i : ℕ) → get_or ts i 0 < 2 ^ 32) → t < 2 ^ 32 → octas_of (set ts (a / 4 % 1024) t) ≡ set (octas_of ts) (a / 8 % 512) (octa_with ts a t)
+tetra-set ts a t long fits ft = by-half (cases_lt (a % 8) 4)
+  where
+    i : ℕ
+    i = a / 8 % 512
+
+    h : ℕ
+    h = get_or ts (2 * i) 0
+
+    l : ℕ
+    l = get_or ts (2 * i + 1) 0
+
+    new : octas_of (with_two ts i (octa_with ts a t)) ≡ set (octas_of ts) i (octa_with ts a t)
+    new = octas-set ts i (octa_with ts a t) long (omega arith)
+
+    read : get_or (octas_of ts) i 0 ≡ h * 2 ^ 32 + l
+    read = octas-read ts i (omega arith)
+
+    by-half : (a % 8 < 4) ⊎ (4 ≤ a % 8) → octas_of (set ts (a / 4 % 1024) t) ≡ set (octas_of ts) i (octa_with ts a t)
+    by-half (inl m) =
+        let place : a / 4 % 1024 ≡ 2 * i = omega arith in
+        let made : octa_with ts a t ≡ t * 2 ^ 32 + l = ap (λ o. with_part Tetra o a t) read ∙ high-part h l t a (fits (2 * i + 1)) (fits (2 * i)) ft m in
+        let high : octa_with ts a t / 2 ^ 32 ≡ t = omega (arith, made, fits (2 * i + 1)) in
+        let low : octa_with ts a t % 2 ^ 32 ≡ l = omega (arith, made, fits (2 * i + 1)) in
+        let kept : get_or (set ts (2 * i) t) (2 * i + 1) 0 ≡ l = get_or-set_other ts (2 * i) (2 * i + 1) t 0 (omega arith) in
+        let two : with_two ts i (octa_with ts a t) ≡ set ts (2 * i) t =
+        ap (λ x. set (set ts (2 * i) x) (2 * i + 1) (octa_with ts a t % 2 ^ 32)) high ∙ ap (set (set ts (2 * i) t) (2 * i + 1)) (low ∙ sym kept) ∙ set-get_or (set ts (2 * i) t) (2 * i + 1) 0 in
+        ap (λ k. octas_of (set ts k t)) place ∙ ap octas_of (sym two) ∙ new
+    by-half (inr m) =
+        let place : a / 4 % 1024 ≡ 2 * i + 1 = omega arith in
+        let made : octa_with ts a t ≡ h * 2 ^ 32 + t = ap (λ o. with_part Tetra o a t) read ∙ low-part h l t a (fits (2 * i + 1)) (fits (2 * i)) ft m in
+        let high : octa_with ts a t / 2 ^ 32 ≡ h = omega (arith, made, ft) in
+        let low : octa_with ts a t % 2 ^ 32 ≡ t = omega (arith, made, ft) in
+        let two : with_two ts i (octa_with ts a t) ≡ set ts (2 * i + 1) t =
+        ap (λ x. set (set ts (2 * i) x) (2 * i + 1) (octa_with ts a t % 2 ^ 32)) high ∙ ap (λ xs. set xs (2 * i + 1) (octa_with ts a t % 2 ^ 32)) (set-get_or ts (2 * i) 0) ∙ ap (set ts (2 * i + 1)) low in
+        ap (λ k. octas_of (set ts k t)) place ∙ ap octas_of (sym two) ∙ new
+
+-- each octa of tetras is below 2^64
+pub octas-most : (ts : List ℕ) → ((i : ℕ) → get_or ts i 0 < 2 ^ 32) → AreAtMost 18446744073709551615 (octas_of ts)
+octas-most ts fits = λ k. ⊎_elim (λ l. within k l) (λ m. past k m) (cases_lt k 512)
+  where
+    within : (k : ℕ) → k < 512 → get_or (octas_of ts) k 0 ≤ 18446744073709551615
+    within k l = omega (arith, octas-read ts k l, fits (2 * k), fits (2 * k + 1))
+
+    past : (k : ℕ) → 512 ≤ k → get_or (octas_of ts) k 0 ≤ 18446744073709551615
+    past k m = omega (arith, get_or_past (octas_of ts) k 0 (omega (arith, octas-length ts)))
 
 pub ruleset tetras = (octas-length, octas-read, octas-zeros, octas-set)

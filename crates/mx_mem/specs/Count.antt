@@ -1,13 +1,9 @@
--- How many octas of a page are not 0.
-use Rattle.std.specs.Prelude.{ℕ, ◌==◌, ◌≡◌, ◌≢◌, ◌≤◌, ◌<◌, if◌then◌else◌, List, Option, None, Some, slice_index_or}
-use Rattle.std.specs.List.{sum_by}
+-- How great the octas of a page are, and which of them are not 0.
+use Rattle.std.specs.Prelude.{ℕ, ◌≡◌, ◌≢◌, ◌≤◌, ◌<◌, List, Option, None, Some, slice_index_or}
 
--- 1 for each number but 0
-abbrev pub one_unless_zero : ℕ → ℕ
-one_unless_zero x = if x == 0 then 0 else 1
-
-abbrev pub nonzero_count : List ℕ → ℕ
-nonzero_count octas = sum_by one_unless_zero octas
+-- no octa is above this one
+abbrev pub AreAtMost : ℕ → List ℕ → Type 0
+AreAtMost most octas = (k : ℕ) → slice_index_or octas k 0 ≤ most
 
 -- the first octa other than 0 from a place on, with its place
 abbrev pub IsNextIn : List ℕ → ℕ → Option (ℕ × ℕ) → Type 0

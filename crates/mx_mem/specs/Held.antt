@@ -1,5 +1,5 @@
 -- How memory is held: pages as they came, and the place of each by its number.
-use Rattle.std.specs.Prelude.{ℕ, ◌<◌, ◌≤◌, ◌^◌, ◌≡◌, List, [], map, length, Option, None, Some, slice_index_or}
+use Rattle.std.specs.Prelude.{ℕ, ◌*◌, ◌<◌, ◌≤◌, ◌^◌, ◌≡◌, List, [], map, length, Option, None, Some, slice_index_or}
 use Rattle.std.specs.Ordering.{nat_cmp}
 use Rattle.std.specs.BTreeMap as tree
 use Rattle.std.specs.BTreeMap.{BTreeMap}
@@ -32,16 +32,17 @@ pub record Bounded (pages : List (ℕ × List ℕ)) : Type 0 where
   pub below : (i : ℕ) → i < length pages → number_in pages i < 2 ^ 51
   pub few : length pages ≤ 65536
 
--- a number and a place that are kept: of a low page that stands there, where the number is that of a page
-abbrev pub IsKept : ℕ → ℕ → List (ℕ × List ℕ) → Type 0
-IsKept number place pages = number < 2 ^ 52 → (number < low_pages) × (place < length pages) × (number_in pages place ≡ number)
+-- a first address, a size and a place that are kept: of a low page that stands there, unless the size is 0
+abbrev pub IsKept : ℕ → ℕ → ℕ → List (ℕ × List ℕ) → Type 0
+IsKept start size place pages = 0 < size → (size ≤ 4096) × (place < length pages) × (number_in pages place < low_pages)
+    × (4096 * number_in pages place ≡ start)
 
 pub record Holds (m : Inside) : Type 0 where
   pub indexed : Indexed m.pages.items m.places
   pub bounded : Bounded m.pages.items
   pub count : length m.places.entries ≡ length m.pages.items
   pub fits : (a : ℕ) → octa_at (stored m) a < 2 ^ 64
-  pub code : IsKept m.code_number m.code_place m.pages.items
+  pub code : IsKept m.code_start m.code_size m.code_place m.pages.items
 
 -- the least number from `number` on that has a place, with its place
 abbrev pub IsNextPage : BTreeMap ℕ ℕ → ℕ → Option (ℕ × ℕ) → Type 0

@@ -2,6 +2,7 @@ pub mod Memory
 pub mod Fault
 pub mod Count
 pub mod Held
+pub mod Dropping
 pub mod Low
 pub mod Parts
 pub mod Space

@@ -4,6 +4,7 @@
 //! (MMIXware, LNCS 1750; TAOCP 1, Fascicle 1, section 1.3.1').
 #![tactic(auto)]
 
+mod dropping;
 mod fault;
 mod memory;
 mod page;
@@ -11,6 +12,7 @@ mod part;
 mod places;
 mod space;
 
+pub use dropping::{absent_pages_hold_zeros, stores_are_taken_back};
 pub use fault::MemFault;
 pub use memory::Memory;
 pub use part::{Part, with_part};

@@ -4,6 +4,7 @@ ghost use Rattle.std.specs.Prelude.{◌≡◌, ◌≢◌, ◌↔◌, ◌≤◌, 
 ghost use Rattle.std.specs.Prelude.{false, IfSome, IsTrue, IsOk, OnOk, OnErr, if◌then◌else◌};
 ghost use Rattle.std.specs.Ordering.{nat_cmp};
 ghost use Rattle.std.specs.List.Sorted.{IsStrictlySortedBy};
+ghost use Rattle.mx_mem.specs.Dropping.{without_page, pages_without, count_without_page};
 ghost use Rattle.mx_mem.specs.Low.{low_pages};
 ghost use Rattle.mx_mem.specs.Parts as spec;
 ghost use Rattle.mx_mem.specs.Parts.{bytes_with_part};
@@ -11,15 +12,16 @@ ghost use Rattle.mx_mem.specs.Memory.{octa_at, byte_at, tetra_at, page_numbers, 
 ghost use Rattle.mx_mem.specs.Memory.{is_refused, with_page, count_with_page, stored_at, stored_bytes, in_half};
 ghost use Rattle.mx_mem.specs.Memory.{with_tetra, bytes_with_tetra, IsNextNonzero};
 
+use crate::dropping::take_away;
 use crate::page::{LOW_PAGES, Page};
 use crate::part::with_part;
 use crate::places::{GUESSES, add, guessed_place, low_place, next_page, place_of, slot};
 use crate::{MemFault, Part};
 use std::alloc::Global;
-use std::array;
 use std::cell::Cell;
 use std::collections::BTreeMap;
 use std::marker::Model;
+use std::{array, mem};
 
 /// The bytes of a page.
 const PAGE: u64 = 4096;
@@ -34,8 +36,9 @@ pub struct Memory {
     alloc: Global,
     pages: Vec<Page>,
     places: BTreeMap<u64, usize>,
-    // A low page with instructions, by its number and its place; or a number that is no page's.
-    code_number: u64,
+    // A low page with instructions, by its first address, its size and its place; or a size of 0 and no page.
+    code_start: u64,
+    code_size: u64,
     code_place: usize,
     // Where pages may stand that were used lately. It is tested at each use, so it may be wrong.
     code: Cell<usize>,
@@ -66,7 +69,8 @@ impl Memory {
             alloc,
             pages: Vec::new(alloc),
             places: BTreeMap::new(alloc),
-            code_number: u64::MAX,
+            code_start: 0,
+            code_size: 0,
             code_place: 0,
             code: Cell::new(0),
             guesses: array::from_fn(|_| Cell::new(0)),
@@ -106,7 +110,8 @@ impl Memory {
         if place < self.pages.len() {
             let number = self.pages[place].number();
             if number < LOW_PAGES {
-                self.code_number = number;
+                self.code_start = PAGE * number;
+                self.code_size = PAGE;
                 self.code_place = place;
             }
         }
@@ -118,8 +123,9 @@ impl Memory {
         ensures value { IfSome result (λ t. t ≡ tetra_at self.now a) }
         ensures low { IfSome result (λ _. a / 4096 < low_pages) }
     {
-        if a / PAGE == self.code_number {
-            Some(self.pages[self.code_place].tetra(a))
+        let within = a.wrapping_sub(self.code_start);
+        if within < self.code_size {
+            Some(self.pages[self.code_place].tetra(within))
         } else {
             None
         }
@@ -136,6 +142,42 @@ impl Memory {
         match low_place(&self.pages, &self.places, place, a / PAGE) {
             Some(place) => Some(self.pages[place].octa((a / 8 % 512) as usize)),
             None => None,
+        }
+    }
+
+    /// The tetra that holds an address, where its page is a low one and stands at the place that is remembered for it;
+    /// else nothing. It is for data, and `near_tetra` for instructions.
+    #[inline(always)]
+    pub fn tetra_if_near(&self, a: u64) -> Option<u32>
+        ensures value { IfSome result (λ t. t ≡ tetra_at self.now a) }
+        ensures low { IfSome result (λ _. a / 4096 < low_pages) }
+    {
+        let place = self.guesses[slot(a / PAGE)].get();
+        match low_place(&self.pages, &self.places, place, a / PAGE) {
+            Some(place) => Some(self.pages[place].tetra(a)),
+            None => None,
+        }
+    }
+
+    /// Stores a tetra in place of the one that holds an address, where its page is a low one and stands at the place
+    /// that is remembered for it; else nothing changes. Whether it did. It takes no memory.
+    #[inline(always)]
+    pub fn store_tetra_if_near(&mut self, a: u64, t: u32) -> bool
+        ensures octas { IsTrue result → octa_at self.new
+            ≡ stored_at (octa_at self.old) a (spec.with_part Part.Tetra (octa_at self.old a) a t) }
+        ensures pages { IsTrue result → has_page self.new ≡ with_page (has_page self.old) (a / 4096) }
+        ensures count { IsTrue result → page_count self.new ≡ count_with_page self.old (a / 4096) }
+        ensures there { IsTrue result → IsTrue (has_page self.old (a / 4096)) }
+        ensures low { IsTrue result → a / 4096 < low_pages }
+        ensures unmade { result ≡ false → self.new ≡ self.old }
+    {
+        let place = self.guesses[slot(a / PAGE)].get();
+        match low_place(&self.pages, &self.places, place, a / PAGE) {
+            Some(place) => {
+                self.pages[place].put_tetra(a, t);
+                true
+            }
+            None => false,
         }
     }
 
@@ -264,6 +306,39 @@ impl Memory {
             Ok(page) => add(&mut self.pages, &mut self.places, page),
             Err(_) => Err(MemFault::OutOfMemory),
         }
+    }
+
+    /// Whether the page is there that has an address, which is below 2^63. It takes no memory.
+    pub fn has_page(&self, a: u64) -> bool
+        requires { a < 2 ^ 63 }
+        ensures { result ≡ has_page self.now (a / 4096) }
+    {
+        self.places.contains_key(&(a / PAGE))
+    }
+
+    /// Takes the page away that has an address, which is below 2^63: its octas are 0 then. All else stays. It takes no
+    /// memory.
+    pub fn drop_page(&mut self, a: u64)
+        requires { a < 2 ^ 63 }
+        ensures octas { octa_at self.new ≡ without_page (octa_at self.old) (a / 4096) }
+        ensures pages { has_page self.new ≡ pages_without (has_page self.old) (a / 4096) }
+        ensures count { page_count self.new ≡ count_without_page self.old (a / 4096) }
+    {
+        take_away(&mut self.pages, &mut self.places, a / PAGE);
+        self.code_size = 0;
+    }
+
+    /// Exchanges what stands in two memories. It takes no memory, and the same time for any two: where pages
+    /// may stand that were used lately is remembered apart.
+    pub fn exchange(&mut self, other: &mut Memory)
+        ensures here { self.new ≡ other.old }
+        ensures there { other.new ≡ self.old }
+    {
+        mem::swap(&mut self.pages, &mut other.pages);
+        mem::swap(&mut self.places, &mut other.places);
+        mem::swap(&mut self.code_start, &mut other.code_start);
+        mem::swap(&mut self.code_size, &mut other.code_size);
+        mem::swap(&mut self.code_place, &mut other.code_place);
     }
 
     /// How many pages are there, at most 65,536. Each octa is below 2^64.

@@ -4,8 +4,10 @@ ghost use Rattle.std.specs.Prelude.{◌≡◌, ◌≤◌, ◌<◌, ◌/◌, ◌%
 ghost use Rattle.mx_mem.specs.Memory.{tetra_of};
 ghost use Rattle.mx_mem.specs.Count.{IsNextIn};
 ghost use Rattle.mx_mem.specs.Low.{IsLowNumber, low_pages};
+ghost use Rattle.mx_mem.specs.Parts.{with_part};
 ghost use Rattle.mx_mem.specs.Tetras.{octas_of};
 
+use crate::Part;
 use mx_word::NoMemory;
 use std::alloc::Global;
 use std::marker::Model;
@@ -32,14 +34,14 @@ struct Sheet {
     number: u64,
     // The number where it is that of a low page, and else no number of a page.
     low: u64,
-    // How many of the octas are not 0, so that a page of zeros need not be searched.
-    nonzero: u32,
+    // No octa is above this. So a page of zeros need not be searched.
+    most: u64,
     tetras: [u32; TETRAS],
 }
 
 impl Model for Page {
     ghost use Rattle.std.specs.Prelude.{◌≡◌, ℕ, List, length};
-    ghost use Rattle.mx_mem.specs.Count.{nonzero_count};
+    ghost use Rattle.mx_mem.specs.Count.{AreAtMost};
     ghost use Rattle.mx_mem.specs.Low.{IsLowNumber};
     ghost use Rattle.mx_mem.specs.Tetras.{octas_of};
 
@@ -47,7 +49,7 @@ impl Model for Page {
 
     ghost view = { λ p. (p.sheet.value.number, octas_of p.sheet.value.tetras) };
 
-    ghost invariant = { λ p. (p.sheet.value.nonzero ≡ nonzero_count (octas_of p.sheet.value.tetras))
+    ghost invariant = { λ p. AreAtMost p.sheet.value.most (octas_of p.sheet.value.tetras)
         × IsLowNumber p.sheet.value.low p.sheet.value.number };
 }
 
@@ -60,7 +62,7 @@ impl Page {
         let sheet = Sheet {
             number,
             low: low_number(number),
-            nonzero: 0,
+            most: 0,
             tetras: [0; TETRAS],
         };
         Ok(Page {
@@ -119,9 +121,22 @@ impl Page {
         requires { at < 512 }
         ensures { self.new ≡ (self.old.0, slice_set self.old.1 at x) }
     {
-        let before = self.octa(at);
         put_octa(&mut self.sheet.tetras, at, x);
-        self.sheet.nonzero = self.sheet.nonzero + u32::from(x != 0) - u32::from(before != 0);
+        self.sheet.most |= x;
+    }
+
+    /// Puts a tetra in place of the one that holds an address, if the page has it.
+    #[inline(always)]
+    pub fn put_tetra(&mut self, a: u64, t: u32)
+        ensures { self.new ≡ (
+          self.old.0,
+          slice_set self.old.1 (a / 8 % 512)
+              (with_part Part.Tetra (slice_index_or self.old.1 (a / 8 % 512) 0) a t),
+        ) }
+    {
+        put_tetra_in(&mut self.sheet.tetras, a, t);
+        know_tetras(self.sheet.tetras.as_slice());
+        self.sheet.most = u64::MAX;
     }
 
     /// The first octa other than 0 from a place on, which is at most 512, and its place.
@@ -129,7 +144,7 @@ impl Page {
         requires { from ≤ 512 }
         ensures { IsNextIn self.now.1 from result }
     {
-        if self.sheet.nonzero == 0 {
+        if self.sheet.most == 0 {
             return None;
         }
         for at in from..OCTAS {
@@ -164,6 +179,16 @@ fn know_tetras(tetras: &[u32])
     ensures { (i : ℕ) → slice_index tetras.now i < 2 ^ 32 }
 {
     let _tetras = tetras;
+}
+
+/// A tetra in place of the one of a page that holds an address.
+#[inline(always)]
+fn put_tetra_in(tetras: &mut [u32; TETRAS], a: u64, t: u32)
+    ensures { octas_of tetras.new ≡ slice_set (octas_of tetras.old) (a / 8 % 512)
+        (with_part Part.Tetra (slice_index_or (octas_of tetras.old) (a / 8 % 512) 0) a t) }
+{
+    know_tetras(tetras.as_slice());
+    tetras[(a / 4 % 1024) as usize] = t;
 }
 
 /// An octa in place of the two tetras at a place below 512.

@@ -1,7 +1,7 @@
 -- A few items that are copied at once, of which not all are wanted.
 use Rattle.std.proofs.Common.{◌≡◌, ℕ, ◌+◌, ◌-◌, ◌≤◌, ◌<◌, List, [], ◌∷◌, ◌++◌, length, take, drop, set, replicate, max, suc, arith, refl, sym, ◌∙◌, ap, ⊎_elim}
 use Rattle.std.proofs.lemmas.Bool.{cases_lt}
-use Rattle.std.proofs.lemmas.List.{append-nil, append_assoc, length-append, length-replicate, length-drop, length-take, length-take-le, take_at, take_all, take-take, take-append-le, take-replicate, drop_at, drop_all, drop-append-le, drop-drop, drop-replicate, replicate-append-replicate, set-append_right, set_split}
+use Rattle.std.proofs.lemmas.List.{append-nil, append_assoc, take-append-drop, length-append, length-replicate, length-drop, length-take, length-take-le, take_at, take_all, take-take, take-append-le, take-replicate, drop_at, drop_all, drop-append-le, drop-drop, drop-replicate, replicate-append-replicate, set-append_right, set_split}
 use Rattle.std.proofs.Math.Seq.{take-append-add, drop-append-add}
 use Rattle.mx_word.specs.Lists.{with_part}
 use Rattle.mx_ring.proofs.Values.{Stands, stands, from-bounds}
@@ -106,3 +106,10 @@ few-stands i n c few zs h ec fc fn ez =
     let es : zs ≡ with_zeros_at (with_part (all_values v) 0 (take few (drop n (all_values v)))) few (max (length v.locals) few) =
     ez ∙ ap (λ (xs : List ℕ). with_zeros_at (with_part xs 0 (take few (drop n xs))) few (max i.local_count few)) h.all_shown ∙ ap (λ l. with_zeros_at (with_part (all_values v) 0 (take few (drop n (all_values v)))) few (max l few)) e in
     stands (registers_from v n) _ _ _ (from-bounds v n h.in_bounds) (few-values v n c few zs h.in_bounds (omega arith) fc fn es) size refl
+
+-- nothing is cleared where few were local
+pub zeros-none : (xs : List ℕ) (l few : ℕ) → l ≤ few → with_zeros_at xs few (max l few) ≡ xs
+zeros-none xs l few f =
+    let m : max l few ≡ few = omega arith in
+    let none : few - few ≡ 0 = omega arith in
+    rw (m, none) (ap (λ (ws : List ℕ). ws ++ drop few xs) (append-nil (take few xs)) ∙ take-append-drop few xs)

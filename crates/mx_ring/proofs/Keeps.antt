@@ -14,7 +14,7 @@ use Rattle.mx_ring.specs.Stack.{windowed, set_overfills, with_register, cut_to, 
 use Rattle.mx_ring.specs.Window.{Window, as_list}
 use Rattle.mx_ring.specs.declared.saved.Saved.{Saved}
 
-window-is : (v w : Window) → windowed v ≡ windowed w → v ≡ w
+pub window-is : (v w : Window) → windowed v ≡ windowed w → v ≡ w
 window-is v w e = cc
 
 becomes : (v w : Window) → windowed v ≡ windowed w → IsRing w → IsRing v
@@ -38,7 +38,7 @@ push-keeps w x r o v e =
     let size : length (registers_below w.visible n ++ n ∷ []) ≡ n + 1 = length_push (registers_below w.visible n) n ∙ ap (λ m. m + 1) (length-below w.visible n) in
     becomes v _ e (push-ring w n (registers_below w.visible n ++ n ∷ []) r size (push-room w x o))
 
-hole-below : (w : Window) → pop_underflows (windowed w) ≡ false → hole_in (octas_of w.hidden) < length (octas_of w.hidden)
+pub hole-below : (w : Window) → pop_underflows (windowed w) ≡ false → hole_in (octas_of w.hidden) < length (octas_of w.hidden)
 unfolding pop_underflows
 hole-below w o = grind (arith, nat_tests)
 

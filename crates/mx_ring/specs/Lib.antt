@@ -4,6 +4,8 @@ pub mod Frames
 pub mod HiddenPart
 pub mod Kept
 pub mod Laws
+pub mod Notes
+pub mod NoteParts
 pub mod Parts
 pub mod RegisterList
 pub mod Registers

@@ -7,6 +7,8 @@ ghost use Rattle.mx_word.specs.Ranges.{AreOctas};
 ghost use Rattle.mx_ring.specs.HiddenPart.{octas_of, with_hidden, with_spilled, with_room, with_first};
 ghost use Rattle.mx_ring.specs.HiddenPart.{with_stack_first, with_octa, nothing_hidden};
 
+mod back;
+
 use crate::RingFault;
 use crate::area::Area;
 use crate::knowing::know_octas;

@@ -10,6 +10,7 @@ mod frame;
 mod hidden;
 mod knowing;
 mod laws;
+mod notes;
 mod results;
 mod ring;
 mod saved;
@@ -22,6 +23,9 @@ pub use laws::{
     calls_go_as_lists, calls_keep_rings, frames_come_back, frames_go_as_lists, frames_keep_rings,
     lists_show_the_same, pushes_go_by_place, refusals_are_those_of_lists,
     spilled_octas_are_counted, spilled_octas_are_hidden, writes_go_as_lists, writes_keep_rings,
+};
+pub use notes::{
+    RingNote, RingWork, notes_take_back, notes_take_stores_back, notes_take_trips_back,
 };
 pub use ring::Ring;
 pub use saved::Saved;

@@ -17,6 +17,8 @@ ghost use Rattle.mx_ring.specs.Stack.{save_overfills, saved, unsave_refused, oct
 ghost use Rattle.mx_ring.specs.Window.{window_at_start};
 ghost use Rattle.mx_word.specs.Ranges.{AreOctas};
 
+mod back;
+
 use crate::frame::{frame_at, specials_at, upper_octas};
 use crate::hidden::{Hidden, ROOM};
 use crate::visible::{FEW, Visible};
@@ -210,6 +212,7 @@ impl Ring {
     ///
     /// Errors: `StackFull` exactly where that would make hidden and local registers pass 2^20; then
     /// nothing changed.
+    #[inline(always)]
     pub fn push(&mut self, x: u8) -> Result<(), RingFault>
         ensures answer { result ≡ push_answer (windowed self.old) x }
         ensures ok { OnOk result (windowed self.new ≡ pushed (windowed self.old) x) }
@@ -237,7 +240,7 @@ impl Ring {
     {
         hide_few_below(&mut self.hidden, &self.visible, count);
         let left = self.visible.local_count().saturating_sub(count + 1);
-        self.visible.keep_few(count + 1, left);
+        self.visible.keep_fewer(count + 1, left);
         self.hidden.make_room(self.visible.local_count(), self.size);
     }
 
@@ -276,6 +279,7 @@ impl Ring {
     ///
     /// Errors: `Underflow` exactly where nothing is hidden, or less than the number says; then
     /// nothing changed.
+    #[inline(always)]
     pub fn pop(&mut self, x: u8) -> Result<(), RingFault>
         ensures answer { result ≡ pop_answer (windowed self.old) }
         ensures ok { OnOk result (windowed self.new ≡ popped (windowed self.old) x) }

@@ -190,6 +190,18 @@ impl Visible {
         self.local_count = count;
     }
 
+    /// The same where few registers were local: nothing behind them is to be cleared.
+    #[inline(always)]
+    pub(crate) fn keep_fewer(&mut self, n: usize, count: usize)
+        requires count { count ≡ length self.old.locals - n }
+        requires few { length self.old.locals ≤ 8 }
+        requires room { n + 8 ≤ self.old.first_global }
+        ensures { self.new ≡ registers_from self.old n }
+    {
+        move_fewer(&mut self.values, n);
+        self.local_count = count;
+    }
+
     /// The same for any number of locals.
     #[inline(never)]
     fn keep_all(&mut self, n: usize, count: usize)
@@ -204,6 +216,26 @@ impl Visible {
         );
         clear(&mut self.values, count, self.local_count);
         self.local_count = count;
+    }
+
+    /// The same registers once more.
+    pub(crate) fn copy(&self) -> Visible
+        ensures { result ≡ self.now }
+    {
+        Visible {
+            values: self.values,
+            local_count: self.local_count,
+            first_global: self.first_global,
+        }
+    }
+
+    /// The registers become what others are.
+    pub(crate) fn become_those(&mut self, others: &Visible)
+        ensures { self.new ≡ others.now }
+    {
+        self.values = others.values;
+        self.local_count = others.local_count;
+        self.first_global = others.first_global;
     }
 
     /// Octas come back as $0 and so on, and the results of POP with `x` follow them, at most G
@@ -247,4 +279,13 @@ fn move_few(values: &mut [u64], n: usize, l: usize)
 {
     copy(values, n, n + FEW, 0);
     clear(values, FEW, l.max(FEW));
+}
+
+/// As many registers as are copied at once, from the place `n` on, become the first ones.
+#[inline(always)]
+fn move_fewer(values: &mut [u64], n: usize)
+    requires { n + 8 ≤ length values.old }
+    ensures { values.new ≡ with_part values.old 0 (take 8 (drop n values.old)) }
+{
+    copy(values, n, n + FEW, 0);
 }

@@ -44,7 +44,7 @@ invariant_of-self c =
       bounded = outcome-bounded c.add.result c.self.inside.pages.items c.add.new.pages.items c.in-Ok.page _ c.self.invariant.bounded low long room c.add.ensures.pages c.add.ensures.err;
       count = outcome-count c.add.result c.self.inside.pages.items c.add.new.pages.items c.self.inside.places c.add.new.places c.in-Ok.page c.self.invariant.count c.add.ensures.pages c.add.ensures.count c.add.ensures.err;
       fits = outcome-fits c.add.result c.self.inside.pages.items c.add.new.pages.items c.self.inside.places c.add.new.places c.args.a c.args.x (omega (arith, c.ranges.x)) c.self.invariant.fits (octas-after c) c.add.ensures.err;
-      code = outcome-kept c.add.result c.self.inside.pages.items c.add.new.pages.items c.in-Ok.page _ c.self.inside.code_number c.self.inside.code_place c.self.invariant.code c.add.ensures.pages c.add.ensures.err;
+      code = outcome-kept c.add.result c.self.inside.pages.items c.add.new.pages.items c.in-Ok.page _ c.self.inside.code_start c.self.inside.code_size c.self.inside.code_place c.self.invariant.code c.add.ensures.pages c.add.ensures.err;
     }
 
 pub returns-in-Ok-clause-octas : goal.returns-in-Ok-clause-octas

@@ -29,7 +29,7 @@ invariant_of-self c =
       bounded = rw (pages-after c) (rewritten-bounded c.self.inside.pages.items c.in-Some.place (c.args.a / 8 % 512) c.args.x within c.self.invariant.bounded);
       count = c.self.invariant.count ∙ sym (ap length (pages-after c) ∙ length-kept c.self.inside.pages.items c.in-Some.place (c.args.a / 8 % 512) c.args.x);
       fits = store-fits (octa_at (view_of c.self.inside.pages.items c.self.inside.places.entries)) _ c.args.a c.args.x (octas-after c) (omega (arith, c.ranges.x)) c.self.invariant.fits;
-      code = rw (pages-after c) (rewritten-kept c.self.inside.pages.items c.in-Some.place (c.args.a / 8 % 512) c.args.x c.self.inside.code_number c.self.inside.code_place within c.self.invariant.code);
+      code = rw (pages-after c) (rewritten-kept c.self.inside.pages.items c.in-Some.place (c.args.a / 8 % 512) c.args.x c.self.inside.code_start c.self.inside.code_size c.self.inside.code_place within c.self.invariant.code);
     }
 
 pub returns-in-Some-clause-octas : goal.returns-in-Some-clause-octas

@@ -1,11 +1,11 @@
-use Rattle.std.proofs.Common.{ℕ, List, sym, ap, ◌∙◌}
-use Rattle.mx_mem.specs.Count.{nonzero_count}
-use Rattle.mx_mem.proofs.Counts.{count-zeros}
+use Rattle.std.proofs.Common.{ℕ, List, sym, ap, subst}
+use Rattle.mx_mem.specs.Count.{AreAtMost}
+use Rattle.mx_mem.proofs.Counts.{most-zeros}
 use Rattle.mx_mem.proofs.Tetras.{octas-zeros}
 use Rattle.mx_mem.proofs.page.Page.new.Goals as goal
 
 pub invariant_of-result : goal.invariant_of-result
-invariant_of-result c = rw c.in_ok-new.ensures.ok (sym (ap nonzero_count octas-zeros ∙ count-zeros 512), c.low_number.ensures)
+invariant_of-result c = rw c.in_ok-new.ensures.ok (subst (AreAtMost 0) (sym octas-zeros) (most-zeros 512), c.low_number.ensures)
 
 pub returns : goal.returns
 returns c = rw c.in_ok-new.ensures.ok (ap (λ (xs : List ℕ). (c.args.number, xs)) octas-zeros)

@@ -2,6 +2,7 @@
 
 use mx_mem::{MemFault, Memory, Part, Space, SpaceFault};
 use std::alloc::Global;
+use std::process::Abort;
 
 /// What is joined, and what the octa there and the count of pages are afterwards.
 static JOINED: [(u64, u32, u64, u32); 11] = [
@@ -203,5 +204,69 @@ fn refuses_one_page_too_many(rt: HostRuntime) {
     assert_eq!(rt;
         (MemFault::PagesFull.number(), MemFault::OutOfMemory.number()),
         (90, 0)
+    );
+}
+
+/// Three octas of 1, 2 and 3 on pages of their own, the first of which is that of the last instruction.
+fn three_pages(rt: &impl Abort, memory: &mut Memory) {
+    memory.store(0x100, 1).expect(rt, "memory");
+    memory.store(0x2000_0000_0000_0008, 2).expect(rt, "memory");
+    memory.store(0x7fff_ffff_ffff_fff8, 3).expect(rt, "memory");
+    let _tetra = memory.tetra(0x104);
+    memory.keep_code();
+}
+
+/// What the three octas are, which of the pages are there, and how many.
+fn three(memory: &Memory) -> ([u64; 3], [bool; 3], u32) {
+    (
+        [
+            memory.load(0x100),
+            memory.load(0x2000_0000_0000_0008),
+            memory.load(0x7fff_ffff_ffff_fff8),
+        ],
+        [
+            memory.has_page(0x1ff),
+            memory.has_page(0x2000_0000_0000_0fff),
+            memory.has_page(0x7fff_ffff_ffff_f000),
+        ],
+        memory.pages(),
+    )
+}
+
+/// What is left once the page of an address below 2^63 is taken away.
+fn left(memory: &mut Memory, a: u64) -> Option<([u64; 3], [bool; 3], u32)> {
+    if a >= 1 << 63 {
+        return None;
+    }
+    memory.drop_page(a);
+    Some(three(memory))
+}
+
+#[test]
+fn drops_pages(rt: HostRuntime) {
+    let mut memory = Memory::new(rt.alloc());
+    three_pages(&rt, &mut memory);
+    assert_eq!(rt;
+        (three(&memory), memory.near_tetra(0x104)),
+        (([1, 2, 3], [true; 3], 3), Some(1))
+    );
+    // the first page goes, and the last one stands in its place
+    assert_eq!(rt;
+        left(&mut memory, 0xfff),
+        Some(([0, 2, 3], [false, true, true], 2))
+    );
+    assert_eq!(rt; (memory.near_tetra(0x104), memory.tetra(0x104)), (None, 0));
+    // a page that is not there
+    assert_eq!(rt;
+        left(&mut memory, 0x4000_0000_0000_0000),
+        Some(([0, 2, 3], [false, true, true], 2))
+    );
+    assert_eq!(rt;
+        left(&mut memory, 0x7fff_ffff_ffff_ffff),
+        Some(([0, 2, 0], [false, true, false], 1))
+    );
+    assert_eq!(rt;
+        left(&mut memory, 0x2000_0000_0000_0000),
+        Some(([0; 3], [false; 3], 0))
     );
 }

@@ -1,0 +1,230 @@
+//! Calls of the register stack that are noted, and taken back.
+
+ghost use Rattle.std.specs.Prelude.{◌≡◌, ◌≢◌, ◌≤◌, ◌<◌, ◌+◌, ◌-◌, ◌*◌, ◌^◌, length, IfOk, OnOk, OnErr, Ok, Err};
+ghost use Rattle.mx_ring.specs.Bounds.{IsRing};
+ghost use Rattle.mx_ring.specs.Notes.{worked, work_answer, WorkNeeds, ring_noted, ring_noted_stored, ring_undone};
+ghost use Rattle.mx_ring.specs.Notes.{octa_noted, spilled_by, push_spills, above_room, staying, plain_answer};
+ghost use Rattle.mx_ring.specs.Notes.{specials_answer, FitsRing, TakesBack};
+ghost use Rattle.mx_ring.specs.HiddenPart.{octas_of};
+ghost use Rattle.mx_ring.specs.Stack.{windowed, hole_in};
+ghost use Rattle.mx_word.specs.Results.{map_ok};
+
+use super::{Ring, hole};
+use crate::notes::{RingNote, RingWork, note_registers};
+use crate::{RingFault, Saved};
+use std::alloc::Global;
+
+impl Ring {
+    /// Does the call that `work` names, and notes what it overwrites. The special registers are those of the frame that
+    /// UNSAVE brings back. It may take memory for the note.
+    ///
+    /// Errors: those of the call, and `OutOfMemory`; then nothing changed.
+    pub fn noted(
+        &mut self,
+        alloc: Global,
+        work: RingWork,
+    ) -> Result<(RingNote, Option<Saved>), RingFault>
+        requires { WorkNeeds work self.old }
+        ensures answer { result ≢ Err RingFault.OutOfMemory
+            → map_ok (λ r. r.1) result ≡ work_answer work (windowed self.old) }
+        ensures ok { OnOk result (windowed self.new ≡ worked work (windowed self.old)) }
+        ensures note { IfOk result (λ r. r.0 ≡ ring_noted work self.old) }
+        ensures back { IfOk result (λ r. TakesBack r.0 self.new self.old) }
+        ensures err { OnErr result (self.new ≡ self.old) }
+    {
+        match self.note(alloc, work) {
+            Ok(note) => match self.work(work) {
+                Ok(specials) => Ok((note, specials)),
+                Err(fault) => Err(fault),
+            },
+            Err(fault) => Err(fault),
+        }
+    }
+
+    /// Takes the last call back, by its note, where nothing else changed since: every register, every hidden one, and
+    /// every octa of the stack area is what it was. It takes no memory.
+    pub fn undo(&mut self, note: RingNote)
+        requires { FitsRing note self.old }
+        ensures { self.new ≡ ring_undone note self.old }
+    {
+        note.give_registers(&mut self.visible);
+        note.give_hidden(&mut self.hidden);
+    }
+
+    /// Notes what the call overwrites that `work` names.
+    ///
+    /// Errors: `OutOfMemory` alone.
+    #[tactic(auto, unfolding(crate::specs::Notes::ring_noted))]
+    pub fn note(&mut self, alloc: Global, work: RingWork) -> Result<RingNote, RingFault>
+        requires { WorkNeeds work self.old }
+        ensures note { IfOk result (λ note. note ≡ ring_noted work self.old) }
+        ensures bounds { IsRing self.old }
+        ensures same { self.new ≡ self.old }
+        ensures memory { OnErr result (result ≡ Err RingFault.OutOfMemory) }
+    {
+        let registers = note_registers(alloc, work, &self.visible)?;
+        let count = self.spilled_by(work);
+        let stays = self.staying(work);
+        let octa = self.octa_noted(work);
+        let over = self.hidden.behind(alloc, count)?;
+        let gone = self.hidden.residents_from(alloc, stays)?;
+        Ok(RingNote {
+            registers,
+            spilled: self.hidden.spilled(),
+            over,
+            stays,
+            gone,
+            octa,
+        })
+    }
+
+    /// Notes the octa of the stack area at an index below 2^20, and what a value for $k overwrites: for a store, and a
+    /// value behind it.
+    ///
+    /// Errors: `OutOfMemory` alone.
+    #[tactic(auto, unfolding(crate::specs::Notes::ring_noted_stored))]
+    pub fn note_store(&mut self, alloc: Global, i: u32, k: u8) -> Result<RingNote, RingFault>
+        requires { i < 2 ^ 20 }
+        ensures note { IfOk result (λ note. note ≡ ring_noted_stored i k self.old) }
+        ensures same { self.new ≡ self.old }
+        ensures memory { OnErr result (result ≡ Err RingFault.OutOfMemory) }
+    {
+        let registers = note_registers(alloc, RingWork::Set(k, 0), &self.visible)?;
+        let count = self.spilled_by(RingWork::Set(k, 0));
+        let octa = Some((i, self.hidden.octa(i as usize)));
+        let over = self.hidden.behind(alloc, count)?;
+        let gone = self.hidden.residents_from(alloc, 0)?;
+        Ok(RingNote {
+            registers,
+            spilled: self.hidden.spilled(),
+            over,
+            stays: 0,
+            gone,
+            octa,
+        })
+    }
+
+    /// Does the call that `work` names.
+    #[tactic(auto, unfolding(crate::specs::Notes::WorkNeeds, crate::specs::Notes::worked, crate::specs::Notes::work_answer))]
+    fn work(&mut self, work: RingWork) -> Result<Option<Saved>, RingFault>
+        requires { WorkNeeds work self.old }
+        ensures answer { result ≡ work_answer work (windowed self.old) }
+        ensures ok { OnOk result (windowed self.new ≡ worked work (windowed self.old)) }
+        ensures err { OnErr result (self.new ≡ self.old) }
+    {
+        match work {
+            RingWork::Set(k, x) => plain(self.set(k, x)),
+            RingWork::Push(x) => plain(self.push(x)),
+            RingWork::Pop(x) => plain(self.pop(x)),
+            RingWork::Save(x, specials) => plain(self.save(x, &specials)),
+            RingWork::Unsave(a) => with_specials(self.unsave(a)),
+            RingWork::CutLocals(l) => {
+                self.cut_locals(l);
+                Ok(None)
+            }
+            RingWork::SetGlobalStart(g) => {
+                self.set_global_start(g);
+                Ok(None)
+            }
+            RingWork::SetOcta(i, x) => {
+                self.set_stack_octa(i, x);
+                Ok(None)
+            }
+        }
+    }
+
+    /// How many octas the call spills.
+    #[tactic(auto, unfolding(crate::specs::Notes::spilled_by))]
+    fn spilled_by(&self, work: RingWork) -> usize
+        ensures { result ≡ spilled_by work self.now }
+    {
+        let resident = self.hidden.len() - self.hidden.spilled();
+        match work {
+            RingWork::Set(k, _) => {
+                if self.visible.is_marginal(k) {
+                    above_room(resident + (usize::from(k) + 1), self.size)
+                } else {
+                    0
+                }
+            }
+            RingWork::Push(x) => self.push_spills(self.visible.push_number(x)),
+            RingWork::Save(_, _) => resident
+                + (self.visible.local_count() + 270 - self.visible.first_global()),
+            _ => 0,
+        }
+    }
+
+    /// How many octas PUSH spills that hides a number.
+    fn push_spills(&self, number: usize) -> usize
+        requires { number ≤ 255 }
+        ensures { result ≡ push_spills self.now number }
+    {
+        let resident = self.hidden.len() - self.hidden.spilled();
+        let locals = self.visible.local_count().saturating_sub(number + 1);
+        above_room(resident + (number + 1) + locals, self.size)
+    }
+
+    /// How many of the hidden octas in the ring are hidden still after the call.
+    #[tactic(auto, unfolding(crate::specs::Notes::staying))]
+    fn staying(&self, work: RingWork) -> usize
+        ensures { result ≡ staying work self.now }
+    {
+        let resident = self.hidden.len() - self.hidden.spilled();
+        match work {
+            RingWork::Pop(_) => self.staying_at_pop(),
+            RingWork::Unsave(_) => 0,
+            _ => resident,
+        }
+    }
+
+    /// How many of them are hidden still after POP.
+    fn staying_at_pop(&self) -> usize
+        ensures { result ≡ length (octas_of self.now.hidden)
+            - (hole_in (octas_of self.now.hidden) + 1) - self.now.hidden.spilled }
+    {
+        match hole(self.hidden.octas()) {
+            Some(hole) => (self.hidden.len() - (hole + 1)).saturating_sub(self.hidden.spilled()),
+            None => 0,
+        }
+    }
+
+    /// The octa of the stack area that the call overwrites.
+    #[tactic(auto, unfolding(crate::specs::Notes::WorkNeeds, crate::specs::Notes::octa_noted))]
+    fn octa_noted(&self, work: RingWork) -> Option<(u32, u64)>
+        requires { WorkNeeds work self.now }
+        ensures { result ≡ octa_noted work self.now.hidden.stack }
+    {
+        match work {
+            RingWork::SetOcta(i, _) => Some((i, self.hidden.octa(i as usize))),
+            _ => None,
+        }
+    }
+}
+
+/// How many of so many octas and locals must leave a ring of a size.
+fn above_room(count: usize, size: usize) -> usize
+    requires { count ≤ 2 ^ 22 }
+    ensures { result ≡ above_room count size }
+{
+    if count < size { 0 } else { count + 1 - size }
+}
+
+/// The answer of a call that gives nothing.
+fn plain(answer: Result<(), RingFault>) -> Result<Option<Saved>, RingFault>
+    ensures { result ≡ plain_answer answer }
+{
+    match answer {
+        Ok(()) => Ok(None),
+        Err(fault) => Err(fault),
+    }
+}
+
+/// The answer of a call that gives special registers.
+fn with_specials(answer: Result<Saved, RingFault>) -> Result<Option<Saved>, RingFault>
+    ensures { result ≡ specials_answer answer }
+{
+    match answer {
+        Ok(specials) => Ok(Some(specials)),
+        Err(fault) => Err(fault),
+    }
+}
