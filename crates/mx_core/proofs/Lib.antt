@@ -21,6 +21,7 @@ pub mod StepCounts
 pub mod Spaces
 pub mod Pools
 pub mod Starts
+pub mod StartedMachines
 pub mod StartRegisters
 pub mod SpaceStates
 pub mod WholeSpaces
@@ -52,3 +53,5 @@ pub mod SavedFrames
 pub mod MemoryAtStart
 pub mod UsualSteps
 mod Walks
+pub mod BareStarts
+pub mod Tetras

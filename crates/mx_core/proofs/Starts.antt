@@ -97,7 +97,7 @@ octas-fit : (xs : List ℕ) (x : ℕ) (s t : State) (a : ℕ) → with_octas s a
 octas-fit [] x s t a h = let l = (first-stored s a x [] t h).0 in omega (arith, l)
 octas-fit (y ∷ ys) x s t a h = let l = octas-fit ys y (with_octa s a x) t (a + 8) (first-stored s a x (y ∷ ys) t h).1 in omega (arith, l)
 
-addresses-length : (at : ℕ) (texts : List (List ℕ)) → length (text_addresses at texts) ≡ length texts
+pub addresses-length : (at : ℕ) (texts : List (List ℕ)) → length (text_addresses at texts) ≡ length texts
 addresses-length at [] = refl
 addresses-length at (t ∷ ts) = ap suc (addresses-length (at + text_size t) ts)
 
@@ -116,7 +116,7 @@ ends-count : (at : ℕ) (texts : List (List ℕ)) → texts_end at texts ≡ at 
 ends-count at [] = omega arith
 ends-count at (t ∷ ts) = omega (arith, ends-count (at + text_size t) ts, text-length t, length-append (text_octas t) (flat_map text_octas ts))
 
-pool-count : (texts : List (List ℕ)) → pool + 8 * length (text_addresses (first_text texts) texts ++ 0 ∷ flat_map text_octas texts) + 8 ≡ texts_end (first_text texts) texts
+pub pool-count : (texts : List (List ℕ)) → pool + 8 * length (text_addresses (first_text texts) texts ++ 0 ∷ flat_map text_octas texts) + 8 ≡ texts_end (first_text texts) texts
 pool-count texts = omega (arith, ends-count (first_text texts) texts, addresses-length (first_text texts) texts, length-append (text_addresses (first_text texts) texts) (0 ∷ flat_map text_octas texts))
 
 pub pool-past : (s : State) (texts : List (List ℕ)) → pool_list texts ≡ None → with_octas s pool (pool_octas texts) ≡ None

@@ -14,9 +14,11 @@ use Rattle.mx_core.specs.Instructions.{Instruction, instruction, operation_in, x
 use Rattle.mx_core.specs.Stops.{has_destination}
 use Rattle.mx_core.specs.State.{State, special_register, locals, global_start, with_special, with_octa, is_negative}
 use Rattle.mx_core.specs.Step.{Stepped, went, calls, stopped, fetched, completed, made, step}
+use Rattle.mx_core.specs.Stepping.{advanced}
 use Rattle.mx_core.specs.declared.operation.Operation.{Operation}
 use Rattle.mx_core.specs.declared.operation.Operation.TheVariants as op
 use Rattle.mx_core.specs.declared.reason.Reason.{Reason}
+use Rattle.mx_core.specs.declared.step.Advance.TheVariants as advance
 use Rattle.mx_core.specs.declared.reason.Reason.TheVariants.{Negative, Illegal}
 
 -- AN EFFECT
@@ -105,3 +107,12 @@ step-if false s x h = h
 pub step-count : (s : State) → CountsOne s (step s)
 unfolding step
 step-count s = step-if (is_negative s.pc) s _ (made-count s (operation_in (fetched s)))
+
+-- the same of what a call of a step made
+advanced-count : (s u : State) (x : Stepped) → CountsOne s x → (advance.Went, u) ≡ advanced s x → u.steps ≡ (s.steps + 1) % 2 ^ 64
+advanced-count s u (went t trace) h e = ap (λ p. p.1.steps) e ∙ h
+advanced-count s u (calls call) h e = absurd (cc (ap (λ p. p.0) e))
+advanced-count s u (stopped reason) h e = absurd (cc (ap (λ p. p.0) e))
+
+pub went-count : (s u : State) → (advance.Went, u) ≡ advanced s (step s) → u.steps ≡ (s.steps + 1) % 2 ^ 64
+went-count s u e = advanced-count s u (step s) (step-count s) e

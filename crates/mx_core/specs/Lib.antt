@@ -26,3 +26,4 @@ pub mod Wild
 pub mod MemoryAtStart
 pub mod Walks
 pub mod UsualDeeds
+pub mod Bare

@@ -1,6 +1,6 @@
 //! Usual instructions that do more than give a value or go elsewhere. Each is given with its code as a literal.
 
-ghost use Rattle.std.specs.Prelude.{◌≡◌, ◌<◌, ◌%◌, IsTrue, false};
+ghost use Rattle.std.specs.Prelude.{◌≡◌, ◌<◌, ◌%◌, ◌^◌, IsTrue, false};
 ghost use Rattle.mx_core.specs.Calls.{KeepsWhereNot, MakesWhereTold, settled, store_outcome};
 ghost use Rattle.mx_core.specs.Deeds.{deed_at, deed_of, outcome};
 ghost use Rattle.mx_core.specs.Instructions.{next_of, operation_in, x_of};
@@ -161,9 +161,32 @@ impl Machine {
         ensures low { IsTrue result → a < 0x6000_0000_0000_0000 }
         ensures kept { KeepsWhereNot result self.old self.new }
     {
-        match self.memory.near_octa(a) {
-            Some(octa) => self.memory.store_if_near(a, with_part(part, octa, a, x)),
-            None => false,
+        match part {
+            Part::Tetra => self.store_tetra_if_near(a, low_tetra(x)),
+            _ => match self.memory.near_octa(a) {
+                Some(octa) => self.memory.store_if_near(a, with_part(part, octa, a, x)),
+                None => false,
+            },
         }
     }
+
+    /// A tetra is stored in place of the one that holds an address, if that is below Stack_Segment and its page is
+    /// near.
+    #[tactic(auto, unfolding(crate::specs::Kept::state_of, crate::specs::State::octa, crate::specs::State::with_octa, crate::specs::Calls::store_outcome))]
+    #[inline(always)]
+    fn store_tetra_if_near(&mut self, a: u64, t: u32) -> bool
+        ensures made { MakesWhereTold (λ s. store_outcome s a Part.Tetra t) result self.old self.new }
+        ensures low { IsTrue result → a < 0x6000_0000_0000_0000 }
+        ensures kept { KeepsWhereNot result self.old self.new }
+    {
+        self.memory.store_tetra_if_near(a, t)
+    }
+}
+
+/// The low tetra of an octa.
+#[inline(always)]
+fn low_tetra(x: u64) -> u32
+    ensures { result ≡ x % 2 ^ 32 }
+{
+    (x & 0xffff_ffff) as u32
 }

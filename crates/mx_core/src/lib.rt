@@ -5,6 +5,7 @@
 #![tactic(auto)]
 
 mod apart;
+mod bare;
 mod bounds;
 mod changes;
 mod codes;
@@ -42,6 +43,7 @@ mod trips;
 mod usual;
 mod values;
 
+pub use bare::bare_machines_start_as_others;
 pub use bounds::machines_keep_the_invariant;
 pub use changes::SetFault;
 pub use laws::{
@@ -54,6 +56,6 @@ pub use octa_laws::machines_hold_octas;
 pub use reason::Reason;
 pub use space_laws::{contents_tell_the_state, machines_are_whole};
 pub use start::StartFault;
-pub use start_laws::arguments_stand_in_the_pool;
+pub use start_laws::{arguments_stand_in_the_pool, starts_are_machines};
 pub use step::{Advance, Advanced, Step};
 pub use trace::{Touch, Trace};

@@ -1,7 +1,8 @@
 //! The parts of an octa that are loaded and stored by themselves.
 
-ghost use Rattle.std.specs.Prelude.{◌≡◌, ◌<◌, ◌-◌, ◌*◌, ◌^◌, None, Some, if◌then◌else◌};
+ghost use Rattle.std.specs.Prelude.{◌≡◌, ℕ, ◌<◌, ◌-◌, ◌*◌, ◌^◌, None, Some, if◌then◌else◌};
 ghost use Rattle.mx_alu.specs.declared.answer.Event.TheVariants.{Overflow};
+ghost use Rattle.mx_mem.specs.Memory.{tetra_of};
 ghost use Rattle.mx_mem.specs.Parts.{size_of};
 ghost use Rattle.mx_mem.specs.Parts as parts;
 ghost use Rattle.mx_core.specs.Effects as spec;
@@ -92,6 +93,20 @@ pub(crate) fn loaded_value(how: Loading, octa: u64, a: u64) -> u64
         Loading::Signed(part) => sign_extended(part, part_of(part, octa, a)),
         Loading::Unsigned(part) => part_of(part, octa, a),
         Loading::HighTetra => part_of(Part::Tetra, octa, a) << 32,
+    }
+}
+
+/// The value that is loaded of a tetra.
+#[tactic(auto, using(crate::proofs::Tetras::tetras))]
+#[inline(always)]
+pub(crate) fn loaded_tetra(how: Loading, t: u32) -> u64
+    requires { spec.loaded_part how ≡ Part.Tetra }
+    ensures { (x a : ℕ) → t ≡ tetra_of x a → result ≡ spec.loaded_value how x a }
+{
+    match how {
+        Loading::Signed(_) => sign_extended(Part::Tetra, u64::from(t)),
+        Loading::Unsigned(_) => u64::from(t),
+        Loading::HighTetra => u64::from(t) << 32,
     }
 }
 

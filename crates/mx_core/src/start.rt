@@ -40,7 +40,7 @@ impl StartFault {
 
 /// The special registers by their codes: rN, rT, rTT, rK and rV have values.
 #[tactic(auto, unfolding(crate::specs::Start::special_at_start))]
-fn special_at_start() -> [u64; 32]
+pub(crate) fn special_at_start() -> [u64; 32]
     ensures value { result ≡ spec.special_at_start }
     ensures status { slice_index result rA ≡ 0 }
 {

@@ -1,6 +1,6 @@
 //! One step.
 
-ghost use Rattle.std.specs.Prelude.{◌≡◌, ◌≢◌, ◌<◌, ◌≤◌, ◌^◌, IsTrue};
+ghost use Rattle.std.specs.Prelude.{◌≡◌, ◌≢◌, ◌<◌, ◌≤◌, ◌-◌, ◌^◌, IsTrue};
 ghost use Rattle.mx_core.specs.Calls.{KeepsOnErr, LacksMemoryOnlyWhere, MakesWithMemory};
 ghost use Rattle.mx_core.specs.Deeds.{deed_at, outcome};
 ghost use Rattle.mx_core.specs.Instructions.{code_of, instruction, operation_in};
@@ -140,12 +140,19 @@ impl Machine {
             (result.last, state_of self.new) ≡ advanced (state_of self.new) (spec.step (state_of self.new)) }
         ensures there { result.last ≡ Advance.OutOfMemory → IsTrue (step_needs_page (state_of self.new)) }
     {
-        for made in 0..n {
+        let mut left = n;
+        while left > 0 {
             machines_keep_the_invariant(self);
             match self.advance_quickly() {
                 Advance::Went => {}
-                last => return Advanced { made, last },
+                last => {
+                    return Advanced {
+                        made: n - left,
+                        last,
+                    };
+                }
             }
+            left = self.make_usual_ones(left - 1);
         }
         Advanced {
             made: n,
@@ -153,7 +160,26 @@ impl Machine {
         }
     }
 
-    /// One step without its trace, first as a usual one. Where it is none, the page of its instruction is kept.
+    /// At most `n` steps, up to the first that is no usual one. How many of them are left. Instructions that call larger
+    /// functions are made elsewhere, which leaves more of the processor's registers to this loop.
+    #[inline(always)]
+    fn make_usual_ones(&mut self, n: u64) -> u64
+        ensures goes { Goes (n - result) (state_of self.old) (state_of self.new) }
+        ensures most { result ≤ n }
+    {
+        let mut left = n;
+        while left > 0 {
+            machines_keep_the_invariant(self);
+            if !self.advance_if_usual() {
+                return left;
+            }
+            left -= 1;
+        }
+        0
+    }
+
+    /// One step without its trace, first as a frequent one that calls others. Where it is none, the page of its
+    /// instruction is kept.
     #[inline(always)]
     fn advance_quickly(&mut self) -> Advance
         ensures answer { result ≢ Advance.OutOfMemory →
@@ -161,7 +187,7 @@ impl Machine {
         ensures memory { result ≡ Advance.OutOfMemory → state_of self.new ≡ state_of self.old }
         ensures there { result ≡ Advance.OutOfMemory → IsTrue (step_needs_page (state_of self.old)) }
     {
-        if self.advance_if_usual() {
+        if self.advance_if_calling() {
             return Advance::Went;
         }
         let answer = self.advance_anyhow();

@@ -11,7 +11,6 @@ use crate::Machine;
 use crate::compute::{holds, wyde_value};
 use crate::instruction::Instruction;
 use crate::operation::{Loading, Operation};
-use crate::part::loaded_value;
 use crate::usual::Usual;
 use mx_alu::{lone_result, wyde};
 
@@ -130,11 +129,7 @@ impl Machine {
         ensures { IfSome result (λ x. outcome (state_of self.now) (deed_of (Operation.Load how) (state_of self.now) i.now)
             ≡ settled (state_of self.now) (x_of i.now) x (next_of i.now)) }
     {
-        let a = self.data_address(i);
-        match self.near_octa(a) {
-            Some(octa) => Some(loaded_value(how, octa, a)),
-            None => None,
-        }
+        self.loaded_near(how, self.data_address(i))
     }
 
     /// The same, once the code is known.

@@ -1,0 +1,135 @@
+//! A machine that has no memory of its own, at the start of a program; and the exchange of memory.
+
+ghost use Rattle.std.specs.Prelude.{◌≡◌, ◌≤◌, ◌+◌, [], ◌∷◌, ℕ, IfOk, List, length};
+ghost use Rattle.mx_mmo.specs.Image.{Image};
+ghost use Rattle.mx_ring.specs.RegisterList.{list_at_start};
+ghost use Rattle.mx_ring.specs.Stack.{Stack, listed, windowed};
+ghost use Rattle.mx_ring.specs.Window.{window_at_start};
+ghost use Rattle.mx_core.specs.Bare as spec;
+ghost use Rattle.mx_core.specs.Bare.{bare_registers, globals_of, shared_at_start, shared_in, shared_of, with_shared};
+ghost use Rattle.mx_core.specs.Bounds.{as_list_state};
+ghost use Rattle.mx_core.specs.Kept.{state_of};
+ghost use Rattle.mx_core.specs.Start.{loaded, pool};
+ghost use Rattle.mx_core.specs.Started.{window_with};
+
+use crate::Machine;
+use crate::bounds::know_bounds;
+use crate::registers::set_surely;
+use crate::start::special_at_start;
+use mx_mem::Memory;
+use mx_mmo::Octas;
+use mx_ring::{Ring, RingSize};
+use mx_word::NoMemory;
+use std::alloc::Global;
+
+impl Machine {
+    /// The machine at the start of a program that stands in no memory yet: $0 and $1 have these values, $g to $255 those
+    /// of the globals, and it begins at the address that $255 has. Its memory is empty.
+    ///
+    /// Errors: out of memory, for the ring and the stack area.
+    #[tactic(auto, unfolding(crate::specs::Kept::state_of))]
+    pub fn bare(
+        alloc: Global,
+        g: u8,
+        globals: &Octas,
+        first: u64,
+        second: u64,
+        r: RingSize,
+    ) -> Result<Machine, NoMemory>
+        requires bounds { 32 ≤ g }
+        requires count { length globals.now + g ≡ 256 }
+        ensures { IfOk result (λ m.
+            state_of m ≡ spec.bare g globals.now first second (windowed (window_at_start r))) }
+    {
+        let values = globals.as_slice();
+        match bare_ring(alloc, g, values, first, second, r) {
+            Ok(ring) => Ok(Machine {
+                pc: values[255 - usize::from(g)] / 4 * 4,
+                ring,
+                memory: Memory::new(alloc),
+                special: special_at_start(),
+                mark: 0,
+                touched: false,
+                steps: 0,
+            }),
+            Err(_) => Err(NoMemory),
+        }
+    }
+
+    /// Exchanges the machine's memory, which is all but the stack area, with another. Nothing else changes. It takes no
+    /// memory, and the same time for any memory.
+    #[tactic(auto, unfolding(crate::specs::Kept::state_of))]
+    pub fn swap_memory(&mut self, memory: &mut Memory)
+        ensures state { state_of self.new ≡ with_shared (shared_in memory.old) (state_of self.old) }
+        ensures memory { shared_in memory.new ≡ shared_of (state_of self.old) }
+    {
+        self.memory.exchange(memory);
+    }
+}
+
+/// The register stack at the start, with these registers.
+fn bare_ring(
+    alloc: Global,
+    g: u8,
+    globals: &[u64],
+    first: u64,
+    second: u64,
+    r: RingSize,
+) -> Result<Ring, NoMemory>
+    requires bounds { 32 ≤ g }
+    requires count { length globals.now + g ≡ 256 }
+    ensures { IfOk result (λ w. w ≡ window_with r (bare_registers g globals.now first second)) }
+{
+    match Ring::with_size(alloc, r) {
+        Ok(ring) => Ok(with_values(ring, g, globals, first, second)),
+        Err(_) => Err(NoMemory),
+    }
+}
+
+/// A ring at the start, with these registers.
+fn with_values(ring: Ring, g: u8, globals: &[u64], first: u64, second: u64) -> Ring
+    requires begun { ring ≡ window_at_start ring.size }
+    requires bounds { 32 ≤ g }
+    requires count { length globals.now + g ≡ 256 }
+    ensures { result ≡ window_with ring.size (bare_registers g globals.now first second) }
+{
+    let mut ring = ring;
+    fill_globals(&mut ring, g, globals);
+    set_pair(&mut ring, first, second);
+    ring
+}
+
+/// $g to $255 get their values.
+fn fill_globals(ring: &mut Ring, g: u8, globals: &[u64])
+    requires begun { ring.old ≡ window_at_start ring.old.size }
+    requires bounds { 32 ≤ g }
+    requires count { length globals.now + g ≡ 256 }
+    ensures { ring.new ≡ window_with ring.old.size (record { locals = []; first_global = g; globals = globals.now }) }
+{
+    ring.set_global_start(g);
+    for k in usize::from(g)..256 {
+        set_surely(ring, k as u8, globals[k - usize::from(g)]);
+    }
+}
+
+/// $0 and $1 get their values, where no register is local yet.
+fn set_pair(ring: &mut Ring, first: u64, second: u64)
+    requires { ring.old ≡ window_with ring.old.size (record ring.old.visible { locals = [] }) }
+    ensures { ring.new ≡ window_with ring.old.size (record ring.old.visible { locals = first ∷ second ∷ [] }) }
+{
+    know_bounds(ring);
+    set_surely(ring, 0, first);
+    set_surely(ring, 1, second);
+}
+
+/// A machine that starts with arguments, before these stand in the pool, is the one with no memory that has their number in
+/// $0 and the address of their pointers in $1, with the memory of the image. Over the list that the window at the start
+/// stands for, the machine with no memory starts as that list.
+#[tactic(auto, using(crate::proofs::BareStarts::starting))]
+pub fn bare_machines_start_as_others()
+    ensures loaded { (image : Image) (count : ℕ) (stack : Stack) → image.g ≤ 255 → loaded image count stack
+        ≡ with_shared (shared_at_start image) (spec.bare image.g (globals_of image) count (pool + 8) stack) }
+    ensures listed { (g first second size : ℕ) (globals : List ℕ)
+        → spec.bare g globals first second (listed list_at_start)
+        ≡ as_list_state (spec.bare g globals first second (windowed (window_at_start size))) }
+{}
