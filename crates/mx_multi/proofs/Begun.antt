@@ -1,0 +1,54 @@
+-- The processors at the start, one after another.
+use Rattle.std.proofs.Common.{◌≡◌, ◌≤◌, ℕ, zero, suc, ◌+◌, ◌-◌, Bool, false, List, [], ◌∷◌, ◌++◌, length, map, replicate, arith, refl, sym, subst, ap, ◌∙◌}
+use Rattle.std.specs.List.{range_with_len}
+use Rattle.std.proofs.lemmas.List.{map-append, length-map, length-replicate, replicate-append-replicate}
+use Rattle.std.proofs.lemmas.List.FromFn.{map-range_with_len_more, length-map-range_with_len}
+use Rattle.mx_mmo.specs.Image.{Image}
+use Rattle.mx_core.specs.Bare.{globals_of, nothing_shared, shared_of}
+use Rattle.mx_core.specs.Kept.{Kept, state_of}
+use Rattle.mx_core.specs.State.{State}
+use Rattle.mx_multi.specs.Joint.{AllAlone}
+
+-- values of a function, from a number on
+pub built-none : (f : ℕ → ℕ) (g k : ℕ) → k ≡ g → [] ≡ map f (range_with_len g (k - g))
+built-none f g k e = let none : k - g ≡ 0 = omega (arith, e) in rw none refl
+
+pub built-more : (f : ℕ → ℕ) (g k x : ℕ) (xs : List ℕ) → xs ≡ map f (range_with_len g (k - g)) → g ≤ k → x ≡ f k → xs ++ x ∷ [] ≡ map f (range_with_len g (k + 1 - g))
+built-more f g k x xs e l v =
+    let next : k + 1 - g ≡ (k - g) + 1 = omega (arith, l) in
+    let last : g + (k - g) ≡ k = omega (arith, l) in
+    ap (λ ys. ys ++ x ∷ []) e ∙ ap (λ y. map f (range_with_len g (k - g)) ++ y ∷ []) v ∙ sym (map-range_with_len_more f g (k - g) k last) ∙ ap (λ n. map f (range_with_len g n)) (sym next)
+
+pub built-all : (f : ℕ → ℕ) (g k : ℕ) (xs : List ℕ) → xs ≡ map f (range_with_len g (k - g)) → 256 ≤ k → k ≤ 256 → xs ≡ map f (range_with_len g (256 - g))
+built-all f g k xs e l m = let all : k ≡ 256 = omega (arith, l, m) in e ∙ ap (λ j. map f (range_with_len g (j - g))) all
+
+-- machines
+pub machines-more : (f : ℕ → State) (n : ℕ) (ks : List Kept) (k : Kept) → map state_of ks ≡ map f (range_with_len 0 n) → state_of k ≡ f n → map state_of (ks ++ k ∷ []) ≡ map f (range_with_len 0 (n + 1))
+machines-more f n ks k e v =
+    let last : 0 + n ≡ n = omega arith in
+    map-append state_of ks (k ∷ []) ∙ ap (λ ss. ss ++ state_of k ∷ []) e ∙ ap (λ s. map f (range_with_len 0 n) ++ s ∷ []) v ∙ sym (map-range_with_len_more f 0 n n last)
+
+-- flags
+pub flags-more : (n : ℕ) (bs : List Bool) → bs ≡ replicate n false → bs ++ false ∷ [] ≡ replicate (n + 1) false
+flags-more n bs e = ap (λ xs. xs ++ false ∷ []) e ∙ replicate-append-replicate n 1 false
+
+pub ruleset growing = (built-none, built-more, built-all, machines-more, flags-more)
+
+-- WHAT HOLDS
+
+pub globals-count : (image : Image) → image.g ≤ 255 → length (globals_of image) + image.g ≡ 256
+globals-count image l = omega (arith, length-map-range_with_len image.global image.g (256 - image.g), l)
+
+alone-from : (f : ℕ → State) (a n : ℕ) → ((k : ℕ) → shared_of (f k) ≡ nothing_shared) → AllAlone (map f (range_with_len a n))
+alone-from f a zero h = tt
+alone-from f a (suc n) h = (h a, alone-from f (a + 1) n h)
+
+pub start-alone : (f : ℕ → State) (n : ℕ) (ss : List State) → ((k : ℕ) → shared_of (f k) ≡ nothing_shared) → ss ≡ map f (range_with_len 0 n) → AllAlone ss
+start-alone f n ss h e = subst AllAlone (sym e) (alone-from f 0 n h)
+
+pub start-count : (f : ℕ → State) (n : ℕ) (ks : List Kept) (bs : List Bool) → map state_of ks ≡ map f (range_with_len 0 n) → bs ≡ replicate n false → length bs ≡ length ks
+start-count f n ks bs e h =
+    ap (λ (xs : List Bool). length xs) h ∙ length-replicate n false ∙ sym (length-map-range_with_len f 0 n) ∙ ap (λ (ss : List State). length ss) (sym e) ∙ length-map ks state_of
+
+pub machine-count : (f : ℕ → State) (n : ℕ) (ks : List Kept) → map state_of ks ≡ map f (range_with_len 0 n) → length ks ≡ n
+machine-count f n ks e = sym (length-map ks state_of) ∙ ap (λ (ss : List State). length ss) e ∙ length-map-range_with_len f 0 n

@@ -1,0 +1,12 @@
+pub mod Begun
+pub mod Exchanges
+pub mod Places
+pub mod TurnComes
+pub mod Schedules
+pub mod TurnPlans
+pub mod HeldTurns
+pub mod Followed
+pub mod StepSums
+pub mod Named
+pub mod ListStarts
+pub mod Folded

@@ -1,0 +1,93 @@
+-- The words of clauses over several processors and a host. `old` and `new` are what the host told before and after, `before`
+-- and `after` the processors.
+use Rattle.std.specs.Prelude.{ℕ, zero, suc, ◌≡◌, ◌≢◌, ◌≤◌, ◌+◌, ◌%◌, ◌^◌, IsTrue, Bool, true, false, List, length, Option, Result, Ok, Err}
+use Rattle.mx_word.specs.Lists.{IsFront}
+use Rattle.mx_host.specs.HostModel.{HostModel, tells, contents}
+use Rattle.mx_plan.specs.Plan.{Comes}
+use Rattle.mx_run.specs.WildRuns.{list_machine}
+use Rattle.mx_multi.specs.Joint.{Joint, NoneTouched, as_list_joint, processor}
+use Rattle.mx_multi.specs.JointTurns.{turn_of, is_wild_turn}
+use Rattle.mx_multi.specs.MultiPlans.{MultiPlan, multi}
+use Rattle.mx_multi.specs.Turns.{TurnsEnd, turns_ended, turns_wild, turn_by}
+use Rattle.mx_multi.specs.declared.turn.Turn.{Turn}
+use Rattle.mx_multi.specs.declared.turn.Turn.TheVariants as turned
+use Rattle.mx_multi.specs.declared.end.MultiEnd.{MultiEnd}
+use Rattle.mx_multi.specs.declared.end.MultiEnd.TheVariants as end
+
+-- Over a host that tells its contents, the plan is carried out: unless the answer is `none`, which is that of no memory, the
+-- answer, the processors and the contents are its end; where it is, the turns that were completed stay, and of one that lacked
+-- memory what it leaves then; nothing else changed.
+abbrev pub CarriesOutTurns : {A : Type 0} → Option HostModel → Option HostModel → Joint → Joint → A → A → MultiPlan A → Type 0
+CarriesOutTurns old new before after none result plan =
+    IsTrue (tells old) → Comes multi (before, contents old) (after, contents new) none result plan
+
+-- BESIDE LIST MACHINES
+
+-- one turn beside that of list machines on one memory: where it is wild, what stood on standard output still does; else it
+-- answers and leaves the same, and nothing touched
+abbrev pub TurnGoesAsLists : Bool → ℕ → Joint → HostModel → Turn → Joint → HostModel → Type 0
+TurnGoesAsLists true who j m result after n = IsFront m.output n.output
+TurnGoesAsLists false who j m result after n =
+    ((result, (as_list_joint after, n)) ≡ turn_of who (j, m)) × NoneTouched after.processors
+
+-- over a host that tells its contents, from processors where nothing was touched
+abbrev pub TurnsAsLists : Option HostModel → Option HostModel → Joint → Joint → ℕ → Turn → Type 0
+TurnsAsLists old new before after who result =
+    IsTrue (tells old) → result ≢ turned.OutOfMemory → NoneTouched before.processors →
+    TurnGoesAsLists (is_wild_turn who (as_list_joint before)) who (as_list_joint before) (contents old) result after (contents new)
+
+-- turns by a schedule beside those of list machines on one memory: they end as those, with the lists that the register stacks
+-- then stand for and nothing touched; or, where those meet a wild turn, they begin by writing what those had written
+abbrev pub GoAsLists : TurnsEnd → MultiEnd → Joint → HostModel → Type 0
+GoAsLists (turns_ended end j m) result after n = (end ≡ result) × (as_list_joint after ≡ j) × (n ≡ m) × NoneTouched after.processors
+GoAsLists (turns_wild m) result after n = IsFront m.output n.output
+
+abbrev pub EndAsLists : Option HostModel → Option HostModel → Joint → Joint → MultiEnd → (Joint → HostModel → TurnsEnd) → Type 0
+EndAsLists old new before after result f =
+    IsTrue (tells old) → result ≢ end.OutOfMemory → NoneTouched before.processors →
+    GoAsLists (f (as_list_joint before) (contents old)) result after (contents new)
+
+-- over a host that tells its contents, the answer, the processors and the contents are those of the turns f, unless there was
+-- no memory
+abbrev pub EndAs : Option HostModel → Option HostModel → Joint → Joint → MultiEnd → (Joint → HostModel → TurnsEnd) → Type 0
+EndAs old new before after result f =
+    IsTrue (tells old) → result ≢ end.OutOfMemory → turns_ended result after (contents new) ≡ f before (contents old)
+
+-- over a host that tells its contents, a turn answers and leaves what it should, unless there was no memory
+abbrev pub TurnsTo : Option HostModel → Option HostModel → Joint → Joint → ℕ → Turn → Type 0
+TurnsTo old new before after who result =
+    IsTrue (tells old) → result ≢ turned.OutOfMemory → (result, (after, contents new)) ≡ turn_of who (before, contents old)
+
+-- COUNTS
+
+-- the sum of what a function gives below a number
+abbrev pub sum_below : ℕ → (ℕ → ℕ) → ℕ
+sum_below zero f = 0
+sum_below (suc n) f = sum_below n f + f n
+
+-- whatever the host tells: there are as many processors, and their counts of steps, which are modulo 2^64, are up to n more in
+-- all
+pub record MakesAtMost (n : ℕ) (old new : Joint) : Type 0 where
+  pub same : length new.processors ≡ length old.processors
+  pub made : ℕ → ℕ
+  pub few : sum_below (length old.processors) made ≤ n
+  pub counted : (who : ℕ) → (processor new who).steps % 2 ^ 64 ≡ ((processor old who).steps + made who) % 2 ^ 64
+
+-- ON THE WAY
+
+-- turns of list machines, as a whole and from processors on: nothing was touched, and the rest goes on from the lists that
+-- their register stacks stand for; or a wild turn was met, and what was written then still stands
+pub data Beside (whole rest : TurnsEnd) (j : Joint) (m : HostModel) : Type 0 where
+  as_lists : NoneTouched j.processors → whole ≡ rest → Beside whole rest j m
+  was_wild : (h : HostModel) → whole ≡ turns_wild h → IsFront h.output m.output → Beside whole rest j m
+
+-- the same of what a turn of the schedule comes to
+abbrev pub Follows : TurnsEnd → (List ℕ → Joint → HostModel → TurnsEnd) → Result (List ℕ) MultiEnd → Joint → HostModel → Type 0
+Follows whole more (Ok rest) after n = Beside whole (more rest (as_list_joint after) n) after n
+Follows whole more (Err end) after n = GoAsLists whole end after n
+
+-- over a host that tells its contents, from processors where nothing was touched, the next turn as that of list machines
+abbrev pub FollowsLists : Option HostModel → Option HostModel → Joint → Joint → Result (List ℕ) MultiEnd → Option (ℕ × List ℕ) → Type 0
+FollowsLists old new before after result next =
+    (more : List ℕ → Joint → HostModel → TurnsEnd) → IsTrue (tells old) → result ≢ Err end.OutOfMemory → NoneTouched before.processors →
+    Follows (turn_by list_machine more (as_list_joint before) (contents old) next) more result after (contents new)

@@ -1,0 +1,31 @@
+//! What holds of several processors over their definitions alone.
+
+ghost use Rattle.std.specs.Prelude.{◌≡◌, ℕ, List, [], ◌∷◌};
+ghost use Rattle.mx_host.specs.HostModel.{HostModel};
+ghost use Rattle.mx_mmo.specs.Image.{Image};
+ghost use Rattle.mx_ring.specs.RegisterList.{list_at_start};
+ghost use Rattle.mx_ring.specs.Stack.{Stack, listed, windowed};
+ghost use Rattle.mx_ring.specs.Window.{window_at_start};
+ghost use Rattle.mx_run.specs.WildRuns.{window_machine};
+ghost use Rattle.mx_multi.specs.Folds.{FoldsFrom};
+ghost use Rattle.mx_multi.specs.Joint.{Joint, NoneTouched, as_list_joint, started};
+ghost use Rattle.mx_multi.specs.Turns.{turns, turns_ended};
+ghost use Rattle.mx_multi.specs.declared.end.MultiEnd.{MultiEnd};
+
+/// Processors start over the lists that their register stacks at the start stand for, and none is touched.
+#[tactic(auto, using(crate::proofs::ListStarts::starting))]
+pub fn processors_start_as_lists()
+    ensures listed { (image : Image) (count size : ℕ) → started image count (listed list_at_start)
+        ≡ as_list_joint (started image count (windowed (window_at_start size))) }
+    ensures untouched { (image : Image) (count : ℕ) (stack : Stack)
+        → NoneTouched (started image count stack).processors }
+{}
+
+/// Turns by a schedule are a fold of the schedule that is repeated from its beginning: turns of processors that have halted
+/// do nothing and are no steps.
+#[tactic(auto, using(crate::proofs::Folded::folding))]
+pub fn turns_fold_the_schedule()
+    ensures { (schedule : List ℕ) (n : ℕ) (j k : Joint) (m h : HostModel) (end : MultiEnd)
+        → turns window_machine schedule n schedule j m ≡ turns_ended end k h
+        → FoldsFrom schedule schedule n end (j, m) (k, h) }
+{}
