@@ -10,7 +10,7 @@ use Rattle.mx_watch.specs.Hearing.{never_full, after, remains, reported, reports
 use Rattle.mx_watch.specs.declared.telling.Report.{Report}
 
 module _ {X A : Type 0} (F G : X → List A) where
-  same_parts : ((x : X) → F x ≡ G x) → (xs : List X) → flat_map F xs ≡ flat_map G xs
+  pub same_parts : ((x : X) → F x ≡ G x) → (xs : List X) → flat_map F xs ≡ flat_map G xs
   same_parts e [] = refl
   same_parts e (x ∷ xs) = ap (λ l. l ++ flat_map F xs) (e x) ∙ ap (λ l. G x ++ l) (same_parts e xs)
 
@@ -54,7 +54,7 @@ reported-more t ts k w =
     one-reported (w.1.full (t ∷ [])) (never_full (λ h. w.1.full (t ∷ h)) (take k ts)) d r (w.0, later t w.1) (reported ts k) refl
     ∙ ap (λ b. cond (b && d) (r ∷ []) []) (sym (never-more w.1.full t (take k ts)))
 
-all-remain : (ws : List (ℕ × Watching)) → flat_map (remains []) ws ≡ ws
+pub all-remain : (ws : List (ℕ × Watching)) → flat_map (remains []) ws ≡ ws
 all-remain [] = refl
 all-remain (w ∷ ws) = ap (λ l. w ∷ l) (all-remain ws)
 

@@ -14,3 +14,5 @@ pub mod Listened
 pub mod ListTraces
 pub mod Watched
 pub mod Remembered
+pub mod AllReported
+pub mod HeardBy

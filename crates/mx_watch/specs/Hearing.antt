@@ -36,6 +36,10 @@ pub record Hears (h : List Trace) (watchers left : List Watching) (earlier later
   pub staying : left ≡ map (λ w. w.1) (flat_map (remains h) (placed watchers))
   pub reports : later ≡ earlier ++ reports_in_turn h (placed watchers)
 
+-- so it is as a function
+unfoldable pub heard_by : List Trace → List Watching → List Report → List Watching × List Report
+heard_by h watchers earlier = (map (λ w. w.1) (flat_map (remains h) (placed watchers)), earlier ++ reports_in_turn h (placed watchers))
+
 -- what one hears of traces: the shortest front of one trace or more that is full, and all of them where none is
 unfoldable pub heard : (List Trace → Bool) → List Trace → List Trace
 heard full [] = []

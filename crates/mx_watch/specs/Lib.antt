@@ -4,5 +4,6 @@ pub mod Covers
 pub mod Writings
 pub mod Listening
 pub mod Hearing
+pub mod Reporting
 pub mod Traces
 pub mod WatchedRuns

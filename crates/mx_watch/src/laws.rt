@@ -1,15 +1,17 @@
 //! What the three watchers come to, in words of the traces alone.
 
 ghost use Rattle.std.specs.Prelude.{◌≡◌, ◌<◌, ◌-◌, ◌^◌, ◌↔◌, ◌++◌, ℕ, suc, Bool, true, List, [], length, min, replicate, slice_index, take};
-ghost use Rattle.std.specs.List.{Contains, flat_map};
+ghost use Rattle.std.specs.List.{Contains, flat_map, range_with_len};
 ghost use Rattle.std.specs.List.Sorted.{IsStrictlySortedBy};
 ghost use Rattle.std.specs.Ordering.{nat_cmp};
 ghost use Rattle.mx_core.specs.declared.trace.Trace.{Trace};
 ghost use Rattle.mx_watch.specs.Covers.{addresses_after, addresses_of};
-ghost use Rattle.mx_watch.specs.Hearing.{heard, never_full, remains, reported, reported_heard, reports_in_turn};
+ghost use Rattle.mx_watch.specs.Hearing.{Hears, heard, never_full, remains, reported, reported_heard, reports_in_turn};
 ghost use Rattle.mx_watch.specs.Listening.{Listening, watched};
 ghost use Rattle.mx_watch.specs.Profiles.{counts_after, occurrences};
+ghost use Rattle.mx_watch.specs.Reporting.{in_places, reports_on, texts_now};
 ghost use Rattle.mx_watch.specs.Watching.{Watching};
+ghost use Rattle.mx_watch.specs.declared.telling.Report.{Report};
 ghost use Rattle.mx_watch.specs.Writings.{write_of, writes_after};
 
 /// A new profile counts how many of the traces have a code, up to 2^64 - 1.
@@ -51,4 +53,12 @@ pub fn reports_are_on_what_was_heard()
         → never_full full (take k h) ≡ true → full (take (suc k) h) ≡ true → heard full h ≡ take (suc k) h }
     ensures reports { (h : List Trace) (k : ℕ) (w : ℕ × Watching) → k < length h
         → reported h k w ≡ reported_heard h k w }
+{}
+
+/// Of watchers that were told traces, those that are kept and those that are left together give the report of each on
+/// what it heard, in the order of the list at the start.
+#[tactic(auto, using(crate::proofs::AllReported::all_reported))]
+pub fn all_are_reported_in_order()
+    ensures { (h : List Trace) (watchers left : List Watching) (kept : List Report) → Hears h watchers left [] kept →
+        in_places (range_with_len 0 (length watchers)) kept (texts_now left) ≡ reports_on h watchers }
 {}

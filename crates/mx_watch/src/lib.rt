@@ -5,6 +5,7 @@ mod cover;
 mod laws;
 mod numbers;
 mod profile;
+mod reporting;
 mod running;
 mod telling;
 mod watcher;
@@ -13,10 +14,11 @@ mod writes;
 
 pub use cover::Cover;
 pub use laws::{
-    addresses_stand_once, codes_are_counted, each_hears_its_front, reports_are_on_what_was_heard,
-    writes_stand_in_turn,
+    addresses_stand_once, all_are_reported_in_order, codes_are_counted, each_hears_its_front,
+    reports_are_on_what_was_heard, writes_stand_in_turn,
 };
 pub use profile::Profile;
+pub use reporting::{Texts, all_reports};
 pub use running::watched_run;
 pub use telling::{Report, Reports};
 pub use watcher::{Watcher, Wish};

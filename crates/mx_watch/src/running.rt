@@ -22,7 +22,7 @@ use std::alloc::Global;
 
 /// Makes at most n steps of a machine over a host, with no flags, and tells watchers the trace of each that goes on, to
 /// all of them in order. One that is full is told nothing more: it leaves the list, and its report is kept, with the
-/// index that it had in the list at the start. Answers the end of the run and the watchers that are left.
+/// index that it had in the list at the start.
 ///
 /// The watchers change nothing: end, machine and host are those of the run alone. Out of memory, where a step lacked
 /// it, they are as the run leaves them then; where a watcher or a report lacked it, the steps up to there were made,
@@ -32,22 +32,22 @@ pub fn watched_run<H: Host>(
     machine: &mut Machine,
     host: &mut H,
     n: u64,
-    watchers: Vec<Box<dyn Watcher>>,
+    watchers: &mut Vec<Box<dyn Watcher>>,
     kept: &mut Reports,
-) -> (End, Vec<Box<dyn Watcher>>)
+) -> End
     ensures plan { CarriesOutWatched (H.told host.old) (H.told host.new) (state_of machine.old) (state_of machine.new)
-        n result.0 }
-    ensures spared { watchers.items ≡ [] → SparesMemory n (state_of machine.old) → result.0 ≢ End.OutOfMemory }
-    ensures told { EndsAs (H.told host.old) (H.told host.new) (state_of machine.old) (state_of machine.new) result.0
+        n result }
+    ensures spared { watchers.old.items ≡ [] → SparesMemory n (state_of machine.old) → result ≢ End.OutOfMemory }
+    ensures told { EndsAs (H.told host.old) (H.told host.new) (state_of machine.old) (state_of machine.new) result
         (λ s m. run n no_flags false s m) }
-    ensures front { EndsFront (H.told host.old) (H.told host.new) (state_of machine.old) result.0
+    ensures front { EndsFront (H.told host.old) (H.told host.new) (state_of machine.old) result
         (λ s m. run n no_flags false s m) }
     ensures listed { EndsAsList (H.told host.old) (H.told host.new) (state_of machine.old) (state_of machine.new)
-        result.0 (λ s m. run_by list_machine n no_flags false s m) }
-    ensures heard { HearsRun (H.told host.old) (state_of machine.old) n result.0
-        (map meaning watchers.items) (map meaning result.1.items) kept.old kept.new }
-    ensures list_heard { HearsAsList (H.told host.old) (state_of machine.old) n result.0
-        (map meaning watchers.items) (map meaning result.1.items) kept.old kept.new }
+        result (λ s m. run_by list_machine n no_flags false s m) }
+    ensures heard { HearsRun (H.told host.old) (state_of machine.old) n result
+        (map meaning watchers.old.items) (map meaning watchers.new.items) kept.old kept.new }
+    ensures list_heard { HearsAsList (H.told host.old) (state_of machine.old) n result
+        (map meaning watchers.old.items) (map meaning watchers.new.items) kept.old kept.new }
     ensures bound { IsLater n (state_of machine.old) (state_of machine.new) }
     ensures keeps { Keeps (H.told host.old) (H.told host.new) (H.faults host.old) (H.faults host.new) }
 {
@@ -60,32 +60,30 @@ fn run_watched<H: Host>(
     machine: &mut Machine,
     host: &mut H,
     n: u64,
-    watchers: Vec<Box<dyn Watcher>>,
+    watchers: &mut Vec<Box<dyn Watcher>>,
     kept: &mut Reports,
-) -> (End, Vec<Box<dyn Watcher>>)
+) -> End
     ensures told { CarriesOutWatched (H.told host.old) (H.told host.new) (state_of machine.old) (state_of machine.new)
-        n result.0 }
+        n result }
     ensures listed { EndsAsList (H.told host.old) (H.told host.new) (state_of machine.old) (state_of machine.new)
-        result.0 (λ s m. run_by list_machine n no_flags false s m) }
-    ensures heard { HearsRun (H.told host.old) (state_of machine.old) n result.0
-        (map meaning watchers.items) (map meaning result.1.items) kept.old kept.new }
-    ensures list_heard { HearsAsList (H.told host.old) (state_of machine.old) n result.0
-        (map meaning watchers.items) (map meaning result.1.items) kept.old kept.new }
-    ensures spared { watchers.items ≡ [] → SparesMemory n (state_of machine.old) → result.0 ≢ End.OutOfMemory }
+        result (λ s m. run_by list_machine n no_flags false s m) }
+    ensures heard { HearsRun (H.told host.old) (state_of machine.old) n result
+        (map meaning watchers.old.items) (map meaning watchers.new.items) kept.old kept.new }
+    ensures list_heard { HearsAsList (H.told host.old) (state_of machine.old) n result
+        (map meaning watchers.old.items) (map meaning watchers.new.items) kept.old kept.new }
+    ensures spared { watchers.old.items ≡ [] → SparesMemory n (state_of machine.old) → result ≢ End.OutOfMemory }
     ensures bound { IsLater n (state_of machine.old) (state_of machine.new) }
     ensures stands { Stands (H.told host.old) (H.told host.new) (H.faults host.old) (H.faults host.new) }
 {
     if watchers.is_empty() {
-        return (run_freely(alloc, machine, host, n), watchers);
+        return run_freely(alloc, machine, host, n);
     }
-    let mut left = watchers;
-    match first_places(alloc, left.len()) {
+    match first_places(alloc, watchers.len()) {
         Ok(places) => {
             let mut places = places;
-            let end = listen(alloc, machine, host, n, &mut left, &mut places, kept);
-            (end, left)
+            listen(alloc, machine, host, n, watchers, &mut places, kept)
         }
-        Err(_) => (End::OutOfMemory, left),
+        Err(_) => End::OutOfMemory,
     }
 }
 

@@ -50,7 +50,7 @@ fn tell_at(watchers: &mut Vec<Box<dyn Watcher>>, at: usize, t: &Trace) -> Result
 }
 
 /// The report of the watcher at an index.
-fn report_at(watchers: &Vec<Box<dyn Watcher>>, at: usize) -> Result<Bytes, NoMemory>
+pub(crate) fn report_at(watchers: &Vec<Box<dyn Watcher>>, at: usize) -> Result<Bytes, NoMemory>
     requires { at < length watchers.now.items }
     ensures { (d : Watching) → IfOk result (λ b. b ≡ (slice_index_or (map meaning watchers.now.items) at d).text []) }
 {

@@ -2,11 +2,11 @@
 use Rattle.std.proofs.Common.{◌≡◌, ℕ, ◌+◌, ◌≤◌, ◌<◌, List, [], ◌∷◌, map, length, drop, refl, sym, ap, arith, Ok, Err, ◌⊎◌, inl, inr}
 use Rattle.std.proofs.lemmas.List.{length-drop, length-map}
 use Rattle.mx_words.specs.Values.{Word}
-use Rattle.mx_words.specs.Orders.{fault, asm_order, run_order, object_behind, none_behind}
+use Rattle.mx_words.specs.Orders.{fault, asm_order, multi_order, run_order, object_behind, processors_behind, none_behind}
 use Rattle.mx_words.specs.Files.{behind}
 use Rattle.mx_words.specs.declared.order.Command.{Command}
 use Rattle.mx_words.specs.declared.order.Order.{Order}
-use Rattle.mx_words.specs.declared.order.Command.TheVariants.{Run, Sim, Asm, Show}
+use Rattle.mx_words.specs.declared.order.Command.TheVariants.{Run, Sim, Asm, Show, Multi}
 use Rattle.mx_words.specs.declared.settings.Settings.{Settings}
 use Rattle.mx_words.proofs.Chosen.{behind-word}
 use Rattle.mx_words.proofs.Places.{word-at, no-word}
@@ -20,6 +20,16 @@ two-words : (s : Settings) (p : ℕ) (ws : List Word) → 2 ≤ length ws → ob
 two-words s p [] lt = absurd (omega arith)
 two-words s p (w ∷ []) lt = absurd (omega arith)
 two-words s p (w ∷ v ∷ ws) lt = refl
+
+one-program : (s : Settings) (p : ℕ) (ws : List Word) → length ws ≡ 1 → processors_behind s p ws ≡ Ok (multi_order s p)
+one-program s p [] is = absurd (omega arith)
+one-program s p (w ∷ []) is = refl
+one-program s p (w ∷ v ∷ ws) is = absurd (omega arith)
+
+two-programs : (s : Settings) (p : ℕ) (ws : List Word) → 2 ≤ length ws → processors_behind s p ws ≡ Err (fault 8 (p + 2))
+two-programs s p [] lt = absurd (omega arith)
+two-programs s p (w ∷ []) lt = absurd (omega arith)
+two-programs s p (w ∷ v ∷ ws) lt = refl
 
 some-word : (o : Order) (p : ℕ) (ws : List Word) → 1 ≤ length ws → none_behind o p ws ≡ Err (fault 8 (p + 1))
 some-word o p [] lt = absurd (omega arith)
@@ -35,6 +45,12 @@ module _ {A : Type 0} (f : A → Word) where
   pub object-followed : (s : Settings) (p : ℕ) (xs : List A) → p + 2 < length xs → Err (fault 8 (p + 2)) ≡ object_behind s p (drop (p + 1) (map f xs))
   object-followed s p xs lt = sym (two-words s p _ (omega (arith, lt, left xs (p + 1) (omega arith))))
 
+  pub program-alone : (s : Settings) (p : ℕ) (xs : List A) → length xs ≡ p + 2 → Ok (multi_order s p) ≡ processors_behind s p (drop (p + 1) (map f xs))
+  program-alone s p xs is = sym (one-program s p _ (omega (arith, is, left xs (p + 1) (omega arith))))
+
+  pub program-followed : (s : Settings) (p : ℕ) (xs : List A) → p + 2 < length xs → Err (fault 8 (p + 2)) ≡ processors_behind s p (drop (p + 1) (map f xs))
+  program-followed s p xs lt = sym (two-programs s p _ (omega (arith, lt, left xs (p + 1) (omega arith))))
+
   pub one-followed : (o : Order) (p : ℕ) (xs : List A) → p + 1 < length xs → Err (fault 8 (p + 1)) ≡ none_behind o p (drop (p + 1) (map f xs))
   one-followed o p xs lt = sym (some-word o p _ (omega (arith, lt, left xs (p + 1) (omega arith))))
 
@@ -45,6 +61,14 @@ module _ {A : Type 0} (f : A → Word) where
       first : (ws : List Word) → drop p (map f xs) ≡ ws → object_behind s p (drop (p + 1) (map f xs)) ≡ behind Asm s p ws
       first [] is = absurd (omega (arith, lt, left xs p (omega arith), ap length is))
       first (w ∷ ws) is = ap (object_behind s p) (behind-word (map f xs) p w ws is)
+
+  pub behind-multi : (s : Settings) (p : ℕ) (xs : List A) → p < length xs →
+      processors_behind s p (drop (p + 1) (map f xs)) ≡ behind Multi s p (drop p (map f xs))
+  behind-multi s p xs lt = first (drop p (map f xs)) refl
+    where
+      first : (ws : List Word) → drop p (map f xs) ≡ ws → processors_behind s p (drop (p + 1) (map f xs)) ≡ behind Multi s p ws
+      first [] is = absurd (omega (arith, lt, left xs p (omega arith), ap length is))
+      first (w ∷ ws) is = ap (processors_behind s p) (behind-word (map f xs) p w ws is)
 
   pub behind-show : (s : Settings) (p : ℕ) (xs : List A) → p < length xs →
       none_behind (run_order Show s p) p (drop (p + 1) (map f xs)) ≡ behind Show s p (drop p (map f xs))
@@ -62,4 +86,4 @@ module _ {A : Type 0} (f : A → Word) where
       first (w ∷ ws) some (inl is) = rw is refl
       first (w ∷ ws) some (inr is) = rw is refl
 
-pub ruleset behinds = (word-at, no-word, object-alone, object-followed, one-followed, behind-asm, behind-run, behind-show)
+pub ruleset behinds = (word-at, no-word, object-alone, object-followed, program-alone, program-followed, one-followed, behind-asm, behind-run, behind-show, behind-multi)

@@ -2,8 +2,8 @@
 use Rattle.std.proofs.Common.{◌≡◌, ℕ, ◌+◌, Bool, true, false, cond, List, [], ◌∷◌, drop, refl, sym, ◌∙◌, ap, Result, Ok, Err, arith}
 use Rattle.std.proofs.lemmas.List.{drop-drop}
 use Rattle.mx_words.specs.Values.{Word, is_option, ring_value, steps_value}
-use Rattle.mx_words.specs.Orders.{Ordered, fault, is_console, is_dump, is_ring, is_steps, with_ring, with_steps, valued, options_from, file_at}
-use Rattle.mx_words.specs.OneOption.{Read, set, option_read}
+use Rattle.mx_words.specs.Orders.{Ordered, fault, unless, is_console, is_report, is_dump, is_ring, is_steps, with_console, with_report, with_ring, with_steps, valued, options_from, file_at}
+use Rattle.mx_words.specs.OneOption.{Read, set, set_unless, option_read}
 use Rattle.mx_words.specs.declared.order.Command.{Command}
 use Rattle.mx_words.specs.declared.settings.Settings.{Settings}
 
@@ -18,15 +18,22 @@ value-followed : (c : Command) (all : List Word) (v : Result ℕ ℕ) (place nex
 value-followed c all (Err kind) place next with_value words is rest = refl
 value-followed c all (Ok n) place next with_value words is rest = rw (rest, is) refl
 
+-- an option that may clash with one before it, and what follows it
+unless-followed : (c : Command) (all : List Word) (clashes : Bool) (place : ℕ) (s : Settings) (more : Ordered) → more ≡ options_from c s (place + 1) (drop (place + 1) all) →
+    unless clashes place more ≡ followed c all (set_unless clashes place s)
+unless-followed c all true place s more is = refl
+unless-followed c all false place s more is = is
+
 -- the choice among the options, with a word behind
-chosen : (c : Command) (all : List Word) (i d r t : Bool) (played dumped ringed stepped unknown : Read) (g a b e f : Ordered) →
-    g ≡ followed c all played → a ≡ followed c all dumped → b ≡ followed c all ringed → e ≡ followed c all stepped → f ≡ followed c all unknown →
-    cond i g (cond d a (cond r b (cond t e f))) ≡ followed c all (cond i played (cond d dumped (cond r ringed (cond t stepped unknown))))
-chosen c all true d r t played dumped ringed stepped unknown g a b e f hg ha hb he hf = hg
-chosen c all false true r t played dumped ringed stepped unknown g a b e f hg ha hb he hf = ha
-chosen c all false false true t played dumped ringed stepped unknown g a b e f hg ha hb he hf = hb
-chosen c all false false false true played dumped ringed stepped unknown g a b e f hg ha hb he hf = he
-chosen c all false false false false played dumped ringed stepped unknown g a b e f hg ha hb he hf = hf
+chosen : (c : Command) (all : List Word) (i w d r t : Bool) (played told dumped ringed stepped unknown : Read) (g h a b e f : Ordered) →
+    g ≡ followed c all played → h ≡ followed c all told → a ≡ followed c all dumped → b ≡ followed c all ringed → e ≡ followed c all stepped → f ≡ followed c all unknown →
+    cond i g (cond w h (cond d a (cond r b (cond t e f)))) ≡ followed c all (cond i played (cond w told (cond d dumped (cond r ringed (cond t stepped unknown)))))
+chosen c all true w d r t played told dumped ringed stepped unknown g h a b e f hg hh ha hb he hf = hg
+chosen c all false true d r t played told dumped ringed stepped unknown g h a b e f hg hh ha hb he hf = hh
+chosen c all false false true r t played told dumped ringed stepped unknown g h a b e f hg hh ha hb he hf = ha
+chosen c all false false false true t played told dumped ringed stepped unknown g h a b e f hg hh ha hb he hf = hb
+chosen c all false false false false true played told dumped ringed stepped unknown g h a b e f hg hh ha hb he hf = he
+chosen c all false false false false false played told dumped ringed stepped unknown g h a b e f hg hh ha hb he hf = hf
 
 -- the words behind a word
 pub behind-word : (all : List Word) (p : ℕ) (word : Word) (words : List Word) → drop p all ≡ word ∷ words → drop (p + 1) all ≡ words
@@ -39,11 +46,15 @@ pub option-followed : (c : Command) (all : List Word) (s : Settings) (p : ℕ) (
 unfolding options_from
 option-followed c all s p word [] rest dash =
     let none : drop (p + 1) all ≡ [] = behind-word all p word [] rest in
-    rw dash (chosen c all (is_console c word) (is_dump c word) (is_ring c word) (is_steps c word) _ _ _ _ _ _ _ _ _ _ (rw none refl) (rw none refl) refl refl refl)
+    rw dash (chosen c all (is_console c word) (is_report c word) (is_dump c word) (is_ring c word) (is_steps c word) _ _ _ _ _ _ _ _ _ _ _ _
+    (unless-followed c all s.report p (with_console s) _ (rw none refl))
+    (unless-followed c all s.interactive p (with_report s) _ (rw none refl)) (rw none refl) refl refl refl)
 option-followed c all s p word (value ∷ words) rest dash =
     let more : drop (p + 1) all ≡ value ∷ words = behind-word all p word (value ∷ words) rest in
     let others : drop (p + 1 + 1) all ≡ words = behind-word all (p + 1) value words more in
-    rw dash (chosen c all (is_console c word) (is_dump c word) (is_ring c word) (is_steps c word) _ _ _ _ _ _ _ _ _ _ (rw more refl) (rw more refl)
+    rw dash (chosen c all (is_console c word) (is_report c word) (is_dump c word) (is_ring c word) (is_steps c word) _ _ _ _ _ _ _ _ _ _ _ _
+    (unless-followed c all s.report p (with_console s) _ (rw more refl))
+    (unless-followed c all s.interactive p (with_report s) _ (rw more refl)) (rw more refl)
     (value-followed c all (ring_value value) (p + 1) (p + 2) (with_ring s) words (omega arith) others)
     (value-followed c all (steps_value value) (p + 1) (p + 2) (with_steps s) words (omega arith) others) refl)
 

@@ -1,24 +1,39 @@
 -- The words of the grammar are read as their order.
-use Rattle.std.proofs.Common.{◌≡◌, ℕ, ◌+◌, true, List, [], ◌∷◌, ◌++◌, length, refl, ◌∙◌, ap, arith, Ok, codes}
+use Rattle.std.proofs.Common.{◌≡◌, ℕ, ◌+◌, Bool, true, false, List, [], ◌∷◌, ◌++◌, length, refl, ◌∙◌, ap, arith, Ok, codes}
 use Rattle.mx_words.specs.Values.{Word, ring_value, steps_value}
-use Rattle.mx_words.specs.Orders.{runs_file, takes_ring, defaults, with_console, with_dump, with_ring, with_steps, valued, options_from, order_of, blocks_at}
-use Rattle.mx_words.specs.Usage.{Options, Orders, none, console, dump, ring, steps, run, sim, asm, gen, list}
+use Rattle.mx_words.specs.Orders.{Ordered, runs_file, takes_ring, takes_steps, defaults, with_console, with_report, with_dump, with_ring, with_steps, unless, valued, options_from, order_of, blocks_at}
+use Rattle.mx_words.specs.Usage.{Options, Orders, none, console, report, dump, ring, steps, run, sim, asm, gen, list, multi}
 use Rattle.mx_words.specs.declared.order.Command.{Command}
-use Rattle.mx_words.specs.declared.order.Command.TheVariants.{Run, Sim, Asm, Gen, Show}
+use Rattle.mx_words.specs.declared.order.Command.TheVariants.{Run, Sim, Asm, Gen, Show, Multi}
 use Rattle.mx_words.specs.declared.order.Order.{Order}
 use Rattle.mx_words.specs.declared.settings.Settings.{Settings}
 use Rattle.mx_words.proofs.Chosen.{not-option}
 
+no-clash : (clashes : Bool) (p : ℕ) (more : Ordered) → clashes ≡ false → unless clashes p more ≡ more
+no-clash true p more is = absurd (cc is)
+no-clash false p more is = refl
+
 console-step : (c : Command) (s : Settings) (p : ℕ) (word : Word) (words : List Word) → runs_file c ≡ true →
-    options_from c s p (codes "-i" ∷ word ∷ words) ≡ options_from c (with_console s) (p + 1) (word ∷ words)
+    options_from c s p (codes "-i" ∷ word ∷ words) ≡ unless s.report p (options_from c (with_console s) (p + 1) (word ∷ words))
 unfolding options_from
 console-step Run s p word words is = refl
 console-step Sim s p word words is = refl
 console-step Asm s p word words is = cc is
 console-step Gen s p word words is = cc is
 console-step Show s p word words is = cc is
+console-step Multi s p word words is = cc is
 
-dump-step : (c : Command) (s : Settings) (p : ℕ) (word : Word) (words : List Word) → runs_file c ≡ true →
+report-step : (c : Command) (s : Settings) (p : ℕ) (word : Word) (words : List Word) → runs_file c ≡ true →
+    options_from c s p (codes "--report" ∷ word ∷ words) ≡ unless s.interactive p (options_from c (with_report s) (p + 1) (word ∷ words))
+unfolding options_from
+report-step Run s p word words is = refl
+report-step Sim s p word words is = refl
+report-step Asm s p word words is = cc is
+report-step Gen s p word words is = cc is
+report-step Show s p word words is = cc is
+report-step Multi s p word words is = cc is
+
+dump-step : (c : Command) (s : Settings) (p : ℕ) (word : Word) (words : List Word) → takes_steps c ≡ true →
     options_from c s p (codes "--dump" ∷ word ∷ words) ≡ options_from c (with_dump s) (p + 1) (word ∷ words)
 unfolding options_from
 dump-step Run s p word words is = refl
@@ -26,6 +41,7 @@ dump-step Sim s p word words is = refl
 dump-step Asm s p word words is = cc is
 dump-step Gen s p word words is = cc is
 dump-step Show s p word words is = cc is
+dump-step Multi s p word words is = refl
 
 ring-step : (c : Command) (s : Settings) (p : ℕ) (value : Word) (words : List Word) → takes_ring c ≡ true →
     options_from c s p (codes "--ring" ∷ value ∷ words) ≡ valued (ring_value value) (p + 1) (λ n. options_from c (with_ring s n) (p + 2) words)
@@ -35,8 +51,9 @@ ring-step Sim s p value words is = refl
 ring-step Asm s p value words is = cc is
 ring-step Gen s p value words is = refl
 ring-step Show s p value words is = cc is
+ring-step Multi s p value words is = refl
 
-steps-step : (c : Command) (s : Settings) (p : ℕ) (value : Word) (words : List Word) → runs_file c ≡ true →
+steps-step : (c : Command) (s : Settings) (p : ℕ) (value : Word) (words : List Word) → takes_steps c ≡ true →
     options_from c s p (codes "--steps" ∷ value ∷ words) ≡ valued (steps_value value) (p + 1) (λ n. options_from c (with_steps s n) (p + 2) words)
 unfolding options_from
 steps-step Run s p value words is = refl
@@ -44,14 +61,20 @@ steps-step Sim s p value words is = refl
 steps-step Asm s p value words is = cc is
 steps-step Gen s p value words is = cc is
 steps-step Show s p value words is = cc is
+steps-step Multi s p value words is = refl
 
 -- options in front of a file
-played : (c : Command) (s : Settings) (p : ℕ) (words : List Word) (file : Word) (behind : List Word) → runs_file c ≡ true →
+played : (c : Command) (s : Settings) (p : ℕ) (words : List Word) (file : Word) (behind : List Word) → runs_file c ≡ true → s.report ≡ false →
     options_from c s p (codes "-i" ∷ (words ++ file ∷ behind)) ≡ options_from c (with_console s) (p + 1) (words ++ file ∷ behind)
-played c s p [] file behind is = console-step c s p file behind is
-played c s p (w ∷ words) file behind is = console-step c s p w (words ++ file ∷ behind) is
+played c s p [] file behind is alone = console-step c s p file behind is ∙ no-clash s.report p _ alone
+played c s p (w ∷ words) file behind is alone = console-step c s p w (words ++ file ∷ behind) is ∙ no-clash s.report p _ alone
 
-dumped : (c : Command) (s : Settings) (p : ℕ) (words : List Word) (file : Word) (behind : List Word) → runs_file c ≡ true →
+told : (c : Command) (s : Settings) (p : ℕ) (words : List Word) (file : Word) (behind : List Word) → runs_file c ≡ true → s.interactive ≡ false →
+    options_from c s p (codes "--report" ∷ (words ++ file ∷ behind)) ≡ options_from c (with_report s) (p + 1) (words ++ file ∷ behind)
+told c s p [] file behind is alone = report-step c s p file behind is ∙ no-clash s.interactive p _ alone
+told c s p (w ∷ words) file behind is alone = report-step c s p w (words ++ file ∷ behind) is ∙ no-clash s.interactive p _ alone
+
+dumped : (c : Command) (s : Settings) (p : ℕ) (words : List Word) (file : Word) (behind : List Word) → takes_steps c ≡ true →
     options_from c s p (codes "--dump" ∷ (words ++ file ∷ behind)) ≡ options_from c (with_dump s) (p + 1) (words ++ file ∷ behind)
 dumped c s p [] file behind is = dump-step c s p file behind is
 dumped c s p (w ∷ words) file behind is = dump-step c s p w (words ++ file ∷ behind) is
@@ -62,9 +85,13 @@ moved c t p q words is = rw is refl
 pub options-read : (c : Command) (s t : Settings) (words : List Word) → Options c s words t → (p : ℕ) (file : Word) (behind : List Word) →
     options_from c s p (words ++ file ∷ behind) ≡ options_from c t (p + length words) (file ∷ behind)
 options-read _ _ _ _ (none c s) p file behind = moved c s p (p + 0) (file ∷ behind) (omega arith)
-options-read _ _ _ _ (console c s t words takes rest) p file behind =
-    played c s p words file behind takes
+options-read _ _ _ _ (console c s t words takes alone rest) p file behind =
+    played c s p words file behind takes alone
     ∙ options-read c (with_console s) t words rest (p + 1) file behind
+    ∙ moved c t _ _ (file ∷ behind) (omega arith)
+options-read _ _ _ _ (report c s t words takes alone rest) p file behind =
+    told c s p words file behind takes alone
+    ∙ options-read c (with_report s) t words rest (p + 1) file behind
     ∙ moved c t _ _ (file ∷ behind) (omega arith)
 options-read _ _ _ _ (dump c s t words takes rest) p file behind =
     dumped c s p words file behind takes
@@ -92,3 +119,5 @@ order-read _ _ (gen s options number n set file is) =
     ∙ not-option Gen s (1 + length options) number [] file
     ∙ ap (λ v. blocks_at s (1 + length options) v []) is
 order-read _ _ (list object file) = not-option Show defaults 1 object [] file
+order-read _ _ (multi s options schedule object set file) =
+    options-read Multi defaults s options set 1 schedule (object ∷ []) ∙ not-option Multi s (1 + length options) schedule (object ∷ []) file

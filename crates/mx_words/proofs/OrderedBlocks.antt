@@ -3,9 +3,9 @@ use Rattle.std.proofs.Common.{◌≡◌, ℕ, ◌+◌, ◌≤◌, Bool, true, fa
 use Rattle.std.specs.Prelude.{◌&&◌, nat_le}
 use Rattle.std.proofs.lemmas.Bool.Decides.{nat_tests}
 use Rattle.mx_words.specs.Values.{Word, is_option, number_of, up_to, ring_value, steps_value, blocks_value}
-use Rattle.mx_words.specs.Orders.{Ordered, command_of, is_console, is_dump, is_ring, is_steps, defaults, with_console, with_dump, with_ring, with_steps, blocks_at, file_at, valued, options_from, commanded, order_of}
+use Rattle.mx_words.specs.Orders.{Ordered, command_of, is_console, is_report, is_dump, is_ring, is_steps, defaults, with_console, with_report, with_dump, with_ring, with_steps, blocks_at, file_at, unless, valued, options_from, commanded, order_of}
 use Rattle.mx_words.specs.declared.order.Command.{Command}
-use Rattle.mx_words.specs.declared.order.Command.TheVariants.{Run, Asm, Sim, Gen, Show}
+use Rattle.mx_words.specs.declared.order.Command.TheVariants.{Run, Asm, Sim, Gen, Show, Multi}
 use Rattle.mx_words.specs.declared.order.Order.{Order}
 use Rattle.mx_words.specs.declared.settings.Settings.{Settings}
 
@@ -47,22 +47,32 @@ file-few Asm s place word (object ∷ other ∷ others) = tt
 file-few Gen s place word words = blocks-few s place (blocks_value word) words (value-few 10000 (number_of word))
 file-few Show s place word [] = omega arith
 file-few Show s place word (other ∷ others) = tt
+file-few Multi s place word [] = tt
+file-few Multi s place word (object ∷ []) = omega arith
+file-few Multi s place word (object ∷ other ∷ others) = tt
 
 valued-few : (r : Result ℕ ℕ) (place : ℕ) (go : ℕ → Ordered) → ((n : ℕ) → IfFew (go n)) → IfFew (valued r place go)
 valued-few (Err kind) place go h = tt
 valued-few (Ok n) place go h = h n
 
+unless-few : (clashes : Bool) (place : ℕ) (more : Ordered) → IfFew more → IfFew (unless clashes place more)
+unless-few true place more h = tt
+unless-few false place more h = h
+
 options-few : (c : Command) (s : Settings) (place : ℕ) (words : List Word) → IfFew (options_from c s place words)
 unfolding options_from
 options-few c s place [] = tt
 options-few c s place (word ∷ []) =
-    either (is_option word) _ _ (either (is_console c word) _ _ tt (either (is_dump c word) _ _ tt (either (is_ring c word) _ _ tt (either (is_steps c word) _ _ tt tt)))) (file-few c s place word [])
+    either (is_option word) _ _ (either (is_console c word) _ _ (unless-few s.report place _ tt)
+    (either (is_report c word) _ _ (unless-few s.interactive place _ tt)
+    (either (is_dump c word) _ _ tt (either (is_ring c word) _ _ tt (either (is_steps c word) _ _ tt tt))))) (file-few c s place word [])
 options-few c s place (word ∷ value ∷ words) =
     either (is_option word) _ _
-    (either (is_console c word) _ _ (options-few c (with_console s) (place + 1) (value ∷ words))
+    (either (is_console c word) _ _ (unless-few s.report place _ (options-few c (with_console s) (place + 1) (value ∷ words)))
+    (either (is_report c word) _ _ (unless-few s.interactive place _ (options-few c (with_report s) (place + 1) (value ∷ words)))
     (either (is_dump c word) _ _ (options-few c (with_dump s) (place + 1) (value ∷ words))
     (either (is_ring c word) _ _ (valued-few (ring_value value) (place + 1) _ (λ n. options-few c (with_ring s n) (place + 2) words))
-    (either (is_steps c word) _ _ (valued-few (steps_value value) (place + 1) _ (λ n. options-few c (with_steps s n) (place + 2) words)) tt))))
+    (either (is_steps c word) _ _ (valued-few (steps_value value) (place + 1) _ (λ n. options-few c (with_steps s n) (place + 2) words)) tt)))))
     (file-few c s place word (value ∷ words))
 
 commanded-few : (c : Option Command) (words : List Word) → IfFew (commanded c words)

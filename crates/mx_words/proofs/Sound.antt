@@ -3,10 +3,10 @@ use Rattle.std.proofs.Common.{◌≡◌, ℕ, ◌+◌, Bool, true, false, cond, 
 use Rattle.std.proofs.lemmas.Slice.Eq.{bytes_eq-Decides}
 use Rattle.std.proofs.lemmas.Bool.{and_parts}
 use Rattle.mx_words.specs.Values.{Word, is_option, ring_value, steps_value, blocks_value}
-use Rattle.mx_words.specs.Orders.{Ordered, fault, runs_file, takes_ring, is_console, is_dump, is_ring, is_steps, defaults, with_console, with_dump, with_ring, with_steps, valued, options_from, file_at, commanded, order_of, run_order, object_behind, none_behind, blocks_at}
-use Rattle.mx_words.specs.Usage.{Options, Orders, none, console, dump, ring, steps, run, sim, asm, gen, list}
+use Rattle.mx_words.specs.Orders.{Ordered, fault, runs_file, takes_ring, takes_steps, is_console, is_report, is_dump, is_ring, is_steps, defaults, with_console, with_report, with_dump, with_ring, with_steps, unless, valued, options_from, file_at, commanded, order_of, run_order, object_behind, processors_behind, none_behind, blocks_at}
+use Rattle.mx_words.specs.Usage.{Options, Orders, none, console, report, dump, ring, steps, run, sim, asm, gen, list, multi}
 use Rattle.mx_words.specs.declared.order.Command.{Command}
-use Rattle.mx_words.specs.declared.order.Command.TheVariants.{Run, Sim, Asm, Gen, Show}
+use Rattle.mx_words.specs.declared.order.Command.TheVariants.{Run, Sim, Asm, Gen, Show, Multi}
 use Rattle.mx_words.specs.declared.order.Order.{Order}
 use Rattle.mx_words.specs.declared.order.WordsFault.{WordsFault}
 use Rattle.mx_words.specs.declared.settings.Settings.{Settings}
@@ -39,9 +39,14 @@ no-options c s p word words o dash is =
 file_at-same : (c : Command) (t : Settings) (p q : ℕ) (file : Word) (behind : List Word) → p ≡ q → file_at c t p file behind ≡ file_at c t q file behind
 file_at-same c t p q file behind is = rw is refl
 
-with-played : (c : Command) (s : Settings) (p : ℕ) (word : Word) (words : List Word) (o : Order) → is_console c word ≡ true →
+-- what follows an option that clashes with none before it
+not-clashing : (clashes : Bool) (p : ℕ) (more : Ordered) (o : Order) → unless clashes p more ≡ Ok o → (clashes ≡ false) × (more ≡ Ok o)
+not-clashing true p more o is = refused _ o is
+not-clashing false p more o is = (refl, is)
+
+with-played : (c : Command) (s : Settings) (p : ℕ) (word : Word) (words : List Word) (o : Order) → is_console c word ≡ true → s.report ≡ false →
     Parted c (with_console s) (p + 1) words o → Parted c s p (word ∷ words) o
-with-played c s p word words o is rest =
+with-played c s p word words o is alone rest =
     let parts : (runs_file c ≡ true) × (bytes_eq word (codes "-i") ≡ true) = and_parts (runs_file c) (bytes_eq word (codes "-i")) is in
     let named : word ≡ codes "-i" = (bytes_eq-Decides word (codes "-i")).0 parts.1 in
     record {
@@ -50,7 +55,23 @@ with-played c s p word words o is rest =
       file = rest.file;
       behind = rest.behind;
       whole = cc (named, rest.whole);
-      set = console c s rest.after rest.options parts.0 rest.set;
+      set = console c s rest.after rest.options parts.0 alone rest.set;
+      no_dash = rest.no_dash;
+      ordered = file_at-same c rest.after _ _ rest.file rest.behind (omega arith) ∙ rest.ordered;
+    }
+
+with-reported : (c : Command) (s : Settings) (p : ℕ) (word : Word) (words : List Word) (o : Order) → is_report c word ≡ true → s.interactive ≡ false →
+    Parted c (with_report s) (p + 1) words o → Parted c s p (word ∷ words) o
+with-reported c s p word words o is alone rest =
+    let parts : (runs_file c ≡ true) × (bytes_eq word (codes "--report") ≡ true) = and_parts (runs_file c) (bytes_eq word (codes "--report")) is in
+    let named : word ≡ codes "--report" = (bytes_eq-Decides word (codes "--report")).0 parts.1 in
+    record {
+      options = codes "--report" ∷ rest.options;
+      after = rest.after;
+      file = rest.file;
+      behind = rest.behind;
+      whole = cc (named, rest.whole);
+      set = report c s rest.after rest.options parts.0 alone rest.set;
       no_dash = rest.no_dash;
       ordered = file_at-same c rest.after _ _ rest.file rest.behind (omega arith) ∙ rest.ordered;
     }
@@ -58,7 +79,7 @@ with-played c s p word words o is rest =
 with-dumped : (c : Command) (s : Settings) (p : ℕ) (word : Word) (words : List Word) (o : Order) → is_dump c word ≡ true →
     Parted c (with_dump s) (p + 1) words o → Parted c s p (word ∷ words) o
 with-dumped c s p word words o is rest =
-    let parts : (runs_file c ≡ true) × (bytes_eq word (codes "--dump") ≡ true) = and_parts (runs_file c) (bytes_eq word (codes "--dump")) is in
+    let parts : (takes_steps c ≡ true) × (bytes_eq word (codes "--dump") ≡ true) = and_parts (takes_steps c) (bytes_eq word (codes "--dump")) is in
     let named : word ≡ codes "--dump" = (bytes_eq-Decides word (codes "--dump")).0 parts.1 in
     record {
       options = codes "--dump" ∷ rest.options;
@@ -90,7 +111,7 @@ with-ringed c s p word value n words o is good rest =
 with-stepped : (c : Command) (s : Settings) (p : ℕ) (word value : Word) (n : ℕ) (words : List Word) (o : Order) → is_steps c word ≡ true → steps_value value ≡ Ok n →
     Parted c (with_steps s n) (p + 2) words o → Parted c s p (word ∷ value ∷ words) o
 with-stepped c s p word value n words o is good rest =
-    let parts : (runs_file c ≡ true) × (bytes_eq word (codes "--steps") ≡ true) = and_parts (runs_file c) (bytes_eq word (codes "--steps")) is in
+    let parts : (takes_steps c ≡ true) × (bytes_eq word (codes "--steps") ≡ true) = and_parts (takes_steps c) (bytes_eq word (codes "--steps")) is in
     let named : word ≡ codes "--steps" = (bytes_eq-Decides word (codes "--steps")).0 parts.1 in
     record {
       options = codes "--steps" ∷ value ∷ rest.options;
@@ -104,15 +125,17 @@ with-stepped c s p word value n words o is good rest =
     }
 
 -- one word, which has to be the file
-one-word : (c : Command) (s : Settings) (p : ℕ) (word : Word) (o : Order) (dash i d r t : Bool) → is_option word ≡ dash →
-    cond dash (cond i (Err (fault 7 (p + 1))) (cond d (Err (fault 7 (p + 1))) (cond r (Err (fault 4 (p + 1))) (cond t (Err (fault 4 (p + 1))) (Err (fault 3 p)))))) (file_at c s p word []) ≡ Ok o →
+one-word : (c : Command) (s : Settings) (p : ℕ) (word : Word) (o : Order) (dash i w d r t : Bool) → is_option word ≡ dash →
+    cond dash (cond i (unless s.report p (Err (fault 7 (p + 1)))) (cond w (unless s.interactive p (Err (fault 7 (p + 1))))
+    (cond d (Err (fault 7 (p + 1))) (cond r (Err (fault 4 (p + 1))) (cond t (Err (fault 4 (p + 1))) (Err (fault 3 p))))))) (file_at c s p word []) ≡ Ok o →
     Parted c s p (word ∷ []) o
-one-word c s p word o true true d r t h is = refused _ o is
-one-word c s p word o true false true r t h is = refused _ o is
-one-word c s p word o true false false true t h is = refused _ o is
-one-word c s p word o true false false false true h is = refused _ o is
-one-word c s p word o true false false false false h is = refused _ o is
-one-word c s p word o false i d r t h is = no-options c s p word [] o h is
+one-word c s p word o true true w d r t h is = refused _ o (not-clashing s.report p _ o is).1
+one-word c s p word o true false true d r t h is = refused _ o (not-clashing s.interactive p _ o is).1
+one-word c s p word o true false false true r t h is = refused _ o is
+one-word c s p word o true false false false true t h is = refused _ o is
+one-word c s p word o true false false false false true h is = refused _ o is
+one-word c s p word o true false false false false false h is = refused _ o is
+one-word c s p word o false i w d r t h is = no-options c s p word [] o h is
 
 -- a value, if what follows was read
 value-good : {A : Type 0} (v : Result ℕ ℕ) (place : ℕ) (go : ℕ → Ordered) (o : Order) → valued v place go ≡ Ok o → ((n : ℕ) → v ≡ Ok n → go n ≡ Ok o → A) → A
@@ -120,47 +143,56 @@ value-good (Err kind) place go o is then = refused _ o is
 value-good (Ok n) place go o is then = then n refl is
 
 -- two words and more, with the recursion as arguments
-more-words : (c : Command) (s : Settings) (p : ℕ) (word value : Word) (words : List Word) (o : Order) (dash i d r t : Bool) →
-    is_option word ≡ dash → is_console c word ≡ i → is_dump c word ≡ d → is_ring c word ≡ r → is_steps c word ≡ t →
+more-words : (c : Command) (s : Settings) (p : ℕ) (word value : Word) (words : List Word) (o : Order) (dash i w d r t : Bool) →
+    is_option word ≡ dash → is_console c word ≡ i → is_report c word ≡ w → is_dump c word ≡ d → is_ring c word ≡ r → is_steps c word ≡ t →
     (options_from c (with_console s) (p + 1) (value ∷ words) ≡ Ok o → Parted c (with_console s) (p + 1) (value ∷ words) o) →
+    (options_from c (with_report s) (p + 1) (value ∷ words) ≡ Ok o → Parted c (with_report s) (p + 1) (value ∷ words) o) →
     (options_from c (with_dump s) (p + 1) (value ∷ words) ≡ Ok o → Parted c (with_dump s) (p + 1) (value ∷ words) o) →
     ((n : ℕ) → options_from c (with_ring s n) (p + 2) words ≡ Ok o → Parted c (with_ring s n) (p + 2) words o) →
     ((n : ℕ) → options_from c (with_steps s n) (p + 2) words ≡ Ok o → Parted c (with_steps s n) (p + 2) words o) →
     cond dash
-    (cond i (options_from c (with_console s) (p + 1) (value ∷ words))
+    (cond i (unless s.report p (options_from c (with_console s) (p + 1) (value ∷ words)))
+    (cond w (unless s.interactive p (options_from c (with_report s) (p + 1) (value ∷ words)))
     (cond d (options_from c (with_dump s) (p + 1) (value ∷ words))
     (cond r (valued (ring_value value) (p + 1) (λ n. options_from c (with_ring s n) (p + 2) words))
-    (cond t (valued (steps_value value) (p + 1) (λ n. options_from c (with_steps s n) (p + 2) words)) (Err (fault 3 p))))))
+    (cond t (valued (steps_value value) (p + 1) (λ n. options_from c (with_steps s n) (p + 2) words)) (Err (fault 3 p)))))))
     (file_at c s p word (value ∷ words)) ≡ Ok o →
     Parted c s p (word ∷ value ∷ words) o
-more-words c s p word value words o true true d r t hh hi hd hr ht gi gd gr gt is = with-played c s p word (value ∷ words) o hi (gi is)
-more-words c s p word value words o true false true r t hh hi hd hr ht gi gd gr gt is = with-dumped c s p word (value ∷ words) o hd (gd is)
-more-words c s p word value words o true false false true t hh hi hd hr ht gi gd gr gt is =
+more-words c s p word value words o true true w d r t hh hi hw hd hr ht gi gw gd gr gt is =
+    let alone = not-clashing s.report p (options_from c (with_console s) (p + 1) (value ∷ words)) o is in
+    with-played c s p word (value ∷ words) o hi alone.0 (gi alone.1)
+more-words c s p word value words o true false true d r t hh hi hw hd hr ht gi gw gd gr gt is =
+    let alone = not-clashing s.interactive p (options_from c (with_report s) (p + 1) (value ∷ words)) o is in
+    with-reported c s p word (value ∷ words) o hw alone.0 (gw alone.1)
+more-words c s p word value words o true false false true r t hh hi hw hd hr ht gi gw gd gr gt is = with-dumped c s p word (value ∷ words) o hd (gd is)
+more-words c s p word value words o true false false false true t hh hi hw hd hr ht gi gw gd gr gt is =
     value-good (ring_value value) (p + 1) _ o is (λ n good then. with-ringed c s p word value n words o hr good (gr n then))
-more-words c s p word value words o true false false false true hh hi hd hr ht gi gd gr gt is =
+more-words c s p word value words o true false false false false true hh hi hw hd hr ht gi gw gd gr gt is =
     value-good (steps_value value) (p + 1) _ o is (λ n good then. with-stepped c s p word value n words o ht good (gt n then))
-more-words c s p word value words o true false false false false hh hi hd hr ht gi gd gr gt is = refused _ o is
-more-words c s p word value words o false i d r t hh hi hd hr ht gi gd gr gt is = no-options c s p word (value ∷ words) o hh is
+more-words c s p word value words o true false false false false false hh hi hw hd hr ht gi gw gd gr gt is = refused _ o is
+more-words c s p word value words o false i w d r t hh hi hw hd hr ht gi gw gd gr gt is = no-options c s p word (value ∷ words) o hh is
 
 parted : (c : Command) (s : Settings) (p : ℕ) (words : List Word) (o : Order) → options_from c s p words ≡ Ok o → Parted c s p words o
 unfolding options_from
 parted c s p [] o is = refused _ o is
-parted c s p (word ∷ []) o is = one-word c s p word o (is_option word) (is_console c word) (is_dump c word) (is_ring c word) (is_steps c word) refl is
+parted c s p (word ∷ []) o is = one-word c s p word o (is_option word) (is_console c word) (is_report c word) (is_dump c word) (is_ring c word) (is_steps c word) refl is
 parted c s p (word ∷ value ∷ words) o is =
-    more-words c s p word value words o (is_option word) (is_console c word) (is_dump c word) (is_ring c word) (is_steps c word) refl refl refl refl refl
+    more-words c s p word value words o (is_option word) (is_console c word) (is_report c word) (is_dump c word) (is_ring c word) (is_steps c word) refl refl refl refl refl refl
     (parted c (with_console s) (p + 1) (value ∷ words) o)
+    (parted c (with_report s) (p + 1) (value ∷ words) o)
     (parted c (with_dump s) (p + 1) (value ∷ words) o)
     (λ n. parted c (with_ring s n) (p + 2) words o)
     (λ n. parted c (with_steps s n) (p + 2) words o)
     is
 
 -- `asm` and `type` have no options
-bare : (c : Command) (s t : Settings) (options : List Word) → runs_file c ≡ false → takes_ring c ≡ false → Options c s options t → (options ≡ []) × (s ≡ t)
-bare _ _ _ _ file on (none c s) = (refl, refl)
-bare _ _ _ _ file on (console c s t words takes rest) = absurd (cc (file, takes))
-bare _ _ _ _ file on (dump c s t words takes rest) = absurd (cc (file, takes))
-bare _ _ _ _ file on (ring c s t value n words takes is rest) = absurd (cc (on, takes))
-bare _ _ _ _ file on (steps c s t value n words takes is rest) = absurd (cc (file, takes))
+bare : (c : Command) (s t : Settings) (options : List Word) → runs_file c ≡ false → takes_ring c ≡ false → takes_steps c ≡ false → Options c s options t → (options ≡ []) × (s ≡ t)
+bare _ _ _ _ file on makes (none c s) = (refl, refl)
+bare _ _ _ _ file on makes (console c s t words takes alone rest) = absurd (cc (file, takes))
+bare _ _ _ _ file on makes (report c s t words takes alone rest) = absurd (cc (file, takes))
+bare _ _ _ _ file on makes (dump c s t words takes rest) = absurd (cc (makes, takes))
+bare _ _ _ _ file on makes (ring c s t value n words takes is rest) = absurd (cc (on, takes))
+bare _ _ _ _ file on makes (steps c s t value n words takes is rest) = absurd (cc (makes, takes))
 
 run-order : (words : List Word) (o : Order) → Parted Run defaults 1 words o → Orders (codes "run" ∷ words) o
 run-order words o parts =
@@ -180,7 +212,7 @@ asm-from s file (object ∷ other ∷ others) o dash is ordered = refused _ o or
 
 asm-order : (words : List Word) (o : Order) → Parted Asm defaults 1 words o → Orders (codes "asm" ∷ words) o
 asm-order words o parts =
-    let none_set : (parts.options ≡ []) × (defaults ≡ parts.after) = bare Asm defaults parts.after parts.options refl refl parts.set in
+    let none_set : (parts.options ≡ []) × (defaults ≡ parts.after) = bare Asm defaults parts.after parts.options refl refl refl parts.set in
     let whole : words ≡ parts.file ∷ parts.behind = parts.whole ∙ ap (λ l. l ++ parts.file ∷ parts.behind) none_set.0 in
     let ordered : object_behind parts.after 1 parts.behind ≡ Ok o = ap (λ l. object_behind parts.after (1 + length l) parts.behind) (sym none_set.0) ∙ parts.ordered in
     rw whole (asm-from parts.after parts.file parts.behind o parts.no_dash none_set.1 ordered)
@@ -192,7 +224,7 @@ list-from s file (other ∷ others) o dash is ordered = refused _ o ordered
 
 list-order : (words : List Word) (o : Order) → Parted Show defaults 1 words o → Orders (codes "type" ∷ words) o
 list-order words o parts =
-    let none_set : (parts.options ≡ []) × (defaults ≡ parts.after) = bare Show defaults parts.after parts.options refl refl parts.set in
+    let none_set : (parts.options ≡ []) × (defaults ≡ parts.after) = bare Show defaults parts.after parts.options refl refl refl parts.set in
     let whole : words ≡ parts.file ∷ parts.behind = parts.whole ∙ ap (λ l. l ++ parts.file ∷ parts.behind) none_set.0 in
     let ordered : none_behind (run_order Show parts.after 1) 1 parts.behind ≡ Ok o =
     ap (λ l. none_behind (run_order Show parts.after (1 + length l)) (1 + length l) parts.behind) (sym none_set.0) ∙ parts.ordered in
@@ -207,18 +239,28 @@ gen-order words o parts = from parts.behind (blocks_value parts.file) refl parts
     from [] (Ok n) is whole ordered = rw (whole, ← ok _ _ ordered) (gen parts.after parts.options parts.file n parts.set parts.no_dash is)
     from (other ∷ others) (Ok n) is whole ordered = refused _ o ordered
 
+multi-order : (words : List Word) (o : Order) → Parted Multi defaults 1 words o → Orders (codes "multi" ∷ words) o
+multi-order words o parts = from parts.behind parts.whole parts.ordered
+  where
+    from : (behind : List Word) → words ≡ parts.options ++ parts.file ∷ behind → processors_behind parts.after (1 + length parts.options) behind ≡ Ok o →
+        Orders (codes "multi" ∷ words) o
+    from [] whole ordered = refused _ o ordered
+    from (object ∷ []) whole ordered = rw (whole, ← ok _ _ ordered) (multi parts.after parts.options parts.file object parts.set parts.no_dash)
+    from (object ∷ other ∷ others) whole ordered = refused _ o ordered
+
 -- the command
-by-command : (word : Word) (words : List Word) (o : Order) (r a s g t : Bool) →
-    bytes_eq word (codes "run") ≡ r → bytes_eq word (codes "asm") ≡ a → bytes_eq word (codes "sim") ≡ s → bytes_eq word (codes "gen") ≡ g → bytes_eq word (codes "type") ≡ t →
-    commanded (cond r (Some Run) (cond a (Some Asm) (cond s (Some Sim) (cond g (Some Gen) (cond t (Some Show) None))))) words ≡ Ok o → Orders (word ∷ words) o
-by-command word words o true a s g t hr ha hs hg ht is = rw ((bytes_eq-Decides word (codes "run")).0 hr) (run-order words o (parted Run defaults 1 words o is))
-by-command word words o false true s g t hr ha hs hg ht is = rw ((bytes_eq-Decides word (codes "asm")).0 ha) (asm-order words o (parted Asm defaults 1 words o is))
-by-command word words o false false true g t hr ha hs hg ht is = rw ((bytes_eq-Decides word (codes "sim")).0 hs) (sim-order words o (parted Sim defaults 1 words o is))
-by-command word words o false false false true t hr ha hs hg ht is = rw ((bytes_eq-Decides word (codes "gen")).0 hg) (gen-order words o (parted Gen defaults 1 words o is))
-by-command word words o false false false false true hr ha hs hg ht is = rw ((bytes_eq-Decides word (codes "type")).0 ht) (list-order words o (parted Show defaults 1 words o is))
-by-command word words o false false false false false hr ha hs hg ht is = refused _ o is
+by-command : (word : Word) (words : List Word) (o : Order) (r a s g t m : Bool) →
+    bytes_eq word (codes "run") ≡ r → bytes_eq word (codes "asm") ≡ a → bytes_eq word (codes "sim") ≡ s → bytes_eq word (codes "gen") ≡ g → bytes_eq word (codes "type") ≡ t → bytes_eq word (codes "multi") ≡ m →
+    commanded (cond r (Some Run) (cond a (Some Asm) (cond s (Some Sim) (cond g (Some Gen) (cond t (Some Show) (cond m (Some Multi) None)))))) words ≡ Ok o → Orders (word ∷ words) o
+by-command word words o true a s g t m hr ha hs hg ht hm is = rw ((bytes_eq-Decides word (codes "run")).0 hr) (run-order words o (parted Run defaults 1 words o is))
+by-command word words o false true s g t m hr ha hs hg ht hm is = rw ((bytes_eq-Decides word (codes "asm")).0 ha) (asm-order words o (parted Asm defaults 1 words o is))
+by-command word words o false false true g t m hr ha hs hg ht hm is = rw ((bytes_eq-Decides word (codes "sim")).0 hs) (sim-order words o (parted Sim defaults 1 words o is))
+by-command word words o false false false true t m hr ha hs hg ht hm is = rw ((bytes_eq-Decides word (codes "gen")).0 hg) (gen-order words o (parted Gen defaults 1 words o is))
+by-command word words o false false false false true m hr ha hs hg ht hm is = rw ((bytes_eq-Decides word (codes "type")).0 ht) (list-order words o (parted Show defaults 1 words o is))
+by-command word words o false false false false false true hr ha hs hg ht hm is = rw ((bytes_eq-Decides word (codes "multi")).0 hm) (multi-order words o (parted Multi defaults 1 words o is))
+by-command word words o false false false false false false hr ha hs hg ht hm is = refused _ o is
 
 pub order-spelled : (words : List Word) (o : Order) → order_of words ≡ Ok o → Orders words o
 order-spelled [] o is = refused _ o is
 order-spelled (word ∷ words) o is =
-    by-command word words o (bytes_eq word (codes "run")) (bytes_eq word (codes "asm")) (bytes_eq word (codes "sim")) (bytes_eq word (codes "gen")) (bytes_eq word (codes "type")) refl refl refl refl refl is
+    by-command word words o (bytes_eq word (codes "run")) (bytes_eq word (codes "asm")) (bytes_eq word (codes "sim")) (bytes_eq word (codes "gen")) (bytes_eq word (codes "type")) (bytes_eq word (codes "multi")) refl refl refl refl refl refl is

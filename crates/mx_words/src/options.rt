@@ -1,6 +1,6 @@
 //! The options that stand before the file.
 
-ghost use Rattle.std.specs.Prelude.{◌≡◌, ◌<◌, ◌≤◌, length, map, drop, string_bytes, IfOk};
+ghost use Rattle.std.specs.Prelude.{◌≡◌, ◌<◌, ◌≤◌, ◌+◌, ◌^◌, length, map, drop, string_bytes, IfOk};
 ghost use Rattle.mx_words.specs.OneOption as spec;
 ghost use Rattle.mx_words.specs.Orders as orders;
 
@@ -15,11 +15,21 @@ fn runs_file(command: Command) -> bool
     matches!(command, Command::Run | Command::Sim)
 }
 
+/// Whether a command makes steps of an image up to a number, and may show memory at the end.
+fn takes_steps(command: Command) -> bool
+    ensures { result ≡ orders.takes_steps command }
+{
+    matches!(command, Command::Run | Command::Sim | Command::Multi)
+}
+
 /// Whether a command runs a program on a ring.
 fn takes_ring(command: Command) -> bool
     ensures { result ≡ orders.takes_ring command }
 {
-    matches!(command, Command::Run | Command::Sim | Command::Gen)
+    matches!(
+        command,
+        Command::Run | Command::Sim | Command::Gen | Command::Multi
+    )
 }
 
 /// Whether a word is `-i`, where the command takes it.
@@ -29,18 +39,25 @@ fn is_console(command: Command, word: &String) -> bool
     runs_file(command) && word.as_str() == "-i"
 }
 
+/// Whether a word is `--report`, where the command takes it.
+fn is_report(command: Command, word: &String) -> bool
+    ensures { result ≡ orders.is_report command (string_bytes word.now) }
+{
+    runs_file(command) && word.as_str() == "--report"
+}
+
 /// Whether a word is `--dump`, where the command takes it.
 fn is_dump(command: Command, word: &String) -> bool
     ensures { result ≡ orders.is_dump command (string_bytes word.now) }
 {
-    runs_file(command) && word.as_str() == "--dump"
+    takes_steps(command) && word.as_str() == "--dump"
 }
 
 /// Whether a word is `--steps`, where the command takes it.
 fn is_steps(command: Command, word: &String) -> bool
     ensures { result ≡ orders.is_steps command (string_bytes word.now) }
 {
-    runs_file(command) && word.as_str() == "--steps"
+    takes_steps(command) && word.as_str() == "--steps"
 }
 
 /// Whether a word is `--ring`, where the command takes it.
@@ -50,7 +67,43 @@ fn is_ring(command: Command, word: &String) -> bool
     takes_ring(command) && word.as_str() == "--ring"
 }
 
-/// The option at a place: what is set then, and the place of the next word. A fault is 3, 4, 5 or 6.
+/// `-i` at a place: not behind `--report`.
+fn with_console(settings: Settings, at: usize) -> Result<(Settings, usize), WordsFault>
+    requires { at + 1 < 2 ^ 64 }
+    ensures value { result ≡ spec.console_read settings at }
+    ensures onward { IfOk result (λ next. at < next.1) }
+{
+    if settings.report {
+        return Err(WordsFault { kind: 10, word: at });
+    }
+    Ok((
+        Settings {
+            interactive: true,
+            ..settings
+        },
+        at + 1,
+    ))
+}
+
+/// `--report` at a place: not behind `-i`.
+fn with_report(settings: Settings, at: usize) -> Result<(Settings, usize), WordsFault>
+    requires { at + 1 < 2 ^ 64 }
+    ensures value { result ≡ spec.report_read settings at }
+    ensures onward { IfOk result (λ next. at < next.1) }
+{
+    if settings.interactive {
+        return Err(WordsFault { kind: 10, word: at });
+    }
+    Ok((
+        Settings {
+            report: true,
+            ..settings
+        },
+        at + 1,
+    ))
+}
+
+/// The option at a place: what is set then, and the place of the next word. A fault is 3, 4, 5, 6 or 10.
 #[tactic(auto, using(crate::proofs::Places::places))]
 pub(crate) fn option(
     command: Command,
@@ -64,13 +117,10 @@ pub(crate) fn option(
 {
     let word = &words[at];
     if is_console(command, word) {
-        return Ok((
-            Settings {
-                interactive: true,
-                ..settings
-            },
-            at + 1,
-        ));
+        return with_console(settings, at);
+    }
+    if is_report(command, word) {
+        return with_report(settings, at);
     }
     if is_dump(command, word) {
         return Ok((

@@ -15,6 +15,8 @@ pub enum Command {
     Gen,
     /// `type`: list an object.
     Show,
+    /// `multi`: run an object on several processors, in the order of a schedule.
+    Multi,
 }
 
 /// What the words order. A field that the command does not use has its default, 0 or false.
@@ -33,17 +35,21 @@ pub struct Order {
     /// The place of the source or object among the words.
     pub file: usize,
     /// The place behind the file: that of the first argument, or of the object that `asm` writes. No
-    /// word stands there for `type`.
+    /// word stands there for `type` and `multi`.
     pub rest: usize,
     /// How many blocks `gen` makes: 1 to 10,000.
     pub number: u64,
+    /// Whether the reports of watchers are written at the end; not in an order that wants the console.
+    pub report: bool,
+    /// The place of the schedule of `multi` among the words.
+    pub schedule: usize,
 }
 
 /// Why the words are no order.
 #[derive(Clone, Copy, Debug, PartialEq, Eq)]
 pub struct WordsFault {
     /// 1 no command, 2 unknown command, 3 unknown option, 4 missing value, 5 bad number, 6 bad ring,
-    /// 7 missing file or number, 8 too many words.
+    /// 7 missing file or number, 8 too many words, 10 `--report` and `-i` together.
     pub kind: u16,
     /// The place of the word from 0, or the number of words where one is missing.
     pub word: usize,

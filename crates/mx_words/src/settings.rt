@@ -13,4 +13,6 @@ pub(crate) struct Settings {
     pub(crate) interactive: bool,
     /// Whether the state is written at the end.
     pub(crate) dump: bool,
+    /// Whether the reports of watchers are written at the end.
+    pub(crate) report: bool,
 }

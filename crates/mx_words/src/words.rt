@@ -14,12 +14,14 @@ use mx_ring::RingSize;
 /// no memory.
 ///
 /// The words are `run` or `sim`, options, a file and its arguments; `asm`, a source and an object;
-/// `gen`, options and a number; or `type` and an object. Options are `--ring R`, and for `run` and
-/// `sim` `--steps N`, `-i` and `--dump`; they may repeat, and the last one counts.
+/// `gen`, options and a number; `type` and an object; or `multi`, options, a schedule and an object. Options
+/// are `--ring R`, for `run`, `sim` and `multi` also `--steps N` and `--dump`, and for `run` and `sim` `-i`
+/// and `--report`; they may repeat, and the last one counts. `-i` and `--report` do not stand in one order.
 #[tactic(auto, using(crate::proofs::Places::places))]
 pub fn read(words: &[String]) -> Result<Order, WordsFault>
     ensures value { result ≡ spec.order_of (map string_bytes words.now) }
     ensures places { IfOk result (λ o. (o.file < length words.now) × (o.rest ≤ length words.now)) }
+    ensures schedule { IfOk result (λ o. o.schedule < length words.now) }
     ensures object { IfOk result (λ o. o.command ≡ Command.Asm → o.rest < length words.now) }
     ensures blocks { IfOk result (λ o. o.number ≤ 10000) }
 {
@@ -51,10 +53,13 @@ fn command_of(word: &String) -> Option<Command>
     if word.as_str() == "type" {
         return Some(Command::Show);
     }
+    if word.as_str() == "multi" {
+        return Some(Command::Multi);
+    }
     None
 }
 
-/// What is set without options: a ring of 256 registers, 10^9 steps, no console and no dump.
+/// What is set without options: a ring of 256 registers, 10^9 steps, no console, no dump and no reports.
 fn defaults() -> Settings
     ensures { result ≡ spec.defaults }
 {
@@ -63,6 +68,7 @@ fn defaults() -> Settings
         steps: 1_000_000_000,
         interactive: false,
         dump: false,
+        report: false,
     }
 }
 
@@ -72,6 +78,7 @@ fn commanded(command: Command, words: &[String]) -> Result<Order, WordsFault>
     requires { 0 < length words.now }
     ensures value { result ≡ spec.options_from command spec.defaults 1 (drop 1 (map string_bytes words.now)) }
     ensures places { IfOk result (λ o. (o.file < length words.now) × (o.rest ≤ length words.now)) }
+    ensures schedule { IfOk result (λ o. o.schedule < length words.now) }
     ensures object { IfOk result (λ o. o.command ≡ Command.Asm → o.rest < length words.now) }
     ensures blocks { IfOk result (λ o. o.number ≤ 10000) }
 {
@@ -99,6 +106,7 @@ fn file(
 ) -> Result<Order, WordsFault>
     ensures value { result ≡ files.behind command settings at (drop at (map string_bytes words.now)) }
     ensures places { IfOk result (λ o. (o.file < length words.now) × (o.rest ≤ length words.now)) }
+    ensures schedule { IfOk result (λ o. o.schedule < length words.now) }
     ensures object { IfOk result (λ o. o.command ≡ Command.Asm → o.rest < length words.now) }
     ensures blocks { IfOk result (λ o. o.number ≤ 10000) }
 {
@@ -110,6 +118,7 @@ fn file(
         Command::Asm => asm_order(settings, words, at),
         Command::Gen => gen_order(settings, words, at),
         Command::Show => show_order(settings, words, at),
+        Command::Multi => multi_order(settings, words, at),
     }
 }
 
@@ -127,6 +136,8 @@ fn run_order(command: Command, settings: Settings, at: usize) -> Order
         file: at,
         rest: at + 1,
         number: 0,
+        report: settings.report,
+        schedule: 0,
     }
 }
 
@@ -137,6 +148,7 @@ fn show_order(settings: Settings, words: &[String], at: usize) -> Result<Order, 
     ensures value { result ≡ spec.none_behind (spec.run_order Command.Show settings at) at
         (drop (at + 1) (map string_bytes words.now)) }
     ensures places { IfOk result (λ o. (o.file < length words.now) × (o.rest ≤ length words.now)) }
+    ensures schedule { IfOk result (λ o. o.schedule < length words.now) }
     ensures object { IfOk result (λ o. o.command ≡ Command.Asm → o.rest < length words.now) }
     ensures blocks { IfOk result (λ o. o.number ≤ 10000) }
 {
@@ -155,6 +167,7 @@ fn asm_order(settings: Settings, words: &[String], at: usize) -> Result<Order, W
     requires { at < length words.now }
     ensures value { result ≡ spec.object_behind settings at (drop (at + 1) (map string_bytes words.now)) }
     ensures places { IfOk result (λ o. (o.file < length words.now) × (o.rest ≤ length words.now)) }
+    ensures schedule { IfOk result (λ o. o.schedule < length words.now) }
     ensures object { IfOk result (λ o. o.command ≡ Command.Asm → o.rest < length words.now) }
     ensures blocks { IfOk result (λ o. o.number ≤ 10000) }
 {
@@ -179,6 +192,44 @@ fn asm_order(settings: Settings, words: &[String], at: usize) -> Result<Order, W
         file: at,
         rest: at + 1,
         number: 0,
+        report: settings.report,
+        schedule: 0,
+    })
+}
+
+/// An order to run the object behind the schedule at a place on several processors: no word stands behind it.
+#[tactic(auto, using(crate::proofs::Behind::behinds))]
+fn multi_order(settings: Settings, words: &[String], at: usize) -> Result<Order, WordsFault>
+    requires { at < length words.now }
+    ensures value { result ≡ spec.processors_behind settings at (drop (at + 1) (map string_bytes words.now)) }
+    ensures places { IfOk result (λ o. (o.file < length words.now) × (o.rest ≤ length words.now)) }
+    ensures schedule { IfOk result (λ o. o.schedule < length words.now) }
+    ensures object { IfOk result (λ o. o.command ≡ Command.Asm → o.rest < length words.now) }
+    ensures blocks { IfOk result (λ o. o.number ≤ 10000) }
+{
+    if words.len() == at + 1 {
+        return Err(WordsFault {
+            kind: 7,
+            word: at + 1,
+        });
+    }
+    if at + 2 < words.len() {
+        return Err(WordsFault {
+            kind: 8,
+            word: at + 2,
+        });
+    }
+    Ok(Order {
+        command: Command::Multi,
+        ring: settings.ring,
+        steps: settings.steps,
+        interactive: settings.interactive,
+        dump: settings.dump,
+        file: at + 1,
+        rest: at + 2,
+        number: 0,
+        report: settings.report,
+        schedule: at,
     })
 }
 
@@ -188,6 +239,7 @@ fn gen_order(settings: Settings, words: &[String], at: usize) -> Result<Order, W
     requires { at < length words.now }
     ensures value { result ≡ files.blocks_behind settings at (drop at (map string_bytes words.now)) }
     ensures places { IfOk result (λ o. (o.file < length words.now) × (o.rest ≤ length words.now)) }
+    ensures schedule { IfOk result (λ o. o.schedule < length words.now) }
     ensures object { IfOk result (λ o. o.command ≡ Command.Asm → o.rest < length words.now) }
     ensures blocks { IfOk result (λ o. o.number ≤ 10000) }
 {
@@ -210,5 +262,7 @@ fn gen_order(settings: Settings, words: &[String], at: usize) -> Result<Order, W
         file: 0,
         rest: 0,
         number,
+        report: settings.report,
+        schedule: 0,
     })
 }

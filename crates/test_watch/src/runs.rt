@@ -83,7 +83,7 @@ fn is_reported(
     alloc: Global,
     program: &Program,
     due: &Due,
-    watchers: Vec<Box<dyn Watcher>>,
+    watchers: &mut Vec<Box<dyn Watcher>>,
 ) -> bool {
     let mut machine = machine(rt, alloc, program);
     let mut host = host(rt, alloc);
@@ -96,10 +96,10 @@ fn is_reported(
         watchers,
         &mut kept,
     );
-    run.0 == due.0
+    run == due.0
         && host.output() == due.1.as_bytes()
         && kept.as_slice().is_empty()
-        && have_reports(run.1.as_slice(), &due.2)
+        && have_reports(watchers.as_slice(), &due.2)
 }
 
 /// Whether these are the reports of the watchers, in order.
@@ -132,7 +132,7 @@ fn comes_to(rt: &impl Abort, alloc: Global, program: &Program, due: &Due) -> boo
     let writes = Writes::new(alloc, 0x2000_0000_0000_0000, 0x4000_0000_0000_0000, 100);
     let third: Box<dyn Watcher> = Box::new(alloc, writes.expect(rt, "memory")).expect(rt, "memory");
     watchers.push(third).expect(rt, "memory");
-    is_reported(rt, alloc, program, due, watchers)
+    is_reported(rt, alloc, program, due, &mut watchers)
 }
 
 #[test]
@@ -151,14 +151,14 @@ fn runs_that_stop_or_spend_their_steps_are_reported(rt: HostRuntime) {
 fn kept_of(
     rt: &impl Abort,
     alloc: Global,
-    watchers: Vec<Box<dyn Watcher>>,
+    watchers: &mut Vec<Box<dyn Watcher>>,
     want: &[(usize, &str)],
 ) -> (End, usize, bool) {
     let mut machine = machine(rt, alloc, &PRINTS);
     let mut host = host(rt, alloc);
     let mut kept = Reports::new(alloc);
-    let run = watched_run(alloc, &mut machine, &mut host, 100, watchers, &mut kept);
-    (run.0, run.1.len(), are_reports(kept.as_slice(), want))
+    let end = watched_run(alloc, &mut machine, &mut host, 100, watchers, &mut kept);
+    (end, watchers.len(), are_reports(kept.as_slice(), want))
 }
 
 #[test]
@@ -174,7 +174,7 @@ fn two_that_are_full_leave(rt: HostRuntime) {
     watchers.push(third).expect(&rt, "memory");
     let want = [(0, "last #0000000000000104"), (2, "last #0000000000000104")];
     assert_eq!(rt;
-        kept_of(&rt, alloc, watchers, &want),
+        kept_of(&rt, alloc, &mut watchers, &want),
         (End::Halted(3), 1, true)
     );
 }
@@ -187,7 +187,7 @@ fn one_that_is_full_leaves_nobody(rt: HostRuntime) {
     watchers.push(first).expect(&rt, "memory");
     let want = [(0, "last #0000000000000104")];
     assert_eq!(rt;
-        kept_of(&rt, alloc, watchers, &want),
+        kept_of(&rt, alloc, &mut watchers, &want),
         (End::Halted(3), 0, true)
     );
 }
@@ -195,9 +195,9 @@ fn one_that_is_full_leaves_nobody(rt: HostRuntime) {
 #[test]
 fn nobody_listens(rt: HostRuntime) {
     let alloc = rt.alloc();
-    let watchers: Vec<Box<dyn Watcher>> = Vec::new(alloc);
+    let mut watchers: Vec<Box<dyn Watcher>> = Vec::new(alloc);
     assert_eq!(rt;
-        kept_of(&rt, alloc, watchers, &[]),
+        kept_of(&rt, alloc, &mut watchers, &[]),
         (End::Halted(3), 0, true)
     );
 }

@@ -12,24 +12,24 @@ returns-then-is_empty-clause-told g c = λ t. from-run _ _ _ _ (c.run_freely.ens
 
 pub returns-then-is_empty-clause-heard : goal.returns-then-is_empty-clause-heard
 returns-then-is_empty-clause-heard g c = λ t ne.
-    hears-nobody _ _ _ _ (nil_from_length _ (sym c.args.watchers.ok.0 ∙ eqb-true _ 0 (sym c.is_empty.ensures ∙ c.if-is_empty.true)))
+    hears-nobody _ _ _ _ (nil_from_length _ (sym c.args.watchers.now.ok.0 ∙ eqb-true _ 0 (sym c.is_empty.ensures ∙ c.if-is_empty.true)))
 
 pub returns-then-is_empty-clause-list_heard : goal.returns-then-is_empty-clause-list_heard
 returns-then-is_empty-clause-list_heard g c = λ t ne u.
-    either-way _ _ (hears-nobody _ _ _ _ (nil_from_length _ (sym c.args.watchers.ok.0 ∙ eqb-true _ 0 (sym c.is_empty.ensures ∙ c.if-is_empty.true))))
+    either-way _ _ (hears-nobody _ _ _ _ (nil_from_length _ (sym c.args.watchers.now.ok.0 ∙ eqb-true _ 0 (sym c.is_empty.ensures ∙ c.if-is_empty.true))))
 
 -- ---- with watchers
 
-pub listen-end-requires : goal.listen-end-requires
-listen-end-requires g c = place_count _ _ c.in-Ok.ensures ∙ c.len.ensures ∙ c.args.watchers.ok.0
+pub listen-requires : goal.listen-requires
+listen-requires g c = place_count _ _ c.in-Ok.ensures ∙ c.len.ensures ∙ c.args.watchers.now.ok.0
 
 pub returns-in-Ok-clause-heard : goal.returns-in-Ok-clause-heard
 returns-in-Ok-clause-heard g c = λ t ne.
-    hears-placed _ _ _ _ _ _ _ _ c.in-Ok.ensures (c.len.ensures ∙ c.args.watchers.ok.0) (c.listen-end.ensures.heard t ne)
+    hears-placed _ _ _ _ _ _ _ _ c.in-Ok.ensures (c.len.ensures ∙ c.args.watchers.now.ok.0) (c.listen.ensures.heard t ne)
 
 pub returns-in-Ok-clause-list_heard : goal.returns-in-Ok-clause-list_heard
 returns-in-Ok-clause-list_heard g c = λ t ne u.
-    unless-by _ _ _ (hears-placed _ _ _ _ _ _ _ _ c.in-Ok.ensures (c.len.ensures ∙ c.args.watchers.ok.0)) (c.listen-end.ensures.list_heard t ne u)
+    unless-by _ _ _ (hears-placed _ _ _ _ _ _ _ _ c.in-Ok.ensures (c.len.ensures ∙ c.args.watchers.now.ok.0)) (c.listen.ensures.list_heard t ne u)
 
 -- ---- where their places lack memory
 
