@@ -1,6 +1,11 @@
 pub mod Counting
 pub mod LoadedItems
 pub mod LoadedLines
+pub mod Rests
+pub mod Parts
+pub mod Causes
+pub mod FileParts
+pub mod FileEnds
 pub mod PutPieces
 pub mod PutLines
 pub mod QuietFiles
@@ -8,4 +13,7 @@ pub mod ReadPieces
 pub mod SourceImages
 pub mod TakenLines
 pub mod WrittenObjects
+pub mod FileClauses
+pub mod ReadSchedules
+pub mod Serving
 pub mod TypedLines

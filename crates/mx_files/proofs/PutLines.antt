@@ -1,5 +1,5 @@
 -- Lines are written in turn.
-use Rattle.std.proofs.Common.{IsTrue, ◌≡◌, ◌≢◌, ◌≤◌, ◌<◌, inl, inr, ℕ, ◌+◌, List, [], ◌∷◌, ◌++◌, take, drop, get_or, append-nil, zero-add, Bool, true, false, cond, Option, arith, refl, sym, ◌∙◌, ap, subst}
+use Rattle.std.proofs.Common.{IsTrue, ◌≡◌, ◌≢◌, ◌⊎◌, ◌≤◌, ◌<◌, inl, inr, ℕ, ◌+◌, List, [], ◌∷◌, ◌++◌, take, drop, get_or, append-nil, zero-add, Bool, true, false, cond, Option, arith, refl, sym, ◌∙◌, ap, subst}
 use Rattle.std.specs.Prelude.{Result, Ok, Err, IfOk, OnErr}
 use Rattle.std.specs.List.{flat_map, range_with_len}
 use Rattle.std.proofs.lemmas.List.FromFn.{length-range_with_len, get_or-range_with_len}
@@ -9,22 +9,46 @@ use Rattle.std.proofs.lemmas.List.{take_more, take_all, take-append-drop}
 use Rattle.std.proofs.lemmas.Result.{err_from_is_err_and}
 use Rattle.mx_word.specs.Lists.{IsFront}
 use Rattle.mx_word.specs.declared.no_memory.NoMemory.{NoMemory}
-use Rattle.mx_word.proofs.Fronts.{front-self, front-through, front-of}
+use Rattle.mx_word.proofs.Fronts.{front-self, front-through}
 use Rattle.mx_host.specs.HostModel.{HostModel, tells, contents, Rose}
 use Rattle.mx_host.specs.HostAnswer.{Then}
-use Rattle.mx_host.specs.Keeping.{ComesByFault, Keeps}
+use Rattle.mx_host.specs.Keeping.{ComesByFault}
 use Rattle.mx_host.proofs.Keeping.{keeps-then, keeps-all}
 use Rattle.mx_files.specs.Answers.{output_of, after_lines}
 use Rattle.mx_files.specs.declared.outcome.Outcome.{Outcome}
 use Rattle.mx_files.specs.Pieces.{put_piece, pieces_after}
 use Rattle.mx_files.specs.Lines.{output_slot, lines_put, Puts}
-use Rattle.mx_files.proofs.PutPieces.{piece-front, after-front}
+use Rattle.mx_host.specs.HostAnswer.{write_answer}
+use Rattle.mx_host.specs.declared.faults.HostFault.{HostFault}
+use Rattle.mx_host.specs.declared.faults.HostFault.TheVariants.{Failed, Misused, OutOfMemory}
+use Rattle.mx_plan.specs.Calls.{host, HostPlan, write_plan}
+use Rattle.mx_plan.specs.Clauses.{CarriesOut, Stands}
+use Rattle.mx_plan.specs.Held.{KeepsStreams}
+use Rattle.mx_plan.specs.Plan.{returns, bind, end_of, end_after, Comes}
+use Rattle.mx_plan.proofs.HeldLaws.{held-end}
+use Rattle.mx_plan.proofs.Plans.{end_bind, end_returns, stops_first}
+use Rattle.mx_plan.proofs.Streams.{streams-held}
+use Rattle.mx_files.specs.Clauses.{as_part, call_written, part_of}
+use Rattle.mx_files.specs.FilePlans.{carried, write_piece, line_plan, lines_plan}
+use Rattle.mx_files.specs.Pieces.{piece_put}
+use Rattle.mx_files.specs.declared.outcome.Outcome.TheVariants as outcome
+use Rattle.mx_files.proofs.FileEnds.{lines-end}
+use Rattle.mx_files.proofs.Rests.{stop-front, comes-keeps}
+
+part-world : (t : Then Bool) → (part_of t).1 ≡ t.1
+part-world (true, m) = refl
+part-world (false, m) = refl
 
 -- lines only add to standard output
 pub lines-front : (lines : List (List ℕ)) (m : HostModel) → IsFront m.output (lines_put lines m).1.output
-unfolding lines_put
-lines-front [] m = front-self m.output
-lines-front (line ∷ lines) m = after-front m (lines_put lines) (λ n. lines-front lines n) (put_piece output_slot line m) (piece-front m output_slot line)
+lines-front lines m =
+    subst (λ (n : HostModel). IsFront m.output n.output) (ap (λ (t : Result (Unit {0}) Outcome × HostModel). t.1) (lines-end lines m) ∙ part-world (lines_put lines m))
+    (held-end host KeepsStreams streams-held (lines_plan lines) m).growing
+
+after-front : (m : HostModel) (more : HostModel → Then Bool) → ((n : HostModel) → IsFront n.output (more n).1.output) →
+    (t : Then Bool) → IsFront m.output t.1.output → IsFront m.output (pieces_after more t).1.output
+after-front m more f (true, n) h = front-through m.output n.output (more n).1.output h (f n)
+after-front m more f (false, n) h = h
 
 pub after_lines-front : (outcome : Outcome) (m : HostModel) (t : Then Bool) → IsFront m.output t.1.output → IsFront m.output (output_of (after_lines outcome t))
 after_lines-front outcome m (written, n) h = h
@@ -105,21 +129,84 @@ puts-ended a b k m r xs ys failed h = record {
   keeps = h.keeps;
 }
 
--- one line, by one write
-pub puts-line : (a b : Option HostModel) (k m : ℕ) (r : Result Bool NoMemory) (line : List ℕ) →
-    (IsTrue (tells a) → IfOk r (λ written. (written, contents b) ≡ put_piece output_slot line (contents a))) →
-    (IsTrue (tells a) → OnErr r ((contents b).output ≡ (contents a).output)) →
-    ComesByFault a (Ok false) r k m → Keeps a b k m → Puts a b k m r (line ∷ [])
-puts-line a b k m r line told memory rose keeps = record {
-  told = λ t. subst (λ p. IfOk r (λ written. (written, contents b) ≡ p)) (sym (one-line line (contents a))) (told t);
-  memory = λ t. kept-front r (contents a) (contents b) (memory t);
-  rose = rose;
-  keeps = keeps;
-}
+-- ---- one line, by one write
+
+put-world : (t : Then (Result (Unit {0}) HostFault)) → (piece_put t).1 ≡ t.1
+put-world (Ok u, m) = refl
+put-world (Err why, m) = refl
+
+told-line : (r : Result (Unit {0}) HostFault) (line : List ℕ) (m n : HostModel) → r ≢ Err OutOfMemory → (r, n) ≡ write_answer m output_slot line → IfOk (call_written r) (λ written. (written, n) ≡ lines_put (line ∷ []) m)
+told-line (Ok u) line m n ne e = sym (one-line line m ∙ ap piece_put (sym e))
+told-line (Err Failed) line m n ne e = sym (one-line line m ∙ ap piece_put (sym e))
+told-line (Err Misused) line m n ne e = sym (one-line line m ∙ ap piece_put (sym e))
+told-line (Err OutOfMemory) line m n ne e = tt
+
+line-answer : (line : List ℕ) (m : HostModel) → end_of host (write_plan output_slot line) m ≡ write_answer m output_slot line
+unfolding write_plan end_of host
+line-answer line m = refl
+
+decided : (r : Result (Unit {0}) HostFault) → (r ≡ Err OutOfMemory) ⊎ (r ≢ Err OutOfMemory)
+decided (Ok u) = inr (λ e. absurd (cc))
+decided (Err OutOfMemory) = inl refl
+decided (Err Failed) = inr (λ e. absurd (cc))
+decided (Err Misused) = inr (λ e. absurd (cc))
+
+either-told : (r : Result (Unit {0}) HostFault) (line : List ℕ) (a b : Option HostModel) → (r ≡ Err OutOfMemory) ⊎ (r ≢ Err OutOfMemory) → CarriesOut a b (Err OutOfMemory) r (write_plan output_slot line) →
+    IsTrue (tells a) → IfOk (call_written r) (λ written. (written, contents b) ≡ lines_put (line ∷ []) (contents a))
+either-told r line a b (inl e) told t = rw e tt
+either-told r line a b (inr ne) told t = told-line r line (contents a) (contents b) ne ((told t).ending ne ∙ line-answer line (contents a))
+
+lacking-front : (r : Result (Unit {0}) HostFault) (line : List ℕ) (a b : Option HostModel) → CarriesOut a b (Err OutOfMemory) r (write_plan output_slot line) →
+    IsTrue (tells a) → OnErr (call_written r) (IsFront (contents b).output (lines_put (line ∷ []) (contents a)).1.output)
+lacking-front (Ok u) line a b told t = tt
+lacking-front (Err Failed) line a b told t = tt
+lacking-front (Err Misused) line a b told t = tt
+lacking-front (Err OutOfMemory) line a b told t =
+    subst (λ (n : HostModel). IsFront (contents b).output n.output) (world line (contents a)) (stop-front (write_plan output_slot line) (contents b) (contents a) ((told t).stopping refl))
   where
-    kept-front : (r : Result Bool NoMemory) (m n : HostModel) → OnErr r (n.output ≡ m.output) → OnErr r (IsFront n.output (lines_put (line ∷ []) m).1.output)
-    kept-front (Ok written) m n e = tt
-    kept-front (Err f) m n e = front-of m.output n.output (lines_put (line ∷ []) m).1.output _ e refl (lines-front (line ∷ []) m)
+    world : (line : List ℕ) (m : HostModel) → (end_of host (write_plan output_slot line) m).1 ≡ (lines_put (line ∷ []) m).1
+    world line m =
+        ap (λ (t : Then (Result (Unit {0}) HostFault)). t.1) (line-answer line m) ∙ sym (put-world (write_answer m output_slot line))
+        ∙ ap (λ (t : Then Bool). t.1) (sym (one-line line m))
+
+rose-line : (r : Result (Unit {0}) HostFault) (a : Option HostModel) (k m : ℕ) → (r ≡ Err Failed → Rose k m) → ComesByFault a (Err Misused) r k m → ComesByFault a (Ok false) (call_written r) k m
+rose-line (Ok u) a k m failed misused = λ u e. absurd (cc)
+rose-line (Err OutOfMemory) a k m failed misused = λ u e. absurd (cc)
+rose-line (Err Failed) a k m failed misused = λ u e. failed refl
+rose-line (Err Misused) a k m failed misused = λ u e. misused u refl
+
+pub puts-line : (a b : Option HostModel) (k m : ℕ) (r : Result (Unit {0}) HostFault) (line : List ℕ) → CarriesOut a b (Err OutOfMemory) r (write_plan output_slot line) →
+    (r ≡ Err Failed → Rose k m) → ComesByFault a (Err Misused) r k m → Stands a b k m → Puts a b k m (call_written r) (line ∷ [])
+puts-line a b k m r line told failed misused stands = record {
+  told = either-told r line a b (decided r) told;
+  memory = lacking-front r line a b told;
+  rose = rose-line r a k m failed misused;
+  keeps = comes-keeps a b k m (Err OutOfMemory) r (write_plan output_slot line) (decided r) told stands;
+}
+
+-- the same as a part of the work
+pub line-plan : (a b : Option HostModel) (r : Result (Unit {0}) HostFault) (line : List ℕ) → CarriesOut a b (Err OutOfMemory) r (write_plan output_slot line) →
+    CarriesOut a b (Err outcome.OutOfMemory) (as_part (call_written r)) (line_plan line)
+unfolding write_piece
+line-plan a b r line told t = by r (told t)
+  where
+    m : HostModel
+    m = contents a
+
+    n : HostModel
+    n = contents b
+
+    p : HostPlan (Result (Unit {0}) HostFault)
+    p = write_plan output_slot line
+
+    ends : (r : Result (Unit {0}) HostFault) → (r, n) ≡ end_of host p m → end_of host (bind (λ s. returns (carried s)) p) m ≡ (carried r, n)
+    ends r e = end_bind host (λ s. returns (carried s)) p m ∙ ap (end_after host (λ s. returns (carried s))) (sym e) ∙ end_returns host (carried r) n
+
+    by : (r : Result (Unit {0}) HostFault) → Comes host m n (Err OutOfMemory) r p → Comes host m n (Err outcome.OutOfMemory) (as_part (call_written r)) (bind (λ s. returns (carried s)) p)
+    by (Ok u) c = record { ending = λ ne. sym (ends (Ok tt) (c.ending (λ e. absurd (cc)))); stopping = λ e. absurd (cc) }
+    by (Err Failed) c = record { ending = λ ne. sym (ends (Err Failed) (c.ending (λ e. absurd (cc)))); stopping = λ e. absurd (cc) }
+    by (Err Misused) c = record { ending = λ ne. sym (ends (Err Misused) (c.ending (λ e. absurd (cc)))); stopping = λ e. absurd (cc) }
+    by (Err OutOfMemory) c = record { ending = λ ne. absurd (ne refl); stopping = λ e. stops_first host (λ s. returns (carried s)) p n m (c.stopping refl) }
 
 -- the same line by another name
 pub puts-renamed : (a b : Option HostModel) (k m : ℕ) (r : Result Bool NoMemory) (x y : List ℕ) → x ≡ y → Puts a b k m r (x ∷ []) → Puts a b k m r (y ∷ [])

@@ -1,143 +1,185 @@
 -- An object that is listed, line by line.
-use Rattle.std.proofs.Common.{IsTrue, ◌≡◌, ◌≢◌, ℕ, List, [], ◌∷◌, ◌++◌, map, Bool, true, false, cond, Option, None, Some, refl, sym, ◌∙◌, ap, subst, arith, append-nil, append_assoc}
+use Rattle.std.proofs.Common.{◌≡◌, ◌≢◌, ℕ, List, [], ◌∷◌, ◌++◌, map, Bool, true, false, cond, Option, None, Some, inl, inr, refl, sym, ◌∙◌, ap, subst, arith, append_assoc, IsTrue}
 use Rattle.std.proofs.lemmas.Bool.Decides.{nat_tests}
 use Rattle.std.proofs.lemmas.Grind.{common_steps}
 use Rattle.std.proofs.lemmas.List.{drop_more}
-use Rattle.std.specs.Prelude.{◌+◌, ◌==◌, Result, Ok, Err, IfErr, OnOk, ◌<◌, ◌≤◌, drop, get_or, length, nat_lt}
-use Rattle.mx_word.specs.Lists.{IsFront}
-use Rattle.mx_word.specs.declared.no_memory.NoMemory.{NoMemory}
-use Rattle.mx_host.specs.HostModel.{HostModel, contents}
-use Rattle.mx_host.specs.HostAnswer.{Then}
-use Rattle.mx_host.proofs.Keeping.{keeps-then, keeps-all}
+use Rattle.std.specs.Prelude.{◌+◌, ◌==◌, Result, Ok, Err, ◌<◌, ◌≤◌, drop, get_or, length, nat_lt}
+use Rattle.mx_host.specs.HostModel.{HostModel, tells, contents}
 use Rattle.mx_mmo.specs.Replies.{ReaderModel, feed_answer, finish_answer, finish_next, finished, fresh, limit, next_answer, refused, tail_of}
-use Rattle.mx_mmo.specs.Whole.{Walk, items_of, left_of}
+use Rattle.mx_mmo.specs.Whole.{Left, Walk, items_of, left_of}
 use Rattle.mx_mmo.specs.declared.faults.MmoFault.{MmoFault}
 use Rattle.mx_mmo.specs.declared.faults.MmoFault.TheVariants.{TooLong}
 use Rattle.mx_mmo.specs.declared.due.Phase.TheVariants.{Start}
 use Rattle.mx_mmo.specs.declared.items.Item.{Item}
 use Rattle.mx_mmo.specs.declared.items.Tail.{Tail}
 use Rattle.mx_mmo.proofs.Nexts.{next-gave, next-none, next-fault, finish-fault, reader-is, result-is}
+use Rattle.mx_plan.specs.Calls.{host, need}
+use Rattle.mx_plan.specs.Held.{Makes}
+use Rattle.mx_plan.specs.Plan.{bind, end_of, Stops, IsRest}
+use Rattle.mx_stab.specs.Reading.{trie_answer}
+use Rattle.mx_stab.specs.declared.faults.StabFault.{StabFault}
 use Rattle.mx_type.specs.Lambda.{lambda_after}
 use Rattle.mx_type.specs.Texts.{item_text}
-use Rattle.mx_files.specs.Answers.{Answer, answered, output_of, is_usage, after_lines}
-use Rattle.mx_files.specs.Lines.{Puts, lines_put}
-use Rattle.mx_files.specs.Pieces.{pieces_after}
-use Rattle.mx_files.specs.Source.{file_bytes}
-use Rattle.mx_files.specs.Typed.{Typed, Types, HasTyped, shown, item_lines, behind, end_typed, unread, tail_typed, walk_typed, still_typed, typed, typed_put, after_typing, outcome_of_lines}
+use Rattle.mx_word.specs.declared.symbols.Symbol.{Symbol}
+use Rattle.mx_files.specs.Clauses.{Serves, Works, Leaves, is_end}
+use Rattle.mx_files.specs.FilePlans.{Part, line_plan, made_plan, lines_plan}
+use Rattle.mx_files.specs.ObjectPlans.{typed_end, typed_plan, shown_plan, item_plan}
+use Rattle.mx_files.specs.Typed.{Typed, shown, item_lines, tail_lines, trie_typed, behind, end_typed, unread, tail_typed, walk_typed, still_typed, typed}
 use Rattle.mx_files.specs.declared.outcome.Outcome.{Outcome}
-use Rattle.mx_files.specs.declared.outcome.Outcome.TheVariants.{Done, NoFile, HostFault, OutOfMemory}
-use Rattle.mx_files.proofs.PutLines.{lines-front, lines-append, tells-then, rose-on, puts-none, puts-failed, puts-then, puts-ended, after_lines-front}
-use Rattle.mx_files.proofs.QuietFiles.{Quiet, file-quiet}
-use Rattle.mx_files.proofs.WrittenObjects.{quiet-front}
+use Rattle.mx_files.specs.declared.outcome.Outcome.TheVariants.{Done, Usage, NoFile, HostFault, Refused, BadObject, BadSchedule, Stopped, StepsSpent, Quit, ConsoleLimit, OutOfMemory}
+use Rattle.mx_files.proofs.FileParts.{lines-end}
+use Rattle.mx_files.proofs.Parts.{works-on, works-then, works-ends, works-done, leaves-all, leaves-on, leaves-next, leaves-bind, stands-all}
 
 -- ---- lines and outcomes
 
 behind-behind : (xs ys : List (List ℕ)) (t : Typed) → behind xs (behind ys t) ≡ behind (xs ++ ys) t
 behind-behind xs ys t = ap (λ zs. (zs, t.1)) (sym (append_assoc xs ys t.0))
 
--- what is written behind lines that were written
-put-behind : (xs : List (List ℕ)) (t : Typed) (m n : HostModel) → (true, n) ≡ lines_put xs m → typed_put t n ≡ typed_put (behind xs t) m
-put-behind xs t m n e = sym (ap (after_lines t.1) (lines-append xs t.0 m ∙ ap (pieces_after (lines_put t.0)) (sym e)))
+-- memory may run out before anything of a listing is written
+abbrev pub Lacks : Typed → Type 0
+Lacks t = (m : HostModel) → Stops host m (typed_plan t) m
 
-pub typed-front : (t : Typed) (m : HostModel) → IsFront m.output (output_of (typed_put t m))
-typed-front t m = after_lines-front t.1 m (lines_put t.0 m) (lines-front t.0 m)
+lines-lack : (line : List ℕ) (lines : List (List ℕ)) (outcome : Outcome) → Lacks (line ∷ lines, outcome)
+unfolding typed_plan lines_plan made_plan bind need Stops host
+lines-lack line lines outcome m = inl refl
 
-put-none : (outcome : Outcome) (m : HostModel) → answered outcome m ≡ typed_put ([], outcome) m
-unfolding lines_put
-put-none outcome m = refl
+fault-lacks : (place fault : ℕ) → Lacks ([], BadObject place fault)
+unfolding typed_plan lines_plan bind need Stops host
+fault-lacks place fault m = inl refl
+
+behind-lacks : (lines : List (List ℕ)) (t : Typed) → Lacks t → Lacks (behind lines t)
+behind-lacks [] t h = h
+behind-lacks (line ∷ lines) t h = lines-lack line (lines ++ t.0) t.1
+
+trie-lacks : (place : ℕ) (trie : List ℕ) (r : Result (List Symbol) StabFault) → Lacks (trie_typed place trie r)
+trie-lacks place trie (Ok symbols) = lines-lack _ _ (Done 0)
+trie-lacks place trie (Err fault) = fault-lacks _ _
+
+pub tail-lacks : (r : Result Tail MmoFault) → Lacks (tail_typed r)
+tail-lacks (Ok tail) = trie-lacks tail.place tail.trie (trie_answer tail.trie)
+tail-lacks (Err fault) = fault-lacks _ _
+
+pub end-lacks : (r : Result Left MmoFault) → Lacks (end_typed r)
+end-lacks (Ok left) = tail-lacks (tail_of left.phase left.at left.rest)
+end-lacks (Err fault) = fault-lacks _ _
+
+pub walk-lacks : (lambda : ℕ) (w : Walk) → Lacks (walk_typed lambda w)
+walk-lacks lambda w = behind-lacks (item_lines lambda w.0) (end_typed w.1) (end-lacks w.1)
+
+either-lacks : (b : Bool) (t u : Typed) → Lacks t → Lacks u → Lacks (cond b t u)
+either-lacks true t u h k = h
+either-lacks false t u h k = k
+
+pub typed-lacks : (object : List ℕ) → Lacks (typed object)
+unfolding typed
+typed-lacks object = either-lacks (nat_lt limit (length object)) _ _ (fault-lacks _ _) (walk-lacks 0 (items_of Start 0 object))
 
 -- ---- calls
 
--- lines, and what is written behind them
-pub types-then : (a b c : Option HostModel) (k m n : ℕ) (r : Outcome) (xs : List (List ℕ)) (t : Typed) →
-    Puts a b k m (Ok true) xs → Types b c m n r t → Types a c k n r (behind xs t)
-types-then a b c k m n r xs t first second = record {
-  told = λ is ne. second.told (tells-then a b first.keeps.telling is) ne ∙ put-behind xs t (contents a) (contents b) (first.told is);
-  front = λ is e. subst (λ (p : Answer). IsFront (contents c).output (output_of p)) (put-behind xs t (contents a) (contents b) (first.told is))
-      (second.front (tells-then a b first.keeps.telling is) e);
-  rose = λ is e. rose-on k m n first.keeps.counting (second.rose (λ u. is (subst IsTrue first.keeps.telling u)) e);
-  present = second.present;
-  words = second.words;
-  keeps = keeps-then a b c k m n first.keeps second.keeps;
-}
-
-lines-output : (outcome : Outcome) (t : Then Bool) → output_of (after_lines outcome t) ≡ t.1.output
-lines-output outcome (written, m) = refl
-
--- lines of which one was not written
-pub types-short : (a b : Option HostModel) (k m : ℕ) (w : Result Bool NoMemory) (t : Typed) → w ≢ Ok true → Puts a b k m w t.0 → Types a b k m (outcome_of_lines w (Done 0)) t
-types-short a b k m (Ok true) t failed h = absurd (failed refl)
-types-short a b k m (Ok false) t failed h = record {
-  told = λ is ne. ap (after_lines t.1) (h.told is);
-  front = λ is e. absurd (cc);
-  rose = λ is e. h.rose is refl;
-  present = λ e. cc;
-  words = refl;
-  keeps = h.keeps;
-}
-types-short a b k m (Err e) t failed h = record {
-  told = λ is ne. absurd (ne refl);
-  front = λ is same. subst (IsFront (contents b).output) (sym (lines-output t.1 (lines_put t.0 (contents a)))) (h.memory is);
-  rose = λ is same. absurd (cc);
-  present = λ same. cc;
-  words = refl;
-  keeps = h.keeps;
-}
-
--- all of them
-types-all : (a b : Option HostModel) (k m : ℕ) (lines : List (List ℕ)) → Puts a b k m (Ok true) lines → Types a b k m (Done 0) (lines, Done 0)
-types-all a b k m lines h = record {
-  told = λ is ne. ap (after_lines (Done 0)) (h.told is);
-  front = λ is e. absurd (cc);
-  rose = λ is e. absurd (cc);
-  present = λ e. cc;
-  words = refl;
-  keeps = h.keeps;
-}
-
-pub types-lines : (a b : Option HostModel) (k m : ℕ) (w : Result Bool NoMemory) (r : Outcome) (lines : List (List ℕ)) → r ≡ outcome_of_lines w (Done 0) →
-    Puts a b k m w lines → Types a b k m r (lines, Done 0)
-types-lines a b k m (Ok true) r lines e h = rw e (types-all a b k m lines h)
-types-lines a b k m (Ok false) r lines e h = rw e (types-short a b k m (Ok false) (lines, Done 0) (λ x. cc) h)
-types-lines a b k m (Err f) r lines e h = rw e (types-short a b k m (Err f) (lines, Done 0) (λ x. cc) h)
-
--- some lines, of which one was not written, with those that would have followed
-pub types-ended : (a b : Option HostModel) (k m : ℕ) (w : Result Bool NoMemory) (xs : List (List ℕ)) (t : Typed) → w ≢ Ok true → Puts a b k m w xs →
-    Types a b k m (outcome_of_lines w (Done 0)) (behind xs t)
-types-ended a b k m w xs t failed h = types-short a b k m w (behind xs t) failed (puts-ended a b k m w xs t.0 failed h)
+refused-end : (r : Outcome) (m : HostModel) → is_end r ≡ true → end_of host (typed_plan ([], r)) m ≡ (Err r, m)
+unfolding typed_plan lines_plan bind need end_of host
+refused-end (Done status) m i = absurd (cc)
+refused-end (Usage fault) m i = absurd (cc)
+refused-end (BadSchedule place) m i = refl
+refused-end (Stopped pc reason) m i = absurd (cc)
+refused-end (StepsSpent steps) m i = absurd (cc)
+refused-end Quit m i = absurd (cc)
+refused-end ConsoleLimit m i = absurd (cc)
+refused-end NoFile m i = refl
+refused-end HostFault m i = refl
+refused-end (Refused line fault from_line) m i = refl
+refused-end (BadObject place fault) m i = refl
+refused-end OutOfMemory m i = refl
 
 -- no line, but an outcome
-pub types-told : (a : Option HostModel) (k : ℕ) (r : Outcome) (t : Typed) → r ≢ HostFault → r ≢ NoFile → is_usage r ≡ false → (r ≢ OutOfMemory → t ≡ ([], r)) → Types a a k k r t
-types-told a k r t well present words is = record {
-  told = λ there ne. put-none r (contents a) ∙ ap (λ (u : Typed). typed_put u (contents a)) (sym (is ne));
-  front = λ there e. typed-front t (contents a);
-  rose = λ there e. absurd (well e);
-  present = present;
-  words = words;
-  keeps = keeps-all a k;
+pub refused-works : (a : Option HostModel) (k : ℕ) (r : Outcome) (t : Typed) → Lacks t → is_end r ≡ true → r ≢ HostFault → r ≢ NoFile → (r ≢ OutOfMemory → t ≡ ([], r)) → Works a a k k (Err r) (typed_plan t)
+refused-works a k r t lacks i h n is = record {
+  told = λ u. record {
+    ending = λ ne. sym (ap (λ (s : Typed). end_of host (typed_plan s) (contents a)) (is (λ e. ne (cc))) ∙ refused-end r (contents a) i);
+    stopping = λ e. lacks (contents a);
+  };
+  cause = λ s e. absurd (h (cc));
+  absent = λ u e. absurd (n (cc));
+  ends = i;
+  stands = stands-all a k;
 }
 
-pub types-renamed : (a b : Option HostModel) (k m : ℕ) (r : Outcome) (t u : Typed) → t ≡ u → Types a b k m r u → Types a b k m r t
-types-renamed a b k m r t u e h = subst (λ (x : Typed). Types a b k m r x) (sym e) h
+-- all lines, where nothing is left but that
+pub done-works : (a b : Option HostModel) (k m : ℕ) (lines : List (List ℕ)) (r : Result (Unit {0}) Outcome) → Works a b k m r (lines_plan lines) → Works a b k m r (typed_plan (lines, Done 0))
+unfolding typed_plan
+done-works a b k m lines (Ok u) w = works-then a b b k m m tt (Ok tt) (λ v. typed_end (Done 0)) (lines_plan lines) w (works-done b m tt)
+done-works a b k m lines (Err outcome) w = works-ends a b k m outcome (λ v. typed_end (Done 0)) (lines_plan lines) w
 
--- ---- some lines of a whole
+pub works-named : (a b : Option HostModel) (k m : ℕ) (r : Result (Unit {0}) Outcome) (t u : Typed) → t ≡ u → Works a b k m r (typed_plan u) → Works a b k m r (typed_plan t)
+works-named a b k m r t u e w = subst (λ (x : Typed). Works a b k m r (typed_plan x)) (sym e) w
 
-pub typed-none : (a : Option HostModel) (k : ℕ) (whole rest : Typed) → whole ≡ rest → HasTyped a a k k whole rest
-typed-none a k whole rest e = record { lines = []; puts = puts-none a k; joined = e }
+pub leaves-named : (a : Option HostModel) (k : ℕ) (t u : Typed) → t ≡ u → Leaves a a k k (typed_plan u) (typed_plan t)
+leaves-named a k t u e = subst (λ (x : Typed). Leaves a a k k (typed_plan u) (typed_plan x)) (sym e) (leaves-all a k (typed_plan u))
 
-pub typed-some : (a b : Option HostModel) (k m : ℕ) (xs : List (List ℕ)) (whole rest : Typed) → Puts a b k m (Ok true) xs → whole ≡ behind xs rest → HasTyped a b k m whole rest
-typed-some a b k m xs whole rest h e = record { lines = xs; puts = h; joined = e }
+-- ---- a text that is shown
 
-pub typed-then : (a b c : Option HostModel) (k m n : ℕ) (whole mid rest : Typed) → HasTyped a b k m whole mid → HasTyped b c m n mid rest → HasTyped a c k n whole rest
-typed-then a b c k m n whole mid rest first second = record {
-  lines = first.lines ++ second.lines;
-  puts = puts-then a b c k m n (Ok true) first.lines second.lines first.puts second.puts;
-  joined = first.joined ∙ ap (behind first.lines) second.joined ∙ behind-behind first.lines second.lines rest;
+zero-of : (n : ℕ) → (n == 0) ≡ true → n ≡ 0
+zero-of n h = grind (arith, nat_tests)
+
+pub shown-none : (a : Option HostModel) (k : ℕ) (text : List ℕ) → (length text == 0) ≡ true → Works a a k k (Ok tt) (shown_plan text)
+shown-none a k [] h = works-done a k tt
+shown-none a k (x ∷ text) h = absurd (omega (arith, zero-of _ h))
+
+pub shown-some : (a b : Option HostModel) (k m : ℕ) (text : List ℕ) (r : Result (Unit {0}) Outcome) → (length text == 0) ≡ false → Works a b k m r (line_plan text) → Works a b k m r (shown_plan text)
+shown-some a b k m [] r h w = absurd (cc)
+shown-some a b k m (x ∷ text) r h w = w
+
+-- ---- an item, and the rest behind it
+
+none-shown : (a b : Option HostModel) (k m : ℕ) → Works a b k m (Ok tt) (item_plan []) → IsTrue (tells a) → contents b ≡ contents a
+unfolding item_plan bind need end_of host
+none-shown a b k m w t = ap (λ (e : Result (Unit {0}) Outcome × HostModel). e.1) ((w.told t).ending (λ e. absurd (cc)))
+
+none-lacks : (m n : HostModel) → Stops host n (item_plan []) m → n ≡ m
+unfolding item_plan bind need Stops host
+none-lacks m n (inl e) = e
+none-lacks m n (inr none) = absurd none
+
+none-made : (m : HostModel) → Makes host Serves (item_plan []) m
+unfolding item_plan bind need Makes host
+none-made m = (tt, tt)
+
+none-end : (m : HostModel) → end_of host (item_plan []) m ≡ (Ok tt, m)
+unfolding item_plan bind need end_of host
+none-end m = refl
+
+one-made : (a b : Option HostModel) (k m : ℕ) (r : Result (Unit {0}) Outcome) (x : ℕ) (text : List ℕ) → Works a b k m r (item_plan (x ∷ text)) → Works a b k m r (made_plan (x ∷ text))
+unfolding item_plan made_plan
+one-made a b k m r x text w = w
+
+line-leaves : (a b : Option HostModel) (k m : ℕ) (line : List ℕ) (lines : List (List ℕ)) (outcome : Outcome) → Works a b k m (Ok tt) (made_plan line) →
+    Leaves a b k m (typed_plan (lines, outcome)) (typed_plan (line ∷ lines, outcome))
+unfolding typed_plan lines_plan
+line-leaves a b k m line lines outcome w =
+    leaves-bind a b k m (λ u. typed_end outcome) (lines_plan lines) (lines_plan (line ∷ lines)) (leaves-next a b k m tt (λ u. lines_plan lines) (made_plan line) w)
+
+pub item-leaves : (a b : Option HostModel) (k m : ℕ) (text : List ℕ) (t : Typed) → Works a b k m (Ok tt) (item_plan text) → Leaves a b k m (typed_plan t) (typed_plan (behind (shown text) t))
+item-leaves a b k m [] t w = record {
+  told = λ u. subst (λ n. IsRest host (typed_plan t) n (typed_plan t) (contents a)) (sym (none-shown a b k m w u)) (record { ending = refl; stopping = λ v h. h });
+  cause = λ s u. let v : IsTrue (tells a) = subst IsTrue w.stands.0 u in subst (λ n. Makes host Serves (typed_plan t) n) (sym (none-shown a b k m w v)) (s v);
+  stands = w.stands;
 }
+item-leaves a b k m (x ∷ text) t w = line-leaves a b k m (x ∷ text) t.0 t.1 (one-made a b k m (Ok tt) x text w)
 
-pub typed-ends : (a b c : Option HostModel) (k m n : ℕ) (r : Outcome) (whole mid : Typed) → HasTyped a b k m whole mid → Types b c m n r mid → Types a c k n r whole
-typed-ends a b c k m n r whole mid first second =
-    subst (λ (t : Typed). Types a c k n r t) (sym first.joined) (types-then a b c k m n r first.lines mid first.puts second)
+pub item-ends : (a b : Option HostModel) (k m : ℕ) (text : List ℕ) (t : Typed) (outcome : Outcome) → Lacks t → Works a b k m (Err outcome) (item_plan text) → Works a b k m (Err outcome) (typed_plan (behind (shown text) t))
+unfolding typed_plan lines_plan
+item-ends a b k m [] t outcome lacks w = record {
+  told = λ u. record {
+    ending = λ ne. let is = ap (λ (x : Result (Unit {0}) Outcome × HostModel). x.0) ((w.told u).ending ne ∙ none-end (contents a)) in absurd (cc);
+    stopping = λ e. subst (λ n. Stops host n (typed_plan t) (contents a)) (sym (none-lacks (contents a) (contents b) ((w.told u).stopping e))) (lacks (contents a));
+  };
+  cause = λ s e. w.cause (λ u. none-made (contents a)) e;
+  absent = w.absent;
+  ends = w.ends;
+  stands = w.stands;
+}
+item-ends a b k m (x ∷ text) t outcome lacks w =
+    works-ends a b k m outcome (λ u. typed_end t.1) (lines_plan ((x ∷ text) ∷ t.0)) (works-ends a b k m outcome (λ u. lines_plan t.0) (made_plan (x ∷ text)) (one-made a b k m (Err outcome) x text w))
 
 -- ---- what a reader still gives
 
@@ -162,69 +204,56 @@ still-item lambda next m n item well h e =
     ∙ first-line lambda item (items_of n.phase n.at n.rest)
     ∙ ap (λ l. behind (shown (item_text lambda item)) (still_typed l n)) (sym e)
 
--- ---- a line that a text is
-
-pub puts-text : (a b : Option HostModel) (k m : ℕ) (w : Result Bool NoMemory) (text : List ℕ) → text ≢ [] → Puts a b k m w (text ∷ []) → Puts a b k m w (shown text)
-puts-text a b k m w [] some h = absurd (some refl)
-puts-text a b k m w (x ∷ text) some h = h
-
-pub puts-no-text : (a : Option HostModel) (k : ℕ) (text : List ℕ) → text ≡ [] → Puts a a k k (Ok true) (shown text)
-puts-no-text a k text e = rw e (puts-none a k)
-
-zero-of : (n : ℕ) → (n == 0) ≡ true → n ≡ 0
-zero-of n h = grind (arith, nat_tests)
-
-pub no-bytes : (text : List ℕ) → (length text == 0) ≡ true → text ≡ []
-no-bytes [] h = refl
-no-bytes (x ∷ text) h = absurd (omega (arith, zero-of _ h))
-
 -- ---- an item that stands next
 
-pub next-listed : (a b : Option HostModel) (k o lambda next : ℕ) (m n : ReaderModel) (item : Item) (r : Result Bool Outcome) → m.fault ≡ None → (Ok (Some item), n) ≡ next_answer m →
-    OnOk r (Puts a b k o (Ok true) (shown (item_text lambda item))) → OnOk r (next ≡ lambda_after lambda item) → r ≡ Ok true →
-    HasTyped a b k o (still_typed lambda m) (still_typed next n)
-next-listed a b k o lambda next m n item (Ok more) well h puts e went =
-    typed-some a b k o (shown (item_text lambda item)) (still_typed lambda m) (still_typed next n) puts (still-item lambda next m n item well h e)
-next-listed a b k o lambda next m n item (Err outcome) well h puts e went = absurd (cc)
+pub next-leaves : (a b : Option HostModel) (k o lambda next : ℕ) (m n : ReaderModel) (item : Item) → m.fault ≡ None → (Ok (Some item), n) ≡ next_answer m → next ≡ lambda_after lambda item →
+    Works a b k o (Ok tt) (item_plan (item_text lambda item)) → Leaves a b k o (typed_plan (still_typed next n)) (typed_plan (still_typed lambda m))
+next-leaves a b k o lambda next m n item well h e w =
+    subst (λ (t : Typed). Leaves a b k o (typed_plan (still_typed next n)) (typed_plan t)) (sym (still-item lambda next m n item well h e)) (item-leaves a b k o (item_text lambda item) (still_typed next n) w)
 
-pub next-ended : (a b : Option HostModel) (k o lambda : ℕ) (m n : ReaderModel) (item : Item) (r : Result Bool Outcome) → m.fault ≡ None → (Ok (Some item), n) ≡ next_answer m →
-    IfErr r (λ outcome. (rest : Typed) → Types a b k o outcome (behind (shown (item_text lambda item)) rest)) → IfErr r (λ outcome. Types a b k o outcome (still_typed lambda m))
-next-ended a b k o lambda m n item (Ok more) well h ends = tt
-next-ended a b k o lambda m n item (Err outcome) well h ends =
+pub next-ends : (a b : Option HostModel) (k o lambda : ℕ) (m n : ReaderModel) (item : Item) (outcome : Outcome) → m.fault ≡ None → (Ok (Some item), n) ≡ next_answer m →
+    Works a b k o (Err outcome) (item_plan (item_text lambda item)) → Works a b k o (Err outcome) (typed_plan (still_typed lambda m))
+next-ends a b k o lambda m n item outcome well h w =
     let next : ℕ = lambda_after lambda item in
-    subst (λ (t : Typed). Types a b k o outcome t) (sym (still-item lambda next m n item well h refl)) (ends (still_typed next n))
+    works-named a b k o (Err outcome) (still_typed lambda m) (behind (shown (item_text lambda item)) (still_typed next n)) (still-item lambda next m n item well h refl)
+    (item-ends a b k o (item_text lambda item) (still_typed next n) outcome (walk-lacks next (items_of n.phase n.at n.rest)) w)
 
 -- ---- lines of a list
 
-pub lines-next : (a b c : Option HostModel) (k m n : ℕ) (whole rest more : List (List ℕ)) (line : List ℕ) → rest ≡ line ∷ more → HasTyped a b k m (whole, Done 0) (rest, Done 0) →
-    Puts b c m n (Ok true) (line ∷ []) → HasTyped a c k n (whole, Done 0) (more, Done 0)
-lines-next a b c k m n whole rest more line e first h =
-    typed-then a b c k m n (whole, Done 0) (rest, Done 0) (more, Done 0) first (typed-some b c m n (line ∷ []) (rest, Done 0) (more, Done 0) h (ap (λ (l : List (List ℕ)). (l, Done 0)) e))
+lines-leave : (b c : Option HostModel) (m n : ℕ) (line : List ℕ) (lines : List (List ℕ)) → Works b c m n (Ok tt) (made_plan line) → Leaves b c m n (lines_plan lines) (lines_plan (line ∷ lines))
+unfolding lines_plan
+lines-leave b c m n line lines w = leaves-next b c m n tt (λ u. lines_plan lines) (made_plan line) w
 
-pub lines-ended : (a b c : Option HostModel) (k m n : ℕ) (r : Result Bool NoMemory) (whole rest more : List (List ℕ)) (line : List ℕ) → rest ≡ line ∷ more → HasTyped a b k m (whole, Done 0) (rest, Done 0) →
-    r ≢ Ok true → Puts b c m n r (line ∷ []) → Puts a c k n r whole
-lines-ended a b c k m n r whole rest more line e first failed h =
-    let is : whole ≡ (first.lines ++ line ∷ []) ++ more =
-    ap (λ (t : Typed). t.0) first.joined ∙ ap (λ (l : List (List ℕ)). first.lines ++ l) e ∙ sym (append_assoc first.lines (line ∷ []) more) in
-    subst (λ (l : List (List ℕ)). Puts a c k n r l) (sym is)
-    (puts-ended a c k n r (first.lines ++ line ∷ []) more failed (puts-then a b c k m n r first.lines (line ∷ []) first.puts h))
+module _ {A : Type 0} (f : A → List ℕ) where
+  first-of-list : (xs : List A) (i : ℕ) (x d : A) → i < length xs → x ≡ get_or xs i d → map f (drop i xs) ≡ f x ∷ map f (drop (i + 1) xs)
+  first-of-list xs i x d l e = ap (map f) (drop_more xs i d l) ∙ ap (λ y. f y ∷ map f (drop (i + 1) xs)) (sym e)
 
--- the lines of what is left of a list
-pub first-of-list : {A : Type 0} (f : A → List ℕ) (xs : List A) (i : ℕ) (x d : A) → i < length xs → x ≡ get_or xs i d → map f (drop i xs) ≡ f x ∷ map f (drop (i + 1) xs)
-first-of-list f xs i x d l e = ap (map f) (drop_more xs i d l) ∙ ap (λ y. f y ∷ map f (drop (i + 1) xs)) (sym e)
+  none-left : (xs : List A) (i : ℕ) → length xs ≤ i → drop i xs ≡ []
+  none-left xs i l = grind (arith, common_steps)
 
-pub none-of-list : {A : Type 0} (f : A → List ℕ) (xs : List A) (i : ℕ) → length xs ≤ i → map f (drop i xs) ≡ []
-none-of-list f xs i l = ap (map f) (none xs i l)
-  where
-    none : {A : Type 0} (xs : List A) (i : ℕ) → length xs ≤ i → drop i xs ≡ []
-    none xs i l = grind (arith, common_steps)
+  pub list-next : (a b c : Option HostModel) (k m n : ℕ) (xs : List A) (i : ℕ) (x d : A) (whole : Part (Unit {0})) → i < length xs → x ≡ get_or xs i d → Leaves a b k m (lines_plan (map f (drop i xs))) whole →
+      Works b c m n (Ok tt) (made_plan (f x)) → Leaves a c k n (lines_plan (map f (drop (i + 1) xs))) whole
+  list-next a b c k m n xs i x d whole l e h w =
+      leaves-on a b c k m n (lines_plan (map f (drop (i + 1) xs))) (lines_plan (map f (drop i xs))) whole h
+      (subst (λ ls. Leaves b c m n (lines_plan (map f (drop (i + 1) xs))) (lines_plan ls)) (sym (first-of-list xs i x d l e)) (lines-leave b c m n (f x) (map f (drop (i + 1) xs)) w))
 
-pub lines-all : (a b : Option HostModel) (k m : ℕ) (whole rest : List (List ℕ)) → rest ≡ [] → HasTyped a b k m (whole, Done 0) (rest, Done 0) → Puts a b k m (Ok true) whole
-lines-all a b k m whole rest e first =
-    let is : whole ≡ first.lines = ap (λ (t : Typed). t.0) first.joined ∙ ap (λ (l : List (List ℕ)). first.lines ++ l) e ∙ append-nil first.lines in
-    subst (λ (l : List (List ℕ)). Puts a b k m (Ok true) l) (sym is) first.puts
+  pub list-ends : (a b c : Option HostModel) (k m n : ℕ) (xs : List A) (i : ℕ) (x d : A) (outcome : Outcome) (whole : Part (Unit {0})) → i < length xs → x ≡ get_or xs i d → Leaves a b k m (lines_plan (map f (drop i xs))) whole →
+      Works b c m n (Err outcome) (made_plan (f x)) → Works a c k n (Err outcome) whole
+  list-ends a b c k m n xs i x d outcome whole l e h w =
+      works-on a b c k m n (Err outcome) (lines_plan (map f (drop i xs))) whole h
+      (subst (λ ls. Works b c m n (Err outcome) (lines_plan ls)) (sym (first-of-list xs i x d l e)) (lines-end b c m n (f x) (map f (drop (i + 1) xs)) outcome w))
+
+  pub list-done : (a b : Option HostModel) (k m : ℕ) (xs : List A) (i : ℕ) (whole : Part (Unit {0})) → length xs ≤ i → Leaves a b k m (lines_plan (map f (drop i xs))) whole → Works a b k m (Ok tt) whole
+  unfolding lines_plan
+  list-done a b k m xs i whole l h =
+      works-on a b b k m m (Ok tt) (lines_plan (map f (drop i xs))) whole h (rw (none-left xs i l) (works-done b m tt))
 
 -- ---- the end of an object
+
+pub tail-listed : (a b : Option HostModel) (k m : ℕ) (tail : Tail) (trie : List ℕ) (symbols shown : List Symbol) (r : Result (Unit {0}) Outcome) → Ok symbols ≡ trie_answer tail.trie → trie ≡ tail.trie → shown ≡ symbols →
+    Works a b k m r (lines_plan (tail_lines trie shown)) → Works a b k m r (typed_plan (tail_typed (Ok tail)))
+tail-listed a b k m tail trie symbols shown r e s t w =
+    works-named a b k m r (tail_typed (Ok tail)) (tail_lines trie shown, Done 0) (ap (trie_typed tail.place tail.trie) (sym e) ∙ rw (s, t) refl) (done-works a b k m (tail_lines trie shown) r w)
 
 finish-is : (m n : ReaderModel) (tail : Tail) (r : Result Tail MmoFault) → (Ok tail, n) ≡ finished m r → r ≡ Ok tail
 finish-is m n tail (Ok other) h =
@@ -275,14 +304,3 @@ fault-by false bytes fault n h = let is = result-is _ _ h in absurd (cc)
 pub fed-fault : (bytes : List ℕ) (fault : MmoFault) (n : ReaderModel) → (Err fault, n) ≡ feed_answer fresh bytes → typed bytes ≡ ([], unread fault)
 unfolding typed
 fed-fault bytes fault n h = fault-by (nat_lt limit (length bytes)) bytes fault n (h ∙ feed-is bytes)
-
--- ---- the file
-
-typing-front : (m : HostModel) (t : Then (Result (List ℕ) Outcome)) → Quiet m t → IsFront m.output (output_of (after_typing t))
-typing-front m (Err e, n) h = quiet-front m (e, n) h
-typing-front m (Ok object, n) h = subst (λ xs. IsFront xs (output_of (after_typing (Ok object, n)))) h (typed-front (typed object) n)
-
-pub listed-front : (m : HostModel) (name : List ℕ) → IsFront m.output (output_of (after_typing (file_bytes 16385 name m)))
-listed-front m name = typing-front m (file_bytes 16385 name m) (file-quiet 16385 m name)
-
-pub ruleset typing = (types-lines, puts-text, puts-no-text, puts-failed)

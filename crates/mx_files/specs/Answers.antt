@@ -4,7 +4,7 @@ use Rattle.mx_word.specs.Lists.{IsFront}
 use Rattle.mx_host.specs.HostModel.{HostModel, tells, contents}
 use Rattle.mx_host.specs.HostAnswer.{Then}
 use Rattle.mx_files.specs.declared.outcome.Outcome.{Outcome}
-use Rattle.mx_files.specs.declared.outcome.Outcome.TheVariants.{Done, Usage, NoFile, HostFault, Refused, BadObject, Stopped, StepsSpent, Quit, ConsoleLimit, OutOfMemory}
+use Rattle.mx_files.specs.declared.outcome.Outcome.TheVariants.{Done, Usage, NoFile, HostFault, Refused, BadObject, BadSchedule, Stopped, StepsSpent, Quit, ConsoleLimit, OutOfMemory}
 
 -- the outcome and the host; or, over the list machine, the host at the first step that looks at rS or at the memory of the
 -- register stack
@@ -23,6 +23,7 @@ is_usage NoFile = false
 is_usage HostFault = false
 is_usage (Refused line fault from_line) = false
 is_usage (BadObject place fault) = false
+is_usage (BadSchedule place) = false
 is_usage (Stopped pc reason) = false
 is_usage (StepsSpent steps) = false
 is_usage Quit = false
@@ -41,6 +42,7 @@ leaves_machine NoFile = false
 leaves_machine HostFault = false
 leaves_machine (Refused line fault from_line) = false
 leaves_machine (BadObject place fault) = false
+leaves_machine (BadSchedule place) = false
 leaves_machine OutOfMemory = false
 
 -- what follows an outcome

@@ -11,3 +11,7 @@ pub mod Objects
 pub mod Sources
 pub mod Assembling
 pub mod Typed
+pub mod FilePlans
+pub mod ObjectPlans
+pub mod Schedules
+pub mod Clauses

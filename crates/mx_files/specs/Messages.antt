@@ -4,7 +4,7 @@ use Rattle.mx_text.specs.Numbers.{hex_text}
 use Rattle.mx_files.specs.Names.{fault_name_of, usage_name_of}
 use Rattle.mx_words.specs.declared.order.WordsFault.{WordsFault}
 use Rattle.mx_files.specs.declared.outcome.Outcome.{Outcome}
-use Rattle.mx_files.specs.declared.outcome.Outcome.TheVariants.{Done, Usage, NoFile, HostFault, Refused, BadObject, Stopped, StepsSpent, Quit, ConsoleLimit, OutOfMemory}
+use Rattle.mx_files.specs.declared.outcome.Outcome.TheVariants.{Done, Usage, NoFile, HostFault, Refused, BadObject, BadSchedule, Stopped, StepsSpent, Quit, ConsoleLimit, OutOfMemory}
 
 -- a number and the name of a fault
 abbrev pub numbered_fault : ℕ → List ℕ
@@ -23,6 +23,9 @@ refused_text line fault from_line = codes "line " ++ decimal line ++ codes ": " 
 abbrev pub object_text : ℕ → ℕ → List ℕ
 object_text place fault = codes "byte " ++ decimal place ++ codes ": " ++ numbered_fault fault ++ codes "\n"
 
+abbrev pub schedule_text : ℕ → List ℕ
+schedule_text place = codes "schedule byte " ++ decimal place ++ codes "\n"
+
 abbrev pub stopped_text : ℕ → ℕ → List ℕ
 stopped_text pc reason = hex_text pc ++ codes ": " ++ numbered_fault reason ++ codes "\n"
 
@@ -35,6 +38,7 @@ message_of NoFile = codes "no file\n"
 message_of HostFault = codes "host fault\n"
 message_of (Refused line fault from_line) = refused_text line fault from_line
 message_of (BadObject place fault) = object_text place fault
+message_of (BadSchedule place) = schedule_text place
 message_of (Stopped pc reason) = stopped_text pc reason
 message_of (StepsSpent steps) = decimal steps ++ codes " steps spent\n"
 message_of ConsoleLimit = codes "console limit\n"

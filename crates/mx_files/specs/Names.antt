@@ -154,4 +154,5 @@ usage_name_of n =
     else if n == 6 then codes "BadRing"
     else if n == 7 then codes "MissingFile"
     else if n == 8 then codes "TooMany"
+    else if n == 10 then codes "Conflict"
     else []

@@ -1,7 +1,7 @@
 -- The statuses that a process ends with.
 use Rattle.std.specs.Prelude.{ℕ}
 use Rattle.mx_files.specs.declared.outcome.Outcome.{Outcome}
-use Rattle.mx_files.specs.declared.outcome.Outcome.TheVariants.{Done, Usage, NoFile, HostFault, Refused, BadObject, Stopped, StepsSpent, Quit, ConsoleLimit, OutOfMemory}
+use Rattle.mx_files.specs.declared.outcome.Outcome.TheVariants.{Done, Usage, NoFile, HostFault, Refused, BadObject, BadSchedule, Stopped, StepsSpent, Quit, ConsoleLimit, OutOfMemory}
 
 abbrev pub status_of : Outcome → ℕ
 status_of (Done b) = b
@@ -9,6 +9,7 @@ status_of Quit = 0
 status_of (Usage fault) = 64
 status_of (Refused line fault from_line) = 65
 status_of (BadObject place fault) = 65
+status_of (BadSchedule place) = 65
 status_of NoFile = 66
 status_of (Stopped pc reason) = 70
 status_of OutOfMemory = 71

@@ -1,8 +1,7 @@
 -- What `type` writes for an object, line by line, and what it comes to.
-use Rattle.std.specs.Prelude.{ℕ, ◌+◌, ◌≡◌, ◌≢◌, Bool, true, false, nat_lt, List, [], ◌∷◌, ◌++◌, length, map, Option, Result, Ok, Err, unwrap_or, if◌then◌else◌}
+use Rattle.std.specs.Prelude.{ℕ, ◌+◌, nat_lt, List, [], ◌∷◌, ◌++◌, length, map, Result, Ok, Err, unwrap_or, if◌then◌else◌}
 use Rattle.mx_host.specs.HostModel.{HostModel}
 use Rattle.mx_host.specs.HostAnswer.{Then}
-use Rattle.mx_host.specs.Keeping.{ComesByFault, Keeps}
 use Rattle.mx_load.specs.Objects.{fault_at}
 use Rattle.mx_mmo.specs.Replies.{ReaderModel, limit, tail_of}
 use Rattle.mx_mmo.specs.Whole.{Left, Walk, items_of}
@@ -17,12 +16,11 @@ use Rattle.mx_stab.specs.declared.faults.StabFault.{StabFault}
 use Rattle.mx_type.specs.Lambda.{lambda_after}
 use Rattle.mx_type.specs.Lines.{ended, stab_line, symbol_line}
 use Rattle.mx_type.specs.Texts.{item_text}
-use Rattle.mx_word.specs.declared.no_memory.NoMemory.{NoMemory}
 use Rattle.mx_word.specs.declared.symbols.Symbol.{Symbol}
-use Rattle.mx_files.specs.Answers.{Answer, answered, AnswersAs, WritesFrontOf, is_usage, after_lines}
-use Rattle.mx_files.specs.Lines.{Puts, lines_put}
+use Rattle.mx_files.specs.Answers.{Answer, answered, after_lines}
+use Rattle.mx_files.specs.Lines.{lines_put}
 use Rattle.mx_files.specs.declared.outcome.Outcome.{Outcome}
-use Rattle.mx_files.specs.declared.outcome.Outcome.TheVariants.{Done, NoFile, HostFault, BadObject, OutOfMemory}
+use Rattle.mx_files.specs.declared.outcome.Outcome.TheVariants.{Done, BadObject}
 
 -- lines, and the outcome where all of them are written
 abbrev pub Typed : Type 0
@@ -84,30 +82,6 @@ abbrev pub after_typing : Then (Result (List ℕ) Outcome) → Answer
 after_typing (Err outcome, m) = answered outcome m
 after_typing (Ok object, m) = typed_put (typed object) m
 
--- ---- the words of clauses: `old` and `new` are what the host told before and after, `before` and `after` its counts of
--- faults
-
 -- what a reader still gives, with what stands behind it
 abbrev pub still_typed : ℕ → ReaderModel → Typed
 still_typed lambda m = walk_typed lambda (items_of m.phase m.at m.rest)
-
--- what a call answers and leaves that writes these lines and comes to this outcome
-pub record Types (old new : Option HostModel) (before after : ℕ) (result : Outcome) (t : Typed) : Type 0 where
-  pub told : AnswersAs old new result (λ m. typed_put t m)
-  pub front : WritesFrontOf old new result (λ m. typed_put t m)
-  pub rose : ComesByFault old HostFault result before after
-  pub present : result ≢ NoFile
-  pub words : is_usage result ≡ false
-  pub keeps : Keeps old new before after
-
--- what a call leaves that wrote the first lines of a whole, with those that are left of it
-pub record HasTyped (old new : Option HostModel) (before after : ℕ) (whole rest : Typed) : Type 0 where
-  pub lines : List (List ℕ)
-  pub puts : Puts old new before after (Ok true) lines
-  pub joined : whole ≡ behind lines rest
-
--- what the writing of lines comes to, where it comes to an outcome if all of them are written
-abbrev pub outcome_of_lines : Result Bool NoMemory → Outcome → Outcome
-outcome_of_lines (Ok true) outcome = outcome
-outcome_of_lines (Ok false) outcome = HostFault
-outcome_of_lines (Err e) outcome = OutOfMemory

@@ -1,28 +1,29 @@
 //! A source that is assembled into an object file.
 
-ghost use Rattle.std.specs.Prelude.{IsTrue, ◌≡◌, ◌≢◌, ◌≤◌, Ok, Err, IfOk, OnOk, false, fold};
+ghost use Rattle.std.specs.Prelude.{◌≡◌, ◌≢◌, ◌≤◌, Err, IfOk, OnOk, false, fold};
 ghost use Rattle.mx_asm.specs.Faults.{no_memory};
 ghost use Rattle.mx_asm.specs.Fitting.{AreFit, IsPadded};
 ghost use Rattle.mx_asm.specs.Whole.{assembled_lines, line_after};
-ghost use Rattle.mx_host.specs.HostAnswer.{open_answer, close_answer};
-ghost use Rattle.mx_host.specs.Keeping.{Answers, ComesByFault, Keeps, KeepsOutput, WritesFront};
-ghost use Rattle.mx_host.specs.declared.slots.Mode.{Mode};
+ghost use Rattle.mx_host.specs.Keeping.{Answers, ComesByFault, Keeps, WritesFront};
 ghost use Rattle.mx_line.specs.Lines.{lines_of};
 ghost use Rattle.mx_mmo.specs.Spelling.{written};
+ghost use Rattle.mx_plan.specs.Clauses.{CarriesOut};
 ghost use Rattle.mx_files.specs.Answers.{is_usage};
-ghost use Rattle.mx_files.specs.Objects as objects;
-ghost use Rattle.mx_files.specs.Pieces.{put_text as text_put};
 ghost use Rattle.mx_files.specs.Assembling as spec;
+ghost use Rattle.mx_files.specs.Clauses.{ComesByFailing, Works};
+ghost use Rattle.mx_files.specs.ObjectPlans as plans;
+ghost use Rattle.mx_files.specs.Objects as objects;
 ghost use Rattle.mx_files.specs.Source.{file_bytes};
 
 use crate::outcome::Outcome;
-use crate::pieces::put_text;
+use crate::pieces::{close_file, put_text, whole_outcome};
 use crate::refusal::{Refusal, is_out_of_memory, refusal_of};
 use crate::source::{SOURCE_PIECES, read_file};
 use mx_asm::{Assembler, Refused};
-use mx_host::{Host, HostFault, Mode, OpenFault};
+use mx_host::{Host, Mode, OpenFault};
 use mx_line::cut_line;
 use mx_mmo::{Item, Items, Writer};
+use mx_plan::open;
 use mx_word::{Bytes, NoMemory};
 use std::alloc::Global;
 
@@ -130,100 +131,102 @@ fn object_of(
     }
 }
 
-/// The outcome of a source that is assembled, or refused.
-fn assembled_outcome(answer: Result<(), Refusal>) -> Outcome
-    ensures value { result ≡ spec.assembled_outcome answer }
-    ensures present { result ≢ Outcome.NoFile }
-    ensures well { result ≢ Outcome.HostFault }
-    ensures words { is_usage result ≡ false }
+/// What a source that is assembled, or refused, comes to.
+fn assembled_answer(answer: Result<(), Refusal>) -> Result<(), Outcome>
+    ensures { result ≡ plans.assembled answer }
 {
     match answer {
-        Ok(()) => Outcome::Done(0),
-        Err(refusal) => refusal.outcome(),
+        Ok(()) => Ok(()),
+        Err(refusal) => Err(refusal.outcome()),
     }
 }
 
-/// Closes the object file, which leads to this outcome.
-#[tactic(auto, unfolding(mx_host::specs::HostAnswer::close_answer))]
-fn close_object<H: Host>(host: &mut H, outcome: Outcome) -> Outcome
-    requires present { outcome ≢ Outcome.NoFile }
-    requires well { outcome ≢ Outcome.HostFault }
-    requires words { is_usage outcome ≡ false }
-    ensures told { Answers (H.told host.old) (H.told host.new) Outcome.OutOfMemory result
-        (λ m. spec.closed_object outcome (close_answer m 257)) }
-    ensures output { KeepsOutput (H.told host.old) (H.told host.new) }
-    ensures rose { ComesByFault (H.told host.old) Outcome.HostFault result (H.faults host.old) (H.faults host.new) }
-    ensures present { result ≢ Outcome.NoFile }
-    ensures words { is_usage result ≡ false }
-    ensures keeps { Keeps (H.told host.old) (H.told host.new) (H.faults host.old) (H.faults host.new) }
+/// Closes the object file, also that of a source that is refused.
+fn close_object<H: Host>(host: &mut H, answer: Result<(), Refusal>) -> Result<(), Outcome>
+    ensures { Works (H.told host.old) (H.told host.new) (H.faults host.old) (H.faults host.new) result
+        (plans.close_object answer) }
 {
-    match host.close_slot(OBJECT_SLOT) {
-        Ok(()) => outcome,
-        Err(HostFault::OutOfMemory) => Outcome::OutOfMemory,
-        Err(_) => Outcome::HostFault,
+    match close_file(host, OBJECT_SLOT) {
+        Ok(()) => assembled_answer(answer),
+        Err(outcome) => Err(outcome),
     }
 }
 
-/// Writes the bytes of an object and closes its file, which leads to this outcome.
-fn write_object<H: Host>(host: &mut H, bytes: &[u8], outcome: Outcome) -> Outcome
-    requires present { outcome ≢ Outcome.NoFile }
-    requires well { outcome ≢ Outcome.HostFault }
-    requires words { is_usage outcome ≡ false }
-    ensures told { Answers (H.told host.old) (H.told host.new) Outcome.OutOfMemory result
-        (λ m. spec.written_object outcome (text_put 257 bytes.now m)) }
-    ensures written { WritesFront (H.told host.old) (H.told host.new) Outcome.OutOfMemory result
-        (λ m. spec.written_object outcome (text_put 257 bytes.now m)) }
-    ensures rose { ComesByFault (H.told host.old) Outcome.HostFault result (H.faults host.old) (H.faults host.new) }
-    ensures present { result ≢ Outcome.NoFile }
-    ensures words { is_usage result ≡ false }
-    ensures keeps { Keeps (H.told host.old) (H.told host.new) (H.faults host.old) (H.faults host.new) }
+/// Writes the bytes of an object, and closes its file.
+fn put_object<H: Host>(
+    host: &mut H,
+    bytes: &[u8],
+    answer: Result<(), Refusal>,
+) -> Result<(), Outcome>
+    ensures { Works (H.told host.old) (H.told host.new) (H.faults host.old) (H.faults host.new) result
+        (plans.put_object (bytes.now, answer)) }
 {
     match put_text(host, OBJECT_SLOT, bytes) {
-        Ok(true) => close_object(host, outcome),
-        Ok(false) => Outcome::HostFault,
-        Err(_) => Outcome::OutOfMemory,
+        Ok(()) => close_object(host, answer),
+        Err(outcome) => Err(outcome),
     }
 }
 
 /// Assembles a source into the object file, which is open. The file of a source that is refused has the
 /// items of the statements before the faulty one.
-fn put_object<H: Host>(alloc: Global, host: &mut H, text: &[u8]) -> Outcome
-    ensures told { Answers (H.told host.old) (H.told host.new) Outcome.OutOfMemory result
-        (λ m. spec.object_put (objects.source_object text.now) m) }
-    ensures written { WritesFront (H.told host.old) (H.told host.new) Outcome.OutOfMemory result
-        (λ m. spec.object_put (objects.source_object text.now) m) }
-    ensures rose { ComesByFault (H.told host.old) Outcome.HostFault result (H.faults host.old) (H.faults host.new) }
-    ensures present { result ≢ Outcome.NoFile }
-    ensures words { is_usage result ≡ false }
-    ensures keeps { Keeps (H.told host.old) (H.told host.new) (H.faults host.old) (H.faults host.new) }
+fn put_source<H: Host>(alloc: Global, host: &mut H, text: &[u8]) -> Result<(), Outcome>
+    ensures { Works (H.told host.old) (H.told host.new) (H.faults host.old) (H.faults host.new) result
+        (plans.put_source text.now) }
 {
     match source_object(alloc, text) {
-        Ok((bytes, answer)) => write_object(host, bytes.as_slice(), assembled_outcome(answer)),
-        Err(_) => Outcome::OutOfMemory,
+        Ok((bytes, answer)) => put_object(host, bytes.as_slice(), answer),
+        Err(_) => Err(Outcome::OutOfMemory),
+    }
+}
+
+/// Opens the file of this name as the object file.
+#[tactic(auto, using(mx_plan::proofs::Plans::plans), unfolding(crate::specs::ObjectPlans::open_object))]
+fn open_object<H: Host>(host: &mut H, name: &[u8]) -> Result<(), Outcome>
+    ensures { Works (H.told host.old) (H.told host.new) (H.faults host.old) (H.faults host.new) result
+        (plans.open_object name.now) }
+{
+    match open(host, OBJECT_SLOT, name, Mode::BinaryWrite) {
+        Ok(()) => Ok(()),
+        Err(OpenFault::Absent) => Err(Outcome::HostFault),
+        Err(OpenFault::Failed) => Err(Outcome::HostFault),
+        Err(OpenFault::OutOfMemory) => Err(Outcome::OutOfMemory),
     }
 }
 
 /// Assembles a source into the file of this name.
-#[tactic(auto, unfolding(mx_host::specs::HostAnswer::open_answer))]
-fn assemble_into<H: Host>(alloc: Global, host: &mut H, text: &[u8], object: &[u8]) -> Outcome
-    ensures told { Answers (H.told host.old) (H.told host.new) Outcome.OutOfMemory result
-        (λ m. spec.after_opening text.now (open_answer m 257 object.now Mode.BinaryWrite)) }
-    ensures written { WritesFront (H.told host.old) (H.told host.new) Outcome.OutOfMemory result
-        (λ m. spec.after_opening text.now (open_answer m 257 object.now Mode.BinaryWrite)) }
-    ensures rose { ComesByFault (H.told host.old) Outcome.HostFault result (H.faults host.old) (H.faults host.new) }
-    ensures present { result ≢ Outcome.NoFile }
-    ensures words { is_usage result ≡ false }
-    ensures keeps { Keeps (H.told host.old) (H.told host.new) (H.faults host.old) (H.faults host.new) }
+fn put_into<H: Host>(alloc: Global, host: &mut H, object: &[u8], text: &[u8]) -> Result<(), Outcome>
+    ensures { Works (H.told host.old) (H.told host.new) (H.faults host.old) (H.faults host.new) result
+        (plans.put_into object.now text.now) }
 {
-    match host.open_file(OBJECT_SLOT, object, Mode::BinaryWrite) {
-        Ok(()) => put_object(alloc, host, text),
-        Err(OpenFault::OutOfMemory) => Outcome::OutOfMemory,
-        Err(_) => Outcome::HostFault,
+    match open_object(host, object) {
+        Ok(()) => put_source(alloc, host, text),
+        Err(outcome) => Err(outcome),
     }
 }
 
-/// Assembles the source in a file into the object file of this name.
+/// Reads a source, and assembles it.
+fn assemble<H: Host>(
+    alloc: Global,
+    host: &mut H,
+    source: &[u8],
+    object: &[u8],
+) -> Result<(), Outcome>
+    ensures { Works (H.told host.old) (H.told host.new) (H.faults host.old) (H.faults host.new) result
+        (plans.assemble_part source.now object.now) }
+{
+    match read_file(alloc, host, source, SOURCE_PIECES) {
+        Ok(text) => put_into(alloc, host, object, text.as_slice()),
+        Err(outcome) => Err(outcome),
+    }
+}
+
+/// Assembles the source in a file into the object file of this name. Where there is no memory, the calls made by then
+/// stay: the object file is opened before the source is assembled, and written after.
 pub fn assemble_file<H: Host>(alloc: Global, host: &mut H, source: &[u8], object: &[u8]) -> Outcome
+    ensures plan { CarriesOut (H.told host.old) (H.told host.new) Outcome.OutOfMemory result
+        (plans.assemble_plan source.now object.now) }
+    ensures cause { ComesByFailing (H.told host.old) Outcome.HostFault result (H.faults host.old) (H.faults host.new)
+        (plans.assemble_part source.now object.now) }
     ensures told { Answers (H.told host.old) (H.told host.new) Outcome.OutOfMemory result
         (λ m. spec.after_reading object.now (file_bytes 1025 source.now m)) }
     ensures written { WritesFront (H.told host.old) (H.told host.new) Outcome.OutOfMemory result
@@ -233,8 +236,5 @@ pub fn assemble_file<H: Host>(alloc: Global, host: &mut H, source: &[u8], object
     ensures words { is_usage result ≡ false }
     ensures keeps { Keeps (H.told host.old) (H.told host.new) (H.faults host.old) (H.faults host.new) }
 {
-    match read_file(alloc, host, source, SOURCE_PIECES) {
-        Ok(text) => assemble_into(alloc, host, text.as_slice(), object),
-        Err(outcome) => outcome,
-    }
+    whole_outcome(assemble(alloc, host, source, object))
 }

@@ -3,6 +3,7 @@
 #![tactic(auto)]
 
 mod emit;
+mod laws;
 mod lines;
 mod loading;
 mod messages;
@@ -10,15 +11,18 @@ mod names;
 mod outcome;
 mod pieces;
 mod refusal;
+mod schedule;
 mod source;
 mod typing;
 
 pub use emit::assemble_file;
-pub use lines::put_line;
+pub use laws::{files_are_served, files_are_their_plans, files_stop_in_front};
+pub use lines::{put_line, write_line};
 pub use loading::load_source;
 pub use messages::{add_decimal, message};
 pub use names::{fault_name, usage_name};
 pub use outcome::Outcome;
 pub use refusal::{Refusal, SourceFault};
+pub use schedule::read_schedule;
 pub use source::{OBJECT_PIECES, SOURCE_PIECES, read_file};
 pub use typing::list_file;

@@ -75,6 +75,15 @@ fn object_text(alloc: Global, place: u64, fault: u16) -> Result<Bytes, NoMemory>
     Ok(text)
 }
 
+fn schedule_text(alloc: Global, place: u64) -> Result<Bytes, NoMemory>
+    ensures { IfOk result (λ text. text ≡ spec.schedule_text place) }
+{
+    let mut text = Bytes::copy(alloc, b"schedule byte ")?;
+    add_decimal(&mut text, place)?;
+    text.extend(b"\n")?;
+    Ok(text)
+}
+
 fn stopped_text(alloc: Global, pc: u64, reason: u16) -> Result<Bytes, NoMemory>
     ensures { IfOk result (λ text. text ≡ spec.stopped_text pc reason) }
 {
@@ -109,6 +118,7 @@ pub fn message(alloc: Global, outcome: Outcome) -> Result<Bytes, NoMemory>
             from_line,
         } => refused_text(alloc, line, fault, from_line),
         Outcome::BadObject { place, fault } => object_text(alloc, place, fault),
+        Outcome::BadSchedule { place } => schedule_text(alloc, place),
         Outcome::Stopped { pc, reason } => stopped_text(alloc, pc, reason),
         Outcome::StepsSpent { steps } => spent_text(alloc, steps),
         Outcome::ConsoleLimit => Bytes::copy(alloc, b"console limit\n"),

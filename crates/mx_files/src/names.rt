@@ -45,6 +45,7 @@ pub fn usage_name(number: u16) -> &'static str
         6 => "BadRing",
         7 => "MissingFile",
         8 => "TooMany",
+        10 => "Conflict",
         _ => "",
     }
 }

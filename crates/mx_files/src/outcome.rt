@@ -29,6 +29,10 @@ pub enum Outcome {
         place: u64,
         fault: u16,
     },
+    /// The schedule is refused at this byte, from 0.
+    BadSchedule {
+        place: u64,
+    },
     /// The instruction at `pc` could not be performed.
     Stopped {
         pc: u64,
@@ -55,7 +59,7 @@ impl Outcome {
             Outcome::Done(status) => *status,
             Outcome::Quit => 0,
             Outcome::Usage(_) => 64,
-            Outcome::Refused { .. } | Outcome::BadObject { .. } => 65,
+            Outcome::Refused { .. } | Outcome::BadObject { .. } | Outcome::BadSchedule { .. } => 65,
             Outcome::NoFile => 66,
             Outcome::Stopped { .. } => 70,
             Outcome::OutOfMemory => 71,
@@ -80,6 +84,7 @@ impl Outcome {
             | Outcome::HostFault
             | Outcome::Refused { .. }
             | Outcome::BadObject { .. }
+            | Outcome::BadSchedule { .. }
             | Outcome::OutOfMemory => false,
         }
     }

@@ -1,54 +1,68 @@
-//! Bytes that are written in pieces, and lines.
+//! Bytes that are written in pieces.
 
-ghost use Rattle.std.specs.Prelude.{IsTrue, ◌≡◌, ◌≢◌, ◌≤◌, ◌/◌, ◌-◌, IfOk, Ok, OnErr, false};
-ghost use Rattle.mx_host.specs.Keeping.{ComesByFault, Keeps};
-ghost use Rattle.mx_host.specs.HostModel.{tells, contents};
-ghost use Rattle.mx_word.specs.Lists.{IsFront};
-ghost use Rattle.mx_files.specs.Pieces as spec;
+ghost use Rattle.std.specs.Prelude.{◌≡◌, ◌≤◌};
+ghost use Rattle.mx_files.specs.Clauses.{Works};
+ghost use Rattle.mx_files.specs.FilePlans as spec;
+ghost use Rattle.mx_files.specs.ObjectPlans.{outcome_of};
 
+use crate::outcome::Outcome;
 use mx_host::{Host, HostFault};
-use mx_word::NoMemory;
+use mx_plan::{close, write};
 
-/// Writes one piece, and says whether it was written.
-pub fn put_piece<H: Host>(host: &mut H, slot: u16, piece: &[u8]) -> Result<bool, NoMemory>
+/// Writes one piece.
+#[tactic(auto, using(mx_plan::proofs::Plans::plans), unfolding(crate::specs::FilePlans::write_piece))]
+pub fn put_piece<H: Host>(host: &mut H, slot: u16, piece: &[u8]) -> Result<(), Outcome>
     requires { slot ≤ 259 }
-    ensures told { IsTrue (tells (H.told host.old)) →
-        IfOk result (λ written. (written, contents (H.told host.new))
-        ≡ spec.put_piece slot piece.now (contents (H.told host.old))) }
-    ensures memory { IsTrue (tells (H.told host.old)) →
-        OnErr result ((contents (H.told host.new)).output ≡ (contents (H.told host.old)).output) }
-    ensures rose { ComesByFault (H.told host.old) (Ok false) result (H.faults host.old) (H.faults host.new) }
-    ensures keeps { Keeps (H.told host.old) (H.told host.new) (H.faults host.old) (H.faults host.new) }
+    ensures { Works (H.told host.old) (H.told host.new) (H.faults host.old) (H.faults host.new) result
+        (spec.write_piece slot piece.now) }
 {
-    match host.write_slot(slot, piece) {
-        Ok(()) => Ok(true),
-        Err(HostFault::OutOfMemory) => Err(NoMemory),
-        Err(_) => Ok(false),
+    match write(host, slot, piece) {
+        Ok(()) => Ok(()),
+        Err(HostFault::OutOfMemory) => Err(Outcome::OutOfMemory),
+        Err(HostFault::Failed) => Err(Outcome::HostFault),
+        Err(HostFault::Misused) => Err(Outcome::HostFault),
     }
 }
 
-/// Writes a text in pieces, up to one that is not written, and says whether all were.
-#[tactic(auto, using(crate::proofs::PutPieces::putting))]
-pub fn put_text<H: Host>(host: &mut H, slot: u16, text: &[u8]) -> Result<bool, NoMemory>
+/// Writes a text in pieces, up to one that is not written.
+pub fn put_text<H: Host>(host: &mut H, slot: u16, text: &[u8]) -> Result<(), Outcome>
     requires { slot ≤ 259 }
-    ensures told { IsTrue (tells (H.told host.old)) →
-        IfOk result (λ written. (written, contents (H.told host.new))
-        ≡ spec.put_text slot text.now (contents (H.told host.old))) }
-    ensures memory { IsTrue (tells (H.told host.old)) →
-        OnErr result (IsFront (contents (H.told host.new)).output (spec.put_text slot text.now (contents (H.told
-        host.old))).1.output) }
-    ensures rose { ComesByFault (H.told host.old) (Ok false) result (H.faults host.old) (H.faults host.new) }
-    ensures keeps { Keeps (H.told host.old) (H.told host.new) (H.faults host.old) (H.faults host.new) }
+    ensures { Works (H.told host.old) (H.told host.new) (H.faults host.old) (H.faults host.new) result
+        (spec.text_plan slot text.now) }
 {
     let mut rest = text;
     while rest.len() > 4096 {
         let (piece, others) = rest.split_at(4096);
         match put_piece(host, slot, piece) {
-            Ok(true) => {}
-            Ok(false) => return Ok(false),
-            Err(e) => return Err(e),
+            Ok(()) => {}
+            Err(outcome) => return Err(outcome),
         }
         rest = others;
     }
     put_piece(host, slot, rest)
+}
+
+/// Closes a file of the tool.
+#[tactic(auto, using(mx_plan::proofs::Plans::plans), unfolding(crate::specs::FilePlans::close_file))]
+pub fn close_file<H: Host>(host: &mut H, slot: u16) -> Result<(), Outcome>
+    requires { slot ≤ 257 }
+    ensures { Works (H.told host.old) (H.told host.new) (H.faults host.old) (H.faults host.new) result
+        (spec.close_file slot) }
+{
+    match close(host, slot) {
+        Ok(()) => Ok(()),
+        Err(HostFault::OutOfMemory) => Err(Outcome::OutOfMemory),
+        Err(HostFault::Failed) => Err(Outcome::HostFault),
+        Err(HostFault::Misused) => Err(Outcome::HostFault),
+    }
+}
+
+/// The outcome of all of the work.
+pub fn whole_outcome(end: Result<(), Outcome>) -> Outcome
+    ensures { result ≡ outcome_of end }
+{
+    match end {
+        Ok(()) => Outcome::Done(0),
+        Err(outcome) => outcome,
+    }
 }

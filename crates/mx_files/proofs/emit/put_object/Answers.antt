@@ -1,8 +1,8 @@
-use Rattle.mx_host.specs.HostModel.{contents}
-use Rattle.mx_files.specs.Objects.{source_object}
-use Rattle.mx_files.proofs.WrittenObjects.{put-front}
+use Rattle.mx_files.proofs.FileParts.{object-put, object-unput}
 use Rattle.mx_files.proofs.emit.put_object.Goals as goal
 
--- nothing was written yet
-pub returns-in-Err-clause-written : goal.returns-in-Err-clause-written
-returns-in-Err-clause-written g c = λ t oom. put-front (source_object c.args.text.now) (contents (g.H.Host.told c.args.host.now))
+pub returns-in-Ok : goal.returns-in-Ok
+returns-in-Ok g c = object-put _ _ _ _ _ _ _ _ _ c.in-Ok.ensures c.close_object.ensures
+
+pub returns-in-Err : goal.returns-in-Err
+returns-in-Err g c = object-unput _ _ _ _ _ _ _ c.in-Err.ensures

@@ -1,14 +1,11 @@
-use Rattle.std.proofs.Common.{◌≡◌, ◌-◌, []}
-use Rattle.std.specs.Prelude.{IsTrue}
-use Rattle.mx_host.specs.Keeping.{Keeps}
-use Rattle.mx_host.specs.HostModel.{tells, contents}
-use Rattle.mx_files.specs.Source.{pieces}
+use Rattle.std.proofs.Common.{[]}
+use Rattle.mx_files.specs.Clauses.{Leaves}
+use Rattle.mx_files.specs.FilePlans.{read_pieces}
+use Rattle.mx_files.proofs.ReadPieces.{left}
 use Rattle.mx_files.proofs.source.pieces.Given as goal
 
+-- the pieces of the turns that are left are left to read
 abbrev pub invariant-loop-turn : goal.invariant-loop-turn
-invariant-loop-turn g l = record {
-  told : IsTrue (tells (g.H.Host.told l.fn.host)) →
-      pieces l.fn.most [] (contents (g.H.Host.told l.fn.host)) ≡ pieces (l.fn.most - l.turn) l.got (contents (g.H.Host.told l.host));
-  output : IsTrue (tells (g.H.Host.told l.fn.host)) → (contents (g.H.Host.told l.host)).output ≡ (contents (g.H.Host.told l.fn.host)).output;
-  keeps : Keeps (g.H.Host.told l.fn.host) (g.H.Host.told l.host) (g.H.Host.faults l.fn.host) (g.H.Host.faults l.host);
-}
+invariant-loop-turn g l =
+    Leaves (g.H.Host.told l.fn.host) (g.H.Host.told l.host) (g.H.Host.faults l.fn.host) (g.H.Host.faults l.host)
+    (left l.fn.most l.turn l.got) (read_pieces l.fn.most [])

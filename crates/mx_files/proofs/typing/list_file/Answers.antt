@@ -1,11 +1,29 @@
-use Rattle.std.proofs.Common.{refl}
-use Rattle.mx_host.specs.HostModel.{contents}
-use Rattle.mx_word.proofs.Fronts.{front-of}
-use Rattle.mx_files.proofs.TypedLines.{listed-front}
+use Rattle.mx_files.proofs.FileClauses.{whole-told, whole-cause, whole-rose, whole-absent, whole-words, whole-keeps, listed-told, listed-goes, listed-front}
 use Rattle.mx_files.proofs.typing.list_file.Goals as goal
 
--- reading wrote nothing
-pub returns-in-Err-clause-front : goal.returns-in-Err-clause-front
-returns-in-Err-clause-front g c = λ t oom.
-    let here = contents (g.H.Host.told c.args.host.now) in
-    front-of here.output _ _ _ (c.in-Err.ensures.output t) refl (listed-front here c.args.name.now)
+pub returns-clause-plan : goal.returns-clause-plan
+returns-clause-plan g c = whole-told _ _ _ _ _ c.whole_outcome.ensures c.list_whole.ensures.told
+
+pub returns-clause-cause : goal.returns-clause-cause
+returns-clause-cause g c = whole-cause _ _ _ _ _ _ _ c.whole_outcome.ensures c.list_whole.ensures
+
+pub returns-clause-told : goal.returns-clause-told
+returns-clause-told g c = λ t. listed-told _ _ _ _ (whole-told _ _ _ _ _ c.whole_outcome.ensures c.list_whole.ensures.told t)
+
+pub returns-clause-listed : goal.returns-clause-listed
+returns-clause-listed g c = λ t. listed-goes _ _ _ _ (whole-told _ _ _ _ _ c.whole_outcome.ensures c.list_whole.ensures.told t)
+
+pub returns-clause-front : goal.returns-clause-front
+returns-clause-front g c = λ t. listed-front _ _ _ _ (whole-told _ _ _ _ _ c.whole_outcome.ensures c.list_whole.ensures.told t)
+
+pub returns-clause-rose : goal.returns-clause-rose
+returns-clause-rose g c = whole-rose _ _ _ _ _ _ _ c.whole_outcome.ensures c.list_whole.ensures
+
+pub returns-clause-no_file : goal.returns-clause-no_file
+returns-clause-no_file g c = whole-absent _ _ _ _ _ _ _ c.whole_outcome.ensures c.list_whole.ensures
+
+pub returns-clause-words : goal.returns-clause-words
+returns-clause-words g c = whole-words _ _ _ _ _ _ _ c.whole_outcome.ensures c.list_whole.ensures
+
+pub returns-clause-keeps : goal.returns-clause-keeps
+returns-clause-keeps g c = whole-keeps _ _ _ _ _ _ (whole-told _ _ _ _ _ c.whole_outcome.ensures c.list_whole.ensures.told) c.list_whole.ensures.stands

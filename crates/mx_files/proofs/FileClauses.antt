@@ -1,0 +1,104 @@
+-- What the clauses of calls on files say, from the plans that they carry out.
+use Rattle.std.proofs.Common.{◌≡◌, ◌≢◌, ◌⊎◌, inl, inr, ℕ, List, true, false, Ok, Err, refl, sym, ◌∙◌, ap, subst}
+use Rattle.std.specs.Prelude.{Option, Result, IfErr}
+use Rattle.mx_host.specs.HostModel.{HostModel, contents}
+use Rattle.mx_host.specs.Keeping.{ComesByFault, Keeps}
+use Rattle.mx_plan.specs.Calls.{host, HostPlan}
+use Rattle.mx_plan.specs.Clauses.{CarriesOut, Stands}
+use Rattle.mx_plan.specs.Plan.{returns, end_of, end_after, Comes}
+use Rattle.mx_plan.proofs.Plans.{end_bind, end_returns, stops_first}
+use Rattle.mx_word.specs.Lists.{IsFront}
+use Rattle.mx_files.specs.Answers.{answered, output_of, is_usage, GoesAs, plainly}
+use Rattle.mx_files.specs.Assembling.{after_reading}
+use Rattle.mx_files.specs.Clauses.{ComesByFailing, Works, is_end}
+use Rattle.mx_files.specs.FilePlans.{Part, file_plan}
+use Rattle.mx_files.specs.ObjectPlans.{outcome_of, whole_plan, assemble_plan, list_plan}
+use Rattle.mx_files.specs.Source.{file_bytes}
+use Rattle.mx_files.specs.Typed.{after_typing}
+use Rattle.mx_files.specs.declared.outcome.Outcome.{Outcome}
+use Rattle.mx_files.specs.declared.outcome.Outcome.TheVariants.{NoFile, HostFault, OutOfMemory, Usage}
+use Rattle.mx_files.proofs.FileEnds.{file-end, assemble-end, list-end}
+use Rattle.mx_files.proofs.QuietFiles.{file-stops-quiet, file-ends-quiet}
+use Rattle.mx_files.proofs.Rests.{stop-front, comes-keeps}
+
+decided-part : {A : Type 0} (r : Result A Outcome) → (r ≡ Err OutOfMemory) ⊎ (r ≢ Err OutOfMemory)
+decided-part (Ok x) = inr (λ e. absurd (cc))
+decided-part (Err OutOfMemory) = inl refl
+decided-part (Err outcome) = inr (λ e. absurd (cc))
+
+decided : (r : Outcome) → (r ≡ OutOfMemory) ⊎ (r ≢ OutOfMemory)
+decided OutOfMemory = inl refl
+decided outcome = inr (λ e. absurd (cc))
+
+-- ---- a file that is read
+
+pub file-told : (most : ℕ) (name : List ℕ) (m n : HostModel) (r : Result (List ℕ) Outcome) → Comes host m n (Err OutOfMemory) r (file_plan most name) → r ≢ Err OutOfMemory → (r, n) ≡ file_bytes most name m
+file-told most name m n r c ne = c.ending ne ∙ file-end most name m
+
+pub file-output : (most : ℕ) (name : List ℕ) (m n : HostModel) (r : Result (List ℕ) Outcome) → Comes host m n (Err OutOfMemory) r (file_plan most name) → n.output ≡ m.output
+file-output most name m n r c = by (decided-part r)
+  where
+    by : (r ≡ Err OutOfMemory) ⊎ (r ≢ Err OutOfMemory) → n.output ≡ m.output
+    by (inl e) = file-stops-quiet most name m n (c.stopping e)
+    by (inr ne) = ap (λ (t : Result (List ℕ) Outcome × HostModel). t.1.output) (c.ending ne) ∙ file-ends-quiet most name m
+
+pub part-keeps : {A : Type 0} (a b : Option HostModel) (k m : ℕ) (r : Result A Outcome) (p : Part A) → Works a b k m r p → Keeps a b k m
+part-keeps a b k m r p w = comes-keeps a b k m (Err OutOfMemory) r p (decided-part r) w.told w.stands
+
+end-words : (r : Outcome) → is_end r ≡ true → is_usage r ≡ false
+end-words (Usage fault) i = absurd (cc)
+end-words outcome i = refl
+
+-- ---- all of the work
+
+outcome-failed : (r : Result (Unit {0}) Outcome) (end : Outcome) → end ≢ outcome_of (Ok tt) → outcome_of r ≡ end → r ≡ Err end
+outcome-failed (Ok u) end ne e = absurd (ne (sym e))
+outcome-failed (Err outcome) end ne e = ap Err e
+
+pub whole-told : (a b : Option HostModel) (o : Outcome) (r : Result (Unit {0}) Outcome) (p : Part (Unit {0})) → o ≡ outcome_of r → CarriesOut a b (Err OutOfMemory) r p → CarriesOut a b OutOfMemory o (whole_plan p)
+whole-told a b o r p e told t = rw e (record {
+  ending = λ ne. sym (end_bind host (λ s. returns (outcome_of s)) p (contents a)
+      ∙ ap (end_after host (λ s. returns (outcome_of s))) (sym ((told t).ending (λ lacks. ne (ap outcome_of lacks)))) ∙ end_returns host (outcome_of r) (contents b));
+  stopping = λ lacks. stops_first host (λ s. returns (outcome_of s)) p (contents b) (contents a) ((told t).stopping (outcome-failed r OutOfMemory (λ x. absurd (cc)) lacks));
+})
+
+pub whole-cause : (a b : Option HostModel) (k m : ℕ) (o : Outcome) (r : Result (Unit {0}) Outcome) (p : Part (Unit {0})) → o ≡ outcome_of r → Works a b k m r p → ComesByFailing a HostFault o k m p
+whole-cause a b k m o r p e w = λ serves fault. w.cause serves (outcome-failed r HostFault (λ x. absurd (cc)) (sym e ∙ fault))
+
+pub whole-rose : (a b : Option HostModel) (k m : ℕ) (o : Outcome) (r : Result (Unit {0}) Outcome) (p : Part (Unit {0})) → o ≡ outcome_of r → Works a b k m r p → ComesByFault a HostFault o k m
+whole-rose a b k m o r p e w = λ silent fault. w.cause (λ t. absurd (silent t)) (outcome-failed r HostFault (λ x. absurd (cc)) (sym e ∙ fault))
+
+pub whole-absent : (a b : Option HostModel) (k m : ℕ) (o : Outcome) (r : Result (Unit {0}) Outcome) (p : Part (Unit {0})) → o ≡ outcome_of r → Works a b k m r p → ComesByFault a NoFile o k m
+whole-absent a b k m o r p e w = λ silent none. w.absent silent (outcome-failed r NoFile (λ x. absurd (cc)) (sym e ∙ none))
+
+outcome-words : (r : Result (Unit {0}) Outcome) → IfErr r (λ outcome. is_end outcome ≡ true) → is_usage (outcome_of r) ≡ false
+outcome-words (Ok u) i = refl
+outcome-words (Err outcome) i = end-words outcome i
+
+pub whole-words : (a b : Option HostModel) (k m : ℕ) (o : Outcome) (r : Result (Unit {0}) Outcome) (p : Part (Unit {0})) → o ≡ outcome_of r → Works a b k m r p → is_usage o ≡ false
+whole-words a b k m o r p e w = rw e (outcome-words r w.ends)
+
+-- ---- an object that is assembled, and one that is listed
+
+pub assembled-told : (source object : List ℕ) (m n : HostModel) (o : Outcome) → Comes host m n OutOfMemory o (assemble_plan source object) → o ≢ OutOfMemory → (o, n) ≡ after_reading object (file_bytes 1025 source m)
+assembled-told source object m n o c ne = c.ending ne ∙ assemble-end source object m
+
+pub assembled-front : (source object : List ℕ) (m n : HostModel) (o : Outcome) → Comes host m n OutOfMemory o (assemble_plan source object) → o ≡ OutOfMemory →
+    IsFront n.output (after_reading object (file_bytes 1025 source m)).1.output
+assembled-front source object m n o c e = rw (← assemble-end source object m) (stop-front (assemble_plan source object) n m (c.stopping e))
+
+pub listed-told : (name : List ℕ) (m n : HostModel) (o : Outcome) → Comes host m n OutOfMemory o (list_plan name) → o ≢ OutOfMemory → answered o n ≡ after_typing (file_bytes 16385 name m)
+listed-told name m n o c ne = ap plainly (c.ending ne) ∙ list-end name m
+
+pub listed-goes : (name : List ℕ) (m n : HostModel) (o : Outcome) → Comes host m n OutOfMemory o (list_plan name) → o ≢ OutOfMemory → GoesAs (after_typing (file_bytes 16385 name m)) o n
+listed-goes name m n o c ne = subst (λ a. GoesAs a o n) (listed-told name m n o c ne) (refl, refl)
+
+answer-output : (t : Outcome × HostModel) → output_of (plainly t) ≡ t.1.output
+answer-output (outcome, m) = refl
+
+pub listed-front : (name : List ℕ) (m n : HostModel) (o : Outcome) → Comes host m n OutOfMemory o (list_plan name) → o ≡ OutOfMemory → IsFront n.output (output_of (after_typing (file_bytes 16385 name m)))
+listed-front name m n o c e =
+    subst (IsFront n.output) (sym (answer-output (end_of host (list_plan name) m)) ∙ ap output_of (list-end name m)) (stop-front (list_plan name) n m (c.stopping e))
+
+pub whole-keeps : (a b : Option HostModel) (k m : ℕ) (o : Outcome) (p : HostPlan Outcome) → CarriesOut a b OutOfMemory o p → Stands a b k m → Keeps a b k m
+whole-keeps a b k m o p told stands = comes-keeps a b k m OutOfMemory o p (decided o) told stands

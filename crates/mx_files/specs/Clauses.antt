@@ -1,0 +1,108 @@
+-- The words of clauses over a host: `old` and `new` are what the host told before and after, `earlier` and `later` its counts of
+-- faults.
+use Rattle.std.specs.Prelude.{ℕ, IsTrue, ◌≡◌, Bool, true, false, not, Option, Result, Ok, Err, IfErr, ◌&&◌, ◌<◌, length}
+use Rattle.mx_host.specs.HostModel.{HostModel, tells, contents, Rose, slot_at, is_read_only, is_write_only, to_output}
+use Rattle.mx_host.specs.HostAnswer.{Then}
+use Rattle.mx_host.specs.Keeping.{ComesByFault}
+use Rattle.mx_host.specs.declared.faults.HostFault.{HostFault as SlotFault}
+use Rattle.mx_host.specs.declared.faults.HostFault.TheVariants as slot
+use Rattle.mx_host.specs.declared.slots.Lead.{Lead}
+use Rattle.mx_host.specs.declared.slots.Lead.TheVariants.{Input, Output, Errors, File}
+use Rattle.mx_host.specs.declared.slots.Slot.{Slot}
+use Rattle.mx_host.specs.declared.slots.Slot.TheVariants.{Closed, Open}
+use Rattle.mx_plan.specs.Calls.{HostCall, closing, reading, writing, host, HostPlan}
+use Rattle.mx_plan.specs.Clauses.{CarriesOut, Stands}
+use Rattle.mx_plan.specs.Held.{Makes}
+use Rattle.mx_plan.specs.Plan.{IsRest}
+use Rattle.mx_word.specs.declared.no_memory.NoMemory.{NoMemory}
+use Rattle.mx_files.specs.FilePlans.{Part}
+use Rattle.mx_files.specs.declared.outcome.Outcome.{Outcome}
+use Rattle.mx_files.specs.declared.outcome.Outcome.TheVariants.{NoFile, HostFault, Refused, BadObject, BadSchedule, OutOfMemory}
+
+-- ---- CAUSES of a fault
+
+abbrev pub gives : Lead → Bool
+gives Input = true
+gives Output = false
+gives Errors = false
+gives (File at) = true
+
+abbrev pub takes : Lead → Bool
+takes Input = false
+takes Output = true
+takes Errors = true
+takes (File at) = true
+
+-- whether a slot can be read, written, and closed
+abbrev pub can_read : Slot → Bool
+can_read Closed = false
+can_read (Open lead mode place) = not (is_write_only mode) && gives lead
+
+abbrev pub can_write : Slot → Bool
+can_write Closed = false
+can_write (Open lead mode place) = not (is_read_only mode) && takes lead
+
+abbrev pub is_open : Slot → Bool
+is_open Closed = false
+is_open (Open lead mode place) = true
+
+-- a call on a slot that serves it: it can only fail, or lack memory
+abbrev pub Serves : HostCall → HostModel → Type 0
+Serves (reading slot len) m = can_read (slot_at m slot) ≡ true
+Serves (writing slot from) m = can_write (slot_at m slot) ≡ true
+Serves (closing slot) m = is_open (slot_at m slot) ≡ true
+Serves call m = Unit {0}
+
+-- Over every host, an answer comes only where the count of faults rose, or where that stands at its end; over one that tells its
+-- contents, as long as each call of the plan is on a slot that serves it.
+abbrev pub ComesByFailing : {A B : Type 0} → Option HostModel → A → A → ℕ → ℕ → HostPlan B → Type 0
+ComesByFailing old answer result earlier later plan =
+    (IsTrue (tells old) → Makes host Serves plan (contents old)) → result ≡ answer → Rose earlier later
+
+-- the slots of the tool's files are there, and that of its standard output leads to it
+abbrev pub HasToolSlots : HostModel → Type 0
+HasToolSlots m = (257 < length m.slots) × (slot_at m 259 ≡ to_output)
+
+-- ---- PARTS of the work
+
+-- the ends of the work on files: one is not there, its bytes are refused, the host fails, or there is no memory
+abbrev pub is_end : Outcome → Bool
+is_end NoFile = true
+is_end (Refused line fault from_line) = true
+is_end (BadObject place fault) = true
+is_end (BadSchedule place) = true
+is_end HostFault = true
+is_end OutOfMemory = true
+is_end outcome = false
+
+-- A part is carried out. Over every host it ends the work only so; with a fault of the host only by a call that failed; over a host
+-- that tells nothing a file is missing only where the count of faults rose; and that count does not fall.
+pub record Works {A : Type 0} (old new : Option HostModel) (earlier later : ℕ) (result : Result A Outcome) (part : Part A) : Type 0 where
+  pub told : CarriesOut old new (Err OutOfMemory) result part
+  pub cause : ComesByFailing old (Err HostFault) result earlier later part
+  pub absent : ComesByFault old (Err NoFile) result earlier later
+  pub ends : IfErr result (λ outcome. is_end outcome ≡ true)
+  pub stands : Stands old new earlier later
+
+-- of a whole, this is what is left to do
+pub record Leaves {A : Type 0} (old new : Option HostModel) (earlier later : ℕ) (rest whole : Part A) : Type 0 where
+  pub told : IsTrue (tells old) → IsRest host rest (contents new) whole (contents old)
+  pub cause : (IsTrue (tells old) → Makes host Serves whole (contents old)) → IsTrue (tells new) → Makes host Serves rest (contents new)
+  pub stands : Stands old new earlier later
+
+-- what says whether all was written, as a part of the work
+abbrev pub as_part : Result Bool NoMemory → Result (Unit {0}) Outcome
+as_part (Ok true) = Ok tt
+as_part (Ok false) = Err HostFault
+as_part (Err lacked) = Err OutOfMemory
+
+-- the same with the model after it
+abbrev pub part_of : Then Bool → Then (Result (Unit {0}) Outcome)
+part_of (true, m) = (Ok tt, m)
+part_of (false, m) = (Err HostFault, m)
+
+-- whether a call wrote all, or there was no memory
+abbrev pub call_written : Result (Unit {0}) SlotFault → Result Bool NoMemory
+call_written (Ok u) = Ok true
+call_written (Err slot.OutOfMemory) = Err (record {})
+call_written (Err why) = Ok false

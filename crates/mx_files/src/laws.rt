@@ -1,0 +1,52 @@
+//! What holds of the work on files over its definitions alone.
+
+ghost use Rattle.std.specs.Prelude.{◌≡◌, ℕ, List};
+ghost use Rattle.mx_host.specs.HostModel.{HasStartSlots, HostModel};
+ghost use Rattle.mx_plan.specs.Calls.{HostPlan, host};
+ghost use Rattle.mx_plan.specs.Held.{KeepsStreams, Makes, OnlyAdds};
+ghost use Rattle.mx_plan.specs.Plan.{Stops, end_of};
+ghost use Rattle.mx_files.specs.Answers.{plainly};
+ghost use Rattle.mx_files.specs.Assembling.{after_reading};
+ghost use Rattle.mx_files.specs.Clauses.{HasToolSlots, Serves, part_of};
+ghost use Rattle.mx_files.specs.FilePlans.{file_plan, lines_plan, text_plan};
+ghost use Rattle.mx_files.specs.Lines.{lines_put};
+ghost use Rattle.mx_files.specs.ObjectPlans.{assemble_part, assemble_plan, list_part, list_plan};
+ghost use Rattle.mx_files.specs.Pieces.{put_text};
+ghost use Rattle.mx_files.specs.Source.{file_bytes};
+ghost use Rattle.mx_files.specs.Typed.{after_typing};
+ghost use Rattle.mx_files.specs.declared.outcome.Outcome.{Outcome};
+
+/// What is read, written, assembled and listed is what its plan comes to.
+#[tactic(auto, using(crate::proofs::FileEnds::ends))]
+pub fn files_are_their_plans()
+    ensures read { (most : ℕ) (name : List ℕ) (m : HostModel) →
+        end_of host (file_plan most name) m ≡ file_bytes most name m }
+    ensures text { (slot : ℕ) (text : List ℕ) (m : HostModel) →
+        end_of host (text_plan slot text) m ≡ part_of (put_text slot text m) }
+    ensures lines { (lines : List (List ℕ)) (m : HostModel) →
+        end_of host (lines_plan lines) m ≡ part_of (lines_put lines m) }
+    ensures assembled { (source object : List ℕ) (m : HostModel) →
+        end_of host (assemble_plan source object) m ≡ after_reading object (file_bytes 1025 source m) }
+    ensures listed { (name : List ℕ) (m : HostModel) →
+        plainly (end_of host (list_plan name) m) ≡ after_typing (file_bytes 16385 name m) }
+{}
+
+/// Where a plan stops for want of memory, it only added to standard output, and what stands there is a front of what
+/// would stand there at its end; the slots of the tool lead where they led.
+#[tactic(auto, using(crate::proofs::Rests::stopping))]
+pub fn files_stop_in_front()
+    ensures stopping { (p : HostPlan Outcome) (v w : HostModel) → Stops host v p w → KeepsStreams w v }
+    ensures front { (p : HostPlan Outcome) (v w : HostModel) → Stops host v p w → OnlyAdds v (end_of host p w).1 }
+{}
+
+/// Where the slots of the tool's files are there, and that of its standard output leads to it, as at the start, each call
+/// on a slot that is made for a file that is read, assembled or listed is on a slot that serves it.
+#[tactic(auto, using(crate::proofs::Serving::serving))]
+pub fn files_are_served()
+    ensures start { (m : HostModel) → HasStartSlots m → HasToolSlots m }
+    ensures read { (most : ℕ) (name : List ℕ) (m : HostModel) → HasToolSlots m →
+        Makes host Serves (file_plan most name) m }
+    ensures assembled { (source object : List ℕ) (m : HostModel) → HasToolSlots m →
+        Makes host Serves (assemble_part source object) m }
+    ensures listed { (name : List ℕ) (m : HostModel) → HasToolSlots m → Makes host Serves (list_part name) m }
+{}

@@ -1,0 +1,86 @@
+//! The file that holds a schedule, as it is read.
+
+ghost use Rattle.std.specs.Prelude.{◌≡◌, ◌≢◌, Err, IfOk, IfErr, false};
+ghost use Rattle.std.specs.List.{position};
+ghost use Rattle.mx_host.specs.Keeping.{Answers, ComesByFault, Keeps, KeepsOutput};
+ghost use Rattle.mx_files.specs.Answers.{is_usage};
+ghost use Rattle.mx_files.specs.Clauses.{Works};
+ghost use Rattle.mx_files.specs.Schedules as spec;
+
+use crate::outcome::Outcome;
+use crate::source::{SOURCE_PIECES, read_file};
+use mx_host::Host;
+use mx_word::Bytes;
+use std::alloc::Global;
+
+/// A schedule has at most so many bytes.
+const LONGEST: usize = 1 << 22;
+
+/// The place of the first byte that names none of eight processors.
+fn first_unnamed(bytes: &[u8]) -> Option<usize>
+    ensures { result ≡ position spec.is_unnamed bytes.now }
+{
+    bytes.iter().position(|b| 7 < *b)
+}
+
+/// The place at which a schedule of so many bytes is at fault by its length.
+fn length_fault(count: usize) -> Option<usize>
+    ensures { result ≡ spec.length_fault count }
+{
+    if count == 0 {
+        Some(0)
+    } else if LONGEST < count {
+        Some(LONGEST)
+    } else {
+        None
+    }
+}
+
+/// The first place at which a schedule is at fault.
+fn schedule_fault(bytes: &[u8]) -> Option<usize>
+    ensures { result ≡ spec.schedule_fault bytes.now }
+{
+    match first_unnamed(bytes) {
+        Some(place) if place < LONGEST => Some(place),
+        _ => length_fault(bytes.len()),
+    }
+}
+
+/// A schedule that was read, or the outcome where it is at fault.
+#[tactic(auto, unfolding(crate::specs::Schedules::schedule_in))]
+fn judged(bytes: Bytes) -> Result<Bytes, Outcome>
+    ensures value { result ≡ spec.schedule_in bytes }
+    ensures names { IfOk result spec.AreEight }
+    ensures words { IfErr result (λ e. is_usage e ≡ false) }
+    ensures well { result ≢ Err Outcome.HostFault }
+    ensures present { result ≢ Err Outcome.NoFile }
+{
+    match schedule_fault(bytes.as_slice()) {
+        Some(place) => Err(Outcome::BadSchedule {
+            place: place as u64,
+        }),
+        None => Ok(bytes),
+    }
+}
+
+/// Reads the schedule in the file of this name: 1 to 2^22 bytes of which each names one of eight processors. Where it is
+/// none, the first place of its fault is told when the file was closed.
+pub fn read_schedule<H: Host>(alloc: Global, host: &mut H, name: &[u8]) -> Result<Bytes, Outcome>
+    ensures works { Works (H.told host.old) (H.told host.new) (H.faults host.old) (H.faults host.new) result
+        (spec.schedule_plan name.now) }
+    ensures told { Answers (H.told host.old) (H.told host.new) (Err Outcome.OutOfMemory) result
+        (λ m. spec.schedule_bytes name.now m) }
+    ensures names { IfOk result spec.AreEight }
+    ensures words { IfErr result (λ e. is_usage e ≡ false) }
+    ensures output { KeepsOutput (H.told host.old) (H.told host.new) }
+    ensures rose { ComesByFault (H.told host.old) (Err Outcome.HostFault) result (H.faults host.old) (H.faults
+        host.new) }
+    ensures no_file { ComesByFault (H.told host.old) (Err Outcome.NoFile) result (H.faults host.old) (H.faults
+        host.new) }
+    ensures keeps { Keeps (H.told host.old) (H.told host.new) (H.faults host.old) (H.faults host.new) }
+{
+    match read_file(alloc, host, name, SOURCE_PIECES) {
+        Ok(bytes) => judged(bytes),
+        Err(outcome) => Err(outcome),
+    }
+}
