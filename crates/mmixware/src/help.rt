@@ -6,11 +6,12 @@ use std::process::ExitCode;
 pub const HELP: &str = "\
 An assembler for MMIXAL and a simulator for MMIX.
 
-usage: mmixware run [--ring R] [--steps N] [-i] [--dump] SRC [ARG ...]
-       mmixware sim [--ring R] [--steps N] [-i] [--dump] OBJ [ARG ...]
+usage: mmixware run [--ring R] [--steps N] [-i] [--dump] [--report] SRC [ARG ...]
+       mmixware sim [--ring R] [--steps N] [-i] [--dump] [--report] OBJ [ARG ...]
        mmixware asm SRC OBJ
        mmixware gen [--ring R] N
        mmixware type OBJ
+       mmixware multi [--ring R] [--steps N] [--dump] SCHED OBJ
 
   run          assembles the source in the file SRC and runs it
   sim          runs the object file OBJ
@@ -18,19 +19,24 @@ usage: mmixware run [--ring R] [--steps N] [-i] [--dump] SRC [ARG ...]
   gen          generates a program of N blocks (1 to 10000), runs it, and tells
                its size, its steps and its sum
   type         lists the object file OBJ line by line
+  multi        runs the object file OBJ on up to eight processors, which take
+               turns in the order of the bytes of the file SCHED
 
   --ring R     the registers of the ring: a power of two from 256 to 65536
                (256 if not given)
   --steps N    how many steps are made at most: 1 to 10^12 (10^9 if not given)
   -i           the console: commands from standard input
   --dump       writes registers and memory to standard output at the end
+  --report     writes to standard error at the end how often each instruction
+               ran, at how many addresses, and the first 100 writes to the data
+               segment; not with -i
 
 Options stand before the file and may repeat; the last one counts.
 
 exit status: that of the program (the low byte of $255 at Halt), and
    0  done, or the console was left
   64  the words are no command
-  65  the source or the object is refused
+  65  the source, the object or the schedule is refused
   66  the file is missing
   70  the program was stopped
   71  out of memory

@@ -5,7 +5,10 @@ mod help;
 
 use crate::help::{HELP, VERSION, answered};
 use mx_real::{RealHost, StandIns};
-use mx_top::mmixware;
+use mx_top::{Outcome, mmixware_watched};
+use mx_watch::{Cover, Profile, Watcher, Writes};
+use mx_word::NoMemory;
+use std::alloc::Global;
 use std::env;
 use std::io::ErrorKind;
 use std::process::ExitCode;
@@ -14,6 +17,27 @@ use std::process::ExitCode;
 const FAULTY_WORDS: u8 = 64;
 
 const OUT_OF_MEMORY: u8 = 71;
+
+/// The part of memory whose writes are reported, which is the data segment, and how many of them are.
+const DATA_SEGMENT: u64 = 0x2000_0000_0000_0000;
+
+const POOL_SEGMENT: u64 = 0x4000_0000_0000_0000;
+
+const MOST_WRITES: u32 = 100;
+
+/// Does what the words order, with a profile, the number of the addresses, and the first writes to the data segment
+/// as the watchers of a run.
+fn carry_out(alloc: Global, words: &[String], host: &mut RealHost) -> Result<Outcome, NoMemory> {
+    let profile: Box<dyn Watcher> = Box::new(alloc, Profile::new(alloc)?)?;
+    let cover: Box<dyn Watcher> = Box::new(alloc, Cover::new(alloc)?)?;
+    let writes = Writes::new(alloc, DATA_SEGMENT, POOL_SEGMENT, MOST_WRITES)?;
+    let writes: Box<dyn Watcher> = Box::new(alloc, writes)?;
+    let mut watchers = Vec::new(alloc);
+    watchers.push(profile)?;
+    watchers.push(cover)?;
+    watchers.push(writes)?;
+    Ok(mmixware_watched(alloc, words, host, &mut watchers))
+}
 
 fn main(rt: HostRuntime) -> ExitCode {
     let _stand_ins = StandIns::new(&rt);
@@ -42,6 +66,8 @@ fn main(rt: HostRuntime) -> ExitCode {
     let Some(mut host) = RealHost::new(rt) else {
         return ExitCode::from(OUT_OF_MEMORY);
     };
-    let outcome = mmixware(alloc, words, &mut host);
-    ExitCode::from(outcome.status())
+    match carry_out(alloc, words, &mut host) {
+        Ok(outcome) => ExitCode::from(outcome.status()),
+        Err(_) => ExitCode::from(OUT_OF_MEMORY),
+    }
 }

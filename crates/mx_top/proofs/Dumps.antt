@@ -22,7 +22,7 @@ both-hidden false c xs e = refl
 pub address-hidden : (s : State) (q : ℕ) → is_address_shown s q ≡ false → octa_line s q ≡ []
 address-hidden s q e = both-hidden (not (octa s q == 0)) (is_address_shown s q) _ e
 
-octa-shown : (s : State) (a x : ℕ) → octa s a ≡ x → x ≢ 0 → is_address_shown s a ≡ true → octa_line s a ≡ shown_octa a x ∷ []
+pub octa-shown : (s : State) (a x : ℕ) → octa s a ≡ x → x ≢ 0 → is_address_shown s a ≡ true → octa_line s a ≡ shown_octa a x ∷ []
 octa-shown s a x e n shown = rw (e, other-test x 0 n, shown) refl
 
 -- ---- the next one
@@ -42,13 +42,13 @@ untouched true b e = absurd (cc)
 untouched false true e = (refl, refl)
 untouched false false e = absurd (cc)
 
-inside : (a q : ℕ) → in_stack_area a ≡ true → a ≤ q → q < stack_address (2 ^ 20) → in_stack_area q ≡ true
+pub inside : (a q : ℕ) → in_stack_area a ≡ true → a ≤ q → q < stack_address (2 ^ 20) → in_stack_area q ≡ true
 inside a q h l m = grind (arith, nat_tests)
 
-outside : (q : ℕ) → stack_address (2 ^ 20) ≤ q → in_stack_area q ≡ false
+pub outside : (q : ℕ) → stack_address (2 ^ 20) ≤ q → in_stack_area q ≡ false
 outside q l = grind (arith, nat_tests)
 
-area-below : (a : ℕ) → in_stack_area a ≡ true → a < stack_address (2 ^ 20)
+pub area-below : (a : ℕ) → in_stack_area a ≡ true → a < stack_address (2 ^ 20)
 area-below a h = grind (arith, nat_tests)
 
 area-hidden : (s : State) (a : ℕ) → is_address_shown s a ≡ false → AreHidden s a (stack_address (2 ^ 20))
@@ -63,7 +63,7 @@ above-shown s q l = at s.touched (in_stack_area q) (outside q l)
     at true b e = refl
     at false b e = ap not e
 
-hidden-through : (s : State) (a b c : ℕ) → AreHidden s a b → AreHidden s b c → AreHidden s a c
+pub hidden-through : (s : State) (a b c : ℕ) → AreHidden s a b → AreHidden s b c → AreHidden s a c
 hidden-through s a b c h k = λ q l e m. by q l e m (cases_lt q b)
   where
     by : (q : ℕ) → a ≤ q → q % 8 ≡ 0 → q < c → (q < b) ⊎ (b ≤ q) → octa_line s q ≡ []

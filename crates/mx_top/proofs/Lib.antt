@@ -11,3 +11,9 @@ pub mod Sources
 pub mod StartedMachines
 pub mod Summed
 pub mod Told
+pub mod Heard
+pub mod Reported
+pub mod SharedDumps
+pub mod CountedProcessors
+pub mod TurnsTold
+pub mod TurnFronts

@@ -13,7 +13,7 @@ use Rattle.mx_cmd.specs.Specials.{special_name}
 use Rattle.mx_top.specs.Dump.{Line, named_octa, special_line, special_lines, register_line, register_lines, is_register_shown, is_address_shown, octa_line, octa_lines, octa_count, dump_lines}
 use Rattle.mx_top.proofs.Dumps.{address-hidden}
 
-same-each : (f g : ℕ → List Line) → ((k : ℕ) → f k ≡ g k) → (xs : List ℕ) → flat_map f xs ≡ flat_map g xs
+pub same-each : (f g : ℕ → List Line) → ((k : ℕ) → f k ≡ g k) → (xs : List ℕ) → flat_map f xs ≡ flat_map g xs
 same-each f g h [] = refl
 same-each f g h (x ∷ xs) =
     flat_map-cons f x xs ∙ ap (λ l. l ++ flat_map f xs) (h x) ∙ ap (λ l. g x ++ l) (same-each f g h xs) ∙ sym (flat_map-cons g x xs)

@@ -1,5 +1,5 @@
 -- What is written before a run is out of memory is a front of what is written in all.
-use Rattle.std.proofs.Common.{ℕ, List, [], Bool, true, false, cond, refl, sym, ◌∙◌, Ok, Err, subst, append-nil}
+use Rattle.std.proofs.Common.{ℕ, List, Bool, true, false, cond, refl, Ok, Err, subst}
 use Rattle.std.specs.Prelude.{Result}
 use Rattle.mx_host.specs.HostModel.{HostModel}
 use Rattle.mx_host.specs.HostAnswer.{Then}

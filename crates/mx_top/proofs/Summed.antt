@@ -8,12 +8,12 @@ use Rattle.mx_ring.specs.Stack.{register}
 use Rattle.mx_word.specs.Lists.{IsFront}
 use Rattle.mx_word.proofs.Fronts.{front-self}
 use Rattle.mx_files.specs.Answers.{output_of}
-use Rattle.mx_gen.specs.Generator.{summary}
+use Rattle.law_gen.specs.Generator.{summary}
 use Rattle.mx_files.specs.Lines.{lines_put}
 use Rattle.mx_top.specs.Product.{summary_put, summed}
 use Rattle.mx_top.specs.Runs.{ran}
 use Rattle.mx_files.specs.declared.outcome.Outcome.{Outcome}
-use Rattle.mx_files.specs.declared.outcome.Outcome.TheVariants.{Done, Usage, NoFile, HostFault, Refused, BadObject, Stopped, StepsSpent, Quit, ConsoleLimit, OutOfMemory}
+use Rattle.mx_files.specs.declared.outcome.Outcome.TheVariants.{Done, Usage, NoFile, HostFault, Refused, BadObject, BadSchedule, Stopped, StepsSpent, Quit, ConsoleLimit, OutOfMemory}
 use Rattle.mx_files.proofs.PutLines.{lines-front, after_lines-front}
 
 pub summary-front : (blocks size : ℕ) (s : State) (m : HostModel) → IsFront m.output (output_of (summary_put blocks size s m))
@@ -28,6 +28,7 @@ summed-front blocks size NoFile s m = front-self m.output
 summed-front blocks size HostFault s m = front-self m.output
 summed-front blocks size (Refused line fault from_line) s m = front-self m.output
 summed-front blocks size (BadObject place fault) s m = front-self m.output
+summed-front blocks size (BadSchedule place) s m = front-self m.output
 summed-front blocks size (Stopped pc reason) s m = front-self m.output
 summed-front blocks size (StepsSpent steps) s m = front-self m.output
 summed-front blocks size Quit s m = front-self m.output
@@ -42,6 +43,7 @@ summed-listed blocks size NoFile s m = refl
 summed-listed blocks size HostFault s m = refl
 summed-listed blocks size (Refused line fault from_line) s m = refl
 summed-listed blocks size (BadObject place fault) s m = refl
+summed-listed blocks size (BadSchedule place) s m = refl
 summed-listed blocks size (Stopped pc reason) s m = refl
 summed-listed blocks size (StepsSpent steps) s m = refl
 summed-listed blocks size Quit s m = refl

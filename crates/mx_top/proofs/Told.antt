@@ -8,7 +8,7 @@ use Rattle.mx_files.specs.Answers.{Answer, answered, wild, output_of, GoesAs}
 use Rattle.mx_files.specs.Messages.{message_of}
 use Rattle.mx_top.specs.Product.{message_told, with_message}
 use Rattle.mx_files.specs.declared.outcome.Outcome.{Outcome}
-use Rattle.mx_files.specs.declared.outcome.Outcome.TheVariants.{Done, Usage, NoFile, HostFault, Refused, BadObject, Stopped, StepsSpent, Quit, ConsoleLimit, OutOfMemory}
+use Rattle.mx_files.specs.declared.outcome.Outcome.TheVariants.{Done, Usage, NoFile, HostFault, Refused, BadObject, BadSchedule, Stopped, StepsSpent, Quit, ConsoleLimit, OutOfMemory}
 use Rattle.mx_top.proofs.MachineRuns.{goes-as}
 
 told-front : (outcome : Outcome) (text : List ℕ) (m : HostModel) → IsFront m.output (output_of (message_told outcome text m))
@@ -38,6 +38,7 @@ wanting NoFile = inr (λ e. cc)
 wanting HostFault = inr (λ e. cc)
 wanting (Refused line fault from_line) = inr (λ e. cc)
 wanting (BadObject place fault) = inr (λ e. cc)
+wanting (BadSchedule place) = inr (λ e. cc)
 wanting (Stopped pc reason) = inr (λ e. cc)
 wanting (StepsSpent steps) = inr (λ e. cc)
 wanting Quit = inr (λ e. cc)

@@ -3,4 +3,6 @@ pub mod Arguments
 pub mod Dump
 pub mod Shown
 pub mod Runs
+pub mod Processors
 pub mod Product
+pub mod Reports

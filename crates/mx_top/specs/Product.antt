@@ -1,9 +1,8 @@
 -- What the program answers and does, over a host that tells its contents: the outcome and the host's last model. The machine
 -- is that over a ring of registers, or that over an unbounded list, which goes no further where it meets something wild.
-use Rattle.std.specs.Prelude.{ℕ, ◌^◌, Bool, List, [], ◌∷◌, length, Result, Ok, Err, codes, if◌then◌else◌}
+use Rattle.std.specs.Prelude.{ℕ, ◌^◌, List, [], ◌∷◌, length, Result, Ok, Err, codes}
 use Rattle.mx_host.specs.HostModel.{HostModel}
 use Rattle.mx_host.specs.HostAnswer.{Then, write_answer}
-use Rattle.mx_host.specs.declared.faults.HostFault.{HostFault as SlotFault}
 use Rattle.mx_mmo.specs.Image.{Image}
 use Rattle.mx_load.specs.Objects.{object_loaded}
 use Rattle.mx_core.specs.State.{State}
@@ -12,22 +11,24 @@ use Rattle.mx_run.specs.WildRuns.{MachineKind}
 use Rattle.mx_word.specs.declared.symbols.Symbol.{Symbol}
 use Rattle.mx_words.specs.Orders.{order_of}
 use Rattle.mx_words.specs.declared.order.Command.{Command}
-use Rattle.mx_words.specs.declared.order.Command.TheVariants.{Run, Asm, Sim, Gen, Show}
+use Rattle.mx_words.specs.declared.order.Command.TheVariants.{Run, Asm, Sim, Gen, Show, Multi}
 use Rattle.mx_words.specs.declared.order.Order.{Order}
 use Rattle.mx_words.specs.declared.order.WordsFault.{WordsFault}
 use Rattle.mx_files.specs.Answers.{Answer, answered, wild, plainly, and_then, after_lines}
 use Rattle.mx_top.specs.Arguments.{Word, word_at, arguments}
-use Rattle.mx_gen.specs.Generator.{generated, summary}
+use Rattle.law_gen.specs.Generator.{generated, summary}
 use Rattle.mx_files.specs.Lines.{lines_put}
 use Rattle.mx_files.specs.Messages.{message_of}
 use Rattle.mx_files.specs.Assembling.{refused_with, after_reading}
 use Rattle.mx_top.specs.Runs.{Ran, ran, ran_wild, machine_ran, started, image_run}
+use Rattle.mx_top.specs.Processors.{image_turns}
+use Rattle.mx_files.specs.Schedules.{schedule_bytes}
 use Rattle.mx_files.specs.Source.{file_bytes, source_pieces, object_pieces}
 use Rattle.mx_files.specs.Sources.{source_meaning}
 use Rattle.mx_files.specs.Typed.{after_typing}
 use Rattle.mx_files.specs.declared.refusal.Refusal.{Refusal}
 use Rattle.mx_files.specs.declared.outcome.Outcome.{Outcome}
-use Rattle.mx_files.specs.declared.outcome.Outcome.TheVariants.{Done, Usage, HostFault, Refused, BadObject, OutOfMemory}
+use Rattle.mx_files.specs.declared.outcome.Outcome.TheVariants.{Done, Usage, BadObject}
 
 -- ---- `run` and `sim`
 
@@ -76,6 +77,21 @@ generated_run kind o size (Ok image) m = summed_from kind o.number size (started
 abbrev pub source_generated : MachineKind → Order → List ℕ → HostModel → Answer
 source_generated kind o source m = generated_run kind o (length source) (source_meaning source) m
 
+-- ---- `multi`
+
+abbrev pub loaded_turns : MachineKind → Order → List ℕ → Result (Image × List Symbol) (ℕ × ℕ) → HostModel → Answer
+loaded_turns kind o schedule (Err (place, fault)) m = answered (BadObject place fault) m
+loaded_turns kind o schedule (Ok (image, symbols)) m = image_turns kind o schedule image m
+
+abbrev pub object_turns : MachineKind → Order → List ℕ → Then (Result (List ℕ) Outcome) → Answer
+object_turns kind o schedule (Err outcome, m) = answered outcome m
+object_turns kind o schedule (Ok object, m) = loaded_turns kind o schedule (object_loaded object) m
+
+-- the object is read where the schedule is in order
+abbrev pub after_schedule : MachineKind → Order → Word → Then (Result (List ℕ) Outcome) → Answer
+after_schedule kind o name (Err outcome, m) = answered outcome m
+after_schedule kind o name (Ok schedule, m) = object_turns kind o schedule (file_bytes object_pieces name m)
+
 -- ---- the words, and the message
 
 abbrev pub run_ordered : MachineKind → List Word → Order → HostModel → Answer
@@ -84,12 +100,16 @@ run_ordered kind words o m = after_source kind o (arguments words o) (file_bytes
 abbrev pub sim_ordered : MachineKind → List Word → Order → HostModel → Answer
 sim_ordered kind words o m = after_object kind o (arguments words o) (file_bytes object_pieces (word_at words o.file) m)
 
+abbrev pub multi_ordered : MachineKind → List Word → Order → HostModel → Answer
+multi_ordered kind words o m = after_schedule kind o (word_at words o.file) (schedule_bytes (word_at words o.schedule) m)
+
 abbrev pub ordered : MachineKind → List Word → Order → Command → HostModel → Answer
 ordered kind words o Run m = run_ordered kind words o m
 ordered kind words o Sim m = sim_ordered kind words o m
 ordered kind words o Asm m = plainly (after_reading (word_at words o.rest) (file_bytes source_pieces (word_at words o.file) m))
 ordered kind words o Gen m = source_generated kind o (generated o.number) m
 ordered kind words o Show m = after_typing (file_bytes object_pieces (word_at words o.file) m)
+ordered kind words o Multi m = multi_ordered kind words o m
 
 -- the outcome of the words before its message
 abbrev pub carried_out : MachineKind → List Word → Result Order WordsFault → HostModel → Answer

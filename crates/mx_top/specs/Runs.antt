@@ -1,8 +1,7 @@
 -- How an image is run: the machine starts, makes its steps, all in one run or at the console, and is told at the end where
 -- a dump is asked for.
-use Rattle.std.specs.Prelude.{ℕ, ◌*◌, ◌/◌, ◌&&◌, Bool, true, false, if◌then◌else◌, List, Option, None, Some, Result, Ok, Err}
+use Rattle.std.specs.Prelude.{ℕ, ◌*◌, ◌/◌, ◌&&◌, Bool, false, if◌then◌else◌, List, Option, None, Some, Result, Ok, Err}
 use Rattle.mx_host.specs.HostModel.{HostModel}
-use Rattle.mx_host.specs.HostAnswer.{Then}
 use Rattle.mx_mmo.specs.Image.{Image}
 use Rattle.mx_ring.specs.RegisterList.{list_at_start}
 use Rattle.mx_ring.specs.Stack.{Stack, listed, windowed}
@@ -21,7 +20,7 @@ use Rattle.mx_files.specs.Answers.{Answer, answered, wild, leaves_machine, after
 use Rattle.mx_top.specs.Dump.{dump_lines}
 use Rattle.mx_files.specs.Lines.{lines_put}
 use Rattle.mx_files.specs.declared.outcome.Outcome.{Outcome}
-use Rattle.mx_files.specs.declared.outcome.Outcome.TheVariants.{Done, Usage, NoFile, HostFault, Refused, BadObject, Stopped, StepsSpent, Quit, ConsoleLimit, OutOfMemory}
+use Rattle.mx_files.specs.declared.outcome.Outcome.TheVariants.{Done, HostFault, Stopped, StepsSpent, Quit, ConsoleLimit, OutOfMemory}
 
 -- the register stack at the start: a ring of so many registers, or a list
 abbrev pub stack_at_start : MachineKind → ℕ → Stack

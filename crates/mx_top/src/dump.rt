@@ -149,7 +149,7 @@ fn octa_text(alloc: Global, a: u64, x: u64) -> Result<Bytes, NoMemory>
 }
 
 /// Writes the line of an octa.
-fn put_octa<H: Host>(alloc: Global, host: &mut H, a: u64, x: u64) -> Result<bool, NoMemory>
+pub fn put_octa<H: Host>(alloc: Global, host: &mut H, a: u64, x: u64) -> Result<bool, NoMemory>
     ensures { Puts (H.told host.old) (H.told host.new) (H.faults host.old) (H.faults host.new) result
         (shown_octa a x ∷ []) }
 {
@@ -158,7 +158,7 @@ fn put_octa<H: Host>(alloc: Global, host: &mut H, a: u64, x: u64) -> Result<bool
 }
 
 /// Whether an address lies in the stack area.
-fn is_in_stack_area(a: u64) -> bool
+pub fn is_in_stack_area(a: u64) -> bool
     ensures { result ≡ in_stack_area a }
 {
     AREA <= a && a < AREA_END

@@ -9,7 +9,7 @@ ghost use Rattle.mx_load.specs.Kept.{image_of};
 ghost use Rattle.mx_ring.specs.Stack.{stack_address};
 ghost use Rattle.mx_run.specs.WildRuns.{window_machine, list_machine};
 ghost use Rattle.mx_files.specs.Answers.{AnswersAs, AnswersAsList, WritesFrontOf, is_usage};
-ghost use Rattle.mx_gen.specs.Generator as generator;
+ghost use Rattle.law_gen.specs.Generator as generator;
 ghost use Rattle.mx_top.specs.Product as spec;
 ghost use Rattle.mx_top.specs.Runs.{ran};
 

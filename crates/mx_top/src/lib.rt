@@ -7,8 +7,11 @@ mod dump;
 mod generation;
 mod generator;
 mod objects;
+mod processors;
+mod reports;
 mod run;
+mod schedules;
 mod top;
 
 pub use mx_files::{Outcome, fault_name, usage_name};
-pub use top::mmixware;
+pub use top::{mmixware, mmixware_watched};

@@ -1,6 +1,6 @@
 //! An object that is loaded and run.
 
-ghost use Rattle.std.specs.Prelude.{◌≡◌, ◌≢◌, ◌≤◌, ◌+◌, ◌*◌, false, length};
+ghost use Rattle.std.specs.Prelude.{◌≡◌, ◌≢◌, ◌≤◌, ◌+◌, ◌*◌, false, length, map};
 ghost use Rattle.mx_core.specs.Start.{pool, pool_octas};
 ghost use Rattle.mx_host.specs.Keeping.{ComesByFault, Keeps};
 ghost use Rattle.mx_load.specs.Objects.{object_loaded};
@@ -8,24 +8,29 @@ ghost use Rattle.mx_ring.specs.Stack.{stack_address};
 ghost use Rattle.mx_run.specs.WildRuns.{window_machine, list_machine};
 ghost use Rattle.mx_files.specs.Answers.{AnswersAs, AnswersAsList, WritesFrontOf, is_usage};
 ghost use Rattle.mx_top.specs.Product as product;
+ghost use Rattle.mx_top.specs.Reports as reports;
+ghost use Rattle.mx_top.specs.Reports.{HearsAs, HearsAsList};
 ghost use Rattle.mx_files.specs.Source.{file_bytes};
 
 use crate::run::run_image;
 use mx_files::{OBJECT_PIECES, Outcome, read_file};
 use mx_host::Host;
 use mx_load::{ObjectFault, load_object};
+use mx_watch::{Reports, Watcher};
 use mx_word::Bytes;
 use mx_words::Order;
 use std::alloc::Global;
 
 /// Runs an object, or says why it is refused.
-#[tactic(auto, using(crate::proofs::Sources::fronts))]
+#[tactic(auto, using(crate::proofs::Sources::fronts, crate::proofs::Heard::silence))]
 fn run_object<H: Host>(
     alloc: Global,
     host: &mut H,
     order: &Order,
     bytes: &[u8],
     arguments: &[Bytes],
+    watchers: &mut Vec<Box<dyn Watcher>>,
+    kept: &mut Reports,
 ) -> Outcome
     requires some { 1 ≤ length arguments.now }
     requires fits { pool + 8 * length (pool_octas arguments.now) ≤ stack_address 0 }
@@ -35,26 +40,35 @@ fn run_object<H: Host>(
         (λ m. product.after_loading list_machine order.now arguments.now (object_loaded bytes.now) m) }
     ensures front { WritesFrontOf (H.told host.old) (H.told host.new) result
         (λ m. product.after_loading window_machine order.now arguments.now (object_loaded bytes.now) m) }
+    ensures heard { HearsAs (H.told host.old) result (map meaning watchers.old.items)
+        (map meaning watchers.new.items) kept.old kept.new
+        (λ m. reports.loading_traces window_machine order.now arguments.now (object_loaded bytes.now) m) }
+    ensures list_heard { HearsAsList (H.told host.old) result (map meaning watchers.old.items)
+        (map meaning watchers.new.items) kept.old kept.new
+        (λ m. product.after_loading list_machine order.now arguments.now (object_loaded bytes.now) m)
+        (λ m. reports.loading_traces list_machine order.now arguments.now (object_loaded bytes.now) m) }
     ensures rose { ComesByFault (H.told host.old) Outcome.HostFault result (H.faults host.old) (H.faults host.new) }
     ensures present { result ≢ Outcome.NoFile }
     ensures words { is_usage result ≡ false }
     ensures keeps { Keeps (H.told host.old) (H.told host.new) (H.faults host.old) (H.faults host.new) }
 {
     match load_object(alloc, bytes) {
-        Ok(image) => run_image(alloc, host, order, image, arguments),
+        Ok(image) => run_image(alloc, host, order, image, arguments, watchers, kept),
         Err(ObjectFault::Bad { place, fault }) => Outcome::BadObject { place, fault },
         Err(ObjectFault::OutOfMemory) => Outcome::OutOfMemory,
     }
 }
 
 /// Runs the object in the file of this name.
-#[tactic(auto, using(crate::proofs::Sources::fronts))]
+#[tactic(auto, using(crate::proofs::Sources::fronts, crate::proofs::Heard::silence))]
 pub fn sim_file<H: Host>(
     alloc: Global,
     host: &mut H,
     order: &Order,
     name: &[u8],
     arguments: &[Bytes],
+    watchers: &mut Vec<Box<dyn Watcher>>,
+    kept: &mut Reports,
 ) -> Outcome
     requires some { 1 ≤ length arguments.now }
     requires fits { pool + 8 * length (pool_octas arguments.now) ≤ stack_address 0 }
@@ -64,13 +78,28 @@ pub fn sim_file<H: Host>(
         (λ m. product.after_object list_machine order.now arguments.now (file_bytes 16385 name.now m)) }
     ensures front { WritesFrontOf (H.told host.old) (H.told host.new) result
         (λ m. product.after_object window_machine order.now arguments.now (file_bytes 16385 name.now m)) }
+    ensures heard { HearsAs (H.told host.old) result (map meaning watchers.old.items)
+        (map meaning watchers.new.items) kept.old kept.new
+        (λ m. reports.object_traces window_machine order.now arguments.now (file_bytes 16385 name.now m)) }
+    ensures list_heard { HearsAsList (H.told host.old) result (map meaning watchers.old.items)
+        (map meaning watchers.new.items) kept.old kept.new
+        (λ m. product.after_object list_machine order.now arguments.now (file_bytes 16385 name.now m))
+        (λ m. reports.object_traces list_machine order.now arguments.now (file_bytes 16385 name.now m)) }
     ensures rose { ComesByFault (H.told host.old) Outcome.HostFault result (H.faults host.old) (H.faults host.new) }
     ensures no_file { ComesByFault (H.told host.old) Outcome.NoFile result (H.faults host.old) (H.faults host.new) }
     ensures words { is_usage result ≡ false }
     ensures keeps { Keeps (H.told host.old) (H.told host.new) (H.faults host.old) (H.faults host.new) }
 {
     match read_file(alloc, host, name, OBJECT_PIECES) {
-        Ok(bytes) => run_object(alloc, host, order, bytes.as_slice(), arguments),
+        Ok(bytes) => run_object(
+            alloc,
+            host,
+            order,
+            bytes.as_slice(),
+            arguments,
+            watchers,
+            kept,
+        ),
         Err(outcome) => outcome,
     }
 }

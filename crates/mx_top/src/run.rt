@@ -1,6 +1,6 @@
 //! A source that is run, and what runs once it is loaded.
 
-ghost use Rattle.std.specs.Prelude.{◌≡◌, ◌≢◌, ◌≤◌, ◌+◌, ◌*◌, Err, IfOk, IfErr, false, length};
+ghost use Rattle.std.specs.Prelude.{◌≡◌, ◌≢◌, ◌≤◌, ◌+◌, ◌*◌, Err, IfOk, IfErr, false, length, map};
 ghost use Rattle.mx_core.specs.Bounds.{as_list_state};
 ghost use Rattle.mx_core.specs.Kept.{state_of};
 ghost use Rattle.mx_core.specs.Start.{pool, pool_octas};
@@ -11,7 +11,10 @@ ghost use Rattle.mx_run.specs.WildRuns.{window_machine, list_machine};
 ghost use Rattle.mx_word.specs.Results.{map_ok};
 ghost use Rattle.mx_files.specs.Answers.{AnswersAs, AnswersAsList, WritesFrontOf, is_usage};
 ghost use Rattle.mx_top.specs.Product as product;
+ghost use Rattle.mx_top.specs.Reports as reports;
+ghost use Rattle.mx_top.specs.Reports.{HearsAs, HearsAsList};
 ghost use Rattle.mx_top.specs.Runs as spec;
+ghost use Rattle.mx_watch.specs.Traces.{traces};
 ghost use Rattle.mx_files.specs.Source.{file_bytes};
 ghost use Rattle.mx_files.specs.Sources.{source_meaning};
 
@@ -23,6 +26,7 @@ use mx_host::Host;
 use mx_load::Image;
 use mx_ring::RingSize;
 use mx_run::{End, Runner};
+use mx_watch::{Reports, Watcher, watched_run};
 use mx_word::Bytes;
 use mx_words::Order;
 use std::alloc::Global;
@@ -130,8 +134,57 @@ fn run_steps<H: Host>(alloc: Global, host: &mut H, order: &Order, machine: Machi
     )
 }
 
-/// Runs a machine that was started.
-fn run_machine<H: Host>(alloc: Global, host: &mut H, order: &Order, machine: Machine) -> Outcome
+/// Makes the steps of a machine that was started, in one run that watchers are told of.
+fn run_told<H: Host>(
+    alloc: Global,
+    host: &mut H,
+    order: &Order,
+    machine: Machine,
+    watchers: &mut Vec<Box<dyn Watcher>>,
+    kept: &mut Reports,
+) -> Outcome
+    requires { (state_of machine).touched ≡ false }
+    ensures told { AnswersAs (H.told host.old) (H.told host.new) result
+        (λ m. spec.dumped order.now.dump (spec.machine_ran window_machine order.now.steps (state_of machine) m)) }
+    ensures listed { AnswersAsList (H.told host.old) (H.told host.new) result
+        (λ m. spec.dumped order.now.dump
+        (spec.machine_ran list_machine order.now.steps (as_list_state (state_of machine)) m)) }
+    ensures front { WritesFrontOf (H.told host.old) (H.told host.new) result
+        (λ m. spec.dumped order.now.dump (spec.machine_ran window_machine order.now.steps (state_of machine) m)) }
+    ensures heard { HearsAs (H.told host.old) result (map meaning watchers.old.items)
+        (map meaning watchers.new.items) kept.old kept.new
+        (λ m. traces window_machine order.now.steps (state_of machine) m) }
+    ensures list_heard { HearsAsList (H.told host.old) result (map meaning watchers.old.items)
+        (map meaning watchers.new.items) kept.old kept.new
+        (λ m. spec.dumped order.now.dump
+        (spec.machine_ran list_machine order.now.steps (as_list_state (state_of machine)) m))
+        (λ m. traces list_machine order.now.steps (as_list_state (state_of machine)) m) }
+    ensures rose { ComesByFault (H.told host.old) Outcome.HostFault result (H.faults host.old) (H.faults host.new) }
+    ensures present { result ≢ Outcome.NoFile }
+    ensures words { is_usage result ≡ false }
+    ensures keeps { Keeps (H.told host.old) (H.told host.new) (H.faults host.old) (H.faults host.new) }
+{
+    let mut machine = machine;
+    let end = watched_run(alloc, &mut machine, host, order.steps, watchers, kept);
+    tell_end(
+        alloc,
+        host,
+        order.dump,
+        &machine,
+        outcome_of(order.steps, end),
+    )
+}
+
+/// Runs a machine that was started. Watchers are told of a run whose reports are asked for.
+#[tactic(auto, using(crate::proofs::Heard::silence))]
+fn run_machine<H: Host>(
+    alloc: Global,
+    host: &mut H,
+    order: &Order,
+    machine: Machine,
+    watchers: &mut Vec<Box<dyn Watcher>>,
+    kept: &mut Reports,
+) -> Outcome
     requires { (state_of machine).touched ≡ false }
     ensures told { AnswersAs (H.told host.old) (H.told host.new) result
         (λ m. spec.run_from window_machine order.now (Ok (state_of machine)) m) }
@@ -139,6 +192,13 @@ fn run_machine<H: Host>(alloc: Global, host: &mut H, order: &Order, machine: Mac
         (λ m. spec.run_from list_machine order.now (Ok (as_list_state (state_of machine))) m) }
     ensures front { WritesFrontOf (H.told host.old) (H.told host.new) result
         (λ m. spec.run_from window_machine order.now (Ok (state_of machine)) m) }
+    ensures heard { HearsAs (H.told host.old) result (map meaning watchers.old.items)
+        (map meaning watchers.new.items) kept.old kept.new
+        (λ m. reports.order_traces window_machine order.now (state_of machine) m) }
+    ensures list_heard { HearsAsList (H.told host.old) result (map meaning watchers.old.items)
+        (map meaning watchers.new.items) kept.old kept.new
+        (λ m. spec.run_from list_machine order.now (Ok (as_list_state (state_of machine))) m)
+        (λ m. reports.order_traces list_machine order.now (as_list_state (state_of machine)) m) }
     ensures rose { ComesByFault (H.told host.old) Outcome.HostFault result (H.faults host.old) (H.faults host.new) }
     ensures present { result ≢ Outcome.NoFile }
     ensures words { is_usage result ≡ false }
@@ -146,19 +206,23 @@ fn run_machine<H: Host>(alloc: Global, host: &mut H, order: &Order, machine: Mac
 {
     if order.interactive {
         run_session(alloc, host, order, machine)
+    } else if order.report {
+        run_told(alloc, host, order, machine, watchers, kept)
     } else {
         run_steps(alloc, host, order, machine)
     }
 }
 
 /// Runs an image from its start, with these arguments.
-#[tactic(auto, using(crate::proofs::Sources::fronts))]
+#[tactic(auto, using(crate::proofs::Sources::fronts, crate::proofs::Heard::silence))]
 pub fn run_image<H: Host>(
     alloc: Global,
     host: &mut H,
     order: &Order,
     image: Image,
     arguments: &[Bytes],
+    watchers: &mut Vec<Box<dyn Watcher>>,
+    kept: &mut Reports,
 ) -> Outcome
     requires some { 1 ≤ length arguments.now }
     requires fits { pool + 8 * length (pool_octas arguments.now) ≤ stack_address 0 }
@@ -168,25 +232,34 @@ pub fn run_image<H: Host>(
         (λ m. spec.image_run list_machine order.now arguments.now (image_of image) m) }
     ensures front { WritesFrontOf (H.told host.old) (H.told host.new) result
         (λ m. spec.image_run window_machine order.now arguments.now (image_of image) m) }
+    ensures heard { HearsAs (H.told host.old) result (map meaning watchers.old.items)
+        (map meaning watchers.new.items) kept.old kept.new
+        (λ m. reports.image_traces window_machine order.now arguments.now (image_of image) m) }
+    ensures list_heard { HearsAsList (H.told host.old) result (map meaning watchers.old.items)
+        (map meaning watchers.new.items) kept.old kept.new
+        (λ m. spec.image_run list_machine order.now arguments.now (image_of image) m)
+        (λ m. reports.image_traces list_machine order.now arguments.now (image_of image) m) }
     ensures rose { ComesByFault (H.told host.old) Outcome.HostFault result (H.faults host.old) (H.faults host.new) }
     ensures present { result ≢ Outcome.NoFile }
     ensures words { is_usage result ≡ false }
     ensures keeps { Keeps (H.told host.old) (H.told host.new) (H.faults host.old) (H.faults host.new) }
 {
     match start(alloc, image, arguments, order.ring) {
-        Ok(machine) => run_machine(alloc, host, order, machine),
+        Ok(machine) => run_machine(alloc, host, order, machine, watchers, kept),
         Err(outcome) => outcome,
     }
 }
 
 /// Runs a source, or says why it is refused.
-#[tactic(auto, using(crate::proofs::Sources::fronts))]
+#[tactic(auto, using(crate::proofs::Sources::fronts, crate::proofs::Heard::silence))]
 fn run_source<H: Host>(
     alloc: Global,
     host: &mut H,
     order: &Order,
     text: &[u8],
     arguments: &[Bytes],
+    watchers: &mut Vec<Box<dyn Watcher>>,
+    kept: &mut Reports,
 ) -> Outcome
     requires some { 1 ≤ length arguments.now }
     requires fits { pool + 8 * length (pool_octas arguments.now) ≤ stack_address 0 }
@@ -196,26 +269,35 @@ fn run_source<H: Host>(
         (λ m. product.after_image list_machine order.now arguments.now (source_meaning text.now) m) }
     ensures front { WritesFrontOf (H.told host.old) (H.told host.new) result
         (λ m. product.after_image window_machine order.now arguments.now (source_meaning text.now) m) }
+    ensures heard { HearsAs (H.told host.old) result (map meaning watchers.old.items)
+        (map meaning watchers.new.items) kept.old kept.new
+        (λ m. reports.meaning_traces window_machine order.now arguments.now (source_meaning text.now) m) }
+    ensures list_heard { HearsAsList (H.told host.old) result (map meaning watchers.old.items)
+        (map meaning watchers.new.items) kept.old kept.new
+        (λ m. product.after_image list_machine order.now arguments.now (source_meaning text.now) m)
+        (λ m. reports.meaning_traces list_machine order.now arguments.now (source_meaning text.now) m) }
     ensures rose { ComesByFault (H.told host.old) Outcome.HostFault result (H.faults host.old) (H.faults host.new) }
     ensures present { result ≢ Outcome.NoFile }
     ensures words { is_usage result ≡ false }
     ensures keeps { Keeps (H.told host.old) (H.told host.new) (H.faults host.old) (H.faults host.new) }
 {
     match load_source(alloc, text) {
-        Ok(image) => run_image(alloc, host, order, image, arguments),
+        Ok(image) => run_image(alloc, host, order, image, arguments, watchers, kept),
         Err(SourceFault::Refused(refusal)) => refusal.outcome(),
         Err(SourceFault::OutOfMemory) => Outcome::OutOfMemory,
     }
 }
 
 /// Runs the source in the file of this name.
-#[tactic(auto, using(crate::proofs::Sources::fronts))]
+#[tactic(auto, using(crate::proofs::Sources::fronts, crate::proofs::Heard::silence))]
 pub fn run_file<H: Host>(
     alloc: Global,
     host: &mut H,
     order: &Order,
     name: &[u8],
     arguments: &[Bytes],
+    watchers: &mut Vec<Box<dyn Watcher>>,
+    kept: &mut Reports,
 ) -> Outcome
     requires some { 1 ≤ length arguments.now }
     requires fits { pool + 8 * length (pool_octas arguments.now) ≤ stack_address 0 }
@@ -225,13 +307,28 @@ pub fn run_file<H: Host>(
         (λ m. product.after_source list_machine order.now arguments.now (file_bytes 1025 name.now m)) }
     ensures front { WritesFrontOf (H.told host.old) (H.told host.new) result
         (λ m. product.after_source window_machine order.now arguments.now (file_bytes 1025 name.now m)) }
+    ensures heard { HearsAs (H.told host.old) result (map meaning watchers.old.items)
+        (map meaning watchers.new.items) kept.old kept.new
+        (λ m. reports.source_traces window_machine order.now arguments.now (file_bytes 1025 name.now m)) }
+    ensures list_heard { HearsAsList (H.told host.old) result (map meaning watchers.old.items)
+        (map meaning watchers.new.items) kept.old kept.new
+        (λ m. product.after_source list_machine order.now arguments.now (file_bytes 1025 name.now m))
+        (λ m. reports.source_traces list_machine order.now arguments.now (file_bytes 1025 name.now m)) }
     ensures rose { ComesByFault (H.told host.old) Outcome.HostFault result (H.faults host.old) (H.faults host.new) }
     ensures no_file { ComesByFault (H.told host.old) Outcome.NoFile result (H.faults host.old) (H.faults host.new) }
     ensures words { is_usage result ≡ false }
     ensures keeps { Keeps (H.told host.old) (H.told host.new) (H.faults host.old) (H.faults host.new) }
 {
     match read_file(alloc, host, name, SOURCE_PIECES) {
-        Ok(text) => run_source(alloc, host, order, text.as_slice(), arguments),
+        Ok(text) => run_source(
+            alloc,
+            host,
+            order,
+            text.as_slice(),
+            arguments,
+            watchers,
+            kept,
+        ),
         Err(outcome) => outcome,
     }
 }

@@ -10,13 +10,19 @@ ghost use Rattle.mx_files.specs.Answers.{AnswersAs, AnswersAsList, WritesFrontOf
 ghost use Rattle.mx_top.specs.Arguments.{word_at};
 ghost use Rattle.mx_files.specs.Messages.{message_of};
 ghost use Rattle.mx_top.specs.Product as spec;
+ghost use Rattle.mx_top.specs.Reports as reports;
+ghost use Rattle.mx_top.specs.Reports.{HearsAs, HearsAsList, LeavesWatchers};
 
 use crate::arguments::arguments;
 use crate::generation::generate;
 use crate::objects::sim_file;
+use crate::reports::{found_reports, put_reports};
 use crate::run::run_file;
+use crate::schedules::multi_file;
 use mx_files::{Outcome, assemble_file, list_file, message};
 use mx_host::{Host, HostFault};
+use mx_watch::{Reports, Watcher};
+use mx_word::Bytes;
 use mx_words::{Command, Order, read};
 use std::alloc::Global;
 
@@ -29,8 +35,15 @@ fn word(words: &[String], place: usize) -> &[u8]
 }
 
 /// Runs the source or the object that the words name, with the arguments behind it.
-#[tactic(auto, using(crate::proofs::Sources::fronts))]
-fn run_ordered<H: Host>(alloc: Global, words: &[String], order: &Order, host: &mut H) -> Outcome
+#[tactic(auto, using(crate::proofs::Sources::fronts, crate::proofs::Heard::silence))]
+fn run_ordered<H: Host>(
+    alloc: Global,
+    words: &[String],
+    order: &Order,
+    host: &mut H,
+    watchers: &mut Vec<Box<dyn Watcher>>,
+    kept: &mut Reports,
+) -> Outcome
     requires file { order.now.file < length words.now }
     requires rest { order.now.rest ≤ length words.now }
     ensures told { AnswersAs (H.told host.old) (H.told host.new) result
@@ -39,6 +52,13 @@ fn run_ordered<H: Host>(alloc: Global, words: &[String], order: &Order, host: &m
         (λ m. spec.run_ordered list_machine (map string_bytes words.now) order.now m) }
     ensures front { WritesFrontOf (H.told host.old) (H.told host.new) result
         (λ m. spec.run_ordered window_machine (map string_bytes words.now) order.now m) }
+    ensures heard { HearsAs (H.told host.old) result (map meaning watchers.old.items)
+        (map meaning watchers.new.items) kept.old kept.new
+        (λ m. reports.run_traces window_machine (map string_bytes words.now) order.now m) }
+    ensures list_heard { HearsAsList (H.told host.old) result (map meaning watchers.old.items)
+        (map meaning watchers.new.items) kept.old kept.new
+        (λ m. spec.run_ordered list_machine (map string_bytes words.now) order.now m)
+        (λ m. reports.run_traces list_machine (map string_bytes words.now) order.now m) }
     ensures rose { ComesByFault (H.told host.old) Outcome.HostFault result (H.faults host.old) (H.faults host.new) }
     ensures no_file { ComesByFault (H.told host.old) Outcome.NoFile result (H.faults host.old) (H.faults host.new) }
     ensures words { is_usage result ≡ false }
@@ -51,14 +71,23 @@ fn run_ordered<H: Host>(alloc: Global, words: &[String], order: &Order, host: &m
             order,
             word(words, order.file),
             arguments.as_slice(),
+            watchers,
+            kept,
         ),
         Err(_) => Outcome::OutOfMemory,
     }
 }
 
 /// Runs the object that the words name, with the arguments behind it.
-#[tactic(auto, using(crate::proofs::Sources::fronts))]
-fn sim_ordered<H: Host>(alloc: Global, words: &[String], order: &Order, host: &mut H) -> Outcome
+#[tactic(auto, using(crate::proofs::Sources::fronts, crate::proofs::Heard::silence))]
+fn sim_ordered<H: Host>(
+    alloc: Global,
+    words: &[String],
+    order: &Order,
+    host: &mut H,
+    watchers: &mut Vec<Box<dyn Watcher>>,
+    kept: &mut Reports,
+) -> Outcome
     requires file { order.now.file < length words.now }
     requires rest { order.now.rest ≤ length words.now }
     ensures told { AnswersAs (H.told host.old) (H.told host.new) result
@@ -67,6 +96,13 @@ fn sim_ordered<H: Host>(alloc: Global, words: &[String], order: &Order, host: &m
         (λ m. spec.sim_ordered list_machine (map string_bytes words.now) order.now m) }
     ensures front { WritesFrontOf (H.told host.old) (H.told host.new) result
         (λ m. spec.sim_ordered window_machine (map string_bytes words.now) order.now m) }
+    ensures heard { HearsAs (H.told host.old) result (map meaning watchers.old.items)
+        (map meaning watchers.new.items) kept.old kept.new
+        (λ m. reports.sim_traces window_machine (map string_bytes words.now) order.now m) }
+    ensures list_heard { HearsAsList (H.told host.old) result (map meaning watchers.old.items)
+        (map meaning watchers.new.items) kept.old kept.new
+        (λ m. spec.sim_ordered list_machine (map string_bytes words.now) order.now m)
+        (λ m. reports.sim_traces list_machine (map string_bytes words.now) order.now m) }
     ensures rose { ComesByFault (H.told host.old) Outcome.HostFault result (H.faults host.old) (H.faults host.new) }
     ensures no_file { ComesByFault (H.told host.old) Outcome.NoFile result (H.faults host.old) (H.faults host.new) }
     ensures words { is_usage result ≡ false }
@@ -79,16 +115,26 @@ fn sim_ordered<H: Host>(alloc: Global, words: &[String], order: &Order, host: &m
             order,
             word(words, order.file),
             arguments.as_slice(),
+            watchers,
+            kept,
         ),
         Err(_) => Outcome::OutOfMemory,
     }
 }
 
 /// Does what the words order.
-#[tactic(auto, using(crate::proofs::PlainAnswers::plain))]
-fn carry_order<H: Host>(alloc: Global, words: &[String], order: &Order, host: &mut H) -> Outcome
+#[tactic(auto, using(crate::proofs::PlainAnswers::plain, crate::proofs::Heard::silence))]
+fn carry_order<H: Host>(
+    alloc: Global,
+    words: &[String],
+    order: &Order,
+    host: &mut H,
+    watchers: &mut Vec<Box<dyn Watcher>>,
+    kept: &mut Reports,
+) -> Outcome
     requires file { order.now.file < length words.now }
     requires rest { order.now.rest ≤ length words.now }
+    requires schedule { order.now.schedule < length words.now }
     requires object { order.now.command ≡ Command.Asm → order.now.rest < length words.now }
     requires blocks { order.now.number ≤ 10000 }
     ensures told { AnswersAs (H.told host.old) (H.told host.new) result
@@ -97,14 +143,21 @@ fn carry_order<H: Host>(alloc: Global, words: &[String], order: &Order, host: &m
         (λ m. spec.ordered list_machine (map string_bytes words.now) order.now order.now.command m) }
     ensures front { WritesFrontOf (H.told host.old) (H.told host.new) result
         (λ m. spec.ordered window_machine (map string_bytes words.now) order.now order.now.command m) }
+    ensures heard { HearsAs (H.told host.old) result (map meaning watchers.old.items)
+        (map meaning watchers.new.items) kept.old kept.new
+        (λ m. reports.ordered_traces window_machine (map string_bytes words.now) order.now order.now.command m) }
+    ensures list_heard { HearsAsList (H.told host.old) result (map meaning watchers.old.items)
+        (map meaning watchers.new.items) kept.old kept.new
+        (λ m. spec.ordered list_machine (map string_bytes words.now) order.now order.now.command m)
+        (λ m. reports.ordered_traces list_machine (map string_bytes words.now) order.now order.now.command m) }
     ensures rose { ComesByFault (H.told host.old) Outcome.HostFault result (H.faults host.old) (H.faults host.new) }
     ensures no_file { ComesByFault (H.told host.old) Outcome.NoFile result (H.faults host.old) (H.faults host.new) }
     ensures words { is_usage result ≡ false }
     ensures keeps { Keeps (H.told host.old) (H.told host.new) (H.faults host.old) (H.faults host.new) }
 {
     match order.command {
-        Command::Run => run_ordered(alloc, words, order, host),
-        Command::Sim => sim_ordered(alloc, words, order, host),
+        Command::Run => run_ordered(alloc, words, order, host, watchers, kept),
+        Command::Sim => sim_ordered(alloc, words, order, host, watchers, kept),
         Command::Asm => assemble_file(
             alloc,
             host,
@@ -113,11 +166,25 @@ fn carry_order<H: Host>(alloc: Global, words: &[String], order: &Order, host: &m
         ),
         Command::Gen => generate(alloc, host, order),
         Command::Show => list_file(alloc, host, word(words, order.file)),
+        Command::Multi => multi_file(
+            alloc,
+            host,
+            order,
+            word(words, order.schedule),
+            word(words, order.file),
+        ),
     }
 }
 
 /// Does what the words order, if they order something, without the message.
-fn carry_out<H: Host>(alloc: Global, words: &[String], host: &mut H) -> Outcome
+#[tactic(auto, using(crate::proofs::Heard::silence))]
+fn carry_out<H: Host>(
+    alloc: Global,
+    words: &[String],
+    host: &mut H,
+    watchers: &mut Vec<Box<dyn Watcher>>,
+    kept: &mut Reports,
+) -> Outcome
     ensures told { AnswersAs (H.told host.old) (H.told host.new) result
         (λ m. spec.carried_out window_machine (map string_bytes words.now) (order_of (map string_bytes words.now)) m) }
     ensures listed { AnswersAsList (H.told host.old) (H.told host.new) result
@@ -128,12 +195,20 @@ fn carry_out<H: Host>(alloc: Global, words: &[String], host: &mut H) -> Outcome
         result ≡ Outcome.Usage fault }
     ensures only_usage { (fault : WordsFault) → result ≡ Outcome.Usage fault →
         order_of (map string_bytes words.now) ≡ Err fault }
+    ensures heard { HearsAs (H.told host.old) result (map meaning watchers.old.items)
+        (map meaning watchers.new.items) kept.old kept.new
+        (λ m. reports.carried_traces window_machine (map string_bytes words.now)
+        (order_of (map string_bytes words.now)) m) }
+    ensures list_heard { HearsAsList (H.told host.old) result (map meaning watchers.old.items)
+        (map meaning watchers.new.items) kept.old kept.new
+        (λ m. spec.carried_out list_machine (map string_bytes words.now) (order_of (map string_bytes words.now)) m)
+        (λ m. reports.carried_traces list_machine (map string_bytes words.now) (order_of (map string_bytes words.now)) m) }
     ensures rose { ComesByFault (H.told host.old) Outcome.HostFault result (H.faults host.old) (H.faults host.new) }
     ensures no_file { ComesByFault (H.told host.old) Outcome.NoFile result (H.faults host.old) (H.faults host.new) }
     ensures keeps { Keeps (H.told host.old) (H.told host.new) (H.faults host.old) (H.faults host.new) }
 {
     match read(words) {
-        Ok(order) => carry_order(alloc, words, &order, host),
+        Ok(order) => carry_order(alloc, words, &order, host, watchers, kept),
         Err(fault) => Outcome::Usage(fault),
     }
 }
@@ -145,6 +220,7 @@ fn tell<H: Host>(alloc: Global, host: &mut H, outcome: Outcome) -> Outcome
     ensures told { AnswersAs (H.told host.old) (H.told host.new) result
         (λ m. spec.message_told outcome (message_of outcome) m) }
     ensures same { result ≢ Outcome.OutOfMemory → result ≡ outcome }
+    ensures lacks { outcome ≡ Outcome.OutOfMemory → result ≡ Outcome.OutOfMemory }
     ensures output { slot_at (contents (H.told host.old)) 260 ≡ to_errors →
         KeepsOutput (H.told host.old) (H.told host.new) }
     ensures keeps { Keeps (H.told host.old) (H.told host.new) (H.faults host.old) (H.faults host.new) }
@@ -161,12 +237,72 @@ fn tell<H: Host>(alloc: Global, host: &mut H, outcome: Outcome) -> Outcome
     }
 }
 
+/// Writes the message line of an outcome to the tool's standard error, and reports behind it. Writes that fail change
+/// nothing; where there is no memory, that is the outcome.
+fn finish<H: Host>(alloc: Global, host: &mut H, outcome: Outcome, texts: &[Bytes]) -> Outcome
+    ensures told { AnswersAs (H.told host.old) (H.told host.new) result
+        (λ m. reports.with_reports texts.now (spec.message_told outcome (message_of outcome) m)) }
+    ensures same { result ≢ Outcome.OutOfMemory → result ≡ outcome }
+    ensures output { slot_at (contents (H.told host.old)) 260 ≡ to_errors →
+        KeepsOutput (H.told host.old) (H.told host.new) }
+    ensures keeps { Keeps (H.told host.old) (H.told host.new) (H.faults host.old) (H.faults host.new) }
+{
+    let told = tell(alloc, host, outcome);
+    put_reports(host, texts, told)
+}
+
+/// Does what the words of the command line order, as `mmixware` does, and tells watchers of the run where the words
+/// ask for reports.
+///
+/// With `--report`, `run` and `sim` tell each watcher the trace of every step that the program completes, up to one
+/// at which it is full; that one leaves the list. Behind the message, the report of each on what it heard is
+/// written to slot 260, in the order of the list, if there is something in it. Nothing else changes: the outcome
+/// is that of `mmixware`, and so is all that the host holds before the reports. Without `--report` no watcher
+/// is told anything.
+pub fn mmixware_watched<H: Host>(
+    alloc: Global,
+    words: &[String],
+    host: &mut H,
+    watchers: &mut Vec<Box<dyn Watcher>>,
+) -> Outcome
+    ensures product { AnswersAs (H.told host.old) (H.told host.new) result
+        (λ m. reports.watched_product window_machine (map string_bytes words.now) (map meaning watchers.old.items) m) }
+    ensures headline { AnswersAsList (H.told host.old) (H.told host.new) result
+        (λ m. reports.watched_product list_machine (map string_bytes words.now) (map meaning watchers.old.items) m) }
+    ensures left { LeavesWatchers (H.told host.old) result (map meaning watchers.old.items)
+        (map meaning watchers.new.items) (λ m. reports.carried_traces window_machine (map string_bytes words.now)
+        (order_of (map string_bytes words.now)) m) }
+    ensures written { slot_at (contents (H.told host.old)) 260 ≡ to_errors →
+        WritesFrontOf (H.told host.old) (H.told host.new) result
+        (λ m. spec.product window_machine (map string_bytes words.now) m) }
+
+    // Words that are no order are told apart for every host, and only they are told so.
+    ensures usage { (fault : WordsFault) → order_of (map string_bytes words.now) ≡ Err fault →
+        result ≢ Outcome.OutOfMemory → result ≡ Outcome.Usage fault }
+    ensures only_usage { (fault : WordsFault) → result ≡ Outcome.Usage fault →
+        order_of (map string_bytes words.now) ≡ Err fault }
+
+    // Over a host that tells nothing, a file is missing or fails only where a call failed.
+    ensures host_fault { ComesByFault (H.told host.old) Outcome.HostFault result (H.faults host.old) (H.faults
+        host.new) }
+    ensures no_file { ComesByFault (H.told host.old) Outcome.NoFile result (H.faults host.old) (H.faults host.new) }
+    ensures keeps { Keeps (H.told host.old) (H.told host.new) (H.faults host.old) (H.faults host.new) }
+{
+    let count = watchers.len();
+    let mut kept = Reports::new(alloc);
+    let outcome = carry_out(alloc, words, host, watchers, &mut kept);
+    match found_reports(alloc, words, count, watchers, &kept) {
+        Ok(texts) => finish(alloc, host, outcome, texts.as_slice()),
+        Err(_) => tell(alloc, host, Outcome::OutOfMemory),
+    }
+}
+
 /// Does what the words of the command line order, the program's name left out, and answers the
 /// outcome.
 ///
 /// The words `run SRC` assemble the source in the file SRC and run it, `asm SRC OBJ` assemble it
 /// into the object file OBJ, `sim OBJ` run an object file, `gen N` run a source of N blocks that is
-/// made, and `type OBJ` list an object file. All else that a user sees comes by the host: the object
+/// made, `type OBJ` list an object file, and `multi SCHED OBJ` run one on several processors. All else that a user sees comes by the host: the object
 /// file, the program's own output, the dump that is asked for, the listing, and a message line on slot
 /// 260 where the outcome is none of a program or of a tool that is done.
 ///
@@ -174,7 +310,6 @@ fn tell<H: Host>(alloc: Global, host: &mut H, outcome: Outcome) -> Outcome
 /// `product`, over a register window; and over an unbounded list of registers, as long as a program
 /// does not look at rS or at the memory of the register stack, where standard output begins as that of
 /// the list. Where memory runs out, standard output has been given a front of what `product` gives.
-#[tactic(auto, using(crate::proofs::Told::telling_messages))]
 pub fn mmixware<H: Host>(alloc: Global, words: &[String], host: &mut H) -> Outcome
     ensures product { AnswersAs (H.told host.old) (H.told host.new) result
         (λ m. spec.product window_machine (map string_bytes words.now) m) }
@@ -196,6 +331,6 @@ pub fn mmixware<H: Host>(alloc: Global, words: &[String], host: &mut H) -> Outco
     ensures no_file { ComesByFault (H.told host.old) Outcome.NoFile result (H.faults host.old) (H.faults host.new) }
     ensures keeps { Keeps (H.told host.old) (H.told host.new) (H.faults host.old) (H.faults host.new) }
 {
-    let outcome = carry_out(alloc, words, host);
-    tell(alloc, host, outcome)
+    let mut nobody = Vec::new(alloc);
+    mmixware_watched(alloc, words, host, &mut nobody)
 }

@@ -13,4 +13,4 @@ returns-in_err-line g c = puts-lacking _ _ _ _ _ c.from_residual.ensures.1
 pub returns : goal.returns
 returns g c =
     puts-shown _ _ _ _ _ (spec.is_register_shown (state_of c.args.machine.now) c.args.k) _ (sym c.is_register_shown.ensures ∙ c.if-not-is_register_shown.false)
-    (puts-renamed _ _ _ _ _ _ _ (c.as_slice.ensures ∙ c.in_ok-line.ensures) c.put_line.ensures)
+    (puts-renamed _ _ _ _ _ _ _ (c.as_slice.ensures ∙ c.in_ok-line.ensures) c.put_line.ensures.puts)

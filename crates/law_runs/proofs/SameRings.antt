@@ -1,0 +1,153 @@
+-- What the program does over the list machine does not depend on the size of the ring, and what it does over each machine
+-- not on whether reports are asked for.
+use Rattle.std.proofs.Common.{◌≡◌, ℕ, List, [], ◌∷◌, cond, Result, Ok, Err, refl, ap, sym, ◌∙◌, codes}
+use Rattle.mx_host.specs.HostModel.{HostModel}
+use Rattle.mx_host.specs.HostAnswer.{Then}
+use Rattle.mx_mmo.specs.Image.{Image}
+use Rattle.mx_core.specs.State.{State}
+use Rattle.mx_core.specs.declared.trace.Trace.{Trace}
+use Rattle.mx_run.specs.WildRuns.{MachineKind, list_machine}
+use Rattle.mx_watch.specs.Reporting.{reports_on}
+use Rattle.mx_watch.specs.Watching.{Watching}
+use Rattle.mx_word.specs.declared.symbols.Symbol.{Symbol}
+use Rattle.mx_words.specs.Orders.{order_of}
+use Rattle.mx_words.specs.declared.order.Command.{Command}
+use Rattle.mx_words.specs.declared.order.Command.TheVariants.{Run, Asm, Sim, Gen, Show, Multi}
+use Rattle.mx_words.specs.declared.order.Order.{Order}
+use Rattle.mx_top.specs.Arguments.{Word, word_at, arguments}
+use Rattle.law_gen.specs.Generator.{generated}
+use Rattle.mx_top.specs.Product.{after_image, after_source, after_loading, after_object, loaded_turns, object_turns, after_schedule, generated_run, source_generated, summed_from, ordered, carried_out, with_message, product}
+use Rattle.law_runs.specs.Rings.{DifferInRing, HandsArguments}
+use Rattle.mx_top.specs.Reports.{traces_from, image_traces, meaning_traces, source_traces, loading_traces, object_traces, ordered_traces, carried_traces, due_reports, with_reports, watched_product}
+use Rattle.mx_top.specs.Runs.{image_run, run_from, stack_at_start, started}
+use Rattle.mx_top.specs.Processors.{image_turns}
+use Rattle.mx_files.specs.Schedules.{schedule_bytes}
+use Rattle.mx_files.specs.Source.{file_bytes, source_pieces, object_pieces}
+use Rattle.mx_files.specs.declared.outcome.Outcome.{Outcome}
+use Rattle.mx_files.specs.declared.refusal.Refusal.{Refusal}
+
+-- ---- what is done, where the machines start alike
+
+module _ (kind : MachineKind) (words others : List Word) (o p : Order) (e : DifferInRing words others o p)
+    (start : (image : Image) (args : List Word) → started kind o.ring image args ≡ started kind p.ring image args)
+    (stacks : stack_at_start kind o.ring ≡ stack_at_start kind p.ring) where
+  same-from : (r : Result State Outcome) (m : HostModel) → run_from kind o r m ≡ run_from kind p r m
+  same-from (Err outcome) m = refl
+  same-from (Ok s) m = rw (e.interactive, e.dump, e.steps) refl
+
+  same-run : (args : List Word) (image : Image) (m : HostModel) → image_run kind o args image m ≡ image_run kind p args image m
+  same-run args image m = same-from (started kind o.ring image args) m ∙ ap (λ r. run_from kind p r m) (start image args)
+
+  same-image : (args : List Word) (r : Result Image Refusal) (m : HostModel) → after_image kind o args r m ≡ after_image kind p args r m
+  same-image args (Err refusal) m = refl
+  same-image args (Ok image) m = same-run args image m
+
+  same-source : (args : List Word) (t : Then (Result (List ℕ) Outcome)) → after_source kind o args t ≡ after_source kind p args t
+  same-source args (Err outcome, m) = refl
+  same-source args (Ok source, m) = same-image args _ m
+
+  same-loading : (args : List Word) (r : Result (Image × List Symbol) (ℕ × ℕ)) (m : HostModel) → after_loading kind o args r m ≡ after_loading kind p args r m
+  same-loading args (Err fault) m = refl
+  same-loading args (Ok loaded) m = same-run args loaded.0 m
+
+  same-object : (args : List Word) (t : Then (Result (List ℕ) Outcome)) → after_object kind o args t ≡ after_object kind p args t
+  same-object args (Err outcome, m) = refl
+  same-object args (Ok object, m) = same-loading args _ m
+
+  same-generated : (size : ℕ) (r : Result Image Refusal) (m : HostModel) → generated_run kind o size r m ≡ generated_run kind p size r m
+  same-generated size (Err refusal) m = refl
+  same-generated size (Ok image) m =
+      ap (λ n. summed_from kind n size (started kind o.ring image (codes "gen" ∷ [])) m) e.blocks ∙ ap (λ r. summed_from kind p.number size r m) (start image (codes "gen" ∷ []))
+
+  same-image-turns : (schedule : List ℕ) (image : Image) (m : HostModel) → image_turns kind o schedule image m ≡ image_turns kind p schedule image m
+  same-image-turns schedule image m = rw (e.dump, e.steps, stacks) refl
+
+  same-loaded-turns : (schedule : List ℕ) (r : Result (Image × List Symbol) (ℕ × ℕ)) (m : HostModel) → loaded_turns kind o schedule r m ≡ loaded_turns kind p schedule r m
+  same-loaded-turns schedule (Err fault) m = refl
+  same-loaded-turns schedule (Ok loaded) m = same-image-turns schedule loaded.0 m
+
+  same-object-turns : (schedule : List ℕ) (t : Then (Result (List ℕ) Outcome)) → object_turns kind o schedule t ≡ object_turns kind p schedule t
+  same-object-turns schedule (Err outcome, m) = refl
+  same-object-turns schedule (Ok object, m) = same-loaded-turns schedule _ m
+
+  same-schedule : (name : Word) (t : Then (Result (List ℕ) Outcome)) → after_schedule kind o name t ≡ after_schedule kind p name t
+  same-schedule name (Err outcome, m) = refl
+  same-schedule name (Ok schedule, m) = same-object-turns schedule (file_bytes object_pieces name m)
+
+  same-ordered : (c : Command) (m : HostModel) → (HandsArguments c → arguments words o ≡ arguments others p) → (c ≡ Multi → word_at words o.schedule ≡ word_at others p.schedule) → ordered kind words o c m ≡ ordered kind others p c m
+  same-ordered Run m h k = rw (h tt, e.file) (same-source (arguments others p) (file_bytes source_pieces (word_at others p.file) m))
+  same-ordered Sim m h k = rw (h tt, e.file) (same-object (arguments others p) (file_bytes object_pieces (word_at others p.file) m))
+  same-ordered Asm m h k = rw (e.object, e.file) refl
+  same-ordered Gen m h k = same-generated _ _ m ∙ ap (λ n. source_generated kind p (generated n) m) e.blocks
+  same-ordered Show m h k = rw e.file refl
+  same-ordered Multi m h k = rw (k refl, e.file) (same-schedule (word_at others p.file) (schedule_bytes (word_at others p.schedule) m))
+
+  same-product : (m : HostModel) → order_of words ≡ Ok o → order_of others ≡ Ok p → product kind words m ≡ product kind others m
+  same-product m f g =
+      ap (λ r. with_message (carried_out kind words r m)) f
+      ∙ ap with_message (same-ordered o.command m e.arguments e.schedule ∙ ap (λ c. ordered kind others p c m) e.command)
+      ∙ sym (ap (λ r. with_message (carried_out kind others r m)) g)
+
+  -- ---- what watchers are told
+
+  module _ (asks : o.report ≡ p.report) where
+    traced-from : (r : Result State Outcome) (m : HostModel) → traces_from kind o r m ≡ traces_from kind p r m
+    traced-from (Err outcome) m = refl
+    traced-from (Ok s) m = rw (e.interactive, asks, e.steps) refl
+
+    traced-run : (args : List Word) (image : Image) (m : HostModel) → image_traces kind o args image m ≡ image_traces kind p args image m
+    traced-run args image m = traced-from (started kind o.ring image args) m ∙ ap (λ r. traces_from kind p r m) (start image args)
+
+    traced-meaning : (args : List Word) (r : Result Image Refusal) (m : HostModel) → meaning_traces kind o args r m ≡ meaning_traces kind p args r m
+    traced-meaning args (Err refusal) m = refl
+    traced-meaning args (Ok image) m = traced-run args image m
+
+    traced-source : (args : List Word) (t : Then (Result (List ℕ) Outcome)) → source_traces kind o args t ≡ source_traces kind p args t
+    traced-source args (Err outcome, m) = refl
+    traced-source args (Ok source, m) = traced-meaning args _ m
+
+    traced-loading : (args : List Word) (r : Result (Image × List Symbol) (ℕ × ℕ)) (m : HostModel) → loading_traces kind o args r m ≡ loading_traces kind p args r m
+    traced-loading args (Err fault) m = refl
+    traced-loading args (Ok loaded) m = traced-run args loaded.0 m
+
+    traced-object : (args : List Word) (t : Then (Result (List ℕ) Outcome)) → object_traces kind o args t ≡ object_traces kind p args t
+    traced-object args (Err outcome, m) = refl
+    traced-object args (Ok object, m) = traced-loading args _ m
+
+    traced-ordered : (c : Command) (m : HostModel) → (HandsArguments c → arguments words o ≡ arguments others p) → ordered_traces kind words o c m ≡ ordered_traces kind others p c m
+    traced-ordered Run m h = rw (h tt, e.file) (traced-source (arguments others p) (file_bytes source_pieces (word_at others p.file) m))
+    traced-ordered Sim m h = rw (h tt, e.file) (traced-object (arguments others p) (file_bytes object_pieces (word_at others p.file) m))
+    traced-ordered Asm m h = refl
+    traced-ordered Gen m h = refl
+    traced-ordered Show m h = refl
+    traced-ordered Multi m h = refl
+
+    traced-all : (m : HostModel) → carried_traces kind words (Ok o) m ≡ carried_traces kind others (Ok p) m
+    traced-all m = traced-ordered o.command m e.arguments ∙ ap (λ c. ordered_traces kind others p c m) e.command
+
+    same-due : (ws : List Watching) (m : HostModel) → order_of words ≡ Ok o → order_of others ≡ Ok p →
+        due_reports kind words ws (order_of words) m ≡ due_reports kind others ws (order_of others) m
+    same-due ws m f g =
+        ap (λ r. due_reports kind words ws r m) f
+        ∙ ap (λ (ts : List Trace). cond o.report (reports_on ts ws) []) (traced-all m) ∙ ap (λ b. cond b (reports_on (carried_traces kind others (Ok p) m) ws) []) asks
+        ∙ sym (ap (λ r. due_reports kind others ws r m) g)
+
+    same-watched : (ws : List Watching) (m : HostModel) → order_of words ≡ Ok o → order_of others ≡ Ok p → watched_product kind words ws m ≡ watched_product kind others ws m
+    same-watched ws m f g =
+        ap (λ ts. with_reports ts (product kind words m)) (same-due ws m f g) ∙ ap (with_reports (due_reports kind others ws (order_of others) m)) (same-product m f g)
+
+-- ---- the laws
+
+pub rings-agree : (words others : List Word) (o p : Order) (m : HostModel) → order_of words ≡ Ok o → order_of others ≡ Ok p →
+    DifferInRing words others o p → product list_machine words m ≡ product list_machine others m
+rings-agree words others o p m f g e = same-product list_machine words others o p e (λ image args. refl) refl m f g
+
+pub rings-watched : (words others : List Word) (o p : Order) (ws : List Watching) (m : HostModel) → order_of words ≡ Ok o → order_of others ≡ Ok p →
+    DifferInRing words others o p → o.report ≡ p.report → watched_product list_machine words ws m ≡ watched_product list_machine others ws m
+rings-watched words others o p ws m f g e asks = same-watched list_machine words others o p e (λ image args. refl) refl asks ws m f g
+
+pub reports-alone : (kind : MachineKind) (words others : List Word) (o p : Order) (m : HostModel) → order_of words ≡ Ok o → order_of others ≡ Ok p →
+    DifferInRing words others o p → o.ring ≡ p.ring → product kind words m ≡ product kind others m
+reports-alone kind words others o p m f g e ring = same-product kind words others o p e (λ image args. ap (λ r. started kind r image args) ring) (ap (stack_at_start kind) ring) m f g
+
+pub ruleset rings = (rings-agree, rings-watched, reports-alone)

@@ -1,0 +1,317 @@
+-- Where no call that is made fails, the program does and answers the same whatever the count of calls, and whatever the
+-- list of those that fail.
+use Rattle.std.proofs.Common.{◌≡◌, ◌≤◌, ℕ, List, [], ◌∷◌, Bool, true, false, cond, length, refl, sym, ◌∙◌, ap, Ok, Err}
+use Rattle.std.specs.Prelude.{Result, ◌&&◌, codes}
+use Rattle.mx_word.specs.declared.symbols.Symbol.{Symbol}
+use Rattle.mx_host.specs.HostModel.{HostModel}
+use Rattle.mx_host.specs.HostAnswer.{Then, open_answer, close_answer}
+use Rattle.mx_host.specs.declared.slots.Mode.TheVariants.{BinaryWrite}
+use Rattle.mx_host.specs.declared.faults.HostFault.{HostFault as SlotFault}
+use Rattle.mx_host.specs.declared.faults.OpenFault.{OpenFault}
+use Rattle.mx_host.specs.declared.faults.OpenFault.TheVariants as opening
+use Rattle.mx_host.proofs.Still.{still}
+use Rattle.mx_mmo.specs.Image.{Image}
+use Rattle.mx_load.specs.Objects.{object_loaded}
+use Rattle.mx_core.specs.State.{State}
+use Rattle.mx_ring.specs.Stack.{register}
+use Rattle.mx_plan.specs.Counts.{NoneFailed, unscheduled, without_count}
+use Rattle.mx_plan.proofs.Spared.{Spares, Spared, uncalled, after, then, open-spared, write-spared, close-spared}
+use Rattle.mx_plan.proofs.Spared.{uncounted-of, still-same}
+use Rattle.mx_run.specs.Counts.{end_host}
+use Rattle.mx_run.specs.Runs.{no_flags}
+use Rattle.mx_run.specs.WildRuns.{MachineKind, RunEnd, run_ended, run_wild, run_by}
+use Rattle.mx_con.specs.Session.{SessionRun, session_ended, session_wild, session}
+use Rattle.mx_con.proofs.SteadySessions.{session_host, session_still, SparedSessions, session-steady}
+use Rattle.mx_run.proofs.SteadyRuns.{end_still, SparedEnds, run-steady}
+use Rattle.mx_words.specs.Orders.{order_of}
+use Rattle.mx_words.specs.declared.order.Command.{Command}
+use Rattle.mx_words.specs.declared.order.Command.TheVariants.{Run, Asm, Sim, Gen, Show, Multi}
+use Rattle.mx_words.specs.declared.order.Order.{Order}
+use Rattle.mx_words.specs.declared.order.WordsFault.{WordsFault}
+use Rattle.mx_files.specs.Answers.{Answer, answered, wild, plainly, leaves_machine, after_lines}
+use Rattle.mx_top.specs.Arguments.{Word, word_at, arguments}
+use Rattle.law_runs.specs.Detour.{host_of, answer_uncounted, answer_unscheduled}
+use Rattle.mx_top.specs.Dump.{dump_lines}
+use Rattle.law_gen.specs.Generator.{generated, summary}
+use Rattle.mx_files.specs.Lines.{lines_put}
+use Rattle.mx_files.specs.Typed.{typed, after_typing}
+use Rattle.mx_files.specs.Sources.{source_meaning}
+use Rattle.mx_files.specs.Messages.{message_of}
+use Rattle.mx_files.specs.Objects.{Assembled, source_object}
+use Rattle.mx_files.specs.Pieces.{put_text}
+use Rattle.mx_files.specs.Assembling.{closed_object, written_object, assembled_outcome, object_put, after_opening, after_reading}
+use Rattle.mx_top.specs.Product.{after_image, after_source, after_loading, after_object, generator_steps, summed, summed_from, generated_run, run_ordered, sim_ordered, loaded_turns, object_turns, after_schedule, multi_ordered, ordered, carried_out, message_told, with_message, product}
+use Rattle.mx_top.specs.Runs.{ran, ran_to, outcome_of, machine_ran, played, session_outcome, session_ran, dumped, stack_at_start, started, run_from, image_run}
+use Rattle.mx_top.specs.Processors.{processors_named, multi_lines, multi_outcome, turns_told, joint_run}
+use Rattle.mx_files.specs.Schedules.{schedule_from, schedule_bytes}
+use Rattle.mx_multi.specs.Joint.{Joint}
+use Rattle.mx_multi.specs.Joint as joint
+use Rattle.mx_multi.specs.Turns.{TurnsEnd, turns_ended, turns_wild, turns}
+use Rattle.law_runs.proofs.SteadyTurns.{turns_host, turns_still, turns-steady}
+use Rattle.mx_files.specs.Source.{file_bytes, source_pieces, object_pieces}
+use Rattle.mx_files.specs.declared.refusal.Refusal.{Refusal}
+use Rattle.mx_files.specs.declared.outcome.Outcome.{Outcome}
+use Rattle.mx_files.specs.declared.outcome.Outcome.TheVariants.{Done, Usage, NoFile, HostFault, Refused, BadObject, BadSchedule, Stopped, StepsSpent, Quit, ConsoleLimit, OutOfMemory}
+use Rattle.law_runs.proofs.SteadyFiles.{text-steady, lines-steady, file-steady}
+
+-- ---- answers
+
+-- an answer with the still model in place of its own
+abbrev pub answer_still : Answer → Answer
+answer_still (answered outcome m) = answered outcome (still m)
+answer_still (wild m) = wild (still m)
+
+abbrev pub SparedAnswers : HostModel → Answer → Answer → Type 0
+SparedAnswers m a b = Spares m (host_of a) (answer_still a) b
+
+one-of : {m : HostModel} (b : Bool) (x y v w : Answer) → SparedAnswers m x v → SparedAnswers m y w → SparedAnswers m (cond b x y) (cond b v w)
+one-of true x y v w h k = h
+one-of false x y v w h k = k
+
+-- what follows a call, a run and a session
+behind : {A : Type 0} {m : HostModel} (more : Then A → Answer) (t u : Then A) → ((a : A) (n : HostModel) → SparedAnswers n (more (a, n)) (more (a, still n))) → Spared m t u → SparedAnswers m (more t) (more u)
+behind more (a, n) u f h = after more h (f a n)
+
+behind-run : {m : HostModel} (more : RunEnd → Answer) (t u : RunEnd) → ((r : RunEnd) → SparedAnswers (end_host r) (more r) (more (end_still r))) → SparedEnds m t u → SparedAnswers m (more t) (more u)
+behind-run more t u f h = after more h (f t)
+
+behind-session : {m : HostModel} (more : SessionRun → Answer) (t u : SessionRun) → ((r : SessionRun) → SparedAnswers (session_host r) (more r) (more (session_still r))) → SparedSessions m t u → SparedAnswers m (more t) (more u)
+behind-session more t u f h = after more h (f t)
+
+-- ---- a run
+
+lines-case : (outcome : Outcome) (b : Bool) (m : HostModel) → SparedAnswers m (after_lines outcome (b, m)) (after_lines outcome (b, still m))
+lines-case outcome b m = uncalled
+
+told-steady : (outcome : Outcome) (lines : List (List ℕ)) (m : HostModel) → SparedAnswers m (after_lines outcome (lines_put lines m)) (after_lines outcome (lines_put lines (still m)))
+told-steady outcome lines m = behind (after_lines outcome) (lines_put lines m) (lines_put lines (still m)) (lines-case outcome) (lines-steady lines m)
+
+dumped-case : (dump : Bool) (steps : ℕ) (r : RunEnd) → SparedAnswers (end_host r) (dumped dump (ran_to steps r)) (dumped dump (ran_to steps (end_still r)))
+dumped-case dump steps (run_wild m) = uncalled
+dumped-case dump steps (run_ended e) =
+    let outcome : Outcome = outcome_of steps e.end in
+    let lines : List (List ℕ) = dump_lines e.state in
+    one-of (dump && leaves_machine outcome) (after_lines outcome (lines_put lines e.host)) (answered outcome e.host) (after_lines outcome (lines_put lines (still e.host))) (answered outcome (still e.host))
+    (told-steady outcome lines e.host) uncalled
+
+played-case : (dump : Bool) (steps : ℕ) (r : SessionRun) → SparedAnswers (session_host r) (dumped dump (played steps r)) (dumped dump (played steps (session_still r)))
+played-case dump steps (session_wild m) = uncalled
+played-case dump steps (session_ended e) =
+    let outcome : Outcome = session_outcome steps e.end in
+    let lines : List (List ℕ) = dump_lines e.state in
+    one-of (dump && leaves_machine outcome) (after_lines outcome (lines_put lines e.host)) (answered outcome e.host) (after_lines outcome (lines_put lines (still e.host))) (answered outcome (still e.host))
+    (told-steady outcome lines e.host) uncalled
+
+machine-steady : (kind : MachineKind) (dump : Bool) (steps : ℕ) (s : State) (m : HostModel) → (b : Bool) →
+    SparedAnswers m (dumped dump (cond b (session_ran kind steps s m) (machine_ran kind steps s m))) (dumped dump (cond b (session_ran kind steps s (still m)) (machine_ran kind steps s (still m))))
+machine-steady kind dump steps s m true =
+    behind-session (λ r. dumped dump (played steps r)) (session kind steps s no_flags m) (session kind steps s no_flags (still m)) (played-case dump steps) (session-steady kind steps s no_flags m)
+machine-steady kind dump steps s m false =
+    behind-run (λ r. dumped dump (ran_to steps r)) (run_by kind steps no_flags false s m) (run_by kind steps no_flags false s (still m)) (dumped-case dump steps) (run-steady kind steps no_flags false s m)
+
+from-steady : (kind : MachineKind) (o : Order) (r : Result State Outcome) (m : HostModel) → SparedAnswers m (run_from kind o r m) (run_from kind o r (still m))
+from-steady kind o (Err outcome) m = uncalled
+from-steady kind o (Ok s) m = machine-steady kind o.dump o.steps s m o.interactive
+
+pub image-steady : (kind : MachineKind) (o : Order) (words : List Word) (image : Image) (m : HostModel) → SparedAnswers m (image_run kind o words image m) (image_run kind o words image (still m))
+image-steady kind o words image m = from-steady kind o (started kind o.ring image words) m
+
+-- ---- `run` and `sim`
+
+after_image-steady : (kind : MachineKind) (o : Order) (words : List Word) (r : Result Image Refusal) (m : HostModel) → SparedAnswers m (after_image kind o words r m) (after_image kind o words r (still m))
+after_image-steady kind o words (Err refusal) m = uncalled
+after_image-steady kind o words (Ok image) m = image-steady kind o words image m
+
+source-case : (kind : MachineKind) (o : Order) (words : List Word) (r : Result (List ℕ) Outcome) (m : HostModel) → SparedAnswers m (after_source kind o words (r, m)) (after_source kind o words (r, still m))
+source-case kind o words (Err outcome) m = uncalled
+source-case kind o words (Ok source) m = after_image-steady kind o words (source_meaning source) m
+
+loading-steady : (kind : MachineKind) (o : Order) (words : List Word) (r : Result (Image × List Symbol) (ℕ × ℕ)) (m : HostModel) → SparedAnswers m (after_loading kind o words r m) (after_loading kind o words r (still m))
+loading-steady kind o words (Err (place, fault)) m = uncalled
+loading-steady kind o words (Ok (image, symbols)) m = image-steady kind o words image m
+
+object-case : (kind : MachineKind) (o : Order) (words : List Word) (r : Result (List ℕ) Outcome) (m : HostModel) → SparedAnswers m (after_object kind o words (r, m)) (after_object kind o words (r, still m))
+object-case kind o words (Err outcome) m = uncalled
+object-case kind o words (Ok object) m = loading-steady kind o words (object_loaded object) m
+
+run-order : (kind : MachineKind) (words : List Word) (o : Order) (m : HostModel) → SparedAnswers m (run_ordered kind words o m) (run_ordered kind words o (still m))
+run-order kind words o m =
+    behind (after_source kind o (arguments words o)) (file_bytes source_pieces (word_at words o.file) m) (file_bytes source_pieces (word_at words o.file) (still m))
+    (source-case kind o (arguments words o)) (file-steady source_pieces (word_at words o.file) m)
+
+sim-order : (kind : MachineKind) (words : List Word) (o : Order) (m : HostModel) → SparedAnswers m (sim_ordered kind words o m) (sim_ordered kind words o (still m))
+sim-order kind words o m =
+    behind (after_object kind o (arguments words o)) (file_bytes object_pieces (word_at words o.file) m) (file_bytes object_pieces (word_at words o.file) (still m))
+    (object-case kind o (arguments words o)) (file-steady object_pieces (word_at words o.file) m)
+
+-- ---- `asm`
+
+shut-case : (outcome : Outcome) (r : Result (Unit {0}) SlotFault) (m : HostModel) → Spared m (closed_object outcome (r, m)) (closed_object outcome (r, still m))
+shut-case outcome (Err e) m = uncalled
+shut-case outcome (Ok u) m = uncalled
+
+written-case : (outcome : Outcome) (b : Bool) (m : HostModel) → Spared m (written_object outcome (b, m)) (written_object outcome (b, still m))
+written-case outcome true m = then (closed_object outcome) (close_answer m 257) (close_answer (still m) 257) (shut-case outcome) (close-spared m 257)
+written-case outcome false m = uncalled
+
+put-steady : (x : Assembled) (m : HostModel) → Spared m (object_put x m) (object_put x (still m))
+put-steady (bytes, answer) m =
+    then (written_object (assembled_outcome answer)) (put_text 257 bytes m) (put_text 257 bytes (still m)) (written-case (assembled_outcome answer)) (text-steady 257 bytes m)
+
+opening-case : (source : List ℕ) (r : Result (Unit {0}) OpenFault) (m : HostModel) → Spared m (after_opening source (r, m)) (after_opening source (r, still m))
+opening-case source (Err opening.Absent) m = uncalled
+opening-case source (Err opening.Failed) m = uncalled
+opening-case source (Err opening.OutOfMemory) m = uncalled
+opening-case source (Ok u) m = put-steady (source_object source) m
+
+after_reading-case : (object : Word) (r : Result (List ℕ) Outcome) (m : HostModel) → Spared m (after_reading object (r, m)) (after_reading object (r, still m))
+after_reading-case object (Err outcome) m = uncalled
+after_reading-case object (Ok source) m =
+    then (after_opening source) (open_answer m 257 object BinaryWrite) (open_answer (still m) 257 object BinaryWrite) (opening-case source) (open-spared m 257 object BinaryWrite)
+
+-- what follows the reading of a source calls no earlier
+pub reading-later : (object : Word) (t : Then (Result (List ℕ) Outcome)) → t.1.calls ≤ (after_reading object t).1.calls
+reading-later object (r, m) = (after_reading-case object r m).later
+
+plain-case : (object : Word) (r : Result (List ℕ) Outcome) (m : HostModel) → SparedAnswers m (plainly (after_reading object (r, m))) (plainly (after_reading object (r, still m)))
+plain-case object r m = behind plainly (after_reading object (r, m)) (after_reading object (r, still m)) (λ outcome n. uncalled) (after_reading-case object r m)
+
+asm-order : (source object : Word) (m : HostModel) → SparedAnswers m (plainly (after_reading object (file_bytes source_pieces source m))) (plainly (after_reading object (file_bytes source_pieces source (still m))))
+asm-order source object m =
+    behind (λ t. plainly (after_reading object t)) (file_bytes source_pieces source m) (file_bytes source_pieces source (still m)) (plain-case object) (file-steady source_pieces source m)
+
+-- ---- `gen`
+
+done-case : (blocks size : ℕ) (outcome : Outcome) (s : State) (m : HostModel) → SparedAnswers m (summed blocks size (ran outcome s m)) (summed blocks size (ran outcome s (still m)))
+done-case blocks size (Done status) s m = told-steady (Done 0) (summary blocks size s.steps (register s.stack 255) ∷ []) m
+done-case blocks size (Usage fault) s m = uncalled
+done-case blocks size NoFile s m = uncalled
+done-case blocks size HostFault s m = uncalled
+done-case blocks size (Refused line fault from_line) s m = uncalled
+done-case blocks size (BadObject place fault) s m = uncalled
+done-case blocks size (BadSchedule place) s m = uncalled
+done-case blocks size (Stopped pc reason) s m = uncalled
+done-case blocks size (StepsSpent steps) s m = uncalled
+done-case blocks size Quit s m = uncalled
+done-case blocks size ConsoleLimit s m = uncalled
+done-case blocks size OutOfMemory s m = uncalled
+
+summed-case : (blocks size steps : ℕ) (r : RunEnd) → SparedAnswers (end_host r) (summed blocks size (ran_to steps r)) (summed blocks size (ran_to steps (end_still r)))
+summed-case blocks size steps (run_wild m) = uncalled
+summed-case blocks size steps (run_ended e) = done-case blocks size (outcome_of steps e.end) e.state e.host
+
+summed-steady : (kind : MachineKind) (blocks size : ℕ) (r : Result State Outcome) (m : HostModel) → SparedAnswers m (summed_from kind blocks size r m) (summed_from kind blocks size r (still m))
+summed-steady kind blocks size (Err outcome) m = uncalled
+summed-steady kind blocks size (Ok s) m =
+    behind-run (λ r. summed blocks size (ran_to generator_steps r)) (run_by kind generator_steps no_flags false s m) (run_by kind generator_steps no_flags false s (still m))
+    (summed-case blocks size generator_steps) (run-steady kind generator_steps no_flags false s m)
+
+generated-steady : (kind : MachineKind) (o : Order) (size : ℕ) (r : Result Image Refusal) (m : HostModel) → SparedAnswers m (generated_run kind o size r m) (generated_run kind o size r (still m))
+generated-steady kind o size (Err refusal) m = uncalled
+generated-steady kind o size (Ok image) m = summed-steady kind o.number size (started kind o.ring image (codes "gen" ∷ [])) m
+
+-- ---- `type`
+
+typed-case : (r : Result (List ℕ) Outcome) (m : HostModel) → SparedAnswers m (after_typing (r, m)) (after_typing (r, still m))
+typed-case (Err outcome) m = uncalled
+typed-case (Ok object) m = told-steady (typed object).1 (typed object).0 m
+
+show-order : (object : Word) (m : HostModel) → SparedAnswers m (after_typing (file_bytes object_pieces object m)) (after_typing (file_bytes object_pieces object (still m)))
+show-order object m = behind after_typing (file_bytes object_pieces object m) (file_bytes object_pieces object (still m)) typed-case (file-steady object_pieces object m)
+
+-- ---- `multi`
+
+turns-case : (dump : Bool) (steps : ℕ) (r : TurnsEnd) → SparedAnswers (turns_host r) (turns_told dump steps r) (turns_told dump steps (turns_still r))
+turns-case dump steps (turns_wild m) = uncalled
+turns-case dump steps (turns_ended end j m) = told-steady (multi_outcome steps end) (multi_lines dump end j) m
+
+joint-steady : (kind : MachineKind) (o : Order) (schedule : List ℕ) (j : Joint) (m : HostModel) → SparedAnswers m (joint_run kind o schedule j m) (joint_run kind o schedule j (still m))
+joint-steady kind o schedule j m =
+    after (turns_told o.dump o.steps) (turns-steady kind schedule o.steps schedule j m) (turns-case o.dump o.steps (turns kind schedule o.steps schedule j m))
+
+loaded-turns : (kind : MachineKind) (o : Order) (schedule : List ℕ) (r : Result (Image × List Symbol) (ℕ × ℕ)) (m : HostModel) → SparedAnswers m (loaded_turns kind o schedule r m) (loaded_turns kind o schedule r (still m))
+loaded-turns kind o schedule (Err (place, fault)) m = uncalled
+loaded-turns kind o schedule (Ok (image, symbols)) m = joint-steady kind o schedule (joint.started image (processors_named schedule) (stack_at_start kind o.ring)) m
+
+object-turns : (kind : MachineKind) (o : Order) (schedule : List ℕ) (r : Result (List ℕ) Outcome) (m : HostModel) → SparedAnswers m (object_turns kind o schedule (r, m)) (object_turns kind o schedule (r, still m))
+object-turns kind o schedule (Err outcome) m = uncalled
+object-turns kind o schedule (Ok object) m = loaded-turns kind o schedule (object_loaded object) m
+
+schedule-case : (kind : MachineKind) (o : Order) (name : Word) (r : Result (List ℕ) Outcome) (m : HostModel) → SparedAnswers m (after_schedule kind o name (r, m)) (after_schedule kind o name (r, still m))
+schedule-case kind o name (Err outcome) m = uncalled
+schedule-case kind o name (Ok schedule) m =
+    behind (object_turns kind o schedule) (file_bytes object_pieces name m) (file_bytes object_pieces name (still m)) (object-turns kind o schedule) (file-steady object_pieces name m)
+
+judged-case : (r : Result (List ℕ) Outcome) (m : HostModel) → Spared m (schedule_from (r, m)) (schedule_from (r, still m))
+judged-case (Err outcome) m = uncalled
+judged-case (Ok bytes) m = uncalled
+
+schedule-steady : (name : Word) (m : HostModel) → Spared m (schedule_bytes name m) (schedule_bytes name (still m))
+schedule-steady name m = then schedule_from (file_bytes source_pieces name m) (file_bytes source_pieces name (still m)) judged-case (file-steady source_pieces name m)
+
+multi-order : (kind : MachineKind) (words : List Word) (o : Order) (m : HostModel) → SparedAnswers m (multi_ordered kind words o m) (multi_ordered kind words o (still m))
+multi-order kind words o m =
+    behind (after_schedule kind o (word_at words o.file)) (schedule_bytes (word_at words o.schedule) m) (schedule_bytes (word_at words o.schedule) (still m))
+    (schedule-case kind o (word_at words o.file)) (schedule-steady (word_at words o.schedule) m)
+
+-- ---- the words, and the message
+
+ordered-steady : (kind : MachineKind) (words : List Word) (o : Order) (c : Command) (m : HostModel) → SparedAnswers m (ordered kind words o c m) (ordered kind words o c (still m))
+ordered-steady kind words o Run m = run-order kind words o m
+ordered-steady kind words o Sim m = sim-order kind words o m
+ordered-steady kind words o Asm m = asm-order (word_at words o.file) (word_at words o.rest) m
+ordered-steady kind words o Gen m = generated-steady kind o (length (generated o.number)) (source_meaning (generated o.number)) m
+ordered-steady kind words o Show m = show-order (word_at words o.file) m
+ordered-steady kind words o Multi m = multi-order kind words o m
+
+words-steady : (kind : MachineKind) (words : List Word) (r : Result Order WordsFault) (m : HostModel) → SparedAnswers m (carried_out kind words r m) (carried_out kind words r (still m))
+words-steady kind words (Err fault) m = uncalled
+words-steady kind words (Ok o) m = ordered-steady kind words o o.command m
+
+message-case : (outcome : Outcome) (text : List ℕ) (m : HostModel) → SparedAnswers m (message_told outcome text m) (message_told outcome text (still m))
+message-case outcome [] m = uncalled
+message-case outcome (b ∷ bs) m = after (λ t. answered outcome t.1) (write-spared m 260 (b ∷ bs)) uncalled
+
+with-case : (a : Answer) → SparedAnswers (host_of a) (with_message a) (with_message (answer_still a))
+with-case (answered outcome m) = message-case outcome (message_of outcome) m
+with-case (wild m) = uncalled
+
+pub message-steady : {m : HostModel} (a b : Answer) → SparedAnswers m a b → SparedAnswers m (with_message a) (with_message b)
+message-steady a b h = after with_message h (with-case a)
+
+pub product-steady : (kind : MachineKind) (words : List Word) (m : HostModel) → SparedAnswers m (product kind words m) (product kind words (still m))
+product-steady kind words m =
+    message-steady (carried_out kind words (order_of words) m) (carried_out kind words (order_of words) (still m)) (words-steady kind words (order_of words) m)
+
+-- ---- two models that differ in the number of calls and the list of those that fail
+
+answer-unscheduled : (a : Answer) → answer_unscheduled a ≡ answer_unscheduled (answer_still a)
+answer-unscheduled (answered outcome m) = refl
+answer-unscheduled (wild m) = refl
+
+pub product-same : (kind : MachineKind) (words : List Word) (m n : HostModel) → unscheduled m ≡ unscheduled n →
+    NoneFailed m (host_of (product kind words m)) → NoneFailed n (host_of (product kind words n)) →
+    answer_unscheduled (product kind words m) ≡ answer_unscheduled (product kind words n)
+product-same kind words m n e h k =
+    let a = (product-steady kind words m).same h in
+    let b = (product-steady kind words n).same k in
+    answer-unscheduled (product kind words m) ∙ ap answer_unscheduled (a ∙ ap (product kind words) (still-same m n e) ∙ sym b) ∙ sym (answer-unscheduled (product kind words n))
+
+pub product-list : (kind : MachineKind) (words : List Word) (m : HostModel) → (host_of (product kind words m)).failing ≡ m.failing
+product-list kind words m = (product-steady kind words m).list
+
+pub ruleset steady = (product-same, product-list)
+
+-- ---- what is the same in the still model is the same but for the number of calls, where the lists are the same
+
+pub answers-same : (a b : Answer) → answer_still a ≡ answer_still b → (host_of a).failing ≡ (host_of b).failing → answer_uncounted a ≡ answer_uncounted b
+answers-same (answered x m) (answered y n) e h =
+    let same : x ≡ y = cc in
+    let models : still m ≡ still n = cc in
+    let model = uncounted-of m n models h in
+    ap (λ z. answered z (without_count m)) same ∙ ap (answered y) model
+answers-same (wild m) (wild n) e h =
+    let models : still m ≡ still n = cc in
+    ap wild (uncounted-of m n models h)
+answers-same (answered x m) (wild n) e h = absurd (cc)
+answers-same (wild m) (answered y n) e h = absurd (cc)

@@ -1,0 +1,32 @@
+-- Calls of the program with watchers.
+use Rattle.std.proofs.Common.{◌≡◌, ℕ, List, ap, Some}
+use Rattle.std.specs.Prelude.{Option}
+use Rattle.mx_host.specs.HostModel.{HostModel, contents}
+use Rattle.mx_run.specs.WildRuns.{MachineKind, window_machine}
+use Rattle.mx_watch.specs.Watching.{Watching}
+use Rattle.mx_words.specs.Orders.{order_of}
+use Rattle.mx_files.specs.Answers.{Answer, answered, wild}
+use Rattle.mx_files.specs.declared.outcome.Outcome.{Outcome}
+use Rattle.mx_top.specs.Arguments.{Word}
+use Rattle.mx_top.specs.Product.{product}
+use Rattle.mx_top.specs.Reports.{due_reports, reports_put, watched_product, with_reports}
+use Rattle.law_runs.specs.Called.{IsCalled, IsWatched}
+use Rattle.law_runs.specs.Detour.{host_of}
+
+pub reports-behind : (kind : MachineKind) (words : List Word) (ws : List Watching) (outcome : Outcome) (m n : HostModel) → product kind words m ≡ answered outcome n →
+    watched_product kind words ws m ≡ answered outcome (reports_put (due_reports kind words ws (order_of words) m) n)
+reports-behind kind words ws outcome m n e = ap (with_reports (due_reports kind words ws (order_of words) m)) e
+
+same-answer : (result : Outcome) (new : HostModel) (texts : List (List ℕ)) (due : Answer) → answered result new ≡ with_reports texts due → answered result (host_of due) ≡ due
+same-answer result new texts (answered outcome n) e = let same : result ≡ outcome = cc e in ap (λ o. answered o n) same
+same-answer result new texts (wild n) e = absurd (cc e)
+
+pub watched-called : (words : List Word) (ws : List Watching) (old new : Option HostModel) (result : Outcome) → IsWatched words ws old new result →
+    IsCalled words old (Some (host_of (product window_machine words (contents old)))) result
+unfolding contents
+watched-called words ws old new result e = record {
+  telling = e.telling;
+  answers = λ t ne. same-answer result (contents new) (due_reports window_machine words ws (order_of words) (contents old)) (product window_machine words (contents old)) (e.answers t ne);
+}
+
+pub ruleset watched_calls = (reports-behind, watched-called)

@@ -1,0 +1,121 @@
+-- What has to stand for a run of the program to be done: the words, the file that is read, what it means, and how its
+-- machine ends.
+use Rattle.std.specs.Prelude.{ℕ, ◌≡◌, ◌*◌, List, [], ◌∷◌, ◌++◌, codes, length, take, true, false, Some, Ok}
+use Rattle.mx_word.specs.declared.symbols.Symbol.{Symbol}
+use Rattle.mx_host.specs.HostModel.{HostModel, HasStartSlots, place_of}
+use Rattle.mx_host.specs.HostAnswer.{open_answer, close_answer, bytes_at}
+use Rattle.mx_host.specs.declared.slots.Mode.TheVariants.{BinaryWrite}
+use Rattle.mx_mmo.specs.Image.{Image}
+use Rattle.mx_load.specs.Objects.{object_loaded}
+use Rattle.mx_core.specs.State.{State}
+use Rattle.mx_ring.specs.Stack.{register}
+use Rattle.mx_run.specs.WildRuns.{MachineKind}
+use Rattle.mx_words.specs.Orders.{order_of}
+use Rattle.mx_words.specs.declared.order.Command.{Command}
+use Rattle.mx_words.specs.declared.order.Command.TheVariants.{Run, Asm, Sim, Gen}
+use Rattle.mx_words.specs.declared.order.Order.{Order}
+use Rattle.mx_top.specs.Arguments.{Word, word_at, arguments}
+use Rattle.law_gen.specs.Generator.{generated, summary}
+use Rattle.law_gen.specs.Program.{generated_image}
+use Rattle.mx_files.specs.Objects.{source_object}
+use Rattle.mx_files.specs.Pieces.{put_text}
+use Rattle.mx_files.specs.Assembling.{object_slot}
+use Rattle.mx_top.specs.Product.{generator_steps}
+use Rattle.mx_top.specs.Runs.{ran, machine_ran, session_ran, started}
+use Rattle.mx_files.specs.Source.{file_bytes, source_pieces, object_pieces}
+use Rattle.mx_files.specs.Sources.{source_meaning}
+use Rattle.mx_files.specs.declared.outcome.Outcome.{Outcome}
+use Rattle.mx_files.specs.declared.outcome.Outcome.TheVariants.{Done}
+
+-- The words order this, with this command.
+pub record IsOrdered (words : List Word) (o : Order) (wanted : Command) : Type 0 where
+  pub order : order_of words ≡ Ok o
+  pub command : o.command ≡ wanted
+
+-- The words order to run a source, which is read and means this image. The host is then `begun`.
+pub record HasSource (words : List Word) (o : Order) (image : Image) (m begun : HostModel) : Type 0 where
+  pub ordered : IsOrdered words o Run
+  pub text : List ℕ
+  pub read : file_bytes source_pieces (word_at words o.file) m ≡ (Ok text, begun)
+  pub means : source_meaning text ≡ Ok image
+
+-- The words order to run an object, which is read and loaded as this image.
+pub record HasObject (words : List Word) (o : Order) (image : Image) (m begun : HostModel) : Type 0 where
+  pub ordered : IsOrdered words o Sim
+  pub object : List ℕ
+  pub symbols : List Symbol
+  pub read : file_bytes object_pieces (word_at words o.file) m ≡ (Ok object, begun)
+  pub loads : object_loaded object ≡ Ok (image, symbols)
+
+-- The machine of this image starts with the arguments of the words, and stands thus.
+abbrev pub IsStarted : MachineKind → List Word → Order → Image → State → Type 0
+IsStarted kind words o image s = started kind o.ring image (arguments words o) ≡ Ok s
+
+-- The machine of this image starts, and in one run it halts within the steps of the order.
+pub record IsHalted (kind : MachineKind) (words : List Word) (o : Order) (image : Image) (begun : HostModel)
+    (status : ℕ) (ended : State) (after : HostModel) : Type 0 where
+  pub plain : o.interactive ≡ false
+  pub machine : State
+  pub starts : IsStarted kind words o image machine
+  pub halts : machine_ran kind o.steps machine begun ≡ ran (Done status) ended after
+
+-- The machine of this image starts, and in a session of the console it comes to this.
+pub record IsPlayed (kind : MachineKind) (words : List Word) (o : Order) (image : Image) (begun : HostModel)
+    (outcome : Outcome) (ended : State) (after : HostModel) : Type 0 where
+  pub console : o.interactive ≡ true
+  pub machine : State
+  pub starts : IsStarted kind words o image machine
+  pub plays : session_ran kind o.steps machine begun ≡ ran outcome ended after
+
+-- The words order to assemble a source of which this text is read; the object file opens, the bytes of the object are
+-- written, and it is closed.
+pub record IsWritten (words : List Word) (text : List ℕ) (m after : HostModel) : Type 0 where
+  pub order : Order
+  pub ordered : IsOrdered words order Asm
+  pub begun : HostModel
+  pub read : file_bytes source_pieces (word_at words order.file) m ≡ (Ok text, begun)
+  pub opened : HostModel
+  pub opens : open_answer begun object_slot (word_at words order.rest) BinaryWrite ≡ (Ok tt, opened)
+  pub written : HostModel
+  pub writes : put_text object_slot (source_object text).0 opened ≡ (true, written)
+  pub closes : close_answer written object_slot ≡ (Ok tt, after)
+
+-- The words order to generate a source; the machine of the image that it means starts and halts, which leaves the host
+-- thus; and this line tells what came of it.
+pub record IsGenerated (kind : MachineKind) (words : List Word) (m left : HostModel) (line : List ℕ) : Type 0 where
+  pub order : Order
+  pub ordered : IsOrdered words order Gen
+  pub machine : State
+  pub starts : started kind order.ring (generated_image order.number) (codes "gen" ∷ []) ≡ Ok machine
+  pub status : ℕ
+  pub ended : State
+  pub halts : machine_ran kind generator_steps machine m ≡ ran (Done status) ended left
+  pub told : line ≡ summary order.number (length (generated order.number)) ended.steps (register ended.stack 255)
+
+-- ---- files that are there
+
+-- the host with a text more on its standard output
+abbrev pub with_output : HostModel → List ℕ → HostModel
+with_output m text = record m { output = m.output ++ text }
+
+-- The slots stand as at the start, and the file of this name is there; so many pieces of it are this text.
+pub record IsThere (name : Word) (most : ℕ) (text : List ℕ) (m : HostModel) : Type 0 where
+  pub slots : HasStartSlots m
+  pub place : ℕ
+  pub found : place_of m.files name ≡ Some place
+  pub bytes : text ≡ take (4096 * most) (bytes_at m.files place)
+
+-- The words order to run a source that is there, and that means this image.
+pub record SourceIsThere (words : List Word) (o : Order) (image : Image) (m : HostModel) : Type 0 where
+  pub ordered : IsOrdered words o Run
+  pub text : List ℕ
+  pub there : IsThere (word_at words o.file) source_pieces text m
+  pub means : source_meaning text ≡ Ok image
+
+-- The words order to run an object that is there, and that is loaded as this image.
+pub record ObjectIsThere (words : List Word) (o : Order) (image : Image) (m : HostModel) : Type 0 where
+  pub ordered : IsOrdered words o Sim
+  pub object : List ℕ
+  pub symbols : List Symbol
+  pub there : IsThere (word_at words o.file) object_pieces object m
+  pub loads : object_loaded object ≡ Ok (image, symbols)

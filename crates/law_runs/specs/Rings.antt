@@ -1,0 +1,27 @@
+-- Orders that differ in the size of the ring, and in whether reports are asked for.
+use Rattle.std.specs.Prelude.{◌≡◌, List}
+use Rattle.mx_words.specs.declared.order.Command.{Command}
+use Rattle.mx_words.specs.declared.order.Command.TheVariants.{Run, Asm, Sim, Gen, Show, Multi}
+use Rattle.mx_words.specs.declared.order.Order.{Order}
+use Rattle.mx_top.specs.Arguments.{Word, word_at, arguments}
+
+-- the commands that hand arguments to a program
+abbrev pub HandsArguments : Command → Type 0
+HandsArguments Run = Unit {0}
+HandsArguments Sim = Unit {0}
+HandsArguments Asm = ⊥
+HandsArguments Gen = ⊥
+HandsArguments Show = ⊥
+HandsArguments Multi = ⊥
+
+-- the same command on the same file, with the same arguments where it hands them to a program, the same bounds and wishes
+pub record DifferInRing (words others : List Word) (o p : Order) : Type 0 where
+  pub command : o.command ≡ p.command
+  pub file : word_at words o.file ≡ word_at others p.file
+  pub object : word_at words o.rest ≡ word_at others p.rest
+  pub schedule : o.command ≡ Multi → word_at words o.schedule ≡ word_at others p.schedule
+  pub arguments : HandsArguments o.command → arguments words o ≡ arguments others p
+  pub steps : o.steps ≡ p.steps
+  pub interactive : o.interactive ≡ p.interactive
+  pub dump : o.dump ≡ p.dump
+  pub blocks : o.number ≡ p.number

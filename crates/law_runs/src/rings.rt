@@ -1,0 +1,63 @@
+//! What holds of runs of the program, whatever the ring.
+
+ghost use Rattle.std.specs.Prelude.{◌≡◌, ℕ, List, Option, Some, Ok, true};
+ghost use Rattle.mx_core.specs.State.{State};
+ghost use Rattle.mx_host.specs.HostModel.{HostModel, contents};
+ghost use Rattle.mx_run.specs.WildRuns.{MachineKind, window_machine, list_machine};
+ghost use Rattle.mx_watch.specs.Watching.{Watching};
+ghost use Rattle.mx_files.specs.Answers.{answered};
+ghost use Rattle.mx_files.specs.declared.outcome.Outcome.{Outcome};
+ghost use Rattle.mx_words.specs.Orders.{order_of};
+ghost use Rattle.mx_words.specs.declared.order.Order.{Order};
+ghost use Rattle.mx_top.specs.Arguments.{Word};
+ghost use Rattle.mx_top.specs.Product.{product};
+ghost use Rattle.mx_top.specs.Reports.{due_reports, reports_put, watched_product};
+ghost use Rattle.law_runs.specs.Called.{IsCalled, IsWatched};
+ghost use Rattle.law_runs.specs.Detour.{host_of};
+ghost use Rattle.law_runs.specs.Rings.{DifferInRing};
+ghost use Rattle.mx_top.specs.Runs.{machine_ran};
+ghost use Rattle.law_runs.specs.Unbroken.{is_answer_told, is_told};
+
+/// Orders that differ in the size of the ring alone come to the same over the list machine. So, by the
+/// clause `headline` of the top call, two rings give the same outcome and the same host, where the
+/// list machine meets nothing wild; and, with the clause of the call with watchers, the same reports.
+#[tactic(auto, using(crate::proofs::SameRings::rings))]
+pub fn two_rings_agree()
+    ensures alone { (words others : List Word) (o p : Order) (m : HostModel) → order_of words ≡ Ok o →
+        order_of others ≡ Ok p →
+        DifferInRing words others o p → product list_machine words m ≡ product list_machine others m }
+    ensures watched { (words others : List Word) (o p : Order) (watchers : List Watching) (m : HostModel) →
+        order_of words ≡ Ok o → order_of others ≡ Ok p → DifferInRing words others o p → o.report ≡ p.report →
+        watched_product list_machine words watchers m ≡ watched_product list_machine others watchers m }
+{}
+
+/// Reports change nothing but what stands behind the message. Words with `--report` come to what the words without it
+/// come to, over each machine; watchers leave the outcome as it is, and write their reports behind all else; and a call
+/// with watchers answers as one without them, so that what holds of answers of the program holds of it.
+#[tactic(auto, using(crate::proofs::SameRings::rings, crate::proofs::WatchedCalls::watched_calls))]
+pub fn reports_change_nothing_else()
+    ensures words { (kind : MachineKind) (words others : List Word) (o p : Order) (m : HostModel) →
+        order_of words ≡ Ok o → order_of others ≡ Ok p → DifferInRing words others o p → o.ring ≡ p.ring →
+        product kind words m ≡ product kind others m }
+    ensures outcome { (kind : MachineKind) (words : List Word) (watchers : List Watching) (outcome : Outcome)
+        (m n : HostModel) → product kind words m ≡ answered outcome n → watched_product kind words watchers m ≡
+        answered outcome (reports_put (due_reports kind words watchers (order_of words) m) n) }
+    ensures calls { (words : List Word) (watchers : List Watching) (old new : Option HostModel) (result : Outcome) →
+        IsWatched words watchers old new result →
+        IsCalled words old (Some (host_of (product window_machine words (contents old)))) result }
+{}
+
+/// A run of the program, which has no flags, halts, stops, spends its steps or meets something wild; by
+/// its definition it is never out of memory. So the one free answer stands for nothing else.
+#[tactic(auto, using(crate::proofs::UnbrokenRuns::unbroken))]
+pub fn runs_end_by_themselves()
+    ensures { (kind : MachineKind) (steps : ℕ) (s : State) (m : HostModel) →
+        is_told (machine_ran kind steps s m) ≡ true }
+{}
+
+/// By its definition the program is never out of memory, with whatever words, files and failing calls. So
+/// that answer, which is always free, stands for nothing else in what it promises.
+#[tactic(auto, using(crate::proofs::ToldPrograms::unbroken_programs))]
+pub fn programs_end_by_themselves()
+    ensures { (kind : MachineKind) (words : List Word) (m : HostModel) → is_answer_told (product kind words m) ≡ true }
+{}

@@ -1,0 +1,35 @@
+-- How many processors a schedule needs.
+use Rattle.std.proofs.Common.{◌≡◌, ◌≤◌, ◌<◌, ℕ, ◌+◌, Bool, true, false, cond, nat_le, List, [], ◌∷◌, length, arith, refl}
+use Rattle.std.proofs.lemmas.Bool.Decides.{nat_tests}
+use Rattle.mx_multi.specs.Turns.{AreNames}
+use Rattle.mx_files.specs.Schedules.{AreEight}
+use Rattle.mx_top.specs.Processors.{with_named, counted_from}
+
+named-step : (count who : ℕ) (b : Bool) → nat_le count who ≡ b → (count ≤ cond b (who + 1) count) × (who < cond b (who + 1) count)
+named-step count who true e = (grind (arith, nat_tests), omega arith)
+named-step count who false e = (omega arith, grind (arith, nat_tests))
+
+eight-step : (count who : ℕ) (b : Bool) → count ≤ 8 → who < 8 → cond b (who + 1) count ≤ 8
+eight-step count who true h l = omega (arith, l)
+eight-step count who false h l = h
+
+pub counted-least : (count : ℕ) (schedule : List ℕ) → count ≤ counted_from count schedule
+counted-least count [] = omega arith
+counted-least count (who ∷ rest) =
+    let more = counted-least (with_named count who) rest in
+    let step = named-step count who (nat_le count who) refl in omega (arith, more, step.0)
+
+pub counted-most : (count : ℕ) (schedule : List ℕ) → count ≤ 8 → AreEight schedule → counted_from count schedule ≤ 8
+counted-most count [] h e = h
+counted-most count (who ∷ rest) h e = counted-most (with_named count who) rest (eight-step count who (nat_le count who) h e.0) e.1
+
+pub counted-names : (count : ℕ) (schedule : List ℕ) → AreNames (counted_from count schedule) schedule
+counted-names count [] = tt
+counted-names count (who ∷ rest) =
+    let more = counted-least (with_named count who) rest in
+    let step = named-step count who (nat_le count who) refl in
+    (omega (arith, more, step.1), counted-names (with_named count who) rest)
+
+pub counted-none : (count : ℕ) (rest : List ℕ) → length rest < 1 → counted_from count rest ≡ count
+counted-none count [] l = refl
+counted-none count (who ∷ rest) l = absurd (omega (arith, l))

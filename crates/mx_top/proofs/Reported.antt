@@ -1,0 +1,78 @@
+-- The reports that are written behind the message.
+use Rattle.std.proofs.Common.{◌≡◌, ◌<◌, ◌≤◌, ◌+◌, ℕ, Bool, true, false, cond, List, [], length, map, drop, get_or, refl, sym, ◌∙◌, ap, subst, Ok, Err}
+use Rattle.std.specs.Prelude.{IsTrue, Option, Result}
+use Rattle.std.proofs.lemmas.List.{at_drop_more, at_drop_all}
+use Rattle.mx_host.specs.HostModel.{HostModel, contents, slot_at, to_errors}
+use Rattle.mx_host.specs.Keeping.{Keeps, KeepsOutput}
+use Rattle.mx_run.specs.WildRuns.{MachineKind}
+use Rattle.mx_watch.specs.Watching.{Watching}
+use Rattle.mx_word.specs.Lists.{IsFront}
+use Rattle.mx_word.proofs.Fronts.{front-through}
+use Rattle.mx_words.specs.Orders.{order_of}
+use Rattle.mx_words.specs.declared.order.Order.{Order}
+use Rattle.mx_words.specs.declared.order.WordsFault.{WordsFault}
+use Rattle.mx_files.specs.Answers.{Answer, answered, wild, GoesAs}
+use Rattle.mx_files.specs.Messages.{message_of}
+use Rattle.mx_files.specs.declared.outcome.Outcome.{Outcome}
+use Rattle.mx_top.specs.Arguments.{Word}
+use Rattle.mx_top.specs.Product.{message_told, with_message, product}
+use Rattle.mx_top.specs.Reports.{UnlessWild, due_reports, report_put, reports_put, with_reports, watched_product}
+use Rattle.mx_top.proofs.MachineRuns.{goes-as}
+
+-- ---- the writes
+
+pub report-on : (texts : List (List ℕ)) (i : ℕ) (d x : List ℕ) (m n whole : HostModel) → i < length texts → x ≡ get_or texts i d → n ≡ report_put x m → reports_put (drop i texts) m ≡ whole →
+    reports_put (drop (i + 1) texts) n ≡ whole
+unfolding reports_put
+report-on texts i d x m n whole inside is e h = ap (reports_put (drop (i + 1) texts)) (e ∙ ap (λ y. report_put y m) is) ∙ sym (at_drop_more (λ xs. reports_put xs m) texts i d inside) ∙ h
+
+pub reports-over : (texts : List (List ℕ)) (i : ℕ) (m whole : HostModel) → length texts ≤ i → reports_put (drop i texts) m ≡ whole → m ≡ whole
+unfolding reports_put
+reports-over texts i m whole end h = sym (at_drop_all (λ xs. reports_put xs m) texts i end) ∙ h
+
+pub kept-on : (a b c : Option HostModel) (k l : ℕ) → Keeps a b k l → (slot_at (contents a) 260 ≡ to_errors → KeepsOutput a b) → (slot_at (contents b) 260 ≡ to_errors → KeepsOutput b c) →
+    slot_at (contents a) 260 ≡ to_errors → KeepsOutput a c
+kept-on a b c k l keeps was put e = λ t. put (keeps.errors t e) (subst IsTrue (sym keeps.telling) t) ∙ was e t
+
+pub ruleset reporting = (report-on, reports-over, kept-on)
+
+-- ---- behind the message
+
+pub behind-message : (outcome told result : Outcome) (here mid new : HostModel) (texts : List (List ℕ)) → answered told mid ≡ message_told outcome (message_of outcome) here →
+    answered result new ≡ answered told (reports_put texts mid) → answered result new ≡ with_reports texts (message_told outcome (message_of outcome) here)
+behind-message outcome told result here mid new texts e said = said ∙ ap (with_reports texts) e
+
+pub reported : (outcome result : Outcome) (here new : HostModel) (due : Answer) (texts dues : List (List ℕ)) → answered outcome here ≡ due → texts ≡ dues →
+    answered result new ≡ with_reports texts (message_told outcome (message_of outcome) here) → answered result new ≡ with_reports dues (with_message due)
+reported outcome result here new due texts dues e same said =
+    said ∙ ap (λ ts. with_reports ts (message_told outcome (message_of outcome) here)) same ∙ ap (λ a. with_reports dues (with_message a)) e
+
+pub reported-goes : (outcome result : Outcome) (here new : HostModel) (due : Answer) (texts dues : List (List ℕ)) → GoesAs due outcome here → UnlessWild due (texts ≡ dues) →
+    answered result new ≡ with_reports texts (message_told outcome (message_of outcome) here) → IsFront here.output new.output → GoesAs (with_reports dues (with_message due)) result new
+reported-goes outcome result here new (answered o m) texts dues e same said grows =
+    goes-as (with_reports dues (with_message (answered o m))) result new
+    (said ∙ ap (λ ts. with_reports ts (message_told outcome (message_of outcome) here)) same ∙ ap (λ p. with_reports dues (message_told p (message_of p) here)) e.0
+    ∙ ap (λ n. with_reports dues (message_told o (message_of o) n)) e.1)
+reported-goes outcome result here new (wild m) texts dues e same said grows = front-through m.output here.output new.output e grows
+
+-- ---- without watchers
+
+no-text : (b : Bool) → ◌≡◌ {A = List (List ℕ)} (cond b [] []) []
+no-text true = refl
+no-text false = refl
+
+none-due : (kind : MachineKind) (words : List Word) (r : Result Order WordsFault) (m : HostModel) → due_reports kind words [] r m ≡ []
+none-due kind words (Err fault) m = refl
+none-due kind words (Ok o) m = no-text o.report
+
+none-written : (a : Answer) → with_reports [] a ≡ a
+unfolding reports_put
+none-written (answered outcome m) = refl
+none-written (wild m) = refl
+
+pub none-mean : {A : Type 0} (f : A → Watching) (xs : List A) → xs ≡ [] → map f xs ≡ []
+none-mean f xs e = ap (map f) e
+
+pub unwatched : (kind : MachineKind) (words : List Word) (ws : List Watching) (m : HostModel) → ws ≡ [] → watched_product kind words ws m ≡ product kind words m
+unwatched kind words ws m e =
+    ap (λ w. watched_product kind words w m) e ∙ ap (λ ts. with_reports ts (product kind words m)) (none-due kind words (order_of words) m) ∙ none-written (product kind words m)

@@ -1,0 +1,18 @@
+use Rattle.std.proofs.Common.{◌≡◌, ◌≤◌, ◌-◌, ◌/◌, ◌%◌, ◌^◌, true, Ok}
+use Rattle.mx_multi.specs.Joint.{joint_of}
+use Rattle.mx_top.specs.Processors.{memory_alone}
+use Rattle.mx_top.specs.Dump.{octa_lines}
+use Rattle.mx_files.specs.Lines.{Puts}
+use Rattle.mx_top.proofs.processors.put_memory.Given as goal
+
+-- the lines of the octas so far were written
+abbrev pub invariant-loop-a : goal.invariant-loop-a
+invariant-loop-a g l = record {
+  most : l.from ≤ 2 ^ 63;
+  octas : l.from % 8 ≡ 0;
+  puts : Puts (g.H.Host.told l.fn.host) (g.H.Host.told l.host) (g.H.Host.faults l.fn.host) (g.H.Host.faults l.host) (Ok true)
+      (octa_lines (memory_alone (joint_of l.multi).memory) (l.from / 8));
+}
+
+abbrev pub decreases-loop-a : goal.decreases-loop-a
+decreases-loop-a g l = 2 ^ 63 - l.from

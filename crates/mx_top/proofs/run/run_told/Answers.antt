@@ -1,0 +1,51 @@
+use Rattle.std.proofs.Common.{false, refl, subst, sym, ap}
+use Rattle.std.specs.Prelude.{IsTrue}
+use Rattle.mx_host.proofs.Keeping.{keeps-then}
+use Rattle.mx_host.specs.HostModel.{contents}
+use Rattle.mx_core.specs.Bounds.{as_list_state}
+use Rattle.mx_core.specs.Kept.{state_of}
+use Rattle.mx_run.specs.Runs.{no_flags}
+use Rattle.mx_run.specs.WildRuns.{list_machine, run_by}
+use Rattle.mx_watch.proofs.HeardBy.{hears-by}
+use Rattle.mx_top.specs.Runs.{dumped}
+use Rattle.mx_top.proofs.MachineRuns.{window-goes, list-goes, run-front-by}
+use Rattle.mx_top.proofs.Dumped.{dumped-front}
+use Rattle.mx_top.proofs.Heard.{run-told}
+use Rattle.mx_top.proofs.run.run_told.Goals as goal
+
+pub returns-clause-told : goal.returns-clause-told
+returns-clause-told g c = λ t ne.
+    let there = subst IsTrue (sym c.watched_run-end.ensures.keeps.telling) t in
+    let went = c.watched_run-end.ensures.told t (λ e. ne (c.tell_end.ensures.memory (c.outcome_of.ensures.memory e)).0) in
+    let said = c.tell_end.ensures.told there ne in
+    window-goes c.args.order.now.steps no_flags (state_of c.args.machine) (state_of c.watched_run-end.new.machine) _ _ _ c.watched_run-end.result c.outcome_of.result c.tell_end.result
+    (dumped c.args.order.now.dump) refl c.outcome_of.ensures.value went said
+
+pub returns-clause-listed : goal.returns-clause-listed
+returns-clause-listed g c = λ t ne.
+    let there = subst IsTrue (sym c.watched_run-end.ensures.keeps.telling) t in
+    let went = c.watched_run-end.ensures.listed t (λ e. ne (c.tell_end.ensures.memory (c.outcome_of.ensures.memory e)).0) c.requires in
+    list-goes c.args.order.now.steps no_flags (as_list_state (state_of c.args.machine)) (state_of c.watched_run-end.new.machine) c.watched_run-end.result _ _ _ c.outcome_of.result c.tell_end.result
+    (dumped c.args.order.now.dump) refl c.outcome_of.ensures.value (λ m. refl) went (c.tell_end.ensures.keeps.growing there)
+    (λ e. c.tell_end.ensures.list e there ne)
+
+pub returns-clause-front : goal.returns-clause-front
+returns-clause-front g c = λ t oom.
+    let there = subst IsTrue (sym c.watched_run-end.ensures.keeps.telling) t in
+    run-front-by c.args.order.now.steps no_flags (state_of c.args.machine) (state_of c.watched_run-end.new.machine) _ _ (contents (g.H.Host.told c.tell_end.new.host)) c.watched_run-end.result c.outcome_of.result c.tell_end.result
+    (dumped c.args.order.now.dump) refl c.outcome_of.ensures.value (λ outcome s m. dumped-front c.args.order.now.dump outcome s m)
+    (λ ne. c.watched_run-end.ensures.told t ne) (λ e. c.watched_run-end.ensures.front t e)
+    (λ e. ap (λ h. contents (g.H.Host.told h)) (c.tell_end.ensures.memory e).1) (c.tell_end.ensures.front there oom)
+
+pub returns-clause-heard : goal.returns-clause-heard
+returns-clause-heard g c = λ t ne.
+    hears-by _ _ _ _ _ (c.watched_run-end.ensures.heard t (λ e. ne (c.tell_end.ensures.memory (c.outcome_of.ensures.memory e)).0))
+
+pub returns-clause-list_heard : goal.returns-clause-list_heard
+returns-clause-list_heard g c = λ t ne.
+    run-told c.args.order.now.dump c.args.order.now.steps
+    (run_by list_machine c.args.order.now.steps no_flags false (as_list_state (state_of c.args.machine)) (contents (g.H.Host.told c.args.host.now))) _ _
+    (hears-by _ _ _ _ _) (c.watched_run-end.ensures.list_heard t (λ e. ne (c.tell_end.ensures.memory (c.outcome_of.ensures.memory e)).0) c.requires)
+
+pub returns-clause-keeps : goal.returns-clause-keeps
+returns-clause-keeps g c = keeps-then _ _ _ _ _ _ c.watched_run-end.ensures.keeps c.tell_end.ensures.keeps

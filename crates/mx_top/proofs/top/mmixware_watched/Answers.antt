@@ -1,0 +1,54 @@
+use Rattle.std.proofs.Common.{◌≢◌, refl, subst, sym, ◌∙◌, map}
+use Rattle.std.specs.Prelude.{IsTrue, string_bytes}
+use Rattle.std.proofs.lemmas.List.{length-map}
+use Rattle.mx_host.specs.HostModel.{contents}
+use Rattle.mx_run.specs.WildRuns.{window_machine, list_machine}
+use Rattle.mx_words.specs.Orders.{order_of}
+use Rattle.mx_files.specs.declared.outcome.Outcome.TheVariants.{OutOfMemory}
+use Rattle.mx_top.specs.Product.{carried_out}
+use Rattle.mx_top.proofs.Heard.{found-due, from-none, left-of, unless-by}
+use Rattle.mx_top.proofs.Reported.{reported, reported-goes}
+use Rattle.mx_top.proofs.Told.{spoken-front}
+use Rattle.mx_word.proofs.Fronts.{front-of}
+use Rattle.mx_top.proofs.top.mmixware_watched.Goals as goal
+
+pub returns-in-Ok-clause-product : goal.returns-in-Ok-clause-product
+returns-in-Ok-clause-product g c = λ t ne.
+    let said = c.carry_out-outcome.ensures in
+    let there = subst IsTrue (sym said.keeps.telling) t in
+    let wanting : c.carry_out-outcome.result ≢ OutOfMemory = λ e. ne (c.finish.ensures.same ne ∙ e) in
+    reported c.carry_out-outcome.result c.finish.result _ _ _ _ _ (said.told t wanting)
+    (c.as_slice.ensures ∙ c.in-Ok.ensures ∙ found-due window_machine (map string_bytes c.args.words.now) _ _ _ (order_of (map string_bytes c.args.words.now)) (contents (g.H.Host.told c.args.host.now)) _ (c.len-count.ensures ∙ c.args.watchers.now.ok.0 ∙ sym (length-map c.args.watchers.now.items _)) (from-none _ _ _ _ c.new-kept.ensures (said.heard t wanting)))
+    (c.finish.ensures.told there ne)
+
+pub returns-in-Ok-clause-headline : goal.returns-in-Ok-clause-headline
+returns-in-Ok-clause-headline g c = λ t ne.
+    let said = c.carry_out-outcome.ensures in
+    let there = subst IsTrue (sym said.keeps.telling) t in
+    let wanting : c.carry_out-outcome.result ≢ OutOfMemory = λ e. ne (c.finish.ensures.same ne ∙ e) in
+    reported-goes c.carry_out-outcome.result c.finish.result _ _ (carried_out list_machine (map string_bytes c.args.words.now) (order_of (map string_bytes c.args.words.now)) (contents (g.H.Host.told c.args.host.now))) _ _
+    (said.listed t wanting)
+    (unless-by (carried_out list_machine (map string_bytes c.args.words.now) (order_of (map string_bytes c.args.words.now)) (contents (g.H.Host.told c.args.host.now))) _ _
+    (λ e. c.as_slice.ensures ∙ c.in-Ok.ensures ∙ found-due list_machine (map string_bytes c.args.words.now) _ _ _ (order_of (map string_bytes c.args.words.now)) (contents (g.H.Host.told c.args.host.now)) _ (c.len-count.ensures ∙ c.args.watchers.now.ok.0 ∙ sym (length-map c.args.watchers.now.items _)) (from-none _ _ _ _ c.new-kept.ensures e))
+    (said.list_heard t wanting))
+    (c.finish.ensures.told there ne) (c.finish.ensures.keeps.growing there)
+
+pub returns-in-Ok-clause-left : goal.returns-in-Ok-clause-left
+returns-in-Ok-clause-left g c = λ t ne. left-of _ _ _ _ _ c.new-kept.ensures (c.carry_out-outcome.ensures.heard t (λ e. ne (c.finish.ensures.same ne ∙ e)))
+
+-- the message and the reports go to standard error, so what was written before them is still a front
+pub returns-in-Ok-clause-written : goal.returns-in-Ok-clause-written
+returns-in-Ok-clause-written g c = λ to_stderr t oom.
+    let start = contents (g.H.Host.told c.args.host.now) in
+    let here = contents (g.H.Host.told c.carry_out-outcome.new.host) in
+    let said = c.carry_out-outcome.ensures in
+    front-of here.output _ _ _ (c.finish.ensures.output (said.keeps.errors t to_stderr) (subst IsTrue (sym said.keeps.telling) t)) refl
+    (spoken-front c.carry_out-outcome.result here (carried_out window_machine (map string_bytes c.args.words.now) (order_of (map string_bytes c.args.words.now)) start) (said.told t) (said.front t))
+
+pub returns-clause-written : goal.returns-clause-written
+returns-clause-written g c = λ to_stderr t oom.
+    let start = contents (g.H.Host.told c.args.host.now) in
+    let here = contents (g.H.Host.told c.carry_out-outcome.new.host) in
+    let said = c.carry_out-outcome.ensures in
+    front-of here.output _ _ _ (c.tell.ensures.output (said.keeps.errors t to_stderr) (subst IsTrue (sym said.keeps.telling) t)) refl
+    (spoken-front c.carry_out-outcome.result here (carried_out window_machine (map string_bytes c.args.words.now) (order_of (map string_bytes c.args.words.now)) start) (said.told t) (said.front t))

@@ -1,0 +1,235 @@
+//! An object that several processors run by a schedule.
+
+ghost use Rattle.std.specs.Prelude.{◌≡◌, ◌≢◌, ◌≤◌, ◌<◌, false};
+ghost use Rattle.mx_host.specs.Keeping.{ComesByFault, Keeps};
+ghost use Rattle.mx_load.specs.Kept.{image_of};
+ghost use Rattle.mx_load.specs.Objects.{object_loaded};
+ghost use Rattle.mx_multi.specs.Joint.{NoneTouched, as_list_joint, joint_of, processor_count};
+ghost use Rattle.mx_multi.specs.Turns.{AreNames, turns_ended};
+ghost use Rattle.mx_run.specs.WildRuns.{window_machine, list_machine};
+ghost use Rattle.mx_files.specs.Answers.{AnswersAs, AnswersAsList, WritesFrontOf, is_usage};
+ghost use Rattle.mx_files.specs.Schedules.{AreEight, schedule_bytes};
+ghost use Rattle.mx_files.specs.Source.{file_bytes};
+ghost use Rattle.mx_top.specs.Processors as spec;
+ghost use Rattle.mx_top.specs.Product as product;
+
+use crate::processors::put_all;
+use mx_files::{OBJECT_PIECES, Outcome, read_file, read_schedule};
+use mx_host::Host;
+use mx_load::{Image, ObjectFault, load_object};
+use mx_multi::{Multi, MultiEnd, run_turns};
+use mx_words::Order;
+use std::alloc::Global;
+
+/// So many processors, or more where one is named that is none of them.
+fn with_named(count: u8, who: u8) -> u8
+    requires { who < 8 }
+    ensures value { result ≡ spec.with_named count who }
+    ensures least { count ≤ result }
+    ensures most { count ≤ 8 → result ≤ 8 }
+{
+    if count <= who { who + 1 } else { count }
+}
+
+/// As many processors as the greatest byte of a schedule and one.
+fn processors_named(schedule: &[u8]) -> u8
+    requires { AreEight schedule.now }
+    ensures value { result ≡ spec.processors_named schedule.now }
+    ensures least { 1 ≤ result }
+    ensures most { result ≤ 8 }
+    ensures names { AreNames result schedule.now }
+{
+    let mut count = 1u8;
+    let mut rest = schedule;
+    while let [who, others @ ..] = rest {
+        count = with_named(count, *who);
+        rest = others;
+    }
+    count
+}
+
+/// The outcome of at most so many steps, by their end.
+fn multi_outcome(steps: u64, end: MultiEnd) -> Outcome
+    ensures value { result ≡ spec.multi_outcome steps end }
+    ensures memory { result ≡ Outcome.OutOfMemory → end ≡ MultiEnd.OutOfMemory }
+    ensures well { result ≢ Outcome.HostFault }
+    ensures present { result ≢ Outcome.NoFile }
+    ensures words { is_usage result ≡ false }
+{
+    match end {
+        MultiEnd::AllHalted => Outcome::Done(0),
+        MultiEnd::Stopped { pc, reason, .. } => Outcome::Stopped { pc, reason },
+        MultiEnd::Spent => Outcome::StepsSpent { steps },
+        MultiEnd::OutOfMemory => Outcome::OutOfMemory,
+    }
+}
+
+/// What follows turns: a line for each of so many processors, which are all, and the one memory, where a dump is asked for.
+#[tactic(auto, using(crate::proofs::TurnsTold::telling))]
+fn tell_turns<H: Host>(
+    alloc: Global,
+    host: &mut H,
+    order: &Order,
+    multi: &Multi,
+    end: MultiEnd,
+    count: u8,
+) -> Outcome
+    requires { processor_count multi.now ≡ count }
+    ensures memory { end ≡ MultiEnd.OutOfMemory → (result ≡ Outcome.OutOfMemory) × (host.new ≡ host.old) }
+    ensures told { AnswersAs (H.told host.old) (H.told host.new) result
+        (λ m. spec.turns_told order.now.dump order.now.steps (turns_ended end (joint_of multi.now) m)) }
+    ensures list { AnswersAs (H.told host.old) (H.told host.new) result
+        (λ m. spec.turns_told order.now.dump order.now.steps (turns_ended end (as_list_joint (joint_of multi.now)) m)) }
+    ensures front { WritesFrontOf (H.told host.old) (H.told host.new) result
+        (λ m. spec.turns_told order.now.dump order.now.steps (turns_ended end (joint_of multi.now) m)) }
+    ensures rose { ComesByFault (H.told host.old) Outcome.HostFault result (H.faults host.old) (H.faults host.new) }
+    ensures present { result ≢ Outcome.NoFile }
+    ensures words { is_usage result ≡ false }
+    ensures keeps { Keeps (H.told host.old) (H.told host.new) (H.faults host.old) (H.faults host.new) }
+{
+    if end == MultiEnd::OutOfMemory {
+        return Outcome::OutOfMemory;
+    }
+    match put_all(alloc, host, multi, end, count, order.dump) {
+        Ok(true) => multi_outcome(order.steps, end),
+        Ok(false) => Outcome::HostFault,
+        Err(_) => Outcome::OutOfMemory,
+    }
+}
+
+/// Lets so many processors that were started, which are all, take their turns.
+fn run_started<H: Host>(
+    alloc: Global,
+    host: &mut H,
+    order: &Order,
+    schedule: &[u8],
+    multi: Multi,
+    count: u8,
+) -> Outcome
+    requires count { processor_count multi ≡ count }
+    requires names { AreNames count schedule.now }
+    requires untouched { NoneTouched (joint_of multi).processors }
+    ensures told { AnswersAs (H.told host.old) (H.told host.new) result
+        (λ m. spec.joint_run window_machine order.now schedule.now (joint_of multi) m) }
+    ensures listed { AnswersAsList (H.told host.old) (H.told host.new) result
+        (λ m. spec.joint_run list_machine order.now schedule.now (as_list_joint (joint_of multi)) m) }
+    ensures front { WritesFrontOf (H.told host.old) (H.told host.new) result
+        (λ m. spec.joint_run window_machine order.now schedule.now (joint_of multi) m) }
+    ensures rose { ComesByFault (H.told host.old) Outcome.HostFault result (H.faults host.old) (H.faults host.new) }
+    ensures present { result ≢ Outcome.NoFile }
+    ensures words { is_usage result ≡ false }
+    ensures keeps { Keeps (H.told host.old) (H.told host.new) (H.faults host.old) (H.faults host.new) }
+{
+    let mut multi = multi;
+    let end = run_turns(&mut multi, host, schedule, order.steps);
+    tell_turns(alloc, host, order, &multi, end, count)
+}
+
+/// Runs an image on as many processors as a schedule needs.
+#[tactic(auto, using(crate::proofs::TurnFronts::fronts))]
+fn run_image<H: Host>(
+    alloc: Global,
+    host: &mut H,
+    order: &Order,
+    schedule: &[u8],
+    image: Image,
+) -> Outcome
+    requires { AreEight schedule.now }
+    ensures told { AnswersAs (H.told host.old) (H.told host.new) result
+        (λ m. spec.image_turns window_machine order.now schedule.now (image_of image) m) }
+    ensures listed { AnswersAsList (H.told host.old) (H.told host.new) result
+        (λ m. spec.image_turns list_machine order.now schedule.now (image_of image) m) }
+    ensures front { WritesFrontOf (H.told host.old) (H.told host.new) result
+        (λ m. spec.image_turns window_machine order.now schedule.now (image_of image) m) }
+    ensures rose { ComesByFault (H.told host.old) Outcome.HostFault result (H.faults host.old) (H.faults host.new) }
+    ensures present { result ≢ Outcome.NoFile }
+    ensures words { is_usage result ≡ false }
+    ensures keeps { Keeps (H.told host.old) (H.told host.new) (H.faults host.old) (H.faults host.new) }
+{
+    let count = processors_named(schedule);
+    match Multi::start(alloc, image, count, order.ring) {
+        Ok(multi) => run_started(alloc, host, order, schedule, multi, count),
+        Err(_) => Outcome::OutOfMemory,
+    }
+}
+
+/// Runs an object on as many processors as a schedule needs, or says why it is refused.
+#[tactic(auto, using(crate::proofs::TurnFronts::fronts))]
+fn run_object<H: Host>(
+    alloc: Global,
+    host: &mut H,
+    order: &Order,
+    schedule: &[u8],
+    bytes: &[u8],
+) -> Outcome
+    requires { AreEight schedule.now }
+    ensures told { AnswersAs (H.told host.old) (H.told host.new) result
+        (λ m. product.loaded_turns window_machine order.now schedule.now (object_loaded bytes.now) m) }
+    ensures listed { AnswersAsList (H.told host.old) (H.told host.new) result
+        (λ m. product.loaded_turns list_machine order.now schedule.now (object_loaded bytes.now) m) }
+    ensures front { WritesFrontOf (H.told host.old) (H.told host.new) result
+        (λ m. product.loaded_turns window_machine order.now schedule.now (object_loaded bytes.now) m) }
+    ensures rose { ComesByFault (H.told host.old) Outcome.HostFault result (H.faults host.old) (H.faults host.new) }
+    ensures present { result ≢ Outcome.NoFile }
+    ensures words { is_usage result ≡ false }
+    ensures keeps { Keeps (H.told host.old) (H.told host.new) (H.faults host.old) (H.faults host.new) }
+{
+    match load_object(alloc, bytes) {
+        Ok(image) => run_image(alloc, host, order, schedule, image),
+        Err(ObjectFault::Bad { place, fault }) => Outcome::BadObject { place, fault },
+        Err(ObjectFault::OutOfMemory) => Outcome::OutOfMemory,
+    }
+}
+
+/// Runs the object in the file of this name by a schedule.
+#[tactic(auto, using(crate::proofs::TurnFronts::fronts))]
+fn object_file<H: Host>(
+    alloc: Global,
+    host: &mut H,
+    order: &Order,
+    schedule: &[u8],
+    name: &[u8],
+) -> Outcome
+    requires { AreEight schedule.now }
+    ensures told { AnswersAs (H.told host.old) (H.told host.new) result
+        (λ m. product.object_turns window_machine order.now schedule.now (file_bytes 16385 name.now m)) }
+    ensures listed { AnswersAsList (H.told host.old) (H.told host.new) result
+        (λ m. product.object_turns list_machine order.now schedule.now (file_bytes 16385 name.now m)) }
+    ensures front { WritesFrontOf (H.told host.old) (H.told host.new) result
+        (λ m. product.object_turns window_machine order.now schedule.now (file_bytes 16385 name.now m)) }
+    ensures rose { ComesByFault (H.told host.old) Outcome.HostFault result (H.faults host.old) (H.faults host.new) }
+    ensures no_file { ComesByFault (H.told host.old) Outcome.NoFile result (H.faults host.old) (H.faults host.new) }
+    ensures words { is_usage result ≡ false }
+    ensures keeps { Keeps (H.told host.old) (H.told host.new) (H.faults host.old) (H.faults host.new) }
+{
+    match read_file(alloc, host, name, OBJECT_PIECES) {
+        Ok(bytes) => run_object(alloc, host, order, schedule, bytes.as_slice()),
+        Err(outcome) => outcome,
+    }
+}
+
+/// Runs the object in a file by the schedule in another one, which is read first.
+#[tactic(auto, using(crate::proofs::TurnFronts::fronts))]
+pub fn multi_file<H: Host>(
+    alloc: Global,
+    host: &mut H,
+    order: &Order,
+    schedule: &[u8],
+    object: &[u8],
+) -> Outcome
+    ensures told { AnswersAs (H.told host.old) (H.told host.new) result
+        (λ m. product.after_schedule window_machine order.now object.now (schedule_bytes schedule.now m)) }
+    ensures listed { AnswersAsList (H.told host.old) (H.told host.new) result
+        (λ m. product.after_schedule list_machine order.now object.now (schedule_bytes schedule.now m)) }
+    ensures front { WritesFrontOf (H.told host.old) (H.told host.new) result
+        (λ m. product.after_schedule window_machine order.now object.now (schedule_bytes schedule.now m)) }
+    ensures rose { ComesByFault (H.told host.old) Outcome.HostFault result (H.faults host.old) (H.faults host.new) }
+    ensures no_file { ComesByFault (H.told host.old) Outcome.NoFile result (H.faults host.old) (H.faults host.new) }
+    ensures words { is_usage result ≡ false }
+    ensures keeps { Keeps (H.told host.old) (H.told host.new) (H.faults host.old) (H.faults host.new) }
+{
+    match read_schedule(alloc, host, schedule) {
+        Ok(bytes) => object_file(alloc, host, order, bytes.as_slice(), object),
+        Err(outcome) => outcome,
+    }
+}
