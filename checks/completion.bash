@@ -21,11 +21,11 @@ offers() {
   fi
 }
 
-offers '--help|--version|asm|gen|run|sim|type' mmixware ''
+offers '--help|--version|asm|gen|multi|run|sim|type' mmixware ''
 offers run mmixware r
 offers 'a.mms|b c.mms|programs' mmixware run ''
 offers 'b c.mms' mmixware run b
-offers '--dump|--ring|--steps|-i' mmixware run -
+offers '--dump|--report|--ring|--steps|-i' mmixware run -
 offers '1024|16384' mmixware sim --ring 1
 offers a.mms mmixware run --ring 256 --steps 9 -i a
 offers 'a.mms|b c.mms|d.mmo|notes|programs' mmixware run a.mms ''
@@ -38,6 +38,10 @@ offers --ring mmixware gen -
 offers --ring mmixware gen ''
 offers 'd.mmo|programs' mmixware type ''
 offers '' mmixware type d.mmo ''
+offers '--dump|--ring|--steps' mmixware multi -
+offers 'a.mms|b c.mms|d.mmo|notes|programs' mmixware multi ''
+offers 'd.mmo|programs' mmixware multi --dump notes ''
+offers '' mmixware multi notes d.mmo ''
 offers '' mmixware run --steps ''
 offers '' mmixware other ''
 exit $bad

@@ -2,10 +2,11 @@
 """Draws the crates in their layers, from crates.txt, as docs/crates.svg.
 
 usage: checks/picture.py          writes the picture
-       checks/picture.py --check  says whether the picture is that of crates.txt
+       checks/picture.py --check  says whether the picture is that of crates.txt, and no chain is too long
 A crate stands in the column of its area and in a layer above all that it stands on; a line leads from a crate to
-each one that it stands on and that no other line leads to. All stand on mx_word, to which no line is drawn; crates of
-tests and of laws alone have none.
+each one that it stands on and that no other line leads to. To mx_word, on which all stand but mx_ops,
+no line is drawn; crates of tests (test_...) and of laws alone (law_...) have none. No chain may have more than eight
+crates, those of tests aside.
 """
 import os
 import sys
@@ -16,13 +17,12 @@ AREAS = [
     ("language", "mx_line mx_expr mx_ops mx_names mx_stmt mx_asm"),
     ("objects", "mx_mmo mx_stab mx_load mx_type"),
     ("machine", "mx_mem mx_alu mx_ring mx_trip mx_spec mx_core"),
-    ("host and runs", "mx_host mx_plan mx_trap mx_run mx_watch mx_real"),
+    ("host and runs", "mx_host mx_plan mx_trap mx_run mx_watch mx_multi mx_real"),
     ("console", "mx_text mx_cmd mx_con"),
     ("program", "mx_words mx_files mx_top mmixware"),
 ]
 BASE = "mx_word"
-LAWS = "mx_again mx_gen mx_laws".split()
-TESTS = "mx_parts mx_objects mx_language mx_calls mx_phrases mx_steps mx_rows mx_runs mx_corners mx_outside".split()
+CHAIN = 8
 WIDE, HIGH, GAP, STEP, LEFT, TOP = 96, 26, 10, 74, 16, 62
 FILL = ["#e8f0fa", "#eaf5e6", "#fdf1dc", "#f9e6e6", "#efe8f7", "#eeeeee"]
 
@@ -65,7 +65,11 @@ def reduced(below):
 
 
 def is_test(name):
-    return name in TESTS or name.startswith("test_")
+    return name.startswith("test_")
+
+
+def is_law(name):
+    return name.startswith("law_")
 
 
 def box(x, y, name, fill, wide=WIDE):
@@ -77,10 +81,10 @@ def box(x, y, name, fill, wide=WIDE):
 
 def drawing():
     below = rows()
-    layer = layers(below)
+    layer = layers({name: deps if name == BASE else deps + [BASE] for name, deps in below.items()})
     area = {name: at for at, (_, names) in enumerate(AREAS) for name in names.split()}
     program = [name for name in below if name in area]
-    unknown = [name for name in below if name not in area and name not in LAWS + [BASE] and not is_test(name)]
+    unknown = [name for name in below if name not in area and name != BASE and not is_law(name) and not is_test(name)]
     if unknown:
         sys.exit("checks/picture.py: in no area: " + " ".join(unknown))
     layer = {name: layer[name] - 1 for name in program}
@@ -114,7 +118,7 @@ def drawing():
     wide = starts[-1] + widths[-1] * (WIDE + GAP) - GAP + 10 - (LEFT - 10)
     out.append(box(LEFT - 10, y, BASE, "#fff", wide))
     y += HIGH + 16
-    for title, names in (("laws alone", [n for n in below if n in LAWS]), ("tests", [n for n in below if is_test(n)])):
+    for title, names in (("laws alone", [n for n in below if is_law(n)]), ("tests", [n for n in below if is_test(n)])):
         out.append(f'<text x="{LEFT}" y="{y + 17}" class="title">{title}</text>')
         x = LEFT + 90
         for name in names:
@@ -133,14 +137,15 @@ def drawing():
     return head + "\n" + "\n".join(out) + "\n</svg>\n"
 
 
-def longest():
-    below = rows()
-    layer = layers(below)
-    return 1 + layer["mmixware"]
+def too_long():
+    """The crates, those of tests aside, that end a chain of more crates than CHAIN."""
+    return [name for name, at in layers(rows()).items() if at >= CHAIN and not is_test(name)]
 
 
 if __name__ == "__main__":
     if sys.argv[1:] == ["--check"]:
+        if too_long():
+            sys.exit(f"checks/picture.py: more than {CHAIN} crates in a chain up to " + " ".join(too_long()))
         if not os.path.exists(PICTURE) or open(PICTURE).read() != drawing():
             sys.exit("checks/picture.py: docs/crates.svg is not that of crates.txt; `checks/picture.py` draws it anew")
     else:

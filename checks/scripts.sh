@@ -26,7 +26,7 @@ prints() {
 
 # makes a repository of two crates and one that the program does not stand on
 make_repository() {
-  for crate in mmixware mx_word mx_rows; do
+  for crate in mmixware mx_word test_rows; do
     mkdir -p "$1/crates/$crate/src"
     echo 'fn main() {}' >"$1/crates/$crate/src/main.rt"
   done
@@ -240,7 +240,7 @@ status 1" 'a copy/mmixware' a
 mv 'a copy/crates/mx_word/src/other.rt' 'a copy/crates/mx_word/src/main.rt'
 prints 'built a
 status 0' 'a copy/mmixware' a
-echo '// changed' >>'a copy/crates/mx_rows/src/main.rt'
+echo '// changed' >>'a copy/crates/test_rows/src/main.rt'
 prints 'built a
 status 0' 'a copy/mmixware' a
 cp 'a copy/.built/mmixware' good

@@ -29,16 +29,18 @@ _mmixware() {
   local given words='' files=none
   given=$(_mmixware_given)
   case $COMP_CWORD/$command/$given/$before in
-    1/*) words='run sim asm gen type --help --version' ;;
-    */run/0/--ring | */sim/0/--ring | */gen/0/--ring) words='256 512 1024 2048 4096 8192 16384 32768 65536' ;;
-    */run/0/--steps | */sim/0/--steps) ;;
-    */run/0/*) words='--ring --steps -i --dump' files=.mms ;;
-    */sim/0/*) words='--ring --steps -i --dump' files=.mmo ;;
+    1/*) words='run sim asm gen type multi --help --version' ;;
+    */run/0/--ring | */sim/0/--ring | */gen/0/--ring | */multi/0/--ring) words='256 512 1024 2048 4096 8192 16384 32768 65536' ;;
+    */run/0/--steps | */sim/0/--steps | */multi/0/--steps) ;;
+    */run/0/*) words='--ring --steps -i --dump --report' files=.mms ;;
+    */sim/0/*) words='--ring --steps -i --dump --report' files=.mmo ;;
     */run/* | */sim/*) files='' ;;
     */asm/0/*) files=.mms ;;
     */asm/1/*) files=.mmo ;;
     */gen/0/*) words=--ring ;;
     */type/0/*) files=.mmo ;;
+    */multi/0/*) words='--ring --steps --dump' files='' ;;
+    */multi/1/*) files=.mmo ;;
   esac
   if [ "$files" != none ] && { [ -z "$words" ] || [ "${word#-}" = "$word" ]; }; then
     _mmixware_files "$files" "$word"
