@@ -8,12 +8,13 @@ ghost use Rattle.mx_core.specs.Kept.{state_of};
 use crate::Machine;
 use mx_ring::Ring;
 
-/// Tells the bounds that each ring keeps. It does nothing.
+/// Tells the bounds that each ring keeps. It does nothing: it reads no number of the ring, since what is read here is
+/// read again at each step.
 #[inline(always)]
 pub(crate) fn know_bounds(ring: &Ring)
     ensures { IsRing ring.now }
 {
-    let _ = ring.g();
+    ring.know_stack_area();
 }
 
 /// Each machine keeps the bounds of its register stack, at most 65,536 pages, and a next address that
