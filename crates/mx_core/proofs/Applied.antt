@@ -27,7 +27,7 @@ ResultFits z k (Some x) = set_overfills z k ≡ false
 abbrev pub before : State → ℕ → Effect → State
 before s k e = with_specials (with_store (with_result s k e.result) e.store) e.special
 
-specials-stack : (s : State) (more : List (ℕ × ℕ)) → (with_specials s more).stack ≡ s.stack
+pub specials-stack : (s : State) (more : List (ℕ × ℕ)) → (with_specials s more).stack ≡ s.stack
 specials-stack s [] = refl
 specials-stack s ((code, value) ∷ more) = specials-stack (with_special s code value) more
 

@@ -63,7 +63,7 @@ destination-pages operation s i store = same-pages (has_destination operation) s
 -- THE RESULT
 
 -- without a destination there is no result
-no-result : (operation : Operation) (s : State) (i : Instruction) → has_destination operation ≡ false → (effect_of operation s i).result ≡ None
+pub no-result : (operation : Operation) (s : State) (i : Instruction) → has_destination operation ≡ false → (effect_of operation s i).result ≡ None
 unfolding effect_of
 no-result op.Compute s i e = absurd (cc)
 no-result op.Negate s i e = absurd (cc)

@@ -55,3 +55,8 @@ pub mod UsualSteps
 mod Walks
 pub mod BareStarts
 pub mod Tetras
+pub mod UndoneMemory
+pub mod UndoneStacks
+pub mod UndoneSteps
+pub mod StackWorks
+pub mod Notings

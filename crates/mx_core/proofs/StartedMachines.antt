@@ -1,5 +1,5 @@
 -- A start is a machine over a window.
-use Rattle.std.proofs.Common.{◌≡◌, ◌≤◌, ◌<◌, ℕ, zero, suc, ◌+◌, ◌-◌, ◌*◌, ◌/◌, ◌%◌, ◌^◌, ◌||◌, Bool, true, false, cond, List, [], ◌∷◌, ◌++◌, length, map, replicate, None, Some, Ok, arith, refl, sym, ap, ◌∙◌, subst}
+use Rattle.std.proofs.Common.{◌≡◌, ◌≤◌, ◌<◌, ℕ, zero, suc, ◌+◌, ◌-◌, ◌*◌, ◌^◌, ◌||◌, Bool, false, cond, List, [], ◌∷◌, ◌++◌, length, map, replicate, None, Some, arith, refl, ap, subst}
 use Rattle.std.specs.List.{AllByRecursion, flat_map, range_with_len}
 use Rattle.std.proofs.lemmas.List.{length-replicate, length-append}
 use Rattle.std.proofs.lemmas.List.FromFn.{length-map-range_with_len}
@@ -9,9 +9,9 @@ use Rattle.mx_mmo.specs.Image.{Image}
 use Rattle.mx_mmo.specs.Reading.{octas_of}
 use Rattle.mx_ring.specs.HiddenPart.{zeros}
 use Rattle.mx_ring.specs.Stack.{windowed, stack_address}
-use Rattle.mx_ring.specs.Window.{Window, window_at_start}
+use Rattle.mx_ring.specs.Window.{window_at_start}
 use Rattle.mx_core.specs.Machines.{IsImage, IsOverWindow}
-use Rattle.mx_core.specs.Changes.{octa_changed, allowed_unless}
+use Rattle.mx_core.specs.Changes.{allowed_unless}
 use Rattle.mx_core.specs.Start.{pool, pool_octas, with_octas, loaded, start, special_at_start, registers_of, text_size, text_octas, texts_end, text_addresses, first_text}
 use Rattle.mx_core.specs.State.{State, with_octa, is_negative, is_page_refused}
 use Rattle.mx_core.proofs.OctaSteps.{octa-over}

@@ -8,7 +8,7 @@ use Rattle.mx_core.specs.Kept.{Kept, state_of}
 use Rattle.mx_core.specs.MachineSpace.{IsWholeSpace}
 use Rattle.mx_core.specs.State.{octa}
 
-octawise : (m : Stored) (q a : ℕ) → q / 8 ≡ a / 8 → octa_at m q ≡ octa_at m a
+pub octawise : (m : Stored) (q a : ℕ) → q / 8 ≡ a / 8 → octa_at m q ≡ octa_at m a
 unfolding octa_at
 octawise m q a e = let page : q / 4096 ≡ a / 4096 = omega (arith, e) in rw (page, e) refl
 

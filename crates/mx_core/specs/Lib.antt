@@ -27,3 +27,6 @@ pub mod MemoryAtStart
 pub mod Walks
 pub mod UsualDeeds
 pub mod Bare
+pub mod Undoing
+pub mod NoteParts
+pub mod Noting

@@ -16,7 +16,9 @@ mod jumps;
 mod laws;
 mod load;
 mod machine;
+mod noting;
 mod octa_laws;
+mod octa_was;
 mod operands;
 mod operation;
 mod part;
@@ -40,8 +42,10 @@ mod swap;
 mod trace;
 mod traps;
 mod trips;
+mod undoing;
 mod usual;
 mod values;
+mod works;
 
 pub use bare::bare_machines_start_as_others;
 pub use bounds::machines_keep_the_invariant;
@@ -52,6 +56,7 @@ pub use laws::{
     traps_keep_machines,
 };
 pub use machine::Machine;
+pub use noting::{Note, Noted};
 pub use octa_laws::machines_hold_octas;
 pub use reason::Reason;
 pub use space_laws::{contents_tell_the_state, machines_are_whole};
@@ -59,3 +64,4 @@ pub use start::StartFault;
 pub use start_laws::{arguments_stand_in_the_pool, starts_are_machines};
 pub use step::{Advance, Advanced, Step};
 pub use trace::{Touch, Trace};
+pub use undoing::{machines_are_paged, steps_are_taken_back};

@@ -159,7 +159,7 @@ impl Machine {
     }
 
     /// The special registers that SAVE saves.
-    fn specials_saved(&self) -> Saved
+    pub(crate) fn specials_saved(&self) -> Saved
         ensures value { result ≡ specials_saved (state_of self.now) }
         ensures bits { result.a < 2 ^ 18 }
     {

@@ -69,7 +69,7 @@ impl Machine {
     }
 
     /// The call of the TRAP at the next address.
-    fn call(&self, i: &Instruction) -> TrapCall
+    pub(crate) fn call(&self, i: &Instruction) -> TrapCall
         requires { i.now ≡ spec.fetched (state_of self.now) }
         ensures { result ≡ spec.call_of (state_of self.now) }
     {
@@ -81,7 +81,7 @@ impl Machine {
     }
 
     /// A step with its trace at an instruction that is no TRAP.
-    fn follow(&mut self, i: &Instruction) -> Step
+    pub(crate) fn follow(&mut self, i: &Instruction) -> Step
         requires fetched { i.now ≡ spec.fetched (state_of self.old) }
         requires range { (state_of self.old).pc < 2 ^ 63 }
         requires other { operation_in i.now ≢ Operation.Trap }
@@ -239,7 +239,7 @@ impl Machine {
 
     /// The instruction at the next address.
     #[inline(always)]
-    fn fetched(&self, at: u64) -> Instruction
+    pub(crate) fn fetched(&self, at: u64) -> Instruction
         requires next { at ≡ (state_of self.now).pc }
         requires range { at < 2 ^ 63 }
         ensures { result ≡ spec.fetched (state_of self.now) }

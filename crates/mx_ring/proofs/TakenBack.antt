@@ -22,12 +22,12 @@ use Rattle.mx_ring.specs.declared.notes.RingWork.{RingWork}
 use Rattle.mx_ring.specs.declared.notes.RingWork.TheVariants.{Set, Push, Pop, Save, Unsave, CutLocals, SetGlobalStart, SetOcta}
 use Rattle.mx_ring.specs.declared.saved.Saved.{Saved}
 
-undone-is : (n : RingWas) (u w : Window) → u.size ≡ w.size → hidden_undone n u.hidden ≡ w.hidden → registers_undone n.registers u.visible ≡ w.visible → ring_undone n u ≡ w
+pub undone-is : (n : RingWas) (u w : Window) → u.size ≡ w.size → hidden_undone n u.hidden ≡ w.hidden → registers_undone n.registers u.visible ≡ w.visible → ring_undone n u ≡ w
 unfolding ring_undone
 undone-is n u w e f g = λ i. record { size = e i; hidden = f i; visible = g i }
 
 -- a note fits, and takes back
-takes : (n : RingWas) (u w : Window) → IsRing w → LocalsFit n.registers u.visible → OctaFits n.octa → n.spilled + length n.over ≤ 2 ^ 20 → n.stays ≤ 2 ^ 20 → (u.hidden.spilled < n.spilled → n.stays ≡ 0) →
+pub takes : (n : RingWas) (u w : Window) → IsRing w → LocalsFit n.registers u.visible → OctaFits n.octa → n.spilled + length n.over ≤ 2 ^ 20 → n.stays ≤ 2 ^ 20 → (u.hidden.spilled < n.spilled → n.stays ≡ 0) →
     ring_undone n u ≡ w → TakesBack n u w
 unfolding ring_undone
 takes n u w r locals octa area stays order e =
@@ -41,11 +41,11 @@ takes n u w r locals octa area stays order e =
       back = e;
     }
 
-moved : (n : RingWas) (v u w : Window) → windowed v ≡ windowed u → TakesBack n u w → TakesBack n v w
+pub moved : (n : RingWas) (v u w : Window) → windowed v ≡ windowed u → TakesBack n u w → TakesBack n v w
 moved n v u w e t = subst (λ x. TakesBack n x w) (sym (window-is v u e)) t
 
 -- there is room for what a spill replaced
-over-fits : (w : Window) (n : ℕ) → IsRing w → w.hidden.spilled + length (take n (drop w.hidden.spilled w.hidden.stack)) ≤ 2 ^ 20
+pub over-fits : (w : Window) (n : ℕ) → IsRing w → w.hidden.spilled + length (take n (drop w.hidden.spilled w.hidden.stack)) ≤ 2 ^ 20
 over-fits w n r =
     let low : w.hidden.spilled ≤ length w.hidden.stack = spilled-below w.hidden (2 ^ 20) (fits-of w r) in
     omega (arith, low, r.area, length-take n (drop w.hidden.spilled w.hidden.stack), length-drop w.hidden.spilled w.hidden.stack)
@@ -118,7 +118,7 @@ trip-back w u v k x y r e f =
 
 -- PUSH
 
-push-back : (w v : Window) (x : ℕ) → IsRing w → push_overfills (windowed w) x ≡ false → windowed v ≡ pushed (windowed w) x → TakesBack (ring_noted (Push x) w) v w
+pub push-back : (w v : Window) (x : ℕ) → IsRing w → push_overfills (windowed w) x ≡ false → windowed v ≡ pushed (windowed w) x → TakesBack (ring_noted (Push x) w) v w
 unfolding ring_noted spilled_by staying registers_noted octa_noted hidden_undone pushed
 push-back w v x r o e =
     let c : ℕ = push_number w.visible x in
@@ -151,7 +151,7 @@ more-spilled : (h : HiddenPart) (n : ℕ) → (with_spilled h n).spilled ≡ h.s
 unfolding with_spilled
 more-spilled h n = refl
 
-pop-back : (w v : Window) (x : ℕ) → IsRing w → pop_underflows (windowed w) ≡ false → windowed v ≡ popped (windowed w) x → TakesBack (ring_noted (Pop x) w) v w
+pub pop-back : (w v : Window) (x : ℕ) → IsRing w → pop_underflows (windowed w) ≡ false → windowed v ≡ popped (windowed w) x → TakesBack (ring_noted (Pop x) w) v w
 unfolding ring_noted spilled_by staying registers_noted octa_noted hidden_undone popped
 pop-back w v x r o e =
     let k : ℕ = hole_in (octas_of w.hidden) in
@@ -167,7 +167,7 @@ pop-back w v x r o e =
 
 -- SAVE
 
-save-back : (w v : Window) (x : ℕ) (s : Saved) → IsRing w → save_overfills (windowed w) ≡ false → windowed v ≡ saved (windowed w) x s → TakesBack (ring_noted (Save x s) w) v w
+pub save-back : (w v : Window) (x : ℕ) (s : Saved) → IsRing w → save_overfills (windowed w) ≡ false → windowed v ≡ saved (windowed w) x s → TakesBack (ring_noted (Save x s) w) v w
 unfolding ring_noted spilled_by staying registers_noted octa_noted hidden_undone saved
 save-back w v x s r o e =
     let octas : List ℕ = frame w.visible s in
@@ -186,7 +186,7 @@ save-back w v x s r o e =
 
 -- UNSAVE
 
-unsave-back : (w v : Window) (a : ℕ) → IsRing w → windowed v ≡ unsaved (windowed w) (stack_index a) → TakesBack (ring_noted (Unsave a) w) v w
+pub unsave-back : (w v : Window) (a : ℕ) → IsRing w → windowed v ≡ unsaved (windowed w) (stack_index a) → TakesBack (ring_noted (Unsave a) w) v w
 unfolding ring_noted spilled_by staying registers_noted octa_noted hidden_undone unsaved
 unsave-back w v a r e =
     let octas : List ℕ = octas_to (windowed w) (stack_index a) in
@@ -224,11 +224,11 @@ octa-undone w v i x r f e =
 
 -- AN OCTA OF THE STACK AREA, AND A REGISTER AFTER IT
 
-octa-is : (w : Window) (i z : ℕ) → with_stack_octa (windowed w) i z ≡ windowed (record w { hidden = with_octa w.hidden i z })
+pub octa-is : (w : Window) (i z : ℕ) → with_stack_octa (windowed w) i z ≡ windowed (record w { hidden = with_octa w.hidden i z })
 unfolding with_stack_octa
 octa-is w i z = refl
 
-value-grows : (v : Registers) (k x : ℕ) → length v.locals ≤ length (with_value v k x).locals
+pub value-grows : (v : Registers) (k x : ℕ) → length v.locals ≤ length (with_value v k x).locals
 value-grows v k x = ⊎_elim (λ m. marginal m) (λ m. kept m) (cases_Bool (is_marginal v k))
   where
     marginal : is_marginal v k ≡ true → length v.locals ≤ length (with_value v k x).locals

@@ -25,7 +25,8 @@ pub use laws::{
     spilled_octas_are_counted, spilled_octas_are_hidden, writes_go_as_lists, writes_keep_rings,
 };
 pub use notes::{
-    RingNote, RingWork, notes_take_back, notes_take_stores_back, notes_take_trips_back,
+    RingNote, RingWork, notes_take_back, notes_take_steps_back, notes_take_stores_back,
+    notes_take_trips_back,
 };
 pub use ring::Ring;
 pub use saved::Saved;

@@ -172,3 +172,12 @@ pub fn notes_take_stores_back()
     ensures { (w u v : Window) (i z k x : ℕ) → IsRing w → i < 2 ^ 20 → windowed u ≡ with_stack_octa (windowed w) i z
         → windowed v ≡ with_register (windowed u) k x → TakesBack (ring_noted_stored i k w) v w }
 {}
+
+/// One note takes back what a step does: it gives $k a value, an octa of the stack area another one, and $255 a value.
+pub fn notes_take_steps_back()
+    ensures value { (w v : Window) (k x y : ℕ) → IsRing w
+        → windowed v ≡ with_register (with_register (windowed w) k x) 255 y → TakesBack (ring_noted (Set k x) w) v w }
+    ensures octa { (w v : Window) (i z k x y : ℕ) → IsRing w → i < 2 ^ 20
+        → windowed v ≡ with_register (with_stack_octa (with_register (windowed w) k x) i z) 255 y
+        → TakesBack (ring_noted_stored i k w) v w }
+{}

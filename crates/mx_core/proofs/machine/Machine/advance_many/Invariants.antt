@@ -1,4 +1,4 @@
-use Rattle.std.proofs.Common.{◌≡◌, ◌≤◌, ◌-◌}
+use Rattle.std.proofs.Common.{◌≤◌, ◌-◌}
 use Rattle.mx_core.specs.Kept.{state_of}
 use Rattle.mx_core.specs.Walks.{Goes}
 use Rattle.mx_core.proofs.machine.Machine.advance_many.Given as goal

@@ -1,0 +1,112 @@
+//! The notes of the last steps.
+
+ghost use Rattle.std.specs.Prelude.{◌≡◌, ◌≢◌, ◌↔◌, ◌≤◌, ◌∷◌, [], Err, IfOk, OnErr, OnOk, length};
+ghost use Rattle.mx_back.specs.History as spec;
+ghost use Rattle.mx_back.specs.History.{AreNotesOf, states_before};
+ghost use Rattle.mx_core.specs.Kept.{state_of};
+ghost use Rattle.mx_core.specs.State.{State};
+ghost use Rattle.mx_core.specs.Step.{step};
+ghost use Rattle.mx_core.specs.Stepping.{step_answer};
+
+use crate::BackFault;
+use circular_buffer::HeapCircularBuffer;
+use mx_core::{Machine, Note, Noted, Step};
+use mx_word::NoMemory;
+use std::alloc::Global;
+use std::marker::Model;
+
+/// How many steps are kept at most.
+const MOST: usize = 1024;
+
+/// The notes of the last steps, at most 1,024 of them, the newest first. With the state of the machine they stand for
+/// the states before these steps.
+#[derive(Drop)]
+pub struct Back {
+    alloc: Global,
+    notes: HeapCircularBuffer<Note>,
+}
+
+impl Model for Back {
+    ghost use Rattle.std.specs.Prelude.{List, ◌≡◌};
+    ghost use Rattle.mx_core.specs.Undoing.{StateWas};
+
+    ghost Value = { List StateWas };
+
+    ghost view = { λ b. b.notes.items };
+
+    ghost invariant = { λ b. b.notes.capacity ≡ 1024 };
+}
+
+impl Back {
+    /// Nothing is kept. The room for all notes is taken at once.
+    ///
+    /// Errors: `NoMemory` where there is no memory for it.
+    #[tactic(auto, unfolding(crate::specs::History::AreNotesOf))]
+    pub fn new(alloc: Global) -> Result<Back, NoMemory>
+        ensures none { IfOk result (λ b. b ≡ []) }
+        ensures fits { IfOk result (λ b. (s : State) → AreNotesOf b s) }
+    {
+        match HeapCircularBuffer::with_capacity(alloc, MOST) {
+            Ok(notes) => Ok(Back { alloc, notes }),
+            Err(_) => Err(NoMemory),
+        }
+    }
+
+    /// How many steps are kept, at most 1,024.
+    pub fn kept(&self) -> usize
+        ensures count { result ≡ length self.now }
+        ensures most { result ≤ 1024 }
+    {
+        self.notes.len()
+    }
+
+    /// One step of the machine, as its `step` makes it. Where it went on, the state before it is kept, and the oldest one
+    /// goes where 1,024 were kept. It may take memory for the note.
+    pub fn step(&mut self, m: &mut Machine) -> Step
+        requires { AreNotesOf self.old (state_of m.old) }
+        ensures answer { result ≢ Step.OutOfMemory →
+            (result, state_of m.new) ≡ step_answer (state_of m.old) (step (state_of m.old)) }
+        ensures memory { result ≡ Step.OutOfMemory → state_of m.new ≡ state_of m.old }
+        ensures kept { states_before self.new (state_of m.new)
+            ≡ spec.kept_after result (state_of m.old) (states_before self.old (state_of m.old)) }
+        ensures fits { AreNotesOf self.new (state_of m.new) }
+    {
+        match m.step_noted(self.alloc) {
+            Noted::Went(trace, note) => {
+                self.notes.push_front(note);
+                Step::Went(trace)
+            }
+            Noted::Trap(call) => Step::Trap(call),
+            Noted::Stopped(reason) => Step::Stopped(reason),
+            Noted::OutOfMemory => Step::OutOfMemory,
+        }
+    }
+
+    /// Nothing is kept any more. It takes no memory.
+    #[tactic(auto, unfolding(crate::specs::History::AreNotesOf))]
+    pub fn forget(&mut self)
+        ensures none { self.new ≡ [] }
+        ensures fits { (s : State) → AreNotesOf self.new s }
+    {
+        self.notes.clear();
+    }
+
+    /// Takes the last kept step back: the machine has the whole state before it, which is kept no more. It takes no
+    /// memory.
+    ///
+    /// Errors: `NothingKept` where no step is kept; then nothing changed.
+    pub fn back(&mut self, m: &mut Machine) -> Result<(), BackFault>
+        requires { AreNotesOf self.old (state_of m.old) }
+        ensures ok { OnOk result (states_before self.old (state_of m.old)
+            ≡ state_of m.new ∷ states_before self.new (state_of m.new)) }
+        ensures fault { result ≡ Err BackFault.NothingKept ↔ length self.old ≡ 0 }
+        ensures err { OnErr result (state_of m.new ≡ state_of m.old) }
+        ensures fits { AreNotesOf self.new (state_of m.new) }
+    {
+        let Some(note) = self.notes.pop_front() else {
+            return Err(BackFault::NothingKept);
+        };
+        m.undo(note);
+        Ok(())
+    }
+}

@@ -1,0 +1,5 @@
+use Rattle.mx_core.proofs.UndoneSteps.{over-back}
+use Rattle.mx_core.proofs.undoing.steps_are_taken_back.Goals as goal
+
+pub returns : goal.returns
+returns c = over-back

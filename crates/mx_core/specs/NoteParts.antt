@@ -1,0 +1,20 @@
+-- What a note's fields are, and what holds of them.
+use Rattle.std.specs.Prelude.{◌≡◌, ◌≤◌, ◌<◌, ◌%◌, ◌^◌, false, slice_index}
+use Rattle.mx_spec.specs.SpecialRegisters.{rA}
+use Rattle.mx_core.specs.Undoing.{StateWas}
+use Rattle.mx_core.specs.declared.noting.Note.TheInside.{Inside}
+
+abbrev pub note_in : Inside → StateWas
+note_in i = record {
+  pc = i.pc;
+  special = i.special;
+  mark = i.mark;
+  touched = i.touched;
+  steps = i.steps;
+  memory = i.memory;
+  ring = i.ring;
+}
+
+-- rA has 18 bits, the address is a multiple of 4, and as long as nothing was touched saved frames were spilled
+abbrev pub NoteHolds : Inside → Type 0
+NoteHolds i = (slice_index i.special rA < 2 ^ 18) × (i.pc % 4 ≡ 0) × (i.touched ≡ false → i.mark ≤ i.ring.spilled)

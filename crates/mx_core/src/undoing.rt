@@ -1,0 +1,81 @@
+//! A step that is taken back.
+
+ghost use Rattle.std.specs.Prelude.{◌≡◌, ◌<◌, ◌^◌, ◌/◌, ℕ, Option, true};
+ghost use Rattle.mx_mem.specs.Memory.{octa_at, has_page, page_count, stored_at};
+ghost use Rattle.mx_ring.specs.Stack.{windowed};
+ghost use Rattle.mx_ring.specs.Window.{Window};
+ghost use Rattle.mx_core.specs.Kept.{state_of};
+ghost use Rattle.mx_core.specs.Machines.{IsOverWindow};
+ghost use Rattle.mx_core.specs.State.{State};
+ghost use Rattle.mx_core.specs.Step.{went, step};
+ghost use Rattle.mx_core.specs.Undoing.{FitsState, IsPaged, MayStore, TakesBack, noted, state_undone};
+ghost use Rattle.mx_core.specs.Wild.{deed};
+ghost use Rattle.mx_core.specs.declared.trace.Trace.{Trace};
+
+use crate::{Machine, Note};
+use mx_mem::Memory;
+
+impl Machine {
+    /// Takes the last step back, by its note, where nothing else changed since: registers and hidden ones, the octas of
+    /// the stack area, memory and its pages, special registers and all else are what they were. It takes no memory.
+    #[tactic(auto, unfolding(crate::specs::Kept::state_of, crate::specs::Undoing::state_undone))]
+    pub fn undo(&mut self, note: Note)
+        requires { FitsState note (state_of self.old) }
+        ensures { state_of self.new ≡ state_undone note (state_of self.old) }
+    {
+        let Note {
+            pc,
+            special,
+            mark,
+            touched,
+            steps,
+            memory,
+            ring,
+        } = note;
+        self.ring.undo(ring);
+        self.pc = pc;
+        self.special = special;
+        self.mark = mark;
+        self.touched = touched;
+        self.steps = steps;
+        match memory {
+            Some(was) => {
+                if was.began {
+                    self.memory.drop_page(was.at);
+                } else {
+                    put_octa_back(&mut self.memory, was.at, was.octa);
+                }
+            }
+            None => {}
+        }
+    }
+}
+
+/// Puts an octa back on a page that is there.
+fn put_octa_back(memory: &mut Memory, at: u64, octa: u64)
+    requires low { at < 2 ^ 63 }
+    requires there { has_page memory.old (at / 4096) ≡ true }
+    ensures octas { octa_at memory.new ≡ stored_at (octa_at memory.old) at octa }
+    ensures pages { has_page memory.new ≡ has_page memory.old }
+    ensures count { page_count memory.new ≡ page_count memory.old }
+{
+    let _ = memory.store(at, octa);
+}
+
+/// Each machine's memory is one octa for each eight addresses, and 0 where its page is not there.
+#[tactic(auto, using(crate::proofs::Notings::paged))]
+#[inline(always)]
+pub fn machines_are_paged(machine: &Machine)
+    ensures { IsPaged (state_of machine.now) }
+{
+    let _ = machine;
+}
+
+/// What a deed notes takes the state after its step back to the one before: every register, every hidden one, each octa
+/// of the stack area and of memory, its pages, special registers, the next address, the mark, `touched` and steps. It
+/// does so wherever the octa is noted that the deed may store.
+pub fn steps_are_taken_back()
+    ensures { (s t : State) (w : Window) (place : Option ℕ) (trace : Trace) → IsOverWindow s → s.stack ≡ windowed w
+        → IsPaged s → MayStore place (deed s).effect.store → step s ≡ went t trace
+        → TakesBack (noted w s (deed s) place) t s }
+{}
