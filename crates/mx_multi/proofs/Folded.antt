@@ -4,18 +4,16 @@ use Rattle.mx_word.specs.Lists.{IsFront}
 use Rattle.mx_host.specs.HostModel.{HostModel}
 use Rattle.mx_run.specs.Turns.{turn_answer, turn}
 use Rattle.mx_run.specs.WildRuns.{window_machine}
-use Rattle.mx_run.specs.declared.turn_answer.TurnAnswer.{TurnAnswer}
-use Rattle.mx_run.specs.declared.turn_answer.TurnAnswer.TheVariants as answer
 use Rattle.mx_multi.specs.Folds.{FoldsFrom, after_turns, steps_in, steps_of, repeated}
 use Rattle.mx_multi.specs.Joint.{Joint, has_halted, state_at}
-use Rattle.mx_multi.specs.JointTurns.{JointWorld, told_at, turn_of}
+use Rattle.mx_multi.specs.JointTurns.{JointWorld, turn_of}
 use Rattle.mx_multi.specs.Turns.{turns_ended, next_in, or_again, AllHaveHalted, end_of_turn, after_turn, turn_by, turns, end_at_last}
 use Rattle.mx_multi.specs.declared.turn.Turn.{Turn}
 use Rattle.mx_multi.specs.declared.turn.Turn.TheVariants as turned
 use Rattle.mx_multi.specs.declared.end.MultiEnd.{MultiEnd}
 use Rattle.mx_multi.specs.declared.end.MultiEnd.TheVariants.{AllHalted, Stopped, Spent, OutOfMemory}
 use Rattle.mx_multi.proofs.Schedules.{all-none, found-in}
-use Rattle.mx_multi.proofs.TurnComes.{turn-idle, turn-made}
+use Rattle.mx_multi.proofs.TurnComes.{turn-idle, turn-made, not-idle-at}
 
 -- ---- what is found
 
@@ -51,12 +49,6 @@ idle-steps [] turns w h = refl
 idle-steps (who ∷ before) turns w h =
     ap (λ (t : Turn × JointWorld). steps_of t.0 + steps_in (before ++ turns) t.1) (turn-idle who w h.0)
     ∙ (let none : 0 + steps_in (before ++ turns) w ≡ steps_in (before ++ turns) w = omega arith in none) ∙ idle-steps before turns w h.1
-
-not-idle-at : (pc : ℕ) (r : TurnAnswer) → told_at pc r ≡ turned.Idle → ⊥
-not-idle-at pc (answer.Went trace) e = absurd (cc)
-not-idle-at pc (answer.Halted status) e = absurd (cc)
-not-idle-at pc (answer.Stopped reason) e = absurd (cc)
-not-idle-at pc answer.OutOfMemory e = absurd (cc)
 
 not-idle : (who : ℕ) (w : JointWorld) → has_halted w.0.halted who ≡ false → (turn_of who w).0 ≡ turned.Idle → ⊥
 not-idle who w runs e =

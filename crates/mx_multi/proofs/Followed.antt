@@ -52,10 +52,6 @@ left-lists : (schedule rest : List ℕ) (n i : ℕ) (j : Joint) (m : HostModel) 
 unfolding turns
 left-lists schedule rest n i j m l = let next : n - i ≡ suc (n - (i + 1)) = omega (arith, l) in ap (λ k. turns list_machine schedule k rest j m) next
 
-pub lists-begun : (schedule : List ℕ) (n : ℕ) (j : Joint) (m : HostModel) → NoneTouched j.processors →
-    Beside (turns list_machine schedule n schedule (as_list_joint j) m) (turns list_machine schedule (n - 0) schedule (as_list_joint j) m) j m
-lists-begun schedule n j m u = let all : n - 0 ≡ n = omega arith in as_lists u (ap (λ k. turns list_machine schedule k schedule (as_list_joint j) m) (sym all))
-
 pub lists-follow : (schedule rest : List ℕ) (n i : ℕ) (whole : TurnsEnd) (j k : Joint) (m h : HostModel) (x : Result (List ℕ) MultiEnd) → i < n → Beside whole (turns list_machine schedule (n - i) rest (as_list_joint j) m) j m →
     (NoneTouched j.processors → Follows (turn_by list_machine (turns list_machine schedule (n - (i + 1))) (as_list_joint j) m (next_turn j.halted schedule rest)) (turns list_machine schedule (n - (i + 1))) x k h) →
     IsFront m.output h.output → Follows whole (turns list_machine schedule (n - (i + 1))) x k h

@@ -21,7 +21,7 @@ use Rattle.mx_multi.specs.declared.turn.Turn.{Turn}
 use Rattle.mx_multi.specs.declared.turn.Turn.TheVariants.{Idle}
 use Rattle.mx_multi.specs.declared.end.MultiEnd.{MultiEnd}
 use Rattle.mx_multi.specs.declared.end.MultiEnd.TheVariants.{OutOfMemory}
-use Rattle.mx_multi.proofs.TurnPlans.{as-turns, plan-end}
+use Rattle.mx_multi.proofs.TurnPlans.{plan-end}
 
 abbrev Beside : (HostModel → HostModel → Type 0) → JointWorld → JointWorld → Type 0
 Beside Rel v w = Rel v.1 w.1

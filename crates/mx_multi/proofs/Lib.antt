@@ -1,6 +1,7 @@
 pub mod Begun
 pub mod Exchanges
 pub mod Places
+pub mod Untraced
 pub mod TurnComes
 pub mod Schedules
 pub mod TurnPlans
@@ -10,3 +11,5 @@ pub mod StepSums
 pub mod Named
 pub mod ListStarts
 pub mod Folded
+pub mod Stretches
+pub mod RowTurns

@@ -11,7 +11,7 @@ alone-at [] i d l h = absurd (omega arith)
 alone-at (s ∷ ss) zero d l h = h.0
 alone-at (s ∷ ss) (suc i) d l h = alone-at ss i d (omega (arith, l)) h.1
 
-alone-set : (ss : List State) (i : ℕ) (s : State) → AllAlone ss → shared_of s ≡ nothing_shared → AllAlone (set ss i s)
+pub alone-set : (ss : List State) (i : ℕ) (s : State) → AllAlone ss → shared_of s ≡ nothing_shared → AllAlone (set ss i s)
 alone-set [] i s h e = tt
 alone-set (t ∷ ss) zero s h e = (e, h.1)
 alone-set (t ∷ ss) (suc i) s h e = (h.0, alone-set ss i s h.1 e)

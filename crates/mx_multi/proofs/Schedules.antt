@@ -50,6 +50,9 @@ found-either : (halted : List Bool) (schedule part : List ℕ) (first : Option (
 found-either halted schedule part None who rest h e = found-in halted schedule who rest e
 found-either halted schedule part (Some (x, xs)) who rest h e = found-in halted part who rest (h ∙ e)
 
+pub found-turn : (halted : List Bool) (schedule part : List ℕ) (who : ℕ) (rest : List ℕ) → next_turn halted schedule part ≡ Some (who, rest) → has_halted halted who ≡ false
+found-turn halted schedule part who rest e = found-either halted schedule part (next_in halted part) who rest refl e
+
 pub found-runs : (halted : List Bool) (schedule part : List ℕ) (place : ℕ) → option_map (turn_from schedule) (Some place) ≡ next_turn halted schedule part → has_halted halted (get_or schedule place 0) ≡ false
 found-runs halted schedule part place e = found-either halted schedule part (next_in halted part) (get_or schedule place 0) (drop (place + 1) schedule) refl (sym e)
 

@@ -1,7 +1,8 @@
 -- What the turn of one processor comes to, among all of them.
-use Rattle.std.proofs.Common.{◌≡◌, ◌≢◌, ◌<◌, ℕ, zero, suc, ◌&&◌, not, Bool, true, false, List, [], ◌∷◌, length, get_or, set, map, inl, inr, arith, refl, sym, subst, ap, ◌∙◌}
+use Rattle.std.proofs.Common.{◌≡◌, ◌≢◌, ◌<◌, ℕ, zero, suc, ◌&&◌, not, Bool, true, false, IsTrue, List, [], ◌∷◌, length, get_or, set, map, inl, inr, arith, refl, sym, subst, ap, ◌∙◌}
+use Rattle.std.specs.Prelude.{Option}
 use Rattle.std.proofs.lemmas.List.{get_or-map, map-set, length-map}
-use Rattle.mx_host.specs.HostModel.{HostModel}
+use Rattle.mx_host.specs.HostModel.{HostModel, contents, tells}
 use Rattle.mx_plan.specs.Plan.{Comes, Stops, end_of}
 use Rattle.mx_core.specs.Bare.{Shared, with_shared}
 use Rattle.mx_core.specs.Bounds.{as_list_state}
@@ -16,13 +17,13 @@ use Rattle.mx_run.specs.declared.turn_answer.TurnAnswer.{TurnAnswer}
 use Rattle.mx_run.specs.declared.turn_answer.TurnAnswer.TheVariants as answer
 use Rattle.mx_run.proofs.ListSteps.{turn-goes}
 use Rattle.mx_run.proofs.Runners.{turn-told}
-use Rattle.mx_multi.specs.Clauses.{TurnGoesAsLists}
+use Rattle.mx_multi.specs.Clauses.{MakesTurn, TurnGoesAsLists}
 use Rattle.mx_multi.specs.Joint.{Joint, no_processor, state_at, has_halted, alone, AllAlone, NoneTouched, as_list_joint}
 use Rattle.mx_multi.specs.JointTurns.{JointWorld, told_at, halted_by, left_by, joined, turn_of, is_wild_turn}
 use Rattle.mx_multi.specs.MultiPlans.{multi, turn_plan}
 use Rattle.mx_multi.specs.declared.turn.Turn.{Turn}
 use Rattle.mx_multi.specs.declared.turn.Turn.TheVariants as turned
-use Rattle.mx_multi.proofs.Places.{alone-at, held-at}
+use Rattle.mx_multi.proofs.Places.{alone-at}
 
 abbrev pub joint : List State → List Bool → Shared → Joint
 joint P H M = record { processors = P; halted = H; memory = M }
@@ -84,6 +85,12 @@ none-marked H at turned.Went e = refl
 none-marked H at turned.Idle e = refl
 none-marked H at (turned.Stopped pc reason) e = refl
 none-marked H at (turned.Halted status) e = absurd (cc)
+
+pub not-idle-at : (pc : ℕ) (r : TurnAnswer) → told_at pc r ≡ turned.Idle → ⊥
+not-idle-at pc (answer.Went trace) e = absurd (cc)
+not-idle-at pc (answer.Halted status) e = absurd (cc)
+not-idle-at pc (answer.Stopped reason) e = absurd (cc)
+not-idle-at pc answer.OutOfMemory e = absurd (cc)
 
 told-none : (pc : ℕ) (r : TurnAnswer) → r ≡ answer.OutOfMemory → told_at pc r ≡ turned.OutOfMemory
 told-none pc r e = ap (told_at pc) e
@@ -156,11 +163,11 @@ module _ (P Q : List State) (H : List Bool) (M N : Shared) (at : ℕ) (m n : Hos
   goes-by true u g = g
   goes-by false u g = (made-listed g.0, subst NoneTouched put-back (untouched-set P at (alone after) u g.1))
 
-  pub one-listed : HasWindow before → r ≢ answer.OutOfMemory → NoneTouched P →
+  pub one-listed : (before.touched ≡ false → TurnGoesAsList (turn_is_wild (as_list_state before)) (as_list_state before) m (r, after, n)) → NoneTouched P →
       TurnGoesAsLists (is_wild_turn at (as_list_joint (joint P H M))) at (as_list_joint (joint P H M)) m (told_at before.pc r) (joint Q (halted_by H at (told_at before.pc r)) N) n
-  one-listed h ne u =
+  one-listed goes u =
       subst (λ b. TurnGoesAsLists b at (as_list_joint (joint P H M)) m (told_at before.pc r) (joint Q (halted_by H at (told_at before.pc r)) N) n) (sym same-wild)
-      (goes-by (turn_is_wild (as_list_state before)) u (turn-goes before after m n r h (turn-told before after m n r comes ne) (untouched-at P at no_processor inside u)))
+      (goes-by (turn_is_wild (as_list_state before)) u (goes (untouched-at P at no_processor inside u)))
 
 -- ---- as they are kept
 
@@ -172,24 +179,43 @@ flag-at (h ∷ hs) (suc i) b l e = flag-at hs i b (omega (arith, l)) e
 pub flag-is : (ks : List Kept) (hs : List Bool) (i : ℕ) (b c : Bool) → i < length ks → length hs ≡ length ks → b ≡ get_or hs i b → b ≡ c → has_halted hs i ≡ c
 flag-is ks hs i b c l same e f = flag-at hs i b (omega (arith, l, same)) e ∙ f
 
-pub pc-is : (ks : List Kept) (i : ℕ) (x : Kept) (d : State) (pc : ℕ) → i < length ks → x ≡ get_or ks i x → pc ≡ (state_of x).pc → pc ≡ (get_or (map state_of ks) i d).pc
-pc-is ks i x d pc l e h = h ∙ ap (λ (s : State). s.pc) (sym (held-at ks i l x d e))
+pub never-idle : {o p : Option HostModel} {s t : State} (a : Turn) → MakesTurn o p s t a → a ≢ turned.Idle
+never-idle a makes e = not-idle-at _ makes.step (sym makes.told ∙ e)
 
-module _ (ks ls : List Kept) (H : List Bool) (M N : Shared) (at : ℕ) (m n : HostModel) (r : TurnAnswer) (inside : at < length ks) (same : length ls ≡ length ks) (runs : has_halted H at ≡ false)
-    (placed : (d : State) → map state_of ls ≡ set (map state_of ks) at (get_or (map state_of ls) at d)) (apart : AllAlone (map state_of ls))
-    (comes : Comes running (with_shared M (get_or (map state_of ks) at no_processor), m) (with_shared N (get_or (map state_of ls) at no_processor), n) answer.OutOfMemory r run.turn_plan) where
-  within : at < length (map state_of ks)
-  within = let long = length-map ks state_of in omega (arith, long, inside)
+-- a turn that a machine makes on the one memory, told without a trace
+module _ (P Q : List State) (H : List Bool) (M N : Shared) (at : ℕ) (o p : Option HostModel) (a : Turn) (inside : at < length P) (same : length Q ≡ length P) (runs : has_halted H at ≡ false)
+    (placed : Q ≡ set P at (get_or Q at no_processor)) (apart : AllAlone Q)
+    (makes : MakesTurn o p (with_shared M (get_or P at no_processor)) (with_shared N (get_or Q at no_processor)) a) where
+  abbrev pub first : State
+  first = with_shared M (get_or P at no_processor)
 
-  as-many : length (map state_of ls) ≡ length (map state_of ks)
-  as-many = length-map ls state_of ∙ same ∙ sym (length-map ks state_of)
+  abbrev pub last : State
+  last = with_shared N (get_or Q at no_processor)
 
-  abbrev pub pc-before : ℕ
-  pc-before = (get_or (map state_of ks) at no_processor).pc
+  abbrev pub left-so : Turn → Joint
+  left-so t = joint Q (halted_by H at t) N
 
-  pub kept-comes : Comes multi (joint (map state_of ks) H M, m) (joint (map state_of ls) (halted_by H at (told_at pc-before r)) N, n) turned.OutOfMemory (told_at pc-before r) (turn_plan at)
-  kept-comes = one-comes (map state_of ks) (map state_of ls) H M N at m n r within as-many runs (placed no_processor) apart comes
+  pub told-comes : IsTrue (tells o) → Comes multi (joint P H M, contents o) (left-so a, contents p) turned.OutOfMemory a (turn_plan at)
+  told-comes t =
+      subst (λ x. Comes multi (joint P H M, contents o) (left-so x, contents p) turned.OutOfMemory x (turn_plan at)) (sym makes.told)
+      (one-comes P Q H M N at (contents o) (contents p) makes.step inside same runs placed apart (makes.carried t))
 
-  pub kept-listed : HasWindow (with_shared M (get_or (map state_of ks) at no_processor)) → r ≢ answer.OutOfMemory → NoneTouched (map state_of ks) →
-      TurnGoesAsLists (is_wild_turn at (as_list_joint (joint (map state_of ks) H M))) at (as_list_joint (joint (map state_of ks) H M)) m (told_at pc-before r) (joint (map state_of ls) (halted_by H at (told_at pc-before r)) N) n
-  kept-listed h ne u = one-listed (map state_of ks) (map state_of ls) H M N at m n r within as-many runs (placed no_processor) apart comes h ne u
+  abbrev pub Listed : Turn → Type 0
+  Listed x = TurnGoesAsLists (is_wild_turn at (as_list_joint (joint P H M))) at (as_list_joint (joint P H M)) (contents o) x (left-so x) (contents p)
+
+  -- where the machine's own turn goes as over its list
+  pub step-listed : (first.touched ≡ false → TurnGoesAsList (turn_is_wild (as_list_state first)) (as_list_state first) (contents o) (makes.step, last, contents p)) → IsTrue (tells o) → NoneTouched P → Listed a
+  step-listed goes t u = subst Listed (sym makes.told) (one-listed P Q H M N at (contents o) (contents p) makes.step inside same runs placed apart (makes.carried t) goes u)
+
+  pub told-listed : HasWindow first → IsTrue (tells o) → a ≢ turned.OutOfMemory → NoneTouched P → Listed a
+  told-listed h t ne u =
+      let told = turn-told first last (contents o) (contents p) makes.step (makes.carried t) (λ e. ne (makes.told ∙ told-none first.pc makes.step e)) in
+      step-listed (turn-goes first last (contents o) (contents p) makes.step h told) t u
+
+-- ---- lengths
+
+pub kept-inside : (ks : List Kept) (at : ℕ) → at < length ks → at < length (map state_of ks)
+kept-inside ks at l = let long = length-map ks state_of in omega (arith, long, l)
+
+pub kept-same : (ks ls : List Kept) → length ls ≡ length ks → length (map state_of ls) ≡ length (map state_of ks)
+kept-same ks ls e = length-map ls state_of ∙ e ∙ sym (length-map ks state_of)

@@ -61,11 +61,6 @@ pub left-more : (schedule rest : List ℕ) (n i : ℕ) → i < n → turns_plan 
 unfolding turns_plan
 left-more schedule rest n i l = let next : n - i ≡ suc (n - (i + 1)) = omega (arith, l) in ap (λ k. turns_plan schedule k rest) next
 
-pub rest-begun : (schedule rest : List ℕ) (n : ℕ) (v : JointWorld) → IsRest multi (turns_plan schedule (n - 0) rest) v (turns_plan schedule n rest) v
-rest-begun schedule rest n v =
-    let all : n - 0 ≡ n = omega arith in
-    record { ending = ap (λ k. end_of multi (turns_plan schedule k rest) v) (sym all); stopping = λ w h. subst (λ k. Stops multi w (turns_plan schedule k rest) v) all h }
-
 pub rest-went : (schedule rest after : List ℕ) (n i : ℕ) (v w start : JointWorld) (whole : MultiPlan MultiEnd) → i < n → IsRest multi (turns_plan schedule (n - i) rest) v whole start →
     Comes multi v w (Err OutOfMemory) (Ok after) (step_plan schedule rest) → IsRest multi (turns_plan schedule (n - (i + 1)) after) w whole start
 rest-went schedule rest after n i v w start whole l r c =

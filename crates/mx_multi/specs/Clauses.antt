@@ -4,9 +4,14 @@ use Rattle.std.specs.Prelude.{ℕ, zero, suc, ◌≡◌, ◌≢◌, ◌≤◌, �
 use Rattle.mx_word.specs.Lists.{IsFront}
 use Rattle.mx_host.specs.HostModel.{HostModel, tells, contents}
 use Rattle.mx_plan.specs.Plan.{Comes}
+use Rattle.mx_core.specs.State.{State}
+use Rattle.mx_run.specs.Clauses.{CarriesOutRun}
+use Rattle.mx_run.specs.RunPlans as run
 use Rattle.mx_run.specs.WildRuns.{list_machine}
+use Rattle.mx_run.specs.declared.turn_answer.TurnAnswer.{TurnAnswer}
+use Rattle.mx_run.specs.declared.turn_answer.TurnAnswer.TheVariants as answer
 use Rattle.mx_multi.specs.Joint.{Joint, NoneTouched, as_list_joint, processor}
-use Rattle.mx_multi.specs.JointTurns.{turn_of, is_wild_turn}
+use Rattle.mx_multi.specs.JointTurns.{told_at, turn_of, is_wild_turn}
 use Rattle.mx_multi.specs.MultiPlans.{MultiPlan, multi}
 use Rattle.mx_multi.specs.Turns.{TurnsEnd, turns_ended, turns_wild, turn_by}
 use Rattle.mx_multi.specs.declared.turn.Turn.{Turn}
@@ -20,6 +25,12 @@ use Rattle.mx_multi.specs.declared.end.MultiEnd.TheVariants as end
 abbrev pub CarriesOutTurns : {A : Type 0} → Option HostModel → Option HostModel → Joint → Joint → A → A → MultiPlan A → Type 0
 CarriesOutTurns old new before after none result plan =
     IsTrue (tells old) → Comes multi (before, contents old) (after, contents new) none result plan
+
+-- the turn of one machine on all of its memory, told without a trace: what the answer of its step tells, which is carried out
+pub record MakesTurn (old new : Option HostModel) (before after : State) (result : Turn) : Type 0 where
+  pub step : TurnAnswer
+  pub told : result ≡ told_at before.pc step
+  pub carried : CarriesOutRun old new before after answer.OutOfMemory step run.turn_plan
 
 -- BESIDE LIST MACHINES
 

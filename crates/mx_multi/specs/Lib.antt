@@ -5,3 +5,4 @@ pub mod Turns
 pub mod MultiPlans
 pub mod Clauses
 pub mod Folds
+pub mod Stretches

@@ -1,9 +1,11 @@
 //! Several processors on one memory, which take turns by a schedule.
 #![tactic(auto)]
 
+mod alone;
 mod end;
 mod laws;
 mod multi;
+mod rows;
 mod runs;
 mod schedule;
 mod turn;

@@ -13,6 +13,7 @@ ghost use Rattle.mx_multi.specs.MultiPlans.{step_plan, turn_plan, turns_plan};
 ghost use Rattle.mx_multi.specs.Turns as spec;
 ghost use Rattle.mx_multi.specs.Turns.{AllHaveHalted, AreNames, end_at_last, end_of_turn, next_turn, turn_from, turns};
 
+use crate::rows::walk_row;
 use crate::{Multi, MultiEnd, Turn};
 use mx_host::Host;
 
@@ -37,10 +38,20 @@ pub fn run_turns<H: Host>(multi: &mut Multi, host: &mut H, schedule: &[u8], n: u
     ensures keeps { Keeps (H.told host.old) (H.told host.new) (H.faults host.old) (H.faults host.new) }
 {
     let mut at = 0;
-    for _made in 0..n {
-        match next_step(multi, host, schedule, at) {
-            Ok(next) => at = next,
-            Err(end) => return end,
+    let mut left = n;
+    while left > 0 {
+        let made = walk_row(multi, schedule, at, left);
+        if made > 0 {
+            at += made as usize;
+            left -= made;
+        } else {
+            match next_step(multi, host, schedule, at) {
+                Ok(next) => {
+                    at = next;
+                    left -= 1;
+                }
+                Err(end) => return end,
+            }
         }
     }
     last_end(multi, schedule)

@@ -1,46 +1,41 @@
 //! A turn of one of several processors.
 
-ghost use Rattle.std.specs.Prelude.{◌≡◌, ◌<◌, ◌↔◌, IsTrue, false, true, length, map, slice_index_or, slice_set};
+ghost use Rattle.std.specs.Prelude.{◌≡◌, ◌<◌, ◌≤◌, ◌↔◌, IsTrue, false, true, length, map, slice_index_or, slice_set};
 ghost use Rattle.mx_host.specs.Keeping.{Keeps};
 ghost use Rattle.mx_core.specs.Bare.{nothing_shared, shared_in, shared_of, with_shared};
 ghost use Rattle.mx_core.specs.Kept.{state_of};
 ghost use Rattle.mx_core.specs.State.{State};
-ghost use Rattle.mx_run.specs.Clauses.{CarriesOutRun};
-ghost use Rattle.mx_run.specs.RunPlans as run;
+ghost use Rattle.mx_core.specs.Walks.{Goes};
 ghost use Rattle.mx_run.specs.Runs.{IsLater};
 ghost use Rattle.mx_run.specs.WildRuns.{HasWindow};
-ghost use Rattle.mx_multi.specs.Clauses.{CarriesOutTurns, TurnsAsLists, TurnsTo};
+ghost use Rattle.mx_multi.specs.Clauses.{CarriesOutTurns, MakesTurn, TurnsAsLists, TurnsTo};
 ghost use Rattle.mx_multi.specs.Joint.{AllAlone, has_halted, joint_by, joint_of, processor};
 ghost use Rattle.mx_multi.specs.Joint.{Processors, processor_count, with_processor};
 ghost use Rattle.mx_multi.specs.JointTurns.{halted_by, MakesOne};
 ghost use Rattle.mx_multi.specs.MultiPlans.{turn_plan};
+ghost use Rattle.mx_multi.specs.Stretches.{Stretch};
 
+use crate::alone::turn_alone;
 use crate::{Multi, Turn};
 use mx_core::Machine;
 use mx_host::Host;
 use mx_mem::Memory;
-use mx_run::{TurnAnswer, turn};
 use std::alloc::Global;
 
 /// A turn of a machine on a memory that is not its own.
 #[tactic(auto, using(crate::proofs::Exchanges::exchanging))]
-fn turn_on<H: Host>(
-    alloc: Global,
-    machine: &mut Machine,
-    memory: &mut Memory,
-    host: &mut H,
-) -> TurnAnswer
+fn turn_on<H: Host>(alloc: Global, machine: &mut Machine, memory: &mut Memory, host: &mut H) -> Turn
     requires { shared_of (state_of machine.now) ≡ nothing_shared }
-    ensures told { CarriesOutRun (H.told host.old) (H.told host.new)
+    ensures told { MakesTurn (H.told host.old) (H.told host.new)
         (with_shared (shared_in memory.old) (state_of machine.old))
-        (with_shared (shared_in memory.new) (state_of machine.new)) TurnAnswer.OutOfMemory result run.turn_plan }
+        (with_shared (shared_in memory.new) (state_of machine.new)) result }
     ensures over { HasWindow (with_shared (shared_in memory.old) (state_of machine.old)) }
     ensures alone { shared_of (state_of machine.new) ≡ nothing_shared }
     ensures bound { IsLater 1 (state_of machine.old) (state_of machine.new) }
     ensures keeps { Keeps (H.told host.old) (H.told host.new) (H.faults host.old) (H.faults host.new) }
 {
     machine.swap_memory(memory);
-    let answer = turn(alloc, machine, host);
+    let answer = turn_alone(alloc, machine, host);
     machine.swap_memory(memory);
     answer
 }
@@ -52,13 +47,12 @@ fn turn_at<H: Host>(
     memory: &mut Memory,
     host: &mut H,
     at: usize,
-) -> TurnAnswer
+) -> Turn
     requires inside { at < length machines.now.items }
     requires apart { AllAlone (map state_of machines.now.items) }
-    ensures told { (d : State) → CarriesOutRun (H.told host.old) (H.told host.new)
+    ensures told { (d : State) → MakesTurn (H.told host.old) (H.told host.new)
         (with_shared (shared_in memory.old) (slice_index_or (map state_of machines.old.items) at d))
-        (with_shared (shared_in memory.new) (slice_index_or (map state_of machines.new.items) at d))
-        TurnAnswer.OutOfMemory result run.turn_plan }
+        (with_shared (shared_in memory.new) (slice_index_or (map state_of machines.new.items) at d)) result }
     ensures over { (d : State) → HasWindow
         (with_shared (shared_in memory.old) (slice_index_or (map state_of machines.old.items) at d)) }
     ensures placed { (d : State) → map state_of machines.new.items ≡
@@ -70,6 +64,47 @@ fn turn_at<H: Host>(
     ensures keeps { Keeps (H.told host.old) (H.told host.new) (H.faults host.old) (H.faults host.new) }
 {
     turn_on(alloc, &mut machines[at], memory, host)
+}
+
+/// Steps of a machine on a memory that is not its own, up to so many, as far as they go on: how many.
+#[tactic(auto, using(crate::proofs::Exchanges::exchanging))]
+fn walk_on(machine: &mut Machine, memory: &mut Memory, most: u64) -> u64
+    requires { shared_of (state_of machine.now) ≡ nothing_shared }
+    ensures few { result ≤ most }
+    ensures goes { Goes result (with_shared (shared_in memory.old) (state_of machine.old))
+        (with_shared (shared_in memory.new) (state_of machine.new)) }
+    ensures alone { shared_of (state_of machine.new) ≡ nothing_shared }
+{
+    machine.swap_memory(memory);
+    let walk = machine.advance_many(most);
+    machine.swap_memory(memory);
+    walk.made
+}
+
+/// The same of the machine at a place.
+fn walk_at(machines: &mut Vec<Machine>, memory: &mut Memory, at: usize, most: u64) -> u64
+    requires inside { at < length machines.now.items }
+    requires apart { AllAlone (map state_of machines.now.items) }
+    ensures few { result ≤ most }
+    ensures goes { (d : State) → Goes result
+        (with_shared (shared_in memory.old) (slice_index_or (map state_of machines.old.items) at d))
+        (with_shared (shared_in memory.new) (slice_index_or (map state_of machines.new.items) at d)) }
+    ensures placed { (d : State) → map state_of machines.new.items ≡
+        slice_set (map state_of machines.old.items) at (slice_index_or (map state_of machines.new.items) at d) }
+    ensures apart { AllAlone (map state_of machines.new.items) }
+    ensures count { length machines.new.items ≡ length machines.old.items }
+{
+    walk_on(&mut machines[at], memory, most)
+}
+
+/// Marks the processor at a place as one that has halted, where its turn was a Halt.
+fn mark(halted: &mut Vec<bool>, at: usize, answer: Turn)
+    requires { at < length halted.now.items }
+    ensures { halted.new.items ≡ halted_by halted.old.items at answer }
+{
+    if let Turn::Halted(_) = answer {
+        halted[at] = true;
+    }
 }
 
 /// A turn of the machine at a place, unless it has halted.
@@ -102,16 +137,9 @@ fn make_turn<H: Host>(
     if halted[at] {
         return Turn::Idle;
     }
-    let pc = machines[at].pc();
-    match turn_at(alloc, machines, memory, host, at) {
-        TurnAnswer::Went(_) => Turn::Went,
-        TurnAnswer::Halted(status) => {
-            halted[at] = true;
-            Turn::Halted(status)
-        }
-        TurnAnswer::Stopped(reason) => Turn::Stopped { pc, reason },
-        TurnAnswer::OutOfMemory => Turn::OutOfMemory,
-    }
+    let answer = turn_at(alloc, machines, memory, host, at);
+    mark(halted, at, answer);
+    answer
 }
 
 impl Multi {
@@ -140,6 +168,23 @@ impl Multi {
             &mut self.memory,
             host,
             usize::from(who),
+        )
+    }
+
+    /// Makes turns of a processor that has not halted, up to so many, as far as each goes on: how many.
+    pub(crate) fn walk(&mut self, who: u8, most: u64) -> u64
+        requires inside { who < processor_count self.now }
+        requires runs { has_halted self.now.halted who ≡ false }
+        ensures few { result ≤ most }
+        ensures turns { Stretch result who (joint_of self.old) (joint_of self.new) }
+        ensures halted { self.new.halted ≡ self.old.halted }
+        ensures count { processor_count self.new ≡ processor_count self.old }
+    {
+        walk_at(
+            &mut self.processors,
+            &mut self.memory,
+            usize::from(who),
+            most,
         )
     }
 }

@@ -2,7 +2,8 @@
 //! steps are worked out by hand.
 
 use crate::programs::{
-    CHANGES, COUNTS, DATA, IN_AREA, PRINTS, Program, STOPS, STORES, TELLS_COUNT, host, processors,
+    CHANGES, COUNTS, DATA, IN_AREA, PRINTS, Program, STOPS, STORES, TELLS_COUNT, WRITES, host,
+    processors,
 };
 use mx_multi::{MultiEnd, first_unnamed, run_turns};
 use std::alloc::Global;
@@ -137,6 +138,44 @@ fn both_print(rt: &impl Abort, alloc: Global) -> bool {
     let mut host = host(rt, alloc);
     let end = run_turns(&mut multi, &mut host, &[0, 1], 6);
     end == MultiEnd::AllHalted && host.output() == b"hi\nhi\n".as_slice()
+}
+
+/// What the file of two processors has in the end, by their schedule, and their steps.
+static WRITTEN: [(&[u8], &[u8], [u64; 2]); 3] = [
+    // the second is the first one to write into the file that the first has opened
+    (&[0, 1], b"yx", [7, 5]),
+    (&[0, 0, 0, 0, 0, 0, 0, 1], b"xy", [7, 5]),
+    // it is not open yet when the second writes
+    (&[1, 1, 1, 1, 1, 0], b"x", [7, 5]),
+];
+
+#[test]
+fn files_are_shared(rt: HostRuntime) {
+    for (schedule, text, steps) in &WRITTEN {
+        assert!(rt;
+            both_write(&rt, rt.alloc(), schedule, text, *steps),
+            "{:?}",
+            schedule
+        );
+    }
+}
+
+/// Whether two processors by a schedule come to a file of this text, after so many steps each.
+fn both_write(
+    rt: &impl Abort,
+    alloc: Global,
+    schedule: &[u8],
+    text: &[u8],
+    steps: [u64; 2],
+) -> bool {
+    if first_unnamed(schedule, 2).is_some() {
+        return false;
+    }
+    let mut multi = processors(rt, alloc, &WRITES, 2, 256);
+    let mut host = host(rt, alloc);
+    let end = run_turns(&mut multi, &mut host, schedule, 1000);
+    let made = [multi.processor(0).steps(), multi.processor(1).steps()];
+    end == MultiEnd::AllHalted && made == steps && host.file(b"f") == Some(text)
 }
 
 #[test]

@@ -1,6 +1,6 @@
 use Rattle.mx_host.specs.HostModel.{contents}
 use Rattle.mx_multi.specs.Joint.{joint_by, no_processor}
-use Rattle.mx_multi.proofs.TurnComes.{idle-comes, idle-listed, flag-is, pc-is, kept-comes, kept-listed}
+use Rattle.mx_multi.proofs.TurnComes.{idle-comes, idle-listed, flag-is, kept-inside, kept-same, told-comes, told-listed, never-idle}
 use Rattle.mx_multi.proofs.turning.make_turn.Goals as goal
 
 -- ---- a processor that has halted
@@ -13,42 +13,20 @@ returns-then-index-clause-listed g c = λ t ne u. idle-listed c.args.at (joint_b
 
 -- ---- one that has not
 
-pub returns-in-Went-clause-told : goal.returns-in-Went-clause-told
-returns-in-Went-clause-told g c =
-    let e = c.in-Went.ensures in
-    λ t. kept-comes _ _ _ _ _ _ _ _ _ c.requires.inside e.count (flag-is _ _ _ _ _ c.requires.inside c.requires.flags c.index.ensures c.if-index.false) e.placed e.apart (e.told no_processor t)
+pub returns-clause-told : goal.returns-clause-told
+returns-clause-told g c =
+    let e = c.turn_at-answer.ensures in
+    let runs = flag-is _ _ _ _ _ c.requires.inside c.requires.flags c.index.ensures c.if-index.false in
+    rw c.mark.ensures (λ t. told-comes _ _ _ _ _ _ _ _ _ (kept-inside _ _ c.requires.inside) (kept-same _ _ e.count) runs (e.placed no_processor) e.apart (e.told no_processor) t)
 
-pub returns-in-Went-clause-listed : goal.returns-in-Went-clause-listed
-returns-in-Went-clause-listed g c =
-    let e = c.in-Went.ensures in
-    λ t ne u. kept-listed _ _ _ _ _ _ _ _ _ c.requires.inside e.count (flag-is _ _ _ _ _ c.requires.inside c.requires.flags c.index.ensures c.if-index.false) e.placed e.apart (e.told no_processor t)
-    (e.over no_processor) (λ h. absurd (cc)) u
+pub returns-clause-listed : goal.returns-clause-listed
+returns-clause-listed g c =
+    let e = c.turn_at-answer.ensures in
+    let runs = flag-is _ _ _ _ _ c.requires.inside c.requires.flags c.index.ensures c.if-index.false in
+    rw c.mark.ensures
+    (λ t ne u. told-listed _ _ _ _ _ _ _ _ _ (kept-inside _ _ c.requires.inside) (kept-same _ _ e.count) runs (e.placed no_processor) e.apart (e.told no_processor) (e.over no_processor) t ne u)
 
-pub returns-in-Halted-clause-told : goal.returns-in-Halted-clause-told
-returns-in-Halted-clause-told g c =
-    let e = c.in-Halted.ensures in
-    λ t. kept-comes _ _ _ _ _ _ _ _ _ c.requires.inside e.count (flag-is _ _ _ _ _ c.requires.inside c.requires.flags c.index.ensures c.if-index.false) e.placed e.apart (e.told no_processor t)
-
-pub returns-in-Halted-clause-listed : goal.returns-in-Halted-clause-listed
-returns-in-Halted-clause-listed g c =
-    let e = c.in-Halted.ensures in
-    λ t ne u. kept-listed _ _ _ _ _ _ _ _ _ c.requires.inside e.count (flag-is _ _ _ _ _ c.requires.inside c.requires.flags c.index.ensures c.if-index.false) e.placed e.apart (e.told no_processor t)
-    (e.over no_processor) (λ h. absurd (cc)) u
-
-pub returns-in-Stopped-clause-told : goal.returns-in-Stopped-clause-told
-returns-in-Stopped-clause-told g c =
-    let e = c.in-Stopped.ensures in
-    λ t. rw (pc-is _ _ _ no_processor _ c.requires.inside c.index-2.ensures c.pc-pc.ensures.value)
-    (kept-comes _ _ _ _ _ _ _ _ _ c.requires.inside e.count (flag-is _ _ _ _ _ c.requires.inside c.requires.flags c.index.ensures c.if-index.false) e.placed e.apart (e.told no_processor t))
-
-pub returns-in-Stopped-clause-listed : goal.returns-in-Stopped-clause-listed
-returns-in-Stopped-clause-listed g c =
-    let e = c.in-Stopped.ensures in
-    λ t ne u. rw (pc-is _ _ _ no_processor _ c.requires.inside c.index-2.ensures c.pc-pc.ensures.value)
-    (kept-listed _ _ _ _ _ _ _ _ _ c.requires.inside e.count (flag-is _ _ _ _ _ c.requires.inside c.requires.flags c.index.ensures c.if-index.false) e.placed e.apart (e.told no_processor t)
-    (e.over no_processor) (λ h. absurd (cc)) u)
-
-pub returns-in-OutOfMemory-clause-told : goal.returns-in-OutOfMemory-clause-told
-returns-in-OutOfMemory-clause-told g c =
-    let e = c.in-OutOfMemory.ensures in
-    λ t. kept-comes _ _ _ _ _ _ _ _ _ c.requires.inside e.count (flag-is _ _ _ _ _ c.requires.inside c.requires.flags c.index.ensures c.if-index.false) e.placed e.apart (e.told no_processor t)
+pub returns-clause-idle : goal.returns-clause-idle
+returns-clause-idle g c =
+    let runs = flag-is _ _ _ _ _ c.requires.inside c.requires.flags c.index.ensures c.if-index.false in
+    (λ i. absurd (never-idle _ (c.turn_at-answer.ensures.told no_processor) i), λ h. absurd (cc))
