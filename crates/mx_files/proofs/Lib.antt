@@ -5,6 +5,7 @@ pub mod Rests
 pub mod Parts
 pub mod Causes
 pub mod FileParts
+pub mod WrittenLines
 pub mod FileEnds
 pub mod PutPieces
 pub mod PutLines
@@ -17,3 +18,4 @@ pub mod FileClauses
 pub mod ReadSchedules
 pub mod Serving
 pub mod TypedLines
+pub mod LeastFaults

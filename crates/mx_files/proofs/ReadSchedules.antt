@@ -1,5 +1,5 @@
 -- A schedule that is read, and judged when its file was closed.
-use Rattle.std.proofs.Common.{◌≡◌, ℕ, ◌+◌, ◌<◌, ◌≤◌, ◌==◌, suc, Bool, not, true, false, cond, nat_lt, List, [], ◌∷◌, length, Option, None, Some, Ok, Err, arith, refl, sym, ap, ◌∙◌}
+use Rattle.std.proofs.Common.{◌≡◌, ℕ, ◌+◌, ◌<◌, suc, Bool, not, true, false, cond, nat_lt, List, [], ◌∷◌, length, Option, None, Some, Ok, Err, arith, refl}
 use Rattle.std.specs.Prelude.{Result}
 use Rattle.std.specs.List.{position, position_or_len}
 use Rattle.std.proofs.lemmas.Bool.Decides.{nat_tests}
@@ -7,12 +7,12 @@ use Rattle.mx_host.specs.HostModel.{HostModel}
 use Rattle.mx_plan.specs.Plan.{returns}
 use Rattle.mx_files.specs.Clauses.{Works}
 use Rattle.mx_files.specs.FilePlans.{file_plan}
-use Rattle.mx_files.specs.Schedules.{AreEight, longest, is_unnamed, length_fault, least_fault, judged, schedule_in, schedule_fault, schedule_plan}
+use Rattle.mx_files.specs.Schedules.{AreEight, is_unnamed, judged, schedule_in, schedule_fault, schedule_plan}
 use Rattle.mx_files.specs.declared.outcome.Outcome.{Outcome}
 use Rattle.mx_files.specs.declared.outcome.Outcome.TheVariants.{BadSchedule}
 use Rattle.mx_files.proofs.Parts.{works-then, works-ends, works-done, works-refused}
 
--- ---- where none is at fault, each byte names one of eight
+-- ---- where no byte is found that names none of eight, each names one
 
 named : (b : ℕ) → nat_lt 7 b ≡ false → b < 8
 named b h = grind (arith, nat_tests)
@@ -31,24 +31,12 @@ all-named (b ∷ bs) h = by (is_unnamed b) refl (all-named bs) h
     by true e rest h = absurd (begun (length bs) h)
     by false e rest h = (named b e, rest (shorter (position_or_len is_unnamed bs) (length bs) h))
 
-beyond : (i n : ℕ) → nat_lt i n ≡ true → nat_lt i longest ≡ false → nat_lt longest n ≡ true
-beyond i n h g = grind (arith, nat_tests)
+none-at : (b : Bool) (i n : ℕ) → nat_lt i n ≡ b → cond b (Some i) None ≡ None → nat_lt i n ≡ false
+none-at true i n h e = absurd (cc)
+none-at false i n h e = h
 
-some-length : (b : Bool) (n : ℕ) → nat_lt longest n ≡ true → cond b (Some 0) (cond (nat_lt longest n) (Some longest) None) ≡ None → ⊥
-some-length true n h e = absurd (cc)
-some-length false n h e = absurd (cc (h, e))
-
-some-fault : (b : Bool) (i n : ℕ) → nat_lt i n ≡ true → nat_lt i longest ≡ b → cond b (Some i) (length_fault n) ≡ None → ⊥
-some-fault true i n h g e = absurd (cc)
-some-fault false i n h g e = some-length (n == 0) n (beyond i n h g) e
-
-none-found : (b : Bool) (i n : ℕ) → nat_lt i n ≡ b → least_fault (cond b (Some i) None) n ≡ None → nat_lt i n ≡ false
-none-found true i n h e = absurd (some-fault (nat_lt i longest) i n h refl e)
-none-found false i n h e = h
-
-pub faultless-named : (bytes : List ℕ) → schedule_fault bytes ≡ None → AreEight bytes
-faultless-named bytes e =
-    let i = position_or_len is_unnamed bytes in all-named bytes (none-found (nat_lt i (length bytes)) i (length bytes) refl e)
+pub none-named : (bytes : List ℕ) → position is_unnamed bytes ≡ None → AreEight bytes
+none-named bytes e = let i = position_or_len is_unnamed bytes in all-named bytes (none-at (nat_lt i (length bytes)) i (length bytes) refl e)
 
 -- ---- the plan
 

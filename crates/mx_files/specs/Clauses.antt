@@ -4,8 +4,6 @@ use Rattle.std.specs.Prelude.{ℕ, IsTrue, ◌≡◌, Bool, true, false, not, Op
 use Rattle.mx_host.specs.HostModel.{HostModel, tells, contents, Rose, slot_at, is_read_only, is_write_only, to_output}
 use Rattle.mx_host.specs.HostAnswer.{Then}
 use Rattle.mx_host.specs.Keeping.{ComesByFault}
-use Rattle.mx_host.specs.declared.faults.HostFault.{HostFault as SlotFault}
-use Rattle.mx_host.specs.declared.faults.HostFault.TheVariants as slot
 use Rattle.mx_host.specs.declared.slots.Lead.{Lead}
 use Rattle.mx_host.specs.declared.slots.Lead.TheVariants.{Input, Output, Errors, File}
 use Rattle.mx_host.specs.declared.slots.Slot.{Slot}
@@ -14,7 +12,6 @@ use Rattle.mx_plan.specs.Calls.{HostCall, closing, reading, writing, host, HostP
 use Rattle.mx_plan.specs.Clauses.{CarriesOut, Stands}
 use Rattle.mx_plan.specs.Held.{Makes}
 use Rattle.mx_plan.specs.Plan.{IsRest}
-use Rattle.mx_word.specs.declared.no_memory.NoMemory.{NoMemory}
 use Rattle.mx_files.specs.FilePlans.{Part}
 use Rattle.mx_files.specs.declared.outcome.Outcome.{Outcome}
 use Rattle.mx_files.specs.declared.outcome.Outcome.TheVariants.{NoFile, HostFault, Refused, BadObject, BadSchedule, OutOfMemory}
@@ -90,19 +87,7 @@ pub record Leaves {A : Type 0} (old new : Option HostModel) (earlier later : ℕ
   pub cause : (IsTrue (tells old) → Makes host Serves whole (contents old)) → IsTrue (tells new) → Makes host Serves rest (contents new)
   pub stands : Stands old new earlier later
 
--- what says whether all was written, as a part of the work
-abbrev pub as_part : Result Bool NoMemory → Result (Unit {0}) Outcome
-as_part (Ok true) = Ok tt
-as_part (Ok false) = Err HostFault
-as_part (Err lacked) = Err OutOfMemory
-
--- the same with the model after it
+-- whether all was written, as a part of the work, with the model after it
 abbrev pub part_of : Then Bool → Then (Result (Unit {0}) Outcome)
 part_of (true, m) = (Ok tt, m)
 part_of (false, m) = (Err HostFault, m)
-
--- whether a call wrote all, or there was no memory
-abbrev pub call_written : Result (Unit {0}) SlotFault → Result Bool NoMemory
-call_written (Ok u) = Ok true
-call_written (Err slot.OutOfMemory) = Err (record {})
-call_written (Err why) = Ok false

@@ -9,17 +9,26 @@ use Rattle.mx_files.specs.Source.{source_pieces, file_bytes}
 use Rattle.mx_files.specs.declared.outcome.Outcome.{Outcome}
 use Rattle.mx_files.specs.declared.outcome.Outcome.TheVariants.{BadSchedule}
 
--- A place at which a schedule is at fault: it has no bytes, it goes on behind 2^22 bytes, or its byte there names none of eight
--- processors.
 abbrev pub longest : ℕ
 longest = 2 ^ 22
 
+-- A place at which a schedule is at fault: it has no bytes, it goes on behind 2^22 bytes, or its byte there names none of eight
+-- processors.
 pub data IsAtFault : List ℕ → ℕ → Type 0 where
   empty : IsAtFault [] 0
   long : (bytes : List ℕ) → longest < length bytes → IsAtFault bytes longest
   unnamed : (bytes : List ℕ) (place : ℕ) → place < length bytes → 8 ≤ get_or bytes place 0 → IsAtFault bytes place
 
--- the first such place, as it is found
+-- the least such place
+pub record IsLeastFault (bytes : List ℕ) (place : ℕ) : Type 0 where
+  pub fault : IsAtFault bytes place
+  pub least : (other : ℕ) → IsAtFault bytes other → place ≤ other
+
+-- there is none
+abbrev pub IsFaultless : List ℕ → Type 0
+IsFaultless bytes = (place : ℕ) → IsAtFault bytes place → ⊥
+
+-- the least place of a fault, as it is found
 abbrev pub is_unnamed : ℕ → Bool
 is_unnamed b = nat_lt 7 b
 

@@ -1,6 +1,6 @@
 //! The line that tells an outcome.
 
-ghost use Rattle.std.specs.Prelude.{IsTrue, ◌≡◌, ◌≢◌, ◌≤◌, ◌++◌, ◌<◌, OnOk, IfOk, codes, decimal};
+ghost use Rattle.std.specs.Prelude.{IsTrue, ◌≡◌, ◌≢◌, ◌≤◌, ◌++◌, ◌<◌, OnOk, IfOk, OnErr, [], codes, decimal};
 ghost use Rattle.mx_files.specs.Messages as spec;
 
 use crate::names::{fault_name, usage_name};
@@ -103,9 +103,10 @@ fn spent_text(alloc: Global, steps: u64) -> Result<Bytes, NoMemory>
     Ok(text)
 }
 
-/// The message line of an outcome, which is empty for a run that is done or was left.
+/// The message line of an outcome, which is empty for a run that is done or was left. An empty line takes no memory.
 pub fn message(alloc: Global, outcome: Outcome) -> Result<Bytes, NoMemory>
-    ensures { IfOk result (λ text. text ≡ spec.message_of outcome) }
+    ensures text { IfOk result (λ text. text ≡ spec.message_of outcome) }
+    ensures memory { OnErr result (spec.message_of outcome ≢ []) }
 {
     match outcome {
         Outcome::Done(_) | Outcome::Quit => Ok(Bytes::new(alloc)),

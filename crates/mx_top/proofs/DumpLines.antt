@@ -1,13 +1,13 @@
 -- The lines of a dump, in turn.
-use Rattle.std.proofs.Common.{◌≡◌, ◌≢◌, ◌≤◌, ℕ, zero, suc, ◌+◌, ◌-◌, ◌*◌, ◌/◌, ◌%◌, ◌^◌, Bool, true, List, [], ◌∷◌, ◌++◌, Option, Some, Result, Ok, arith, refl, sym, ◌∙◌, ap, subst, append-nil, append_assoc, add-zero}
+use Rattle.std.proofs.Common.{◌≡◌, ◌≤◌, ℕ, zero, suc, ◌+◌, ◌-◌, ◌*◌, ◌/◌, ◌%◌, ◌^◌, List, [], ◌∷◌, ◌++◌, Option, Some, Ok, Err, arith, refl, sym, ◌∙◌, ap, subst, append-nil, append_assoc, add-zero}
 use Rattle.std.specs.List.{flat_map, range_with_len}
-use Rattle.mx_word.specs.declared.no_memory.NoMemory.{NoMemory}
+use Rattle.std.specs.Prelude.{Result}
 use Rattle.mx_host.specs.HostModel.{HostModel}
 use Rattle.mx_core.specs.State.{State}
 use Rattle.mx_top.specs.Dump.{Line, special_line, special_lines, register_line, register_lines, octa_line, octa_lines, dump_lines, octa_count}
-use Rattle.mx_files.specs.Lines.{Puts}
+use Rattle.mx_files.specs.declared.outcome.Outcome.{Outcome}
 use Rattle.mx_top.specs.Shown.{AreHidden, IsNextShown, shown_octa}
-use Rattle.mx_files.proofs.PutLines.{puts-none, puts-then, puts-ended}
+use Rattle.mx_files.proofs.WrittenLines.{Writes, writes-none, writes-then, writes-ended}
 
 pub special-lines : (s : State) → special_lines s ≡ flat_map (special_line s) (range_with_len 0 32)
 unfolding special_lines
@@ -57,50 +57,50 @@ octas-front s n count l =
 
 -- ---- what was written of them
 
-pub puts-no-octa : (s : State) (a : Option HostModel) (k : ℕ) → Puts a a k k (Ok true) (octa_lines s 0)
+pub writes-no-octa : (s : State) (a : Option HostModel) (k : ℕ) → Writes a a k k (Ok tt) (octa_lines s 0)
 unfolding octa_lines
-puts-no-octa s a k = puts-none a k
+writes-no-octa s a k = writes-none a k
 
 shown-lines : (s : State) (from a x : ℕ) → from % 8 ≡ 0 → IsNextShown s from (Some (a, x)) → octa_lines s ((a + 8) / 8) ≡ octa_lines s (from / 8) ++ shown_octa a x ∷ []
 shown-lines s from a x e h =
     octa-next s a h.2 ∙ ap (λ l. l ++ octa_line s a) (octas-to s from a e h.2 h.0 h.4) ∙ ap (λ l. octa_lines s (from / 8) ++ l) h.3
 
-pub puts-octa : (s : State) (a b c : Option HostModel) (k m o from at x : ℕ) → from % 8 ≡ 0 → IsNextShown s from (Some (at, x)) →
-    Puts a b k m (Ok true) (octa_lines s (from / 8)) → Puts b c m o (Ok true) (shown_octa at x ∷ []) → Puts a c k o (Ok true) (octa_lines s ((at + 8) / 8))
-puts-octa s a b c k m o from at x e h first second =
-    subst (λ ys. Puts a c k o (Ok true) ys) (sym (shown-lines s from at x e h)) (puts-then a b c k m o (Ok true) (octa_lines s (from / 8)) (shown_octa at x ∷ []) first second)
+pub writes-octa : (s : State) (a b c : Option HostModel) (k m o from at x : ℕ) → from % 8 ≡ 0 → IsNextShown s from (Some (at, x)) →
+    Writes a b k m (Ok tt) (octa_lines s (from / 8)) → Writes b c m o (Ok tt) (shown_octa at x ∷ []) → Writes a c k o (Ok tt) (octa_lines s ((at + 8) / 8))
+writes-octa s a b c k m o from at x e h first second =
+    subst (λ ys. Writes a c k o (Ok tt) ys) (sym (shown-lines s from at x e h)) (writes-then a b c k m o (Ok tt) (octa_lines s (from / 8)) (shown_octa at x ∷ []) first second)
 
-ended-octas : (s : State) (a b c : Option HostModel) (k m o from at x count : ℕ) (r : Result Bool NoMemory) → from % 8 ≡ 0 → IsNextShown s from (Some (at, x)) → (at + 8) / 8 ≤ count → r ≢ Ok true →
-    Puts a b k m (Ok true) (octa_lines s (from / 8)) → Puts b c m o r (shown_octa at x ∷ []) → Puts a c k o r (octa_lines s count)
-ended-octas s a b c k m o from at x count r e h l failed first second =
+ended-octas : (s : State) (a b c : Option HostModel) (k m o from at x count : ℕ) (outcome : Outcome) → from % 8 ≡ 0 → IsNextShown s from (Some (at, x)) → (at + 8) / 8 ≤ count →
+    Writes a b k m (Ok tt) (octa_lines s (from / 8)) → Writes b c m o (Err outcome) (shown_octa at x ∷ []) → Writes a c k o (Err outcome) (octa_lines s count)
+ended-octas s a b c k m o from at x count outcome e h l first second =
     let rest = octas-front s ((at + 8) / 8) count l in
-    subst (λ ys. Puts a c k o r ys) (sym (rest.1 ∙ ap (λ ys. ys ++ rest.0) (shown-lines s from at x e h)))
-    (puts-ended a c k o r (octa_lines s (from / 8) ++ shown_octa at x ∷ []) rest.0 failed (puts-then a b c k m o r (octa_lines s (from / 8)) (shown_octa at x ∷ []) first second))
+    subst (λ ys. Writes a c k o (Err outcome) ys) (sym (rest.1 ∙ ap (λ ys. ys ++ rest.0) (shown-lines s from at x e h)))
+    (writes-ended a c k o outcome (octa_lines s (from / 8) ++ shown_octa at x ∷ []) rest.0 (writes-then a b c k m o (Err outcome) (octa_lines s (from / 8)) (shown_octa at x ∷ []) first second))
 
-pub puts-octas-ended : (s : State) (a b c : Option HostModel) (k m o from at x : ℕ) (r : Result Bool NoMemory) → from % 8 ≡ 0 → IsNextShown s from (Some (at, x)) → r ≢ Ok true →
-    Puts a b k m (Ok true) (octa_lines s (from / 8)) → Puts b c m o r (shown_octa at x ∷ []) → Puts a c k o r (octa_lines s octa_count)
-puts-octas-ended s a b c k m o from at x r e h failed first second =
-    ended-octas s a b c k m o from at x octa_count r e h (omega (arith, h.1, h.2)) failed first second
+pub writes-octas-ended : (s : State) (a b c : Option HostModel) (k m o from at x : ℕ) (outcome : Outcome) → from % 8 ≡ 0 → IsNextShown s from (Some (at, x)) →
+    Writes a b k m (Ok tt) (octa_lines s (from / 8)) → Writes b c m o (Err outcome) (shown_octa at x ∷ []) → Writes a c k o (Err outcome) (octa_lines s octa_count)
+writes-octas-ended s a b c k m o from at x outcome e h first second =
+    ended-octas s a b c k m o from at x octa_count outcome e h (omega (arith, h.1, h.2)) first second
 
-pub puts-octas : (s : State) (a b : Option HostModel) (k m from : ℕ) → from % 8 ≡ 0 → from ≤ 2 ^ 63 → AreHidden s from (2 ^ 63) → Puts a b k m (Ok true) (octa_lines s (from / 8)) →
-    Puts a b k m (Ok true) (octa_lines s octa_count)
-puts-octas s a b k m from e l h first = subst (λ ys. Puts a b k m (Ok true) ys) (sym (octas-to s from (2 ^ 63) e refl l h)) first
+pub writes-octas : (s : State) (a b : Option HostModel) (k m from : ℕ) → from % 8 ≡ 0 → from ≤ 2 ^ 63 → AreHidden s from (2 ^ 63) → Writes a b k m (Ok tt) (octa_lines s (from / 8)) →
+    Writes a b k m (Ok tt) (octa_lines s octa_count)
+writes-octas s a b k m from e l h first = subst (λ ys. Writes a b k m (Ok tt) ys) (sym (octas-to s from (2 ^ 63) e refl l h)) first
 
 -- ---- the whole dump
 
-pub puts-specials : (s : State) (a b : Option HostModel) (k m : ℕ) (r : Result Bool NoMemory) → r ≢ Ok true → Puts a b k m r (special_lines s) → Puts a b k m r (dump_lines s)
+pub writes-specials : (s : State) (a b : Option HostModel) (k m : ℕ) (outcome : Outcome) → Writes a b k m (Err outcome) (special_lines s) → Writes a b k m (Err outcome) (dump_lines s)
 unfolding dump_lines
-puts-specials s a b k m r failed h =
-    puts-ended a b k m r (special_lines s ++ register_lines s) (octa_lines s octa_count) failed (puts-ended a b k m r (special_lines s) (register_lines s) failed h)
+writes-specials s a b k m outcome h =
+    writes-ended a b k m outcome (special_lines s ++ register_lines s) (octa_lines s octa_count) (writes-ended a b k m outcome (special_lines s) (register_lines s) h)
 
-pub puts-registers : (s : State) (a b c : Option HostModel) (k m o : ℕ) (r : Result Bool NoMemory) → r ≢ Ok true → Puts a b k m (Ok true) (special_lines s) → Puts b c m o r (register_lines s) →
-    Puts a c k o r (dump_lines s)
+pub writes-registers : (s : State) (a b c : Option HostModel) (k m o : ℕ) (outcome : Outcome) → Writes a b k m (Ok tt) (special_lines s) → Writes b c m o (Err outcome) (register_lines s) →
+    Writes a c k o (Err outcome) (dump_lines s)
 unfolding dump_lines
-puts-registers s a b c k m o r failed first second =
-    puts-ended a c k o r (special_lines s ++ register_lines s) (octa_lines s octa_count) failed (puts-then a b c k m o r (special_lines s) (register_lines s) first second)
+writes-registers s a b c k m o outcome first second =
+    writes-ended a c k o outcome (special_lines s ++ register_lines s) (octa_lines s octa_count) (writes-then a b c k m o (Err outcome) (special_lines s) (register_lines s) first second)
 
-pub puts-memory : (s : State) (a b c d : Option HostModel) (k m o p : ℕ) (r : Result Bool NoMemory) → Puts a b k m (Ok true) (special_lines s) → Puts b c m o (Ok true) (register_lines s) →
-    Puts c d o p r (octa_lines s octa_count) → Puts a d k p r (dump_lines s)
+pub writes-memory : (s : State) (a b c d : Option HostModel) (k m o p : ℕ) (r : Result (Unit {0}) Outcome) → Writes a b k m (Ok tt) (special_lines s) → Writes b c m o (Ok tt) (register_lines s) →
+    Writes c d o p r (octa_lines s octa_count) → Writes a d k p r (dump_lines s)
 unfolding dump_lines
-puts-memory s a b c d k m o p r first second third =
-    puts-then a c d k o p r (special_lines s ++ register_lines s) (octa_lines s octa_count) (puts-then a b c k m o (Ok true) (special_lines s) (register_lines s) first second) third
+writes-memory s a b c d k m o p r first second third =
+    writes-then a c d k o p r (special_lines s ++ register_lines s) (octa_lines s octa_count) (writes-then a b c k m o (Ok tt) (special_lines s) (register_lines s) first second) third

@@ -7,7 +7,6 @@ pub mod PlainAnswers
 pub mod Pools
 pub mod SameDumps
 pub mod SessionRuns
-pub mod Sources
 pub mod StartedMachines
 pub mod Summed
 pub mod Told
@@ -16,4 +15,11 @@ pub mod Reported
 pub mod SharedDumps
 pub mod CountedProcessors
 pub mod TurnsTold
-pub mod TurnFronts
+pub mod WorkPlans
+pub mod PlainEnds
+pub mod MachinePlans
+pub mod WorkParts
+pub mod ProductEnds
+pub mod ProgramHeld
+pub mod Saying
+pub mod FewReports

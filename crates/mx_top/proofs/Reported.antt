@@ -1,7 +1,6 @@
 -- The reports that are written behind the message.
-use Rattle.std.proofs.Common.{◌≡◌, ◌<◌, ◌≤◌, ◌+◌, ℕ, Bool, true, false, cond, List, [], length, map, drop, get_or, refl, sym, ◌∙◌, ap, subst, Ok, Err}
+use Rattle.std.proofs.Common.{◌≡◌, ℕ, Bool, true, false, cond, List, [], map, refl, sym, ◌∙◌, ap, subst, Ok, Err}
 use Rattle.std.specs.Prelude.{IsTrue, Option, Result}
-use Rattle.std.proofs.lemmas.List.{at_drop_more, at_drop_all}
 use Rattle.mx_host.specs.HostModel.{HostModel, contents, slot_at, to_errors}
 use Rattle.mx_host.specs.Keeping.{Keeps, KeepsOutput}
 use Rattle.mx_run.specs.WildRuns.{MachineKind}
@@ -16,31 +15,16 @@ use Rattle.mx_files.specs.Messages.{message_of}
 use Rattle.mx_files.specs.declared.outcome.Outcome.{Outcome}
 use Rattle.mx_top.specs.Arguments.{Word}
 use Rattle.mx_top.specs.Product.{message_told, with_message, product}
-use Rattle.mx_top.specs.Reports.{UnlessWild, due_reports, report_put, reports_put, with_reports, watched_product}
+use Rattle.mx_top.specs.Reports.{UnlessWild, due_reports, reports_put, with_reports, watched_product}
 use Rattle.mx_top.proofs.MachineRuns.{goes-as}
 
 -- ---- the writes
-
-pub report-on : (texts : List (List ℕ)) (i : ℕ) (d x : List ℕ) (m n whole : HostModel) → i < length texts → x ≡ get_or texts i d → n ≡ report_put x m → reports_put (drop i texts) m ≡ whole →
-    reports_put (drop (i + 1) texts) n ≡ whole
-unfolding reports_put
-report-on texts i d x m n whole inside is e h = ap (reports_put (drop (i + 1) texts)) (e ∙ ap (λ y. report_put y m) is) ∙ sym (at_drop_more (λ xs. reports_put xs m) texts i d inside) ∙ h
-
-pub reports-over : (texts : List (List ℕ)) (i : ℕ) (m whole : HostModel) → length texts ≤ i → reports_put (drop i texts) m ≡ whole → m ≡ whole
-unfolding reports_put
-reports-over texts i m whole end h = sym (at_drop_all (λ xs. reports_put xs m) texts i end) ∙ h
 
 pub kept-on : (a b c : Option HostModel) (k l : ℕ) → Keeps a b k l → (slot_at (contents a) 260 ≡ to_errors → KeepsOutput a b) → (slot_at (contents b) 260 ≡ to_errors → KeepsOutput b c) →
     slot_at (contents a) 260 ≡ to_errors → KeepsOutput a c
 kept-on a b c k l keeps was put e = λ t. put (keeps.errors t e) (subst IsTrue (sym keeps.telling) t) ∙ was e t
 
-pub ruleset reporting = (report-on, reports-over, kept-on)
-
 -- ---- behind the message
-
-pub behind-message : (outcome told result : Outcome) (here mid new : HostModel) (texts : List (List ℕ)) → answered told mid ≡ message_told outcome (message_of outcome) here →
-    answered result new ≡ answered told (reports_put texts mid) → answered result new ≡ with_reports texts (message_told outcome (message_of outcome) here)
-behind-message outcome told result here mid new texts e said = said ∙ ap (with_reports texts) e
 
 pub reported : (outcome result : Outcome) (here new : HostModel) (due : Answer) (texts dues : List (List ℕ)) → answered outcome here ≡ due → texts ≡ dues →
     answered result new ≡ with_reports texts (message_told outcome (message_of outcome) here) → answered result new ≡ with_reports dues (with_message due)
@@ -61,7 +45,7 @@ no-text : (b : Bool) → ◌≡◌ {A = List (List ℕ)} (cond b [] []) []
 no-text true = refl
 no-text false = refl
 
-none-due : (kind : MachineKind) (words : List Word) (r : Result Order WordsFault) (m : HostModel) → due_reports kind words [] r m ≡ []
+pub none-due : (kind : MachineKind) (words : List Word) (r : Result Order WordsFault) (m : HostModel) → due_reports kind words [] r m ≡ []
 none-due kind words (Err fault) m = refl
 none-due kind words (Ok o) m = no-text o.report
 

@@ -1,9 +1,7 @@
 -- The octas of a memory by itself, as a dump has them; and the lines of several processors.
-use Rattle.std.proofs.Common.{◌≡◌, ◌≢◌, ◌≤◌, ◌<◌, ◌⊎◌, inl, inr, ℕ, ◌%◌, ◌^◌, ◌==◌, not, Bool, true, false, cond, List, [], ◌∷◌, ◌++◌, length, map, get_or, codes, decimal, Option, None, Some, Result, Ok, arith, refl, sym, ◌∙◌, ap, subst}
+use Rattle.std.proofs.Common.{◌≡◌, ℕ, ◌%◌, ◌^◌, Bool, true, false, cond, List, [], ◌∷◌, ◌++◌, length, map, get_or, codes, decimal, Option, None, Some, Ok, Err, arith, refl, sym, ◌∙◌, ap}
 use Rattle.std.specs.List.{flat_map, range_with_len}
 use Rattle.std.proofs.lemmas.List.{length-map}
-use Rattle.std.proofs.lemmas.Bool.{cases_lt}
-use Rattle.std.proofs.lemmas.Bool.Decides.{nat_tests}
 use Rattle.std.proofs.Math.ListN.{get_or-map}
 use Rattle.mx_core.specs.Bare.{Shared}
 use Rattle.mx_core.specs.Bounds.{as_list_state}
@@ -14,9 +12,9 @@ use Rattle.mx_host.specs.HostModel.{HostModel}
 use Rattle.mx_multi.specs.Joint.{Joint, as_list_joint, has_halted, no_processor, processor}
 use Rattle.mx_multi.specs.declared.end.MultiEnd.{MultiEnd}
 use Rattle.mx_ring.specs.Stack.{in_stack_area, register, stack_address}
-use Rattle.mx_word.specs.declared.no_memory.NoMemory.{NoMemory}
-use Rattle.mx_files.specs.Lines.{Puts}
-use Rattle.mx_files.proofs.PutLines.{puts-none, puts-then, puts-ended}
+use Rattle.std.specs.Prelude.{Result}
+use Rattle.mx_files.specs.declared.outcome.Outcome.{Outcome}
+use Rattle.mx_files.proofs.WrittenLines.{Writes, writes-none, writes-then, writes-ended}
 use Rattle.mx_top.specs.Dump.{Line, is_address_shown, octa_line}
 use Rattle.mx_top.specs.Processors.{stop_text, processor_line, processor_lines, memory_alone, memory_lines, memory_if, multi_lines}
 use Rattle.mx_top.specs.Shown.{AreHidden, IsNextShown}
@@ -79,19 +77,19 @@ pub lines-of : (end : MultiEnd) (j : Joint) (count : ℕ) → length j.processor
 unfolding processor_lines
 lines-of end j count e = ap (λ n. flat_map (processor_line end j) (range_with_len 0 n)) e
 
-pub puts-lines : (a b c : Option HostModel) (k m n : ℕ) (r : Result Bool NoMemory) (end : MultiEnd) (j : Joint) → Puts a b k m (Ok true) (processor_lines end j) →
-    Puts b c m n r (memory_lines j.memory) → Puts a c k n r (multi_lines true end j)
+pub writes-lines : (a b c : Option HostModel) (k m n : ℕ) (r : Result (Unit {0}) Outcome) (end : MultiEnd) (j : Joint) → Writes a b k m (Ok tt) (processor_lines end j) →
+    Writes b c m n r (memory_lines j.memory) → Writes a c k n r (multi_lines true end j)
 unfolding multi_lines
-puts-lines a b c k m n r end j first second = puts-then a b c k m n r (processor_lines end j) (memory_lines j.memory) first second
+writes-lines a b c k m n r end j first second = writes-then a b c k m n r (processor_lines end j) (memory_lines j.memory) first second
 
-pub puts-alone : (a b : Option HostModel) (k m : ℕ) (end : MultiEnd) (j : Joint) → Puts a b k m (Ok true) (processor_lines end j) → Puts a b k m (Ok true) (multi_lines false end j)
+pub writes-alone : (a b : Option HostModel) (k m : ℕ) (end : MultiEnd) (j : Joint) → Writes a b k m (Ok tt) (processor_lines end j) → Writes a b k m (Ok tt) (multi_lines false end j)
 unfolding multi_lines
-puts-alone a b k m end j first = puts-then a b b k m m (Ok true) (processor_lines end j) [] first (puts-none b m)
+writes-alone a b k m end j first = writes-then a b b k m m (Ok tt) (processor_lines end j) [] first (writes-none b m)
 
-pub puts-unended : (a b : Option HostModel) (k m : ℕ) (r : Result Bool NoMemory) (dump : Bool) (end : MultiEnd) (j : Joint) → r ≢ Ok true → Puts a b k m r (processor_lines end j) →
-    Puts a b k m r (multi_lines dump end j)
+pub writes-unended : (a b : Option HostModel) (k m : ℕ) (outcome : Outcome) (dump : Bool) (end : MultiEnd) (j : Joint) → Writes a b k m (Err outcome) (processor_lines end j) →
+    Writes a b k m (Err outcome) (multi_lines dump end j)
 unfolding multi_lines
-puts-unended a b k m r dump end j failed first = puts-ended a b k m r (processor_lines end j) (memory_if dump j.memory) failed first
+writes-unended a b k m outcome dump end j first = writes-ended a b k m outcome (processor_lines end j) (memory_if dump j.memory) first
 
 -- ---- those of lists are the same
 

@@ -1,39 +1,21 @@
 -- The summary of a generated program.
-use Rattle.std.proofs.Common.{◌≡◌, ℕ, [], ◌∷◌, refl}
+use Rattle.std.proofs.Common.{◌≡◌, ◌≢◌, ℕ, true, false, refl, sym, ◌∙◌}
+use Rattle.std.specs.Prelude.{Option}
+use Rattle.mx_host.specs.HostModel.{contents}
+use Rattle.mx_plan.specs.Calls.{host}
+use Rattle.mx_plan.specs.Clauses.{CarriesOut}
+use Rattle.mx_plan.specs.Plan.{returns}
+use Rattle.mx_plan.proofs.Plans.{end_returns}
+use Rattle.mx_files.specs.Answers.{answered}
+use Rattle.mx_top.specs.ProductPlan.{is_done, summed_plan}
 use Rattle.mx_host.specs.HostModel.{HostModel}
 use Rattle.mx_core.specs.Bounds.{as_list_state}
 use Rattle.mx_core.specs.State.{State}
 use Rattle.mx_core.proofs.Seen.{same-register}
-use Rattle.mx_ring.specs.Stack.{register}
-use Rattle.mx_word.specs.Lists.{IsFront}
-use Rattle.mx_word.proofs.Fronts.{front-self}
-use Rattle.mx_files.specs.Answers.{output_of}
-use Rattle.law_gen.specs.Generator.{summary}
-use Rattle.mx_files.specs.Lines.{lines_put}
 use Rattle.mx_top.specs.Product.{summary_put, summed}
 use Rattle.mx_top.specs.Runs.{ran}
 use Rattle.mx_files.specs.declared.outcome.Outcome.{Outcome}
 use Rattle.mx_files.specs.declared.outcome.Outcome.TheVariants.{Done, Usage, NoFile, HostFault, Refused, BadObject, BadSchedule, Stopped, StepsSpent, Quit, ConsoleLimit, OutOfMemory}
-use Rattle.mx_files.proofs.PutLines.{lines-front, after_lines-front}
-
-pub summary-front : (blocks size : ℕ) (s : State) (m : HostModel) → IsFront m.output (output_of (summary_put blocks size s m))
-summary-front blocks size s m =
-    let line = summary blocks size s.steps (register s.stack 255) in
-    after_lines-front (Done 0) m (lines_put (line ∷ []) m) (lines-front (line ∷ []) m)
-
-pub summed-front : (blocks size : ℕ) (outcome : Outcome) (s : State) (m : HostModel) → IsFront m.output (output_of (summed blocks size (ran outcome s m)))
-summed-front blocks size (Done status) s m = summary-front blocks size s m
-summed-front blocks size (Usage fault) s m = front-self m.output
-summed-front blocks size NoFile s m = front-self m.output
-summed-front blocks size HostFault s m = front-self m.output
-summed-front blocks size (Refused line fault from_line) s m = front-self m.output
-summed-front blocks size (BadObject place fault) s m = front-self m.output
-summed-front blocks size (BadSchedule place) s m = front-self m.output
-summed-front blocks size (Stopped pc reason) s m = front-self m.output
-summed-front blocks size (StepsSpent steps) s m = front-self m.output
-summed-front blocks size Quit s m = front-self m.output
-summed-front blocks size ConsoleLimit s m = front-self m.output
-summed-front blocks size OutOfMemory s m = front-self m.output
 
 -- that of the list is the same
 pub summed-listed : (blocks size : ℕ) (outcome : Outcome) (s : State) (m : HostModel) → summed blocks size (ran outcome (as_list_state s) m) ≡ summed blocks size (ran outcome s m)
@@ -50,4 +32,70 @@ summed-listed blocks size Quit s m = refl
 summed-listed blocks size ConsoleLimit s m = refl
 summed-listed blocks size OutOfMemory s m = refl
 
-pub ruleset summing = (summary-front, summed-front, summed-listed)
+-- ---- as plans
+
+undone-plan : (blocks size : ℕ) (outcome : Outcome) (s : State) → is_done outcome ≡ false → summed_plan blocks size outcome s ≡ returns outcome
+undone-plan blocks size (Done status) s e = absurd (cc)
+undone-plan blocks size (Usage fault) s e = refl
+undone-plan blocks size NoFile s e = refl
+undone-plan blocks size HostFault s e = refl
+undone-plan blocks size (Refused line fault from_line) s e = refl
+undone-plan blocks size (BadObject place fault) s e = refl
+undone-plan blocks size (BadSchedule place) s e = refl
+undone-plan blocks size (Stopped pc reason) s e = refl
+undone-plan blocks size (StepsSpent steps) s e = refl
+undone-plan blocks size Quit s e = refl
+undone-plan blocks size ConsoleLimit s e = refl
+undone-plan blocks size OutOfMemory s e = refl
+
+undone-answer : (blocks size : ℕ) (outcome : Outcome) (s : State) (m : HostModel) → is_done outcome ≡ false → answered outcome m ≡ summed blocks size (ran outcome s m)
+undone-answer blocks size (Done status) s m e = absurd (cc)
+undone-answer blocks size (Usage fault) s m e = refl
+undone-answer blocks size NoFile s m e = refl
+undone-answer blocks size HostFault s m e = refl
+undone-answer blocks size (Refused line fault from_line) s m e = refl
+undone-answer blocks size (BadObject place fault) s m e = refl
+undone-answer blocks size (BadSchedule place) s m e = refl
+undone-answer blocks size (Stopped pc reason) s m e = refl
+undone-answer blocks size (StepsSpent steps) s m e = refl
+undone-answer blocks size Quit s m e = refl
+undone-answer blocks size ConsoleLimit s m e = refl
+undone-answer blocks size OutOfMemory s m e = refl
+
+pub unsummed-plan : (a : Option HostModel) (blocks size : ℕ) (outcome : Outcome) (s : State) → is_done outcome ≡ false → outcome ≢ OutOfMemory → CarriesOut a a OutOfMemory outcome (summed_plan blocks size outcome s)
+unsummed-plan a blocks size outcome s e ne = λ t.
+    rw (undone-plan blocks size outcome s e) (record { ending = λ no. sym (end_returns host outcome (contents a)); stopping = λ o. absurd (ne o) })
+
+pub unsummed-list : (blocks size : ℕ) (outcome : Outcome) (s : State) (m : HostModel) → is_done outcome ≡ false → answered outcome m ≡ summed blocks size (ran outcome (as_list_state s) m)
+unsummed-list blocks size outcome s m e = undone-answer blocks size outcome (as_list_state s) m e
+
+pub done-plan : (a b : Option HostModel) (r : Outcome) (blocks size : ℕ) (outcome : Outcome) (s : State) → is_done outcome ≡ true → CarriesOut a b OutOfMemory r (summed_plan blocks size (Done 0) s) → CarriesOut a b OutOfMemory r (summed_plan blocks size outcome s)
+done-plan a b r blocks size (Done status) s e h = h
+done-plan a b r blocks size (Usage fault) s e h = absurd (cc)
+done-plan a b r blocks size NoFile s e h = absurd (cc)
+done-plan a b r blocks size HostFault s e h = absurd (cc)
+done-plan a b r blocks size (Refused line fault from_line) s e h = absurd (cc)
+done-plan a b r blocks size (BadObject place fault) s e h = absurd (cc)
+done-plan a b r blocks size (BadSchedule place) s e h = absurd (cc)
+done-plan a b r blocks size (Stopped pc reason) s e h = absurd (cc)
+done-plan a b r blocks size (StepsSpent steps) s e h = absurd (cc)
+done-plan a b r blocks size Quit s e h = absurd (cc)
+done-plan a b r blocks size ConsoleLimit s e h = absurd (cc)
+done-plan a b r blocks size OutOfMemory s e h = absurd (cc)
+
+done-answer : (blocks size : ℕ) (outcome : Outcome) (s : State) (m : HostModel) → is_done outcome ≡ true → summary_put blocks size s m ≡ summed blocks size (ran outcome s m)
+done-answer blocks size (Done status) s m e = refl
+done-answer blocks size (Usage fault) s m e = absurd (cc)
+done-answer blocks size NoFile s m e = absurd (cc)
+done-answer blocks size HostFault s m e = absurd (cc)
+done-answer blocks size (Refused line fault from_line) s m e = absurd (cc)
+done-answer blocks size (BadObject place fault) s m e = absurd (cc)
+done-answer blocks size (BadSchedule place) s m e = absurd (cc)
+done-answer blocks size (Stopped pc reason) s m e = absurd (cc)
+done-answer blocks size (StepsSpent steps) s m e = absurd (cc)
+done-answer blocks size Quit s m e = absurd (cc)
+done-answer blocks size ConsoleLimit s m e = absurd (cc)
+done-answer blocks size OutOfMemory s m e = absurd (cc)
+
+pub done-list : (blocks size : ℕ) (outcome : Outcome) (s : State) (m : HostModel) → is_done outcome ≡ true → summary_put blocks size s m ≡ summed blocks size (ran outcome (as_list_state s) m)
+done-list blocks size outcome s m e = done-answer blocks size outcome s m e ∙ sym (summed-listed blocks size outcome s m)

@@ -1,15 +1,14 @@
 -- The message that follows an outcome.
-use Rattle.std.proofs.Common.{◌≡◌, ◌≢◌, ◌⊎◌, inl, inr, ℕ, List, [], ◌∷◌, refl, ap, ◌∙◌, subst}
+use Rattle.std.proofs.Common.{◌≡◌, ◌≢◌, ◌⊎◌, inl, inr, ℕ, List, [], ◌∷◌, refl, subst}
 use Rattle.mx_host.proofs.Output.{write-front}
 use Rattle.mx_host.specs.HostModel.{HostModel}
 use Rattle.mx_word.specs.Lists.{IsFront}
 use Rattle.mx_word.proofs.Fronts.{front-self, front-through}
-use Rattle.mx_files.specs.Answers.{Answer, answered, wild, output_of, GoesAs}
+use Rattle.mx_files.specs.Answers.{Answer, answered, wild, output_of}
 use Rattle.mx_files.specs.Messages.{message_of}
 use Rattle.mx_top.specs.Product.{message_told, with_message}
 use Rattle.mx_files.specs.declared.outcome.Outcome.{Outcome}
 use Rattle.mx_files.specs.declared.outcome.Outcome.TheVariants.{Done, Usage, NoFile, HostFault, Refused, BadObject, BadSchedule, Stopped, StepsSpent, Quit, ConsoleLimit, OutOfMemory}
-use Rattle.mx_top.proofs.MachineRuns.{goes-as}
 
 told-front : (outcome : Outcome) (text : List ℕ) (m : HostModel) → IsFront m.output (output_of (message_told outcome text m))
 told-front outcome [] m = front-self m.output
@@ -19,18 +18,8 @@ message-front : (due : Answer) → IsFront (output_of due) (output_of (with_mess
 message-front (answered outcome m) = told-front outcome (message_of outcome) m
 message-front (wild m) = front-self m.output
 
--- the outcome with its message
-pub spoken : (outcome result : Outcome) (here new : HostModel) (due : Answer) → answered outcome here ≡ due → answered result new ≡ message_told outcome (message_of outcome) here →
-    answered result new ≡ with_message due
-spoken outcome result here new due e said = said ∙ ap with_message e
-
-pub spoken-goes : (outcome result : Outcome) (here new : HostModel) (due : Answer) → GoesAs due outcome here → answered result new ≡ message_told outcome (message_of outcome) here →
-    IsFront here.output new.output → GoesAs (with_message due) result new
-spoken-goes outcome result here new (answered o m) e said grows =
-    goes-as (with_message (answered o m)) result new (said ∙ ap (λ o. message_told o (message_of o) here) e.0 ∙ ap (λ n. message_told o (message_of o) n) e.1)
-spoken-goes outcome result here new (wild m) e said grows = front-through m.output here.output new.output e grows
-
-wanting : (outcome : Outcome) → (outcome ≡ OutOfMemory) ⊎ (outcome ≢ OutOfMemory)
+-- whether there was memory
+pub wanting : (outcome : Outcome) → (outcome ≡ OutOfMemory) ⊎ (outcome ≢ OutOfMemory)
 wanting OutOfMemory = inl refl
 wanting (Done b) = inr (λ e. cc)
 wanting (Usage fault) = inr (λ e. cc)
@@ -52,5 +41,3 @@ spoken-front outcome here due same front = on (wanting outcome)
     on : (outcome ≡ OutOfMemory) ⊎ (outcome ≢ OutOfMemory) → IsFront here.output (output_of (with_message due))
     on (inl e) = front-through here.output (output_of due) (output_of (with_message due)) (front e) (message-front due)
     on (inr ne) = subst (λ (a : Answer). IsFront here.output (output_of (with_message a))) (same ne) (message-front (answered outcome here))
-
-pub ruleset telling_messages = (spoken)

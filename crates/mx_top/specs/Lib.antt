@@ -6,3 +6,6 @@ pub mod Runs
 pub mod Processors
 pub mod Product
 pub mod Reports
+pub mod ProgramCalls
+pub mod ProductPlan
+pub mod WorkClauses

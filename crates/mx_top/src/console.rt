@@ -5,10 +5,12 @@ ghost use Rattle.mx_core.specs.Bounds.{as_list_state};
 ghost use Rattle.mx_core.specs.Kept.{state_of};
 ghost use Rattle.mx_host.specs.Keeping.{ComesByFault, Keeps};
 ghost use Rattle.mx_run.specs.WildRuns.{window_machine, list_machine};
-ghost use Rattle.mx_files.specs.Answers.{AnswersAs, AnswersAsList, WritesFrontOf, is_usage};
+ghost use Rattle.mx_files.specs.Answers.{AnswersAs, AnswersAsList, is_usage};
 ghost use Rattle.mx_top.specs.Runs as spec;
+ghost use Rattle.mx_top.specs.ProductPlan as plans;
+ghost use Rattle.mx_top.specs.WorkClauses.{CarriesOutWork};
 
-use crate::run::tell_end;
+use crate::ending::tell_end;
 use mx_con::{SessionEnd, session};
 use mx_core::Machine;
 use mx_files::Outcome;
@@ -39,15 +41,13 @@ fn session_outcome(steps: u64, end: SessionEnd) -> Outcome
 /// Lets the user run a machine that was started, in a session of the console.
 pub fn run_session<H: Host>(alloc: Global, host: &mut H, order: &Order, machine: Machine) -> Outcome
     requires { (state_of machine).touched ≡ false }
-    ensures told { AnswersAs (H.told host.old) (H.told host.new) result
-        (λ m. spec.dumped order.now.dump (spec.session_ran window_machine order.now.steps (state_of machine) m)) }
+    ensures plan { CarriesOutWork (H.told host.old) (H.told host.new) result
+        (plans.session_played order.now (state_of machine)) }
     ensures listed { AnswersAsList (H.told host.old) (H.told host.new) result
         (λ m. spec.dumped order.now.dump
         (spec.session_ran list_machine order.now.steps (as_list_state (state_of machine)) m)) }
-    ensures front { WritesFrontOf (H.told host.old) (H.told host.new) result
-        (λ m. spec.dumped order.now.dump (spec.session_ran window_machine order.now.steps (state_of machine) m)) }
     ensures rose { ComesByFault (H.told host.old) Outcome.HostFault result (H.faults host.old) (H.faults host.new) }
-    ensures present { result ≢ Outcome.NoFile }
+    ensures no_file { ComesByFault (H.told host.old) Outcome.NoFile result (H.faults host.old) (H.faults host.new) }
     ensures words { is_usage result ≡ false }
     ensures keeps { Keeps (H.told host.old) (H.told host.new) (H.faults host.old) (H.faults host.new) }
 {

@@ -1,21 +1,18 @@
 //! The dump, line by line.
 
-ghost use Rattle.std.specs.Prelude.{IsTrue, ◌≡◌, ◌≢◌, ◌<◌, ◌≤◌, ◌^◌, ◌++◌, ◌∷◌, [], Ok, false, IfOk, OnErr, codes};
-ghost use Rattle.std.specs.Prelude.{decimal};
+ghost use Rattle.std.specs.Prelude.{◌≡◌, ◌<◌, ◌^◌, ◌∷◌, [], IfOk};
 ghost use Rattle.mx_core.specs.Kept.{state_of};
 ghost use Rattle.mx_core.specs.Search.{IsNextBetween};
 ghost use Rattle.mx_core.specs.State.{octa};
-ghost use Rattle.mx_host.specs.HostModel.{tells, contents};
-ghost use Rattle.mx_host.specs.Keeping.{ComesByFault, Keeps};
+ghost use Rattle.mx_files.specs.Clauses.{Works};
+ghost use Rattle.mx_files.specs.FilePlans.{lines_plan};
 ghost use Rattle.mx_ring.specs.Stack.{in_stack_area};
-ghost use Rattle.mx_word.specs.Lists.{IsFront};
 ghost use Rattle.mx_top.specs.Dump as spec;
-ghost use Rattle.mx_files.specs.Lines.{Puts, lines_put};
 ghost use Rattle.mx_top.specs.Shown.{IsNextShown, shown_octa};
 
 use mx_cmd::special_name;
 use mx_core::Machine;
-use mx_files::{add_decimal, put_line};
+use mx_files::{Outcome, add_decimal, write_line};
 use mx_host::Host;
 use mx_text::octa_hex;
 use mx_word::{Bytes, NoMemory};
@@ -64,31 +61,32 @@ fn put_special<H: Host>(
     host: &mut H,
     machine: &Machine,
     code: u8,
-) -> Result<bool, NoMemory>
+) -> Result<(), Outcome>
     requires { code < 32 }
-    ensures { Puts (H.told host.old) (H.told host.new) (H.faults host.old) (H.faults host.new) result
-        (spec.special_line (state_of machine.now) code) }
+    ensures { Works (H.told host.old) (H.told host.new) (H.faults host.old) (H.faults host.new) result
+        (lines_plan (spec.special_line (state_of machine.now) code)) }
 {
     if !is_special_shown(machine, code) {
-        return Ok(true);
+        return Ok(());
     }
-    let line = special_text(alloc, machine, code)?;
-    put_line(host, line.as_slice())
+    match special_text(alloc, machine, code) {
+        Ok(line) => write_line(host, line.as_slice()),
+        Err(_) => Err(Outcome::OutOfMemory),
+    }
 }
 
 /// Writes the lines of the special registers.
-fn put_specials<H: Host>(alloc: Global, host: &mut H, machine: &Machine) -> Result<bool, NoMemory>
-    ensures { Puts (H.told host.old) (H.told host.new) (H.faults host.old) (H.faults host.new) result
-        (spec.special_lines (state_of machine.now)) }
+fn put_specials<H: Host>(alloc: Global, host: &mut H, machine: &Machine) -> Result<(), Outcome>
+    ensures { Works (H.told host.old) (H.told host.new) (H.faults host.old) (H.faults host.new) result
+        (lines_plan (spec.special_lines (state_of machine.now))) }
 {
     for code in 0..32u8 {
         match put_special(alloc, host, machine, code) {
-            Ok(true) => {}
-            Ok(false) => return Ok(false),
-            Err(fault) => return Err(fault),
+            Ok(()) => {}
+            Err(outcome) => return Err(outcome),
         }
     }
-    Ok(true)
+    Ok(())
 }
 
 /// Whether a register is local or global.
@@ -113,30 +111,31 @@ fn put_register<H: Host>(
     host: &mut H,
     machine: &Machine,
     k: u8,
-) -> Result<bool, NoMemory>
-    ensures { Puts (H.told host.old) (H.told host.new) (H.faults host.old) (H.faults host.new) result
-        (spec.register_line (state_of machine.now) k) }
+) -> Result<(), Outcome>
+    ensures { Works (H.told host.old) (H.told host.new) (H.faults host.old) (H.faults host.new) result
+        (lines_plan (spec.register_line (state_of machine.now) k)) }
 {
     if !is_register_shown(machine, k) {
-        return Ok(true);
+        return Ok(());
     }
-    let line = register_text(alloc, machine, k)?;
-    put_line(host, line.as_slice())
+    match register_text(alloc, machine, k) {
+        Ok(line) => write_line(host, line.as_slice()),
+        Err(_) => Err(Outcome::OutOfMemory),
+    }
 }
 
 /// Writes the lines of the registers.
-fn put_registers<H: Host>(alloc: Global, host: &mut H, machine: &Machine) -> Result<bool, NoMemory>
-    ensures { Puts (H.told host.old) (H.told host.new) (H.faults host.old) (H.faults host.new) result
-        (spec.register_lines (state_of machine.now)) }
+fn put_registers<H: Host>(alloc: Global, host: &mut H, machine: &Machine) -> Result<(), Outcome>
+    ensures { Works (H.told host.old) (H.told host.new) (H.faults host.old) (H.faults host.new) result
+        (lines_plan (spec.register_lines (state_of machine.now))) }
 {
     for k in 0..256u16 {
         match put_register(alloc, host, machine, k as u8) {
-            Ok(true) => {}
-            Ok(false) => return Ok(false),
-            Err(fault) => return Err(fault),
+            Ok(()) => {}
+            Err(outcome) => return Err(outcome),
         }
     }
-    Ok(true)
+    Ok(())
 }
 
 /// The line of an octa.
@@ -149,12 +148,14 @@ fn octa_text(alloc: Global, a: u64, x: u64) -> Result<Bytes, NoMemory>
 }
 
 /// Writes the line of an octa.
-pub fn put_octa<H: Host>(alloc: Global, host: &mut H, a: u64, x: u64) -> Result<bool, NoMemory>
-    ensures { Puts (H.told host.old) (H.told host.new) (H.faults host.old) (H.faults host.new) result
-        (shown_octa a x ∷ []) }
+pub fn put_octa<H: Host>(alloc: Global, host: &mut H, a: u64, x: u64) -> Result<(), Outcome>
+    ensures { Works (H.told host.old) (H.told host.new) (H.faults host.old) (H.faults host.new) result
+        (lines_plan (shown_octa a x ∷ [])) }
 {
-    let line = octa_text(alloc, a, x)?;
-    put_line(host, line.as_slice())
+    match octa_text(alloc, a, x) {
+        Ok(line) => write_line(host, line.as_slice()),
+        Err(_) => Err(Outcome::OutOfMemory),
+    }
 }
 
 /// Whether an address lies in the stack area.
@@ -202,51 +203,34 @@ fn next_shown(machine: &Machine, from: u64) -> Option<(u64, u64)>
 }
 
 /// Writes the lines of the octas that are shown.
-fn put_octas<H: Host>(alloc: Global, host: &mut H, machine: &Machine) -> Result<bool, NoMemory>
-    ensures { Puts (H.told host.old) (H.told host.new) (H.faults host.old) (H.faults host.new) result
-        (spec.octa_lines (state_of machine.now) spec.octa_count) }
+fn put_octas<H: Host>(alloc: Global, host: &mut H, machine: &Machine) -> Result<(), Outcome>
+    ensures { Works (H.told host.old) (H.told host.new) (H.faults host.old) (H.faults host.new) result
+        (lines_plan (spec.octa_lines (state_of machine.now) spec.octa_count)) }
 {
     let mut from = 0u64;
     while let Some((a, x)) = next_shown(machine, from) {
         match put_octa(alloc, host, a, x) {
-            Ok(true) => {}
-            Ok(false) => return Ok(false),
-            Err(fault) => return Err(fault),
+            Ok(()) => {}
+            Err(outcome) => return Err(outcome),
         }
         from = a + 8;
     }
-    Ok(true)
+    Ok(())
 }
 
-/// Writes the dump of a machine to the tool's standard output, up to a line that is not written, and
-/// says whether all were.
-pub fn dump<H: Host>(alloc: Global, host: &mut H, machine: &Machine) -> Result<bool, NoMemory>
-    ensures told { IsTrue (tells (H.told host.old)) →
-        IfOk result (λ written. (written, contents (H.told host.new))
-        ≡ lines_put (spec.dump_lines (state_of machine.now)) (contents (H.told host.old))) }
-    ensures memory { IsTrue (tells (H.told host.old)) →
-        OnErr result (IsFront (contents (H.told host.new)).output
-        (lines_put (spec.dump_lines (state_of machine.now)) (contents (H.told host.old))).1.output) }
-    ensures rose { ComesByFault (H.told host.old) (Ok false) result (H.faults host.old) (H.faults host.new) }
-    ensures keeps { Keeps (H.told host.old) (H.told host.new) (H.faults host.old) (H.faults host.new) }
-{
-    put_all(alloc, host, machine)
-}
-
-/// Writes the special registers, the registers and memory.
-fn put_all<H: Host>(alloc: Global, host: &mut H, machine: &Machine) -> Result<bool, NoMemory>
-    ensures { Puts (H.told host.old) (H.told host.new) (H.faults host.old) (H.faults host.new) result
-        (spec.dump_lines (state_of machine.now)) }
+/// Writes the dump of a machine to the tool's standard output, up to a line that is not written: the special registers,
+/// the registers and memory.
+pub fn dump<H: Host>(alloc: Global, host: &mut H, machine: &Machine) -> Result<(), Outcome>
+    ensures { Works (H.told host.old) (H.told host.new) (H.faults host.old) (H.faults host.new) result
+        (lines_plan (spec.dump_lines (state_of machine.now))) }
 {
     match put_specials(alloc, host, machine) {
-        Ok(true) => {}
-        Ok(false) => return Ok(false),
-        Err(fault) => return Err(fault),
+        Ok(()) => {}
+        Err(outcome) => return Err(outcome),
     }
     match put_registers(alloc, host, machine) {
-        Ok(true) => {}
-        Ok(false) => return Ok(false),
-        Err(fault) => return Err(fault),
+        Ok(()) => {}
+        Err(outcome) => return Err(outcome),
     }
     put_octas(alloc, host, machine)
 }

@@ -8,15 +8,18 @@ ghost use Rattle.mx_host.specs.Keeping.{ComesByFault, Keeps};
 ghost use Rattle.mx_load.specs.Kept.{image_of};
 ghost use Rattle.mx_ring.specs.Stack.{stack_address};
 ghost use Rattle.mx_run.specs.WildRuns.{window_machine, list_machine};
-ghost use Rattle.mx_files.specs.Answers.{AnswersAs, AnswersAsList, WritesFrontOf, is_usage};
+ghost use Rattle.mx_files.specs.Answers.{AnswersAs, AnswersAsList, is_usage};
 ghost use Rattle.law_gen.specs.Generator as generator;
 ghost use Rattle.mx_top.specs.Product as spec;
 ghost use Rattle.mx_top.specs.Runs.{ran};
+ghost use Rattle.mx_top.specs.ProductPlan as plans;
+ghost use Rattle.mx_top.specs.WorkClauses.{CarriesOutWork};
+ghost use Rattle.mx_plan.specs.Clauses.{CarriesOut};
 
 use crate::generator::{generated, summary};
 use crate::run::{outcome_of, start};
 use mx_core::Machine;
-use mx_files::{Outcome, SourceFault, load_source, put_line};
+use mx_files::{Outcome, SourceFault, load_source, write_line};
 use mx_host::Host;
 use mx_load::Image;
 use mx_run::Runner;
@@ -28,7 +31,6 @@ use std::alloc::Global;
 const STEP_BOUND: u64 = 1 << 26;
 
 /// Writes the line that tells what came of a program that halted.
-#[tactic(auto, using(crate::proofs::Summed::summing))]
 fn put_summary<H: Host>(
     alloc: Global,
     host: &mut H,
@@ -36,12 +38,12 @@ fn put_summary<H: Host>(
     size: u64,
     machine: &Machine,
 ) -> Outcome
+    ensures plan { CarriesOut (H.told host.old) (H.told host.new) Outcome.OutOfMemory result
+        (plans.summed_plan blocks size (Outcome.Done 0) (state_of machine.now)) }
     ensures told { AnswersAs (H.told host.old) (H.told host.new) result
         (λ m. spec.summary_put blocks size (state_of machine.now) m) }
-    ensures front { WritesFrontOf (H.told host.old) (H.told host.new) result
-        (λ m. spec.summary_put blocks size (state_of machine.now) m) }
     ensures rose { ComesByFault (H.told host.old) Outcome.HostFault result (H.faults host.old) (H.faults host.new) }
-    ensures present { result ≢ Outcome.NoFile }
+    ensures no_file { ComesByFault (H.told host.old) Outcome.NoFile result (H.faults host.old) (H.faults host.new) }
     ensures words { is_usage result ≡ false }
     ensures keeps { Keeps (H.told host.old) (H.told host.new) (H.faults host.old) (H.faults host.new) }
 {
@@ -49,15 +51,20 @@ fn put_summary<H: Host>(
         Ok(line) => line,
         Err(_) => return Outcome::OutOfMemory,
     };
-    match put_line(host, line.as_slice()) {
-        Ok(true) => Outcome::Done(0),
-        Ok(false) => Outcome::HostFault,
-        Err(_) => Outcome::OutOfMemory,
+    match write_line(host, line.as_slice()) {
+        Ok(()) => Outcome::Done(0),
+        Err(other) => other,
     }
 }
 
+/// Whether a program halted.
+fn is_done(outcome: Outcome) -> bool
+    ensures { result ≡ plans.is_done outcome }
+{
+    matches!(outcome, Outcome::Done(_))
+}
+
 /// What follows the run of a generated program: its summary, where it halted.
-#[tactic(auto, using(crate::proofs::Summed::summing))]
 fn sum_up<H: Host>(
     alloc: Global,
     host: &mut H,
@@ -70,21 +77,20 @@ fn sum_up<H: Host>(
     requires present { outcome ≢ Outcome.NoFile }
     requires words { is_usage outcome ≡ false }
     ensures memory { outcome ≡ Outcome.OutOfMemory → (result ≡ Outcome.OutOfMemory) × (host.new ≡ host.old) }
-    ensures told { AnswersAs (H.told host.old) (H.told host.new) result
-        (λ m. spec.summed blocks size (ran outcome (state_of machine.now) m)) }
+    ensures plan { outcome ≢ Outcome.OutOfMemory →
+        CarriesOut (H.told host.old) (H.told host.new) Outcome.OutOfMemory result
+        (plans.summed_plan blocks size outcome (state_of machine.now)) }
     ensures list { (state_of machine.now).touched ≡ false → AnswersAs (H.told host.old) (H.told host.new) result
         (λ m. spec.summed blocks size (ran outcome (as_list_state (state_of machine.now)) m)) }
-    ensures front { WritesFrontOf (H.told host.old) (H.told host.new) result
-        (λ m. spec.summed blocks size (ran outcome (state_of machine.now) m)) }
     ensures rose { ComesByFault (H.told host.old) Outcome.HostFault result (H.faults host.old) (H.faults host.new) }
-    ensures present { result ≢ Outcome.NoFile }
+    ensures no_file { ComesByFault (H.told host.old) Outcome.NoFile result (H.faults host.old) (H.faults host.new) }
     ensures words { is_usage result ≡ false }
     ensures keeps { Keeps (H.told host.old) (H.told host.new) (H.faults host.old) (H.faults host.new) }
 {
-    match outcome {
-        Outcome::Done(_) => put_summary(alloc, host, blocks, size, machine),
-        _ => outcome,
+    if !is_done(outcome) {
+        return outcome;
     }
+    put_summary(alloc, host, blocks, size, machine)
 }
 
 /// Runs a generated program that was started.
@@ -96,14 +102,12 @@ fn run_summed<H: Host>(
     machine: Machine,
 ) -> Outcome
     requires { (state_of machine).touched ≡ false }
-    ensures told { AnswersAs (H.told host.old) (H.told host.new) result
-        (λ m. spec.summed_from window_machine blocks size (Ok (state_of machine)) m) }
+    ensures plan { CarriesOutWork (H.told host.old) (H.told host.new) result
+        (plans.summed_run blocks size (state_of machine)) }
     ensures listed { AnswersAsList (H.told host.old) (H.told host.new) result
         (λ m. spec.summed_from list_machine blocks size (Ok (as_list_state (state_of machine))) m) }
-    ensures front { WritesFrontOf (H.told host.old) (H.told host.new) result
-        (λ m. spec.summed_from window_machine blocks size (Ok (state_of machine)) m) }
     ensures rose { ComesByFault (H.told host.old) Outcome.HostFault result (H.faults host.old) (H.faults host.new) }
-    ensures present { result ≢ Outcome.NoFile }
+    ensures no_file { ComesByFault (H.told host.old) Outcome.NoFile result (H.faults host.old) (H.faults host.new) }
     ensures words { is_usage result ≡ false }
     ensures keeps { Keeps (H.told host.old) (H.told host.new) (H.faults host.old) (H.faults host.new) }
 {
@@ -131,7 +135,6 @@ fn generator_arguments(alloc: Global) -> Result<Vec<Bytes>, NoMemory>
 }
 
 /// Runs the image of a generated program of this size.
-#[tactic(auto, using(crate::proofs::Sources::fronts))]
 fn run_generated<H: Host>(
     alloc: Global,
     host: &mut H,
@@ -139,14 +142,12 @@ fn run_generated<H: Host>(
     size: u64,
     image: Image,
 ) -> Outcome
-    ensures told { AnswersAs (H.told host.old) (H.told host.new) result
-        (λ m. spec.generated_run window_machine order.now size (Ok (image_of image)) m) }
+    ensures plan { CarriesOutWork (H.told host.old) (H.told host.new) result
+        (plans.generated_meaning order.now size (Ok (image_of image))) }
     ensures listed { AnswersAsList (H.told host.old) (H.told host.new) result
         (λ m. spec.generated_run list_machine order.now size (Ok (image_of image)) m) }
-    ensures front { WritesFrontOf (H.told host.old) (H.told host.new) result
-        (λ m. spec.generated_run window_machine order.now size (Ok (image_of image)) m) }
     ensures rose { ComesByFault (H.told host.old) Outcome.HostFault result (H.faults host.old) (H.faults host.new) }
-    ensures present { result ≢ Outcome.NoFile }
+    ensures no_file { ComesByFault (H.told host.old) Outcome.NoFile result (H.faults host.old) (H.faults host.new) }
     ensures words { is_usage result ≡ false }
     ensures keeps { Keeps (H.told host.old) (H.told host.new) (H.faults host.old) (H.faults host.new) }
 {
@@ -161,16 +162,13 @@ fn run_generated<H: Host>(
 }
 
 /// Runs a source that was generated.
-#[tactic(auto, using(crate::proofs::Sources::fronts))]
 fn run_text<H: Host>(alloc: Global, host: &mut H, order: &Order, text: &[u8]) -> Outcome
-    ensures told { AnswersAs (H.told host.old) (H.told host.new) result
-        (λ m. spec.source_generated window_machine order.now text.now m) }
+    ensures plan { CarriesOutWork (H.told host.old) (H.told host.new) result
+        (plans.generated_plan order.now text.now) }
     ensures listed { AnswersAsList (H.told host.old) (H.told host.new) result
         (λ m. spec.source_generated list_machine order.now text.now m) }
-    ensures front { WritesFrontOf (H.told host.old) (H.told host.new) result
-        (λ m. spec.source_generated window_machine order.now text.now m) }
     ensures rose { ComesByFault (H.told host.old) Outcome.HostFault result (H.faults host.old) (H.faults host.new) }
-    ensures present { result ≢ Outcome.NoFile }
+    ensures no_file { ComesByFault (H.told host.old) Outcome.NoFile result (H.faults host.old) (H.faults host.new) }
     ensures words { is_usage result ≡ false }
     ensures keeps { Keeps (H.told host.old) (H.told host.new) (H.faults host.old) (H.faults host.new) }
 {
@@ -182,17 +180,14 @@ fn run_text<H: Host>(alloc: Global, host: &mut H, order: &Order, text: &[u8]) ->
 }
 
 /// Generates a source with as many blocks as are ordered, runs it, and writes what came of it.
-#[tactic(auto, using(crate::proofs::Sources::fronts))]
 pub fn generate<H: Host>(alloc: Global, host: &mut H, order: &Order) -> Outcome
     requires { order.now.number ≤ 10000 }
-    ensures told { AnswersAs (H.told host.old) (H.told host.new) result
-        (λ m. spec.source_generated window_machine order.now (generator.generated order.now.number) m) }
+    ensures plan { CarriesOutWork (H.told host.old) (H.told host.new) result
+        (plans.taking (plans.generated_plan order.now (generator.generated order.now.number))) }
     ensures listed { AnswersAsList (H.told host.old) (H.told host.new) result
         (λ m. spec.source_generated list_machine order.now (generator.generated order.now.number) m) }
-    ensures front { WritesFrontOf (H.told host.old) (H.told host.new) result
-        (λ m. spec.source_generated window_machine order.now (generator.generated order.now.number) m) }
     ensures rose { ComesByFault (H.told host.old) Outcome.HostFault result (H.faults host.old) (H.faults host.new) }
-    ensures present { result ≢ Outcome.NoFile }
+    ensures no_file { ComesByFault (H.told host.old) Outcome.NoFile result (H.faults host.old) (H.faults host.new) }
     ensures words { is_usage result ≡ false }
     ensures keeps { Keeps (H.told host.old) (H.told host.new) (H.faults host.old) (H.faults host.new) }
 {

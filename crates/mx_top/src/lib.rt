@@ -4,8 +4,10 @@
 mod arguments;
 mod console;
 mod dump;
+mod ending;
 mod generation;
 mod generator;
+mod laws;
 mod objects;
 mod processors;
 mod reports;
@@ -13,5 +15,6 @@ mod run;
 mod schedules;
 mod top;
 
+pub use laws::work_is_its_plan;
 pub use mx_files::{Outcome, fault_name, usage_name};
 pub use top::{mmixware, mmixware_watched};

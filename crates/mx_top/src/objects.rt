@@ -6,11 +6,13 @@ ghost use Rattle.mx_host.specs.Keeping.{ComesByFault, Keeps};
 ghost use Rattle.mx_load.specs.Objects.{object_loaded};
 ghost use Rattle.mx_ring.specs.Stack.{stack_address};
 ghost use Rattle.mx_run.specs.WildRuns.{window_machine, list_machine};
-ghost use Rattle.mx_files.specs.Answers.{AnswersAs, AnswersAsList, WritesFrontOf, is_usage};
+ghost use Rattle.mx_files.specs.Answers.{AnswersAs, AnswersAsList, is_usage};
 ghost use Rattle.mx_top.specs.Product as product;
 ghost use Rattle.mx_top.specs.Reports as reports;
 ghost use Rattle.mx_top.specs.Reports.{HearsAs, HearsAsList};
 ghost use Rattle.mx_files.specs.Source.{file_bytes};
+ghost use Rattle.mx_top.specs.ProductPlan as plans;
+ghost use Rattle.mx_top.specs.WorkClauses.{CarriesOutWork};
 
 use crate::run::run_image;
 use mx_files::{OBJECT_PIECES, Outcome, read_file};
@@ -22,7 +24,7 @@ use mx_words::Order;
 use std::alloc::Global;
 
 /// Runs an object, or says why it is refused.
-#[tactic(auto, using(crate::proofs::Sources::fronts, crate::proofs::Heard::silence))]
+#[tactic(auto, using(crate::proofs::Heard::silence))]
 fn run_object<H: Host>(
     alloc: Global,
     host: &mut H,
@@ -34,12 +36,10 @@ fn run_object<H: Host>(
 ) -> Outcome
     requires some { 1 ≤ length arguments.now }
     requires fits { pool + 8 * length (pool_octas arguments.now) ≤ stack_address 0 }
-    ensures told { AnswersAs (H.told host.old) (H.told host.new) result
-        (λ m. product.after_loading window_machine order.now arguments.now (object_loaded bytes.now) m) }
+    ensures plan { CarriesOutWork (H.told host.old) (H.told host.new) result
+        (plans.object_plan order.now arguments.now bytes.now) }
     ensures listed { AnswersAsList (H.told host.old) (H.told host.new) result
         (λ m. product.after_loading list_machine order.now arguments.now (object_loaded bytes.now) m) }
-    ensures front { WritesFrontOf (H.told host.old) (H.told host.new) result
-        (λ m. product.after_loading window_machine order.now arguments.now (object_loaded bytes.now) m) }
     ensures heard { HearsAs (H.told host.old) result (map meaning watchers.old.items)
         (map meaning watchers.new.items) kept.old kept.new
         (λ m. reports.loading_traces window_machine order.now arguments.now (object_loaded bytes.now) m) }
@@ -48,7 +48,7 @@ fn run_object<H: Host>(
         (λ m. product.after_loading list_machine order.now arguments.now (object_loaded bytes.now) m)
         (λ m. reports.loading_traces list_machine order.now arguments.now (object_loaded bytes.now) m) }
     ensures rose { ComesByFault (H.told host.old) Outcome.HostFault result (H.faults host.old) (H.faults host.new) }
-    ensures present { result ≢ Outcome.NoFile }
+    ensures no_file { ComesByFault (H.told host.old) Outcome.NoFile result (H.faults host.old) (H.faults host.new) }
     ensures words { is_usage result ≡ false }
     ensures keeps { Keeps (H.told host.old) (H.told host.new) (H.faults host.old) (H.faults host.new) }
 {
@@ -60,7 +60,7 @@ fn run_object<H: Host>(
 }
 
 /// Runs the object in the file of this name.
-#[tactic(auto, using(crate::proofs::Sources::fronts, crate::proofs::Heard::silence))]
+#[tactic(auto, using(crate::proofs::Heard::silence))]
 pub fn sim_file<H: Host>(
     alloc: Global,
     host: &mut H,
@@ -72,12 +72,10 @@ pub fn sim_file<H: Host>(
 ) -> Outcome
     requires some { 1 ≤ length arguments.now }
     requires fits { pool + 8 * length (pool_octas arguments.now) ≤ stack_address 0 }
-    ensures told { AnswersAs (H.told host.old) (H.told host.new) result
-        (λ m. product.after_object window_machine order.now arguments.now (file_bytes 16385 name.now m)) }
+    ensures plan { CarriesOutWork (H.told host.old) (H.told host.new) result
+        (plans.sim_file_plan order.now name.now arguments.now) }
     ensures listed { AnswersAsList (H.told host.old) (H.told host.new) result
         (λ m. product.after_object list_machine order.now arguments.now (file_bytes 16385 name.now m)) }
-    ensures front { WritesFrontOf (H.told host.old) (H.told host.new) result
-        (λ m. product.after_object window_machine order.now arguments.now (file_bytes 16385 name.now m)) }
     ensures heard { HearsAs (H.told host.old) result (map meaning watchers.old.items)
         (map meaning watchers.new.items) kept.old kept.new
         (λ m. reports.object_traces window_machine order.now arguments.now (file_bytes 16385 name.now m)) }

@@ -2,13 +2,14 @@
 
 ghost use Rattle.std.specs.Prelude.{◌≡◌, ◌<◌, ◌++◌, ◌∷◌, ◌^◌, [], IfOk, OnOk, length};
 ghost use Rattle.mx_core.specs.Search.{IsNextBetween};
-ghost use Rattle.mx_files.specs.Lines.{Puts};
+ghost use Rattle.mx_files.specs.Clauses.{Works};
+ghost use Rattle.mx_files.specs.FilePlans.{lines_plan};
 ghost use Rattle.mx_multi.specs.Joint.{joint_of, processor_count};
 ghost use Rattle.mx_top.specs.Processors as spec;
 ghost use Rattle.mx_top.specs.Shown.{IsNextShown};
 
 use crate::dump::{is_in_stack_area, put_octa};
-use mx_files::{add_decimal, put_line};
+use mx_files::{Outcome, add_decimal, write_line};
 use mx_host::Host;
 use mx_multi::{Multi, MultiEnd};
 use mx_word::{Bytes, NoMemory};
@@ -74,13 +75,15 @@ fn put_processor<H: Host>(
     multi: &Multi,
     end: MultiEnd,
     who: u8,
-) -> Result<bool, NoMemory>
+) -> Result<(), Outcome>
     requires { who < processor_count multi.now }
-    ensures { Puts (H.told host.old) (H.told host.new) (H.faults host.old) (H.faults host.new) result
-        (spec.processor_line end (joint_of multi.now) who) }
+    ensures { Works (H.told host.old) (H.told host.new) (H.faults host.old) (H.faults host.new) result
+        (lines_plan (spec.processor_line end (joint_of multi.now) who)) }
 {
-    let line = processor_text(alloc, multi, end, who)?;
-    put_line(host, line.as_slice())
+    match processor_text(alloc, multi, end, who) {
+        Ok(line) => write_line(host, line.as_slice()),
+        Err(_) => Err(Outcome::OutOfMemory),
+    }
 }
 
 /// Writes the lines of so many processors, which are all.
@@ -90,19 +93,18 @@ fn put_processors<H: Host>(
     multi: &Multi,
     end: MultiEnd,
     count: u8,
-) -> Result<bool, NoMemory>
+) -> Result<(), Outcome>
     requires { processor_count multi.now ≡ count }
-    ensures { Puts (H.told host.old) (H.told host.new) (H.faults host.old) (H.faults host.new) result
-        (spec.processor_lines end (joint_of multi.now)) }
+    ensures { Works (H.told host.old) (H.told host.new) (H.faults host.old) (H.faults host.new) result
+        (lines_plan (spec.processor_lines end (joint_of multi.now))) }
 {
     for who in 0..count {
         match put_processor(alloc, host, multi, end, who) {
-            Ok(true) => {}
-            Ok(false) => return Ok(false),
-            Err(fault) => return Err(fault),
+            Ok(()) => {}
+            Err(outcome) => return Err(outcome),
         }
     }
-    Ok(true)
+    Ok(())
 }
 
 /// The first octa of the one memory other than 0 from an address on: its address and its value.
@@ -136,20 +138,19 @@ fn next_shown(multi: &Multi, from: u64) -> Option<(u64, u64)>
 }
 
 /// Writes the lines of the octas of the one memory.
-fn put_memory<H: Host>(alloc: Global, host: &mut H, multi: &Multi) -> Result<bool, NoMemory>
-    ensures { Puts (H.told host.old) (H.told host.new) (H.faults host.old) (H.faults host.new) result
-        (spec.memory_lines (joint_of multi.now).memory) }
+fn put_memory<H: Host>(alloc: Global, host: &mut H, multi: &Multi) -> Result<(), Outcome>
+    ensures { Works (H.told host.old) (H.told host.new) (H.faults host.old) (H.faults host.new) result
+        (lines_plan (spec.memory_lines (joint_of multi.now).memory)) }
 {
     let mut from = 0u64;
     while let Some((a, x)) = next_shown(multi, from) {
         match put_octa(alloc, host, a, x) {
-            Ok(true) => {}
-            Ok(false) => return Ok(false),
-            Err(fault) => return Err(fault),
+            Ok(()) => {}
+            Err(outcome) => return Err(outcome),
         }
         from = a + 8;
     }
-    Ok(true)
+    Ok(())
 }
 
 /// Writes the lines of so many processors, which are all, and those of the one memory where a dump is wanted.
@@ -160,18 +161,17 @@ pub fn put_all<H: Host>(
     end: MultiEnd,
     count: u8,
     dump: bool,
-) -> Result<bool, NoMemory>
+) -> Result<(), Outcome>
     requires { processor_count multi.now ≡ count }
-    ensures { Puts (H.told host.old) (H.told host.new) (H.faults host.old) (H.faults host.new) result
-        (spec.multi_lines dump end (joint_of multi.now)) }
+    ensures { Works (H.told host.old) (H.told host.new) (H.faults host.old) (H.faults host.new) result
+        (lines_plan (spec.multi_lines dump end (joint_of multi.now))) }
 {
     match put_processors(alloc, host, multi, end, count) {
-        Ok(true) => {}
-        Ok(false) => return Ok(false),
-        Err(fault) => return Err(fault),
+        Ok(()) => {}
+        Err(outcome) => return Err(outcome),
     }
     if dump {
         return put_memory(alloc, host, multi);
     }
-    Ok(true)
+    Ok(())
 }

@@ -1,11 +1,15 @@
 //! The reports of watchers, behind the message.
 
-ghost use Rattle.std.specs.Prelude.{◌≡◌, ◌≢◌, IsTrue, IfOk, OnOk, map, string_bytes};
-ghost use Rattle.mx_host.specs.HostModel.{contents, slot_at, tells, to_errors};
+ghost use Rattle.std.specs.Prelude.{◌≡◌, ◌≢◌, Err, IfOk, map, string_bytes};
+ghost use Rattle.mx_host.specs.HostModel.{contents, slot_at, to_errors};
 ghost use Rattle.mx_host.specs.Keeping.{Keeps, KeepsOutput};
 ghost use Rattle.mx_words.specs.Orders.{order_of};
-ghost use Rattle.mx_files.specs.Answers.{AnswersAs, answered};
+ghost use Rattle.mx_plan.specs.Calls.{write_plan};
+ghost use Rattle.mx_plan.specs.Clauses.{CarriesOut};
+ghost use Rattle.mx_top.specs.ProductPlan as plans;
 ghost use Rattle.mx_top.specs.Reports as spec;
+ghost use Rattle.mx_top.specs.WorkClauses.{TellsBy};
+ghost use Rattle.mx_top.specs.WorkClauses.{is_lacking as lacks_memory};
 
 use mx_files::Outcome;
 use mx_host::{Host, HostFault};
@@ -39,13 +43,26 @@ pub fn found_reports(
     }
 }
 
+/// Writes bytes to the tool's standard error.
+///
+/// Errors: those of the write.
+#[tactic(auto, unfolding(mx_plan::specs::Calls::write_plan, mx_plan::specs::Calls::host, mx_plan::specs::Plan::end_of, mx_plan::specs::Plan::Stops, mx_host::specs::HostAnswer::write_answer))]
+pub fn write_error<H: Host>(host: &mut H, text: &[u8]) -> Result<(), HostFault>
+    ensures plan { CarriesOut (H.told host.old) (H.told host.new) (Err HostFault.OutOfMemory) result
+        (write_plan 260 text.now) }
+    ensures output { slot_at (contents (H.told host.old)) 260 ≡ to_errors →
+        KeepsOutput (H.told host.old) (H.told host.new) }
+    ensures keeps { Keeps (H.told host.old) (H.told host.new) (H.faults host.old) (H.faults host.new) }
+{
+    host.write_slot(260, text)
+}
+
 /// Writes a report to the tool's standard error, if there is something in it. A write that fails changes nothing.
 ///
-/// Errors: out of memory.
-#[tactic(auto, unfolding(mx_host::specs::HostAnswer::write_answer))]
-fn put_report<H: Host>(host: &mut H, text: &[u8]) -> Result<(), NoMemory>
-    ensures told { IsTrue (tells (H.told host.old)) →
-        OnOk result (contents (H.told host.new) ≡ spec.report_put text.now (contents (H.told host.old))) }
+/// Errors: those of the write.
+fn put_report<H: Host>(host: &mut H, text: &[u8]) -> Result<(), HostFault>
+    ensures plan { CarriesOut (H.told host.old) (H.told host.new) (Err HostFault.OutOfMemory) result
+        (plans.report_plan text.now) }
     ensures output { slot_at (contents (H.told host.old)) 260 ≡ to_errors →
         KeepsOutput (H.told host.old) (H.told host.new) }
     ensures keeps { Keeps (H.told host.old) (H.told host.new) (H.faults host.old) (H.faults host.new) }
@@ -53,26 +70,32 @@ fn put_report<H: Host>(host: &mut H, text: &[u8]) -> Result<(), NoMemory>
     if text.is_empty() {
         return Ok(());
     }
-    match host.write_slot(260, text) {
-        Err(HostFault::OutOfMemory) => Err(NoMemory),
-        _ => Ok(()),
+    write_error(host, text)
+}
+
+/// Whether a write lacked memory.
+pub fn is_lacking(written: Result<(), HostFault>) -> bool
+    ensures { result ≡ lacks_memory written }
+{
+    match written {
+        Ok(()) => false,
+        Err(HostFault::OutOfMemory) => true,
+        Err(HostFault::Failed) => false,
+        Err(HostFault::Misused) => false,
     }
 }
 
 /// Writes reports, one write for each that is not empty, and answers the outcome, or that there was no memory.
-#[tactic(auto, using(crate::proofs::Reported::reporting))]
 pub fn put_reports<H: Host>(host: &mut H, texts: &[Bytes], outcome: Outcome) -> Outcome
-    ensures told { AnswersAs (H.told host.old) (H.told host.new) result
-        (λ m. answered outcome (spec.reports_put texts.now m)) }
+    ensures plan { TellsBy (H.told host.old) (H.told host.new) result (plans.reports_plan outcome texts.now) }
     ensures same { result ≢ Outcome.OutOfMemory → result ≡ outcome }
     ensures output { slot_at (contents (H.told host.old)) 260 ≡ to_errors →
         KeepsOutput (H.told host.old) (H.told host.new) }
     ensures keeps { Keeps (H.told host.old) (H.told host.new) (H.faults host.old) (H.faults host.new) }
 {
     for text in texts {
-        match put_report(host, text.as_slice()) {
-            Ok(()) => {}
-            Err(_) => return Outcome::OutOfMemory,
+        if is_lacking(put_report(host, text.as_slice())) {
+            return Outcome::OutOfMemory;
         }
     }
     outcome

@@ -9,7 +9,7 @@ ghost use Rattle.mx_load.specs.Kept.{image_of};
 ghost use Rattle.mx_ring.specs.Stack.{stack_address};
 ghost use Rattle.mx_run.specs.WildRuns.{window_machine, list_machine};
 ghost use Rattle.mx_word.specs.Results.{map_ok};
-ghost use Rattle.mx_files.specs.Answers.{AnswersAs, AnswersAsList, WritesFrontOf, is_usage};
+ghost use Rattle.mx_files.specs.Answers.{AnswersAs, AnswersAsList, is_usage};
 ghost use Rattle.mx_top.specs.Product as product;
 ghost use Rattle.mx_top.specs.Reports as reports;
 ghost use Rattle.mx_top.specs.Reports.{HearsAs, HearsAsList};
@@ -17,9 +17,11 @@ ghost use Rattle.mx_top.specs.Runs as spec;
 ghost use Rattle.mx_watch.specs.Traces.{traces};
 ghost use Rattle.mx_files.specs.Source.{file_bytes};
 ghost use Rattle.mx_files.specs.Sources.{source_meaning};
+ghost use Rattle.mx_top.specs.ProductPlan as plans;
+ghost use Rattle.mx_top.specs.WorkClauses.{CarriesOutWork};
 
 use crate::console::run_session;
-use crate::dump::dump;
+use crate::ending::tell_end;
 use mx_core::{Machine, StartFault};
 use mx_files::{Outcome, SOURCE_PIECES, SourceFault, load_source, read_file};
 use mx_host::Host;
@@ -74,52 +76,16 @@ pub fn start(
     }
 }
 
-/// What follows a run: the dump, where it is asked for and the machine is left with something to tell.
-#[tactic(auto, using(crate::proofs::Dumped::dumping))]
-pub fn tell_end<H: Host>(
-    alloc: Global,
-    host: &mut H,
-    wanted: bool,
-    machine: &Machine,
-    outcome: Outcome,
-) -> Outcome
-    requires well { outcome ≢ Outcome.HostFault }
-    requires present { outcome ≢ Outcome.NoFile }
-    requires words { is_usage outcome ≡ false }
-    ensures memory { outcome ≡ Outcome.OutOfMemory → (result ≡ Outcome.OutOfMemory) × (host.new ≡ host.old) }
-    ensures told { AnswersAs (H.told host.old) (H.told host.new) result
-        (λ m. spec.dumped wanted (spec.ran outcome (state_of machine.now) m)) }
-    ensures list { (state_of machine.now).touched ≡ false → AnswersAs (H.told host.old) (H.told host.new) result
-        (λ m. spec.dumped wanted (spec.ran outcome (as_list_state (state_of machine.now)) m)) }
-    ensures front { WritesFrontOf (H.told host.old) (H.told host.new) result
-        (λ m. spec.dumped wanted (spec.ran outcome (state_of machine.now) m)) }
-    ensures rose { ComesByFault (H.told host.old) Outcome.HostFault result (H.faults host.old) (H.faults host.new) }
-    ensures present { result ≢ Outcome.NoFile }
-    ensures words { is_usage result ≡ false }
-    ensures keeps { Keeps (H.told host.old) (H.told host.new) (H.faults host.old) (H.faults host.new) }
-{
-    if !(wanted && outcome.leaves_machine()) {
-        return outcome;
-    }
-    match dump(alloc, host, machine) {
-        Ok(true) => outcome,
-        Ok(false) => Outcome::HostFault,
-        Err(_) => Outcome::OutOfMemory,
-    }
-}
-
 /// Makes the steps of a machine that was started, in one run.
 fn run_steps<H: Host>(alloc: Global, host: &mut H, order: &Order, machine: Machine) -> Outcome
     requires { (state_of machine).touched ≡ false }
-    ensures told { AnswersAs (H.told host.old) (H.told host.new) result
-        (λ m. spec.dumped order.now.dump (spec.machine_ran window_machine order.now.steps (state_of machine) m)) }
+    ensures plan { CarriesOutWork (H.told host.old) (H.told host.new) result
+        (plans.stepped_plan order.now (state_of machine)) }
     ensures listed { AnswersAsList (H.told host.old) (H.told host.new) result
         (λ m. spec.dumped order.now.dump
         (spec.machine_ran list_machine order.now.steps (as_list_state (state_of machine)) m)) }
-    ensures front { WritesFrontOf (H.told host.old) (H.told host.new) result
-        (λ m. spec.dumped order.now.dump (spec.machine_ran window_machine order.now.steps (state_of machine) m)) }
     ensures rose { ComesByFault (H.told host.old) Outcome.HostFault result (H.faults host.old) (H.faults host.new) }
-    ensures present { result ≢ Outcome.NoFile }
+    ensures no_file { ComesByFault (H.told host.old) Outcome.NoFile result (H.faults host.old) (H.faults host.new) }
     ensures words { is_usage result ≡ false }
     ensures keeps { Keeps (H.told host.old) (H.told host.new) (H.faults host.old) (H.faults host.new) }
 {
@@ -144,13 +110,11 @@ fn run_told<H: Host>(
     kept: &mut Reports,
 ) -> Outcome
     requires { (state_of machine).touched ≡ false }
-    ensures told { AnswersAs (H.told host.old) (H.told host.new) result
-        (λ m. spec.dumped order.now.dump (spec.machine_ran window_machine order.now.steps (state_of machine) m)) }
+    ensures plan { CarriesOutWork (H.told host.old) (H.told host.new) result
+        (plans.watched_plan order.now (state_of machine)) }
     ensures listed { AnswersAsList (H.told host.old) (H.told host.new) result
         (λ m. spec.dumped order.now.dump
         (spec.machine_ran list_machine order.now.steps (as_list_state (state_of machine)) m)) }
-    ensures front { WritesFrontOf (H.told host.old) (H.told host.new) result
-        (λ m. spec.dumped order.now.dump (spec.machine_ran window_machine order.now.steps (state_of machine) m)) }
     ensures heard { HearsAs (H.told host.old) result (map meaning watchers.old.items)
         (map meaning watchers.new.items) kept.old kept.new
         (λ m. traces window_machine order.now.steps (state_of machine) m) }
@@ -160,7 +124,7 @@ fn run_told<H: Host>(
         (spec.machine_ran list_machine order.now.steps (as_list_state (state_of machine)) m))
         (λ m. traces list_machine order.now.steps (as_list_state (state_of machine)) m) }
     ensures rose { ComesByFault (H.told host.old) Outcome.HostFault result (H.faults host.old) (H.faults host.new) }
-    ensures present { result ≢ Outcome.NoFile }
+    ensures no_file { ComesByFault (H.told host.old) Outcome.NoFile result (H.faults host.old) (H.faults host.new) }
     ensures words { is_usage result ≡ false }
     ensures keeps { Keeps (H.told host.old) (H.told host.new) (H.faults host.old) (H.faults host.new) }
 {
@@ -186,12 +150,10 @@ fn run_machine<H: Host>(
     kept: &mut Reports,
 ) -> Outcome
     requires { (state_of machine).touched ≡ false }
-    ensures told { AnswersAs (H.told host.old) (H.told host.new) result
-        (λ m. spec.run_from window_machine order.now (Ok (state_of machine)) m) }
+    ensures plan { CarriesOutWork (H.told host.old) (H.told host.new) result
+        (plans.machine_plan order.now (state_of machine)) }
     ensures listed { AnswersAsList (H.told host.old) (H.told host.new) result
         (λ m. spec.run_from list_machine order.now (Ok (as_list_state (state_of machine))) m) }
-    ensures front { WritesFrontOf (H.told host.old) (H.told host.new) result
-        (λ m. spec.run_from window_machine order.now (Ok (state_of machine)) m) }
     ensures heard { HearsAs (H.told host.old) result (map meaning watchers.old.items)
         (map meaning watchers.new.items) kept.old kept.new
         (λ m. reports.order_traces window_machine order.now (state_of machine) m) }
@@ -200,7 +162,7 @@ fn run_machine<H: Host>(
         (λ m. spec.run_from list_machine order.now (Ok (as_list_state (state_of machine))) m)
         (λ m. reports.order_traces list_machine order.now (as_list_state (state_of machine)) m) }
     ensures rose { ComesByFault (H.told host.old) Outcome.HostFault result (H.faults host.old) (H.faults host.new) }
-    ensures present { result ≢ Outcome.NoFile }
+    ensures no_file { ComesByFault (H.told host.old) Outcome.NoFile result (H.faults host.old) (H.faults host.new) }
     ensures words { is_usage result ≡ false }
     ensures keeps { Keeps (H.told host.old) (H.told host.new) (H.faults host.old) (H.faults host.new) }
 {
@@ -214,7 +176,7 @@ fn run_machine<H: Host>(
 }
 
 /// Runs an image from its start, with these arguments.
-#[tactic(auto, using(crate::proofs::Sources::fronts, crate::proofs::Heard::silence))]
+#[tactic(auto, using(crate::proofs::Heard::silence))]
 pub fn run_image<H: Host>(
     alloc: Global,
     host: &mut H,
@@ -226,12 +188,10 @@ pub fn run_image<H: Host>(
 ) -> Outcome
     requires some { 1 ≤ length arguments.now }
     requires fits { pool + 8 * length (pool_octas arguments.now) ≤ stack_address 0 }
-    ensures told { AnswersAs (H.told host.old) (H.told host.new) result
-        (λ m. spec.image_run window_machine order.now arguments.now (image_of image) m) }
+    ensures plan { CarriesOutWork (H.told host.old) (H.told host.new) result
+        (plans.image_plan order.now arguments.now (image_of image)) }
     ensures listed { AnswersAsList (H.told host.old) (H.told host.new) result
         (λ m. spec.image_run list_machine order.now arguments.now (image_of image) m) }
-    ensures front { WritesFrontOf (H.told host.old) (H.told host.new) result
-        (λ m. spec.image_run window_machine order.now arguments.now (image_of image) m) }
     ensures heard { HearsAs (H.told host.old) result (map meaning watchers.old.items)
         (map meaning watchers.new.items) kept.old kept.new
         (λ m. reports.image_traces window_machine order.now arguments.now (image_of image) m) }
@@ -240,7 +200,7 @@ pub fn run_image<H: Host>(
         (λ m. spec.image_run list_machine order.now arguments.now (image_of image) m)
         (λ m. reports.image_traces list_machine order.now arguments.now (image_of image) m) }
     ensures rose { ComesByFault (H.told host.old) Outcome.HostFault result (H.faults host.old) (H.faults host.new) }
-    ensures present { result ≢ Outcome.NoFile }
+    ensures no_file { ComesByFault (H.told host.old) Outcome.NoFile result (H.faults host.old) (H.faults host.new) }
     ensures words { is_usage result ≡ false }
     ensures keeps { Keeps (H.told host.old) (H.told host.new) (H.faults host.old) (H.faults host.new) }
 {
@@ -251,7 +211,7 @@ pub fn run_image<H: Host>(
 }
 
 /// Runs a source, or says why it is refused.
-#[tactic(auto, using(crate::proofs::Sources::fronts, crate::proofs::Heard::silence))]
+#[tactic(auto, using(crate::proofs::Heard::silence))]
 fn run_source<H: Host>(
     alloc: Global,
     host: &mut H,
@@ -263,12 +223,10 @@ fn run_source<H: Host>(
 ) -> Outcome
     requires some { 1 ≤ length arguments.now }
     requires fits { pool + 8 * length (pool_octas arguments.now) ≤ stack_address 0 }
-    ensures told { AnswersAs (H.told host.old) (H.told host.new) result
-        (λ m. product.after_image window_machine order.now arguments.now (source_meaning text.now) m) }
+    ensures plan { CarriesOutWork (H.told host.old) (H.told host.new) result
+        (plans.source_plan order.now arguments.now text.now) }
     ensures listed { AnswersAsList (H.told host.old) (H.told host.new) result
         (λ m. product.after_image list_machine order.now arguments.now (source_meaning text.now) m) }
-    ensures front { WritesFrontOf (H.told host.old) (H.told host.new) result
-        (λ m. product.after_image window_machine order.now arguments.now (source_meaning text.now) m) }
     ensures heard { HearsAs (H.told host.old) result (map meaning watchers.old.items)
         (map meaning watchers.new.items) kept.old kept.new
         (λ m. reports.meaning_traces window_machine order.now arguments.now (source_meaning text.now) m) }
@@ -277,7 +235,7 @@ fn run_source<H: Host>(
         (λ m. product.after_image list_machine order.now arguments.now (source_meaning text.now) m)
         (λ m. reports.meaning_traces list_machine order.now arguments.now (source_meaning text.now) m) }
     ensures rose { ComesByFault (H.told host.old) Outcome.HostFault result (H.faults host.old) (H.faults host.new) }
-    ensures present { result ≢ Outcome.NoFile }
+    ensures no_file { ComesByFault (H.told host.old) Outcome.NoFile result (H.faults host.old) (H.faults host.new) }
     ensures words { is_usage result ≡ false }
     ensures keeps { Keeps (H.told host.old) (H.told host.new) (H.faults host.old) (H.faults host.new) }
 {
@@ -289,7 +247,7 @@ fn run_source<H: Host>(
 }
 
 /// Runs the source in the file of this name.
-#[tactic(auto, using(crate::proofs::Sources::fronts, crate::proofs::Heard::silence))]
+#[tactic(auto, using(crate::proofs::Heard::silence))]
 pub fn run_file<H: Host>(
     alloc: Global,
     host: &mut H,
@@ -301,12 +259,10 @@ pub fn run_file<H: Host>(
 ) -> Outcome
     requires some { 1 ≤ length arguments.now }
     requires fits { pool + 8 * length (pool_octas arguments.now) ≤ stack_address 0 }
-    ensures told { AnswersAs (H.told host.old) (H.told host.new) result
-        (λ m. product.after_source window_machine order.now arguments.now (file_bytes 1025 name.now m)) }
+    ensures plan { CarriesOutWork (H.told host.old) (H.told host.new) result
+        (plans.run_file_plan order.now name.now arguments.now) }
     ensures listed { AnswersAsList (H.told host.old) (H.told host.new) result
         (λ m. product.after_source list_machine order.now arguments.now (file_bytes 1025 name.now m)) }
-    ensures front { WritesFrontOf (H.told host.old) (H.told host.new) result
-        (λ m. product.after_source window_machine order.now arguments.now (file_bytes 1025 name.now m)) }
     ensures heard { HearsAs (H.told host.old) result (map meaning watchers.old.items)
         (map meaning watchers.new.items) kept.old kept.new
         (λ m. reports.source_traces window_machine order.now arguments.now (file_bytes 1025 name.now m)) }

@@ -7,11 +7,14 @@ ghost use Rattle.mx_load.specs.Objects.{object_loaded};
 ghost use Rattle.mx_multi.specs.Joint.{NoneTouched, as_list_joint, joint_of, processor_count};
 ghost use Rattle.mx_multi.specs.Turns.{AreNames, turns_ended};
 ghost use Rattle.mx_run.specs.WildRuns.{window_machine, list_machine};
-ghost use Rattle.mx_files.specs.Answers.{AnswersAs, AnswersAsList, WritesFrontOf, is_usage};
+ghost use Rattle.mx_files.specs.Answers.{AnswersAs, AnswersAsList, is_usage};
 ghost use Rattle.mx_files.specs.Schedules.{AreEight, schedule_bytes};
 ghost use Rattle.mx_files.specs.Source.{file_bytes};
 ghost use Rattle.mx_top.specs.Processors as spec;
 ghost use Rattle.mx_top.specs.Product as product;
+ghost use Rattle.mx_top.specs.ProductPlan as plans;
+ghost use Rattle.mx_top.specs.WorkClauses.{CarriesOutWork};
+ghost use Rattle.mx_plan.specs.Clauses.{CarriesOut};
 
 use crate::processors::put_all;
 use mx_files::{OBJECT_PIECES, Outcome, read_file, read_schedule};
@@ -65,7 +68,6 @@ fn multi_outcome(steps: u64, end: MultiEnd) -> Outcome
 }
 
 /// What follows turns: a line for each of so many processors, which are all, and the one memory, where a dump is asked for.
-#[tactic(auto, using(crate::proofs::TurnsTold::telling))]
 fn tell_turns<H: Host>(
     alloc: Global,
     host: &mut H,
@@ -76,14 +78,14 @@ fn tell_turns<H: Host>(
 ) -> Outcome
     requires { processor_count multi.now ≡ count }
     ensures memory { end ≡ MultiEnd.OutOfMemory → (result ≡ Outcome.OutOfMemory) × (host.new ≡ host.old) }
-    ensures told { AnswersAs (H.told host.old) (H.told host.new) result
-        (λ m. spec.turns_told order.now.dump order.now.steps (turns_ended end (joint_of multi.now) m)) }
+    ensures plan { end ≢ MultiEnd.OutOfMemory →
+        CarriesOut (H.told host.old) (H.told host.new) Outcome.OutOfMemory result
+        (plans.telling (spec.multi_outcome order.now.steps end)
+        (spec.multi_lines order.now.dump end (joint_of multi.now))) }
     ensures list { AnswersAs (H.told host.old) (H.told host.new) result
         (λ m. spec.turns_told order.now.dump order.now.steps (turns_ended end (as_list_joint (joint_of multi.now)) m)) }
-    ensures front { WritesFrontOf (H.told host.old) (H.told host.new) result
-        (λ m. spec.turns_told order.now.dump order.now.steps (turns_ended end (joint_of multi.now) m)) }
     ensures rose { ComesByFault (H.told host.old) Outcome.HostFault result (H.faults host.old) (H.faults host.new) }
-    ensures present { result ≢ Outcome.NoFile }
+    ensures no_file { ComesByFault (H.told host.old) Outcome.NoFile result (H.faults host.old) (H.faults host.new) }
     ensures words { is_usage result ≡ false }
     ensures keeps { Keeps (H.told host.old) (H.told host.new) (H.faults host.old) (H.faults host.new) }
 {
@@ -91,9 +93,8 @@ fn tell_turns<H: Host>(
         return Outcome::OutOfMemory;
     }
     match put_all(alloc, host, multi, end, count, order.dump) {
-        Ok(true) => multi_outcome(order.steps, end),
-        Ok(false) => Outcome::HostFault,
-        Err(_) => Outcome::OutOfMemory,
+        Ok(()) => multi_outcome(order.steps, end),
+        Err(other) => other,
     }
 }
 
@@ -109,14 +110,12 @@ fn run_started<H: Host>(
     requires count { processor_count multi ≡ count }
     requires names { AreNames count schedule.now }
     requires untouched { NoneTouched (joint_of multi).processors }
-    ensures told { AnswersAs (H.told host.old) (H.told host.new) result
-        (λ m. spec.joint_run window_machine order.now schedule.now (joint_of multi) m) }
+    ensures plan { CarriesOutWork (H.told host.old) (H.told host.new) result
+        (plans.joint_plan order.now schedule.now (joint_of multi)) }
     ensures listed { AnswersAsList (H.told host.old) (H.told host.new) result
         (λ m. spec.joint_run list_machine order.now schedule.now (as_list_joint (joint_of multi)) m) }
-    ensures front { WritesFrontOf (H.told host.old) (H.told host.new) result
-        (λ m. spec.joint_run window_machine order.now schedule.now (joint_of multi) m) }
     ensures rose { ComesByFault (H.told host.old) Outcome.HostFault result (H.faults host.old) (H.faults host.new) }
-    ensures present { result ≢ Outcome.NoFile }
+    ensures no_file { ComesByFault (H.told host.old) Outcome.NoFile result (H.faults host.old) (H.faults host.new) }
     ensures words { is_usage result ≡ false }
     ensures keeps { Keeps (H.told host.old) (H.told host.new) (H.faults host.old) (H.faults host.new) }
 {
@@ -126,7 +125,6 @@ fn run_started<H: Host>(
 }
 
 /// Runs an image on as many processors as a schedule needs.
-#[tactic(auto, using(crate::proofs::TurnFronts::fronts))]
 fn run_image<H: Host>(
     alloc: Global,
     host: &mut H,
@@ -135,14 +133,12 @@ fn run_image<H: Host>(
     image: Image,
 ) -> Outcome
     requires { AreEight schedule.now }
-    ensures told { AnswersAs (H.told host.old) (H.told host.new) result
-        (λ m. spec.image_turns window_machine order.now schedule.now (image_of image) m) }
+    ensures plan { CarriesOutWork (H.told host.old) (H.told host.new) result
+        (plans.image_turns_plan order.now schedule.now (image_of image)) }
     ensures listed { AnswersAsList (H.told host.old) (H.told host.new) result
         (λ m. spec.image_turns list_machine order.now schedule.now (image_of image) m) }
-    ensures front { WritesFrontOf (H.told host.old) (H.told host.new) result
-        (λ m. spec.image_turns window_machine order.now schedule.now (image_of image) m) }
     ensures rose { ComesByFault (H.told host.old) Outcome.HostFault result (H.faults host.old) (H.faults host.new) }
-    ensures present { result ≢ Outcome.NoFile }
+    ensures no_file { ComesByFault (H.told host.old) Outcome.NoFile result (H.faults host.old) (H.faults host.new) }
     ensures words { is_usage result ≡ false }
     ensures keeps { Keeps (H.told host.old) (H.told host.new) (H.faults host.old) (H.faults host.new) }
 {
@@ -154,7 +150,6 @@ fn run_image<H: Host>(
 }
 
 /// Runs an object on as many processors as a schedule needs, or says why it is refused.
-#[tactic(auto, using(crate::proofs::TurnFronts::fronts))]
 fn run_object<H: Host>(
     alloc: Global,
     host: &mut H,
@@ -163,14 +158,12 @@ fn run_object<H: Host>(
     bytes: &[u8],
 ) -> Outcome
     requires { AreEight schedule.now }
-    ensures told { AnswersAs (H.told host.old) (H.told host.new) result
-        (λ m. product.loaded_turns window_machine order.now schedule.now (object_loaded bytes.now) m) }
+    ensures plan { CarriesOutWork (H.told host.old) (H.told host.new) result
+        (plans.object_turns_plan order.now schedule.now bytes.now) }
     ensures listed { AnswersAsList (H.told host.old) (H.told host.new) result
         (λ m. product.loaded_turns list_machine order.now schedule.now (object_loaded bytes.now) m) }
-    ensures front { WritesFrontOf (H.told host.old) (H.told host.new) result
-        (λ m. product.loaded_turns window_machine order.now schedule.now (object_loaded bytes.now) m) }
     ensures rose { ComesByFault (H.told host.old) Outcome.HostFault result (H.faults host.old) (H.faults host.new) }
-    ensures present { result ≢ Outcome.NoFile }
+    ensures no_file { ComesByFault (H.told host.old) Outcome.NoFile result (H.faults host.old) (H.faults host.new) }
     ensures words { is_usage result ≡ false }
     ensures keeps { Keeps (H.told host.old) (H.told host.new) (H.faults host.old) (H.faults host.new) }
 {
@@ -182,7 +175,6 @@ fn run_object<H: Host>(
 }
 
 /// Runs the object in the file of this name by a schedule.
-#[tactic(auto, using(crate::proofs::TurnFronts::fronts))]
 fn object_file<H: Host>(
     alloc: Global,
     host: &mut H,
@@ -191,12 +183,10 @@ fn object_file<H: Host>(
     name: &[u8],
 ) -> Outcome
     requires { AreEight schedule.now }
-    ensures told { AnswersAs (H.told host.old) (H.told host.new) result
-        (λ m. product.object_turns window_machine order.now schedule.now (file_bytes 16385 name.now m)) }
+    ensures plan { CarriesOutWork (H.told host.old) (H.told host.new) result
+        (plans.turns_file_plan order.now name.now schedule.now) }
     ensures listed { AnswersAsList (H.told host.old) (H.told host.new) result
         (λ m. product.object_turns list_machine order.now schedule.now (file_bytes 16385 name.now m)) }
-    ensures front { WritesFrontOf (H.told host.old) (H.told host.new) result
-        (λ m. product.object_turns window_machine order.now schedule.now (file_bytes 16385 name.now m)) }
     ensures rose { ComesByFault (H.told host.old) Outcome.HostFault result (H.faults host.old) (H.faults host.new) }
     ensures no_file { ComesByFault (H.told host.old) Outcome.NoFile result (H.faults host.old) (H.faults host.new) }
     ensures words { is_usage result ≡ false }
@@ -209,7 +199,6 @@ fn object_file<H: Host>(
 }
 
 /// Runs the object in a file by the schedule in another one, which is read first.
-#[tactic(auto, using(crate::proofs::TurnFronts::fronts))]
 pub fn multi_file<H: Host>(
     alloc: Global,
     host: &mut H,
@@ -217,12 +206,10 @@ pub fn multi_file<H: Host>(
     schedule: &[u8],
     object: &[u8],
 ) -> Outcome
-    ensures told { AnswersAs (H.told host.old) (H.told host.new) result
-        (λ m. product.after_schedule window_machine order.now object.now (schedule_bytes schedule.now m)) }
+    ensures plan { CarriesOutWork (H.told host.old) (H.told host.new) result
+        (plans.multi_plan order.now schedule.now object.now) }
     ensures listed { AnswersAsList (H.told host.old) (H.told host.new) result
         (λ m. product.after_schedule list_machine order.now object.now (schedule_bytes schedule.now m)) }
-    ensures front { WritesFrontOf (H.told host.old) (H.told host.new) result
-        (λ m. product.after_schedule window_machine order.now object.now (schedule_bytes schedule.now m)) }
     ensures rose { ComesByFault (H.told host.old) Outcome.HostFault result (H.faults host.old) (H.faults host.new) }
     ensures no_file { ComesByFault (H.told host.old) Outcome.NoFile result (H.faults host.old) (H.faults host.new) }
     ensures words { is_usage result ≡ false }

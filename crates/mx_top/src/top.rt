@@ -1,6 +1,6 @@
 //! The top call.
 
-ghost use Rattle.std.specs.Prelude.{◌≡◌, ◌≢◌, ◌≤◌, ◌<◌, Err, false, length, map, string_bytes};
+ghost use Rattle.std.specs.Prelude.{◌≡◌, ◌≢◌, ◌≤◌, ◌<◌, [], Err, false, length, map, string_bytes};
 ghost use Rattle.mx_host.specs.HostModel.{contents, slot_at, to_errors};
 ghost use Rattle.mx_host.specs.Keeping.{ComesByFault, Keeps, KeepsOutput};
 ghost use Rattle.mx_run.specs.WildRuns.{window_machine, list_machine};
@@ -8,19 +8,20 @@ ghost use Rattle.mx_words.specs.Orders.{order_of};
 ghost use Rattle.mx_words.specs.declared.order.WordsFault.{WordsFault};
 ghost use Rattle.mx_files.specs.Answers.{AnswersAs, AnswersAsList, WritesFrontOf, is_usage};
 ghost use Rattle.mx_top.specs.Arguments.{word_at};
-ghost use Rattle.mx_files.specs.Messages.{message_of};
 ghost use Rattle.mx_top.specs.Product as spec;
 ghost use Rattle.mx_top.specs.Reports as reports;
 ghost use Rattle.mx_top.specs.Reports.{HearsAs, HearsAsList, LeavesWatchers};
+ghost use Rattle.mx_top.specs.ProductPlan as plans;
+ghost use Rattle.mx_top.specs.WorkClauses.{CarriesOutWork, Does, TellsAll, TellsBy};
 
 use crate::arguments::arguments;
 use crate::generation::generate;
 use crate::objects::sim_file;
-use crate::reports::{found_reports, put_reports};
+use crate::reports::{found_reports, is_lacking, put_reports, write_error};
 use crate::run::run_file;
 use crate::schedules::multi_file;
 use mx_files::{Outcome, assemble_file, list_file, message};
-use mx_host::{Host, HostFault};
+use mx_host::Host;
 use mx_watch::{Reports, Watcher};
 use mx_word::Bytes;
 use mx_words::{Command, Order, read};
@@ -35,7 +36,7 @@ fn word(words: &[String], place: usize) -> &[u8]
 }
 
 /// Runs the source or the object that the words name, with the arguments behind it.
-#[tactic(auto, using(crate::proofs::Sources::fronts, crate::proofs::Heard::silence))]
+#[tactic(auto, using(crate::proofs::Heard::silence))]
 fn run_ordered<H: Host>(
     alloc: Global,
     words: &[String],
@@ -46,12 +47,10 @@ fn run_ordered<H: Host>(
 ) -> Outcome
     requires file { order.now.file < length words.now }
     requires rest { order.now.rest ≤ length words.now }
-    ensures told { AnswersAs (H.told host.old) (H.told host.new) result
-        (λ m. spec.run_ordered window_machine (map string_bytes words.now) order.now m) }
+    ensures plan { CarriesOutWork (H.told host.old) (H.told host.new) result
+        (plans.ordered_plan (map string_bytes words.now) order.now Command.Run) }
     ensures listed { AnswersAsList (H.told host.old) (H.told host.new) result
         (λ m. spec.run_ordered list_machine (map string_bytes words.now) order.now m) }
-    ensures front { WritesFrontOf (H.told host.old) (H.told host.new) result
-        (λ m. spec.run_ordered window_machine (map string_bytes words.now) order.now m) }
     ensures heard { HearsAs (H.told host.old) result (map meaning watchers.old.items)
         (map meaning watchers.new.items) kept.old kept.new
         (λ m. reports.run_traces window_machine (map string_bytes words.now) order.now m) }
@@ -79,7 +78,7 @@ fn run_ordered<H: Host>(
 }
 
 /// Runs the object that the words name, with the arguments behind it.
-#[tactic(auto, using(crate::proofs::Sources::fronts, crate::proofs::Heard::silence))]
+#[tactic(auto, using(crate::proofs::Heard::silence))]
 fn sim_ordered<H: Host>(
     alloc: Global,
     words: &[String],
@@ -90,12 +89,10 @@ fn sim_ordered<H: Host>(
 ) -> Outcome
     requires file { order.now.file < length words.now }
     requires rest { order.now.rest ≤ length words.now }
-    ensures told { AnswersAs (H.told host.old) (H.told host.new) result
-        (λ m. spec.sim_ordered window_machine (map string_bytes words.now) order.now m) }
+    ensures plan { CarriesOutWork (H.told host.old) (H.told host.new) result
+        (plans.ordered_plan (map string_bytes words.now) order.now Command.Sim) }
     ensures listed { AnswersAsList (H.told host.old) (H.told host.new) result
         (λ m. spec.sim_ordered list_machine (map string_bytes words.now) order.now m) }
-    ensures front { WritesFrontOf (H.told host.old) (H.told host.new) result
-        (λ m. spec.sim_ordered window_machine (map string_bytes words.now) order.now m) }
     ensures heard { HearsAs (H.told host.old) result (map meaning watchers.old.items)
         (map meaning watchers.new.items) kept.old kept.new
         (λ m. reports.sim_traces window_machine (map string_bytes words.now) order.now m) }
@@ -137,12 +134,10 @@ fn carry_order<H: Host>(
     requires schedule { order.now.schedule < length words.now }
     requires object { order.now.command ≡ Command.Asm → order.now.rest < length words.now }
     requires blocks { order.now.number ≤ 10000 }
-    ensures told { AnswersAs (H.told host.old) (H.told host.new) result
-        (λ m. spec.ordered window_machine (map string_bytes words.now) order.now order.now.command m) }
+    ensures plan { CarriesOutWork (H.told host.old) (H.told host.new) result
+        (plans.ordered_plan (map string_bytes words.now) order.now order.now.command) }
     ensures listed { AnswersAsList (H.told host.old) (H.told host.new) result
         (λ m. spec.ordered list_machine (map string_bytes words.now) order.now order.now.command m) }
-    ensures front { WritesFrontOf (H.told host.old) (H.told host.new) result
-        (λ m. spec.ordered window_machine (map string_bytes words.now) order.now order.now.command m) }
     ensures heard { HearsAs (H.told host.old) result (map meaning watchers.old.items)
         (map meaning watchers.new.items) kept.old kept.new
         (λ m. reports.ordered_traces window_machine (map string_bytes words.now) order.now order.now.command m) }
@@ -185,12 +180,10 @@ fn carry_out<H: Host>(
     watchers: &mut Vec<Box<dyn Watcher>>,
     kept: &mut Reports,
 ) -> Outcome
-    ensures told { AnswersAs (H.told host.old) (H.told host.new) result
-        (λ m. spec.carried_out window_machine (map string_bytes words.now) (order_of (map string_bytes words.now)) m) }
+    ensures plan { CarriesOutWork (H.told host.old) (H.told host.new) result
+        (plans.work_plan (map string_bytes words.now) (order_of (map string_bytes words.now))) }
     ensures listed { AnswersAsList (H.told host.old) (H.told host.new) result
         (λ m. spec.carried_out list_machine (map string_bytes words.now) (order_of (map string_bytes words.now)) m) }
-    ensures front { WritesFrontOf (H.told host.old) (H.told host.new) result
-        (λ m. spec.carried_out window_machine (map string_bytes words.now) (order_of (map string_bytes words.now)) m) }
     ensures usage { (fault : WordsFault) → order_of (map string_bytes words.now) ≡ Err fault →
         result ≡ Outcome.Usage fault }
     ensures only_usage { (fault : WordsFault) → result ≡ Outcome.Usage fault →
@@ -215,33 +208,40 @@ fn carry_out<H: Host>(
 
 /// Writes the message line of an outcome to the tool's standard error. A write that fails changes
 /// nothing; where there is no memory for the line or its write, that is the outcome.
-#[tactic(auto, unfolding(mx_host::specs::HostAnswer::write_answer))]
 fn tell<H: Host>(alloc: Global, host: &mut H, outcome: Outcome) -> Outcome
-    ensures told { AnswersAs (H.told host.old) (H.told host.new) result
-        (λ m. spec.message_told outcome (message_of outcome) m) }
+    ensures plan { TellsBy (H.told host.old) (H.told host.new) result (plans.message_plan outcome) }
     ensures same { result ≢ Outcome.OutOfMemory → result ≡ outcome }
-    ensures lacks { outcome ≡ Outcome.OutOfMemory → result ≡ Outcome.OutOfMemory }
     ensures output { slot_at (contents (H.told host.old)) 260 ≡ to_errors →
         KeepsOutput (H.told host.old) (H.told host.new) }
     ensures keeps { Keeps (H.told host.old) (H.told host.new) (H.faults host.old) (H.faults host.new) }
 {
-    let Ok(text) = message(alloc, outcome) else {
-        return Outcome::OutOfMemory;
-    };
-    if text.as_slice().is_empty() {
+    match message(alloc, outcome) {
+        Ok(text) => say(host, outcome, text.as_slice()),
+        Err(_) => Outcome::OutOfMemory,
+    }
+}
+
+/// Writes a line to the tool's standard error, if there is something in it.
+fn say<H: Host>(host: &mut H, outcome: Outcome, text: &[u8]) -> Outcome
+    ensures plan { TellsBy (H.told host.old) (H.told host.new) result (plans.said_plan outcome text.now) }
+    ensures same { result ≢ Outcome.OutOfMemory → result ≡ outcome }
+    ensures output { slot_at (contents (H.told host.old)) 260 ≡ to_errors →
+        KeepsOutput (H.told host.old) (H.told host.new) }
+    ensures keeps { Keeps (H.told host.old) (H.told host.new) (H.faults host.old) (H.faults host.new) }
+{
+    if text.is_empty() {
         return outcome;
     }
-    match host.write_slot(260, text.as_slice()) {
-        Err(HostFault::OutOfMemory) => Outcome::OutOfMemory,
-        _ => outcome,
+    if is_lacking(write_error(host, text)) {
+        return Outcome::OutOfMemory;
     }
+    outcome
 }
 
 /// Writes the message line of an outcome to the tool's standard error, and reports behind it. Writes that fail change
 /// nothing; where there is no memory, that is the outcome.
 fn finish<H: Host>(alloc: Global, host: &mut H, outcome: Outcome, texts: &[Bytes]) -> Outcome
-    ensures told { AnswersAs (H.told host.old) (H.told host.new) result
-        (λ m. reports.with_reports texts.now (spec.message_told outcome (message_of outcome) m)) }
+    ensures plan { TellsAll (H.told host.old) (H.told host.new) result outcome texts.now }
     ensures same { result ≢ Outcome.OutOfMemory → result ≡ outcome }
     ensures output { slot_at (contents (H.told host.old)) 260 ≡ to_errors →
         KeepsOutput (H.told host.old) (H.told host.new) }
@@ -265,6 +265,10 @@ pub fn mmixware_watched<H: Host>(
     host: &mut H,
     watchers: &mut Vec<Box<dyn Watcher>>,
 ) -> Outcome
+    ensures plan { Does (H.told host.old) (H.told host.new) result
+        (plans.work_plan (map string_bytes words.now) (order_of (map string_bytes words.now))) (length watchers.old.items)
+        (λ m. reports.due_reports window_machine (map string_bytes words.now) (map meaning watchers.old.items)
+        (order_of (map string_bytes words.now)) m) }
     ensures product { AnswersAs (H.told host.old) (H.told host.new) result
         (λ m. reports.watched_product window_machine (map string_bytes words.now) (map meaning watchers.old.items) m) }
     ensures headline { AnswersAsList (H.told host.old) (H.told host.new) result
@@ -302,15 +306,19 @@ pub fn mmixware_watched<H: Host>(
 ///
 /// The words `run SRC` assemble the source in the file SRC and run it, `asm SRC OBJ` assemble it
 /// into the object file OBJ, `sim OBJ` run an object file, `gen N` run a source of N blocks that is
-/// made, `type OBJ` list an object file, and `multi SCHED OBJ` run one on several processors. All else that a user sees comes by the host: the object
-/// file, the program's own output, the dump that is asked for, the listing, and a message line on slot
-/// 260 where the outcome is none of a program or of a tool that is done.
+/// made, `type OBJ` list an object file, and `multi SCHED OBJ` run one on several processors. All else that
+/// a user sees comes by the host: the object file, the program's own output, the dump that is asked for, the
+/// listing, and a message line on slot 260 where the outcome is none of a program or of a tool that is done.
 ///
 /// Over a host that tells its contents the outcome and all that the host then holds are those of
 /// `product`, over a register window; and over an unbounded list of registers, as long as a program
 /// does not look at rS or at the memory of the register stack, where standard output begins as that of
-/// the list. Where memory runs out, standard output has been given a front of what `product` gives.
+/// the list. Where memory runs out, the calls, steps and turns that were completed stay and nothing else
+/// changed (`plan`), but for the message; standard output has been given a front of what `product` gives.
 pub fn mmixware<H: Host>(alloc: Global, words: &[String], host: &mut H) -> Outcome
+    ensures plan { Does (H.told host.old) (H.told host.new) result
+        (plans.work_plan (map string_bytes words.now) (order_of (map string_bytes words.now))) 0
+        (λ m. []) }
     ensures product { AnswersAs (H.told host.old) (H.told host.new) result
         (λ m. spec.product window_machine (map string_bytes words.now) m) }
     ensures headline { AnswersAsList (H.told host.old) (H.told host.new) result

@@ -1,6 +1,4 @@
-use Rattle.std.proofs.Common.{sym, ap, ◌∙◌}
-use Rattle.mx_files.specs.Schedules.{schedule_fault}
-use Rattle.mx_files.proofs.ReadSchedules.{faultless-named}
+use Rattle.mx_files.proofs.LeastFaults.{faultless-named}
 use Rattle.mx_files.proofs.schedule.judged.Goals as goal
 
 pub returns-in-None-clause-names : goal.returns-in-None-clause-names

@@ -8,18 +8,11 @@ use Rattle.mx_core.specs.Kept.{Kept, state_of}
 use Rattle.mx_top.specs.Runs.{dumped, session_outcome}
 use Rattle.mx_files.specs.declared.outcome.Outcome.TheVariants.{HostFault}
 use Rattle.mx_word.proofs.Fronts.{front-self}
-use Rattle.mx_top.proofs.SessionRuns.{dumped-fault, window-played, list-played, session-front-by}
-use Rattle.mx_top.proofs.Dumped.{dumped-front}
+use Rattle.mx_top.proofs.SessionRuns.{dumped-fault, list-played}
+use Rattle.mx_top.specs.ProductPlan.{session_played, dumped_plan}
+use Rattle.mx_top.proofs.MachinePlans.{session-follows}
+use Rattle.mx_top.proofs.Dumped.{undumped-fault}
 use Rattle.mx_top.proofs.console.run_session.Goals as goal
-
-pub returns-clause-told : goal.returns-clause-told
-returns-clause-told g c = λ t ne.
-    let there = subst IsTrue (sym c.session.ensures.keeps.telling) t in
-    let outcome : c.session_outcome.result ≡ session_outcome c.args.order.now.steps c.session.result = cc (c.session_outcome.ensures.value, c.in_default.end-is) in
-    let went = rw c.new-runner.ensures.machine at (c.session.ensures.told t (λ e. ne (c.tell_end.ensures.memory (c.session_outcome.ensures.memory (cc (e, c.in_default.end-is)))).0)) in
-    let said = rw c.machine.ensures at (c.tell_end.ensures.told there ne) in
-    window-played c.args.order.now.steps _ _ (state_of c.args.machine) (state_of c.session.new.runner.machine) _ _ _ c.session.result c.session_outcome.result c.tell_end.result
-    (dumped c.args.order.now.dump) c.new-runner.ensures.flags outcome went said
 
 pub returns-in-HostFault-clause-listed : goal.returns-in-HostFault-clause-listed
 returns-in-HostFault-clause-listed g c = λ t ne.
@@ -40,14 +33,22 @@ returns-clause-listed g c = λ t ne.
     (dumped c.args.order.now.dump) c.new-runner.ensures.flags outcome (λ m. refl) went (c.tell_end.ensures.keeps.growing there)
     (λ e. rw c.machine.ensures at (c.tell_end.ensures.list (subst (λ (k : Kept). (state_of k).touched ≡ false) (sym c.machine.ensures) e) there ne))
 
-pub returns-clause-front : goal.returns-clause-front
-returns-clause-front g c = λ t oom.
-    let there = subst IsTrue (sym c.session.ensures.keeps.telling) t in
-    let outcome : c.session_outcome.result ≡ session_outcome c.args.order.now.steps c.session.result = cc (c.session_outcome.ensures.value, c.in_default.end-is) in
-    session-front-by c.args.order.now.steps _ _ (state_of c.args.machine) (state_of c.session.new.runner.machine) _ _ (contents (g.H.Host.told c.tell_end.new.host)) c.session.result c.session_outcome.result
-    (dumped c.args.order.now.dump) c.new-runner.ensures.flags outcome (λ outcome s m. dumped-front c.args.order.now.dump outcome s m) (λ m. refl)
-    (λ ne. rw c.new-runner.ensures.machine at (c.session.ensures.told t ne)) (λ e. rw c.new-runner.ensures.machine at (c.session.ensures.front t e))
-    (λ e. ap (λ h. contents (g.H.Host.told h)) (c.tell_end.ensures.memory e).1) (rw c.machine.ensures at (c.tell_end.ensures.front there oom))
-
 pub returns-clause-keeps : goal.returns-clause-keeps
 returns-clause-keeps g c = keeps-then _ _ _ _ _ _ c.session.ensures.keeps c.tell_end.ensures.keeps
+
+pub returns-in-HostFault-clause-plan : goal.returns-in-HostFault-clause-plan
+unfolding session_played
+returns-in-HostFault-clause-plan g c = λ t.
+    let there = subst IsTrue (sym c.session.ensures.keeps.telling) t in
+    session-follows c.args.order.now.steps _ _ (state_of c.args.machine) (state_of c.session.new.runner.machine) _ _ _ sitting.HostFault HostFault HostFault
+    (dumped_plan c.args.order.now.dump) c.new-runner.ensures.flags refl (rw c.new-runner.ensures.machine at (c.in-HostFault.ensures.plan t))
+    (λ e. absurd (cc)) (λ ne. undumped-fault c.args.order.now.dump _ _ there)
+
+pub returns-clause-plan : goal.returns-clause-plan
+unfolding session_played
+returns-clause-plan g c = λ t.
+    let there = subst IsTrue (sym c.session.ensures.keeps.telling) t in
+    let outcome : c.session_outcome.result ≡ session_outcome c.args.order.now.steps c.session.result = cc (c.session_outcome.ensures.value, c.in_default.end-is) in
+    session-follows c.args.order.now.steps _ _ (state_of c.args.machine) (state_of c.session.new.runner.machine) _ _ _ c.session.result c.session_outcome.result c.tell_end.result
+    (dumped_plan c.args.order.now.dump) c.new-runner.ensures.flags outcome (rw c.new-runner.ensures.machine at (c.session.ensures.plan t))
+    (λ e. let none = c.tell_end.ensures.memory e in (none.0, ap (λ h. contents (g.H.Host.told h)) none.1)) (λ ne. rw c.machine.ensures at (c.tell_end.ensures.plan ne there))

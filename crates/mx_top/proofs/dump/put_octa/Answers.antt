@@ -1,9 +1,9 @@
 use Rattle.std.proofs.Common.{◌∙◌}
-use Rattle.mx_files.proofs.PutLines.{puts-renamed, puts-lacking}
+use Rattle.mx_files.proofs.WrittenLines.{writes-line, writes-lacking}
 use Rattle.mx_top.proofs.dump.put_octa.Goals as goal
 
-pub returns-in_err-line : goal.returns-in_err-line
-returns-in_err-line g c = puts-lacking _ _ _ _ _ c.from_residual.ensures.1
+pub returns-in-Ok : goal.returns-in-Ok
+returns-in-Ok g c = writes-line _ _ _ _ _ _ _ (c.as_slice.ensures ∙ c.in-Ok.ensures) c.write_line.ensures
 
-pub returns : goal.returns
-returns g c = puts-renamed _ _ _ _ _ _ _ (c.as_slice.ensures ∙ c.in_ok-line.ensures) c.put_line.ensures.puts
+pub returns-in-Err : goal.returns-in-Err
+returns-in-Err g c = writes-lacking _ _ _

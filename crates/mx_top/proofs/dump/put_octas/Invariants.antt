@@ -1,7 +1,7 @@
-use Rattle.std.proofs.Common.{◌≡◌, ◌≤◌, ◌-◌, ◌/◌, ◌%◌, ◌^◌, true, Ok}
+use Rattle.std.proofs.Common.{◌≡◌, ◌≤◌, ◌-◌, ◌/◌, ◌%◌, ◌^◌, Ok}
 use Rattle.mx_core.specs.Kept.{state_of}
 use Rattle.mx_top.specs.Dump.{octa_lines}
-use Rattle.mx_files.specs.Lines.{Puts}
+use Rattle.mx_files.proofs.WrittenLines.{Writes}
 use Rattle.mx_top.proofs.dump.put_octas.Given as goal
 
 -- the lines of the octas so far were written
@@ -9,7 +9,7 @@ abbrev pub invariant-loop-a : goal.invariant-loop-a
 invariant-loop-a g l = record {
   most : l.from ≤ 2 ^ 63;
   octas : l.from % 8 ≡ 0;
-  puts : Puts (g.H.Host.told l.fn.host) (g.H.Host.told l.host) (g.H.Host.faults l.fn.host) (g.H.Host.faults l.host) (Ok true)
+  written : Writes (g.H.Host.told l.fn.host) (g.H.Host.told l.host) (g.H.Host.faults l.fn.host) (g.H.Host.faults l.host) (Ok tt)
       (octa_lines (state_of l.machine) (l.from / 8));
 }
 

@@ -1,11 +1,8 @@
-use Rattle.std.proofs.Common.{refl}
-use Rattle.mx_host.specs.HostModel.{contents}
-use Rattle.mx_top.proofs.Sources.{object-front}
-use Rattle.mx_word.proofs.Fronts.{front-of}
+use Rattle.mx_top.proofs.WorkParts.{file-loaded, file-unloaded}
 use Rattle.mx_top.proofs.objects.sim_file.Goals as goal
 
--- reading wrote nothing, and a run only adds
-pub returns-in-Err-clause-front : goal.returns-in-Err-clause-front
-returns-in-Err-clause-front g c = λ t oom.
-    let here = contents (g.H.Host.told c.args.host.now) in
-    front-of here.output _ _ _ (c.in-Err.ensures.output t) refl (object-front c.args.order.now c.args.arguments.now here c.args.name.now)
+pub returns-in-Ok-clause-plan : goal.returns-in-Ok-clause-plan
+returns-in-Ok-clause-plan g c = file-loaded _ _ _ _ _ _ _ _ _ c.in-Ok.ensures.keeps.telling c.as_slice.ensures c.in-Ok.ensures.works.told c.run_object.ensures.plan
+
+pub returns-in-Err-clause-plan : goal.returns-in-Err-clause-plan
+returns-in-Err-clause-plan g c = file-unloaded _ _ _ _ _ _ c.in-Err.ensures.works.told

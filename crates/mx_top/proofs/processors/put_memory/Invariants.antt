@@ -1,8 +1,8 @@
-use Rattle.std.proofs.Common.{◌≡◌, ◌≤◌, ◌-◌, ◌/◌, ◌%◌, ◌^◌, true, Ok}
+use Rattle.std.proofs.Common.{◌≡◌, ◌≤◌, ◌-◌, ◌/◌, ◌%◌, ◌^◌, Ok}
 use Rattle.mx_multi.specs.Joint.{joint_of}
 use Rattle.mx_top.specs.Processors.{memory_alone}
 use Rattle.mx_top.specs.Dump.{octa_lines}
-use Rattle.mx_files.specs.Lines.{Puts}
+use Rattle.mx_files.proofs.WrittenLines.{Writes}
 use Rattle.mx_top.proofs.processors.put_memory.Given as goal
 
 -- the lines of the octas so far were written
@@ -10,7 +10,7 @@ abbrev pub invariant-loop-a : goal.invariant-loop-a
 invariant-loop-a g l = record {
   most : l.from ≤ 2 ^ 63;
   octas : l.from % 8 ≡ 0;
-  puts : Puts (g.H.Host.told l.fn.host) (g.H.Host.told l.host) (g.H.Host.faults l.fn.host) (g.H.Host.faults l.host) (Ok true)
+  written : Writes (g.H.Host.told l.fn.host) (g.H.Host.told l.host) (g.H.Host.faults l.fn.host) (g.H.Host.faults l.host) (Ok tt)
       (octa_lines (memory_alone (joint_of l.multi).memory) (l.from / 8));
 }
 

@@ -1,26 +1,28 @@
-use Rattle.std.proofs.Common.{sym, subst, IsTrue, refl, ap, ◌∙◌}
+use Rattle.std.proofs.Common.{sym, ◌∙◌, arith}
 use Rattle.mx_host.proofs.Keeping.{keeps-then}
-use Rattle.mx_files.specs.Answers.{answered}
-use Rattle.mx_top.proofs.Reported.{report-on, reports-over, kept-on}
+use Rattle.mx_top.proofs.Reported.{kept-on}
+use Rattle.mx_top.proofs.Saying.{reports-next, reports-lacking, reports-done}
 use Rattle.mx_top.proofs.reports.put_reports.Goals as goal
 
 pub loop-text-preserved : goal.loop-text-preserved
 loop-text-preserved g c =
     let was = c.loop-text.invariant in
     record {
-      told = λ t. report-on c.args.texts.now c.loop-text.text-index _ _ _ _ _ c.loop-text-test.true (c.as_slice.ensures ∙ c.text-item.is) (c.in-Ok.ensures.told (subst IsTrue (sym was.keeps.telling) t)) (was.told t);
-      output = kept-on _ _ _ _ _ was.keeps was.output c.in-Ok.ensures.output;
-      keeps = keeps-then _ _ _ _ _ _ was.keeps c.in-Ok.ensures.keeps;
+      plan = reports-next _ _ _ _ c.args.texts.now c.loop-text.text-index _ _ _ c.loop-text-test.true (c.as_slice.ensures ∙ c.text-item.is) (sym c.is_lacking.ensures ∙ c.if-is_lacking.false) was.keeps.telling c.put_report.ensures.plan was.plan;
+      output = kept-on _ _ _ _ _ was.keeps was.output c.put_report.ensures.output;
+      keeps = keeps-then _ _ _ _ _ _ was.keeps c.put_report.ensures.keeps;
     }
 
-pub returns-in-Err-clause-told : goal.returns-in-Err-clause-told
-returns-in-Err-clause-told g c = λ t ne. absurd (ne refl)
+pub returns-then-is_lacking-clause-plan : goal.returns-then-is_lacking-clause-plan
+returns-then-is_lacking-clause-plan g c =
+    let was = c.loop-text.invariant in
+    reports-lacking _ _ _ _ c.args.texts.now c.loop-text.text-index _ _ _ c.loop-text-test.true (c.as_slice.ensures ∙ c.text-item.is) (sym c.is_lacking.ensures ∙ c.if-is_lacking.true) was.keeps.telling c.put_report.ensures.plan was.plan
 
-pub returns-in-Err-clause-output : goal.returns-in-Err-clause-output
-returns-in-Err-clause-output g c = kept-on _ _ _ _ _ c.loop-text.invariant.keeps c.loop-text.invariant.output c.in-Err.ensures.output
+pub returns-then-is_lacking-clause-output : goal.returns-then-is_lacking-clause-output
+returns-then-is_lacking-clause-output g c = kept-on _ _ _ _ _ c.loop-text.invariant.keeps c.loop-text.invariant.output c.put_report.ensures.output
 
-pub returns-in-Err-clause-keeps : goal.returns-in-Err-clause-keeps
-returns-in-Err-clause-keeps g c = keeps-then _ _ _ _ _ _ c.loop-text.invariant.keeps c.in-Err.ensures.keeps
+pub returns-then-is_lacking-clause-keeps : goal.returns-then-is_lacking-clause-keeps
+returns-then-is_lacking-clause-keeps g c = keeps-then _ _ _ _ _ _ c.loop-text.invariant.keeps c.put_report.ensures.keeps
 
-pub returns-clause-told : goal.returns-clause-told
-returns-clause-told g c = λ t ne. ap (answered c.args.outcome) (reports-over c.args.texts.now c.loop-text.text-index _ _ c.loop-text-test.false (c.loop-text.invariant.told t))
+pub returns-clause-plan : goal.returns-clause-plan
+returns-clause-plan g c = reports-done _ _ _ c.args.texts.now c.loop-text.text-index (omega (arith, c.loop-text-test.false)) c.loop-text.invariant.plan

@@ -5,17 +5,10 @@ use Rattle.mx_host.specs.HostModel.{contents}
 use Rattle.mx_core.specs.Bounds.{as_list_state}
 use Rattle.mx_core.specs.Kept.{Kept, state_of}
 use Rattle.mx_top.specs.Runs.{dumped}
-use Rattle.mx_top.proofs.MachineRuns.{window-goes, list-goes, run-front-by}
-use Rattle.mx_top.proofs.Dumped.{dumped-front}
+use Rattle.mx_top.proofs.MachineRuns.{list-goes}
+use Rattle.mx_top.specs.ProductPlan.{stepped_plan, dumped_plan}
+use Rattle.mx_top.proofs.MachinePlans.{run-follows}
 use Rattle.mx_top.proofs.run.run_steps.Goals as goal
-
-pub returns-clause-told : goal.returns-clause-told
-returns-clause-told g c = λ t ne.
-    let there = subst IsTrue (sym c.go-end.ensures.keeps.telling) t in
-    let went = rw c.new-runner.ensures.machine at (c.go-end.ensures.told t (λ e. ne (c.tell_end.ensures.memory (c.outcome_of.ensures.memory e)).0)) in
-    let said = rw c.machine.ensures at (c.tell_end.ensures.told there ne) in
-    window-goes c.args.order.now.steps _ (state_of c.args.machine) (state_of c.go-end.new.self.machine) _ _ _ c.go-end.result c.outcome_of.result c.tell_end.result
-    (dumped c.args.order.now.dump) c.new-runner.ensures.flags c.outcome_of.ensures.value went said
 
 pub returns-clause-listed : goal.returns-clause-listed
 returns-clause-listed g c = λ t ne.
@@ -26,13 +19,13 @@ returns-clause-listed g c = λ t ne.
     (dumped c.args.order.now.dump) c.new-runner.ensures.flags c.outcome_of.ensures.value (λ m. refl) went (c.tell_end.ensures.keeps.growing there)
     (λ e. rw c.machine.ensures at (c.tell_end.ensures.list (subst (λ (k : Kept). (state_of k).touched ≡ false) (sym c.machine.ensures) e) there ne))
 
-pub returns-clause-front : goal.returns-clause-front
-returns-clause-front g c = λ t oom.
-    let there = subst IsTrue (sym c.go-end.ensures.keeps.telling) t in
-    run-front-by c.args.order.now.steps _ (state_of c.args.machine) (state_of c.go-end.new.self.machine) _ _ (contents (g.H.Host.told c.tell_end.new.host)) c.go-end.result c.outcome_of.result c.tell_end.result
-    (dumped c.args.order.now.dump) c.new-runner.ensures.flags c.outcome_of.ensures.value (λ outcome s m. dumped-front c.args.order.now.dump outcome s m)
-    (λ ne. rw c.new-runner.ensures.machine at (c.go-end.ensures.told t ne)) (λ e. rw c.new-runner.ensures.machine at (c.go-end.ensures.front t e))
-    (λ e. ap (λ h. contents (g.H.Host.told h)) (c.tell_end.ensures.memory e).1) (rw c.machine.ensures at (c.tell_end.ensures.front there oom))
-
 pub returns-clause-keeps : goal.returns-clause-keeps
 returns-clause-keeps g c = keeps-then _ _ _ _ _ _ c.go-end.ensures.keeps c.tell_end.ensures.keeps
+
+pub returns-clause-plan : goal.returns-clause-plan
+unfolding stepped_plan
+returns-clause-plan g c = λ t.
+    let there = subst IsTrue (sym c.go-end.ensures.keeps.telling) t in
+    run-follows c.args.order.now.steps _ (state_of c.args.machine) (state_of c.go-end.new.self.machine) _ _ _ c.go-end.result c.outcome_of.result c.tell_end.result
+    (dumped_plan c.args.order.now.dump) c.new-runner.ensures.flags c.outcome_of.ensures.value (rw c.new-runner.ensures.machine at (c.go-end.ensures.plan t))
+    (λ e. let none = c.tell_end.ensures.memory e in (none.0, ap (λ h. contents (g.H.Host.told h)) none.1)) (λ ne. rw c.machine.ensures at (c.tell_end.ensures.plan ne there))

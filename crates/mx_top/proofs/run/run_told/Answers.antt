@@ -8,18 +8,11 @@ use Rattle.mx_run.specs.Runs.{no_flags}
 use Rattle.mx_run.specs.WildRuns.{list_machine, run_by}
 use Rattle.mx_watch.proofs.HeardBy.{hears-by}
 use Rattle.mx_top.specs.Runs.{dumped}
-use Rattle.mx_top.proofs.MachineRuns.{window-goes, list-goes, run-front-by}
-use Rattle.mx_top.proofs.Dumped.{dumped-front}
+use Rattle.mx_top.proofs.MachineRuns.{list-goes}
 use Rattle.mx_top.proofs.Heard.{run-told}
+use Rattle.mx_top.specs.ProductPlan.{watched_plan, dumped_plan}
+use Rattle.mx_top.proofs.MachinePlans.{watched-follows}
 use Rattle.mx_top.proofs.run.run_told.Goals as goal
-
-pub returns-clause-told : goal.returns-clause-told
-returns-clause-told g c = λ t ne.
-    let there = subst IsTrue (sym c.watched_run-end.ensures.keeps.telling) t in
-    let went = c.watched_run-end.ensures.told t (λ e. ne (c.tell_end.ensures.memory (c.outcome_of.ensures.memory e)).0) in
-    let said = c.tell_end.ensures.told there ne in
-    window-goes c.args.order.now.steps no_flags (state_of c.args.machine) (state_of c.watched_run-end.new.machine) _ _ _ c.watched_run-end.result c.outcome_of.result c.tell_end.result
-    (dumped c.args.order.now.dump) refl c.outcome_of.ensures.value went said
 
 pub returns-clause-listed : goal.returns-clause-listed
 returns-clause-listed g c = λ t ne.
@@ -28,14 +21,6 @@ returns-clause-listed g c = λ t ne.
     list-goes c.args.order.now.steps no_flags (as_list_state (state_of c.args.machine)) (state_of c.watched_run-end.new.machine) c.watched_run-end.result _ _ _ c.outcome_of.result c.tell_end.result
     (dumped c.args.order.now.dump) refl c.outcome_of.ensures.value (λ m. refl) went (c.tell_end.ensures.keeps.growing there)
     (λ e. c.tell_end.ensures.list e there ne)
-
-pub returns-clause-front : goal.returns-clause-front
-returns-clause-front g c = λ t oom.
-    let there = subst IsTrue (sym c.watched_run-end.ensures.keeps.telling) t in
-    run-front-by c.args.order.now.steps no_flags (state_of c.args.machine) (state_of c.watched_run-end.new.machine) _ _ (contents (g.H.Host.told c.tell_end.new.host)) c.watched_run-end.result c.outcome_of.result c.tell_end.result
-    (dumped c.args.order.now.dump) refl c.outcome_of.ensures.value (λ outcome s m. dumped-front c.args.order.now.dump outcome s m)
-    (λ ne. c.watched_run-end.ensures.told t ne) (λ e. c.watched_run-end.ensures.front t e)
-    (λ e. ap (λ h. contents (g.H.Host.told h)) (c.tell_end.ensures.memory e).1) (c.tell_end.ensures.front there oom)
 
 pub returns-clause-heard : goal.returns-clause-heard
 returns-clause-heard g c = λ t ne.
@@ -49,3 +34,11 @@ returns-clause-list_heard g c = λ t ne.
 
 pub returns-clause-keeps : goal.returns-clause-keeps
 returns-clause-keeps g c = keeps-then _ _ _ _ _ _ c.watched_run-end.ensures.keeps c.tell_end.ensures.keeps
+
+pub returns-clause-plan : goal.returns-clause-plan
+unfolding watched_plan
+returns-clause-plan g c = λ t.
+    let there = subst IsTrue (sym c.watched_run-end.ensures.keeps.telling) t in
+    watched-follows c.args.order.now.steps (state_of c.args.machine) (state_of c.watched_run-end.new.machine) _ _ _ c.watched_run-end.result c.outcome_of.result c.tell_end.result
+    (dumped_plan c.args.order.now.dump) c.outcome_of.ensures.value (c.watched_run-end.ensures.plan t)
+    (λ e. let none = c.tell_end.ensures.memory e in (none.0, ap (λ h. contents (g.H.Host.told h)) none.1)) (λ ne. c.tell_end.ensures.plan ne there)

@@ -1,11 +1,8 @@
-use Rattle.std.proofs.Common.{refl}
-use Rattle.mx_host.specs.HostModel.{contents}
-use Rattle.mx_top.proofs.TurnFronts.{schedule-front}
-use Rattle.mx_word.proofs.Fronts.{front-of}
+use Rattle.mx_top.proofs.WorkParts.{schedule-turns, schedule-unread}
 use Rattle.mx_top.proofs.schedules.multi_file.Goals as goal
 
--- reading wrote nothing, and what follows only adds
-pub returns-in-Err-clause-front : goal.returns-in-Err-clause-front
-returns-in-Err-clause-front g c = λ t oom.
-    let here = contents (g.H.Host.told c.args.host.now) in
-    front-of here.output _ _ _ (c.in-Err.ensures.output t) refl (schedule-front c.args.order.now here c.args.schedule.now c.args.object.now)
+pub returns-in-Ok-clause-plan : goal.returns-in-Ok-clause-plan
+returns-in-Ok-clause-plan g c = schedule-turns _ _ _ _ _ _ _ _ _ c.in-Ok.ensures.keeps.telling c.as_slice.ensures c.in-Ok.ensures.works.told c.object_file.ensures.plan
+
+pub returns-in-Err-clause-plan : goal.returns-in-Err-clause-plan
+returns-in-Err-clause-plan g c = schedule-unread _ _ _ _ _ _ c.in-Err.ensures.works.told

@@ -5,7 +5,7 @@ use Rattle.mx_multi.specs.Joint.{Joint, NoneTouched, as_list_joint}
 use Rattle.mx_multi.proofs.ListStarts.{start-listed, start-untouched}
 use Rattle.mx_ring.specs.Stack.{windowed}
 use Rattle.mx_ring.specs.Window.{window_at_start}
-use Rattle.mx_top.proofs.TurnFronts.{image-front, listed-start}
+use Rattle.mx_top.proofs.WorkParts.{listed-start, turns-started, turns-lack}
 use Rattle.mx_top.proofs.schedules.run_image.Goals as goal
 
 pub run_started-requires-clause-untouched : goal.run_started-requires-clause-untouched
@@ -20,5 +20,8 @@ returns-in-Ok-clause-listed g c = λ t ne.
     let begun = ap as_list_joint c.in-Ok.ensures.state ∙ sym (start-listed image c.processors_named-count.result ring) in
     listed-start c.args.order.now c.args.schedule.now image c.processors_named-count.result here _ c.run_started.result _ c.processors_named-count.ensures.value begun (c.run_started.ensures.listed t ne)
 
-pub returns-in-Err-clause-front : goal.returns-in-Err-clause-front
-returns-in-Err-clause-front g c = λ t oom. image-front c.args.order.now c.args.schedule.now (image_of c.args.image) (contents (g.H.Host.told c.args.host.now))
+pub returns-in-Ok-clause-plan : goal.returns-in-Ok-clause-plan
+returns-in-Ok-clause-plan g c = turns-started _ _ _ _ _ _ _ _ c.processors_named-count.ensures.value c.in-Ok.ensures.state c.run_started.ensures.plan
+
+pub returns-in-Err-clause-plan : goal.returns-in-Err-clause-plan
+returns-in-Err-clause-plan g c = turns-lack _ _ _ _

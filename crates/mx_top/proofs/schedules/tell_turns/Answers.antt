@@ -1,20 +1,30 @@
-use Rattle.std.proofs.Common.{sym, ◌∙◌}
+use Rattle.std.proofs.Common.{refl, sym, ◌∙◌}
 use Rattle.mx_host.specs.HostModel.{contents}
 use Rattle.mx_multi.specs.Joint.{joint_of}
-use Rattle.mx_top.proofs.TurnsTold.{ended-front, told-listed, all-written, not-written}
+use Rattle.mx_top.specs.Processors.{multi_outcome, multi_lines}
+use Rattle.mx_files.proofs.FileClauses.{part-keeps}
+use Rattle.mx_top.proofs.Dumped.{written-plan, written-answer}
+use Rattle.mx_top.proofs.TurnsTold.{told-listed, turned-well}
 use Rattle.mx_top.proofs.schedules.tell_turns.Goals as goal
 
-pub returns-then-eq-clause-front : goal.returns-then-eq-clause-front
-returns-then-eq-clause-front g c = λ t oom.
-    ended-front c.args.order.now.dump c.args.order.now.steps c.args.end (joint_of c.args.multi.now) (contents (g.H.Host.told c.args.host.now))
+pub returns-in-Ok-clause-plan : goal.returns-in-Ok-clause-plan
+returns-in-Ok-clause-plan g c = λ ne. written-plan _ _ _ _ _ _ _ _ (turned-well c.args.order.now.steps c.args.end ne) c.multi_outcome.ensures.value c.in-Ok.ensures
 
-pub returns-in-Ok-true-clause-list : goal.returns-in-Ok-true-clause-list
-returns-in-Ok-true-clause-list g c = λ t ne.
-    all-written c.args.order.now.dump c.args.order.now.steps c.args.end (joint_of c.args.multi.now) _ _ c.multi_outcome.result c.multi_outcome.ensures.value
-    (rw c.in-Ok-true.field-0-test at (c.in-Ok-true.ensures.told t))
+pub returns-in-Ok-clause-list : goal.returns-in-Ok-clause-list
+returns-in-Ok-clause-list g c = λ t ne.
+    written-answer _ _ _ _ (multi_outcome c.args.order.now.steps c.args.end) _ (multi_lines c.args.order.now.dump c.args.end (joint_of c.args.multi.now)) _ c.multi_outcome.ensures.value c.in-Ok.ensures t ne
     ∙ sym (told-listed c.args.order.now.dump c.args.order.now.steps c.args.end (joint_of c.args.multi.now) (contents (g.H.Host.told c.args.host.now)))
 
-pub returns-in-Ok-false-clause-list : goal.returns-in-Ok-false-clause-list
-returns-in-Ok-false-clause-list g c = λ t ne.
-    not-written c.args.order.now.dump c.args.order.now.steps c.args.end (joint_of c.args.multi.now) _ _ (rw c.in-Ok-false.field-0-test at (c.in-Ok-false.ensures.told t))
+pub returns-in-Ok-clause-keeps : goal.returns-in-Ok-clause-keeps
+returns-in-Ok-clause-keeps g c = part-keeps _ _ _ _ _ _ c.in-Ok.ensures
+
+pub returns-in-Err-clause-plan : goal.returns-in-Err-clause-plan
+returns-in-Err-clause-plan g c = λ ne. written-plan _ _ _ _ _ _ _ _ (turned-well c.args.order.now.steps c.args.end ne) refl c.in-Err.ensures
+
+pub returns-in-Err-clause-list : goal.returns-in-Err-clause-list
+returns-in-Err-clause-list g c = λ t ne.
+    written-answer _ _ _ _ (multi_outcome c.args.order.now.steps c.args.end) _ (multi_lines c.args.order.now.dump c.args.end (joint_of c.args.multi.now)) _ refl c.in-Err.ensures t ne
     ∙ sym (told-listed c.args.order.now.dump c.args.order.now.steps c.args.end (joint_of c.args.multi.now) (contents (g.H.Host.told c.args.host.now)))
+
+pub returns-in-Err-clause-keeps : goal.returns-in-Err-clause-keeps
+returns-in-Err-clause-keeps g c = part-keeps _ _ _ _ _ _ c.in-Err.ensures

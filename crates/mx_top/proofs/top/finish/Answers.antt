@@ -1,12 +1,15 @@
-use Rattle.std.proofs.Common.{sym, subst, ◌∙◌, IsTrue}
+use Rattle.std.proofs.Common.{sym, subst, IsTrue}
 use Rattle.mx_host.proofs.Keeping.{keeps-then}
-use Rattle.mx_top.proofs.Reported.{behind-message, kept-on}
+use Rattle.mx_top.proofs.Reported.{kept-on}
 use Rattle.mx_top.proofs.top.finish.Goals as goal
 
-pub returns-clause-told : goal.returns-clause-told
-returns-clause-told g c = λ t ne.
-    let same = c.put_reports.ensures.same ne in
-    behind-message _ _ _ _ _ _ _ (c.tell-told.ensures.told t (λ e. ne (same ∙ e))) (c.put_reports.ensures.told (subst IsTrue (sym c.tell-told.ensures.keeps.telling) t) ne)
+pub returns-clause-plan : goal.returns-clause-plan
+returns-clause-plan g c = λ t. record {
+  between = _;
+  spoken = c.tell-told.result;
+  message = c.tell-told.ensures.plan t;
+  behind = c.put_reports.ensures.plan (subst IsTrue (sym c.tell-told.ensures.keeps.telling) t);
+}
 
 pub returns-clause-output : goal.returns-clause-output
 returns-clause-output g c = kept-on _ _ _ _ _ c.tell-told.ensures.keeps c.tell-told.ensures.output c.put_reports.ensures.output

@@ -1,9 +1,12 @@
-use Rattle.std.proofs.Common.{◌∙◌, subst, map}
+use Rattle.std.proofs.Common.{◌∙◌, ap, subst, map}
 use Rattle.std.specs.Prelude.{string_bytes}
 use Rattle.mx_host.specs.HostModel.{contents}
 use Rattle.mx_run.specs.WildRuns.{window_machine, list_machine}
 use Rattle.mx_files.specs.Answers.{Answer, GoesAs}
-use Rattle.mx_top.proofs.Reported.{unwatched, none-mean}
+use Rattle.mx_top.proofs.Reported.{unwatched, none-mean, none-due}
+use Rattle.mx_words.specs.Orders.{order_of}
+use Rattle.mx_top.specs.Reports.{due_reports}
+use Rattle.mx_top.proofs.FewReports.{unwatched-doing}
 use Rattle.mx_top.proofs.top.mmixware.Goals as goal
 
 pub returns-clause-product : goal.returns-clause-product
@@ -14,3 +17,10 @@ pub returns-clause-headline : goal.returns-clause-headline
 returns-clause-headline g c = λ t ne.
     subst (λ (a : Answer). GoesAs a c.mmixware_watched.result (contents (g.H.Host.told c.mmixware_watched.new.host)))
     (unwatched list_machine (map string_bytes c.args.words.now) _ (contents (g.H.Host.told c.args.host.now)) (none-mean _ _ c.new-nobody.ensures.items)) (c.mmixware_watched.ensures.headline t ne)
+
+pub returns-clause-plan : goal.returns-clause-plan
+returns-clause-plan g c = λ t.
+    let words = map string_bytes c.args.words.now in
+    let start = contents (g.H.Host.told c.args.host.now) in
+    unwatched-doing _ _ _ _ _ _ c.new-nobody.ensures.items
+    (ap (λ ws. due_reports window_machine words ws (order_of words) start) (none-mean _ _ c.new-nobody.ensures.items) ∙ none-due window_machine words (order_of words) start) (c.mmixware_watched.ensures.plan t)

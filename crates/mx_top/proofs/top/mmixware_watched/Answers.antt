@@ -1,4 +1,4 @@
-use Rattle.std.proofs.Common.{◌≢◌, refl, subst, sym, ◌∙◌, map}
+use Rattle.std.proofs.Common.{◌≢◌, inl, inr, [], ap, refl, subst, sym, ◌∙◌, map, arith}
 use Rattle.std.specs.Prelude.{IsTrue, string_bytes}
 use Rattle.std.proofs.lemmas.List.{length-map}
 use Rattle.mx_host.specs.HostModel.{contents}
@@ -10,6 +10,13 @@ use Rattle.mx_top.proofs.Heard.{found-due, from-none, left-of, unless-by}
 use Rattle.mx_top.proofs.Reported.{reported, reported-goes}
 use Rattle.mx_top.proofs.Told.{spoken-front}
 use Rattle.mx_word.proofs.Fronts.{front-of}
+use Rattle.mx_word.specs.Lists.{IsFront}
+use Rattle.mx_files.specs.Answers.{Answer, plainly, output_of}
+use Rattle.mx_top.specs.ProductPlan.{work_plan}
+use Rattle.mx_top.proofs.ProductEnds.{work-end}
+use Rattle.mx_top.proofs.ProgramHeld.{work-front}
+use Rattle.mx_top.proofs.Saying.{telling-told, alone}
+use Rattle.mx_top.proofs.FewReports.{few-found}
 use Rattle.mx_top.proofs.top.mmixware_watched.Goals as goal
 
 pub returns-in-Ok-clause-product : goal.returns-in-Ok-clause-product
@@ -17,9 +24,9 @@ returns-in-Ok-clause-product g c = λ t ne.
     let said = c.carry_out-outcome.ensures in
     let there = subst IsTrue (sym said.keeps.telling) t in
     let wanting : c.carry_out-outcome.result ≢ OutOfMemory = λ e. ne (c.finish.ensures.same ne ∙ e) in
-    reported c.carry_out-outcome.result c.finish.result _ _ _ _ _ (said.told t wanting)
+    reported c.carry_out-outcome.result c.finish.result _ _ _ _ _ (ap plainly ((said.plan t).ending wanting) ∙ work-end (map string_bytes c.args.words.now) (order_of (map string_bytes c.args.words.now)) (contents (g.H.Host.told c.args.host.now)))
     (c.as_slice.ensures ∙ c.in-Ok.ensures ∙ found-due window_machine (map string_bytes c.args.words.now) _ _ _ (order_of (map string_bytes c.args.words.now)) (contents (g.H.Host.told c.args.host.now)) _ (c.len-count.ensures ∙ c.args.watchers.now.ok.0 ∙ sym (length-map c.args.watchers.now.items _)) (from-none _ _ _ _ c.new-kept.ensures (said.heard t wanting)))
-    (c.finish.ensures.told there ne)
+    (telling-told _ _ _ _ _ (c.finish.ensures.plan there) ne)
 
 pub returns-in-Ok-clause-headline : goal.returns-in-Ok-clause-headline
 returns-in-Ok-clause-headline g c = λ t ne.
@@ -31,7 +38,7 @@ returns-in-Ok-clause-headline g c = λ t ne.
     (unless-by (carried_out list_machine (map string_bytes c.args.words.now) (order_of (map string_bytes c.args.words.now)) (contents (g.H.Host.told c.args.host.now))) _ _
     (λ e. c.as_slice.ensures ∙ c.in-Ok.ensures ∙ found-due list_machine (map string_bytes c.args.words.now) _ _ _ (order_of (map string_bytes c.args.words.now)) (contents (g.H.Host.told c.args.host.now)) _ (c.len-count.ensures ∙ c.args.watchers.now.ok.0 ∙ sym (length-map c.args.watchers.now.items _)) (from-none _ _ _ _ c.new-kept.ensures e))
     (said.list_heard t wanting))
-    (c.finish.ensures.told there ne) (c.finish.ensures.keeps.growing there)
+    (telling-told _ _ _ _ _ (c.finish.ensures.plan there) ne) (c.finish.ensures.keeps.growing there)
 
 pub returns-in-Ok-clause-left : goal.returns-in-Ok-clause-left
 returns-in-Ok-clause-left g c = λ t ne. left-of _ _ _ _ _ c.new-kept.ensures (c.carry_out-outcome.ensures.heard t (λ e. ne (c.finish.ensures.same ne ∙ e)))
@@ -43,7 +50,9 @@ returns-in-Ok-clause-written g c = λ to_stderr t oom.
     let here = contents (g.H.Host.told c.carry_out-outcome.new.host) in
     let said = c.carry_out-outcome.ensures in
     front-of here.output _ _ _ (c.finish.ensures.output (said.keeps.errors t to_stderr) (subst IsTrue (sym said.keeps.telling) t)) refl
-    (spoken-front c.carry_out-outcome.result here (carried_out window_machine (map string_bytes c.args.words.now) (order_of (map string_bytes c.args.words.now)) start) (said.told t) (said.front t))
+    (spoken-front c.carry_out-outcome.result here (carried_out window_machine (map string_bytes c.args.words.now) (order_of (map string_bytes c.args.words.now)) start) (λ ne. ap plainly ((said.plan t).ending ne) ∙ work-end (map string_bytes c.args.words.now) (order_of (map string_bytes c.args.words.now)) start)
+    (λ e. subst (λ (a : Answer). IsFront here.output (output_of a)) (work-end (map string_bytes c.args.words.now) (order_of (map string_bytes c.args.words.now)) start)
+    (work-front (work_plan (map string_bytes c.args.words.now) (order_of (map string_bytes c.args.words.now))) here start ((said.plan t).stopping e))))
 
 pub returns-clause-written : goal.returns-clause-written
 returns-clause-written g c = λ to_stderr t oom.
@@ -51,4 +60,37 @@ returns-clause-written g c = λ to_stderr t oom.
     let here = contents (g.H.Host.told c.carry_out-outcome.new.host) in
     let said = c.carry_out-outcome.ensures in
     front-of here.output _ _ _ (c.tell.ensures.output (said.keeps.errors t to_stderr) (subst IsTrue (sym said.keeps.telling) t)) refl
-    (spoken-front c.carry_out-outcome.result here (carried_out window_machine (map string_bytes c.args.words.now) (order_of (map string_bytes c.args.words.now)) start) (said.told t) (said.front t))
+    (spoken-front c.carry_out-outcome.result here (carried_out window_machine (map string_bytes c.args.words.now) (order_of (map string_bytes c.args.words.now)) start) (λ ne. ap plainly ((said.plan t).ending ne) ∙ work-end (map string_bytes c.args.words.now) (order_of (map string_bytes c.args.words.now)) start)
+    (λ e. subst (λ (a : Answer). IsFront here.output (output_of a)) (work-end (map string_bytes c.args.words.now) (order_of (map string_bytes c.args.words.now)) start)
+    (work-front (work_plan (map string_bytes c.args.words.now) (order_of (map string_bytes c.args.words.now))) here start ((said.plan t).stopping e))))
+
+pub returns-in-Ok-clause-plan : goal.returns-in-Ok-clause-plan
+returns-in-Ok-clause-plan g c = λ t.
+    let said = c.carry_out-outcome.ensures in
+    let there = subst IsTrue (sym said.keeps.telling) t in
+    let many = c.len-count.ensures ∙ c.args.watchers.now.ok.0 in
+    record {
+      left = contents (g.H.Host.told c.carry_out-outcome.new.host);
+      outcome = c.carry_out-outcome.result;
+      said = c.carry_out-outcome.result;
+      texts = _;
+      works = said.plan t;
+      reports = inl (refl, λ ne. c.as_slice.ensures ∙ c.in-Ok.ensures ∙ found-due window_machine (map string_bytes c.args.words.now) _ _ _ (order_of (map string_bytes c.args.words.now)) (contents (g.H.Host.told c.args.host.now)) _ (many ∙ sym (length-map c.args.watchers.now.items _)) (from-none _ _ _ _ c.new-kept.ensures (said.heard t ne)));
+      few = few-found _ _ _ _ _ _ (c.as_slice.ensures ∙ c.in-Ok.ensures) many;
+      told = c.finish.ensures.plan there;
+    }
+
+pub returns-clause-plan : goal.returns-clause-plan
+returns-clause-plan g c = λ t.
+    let said = c.carry_out-outcome.ensures in
+    let there = subst IsTrue (sym said.keeps.telling) t in
+    record {
+      left = contents (g.H.Host.told c.carry_out-outcome.new.host);
+      outcome = c.carry_out-outcome.result;
+      said = OutOfMemory;
+      texts = [];
+      works = said.plan t;
+      reports = inr (refl, refl);
+      few = omega arith;
+      told = record { between = _; spoken = c.tell.result; message = c.tell.ensures.plan there; behind = inl (alone _ _) };
+    }

@@ -1,0 +1,36 @@
+use Rattle.std.proofs.Common.{[], ◌∷◌, refl}
+use Rattle.mx_core.specs.Kept.{state_of}
+use Rattle.mx_ring.specs.Stack.{register}
+use Rattle.law_gen.specs.Generator.{summary}
+use Rattle.mx_files.specs.declared.outcome.Outcome.TheVariants.{Done}
+use Rattle.mx_files.proofs.FileClauses.{part-keeps}
+use Rattle.mx_files.proofs.WrittenLines.{writes-line, writes-lacking}
+use Rattle.mx_top.proofs.Dumped.{written-plan, written-answer}
+use Rattle.mx_top.proofs.generation.put_summary.Goals as goal
+
+pub returns-in-Err-clause-plan : goal.returns-in-Err-clause-plan
+returns-in-Err-clause-plan g c = written-plan _ _ 0 0 (Done 0) _ _ _ (λ e. cc) refl (writes-lacking _ 0 _)
+
+pub returns-in-Ok-write_line-clause-plan : goal.returns-in-Ok-write_line-clause-plan
+returns-in-Ok-write_line-clause-plan g c =
+    written-plan _ _ _ _ (Done 0) _ _ _ (λ e. cc) refl (writes-line _ _ _ _ _ _ _ (cc (c.as_slice.ensures, c.in-Ok.ensures, c.steps.ensures, c.register.ensures)) c.in-Ok-write_line.ensures)
+
+pub returns-in-Ok-write_line-clause-told : goal.returns-in-Ok-write_line-clause-told
+returns-in-Ok-write_line-clause-told g c =
+    written-answer _ _ _ _ (Done 0) _ (summary c.args.blocks c.args.size (state_of c.args.machine.now).steps (register (state_of c.args.machine.now).stack 255) ∷ []) _ refl
+    (writes-line _ _ _ _ _ _ _ (cc (c.as_slice.ensures, c.in-Ok.ensures, c.steps.ensures, c.register.ensures)) c.in-Ok-write_line.ensures)
+
+pub returns-in-Ok-write_line-clause-keeps : goal.returns-in-Ok-write_line-clause-keeps
+returns-in-Ok-write_line-clause-keeps g c = part-keeps _ _ _ _ _ _ c.in-Ok-write_line.ensures
+
+pub returns-clause-plan : goal.returns-clause-plan
+returns-clause-plan g c =
+    written-plan _ _ _ _ (Done 0) _ _ _ (λ e. cc) refl (writes-line _ _ _ _ _ _ _ (cc (c.as_slice.ensures, c.in-Ok.ensures, c.steps.ensures, c.register.ensures)) c.in-Err-write_line.ensures)
+
+pub returns-clause-told : goal.returns-clause-told
+returns-clause-told g c =
+    written-answer _ _ _ _ (Done 0) _ (summary c.args.blocks c.args.size (state_of c.args.machine.now).steps (register (state_of c.args.machine.now).stack 255) ∷ []) _ refl
+    (writes-line _ _ _ _ _ _ _ (cc (c.as_slice.ensures, c.in-Ok.ensures, c.steps.ensures, c.register.ensures)) c.in-Err-write_line.ensures)
+
+pub returns-clause-keeps : goal.returns-clause-keeps
+returns-clause-keeps g c = part-keeps _ _ _ _ _ _ c.in-Err-write_line.ensures

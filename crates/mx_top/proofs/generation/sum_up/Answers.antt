@@ -1,0 +1,15 @@
+use Rattle.std.proofs.Common.{sym, ◌∙◌}
+use Rattle.mx_top.proofs.Summed.{unsummed-plan, unsummed-list, done-plan, done-list}
+use Rattle.mx_top.proofs.generation.sum_up.Goals as goal
+
+pub returns-then-not-is_done-clause-plan : goal.returns-then-not-is_done-clause-plan
+returns-then-not-is_done-clause-plan g c = λ ne. unsummed-plan _ _ _ _ _ (sym c.is_done.ensures ∙ c.if-not-is_done.true) ne
+
+pub returns-then-not-is_done-clause-list : goal.returns-then-not-is_done-clause-list
+returns-then-not-is_done-clause-list g c = λ u t ne. unsummed-list _ _ _ _ _ (sym c.is_done.ensures ∙ c.if-not-is_done.true)
+
+pub returns-clause-plan : goal.returns-clause-plan
+returns-clause-plan g c = λ ne. done-plan _ _ _ _ _ _ _ (sym c.is_done.ensures ∙ c.if-not-is_done.false) c.put_summary.ensures.plan
+
+pub returns-clause-list : goal.returns-clause-list
+returns-clause-list g c = λ u t ne. c.put_summary.ensures.told t ne ∙ done-list _ _ _ _ _ (sym c.is_done.ensures ∙ c.if-not-is_done.false)

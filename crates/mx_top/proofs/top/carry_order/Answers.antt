@@ -1,0 +1,14 @@
+use Rattle.mx_top.proofs.WorkParts.{asm-ordered, gen-ordered, show-ordered, multi-ordered}
+use Rattle.mx_top.proofs.top.carry_order.Goals as goal
+
+pub returns-in-Asm-clause-plan : goal.returns-in-Asm-clause-plan
+returns-in-Asm-clause-plan g c = asm-ordered _ _ _ _ _ _ _ c.in-Asm.is c.word.ensures c.word-in-Asm.ensures c.assemble_file.ensures.plan
+
+pub returns-in-Gen-clause-plan : goal.returns-in-Gen-clause-plan
+returns-in-Gen-clause-plan g c = gen-ordered _ _ _ _ _ c.in-Gen.is c.generate.ensures.plan
+
+pub returns-in-Show-clause-plan : goal.returns-in-Show-clause-plan
+returns-in-Show-clause-plan g c = show-ordered _ _ _ _ _ _ c.in-Show.is c.word-in-Show.ensures c.list_file.ensures.plan
+
+pub returns-in-Multi-clause-plan : goal.returns-in-Multi-clause-plan
+returns-in-Multi-clause-plan g c = multi-ordered _ _ _ _ _ _ _ c.in-Multi.is c.word-in-Multi.ensures c.word-in-Multi-2.ensures c.multi_file.ensures.plan

@@ -1,0 +1,8 @@
+use Rattle.mx_top.proofs.Saying.{message-made, message-lacks}
+use Rattle.mx_top.proofs.top.tell.Goals as goal
+
+pub returns-in-Ok-clause-plan : goal.returns-in-Ok-clause-plan
+returns-in-Ok-clause-plan g c = message-made _ _ _ _ _ _ c.as_slice.ensures c.in-Ok.ensures.text c.say.ensures.plan
+
+pub returns-in-Err-clause-plan : goal.returns-in-Err-clause-plan
+returns-in-Err-clause-plan g c = message-lacks _ _ c.in-Err.ensures.memory

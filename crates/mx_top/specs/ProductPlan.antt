@@ -1,0 +1,212 @@
+-- What the program does, as a plan: the calls that it makes of the host, with its runs among them, up to its outcome.
+use Rattle.std.specs.Prelude.{ℕ, ◌&&◌, Bool, true, false, if◌then◌else◌, List, [], ◌∷◌, length, Result, Ok, Err, codes}
+use Rattle.mx_host.specs.declared.faults.HostFault.{HostFault}
+use Rattle.mx_plan.specs.Plan.{returns, bind}
+use Rattle.mx_plan.specs.Calls.{HostPlan, need, write_plan}
+use Rattle.mx_mmo.specs.Image.{Image}
+use Rattle.mx_load.specs.Objects.{object_loaded}
+use Rattle.mx_core.specs.State.{State}
+use Rattle.mx_ring.specs.Stack.{register}
+use Rattle.mx_run.specs.WildRuns.{window_machine}
+use Rattle.mx_run.specs.declared.end.End.{End}
+use Rattle.mx_con.specs.declared.end.SessionEnd.{SessionEnd}
+use Rattle.mx_multi.specs.Joint.{Joint}
+use Rattle.mx_multi.specs.Joint as joint
+use Rattle.mx_multi.specs.declared.end.MultiEnd.{MultiEnd}
+use Rattle.mx_word.specs.declared.symbols.Symbol.{Symbol}
+use Rattle.mx_words.specs.declared.order.Command.{Command}
+use Rattle.mx_words.specs.declared.order.Command.TheVariants.{Run, Asm, Sim, Gen, Show, Multi}
+use Rattle.mx_words.specs.declared.order.Order.{Order}
+use Rattle.mx_words.specs.declared.order.WordsFault.{WordsFault}
+use Rattle.law_gen.specs.Generator.{generated, summary}
+use Rattle.mx_files.specs.Answers.{leaves_machine}
+use Rattle.mx_files.specs.Assembling.{refused_with}
+use Rattle.mx_files.specs.FilePlans.{file_plan, lines_plan}
+use Rattle.mx_files.specs.Messages.{message_of}
+use Rattle.mx_files.specs.ObjectPlans.{assemble_plan, list_plan}
+use Rattle.mx_files.specs.Schedules.{schedule_plan}
+use Rattle.mx_files.specs.Source.{source_pieces, object_pieces}
+use Rattle.mx_files.specs.Sources.{source_meaning}
+use Rattle.mx_files.specs.declared.outcome.Outcome.{Outcome}
+use Rattle.mx_files.specs.declared.outcome.Outcome.TheVariants.{Done, Usage, BadObject}
+use Rattle.mx_files.specs.declared.refusal.Refusal.{Refusal}
+use Rattle.mx_top.specs.Arguments.{Word, word_at, arguments}
+use Rattle.mx_top.specs.Dump.{Line, dump_lines}
+use Rattle.mx_top.specs.Processors.{multi_lines, multi_outcome, processors_named}
+use Rattle.mx_top.specs.Product.{generator_steps}
+use Rattle.mx_top.specs.ProgramCalls.{ProgramPlan, on_host, steps_plan, reported_plan, sitting_plan, turns_made}
+use Rattle.mx_top.specs.Runs.{outcome_of, session_outcome, started, stack_at_start}
+
+-- ---- PARTS
+
+-- memory is taken, and then this follows
+abbrev pub taking : {A : Type 0} → ProgramPlan A → ProgramPlan A
+taking p = bind (λ u. p) (on_host need)
+
+-- a part on files is done, and then this follows what it gives; or it ends the work
+abbrev pub on_part : {A : Type 0} → (A → ProgramPlan Outcome) → Result A Outcome → ProgramPlan Outcome
+on_part more (Ok x) = more x
+on_part more (Err outcome) = returns outcome
+
+-- lines are written behind an outcome, which stays where all are
+abbrev pub written_with : Outcome → Result (Unit {0}) Outcome → Outcome
+written_with outcome (Ok u) = outcome
+written_with outcome (Err other) = other
+
+unfoldable pub telling : Outcome → List Line → HostPlan Outcome
+telling outcome lines = bind (λ r. returns (written_with outcome r)) (lines_plan lines)
+
+-- ---- A RUN, and the dump behind it
+
+unfoldable pub dumped_plan : Bool → Outcome → State → HostPlan Outcome
+dumped_plan dump outcome s = if dump && leaves_machine outcome then telling outcome (dump_lines s) else returns outcome
+
+abbrev pub after_steps : Order → End × State → ProgramPlan Outcome
+after_steps o r = on_host (dumped_plan o.dump (outcome_of o.steps r.0) r.1)
+
+unfoldable pub stepped_plan : Order → State → ProgramPlan Outcome
+stepped_plan o s = bind (after_steps o) (steps_plan o.steps s)
+
+-- watchers are told of the steps
+unfoldable pub watched_plan : Order → State → ProgramPlan Outcome
+watched_plan o s = bind (after_steps o) (reported_plan o.steps s)
+
+-- the user leads the machine through a session
+abbrev pub after_session : Order → SessionEnd × State → ProgramPlan Outcome
+after_session o r = on_host (dumped_plan o.dump (session_outcome o.steps r.0) r.1)
+
+unfoldable pub session_played : Order → State → ProgramPlan Outcome
+session_played o s = bind (after_session o) (sitting_plan o.steps s)
+
+unfoldable pub machine_plan : Order → State → ProgramPlan Outcome
+machine_plan o s = if o.interactive then session_played o s else if o.report then watched_plan o s else stepped_plan o s
+
+-- a machine that was started runs, or was none
+abbrev pub from_start : Order → Result State Outcome → ProgramPlan Outcome
+from_start o (Err outcome) = returns outcome
+from_start o (Ok s) = machine_plan o s
+
+-- a machine takes memory to start
+unfoldable pub image_plan : Order → List Word → Image → ProgramPlan Outcome
+image_plan o arguments image = taking (from_start o (started window_machine o.ring image arguments))
+
+-- ---- `run` AND `sim`
+
+abbrev pub meaning_plan : Order → List Word → Result Image Refusal → ProgramPlan Outcome
+meaning_plan o arguments (Err refusal) = returns (refused_with refusal)
+meaning_plan o arguments (Ok image) = image_plan o arguments image
+
+-- a source takes memory to assemble
+unfoldable pub source_plan : Order → List Word → List ℕ → ProgramPlan Outcome
+source_plan o arguments source = taking (meaning_plan o arguments (source_meaning source))
+
+abbrev pub loading_plan : Order → List Word → Result (Image × List Symbol) (ℕ × ℕ) → ProgramPlan Outcome
+loading_plan o arguments (Err (place, fault)) = returns (BadObject place fault)
+loading_plan o arguments (Ok (image, symbols)) = image_plan o arguments image
+
+-- so does an object to load
+unfoldable pub object_plan : Order → List Word → List ℕ → ProgramPlan Outcome
+object_plan o arguments object = taking (loading_plan o arguments (object_loaded object))
+
+unfoldable pub run_file_plan : Order → Word → List Word → ProgramPlan Outcome
+run_file_plan o name arguments = bind (on_part (source_plan o arguments)) (on_host (file_plan source_pieces name))
+
+unfoldable pub sim_file_plan : Order → Word → List Word → ProgramPlan Outcome
+sim_file_plan o name arguments = bind (on_part (object_plan o arguments)) (on_host (file_plan object_pieces name))
+
+-- ---- `gen`
+
+-- whether a program halted
+abbrev pub is_done : Outcome → Bool
+is_done (Done status) = true
+is_done outcome = false
+
+-- where the program halts, one line tells what came of it
+abbrev pub summed_plan : ℕ → ℕ → Outcome → State → HostPlan Outcome
+summed_plan blocks size (Done status) s = telling (Done 0) (summary blocks size s.steps (register s.stack 255) ∷ [])
+summed_plan blocks size outcome s = returns outcome
+
+abbrev pub after_generated : ℕ → ℕ → End × State → ProgramPlan Outcome
+after_generated blocks size r = on_host (summed_plan blocks size (outcome_of generator_steps r.0) r.1)
+
+unfoldable pub summed_run : ℕ → ℕ → State → ProgramPlan Outcome
+summed_run blocks size s = bind (after_generated blocks size) (steps_plan generator_steps s)
+
+abbrev pub summed_start : ℕ → ℕ → Result State Outcome → ProgramPlan Outcome
+summed_start blocks size (Err outcome) = returns outcome
+summed_start blocks size (Ok s) = summed_run blocks size s
+
+abbrev pub generated_meaning : Order → ℕ → Result Image Refusal → ProgramPlan Outcome
+generated_meaning o size (Err refusal) = returns (refused_with refusal)
+generated_meaning o size (Ok image) = taking (summed_start o.number size (started window_machine o.ring image (codes "gen" ∷ [])))
+
+-- a source takes memory to be made, and to assemble
+unfoldable pub generated_plan : Order → List ℕ → ProgramPlan Outcome
+generated_plan o source = taking (generated_meaning o (length source) (source_meaning source))
+
+-- ---- `multi`
+
+-- each processor, and the one memory where a dump is asked for, has its lines
+abbrev pub after_turns : Order → MultiEnd × Joint → ProgramPlan Outcome
+after_turns o r = on_host (telling (multi_outcome o.steps r.0) (multi_lines o.dump r.0 r.1))
+
+unfoldable pub joint_plan : Order → List ℕ → Joint → ProgramPlan Outcome
+joint_plan o schedule j = bind (after_turns o) (turns_made o.steps schedule j)
+
+-- so many processors take memory to start
+unfoldable pub image_turns_plan : Order → List ℕ → Image → ProgramPlan Outcome
+image_turns_plan o schedule image = taking (joint_plan o schedule (joint.started image (processors_named schedule) (stack_at_start window_machine o.ring)))
+
+abbrev pub loaded_turns_plan : Order → List ℕ → Result (Image × List Symbol) (ℕ × ℕ) → ProgramPlan Outcome
+loaded_turns_plan o schedule (Err (place, fault)) = returns (BadObject place fault)
+loaded_turns_plan o schedule (Ok (image, symbols)) = image_turns_plan o schedule image
+
+unfoldable pub object_turns_plan : Order → List ℕ → List ℕ → ProgramPlan Outcome
+object_turns_plan o schedule object = taking (loaded_turns_plan o schedule (object_loaded object))
+
+-- the object is read where the schedule is in order
+unfoldable pub turns_file_plan : Order → Word → List ℕ → ProgramPlan Outcome
+turns_file_plan o name schedule = bind (on_part (object_turns_plan o schedule)) (on_host (file_plan object_pieces name))
+
+unfoldable pub multi_plan : Order → Word → Word → ProgramPlan Outcome
+multi_plan o schedule object = bind (on_part (turns_file_plan o object)) (on_host (schedule_plan schedule))
+
+-- ---- THE WORDS
+
+-- the arguments of a program take memory, and so does a source that is made
+unfoldable pub ordered_plan : List Word → Order → Command → ProgramPlan Outcome
+ordered_plan words o Run = taking (run_file_plan o (word_at words o.file) (arguments words o))
+ordered_plan words o Sim = taking (sim_file_plan o (word_at words o.file) (arguments words o))
+ordered_plan words o Asm = on_host (assemble_plan (word_at words o.file) (word_at words o.rest))
+ordered_plan words o Gen = taking (generated_plan o (generated o.number))
+ordered_plan words o Show = on_host (list_plan (word_at words o.file))
+ordered_plan words o Multi = multi_plan o (word_at words o.schedule) (word_at words o.file)
+
+-- the work of the program, before its message
+abbrev pub work_plan : List Word → Result Order WordsFault → ProgramPlan Outcome
+work_plan words (Err fault) = returns (Usage fault)
+work_plan words (Ok o) = ordered_plan words o o.command
+
+-- ---- THE MESSAGE, and reports behind it: a write that fails changes nothing else
+
+-- a line is written, if there is one
+abbrev pub said_plan : Outcome → List ℕ → HostPlan Outcome
+said_plan outcome [] = returns outcome
+said_plan outcome (b ∷ bs) = bind (λ r. returns outcome) (write_plan 260 (b ∷ bs))
+
+-- it takes memory to be made; where there is none, nothing does
+abbrev pub message_if : Outcome → List ℕ → HostPlan Outcome
+message_if outcome [] = returns outcome
+message_if outcome (b ∷ bs) = bind (λ u. said_plan outcome (b ∷ bs)) need
+
+unfoldable pub message_plan : Outcome → HostPlan Outcome
+message_plan outcome = message_if outcome (message_of outcome)
+
+-- each report that is not empty is written by one call
+unfoldable pub report_plan : List ℕ → HostPlan (Result (Unit {0}) HostFault)
+report_plan [] = returns (Ok tt)
+report_plan (b ∷ bs) = write_plan 260 (b ∷ bs)
+
+unfoldable pub reports_plan : Outcome → List (List ℕ) → HostPlan Outcome
+reports_plan outcome [] = returns outcome
+reports_plan outcome (text ∷ texts) = bind (λ r. reports_plan outcome texts) (report_plan text)

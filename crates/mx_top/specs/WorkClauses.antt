@@ -1,0 +1,58 @@
+-- The words of clauses over the work of the program. `old` and `new` are what the host told before and after.
+use Rattle.std.specs.Prelude.{ℕ, ◌≡◌, ◌≢◌, ◌≤◌, ◌⊎◌, IsTrue, Bool, true, false, List, [], length, Option, Result, Err}
+use Rattle.mx_host.specs.HostModel.{HostModel, tells, contents}
+use Rattle.mx_host.specs.declared.faults.HostFault.{HostFault}
+use Rattle.mx_host.specs.declared.faults.HostFault.TheVariants as slot
+use Rattle.mx_plan.specs.Plan.{Comes, Stops, end_of}
+use Rattle.mx_plan.specs.Calls.{host, HostPlan}
+use Rattle.mx_files.specs.declared.outcome.Outcome.{Outcome}
+use Rattle.mx_files.specs.declared.outcome.Outcome.TheVariants.{OutOfMemory}
+use Rattle.mx_top.specs.ProgramCalls.{program, ProgramPlan}
+use Rattle.mx_top.specs.ProductPlan.{message_plan, reports_plan}
+
+-- Over a host that tells its contents, the plan is carried out: unless there was no memory, the outcome and the contents are its
+-- end; where there was none, the calls that were completed stay, of one that lacked it what it leaves then, and nothing else
+-- changed.
+abbrev pub CarriesOutWork : Option HostModel → Option HostModel → Outcome → ProgramPlan Outcome → Type 0
+CarriesOutWork old new result plan = IsTrue (tells old) → Comes program (contents old) (contents new) OutOfMemory result plan
+
+-- Over such a host an outcome is told: the plan comes to its end, or memory runs out in it, which is then the outcome. Its own
+-- end may be that too: that there was no memory is told as any other outcome.
+abbrev pub Tells : HostModel → HostModel → Outcome → HostPlan Outcome → Type 0
+Tells old new result plan = ((result, new) ≡ end_of host plan old) ⊎ ((result ≡ OutOfMemory) × Stops host new plan old)
+
+abbrev pub TellsBy : Option HostModel → Option HostModel → Outcome → HostPlan Outcome → Type 0
+TellsBy old new result plan = IsTrue (tells old) → Tells (contents old) (contents new) result plan
+
+-- whether a write lacked memory
+abbrev pub is_lacking : Result (Unit {0}) HostFault → Bool
+is_lacking (Err slot.OutOfMemory) = true
+is_lacking other = false
+
+-- The outcome is told by its message, and reports stand behind that. Where the message finds no memory, that is the outcome from
+-- there on.
+pub record Telling (left new : HostModel) (result said : Outcome) (texts : List (List ℕ)) : Type 0 where
+  pub between : HostModel
+  pub spoken : Outcome
+  pub message : Tells left between spoken (message_plan said)
+  pub behind : Tells between new result (reports_plan spoken texts)
+
+abbrev pub TellsAll : Option HostModel → Option HostModel → Outcome → Outcome → List (List ℕ) → Type 0
+TellsAll old new result said texts = IsTrue (tells old) → Telling (contents old) (contents new) result said texts
+
+-- What the program does, where so many watch and these reports are due. The work comes to an outcome and leaves the host so, or
+-- it stops for want of memory. Then the outcome is told, with reports behind it: those that are due, or, where the work found no
+-- memory, at most one for each that watches; or no memory was left to make them, which is then told alone.
+pub record Doing (old new : HostModel) (result : Outcome) (work : ProgramPlan Outcome) (watchers : ℕ) (due : List (List ℕ)) : Type 0 where
+  pub left : HostModel
+  pub outcome : Outcome
+  pub said : Outcome
+  pub texts : List (List ℕ)
+  pub works : Comes program old left OutOfMemory outcome work
+  pub reports : ((said ≡ outcome) × (outcome ≢ OutOfMemory → texts ≡ due)) ⊎ ((said ≡ OutOfMemory) × (texts ≡ []))
+  pub few : length texts ≤ watchers
+  pub told : Telling left new result said texts
+
+abbrev pub Does : Option HostModel → Option HostModel → Outcome → ProgramPlan Outcome → ℕ → (HostModel → List (List ℕ)) → Type 0
+Does old new result work watchers due =
+    IsTrue (tells old) → Doing (contents old) (contents new) result work watchers (due (contents old))
