@@ -1,0 +1,133 @@
+//! Views of a source: its listing, its faults, and the lines of an address.
+#![tactic(auto)]
+
+mod words;
+
+use crate::words::command;
+use clap::error::ErrorKind;
+use clap::{ArgMatches, Error};
+use mx_files::{Outcome, SOURCE_PIECES, message, read_file, write_line};
+use mx_host::Host;
+use mx_real::{RealHost, StandIns};
+use mx_view::{Sheet, faults, lines_holding, listing};
+use mx_word::NoMemory;
+use std::alloc::Global;
+use std::env;
+use std::io::ErrorKind as Fault;
+use std::process::ExitCode;
+
+/// The statuses of faulty words, of a refused source, and of want of memory.
+const FAULTY_WORDS: u8 = 64;
+
+const REFUSED: u8 = 65;
+
+const OUT_OF_MEMORY: u8 = 71;
+
+/// The slot of standard error.
+const ERRORS: u16 = 260;
+
+/// An address: `#` and hexadecimal digits, or decimal digits.
+fn address(text: &str) -> Option<u64> {
+    match text.strip_prefix('#') {
+        Some(digits) => u64::from_str_radix(digits, 16).ok(),
+        None => text.parse::<u64>().ok(),
+    }
+}
+
+/// What one of the commands shows of a source.
+fn sheet(alloc: Global, name: &str, place: u64, source: &[u8]) -> Result<Sheet, NoMemory> {
+    match name {
+        "list" => listing(alloc, source),
+        "check" => faults(alloc, source),
+        _ => lines_holding(alloc, place, source),
+    }
+}
+
+/// Reads a source, and writes what is shown of it. Whether the source is accepted.
+fn show(
+    alloc: Global,
+    host: &mut RealHost,
+    name: &str,
+    place: u64,
+    file: &str,
+) -> Result<bool, Outcome> {
+    let source = read_file(alloc, host, file.as_bytes(), SOURCE_PIECES)?;
+    let Ok(sheet) = sheet(alloc, name, place, source.as_slice()) else {
+        return Err(Outcome::OutOfMemory);
+    };
+    write_line(host, sheet.text.as_slice())?;
+    Ok(sheet.accepted)
+}
+
+/// Tells an outcome on standard error, and gives its status.
+fn told(alloc: Global, host: &mut RealHost, outcome: Outcome) -> u8 {
+    if let Ok(text) = message(alloc, outcome) {
+        let _ = host.write_slot(ERRORS, text.as_slice());
+    }
+    outcome.status()
+}
+
+/// The status of words that are no order, or that ask for help or the version.
+fn answered(rt: &HostRuntime, error: &Error) -> u8 {
+    match error.print(rt) {
+        Err(_) => 74,
+        Ok(()) => match error.kind() {
+            ErrorKind::DisplayHelp | ErrorKind::DisplayVersion => 0,
+            ErrorKind::OutOfMemory => OUT_OF_MEMORY,
+            _ => FAULTY_WORDS,
+        },
+    }
+}
+
+/// The address that a command is given, or 0 where it takes none. Nothing where the word is no address.
+fn place(given: &ArgMatches) -> Option<u64> {
+    match given.get_str("ADDRESS") {
+        None => Some(0),
+        Some(text) => address(text),
+    }
+}
+
+/// Does what the words order, and gives the status.
+fn carry_out(rt: HostRuntime, alloc: Global, matches: &ArgMatches) -> u8 {
+    let Some((name, given)) = matches.subcommand() else {
+        return FAULTY_WORDS;
+    };
+    let Some(file) = given.get_str("SRC") else {
+        return FAULTY_WORDS;
+    };
+    let Some(mut host) = RealHost::new(rt) else {
+        return OUT_OF_MEMORY;
+    };
+    let Some(place) = place(given) else {
+        let _ = host.write_slot(
+            ERRORS,
+            b"error: an address is # and hexadecimal digits, or decimal digits\n",
+        );
+        return FAULTY_WORDS;
+    };
+    match show(alloc, &mut host, name, place, file) {
+        Ok(true) => 0,
+        Ok(false) => REFUSED,
+        Err(outcome) => told(alloc, &mut host, outcome),
+    }
+}
+
+fn main(rt: HostRuntime) -> ExitCode {
+    let _stand_ins = StandIns::new(&rt);
+    let alloc = rt.alloc();
+    let args = match env::args(&rt) {
+        Ok(args) => args,
+        Err(fault) if fault.kind() == Fault::OutOfMemory => return ExitCode::from(OUT_OF_MEMORY),
+        Err(_) => return ExitCode::from(FAULTY_WORDS),
+    };
+    let Ok(all) = args.collect::<Vec<String>>(alloc) else {
+        return ExitCode::from(OUT_OF_MEMORY);
+    };
+    let Ok(command) = command(alloc) else {
+        return ExitCode::from(OUT_OF_MEMORY);
+    };
+    match command.try_get_matches_from(all.as_slice()) {
+        Ok(matches) => ExitCode::from(carry_out(rt, alloc, &matches)),
+        Err(error) => ExitCode::from(answered(&rt, &error)),
+    }
+}

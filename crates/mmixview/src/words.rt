@@ -1,0 +1,54 @@
+//! The words of the command line.
+
+use clap::{Arg, Command, Error};
+use std::alloc::Global;
+
+/// The file of a source.
+fn source<'a>(alloc: Global) -> Arg<'a> {
+    Arg::new(alloc, "SRC")
+        .required(true)
+        .help("the file of the source, in MMIXAL")
+}
+
+/// A command on a source.
+fn on_source<'a>(
+    alloc: Global,
+    name: &'static str,
+    about: &'static str,
+) -> Result<Command<'a>, Error> {
+    let command = Command::new(alloc, name).about(about);
+    Ok(command.arg(source(alloc))?)
+}
+
+/// The command that tells the lines of an address.
+fn where_command<'a>(alloc: Global) -> Result<Command<'a>, Error> {
+    let address = Arg::new(alloc, "ADDRESS")
+        .required(true)
+        .help("an address: # and hexadecimal digits, or decimal digits");
+    let command = Command::new(alloc, "where").about(
+        "tells which lines load the tetra that holds an address, and this tetra",
+    );
+    Ok(command.arg(address)?.arg(source(alloc))?)
+}
+
+/// The words that the program takes.
+pub fn command<'a>(alloc: Global) -> Result<Command<'a>, Error> {
+    let list = on_source(
+        alloc,
+        "list",
+        "lists a source: each line with the tetras that it loads, then the symbols",
+    )?;
+    let check = on_source(
+        alloc,
+        "check",
+        "tells the faults of a source, up to 100, each with its line",
+    )?;
+    let command = Command::new(alloc, "mmixview")
+        .version("0.3.0")
+        .about("Views of a source in MMIXAL.")
+        .subcommand_required(true)
+        .subcommand(list)?
+        .subcommand(check)?
+        .subcommand(where_command(alloc)?)?;
+    Ok(command)
+}

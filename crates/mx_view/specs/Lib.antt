@@ -1,0 +1,5 @@
+pub mod Cells
+pub mod Rows
+pub mod Listing
+pub mod InTurn
+pub mod Refusals

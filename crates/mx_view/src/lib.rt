@@ -1,0 +1,15 @@
+//! Views of a source: its listing, the line of an address, and all its faults.
+#![tactic(auto)]
+
+mod blanks;
+mod cells;
+mod checking;
+mod laws;
+mod rows;
+mod turns;
+mod view;
+
+pub use cells::{Cell, Wanted};
+pub use checking::faults;
+pub use laws::{every_loaded_tetra_is_listed, the_image_and_the_symbols_are_shown};
+pub use view::{Sheet, lines_holding, listing};

@@ -1,0 +1,121 @@
+//! The lines of a source, taken one after another.
+
+ghost use Rattle.std.specs.Prelude.{◌≡◌, ◌≢◌, ◌++◌, true, Ok, Err, IfOk, OnOk};
+ghost use Rattle.std.specs.Result.{is_ok};
+ghost use Rattle.mx_asm.specs.Faults.{no_memory};
+ghost use Rattle.mx_asm.specs.OnePass.{line_behind};
+ghost use Rattle.mx_files.specs.Loading.{image_from};
+ghost use Rattle.mx_line.specs.Lines.{lines_of};
+ghost use Rattle.mx_type.specs.Lambda as lambdas;
+ghost use Rattle.mx_view.specs.InTurn as spec;
+
+use crate::cells::{Wanted, cells_of, lambda_behind};
+use crate::rows::{Meaning, add_rows};
+use mx_asm::{AsmFault, Assembler, Refused};
+use mx_line::cut_line;
+use mx_mmo::Items;
+use mx_word::{Bytes, NoMemory};
+use std::alloc::Global;
+
+/// A refusal, unless there was no memory.
+pub(crate) fn told(refused: Refused) -> Result<Refused, NoMemory>
+    ensures value { IfOk result (λ told. told ≡ refused) }
+    ensures memory { OnOk result (refused ≢ no_memory) }
+{
+    match refused.fault {
+        AsmFault::OutOfMemory => Err(NoMemory),
+        _ => Ok(refused),
+    }
+}
+
+/// Takes a line, and says whether it was taken and not refused.
+pub(crate) fn take_line(
+    assembler: &mut Assembler,
+    items: &mut Items,
+    line: &[u8],
+) -> Result<bool, NoMemory>
+    ensures taken { OnOk result ((items.new, assembler.new) ≡ line_behind items.old assembler.old line.now) }
+    ensures open { IfOk result (λ is. is ≡ is_ok assembler.new) }
+{
+    match assembler.line(line, items) {
+        Ok(()) => Ok(true),
+        Err(refused) => match told(refused) {
+            Ok(_) => Ok(false),
+            Err(e) => Err(e),
+        },
+    }
+}
+
+/// Takes a line with this number, adds its rows, and moves lambda. Whether it was taken and not refused.
+fn add_line(
+    alloc: Global,
+    assembler: &mut Assembler,
+    text: &mut Bytes,
+    meaning: &Meaning,
+    wanted: Wanted,
+    number: u32,
+    lambda: &mut u64,
+    line: &[u8],
+) -> Result<bool, NoMemory>
+    ensures rows { OnOk result (text.new ≡ text.old
+        ++ spec.rows_at (image_from meaning.now) wanted number lambda.old assembler.old line.now) }
+    ensures lambda { OnOk result (
+        lambda.new ≡ lambdas.lambda_behind lambda.old (spec.items_at assembler.old line.now)) }
+    ensures standing { OnOk result (assembler.new ≡ spec.standing_at assembler.old line.now) }
+    ensures open { IfOk result (λ is. is ≡ is_ok assembler.new) }
+{
+    let mut items = Items::new(alloc);
+    match take_line(assembler, &mut items, line) {
+        Ok(open) => {
+            let cells = cells_of(alloc, wanted, *lambda, items.as_slice())?;
+            add_rows(alloc, text, meaning, wanted, number, line, cells.as_slice())?;
+            *lambda = lambda_behind(*lambda, items.as_slice());
+            Ok(open)
+        }
+        Err(e) => Err(e),
+    }
+}
+
+/// Takes the lines of a source up to one that is refused, and adds their rows.
+#[tactic(auto, using(crate::proofs::LineTurns::turns))]
+pub(crate) fn add_lines(
+    alloc: Global,
+    assembler: &mut Assembler,
+    text: &mut Bytes,
+    meaning: &Meaning,
+    wanted: Wanted,
+    source: &[u8],
+) -> Result<(), NoMemory>
+    requires open { is_ok assembler.old ≡ true }
+    ensures rows { OnOk result (text.new ≡ text.old
+        ++ spec.rows_in_turn (image_from meaning.now) wanted 1 0 assembler.old (lines_of source.now)) }
+    ensures standing { OnOk result (
+        assembler.new ≡ spec.standing_behind assembler.old (lines_of source.now)) }
+{
+    let mut rest = source;
+    let mut number = 1u32;
+    let mut lambda = 0;
+    while !rest.is_empty() {
+        let (line, others) = cut_line(rest);
+        match add_line(
+            alloc,
+            assembler,
+            text,
+            meaning,
+            wanted,
+            number,
+            &mut lambda,
+            line,
+        ) {
+            Ok(true) => {}
+            Ok(false) => return Ok(()),
+            Err(e) => return Err(e),
+        }
+        number = match number.checked_add(1) {
+            Some(next) => next,
+            None => return Err(NoMemory),
+        };
+        rest = others;
+    }
+    Ok(())
+}

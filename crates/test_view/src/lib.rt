@@ -1,0 +1,5 @@
+//! Rows of views: sources, and what is shown of them. There is nothing but tests here.
+#![tactic(auto)]
+
+#[cfg(test)]
+mod views;

@@ -1,0 +1,110 @@
+//! Views, row by row. The tetras are worked out by hand from the tables of the book's codes (TAOCP 1, Fascicle 1).
+
+use mx_view::{Sheet, faults, lines_holding, listing};
+use mx_word::NoMemory;
+
+/// A source with a jump to a later label, and its listing.
+static AHEAD: &str = " LOC #100
+Main JMP Done
+ SWYM 0
+Done TRAP 0,Halt,0
+";
+
+static AHEAD_LISTED: &str = "                                 1:  LOC #100
+#0000000000000100: f0000002      2: Main JMP Done
+#0000000000000104: fd000000      3:  SWYM 0
+#0000000000000108: 00000000      4: Done TRAP 0,Halt,0
+
+symbol :Done #0000000000000108 2
+symbol :Main #0000000000000100 1
+";
+
+/// Two lines that place bytes in one tetra, and the second in a further one.
+static SHARED: &str = " LOC #102
+Main BYTE 1
+ BYTE 2,3
+";
+
+static SHARED_LISTED: &str = "                                 1:  LOC #102
+#0000000000000100: 00000102      2: Main BYTE 1
+#0000000000000100: 00000102      3:  BYTE 2,3
+#0000000000000104: 03000000
+
+symbol :Main #0000000000000102 1
+";
+
+static SHARED_FOUND: &str = "#0000000000000100: 00000102      2: Main BYTE 1
+#0000000000000100: 00000102      3:  BYTE 2,3
+";
+
+/// Faulty lines, with a line behind them.
+static FAULTY: &str = "x FOO
+y BAR
+ SWYM 0
+";
+
+static FAULTY_LISTED: &str = "                                 1: x FOO
+line 1: 39 UnknownOpcode
+";
+
+static FAULTY_TOLD: &str = "line 1: 39 UnknownOpcode
+    x FOO
+line 2: 39 UnknownOpcode
+    y BAR
+line 3: 82 MainUndefined
+";
+
+/// Whether this is what is shown.
+fn is_shown(shown: Result<Sheet, NoMemory>, text: &str, accepted: bool) -> bool {
+    match shown {
+        Ok(sheet) => sheet.text.as_slice() == text.as_bytes() && sheet.accepted == accepted,
+        Err(_) => false,
+    }
+}
+
+#[test]
+fn later_labels_are_known(rt: HostRuntime) {
+    assert!(rt; is_shown(listing(rt.alloc(), AHEAD.as_bytes()), AHEAD_LISTED, true));
+}
+
+#[test]
+fn bytes_share_a_tetra(rt: HostRuntime) {
+    assert!(rt; is_shown(listing(rt.alloc(), SHARED.as_bytes()), SHARED_LISTED, true));
+}
+
+#[test]
+fn listed_up_to_the_fault(rt: HostRuntime) {
+    assert!(rt; is_shown(listing(rt.alloc(), FAULTY.as_bytes()), FAULTY_LISTED, false));
+}
+
+#[test]
+fn lines_of_an_address(rt: HostRuntime) {
+    assert!(rt;
+        is_shown(
+            lines_holding(rt.alloc(), 0x103, SHARED.as_bytes()),
+            SHARED_FOUND,
+            true
+        )
+    );
+}
+
+#[test]
+fn no_line_of_an_address(rt: HostRuntime) {
+    assert!(rt;
+        is_shown(
+            lines_holding(rt.alloc(), 0x108, SHARED.as_bytes()),
+            "",
+            true
+        )
+    );
+}
+
+#[test]
+fn all_faults(rt: HostRuntime) {
+    assert!(rt; is_shown(faults(rt.alloc(), FAULTY.as_bytes()), FAULTY_TOLD, false));
+}
+
+#[test]
+fn no_faults(rt: HostRuntime) {
+    assert!(rt; is_shown(faults(rt.alloc(), AHEAD.as_bytes()), "", true));
+}
