@@ -1,6 +1,6 @@
 -- What dB stands for: the value of the last label dH before the statement, and pure 0 where there is none.
-use Rattle.std.proofs.Common.{◌≡◌, ℕ, zero, suc, ◌≢◌, ◌<◌, ◌≤◌, List, [], ◌∷◌, ◌++◌, length, length-set, fold, replicate, slice_set, slice_index_or, false, Option, Some, Ok, Err, refl, ap, ◌∙◌, arith}
-use Rattle.mx_asm.proofs.Words.{eqb-false, fold-append, Value, Pure, back, value_of, NameTable, back_of, Label, Name, Local, Effect, Placed, Answer, Known, no_targets, knowledge_of, StatementTree, encoding, with_label, with_effect, known_with, known_after, nothing_known, final_known, is_local}
+use Rattle.std.proofs.Common.{◌≡◌, ℕ, zero, suc, ◌≢◌, ◌<◌, ◌≤◌, List, [], ◌∷◌, ◌++◌, length, length-set, fold, replicate, slice_set, slice_index_or, false, Option, Some, Ok, Err, refl, ap, ◌∙◌, arith, rules}
+use Rattle.mx_asm.proofs.Words.{fold-append, Value, Pure, back, value_of, NameTable, back_of, Label, Local, Effect, Placed, Answer, Known, no_targets, knowledge_of, StatementTree, encoding, with_label, with_effect, known_with, known_after, nothing_known, final_known, is_local, nat_tests, common_steps}
 use Rattle.mx_stmt.specs.declared.placed.Effect.TheVariants as effect
 use Rattle.mx_asm.specs.Locals.{HasNoLocal}
 use Rattle.mx_asm.specs.TwoPass.{value_in}
@@ -10,25 +10,14 @@ set-here [] d v l = absurd (omega (arith, l))
 set-here (x ∷ xs) zero v l = refl
 set-here (x ∷ xs) (suc d) v l = set-here xs d v (omega (arith, l))
 
-set-other : (values : List Value) (d e : ℕ) (v : Value) → e ≢ d → slice_index_or (slice_set values d v) e (Pure 0) ≡ slice_index_or values e (Pure 0)
-set-other [] d e v h = refl
-set-other (x ∷ xs) zero zero v h = absurd (h refl)
-set-other (x ∷ xs) (suc d) (suc e) v h = set-other xs d e v (λ same. h (ap suc same))
-set-other (x ∷ xs) d e v h = refl
-
 effect-backs : (k : Known) (e : Effect) → (with_effect k e).names.backs ≡ k.names.backs
-effect-backs k effect.Plain = refl
-effect-backs k e = refl
+effect-backs k e = grind (arith, nat_tests)
 
 label-backs : (names : NameTable) (label : Option Label) (value : Option Value) (d : ℕ) → is_local d label ≡ false → back_of (with_label names label value) d ≡ back_of names d
-label-backs names (Some (Local e)) (Some value) d other = set-other names.backs e d value (eqb-false d e other)
-label-backs names (Some (Name text)) (Some value) d other = refl
-label-backs names label value d other = refl
+label-backs names label value d h = grind (arith, common_steps, nat_tests)
 
 label-length : (names : NameTable) (label : Option Label) (value : Option Value) → length (with_label names label value).backs ≡ length names.backs
-label-length names (Some (Local e)) (Some value) = length-set names.backs e value
-label-length names (Some (Name text)) (Some value) = refl
-label-length names label value = refl
+label-length names label value = search (rules, length-set)
 
 module _ (k : Known) (s : StatementTree) where
   abbrev labelled : Placed → Known
@@ -63,10 +52,7 @@ all-length (s ∷ statements) k = all-length statements (known_after k s) ∙ le
 pub back-last : (front between : List StatementTree) (s : StatementTree) (d : ℕ) (value : Value) → d ≤ 9 → s.label ≡ Some (Local d) →
     value_in (encoding no_targets (final_known front) s) ≡ Some value → HasNoLocal d between → value_of (knowledge_of (final_known (front ++ s ∷ between))) (back d) ≡ Ok value
 unfolding known_after
-back-last front between s d value few label is none = ap Ok (
-    ap (λ (k : Known). back_of k.names d) (fold-append known_after nothing_known front (s ∷ between))
-    ∙ all-kept between (known_after (final_known front) s) d none
-    ∙ last-with (final_known front) s (encoding no_targets (final_known front) s) d value (let ten = all-length front nothing_known in omega (arith, few, ten)) label is)
+back-last front between s d value h1 h2 h3 h4 = search (rules, fold-append, all-kept, all-length)
 
 zeros-back : (n d : ℕ) → slice_index_or (replicate n (Pure 0)) d (Pure 0) ≡ Pure 0
 zeros-back (suc n) (suc d) = zeros-back n d

@@ -1,13 +1,13 @@
 -- The end of a source in one pass is that of the two passes.
-use Rattle.std.proofs.Common.{◌≡◌, ℕ, suc, ◌+◌, ◌/◌, Bool, true, false, cond, nat_lt, nat_le, List, [], ◌∷◌, ◌++◌, length, Option, None, Some, Ok, Err, refl, ap, sym, ◌∙◌, arith, ◌||◌}
-use Rattle.mx_asm.proofs.Words.{list_any, list_any-append, nat_tests, Value, Pure, Reg, Wait, Item, value_of_name, Effect, Placed, Answer, lowest_of, Known, StatementTree, AsmFault, MainUndefined, MainRegister, SymbolsTooMany, LocalAboveGlobals, Refused, Head, refused, statements_in, refusal_in, Sight, outline, nothing_known, sights_from, sights_of, final_known, opening, first_head, items_from, closing, main_name, padded_trie, first_of, first_fault, undefined, local_in, local_of, locals, trie_limit, last_fault, end_fault, last_line, at_line, end_refusal, assembly_fault, Assembly, Ended, beginning, last_number, main_fault, ended_main, ended_waits, end_behind, with_local, Line, accepted, lines_entries, entries_items, assembled_with, assembled_lines, one_pass}
+use Rattle.std.proofs.Common.{◌≡◌, ℕ, ◌+◌, ◌/◌, Bool, true, false, cond, nat_lt, nat_le, List, [], ◌∷◌, ◌++◌, length, Option, None, Some, Ok, Err, refl, ap, sym, ◌∙◌, arith, ◌||◌, rules}
+use Rattle.mx_asm.proofs.Words.{list_any, list_any-append, nat_tests, Value, Pure, Reg, Wait, Item, value_of_name, Placed, Answer, lowest_of, Known, StatementTree, AsmFault, MainUndefined, MainRegister, SymbolsTooMany, LocalAboveGlobals, Refused, Head, refused, Sight, outline, nothing_known, sights_from, sights_of, final_known, opening, first_head, items_from, closing, main_name, padded_trie, first_of, first_fault, undefined, local_in, locals, trie_limit, last_fault, end_fault, last_line, at_line, end_refusal, assembly_fault, Assembly, Ended, beginning, last_number, main_fault, ended_main, ended_waits, end_behind, Line, accepted, assembled_with, assembled_lines, one_pass}
 use Rattle.mx_line.specs.Source.{items_from as line_items}
 use Rattle.mx_names.specs.Waiting.{first_of as earliest}
 use Rattle.mx_stmt.specs.declared.placed.Effect.TheVariants as effect
-use Rattle.mx_asm.proofs.Filters.{or-false, or_assoc}
+use Rattle.mx_asm.proofs.Filters.{or-false}
 use Rattle.mx_asm.proofs.OpenWaits.{open_waits}
 use Rattle.mx_asm.proofs.OneStatement.{standing_at, sight_local}
-use Rattle.mx_asm.proofs.Entries.{head_from, locals_from, outcome}
+use Rattle.mx_asm.proofs.Entries.{locals_from, outcome}
 use Rattle.mx_asm.proofs.LinesTaken.{counting, counted_progress, lines_behind, size_behind}
 use Rattle.mx_asm.proofs.OnePassLaw.{no-labels, some-lines}
 use Rattle.mx_asm.proofs.EndWaits.{wait_refusal, both-none, labels-at-end, first-open}
@@ -17,22 +17,13 @@ use Rattle.mx_asm.proofs.EndWaits.{wait_refusal, both-none, labels-at-end, first
 none-below : (n : ℕ) → nat_lt n 0 ≡ false
 none-below n = grind (arith, nat_tests)
 
-effect-local : (n l : ℕ) (e : Effect) → nat_lt n (with_local l e) ≡ (nat_lt n l || list_any (λ reg. nat_le n reg) (local_of e))
-effect-local n l (effect.Local reg) = (grind (arith, nat_tests)) ∙ ap (λ b. nat_lt n l || b) (sym (or-false _))
-effect-local n l e = sym (or-false _)
-
 answer-local : (n l : ℕ) (r : Answer Placed) → nat_lt n (sight_local l r) ≡ (nat_lt n l || list_any (λ reg. nat_le n reg) (local_in r))
-answer-local n l (Err fault) = sym (or-false _)
-answer-local n l (Ok p) = effect-local n l p.effect
+answer-local n l r = grind (arith, nat_tests)
 
 locals-from : (n : ℕ) (sights : List Sight) (l : ℕ) → nat_lt n (locals_from l sights) ≡ (nat_lt n l || list_any (λ reg. nat_le n reg) (locals sights))
 unfolding locals_from locals
 locals-from n [] l = sym (or-false _)
-locals-from n (s ∷ later) l =
-    locals-from n later (sight_local l (outline s))
-    ∙ ap (λ b. b || list_any (λ reg. nat_le n reg) (locals later)) (answer-local n l (outline s))
-    ∙ sym (or_assoc (nat_lt n l) (list_any (λ reg. nat_le n reg) (local_in (outline s))) (list_any (λ reg. nat_le n reg) (locals later)))
-    ∙ ap (λ b. nat_lt n l || b) (sym (list_any-append (λ reg. nat_le n reg) (local_in (outline s)) (locals later)))
+locals-from n (s ∷ later) l = search (rules, answer-local, list_any-append, locals-from n later (sight_local l (outline s)))
 
 all-locals : (n : ℕ) (sights : List Sight) → nat_lt n (locals_from 0 sights) ≡ list_any (λ reg. nat_le n reg) (locals sights)
 all-locals n sights = locals-from n sights 0 ∙ ap (λ b. b || list_any (λ reg. nat_le n reg) (locals sights)) (none-below n)
@@ -45,9 +36,7 @@ behind-more [] n = omega arith
 behind-more (line ∷ lines) n = behind-more lines (n + 1) ∙ omega arith
 
 last-is : (line : Line) (lines : List Line) → last_number (lines_behind 0 (line ∷ lines)) ≡ last_line (line ∷ lines)
-last-is line lines =
-    let count : lines_behind 0 (line ∷ lines) ≡ suc (length lines) = behind-more (line ∷ lines) 0 ∙ omega arith in
-    ap last_number count ∙ refl ∙ omega arith
+last-is line lines = search (rules, behind-more)
 
 -- ---- the end
 
@@ -104,8 +93,7 @@ outcome-ends line lines statements h items None none =
 
 -- whether the opening stands there makes no difference at the end
 main-opened : (out : List Item) (a : Assembly) (fault : Option AsmFault) → ended_main out a fault ≡ ended_main out (record a { opened = true }) fault
-main-opened out a (Some fault) = refl
-main-opened out a None = refl
+main-opened out a fault = grind (arith, nat_tests)
 
 nothing-ends : one_pass [] ≡ assembled_lines []
 unfolding line_items items_from accepted sights_from first_fault open_waits locals_from
@@ -114,9 +102,4 @@ nothing-ends =
     ∙ ended-alike opening [] 1 0 0 first_head [] refl refl refl
 
 pub whole-is : (lines : List Line) → one_pass lines ≡ assembled_lines lines
-whole-is [] = nothing-ends
-whole-is (line ∷ lines) =
-    let statements = statements_in (lines_entries (line ∷ lines)) in
-    let r = first_of (first_fault [] (sights_of statements)) (refusal_in (lines_entries (line ∷ lines))) in
-    ap (λ p. end_behind p.0 p.1) (some-lines line lines)
-    ∙ outcome-ends line lines statements (head_from first_head [] (sights_of statements)) (entries_items (lines_entries (line ∷ lines))) r (λ none. (both-none (first_fault [] (sights_of statements)) (refusal_in (lines_entries (line ∷ lines))) none).0)
+whole-is lines = grind (arith, nat_tests, nothing-ends, some-lines, outcome-ends, both-none)

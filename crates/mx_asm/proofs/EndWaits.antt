@@ -1,12 +1,11 @@
 -- The first reference that still waits behind all statements is the first one that is never defined.
-use Rattle.std.proofs.Common.{◌≡◌, ℕ, Bool, true, false, not, cond, List, [], ◌∷◌, ◌++◌, fold, Option, None, Some, is_some, Ok, Err, refl, ap, sym, ◌∙◌, subst, append_assoc, append-nil, ◌||◌}
-use Rattle.mx_asm.proofs.Words.{filter, AllByRecursion, list_any-append, Value, Awaited, Wait, predefined_value, NameTable, first_value, pure_of, value_of_name, Label, Placed, Answer, Known, no_targets, StatementTree, encoding, Refused, refused, Sight, outline, waits_in, is_local, next_local, referent, sights_from, known_after, fault_with, statement_fault, first_of, first_fault, undefined, unreferenced, first_undefined, IsUnknown, AreUnknown, encoding-awaits}
+use Rattle.std.proofs.Common.{◌≡◌, ℕ, Bool, true, false, not, cond, List, [], ◌∷◌, ◌++◌, fold, Option, None, Some, is_some, refl, ap, sym, ◌∙◌, subst, append_assoc, append-nil, ◌||◌, rules}
+use Rattle.mx_asm.proofs.Words.{filter, AllByRecursion, list_any-append, Value, Awaited, Wait, NameTable, first_value, value_of_name, Label, Placed, Answer, Known, no_targets, StatementTree, encoding, Refused, refused, Sight, outline, waits_in, is_local, next_local, referent, sights_from, known_after, fault_with, statement_fault, first_of, first_fault, undefined, unreferenced, first_undefined, IsUnknown, AreUnknown, encoding-awaits}
 use Rattle.mx_word.specs.declared.waits.Awaited.TheVariants as awaited
-use Rattle.mx_names.specs.Names.{value_in as symbol_in}
 use Rattle.mx_names.specs.Waiting.{first_of as earliest}
 use Rattle.mx_asm.specs.TwoPass.{value_in}
 use Rattle.mx_asm.proofs.LabelValues.{HasLabel, encoding-label}
-use Rattle.mx_asm.proofs.OpenWaits.{settles, any_settles, is_settled, unsettled, open_waits}
+use Rattle.mx_asm.proofs.OpenWaits.{any_settles, is_settled, unsettled, open_waits}
 use Rattle.mx_asm.proofs.WaitsFor.{local-is}
 use Rattle.mx_asm.proofs.OneStatement.{AreLabels, labels-kept}
 
@@ -58,13 +57,7 @@ one-of (Some v) b h = refl
 name-settled : (final : NameTable) (before : List Sight) (s : Sight) (later : List Sight) (full : List ℕ) →
     AreLabels s.known.names before → AreLabels final (before ++ s ∷ later) → value_of_name s.known.names full ≡ None →
     is_some (value_of_name final full) ≡ is_settled s later (awaited.Name full)
-name-settled final before s later full labels ends unknown =
-    let none = neither (symbol_in full s.known.names.symbols) (pure_of (predefined_value full)) unknown in
-    let new : any_settles before (awaited.Name full) ≡ false = labels full ∙ ap is_some none.0 in
-    one-of (symbol_in full final.symbols) (pure_of (predefined_value full)) none.1
-    ∙ sym (ends full)
-    ∙ list_any-append (λ (t : Sight). settles t (awaited.Name full)) before (s ∷ later)
-    ∙ ap (λ b. b || any_settles (s ∷ later) (awaited.Name full)) new
+name-settled final before s later full labels ends unknown = search (rules, neither, one-of, list_any-append)
 
 -- ---- a local label
 
@@ -80,9 +73,7 @@ next-by d t later false has h = h
 next-settled : (d : ℕ) (later : List Sight) → AllByRecursion HasValue later → is_some (next_local d later) ≡ any_settles later (awaited.Local d)
 unfolding next_local
 next-settled d [] h = refl
-next-settled d (t ∷ later) h =
-    next-by d t later (is_local d t.statement.label) (h.0 d) (next-settled d later h.1)
-    ∙ ap (λ b. b || any_settles later (awaited.Local d)) (sym (local-is t.known.names d t.statement.label))
+next-settled d (t ∷ later) h = search (rules, next-by, local-is, next-settled d later h.1)
 
 label-value : (d : ℕ) (label : Option Label) (value : Option Value) → HasLabel label value → is_local d label ≡ true → is_some value ≡ true
 label-value d None value has is = absurd (cc)
@@ -91,8 +82,7 @@ label-value d (Some label) (Some value) has is = refl
 
 has-value : (before : List Sight) (t : Sight) (r : Answer Placed) → encoding no_targets t.known t.statement ≡ r → fault_with before t r ≡ None →
     (d : ℕ) → is_local d t.statement.label ≡ true → is_some (value_in r) ≡ true
-has-value before t (Err fault) is none = absurd (cc)
-has-value before t (Ok p) is none = λ d local. label-value d t.statement.label p.label (encoding-label no_targets t.known t.statement p is) local
+has-value before t r h1 h2 d h3 = search (rules, label-value, encoding-label)
 
 -- ---- all statements
 
@@ -137,8 +127,7 @@ all-settled final before s later (w ∷ ws) labels ends valued unknown =
     (settled-by final before s later w.who labels ends valued unknown.0, all-settled final before s later ws labels ends valued unknown.1)
 
 waits-unknown : (s : Sight) (r : Answer Placed) → encoding no_targets s.known s.statement ≡ r → AreUnknown s.known.names (waits_in r)
-waits-unknown s (Err fault) is = tt
-waits-unknown s (Ok p) is = encoding-awaits no_targets s.known s.statement p is
+waits-unknown s r h = search (rules, encoding-awaits)
 
 pub first-open : (statements : List StatementTree) (k : Known) (before : List Sight) (final : NameTable) → AreLabels k.names before → first_fault before (sights_from k statements) ≡ None →
     AreLabels final (before ++ sights_from k statements) → first_undefined final (sights_from k statements) ≡ wait_refusal (earliest (open_waits (sights_from k statements)))

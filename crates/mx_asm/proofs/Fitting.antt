@@ -1,6 +1,6 @@
 -- Lists of items that fit.
-use Rattle.std.proofs.Common.{◌≢◌, ◌<◌, ◌≤◌, ℕ, ◌+◌, ◌^◌, List, [], ◌∷◌, ◌++◌, length, length-append, ◌-◌, Some, refl, sym, ap, subst, ◌∙◌, arith, append_assoc, append-nil, codes}
-use Rattle.mx_asm.proofs.Words.{append_cancel_left, all-front, all-both, AreOctas, Item, File, Pre, Post, Fits, AreFit, GrowsFit, IsFront, GrowsAlike}
+use Rattle.std.proofs.Common.{◌≢◌, ◌<◌, ◌≤◌, ℕ, ◌+◌, ◌^◌, List, [], ◌∷◌, ◌++◌, length, ◌-◌, Some, refl, sym, ap, subst, ◌∙◌, arith, append_assoc, append-nil, codes}
+use Rattle.mx_asm.proofs.Words.{append_cancel_left, all-front, all-both, AreOctas, Item, File, Pre, Post, Fits, AreFit, GrowsFit, IsFront, GrowsAlike, nat_tests, common_steps}
 
 pub fit-none : AreFit []
 unfolding AreFit
@@ -39,8 +39,7 @@ pub fit-file : Fits (File 0 (Some (codes ".mms")))
 fit-file = (omega arith, record { bytes = (omega arith, (omega arith, (omega arith, (omega arith, tt)))); least = omega arith; most = omega arith; last = no-zero })
 
 pub fit-registers : (gregs : List ℕ) (main : ℕ) → length gregs ≤ 223 → AreOctas gregs → main < 2 ^ 64 → Fits (Post (255 - length gregs) (gregs ++ main ∷ []))
-fit-registers gregs main few octas low =
-    (omega (arith, few), omega (arith, few), ap (λ n. n + (255 - length gregs)) (length-append gregs (main ∷ [])) ∙ omega (arith, few), octas-push gregs main octas low)
+fit-registers gregs main few octas low = grind (arith, common_steps, nat_tests)
 
 -- ---- lists that grow by items that fit
 

@@ -1,5 +1,5 @@
 -- The items of lines are the front of an object of the statements before the first refusal.
-use Rattle.std.proofs.Common.{◌≡◌, ℕ, List, [], ◌∷◌, ◌++◌, map, Option, None, Some, Err, refl, ap, sym, ◌∙◌}
+use Rattle.std.proofs.Common.{◌≡◌, ℕ, List, [], ◌∷◌, ◌++◌, map, Option, None, Some, Err, refl, ap, sym, ◌∙◌, rules}
 use Rattle.mx_asm.proofs.Words.{Known, StatementTree, Refused, statements_in, refusal_in, source_entries, Sight, nothing_known, known_after, sights_from, sights_of, opening, first_head, items_from, front, statement_fault, first_fault, refusal, Line, accepted, accepted_with, assembled_source, lines_entries, lines_items, lines_refusal}
 use Rattle.mx_asm.specs.Whole.{accepted_in}
 use Rattle.mx_asm.proofs.EndWaits.{both-none}
@@ -37,8 +37,6 @@ all-statements lines none =
     ∙ statements-of statements nothing_known
 
 pub source-front : (source : List ℕ) (r : Refused) → refusal source ≡ Some r → assembled_source source ≡ (front (accepted_in (source_entries source)), Err r)
-source-front source r is =
-    source-refused source r is
-    ∙ ap (λ ss. (opening ++ items_from first_head [] ss, Err r)) (sym (accepted-sights (statements_in (source_entries source)) nothing_known []))
+source-front source r is = search (rules, source-refused, accepted-sights)
 
 pub ruleset front_laws = (items-are, refusal-is, items-are-front, all-statements)

@@ -1,6 +1,6 @@
 -- Lines that are taken one after another: their entries are.
-use Rattle.std.proofs.Common.{◌≡◌, ℕ, ◌+◌, ◌^◌, Bool, true, false, cond, nat_lt, List, [], ◌∷◌, ◌++◌, fold, length, Option, None, Some, Result, Ok, Err, refl, ap, sym, ◌∙◌}
-use Rattle.mx_asm.proofs.Words.{Item, Placed, Label, Answer, no_targets, encoding, SourceTooLong, Refused, refused, Entry, line_entries, statement_items, Assembly, Taken, Progress, Labelled, labelled, naming_of, assembled, taken_items, taken_label, taken_with, entry_taken, behind_entry, and_entries, entries_taken, line_unless, Line, line_after}
+use Rattle.std.proofs.Common.{◌≡◌, ℕ, ◌+◌, ◌^◌, Bool, true, false, cond, nat_lt, List, [], ◌∷◌, ◌++◌, fold, length, Option, None, Some, Result, Ok, Err, refl, ◌∙◌, rules}
+use Rattle.mx_asm.proofs.Words.{Item, Placed, Label, Answer, SourceTooLong, Refused, refused, Entry, line_entries, Assembly, Taken, Progress, Labelled, taken_items, taken_label, taken_with, entry_taken, behind_entry, and_entries, entries_taken, line_unless, Line, line_after}
 
 -- an assembly behind so many lines and bytes
 abbrev pub counting : ℕ → ℕ → Assembly → Assembly
@@ -21,16 +21,13 @@ items-counted n m a (Err refused) = refl
 items-counted n m a (Ok items) = refl
 
 label-counted : (n m : ℕ) (a : Assembly) (line : ℕ) (p : Placed) (r : Labelled) → taken_label (counting n m a) line p r ≡ counted_taken n m (taken_label a line p r)
-label-counted n m a line p (Err fault) = refl
-label-counted n m a line p (Ok (names, waits)) = items-counted n m (assembled a line p names waits) (statement_items a.head line p waits)
+label-counted n m a line p r = search (rules, items-counted)
 
 with-counted : (n m : ℕ) (a : Assembly) (line : ℕ) (label : Option Label) (r : Answer Placed) → taken_with (counting n m a) line label r ≡ counted_taken n m (taken_with a line label r)
-with-counted n m a line label (Err fault) = refl
-with-counted n m a line label (Ok p) = label-counted n m a line p (labelled (naming_of a) label p.label p.waits)
+with-counted n m a line label r = search (rules, label-counted)
 
 entry-counted : (n m : ℕ) (a : Assembly) (e : Entry) → entry_taken (counting n m a) e ≡ counted_taken n m (entry_taken a e)
-entry-counted n m a (Err refused) = refl
-entry-counted n m a (Ok s) = with-counted n m a s.line s.label (encoding no_targets a.known s)
+entry-counted n m a e = search (rules, with-counted)
 
 behind-counted : (n m : ℕ) (out : List Item) (t : Taken) → behind_entry out (counted_taken n m t) ≡ counted_progress n m (behind_entry out t)
 behind-counted n m out (Err refused) = refl
@@ -44,10 +41,7 @@ and-counted n m more h (out, Ok a) = h out a
 pub entries-counted : (n m : ℕ) (entries : List Entry) (out : List Item) (a : Assembly) → entries_taken entries out (counting n m a) ≡ counted_progress n m (entries_taken entries out a)
 unfolding entries_taken
 entries-counted n m [] out a = refl
-entries-counted n m (e ∷ entries) out a =
-    ap (λ t. and_entries (entries_taken entries) (behind_entry out t)) (entry-counted n m a e)
-    ∙ ap (and_entries (entries_taken entries)) (behind-counted n m out (entry_taken a e))
-    ∙ and-counted n m (entries_taken entries) (entries-counted n m entries) (behind_entry out (entry_taken a e))
+entries-counted n m (e ∷ entries) out a = search (rules, entry-counted, behind-counted, and-counted, entries-counted n m entries)
 
 -- entries behind entries
 and-assoc : (first second : List Item → Assembly → Progress) (p : Progress) → and_entries (λ out a. and_entries second (first out a)) p ≡ and_entries second (and_entries first p)
@@ -61,9 +55,7 @@ and-same f g h (out, Ok a) = h out a
 pub entries-append : (xs ys : List Entry) (out : List Item) (a : Assembly) → entries_taken (xs ++ ys) out a ≡ and_entries (entries_taken ys) (entries_taken xs out a)
 unfolding entries_taken
 entries-append [] ys out a = refl
-entries-append (e ∷ xs) ys out a =
-    and-same (entries_taken (xs ++ ys)) (λ out a. and_entries (entries_taken ys) (entries_taken xs out a)) (entries-append xs ys) (behind_entry out (entry_taken a e))
-    ∙ and-assoc (entries_taken xs) (entries_taken ys) (behind_entry out (entry_taken a e))
+entries-append (e ∷ xs) ys out a = search (rules, and-same, and-assoc, entries-append xs ys)
 
 -- ---- lines
 
@@ -92,19 +84,14 @@ refused-stays (line ∷ lines) out r = refused-stays lines out r
 -- one line, and those behind it
 line-then : (n m : ℕ) (lines : List Line) (fs : List Entry) (more : (out : List Item) (a : Assembly) → fold line_after (out, Ok (counting n m a)) lines ≡ counted_progress (lines_behind n lines) (size_behind m lines) (entries_taken fs out a)) (p : Progress) →
     fold line_after (counted_progress n m p) lines ≡ counted_progress (lines_behind n lines) (size_behind m lines) (and_entries (entries_taken fs) p)
-line-then n m lines fs more (out, Err r) = refused-stays lines out r
-line-then n m lines fs more (out, Ok a) = more out a
+line-then n m lines fs more p = search (rules, refused-stays)
 
 line-by : (far : Bool) (n m : ℕ) (line : Line) (lines : List Line) (out : List Item) (a : Assembly) →
     ((out : List Item) (a : Assembly) → fold line_after (out, Ok (counting (n + 1) (m + length line + 1) a)) lines ≡ counted_progress (lines_behind (n + 1) lines) (size_behind (m + length line + 1) lines) (entries_taken (entries_behind (n + 1) (m + length line + 1) lines) out a)) →
     fold line_after (line_unless (cond far (Some (refused (n + 1) SourceTooLong)) None) out (counting n m a) line) lines
     ≡ counted_progress (lines_behind (n + 1) lines) (size_behind (m + length line + 1) lines) (entries_taken (unless_far far (n + 1) (line_entries (n + 1) line ++ entries_behind (n + 1) (m + length line + 1) lines)) out a)
 unfolding entries_taken
-line-by true n m line lines out a more = refused-stays lines out (refused (n + 1) SourceTooLong)
-line-by false n m line lines out a more =
-    ap (λ p. fold line_after p lines) (entries-counted (n + 1) (m + length line + 1) (line_entries (n + 1) line) out a)
-    ∙ line-then (n + 1) (m + length line + 1) lines (entries_behind (n + 1) (m + length line + 1) lines) more (entries_taken (line_entries (n + 1) line) out a)
-    ∙ ap (counted_progress (lines_behind (n + 1) lines) (size_behind (m + length line + 1) lines)) (sym (entries-append (line_entries (n + 1) line) (entries_behind (n + 1) (m + length line + 1) lines) out a))
+line-by far n m line lines out a h = search (rules, refused-stays, entries-counted, line-then, entries-append)
 
 pub lines-are : (lines : List Line) (n m : ℕ) (out : List Item) (a : Assembly) →
     fold line_after (out, Ok (counting n m a)) lines ≡ counted_progress (lines_behind n lines) (size_behind m lines) (entries_taken (entries_behind n m lines) out a)

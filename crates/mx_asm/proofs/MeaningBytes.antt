@@ -1,5 +1,5 @@
 -- The items of bytes that a statement places lead to the state with these bytes.
-use Rattle.std.proofs.Common.{◌≡◌, ℕ, ◌+◌, ◌-◌, ◌/◌, ◌^◌, ◌<◌, ◌≤◌, List, [], ◌∷◌, ◌++◌, length, map, Bool, true, false, cond, arith, refl, sym, ◌∙◌, ap, bit_xor, ◌==◌, ◌||◌, ◌&&◌, nat_le, nat_lt}
+use Rattle.std.proofs.Common.{◌≡◌, ℕ, ◌+◌, ◌-◌, ◌/◌, ◌^◌, ◌<◌, ◌≤◌, List, [], ◌∷◌, ◌++◌, length, map, Bool, true, false, cond, arith, refl, sym, ◌∙◌, ap, bit_xor, ◌==◌, ◌||◌, ◌&&◌, nat_le, nat_lt, rules}
 use Rattle.mx_asm.proofs.Words.{cond_both, ltb-false, nat_tests, AreBytes, Load, from_place, placed, placed-append, Piece, pages_of, pages_below, is_covered, with_lines, Head, lowered, raised, covered, covering, tetra_count, located, told_line, lined, byte_items}
 use Rattle.mx_asm.specs.Emission.{line_behind}
 use Rattle.mx_asm.proofs.MeaningMemory.{HaveBytes}
@@ -44,9 +44,7 @@ few-bytes n ps start b bytes big low few =
 
 told-lines : (high : Bool) (line start b q : ℕ) (bytes : List ℕ) (lines : ℕ → ℕ) → high ≡ nat_lt 65535 line → 0 < line → length bytes ≤ 2 ^ 29 →
     lines_with lines (lowered start) (cond high 0 line) (length (covering start (b ∷ bytes))) q ≡ cond (nat_le line 65535 && is_covered (piece_at line start (b ∷ bytes)) q) (line + (q / 4 - start / 4)) (lines q)
-told-lines true line start b q bytes lines high some few =
-    let above : nat_le line 65535 ≡ false = grind (arith, nat_tests) in
-    no-lines (length (covering start (b ∷ bytes))) (lowered start) q lines ∙ sym (ap (λ t. cond (t && is_covered (piece_at line start (b ∷ bytes)) q) (line + (q / 4 - start / 4)) (lines q)) above)
+told-lines true line start b q bytes lines high some few = search (rules, no-lines)
 told-lines false line start b q bytes lines high some few =
     let below : nat_le line 65535 ≡ true = grind (arith, nat_tests) in
     let small : line ≤ 65535 = grind (arith, nat_tests) in

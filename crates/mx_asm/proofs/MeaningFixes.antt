@@ -1,6 +1,6 @@
 -- A fix record joins what its reference adds to the bytes at its place.
-use Rattle.std.proofs.Common.{◌≡◌, ℕ, ◌+◌, ◌-◌, ◌*◌, ◌/◌, ◌%◌, ◌^◌, ◌<◌, ◌≤◌, List, [], ◌∷◌, ◌++◌, Bool, true, false, not, cond, arith, refl, sym, ◌∙◌, ap, Some, Result, Ok, Err, ◌⊎◌, inl, inr, append_assoc, ◌==◌, ◌&&◌, nat_le, nat_lt}
-use Rattle.mx_asm.proofs.Words.{result_unwrap_or, byte_at, eqb-true, leb-true, leb-false, ltb-true, nat_tests, octa_to_bytes, tetra_to_bytes, AreBytes, tetra-back, Pure, Wait, WaitKind, Octa, Near, Far, PagesFull, BadPlace, is_below, join, then_join, join_octa, tetras_before, tetras_behind, far_place, with_image, take_item, take_items, Item, FixNear, FixFar, NotMultiple, TooFar, relative_word, forward_word, backward_word, future_word, near_reach, far_reach, fix_bytes, kind_size, from_place, placed, from-append, AsmFault, pages_of, pages_below, word_fix, relative_fix, pure_fix, fix_of}
+use Rattle.std.proofs.Common.{◌≡◌, ℕ, ◌+◌, ◌-◌, ◌*◌, ◌/◌, ◌%◌, ◌^◌, ◌<◌, ◌≤◌, List, [], ◌∷◌, ◌++◌, Bool, true, false, not, cond, arith, refl, sym, ◌∙◌, ap, Some, Result, Ok, Err, ◌⊎◌, inl, inr, append_assoc, ◌==◌, ◌&&◌, nat_le, nat_lt, rules}
+use Rattle.mx_asm.proofs.Words.{nat_tests, octa_to_bytes, tetra_to_bytes, AreBytes, tetra-back, Pure, Wait, WaitKind, Octa, Near, Far, BadPlace, is_below, join, then_join, join_octa, tetras_before, tetras_behind, far_place, with_image, take_item, take_items, Item, FixNear, FixFar, relative_word, future_word, near_reach, far_reach, fix_bytes, kind_size, from_place, placed, from-append, AsmFault, pages_of, pages_below, word_fix, relative_fix, pure_fix, fix_of}
 use Rattle.mx_asm.proofs.MeaningMemory.{HaveBytes}
 use Rattle.mx_asm.proofs.MeaningPages.{more-count, append-more, unless_full}
 use Rattle.mx_asm.proofs.MeaningStates.{State, image_at, stands, count_of, limited, Takes, take-none, takes-few, tetra-joined, more-bytes}
@@ -12,43 +12,20 @@ word-bytes t = (omega arith, (omega arith, (omega arith, (omega arith, tt))))
 
 word-joined : (n a t : ℕ) (ps : List (ℕ × ℕ)) (lines : ℕ → ℕ) → 2 ^ 51 ≤ n → a % 4 ≡ 0 → a < 0x6000_0000_0000_0000 → t < 2 ^ 32 → HaveBytes (placed ps) → pages_below n (pages_of ps) ≤ 65536 →
     join (image_at n ps lines) a t ≡ unless_full (pages_below n (pages_of (ps ++ from_place a (tetra_to_bytes t)))) (image_at n (ps ++ from_place a (tetra_to_bytes t)) lines)
-word-joined n a t ps lines big m l fits have few =
-    ap (join (image_at n ps lines) a) (sym (tetra-back t fits))
-    ∙ tetra-joined n a (byte_at 3 t) (byte_at 2 t) (byte_at 1 t) (byte_at 0 t) ps lines big m l (word-bytes t) have few
+word-joined n a t ps lines big m l fits have few = grind (arith, nat_tests, tetra-back, tetra-joined)
 
 -- the place of two words that are joined one after another
 then-joined : (n a t : ℕ) (ps : List (ℕ × ℕ)) (lines : ℕ → ℕ) → 2 ^ 51 ≤ n → a % 4 ≡ 0 → a < 0x6000_0000_0000_0000 → t < 2 ^ 32 → HaveBytes (placed ps) →
     then_join a t (unless_full (pages_below n (pages_of ps)) (image_at n ps lines)) ≡ unless_full (pages_below n (pages_of (ps ++ from_place a (tetra_to_bytes t)))) (image_at n (ps ++ from_place a (tetra_to_bytes t)) lines)
-then-joined n a t ps lines big m l fits have = on (nat_le (pages_below n (pages_of ps)) 65536) refl
-  where
-    on : (b : Bool) → nat_le (pages_below n (pages_of ps)) 65536 ≡ b →
-        then_join a t (cond b (Ok (image_at n ps lines)) (Err PagesFull)) ≡ unless_full (pages_below n (pages_of (ps ++ from_place a (tetra_to_bytes t)))) (image_at n (ps ++ from_place a (tetra_to_bytes t)) lines)
-    on true e = word-joined n a t ps lines big m l fits have (grind (arith, nat_tests))
-    on false e =
-        let grown = more-count n (pages_of (ps ++ from_place a (tetra_to_bytes t))) (pages_of ps) (append-more ps (from_place a (tetra_to_bytes t))) in
-        let full : nat_le (pages_below n (pages_of (ps ++ from_place a (tetra_to_bytes t)))) 65536 ≡ false = grind (arith, nat_tests) in
-        sym (ap (λ b. cond b (Ok (image_at n (ps ++ from_place a (tetra_to_bytes t)) lines)) (Err PagesFull)) full)
+then-joined n a t ps lines big m l fits have = search (rules, word-joined, more-count, append-more)
 
 with-unless : (n : ℕ) (s : State) (ps : List (ℕ × ℕ)) → with_image (stands n s) (unless_full (pages_below n (pages_of ps)) (image_at n ps s.lines)) ≡ limited n (record s { placements = ps })
-with-unless n s ps = on (nat_le (pages_below n (pages_of ps)) 65536)
-  where
-    on : (b : Bool) → with_image (stands n s) (cond b (Ok (image_at n ps s.lines)) (Err PagesFull)) ≡ cond b (Ok (stands n (record s { placements = ps }))) (Err PagesFull)
-    on true = refl
-    on false = refl
+with-unless n s ps = grind (arith, nat_tests)
 
 -- ---- an octa
 
 octa-halves : (x : ℕ) → octa_to_bytes x ≡ tetra_to_bytes (x / 2 ^ 32) ++ tetra_to_bytes (x % 2 ^ 32)
-octa-halves x =
-    let b0 : byte_at 7 x ≡ byte_at 3 (x / 2 ^ 32) = omega arith in
-    let b1 : byte_at 6 x ≡ byte_at 2 (x / 2 ^ 32) = omega arith in
-    let b2 : byte_at 5 x ≡ byte_at 1 (x / 2 ^ 32) = omega arith in
-    let b3 : byte_at 4 x ≡ byte_at 0 (x / 2 ^ 32) = omega arith in
-    let b4 : byte_at 3 x ≡ byte_at 3 (x % 2 ^ 32) = omega arith in
-    let b5 : byte_at 2 x ≡ byte_at 2 (x % 2 ^ 32) = omega arith in
-    let b6 : byte_at 1 x ≡ byte_at 1 (x % 2 ^ 32) = omega arith in
-    let b7 : byte_at 0 x ≡ byte_at 0 (x % 2 ^ 32) = omega arith in
-    λ i. b0 i ∷ b1 i ∷ b2 i ∷ b3 i ∷ b4 i ∷ b5 i ∷ b6 i ∷ b7 i ∷ []
+octa-halves x = grind (arith, nat_tests)
 
 octa-joined : (n a x : ℕ) (ps : List (ℕ × ℕ)) (lines : ℕ → ℕ) → 2 ^ 51 ≤ n → a % 4 ≡ 0 → a + 8 ≤ 0x6000_0000_0000_0000 → x < 2 ^ 64 → HaveBytes (placed ps) → pages_below n (pages_of ps) ≤ 65536 →
     join_octa (image_at n ps lines) a x ≡ unless_full (pages_below n (pages_of (ps ++ from_place a (octa_to_bytes x)))) (image_at n (ps ++ from_place a (octa_to_bytes x)) lines)
@@ -92,52 +69,8 @@ record IsFix (place value bits reach : ℕ) (item : Item) : Type 0 where
 same-item : (x y : Item) → ◌≡◌ {A = Result Item AsmFault} (Ok x) (Ok y) → x ≡ y
 same-item x y h = cc
 
-ahead-is : (place value bits reach : ℕ) (item : Item) → place ≤ value → nat_le place value ≡ true → relative_fix bits (forward_word 0 reach (value - place)) ≡ Ok item → IsFix place value bits reach item
-ahead-is place value bits reach item l t h = on ((value - place) % 4 == 0) (nat_lt ((value - place) / 4) reach) refl refl h
-  where
-    on : (b c : Bool) → ((value - place) % 4 == 0) ≡ b → nat_lt ((value - place) / 4) reach ≡ c →
-        relative_fix bits (cond (not b) (Err NotMultiple) (cond c (Ok (0 + (value - place) / 4)) (Err TooFar))) ≡ Ok item → IsFix place value bits reach item
-    on true true e f h =
-        let whole : (value - place) % 4 ≡ 0 = eqb-true _ _ e in
-        let near = ltb-true _ _ f in
-        record {
-          word = 0 + (value - place) / 4;
-          added =
-              ap (λ b. result_unwrap_or (cond b (forward_word 0 reach (value - place)) (backward_word 0 reach (place - value))) 0) t
-              ∙ (λ i. result_unwrap_or (cond (not (e i)) (Err NotMultiple) (cond (f i) (Ok (0 + (value - place) / 4)) (Err TooFar))) 0);
-          item_is = sym (same-item _ _ h);
-          from = inl (record { ahead = omega (arith, whole, l); near = omega (arith, near) });
-        }
-    on true false e f h = absurd (cc)
-    on false true e f h = absurd (cc)
-    on false false e f h = absurd (cc)
-
-behind-is : (place value bits reach : ℕ) (item : Item) → value < place → nat_le place value ≡ false → relative_fix bits (backward_word 0 reach (place - value)) ≡ Ok item → IsFix place value bits reach item
-behind-is place value bits reach item l t h = on ((place - value) % 4 == 0) (nat_le ((place - value) / 4) reach) refl refl h
-  where
-    on : (b c : Bool) → ((place - value) % 4 == 0) ≡ b → nat_le ((place - value) / 4) reach ≡ c →
-        relative_fix bits (cond (not b) (Err NotMultiple) (cond c (Ok (0 + 2 ^ 24 + (reach - (place - value) / 4))) (Err TooFar))) ≡ Ok item → IsFix place value bits reach item
-    on true true e f h =
-        let whole : (place - value) % 4 ≡ 0 = eqb-true _ _ e in
-        let near = leb-true _ _ f in
-        record {
-          word = 0 + 2 ^ 24 + (reach - (place - value) / 4);
-          added =
-              ap (λ b. result_unwrap_or (cond b (forward_word 0 reach (value - place)) (backward_word 0 reach (place - value))) 0) t
-              ∙ (λ i. result_unwrap_or (cond (not (e i)) (Err NotMultiple) (cond (f i) (Ok (0 + 2 ^ 24 + (reach - (place - value) / 4))) (Err TooFar))) 0);
-          item_is = sym (same-item _ _ h);
-          from = inr (record { back = (place - value) / 4; behind = omega (arith, whole, l); some = omega (arith, whole, l); near = near; word_is = omega arith });
-        }
-    on true false e f h = absurd (cc)
-    on false true e f h = absurd (cc)
-    on false false e f h = absurd (cc)
-
 relative-is : (place value bits reach : ℕ) (item : Item) → relative_fix bits (relative_word 0 reach place value) ≡ Ok item → IsFix place value bits reach item
-relative-is place value bits reach item h = on (nat_le place value) refl h
-  where
-    on : (b : Bool) → nat_le place value ≡ b → relative_fix bits (cond b (forward_word 0 reach (value - place)) (backward_word 0 reach (place - value))) ≡ Ok item → IsFix place value bits reach item
-    on true e h = ahead-is place value bits reach item (leb-true _ _ e) e h
-    on false e h = behind-is place value bits reach item (leb-false _ _ e) e h
+relative-is place value bits reach item h = grind (arith, nat_tests)
 
 -- where the records join their words
 before-is : (place value word : ℕ) → place + 4 * word ≡ value → place < 2 ^ 63 → tetras_before word value ≡ place
@@ -220,6 +153,4 @@ fix-taken n Far place value item s big have at fits m l h few =
 
 pub takes-fix : (n : ℕ) (w : Wait) (value : ℕ) (item : Item) (s : State) → 2 ^ 51 ≤ n → HaveBytes (placed s.placements) → s.lambda ≡ value → value < 2 ^ 64 → w.at % 4 ≡ 0 → w.at + kind_size w.kind ≤ 0x6000_0000_0000_0000 →
     fix_of (Pure value) w ≡ Ok item → Takes n (item ∷ []) s (behind_fix s w value)
-takes-fix n w value item s big have at fits m l h =
-    takes-few n (item ∷ []) s (behind_fix s w value) (append-more s.placements (from_place w.at (fix_bytes w.kind w.at (Some value))))
-    (λ few. fix-taken n w.kind w.at value item s big have at fits m l h few)
+takes-fix n w value item s big have at fits m l h = search (rules, takes-few, append-more, fix-taken)

@@ -1,9 +1,9 @@
 -- The items of statements without a fault lead from the state before them to the state behind them.
-use Rattle.std.proofs.Common.{◌≡◌, ℕ, zero, suc, ◌+◌, ◌^◌, ◌<◌, ◌≤◌, List, [], ◌∷◌, ◌++◌, true, false, cond, arith, refl, sym, ◌∙◌, ap, Option, Some, None, Result, Ok, Err, nat_le}
-use Rattle.mx_asm.proofs.Words.{result_unwrap_or, AllByRecursion, Wait, PagesFull, nothing, with_name, take_items, Item, Placed, Answer, no_targets, IsOperation, IsSound, IsLaid, placed, encoding-laid, AsmFault, Refused, Head, Sight, outline, fixes, awaited_value, waiting_at, pages_below, onto, moved, byte_items, head_at_fixes, with_bytes, statement_items, opening, sight_items, sight_head, items_from, refusal_of, label_fault, fault_behind, fault_with, statement_fault, first_fault}
+use Rattle.std.proofs.Common.{◌≡◌, ℕ, zero, suc, ◌+◌, ◌^◌, ◌<◌, ◌≤◌, List, [], ◌∷◌, ◌++◌, false, arith, refl, sym, ◌∙◌, ap, Option, Some, None, Ok, Err}
+use Rattle.mx_asm.proofs.Words.{result_unwrap_or, AllByRecursion, Wait, nothing, take_items, Placed, Answer, no_targets, IsOperation, IsSound, IsLaid, placed, encoding-laid, AsmFault, Head, Sight, outline, fixes, awaited_value, waiting_at, pages_below, statement_items, opening, sight_items, sight_head, items_from, refusal_of, label_fault, fault_behind, fault_with, statement_fault, first_fault, nat_tests}
 use Rattle.mx_asm.proofs.EndWaits.{both-none}
 use Rattle.mx_asm.proofs.MeaningMemory.{HaveBytes}
-use Rattle.mx_asm.proofs.MeaningStates.{State, stands, limited, Takes, takes-both, takes-none}
+use Rattle.mx_asm.proofs.MeaningStates.{State, limited, Takes, takes-both, takes-none}
 use Rattle.mx_asm.proofs.MeaningBytes.{head_of}
 use Rattle.mx_asm.proofs.MeaningStatements.{IsWord, waiting-low, behind_fixes, behind_placed, fixed-have, bytes-have, placed-head, takes-placed}
 
@@ -40,14 +40,7 @@ faultless earlier t h = on (outline t) refl h
     on (Ok p) e h = behind p (label_fault t.known.names t.statement.label) e refl h
 
 items-given : (h : Head) (line : ℕ) (p : Placed) (waits : List Wait) → refusal_of (fixes line (awaited_value p.label) waits) ≡ None → statement_items h line p waits ≡ Ok (result_unwrap_or (statement_items h line p waits) [])
-items-given h line p [] none = refl
-items-given h line p (w ∷ waits) none = on (fixes line (awaited_value p.label) (w ∷ waits)) none
-  where
-    on : (r : Result (List Item) Refused) → refusal_of r ≡ None →
-        with_bytes (onto (moved h.lambda (awaited_value p.label)) r) (byte_items (head_at_fixes h (awaited_value p.label) (w ∷ waits)) line p.start p.bytes)
-        ≡ Ok (result_unwrap_or (with_bytes (onto (moved h.lambda (awaited_value p.label)) r) (byte_items (head_at_fixes h (awaited_value p.label) (w ∷ waits)) line p.start p.bytes)) [])
-    on (Err refused) none = absurd (cc)
-    on (Ok fixed) none = refl
+items-given h line p waits h1 = grind (arith, nat_tests)
 
 -- the laying of a statement
 pub laid : (t : Sight) (p : Placed) → outline t ≡ Ok p → IsLaid p
@@ -101,13 +94,4 @@ pub first-have : HaveBytes (placed first_state.placements)
 first-have q = omega arith
 
 pub opened : (n : ℕ) → take_items opening (Ok nothing) ≡ limited n first_state
-opened n =
-    let none = no-pages n in
-    (λ i. Ok (record {
-      image = record { memory = λ a. 0; pages = λ p. false; page_count = sym none i; line_of = λ a. 0; g = 255; global = λ k. 0 };
-      lambda = 0;
-      line = 0;
-      selected = true;
-      named = with_name (λ k. false) 0;
-    }))
-    ∙ (λ i. cond (nat_le (sym none i) 65536) (Ok (stands n first_state)) (Err PagesFull))
+opened n = cc (no-pages n)

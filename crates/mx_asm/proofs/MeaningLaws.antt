@@ -1,6 +1,6 @@
 -- The items of statements mean their image, and the items of lines are loaded unless there are too many pages.
-use Rattle.std.proofs.Common.{◌≡◌, ℕ, ◌^◌, ◌≤◌, List, [], ◌∷◌, ◌++◌, Bool, true, false, not, cond, arith, lit≤, refl, sym, ◌∙◌, ap, is_some, Some, None, Ok, Err, append_assoc, append-nil, nat_le, ◌||◌}
-use Rattle.mx_asm.proofs.Words.{result_err, AllByRecursion, nat_tests, PagesFull, nothing, take_items, meaning, Placed, StatementTree, from_place, NameTable, statements_in, Sight, Piece, outline, references, targets, nothing_known, sights_from, sights_of, piece_with, pieces_of, placements, pages_of, pages_below, page_count, opening, first_head, items_from, emission, statement_fault, first_fault, IsStatement, Line, accepted, lines_entries, lines_items, AreAccepted, outlined, has_room, loaded_image, page_fault, page_refusal_from, page_refusal, accepted_in}
+use Rattle.std.proofs.Common.{◌≡◌, ℕ, ◌^◌, ◌≤◌, List, [], ◌∷◌, ◌++◌, Bool, true, false, not, cond, lit≤, refl, sym, ◌∙◌, ap, is_some, Some, None, Ok, Err, append_assoc, append-nil, nat_le, ◌||◌, rules}
+use Rattle.mx_asm.proofs.Words.{result_err, AllByRecursion, PagesFull, nothing, take_items, meaning, Placed, StatementTree, from_place, NameTable, statements_in, Sight, Piece, outline, references, targets, nothing_known, sights_from, piece_with, pieces_of, placements, pages_of, pages_below, opening, first_head, items_from, emission, statement_fault, first_fault, IsStatement, Line, accepted, lines_entries, lines_items, AreAccepted, outlined, has_room, loaded_image, page_fault, page_refusal_from, page_refusal, accepted_in}
 use Rattle.mx_line.specs.Source.{items_from as line_items}
 use Rattle.mx_asm.proofs.EndWaits.{both-none}
 use Rattle.mx_asm.proofs.MeaningPages.{same-pages, more-count, append-pages, append-more}
@@ -55,19 +55,14 @@ sights-fault later none steady = front-fault (2 ^ 51) (lit≤ tt) later none ste
 
 no-room-needed : page_fault [] ≡ None
 unfolding outlined placements
-no-room-needed =
-    let few : nat_le (page_count (λ p. false)) 65536 ≡ true = ap (λ c. nat_le c 65536) (no-pages (2 ^ 51)) in
-    ap (λ b. cond b None (Some PagesFull)) few
+no-room-needed = cc (no-pages (2 ^ 51))
 
 no-statements : accepted_in (lines_entries []) ≡ []
 unfolding accepted sights_from line_items
 no-statements = refl
 
 pub lines-fault : (lines : List Line) → AllByRecursion IsStatement (statements_in (lines_entries lines)) → result_err (take_items (lines_items lines) (Ok nothing)) ≡ page_fault (accepted_in (lines_entries lines))
-lines-fault [] read = sym (ap page_fault no-statements ∙ no-room-needed)
-lines-fault (line ∷ lines) read =
-    let statements : List StatementTree = statements_in (lines_entries (line ∷ lines)) in
-    sights-fault (accepted [] (sights_of statements)) (accepted-faultless (sights_of statements) []) (steady-begun statements read)
+lines-fault lines h = search (rules, no-statements, no-room-needed, sights-fault, accepted-faultless, steady-begun)
 
 -- ---- the first statement with too many pages
 
@@ -83,10 +78,7 @@ placements-append (p ∷ ps) qs = ap (λ l. from_place p.start p.bytes ++ l) (pl
 
 -- where there is no room for the first ones, there is none for more
 pub no-room : (n : ℕ) (xs ys : List Sight) → nat_le (pages_below n (pages_of (placements (outlined xs)))) 65536 ≡ false → nat_le (pages_below n (pages_of (placements (outlined (xs ++ ys))))) 65536 ≡ false
-no-room n xs ys h =
-    let grown = more-count n (pages_of (placements (outlined xs) ++ placements (outlined ys))) (pages_of (placements (outlined xs))) (append-more (placements (outlined xs)) (placements (outlined ys))) in
-    let full : nat_le (pages_below n (pages_of (placements (outlined xs) ++ placements (outlined ys)))) 65536 ≡ false = grind (arith, nat_tests) in
-    ap (λ ps. nat_le (pages_below n (pages_of ps)) 65536) (ap placements (outlined-append xs ys) ∙ placements-append (outlined xs) (outlined ys)) ∙ full
+no-room n xs ys h = search (rules, more-count, append-more, outlined-append, placements-append)
 
 refusal-from : (later earlier : List Sight) → has_room (outlined earlier) ≡ true → is_some (page_refusal_from earlier later) ≡ not (has_room (outlined (earlier ++ later)))
 unfolding page_refusal_from

@@ -1,6 +1,6 @@
 -- Where pages are full, line by line.
-use Rattle.std.proofs.Common.{◌≡◌, ℕ, ◌+◌, ◌-◌, ◌^◌, ◌≤◌, List, [], ◌∷◌, ◌++◌, length, map, Bool, true, false, cond, nat_lt, arith, refl, sym, ◌∙◌, ap, subst, Option, Some, None, Result, Ok, Err, append_assoc, append-nil, sum_by, is_some, option_map}
-use Rattle.mx_asm.proofs.Words.{cond_both, AllByRecursion, take-append-le, LineFault, Cut, is_too_far, part, cuts_from, statement, faulty, too_far, item_of, before, items_of, Meaningless, PagesFull, ExprFault, Tree, reading, Op, Answer, Known, StatementTree, Fields, label_of, operation_for, Refused, Entry, with_operands, with_operation, entry_with, entry_of, entries_of, statements_in, Sight, nothing_known, known_after, sights_from, sights_of, statement_fault, Line, accepted, accepted_with, lines_entries, outlined, has_room, page_fault, page_refusal_from, page_refusal, accepted_in}
+use Rattle.std.proofs.Common.{◌≡◌, ℕ, ◌+◌, ◌-◌, ◌^◌, ◌≤◌, List, [], ◌∷◌, ◌++◌, length, map, Bool, true, false, cond, nat_lt, arith, refl, sym, ◌∙◌, ap, subst, Option, Some, None, Result, Ok, Err, append_assoc, append-nil, sum_by, rules}
+use Rattle.mx_asm.proofs.Words.{cond_both, AllByRecursion, take-append-le, LineFault, Cut, is_too_far, cuts_from, statement, faulty, too_far, item_of, before, items_of, Meaningless, PagesFull, Known, StatementTree, Refused, Entry, entry_of, entries_of, statements_in, Sight, nothing_known, known_after, sights_from, sights_of, statement_fault, Line, accepted, accepted_with, lines_entries, outlined, has_room, page_fault, page_refusal_from, page_refusal, accepted_in, nat_tests}
 use Rattle.mx_line.specs.Source.{Item, items_from}
 use Rattle.mx_asm.proofs.MeaningLaws.{no-room}
 use Rattle.mx_stab.proofs.Orders.{all-both as all-append}
@@ -14,13 +14,7 @@ before-both a b c = refl
 items-split : (all : List Line) (n : ℕ) (us vs : List Line) → items_from all n (us ++ vs) ≡ before (items_from all n us) (items_from all (n + length us) vs)
 unfolding items_from
 items-split all n [] vs = ap (λ k. items_from all k vs) (omega arith)
-items-split all n (u ∷ us) vs =
-    by (is_too_far all n) (items-split all (n + 1) us vs ∙ ap (λ k. before (items_from all (n + 1) us) (items_from all k vs)) (omega arith))
-  where
-    by : (b : Bool) → items_from all (n + 1) (us ++ vs) ≡ before (items_from all (n + 1) us) (items_from all (n + length (u ∷ us)) vs) →
-        cond b (too_far n ∷ []) (before (items_of n u) (items_from all (n + 1) (us ++ vs))) ≡ before (cond b (too_far n ∷ []) (before (items_of n u) (items_from all (n + 1) us))) (items_from all (n + length (u ∷ us)) vs)
-    by true h = refl
-    by false h = ap (before (items_of n u)) h ∙ sym (before-both (items_of n u) (items_from all (n + 1) us) (items_from all (n + length (u ∷ us)) vs))
+items-split all n (u ∷ us) vs = search (rules, before-both, items-split all (n + 1) us vs)
 
 -- later lines do not make a line too far
 far-same : (xs ys : List Line) (i : ℕ) → i ≤ length xs → is_too_far (xs ++ ys) i ≡ is_too_far xs i
@@ -46,12 +40,7 @@ continued (faulty line why ∷ items) more = []
 continued (too_far line ∷ items) more = []
 
 statements-split : (a b : List Item) → statements_in (entries_of (before a b)) ≡ statements_in (entries_of a) ++ continued a (statements_in (entries_of b))
-statements-split (statement line label op operands ∷ items) b = by (entry_of (statement line label op operands)) (statements-split items b)
-  where
-    by : (e : Entry) → statements_in (entries_of (before items b)) ≡ statements_in (entries_of items) ++ continued items (statements_in (entries_of b)) →
-        statements_in (e ∷ entries_of (before items b)) ≡ statements_in (e ∷ entries_of items) ++ behind e (continued items (statements_in (entries_of b)))
-    by (Err refused) h = refl
-    by (Ok s) h = ap (λ ss. s ∷ ss) h
+statements-split (statement line label op operands ∷ items) b = search (rules, statements-split items b)
 statements-split a b = refl
 
 module _ (P : StatementTree → Type 0) where
@@ -110,31 +99,9 @@ module _ (P : StatementTree → Type 0) where
 abbrev IsAt : ℕ → StatementTree → Type 0
 IsAt line s = s.line ≡ line
 
-abbrev EntryAt : ℕ → Entry → Type 0
-EntryAt line (Err refused) = Unit {0}
-EntryAt line (Ok s) = s.line ≡ line
-
-operands-at : (fields : Fields) (line : ℕ) (op : Op) (r : Result (List Tree) ExprFault) → EntryAt line (entry_with line (with_operands fields line op r))
-operands-at fields line op (Err fault) = tt
-operands-at fields line op (Ok operands) = refl
-
-operation-at : (fields : Fields) (line : ℕ) (r : Answer Op) → EntryAt line (entry_with line (with_operation fields line r))
-operation-at fields line (Err fault) = tt
-operation-at fields line (Ok op) = operands-at fields line op (reading fields.operands)
-
-cut-at : (n : ℕ) (line : List ℕ) (r : Result Cut LineFault) → EntryAt n (entry_of (item_of n line r))
-cut-at n line (Ok cut) =
-    let label = option_map label_of (option_map (part line) cut.label) in
-    operation-at (record { label = label; op = part line cut.op; operands = part line cut.operands }) n (operation_for (is_some label) (part line cut.op))
-cut-at n line (Err why) = tt
-
 cuts-at : (n : ℕ) (line : List ℕ) (rs : List (Result Cut LineFault)) → AllByRecursion (IsAt n) (statements_in (entries_of (map (item_of n line) rs)))
 cuts-at n line [] = tt
-cuts-at n line (r ∷ rs) = by (entry_of (item_of n line r)) (cut-at n line r) (cuts-at n line rs)
-  where
-    by : (e : Entry) → EntryAt n e → AllByRecursion (IsAt n) (statements_in (entries_of (map (item_of n line) rs))) → AllByRecursion (IsAt n) (statements_in (e ∷ entries_of (map (item_of n line) rs)))
-    by (Err refused) h rest = tt
-    by (Ok s) h rest = (h, rest)
+cuts-at n line (r ∷ rs) = grind (arith, nat_tests, cuts-at n line rs)
 
 one-line : (all : List Line) (n : ℕ) (line : Line) → AllByRecursion (IsAt n) (statements_in (entries_of (items_from all n (line ∷ []))))
 unfolding items_from
@@ -147,11 +114,7 @@ one-line all n line = cond_both (is_too_far all n) _ _ (λ x. AllByRecursion (Is
 -- ---- pages
 
 room-before : (xs ys : List Sight) → has_room (outlined (xs ++ ys)) ≡ true → has_room (outlined xs) ≡ true
-room-before xs ys h = by (has_room (outlined xs)) refl
-  where
-    by : (b : Bool) → has_room (outlined xs) ≡ b → b ≡ true
-    by true e = refl
-    by false e = let none : false ≡ true = sym (no-room (2 ^ 51) xs ys e) ∙ h in absurd (cc)
+room-before xs ys h = search (rules, no-room)
 
 refusal-behind : (front earlier later : List Sight) → has_room (outlined (earlier ++ front)) ≡ true → page_refusal_from earlier (front ++ later) ≡ page_refusal_from (earlier ++ front) later
 unfolding page_refusal_from
@@ -175,12 +138,10 @@ refusal-at n (s ∷ front) earlier later at room none =
     by false e rest = ap Some at.0
 
 room-by : (b : Bool) → ◌≡◌ {A = Option Meaningless} (cond b None (Some PagesFull)) None → b ≡ true
-room-by true h = refl
-room-by false h = absurd (cc)
+room-by b h = grind (arith, nat_tests)
 
 full-by : (b : Bool) → ◌≡◌ {A = Option Meaningless} (cond b None (Some PagesFull)) (Some PagesFull) → b ≡ false
-full-by true h = absurd (cc)
-full-by false h = refl
+full-by b h = grind (arith, nat_tests)
 
 Any : StatementTree → Type 0
 Any s = Unit {0}

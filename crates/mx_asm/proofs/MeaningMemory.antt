@@ -1,6 +1,6 @@
 -- Memory octa by octa, as the bytes at each address tell it.
 use Rattle.std.proofs.Common.{◌≡◌, ℕ, zero, suc, ◌+◌, ◌-◌, ◌*◌, ◌/◌, ◌%◌, ◌^◌, ◌<◌, List, [], ◌∷◌, cond, get_or, arith, refl, sym, ◌∙◌, ap, bit_xor, ◌==◌, nat_lt}
-use Rattle.mx_asm.proofs.Words.{cond_both, byte_at, xor_lt, octa_from_bytes, octa_to_bytes, byte_of, byte_in, with_tetra, in_half, bytes_with_tetra, AreBytes, octa-back, eight-bytes, eight-fit, octa_from, octa_in}
+use Rattle.mx_asm.proofs.Words.{cond_both, byte_at, xor_lt, octa_to_bytes, byte_of, byte_in, with_tetra, in_half, bytes_with_tetra, AreBytes, eight-bytes, octa_from, octa_in, nat_tests}
 use Rattle.mx_word.proofs.JoinedTetra.{byte_in-joined}
 
 -- a byte at each address
@@ -15,31 +15,14 @@ byte-of x a i l e = rw e refl
 
 -- the byte of an octa by its place
 place-of : (x i : ℕ) → i < 8 → byte_at (7 - i) x ≡ get_or (octa_to_bytes x) i 0
-place-of x (suc (suc (suc (suc (suc (suc (suc (suc i)))))))) l = absurd (omega arith)
-place-of x i l = refl
+place-of x i h = grind (arith, nat_tests)
 
 -- one octa at all addresses of eight bytes
 abbrev pub IsEven : (ℕ → ℕ) → Type 0
 IsEven octas = (q r : ℕ) → q / 8 ≡ r / 8 → octas q ≡ octas r
 
-octa-byte : (octas : ℕ → ℕ) (q i : ℕ) → IsEven octas → i < 8 → byte_in octas (q / 8 * 8 + i) ≡ byte_at (7 - i) (octas q)
-octa-byte octas q i even l =
-    ap (λ x. byte_of x (q / 8 * 8 + i)) (even (q / 8 * 8 + i) q (omega arith)) ∙ byte-of (octas q) (q / 8 * 8 + i) i l (omega arith)
-
-first-byte : (octas : ℕ → ℕ) (q : ℕ) → IsEven octas → byte_in octas (q / 8 * 8) ≡ byte_at 7 (octas q)
-first-byte octas q even = let e : q / 8 * 8 ≡ q / 8 * 8 + 0 = omega arith in ap (byte_in octas) e ∙ octa-byte octas q 0 even (omega arith)
-
 pub octas-of-bytes : (octas : ℕ → ℕ) (q : ℕ) → IsEven octas → octas q < 2 ^ 64 → octa_in (byte_in octas) q ≡ octas q
-octas-of-bytes octas q even l =
-    let b0 = first-byte octas q even in
-    let b1 = octa-byte octas q 1 even (omega arith) in
-    let b2 = octa-byte octas q 2 even (omega arith) in
-    let b3 = octa-byte octas q 3 even (omega arith) in
-    let b4 = octa-byte octas q 4 even (omega arith) in
-    let b5 = octa-byte octas q 5 even (omega arith) in
-    let b6 = octa-byte octas q 6 even (omega arith) in
-    let b7 = octa-byte octas q 7 even (omega arith) in
-    (λ j. octa_from_bytes (b0 j ∷ b1 j ∷ b2 j ∷ b3 j ∷ b4 j ∷ b5 j ∷ b6 j ∷ b7 j ∷ [])) ∙ octa-back (octas q) l
+octas-of-bytes octas q even l = grind (arith, nat_tests)
 
 -- the bytes of the octas that bytes tell are these bytes
 eight : (ℕ → ℕ) → ℕ → List ℕ
@@ -51,26 +34,18 @@ eight-are f a h = (h a, (h (a + 1), (h (a + 2), (h (a + 3), (h (a + 4), (h (a + 
 
 eight-at : (f : ℕ → ℕ) (a q i : ℕ) → i < 8 → q ≡ a + i → get_or (eight f a) i 0 ≡ f q
 unfolding eight
-eight-at f a q zero l e = ap f (omega arith)
-eight-at f a q (suc (suc (suc (suc (suc (suc (suc (suc i)))))))) l e = absurd (omega arith)
-eight-at f a q i l e = ap f (sym e)
+eight-at f a q i h1 h2 = grind (arith, nat_tests)
 
 eight-back : (f : ℕ → ℕ) (a : ℕ) → HaveBytes f → octa_to_bytes (octa_from f a) ≡ eight f a
 unfolding eight
 eight-back f a h = eight-bytes (f a) (f (a + 1)) (f (a + 2)) (f (a + 3)) (f (a + 4)) (f (a + 5)) (f (a + 6)) (f (a + 7)) (eight-are f a h)
 
 bytes-of-octas : (f : ℕ → ℕ) (q : ℕ) → HaveBytes f → byte_in (octa_in f) q ≡ f q
-bytes-of-octas f q h =
-    byte-of (octa_in f q) q (q % 8) (omega arith) refl
-    ∙ place-of (octa_in f q) (q % 8) (omega arith)
-    ∙ ap (λ l. get_or l (q % 8) 0) (eight-back f (q / 8 * 8) h)
-    ∙ eight-at f (q / 8 * 8) q (q % 8) (omega arith) (omega arith)
+bytes-of-octas f q h = grind (arith, nat_tests, byte-of, place-of, eight-back, eight-at)
 
 octa-fits : (f : ℕ → ℕ) (q : ℕ) → HaveBytes f → octa_in f q < 2 ^ 64
 unfolding eight
-octa-fits f q h =
-    let a : ℕ = q / 8 * 8 in
-    eight-fit (f a) (f (a + 1)) (f (a + 2)) (f (a + 3)) (f (a + 4)) (f (a + 5)) (f (a + 6)) (f (a + 7)) (eight-are f a h)
+octa-fits f q h = grind (arith, nat_tests)
 
 -- ---- a tetra that is joined
 

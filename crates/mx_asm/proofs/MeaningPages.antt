@@ -1,5 +1,5 @@
 -- How many pages there are, and one page more.
-use Rattle.std.proofs.Common.{◌≡◌, ℕ, zero, suc, ◌+◌, ◌/◌, ◌%◌, ◌<◌, ◌≤◌, List, [], ◌∷◌, ◌++◌, length, Bool, true, false, cond, arith, refl, sym, ◌∙◌, ap, ⊎_elim, ◌⊎◌, inl, inr, add-zero, Result, Ok, Err, ◌==◌, ◌||◌, ◌&&◌, nat_le}
+use Rattle.std.proofs.Common.{◌≡◌, ℕ, zero, suc, ◌+◌, ◌/◌, ◌%◌, ◌<◌, ◌≤◌, List, [], ◌∷◌, ◌++◌, length, Bool, true, false, cond, arith, refl, ◌∙◌, ap, ⊎_elim, ◌⊎◌, inl, inr, add-zero, Result, Ok, Err, ◌==◌, ◌||◌, ◌&&◌, nat_le, rules}
 use Rattle.mx_asm.proofs.Words.{list_any, nat_tests, cases_eq, cases_lt, list_any-append, Image, Meaningless, PagesFull, with_page, paged, from_place, pages_of, pages_below}
 use Rattle.std.proofs.lemmas.Bool.{or_left as or-more}
 
@@ -11,8 +11,7 @@ abbrev pub AreMore : (ℕ → Bool) → (ℕ → Bool) → Type 0
 AreMore more pages = (p : ℕ) → pages p ≡ true → more p ≡ true
 
 one-count : (s t : Bool) → (s ≡ true → t ≡ true) → cond s 1 0 ≤ cond t 1 0
-one-count true false h = absurd (let e = h refl in cc)
-one-count s t h = omega arith
+one-count s t h = grind (arith, nat_tests)
 
 pub more-count : (n : ℕ) (more pages : ℕ → Bool) → AreMore more pages → pages_below n pages ≤ pages_below n more
 unfolding pages_below
@@ -29,9 +28,7 @@ append-more ps qs = λ p h. append-pages ps qs p ∙ or-more (pages_of ps p) (pa
 same-count : (n : ℕ) (pages : ℕ → Bool) (page : ℕ) → n ≤ page → pages_below n (with_page pages page) ≡ pages_below n pages
 unfolding pages_below
 same-count zero pages page l = refl
-same-count (suc n) pages page l =
-    let other : (n == page) ≡ false = grind (arith, nat_tests) in
-    rw (other, same-count n pages page (omega arith)) refl
+same-count (suc n) pages page l = search (rules, same-count n pages page (omega arith))
 
 -- a page more
 one-more : (n : ℕ) (pages : ℕ → Bool) (page : ℕ) → page < n → pages page ≡ false → pages_below n (with_page pages page) ≡ pages_below n pages + 1
@@ -52,20 +49,7 @@ one-more (suc n) pages page l h = ⊎_elim (λ e. this e) (λ ne. other ne (one-
 
 -- a page that is there already
 page-stays : (pages : ℕ → Bool) (page : ℕ) → pages page ≡ true → with_page pages page ≡ pages
-page-stays pages page h = λ i p. at p i
-  where
-    at : (p : ℕ) → with_page pages page p ≡ pages p
-    at p = ⊎_elim (λ e. this e) (λ ne. other ne) (cases_eq p page)
-      where
-        this : p ≡ page → with_page pages page p ≡ pages p
-        this e =
-            let same : (p == page) ≡ true = grind (arith, nat_tests) in
-            rw same (sym (ap pages e ∙ h))
-
-        other : (p ≡ page → ⊥) → with_page pages page p ≡ pages p
-        other ne =
-            let apart : (p == page) ≡ false = grind (arith, nat_tests) in
-            rw apart refl
+page-stays pages page h = grind (arith, nat_tests)
 
 -- what there is, unless there are too many pages
 abbrev pub unless_full : {A : Type 0} → ℕ → A → Result A Meaningless
@@ -74,33 +58,9 @@ unless_full count x = cond (nat_le count 65536) (Ok x) (Err PagesFull)
 -- an image with a page more, whose pages are counted below a number
 pub paged-is : (n : ℕ) (m : Image) (page : ℕ) → page < n → m.page_count ≡ pages_below n m.pages → m.page_count ≤ 65536 →
     paged m page ≡ unless_full (pages_below n (with_page m.pages page)) (record m { pages = with_page m.pages page; page_count = pages_below n (with_page m.pages page) })
-paged-is n m page l counted few = on (m.pages page) refl
-  where
-    on : (t : Bool) → m.pages page ≡ t → paged m page ≡ unless_full (pages_below n (with_page m.pages page)) (record m { pages = with_page m.pages page; page_count = pages_below n (with_page m.pages page) })
-    on true h =
-        let same = page-stays m.pages page h in
-        let count : m.page_count ≡ pages_below n (with_page m.pages page) = counted ∙ ap (pages_below n) (sym same) in
-        let room : nat_le (pages_below n (with_page m.pages page)) 65536 ≡ true = grind (arith, nat_tests) in
-        rw (h, room) (λ i. Ok (record m { pages = sym same i; page_count = count i }))
-    on false h = full (nat_le 65536 m.page_count) refl
-      where
-        count : m.page_count + 1 ≡ pages_below n (with_page m.pages page)
-        count = ap (λ c. c + 1) counted ∙ sym (one-more n m.pages page l h)
-
-        full : (t : Bool) → nat_le 65536 m.page_count ≡ t → paged m page ≡ unless_full (pages_below n (with_page m.pages page)) (record m { pages = with_page m.pages page; page_count = pages_below n (with_page m.pages page) })
-        full true f =
-            let c = count in
-            let over : nat_le (pages_below n (with_page m.pages page)) 65536 ≡ false = grind (arith, nat_tests) in
-            rw (h, f, over) refl
-        full false f =
-            let c = count in
-            let room : nat_le (pages_below n (with_page m.pages page)) 65536 ≡ true = grind (arith, nat_tests) in
-            rw (h, f, room) (λ i. Ok (record m { pages = with_page m.pages page; page_count = count i }))
+paged-is n m page l counted few = search (rules, page-stays, one-more)
 
 -- ---- the pages of bytes one after another
-
-next-page : (u v w p : ℕ) → u ≤ v → v ≤ u + 1 → v ≤ w → (u == p || (nat_le v p && nat_le p w)) ≡ (nat_le u p && nat_le p w)
-next-page u v w p h k l = grind (arith, nat_tests)
 
 last-page : (u p : ℕ) → (u == p || false) ≡ (nat_le u p && nat_le p u)
 last-page u p = grind (arith, nat_tests)
@@ -108,27 +68,12 @@ last-page u p = grind (arith, nat_tests)
 -- from the page of the first byte to that of the last
 pub pages-run : (a x : ℕ) (xs : List ℕ) (p : ℕ) → pages_of (from_place a (x ∷ xs)) p ≡ (nat_le (a / 4096) p && nat_le p ((a + length xs) / 4096))
 pages-run a x [] p = rw add-zero (last-page (a / 4096) p)
-pages-run a x (y ∷ ys) p =
-    let e : (a + 1) + length ys ≡ a + length (y ∷ ys) = omega arith in
-    ap (λ t. a / 4096 == p || t) (pages-run (a + 1) y ys p ∙ ap (λ n. nat_le ((a + 1) / 4096) p && nat_le p (n / 4096)) e)
-    ∙ next-page (a / 4096) ((a + 1) / 4096) ((a + length (y ∷ ys)) / 4096) p (omega arith) (omega arith) (omega arith)
+pages-run a x (y ∷ ys) p = grind (arith, nat_tests, pages-run (a + 1) y ys p)
 
 -- the same for tetras
 pub tetras-run : (a x : ℕ) (xs : List ℕ) (p : ℕ) → list_any (λ (q : ℕ × ℕ). q.0 / 4 == p) (from_place a (x ∷ xs)) ≡ (nat_le (a / 4) p && nat_le p ((a + length xs) / 4))
 tetras-run a x [] p = rw add-zero (last-page (a / 4) p)
-tetras-run a x (y ∷ ys) p =
-    let e : (a + 1) + length ys ≡ a + length (y ∷ ys) = omega arith in
-    ap (λ t. a / 4 == p || t) (tetras-run (a + 1) y ys p ∙ ap (λ n. nat_le ((a + 1) / 4) p && nat_le p (n / 4)) e)
-    ∙ next-page (a / 4) ((a + 1) / 4) ((a + length (y ∷ ys)) / 4) p (omega arith) (omega arith) (omega arith)
-
--- the tetra at a multiple of 4 lies on one page
-pub tetra-page : (a b c d e p : ℕ) → a % 4 ≡ 0 → pages_of (from_place a (b ∷ c ∷ d ∷ e ∷ [])) p ≡ (p == a / 4096)
-tetra-page a b c d e p m =
-    let same : (a + 3) / 4096 ≡ a / 4096 = omega arith in
-    pages-run a b (c ∷ d ∷ e ∷ []) p ∙ ap (λ n. nat_le (a / 4096) p && nat_le p n) same ∙ only (a / 4096) p
-  where
-    only : (u p : ℕ) → (nat_le u p && nat_le p u) ≡ (p == u)
-    only u p = grind (arith, nat_tests)
+tetras-run a x (y ∷ ys) p = grind (arith, nat_tests, tetras-run (a + 1) y ys p)
 
 -- pages hang on the first and the last byte only
 last-byte : (a n e : ℕ) → a + suc n ≡ e + 1 → a + n ≡ e
@@ -137,11 +82,7 @@ last-byte a n e h = omega arith
 pub pages-alike : (a b e f : ℕ) (xs ys : List ℕ) (p : ℕ) → 0 < length xs → 0 < length ys → a + length xs ≡ e + 1 → b + length ys ≡ f + 1 → a / 4096 ≡ b / 4096 → e / 4096 ≡ f / 4096 →
     pages_of (from_place a xs) p ≡ pages_of (from_place b ys) p
 pages-alike a b e f (x ∷ xs) (y ∷ ys) p l k u v g h =
-    pages-run a x xs p
-    ∙ ap (λ n. nat_le (a / 4096) p && nat_le p (n / 4096)) (last-byte a (length xs) e u)
-    ∙ ap (λ n. nat_le n p && nat_le p (e / 4096)) g
-    ∙ ap (λ n. nat_le (b / 4096) p && nat_le p n) h
-    ∙ sym (pages-run b y ys p ∙ ap (λ n. nat_le (b / 4096) p && nat_le p (n / 4096)) (last-byte b (length ys) f v))
+    cc (pages-run a x xs p, last-byte a (length xs) e u, pages-run b y ys p, last-byte b (length ys) f v)
 pages-alike a b e f xs ys p l k u v g h = absurd (omega arith)
 
 -- so many pages one after another are at least so many

@@ -1,6 +1,6 @@
 -- The pages and the lines of what statements place, with their targets known and with none.
-use Rattle.std.proofs.Common.{◌≡◌, ℕ, ◌+◌, ◌-◌, ◌/◌, ◌≤◌, List, [], ◌∷◌, ◌++◌, length, fold, Bool, true, false, cond, arith, refl, sym, ◌∙◌, ap, subst, Option, Some, None, Ok, Err, append-nil, ◌==◌, ◌||◌, ◌&&◌, nat_le}
-use Rattle.mx_asm.proofs.Words.{AllByRecursion, list_any, nat_tests, Value, Pure, Reg, Wait, WaitKind, Octa, same_awaited, NameTable, complete_form, Label, Name, Local, Placed, Answer, AreAlike, Targets, encoding, fix_bytes, fix_placements, IsFixed, kind_size, IsInside, from_place, all-into, all-append, Sight, outline, waits_in, references, is_local, targets, piece_with, pieces_of, from_last, awaited_value, waiting_for, waiting_at, placements, pages_of, with_lines, statement_fault, first_fault}
+use Rattle.std.proofs.Common.{◌≡◌, ℕ, ◌+◌, ◌-◌, ◌/◌, ◌≤◌, List, [], ◌∷◌, ◌++◌, length, fold, Bool, true, false, cond, arith, refl, sym, ◌∙◌, ap, subst, Option, Some, None, Ok, append-nil, ◌==◌, ◌||◌, ◌&&◌, nat_le, rules}
+use Rattle.mx_asm.proofs.Words.{AllByRecursion, list_any, nat_tests, Value, Wait, same_awaited, NameTable, complete_form, Label, Name, Local, Placed, Answer, AreAlike, Targets, encoding, fix_placements, IsFixed, kind_size, IsInside, from_place, all-into, all-append, Sight, outline, waits_in, references, is_local, targets, piece_with, pieces_of, from_last, waiting_for, waiting_at, placements, pages_of, with_lines, statement_fault, first_fault}
 use Rattle.mx_word.specs.declared.waits.Awaited.TheVariants as awaited
 use Rattle.mx_stmt.proofs.JoinedStatements.{encoding-joined}
 use Rattle.mx_asm.proofs.WaitsFor.{references-append, references-one as one-reference}
@@ -8,7 +8,7 @@ use Rattle.mx_asm.proofs.EndWaits.{both-none}
 use Rattle.mx_asm.proofs.MeaningPages.{AreMore, append-pages, append-more, pages-run}
 use Rattle.mx_asm.proofs.MeaningStates.{State, same-numbers}
 use Rattle.mx_asm.proofs.MeaningBytes.{piece_at, behind_bytes}
-use Rattle.mx_asm.proofs.MeaningStatements.{all-filter, at_value, behind_fixes, behind_placed}
+use Rattle.mx_asm.proofs.MeaningStatements.{all-filter, behind_fixes, behind_placed}
 use Rattle.mx_asm.proofs.MeaningFronts.{IsSteady, faultless, laid, behind_sight, after_sights}
 use Rattle.std.proofs.lemmas.Bool.{or_right as or-right}
 
@@ -22,9 +22,7 @@ pub record IsFixedTo (t : Targets) (s : Sight) (p : Placed) : Type 0 where
 
 fixed-by : (t : Targets) (s : Sight) (p : Placed) (r q : Answer Placed) → r ≡ Ok p → encoding t s.known s.statement ≡ q → AreAlike (IsFixed t) r q → IsFixedTo t s p
 unfolding AreAlike
-fixed-by t s p (Err f) q e g h = absurd (cc)
-fixed-by t s p (Ok r) (Err f) e g h = absurd h
-fixed-by t s p (Ok r) (Ok q) e g h = let same : r ≡ p = cc in record { after = q; encoded = g; fixed = subst (λ r. IsFixed t r q) same h }
+fixed-by t s p r q h1 h2 h3 = grind (arith, nat_tests)
 
 pub fixed-to : (t : Targets) (s : Sight) (p : Placed) → IsSteady s → outline s ≡ Ok p → IsFixedTo t s p
 fixed-to t s p steady e = fixed-by t s p (outline s) (encoding t s.known s.statement) e refl (encoding-joined t s.known s.statement steady.operation steady.sound)
@@ -50,26 +48,8 @@ fixed-lines t p q line lines is = same-numbers _ _ (λ a.
 
 -- ---- lines
 
-no-tetras : (start line : ℕ) (lines : ℕ → ℕ) → lines ≡ with_lines lines (piece_at line start [])
-no-tetras start line lines = same-numbers _ _ (λ a. none (nat_le line 65535) (line + (a / 4 - start / 4)) (lines a))
-  where
-    none : (b : Bool) (x y : ℕ) → y ≡ cond (b && false) x y
-    none true x y = refl
-    none false x y = refl
-
-bytes-lines : (s : State) (line start : ℕ) (bytes : List ℕ) → (behind_bytes s line start bytes).lines ≡ with_lines s.lines (piece_at line start bytes)
-bytes-lines s line start [] = no-tetras start line s.lines
-bytes-lines s line start (b ∷ bytes) = refl
-
-fixes-lines : (s : State) (value : Value) (waits : List Wait) → (behind_fixes s value waits).lines ≡ s.lines
-fixes-lines s value [] = refl
-fixes-lines s (Pure v) (w ∷ waits) = refl
-fixes-lines s (Reg r) (w ∷ waits) = refl
-
 placed-lines : (s : State) (line : ℕ) (p : Placed) (waits : List Wait) → (behind_placed s line p waits).lines ≡ with_lines s.lines (piece_at line p.start p.bytes)
-placed-lines s line p waits =
-    bytes-lines (behind_fixes s (awaited_value p.label) waits) line p.start p.bytes
-    ∙ ap (λ (lines : ℕ → ℕ). with_lines lines (piece_at line p.start p.bytes)) (fixes-lines s (awaited_value p.label) waits)
+placed-lines s line p waits = grind (arith, nat_tests)
 
 pub lines-of-sights : (final : NameTable) (later earlier : List Sight) (s : State) → first_fault earlier later ≡ None → AllByRecursion IsSteady later →
     (after_sights s earlier later).lines ≡ fold with_lines s.lines (pieces_of final later)
@@ -114,47 +94,23 @@ inside-on start placed_bytes w is bytes l = by placed_bytes bytes is.first (subs
     by [] (x ∷ xs) first last = absurd (omega (arith, first, last))
     by (y ∷ ys) (x ∷ xs) first last = run-within w.at start x y xs ys first last
 
--- the pages of records
-fix-length : (kind : WaitKind) (place : ℕ) (target : Option ℕ) → length (fix_bytes kind place target) ≡ kind_size kind
-fix-length Octa place target = refl
-fix-length kind place target = refl
-
 fixes-on : (t : Targets) (waits : List Wait) (ps : List (ℕ × ℕ)) → AllByRecursion (IsOn ps) waits → AreMore (pages_of ps) (pages_of (fix_placements t waits))
 fixes-on t [] ps on = λ p h. absurd (cc)
-fixes-on t (w ∷ waits) ps on =
-    let rest = fixes-on t waits ps on.1 in
-    λ p h.
-    by p (rest p) (pages_of (from_place w.at (fix_bytes w.kind w.at (t w.who))) p) (pages_of (fix_placements t waits) p) refl refl
-    (sym (append-pages (from_place w.at (fix_bytes w.kind w.at (t w.who))) (fix_placements t waits) p) ∙ h)
-  where
-    by : (p : ℕ) → (pages_of (fix_placements t waits) p ≡ true → pages_of ps p ≡ true) → (a b : Bool) → pages_of (from_place w.at (fix_bytes w.kind w.at (t w.who))) p ≡ a → pages_of (fix_placements t waits) p ≡ b →
-        (a || b) ≡ true → pages_of ps p ≡ true
-    by p rest true b e f h = on.0 (fix_bytes w.kind w.at (t w.who)) (fix-length w.kind w.at (t w.who)) p e
-    by p rest false b e f h = rest (f ∙ h)
+fixes-on t (w ∷ waits) ps on = grind (arith, nat_tests, append-pages, fixes-on t waits ps on.1)
 
 between : (a f b : Bool) → (f ≡ true → (a || b) ≡ true) → ((a || f) || b) ≡ (a || b)
-between false true b h = sym (h refl)
-between a f b h = refl
+between a f b h = grind (arith, nat_tests)
 
 fixes-pages : (s : State) (value : Value) (waits : List Wait) (qs : List (ℕ × ℕ)) (p : ℕ) → AllByRecursion (IsOn (s.placements ++ qs)) waits →
     pages_of ((behind_fixes s value waits).placements ++ qs) p ≡ pages_of (s.placements ++ qs) p
-fixes-pages s value [] qs p on = refl
-fixes-pages s (Reg r) (w ∷ waits) qs p on = refl
-fixes-pages s (Pure v) (w ∷ waits) qs p on =
-    let fixed : List (ℕ × ℕ) = fix_placements (at_value v) (w ∷ waits) in
-    append-pages (s.placements ++ fixed) qs p
-    ∙ ap (λ b. b || pages_of qs p) (append-pages s.placements fixed p)
-    ∙ between (pages_of s.placements p) (pages_of fixed p) (pages_of qs p) (λ h. sym (append-pages s.placements qs p) ∙ fixes-on (at_value v) (w ∷ waits) (s.placements ++ qs) on p h)
-    ∙ sym (append-pages s.placements qs p)
+fixes-pages s value waits qs p h = search (rules, append-pages, between, fixes-on)
 
 bytes-pages : (s : State) (line start : ℕ) (bytes : List ℕ) (p : ℕ) → pages_of (behind_bytes s line start bytes).placements p ≡ pages_of (s.placements ++ from_place start bytes) p
-bytes-pages s line start [] p = ap (λ ps. pages_of ps p) (sym (append-nil s.placements))
-bytes-pages s line start (b ∷ bytes) p = refl
+bytes-pages s line start bytes p = search (rules, append-nil)
 
 placed-pages : (s : State) (line : ℕ) (q : Placed) (waits : List Wait) (p : ℕ) → AllByRecursion (IsOn (s.placements ++ from_place q.start q.bytes)) waits →
     pages_of (behind_placed s line q waits).placements p ≡ pages_of (s.placements ++ from_place q.start q.bytes) p
-placed-pages s line q waits p on =
-    bytes-pages (behind_fixes s (awaited_value q.label) waits) line q.start q.bytes p ∙ fixes-pages s (awaited_value q.label) waits (from_place q.start q.bytes) p on
+placed-pages s line q waits p on = search (rules, bytes-pages, fixes-pages)
 
 -- the references that wait are among those of the statements
 last-on : (P : Wait → Type 0) (d : ℕ) (ss : List Sight) → AllByRecursion P (references ss) → AllByRecursion P (references (from_last d ss))
@@ -194,17 +150,12 @@ references-on ps earlier t p e on =
     (all-append (IsOn whole) (references earlier) p.waits before own)
 
 or-assoc : (a b c : Bool) → ((a || b) || c) ≡ (a || (b || c))
-or-assoc true b c = refl
-or-assoc false b c = refl
+or-assoc a b c = grind (arith, nat_tests)
 
 pub pages-of-sights : (final : NameTable) (later earlier : List Sight) (s : State) (page : ℕ) → first_fault earlier later ≡ None → AllByRecursion IsSteady later → AllByRecursion (IsOn s.placements) (references earlier) →
     pages_of (after_sights s earlier later).placements page ≡ (pages_of s.placements page || pages_of (placements (pieces_of final later)) page)
 unfolding first_fault after_sights pieces_of placements
-pages-of-sights final [] earlier s page none steady on = or-none (pages_of s.placements page)
-  where
-    or-none : (b : Bool) → b ≡ (b || false)
-    or-none true = refl
-    or-none false = refl
+pages-of-sights final [] earlier s page none steady on = grind (arith, nat_tests)
 pages-of-sights final (t ∷ later) earlier s page none steady on =
     let parts = both-none (statement_fault earlier t) (first_fault (earlier ++ t ∷ []) later) none in
     let is = faultless earlier t parts.0 in

@@ -1,9 +1,8 @@
 -- The statements of lines of bytes are as statements are that were read, and their names and labels are bytes.
-use Rattle.std.proofs.Common.{◌≡◌, ℕ, ◌+◌, ◌-◌, ◌<◌, List, [], ◌∷◌, map, drop, arith, refl, Option, Some, None, is_some, Result, Ok, Err, option_map}
-use Rattle.mx_asm.proofs.Words.{cond_both, AllByRecursion, IfSome, AreBytes, bytes-front, bytes-behind, Span, LineFault, Cut, is_too_far, part, cuts_from, statement, faulty, too_far, item_of, before, items_of, ExprFault, Tree, reading, Op, operation_of, Answer, IsOperation, Fields, label_of, operation_for, Entry, with_operands, with_operation, entry_with, entry_of, entries_of, statements_in, IsStatement, Line, lines_entries}
+use Rattle.std.proofs.Common.{◌≡◌, ℕ, ◌+◌, ◌-◌, ◌<◌, List, [], ◌∷◌, map, drop, arith, Option, Result, Ok, Err, option_map, rules}
+use Rattle.mx_asm.proofs.Words.{cond_both, AllByRecursion, IfSome, AreBytes, bytes-front, bytes-behind, Span, LineFault, Cut, is_too_far, part, cuts_from, statement, faulty, too_far, item_of, before, items_of, ExprFault, Tree, Op, Answer, IsOperation, Fields, label_of, Entry, with_operands, with_operation, entry_with, entry_of, entries_of, statements_in, IsStatement, Line, lines_entries, nat_tests, common_steps}
 use Rattle.mx_line.specs.Source.{Item, items_from}
-use Rattle.mx_expr.specs.Bytes.{is_digit}
-use Rattle.mx_asm.proofs.ByteStatements.{IsLabelOfBytes, IfLabelOfBytes, IsOfBytes, all-octas, are-statements}
+use Rattle.mx_asm.proofs.ByteStatements.{IfLabelOfBytes, IsOfBytes, all-octas, are-statements}
 use Rattle.mx_asm.proofs.FieldBytes.{ListHas, field-has}
 use Rattle.mx_stmt.proofs.FieldsRead.{operation-named}
 
@@ -15,23 +14,13 @@ EntryHas (Ok s) = IsOfBytes s
 
 operands-has : (fields : Fields) (line : ℕ) (op : Op) (r : Result (List Tree) ExprFault) → 0 < line → IfLabelOfBytes fields.label → IsOperation op → ListHas r → EntryHas (entry_with line (with_operands fields line op r))
 operands-has fields line op (Err fault) some label is h = tt
-operands-has fields line op (Ok operands) some label is h = record {
-  statement = record { line = some; operation = is; operands = all-octas operands h };
-  label = label;
-  operands = h;
-}
+operands-has fields line op (Ok operands) some label is h = search (rules, all-octas)
 
 operation-has : (fields : Fields) (line : ℕ) (r : Answer Op) → 0 < line → IfLabelOfBytes fields.label → ((op : Op) → r ≡ Ok op → IsOperation op) → AreBytes fields.operands → EntryHas (entry_with line (with_operation fields line r))
-operation-has fields line (Err fault) some label is l = tt
-operation-has fields line (Ok op) some label is l = operands-has fields line op (reading fields.operands) some label (is op refl) (field-has fields.operands l)
-
-label-has : (text : List ℕ) → AreBytes text → IsLabelOfBytes (label_of text)
-label-has [] l = tt
-label-has (b ∷ bs) l = cond_both (is_digit b) _ _ IsLabelOfBytes (λ _. tt) (λ _. l)
+operation-has fields line r h1 h2 h3 h4 = search (rules, operands-has, field-has)
 
 labels-have : (label : Option (List ℕ)) → IfSome label AreBytes → IfLabelOfBytes (option_map label_of label)
-labels-have None l = tt
-labels-have (Some text) l = label-has text l
+labels-have label h = grind (arith, nat_tests)
 
 abbrev ItemHas : Item → Type 0
 ItemHas (statement line label op operands) = (0 < line) × IfSome label AreBytes × AreBytes operands
@@ -39,31 +28,19 @@ ItemHas (faulty line why) = Unit {0}
 ItemHas (too_far line) = Unit {0}
 
 entry-has : (i : Item) → ItemHas i → EntryHas (entry_of i)
-entry-has (statement line label op operands) h =
-    operation-has (record { label = option_map label_of label; op = op; operands = operands }) line (operation_for (is_some (option_map label_of label)) op) h.0 (labels-have label h.1)
-    (λ o is. operation-named (is_some (option_map label_of label)) op (operation_of op) o refl is) h.2
-entry-has i h = tt
+entry-has i h = search (rules, operation-has, labels-have, operation-named)
 
 entries-have : (items : List Item) → AllByRecursion ItemHas items → AllByRecursion IsOfBytes (statements_in (entries_of items))
 entries-have [] h = tt
-entries-have (i ∷ items) h = by (entry_of i) (entry-has i h.0) (entries-have items h.1)
-  where
-    by : (e : Entry) → EntryHas e → AllByRecursion IsOfBytes (statements_in (entries_of items)) → AllByRecursion IsOfBytes (statements_in (e ∷ entries_of items))
-    by (Err refused) h rest = tt
-    by (Ok s) h rest = (h, rest)
+entries-have (i ∷ items) h = search (rules, entry-has, entries-have items h.1)
 
 -- ---- lines
 
 pub part-bytes : (line : List ℕ) (s : Span) → AreBytes line → AreBytes (part line s)
 part-bytes line s h = bytes-front (s.to - s.from) (drop s.from line) (bytes-behind s.from line h)
 
-label-bytes : (line : List ℕ) (label : Option Span) → AreBytes line → IfSome (option_map (part line) label) AreBytes
-label-bytes line None h = tt
-label-bytes line (Some s) h = part-bytes line s h
-
 item-has : (n : ℕ) (line : List ℕ) (r : Result Cut LineFault) → 0 < n → AreBytes line → ItemHas (item_of n line r)
-item-has n line (Ok cut) some h = (some, label-bytes line cut.label h, part-bytes line cut.operands h)
-item-has n line (Err why) some h = tt
+item-has n line r h1 h2 = grind (arith, common_steps, nat_tests)
 
 map-has : (n : ℕ) (line : List ℕ) (rs : List (Result Cut LineFault)) → 0 < n → AreBytes line → AllByRecursion ItemHas (map (item_of n line) rs)
 map-has n line [] some h = tt

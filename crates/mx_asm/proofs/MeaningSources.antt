@@ -1,6 +1,6 @@
 -- What holds of the statements of lines and sources that are bytes.
-use Rattle.std.proofs.Common.{◌≡◌, ◌<◌, ℕ, ◌^◌, List, [], ◌∷◌, ◌++◌, Bool, true, false, not, cond, refl, sym, ◌∙◌, ap, is_some, Option, Some, None, Result, Ok, Err, ◌==◌, nat_le}
-use Rattle.mx_asm.proofs.Words.{cond_both, result_err, AllByRecursion, slice_split, onto_first, AreBytes, lines_of, without_empty_last, split, PagesFull, nothing, take_items, meaning, Loading, Meaningless, Post, Stab, lowest_of, front, closing, main_of, StatementTree, Refused, statements_in, refusal_in, source_entries, Sight, final_known, sights_of, pieces, page_count, image, first_fault, first_undefined, entries_refusal, end_refusal, last_line, refusal, IsStatement, Line, accepted, lines_entries, lines_items, assembled_source, AreAccepted, outlined, has_room, loaded_image, page_fault, page_refusal, run_refusal_with, accepted_in, run_refusal}
+use Rattle.std.proofs.Common.{◌≡◌, ◌<◌, ℕ, ◌^◌, List, [], ◌∷◌, ◌++◌, Bool, true, false, not, cond, refl, sym, ◌∙◌, ap, is_some, Option, Some, None, Result, Ok, Err, ◌==◌, rules}
+use Rattle.mx_asm.proofs.Words.{result_err, AllByRecursion, slice_split, onto_first, AreBytes, lines_of, without_empty_last, split, PagesFull, nothing, take_items, meaning, Loading, Meaningless, Post, Stab, lowest_of, front, closing, main_of, StatementTree, Refused, statements_in, source_entries, Sight, final_known, sights_of, pieces, image, refusal, IsStatement, Line, lines_entries, lines_items, assembled_source, AreAccepted, outlined, has_room, loaded_image, page_fault, page_refusal, run_refusal_with, accepted_in, run_refusal}
 use Rattle.mx_asm.proofs.EndWaits.{both-none}
 use Rattle.mx_asm.proofs.InTurn.{source-accepted, source-refused}
 use Rattle.mx_asm.proofs.MeaningStates.{take-append}
@@ -20,8 +20,7 @@ first-bytes b (part ∷ parts) l h = ((l, h.0), h.1)
 
 parts-bytes : (f : ℕ → Bool) (source : List ℕ) → AreBytes source → AllByRecursion AreBytes (slice_split f source)
 parts-bytes f [] h = (tt, tt)
-parts-bytes f (b ∷ source) h = cond_both (f b) _ _ (AllByRecursion AreBytes)
-    (λ _. (tt, (parts-bytes f source h.1))) (λ _. first-bytes b (slice_split f source) h.0 (parts-bytes f source h.1))
+parts-bytes f (b ∷ source) h = search (rules, first-bytes, parts-bytes f source h.1)
 
 split-bytes : (source : List ℕ) → AreBytes source → AllByRecursion AreBytes (split 10 source)
 unfolding split
@@ -43,14 +42,7 @@ source-read : (source : List ℕ) → AreBytes source → AllByRecursion IsState
 source-read source h = lines-read (lines_of source) (source-bytes source h)
 
 pub source-are-accepted : (source : List ℕ) → AreBytes source → refusal source ≡ None → AreAccepted (statements_of_source source)
-source-are-accepted source h none =
-    let statements = statements_of_source source in
-    let parts = both-none (entries_refusal (source_entries source)) (end_refusal (last_line (lines_of source)) statements) none in
-    record {
-      read = source-read source h;
-      faultless = (both-none (first_fault [] (sights_of statements)) (refusal_in (source_entries source)) parts.0).0;
-      defined = (both-none (first_undefined (final_known statements).names (sights_of statements)) _ parts.1).0;
-    }
+source-are-accepted source h none = search (rules, both-none, source-read)
 
 pub source-means : (source : List ℕ) → AreBytes source → refusal source ≡ None → meaning (assembled_source source).0 ≡ loaded_image (statements_of_source source)
 source-means source h none = ap (λ p. meaning p.0) (source-accepted source none) ∙ image-meant (statements_of_source source) (source-are-accepted source h none)
@@ -58,9 +50,7 @@ source-means source h none = ap (λ p. meaning p.0) (source-accepted source none
 -- ---- sources that are run
 
 room-is : (statements : List StatementTree) → AreAccepted statements → has_room (pieces statements) ≡ has_room (outlined (sights_of statements))
-room-is statements h =
-    ap (λ (pages : ℕ → Bool). nat_le (page_count pages) 65536)
-    (same-pages _ _ (λ page. outlined-pages (final_known statements).names (sights_of statements) [] page h.faultless (steady-all statements h.read h.faultless)))
+room-is statements h = search (rules, same-pages, outlined-pages, steady-all)
 
 both-runs : (pages : Option ℕ) (refused : Option Refused) → run_refusal_with pages refused ≡ None → (pages ≡ None) × (refused ≡ None)
 both-runs None None h = (refl, refl)
@@ -75,12 +65,7 @@ room-of ss none = by (has_room (outlined ss)) (sym (page-refusal-is ss) ∙ ap i
     by false h = absurd (cc)
 
 pub run-means : (source : List ℕ) → AreBytes source → run_refusal source ≡ None → meaning (assembled_source source).0 ≡ Ok (image (statements_of_source source))
-run-means source h none =
-    let statements = statements_of_source source in
-    let parts = both-runs (page_refusal (accepted_in (source_entries source))) (refusal source) none in
-    let are = source-are-accepted source h parts.1 in
-    let room : has_room (pieces statements) ≡ true = room-is statements are ∙ room-of (sights_of statements) (ap page_refusal (sym (accepted-all (sights_of statements) [] are.faultless)) ∙ parts.0) in
-    source-means source h parts.1 ∙ ap (λ b. cond b (Ok (image statements)) (Err PagesFull)) room
+run-means source h none = search (rules, both-runs, source-are-accepted, room-is, room-of, accepted-all, source-means)
 
 -- what is refused for its pages alone has too many of them
 no-room : (b : Bool) → true ≡ not b → b ≡ false
@@ -115,11 +100,4 @@ emission-fault source h none =
     ∙ ap page_fault (sym (accepted-all (sights_of statements) [] are.faultless))
 
 pub source-fault : (source : List ℕ) → AreBytes source → result_err (take_items (assembled_source source).0 (Ok nothing)) ≡ page_fault (accepted_in (source_entries source))
-source-fault source h = by (refusal source) refl
-  where
-    by : (r : Option Refused) → refusal source ≡ r → result_err (take_items (assembled_source source).0 (Ok nothing)) ≡ page_fault (accepted_in (source_entries source))
-    by None e = emission-fault source h e
-    by (Some r) e =
-        let statements = statements_of_source source in
-        ap (λ p. result_err (take_items p.0 (Ok nothing))) (source-refused source r e)
-        ∙ sights-fault (accepted [] (sights_of statements)) (accepted-faultless (sights_of statements) []) (steady-begun statements (source-read source h))
+source-fault source h = search (rules, emission-fault, source-refused, sights-fault, accepted-faultless, steady-begun, source-read)

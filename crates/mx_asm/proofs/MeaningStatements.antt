@@ -1,13 +1,12 @@
 -- The items of one statement, and those of statements one after another.
-use Rattle.std.proofs.Common.{◌≡◌, ℕ, ◌+◌, ◌%◌, ◌^◌, ◌<◌, ◌≤◌, List, [], ◌∷◌, ◌++◌, length, Bool, arith, refl, sym, ◌∙◌, ap, subst, Option, Some, None, Result, Ok, Err, append_assoc, append-nil, ◌==◌}
-use Rattle.mx_asm.proofs.Words.{AllByRecursion, filter, cond_both, eqb-true, AreBytes, Value, Pure, Reg, Wait, WaitKind, Octa, same_awaited, take_items, Item, complete_form, Label, Name, Local, Placed, Answer, Targets, no_targets, encoding, fix_bytes, fix_placements, kind_size, IsInside, IsLaid, from_place, placed, encoding-laid, all-into, all-append, AsmFault, Refused, Sight, outline, waits_in, references, from_last, fix_of, with_fix, fixes, awaited_value, waiting_for, waiting_at, moved, onto, fix_items, head_at_fixes, byte_items, head_at_bytes, with_bytes, statement_items, statement_head}
+use Rattle.std.proofs.Common.{◌≡◌, ℕ, ◌+◌, ◌%◌, ◌^◌, ◌<◌, ◌≤◌, List, [], ◌∷◌, ◌++◌, length, Bool, arith, refl, sym, ◌∙◌, ap, subst, Option, Some, Result, Ok, Err, append_assoc, append-nil, ◌==◌, rules}
+use Rattle.mx_asm.proofs.Words.{AllByRecursion, filter, cond_both, eqb-true, AreBytes, Value, Pure, Reg, Wait, WaitKind, take_items, Item, Label, Placed, Answer, Targets, no_targets, encoding, fix_bytes, fix_placements, kind_size, IsInside, IsLaid, from_place, placed, encoding-laid, all-into, all-append, Refused, Sight, outline, waits_in, references, fix_of, fixes, awaited_value, waiting_for, waiting_at, moved, onto, fix_items, head_at_fixes, byte_items, head_at_bytes, with_bytes, statement_items, statement_head, nat_tests}
 use Rattle.mx_word.specs.declared.waits.Awaited.TheVariants as awaited
 use Rattle.mx_asm.proofs.MeaningMemory.{HaveBytes}
 use Rattle.mx_asm.proofs.MeaningStates.{State, limited, Takes, take-none, takes-both, more-bytes}
 use Rattle.mx_asm.proofs.MeaningPieces.{takes-still, at_lambda}
 use Rattle.mx_asm.proofs.MeaningBytes.{head_of, behind_bytes, takes-bytes}
-use Rattle.mx_asm.proofs.MeaningFixes.{behind_fix, takes-fix, word-bytes}
-use Rattle.mx_stmt.proofs.LaidBytes.{octa-bytes as octa-are}
+use Rattle.mx_asm.proofs.MeaningFixes.{behind_fix, takes-fix}
 
 -- ---- references lie low
 
@@ -15,17 +14,8 @@ pub record IsLow (w : Wait) : Type 0 where
   pub fours : w.at % 4 ≡ 0
   pub low : w.at + kind_size w.kind ≤ 0x6000_0000_0000_0000
 
-some-size : (kind : WaitKind) → 4 ≤ kind_size kind
-some-size Octa = omega arith
-some-size kind = omega arith
-
 inside-low : (p : Placed) (w : Wait) → IsLaid p → IsInside p.start (length p.bytes) w → IsLow w
-inside-low p w laid h =
-    let first = h.first in
-    let last = h.last in
-    let size = some-size w.kind in
-    let low = laid.low (omega (arith, first, last, size)) in
-    record { fours = h.fours; low = omega (arith, last, low) }
+inside-low p w h1 h2 = grind (arith, nat_tests)
 
 pub waits-low : (s : Sight) → AllByRecursion IsLow (waits_in (outline s))
 waits-low s = on (outline s) refl
@@ -44,9 +34,7 @@ all-filter P f [] h = tt
 all-filter P f (w ∷ waits) h = cond_both (f w) _ _ (AllByRecursion P) (λ _. (h.0, (all-filter P f waits h.1))) (λ _. all-filter P f waits h.1)
 
 waiting-by : (earlier : List Sight) (s : Sight) (label : Option Label) → AllByRecursion IsLow (waiting_for earlier s label)
-waiting-by earlier s None = tt
-waiting-by earlier s (Some (Name text)) = all-filter IsLow (λ (w : Wait). same_awaited w.who (awaited.Name (complete_form s.known.names.prefix text))) (references (earlier ++ s ∷ [])) (references-low (earlier ++ s ∷ []))
-waiting-by earlier s (Some (Local d)) = all-filter IsLow (λ (w : Wait). same_awaited w.who (awaited.Local d)) (references (from_last d earlier)) (references-low (from_last d earlier))
+waiting-by earlier s label = search (rules, all-filter, references-low)
 
 pub waiting-low : (earlier : List Sight) (s : Sight) → AllByRecursion IsLow (waiting_at earlier s)
 waiting-low earlier s = waiting-by earlier s s.statement.label
@@ -62,8 +50,7 @@ abbrev pub at_value : ℕ → Targets
 at_value value who = Some value
 
 fix-are : (kind : WaitKind) (place : ℕ) (target : Option ℕ) → AreBytes (fix_bytes kind place target)
-fix-are Octa place target = octa-are _
-fix-are kind place target = word-bytes _
+fix-are kind place target = grind (arith, nat_tests)
 
 pub fixes-have : (t : Targets) (waits : List Wait) (ps : List (ℕ × ℕ)) → HaveBytes (placed ps) → HaveBytes (placed (ps ++ fix_placements t waits))
 fixes-have t [] ps have = subst (λ qs. HaveBytes (placed qs)) (sym (append-nil ps)) have
@@ -91,14 +78,7 @@ record AreFixes (value : Value) (line : ℕ) (w : Wait) (waits : List Wait) (ite
 
 fixes-split : (value : Value) (line : ℕ) (w : Wait) (waits : List Wait) (items : List Item) → fixes line value (w ∷ waits) ≡ Ok items → AreFixes value line w waits items
 unfolding fixes
-fixes-split value line w waits items h = on (fix_of value w) (fixes line value waits) refl refl h
-  where
-    on : (a : Result Item AsmFault) (b : Result (List Item) Refused) → fix_of value w ≡ a → fixes line value waits ≡ b → with_fix line w.line a b ≡ Ok items → AreFixes value line w waits items
-    on (Err fault) b e f h = absurd (cc)
-    on (Ok fix) (Err refused) e f h = absurd (cc)
-    on (Ok fix) (Ok later) e f h =
-        let same : fix ∷ later ≡ items = cc in
-        record { fix = fix; later = later; first_is = e; later_are = f; whole = sym same }
+fixes-split value line w waits items h = grind (arith, nat_tests)
 
 fixes-nil : (value : Value) (line : ℕ) (items : List Item) → fixes line value [] ≡ Ok items → items ≡ []
 unfolding fixes
@@ -157,13 +137,10 @@ fixed-have s (Pure v) (w ∷ waits) have = fixes-have (at_value v) (w ∷ waits)
 fixed-have s (Reg r) (w ∷ waits) have = have
 
 fixed-head : (s : State) (value : Value) (waits : List Wait) → head_of (behind_fixes s value waits) ≡ head_at_fixes (head_of s) value waits
-fixed-head s value [] = refl
-fixed-head s (Pure v) (w ∷ waits) = refl
-fixed-head s (Reg r) (w ∷ waits) = refl
+fixed-head s value waits = grind (arith, nat_tests)
 
 bytes-head : (s : State) (line start : ℕ) (bytes : List ℕ) → head_of (behind_bytes s line start bytes) ≡ head_at_bytes (head_of s) line start bytes
-bytes-head s line start [] = refl
-bytes-head s line start (b ∷ bytes) = refl
+bytes-head s line start bytes = grind (arith, nat_tests)
 
 pub bytes-have : (s : State) (line start : ℕ) (bytes : List ℕ) → HaveBytes (placed s.placements) → AreBytes bytes → HaveBytes (placed (behind_bytes s line start bytes).placements)
 bytes-have s line start [] have are = have

@@ -1,11 +1,11 @@
 -- What stands once items were loaded, by the bytes that they placed, and one tetra more.
-use Rattle.std.proofs.Common.{◌≡◌, ℕ, zero, suc, ◌+◌, ◌*◌, ◌/◌, ◌%◌, ◌^◌, ◌<◌, ◌≤◌, List, [], ◌∷◌, ◌++◌, length, map, Bool, true, false, not, cond, arith, refl, sym, ◌∙◌, ap, bit_xor, subst, Result, Ok, Err, append_assoc, ◌==◌, ◌||◌, nat_le}
-use Rattle.mx_asm.proofs.Words.{cond_both, xor_of_8, nat_tests, tetra_from_bytes, with_tetra, AreBytes, four-fit, Image, tetras_of, Loading, Meaningless, PagesFull, BadPlace, paged, image_with_tetra, join, noted, next_line, after_load, with_name, take_item, take_items, Item, Load, from_place, placed, placed-append, from-append, octa_in, pages_of, pages_below}
+use Rattle.std.proofs.Common.{◌≡◌, ℕ, zero, suc, ◌+◌, ◌*◌, ◌/◌, ◌%◌, ◌^◌, ◌<◌, ◌≤◌, List, [], ◌∷◌, ◌++◌, length, map, true, false, not, cond, arith, refl, sym, ◌∙◌, ap, bit_xor, subst, Result, Ok, Err, append_assoc, ◌==◌, ◌||◌, nat_le}
+use Rattle.mx_asm.proofs.Words.{cond_both, xor_of_8, nat_tests, tetra_from_bytes, with_tetra, AreBytes, four-fit, Image, tetras_of, Loading, Meaningless, BadPlace, paged, image_with_tetra, join, next_line, after_load, with_name, take_item, take_items, Item, Load, from_place, placed, placed-append, from-append, octa_in, pages_of, pages_below, common_steps}
 use Rattle.mx_word.specs.Octas.{with_page}
 use Rattle.mx_mmo.specs.Meaning.{lined}
 use Rattle.mx_asm.proofs.MeaningTetras.{four, tetra-placed}
 use Rattle.mx_asm.proofs.MeaningMemory.{HaveBytes, octas-joined}
-use Rattle.mx_asm.proofs.MeaningPages.{same-pages, AreMore, more-count, append-pages, append-more, unless_full, paged-is, tetra-page}
+use Rattle.mx_asm.proofs.MeaningPages.{AreMore, more-count, append-more, unless_full, paged-is}
 
 -- ---- states
 
@@ -43,12 +43,10 @@ pub record Takes (n : ℕ) (items : List Item) (s t : State) : Type 0 where
 -- ---- items one after another
 
 pub take-none : (r : Result Loading Meaningless) → take_items [] r ≡ r
-take-none (Ok s) = refl
-take-none (Err e) = refl
+take-none r = grind (arith, nat_tests)
 
 pub take-failed : (items : List Item) (e : Meaningless) → take_items items (Err e) ≡ Err e
-take-failed [] e = refl
-take-failed (x ∷ items) e = refl
+take-failed items e = grind (arith, nat_tests)
 
 pub take-append : (xs ys : List Item) (r : Result Loading Meaningless) → take_items (xs ++ ys) r ≡ take_items ys (take_items xs r)
 take-append [] ys (Ok s) = refl
@@ -65,14 +63,7 @@ takes-none n s = record { taken = take-none (limited n s) }
 -- where there is room, what the items do counts
 pub takes-few : (n : ℕ) (items : List Item) (s t : State) → AreMore (pages_of t.placements) (pages_of s.placements) →
     (count_of n s ≤ 65536 → take_items items (Ok (stands n s)) ≡ limited n t) → Takes n items s t
-takes-few n items s t more h = record { taken = on (nat_le (count_of n s) 65536) refl }
-  where
-    on : (b : Bool) → nat_le (count_of n s) 65536 ≡ b → take_items items (cond b (Ok (stands n s)) (Err PagesFull)) ≡ limited n t
-    on true e = h (grind (arith, nat_tests))
-    on false e =
-        let grown = more-count n (pages_of t.placements) (pages_of s.placements) more in
-        let full : nat_le (count_of n t) 65536 ≡ false = grind (arith, nat_tests) in
-        take-failed items PagesFull ∙ sym (ap (λ b. cond b (Ok (stands n t)) (Err PagesFull)) full)
+takes-few n items s t more h = grind (arith, nat_tests, more-count)
 
 -- ---- one tetra
 
@@ -80,21 +71,11 @@ pub same-numbers : (f g : ℕ → ℕ) → ((q : ℕ) → f q ≡ g q) → f ≡
 same-numbers f g h = λ i q. h q i
 
 with-tetra-unless : (a t count : ℕ) (m : Image) → image_with_tetra a t (unless_full count m) ≡ unless_full count (record m { memory = with_tetra m.memory a t })
-with-tetra-unless a t count m = on (nat_le count 65536)
-  where
-    on : (b : Bool) → image_with_tetra a t (cond b (Ok m) (Err PagesFull)) ≡ cond b (Ok (record m { memory = with_tetra m.memory a t })) (Err PagesFull)
-    on true = refl
-    on false = refl
+with-tetra-unless a t count m = grind (arith, nat_tests)
 
 -- the page of a tetra
 tetra-on-page : (ps : List (ℕ × ℕ)) (a b c d e : ℕ) → a % 4 ≡ 0 → with_page (pages_of ps) (a / 4096) ≡ pages_of (ps ++ four a b c d e)
-tetra-on-page ps a b c d e m = same-pages _ _ (λ p. turned (p == a / 4096) (pages_of ps p) ∙ sym (append-pages ps (four a b c d e) p ∙ ap (λ t. pages_of ps p || t) (tetra-page a b c d e p m)))
-  where
-    turned : (s t : Bool) → cond s true t ≡ (t || s)
-    turned true true = refl
-    turned true false = refl
-    turned false true = refl
-    turned false false = refl
+tetra-on-page ps a b c d e m = grind (arith, common_steps, nat_tests)
 
 pub tetra-joined : (n a b c d e : ℕ) (ps : List (ℕ × ℕ)) (lines : ℕ → ℕ) → 2 ^ 51 ≤ n → a % 4 ≡ 0 → a < 0x6000_0000_0000_0000 → AreBytes (b ∷ c ∷ d ∷ e ∷ []) → HaveBytes (placed ps) → pages_below n (pages_of ps) ≤ 65536 →
     join (image_at n ps lines) a (tetra_from_bytes (b ∷ c ∷ d ∷ e ∷ [])) ≡ unless_full (pages_below n (pages_of (ps ++ four a b c d e))) (image_at n (ps ++ four a b c d e) lines)
@@ -125,18 +106,7 @@ behind_tetra s b c d e = record {
 
 after-unless : (n : ℕ) (s t : State) → t.lambda ≡ (4 * (s.lambda / 4) + 4) % 2 ^ 64 → t.line ≡ next_line s.line → t.lines ≡ noted_lines s.lines s.lambda s.line →
     after_load (stands n s) (unless_full (count_of n t) (image_at n t.placements s.lines)) ≡ limited n t
-after-unless n s t lambda line lines = on (nat_le (count_of n t) 65536)
-  where
-    noted-is : (b : Bool) → cond b (image_at n t.placements s.lines) (record (image_at n t.placements s.lines) { line_of = lined s.lines s.lambda s.line }) ≡ image_at n t.placements (cond b s.lines (lined s.lines s.lambda s.line))
-    noted-is true = refl
-    noted-is false = refl
-
-    image : noted (stands n s) (image_at n t.placements s.lines) ≡ image_at n t.placements t.lines
-    image = noted-is (s.line == 0) ∙ ap (image_at n t.placements) (sym lines)
-
-    on : (b : Bool) → after_load (stands n s) (cond b (Ok (image_at n t.placements s.lines)) (Err PagesFull)) ≡ cond b (Ok (stands n t)) (Err PagesFull)
-    on true = λ i. Ok (record { image = image i; lambda = sym lambda i; line = sym line i; selected = true; named = with_name (λ k. false) 0 })
-    on false = refl
+after-unless n s t lambda line lines = grind (arith, nat_tests)
 
 pub takes-tetra : (n b c d e : ℕ) (s : State) → 2 ^ 51 ≤ n → s.lambda % 4 ≡ 0 → s.lambda < 0x6000_0000_0000_0000 → AreBytes (b ∷ c ∷ d ∷ e ∷ []) → HaveBytes (placed s.placements) →
     Takes n (Load (tetra_from_bytes (b ∷ c ∷ d ∷ e ∷ [])) ∷ []) s (behind_tetra s b c d e)
@@ -181,14 +151,9 @@ same-state s t p l a i = λ j. record { placements = p j; lines = l j; lambda = 
 pub takes-equal : (n : ℕ) (items : List Item) (s t u : State) → t ≡ u → Takes n items s t → Takes n items s u
 takes-equal n items s t u e h = record { taken = h.taken ∙ ap (limited n) e }
 
-no-bytes : (ps : List (ℕ × ℕ)) → ps ≡ ps ++ []
-no-bytes [] = refl
-no-bytes (p ∷ ps) = ap (λ qs. p ∷ qs) (no-bytes ps)
-
 pub takes-tetras : (n : ℕ) (bytes : List ℕ) (s : State) → 2 ^ 51 ≤ n → s.lambda % 4 ≡ 0 → length bytes % 4 ≡ 0 → s.lambda + length bytes ≤ 0x6000_0000_0000_0000 → AreBytes bytes → HaveBytes (placed s.placements) →
     Takes n (map Load (tetras_of bytes)) s (behind_tetras s bytes)
-takes-tetras n [] s big m l low are have =
-    takes-equal n [] s s (behind_tetras s []) (same-state s (behind_tetras s []) (no-bytes s.placements) refl (omega arith) refl) (takes-none n s)
+takes-tetras n [] s big m l low are have = grind (arith, common_steps, nat_tests)
 takes-tetras n (b ∷ c ∷ d ∷ e ∷ more) s big m l low are have =
     let t : State = behind_tetra s b c d e in
     let four_are : AreBytes (b ∷ c ∷ d ∷ e ∷ []) = (are.0, (are.1.0, (are.1.1.0, (are.1.1.1.0, tt)))) in

@@ -1,6 +1,6 @@
 -- What is known at the statements that are accepted is sound, and their values are octas.
-use Rattle.std.proofs.Common.{◌≡◌, ℕ, List, [], ◌∷◌, ◌++◌, refl, sym, ◌∙◌, ap, subst, Option, Some, None, Ok}
-use Rattle.mx_asm.proofs.Words.{AllByRecursion, IfSome, Value, complete_form, not-some, Label, Name, Local, Effect, Placed, Known, no_targets, symbol_form, StatementTree, IsPossible, encoding, HasRegisterNumber, IsSound, sound-start, sound-symbol, sound-local, sound-greg, encoding-fine, Refused, Sight, with_label, with_effect, known_with, known_after, nothing_known, sights_from, sights_of, label_fault, statement_fault, first_fault, first_of, IsStatement, accepted, accepted_with}
+use Rattle.std.proofs.Common.{◌≡◌, ℕ, List, [], ◌∷◌, ◌++◌, refl, sym, ◌∙◌, ap, subst, Option, Some, None, Ok, rules}
+use Rattle.mx_asm.proofs.Words.{AllByRecursion, IfSome, Value, complete_form, not-some, Label, Name, Local, Effect, Placed, Known, no_targets, symbol_form, StatementTree, IsPossible, encoding, HasRegisterNumber, IsSound, sound-start, sound-symbol, sound-local, sound-greg, encoding-fine, Refused, Sight, with_label, with_effect, known_with, known_after, nothing_known, sights_from, sights_of, label_fault, statement_fault, first_fault, IsStatement, accepted, accepted_with}
 use Rattle.mx_stmt.specs.declared.placed.Effect.TheVariants as effect
 use Rattle.mx_asm.proofs.OneStatement.{name-new}
 use Rattle.mx_asm.proofs.EndWaits.{both-none}
@@ -19,9 +19,7 @@ sound-label k (Some (Local d)) (Some v) at none fits h = sound-at _ at (sound-lo
 sound-label k label value at none fits h = sound-at k at h
 
 sound-effect : (k : Known) (e : Effect) → IsPossible k.gregs e → IsSound k → IsSound (with_effect k e)
-sound-effect k (effect.Prefix full) possible h = record { symbols = h.symbols; backs = h.backs; gregs = h.gregs }
-sound-effect k (effect.Greg reg value) possible h = sound-greg k reg value possible h
-sound-effect k e possible h = h
+sound-effect k e h1 h2 = search (rules, sound-greg)
 
 pub sound-kept : (k : Known) (s : StatementTree) (p : Placed) → IsSound k → encoding no_targets k s ≡ Ok p → label_fault k.names s.label ≡ None → IsSound (known_after k s)
 unfolding known_after
@@ -57,11 +55,7 @@ steady-accepted (st ∷ statements) k earlier read sound words =
 pub accepted-faultless : (later earlier : List Sight) → first_fault earlier (accepted earlier later) ≡ None
 unfolding accepted first_fault
 accepted-faultless [] earlier = refl
-accepted-faultless (t ∷ later) earlier = by (statement_fault earlier t) refl (accepted-faultless later (earlier ++ t ∷ []))
-  where
-    by : (r : Option Refused) → statement_fault earlier t ≡ r → first_fault (earlier ++ t ∷ []) (accepted (earlier ++ t ∷ []) later) ≡ None → first_fault earlier (accepted_with r t (accepted (earlier ++ t ∷ []) later)) ≡ None
-    by (Some refused) e rest = refl
-    by None e rest = ap (λ r. first_of r (first_fault (earlier ++ t ∷ []) (accepted (earlier ++ t ∷ []) later))) e ∙ rest
+accepted-faultless (t ∷ later) earlier = search (rules, accepted-faultless later (earlier ++ t ∷ []))
 
 pub accepted-all : (later earlier : List Sight) → first_fault earlier later ≡ None → accepted earlier later ≡ later
 unfolding accepted first_fault

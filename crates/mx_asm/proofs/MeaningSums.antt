@@ -1,6 +1,6 @@
 -- The bytes that are placed and then joined by fix records are those that are placed with all targets known.
-use Rattle.std.proofs.Common.{◌≡◌, ℕ, List, [], ◌∷◌, ◌++◌, fold, Bool, true, false, not, cond, refl, sym, ◌∙◌, ap, subst, bit_xor, Option, Some, None, Ok, append_assoc, ◌==◌, bytes_eq}
-use Rattle.mx_asm.proofs.Words.{cond_both, AllByRecursion, filter, xor_assoc, xor_zero_l, xor_zero_r, xor_comm, Decides-eqb, bytes_eq-Decides, Value, Pure, Reg, Awaited, Wait, same_awaited, NameTable, complete_form, value_of_name, with_symbol, waits_for, waits_for_others, value-inserted, not-some, Label, Name, Local, Placed, Known, Targets, no_targets, symbol_form, StatementTree, encoding, fix_bytes, fix_placements, from_place, placed, placed-append, Sight, outline, waits_in, is_local, next_local, pure_number, targets, with_label, known_with, known_after, sights_from, fixes, awaited_value, waiting_for, waiting_at, refusal_of, label_fault, statement_fault, first_fault}
+use Rattle.std.proofs.Common.{◌≡◌, ℕ, List, [], ◌∷◌, ◌++◌, fold, Bool, true, false, not, cond, refl, sym, ◌∙◌, ap, subst, bit_xor, Option, Some, None, Ok, append_assoc, ◌==◌, rules}
+use Rattle.mx_asm.proofs.Words.{cond_both, AllByRecursion, filter, xor_assoc, xor_zero_l, xor_zero_r, xor_comm, Decides-eqb, bytes_eq-Decides, Value, Pure, Reg, Awaited, Wait, same_awaited, NameTable, complete_form, value_of_name, with_symbol, waits_for, waits_for_others, value-inserted, not-some, Label, Name, Local, Placed, Known, Targets, no_targets, StatementTree, encoding, fix_bytes, fix_placements, from_place, placed, placed-append, Sight, outline, waits_in, is_local, next_local, pure_number, targets, with_label, known_after, sights_from, fixes, awaited_value, waiting_for, waiting_at, refusal_of, label_fault, statement_fault, first_fault}
 use Rattle.mx_word.specs.declared.waits.Awaited.TheVariants as awaited
 use Rattle.mx_names.specs.Names.{value_in as symbol_in}
 use Rattle.mx_asm.specs.TwoPass.{value_in}
@@ -10,7 +10,7 @@ use Rattle.mx_asm.proofs.OneStatement.{name-new, effect-symbols}
 use Rattle.mx_asm.proofs.EndWaits.{both-none}
 use Rattle.mx_asm.proofs.MeaningStates.{State}
 use Rattle.mx_asm.proofs.MeaningBytes.{behind_bytes}
-use Rattle.mx_asm.proofs.MeaningStatements.{at_value, behind_fixes}
+use Rattle.mx_asm.proofs.MeaningStatements.{behind_fixes}
 use Rattle.mx_asm.proofs.MeaningFronts.{faultless}
 
 -- ---- what references add
@@ -52,41 +52,20 @@ other-more x a b c h = first-more x a b c h ∙ ap (λ n. bit_xor n b) (xor_comm
 
 added-split : (t : Targets) (who : Awaited) (waits : List Wait) (q : ℕ) → added t waits q ≡ bit_xor (added t (waits_for who waits) q) (added t (waits_for_others who waits) q)
 added-split t who [] q = sym (xor_zero_r 0)
-added-split t who (w ∷ waits) q =
-    placed-append (from_place w.at (fix_bytes w.kind w.at (t w.who))) (fix_placements t waits) q
-    ∙ by (same_awaited w.who who) (placed (from_place w.at (fix_bytes w.kind w.at (t w.who))) q) refl (added-split t who waits q)
-  where
-    by : (b : Bool) (x : ℕ) → x ≡ placed (from_place w.at (fix_bytes w.kind w.at (t w.who))) q → added t waits q ≡ bit_xor (added t (waits_for who waits) q) (added t (waits_for_others who waits) q) →
-        bit_xor x (added t waits q) ≡ bit_xor (added t (cond b (w ∷ waits_for who waits) (waits_for who waits)) q) (added t (cond (not b) (w ∷ waits_for_others who waits) (waits_for_others who waits)) q)
-    by true x e h =
-        first-more x _ _ _ h
-        ∙ ap (λ n. bit_xor n (added t (waits_for_others who waits) q)) (ap (λ n. bit_xor n (added t (waits_for who waits) q)) e ∙ sym (placed-append (from_place w.at (fix_bytes w.kind w.at (t w.who))) (fix_placements t (waits_for who waits)) q))
-    by false x e h =
-        other-more x _ _ _ h
-        ∙ ap (bit_xor (added t (waits_for who waits) q)) (ap (λ n. bit_xor n (added t (waits_for_others who waits) q)) e ∙ sym (placed-append (from_place w.at (fix_bytes w.kind w.at (t w.who))) (fix_placements t (waits_for_others who waits)) q))
+added-split t who (w ∷ waits) q = search (rules, placed-append, first-more, other-more, added-split t who waits q)
 
 -- ---- names keep their values
 
 symbol-kept : (names : NameTable) (form full : List ℕ) (value v : Value) → symbol_in form names.symbols ≡ None → symbol_in full names.symbols ≡ Some v → symbol_in full (with_symbol names form value).symbols ≡ Some v
-symbol-kept names form full value v new h = value-inserted _ names.symbols full new ∙ by (bytes_eq full form) (λ h. (bytes_eq-Decides full form).0 h)
-  where
-    by : (b : Bool) → (b ≡ true → full ≡ form) → cond b (Some value) (symbol_in full names.symbols) ≡ Some v
-    by true same = let none : None ≡ Some v = sym new ∙ ap (λ n. symbol_in n names.symbols) (sym (same refl)) ∙ h in absurd (cc)
-    by false same = h
+symbol-kept names form full value v new h = search (rules, value-inserted, bytes_eq-Decides)
 
 label-kept : (names : NameTable) (label : Option Label) (value : Option Value) (full : List ℕ) (v : Value) → label_fault names label ≡ None → symbol_in full names.symbols ≡ Some v →
     symbol_in full (with_label names label value).symbols ≡ Some v
-label-kept names None value full v none h = h
-label-kept names (Some (Name text)) None full v none h = h
-label-kept names (Some (Local d)) None full v none h = h
-label-kept names (Some (Name text)) (Some value) full v none h = symbol-kept names (complete_form names.prefix text) full value v (not-some _ (name-new names text (symbol_form names text) refl none)) h
-label-kept names (Some (Local d)) (Some value) full v none h = h
+label-kept names label value full v h1 h2 = search (rules, symbol-kept, not-some, name-new)
 
 pub after-is : (k : Known) (st : StatementTree) (p : Placed) → encoding no_targets k st ≡ Ok p → (known_after k st).names.symbols ≡ (with_label k.names st.label p.label).symbols
 unfolding known_after
-after-is k st p e =
-    ap (λ r. (known_with k st r).names.symbols) e
-    ∙ effect-symbols (record { names = with_label k.names st.label p.label; at = p.after; gregs = k.gregs }) p.effect
+after-is k st p e = search (rules, effect-symbols)
 
 abbrev pub sight_at : Known → StatementTree → Sight
 sight_at k st = record { known = k; statement = st }
@@ -110,9 +89,7 @@ pub fixes-placed : (s : State) (line : ℕ) (value : Value) (waits : List Wait) 
 unfolding fixes
 fixes-placed s line value [] t q none h = sym (xor_zero_r (placed s.placements q))
 fixes-placed s line (Reg r) (w ∷ waits) t q none h = absurd (cc)
-fixes-placed s line (Pure v) (w ∷ waits) t q none h =
-    placed-append s.placements (fix_placements (at_value v) (w ∷ waits)) q
-    ∙ ap (bit_xor (placed s.placements q)) (sym (added-same t (at_value v) (w ∷ waits) q h))
+fixes-placed s line (Pure v) (w ∷ waits) t q none h = search (rules, placed-append, added-same)
 
 pub bytes-placed : (s : State) (line start : ℕ) (bytes : List ℕ) (q : ℕ) → placed (behind_bytes s line start bytes).placements q ≡ bit_xor (placed s.placements q) (placed (from_place start bytes) q)
 bytes-placed s line start [] q = sym (xor_zero_r (placed s.placements q))

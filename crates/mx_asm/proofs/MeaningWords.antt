@@ -1,19 +1,17 @@
 -- The values of operands, labels and `@` are octas.
-use Rattle.std.proofs.Common.{◌≡◌, ℕ, zero, suc, ◌+◌, ◌-◌, ◌*◌, ◌/◌, ◌%◌, ◌^◌, ◌<◌, ◌≤◌, List, [], ◌∷◌, replicate, slice_set, slice_index_or, Bool, true, false, cond, arith, refl, sym, subst, bit_and, nat_le, nat_lt, Option, Some, None, Result, Ok, Err}
+use Rattle.std.proofs.Common.{◌≡◌, ℕ, zero, suc, ◌+◌, ◌-◌, ◌*◌, ◌/◌, ◌%◌, ◌^◌, ◌<◌, ◌≤◌, List, [], ◌∷◌, replicate, slice_set, slice_index_or, true, arith, refl, sym, subst, bit_and, nat_le, nat_lt, Option, None, Result, Ok, Err, rules}
 use Rattle.std.specs.Prelude.{◌==◌, bytes_eq}
-use Rattle.mx_asm.proofs.Words.{IfSome, AllByRecursion, list_all, and_le_l, or_lt, xor_lt, mod_below, cond_both, eqb-false, leb-false, ltb-true, and_parts, Value, Pure, Reg, Tree, number, name, back, ahead, here, unary, binary, Valued, register, difference, unary_value, pure_value, binary_value, after_operand, after_both, of_symbol, value_of, special_registers, predefined_names, predefined_value, NameFault, start, complete_form, value_in, pure_of, value_of_name, back_of, value-defined, not-some, Label, Name, Local, Effect, Placed, and_then, Known, Targets, no_targets, symbol_form, knowledge_of, answer_of, StatementTree, alignment, label_value, encoding, with_label, with_effect, known_with, known_after, awaited_value, label_fault, HasOctas, IsStatement}
+use Rattle.mx_asm.proofs.Words.{IfSome, AllByRecursion, list_all, and_le_l, or_lt, xor_lt, mod_below, cond_both, eqb-false, leb-false, ltb-true, and_parts, Value, Pure, Tree, number, name, back, ahead, here, unary, binary, Valued, register, pure_value, binary_value, after_operand, after_both, of_symbol, value_of, special_registers, predefined_names, predefined_value, NameFault, start, pure_of, value_of_name, back_of, value-defined, not-some, Label, Effect, Placed, and_then, Known, Targets, no_targets, symbol_form, knowledge_of, answer_of, StatementTree, alignment, label_value, encoding, with_label, with_effect, known_with, known_after, awaited_value, label_fault, HasOctas, IsStatement, nat_tests}
 use Rattle.std.proofs.Math.Nat.{div-le_self, div-lt_iff_lt-mul}
 use Rattle.mx_expr.specs.declared.tree.UnOp.{UnOp}
-use Rattle.mx_expr.specs.declared.tree.UnOp.TheVariants.{Plus, Minus, Not, Register}
 use Rattle.mx_expr.specs.declared.tree.BinOp.{BinOp}
-use Rattle.mx_expr.specs.declared.tree.BinOp.TheVariants.{Div, Fraction, Rem, Left, Right, And, Add, Sub, Or, Xor}
+use Rattle.mx_expr.specs.declared.tree.BinOp.TheVariants.{Div, Fraction, Rem, Left, Right, And, Or, Xor}
 use Rattle.mx_ops.specs.Tables.{first_of}
 use Rattle.mx_stmt.specs.declared.placed.Effect.TheVariants as effect
 use Rattle.mx_stmt.specs.Operands.{value_in as symbol_in, pure_number}
 use Rattle.mx_asm.proofs.OneStatement.{name-new}
 use Rattle.mx_asm.proofs.MeaningStatements.{IsWord}
 use Rattle.mx_asm.proofs.StatementForms.{Comes, at_place, encoding-comes}
-use Rattle.mx_asm.proofs.StatementForms.Comes.{placed, by_is, by_loc, by_greg}
 
 -- ---- values
 
@@ -23,13 +21,6 @@ HasWord (Ok v) = IsWord v
 
 register-word : (n : ℕ) → HasWord (register n)
 register-word n = cond_both (nat_le n 255) _ _ HasWord (λ _. tt) (λ _. tt)
-
-unary-word : (op : UnOp) (v : Value) → IsWord v → HasWord (unary_value op v)
-unary-word Plus v h = h
-unary-word Minus (Pure x) h = omega arith
-unary-word Not (Pure x) h = omega arith
-unary-word Register (Pure x) h = register-word x
-unary-word op (Reg x) h = tt
 
 less-of : (x y z : ℕ) → x ≤ y → y < z → x < z
 less-of x y z l m = omega (arith, l, m)
@@ -46,20 +37,13 @@ pure-word Xor x y l m = xor_lt 64 x y l m
 pure-word op x y l m = omega arith
 
 binary-word : (op : BinOp) (v w : Value) → IsWord v → IsWord w → HasWord (binary_value op v w)
-binary-word op (Pure x) (Pure y) h g = pure-word op x y h g
-binary-word Add (Reg x) (Pure y) h g = register-word ((x + y) % 2 ^ 64)
-binary-word Add (Pure x) (Reg y) h g = register-word ((x + y) % 2 ^ 64)
-binary-word Sub (Reg x) (Pure y) h g = register-word (difference x y)
-binary-word Sub (Reg x) (Reg y) h g = omega arith
-binary-word op v w h g = tt
+binary-word op v w h1 h2 = search (rules, pure-word, register-word)
 
 operand-word : (op : UnOp) (r : Valued) → HasWord r → HasWord (after_operand op r)
-operand-word op (Err fault) h = tt
-operand-word op (Ok v) h = unary-word op v h
+operand-word op r h = grind (arith, nat_tests)
 
 both-word : (op : BinOp) (l r : Valued) → HasWord l → HasWord r → HasWord (after_both op l r)
-both-word op (Ok v) (Ok w) h g = binary-word op v w h g
-both-word op l r h g = tt
+both-word op l r h1 h2 = search (rules, binary-word)
 
 -- ---- what is known
 
@@ -68,13 +52,8 @@ pub record KnowsWords (k : Known) : Type 0 where
   pub backs : (d : ℕ) → IsWord (back_of k.names d)
   pub at : k.at < 2 ^ 64
 
-some-word : (r : Option Value) → IfSome r IsWord → HasWord (of_symbol (Ok r))
-some-word None h = tt
-some-word (Some v) h = h
-
 symbol-word : (k : Known) (r : Result (List ℕ) NameFault) → KnowsWords k → HasWord (of_symbol (symbol_in k.names r))
-symbol-word k (Err fault) h = tt
-symbol-word k (Ok full) h = some-word (value_of_name k.names full) (h.symbols full)
+symbol-word k r h = grind (arith, nat_tests)
 
 pub value-word : (k : Known) (e : Tree) → KnowsWords k → HasOctas e → HasWord (value_of (knowledge_of k) e)
 value-word k (number n) h is = is
@@ -98,8 +77,7 @@ names-bound = refl
 
 predefined-word : (bare : List ℕ) → IfSome (pure_of (predefined_value bare)) IsWord
 unfolding predefined_value
-predefined-word [] = tt
-predefined-word (b ∷ bare) = cond_both (b == 58) _ _ (λ x. IfSome (pure_of x) IsWord) (λ _. list-bound predefined_names bare names-bound) (λ _. tt)
+predefined-word bare = search (rules, list-bound, names-bound)
 
 zeros-word : (n d : ℕ) → IsWord (slice_index_or (replicate n (Pure 0)) d (Pure 0))
 zeros-word (suc n) (suc d) = zeros-word n d
@@ -115,27 +93,20 @@ pub record HasWords (p : Placed) : Type 0 where
   pub after : p.after < 2 ^ 64
 
 label-word : (label : Option Label) (v : Value) → IsWord v → IfSome (label_value label v) IsWord
-label-word None v h = tt
-label-word (Some label) v h = h
+label-word label v h = grind (arith, nat_tests)
 
 value-fits : (r : Valued) (v : Value) → HasWord r → answer_of r ≡ Ok v → IsWord v
-value-fits (Err fault) v h is = absurd (cc)
-value-fits (Ok w) v h is = let same : w ≡ v = cc in subst IsWord same h
+value-fits r v h1 h2 = grind (arith, nat_tests)
 
 pub pure-low : (r : Valued) (n : ℕ) → HasWord r → and_then (answer_of r) pure_number ≡ Ok n → n < 2 ^ 64
-pure-low (Ok (Pure m)) n h is = let same : m ≡ n = cc in subst (λ x. x < 2 ^ 64) same h
-pure-low r n h is = absurd (cc)
+pure-low r n h1 h2 = grind (arith, nat_tests)
 
 -- the one operand of a statement
 pub one-word : (k : Known) (operands : List Tree) (e : Tree) → KnowsWords k → AllByRecursion HasOctas operands → operands ≡ e ∷ [] → HasWord (value_of (knowledge_of k) e)
 one-word k operands e h are o = let one = subst (AllByRecursion HasOctas) o are in value-word k e h one.0
 
 words-of : (k : Known) (label : Option Label) (operands : List Tree) (p : Placed) → KnowsWords k → AllByRecursion HasOctas operands → Comes k label operands p → HasWords p
-words-of k label operands _ h are (placed bytes waits low) = record { label = label-word label (Pure k.at) h.at; after = omega (arith, low) }
-words-of k label operands _ h are (by_is e value o is) = record { label = label-word label value (value-fits _ value (one-word k operands e h are o) is); after = h.at }
-words-of k label operands _ h are (by_loc e next o is) = record { label = label-word label (Pure k.at) h.at; after = pure-low _ next (one-word k operands e h are o) is }
-words-of k label operands _ h are (by_greg e value reg o is found) = record { label = label-word label (Reg reg) tt; after = h.at }
-words-of k label operands _ h are c = record { label = label-word label (Pure k.at) h.at; after = h.at }
+words-of k label operands p h1 h2 h3 = search (rules, label-word, value-fits, one-word, pure-low)
 
 -- what is known where a statement lies
 pub words-there : (k : Known) (s : StatementTree) → KnowsWords k → KnowsWords (at_place k s)
@@ -145,8 +116,7 @@ pub encoding-words : (t : Targets) (k : Known) (s : StatementTree) (p : Placed) 
 encoding-words t k s p h is e = words-of (at_place k s) s.label s.operands p (words-there k s h) is.operands (encoding-comes t k s p e)
 
 pub awaited-word : (label : Option Value) → IfSome label IsWord → IsWord (awaited_value label)
-awaited-word None h = omega arith
-awaited-word (Some v) h = h
+awaited-word label h = grind (arith, nat_tests)
 
 -- ---- behind a statement
 
@@ -157,25 +127,10 @@ set-word values d e v fits h = h
 
 label-words : (k : Known) (label : Option Label) (value : Option Value) (after : ℕ) → label_fault k.names label ≡ None → IfSome value IsWord → after < 2 ^ 64 → KnowsWords k →
     KnowsWords (record { names = with_label k.names label value; at = after; gregs = k.gregs })
-label-words k (Some (Local d)) (Some v) after none word l h = record { symbols = h.symbols; backs = λ e. set-word k.names.backs d e v word (h.backs e); at = l }
-label-words k (Some (Name text)) (Some v) after none word l h =
-    let full : List ℕ = complete_form k.names.prefix text in
-    let new : value_in full k.names.symbols ≡ None = not-some _ (name-new k.names text (symbol_form k.names text) refl none) in
-    record {
-      symbols = λ other. subst (λ o. IfSome o IsWord) (sym (value-defined k.names full v other new)) (by (bytes_eq other full) (value_of_name k.names other) (h.symbols other));
-      backs = h.backs;
-      at = l;
-    }
-  where
-    by : (b : Bool) (other : Option Value) → IfSome other IsWord → IfSome (cond b (Some v) other) IsWord
-    by true other g = word
-    by false other g = g
-label-words k label value after none word l h = record { symbols = h.symbols; backs = h.backs; at = l }
+label-words k label value after h1 h2 h3 h4 = grind (arith, nat_tests, set-word, not-some, name-new, value-defined)
 
 effect-words : (k : Known) (e : Effect) → KnowsWords k → KnowsWords (with_effect k e)
-effect-words k (effect.Prefix full) h = record { symbols = h.symbols; backs = h.backs; at = h.at }
-effect-words k (effect.Greg reg value) h = record { symbols = h.symbols; backs = h.backs; at = h.at }
-effect-words k e h = h
+effect-words k e h = grind (arith, nat_tests)
 
 pub words-kept : (k : Known) (s : StatementTree) (p : Placed) → KnowsWords k → IsStatement s → encoding no_targets k s ≡ Ok p → label_fault k.names s.label ≡ None → KnowsWords (known_after k s)
 unfolding known_after

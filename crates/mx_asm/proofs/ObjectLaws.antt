@@ -1,6 +1,6 @@
 -- An object can be written of what a source is assembled into, and its trie tells its symbols.
-use Rattle.std.proofs.Common.{◌≡◌, ◌<◌, ◌≤◌, ℕ, ◌-◌, ◌/◌, ◌%◌, ◌^◌, Bool, true, false, cond, nat_lt, List, [], ◌∷◌, ◌++◌, length, Option, None, Some, Result, Ok, Err, refl, sym, ap, ◌∙◌, subst, arith, length-append, nat_le, codes}
-use Rattle.mx_asm.proofs.Words.{list_any, IfSome, ltb-false, length-replicate, AreBytes, Value, Pure, Item, File, Pre, Post, Stab, lines_of, value_of_name, lowest_of, Known, StatementTree, AsmFault, SymbolsTooMany, LocalAboveGlobals, Refused, statements_in, source_entries, sights_of, final_known, zeros_after, opening, first_head, items_from, main_name, pure_or_zero, main_of, closing, emission, padded_trie, symbols_of, trie_limit, last_fault, end_fault, at_line, first_undefined, locals, entries_refusal, end_refusal, last_line, refusal, AreFit, IsPadded, AreWritable, Ended, assembled_source, written, ending}
+use Rattle.std.proofs.Common.{◌≡◌, ◌<◌, ◌≤◌, ℕ, ◌-◌, ◌/◌, ◌%◌, ◌^◌, List, [], ◌∷◌, ◌++◌, length, Option, None, Some, Result, Ok, Err, refl, sym, ap, ◌∙◌, subst, arith, codes}
+use Rattle.mx_asm.proofs.Words.{IfSome, AreBytes, Value, Item, File, Pre, Post, Stab, lines_of, value_of_name, lowest_of, Known, StatementTree, AsmFault, Refused, statements_in, source_entries, sights_of, final_known, zeros_after, opening, first_head, items_from, main_name, pure_or_zero, main_of, closing, emission, padded_trie, symbols_of, last_fault, end_fault, at_line, first_undefined, locals, entries_refusal, end_refusal, last_line, refusal, AreFit, IsPadded, AreWritable, Ended, assembled_source, written, ending, nat_tests, common_steps}
 use Rattle.mx_stab.specs.Reading.{trie_answer}
 use Rattle.mx_stab.specs.Trie.{trie_of}
 use Rattle.mx_stab.proofs.Law.{written-is-trie}
@@ -21,8 +21,7 @@ use Rattle.mx_asm.proofs.StatementCounts.{few-statements}
 -- ---- the end of an object
 
 main-low : (value : Option Value) → IfSome value IsWord → pure_or_zero value < 2 ^ 64
-main-low (Some (Pure n)) h = h
-main-low value h = omega arith
+main-low value h = grind (arith, nat_tests)
 
 closing-fits : (k : Known) → IsTellable 0 k → AreFit (closing k.names k.gregs)
 closing-fits k h =
@@ -36,27 +35,13 @@ opening-fits = fit-both (Pre (0 ∷ []) ∷ []) (File 0 (Some (codes ".mms")) �
 -- ---- the trie
 
 whole-tetras : (bytes : List ℕ) → length (bytes ++ zeros_after (length bytes)) % 4 ≡ 0
-whole-tetras bytes =
-    let sum = length-append bytes (zeros_after (length bytes)) in
-    let zeros = length-replicate {A = ℕ} ((4 - length bytes % 4) % 4) 0 in
-    omega (arith, sum, zeros)
-
-limit-kept : (above : Bool) (tetras : ℕ) → above ≡ nat_lt trie_limit tetras → cond above (Some SymbolsTooMany) None ≡ None → tetras < 2 ^ 16
-limit-kept true tetras e none = absurd (cc)
-limit-kept false tetras e none = let few = ltb-false trie_limit tetras (sym e) in omega (arith, few)
-
-globals-kept : (high above : Bool) (tetras : ℕ) → above ≡ nat_lt trie_limit tetras → cond high (Some LocalAboveGlobals) (cond above (Some SymbolsTooMany) None) ≡ None → tetras < 2 ^ 16
-globals-kept true above tetras e none = absurd (cc)
-globals-kept false above tetras e none = limit-kept above tetras e none
+whole-tetras bytes = grind (arith, common_steps, nat_tests)
 
 few-tetras : (k : Known) (registers : List ℕ) (main : Option Value) → last_fault k registers main ≡ None → length (padded_trie k.names) / 4 < 2 ^ 16
-few-tetras k registers (Some (Pure main)) none =
-    globals-kept (list_any (λ reg. nat_le (lowest_of k.gregs) reg) registers) (nat_lt trie_limit (length (padded_trie k.names) / 4)) (length (padded_trie k.names) / 4) refl none
-few-tetras k registers main none = absurd (cc)
+few-tetras k registers main h = grind (arith, nat_tests)
 
 no-fault : (line : ℕ) (fault : Option AsmFault) → at_line line fault ≡ None → fault ≡ None
-no-fault line None h = refl
-no-fault line (Some fault) h = absurd (cc)
+no-fault line fault h = grind (arith, nat_tests)
 
 padded : (k : Known) (registers : List ℕ) → end_fault k registers ≡ None → IsPadded (padded_trie k.names)
 padded k registers none = record { whole = whole-tetras (trie_of k.names.symbols); most = few-tetras k registers (value_of_name k.names main_name) none }

@@ -1,10 +1,10 @@
 -- What is known behind statements of bytes: symbols that a trie can tell, and registers whose values are octas.
-use Rattle.std.proofs.Common.{◌≡◌, ◌<◌, ◌≤◌, ℕ, zero, suc, ◌+◌, ◌-◌, ◌^◌, nat_lt, List, [], ◌∷◌, ◌++◌, length, fold, slice_set, Option, None, Some, Result, Ok, Err, refl, sym, subst, arith}
-use Rattle.mx_asm.proofs.Words.{cond_both, AllByRecursion, IfSome, AreBytes, AreOctas, InByteOrder, IsValue, IsNamed, Symbol, Value, Pure, Reg, NameFault, NameTable, IsFullName, complete_form, value_in, with_symbol, not-some, length-inserted, Label, Name, Local, Effect, Placed, HasRegisterNumber, IsSound, lowest_of, with_greg, Known, no_targets, symbol_form, StatementTree, encoding, sound-start, encoding-fine, IsEffect, Sight, with_label, with_effect, known_with, known_after, nothing_known, sights_from, name_fault, label_fault, statement_fault, first_fault, all-inserted}
+use Rattle.std.proofs.Common.{◌≡◌, ◌<◌, ◌≤◌, ℕ, suc, ◌+◌, ◌-◌, ◌^◌, List, [], ◌∷◌, ◌++◌, length, fold, Option, None, Some, Result, Ok, sym, subst, arith, rules}
+use Rattle.mx_asm.proofs.Words.{AllByRecursion, IfSome, AreBytes, AreOctas, InByteOrder, IsValue, IsNamed, Value, NameFault, NameTable, IsFullName, complete_form, value_in, with_symbol, not-some, length-inserted, Label, Name, Local, Effect, Placed, HasRegisterNumber, IsSound, lowest_of, Known, no_targets, symbol_form, StatementTree, encoding, sound-start, encoding-fine, IsEffect, Sight, with_label, with_effect, known_with, known_after, nothing_known, sights_from, name_fault, label_fault, statement_fault, first_fault, all-inserted, nat_tests, common_steps}
 use Rattle.std.specs.List.Sorted.{IsStrictlySortedBy}
 use Rattle.mx_stmt.specs.declared.placed.Effect.TheVariants as effect
-use Rattle.mx_asm.proofs.Encodings.{symbol-full, encoding-prefixed}
-use Rattle.mx_asm.proofs.OneStatement.{form-is, name-new}
+use Rattle.mx_asm.proofs.Encodings.{encoding-prefixed}
+use Rattle.mx_asm.proofs.OneStatement.{name-new}
 use Rattle.mx_asm.proofs.EndWaits.{both-none}
 use Rattle.mx_asm.proofs.ByteStatements.{IfLabelOfBytes, IsOfBytes}
 use Rattle.mx_asm.proofs.MeaningStatements.{IsWord}
@@ -25,60 +25,32 @@ pub record AreTellable (left : ℕ) (names : NameTable) : Type 0 where
   pub room : length names.symbols + left < 2 ^ 32
 
 value-is : (v : Value) → IsWord v → HasRegisterNumber v → IsValue v
-value-is (Pure x) word number = word
-value-is (Reg r) word number = number
+value-is v h1 h2 = grind (arith, nat_tests)
 
 -- the complete form of a label without a fault
 label-full : (names : NameTable) (text : List ℕ) (r : Result (List ℕ) NameFault) → IsFullName names.prefix → symbol_form names text ≡ r → name_fault names r ≡ None → IsFullName (complete_form names.prefix text)
-label-full names text (Err fault) prefix is none = absurd (cc)
-label-full names text (Ok full) prefix is none = subst IsFullName (form-is names text full is) (symbol-full names text full prefix is)
+label-full names text r h1 h2 h3 = grind (arith, common_steps, nat_tests)
 
 one-statement-less : (left : ℕ) (names : NameTable) → AreTellable (suc left) names → AreTellable left names
 one-statement-less left names h = record { prefix = h.prefix; bytes = h.bytes; order = h.order; named = h.named; room = let room = h.room in omega (arith, room) }
 
 symbol-tellable : (left : ℕ) (names : NameTable) (full : List ℕ) (v : Value) → IsFullName full → AreBytes full → IsValue v → value_in full names.symbols ≡ None → AreTellable (suc left) names → AreTellable left (with_symbol names full v)
-symbol-tellable left names full v is are value new h =
-    let s : Symbol = record { name = full; value = v; serial = length names.symbols + 1 } in
-    let room = h.room in
-    let most = is.most in
-    let least = is.least in
-    let count = length-inserted s names.symbols in
-    record {
-      prefix = h.prefix;
-      bytes = h.bytes;
-      order = byte-order-inserted s names.symbols new h.order;
-      named = all-inserted IsNamed s names.symbols (record { bytes = are; least = omega (arith, least); most = most; value = value; serial = omega (arith, room) }) h.named;
-      room = omega (arith, room, count);
-    }
+symbol-tellable left names full v is are value new h = search (rules, length-inserted, byte-order-inserted, all-inserted)
 
 label-tellable : (left : ℕ) (names : NameTable) (label : Option Label) (value : Option Value) → label_fault names label ≡ None → IfLabelOfBytes label → IfSome value IsWord → IfSome value HasRegisterNumber →
     AreTellable (suc left) names → AreTellable left (with_label names label value)
-label-tellable left names (Some (Local d)) (Some v) none bytes word number h =
-    let less = one-statement-less left names h in
-    record { prefix = less.prefix; bytes = less.bytes; order = less.order; named = less.named; room = less.room }
+label-tellable left names (Some (Local d)) (Some v) none bytes word number h = grind (arith, nat_tests)
 label-tellable left names (Some (Name text)) (Some v) none bytes word number h =
-    symbol-tellable left names (complete_form names.prefix text) v
-    (label-full names text (symbol_form names text) h.prefix refl none) (form-bytes names.prefix text h.bytes bytes) (value-is v word number)
-    (not-some _ (name-new names text (symbol_form names text) refl none)) h
+    search (rules, symbol-tellable, label-full, form-bytes, value-is, not-some, name-new)
 label-tellable left names label value none bytes word number h = one-statement-less left names h
 
 effect-tellable : (left : ℕ) (k : Known) (gregs : List ℕ) (e : Effect) → IsEffect gregs e → IsEffectOfBytes e → AreTellable left k.names → AreTellable left (with_effect k e).names
-effect-tellable left k gregs (effect.Prefix full) is of h = record { prefix = is; bytes = of; order = h.order; named = h.named; room = h.room }
-effect-tellable left k gregs e is of h = h
+effect-tellable left k gregs e h1 h2 h3 = grind (arith, nat_tests)
 
 -- ---- registers
 
-octas-set : (values : List ℕ) (i value : ℕ) → value < 2 ^ 64 → AreOctas values → AreOctas (slice_set values i value)
-octas-set [] i value low h = h
-octas-set (x ∷ values) zero value low h = (low, h.1)
-octas-set (x ∷ values) (suc i) value low h = (h.0, octas-set values i value low h.1)
-
-octas-given : (gregs : List ℕ) (reg value : ℕ) → value < 2 ^ 64 → AreOctas gregs → AreOctas (with_greg gregs reg value)
-octas-given gregs reg value low h = cond_both (nat_lt reg (lowest_of gregs)) _ _ AreOctas (λ _. (low, h)) (λ _. octas-set gregs (reg - lowest_of gregs) value low h)
-
 effect-octas : (k : Known) (e : Effect) → IsEffectOfBytes e → AreOctas k.gregs → AreOctas (with_effect k e).gregs
-effect-octas k (effect.Greg reg value) of h = octas-given k.gregs reg value of h
-effect-octas k e of h = h
+effect-octas k e h1 h2 = grind (arith, common_steps, nat_tests)
 
 -- ---- statements
 
@@ -91,18 +63,7 @@ pub record IsTellable (left : ℕ) (k : Known) : Type 0 where
 
 tellable-start : (left : ℕ) → left < 2 ^ 32 → IsTellable left nothing_known
 unfolding IsStrictlySortedBy
-tellable-start left few = record {
-  names = record {
-    prefix = record { complete = refl; least = omega arith; most = omega arith };
-    bytes = (omega arith, tt);
-    order = tt;
-    named = tt;
-    room = omega (arith, few);
-  };
-  gregs = tt;
-  sound = sound-start 0;
-  words = words-start;
-}
+tellable-start left few = search (rules, sound-start, words-start)
 
 pub few-registers : (gregs : List ℕ) → 32 ≤ lowest_of gregs → length gregs ≤ 223
 few-registers gregs low = omega (arith, low)

@@ -1,6 +1,6 @@
 -- The lines of a source in one pass come to what the two passes say.
-use Rattle.std.proofs.Common.{◌≡◌, ℕ, ◌+◌, ◌-◌, ◌^◌, Bool, true, false, cond, nat_lt, List, [], ◌∷◌, ◌++◌, fold, length, take, Option, None, Some, Ok, Err, refl, ap, sym, ◌∙◌, subst, arith, append_assoc, length-append, sum_by}
-use Rattle.mx_asm.proofs.Words.{result_err, sum_by-append, take-append_seam, is_too_far, size_up_to, statement, too_far, items_of, Item, StatementTree, Refused, Entry, entry_of, entries_of, line_entries, statements_in, refusal_in, nothing_known, sights_from, opening, first_head, first_fault, entries_refusal, Assembly, Progress, beginning, Line, lines_entries, lines_items, line_after, lines_taken}
+use Rattle.std.proofs.Common.{◌≡◌, ℕ, ◌+◌, ◌-◌, ◌^◌, Bool, true, false, cond, nat_lt, List, [], ◌∷◌, ◌++◌, fold, length, take, Option, Ok, refl, ap, sym, ◌∙◌, subst, arith, append_assoc, length-append, sum_by, rules}
+use Rattle.mx_asm.proofs.Words.{result_err, sum_by-append, take-append_seam, is_too_far, size_up_to, statement, too_far, items_of, Item, StatementTree, Refused, Entry, entries_of, line_entries, statements_in, refusal_in, nothing_known, sights_from, opening, first_head, first_fault, entries_refusal, Assembly, Progress, beginning, Line, lines_entries, lines_items, line_after, lines_taken, nat_tests}
 use Rattle.mx_line.specs.Source.{Item as Listed, before as listed_before, items_from as line_items}
 use Rattle.mx_asm.proofs.OpenWaits.{open_waits}
 use Rattle.mx_asm.proofs.OneStatement.{standing_at, AreLabels}
@@ -13,15 +13,10 @@ use Rattle.mx_asm.proofs.LinesTaken.{counting, counted_progress, unless_far, ent
 abbrev pub Same : List Entry → List Entry → Type 0
 Same a b = (statements_in a ≡ statements_in b) × (refusal_in a ≡ refusal_in b)
 
-same-more : (e : Entry) (a b : List Entry) → Same a b → Same (e ∷ a) (e ∷ b)
-same-more (Ok s) a b h = (ap (λ ss. s ∷ ss) h.0, h.1)
-same-more (Err r) a b h = (refl, refl)
-
 -- a fault ends the list either way
 same-before : (xs ys : List Listed) (fs : List Entry) → Same (entries_of ys) fs → Same (entries_of (listed_before xs ys)) (entries_of xs ++ fs)
 same-before [] ys fs h = h
-same-before (statement line label op operands ∷ xs) ys fs h =
-    same-more (entry_of (statement line label op operands)) (entries_of (listed_before xs ys)) (entries_of xs ++ fs) (same-before xs ys fs h)
+same-before (statement line label op operands ∷ xs) ys fs h = grind (arith, nat_tests, same-before xs ys fs h)
 same-before xs ys fs h = (refl, refl)
 
 -- the bytes of lines, with a newline after each
@@ -78,16 +73,13 @@ some-lines line lines =
     ∙ (λ i. lines_outcome (sym listed.0 i) (sym listed.1 i)))
 
 progress-items : (n m : ℕ) (out : List Item) (r : Option Refused) (a : Assembly) → (counted_progress n m (outcome out r a)).0 ≡ out
-progress-items n m out None a = refl
-progress-items n m out (Some r) a = refl
+progress-items n m out r a = grind (arith, nat_tests)
 
 progress-refusal : (n m : ℕ) (out : List Item) (r : Option Refused) (a : Assembly) → result_err (counted_progress n m (outcome out r a)).1 ≡ r
-progress-refusal n m out None a = refl
-progress-refusal n m out (Some r) a = refl
+progress-refusal n m out r a = grind (arith, nat_tests)
 
 pub items-are : (lines : List Line) → (lines_taken lines).0 ≡ lines_items lines
-items-are [] = refl
-items-are (line ∷ lines) = ap (λ p. p.0) (some-lines line lines) ∙ progress-items _ _ _ _ _
+items-are lines = search (rules, some-lines, progress-items)
 
 pub refusal-is : (lines : List Line) → result_err (lines_taken lines).1 ≡ entries_refusal (lines_entries lines)
 unfolding line_items sights_from first_fault

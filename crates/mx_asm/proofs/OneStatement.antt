@@ -1,5 +1,5 @@
 -- One statement in one pass, as the two passes have it.
-use Rattle.std.proofs.Common.{◌≡◌, ℕ, ◌+◌, Bool, true, false, cond, nat_lt, List, [], ◌∷◌, ◌++◌, length, Option, None, Some, is_some, Result, Ok, Err, refl, ap, sym, ◌∙◌, slice_set, ◌||◌, bytes_eq}
+use Rattle.std.proofs.Common.{◌≡◌, ℕ, ◌+◌, Bool, true, false, cond, nat_lt, List, [], ◌∷◌, ◌++◌, length, Option, None, Some, is_some, Result, Ok, Err, refl, ap, sym, ◌∙◌, slice_set, ◌||◌, bytes_eq, rules}
 use Rattle.mx_asm.proofs.Words.{result_unwrap_or, list_any-append, Value, Wait, Item, predefined_value, NameFault, Twice, Predefined, NameTooLong, NameTable, Naming, complete_form, value_in, define_answer, with_symbol, waits_for, waits_for_others, value-inserted, not-some, Label, Name, Local, Effect, Placed, Answer, Known, no_targets, symbol_form, StatementTree, encoding, AsmFault, Refused, Head, Sight, outline, waits_in, with_label, with_effect, known_behind, known_with, known_after, fixes, awaited_value, waiting_for, waiting_at, onto, moved, byte_items, head_at_fixes, with_bytes, statement_items, statement_head, sight_items, sight_head, refusal_of, name_refusal, name_fault, label_fault, fault_behind, fault_with, statement_fault, Assembly, Taken, naming_of, labelled, symbol_label, symbol_defined, with_local, taken_items, taken_label, taken_with, statement_taken}
 use Rattle.mx_word.specs.declared.waits.Awaited.TheVariants as awaited
 use Rattle.mx_stmt.specs.declared.placed.Effect.TheVariants as effect
@@ -151,30 +151,21 @@ module _ (k : Known) (h : Head) (before : List Sight) (l : ℕ) (st : StatementT
 -- ---- the symbols are the labels
 
 is-some-cond : (b : Bool) (value : Value) (o : Option Value) → is_some (cond b (Some value) o) ≡ (is_some o || b)
-is-some-cond true value None = refl
-is-some-cond true value (Some other) = refl
-is-some-cond false value o = sym (or-false (is_some o))
+is-some-cond b value o = search (rules, or-false)
 
 symbol-more : (names : NameTable) (text full : List ℕ) (value : Value) → is_some (value_in (complete_form names.prefix text) names.symbols) ≡ false →
     is_some (value_in full (with_symbol names (complete_form names.prefix text) value).symbols) ≡ (is_some (value_in full names.symbols) || bytes_eq full (complete_form names.prefix text))
-symbol-more names text full value new =
-    ap is_some (value-inserted (record { name = complete_form names.prefix text; value = value; serial = length names.symbols + 1 }) names.symbols full (not-some _ new))
-    ∙ is-some-cond (bytes_eq full (complete_form names.prefix text)) value (value_in full names.symbols)
+symbol-more names text full value new = search (rules, value-inserted, not-some, is-some-cond)
 
 name-new-by : (names : NameTable) (text full : List ℕ) (answer : Result (Unit {0}) NameFault) → symbol_form names text ≡ Ok full → define_answer names full ≡ answer → name_refusal answer ≡ None → is_some (value_in (complete_form names.prefix text) names.symbols) ≡ false
-name-new-by names text full (Err fault) form told none = absurd (cc)
-name-new-by names text full (Ok u) form told none = ap (λ f. is_some (value_in f names.symbols)) (sym (form-is names text full form)) ∙ absent names full u told
+name-new-by names text full answer h1 h2 h3 = search (rules, form-is, absent)
 
 pub name-new : (names : NameTable) (text : List ℕ) (r : Result (List ℕ) NameFault) → symbol_form names text ≡ r → name_fault names r ≡ None → is_some (value_in (complete_form names.prefix text) names.symbols) ≡ false
-name-new names text (Err fault) form none = absurd (cc)
-name-new names text (Ok full) form none = name-new-by names text full (define_answer names full) form refl none
+name-new names text r h1 h2 = search (rules, name-new-by)
 
 label-more : (names : NameTable) (label : Option Label) (value : Option Value) (full : List ℕ) → HasLabel label value → label_fault names label ≡ None →
     is_some (value_in full (with_label names label value).symbols) ≡ (is_some (value_in full names.symbols) || settled_by names label (awaited.Name full))
-label-more names None (Some value) full has none = absurd has
-label-more names (Some label) None full has none = absurd has
-label-more names (Some (Name text)) (Some value) full has none = symbol-more names text full value (name-new names text (symbol_form names text) refl none)
-label-more names label value full has none = sym (or-false _)
+label-more names label value full h1 h2 = search (rules, symbol-more, name-new, or-false)
 
 pub effect-symbols : (k : Known) (e : Effect) → (with_effect k e).names.symbols ≡ k.names.symbols
 effect-symbols k effect.Plain = refl

@@ -1,8 +1,8 @@
 -- The references that still wait behind statements: those that neither their own statement nor a later one settles.
-use Rattle.std.proofs.Common.{◌≡◌, ℕ, Bool, false, not, List, [], ◌∷◌, ◌++◌, Option, None, Some, refl, ap, sym, ◌∙◌, append_assoc, append-nil, ◌&&◌, ◌||◌}
+use Rattle.std.proofs.Common.{◌≡◌, ℕ, Bool, false, not, List, [], ◌∷◌, ◌++◌, Option, None, Some, refl, ap, sym, ◌∙◌, append_assoc, append-nil, ◌&&◌, ◌||◌, rules}
 use Rattle.mx_asm.proofs.Words.{filter, list_any, filter-append, list_any-append, Awaited, Wait, same_awaited, NameTable, complete_form, waits_for_others, Label, Name, Local, Sight, outline, waits_in}
 use Rattle.mx_word.specs.declared.waits.Awaited.TheVariants as awaited
-use Rattle.mx_asm.proofs.Filters.{filter-same, filter-all, filter-filter, not-or, or-false, or_assoc}
+use Rattle.mx_asm.proofs.Filters.{filter-same, filter-all, filter-filter, not-or, or-false}
 
 -- what the label of a statement is waited for as
 abbrev pub settled_by : NameTable → Option Label → Awaited → Bool
@@ -40,15 +40,10 @@ abbrev others : Sight → List Wait → List Wait
 others s waits = filter (λ (w : Wait). not (settles s w.who)) waits
 
 more-test : (t s : Sight) (before : List Sight) (who : Awaited) → not (is_settled t (before ++ s ∷ []) who) ≡ (not (is_settled t before who) && not (settles s who))
-more-test t s before who =
-    ap (λ b. not (settles_own t who || b)) (list_any-append (λ (u : Sight). settles u who) before (s ∷ []) ∙ ap (λ b. any_settles before who || b) (or-false (settles s who)))
-    ∙ ap not (or_assoc (settles_own t who) (any_settles before who) (settles s who))
-    ∙ not-or (is_settled t before who) (settles s who)
+more-test t s before who = search (rules, list_any-append, or-false, not-or)
 
 more-unsettled : (t s : Sight) (before : List Sight) → unsettled t (before ++ s ∷ []) ≡ others s (unsettled t before)
-more-unsettled t s before =
-    filter-same _ _ (λ w. more-test t s before w.who) (waits_in (outline t))
-    ∙ sym (filter-filter (λ (w : Wait). not (is_settled t before w.who)) (λ (w : Wait). not (settles s w.who)) (waits_in (outline t)))
+more-unsettled t s before = search (rules, filter-same, more-test, filter-filter)
 
 pub open-push : (before : List Sight) (s : Sight) → open_waits (before ++ s ∷ []) ≡ others s (open_waits before) ++ filter (λ (w : Wait). not (settles_own s w.who)) (waits_in (outline s))
 unfolding open_waits
@@ -74,24 +69,12 @@ own-local names d (awaited.Name full) = refl
 own-local names d (awaited.Local e) = refl
 
 pub open-unlabelled : (before : List Sight) (s : Sight) → s.statement.label ≡ None → open_waits (before ++ s ∷ []) ≡ open_waits before ++ waits_in (outline s)
-open-unlabelled before s e =
-    open-push before s
-    ∙ ap (λ ws. ws ++ filter (λ (w : Wait). not (settles_own s w.who)) (waits_in (outline s))) (filter-all _ (λ w. ap (λ label. not (settled_by s.known.names label w.who)) e) (open_waits before))
-    ∙ ap (λ ws. open_waits before ++ ws) (filter-all _ (λ w. ap (λ label. not (own_settled s.known.names label w.who)) e ∙ ap not (nothing-settled s.known.names w.who)) (waits_in (outline s)))
+open-unlabelled before s e = search (rules, open-push, filter-all, nothing-settled)
 
 pub open-named : (before : List Sight) (s : Sight) (text : List ℕ) → s.statement.label ≡ Some (Name text) →
     open_waits (before ++ s ∷ []) ≡ waits_for_others (awaited.Name (complete_form s.known.names.prefix text)) (open_waits before ++ waits_in (outline s))
-open-named before s text e =
-    open-push before s
-    ∙ ap (λ ws. ws ++ filter (λ (w : Wait). not (settles_own s w.who)) (waits_in (outline s))) (filter-same _ _ (λ w. ap (λ label. not (settled_by s.known.names label w.who)) e) (open_waits before))
-    ∙ ap (λ ws. waits_for_others (awaited.Name (complete_form s.known.names.prefix text)) (open_waits before) ++ ws)
-    (filter-same _ _ (λ w. ap (λ label. not (own_settled s.known.names label w.who)) e ∙ ap not (own-name s.known.names text w.who)) (waits_in (outline s)))
-    ∙ sym (filter-append (λ (w : Wait). not (same_awaited w.who (awaited.Name (complete_form s.known.names.prefix text)))) (open_waits before) (waits_in (outline s)))
+open-named before s text e = search (rules, open-push, filter-same, own-name, filter-append)
 
 pub open-local : (before : List Sight) (s : Sight) (d : ℕ) → s.statement.label ≡ Some (Local d) →
     open_waits (before ++ s ∷ []) ≡ waits_for_others (awaited.Local d) (open_waits before) ++ waits_in (outline s)
-open-local before s d e =
-    open-push before s
-    ∙ ap (λ ws. ws ++ filter (λ (w : Wait). not (settles_own s w.who)) (waits_in (outline s))) (filter-same _ _ (λ w. ap (λ label. not (settled_by s.known.names label w.who)) e) (open_waits before))
-    ∙ ap (λ ws. waits_for_others (awaited.Local d) (open_waits before) ++ ws)
-    (filter-all _ (λ w. ap (λ label. not (own_settled s.known.names label w.who)) e ∙ ap not (own-local s.known.names d w.who)) (waits_in (outline s)))
+open-local before s d e = search (rules, open-push, filter-same, filter-all, own-local)

@@ -1,6 +1,6 @@
 -- What an operand field asks for is bounded by its bytes.
-use Rattle.std.proofs.Common.{◌≡◌, ℕ, ◌+◌, ◌*◌, ◌^◌, ◌<◌, ◌≤◌, List, [], ◌∷◌, ◌++◌, length, map, sum_by, nat_lt, arith, refl, length-append, Result, Ok, Err}
-use Rattle.mx_asm.proofs.Words.{cond_both, nat_tests, sum_by-cons, sum_by-append, AreBytes, ExprFault, Tree, number, reading, Operand, Operands, Spells, expression, string, none, more, empty, operands, list-read}
+use Rattle.std.proofs.Common.{◌≡◌, ℕ, ◌+◌, ◌*◌, ◌^◌, ◌<◌, ◌≤◌, List, [], ◌∷◌, ◌++◌, length, map, sum_by, arith, refl, length-append, Result, Ok, Err, rules}
+use Rattle.mx_asm.proofs.Words.{nat_tests, sum_by-cons, sum_by-append, AreBytes, ExprFault, Tree, number, reading, Operand, Operands, Spells, none, more, empty, operands, list-read}
 use Rattle.mx_expr.proofs.Fields.{sum-some}
 use Rattle.mx_asm.proofs.FieldBytes.{bytes-cut}
 use Rattle.mx_asm.proofs.Weights.{operand_weight}
@@ -13,8 +13,7 @@ ListWeighs most (Err fault) = Unit {0}
 ListWeighs most (Ok es) = total es ≤ most
 
 operand-most : (e : Tree) → operand_weight e ≤ 28
-operand-most (number n) = cond_both (nat_lt n 256) _ _ (λ x. x ≤ 28) (λ _. omega arith) (λ _. omega arith)
-operand-most e = omega arith
+operand-most e = grind (arith, nat_tests)
 
 byte-weight : (b : ℕ) → b < 2 ^ 8 → operand_weight (number b) ≡ 8
 byte-weight b l = grind (arith, nat_tests)
@@ -25,8 +24,7 @@ string-weighs (b ∷ bytes) behind l = omega (arith, byte-weight b l.0, sum_by-c
 
 -- Each byte adds at most 14: a byte of a string is an operand of 8, and another operand of 28 has a byte and a comma.
 operand-weighs : {part : List ℕ} {fs : List Tree} → Operand part fs → AreBytes part → total fs ≤ 14 * length part + 14
-operand-weighs (expression t e h) l = omega (arith, operand-most e, sum-some h)
-operand-weighs (string bytes h) l = omega (arith, string-weighs bytes (34 ∷ []) l.1, length-append bytes (34 ∷ []))
+operand-weighs h1 h2 = search (rules, operand-most, sum-some, string-weighs, length-append)
 
 operands-weigh : {text : List ℕ} {es : List Tree} → Operands text es → AreBytes text → total es ≤ 14 * length text
 operands-weigh none l = omega arith
@@ -37,9 +35,7 @@ operands-weigh (more t part es fs h g) l =
 
 spelled-weighs : {field : List ℕ} {es : List Tree} → Spells field es → AreBytes field → total es ≤ 14 * length field + 14
 spelled-weighs empty l = omega arith
-spelled-weighs (operands t part es fs h g) l =
-    let cut = bytes-cut t part l in
-    omega (arith, operands-weigh h cut.0, operand-weighs g cut.1, sum_by-append operand_weight es fs, length-append t part)
+spelled-weighs (operands t part es fs h g) l = search (rules, bytes-cut, operands-weigh, operand-weighs, sum_by-append, length-append)
 
 answer-weighs : (field : List ℕ) (r : Result (List Tree) ExprFault) → AreBytes field → reading field ≡ r → ListWeighs (14 * length field + 14) r
 answer-weighs field (Err fault) l is = tt

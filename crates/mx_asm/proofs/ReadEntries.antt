@@ -1,15 +1,12 @@
 -- A statement that is read is the one that is listed.
-use Rattle.std.proofs.Common.{◌≡◌, ℕ, List, Option, None, Some, Result, Ok, Err, refl, ap, subst, sym, ◌∙◌, inl, inr, ◌⊎◌, ◌↔◌, is_some, option_map}
+use Rattle.std.proofs.Common.{◌≡◌, ℕ, List, Option, None, Some, Result, Ok, Err, refl, ap, subst, sym, ◌∙◌, inl, inr, ◌⊎◌, ◌↔◌, is_some, option_map, rules}
 use Rattle.mx_asm.proofs.Words.{Span, Cut, part, item_of, ExprFault, Tree, reading, reading-ok, reading-err, list-read, fault-read, Op, StatementTree, Answer, Fields, IsRead, IsFault, label_of, label_in, fields_of, operation_for, AsmFault, Stmt, Refused, refused, with_operands, with_operation, statement_in, entry_with, entry_of}
 use Rattle.mx_stmt.specs.declared.faults.StmtFault.{StmtFault}
 use Rattle.mx_stmt.specs.Reading.IsFault.{operation, operand_list}
 use Rattle.mx_stmt.proofs.FieldsRead.{same-parsed as same-statement}
 
 pub read-is : (fields : Fields) (line : ℕ) (s : StatementTree) → IsRead fields line s → statement_in fields line ≡ Ok s
-read-is fields line s h =
-    ap (with_operation fields line) h.op_is
-    ∙ ap (with_operands fields line s.op) ((list-read fields.operands s.operands).1 (h.spelled, h.faultless))
-    ∙ ap (λ s. Ok s) (same-statement _ s (sym h.line_is) (sym h.label_is) refl refl)
+read-is fields line s h = search (rules, list-read, same-statement)
 
 pub faulty-is : (fields : Fields) (line : ℕ) (fault : StmtFault) → IsFault fields fault → statement_in fields line ≡ Err fault
 faulty-is fields line fault (operation fault' is) = ap (with_operation fields line) is

@@ -1,9 +1,9 @@
 -- What the statements of a source ask for is bounded by the bytes of the source.
-use Rattle.std.proofs.Common.{◌≡◌, ℕ, ◌+◌, ◌-◌, ◌*◌, ◌^◌, ◌<◌, ◌≤◌, List, [], ◌∷◌, map, length, take, drop, sum_by, bytes_eq, Bool, true, false, cond, nat_lt, ◌⊎◌, inl, inr, Option, Some, None, is_some, Result, Ok, Err, arith, refl, ap, ◌∙◌, subst, ◌==◌, option_map}
-use Rattle.mx_asm.proofs.Words.{AllByRecursion, list_all, slice_split, onto_first, take-length, cond_both, and_parts, ltb-true, ltb-false, length-take, sum_by-cons, bytes_eq-Decides, AreBytes, Span, LineFault, Cut, lines_of, without_empty_last, size_up_to, is_too_far, split, part, cuts_from, InOrder, CutInOrder, statement, too_far, item_of, before, items_of, Statements, ExprFault, Tree, reading, Op, opcode_rows, opcode_names, pseudo_operations, chosen_operations, operations, operation_of, Answer, StatementTree, Fields, label_of, operation_with, operation_for, Entry, with_operands, with_operation, entry_with, entry_of, entries_of, line_entries, source_entries, statements_in, refusal_in, first_fault, entries_refusal, end_refusal, last_line, refusal, sights_of, Line, lines_entries}
+use Rattle.std.proofs.Common.{◌≡◌, ℕ, ◌+◌, ◌-◌, ◌*◌, ◌^◌, ◌<◌, ◌≤◌, List, [], ◌∷◌, map, length, take, drop, sum_by, bytes_eq, Bool, true, false, cond, nat_lt, ◌⊎◌, Option, Some, None, Result, Ok, Err, arith, refl, ap, ◌∙◌, subst, ◌==◌, option_map, rules}
+use Rattle.mx_asm.proofs.Words.{AllByRecursion, list_all, slice_split, take-length, cond_both, and_parts, ltb-true, ltb-false, length-take, sum_by-cons, bytes_eq-Decides, AreBytes, Span, LineFault, Cut, lines_of, without_empty_last, size_up_to, is_too_far, split, part, cuts_from, InOrder, CutInOrder, statement, too_far, item_of, before, items_of, Statements, Op, opcode_rows, opcode_names, pseudo_operations, chosen_operations, operations, operation_of, Answer, StatementTree, Fields, operation_with, Entry, with_operation, entry_with, entry_of, entries_of, line_entries, source_entries, statements_in, refusal_in, first_fault, entries_refusal, end_refusal, last_line, refusal, sights_of, Line, lines_entries, nat_tests, common_steps}
 use Rattle.mx_line.specs.Source.{Item, items_from}
 use Rattle.mx_line.specs.Statements.Statements.{next as one_more}
-use Rattle.mx_line.proofs.StatementLemmas.{past-label, statement-order}
+use Rattle.mx_line.proofs.StatementLemmas.{statement-order}
 use Rattle.mx_line.proofs.RuleLaws.{statement_of-only}
 use Rattle.mx_line.proofs.ListLaws.{list-by-rules}
 use Rattle.mx_ops.specs.Tables.{first_of}
@@ -11,7 +11,7 @@ use Rattle.mx_asm.proofs.Weights.{weight, weights}
 use Rattle.mx_asm.proofs.EndWaits.{both-none}
 use Rattle.mx_asm.proofs.MeaningRead.{part-bytes}
 use Rattle.mx_asm.proofs.MeaningSources.{source-bytes}
-use Rattle.mx_asm.proofs.OperandWeights.{ListWeighs, field_most, field-weighs}
+use Rattle.mx_asm.proofs.OperandWeights.{field_most, field-weighs}
 use Rattle.mx_asm.proofs.StatementRooms.{HasRoom, room-of}
 
 -- ---- the names of operations have at least two bytes
@@ -38,8 +38,7 @@ unfolding operation_of
 name-long name op e = long-found operations name op all-long e
 
 named-long : (labelled : Bool) (name : List ℕ) (r : Option Op) (op : Op) → operation_of name ≡ r → operation_with labelled r ≡ Ok op → 1 < length name
-named-long labelled name None op e h = absurd (cc)
-named-long labelled name (Some other) op e h = name-long name other e
+named-long labelled name r op h1 h2 = search (rules, name-long)
 
 -- ---- what one statement asks for
 
@@ -47,31 +46,12 @@ abbrev EntryMost : List ℕ → List ℕ → Entry → Type 0
 EntryMost op operands (Err refused) = Unit {0}
 EntryMost op operands (Ok s) = (1 < length op) × (weight s ≤ 40 + field_most operands)
 
-operands-most : (fields : Fields) (line : ℕ) (op : Op) (r : Result (List Tree) ExprFault) → 1 < length fields.op → ListWeighs (field_most fields.operands) r →
-    EntryMost fields.op fields.operands (entry_with line (with_operands fields line op r))
-operands-most fields line op (Err fault) l h = tt
-operands-most fields line op (Ok operands) l h = (l, omega (arith, h))
-
 operation-most : (fields : Fields) (line : ℕ) (r : Answer Op) → ((op : Op) → r ≡ Ok op → 1 < length fields.op) → AreBytes fields.operands →
     EntryMost fields.op fields.operands (entry_with line (with_operation fields line r))
-operation-most fields line (Err fault) l h = tt
-operation-most fields line (Ok op) l h = operands-most fields line op (reading fields.operands) (l op refl) (field-weighs fields.operands h)
+operation-most fields line r h1 h2 = grind (arith, nat_tests, field-weighs)
 
 entry-most : (line : ℕ) (label : Option (List ℕ)) (op operands : List ℕ) → AreBytes operands → EntryMost op operands (entry_of (statement line label op operands))
-entry-most line label op operands h =
-    operation-most (record { label = option_map label_of label; op = op; operands = operands }) line (operation_for (is_some (option_map label_of label)) op)
-    (λ o is. named-long (is_some (option_map label_of label)) op (operation_of op) o refl is) h
-
--- A statement takes a byte before its opcode, two of the opcode, one before a field that is not empty, the field, and
--- the `;` or the end of the line.
-statement-fits : (place end : ℕ) (cut : Cut) (op operands : List ℕ) (next : ℕ) → InOrder place end cut → HasRoom end cut → 1 < length op → length op + cut.op.from ≤ cut.op.to →
-    length operands + cut.operands.from ≤ cut.operands.to → cut.operands.to < next → 40 + field_most operands + 15 * place ≤ 15 * next
-statement-fits place end cut op [] next o r two a b l = omega (arith, past-label place cut.label cut.op.from o.label, two, a, o.gap, o.operands, l)
-statement-fits place end cut op (c ∷ cs) next o r two a b l = by r.gap
-  where
-    by : (cut.operands.to ≡ cut.operands.from) ⊎ (cut.op.to < cut.operands.from) → 40 + field_most (c ∷ cs) + 15 * place ≤ 15 * next
-    by (inl same) = absurd (omega (arith, same, b))
-    by (inr less) = omega (arith, past-label place cut.label cut.op.from o.label, two, a, less, b, l)
+entry-most line label op operands h = search (rules, operation-most, named-long)
 
 -- ---- the statements of a line
 
@@ -86,22 +66,7 @@ part-few line s h = omega (arith, h, length-take (s.to - s.from) (drop s.from li
 next-fits : (line : List ℕ) (place : ℕ) (cut : Cut) (op operands : List ℕ) (entry : Entry) (rest : List StatementTree) → InOrder place (length line) cut → HasRoom (length line) cut →
     length op + cut.op.from ≤ cut.op.to → length operands + cut.operands.from ≤ cut.operands.to → EntryMost op operands entry → Fits line cut.next (weights rest) →
     (entries : List Entry) → statements_in entries ≡ rest → Fits line place (weights (statements_in (entry ∷ entries)))
-next-fits line place cut op operands (Err refused) rest o r a b m f entries same =
-    record { bounded = omega (arith, past-label place cut.label cut.op.from o.label, o.op, o.gap, o.operands, o.next, o.within); none = λ l. refl }
-next-fits line place cut op operands (Ok s) rest o r a b m f entries same = record {
-  bounded = by r.last;
-  none = λ l. absurd (omega (arith, l, past-label place cut.label cut.op.from o.label, o.op, o.gap, o.operands, o.next, o.within));
-}
-  where
-    sums : weights (s ∷ statements_in entries) ≡ weight s + weights rest
-    sums = sum_by-cons weight s (statements_in entries) ∙ ap (λ ss. weight s + weights ss) same
-
-    by : (cut.operands.to < cut.next) ⊎ (cut.next ≡ length line) → weights (s ∷ statements_in entries) + 15 * place ≤ 15 * (length line + 1)
-    by (inl less) = omega (arith, sums, m.1, f.bounded, statement-fits place (length line) cut op operands cut.next o r m.0 a b less)
-    by (inr last) =
-        let after : cut.operands.to < length line + 1 = omega (arith, o.next, last) in
-        let nothing : weights rest ≡ 0 = f.none (omega (arith, last)) in
-        omega (arith, sums, m.1, nothing, statement-fits place (length line) cut op operands (length line + 1) o r m.0 a b after)
+next-fits line place cut op operands entry rest h1 h2 h3 h4 h5 h6 entries h7 = grind (arith, common_steps, nat_tests)
 
 cuts-fit : (n : ℕ) (line : List ℕ) (place : ℕ) (cuts : List (Result Cut LineFault)) → AreBytes line → place ≤ length line → Statements line place cuts →
     Fits line place (weights (statements_in (entries_of (map (item_of n line) cuts))))
@@ -146,17 +111,9 @@ items-weight all n (line ∷ lines) h = cond_both (is_too_far all n) _ _ (λ x. 
 
 -- ---- the bytes of a source and those of its lines
 
-onto-room : (b : ℕ) (parts : List (List ℕ)) → 0 < room parts → room (onto_first b parts) ≡ room parts + 1
-onto-room b [] l = absurd (omega (arith, l))
-onto-room b (part ∷ parts) l = omega (arith, sum_by-cons with_newline part parts, sum_by-cons with_newline (b ∷ part) parts)
-
 parts-room : (f : ℕ → Bool) (source : List ℕ) → room (slice_split f source) ≡ length source + 1
 parts-room f [] = omega arith
-parts-room f (b ∷ source) = by (f b) (parts-room f source)
-  where
-    by : (c : Bool) → room (slice_split f source) ≡ length source + 1 → room (cond c ([] ∷ slice_split f source) (onto_first b (slice_split f source))) ≡ length (b ∷ source) + 1
-    by true rest = omega (arith, rest, sum_by-cons with_newline [] (slice_split f source))
-    by false rest = omega (arith, rest, onto-room b (slice_split f source) (omega (arith, rest)))
+parts-room f (b ∷ source) = grind (arith, nat_tests, sum_by-cons with_newline [] (slice_split f source), parts-room f source)
 
 -- without an empty last piece there is a newline less at most
 record Nearly (a b : ℕ) : Type 0 where
@@ -167,11 +124,7 @@ last-room : (lines : List (List ℕ)) → Nearly (room (without_empty_last lines
 last-room [] = record { most = omega arith; least = omega arith }
 last-room ([] ∷ []) = record { most = omega arith; least = omega arith }
 last-room ((b ∷ bs) ∷ []) = record { most = omega arith; least = omega arith }
-last-room (line ∷ next ∷ lines) =
-    let rest = last-room (next ∷ lines) in
-    let a = sum_by-cons with_newline line (without_empty_last (next ∷ lines)) in
-    let b = sum_by-cons with_newline line (next ∷ lines) in
-    record { most = omega (arith, rest.most, a, b); least = omega (arith, rest.least, a, b) }
+last-room (line ∷ next ∷ lines) = search (rules, sum_by-cons, last-room (next ∷ lines))
 
 lines-room : (source : List ℕ) → Nearly (room (lines_of source)) (length source + 1)
 unfolding lines_of split
@@ -181,28 +134,20 @@ lines-room source = subst (Nearly (room (lines_of source))) (parts-room (λ b. b
 
 -- the statements of a source of bytes ask for at most 15 times its bytes, and 15
 pub source-weights : (source : List ℕ) → AreBytes source → weights (statements_in (source_entries source)) ≤ 15 * (length source + 1)
-source-weights source h =
-    omega (arith, items-weight (lines_of source) 1 (lines_of source) (source-bytes source h), (lines-room source).most)
+source-weights source h = search (rules, items-weight, source-bytes, lines-room)
 
 -- Where nothing is refused, no line is too far.
 later-none : (a b : List Item) → refusal_in (entries_of (before a b)) ≡ None → refusal_in (entries_of b) ≡ None
 later-none [] b h = h
-later-none (statement line label op operands ∷ items) b h = by (entry_of (statement line label op operands)) h (later-none items b)
-  where
-    by : (e : Entry) → refusal_in (e ∷ entries_of (before items b)) ≡ None → (refusal_in (entries_of (before items b)) ≡ None → refusal_in (entries_of b) ≡ None) → refusal_in (entries_of b) ≡ None
-    by (Err refused) h rest = absurd (cc)
-    by (Ok s) h rest = rest h
+later-none (statement line label op operands ∷ items) b h = search (rules, later-none items b)
 later-none a b h = absurd (cc)
 
 near-by : (n : ℕ) (b : Bool) (items : List Item) → refusal_in (entries_of (cond b (too_far n ∷ []) items)) ≡ None → (b ≡ false) × (refusal_in (entries_of items) ≡ None)
-near-by n true items h = absurd (cc)
-near-by n false items h = (refl, h)
+near-by n b items h = grind (arith, nat_tests)
 
 items-near : (all : List Line) (n k : ℕ) (line : Line) (lines : List Line) → n + length lines ≡ k → refusal_in (entries_of (items_from all n (line ∷ lines))) ≡ None → is_too_far all k ≡ false
 unfolding items_from
-items-near all n k line [] e h =
-    let same : n ≡ k = omega (arith, e) in
-    subst (λ i. is_too_far all i ≡ false) same (near-by n (is_too_far all n) (before (items_of n line) []) h).0
+items-near all n k line [] e h = grind (arith, nat_tests)
 items-near all n k line (next ∷ lines) e h =
     items-near all (n + 1) k next lines (omega (arith, e))
     (later-none (items_of n line) (items_from all (n + 1) (next ∷ lines)) (near-by n (is_too_far all n) (before (items_of n line) (items_from all (n + 1) (next ∷ lines))) h).1)

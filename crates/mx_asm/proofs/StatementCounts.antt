@@ -1,15 +1,14 @@
 -- A source has few statements: each takes a byte or the end of its line, and the lines before one that is too far have at
 -- most 2^22 bytes with the newlines between them.
-use Rattle.std.proofs.Common.{◌≡◌, ◌<◌, ◌≤◌, ℕ, zero, suc, ◌+◌, ◌-◌, ◌^◌, Bool, true, false, cond, List, [], ◌∷◌, ◌++◌, length, sum_by, Option, Some, Result, Ok, refl, sym, ap, ◌∙◌, arith, append_assoc, length-append}
-use Rattle.mx_asm.proofs.Words.{ltb-false, sum_by-append, length-map, LineFault, Cut, size_up_to, is_too_far, statement_of, list_with, cuts_within, cuts_from, statement, too_far, item_of, before, items_of, Entry, entry_of, statements_in, Line, lines_entries}
+use Rattle.std.proofs.Common.{◌≡◌, ◌<◌, ◌≤◌, ℕ, zero, suc, ◌+◌, ◌-◌, ◌^◌, Bool, true, false, cond, List, [], ◌∷◌, ◌++◌, length, sum_by, Option, Result, Ok, refl, sym, ap, ◌∙◌, arith, append_assoc, length-append, rules}
+use Rattle.mx_asm.proofs.Words.{ltb-false, length-map, LineFault, Cut, size_up_to, is_too_far, statement_of, list_with, cuts_within, statement, too_far, before, items_of, Entry, entry_of, statements_in, Line, lines_entries, nat_tests, common_steps}
 use Rattle.mx_line.specs.Source.{Item, items_from}
 use Rattle.mx_line.proofs.LineLemmas.{size-next}
 
 -- ---- a line
 
 list-few : (most : ℕ) (later : ℕ → List (Result Cut LineFault)) (r : Result (Option Cut) LineFault) → ((place : ℕ) → length (later place) ≤ most) → length (list_with later r) ≤ suc most
-list-few most later (Ok (Some cut)) h = let few = h cut.next in omega (arith, few)
-list-few most later r h = omega arith
+list-few most later r h = grind (arith, nat_tests)
 
 cuts-few : (most : ℕ) (line : List ℕ) (place : ℕ) → length (cuts_within most line place) ≤ most
 unfolding cuts_within
@@ -17,10 +16,7 @@ cuts-few zero line place = omega arith
 cuts-few (suc most) line place = list-few most (cuts_within most line) (statement_of line place) (cuts-few most line)
 
 items-of-few : (n : ℕ) (line : List ℕ) → length (items_of n line) ≤ length line + 1
-items-of-few n line =
-    let same = length-map (cuts_from line 0) (item_of n line) in
-    let few = cuts-few (length line + 1 - 0) line 0 in
-    omega (arith, same, few)
+items-of-few n line = search (rules, length-map, cuts-few)
 
 -- ---- a source
 
@@ -33,11 +29,7 @@ abbrev size : List Line → ℕ
 size lines = sum_by length lines + length lines
 
 size-more : (lines : List Line) (line : Line) → size (lines ++ line ∷ []) ≡ size lines + length line + 1
-size-more lines line =
-    let sums = sum_by-append length lines (line ∷ []) in
-    let one : sum_by length (line ∷ []) ≡ length line = omega arith in
-    let counts = length-append lines (line ∷ []) in
-    omega (arith, sums, one, counts)
+size-more lines line = grind (arith, common_steps, nat_tests)
 
 items-few : (all earlier lines : List Line) (n : ℕ) → all ≡ earlier ++ lines → n ≡ length earlier + 1 → size earlier ≤ 2 ^ 22 + 1 → length (items_from all n lines) + size earlier ≤ 2 ^ 22 + 2
 unfolding items_from

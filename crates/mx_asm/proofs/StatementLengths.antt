@@ -1,12 +1,12 @@
 -- The tetras of a statement and the records of its references have at most the weights of its operands and 12 bytes.
-use Rattle.std.proofs.Common.{◌≡◌, ◌<◌, ◌≤◌, ℕ, ◌+◌, ◌-◌, ◌*◌, ◌%◌, ◌^◌, Bool, true, false, cond, List, [], ◌∷◌, ◌++◌, length, Option, None, Some, Ok, Err, unwrap_or, arith, refl, ap, sym, subst, le_of_eq, length-append, length-drop, ◌==◌, nat_lt, sum_by}
-use Rattle.mx_asm.proofs.Words.{cond_both, byte_at, nat_tests, sum_by-cons, Awaited, WaitKind, Octa, Wait, tetra_to_bytes, octa_to_bytes, tetra_from_bytes, Tree, number, name, ahead, unary, Op, Code, Lda, Set, Pseudo, Three, Mem, shapes_of, loaded, Label, Placed, Answer, and_then, Known, Targets, pure_at, known_target, target_by, target_at, reference_of, no_targets, form, form_by, set_form, data_number, low_bytes, datum, with_rest, data_of, data_form, StatementTree, alignment, place_at, known_at_place, tetra_waits, tetra_data, with_data, one_operand, pseudo_form, op_form, encoding, AreSilent, silent-operand, nothing_known, covered, after-gives, gives-value, Gives}
+use Rattle.std.proofs.Common.{◌≡◌, ◌<◌, ◌≤◌, ℕ, ◌+◌, ◌-◌, ◌*◌, ◌%◌, ◌^◌, Bool, false, cond, List, [], ◌∷◌, ◌++◌, length, Option, None, Some, Ok, Err, unwrap_or, arith, refl, ap, sym, subst, length-append, length-drop, ◌==◌, nat_lt, sum_by, rules}
+use Rattle.mx_asm.proofs.Words.{cond_both, nat_tests, sum_by-cons, Awaited, Octa, Wait, octa_to_bytes, Tree, number, name, ahead, unary, Op, Code, Lda, Set, Pseudo, Three, Mem, shapes_of, Label, Placed, Answer, and_then, Known, Targets, pure_at, known_target, target_by, target_at, reference_of, no_targets, form, form_by, set_form, data_number, low_bytes, datum, with_rest, data_of, data_form, StatementTree, alignment, place_at, known_at_place, with_data, one_operand, pseudo_form, op_form, encoding, AreSilent, silent-operand, nothing_known, covered, after-gives, gives-value, Gives, common_steps}
 use Rattle.mx_ops.specs.declared.op.Op.TheVariants.{Pseudo as PseudoOp}
 use Rattle.mx_ops.specs.declared.op.Pseudo.TheVariants as pseudo
 use Rattle.mx_ops.specs.declared.op.Shape.{Shape}
 use Rattle.mx_stmt.specs.Encoding.{with_bytes, with_tetra}
 use Rattle.mx_asm.proofs.Weights.{operand_weight}
-use Rattle.mx_asm.proofs.WrittenLengths.{load_length, load-most, load-tetra, loaded-most, loaded-low, covered-most, covered-whole}
+use Rattle.mx_asm.proofs.WrittenLengths.{load_length, load-most, covered-most}
 
 -- What an answer holds: data, which are bytes and references, and the tetra of an instruction have no name outside their
 -- crate.
@@ -25,8 +25,7 @@ abbrev asked : List Tree → ℕ
 asked operands = sum_by operand_weight operands
 
 weight-least : (e : Tree) → 8 ≤ operand_weight e
-weight-least (number n) = cond_both (nat_lt n 256) _ _ (λ x. 8 ≤ x) (λ _. omega arith) (λ _. omega arith)
-weight-least e = omega arith
+weight-least e = grind (arith, nat_tests)
 
 -- ---- bytes, wydes and tetras
 
@@ -75,28 +74,15 @@ record FitsOctas (operands : List Tree) (bytes : List ℕ) (waits : List Wait) :
 abbrev AreOctas : List Tree → Answer Placing → Type 0
 AreOctas operands a = Gives (λ (d : Placing). FitsOctas operands d.bytes d.waits) a
 
--- an octa as its two tetras
-two-loads : (a b c d e f g h : ℕ) (more : List ℕ) (most : ℕ) → length (loaded (tetra_from_bytes (a ∷ b ∷ c ∷ d ∷ []))) ≤ most → length (loaded (tetra_from_bytes (e ∷ f ∷ g ∷ h ∷ []))) ≤ most →
-    load_length (a ∷ b ∷ c ∷ d ∷ e ∷ f ∷ g ∷ h ∷ more) ≤ most + most + load_length more
-two-loads a b c d e f g h more most high low = omega (arith, high, low, load-tetra a b c d (e ∷ f ∷ g ∷ h ∷ more), load-tetra e f g h more)
-
 octa-load : (n : ℕ) (more : List ℕ) → load_length (low_bytes 8 n ++ more) ≤ 16 + load_length more
-octa-load n more =
-    two-loads (byte_at 7 n) (byte_at 6 n) (byte_at 5 n) (byte_at 4 n) (byte_at 3 n) (byte_at 2 n) (byte_at 1 n) (byte_at 0 n) more 8 (loaded-most _) (loaded-most _)
-
-low-octa : (n : ℕ) (more : List ℕ) → n < 256 → load_length (low_bytes 8 n ++ more) ≤ 8 + load_length more
-low-octa n more low =
-    two-loads (byte_at 7 n) (byte_at 6 n) (byte_at 5 n) (byte_at 4 n) (byte_at 3 n) (byte_at 2 n) (byte_at 1 n) (byte_at 0 n) more 4
-    (le_of_eq (loaded-low (tetra_from_bytes (byte_at 7 n ∷ byte_at 6 n ∷ byte_at 5 n ∷ byte_at 4 n ∷ [])) (omega (arith, low))))
-    (le_of_eq (loaded-low (tetra_from_bytes (byte_at 3 n ∷ byte_at 2 n ∷ byte_at 1 n ∷ byte_at 0 n ∷ [])) (omega (arith, low))))
+octa-load n more = grind (arith, nat_tests)
 
 -- what one operand places has its weight at most
 abbrev IsPaid : ℕ → List ℕ → List Wait → Type 0
 IsPaid most bytes waits = (more : List ℕ) → load_length (bytes ++ more) + 12 * length waits ≤ most + load_length more
 
 number-paid : (n : ℕ) (low : Bool) → nat_lt n 256 ≡ low → IsPaid (cond low 8 28) (low_bytes 8 n) []
-number-paid n true is more = let small : n < 256 = grind (arith, nat_tests) in omega (arith, low-octa n more small)
-number-paid n false is more = omega (arith, octa-load n more)
+number-paid n low h = grind (arith, nat_tests)
 
 -- an operand that may be a reference
 abbrev IsHeavy : Tree → Type 0
@@ -107,10 +93,7 @@ heavy-paid e n waits heavy one more = omega (arith, heavy, one, octa-load n more
 
 joined-octas : (e : Tree) (es : List Tree) (bytes more : List ℕ) (waits later : List Wait) → length bytes ≡ 8 → IsPaid (operand_weight e) bytes waits → FitsOctas es more later →
     FitsOctas (e ∷ es) (bytes ++ more) (waits ++ later)
-joined-octas e es bytes more waits later eight paid h = record {
-  whole = omega (arith, eight, h.whole, length-append bytes more);
-  few = omega (arith, paid more, h.few, length-append waits later, sum_by-cons operand_weight e es);
-}
+joined-octas e es bytes more waits later h1 h2 h3 = grind (arith, common_steps, nat_tests)
 
 module _ (t : Targets) (k : Known) (line : ℕ) where
   abbrev octa_then : ℕ → Option Awaited → Answer ℕ → Answer Placing → Answer Placing
@@ -160,8 +143,7 @@ bytes-fit k label operands d h = cond_both (nat_lt 0x6000_0000_0000_0000 (k.at +
 
 -- the same where tetras are filled
 whole-fit : (k : Known) (label : Option Label) (operands : List Tree) (d : Placing) → k.at % 4 ≡ 0 → length d.bytes % 4 ≡ 0 → load_length d.bytes + 12 * length d.waits ≤ 12 + asked operands → Fits operands (with_bytes k label d)
-whole-fit k label operands d place whole h =
-    bytes-fit k label operands d (subst (λ bytes. load_length bytes + 12 * length d.waits ≤ 12 + asked operands) (sym (covered-whole k.at d.bytes place whole)) h)
+whole-fit k label operands d place whole h = grind (arith, common_steps, nat_tests)
 
 module _ (k : Known) (label : Option Label) (operands : List Tree) where
   small-data : (a : Answer Placing) → AreSmall operands a → Fits operands (with_data k label a)
@@ -177,8 +159,7 @@ module _ (k : Known) (label : Option Label) (operands : List Tree) where
 -- a statement that places nothing
 silent-fits : (k : Known) (operands : List Tree) (a : Answer Placed) → AreSilent k a → Fits operands a
 unfolding AreSilent
-silent-fits k operands (Err fault) h = tt
-silent-fits k operands (Ok p) h = omega (arith, load-most (covered p.start p.bytes), covered-most p.start p.bytes, ap length h.bytes, ap length h.waits)
+silent-fits k operands a h = search (rules, load-most, covered-most)
 
 -- ---- instructions
 
@@ -187,8 +168,7 @@ abbrev HasOperand : List Tree → Answer Instruction → Type 0
 HasOperand operands a = Gives (λ (tetra : Instruction). 8 ≤ asked operands) a
 
 with-operand : (e : Tree) (es : List Tree) (a : Answer Instruction) → HasOperand (e ∷ es) a
-with-operand e es (Err fault) = tt
-with-operand e es (Ok tetra) = omega (arith, weight-least e, sum_by-cons operand_weight e es)
+with-operand e es a = grind (arith, common_steps, nat_tests)
 
 module _ (t : Targets) (k : Known) where
   form-none : (shape : Shape) (code : ℕ) → HasOperand [] (form t k shape code [])
@@ -207,14 +187,8 @@ module _ (t : Targets) (k : Known) where
   set-operands [] = tt
   set-operands (e ∷ es) = with-operand e es (set_form k (e ∷ es))
 
-one-wait : (line place : ℕ) (wait : Option (Awaited × WaitKind)) → length (tetra_waits line place wait) ≤ 1
-one-wait line place None = omega arith
-one-wait line place (Some reference) = omega arith
-
 tetra-fits : (k : Known) (line : ℕ) (label : Option Label) (operands : List Tree) (a : Answer Instruction) → k.at % 4 ≡ 0 → HasOperand operands a → Fits operands (with_tetra k line label a)
-tetra-fits k line label operands a place h =
-    after-gives (λ (tetra : Instruction). 8 ≤ asked operands) (FitsOperands operands) a (λ tetra. with_bytes k label (tetra_data line k.at tetra)) h
-    (λ tetra some. whole-fit k label operands (tetra_data line k.at tetra) place refl (omega (arith, some, one-wait line k.at tetra.wait, load-most (tetra_to_bytes tetra.word))))
+tetra-fits k line label operands a place h = grind (arith, nat_tests)
 
 -- ---- all operations
 

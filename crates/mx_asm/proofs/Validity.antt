@@ -1,7 +1,6 @@
 -- The items of a source that is assembled are those of an object.
-use Rattle.std.proofs.Common.{◌≡◌, ℕ, ◌==◌, Bool, true, false, cond, nat_lt, List, [], ◌∷◌, ◌++◌, map, Option, None, Some, Result, Ok, Err, refl, ap, sym, subst, ◌^◌, codes}
-use Rattle.mx_asm.proofs.Words.{cond_both, AllByRecursion, result_unwrap_or, all-both, Value, Pure, Reg, Wait, WaitKind, Octa, Near, Far, Item, Load, Loc, File, Spec, Pre, Post, Stab, IsMiddle, MayFollow, SpecsEnd, Valid, relative_word, near_reach, far_reach, Answer, lowest_of, Placed, NotMultiple, StatementTree, AsmFault, Refused, Head, statements_in, Sight, outline, final_known, waiting_at, relative_fix, pure_fix, fix_of, with_fix, fixes, awaited_value, moved, onto, fix_items, lowered, covering, told_line, located, lined, byte_items, head_at_fixes, with_bytes, sight_items, sight_head, items_from, opening, closing, main_of, first_of, entries_refusal, end_refusal, last_line, AreFit, lines_entries, entries_items, assembled_with, assembled_lines}
-use Rattle.mx_mmo.specs.declared.items.Item.TheVariants.{Line}
+use Rattle.std.proofs.Common.{◌≡◌, ℕ, ◌==◌, Bool, true, false, cond, nat_lt, List, [], ◌∷◌, ◌++◌, map, Option, Some, Result, Ok, Err, refl, ◌^◌, codes, rules}
+use Rattle.mx_asm.proofs.Words.{cond_both, AllByRecursion, result_unwrap_or, all-both, Value, Wait, WaitKind, Item, Load, File, Spec, Pre, Post, Stab, IsMiddle, MayFollow, SpecsEnd, Valid, Answer, Placed, NotMultiple, StatementTree, AsmFault, Refused, Head, Sight, outline, relative_fix, pure_fix, fix_of, with_fix, fixes, moved, onto, fix_items, byte_items, with_bytes, sight_items, sight_head, items_from, opening, AreFit, assembled_with, assembled_lines}
 use Rattle.mx_asm.specs.Whole.{Line as Text}
 
 -- an item that a statement may give
@@ -31,13 +30,10 @@ relative-inner bits (Err fault) = tt
 relative-inner bits (Ok word) = cond_both (nat_lt word (2 ^ 16)) _ _ IsInner (λ _. tt) (λ _. tt)
 
 pure-inner : (place : ℕ) (kind : WaitKind) (value : ℕ) → IfInnerFix (pure_fix place kind value)
-pure-inner place Octa value = tt
-pure-inner place Near value = relative-inner 16 (relative_word 0 near_reach place value)
-pure-inner place Far value = relative-inner 24 (relative_word 0 far_reach place value)
+pure-inner place kind value = search (rules, relative-inner)
 
 fix-inner : (value : Value) (wait : Wait) → IfInnerFix (fix_of value wait)
-fix-inner (Reg r) wait = tt
-fix-inner (Pure value) wait = pure-inner wait.at wait.kind value
+fix-inner value wait = search (rules, pure-inner)
 
 with-inner : (line from : ℕ) (r : Result Item AsmFault) (later : Result (List Item) Refused) → IfInnerFix r → IfInner later → IfInner (with_fix line from r later)
 with-inner line from (Ok fix) (Ok fixes) h g = (h, g)
@@ -55,48 +51,32 @@ one-inner true i h = tt
 one-inner false i h = (h, tt)
 
 moved-inner : (lambda : ℕ) (value : Value) → AreInner (moved lambda value)
-moved-inner lambda (Reg r) = tt
-moved-inner lambda (Pure value) = one-inner (lambda == value) (Loc value) tt
+moved-inner lambda value = search (rules, one-inner)
 
 onto-inner : (front : List Item) (r : Result (List Item) Refused) → AreInner front → IfInner r → IfInner (onto front r)
-onto-inner front (Err refused) h g = tt
-onto-inner front (Ok items) h g = all-both IsInner front items h g
+onto-inner front r h1 h2 = search (rules, all-both)
 
 fix-items-inner : (lambda line : ℕ) (value : Value) (waits : List Wait) → IfInner (fix_items lambda line value waits)
-fix-items-inner lambda line value [] = tt
-fix-items-inner lambda line value (wait ∷ waits) = onto-inner (moved lambda value) (fixes line value (wait ∷ waits)) (moved-inner lambda value) (fixes-inner line value (wait ∷ waits))
+fix-items-inner lambda line value waits = search (rules, onto-inner, moved-inner, fixes-inner)
 
 loads-inner : (tetras : List ℕ) → AreInner (map Load tetras)
 loads-inner [] = tt
 loads-inner (t ∷ tetras) = (tt, loads-inner tetras)
 
 bytes-inner : (h : Head) (line start : ℕ) (bytes : List ℕ) → AreInner (byte_items h line start bytes)
-bytes-inner h line start [] = tt
-bytes-inner h line start (b ∷ bytes) =
-    all-both IsInner (located h.lambda start ++ lined h.line line) (map Load (covering start (b ∷ bytes)))
-    (all-both IsInner (located h.lambda start) (lined h.line line)
-    (one-inner (lowered h.lambda == lowered start) (Loc (lowered start)) tt)
-    (one-inner (h.line == told_line line) (Line (told_line line)) tt))
-    (loads-inner (covering start (b ∷ bytes)))
+bytes-inner h line start bytes = search (rules, all-both, one-inner, loads-inner)
 
 both-inner : (r : Result (List Item) Refused) (items : List Item) → IfInner r → AreInner items → AreInner (result_unwrap_or (with_bytes r items) [])
-both-inner (Err refused) items h g = tt
-both-inner (Ok fixes) items h g = all-both IsInner fixes items h g
+both-inner r items h1 h2 = search (rules, all-both)
 
 sight-inner : (h : Head) (earlier : List Sight) (s : Sight) (r : Answer Placed) → AreInner (sight_items h earlier s r)
-sight-inner h earlier s (Err fault) = tt
-sight-inner h earlier s (Ok p) =
-    let value = awaited_value p.label in
-    let waits = waiting_at earlier s in
-    both-inner (fix_items h.lambda s.statement.line value waits) (byte_items (head_at_fixes h value waits) s.statement.line p.start p.bytes)
-    (fix-items-inner h.lambda s.statement.line value waits) (bytes-inner (head_at_fixes h value waits) s.statement.line p.start p.bytes)
+sight-inner h earlier s r = search (rules, both-inner, fix-items-inner, bytes-inner)
 
 items-inner : (later earlier : List Sight) (h : Head) → AreInner (items_from h earlier later)
 unfolding items_from
 items-inner [] earlier h = tt
 items-inner (s ∷ later) earlier h =
-    all-both IsInner (sight_items h earlier s (outline s)) (items_from (sight_head h earlier s (outline s)) (earlier ++ s ∷ []) later)
-    (sight-inner h earlier s (outline s)) (items-inner later (earlier ++ s ∷ []) (sight_head h earlier s (outline s)))
+    search (rules, all-both, sight-inner, items-inner later (earlier ++ s ∷ []) (sight_head h earlier s (outline s)))
 
 -- ---- an object
 
@@ -146,13 +126,7 @@ object-valid items g values inner fit = record {
 }
 
 whole-valid : (statements : List StatementTree) (items : List Item) (r : Option Refused) (out : List Item) (trie : List ℕ) → AreInner items → (out, Ok trie) ≡ assembled_with statements items r → AreFit out → Valid out
-whole-valid statements items (Some refused) out trie inner is fit = absurd (let no : ◌≡◌ {A = Result (List ℕ) Refused} (Ok trie) (Err refused) = ap (λ p. p.1) is in cc)
-whole-valid statements items None out trie inner is fit =
-    let k = final_known statements in
-    let same : out ≡ opening ++ items ++ closing k.names k.gregs = ap (λ p. p.0) is in
-    subst Valid (sym same) (object-valid items (lowest_of k.gregs) (k.gregs ++ main_of k.names ∷ []) inner (subst AreFit same fit))
+whole-valid statements items r out trie h1 h2 h3 = search (rules, object-valid)
 
 pub assembled-valid : (lines : List Text) (out : List Item) (trie : List ℕ) → (out, Ok trie) ≡ assembled_lines lines → AreFit out → Valid out
-assembled-valid lines out trie is fit =
-    whole-valid (statements_in (lines_entries lines)) (entries_items (lines_entries lines))
-    (first_of (entries_refusal (lines_entries lines)) (end_refusal (last_line lines) (statements_in (lines_entries lines)))) out trie (items-inner _ [] _) is fit
+assembled-valid lines out trie is fit = search (rules, whole-valid, items-inner)

@@ -1,15 +1,13 @@
 -- The references that wait for a label are those that the two passes name.
-use Rattle.std.proofs.Common.{◌≡◌, ℕ, Bool, true, false, not, cond, List, [], ◌∷◌, ◌++◌, Option, None, Some, refl, ap, sym, ◌∙◌, append_assoc, append-nil, ◌||◌}
-use Rattle.mx_asm.proofs.Words.{list_any, Decides-eqb, filter-append, bytes_eq-Decides, Awaited, Wait, same_awaited, NameTable, waits_for, Label, Name, Local, Sight, outline, waits_in, references, is_local, from_last}
+use Rattle.std.proofs.Common.{◌≡◌, ℕ, Bool, true, false, not, cond, List, [], ◌∷◌, ◌++◌, Option, None, Some, refl, ap, sym, ◌∙◌, append_assoc, append-nil, ◌||◌, rules}
+use Rattle.mx_asm.proofs.Words.{list_any, filter-append, bytes_eq-Decides, Awaited, Wait, same_awaited, NameTable, waits_for, Label, Name, Local, Sight, outline, waits_in, references, is_local, from_last}
 use Rattle.mx_word.specs.declared.waits.Awaited.TheVariants as awaited
 use Rattle.mx_asm.proofs.Filters.{filter-within, filter-without}
 use Rattle.std.proofs.lemmas.Bool.{or_parts as both-false}
 use Rattle.mx_asm.proofs.OpenWaits.{settled_by, settles, any_settles, is_settled, unsettled, open_waits}
 
 pub same-is : (a b : Awaited) → same_awaited a b ≡ true → a ≡ b
-same-is (awaited.Name a) (awaited.Name b) h = ap (λ full. awaited.Name full) ((bytes_eq-Decides a b).0 h)
-same-is (awaited.Local d) (awaited.Local e) h = ap (λ d. awaited.Local d) ((Decides-eqb d e).0 h)
-same-is a b h = absurd (cc)
+same-is a b h = search (rules, bytes_eq-Decides)
 
 pub references-append : (xs ys : List Sight) → references (xs ++ ys) ≡ references xs ++ references ys
 unfolding references

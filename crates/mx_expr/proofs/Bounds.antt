@@ -1,5 +1,5 @@
 -- The bounds: where one is passed, and what it does to reading.
-use Rattle.std.proofs.Common.{◌≡◌, ℕ, ◌+◌, ◌-◌, ◌*◌, ◌^◌, ◌≤◌, List, [], ◌∷◌, ◌++◌, length, Bool, true, false, cond, Option, Some, None, Ok, refl, sym, ap, ◌∙◌, arith, append_assoc, subst, length-append, ◌==◌, ◌&&◌, nat_le}
+use Rattle.std.proofs.Common.{◌≡◌, ℕ, ◌+◌, ◌-◌, ◌*◌, ◌^◌, ◌≤◌, List, [], ◌∷◌, ◌++◌, length, Bool, true, cond, Option, Some, None, Ok, refl, sym, ap, ◌∙◌, arith, append_assoc, subst, length-append, ◌==◌, ◌&&◌, nat_le}
 use Rattle.mx_expr.proofs.Words.{and_parts, eqb-true, leb-true, ExprFault, TooWide, TooDeep, EmptyString, Div, Tree, is_digit, is_hexadecimal, digit_value, Waiting, strong, parenthesis, Mode, operand, decimal, hexadecimal, slash, string, closed, State, passed_bound, too_wide, too_deep, digits_value, Constant, Before, FaultAt, div}
 use Rattle.mx_expr.specs.Spelling.Constant.{decimal as decimal_digits, hexadecimal as hexadecimal_digits}
 use Rattle.mx_expr.specs.Spelling.FaultAt.{too_wide as stands_wide, too_deep as stands_deep, empty_string as stands_empty}
@@ -17,8 +17,7 @@ pub record Passed (field front : List ℕ) (f : ExprFault) : Type 0 where
   pub wide : f ≡ TooWide → (d : ℕ) × (before : List ℕ) × (text : List ℕ) × Before d before × (front ≡ before ++ text) × (place ≡ length before)
 
 some-when : (c : Bool) (x y : ExprFault) → cond c (Some x) None ≡ Some y → (c ≡ true) × (x ≡ y)
-some-when true x y h = (refl, cc)
-some-when false x y h = absurd (cc)
+some-when c x y h = grind arith
 
 deep-passed : (front rest : List ℕ) (d b : ℕ) (f : ExprFault) → Before d front → too_deep d b ≡ Some f → Passed (front ++ b ∷ rest) front f
 deep-passed front rest d b f h e =
@@ -80,8 +79,7 @@ quote-passed front text rest [] es b f part p s e h =
 quote-passed front text rest (x ∷ xs) es b f part p s e h = absurd (cc)
 
 chosen-some : (c : Bool) (o : Option ExprFault) (f : ExprFault) → cond c o None ≡ Some f → (c ≡ true) × (o ≡ Some f)
-chosen-some true o f h = (refl, h)
-chosen-some false o f h = absurd (cc)
+chosen-some c o f h = grind arith
 
 passed-at : (mode : Mode) (front text part rest : List ℕ) (es done : List Tree) (k : List Waiting) (d b : ℕ) (f : ExprFault) → Place front text part es → At mode k d done es part → passed_bound mode d b ≡ Some f → Passed (front ++ b ∷ rest) front f
 passed-at operand front text part rest es done k d b f p a e = deep-passed front rest d b f (subst (Before d) (sym p.spelled) (partial-before text es p.before k d part a.1)) e

@@ -1,6 +1,6 @@
 -- What a state that was reached says of the field: its list, a spelled field that begins so, and a
 -- bound that is passed.
-use Rattle.std.proofs.Common.{◌≡◌, ℕ, List, [], ◌∷◌, ◌++◌, map, Result, Ok, Err, refl, sym, ◌∙◌, arith, append-nil, subst}
+use Rattle.std.proofs.Common.{◌≡◌, ℕ, List, [], ◌∷◌, ◌++◌, map, Result, Ok, Err, refl, sym, ◌∙◌, arith, append-nil, subst, rules}
 use Rattle.mx_expr.proofs.Words.{ExprFault, Syntax, Div, Left, Right, Tree, number, name, here, binary, is_digit, Waiting, Mode, operand, whole, digit, decimal, hash, hexadecimal, quote, character, symbol, slash, less, greater, string, closed, State, with_strong, with_weak, listed, field_end, Primary, Product, Operand, Spells, Begins, div, left, right, constant, place, times, expression, operands}
 use Rattle.mx_expr.specs.Spelling.Constant.{hexadecimal as hexadecimal_digits}
 use Rattle.mx_expr.specs.Spelling.Primary.{character as spelled_character}
@@ -21,8 +21,7 @@ listed-good front text part es d x [] p s = subst (λ t. Spells t (es ++ x ∷ [
 listed-good front text part es d x (w ∷ k) p s = refl
 
 product-list : (front text part : List ℕ) (es : List Tree) (k : List Waiting) (d : ℕ) (e : Tree) → Place front text part es → Plain k → After k d (λ t. Product t e) part → GoodList (listed (with_weak k e) es) front
-product-list front text part es k d e p n a =
-    listed-good front text part es d (with_weak k e).0 (with_weak k e).1 p (subst (λ t. SumIs d t (with_weak k e)) (sym a.spelled) (sum-is k d a.front a.part e a.before n a.shape))
+product-list front text part es k d e p n a = search (rules, listed-good, sum-is)
 
 primary-list : (front text part : List ℕ) (es : List Tree) (k : List Waiting) (d : ℕ) (e : Tree) → Place front text part es → After k d (λ t. Primary t e) part → GoodList (listed (with_weak (with_strong k e).1 (with_strong k e).0) es) front
 primary-list front text part es k d e p a =

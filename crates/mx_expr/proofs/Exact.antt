@@ -1,6 +1,6 @@
 -- What is read is what is spelled, and a fault is the first one.
 use Rattle.std.proofs.Common.{◌≡◌, ℕ, ◌<◌, ◌≤◌, List, [], ◌∷◌, ◌++◌, length, Some, None, Result, Ok, Err, refl, sym, ap, ◌∙◌, arith, append_assoc, subst, length-append, ⊎_elim, inl, inr, ◌⊎◌, ◌↔◌}
-use Rattle.mx_expr.proofs.Words.{cases_lt, ExprFault, Syntax, TooWide, EmptyString, Tree, number, State, Read, passed_bound, steps, field_end, reading_end, reading, start, Spells, Before, Begins, FaultAt, IsFirst, Faultless, IsList, empty, no_front, no_list}
+use Rattle.mx_expr.proofs.Words.{cases_lt, ExprFault, Syntax, TooWide, EmptyString, Tree, number, State, Read, passed_bound, steps, field_end, reading_end, reading, start, Spells, Before, Begins, FaultAt, IsFirst, Faultless, IsList, empty, no_front, no_list, nat_tests}
 use Rattle.mx_expr.proofs.Moves.{move, moves, moves-on}
 use Rattle.mx_expr.proofs.Fields.{free-some, one-list, spelled-free}
 use Rattle.mx_expr.proofs.Holds.{Holds, Good}
@@ -39,23 +39,17 @@ read-through : (field : List ℕ) (t : State) (other : ExprFault) (there : ℕ) 
 read-through field t other there e (front_seen front rest b s h p) =
     absurd (h (shorter (front ++ b ∷ []) rest (subst Begins (s ∙ sym (around front rest b)) (viable field t e))))
 read-through field t other there e (list_seen h p) = (h, p)
-read-through field t other there e (mark_seen m) =
-    let o = front-read start t m.front m.tail (ap (steps start) (sym m.spelled) ∙ e) in
-    let stop = m.stops o.state o.read in
-    absurd (cc)
+read-through field t other there e (mark_seen m) = grind (arith, nat_tests, front-read start t m.front m.tail (ap (steps start) (sym m.spelled) ∙ e))
 
 ends-ok : (r : Read) (list : List Tree) → reading_end r ≡ Ok list → (t : State) × (r ≡ Ok t) × (field_end t.mode t.waiting t.done ≡ Ok list)
-ends-ok (Ok t) list h = (t, refl, h)
-ends-ok (Err f) list h = absurd (cc)
+ends-ok r list h = grind arith
 
 -- a result, by cases
 listed-as : (r : Result (List Tree) ExprFault) (field : List ℕ) (list : List Tree) → GoodList r field → r ≡ Ok list → Spells field list
-listed-as (Ok found) field list g e = let same : found ≡ list = cc in subst (Spells field) same g
-listed-as (Err f) field list g e = absurd (cc)
+listed-as r field list h1 h2 = grind arith
 
 fault-as : (r : Result (List Tree) ExprFault) (field : List ℕ) (f : ExprFault) → GoodList r field → r ≡ Err f → f ≡ Syntax
-fault-as (Ok found) field f g e = absurd (cc)
-fault-as (Err x) field f g e = cc
+fault-as r field f h1 h2 = grind arith
 
 read-ok : (field : List ℕ) (t : State) (list : List Tree) → steps start field ≡ Ok t → field_end t.mode t.waiting t.done ≡ Ok list → Spells field list × Faultless field
 read-ok field t list e h =
@@ -69,7 +63,6 @@ none-at-empty f p (mark_seen m) =
     let short : length m.front ≤ length {A = ℕ} [] = omega (arith, ap length m.spelled, length-append m.front m.tail) in
     let o = front-state m.front m.tail [] [] start (sym m.spelled ∙ refl) short (steps-none start) in
     let stop = m.stops o.1 o.4 in
-    let go = steps-none start in
     absurd (cc)
 
 pub reading-ok : (field : List ℕ) (list : List Tree) → reading field ≡ Ok list → IsList field list
@@ -99,12 +92,10 @@ refused-front field front rest b t f e h (more, list, g) =
     let read : moves start ((front ++ b ∷ []) ++ more) ≡ Err f = ap (moves start) (around front more b) ∙ moves-on start t front (b ∷ more) (steps-moves start t front e) ∙ refused t b more f h in
     let all : Ok list ≡ reading_end (moves start ((front ++ b ∷ []) ++ more)) =
     sym (spelled-free g) ∙ free-some ((front ++ b ∷ []) ++ more) (omega (arith, ap length (around front more b), length-append front (b ∷ more))) in
-    let none : reading_end (moves start ((front ++ b ∷ []) ++ more)) ≡ Err f = ap reading_end read in
     absurd (cc)
 
 good-syntax : (r : Read) (front : List ℕ) (f : ExprFault) → Good r front → r ≡ Err f → f ≡ Syntax
-good-syntax (Ok s) front f g e = absurd (cc)
-good-syntax (Err x) front f g e = cc
+good-syntax r front f h1 h2 = grind arith
 
 not-longer : {X : Type 0} (a b : ℕ) → (a ≤ b → X) → (b < a → X) → X
 not-longer a b f g = ⊎_elim g f (cases_lt b a)
@@ -112,9 +103,7 @@ not-longer a b f g = ⊎_elim g f (cases_lt b a)
 -- a bound before the byte that is refused
 before-refused : (field : List ℕ) (f other : ExprFault) (there : ℕ) (q : Stops start field f) (m : Marked field other there) → steps start field ≡ Err f → length m.front ≤ length q.front → other ≡ f
 before-refused field f other there q m e l =
-    let o = front-state m.front m.tail q.front (q.b ∷ q.rest) q.state (sym m.spelled ∙ q.spelled) l q.read in
-    let stop = m.stops o.1 o.4 in
-    cc
+    grind (arith, nat_tests, front-state m.front m.tail q.front (q.b ∷ q.rest) q.state (sym m.spelled ∙ q.spelled) l q.read)
 
 byte-least : (field : List ℕ) (f : ExprFault) (q : Stops start field f) → steps start field ≡ Err f → f ≡ Syntax → (other : ExprFault) (there : ℕ) → Seen field other there → length q.front ≤ there
 byte-least field f q e s other there (front_seen front rest b w h p) =
@@ -137,8 +126,7 @@ byte-first field f q e h =
 
 -- the first fault, where a byte passes a bound
 good-ok : (r : Read) (front : List ℕ) (t : State) → Good r front → r ≡ Ok t → Holds t front
-good-ok (Ok s) front t g e = let same : s ≡ t = cc in subst (λ x. Holds x front) same g
-good-ok (Err x) front t g e = absurd (cc)
+good-ok r front t h1 h2 = grind arith
 
 bound-begins : (field : List ℕ) (f : ExprFault) (q : Stops start field f) → passed_bound q.state.mode q.state.depth q.b ≡ Some f → Begins (q.front ++ q.b ∷ [])
 bound-begins field f q e =
@@ -189,8 +177,7 @@ bound-first field f q e h =
     }
 
 ends-err : (r : Read) (field : List ℕ) (f : ExprFault) → reading_end r ≡ Err f → ((t : State) × (r ≡ Ok t) × (field_end t.mode t.waiting t.done ≡ Err f)) ⊎ (r ≡ Err f)
-ends-err (Ok t) field f h = inl (t, refl, h)
-ends-err (Err x) field f h = inr (cc)
+ends-err r field f h = grind arith
 
 pub reading-err : (field : List ℕ) (f : ExprFault) → reading field ≡ Err f → IsFirst field f
 reading-err [] f h = absurd (cc)
@@ -207,16 +194,7 @@ reading-err (b ∷ bs) f h =
 
 -- A field has one first fault at most.
 pub one-fault : (field : List ℕ) (f g : ExprFault) → IsFirst field f → IsFirst field g → f ≡ g
-one-fault field f g a b =
-    let up = a.least g b.place b.stands in
-    let down = b.least f a.place a.stands in
-    let same : b.place ≡ a.place = omega (arith, up, down) in
-    let there : FaultAt field g a.place = subst (FaultAt field g) same b.stands in
-    let here : FaultAt field f b.place = subst (FaultAt field f) (sym same) a.stands in
-    ⊎_elim
-    (λ (i : f ≡ Syntax). ⊎_elim (λ (j : g ≡ Syntax). i ∙ sym j) (λ (j : f ≡ g). j) (b.only f here))
-    (λ (i : g ≡ f). sym i)
-    (a.only g there)
+one-fault field f g a b = grind arith
 
 -- ---- reading goes by the grammar
 

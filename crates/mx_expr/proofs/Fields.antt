@@ -1,8 +1,7 @@
 -- What is spelled is read: operands, fields, and what stands before a primary.
-use Rattle.std.proofs.Common.{◌≡◌, ℕ, ◌+◌, ◌<◌, List, [], ◌∷◌, ◌++◌, length, map, Bool, true, false, Some, Result, Ok, refl, sym, ap, ◌∙◌, arith, append_assoc, append-nil, length-append, ◌==◌}
-use Rattle.mx_expr.proofs.Words.{and_parts, not-true, list_all, ExprFault, BinOp, Div, Tree, number, is_no_quote, with_strong, Waiting, sign, strong, weak, parenthesis, Mode, operand, slash, closed, State, with_weak, and_then, field_end, reading_end, start, listed, next_operand, StrongOperator, Product, Sum, Operand, Operands, Spells, Before, mul, div, fraction, rem, left, right, and, primary, times, product, expression, none, more, empty, operands, first}
+use Rattle.std.proofs.Common.{◌≡◌, ℕ, ◌+◌, ◌<◌, List, [], ◌∷◌, ◌++◌, length, map, Bool, true, false, Some, Result, Ok, refl, sym, ap, ◌∙◌, arith, append_assoc, append-nil, length-append, ◌==◌, rules}
+use Rattle.mx_expr.proofs.Words.{and_parts, not-true, list_all, ExprFault, BinOp, Div, Tree, number, is_no_quote, with_strong, Waiting, sign, strong, weak, parenthesis, Mode, operand, slash, closed, State, with_weak, field_end, reading_end, start, listed, next_operand, StrongOperator, Product, Sum, Operand, Operands, Spells, Before, mul, div, fraction, rem, left, right, and, primary, times, expression, none, more, empty, operands, first}
 use Rattle.mx_expr.specs.Reading as reading
-use Rattle.mx_expr.specs.Spelling.Sum.{plus as sum_plus}
 use Rattle.mx_expr.specs.Spelling.Operand.{string}
 use Rattle.mx_expr.specs.Spelling.Before.{sign as before_sign, parenthesis as before_parenthesis, strong as before_strong, weak as before_weak}
 use Rattle.mx_expr.proofs.Moves.{st, move, moves, moves-on, moves-first, moves-none, moves-one, ends, goes-beyond, finish-ends}
@@ -60,20 +59,17 @@ free [] = Ok (number 0 ∷ [])
 free (b ∷ bs) = reading_end (moves start (b ∷ bs))
 
 pub free-some : (xs : List ℕ) → 0 < length xs → free xs ≡ reading_end (moves start xs)
-free-some [] h = absurd (omega arith)
-free-some (b ∷ bs) h = refl
+free-some xs h = grind arith
 
 product-some : {text : List ℕ} {e : Tree} → Product text e → 0 < length text
 product-some (primary t e h) = let head = primary-headed t e h in omega (arith, ap length head.spelled)
 product-some (times t word part op l r h w g) = let some = product-some h in omega (arith, length-append t (word ++ part))
 
 pub sum-some : {text : List ℕ} {e : Tree} → Sum text e → 0 < length text
-sum-some (product t e h) = product-some h
-sum-some (sum_plus t b part op l r h w g) = omega (arith, length-append t (b ∷ part))
+sum-some h = search (rules, product-some, length-append)
 
 operand-some : {part : List ℕ} {fs : List Tree} → Operand part fs → 0 < length part
-operand-some (expression t e h) = sum-some h
-operand-some (string bytes h) = omega arith
+operand-some h = search (rules, sum-some)
 
 pub spelled-free : {field : List ℕ} {list : List Tree} → Spells field list → free field ≡ Ok list
 spelled-free empty = refl
@@ -100,8 +96,7 @@ wants-move (at_slash l k d es) b h = slash-move l k d es b h
 
 pub wants-moves : {s : State} {k : List Waiting} {d : ℕ} {es : List Tree} → Wants s k d es → (text : List ℕ) → Headed text → moves s text ≡ moves (st operand k d es) text
 unfolding moves
-wants-moves {s = s} {k = k} {d = d} {es = es} w text h =
-    ap (moves s) h.spelled ∙ ap (λ r. and_then r (λ t. moves t h.bs)) (wants-move w h.b h.other) ∙ ap (moves (st operand k d es)) (sym h.spelled)
+wants-moves {s = s} {k = k} {d = d} {es = es} w text h = cc (wants-move w h.b h.other)
 
 -- what stands before a primary is read
 pub record Stood (depth : ℕ) (front : List ℕ) : Type 0 where

@@ -1,6 +1,6 @@
 -- What is spelled is read, where constants and parentheses have no bound.
-use Rattle.std.proofs.Common.{◌≡◌, ℕ, ◌+◌, ◌-◌, ◌*◌, List, [], ◌∷◌, ◌++◌, true, false, Some, Ok, refl, sym, ap, ◌∙◌, arith, append_assoc, append-nil, subst, ◌==◌, fold}
-use Rattle.mx_expr.proofs.Words.{list_all, and_parts, nat_tests, UnOp, BinOp, Div, Tree, number, name, back, ahead, here, is_digit, is_hexadecimal, is_letter, is_name_byte, digit_value, Waiting, sign, strong, weak, parenthesis, Mode, operand, whole, slash, with_strong, with_weak, primary_end, and_then, digits_value, Constant, Sign, StrongOperator, WeakOperator, Primary, Product, Sum, plus, mul, div, fraction, rem, left, right, and, add, sub, or, xor, constant, last_label, next_label, place, enclosed, signed, primary, times, product}
+use Rattle.std.proofs.Common.{◌≡◌, ℕ, ◌+◌, ◌-◌, ◌*◌, List, [], ◌∷◌, ◌++◌, true, false, Some, Ok, refl, sym, ap, ◌∙◌, arith, append_assoc, append-nil, subst, ◌==◌, fold, rules}
+use Rattle.mx_expr.proofs.Words.{list_all, and_parts, nat_tests, UnOp, BinOp, Div, Tree, number, name, back, ahead, here, is_digit, is_hexadecimal, is_letter, is_name_byte, digit_value, Waiting, sign, strong, weak, parenthesis, Mode, operand, whole, slash, with_strong, with_weak, primary_end, digits_value, Constant, Sign, StrongOperator, WeakOperator, Primary, Product, Sum, plus, mul, div, fraction, rem, left, right, and, add, sub, or, xor, constant, last_label, next_label, place, enclosed, signed, primary, times, product}
 use Rattle.mx_expr.specs.Reading as reading
 use Rattle.mx_expr.specs.Spelling.Constant.{decimal as decimal_digits, hexadecimal as hexadecimal_digits}
 use Rattle.mx_expr.specs.Spelling.Primary.{character, symbol}
@@ -111,19 +111,13 @@ Level (weak op l ∷ k) = ⊥
 Level (parenthesis ∷ k) = Unit {0}
 
 pub plain-settled : (k : List Waiting) (e : Tree) → Plain k → with_strong k e ≡ (e, k)
-plain-settled (sign op ∷ k) e h = absurd h
-plain-settled (strong op l ∷ k) e h = absurd h
-plain-settled k e h = refl
+plain-settled k e h = grind arith
 
 pub level-plain : (k : List Waiting) → Level k → Plain k
-level-plain [] h = tt
-level-plain (parenthesis ∷ k) h = tt
-level-plain k h = absurd h
+level-plain k h = grind arith
 
 level-summed : (k : List Waiting) (e : Tree) → Level k → with_weak k e ≡ (e, k)
-level-summed [] e h = refl
-level-summed (parenthesis ∷ k) e h = refl
-level-summed k e h = absurd h
+level-summed k e h = grind arith
 
 -- No primary begins with `/`.
 pub record Headed (text : List ℕ) : Type 0 where
@@ -136,8 +130,7 @@ digit-other : (b : ℕ) → is_digit b ≡ true → (b == 47) ≡ false
 digit-other b h = grind (arith, nat_tests)
 
 pub sign-other : (b : ℕ) (op : UnOp) → Sign b op → (b == 47) ≡ false
-sign-other b op plus = refl
-sign-other b op _ = refl
+sign-other b op h = grind arith
 
 pub constant-headed : (text : List ℕ) (n : ℕ) → Constant text n → Headed text
 constant-headed text n (decimal_digits [] some all) = absurd (omega arith)
@@ -145,14 +138,7 @@ constant-headed text n (decimal_digits (b ∷ bs) some all) = record { b = b; bs
 constant-headed text n (hexadecimal_digits digits some all) = record { b = 35; bs = digits; spelled = refl; other = refl }
 
 pub primary-headed : (text : List ℕ) (e : Tree) → Primary text e → Headed text
-primary-headed text e (constant t n h) = constant-headed t n h
-primary-headed text e (character c) = record { b = 39; bs = _; spelled = refl; other = refl }
-primary-headed text e (symbol b t h a) = record { b = b; bs = t; spelled = refl; other = (grind (arith, nat_tests)) }
-primary-headed text e (last_label b h) = record { b = b; bs = _; spelled = refl; other = digit-other b h }
-primary-headed text e (next_label b h) = record { b = b; bs = _; spelled = refl; other = digit-other b h }
-primary-headed text e place = record { b = 64; bs = _; spelled = refl; other = refl }
-primary-headed text e (enclosed t x h) = record { b = 40; bs = _; spelled = refl; other = refl }
-primary-headed text e (signed b op t x s h) = record { b = b; bs = t; spelled = refl; other = sign-other b op s }
+primary-headed text e h = search (rules, constant-headed, digit-other, sign-other)
 
 pub sign-step : (b : ℕ) (op : UnOp) (k : List Waiting) (d : ℕ) (es : List Tree) → Sign b op → move (st operand k d es) b ≡ Ok (st operand (sign op ∷ k) d es)
 sign-step b op k d es plus = refl
@@ -164,10 +150,7 @@ slash-move l k d es b h = rw h refl
 
 slash-read : (l : Tree) (k : List Waiting) (d : ℕ) (es : List Tree) (part : List ℕ) → Headed part → moves (st (slash l) k d es) part ≡ moves (st operand (strong Div l ∷ k) d es) part
 unfolding moves
-slash-read l k d es part h =
-    ap (moves (st (slash l) k d es)) h.spelled
-    ∙ ap (λ r. and_then r (λ t. moves t h.bs)) (slash-move l k d es h.b h.other)
-    ∙ ap (moves (st operand (strong Div l ∷ k) d es)) (sym h.spelled)
+slash-read l k d es part h = cc
 
 word-read : (word : List ℕ) (op : BinOp) (mode : Mode) (rest k : List Waiting) (l : Tree) (d : ℕ) (es : List Tree) (part : List ℕ) → StrongOperator word op → ends mode rest ≡ Some (l, k) → Headed part →
     moves (st mode rest d es) (word ++ part) ≡ moves (st operand (strong op l ∷ k) d es) part

@@ -2,15 +2,13 @@
 use Rattle.std.proofs.Common.{◌≡◌, ◌+◌, List, [], ◌∷◌, ◌++◌, Err, refl, ap, ◌∙◌, arith}
 use Rattle.mx_expr.proofs.Words.{ExprFault, Valued, Knowledge, value_through, value_after, nodes_of, nodes_left, FrameHasDigits, AllHaveDigits}
 use Rattle.mx_expr.specs.declared.valuing.Frame.{Frame}
-use Rattle.mx_expr.specs.declared.valuing.Frame.TheVariants.{Operand}
 
 pub finished-push : (k : Knowledge) (fs : List Frame) (f : Frame) (x : Valued) → value_after k (fs ++ f ∷ []) x ≡ value_after k fs (value_through k f x)
 finished-push k [] f x = refl
 finished-push k (e ∷ fs) f x = ap (value_through k e) (finished-push k fs f x)
 
 passed-err : (k : Knowledge) (f : Frame) (e : ExprFault) → value_through k f (Err e) ≡ Err e
-passed-err k (Operand op) e = refl
-passed-err k f e = refl
+passed-err k = grind arith
 
 pub finished-err : (k : Knowledge) (fs : List Frame) (e : ExprFault) → value_after k fs (Err e) ≡ Err e
 finished-err k [] e = refl

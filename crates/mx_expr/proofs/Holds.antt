@@ -1,6 +1,6 @@
 -- What was read up to a state.
 use Rattle.std.proofs.Common.{◌≡◌, ℕ, ◌+◌, ◌-◌, ◌<◌, List, [], ◌∷◌, ◌++◌, length, map, Bool, true, false, Option, Some, Ok, Err, refl, sym, ap, ◌∙◌, arith, append_assoc, append-nil, subst, ◌==◌}
-use Rattle.mx_expr.proofs.Words.{list_all, cond_both, eqb-true, Syntax, UnOp, BinOp, Mul, Rem, And, Add, Sub, Or, Xor, Tree, number, here, is_digit, is_hexadecimal, is_letter, is_name_byte, is_no_quote, digit_value, with_strong, with_weak, Waiting, sign, strong, weak, parenthesis, Mode, operand, whole, digit, decimal, hash, hexadecimal, quote, character, symbol, slash, less, greater, string, closed, State, Read, primary_start, mark_start, string_start, primary_end, weakly, listed, next_operand, weakly_or_end, strongly, after, beyond, digits_value, Sign, StrongOperator, WeakOperator, Primary, Product, Sum, Operands, plus, minus, register, mul, rem, and, add, sub, or, xor, place, expression}
+use Rattle.mx_expr.proofs.Words.{list_all, cond_both, eqb-true, Syntax, UnOp, BinOp, Mul, Rem, And, Add, Sub, Or, Xor, Tree, number, here, is_digit, is_hexadecimal, is_letter, is_name_byte, is_no_quote, digit_value, with_strong, with_weak, Waiting, strong, parenthesis, Mode, operand, whole, digit, decimal, hash, hexadecimal, quote, character, symbol, slash, less, greater, string, closed, State, Read, primary_start, mark_start, string_start, primary_end, weakly, listed, next_operand, weakly_or_end, strongly, after, beyond, digits_value, Sign, StrongOperator, WeakOperator, Primary, Product, Sum, Operands, plus, minus, register, mul, rem, and, add, sub, or, xor, place, expression, nat_tests, common_steps}
 use Rattle.mx_expr.specs.declared.tree.UnOp.TheVariants.{Plus, Minus, Not, Register}
 use Rattle.mx_expr.specs.Reading.{signed, enclosed}
 use Rattle.mx_expr.specs.Spelling.Sign.{not as not_sign}
@@ -109,20 +109,14 @@ begun k d Shape text b h o = record { front = text; part = b ∷ []; before = h;
 
 -- a primary that is complete
 pub completes : (front text part : List ℕ) (es : List Tree) (k : List Waiting) (d : ℕ) (e : Tree) → Place front text part es → After k d (λ t. Primary t e) part → Good (primary_end e k d es) front
-completes front text part es k d e p a =
-    let s = settle-is k d a.front a.part e a.before a.shape in
-    holds front text part es es (whole (with_strong k e).0) (with_strong k e).1 d p (refl, s.plain, record { front = s.front; part = s.part; before = s.before; shape = s.whole; spelled = a.spelled ∙ s.spelled })
+completes front text part es k d e p a = grind (arith, nat_tests, settle-is)
 
 -- where a primary is wanted
 sign-good : (front text part : List ℕ) (es : List Tree) (k : List Waiting) (d b : ℕ) (op : UnOp) → Place front text (part ++ b ∷ []) es → Partial k d part → Sign b op → Good (signed (Some op) k d es) front
-sign-good front text part es k d b op p h s =
-    holds front text (part ++ b ∷ []) es es operand (sign op ∷ k) d p (refl, record { front = part; b = b; operator = s; before = h; spelled = refl })
+sign-good front text part es k d b op p h s = grind arith
 
 quoted-good : (front text part : List ℕ) (es : List Tree) (k : List Waiting) (d : ℕ) → Place front text (part ++ 34 ∷ []) es → Partial k d part → Good (string_start k d es) front
-quoted-good front text part es [] d p h =
-    holds front text (part ++ 34 ∷ []) es es (string true) [] d p
-    (record { nothing = refl; shallow = h.0; bytes = []; all = refl; listed = sym (append-nil es); shape = (ap (λ t. t ++ 34 ∷ []) h.1, refl) })
-quoted-good front text part es (w ∷ k) d p h = refl
+quoted-good front text part es k d h1 h2 = grind (arith, common_steps, nat_tests)
 
 pub at-byte : (front text part : List ℕ) (es : List Tree) (b c : ℕ) → (b == c) ≡ true → Place front text (part ++ b ∷ []) es → Place front text (part ++ c ∷ []) es
 at-byte front text part es b c h p = subst (λ x. Place front text (part ++ x ∷ []) es) (eqb-true b c h) p
@@ -145,26 +139,18 @@ pub value-of-digit : (b : ℕ) → is_digit b ≡ true → b - 48 ≡ digit_valu
 value-of-digit b h = rw h refl
 
 pub wanted-good : (front text part : List ℕ) (es : List Tree) (k : List Waiting) (d b : ℕ) → Place front text (part ++ b ∷ []) es → Partial k d part → Good (primary_start b k d es) front
-wanted-good front text part es k d b p h =
-    let P : Read → Type 0 = λ r. Good r front in
-    cond_both (is_digit b) _ _ P (λ t. holds front text (part ++ b ∷ []) es es (digit (b - 48)) k d p (refl, begun k d (OneDigit (b - 48)) part b h (record { b = b; is = t; value = value-of-digit b t; spelled = refl }))) (λ _.
-    cond_both (is_letter b) _ _ P (λ t. holds front text (part ++ b ∷ []) es es (symbol (b ∷ [])) k d p (refl, begun k d (Letters (b ∷ [])) part b h (record { b = b; bs = []; is = t; all = refl; value = refl; spelled = refl }))) (λ _.
-    mark-good front text part es k d b p h))
+wanted-good front text part es k d b p h = grind (arith, nat_tests, holds, begun, value-of-digit, mark-good)
 
 -- after a product
 strong-good : (front text part : List ℕ) (es : List Tree) (k : List Waiting) (d b : ℕ) (e : Tree) (op : BinOp) → Place front text (part ++ b ∷ []) es → Plain k → After k d (λ t. Product t e) part → StrongOperator (b ∷ []) op →
     Holds (st operand (strong op e ∷ k) d es) front
-strong-good front text part es k d b e op p n a w =
-    holds front text (part ++ b ∷ []) es es operand (strong op e ∷ k) d p
-    (refl, record { plain = n; front = a.front; part = a.part; word = b ∷ []; whole = a.shape; operator = w; before = a.before; spelled = grown a.front a.part (b ∷ []) part a.spelled })
+strong-good front text part es k d b e op p n a w = grind (arith, common_steps, nat_tests)
 
 operating : (k : List Waiting) (d b : ℕ) (e : Tree) (part : List ℕ) → After k d (λ t. Product t e) part → After k d (Operating e b) (part ++ b ∷ [])
 operating k d b e part a = longer k d (λ t. Product t e) (Operating e b) part b a (record { part = a.part; whole = a.shape; spelled = refl })
 
 weakly-good : (front text part : List ℕ) (es : List Tree) (d b : ℕ) (op : BinOp) (q : Tree × List Waiting) → Place front text (part ++ b ∷ []) es → SumIs d part q → WeakOperator b op → Good (weakly op q d es) front
-weakly-good front text part es d b op q p s w =
-    holds front text (part ++ b ∷ []) es es operand (weak op q.0 ∷ q.1) d p
-    (refl, record { level = s.level; front = s.front; part = s.part; b = b; whole = s.whole; operator = w; before = s.before; spelled = grown s.front s.part (b ∷ []) part s.spelled })
+weakly-good front text part es d b op q p s w = grind (arith, common_steps, nat_tests)
 
 enclosed-good : (front text part : List ℕ) (es : List Tree) (d : ℕ) (x : Tree) (k : List Waiting) → Place front text (part ++ 41 ∷ []) es → SumIs d part (x, k) → Good (enclosed (x, k) d es) front
 enclosed-good front text part es d x (parenthesis ∷ k) p s =

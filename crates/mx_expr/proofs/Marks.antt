@@ -1,6 +1,6 @@
 -- Where a bound is passed, reading stops.
-use Rattle.std.proofs.Common.{◌≡◌, ℕ, ◌+◌, ◌-◌, ◌*◌, ◌^◌, ◌<◌, ◌≤◌, List, [], ◌∷◌, ◌++◌, length, Bool, true, false, cond, Some, None, Ok, Err, refl, sym, ap, ◌∙◌, arith, append_assoc, subst, ⊎_elim, inl, inr, ◌==◌, ◌&&◌, nat_le, fold, ◌⊎◌}
-use Rattle.mx_expr.proofs.Words.{list_all, and_parts, le-leb, cases_lt, nat_tests, ExprFault, Syntax, TooWide, TooDeep, EmptyString, Tree, number, is_digit, is_hexadecimal, digit_value, Waiting, Mode, operand, digit, decimal, hash, hexadecimal, slash, string, State, with_strong, step, steps, within, start, digits_value, Constant, Operands, Spells, Before, Begins, FaultAt, no_front, no_list}
+use Rattle.std.proofs.Common.{◌≡◌, ℕ, ◌+◌, ◌-◌, ◌*◌, ◌^◌, ◌<◌, ◌≤◌, List, [], ◌∷◌, ◌++◌, length, Bool, true, false, cond, Some, None, Ok, Err, refl, sym, ap, ◌∙◌, arith, append_assoc, subst, ⊎_elim, inl, inr, ◌==◌, ◌&&◌, nat_le, fold, ◌⊎◌, rules}
+use Rattle.mx_expr.proofs.Words.{list_all, and_parts, le-leb, cases_lt, nat_tests, ExprFault, Syntax, TooWide, TooDeep, EmptyString, Tree, number, is_digit, is_hexadecimal, digit_value, Waiting, Mode, operand, digit, decimal, hash, hexadecimal, slash, string, State, with_strong, step, steps, within, start, digits_value, Constant, Operands, Spells, Before, Begins, FaultAt, no_front, no_list, common_steps}
 use Rattle.mx_expr.specs.Spelling.Constant.{decimal as decimal_digits, hexadecimal as hexadecimal_digits}
 use Rattle.mx_expr.specs.Spelling.FaultAt.{too_wide as stands_wide, too_deep as stands_deep, empty_string as stands_empty}
 use Rattle.mx_expr.proofs.Moves.{st, move, moves, moves-on, moves-one, ends}
@@ -20,11 +20,7 @@ pub record Split (a x b y : List ℕ) : Type 0 where
 pub split : (a x b y : List ℕ) → a ++ x ≡ b ++ y → length a ≤ length b → Split a x b y
 split [] x b y e h = record { between = b; longer = refl; rest = e }
 split (c ∷ a) x [] y e h = absurd (omega arith)
-split (c ∷ a) x (g ∷ b) y e h =
-    let tails : a ++ x ≡ b ++ y = cc in
-    let heads : g ≡ c = cc in
-    let q = split a x b y tails (omega arith) in
-    record { between = q.between; longer = ap (λ t. t ∷ b) heads ∙ ap (λ t. c ∷ t) q.longer; rest = q.rest }
+split (c ∷ a) x (g ∷ b) y e h = search (rules, split a x b y (cc) (omega arith))
 
 -- a byte where a primary is wanted
 step-wants : {s : State} {k : List Waiting} {d : ℕ} {es : List Tree} → Wants s k d es → (b : ℕ) → (b == 40) ≡ false → (b == 47) ≡ false → step s b ≡ move (st operand k d es) b
@@ -74,24 +70,18 @@ empty-stops es rest = steps-first _ (st (string true) [] 0 es) 34 (34 ∷ rest) 
 
 -- what is wanted after a front of a constant is no primary
 wants-ends : {s : State} {k : List Waiting} {d : ℕ} {es : List Tree} → Wants s k d es → ends s.mode s.waiting ≡ None
-wants-ends (at_operand k d es) = refl
-wants-ends (at_slash l k d es) = refl
+wants-ends h = grind arith
 
 abbrev is_hash : Mode → Bool
 is_hash hash = true
 is_hash m = false
 
 wants-hash : {s : State} {k : List Waiting} {d : ℕ} {es : List Tree} → Wants s k d es → is_hash s.mode ≡ false
-wants-hash (at_operand k d es) = refl
-wants-hash (at_slash l k d es) = refl
+wants-hash h = grind arith
 
 all-front : (kind : ℕ → Bool) (a b : List ℕ) → list_all kind (a ++ b) ≡ true → list_all kind a ≡ true
 all-front kind [] b h = refl
-all-front kind (x ∷ xs) b h = step (kind x) _ _ h (λ r. all-front kind xs b r)
-  where
-    step : (t c e : Bool) → (t && c) ≡ true → (c ≡ true → e ≡ true) → (t && e) ≡ true
-    step true c e h f = f h
-    step false c e h f = absurd (cc)
+all-front kind (x ∷ xs) b h = grind (arith, common_steps, nat_tests)
 
 number-front : (text front rest : List ℕ) (n : ℕ) → Constant text n → text ≡ front ++ rest → 0 < length front → ((m : ℕ) × Constant front m) ⊎ (front ≡ 35 ∷ [])
 number-front text front rest n (decimal_digits digits some all) e h = inl (_, decimal_digits front h (all-front is_digit front rest (subst (λ t. list_all is_digit t ≡ true) e all)))

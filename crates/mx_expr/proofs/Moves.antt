@@ -1,6 +1,5 @@
 -- Reading where constants and parentheses have no bound.
-use Rattle.std.proofs.Common.{◌≡◌, ℕ, List, [], ◌∷◌, ◌++◌, false, Option, Some, None, Ok, Err, refl, sym, ap, ◌∙◌, arith, ◌==◌}
-use Rattle.std.proofs.lemmas.Option.{same_Some}
+use Rattle.std.proofs.Common.{◌≡◌, ℕ, List, [], ◌∷◌, ◌++◌, false, Option, Some, None, Ok, refl, sym, ap, ◌∙◌, arith, ◌==◌, rules}
 use Rattle.mx_expr.proofs.Words.{nat_tests, Tree, number, name, is_digit, is_hexadecimal, is_name_byte, Waiting, Mode, operand, whole, digit, decimal, hash, hexadecimal, quote, character, symbol, slash, less, greater, string, closed, State, Read, and_then, next_reading, with_strong, with_weak, after, listed, field_end}
 
 abbrev pub st : Mode → List Waiting → ℕ → List Tree → State
@@ -14,12 +13,10 @@ moves s [] = Ok s
 moves s (b ∷ bs) = and_then (move s b) (λ t. moves t bs)
 
 pub and-then-then : (r : Read) (f g : State → Read) → and_then (and_then r f) g ≡ and_then r (λ s. and_then (f s) g)
-and-then-then (Ok s) f g = refl
-and-then-then (Err e) f g = refl
+and-then-then r = grind arith
 
 pub and-then-same : (r : Read) (f g : State → Read) → ((s : State) → f s ≡ g s) → and_then r f ≡ and_then r g
-and-then-same (Ok s) f g h = h s
-and-then-same (Err e) f g h = refl
+and-then-same r f g h = grind arith
 
 pub moves-append : (s : State) (xs ys : List ℕ) → moves s (xs ++ ys) ≡ and_then (moves s xs) (λ t. moves t ys)
 unfolding moves
@@ -40,11 +37,7 @@ moves-none s = refl
 
 pub moves-one : (s : State) (b : ℕ) → moves s (b ∷ []) ≡ move s b
 unfolding moves
-moves-one s b = one (move s b)
-  where
-    one : (r : Read) → and_then r (λ t. Ok t) ≡ r
-    one (Ok t) = refl
-    one (Err e) = refl
+moves-one s b = grind arith
 
 -- where a primary may end: the product, and what waits
 abbrev pub ends : Mode → List Waiting → Option (Tree × List Waiting)
@@ -77,17 +70,7 @@ no-next b h = grind (arith, nat_tests)
 
 -- A byte that is no letter and no digit ends a primary.
 pub goes-beyond : (mode : Mode) (k : List Waiting) (p : Tree × List Waiting) (d : ℕ) (es : List Tree) (b : ℕ) → ends mode k ≡ Some p → is_name_byte b ≡ false → next_reading mode k d es b ≡ after b p d es
-goes-beyond (whole x) k p d es b e w = ap (λ q. after b q d es) (same_Some _ _ e)
-goes-beyond (digit n) k p d es b e w = rw (no-digit b w, no-last b w, no-next b w) (ap (λ q. after b q d es) (same_Some _ _ e))
-goes-beyond (decimal n) k p d es b e w = rw (no-digit b w) (ap (λ q. after b q d es) (same_Some _ _ e))
-goes-beyond (hexadecimal n) k p d es b e w = rw (no-hexadecimal b w) (ap (λ q. after b q d es) (same_Some _ _ e))
-goes-beyond (symbol text) k p d es b e w = rw w (ap (λ q. after b q d es) (same_Some _ _ e))
-goes-beyond mode k p d es b e w = absurd (cc)
+goes-beyond mode k p d es b h1 h2 = search (rules, no-digit, no-last, no-next, no-hexadecimal)
 
 pub finish-ends : (mode : Mode) (k : List Waiting) (p : Tree × List Waiting) (es : List Tree) → ends mode k ≡ Some p → field_end mode k es ≡ listed (with_weak p.1 p.0) es
-finish-ends (whole x) k p es e = ap (λ (q : Tree × List Waiting). listed (with_weak q.1 q.0) es) (same_Some _ _ e)
-finish-ends (digit n) k p es e = ap (λ (q : Tree × List Waiting). listed (with_weak q.1 q.0) es) (same_Some _ _ e)
-finish-ends (decimal n) k p es e = ap (λ (q : Tree × List Waiting). listed (with_weak q.1 q.0) es) (same_Some _ _ e)
-finish-ends (hexadecimal n) k p es e = ap (λ (q : Tree × List Waiting). listed (with_weak q.1 q.0) es) (same_Some _ _ e)
-finish-ends (symbol text) k p es e = ap (λ (q : Tree × List Waiting). listed (with_weak q.1 q.0) es) (same_Some _ _ e)
-finish-ends mode k p es e = absurd (cc)
+finish-ends mode k p es h = grind arith

@@ -1,6 +1,6 @@
 -- What a list or a fault that was read says of the field.
-use Rattle.std.proofs.Common.{◌≡◌, ◌≢◌, ℕ, List, [], ◌∷◌, ◌++◌, map, Result, Ok, Err, IfOk, sym, ◌∙◌, arith, IfErr}
-use Rattle.mx_expr.proofs.Words.{All, AllByRecursion, ExprFault, OutOfMemory, Tree, number, tree_of, trees_of, HasDigits, reading, Primary, Product, Sum, Operand, Operands, Spells, IsFirst, Faultless, last_label, next_label, enclosed, signed, primary, times, product, expression, none, more, empty, operands}
+use Rattle.std.proofs.Common.{◌≡◌, ◌≢◌, ℕ, List, [], ◌∷◌, ◌++◌, map, Result, Ok, Err, IfOk, sym, ◌∙◌, arith, IfErr, rules}
+use Rattle.mx_expr.proofs.Words.{All, AllByRecursion, ExprFault, OutOfMemory, Tree, number, tree_of, trees_of, HasDigits, reading, Primary, Product, Sum, Operand, Operands, Spells, IsFirst, Faultless, last_label, next_label, enclosed, signed, primary, times, product, expression, none, more}
 use Rattle.std.proofs.lemmas.List.Elements.{All-from_recursion}
 use Rattle.mx_word.specs.Results.{map_ok}
 use Rattle.mx_expr.specs.declared.tree.Expr.{Expr}
@@ -43,20 +43,17 @@ operands-digits none = tt
 operands-digits (more t part es fs h o) = both-digits es fs (operands-digits h) (operand-digits o)
 
 spelled-digits : {field : List ℕ} {list : List Tree} → Spells field list → AllByRecursion HasDigits list
-spelled-digits empty = (tt, tt)
-spelled-digits (operands t part es fs h o) = both-digits es fs (operands-digits h) (operand-digits o)
+spelled-digits h = search (rules, both-digits, operands-digits, operand-digits)
 
 -- a result that is what was read
 abbrev pub IsReading : Result (List Expr) ExprFault → List ℕ → Type 0
 IsReading r field = r ≢ Err OutOfMemory → map_ok trees_of r ≡ reading field
 
 pub parsed-list : (r : Result (List Expr) ExprFault) (field : List ℕ) → IsReading r field → IfOk r (λ es. Spells field (trees_of es) × Faultless field)
-parsed-list (Ok es) field h = reading-ok field (trees_of es) (sym (h (λ e. cc)))
-parsed-list (Err f) field h = tt
+parsed-list r field h = search (rules, reading-ok)
 
 pub parsed-fault : (r : Result (List Expr) ExprFault) (field : List ℕ) → IsReading r field → IfErr r (λ f. f ≢ OutOfMemory → IsFirst field f)
-parsed-fault (Ok es) field h = tt
-parsed-fault (Err f) field h = λ n. reading-err field f (sym (h (λ e. n (cc))))
+parsed-fault r field h = search (rules, reading-err)
 
 same-digits : (es : List Expr) → AllByRecursion HasDigits (trees_of es) → AllByRecursion (λ e. HasDigits (tree_of e)) es
 same-digits [] h = tt

@@ -17,8 +17,7 @@ unfolding steps
 steps-end s xs i h = rw (drop_of_length-le xs h) refl
 
 pub reading-some : (xs : List ℕ) → 0 < length xs → reading xs ≡ reading_end (steps start xs)
-reading-some [] h = absurd (omega arith)
-reading-some (b ∷ bs) h = refl
+reading-some xs h = grind arith
 
 pub reading-stop : (mode : Mode) (k : List Waiting) (depth : ℕ) (done : List Tree) (f : ExprFault) (xs : List ℕ) (i : ℕ) → i < length xs →
     steps (record { mode = mode; waiting = k; depth = depth; done = done }) (drop i xs) ≡ steps start xs → bounded_step mode k depth done (get_or xs i 0) ≡ Err f → reading xs ≡ Err f

@@ -1,7 +1,6 @@
 -- What was read up to a state, with one more byte.
-use Rattle.std.proofs.Common.{◌≡◌, ℕ, ◌+◌, ◌-◌, ◌*◌, List, [], ◌∷◌, ◌++◌, map, Bool, true, false, Ok, Err, refl, sym, ap, ◌∙◌, arith, append_assoc, append-nil, subst, length-append, ◌==◌, ◌&&◌}
-use Rattle.mx_expr.proofs.Words.{cond_both, list_all, BinOp, Div, Fraction, Left, Right, Tree, number, name, back, ahead, is_digit, is_hexadecimal, is_name_byte, is_no_quote, digit_value, Waiting, strong, Mode, operand, whole, digit, decimal, hash, hexadecimal, quote, character, symbol, slash, less, greater, string, closed, State, Read, primary_start, next_reading, in_string, start, and_then, digits_value, StrongOperator, Primary, Operand, div, fraction, left, right, constant, last_label, next_label}
-use Rattle.std.proofs.lemmas.Grind.{fold-append}
+use Rattle.std.proofs.Common.{◌≡◌, ℕ, ◌+◌, ◌-◌, ◌*◌, List, [], ◌∷◌, ◌++◌, map, Bool, true, false, Ok, refl, sym, ap, ◌∙◌, arith, append_assoc, append-nil, subst, ◌==◌, ◌&&◌, rules}
+use Rattle.mx_expr.proofs.Words.{cond_both, list_all, BinOp, Div, Fraction, Left, Right, Tree, number, name, back, ahead, is_digit, is_hexadecimal, is_name_byte, is_no_quote, digit_value, Waiting, strong, Mode, operand, whole, digit, decimal, hash, hexadecimal, quote, character, symbol, slash, less, greater, string, closed, State, Read, primary_start, next_reading, in_string, start, and_then, digits_value, StrongOperator, Primary, Operand, div, fraction, left, right, constant, last_label, next_label, nat_tests, common_steps}
 use Rattle.mx_expr.specs.Spelling.Constant.{decimal as decimal_digits, hexadecimal as hexadecimal_digits}
 use Rattle.mx_expr.specs.Spelling.Primary.{character as spelled_character, symbol as spelled_symbol}
 use Rattle.mx_expr.specs.Spelling.Operand.{string as spelled_string}
@@ -14,25 +13,13 @@ use Rattle.mx_expr.proofs.Holds.{After, Digits, Hashed, OneDigit, Letters, Opera
 -- one more byte of a kind
 pub all-longer : (kind : ℕ → Bool) (t : List ℕ) (b : ℕ) → list_all kind t ≡ true → kind b ≡ true → list_all kind (t ++ b ∷ []) ≡ true
 all-longer kind [] b h k = rw k refl
-all-longer kind (x ∷ xs) b h k = step (kind x) _ _ h (λ r. all-longer kind xs b r k)
-  where
-    step : (a c e : Bool) → (a && c) ≡ true → (c ≡ true → e ≡ true) → (a && e) ≡ true
-    step true c e h f = f h
-    step false c e h f = absurd (cc)
+all-longer kind (x ∷ xs) b h k = grind (arith, common_steps, nat_tests)
 
 pub digits-longer : (kind : ℕ → Bool) (base n b : ℕ) (t : List ℕ) → Digits kind base n t → kind b ≡ true → Digits kind base (n * base + digit_value b) (t ++ b ∷ [])
-digits-longer kind base n b t h k =
-    record {
-      some = omega (arith, length-append t (b ∷ []), h.some);
-      all = all-longer kind t b h.all k;
-      value = ap (λ v. v * base + digit_value b) h.value ∙ sym (fold-append (λ v x. v * base + digit_value x) 0 t (b ∷ []));
-    }
+digits-longer kind base n b t h k = grind (arith, common_steps, nat_tests)
 
 pub one-digit : (n : ℕ) (t : List ℕ) → OneDigit n t → Digits is_digit 10 n t
-one-digit n t h =
-    let all : list_all is_digit (h.b ∷ []) ≡ true = rw h.is refl in
-    let value : n ≡ digits_value 10 (h.b ∷ []) = omega (arith, h.value) in
-    subst (Digits is_digit 10 n) (sym h.spelled) (record { some = omega arith; all = all; value = value })
+one-digit n t h = grind arith
 
 pub decimal-primary : (n : ℕ) (t : List ℕ) → Digits is_digit 10 n t → Primary t (number n)
 decimal-primary n t h = subst (λ m. Primary t (number m)) (sym h.value) (constant t (digits_value 10 t) (decimal_digits t h.some h.all))
@@ -62,17 +49,11 @@ label-ahead n t h = subst (λ x. Primary (x ++ 70 ∷ []) (ahead n)) (sym h.spel
 digits-value : (n b : ℕ) (t : List ℕ) → Digits is_digit 10 n t → is_digit b ≡ true → Digits is_digit 10 (n * 10 + (b - 48)) (t ++ b ∷ [])
 digits-value n b t h k = subst (λ v. Digits is_digit 10 (n * 10 + v) (t ++ b ∷ [])) (sym (value-of-digit b k)) (digits-longer is_digit 10 n b t h k)
 
-first-hexadecimal : (b : ℕ) (t : List ℕ) → is_hexadecimal b ≡ true → t ≡ 35 ∷ [] → Hashed (digit_value b) (t ++ b ∷ [])
-first-hexadecimal b t k e =
-    let all : list_all is_hexadecimal (b ∷ []) ≡ true = rw k refl in
-    record { digits = b ∷ []; are = record { some = omega arith; all = all; value = omega arith }; spelled = ap (λ x. x ++ b ∷ []) e }
-
 more-hexadecimal : (n b : ℕ) (t : List ℕ) → is_hexadecimal b ≡ true → Hashed n t → Hashed (n * 16 + digit_value b) (t ++ b ∷ [])
 more-hexadecimal n b t k h = record { digits = h.digits ++ b ∷ []; are = digits-longer is_hexadecimal 16 n b h.digits h.are k; spelled = ap (λ x. x ++ b ∷ []) h.spelled }
 
 more-letters : (b : ℕ) (word t : List ℕ) → is_name_byte b ≡ true → Letters word t → Letters (word ++ b ∷ []) (t ++ b ∷ [])
-more-letters b word t k h =
-    record { b = h.b; bs = h.bs ++ b ∷ []; is = h.is; all = all-longer is_name_byte h.bs b h.all k; value = ap (λ x. x ++ b ∷ []) h.value; spelled = ap (λ x. x ++ b ∷ []) h.spelled }
+more-letters b word t k h = search (rules, all-longer)
 
 -- an operator of two bytes
 doubled-good : (front text part : List ℕ) (es : List Tree) (k : List Waiting) (d b c : ℕ) (e : Tree) (op : BinOp) → Place front text (part ++ c ∷ []) es → Plain k → After k d (Operating e b) part → StrongOperator (b ∷ c ∷ []) op →
@@ -104,8 +85,7 @@ no-quote : (b : ℕ) → (b == 34) ≡ false → is_no_quote b ≡ true
 no-quote b h = rw h refl
 
 not-empty : (bytes : List ℕ) (b : ℕ) → false ≡ is_empty (bytes ++ b ∷ [])
-not-empty [] b = refl
-not-empty (x ∷ xs) b = refl
+not-empty bytes = grind (arith, common_steps, nat_tests)
 
 map-longer : (bytes : List ℕ) (b : ℕ) → map number (bytes ++ b ∷ []) ≡ map number bytes ++ number b ∷ []
 map-longer [] b = refl
@@ -158,20 +138,14 @@ moved-good (decimal n) front text part es done k d b p a =
     (cond_both (is_digit b) _ _ P
     (λ t. holds front text (part ++ b ∷ []) es es (decimal (n * 10 + (b - 48))) k d p (refl, longer-by k d (Digits is_digit 10 n) (Digits is_digit 10 (n * 10 + (b - 48))) part b (λ x h. digits-value n b x h t) a.1))
     (λ _. beyond-good front text part es k d b (number n) p (reshaped k d (Digits is_digit 10 n) (λ x. Primary x (number n)) part (λ x h. decimal-primary n x h) a.1)))
-moved-good hash front text part es done k d b p a =
-    let P : Read → Type 0 = λ r. Good r front in
-    subst (λ x. Good (next_reading hash k d x b) front) (sym a.0)
-    (cond_both (is_hexadecimal b) _ _ P
-    (λ t. holds front text (part ++ b ∷ []) es es (hexadecimal (digit_value b)) k d p (refl, longer-by k d (λ x. x ≡ 35 ∷ []) (Hashed (digit_value b)) part b (λ x h. first-hexadecimal b x t h) a.1))
-    (λ _. refl))
+moved-good hash front text part es done k d b p a = grind (arith, common_steps, nat_tests)
 moved-good (hexadecimal n) front text part es done k d b p a =
     let P : Read → Type 0 = λ r. Good r front in
     subst (λ x. Good (next_reading (hexadecimal n) k d x b) front) (sym a.0)
     (cond_both (is_hexadecimal b) _ _ P
     (λ t. holds front text (part ++ b ∷ []) es es (hexadecimal (n * 16 + digit_value b)) k d p (refl, longer-by k d (Hashed n) (Hashed (n * 16 + digit_value b)) part b (λ x h. more-hexadecimal n b x t h) a.1))
     (λ _. beyond-good front text part es k d b (number n) p (reshaped k d (Hashed n) (λ x. Primary x (number n)) part (λ x h. hexadecimal-primary n x h) a.1)))
-moved-good quote front text part es done k d b p a =
-    holds front text (part ++ b ∷ []) es done (character b) k d p (a.0, longer-by k d (λ x. x ≡ 39 ∷ []) (λ x. x ≡ 39 ∷ b ∷ []) part b (λ x h. ap (λ y. y ++ b ∷ []) h) a.1)
+moved-good quote front text part es done k d b p a = grind (arith, common_steps, nat_tests)
 moved-good (character c) front text part es done k d b p a =
     let P : Read → Type 0 = λ r. Good r front in
     subst (λ x. Good (next_reading (character c) k d x b) front) (sym a.0)
@@ -199,9 +173,7 @@ moved-good (greater e) front text part es done k d b p a =
     subst (λ x. Good (next_reading (greater e) k d x b) front) (sym a.0)
     (cond_both (b == 62) _ _ P (λ t. doubled-good front text part es k d 62 62 e Right (at-byte front text part es b 62 t p) a.1 a.2 right) (λ _. refl))
 moved-good (string fresh) front text part es done k d b p a = string-good front text part es done k d b fresh p a
-moved-good closed front text part es done k d b p a =
-    let P : Read → Type 0 = λ r. Good r front in
-    cond_both (b == 44) _ _ P (λ t. closed-good front text part es done k d (at-byte front text part es b 44 t p) a) (λ _. refl)
+moved-good closed front text part es done k d b p a = search (rules, closed-good, at-byte)
 
 pub move-good : (s : State) (front : List ℕ) (b : ℕ) → Holds s front → Good (move s b) (front ++ b ∷ [])
 move-good s front b h =
@@ -213,8 +185,7 @@ same-state s t r e f = cc
 
 reached-on : (t : State) (front bs : List ℕ) (b : ℕ) (r : Read) → ((u : State) → Holds u (front ++ b ∷ []) → moves u bs ≡ Ok t → Holds t ((front ++ b ∷ []) ++ bs)) →
     Good r (front ++ b ∷ []) → and_then r (λ u. moves u bs) ≡ Ok t → Holds t (front ++ b ∷ bs)
-reached-on t front bs b (Ok u) f g e = subst (Holds t) (append_assoc front (b ∷ []) bs) (f u g e)
-reached-on t front bs b (Err x) f g e = absurd (cc)
+reached-on t front bs b r h1 h2 h3 = grind (arith, common_steps, nat_tests)
 
 -- Each state that is reached holds what was read.
 pub reached : (s t : State) (front bs : List ℕ) → Holds s front → moves s bs ≡ Ok t → Holds t (front ++ bs)

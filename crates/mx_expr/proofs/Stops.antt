@@ -1,9 +1,7 @@
 -- Where reading stops.
-use Rattle.std.proofs.Common.{◌≡◌, ℕ, ◌+◌, ◌-◌, ◌*◌, ◌^◌, ◌<◌, ◌≤◌, List, [], ◌∷◌, ◌++◌, true, false, Option, Some, None, Ok, Err, refl, sym, ap, ◌∙◌, arith, subst, ⊎_elim, nat_le, fold, ◌⊎◌}
-use Rattle.std.proofs.Common.{inl, inr}
-use Rattle.mx_expr.proofs.Words.{list_all, and_parts, le-leb, cases_lt, nat_tests, ExprFault, TooWide, Tree, is_digit, is_hexadecimal, digit_value, Waiting, decimal, hexadecimal, State, Read, passed_bound, step, steps, within, and_then}
+use Rattle.std.proofs.Common.{◌≡◌, ℕ, ◌+◌, ◌-◌, ◌*◌, ◌^◌, ◌<◌, ◌≤◌, List, [], ◌∷◌, ◌++◌, true, false, Option, Some, None, Ok, Err, refl, sym, ap, ◌∙◌, arith, ⊎_elim, nat_le, fold, ◌⊎◌}
+use Rattle.mx_expr.proofs.Words.{list_all, and_parts, le-leb, cases_lt, nat_tests, ExprFault, TooWide, Tree, is_digit, is_hexadecimal, digit_value, Waiting, decimal, hexadecimal, State, Read, step, steps, within, and_then}
 use Rattle.mx_expr.proofs.Moves.{st, move, moves, and-then-then, and-then-same}
-use Rattle.mx_expr.proofs.Holds.{value-of-digit}
 
 pub steps-append : (s : State) (xs ys : List ℕ) → steps s (xs ++ ys) ≡ and_then (steps s xs) (λ t. steps t ys)
 unfolding steps
@@ -32,24 +30,16 @@ pub record Front (s t : State) (xs ys : List ℕ) : Type 0 where
   pub later : steps state ys ≡ Ok t
 
 front-of : (s t : State) (xs ys : List ℕ) (r : Read) → steps s xs ≡ r → and_then r (λ u. steps u ys) ≡ Ok t → Front s t xs ys
-front-of s t xs ys (Ok u) e h = record { state = u; read = e; later = h }
-front-of s t xs ys (Err f) e h = absurd (cc)
+front-of s t xs ys r h1 h2 = grind arith
 
 pub front-read : (s t : State) (xs ys : List ℕ) → steps s (xs ++ ys) ≡ Ok t → Front s t xs ys
 front-read s t xs ys e = front-of s t xs ys (steps s xs) refl (sym (steps-append s xs ys) ∙ e)
 
--- one byte with its bound
-pub within-ok : (o : Option ExprFault) (r : Read) (t : State) → within o r ≡ Ok t → (o ≡ None) × (r ≡ Ok t)
-within-ok None r t h = (refl, h)
-within-ok (Some f) r t h = absurd (cc)
-
 pub within-err : (o : Option ExprFault) (r : Read) (f : ExprFault) → within o r ≡ Err f → (o ≡ Some f) ⊎ ((o ≡ None) × (r ≡ Err f))
-within-err None r f h = inr (refl, h)
-within-err (Some g) r f h = inl (cc)
+within-err o r f h = grind arith
 
 steps-moves-on : (s t : State) (b : ℕ) (bs : List ℕ) (r : Read) → step s b ≡ r → ((u : State) → steps u bs ≡ Ok t → moves u bs ≡ Ok t) → and_then r (λ u. steps u bs) ≡ Ok t → and_then (move s b) (λ u. moves u bs) ≡ Ok t
-steps-moves-on s t b bs (Ok u) e f h = let w = within-ok (passed_bound s.mode s.depth b) (move s b) u e in ap (λ r. and_then r (λ x. moves x bs)) w.1 ∙ f u h
-steps-moves-on s t b bs (Err g) e f h = absurd (cc)
+steps-moves-on s t b bs r h1 h2 h3 = grind arith
 
 pub steps-moves : (s t : State) (xs : List ℕ) → steps s xs ≡ Ok t → moves s xs ≡ Ok t
 unfolding steps moves
@@ -79,18 +69,13 @@ stops s (b ∷ bs) f h = stops-on s b bs f (step s b) refl (λ u e. stops u bs f
 
 -- a wide constant is refused
 decimal-refused : (n b : ℕ) (k : List Waiting) (d : ℕ) (es : List Tree) → is_digit b ≡ true → 2 ^ 64 ≤ n * 10 + digit_value b → step (st (decimal n) k d es) b ≡ Err TooWide
-decimal-refused n b k d es h w =
-    let t : nat_le (2 ^ 64) (n * 10 + (b - 48)) ≡ true = le-leb (2 ^ 64) (n * 10 + (b - 48)) (omega (arith, w, value-of-digit b h)) in
-    rw (h, t) refl
+decimal-refused n b k d es h w = grind arith
 
 not-wide : (n : ℕ) → n < 2 ^ 64 → nat_le (2 ^ 64) n ≡ false
 not-wide n h = grind (arith, nat_tests)
 
 decimal-taken : (n b : ℕ) (k : List Waiting) (d : ℕ) (es : List Tree) → is_digit b ≡ true → n * 10 + digit_value b < 2 ^ 64 → step (st (decimal n) k d es) b ≡ Ok (st (decimal (n * 10 + digit_value b)) k d es)
-decimal-taken n b k d es h w =
-    let t : nat_le (2 ^ 64) (n * 10 + (b - 48)) ≡ false = not-wide (n * 10 + (b - 48)) (omega (arith, w, value-of-digit b h)) in
-    let e : b - 48 ≡ digit_value b = value-of-digit b h in
-    subst (λ v. step (st (decimal n) k d es) b ≡ Ok (st (decimal (n * 10 + v)) k d es)) e (rw (h, t) refl)
+decimal-taken n b k d es h w = grind arith
 
 pub wide-decimal : (n : ℕ) (bs rest : List ℕ) (k : List Waiting) (d : ℕ) (es : List Tree) → list_all is_digit bs ≡ true → n < 2 ^ 64 → 2 ^ 64 ≤ fold (λ v b. v * 10 + digit_value b) n bs →
     steps (st (decimal n) k d es) (bs ++ rest) ≡ Err TooWide

@@ -1,6 +1,6 @@
 -- An object is read as its items and its trie.
-use Rattle.std.proofs.Common.{◌≡◌, ℕ, ◌+◌, ◌-◌, ◌*◌, ◌/◌, ◌%◌, ◌^◌, ◌<◌, ◌≤◌, length, List, [], ◌∷◌, ◌++◌, take, drop, arith, refl, sym, ◌∙◌, ap, subst, Ok, Some, None, true, length-append, append_assoc, append-nil, add-zero, zero-add, ◌==◌}
-use Rattle.mx_mmo.proofs.Words.{nat_tests, drop_at, take_at, wide_lop, Spells, Spelled, SpecsEnd, first_item, limit, phase_after, tail_of, counted_tail, end_count, ComeInTurn, EndsItem, EndsLast, phase_end, Left, Walk, behind, items_of, SpellsObject, object_of, object_behind, onto, with_tail, Item, Pre, Post, Stab, Object, Phase, Start, Ended}
+use Rattle.std.proofs.Common.{◌≡◌, ℕ, ◌+◌, ◌-◌, ◌*◌, ◌/◌, ◌%◌, ◌^◌, ◌<◌, ◌≤◌, length, List, [], ◌∷◌, ◌++◌, arith, refl, sym, ◌∙◌, ap, subst, Ok, Some, None, length-append, append_assoc, append-nil, add-zero, zero-add, ◌==◌}
+use Rattle.mx_mmo.proofs.Words.{nat_tests, drop_at, wide_lop, Spells, Spelled, SpecsEnd, first_item, limit, phase_after, tail_of, end_count, ComeInTurn, EndsItem, EndsLast, phase_end, Left, Walk, behind, items_of, SpellsObject, object_of, object_behind, onto, with_tail, Item, Pre, Post, Stab, Object, Phase, Start, Ended, common_steps}
 use Rattle.mx_mmo.proofs.Ends.{ends-next}
 use Rattle.mx_mmo.proofs.Phases.{Reaches, placed-reaches}
 use Rattle.mx_mmo.proofs.Pieces.{not-long}
@@ -14,12 +14,10 @@ first-item phase at item bytes rest w sp s e h =
     ∙ ap (λ b. behind item (items_of (phase_after item phase) (at + length bytes) b)) (drop_at bytes rest (length bytes) refl) ∙ ap (behind item) h
 
 specs-rest : (item : Item) (items : List Item) → SpecsEnd (item ∷ items) → SpecsEnd items
-specs-rest item [] s = tt
-specs-rest item (next ∷ items) s = s.1
+specs-rest item items h = grind arith
 
 last-rest : (item : Item) (items : List Item) (rest : List ℕ) → EndsLast (item ∷ items) rest → EndsLast items rest
-last-rest item [] rest e = tt
-last-rest item (next ∷ items) rest e = e
+last-rest item items rest h = grind arith
 
 pub walk-spelled : {items : List Item} {front : List ℕ} (phase : Phase) (at : ℕ) (rest : List ℕ) → Spelled items front → ComeInTurn phase items → SpecsEnd items → EndsLast items rest →
     items_of phase at (front ++ rest) ≡ onto items (items_of (phase_end phase items) (at + length front) rest)
@@ -32,8 +30,7 @@ walk-spelled phase at rest (Spelled.next item items bytes more sp others) s d e 
     ∙ ap (λ (n : ℕ). onto (item ∷ items) (items_of (phase_end phase (item ∷ items)) n rest)) there
 
 ended-first : (at : ℕ) (bytes : List ℕ) → first_item Ended at bytes ≡ Ok None
-ended-first at (a ∷ b ∷ c ∷ d ∷ more) = refl
-ended-first at bytes = refl
+ended-first at bytes = grind arith
 
 -- what is left behind the items of an object
 abbrev pub left_behind : ℕ → List ℕ → Left
@@ -58,19 +55,9 @@ items-read items front rest sp r d e =
 pub end-told : (count : ℕ) → count < 2 ^ 16 → end_count (wide_lop 12 count) ≡ Some count
 end-told count m = ap Some (omega arith)
 
-same-test : (n : ℕ) → (n == n) ≡ true
-same-test n = grind (arith, nat_tests)
-
 pub tail-read : (at count : ℕ) (trie rest : List ℕ) → length trie ≡ 4 * count → count < 2 ^ 16 → rest ≡ trie ++ wide_lop 12 count →
     tail_of Ended at rest ≡ Ok (record { trie = trie; place = at })
-tail-read at count trie rest l m e =
-    let size : length rest ≡ 4 * count + 4 = ap (λ (x : List ℕ). length x) e ∙ length-append trie (wide_lop 12 count) ∙ ap (λ n. n + 4) l in
-    let less : length rest - 4 ≡ length trie = omega (arith, size) in
-    let last : drop (length rest - 4) rest ≡ wide_lop 12 count = ap (λ (n : ℕ). drop n rest) less ∙ ap (drop (length trie)) e ∙ drop_at trie (wide_lop 12 count) (length trie) refl in
-    let front : take (length rest - 4) rest ≡ trie = ap (λ (n : ℕ). take n rest) less ∙ ap (take (length trie)) e ∙ take_at trie (wide_lop 12 count) (length trie) refl in
-    let whole : length rest % 4 ≡ 0 = omega (arith, size) in
-    let number : length rest / 4 - 1 ≡ count = omega (arith, size) in
-    rw (whole, last) (ap (counted_tail at rest) (end-told count m) ∙ rw (number, same-test count, front) refl)
+tail-read at count trie rest l m e = grind (arith, common_steps, nat_tests)
 
 same-object : (object : Object) (place : ℕ) → object.tail.place ≡ place →
     ◌≡◌ {A = Object} (record { items = object.items; tail = record { trie = object.tail.trie; place = place } }) object

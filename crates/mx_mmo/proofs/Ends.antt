@@ -1,6 +1,6 @@
 -- What follows a spec ends it.
 use Rattle.std.proofs.Common.{ℕ, List, ◌∷◌, ◌++◌, arith, refl, sym, subst, append_assoc}
-use Rattle.mx_mmo.proofs.Words.{tetra_to_bytes, MayFollow, SpecsEnd, EndsSpec, IsNoLop, Spells, SpellsAddress, Spelled, EndsItem, EndsLast, Item, Load, Spec}
+use Rattle.mx_mmo.proofs.Words.{MayFollow, SpecsEnd, EndsSpec, Spells, SpellsAddress, Spelled, EndsItem, EndsLast, Item, Spec}
 
 -- an item that is not loaded begins with a lopcode that ends a spec
 ends-before : {item : Item} {bytes : List ℕ} (n : ℕ) (rest : List ℕ) → Spells item bytes → MayFollow (Spec n) item → EndsSpec (bytes ++ rest)
@@ -29,24 +29,9 @@ ends-next item rest Spelled.none s e = e
 ends-next item rest (Spelled.next other items bytes more sp others) s e =
     subst (λ (b : List ℕ). EndsItem item b) (sym (append_assoc bytes more rest)) (ends-by item (more ++ rest) sp s.0)
 
--- and what ends a spec is no item that is loaded
-bare-ends-none : (t : ℕ) (rest : List ℕ) → IsNoLop t → EndsSpec (tetra_to_bytes t ++ rest) → ⊥
-bare-ends-none t rest p e = p.1 (omega (arith, p.0, e.0))
-
-load-ends-none : {t : ℕ} {bytes : List ℕ} (rest : List ℕ) → Spells (Load t) bytes → EndsSpec (bytes ++ rest) → ⊥
-load-ends-none rest (Spells.bare t p) e = bare-ends-none t rest p e
-load-ends-none rest (Spells.quoted t h) e = e.1 (refl, refl, refl)
-
-may-by : (item next : Item) {bytes : List ℕ} (rest : List ℕ) → Spells next bytes → EndsItem item (bytes ++ rest) → MayFollow item next
-may-by (Spec n) (Load t) rest s e = load-ends-none rest s e
-may-by _ _ rest s e = tt
-
 -- one item in front of others
 pub specs-cons : (item : Item) {items : List Item} {front : List ℕ} (rest : List ℕ) → Spelled items front → SpecsEnd items → EndsItem item (front ++ rest) → SpecsEnd (item ∷ items)
-specs-cons item rest Spelled.none s e = tt
-specs-cons item rest (Spelled.next other items bytes more sp others) s e =
-    (may-by item other (more ++ rest) sp (subst (λ (b : List ℕ). EndsItem item b) (append_assoc bytes more rest) e), s)
+specs-cons item rest h1 h2 h3 = grind arith
 
 pub last-cons : (item : Item) {items : List Item} {front : List ℕ} (rest : List ℕ) → Spelled items front → EndsLast items rest → EndsItem item (front ++ rest) → EndsLast (item ∷ items) rest
-last-cons item rest Spelled.none l e = e
-last-cons item rest (Spelled.next other items bytes more sp others) l e = l
+last-cons item rest h1 h2 h3 = grind arith

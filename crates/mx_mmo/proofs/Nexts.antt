@@ -1,6 +1,6 @@
 -- What an answer of a reader says of the items that it still gives.
-use Rattle.std.proofs.Common.{◌≡◌, ℕ, ◌<◌, ◌≤◌, length, List, [], ◌∷◌, ◌++◌, arith, refl, sym, ◌∙◌, ap, subst, Ok, Err, Some, None, length-drop, append_assoc, Result, Option}
-use Rattle.mx_mmo.proofs.Words.{Due, IsWithin, first_item, ReaderModel, next_item, next_due, next_answer, given, tail_of, finished, finish_next, finish_answer, items_of, onto, with_rest, left_of, fed, Item, Tail, MmoFault}
+use Rattle.std.proofs.Common.{◌≡◌, ℕ, ◌<◌, ◌≤◌, length, List, [], ◌∷◌, ◌++◌, arith, refl, sym, ◌∙◌, ap, Ok, Err, Some, None, length-drop, append_assoc, Result}
+use Rattle.mx_mmo.proofs.Words.{Due, IsWithin, first_item, ReaderModel, next_item, next_due, next_answer, given, tail_of, finish_answer, items_of, onto, with_rest, left_of, fed, Item, MmoFault, nat_tests}
 use Rattle.mx_mmo.proofs.Firsts.{first-within}
 use Rattle.mx_mmo.proofs.Walks.{items-more, items-none, items-fault}
 
@@ -28,12 +28,8 @@ gave items m item size well e p q = record {
 
 gave-step : (items : List Item) (m n : ReaderModel) (item : Item) (d : Due) → m.fault ≡ None → first_item m.phase m.at m.rest ≡ d → IsWithin d (length m.rest) →
     (Ok (Some item), n) ≡ next_item m d → Gave items m n item
-gave-step items m n item (Ok (Some (other, size))) well e w h =
-    let is : n ≡ given m other size = reader-is _ _ h in
-    let r : ◌≡◌ {A = Result (Option Item) MmoFault} (Ok (Some item)) (Ok (Some other)) = result-is _ _ h in
-    let it : other ≡ item = cc in
-    subst (λ (o : ReaderModel). Gave items m o item) (sym is) (subst (λ (i : Item). Gave items m (given m other size) i) it (gave items m other size well e w.0 w.1))
-gave-step items m n item d well e w h = let r = result-is _ _ h in absurd (cc)
+gave-step items m n item (Ok (Some (other, size))) well e w h = grind (arith, nat_tests, gave items m other size well e w.0 w.1)
+gave-step items m n item d well e w h = grind arith
 
 next-is : (m : ReaderModel) → m.fault ≡ None → next_answer m ≡ next_item m (first_item m.phase m.at m.rest)
 next-is m well = ap (λ f. next_due f m) well
@@ -43,27 +39,16 @@ next-gave items m n item well h =
     gave-step items m n item (first_item m.phase m.at m.rest) well refl (first-within m.phase m.at m.rest) (h ∙ next-is m well)
 
 none-step : (m n : ReaderModel) (d : Due) → first_item m.phase m.at m.rest ≡ d → (Ok None, n) ≡ next_item m d → (n ≡ m) × (items_of m.phase m.at m.rest ≡ ([], Ok (left_of m)))
-none-step m n (Ok None) e h = (reader-is _ _ h, items-none m.phase m.at m.rest e)
-none-step m n d e h = let r = result-is _ _ h in absurd (cc)
+none-step m n d h1 h2 = grind (arith, nat_tests, items-none)
 
 pub next-none : (m n : ReaderModel) → m.fault ≡ None → (Ok None, n) ≡ next_answer m → (n ≡ m) × (items_of m.phase m.at m.rest ≡ ([], Ok (left_of m)))
 next-none m n well h = none-step m n (first_item m.phase m.at m.rest) refl (h ∙ next-is m well)
 
 fault-step : (m n : ReaderModel) (fault : MmoFault) (d : Due) → first_item m.phase m.at m.rest ≡ d → (Err fault, n) ≡ next_item m d → items_of m.phase m.at m.rest ≡ ([], Err fault)
-fault-step m n fault (Ok None) e h = let r = result-is _ _ h in absurd (cc)
-fault-step m n fault (Err other) e h =
-    let r : ◌≡◌ {A = Result (Option Item) MmoFault} (Err fault) (Err other) = result-is _ _ h in
-    let it : other ≡ fault = cc in items-fault m.phase m.at m.rest fault (e ∙ ap Err it)
-fault-step m n fault (Ok (Some (other, size))) e h = let r = result-is _ _ h in absurd (cc)
+fault-step m n fault d h1 h2 = grind (arith, nat_tests, items-fault)
 
 pub next-fault : (m n : ReaderModel) (fault : MmoFault) → m.fault ≡ None → (Err fault, n) ≡ next_answer m → items_of m.phase m.at m.rest ≡ ([], Err fault)
 next-fault m n fault well h = fault-step m n fault (first_item m.phase m.at m.rest) refl (h ∙ next-is m well)
 
-finish-step : (m n : ReaderModel) (fault : MmoFault) (r : Result Tail MmoFault) → (Err fault, n) ≡ finished m r → r ≡ Err fault
-finish-step m n fault (Ok tail) h = let r = result-is _ _ h in absurd (cc)
-finish-step m n fault (Err other) h =
-    let r : ◌≡◌ {A = Result Tail MmoFault} (Err fault) (Err other) = result-is _ _ h in
-    sym r
-
 pub finish-fault : (m n : ReaderModel) (fault : MmoFault) → m.fault ≡ None → (Err fault, n) ≡ finish_answer m → tail_of m.phase m.at m.rest ≡ Err fault
-finish-fault m n fault well h = finish-step m n fault (tail_of m.phase m.at m.rest) (h ∙ ap (λ f. finish_next f m) well)
+finish-fault m n fault well h = grind arith

@@ -1,6 +1,6 @@
 -- Reading goes on over more pieces.
-use Rattle.std.proofs.Common.{◌≡◌, ℕ, zero, suc, ◌+◌, ◌<◌, ◌≤◌, length, List, [], ◌∷◌, ◌++◌, take, drop, get_or, arith, refl, sym, ◌∙◌, ap, Ok, Err, length-append, append_assoc, append-nil, true, false, add-one, add-zero, Result, nat_lt}
-use Rattle.mx_mmo.proofs.Words.{Object, TooLong, bytes-append, AreBytes, ReaderModel, limit, fresh, tail_of, Walk, passed_limit, pieces_within, with_rest, fed, items_of, left_of, object_of, object_behind, with_tail, with_more, extended, Item, MmoFault, Start, concat, common_steps, nat_tests, cond-false}
+use Rattle.std.proofs.Common.{◌≡◌, ℕ, zero, suc, ◌+◌, ◌<◌, ◌≤◌, length, List, [], ◌∷◌, ◌++◌, take, drop, get_or, arith, refl, sym, ◌∙◌, ap, Ok, Err, length-append, append_assoc, append-nil, false, add-one, add-zero, Result, nat_lt, rules}
+use Rattle.mx_mmo.proofs.Words.{Object, TooLong, bytes-append, AreBytes, ReaderModel, limit, fresh, tail_of, Walk, passed_limit, pieces_within, with_rest, fed, items_of, left_of, object_of, object_behind, with_tail, with_more, extended, Item, MmoFault, Start, concat, common_steps, nat_tests}
 use Rattle.mx_mmo.proofs.Walks.{items-none, extends}
 
 -- one piece more, and all pieces from those so far
@@ -23,8 +23,7 @@ pub goes-on : (front piece : List ℕ) (items : List Item) (m : ReaderModel) →
 goes-on front piece items m h = extends Start 0 front piece ∙ ap (λ w. extended w piece) h
 
 stays : (w : Walk) (rest : List ℕ) (fault : MmoFault) → w.1 ≡ Err fault → (extended w rest).1 ≡ Err fault
-stays (items, Err other) rest fault h = h
-stays (items, Ok left) rest fault h = absurd (cc)
+stays w rest fault h = cc
 
 pub fault-stays : (front rest : List ℕ) (fault : MmoFault) → (items_of Start 0 front).1 ≡ Err fault → (items_of Start 0 (front ++ rest)).1 ≡ Err fault
 fault-stays front rest fault h = ap (λ (w : Walk). w.1) (extends Start 0 front rest) ∙ stays (items_of Start 0 front) rest fault h
@@ -38,27 +37,17 @@ object-of-all bytes items m h l = not-long bytes l ∙ ap (λ (w : Walk). object
 
 pub length-of-piece : (pieces : List (List ℕ)) (i : ℕ) (piece d : List ℕ) → i < length pieces → piece ≡ get_or pieces i d →
     length (concat (take (i + 1) pieces)) ≡ length (concat (take i pieces)) + length piece
-length-of-piece pieces i piece d l is =
-    ap (λ (b : List ℕ). length b) (concat-more pieces i d l ∙ ap (λ p. concat (take i pieces) ++ p) (sym is)) ∙ length-append (concat (take i pieces)) piece
+length-of-piece pieces i piece d l is = cc (concat-more pieces i d l, length-append (concat (take i pieces)) piece)
 
 within-from : (n i : ℕ) (pieces : List (List ℕ)) → n + length (concat (take i pieces)) ≤ limit →
     pieces_within n pieces ≡ concat (take i pieces) ++ pieces_within (n + length (concat (take i pieces))) (drop i pieces)
 within-from n zero pieces l = ap (λ (k : ℕ). pieces_within k pieces) (sym (add-zero n))
 within-from n (suc i) [] l = ap (λ (k : ℕ). pieces_within k []) (sym (add-zero n))
 within-from n (suc i) (p ∷ ps) l =
-    let front = concat (take i ps) in
-    let size = length-append p front in
-    let few : nat_lt limit (n + length p) ≡ false = grind (arith, nat_tests) in
-    let there : n + length p + length front ≡ n + length (p ++ front) = omega (arith, size) in
-    cond-false (nat_lt limit (n + length p)) [] (p ++ pieces_within (n + length p) ps) few
-    ∙ ap (λ x. p ++ x) (within-from (n + length p) i ps (omega (arith, size)))
-    ∙ sym (append_assoc p front (pieces_within (n + length p + length front) (drop i ps)))
-    ∙ ap (λ (k : ℕ). (p ++ front) ++ pieces_within k (drop i ps)) there
+    grind (arith, common_steps, nat_tests, within-from (n + length p) i ps (omega (arith, (length-append p (concat (take i ps))))))
 
 within-passed : (n i : ℕ) (pieces : List (List ℕ)) (d : List ℕ) → i < length pieces → limit < n + length (get_or pieces i d) → pieces_within n (drop i pieces) ≡ []
-within-passed n zero (p ∷ ps) d l h =
-    let many : nat_lt limit (n + length p) ≡ true = grind (arith, nat_tests) in
-    rw many refl
+within-passed n zero (p ∷ ps) d l h = grind arith
 within-passed n (suc i) (p ∷ ps) d l h = within-passed n i ps d (omega arith) h
 within-passed n i [] d l h = absurd (omega arith)
 
@@ -69,10 +58,7 @@ item-fault bytes fault h l = not-long bytes l ∙ ap (object_behind (items_of St
 fault-here : (pieces : List (List ℕ)) (i : ℕ) (piece d : List ℕ) (items : List Item) (m : ReaderModel) (fault : MmoFault) → i < length pieces → piece ≡ get_or pieces i d →
     items_of Start 0 (concat (take i pieces)) ≡ (items, Ok (left_of m)) → (with_rest items (with_more m piece)).1 ≡ Err fault →
     (items_of Start 0 (concat (take (i + 1) pieces))).1 ≡ Err fault
-fault-here pieces i piece d items m fault l is same h =
-    let front = concat (take i pieces) in
-    let grown : concat (take (i + 1) pieces) ≡ front ++ piece = concat-more pieces i d l ∙ ap (λ p. front ++ p) (sym is) in
-    ap (λ (b : List ℕ). (items_of Start 0 b).1) grown ∙ ap (λ (w : Walk). w.1) (goes-on front piece items m same) ∙ h
+fault-here pieces i piece d items m fault l is same h = cc (concat-more pieces i d l, goes-on (concat (take i pieces)) piece items m same)
 
 fault-after : (front rest whole : List ℕ) (fault : MmoFault) → whole ≡ front ++ rest → (items_of Start 0 front).1 ≡ Err fault → (items_of Start 0 whole).1 ≡ Err fault
 fault-after front rest whole fault e h = ap (λ (b : List ℕ). (items_of Start 0 b).1) e ∙ fault-stays front rest fault h
@@ -115,9 +101,7 @@ pub items-of-piece : (pieces : List (List ℕ)) (i : ℕ) (piece d : List ℕ) (
     items_of Start 0 (concat (take i pieces)) ≡ (items, Ok (left_of m)) → with_rest items (with_more m piece) ≡ (more, Ok (left_of n)) →
     items_of Start 0 (concat (take (i + 1) pieces)) ≡ (more, Ok (left_of n))
 items-of-piece pieces i piece d items more m n l is same h =
-    let front = concat (take i pieces) in
-    let grown : concat (take (i + 1) pieces) ≡ front ++ piece = concat-more pieces i d l ∙ ap (λ p. front ++ p) (sym is) in
-    ap (items_of Start 0) grown ∙ goes-on front piece items m same ∙ h
+    cc (concat-more pieces i d l, goes-on (concat (take i pieces)) piece items m same)
 
 pub all-pieces : (pieces : List (List ℕ)) (i : ℕ) → length pieces ≤ i → concat (take i pieces) ≡ concat pieces
 all-pieces pieces i h = let whole : take i pieces ≡ pieces = grind (arith, common_steps) in ap concat whole
@@ -125,9 +109,7 @@ all-pieces pieces i h = let whole : take i pieces ≡ pieces = grind (arith, com
 -- what holds of each byte of the pieces
 pub bytes-of-piece : (pieces : List (List ℕ)) (i : ℕ) (piece d : List ℕ) → i < length pieces → piece ≡ get_or pieces i d →
     AreBytes (concat (take i pieces)) → AreBytes piece → AreBytes (concat (take (i + 1) pieces))
-bytes-of-piece pieces i piece d l is p q =
-    let grown : concat (take (i + 1) pieces) ≡ concat (take i pieces) ++ piece = concat-more pieces i d l ∙ ap (λ x. concat (take i pieces) ++ x) (sym is) in
-    rw grown (bytes-append (concat (take i pieces)) piece p q)
+bytes-of-piece pieces i piece d l is p q = search (rules, concat-more, bytes-append)
 
 pub all-bytes : (pieces : List (List ℕ)) (i : ℕ) → length pieces ≤ i → AreBytes (concat (take i pieces)) → AreBytes (concat pieces)
 all-bytes pieces i h b = rw (← all-pieces pieces i h) b

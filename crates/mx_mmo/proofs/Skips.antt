@@ -1,20 +1,14 @@
 -- The tetras that a spec skips, read and spelled.
-use Rattle.std.proofs.Common.{◌≡◌, ℕ, zero, suc, ◌+◌, ◌-◌, ◌/◌, ◌^◌, ◌<◌, ◌≤◌, length, List, [], ◌∷◌, ◌++◌, take, drop, get_or, Bool, true, false, cond, arith, refl, sym, ◌∙◌, ap, subst, Some, None, length-take, length-drop, add-zero, zero-add, Option, ◌==◌, ◌&&◌}
-use Rattle.mx_mmo.proofs.Words.{take-append-drop, take_all, drop-drop, tetra_to_bytes, tetra_from_bytes, AreBytes, EndsSpec, IsSkipped, quote_behind, four_more, skip_on, skipped, quoted_on, quoted_behind, four-bytes, four-fit, top-byte, take-four, drop-four, all-tests, other-number, same-number}
-use Rattle.mx_mmo.proofs.Codes.{no-lop-first}
+use Rattle.std.proofs.Common.{◌≡◌, ℕ, zero, suc, ◌+◌, ◌-◌, ◌/◌, ◌^◌, ◌<◌, ◌≤◌, length, List, [], ◌∷◌, ◌++◌, take, drop, get_or, Bool, true, false, arith, refl, sym, ◌∙◌, ap, subst, Some, None, length-take, length-drop, add-zero, Option, ◌==◌, ◌&&◌, rules}
+use Rattle.mx_mmo.proofs.Words.{take-append-drop, take_all, drop-drop, tetra_to_bytes, tetra_from_bytes, AreBytes, EndsSpec, IsSkipped, quote_behind, four_more, skip_on, skipped, quoted_on, quoted_behind, four-bytes, four-fit, top-byte, take-four, drop-four, nat_tests}
 
 -- what is skipped stays so, whatever follows
 abbrev pub SkipGrows : Option ℕ → Option ℕ → Type 0
 SkipGrows None later = Unit {0}
 SkipGrows (Some n) later = later ≡ Some n
 
-four-grows : (first later : Option ℕ) → SkipGrows first later → SkipGrows (four_more first) (four_more later)
-four-grows None later h = tt
-four-grows (Some n) later h = ap four_more h
-
 on-grows : (o : Option Bool) (f g : Bool → Option ℕ) → ((q : Bool) → SkipGrows (f q) (g q)) → SkipGrows (skip_on f o) (skip_on g o)
-on-grows None f g h = refl
-on-grows (Some q) f g h = four-grows (f q) (g q) (h q)
+on-grows o f g h = grind arith
 
 pub skip-grows : (quoted : Bool) (xs ys : List ℕ) → SkipGrows (skipped quoted xs) (skipped quoted (xs ++ ys))
 skip-grows quoted (a ∷ code ∷ y ∷ z ∷ more) ys =
@@ -26,13 +20,8 @@ abbrev pub SkipWithin : Option ℕ → ℕ → Type 0
 SkipWithin None n = Unit {0}
 SkipWithin (Some k) n = k ≤ n
 
-four-within : (o : Option ℕ) (n m : ℕ) → m ≡ 4 + n → SkipWithin o n → SkipWithin (four_more o) m
-four-within None n m e h = tt
-four-within (Some k) n m e h = omega arith
-
 on-within : (o : Option Bool) (f : Bool → Option ℕ) (n m : ℕ) → m ≡ 4 + n → ((q : Bool) → SkipWithin (f q) n) → SkipWithin (skip_on f o) m
-on-within None f n m e h = omega arith
-on-within (Some q) f n m e h = four-within (f q) n m e (h q)
+on-within o f n m h1 h2 = grind arith
 
 pub skip-within : (quoted : Bool) (xs : List ℕ) → SkipWithin (skipped quoted xs) (length xs)
 skip-within quoted (a ∷ code ∷ y ∷ z ∷ more) =
@@ -73,32 +62,14 @@ Tells quoted a code y z (Some q) = Follows quoted a code y z q
 record Told (quoted : Bool) (a code y z : ℕ) (o : Option Bool) : Type 0 where
   is : Tells quoted a code y z o
 
-all-true : (code y z : ℕ) → (code ≡ 0) × (y ≡ 0) × (z ≡ 1) → (code == 0 && y == 0 && z == 1) ≡ true
-all-true code y z h = rw (h.0, h.1, h.2) refl
-
-quote-told : (b : Bool) (a code y z : ℕ) → a ≡ 0x98 → (code == 0 && y == 0 && z == 1) ≡ b → Told false a code y z (cond b (Some true) None)
-quote-told true a code y z e h = let t = all-tests code 0 y 0 z 1 h in record { is = (e, t.0, t.1, t.2) }
-quote-told false a code y z e h = record { is = (refl, e, λ t. cc (all-true code y z t, h)) }
-
-lop-told : (b : Bool) (a code y z : ℕ) → (a == 0x98) ≡ b → Told false a code y z (cond b (cond (code == 0 && y == 0 && z == 1) (Some true) None) (Some false))
-lop-told true a code y z h = quote-told (code == 0 && y == 0 && z == 1) a code y z (same-number a 0x98 h) refl
-lop-told false a code y z h = record { is = other-number a 0x98 h }
-
 told : (quoted : Bool) (a code y z : ℕ) → Told quoted a code y z (quote_behind quoted a code y z)
-told true a code y z = record { is = tt }
-told false a code y z = lop-told (a == 0x98) a code y z refl
+told quoted a code y z = grind arith
 
 -- one tetra in front of what is skipped
 cons-skips : (quoted q : Bool) (a b c d : ℕ) (front : List ℕ) → a < 256 → b < 256 → c < 256 → d < 256 → Follows quoted a b c d q → SkippedFrom q front →
     SkippedFrom quoted (a ∷ b ∷ c ∷ d ∷ front)
 cons-skips true true a b c d front k l m n f s = absurd f
-cons-skips true false a b c d front k l m n f s = record {
-  t = tetra_from_bytes (a ∷ b ∷ c ∷ d ∷ []);
-  more = front;
-  fit = four-fit a b c d k l m n;
-  whole = ap (λ x. x ++ front) (sym (four-bytes a b c d k l m n));
-  others = s;
-}
+cons-skips true false a b c d front k l m n f s = grind (arith, nat_tests, four-fit a b c d k l m n, four-bytes a b c d k l m n)
 cons-skips false true a b c d front k l m n f s =
     let e : 0x98 ∷ 0 ∷ 0 ∷ 1 ∷ tetra_to_bytes s.t ++ s.more ≡ a ∷ b ∷ c ∷ d ∷ front = rw (f.0, f.1, f.2, f.3) (ap (λ x. 0x98 ∷ 0 ∷ 0 ∷ 1 ∷ x) (sym s.whole)) in
     subst (λ (x : List ℕ). IsSkipped x) e (IsSkipped.quoted s.t s.more s.fit s.others)
@@ -109,11 +80,7 @@ cons-skips false false a b c d front k l m n f s =
 
 four-tell : (quoted q : Bool) (a b c d : ℕ) (more : List ℕ) (o : Option ℕ) → a < 256 → b < 256 → c < 256 → d < 256 → Follows quoted a b c d q → SkipTells q more o →
     SkipTells quoted (a ∷ b ∷ c ∷ d ∷ more) (four_more o)
-four-tell quoted q a b c d more None k l m n f s = tt
-four-tell quoted q a b c d more (Some size) k l m n f s = record {
-  front = subst (λ (x : List ℕ). SkippedFrom quoted x) (sym (take-four size a b c d more)) (cons-skips quoted q a b c d (take size more) k l m n f s.front);
-  ends = subst (λ (x : List ℕ). EndsSpec x) (sym (drop-four size a b c d more)) s.ends;
-}
+four-tell quoted q a b c d more o h1 h2 h3 h4 h5 h6 = search (rules, take-four, cons-skips, drop-four)
 
 on-tell : (quoted : Bool) (a b c d : ℕ) (more : List ℕ) (o : Option Bool) → a < 256 → b < 256 → c < 256 → d < 256 → Tells quoted a b c d o →
     ((q : Bool) → SkipTells q more (skipped q more)) → SkipTells quoted (a ∷ b ∷ c ∷ d ∷ more) (skip_on (λ q. skipped q more) o)
@@ -131,59 +98,35 @@ pub record Ended (bytes : List ℕ) (size : ℕ) : Type 0 where
   pub ends : EndsSpec (drop size bytes)
 
 ended : (bytes : List ℕ) (o : Option ℕ) (size : ℕ) → SkipTells false bytes o → o ≡ Some size → Ended bytes size
-ended bytes None size t e = absurd (cc)
-ended bytes (Some n) size t e = let is : n ≡ size = cc in rw (← is) (record { front = t.front; ends = t.ends })
+ended bytes o size h1 h2 = grind arith
 
 -- what is skipped is in the grammar
 pub skipped-ended : (bytes : List ℕ) (size : ℕ) → AreBytes bytes → skipped false bytes ≡ Some size → Ended bytes size
 skipped-ended bytes size h e = ended bytes (skipped false bytes) size (skip-tells false bytes h) e
 
--- what is in the grammar is skipped
-not-quote : (b : Bool) (code y z : ℕ) → (code == 0 && y == 0 && z == 1) ≡ b → ¬ ((code ≡ 0) × (y ≡ 0) × (z ≡ 1)) → b ≡ false
-not-quote true code y z h n = let t = all-tests code 0 y 0 z 1 h in absurd (n (t.0, t.1, t.2))
-not-quote false code y z h n = refl
-
-ends-skipped : (rest : List ℕ) → EndsSpec rest → skipped false rest ≡ Some 0
-ends-skipped (a ∷ code ∷ y ∷ z ∷ more) e =
-    let f : (code == 0 && y == 0 && z == 1) ≡ false = not-quote (code == 0 && y == 0 && z == 1) code y z refl e.1 in
-    rw (e.0, f) refl
-ends-skipped rest e = absurd e
-
 pub skipped-all : {front : List ℕ} (rest : List ℕ) → IsSkipped front → EndsSpec rest → skipped false (front ++ rest) ≡ Some (length front)
-skipped-all rest IsSkipped.none e = ends-skipped rest e
-skipped-all rest (IsSkipped.other t more p others) e =
-    (rw (no-lop-first t p) refl) ∙ ap four_more (skipped-all rest others e) ∙ ap Some (omega arith)
-skipped-all rest (IsSkipped.quoted t more p others) e =
-    ap (λ (o : Option ℕ). four_more (four_more o)) (skipped-all rest others e) ∙ ap Some (omega arith)
+skipped-all rest IsSkipped.none e = grind arith
+skipped-all rest (IsSkipped.other t more p others) e = grind (arith, nat_tests, skipped-all rest others e)
+skipped-all rest (IsSkipped.quoted t more p others) e = search (rules, skipped-all rest others e)
 
 -- looking on where it stopped before
 abbrev plus : ℕ → Option ℕ → Option ℕ
 plus n None = None
 plus n (Some k) = Some (n + k)
 
-four-plus : (n : ℕ) (o : Option ℕ) → four_more (plus n o) ≡ plus (4 + n) o
-four-plus n None = refl
-four-plus n (Some k) = ap Some (omega arith)
-
-plus-none : (o : Option ℕ) → plus 0 o ≡ o
-plus-none None = refl
-plus-none (Some k) = ap Some (zero-add k)
-
 on-looked : (f : Bool → Option Bool) (g h : Bool → Option ℕ) (o : Option Bool) (q : Bool) (n m : ℕ) → m ≡ 4 + n → quoted_on f o ≡ Some q →
     ((p : Bool) → f p ≡ Some q → g p ≡ plus n (h q)) → skip_on g o ≡ plus m (h q)
-on-looked f g h None q n m l e i = absurd (cc)
-on-looked f g h (Some p) q n m l e i = ap four_more (i p e) ∙ four-plus n (h q) ∙ ap (λ (k : ℕ). plus k (h q)) (sym l)
+on-looked f g h o q n m h1 h2 h3 = grind arith
 
 skipped-on : (quoted q : Bool) (front rest : List ℕ) → quoted_behind quoted front ≡ Some q → skipped quoted (front ++ rest) ≡ plus (length front) (skipped q rest)
-skipped-on quoted q [] rest e = let is : quoted ≡ q = cc in rw is (sym (plus-none (skipped q rest)))
+skipped-on quoted q [] rest e = grind arith
 skipped-on quoted q (a ∷ code ∷ y ∷ z ∷ more) rest e =
     on-looked (λ p. quoted_behind p more) (λ p. skipped p (more ++ rest)) (λ p. skipped p rest) (quote_behind quoted a code y z) q (length more) (length (a ∷ code ∷ y ∷ z ∷ more)) (omega arith) e
     (λ p i. skipped-on p q more rest i)
 skipped-on quoted q front rest e = absurd (cc)
 
 step-more : (f g : Bool → Option Bool) (o : Option Bool) (q r : Bool) → quoted_on f o ≡ Some q → ((p : Bool) → f p ≡ Some q → g p ≡ Some r) → quoted_on g o ≡ Some r
-step-more f g None q r e h = absurd (cc)
-step-more f g (Some p) q r e h = h p e
+step-more f g o q r h1 h2 = grind arith
 
 behind-more : (quoted q r : Bool) (front : List ℕ) (a b c d : ℕ) → quoted_behind quoted front ≡ Some q → quote_behind q a b c d ≡ Some r →
     quoted_behind quoted (front ++ a ∷ b ∷ c ∷ d ∷ []) ≡ Some r
@@ -194,15 +137,12 @@ behind-more quoted q r front a b c d e h = absurd (cc)
 
 -- the tetra that stands first in what is left
 pub four-first : (r : List ℕ) → 4 ≤ length r → r ≡ get_or r 0 0 ∷ get_or r 1 0 ∷ get_or r 2 0 ∷ get_or r 3 0 ∷ drop 4 r
-four-first (a ∷ b ∷ c ∷ d ∷ more) l = refl
-four-first r l = absurd (omega arith)
+four-first r h = grind arith
 
 front-grows : (n : ℕ) (more : List ℕ) (a b c d : ℕ) (others : List ℕ) → drop n more ≡ a ∷ b ∷ c ∷ d ∷ others → take (n + 4) more ≡ take n more ++ a ∷ b ∷ c ∷ d ∷ []
 front-grows zero more a b c d others e = rw e refl
 front-grows (suc n) [] a b c d others e = absurd (cc)
-front-grows (suc n) (m ∷ more) a b c d others e =
-    let s : suc n + 4 ≡ suc (n + 4) = omega arith in
-    ap (λ (k : ℕ). take k (m ∷ more)) s ∙ ap (λ x. m ∷ x) (front-grows n more a b c d others e)
+front-grows (suc n) (m ∷ more) a b c d others e = search (rules, front-grows n more a b c d others e)
 
 pub rest-more : (n : ℕ) (more r : List ℕ) → r ≡ drop n more → take (length r - 4) (drop 4 r) ≡ drop (n + 4) more
 rest-more n more r e = take_all (length r - 4) (drop 4 r) (omega (arith, length-drop 4 r)) ∙ ap (drop 4) e ∙ drop-drop 4 n more
@@ -214,8 +154,7 @@ looked-more n more q r a b c d others e h i = rw (front-grows n more a b c d oth
 
 looked-on : (n : ℕ) (more : List ℕ) (q : Bool) → n ≤ length more → quoted_behind false (take n more) ≡ Some q → skipped false more ≡ plus n (skipped q (drop n more))
 looked-on n more q l h =
-    ap (skipped false) (sym (take-append-drop n more)) ∙ skipped-on false q (take n more) (drop n more) h
-    ∙ ap (λ (k : ℕ). plus k (skipped q (drop n more))) (omega (arith, length-take n more))
+    grind (arith, nat_tests, take-append-drop n more, skipped-on false q (take n more) (drop n more) h, length-take n more)
 
 -- the lopcode that ends a spec was found, and it was not
 pub looked-end : (n : ℕ) (more : List ℕ) (q : Bool) (a b c d : ℕ) (others : List ℕ) → n ≤ length more → drop n more ≡ a ∷ b ∷ c ∷ d ∷ others →
@@ -223,8 +162,7 @@ pub looked-end : (n : ℕ) (more : List ℕ) (q : Bool) (a b c d : ℕ) (others 
 looked-end n more q a b c d others l e h i = looked-on n more q l h ∙ ap (λ r. plus n (skipped q r)) e ∙ rw i (ap Some (add-zero n))
 
 few-none : (q : Bool) (r : List ℕ) → length r < 4 → skipped q r ≡ None
-few-none q (a ∷ b ∷ c ∷ d ∷ r) l = absurd (omega arith)
-few-none q r l = refl
+few-none q r h = grind arith
 
 pub looked-none : (n : ℕ) (more : List ℕ) (q : Bool) → n ≤ length more → quoted_behind false (take n more) ≡ Some q → length (drop n more) < 4 → skipped false more ≡ None
 looked-none n more q l h few = looked-on n more q l h ∙ ap (λ o. plus n o) (few-none q (drop n more) few)

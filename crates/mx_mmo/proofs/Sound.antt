@@ -1,10 +1,10 @@
 -- What is read is in the grammar.
-use Rattle.std.proofs.Common.{◌≡◌, ℕ, zero, suc, ◌+◌, ◌-◌, ◌*◌, ◌/◌, ◌%◌, ◌^◌, ◌<◌, ◌≤◌, length, List, [], ◌∷◌, ◌++◌, take, drop, arith, refl, sym, ◌∙◌, ap, subst, Ok, Err, Some, None, Bool, true, false, cond, length-append, append_assoc, add-zero, zero-add, length-take, length-drop, Result, Option, nat_lt, ◌==◌, ◌&&◌}
-use Rattle.mx_mmo.proofs.Words.{AllByRecursion, take-append-drop, wide_lop, AreBytes, Fits, Spelled, Due, IsWithin, first_item, limit, phase_after, tail_of, tail_behind, counted_tail, end_count, StandFirst, phase_end, Left, StandAt, Walk, behind, walk_on, walk, items_of, SpellsObject, object_of, object_behind, with_tail, Item, Tail, Object, MmoFault, TooLong, NotTetras, BadFields, Phase, Start, Ended, bytes-behind, same-number, both-tests}
+use Rattle.std.proofs.Common.{◌≡◌, ℕ, zero, suc, ◌+◌, ◌-◌, ◌*◌, ◌/◌, ◌%◌, ◌^◌, ◌<◌, ◌≤◌, length, List, [], ◌∷◌, ◌++◌, take, drop, arith, refl, sym, ◌∙◌, ap, subst, Ok, Err, Some, None, Bool, true, false, cond, length-append, append_assoc, add-zero, zero-add, length-take, length-drop, Result, Option, nat_lt, ◌==◌, ◌&&◌, rules}
+use Rattle.mx_mmo.proofs.Words.{AllByRecursion, take-append-drop, wide_lop, AreBytes, Fits, Spelled, Due, IsWithin, first_item, limit, phase_after, tail_of, tail_behind, counted_tail, end_count, StandFirst, phase_end, Left, StandAt, Walk, behind, walk_on, walk, items_of, SpellsObject, object_of, object_behind, with_tail, Item, Tail, Object, MmoFault, TooLong, Phase, Start, Ended, bytes-behind, same-number, nat_tests}
 use Rattle.mx_mmo.proofs.Ends.{last-cons, specs-cons}
 use Rattle.mx_mmo.proofs.Firsts.{first-within}
 use Rattle.mx_mmo.proofs.Phases.{Reaches, placed-items}
-use Rattle.mx_mmo.proofs.Told.{wide-back, Found, Tells, first-tells}
+use Rattle.mx_mmo.proofs.Told.{Found, Tells, first-tells}
 
 -- these items stand first in bytes, and this is left
 pub record Stood (phase : Phase) (at : ℕ) (bytes : List ℕ) (items : List Item) (left : Left) : Type 0 where
@@ -70,10 +70,8 @@ nothing-stands phase at bytes = record { front = []; first = none-first phase by
 stand-step : (others : Phase → ℕ → List ℕ → Walk) (phase : Phase) (at : ℕ) (bytes : List ℕ) (d : Due) → first_item phase at bytes ≡ d → AreBytes bytes → Tells phase at bytes d →
     IsWithin d (length bytes) → ((p : Phase) (a size : ℕ) → Stands p a (drop size bytes) (others p a (drop size bytes))) → Stands phase at bytes (walk_on others phase at bytes d)
 stand-step others phase at bytes (Ok None) e b t w h = nothing-stands phase at bytes
-stand-step others phase at bytes (Err fault) e b t w h =
-    record { front = []; rest = bytes; first = none-first phase bytes; found = ap (λ (n : ℕ). first_item phase n bytes) (add-zero at) ∙ e; each = b }
-stand-step others phase at bytes (Ok (Some (item, size))) e b t w h =
-    behind-stands phase at bytes item size (others (phase_after item phase) (at + size) (drop size bytes)) t w.1 (h (phase_after item phase) (at + size) size)
+stand-step others phase at bytes (Err fault) e b t w h = grind (arith, nat_tests, none-first phase bytes, add-zero at)
+stand-step others phase at bytes (Ok (Some (item, size))) e b t w h = search (rules, behind-stands)
 
 -- so many items, or fewer
 pub walk-stands : (n : ℕ) (phase : Phase) (at : ℕ) (bytes : List ℕ) → AreBytes bytes → Stands phase at bytes (walk n phase at bytes)
@@ -105,15 +103,10 @@ record TailTold (phase : Phase) (at : ℕ) (rest : List ℕ) (r : Result Tail Mm
 
 cond-tail : (b : Bool) (phase : Phase) (at : ℕ) (rest : List ℕ) (x y : Result Tail MmoFault) → (b ≡ true → TailTold phase at rest x) → (b ≡ false → TailTold phase at rest y) →
     TailTold phase at rest (cond b x y)
-cond-tail true phase at rest x y p q = p refl
-cond-tail false phase at rest x y p q = q refl
+cond-tail b phase at rest x y h1 h2 = grind arith
 
 refused-tail : (phase : Phase) (at : ℕ) (rest : List ℕ) (f : MmoFault) → TailTold phase at rest (Err f)
 refused-tail phase at rest f = record { is = tt }
-
-end-tetra : (b : Bool) (count n : ℕ) → ◌≡◌ {A = Option ℕ} (Some count) (cond b (Some n) None) → (b ≡ true) × (count ≡ n)
-end-tetra true count n e = (refl, cc)
-end-tetra false count n e = absurd (cc)
 
 -- the lopcode that counts
 pub record Counts (last : List ℕ) (count : ℕ) : Type 0 where
@@ -121,17 +114,12 @@ pub record Counts (last : List ℕ) (count : ℕ) : Type 0 where
   pub most : count < 2 ^ 16
 
 pub counts : (last : List ℕ) (count : ℕ) → AreBytes last → Some count ≡ end_count last → Counts last count
-counts (a ∷ code ∷ y ∷ z ∷ []) count b e =
-    let t = end-tetra (a == 0x98 && code == 12) count (256 * y + z) e in
-    let u = both-tests a 0x98 code 12 t.0 in
-    record { is = rw (u.0, u.1, t.1) (sym (wide-back 12 y z b.1.1.1.0)); most = omega (arith, t.1, b.1.1.0, b.1.1.1.0) }
-counts last count b e = absurd (cc)
+counts last count h1 h2 = grind arith
 
 trie-tail : (at count : ℕ) (rest : List ℕ) → AreBytes rest → length rest % 4 ≡ 0 → Some count ≡ end_count (drop (length rest - 4) rest) → count ≡ length rest / 4 - 1 →
     Ends Ended at rest (record { trie = take (length rest - 4) rest; place = at })
 trie-tail at count rest b m e c =
     let k = counts (drop (length rest - 4) rest) count (bytes-behind (length rest - 4) rest b) e in
-    let four : length (drop (length rest - 4) rest) ≡ 4 = ap (λ (x : List ℕ). length x) k.is in
     record {
       count = count;
       ended = refl;
@@ -142,20 +130,13 @@ trie-tail at count rest b m e c =
     }
 
 counted-tells : (at : ℕ) (rest : List ℕ) (o : Option ℕ) → AreBytes rest → length rest % 4 ≡ 0 → o ≡ end_count (drop (length rest - 4) rest) → TailTold Ended at rest (counted_tail at rest o)
-counted-tells at rest None b m e = refused-tail _ _ _ _
-counted-tells at rest (Some count) b m e =
-    cond-tail (count == length rest / 4 - 1) _ _ _ _ _
-    (λ c. record { is = trie-tail at count rest b m e (same-number count (length rest / 4 - 1) c) })
-    (λ _. refused-tail _ _ _ (BadFields (at + length rest - 4)))
+counted-tells at rest o h1 h2 h3 = search (rules, refused-tail, cond-tail, trie-tail, same-number)
 
 behind-tells : (phase : Phase) (at : ℕ) (rest : List ℕ) → AreBytes rest → length rest % 4 ≡ 0 → TailTold phase at rest (tail_behind phase at rest)
-behind-tells Ended at rest b m = counted-tells at rest (end_count (drop (length rest - 4) rest)) b m refl
-behind-tells _ at rest b m = refused-tail _ _ _ _
+behind-tells phase at rest h1 h2 = search (rules, counted-tells, refused-tail)
 
 tail-tells : (phase : Phase) (at : ℕ) (rest : List ℕ) → AreBytes rest → TailTold phase at rest (tail_of phase at rest)
-tail-tells phase at rest b =
-    cond-tail (length rest % 4 == 0) phase at rest _ _ (λ m. behind-tells phase at rest b (same-number (length rest % 4) 0 m))
-    (λ _. refused-tail _ _ _ (NotTetras (at + length rest - length rest % 4)))
+tail-tells phase at rest b = search (rules, cond-tail, behind-tells, same-number, refused-tail)
 
 -- an object that is read is one of the grammar
 abbrev IsRead : List ℕ → Result Object MmoFault → Type 0
@@ -189,13 +170,10 @@ left-bytes front rest bytes e b = behind front rest (subst (λ (x : List ℕ). A
     behind (x ∷ front) rest b = behind front rest b.1
 
 behind-read : (bytes : List ℕ) (w : Walk) → AreBytes bytes → Stands Start 0 bytes w → IsRead bytes (object_behind w.0 w.1)
-behind-read bytes (items, Err fault) b s = tt
-behind-read bytes (items, Ok left) b s =
-    with-tail-stands bytes items left (tail_of left.phase left.at left.rest) s (tail-tells left.phase left.at left.rest (left-bytes s.front left.rest bytes s.first.whole b)).is
+behind-read bytes w h1 h2 = search (rules, with-tail-stands, tail-tells, left-bytes)
 
 cond-read : (b : Bool) (bytes : List ℕ) (fault : MmoFault) (r : Result Object MmoFault) → IsRead bytes r → IsRead bytes (cond b (Err fault) r)
-cond-read true bytes fault r h = tt
-cond-read false bytes fault r h = h
+cond-read b bytes fault r h = grind arith
 
 is-read : (bytes : List ℕ) → AreBytes bytes → IsRead bytes (object_of bytes)
 is-read bytes b = cond-read (nat_lt limit (length bytes)) bytes (TooLong limit) _ (behind-read bytes (items_of Start 0 bytes) b (stands bytes b))
@@ -205,9 +183,7 @@ object-stands bytes object b e = subst (λ (r : Result Object MmoFault). IsRead 
 
 -- the items of a walk stand at their places
 at-places : (bytes : List ℕ) (items : List Item) (left : Left) (w : Walk) → Stands Start 0 bytes w → w ≡ (items, Ok left) → StandAt bytes items left
-at-places bytes items left w s e =
-    let t : Stood Start 0 bytes items left = subst (λ (v : Walk). Stands Start 0 bytes v) e s in
-    record { front = t.front; first = t.first; place = t.place ∙ zero-add (length t.front) }
+at-places bytes items left w s e = grind arith
 
 pub items-at : (count : ℕ) (bytes : List ℕ) (items : List Item) (left : Left) → AreBytes bytes → walk count Start 0 bytes ≡ (items, Ok left) → StandAt bytes items left
 items-at count bytes items left b e = at-places bytes items left (walk count Start 0 bytes) (walk-stands count Start 0 bytes b) e

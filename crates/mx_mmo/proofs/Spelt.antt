@@ -1,21 +1,8 @@
 -- What is spelled so is read so.
-use Rattle.std.proofs.Common.{◌≡◌, ℕ, ◌+◌, ◌-◌, ◌*◌, ◌/◌, ◌%◌, ◌^◌, ◌<◌, length, List, [], ◌∷◌, ◌++◌, take, arith, refl, ◌∙◌, ap, Ok, Some, true, false, inl, inr, length-append, replicate, nat_lt, nat_le, ◌==◌, flat_map}
-use Rattle.mx_mmo.proofs.Words.{common_steps, take_at, nat_tests, tetra_to_bytes, octa_to_bytes, wide_lop, AreTetras, AreOctas, IsName, Spells, SpellsAddress, skipped, Due, first_item, tetras_of, octas_of, on_tetra, on_octa, quoted_tetra, short_address, long_address, item_due, far_tetra, named_file, file_item, ended_spec, pre_item, post_item, MayCome, EndsItem, Item, Load, Loc, Skip, FixOcta, FixNear, FixFar, File, Line, Spec, Pre, Post, Phase, Start, Middle, Posted, tetra-back, octa-back}
-use Rattle.mx_mmo.proofs.Codes.{no-lop-first}
+use Rattle.std.proofs.Common.{◌≡◌, ℕ, ◌+◌, ◌-◌, ◌*◌, ◌/◌, ◌%◌, ◌^◌, ◌<◌, length, List, [], ◌∷◌, ◌++◌, take, arith, refl, ◌∙◌, ap, Ok, Some, false, inl, inr, length-append, replicate, nat_lt, ◌==◌, flat_map, rules}
+use Rattle.mx_mmo.proofs.Words.{common_steps, take_at, nat_tests, tetra_to_bytes, octa_to_bytes, wide_lop, AreTetras, AreOctas, IsName, Spells, SpellsAddress, skipped, Due, first_item, tetras_of, octas_of, quoted_tetra, named_file, file_item, ended_spec, pre_item, post_item, MayCome, EndsItem, Item, File, Spec, Pre, Post, Phase, Start, Middle, Posted, tetra-back, octa-back}
 use Rattle.mx_mmo.proofs.Names.{name-back}
 use Rattle.mx_mmo.proofs.Skips.{skipped-all}
-
-short-read : (item : ℕ → Item) (y t : ℕ) (rest : List ℕ) → t < 2 ^ 32 → item_due item (on_tetra (short_address y) (tetra_to_bytes t ++ rest)) ≡ Ok (Some (item (y * 2 ^ 56 + t), 8))
-short-read item y t rest h = ap (λ u. Ok (Some (item (y * 2 ^ 56 + u), 8))) (tetra-back t h)
-
-long-read : (item : ℕ → Item) (y x : ℕ) (rest : List ℕ) → x < 2 ^ 64 →
-    item_due item (on_octa (long_address y) (octa_to_bytes x ++ rest)) ≡ Ok (Some (item ((y * 2 ^ 56 + x) % 2 ^ 64), 12))
-long-read item y x rest h = ap (λ u. Ok (Some (item ((y * 2 ^ 56 + u) % 2 ^ 64), 12))) (octa-back x h)
-
-far-read : (at bits t : ℕ) (rest : List ℕ) → t < 2 ^ 25 → on_tetra (far_tetra at bits) (tetra_to_bytes t ++ rest) ≡ Ok (Some (FixFar bits t, 8))
-far-read at bits t rest h =
-    let few : nat_lt t (2 ^ 25) ≡ true = grind (arith, nat_tests) in
-    ap (far_tetra at bits) (tetra-back t (omega arith)) ∙ rw few refl
 
 tetras-back : (tetras : List ℕ) → AreTetras tetras → tetras_of (flat_map tetra_to_bytes tetras) ≡ tetras
 tetras-back [] h = refl
@@ -40,20 +27,14 @@ front-taken : (n : ℕ) (front rest : List ℕ) → length front ≡ n → take 
 front-taken n front rest e = take_at front rest n e
 
 pre-read : (tetras rest : List ℕ) → AreTetras tetras → pre_item (length tetras) (flat_map tetra_to_bytes tetras ++ rest) ≡ Ok (Some (Pre tetras, 4 + 4 * length tetras))
-pre-read tetras rest h =
-    let front = flat_map tetra_to_bytes tetras in
-    rw (enough-there (4 * length tetras) front rest (tetras-length tetras), front-taken (4 * length tetras) front rest (tetras-length tetras), tetras-back tetras h) refl
+pre-read tetras rest h = simp (enough-there, tetras-length, front-taken, tetras-back)
 
 post-read : (g : ℕ) (values rest : List ℕ) → length values + g ≡ 256 → AreOctas values →
     post_item g (flat_map octa_to_bytes values ++ rest) ≡ Ok (Some (Post g values, 4 + 8 * (256 - g)))
-post-read g values rest c h =
-    let front = flat_map octa_to_bytes values in
-    let l : length front ≡ 8 * (256 - g) = octas-length values ∙ ap (λ n. 8 * n) (omega arith) in
-    rw (enough-there (8 * (256 - g)) front rest l, front-taken (8 * (256 - g)) front rest l, octas-back values h) refl
+post-read g values rest c h = search (rules, octas-length, enough-there, front-taken, octas-back)
 
 named-some : (at number size : ℕ) (name : List ℕ) → 0 < length name → named_file at number size name ≡ Ok (Some (File number (Some name), size))
-named-some at number size [] h = absurd (omega arith)
-named-some at number size (b ∷ name) h = refl
+named-some at number size name h = grind arith
 
 file-read : (at number tetras zeros : ℕ) (name rest : List ℕ) → IsName name → length name + zeros ≡ 4 * tetras →
     file_item at number tetras ((name ++ replicate zeros 0) ++ rest) ≡ Ok (Some (File number (Some name), 4 + 4 * tetras))
@@ -66,34 +47,28 @@ file-read at number tetras zeros name rest n c =
 sized : (item : Item) (m n : ℕ) → m ≡ n → ◌≡◌ {A = Due} (Ok (Some (item, m))) (Ok (Some (item, n)))
 sized item m n e = ap (λ (k : ℕ). Ok (Some (item, k))) e
 
-wide-read : (item : ℕ → Item) (n : ℕ) → ◌≡◌ {A = Due} (Ok (Some (item (256 * (n / 256) + n % 256), 4))) (Ok (Some (item n, 4)))
-wide-read item n = ap (λ (k : ℕ). Ok (Some (item k, 4))) (omega arith)
-
 spec-read : (n : ℕ) (front : List ℕ) (o : _) → o ≡ Some (length front) → ◌≡◌ {A = Due} (ended_spec (256 * (n / 256) + n % 256) o) (Ok (Some (Spec n, length (wide_lop 8 n ++ front))))
-spec-read n front o e =
-    ap (λ s. ended_spec (256 * (n / 256) + n % 256) s) e ∙ ap (λ (k : ℕ). Ok (Some (Spec k, 4 + length front))) (omega arith) ∙ sized (Spec n) _ _ (omega arith)
+spec-read n front o e = grind arith
 
 -- an item that may come is read from its bytes, whatever follows, if that ends it
 pub spells-first : {item : Item} {bytes : List ℕ} (phase : Phase) (at : ℕ) (rest : List ℕ) → Spells item bytes → MayCome phase item → EndsItem item rest →
     first_item phase at (bytes ++ rest) ≡ Ok (Some (item, length bytes))
-spells-first Middle at rest (Spells.bare t p) s e = rw (no-lop-first t p) (ap (λ (u : ℕ). Ok (Some (Load u, 4))) (tetra-back t p.0))
+spells-first Middle at rest (Spells.bare t p) s e = grind arith
 spells-first Middle at rest (Spells.quoted t h) s e = ap quoted_tetra (tetra-back t h)
-spells-first Middle at rest (Spells.loc a bytes (SpellsAddress.by_tetra code y t h k)) s e = short-read (λ a. Loc a) y t rest k
-spells-first Middle at rest (Spells.loc a bytes (SpellsAddress.by_octa code y x h k)) s e = long-read (λ a. Loc a) y x rest k
-spells-first Middle at rest (Spells.skip n h) s e = wide-read (λ n. Skip n) n
-spells-first Middle at rest (Spells.fixo a bytes (SpellsAddress.by_tetra code y t h k)) s e = short-read (λ a. FixOcta a) y t rest k
-spells-first Middle at rest (Spells.fixo a bytes (SpellsAddress.by_octa code y x h k)) s e = long-read (λ a. FixOcta a) y x rest k
-spells-first Middle at rest (Spells.fixr n h) s e = wide-read (λ n. FixNear n) n
-spells-first Middle at rest (Spells.fixrx bits t (inl b) h) s e = rw b (far-read at 16 t rest h)
-spells-first Middle at rest (Spells.fixrx bits t (inr b) h) s e = rw b (far-read at 24 t rest h)
+spells-first Middle at rest (Spells.loc a bytes (SpellsAddress.by_tetra code y t h k)) s e = grind arith
+spells-first Middle at rest (Spells.loc a bytes (SpellsAddress.by_octa code y x h k)) s e = grind arith
+spells-first Middle at rest (Spells.skip n h) s e = grind arith
+spells-first Middle at rest (Spells.fixo a bytes (SpellsAddress.by_tetra code y t h k)) s e = grind arith
+spells-first Middle at rest (Spells.fixo a bytes (SpellsAddress.by_octa code y x h k)) s e = grind arith
+spells-first Middle at rest (Spells.fixr n h) s e = grind arith
+spells-first Middle at rest (Spells.fixrx bits t (inl b) h) s e = grind arith
+spells-first Middle at rest (Spells.fixrx bits t (inr b) h) s e = grind arith
 spells-first Middle at rest (Spells.selected number h) s e = refl
 spells-first Middle at rest (Spells.named number tetras zeros name h k n c) s e =
     file-read at number tetras zeros name rest n c ∙ sized (File number (Some name)) _ _ (grind (arith, common_steps))
-spells-first Middle at rest (Spells.line n h) s e = wide-read (λ n. Line n) n
+spells-first Middle at rest (Spells.line n h) s e = grind arith
 spells-first Middle at rest (Spells.spec n front h k) s e = spec-read n front (skipped false (front ++ rest)) (skipped-all rest k e)
-spells-first Middle at rest (Spells.post g values l m c h) s e =
-    let least : nat_le 32 g ≡ true = grind (arith, nat_tests) in
-    rw least (post-read g values rest c h ∙ sized (Post g values) _ _ (let e = octas-length values in omega arith))
+spells-first Middle at rest (Spells.post g values l m c h) s e = grind (arith, nat_tests, post-read g values rest c h, octas-length values)
 spells-first Start at rest (Spells.pre tetras l h) s e = pre-read tetras rest h ∙ sized (Pre tetras) _ _ (let e = tetras-length tetras in omega arith)
 spells-first Posted at rest Spells.stab s e = refl
 spells-first _ at rest _ s e = absurd s

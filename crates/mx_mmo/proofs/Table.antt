@@ -1,9 +1,9 @@
 -- The first fault of bytes is the one that the table tells.
-use Rattle.std.proofs.Common.{◌≡◌, ◌≢◌, ℕ, ◌+◌, ◌-◌, ◌*◌, ◌/◌, ◌%◌, ◌^◌, ◌<◌, ◌≤◌, length, List, [], ◌++◌, take, drop, arith, refl, sym, ◌∙◌, ap, subst, Ok, Err, Some, None, Bool, true, false, length-append, length-take, zero-add, replicate, Result, Option, ◌==◌}
-use Rattle.mx_mmo.proofs.Words.{take-append-drop, drop_at, length-replicate, wide_lop, AreBytes, IsSkipped, Spells, SpellsAddress, Spelled, limit, tail_of, tail_behind, counted_tail, end_count, StandFirst, phase_end, TetraFault, ItemFault, EndsWith, FaultOf, Left, Walk, items_of, object_of, object_behind, object_fault, fault_in, onto, with_tail, Item, Object, MmoFault, NotTetras, BadFields, Truncated, Phase, Start, Middle, Posted, Ended, bytes-behind, other-test, same-number, other-number}
-use Rattle.mx_mmo.proofs.Complete.{end-told, items-read, left_behind, tail-read, walk-spelled}
+use Rattle.std.proofs.Common.{◌≡◌, ◌≢◌, ℕ, ◌+◌, ◌-◌, ◌*◌, ◌/◌, ◌%◌, ◌^◌, ◌<◌, ◌≤◌, length, List, [], ◌++◌, take, drop, arith, refl, sym, ◌∙◌, ap, subst, Ok, Err, Some, None, Bool, true, false, length-append, length-take, zero-add, Result, Option, ◌==◌, rules}
+use Rattle.mx_mmo.proofs.Words.{take-append-drop, drop_at, length-replicate, wide_lop, AreBytes, IsSkipped, Spells, Spelled, limit, tail_of, tail_behind, end_count, phase_end, ItemFault, EndsWith, FaultOf, Left, Walk, items_of, object_of, object_behind, object_fault, fault_in, onto, Item, Object, MmoFault, NotTetras, BadFields, Truncated, Phase, Start, Middle, Posted, Ended, bytes-behind, same-number, other-number, nat_tests, common_steps}
+use Rattle.mx_mmo.proofs.Complete.{end-told, items-read, left_behind, walk-spelled}
 use Rattle.mx_mmo.proofs.Pieces.{not-long}
-use Rattle.mx_mmo.proofs.Sound.{Stood, Stopped, Stands, counts, left-bytes, stands}
+use Rattle.mx_mmo.proofs.Sound.{Stood, Stopped, Stands, left-bytes, stands}
 use Rattle.mx_mmo.proofs.Spelt.{tetras-length, octas-length}
 use Rattle.mx_mmo.proofs.TetraFaults.{fault-first}
 use Rattle.mx_mmo.proofs.Told.{fault-found}
@@ -16,29 +16,11 @@ skipped-tetras (IsSkipped.other t more p s) = let h = skipped-tetras s in omega 
 skipped-tetras (IsSkipped.quoted t more p s) = let h = skipped-tetras s in omega arith
 
 item-tetras : {item : Item} {bytes : List ℕ} → Spells item bytes → length bytes % 4 ≡ 0
-item-tetras (Spells.bare t p) = refl
-item-tetras (Spells.quoted t h) = refl
-item-tetras (Spells.loc a bytes (SpellsAddress.by_tetra code y t h k)) = refl
-item-tetras (Spells.loc a bytes (SpellsAddress.by_octa code y x h k)) = refl
-item-tetras (Spells.skip n h) = refl
-item-tetras (Spells.fixo a bytes (SpellsAddress.by_tetra code y t h k)) = refl
-item-tetras (Spells.fixo a bytes (SpellsAddress.by_octa code y x h k)) = refl
-item-tetras (Spells.fixr n h) = refl
-item-tetras (Spells.fixrx bits t b h) = refl
-item-tetras (Spells.selected number h) = refl
-item-tetras (Spells.named number tetras count name h k n c) =
-    let l : length (name ++ replicate count 0) ≡ 4 * tetras = length-append name (replicate count 0) ∙ ap (λ (k : ℕ). length name + k) (length-replicate count 0) ∙ c in
-    omega (arith, l)
-item-tetras (Spells.line n h) = refl
-item-tetras (Spells.spec n front h s) = let k = skipped-tetras s in omega arith
-item-tetras (Spells.pre tetras l h) = let e = tetras-length tetras in omega arith
-item-tetras (Spells.post g values l m c h) = let e = octas-length values in omega arith
-item-tetras Spells.stab = refl
+item-tetras h = search (rules, length-append, length-replicate, skipped-tetras, tetras-length, octas-length)
 
 items-tetras : {items : List Item} {front : List ℕ} → Spelled items front → length front % 4 ≡ 0
 items-tetras Spelled.none = refl
-items-tetras (Spelled.next item items bytes more s others) =
-    let h = item-tetras s in let k = items-tetras others in omega (arith, length-append bytes more)
+items-tetras (Spelled.next item items bytes more s others) = search (rules, item-tetras, length-append, items-tetras others)
 
 -- what is told of the items
 item-fault-met : (bytes : List ℕ) (fault : MmoFault) → ItemFault bytes fault → (items_of Start 0 bytes).1 ≡ Err fault
@@ -50,18 +32,10 @@ item-fault-met bytes fault i =
     ∙ ap (λ (w : Walk). w.1) (walk-spelled Start 0 i.rest i.first.spelled i.first.turn i.first.specs i.first.ended ∙ ap (onto i.items) here)
 
 stopped-fault : (bytes : List ℕ) (items : List Item) (fault : MmoFault) → Stopped Start 0 bytes items fault → ItemFault bytes fault
-stopped-fault bytes items fault s = record {
-  items = items;
-  front = s.front;
-  rest = s.rest;
-  first = s.first;
-  has = subst (λ (n : ℕ). TetraFault (phase_end Start items) n s.rest fault) (zero-add (length s.front)) (fault-found (phase_end Start items) (0 + length s.front) s.rest fault s.each s.found);
-}
+stopped-fault bytes items fault s = search (rules, zero-add, fault-found)
 
 ends-met : (bytes trie : List ℕ) (count : ℕ) (e : EndsWith bytes trie count) → items_of Start 0 bytes ≡ (e.items, Ok (left_behind (length e.front) (trie ++ wide_lop 12 count)))
-ends-met bytes trie count e =
-    ap (items_of Start 0) e.first.whole
-    ∙ items-read e.items e.front (trie ++ wide_lop 12 count) e.first.spelled (record { turn = e.first.turn; end = e.all }) e.first.specs e.first.ended
+ends-met bytes trie count e = search (rules, items-read)
 
 -- where no item has a fault, the fault is what is wrong at the end
 abbrev Unmet : List ℕ → Type 0
@@ -69,8 +43,7 @@ Unmet bytes = (f : MmoFault) → ¬ ItemFault bytes f
 
 behind-fault : (bytes : List ℕ) (fault : MmoFault) (w : Walk) → items_of Start 0 bytes ≡ w → Stands Start 0 bytes w → Unmet bytes →
     ((items : List Item) (left : Left) → Stood Start 0 bytes items left → tail_of left.phase left.at left.rest ≡ Err fault) → object_behind w.0 w.1 ≡ Err fault
-behind-fault bytes fault (items, Err other) e s n h = absurd (n other (stopped-fault bytes items other s))
-behind-fault bytes fault (items, Ok left) e s n h = ap (with_tail items) (h items left s)
+behind-fault bytes fault w h1 h2 h3 h4 = search (rules, stopped-fault)
 
 end-fault : (bytes : List ℕ) (fault : MmoFault) → AreBytes bytes → length bytes ≤ limit → Unmet bytes →
     ((items : List Item) (left : Left) → Stood Start 0 bytes items left → tail_of left.phase left.at left.rest ≡ Err fault) → object_of bytes ≡ Err fault
@@ -80,40 +53,22 @@ sizes : (bytes : List ℕ) (items : List Item) (left : Left) (s : Stood Start 0 
 sizes bytes items left s = ap (λ (b : List ℕ). length b) s.first.whole ∙ length-append s.front left.rest
 
 over-tail : (bytes : List ℕ) (items : List Item) (left : Left) → Stood Start 0 bytes items left → length bytes % 4 ≢ 0 → tail_of left.phase left.at left.rest ≡ Err (NotTetras (4 * (length bytes / 4)))
-over-tail bytes items left s h =
-    let size = sizes bytes items left s in
-    let whole = items-tetras s.first.spelled in
-    let over : (length left.rest % 4 == 0) ≡ false = other-test (length left.rest % 4) 0 (λ e. h (omega (arith, size, whole, e))) in
-    rw over (ap (λ (n : ℕ). Err (NotTetras n)) (omega (arith, s.place)))
+over-tail bytes items left s h = grind (arith, nat_tests, sizes bytes items left s, items-tetras s.first.spelled)
 
 cut-place : (bytes : List ℕ) (items : List Item) (left : Left) → Stood Start 0 bytes items left → left.at + length left.rest ≡ length bytes
 cut-place bytes items left s = omega (arith, sizes bytes items left s, s.place)
 
-no-end : (at : ℕ) (rest : List ℕ) (o : Option ℕ) → o ≡ None → counted_tail at rest o ≡ Err (Truncated (at + length rest))
-no-end at rest o e = rw e refl
-
 cut-behind : (phase : Phase) (at : ℕ) (rest : List ℕ) → (phase ≡ Ended → end_count (drop (length rest - 4) rest) ≡ None) → tail_behind phase at rest ≡ Err (Truncated (at + length rest))
-cut-behind Ended at rest h = no-end at rest (end_count (drop (length rest - 4) rest)) (h refl)
-cut-behind phase at rest h = refl
+cut-behind phase at rest h = grind arith
 
 -- the lopcode `end` that stands last
 ends-with : (bytes : List ℕ) (items : List Item) (left : Left) (s : Stood Start 0 bytes items left) (count : ℕ) → AreBytes left.rest → left.phase ≡ Ended →
     end_count (drop (length left.rest - 4) left.rest) ≡ Some count → EndsWith bytes (take (length left.rest - 4) left.rest) count
 ends-with bytes items left s count b p e =
-    let n = length left.rest - 4 in
-    let k = counts (drop n left.rest) count (bytes-behind n left.rest b) (sym e) in
-    let split : left.rest ≡ take n left.rest ++ wide_lop 12 count = sym (take-append-drop n left.rest) ∙ ap (λ x. take n left.rest ++ x) k.is in
-    record {
-      items = items;
-      front = s.front;
-      first = subst (λ (r : List ℕ). StandFirst Start bytes items s.front r) split s.first;
-      all = sym s.end ∙ p;
-      most = k.most;
-    }
+    grind (arith, nat_tests, bytes-behind (length left.rest - 4) left.rest b, take-append-drop (length left.rest - 4) left.rest)
 
 no-count : (o : Option ℕ) → ((count : ℕ) → ¬ (o ≡ Some count)) → o ≡ None
-no-count None h = refl
-no-count (Some count) h = absurd (h count refl)
+no-count o h = grind arith
 
 cut-tail : (bytes : List ℕ) (items : List Item) (left : Left) → Stood Start 0 bytes items left → AreBytes bytes → length bytes % 4 ≡ 0 → ((trie : List ℕ) (count : ℕ) → ¬ EndsWith bytes trie count) →
     tail_of left.phase left.at left.rest ≡ Err (Truncated (length bytes))
@@ -127,21 +82,10 @@ cut-tail bytes items left s b h n =
 
 wrong-tail : (at count : ℕ) (trie rest : List ℕ) → length trie % 4 ≡ 0 → length trie ≢ 4 * count → count < 2 ^ 16 → rest ≡ trie ++ wide_lop 12 count →
     tail_of Ended at rest ≡ Err (BadFields (at + length rest - 4))
-wrong-tail at count trie rest w n m e =
-    let size : length rest ≡ length trie + 4 = ap (λ (x : List ℕ). length x) e ∙ length-append trie (wide_lop 12 count) in
-    let less : length rest - 4 ≡ length trie = omega (arith, size) in
-    let last : drop (length rest - 4) rest ≡ wide_lop 12 count = ap (λ (n : ℕ). drop n rest) less ∙ ap (drop (length trie)) e ∙ drop_at trie (wide_lop 12 count) (length trie) refl in
-    let whole : length rest % 4 ≡ 0 = omega (arith, size, w) in
-    let other : (count == length rest / 4 - 1) ≡ false = other-test count (length rest / 4 - 1) (λ c. n (omega (arith, size, w, c))) in
-    rw (whole, last) (ap (counted_tail at rest) (end-told count m) ∙ rw other refl)
+wrong-tail at count trie rest w n m e = grind (arith, common_steps, nat_tests)
 
 wrong-count : (bytes trie : List ℕ) (count : ℕ) → length bytes ≤ limit → EndsWith bytes trie count → length trie % 4 ≡ 0 → length trie ≢ 4 * count → object_of bytes ≡ Err (BadFields (length bytes - 4))
-wrong-count bytes trie count l e w n =
-    let rest = trie ++ wide_lop 12 count in
-    let size : length bytes ≡ length e.front + length rest = ap (λ (b : List ℕ). length b) e.first.whole ∙ length-append e.front rest in
-    not-long bytes l ∙ ap (λ (v : Walk). object_behind v.0 v.1) (ends-met bytes trie count e)
-    ∙ ap (with_tail e.items) (wrong-tail (length e.front) count trie rest w n e.most refl)
-    ∙ ap (λ (k : ℕ). Err (BadFields (k - 4))) (sym size)
+wrong-count bytes trie count l e w n = search (rules, length-append, not-long, ends-met, wrong-tail)
 
 told : {bytes : List ℕ} {fault : MmoFault} → AreBytes bytes → length bytes ≤ limit → FaultOf bytes fault → object_of bytes ≡ Err fault
 told b l (FaultOf.of_item bytes fault i) = not-long bytes l ∙ ap (object_behind (items_of Start 0 bytes).0) (item-fault-met bytes fault i)
@@ -161,13 +105,7 @@ no-fault-met : (bytes : List ℕ) (items : List Item) (left : Left) → items_of
 no-fault-met bytes items left e f i = let m = item-fault-met bytes f i in let k = ap (λ (w : Walk). w.1) e in cc
 
 not-ended : (bytes : List ℕ) (items : List Item) (left : Left) → items_of Start 0 bytes ≡ (items, Ok left) → left.phase ≢ Ended → (trie : List ℕ) (count : ℕ) → ¬ EndsWith bytes trie count
-not-ended bytes items left e n trie count w =
-    let same : (items, Ok left) ≡ (w.items, Ok (left_behind (length w.front) (trie ++ wide_lop 12 count))) = sym e ∙ ends-met bytes trie count w in
-    n (ap phase_of (ap (λ (v : Walk). v.1) same))
-  where
-    phase_of : Result Left MmoFault → Phase
-    phase_of (Ok left) = left.phase
-    phase_of (Err f) = Start
+not-ended bytes items left e n trie count w = grind (arith, nat_tests, ends-met bytes trie count w)
 
 abbrev rest_in : Result Left MmoFault → List ℕ
 rest_in (Ok left) = left.rest
@@ -188,12 +126,7 @@ not-counted bytes items left e n trie count w =
 by-count : (bytes : List ℕ) (items : List Item) (left : Left) (s : Stood Start 0 bytes items left) (fault : MmoFault) (count : ℕ) (test : Bool) → AreBytes bytes → length bytes ≤ limit →
     items_of Start 0 bytes ≡ (items, Ok left) → length bytes % 4 ≡ 0 → left.phase ≡ Ended → end_count (drop (length left.rest - 4) left.rest) ≡ Some count →
     (length (take (length left.rest - 4) left.rest) == 4 * count) ≡ test → object_of bytes ≡ Err fault → InTable bytes
-by-count bytes items left s fault count true b l e h p o t f =
-    let trie = take (length left.rest - 4) left.rest in
-    let w = ends-with bytes items left s count (left-bytes s.front left.rest bytes s.first.whole b) p o in
-    let read = not-long bytes l ∙ ap (λ (v : Walk). object_behind v.0 v.1) (ends-met bytes trie count w)
-    ∙ ap (with_tail w.items) (tail-read (length w.front) count trie (trie ++ wide_lop 12 count) (same-number (length trie) (4 * count) t) w.most refl) in
-    absurd (cc (read, f))
+by-count bytes items left s fault count true b l e h p o t f = grind (arith, common_steps, nat_tests)
 by-count bytes items left s fault count false b l e h p o t f =
     let trie = take (length left.rest - 4) left.rest in
     let size = sizes bytes items left s in
@@ -229,8 +162,7 @@ same-fault : (bytes : List ℕ) (f g : MmoFault) → object_of bytes ≡ Err f �
 same-fault bytes f g p q = let e : ◌≡◌ {A = Result Object MmoFault} (Err g) (Err f) = sym q ∙ p in cc
 
 refused : (r : Result Object MmoFault) (fault : MmoFault) → fault_in r ≡ Some fault → r ≡ Err fault
-refused (Ok object) fault e = absurd (cc)
-refused (Err other) fault e = let is : other ≡ fault = cc in ap (λ f. Err f) is
+refused r fault h = grind arith
 
 pub table-found : (bytes : List ℕ) (fault : MmoFault) → AreBytes bytes → length bytes ≤ limit → object_fault bytes ≡ Some fault → FaultOf bytes fault
 table-found bytes fault b l e =

@@ -1,6 +1,6 @@
 -- What is read stands there: an item is spelled by the bytes that it takes, and a fault is that of a tetra of the table.
-use Rattle.std.proofs.Common.{◌≡◌, ◌≢◌, ℕ, zero, suc, ◌+◌, ◌-◌, ◌*◌, ◌/◌, ◌%◌, ◌^◌, ◌<◌, ◌≤◌, ◌⊎◌, length, List, [], ◌∷◌, ◌++◌, take, drop, arith, refl, sym, ◌∙◌, ap, subst, Ok, Err, Some, None, Bool, true, false, cond, length-take, take-append-drop, replicate, inl, inr, Option, nat_lt, nat_le, ◌==◌, ◌&&◌, ◌||◌, IfOk, IfSome, flat_map}
-use Rattle.mx_mmo.proofs.Words.{both_ways, nat_tests, TetraFault, tetra_to_bytes, octa_to_bytes, tetra_from_bytes, octa_from_bytes, lop, wide_lop, AreBytes, AreTetras, AreOctas, Fits, Spells, SpellsAddress, EndsSpec, skipped, DueOf, Due, first_item, due_item, lop_item, lop_of, on_tetra, on_octa, quoted_tetra, short_address, long_address, address_due, item_due, far_tetra, named_file, file_item, ended_spec, pre_item, post_item, tetras_of, octas_of, trimmed, MayCome, EndsItem, Item, Load, Loc, Skip, FixOcta, FixNear, FixFar, File, Line, Spec, Pre, Post, Stab, Lop, MmoFault, BadFields, OutOfMemory, Phase, Start, Middle, Posted, Ended, four-bytes, four-fit, eight-bytes, eight-fit, top-byte, bytes-front, take-four, drop-four, same-number, other-number, both-true, both-tests, all-tests, not-less, is-least, is-less}
+use Rattle.std.proofs.Common.{◌≡◌, ◌≢◌, ℕ, zero, suc, ◌+◌, ◌-◌, ◌*◌, ◌/◌, ◌%◌, ◌^◌, ◌<◌, ◌≤◌, ◌⊎◌, length, List, [], ◌∷◌, ◌++◌, take, drop, arith, refl, sym, ◌∙◌, ap, subst, Ok, Err, Some, None, Bool, true, false, cond, length-take, take-append-drop, replicate, Option, nat_lt, nat_le, ◌==◌, ◌&&◌, ◌||◌, IfOk, IfSome, flat_map, rules}
+use Rattle.mx_mmo.proofs.Words.{both_ways, nat_tests, TetraFault, tetra_to_bytes, octa_to_bytes, tetra_from_bytes, lop, wide_lop, AreBytes, AreTetras, AreOctas, Fits, Spells, SpellsAddress, EndsSpec, skipped, DueOf, Due, first_item, due_item, lop_item, lop_of, on_tetra, on_octa, quoted_tetra, short_address, long_address, address_due, item_due, far_tetra, named_file, file_item, ended_spec, pre_item, post_item, tetras_of, octas_of, trimmed, MayCome, EndsItem, Item, Load, Loc, Skip, FixOcta, FixNear, FixFar, File, Line, Spec, Pre, Post, Stab, Lop, MmoFault, BadFields, OutOfMemory, Phase, Start, Middle, Posted, Ended, four-bytes, four-fit, top-byte, bytes-front, take-four, drop-four, same-number, other-number, both-true, both-tests, all-tests, not-less, is-least, is-less}
 use Rattle.mx_mmo.specs.declared.lops.Lop.TheVariants as lops
 use Rattle.mx_mmo.proofs.Codes.{lop-code}
 use Rattle.mx_mmo.proofs.Names.{is-named, all-zeros}
@@ -21,8 +21,7 @@ record Told (phase : Phase) (at : ℕ) (bytes : List ℕ) (due : Due) : Type 0 w
   is : Tells phase at bytes due
 
 cond-tells : (b : Bool) (phase : Phase) (at : ℕ) (bytes : List ℕ) (x y : Due) → (b ≡ true → Told phase at bytes x) → (b ≡ false → Told phase at bytes y) → Told phase at bytes (cond b x y)
-cond-tells true phase at bytes x y p q = p refl
-cond-tells false phase at bytes x y p q = q refl
+cond-tells b phase at bytes x y h1 h2 = grind arith
 
 fault-tells : (phase : Phase) (at : ℕ) (bytes : List ℕ) (f : MmoFault) → TetraFault phase at bytes f → Told phase at bytes (Err f)
 fault-tells phase at bytes f t = record { is = t }
@@ -41,16 +40,11 @@ item-tells phase at bytes spelling item size e s c f n = record { is = record { 
 -- the tetra and the octa that stand next
 pub tetra-told : {A : Type 0} (P : DueOf A → Type 0) (due : ℕ → DueOf A) (more : List ℕ) → AreBytes more → P (Ok None) →
     ((t : ℕ) → t < 2 ^ 32 → tetra_to_bytes t ≡ take 4 more → P (due t)) → P (on_tetra due more)
-tetra-told P due (a ∷ b ∷ c ∷ d ∷ more) h none some =
-    some (tetra_from_bytes (a ∷ b ∷ c ∷ d ∷ [])) (four-fit a b c d h.0 h.1.0 h.1.1.0 h.1.1.1.0) (four-bytes a b c d h.0 h.1.0 h.1.1.0 h.1.1.1.0)
-tetra-told P due more h none some = none
+tetra-told P due more h1 h2 h3 = grind arith
 
 octa-told : {A : Type 0} (P : DueOf A → Type 0) (due : ℕ → DueOf A) (more : List ℕ) → AreBytes more → P (Ok None) →
     ((x : ℕ) → x < 2 ^ 64 → octa_to_bytes x ≡ take 8 more → P (due x)) → P (on_octa due more)
-octa-told P due (a ∷ b ∷ c ∷ d ∷ e ∷ f ∷ g ∷ h ∷ more) s none some =
-    let t : AreBytes (a ∷ b ∷ c ∷ d ∷ e ∷ f ∷ g ∷ h ∷ []) = bytes-front 8 (a ∷ b ∷ c ∷ d ∷ e ∷ f ∷ g ∷ h ∷ more) s in
-    some (octa_from_bytes (a ∷ b ∷ c ∷ d ∷ e ∷ f ∷ g ∷ h ∷ [])) (eight-fit a b c d e f g h t) (eight-bytes a b c d e f g h t)
-octa-told P due more s none some = none
+octa-told P due more h1 h2 h3 = grind arith
 
 -- the bytes of tetras and of octas
 record Tetras (n : ℕ) (bytes : List ℕ) (tetras : List ℕ) : Type 0 where
@@ -60,13 +54,7 @@ record Tetras (n : ℕ) (bytes : List ℕ) (tetras : List ℕ) : Type 0 where
 
 tetras-told : (n : ℕ) (bytes : List ℕ) → length bytes ≡ 4 * n → AreBytes bytes → Tetras n bytes (tetras_of bytes)
 tetras-told zero [] l h = record { count = refl; whole = refl; each = tt }
-tetras-told (suc n) (a ∷ b ∷ c ∷ d ∷ more) l h =
-    let w = tetras-told n more (omega arith) h.1.1.1.1 in
-    record {
-      count = ap suc w.count;
-      whole = ap (λ f. f ++ flat_map tetra_to_bytes (tetras_of more)) (four-bytes a b c d h.0 h.1.0 h.1.1.0 h.1.1.1.0) ∙ ap (λ m. a ∷ b ∷ c ∷ d ∷ m) w.whole;
-      each = (four-fit a b c d h.0 h.1.0 h.1.1.0 h.1.1.1.0, w.each);
-    }
+tetras-told (suc n) (a ∷ b ∷ c ∷ d ∷ more) l h = grind (arith, nat_tests, tetras-told n more (omega arith) h.1.1.1.1)
 tetras-told n _ l h = absurd (omega arith)
 
 record Octas (n : ℕ) (bytes : List ℕ) (values : List ℕ) : Type 0 where
@@ -76,31 +64,17 @@ record Octas (n : ℕ) (bytes : List ℕ) (values : List ℕ) : Type 0 where
 
 octas-told : (n : ℕ) (bytes : List ℕ) → length bytes ≡ 8 * n → AreBytes bytes → Octas n bytes (octas_of bytes)
 octas-told zero [] l s = record { count = refl; whole = refl; each = tt }
-octas-told (suc n) (a ∷ b ∷ c ∷ d ∷ e ∷ f ∷ g ∷ h ∷ more) l s =
-    let w = octas-told n more (omega arith) s.1.1.1.1.1.1.1.1 in
-    let t : AreBytes (a ∷ b ∷ c ∷ d ∷ e ∷ f ∷ g ∷ h ∷ []) = (s.0, (s.1.0, (s.1.1.0, (s.1.1.1.0, (s.1.1.1.1.0, (s.1.1.1.1.1.0, (s.1.1.1.1.1.1.0, (s.1.1.1.1.1.1.1.0, tt)))))))) in
-    record {
-      count = ap suc w.count;
-      whole = ap (λ x. x ++ flat_map octa_to_bytes (octas_of more)) (eight-bytes a b c d e f g h t) ∙ ap (λ m. a ∷ b ∷ c ∷ d ∷ e ∷ f ∷ g ∷ h ∷ m) w.whole;
-      each = (eight-fit a b c d e f g h t, w.each);
-    }
+octas-told (suc n) (a ∷ b ∷ c ∷ d ∷ e ∷ f ∷ g ∷ h ∷ more) l s = grind (arith, nat_tests, octas-told n more (omega arith) s.1.1.1.1.1.1.1.1)
 octas-told n _ l s = absurd (omega arith)
 
 same-lop : (code y z code' y' z' : ℕ) (more more' : List ℕ) → code' ≡ code → y' ≡ y → z' ≡ z → more ≡ more' → lop code y z ++ more ≡ 0x98 ∷ code' ∷ y' ∷ z' ∷ more'
 same-lop code y z code' y' z' more more' e f g h = rw (e, f, g, h) refl
 
--- the number of the bytes Y and Z
-pub wide-back : (code y z : ℕ) → z < 2 ^ 8 → wide_lop code (256 * y + z) ≡ lop code y z
-wide-back code y z h =
-    let p : (256 * y + z) / 256 ≡ y = omega arith in
-    let q : (256 * y + z) % 256 ≡ z = omega arith in
-    rw (p, q) refl
-
 wide-fit : (y z : ℕ) → y < 2 ^ 8 → z < 2 ^ 8 → 256 * y + z < 2 ^ 16
 wide-fit y z p q = omega arith
 
 same-wide : (code y z code' : ℕ) (more : List ℕ) → z < 2 ^ 8 → code' ≡ code → wide_lop code (256 * y + z) ++ more ≡ 0x98 ∷ code' ∷ y ∷ z ∷ more
-same-wide code y z code' more h e = ap (λ x. x ++ more) (wide-back code y z h) ∙ same-lop code y z code' y z more more e refl refl refl
+same-wide code y z code' more h e = grind arith
 
 quoted-tells : (at code y z : ℕ) (more : List ℕ) → code ≡ 0 → y ≡ 0 → z ≡ 1 → AreBytes more → Told Middle at (0x98 ∷ code ∷ y ∷ z ∷ more) (on_tetra quoted_tetra more)
 quoted-tells at code y z more e f g h =
@@ -117,15 +91,13 @@ record AddressTold (at code : ℕ) (bytes : List ℕ) (due : DueOf ℕ) : Type 0
   is : AddressTells at code bytes due
 
 cond-address : (b : Bool) (at code : ℕ) (bytes : List ℕ) (x y : DueOf ℕ) → (b ≡ true → AddressTold at code bytes x) → (b ≡ false → AddressTold at code bytes y) → AddressTold at code bytes (cond b x y)
-cond-address true at code bytes x y p q = p refl
-cond-address false at code bytes x y p q = q refl
+cond-address b at code bytes x y h1 h2 = grind arith
 
 address-as : (code a : ℕ) (bytes others : List ℕ) → bytes ≡ others → SpellsAddress code a bytes → SpellsAddress code a others
 address-as code a bytes others e s = subst (λ (b : List ℕ). SpellsAddress code a b) e s
 
 one-or-two : (z : ℕ) → (z == 1) ≡ false → (z == 2) ≡ false → ¬ ((z ≡ 1) ⊎ (z ≡ 2))
-one-or-two z p q (inl e) = other-number z 1 p e
-one-or-two z p q (inr e) = other-number z 2 q e
+one-or-two z h1 h2 = grind arith
 
 address-tells : (at code y z : ℕ) (more : List ℕ) → y < 2 ^ 8 → AreBytes more → (¬ ((z ≡ 1) ⊎ (z ≡ 2)) → TetraFault Middle at (0x98 ∷ code ∷ y ∷ z ∷ more) (BadFields at)) → AddressTold at code (0x98 ∷ code ∷ y ∷ z ∷ more) (address_due at y z more)
 address-tells at code y z more f h bad =
@@ -150,15 +122,10 @@ fixo-tells at code bytes (Ok None) e t = nothing-tells _ _ _
 fixo-tells at code bytes (Err f) e t = fault-tells _ _ _ _ t
 
 pub bits-are : (z : ℕ) → (z == 16 || z == 24) ≡ true → (z ≡ 16) ⊎ (z ≡ 24)
-bits-are z h = by (z == 16) z refl h
-  where
-    by : (b : Bool) (z : ℕ) → (z == 16) ≡ b → (b || z == 24) ≡ true → (z ≡ 16) ⊎ (z ≡ 24)
-    by true z e h = inl (same-number z 16 e)
-    by false z e h = inr (same-number z 24 h)
+bits-are z h = grind arith
 
 bits-test : (y z : ℕ) → (y ≡ 0) × ((z ≡ 16) ⊎ (z ≡ 24)) → (y == 0 && (z == 16 || z == 24)) ≡ true
-bits-test y z (p, inl e) = rw (p, e) refl
-bits-test y z (p, inr e) = rw (p, e) refl
+bits-test y z h = grind arith
 
 post-test : (y z : ℕ) → (y ≡ 0) × (32 ≤ z) → (y == 0 && nat_le 32 z) ≡ true
 post-test y z h = let l : nat_le 32 z ≡ true = let k = h.1 in grind (arith, nat_tests) in rw (h.0, l) refl
@@ -276,18 +243,12 @@ due-tells Posted at a code y z more p q r s h = cond-tells (a == 0x98 && code ==
 due-tells Ended at a code y z more p q r s h = nothing-tells _ _ _
 
 pub first-tells : (phase : Phase) (at : ℕ) (bytes : List ℕ) → AreBytes bytes → Tells phase at bytes (first_item phase at bytes)
-first-tells phase at (a ∷ code ∷ y ∷ z ∷ more) h = (due-tells phase at a code y z more h.0 h.1.0 h.1.1.0 h.1.1.1.0 h.1.1.1.1).is
-first-tells phase at bytes h = tt
-
-tells-fits : (phase : Phase) (at : ℕ) (bytes : List ℕ) (d : Due) → Tells phase at bytes d → IfOk d (λ due. IfSome due (λ found. Fits found.0))
-tells-fits phase at bytes (Ok (Some (item, size))) t = t.fits
-tells-fits phase at bytes d t = tt
+first-tells phase at bytes h = search (rules, due-tells)
 
 -- what is given where memory does not run out fits
 pub given-fits : (phase : Phase) (at : ℕ) (bytes : List ℕ) (given due : Due) → (given ≢ Err OutOfMemory → given ≡ due) → Tells phase at bytes due →
     IfOk given (λ due. IfSome due (λ found. Fits found.0))
-given-fits phase at bytes (Err fault) due h t = tt
-given-fits phase at bytes (Ok found) due h t = tells-fits phase at bytes (Ok found) (subst (λ (d : Due). Tells phase at bytes d) (sym (h (λ e. cc))) t)
+given-fits phase at bytes given due h1 h2 = grind arith
 
 pub fault-found : (phase : Phase) (at : ℕ) (bytes : List ℕ) (fault : MmoFault) → AreBytes bytes → first_item phase at bytes ≡ Err fault → TetraFault phase at bytes fault
 fault-found phase at bytes fault h e = subst (λ (d : Due). Tells phase at bytes d) e (first-tells phase at bytes h)

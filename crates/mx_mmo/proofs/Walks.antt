@@ -1,6 +1,6 @@
 -- The items of bytes: one step, and what more bytes add.
-use Rattle.std.proofs.Common.{◌≡◌, ℕ, zero, suc, ◌+◌, ◌<◌, ◌≤◌, length, List, [], ◌∷◌, ◌++◌, drop, arith, refl, sym, ◌∙◌, ap, Ok, Err, Some, None, length-drop}
-use Rattle.mx_mmo.proofs.Words.{common_steps, Due, IsWithin, first_item, phase_after, Walk, behind, walk_on, walk, items_of, extended, Item, MmoFault, Phase}
+use Rattle.std.proofs.Common.{◌≡◌, ℕ, zero, suc, ◌+◌, ◌<◌, ◌≤◌, length, List, [], ◌∷◌, ◌++◌, drop, arith, refl, sym, ◌∙◌, ap, Ok, Err, Some, None, length-drop, rules}
+use Rattle.mx_mmo.proofs.Words.{common_steps, Due, IsWithin, first_item, phase_after, Walk, behind, walk_on, walk, items_of, extended, Item, MmoFault, Phase, nat_tests}
 use Rattle.mx_mmo.proofs.Firsts.{Grows, first-grows, first-within}
 
 pub shorter : (size : ℕ) (bytes : List ℕ) → 0 < size → size ≤ length bytes → length (drop size bytes) < length bytes
@@ -8,8 +8,7 @@ shorter size bytes p q = omega (arith, length-drop size bytes)
 
 walk_on-same : (f g : Phase → ℕ → List ℕ → Walk) (phase : Phase) (at : ℕ) (bytes : List ℕ) (d : Due) → IsWithin d (length bytes) →
     ((p : Phase) (a : ℕ) (bs : List ℕ) → length bs < length bytes → f p a bs ≡ g p a bs) → walk_on f phase at bytes d ≡ walk_on g phase at bytes d
-walk_on-same f g phase at bytes (Ok (Some (item, size))) w h = ap (behind item) (h _ _ _ (shorter size bytes w.0 w.1))
-walk_on-same f g phase at bytes d w h = refl
+walk_on-same f g phase at bytes d h1 h2 = grind (arith, common_steps, nat_tests)
 
 -- as many steps as bytes are enough
 enough : (n m : ℕ) (phase : Phase) (at : ℕ) (bytes : List ℕ) → length bytes ≤ n → length bytes ≤ m → walk n phase at bytes ≡ walk m phase at bytes
@@ -23,9 +22,7 @@ enough n m phase at bytes p q = refl
 -- the items of bytes are the first and those of the bytes behind it
 pub items-step : (phase : Phase) (at : ℕ) (bytes : List ℕ) → items_of phase at bytes ≡ walk_on items_of phase at bytes (first_item phase at bytes)
 unfolding walk items_of
-items-step phase at [] = refl
-items-step phase at (b ∷ bs) =
-    walk_on-same (walk (length bs)) items_of phase at (b ∷ bs) _ (first-within phase at (b ∷ bs)) (λ f a cs l. enough (length bs) (length cs) f a cs (omega arith) (omega arith))
+items-step phase at bytes = search (rules, walk_on-same, first-within, enough)
 
 pub items-more : (phase : Phase) (at : ℕ) (bytes : List ℕ) (item : Item) (size : ℕ) → first_item phase at bytes ≡ Ok (Some (item, size)) →
     items_of phase at bytes ≡ behind item (items_of (phase_after item phase) (at + size) (drop size bytes))
@@ -40,8 +37,7 @@ pub items-fault : (phase : Phase) (at : ℕ) (bytes : List ℕ) (fault : MmoFaul
 items-fault phase at bytes fault e = items-step phase at bytes ∙ ap (walk_on items_of phase at bytes) e
 
 extended-behind : (item : Item) (w : Walk) (ys : List ℕ) → extended (behind item w) ys ≡ behind item (extended w ys)
-extended-behind item (items, Err fault) ys = refl
-extended-behind item (items, Ok left) ys = refl
+extended-behind item w ys = grind arith
 
 abbrev Extends : Phase → ℕ → List ℕ → List ℕ → Type 0
 Extends phase at xs ys = items_of phase at (xs ++ ys) ≡ extended (items_of phase at xs) ys

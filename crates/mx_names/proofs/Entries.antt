@@ -1,15 +1,13 @@
 -- What the entries of the map say as a list of symbols.
-use Rattle.std.proofs.Common.{ℕ, ◌+◌, ◌≡◌, Bool, true, false, cond, List, [], ◌∷◌, map, length, Option, Some, None, is_some, Ordering, refl, sym, ◌∙◌, ap, arith, bytes_eq}
-use Rattle.mx_names.proofs.Words.{option_map, lookup, keys_of, is_at, insert_entry, nat_cmp, is_lt, is_eq, match_ordering, Less, Equal, Greater, slice_cmp, AllByRecursion, is_eq-slice_cmp, bytes_eq-Decides, cond_both, false≢true, InByteOrder, IsNamed, Value, Symbol, Wait, predefined_value, IsFullName, value_in, symbols_with, first_value, pure_of, value_of_name, with_symbol, NameTable, Naming, symbol_of, IsInRange}
+use Rattle.std.proofs.Common.{ℕ, ◌+◌, ◌≡◌, Bool, true, false, cond, List, [], ◌∷◌, map, length, Option, Some, None, is_some, Ordering, refl, sym, ◌∙◌, ap, arith, bytes_eq, rules}
+use Rattle.mx_names.proofs.Words.{option_map, lookup, keys_of, is_at, insert_entry, nat_cmp, is_lt, is_eq, match_ordering, Less, Equal, Greater, slice_cmp, AllByRecursion, is_eq-slice_cmp, bytes_eq-Decides, InByteOrder, IsNamed, Value, Symbol, Wait, IsFullName, value_in, symbols_with, first_value, value_of_name, with_symbol, NameTable, Naming, symbol_of, IsInRange}
 use Rattle.std.specs.List.Sorted.{IsStrictlySortedBy}
 use Rattle.std.proofs.Math.ListN.{length-map}
 use Rattle.mx_names.specs.declared.names.Definition.{Definition}
 
 -- a look-up in the symbols is one in the map
 found-step : (b c : Bool) (v : Value) (d : Definition) (rest : Option Value) (more : Option Definition) → c ≡ b → v ≡ d.value → rest ≡ option_map (λ (d : Definition). d.value) more → cond b (Some v) rest ≡ option_map (λ (d : Definition). d.value) (cond c (Some d) more)
-found-step true true v d rest more same value h = ap (λ v. Some v) value
-found-step false false v d rest more same value h = h
-found-step b c v d rest more same value h = cc
+found-step b c v d rest more h1 h2 h3 = grind arith
 
 abbrev tabled : List ℕ → List Value → List Wait → List Symbol → Naming
 tabled prefix backs waiting symbols = record { names = record { symbols = symbols; prefix = prefix; backs = backs }; waiting = waiting }
@@ -66,16 +64,13 @@ all-are-named [] full ranged = tt
 all-are-named (s ∷ more) full ranged = (record { bytes = ranged.0.bytes; least = omega (arith, full.0.least); most = full.0.most; value = ranged.0.value; serial = ranged.0.serial }, all-are-named more full.1 ranged.1)
 
 none-first : (b : Bool) (v : Value) (rest : Option Value) → cond b (Some v) rest ≡ None → b ≡ false
-none-first true v rest h = cc
-none-first false v rest h = refl
+none-first b v rest h = grind arith
 
 none-rest : (b : Bool) (v : Value) (rest : Option Value) → cond b (Some v) rest ≡ None → rest ≡ None
-none-rest true v rest h = cc
-none-rest false v rest h = h
+none-rest b v rest h = grind arith
 
 swapped : (here is : Bool) (a b c : Option Value) → (is ≡ true → here ≡ true → false ≡ true) → cond here a (cond is b c) ≡ cond is b (cond here a c)
-swapped true true a b c apart = absurd (false≢true (apart refl refl))
-swapped here is a b c apart = refl
+swapped here is a b c h = grind arith
 
 -- a look-up after a symbol is put in
 pub value-inserted : (new : Symbol) (symbols : List Symbol) (name : List ℕ) → value_in new.name symbols ≡ None → value_in name (symbols_with new symbols) ≡ cond (bytes_eq name new.name) (Some new.value) (value_in name symbols)
@@ -90,25 +85,19 @@ value-inserted new (s ∷ ss) name absent = by (is_lt (slice_cmp nat_cmp new.nam
     by false rest = ap (λ r. cond (bytes_eq name s.name) (Some s.value) r) rest ∙ swapped _ _ _ _ _ apart
 
 first-cond : (b : Bool) (v : Value) (a c : Option Value) → first_value (cond b (Some v) a) c ≡ cond b (Some v) (first_value a c)
-first-cond true v a c = refl
-first-cond false v a c = refl
+first-cond b v a c = grind arith
 
 -- the value of each name after a definition
 pub value-defined : (table : NameTable) (full : List ℕ) (value : Value) (name : List ℕ) → value_in full table.symbols ≡ None → value_of_name (with_symbol table full value) name ≡ cond (bytes_eq name full) (Some value) (value_of_name table name)
-value-defined table full value name absent =
-    ap (λ o. first_value o (pure_of (predefined_value name))) (value-inserted (numbered full value (length table.symbols + 1)) table.symbols name absent)
-    ∙ first-cond (bytes_eq name full) value (value_in name table.symbols) (pure_of (predefined_value name))
+value-defined table full value name absent = simp (value-inserted, first-cond)
 
 pub not-some : {A : Type 0} (o : Option A) → is_some o ≡ false → o ≡ None
-not-some None h = refl
-not-some (Some x) h = cc
+not-some o h = grind arith
 
 pub some-mapped : {A B : Type 0} (f : A → B) (o : Option A) → is_some o ≡ is_some (option_map f o)
-some-mapped f None = refl
-some-mapped f (Some x) = refl
+some-mapped f o = grind arith
 
 -- one symbol more
 pub length-inserted : (new : Symbol) (symbols : List Symbol) → length (symbols_with new symbols) ≡ length symbols + 1
 length-inserted new [] = refl
-length-inserted new (s ∷ ss) = cond_both (is_lt (slice_cmp nat_cmp new.name s.name)) _ _ (λ x. length x ≡ length (s ∷ ss) + 1)
-    (λ _. omega arith) (λ _. omega (arith, (length-inserted new ss)))
+length-inserted new (s ∷ ss) = search (rules, length-inserted new ss)

@@ -1,6 +1,6 @@
 -- Groups of references, and all of them in the order of their numbers.
-use Rattle.std.proofs.Common.{◌≡◌, ◌<◌, ℕ, ◌+◌, Bool, true, false, nat_lt, cond, List, [], ◌∷◌, ◌++◌, length, None, Some, refl, sym, ap, subst, ◌∙◌, arith}
-use Rattle.mx_names.proofs.Words.{zip, AllByRecursion, lookup, set_value, is_at, insert_entry, nat_cmp, is_eq, match_ordering, slice_cmp, is_eq-slice_cmp, bytes_eq-Decides, Less, Equal, Greater, cond_both, lt-ltb, le-ltb, Wait, Numbered, with_one, with_group, all_in_order, waits_of, key_of, AreRising, IsGroup, AreGroups}
+use Rattle.std.proofs.Common.{◌≡◌, ◌<◌, ℕ, ◌+◌, Bool, true, false, nat_lt, cond, List, [], ◌∷◌, ◌++◌, length, None, Some, refl, sym, ap, subst, ◌∙◌, arith, rules}
+use Rattle.mx_names.proofs.Words.{zip, AllByRecursion, lookup, set_value, is_at, insert_entry, nat_cmp, is_eq, match_ordering, slice_cmp, is_eq-slice_cmp, bytes_eq-Decides, Less, Equal, Greater, cond_both, lt-ltb, Wait, Numbered, with_one, with_group, all_in_order, waits_of, key_of, AreRising, IsGroup, AreGroups, nat_tests}
 use Rattle.std.specs.declared.cmp.Ordering.{Ordering}
 
 pub zip-push : (ns : List ℕ) (ws : List Wait) (n : ℕ) (w : Wait) → length ns ≡ length ws → zip (ns ++ n ∷ []) (ws ++ w ∷ []) ≡ zip ns ws ++ (n, w) ∷ []
@@ -24,21 +24,13 @@ pub group-all : (P : Numbered → Type 0) (xs l : List Numbered) → AllByRecurs
 group-all P [] l here rest = rest
 group-all P (x ∷ xs) l here rest = one-all P x _ here.0 (group-all P xs l here.1 rest)
 
--- a reference with the next number comes last
-lt-not : (a b : ℕ) → b < a → nat_lt a b ≡ false
-lt-not a b less = le-ltb a b (omega arith)
-
 one-last : (x : Numbered) (l : List Numbered) → AllByRecursion (λ (y : Numbered). y.0 < x.0) l → with_one x l ≡ l ++ x ∷ []
 one-last x [] below = refl
-one-last x (y ∷ ys) below = rw (lt-not x.0 y.0 below.0) (ap (λ l. y ∷ l) (one-last x ys below.1))
+one-last x (y ∷ ys) below = grind (arith, nat_tests, one-last x ys below.1)
 
 one-before-last : (x z : Numbered) (l : List Numbered) → x.0 < z.0 → with_one x (l ++ z ∷ []) ≡ with_one x l ++ z ∷ []
 one-before-last x z [] less = rw (lt-ltb x.0 z.0 less) refl
-one-before-last x z (y ∷ ys) less = by (nat_lt x.0 y.0) (one-before-last x z ys less)
-  where
-    by : (b : Bool) → with_one x (ys ++ z ∷ []) ≡ with_one x ys ++ z ∷ [] → cond b (x ∷ y ∷ (ys ++ z ∷ [])) (y ∷ with_one x (ys ++ z ∷ [])) ≡ cond b (x ∷ y ∷ ys) (y ∷ with_one x ys) ++ z ∷ []
-    by true more = refl
-    by false more = ap (λ l. y ∷ l) more
+one-before-last x z (y ∷ ys) less = search (rules, one-before-last x z ys less)
 
 group-before-last : (xs l : List Numbered) (z : Numbered) → AllByRecursion (λ (x : Numbered). x.0 < z.0) xs → with_group xs (l ++ z ∷ []) ≡ with_group xs l ++ z ∷ []
 group-before-last [] l z below = refl
@@ -101,11 +93,7 @@ group-later : (key : List ℕ) (made : ℕ) (group : List Numbered) → IsGroup 
 group-later key made group is = record { rising = is.rising; below = all-weaker _ _ group (λ x less. omega arith) is.below; keyed = is.keyed }
 
 group-push : (key : List ℕ) (made : ℕ) (group : List Numbered) (w : Wait) → IsGroup key made group → key_of w.who ≡ key → IsGroup key (made + 1) (group ++ (made, w) ∷ [])
-group-push key made group w is keyed = record {
-  rising = rising-push group (made, w) is.rising is.below;
-  below = all-push _ group (made, w) (all-weaker _ _ group (λ x less. omega arith) is.below) (omega arith);
-  keyed = all-push _ group (made, w) is.keyed keyed;
-}
+group-push key made group w is keyed = search (rules, rising-push, all-push, all-weaker)
 
 group-one : (key : List ℕ) (made : ℕ) (w : Wait) → key_of w.who ≡ key → IsGroup key (made + 1) ((made, w) ∷ [])
 group-one key made w keyed = record { rising = (tt, tt); below = (omega arith, tt); keyed = (keyed, tt) }
@@ -116,22 +104,13 @@ groups-later bytes made (e ∷ es) groups = (group-later (bytes e.0) made e.1 gr
 
 pub groups-grown : {K : Type 0} (bytes : K → List ℕ) (made : ℕ) (test : K → Bool) (es : List (K × List Numbered)) (group : List Numbered) (w : Wait) → ((k : K) → test k ≡ true → key_of w.who ≡ bytes k) → lookup test es ≡ Some group → AreGroups bytes made es → AreGroups bytes (made + 1) (set_value test es (group ++ (made, w) ∷ []))
 groups-grown bytes made test [] group w keyed found groups = tt
-groups-grown {K} bytes made test (e ∷ es) group w keyed found groups = by (test e.0) (keyed e.0) found (groups-grown bytes made test es group w keyed)
-  where
-    by : (b : Bool) → (b ≡ true → key_of w.who ≡ bytes e.0) → cond b (Some e.1) (lookup test es) ≡ Some group → (lookup test es ≡ Some group → AreGroups bytes made es → AreGroups bytes (made + 1) (set_value test es (group ++ (made, w) ∷ []))) → AreGroups bytes (made + 1) (cond b ((e.0, group ++ (made, w) ∷ []) ∷ es) (e ∷ set_value test es (group ++ (made, w) ∷ [])))
-    by true here found rest =
-        let same : e.1 ≡ group = cc in
-        (group-push (bytes e.0) made group w (subst (IsGroup (bytes e.0) made) same groups.0) (here refl), groups-later bytes made es groups.1)
-    by false here found rest = (group-later (bytes e.0) made e.1 groups.0, rest found groups.1)
+groups-grown {K} bytes made test (e ∷ es) group w keyed found groups =
+    search (rules, group-push, groups-later, group-later, groups-grown bytes made test es group w keyed)
 
 pub groups-new : {K : Type 0} (bytes : K → List ℕ) (made : ℕ) (cmp : K → K → Ordering) (es : List (K × List Numbered)) (k : K) (w : Wait) → key_of w.who ≡ bytes k → lookup (is_at (cmp k)) es ≡ None → AreGroups bytes made es → AreGroups bytes (made + 1) (insert_entry cmp es k ((made, w) ∷ []))
-groups-new bytes made cmp [] k w keyed absent groups = (group-one (bytes k) made w keyed, tt)
-groups-new bytes made cmp (e ∷ es) k w keyed absent groups = by (cmp k e.0) absent (groups-new bytes made cmp es k w keyed)
-  where
-    by : (o : Ordering) → cond (is_eq o) (Some e.1) (lookup (is_at (cmp k)) es) ≡ None → (lookup (is_at (cmp k)) es ≡ None → AreGroups bytes made es → AreGroups bytes (made + 1) (insert_entry cmp es k ((made, w) ∷ []))) → AreGroups bytes (made + 1) (match_ordering o ((k, (made, w) ∷ []) ∷ e ∷ es) ((e.0, (made, w) ∷ []) ∷ es) (e ∷ insert_entry cmp es k ((made, w) ∷ [])))
-    by Less absent rest = (group-one (bytes k) made w keyed, (group-later (bytes e.0) made e.1 groups.0, groups-later bytes made es groups.1))
-    by Equal absent rest = cc
-    by Greater absent rest = (group-later (bytes e.0) made e.1 groups.0, rest absent groups.1)
+groups-new bytes made cmp [] k w keyed absent groups = grind arith
+groups-new bytes made cmp (e ∷ es) k w keyed absent groups =
+    search (rules, group-one, group-later, groups-later, groups-new bytes made cmp es k w keyed)
 
 -- keys that compare as equal are equal
 pub key-tells : (q key : List ℕ) → is_eq (slice_cmp nat_cmp q key) ≡ true → q ≡ key

@@ -1,5 +1,5 @@
 -- What always holds of the names of a source.
-use Rattle.std.proofs.Common.{ℕ, List, [], ◌∷◌}
+use Rattle.std.proofs.Common.{ℕ, List, [], ◌∷◌, rules}
 use Rattle.mx_names.proofs.Words.{cond_both, nat_cmp, is_lt, slice_cmp, AllByRecursion, Symbol, Value, NameTable, IsFullName, AreNames, symbols_with, with_symbol}
 
 pub all-inserted : (P : Symbol → Type 0) (new : Symbol) (symbols : List Symbol) → P new → AllByRecursion P symbols → AllByRecursion P (symbols_with new symbols)
@@ -8,5 +8,4 @@ all-inserted P new (s ∷ ss) p h = cond_both (is_lt (slice_cmp nat_cmp new.name
 
 -- one symbol more
 pub known-with-symbol : (table : NameTable) (full : List ℕ) (value : Value) → AreNames table → IsFullName full → AreNames (with_symbol table full value)
-known-with-symbol table full value known is =
-    record { prefix = known.prefix; symbols = all-inserted (λ (s : Symbol). IsFullName s.name) _ table.symbols is known.symbols; backs = known.backs }
+known-with-symbol table full value known is = search (rules, all-inserted)

@@ -1,11 +1,9 @@
 -- What is taken of all references when a group is, and what is left.
-use Rattle.std.proofs.Common.{◌≡◌, ◌<◌, ◌≤◌, ℕ, Bool, true, false, not, ◌==◌, nat_lt, cond, List, [], ◌∷◌, Option, None, Some, filter, refl, sym, ap, ◌∙◌, arith, nat_cmp, bytes_eq}
+use Rattle.std.proofs.Common.{◌≡◌, ◌<◌, ◌≤◌, ℕ, Bool, true, false, not, ◌==◌, nat_lt, cond, List, [], ◌∷◌, Option, None, Some, filter, refl, sym, ap, ◌∙◌, arith, nat_cmp, bytes_eq, rules}
 use Rattle.std.specs.Bool.{MatchBool}
 use Rattle.mx_names.proofs.Words.{AllByRecursion, lookup, remove_entry, slice_cmp, cond_both, lt-ltb, ltb-true, ltb-false, is_eq, is_eq-slice_cmp, Wait, Numbered, with_one, with_group, all_in_order, waits_of, waits_for, waits_for_others, key_of, AreRising, AreGroups}
-use Rattle.std.proofs.Math.Bool.{and-true}
 use Rattle.std.proofs.lemmas.Bool.Decides.{nat_tests}
 use Rattle.mx_word.specs.declared.waits.Awaited.{Awaited}
-use Rattle.mx_word.specs.declared.waits.Awaited.TheVariants.{Name, Local}
 use Rattle.mx_word.specs.Waits.{same_awaited}
 use Rattle.mx_names.proofs.Groups.{one-all, all-weaker}
 
@@ -16,9 +14,7 @@ AreSorted (x ∷ xs) = AllByRecursion (λ (y : Numbered). x.0 ≤ y.0) xs × Are
 
 one-sorted : (x : Numbered) (l : List Numbered) → AreSorted l → AreSorted (with_one x l)
 one-sorted x [] sorted = (tt, tt)
-one-sorted x (y ∷ ys) sorted = cond_both (nat_lt x.0 y.0) _ _ AreSorted
-    (λ e. ((omega (arith, (ltb-true x.0 y.0 e)), all-weaker _ _ ys (λ z above. omega (arith, (ltb-true x.0 y.0 e))) sorted.0), sorted))
-    (λ e. (one-all _ x ys (ltb-false x.0 y.0 e) sorted.0, (one-sorted x ys sorted.1)))
+one-sorted x (y ∷ ys) sorted = search (rules, ltb-true, all-weaker, one-all, ltb-false, one-sorted x ys sorted.1)
 
 group-sorted : (xs l : List Numbered) → AreSorted l → AreSorted (with_group xs l)
 group-sorted [] l sorted = sorted
@@ -37,8 +33,7 @@ group-alone [] rising = refl
 group-alone (x ∷ xs) rising = ap (with_one x) (group-alone xs rising.1) ∙ one-first x xs rising.0
 
 none-rest : {A : Type 0} (b : Bool) (x : A) (rest : Option A) → cond b (Some x) rest ≡ None → rest ≡ None
-none-rest true x rest none = cc
-none-rest false x rest none = none
+none-rest b x rest h = grind arith
 
 -- a test of each reference
 module _ (f : Numbered → Bool) where
@@ -123,19 +118,13 @@ module _ (f : Numbered → Bool) where
         by true here gone rest = group-no e.1 (all_in_order es) here ∙ others-pass es other.1 gone
         by false here gone rest = group-yes e.1 (all_in_order es) here (all-sorted es) ∙ ap (with_group e.1) (rest (none-rest (test e.0) e.1 _ gone))
 
--- the keys tell whether two references wait for the same
-numbers-swap : (a b : ℕ) → (a == b) ≡ (b == a)
-numbers-swap a b = grind (arith, nat_tests)
-
 bytes-swap : (a b : List ℕ) → bytes_eq a b ≡ bytes_eq b a
 bytes-swap [] [] = refl
-bytes-swap (x ∷ xs) (y ∷ ys) = rw (numbers-swap x y, bytes-swap xs ys) refl
+bytes-swap (x ∷ xs) (y ∷ ys) = grind (arith, nat_tests, bytes-swap xs ys)
 bytes-swap a b = refl
 
 same-key : (a b : Awaited) → same_awaited a b ≡ bytes_eq (key_of a) (key_of b)
-same-key (Name a) (Name b) = refl
-same-key (Local d) (Local e) = sym (and-true (d == e))
-same-key a b = refl
+same-key a b = grind arith
 
 abbrev test_for : {K : Type 0} → (K → List ℕ) → List ℕ → K → Bool
 test_for bytes key k = is_eq (slice_cmp nat_cmp key (bytes k))

@@ -1,6 +1,6 @@
 -- Numbers, and how many digits they take.
-use Rattle.std.proofs.Common.{◌≡◌, ℕ, suc, ◌+◌, ◌*◌, ◌^◌, ◌<◌, ◌≤◌, ◌==◌, Bool, true, false, cond, List, [], ◌∷◌, ◌++◌, length, arith, refl, sym, ap, ◌∙◌, subst, inl, inr}
-use Rattle.mx_stab.proofs.Words.{add-mul, mul_assoc, mul_comm, mul-le-mul_right, pow-le-pow_right, pow-zero, cases_lt, eqb-true, eqb-false, pow_more, AreBytes, AreBelow, number, number_behind, fewest_digits}
+use Rattle.std.proofs.Common.{◌≡◌, ℕ, suc, ◌+◌, ◌*◌, ◌^◌, ◌<◌, ◌≤◌, ◌==◌, Bool, true, false, cond, List, [], ◌∷◌, ◌++◌, length, arith, refl, sym, ap, ◌∙◌, subst, inl, inr, rules}
+use Rattle.mx_stab.proofs.Words.{add-mul, mul_assoc, mul_comm, mul-le-mul_right, pow-le-pow_right, pow-zero, cases_lt, eqb-true, eqb-false, pow_more, AreBytes, AreBelow, number, number_behind, fewest_digits, nat_tests, common_steps}
 
 one-more : (base x p : ℕ) → x * (p * base) ≡ x * base * p
 one-more base x p = ap (λ n. x * n) (mul_comm p base) ∙ sym (mul_assoc x base p)
@@ -14,33 +14,19 @@ power base n = ap (λ m. base ^ m) (omega arith) ∙ pow_more base n
 -- digits behind a number tell no less than that number with as many zeros
 pub number-least : (base x : ℕ) (ds : List ℕ) → x * base ^ length ds ≤ number_behind base x ds
 number-least base x [] = omega (arith, no-digits base x)
-number-least base x (d ∷ more) =
-    let rest = number-least base (x * base + d) more in
-    let grown : x * base * base ^ length more ≤ (x * base + d) * base ^ length more = mul-le-mul_right (base ^ length more) (omega arith) in
-    let same : x * base ^ length (d ∷ more) ≡ x * base * base ^ length more = ap (λ n. x * n) (power base (length more)) ∙ one-more base x (base ^ length more) in
-    omega (arith, rest, grown, same)
+number-least base x (d ∷ more) = search (rules, mul-le-mul_right, power, one-more, number-least base (x * base + d) more)
 
 -- and less than the next number with as many zeros
 pub number-most : (base x : ℕ) (ds : List ℕ) → AreBelow base ds → number_behind base x ds < (x + 1) * base ^ length ds
 number-most base x [] b = omega (arith, no-digits base (x + 1))
-number-most base x (d ∷ more) b =
-    let rest = number-most base (x * base + d) more b.1 in
-    let next : x * base + d + 1 ≤ (x + 1) * base = omega (arith, b.0, add-mul x 1 base) in
-    let grown : (x * base + d + 1) * base ^ length more ≤ (x + 1) * base * base ^ length more = mul-le-mul_right (base ^ length more) next in
-    let same : (x + 1) * base ^ length (d ∷ more) ≡ (x + 1) * base * base ^ length more = ap (λ n. (x + 1) * n) (power base (length more)) ∙ one-more base (x + 1) (base ^ length more) in
-    omega (arith, rest, grown, same)
+number-most base x (d ∷ more) b = grind (arith, nat_tests, add-mul, mul-le-mul_right, power, one-more, number-most base (x * base + d) more b.1)
 
 pub number-power : (base : ℕ) (ds : List ℕ) → AreBelow base ds → number base ds < base ^ length ds
-number-power base ds b = omega (arith, number-most base 0 ds b, one-times (base ^ length ds))
-  where
-    one-times : (p : ℕ) → (0 + 1) * p ≡ p
-    one-times p = omega arith
+number-power base ds b = search (rules, number-most)
 
 -- few bytes tell a small number
 pub number-below : (bytes : List ℕ) (i j : ℕ) → AreBytes bytes → length bytes ≤ i → 256 ^ i ≤ 2 ^ j → number 256 bytes < 2 ^ j
-number-below bytes i j b l p =
-    let more : 256 ^ length bytes ≤ 256 ^ i = pow-le-pow_right (omega arith) l in
-    omega (arith, number-power 256 bytes b, more, p)
+number-below bytes i j b l p = search (rules, pow-le-pow_right, number-power)
 
 -- the zeros in front tell nothing
 pub number-zero : (base e : ℕ) (more : List ℕ) → number base (e ∷ more) ≡ number base (0 ∷ e ∷ more)
@@ -70,18 +56,5 @@ fewest-least base ds n p l h = omega arith
 -- how many digits are left does not hang on the last one
 pub fewest-last : (ds : List ℕ) (a b : ℕ) → length (fewest_digits (ds ++ a ∷ [])) ≡ length (fewest_digits (ds ++ b ∷ []))
 fewest-last [] a b = refl
-fewest-last (d ∷ []) a b = one (d == 0)
-  where
-    one : (t : Bool) → length (cond t (a ∷ []) (d ∷ a ∷ [])) ≡ length (cond t (b ∷ []) (d ∷ b ∷ []))
-    one true = refl
-    one false = refl
-fewest-last (d ∷ e ∷ more) a b = one (d == 0) (fewest-last (e ∷ more) a b)
-  where
-    long : (xs : List ℕ) → length (xs ++ a ∷ []) ≡ length (xs ++ b ∷ [])
-    long [] = refl
-    long (x ∷ xs) = ap suc (long xs)
-
-    one : (t : Bool) → length (fewest_digits ((e ∷ more) ++ a ∷ [])) ≡ length (fewest_digits ((e ∷ more) ++ b ∷ [])) →
-        length (cond t (fewest_digits ((e ∷ more) ++ a ∷ [])) (d ∷ (e ∷ more) ++ a ∷ [])) ≡ length (cond t (fewest_digits ((e ∷ more) ++ b ∷ [])) (d ∷ (e ∷ more) ++ b ∷ []))
-    one true h = h
-    one false h = long (d ∷ e ∷ more)
+fewest-last (d ∷ []) a b = grind arith
+fewest-last (d ∷ e ∷ more) a b = grind (arith, common_steps, nat_tests, fewest-last (e ∷ more) a b)

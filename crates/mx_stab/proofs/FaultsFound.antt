@@ -1,6 +1,6 @@
 -- The fault that is read is in the table.
 use Rattle.std.proofs.Common.{◌≡◌, ◌≢◌, ℕ, zero, suc, ◌+◌, ◌-◌, ◌*◌, ◌^◌, ◌≤◌, ◌<◌, ◌==◌, ◌%◌, ◌/◌, Bool, true, false, cond, ◌||◌, List, [], ◌∷◌, ◌++◌, length, take, drop, Option, Some, None, Ok, Err, Result, arith, refl, sym, ap, ◌∙◌, subst, length-append, append_assoc, append-nil, nat_le, nat_lt, bytes_eq}
-use Rattle.mx_stab.proofs.Words.{encode_utf8, cond_both, eqb-true, eqb-false, leb-true, leb-false, ltb-true, ltb-false, length-take-le, take-append-drop, bytes_eq-Decides, AreBytes, Symbol, Value, StabFault, Truncated, Padding, Wide, Twice, TooLong, BadSerial, wide_number, is_wide_character, CountsTooFar, EndsWithin, FaultOf, HasCharacter, IsDue, IsTooDeep, IsWideBare, LacksWide, NamesAgain, UpToCharacter, UpToLeft, UpToSymbol, AreBelow, AreDistinct, IsSubtrie, SpellsCharacter, SpellsSerial, SpellsValue, Reading, Answer, Character, and_then, part_if, is_among, value_size, value_of, serial_behind, symbol_with, symbol, has, has_character, is_wide_bare, character_of, character_part, with_character, node_rest, node, subtrie, next_subtrie, is_padding, symbols_at_end, start, trie_answer}
+use Rattle.mx_stab.proofs.Words.{encode_utf8, cond_both, eqb-true, eqb-false, leb-true, leb-false, ltb-true, ltb-false, length-take-le, take-append-drop, bytes_eq-Decides, AreBytes, Symbol, Value, StabFault, Truncated, Padding, Wide, Twice, TooLong, BadSerial, wide_number, is_wide_character, CountsTooFar, EndsWithin, FaultOf, HasCharacter, IsDue, IsTooDeep, IsWideBare, LacksWide, NamesAgain, UpToCharacter, UpToLeft, UpToSymbol, AreBelow, AreDistinct, IsSubtrie, SpellsCharacter, SpellsSerial, SpellsValue, Reading, Answer, Character, and_then, part_if, is_among, value_size, value_of, serial_behind, symbol_with, symbol, has, has_character, is_wide_bare, character_of, character_part, with_character, node_rest, node, subtrie, next_subtrie, is_padding, symbols_at_end, start, trie_answer, nat_tests}
 use Rattle.mx_stab.specs.FaultTable as table
 use Rattle.mx_stab.specs.Reading as reading
 use Rattle.mx_stab.proofs.Distinct.{distinct-front}
@@ -18,16 +18,13 @@ InTable bytes (Ok s) = Unit {0}
 InTable bytes (Err fault) = FaultOf bytes fault
 
 table-then : (bytes : List ℕ) (part : Reading → Answer) (a : Answer) → InTable bytes a → ((u : Reading) → a ≡ Ok u → InTable bytes (part u)) → InTable bytes (and_then part a)
-table-then bytes part (Ok s) h k = k s refl
-table-then bytes part (Err fault) h k = h
+table-then bytes part a h1 h2 = grind arith
 
 table-if : (bytes : List ℕ) (b : Bool) (part : Reading → Answer) (s : Reading) → (b ≡ true → InTable bytes (part s)) → InTable bytes (part_if b part s)
-table-if bytes true part s h = h refl
-table-if bytes false part s h = tt
+table-if bytes b part s h = grind arith
 
 table-cond : (bytes : List ℕ) (b : Bool) (fault : StabFault) (a : Answer) → (b ≡ true → FaultOf bytes fault) → (b ≡ false → InTable bytes a) → InTable bytes (cond b (Err fault) a)
-table-cond bytes true fault a h k = h refl
-table-cond bytes false fault a h k = k refl
+table-cond bytes b fault a h1 h2 = grind arith
 
 -- a reading behind these first bytes
 record Behind (bytes : List ℕ) (k : ℕ) (front : List ℕ) (s : Reading) : Type 0 where
@@ -81,11 +78,7 @@ placed kind bytes front rest at e p h = subst (λ b. FaultOf b (kind at)) (sym e
 -- the serial number of a node
 no-end : (x : ℕ) (bytes : List ℕ) → serial_behind x bytes ≡ None → AreBelow 128 bytes
 no-end x [] h = tt
-no-end x (b ∷ more) h = one (nat_lt b 128) (ltb-true b 128) h (no-end (x * 128 + b) more)
-  where
-    one : (t : Bool) → (t ≡ true → b < 128) → cond t (serial_behind (x * 128 + b) more) (Some (x * 128 + (b - 128), more)) ≡ None → (serial_behind (x * 128 + b) more ≡ None → AreBelow 128 more) → AreBelow 128 (b ∷ more)
-    one true l h k = (l refl, k h)
-    one false l h k = absurd (cc)
+no-end x (b ∷ more) h = grind (arith, nat_tests, no-end (x * 128 + b) more)
 
 record Earlier (name : List ℕ) (found : List Symbol) : Type 0 where
   earlier : List Symbol

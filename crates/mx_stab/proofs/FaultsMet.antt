@@ -1,6 +1,6 @@
 -- The fault that the table has is met by the reader.
-use Rattle.std.proofs.Common.{◌≡◌, ◌≢◌, ℕ, ◌+◌, ◌*◌, ◌%◌, ◌^◌, ◌≤◌, ◌<◌, ◌==◌, Bool, true, false, cond, ◌||◌, List, [], ◌∷◌, ◌++◌, length, replicate, None, Err, arith, refl, sym, ap, ◌∙◌, append_assoc, length-append, zero-add, bytes_eq, nat_le, nat_lt, IsTrue, IfSome}
-use Rattle.mx_stab.proofs.Words.{cond-false, cond-true, lt-ltb, lt-leb, le-leb, ne_eqb, bytes_eq-Decides, Symbol, StabFault, Truncated, Padding, Wide, Twice, TooLong, BadSerial, wide_number, is_wide_character, CountsTooFar, EndsWithin, FaultOf, HasCharacter, IsDue, IsTooDeep, LacksWide, NamesAgain, UpToCharacter, UpToLeft, flag, AreBelow, AreDistinct, IsSubtrie, number, Reading, Answer, and_then, part_if, is_among, value_size, serial_behind, symbol_with, symbol, has, is_wide_bare, character_of, character_part, with_character, node_rest, next_subtrie, is_padding, symbols_at_end, start, trie_answer}
+use Rattle.std.proofs.Common.{◌≡◌, ◌≢◌, ℕ, ◌+◌, ◌*◌, ◌%◌, ◌^◌, ◌≤◌, ◌<◌, ◌==◌, true, false, ◌||◌, List, [], ◌∷◌, ◌++◌, length, replicate, None, Err, arith, refl, sym, ap, ◌∙◌, append_assoc, length-append, zero-add, nat_le, nat_lt, IfSome, rules}
+use Rattle.mx_stab.proofs.Words.{cond-false, cond-true, lt-ltb, lt-leb, le-leb, bytes_eq-Decides, Symbol, StabFault, Truncated, Padding, Wide, Twice, TooLong, BadSerial, CountsTooFar, EndsWithin, FaultOf, HasCharacter, IsDue, IsTooDeep, LacksWide, NamesAgain, UpToCharacter, UpToLeft, flag, AreBelow, AreDistinct, IsSubtrie, number, Reading, Answer, and_then, part_if, is_among, value_size, serial_behind, symbol_with, symbol, has, is_wide_bare, character_of, character_part, with_character, node_rest, next_subtrie, is_padding, symbols_at_end, start, trie_answer, nat_tests}
 use Rattle.mx_stab.specs.Faults.{place_of}
 use Rattle.mx_stab.specs.Reading as reading
 use Rattle.mx_stab.proofs.NodeParts.{behind-character, behind-left, behind-symbol, character-none, character-there, not-bare, there, wide-bare}
@@ -44,21 +44,13 @@ due-met (IsDue.right front path before m node name found middle symbols h k belo
 -- at the character of a node
 at-character : {path : List ℕ} {before : List Symbol} {m : ℕ} {node : List ℕ} {found : List Symbol} → UpToLeft path before m node found → HasCharacter m → (at : ℕ) (rest : List ℕ) →
     next_subtrie path (due_at at (node ++ rest) before) ≡ and_then (part_if (has 0x10 m) (next_subtrie path)) (reading.character next_subtrie at m path (due_at (at + length node) rest found))
-at-character {path} {before} {m} {node} {found} h some at rest =
-    behind-left h at rest
-    ∙ ap (λ b. and_then (part_if (has 0x10 m) (next_subtrie path)) (part_if b (reading.character next_subtrie at m path) (due_at (at + length node) rest found))) (character-there m some)
+at-character {path} {before} {m} {node} {found} h some at rest = cc (behind-left h at rest, character-there m some)
 
 marked : (m : ℕ) → flag 0x80 m ≡ 1 → has 0x80 m ≡ true
 marked m h = ap (λ n. n == 1) h
 
 cut-character : (node m at : ℕ) (found : List Symbol) (rest : List ℕ) → length rest < 1 + flag 0x80 m → character_of node m (due_at at rest found) ≡ Err (Truncated (at + length rest))
-cut-character node m at found [] l = one (has 0x80 m) ∙ ap (λ n. Err (Truncated n)) (omega arith)
-  where
-    one : (b : Bool) → cond b (reading.two_bytes node at found []) (reading.one_byte at found []) ≡ Err (Truncated at)
-    one true = refl
-    one false = refl
-cut-character node m at found (high ∷ []) l = cond-true (has 0x80 m) _ _ (marked m (omega (arith, l)))
-cut-character node m at found (high ∷ low ∷ rest) l = absurd (omega (arith, l))
+cut-character node m at found rest h = grind arith
 
 no-serial : (x : ℕ) (digits : List ℕ) → AreBelow 128 digits → serial_behind x digits ≡ None
 no-serial x [] h = refl
@@ -81,10 +73,7 @@ ends-met {path} (EndsWithin.at_character m node rest found h some few) at =
     ∙ ap (λ c. and_then (part_if (has 0x10 m) (next_subtrie path)) (with_character (character_part next_subtrie at m path) c)) (cut-character at m (at + length node) found rest few)
     ∙ ap (λ n. Err (Truncated n)) (omega (arith, length-append node rest))
 ends-met {path} (EndsWithin.at_value m node name rest found h some few) at =
-    behind-character h at rest
-    ∙ ap (λ a. and_then (part_if (has 0x10 m) (next_subtrie path)) (and_then (part_if (has 0x20 m) (next_subtrie name)) a))
-    (cond-false (m % 16 == 0) _ _ (ne_eqb (m % 16) 0 some) ∙ cond-true (nat_lt (length rest) (value_size (m % 16))) _ _ (lt-ltb (length rest) (value_size (m % 16)) few))
-    ∙ ap (λ n. Err (Truncated n)) (omega (arith, length-append node rest))
+    grind (arith, nat_tests, behind-character h at rest, lt-ltb (length rest) (value_size (m % 16)) few, length-append node rest)
 ends-met {path} (EndsWithin.at_serial m node name found value told digits h v below) at =
     let s = due_at (at + length node) (told ++ digits) found in
     at-serial h told at digits _ (symbol-valued (m % 16) at name value told digits s v refl ∙ ap (symbol_with at name value s) (no-serial 0 digits below))
@@ -94,13 +83,7 @@ ends-met {path} (EndsWithin.at_serial m node name found value told digits h v be
 wide-met : {path : List ℕ} {before : List Symbol} {bytes : List ℕ} → LacksWide path before bytes → (at : ℕ) → next_subtrie path (due_at at bytes before) ≡ Err (Wide at)
 wide-met {path} {before} (LacksWide.bare m rest bare) at = next-node path at before (m ∷ rest) ∙ cond-true (is_wide_bare m) _ _ (wide-bare m bare)
 wide-met {path} (LacksWide.no_character m high low node rest found h some mark none) at =
-    at-character h some at (high ∷ low ∷ rest)
-    ∙ ap (λ c. and_then (part_if (has 0x10 m) (next_subtrie path)) (with_character (character_part next_subtrie at m path) c))
-    (cond-true (has 0x80 m) _ _ (marked m mark) ∙ cond-false (is_wide_character (wide_number high low)) _ _ (other (is_wide_character (wide_number high low)) none))
-  where
-    other : (b : Bool) → ¬ IsTrue b → b ≡ false
-    other true h = absurd (h refl)
-    other false h = refl
+    grind (arith, nat_tests, at-character h some at (high ∷ low ∷ rest), marked m mark)
 
 -- a path that is too long
 deep-met : {path : List ℕ} {before : List Symbol} {bytes : List ℕ} → IsTooDeep path before bytes → (at : ℕ) → next_subtrie path (due_at at bytes before) ≡ Err (TooLong at)
@@ -123,11 +106,7 @@ far-met {path} {before} (CountsTooFar.serial_is m last node name found value tol
 -- a name that came before
 among : (earlier : List Symbol) (s : Symbol) (later : List Symbol) → is_among s.name (earlier ++ s ∷ later) ≡ true
 among [] s later = ap (λ b. b || is_among s.name later) ((bytes_eq-Decides s.name s.name).1 refl)
-among (t ∷ earlier) s later = one (bytes_eq s.name t.name) (among earlier s later)
-  where
-    one : (b : Bool) → is_among s.name (earlier ++ s ∷ later) ≡ true → (b || is_among s.name (earlier ++ s ∷ later)) ≡ true
-    one true h = refl
-    one false h = h
+among (t ∷ earlier) s later = search (rules, among earlier s later)
 
 again-met : {path : List ℕ} {before : List Symbol} {bytes : List ℕ} → NamesAgain path before bytes → (at : ℕ) → next_subtrie path (due_at at bytes before) ≡ Err (Twice at)
 again-met {path} {before} (NamesAgain.name_is m node earlier t later value serial told counted rest h v k) at =
@@ -139,21 +118,10 @@ again-met {path} {before} (NamesAgain.name_is m node earlier t later value seria
 
 -- a fault of a trie that has bytes
 read-fault : (bytes : List ℕ) (fault : StabFault) → fault ≢ Truncated 0 → next_subtrie [] (start bytes) ≡ Err fault → trie_answer bytes ≡ Err fault
-read-fault [] fault n e = absurd (n (same (sym e ∙ next-node [] 0 [] [])))
-  where
-    refusal : StabFault → Answer
-    refusal f = Err f
-
-    same : refusal fault ≡ refusal (Truncated 0) → fault ≡ Truncated 0
-    same h = cc
-read-fault (b ∷ more) fault n e = ap symbols_at_end e
+read-fault bytes fault h1 h2 = search (rules, next-node)
 
 no-padding : (rest : List ℕ) → ((zeros : ℕ) → zeros ≤ 3 → rest ≢ replicate zeros 0) → is_padding rest ≡ false
-no-padding rest h = one (is_padding rest) (padding-zeros rest)
-  where
-    one : (b : Bool) → (b ≡ true → (length rest ≤ 3) × (rest ≡ replicate (length rest) 0)) → b ≡ false
-    one true k = absurd (h (length rest) (k refl).0 (k refl).1)
-    one false k = refl
+no-padding rest h = search (rules, padding-zeros)
 
 -- other bytes behind a trie
 read-behind : (trie rest : List ℕ) (symbols : List Symbol) → IsSubtrie 1 [] trie symbols → AreDistinct symbols → is_padding rest ≡ false → trie_answer (trie ++ rest) ≡ Err (Padding (length trie))
@@ -176,9 +144,4 @@ fault-met (FaultOf.bad_serial front path rest before h k) = read-fault (front ++
 
 -- its place is at most the number of the bytes
 pub fault-within : {bytes : List ℕ} {fault : StabFault} → FaultOf bytes fault → IfSome (place_of fault) (λ at. at ≤ length bytes)
-fault-within (FaultOf.cut_off front path rest before h k some) = omega arith
-fault-within (FaultOf.padding trie rest symbols h distinct none) = omega (arith, length-append trie rest)
-fault-within (FaultOf.wide front path rest before h k) = omega (arith, length-append front rest)
-fault-within (FaultOf.twice front path rest before h k) = omega (arith, length-append front rest)
-fault-within (FaultOf.too_long front path rest before h k) = omega (arith, length-append front rest)
-fault-within (FaultOf.bad_serial front path rest before h k) = omega (arith, length-append front rest)
+fault-within h = search (rules, length-append)

@@ -1,7 +1,7 @@
 -- No fewer bytes tell a value or a serial number than those that are written.
-use Rattle.std.proofs.Common.{◌≡◌, ℕ, ◌+◌, ◌-◌, ◌%◌, ◌^◌, ◌<◌, ◌≤◌, Bool, true, false, cond, List, [], ◌∷◌, ◌++◌, length, arith, subst, length-append}
+use Rattle.std.proofs.Common.{◌≡◌, ℕ, ◌+◌, ◌-◌, ◌%◌, ◌^◌, ◌<◌, ◌≤◌, Bool, true, cond, List, [], ◌∷◌, ◌++◌, length, arith, length-append, rules}
 use Rattle.std.specs.Cmp.Derive.{both_true}
-use Rattle.mx_stab.proofs.Words.{le-leb, lt-ltb, octa_to_bytes, Value, AreBelow, SpellsValue, SpellsSerial, number, is_offset, octa_digits, value_bytes, serial_bytes}
+use Rattle.mx_stab.proofs.Words.{le-leb, lt-ltb, octa_to_bytes, Value, AreBelow, SpellsValue, SpellsSerial, is_offset, octa_digits, value_bytes, serial_bytes, nat_tests}
 use Rattle.mx_stab.specs.Grammar as grammar
 use Rattle.mx_stab.proofs.Digits.{number-power, number-below, fewest-least, fewest-last}
 use Rattle.mx_stab.proofs.Spelt.{octa-number, serial-front, serial-number}
@@ -11,22 +11,17 @@ octa-least : (x n : ℕ) → x < 2 ^ 64 → 1 ≤ n → x < 256 ^ n → length (
 octa-least x n l some h = fewest-least 256 (octa_to_bytes x) n (omega arith) some (omega (arith, octa-number x l, h))
 
 value-least : (b : Bool) (x n : ℕ) → x < 2 ^ 64 → 1 ≤ n → x < 256 ^ n → length (cond b (octa_digits (x - 2 ^ 61)) (octa_digits x)) ≤ n
-value-least true x n l some h = octa-least (x - 2 ^ 61) n (omega (arith, l)) some (omega (arith, h))
-value-least false x n l some h = octa-least x n l some h
+value-least b x n h1 h2 h3 = search (rules, octa-least)
 
 offset-least : (b : Bool) (y n : ℕ) → b ≡ true → y < 2 ^ 48 → 1 ≤ n → y < 256 ^ n → length (cond b (octa_digits (2 ^ 61 + y - 2 ^ 61)) (octa_digits (2 ^ 61 + y))) ≤ n
-offset-least true y n e l some h = octa-least (2 ^ 61 + y - 2 ^ 61) n (omega (arith, l)) some (omega (arith, h))
-offset-least false y n e l some h = absurd (cc)
+offset-least b y n h1 h2 h3 h4 = grind (arith, nat_tests, octa-least)
 
 offset-is : (y : ℕ) → y < 2 ^ 48 → is_offset (2 ^ 61 + y) ≡ true
 offset-is y l = both_true (le-leb (2 ^ 61) (2 ^ 61 + y) (omega arith)) (lt-ltb (2 ^ 61 + y) (2 ^ 61 + 2 ^ 48) (omega (arith, l)))
 
 pub values-fewest : (kind : ℕ) (value : Value) (bytes : List ℕ) → SpellsValue kind value bytes → length (value_bytes value) ≤ length bytes
-values-fewest _ _ _ (grammar.SpellsValue.pure bytes b least most) =
-    value-least (is_offset (number 256 bytes)) (number 256 bytes) (length bytes) (number-below bytes 8 64 b most (omega arith)) least (number-power 256 bytes b)
-values-fewest _ _ _ (grammar.SpellsValue.offset bytes b least most) =
-    let small = number-below bytes 6 48 b most (omega arith) in
-    offset-least (is_offset (2 ^ 61 + number 256 bytes)) (number 256 bytes) (length bytes) (offset-is (number 256 bytes) small) small least (number-power 256 bytes b)
+values-fewest _ _ _ (grammar.SpellsValue.pure bytes b least most) = search (rules, value-least, number-below, number-power)
+values-fewest _ _ _ (grammar.SpellsValue.offset bytes b least most) = search (rules, number-below, offset-least, offset-is, number-power)
 values-fewest _ _ _ (grammar.SpellsValue.register k l) = omega arith
 
 digits-below : (front : List ℕ) (last : ℕ) → AreBelow 128 front → last < 128 → AreBelow 128 (front ++ last ∷ [])
@@ -38,9 +33,4 @@ serial-least x n some h =
     omega (arith, fewest-last (serial-front x) (x % 128 + 128) (x % 128), fewest-least 128 (serial-front x ++ (x % 128) ∷ []) n (omega arith) some (omega (arith, serial-number x, h)))
 
 pub serials-fewest : (serial : ℕ) (bytes : List ℕ) → SpellsSerial serial bytes → length (serial_bytes serial) ≤ length bytes
-serials-fewest _ _ (grammar.SpellsSerial.digits front last b l fits) =
-    let long : length (front ++ (last + 128) ∷ []) ≡ length front + 1 = length-append front ((last + 128) ∷ []) in
-    let same : length (front ++ last ∷ []) ≡ length front + 1 = length-append front (last ∷ []) in
-    let power = number-power 128 (front ++ last ∷ []) (digits-below front last b l) in
-    let told : number 128 (front ++ last ∷ []) < 128 ^ (length front + 1) = subst (λ n. number 128 (front ++ last ∷ []) < 128 ^ n) same power in
-    omega (arith, long, serial-least (number 128 (front ++ last ∷ [])) (length front + 1) (omega arith) told)
+serials-fewest _ _ (grammar.SpellsSerial.digits front last b l fits) = search (rules, length-append, number-power, digits-below, serial-least)

@@ -1,61 +1,37 @@
 -- The first node of a trie, and what has_symbols behind it.
-use Rattle.std.proofs.Common.{◌≡◌, ℕ, zero, suc, ◌+◌, ◌-◌, ◌<◌, ◌==◌, List, [], ◌∷◌, ◌++◌, length, take, drop, Bool, true, false, cond, refl, sym, ap, ◌∙◌, arith, append_assoc, append-nil, length-append, ◌≤◌}
-use Rattle.mx_stab.proofs.Words.{cond_both, eqb-true, Symbol, next_byte, groups_with, groups_of, symbols_below, has_symbols, node_front, nodes, trie, trie_from, longest, bytes_due, run_length, group_size}
+use Rattle.std.proofs.Common.{◌≡◌, ℕ, zero, suc, ◌+◌, ◌-◌, ◌<◌, ◌==◌, List, [], ◌∷◌, ◌++◌, length, take, drop, Bool, true, false, refl, sym, ap, ◌∙◌, arith, append_assoc, append-nil, length-append, ◌≤◌, rules}
+use Rattle.mx_stab.proofs.Words.{eqb-true, Symbol, next_byte, groups_of, symbols_below, has_symbols, node_front, trie, trie_from, longest, bytes_due, run_length, group_size, nat_tests}
 use Rattle.mx_stab.specs.declared.writing.Pending.{Pending}
-
-group-step : (b : Bool) (at : ℕ) (s t : Symbol) (ts : List Symbol) (r q : ℕ) → (b ≡ true → q ≡ r) →
-    groups_of at (t ∷ ts) ≡ (t ∷ take q ts) ∷ groups_of at (drop q ts) →
-    cond b ((s ∷ t ∷ take q ts) ∷ groups_of at (drop q ts)) ((s ∷ []) ∷ (t ∷ take q ts) ∷ groups_of at (drop q ts)) ≡ (s ∷ take (cond b (suc r) 0) (t ∷ ts)) ∷ groups_of at (drop (cond b (suc r) 0) (t ∷ ts))
-group-step true at s t ts r q h k = rw (h refl) refl
-group-step false at s t ts r q h k = ap (λ g. (s ∷ []) ∷ g) (sym k)
 
 pub groups_of-first : (at : ℕ) (s : Symbol) (more : List Symbol) →
     groups_of at (s ∷ more) ≡ (s ∷ take (run_length at (next_byte at s) more) more) ∷ groups_of at (drop (run_length at (next_byte at s) more) more)
 groups_of-first at s [] = refl
-groups_of-first at s (t ∷ ts) =
-    let rest = groups_of-first at t ts in
-    ap (groups_with at s) rest ∙
-    group-step (next_byte at t == next_byte at s) at s t ts (run_length at (next_byte at s) ts) (run_length at (next_byte at t) ts)
-    (λ e. ap (λ x. run_length at x ts) (eqb-true (next_byte at t) (next_byte at s) e)) rest
-
-has_symbols-groups_with : (at : ℕ) (s : Symbol) (groups : List (List Symbol)) → has_symbols (groups_with at s groups) ≡ true
-has_symbols-groups_with at s ((t ∷ group) ∷ groups) = cond_both (next_byte at t == next_byte at s) _ _ (λ x. has_symbols x ≡ true) (λ _. refl) (λ _. refl)
-has_symbols-groups_with at s groups = refl
+groups_of-first at s (t ∷ ts) = grind (arith, nat_tests, groups_of-first at t ts)
 
 pub has_symbols-groups_of : (at : ℕ) (symbols : List Symbol) → has_symbols (groups_of at symbols) ≡ has_symbols symbols
-has_symbols-groups_of at [] = refl
-has_symbols-groups_of at (s ∷ more) = has_symbols-groups_with at s (groups_of at more)
+has_symbols-groups_of at = grind arith
 
 nodes-first : (deep at : ℕ) (symbols : List Symbol) → 0 < length symbols →
     trie (suc deep) at symbols ≡ node_front at (take (group_size at symbols) symbols) (has_symbols (drop (group_size at symbols) symbols))
     ++ trie deep (at + 1) (symbols_below at (take (group_size at symbols) symbols)) ++ trie (suc deep) at (drop (group_size at symbols) symbols)
 unfolding trie
-nodes-first deep at [] h = absurd (omega arith)
-nodes-first deep at (s ∷ more) h =
-    ap (nodes (trie deep (at + 1)) at) (groups_of-first at s more) ∙
-    ap (λ b. node_front at (s ∷ take (run_length at (next_byte at s) more) more) b ++ trie deep (at + 1) (symbols_below at (s ∷ take (run_length at (next_byte at s) more) more)) ++ trie (suc deep) at (drop (run_length at (next_byte at s) more) more))
-    (has_symbols-groups_of at (drop (run_length at (next_byte at s) more) more))
+nodes-first deep at symbols h = search (rules, groups_of-first, has_symbols-groups_of)
 
 pub first-node : (at : ℕ) (symbols : List Symbol) → at < 1024 → 0 < length symbols →
     trie_from at symbols ≡ node_front at (take (group_size at symbols) symbols) (has_symbols (drop (group_size at symbols) symbols))
     ++ trie_from (at + 1) (symbols_below at (take (group_size at symbols) symbols)) ++ trie_from at (drop (group_size at symbols) symbols)
-first-node at symbols l h =
-    let deep : longest - at ≡ suc (longest - (at + 1)) = omega arith in
-    rw deep (nodes-first (longest - (at + 1)) at symbols h)
+first-node at symbols l h = grind (arith, nat_tests, nodes-first (longest - (at + 1)) at symbols h)
 
 no-depth : (at : ℕ) (symbols : List Symbol) → trie zero at symbols ≡ []
 unfolding trie
 no-depth at symbols = refl
 
 pub trie-deep : (at : ℕ) (symbols : List Symbol) → 1024 ≤ at → trie_from at symbols ≡ []
-trie-deep at symbols l =
-    let over : longest - at ≡ 0 = omega arith in
-    rw over (no-depth at symbols)
+trie-deep at symbols l = search (rules, no-depth)
 
 pub trie-none : (deep at : ℕ) → trie deep at [] ≡ []
 unfolding trie
-trie-none zero at = refl
-trie-none (suc deep) at = refl
+trie-none deep at = grind arith
 
 pub bytes_due-push : (before : List Pending) (p : Pending) → bytes_due (before ++ p ∷ []) ≡ trie_from p.at p.symbols.now ++ bytes_due before
 bytes_due-push [] p = sym (append-nil (trie_from p.at p.symbols.now))
@@ -72,33 +48,21 @@ pub taken-all : (b c t a d e w : List ℕ) → c ++ d ≡ b ++ t ++ a → e ≡ 
 taken-all b c t a d e w h k m = h ∙ append_assoc b t a ∙ ap (λ xs. b ++ xs) (sym k) ∙ m
 
 pub less-left : (b c t a d e : List ℕ) (m n : ℕ) → c ++ d ≡ b ++ t ++ a → e ≡ t ++ a → n + length b ≤ m + length c → length d + n < length e + (m + 1)
-less-left b c t a d e m n h k l =
-    let lengths : length c + length d ≡ length b + length t + length a = sym (length-append c d) ∙ ap length h ∙ length-append (b ++ t) a ∙ ap (λ x. x + length a) (length-append b t) in
-    let whole : length e ≡ length t + length a = ap length k ∙ length-append t a in
-    omega (arith, lengths, whole, l)
+less-left b c t a d e m n h k l = grind (arith, nat_tests, length-append c d, length-append (b ++ t) a, length-append b t, length-append t a)
 
 pub trie-empty : (at : ℕ) (symbols : List Symbol) → (length symbols == 0) ≡ true → trie_from at symbols ≡ []
 trie-empty at [] h = trie-none (longest - at) at
 trie-empty at (s ∷ more) h = absurd (omega (arith, eqb-true (length (s ∷ more)) 0 h))
 
 some-symbol : (symbols : List Symbol) → (length symbols == 0) ≡ false → 0 < length symbols
-some-symbol [] h = absurd (cc)
-some-symbol (s ∷ more) h = omega arith
+some-symbol symbols h = grind arith
 
 -- a node that is written, with what is noted behind it
 pub node-taken : (b c : List ℕ) (at k : ℕ) (symbols g o below : List Symbol) (s : Bool) (a d e : List ℕ) →
     at < 1024 → (length symbols == 0) ≡ false → k ≡ group_size at symbols → g ≡ take k symbols → o ≡ drop k symbols → s ≡ has_symbols o →
     below ≡ symbols_below at g → c ≡ b ++ node_front at g s → d ≡ trie_from at o ++ a → e ≡ trie_from (at + 1) below ++ d →
     c ++ e ≡ b ++ trie_from at symbols ++ a
-node-taken b c at k symbols g o below s a d e l n hk hg ho hs hb hc hd he =
-    let size = group_size at symbols in
-    let group : g ≡ take (group_size at symbols) symbols = hg ∙ ap (λ i. take i symbols) hk in
-    let others : o ≡ drop (group_size at symbols) symbols = ho ∙ ap (λ i. drop i symbols) hk in
-    taken b c (node_front at (take size symbols) (has_symbols (drop size symbols))) (trie_from at symbols) (trie_from (at + 1) (symbols_below at (take size symbols))) (trie_from at (drop size symbols)) a d e
-    (first-node at symbols l (some-symbol symbols n))
-    (hc ∙ ap (λ x. b ++ node_front at x s) group ∙ ap (λ x. b ++ node_front at (take size symbols) x) (hs ∙ ap (λ x. has_symbols x) others))
-    (hd ∙ ap (λ x. trie_from at x ++ a) others)
-    (he ∙ ap (λ x. trie_from (at + 1) x ++ d) (hb ∙ ap (symbols_below at) group))
+node-taken b c at k symbols g o below s a d e l n hk hg ho hs hb hc hd he = search (rules, taken, first-node, some-symbol)
 
 pub less-noted : (b c : List ℕ) (before after whole : List Pending) (p : Pending) →
     c ++ bytes_due after ≡ b ++ trie_from p.at p.symbols.now ++ bytes_due before → whole ≡ before ++ p ∷ [] → length after + length b ≤ length before + length c →

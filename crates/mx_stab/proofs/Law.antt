@@ -1,6 +1,6 @@
 -- What is written is in the grammar.
-use Rattle.std.proofs.Common.{◌≡◌, ℕ, zero, suc, ◌+◌, ◌*◌, ◌<◌, ◌≤◌, ◌==◌, Bool, true, false, cond, List, [], ◌∷◌, ◌++◌, length, take, replicate, arith, refl, sym, ap, ◌∙◌, subst, inl, inr, length-append, slice_index_or}
-use Rattle.mx_stab.proofs.Words.{AllByRecursion, eqb-true, leb-true, leb-false, cases_lt, AreBytes, Symbol, value_bytes, kind, serial_bytes, next_byte, is_last_byte, groups_with, groups_of, bit, has_symbols, nodes, trie, trie_of, InByteOrder, IsNamed, IsSubtrie, IsTrie}
+use Rattle.std.proofs.Common.{◌≡◌, ℕ, zero, suc, ◌+◌, ◌*◌, ◌<◌, ◌≤◌, ◌==◌, Bool, true, false, cond, List, [], ◌∷◌, ◌++◌, length, take, replicate, arith, refl, sym, ap, ◌∙◌, subst, inl, inr, length-append, slice_index_or, rules}
+use Rattle.mx_stab.proofs.Words.{AllByRecursion, eqb-true, leb-true, leb-false, cases_lt, AreBytes, Symbol, value_bytes, kind, serial_bytes, next_byte, is_last_byte, groups_with, groups_of, bit, has_symbols, nodes, trie, trie_of, InByteOrder, IsNamed, IsSubtrie, IsTrie, nat_tests, common_steps}
 use Rattle.std.proofs.Math.Seq.{take-suc}
 use Rattle.mx_stab.specs.Grammar.IsSubtrie.{none, bare, passage, symbol}
 use Rattle.mx_stab.specs.Grammar.IsTrie.{empty, whole}
@@ -34,9 +34,7 @@ join-groups true at s t group groups h g gs = ((h refl, same group g), gs)
 join-groups false at s t group groups h g gs = (tt, (g, gs))
 
 groups_with-groups : (at : ℕ) (s : Symbol) (groups : List (List Symbol)) → AllByRecursion (IsGroup at) groups → AllByRecursion (IsGroup at) (groups_with at s groups)
-groups_with-groups at s [] h = (tt, tt)
-groups_with-groups at s ([] ∷ groups) h = absurd (h.0)
-groups_with-groups at s ((t ∷ group) ∷ groups) h = join-groups (next_byte at t == next_byte at s) at s t group groups (eqb-true (next_byte at t) (next_byte at s)) h.0 h.1
+groups_with-groups at s groups h = search (rules, join-groups, eqb-true)
 
 are-groups : (at : ℕ) (symbols : List Symbol) → AllByRecursion (IsGroup at) (groups_of at symbols)
 are-groups at [] = tt
@@ -47,14 +45,8 @@ abbrev all-of : List (List Symbol) → List Symbol
 all-of [] = []
 all-of (group ∷ groups) = group ++ all-of groups
 
-concat-step : (b : Bool) (s t : Symbol) (group : List Symbol) (groups : List (List Symbol)) →
-    all-of (cond b ((s ∷ t ∷ group) ∷ groups) ((s ∷ []) ∷ (t ∷ group) ∷ groups)) ≡ s ∷ all-of ((t ∷ group) ∷ groups)
-concat-step true s t group groups = refl
-concat-step false s t group groups = refl
-
 concat-groups_with : (at : ℕ) (s : Symbol) (groups : List (List Symbol)) → all-of (groups_with at s groups) ≡ s ∷ all-of groups
-concat-groups_with at s ((t ∷ group) ∷ groups) = concat-step (next_byte at t == next_byte at s) s t group groups
-concat-groups_with at s groups = refl
+concat-groups_with at = grind arith
 
 concat-groups_of : (at : ℕ) (symbols : List Symbol) → all-of (groups_of at symbols) ≡ symbols
 concat-groups_of at [] = refl
@@ -62,18 +54,10 @@ concat-groups_of at (s ∷ more) = concat-groups_with at s (groups_of at more) �
 
 -- the path with the next byte
 next-path : (path : List ℕ) (s : Symbol) → Under path s → take (length path + 1) s.name ≡ path ++ next_byte (length path) s ∷ []
-next-path path s u =
-    let one : length path + 1 ≡ suc (length path) = omega arith in
-    rw one (take-suc s.name (length path) 0 u.longer ∙ ap (λ p. p ++ next_byte (length path) s ∷ []) u.path-first)
+next-path path s u = search (rules, take-suc)
 
 below-path : (path : List ℕ) (c : ℕ) (s : Symbol) → Under path s → next_byte (length path) s ≡ c → length path + 1 < length s.name → Under (path ++ c ∷ []) s
-below-path path c s u e l =
-    let long : length (path ++ c ∷ []) ≡ length path + 1 = length-append path (c ∷ []) in
-    record {
-      path-first = ap (λ n. take n s.name) long ∙ next-path path s u ∙ ap (λ x. path ++ x ∷ []) e;
-      longer = omega (arith, long, l);
-      named = u.named;
-    }
+below-path path c s u e l = grind (arith, common_steps, nat_tests)
 
 take-whole : (n : ℕ) (xs : List ℕ) → length xs ≤ n → take n xs ≡ xs
 take-whole zero [] h = refl
@@ -94,8 +78,7 @@ more-below : (path : List ℕ) (s : Symbol) (more : List Symbol) → Under path 
     AllByRecursion (λ (t : Symbol). next_byte (length path) t ≡ next_byte (length path) s) more → AllByRecursion (λ (t : Symbol). Below s.name t.name) more →
     AreUnder (path ++ next_byte (length path) s ∷ []) more
 more-below path s [] u h g b = tt
-more-below path s (t ∷ more) u h g b =
-    (below-path path (next_byte (length path) s) t h.0 g.0 (goes-on path s t u h.0 g.0 b.0), more-below path s more u h.1 g.1 b.1)
+more-below path s (t ∷ more) u h g b = search (rules, below-path, goes-on, more-below path s more u h.1 g.1 b.1)
 
 abbrev flag : Bool → ℕ
 flag true = 1
@@ -103,14 +86,10 @@ flag false = 0
 
 -- the byte m of a node that is written
 byte-symbol : (g r : Bool) (k : ℕ) → 0 + 0x40 * 0 + 0x20 * flag g + 0x10 * flag r + k ≡ bit 0x20 g + bit 0x10 r + k
-byte-symbol true true k = refl
-byte-symbol true false k = refl
-byte-symbol false true k = refl
-byte-symbol false false k = refl
+byte-symbol g r = grind arith
 
 byte-passed : (r : Bool) → 0 + 0x40 * 0 + 0x20 + 0x10 * flag r ≡ bit 0x20 true + bit 0x10 r
-byte-passed true = refl
-byte-passed false = refl
+byte-passed r = grind arith
 
 -- what a smaller trie tells
 abbrev Holds : ℕ → Type 0
@@ -120,10 +99,7 @@ Holds deep = (path : List ℕ) (symbols : List Symbol) → length path + deep �
 -- the same below a path and one byte
 holds-below : (deep : ℕ) → Holds deep → (path : List ℕ) (c : ℕ) (symbols : List Symbol) → length path + suc deep ≡ 1024 → AreUnder (path ++ c ∷ []) symbols → AreInOrder symbols →
     IsSubtrie (flag (has_symbols symbols)) (path ++ c ∷ []) (trie deep (length path + 1) symbols) symbols
-holds-below deep holds path c symbols n u o =
-    let long : length (path ++ c ∷ []) ≡ length path + 1 = length-append path (c ∷ []) in
-    subst (λ at. IsSubtrie (flag (has_symbols symbols)) (path ++ c ∷ []) (trie deep at symbols) symbols) long
-    (holds (path ++ c ∷ []) symbols (omega (arith, long, n)) u o)
+holds-below deep holds path c symbols n u o = search (rules, length-append)
 
 byte-below : (name : List ℕ) (n : ℕ) → AreBytes name → n < length name → slice_index_or name n 0 < 256
 byte-below [] n h l = absurd (omega (arith, l))
@@ -164,13 +140,8 @@ node-is : (e : Bool) (deep : ℕ) → Holds deep → (path : List ℕ) (s : Symb
     ((bit 0x20 (has_symbols (cond e more (s ∷ more))) + bit 0x10 r) ∷ next_byte (length path) s ∷ [])
     ++ trie deep (length path + 1) (cond e more (s ∷ more)) ++ right)
     ((s ∷ more) ++ others)
-node-is true deep holds path s more others r right t f n u g o k =
-    node-is_last_byte path s more others r _ right u.0 (t refl)
-    (holds-below deep holds path (next_byte (length path) s) more n (more-below path s more u.0 u.1 g o.0) o.1) k
-node-is false deep holds path s more others r right t f n u g o k =
-    node-passes path s more others r _ right u.0
-    (holds-below deep holds path (next_byte (length path) s) (s ∷ more) n
-    (below-path path (next_byte (length path) s) s u.0 refl (f refl), more-below path s more u.0 u.1 g o.0) o) k
+node-is e deep h1 path s more others r right h2 h3 h4 h5 h6 h7 h8 =
+    search (rules, node-is_last_byte, holds-below, more-below, node-passes, below-path)
 
 nodes-are : (deep : ℕ) → Holds deep → (path : List ℕ) (groups : List (List Symbol)) → length path + suc deep ≡ 1024 →
     AllByRecursion (IsGroup (length path)) groups → AreUnder path (all-of groups) → AreInOrder (all-of groups) →

@@ -1,5 +1,5 @@
 -- The names of the symbols that were found.
-use Rattle.std.proofs.Common.{◌≡◌, ◌≢◌, ℕ, suc, ◌+◌, ◌-◌, ◌<◌, ◌≤◌, Bool, true, false, not, ◌||◌, List, [], ◌∷◌, ◌++◌, length, get_or, take, Ordering, Vec, Result, Ok, Err, OnOk, OnErr, arith, refl, sym, ap, subst, ◌∙◌, bytes_eq}
+use Rattle.std.proofs.Common.{◌≡◌, ◌≢◌, ℕ, suc, ◌+◌, ◌-◌, ◌<◌, ◌≤◌, Bool, true, false, not, ◌||◌, List, [], ◌∷◌, ◌++◌, length, get_or, take, Ordering, Vec, Result, Ok, Err, OnOk, OnErr, arith, refl, sym, ap, ◌∙◌, bytes_eq, rules}
 use Rattle.mx_stab.proofs.Words.{AllByRecursion, list_any, nat_cmp, is_eq, is_lt, match_ordering, Less, Equal, Greater, slice_cmp, or_comm, or_assoc, take_at_read, bytes_eq-Decides, Symbol, Pure, AreDistinct, is_above, is_key, HasNames, InByteOrder, is_among}
 use Rattle.std.specs.BTreeMap.{is_at}
 use Rattle.std.specs.BTreeSet.{BTreeSet, insert_key}
@@ -40,9 +40,7 @@ pub above-new : (symbols : List Symbol) (new : Symbol) → InByteOrder symbols �
 above-new symbols new o h = not-among symbols new [] (in-order-distinct (symbols ++ new ∷ []) (order-push symbols new (in-order symbols o) h))
 
 or-twice : (a b : Bool) → (a || b) ≡ ((a || b) || a)
-or-twice true b = refl
-or-twice false true = refl
-or-twice false false = refl
+or-twice a b = grind arith
 
 module _ {K : Type 0} (bytes : K → List ℕ) where
   abbrev pub keyed : List ℕ → List K → Bool
@@ -77,8 +75,7 @@ key-more k old new name put same q =
 -- a symbol more, whose name is a key
 pub names-more : {Z : Type 0} (old new : BTreeSet (Vec ℕ Z)) (ss more : List Symbol) (s : Symbol) (name : List ℕ) → HasNames old ss → ((q : List ℕ) → is_key q new ≡ (is_key q old || bytes_eq q name)) →
     s.name ≡ name → more ≡ ss ++ s ∷ [] → HasNames new more
-names-more old new ss more s name h put same pushed q =
-    put q ∙ ap (λ b. b || bytes_eq q name) (h q) ∙ ap (λ n. is_among q ss || bytes_eq q n) (sym same) ∙ sym (among-push q ss s) ∙ ap (is_among q) (sym pushed)
+names-more old new ss more s name h put same pushed q = search (rules, among-push)
 
 -- the names of one symbol more of a list
 pub names-next : {Z : Type 0} (old new : BTreeSet (Vec ℕ Z)) (symbols : List Symbol) (i : ℕ) (s : Symbol) (name : List ℕ) → i < length symbols → s ≡ get_or symbols i s → HasNames old (take i symbols) →
@@ -89,8 +86,7 @@ names-next old new symbols i s name l is h put same =
 -- a symbol was added above the others, or none
 pub order-added : {E : Type 0} (r : Result (Unit {0}) E) (old new : List Symbol) (s : Symbol) (name : List ℕ) → OnOk r (new ≡ old ++ s ∷ []) → OnErr r (new ≡ old) → InByteOrder old →
     name ≡ s.name → true ≡ is_above name old → InByteOrder new
-order-added (Ok u) old new s name ok err o same h = subst InByteOrder (sym ok) (order-above old s o (ap (λ n. is_above n old) (sym same) ∙ sym h))
-order-added (Err e) old new s name ok err o same h = subst InByteOrder (sym err) o
+order-added r old new s name h1 h2 h3 h4 h5 = search (rules, order-above)
 
 pub names-added : {Z E : Type 0} (r : Result (Unit {0}) E) (old new : BTreeSet (Vec ℕ Z)) (ss more : List Symbol) (s : Symbol) (name : List ℕ) → HasNames old ss →
     ((q : List ℕ) → is_key q new ≡ (is_key q old || bytes_eq q name)) → s.name ≡ name → OnOk r (more ≡ ss ++ s ∷ []) → OnOk r (HasNames new more)
@@ -98,5 +94,4 @@ names-added (Ok u) old new ss more s name h put same pushed = names-more old new
 names-added (Err e) old new ss more s name h put same pushed = tt
 
 pub above-not-among : (symbols seen : List Symbol) (name : List ℕ) (above : Bool) → InByteOrder symbols → above ≡ is_above name symbols → above ≡ true → symbols ≡ seen → not above ≡ is_among name seen
-above-not-among symbols seen name above o h e s =
-    ap not e ∙ sym (above-new symbols (record { name = name; value = Pure 0; serial = 0 }) o (sym h ∙ e)) ∙ ap (is_among name) s
+above-not-among symbols seen name above o h e s = cc (above-new symbols (record { name = name; value = Pure 0; serial = 0 }) o (sym h ∙ e))

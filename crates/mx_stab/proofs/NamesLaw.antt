@@ -1,6 +1,6 @@
 -- The symbols of a trie are named.
-use Rattle.std.proofs.Common.{◌≡◌, ℕ, ◌+◌, ◌/◌, ◌%◌, ◌<◌, Bool, true, false, cond, List, [], ◌∷◌, ◌++◌, length, arith, refl, length-append, nat_lt}
-use Rattle.mx_stab.proofs.Words.{encode_utf8, AllByRecursion, lt-ltb, ltb-true, bytes-append, AreBytes, Symbol, Value, wide_number, AreDistinct, IsSubtrie, IsTrie, SpellsCharacter, SpellsValue, IsNamed, IsValue}
+use Rattle.std.proofs.Common.{◌≡◌, ℕ, ◌+◌, ◌/◌, ◌%◌, ◌<◌, List, [], ◌∷◌, ◌++◌, length, arith, length-append, rules}
+use Rattle.mx_stab.proofs.Words.{encode_utf8, AllByRecursion, bytes-append, AreBytes, Symbol, Value, AreDistinct, IsSubtrie, IsTrie, SpellsCharacter, SpellsValue, IsNamed, IsValue}
 use Rattle.mx_stab.specs.Grammar as grammar
 use Rattle.mx_stab.proofs.Digits.{number-below}
 use Rattle.mx_stab.proofs.Orders.{all-both}
@@ -13,22 +13,10 @@ record AreName (bytes : List ℕ) : Type 0 where
 
 encoded : (c : ℕ) → c < 65536 → AreName (encode_utf8 c)
 unfolding encode_utf8
-encoded c l = one (nat_lt c 128) (nat_lt c 2048) (nat_lt c 65536) (ltb-true c 128) (ltb-true c 2048) (lt-ltb c 65536 l)
-  where
-    one : (p q r : Bool) → (p ≡ true → c < 128) → (q ≡ true → c < 2048) → r ≡ true →
-        AreName (cond p (c ∷ []) (cond q ((192 + c / 64) ∷ (128 + c % 64) ∷ []) (cond r ((224 + c / 4096) ∷ (128 + c / 64 % 64) ∷ (128 + c % 64) ∷ []) ((240 + c / 262144) ∷ (128 + c / 4096 % 64) ∷ (128 + c / 64 % 64) ∷ (128 + c % 64) ∷ []))))
-    one true q r h k e =
-        let low = h refl in
-        record { are = (omega (arith, low), tt); some = omega arith }
-    one false true r h k e =
-        let low = k refl in
-        record { are = (omega (arith, low), (omega arith, tt)); some = omega arith }
-    one false false true h k e = record { are = (omega (arith, l), (omega arith, (omega arith, tt))); some = omega arith }
-    one false false false h k e = absurd (cc)
+encoded c l = grind arith
 
 character-named : {wide : ℕ} {name character : List ℕ} → SpellsCharacter wide name character → AreName name
-character-named (grammar.SpellsCharacter.one_byte c small) = record { are = (small, tt); some = omega arith }
-character-named (grammar.SpellsCharacter.two_bytes high low h l wide) = encoded (wide_number high low) (omega arith)
+character-named h = search (rules, encoded)
 
 value-fits : {kind : ℕ} {value : Value} {bytes : List ℕ} → SpellsValue kind value bytes → IsValue value
 value-fits (grammar.SpellsValue.pure bytes b least most) = number-below bytes 8 64 b most (omega arith)
@@ -50,5 +38,4 @@ subtrie-named (grammar.IsSubtrie.symbol path name character wide l m r kind seri
     (subtrie-named hr b)
 
 pub trie-named : (bytes : List ℕ) (symbols : List Symbol) → IsTrie bytes symbols → AreDistinct symbols × AllByRecursion IsNamed symbols
-trie-named _ _ grammar.IsTrie.empty = (tt, tt)
-trie-named _ _ (grammar.IsTrie.whole trie n symbols h few distinct) = (distinct, subtrie-named h tt)
+trie-named bytes symbols h = search (rules, subtrie-named)

@@ -1,8 +1,8 @@
 -- Names in byte order.
-use Rattle.std.proofs.Common.{◌≡◌, ◌≢◌, ℕ, zero, suc, ◌<◌, ◌⊎◌, true, List, [], ◌∷◌, ◌++◌, take, map, Ordering, arith, refl, inl, inr}
-use Rattle.mx_stab.proofs.Words.{AllByRecursion, slice_cmp, nat_cmp, is_lt, ordering_then, MatchOrdering, Less, Equal, Greater, Symbol, AreDistinct, is_above, InByteOrder}
+use Rattle.std.proofs.Common.{◌≡◌, ◌≢◌, ℕ, zero, suc, ◌<◌, ◌⊎◌, true, List, [], ◌∷◌, ◌++◌, take, map, Ordering, arith, inl, inr}
+use Rattle.mx_stab.proofs.Words.{AllByRecursion, slice_cmp, nat_cmp, is_lt, Less, Symbol, AreDistinct, is_above, InByteOrder}
 use Rattle.std.specs.List.Sorted.{IsStrictlySortedBy}
-use Rattle.std.proofs.lemmas.Cmp.{nat_list_cmp_total, ranked}
+use Rattle.std.proofs.lemmas.Cmp.{nat_list_cmp_total}
 
 pub all-front : {A : Type 0} (P : A → Type 0) (xs ys : List A) → AllByRecursion P (xs ++ ys) → AllByRecursion P xs
 all-front P [] ys h = tt
@@ -53,12 +53,7 @@ order-back (x ∷ xs) ys h = order-back xs ys h.1
 
 -- how the first bytes of two names decide
 below-first : (a b : ℕ) (xs ys : List ℕ) → Below (a ∷ xs) (b ∷ ys) → (a < b) ⊎ ((a ≡ b) × Below xs ys)
-below-first a b xs ys = one (nat_cmp a b) (ranked a b (nat_cmp a b) refl)
-  where
-    one : (o : Ordering) → MatchOrdering o (a < b) (a ≡ b) (b < a) → ordering_then o (slice_cmp nat_cmp xs ys) ≡ Less → (a < b) ⊎ ((a ≡ b) × Below xs ys)
-    one Less l h = inl l
-    one Equal l h = inr (l, h)
-    one Greater l h = absurd (cc)
+below-first a b xs ys = grind arith
 
 not-same : (a b : List ℕ) → Below a b → a ≡ b → ⊥
 not-same (a ∷ xs) (b ∷ ys) h e =
@@ -94,8 +89,7 @@ in-order-distinct (s ∷ more) h = (distinct-first s more h.0, in-order-distinct
 
 -- a name above the last one keeps the order
 less-is : (o : Ordering) → is_lt o ≡ true → o ≡ Less
-less-is Less h = refl
-less-is o h = absurd (cc)
+less-is o h = grind arith
 
 pub order-push : (symbols : List Symbol) (new : Symbol) → AreInOrder symbols → is_above new.name symbols ≡ true → AreInOrder (symbols ++ new ∷ [])
 order-push [] new o h = (tt, tt)

@@ -1,23 +1,20 @@
 -- Values and serial numbers as they are written.
-use Rattle.std.proofs.Common.{◌≡◌, ℕ, ◌+◌, ◌-◌, ◌/◌, ◌%◌, ◌^◌, ◌<◌, ◌≤◌, ◌==◌, Bool, true, false, cond, List, [], ◌∷◌, ◌++◌, length, arith, refl, sym, ap, ◌∙◌, subst, nat_le, nat_lt, ◌&&◌}
-use Rattle.mx_stab.proofs.Words.{and_parts, eqb-true, leb-true, ltb-true, octa_to_bytes, Value, Pure, Reg, fewest_digits, octa_digits, is_offset, value_bytes, kind, serial_bytes, number, AreBelow, SpellsValue, SpellsSerial, IsValue}
+use Rattle.std.proofs.Common.{◌≡◌, ℕ, ◌+◌, ◌-◌, ◌/◌, ◌%◌, ◌^◌, ◌<◌, ◌≤◌, ◌==◌, Bool, true, false, cond, List, [], ◌∷◌, ◌++◌, length, arith, refl, sym, ◌∙◌, subst, nat_le, nat_lt, ◌&&◌}
+use Rattle.mx_stab.proofs.Words.{eqb-true, octa_to_bytes, Value, Pure, Reg, fewest_digits, octa_digits, is_offset, value_bytes, kind, serial_bytes, number, AreBelow, SpellsValue, SpellsSerial, IsValue, nat_tests}
 use Rattle.mx_stab.specs.Grammar.SpellsValue.{pure, offset, register}
 use Rattle.mx_stab.specs.Grammar.SpellsSerial.{digits}
-use Rattle.mx_stab.proofs.Digits.{number-zero}
 
 -- the digits without zeros in front: their bound, their number, and how many they are
 skip-same : (b : Bool) (base d e : ℕ) (more : List ℕ) → (b ≡ true → d ≡ 0) → number base (fewest_digits (e ∷ more)) ≡ number base (e ∷ more) →
     number base (cond b (fewest_digits (e ∷ more)) (d ∷ e ∷ more)) ≡ number base (d ∷ e ∷ more)
-skip-same true base d e more h k = k ∙ rw (h refl) (number-zero base e more)
-skip-same false base d e more h k = refl
+skip-same b base d e more h1 h2 = grind arith
 
 fewest_digits-same : (base : ℕ) (ds : List ℕ) → number base (fewest_digits ds) ≡ number base ds
 fewest_digits-same base (d ∷ e ∷ more) = skip-same (d == 0) base d e more (eqb-true d 0) (fewest_digits-same base (e ∷ more))
 fewest_digits-same base ds = refl
 
 skip-below : (b : Bool) (base d e : ℕ) (more : List ℕ) → AreBelow base (d ∷ e ∷ more) → AreBelow base (fewest_digits (e ∷ more)) → AreBelow base (cond b (fewest_digits (e ∷ more)) (d ∷ e ∷ more))
-skip-below true base d e more h k = k
-skip-below false base d e more h k = h
+skip-below b base d e more h1 h2 = grind arith
 
 fewest_digits-below : (base : ℕ) (ds : List ℕ) → AreBelow base ds → AreBelow base (fewest_digits ds)
 fewest_digits-below base [] h = tt
@@ -26,15 +23,11 @@ fewest_digits-below base (d ∷ e ∷ more) h = skip-below (d == 0) base d e mor
 
 skip-length : (b : Bool) (d e : ℕ) (more : List ℕ) → (1 ≤ length (fewest_digits (e ∷ more))) × (length (fewest_digits (e ∷ more)) ≤ length (e ∷ more)) →
     (1 ≤ length (cond b (fewest_digits (e ∷ more)) (d ∷ e ∷ more))) × (length (cond b (fewest_digits (e ∷ more)) (d ∷ e ∷ more)) ≤ length (d ∷ e ∷ more))
-skip-length true d e more h = (h.0, omega (arith, h.1))
-skip-length false d e more h = (omega arith, omega arith)
+skip-length b d e more h = grind arith
 
 fewest_digits-length : (d : ℕ) (more : List ℕ) → (1 ≤ length (fewest_digits (d ∷ more))) × (length (fewest_digits (d ∷ more)) ≤ length (d ∷ more))
 fewest_digits-length d [] = (omega arith, omega arith)
 fewest_digits-length d (e ∷ more) = skip-length (d == 0) d e more (fewest_digits-length e more)
-
-two-zeros : (a b c : ℕ) (more : List ℕ) → a ≡ 0 → b ≡ 0 → length (fewest_digits (a ∷ b ∷ c ∷ more)) ≤ length (c ∷ more)
-two-zeros a b c more h k = rw (h, k) ((fewest_digits-length c more).1)
 
 pub octa-number : (x : ℕ) → x < 2 ^ 64 → number 256 (octa_to_bytes x) ≡ x
 octa-number x h = omega arith
@@ -46,11 +39,7 @@ octa-below : (x : ℕ) → AreBelow 256 (octa_to_bytes x)
 octa-below x = (below-256 _, (below-256 _, (below-256 _, (below-256 _, (below-256 _, (below-256 _, (below-256 _, (below-256 _, tt))))))))
 
 octa-short : (x : ℕ) → x < 2 ^ 48 → length (octa_digits x) ≤ 6
-octa-short x h =
-    let first : x / 2 ^ 56 % 256 ≡ 0 = omega (arith, h) in
-    let second : x / 2 ^ 48 % 256 ≡ 0 = omega (arith, h) in
-    two-zeros (x / 2 ^ 56 % 256) (x / 2 ^ 48 % 256) (x / 2 ^ 40 % 256)
-    ((x / 2 ^ 32 % 256) ∷ (x / 2 ^ 24 % 256) ∷ (x / 2 ^ 16 % 256) ∷ (x / 2 ^ 8 % 256) ∷ (x % 256) ∷ []) first second
+octa-short x h = grind (arith, nat_tests)
 
 some-length : (ds : List ℕ) → 0 < length ds → (1 ≤ length (fewest_digits ds)) × (length (fewest_digits ds) ≤ length ds)
 some-length [] h = absurd (omega (arith, h))
@@ -75,9 +64,7 @@ spell-pure true x h l =
     (offset (octa_digits y) (fewest_digits-below 256 (octa_to_bytes y) (octa-below y)) ((octa-length y).0) (octa-short y small))
 
 both : (a b : ℕ) → (nat_le (2 ^ 61) a && nat_lt a b) ≡ true → (2 ^ 61 ≤ a) × (a < b)
-both a b h =
-    let p = and_parts (nat_le (2 ^ 61) a) (nat_lt a b) h in
-    (leb-true (2 ^ 61) a p.0, ltb-true a b p.1)
+both a b h = grind arith
 
 pub spell-value : (v : Value) → IsValue v → SpellsValue (kind v) v (value_bytes v)
 spell-value (Pure x) h = spell-pure (is_offset x) x (both x (2 ^ 61 + 2 ^ 48)) h
@@ -94,12 +81,7 @@ shorten-step : (b : Bool) (d : ℕ) (rest : List ℕ) (last : ℕ) (all : List �
     all ≡ cond b (fewest_digits (rest ++ (last + 128) ∷ [])) (d ∷ rest ++ (last + 128) ∷ []) → fewest_digits (d ∷ rest ++ (last + 128) ∷ []) ≡ all →
     number 128 (0 ∷ rest ++ last ∷ []) ≡ number 128 (rest ++ last ∷ []) →
     Shortened rest last → Shortened (d ∷ rest) last
-shorten-step true d rest last all h l e f z k = record {
-  short = k.short;
-  same = f ∙ e ∙ k.same;
-  below = k.below;
-  tells = k.tells ∙ sym z ∙ ap (λ x. number 128 (x ∷ rest ++ last ∷ [])) (sym (h refl));
-}
+shorten-step true d rest last all h l e f z k = grind arith
 shorten-step false d rest last all h l e f z k = record { short = d ∷ rest; same = f ∙ e; below = l; tells = refl }
 
 zero-before : (d : ℕ) (more : List ℕ) → number 128 (0 ∷ d ∷ more) ≡ number 128 (d ∷ more)

@@ -1,17 +1,13 @@
 -- Numbers from their digits.
-use Rattle.std.proofs.Common.{◌≡◌, ◌≢◌, ◌==◌, ℕ, ◌+◌, ◌-◌, ◌*◌, ◌^◌, ◌<◌, ◌≤◌, Bool, true, false, cond, List, [], ◌∷◌, Option, Some, arith, refl, sym, ap, ◌∙◌, min, nat_lt, nat_le}
-use Rattle.mx_stab.proofs.Words.{pow-le-pow_right, eqb-true, lt-leb, lt-ltb, pow_more, serial_behind, value_size, cap, serial_cap}
+use Rattle.std.proofs.Common.{◌≡◌, ◌≢◌, ◌==◌, ℕ, ◌+◌, ◌-◌, ◌*◌, ◌^◌, ◌<◌, ◌≤◌, Bool, true, false, cond, List, [], ◌∷◌, Option, Some, arith, refl, sym, ap, ◌∙◌, min, nat_lt, nat_le, rules}
+use Rattle.mx_stab.proofs.Words.{pow-le-pow_right, eqb-true, lt-leb, lt-ltb, serial_behind, value_size, cap, serial_cap, nat_tests, common_steps}
 
 -- fewer digits tell less
 pub digits-below : (x i j : ℕ) → i ≤ j → x < 256 ^ i → x < 256 ^ j
-digits-below x i j l h =
-    let more : 256 ^ i ≤ 256 ^ j = pow-le-pow_right (omega arith) l in
-    omega (arith, more, h)
+digits-below x i j l h = search (rules, pow-le-pow_right)
 
 digit-more : (x y i : ℕ) → y < x * 256 + 256 → x < 256 ^ i → y < 256 ^ (i + 1)
-digit-more x y i l h =
-    let more : 256 ^ (i + 1) ≡ 256 ^ i * 256 = pow_more 256 i in
-    omega (arith, more, l, h)
+digit-more x y i l h = grind (arith, common_steps, nat_tests)
 
 -- a digit more behind a number that does not matter from 2^32 on
 cap-more : (x b : ℕ) → min (min x (2 ^ 32) * 128 + b) (2 ^ 32) ≡ min (x * 128 + b) (2 ^ 32)
@@ -22,8 +18,7 @@ cap-digit x y b h = sym (cap-more x b) ∙ ap (λ z. min (z * 128 + b) (2 ^ 32))
 
 serial-step : (t : Bool) (x y b : ℕ) (more : List ℕ) → cap x ≡ cap y → serial_cap (serial_behind (x * 128 + b) more) ≡ serial_cap (serial_behind (y * 128 + b) more) →
     serial_cap (cond t (serial_behind (x * 128 + b) more) (Some (x * 128 + (b - 128), more))) ≡ serial_cap (cond t (serial_behind (y * 128 + b) more) (Some (y * 128 + (b - 128), more)))
-serial-step true x y b more h k = k
-serial-step false x y b more h k = ap (λ z. Some (z, more)) (cap-digit x y (b - 128) h)
+serial-step t x y b more h1 h2 = grind arith
 
 pub serial-cap : (x y : ℕ) (rest : List ℕ) → cap x ≡ cap y → serial_cap (serial_behind x rest) ≡ serial_cap (serial_behind y rest)
 serial-cap x y [] h = refl
@@ -31,18 +26,11 @@ serial-cap x y (b ∷ more) h = serial-step (nat_lt b 128) x y b more h (serial-
 
 pub serial-more : (x y b : ℕ) (rest : List ℕ) (all : Option (ℕ × List ℕ)) → y ≡ min (x * 128 + b) (2 ^ 32) → b < 128 → serial_cap (serial_behind x (b ∷ rest)) ≡ all →
     serial_cap (serial_behind y rest) ≡ all
-serial-more x y b rest all e l h =
-    serial-cap y (x * 128 + b) rest (omega (arith, e)) ∙ one (nat_lt b 128) (lt-ltb b 128 l) h
-  where
-    one : (t : Bool) → t ≡ true → serial_cap (cond t (serial_behind (x * 128 + b) rest) (Some (x * 128 + (b - 128), rest))) ≡ all → serial_cap (serial_behind (x * 128 + b) rest) ≡ all
-    one true e h = h
-    one false e h = absurd (cc)
+serial-more x y b rest all e l h = search (rules, serial-cap, lt-ltb)
 
 -- the digit that was read makes the number larger by one digit
 pub digit-taken : (x y whole left next : ℕ) → y < x * 256 + 256 → left ≤ whole → next + 1 ≡ left → x < 256 ^ (whole - left) → y < 256 ^ (whole - next)
-digit-taken x y whole left next l w n h =
-    let more : whole - next ≡ whole - left + 1 = omega arith in
-    rw more (digit-more x y (whole - left) l h)
+digit-taken x y whole left next l w n h = grind (arith, nat_tests, digit-more x y (whole - left) l h)
 
 -- what is told by few digits fits
 pub digits-fit : (x whole left : ℕ) → whole ≤ 8 → 1 ≤ left → x < 256 ^ (whole - left) → x < 2 ^ 56

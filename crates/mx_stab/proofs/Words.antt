@@ -1,8 +1,9 @@
 -- The words that the proofs of this crate cite, passed on from one place. Declares nothing.
+pub use Rattle.std.proofs.lemmas.Bool.Decides.{nat_tests}
 pub use Rattle.std.proofs.Math.Bool.{and-false, or_assoc, or_comm}
 pub use Rattle.std.proofs.Math.Nat.{add-mul, mul-le-mul_right, mul_assoc, mul_comm, pow-le-pow_right, pow-zero}
 pub use Rattle.std.proofs.lemmas.Bool.{and_parts, cases_lt, cond-false, cond-true, cond_both, eqb-false, eqb-true, le-leb, le-ltb, leb-false, leb-true, lt-leb, lt-ltb, ltb-false, ltb-true, ne_eqb, or_parts}
-pub use Rattle.std.proofs.lemmas.Grind.{pow_more, take_at_read}
+pub use Rattle.std.proofs.lemmas.Grind.{pow_more, take_at_read, common_steps}
 pub use Rattle.std.proofs.lemmas.List.{drop_at, length-replicate, length-take-le, take-append-drop, take_at}
 pub use Rattle.std.proofs.lemmas.Slice.Eq.{bytes_eq-Decides}
 unfoldable pub use Rattle.std.specs.Char.{encode_utf8}

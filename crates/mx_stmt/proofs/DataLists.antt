@@ -1,15 +1,13 @@
 -- What a list of data operands places, operand by operand.
-use Rattle.std.proofs.Common.{◌≡◌, ◌<◌, ◌≤◌, ℕ, ◌+◌, ◌%◌, ◌^◌, List, [], ◌∷◌, length, drop, get_or, Ok, Err, arith, refl, ap, sym, ◌∙◌, append_assoc, append-nil}
-use Rattle.mx_stmt.proofs.Words.{drop_more, drop_all, tree_of, trees_of, Data, Target, StmtFault, Answer, and_then, Known, Targets, data_of, data_form, data_target, datum, joined_data, with_rest, no_data}
+use Rattle.std.proofs.Common.{◌≡◌, ◌<◌, ◌≤◌, ℕ, ◌+◌, ◌%◌, ◌^◌, List, [], ◌∷◌, length, drop, get_or, Ok, Err, arith, ap, sym, ◌∙◌, append-nil}
+use Rattle.mx_stmt.proofs.Words.{drop_more, drop_all, tree_of, trees_of, Data, Target, StmtFault, Answer, and_then, Known, Targets, data_of, data_form, data_target, datum, joined_data, with_rest, no_data, common_steps, nat_tests}
 use Rattle.mx_expr.specs.declared.tree.Expr.{Expr}
 
 with-nothing : (rest : Answer Data) → with_rest no_data rest ≡ rest
-with-nothing (Err fault) = refl
-with-nothing (Ok rest) = refl
+with-nothing rest = grind arith
 
 with-both : (first second : Data) (rest : Answer Data) → with_rest first (with_rest second rest) ≡ with_rest (joined_data first second) rest
-with-both first second (Err fault) = refl
-with-both first second (Ok rest) = ap (λ d. Ok d) (simp append_assoc)
+with-both first second rest = grind (arith, common_steps, nat_tests)
 
 module _ (t : Targets) (k : Known) (line size : ℕ) where
   pub data-begins : (es : List Expr) → 0 < length es → with_rest no_data (data_of t k line size k.at (trees_of es)) ≡ data_form t k line size (trees_of es)

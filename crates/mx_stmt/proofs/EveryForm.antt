@@ -1,6 +1,6 @@
 -- What holds of tetras without a reference and of relative addresses holds of the forms of all instructions.
-use Rattle.std.proofs.Common.{◌≡◌, ℕ, ◌^◌, true, List, [], ◌∷◌, None, Ok, Err, refl}
-use Rattle.mx_stmt.proofs.Words.{cond_both, Value, Pure, Reg, Tree, Shape, Three, Regs, Round, Neg, Rel, Mem, MemPure, Wyde, Jump, Put, Pop, One, Unsave, Free, Tetra, StmtFault, Operands, Answer, and_then, base_for, Known, Targets, operand_value, register_at, field_at, register_or_byte_at, number_below, plain_tetra, last_word, last_form, last_register, last_two, takes_byte, rounded_last, address_word, address_of, address_form, branch_form, jump_form, wyde_form, whole_form, byte_form, free_at, free_form, with_register, with_byte, form, form_by, set_to, set_form, tetra_xyz, tetra_wyde, tetra_whole}
+use Rattle.std.proofs.Common.{◌≡◌, ℕ, ◌^◌, true, List, [], ◌∷◌, None, Ok, Err, refl, rules}
+use Rattle.mx_stmt.proofs.Words.{cond_both, Value, Pure, Reg, Tree, Shape, Three, Regs, Round, Neg, Rel, Mem, MemPure, Wyde, Jump, Put, Pop, One, Unsave, Free, Tetra, StmtFault, Operands, Answer, and_then, base_for, Known, Targets, operand_value, register_at, field_at, register_or_byte_at, plain_tetra, last_word, last_form, last_register, last_two, takes_byte, rounded_last, address_word, address_of, address_form, branch_form, jump_form, wyde_form, whole_form, byte_form, free_at, free_form, with_register, with_byte, form, form_by, set_to, set_form, tetra_xyz, tetra_wyde, tetra_whole}
 use Rattle.mx_stmt.proofs.CodesOfTargets.{has_address}
 
 -- an answer without a reference
@@ -106,9 +106,7 @@ module _ (k : Known) (code : ℕ) (P : (Targets → Answer Tetra) → Type 0) (p
 
 -- SET has no reference
 none-set : (x : ℕ) (y : Value) → HasNoWait (set_to x y)
-none-set x (Reg y) = none-plain _
-none-set x (Pure n) = none-then (number_below (2 ^ 16) n) (λ n. plain_tetra (tetra_wyde 0xe3 x n)) (λ n. none-plain _)
+none-set x y = search (rules, none-plain, none-then)
 
 pub set-plain : (k : Known) (l : List Tree) → HasNoWait (set_form k l)
-set-plain k l = by-number (λ l. HasNoWait (set_form k l)) (none-fault Operands) (λ x. none-fault Operands)
-    (λ x y. none-then (register_at k x) _ (λ x. none-then (operand_value k y) (set_to x) (none-set x))) (λ x y z. none-fault Operands) (λ x y z w more. none-fault Operands) l
+set-plain k l = search (rules, by-number, none-fault, none-then, none-set)

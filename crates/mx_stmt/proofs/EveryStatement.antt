@@ -8,8 +8,7 @@ use Rattle.mx_stmt.proofs.EveryForm.{HasNoWait, set-plain}
 use Rattle.mx_stmt.proofs.SilentStatements.{AreSilent, silent-operand}
 
 aligned : (op : Op) (at : ℕ) → place_at (alignment op) at % alignment op ≡ 0
-aligned (PseudoOp pseudo.Wyde) at = omega arith
-aligned op at = omega arith
+aligned op at = grind arith
 
 -- one property of the answers with any targets, where `@` is raised
 module _ (k : Known) (line : ℕ) (label : Option Label) (P : (Targets → Answer Placed) → Type 0) (silent : (a : Answer Placed) → AreSilent k a → P (λ t. a)) where

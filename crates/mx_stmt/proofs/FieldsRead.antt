@@ -1,5 +1,5 @@
 -- What the fields of a statement say is one thing.
-use Rattle.std.proofs.Common.{◌≡◌, ℕ, ◌&&◌, not, cond, Bool, true, false, List, Option, None, Some, is_some, Result, Ok, Err, refl, sym, ap, ◌∙◌}
+use Rattle.std.proofs.Common.{◌≡◌, ℕ, ◌&&◌, not, cond, Bool, true, false, List, Option, None, Some, is_some, Result, Ok, Err, refl, ap, ◌∙◌, rules}
 use Rattle.mx_line.specs.declared.spans.Span.{Span}
 use Rattle.mx_line.specs.declared.cutter.Cut.{Cut}
 use Rattle.mx_line.specs.Spans.{part}
@@ -12,8 +12,7 @@ some-label text (Some span) = refl
 
 -- the operation of the fields, by the cut
 pub operation-is : (text : List ℕ) (cut : Cut) (labelled : Bool) (name : List ℕ) (answer : Answer Op) → labelled ≡ is_some cut.label → name ≡ part text cut.op → answer ≡ operation_for labelled name → operation_for (is_some (fields_of text cut).label) (fields_of text cut).op ≡ answer
-operation-is text cut labelled name answer some named is =
-    ap (λ b. operation_for b (part text cut.op)) (some-label text cut.label ∙ sym some) ∙ ap (operation_for labelled) (sym named) ∙ sym is
+operation-is text cut labelled name answer some named is = search (rules, some-label)
 
 -- a fault of the operation is the only one
 pub operation-only : (fields : Fields) (first fault : StmtFault) → operation_for (is_some fields.label) fields.op ≡ Err first → IsFault fields fault → first ≡ fault

@@ -1,6 +1,6 @@
 -- Bytes that are placed one after another, and bytes that are joined.
-use Rattle.std.proofs.Common.{◌≡◌, ℕ, zero, suc, ◌+◌, ◌*◌, ◌/◌, ◌%◌, ◌^◌, ◌==◌, Bool, true, false, cond, List, [], ◌∷◌, ◌++◌, length, replicate, bit_xor, refl, sym, ap, ◌∙◌, arith}
-use Rattle.mx_stmt.proofs.Words.{cond_both, xor_assoc, xor_zero_l, xor_comm, xor_shr, xor_mod, pow-add, from_place, placed}
+use Rattle.std.proofs.Common.{◌≡◌, ℕ, zero, suc, ◌+◌, ◌*◌, ◌/◌, ◌%◌, ◌^◌, ◌==◌, List, [], ◌∷◌, ◌++◌, length, replicate, bit_xor, refl, sym, ap, ◌∙◌, arith, rules}
+use Rattle.mx_stmt.proofs.Words.{cond_both, xor_assoc, xor_zero_l, xor_comm, xor_shr, xor_mod, pow-add, from_place, placed, common_steps, nat_tests}
 use Rattle.std.specs.Int.{bytes_high_first, byte_at}
 use Rattle.std.proofs.Math.Nat.{pow-suc}
 
@@ -13,16 +13,11 @@ xor-pairs a b c d =
 
 pub placed-append : (xs ys : List (ℕ × ℕ)) (a : ℕ) → placed (xs ++ ys) a ≡ bit_xor (placed xs a) (placed ys a)
 placed-append [] ys a = sym (xor_zero_l (placed ys a))
-placed-append (p ∷ ps) ys a = by (a == p.0) (placed-append ps ys a)
-  where
-    by : (b : Bool) → placed (ps ++ ys) a ≡ bit_xor (placed ps a) (placed ys a) → cond b (bit_xor p.1 (placed (ps ++ ys) a)) (placed (ps ++ ys) a) ≡ bit_xor (cond b (bit_xor p.1 (placed ps a)) (placed ps a)) (placed ys a)
-    by true rest = ap (bit_xor p.1) rest ∙ sym (xor_assoc p.1 (placed ps a) (placed ys a))
-    by false rest = rest
+placed-append (p ∷ ps) ys a = grind (arith, common_steps, nat_tests, placed-append ps ys a)
 
 pub from-append : (a : ℕ) (xs ys : List ℕ) → from_place a (xs ++ ys) ≡ from_place a xs ++ from_place (a + length xs) ys
 from-append a [] ys = ap (λ n. from_place n ys) (omega arith)
-from-append a (x ∷ xs) ys =
-    ap (λ l. (a, x) ∷ l) (from-append (a + 1) xs ys ∙ ap (λ n. from_place (a + 1) xs ++ from_place n ys) (omega arith))
+from-append a (x ∷ xs) ys = search (rules, from-append (a + 1) xs ys)
 
 -- zeros change nothing
 pub placed-zeros : (a n q : ℕ) → placed (from_place a (replicate n 0)) q ≡ 0
@@ -43,14 +38,4 @@ byte-joined (suc i) x y =
 
 pub placed-joined : (a k x y q : ℕ) → placed (from_place a (bytes_high_first k (bit_xor x y))) q ≡ bit_xor (placed (from_place a (bytes_high_first k x)) q) (placed (from_place a (bytes_high_first k y)) q)
 placed-joined a zero x y q = sym (xor_zero_l 0)
-placed-joined a (suc k) x y q = by (q == a) (placed-joined (a + 1) k x y q)
-  where
-    joined : placed (from_place (a + 1) (bytes_high_first k (bit_xor x y))) q ≡ bit_xor (placed (from_place (a + 1) (bytes_high_first k x)) q) (placed (from_place (a + 1) (bytes_high_first k y)) q) → bit_xor (byte_at k (bit_xor x y)) (placed (from_place (a + 1) (bytes_high_first k (bit_xor x y))) q) ≡ bit_xor (bit_xor (byte_at k x) (placed (from_place (a + 1) (bytes_high_first k x)) q)) (bit_xor (byte_at k y) (placed (from_place (a + 1) (bytes_high_first k y)) q))
-    joined rest =
-        ap (λ n. bit_xor n (placed (from_place (a + 1) (bytes_high_first k (bit_xor x y))) q)) (byte-joined k x y)
-        ∙ ap (bit_xor (bit_xor (byte_at k x) (byte_at k y))) rest
-        ∙ xor-pairs (byte_at k x) (byte_at k y) _ _
-
-    by : (b : Bool) → placed (from_place (a + 1) (bytes_high_first k (bit_xor x y))) q ≡ bit_xor (placed (from_place (a + 1) (bytes_high_first k x)) q) (placed (from_place (a + 1) (bytes_high_first k y)) q) → cond b (bit_xor (byte_at k (bit_xor x y)) (placed (from_place (a + 1) (bytes_high_first k (bit_xor x y))) q)) (placed (from_place (a + 1) (bytes_high_first k (bit_xor x y))) q) ≡ bit_xor (cond b (bit_xor (byte_at k x) (placed (from_place (a + 1) (bytes_high_first k x)) q)) (placed (from_place (a + 1) (bytes_high_first k x)) q)) (cond b (bit_xor (byte_at k y) (placed (from_place (a + 1) (bytes_high_first k y)) q)) (placed (from_place (a + 1) (bytes_high_first k y)) q))
-    by true rest = joined rest
-    by false rest = rest
+placed-joined a (suc k) x y q = search (rules, byte-joined, xor-pairs, placed-joined (a + 1) k x y q)

@@ -1,9 +1,9 @@
 -- What data operands place, with their targets known and with none.
-use Rattle.std.proofs.Common.{◌≡◌, ◌<◌, ◌≤◌, ℕ, ◌+◌, ◌-◌, ◌%◌, ◌^◌, ◌==◌, List, [], ◌∷◌, ◌++◌, length, unwrap_or, Ok, Err, bit_xor, refl, sym, ap, ◌∙◌, arith, append-nil, append_assoc}
-use Rattle.mx_stmt.proofs.Words.{xor_zero_l, cond_both, eqb-true, length-append, length-drop, octa_to_bytes, Wait, Tree, Target, Data, Operands, Answer, AreAlike, and_then, Known, Targets, no_targets, pure_at, known_target, target_at, low_bytes, data_number, data_target, datum, joined_data, with_rest, no_data, data_of, data_form, from_place, placed, fix_bytes, fix_placements}
+use Rattle.std.proofs.Common.{◌≡◌, ◌<◌, ◌≤◌, ℕ, ◌+◌, ◌-◌, ◌%◌, ◌^◌, ◌==◌, List, [], ◌∷◌, ◌++◌, length, Ok, Err, bit_xor, refl, sym, ap, ◌∙◌, arith, rules}
+use Rattle.mx_stmt.proofs.Words.{length-append, Wait, Tree, Target, Data, Answer, AreAlike, Known, Targets, no_targets, data_target, datum, joined_data, with_rest, no_data, data_of, data_form, from_place, placed, fix_placements, common_steps, nat_tests}
 use Rattle.mx_stmt.specs.declared.operands.Target.TheVariants as target
 use Rattle.mx_stmt.proofs.Alike.{alike-fault, alike-values, alike-then}
-use Rattle.mx_stmt.proofs.JoinedBytes.{xor-pairs, placed-append, from-append, placed-zeros}
+use Rattle.mx_stmt.proofs.JoinedBytes.{xor-pairs, placed-append, from-append}
 
 -- The bytes of the one are joined with those that the references add, unless they pass the last address.
 pub record IsJoinedData (t : Targets) (place : ℕ) (before after : Data) : Type 0 where
@@ -13,26 +13,15 @@ pub record IsJoinedData (t : Targets) (place : ℕ) (before after : Data) : Type
 
 fixes-append : (t : Targets) (xs ys : List Wait) → fix_placements t (xs ++ ys) ≡ fix_placements t xs ++ fix_placements t ys
 fixes-append t [] ys = refl
-fixes-append t (w ∷ waits) ys =
-    ap (λ l. from_place w.at (fix_bytes w.kind w.at (t w.who)) ++ l) (fixes-append t waits ys)
-    ∙ sym (append_assoc (from_place w.at (fix_bytes w.kind w.at (t w.who))) (fix_placements t waits) (fix_placements t ys))
+fixes-append t (w ∷ waits) ys = search (rules, fixes-append t waits ys)
 
 -- an operand of another size than 8 is no reference
 abbrev pub HasSize : ℕ → Target → Type 0
 HasSize size (target.Known n) = Unit {0}
 HasSize size (target.Future who) = size ≡ 8
 
-known-sized : (size : ℕ) (n : Answer ℕ) (target : Target) → known_target n ≡ Ok target → HasSize size target
-known-sized size (Ok n) (target.Known m) is = tt
-known-sized size n target is = cc
-
-target-sized : (size : ℕ) (target : Target) → size ≡ 8 → HasSize size target
-target-sized size (target.Known n) is = tt
-target-sized size (target.Future who) is = is
-
 pub sized : (k : Known) (size : ℕ) (e : Tree) (target : Target) → data_target k size e ≡ Ok target → HasSize size target
-sized k size e target is = cond_both (size == 8) (target_at k e) (known_target (and_then (pure_at k e) (data_number size))) (λ a. a ≡ Ok target → HasSize size target)
-    (λ eight is. target-sized size target (eqb-true size 8 eight)) (λ other is. known-sized size _ target is) is
+sized k size e target is = grind arith
 
 -- one datum
 record IsJoinedDatum (t : Targets) (size place : ℕ) (before after : Data) : Type 0 where
@@ -41,26 +30,8 @@ record IsJoinedDatum (t : Targets) (size place : ℕ) (before after : Data) : Ty
   waits : after.waits ≡ before.waits
   bytes : (a : ℕ) → placed (from_place place after.bytes) a ≡ placed (from_place place before.bytes ++ fix_placements t before.waits) a
 
-low-length : (size n : ℕ) → size ≤ 8 → length (low_bytes size n) ≡ size
-low-length size n small = length-drop (8 - size) (octa_to_bytes n) ∙ omega arith
-
 datum-joined : (t : Targets) (line size place : ℕ) (target : Target) → size ≤ 8 → HasSize size target → IsJoinedDatum t size place (datum no_targets line size place target) (datum t line size place target)
-datum-joined t line size place (target.Known n) small has = record {
-  count = low-length size n small;
-  same_count = low-length size n small;
-  waits = refl;
-  bytes = λ a. ap (λ l. placed l a) (sym (append-nil (from_place place (low_bytes size n))));
-}
-datum-joined t line size place (target.Future who) small has = record {
-  count = sym has;
-  same_count = sym has;
-  waits = refl;
-  bytes = λ a.
-      sym (placed-append (from_place place (octa_to_bytes 0)) (from_place place (octa_to_bytes (unwrap_or (t who) 0)) ++ []) a
-      ∙ ap (λ n. bit_xor n (placed (from_place place (octa_to_bytes (unwrap_or (t who) 0)) ++ []) a)) (placed-zeros place 8 a)
-      ∙ xor_zero_l _
-      ∙ ap (λ l. placed l a) (append-nil (from_place place (octa_to_bytes (unwrap_or (t who) 0)))));
-}
+datum-joined t line size place target h1 h2 = grind (arith, common_steps, nat_tests)
 
 -- a datum before others
 rest-joined : (t : Targets) (size place : ℕ) (first other rest last : Data) → IsJoinedDatum t size place first other → IsJoinedData t ((place + size) % 2 ^ 64) rest last → IsJoinedData t place (joined_data first rest) (joined_data other last)
@@ -95,11 +66,7 @@ data-joined : (t : Targets) (k : Known) (line size place : ℕ) (es : List Tree)
 unfolding data_of
 data-joined t k line size place [] small = alike-values _ no_data no_data (record { count = refl; waits = refl; bytes = λ fits a. refl })
 data-joined t k line size place (e ∷ es) small =
-    alike-then _ (data_target k size e) _ _ (λ target is.
-    with-rest-joined t size place (datum no_targets line size place target) (datum t line size place target) _ _
-    (datum-joined t line size place target small (sized k size e target is))
-    (data-joined t k line size ((place + size) % 2 ^ 64) es small))
+    search (rules, alike-then, with-rest-joined, datum-joined, sized, data-joined t k line size ((place + size) % 2 ^ 64) es small)
 
 pub form-joined : (t : Targets) (k : Known) (line size : ℕ) (es : List Tree) → size ≤ 8 → AreAlike (IsJoinedData t k.at) (data_form no_targets k line size es) (data_form t k line size es)
-form-joined t k line size [] small = alike-fault _ Operands
-form-joined t k line size (e ∷ es) small = data-joined t k line size k.at (e ∷ es) small
+form-joined t k line size es h = search (rules, alike-fault, data-joined)

@@ -1,32 +1,15 @@
 -- What a statement places, with its targets known and with none.
-use Rattle.std.proofs.Common.{◌≡◌, ◌≤◌, ℕ, ◌+◌, nat_lt, Bool, true, false, cond, ◌++◌, length, Option, Ok, Err, refl, sym, ap, ◌∙◌, arith, append-nil}
-use Rattle.mx_stmt.proofs.Words.{ltb-false, false≢true, Pure, Data, Tetra, Label, Plain, Placed, BadPlace, Answer, AreAlike, Known, Targets, no_targets, StatementTree, label_value, with_bytes, tetra_waits, tetra_data, with_tetra, with_data, encoding, from_place, placed, fix_placements, IsFixed, IsOperation, IsSound}
+use Rattle.std.proofs.Common.{◌≡◌, ◌≤◌, ℕ, ◌+◌, ◌++◌, Option, refl, ap, ◌∙◌, arith, append-nil, rules}
+use Rattle.mx_stmt.proofs.Words.{Data, Tetra, Label, Placed, Answer, AreAlike, Known, Targets, no_targets, StatementTree, with_bytes, tetra_waits, tetra_data, with_tetra, with_data, encoding, IsFixed, IsOperation, IsSound}
 use Rattle.mx_stmt.proofs.Alike.{alike-fault, alike-values, alike-after}
 use Rattle.mx_stmt.proofs.JoinedTetras.{IsJoined, alike-none, coded-joined}
 use Rattle.mx_stmt.proofs.EveryStatement.{at_place, every-statement}
 use Rattle.mx_stmt.proofs.SilentStatements.{AreSilent}
 use Rattle.mx_stmt.proofs.JoinedData.{IsJoinedData, form-joined as data-joined}
 
-abbrev placed_at : Known → Option Label → Data → Placed
-placed_at k label d = record { start = k.at; bytes = d.bytes; waits = d.waits; label = label_value label (Pure k.at); effect = Plain; after = k.at + length d.bytes }
-
 bytes-joined : (t : Targets) (k : Known) (label : Option Label) (before after : Data) → IsJoinedData t k.at before after → AreAlike (IsFixed t) (with_bytes k label before) (with_bytes k label after)
 unfolding AreAlike
-bytes-joined t k label before after is = by _ _ (ap (λ n. nat_lt 0x6000_0000_0000_0000 (k.at + n)) is.count) (ltb-false 0x6000_0000_0000_0000 (k.at + length before.bytes))
-  where
-    by : (b c : Bool) → c ≡ b → (b ≡ false → k.at + length before.bytes ≤ 0x6000_0000_0000_0000) → AreAlike (IsFixed t) (cond b (Err BadPlace) (Ok (placed_at k label before))) (cond c (Err BadPlace) (Ok (placed_at k label after)))
-    by true true same low = refl
-    by true false same low = absurd (false≢true same)
-    by false true same low = absurd (false≢true (sym same))
-    by false false same low = record {
-      start = refl;
-      count = is.count;
-      bytes = is.bytes (omega (arith, low refl));
-      waits = is.waits;
-      label = refl;
-      effect = refl;
-      next = ap (λ n. k.at + n) is.count;
-    }
+bytes-joined t k label before after is = grind arith
 
 tetra-joined : (t : Targets) (k : Known) (line : ℕ) (label : Option Label) (a b : Answer Tetra) → AreAlike (IsJoined t line k.at) a b → AreAlike (IsFixed t) (with_tetra k line label a) (with_tetra k line label b)
 tetra-joined t k line label a b is =
@@ -34,23 +17,13 @@ tetra-joined t k line label a b is =
     bytes-joined t k label (tetra_data line k.at x) (tetra_data line k.at y) (record { count = refl; waits = ap (tetra_waits line k.at) joined.wait; bytes = λ fits. joined.bytes }))
 
 data-placed : (t : Targets) (k : Known) (label : Option Label) (a b : Answer Data) → AreAlike (IsJoinedData t k.at) a b → AreAlike (IsFixed t) (with_data k label a) (with_data k label b)
-data-placed t k label a b is =
-    alike-after (IsFixed t) (IsJoinedData t k.at) a b (with_bytes k label) (with_bytes k label) is (λ x y joined. bytes-joined t k label x y joined)
+data-placed t k label a b is = search (rules, alike-after, bytes-joined)
 
 -- ---- statements that place no bytes
 
 same : (t : Targets) (k : Known) (a : Answer Placed) → AreSilent k a → AreAlike (IsFixed t) a a
 unfolding AreSilent
-same t k (Err fault) h = alike-fault _ fault
-same t k (Ok p) h = alike-values _ p p (record {
-  start = refl;
-  count = refl;
-  bytes = λ a. sym (ap (λ w. placed (from_place p.start p.bytes ++ fix_placements t w) a) h.waits ∙ ap (λ l. placed l a) (append-nil (from_place p.start p.bytes)));
-  waits = refl;
-  label = refl;
-  effect = refl;
-  next = refl;
-})
+same t k a h = search (rules, alike-fault, alike-values, append-nil)
 
 -- ---- all statements
 

@@ -1,6 +1,6 @@
 -- The tetra of an instruction, with its target known and with none.
-use Rattle.std.proofs.Common.{◌≡◌, ℕ, ◌%◌, true, List, [], ◌++◌, Option, Ok, Err, bit_xor, refl, sym, ap, ◌∙◌, append-nil}
-use Rattle.mx_stmt.proofs.Words.{tetra_to_bytes, WaitKind, Near, Far, Tree, Shape, Target, Tetra, Answer, AreAlike, and_then, Known, Targets, no_targets, register_at, target_at, plain_tetra, near_reach, far_reach, relative_word, future_word, relative_form, branch_form, jump_form, with_register, form_by, tetra_wyde, tetra_whole, tetra_waits, from_place, placed, fix_bytes, fix_placements, IsSound}
+use Rattle.std.proofs.Common.{◌≡◌, ℕ, ◌%◌, true, List, [], ◌++◌, Option, bit_xor, refl, sym, ap, ◌∙◌, append-nil, rules}
+use Rattle.mx_stmt.proofs.Words.{tetra_to_bytes, WaitKind, Near, Far, Tree, Shape, Target, Tetra, Answer, AreAlike, Known, Targets, no_targets, register_at, target_at, near_reach, far_reach, future_word, relative_form, branch_form, jump_form, with_register, form_by, tetra_wyde, tetra_whole, tetra_waits, from_place, placed, fix_bytes, fix_placements, IsSound}
 use Rattle.mx_stmt.specs.declared.operands.Target.TheVariants as target
 use Rattle.mx_stmt.proofs.Alike.{alike-fault, alike-values, alike-then}
 use Rattle.mx_stmt.proofs.JoinedBytes.{placed-append, placed-joined}
@@ -17,15 +17,10 @@ pub record IsJoined (t : Targets) (line place : ℕ) (before after : Tetra) : Ty
 
 pub alike-none : (t : Targets) (line place : ℕ) (a : Answer Tetra) → HasNoWait a → AreAlike (IsJoined t line place) a a
 unfolding HasNoWait
-alike-none t line place (Err fault) none = alike-fault _ fault
-alike-none t line place (Ok x) none = alike-values _ x x (record {
-  wait = refl;
-  bytes = λ a. sym (ap (λ w. placed (from_place place (tetra_to_bytes x.word) ++ fix_placements t (tetra_waits line place w)) a) none ∙ ap (λ l. placed l a) (append-nil (from_place place (tetra_to_bytes x.word))));
-})
+alike-none t line place a h = search (rules, alike-fault, alike-values, append-nil)
 
 relative-alike : (t : Targets) (line place head reach : ℕ) (kind : WaitKind) (target : Target) → IsHead head reach → ((target : Option ℕ) → fix_bytes kind place target ≡ tetra_to_bytes (future_word 0 reach place target)) → AreAlike (IsJoined t line place) (relative_form no_targets head reach place kind target) (relative_form t head reach place kind target)
-relative-alike t line place head reach kind (target.Known n) is fix =
-    alike-none t line place (and_then (relative_word head reach place n) plain_tetra) (none-then (relative_word head reach place n) plain_tetra (λ word. none-plain word))
+relative-alike t line place head reach kind (target.Known n) is fix = search (rules, alike-none, none-then, none-plain)
 relative-alike t line place head reach kind (target.Future who) is fix = alike-values _ _ _ (record {
   wait = refl;
   bytes = λ a.

@@ -1,7 +1,7 @@
 -- A relative address is joined to its instruction by exclusive or.
-use Rattle.std.proofs.Common.{◌≡◌, ◌<◌, ◌≤◌, ℕ, ◌+◌, ◌-◌, ◌*◌, ◌/◌, ◌%◌, ◌^◌, ◌==◌, not, nat_le, nat_lt, Bool, true, false, cond, Option, None, Some, Ok, Err, bit_xor, refl, sym, ap, ◌∙◌, arith}
+use Rattle.std.proofs.Common.{◌≡◌, ◌<◌, ◌≤◌, ℕ, ◌+◌, ◌-◌, ◌*◌, ◌/◌, ◌%◌, ◌^◌, ◌==◌, not, nat_le, nat_lt, Bool, true, false, cond, Option, None, Some, Ok, Err, bit_xor, refl, sym, ap, ◌∙◌, arith, rules}
 use Rattle.std.specs.Result.{result_unwrap_or}
-use Rattle.mx_stmt.proofs.Words.{xor_zero_l, xor_zero_r, xor_block, eqb-true, leb-true, leb-false, ltb-true, NotMultiple, TooFar, forward_word, backward_word, future_word, tetra_wyde, tetra_whole, near_reach, far_reach}
+use Rattle.mx_stmt.proofs.Words.{xor_zero_l, xor_zero_r, xor_block, eqb-true, leb-true, leb-false, ltb-true, NotMultiple, TooFar, forward_word, backward_word, future_word, tetra_wyde, tetra_whole, near_reach, far_reach, common_steps, nat_tests}
 
 -- A head takes a number below the reach, and the second code with it.
 pub record IsHead (head reach : ℕ) : Type 0 where
@@ -41,14 +41,10 @@ block-joined k a b d some fits =
     ap (λ n. bit_xor n (b * 2 ^ k + d)) (omega arith) ∙ xor_block k a b 0 d some fits ∙ ap (λ n. bit_xor a b * 2 ^ k + n) (xor_zero_l d)
 
 even-joined : (code : ℕ) → code % 2 ≡ 0 → bit_xor code 1 ≡ code + 1
-even-joined code even =
-    let twice : code ≡ code / 2 * 2 ^ 1 = omega arith in
-    ap (λ n. bit_xor n 1) twice ∙ block-joined 1 (code / 2) 0 1 (omega arith) (omega arith)
-    ∙ ap (λ n. n * 2 ^ 1 + 1) (xor_zero_r (code / 2)) ∙ ap (λ n. n + 1) (sym twice)
+even-joined code even = grind (arith, common_steps, nat_tests)
 
 joined : (k a b c d u v w : ℕ) → 0 < 2 ^ k → d < 2 ^ k → u ≡ a * 2 ^ k → v ≡ b * 2 ^ k + d → bit_xor a b ≡ c → w ≡ c * 2 ^ k + d → w ≡ bit_xor u v
-joined k a b c d u v w some fits head fix code is =
-    is ∙ sym (ap (λ n. bit_xor n v) head ∙ ap (bit_xor (a * 2 ^ k)) fix ∙ block-joined k a b d some fits ∙ ap (λ n. n * 2 ^ k + d) code)
+joined k a b c d u v w some fits head fix code is = search (rules, block-joined)
 
 second-code : (code x : ℕ) → code % 2 ≡ 0 → x < 2 ^ 8 → bit_xor (code * 2 ^ 8 + x) (2 ^ 8) ≡ (code + 1) * 2 ^ 8 + x
 second-code code x even fits =

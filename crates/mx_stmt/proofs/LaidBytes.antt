@@ -1,9 +1,9 @@
 -- What always holds of a statement that is placed: its bytes are bytes below the stack segment, and each of its references
 -- stands at a multiple of 4 within them.
-use Rattle.std.proofs.Common.{◌≡◌, ◌<◌, ◌≤◌, ℕ, ◌+◌, ◌-◌, ◌%◌, ◌^◌, nat_lt, List, [], ◌∷◌, ◌++◌, length, Option, None, Some, Ok, Err, refl, sym, ap, ◌∙◌, arith, subst, unwrap_or}
-use Rattle.mx_stmt.proofs.Words.{AllByRecursion, cond_both, ltb-false, length-append, length-drop, octa_to_bytes, Awaited, Wait, WaitKind, Octa, Near, Far, Tree, Shape, Target, Data, Tetra, Label, Placed, BadPlace, Answer, and_then, Known, Targets, register_at, target_at, plain_tetra, near_reach, far_reach, relative_word, relative_form, form_by, tetra_wyde, tetra_whole, data_target, datum, joined_data, with_rest, data_of, data_form, StatementTree, with_bytes, tetra_data, tetra_waits, with_data, encoding}
+use Rattle.std.proofs.Common.{◌≡◌, ◌<◌, ◌≤◌, ℕ, ◌+◌, ◌-◌, ◌%◌, ◌^◌, List, [], ◌∷◌, ◌++◌, length, Option, None, Some, Ok, Err, ◌∙◌, arith, rules}
+use Rattle.mx_stmt.proofs.Words.{AllByRecursion, length-append, octa_to_bytes, Awaited, Wait, WaitKind, Octa, Near, Far, Tree, Shape, Target, Data, Tetra, Label, Placed, Answer, and_then, Known, Targets, register_at, target_at, near_reach, far_reach, relative_form, form_by, tetra_wyde, tetra_whole, data_target, datum, joined_data, with_rest, data_of, data_form, StatementTree, with_bytes, tetra_data, with_data, encoding, common_steps, nat_tests}
 use Rattle.mx_word.specs.Ranges.{AreBytes}
-use Rattle.mx_word.proofs.Ranges.{bytes-append, bytes-behind}
+use Rattle.mx_word.proofs.Ranges.{bytes-append}
 use Rattle.mx_stmt.specs.declared.operands.Target.TheVariants as target
 use Rattle.mx_stmt.specs.Laid.{IsInside, IsLaid}
 use Rattle.mx_stmt.proofs.JoinedData.{HasSize, sized}
@@ -26,23 +26,19 @@ HasRelative (Ok tetra) = IsRelative tetra.wait
 
 plain : (a : Answer Tetra) → HasNoWait a → HasRelative a
 unfolding HasNoWait HasRelative
-plain (Err fault) none = tt
-plain (Ok tetra) none = subst IsRelative (sym none) tt
+plain a h = grind arith
 
 then : {A : Type 0} (a : Answer A) (next : A → Answer Tetra) → ((x : A) → HasRelative (next x)) → HasRelative (and_then a next)
 unfolding HasRelative
-then (Err fault) next h = tt
-then (Ok x) next h = h x
+then a next h = grind arith
 
 near : (t : Targets) (place head : ℕ) (target : Target) → HasRelative (relative_form t head near_reach place Near target)
 unfolding HasRelative
-near t place head (target.Known n) = then (relative_word head near_reach place n) plain_tetra (λ word. tt)
-near t place head (target.Future who) = tt
+near t place head target = grind arith
 
 far : (t : Targets) (place head : ℕ) (target : Target) → HasRelative (relative_form t head far_reach place Far target)
 unfolding HasRelative
-far t place head (target.Known n) = then (relative_word head far_reach place n) plain_tetra (λ word. tt)
-far t place head (target.Future who) = tt
+far t place head target = grind arith
 
 coded : (t : Targets) (k : Known) (code : ℕ) (shapes : List Shape) (l : List Tree) → HasRelative (form_by t k shapes code l)
 coded t k code shapes l = every-code k code (λ f. HasRelative (f t)) plain shapes
@@ -62,8 +58,7 @@ HasData place (Ok d) = IsData place d
 
 data-then : {A : Type 0} (place : ℕ) (a : Answer A) (next : A → Answer Data) → ((x : A) → a ≡ Ok x → HasData place (next x)) → HasData place (and_then a next)
 unfolding HasData
-data-then place (Err fault) next h = tt
-data-then place (Ok x) next h = h x refl
+data-then place a next h = grind arith
 
 pub octa-bytes : (n : ℕ) → AreBytes (octa_to_bytes n)
 octa-bytes n = (omega arith, (omega arith, (omega arith, (omega arith, (omega arith, (omega arith, (omega arith, (omega arith, tt))))))))
@@ -74,14 +69,7 @@ record IsDatum (size place : ℕ) (d : Data) : Type 0 where
   waits : AllByRecursion (IsInside place size) d.waits
 
 datum-laid : (t : Targets) (line size place : ℕ) (target : Target) → size ≤ 8 → HasSize size target → (size ≡ 8 → place % 8 ≡ 0) → IsDatum size place (datum t line size place target)
-datum-laid t line size place (target.Known n) small has eights = record { bytes = bytes-behind (8 - size) (octa_to_bytes n) (octa-bytes n); count = length-drop (8 - size) (octa_to_bytes n) ∙ omega arith; waits = tt }
-datum-laid t line size place (target.Future who) small has eights =
-    let eight = eights has in
-    record {
-      bytes = octa-bytes (unwrap_or (t who) 0);
-      count = sym has;
-      waits = (record { first = omega arith; last = omega (arith, has); fours = omega (arith, eight) }, tt);
-    }
+datum-laid t line size place target h1 h2 h3 = grind (arith, common_steps, nat_tests)
 
 pub all-append : (P : Wait → Type 0) (xs ys : List Wait) → AllByRecursion P xs → AllByRecursion P ys → AllByRecursion P (xs ++ ys)
 all-append P [] ys h g = g
@@ -95,24 +83,11 @@ inside-more : (a b m n : ℕ) (w : Wait) → b ≤ a → a + m ≤ b + n → IsI
 inside-more a b m n w l u h = let first = h.first in let last = h.last in record { first = omega (arith, l, first); last = omega (arith, u, last); fours = h.fours }
 
 rest-laid : (size place : ℕ) (first rest : Data) → IsDatum size place first → IsData ((place + size) % 2 ^ 64) rest → IsData place (joined_data first rest)
-rest-laid size place first rest one more =
-    let count = one.count in
-    let whole = length-append first.bytes rest.bytes in
-    record {
-      bytes = bytes-append first.bytes rest.bytes one.bytes more.bytes;
-      waits = λ fits.
-          let next : (place + size) % 2 ^ 64 ≡ place + size = omega (arith, fits, count, whole) in
-          all-append (IsInside place (length (first.bytes ++ rest.bytes))) first.waits rest.waits
-          (all-into (IsInside place size) (IsInside place (length (first.bytes ++ rest.bytes))) first.waits (λ w h. inside-more place place size (length (first.bytes ++ rest.bytes)) w (omega arith) (omega (arith, count, whole)) h) one.waits)
-          (all-into (IsInside ((place + size) % 2 ^ 64) (length rest.bytes)) (IsInside place (length (first.bytes ++ rest.bytes))) rest.waits
-          (λ w h. inside-more ((place + size) % 2 ^ 64) place (length rest.bytes) (length (first.bytes ++ rest.bytes)) w (omega (arith, next)) (omega (arith, next, count, whole)) h)
-          (more.waits (omega (arith, next, fits, count, whole))));
-    }
+rest-laid size place first rest one more = search (rules, length-append, bytes-append, all-append, all-into, inside-more)
 
 with-rest-laid : (size place : ℕ) (first : Data) (rest : Answer Data) → IsDatum size place first → HasData ((place + size) % 2 ^ 64) rest → HasData place (with_rest first rest)
 unfolding HasData
-with-rest-laid size place first (Err fault) one more = tt
-with-rest-laid size place first (Ok rest) one more = rest-laid size place first rest one more
+with-rest-laid size place first rest h1 h2 = search (rules, rest-laid)
 
 next-eights : (size place : ℕ) → (size ≡ 8 → place % 8 ≡ 0) → size ≡ 8 → (place + size) % 2 ^ 64 % 8 ≡ 0
 next-eights size place h e = let m = h e in omega (arith, m, e)
@@ -128,8 +103,7 @@ data-laid t k line size place (e ∷ es) small eights =
 
 form-laid : (t : Targets) (k : Known) (line size : ℕ) (es : List Tree) → size ≤ 8 → (size ≡ 8 → k.at % 8 ≡ 0) → HasData k.at (data_form t k line size es)
 unfolding HasData
-form-laid t k line size [] small eights = tt
-form-laid t k line size (e ∷ es) small eights = data-laid t k line size k.at (e ∷ es) small eights
+form-laid t k line size es h1 h2 = search (rules, data-laid)
 
 -- ---- statements
 
@@ -137,37 +111,20 @@ abbrev Laid : Answer Placed → Type 0
 Laid (Err fault) = Unit {0}
 Laid (Ok p) = IsLaid p
 
-bytes-laid : (k : Known) (label : Option Label) (d : Data) → IsData k.at d → Laid (with_bytes k label d)
-bytes-laid k label d is = cond_both (nat_lt 0x6000_0000_0000_0000 (k.at + length d.bytes)) (Err BadPlace) _ Laid (λ high. tt)
-    (λ holds. let low = ltb-false 0x6000_0000_0000_0000 (k.at + length d.bytes) holds in record { bytes = is.bytes; low = λ some. low; waits = is.waits (omega (arith, low)) })
-
 data-placed : (k : Known) (label : Option Label) (d : Answer Data) → HasData k.at d → Laid (with_data k label d)
 unfolding HasData
-data-placed k label (Err fault) h = tt
-data-placed k label (Ok d) h = bytes-laid k label d h
-
-tetra-waits : (line place : ℕ) (wait : Option (Awaited × WaitKind)) → IsRelative wait → place % 4 ≡ 0 → AllByRecursion (IsInside place 4) (tetra_waits line place wait)
-tetra-waits line place None is m = tt
-tetra-waits line place (Some (who, Octa)) is m = absurd is
-tetra-waits line place wait is m = (record { first = omega arith; last = omega arith; fours = m }, tt)
+data-placed k label d h = grind arith
 
 tetra-laid : (k : Known) (line : ℕ) (label : Option Label) (a : Answer Tetra) → HasRelative a → k.at % 4 ≡ 0 → Laid (and_then a (λ tetra. with_bytes k label (tetra_data line k.at tetra)))
 unfolding HasRelative
-tetra-laid k line label (Err fault) h m = tt
-tetra-laid k line label (Ok tetra) h m = bytes-laid k label (tetra_data line k.at tetra) (record { bytes = (omega arith, (omega arith, (omega arith, (omega arith, tt)))); waits = λ fits. tetra-waits line k.at tetra.wait h m })
+tetra-laid k line label a h1 h2 = grind arith
 
 silent-laid : (k : Known) (a : Answer Placed) → AreSilent k a → Laid a
 unfolding AreSilent
-silent-laid k (Err fault) h = tt
-silent-laid k (Ok p) h = record {
-  bytes = subst (AreBytes) (sym h.bytes) tt;
-  low = λ some. absurd (omega (arith, some, ap length h.bytes));
-  waits = subst (AllByRecursion (IsInside p.start (length p.bytes))) (sym h.waits) tt;
-}
+silent-laid k a h = grind arith
 
 placed-laid : (r : Answer Placed) (p : Placed) → Laid r → r ≡ Ok p → IsLaid p
-placed-laid (Err fault) p h is = absurd (cc)
-placed-laid (Ok q) p h is = let same : q ≡ p = cc in subst IsLaid same h
+placed-laid r p h1 h2 = grind arith
 
 pub encoding-laid : (t : Targets) (k : Known) (s : StatementTree) (p : Placed) → encoding t k s ≡ Ok p → IsLaid p
 encoding-laid t k s p is =

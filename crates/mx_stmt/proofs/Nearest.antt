@@ -1,6 +1,6 @@
 -- The nearest base, register by register.
-use Rattle.std.proofs.Common.{◌≡◌, ◌≢◌, ◌<◌, ◌≤◌, ℕ, zero, suc, ◌+◌, ◌-◌, ◌==◌, nat_le, List, [], ◌∷◌, length, drop, Option, None, Some, slice_index, arith, add-one, refl, ap, sym, subst, ◌∙◌}
-use Rattle.mx_stmt.proofs.Words.{drop_more, cond_both, eqb-true, eqb-false, leb-true, leb-false, difference, IsNearest, greg_value, lowest_of, nearest_base, nearest_from, nearer_base}
+use Rattle.std.proofs.Common.{◌≡◌, ◌≢◌, ◌<◌, ◌≤◌, ℕ, zero, suc, ◌+◌, ◌-◌, ◌==◌, List, [], ◌∷◌, length, drop, Option, None, Some, slice_index, arith, add-one, refl, ap, subst, ◌∙◌, rules}
+use Rattle.mx_stmt.proofs.Words.{drop_more, eqb-true, eqb-false, leb-true, leb-false, difference, IsNearest, greg_value, lowest_of, nearest_base, nearest_from, nearer_base}
 use Rattle.std.proofs.Math.Seq.{drop-length}
 use Rattle.mx_stmt.specs.declared.gregs.Base.{Base}
 use Rattle.mx_stmt.specs.Gregs.{with_register}
@@ -14,9 +14,7 @@ unfolding nearest_from
 nearest-next address first i values h = ap (nearest_from address (first + i)) (drop_more values i 0 h) ∙ ap (λ n. with_register address (first + i) (slice_index values i) (nearest_from address n (drop (i + 1) values))) (omega arith)
 
 pub nearest-before : (address first n : ℕ) (values : List ℕ) (nearest : Option Base) → 0 < n → n ≤ length values → nearest ≡ nearest_from address (first + n) (drop n values) → with_register address (first + (n - 1)) (slice_index values (n - 1)) nearest ≡ nearest_from address (first + (n - 1)) (drop (n - 1) values)
-nearest-before address first n values nearest some within is =
-    ap (with_register address (first + (n - 1)) (slice_index values (n - 1))) (is ∙ ap (λ m. nearest_from address (first + m) (drop m values)) (omega arith))
-    ∙ sym (nearest-next address first (n - 1) values (omega arith))
+nearest-before address first n values nearest some within is = search (rules, nearest-next)
 
 -- the nearest base among registers from a first one on
 pub record NearestIn (address first : ℕ) (values : List ℕ) (base : Base) : Type 0 where
@@ -48,15 +46,7 @@ found-zero address first value values (Some base) none found = record {
 }
 
 found-first : (address first value : ℕ) (values : List ℕ) → value ≢ 0 → ((i : ℕ) → i < length values → slice_index values i ≢ 0 → difference address value ≤ difference address (slice_index values i)) → NearestIn address first (value ∷ values) (base_at address first value)
-found-first address first value values some least = record {
-  place = 0;
-  register = omega arith;
-  within = omega arith;
-  nonzero = some;
-  above = refl;
-  least = λ i. elim i as (λ i. i < suc (length values) → slice_index (value ∷ values) i ≢ 0 → difference address value ≤ difference address (slice_index (value ∷ values) i))
-      [ zero ↦ λ h some. omega arith | suc i ↦ λ h some. least i (omega (arith, h)) some ];
-}
+found-first address first value values some least = grind arith
 
 found-later : (address first value : ℕ) (values : List ℕ) (other : Base) → other.above ≤ difference address value → NearestIn address (first + 1) values other → NearestIn address first (value ∷ values) other
 found-later address first value values other closer found = record {
@@ -70,16 +60,10 @@ found-later address first value values other closer found = record {
 }
 
 found-nearer : (address first value : ℕ) (values : List ℕ) (others : Option Base) → value ≢ 0 → Found address (first + 1) values others → Found address first (value ∷ values) (Some (nearer_base (base_at address first value) others))
-found-nearer address first value values None some found = found-first address first value values some (λ i h other. absurd (other (found i h)))
-found-nearer address first value values (Some other) some found =
-    cond_both (nat_le (difference address value) other.above) (base_at address first value) other (λ b. Found address first (value ∷ values) (Some b))
-    (λ holds. let nearer = leb-true (difference address value) other.above holds in found-first address first value values some (λ i h nonzero. omega (arith, nearer, found.least i h nonzero)))
-    (λ fails. let further = leb-false (difference address value) other.above fails in found-later address first value values other (omega (arith, further)) found)
+found-nearer address first value values others h1 h2 = search (rules, found-first, leb-true, leb-false, found-later)
 
 found-more : (address first value : ℕ) (values : List ℕ) (others : Option Base) → Found address (first + 1) values others → Found address first (value ∷ values) (with_register address first value others)
-found-more address first value values others found =
-    cond_both (value == 0) others (Some (nearer_base (base_at address first value) others)) (Found address first (value ∷ values))
-    (λ zero. found-zero address first value values others (eqb-true value 0 zero) found) (λ some. found-nearer address first value values others (eqb-false value 0 some) found)
+found-more address first value values others found = search (rules, found-zero, eqb-true, found-nearer, eqb-false)
 
 nearest-found : (address first : ℕ) (values : List ℕ) → Found address first values (nearest_from address first values)
 unfolding nearest_from
@@ -87,18 +71,7 @@ nearest-found address first [] = λ i h. absurd (omega (arith, h))
 nearest-found address first (value ∷ values) = found-more address first value values _ (nearest-found address (first + 1) values)
 
 pub nearest-is : (gregs : List ℕ) (address : ℕ) (base : Base) → length gregs ≤ 255 → nearest_base gregs address ≡ Some base → IsNearest gregs address base
-nearest-is gregs address base bound is = as_least (subst (Found address (lowest_of gregs) gregs) is (nearest-found address (lowest_of gregs) gregs))
-  where
-    as_least : NearestIn address (lowest_of gregs) gregs base → IsNearest gregs address base
-    as_least found =
-        let place : base.reg - lowest_of gregs ≡ found.place = omega (arith, found.register) in
-        record {
-          allocated = omega (arith, found.register);
-          global = omega (arith, found.register, found.within);
-          nonzero = rw place found.nonzero;
-          above = rw place found.above;
-          least = λ other low high some. found.least (other - lowest_of gregs) (omega arith) some;
-        }
+nearest-is gregs address base bound is = search (rules, nearest-found)
 
 -- there is none where all values are 0
 pub nearest-none-is : (gregs : List ℕ) (address : ℕ) → nearest_base gregs address ≡ None → (reg : ℕ) → lowest_of gregs ≤ reg → reg < 255 → greg_value gregs reg ≡ 0

@@ -1,4 +1,6 @@
 -- The words that the proofs of this crate cite, passed on from one place. Declares nothing.
+pub use Rattle.std.proofs.lemmas.Bool.Decides.{nat_tests}
+pub use Rattle.std.proofs.lemmas.Grind.{common_steps}
 pub use Rattle.std.proofs.lemmas.Bool.{and_parts, cond_both, eqb-false, eqb-true, false≢true, leb-false, leb-true, ltb-false, ltb-true}
 pub use Rattle.std.proofs.lemmas.List.{drop_all, drop_more, length-append, length-drop, length-set}
 pub use Rattle.std.proofs.lemmas.Nat.{pow-add, xor_block, xor_comm, xor_mod, xor_shr}
