@@ -12,7 +12,8 @@
   saved under that name. Nothing is built here.
 - The examples of docs/MESSAGES.md give the number and name of their row: words of a command line, a source of one line, or
   an object in hexadecimal tetras. Of what beginners write, the mended source gives no message.
-- The examples of the manual page are run where the sources of examples/ are, with the program on the path.
+- Blocks with mmixview are run where that program is kept, too.
+- The examples of the manual pages are run where the sources of examples/ are, with the program on the path.
 """
 import functools
 import glob
@@ -26,6 +27,7 @@ import tempfile
 
 TOP = os.path.dirname(os.path.dirname(os.path.realpath(__file__)))
 PROGRAM = ".built/mmixware"
+VIEWER = ".built/mmixview"
 PROMPT = "mmix> "
 wrongs = []
 
@@ -211,9 +213,9 @@ def printed(commands, typed, folder, room):
 
 
 @functools.cache
-def is_fresh():
-    """Whether the program that is kept was built from these sources."""
-    return subprocess.run(["sh", "-c", "here=$PWD; . packaging/kept.sh; is_ready"]).returncode == 0
+def is_fresh(tool="mmixware"):
+    """Whether the program of this name that is kept was built from these sources."""
+    return subprocess.run(["sh", "-c", f"here=$PWD tool={tool}; . packaging/kept.sh; is_ready"]).returncode == 0
 
 
 def with_room(call, saved=None):
@@ -221,6 +223,7 @@ def with_room(call, saved=None):
     with tempfile.TemporaryDirectory() as room:
         shutil.copytree("examples", f"{room}/examples")
         os.symlink(os.path.realpath(PROGRAM), f"{room}/mmixware")
+        os.symlink(os.path.realpath(VIEWER), f"{room}/mmixview")
         for script in glob.glob("grade"):
             shutil.copy(script, room)
         for name, text in (saved or {}).items():
@@ -245,7 +248,7 @@ def session(block, saved, folder="."):
 
 
 def check_session(page, block, saved, folder="."):
-    if is_fresh():
+    if is_fresh() and ("mmixview" not in block or is_fresh("mmixview")):
         shown, got = session(block, saved, folder)
         if trimmed(got) != trimmed(shown):
             wrong(page, f"a session prints\n{got}and the page has\n{shown}")
@@ -267,9 +270,10 @@ def check_sessions():
 
 
 def check_manual():
-    """Each block without filling is a session in the folder of the examples."""
-    page = "docs/mmixware.1"
-    for block in re.findall(r"^\.nf\n(.*?)^\.fi", text_of(page), re.M | re.S):
+    """Each block without filling of a page on a program is a session in the folder of the examples."""
+    pages_of_programs = ("docs/mmixware.1", "docs/mmixview.1")
+    blocks = [(page, block) for page in pages_of_programs for block in re.findall(r"^\.nf\n(.*?)^\.fi", text_of(page), re.M | re.S)]
+    for page, block in blocks:
         for written, meant in ((r"\-", "-"), (r"\(dq", '"'), (r"\&", ""), (r"\e", "\\")):
             block = block.replace(written, meant)
         if not block.startswith("$ "):

@@ -17,9 +17,9 @@ AREAS = [
     ("language", "mx_line mx_expr mx_ops mx_names mx_stmt mx_asm"),
     ("objects", "mx_mmo mx_stab mx_load mx_type"),
     ("machine", "mx_mem mx_alu mx_ring mx_trip mx_spec mx_core"),
-    ("host and runs", "mx_host mx_plan mx_trap mx_run mx_watch mx_multi mx_real"),
+    ("host and runs", "mx_host mx_plan mx_trap mx_run mx_back mx_watch mx_multi mx_real"),
     ("console", "mx_text mx_cmd mx_con"),
-    ("program", "mx_words mx_files mx_top mmixware"),
+    ("program", "mx_words mx_files mx_top mx_view mmixware mmixview"),
 ]
 BASE = "mx_word"
 CHAIN = 8

@@ -15,7 +15,7 @@ for folder in crates/*/; do
   [ -d "$folder/src" ] || continue
   grep -q "^$crate[ :]" crates.txt || wrong "$crate is not in crates.txt"
   case $crate in
-    test_* | mmixware) continue ;;
+    test_* | mmixware | mmixview) continue ;;
   esac
   [ -n "$(ls "$folder/must-fail" 2>/dev/null)" ] || wrong "$crate has no must-fail edit"
 done

@@ -30,47 +30,39 @@ make_repository() {
     mkdir -p "$1/crates/$crate/src"
     echo 'fn main() {}' >"$1/crates/$crate/src/main.rt"
   done
-  mkdir "$1/.git" "$1/docs" "$1/packaging"
+  mkdir "$1/.git" "$1/docs" "$1/packaging" "$1/crates/mx_word/must-fail"
+  touch "$1/crates/mx_word/must-fail/wrong.edit"
+  echo 'Handles allowed: none.' >"$1/HANDLES"
   printf '# Crates.\nmx_word: thiserror\nmx_rows: mx_word\nmmixware: mx_word\n' >"$1/crates.txt"
   cp "$here/mmixware" "$here/install" "$here/try" "$here/release" "$here/grade" "$1"
-  cp "$here/packaging/kept.sh" "$1/packaging"
+  cp "$here"/packaging/*.sh "$1/packaging"
   cp "$here"/docs/*.1 "$1/docs"
   cp -R "$here/completion" "$1"
 }
 
-# what rt does: it builds a program, and sets each out/ aside for the gate; before that it does what $meanwhile says
+# what rt does: it builds a program, in a repository under its lock, and does what $meanwhile says before that. Of the crates
+# alone, which are no repository, it wants neither wrong bodies nor crates of tests
 rt_builds() {
   cat >bin/rt <<'END'
 #!/bin/sh
-build() {
-  printf '#!/bin/sh\necho built "$@"\n' >"$1/mmixware"
-  chmod +x "$1/mmixware"
-}
-case $1 in
-  all)
-    mkdir -p out
-    echo 'rt: waiting for another rt to finish in here' >&2
-    printf '== mx_word\nmx_word: proved\n== mmixware\n== summary\n'
-    sh -c "$meanwhile"
-    ;;
-  run)
-    build out
-    echo 'linked out/mmixware' >&2
-    ;;
-  ci)
-    exec 8>.git/rt-ci.lock
-    flock 8
-    rm -rf crates/*/out
-    for crate in crates/*; do
-      mkdir "$crate/out"
-    done
-    sleep 0.1
-    sh -c "$meanwhile" 8>&-
-    build crates/mmixware/out
-    sleep 0.1
-    cp crates/mmixware/out/mmixware crates/mmixware/out/mmixware.by-rattle
-    ;;
-esac
+if [ -d .git ]; then
+  exec 8>.git/rt-ci.lock
+  flock 8
+elif [ -e crates/mx_word/must-fail ] || [ -e crates/test_rows ]; then
+  exit 1
+fi
+rm -rf crates/*/out
+for crate in crates/*; do
+  mkdir "$crate/out"
+done
+sleep 0.1
+printf '== mx_word\nmx_word: all is well\nrt: mx_word proved\nrt: mmixware is kept: an earlier run proved it\n'
+sh -c "$meanwhile" 8>&-
+program=crates/mmixware/out/mmixware
+printf '#!/bin/sh\necho built "$@"\n' >$program
+chmod +x $program
+sleep 0.1
+cp $program $program.by-rattle
 END
   chmod +x bin/rt
 }
@@ -81,31 +73,34 @@ rt_fails() {
 }
 
 gate() (
-  cd "$1" && rt ci
+  cd "$1" && rt ci >/dev/null
 )
 
 # begins a gate of a second, and waits until it has set each out/ aside
 begin_gate() {
   rm -f begun
-  meanwhile="touch $room/begun; sleep 1" sh -c 'cd "$0" && exec rt ci' "$1" &
+  meanwhile="touch $room/begun; sleep 1" sh -c 'cd "$0" && exec rt ci >/dev/null' "$1" &
   running=$!
   while [ ! -e begun ]; do
     sleep 0.05
   done
 }
 
-proving='mmixware: proving and building the program; from nothing this took 26 minutes on four processors'
-progress='mmixware: waiting for another rt to finish in here
-mmixware: 1 of 2 crates, 0 minutes
+proving='mmixware: proving and building the program; from nothing this took 15 minutes on four processors'
+progress='mmixware: 1 of 2 crates, 0 minutes
 mmixware: 2 of 2 crates, 0 minutes'
 building="$proving
 $progress
 mmixware: the program is built"
+changed="$proving
+$progress
+mmixware: the sources were changed while the program was built: call it again"
 failing="$proving
 mmixware: the program was not built; the lines above are the last that rt said"
-mkdir bin
+mkdir bin temporary
+TMPDIR=$room/temporary
 meanwhile=
-export meanwhile
+export meanwhile TMPDIR
 
 # the first command, then the gate: during it and when it is cut off the program that is kept answers at once
 make_repository repo
@@ -137,7 +132,7 @@ cmp gated/.built/mmixware.sums repo/.built/mmixware.sums || bad=1
 rt_builds
 make_repository waiting
 begin_gate waiting
-prints 'mmixware: waiting for the rt ci or ./mmixware that runs here
+prints 'mmixware: waiting for the rt ci, ./mmixware or ./mmixview that runs here
 built a
 status 0' waiting/mmixware a
 wait "$running" 2>/dev/null
@@ -178,18 +173,18 @@ done
 # a first command that is cut off leaves a part of a program, which is not run, nor is one whose sources were changed
 rt_builds
 make_repository cut
-meanwhile='echo part >out/mmixware; chmod +x out/mmixware; sleep 1'
+rm -f begun
+meanwhile="echo part >crates/mmixware/out/mmixware; touch $room/begun; sleep 1"
 cut/mmixware a >said 2>&1 &
 running=$!
-while [ ! -e cut/crates/mmixware/out/mmixware ]; do
+while [ ! -e begun ]; do
   sleep 0.05
 done
 kill "$running"
 wait "$running" 2>/dev/null
-[ -z "$(ls cut/.built)" ] || wrong 'a first command that is cut off leaves something behind'
-meanwhile='echo "// changed" >>../mx_word/src/main.rt'
-prints "$building
-mmixware: the sources were changed while the program was built: call it again
+[ -z "$(find temporary cut/.built -mindepth 1 2>/dev/null)" ] || wrong 'a first command that is cut off leaves something behind'
+meanwhile="echo '// changed' >>$room/cut/crates/mx_word/src/main.rt"
+prints "$changed
 status 1" cut/mmixware a
 meanwhile=
 prints "$building
@@ -229,7 +224,7 @@ done
 # from a copy whose times are all new, without what rt made; there and back; with a change that the program does not
 # stand on; with another program; and with a change that the program stands on
 cp -r repo 'a copy'
-rm -r 'a copy/crates/mmixware/out'
+rm -rf 'a copy/crates/mmixware/out'
 sleep 0.1
 touch 'a copy/crates.txt' 'a copy/crates/mmixware/src/main.rt'
 prints 'built a

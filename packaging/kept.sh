@@ -1,14 +1,15 @@
 # The program that is kept: where it stands, and whether it was built from the sources that are here. The scripts read
 # this file once $here is the top of the repository. Sums decide, and times only once, where `rt ci` has built it.
-kept=$here/.built/mmixware
+# The program is mmixware, or the one that $tool names.
+kept=$here/.built/${tool:-mmixware}
 # the program as `rt` builds it
-built=$here/crates/mmixware/out/mmixware
+built=$here/crates/${tool:-mmixware}/out/${tool:-mmixware}
 # `rt ci` opens this file when it begins, and holds it until it ends
 lock=$here/.git/rt-ci.lock
 
 # the rows of crates.txt for the crates that the program is built from
 rows() {
-  awk -F : '
+  awk -F : -v top="${tool:-mmixware}" '
     function visit(crate, below, count, at) {
       if (!(crate in row) || crate in seen) return
       seen[crate] = 1
@@ -17,7 +18,7 @@ rows() {
       print row[crate]
     }
     !/^#/ && NF { split($1, words, " "); row[words[1]] = $0; names[words[1]] = $2 }
-    END { visit("mmixware") }' "$here/crates.txt"
+    END { visit(top) }' "$here/crates.txt"
 }
 
 # the folders of the sources, by names from the top of the repository
@@ -46,12 +47,17 @@ is_kept() {
   [ -x "$kept" ] && [ -f "$kept.sums" ] && [ "$(cat "$kept.sums")" = "$(sum_of_sources; sha256sum <"$kept")" ]
 }
 
-# keeps the program that rt has built since a file was written, if no source has been changed since then
-keep_since() {
-  mkdir -p "$here/.built" && cp "$built" "$kept.$$" && { sum_of_sources; sha256sum <"$kept.$$"; } >"$kept.sums.$$" &&
-    is_unchanged_since "$1" && mv -f "$kept.$$" "$kept" && mv -f "$kept.sums.$$" "$kept.sums" && return
+# keeps a program, with the sum of the sources that it was built from
+keep() {
+  mkdir -p "$here/.built" && cp "$1" "$kept.$$" && { echo "$2"; sha256sum <"$kept.$$"; } >"$kept.sums.$$" &&
+    mv -f "$kept.$$" "$kept" && mv -f "$kept.sums.$$" "$kept.sums" && return
   rm -f "$kept.$$" "$kept.sums.$$"
   return 1
+}
+
+# keeps the program that rt has built since a file was written, if no source has been changed since then
+keep_since() {
+  sources=$(sum_of_sources) && is_unchanged_since "$1" && keep "$built" "$sources"
 }
 
 # opens the lock of `rt ci`, where there can be one
