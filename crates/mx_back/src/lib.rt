@@ -4,7 +4,10 @@
 mod back;
 mod fault;
 mod laws;
+mod running;
+mod trapping;
 
 pub use back::Back;
 pub use fault::BackFault;
 pub use laws::states_come_back;
+pub use running::run_kept;

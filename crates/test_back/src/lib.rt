@@ -8,4 +8,6 @@ mod digest;
 #[cfg(test)]
 mod rows;
 #[cfg(test)]
+mod runs;
+#[cfg(test)]
 mod walk;

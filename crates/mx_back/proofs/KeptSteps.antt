@@ -1,0 +1,241 @@
+-- A run whose last steps are kept, step by step.
+use Rattle.std.proofs.Common.{◌≡◌, ◌≢◌, ◌<◌, ◌≤◌, ◌+◌, ◌-◌, ℕ, suc, Bool, true, false, List, [], Ok, Err, inl, inr, arith, refl, sym, subst, ◌∙◌, ap}
+use Rattle.std.specs.Prelude.{Result, ◌⊎◌}
+use Rattle.mx_host.specs.HostModel.{HostModel}
+use Rattle.mx_plan.specs.Plan.{Comes, IsRest, Stops}
+use Rattle.mx_trip.specs.declared.call.TrapCall.{TrapCall}
+use Rattle.mx_trap.specs.Clauses.{IsStopped, StopsByPages}
+use Rattle.mx_trap.specs.Requests.{request_of}
+use Rattle.mx_trap.specs.declared.answer.TrapAnswer.{TrapAnswer}
+use Rattle.mx_trap.specs.declared.answer.TrapAnswer.TheVariants as trap
+use Rattle.mx_trap.specs.declared.answer.TrapStop.{TrapStop}
+use Rattle.mx_trap.specs.declared.answer.TrapStop.TheVariants.{Negative, WideTrap, TransferTooLarge, TrapPagesFull, UnknownTrap}
+use Rattle.mx_trap.specs.Answers.{stop_number}
+use Rattle.mx_core.specs.MachineSpace.{machine_contents, IsWholeSpace, state_in}
+use Rattle.mx_core.specs.Reasons.{number_of}
+use Rattle.mx_core.specs.State.{State}
+use Rattle.mx_core.specs.Step.{Stepped, went, calls, stopped, step}
+use Rattle.mx_core.specs.Stepping.{step_answer}
+use Rattle.mx_core.specs.Undoing.{StateWas}
+use Rattle.mx_core.specs.declared.reason.Reason.{Reason}
+use Rattle.mx_core.specs.declared.step.Step.TheVariants as made
+use Rattle.mx_core.specs.declared.trace.Trace.{Trace}
+use Rattle.mx_core.proofs.SpaceStates.{told}
+use Rattle.mx_run.specs.RunPlans.{RunWorld, running, beside_world, turn_plan, step_plan, run_plan}
+use Rattle.mx_run.specs.Runs.{ended, no_flags, run}
+use Rattle.mx_run.specs.Turns.{Answered, area_size, Turn, went_on, halts, stops, turn, turn_answer}
+use Rattle.mx_run.specs.declared.end.End.{End}
+use Rattle.mx_run.specs.declared.end.End.TheVariants as end
+use Rattle.mx_run.specs.declared.turn_answer.TurnAnswer.{TurnAnswer}
+use Rattle.mx_run.specs.declared.turn_answer.TurnAnswer.TheVariants as answer
+use Rattle.mx_run.proofs.FreeRuns.{trace-free, went-turn, went-free, halted-step, stopped-step, lacking-step, run-from}
+use Rattle.mx_run.specs.Clauses.{GoesAsList}
+use Rattle.mx_run.specs.WildRuns.{RunEnd, HasWindow, list_machine, run_by}
+use Rattle.mx_core.specs.Bounds.{as_list_state}
+use Rattle.mx_run.proofs.ListSteps.{Beside, list-window, list-went, list-ended}
+use Rattle.mx_run.proofs.PlanEnds.{run_step, turn_ended, step-end, step-answer, rest-begun, rest-went, rest-ended, rest-spent}
+use Rattle.mx_run.proofs.Runners.{run-told, turn-told}
+use Rattle.mx_run.proofs.TurnAnswers.{call-told, went-comes, stopped-comes, called-comes}
+use Rattle.mx_back.specs.History.{AreNotesOf, Turned, stepped, kept_turn, states_kept, states_before}
+use Rattle.mx_back.specs.KeptRuns.{AfterSteps, ComesKept, ComesStep, ended_at, may_change, stop_changes, notes_left, kind_by, trap_kind, turn_kind, kind_at, turns_after, turns_of}
+
+-- ---- one step
+
+as-step : (v w : RunWorld) (x : Result (Unit {0}) End) → Comes running v w (Err end.OutOfMemory) x (step_plan no_flags false) → ComesStep v w x
+as-step v w x c = record { ending = c.ending; stopping = λ o. inl (c.stopping o) }
+
+went-by : (s t : State) (m n : HostModel) (trace : Trace) → Comes running (s, m) (t, n) answer.OutOfMemory (answer.Went trace) turn_plan → ComesStep (s, m) (t, n) (Ok tt)
+went-by s t m n trace c = record {
+  ending = λ ne. ap beside_world (went-free s t m n trace (went-turn s t m n trace c)) ∙ sym (step-end no_flags false s m);
+  stopping = λ o. absurd (cc);
+}
+
+-- by the answer of its turn
+turned-by : (s t : State) (m n : HostModel) (pc : ℕ) (r : TurnAnswer) → pc ≡ s.pc → Comes running (s, m) (t, n) answer.OutOfMemory r turn_plan → ComesStep (s, m) (t, n) (ended_at pc r)
+turned-by s t m n pc (answer.Went trace) e c = went-by s t m n trace c
+turned-by s t m n pc (answer.Halted status) e c = as-step _ _ _ (halted-step s t m n status c)
+turned-by s t m n pc (answer.Stopped reason) e c = as-step _ _ _ (stopped-step s t m n pc reason e c)
+turned-by s t m n pc answer.OutOfMemory e c = as-step _ _ _ (lacking-step s t m n c)
+
+pub went-step : (s t : State) (m : HostModel) (trace : Trace) → (made.Went trace, t) ≡ step_answer s (step s) → ComesStep (s, m) (t, m) (Ok tt)
+went-step s t m trace e = went-by s t m m trace (went-comes s t m trace e)
+
+pub stopped-step-at : (s t : State) (m : HostModel) (pc number : ℕ) (reason : Reason) → pc ≡ s.pc → number ≡ number_of reason → (made.Stopped reason, t) ≡ step_answer s (step s) →
+    ComesStep (s, m) (t, m) (Err (end.Stopped pc number))
+stopped-step-at s t m pc number reason at e h =
+    turned-by s t m m pc (answer.Stopped number) at (subst (λ k. Comes running (s, m) (t, m) answer.OutOfMemory (answer.Stopped k) turn_plan) (sym e) (stopped-comes s t m reason h))
+
+pub called-step : (s t u : State) (m n : HostModel) (pc : ℕ) (call : TrapCall) (r : TurnAnswer) → pc ≡ s.pc → (made.Trap call, t) ≡ step_answer s (step s) → Comes running (t, m) (u, n) answer.OutOfMemory r turn_plan →
+    ComesStep (s, m) (u, n) (ended_at pc r)
+called-step s t u m n pc call r at e c = turned-by s u m n pc r at (called-comes s t u m n call r e c)
+
+pub unnoted-step : (s t : State) (m : HostModel) → t ≡ s → ComesStep (s, m) (t, m) (Err end.OutOfMemory)
+unnoted-step s t m e = record { ending = λ ne. absurd (ne refl); stopping = λ o. inr (ap (λ (u : State). (u, m)) e) }
+
+-- ---- a file trap whose request is refused
+
+by-result : {A E : Type 0} (P : Result A E → Type 0) → ((a : A) → P (Ok a)) → ((e : E) → P (Err e)) → (r : Result A E) → P r
+by-result P f g (Ok a) = f a
+by-result P f g (Err e) = g e
+
+same-told : (s t : State) → IsWholeSpace s → IsWholeSpace t → machine_contents t ≡ machine_contents s → t ≡ s
+same-told s t h k e = sym (told t k) ∙ ap (λ c. state_in c area_size) e ∙ told s h
+
+by-pages : (value : TrapAnswer) (P : Type 0) → StopsByPages value → may_change value ≡ false → P
+by-pages (trap.Value x) P h e = absurd (cc)
+by-pages trap.Halt P h e = absurd (cc)
+by-pages (trap.Stopped why) P h e = let wrong : true ≡ false = sym (ap stop_changes h) ∙ e in absurd (cc)
+by-pages trap.OutOfMemory P h e = absurd (cc)
+
+pub refused-same : (H : Type 0) (bytes : ℕ → ℕ) (call : TrapCall) (value : TrapAnswer) (s t : State) → IsWholeSpace s → IsWholeSpace t → IsStopped (request_of bytes call) value ((machine_contents t ≡ machine_contents s) × H) →
+    may_change value ≡ false → t ≡ s
+refused-same H bytes call value s t h k x e =
+    by-result (λ r. IsStopped r value ((machine_contents t ≡ machine_contents s) × H) → t ≡ s) (λ request p. by-pages value (t ≡ s) p e) (λ why p. same-told s t h k p.1.0) (request_of bytes call) x
+
+pub left-fits : (changed : Bool) (value : TrapAnswer) (old new : List StateWas) (s t u : State) → changed ≡ may_change value → new ≡ notes_left changed old → (may_change value ≡ false → t ≡ s) → (may_change value ≡ false → u ≡ t) → AreNotesOf old s → AreNotesOf new u
+unfolding AreNotesOf
+left-fits true value old new s t u c e f g h = subst (λ ns. AreNotesOf ns u) (sym e) tt
+left-fits false value old new s t u c e f g h = subst (λ ns. AreNotesOf ns u) (sym e) (subst (AreNotesOf old) (sym (g (sym c) ∙ f (sym c))) h)
+
+-- ---- the run, after some of its steps
+
+abbrev pub Rest : ℕ → ℕ → RunWorld → RunWorld → Type 0
+Rest n left now start = IsRest running (run_plan left no_flags false) now (run_plan n no_flags false) start
+
+abbrev pub Made : ℕ → RunWorld → RunWorld → Type 0
+Made i now start = run i no_flags false start.0 start.1 ≡ ended end.Spent now.0 now.1
+
+pub begun-made : (s : State) (m : HostModel) → run 0 no_flags false s m ≡ ended end.Spent s m
+unfolding run
+begun-made s m = refl
+
+pub went-rest : (n i : ℕ) (u : Unit {0}) (v w start : RunWorld) → i < n → ComesStep v w (Ok u) → Rest n (n - i) v start → Rest n (n - (i + 1)) w start
+went-rest n i u v w start l c r = rest-went n i no_flags false u v w start (run_plan n no_flags false) l r (c.ending (λ e. absurd (cc)))
+
+one-made : (u : Unit {0}) (v w : RunWorld) → ComesStep v w (Ok u) → Made 1 w v
+one-made u v w c =
+    let whole = rest-spent 1 1 no_flags false w v (run_plan 1 no_flags false) (omega arith) (went-rest 1 0 u v w v (omega arith) c (rest-begun 1 no_flags false v)) in
+    sym (run-told 1 no_flags false v.0 w.0 v.1 w.1 end.Spent whole (λ e. absurd (cc)))
+
+pub went-made : (i : ℕ) (u : Unit {0}) (v w start : RunWorld) → ComesStep v w (Ok u) → Made i v start → Made (i + 1) w start
+went-made i u v w start c h = run-from i 1 start.0 v.0 start.1 v.1 h ∙ one-made u v w c
+
+ended-by : (n i : ℕ) (why : End) (v w start : RunWorld) → i < n → Rest n (n - i) v start → Made i v start → why ≡ end.OutOfMemory →
+    Stops running w (step_plan no_flags false) v ⊎ (w ≡ v) → Stops running w (run_plan n no_flags false) start ⊎ AfterSteps n start w
+ended-by n i why v w start l r h o (inl lacks) =
+    inl ((rest-ended n i no_flags false why v w start (run_plan n no_flags false) l r (record { ending = λ ne. absurd (ne (ap Err o)); stopping = λ e. lacks })).stopping o)
+ended-by n i why v w start l r h o (inr same) =
+    inr (record { made = i; few = omega (arith, l); steps = h ∙ ap (λ (x : RunWorld). ended end.Spent x.0 x.1) (sym same) })
+
+pub ended-kept : (n i : ℕ) (why : End) (v w start : RunWorld) → i < n → Rest n (n - i) v start → Made i v start → ComesStep v w (Err why) → ComesKept n start w why
+ended-kept n i why v w start l r h c = record {
+  ending = λ ne. (rest-ended n i no_flags false why v w start (run_plan n no_flags false) l r (record { ending = c.ending; stopping = λ e. absurd (ne (cc)) })).ending ne;
+  stopping = λ o. ended-by n i why v w start l r h o (c.stopping (ap Err o));
+}
+
+pub spent-kept : (n i : ℕ) (w start : RunWorld) → n ≤ i → Rest n (n - i) w start → ComesKept n start w end.Spent
+spent-kept n i w start l r =
+    let whole = rest-spent n i no_flags false w start (run_plan n no_flags false) l r in
+    record { ending = whole.ending; stopping = λ o. inl (whole.stopping o) }
+
+pub kept-told : (n : ℕ) (s t : State) (m k : HostModel) (r : End) → ComesKept n (s, m) (t, k) r → r ≢ end.OutOfMemory → ended r t k ≡ run n no_flags false s m
+kept-told n s t m k r c ne = run-told n no_flags false s t m k r (record { ending = c.ending; stopping = λ o. absurd (ne o) }) ne
+
+-- ---- what is kept
+
+pub stop-kind : (why : TrapStop) (number : ℕ) → number ≡ stop_number why → trap_kind (answer.Stopped number) ≡ kind_by (stop_changes why)
+stop-kind Negative number e = rw e refl
+stop-kind WideTrap number e = rw e refl
+stop-kind TransferTooLarge number e = rw e refl
+stop-kind TrapPagesFull number e = rw e refl
+stop-kind UnknownTrap number e = rw e refl
+
+pub left-kept : (changed : Bool) (value : TrapAnswer) (r : TurnAnswer) (old new : List StateWas) (s t u : State) → changed ≡ may_change value → new ≡ notes_left changed old → trap_kind r ≡ kind_by (may_change value) →
+    (may_change value ≡ false → t ≡ s) → (may_change value ≡ false → u ≡ t) → states_before new u ≡ kept_turn (trap_kind r) s (states_before old s)
+unfolding states_before
+left-kept true value r old new s t u c e k f g = ap (λ ns. states_before ns u) e ∙ ap (λ x. kept_turn x s (states_before old s)) (sym (k ∙ ap kind_by (sym c)))
+left-kept false value r old new s t u c e k f g =
+    ap (λ ns. states_before ns u) e ∙ ap (states_before old) (g (sym c) ∙ f (sym c)) ∙ ap (λ x. kept_turn x s (states_before old s)) (sym (k ∙ ap kind_by (sym c)))
+
+-- the kind of a step by its answer
+went-kind : (s t : State) (trace : Trace) (x : Stepped) (r : TurnAnswer) → (made.Went trace, t) ≡ step_answer s x → turn_kind x r ≡ stepped
+went-kind s t trace (went u other) r e = refl
+went-kind s t trace (calls call) r e = let first : made.Went trace ≡ made.Trap call = ap (λ p. p.0) e in absurd (cc)
+went-kind s t trace (stopped reason) r e = let first : made.Went trace ≡ made.Stopped reason = ap (λ p. p.0) e in absurd (cc)
+
+stopped-kind : (s t : State) (reason : Reason) (x : Stepped) (r : TurnAnswer) → (made.Stopped reason, t) ≡ step_answer s x → turn_kind x r ≡ kind_by false
+stopped-kind s t reason (went u other) r e = let first : made.Stopped reason ≡ made.Went other = ap (λ p. p.0) e in absurd (cc)
+stopped-kind s t reason (calls call) r e = let first : made.Stopped reason ≡ made.Trap call = ap (λ p. p.0) e in absurd (cc)
+stopped-kind s t reason (stopped other) r e = refl
+
+called-state : (s t : State) (call : TrapCall) (x : Stepped) → (made.Trap call, t) ≡ step_answer s x → t ≡ s
+called-state s t call (went u other) e = let first : made.Trap call ≡ made.Went other = ap (λ p. p.0) e in absurd (cc)
+called-state s t call (calls other) e = ap (λ p. p.1) e
+called-state s t call (stopped reason) e = let first : made.Trap call ≡ made.Stopped reason = ap (λ p. p.0) e in absurd (cc)
+
+pub went-keeps : (s t : State) (m : HostModel) (trace : Trace) (now kept : List State) → (made.Went trace, t) ≡ step_answer s (step s) → now ≡ kept_turn stepped s kept → now ≡ kept_turn (kind_at s m) s kept
+went-keeps s t m trace now kept e h = h ∙ ap (λ k. kept_turn k s kept) (sym (went-kind s t trace (step s) (turn_answer (turn s m)).0 e))
+
+pub stopped-keeps : (s t : State) (m : HostModel) (reason : Reason) (now kept : List State) → (made.Stopped reason, t) ≡ step_answer s (step s) → now ≡ kept → now ≡ kept_turn (kind_at s m) s kept
+stopped-keeps s t m reason now kept e h = h ∙ ap (λ k. kept_turn k s kept) (sym (stopped-kind s t reason (step s) (turn_answer (turn s m)).0 e))
+
+pub called-keeps : (s t u : State) (m n : HostModel) (call : TrapCall) (r : TurnAnswer) (now mid kept : List State) → (made.Trap call, t) ≡ step_answer s (step s) → Comes running (t, m) (u, n) answer.OutOfMemory r turn_plan → r ≢ answer.OutOfMemory →
+    now ≡ kept_turn (trap_kind r) t mid → mid ≡ kept → now ≡ kept_turn (kind_at s m) s kept
+called-keeps s t u m n call r now mid kept e c ne h g =
+    let same = called-state s t call (step s) e in
+    let told = ap (λ (a : Answered TurnAnswer). a.0) (turn-told t u m n r c ne) in
+    h ∙ ap (kept_turn (trap_kind r) t) g ∙ ap (λ a. kept_turn (trap_kind a) t kept) told ∙ ap (λ x. kept_turn (turn_kind x (turn_answer (turn t m)).0) t kept) (sym (call-told s t call e)) ∙ ap (λ (v : State). kept_turn (kind_at v m) v kept) same
+
+-- the turns behind a step
+on-by : (more : State → HostModel → List (Turned × State)) (pc : ℕ) (u : Unit {0}) (t : State) (n : HostModel) (x : Turn) → (Ok u, t, n) ≡ turn_ended no_flags pc (turn_answer x) → turns_after more x ≡ more t n
+on-by more pc u t n (went_on v k trace) e = ap (λ (a : Answered (Result (Unit {0}) End)). more a.1 a.2) (sym e)
+on-by more pc u t n (halts status v k) e = let first : Ok u ≡ Err (end.Halted status) = ap (λ (a : Answered (Result (Unit {0}) End)). a.0) e in absurd (cc)
+on-by more pc u t n (stops reason v k) e = let first : Ok u ≡ Err (end.Stopped pc reason) = ap (λ (a : Answered (Result (Unit {0}) End)). a.0) e in absurd (cc)
+
+end-by : (more : State → HostModel → List (Turned × State)) (pc : ℕ) (why : End) (t : State) (n : HostModel) (x : Turn) → (Err why, t, n) ≡ turn_ended no_flags pc (turn_answer x) → turns_after more x ≡ []
+end-by more pc why t n (went_on v k trace) e = let first : Err why ≡ Ok tt = ap (λ (a : Answered (Result (Unit {0}) End)). a.0) e ∙ trace-free trace in absurd (cc)
+end-by more pc why t n (halts status v k) e = refl
+end-by more pc why t n (stops reason v k) e = refl
+
+left-after : (k i : ℕ) → i < k → k - i ≡ suc (k - (i + 1))
+left-after k i l = omega arith
+
+turns-left : (n i : ℕ) (s : State) (m : HostModel) (kept : List State) → i < n → states_kept (turns_of (n - i) s m) kept ≡ states_kept (turns_after (turns_of (n - (i + 1))) (turn s m)) (kept_turn (kind_at s m) s kept)
+unfolding turns_of states_kept
+turns-left n i s m kept l = rw (left-after n i l) refl
+
+pub begun-kept : (n : ℕ) (s : State) (m : HostModel) (kept : List State) → states_kept (turns_of (n - 0) s m) kept ≡ states_kept (turns_of n s m) kept
+begun-kept n s m kept = let all : n - 0 ≡ n = omega arith in rw all refl
+
+pub went-kept-on : (n i : ℕ) (u : Unit {0}) (s t : State) (m k : HostModel) (before now whole : List State) → i < n → ComesStep (s, m) (t, k) (Ok u) → now ≡ kept_turn (kind_at s m) s before → states_kept (turns_of (n - i) s m) before ≡ whole →
+    states_kept (turns_of (n - (i + 1)) t k) now ≡ whole
+unfolding run_step
+went-kept-on n i u s t m k before now whole l c e h =
+    ap (states_kept (turns_of (n - (i + 1)) t k)) e
+    ∙ ap (λ ts. states_kept ts (kept_turn (kind_at s m) s before)) (sym (on-by (turns_of (n - (i + 1))) s.pc u t k (turn s m) (step-answer no_flags false s t m k (Ok u) (c.ending (λ o. absurd (cc))))))
+    ∙ sym (turns-left n i s m before l) ∙ h
+
+pub ended-kept-so : (n i : ℕ) (why : End) (s t : State) (m k : HostModel) (before now whole : List State) → i < n → why ≢ end.OutOfMemory → ComesStep (s, m) (t, k) (Err why) → now ≡ kept_turn (kind_at s m) s before → states_kept (turns_of (n - i) s m) before ≡ whole →
+    now ≡ whole
+unfolding run_step states_kept
+ended-kept-so n i why s t m k before now whole l ne c e h =
+    e ∙ ap (λ ts. states_kept ts (kept_turn (kind_at s m) s before)) (sym (end-by (turns_of (n - (i + 1))) s.pc why t k (turn s m) (step-answer no_flags false s t m k (Err why) (c.ending (λ o. ne (cc))))))
+    ∙ sym (turns-left n i s m before l) ∙ h
+
+pub spent-kept-so : (n i : ℕ) (s : State) (m : HostModel) (now whole : List State) → n ≤ i → states_kept (turns_of (n - i) s m) now ≡ whole → now ≡ whole
+unfolding turns_of states_kept
+spent-kept-so n i s m now whole l h = let none : n - i ≡ 0 = omega arith in sym (ap (λ j. states_kept (turns_of j s m) now) none) ∙ h
+
+-- ---- beside the list machine
+
+pub went-listed : (n i : ℕ) (whole : RunEnd) (u : Unit {0}) (s t : State) (m k : HostModel) → i < n → HasWindow s → ComesStep (s, m) (t, k) (Ok u) → Beside whole (run_by list_machine (n - i) no_flags false (as_list_state s) m) s m →
+    Beside whole (run_by list_machine (n - (i + 1)) no_flags false (as_list_state t) k) t k
+went-listed n i whole u s t m k l w c b =
+    list-went whole n i no_flags false s t m k u l (list-window s w) (step-answer no_flags false s t m k (Ok u) (c.ending (λ e. absurd (cc)))) b
+
+pub ended-listed : (n i : ℕ) (whole : RunEnd) (why : End) (s t : State) (m k : HostModel) → i < n → HasWindow s → why ≢ end.OutOfMemory → ComesStep (s, m) (t, k) (Err why) →
+    Beside whole (run_by list_machine (n - i) no_flags false (as_list_state s) m) s m → GoesAsList whole (ended why t k)
+ended-listed n i whole why s t m k l w ne c b =
+    list-ended whole n i no_flags false s t m k why l (list-window s w) (step-answer no_flags false s t m k (Err why) (c.ending (λ e. ne (cc)))) b
+
+pub ruleset kinds = (stop-kind)

@@ -1,0 +1,113 @@
+-- The words of clauses over a run whose last steps are kept. `old` and `new` are what the host told before and after, `before`
+-- and `after` the states of the machine.
+use Rattle.std.specs.Prelude.{ℕ, ◌≡◌, ◌≢◌, ◌≤◌, ◌⊎◌, IsTrue, Bool, true, false, ◌==◌, zero, suc, List, [], ◌∷◌, if◌then◌else◌, Option, Result, Ok, Err}
+use Rattle.mx_host.specs.HostModel.{HostModel, tells, contents}
+use Rattle.mx_plan.specs.Plan.{Stops, end_of}
+use Rattle.mx_core.specs.State.{State}
+use Rattle.mx_core.specs.Step.{Stepped, went, calls, stopped, step}
+use Rattle.mx_core.specs.Undoing.{StateWas}
+use Rattle.mx_run.specs.RunPlans.{RunWorld, running, run_plan, step_plan}
+use Rattle.mx_run.specs.Runs as runs
+use Rattle.mx_run.specs.Runs.{no_flags, run}
+use Rattle.mx_run.specs.Turns.{Turn, went_on, halts, stops, turn, turn_answer}
+use Rattle.mx_run.specs.declared.end.End.{End}
+use Rattle.mx_run.specs.declared.end.End.TheVariants as end
+use Rattle.mx_run.specs.declared.turn_answer.TurnAnswer.{TurnAnswer}
+use Rattle.mx_run.specs.declared.turn_answer.TurnAnswer.TheVariants as answer
+use Rattle.mx_trap.specs.declared.answer.TrapAnswer.{TrapAnswer}
+use Rattle.mx_trap.specs.declared.answer.TrapAnswer.TheVariants as trap
+use Rattle.mx_trap.specs.declared.answer.TrapStop.{TrapStop}
+use Rattle.mx_trap.specs.declared.answer.TrapStop.TheVariants as stop
+use Rattle.mx_back.specs.History.{Turned, stepped, trapped, ended, kept_turn, states_kept, states_before}
+
+-- the machine and the host after completed steps, at most n
+pub record AfterSteps (n : ℕ) (start now : RunWorld) : Type 0 where
+  pub made : ℕ
+  pub few : made ≤ n
+  pub steps : run made no_flags false start.0 start.1 ≡ runs.ended end.Spent now.0 now.1
+
+-- What comes of a run of at most n steps that are noted. Unless there was no memory, the end, the machine and the host are
+-- those of the run. Where a turn lacked it, they are as the run may stop; where a note did, the steps up to there are
+-- completed, and nothing else changed.
+pub record ComesKept (n : ℕ) (old new : RunWorld) (result : End) : Type 0 where
+  pub ending : result ≢ end.OutOfMemory → (result, new) ≡ end_of running (run_plan n no_flags false) old
+  pub stopping : result ≡ end.OutOfMemory → Stops running new (run_plan n no_flags false) old ⊎ AfterSteps n old new
+
+-- so it is over a host that tells its contents
+abbrev pub CarriesOutKept : Option HostModel → Option HostModel → State → State → ℕ → End → Type 0
+CarriesOutKept old new before after n result =
+    IsTrue (tells old) → ComesKept n (before, contents old) (after, contents new) result
+
+-- ---- what is kept
+
+-- what a turn is, where its step calls a file trap, by its answer: only the stops other than that for one page too many change
+-- nothing
+abbrev pub trap_kind : TurnAnswer → Turned
+trap_kind (answer.Stopped reason) = if reason == 123 then trapped else ended
+trap_kind other = trapped
+
+-- what a turn is, by its step and its answer
+abbrev pub turn_kind : Stepped → TurnAnswer → Turned
+turn_kind (went t trace) result = stepped
+turn_kind (calls call) result = trap_kind result
+turn_kind (stopped reason) result = ended
+
+abbrev pub kind_at : State → HostModel → Turned
+kind_at s m = turn_kind (step s) (turn_answer (turn s m)).0
+
+-- the turns behind one, where it went on
+abbrev pub turns_after : (State → HostModel → List (Turned × State)) → Turn → List (Turned × State)
+turns_after more (went_on s m trace) = more s m
+turns_after more (halts status s m) = []
+turns_after more (stops reason s m) = []
+
+-- the turns of a run of at most n steps, each with the state before it, the oldest first
+unfoldable pub turns_of : ℕ → State → HostModel → List (Turned × State)
+turns_of zero s m = []
+turns_of (suc n) s m = (kind_at s m, s) ∷ turns_after (turns_of n) (turn s m)
+
+-- over a host that tells its contents, unless there was no memory, the states that the notes stand for are those that the run
+-- of at most n steps keeps
+abbrev pub KeepsRun : Option HostModel → State → State → ℕ → End → List StateWas → List StateWas → Type 0
+KeepsRun old before after n result earlier later =
+    IsTrue (tells old) → result ≢ end.OutOfMemory →
+    states_before later after ≡ states_kept (turns_of n before (contents old)) (states_before earlier before)
+
+-- ---- on the way
+
+-- so it is of a step
+abbrev pub KeepsTurn : Option HostModel → State → State → Result (Unit {0}) End → List StateWas → List StateWas → Type 0
+KeepsTurn old before after result earlier later =
+    IsTrue (tells old) → result ≢ Err end.OutOfMemory →
+    states_before later after ≡ kept_turn (kind_at before (contents old)) before (states_before earlier before)
+
+-- what comes of one step of it: where a note lacks memory, nothing changed
+pub record ComesStep (old new : RunWorld) (result : Result (Unit {0}) End) : Type 0 where
+  pub ending : result ≢ Err end.OutOfMemory → (result, new) ≡ end_of running (step_plan no_flags false) old
+  pub stopping : result ≡ Err end.OutOfMemory → Stops running new (step_plan no_flags false) old ⊎ (new ≡ old)
+
+abbrev pub StepsKept : Option HostModel → Option HostModel → State → State → Result (Unit {0}) End → Type 0
+StepsKept old new before after result = IsTrue (tells old) → ComesStep (before, contents old) (after, contents new) result
+
+-- whether the run goes on behind a turn from an address, or its end
+abbrev pub ended_at : ℕ → TurnAnswer → Result (Unit {0}) End
+ended_at pc (answer.Went trace) = Ok tt
+ended_at pc (answer.Halted status) = Err (end.Halted status)
+ended_at pc (answer.Stopped reason) = Err (end.Stopped pc reason)
+ended_at pc answer.OutOfMemory = Err end.OutOfMemory
+
+-- whether a file trap with this answer may have changed the machine: only one whose request is refused changes nothing
+abbrev pub stop_changes : TrapStop → Bool
+stop_changes stop.TrapPagesFull = true
+stop_changes other = false
+
+abbrev pub may_change : TrapAnswer → Bool
+may_change (trap.Stopped why) = stop_changes why
+may_change other = true
+
+-- the notes that are left, where the machine may have changed otherwise
+abbrev pub notes_left : Bool → List StateWas → List StateWas
+notes_left changed notes = if changed then [] else notes
+
+abbrev pub kind_by : Bool → Turned
+kind_by changed = if changed then trapped else ended

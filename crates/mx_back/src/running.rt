@@ -1,0 +1,117 @@
+//! A run of the machine over a host whose last steps are kept.
+
+ghost use Rattle.std.specs.Prelude.{◌≡◌, false};
+ghost use Rattle.mx_host.specs.Keeping.{Keeps};
+ghost use Rattle.mx_core.specs.Kept.{state_of};
+ghost use Rattle.mx_run.specs.Clauses.{EndsAs, EndsAsList};
+ghost use Rattle.mx_run.specs.Runs.{IsLater, no_flags, run};
+ghost use Rattle.mx_run.specs.WildRuns.{HasWindow, list_machine, run_by};
+ghost use Rattle.mx_back.specs.History.{AreNotesOf};
+ghost use Rattle.mx_back.specs.KeptRuns as spec;
+ghost use Rattle.mx_back.specs.KeptRuns.{CarriesOutKept, KeepsRun, KeepsTurn, StepsKept};
+
+use crate::Back;
+use crate::trapping::trap_turn;
+use mx_core::{Machine, Step, machines_are_whole, machines_keep_the_invariant};
+use mx_host::Host;
+use mx_run::{End, TurnAnswer};
+use std::alloc::Global;
+
+/// Makes at most n steps of a machine over a host, with no flags, and keeps the states before the last ones of them. A
+/// file trap that completed, that halted, that lacked memory or that met one page too many forgets them. From a machine
+/// that nobody touched it goes as over an unbounded list of registers, up to the first turn that looks at rS or at the
+/// memory of the register stack.
+///
+/// The notes change nothing: end, machine and host are those of the run alone. Out of memory, where a turn lacked it,
+/// they are as the run leaves them then; where a note lacked it, the steps up to there were made.
+pub fn run_kept<H: Host>(
+    alloc: Global,
+    machine: &mut Machine,
+    host: &mut H,
+    n: u64,
+    back: &mut Back,
+) -> End
+    requires { AreNotesOf back.old (state_of machine.old) }
+    ensures plan { CarriesOutKept (H.told host.old) (H.told host.new) (state_of machine.old) (state_of machine.new)
+        n result }
+    ensures told { EndsAs (H.told host.old) (H.told host.new) (state_of machine.old) (state_of machine.new) result
+        (λ s m. run n no_flags false s m) }
+    ensures listed { EndsAsList (H.told host.old) (H.told host.new) (state_of machine.old) (state_of machine.new)
+        result (λ s m. run_by list_machine n no_flags false s m) }
+    ensures bound { IsLater n (state_of machine.old) (state_of machine.new) }
+    ensures keeps { Keeps (H.told host.old) (H.told host.new) (H.faults host.old) (H.faults host.new) }
+    ensures fits { AreNotesOf back.new (state_of machine.new) }
+    ensures kept { KeepsRun (H.told host.old) (state_of machine.old) (state_of machine.new) n result back.old back.new }
+{
+    keep_steps(alloc, machine, host, n, back)
+}
+
+/// As `run_kept`.
+#[tactic(auto, using(mx_run::proofs::Later::running))]
+fn keep_steps<H: Host>(
+    alloc: Global,
+    machine: &mut Machine,
+    host: &mut H,
+    n: u64,
+    back: &mut Back,
+) -> End
+    requires { AreNotesOf back.old (state_of machine.old) }
+    ensures plan { CarriesOutKept (H.told host.old) (H.told host.new) (state_of machine.old) (state_of machine.new)
+        n result }
+    ensures listed { EndsAsList (H.told host.old) (H.told host.new) (state_of machine.old) (state_of machine.new)
+        result (λ s m. run_by list_machine n no_flags false s m) }
+    ensures bound { IsLater n (state_of machine.old) (state_of machine.new) }
+    ensures keeps { Keeps (H.told host.old) (H.told host.new) (H.faults host.old) (H.faults host.new) }
+    ensures fits { AreNotesOf back.new (state_of machine.new) }
+    ensures kept { KeepsRun (H.told host.old) (state_of machine.old) (state_of machine.new) n result back.old back.new }
+{
+    for _made in 0..n {
+        match keep_step(alloc, machine, host, back) {
+            Ok(()) => {}
+            Err(end) => return end,
+        }
+    }
+    End::Spent
+}
+
+/// A step of such a run, or its end.
+#[tactic(auto, using(mx_run::proofs::Areas::windows))]
+fn keep_step<H: Host>(
+    alloc: Global,
+    machine: &mut Machine,
+    host: &mut H,
+    back: &mut Back,
+) -> Result<(), End>
+    requires { AreNotesOf back.old (state_of machine.old) }
+    ensures told { StepsKept (H.told host.old) (H.told host.new) (state_of machine.old) (state_of machine.new) result }
+    ensures over { HasWindow (state_of machine.old) }
+    ensures bound { IsLater 1 (state_of machine.old) (state_of machine.new) }
+    ensures keeps { Keeps (H.told host.old) (H.told host.new) (H.faults host.old) (H.faults host.new) }
+    ensures fits { AreNotesOf back.new (state_of machine.new) }
+    ensures kept { KeepsTurn (H.told host.old) (state_of machine.old) (state_of machine.new) result back.old back.new }
+{
+    machines_keep_the_invariant(machine);
+    machines_are_whole(machine);
+    let pc = machine.pc();
+    match back.step(machine) {
+        Step::Went(_) => Ok(()),
+        Step::Trap(call) => ended_at(pc, trap_turn(alloc, machine, host, &call, back)),
+        Step::Stopped(reason) => Err(End::Stopped {
+            pc,
+            reason: reason.number(),
+        }),
+        Step::OutOfMemory => Err(End::OutOfMemory),
+    }
+}
+
+/// Whether the run goes on behind a turn from an address, or its end.
+fn ended_at(pc: u64, answer: TurnAnswer) -> Result<(), End>
+    ensures { result ≡ spec.ended_at pc answer }
+{
+    match answer {
+        TurnAnswer::Went(_) => Ok(()),
+        TurnAnswer::Halted(status) => Err(End::Halted(status)),
+        TurnAnswer::Stopped(reason) => Err(End::Stopped { pc, reason }),
+        TurnAnswer::OutOfMemory => Err(End::OutOfMemory),
+    }
+}
