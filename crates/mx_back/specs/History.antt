@@ -44,8 +44,8 @@ pub data Backed (kept : List State) (s : State) : ℕ → List State → State �
 
 -- A RUN
 
--- what a turn of a run comes to: a step that went on; a file trap that completed, halted, ended without memory or found
--- that the register stack was touched, where the machine may have changed; or a stop that changes nothing
+-- what a turn of a run comes to: a step that went on; a file trap that completed, halted, ended without memory or met one
+-- page too many, where the machine may have changed; or a stop that changes nothing
 pub data Turned : Type 0 where
   stepped : Turned
   trapped : Turned
