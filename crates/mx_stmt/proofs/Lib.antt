@@ -18,4 +18,5 @@ pub mod SoundLabels
 pub mod SoundKnowledge
 pub mod LaidBytes
 pub mod AwaitedNames
+pub mod NumberedFaults
 pub mod Words

@@ -1,6 +1,6 @@
 //! What holds of the definitions alone.
 
-ghost use Rattle.std.specs.Prelude.{◌≡◌, ◌↔◌, ◌<◌, ◌≤◌, ℕ, List, [], length, slice_set, Some, None, Ok, IfSome};
+ghost use Rattle.std.specs.Prelude.{◌≡◌, ◌↔◌, ◌<◌, ◌≤◌, ℕ, List, [], length, slice_set, Some, None, Ok, Err, IfSome};
 ghost use Rattle.std.specs.List.{AllByRecursion};
 ghost use Rattle.mx_names.specs.Names.{start, value_in, value_of_name, with_symbol};
 ghost use Rattle.mx_word.specs.declared.symbols.Value.{Value};
@@ -9,11 +9,13 @@ ghost use Rattle.mx_word.specs.declared.waits.Wait.{Wait};
 ghost use Rattle.mx_stmt.specs.declared.gregs.Base.{Base};
 ghost use Rattle.mx_stmt.specs.declared.placed.Placed.{Placed};
 ghost use Rattle.mx_stmt.specs.Encoding.{StatementTree, IsPossible, encoding};
+ghost use Rattle.mx_stmt.specs.Faults.{fault_number};
+ghost use Rattle.mx_stmt.specs.declared.faults.StmtFault.{StmtFault};
 ghost use Rattle.mx_stmt.specs.Fixes.{IsFixed, IsOperation, IsSound, HasRegisterNumber};
 ghost use Rattle.mx_stmt.specs.Laid.{IsLaid};
 ghost use Rattle.mx_stmt.specs.Gregs.{IsAllocable, IsNearest, greg_value, lowest_of, nearest_base, with_greg};
 ghost use Rattle.mx_stmt.specs.Operands.{Known, Targets, no_targets};
-ghost use Rattle.mx_stmt.specs.Reading.{Fields, IsRead};
+ghost use Rattle.mx_stmt.specs.Reading.{Fields, IsFault, IsRead};
 ghost use Rattle.mx_stmt.specs.Steps.{AreAlike};
 
 /// The nearest base is an allocated register with a value that is not 0 and the least address - value
@@ -69,4 +71,13 @@ pub fn awaited_names_are_unknown()
     ensures { (t : Targets) (k : Known) (s : StatementTree) (p : Placed) → encoding t k s ≡ Ok p →
         AllByRecursion (λ (w : Wait). (full : List ℕ) → w.who ≡ awaited.Name full →
         value_of_name k.names full ≡ None) p.waits }
+{}
+
+/// By its definition a statement is never refused for want of memory: each fault that its fields have, and
+/// each that it comes to, has a number above 0.
+#[tactic(auto, using(crate::proofs::NumberedFaults::numbered))]
+pub fn faults_have_numbers()
+    ensures read { (fields : Fields) (fault : StmtFault) → IsFault fields fault → 0 < fault_number fault }
+    ensures placed { (t : Targets) (k : Known) (s : StatementTree) (fault : StmtFault) → encoding t k s ≡ Err fault →
+        0 < fault_number fault }
 {}
