@@ -55,4 +55,5 @@ pub mod ObjectEffects
 pub mod ObjectNames
 pub mod StatementCounts
 pub mod ObjectLaws
+pub mod NumberedRefusals
 pub mod Words

@@ -14,7 +14,7 @@ faulty-is fields line fault (operand_list op first is least) =
     ap (with_operation fields line) is ∙ ap (with_operands fields line op) ((fault-read fields.operands first).1 least)
 
 -- what fields say: a statement, or the first fault
-abbrev Says : Fields → ℕ → Answer StatementTree → Type 0
+abbrev pub Says : Fields → ℕ → Answer StatementTree → Type 0
 Says fields line (Ok s) = IsRead fields line s
 Says fields line (Err fault) = IsFault fields fault
 
@@ -28,7 +28,7 @@ operation-says : (fields : Fields) (line : ℕ) (a : Answer Op) → operation_fo
 operation-says fields line (Ok op) is = operands-say fields line op (reading fields.operands) is refl
 operation-says fields line (Err fault) is = operation fault is
 
-said : (fields : Fields) (line : ℕ) → Says fields line (statement_in fields line)
+pub said : (fields : Fields) (line : ℕ) → Says fields line (statement_in fields line)
 said fields line = operation-says fields line (operation_for (is_some fields.label) fields.op) refl
 
 -- the fields of a cut

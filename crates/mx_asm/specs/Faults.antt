@@ -1,6 +1,6 @@
 -- The faults of sources: their numbers, and refusals.
 -- A rule of this program.
-use Rattle.std.specs.Prelude.{ℕ}
+use Rattle.std.specs.Prelude.{◌≡◌, ◌<◌, ◌⊎◌, ℕ}
 use Rattle.mx_line.specs.Faults as lines
 use Rattle.mx_stmt.specs.Faults as statements
 use Rattle.mx_names.specs.Numbers as names
@@ -34,3 +34,7 @@ refused_from line fault from = record { line = line; fault = fault; from_line = 
 
 abbrev pub no_memory : Refused
 no_memory = refused 0 OutOfMemory
+
+-- A refusal has a fault with a number above 0; or it is out of memory, with no line.
+abbrev pub IsTold : Refused → Type 0
+IsTold r = (0 < fault_number r.fault) ⊎ (r ≡ no_memory)

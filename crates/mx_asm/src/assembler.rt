@@ -3,7 +3,7 @@
 ghost use Rattle.std.specs.Prelude.{◌≡◌, ◌≢◌, ◌+◌, ◌<◌, ◌≤◌, ◌^◌, ◌++◌, ◌∷◌, ℕ, List, [], Bool, true, false, Result};
 ghost use Rattle.std.specs.Prelude.{Ok, Err, IfOk, IfErr, OnOk, OnErr, length};
 ghost use Rattle.mx_word.specs.Results.{map_ok};
-ghost use Rattle.mx_asm.specs.Faults.{no_memory};
+ghost use Rattle.mx_asm.specs.Faults.{IsTold, no_memory};
 ghost use Rattle.mx_asm.specs.Fitting.{AreFit, AreWritable, GrowsFit, IsPadded};
 ghost use Rattle.mx_asm.specs.Fronts.{GrowsAlike, IsFront};
 ghost use Rattle.mx_asm.specs.Entries.{holds_statement};
@@ -29,11 +29,15 @@ pub struct Assembler {
 }
 
 impl Model for Assembler {
+    ghost use Rattle.std.specs.Option.{IfSome};
+    ghost use Rattle.mx_asm.specs.Faults.{IsTold};
     ghost use Rattle.mx_asm.specs.OnePass.{Standing, standing};
 
     ghost Value = { Standing };
 
     ghost view = { λ a. standing a.assembly a.refused };
+
+    ghost invariant = { λ a. IfSome a.refused IsTold };
 }
 
 impl Assembler {
@@ -66,6 +70,7 @@ impl Assembler {
         ensures items { (lines : List (List ℕ)) → HasTaken lines self.old → result ≢ Err no_memory →
             GrowsAlike (lines_items lines) (lines_items (lines ++ text.now ∷ [])) out.old out.new }
         ensures open { OnOk result (spec.is_open self.new ≡ true) }
+        ensures told { IfErr result IsTold }
         ensures sparing { spec.is_open self.old ≡ true → holds_statement text.now ≡ false → result ≢ Err no_memory }
         ensures front { IsFront out.old out.new × IsFront out.new (spec.line_behind out.old self.old text.now).0 }
         ensures fits { AreFit out.old → AreFit out.new }
@@ -96,6 +101,7 @@ impl Assembler {
         ensures items { (lines : List (List ℕ)) → HasTaken lines self.old → result ≢ Err no_memory →
             GrowsAlike (lines_items lines) (assembled_lines lines).0 out.old out.new }
         ensures refused { IfErr result (λ refused. self.new ≡ Err refused) }
+        ensures told { IfErr result IsTold }
         ensures accepted { OnOk result (self.new ≡ map_ok spec.opened self.old) }
         ensures front { IsFront out.old out.new × IsFront out.new (spec.end_behind out.old self.old).0 }
         ensures fits { AreFit out.old → AreFit out.new }
@@ -120,6 +126,7 @@ impl Assembler {
 fn end(assembly: &mut Assembly, out: &mut Items) -> Result<Bytes, Refused>
     ensures ended { result ≢ Err no_memory → (out.new, result) ≡ spec.end_behind out.old (Ok assembly.old) }
     ensures opened { OnOk result (assembly.new ≡ spec.opened assembly.old) }
+    ensures told { IfErr result IsTold }
     ensures front { IsFront out.new (spec.end_behind out.old (Ok assembly.old)).0 }
     ensures fits { GrowsFit out.old out.new }
     ensures trie { IfOk result IsPadded }
@@ -138,6 +145,7 @@ fn take_line(
     ensures taken { result ≢ Err no_memory →
         (out.new, spec.standing_after result assembly.new) ≡ spec.line_behind out.old (Ok assembly.old) text.now }
     ensures sparing { assembly.old.opened ≡ true → holds_statement text.now ≡ false → result ≢ Err no_memory }
+    ensures told { IfErr result IsTold }
     ensures front { IsFront out.new (spec.line_behind out.old (Ok assembly.old) text.now).0 }
     ensures fits { GrowsFit out.old out.new }
 {

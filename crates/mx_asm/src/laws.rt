@@ -1,6 +1,6 @@
 //! What holds of sources over lists alone.
 
-ghost use Rattle.std.specs.Prelude.{◌≡◌, ◌≤◌, ◌↔◌, ◌⊎◌, ℕ, List, [], ◌∷◌, ◌++◌, None, Some, Ok, Err};
+ghost use Rattle.std.specs.Prelude.{◌≡◌, ◌<◌, ◌≤◌, ◌↔◌, ◌⊎◌, ℕ, List, [], ◌∷◌, ◌++◌, None, Some, Ok, Err};
 ghost use Rattle.std.specs.Result.{result_err};
 ghost use Rattle.mx_expr.specs.Tree.{back};
 ghost use Rattle.mx_expr.specs.Value.{value_of};
@@ -16,7 +16,7 @@ ghost use Rattle.mx_word.specs.declared.symbols.Value.TheVariants.{Pure};
 ghost use Rattle.mx_word.specs.declared.symbols.Value.{Value};
 ghost use Rattle.mx_asm.specs.Emission.{emission, front, padded_trie};
 ghost use Rattle.mx_asm.specs.Entries.{entry_of, source_entries, statements_in};
-ghost use Rattle.mx_asm.specs.Faults.{refused};
+ghost use Rattle.mx_asm.specs.Faults.{fault_number, refused};
 ghost use Rattle.mx_asm.specs.Fronts.{GrowsAlike};
 ghost use Rattle.mx_asm.specs.Locals.{HasNoLocal};
 ghost use Rattle.mx_asm.specs.OnePass.{Standing, beginning, end_behind, line_behind};
@@ -73,6 +73,14 @@ pub fn sources_are_emitted_or_refused()
     ) }
     ensures refused { (source : List ℕ) (r : Refused) → refusal source ≡ Some r →
         assembled_source source ≡ (front (accepted_in (source_entries source)), Err r) }
+{}
+
+/// By its definition a source is never refused for want of memory: the fault that it, or its lines so far,
+/// are refused with has a number above 0.
+#[tactic(auto, using(crate::proofs::NumberedRefusals::numbered))]
+pub fn refusals_have_numbers()
+    ensures source { (source : List ℕ) (r : Refused) → refusal source ≡ Some r → 0 < fault_number r.fault }
+    ensures lines { (lines : List (List ℕ)) (r : Refused) → lines_refusal lines ≡ Some r → 0 < fault_number r.fault }
 {}
 
 /// What is listed for a statement that was cut from a line goes by the grammar of its fields: a statement

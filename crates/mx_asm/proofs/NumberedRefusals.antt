@@ -1,0 +1,156 @@
+-- A refusal has a fault with a number above 0: by the definitions none is for want of memory.
+use Rattle.std.proofs.Common.{◌≡◌, ◌≢◌, ◌<◌, ℕ, zero, suc, ◌+◌, List, [], ◌∷◌, ◌++◌, map, fold, Option, None, Some, Result, Ok, Err, refl, ap, sym, subst, ◌∙◌, arith, rules, inl, inr, IfErr}
+use Rattle.mx_line.specs.Source.{Item as Listed, items_of}
+use Rattle.mx_line.specs.Faults as lines
+use Rattle.mx_names.specs.Numbers as names
+use Rattle.mx_asm.specs.Faults.{IsTold, fault_number, no_memory}
+use Rattle.mx_asm.specs.Fixes.{fix_of, with_fix}
+use Rattle.mx_asm.specs.OnePass.{standing_after}
+use Rattle.mx_asm.specs.declared.faults.AsmFault.TheVariants.{OutOfMemory}
+use Rattle.mx_line.specs.Lines.{lines_of}
+use Rattle.mx_stmt.specs.Faults as statements
+use Rattle.mx_stmt.specs.declared.faults.StmtFault.{StmtFault}
+use Rattle.mx_stmt.proofs.NumberedFaults.{encoding-number, read-number}
+use Rattle.mx_asm.proofs.ReadEntries.{Says, said}
+use Rattle.mx_asm.proofs.InTurn.{source-refused}
+use Rattle.mx_asm.proofs.EndLaw.{whole-is}
+use Rattle.mx_asm.proofs.OnePassLaw.{refusal-is}
+use Rattle.mx_asm.proofs.Words.{result_err, Value, Wait, Item, NameTable, Naming, define_answer, symbol_form, Label, Placed, Answer, StatementTree, encoding, no_targets, AsmFault, Refused, refused, refused_from, Head, statement_items, fix_items, fixes, Entry, Fields, statement_in, entry_with, entry_of, entries_of, line_entries, Assembly, Standing, Progress, Ended, Labelled, Taken, beginning, labelled, naming_of, taken_label, taken_with, statement_taken, entry_taken, behind_entry, and_entries, entries_taken, count_fault, counted, line_unless, line_behind, with_opening, opened, assembly_fault, ended_main, ended_waits, ended, end_behind, first_of, refusal, Line, lines_refusal, assembled_source, line_after, lines_taken, one_pass, nat_tests}
+
+-- a refusal has a number above 0
+unfoldable HasNumber : {A : Type 0} → Result A Refused → Type 0
+HasNumber (Ok x) = Unit {0}
+HasNumber (Err r) = 0 < fault_number r.fault
+
+err-has : (A : Type 0) (r : Refused) → 0 < fault_number r.fault → HasNumber {A = A} (Err r)
+unfolding HasNumber
+err-has A r h = h
+
+ok-number : (a : Assembly) → HasNumber {A = Assembly} (Ok a)
+unfolding HasNumber
+ok-number a = tt
+
+-- so does a fault
+unfoldable FaultHasNumber : {A : Type 0} → Result A AsmFault → Type 0
+FaultHasNumber (Ok x) = Unit {0}
+FaultHasNumber (Err fault) = 0 < fault_number fault
+
+-- ---- statements
+
+said-number : (fields : Fields) (line : ℕ) (a : Answer StatementTree) → Says fields line a → HasNumber (entry_with line a)
+unfolding HasNumber
+said-number fields line (Ok s) h = tt
+said-number fields line (Err fault) h = read-number fields fault h
+
+statement-number : (fields : Fields) (line : ℕ) → HasNumber (entry_with line (statement_in fields line))
+statement-number fields line = said-number fields line (statement_in fields line) (said fields line)
+
+entry-number : (item : Listed) → HasNumber (entry_of item)
+unfolding HasNumber
+entry-number item = grind (arith, nat_tests, statement-number)
+
+fixes-number : (line : ℕ) (value : Value) (waits : List Wait) → HasNumber (fixes line value waits)
+unfolding HasNumber fixes
+fixes-number line value [] = tt
+fixes-number line value (wait ∷ waits) = grind (arith, nat_tests, fixes-number line value waits)
+
+items-number : (h : Head) (line : ℕ) (p : Placed) (waits : List Wait) → HasNumber (statement_items h line p waits)
+unfolding HasNumber
+items-number h line p waits = grind (arith, nat_tests, fixes-number)
+
+label-number : (n : Naming) (label : Option Label) (value : Option Value) (waits : List Wait) → FaultHasNumber (labelled n label value waits)
+unfolding FaultHasNumber
+label-number n label value waits = grind (arith, nat_tests)
+
+labelled-number : (a : Assembly) (line : ℕ) (p : Placed) (l : Labelled) → FaultHasNumber l → HasNumber (taken_label a line p l)
+unfolding HasNumber FaultHasNumber
+labelled-number a line p (Err fault) h = h
+labelled-number a line p (Ok (n, waits)) h = grind (arith, nat_tests, items-number a.head line p waits)
+
+placed-number : (a : Assembly) (line : ℕ) (label : Option Label) (answer : Answer Placed) → ((fault : StmtFault) → answer ≡ Err fault → 0 < statements.fault_number fault) → HasNumber (taken_with a line label answer)
+placed-number a line label (Err fault) h = err-has _ _ (h fault refl)
+placed-number a line label (Ok p) h = labelled-number a line p (labelled (naming_of a) label p.label p.waits) (label-number (naming_of a) label p.label p.waits)
+
+taken-number : (a : Assembly) (s : StatementTree) → HasNumber (statement_taken a s)
+taken-number a s = placed-number a s.line s.label (encoding no_targets a.known s) (encoding-number no_targets a.known s)
+
+-- ---- lines
+
+after-number : (more : List Item → Assembly → Progress) → ((out : List Item) (a : Assembly) → HasNumber (more out a).1) → (out : List Item) (t : Taken) → HasNumber t → HasNumber (and_entries more (behind_entry out t)).1
+unfolding HasNumber
+after-number more f out (Err r) h = h
+after-number more f out (Ok (items, b)) h = f (out ++ items) b
+
+one-number : (a : Assembly) (e : Entry) → HasNumber e → HasNumber (entry_taken a e)
+unfolding HasNumber
+one-number a (Err r) h = h
+one-number a (Ok s) h = taken-number a s
+
+entries-number : (items : List Listed) (out : List Item) (a : Assembly) → HasNumber (entries_taken (entries_of items) out a).1
+unfolding entries_taken
+entries-number [] out a = ok-number a
+entries-number (item ∷ items) out a = after-number (entries_taken (entries_of items)) (entries-number items) out (entry_taken a (entry_of item)) (one-number a (entry_of item) (entry-number item))
+
+count-number : (a : Assembly) (text : List ℕ) (r : Refused) → count_fault a text ≡ Some r → 0 < fault_number r.fault
+count-number a text r is = grind (arith, nat_tests)
+
+unless-number : (f : Option Refused) (out : List Item) (a : Assembly) (text : List ℕ) → ((r : Refused) → f ≡ Some r → 0 < fault_number r.fault) → HasNumber (line_unless f out a text).1
+unless-number (Some r) out a text h = err-has Assembly r (h r refl)
+unless-number None out a text h = entries-number (items_of (a.lines + 1) text) out (counted a text)
+
+behind-number : (out : List Item) (s : Standing) (text : List ℕ) → HasNumber s → HasNumber (line_behind out s text).1
+behind-number out (Err r) text h = h
+behind-number out (Ok a) text h = unless-number (count_fault (opened a) text) (with_opening a.opened out) (opened a) text (count-number (opened a) text)
+
+lines-number : (lines : List Line) (p : Progress) → HasNumber p.1 → HasNumber (fold line_after p lines).1
+lines-number [] p h = h
+lines-number (line ∷ lines) p h = lines-number lines (line_after p line) (behind-number p.0 p.1 line h)
+
+-- ---- the end
+
+end-number : (out : List Item) (s : Standing) → HasNumber s → HasNumber (end_behind out s).1
+unfolding HasNumber
+end-number out s h = grind (arith, nat_tests)
+
+-- ---- sources
+
+err-number : {A : Type 0} (x : Result A Refused) (r : Refused) → HasNumber x → x ≡ Err r → 0 < fault_number r.fault
+unfolding HasNumber
+err-number (Ok x) r h is = absurd (cc)
+err-number (Err other) r h is = let same : other ≡ r = cc in subst (λ (r : Refused). 0 < fault_number r.fault) same h
+
+all-number : (lines : List Line) → HasNumber (lines_taken lines).1
+all-number lines = lines-number lines ([], Ok beginning) (ok-number beginning)
+
+of-refusal : (s : Standing) (r : Refused) → result_err s ≡ Some r → s ≡ Err r
+of-refusal s r is = grind arith
+
+pub lines-refused : (lines : List Line) (r : Refused) → lines_refusal lines ≡ Some r → 0 < fault_number r.fault
+lines-refused lines r is = err-number (lines_taken lines).1 r (all-number lines) (of-refusal (lines_taken lines).1 r (refusal-is lines ∙ is))
+
+pub source-numbered : (source : List ℕ) (r : Refused) → refusal source ≡ Some r → 0 < fault_number r.fault
+source-numbered source r is =
+    err-number (one_pass (lines_of source)).1 r (end-number (lines_taken (lines_of source)).0 (lines_taken (lines_of source)).1 (all-number (lines_of source)))
+    (ap (λ (e : Ended). e.1) (whole-is (lines_of source) ∙ source-refused source r is))
+
+-- ---- what the calls answer
+
+-- a refusal that has a number where it is not want of memory
+told-by : (line from : ℕ) (fault : AsmFault) → (record { line = line; fault = fault; from_line = from } ≢ no_memory → 0 < fault_number fault) → IsTold (record { line = line; fault = fault; from_line = from })
+told-by zero zero OutOfMemory h = inr refl
+told-by (suc line) from OutOfMemory h = absurd (omega (arith, h (λ e. let no : suc line ≡ 0 = ap (λ (r : Refused). r.line) e in omega (arith, no))))
+told-by zero (suc from) OutOfMemory h = absurd (omega (arith, h (λ e. let no : suc from ≡ 0 = ap (λ (r : Refused). r.from_line) e in omega (arith, no))))
+told-by line from fault h = inl (h (λ e. let same : fault ≡ OutOfMemory = ap (λ (r : Refused). r.fault) e in cc))
+
+told : (r : Refused) → (r ≢ no_memory → 0 < fault_number r.fault) → IsTold r
+told r h = told-by r.line r.from_line r.fault h
+
+-- what the statements of a line are refused with
+pub statements-told : (result : Result (Unit {0}) Refused) (out next : List Item) (a b : Assembly) (line : ℕ) (text : List ℕ) →
+    (result ≢ Err no_memory → (next, standing_after result b) ≡ entries_taken (line_entries line text) out a) → IfErr result IsTold
+statements-told (Ok u) out next a b line text h = tt
+statements-told (Err r) out next a b line text h =
+    told r (λ other. err-number (entries_taken (line_entries line text) out a).1 r (entries-number (items_of line text) out a)
+    (ap (λ (p : Progress). p.1) (sym (h (λ e. other (let same : r ≡ no_memory = cc in same))))))
+
+pub ruleset numbered = (lines-refused, source-numbered)
