@@ -1,5 +1,5 @@
 -- The object of a source is loaded as what the source is run from; where that has too many pages, it is not loaded.
-use Rattle.std.proofs.Common.{◌≡◌, ℕ, ◌^◌, ◌≤◌, List, ◌++◌, length, sym, ◌∙◌, ap, Some, None, Option, Result, Ok, Err, refl}
+use Rattle.std.proofs.Common.{◌≡◌, ℕ, ◌^◌, ◌≤◌, List, ◌++◌, length, sym, ◌∙◌, ap, subst, Some, None, Option, Result, Ok, Err, refl}
 use Rattle.mx_word.specs.declared.symbols.Symbol.{Symbol}
 use Rattle.mx_word.specs.Ranges.{AreBytes}
 use Rattle.mx_mmo.specs.Image.{Image}
@@ -24,15 +24,17 @@ use Rattle.mx_asm.specs.OnePass.{Ended}
 use Rattle.mx_asm.specs.Pages.{RunRefusal, page_refusal, accepted_in, run_refusal, run_refusal_with}
 use Rattle.mx_asm.specs.Refusal.{refusal}
 use Rattle.mx_asm.specs.TwoPass.{final_known}
-use Rattle.mx_asm.specs.Whole.{assembled_source}
+use Rattle.mx_asm.specs.Whole.{assembled_source, entries_items}
 use Rattle.mx_asm.specs.declared.refused.Refused.{Refused}
 use Rattle.std.proofs.lemmas.Option.{same_Some}
-use Rattle.mx_asm.specs.Emission.{emission, padded_trie}
-use Rattle.mx_asm.proofs.InTurn.{source-accepted}
+use Rattle.mx_asm.specs.Emission.{emission, opening, padded_trie}
+use Rattle.mx_asm.proofs.InTurn.{source-accepted, source-refused}
 use Rattle.mx_asm.proofs.ObjectLaws.{source-writable, source-told, source-few}
 use Rattle.mx_files.specs.Sources.{meaning_unless, source_meaning}
 use Rattle.mx_files.specs.Objects.{Assembled, source_object}
 use Rattle.mx_files.specs.Objects as assembling
+use Rattle.mx_files.specs.Assembling.{assembled_outcome}
+use Rattle.mx_files.specs.declared.outcome.Outcome.TheVariants.{Done}
 use Rattle.mx_asm.proofs.MeaningSources.{pages-mean}
 use Rattle.mx_files.proofs.SourceImages.{items-mean-image}
 
@@ -88,7 +90,7 @@ not-refused (Some line) refused h = absurd (cc)
 not-refused None (Some r) h = absurd (cc)
 not-refused None None h = refl
 
-accepted-run : (text : List ℕ) (image : Image) → source_meaning text ≡ Ok image → refusal text ≡ None
+pub accepted-run : (text : List ℕ) (image : Image) → source_meaning text ≡ Ok image → refusal text ≡ None
 unfolding source_meaning
 accepted-run text image h = not-refused (page_refusal (accepted_in (source_entries text))) (refusal text) (runs-on (run_refusal text) _ image h)
 
@@ -116,6 +118,21 @@ has-object text each none =
       symbols = source-told text each items trie is;
       short = source-few text each items trie is;
     }
+
+pub source-short : (text : List ℕ) → AreBytes text → refusal text ≡ None → length (source_object text).0 ≤ 2 ^ 26
+source-short text each none =
+    let w : HasObject text = has-object text each none in
+    subst (λ (bytes : List ℕ). length bytes ≤ 2 ^ 26) (sym w.written_as) w.short
+
+-- a source whose assembly is done is not refused
+pub assembled-none : (text : List ℕ) → assembled_outcome (source_object text).1 ≡ Done 0 → refusal text ≡ None
+unfolding source_object
+assembled-none text is = by (refusal text) refl
+  where
+    by : (r : Option Refused) → refusal text ≡ r → refusal text ≡ None
+    by None e = e
+    by (Some r) e = absurd (let refused : assembled_source text ≡ (opening ++ entries_items (source_entries text), Err r) = source-refused text r e in
+        let outcome : assembled_outcome (assembling.object_of (opening ++ entries_items (source_entries text), Err r)).1 ≡ Done 0 = subst (λ (x : Ended). assembled_outcome (assembling.object_of x).1 ≡ Done 0) refused is in cc)
 
 -- the object of a source that is run is loaded as its image, with its symbols
 pub source-loads : (text : List ℕ) (image : Image) → AreBytes text → source_meaning text ≡ Ok image →

@@ -1,13 +1,12 @@
 -- An object runs as the source that it was assembled from.
-use Rattle.std.proofs.Common.{◌≡◌, ℕ, ◌+◌, ◌*◌, ◌^◌, ◌<◌, ◌≤◌, Bool, true, false, cond, nat_lt, List, [], ◌∷◌, ◌++◌, length, length-append, append_assoc, take, drop, Some, None, Ok, Err, refl, sym, ◌∙◌, ap, subst, arith}
-use Rattle.std.specs.Prelude.{Option, Result, slice_set, codes}
+use Rattle.std.proofs.Common.{◌≡◌, ℕ, ◌+◌, ◌*◌, ◌^◌, ◌<◌, ◌≤◌, Bool, true, false, cond, List, [], ◌∷◌, ◌++◌, length, length-append, append_assoc, take, drop, Some, None, Ok, Err, refl, sym, ◌∙◌, ap, subst, arith}
+use Rattle.std.specs.Prelude.{◌&&◌, Option, Result, slice_set, codes}
 use Rattle.std.specs.Str.{bytes_eq}
 use Rattle.std.proofs.Math.Seq.{get_or-append_seam}
-use Rattle.std.proofs.lemmas.Bool.Decides.{nat_tests}
+use Rattle.std.proofs.lemmas.Bool.{cond_both}
 use Rattle.std.proofs.lemmas.Cmp.{nat_list_eq_equiv}
 use Rattle.std.proofs.lemmas.List.{length-set, take_all, drop_at}
 use Rattle.std.proofs.lemmas.Option.{unwrap_or-slice_get}
-use Rattle.mx_word.specs.declared.symbols.Symbol.{Symbol}
 use Rattle.mx_host.specs.declared.files.StoredFile.{StoredFile}
 use Rattle.mx_host.specs.declared.slots.Slot.{Slot}
 use Rattle.mx_host.specs.declared.slots.Slot.TheVariants.{Closed}
@@ -16,32 +15,38 @@ use Rattle.mx_host.specs.HostAnswer.{Then, bytes_at, put_at}
 use Rattle.mx_host.proofs.Still.{still}
 use Rattle.mx_host.proofs.NamedFiles.{home, lies, at-home, place-home, place-other, bytes-other}
 use Rattle.mx_mmo.specs.Image.{Image}
-use Rattle.mx_mmo.specs.Replies.{limit}
 use Rattle.mx_load.specs.Objects.{object_loaded}
 use Rattle.mx_plan.specs.Counts.{NoneFailed}
 use Rattle.mx_plan.proofs.Spared.{sooner}
-use Rattle.mx_run.specs.WildRuns.{MachineKind}
+use Rattle.mx_core.specs.Start.{start}
+use Rattle.mx_core.specs.State.{State}
+use Rattle.mx_run.specs.WildRuns.{MachineKind, RunEnd}
+use Rattle.mx_con.specs.Session.{SessionRun}
 use Rattle.mx_words.specs.Orders.{order_of, options_from, asm_order, defaults}
 use Rattle.mx_words.specs.Values.{is_option}
 use Rattle.mx_words.specs.declared.order.Command.TheVariants.{Run, Sim}
 use Rattle.mx_words.specs.declared.order.Order.{Order}
 use Rattle.mx_words.specs.declared.order.WordsFault.{WordsFault}
-use Rattle.mx_files.specs.Answers.{Answer, answered, plainly}
+use Rattle.mx_files.specs.Answers.{Answer, answered, wild, plainly, leaves_machine, after_lines}
+use Rattle.mx_files.specs.Lines.{lines_put}
 use Rattle.mx_top.specs.Arguments.{Word, word_at, arguments, program_name}
-use Rattle.law_runs.specs.Detour.{host_of, answer_uncounted, asm_words, run_words, sim_words, AreOrdered, IsAssembled}
-use Rattle.law_runs.proofs.DetourImages.{source-loads}
+use Rattle.law_runs.specs.Detour.{host_of, answer_uncounted, HasOutcome, asm_words, run_words, sim_words, AreOrdered, IsAssembled}
+use Rattle.law_runs.proofs.DetourImages.{source-loads, source-short, accepted-run, assembled-none, pages-refused}
 use Rattle.mx_word.specs.Ranges.{AreBytes}
 use Rattle.mx_asm.specs.Entries.{statements_in, source_entries}
-use Rattle.mx_asm.specs.Image.{symbols_of}
-use Rattle.mx_files.specs.Sources.{source_meaning}
+use Rattle.mx_asm.specs.Image.{image as image_of}
+use Rattle.mx_asm.specs.Pages.{RunRefusal, run_refusal}
+use Rattle.mx_asm.specs.Refusal.{refusal}
+use Rattle.mx_files.specs.Sources.{meaning_unless, source_meaning}
 use Rattle.mx_files.specs.Messages.{message_of}
 use Rattle.mx_files.specs.Objects.{Assembled, source_object}
 use Rattle.mx_files.specs.Assembling.{assembled_outcome, object_put, after_opening, after_reading}
 use Rattle.mx_top.specs.Product.{after_image, after_source, after_loading, after_object, carried_out, message_told, with_message, product}
-use Rattle.mx_top.specs.Runs.{image_run}
+use Rattle.mx_top.specs.Dump.{dump_lines}
+use Rattle.mx_top.specs.Runs.{Ran, ran, ran_wild, ran_to, played, order_ran, dumped, main_address, begun_at, stack_at_start, run_from, image_run}
 use Rattle.mx_files.specs.Source.{file_bytes}
 use Rattle.mx_files.specs.declared.outcome.Outcome.{Outcome}
-use Rattle.mx_files.specs.declared.outcome.Outcome.TheVariants.{Done, Usage, NoFile}
+use Rattle.mx_files.specs.declared.outcome.Outcome.TheVariants.{Done, Usage, NoFile, Refused, BadObject}
 use Rattle.law_runs.proofs.IdleFiles.{idle, file-idle, file-absent, writing, open-object, put-idle}
 use Rattle.law_runs.proofs.SteadyFiles.{file-steady}
 use Rattle.law_runs.proofs.SteadyProduct.{answer_still, reading-later, product-steady, answers-same}
@@ -123,6 +128,7 @@ record Accepted (files : List StoredFile) (slots : List Slot) (m : HostModel) (s
   at : ℕ
   there : place_of files source ≡ Some at
   read : text_at files at ≡ text
+  accepted : assembled_outcome (source_object text).1 ≡ Done 0
   left : a ≡ idle (put_at files object (source_object text).0 (place_of files object)) (slice_set (slice_set slots 256 Closed) 257 Closed) m
 
 pub put-of : (x : Assembled) (files : List StoredFile) (slots : List Slot) (m : HostModel) (name : Word) → 257 < length slots →
@@ -147,57 +153,59 @@ reading-left files slots m source object text a (Some at) h e read done =
     ∙ ap (λ xs. after_reading object (Ok xs, idle files after m)) is
     ∙ ap (after_opening text) (open-object files after m object)
     ∙ put-of (source_object text) files after m object long in
-    record { at = at; there = e; read = is; left = ap (λ (t : Then Outcome). t.1) (sym done ∙ put) }
+    record { at = at; there = e; read = is; accepted = ap (λ (t : Then Outcome). t.0) (sym put ∙ done); left = ap (λ (t : Then Outcome). t.1) (sym done ∙ put) }
 
 -- ---- running
 
--- both files are read, and then the same image is run
-short-loaded : (bytes : List ℕ) (image : Image) (symbols : List Symbol) → object_loaded bytes ≡ Ok (image, symbols) → length bytes ≤ 2 ^ 26
-short-loaded bytes image symbols e = on (nat_lt limit (length bytes)) refl
-  where
-    on : (b : Bool) → nat_lt limit (length bytes) ≡ b → length bytes ≤ 2 ^ 26
-    on true t = absurd (cc)
-    on false t = grind (arith, nat_tests)
+module _ (files : List StoredFile) (slots : List Slot) (m : HostModel) (source object : Word) (text : List ℕ) (a : HostModel) (h : 256 < length slots) (known : Accepted files slots m source object text a) where
+  abbrev bytes : List ℕ
+  bytes = (source_object text).0
 
-runs-alike : (kind : MachineKind) (files : List StoredFile) (slots : List Slot) (m : HostModel) (source object : Word) (rest : List Word) (o : Order) (text bytes : List ℕ) (at : ℕ) → 256 < length slots →
-    bytes_eq source object ≡ false → program_name source ≡ program_name object → place_of files source ≡ Some at → text_at files at ≡ text →
-    (image : Image) (symbols : List Symbol) → source_meaning text ≡ Ok image → object_loaded bytes ≡ Ok (image, symbols) →
-    let n : HostModel = idle (put_at files object bytes (place_of files object)) slots m in
-    after_source kind (record o { command = Run }) (program_name source ∷ rest) (file_bytes 1025 source n)
-    ≡ after_object kind (record o { command = Sim }) (program_name object ∷ rest) (file_bytes 16385 object n)
-runs-alike kind files slots m source object rest o text bytes at h apart alike found read image symbols fine loaded =
-    let p : Option ℕ = place_of files object in
-    let others : List StoredFile = put_at files object bytes p in
-    let after : HostModel = idle others (slice_set slots 256 Closed) m in
-    let differ : bytes_eq object source ≡ false = nat_list_eq_equiv.symm object source ∙ apart in
-    let same : bytes_at others at ≡ bytes_at files at = bytes-other files object bytes source at p differ found refl in
-    let there : place_of others source ≡ Some at = place-other files object bytes source p differ (lies files object) ∙ found in
-    let is : text_at others at ≡ text = ap (take (4096 * 1025)) same ∙ read in
-    let held : bytes_at others (home files p) ≡ bytes = at-home files object bytes p (lies files object) in
-    let short : length bytes ≤ 2 ^ 26 = short-loaded bytes image symbols loaded in
-    let whole : take (4096 * 16385) (bytes_at others (home files p)) ≡ bytes = ap (take (4096 * 16385)) held ∙ take_all (4096 * 16385) bytes (omega arith) in
-    ap (after_source kind (record o { command = Run }) (program_name source ∷ rest)) (file-idle 1025 others slots m source at h there)
-    ∙ ap (λ xs. after_image kind (record o { command = Run }) (program_name source ∷ rest) (source_meaning xs) after) is
-    ∙ ap (λ r. after_image kind (record o { command = Run }) (program_name source ∷ rest) r after) fine
-    ∙ ap (λ (w : Word). image_run kind (record o { command = Run }) (w ∷ rest) image after) alike
-    ∙ ap (λ r. after_loading kind (record o { command = Sim }) (program_name object ∷ rest) r after) (sym loaded)
-    ∙ ap (λ xs. after_loading kind (record o { command = Sim }) (program_name object ∷ rest) (object_loaded xs) after) (sym whole)
-    ∙ sym (ap (after_object kind (record o { command = Sim }) (program_name object ∷ rest)) (file-idle 16385 others slots m object (home files p) h (place-home files object bytes p refl (lies files object))))
+  abbrev place : Option ℕ
+  place = place_of files object
 
--- the same over the model that was left
-runs-left : (kind : MachineKind) (files : List StoredFile) (slots : List Slot) (m : HostModel) (source object : Word) (rest : List Word) (o : Order) (text : List ℕ) (a : HostModel) → 256 < length slots →
-    bytes_eq source object ≡ false → program_name source ≡ program_name object → Accepted files slots m source object text a → (image : Image) → AreBytes text → source_meaning text ≡ Ok image →
-    after_source kind (record o { command = Run }) (program_name source ∷ rest) (file_bytes 1025 source a)
-    ≡ after_object kind (record o { command = Sim }) (program_name object ∷ rest) (file_bytes 16385 object a)
-runs-left kind files slots m source object rest o text a h apart alike known image bytes means =
-    let last : List Slot = slice_set (slice_set slots 256 Closed) 257 Closed in
-    let long : 256 < length last = rw (length-set (slice_set slots 256 Closed) 257 Closed, length-set slots 256 Closed) h in
-    let alike : after_source kind (record o { command = Run }) (program_name source ∷ rest) (file_bytes 1025 source (idle (put_at files object (source_object text).0 (place_of files object)) last m))
-    ≡ after_object kind (record o { command = Sim }) (program_name object ∷ rest) (file_bytes 16385 object (idle (put_at files object (source_object text).0 (place_of files object)) last m)) =
-    runs-alike kind files last m source object rest o text (source_object text).0 known.at long apart alike known.there known.read image (symbols_of (statements_in (source_entries text))) means (source-loads text image bytes means) in
-    ap (λ n. after_source kind (record o { command = Run }) (program_name source ∷ rest) (file_bytes 1025 source n)) known.left
-    ∙ alike
-    ∙ sym (ap (λ n. after_object kind (record o { command = Sim }) (program_name object ∷ rest) (file_bytes 16385 object n)) known.left)
+  abbrev others : List StoredFile
+  others = put_at files object bytes place
+
+  abbrev last : List Slot
+  last = slice_set (slice_set slots 256 Closed) 257 Closed
+
+  abbrev behind : HostModel
+  behind = idle others (slice_set last 256 Closed) m
+
+  long : 256 < length last
+  long = rw (length-set (slice_set slots 256 Closed) 257 Closed, length-set slots 256 Closed) h
+
+  -- the source is read as before
+  source-left : (kind : MachineKind) (o : Order) (args : List Word) → bytes_eq source object ≡ false →
+      after_source kind o args (file_bytes 1025 source a) ≡ after_image kind o args (source_meaning text) behind
+  source-left kind o args apart =
+      let differ : bytes_eq object source ≡ false = nat_list_eq_equiv.symm object source ∙ apart in
+      let same : bytes_at others known.at ≡ bytes_at files known.at = bytes-other files object bytes source known.at place differ known.there refl in
+      let there : place_of others source ≡ Some known.at = place-other files object bytes source place differ (lies files object) ∙ known.there in
+      ap (λ n. after_source kind o args (file_bytes 1025 source n)) known.left
+      ∙ ap (after_source kind o args) (file-idle 1025 others last m source known.at long there)
+      ∙ ap (λ xs. after_image kind o args (source_meaning xs) behind) (ap (take (4096 * 1025)) same ∙ known.read)
+
+  -- and the object as it was written
+  object-left : (kind : MachineKind) (o : Order) (args : List Word) → length bytes ≤ 2 ^ 26 →
+      after_object kind o args (file_bytes 16385 object a) ≡ after_loading kind o args (object_loaded bytes) behind
+  object-left kind o args short =
+      let held : bytes_at others (home files place) ≡ bytes = at-home files object bytes place (lies files object) in
+      ap (λ n. after_object kind o args (file_bytes 16385 object n)) known.left
+      ∙ ap (after_object kind o args) (file-idle 16385 others last m object (home files place) long (place-home files object bytes place refl (lies files object)))
+      ∙ ap (λ xs. after_loading kind o args (object_loaded xs) behind) (ap (take (4096 * 16385)) held ∙ take_all (4096 * 16385) bytes (omega arith))
+
+  -- both files are read, and then the same image is run
+  runs-left : (kind : MachineKind) (o : Order) (rest : List Word) → bytes_eq source object ≡ false → program_name source ≡ program_name object → (image : Image) → AreBytes text → source_meaning text ≡ Ok image →
+      after_source kind (record o { command = Run }) (program_name source ∷ rest) (file_bytes 1025 source a)
+      ≡ after_object kind (record o { command = Sim }) (program_name object ∷ rest) (file_bytes 16385 object a)
+  runs-left kind o rest apart alike image each means =
+      source-left kind (record o { command = Run }) (program_name source ∷ rest) apart
+      ∙ ap (λ r. after_image kind (record o { command = Run }) (program_name source ∷ rest) r behind) means
+      ∙ ap (λ (w : Word). image_run kind (record o { command = Run }) (w ∷ rest) image behind) alike
+      ∙ ap (λ r. after_loading kind (record o { command = Sim }) (program_name object ∷ rest) r behind) (sym (source-loads text image each means))
+      ∙ sym (object-left kind (record o { command = Sim }) (program_name object ∷ rest) (source-short text each (accepted-run text image means)))
 
 -- no call that reads the source fails, where none that assembles it does
 read-well : (kind : MachineKind) (source object : Word) (text : List ℕ) (m after : HostModel) → IsAssembled kind source object text m after → NoneFailed m (file_bytes 1025 source m).1
@@ -221,13 +229,117 @@ pub detour-is : (kind : MachineKind) (options : List Word) (source object : Word
     AreOrdered options source object arguments → IsAssembled kind source object text m after → (image : Image) → source_meaning text ≡ Ok image →
     NoneFailed after (host_of (product kind (sim_words options object arguments) after)) → NoneFailed after (host_of (product kind (run_words options source arguments) after)) →
     answer_uncounted (product kind (sim_words options object arguments) after) ≡ answer_uncounted (product kind (run_words options source arguments) after)
-detour-is kind options source object arguments text m after words a image means simulated ran =
+detour-is kind options source object arguments text m after words a image means simulated runs =
     let many : length m.slots ≡ 261 = a.many in
     let known = known-of kind source object text m after a (omega arith) in
     let run = product-steady kind (run_words options source arguments) after in
     let sim = product-steady kind (sim_words options object arguments) after in
-    let alike = runs-left kind m.files m.slots m source object arguments words.order text (still after) (omega arith) a.apart a.alike known image a.bytes means in
+    let alike = runs-left m.files m.slots m source object text (still after) (omega arith) known kind words.order arguments a.apart a.alike image a.bytes means in
     let still-alike : product kind (sim_words options object arguments) (still after) ≡ product kind (run_words options source arguments) (still after) =
     sim-is kind options object arguments words.order (still after) words.sim words.file words.rest ∙ ap with_message (sym alike) ∙ sym (run-is kind options source arguments words.order (still after) words.run words.file words.rest) in
     answers-same (product kind (sim_words options object arguments) after) (product kind (run_words options source arguments) after)
-    (sim.same simulated ∙ still-alike ∙ sym (run.same ran)) (sim.list ∙ sym run.list)
+    (sim.same simulated ∙ still-alike ∙ sym (run.same runs)) (sim.list ∙ sym run.list)
+
+-- ---- what `run` refuses
+
+-- an image that is run is no refusal of a source
+abbrev is_refusal : Outcome → Bool
+is_refusal (Refused line fault from) = true
+is_refusal outcome = false
+
+abbrev IsUnrefused : Answer → Type 0
+IsUnrefused (answered outcome m) = is_refusal outcome ≡ false
+IsUnrefused (wild m) = Unit {0}
+
+abbrev IsRanUnrefused : Ran → Type 0
+IsRanUnrefused (ran outcome s m) = is_refusal outcome ≡ false
+IsRanUnrefused (ran_wild m) = Unit {0}
+
+run-unrefused : (steps : ℕ) (e : RunEnd) → IsRanUnrefused (ran_to steps e)
+run-unrefused steps e = grind arith
+
+session-unrefused : (steps : ℕ) (e : SessionRun) → IsRanUnrefused (played steps e)
+session-unrefused steps e = grind arith
+
+lines-unrefused : (outcome : Outcome) (t : Then Bool) → is_refusal outcome ≡ false → IsUnrefused (after_lines outcome t)
+lines-unrefused outcome (true, m) h = h
+lines-unrefused outcome (false, m) h = refl
+
+dump-unrefused : (dump : Bool) (r : Ran) → IsRanUnrefused r → IsUnrefused (dumped dump r)
+dump-unrefused dump (ran_wild m) h = tt
+dump-unrefused dump (ran outcome s m) h =
+    cond_both (dump && leaves_machine outcome) _ _ IsUnrefused (λ _. lines-unrefused outcome (lines_put (dump_lines s) m) h) (λ _. h)
+
+image-unrefused : (kind : MachineKind) (o : Order) (args : List Word) (image : Image) (m : HostModel) → IsUnrefused (image_run kind o args image m)
+image-unrefused kind o args image m = by (start image args (stack_at_start kind o.ring))
+  where
+    by : (s : Option State) → IsUnrefused (run_from kind o (begun_at (main_address image) s) m)
+    by None = refl
+    by (Some s) = dump-unrefused o.dump (order_ran kind o s m)
+        (cond_both o.interactive _ _ IsRanUnrefused (λ _. session-unrefused o.steps _) (λ _. run-unrefused o.steps _))
+
+-- the message changes no outcome
+message-comes : (outcome : Outcome) (text : List ℕ) (m : HostModel) → HasOutcome (message_told outcome text m) outcome
+message-comes outcome [] m = refl
+message-comes outcome (b ∷ bs) m = refl
+
+message-came : (a : Answer) (o : Outcome) → HasOutcome (with_message a) o → HasOutcome a o
+message-came (answered outcome m) o h = by (message_of outcome) h
+  where
+    by : (text : List ℕ) → HasOutcome (message_told outcome text m) o → outcome ≡ o
+    by [] h = h
+    by (b ∷ bs) h = h
+message-came (wild m) o h = h
+
+never-refused : (a : Answer) (line fault from : ℕ) → IsUnrefused a → HasOutcome a (Refused line fault from) → ⊥
+never-refused (answered outcome m) line fault from h is = cc
+never-refused (wild m) line fault from h is = is
+
+still-comes : (a : Answer) (o : Outcome) → HasOutcome a o → HasOutcome (answer_still a) o
+still-comes (answered outcome m) o h = h
+still-comes (wild m) o h = h
+
+comes-still : (a : Answer) (o : Outcome) → HasOutcome (answer_still a) o → HasOutcome a o
+comes-still (answered outcome m) o h = h
+comes-still (wild m) o h = h
+
+-- a source that is refused when it is run
+refused-run : (kind : MachineKind) (o : Order) (args : List Word) (text : List ℕ) (m : HostModel) (line fault from : ℕ) →
+    HasOutcome (after_image kind o args (source_meaning text) m) (Refused line fault from) → (r : RunRefusal) × (run_refusal text ≡ Some r) × (r.number ≡ fault)
+unfolding source_meaning
+refused-run kind o args text m line fault from = by (run_refusal text) refl
+  where
+    by : (r : Option RunRefusal) → run_refusal text ≡ r → HasOutcome (after_image kind o args (meaning_unless r (image_of (statements_in (source_entries text)))) m) (Refused line fault from) →
+        (r : RunRefusal) × (run_refusal text ≡ Some r) × (r.number ≡ fault)
+    by None is h = absurd (never-refused (image_run kind o args (image_of (statements_in (source_entries text))) m) line fault from (image-unrefused kind o args _ m) h)
+    by (Some r) is h = (r, is, (cc))
+
+pub refused-detour : (kind : MachineKind) (options : List Word) (source object : Word) (arguments : List Word) (text : List ℕ) (m after : HostModel) (line fault from : ℕ) →
+    AreOrdered options source object arguments → IsAssembled kind source object text m after →
+    NoneFailed after (host_of (product kind (sim_words options object arguments) after)) → NoneFailed after (host_of (product kind (run_words options source arguments) after)) →
+    HasOutcome (product kind (run_words options source arguments) after) (Refused line fault from) →
+    (fault ≡ 90) × (place : ℕ) × HasOutcome (product kind (sim_words options object arguments) after) (BadObject place 90)
+refused-detour kind options source object arguments text m after line fault from words a simulated runs told =
+    let many : length m.slots ≡ 261 = a.many in
+    let known = known-of kind source object text m after a (omega arith) in
+    let none : refusal text ≡ None = assembled-none text known.accepted in
+    let run = product-steady kind (run_words options source arguments) after in
+    let sim = product-steady kind (sim_words options object arguments) after in
+    let order : Order = record words.order { command = Run } in
+    let back : HostModel = behind m.files m.slots m source object text (still after) (omega arith) known in
+    let ran-as : product kind (run_words options source arguments) (still after) ≡ with_message (after_image kind order (program_name source ∷ arguments) (source_meaning text) back) =
+    run-is kind options source arguments words.order (still after) words.run words.file words.rest
+    ∙ ap with_message (source-left m.files m.slots m source object text (still after) (omega arith) known kind order (program_name source ∷ arguments) a.apart) in
+    let came : HasOutcome (with_message (after_image kind order (program_name source ∷ arguments) (source_meaning text) back)) (Refused line fault from) =
+    subst (λ t. HasOutcome t (Refused line fault from)) (run.same runs ∙ ran-as) (still-comes (product kind (run_words options source arguments) after) (Refused line fault from) told) in
+    let found = refused-run kind order (program_name source ∷ arguments) text back line fault from (message-came _ _ came) in
+    let pages = pages-refused text found.0 a.bytes none found.1 in
+    let simmed : product kind (sim_words options object arguments) (still after) ≡ with_message (answered (BadObject pages.1 90) back) =
+    sim-is kind options object arguments words.order (still after) words.sim words.file words.rest
+    ∙ ap with_message (object-left m.files m.slots m source object text (still after) (omega arith) known kind (record words.order { command = Sim }) (program_name object ∷ arguments) (source-short text a.bytes none))
+    ∙ ap (λ r. with_message (after_loading kind (record words.order { command = Sim }) (program_name object ∷ arguments) r back)) pages.2 in (
+      sym found.2 ∙ pages.0,
+      pages.1,
+      comes-still (product kind (sim_words options object arguments) after) (BadObject pages.1 90)
+          (subst (λ t. HasOutcome t (BadObject pages.1 90)) (sym (sim.same simulated ∙ simmed)) (message-comes (BadObject pages.1 90) (message_of (BadObject pages.1 90)) back)),
+    )

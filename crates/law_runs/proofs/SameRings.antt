@@ -1,6 +1,7 @@
 -- What the program does over the list machine does not depend on the size of the ring, and what it does over each machine
 -- not on whether reports are asked for.
-use Rattle.std.proofs.Common.{◌≡◌, ℕ, List, [], ◌∷◌, cond, Result, Ok, Err, refl, ap, sym, ◌∙◌, codes}
+use Rattle.std.proofs.Common.{◌≡◌, ℕ, Bool, true, false, List, [], ◌∷◌, cond, Result, Ok, Err, refl, ap, sym, ◌∙◌, codes, arith}
+use Rattle.std.proofs.lemmas.Bool.Decides.{nat_tests}
 use Rattle.mx_host.specs.HostModel.{HostModel}
 use Rattle.mx_host.specs.HostAnswer.{Then}
 use Rattle.mx_mmo.specs.Image.{Image}
@@ -10,14 +11,15 @@ use Rattle.mx_run.specs.WildRuns.{MachineKind, list_machine}
 use Rattle.mx_watch.specs.Reporting.{reports_on}
 use Rattle.mx_watch.specs.Watching.{Watching}
 use Rattle.mx_word.specs.declared.symbols.Symbol.{Symbol}
-use Rattle.mx_words.specs.Orders.{order_of}
+use Rattle.mx_words.specs.Orders.{order_of, options_from, blocks_at, valued, gen_order, with_ring, defaults}
+use Rattle.mx_words.specs.Values.{blocks_value, is_number, is_option, ring_value}
 use Rattle.mx_words.specs.declared.order.Command.{Command}
 use Rattle.mx_words.specs.declared.order.Command.TheVariants.{Run, Asm, Sim, Gen, Show, Multi}
 use Rattle.mx_words.specs.declared.order.Order.{Order}
 use Rattle.mx_top.specs.Arguments.{Word, word_at, arguments}
 use Rattle.law_gen.specs.Generator.{generated}
 use Rattle.mx_top.specs.Product.{after_image, after_source, after_loading, after_object, loaded_turns, object_turns, after_schedule, generated_run, source_generated, summed_from, ordered, carried_out, with_message, product}
-use Rattle.law_runs.specs.Rings.{DifferInRing, HandsArguments}
+use Rattle.law_runs.specs.Rings.{DifferInRing, HandsArguments, gen_ring_words, gen_words}
 use Rattle.mx_top.specs.Reports.{traces_from, image_traces, meaning_traces, source_traces, loading_traces, object_traces, ordered_traces, carried_traces, due_reports, with_reports, watched_product}
 use Rattle.mx_top.specs.Runs.{image_run, run_from, stack_at_start, started}
 use Rattle.mx_top.specs.Processors.{image_turns}
@@ -149,5 +151,39 @@ rings-watched words others o p ws m f g e asks = same-watched list_machine words
 pub reports-alone : (kind : MachineKind) (words others : List Word) (o p : Order) (m : HostModel) → order_of words ≡ Ok o → order_of others ≡ Ok p →
     DifferInRing words others o p → o.ring ≡ p.ring → product kind words m ≡ product kind others m
 reports-alone kind words others o p m f g e ring = same-product kind words others o p e (λ image args. ap (λ r. started kind r image args) ring) (ap (stack_at_start kind) ring) m f g
+
+-- a number of blocks begins with no dash
+number-plain : (b : ℕ) (bs : List ℕ) → is_number (b ∷ bs) ≡ true → is_option (b ∷ bs) ≡ false
+number-plain b bs is = grind (arith, nat_tests)
+
+blocks-plain : (blocks : Word) (n : ℕ) → blocks_value blocks ≡ Ok n → is_option blocks ≡ false
+blocks-plain [] n is = refl
+blocks-plain (b ∷ bs) n is = grind (arith, nat_tests, number-plain)
+
+picks : {A : Type 0} (b : Bool) (x y z : A) → b ≡ false → y ≡ z → cond b x y ≡ z
+picks b x y z e h = grind arith
+
+-- `gen` with a ring and without one
+module _ (blocks ring : Word) (n size : ℕ) (counts : blocks_value blocks ≡ Ok n) where
+  gen-ordered : (r place : ℕ) → options_from Gen (with_ring defaults r) place (blocks ∷ []) ≡ Ok (gen_order (with_ring defaults r) n)
+  unfolding options_from
+  gen-ordered r place = picks (is_option blocks) _ _ _ (blocks-plain blocks n counts) (ap (λ v. blocks_at (with_ring defaults r) place v []) counts)
+
+  ring-ordered : ring_value ring ≡ Ok size → order_of (gen_ring_words ring blocks) ≡ Ok (gen_order (with_ring defaults size) n)
+  unfolding options_from
+  ring-ordered is = ap (λ r. valued r 2 (λ n. options_from Gen (with_ring defaults n) 3 (blocks ∷ []))) is ∙ gen-ordered size 3
+
+  rings-generated : (m : HostModel) → ring_value ring ≡ Ok size → product list_machine (gen_words blocks) m ≡ product list_machine (gen_ring_words ring blocks) m
+  rings-generated m is =
+      rings-agree (gen_words blocks) (gen_ring_words ring blocks) (gen_order defaults n) (gen_order (with_ring defaults size) n) m (gen-ordered 256 1) (ring-ordered is)
+      (record { command = refl; file = refl; object = refl; schedule = λ e. refl; arguments = λ h. absurd h; steps = refl; interactive = refl; dump = refl; blocks = refl })
+
+-- a worked row: `gen 1` and `gen --ring 512 1`
+gen-row : (m : HostModel) → product list_machine (codes "gen" ∷ codes "1" ∷ []) m ≡ product list_machine (codes "gen" ∷ codes "--ring" ∷ codes "512" ∷ codes "1" ∷ []) m
+unfolding lib.Count.ones
+gen-row m = rings-generated (codes "1") (codes "512") 1 512 refl m refl
+
+pub gen-agrees : (blocks ring : Word) (n size : ℕ) (m : HostModel) → blocks_value blocks ≡ Ok n → ring_value ring ≡ Ok size → product list_machine (gen_words blocks) m ≡ product list_machine (gen_ring_words ring blocks) m
+gen-agrees blocks ring n size m counts is = rings-generated blocks ring n size counts m is
 
 pub ruleset rings = (rings-agree, rings-watched, reports-alone)

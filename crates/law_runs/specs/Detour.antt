@@ -12,12 +12,18 @@ use Rattle.mx_files.specs.Answers.{Answer, answered, wild}
 use Rattle.mx_top.specs.Arguments.{Word, program_name}
 use Rattle.mx_top.specs.Product.{product}
 use Rattle.mx_files.specs.Source.{file_bytes, source_pieces}
+use Rattle.mx_files.specs.declared.outcome.Outcome.{Outcome}
 use Rattle.mx_files.specs.declared.outcome.Outcome.TheVariants.{Done}
 
 -- the host as an answer leaves it
 abbrev pub host_of : Answer → HostModel
 host_of (answered outcome m) = m
 host_of (wild m) = m
+
+-- the answer has this outcome
+abbrev pub HasOutcome : Answer → Outcome → Type 0
+HasOutcome (answered outcome m) other = outcome ≡ other
+HasOutcome (wild m) other = ⊥
 
 -- an answer but for the number of calls
 abbrev pub answer_uncounted : Answer → Answer

@@ -1,5 +1,5 @@
 -- Orders that differ in the size of the ring, and in whether reports are asked for.
-use Rattle.std.specs.Prelude.{◌≡◌, List}
+use Rattle.std.specs.Prelude.{◌≡◌, List, [], ◌∷◌, codes}
 use Rattle.mx_words.specs.declared.order.Command.{Command}
 use Rattle.mx_words.specs.declared.order.Command.TheVariants.{Run, Asm, Sim, Gen, Show, Multi}
 use Rattle.mx_words.specs.declared.order.Order.{Order}
@@ -25,3 +25,10 @@ pub record DifferInRing (words others : List Word) (o p : Order) : Type 0 where
   pub interactive : o.interactive ≡ p.interactive
   pub dump : o.dump ≡ p.dump
   pub blocks : o.number ≡ p.number
+
+-- the words of `gen`, without `--ring` and with it
+abbrev pub gen_words : Word → List Word
+gen_words blocks = codes "gen" ∷ blocks ∷ []
+
+abbrev pub gen_ring_words : Word → Word → List Word
+gen_ring_words ring blocks = codes "gen" ∷ codes "--ring" ∷ ring ∷ blocks ∷ []

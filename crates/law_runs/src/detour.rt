@@ -14,10 +14,11 @@ ghost use Rattle.mx_plan.specs.Counts.{unscheduled};
 ghost use Rattle.mx_top.specs.Arguments.{Word};
 ghost use Rattle.law_runs.specs.Called.{NoCallFails};
 ghost use Rattle.law_runs.specs.Detour.{AreOrdered, IsAssembled, run_words, sim_words};
-ghost use Rattle.law_runs.specs.Detour.{answer_uncounted, answer_unscheduled, host_of};
+ghost use Rattle.law_runs.specs.Detour.{HasOutcome, answer_uncounted, answer_unscheduled, host_of};
 ghost use Rattle.mx_files.specs.Objects.{source_object};
 ghost use Rattle.mx_top.specs.Product.{product};
 ghost use Rattle.mx_files.specs.Sources.{source_meaning};
+ghost use Rattle.mx_files.specs.declared.outcome.Outcome.TheVariants.{BadObject, Refused};
 
 /// Where no call that the program makes fails, it does and answers the same whatever number of calls was made
 /// before, and whatever other calls are listed as failing; only that number and that list differ in what it
@@ -33,7 +34,7 @@ pub fn programs_go_by_no_count()
 
 /// Where no call that is made fails, `sim` of an object answers and leaves what `run` of the source does that
 /// it was assembled from, with the same options and arguments. Only the number of calls differs. A source
-/// that `run` refuses, which can only be for its pages, is not meant.
+/// that `run` refuses is that of the next law.
 #[tactic(auto)]
 pub fn objects_run_as_their_sources()
     ensures { (kind : MachineKind) (options : List Word) (source object : Word) (arguments : List Word)
@@ -44,6 +45,20 @@ pub fn objects_run_as_their_sources()
         NoCallFails kind (run_words options source arguments) after →
         answer_uncounted (product kind (sim_words options object arguments) after) ≡
         answer_uncounted (product kind (run_words options source arguments) after) }
+{}
+
+/// Where `run` refuses a source that was assembled, it does so for its pages, 90, and `sim` refuses the object
+/// for the same reason, where no call that is made fails.
+#[tactic(auto)]
+pub fn objects_are_refused_as_their_sources()
+    ensures { (kind : MachineKind) (options : List Word) (source object : Word) (arguments : List Word)
+        (text : List ℕ) (m after : HostModel) (line fault from : ℕ) →
+        AreOrdered options source object arguments → IsAssembled kind source object text m after →
+        NoCallFails kind (sim_words options object arguments) after →
+        NoCallFails kind (run_words options source arguments) after →
+        HasOutcome (product kind (run_words options source arguments) after) (Refused line fault from) →
+        (fault ≡ 90) × (place : ℕ) ×
+        HasOutcome (product kind (sim_words options object arguments) after) (BadObject place 90) }
 {}
 
 /// The object of a source that is run is loaded as the image that it is run from, with the symbols of

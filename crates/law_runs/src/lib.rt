@@ -19,7 +19,8 @@ pub use complete::{
     sources_that_halt_are_done, sources_that_mean_are_assembled,
 };
 pub use detour::{
-    objects_load_as_their_sources, objects_run_as_their_sources, programs_go_by_no_count,
+    objects_are_refused_as_their_sources, objects_load_as_their_sources,
+    objects_run_as_their_sources, programs_go_by_no_count,
 };
 pub use dumps::dumps_show_what_programs_see;
 pub use files::{files_are_read_whole, pieces_come_to_one_write};

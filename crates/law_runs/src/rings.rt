@@ -8,19 +8,21 @@ ghost use Rattle.mx_watch.specs.Watching.{Watching};
 ghost use Rattle.mx_files.specs.Answers.{answered};
 ghost use Rattle.mx_files.specs.declared.outcome.Outcome.{Outcome};
 ghost use Rattle.mx_words.specs.Orders.{order_of};
+ghost use Rattle.mx_words.specs.Values.{blocks_value, ring_value};
 ghost use Rattle.mx_words.specs.declared.order.Order.{Order};
 ghost use Rattle.mx_top.specs.Arguments.{Word};
 ghost use Rattle.mx_top.specs.Product.{product};
 ghost use Rattle.mx_top.specs.Reports.{due_reports, reports_put, watched_product};
 ghost use Rattle.law_runs.specs.Called.{IsCalled, IsWatched};
 ghost use Rattle.law_runs.specs.Detour.{host_of};
-ghost use Rattle.law_runs.specs.Rings.{DifferInRing};
+ghost use Rattle.law_runs.specs.Rings.{DifferInRing, gen_ring_words, gen_words};
 ghost use Rattle.mx_top.specs.Runs.{machine_ran};
 ghost use Rattle.law_runs.specs.Unbroken.{is_answer_told, is_told};
 
 /// Orders that differ in the size of the ring alone come to the same over the list machine. So, by the
 /// clause `headline` of the top call, two rings give the same outcome and the same host, where the
-/// list machine meets nothing wild; and, with the clause of the call with watchers, the same reports.
+/// list machine meets nothing wild; and, with the clause of the call with watchers, the same reports. So `gen`
+/// comes to the same with `--ring` and without it.
 #[tactic(auto, using(crate::proofs::SameRings::rings))]
 pub fn two_rings_agree()
     ensures alone { (words others : List Word) (o p : Order) (m : HostModel) → order_of words ≡ Ok o →
@@ -29,6 +31,9 @@ pub fn two_rings_agree()
     ensures watched { (words others : List Word) (o p : Order) (watchers : List Watching) (m : HostModel) →
         order_of words ≡ Ok o → order_of others ≡ Ok p → DifferInRing words others o p → o.report ≡ p.report →
         watched_product list_machine words watchers m ≡ watched_product list_machine others watchers m }
+    ensures generated { (blocks ring : Word) (n size : ℕ) (m : HostModel) → blocks_value blocks ≡ Ok n →
+        ring_value ring ≡ Ok size → product list_machine (gen_words blocks) m ≡
+        product list_machine (gen_ring_words ring blocks) m }
 {}
 
 /// Reports change nothing but what stands behind the message. Words with `--report` come to what the words without it
