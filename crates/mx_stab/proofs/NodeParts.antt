@@ -1,33 +1,21 @@
 -- A node is read piece by piece.
-use Rattle.std.proofs.Common.{◌≡◌, ◌≢◌, ℕ, ◌+◌, ◌%◌, ◌==◌, Bool, true, false, ◌&&◌, ◌||◌, not, List, [], ◌∷◌, ◌++◌, length, arith, refl, ap, ◌∙◌, inl, inr, append_assoc, length-append, nat_lt}
-use Rattle.mx_stab.proofs.Words.{cond-false, and_parts, eqb-true, eqb-false, le-ltb, Symbol, HasCharacter, IsWideBare, UpToCharacter, UpToLeft, UpToSymbol, flag, Reading, Answer, and_then, part_if, symbol, has, has_character, is_wide_bare, character_part, with_character, node_rest, next_subtrie}
+use Rattle.std.proofs.Common.{◌≡◌, ℕ, ◌+◌, ◌%◌, ◌==◌, Bool, true, false, ◌&&◌, ◌||◌, not, List, [], ◌∷◌, ◌++◌, length, arith, refl, ap, ◌∙◌, inl, inr, append_assoc, length-append, nat_lt, rules}
+use Rattle.mx_stab.proofs.Words.{cond-false, eqb-true, eqb-false, le-ltb, Symbol, HasCharacter, IsWideBare, UpToCharacter, UpToLeft, UpToSymbol, flag, Reading, Answer, and_then, part_if, symbol, has, has_character, is_wide_bare, character_part, with_character, node_rest, next_subtrie}
 use Rattle.mx_stab.specs.Reading as reading
 use Rattle.mx_stab.proofs.Parts.{next-node}
 use Rattle.mx_stab.proofs.Whole.{tells-symbol, character-is, tells-subtrie}
-use Rattle.std.proofs.lemmas.Bool.{or_right as or-there}
 
 none-or : (a b : Bool) → (a ≡ false → ⊥) → (b ≡ true → ⊥) → (not a || b) ≡ false
-none-or true true h k = absurd (k refl)
-none-or true false h k = refl
-none-or false b h k = absurd (h refl)
+none-or a b h1 h2 = search rules
 
 pub character-there : (m : ℕ) → HasCharacter m → has_character m ≡ true
-character-there m (inl some) = one (m % 16 == 0) (eqb-true (m % 16) 0)
-  where
-    one : (b : Bool) → (b ≡ true → m % 16 ≡ 0) → (not b || has 0x20 m) ≡ true
-    one true h = absurd (some (h refl))
-    one false h = refl
-character-there m (inr below) = or-there (not (m % 16 == 0)) (has 0x20 m) (ap (λ n. n == 1) below)
+character-there m h1 = search rules
 
 pub character-none : (m : ℕ) → ¬ HasCharacter m → has_character m ≡ false
 character-none m h = none-or (m % 16 == 0) (has 0x20 m) (λ e. h (inl (eqb-false (m % 16) 0 e))) (λ e. h (inr (eqb-true (flag 0x20 m) 1 e)))
 
 pub has-one : (m : ℕ) → has_character m ≡ true → HasCharacter m
-has-one m h = one (m % 16 == 0) (eqb-false (m % 16) 0) h
-  where
-    one : (b : Bool) → (b ≡ false → m % 16 ≢ 0) → (not b || has 0x20 m) ≡ true → HasCharacter m
-    one true k h = inr (eqb-true (flag 0x20 m) 1 h)
-    one false k h = inl (k refl)
+has-one m h1 = search rules
 
 pub has-none : (m : ℕ) → has_character m ≡ false → ¬ HasCharacter m
 has-none m h k = let there = character-there m k in cc (h, there)
@@ -36,21 +24,10 @@ pub wide-bare : (m : ℕ) → IsWideBare m → is_wide_bare m ≡ true
 wide-bare m h = ap (λ n. n == 1 && not (has_character m)) h.0 ∙ ap not (character-none m h.1)
 
 pub not-bare : (m : ℕ) → ¬ IsWideBare m → is_wide_bare m ≡ false
-not-bare m h = one (has 0x80 m) (has_character m) (eqb-true (flag 0x80 m) 1) (has-none m)
-  where
-    one : (a b : Bool) → (a ≡ true → flag 0x80 m ≡ 1) → (b ≡ false → ¬ HasCharacter m) → (a && not b) ≡ false
-    one true true p q = refl
-    one true false p q = absurd (h (p refl, q refl))
-    one false b p q = refl
+not-bare m h1 = search rules
 
 pub is-bare : (m : ℕ) → is_wide_bare m ≡ true → IsWideBare m
-is-bare m h =
-    let parts = and_parts (has 0x80 m) (not (has_character m)) h in
-    (eqb-true (flag 0x80 m) 1 parts.0, has-none m (one (has_character m) parts.1))
-  where
-    one : (b : Bool) → not b ≡ true → b ≡ false
-    one true h = cc
-    one false h = refl
+is-bare m h1 = search rules
 
 pub is-no-bare : (m : ℕ) → is_wide_bare m ≡ false → ¬ IsWideBare m
 is-no-bare m h k = let bare = wide-bare m k in cc (h, bare)

@@ -1,11 +1,10 @@
 -- What is read is in the grammar.
-use Rattle.std.proofs.Common.{◌≡◌, ◌≢◌, ℕ, zero, suc, ◌+◌, ◌-◌, ◌*◌, ◌/◌, ◌%◌, ◌^◌, ◌≤◌, ◌<◌, ◌==◌, Bool, true, false, cond, ◌||◌, not, List, [], ◌∷◌, ◌++◌, length, take, drop, replicate, Option, Some, None, Result, Ok, Err, arith, refl, sym, ap, ◌∙◌, subst, append_assoc, append-nil, length-append, nat_le, nat_lt, slice_index, ◌&&◌}
-use Rattle.mx_stab.proofs.Words.{encode_utf8, leb-false, leb-true, ltb-true, ltb-false, eqb-true, eqb-false, or_parts, and_parts, length-take-le, take-append-drop, AreBytes, Symbol, Value, Pure, Reg, StabFault, Padding, Truncated, Wide, wide_number, is_wide_character, Reading, Answer, Character, and_then, part_if, is_among, value_size, value_of, serial_behind, symbol_with, symbol, has, has_character, is_wide_bare, character_of, character_part, with_character, node_rest, node, subtrie, next_subtrie, are_zeros, is_padding, symbols_at_end, start, trie_answer, AreBelow, AreDistinct, IsSubtrie, IsTrie, SpellsCharacter, SpellsValue, SpellsSerial, number_behind, number}
+use Rattle.std.proofs.Common.{◌≡◌, ◌≢◌, ℕ, zero, suc, ◌+◌, ◌-◌, ◌*◌, ◌/◌, ◌%◌, ◌^◌, ◌≤◌, ◌<◌, ◌==◌, Bool, true, false, cond, ◌||◌, not, List, [], ◌∷◌, ◌++◌, length, take, drop, replicate, Option, Some, None, Result, Ok, Err, arith, refl, sym, ap, ◌∙◌, subst, append_assoc, append-nil, length-append, nat_le, nat_lt, slice_index, ◌&&◌, rules}
+use Rattle.mx_stab.proofs.Words.{encode_utf8, leb-false, leb-true, ltb-true, ltb-false, eqb-true, eqb-false, and_parts, length-take-le, take-append-drop, AreBytes, Symbol, Value, Pure, Reg, StabFault, Padding, Truncated, Wide, wide_number, is_wide_character, Reading, Answer, Character, and_then, part_if, is_among, value_size, value_of, serial_behind, symbol_with, symbol, has, has_character, is_wide_bare, character_of, character_part, with_character, node_rest, node, subtrie, next_subtrie, are_zeros, is_padding, symbols_at_end, start, trie_answer, AreBelow, AreDistinct, IsSubtrie, IsTrie, SpellsCharacter, SpellsValue, SpellsSerial, number_behind, number}
 use Rattle.mx_stab.specs.Reading as reading
 use Rattle.mx_stab.specs.Grammar as grammar
 use Rattle.mx_stab.proofs.Distinct.{distinct-push}
 use Rattle.mx_stab.proofs.Orders.{all-back, all-front}
-use Rattle.std.proofs.lemmas.Bool.{not-false}
 
 -- a reading and a later one, with the bytes and the symbols between them
 pub record Between (s t : Reading) (bytes : List ℕ) (symbols : List Symbol) : Type 0 where
@@ -15,12 +14,7 @@ pub record Between (s t : Reading) (bytes : List ℕ) (symbols : List Symbol) : 
   pub distinct : AreDistinct s.found → AreDistinct t.found
 
 pub between-both : (s t u : Reading) (bs cs : List ℕ) (xs ys : List Symbol) → Between s t bs xs → Between t u cs ys → Between s u (bs ++ cs) (xs ++ ys)
-between-both s t u bs cs xs ys h k = record {
-  split = h.split ∙ ap (λ r. bs ++ r) k.split ∙ sym (append_assoc bs cs u.rest);
-  place = omega (arith, h.place, k.place, length-append bs cs);
-  grown = k.grown ∙ ap (λ f. f ++ ys) h.grown ∙ append_assoc s.found xs ys;
-  distinct = λ d. k.distinct (h.distinct d);
-}
+between-both s t u bs cs xs ys h1 h2 = search (rules, append_assoc, length-append)
 
 pub between-none : (s : Reading) → Between s s [] []
 between-none s = record { split = refl; place = omega arith; grown = sym (append-nil s.found); distinct = λ d. d }
@@ -36,8 +30,7 @@ record WentThrough (f : Reading → Answer) (a : Answer) (t : Reading) : Type 0 
   second : f middle ≡ Ok t
 
 went-through : (f : Reading → Answer) (a : Answer) (t : Reading) → and_then f a ≡ Ok t → WentThrough f a t
-went-through f (Ok s) t h = record { middle = s; first = refl; second = h }
-went-through f (Err fault) t h = absurd (cc)
+went-through f a t h1 = search rules
 
 not-refused : (b : Bool) (fault : StabFault) (a : Answer) (t : Reading) → cond b (Err fault) a ≡ Ok t → (b ≡ false) × (a ≡ Ok t)
 not-refused true fault a t h = absurd (cc)
@@ -53,9 +46,7 @@ abbrev pair-of : ℕ → List ℕ → Option (ℕ × List ℕ)
 pair-of a r = Some (a, r)
 
 some-parts : (a b : ℕ) (r t : List ℕ) → pair-of a r ≡ pair-of b t → (a ≡ b) × (r ≡ t)
-some-parts a b r t h =
-    let pair : ◌≡◌ {A = ℕ × List ℕ} (a, r) (b, t) = cc in
-    (ap (λ (p : ℕ × List ℕ). p.0) pair, ap (λ (p : ℕ × List ℕ). p.1) pair)
+some-parts a b r t h1 = search rules
 
 -- the digits of a serial number
 pub record SerialCut (x serial : ℕ) (bytes more : List ℕ) : Type 0 where
@@ -168,17 +159,11 @@ flag true = 1
 flag false = 0
 
 pub flag-is : (x : ℕ) → x < 2 → flag (x == 1) ≡ x
-flag-is (suc (suc x)) h = absurd (omega (arith, h))
-flag-is x h = refl
+flag-is x h1 = search rules
 
 -- the byte m from its bits
 byte-is : (m : ℕ) → m < 256 → m ≡ 0x80 * flag (has 0x80 m) + 0x40 * flag (has 0x40 m) + 0x20 * flag (has 0x20 m) + 0x10 * flag (has 0x10 m) + m % 16
-byte-is m l =
-    let w = flag-is (m / 0x80 % 2) (omega arith) in
-    let a = flag-is (m / 0x40 % 2) (omega arith) in
-    let b = flag-is (m / 0x20 % 2) (omega arith) in
-    let c = flag-is (m / 0x10 % 2) (omega arith) in
-    omega (arith, w, a, b, c, l)
+byte-is m h1 = search rules
 
 -- a subtrie that was read
 pub record Tells (l : ℕ) (path : List ℕ) (s t : Reading) : Type 0 where
@@ -242,8 +227,7 @@ pub one-byte : (at c : ℕ) (rest : List ℕ) (found : List Symbol) → Between 
 one-byte at c rest found = record { split = refl; place = refl; grown = sym (append-nil found); distinct = λ d. d }
 
 below-name : (m : ℕ) (path : List ℕ) (s t : Reading) → NameRead m path s t → AreBytes s.rest → AreBytes t.rest
-below-name m path s t (no-name name character middle below spelt fits none hm k) b = below-rest s t _ _ k b
-below-name m path s t (a-name name character value serial told counted middle below spelt fits hv hs hm k) b = below-rest s t _ _ k b
+below-name m path s t h1 h2 = search (rules, below-rest)
 
 symbol-then : (inner : List ℕ → Reading → Answer) → Sounds inner → (m : ℕ) (path : List ℕ) (s : Reading) (c : Character) (u t : Reading) → CharacterRead (0x80 * flag (has 0x80 m)) s c → length (path ++ c.name) ≤ 1024 → AreBytes c.behind.rest →
     SymbolRead (m % 16) (path ++ c.name) c.behind u → part_if (has 0x20 m) (inner (path ++ c.name)) u ≡ Ok t → NameRead m path s t
@@ -276,16 +260,10 @@ abbrev spells : ℕ → ℕ → Bool
 spells kind m = not (kind == 0) || m == 1
 
 not-spelt : (kind m : ℕ) → spells kind m ≡ false → (kind ≡ 0) × (m ≢ 1)
-not-spelt kind m h =
-    let parts = or_parts (not (kind == 0)) (m == 1) h in
-    (eqb-true kind 0 (not-false (kind == 0) parts.0), eqb-false m 1 parts.1)
+not-spelt kind m h1 = search rules
 
 has-middle : (kind m : ℕ) → spells kind m ≡ true → kind ≡ 0 → flag (m == 1) ≡ 1
-has-middle kind m h e = one (m == 1) (ap (λ k. spells k m) (sym e) ∙ h)
-  where
-    one : (b : Bool) → b ≡ true → flag b ≡ 1
-    one true h = refl
-    one false h = cc
+has-middle kind m h1 h2 = cc
 
 -- a node from its parts
 bare-tells : (m : ℕ) (path : List ℕ) (at : ℕ) (rest : List ℕ) (found : List Symbol) (u v t : Reading) → m < 256 → has 0x80 m ≡ false → spells (m % 16) (m / 0x20 % 2) ≡ false →
@@ -347,11 +325,7 @@ spelled-tells m path at rest found u v t small some left (a-name name character 
 
 -- a node without a character is not marked as one with a character of two bytes
 narrow-bare : (b : Bool) (m : ℕ) → has_character m ≡ false → (b && not (has_character m)) ≡ false → b ≡ false
-narrow-bare true m h e = absurd (differ (ap not (sym h) ∙ e))
-  where
-    differ : true ≡ false → ⊥
-    differ e = cc
-narrow-bare false m h e = refl
+narrow-bare b m h1 h2 = search rules
 
 node-sounds : (inner : List ℕ → Reading → Answer) → Sounds inner → (path : List ℕ) (at : ℕ) (found : List Symbol) (bytes : List ℕ) (t : Reading) → AreBytes bytes → node inner path at found bytes ≡ Ok t →
     Tells 1 path (record { at = at; rest = bytes; found = found }) t
@@ -388,9 +362,7 @@ zeros-are (b ∷ more) h =
     ap (λ d. d ∷ more) (eqb-true b 0 parts.0) ∙ ap (λ r. 0 ∷ r) (zeros-are more parts.1)
 
 pub padding-zeros : (rest : List ℕ) → is_padding rest ≡ true → (length rest ≤ 3) × (rest ≡ replicate (length rest) 0)
-padding-zeros rest h =
-    let parts = and_parts (nat_le (length rest) 3) (are_zeros rest) h in
-    (leb-true (length rest) 3 parts.0, zeros-are rest parts.1)
+padding-zeros rest h1 = search (rules, and_parts, leb-true, zeros-are)
 
 -- a trie that was read to its end
 record Ended (a : Answer) (symbols : List Symbol) : Type 0 where

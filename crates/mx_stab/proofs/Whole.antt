@@ -1,6 +1,6 @@
 -- What is in the grammar is read.
-use Rattle.std.proofs.Common.{◌≡◌, ℕ, suc, ◌+◌, ◌-◌, ◌*◌, ◌/◌, ◌%◌, ◌^◌, ◌≤◌, ◌<◌, ◌==◌, Bool, true, false, cond, ◌&&◌, ◌||◌, not, List, [], ◌∷◌, ◌++◌, length, take, drop, replicate, Some, Ok, Err, arith, refl, sym, ap, ◌∙◌, subst, append_assoc, append-nil, length-append, nat_le, nat_lt}
-use Rattle.mx_stab.proofs.Words.{and-false, cond-false, lt-leb, lt-ltb, le-ltb, le-leb, ne_eqb, take_at, drop_at, Symbol, Value, Pure, Padding, Wide, wide_number, Reading, Answer, and_then, part_if, is_among, value_size, value_of, serial_behind, symbol_with, symbol, has, has_character, is_wide_bare, character_of, character_part, with_character, node_rest, node, next_subtrie, is_padding, symbols_at_end, start, trie_answer, encode_utf8, AreBelow, AreDistinct, IsSubtrie, IsTrie, SpellsCharacter, SpellsValue, SpellsSerial, number_behind, number}
+use Rattle.std.proofs.Common.{◌≡◌, ℕ, suc, ◌+◌, ◌-◌, ◌*◌, ◌/◌, ◌%◌, ◌^◌, ◌≤◌, ◌<◌, ◌==◌, Bool, true, false, cond, ◌&&◌, ◌||◌, not, List, [], ◌∷◌, ◌++◌, length, replicate, Some, Ok, Err, arith, refl, sym, ap, ◌∙◌, subst, append_assoc, append-nil, length-append, nat_le, nat_lt, rules}
+use Rattle.mx_stab.proofs.Words.{and-false, cond-false, lt-leb, lt-ltb, le-ltb, ne_eqb, take_at, drop_at, Symbol, Value, Padding, Wide, wide_number, Reading, Answer, and_then, part_if, is_among, value_size, value_of, serial_behind, symbol_with, symbol, has, has_character, is_wide_bare, character_of, character_part, with_character, node_rest, node, next_subtrie, is_padding, symbols_at_end, start, trie_answer, encode_utf8, AreBelow, AreDistinct, IsSubtrie, IsTrie, SpellsCharacter, SpellsValue, SpellsSerial, number_behind, number}
 use Rattle.mx_stab.specs.Reading as reading
 use Rattle.mx_stab.specs.Grammar as grammar
 use Rattle.mx_stab.proofs.Distinct.{distinct-front}
@@ -22,11 +22,7 @@ same-reading : (a b : ℕ) (r t : List ℕ) (f g : List Symbol) → a ≡ b → 
 same-reading a b r t f g p q h = λ i. Ok (record { at = p i; rest = q i; found = h i })
 
 tells-then : (p q : Reading → Answer) (bs cs : List ℕ) (xs ys : List Symbol) → Tells p bs xs → Tells q cs ys → Tells (λ s. and_then q (p s)) (bs ++ cs) (xs ++ ys)
-tells-then p q bs cs xs ys hp hq s more e d =
-    let both : AreDistinct ((s.found ++ xs) ++ ys) = subst AreDistinct (sym (append_assoc s.found xs ys)) d in
-    ap (and_then q) (hp s (cs ++ more) (e ∙ append_assoc bs cs more) (distinct-front (s.found ++ xs) ys both))
-    ∙ hq (reading_behind s bs (cs ++ more) xs) more refl both
-    ∙ same-reading _ _ more more _ _ (omega (arith, length-append bs cs)) refl (append_assoc s.found xs ys)
+tells-then p q bs cs xs ys h1 h2 = search (rules, append_assoc, distinct-front, same-reading, length-append)
 
 tells-none : Tells (λ s. Ok s) [] []
 tells-none s more e d = same-reading s.at (s.at + 0) s.rest more s.found (s.found ++ []) (omega arith) e (sym (append-nil s.found))
@@ -40,8 +36,7 @@ tells-node m path bs xs l h s more e d =
 
 -- whether a character takes two bytes, as a bit
 is-wide : {wide : ℕ} {name character : List ℕ} → SpellsCharacter wide name character → (wide ≡ 0x80 * (wide / 0x80)) × (wide / 0x80 ≤ 1)
-is-wide (grammar.SpellsCharacter.one_byte c small) = (omega arith, omega arith)
-is-wide (grammar.SpellsCharacter.two_bytes high low h l wide) = (omega arith, omega arith)
+is-wide h1 = search rules
 
 pub character-is : {wide : ℕ} {name character : List ℕ} → SpellsCharacter wide name character → (node m : ℕ) (s : Reading) (more : List ℕ) → m / 0x80 % 2 ≡ wide / 0x80 → s.rest ≡ character ++ more →
     character_of node m s ≡ Ok (record { name = name; behind = record { at = s.at + length character; rest = more; found = s.found } })
@@ -70,15 +65,11 @@ tells-no-symbol kind node name k s more e d = ap (λ n. symbol n node name s) k 
 -- the digits of a serial number
 pub serial-spelt : (x : ℕ) (front : List ℕ) (last : ℕ) (more : List ℕ) → AreBelow 128 front → last < 128 →
     serial_behind x (front ++ (last + 128) ∷ more) ≡ Some (number_behind 128 x (front ++ last ∷ []), more)
-serial-spelt x [] last more h l =
-    cond-false (nat_lt (last + 128) 128) _ _ (le-ltb (last + 128) 128 (omega arith)) ∙ ap (λ n. Some (x * 128 + n, more)) (omega arith)
-serial-spelt x (b ∷ front) last more h l =
-    ap (λ t. cond t (serial_behind (x * 128 + b) (front ++ (last + 128) ∷ more)) (Some (x * 128 + (b - 128), front ++ (last + 128) ∷ more))) (lt-ltb b 128 h.0)
-    ∙ serial-spelt (x * 128 + b) front last more h.1 l
+serial-spelt x [] last more h l = search (rules, cond-false, le-ltb)
+serial-spelt x (b ∷ front) last more h l = search (rules, lt-ltb, serial-spelt (x * 128 + b) front last more h.1 l)
 
 pub serial-told : (serial : ℕ) (spelt more : List ℕ) → SpellsSerial serial spelt → serial_behind 0 (spelt ++ more) ≡ Some (serial, more)
-serial-told _ _ more (grammar.SpellsSerial.digits front last h l fits) =
-    ap (serial_behind 0) (append_assoc front ((last + 128) ∷ []) more) ∙ serial-spelt 0 front last more h l
+serial-told serial spelt more h1 = search (rules, append_assoc, serial-spelt)
 
 pub serial-fits : (serial : ℕ) (spelt : List ℕ) → SpellsSerial serial spelt → serial < 2 ^ 32
 serial-fits _ _ (grammar.SpellsSerial.digits front last h l fits) = fits
@@ -91,19 +82,7 @@ record Spelt (kind : ℕ) (value : Value) (bytes : List ℕ) : Type 0 where
   same : value_of kind bytes ≡ value
 
 value-spelt : (kind : ℕ) (value : Value) (bytes : List ℕ) → SpellsValue kind value bytes → Spelt kind value bytes
-value-spelt _ _ _ (grammar.SpellsValue.pure bytes h least most) = record {
-  least = least;
-  most = omega (arith, most);
-  size = cond-false (length bytes == 15) _ _ (ne_eqb (length bytes) 15 (omega (arith, most))) ∙ ap (λ b. cond b (length bytes) (length bytes - 8)) (le-leb (length bytes) 8 most);
-  same = cond-false (length bytes == 15) _ _ (ne_eqb (length bytes) 15 (omega (arith, most))) ∙ ap (λ b. cond b (Pure (number 256 bytes)) (Pure (2 ^ 61 + number 256 bytes))) (le-leb (length bytes) 8 most);
-}
-value-spelt _ _ _ (grammar.SpellsValue.offset bytes h least most) = record {
-  least = omega arith;
-  most = omega (arith, most);
-  size = cond-false (8 + length bytes == 15) _ _ (ne_eqb (8 + length bytes) 15 (omega (arith, most))) ∙ cond-false (nat_le (8 + length bytes) 8) _ _ (lt-leb (8 + length bytes) 8 (omega (arith, least))) ∙ omega arith;
-  same = cond-false (8 + length bytes == 15) _ _ (ne_eqb (8 + length bytes) 15 (omega (arith, most))) ∙ cond-false (nat_le (8 + length bytes) 8) _ _ (lt-leb (8 + length bytes) 8 (omega (arith, least)));
-}
-value-spelt _ _ _ (grammar.SpellsValue.register k h) = record { least = omega arith; most = omega arith; size = refl; same = refl }
+value-spelt kind value bytes h1 = search rules
 
 -- a whole serial number ends a symbol
 symbol_with-is : (node : ℕ) (name : List ℕ) (value : Value) (s : Reading) (serial : ℕ) (more : List ℕ) → serial < 2 ^ 32 → is_among name s.found ≡ false →
@@ -113,16 +92,8 @@ symbol_with-is node name value s serial more l a = cond-false (nat_le (2 ^ 32) s
 -- a value that is told, before its serial number
 pub symbol-valued : (kind node : ℕ) (name : List ℕ) (value : Value) (told more : List ℕ) (s : Reading) → SpellsValue kind value told → s.rest ≡ told ++ more →
     symbol kind node name s ≡ symbol_with node name value s (serial_behind 0 more)
-symbol-valued kind node name value told more s v e =
-    let w = value-spelt kind value told v in
-    let taken : take (value_size kind) s.rest ≡ told = ap (take (value_size kind)) e ∙ take_at told more (value_size kind) (sym w.size) in
-    let left : drop (value_size kind) s.rest ≡ more = ap (drop (value_size kind)) e ∙ drop_at told more (value_size kind) (sym w.size) in
-    let long : length s.rest ≡ length told + length more = ap length e ∙ length-append told more in
-    cond-false (kind == 0) _ _ (ne_eqb kind 0 (omega (arith, w.least)))
-    ∙ cond-false (nat_lt (length s.rest) (value_size kind)) _ _ (le-ltb (length s.rest) (value_size kind) (omega (arith, w.size, long)))
-    ∙ ap (λ x. symbol_with node name (value_of kind x) s (serial_behind 0 (drop (value_size kind) s.rest))) taken
-    ∙ ap (λ x. symbol_with node name x s (serial_behind 0 (drop (value_size kind) s.rest))) w.same
-    ∙ ap (λ x. symbol_with node name value s (serial_behind 0 x)) left
+symbol-valued kind node name value told more s h1 h2 =
+    search (rules, value-spelt, take_at, drop_at, length-append, cond-false, ne_eqb, le-ltb)
 
 pub tells-symbol : (kind serial node : ℕ) (name : List ℕ) (value : Value) (spelt digits : List ℕ) → SpellsValue kind value spelt → SpellsSerial serial digits →
     Tells (symbol kind node name) (spelt ++ digits) (record { name = name; value = value; serial = serial } ∷ [])
@@ -140,8 +111,7 @@ bits-are : (w l m r kind : ℕ) → w ≤ 1 → l ≤ 1 → m ≤ 1 → r ≤ 1 
 bits-are w l m r kind f a b c d byte e = (omega arith, omega arith, omega arith, omega arith, omega arith)
 
 flag-fits : {l : ℕ} {path bytes : List ℕ} {symbols : List Symbol} → IsSubtrie l path bytes symbols → l ≤ 1
-flag-fits (grammar.IsSubtrie.none path) = omega arith
-flag-fits _ = omega arith
+flag-fits h1 = search rules
 
 -- whether a node has a character, by its kind and its bit for a middle subtrie
 abbrev spells : ℕ → ℕ → Bool
@@ -216,12 +186,10 @@ tells-subtrie (grammar.IsSubtrie.symbol path name character wide l m r kind seri
     (tells-subtrie hl) (λ node. tells-symbol kind serial node (path ++ name) value told counted hv hs) (tells-subtrie hm) (tells-subtrie hr))
 
 pub some-bytes : {l : ℕ} {path bytes : List ℕ} {symbols : List Symbol} → IsSubtrie l path bytes symbols → 1 ≤ l → 0 < length bytes
-some-bytes (grammar.IsSubtrie.none path) h = absurd (omega (arith, h))
-some-bytes _ h = omega arith
+some-bytes h1 h2 = search rules
 
 pub read-some : (bytes : List ℕ) → 0 < length bytes → trie_answer bytes ≡ symbols_at_end (next_subtrie [] (start bytes))
-read-some [] h = absurd (omega (arith, h))
-read-some (b ∷ more) h = refl
+read-some bytes h1 = search rules
 
 pub padding-is : (zeros : ℕ) → zeros ≤ 3 → is_padding (replicate zeros 0) ≡ true
 padding-is (suc (suc (suc (suc n)))) h = absurd (omega (arith, h))
