@@ -1,7 +1,6 @@
 -- What dB stands for: the value of the last label dH before the statement, and pure 0 where there is none.
-use Rattle.std.proofs.Common.{◌≡◌, ℕ, zero, suc, ◌≢◌, ◌<◌, ◌≤◌, List, [], ◌∷◌, ◌++◌, length, length-set, fold, replicate, slice_set, slice_index_or, false, Option, Some, Ok, Err, refl, ap, ◌∙◌, arith, rules}
+use Rattle.std.proofs.Common.{◌≡◌, ℕ, zero, suc, ◌<◌, ◌≤◌, List, [], ◌∷◌, ◌++◌, length, length-set, fold, replicate, slice_set, slice_index_or, false, Option, Some, Ok, Err, refl, ap, ◌∙◌, arith, rules}
 use Rattle.mx_asm.proofs.Words.{fold-append, Value, Pure, back, value_of, NameTable, back_of, Label, Local, Effect, Placed, Answer, Known, no_targets, knowledge_of, StatementTree, encoding, with_label, with_effect, known_with, known_after, nothing_known, final_known, is_local, nat_tests, common_steps}
-use Rattle.mx_stmt.specs.declared.placed.Effect.TheVariants as effect
 use Rattle.mx_asm.specs.Locals.{HasNoLocal}
 use Rattle.mx_asm.specs.TwoPass.{value_in}
 

@@ -1,5 +1,5 @@
 -- What always holds of a statement that is placed.
-use Rattle.std.proofs.Common.{◌≡◌, ◌≤◌, ℕ, List, [], ◌∷◌, ◌++◌, length, Option, Result, Ok, arith}
+use Rattle.std.proofs.Common.{◌≡◌, ◌≤◌, ℕ, List, length, Option, Result, Ok, arith}
 use Rattle.mx_asm.proofs.Words.{nat_tests, Tree, NameFault, AreNames, IsFullName, Label, Placed, Known, Targets, StatementTree, encoding, symbol_answer, IsPlaced, common_steps}
 use Rattle.mx_asm.proofs.StatementForms.{Comes, at_place, encoding-comes}
 use Rattle.mx_asm.proofs.StatementForms.Comes.{placed, by_prefix, by_greg}

@@ -3,7 +3,6 @@ use Rattle.std.proofs.Common.{◌≡◌, ℕ, ◌+◌, ◌/◌, Bool, true, fals
 use Rattle.mx_asm.proofs.Words.{list_any, list_any-append, nat_tests, Value, Pure, Reg, Wait, Item, value_of_name, Placed, Answer, lowest_of, Known, StatementTree, AsmFault, MainUndefined, MainRegister, SymbolsTooMany, LocalAboveGlobals, Refused, Head, refused, Sight, outline, nothing_known, sights_from, sights_of, final_known, opening, first_head, items_from, closing, main_name, padded_trie, first_of, first_fault, undefined, local_in, locals, trie_limit, last_fault, end_fault, last_line, at_line, end_refusal, assembly_fault, Assembly, Ended, beginning, last_number, main_fault, ended_main, ended_waits, end_behind, Line, accepted, assembled_with, assembled_lines, one_pass}
 use Rattle.mx_line.specs.Source.{items_from as line_items}
 use Rattle.mx_names.specs.Waiting.{first_of as earliest}
-use Rattle.mx_stmt.specs.declared.placed.Effect.TheVariants as effect
 use Rattle.mx_asm.proofs.Filters.{or-false}
 use Rattle.mx_asm.proofs.OpenWaits.{open_waits}
 use Rattle.mx_asm.proofs.OneStatement.{standing_at, sight_local}

@@ -1,5 +1,5 @@
 -- Lists of items that fit.
-use Rattle.std.proofs.Common.{◌≢◌, ◌<◌, ◌≤◌, ℕ, ◌+◌, ◌^◌, List, [], ◌∷◌, ◌++◌, length, ◌-◌, Some, refl, sym, ap, subst, ◌∙◌, arith, append_assoc, append-nil, codes}
+use Rattle.std.proofs.Common.{◌≢◌, ◌<◌, ◌≤◌, ℕ, ◌^◌, List, [], ◌∷◌, ◌++◌, length, ◌-◌, Some, refl, sym, ap, subst, ◌∙◌, arith, append_assoc, append-nil, codes}
 use Rattle.mx_asm.proofs.Words.{append_cancel_left, all-front, all-both, AreOctas, Item, File, Pre, Post, Fits, AreFit, GrowsFit, IsFront, GrowsAlike, nat_tests, common_steps}
 
 pub fit-none : AreFit []

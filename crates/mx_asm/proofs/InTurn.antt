@@ -1,5 +1,5 @@
 -- Lines that an assembler has taken, and one line more.
-use Rattle.std.proofs.Common.{◌≡◌, ℕ, ◌+◌, Bool, true, false, cond, List, [], ◌∷◌, ◌++◌, fold, Option, None, Some, Ok, Err, refl, ap, sym, ◌∙◌, append_assoc, append-nil, rules}
+use Rattle.std.proofs.Common.{◌≡◌, ℕ, Bool, true, false, cond, List, [], ◌∷◌, ◌++◌, fold, Option, None, Some, Ok, Err, refl, ap, sym, ◌∙◌, append_assoc, append-nil, rules}
 use Rattle.mx_asm.proofs.Words.{result_err, fold-append, Item, Refused, Wait, AsmFault, Entry, statements_in, source_entries, Sight, final_known, opening, emission, padded_trie, statement_fault, first_fault, refusal, Assembly, Standing, Taken, Progress, Ended, beginning, behind_entry, and_entries, entries_taken, line_unless, with_opening, line_behind, ended_main, ended_waits, ended, end_behind, GrowsAlike, Line, accepted, accepted_with, entries_items, assembled_with, assembled_lines, assembled_source, line_after, lines_items, lines_taken, HasTaken}
 use Rattle.mx_asm.proofs.OnePassLaw.{items-are, refusal-is}
 use Rattle.mx_asm.proofs.EndWaits.{both-none}

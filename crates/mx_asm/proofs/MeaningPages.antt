@@ -1,5 +1,5 @@
 -- How many pages there are, and one page more.
-use Rattle.std.proofs.Common.{◌≡◌, ℕ, zero, suc, ◌+◌, ◌/◌, ◌%◌, ◌<◌, ◌≤◌, List, [], ◌∷◌, ◌++◌, length, Bool, true, false, cond, arith, refl, ◌∙◌, ap, ⊎_elim, ◌⊎◌, inl, inr, add-zero, Result, Ok, Err, ◌==◌, ◌||◌, ◌&&◌, nat_le, rules}
+use Rattle.std.proofs.Common.{◌≡◌, ℕ, zero, suc, ◌+◌, ◌/◌, ◌<◌, ◌≤◌, List, [], ◌∷◌, ◌++◌, length, Bool, true, false, cond, arith, refl, ◌∙◌, ap, ⊎_elim, ◌⊎◌, inl, inr, add-zero, Result, Ok, Err, ◌==◌, ◌||◌, ◌&&◌, nat_le, rules}
 use Rattle.mx_asm.proofs.Words.{list_any, nat_tests, cases_eq, cases_lt, list_any-append, Image, Meaningless, PagesFull, with_page, paged, from_place, pages_of, pages_below}
 use Rattle.std.proofs.lemmas.Bool.{or_left as or-more}
 

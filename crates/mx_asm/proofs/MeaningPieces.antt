@@ -1,5 +1,5 @@
 -- The items of bytes that a statement places, and what stands behind them.
-use Rattle.std.proofs.Common.{◌≡◌, ℕ, zero, suc, ◌+◌, ◌-◌, ◌*◌, ◌/◌, ◌%◌, ◌^◌, ◌<◌, ◌≤◌, List, [], ◌∷◌, ◌++◌, length, map, Bool, true, false, cond, arith, refl, sym, ◌∙◌, ap, bit_xor, replicate, min, Ok, Err, ◌⊎◌, ◌==◌, ◌&&◌, nat_le, nat_lt, rules}
+use Rattle.std.proofs.Common.{◌≡◌, ℕ, zero, suc, ◌+◌, ◌-◌, ◌*◌, ◌/◌, ◌%◌, ◌^◌, ◌<◌, ◌≤◌, List, [], ◌∷◌, ◌++◌, length, map, Bool, true, false, cond, arith, refl, sym, ◌∙◌, ap, bit_xor, replicate, min, Ok, Err, ◌==◌, ◌&&◌, nat_le, nat_lt, rules}
 use Rattle.mx_asm.proofs.Words.{xor_zero_r, xor_zero_l, length-replicate, cond_both, eqb-true, nat_tests, AreBytes, bytes-append, bytes-zeros, tetras_of, PagesFull, take_item, take_items, Item, Load, from_place, placed, placed-append, from-append, placed-zeros, pages_of, lowered, raised, covered, covering, tetra_count, located, told_line, lined, common_steps}
 use Rattle.mx_mmo.specs.Meaning.{lined as lined_with}
 use Rattle.mx_asm.specs.Emission.{line_behind}

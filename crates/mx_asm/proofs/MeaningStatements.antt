@@ -1,7 +1,6 @@
 -- The items of one statement, and those of statements one after another.
 use Rattle.std.proofs.Common.{◌≡◌, ℕ, ◌+◌, ◌%◌, ◌^◌, ◌<◌, ◌≤◌, List, [], ◌∷◌, ◌++◌, length, Bool, arith, refl, sym, ◌∙◌, ap, subst, Option, Some, Result, Ok, Err, append_assoc, append-nil, ◌==◌, rules}
 use Rattle.mx_asm.proofs.Words.{AllByRecursion, filter, cond_both, eqb-true, AreBytes, Value, Pure, Reg, Wait, WaitKind, take_items, Item, Label, Placed, Answer, Targets, no_targets, encoding, fix_bytes, fix_placements, kind_size, IsInside, IsLaid, from_place, placed, encoding-laid, all-into, all-append, Refused, Sight, outline, waits_in, references, fix_of, fixes, awaited_value, waiting_for, waiting_at, moved, onto, fix_items, head_at_fixes, byte_items, head_at_bytes, with_bytes, statement_items, statement_head, nat_tests}
-use Rattle.mx_word.specs.declared.waits.Awaited.TheVariants as awaited
 use Rattle.mx_asm.proofs.MeaningMemory.{HaveBytes}
 use Rattle.mx_asm.proofs.MeaningStates.{State, limited, Takes, take-none, takes-both, more-bytes}
 use Rattle.mx_asm.proofs.MeaningPieces.{takes-still, at_lambda}

@@ -1,7 +1,6 @@
 -- What is known at the statements that are accepted is sound, and their values are octas.
 use Rattle.std.proofs.Common.{◌≡◌, ℕ, List, [], ◌∷◌, ◌++◌, refl, sym, ◌∙◌, ap, subst, Option, Some, None, Ok, rules}
 use Rattle.mx_asm.proofs.Words.{AllByRecursion, IfSome, Value, complete_form, not-some, Label, Name, Local, Effect, Placed, Known, no_targets, symbol_form, StatementTree, IsPossible, encoding, HasRegisterNumber, IsSound, sound-start, sound-symbol, sound-local, sound-greg, encoding-fine, Refused, Sight, with_label, with_effect, known_with, known_after, nothing_known, sights_from, sights_of, label_fault, statement_fault, first_fault, IsStatement, accepted, accepted_with}
-use Rattle.mx_stmt.specs.declared.placed.Effect.TheVariants as effect
 use Rattle.mx_asm.proofs.OneStatement.{name-new}
 use Rattle.mx_asm.proofs.EndWaits.{both-none}
 use Rattle.mx_asm.proofs.MeaningFronts.{IsSteady, faultless}

@@ -1,5 +1,5 @@
 -- A tetra that is joined to memory, as four bytes that are placed.
-use Rattle.std.proofs.Common.{◌≡◌, ℕ, zero, suc, ◌+◌, ◌-◌, ◌*◌, ◌/◌, ◌%◌, ◌^◌, ◌<◌, ◌≤◌, List, [], ◌∷◌, length, Bool, false, cond, arith, refl, ◌∙◌, bit_xor, ◌⊎◌, ◌==◌, rules}
+use Rattle.std.proofs.Common.{◌≡◌, ℕ, zero, suc, ◌+◌, ◌/◌, ◌%◌, ◌<◌, List, [], ◌∷◌, length, Bool, false, cond, arith, refl, ◌∙◌, bit_xor, ◌==◌, rules}
 use Rattle.mx_asm.proofs.Words.{common_steps, nat_tests, tetra_from_bytes, tetra_byte, placed, from_place}
 
 -- the four bytes of a tetra, by their places

@@ -1,5 +1,5 @@
 -- The values of operands, labels and `@` are octas.
-use Rattle.std.proofs.Common.{◌≡◌, ℕ, zero, suc, ◌+◌, ◌-◌, ◌*◌, ◌/◌, ◌%◌, ◌^◌, ◌<◌, ◌≤◌, List, [], ◌∷◌, replicate, slice_set, slice_index_or, true, arith, refl, sym, subst, bit_and, nat_le, nat_lt, Option, None, Result, Ok, Err, rules}
+use Rattle.std.proofs.Common.{◌≡◌, ℕ, zero, suc, ◌+◌, ◌-◌, ◌*◌, ◌/◌, ◌^◌, ◌<◌, ◌≤◌, List, [], ◌∷◌, replicate, slice_set, slice_index_or, true, arith, refl, sym, subst, bit_and, nat_le, nat_lt, Option, None, Result, Ok, Err, rules}
 use Rattle.std.specs.Prelude.{◌==◌, bytes_eq}
 use Rattle.mx_asm.proofs.Words.{IfSome, AllByRecursion, list_all, and_le_l, or_lt, xor_lt, mod_below, cond_both, eqb-false, leb-false, ltb-true, and_parts, Value, Pure, Tree, number, name, back, ahead, here, unary, binary, Valued, register, pure_value, binary_value, after_operand, after_both, of_symbol, value_of, special_registers, predefined_names, predefined_value, NameFault, start, pure_of, value_of_name, back_of, value-defined, not-some, Label, Effect, Placed, and_then, Known, Targets, no_targets, symbol_form, knowledge_of, answer_of, StatementTree, alignment, label_value, encoding, with_label, with_effect, known_with, known_after, awaited_value, label_fault, HasOctas, IsStatement, nat_tests}
 use Rattle.std.proofs.Math.Nat.{div-le_self, div-lt_iff_lt-mul}
@@ -7,7 +7,6 @@ use Rattle.mx_expr.specs.declared.tree.UnOp.{UnOp}
 use Rattle.mx_expr.specs.declared.tree.BinOp.{BinOp}
 use Rattle.mx_expr.specs.declared.tree.BinOp.TheVariants.{Div, Fraction, Rem, Left, Right, And, Or, Xor}
 use Rattle.mx_ops.specs.Tables.{first_of}
-use Rattle.mx_stmt.specs.declared.placed.Effect.TheVariants as effect
 use Rattle.mx_stmt.specs.Operands.{value_in as symbol_in, pure_number}
 use Rattle.mx_asm.proofs.OneStatement.{name-new}
 use Rattle.mx_asm.proofs.MeaningStatements.{IsWord}

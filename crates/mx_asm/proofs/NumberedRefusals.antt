@@ -1,10 +1,7 @@
 -- A refusal has a fault with a number above 0: by the definitions none is for want of memory.
-use Rattle.std.proofs.Common.{◌≡◌, ◌≢◌, ◌<◌, ℕ, zero, suc, ◌+◌, List, [], ◌∷◌, ◌++◌, map, fold, Option, None, Some, Result, Ok, Err, refl, ap, sym, subst, ◌∙◌, arith, rules, inl, inr, IfErr}
+use Rattle.std.proofs.Common.{◌≡◌, ◌≢◌, ◌<◌, ℕ, zero, suc, ◌+◌, List, [], ◌∷◌, ◌++◌, fold, Option, None, Some, Result, Ok, Err, refl, ap, sym, subst, ◌∙◌, arith, inl, inr, IfErr}
 use Rattle.mx_line.specs.Source.{Item as Listed, items_of}
-use Rattle.mx_line.specs.Faults as lines
-use Rattle.mx_names.specs.Numbers as names
 use Rattle.mx_asm.specs.Faults.{IsTold, fault_number, no_memory}
-use Rattle.mx_asm.specs.Fixes.{fix_of, with_fix}
 use Rattle.mx_asm.specs.OnePass.{standing_after}
 use Rattle.mx_asm.specs.declared.faults.AsmFault.TheVariants.{OutOfMemory}
 use Rattle.mx_line.specs.Lines.{lines_of}
@@ -15,7 +12,7 @@ use Rattle.mx_asm.proofs.ReadEntries.{Says, said}
 use Rattle.mx_asm.proofs.InTurn.{source-refused}
 use Rattle.mx_asm.proofs.EndLaw.{whole-is}
 use Rattle.mx_asm.proofs.OnePassLaw.{refusal-is}
-use Rattle.mx_asm.proofs.Words.{result_err, Value, Wait, Item, NameTable, Naming, define_answer, symbol_form, Label, Placed, Answer, StatementTree, encoding, no_targets, AsmFault, Refused, refused, refused_from, Head, statement_items, fix_items, fixes, Entry, Fields, statement_in, entry_with, entry_of, entries_of, line_entries, Assembly, Standing, Progress, Ended, Labelled, Taken, beginning, labelled, naming_of, taken_label, taken_with, statement_taken, entry_taken, behind_entry, and_entries, entries_taken, count_fault, counted, line_unless, line_behind, with_opening, opened, assembly_fault, ended_main, ended_waits, ended, end_behind, first_of, refusal, Line, lines_refusal, assembled_source, line_after, lines_taken, one_pass, nat_tests}
+use Rattle.mx_asm.proofs.Words.{result_err, Value, Wait, Item, Naming, Label, Placed, Answer, StatementTree, encoding, no_targets, AsmFault, Refused, Head, statement_items, fixes, Entry, Fields, statement_in, entry_with, entry_of, entries_of, line_entries, Assembly, Standing, Progress, Ended, Labelled, Taken, beginning, labelled, naming_of, taken_label, taken_with, statement_taken, entry_taken, behind_entry, and_entries, entries_taken, count_fault, counted, line_unless, line_behind, with_opening, opened, end_behind, refusal, Line, lines_refusal, line_after, lines_taken, one_pass, nat_tests}
 
 -- a refusal has a number above 0
 unfoldable HasNumber : {A : Type 0} → Result A Refused → Type 0

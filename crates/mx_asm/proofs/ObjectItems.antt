@@ -1,5 +1,5 @@
 -- The items of statements fit the object format.
-use Rattle.std.proofs.Common.{◌≡◌, ◌<◌, ◌≤◌, ℕ, ◌+◌, ◌-◌, ◌/◌, ◌%◌, ◌^◌, Bool, cond, nat_lt, List, [], ◌∷◌, ◌++◌, length, map, Result, Ok, Err, arith, ◌==◌, rules}
+use Rattle.std.proofs.Common.{◌≡◌, ◌<◌, ◌≤◌, ℕ, ◌+◌, ◌^◌, Bool, cond, nat_lt, List, [], ◌∷◌, ◌++◌, length, map, Result, Ok, Err, arith, rules}
 use Rattle.mx_asm.proofs.Words.{AllByRecursion, result_unwrap_or, cond_both, ltb-false, AreBytes, tetra-sum, Value, Wait, tetra_from_bytes, tetras_of, Item, Load, Fits, Placed, Answer, AsmFault, Refused, Head, Sight, outline, waiting_at, fix_of, with_fix, fixes, awaited_value, moved, onto, fix_items, told_line, byte_items, head_at_fixes, with_bytes, sight_items, sight_head, items_from, AreFit, nat_tests}
 use Rattle.mx_mmo.specs.declared.items.Item.TheVariants.{Line}
 use Rattle.mx_asm.proofs.Fitting.{fit-none, fit-one, fit-both}

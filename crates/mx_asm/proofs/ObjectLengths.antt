@@ -1,5 +1,5 @@
 -- The object of statements that are accepted has at most the sum of their weights, and what its front and its end take.
-use Rattle.std.proofs.Common.{◌≡◌, ◌<◌, ◌≤◌, ℕ, ◌+◌, ◌*◌, ◌/◌, ◌^◌, false, not, List, [], ◌∷◌, ◌++◌, length, Option, None, Some, Result, Ok, Err, arith, refl, ap, ◌∙◌, length-append, ◌==◌, rules}
+use Rattle.std.proofs.Common.{◌≡◌, ◌<◌, ◌≤◌, ℕ, ◌+◌, ◌*◌, ◌/◌, ◌^◌, false, not, List, [], ◌∷◌, ◌++◌, length, Option, None, Some, Result, Ok, Err, arith, refl, ap, length-append, rules}
 use Rattle.mx_asm.proofs.Words.{result_unwrap_or, sum_by-cons, Value, Awaited, Wait, same_awaited, Item, written, ending, NameTable, complete_form, waits_for, waits_for_others, Label, Name, Local, Placed, Answer, Known, StatementTree, Head, Refused, fixes, waiting_for, waiting_at, Sight, outline, waits_in, nothing_known, known_after, sights_from, sights_of, final_known, label_fault, fault_with, statement_fault, first_fault, moved, onto, fix_items, covered, byte_items, with_bytes, opening, first_head, sight_items, sight_head, items_from, closing, padded_trie, nat_tests, common_steps}
 use Rattle.std.proofs.lemmas.List.Filters.{length-filter_both}
 use Rattle.mx_word.specs.declared.waits.Awaited.TheVariants as awaited

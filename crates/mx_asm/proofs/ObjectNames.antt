@@ -1,8 +1,7 @@
 -- What is known behind statements of bytes: symbols that a trie can tell, and registers whose values are octas.
-use Rattle.std.proofs.Common.{◌≡◌, ◌<◌, ◌≤◌, ℕ, suc, ◌+◌, ◌-◌, ◌^◌, List, [], ◌∷◌, ◌++◌, length, fold, Option, None, Some, Result, Ok, sym, subst, arith, rules}
+use Rattle.std.proofs.Common.{◌≡◌, ◌<◌, ◌≤◌, ℕ, suc, ◌+◌, ◌^◌, List, [], ◌∷◌, ◌++◌, length, fold, Option, None, Some, Result, Ok, sym, subst, arith, rules}
 use Rattle.mx_asm.proofs.Words.{AllByRecursion, IfSome, AreBytes, AreOctas, InByteOrder, IsValue, IsNamed, Value, NameFault, NameTable, IsFullName, complete_form, value_in, with_symbol, not-some, length-inserted, Label, Name, Local, Effect, Placed, HasRegisterNumber, IsSound, lowest_of, Known, no_targets, symbol_form, StatementTree, encoding, sound-start, encoding-fine, IsEffect, Sight, with_label, with_effect, known_with, known_after, nothing_known, sights_from, name_fault, label_fault, statement_fault, first_fault, all-inserted, nat_tests, common_steps}
 use Rattle.std.specs.List.Sorted.{IsStrictlySortedBy}
-use Rattle.mx_stmt.specs.declared.placed.Effect.TheVariants as effect
 use Rattle.mx_asm.proofs.Encodings.{encoding-prefixed}
 use Rattle.mx_asm.proofs.OneStatement.{name-new}
 use Rattle.mx_asm.proofs.EndWaits.{both-none}

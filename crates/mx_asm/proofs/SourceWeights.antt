@@ -1,5 +1,5 @@
 -- What the statements of a source ask for is bounded by the bytes of the source.
-use Rattle.std.proofs.Common.{◌≡◌, ℕ, ◌+◌, ◌-◌, ◌*◌, ◌^◌, ◌<◌, ◌≤◌, List, [], ◌∷◌, map, length, take, drop, sum_by, bytes_eq, Bool, true, false, cond, nat_lt, ◌⊎◌, Option, Some, None, Result, Ok, Err, arith, refl, ap, ◌∙◌, subst, ◌==◌, option_map, rules}
+use Rattle.std.proofs.Common.{◌≡◌, ℕ, ◌+◌, ◌-◌, ◌*◌, ◌^◌, ◌<◌, ◌≤◌, List, [], ◌∷◌, map, length, take, drop, sum_by, bytes_eq, Bool, true, false, cond, nat_lt, Option, Some, None, Result, Ok, Err, arith, refl, ap, subst, ◌==◌, option_map, rules}
 use Rattle.mx_asm.proofs.Words.{AllByRecursion, list_all, slice_split, take-length, cond_both, and_parts, ltb-true, ltb-false, length-take, sum_by-cons, bytes_eq-Decides, AreBytes, Span, LineFault, Cut, lines_of, without_empty_last, size_up_to, is_too_far, split, part, cuts_from, InOrder, CutInOrder, statement, too_far, item_of, before, items_of, Statements, Op, opcode_rows, opcode_names, pseudo_operations, chosen_operations, operations, operation_of, Answer, StatementTree, Fields, operation_with, Entry, with_operation, entry_with, entry_of, entries_of, line_entries, source_entries, statements_in, refusal_in, first_fault, entries_refusal, end_refusal, last_line, refusal, sights_of, Line, lines_entries, nat_tests, common_steps}
 use Rattle.mx_line.specs.Source.{Item, items_from}
 use Rattle.mx_line.specs.Statements.Statements.{next as one_more}

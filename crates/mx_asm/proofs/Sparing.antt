@@ -1,5 +1,5 @@
 -- A line without a statement takes no memory.
-use Rattle.std.proofs.Common.{◌≡◌, ℕ, ◌+◌, true, false, List, Option, Some, Ok, Err, refl, sym, ◌∙◌, subst, rules}
+use Rattle.std.proofs.Common.{◌≡◌, ℕ, true, false, List, Option, Some, Ok, Err, refl, sym, subst, rules}
 use Rattle.mx_asm.proofs.Words.{Cut, cuts_from, list_with, Item, Refused, holds_statement, Assembly, Standing, Progress, is_open, line_unless, line_behind, opened}
 use Rattle.mx_asm.proofs.LinesTaken.{counted_progress, entries-counted}
 

@@ -1,6 +1,6 @@
 -- A source has few statements: each takes a byte or the end of its line, and the lines before one that is too far have at
 -- most 2^22 bytes with the newlines between them.
-use Rattle.std.proofs.Common.{◌≡◌, ◌<◌, ◌≤◌, ℕ, zero, suc, ◌+◌, ◌-◌, ◌^◌, Bool, true, false, cond, List, [], ◌∷◌, ◌++◌, length, sum_by, Option, Result, Ok, refl, sym, ap, ◌∙◌, arith, append_assoc, length-append, rules}
+use Rattle.std.proofs.Common.{◌≡◌, ◌<◌, ◌≤◌, ℕ, zero, suc, ◌+◌, ◌^◌, Bool, true, false, cond, List, [], ◌∷◌, ◌++◌, length, sum_by, Option, Result, Ok, refl, sym, ap, ◌∙◌, arith, append_assoc, length-append, rules}
 use Rattle.mx_asm.proofs.Words.{ltb-false, length-map, LineFault, Cut, size_up_to, is_too_far, statement_of, list_with, cuts_within, statement, too_far, before, items_of, Entry, entry_of, statements_in, Line, lines_entries, nat_tests, common_steps}
 use Rattle.mx_line.specs.Source.{Item, items_from}
 use Rattle.mx_line.proofs.LineLemmas.{size-next}

@@ -1,5 +1,5 @@
 -- The tetras of a statement and the records of its references have at most the weights of its operands and 12 bytes.
-use Rattle.std.proofs.Common.{◌≡◌, ◌<◌, ◌≤◌, ℕ, ◌+◌, ◌-◌, ◌*◌, ◌%◌, ◌^◌, Bool, false, cond, List, [], ◌∷◌, ◌++◌, length, Option, None, Some, Ok, Err, unwrap_or, arith, refl, ap, sym, subst, length-append, length-drop, ◌==◌, nat_lt, sum_by, rules}
+use Rattle.std.proofs.Common.{◌≡◌, ◌≤◌, ℕ, ◌+◌, ◌-◌, ◌*◌, ◌%◌, ◌^◌, Bool, false, cond, List, [], ◌∷◌, ◌++◌, length, Option, None, Some, Ok, Err, unwrap_or, arith, refl, ap, sym, subst, length-append, length-drop, ◌==◌, nat_lt, sum_by, rules}
 use Rattle.mx_asm.proofs.Words.{cond_both, nat_tests, sum_by-cons, Awaited, Octa, Wait, octa_to_bytes, Tree, number, name, ahead, unary, Op, Code, Lda, Set, Pseudo, Three, Mem, shapes_of, Label, Placed, Answer, and_then, Known, Targets, pure_at, known_target, target_by, target_at, reference_of, no_targets, form, form_by, set_form, data_number, low_bytes, datum, with_rest, data_of, data_form, StatementTree, alignment, place_at, known_at_place, with_data, one_operand, pseudo_form, op_form, encoding, AreSilent, silent-operand, nothing_known, covered, after-gives, gives-value, Gives, common_steps}
 use Rattle.mx_ops.specs.declared.op.Op.TheVariants.{Pseudo as PseudoOp}
 use Rattle.mx_ops.specs.declared.op.Pseudo.TheVariants as pseudo

@@ -1,5 +1,5 @@
 -- How many bytes of a line a statement takes at least.
-use Rattle.std.proofs.Common.{◌≡◌, ℕ, ◌+◌, ◌<◌, ◌≤◌, List, [], ◌∷◌, ◌++◌, length, drop, true, ◌⊎◌, inl, inr, Option, IfOk, IfSome, arith, ap, ◌∙◌, length-append, length-drop, ◌==◌, ◌||◌, rules}
+use Rattle.std.proofs.Common.{◌≡◌, ℕ, ◌+◌, ◌<◌, ◌≤◌, List, ◌++◌, length, drop, true, ◌⊎◌, inl, inr, Option, IfOk, IfSome, arith, ap, length-append, length-drop, rules}
 use Rattle.mx_asm.proofs.Words.{Span, Cut, Found, IsField, Next, Operation, Statement, StatementOf, nat_tests, common_steps}
 use Rattle.mx_line.specs.Fields.{ends_here}
 use Rattle.mx_line.specs.Statements.{Operands}

@@ -1,5 +1,5 @@
 -- The items of a source that is assembled are those of an object.
-use Rattle.std.proofs.Common.{◌≡◌, ℕ, ◌==◌, Bool, true, false, cond, nat_lt, List, [], ◌∷◌, ◌++◌, map, Option, Some, Result, Ok, Err, refl, ◌^◌, codes, rules}
+use Rattle.std.proofs.Common.{◌≡◌, ℕ, Bool, true, false, cond, nat_lt, List, [], ◌∷◌, ◌++◌, map, Option, Some, Result, Ok, Err, refl, ◌^◌, codes, rules}
 use Rattle.mx_asm.proofs.Words.{cond_both, AllByRecursion, result_unwrap_or, all-both, Value, Wait, WaitKind, Item, Load, File, Spec, Pre, Post, Stab, IsMiddle, MayFollow, SpecsEnd, Valid, Answer, Placed, NotMultiple, StatementTree, AsmFault, Refused, Head, Sight, outline, relative_fix, pure_fix, fix_of, with_fix, fixes, moved, onto, fix_items, byte_items, with_bytes, sight_items, sight_head, items_from, opening, AreFit, assembled_with, assembled_lines}
 use Rattle.mx_asm.specs.Whole.{Line as Text}
 

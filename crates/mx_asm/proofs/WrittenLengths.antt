@@ -1,5 +1,5 @@
 -- How many bytes items are written as.
-use Rattle.std.proofs.Common.{◌≡◌, ◌<◌, ◌≤◌, ℕ, ◌+◌, ◌-◌, ◌*◌, ◌/◌, ◌%◌, ◌^◌, List, [], ◌∷◌, ◌++◌, length, map, arith, ap, ◌∙◌, length-append, ◌==◌}
+use Rattle.std.proofs.Common.{◌≡◌, ◌≤◌, ℕ, ◌+◌, ◌*◌, ◌/◌, ◌^◌, List, [], ◌∷◌, ◌++◌, length, map, arith, ap, ◌∙◌, length-append, ◌==◌}
 use Rattle.mx_asm.proofs.Words.{cond_both, flat_map-append, tetra_from_bytes, tetras_of, Item, Load, loaded, bytes_of, written, covered}
 use Rattle.std.proofs.lemmas.List.Concat.{flat_map-cons}
 use Rattle.mx_asm.proofs.MeaningPieces.{covered-length}
