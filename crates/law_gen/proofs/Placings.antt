@@ -63,38 +63,27 @@ module _ (symbols : List Symbol) (backs : List Value) (at : ℕ) (place : IsPlac
 abbrev pub Tetras : Known → ℕ → List Tree → ℕ → Option (Awaited × WaitKind) → Type 0
 Tetras k code operands word wait = form_by no_targets k (shapes_of code) code operands ≡ Ok (record { word = word; wait = wait })
 
+-- the tetras of statements without a name
+pub record PlainTetras (k : Known) : Type 0 where
+  pub main-tetra : Tetras k 0xe3 (reg 0 ∷ number 0 ∷ []) (tetra_wyde 0xe3 0 0) None
+  pub sum-tetra : Tetras k 0x22 (reg 0 ∷ reg 0 ∷ reg 1 ∷ []) (tetra_xyz 0x22 0 0 1) None
+  pub more-tetra : Tetras k 0x22 (reg 0 ∷ reg 0 ∷ reg 2 ∷ []) (tetra_xyz 0x22 0 0 2) None
+  pub less-tetra : Tetras k 0x26 (reg 3 ∷ reg 0 ∷ number 1 ∷ []) (tetra_xyz 0x27 3 0 1) None
+  pub pop-tetra : Tetras k 0xf8 (number 1 ∷ number 0 ∷ []) (tetra_wyde 0xf8 1 0) None
+  pub skip-tetra : Tetras k 0x42 (reg 0 ∷ ahead 1 ∷ []) (tetra_wyde 0x42 0 0) (Some (awaited.Local 1, Near))
+
+pub plain-tetras : (k : Known) → PlainTetras k
+unfolding shapes_of shape_spans
+plain-tetras k = record { main-tetra = refl; sum-tetra = refl; more-tetra = refl; less-tetra = refl; pop-tetra = refl; skip-tetra = refl }
+
 module _ (k : Known) where
   pub setl-tetra : (n : ℕ) → n < 2 ^ 16 → Tetras k 0xe3 (reg 2 ∷ number n ∷ []) (tetra_wyde 0xe3 2 n) None
   unfolding shapes_of shape_spans
   setl-tetra n low = rw (lt-ltb n (2 ^ 16) low) refl
 
-  pub main-tetra : Tetras k 0xe3 (reg 0 ∷ number 0 ∷ []) (tetra_wyde 0xe3 0 0) None
-  unfolding shapes_of shape_spans
-  main-tetra = refl
-
   pub incl-tetra : (n : ℕ) → n < 2 ^ 16 → Tetras k 0xe7 (reg 0 ∷ number n ∷ []) (tetra_wyde 0xe7 0 n) None
   unfolding shapes_of shape_spans
   incl-tetra n low = rw (lt-ltb n (2 ^ 16) low) refl
-
-  pub sum-tetra : Tetras k 0x22 (reg 0 ∷ reg 0 ∷ reg 1 ∷ []) (tetra_xyz 0x22 0 0 1) None
-  unfolding shapes_of shape_spans
-  sum-tetra = refl
-
-  pub more-tetra : Tetras k 0x22 (reg 0 ∷ reg 0 ∷ reg 2 ∷ []) (tetra_xyz 0x22 0 0 2) None
-  unfolding shapes_of shape_spans
-  more-tetra = refl
-
-  pub less-tetra : Tetras k 0x26 (reg 3 ∷ reg 0 ∷ number 1 ∷ []) (tetra_xyz 0x27 3 0 1) None
-  unfolding shapes_of shape_spans
-  less-tetra = refl
-
-  pub pop-tetra : Tetras k 0xf8 (number 1 ∷ number 0 ∷ []) (tetra_wyde 0xf8 1 0) None
-  unfolding shapes_of shape_spans
-  pop-tetra = refl
-
-  pub skip-tetra : Tetras k 0x42 (reg 0 ∷ ahead 1 ∷ []) (tetra_wyde 0x42 0 0) (Some (awaited.Local 1, Near))
-  unfolding shapes_of shape_spans
-  skip-tetra = refl
 
   -- a symbol that is not known yet
   future : (text full : List ℕ) → symbol_form k.names text ≡ Ok full → value_of_name k.names full ≡ None → reference_of k (name text) ≡ Some (awaited.Name full)

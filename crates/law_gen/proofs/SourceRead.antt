@@ -65,57 +65,25 @@ labelled line label op_name ops as_label op trees labels by good label_is names 
 
 -- ---- the operations
 
-loc-named : operation_of (codes "LOC") ≡ Some (Pseudo Loc)
-unfolding operation_of operations pseudo_operations chosen_operations opcode_names opcode_rows
-loc-named = refl
+-- what the names of the operations stand for
+record Named : Type 0 where
+  loc-op : operation_of (codes "LOC") ≡ Some (Pseudo Loc)
+  setl-op : operation_of (codes "SETL") ≡ Some (Code 0xe3)
+  pushj-op : operation_of (codes "PUSHJ") ≡ Some (Code 0xf2)
+  addu-op : operation_of (codes "ADDU") ≡ Some (Code 0x22)
+  bod-op : operation_of (codes "BOD") ≡ Some (Code 0x46)
+  incl-op : operation_of (codes "INCL") ≡ Some (Code 0xe7)
+  set-op : operation_of (codes "SET") ≡ Some Set
+  trap-op : operation_of (codes "TRAP") ≡ Some (Code 0)
+  bz-op : operation_of (codes "BZ") ≡ Some (Code 0x42)
+  get-op : operation_of (codes "GET") ≡ Some (Code 0xfe)
+  subu-op : operation_of (codes "SUBU") ≡ Some (Code 0x26)
+  put-op : operation_of (codes "PUT") ≡ Some (Code 0xf6)
+  pop-op : operation_of (codes "POP") ≡ Some (Code 0xf8)
 
-setl-named : operation_of (codes "SETL") ≡ Some (Code 0xe3)
+named : Named
 unfolding operation_of operations pseudo_operations chosen_operations opcode_names opcode_rows
-setl-named = refl
-
-pushj-named : operation_of (codes "PUSHJ") ≡ Some (Code 0xf2)
-unfolding operation_of operations pseudo_operations chosen_operations opcode_names opcode_rows
-pushj-named = refl
-
-addu-named : operation_of (codes "ADDU") ≡ Some (Code 0x22)
-unfolding operation_of operations pseudo_operations chosen_operations opcode_names opcode_rows
-addu-named = refl
-
-bod-named : operation_of (codes "BOD") ≡ Some (Code 0x46)
-unfolding operation_of operations pseudo_operations chosen_operations opcode_names opcode_rows
-bod-named = refl
-
-incl-named : operation_of (codes "INCL") ≡ Some (Code 0xe7)
-unfolding operation_of operations pseudo_operations chosen_operations opcode_names opcode_rows
-incl-named = refl
-
-set-named : operation_of (codes "SET") ≡ Some Set
-unfolding operation_of operations pseudo_operations chosen_operations opcode_names opcode_rows
-set-named = refl
-
-trap-named : operation_of (codes "TRAP") ≡ Some (Code 0)
-unfolding operation_of operations pseudo_operations chosen_operations opcode_names opcode_rows
-trap-named = refl
-
-bz-named : operation_of (codes "BZ") ≡ Some (Code 0x42)
-unfolding operation_of operations pseudo_operations chosen_operations opcode_names opcode_rows
-bz-named = refl
-
-get-named : operation_of (codes "GET") ≡ Some (Code 0xfe)
-unfolding operation_of operations pseudo_operations chosen_operations opcode_names opcode_rows
-get-named = refl
-
-subu-named : operation_of (codes "SUBU") ≡ Some (Code 0x26)
-unfolding operation_of operations pseudo_operations chosen_operations opcode_names opcode_rows
-subu-named = refl
-
-put-named : operation_of (codes "PUT") ≡ Some (Code 0xf6)
-unfolding operation_of operations pseudo_operations chosen_operations opcode_names opcode_rows
-put-named = refl
-
-pop-named : operation_of (codes "POP") ≡ Some (Code 0xf8)
-unfolding operation_of operations pseudo_operations chosen_operations opcode_names opcode_rows
-pop-named = refl
+named = record { loc-op = refl; setl-op = refl; pushj-op = refl; addu-op = refl; bod-op = refl; incl-op = refl; set-op = refl; trap-op = refl; bz-op = refl; get-op = refl; subu-op = refl; put-op = refl; pop-op = refl }
 
 -- ---- the lines
 
@@ -127,100 +95,84 @@ moved m n ls ss is h = subst (λ k. AreLines k ls ss) is h
 
 module _ (line : ℕ) where
   call-line : IsLine (line_with [] (codes "PUSHJ") (codes "$1,Rec")) (stated line None (Code 0xf2) (reg 1 ∷ name procedure_name ∷ []))
-  call-line = unlabelled line (codes "PUSHJ") (codes "$1,Rec") (Code 0xf2) (reg 1 ∷ name procedure_name ∷ []) refl (omega arith) (refl, refl) (omega arith) (ap (operation_with false) pushj-named) call-read
+  call-line = unlabelled line (codes "PUSHJ") (codes "$1,Rec") (Code 0xf2) (reg 1 ∷ name procedure_name ∷ []) refl (omega arith) (refl, refl) (omega arith) (ap (operation_with false) named.pushj-op) call-read
 
   sum-line : IsLine (line_with [] (codes "ADDU") (codes "$0,$0,$1")) (stated line None (Code 0x22) (reg 0 ∷ reg 0 ∷ reg 1 ∷ []))
-  sum-line = unlabelled line (codes "ADDU") (codes "$0,$0,$1") (Code 0x22) (reg 0 ∷ reg 0 ∷ reg 1 ∷ []) refl (omega arith) (refl, refl) (omega arith) (ap (operation_with false) addu-named) sum-read
+  sum-line = unlabelled line (codes "ADDU") (codes "$0,$0,$1") (Code 0x22) (reg 0 ∷ reg 0 ∷ reg 1 ∷ []) refl (omega arith) (refl, refl) (omega arith) (ap (operation_with false) named.addu-op) sum-read
 
   setl-line : (b deep : ℕ) → b < 2 ^ 16 → deep < 2 ^ 16 → IsLine (line_with (block_name b) (codes "SETL") (codes "$2," ++ decimal deep)) (stated line (Some (Name (block_name b))) (Code 0xe3) (reg 2 ∷ number deep ∷ []))
   setl-line b deep few low =
       labelled line (block_name b) (codes "SETL") (codes "$2," ++ decimal deep) (Name (block_name b)) (Code 0xe3) (reg 2 ∷ number deep ∷ [])
       (decimal-names b (omega (arith, few))) (omega arith) refl refl refl (omega arith) (decimal-clean deep (omega (arith, low)))
-      (omega (arith, short-digits b few, short-digits deep low)) (ap (operation_with true) setl-named) (setl-read deep (omega (arith, low)))
+      (omega (arith, short-digits b few, short-digits deep low)) (ap (operation_with true) named.setl-op) (setl-read deep (omega (arith, low)))
 
   bod-line : (b : ℕ) → b < 2 ^ 16 → IsLine (line_with [] (codes "BOD") (codes "$0,B" ++ decimal b)) (stated line None (Code 0x46) (reg 0 ∷ name (block_name b) ∷ []))
   bod-line b few =
       unlabelled line (codes "BOD") (codes "$0,B" ++ decimal b) (Code 0x46) (reg 0 ∷ name (block_name b) ∷ []) refl (omega arith) (decimal-clean b (omega (arith, few)))
-      (omega (arith, short-digits b few)) (ap (operation_with false) bod-named) (bod-read b (omega (arith, few)))
+      (omega (arith, short-digits b few)) (ap (operation_with false) named.bod-op) (bod-read b (omega (arith, few)))
 
   incl-line : (more : ℕ) → more < 2 ^ 16 → IsLine (line_with [] (codes "INCL") (codes "$0," ++ decimal more)) (stated line None (Code 0xe7) (reg 0 ∷ number more ∷ []))
   incl-line more low =
       unlabelled line (codes "INCL") (codes "$0," ++ decimal more) (Code 0xe7) (reg 0 ∷ number more ∷ []) refl (omega arith) (decimal-clean more (omega (arith, low)))
-      (omega (arith, short-digits more low)) (ap (operation_with false) incl-named) (incl-read more (omega (arith, low)))
+      (omega (arith, short-digits more low)) (ap (operation_with false) named.incl-op) (incl-read more (omega (arith, low)))
 
   set-line : (b : ℕ) → b < 2 ^ 16 → IsLine (line_with (block_name b) (codes "SET") (codes "$255,$0")) (stated line (Some (Name (block_name b))) Set (reg 255 ∷ reg 0 ∷ []))
   set-line b few =
       labelled line (block_name b) (codes "SET") (codes "$255,$0") (Name (block_name b)) Set (reg 255 ∷ reg 0 ∷ [])
       (decimal-names b (omega (arith, few))) (omega arith) refl refl refl (omega arith) (refl, refl)
-      (omega (arith, short-digits b few)) (ap (operation_with true) set-named) set-read
+      (omega (arith, short-digits b few)) (ap (operation_with true) named.set-op) set-read
 
   trap-line : IsLine (line_with [] (codes "TRAP") (codes "0,Halt,0")) (stated line None (Code 0) (number 0 ∷ name (codes "Halt") ∷ number 0 ∷ []))
-  trap-line = unlabelled line (codes "TRAP") (codes "0,Halt,0") (Code 0) (number 0 ∷ name (codes "Halt") ∷ number 0 ∷ []) refl (omega arith) (refl, refl) (omega arith) (ap (operation_with false) trap-named) trap-read
+  trap-line = unlabelled line (codes "TRAP") (codes "0,Halt,0") (Code 0) (number 0 ∷ name (codes "Halt") ∷ number 0 ∷ []) refl (omega arith) (refl, refl) (omega arith) (ap (operation_with false) named.trap-op) trap-read
 
   skip-line : IsLine (line_with (codes "Rec") (codes "BZ") (codes "$0,1F")) (stated line (Some (Name procedure_name)) (Code 0x42) (reg 0 ∷ ahead 1 ∷ []))
-  skip-line = labelled line (codes "Rec") (codes "BZ") (codes "$0,1F") (Name procedure_name) (Code 0x42) (reg 0 ∷ ahead 1 ∷ []) refl (omega arith) refl refl refl (omega arith) (refl, refl) (omega arith) (ap (operation_with true) bz-named) skip-read
+  skip-line = labelled line (codes "Rec") (codes "BZ") (codes "$0,1F") (Name procedure_name) (Code 0x42) (reg 0 ∷ ahead 1 ∷ []) refl (omega arith) refl refl refl (omega arith) (refl, refl) (omega arith) (ap (operation_with true) named.bz-op) skip-read
 
   get-line : IsLine (line_with [] (codes "GET") (codes "$1,rJ")) (stated line None (Code 0xfe) (reg 1 ∷ name (codes "rJ") ∷ []))
-  get-line = unlabelled line (codes "GET") (codes "$1,rJ") (Code 0xfe) (reg 1 ∷ name (codes "rJ") ∷ []) refl (omega arith) (refl, refl) (omega arith) (ap (operation_with false) get-named) get-read
+  get-line = unlabelled line (codes "GET") (codes "$1,rJ") (Code 0xfe) (reg 1 ∷ name (codes "rJ") ∷ []) refl (omega arith) (refl, refl) (omega arith) (ap (operation_with false) named.get-op) get-read
 
   less-line : IsLine (line_with [] (codes "SUBU") (codes "$3,$0,1")) (stated line None (Code 0x26) (reg 3 ∷ reg 0 ∷ number 1 ∷ []))
-  less-line = unlabelled line (codes "SUBU") (codes "$3,$0,1") (Code 0x26) (reg 3 ∷ reg 0 ∷ number 1 ∷ []) refl (omega arith) (refl, refl) (omega arith) (ap (operation_with false) subu-named) less-read
+  less-line = unlabelled line (codes "SUBU") (codes "$3,$0,1") (Code 0x26) (reg 3 ∷ reg 0 ∷ number 1 ∷ []) refl (omega arith) (refl, refl) (omega arith) (ap (operation_with false) named.subu-op) less-read
 
   again-line : IsLine (line_with [] (codes "PUSHJ") (codes "$2,Rec")) (stated line None (Code 0xf2) (reg 2 ∷ name procedure_name ∷ []))
-  again-line = unlabelled line (codes "PUSHJ") (codes "$2,Rec") (Code 0xf2) (reg 2 ∷ name procedure_name ∷ []) refl (omega arith) (refl, refl) (omega arith) (ap (operation_with false) pushj-named) again-read
+  again-line = unlabelled line (codes "PUSHJ") (codes "$2,Rec") (Code 0xf2) (reg 2 ∷ name procedure_name ∷ []) refl (omega arith) (refl, refl) (omega arith) (ap (operation_with false) named.pushj-op) again-read
 
   more-line : IsLine (line_with [] (codes "ADDU") (codes "$0,$0,$2")) (stated line None (Code 0x22) (reg 0 ∷ reg 0 ∷ reg 2 ∷ []))
-  more-line = unlabelled line (codes "ADDU") (codes "$0,$0,$2") (Code 0x22) (reg 0 ∷ reg 0 ∷ reg 2 ∷ []) refl (omega arith) (refl, refl) (omega arith) (ap (operation_with false) addu-named) more-read
+  more-line = unlabelled line (codes "ADDU") (codes "$0,$0,$2") (Code 0x22) (reg 0 ∷ reg 0 ∷ reg 2 ∷ []) refl (omega arith) (refl, refl) (omega arith) (ap (operation_with false) named.addu-op) more-read
 
   put-line : IsLine (line_with [] (codes "PUT") (codes "rJ,$1")) (stated line None (Code 0xf6) (name (codes "rJ") ∷ reg 1 ∷ []))
-  put-line = unlabelled line (codes "PUT") (codes "rJ,$1") (Code 0xf6) (name (codes "rJ") ∷ reg 1 ∷ []) refl (omega arith) (refl, refl) (omega arith) (ap (operation_with false) put-named) put-read
+  put-line = unlabelled line (codes "PUT") (codes "rJ,$1") (Code 0xf6) (name (codes "rJ") ∷ reg 1 ∷ []) refl (omega arith) (refl, refl) (omega arith) (ap (operation_with false) named.put-op) put-read
 
   pop-line : IsLine (line_with [] (codes "POP") (codes "1,0")) (stated line None (Code 0xf8) (number 1 ∷ number 0 ∷ []))
-  pop-line = unlabelled line (codes "POP") (codes "1,0") (Code 0xf8) (number 1 ∷ number 0 ∷ []) refl (omega arith) (refl, refl) (omega arith) (ap (operation_with false) pop-named) pop-read
+  pop-line = unlabelled line (codes "POP") (codes "1,0") (Code 0xf8) (number 1 ∷ number 0 ∷ []) refl (omega arith) (refl, refl) (omega arith) (ap (operation_with false) named.pop-op) pop-read
 
   last-line : IsLine (line_with (codes "1H") (codes "POP") (codes "1,0")) (stated line (Some (Local 1)) (Code 0xf8) (number 1 ∷ number 0 ∷ []))
-  last-line = labelled line (codes "1H") (codes "POP") (codes "1,0") (Local 1) (Code 0xf8) (number 1 ∷ number 0 ∷ []) refl (omega arith) refl refl refl (omega arith) (refl, refl) (omega arith) (ap (operation_with true) pop-named) pop-read
+  last-line = labelled line (codes "1H") (codes "POP") (codes "1,0") (Local 1) (Code 0xf8) (number 1 ∷ number 0 ∷ []) refl (omega arith) refl refl refl (omega arith) (refl, refl) (omega arith) (ap (operation_with true) named.pop-op) pop-read
 
   loc-line : IsLine (line_with [] (codes "LOC") (codes "#100")) (stated line None (Pseudo Loc) (number 0x100 ∷ []))
-  loc-line = unlabelled line (codes "LOC") (codes "#100") (Pseudo Loc) (number 0x100 ∷ []) refl (omega arith) (refl, refl) (omega arith) (ap (operation_with false) loc-named) loc-read
+  loc-line = unlabelled line (codes "LOC") (codes "#100") (Pseudo Loc) (number 0x100 ∷ []) refl (omega arith) (refl, refl) (omega arith) (ap (operation_with false) named.loc-op) loc-read
 
   main-line : IsLine (line_with (codes "Main") (codes "SETL") (codes "$0,0")) (stated line (Some (Name (codes "Main"))) (Code 0xe3) (reg 0 ∷ number 0 ∷ []))
-  main-line = labelled line (codes "Main") (codes "SETL") (codes "$0,0") (Name (codes "Main")) (Code 0xe3) (reg 0 ∷ number 0 ∷ []) refl (omega arith) refl refl refl (omega arith) (refl, refl) (omega arith) (ap (operation_with true) setl-named) main-read
+  main-line = labelled line (codes "Main") (codes "SETL") (codes "$0,0") (Name (codes "Main")) (Code 0xe3) (reg 0 ∷ number 0 ∷ []) refl (omega arith) refl refl refl (omega arith) (refl, refl) (omega arith) (ap (operation_with true) named.setl-op) main-read
 
 -- ---- all lines
 
 procedure-lines : (line n : ℕ) → line ≡ n → AreLines n procedure_lines (procedure_at line)
-procedure-lines line n is = (
-  numbered n _ _ is (skip-line line),
-  (
-    numbered (n + 1) _ _ (omega (arith, is)) (get-line (line + 1)),
-    (
-      numbered (n + 1 + 1) _ _ (omega (arith, is)) (less-line (line + 2)),
-      (
-        numbered (n + 1 + 1 + 1) _ _ (omega (arith, is)) (again-line (line + 3)),
-        (
-          numbered (n + 1 + 1 + 1 + 1) _ _ (omega (arith, is)) (more-line (line + 4)),
-          (
-            numbered (n + 1 + 1 + 1 + 1 + 1) _ _ (omega (arith, is)) (put-line (line + 5)),
-            (
-              numbered (n + 1 + 1 + 1 + 1 + 1 + 1) _ _ (omega (arith, is)) (pop-line (line + 6)),
-              (numbered (n + 1 + 1 + 1 + 1 + 1 + 1 + 1) _ _ (omega (arith, is)) (last-line (line + 7)), tt),
-            ),
-          ),
-        ),
-      ),
-    ),
-  ),
-)
+procedure-lines line n is =
+    let skip = numbered n _ _ is (skip-line line) in
+    let get = numbered (n + 1) _ _ (omega (arith, is)) (get-line (line + 1)) in
+    let less = numbered (n + 1 + 1) _ _ (omega (arith, is)) (less-line (line + 2)) in
+    let again = numbered (n + 1 + 1 + 1) _ _ (omega (arith, is)) (again-line (line + 3)) in
+    let more = numbered (n + 1 + 1 + 1 + 1) _ _ (omega (arith, is)) (more-line (line + 4)) in
+    let put = numbered (n + 1 + 1 + 1 + 1 + 1) _ _ (omega (arith, is)) (put-line (line + 5)) in
+    let pop = numbered (n + 1 + 1 + 1 + 1 + 1 + 1) _ _ (omega (arith, is)) (pop-line (line + 6)) in
+    let last = numbered (n + 1 + 1 + 1 + 1 + 1 + 1 + 1) _ _ (omega (arith, is)) (last-line (line + 7)) in
+    (skip, (get, (less, (again, (more, (put, (pop, (last, tt))))))))
 
 closing-lines : (line b : ℕ) → b < 2 ^ 16 → AreLines line (closing_lines b) (closing_at line b)
-closing-lines line b few = (
-  numbered line _ _ refl (set-line line b few),
-  (
-    numbered (line + 1) _ _ refl (trap-line (line + 1)),
-    procedure-lines (line + 2) (line + 1 + 1) (omega arith),
-  ),
-)
+closing-lines line b few =
+    let trap = numbered (line + 1) _ _ refl (trap-line (line + 1)) in
+    (numbered line _ _ refl (set-line line b few), (trap, procedure-lines (line + 2) (line + 1 + 1) (omega arith)))
 
 -- the numbers that seem random
 pub random-low : (i : ℕ) → random i < 2 ^ 64
@@ -238,22 +190,14 @@ rest-lines : (line b more : ℕ) → b + more ≤ 10000 → AreLines line (rest_
 unfolding rest_lines blocks_at
 rest-lines line b zero few = closing-lines line (b + 1) (omega (arith, few))
 rest-lines line b (suc more) few =
-    let x = random (suc b) in (
-      numbered line _ _ refl (setl-line line (suc b) (depth x) (omega (arith, few)) (depth-low x (random-low (suc b)))),
-      (
-        numbered (line + 1) _ _ refl (call-line (line + 1)),
-        (
-          numbered (line + 1 + 1) _ _ (omega arith) (sum-line (line + 2)),
-          (
-            numbered (line + 1 + 1 + 1) _ _ (omega arith) (bod-line (line + 3) (suc b + 1) (omega (arith, few))),
-            (
-              numbered (line + 1 + 1 + 1 + 1) _ _ (omega arith) (incl-line (line + 4) (increment x) (increment-low x)),
-              moved (line + 5) (line + 1 + 1 + 1 + 1 + 1) _ _ (omega arith) (rest-lines (line + 5) (suc b) more (omega (arith, few))),
-            ),
-          ),
-        ),
-      ),
-    )
+    let x = random (suc b) in
+    let setl = numbered line _ _ refl (setl-line line (suc b) (depth x) (omega (arith, few)) (depth-low x (random-low (suc b)))) in
+    let call = numbered (line + 1) _ _ refl (call-line (line + 1)) in
+    let sum = numbered (line + 1 + 1) _ _ (omega arith) (sum-line (line + 2)) in
+    let bod = numbered (line + 1 + 1 + 1) _ _ (omega arith) (bod-line (line + 3) (suc b + 1) (omega (arith, few))) in
+    let incl = numbered (line + 1 + 1 + 1 + 1) _ _ (omega arith) (incl-line (line + 4) (increment x) (increment-low x)) in
+    let rest = rest-lines (line + 5) (suc b) more (omega (arith, few)) in
+    (setl, (call, (sum, (bod, (incl, moved (line + 5) (line + 1 + 1 + 1 + 1 + 1) _ _ (omega arith) rest)))))
 
 rest-count : (b more : ℕ) → length (rest_lines b more) ≡ 5 * more + 10
 unfolding rest_lines

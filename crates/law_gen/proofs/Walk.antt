@@ -1,12 +1,13 @@
 -- The statements of the program are good, and what is known at the end.
-use Rattle.std.proofs.Common.{◌≡◌, ℕ, zero, suc, ◌+◌, ◌*◌, ◌%◌, ◌^◌, ◌<◌, ◌≤◌, true, List, [], ◌∷◌, length, codes, fold, replicate, slice_set, None, Some, refl, sym, ap, ◌∙◌, arith, subst, ⊎_elim, is_some}
-use Rattle.law_gen.proofs.Words.{AllByRecursion, cases_lt, Symbol, Value, Pure, Near, number, name, ahead, Pseudo, Code, Set, Loc, NameTable, value_in, value_of_name, Name, Local, Known, tetra_xyz, tetra_wyde, StatementTree, known_after, nothing_known, sights_from, next_local, unreferenced, depth, increment, random, stated, reg, block_name, procedure_name, block_before, closing_at, blocks_at, program}
+use Rattle.std.proofs.Common.{◌≡◌, ℕ, zero, suc, ◌+◌, ◌*◌, ◌%◌, ◌^◌, ◌<◌, ◌≤◌, true, List, [], ◌∷◌, length, codes, fold, replicate, slice_set, Option, None, Some, refl, sym, ap, ◌∙◌, arith, subst, ⊎_elim, is_some}
+use Rattle.law_gen.proofs.Words.{AllByRecursion, cases_lt, Symbol, Value, Pure, Awaited, Near, Tree, number, name, ahead, Pseudo, Code, Set, Loc, NameTable, value_in, value_of_name, Name, Local, Known, tetra_xyz, tetra_wyde, StatementTree, Label, known_behind, known_after, nothing_known, sights_from, next_local, unreferenced, depth, increment, random, stated, reg, block_name, procedure_name, block_before, closing_at, blocks_at, program}
 use Rattle.mx_word.specs.declared.waits.Awaited.TheVariants as awaited
+use Rattle.mx_word.specs.declared.waits.WaitKind.{WaitKind}
 use Rattle.mx_stmt.specs.declared.placed.Effect.TheVariants as effect
 use Rattle.law_gen.proofs.SourceRead.{random-low, depth-low, increment-low}
 use Rattle.law_gen.proofs.Refusals.{AreGood, Leads, Ends, ends-none, ends-then, good-then}
 use Rattle.law_gen.proofs.Tries.{IsLight}
-use Rattle.law_gen.proofs.Placings.{known, placing, IsPlace, Tetras, code-placed, set-placed, setl-tetra, main-tetra, incl-tetra, sum-tetra, more-tetra, less-tetra, pop-tetra, skip-tetra, call-tetra, bod-tetra, get-tetra, put-tetra, trap-tetra, again-tetra}
+use Rattle.law_gen.proofs.Placings.{known, placing, IsPlace, Tetras, code-placed, set-placed, plain-tetras, setl-tetra, incl-tetra, call-tetra, bod-tetra, get-tetra, put-tetra, trap-tetra, again-tetra}
 use Rattle.law_gen.proofs.Names.{block_full, main_full, procedure_full, link_full, halt_full, block-free, procedure-free, main-free, link-predefined, halt-predefined, value-none, value-some, value-predefined, block-form, label-new, with_one, other-value, own-value, still-there, one-light, one-count, Stands, stands-next, first_symbols, stands-first}
 use Rattle.law_gen.proofs.Steps.{good-end, plain-good, waiting-good, local-later, local-here}
 
@@ -31,6 +32,12 @@ at-is at (suc j) = omega (arith, at-is at j)
 place-of : (at : ℕ) → at % 4 ≡ 0 → at + 60 ≤ 2 ^ 18 → (j : ℕ) → j ≤ 10 → IsPlace (at_of at j)
 place-of at whole low j few = let e = at-is at j in record { whole = omega (arith, whole, e); low = omega (arith, low, few, e) }
 
+-- a coded statement by its tetra
+code-leads : (symbols : List Symbol) (backs : List Value) (at : ℕ) → IsPlace at → (line : ℕ) (label : Option Label) (code : ℕ) (operands : List Tree) (word : ℕ) (wait : Option (Awaited × WaitKind)) (k : Known) →
+    Tetras (known symbols backs at) code operands word wait → known_behind (known symbols backs at) (stated line label (Code code) operands) (placing line at label word wait) ≡ k →
+    Leads (known symbols backs at) (stated line label (Code code) operands) (placing line at label word wait) k
+code-leads symbols backs at place line label code operands word wait k tetra behind = record { placed = code-placed symbols backs at place line label code operands word wait tetra; behind = behind }
+
 -- ---- a block
 
 module _ (b c : ℕ) (is : c ≡ b + 1) (few : c ≤ 10001) (symbols : List Symbol) (stands : Stands b symbols) (at : ℕ) (whole : at % 4 ≡ 0) (low : at + 60 ≤ 2 ^ 18) where
@@ -48,28 +55,23 @@ module _ (b c : ℕ) (is : c ≡ b + 1) (few : c ≤ 10001) (symbols : List Symb
 
   module _ (line deep more : ℕ) (deep_low : deep < 2 ^ 16) (more_low : more < 2 ^ 16) where
     lead0 : Leads (known symbols no_backs at) (stated line (Some (Name (block_name c))) (Code 0xe3) (reg 2 ∷ number deep ∷ [])) (placing line at (Some (Name (block_name c))) (tetra_wyde 0xe3 2 deep) None) (known grown no_backs (at + 4))
-    lead0 = record { placed = code-placed symbols no_backs at (place 0 (omega arith)) line (Some (Name (block_name c))) 0xe3 (reg 2 ∷ number deep ∷ []) (tetra_wyde 0xe3 2 deep) None (setl-tetra (known symbols no_backs at) deep deep_low); behind = refl }
+    lead0 = code-leads symbols no_backs at (place 0 (omega arith)) _ _ _ _ _ _ _ (setl-tetra (known symbols no_backs at) deep deep_low) refl
 
     lead1 : Leads (known grown no_backs (at + 4)) (stated (line + 1) None (Code 0xf2) (reg 1 ∷ name procedure_name ∷ [])) (placing (line + 1) (at + 4) None (tetra_wyde 0xf2 1 0) (Some (awaited.Name procedure_full, Near))) (known grown no_backs (at + 4 + 4))
-    lead1 = record {
-      placed = code-placed grown no_backs (at + 4) (place 1 (omega arith)) (line + 1) None 0xf2 (reg 1 ∷ name procedure_name ∷ []) (tetra_wyde 0xf2 1 0) (Some (awaited.Name procedure_full, Near))
-          (call-tetra (known grown no_backs (at + 4)) procedure_name procedure_full refl (value-none grown no_backs (at + 4) procedure_full grown-stands.procedure procedure-free));
-      behind = refl;
-    }
+    lead1 =
+        code-leads grown no_backs (at + 4) (place 1 (omega arith)) _ _ _ _ _ _ _
+        (call-tetra (known grown no_backs (at + 4)) procedure_name procedure_full refl (value-none grown no_backs (at + 4) procedure_full grown-stands.procedure procedure-free)) refl
 
     lead2 : Leads (known grown no_backs (at + 4 + 4)) (stated (line + 2) None (Code 0x22) (reg 0 ∷ reg 0 ∷ reg 1 ∷ [])) (placing (line + 2) (at + 4 + 4) None (tetra_xyz 0x22 0 0 1) None) (known grown no_backs (at + 4 + 4 + 4))
-    lead2 = record { placed = code-placed grown no_backs (at + 4 + 4) (place 2 (omega arith)) (line + 2) None 0x22 (reg 0 ∷ reg 0 ∷ reg 1 ∷ []) (tetra_xyz 0x22 0 0 1) None (sum-tetra (known grown no_backs (at + 4 + 4))); behind = refl }
+    lead2 = code-leads grown no_backs (at + 4 + 4) (place 2 (omega arith)) _ _ _ _ _ _ _ (plain-tetras (known grown no_backs (at + 4 + 4))).sum-tetra refl
 
     lead3 : Leads (known grown no_backs (at + 4 + 4 + 4)) (stated (line + 3) None (Code 0x46) (reg 0 ∷ name (block_name (c + 1)) ∷ [])) (placing (line + 3) (at + 4 + 4 + 4) None (tetra_wyde 0x46 0 0) (Some (awaited.Name (block_full (c + 1)), Near))) (known grown no_backs (at + 4 + 4 + 4 + 4))
-    lead3 = record {
-      placed = code-placed grown no_backs (at + 4 + 4 + 4) (place 3 (omega arith)) (line + 3) None 0x46 (reg 0 ∷ name (block_name (c + 1)) ∷ []) (tetra_wyde 0x46 0 0) (Some (awaited.Name (block_full (c + 1)), Near))
-          (bod-tetra (known grown no_backs (at + 4 + 4 + 4)) (block_name (c + 1)) (block_full (c + 1)) (block-form grown no_backs (at + 4 + 4 + 4) (c + 1) (omega (arith, few)))
-          (value-none grown no_backs (at + 4 + 4 + 4) (block_full (c + 1)) (grown-stands.next (c + 1) (omega arith) (omega (arith, few))) (block-free (c + 1) (omega (arith, few)))));
-      behind = refl;
-    }
+    lead3 =
+        code-leads grown no_backs (at + 4 + 4 + 4) (place 3 (omega arith)) _ _ _ _ _ _ _
+        (bod-tetra (known grown no_backs (at + 4 + 4 + 4)) (block_name (c + 1)) (block_full (c + 1)) (block-form grown no_backs (at + 4 + 4 + 4) (c + 1) (omega (arith, few))) (value-none grown no_backs (at + 4 + 4 + 4) (block_full (c + 1)) (grown-stands.next (c + 1) (omega arith) (omega (arith, few))) (block-free (c + 1) (omega (arith, few))))) refl
 
     lead4 : Leads (known grown no_backs (at + 4 + 4 + 4 + 4)) (stated (line + 4) None (Code 0xe7) (reg 0 ∷ number more ∷ [])) (placing (line + 4) (at + 4 + 4 + 4 + 4) None (tetra_wyde 0xe7 0 more) None) (known grown no_backs (at + 4 + 4 + 4 + 4 + 4))
-    lead4 = record { placed = code-placed grown no_backs (at + 4 + 4 + 4 + 4) (place 4 (omega arith)) (line + 4) None 0xe7 (reg 0 ∷ number more ∷ []) (tetra_wyde 0xe7 0 more) None (incl-tetra (known grown no_backs (at + 4 + 4 + 4 + 4)) more more_low); behind = refl }
+    lead4 = code-leads grown no_backs (at + 4 + 4 + 4 + 4) (place 4 (omega arith)) _ _ _ _ _ _ _ (incl-tetra (known grown no_backs (at + 4 + 4 + 4 + 4)) more more_low) refl
 
     pub block-ends : (later : List StatementTree) (end : Known) → Ends (known grown no_backs (at + 4 + 4 + 4 + 4 + 4)) later end → Ends (known symbols no_backs at) (block_before line c deep more later) end
     block-ends later end rest =
@@ -132,24 +134,20 @@ module _ (b c : ℕ) (is : c ≡ b + 1) (few : c ≤ 10001) (symbols : List Symb
   end0 = record { placed = set-placed symbols no_backs at (lies 0 (omega arith)) line (Some (Name (block_name c))); behind = refl }
 
   end1 : Leads (known last no_backs (to 1)) (stated (line + 1) None (Code 0) (number 0 ∷ name (codes "Halt") ∷ number 0 ∷ [])) (placing (line + 1) (to 1) None (tetra_xyz 0 0 0 0) None) (known last no_backs (to 2))
-  end1 = record {
-    placed = code-placed last no_backs (to 1) (lies 1 (omega arith)) (line + 1) None 0 (number 0 ∷ name (codes "Halt") ∷ number 0 ∷ []) (tetra_xyz 0 0 0 0) None
-        (trap-tetra (known last no_backs (to 1)) (codes "Halt") halt_full refl (value-predefined last no_backs (to 1) halt_full 0 last-stands.halt halt-predefined));
-    behind = refl;
-  }
+  end1 =
+      code-leads last no_backs (to 1) (lies 1 (omega arith)) _ _ _ _ _ _ _
+      (trap-tetra (known last no_backs (to 1)) (codes "Halt") halt_full refl (value-predefined last no_backs (to 1) halt_full 0 last-stands.halt halt-predefined)) refl
 
   end2 : Leads (known last no_backs (to 2)) (stated (line + 2) (Some (Name procedure_name)) (Code 0x42) (reg 0 ∷ ahead 1 ∷ [])) (placing (line + 2) (to 2) (Some (Name procedure_name)) (tetra_wyde 0x42 0 0) (Some (awaited.Local 1, Near))) (known all no_backs (to 3))
-  end2 = record { placed = code-placed last no_backs (to 2) (lies 2 (omega arith)) (line + 2) (Some (Name procedure_name)) 0x42 (reg 0 ∷ ahead 1 ∷ []) (tetra_wyde 0x42 0 0) (Some (awaited.Local 1, Near)) (skip-tetra (known last no_backs (to 2))); behind = refl }
+  end2 = code-leads last no_backs (to 2) (lies 2 (omega arith)) _ _ _ _ _ _ _ (plain-tetras (known last no_backs (to 2))).skip-tetra refl
 
   end3 : Leads (known all no_backs (to 3)) (stated (line + 2 + 1) None (Code 0xfe) (reg 1 ∷ name (codes "rJ") ∷ [])) (placing (line + 2 + 1) (to 3) None (tetra_xyz 0xfe 1 0 4) None) (known all no_backs (to 4))
-  end3 = record {
-    placed = code-placed all no_backs (to 3) (lies 3 (omega arith)) (line + 2 + 1) None 0xfe (reg 1 ∷ name (codes "rJ") ∷ []) (tetra_xyz 0xfe 1 0 4) None
-        (get-tetra (known all no_backs (to 3)) (codes "rJ") link_full refl (value-predefined all no_backs (to 3) link_full 4 link-none link-predefined));
-    behind = refl;
-  }
+  end3 =
+      code-leads all no_backs (to 3) (lies 3 (omega arith)) _ _ _ _ _ _ _
+      (get-tetra (known all no_backs (to 3)) (codes "rJ") link_full refl (value-predefined all no_backs (to 3) link_full 4 link-none link-predefined)) refl
 
   end4 : Leads (known all no_backs (to 4)) (stated (line + 2 + 2) None (Code 0x26) (reg 3 ∷ reg 0 ∷ number 1 ∷ [])) (placing (line + 2 + 2) (to 4) None (tetra_xyz 0x27 3 0 1) None) (known all no_backs (to 5))
-  end4 = record { placed = code-placed all no_backs (to 4) (lies 4 (omega arith)) (line + 2 + 2) None 0x26 (reg 3 ∷ reg 0 ∷ number 1 ∷ []) (tetra_xyz 0x27 3 0 1) None (less-tetra (known all no_backs (to 4))); behind = refl }
+  end4 = code-leads all no_backs (to 4) (lies 4 (omega arith)) _ _ _ _ _ _ _ (plain-tetras (known all no_backs (to 4))).less-tetra refl
 
   again : (word : ℕ) × (Tetras (known all no_backs (to 5)) 0xf2 (reg 2 ∷ name procedure_name ∷ []) word None)
   again =
@@ -157,23 +155,21 @@ module _ (b c : ℕ) (is : c ≡ b + 1) (few : c ≤ 10001) (symbols : List Symb
       (omega (arith, whole)) (omega (arith, whole)) (omega (arith, low)) (omega (arith, low))
 
   end5 : Leads (known all no_backs (to 5)) (stated (line + 2 + 3) None (Code 0xf2) (reg 2 ∷ name procedure_name ∷ [])) (placing (line + 2 + 3) (to 5) None again.0 None) (known all no_backs (to 6))
-  end5 = record { placed = code-placed all no_backs (to 5) (lies 5 (omega arith)) (line + 2 + 3) None 0xf2 (reg 2 ∷ name procedure_name ∷ []) again.0 None again.1; behind = refl }
+  end5 = code-leads all no_backs (to 5) (lies 5 (omega arith)) _ _ _ _ _ _ _ again.1 refl
 
   end6 : Leads (known all no_backs (to 6)) (stated (line + 2 + 4) None (Code 0x22) (reg 0 ∷ reg 0 ∷ reg 2 ∷ [])) (placing (line + 2 + 4) (to 6) None (tetra_xyz 0x22 0 0 2) None) (known all no_backs (to 7))
-  end6 = record { placed = code-placed all no_backs (to 6) (lies 6 (omega arith)) (line + 2 + 4) None 0x22 (reg 0 ∷ reg 0 ∷ reg 2 ∷ []) (tetra_xyz 0x22 0 0 2) None (more-tetra (known all no_backs (to 6))); behind = refl }
+  end6 = code-leads all no_backs (to 6) (lies 6 (omega arith)) _ _ _ _ _ _ _ (plain-tetras (known all no_backs (to 6))).more-tetra refl
 
   end7 : Leads (known all no_backs (to 7)) (stated (line + 2 + 5) None (Code 0xf6) (name (codes "rJ") ∷ reg 1 ∷ [])) (placing (line + 2 + 5) (to 7) None (tetra_xyz 0xf6 4 0 1) None) (known all no_backs (to 8))
-  end7 = record {
-    placed = code-placed all no_backs (to 7) (lies 7 (omega arith)) (line + 2 + 5) None 0xf6 (name (codes "rJ") ∷ reg 1 ∷ []) (tetra_xyz 0xf6 4 0 1) None
-        (put-tetra (known all no_backs (to 7)) (codes "rJ") link_full refl (value-predefined all no_backs (to 7) link_full 4 link-none link-predefined));
-    behind = refl;
-  }
+  end7 =
+      code-leads all no_backs (to 7) (lies 7 (omega arith)) _ _ _ _ _ _ _
+      (put-tetra (known all no_backs (to 7)) (codes "rJ") link_full refl (value-predefined all no_backs (to 7) link_full 4 link-none link-predefined)) refl
 
   end8 : Leads (known all no_backs (to 8)) (stated (line + 2 + 6) None (Code 0xf8) (number 1 ∷ number 0 ∷ [])) (placing (line + 2 + 6) (to 8) None (tetra_wyde 0xf8 1 0) None) (known all no_backs (to 9))
-  end8 = record { placed = code-placed all no_backs (to 8) (lies 8 (omega arith)) (line + 2 + 6) None 0xf8 (number 1 ∷ number 0 ∷ []) (tetra_wyde 0xf8 1 0) None (pop-tetra (known all no_backs (to 8))); behind = refl }
+  end8 = code-leads all no_backs (to 8) (lies 8 (omega arith)) _ _ _ _ _ _ _ (plain-tetras (known all no_backs (to 8))).pop-tetra refl
 
   end9 : Leads (known all no_backs (to 9)) (stated (line + 2 + 7) (Some (Local 1)) (Code 0xf8) (number 1 ∷ number 0 ∷ [])) (placing (line + 2 + 7) (to 9) (Some (Local 1)) (tetra_wyde 0xf8 1 0) None) (known all end_backs (to 10))
-  end9 = record { placed = code-placed all no_backs (to 9) (lies 9 (omega arith)) (line + 2 + 7) (Some (Local 1)) 0xf8 (number 1 ∷ number 0 ∷ []) (tetra_wyde 0xf8 1 0) None (pop-tetra (known all no_backs (to 9))); behind = refl }
+  end9 = code-leads all no_backs (to 9) (lies 9 (omega arith)) _ _ _ _ _ _ _ (plain-tetras (known all no_backs (to 9))).pop-tetra refl
 
   pub closing-ends : Ends (known symbols no_backs at) (closing_at line c) (known all end_backs (to 10))
   closing-ends =
@@ -293,7 +289,7 @@ main-place : IsPlace 0x100
 main-place = record { whole = refl; low = omega arith }
 
 main-leads : Leads (known [] no_backs 0x100) (stated 2 (Some (Name (codes "Main"))) (Code 0xe3) (reg 0 ∷ number 0 ∷ [])) (placing 2 0x100 (Some (Name (codes "Main"))) (tetra_wyde 0xe3 0 0) None) (known first_symbols no_backs 0x104)
-main-leads = record { placed = code-placed [] no_backs 0x100 main-place 2 (Some (Name (codes "Main"))) 0xe3 (reg 0 ∷ number 0 ∷ []) (tetra_wyde 0xe3 0 0) None (main-tetra (known [] no_backs 0x100)); behind = refl }
+main-leads = code-leads [] no_backs 0x100 main-place _ _ _ _ _ _ _ (plain-tetras (known [] no_backs 0x100)).main-tetra refl
 
 first-room : (n : ℕ) → n ≤ 10000 → Room 0x104 n
 first-room n few = record { whole = refl; low = omega (arith, few) }
