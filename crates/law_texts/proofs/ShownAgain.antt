@@ -1,5 +1,5 @@
 -- A text of an instruction is assembled to the tetra that it shows.
-use Rattle.std.proofs.Common.{◌≡◌, ◌↔◌, ℕ, ◌+◌, ◌%◌, ◌^◌, ◌<◌, ◌≤◌, Bool, true, false, not, cond, Option, None, Some, Ok, Err, refl, sym, ap, ◌∙◌, arith, subst, ⊎_elim}
+use Rattle.std.proofs.Common.{◌≡◌, ◌↔◌, ℕ, ◌+◌, ◌%◌, ◌^◌, ◌<◌, ◌≤◌, Bool, true, false, not, cond, Option, None, Some, Ok, Err, refl, sym, ap, ◌∙◌, arith, subst, ⊎_elim, rules}
 use Rattle.law_texts.proofs.Words.{IsOk, opcode_kind, is_backward, is_immediate, operation_of, opcode_name, Code, Shape, Rel, Jump, Placed, Label, Answer, and_then, Known, no_targets, plain_tetra, relative_word, form, form_by, tetra_wyde, tetra_whole, StatementTree, alignment, known_at_place, with_tetra, op_form, encoding, IsRead, operation_with, field_code, field_x, field_yz, field_xyz, shape, target, lowest_code, shown_fields, IsShownPart, TargetStays, IsPlaceable}
 use Rattle.mx_ops.specs.declared.op.Op.{Op}
 use Rattle.mx_text.proofs.LowestCodes.{name-found}
@@ -13,21 +13,15 @@ use Rattle.law_texts.proofs.PlacedTetras.{IsTetra, word-placed, answer-placed, w
 -- the head of a tetra with its field, and with the second code at a backward one
 branch-word : (immediate backward : Bool) (word low : ℕ) → not immediate ≡ true → code_by immediate backward low ≡ field_code word →
     cond backward (tetra_wyde low (field_x word) 0 + 2 ^ 24 + field_yz word) (tetra_wyde low (field_x word) 0 + field_yz word) ≡ word
-branch-word true backward word low fit is = absurd (cc)
-branch-word false true word low fit is = omega (arith, is)
-branch-word false false word low fit is = omega (arith, is)
+branch-word immediate backward word low h1 h2 = search rules
 
 jump-word : (immediate backward : Bool) (word low : ℕ) → not immediate ≡ true → code_by immediate backward low ≡ field_code word →
     cond backward (tetra_whole low 0 + 2 ^ 24 + field_xyz word) (tetra_whole low 0 + field_xyz word) ≡ word
-jump-word true backward word low fit is = absurd (cc)
-jump-word false true word low fit is = omega (arith, is)
-jump-word false false word low fit is = omega (arith, is)
+jump-word immediate backward word low h1 h2 = search rules
 
 -- only relative addresses may wrap
 no-target : (s : Shape) (word pc : ℕ) → is_relative s ≡ false → TargetStays s word pc
-no-target Rel word pc is = absurd (cc)
-no-target Jump word pc is = absurd (cc)
-no-target s word pc is = tt
+no-target s word pc h1 = search rules
 
 module _ (k : Known) (line : ℕ) (label : Option Label) (word low : ℕ) where
   abbrev immediate : Bool
@@ -57,34 +51,16 @@ module _ (k : Known) (line : ℕ) (label : Option Label) (word low : ℕ) where
   Comes s placed = IsTetra k (word_by s word) placed × TargetStays s word k.at
 
   branch-again : (placed : Placed) → not immediate ≡ true → code_by immediate backward low ≡ field_code word → placed_as Rel ≡ Ok placed → Comes Rel placed
-  branch-again placed fit is ok =
-      let a = answer-placed k line label branch_answer placed (sym branch-placed ∙ ok) in
-      let room : k.at ≤ highest = omega (arith, a.2.room) in
-      let same : cond backward (tetra_wyde low (field_x word) 0 + 2 ^ 24 + field_yz word) (tetra_wyde low (field_x word) 0 + field_yz word) ≡ a.0 =
-      field-again backward (tetra_wyde low (field_x word) 0) (2 ^ 16) k.at (field_yz word) a.0 (yz-below word) (omega arith) room a.1 in (
-        subst (λ w. IsTetra k w placed) (sym same ∙ branch-word immediate backward word low fit is) a.2,
-        field-stays backward (tetra_wyde low (field_x word) 0) (2 ^ 16) k.at (field_yz word) a.0 (yz-below word) (omega arith) room a.1,
-      )
+  branch-again placed h1 h2 h3 = search rules
 
   jump-again : (placed : Placed) → not immediate ≡ true → code_by immediate backward low ≡ field_code word → placed_as Jump ≡ Ok placed → Comes Jump placed
-  jump-again placed fit is ok =
-      let a = answer-placed k line label jump_answer placed (sym jump-placed ∙ ok) in
-      let room : k.at ≤ highest = omega (arith, a.2.room) in
-      let same : cond backward (tetra_whole low 0 + 2 ^ 24 + field_xyz word) (tetra_whole low 0 + field_xyz word) ≡ a.0 =
-      field-again backward (tetra_whole low 0) (2 ^ 24) k.at (field_xyz word) a.0 (xyz-below word) (omega arith) room a.1 in (
-        subst (λ w. IsTetra k w placed) (sym same ∙ jump-word immediate backward word low fit is) a.2,
-        field-stays backward (tetra_whole low 0) (2 ^ 24) k.at (field_xyz word) a.0 (xyz-below word) (omega arith) room a.1,
-      )
+  jump-again placed h1 h2 h3 = search rules
 
   branch-taken : k.at + 4 ≤ highest → TargetStays Rel word k.at → IsOk (placed_as Rel)
-  branch-taken room stays =
-      let given = field-given backward (tetra_wyde low (field_x word) 0) (2 ^ 16) k.at (field_yz word) (yz-below word) (omega arith) (omega (arith, room)) stays in
-      subst IsOk (sym (branch-placed ∙ ap (λ r. with_tetra k line label (and_then r plain_tetra)) given)) (word-taken k line label _ room)
+  branch-taken h1 h2 = search rules
 
   jump-taken : k.at + 4 ≤ highest → TargetStays Jump word k.at → IsOk (placed_as Jump)
-  jump-taken room stays =
-      let given = field-given backward (tetra_whole low 0) (2 ^ 24) k.at (field_xyz word) (xyz-below word) (omega arith) (omega (arith, room)) stays in
-      subst IsOk (sym (jump-placed ∙ ap (λ r. with_tetra k line label (and_then r plain_tetra)) given)) (word-taken k line label _ room)
+  jump-taken h1 h2 = search rules
 
   plain-placed : (s : Shape) → is_relative s ≡ false → fits s immediate backward ≡ true → rounds_byte s immediate low ≡ true → code_by immediate backward low ≡ field_code word →
       placed_as s ≡ with_tetra k line label (plain_tetra (word_by s word))
@@ -92,8 +68,7 @@ module _ (k : Known) (line : ℕ) (label : Option Label) (word low : ℕ) where
 
   plain-again : (s : Shape) (placed : Placed) → is_relative s ≡ false → fits s immediate backward ≡ true → rounds_byte s immediate low ≡ true → code_by immediate backward low ≡ field_code word →
       placed_as s ≡ Ok placed → Comes s placed
-  plain-again s placed plain fit round is ok =
-      (word-placed k line label (word_by s word) placed (sym (plain-placed s plain fit round is) ∙ ok), no-target s word k.at plain)
+  plain-again s placed h1 h2 h3 h4 h5 = search (rules, word-placed, word_by, plain-placed, no-target)
 
   -- each shape
   shape-again : (s : Shape) (placed : Placed) → fits s immediate backward ≡ true → rounds_byte s immediate low ≡ true → code_by immediate backward low ≡ field_code word →
@@ -108,17 +83,10 @@ module _ (k : Known) (line : ℕ) (label : Option Label) (word low : ℕ) where
 
   shape-taken : (s : Shape) → fits s immediate backward ≡ true → rounds_byte s immediate low ≡ true → code_by immediate backward low ≡ field_code word →
       k.at + 4 ≤ highest → TargetStays s word k.at → IsOk (placed_as s)
-  shape-taken s fit round is room stays =
-      ⊎_elim
-      (λ plain. subst IsOk (sym (plain-placed s plain fit round is)) (word-taken k line label (word_by s word) room))
-      (⊎_elim
-      (λ same. subst (λ s. TargetStays s word k.at → IsOk (placed_as s)) (sym same) (branch-taken room) stays)
-      (λ same. subst (λ s. TargetStays s word k.at → IsOk (placed_as s)) (sym same) (jump-taken room) stays))
-      (by-relative s)
+  shape-taken s h1 h2 h3 h4 h5 = search rules
 
 named : (o : Option Op) (op found : Op) → o ≡ Some op → operation_with false o ≡ Ok found → found ≡ op
-named None op found is ok = absurd (cc)
-named (Some x) op found is ok = cc
+named o op found h1 h2 = cc
 
 module _ (word pc line : ℕ) (s : StatementTree) (k : Known) (lt : word < 2 ^ 32) (below : pc < 2 ^ 64) (four : pc % 4 ≡ 0) (at : k.at ≡ pc) (read : IsRead (shown_fields word pc) line s) where
   abbrev code : ℕ
@@ -135,10 +103,7 @@ module _ (word pc line : ℕ) (s : StatementTree) (k : Known) (lt : word < 2 ^ 3
 
   -- the statement is one of these operands at this place
   encoded : encoding no_targets k s ≡ with_tetra here s.line s.label (form no_targets here (shape code) (lowest_code code) (trees (shape code) word here.at))
-  encoded =
-      ap (λ op. op_form no_targets (known_at_place (alignment op) k) s.line s.label op s.operands) op-shown
-      ∙ ap (λ l. with_tetra here s.line s.label (form_by no_targets here l (lowest_code code) s.operands)) (one-shape code (code-below word lt))
-      ∙ ap (λ es. with_tetra here s.line s.label (form no_targets here (shape code) (lowest_code code) es)) (trees-shown word pc s.operands read.spelled ∙ ap (trees (shape code) word) (sym at-here))
+  encoded = search (rules, op-shown, one-shape, code-below, trees-shown, at-here)
 
   comes : (placed : Placed) → encoding no_targets k s ≡ Ok placed → Comes here s.line s.label word (lowest_code code) (shape code) placed
   comes placed ok =
@@ -148,10 +113,7 @@ module _ (word pc line : ℕ) (s : StatementTree) (k : Known) (lt : word < 2 ^ 3
   shown-again placed ok = let t = comes placed ok in record { start = t.0.start ∙ at-here; bytes = t.0.bytes; waits = t.0.waits }
 
   placeable : (r : Answer Placed) → encoding no_targets k s ≡ r → IsOk r → IsPlaceable word pc
-  placeable (Ok placed) is ok =
-      let t = comes placed is in
-      record { place = omega (arith, at-here, t.0.room); target = subst (TargetStays (shape code) word) at-here t.1 }
-  placeable (Err fault) is ok = absurd (cc)
+  placeable r h1 h2 = search (rules, comes, at-here)
 
   taken : IsPlaceable word pc → IsOk (encoding no_targets k s)
   taken p =
@@ -165,8 +127,7 @@ again word pc line s k placed lt below four at read ok = shown-again word pc lin
 
 pub where-taken : (word pc line : ℕ) (s : StatementTree) (k : Known) → word < 2 ^ 32 → pc < 2 ^ 64 → pc % 4 ≡ 0 → k.at ≡ pc →
     IsRead (shown_fields word pc) line s → (IsOk (encoding no_targets k s) ↔ IsPlaceable word pc)
-where-taken word pc line s k lt below four at read =
-    (placeable word pc line s k lt below four at read (encoding no_targets k s) refl, taken word pc line s k lt below four at read)
+where-taken word pc line s k h1 h2 h3 h4 h5 = search (rules, placeable, taken)
 
 -- The text is read as a statement.
 pub is-read : (word pc line : ℕ) → word < 2 ^ 32 → (s : StatementTree) × IsRead (shown_fields word pc) line s
