@@ -1,5 +1,5 @@
 -- Operands are read one after another, each from its first byte to the comma behind it or to the end.
-use Rattle.std.proofs.Common.{◌≡◌, ℕ, ◌+◌, ◌-◌, ◌*◌, ◌^◌, ◌<◌, ◌≤◌, Bool, true, false, ◌&&◌, List, [], ◌∷◌, ◌++◌, Some, None, Ok, refl, sym, ap, ◌∙◌, arith, subst, append_assoc, fold, length, nat_eq, nat_le}
+use Rattle.std.proofs.Common.{◌≡◌, ℕ, ◌+◌, ◌-◌, ◌*◌, ◌^◌, ◌<◌, ◌≤◌, Bool, true, false, ◌&&◌, List, [], ◌∷◌, ◌++◌, Some, None, Ok, refl, sym, ap, ◌∙◌, arith, subst, append_assoc, fold, length, nat_eq, nat_le, rules}
 use Rattle.law_texts.proofs.Words.{join_with_byte, list_all, and_parts, nat_tests, Register, Tree, number, unary, is_digit, is_hexadecimal, Waiting, sign, Mode, operand, too_deep, passed_bound, next_reading, with_strong, within, step, steps, reading_end, start, Constant, digits_value}
 use Rattle.mx_expr.specs.Bytes.{digit_value}
 use Rattle.mx_expr.specs.Reading as reading
@@ -28,8 +28,7 @@ Each R (t ∷ ts) (e ∷ es) = R t e × Each R ts es
 -- ---- constants
 
 not-both : (b : Bool) → (b && false) ≡ false
-not-both true = refl
-not-both false = refl
+not-both b = search rules
 
 -- no parenthesis is open
 shallow : (b : ℕ) → too_deep 0 b ≡ None
@@ -52,9 +51,7 @@ least-hexadecimal n (b ∷ bs) = let more = least-hexadecimal (n * 16 + digit_va
 
 decimal-taken : (n b : ℕ) (k : List Waiting) (done : List Tree) → is_digit b ≡ true → n * 10 + digit_value b < 2 ^ 64 →
     step (st (reading.decimal n) k 0 done) b ≡ Ok (st (reading.decimal (n * 10 + digit_value b)) k 0 done)
-decimal-taken n b k done h lt =
-    let t : nat_le (2 ^ 64) (n * 10 + (b - 48)) ≡ false = narrow (n * 10 + (b - 48)) (omega (arith, lt, value-of-digit b h)) in
-    subst (λ v. step (st (reading.decimal n) k 0 done) b ≡ Ok (st (reading.decimal (n * 10 + v)) k 0 done)) (value-of-digit b h) (rw (h, t) refl)
+decimal-taken n b k done h1 h2 = search rules
 
 hexadecimal-taken : (n b : ℕ) (k : List Waiting) (done : List Tree) → is_hexadecimal b ≡ true → n * 16 + digit_value b < 2 ^ 64 →
     step (st (reading.hexadecimal n) k 0 done) b ≡ Ok (st (reading.hexadecimal (n * 16 + digit_value b)) k 0 done)
@@ -77,9 +74,7 @@ in-hexadecimal n (b ∷ bs) k done all lt =
     ∙ in-hexadecimal (n * 16 + digit_value b) bs k done (and_parts _ _ all).1 lt
 
 first-digit : (b : ℕ) (k : List Waiting) (done : List Tree) → is_digit b ≡ true → step (st operand k 0 done) b ≡ Ok (st (reading.digit (digit_value b)) k 0 done)
-first-digit b k done h =
-    ap (λ o. within o (next_reading operand k 0 done b)) (shallow b)
-    ∙ subst (λ v. next_reading operand k 0 done b ≡ Ok (st (reading.digit v) k 0 done)) (value-of-digit b h) (rw h refl)
+first-digit b k done h1 = search rules
 
 second-digit : (n b : ℕ) (k : List Waiting) (done : List Tree) → is_digit b ≡ true → step (st (reading.digit n) k 0 done) b ≡ Ok (st (reading.decimal (n * 10 + digit_value b)) k 0 done)
 second-digit n b k done h = subst (λ v. step (st (reading.digit n) k 0 done) b ≡ Ok (st (reading.decimal (n * 10 + v)) k 0 done)) (value-of-digit b h) (rw h refl)
@@ -145,26 +140,11 @@ register-taken text n lt is done =
 -- ---- lists
 
 no-bound : (mode : Mode) → passed_bound mode 0 44 ≡ None
-no-bound operand = refl
-no-bound (reading.whole e) = refl
-no-bound (reading.digit n) = refl
-no-bound (reading.decimal n) = refl
-no-bound reading.hash = refl
-no-bound (reading.hexadecimal n) = refl
-no-bound reading.quote = refl
-no-bound (reading.character c) = refl
-no-bound (reading.symbol text) = refl
-no-bound (reading.slash e) = refl
-no-bound (reading.less e) = refl
-no-bound (reading.greater e) = refl
-no-bound (reading.string true) = refl
-no-bound (reading.string false) = refl
-no-bound reading.closed = refl
+no-bound mode = search rules
 
 -- a comma behind an operand
 comma-read : (mode : Mode) (rest : List Waiting) (e : Tree) (done : List Tree) → ends mode rest ≡ Some (e, []) → step (st mode rest 0 done) 44 ≡ Ok (st operand [] 0 (done ++ e ∷ []))
-comma-read mode rest e done ending =
-    ap (λ o. within o (next_reading mode rest 0 done 44)) (no-bound mode) ∙ goes-beyond mode rest (e, []) 0 done 44 ending refl
+comma-read mode rest e done h1 = search rules
 
 behind : (t : List ℕ) (ts : List (List ℕ)) (e : Tree) (es done : List Tree) → Each IsTaken (t ∷ ts) (e ∷ es) →
     reading_end (steps (st operand [] 0 done) (join_with_byte 44 (t ∷ ts))) ≡ Ok (done ++ e ∷ es)
@@ -177,8 +157,7 @@ behind t (u ∷ ts) e (f ∷ es) done are =
 behind t ts e es done are = absurd are.1
 
 field-read : (field : List ℕ) (list : List Tree) → reading_end (steps start field) ≡ Ok list → reading.reading field ≡ Ok list
-field-read [] list is = absurd (cc (ap reading_end (steps-none start), is))
-field-read (b ∷ bs) list is = is
+field-read field list h1 = search (rules, steps-none)
 
 -- Operands with commas between them are read as their trees.
 pub list-read : (ts : List (List ℕ)) (es : List Tree) → 0 < length es → Each IsTaken ts es → reading.reading (join_with_byte 44 ts) ≡ Ok es
