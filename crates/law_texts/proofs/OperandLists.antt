@@ -1,10 +1,10 @@
 -- Operands are read one after another, each from its first byte to the comma behind it or to the end.
-use Rattle.std.proofs.Common.{◌≡◌, ℕ, ◌+◌, ◌-◌, ◌*◌, ◌^◌, ◌<◌, ◌≤◌, Bool, true, false, ◌&&◌, List, [], ◌∷◌, ◌++◌, Some, None, Ok, refl, sym, ap, ◌∙◌, arith, subst, append_assoc, fold, length, nat_eq, nat_le, rules}
-use Rattle.law_texts.proofs.Words.{join_with_byte, list_all, and_parts, nat_tests, Register, Tree, number, unary, is_digit, is_hexadecimal, Waiting, sign, Mode, operand, too_deep, passed_bound, next_reading, with_strong, within, step, steps, reading_end, start, Constant, digits_value}
+use Rattle.std.proofs.Common.{◌≡◌, ℕ, ◌+◌, ◌-◌, ◌*◌, ◌^◌, ◌<◌, ◌≤◌, true, false, List, [], ◌∷◌, ◌++◌, Some, Ok, refl, sym, ap, ◌∙◌, arith, subst, append_assoc, fold, length, nat_le, rules}
+use Rattle.law_texts.proofs.Words.{join_with_byte, list_all, and_parts, nat_tests, Register, Tree, number, unary, is_digit, is_hexadecimal, Waiting, sign, Mode, operand, with_strong, step, steps, reading_end, start, Constant, digits_value}
 use Rattle.mx_expr.specs.Bytes.{digit_value}
 use Rattle.mx_expr.specs.Reading as reading
 use Rattle.mx_expr.specs.Spelling.Constant.{decimal as decimal_digits, hexadecimal as hexadecimal_digits}
-use Rattle.mx_expr.proofs.Moves.{st, ends, goes-beyond, finish-ends}
+use Rattle.mx_expr.proofs.Moves.{st, ends, finish-ends}
 use Rattle.mx_expr.proofs.Stops.{steps-on, steps-first, steps-none}
 
 -- A text is read, and a primary may end there, with this tree and what waits then.
@@ -26,13 +26,6 @@ Each R (t ∷ ts) [] = ⊥
 Each R (t ∷ ts) (e ∷ es) = R t e × Each R ts es
 
 -- ---- constants
-
-not-both : (b : Bool) → (b && false) ≡ false
-not-both b = search rules
-
--- no parenthesis is open
-shallow : (b : ℕ) → too_deep 0 b ≡ None
-shallow b = rw (not-both (nat_eq b 40)) refl
 
 narrow : (n : ℕ) → n < 2 ^ 64 → nat_le (2 ^ 64) n ≡ false
 narrow n lt = grind (arith, nat_tests)
@@ -138,9 +131,6 @@ register-taken text n lt is done =
     record { mode = q.mode; rest = q.rest; read = steps-first _ _ 36 text refl ∙ q.read; ending = q.ending }
 
 -- ---- lists
-
-no-bound : (mode : Mode) → passed_bound mode 0 44 ≡ None
-no-bound mode = search rules
 
 -- a comma behind an operand
 comma-read : (mode : Mode) (rest : List Waiting) (e : Tree) (done : List Tree) → ends mode rest ≡ Some (e, []) → step (st mode rest 0 done) 44 ≡ Ok (st operand [] 0 (done ++ e ∷ []))

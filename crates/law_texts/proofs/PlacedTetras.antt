@@ -1,6 +1,6 @@
 -- The tetra of a statement at its place.
 use Rattle.std.proofs.Common.{◌≡◌, ℕ, ◌+◌, ◌≤◌, Bool, true, false, cond, [], Option, Ok, Err, refl, sym, ap}
-use Rattle.law_texts.proofs.Words.{IsOk, ltb-false, le-ltb, Placed, Label, Answer, and_then, Known, plain_tetra, with_tetra}
+use Rattle.law_texts.proofs.Words.{ltb-false, Placed, Label, Known, plain_tetra, with_tetra}
 use Rattle.mx_word.specs.Words.{tetra_to_bytes}
 use Rattle.mx_stmt.specs.declared.faults.StmtFault.{StmtFault}
 use Rattle.law_texts.proofs.RelativeForms.{highest}
@@ -25,13 +25,3 @@ word-placed k line label word placed is =
       waits = ap (λ (p : Placed). p.waits) (sym t.1);
       room = ltb-false highest (k.at + 4) t.0;
     }
-
--- an answer that is placed was a word
-pub answer-placed : (k : Known) (line : ℕ) (label : Option Label) (r : Answer ℕ) (placed : Placed) → with_tetra k line label (and_then r plain_tetra) ≡ Ok placed →
-    (word : ℕ) × (r ≡ Ok word) × IsTetra k word placed
-answer-placed k line label (Ok word) placed is = (word, refl, word-placed k line label word placed is)
-answer-placed k line label (Err fault) placed is = absurd (cc)
-
--- A word is placed where there is room.
-pub word-taken : (k : Known) (line : ℕ) (label : Option Label) (word : ℕ) → k.at + 4 ≤ highest → IsOk (with_tetra k line label (plain_tetra word))
-word-taken k line label word room = rw (le-ltb highest (k.at + 4) room) refl

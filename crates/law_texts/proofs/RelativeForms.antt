@@ -1,9 +1,6 @@
 -- The shown target of a relative address gives its field again.
-use Rattle.std.proofs.Common.{◌≡◌, ℕ, ◌+◌, ◌-◌, ◌*◌, ◌/◌, ◌%◌, ◌^◌, ◌<◌, ◌≤◌, Bool, true, false, cond, Ok, refl, ap, ◌∙◌, arith, ⊎_elim, nat_le}
-use Rattle.law_texts.proofs.Words.{lt-ltb, le-leb, le-ltb, cases_lt, nat_tests, Rel, Jump, and_then, Known, no_targets, plain_tetra, forward_word, backward_word, relative_word, form, tetra_wyde, tetra_whole, field_code, field_x, field_yz, field_xyz, target}
-use Rattle.law_texts.proofs.OperandTrees.{trees}
-use Rattle.law_texts.proofs.Parts.{x-below}
-use Rattle.law_texts.proofs.PlainForms.{behind-register}
+use Rattle.std.proofs.Common.{◌≡◌, ℕ, ◌+◌, ◌-◌, ◌*◌, ◌/◌, ◌%◌, ◌^◌, ◌<◌, ◌≤◌, true, false, Ok, refl, ap, ◌∙◌, arith, nat_le}
+use Rattle.law_texts.proofs.Words.{lt-ltb, le-leb, le-ltb, nat_tests, forward_word, backward_word, relative_word, target}
 
 -- no address of a placed tetra is higher
 abbrev pub highest : ℕ
@@ -54,37 +51,3 @@ wrapped head values pc n word lt le low below ok =
     let distance : 2 ^ 64 + pc + 4 * n - 4 * values - pc ≡ 4 * (2 ^ 62 + n - values) = omega (arith, lt, le, low, below) in
     forward-refused head values (2 ^ 62 + n - values) _ word distance (omega (arith, le))
     (rw (same, le-leb pc (2 ^ 64 + pc + 4 * n - 4 * values) (omega (arith, le))) at ok)
-
--- A word that is given is the head with the field, and with the second code at a backward one.
-pub field-again : (b : Bool) (head values pc n word : ℕ) → n < values → values ≤ 2 ^ 24 → pc ≤ highest →
-    relative_word head values pc (cond b ((2 ^ 64 + pc + 4 * n - 4 * values) % 2 ^ 64) ((pc + 4 * n) % 2 ^ 64)) ≡ Ok word →
-    cond b (head + 2 ^ 24 + n) (head + n) ≡ word
-field-again false head values pc n word lt le low ok = cc (ahead head values pc n lt le low, ok)
-field-again true head values pc n word lt le low ok =
-    ⊎_elim
-    (λ below. absurd (cc (wrapped head values pc n word lt le low below ok)))
-    (λ above. cc (before head values pc n lt le low above, ok))
-    (cases_lt (pc + 4 * n) (4 * values))
-
--- It is given where the target has not wrapped.
-pub field-given : (b : Bool) (head values pc n : ℕ) → n < values → values ≤ 2 ^ 24 → pc ≤ highest → (b ≡ true → 4 * values ≤ pc + 4 * n) →
-    relative_word head values pc (cond b ((2 ^ 64 + pc + 4 * n - 4 * values) % 2 ^ 64) ((pc + 4 * n) % 2 ^ 64)) ≡ Ok (cond b (head + 2 ^ 24 + n) (head + n))
-field-given false head values pc n lt le low above = ahead head values pc n lt le low
-field-given true head values pc n lt le low above = before head values pc n lt le low (above refl)
-
--- And nowhere else.
-pub field-stays : (b : Bool) (head values pc n word : ℕ) → n < values → values ≤ 2 ^ 24 → pc ≤ highest →
-    relative_word head values pc (cond b ((2 ^ 64 + pc + 4 * n - 4 * values) % 2 ^ 64) ((pc + 4 * n) % 2 ^ 64)) ≡ Ok word →
-    b ≡ true → 4 * values ≤ pc + 4 * n
-field-stays false head values pc n word lt le low ok is = absurd (cc)
-field-stays true head values pc n word lt le low ok is =
-    ⊎_elim (λ below. absurd (cc (wrapped head values pc n word lt le low below ok))) (λ above. above) (cases_lt (pc + 4 * n) (4 * values))
-
--- the tetra of a branch, and of a jump
-pub branch-form : (k : Known) (word pc low : ℕ) → form no_targets k Rel low (trees Rel word pc) ≡
-    and_then (relative_word (tetra_wyde low (field_x word) 0) (2 ^ 16) k.at (target (field_code word) pc (field_yz word) (2 ^ 16))) plain_tetra
-branch-form k word pc low = behind-register k (field_x word) _ (x-below word)
-
-pub jump-form : (k : Known) (word pc low : ℕ) → form no_targets k Jump low (trees Jump word pc) ≡
-    and_then (relative_word (tetra_whole low 0) (2 ^ 24) k.at (target (field_code word) pc (field_xyz word) (2 ^ 24))) plain_tetra
-jump-form k word pc low = refl

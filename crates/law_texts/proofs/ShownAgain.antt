@@ -1,23 +1,14 @@
 -- A text of an instruction is assembled to the tetra that it shows.
-use Rattle.std.proofs.Common.{◌≡◌, ◌↔◌, ℕ, ◌+◌, ◌%◌, ◌^◌, ◌<◌, ◌≤◌, Bool, true, false, not, cond, Option, None, Some, Ok, Err, refl, sym, ap, ◌∙◌, arith, subst, ⊎_elim, rules}
-use Rattle.law_texts.proofs.Words.{IsOk, opcode_kind, is_backward, is_immediate, operation_of, opcode_name, Code, Shape, Rel, Jump, Placed, Label, Answer, and_then, Known, no_targets, plain_tetra, relative_word, form, form_by, tetra_wyde, tetra_whole, StatementTree, alignment, known_at_place, with_tetra, op_form, encoding, IsRead, operation_with, field_code, field_x, field_yz, field_xyz, shape, target, lowest_code, shown_fields, IsShownPart, TargetStays, IsPlaceable}
+use Rattle.std.proofs.Common.{◌≡◌, ◌↔◌, ℕ, ◌+◌, ◌%◌, ◌^◌, ◌<◌, ◌≤◌, Bool, true, false, not, Option, None, Some, Ok, refl, sym, ap, ◌∙◌, arith, subst, ⊎_elim, rules}
+use Rattle.law_texts.proofs.Words.{IsOk, opcode_kind, is_backward, is_immediate, operation_of, opcode_name, Code, Shape, Rel, Jump, Placed, Label, Answer, Known, no_targets, plain_tetra, relative_word, form, tetra_wyde, tetra_whole, StatementTree, known_at_place, with_tetra, encoding, IsRead, operation_with, field_code, field_x, field_yz, field_xyz, shape, target, lowest_code, shown_fields, IsShownPart, TargetStays, IsPlaceable}
 use Rattle.mx_ops.specs.declared.op.Op.{Op}
 use Rattle.mx_text.proofs.LowestCodes.{name-found}
-use Rattle.law_texts.proofs.Parts.{code-below, yz-below, xyz-below}
+use Rattle.law_texts.proofs.Parts.{code-below}
 use Rattle.law_texts.proofs.OperandTrees.{trees, shown-spelled, trees-shown}
 use Rattle.law_texts.proofs.Codes.{fits, rounds_byte, is_relative, by-relative, one-shape, shape-fits, byte-rounds, second-next}
 use Rattle.law_texts.proofs.PlainForms.{code_by, word_by, plain-form}
-use Rattle.law_texts.proofs.RelativeForms.{highest, field-again, field-given, field-stays, branch-form, jump-form}
-use Rattle.law_texts.proofs.PlacedTetras.{IsTetra, word-placed, answer-placed, word-taken}
-
--- the head of a tetra with its field, and with the second code at a backward one
-branch-word : (immediate backward : Bool) (word low : ℕ) → not immediate ≡ true → code_by immediate backward low ≡ field_code word →
-    cond backward (tetra_wyde low (field_x word) 0 + 2 ^ 24 + field_yz word) (tetra_wyde low (field_x word) 0 + field_yz word) ≡ word
-branch-word immediate backward word low h1 h2 = search rules
-
-jump-word : (immediate backward : Bool) (word low : ℕ) → not immediate ≡ true → code_by immediate backward low ≡ field_code word →
-    cond backward (tetra_whole low 0 + 2 ^ 24 + field_xyz word) (tetra_whole low 0 + field_xyz word) ≡ word
-jump-word immediate backward word low h1 h2 = search rules
+use Rattle.law_texts.proofs.RelativeForms.{highest}
+use Rattle.law_texts.proofs.PlacedTetras.{IsTetra, word-placed}
 
 -- only relative addresses may wrap
 no-target : (s : Shape) (word pc : ℕ) → is_relative s ≡ false → TargetStays s word pc
@@ -40,12 +31,6 @@ module _ (k : Known) (line : ℕ) (label : Option Label) (word low : ℕ) where
   abbrev jump_answer : Answer ℕ
   jump_answer = relative_word (tetra_whole low 0) (2 ^ 24) k.at (target (field_code word) k.at (field_xyz word) (2 ^ 24))
 
-  branch-placed : placed_as Rel ≡ with_tetra k line label (and_then branch_answer plain_tetra)
-  branch-placed = ap (with_tetra k line label) (branch-form k word k.at low)
-
-  jump-placed : placed_as Jump ≡ with_tetra k line label (and_then jump_answer plain_tetra)
-  jump-placed = ap (with_tetra k line label) (jump-form k word k.at low)
-
   -- what a shape comes to, where it comes to bytes
   abbrev Comes : Shape → Placed → Type 0
   Comes s placed = IsTetra k (word_by s word) placed × TargetStays s word k.at
@@ -55,12 +40,6 @@ module _ (k : Known) (line : ℕ) (label : Option Label) (word low : ℕ) where
 
   jump-again : (placed : Placed) → not immediate ≡ true → code_by immediate backward low ≡ field_code word → placed_as Jump ≡ Ok placed → Comes Jump placed
   jump-again placed h1 h2 h3 = search rules
-
-  branch-taken : k.at + 4 ≤ highest → TargetStays Rel word k.at → IsOk (placed_as Rel)
-  branch-taken h1 h2 = search rules
-
-  jump-taken : k.at + 4 ≤ highest → TargetStays Jump word k.at → IsOk (placed_as Jump)
-  jump-taken h1 h2 = search rules
 
   plain-placed : (s : Shape) → is_relative s ≡ false → fits s immediate backward ≡ true → rounds_byte s immediate low ≡ true → code_by immediate backward low ≡ field_code word →
       placed_as s ≡ with_tetra k line label (plain_tetra (word_by s word))
