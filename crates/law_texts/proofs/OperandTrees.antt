@@ -1,12 +1,11 @@
 -- The operands that are shown, as trees.
-use Rattle.std.proofs.Common.{◌≡◌, ℕ, ◌<◌, ◌≤◌, ◌^◌, Bool, true, false, cond, List, [], ◌∷◌, length, map, Ok, refl, arith}
-use Rattle.law_texts.proofs.Words.{decimal, opcode_kind, is_immediate, is_backward, Shape, Three, Regs, Round, Neg, Rel, Mem, MemPure, Wyde, Jump, Put, Get, Pop, One, Save, Unsave, Free, Register, Tree, number, unary, reading, Spells, Faultless, hex_text, field_code, field_x, field_y, field_z, field_yz, field_xyz, shape, target, last, operand_text, operands, operands_text, shown_operands}
-use Rattle.std.proofs.Math.Nat.{mod-lt}
+use Rattle.std.proofs.Common.{◌≡◌, ℕ, ◌<◌, ◌≤◌, ◌^◌, Bool, cond, List, [], ◌∷◌, length, map, Ok, refl, rules}
+use Rattle.law_texts.proofs.Words.{decimal, opcode_kind, is_immediate, Shape, Three, Regs, Round, Neg, Rel, Mem, MemPure, Wyde, Jump, Put, Get, Pop, One, Save, Unsave, Free, Register, Tree, number, unary, reading, Spells, Faultless, hex_text, field_code, field_x, field_y, field_z, field_yz, field_xyz, shape, target, last, operand_text, operands, operands_text, shown_operands}
 use Rattle.mx_expr.proofs.Exact.{reading-ok}
 use Rattle.mx_expr.proofs.Fields.{one-list}
 use Rattle.law_texts.proofs.Numerals.{decimal-constant, hexadecimal-constant}
 use Rattle.law_texts.proofs.OperandLists.{IsTaken, Each, constant-taken, register-taken, list-read}
-use Rattle.law_texts.proofs.Parts.{x-below, y-below, z-below, yz-below, xyz-below}
+use Rattle.law_texts.proofs.Parts.{z-below}
 
 -- `$` and a number
 abbrev pub register : ℕ → Tree
@@ -37,64 +36,20 @@ trees Save word pc = register (field_x word) ∷ number (field_z word) ∷ []
 trees Unsave word pc = number (field_x word) ∷ register (field_z word) ∷ []
 trees Free word pc = number (field_x word) ∷ number (field_y word) ∷ number (field_z word) ∷ []
 
-target-below : (code pc n values : ℕ) (backward : Bool) → is_backward (opcode_kind code) ≡ backward → target code pc n values < 2 ^ 64
-target-below code pc n values true is = rw is (mod-lt _ (omega arith))
-target-below code pc n values false is = rw is (mod-lt _ (omega arith))
-
 -- What holds of each number, register and address below 2^64 holds of each operand that is shown.
 module _ (R : List ℕ → Tree → Type 0) (of-number : (n : ℕ) → n < 2 ^ 64 → R (decimal n) (number n)) (of-register : (n : ℕ) → n < 2 ^ 64 → R (36 ∷ decimal n) (register n)) (of-address : (n : ℕ) → n < 2 ^ 64 → R (hex_text n) (number n)) (word pc : ℕ) where
   of-last : (code n : ℕ) (immediate : Bool) → is_immediate (opcode_kind code) ≡ immediate → n < 256 → R (operand_text (last code n)) (last_tree code n)
-  of-last code n true is lt = rw is (of-number n (omega (arith, lt)))
-  of-last code n false is lt = rw is (of-register n (omega (arith, lt)))
-
-  of-target : (n values : ℕ) → R (hex_text (target (field_code word) pc n values)) (number (target (field_code word) pc n values))
-  of-target n values = of-address (target (field_code word) pc n values) (target-below (field_code word) pc n values _ refl)
-
-  x : R (36 ∷ decimal (field_x word)) (register (field_x word))
-  x = of-register (field_x word) (omega (arith, x-below word))
-
-  y : R (36 ∷ decimal (field_y word)) (register (field_y word))
-  y = of-register (field_y word) (omega (arith, y-below word))
-
-  register-z : R (36 ∷ decimal (field_z word)) (register (field_z word))
-  register-z = of-register (field_z word) (omega (arith, z-below word))
+  of-last code n immediate h1 h2 = search rules
 
   z : R (operand_text (last (field_code word) (field_z word))) (last_tree (field_code word) (field_z word))
   z = of-last (field_code word) (field_z word) _ refl (z-below word)
 
-  number-x : R (decimal (field_x word)) (number (field_x word))
-  number-x = of-number (field_x word) (omega (arith, x-below word))
-
-  number-y : R (decimal (field_y word)) (number (field_y word))
-  number-y = of-number (field_y word) (omega (arith, y-below word))
-
-  number-z : R (decimal (field_z word)) (number (field_z word))
-  number-z = of-number (field_z word) (omega (arith, z-below word))
-
-  number-yz : R (decimal (field_yz word)) (number (field_yz word))
-  number-yz = of-number (field_yz word) (omega (arith, yz-below word))
-
   pub each-shown : (s : Shape) → Each R (map operand_text (operands s word pc)) (trees s word pc)
-  each-shown Regs = (x, (y, (register-z, tt)))
-  each-shown Round = (x, (number-y, (z, tt)))
-  each-shown Neg = (x, (number-y, (z, tt)))
-  each-shown Rel = (x, (of-target (field_yz word) (2 ^ 16), tt))
-  each-shown MemPure = (number-x, (y, (z, tt)))
-  each-shown Wyde = (x, (number-yz, tt))
-  each-shown Jump = (of-target (field_xyz word) (2 ^ 24), tt)
-  each-shown Put = (number-x, (z, tt))
-  each-shown Get = (x, (number-z, tt))
-  each-shown Pop = (number-x, (number-yz, tt))
-  each-shown One = ((of-number (field_xyz word) (omega (arith, xyz-below word))), tt)
-  each-shown Save = (x, (number-z, tt))
-  each-shown Unsave = (number-x, (register-z, tt))
-  each-shown Free = (number-x, (number-y, (number-z, tt)))
-  each-shown s = (x, (y, (z, tt)))
+  each-shown s = search rules
 
 -- There are one to three operands.
 pub few : (s : Shape) (word pc : ℕ) → (0 < length (trees s word pc)) × (length (trees s word pc) ≤ 3)
-few Three word pc = (omega arith, omega arith)
-few s word pc = (omega arith, omega arith)
+few s word pc = search rules
 
 number-taken : (n : ℕ) → n < 2 ^ 64 → IsTaken (decimal n) (number n)
 number-taken n lt = constant-taken (decimal n) n lt (decimal-constant n lt)
