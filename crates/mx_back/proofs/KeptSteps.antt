@@ -4,26 +4,19 @@ use Rattle.std.specs.Prelude.{Result, ◌⊎◌}
 use Rattle.mx_host.specs.HostModel.{HostModel}
 use Rattle.mx_plan.specs.Plan.{Comes, IsRest, Stops}
 use Rattle.mx_trip.specs.declared.call.TrapCall.{TrapCall}
-use Rattle.mx_trap.specs.Clauses.{IsStopped, StopsByPages}
-use Rattle.mx_trap.specs.Requests.{request_of}
-use Rattle.mx_trap.specs.declared.answer.TrapAnswer.{TrapAnswer}
-use Rattle.mx_trap.specs.declared.answer.TrapAnswer.TheVariants as trap
-use Rattle.mx_trap.specs.declared.answer.TrapStop.{TrapStop}
-use Rattle.mx_trap.specs.declared.answer.TrapStop.TheVariants.{Negative, WideTrap, TransferTooLarge, TrapPagesFull, UnknownTrap}
-use Rattle.mx_trap.specs.Answers.{stop_number}
-use Rattle.mx_core.specs.MachineSpace.{machine_contents, IsWholeSpace, state_in}
 use Rattle.mx_core.specs.Reasons.{number_of}
 use Rattle.mx_core.specs.State.{State}
 use Rattle.mx_core.specs.Step.{Stepped, went, calls, stopped, step}
-use Rattle.mx_core.specs.Stepping.{step_answer}
+use Rattle.mx_core.specs.Stepping.{advanced, step_answer}
 use Rattle.mx_core.specs.Undoing.{StateWas}
 use Rattle.mx_core.specs.declared.reason.Reason.{Reason}
+use Rattle.mx_core.specs.declared.step.Advance.{Advance}
+use Rattle.mx_core.specs.declared.step.Advance.TheVariants as advance
 use Rattle.mx_core.specs.declared.step.Step.TheVariants as made
 use Rattle.mx_core.specs.declared.trace.Trace.{Trace}
-use Rattle.mx_core.proofs.SpaceStates.{told}
 use Rattle.mx_run.specs.RunPlans.{RunWorld, running, beside_world, turn_plan, step_plan, run_plan}
-use Rattle.mx_run.specs.Runs.{ended, no_flags, run}
-use Rattle.mx_run.specs.Turns.{Answered, area_size, Turn, went_on, halts, stops, turn, turn_answer}
+use Rattle.mx_run.specs.Runs.{IsLater, ended, no_flags, run}
+use Rattle.mx_run.specs.Turns.{Answered, Turn, went_on, halts, stops, turn, turn_answer, may_change}
 use Rattle.mx_run.specs.declared.end.End.{End}
 use Rattle.mx_run.specs.declared.end.End.TheVariants as end
 use Rattle.mx_run.specs.declared.turn_answer.TurnAnswer.{TurnAnswer}
@@ -33,11 +26,12 @@ use Rattle.mx_run.specs.Clauses.{GoesAsList}
 use Rattle.mx_run.specs.WildRuns.{RunEnd, HasWindow, list_machine, run_by}
 use Rattle.mx_core.specs.Bounds.{as_list_state}
 use Rattle.mx_run.proofs.ListSteps.{Beside, list-window, list-went, list-ended}
+use Rattle.mx_run.proofs.Later.{stepped-later}
 use Rattle.mx_run.proofs.PlanEnds.{run_step, turn_ended, step-end, step-answer, rest-begun, rest-went, rest-ended, rest-spent}
 use Rattle.mx_run.proofs.Runners.{run-told, turn-told}
 use Rattle.mx_run.proofs.TurnAnswers.{call-told, went-comes, stopped-comes, called-comes}
 use Rattle.mx_back.specs.History.{AreNotesOf, Turned, stepped, kept_turn, states_kept, states_before}
-use Rattle.mx_back.specs.KeptRuns.{AfterSteps, ComesKept, ComesStep, ended_at, may_change, stop_changes, notes_left, kind_by, trap_kind, turn_kind, kind_at, turns_after, turns_of}
+use Rattle.mx_back.specs.KeptRuns.{AfterSteps, ComesKept, ComesStep, ended_at, notes_left, kind_by, trap_kind, turn_kind, kind_at, turns_after, turns_of}
 
 -- ---- one step
 
@@ -72,30 +66,12 @@ called-step s t u m n pc call r at e c = turned-by s u m n pc r at (called-comes
 pub unnoted-step : (s t : State) (m : HostModel) → t ≡ s → ComesStep (s, m) (t, m) (Err end.OutOfMemory)
 unnoted-step s t m e = record { ending = λ ne. absurd (ne refl); stopping = λ o. inr (ap (λ (u : State). (u, m)) e) }
 
--- ---- a file trap whose request is refused
+-- ---- a file trap
 
-by-result : {A E : Type 0} (P : Result A E → Type 0) → ((a : A) → P (Ok a)) → ((e : E) → P (Err e)) → (r : Result A E) → P r
-by-result P f g (Ok a) = f a
-by-result P f g (Err e) = g e
-
-same-told : (s t : State) → IsWholeSpace s → IsWholeSpace t → machine_contents t ≡ machine_contents s → t ≡ s
-same-told s t h k e = sym (told t k) ∙ ap (λ c. state_in c area_size) e ∙ told s h
-
-by-pages : (value : TrapAnswer) (P : Type 0) → StopsByPages value → may_change value ≡ false → P
-by-pages (trap.Value x) P h e = absurd (cc)
-by-pages trap.Halt P h e = absurd (cc)
-by-pages (trap.Stopped why) P h e = let wrong : true ≡ false = sym (ap stop_changes h) ∙ e in absurd (cc)
-by-pages trap.OutOfMemory P h e = absurd (cc)
-
-pub refused-same : (H : Type 0) (bytes : ℕ → ℕ) (call : TrapCall) (value : TrapAnswer) (s t : State) → IsWholeSpace s → IsWholeSpace t → IsStopped (request_of bytes call) value ((machine_contents t ≡ machine_contents s) × H) →
-    may_change value ≡ false → t ≡ s
-refused-same H bytes call value s t h k x e =
-    by-result (λ r. IsStopped r value ((machine_contents t ≡ machine_contents s) × H) → t ≡ s) (λ request p. by-pages value (t ≡ s) p e) (λ why p. same-told s t h k p.1.0) (request_of bytes call) x
-
-pub left-fits : (changed : Bool) (value : TrapAnswer) (old new : List StateWas) (s t u : State) → changed ≡ may_change value → new ≡ notes_left changed old → (may_change value ≡ false → t ≡ s) → (may_change value ≡ false → u ≡ t) → AreNotesOf old s → AreNotesOf new u
+pub left-fits : (changed : Bool) (r : TurnAnswer) (old new : List StateWas) (s t : State) → changed ≡ may_change r → new ≡ notes_left changed old → (may_change r ≡ false → t ≡ s) → AreNotesOf old s → AreNotesOf new t
 unfolding AreNotesOf
-left-fits true value old new s t u c e f g h = subst (λ ns. AreNotesOf ns u) (sym e) tt
-left-fits false value old new s t u c e f g h = subst (λ ns. AreNotesOf ns u) (sym e) (subst (AreNotesOf old) (sym (g (sym c) ∙ f (sym c))) h)
+left-fits true r old new s t c e f h = subst (λ ns. AreNotesOf ns t) (sym e) tt
+left-fits false r old new s t c e f h = subst (λ ns. AreNotesOf ns t) (sym e) (subst (AreNotesOf old) (sym (f (sym c))) h)
 
 -- ---- the run, after some of its steps
 
@@ -143,19 +119,18 @@ kept-told n s t m k r c ne = run-told n no_flags false s t m k r (record { endin
 
 -- ---- what is kept
 
-pub stop-kind : (why : TrapStop) (number : ℕ) → number ≡ stop_number why → trap_kind (answer.Stopped number) ≡ kind_by (stop_changes why)
-stop-kind Negative number e = rw e refl
-stop-kind WideTrap number e = rw e refl
-stop-kind TransferTooLarge number e = rw e refl
-stop-kind TrapPagesFull number e = rw e refl
-stop-kind UnknownTrap number e = rw e refl
+kind-is : (r : TurnAnswer) → trap_kind r ≡ kind_by (may_change r)
+kind-is (answer.Went trace) = refl
+kind-is (answer.Halted status) = refl
+kind-is (answer.Stopped reason) = refl
+kind-is answer.OutOfMemory = refl
 
-pub left-kept : (changed : Bool) (value : TrapAnswer) (r : TurnAnswer) (old new : List StateWas) (s t u : State) → changed ≡ may_change value → new ≡ notes_left changed old → trap_kind r ≡ kind_by (may_change value) →
-    (may_change value ≡ false → t ≡ s) → (may_change value ≡ false → u ≡ t) → states_before new u ≡ kept_turn (trap_kind r) s (states_before old s)
+pub left-kept : (changed : Bool) (r : TurnAnswer) (old new : List StateWas) (s t : State) → changed ≡ may_change r → new ≡ notes_left changed old → (may_change r ≡ false → t ≡ s) →
+    states_before new t ≡ kept_turn (trap_kind r) s (states_before old s)
 unfolding states_before
-left-kept true value r old new s t u c e k f g = ap (λ ns. states_before ns u) e ∙ ap (λ x. kept_turn x s (states_before old s)) (sym (k ∙ ap kind_by (sym c)))
-left-kept false value r old new s t u c e k f g =
-    ap (λ ns. states_before ns u) e ∙ ap (states_before old) (g (sym c) ∙ f (sym c)) ∙ ap (λ x. kept_turn x s (states_before old s)) (sym (k ∙ ap kind_by (sym c)))
+left-kept true r old new s t c e f = ap (λ ns. states_before ns t) e ∙ ap (λ x. kept_turn x s (states_before old s)) (sym (kind-is r ∙ ap kind_by (sym c)))
+left-kept false r old new s t c e f =
+    ap (λ ns. states_before ns t) e ∙ ap (states_before old) (f (sym c)) ∙ ap (λ x. kept_turn x s (states_before old s)) (sym (kind-is r ∙ ap kind_by (sym c)))
 
 -- the kind of a step by its answer
 went-kind : (s t : State) (trace : Trace) (x : Stepped) (r : TurnAnswer) → (made.Went trace, t) ≡ step_answer s x → turn_kind x r ≡ stepped
@@ -185,6 +160,22 @@ called-keeps s t u m n call r now mid kept e c ne h g =
     let same = called-state s t call (step s) e in
     let told = ap (λ (a : Answered TurnAnswer). a.0) (turn-told t u m n r c ne) in
     h ∙ ap (kept_turn (trap_kind r) t) g ∙ ap (λ a. kept_turn (trap_kind a) t kept) told ∙ ap (λ x. kept_turn (turn_kind x (turn_answer (turn t m)).0) t kept) (sym (call-told s t call e)) ∙ ap (λ (v : State). kept_turn (kind_at v m) v kept) same
+
+-- ---- a usual step
+
+went-trace : (P : Type 0) (s t : State) (x : Stepped) → (advance.Went, t) ≡ advanced s x → ((trace : Trace) → (made.Went trace, t) ≡ step_answer s x → P) → P
+went-trace P s t (went u trace) e f = f trace (ap (λ (p : Advance × State). (made.Went trace, p.1)) e)
+went-trace P s t (calls call) e f = let first : advance.Went ≡ advance.Trap = ap (λ (p : Advance × State). p.0) e in absurd (cc)
+went-trace P s t (stopped reason) e f = let first : advance.Went ≡ advance.Stopped reason = ap (λ (p : Advance × State). p.0) e in absurd (cc)
+
+pub usual-step : (s t : State) (m : HostModel) → (advance.Went, t) ≡ advanced s (step s) → ComesStep (s, m) (t, m) (Ok tt)
+usual-step s t m e = went-trace (ComesStep (s, m) (t, m) (Ok tt)) s t (step s) e (λ trace f. went-step s t m trace f)
+
+pub usual-later : (s t : State) → (advance.Went, t) ≡ advanced s (step s) → IsLater 1 s t
+usual-later s t e = went-trace (IsLater 1 s t) s t (step s) e (λ trace f. stepped-later (made.Went trace) s t f)
+
+pub usual-keeps : (s t : State) (m : HostModel) (now kept : List State) → (advance.Went, t) ≡ advanced s (step s) → now ≡ kept_turn stepped s kept → now ≡ kept_turn (kind_at s m) s kept
+usual-keeps s t m now kept e h = went-trace (now ≡ kept_turn (kind_at s m) s kept) s t (step s) e (λ trace f. went-keeps s t m trace now kept f h)
 
 -- the turns behind a step
 on-by : (more : State → HostModel → List (Turned × State)) (pc : ℕ) (u : Unit {0}) (t : State) (n : HostModel) (x : Turn) → (Ok u, t, n) ≡ turn_ended no_flags pc (turn_answer x) → turns_after more x ≡ more t n
@@ -237,5 +228,3 @@ pub ended-listed : (n i : ℕ) (whole : RunEnd) (why : End) (s t : State) (m k :
     Beside whole (run_by list_machine (n - i) no_flags false (as_list_state s) m) s m → GoesAsList whole (ended why t k)
 ended-listed n i whole why s t m k l w ne c b =
     list-ended whole n i no_flags false s t m k why l (list-window s w) (step-answer no_flags false s t m k (Err why) (c.ending (λ e. ne (cc)))) b
-
-pub ruleset kinds = (stop-kind)

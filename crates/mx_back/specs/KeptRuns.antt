@@ -1,6 +1,6 @@
 -- The words of clauses over a run whose last steps are kept. `old` and `new` are what the host told before and after, `before`
 -- and `after` the states of the machine.
-use Rattle.std.specs.Prelude.{ℕ, ◌≡◌, ◌≢◌, ◌≤◌, ◌⊎◌, IsTrue, Bool, true, false, ◌==◌, zero, suc, List, [], ◌∷◌, if◌then◌else◌, Option, Result, Ok, Err}
+use Rattle.std.specs.Prelude.{ℕ, ◌≡◌, ◌≢◌, ◌≤◌, ◌⊎◌, IsTrue, Bool, false, ◌==◌, zero, suc, List, [], ◌∷◌, if◌then◌else◌, Option, Result, Ok, Err}
 use Rattle.mx_host.specs.HostModel.{HostModel, tells, contents}
 use Rattle.mx_plan.specs.Plan.{Stops, end_of}
 use Rattle.mx_core.specs.State.{State}
@@ -14,10 +14,6 @@ use Rattle.mx_run.specs.declared.end.End.{End}
 use Rattle.mx_run.specs.declared.end.End.TheVariants as end
 use Rattle.mx_run.specs.declared.turn_answer.TurnAnswer.{TurnAnswer}
 use Rattle.mx_run.specs.declared.turn_answer.TurnAnswer.TheVariants as answer
-use Rattle.mx_trap.specs.declared.answer.TrapAnswer.{TrapAnswer}
-use Rattle.mx_trap.specs.declared.answer.TrapAnswer.TheVariants as trap
-use Rattle.mx_trap.specs.declared.answer.TrapStop.{TrapStop}
-use Rattle.mx_trap.specs.declared.answer.TrapStop.TheVariants as stop
 use Rattle.mx_back.specs.History.{Turned, stepped, trapped, ended, kept_turn, states_kept, states_before}
 
 -- the machine and the host after completed steps, at most n
@@ -95,15 +91,6 @@ ended_at pc (answer.Went trace) = Ok tt
 ended_at pc (answer.Halted status) = Err (end.Halted status)
 ended_at pc (answer.Stopped reason) = Err (end.Stopped pc reason)
 ended_at pc answer.OutOfMemory = Err end.OutOfMemory
-
--- whether a file trap with this answer may have changed the machine: only one whose request is refused changes nothing
-abbrev pub stop_changes : TrapStop → Bool
-stop_changes stop.TrapPagesFull = true
-stop_changes other = false
-
-abbrev pub may_change : TrapAnswer → Bool
-may_change (trap.Stopped why) = stop_changes why
-may_change other = true
 
 -- the notes that are left, where the machine may have changed otherwise
 abbrev pub notes_left : Bool → List StateWas → List StateWas

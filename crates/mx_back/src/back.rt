@@ -1,16 +1,16 @@
 //! The notes of the last steps.
 
-ghost use Rattle.std.specs.Prelude.{◌≡◌, ◌≢◌, ◌↔◌, ◌≤◌, ◌∷◌, [], Err, IfOk, OnErr, OnOk, length};
+ghost use Rattle.std.specs.Prelude.{◌≡◌, ◌≢◌, ◌↔◌, ◌≤◌, ◌∷◌, [], false, Err, IfOk, IsTrue, OnErr, OnOk, length};
 ghost use Rattle.mx_back.specs.History as spec;
 ghost use Rattle.mx_back.specs.History.{AreNotesOf, states_before};
 ghost use Rattle.mx_core.specs.Kept.{state_of};
 ghost use Rattle.mx_core.specs.State.{State};
 ghost use Rattle.mx_core.specs.Step.{step};
-ghost use Rattle.mx_core.specs.Stepping.{step_answer};
+ghost use Rattle.mx_core.specs.Stepping.{advanced, step_answer};
 
 use crate::BackFault;
 use circular_buffer::HeapCircularBuffer;
-use mx_core::{Machine, Note, Noted, Step};
+use mx_core::{Advance, Machine, Note, Noted, Step};
 use mx_word::NoMemory;
 use std::alloc::Global;
 use std::marker::Model;
@@ -79,6 +79,27 @@ impl Back {
             Noted::Trap(call) => Step::Trap(call),
             Noted::Stopped(reason) => Step::Stopped(reason),
             Noted::OutOfMemory => Step::OutOfMemory,
+        }
+    }
+
+    /// One step of the machine, where its instruction is a usual one, as the machine's `advance_noted` makes it. Whether it
+    /// was made: then the state before it is kept as by `step`, and else nothing changed. It takes no memory.
+    pub fn step_if_usual(&mut self, m: &mut Machine) -> bool
+        requires { AreNotesOf self.old (state_of m.old) }
+        ensures made { IsTrue result →
+            (Advance.Went, state_of m.new) ≡ advanced (state_of m.old) (step (state_of m.old)) }
+        ensures kept { IsTrue result → states_before self.new (state_of m.new)
+            ≡ spec.kept_with (state_of m.old) (states_before self.old (state_of m.old)) }
+        ensures unmade { result ≡ false → state_of m.new ≡ state_of m.old }
+        ensures same { result ≡ false → self.new ≡ self.old }
+        ensures fits { AreNotesOf self.new (state_of m.new) }
+    {
+        match m.advance_noted() {
+            Some(note) => {
+                self.notes.push_front(note);
+                true
+            }
+            None => false,
         }
     }
 

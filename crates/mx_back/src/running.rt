@@ -11,7 +11,7 @@ ghost use Rattle.mx_back.specs.KeptRuns as spec;
 ghost use Rattle.mx_back.specs.KeptRuns.{CarriesOutKept, KeepsRun, KeepsTurn, StepsKept};
 
 use crate::Back;
-use crate::trapping::trap_turn;
+use crate::trapping::trap_kept;
 use mx_core::{Machine, Step, machines_are_whole, machines_keep_the_invariant};
 use mx_host::Host;
 use mx_run::{End, TurnAnswer};
@@ -74,9 +74,35 @@ fn keep_steps<H: Host>(
     End::Spent
 }
 
-/// A step of such a run, or its end.
+/// A step of such a run, or its end. Most are usual ones.
 #[tactic(auto, using(mx_run::proofs::Areas::windows))]
 fn keep_step<H: Host>(
+    alloc: Global,
+    machine: &mut Machine,
+    host: &mut H,
+    back: &mut Back,
+) -> Result<(), End>
+    requires { AreNotesOf back.old (state_of machine.old) }
+    ensures told { StepsKept (H.told host.old) (H.told host.new) (state_of machine.old) (state_of machine.new) result }
+    ensures over { HasWindow (state_of machine.old) }
+    ensures bound { IsLater 1 (state_of machine.old) (state_of machine.new) }
+    ensures keeps { Keeps (H.told host.old) (H.told host.new) (H.faults host.old) (H.faults host.new) }
+    ensures fits { AreNotesOf back.new (state_of machine.new) }
+    ensures kept { KeepsTurn (H.told host.old) (state_of machine.old) (state_of machine.new) result back.old back.new }
+{
+    machines_keep_the_invariant(machine);
+    machines_are_whole(machine);
+    if back.step_if_usual(machine) {
+        Ok(())
+    } else {
+        keep_any_step(alloc, machine, host, back)
+    }
+}
+
+/// The same of any step.
+#[inline(never)]
+#[tactic(auto, using(mx_run::proofs::Areas::windows))]
+fn keep_any_step<H: Host>(
     alloc: Global,
     machine: &mut Machine,
     host: &mut H,
@@ -95,7 +121,7 @@ fn keep_step<H: Host>(
     let pc = machine.pc();
     match back.step(machine) {
         Step::Went(_) => Ok(()),
-        Step::Trap(call) => ended_at(pc, trap_turn(alloc, machine, host, &call, back)),
+        Step::Trap(call) => ended_at(pc, trap_kept(alloc, machine, host, &call, back)),
         Step::Stopped(reason) => Err(End::Stopped {
             pc,
             reason: reason.number(),

@@ -58,5 +58,6 @@ pub mod Tetras
 pub mod UndoneMemory
 pub mod UndoneStacks
 pub mod UndoneSteps
+pub mod UndoneUsual
 pub mod StackWorks
 pub mod Notings

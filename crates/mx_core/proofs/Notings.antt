@@ -22,7 +22,7 @@ use Rattle.mx_core.specs.State.{State, is_negative}
 use Rattle.mx_core.specs.Step.{Stepped, went, calls, stopped, fetched, after, step, store_touch}
 use Rattle.mx_core.specs.Stepping.{Foretells, told_write, step_answer}
 use Rattle.mx_core.specs.Stops.{store_fault}
-use Rattle.mx_core.specs.Undoing.{StateWas, MayStore, TakesBack, IsPaged, noted, value_noted, move_noted, memory_noted}
+use Rattle.mx_core.specs.Undoing.{StateWas, whole, MayStore, TakesBack, IsPaged, noted, value_noted, move_noted, memory_noted}
 use Rattle.mx_core.specs.Wild.{deed}
 use Rattle.mx_core.specs.declared.reason.Reason.TheVariants.{Negative}
 use Rattle.mx_core.specs.declared.sight.Sight.{Sight}
@@ -94,7 +94,7 @@ unfolding noted
 note-is n w s d t r =
     let place : Option ℕ = place_of t.sight.writes in
     let dest : t.sight.dest ≡ d.destination = ap (λ (g : Sight). g.dest) (t.sees r) in
-    t.is ∙ ap (λ ring. record { pc = s.pc; special = s.special; mark = s.mark; touched = s.touched; steps = s.steps; memory = memory_noted s place; ring = ring })
+    t.is ∙ ap (λ ring. whole (record { pc = s.pc; special = s.special; mark = s.mark; touched = s.touched; steps = s.steps; memory = memory_noted s place; ring = ring }))
     (t.works r (unwrap_or t.sight.dest 255) place w ∙ ap (λ (x : Option ℕ). move_noted d.effect.move (unwrap_or x 255) place w) dest)
 
 went-is : (s t : State) (trace : Trace) (x : Stepped) → (answer.Went trace, t) ≡ step_answer s x → x ≡ went t trace

@@ -40,7 +40,7 @@ result-sound P s k (Some x) h o = value-sound P s k x h o
 abbrev with_stack_octa_in : State → ℕ → ℕ → State
 with_stack_octa_in s a x = record s { stack = with_stack_octa s.stack (stack_index a) x }
 
-abbrev with_octa_on_page : State → ℕ → ℕ → State
+abbrev pub with_octa_on_page : State → ℕ → ℕ → State
 with_octa_on_page s a x = record s {
   octas = stored_at s.octas a x;
   pages = with_page s.pages (a / 4096);

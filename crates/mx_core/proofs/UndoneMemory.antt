@@ -107,13 +107,13 @@ twice-octa : (b : Bool) (x y z : ℕ) → cond b x (cond b y z) ≡ cond b x z
 twice-octa true x y z = refl
 twice-octa false x y z = refl
 
-own-page : (pages : ℕ → Bool) (p q : ℕ) → pages p ≡ true → with_page pages p q ≡ pages q
+pub own-page : (pages : ℕ → Bool) (p q : ℕ) → pages p ≡ true → with_page pages p q ≡ pages q
 own-page pages p q e = chosen-by (λ x. x ≡ pages q) (q == p) true (pages q) (λ f. let same : q ≡ p = grind (arith, nat_tests) in sym (ap pages same ∙ e)) (λ f. refl)
 
 unstored : (s : State) (a : ℕ) → IsPaged s → (stored_at s.octas a (s.octas a), s.pages, s.page_count) ≡ memory_of s
 unstored s a h = λ i. ((λ q. own-octa s.octas a q (λ e. h.octawise a q (sym e)) i), s.pages, s.page_count)
 
-restored : (s : State) (a x : ℕ) → IsPaged s → s.pages (a / 4096) ≡ true →
+pub restored : (s : State) (a x : ℕ) → IsPaged s → s.pages (a / 4096) ≡ true →
     (stored_at (stored_at s.octas a x) a (s.octas a), with_page s.pages (a / 4096), cond (s.pages (a / 4096)) s.page_count (s.page_count + 1)) ≡ memory_of s
 restored s a x h e =
     let count : cond (s.pages (a / 4096)) s.page_count (s.page_count + 1) ≡ s.page_count = ap (λ b. cond b s.page_count (s.page_count + 1)) e in

@@ -37,14 +37,20 @@ shown-same : (z : Stack) → with_visible z (visible z) ≡ z
 shown-same (listed r) = refl
 shown-same (windowed w) = refl
 
+-- a register gets what it has
+pub own-register : (z : Stack) (k : ℕ) → is_marginal (visible z) k ≡ false → with_register z k (value_of (visible z) k) ≡ z
+own-register z k apart =
+    let v : Registers = visible z in
+    let own : with_value v k (value_of v k) ≡ v = sym (ap (λ c. cond c v (with_value v k (value_of v k))) apart) ∙ same-given v k in
+    register-kept z k (value_of v k) apart ∙ ap (with_visible z) own ∙ shown-same z
+
 -- $255 gets what it has
 last-own : (z : Stack) → AreInBounds (visible z) → with_register z 255 (value_of (visible z) 255) ≡ z
 last-own z b =
     let v : Registers = visible z in
     let most : v.first_global ≤ 255 = b.one_is_global in
     let apart : is_marginal v 255 ≡ false = grind (arith, nat_tests) in
-    let own : with_value v 255 (value_of v 255) ≡ v = sym (ap (λ c. cond c v (with_value v 255 (value_of v 255))) apart) ∙ same-given v 255 in
-    register-kept z 255 (value_of v 255) apart ∙ ap (with_visible z) own ∙ shown-same z
+    own-register z 255 apart
 
 pub given-last : (z y : Stack) → AreInBounds (visible z) → y ≡ z → IsGiven z 255 y
 given-last z y b e = record { value = value_of (visible z) 255; is = e ∙ sym (last-own z b) }

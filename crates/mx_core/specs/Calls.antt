@@ -41,9 +41,13 @@ left s (Err reason) = (Err (Stopped reason), s)
 abbrev pub Makes : (State → Result State Reason) → Result (Unit {0}) Stop → Kept → Kept → Type 0
 Makes f result old new = (result, state_of new) ≡ left (state_of old) (f (state_of old))
 
+-- a call makes a state of the old machine, and nothing is refused
+abbrev pub MakesState : (State → Result State Reason) → Kept → Kept → Type 0
+MakesState f old new = Makes f (Ok tt) old new
+
 -- a call that tells whether it made this of the old machine; where it did not nothing changed
 abbrev pub MakesWhereTold : (State → Result State Reason) → Bool → Kept → Kept → Type 0
-MakesWhereTold f told old new = IsTrue told → Makes f (Ok tt) old new
+MakesWhereTold f told old new = IsTrue told → MakesState f old new
 
 abbrev pub KeepsWhereNot : Bool → Kept → Kept → Type 0
 KeepsWhereNot told old new = told ≡ false → state_of new ≡ state_of old

@@ -1,15 +1,17 @@
 -- What the code tells of a step before it is made, so that the step can be noted; and what a noted step answers.
-use Rattle.std.specs.Prelude.{ℕ, ◌≡◌, ◌^◌, ◌==◌, ◌||◌, nat_lt, if◌then◌else◌, Option, None, Some}
+use Rattle.std.specs.Prelude.{ℕ, ◌≡◌, ◌<◌, ◌/◌, ◌^◌, true, ◌==◌, ◌||◌, nat_lt, if◌then◌else◌, Option, None, Some}
 use Rattle.std.specs.Option.{unwrap_or}
+use Rattle.mx_mem.specs.declared.part.Part.{Part}
 use Rattle.mx_ring.specs.Notes.{RingWas, ring_noted}
 use Rattle.mx_ring.specs.Window.{Window}
 use Rattle.mx_ring.specs.declared.notes.RingWork.{RingWork}
 use Rattle.mx_ring.specs.declared.notes.RingWork.TheVariants.{CutLocals}
-use Rattle.mx_spec.specs.SpecialRegisters.{rG, rL}
-use Rattle.mx_core.specs.Deeds.{Deed}
-use Rattle.mx_core.specs.State.{State}
+use Rattle.mx_spec.specs.SpecialRegisters.{rG, rJ, rL}
+use Rattle.mx_core.specs.Calls.{store_seen}
+use Rattle.mx_core.specs.Deeds.{Deed, onward}
+use Rattle.mx_core.specs.State.{State, with_special}
 use Rattle.mx_core.specs.Stepping.{Foretells}
-use Rattle.mx_core.specs.Undoing.{StateWas, value_noted, move_noted, memory_noted}
+use Rattle.mx_core.specs.Undoing.{WholeWas, StateWas, whole, value_noted, move_noted, memory_noted}
 use Rattle.mx_core.specs.declared.sight.Sight.{Sight}
 use Rattle.mx_core.specs.declared.trace.Touch.{Touch}
 use Rattle.mx_core.specs.declared.step.Step.{Step}
@@ -37,8 +39,8 @@ TellsWork work d = d.refused ≡ None
     → (k : ℕ) (place : Option ℕ) (w : Window) → work_noted work k place w ≡ move_noted d.effect.move k place w
 
 -- the note by a sight and a work
-abbrev pub note_told : Window → State → Sight → Option RingWork → StateWas
-note_told w s g work = record {
+abbrev pub whole_told : Window → State → Sight → Option RingWork → WholeWas
+whole_told w s g work = record {
   pc = s.pc;
   special = s.special;
   mark = s.mark;
@@ -48,6 +50,9 @@ note_told w s g work = record {
   ring = work_noted work (unwrap_or g.dest 255) (place_of g.writes) w;
 }
 
+abbrev pub note_told : Window → State → Sight → Option RingWork → StateWas
+note_told w s g work = whole (whole_told w s g work)
+
 -- a note is one by a sight and a work that tell a deed
 pub record TellsDeed (n : StateWas) (w : Window) (s : State) (d : Deed) : Type 0 where
   pub sight : Sight
@@ -55,6 +60,21 @@ pub record TellsDeed (n : StateWas) (w : Window) (s : State) (d : Deed) : Type 0
   pub sees : Foretells s d sight
   pub works : TellsWork work d
   pub is : n ≡ note_told w s sight work
+
+-- a store below Stack_Segment, on a page that was there, and the machine went on
+pub record StoresBelow (s t : State) (a : ℕ) : Type 0 where
+  pub low : a < 0x6000_0000_0000_0000
+  pub there : s.pages (a / 4096) ≡ true
+  pub part : Part
+  pub value : ℕ
+  pub next : ℕ
+  pub is : t ≡ onward (store_seen s a part value) next
+
+-- rJ gets a value, and the machine goes on
+pub record PutsLink (s t : State) : Type 0 where
+  pub value : ℕ
+  pub next : ℕ
+  pub is : t ≡ onward (with_special s rJ value) next
 
 -- a noted step without its note
 abbrev pub step_of : Noted → Step

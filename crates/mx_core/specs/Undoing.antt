@@ -1,20 +1,26 @@
 -- What a step overwrites, kept so that the state before it can be told from the one after it.
-use Rattle.std.specs.Prelude.{ℕ, ◌-◌, ◌/◌, ◌^◌, ◌≡◌, ◌<◌, Bool, true, false, not, if◌then◌else◌, List, Option, None, Some}
+use Rattle.std.specs.Prelude.{ℕ, ◌-◌, ◌/◌, ◌%◌, ◌^◌, ◌≡◌, ◌<◌, ◌≤◌, Bool, true, false, not, if◌then◌else◌, List, Option, None, Some}
 use Rattle.std.specs.Option.{unwrap_or}
 use Rattle.mx_mem.specs.Dropping.{without_page, pages_without}
 use Rattle.mx_mem.specs.Memory.{stored_at}
 use Rattle.mx_ring.specs.Notes.{RingWas, FitsRing, ring_undone, ring_noted, ring_noted_stored}
-use Rattle.mx_ring.specs.Stack.{Stack, listed, windowed, in_stack_area, stack_index, stack_address}
+use Rattle.mx_ring.specs.Registers.{is_marginal}
+use Rattle.mx_ring.specs.Stack.{Stack, listed, windowed, visible, local_count, cut_to, in_stack_area, stack_index, stack_address}
 use Rattle.mx_ring.specs.Window.{Window}
 use Rattle.mx_ring.specs.declared.notes.RingWork.TheVariants as work
+use Rattle.mx_spec.specs.SpecialRegisters.{rJ}
 use Rattle.mx_core.specs.Deeds.{Deed}
 use Rattle.mx_core.specs.Effects.{Store, Move, stays, pushes, pops, saves, unsaves, cuts, moves_globals}
-use Rattle.mx_core.specs.State.{State}
+use Rattle.mx_core.specs.State.{State, with_value_in, with_special}
 pub use Rattle.mx_core.specs.declared.octa_was.OctaWas.{OctaWas}
+pub use Rattle.mx_core.specs.declared.usual_was.UsualWas.{UsualWas}
+use Rattle.mx_core.specs.declared.usual_was.Overwritten.{Overwritten}
+use Rattle.mx_core.specs.declared.usual_was.Overwritten.TheVariants as was
 
 -- NOTES
 
-pub record StateWas : Type 0 where
+-- what a step of any kind may have overwritten
+pub record WholeWas : Type 0 where
   -- the small parts of the state, whole
   pub pc : ℕ
   pub special : List ℕ
@@ -24,6 +30,11 @@ pub record StateWas : Type 0 where
   -- the octa of memory that may have been overwritten, and the register stack
   pub memory : Option OctaWas
   pub ring : RingWas
+
+-- The note of a step. A usual one overwrites but the next address and the steps, and a register, L, rJ or an octa.
+pub data StateWas : Type 0 where
+  whole : WholeWas → StateWas
+  usual : UsualWas → StateWas
 
 -- BACK
 
@@ -45,9 +56,8 @@ abbrev pub stack_undone : RingWas → Stack → Stack
 stack_undone n (listed r) = listed r
 stack_undone n (windowed w) = windowed (ring_undone n w)
 
--- the state before, told by the note from the state after
-unfoldable pub state_undone : StateWas → State → State
-state_undone n s = record (memory_undone n.memory s) {
+abbrev pub whole_undone : WholeWas → State → State
+whole_undone n s = record (memory_undone n.memory s) {
   pc = n.pc;
   stack = stack_undone n.ring s.stack;
   special = n.special;
@@ -55,6 +65,22 @@ state_undone n s = record (memory_undone n.memory s) {
   touched = n.touched;
   steps = n.steps;
 }
+
+-- the register, L, rJ or the octa is what it was
+abbrev pub overwritten_undone : Overwritten → State → State
+overwritten_undone was.Nothing s = s
+overwritten_undone (was.Register k x) s = with_value_in s k x
+overwritten_undone (was.Locals l) s = record s { stack = cut_to s.stack l }
+overwritten_undone (was.Link x) s = with_special s rJ x
+overwritten_undone (was.Octa a x) s = record s { octas = stored_at s.octas a x }
+
+abbrev pub usual_undone : UsualWas → State → State
+usual_undone n s = record (overwritten_undone n.overwritten s) { pc = n.pc; steps = n.steps }
+
+-- the state before, told by the note from the state after
+unfoldable pub state_undone : StateWas → State → State
+state_undone (whole n) s = whole_undone n s
+state_undone (usual n) s = usual_undone n s
 
 -- WHAT A STEP NOTES
 
@@ -83,7 +109,7 @@ memory_noted s (Some a) =
 -- The note of a deed, in a state over a window, told before it is carried out. The octa at an address is noted that it
 -- may overwrite, and the destination; where it has none $255, to which a trip gives a value.
 unfoldable pub noted : Window → State → Deed → Option ℕ → StateWas
-noted w s d place = record {
+noted w s d place = whole (record {
   pc = s.pc;
   special = s.special;
   mark = s.mark;
@@ -91,7 +117,7 @@ noted w s d place = record {
   steps = s.steps;
   memory = memory_noted s place;
   ring = move_noted d.effect.move (unwrap_or d.destination 255) place w;
-}
+})
 
 -- an address where a deed may store: it lies in the octa of the store, where there is one
 abbrev pub MayStore : Option ℕ → Option Store → Type 0
@@ -111,9 +137,25 @@ abbrev pub MemoryFits : Option OctaWas → State → Type 0
 MemoryFits None s = Unit {0}
 MemoryFits (Some o) s = (o.at < 2 ^ 63) × (o.began ≡ false → s.pages (o.at / 4096) ≡ true)
 
-pub record FitsState (n : StateWas) (s : State) : Type 0 where
+pub record FitsWhole (n : WholeWas) (s : State) : Type 0 where
   pub ring : StackFits n.ring s.stack
   pub memory : MemoryFits n.memory s
+
+-- the register is local or global, no fewer are local, or the octa's page is there
+abbrev pub OverwrittenFits : Overwritten → State → Type 0
+OverwrittenFits was.Nothing s = Unit {0}
+OverwrittenFits (was.Register k x) s = is_marginal (visible s.stack) k ≡ false
+OverwrittenFits (was.Locals l) s = l ≤ local_count s.stack
+OverwrittenFits (was.Link x) s = Unit {0}
+OverwrittenFits (was.Octa a x) s = (a < 2 ^ 63) × (s.pages (a / 4096) ≡ true)
+
+pub record FitsUsual (n : UsualWas) (s : State) : Type 0 where
+  pub pc : n.pc % 4 ≡ 0
+  pub overwritten : OverwrittenFits n.overwritten s
+
+abbrev pub FitsState : StateWas → State → Type 0
+FitsState (whole n) s = FitsWhole n s
+FitsState (usual n) s = FitsUsual n s
 
 -- a note takes a state back to the one before
 pub record TakesBack (n : StateWas) (after before : State) : Type 0 where

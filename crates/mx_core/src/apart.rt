@@ -1,10 +1,12 @@
 //! Usual instructions that do more than give a value or go elsewhere. Each is given with its code as a literal.
 
-ghost use Rattle.std.specs.Prelude.{◌≡◌, ◌<◌, ◌%◌, ◌^◌, IsTrue, false};
+ghost use Rattle.std.specs.Prelude.{◌≡◌, ◌<◌, ◌/◌, ◌%◌, ◌^◌, IsTrue, false, true};
 ghost use Rattle.mx_core.specs.Calls.{KeepsWhereNot, MakesWhereTold, settled, store_outcome};
 ghost use Rattle.mx_core.specs.Deeds.{deed_at, deed_of, outcome};
+ghost use Rattle.mx_core.specs.Effects.{data_address};
 ghost use Rattle.mx_core.specs.Instructions.{next_of, operation_in, x_of};
 ghost use Rattle.mx_core.specs.Kept.{state_of};
+ghost use Rattle.mx_core.specs.Noting.{PutsLink, StoresBelow};
 
 use crate::Machine;
 use crate::instruction::Instruction;
@@ -101,8 +103,10 @@ impl Machine {
     /// STB to STCO below Stack_Segment, where the page is near and no sign is lost.
     #[tactic(auto)]
     #[inline(always)]
-    fn store_if_usual(&mut self, how: Storing, i: &Instruction) -> bool
+    pub(crate) fn store_if_usual(&mut self, how: Storing, i: &Instruction) -> bool
         ensures made { MakesWhereTold (λ s. outcome s (deed_of (Operation.Store how) s i.now)) result self.old self.new }
+        ensures stores { IsTrue result →
+            StoresBelow (state_of self.old) (state_of self.new) (data_address (state_of self.old) i.now) }
         ensures kept { KeepsWhereNot result self.old self.new }
     {
         let a = self.data_address(i);
@@ -121,9 +125,10 @@ impl Machine {
     /// PUT of rJ, which stands in each subroutine that calls others.
     #[tactic(auto, using(crate::proofs::PutValues::put_link))]
     #[inline(always)]
-    fn put_link_if_usual(&mut self, i: &Instruction) -> bool
+    pub(crate) fn put_link_if_usual(&mut self, i: &Instruction) -> bool
         requires { operation_in i.now ≡ Operation.Put }
         ensures made { MakesWhereTold (λ s. outcome s (deed_of Operation.Put s i.now)) result self.old self.new }
+        ensures puts { IsTrue result → PutsLink (state_of self.old) (state_of self.new) }
         ensures kept { KeepsWhereNot result self.old self.new }
     {
         if i.x() != RJ || i.y() != 0 {
@@ -159,6 +164,7 @@ impl Machine {
     fn store_if_near(&mut self, a: u64, part: Part, x: u64) -> bool
         ensures made { MakesWhereTold (λ s. store_outcome s a part x) result self.old self.new }
         ensures low { IsTrue result → a < 0x6000_0000_0000_0000 }
+        ensures there { IsTrue result → (state_of self.old).pages (a / 4096) ≡ true }
         ensures kept { KeepsWhereNot result self.old self.new }
     {
         match part {
@@ -177,6 +183,7 @@ impl Machine {
     fn store_tetra_if_near(&mut self, a: u64, t: u32) -> bool
         ensures made { MakesWhereTold (λ s. store_outcome s a Part.Tetra t) result self.old self.new }
         ensures low { IsTrue result → a < 0x6000_0000_0000_0000 }
+        ensures there { IsTrue result → (state_of self.old).pages (a / 4096) ≡ true }
         ensures kept { KeepsWhereNot result self.old self.new }
     {
         self.memory.store_tetra_if_near(a, t)

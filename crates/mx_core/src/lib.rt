@@ -44,6 +44,8 @@ mod traps;
 mod trips;
 mod undoing;
 mod usual;
+mod usual_noting;
+mod usual_was;
 mod values;
 mod works;
 

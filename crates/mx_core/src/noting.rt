@@ -19,6 +19,7 @@ use crate::octa_was::OctaWas;
 use crate::operation::Operation;
 use crate::sight::Sight;
 use crate::undoing::machines_are_paged;
+use crate::usual_was::UsualWas;
 use crate::{Machine, Reason, Step, Touch, Trace};
 use mx_ring::{RingFault, RingNote, RingWork};
 use mx_trip::TrapCall;
@@ -28,6 +29,29 @@ use std::marker::Model;
 /// What a step may have overwritten: by it the step is taken back.
 #[derive(Drop)]
 pub struct Note {
+    pub(crate) was: Was,
+}
+
+impl Model for Note {
+    ghost use Rattle.mx_core.specs.Undoing.{StateWas};
+
+    ghost Value = { StateWas };
+
+    ghost use Rattle.mx_core.specs.NoteParts.{note_in};
+
+    ghost view = { note_in };
+}
+
+/// What a step of any kind may have overwritten, or the little that a usual one did.
+#[derive(Drop)]
+pub(crate) enum Was {
+    Whole(Box<WholeNote>),
+    Usual(UsualWas),
+}
+
+/// What a step of any kind may have overwritten.
+#[derive(Drop)]
+pub(crate) struct WholeNote {
     pub(crate) pc: u64,
     pub(crate) special: [u64; 32],
     pub(crate) mark: u32,
@@ -37,14 +61,14 @@ pub struct Note {
     pub(crate) ring: RingNote,
 }
 
-impl Model for Note {
-    ghost use Rattle.mx_core.specs.Undoing.{StateWas};
+impl Model for WholeNote {
+    ghost use Rattle.mx_core.specs.Undoing.{WholeWas};
 
-    ghost Value = { StateWas };
+    ghost Value = { WholeWas };
 
-    ghost use Rattle.mx_core.specs.NoteParts.{note_in, NoteHolds};
+    ghost use Rattle.mx_core.specs.NoteParts.{whole_in, NoteHolds};
 
-    ghost view = { note_in };
+    ghost view = { whole_in };
 
     ghost invariant = { NoteHolds };
 }
@@ -62,6 +86,18 @@ pub enum Noted {
 impl Machine {
     /// One step, as `step` makes it, and a note by which it is taken back. It may take memory for the note.
     pub fn step_noted(&mut self, alloc: Global) -> Noted
+        ensures answer { step_of result ≢ Step.OutOfMemory →
+            (step_of result, state_of self.new) ≡ step_answer (state_of self.old) (step (state_of self.old)) }
+        ensures memory { step_of result ≡ Step.OutOfMemory → state_of self.new ≡ state_of self.old }
+        ensures back { IfWent result (λ note. TakesBack note (state_of self.new) (state_of self.old)) }
+    {
+        let noted = self.step_with_note(alloc);
+        self.keep_code();
+        noted
+    }
+
+    /// The same. The page of its instruction is not kept.
+    fn step_with_note(&mut self, alloc: Global) -> Noted
         ensures answer { step_of result ≢ Step.OutOfMemory →
             (step_of result, state_of self.new) ≡ step_answer (state_of self.old) (step (state_of self.old)) }
         ensures memory { step_of result ≡ Step.OutOfMemory → state_of self.new ≡ state_of self.old }
@@ -110,14 +146,23 @@ impl Machine {
     {
         let sight = self.sight_at(i);
         let work = self.work_at(i);
-        self.note_told(alloc, &sight, work)
+        match self.whole_note(alloc, &sight, work) {
+            Some(whole) => boxed(alloc, whole),
+            None => None,
+        }
     }
 
     /// The note by what is seen and by the work of the register stack.
     #[tactic(auto, unfolding(crate::specs::Kept::state_of))]
-    fn note_told(&mut self, alloc: Global, sight: &Sight, work: Option<RingWork>) -> Option<Note>
+    #[inline(always)]
+    fn whole_note(
+        &mut self,
+        alloc: Global,
+        sight: &Sight,
+        work: Option<RingWork>,
+    ) -> Option<WholeNote>
         requires { IfSome work (λ work. WorkNeeds work self.old.ring) }
-        ensures note { IfSome result (λ n. n ≡ spec.note_told self.old.ring (state_of self.old) sight.now work) }
+        ensures note { IfSome result (λ n. n ≡ spec.whole_told self.old.ring (state_of self.old) sight.now work) }
         ensures same { self.new ≡ self.old }
     {
         let place = place_of(sight.writes);
@@ -126,7 +171,7 @@ impl Machine {
         let Ok(ring) = self.ring_noted(alloc, work, k, place) else {
             return None;
         };
-        Some(Note {
+        Some(WholeNote {
             pc: self.pc,
             special: self.special,
             mark: self.mark,
@@ -197,6 +242,19 @@ impl Machine {
             }
             None => self.ring.note(alloc, RingWork::Set(k, 0)),
         }
+    }
+}
+
+/// The note of a step, or nothing where memory is lacking.
+#[inline(always)]
+fn boxed(alloc: Global, whole: WholeNote) -> Option<Note>
+    ensures { IfSome result (λ n. n ≡ undoing.whole whole) }
+{
+    match Box::new(alloc, whole) {
+        Ok(whole) => Some(Note {
+            was: Was::Whole(whole),
+        }),
+        Err(_) => None,
     }
 }
 

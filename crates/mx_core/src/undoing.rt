@@ -1,29 +1,80 @@
 //! A step that is taken back.
 
-ghost use Rattle.std.specs.Prelude.{◌≡◌, ◌<◌, ◌^◌, ◌/◌, ℕ, Option, true};
+ghost use Rattle.std.specs.Prelude.{◌≡◌, ◌<◌, ◌^◌, ◌/◌, ℕ, Option, true, false};
 ghost use Rattle.mx_mem.specs.Memory.{octa_at, has_page, page_count, stored_at};
-ghost use Rattle.mx_ring.specs.Stack.{windowed};
+ghost use Rattle.mx_ring.specs.Registers.{is_marginal};
+ghost use Rattle.mx_ring.specs.Stack.{visible, windowed};
 ghost use Rattle.mx_ring.specs.Window.{Window};
 ghost use Rattle.mx_core.specs.Kept.{state_of};
 ghost use Rattle.mx_core.specs.Machines.{IsOverWindow};
-ghost use Rattle.mx_core.specs.State.{State};
+ghost use Rattle.mx_core.specs.State.{State, with_value_in};
 ghost use Rattle.mx_core.specs.Step.{went, step};
-ghost use Rattle.mx_core.specs.Undoing.{FitsState, IsPaged, MayStore, TakesBack, noted, state_undone};
+ghost use Rattle.mx_core.specs.Undoing.{FitsState, FitsUsual, FitsWhole, IsPaged, MayStore, OverwrittenFits, TakesBack};
+ghost use Rattle.mx_core.specs.Undoing.{noted, overwritten_undone, state_undone, usual_undone, whole_undone};
 ghost use Rattle.mx_core.specs.Wild.{deed};
 ghost use Rattle.mx_core.specs.declared.trace.Trace.{Trace};
 
+use crate::noting::{Was, WholeNote};
+use crate::trips::RJ;
+use crate::usual_was::{Overwritten, UsualWas};
 use crate::{Machine, Note};
 use mx_mem::Memory;
 
 impl Machine {
     /// Takes the last step back, by its note, where nothing else changed since: registers and hidden ones, the octas of
     /// the stack area, memory and its pages, special registers and all else are what they were. It takes no memory.
-    #[tactic(auto, unfolding(crate::specs::Kept::state_of, crate::specs::Undoing::state_undone))]
+    #[tactic(auto, unfolding(crate::specs::Undoing::state_undone))]
     pub fn undo(&mut self, note: Note)
         requires { FitsState note (state_of self.old) }
         ensures { state_of self.new ≡ state_undone note (state_of self.old) }
     {
-        let Note {
+        match note.was {
+            Was::Whole(whole) => self.undo_whole(Box::into_inner(whole)),
+            Was::Usual(was) => self.undo_usual(was),
+        }
+    }
+
+    /// Takes a usual step back.
+    #[tactic(auto, unfolding(crate::specs::Kept::state_of))]
+    fn undo_usual(&mut self, was: UsualWas)
+        requires { FitsUsual was (state_of self.old) }
+        ensures { state_of self.new ≡ usual_undone was (state_of self.old) }
+    {
+        self.undo_overwritten(was.overwritten);
+        self.pc = was.pc;
+        self.steps = was.steps;
+    }
+
+    /// Makes the register, L, rJ or the octa what it was.
+    #[tactic(auto, unfolding(crate::specs::Kept::state_of))]
+    fn undo_overwritten(&mut self, was: Overwritten)
+        requires { OverwrittenFits was (state_of self.old) }
+        ensures { state_of self.new ≡ overwritten_undone was (state_of self.old) }
+    {
+        match was {
+            Overwritten::Nothing => {}
+            Overwritten::Register(k, x) => self.put_register_back(k, x),
+            Overwritten::Locals(l) => self.ring.cut_locals(l),
+            Overwritten::Link(x) => self.put(RJ, x),
+            Overwritten::Octa(at, octa) => put_octa_back(&mut self.memory, at, octa),
+        }
+    }
+
+    /// Gives a register, which is local or global, back what it had.
+    fn put_register_back(&mut self, k: u8, x: u64)
+        requires { is_marginal (visible (state_of self.old).stack) k ≡ false }
+        ensures { state_of self.new ≡ with_value_in (state_of self.old) k x }
+    {
+        let _ = self.set(k, x);
+    }
+
+    /// Takes a step of any kind back.
+    #[tactic(auto, unfolding(crate::specs::Kept::state_of))]
+    fn undo_whole(&mut self, note: WholeNote)
+        requires { FitsWhole note (state_of self.old) }
+        ensures { state_of self.new ≡ whole_undone note (state_of self.old) }
+    {
+        let WholeNote {
             pc,
             special,
             mark,

@@ -62,7 +62,7 @@ impl Machine {
     /// The tetra that holds an address, where it is below Stack_Segment and its page is that of the last instruction.
     #[tactic(auto, unfolding(crate::specs::Kept::state_of, crate::specs::State::octa))]
     #[inline(always)]
-    fn near_tetra(&self, a: u64) -> Option<u32>
+    pub(crate) fn near_tetra(&self, a: u64) -> Option<u32>
         ensures value { IfSome result (λ t. t ≡ states.tetra (state_of self.now) a) }
         ensures low { IfSome result (λ _. a < 0x6000_0000_0000_0000) }
     {
@@ -72,7 +72,7 @@ impl Machine {
     /// The octa that holds an address, where it is below Stack_Segment and its page is near.
     #[tactic(auto, unfolding(crate::specs::Kept::state_of, crate::specs::State::octa))]
     #[inline(always)]
-    fn near_octa(&self, a: u64) -> Option<u64>
+    pub(crate) fn near_octa(&self, a: u64) -> Option<u64>
         ensures value { IfSome result (λ x. x ≡ states.octa (state_of self.now) a) }
         ensures low { IfSome result (λ _. a < 0x6000_0000_0000_0000) }
     {

@@ -5,6 +5,7 @@ pub mod Outputs
 pub mod HeldFlags
 pub mod FlaggedTetras
 pub mod TurnAnswers
+pub mod RefusedTraps
 pub mod PlanEnds
 pub mod HeldRuns
 pub mod FreeSteps

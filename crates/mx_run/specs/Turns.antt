@@ -1,5 +1,5 @@
 -- A step of the machine over a host: an instruction, or a file trap as a whole.
-use Rattle.std.specs.Prelude.{ℕ, ◌%◌, ◌^◌, ◌||◌, ◌&&◌, Bool, true, false}
+use Rattle.std.specs.Prelude.{ℕ, ◌%◌, ◌^◌, ◌==◌, ◌||◌, ◌&&◌, Bool, true, false}
 use Rattle.mx_host.specs.HostModel.{HostModel}
 use Rattle.mx_ring.specs.Stack.{register}
 use Rattle.mx_trip.specs.declared.call.TrapCall.{TrapCall}
@@ -41,6 +41,16 @@ moves_before other = false
 -- the status of a program that halts
 abbrev pub status_of : State → ℕ
 status_of s = register s.stack 255 % 2 ^ 8
+
+-- whether a file trap with this answer may have changed the machine: one whose request is refused changes nothing
+abbrev pub moves_bytes : TrapAnswer → Bool
+moves_bytes (trap.Stopped why) = moves_before why
+moves_bytes other = true
+
+-- the same by what its turn answers: only a stop other than that for one page too many leaves the machine as it was
+abbrev pub may_change : TurnAnswer → Bool
+may_change (answer.Stopped reason) = reason == 123
+may_change other = true
 
 -- the state with what a trap left of memory, and what the trap's answer makes of it
 abbrev pub turn_with : Bool → TrapCall → State → HostModel → TrapAnswer → Turn

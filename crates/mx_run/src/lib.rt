@@ -22,4 +22,4 @@ pub use go::run_freely;
 pub use runner::Runner;
 pub use steady_laws::runs_go_by_no_count;
 pub use turn_answer::TurnAnswer;
-pub use turning::turn;
+pub use turning::{trap_turn, turn};

@@ -1,6 +1,6 @@
 //! A turn: a step of the machine over a host, with a file trap as a whole.
 
-ghost use Rattle.std.specs.Prelude.{◌≡◌, ◌≢◌, ℕ, suc};
+ghost use Rattle.std.specs.Prelude.{◌≡◌, ◌≢◌, ℕ, suc, false};
 ghost use Rattle.mx_host.specs.HostModel.{HostModel};
 ghost use Rattle.mx_host.specs.Keeping.{Keeps};
 ghost use Rattle.mx_plan.specs.Clauses.{CarriesOutBoth, Stands};
@@ -64,9 +64,12 @@ pub(crate) fn make_turn<H: Host>(alloc: Global, machine: &mut Machine, host: &mu
     }
 }
 
-/// A file trap as a whole.
+/// Makes a file trap that a step of a machine calls, as a whole: the turn of that step.
+///
+/// Where it stops, other than for one page too many, it left the machine as it was. Out of memory, it left the bytes that
+/// it moved and the calls that it made; what was written to standard output is a front of what the turn writes.
 #[tactic(auto, using(crate::proofs::Later::counting))]
-fn trap_turn<H: Host>(
+pub fn trap_turn<H: Host>(
     alloc: Global,
     machine: &mut Machine,
     host: &mut H,
@@ -75,6 +78,7 @@ fn trap_turn<H: Host>(
     requires { step (state_of machine.old) ≡ calls call.now }
     ensures told { CarriesOutRun (H.told host.old) (H.told host.new) (state_of machine.old) (state_of machine.new)
         TurnAnswer.OutOfMemory result turn_plan }
+    ensures same { spec.may_change result ≡ false → state_of machine.new ≡ state_of machine.old }
     ensures bound { IsLater 1 (state_of machine.old) (state_of machine.new) }
     ensures stands { Stands (H.told host.old) (H.told host.new) (H.faults host.old) (H.faults host.new) }
 {
@@ -94,19 +98,23 @@ fn carry_out<H: Host>(
     ensures told { CarriesOutBoth (H.told host.old) (H.told host.new) (machine_contents (state_of machine.old))
         (machine_contents (state_of machine.new)) TrapAnswer.OutOfMemory result (trap_plan call.now) }
     ensures whole { IsWholeSpace (state_of machine.new) }
+    ensures same { spec.moves_bytes result ≡ false → state_of machine.new ≡ state_of machine.old }
     ensures steps { (state_of machine.new).steps ≡ (state_of machine.old).steps }
     ensures stands { Stands (H.told host.old) (H.told host.new) (H.faults host.old) (H.faults host.new) }
 {
+    machines_are_whole(machine);
     let answer = trap(alloc, machine, host, call);
     machines_are_whole(machine);
     answer
 }
 
 /// Completes a file trap with its answer.
-#[tactic(auto, using(crate::proofs::Later::finishing))]
+#[tactic(auto, using(crate::proofs::Later::finishing, crate::proofs::RefusedTraps::stops))]
 fn finish(machine: &mut Machine, call: &TrapCall, looks: bool, answer: TrapAnswer) -> TurnAnswer
     ensures told { answer ≢ TrapAnswer.OutOfMemory → (m : HostModel) → (result, state_of machine.new, m)
         ≡ turn_answer (spec.turn_with looks call.now (state_of machine.old) m answer) }
+    ensures same { spec.moves_bytes answer ≡ false → state_of machine.new ≡ state_of machine.old }
+    ensures changes { spec.may_change result ≡ spec.moves_bytes answer }
     ensures memory { result ≡ TurnAnswer.OutOfMemory → answer ≡ TrapAnswer.OutOfMemory }
     ensures bound { IsLater 1 (state_of machine.old) (state_of machine.new) }
     ensures unmade { answer ≡ TrapAnswer.OutOfMemory → result ≡ TurnAnswer.OutOfMemory }

@@ -97,6 +97,15 @@ static OTHERS: [(u64, u64); 5] = [
     (0x20, 0xfd00_0000_fd00_0000),
 ];
 
+/// SETH, a store that begins a page, SETL, a store of a byte, ADDU, PUT of rJ, a load, a jump and SWYM.
+static USUAL: [(u64, u64); 5] = [
+    (0x100, 0xe002_2000_ad02_0200),
+    (0x108, 0xe303_0007_a103_0209),
+    (0x110, 0x2203_0303_f604_0003),
+    (0x118, 0x8d04_0208_f000_0001),
+    (0x120, 0xfd00_0000_fd00_0000),
+];
+
 /// A jump to itself.
 static JUMPS: [(u64, u64); 1] = [(0x100, 0xf000_0000_0000_0000)];
 
@@ -108,8 +117,11 @@ type Row = (Program, usize);
 
 fn see(alloc: Global, rows: &[Row]) -> Result<(), Fail> {
     for (at, (program, steps)) in rows.iter().enumerate() {
-        if come_back(alloc, program, *steps)? != *steps {
+        if come_back(alloc, program, *steps, false)? != *steps {
             return Err(Fail::new(format_args!("row {at}")));
+        }
+        if come_back(alloc, program, *steps, true)? != *steps {
+            return Err(Fail::new(format_args!("row {at}, usual steps as such")));
         }
     }
     Ok(())
@@ -133,7 +145,8 @@ fn each_kind_of_step_comes_back(rt: HostRuntime) -> Result<(), Fail> {
 
 #[test]
 fn exchanges_and_inserted_steps_come_back(rt: HostRuntime) -> Result<(), Fail> {
-    let rows: [Row; 4] = [
+    let rows: [Row; 5] = [
+        (&USUAL, 9),
         (&EXCHANGES, 6),
         (&SPILLED_EXCHANGES, 10),
         (&INSERTS, 10),
@@ -143,11 +156,11 @@ fn exchanges_and_inserted_steps_come_back(rt: HostRuntime) -> Result<(), Fail> {
 }
 
 /// How many steps are kept after 1,100, how many come back, and how many were made before those.
-fn many(alloc: Global) -> Result<(usize, usize, u64), Fail> {
+fn many(alloc: Global, quick: bool) -> Result<(usize, usize, u64), Fail> {
     let mut machine = machine_with(alloc, &JUMPS)?;
     let mut back = Back::new(alloc)?;
     let mut seen = Octas::new(alloc);
-    if !step_up(&mut back, &mut machine, &mut seen, 1100) {
+    if !step_up(&mut back, &mut machine, &mut seen, 1100, quick) {
         return Err(Fail::new("a step did not go on"));
     }
     let kept = back.kept();
@@ -157,7 +170,8 @@ fn many(alloc: Global) -> Result<(usize, usize, u64), Fail> {
 
 #[test]
 fn the_last_1024_steps_are_kept(rt: HostRuntime) -> Result<(), Fail> {
-    assert!(rt; many(rt.alloc())? == (1024, 1024, 76));
+    assert!(rt; many(rt.alloc(), false)? == (1024, 1024, 76));
+    assert!(rt; many(rt.alloc(), true)? == (1024, 1024, 76));
     Ok(())
 }
 

@@ -47,17 +47,35 @@ fn set_octas(machine: &mut Machine, octas: &[(u64, u64)]) -> Result<(), SetFault
     Ok(())
 }
 
+/// Makes a step, where `quick` is wished first as a usual one. Whether it went on.
+fn make_step(back: &mut Back, machine: &mut Machine, quick: bool) -> bool
+    requires { AreNotesOf back.old (state_of machine.old) }
+    ensures { AreNotesOf back.new (state_of machine.new) }
+{
+    if quick && back.step_if_usual(machine) {
+        return true;
+    }
+    match back.step(machine) {
+        Step::Went(_) => true,
+        _ => false,
+    }
+}
+
 /// Makes so many steps, and keeps what the machine shows before each. Whether all of them went on.
-pub fn step_up(back: &mut Back, machine: &mut Machine, seen: &mut Octas, steps: usize) -> bool
+pub fn step_up(
+    back: &mut Back,
+    machine: &mut Machine,
+    seen: &mut Octas,
+    steps: usize,
+    quick: bool,
+) -> bool
     requires { AreNotesOf back.old (state_of machine.old) }
     ensures { AreNotesOf back.new (state_of machine.new) }
 {
     for _turn in 0..steps {
         let shown = digest_of(machine);
-        let answer = back.step(machine);
-        match answer {
-            Step::Went(_) => {}
-            _ => return false,
+        if !make_step(back, machine, quick) {
+            return false;
         }
         if seen.push(shown).is_err() {
             return false;
@@ -85,12 +103,17 @@ pub fn step_back(back: &mut Back, machine: &mut Machine, seen: &[u64]) -> usize
     most
 }
 
-/// How many steps of a program go on and come back, of so many.
-pub fn come_back(alloc: Global, program: Program, steps: usize) -> Result<usize, Fail> {
+/// How many steps of a program go on and come back, of so many; with `quick` usual ones are made as such.
+pub fn come_back(
+    alloc: Global,
+    program: Program,
+    steps: usize,
+    quick: bool,
+) -> Result<usize, Fail> {
     let mut machine = machine_with(alloc, program)?;
     let mut back = Back::new(alloc)?;
     let mut seen = Octas::new(alloc);
-    if !step_up(&mut back, &mut machine, &mut seen, steps) {
+    if !step_up(&mut back, &mut machine, &mut seen, steps, quick) {
         return Err(Fail::new("a step did not go on"));
     }
     Ok(step_back(&mut back, &mut machine, seen.as_slice()))

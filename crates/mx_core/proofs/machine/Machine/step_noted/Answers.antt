@@ -1,23 +1,9 @@
-use Rattle.std.proofs.Common.{◌≡◌, ◌≤◌, ◌<◌, ◌^◌, sym, ap, ◌∙◌, arith}
-use Rattle.mx_trip.specs.declared.call.TrapCall.{TrapCall}
-use Rattle.mx_core.specs.Instructions.{operation_in}
+use Rattle.std.proofs.Common.{sym, subst}
 use Rattle.mx_core.specs.Kept.{state_of}
-use Rattle.mx_core.specs.Step.{fetched}
-use Rattle.mx_core.specs.Stepping.{step_answer}
-use Rattle.mx_core.specs.declared.operation.Operation.TheVariants as op
-use Rattle.mx_core.specs.declared.step.Step.TheVariants as answer
-use Rattle.mx_core.proofs.Steps.{step_negative, step_traps}
+use Rattle.mx_core.specs.Noting.{IfWent}
+use Rattle.mx_core.specs.Undoing.{TakesBack}
 use Rattle.mx_core.proofs.machine.Machine.step_noted.Goals as goal
 
-pub returns-then-at-clause-answer : goal.returns-then-at-clause-answer
-returns-then-at-clause-answer c = λ m.
-    let s = state_of c.args.self.now in
-    let l : 2 ^ 63 ≤ s.pc = omega (arith, c.if-at.true, c.pc-at.ensures.value) in
-    ap (step_answer s) (sym (step_negative s l))
-
-pub returns-in-Trap-clause-answer : goal.returns-in-Trap-clause-answer
-returns-in-Trap-clause-answer c = λ m.
-    let s = state_of c.args.self.now in
-    let l : s.pc < 2 ^ 63 = omega (arith, c.if-at.false, c.pc-at.ensures.value) in
-    let traps : operation_in (fetched s) ≡ op.Trap = ap operation_in (sym c.fetched-i.ensures) ∙ sym c.operation.ensures ∙ c.in-Trap.is in
-    ap (λ (call : TrapCall). (answer.Trap call, s)) c.call.ensures ∙ ap (step_answer s) (sym (step_traps s l traps))
+pub returns-clause-back : goal.returns-clause-back
+returns-clause-back c =
+    subst (λ t. IfWent c.step_with_note-noted.result (λ note. TakesBack note t (state_of c.args.self.now))) (sym c.keep_code.ensures) c.step_with_note-noted.ensures.back

@@ -1,9 +1,10 @@
-use Rattle.std.proofs.Common.{◌≡◌, ◌<◌, ◌^◌, ap, ◌∙◌, refl, None, arith}
+use Rattle.std.proofs.Common.{◌≡◌, ◌<◌, ◌^◌, ap, ◌∙◌, refl, subst, None, arith}
 use Rattle.mx_core.specs.Calls.{store_seen}
 use Rattle.mx_core.specs.Deeds.{onward}
 use Rattle.mx_core.specs.Effects.{stored_part, stored_value, stored_event}
 use Rattle.mx_core.specs.Instructions.{x_of, next_of}
 use Rattle.mx_core.specs.Kept.{state_of}
+use Rattle.mx_core.specs.Noting.{StoresBelow}
 use Rattle.mx_core.specs.State.{State}
 use Rattle.mx_core.proofs.Answered.{made-as}
 use Rattle.mx_core.proofs.Stores.{store_plain, stored-ok}
@@ -21,3 +22,18 @@ returns-then-store_if_near-clause-made c = λ _.
     ok.1 ∙ rw (c.stored_part.ensures, c.stored_value.ensures, c.x.ensures) refl in
     made-as _ _ s (state_of c.go_to.new.self) _ _ (store_plain c.args.how s c.args.i.now a c.x_register-x.result c.data_address-a.ensures c.x_register-x.ensures low event) ok.0
     (c.go_to.ensures ∙ ap (λ n. onward t n) c.next.ensures ∙ ap (λ (u : State). onward u (next_of c.args.i.now)) after)
+
+pub returns-then-store_if_near-clause-stores : goal.returns-then-store_if_near-clause-stores
+returns-then-store_if_near-clause-stores c = λ _.
+    let s = state_of c.args.self.now in
+    let t = state_of c.store_if_near.new.self in
+    let a = c.data_address-a.result in
+    let ok = stored-ok s t a c.stored_part.result c.stored_value.result (c.store_if_near.ensures.made c.if-store_if_near.true) in
+    subst (StoresBelow s (state_of c.go_to.new.self)) c.data_address-a.ensures (record {
+      low = c.store_if_near.ensures.low c.if-store_if_near.true;
+      there = c.store_if_near.ensures.there c.if-store_if_near.true;
+      part = c.stored_part.result;
+      value = c.stored_value.result;
+      next = c.next.result;
+      is = c.go_to.ensures ∙ ap (λ (u : State). onward u c.next.result) ok.1;
+    })

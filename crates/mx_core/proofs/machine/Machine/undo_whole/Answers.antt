@@ -1,7 +1,7 @@
 use Rattle.std.proofs.Common.{arith, ap, ◌∙◌}
 use Rattle.mx_ring.specs.Window.{Window}
 use Rattle.mx_core.proofs.Notings.{undone_spilled}
-use Rattle.mx_core.proofs.machine.Machine.undo.Goals as goal
+use Rattle.mx_core.proofs.machine.Machine.undo_whole.Goals as goal
 
 pub invariant_of-self : goal.invariant_of-self
 invariant_of-self c =

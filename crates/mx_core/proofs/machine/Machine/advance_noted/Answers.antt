@@ -1,0 +1,13 @@
+use Rattle.std.proofs.Common.{◌≡◌, ◌<◌, refl}
+use Rattle.mx_core.specs.Instructions.{instruction}
+use Rattle.mx_core.specs.Kept.{state_of}
+use Rattle.mx_core.specs.Step.{fetched}
+use Rattle.mx_core.proofs.UsualSteps.{went_usual}
+use Rattle.mx_core.proofs.machine.Machine.advance_noted.Goals as goal
+
+pub returns-in-Some-clause-made : goal.returns-in-Some-clause-made
+returns-in-Some-clause-made c = λ n.
+    let s = state_of c.args.self.now in
+    let below : s.pc < 0x6000_0000_0000_0000 = rw c.pc-at.ensures.value at c.in-Some.ensures.low in
+    let there : instruction c.pc-at.result c.in-Some.word ≡ fetched s = rw (c.in-Some.ensures.value, c.pc-at.ensures.value) refl in
+    went_usual s (state_of c.perform_noted.new.self) (instruction c.pc-at.result c.in-Some.word) there below (c.perform_noted.ensures.made n)

@@ -1,0 +1,232 @@
+//! Usual steps that are noted: the note has but the little that such a step overwrites.
+
+ghost use Rattle.std.specs.Prelude.{◌≡◌, ◌≢◌, ◌<◌, ◌+◌, ◌%◌, length, true, false, IfSome, None};
+ghost use Rattle.mx_ring.specs.Registers as registers;
+ghost use Rattle.mx_ring.specs.Stack.{visible};
+ghost use Rattle.mx_core.specs.Calls.{MakesState, settled};
+ghost use Rattle.mx_core.specs.Deeds.{deed_at, deed_of, onward, outcome};
+ghost use Rattle.mx_core.specs.Instructions.{instruction, next_of, operation_in, x_of};
+ghost use Rattle.mx_core.specs.Kept.{state_of};
+ghost use Rattle.mx_core.specs.Step.{step};
+ghost use Rattle.mx_core.specs.Stepping.{advanced};
+ghost use Rattle.mx_core.specs.Undoing as undoing;
+ghost use Rattle.mx_core.specs.Undoing.{IsPaged, TakesBack};
+ghost use Rattle.mx_core.specs.UsualDeeds.{IsUsual};
+ghost use Rattle.mx_core.specs.declared.step.Advance.TheVariants as advance;
+
+use crate::instruction::Instruction;
+use crate::noting::Was;
+use crate::operation::{Operation, Storing};
+use crate::trips::RJ;
+use crate::undoing::machines_are_paged;
+use crate::usual::Usual;
+use crate::usual_was::{Overwritten, UsualWas};
+use crate::{Machine, Note};
+
+impl Machine {
+    /// One step without its trace, where its instruction is a frequent one that gives a register a value, stores or goes
+    /// elsewhere, and nothing is unusual about it; and a note by which it is taken back. Where there is no note nothing
+    /// changed. It takes no memory.
+    #[inline(always)]
+    pub fn advance_noted(&mut self) -> Option<Note>
+        ensures made { result ≢ None →
+            (advance.Went, state_of self.new) ≡ advanced (state_of self.old) (step (state_of self.old)) }
+        ensures back { IfSome result (λ note. TakesBack note (state_of self.new) (state_of self.old)) }
+        ensures kept { result ≡ None → state_of self.new ≡ state_of self.old }
+    {
+        machines_are_paged(self);
+        let at = self.pc();
+        match self.near_tetra(at) {
+            Some(word) => self.perform_noted(at, word),
+            None => None,
+        }
+    }
+
+    /// Carries the instruction of a tetra out, where it is frequent and nothing is unusual about it.
+    #[inline(always)]
+    fn perform_noted(&mut self, at: u64, word: u32) -> Option<Note>
+        requires here { at ≡ (state_of self.old).pc }
+        requires aligned { at % 4 ≡ 0 }
+        requires low { at < 0x6000_0000_0000_0000 }
+        requires paged { IsPaged (state_of self.old) }
+        ensures made { result ≢ None → MakesState (λ s. outcome s (deed_at s (instruction at word))) self.old self.new }
+        ensures back { IfSome result (λ note. TakesBack note (state_of self.new) (state_of self.old)) }
+        ensures kept { result ≡ None → state_of self.new ≡ state_of self.old }
+    {
+        let i = Instruction::new(at, word);
+        match self.usual(&i) {
+            Usual::Gives(x) => self.settle_noted(&i, x),
+            Usual::GoesTo(a) => Some(self.go_to_noted(a)),
+            Usual::Apart(_) => self.perform_apart_noted(&i),
+            Usual::Other => None,
+        }
+    }
+
+    /// What an instruction does, told by its operation. The loop over many steps tells it by the code: with a second
+    /// caller of that its arms would no longer stand in the loop.
+    #[inline(always)]
+    fn usual(&self, i: &Instruction) -> Usual
+        ensures { IsUsual result (state_of self.now) i.now }
+    {
+        match i.operation() {
+            Operation::Compute => self.computed(i),
+            Operation::Negate => self.negated(i),
+            Operation::Wyde => self.with_wyde(i),
+            Operation::ConditionalSet => self.chosen(i),
+            Operation::Load(_) => self.brought(i),
+            Operation::Address => self.near_one(i),
+            Operation::Get => self.got(i),
+            Operation::Branch => self.branched(i),
+            Operation::Jump => self.jumped(i),
+            Operation::Store(_) | Operation::Put => Usual::Apart(i.code()),
+            _ => Usual::Other,
+        }
+    }
+
+    /// $X gets a value, and the machine goes on.
+    #[inline(always)]
+    fn settle_noted(&mut self, i: &Instruction, x: u64) -> Option<Note>
+        requires here { i.now.at ≡ (state_of self.old).pc }
+        requires aligned { i.now.at % 4 ≡ 0 }
+        requires low { i.now.at < 0x6000_0000_0000_0000 }
+        ensures made { result ≢ None → MakesState (λ s. settled s (x_of i.now) x (next_of i.now)) self.old self.new }
+        ensures back { IfSome result (λ note. TakesBack note (state_of self.new) (state_of self.old)) }
+        ensures kept { result ≡ None → state_of self.new ≡ state_of self.old }
+    {
+        let k = i.x();
+        if self.is_marginal(k) {
+            return self.grow_noted(i, x);
+        }
+        let note = self.usual_note(Overwritten::Register(k, self.x_register(i)));
+        if self.settle_if_room(i, x) {
+            Some(note)
+        } else {
+            None
+        }
+    }
+
+    /// $X, which is neither local nor global, becomes local and gets a value, and the machine goes on, if nothing is
+    /// spilled for it.
+    #[inline(never)]
+    fn grow_noted(&mut self, i: &Instruction, x: u64) -> Option<Note>
+        requires marginal { registers.is_marginal (visible (state_of self.old).stack) (x_of i.now) ≡ true }
+        requires here { i.now.at ≡ (state_of self.old).pc }
+        requires aligned { i.now.at % 4 ≡ 0 }
+        requires low { i.now.at < 0x6000_0000_0000_0000 }
+        ensures made { result ≢ None → MakesState (λ s. settled s (x_of i.now) x (next_of i.now)) self.old self.new }
+        ensures back { IfSome result (λ note. TakesBack note (state_of self.new) (state_of self.old)) }
+        ensures kept { result ≡ None → state_of self.new ≡ state_of self.old }
+    {
+        self.know_ring();
+        if self.may_spill(i.x()) {
+            return None;
+        }
+        let note = self.usual_note(Overwritten::Locals(self.l()));
+        if self.settle_if_room(i, x) {
+            Some(note)
+        } else {
+            None
+        }
+    }
+
+    /// Whether something would be spilled in the smallest ring when $k becomes local.
+    fn may_spill(&self, k: u8) -> bool
+        ensures { result ≡ false → length self.now.ring.hidden.resident + (k + 1) < 256 }
+    {
+        self.ring.hidden() - self.ring.spilled() + u32::from(k) >= 255
+    }
+
+    /// The machine goes to an address.
+    #[inline(always)]
+    fn go_to_noted(&mut self, a: u64) -> Note
+        requires { (state_of self.old).pc % 4 ≡ 0 }
+        ensures made { state_of self.new ≡ onward (state_of self.old) a }
+        ensures back { TakesBack result (state_of self.new) (state_of self.old) }
+    {
+        let note = self.usual_note(Overwritten::Nothing);
+        self.go_to(a);
+        note
+    }
+
+    /// STB to STCO, and PUT of rJ.
+    #[inline(always)]
+    fn perform_apart_noted(&mut self, i: &Instruction) -> Option<Note>
+        requires aligned { (state_of self.old).pc % 4 ≡ 0 }
+        requires paged { IsPaged (state_of self.old) }
+        ensures made { result ≢ None → MakesState (λ s. outcome s (deed_at s i.now)) self.old self.new }
+        ensures back { IfSome result (λ note. TakesBack note (state_of self.new) (state_of self.old)) }
+        ensures kept { result ≡ None → state_of self.new ≡ state_of self.old }
+    {
+        match i.operation() {
+            Operation::Store(how) => self.store_usual(how, i),
+            Operation::Put => self.put_link_noted(i),
+            _ => None,
+        }
+    }
+
+    /// STB to STCO below Stack_Segment, where the page is near and no sign is lost.
+    #[inline(always)]
+    fn store_usual(&mut self, how: Storing, i: &Instruction) -> Option<Note>
+        requires aligned { (state_of self.old).pc % 4 ≡ 0 }
+        requires paged { IsPaged (state_of self.old) }
+        ensures made { result ≢ None → MakesState (λ s. outcome s (deed_of (Operation.Store how) s i.now)) self.old self.new }
+        ensures back { IfSome result (λ note. TakesBack note (state_of self.new) (state_of self.old)) }
+        ensures kept { result ≡ None → state_of self.new ≡ state_of self.old }
+    {
+        let a = self.data_address(i);
+        match self.near_octa(a) {
+            Some(octa) => {
+                let note = self.usual_note(Overwritten::Octa(a, octa));
+                if self.store_if_usual(how, i) {
+                    Some(note)
+                } else {
+                    None
+                }
+            }
+            None => None,
+        }
+    }
+
+    /// PUT of rJ.
+    fn put_link_noted(&mut self, i: &Instruction) -> Option<Note>
+        requires put { operation_in i.now ≡ Operation.Put }
+        requires aligned { (state_of self.old).pc % 4 ≡ 0 }
+        ensures made { result ≢ None → MakesState (λ s. outcome s (deed_of Operation.Put s i.now)) self.old self.new }
+        ensures back { IfSome result (λ note. TakesBack note (state_of self.new) (state_of self.old)) }
+        ensures kept { result ≡ None → state_of self.new ≡ state_of self.old }
+    {
+        let note = self.usual_note(Overwritten::Link(self.special(RJ)));
+        if self.put_link_if_usual(i) {
+            Some(note)
+        } else {
+            None
+        }
+    }
+
+    /// Whether $k is neither local nor global.
+    #[inline(always)]
+    fn is_marginal(&self, k: u8) -> bool
+        ensures { result ≡ registers.is_marginal (visible (state_of self.now).stack) k }
+    {
+        k < self.g() && self.l() <= k
+    }
+
+    /// The note of a usual step.
+    #[tactic(auto, unfolding(crate::specs::Kept::state_of))]
+    #[inline(always)]
+    fn usual_note(&self, overwritten: Overwritten) -> Note
+        ensures { result ≡ undoing.usual (record {
+          pc = (state_of self.now).pc;
+          steps = (state_of self.now).steps;
+          overwritten = overwritten;
+        }) }
+    {
+        Note {
+            was: Was::Usual(UsualWas {
+                pc: self.pc,
+                steps: self.steps,
+                overwritten,
+            }),
+        }
+    }
+}
