@@ -22,3 +22,4 @@ pub mod ListedReplies
 pub mod ListedSessions
 pub mod SteadySessions
 pub mod ToldSessions
+pub mod TakenInput

@@ -24,12 +24,6 @@ pub rest-done : {O : Type 0} {R : O → Type 0} {W B : Type 0} (d : Acts O R W) 
     a ≢ Err OutOfMemory → IsRest d (returns a) w whole start → Comes d start w (Err OutOfMemory) a whole
 rest-done d a w start whole ne r = record { ending = λ no. sym (r.ending ∙ end_returns d a w); stopping = λ h. absurd (ne h) }
 
-pub stands-all : (old : Option HostModel) (earlier : ℕ) → Stands old old earlier earlier
-stands-all old earlier = (refl, le_refl earlier)
-
-pub stands-then : (old mid new : Option HostModel) (a b d : ℕ) → Stands old mid a b → Stands mid new b d → Stands old new a d
-stands-then old mid new a b d h k = let first : a ≤ b = h.1 in let second : b ≤ d = k.1 in (k.0 ∙ h.0, omega (arith, first, second))
-
 -- ---- what follows a part
 
 -- a plan comes to an answer, and what follows that to another

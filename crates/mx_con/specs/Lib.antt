@@ -6,5 +6,6 @@ pub mod HostLines
 pub mod Session
 pub mod LinePlans
 pub mod SessionPlans
+pub mod Taking
 pub mod Clauses
 pub mod Told

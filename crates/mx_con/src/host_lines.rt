@@ -1,7 +1,7 @@
 //! Lines over the host: each is written by one call, and read byte by byte.
 
 ghost use Rattle.std.specs.Prelude.{◌≡◌, ◌≢◌, [], ◌<◌, ◌+◌, ◌-◌, ◌==◌, Err, Ok, true, false};
-ghost use Rattle.mx_host.specs.Keeping.{ComesByFault};
+ghost use Rattle.mx_host.specs.Keeping.{OnlyByFailure};
 ghost use Rattle.mx_plan.specs.Clauses.{CarriesOut, Stands};
 ghost use Rattle.mx_word.specs.Results.{map_ok};
 ghost use Rattle.mx_con.specs.HostLines as spec;
@@ -33,7 +33,7 @@ fn end_of(fault: HostFault) -> SessionEnd
 pub(crate) fn write_text<H: Host>(host: &mut H, text: &[u8]) -> Result<(), SessionEnd>
     ensures told { CarriesOut (H.told host.old) (H.told host.new) (Err SessionEnd.OutOfMemory) result
         (plans.text_plan text.now) }
-    ensures cause { ComesByFault (H.told host.old) (Err SessionEnd.HostFault) result
+    ensures cause { OnlyByFailure (H.told host.old) (Err SessionEnd.HostFault) result
         (H.faults host.old) (H.faults host.new) }
     ensures stands { Stands (H.told host.old) (H.told host.new) (H.faults host.old) (H.faults host.new) }
 {
@@ -48,7 +48,7 @@ pub(crate) fn write_text<H: Host>(host: &mut H, text: &[u8]) -> Result<(), Sessi
 pub(crate) fn write_line<H: Host>(host: &mut H, line: Bytes) -> Result<(), SessionEnd>
     ensures told { CarriesOut (H.told host.old) (H.told host.new) (Err SessionEnd.OutOfMemory) result
         (plans.line_plan line) }
-    ensures cause { ComesByFault (H.told host.old) (Err SessionEnd.HostFault) result
+    ensures cause { OnlyByFailure (H.told host.old) (Err SessionEnd.HostFault) result
         (H.faults host.old) (H.faults host.new) }
     ensures stands { Stands (H.told host.old) (H.told host.new) (H.faults host.old) (H.faults host.new) }
 {
@@ -63,7 +63,7 @@ pub(crate) fn write_line<H: Host>(host: &mut H, line: Bytes) -> Result<(), Sessi
 #[tactic(auto, using(crate::proofs::LineReads::bytes, mx_plan::proofs::Plans::plans), unfolding(crate::specs::LinePlans::byte_plan))]
 fn read_byte<H: Host>(host: &mut H) -> Result<Option<u8>, SessionEnd>
     ensures told { CarriesOut (H.told host.old) (H.told host.new) (Err SessionEnd.OutOfMemory) result plans.byte_plan }
-    ensures cause { ComesByFault (H.told host.old) (Err SessionEnd.HostFault) result
+    ensures cause { OnlyByFailure (H.told host.old) (Err SessionEnd.HostFault) result
         (H.faults host.old) (H.faults host.new) }
     ensures stands { Stands (H.told host.old) (H.told host.new) (H.faults host.old) (H.faults host.new) }
 {
@@ -81,7 +81,7 @@ fn grow<H: Host>(host: &mut H, line: &mut Bytes, left: &mut u64) -> Result<bool,
     requires { 0 < left.old }
     ensures told { CarriesOut (H.told host.old) (H.told host.new) (Err SessionEnd.OutOfMemory)
         (map_ok (λ more. (more, line.new, left.new)) result) (plans.grown_plan (left.old - 1) line.old) }
-    ensures cause { ComesByFault (H.told host.old) (Err SessionEnd.HostFault) result
+    ensures cause { OnlyByFailure (H.told host.old) (Err SessionEnd.HostFault) result
         (H.faults host.old) (H.faults host.new) }
     ensures stands { Stands (H.told host.old) (H.told host.new) (H.faults host.old) (H.faults host.new) }
     ensures fewer { result ≡ Ok true → left.new + 1 ≡ left.old }
@@ -131,7 +131,7 @@ pub(crate) fn read_line<H: Host>(
 ) -> Result<Bytes, SessionEnd>
     ensures told { CarriesOut (H.told host.old) (H.told host.new) (Err SessionEnd.OutOfMemory)
         (map_ok (λ text. (text, left.new)) result) (plans.reading_plan left.old []) }
-    ensures cause { ComesByFault (H.told host.old) (Err SessionEnd.HostFault) result
+    ensures cause { OnlyByFailure (H.told host.old) (Err SessionEnd.HostFault) result
         (H.faults host.old) (H.faults host.new) }
     ensures stands { Stands (H.told host.old) (H.told host.new) (H.faults host.old) (H.faults host.new) }
 {

@@ -7,9 +7,10 @@ ghost use Rattle.mx_plan.specs.Plan.{Stops, end_of};
 ghost use Rattle.mx_core.specs.State.{State};
 ghost use Rattle.mx_run.specs.Runs.{FlagsOf};
 ghost use Rattle.mx_run.specs.WildRuns.{MachineKind, window_machine};
-ghost use Rattle.mx_con.specs.Session.{session, session_ended};
+ghost use Rattle.mx_con.specs.Session.{most_input, session, session_ended};
 ghost use Rattle.mx_con.specs.SessionPlans.{SessionPlan, SessionWorld, conversing, ended_session, session_plan};
 ghost use Rattle.mx_con.specs.declared.end.SessionEnd.{SessionEnd};
+ghost use Rattle.mx_con.specs.Taking.{TakesAtMost};
 ghost use Rattle.mx_con.specs.Told.{is_told};
 
 /// A session ends as the program, the machine, its bounds, the user or the host make it end, or meets
@@ -33,4 +34,9 @@ pub fn sessions_are_their_plans()
         → KeepsStreams w.0.1 v.0.1 }
     ensures front { (p : SessionPlan SessionEnd) (v w : SessionWorld) → Stops conversing v p w
         → OnlyAdds v.0.1 (end_of conversing p w).1.0.1 }
+{}
+
+/// A session takes at most 2^32 bytes of the console's input, whatever the host answers to its calls.
+pub fn sessions_take_at_most()
+    ensures { (steps : ℕ) → TakesAtMost most_input (session_plan steps) }
 {}

@@ -20,6 +20,6 @@ mod windows;
 
 pub use end::SessionEnd;
 pub use judgement::Bad;
-pub use laws::{sessions_are_their_plans, sessions_end_by_themselves};
+pub use laws::{sessions_are_their_plans, sessions_end_by_themselves, sessions_take_at_most};
 pub use sessions::session;
 pub use texts::{state_line, trace_line};

@@ -1,7 +1,7 @@
 //! Lines on several octas and tetras.
 
 ghost use Rattle.std.specs.Prelude.{◌<◌, ◌+◌, ◌*◌, ◌^◌, Err};
-ghost use Rattle.mx_host.specs.Keeping.{ComesByFault};
+ghost use Rattle.mx_host.specs.Keeping.{OnlyByFailure};
 ghost use Rattle.mx_plan.specs.Clauses.{CarriesOut, Stands};
 ghost use Rattle.mx_core.specs.Kept.{state_of};
 ghost use Rattle.mx_run.specs.FlagMaps.{flags_at};
@@ -34,7 +34,7 @@ pub(crate) fn write_octas<H: Host>(
     requires { a + 8 * n < 2 ^ 63 }
     ensures told { CarriesOut (H.told host.old) (H.told host.new) (Err SessionEnd.OutOfMemory) result
         (lines_plan (spec.octas_after (state_of machine.now) form a n)) }
-    ensures cause { ComesByFault (H.told host.old) (Err SessionEnd.HostFault) result
+    ensures cause { OnlyByFailure (H.told host.old) (Err SessionEnd.HostFault) result
         (H.faults host.old) (H.faults host.new) }
     ensures stands { Stands (H.told host.old) (H.told host.new) (H.faults host.old) (H.faults host.new) }
 {
@@ -59,7 +59,7 @@ fn write_octa<H: Host>(
     requires { a < 2 ^ 63 }
     ensures told { CarriesOut (H.told host.old) (H.told host.new) (Err SessionEnd.OutOfMemory) result
         (line_plan (subjects.shown_line (state_of machine.now) (Subject.Memory a) form)) }
-    ensures cause { ComesByFault (H.told host.old) (Err SessionEnd.HostFault) result
+    ensures cause { OnlyByFailure (H.told host.old) (Err SessionEnd.HostFault) result
         (H.faults host.old) (H.faults host.new) }
     ensures stands { Stands (H.told host.old) (H.told host.new) (H.faults host.old) (H.faults host.new) }
 {
@@ -75,7 +75,7 @@ pub(crate) fn write_flags<H: Host>(
 ) -> Result<(), SessionEnd>
     ensures told { CarriesOut (H.told host.old) (H.told host.new) (Err SessionEnd.OutOfMemory) result
         (lines_plan (spec.flag_lines (flags_at runner.now.flags) 0 spec.tetra_count)) }
-    ensures cause { ComesByFault (H.told host.old) (Err SessionEnd.HostFault) result
+    ensures cause { OnlyByFailure (H.told host.old) (Err SessionEnd.HostFault) result
         (H.faults host.old) (H.faults host.new) }
     ensures stands { Stands (H.told host.old) (H.told host.new) (H.faults host.old) (H.faults host.new) }
 {
@@ -98,7 +98,7 @@ fn write_flag<H: Host>(alloc: Global, host: &mut H, a: u64, flags: Flags) -> Res
     ensures told { CarriesOut (H.told host.old) (H.told host.new) (Err SessionEnd.OutOfMemory) result
         (line_plan (flag_text a flags)) }
     ensures address { a < 2 ^ 64 }
-    ensures cause { ComesByFault (H.told host.old) (Err SessionEnd.HostFault) result
+    ensures cause { OnlyByFailure (H.told host.old) (Err SessionEnd.HostFault) result
         (H.faults host.old) (H.faults host.new) }
     ensures stands { Stands (H.told host.old) (H.told host.new) (H.faults host.old) (H.faults host.new) }
 {

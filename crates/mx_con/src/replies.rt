@@ -1,7 +1,7 @@
 //! Commands that make no step.
 
 ghost use Rattle.std.specs.Prelude.{◌≡◌, ℕ, Option, Err, None, Some};
-ghost use Rattle.mx_host.specs.Keeping.{ComesByFault};
+ghost use Rattle.mx_host.specs.Keeping.{OnlyByFailure};
 ghost use Rattle.mx_plan.specs.Clauses.{CarriesOut, Stands};
 ghost use Rattle.mx_word.specs.Results.{map_ok};
 ghost use Rattle.mx_core.specs.Kept.{state_of};
@@ -34,7 +34,7 @@ use std::alloc::Global;
 pub(crate) fn refuse<H: Host>(alloc: Global, host: &mut H, bad: Bad) -> Result<(), SessionEnd>
     ensures told { CarriesOut (H.told host.old) (H.told host.new) (Err SessionEnd.OutOfMemory) result
         (line_plan (judgement.bad_text bad)) }
-    ensures cause { ComesByFault (H.told host.old) (Err SessionEnd.HostFault) result
+    ensures cause { OnlyByFailure (H.told host.old) (Err SessionEnd.HostFault) result
         (H.faults host.old) (H.faults host.new) }
     ensures stands { Stands (H.told host.old) (H.told host.new) (H.faults host.old) (H.faults host.new) }
 {
@@ -50,7 +50,7 @@ pub(crate) fn show_state<H: Host>(
 ) -> Result<(), SessionEnd>
     ensures told { CarriesOut (H.told host.old) (H.told host.new) (Err SessionEnd.OutOfMemory) result
         (line_plan (state_text (state_of machine.now))) }
-    ensures cause { ComesByFault (H.told host.old) (Err SessionEnd.HostFault) result
+    ensures cause { OnlyByFailure (H.told host.old) (Err SessionEnd.HostFault) result
         (H.faults host.old) (H.faults host.new) }
     ensures stands { Stands (H.told host.old) (H.told host.new) (H.faults host.old) (H.faults host.new) }
 {
@@ -71,7 +71,7 @@ pub(crate) fn show<H: Host>(
         (Err SessionEnd.OutOfMemory) (map_ok (λ u. shown.new) result)
         (answered_plan shown.old (Command.Show subject form)) }
     ensures still { (state_of runner.new.machine).steps ≡ (state_of runner.old.machine).steps }
-    ensures cause { ComesByFault (H.told host.old) (Err SessionEnd.HostFault) result
+    ensures cause { OnlyByFailure (H.told host.old) (Err SessionEnd.HostFault) result
         (H.faults host.old) (H.faults host.new) }
     ensures stands { Stands (H.told host.old) (H.told host.new) (H.faults host.old) (H.faults host.new) }
 {
@@ -99,7 +99,7 @@ fn show_sound<H: Host>(
         ≡ replies.noted_if (subjects.subject_wild subject) (state_of runner.old.machine) }
     ensures flags { runner.new.flags ≡ runner.old.flags }
     ensures shown { shown.new ≡ replies.shown_after subject shown.old }
-    ensures cause { ComesByFault (H.told host.old) (Err SessionEnd.HostFault) result
+    ensures cause { OnlyByFailure (H.told host.old) (Err SessionEnd.HostFault) result
         (H.faults host.old) (H.faults host.new) }
     ensures stands { Stands (H.told host.old) (H.told host.new) (H.faults host.old) (H.faults host.new) }
 {
@@ -148,7 +148,7 @@ pub(crate) fn change_subject<H: Host>(
         (Err SessionEnd.OutOfMemory) (map_ok (λ u. shown.new) result)
         (answered_plan shown.old (Command.Change subject value)) }
     ensures still { (state_of runner.new.machine).steps ≡ (state_of runner.old.machine).steps }
-    ensures cause { ComesByFault (H.told host.old) (Err SessionEnd.HostFault) result
+    ensures cause { OnlyByFailure (H.told host.old) (Err SessionEnd.HostFault) result
         (H.faults host.old) (H.faults host.new) }
     ensures stands { Stands (H.told host.old) (H.told host.new) (H.faults host.old) (H.faults host.new) }
 {
@@ -177,7 +177,7 @@ fn change_sound<H: Host>(
         (Err SessionEnd.OutOfMemory) (map_ok (λ u. shown.new) result)
         (answered_plan shown.old (Command.Change subject (Some value))) }
     ensures still { (state_of runner.new.machine).steps ≡ (state_of runner.old.machine).steps }
-    ensures cause { ComesByFault (H.told host.old) (Err SessionEnd.HostFault) result
+    ensures cause { OnlyByFailure (H.told host.old) (Err SessionEnd.HostFault) result
         (H.faults host.old) (H.faults host.new) }
     ensures stands { Stands (H.told host.old) (H.told host.new) (H.faults host.old) (H.faults host.new) }
 {
@@ -202,7 +202,7 @@ pub(crate) fn show_more<H: Host>(
         (Err SessionEnd.OutOfMemory) (map_ok (λ u. shown.new) result)
         (answered_plan shown.old (Command.ShowMore n form)) }
     ensures still { (state_of runner.new.machine).steps ≡ (state_of runner.old.machine).steps }
-    ensures cause { ComesByFault (H.told host.old) (Err SessionEnd.HostFault) result
+    ensures cause { OnlyByFailure (H.told host.old) (Err SessionEnd.HostFault) result
         (H.faults host.old) (H.faults host.new) }
     ensures stands { Stands (H.told host.old) (H.told host.new) (H.faults host.old) (H.faults host.new) }
 {
@@ -230,7 +230,7 @@ fn show_octas<H: Host>(
         (Err SessionEnd.OutOfMemory) (map_ok (λ u. shown.new) result)
         (answered_plan shown.old (Command.ShowMore (Some n) form)) }
     ensures still { (state_of runner.new.machine).steps ≡ (state_of runner.old.machine).steps }
-    ensures cause { ComesByFault (H.told host.old) (Err SessionEnd.HostFault) result
+    ensures cause { OnlyByFailure (H.told host.old) (Err SessionEnd.HostFault) result
         (H.faults host.old) (H.faults host.new) }
     ensures stands { Stands (H.told host.old) (H.told host.new) (H.faults host.old) (H.faults host.new) }
 {
@@ -255,7 +255,7 @@ pub(crate) fn go_to<H: Host>(
         runner.new (Err SessionEnd.OutOfMemory) (map_ok (λ u. shown) result)
         (answered_plan shown (Command.GoTo a)) }
     ensures still { (state_of runner.new.machine).steps ≡ (state_of runner.old.machine).steps }
-    ensures cause { ComesByFault (H.told host.old) (Err SessionEnd.HostFault) result
+    ensures cause { OnlyByFailure (H.told host.old) (Err SessionEnd.HostFault) result
         (H.faults host.old) (H.faults host.new) }
     ensures stands { Stands (H.told host.old) (H.told host.new) (H.faults host.old) (H.faults host.new) }
 {
@@ -280,7 +280,7 @@ pub(crate) fn set_tetra_breaks<H: Host>(
         runner.new (Err SessionEnd.OutOfMemory) (map_ok (λ u. shown) result)
         (answered_plan shown (Command.Break breaks a)) }
     ensures still { (state_of runner.new.machine).steps ≡ (state_of runner.old.machine).steps }
-    ensures cause { ComesByFault (H.told host.old) (Err SessionEnd.HostFault) result
+    ensures cause { OnlyByFailure (H.told host.old) (Err SessionEnd.HostFault) result
         (H.faults host.old) (H.faults host.new) }
     ensures stands { Stands (H.told host.old) (H.told host.new) (H.faults host.old) (H.faults host.new) }
 {
@@ -303,7 +303,7 @@ pub(crate) fn trace_tetra<H: Host>(
         runner.new (Err SessionEnd.OutOfMemory) (map_ok (λ u. shown) result)
         (answered_plan shown (Command.Trace a)) }
     ensures still { (state_of runner.new.machine).steps ≡ (state_of runner.old.machine).steps }
-    ensures cause { ComesByFault (H.told host.old) (Err SessionEnd.HostFault) result
+    ensures cause { OnlyByFailure (H.told host.old) (Err SessionEnd.HostFault) result
         (H.faults host.old) (H.faults host.new) }
     ensures stands { Stands (H.told host.old) (H.told host.new) (H.faults host.old) (H.faults host.new) }
 {
@@ -326,7 +326,7 @@ pub(crate) fn untrace_tetra<H: Host>(
         runner.new (Err SessionEnd.OutOfMemory) (map_ok (λ u. shown) result)
         (answered_plan shown (Command.Untrace a)) }
     ensures still { (state_of runner.new.machine).steps ≡ (state_of runner.old.machine).steps }
-    ensures cause { ComesByFault (H.told host.old) (Err SessionEnd.HostFault) result
+    ensures cause { OnlyByFailure (H.told host.old) (Err SessionEnd.HostFault) result
         (H.faults host.old) (H.faults host.new) }
     ensures stands { Stands (H.told host.old) (H.told host.new) (H.faults host.old) (H.faults host.new) }
 {

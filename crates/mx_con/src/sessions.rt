@@ -1,7 +1,7 @@
 //! Sessions.
 
 ghost use Rattle.std.specs.Prelude.{◌≡◌, ◌+◌, Err, Some, true};
-ghost use Rattle.mx_host.specs.Keeping.{ComesByFault, Keeps};
+ghost use Rattle.mx_host.specs.Keeping.{OnlyByFailure, Keeps};
 ghost use Rattle.mx_plan.specs.Clauses.{CarriesOut, Stands};
 ghost use Rattle.mx_word.specs.Results.{map_ok};
 ghost use Rattle.mx_core.specs.Kept.{state_of};
@@ -51,7 +51,7 @@ pub fn session<H: Host>(alloc: Global, runner: &mut Runner, host: &mut H, steps:
     ensures listed { EndsAsListSession (H.told host.old) (H.told host.new) runner.old runner.new result
         (λ s f m. spec.session list_machine steps s f m) }
     ensures bound { StepsWithin steps (state_of runner.old.machine) (state_of runner.new.machine) }
-    ensures cause { ComesByFault (H.told host.old) SessionEnd.HostFault result (H.faults host.old) (H.faults host.new) }
+    ensures cause { OnlyByFailure (H.told host.old) SessionEnd.HostFault result (H.faults host.old) (H.faults host.new) }
     ensures keeps { Keeps (H.told host.old) (H.told host.new) (H.faults host.old) (H.faults host.new) }
 {
     let mut dialog = Dialog {
@@ -79,7 +79,7 @@ fn all_lines<H: Host>(
     ensures listed { PartsAsList (H.told host.old) runner.old dialog.old result
         (λ kind c. spec.session_lines (spec.most_input + 1) kind steps c) }
     ensures bound { StepsWithin steps (state_of runner.old.machine) (state_of runner.new.machine) }
-    ensures cause { ComesByFault (H.told host.old) (Err SessionEnd.HostFault) result
+    ensures cause { OnlyByFailure (H.told host.old) (Err SessionEnd.HostFault) result
         (H.faults host.old) (H.faults host.new) }
     ensures stands { Stands (H.told host.old) (H.told host.new) (H.faults host.old) (H.faults host.new) }
 {
@@ -106,7 +106,7 @@ fn one_line<H: Host>(
     ensures listed { PartsAsList (H.told host.old) runner.old dialog.old result
         (λ kind c. spec.one_line kind steps c) }
     ensures bound { StepsWithin steps (state_of runner.old.machine) (state_of runner.new.machine) }
-    ensures cause { ComesByFault (H.told host.old) (Err SessionEnd.HostFault) result
+    ensures cause { OnlyByFailure (H.told host.old) (Err SessionEnd.HostFault) result
         (H.faults host.old) (H.faults host.new) }
     ensures stands { Stands (H.told host.old) (H.told host.new) (H.faults host.old) (H.faults host.new) }
 {
@@ -125,7 +125,7 @@ fn one_line<H: Host>(
 fn ask<H: Host>(alloc: Global, host: &mut H, left: &mut u64) -> Result<Bytes, SessionEnd>
     ensures told { CarriesOut (H.told host.old) (H.told host.new) (Err SessionEnd.OutOfMemory)
         (map_ok (λ text. (text, left.new)) result) (asking_plan left.old) }
-    ensures cause { ComesByFault (H.told host.old) (Err SessionEnd.HostFault) result
+    ensures cause { OnlyByFailure (H.told host.old) (Err SessionEnd.HostFault) result
         (H.faults host.old) (H.faults host.new) }
     ensures stands { Stands (H.told host.old) (H.told host.new) (H.faults host.old) (H.faults host.new) }
 {
@@ -151,7 +151,7 @@ fn carry_out<H: Host>(
         PartsAsList (H.told host.old) runner.old d result
         (λ kind c. spec.runs kind (spec.steps_left steps c.state) steps true c) }
     ensures bound { StepsWithin steps (state_of runner.old.machine) (state_of runner.new.machine) }
-    ensures cause { ComesByFault (H.told host.old) (Err SessionEnd.HostFault) result
+    ensures cause { OnlyByFailure (H.told host.old) (Err SessionEnd.HostFault) result
         (H.faults host.old) (H.faults host.new) }
     ensures stands { Stands (H.told host.old) (H.told host.new) (H.faults host.old) (H.faults host.new) }
 {

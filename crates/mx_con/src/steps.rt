@@ -1,7 +1,7 @@
 //! Steps and runs that the console asks for.
 
 ghost use Rattle.std.specs.Prelude.{◌≡◌, ◌≢◌, Err, Some, true};
-ghost use Rattle.mx_host.specs.Keeping.{ComesByFault};
+ghost use Rattle.mx_host.specs.Keeping.{OnlyByFailure};
 ghost use Rattle.mx_plan.specs.Clauses.{CarriesOut, Stands};
 ghost use Rattle.mx_core.specs.Kept.{state_of};
 ghost use Rattle.mx_con.specs.Clauses.{CarriesOutSession, PartsAsList, StepsWithin};
@@ -38,7 +38,7 @@ pub(crate) fn step_once<H: Host>(
     ensures told { CarriesOutSession (H.told host.old) (H.told host.new) runner.old runner.new
         (Err SessionEnd.OutOfMemory) result (plans.stepped_plan steps) }
     ensures bound { StepsWithin steps (state_of runner.old.machine) (state_of runner.new.machine) }
-    ensures cause { ComesByFault (H.told host.old) (Err SessionEnd.HostFault) result
+    ensures cause { OnlyByFailure (H.told host.old) (Err SessionEnd.HostFault) result
         (H.faults host.old) (H.faults host.new) }
     ensures stands { Stands (H.told host.old) (H.told host.new) (H.faults host.old) (H.faults host.new) }
 {
@@ -47,7 +47,7 @@ pub(crate) fn step_once<H: Host>(
     }
     know_count(runner);
     let pc = runner.machine().pc();
-    let answer = runner.step(alloc, host);
+    let answer = runner.step(host);
     know_count(runner);
     match answer {
         TurnAnswer::Went(trace) => write_trace(alloc, runner.machine(), host, &trace),
@@ -67,7 +67,7 @@ fn write_trace<H: Host>(
 ) -> Result<(), SessionEnd>
     ensures told { CarriesOut (H.told host.old) (H.told host.new) (Err SessionEnd.OutOfMemory) result
         (line_plan (trace_text trace.now (state_of machine.now))) }
-    ensures cause { ComesByFault (H.told host.old) (Err SessionEnd.HostFault) result
+    ensures cause { OnlyByFailure (H.told host.old) (Err SessionEnd.HostFault) result
         (H.faults host.old) (H.faults host.new) }
     ensures stands { Stands (H.told host.old) (H.told host.new) (H.faults host.old) (H.faults host.new) }
 {
@@ -87,7 +87,7 @@ pub(crate) fn go_on<H: Host>(
     ensures listed { (d : Dialog) → PartsAsList (H.told host.old) runner.old d result
         (λ kind c. spec.runs kind (spec.steps_left steps c.state) steps true c) }
     ensures bound { StepsWithin steps (state_of runner.old.machine) (state_of runner.new.machine) }
-    ensures cause { ComesByFault (H.told host.old) (Err SessionEnd.HostFault) result
+    ensures cause { OnlyByFailure (H.told host.old) (Err SessionEnd.HostFault) result
         (H.faults host.old) (H.faults host.new) }
     ensures stands { Stands (H.told host.old) (H.told host.new) (H.faults host.old) (H.faults host.new) }
 {
@@ -117,12 +117,12 @@ fn run_once<H: Host>(
     ensures listed { (d : Dialog) → PartsAsList (H.told host.old) runner.old d result
         (λ kind c. spec.one_run kind steps pass c) }
     ensures bound { StepsWithin steps (state_of runner.old.machine) (state_of runner.new.machine) }
-    ensures cause { ComesByFault (H.told host.old) (Err SessionEnd.HostFault) result
+    ensures cause { OnlyByFailure (H.told host.old) (Err SessionEnd.HostFault) result
         (H.faults host.old) (H.faults host.new) }
     ensures stands { Stands (H.told host.old) (H.told host.new) (H.faults host.old) (H.faults host.new) }
 {
     know_count(runner);
-    let end = runner.go(alloc, host, steps_left(steps, runner), pass);
+    let end = runner.go(host, steps_left(steps, runner), pass);
     know_count(runner);
     end_run(alloc, runner, host, end)
 }
@@ -139,7 +139,7 @@ fn end_run<H: Host>(
         (Err SessionEnd.OutOfMemory) result (plans.after_end end) }
     ensures lacked { end ≡ End.OutOfMemory → result ≡ Err SessionEnd.OutOfMemory }
     ensures unwritten { end ≡ End.OutOfMemory → H.told host.new ≡ H.told host.old }
-    ensures cause { ComesByFault (H.told host.old) (Err SessionEnd.HostFault) result
+    ensures cause { OnlyByFailure (H.told host.old) (Err SessionEnd.HostFault) result
         (H.faults host.old) (H.faults host.new) }
     ensures stands { Stands (H.told host.old) (H.told host.new) (H.faults host.old) (H.faults host.new) }
 {
@@ -173,7 +173,7 @@ fn write_break<H: Host>(
 ) -> Result<(), SessionEnd>
     ensures told { CarriesOutSession (H.told host.old) (H.told host.new) runner.now runner.now
         (Err SessionEnd.OutOfMemory) result (plans.break_plan kind at traced) }
-    ensures cause { ComesByFault (H.told host.old) (Err SessionEnd.HostFault) result
+    ensures cause { OnlyByFailure (H.told host.old) (Err SessionEnd.HostFault) result
         (H.faults host.old) (H.faults host.new) }
     ensures stands { Stands (H.told host.old) (H.told host.new) (H.faults host.old) (H.faults host.new) }
 {
@@ -195,7 +195,7 @@ fn write_traced_break<H: Host>(
 ) -> Result<(), SessionEnd>
     ensures told { CarriesOutSession (H.told host.old) (H.told host.new) runner.now runner.now
         (Err SessionEnd.OutOfMemory) result (plans.break_plan kind at (Some trace)) }
-    ensures cause { ComesByFault (H.told host.old) (Err SessionEnd.HostFault) result
+    ensures cause { OnlyByFailure (H.told host.old) (Err SessionEnd.HostFault) result
         (H.faults host.old) (H.faults host.new) }
     ensures stands { Stands (H.told host.old) (H.told host.new) (H.faults host.old) (H.faults host.new) }
 {
@@ -214,7 +214,7 @@ fn write_break_line<H: Host>(
 ) -> Result<(), SessionEnd>
     ensures told { CarriesOut (H.told host.old) (H.told host.new) (Err SessionEnd.OutOfMemory) result
         (line_plan (break_text kind at)) }
-    ensures cause { ComesByFault (H.told host.old) (Err SessionEnd.HostFault) result
+    ensures cause { OnlyByFailure (H.told host.old) (Err SessionEnd.HostFault) result
         (H.faults host.old) (H.faults host.new) }
     ensures stands { Stands (H.told host.old) (H.told host.new) (H.faults host.old) (H.faults host.new) }
 {

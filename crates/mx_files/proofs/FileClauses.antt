@@ -2,15 +2,16 @@
 use Rattle.std.proofs.Common.{◌≡◌, ◌≢◌, ◌⊎◌, inl, inr, ℕ, List, true, false, Ok, Err, refl, sym, ◌∙◌, ap, subst}
 use Rattle.std.specs.Prelude.{Option, Result, IfErr}
 use Rattle.mx_host.specs.HostModel.{HostModel, contents}
-use Rattle.mx_host.specs.Keeping.{ComesByFault, Keeps}
+use Rattle.mx_host.specs.Keeping.{ComesByFault, Keeps, OnlyByFailure}
 use Rattle.mx_plan.specs.Calls.{host, HostPlan}
 use Rattle.mx_plan.specs.Clauses.{CarriesOut, Stands}
+use Rattle.mx_plan.specs.Held.{Makes}
 use Rattle.mx_plan.specs.Plan.{returns, end_of, end_after, Comes}
 use Rattle.mx_plan.proofs.Plans.{end_bind, end_returns, stops_first}
 use Rattle.mx_word.specs.Lists.{IsFront}
 use Rattle.mx_files.specs.Answers.{answered, output_of, is_usage, GoesAs, plainly}
 use Rattle.mx_files.specs.Assembling.{after_reading}
-use Rattle.mx_files.specs.Clauses.{ComesByFailing, Works, is_end}
+use Rattle.mx_files.specs.Clauses.{ComesByFailing, HasToolSlots, Serves, Works, is_end}
 use Rattle.mx_files.specs.FilePlans.{Part, file_plan}
 use Rattle.mx_files.specs.ObjectPlans.{outcome_of, whole_plan, assemble_plan, list_plan}
 use Rattle.mx_files.specs.Source.{file_bytes}
@@ -20,6 +21,7 @@ use Rattle.mx_files.specs.declared.outcome.Outcome.TheVariants.{NoFile, HostFaul
 use Rattle.mx_files.proofs.FileEnds.{file-end, assemble-end, list-end}
 use Rattle.mx_files.proofs.QuietFiles.{file-stops-quiet, file-ends-quiet}
 use Rattle.mx_files.proofs.Rests.{stop-front, comes-keeps}
+use Rattle.mx_files.proofs.Serving.{only-failed}
 
 decided-part : {A : Type 0} (r : Result A Outcome) → (r ≡ Err OutOfMemory) ⊎ (r ≢ Err OutOfMemory)
 decided-part (Ok x) = inr (λ e. absurd (cc))
@@ -65,8 +67,9 @@ whole-told a b o r p e told t = rw e (record {
 pub whole-cause : (a b : Option HostModel) (k m : ℕ) (o : Outcome) (r : Result (Unit {0}) Outcome) (p : Part (Unit {0})) → o ≡ outcome_of r → Works a b k m r p → ComesByFailing a HostFault o k m p
 whole-cause a b k m o r p e w = λ serves fault. w.cause serves (outcome-failed r HostFault (λ x. absurd (cc)) (sym e ∙ fault))
 
-pub whole-rose : (a b : Option HostModel) (k m : ℕ) (o : Outcome) (r : Result (Unit {0}) Outcome) (p : Part (Unit {0})) → o ≡ outcome_of r → Works a b k m r p → ComesByFault a HostFault o k m
-whole-rose a b k m o r p e w = λ silent fault. w.cause (λ t. absurd (silent t)) (outcome-failed r HostFault (λ x. absurd (cc)) (sym e ∙ fault))
+pub whole-rose : (a b : Option HostModel) (k m : ℕ) (o : Outcome) (r : Result (Unit {0}) Outcome) (p : Part (Unit {0})) → o ≡ outcome_of r →
+    ((n : HostModel) → HasToolSlots n → Makes host Serves p n) → Works a b k m r p → OnlyByFailure a HostFault o k m
+whole-rose a b k m o r p e served w = λ has fault. only-failed a b k m r p served w has (outcome-failed r HostFault (λ x. absurd (cc)) (sym e ∙ fault))
 
 pub whole-absent : (a b : Option HostModel) (k m : ℕ) (o : Outcome) (r : Result (Unit {0}) Outcome) (p : Part (Unit {0})) → o ≡ outcome_of r → Works a b k m r p → ComesByFault a NoFile o k m
 whole-absent a b k m o r p e w = λ silent none. w.absent silent (outcome-failed r NoFile (λ x. absurd (cc)) (sym e ∙ none))

@@ -19,3 +19,4 @@ pub mod ReadSchedules
 pub mod Serving
 pub mod TypedLines
 pub mod LeastFaults
+pub mod TakenFiles

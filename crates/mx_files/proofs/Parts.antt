@@ -2,6 +2,7 @@
 use Rattle.std.proofs.Common.{IsTrue, ◌≡◌, ◌≢◌, ◌⊎◌, inl, inr, ℕ, ◌≤◌, true, Ok, Err, refl, sym, ◌∙◌, ap, subst, le_refl, arith}
 use Rattle.std.specs.Prelude.{Option, Result}
 use Rattle.mx_host.specs.HostModel.{HostModel, tells, contents, Rose}
+use Rattle.mx_plan.proofs.Standing.{rose-on, stands-all, stands-then}
 use Rattle.mx_plan.specs.Calls.{host, need}
 use Rattle.mx_plan.specs.Clauses.{Stands}
 use Rattle.mx_plan.specs.Held.{Makes}
@@ -34,16 +35,6 @@ makes-bind d Such f (returns a) w h k = k
 makes-bind d Such f (calls o more) w h k = (h.0, makes-bind d Such f (more (d.act o w).0) (d.act o w).1 h.1 k)
 
 -- ---- one part, and what follows
-
-rose-on : (k m n : ℕ) → k ≤ m → Rose m n → Rose k n
-rose-on k m n l (inl h) = inl (omega (arith, l, h))
-rose-on k m n l (inr e) = inr e
-
-pub stands-all : (old : Option HostModel) (earlier : ℕ) → Stands old old earlier earlier
-stands-all old earlier = (refl, le_refl earlier)
-
-pub stands-then : (old mid new : Option HostModel) (a b d : ℕ) → Stands old mid a b → Stands mid new b d → Stands old new a d
-stands-then old mid new a b d h k = let first : a ≤ b = h.1 in let second : b ≤ d = k.1 in (k.0 ∙ h.0, omega (arith, first, second))
 
 tells-then : (a b : Option HostModel) → tells b ≡ tells a → IsTrue (tells a) → IsTrue (tells b)
 tells-then a b e t = subst IsTrue (sym e) t

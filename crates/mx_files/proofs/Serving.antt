@@ -1,10 +1,12 @@
 -- The calls that are made for a file are on slots that serve them.
-use Rattle.std.proofs.Common.{◌≡◌, ℕ, ℤ, nat_le, zero, suc, ◌<◌, ◌≤◌, List, [], ◌∷◌, take, drop, length, ◌++◌, Bool, true, false, cond, ◌-◌, ◌/◌, ◌==◌, Ok, Err, None, Some, refl, ◌∙◌, ap, arith}
+use Rattle.std.proofs.Common.{◌≡◌, ℕ, ℤ, nat_le, nat_lt, zero, suc, ◌<◌, ◌≤◌, List, [], ◌∷◌, take, drop, length, ◌++◌, Bool, true, false, cond, ◌-◌, ◌/◌, ◌==◌, Ok, Err, None, Some, refl, ◌∙◌, ap, arith}
 use Rattle.std.specs.Prelude.{Option, Result, slice_get, slice_set, unwrap_or}
 use Rattle.std.proofs.lemmas.List.{length-set, get_or-set_same}
-use Rattle.std.proofs.lemmas.Option.{slice_get-get_or}
+use Rattle.std.proofs.lemmas.Bool.Decides.{nat_tests}
+use Rattle.std.proofs.lemmas.Option.{slice_get-get_or, slice_get_past}
 use Rattle.mx_host.specs.HostAnswer.{Then, open_answer, opened, read_answer, read_from, read_lead, write_answer, write_to, write_lead, close_answer, closed, seek_answer, seek_in, seek_lead, moved, place_sought, bytes_at, tell_answer}
-use Rattle.mx_host.specs.HostModel.{HostModel, counted, is_failing, is_read_only, is_write_only, is_binary, place_of, slot_at, to_output, HasStartSlots}
+use Rattle.mx_host.specs.HostModel.{HostModel, contents, counted, is_failing, is_read_only, is_write_only, is_binary, place_of, slot_at, to_output, HasStartSlots}
+use Rattle.mx_host.specs.Keeping.{HasStreams, OnlyByFailure}
 use Rattle.mx_host.specs.declared.faults.HostFault.{HostFault}
 use Rattle.mx_host.specs.declared.faults.OpenFault.{OpenFault}
 use Rattle.mx_host.specs.declared.faults.OpenFault.TheVariants as opens
@@ -21,13 +23,13 @@ use Rattle.mx_plan.specs.Plan.{returns, calls, bind, end_of, end_after}
 use Rattle.mx_plan.proofs.HeldLaws.{held-end}
 use Rattle.mx_plan.proofs.Plans.{end_bind}
 use Rattle.mx_plan.proofs.Streams.{streams-held}
-use Rattle.mx_files.specs.Clauses.{Serves, HasToolSlots}
+use Rattle.mx_files.specs.Clauses.{Serves, HasToolSlots, Works}
 use Rattle.mx_files.specs.FilePlans.{Part, on_ok, close_file, piece_added, read_piece, read_next, read_pieces, then_closed, read_open, input_opened, open_input, file_plan, write_piece, write_pieces, text_plan, made_plan, lines_plan}
 use Rattle.mx_files.specs.ObjectPlans.{assembled, object_opened, open_object, close_object, put_object, put_source, put_into, assemble_part, typed_end, typed_plan, list_part}
 use Rattle.mx_files.specs.Objects.{Assembled, source_object}
 use Rattle.mx_files.specs.Typed.{Typed, typed}
 use Rattle.mx_files.specs.declared.outcome.Outcome.{Outcome}
-use Rattle.mx_files.specs.declared.outcome.Outcome.TheVariants.{Done}
+use Rattle.mx_files.specs.declared.outcome.Outcome.TheVariants.{Done, HostFault as Broken}
 use Rattle.mx_files.proofs.Parts.{makes-bind, MakesAfter}
 
 -- ---- plans that are served and leave what holds
@@ -365,3 +367,25 @@ pub start-slots : (m : HostModel) → HasStartSlots m → HasToolSlots m
 start-slots m e = (let all : length m.slots ≡ 261 = ap length e ∙ start_slots-length in omega (arith, all), slot_at-start_output m e)
 
 pub ruleset serving = (read-served-there, assemble-served, list-served)
+
+-- ---- faults of the host
+
+-- where a slot leads to the output, that slot and those before it are there
+output-there : (m : HostModel) → slot_at m 259 ≡ to_output → HasToolSlots m
+output-there m e = (on (nat_lt 259 (length m.slots)) refl, e)
+  where
+    on : (b : Bool) → nat_lt 259 (length m.slots) ≡ b → 257 < length m.slots
+    on true l = let there : 259 < length m.slots = grind (arith, nat_tests) in omega (arith, there)
+    on false l =
+        let few : length m.slots ≤ 259 = grind (arith, nat_tests) in
+        let closed : slot_at m 259 ≡ Closed = rw (slice_get_past m.slots 259 few) refl in
+        absurd (cc)
+
+-- over every host, work that is served ends with a fault of the host only where the count of faults rose
+pub only-failed : {A : Type 0} (a b : Option HostModel) (k m : ℕ) (r : Result A Outcome) (p : Part A) → ((n : HostModel) → HasToolSlots n → Served p n) →
+    Works a b k m r p → OnlyByFailure a (Err Broken) r k m
+unfolding HasStreams
+only-failed a b k m r p served w has e = w.cause (λ t. served (contents a) (output-there (contents a) (has t).1)) e
+
+pub only-lines : (a b : Option HostModel) (k m : ℕ) (r : Result (Unit {0}) Outcome) (texts : List (List ℕ)) → Works a b k m r (lines_plan texts) → OnlyByFailure a (Err Broken) r k m
+only-lines a b k m r texts = only-failed a b k m r (lines_plan texts) (λ n h. (lines-safe texts n h.1).0)

@@ -28,7 +28,8 @@ use Rattle.mx_files.specs.Typed.{Typed, shown, item_lines, tail_lines, trie_type
 use Rattle.mx_files.specs.declared.outcome.Outcome.{Outcome}
 use Rattle.mx_files.specs.declared.outcome.Outcome.TheVariants.{Done, Usage, NoFile, HostFault, Refused, BadObject, BadSchedule, Stopped, StepsSpent, Quit, ConsoleLimit, OutOfMemory}
 use Rattle.mx_files.proofs.FileParts.{lines-end}
-use Rattle.mx_files.proofs.Parts.{works-on, works-then, works-ends, works-done, leaves-all, leaves-on, leaves-next, leaves-bind, stands-all}
+use Rattle.mx_plan.proofs.Standing.{stands-all}
+use Rattle.mx_files.proofs.Parts.{works-on, works-then, works-ends, works-done, leaves-all, leaves-on, leaves-next, leaves-bind}
 
 -- ---- lines and outcomes
 

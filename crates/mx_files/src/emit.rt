@@ -4,7 +4,7 @@ ghost use Rattle.std.specs.Prelude.{◌≡◌, ◌≢◌, ◌≤◌, Err, IfOk, 
 ghost use Rattle.mx_asm.specs.Faults.{no_memory};
 ghost use Rattle.mx_asm.specs.Fitting.{AreFit, IsPadded};
 ghost use Rattle.mx_asm.specs.Whole.{assembled_lines, line_after};
-ghost use Rattle.mx_host.specs.Keeping.{Answers, ComesByFault, Keeps, WritesFront};
+ghost use Rattle.mx_host.specs.Keeping.{Answers, ComesByFault, OnlyByFailure, Keeps, WritesFront};
 ghost use Rattle.mx_line.specs.Lines.{lines_of};
 ghost use Rattle.mx_mmo.specs.Spelling.{written};
 ghost use Rattle.mx_plan.specs.Clauses.{CarriesOut};
@@ -231,7 +231,7 @@ pub fn assemble_file<H: Host>(alloc: Global, host: &mut H, source: &[u8], object
         (λ m. spec.after_reading object.now (file_bytes 1025 source.now m)) }
     ensures written { WritesFront (H.told host.old) (H.told host.new) Outcome.OutOfMemory result
         (λ m. spec.after_reading object.now (file_bytes 1025 source.now m)) }
-    ensures rose { ComesByFault (H.told host.old) Outcome.HostFault result (H.faults host.old) (H.faults host.new) }
+    ensures rose { OnlyByFailure (H.told host.old) Outcome.HostFault result (H.faults host.old) (H.faults host.new) }
     ensures no_file { ComesByFault (H.told host.old) Outcome.NoFile result (H.faults host.old) (H.faults host.new) }
     ensures words { is_usage result ≡ false }
     ensures keeps { Keeps (H.told host.old) (H.told host.new) (H.faults host.old) (H.faults host.new) }

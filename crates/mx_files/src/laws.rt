@@ -1,10 +1,11 @@
 //! What holds of the work on files over its definitions alone.
 
-ghost use Rattle.std.specs.Prelude.{◌≡◌, ℕ, List};
+ghost use Rattle.std.specs.Prelude.{◌≡◌, ◌*◌, ℕ, List};
 ghost use Rattle.mx_host.specs.HostModel.{HasStartSlots, HostModel};
 ghost use Rattle.mx_plan.specs.Calls.{HostPlan, host};
 ghost use Rattle.mx_plan.specs.Held.{KeepsStreams, Makes, OnlyAdds};
 ghost use Rattle.mx_plan.specs.Plan.{Stops, end_of};
+ghost use Rattle.mx_plan.specs.Taking.{TakesAtMost};
 ghost use Rattle.mx_files.specs.Answers.{plainly};
 ghost use Rattle.mx_files.specs.Assembling.{after_reading};
 ghost use Rattle.mx_files.specs.Clauses.{HasToolSlots, Serves, part_of};
@@ -12,7 +13,7 @@ ghost use Rattle.mx_files.specs.FilePlans.{file_plan, lines_plan, text_plan};
 ghost use Rattle.mx_files.specs.Lines.{lines_put};
 ghost use Rattle.mx_files.specs.ObjectPlans.{assemble_part, assemble_plan, list_part, list_plan};
 ghost use Rattle.mx_files.specs.Pieces.{put_text};
-ghost use Rattle.mx_files.specs.Source.{file_bytes};
+ghost use Rattle.mx_files.specs.Source.{file_bytes, input_slot};
 ghost use Rattle.mx_files.specs.Typed.{after_typing};
 ghost use Rattle.mx_files.specs.declared.outcome.Outcome.{Outcome};
 
@@ -49,4 +50,10 @@ pub fn files_are_served()
     ensures assembled { (source object : List ℕ) (m : HostModel) → HasToolSlots m →
         Makes host Serves (assemble_part source object) m }
     ensures listed { (name : List ℕ) (m : HostModel) → HasToolSlots m → Makes host Serves (list_part name) m }
+{}
+
+/// A file that is read in so many pieces takes at most 4,096 bytes for each, whatever the host answers to its calls: a source
+/// at most 2^22 + 4,096, an object at most 2^26 + 4,096.
+pub fn files_take_at_most()
+    ensures { (most : ℕ) (name : List ℕ) → TakesAtMost input_slot (4096 * most) (file_plan most name) }
 {}

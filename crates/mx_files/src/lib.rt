@@ -17,7 +17,7 @@ mod source;
 mod typing;
 
 pub use emit::assemble_file;
-pub use laws::{files_are_served, files_are_their_plans, files_stop_in_front};
+pub use laws::{files_are_served, files_are_their_plans, files_stop_in_front, files_take_at_most};
 pub use lines::write_line;
 pub use loading::load_source;
 pub use messages::{add_decimal, message};

@@ -2,7 +2,7 @@
 
 ghost use Rattle.std.specs.Prelude.{◌≡◌, ◌≢◌, Err, IfOk, IfErr, false};
 ghost use Rattle.std.specs.List.{position};
-ghost use Rattle.mx_host.specs.Keeping.{Answers, ComesByFault, Keeps, KeepsOutput};
+ghost use Rattle.mx_host.specs.Keeping.{Answers, ComesByFault, OnlyByFailure, Keeps, KeepsOutput};
 ghost use Rattle.mx_files.specs.Answers.{is_usage};
 ghost use Rattle.mx_files.specs.Clauses.{Works};
 ghost use Rattle.mx_files.specs.Schedules as spec;
@@ -73,7 +73,7 @@ pub fn read_schedule<H: Host>(alloc: Global, host: &mut H, name: &[u8]) -> Resul
     ensures names { IfOk result spec.AreEight }
     ensures words { IfErr result (λ e. is_usage e ≡ false) }
     ensures output { KeepsOutput (H.told host.old) (H.told host.new) }
-    ensures rose { ComesByFault (H.told host.old) (Err Outcome.HostFault) result (H.faults host.old) (H.faults
+    ensures rose { OnlyByFailure (H.told host.old) (Err Outcome.HostFault) result (H.faults host.old) (H.faults
         host.new) }
     ensures no_file { ComesByFault (H.told host.old) (Err Outcome.NoFile) result (H.faults host.old) (H.faults
         host.new) }

@@ -1,7 +1,7 @@
 //! The file that holds a source or an object, as it is read.
 
 ghost use Rattle.std.specs.Prelude.{◌≡◌, [], Err, IfErr, false, length};
-ghost use Rattle.mx_host.specs.Keeping.{Answers, ComesByFault, Keeps, KeepsOutput};
+ghost use Rattle.mx_host.specs.Keeping.{Answers, ComesByFault, OnlyByFailure, Keeps, KeepsOutput};
 ghost use Rattle.mx_word.specs.Results.{map_ok};
 ghost use Rattle.mx_files.specs.Answers.{is_usage};
 ghost use Rattle.mx_files.specs.Clauses.{Works};
@@ -117,7 +117,7 @@ pub fn read_file<H: Host>(
         (λ m. spec.file_bytes most name.now m) }
     ensures words { IfErr result (λ e. is_usage e ≡ false) }
     ensures output { KeepsOutput (H.told host.old) (H.told host.new) }
-    ensures rose { ComesByFault (H.told host.old) (Err Outcome.HostFault) result (H.faults host.old) (H.faults
+    ensures rose { OnlyByFailure (H.told host.old) (Err Outcome.HostFault) result (H.faults host.old) (H.faults
         host.new) }
     ensures no_file { ComesByFault (H.told host.old) (Err Outcome.NoFile) result (H.faults host.old) (H.faults
         host.new) }

@@ -2,7 +2,7 @@
 
 ghost use Rattle.std.specs.Prelude.{◌≡◌, ◌≢◌, ◌<◌, ◌≤◌, ◌^◌, [], Ok, Err, None, true, false, length, map, OnOk};
 ghost use Rattle.std.specs.Prelude.{IfErr, IfSome};
-ghost use Rattle.mx_host.specs.Keeping.{ComesByFault, Keeps};
+ghost use Rattle.mx_host.specs.Keeping.{ComesByFault, OnlyByFailure, Keeps};
 ghost use Rattle.mx_mmo.specs.Whole.{left_of};
 ghost use Rattle.mx_plan.specs.Clauses.{CarriesOut};
 ghost use Rattle.mx_stab.specs.Faults as tries;
@@ -286,7 +286,7 @@ pub fn list_file<H: Host>(alloc: Global, host: &mut H, name: &[u8]) -> Outcome
         (λ m. spec.after_typing (file_bytes 16385 name.now m)) }
     ensures front { WritesFrontOf (H.told host.old) (H.told host.new) result
         (λ m. spec.after_typing (file_bytes 16385 name.now m)) }
-    ensures rose { ComesByFault (H.told host.old) Outcome.HostFault result (H.faults host.old) (H.faults host.new) }
+    ensures rose { OnlyByFailure (H.told host.old) Outcome.HostFault result (H.faults host.old) (H.faults host.new) }
     ensures no_file { ComesByFault (H.told host.old) Outcome.NoFile result (H.faults host.old) (H.faults host.new) }
     ensures words { is_usage result ≡ false }
     ensures keeps { Keeps (H.told host.old) (H.told host.new) (H.faults host.old) (H.faults host.new) }

@@ -3,5 +3,6 @@ pub mod Keeping
 pub mod NamedFiles
 pub mod Names
 pub mod Output
+pub mod Serving
 pub mod Start
 pub mod Still

@@ -39,6 +39,10 @@ WritesFront old new none result f = IsTrue (tells old) → result ≡ none → I
 abbrev pub KeepsOutput : Option HostModel → Option HostModel → Type 0
 KeepsOutput old new = IsTrue (tells old) → (contents new).output ≡ (contents old).output
 
+-- over a host that tells its contents, the slots of the tool's standard input and output lead to these streams
+unfoldable pub HasStreams : Option HostModel → Type 0
+HasStreams old = IsTrue (tells old) → (slot_at (contents old) 258 ≡ to_input) × (slot_at (contents old) 259 ≡ to_output)
+
 -- over a host that tells its contents, an answer of no memory leaves all but the number of calls
 abbrev pub LeavesCounted : {A : Type 0} → Option HostModel → Option HostModel → A → A → Type 0
 LeavesCounted old new none result = IsTrue (tells old) → result ≡ none → contents new ≡ counted (contents old)
@@ -46,3 +50,7 @@ LeavesCounted old new none result = IsTrue (tells old) → result ≡ none → c
 -- over a host that tells nothing, this answer comes only where the count of faults rose
 abbrev pub ComesByFault : {A : Type 0} → Option HostModel → A → A → ℕ → ℕ → Type 0
 ComesByFault old answer result before after = ¬ IsTrue (tells old) → result ≡ answer → Rose before after
+
+-- over every host, as long as these slots lead to the streams, this answer comes only where the count of faults rose
+abbrev pub OnlyByFailure : {A : Type 0} → Option HostModel → A → A → ℕ → ℕ → Type 0
+OnlyByFailure old answer result before after = HasStreams old → result ≡ answer → Rose before after

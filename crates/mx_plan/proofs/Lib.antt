@@ -4,3 +4,5 @@ pub mod Streams
 pub mod WildLaws
 pub mod Spared
 pub mod Giving
+pub mod Taking
+pub mod Standing

@@ -3,12 +3,14 @@
 use Rattle.std.specs.Prelude.{ℕ, ◌≡◌, ◌≤◌, IsTrue, Option}
 use Rattle.mx_mem.specs.Space.{Contents}
 use Rattle.mx_host.specs.HostModel.{HostModel, tells, contents}
+use Rattle.mx_host.specs.Keeping.{HasStreams}
 use Rattle.mx_plan.specs.Plan.{Comes}
 use Rattle.mx_plan.specs.Calls.{host, HostPlan, both, BothPlan}
 
--- whether the host tells its contents is as before, and its count of faults did not fall
+-- whether the host tells its contents is as before, its count of faults did not fall, and where the slots of the tool's
+-- standard input and output led to these streams, they still do
 abbrev pub Stands : Option HostModel → Option HostModel → ℕ → ℕ → Type 0
-Stands old new earlier later = (tells new ≡ tells old) × (earlier ≤ later)
+Stands old new earlier later = (tells new ≡ tells old) × (earlier ≤ later) × (HasStreams old → HasStreams new)
 
 -- Over a host that tells its contents, the plan is carried out: unless the answer is `none`, which is that of no memory, the
 -- answer and the contents are its end; where it is, the calls that were completed stay, and nothing else changed.

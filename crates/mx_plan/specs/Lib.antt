@@ -4,3 +4,4 @@ pub mod Clauses
 pub mod Held
 pub mod Counts
 pub mod Wild
+pub mod Taking

@@ -2,7 +2,7 @@
 
 ghost use Rattle.std.specs.Prelude.{◌≡◌, ◌≤◌, ◌^◌, Ok, Err, IfOk, length, take};
 ghost use Rattle.mx_host.specs.HostModel.{Rose};
-ghost use Rattle.mx_host.specs.Keeping.{ComesByFault};
+ghost use Rattle.mx_host.specs.Keeping.{ComesByFault, OnlyByFailure};
 ghost use Rattle.mx_plan.specs.Calls.{close_plan, open_plan, put_plan, read_plan, seek_plan, space, tell_plan};
 ghost use Rattle.mx_plan.specs.Calls.{write_plan};
 ghost use Rattle.mx_plan.specs.Clauses.{CarriesOut, Stands};
@@ -51,6 +51,8 @@ pub fn read<H: Host>(host: &mut H, slot: u16, into: &mut [u8]) -> Result<usize, 
     ensures failed { result ≡ Err HostFault.Failed → Rose (H.faults host.old) (H.faults host.new) }
     ensures misused { ComesByFault (H.told host.old) (Err HostFault.Misused) result
         (H.faults host.old) (H.faults host.new) }
+    ensures served { slot ≡ 258 → OnlyByFailure (H.told host.old) (Err HostFault.Misused) result
+        (H.faults host.old) (H.faults host.new) }
     ensures stands { Stands (H.told host.old) (H.told host.new) (H.faults host.old) (H.faults host.new) }
 {
     host.read_slot(slot, into)
@@ -64,6 +66,8 @@ pub fn write<H: Host>(host: &mut H, slot: u16, from: &[u8]) -> Result<(), HostFa
         (write_plan slot from.now) }
     ensures failed { result ≡ Err HostFault.Failed → Rose (H.faults host.old) (H.faults host.new) }
     ensures misused { ComesByFault (H.told host.old) (Err HostFault.Misused) result
+        (H.faults host.old) (H.faults host.new) }
+    ensures served { slot ≡ 259 → OnlyByFailure (H.told host.old) (Err HostFault.Misused) result
         (H.faults host.old) (H.faults host.new) }
     ensures stands { Stands (H.told host.old) (H.told host.new) (H.faults host.old) (H.faults host.new) }
 {

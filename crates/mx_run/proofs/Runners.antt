@@ -1,5 +1,5 @@
 -- What a runner's clauses say, from the plans that it carries out.
-use Rattle.std.proofs.Common.{◌≡◌, ◌≢◌, ℕ, ◌+◌, ◌-◌, ◌<◌, suc, Bool, ◌≤◌, le_refl, IsTrue, Ok, Err, arith, refl, subst, ◌∙◌, ap}
+use Rattle.std.proofs.Common.{◌≡◌, ◌≢◌, ℕ, ◌+◌, ◌-◌, ◌<◌, suc, Bool, IsTrue, Ok, Err, arith, refl, subst, ◌∙◌, ap}
 use Rattle.std.specs.Prelude.{Option, Result}
 use Rattle.mx_word.specs.Lists.{IsFront}
 use Rattle.mx_host.specs.HostModel.{HostModel, tells, contents}
@@ -36,12 +36,6 @@ run-streams v w (end.Broke kind at traced) p c = ended-streams v w _ _ p c (λ e
 run-streams v w (end.Traced trace) p c = ended-streams v w _ _ p c (λ e. absurd (cc))
 run-streams v w end.Spent p c = ended-streams v w _ _ p c (λ e. absurd (cc))
 run-streams v w end.OutOfMemory p c = streams-stop p w v (c.stopping refl)
-
-pub stands-all : (old : Option HostModel) (earlier : ℕ) → Stands old old earlier earlier
-stands-all old earlier = (refl, le_refl earlier)
-
-pub stands-then : (old mid new : Option HostModel) (a b d : ℕ) → Stands old mid a b → Stands mid new b d → Stands old new a d
-stands-then old mid new a b d h k = let first : a ≤ b = h.1 in let second : b ≤ d = k.1 in (k.0 ∙ h.0, omega (arith, first, second))
 
 pub keeps-by : (old new : Option HostModel) (earlier later : ℕ) → Stands old new earlier later → (IsTrue (tells old) → KeepsStreams (contents old) (contents new)) → Keeps old new earlier later
 keeps-by old new earlier later h k = record {

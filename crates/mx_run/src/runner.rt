@@ -27,6 +27,7 @@ use std::marker::Model;
 /// A machine, and the flags of tetras.
 #[derive(Drop)]
 pub struct Runner {
+    alloc: Global,
     machine: Machine,
     flags: FlagMap,
 }
@@ -46,6 +47,7 @@ impl Runner {
         ensures flags { flags_at result.flags ≡ spec.no_flags }
     {
         Runner {
+            alloc,
             machine,
             flags: FlagMap::new(alloc),
         }
@@ -99,7 +101,7 @@ impl Runner {
     /// Out of memory, a step left the machine as it was. A file trap left the bytes that it moved and the
     /// calls that it made; what was written to standard output is a front of what the turn writes.
     #[tactic(auto, using(crate::proofs::Runners::turns))]
-    pub fn step<H: Host>(&mut self, alloc: Global, host: &mut H) -> TurnAnswer
+    pub fn step<H: Host>(&mut self, host: &mut H) -> TurnAnswer
         ensures plan { CarriesOutRun (H.told host.old) (H.told host.new) (state_of self.old.machine)
             (state_of self.new.machine) TurnAnswer.OutOfMemory result turn_plan }
         ensures spared { SparesMemory 1 (state_of self.old.machine) → result ≢ TurnAnswer.OutOfMemory }
@@ -113,7 +115,7 @@ impl Runner {
         ensures bound { spec.IsLater 1 (state_of self.old.machine) (state_of self.new.machine) }
         ensures keeps { Keeps (H.told host.old) (H.told host.new) (H.faults host.old) (H.faults host.new) }
     {
-        turn(alloc, &mut self.machine, host)
+        turn(self.alloc, &mut self.machine, host)
     }
 
     /// Makes at most n steps over a host, and breaks and ends where the flags say. With `pass` the
@@ -124,7 +126,7 @@ impl Runner {
     /// Out of memory, the turns that were made stay, and of the last one what it leaves then; what was
     /// written to standard output is a front of what the run writes.
     #[tactic(auto, using(crate::proofs::PlanEnds::choosing, crate::proofs::ListSteps::choosing))]
-    pub fn go<H: Host>(&mut self, alloc: Global, host: &mut H, n: u64, pass: bool) -> End
+    pub fn go<H: Host>(&mut self, host: &mut H, n: u64, pass: bool) -> End
         ensures plan { CarriesOutRun (H.told host.old) (H.told host.new) (state_of self.old.machine)
             (state_of self.new.machine) End.OutOfMemory result (run_plan n (flags_at self.old.flags) pass) }
         ensures spared { SparesMemory n (state_of self.old.machine) → result ≢ End.OutOfMemory }
@@ -139,9 +141,9 @@ impl Runner {
         ensures keeps { Keeps (H.told host.old) (H.told host.new) (H.faults host.old) (H.faults host.new) }
     {
         if self.flags.is_empty() {
-            go_freely(alloc, &mut self.machine, &self.flags, host, n)
+            go_freely(self.alloc, &mut self.machine, &self.flags, host, n)
         } else {
-            go_by_flags(alloc, &mut self.machine, &self.flags, host, n, pass)
+            go_by_flags(self.alloc, &mut self.machine, &self.flags, host, n, pass)
         }
     }
 }

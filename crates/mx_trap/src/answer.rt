@@ -33,8 +33,8 @@ pub enum TrapStop {
 
 impl TrapStop {
     /// The number of the stop.
-    pub fn number(self) -> u16
-        ensures { result ≡ spec.stop_number self }
+    pub fn number(&self) -> u16
+        ensures { result ≡ spec.stop_number self.now }
     {
         match self {
             TrapStop::Negative => 113,

@@ -133,7 +133,7 @@ fn host(rt: &impl Abort, alloc: Global) -> MemHost {
 /// How a run with these flags at an address ends, and how many steps it makes.
 fn run(rt: &impl Abort, alloc: Global, a: u64, flags: Flags, n: u64, pass: bool) -> (End, u64) {
     let mut runner = runner(rt, alloc, a, flags);
-    let end = runner.go(alloc, &mut host(rt, alloc), n, pass);
+    let end = runner.go(&mut host(rt, alloc), n, pass);
     (end, runner.machine().steps())
 }
 

@@ -1,7 +1,7 @@
 use Rattle.std.proofs.Common.{sym, subst}
 use Rattle.std.specs.Prelude.{IsTrue}
 use Rattle.mx_con.proofs.LineReads.{line-more}
-use Rattle.mx_con.proofs.Rests.{stands-then}
+use Rattle.mx_plan.proofs.Standing.{stands-then}
 use Rattle.mx_con.proofs.host_lines.read_line.Goals as goal
 
 pub loop-left-preserved : goal.loop-left-preserved

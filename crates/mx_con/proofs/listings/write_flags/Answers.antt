@@ -2,7 +2,8 @@ use Rattle.std.proofs.Common.{sym, subst}
 use Rattle.std.specs.Prelude.{IsTrue}
 use Rattle.mx_plan.specs.Calls.{host}
 use Rattle.mx_con.proofs.ListedLines.{flags-more, flags-ended, flags-none, flags-done}
-use Rattle.mx_con.proofs.Rests.{rest-all, stands-all, stands-then}
+use Rattle.mx_plan.proofs.Standing.{stands-all, stands-then}
+use Rattle.mx_con.proofs.Rests.{rest-all}
 use Rattle.mx_con.proofs.listings.write_flags.Goals as goal
 
 pub loop-tetra-init : goal.loop-tetra-init

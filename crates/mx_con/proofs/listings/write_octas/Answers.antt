@@ -1,7 +1,7 @@
 use Rattle.std.proofs.Common.{sym, subst}
 use Rattle.std.specs.Prelude.{IsTrue}
 use Rattle.mx_con.proofs.ListedLines.{octas-begin, octas-more, octas-ended, octas-done}
-use Rattle.mx_con.proofs.Rests.{stands-all, stands-then}
+use Rattle.mx_plan.proofs.Standing.{stands-all, stands-then}
 use Rattle.mx_con.proofs.listings.write_octas.Goals as goal
 
 pub loop-turn-init : goal.loop-turn-init

@@ -4,7 +4,7 @@ use Rattle.mx_con.specs.Clauses.{console_of, world_of}
 use Rattle.mx_con.specs.Session.{most_input}
 use Rattle.mx_con.proofs.ListedSessions as listed
 use Rattle.mx_con.proofs.Besides.{goes-by}
-use Rattle.mx_con.proofs.Rests.{stands-all, stands-then}
+use Rattle.mx_plan.proofs.Standing.{stands-all, stands-then}
 use Rattle.mx_con.proofs.SessionSteps.{lines-begun, lines-went, lines-over, lines-limit}
 use Rattle.mx_con.proofs.StepBounds.{within-self, within-then}
 use Rattle.mx_con.proofs.sessions.all_lines.Goals as goal

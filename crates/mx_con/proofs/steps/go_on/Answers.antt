@@ -3,7 +3,7 @@ use Rattle.std.specs.Prelude.{IsTrue}
 use Rattle.mx_con.specs.Clauses.{console_of, world_of}
 use Rattle.mx_con.proofs.ListedRuns as listed
 use Rattle.mx_con.proofs.Besides.{goes-by}
-use Rattle.mx_con.proofs.Rests.{stands-all, stands-then}
+use Rattle.mx_plan.proofs.Standing.{stands-all, stands-then}
 use Rattle.mx_con.proofs.StepBounds.{within-self, within-then}
 use Rattle.mx_con.proofs.StepPlans.{runs-begun, runs-went, runs-paused, runs-over, runs-spent}
 use Rattle.mx_con.proofs.steps.go_on.Goals as goal

@@ -1,4 +1,5 @@
 use Rattle.mx_files.proofs.FileClauses.{whole-told, whole-cause, whole-rose, whole-absent, whole-words, whole-keeps, assembled-told, assembled-front}
+use Rattle.mx_files.proofs.Serving.{assemble-served}
 use Rattle.mx_files.proofs.emit.assemble_file.Goals as goal
 
 pub returns-clause-plan : goal.returns-clause-plan
@@ -14,7 +15,7 @@ pub returns-clause-written : goal.returns-clause-written
 returns-clause-written g c = λ t. assembled-front _ _ _ _ _ (whole-told _ _ _ _ _ c.whole_outcome.ensures c.assemble.ensures.told t)
 
 pub returns-clause-rose : goal.returns-clause-rose
-returns-clause-rose g c = whole-rose _ _ _ _ _ _ _ c.whole_outcome.ensures c.assemble.ensures
+returns-clause-rose g c = whole-rose _ _ _ _ _ _ _ c.whole_outcome.ensures (assemble-served _ _) c.assemble.ensures
 
 pub returns-clause-no_file : goal.returns-clause-no_file
 returns-clause-no_file g c = whole-absent _ _ _ _ _ _ _ c.whole_outcome.ensures c.assemble.ensures

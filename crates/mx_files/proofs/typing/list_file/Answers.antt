@@ -1,4 +1,5 @@
 use Rattle.mx_files.proofs.FileClauses.{whole-told, whole-cause, whole-rose, whole-absent, whole-words, whole-keeps, listed-told, listed-goes, listed-front}
+use Rattle.mx_files.proofs.Serving.{list-served}
 use Rattle.mx_files.proofs.typing.list_file.Goals as goal
 
 pub returns-clause-plan : goal.returns-clause-plan
@@ -17,7 +18,7 @@ pub returns-clause-front : goal.returns-clause-front
 returns-clause-front g c = λ t. listed-front _ _ _ _ (whole-told _ _ _ _ _ c.whole_outcome.ensures c.list_whole.ensures.told t)
 
 pub returns-clause-rose : goal.returns-clause-rose
-returns-clause-rose g c = whole-rose _ _ _ _ _ _ _ c.whole_outcome.ensures c.list_whole.ensures
+returns-clause-rose g c = whole-rose _ _ _ _ _ _ _ c.whole_outcome.ensures (list-served _) c.list_whole.ensures
 
 pub returns-clause-no_file : goal.returns-clause-no_file
 returns-clause-no_file g c = whole-absent _ _ _ _ _ _ _ c.whole_outcome.ensures c.list_whole.ensures

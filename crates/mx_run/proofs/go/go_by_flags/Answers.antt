@@ -5,7 +5,8 @@ use Rattle.mx_run.specs.FlagMaps.{flags_at}
 use Rattle.mx_run.proofs.Later.{begun-later, turned-later}
 use Rattle.mx_run.proofs.ListSteps.{list-window, list-begun, list-went, list-ended, list-spent}
 use Rattle.mx_run.proofs.PlanEnds.{rest-begun, rest-went, rest-ended, rest-spent, step-answer}
-use Rattle.mx_run.proofs.Runners.{stands-all, stands-then, spares-begun, spares-went, spares-ended}
+use Rattle.mx_plan.proofs.Standing.{stands-all, stands-then}
+use Rattle.mx_run.proofs.Runners.{spares-begun, spares-went, spares-ended}
 use Rattle.mx_run.proofs.go.go_by_flags.Goals as goal
 
 pub loop-turn-init : goal.loop-turn-init

@@ -1,5 +1,5 @@
 use Rattle.std.proofs.Common.{sym, subst, IsTrue}
-use Rattle.mx_run.proofs.Runners.{stands-then}
+use Rattle.mx_plan.proofs.Standing.{stands-then}
 use Rattle.mx_run.proofs.Walked.{not-last, all-made, fewer-left, walk-goes-on, walk-ends, walk-spends, walk-listed-on, walk-listed-end, walk-listed-spent, walk-spares-on, walk-spares-end, walk-later, walk-later-on, walk-later-end}
 use Rattle.mx_run.proofs.go.go_freely.Goals as goal
 

@@ -5,7 +5,7 @@ use Rattle.mx_run.specs.Runs.{no_flags}
 use Rattle.mx_run.proofs.Later.{begun-later, turned-later, last-later}
 use Rattle.mx_run.proofs.ListSteps.{list-begun, list-spent}
 use Rattle.mx_run.proofs.PlanEnds.{rest-begun}
-use Rattle.mx_run.proofs.Runners.{stands-all, stands-then}
+use Rattle.mx_plan.proofs.Standing.{stands-all, stands-kept, stands-then}
 use Rattle.mx_watch.proofs.Listened.{begun-made, begun-heard, went-told, went-made, went-listed, went-heard, ended-told, ended-listed, ended-heard, lacking-told, spent-told, spent-heard, left-heard}
 use Rattle.mx_watch.proofs.ListTraces.{unless-wild, went-by-list, ended-by-list, spent-by-list, begun-by-list}
 use Rattle.mx_watch.proofs.running.listen.Goals as goal
@@ -37,7 +37,7 @@ loop-made-preserved g c =
       list_heard = λ t u. went-by-list _ _ _ _ _ _ _ _ _ _ _ inside c.in-Ok.ensures.over (c.in-Ok.ensures.told (subst IsTrue (sym was.stands.0) t)) c.in-Ok-tell_all.ensures.told (was.listed t u) (was.list_heard t u);
       same = c.in-Ok-tell_all.ensures.same;
       bound = turned-later _ _ _ _ was.bound c.in-Ok.ensures.bound;
-      stands = stands-then _ _ _ _ _ _ was.stands (c.in-Ok.ensures.keeps.telling, c.in-Ok.ensures.keeps.counting);
+      stands = stands-then _ _ _ _ _ _ was.stands (stands-kept _ _ _ _ c.in-Ok.ensures.keeps);
     }
 
 pub returns-in-Err-tell_all-clause-told : goal.returns-in-Err-tell_all-clause-told
@@ -91,10 +91,10 @@ pub returns-in-Err-tell_all-clause-bound : goal.returns-in-Err-tell_all-clause-b
 returns-in-Err-tell_all-clause-bound g c = last-later _ _ _ _ _ c.loop-made-test.true c.loop-made.invariant.bound c.in-Ok.ensures.bound
 
 pub returns-in-Err-tell_all-clause-stands : goal.returns-in-Err-tell_all-clause-stands
-returns-in-Err-tell_all-clause-stands g c = stands-then _ _ _ _ _ _ c.loop-made.invariant.stands (c.in-Ok.ensures.keeps.telling, c.in-Ok.ensures.keeps.counting)
+returns-in-Err-tell_all-clause-stands g c = stands-then _ _ _ _ _ _ c.loop-made.invariant.stands (stands-kept _ _ _ _ c.in-Ok.ensures.keeps)
 
 pub returns-in-Err-clause-stands : goal.returns-in-Err-clause-stands
-returns-in-Err-clause-stands g c = stands-then _ _ _ _ _ _ c.loop-made.invariant.stands (c.in-Err.ensures.keeps.telling, c.in-Err.ensures.keeps.counting)
+returns-in-Err-clause-stands g c = stands-then _ _ _ _ _ _ c.loop-made.invariant.stands (stands-kept _ _ _ _ c.in-Err.ensures.keeps)
 
 pub returns-clause-stands : goal.returns-clause-stands
 returns-clause-stands g c = c.loop-made.invariant.stands

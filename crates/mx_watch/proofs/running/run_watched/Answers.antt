@@ -1,5 +1,6 @@
 use Rattle.std.proofs.Common.{eqb-true, ◌∙◌, sym}
 use Rattle.std.proofs.lemmas.List.{nil_from_length}
+use Rattle.mx_plan.proofs.Standing.{stands-kept}
 use Rattle.mx_watch.proofs.Heard.{place_count}
 use Rattle.mx_watch.proofs.Listened.{unbegun-told}
 use Rattle.mx_watch.proofs.Watched.{from-run, hears-placed, hears-nobody, either-way, unless-by}
@@ -35,3 +36,6 @@ returns-in-Ok-clause-list_heard g c = λ t ne u.
 
 pub returns-in-Err-clause-told : goal.returns-in-Err-clause-told
 returns-in-Err-clause-told g c = λ t. unbegun-told _ _ _
+
+pub returns-then-is_empty-clause-stands : goal.returns-then-is_empty-clause-stands
+returns-then-is_empty-clause-stands g c = stands-kept _ _ _ _ c.run_freely.ensures.keeps

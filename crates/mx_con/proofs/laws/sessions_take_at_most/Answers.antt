@@ -1,0 +1,5 @@
+use Rattle.mx_con.proofs.TakenInput.{session-takes}
+use Rattle.mx_con.proofs.laws.sessions_take_at_most.Goals as goal
+
+pub returns : goal.returns
+returns c = session-takes
