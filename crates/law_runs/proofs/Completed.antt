@@ -30,7 +30,7 @@ use Rattle.mx_files.specs.Objects as assembling
 use Rattle.mx_files.specs.Pieces.{put_text}
 use Rattle.mx_files.specs.Assembling.{refused_with, closed_object, written_object, assembled_outcome, object_put, after_opening, after_reading}
 use Rattle.mx_top.specs.Product.{after_image, after_source, after_loading, after_object, summed, summed_from, generated_run, ordered, carried_out, with_message, product}
-use Rattle.mx_top.specs.Runs.{ran, machine_ran, session_ran, order_ran, dumped, run_from, image_run}
+use Rattle.mx_top.specs.Runs.{ran, machine_ran, session_ran, states_back, taken_back, run_back, order_ran, dumped, run_from, image_run}
 use Rattle.mx_files.specs.Sources.{source_meaning, meaning_unless}
 use Rattle.mx_files.specs.declared.refusal.Refusal.{Refusal}
 use Rattle.mx_files.specs.declared.outcome.Outcome.{Outcome}
@@ -63,16 +63,18 @@ started-run : (kind : MachineKind) (words : List Word) (o : Order) (image : Imag
     image_run kind o (arguments words o) image begun ≡ dumped o.dump (order_ran kind o s begun)
 started-run kind words o image s begun h = ap (λ r. run_from kind o r begun) h
 
-plain-run : (kind : MachineKind) (o : Order) (s : State) (m : HostModel) → o.interactive ≡ false → order_ran kind o s m ≡ machine_ran kind o.steps s m
-plain-run kind o s m h = ap (λ b. cond b (session_ran kind o.steps s m) (machine_ran kind o.steps s m)) h
+-- where the program halts, no step is taken back
+plain-run : (kind : MachineKind) (o : Order) (s ended : State) (m after : HostModel) (status : ℕ) → o.interactive ≡ false → machine_ran kind o.steps s m ≡ ran (Done status) ended after → order_ran kind o s m ≡ ran (Done status) ended after
+plain-run kind o s ended m after status h e =
+    ap (λ b. cond b (session_ran kind o.steps s m) (run_back kind o.last o.steps s m)) h ∙ ap (taken_back (states_back o.last o.steps s m)) e
 
 sat-run : (kind : MachineKind) (o : Order) (s : State) (m : HostModel) → o.interactive ≡ true → order_ran kind o s m ≡ session_ran kind o.steps s m
-sat-run kind o s m h = ap (λ b. cond b (session_ran kind o.steps s m) (machine_ran kind o.steps s m)) h
+sat-run kind o s m h = ap (λ b. cond b (session_ran kind o.steps s m) (run_back kind o.last o.steps s m)) h
 
 pub halted-run : (kind : MachineKind) (words : List Word) (o : Order) (image : Image) (begun : HostModel) (status : ℕ) (ended : State) (after : HostModel) →
     IsHalted kind words o image begun status ended after → image_run kind o (arguments words o) image begun ≡ dumped o.dump (ran (Done status) ended after)
 halted-run kind words o image begun status ended after h =
-    started-run kind words o image h.machine begun h.starts ∙ ap (dumped o.dump) (plain-run kind o h.machine begun h.plain ∙ h.halts)
+    started-run kind words o image h.machine begun h.starts ∙ ap (dumped o.dump) (plain-run kind o h.machine ended begun after status h.plain h.halts)
 
 pub plain-told : (wanted : Bool) (status : ℕ) (ended : State) (after : HostModel) → wanted ≡ false →
     with_message (dumped wanted (ran (Done status) ended after)) ≡ answered (Done status) after

@@ -20,7 +20,8 @@ use Rattle.mx_plan.specs.Counts.{NoneFailed}
 use Rattle.mx_plan.proofs.Spared.{sooner}
 use Rattle.mx_core.specs.Start.{start}
 use Rattle.mx_core.specs.State.{State}
-use Rattle.mx_run.specs.WildRuns.{MachineKind, RunEnd}
+use Rattle.mx_run.specs.Runs.{no_flags}
+use Rattle.mx_run.specs.WildRuns.{MachineKind, RunEnd, run_by}
 use Rattle.mx_con.specs.Session.{SessionRun}
 use Rattle.mx_words.specs.Orders.{order_of, options_from, asm_order, defaults}
 use Rattle.mx_words.specs.Values.{is_option}
@@ -43,7 +44,7 @@ use Rattle.mx_files.specs.Objects.{Assembled, source_object}
 use Rattle.mx_files.specs.Assembling.{assembled_outcome, object_put, after_opening, after_reading}
 use Rattle.mx_top.specs.Product.{after_image, after_source, after_loading, after_object, carried_out, message_told, with_message, product}
 use Rattle.mx_top.specs.Dump.{dump_lines}
-use Rattle.mx_top.specs.Runs.{Ran, ran, ran_wild, ran_to, played, order_ran, dumped, main_address, begun_at, stack_at_start, run_from, image_run}
+use Rattle.mx_top.specs.Runs.{Ran, ran, ran_wild, ran_to, machine_ran, takes_back, states_back, state_lines, reached, lines_told, taken_back, played, order_ran, dumped, main_address, begun_at, stack_at_start, run_from, image_run}
 use Rattle.mx_files.specs.Source.{file_bytes}
 use Rattle.mx_files.specs.declared.outcome.Outcome.{Outcome}
 use Rattle.mx_files.specs.declared.outcome.Outcome.TheVariants.{Done, Usage, NoFile, Refused, BadObject}
@@ -270,13 +271,24 @@ dump-unrefused dump (ran_wild m) h = tt
 dump-unrefused dump (ran outcome s m) h =
     cond_both (dump && leaves_machine outcome) _ _ IsUnrefused (λ _. lines-unrefused outcome (lines_put (dump_lines s) m) h) (λ _. h)
 
+-- the lines of states that come back refuse nothing
+told-unrefused : (outcome : Outcome) (s : State) (t : Then Bool) → is_refusal outcome ≡ false → IsRanUnrefused (lines_told outcome s t)
+told-unrefused outcome s (true, m) h = h
+told-unrefused outcome s (false, m) h = refl
+
+back-unrefused : (states : List State) (r : Ran) → IsRanUnrefused r → IsRanUnrefused (taken_back states r)
+back-unrefused states (ran_wild m) h = tt
+back-unrefused states (ran outcome s m) h =
+    cond_both (takes_back outcome) _ _ IsRanUnrefused (λ _. told-unrefused outcome (reached s states) (lines_put (state_lines states) m) h) (λ _. h)
+
 image-unrefused : (kind : MachineKind) (o : Order) (args : List Word) (image : Image) (m : HostModel) → IsUnrefused (image_run kind o args image m)
 image-unrefused kind o args image m = by (start image args (stack_at_start kind o.ring))
   where
     by : (s : Option State) → IsUnrefused (run_from kind o (begun_at (main_address image) s) m)
     by None = refl
     by (Some s) = dump-unrefused o.dump (order_ran kind o s m)
-        (cond_both o.interactive _ _ IsRanUnrefused (λ _. session-unrefused o.steps _) (λ _. run-unrefused o.steps _))
+        (cond_both o.interactive _ _ IsRanUnrefused (λ _. session-unrefused o.steps _)
+         (λ _. back-unrefused (states_back o.last o.steps s m) (machine_ran kind o.steps s m) (run-unrefused o.steps (run_by kind o.steps no_flags false s m))))
 
 -- the message changes no outcome
 message-comes : (outcome : Outcome) (text : List ℕ) (m : HostModel) → HasOutcome (message_told outcome text m) outcome

@@ -35,7 +35,7 @@ module _ (kind : MachineKind) (words others : List Word) (o p : Order) (e : Diff
     (stacks : stack_at_start kind o.ring ≡ stack_at_start kind p.ring) where
   same-from : (r : Result State Outcome) (m : HostModel) → run_from kind o r m ≡ run_from kind p r m
   same-from (Err outcome) m = refl
-  same-from (Ok s) m = rw (e.interactive, e.dump, e.steps) refl
+  same-from (Ok s) m = rw (e.interactive, e.dump, e.steps, e.last) refl
 
   same-run : (args : List Word) (image : Image) (m : HostModel) → image_run kind o args image m ≡ image_run kind p args image m
   same-run args image m = same-from (started kind o.ring image args) m ∙ ap (λ r. run_from kind p r m) (start image args)
@@ -95,7 +95,7 @@ module _ (kind : MachineKind) (words others : List Word) (o p : Order) (e : Diff
   module _ (asks : o.report ≡ p.report) where
     traced-from : (r : Result State Outcome) (m : HostModel) → traces_from kind o r m ≡ traces_from kind p r m
     traced-from (Err outcome) m = refl
-    traced-from (Ok s) m = rw (e.interactive, asks, e.steps) refl
+    traced-from (Ok s) m = rw (e.interactive, e.last, asks, e.steps) refl
 
     traced-run : (args : List Word) (image : Image) (m : HostModel) → image_traces kind o args image m ≡ image_traces kind p args image m
     traced-run args image m = traced-from (started kind o.ring image args) m ∙ ap (λ r. traces_from kind p r m) (start image args)
@@ -176,7 +176,7 @@ module _ (blocks ring : Word) (n size : ℕ) (counts : blocks_value blocks ≡ O
   rings-generated : (m : HostModel) → ring_value ring ≡ Ok size → product list_machine (gen_words blocks) m ≡ product list_machine (gen_ring_words ring blocks) m
   rings-generated m is =
       rings-agree (gen_words blocks) (gen_ring_words ring blocks) (gen_order defaults n) (gen_order (with_ring defaults size) n) m (gen-ordered 256 1) (ring-ordered is)
-      (record { command = refl; file = refl; object = refl; schedule = λ e. refl; arguments = λ h. absurd h; steps = refl; interactive = refl; dump = refl; blocks = refl })
+      (record { command = refl; file = refl; object = refl; schedule = λ e. refl; arguments = λ h. absurd h; steps = refl; interactive = refl; dump = refl; blocks = refl; last = refl })
 
 -- a worked row: `gen 1` and `gen --ring 512 1`
 gen-row : (m : HostModel) → product list_machine (codes "gen" ∷ codes "1" ∷ []) m ≡ product list_machine (codes "gen" ∷ codes "--ring" ∷ codes "512" ∷ codes "1" ∷ []) m

@@ -1,6 +1,6 @@
 -- Where no call that is made fails, the program does and answers the same whatever the count of calls, and whatever the
 -- list of those that fail.
-use Rattle.std.proofs.Common.{◌≡◌, ◌≤◌, ℕ, List, [], ◌∷◌, Bool, true, false, cond, length, refl, sym, ◌∙◌, ap, Ok, Err}
+use Rattle.std.proofs.Common.{◌≡◌, ◌≤◌, ℕ, zero, suc, List, [], ◌∷◌, Bool, true, false, cond, length, take, refl, sym, subst, ◌∙◌, ap, Ok, Err}
 use Rattle.std.specs.Prelude.{Result, ◌&&◌, codes}
 use Rattle.mx_word.specs.declared.symbols.Symbol.{Symbol}
 use Rattle.mx_host.specs.HostModel.{HostModel}
@@ -18,11 +18,19 @@ use Rattle.mx_plan.specs.Counts.{NoneFailed, unscheduled, without_count}
 use Rattle.mx_plan.proofs.Spared.{Spares, Spared, uncalled, after, then, open-spared, write-spared, close-spared}
 use Rattle.mx_plan.proofs.Spared.{uncounted-of, still-same}
 use Rattle.mx_run.specs.Counts.{end_host}
-use Rattle.mx_run.specs.Runs.{no_flags}
-use Rattle.mx_run.specs.WildRuns.{MachineKind, RunEnd, run_ended, run_wild, run_by}
+use Rattle.mx_back.specs.History.{kept_turn, states_kept}
+use Rattle.mx_back.specs.KeptRuns.{turn_kind, turns_after, turns_of}
+use Rattle.mx_core.specs.Step.{step}
+use Rattle.mx_core.specs.declared.trace.Trace.{Trace}
+use Rattle.mx_run.specs.Runs.{Ended, ended, no_flags, after_trace, after_turn}
+use Rattle.mx_run.specs.Turns.{Turn, went_on, halts, stops, turn, turn_answer}
+use Rattle.mx_run.specs.declared.end.End.TheVariants.{Halted, Stopped as Stop, Spent}
+use Rattle.mx_run.specs.declared.turn_answer.TurnAnswer.TheVariants as answer
+use Rattle.mx_run.proofs.FreeSteps.{no-break}
+use Rattle.mx_run.specs.WildRuns.{MachineKind, RunEnd, run_ended, run_wild, ends_wild, host_after, run_by}
 use Rattle.mx_con.specs.Session.{SessionRun, session_ended, session_wild, session}
 use Rattle.mx_con.proofs.SteadySessions.{session_host, session_still, SparedSessions, session-steady}
-use Rattle.mx_run.proofs.SteadyRuns.{end_still, SparedEnds, run-steady}
+use Rattle.mx_run.proofs.SteadyRuns.{end_still, SparedEnds, run-steady, turn_still, turn-steady}
 use Rattle.mx_words.specs.Orders.{order_of}
 use Rattle.mx_words.specs.declared.order.Command.{Command}
 use Rattle.mx_words.specs.declared.order.Command.TheVariants.{Run, Asm, Sim, Gen, Show, Multi}
@@ -41,7 +49,7 @@ use Rattle.mx_files.specs.Objects.{Assembled, source_object}
 use Rattle.mx_files.specs.Pieces.{put_text}
 use Rattle.mx_files.specs.Assembling.{closed_object, written_object, assembled_outcome, object_put, after_opening, after_reading}
 use Rattle.mx_top.specs.Product.{after_image, after_source, after_loading, after_object, generator_steps, summed, summed_from, generated_run, run_ordered, sim_ordered, loaded_turns, object_turns, after_schedule, multi_ordered, ordered, carried_out, message_told, with_message, product}
-use Rattle.mx_top.specs.Runs.{ran, ran_to, outcome_of, machine_ran, played, session_outcome, session_ran, dumped, stack_at_start, started, run_from, image_run}
+use Rattle.mx_top.specs.Runs.{ran, ran_to, outcome_of, takes_back, state_lines, reached, lines_told, taken_back, run_back, played, session_outcome, session_ran, dumped, stack_at_start, started, run_from, image_run}
 use Rattle.mx_top.specs.Processors.{processors_named, multi_lines, multi_outcome, turns_told, joint_run}
 use Rattle.mx_files.specs.Schedules.{schedule_from, schedule_bytes}
 use Rattle.mx_multi.specs.Joint.{Joint}
@@ -86,13 +94,74 @@ lines-case outcome b m = uncalled
 told-steady : (outcome : Outcome) (lines : List (List ℕ)) (m : HostModel) → SparedAnswers m (after_lines outcome (lines_put lines m)) (after_lines outcome (lines_put lines (still m)))
 told-steady outcome lines m = behind (after_lines outcome) (lines_put lines m) (lines_put lines (still m)) (lines-case outcome) (lines-steady lines m)
 
-dumped-case : (dump : Bool) (steps : ℕ) (r : RunEnd) → SparedAnswers (end_host r) (dumped dump (ran_to steps r)) (dumped dump (ran_to steps (end_still r)))
-dumped-case dump steps (run_wild m) = uncalled
-dumped-case dump steps (run_ended e) =
-    let outcome : Outcome = outcome_of steps e.end in
-    let lines : List (List ℕ) = dump_lines e.state in
-    one-of (dump && leaves_machine outcome) (after_lines outcome (lines_put lines e.host)) (answered outcome e.host) (after_lines outcome (lines_put lines (still e.host))) (answered outcome (still e.host))
-    (told-steady outcome lines e.host) uncalled
+dump-steady : (dump : Bool) (outcome : Outcome) (s : State) (m : HostModel) → SparedAnswers m (dumped dump (ran outcome s m)) (dumped dump (ran outcome s (still m)))
+dump-steady dump outcome s m =
+    let lines : List (List ℕ) = dump_lines s in
+    one-of (dump && leaves_machine outcome) (after_lines outcome (lines_put lines m)) (answered outcome m) (after_lines outcome (lines_put lines (still m))) (answered outcome (still m))
+    (told-steady outcome lines m) uncalled
+
+-- ---- the last steps of a run, taken back
+
+lines-told : (dump : Bool) (outcome : Outcome) (s : State) (written : Bool) (m : HostModel) → SparedAnswers m (dumped dump (lines_told outcome s (written, m))) (dumped dump (lines_told outcome s (written, still m)))
+lines-told dump outcome s true m = dump-steady dump outcome s m
+lines-told dump outcome s false m = dump-steady dump HostFault s m
+
+taken-steady : (dump : Bool) (states : List State) (outcome : Outcome) (s : State) (m : HostModel) → SparedAnswers m (dumped dump (taken_back states (ran outcome s m))) (dumped dump (taken_back states (ran outcome s (still m))))
+taken-steady dump states outcome s m = by (takes_back outcome)
+  where
+    by : (b : Bool) → SparedAnswers m (dumped dump (cond b (lines_told outcome (reached s states) (lines_put (state_lines states) m)) (ran outcome s m)))
+        (dumped dump (cond b (lines_told outcome (reached s states) (lines_put (state_lines states) (still m))) (ran outcome s (still m))))
+    by true =
+        behind (λ t. dumped dump (lines_told outcome (reached s states) t)) (lines_put (state_lines states) m) (lines_put (state_lines states) (still m)) (lines-told dump outcome (reached s states))
+        (lines-steady (state_lines states) m)
+    by false = dump-steady dump outcome s m
+
+-- a run by its end, and by the states that it keeps
+abbrev back-answer : Bool → ℕ → ℕ → List State → RunEnd → Answer
+back-answer dump last steps kept r = dumped dump (taken_back (take last kept) (ran_to steps r))
+
+-- what is kept by a turn from a state, and by those behind it
+abbrev kept-by : ℕ → State → List State → Turn → List State
+kept-by n s kept t = states_kept (turns_after (turns_of n) t) (kept_turn (turn_kind (step s) (turn_answer t).0) s kept)
+
+module _ (kind : MachineKind) (dump : Bool) (last steps : ℕ) where
+  back-case : (kept : List State) (e : Ended) → SparedAnswers e.host (back-answer dump last steps kept (run_ended e)) (back-answer dump last steps kept (run_ended (ended e.end e.state (still e.host))))
+  back-case kept e = taken-steady dump (take last kept) (outcome_of steps e.end) e.state e.host
+
+  -- the same by a turn, from a state, where turns follow it
+  abbrev turn-answer : ℕ → State → List State → Turn → Answer
+  turn-answer n s kept t = back-answer dump last steps (kept-by n s kept t) (after_turn run_ended (run_by kind n no_flags false) no_flags s.pc t)
+
+  went-answer : (n : ℕ) (s u : State) (kept : List State) (m : HostModel) (trace : Trace) →
+      turn-answer n s kept (went_on u m trace) ≡ back-answer dump last steps (states_kept (turns_of n u m) (kept_turn (turn_kind (step s) (answer.Went trace)) s kept)) (run_by kind n no_flags false u m)
+  went-answer n s u kept m trace =
+      ap (λ b. back-answer dump last steps (states_kept (turns_of n u m) (kept_turn (turn_kind (step s) (answer.Went trace)) s kept)) (after_trace run_ended (run_by kind n no_flags false) false trace b u m)) (no-break trace)
+
+  turn-case : (n : ℕ) (s : State) (kept : List State) → ((ks : List State) (u : State) (m : HostModel) →
+      SparedAnswers m (back-answer dump last steps (states_kept (turns_of n u m) ks) (run_by kind n no_flags false u m)) (back-answer dump last steps (states_kept (turns_of n u (still m)) ks) (run_by kind n no_flags false u (still m)))) →
+      (t : Turn) → SparedAnswers (host_after t) (turn-answer n s kept t) (turn-answer n s kept (turn_still t))
+  unfolding states_kept
+  turn-case n s kept more (halts status u m) = back-case (kept_turn (turn_kind (step s) (answer.Halted status)) s kept) (ended (Halted status) u m)
+  turn-case n s kept more (stops reason u m) = back-case (kept_turn (turn_kind (step s) (answer.Stopped reason)) s kept) (ended (Stop s.pc reason) u m)
+  turn-case n s kept more (went_on u m trace) =
+      subst (λ (a : Answer). SparedAnswers m (turn-answer n s kept (went_on u m trace)) a) (sym (went-answer n s u kept (still m) trace))
+      (subst (λ (a : Answer). SparedAnswers m a (back-answer dump last steps (states_kept (turns_of n u (still m)) (kept_turn (turn_kind (step s) (answer.Went trace)) s kept)) (run_by kind n no_flags false u (still m)))) (sym (went-answer n s u kept m trace))
+      (more (kept_turn (turn_kind (step s) (answer.Went trace)) s kept) u m))
+
+  abbrev AreSpared : ℕ → List State → State → HostModel → Type 0
+  AreSpared n kept s m =
+      SparedAnswers m (back-answer dump last steps (states_kept (turns_of n s m) kept) (run_by kind n no_flags false s m)) (back-answer dump last steps (states_kept (turns_of n s (still m)) kept) (run_by kind n no_flags false s (still m)))
+
+  back-step : (n : ℕ) (kept : List State) (s : State) (m : HostModel) → ((ks : List State) (u : State) (k : HostModel) → AreSpared n ks u k) → (b : Bool) →
+      SparedAnswers m (back-answer dump last steps (kept-by n s kept (turn s m)) (cond b (run_wild m) (after_turn run_ended (run_by kind n no_flags false) no_flags s.pc (turn s m))))
+      (back-answer dump last steps (kept-by n s kept (turn s (still m))) (cond b (run_wild (still m)) (after_turn run_ended (run_by kind n no_flags false) no_flags s.pc (turn s (still m)))))
+  back-step n kept s m more true = uncalled
+  back-step n kept s m more false = after (turn-answer n s kept) (turn-steady s m) (turn-case n s kept more (turn s m))
+
+  back-steady : (n : ℕ) (kept : List State) (s : State) (m : HostModel) → AreSpared n kept s m
+  unfolding run_by turns_of states_kept
+  back-steady zero kept s m = back-case kept (ended Spent s m)
+  back-steady (suc n) kept s m = back-step n kept s m (back-steady n) (ends_wild kind s)
 
 played-case : (dump : Bool) (steps : ℕ) (r : SessionRun) → SparedAnswers (session_host r) (dumped dump (played steps r)) (dumped dump (played steps (session_still r)))
 played-case dump steps (session_wild m) = uncalled
@@ -102,16 +171,15 @@ played-case dump steps (session_ended e) =
     one-of (dump && leaves_machine outcome) (after_lines outcome (lines_put lines e.host)) (answered outcome e.host) (after_lines outcome (lines_put lines (still e.host))) (answered outcome (still e.host))
     (told-steady outcome lines e.host) uncalled
 
-machine-steady : (kind : MachineKind) (dump : Bool) (steps : ℕ) (s : State) (m : HostModel) → (b : Bool) →
-    SparedAnswers m (dumped dump (cond b (session_ran kind steps s m) (machine_ran kind steps s m))) (dumped dump (cond b (session_ran kind steps s (still m)) (machine_ran kind steps s (still m))))
-machine-steady kind dump steps s m true =
+machine-steady : (kind : MachineKind) (dump : Bool) (last steps : ℕ) (s : State) (m : HostModel) → (b : Bool) →
+    SparedAnswers m (dumped dump (cond b (session_ran kind steps s m) (run_back kind last steps s m))) (dumped dump (cond b (session_ran kind steps s (still m)) (run_back kind last steps s (still m))))
+machine-steady kind dump last steps s m true =
     behind-session (λ r. dumped dump (played steps r)) (session kind steps s no_flags m) (session kind steps s no_flags (still m)) (played-case dump steps) (session-steady kind steps s no_flags m)
-machine-steady kind dump steps s m false =
-    behind-run (λ r. dumped dump (ran_to steps r)) (run_by kind steps no_flags false s m) (run_by kind steps no_flags false s (still m)) (dumped-case dump steps) (run-steady kind steps no_flags false s m)
+machine-steady kind dump last steps s m false = back-steady kind dump last steps steps [] s m
 
 from-steady : (kind : MachineKind) (o : Order) (r : Result State Outcome) (m : HostModel) → SparedAnswers m (run_from kind o r m) (run_from kind o r (still m))
 from-steady kind o (Err outcome) m = uncalled
-from-steady kind o (Ok s) m = machine-steady kind o.dump o.steps s m o.interactive
+from-steady kind o (Ok s) m = machine-steady kind o.dump o.last o.steps s m o.interactive
 
 pub image-steady : (kind : MachineKind) (o : Order) (words : List Word) (image : Image) (m : HostModel) → SparedAnswers m (image_run kind o words image m) (image_run kind o words image (still m))
 image-steady kind o words image m = from-steady kind o (started kind o.ring image words) m

@@ -44,7 +44,7 @@ use Rattle.mx_files.specs.Objects.{Assembled, source_object}
 use Rattle.mx_files.specs.Pieces.{put_text}
 use Rattle.mx_files.specs.Assembling.{object_slot, closed_object, written_object, assembled_outcome, object_put, after_opening, after_reading}
 use Rattle.mx_top.specs.Product.{after_image, after_source, after_loading, after_object, loaded_turns, object_turns, after_schedule, generator_steps, summed, summed_from, generated_run, ordered, carried_out, message_told, with_message, product}
-use Rattle.mx_top.specs.Runs.{Ran, ran, ran_wild, machine_ran, session_outcome, played, order_ran, dumped, main_address, begun_at, stack_at_start, started, run_from, image_run}
+use Rattle.mx_top.specs.Runs.{Ran, ran, ran_wild, machine_ran, session_outcome, played, takes_back, states_back, state_lines, reached, lines_told, taken_back, order_ran, dumped, main_address, begun_at, stack_at_start, started, run_from, image_run}
 use Rattle.mx_files.specs.Source.{input_slot, piece_read, one_piece, next_piece, pieces, closed_with, closed_after, read_after, file_bytes}
 use Rattle.mx_files.specs.Sources.{source_meaning}
 use Rattle.mx_top.specs.Processors.{processors_named, multi_lines, multi_outcome, turns_told, image_turns}
@@ -158,9 +158,19 @@ either-ran : (b : Bool) (x y : Ran) → is_told x ≡ true → is_told y ≡ tru
 either-ran true x y h k = h
 either-ran false x y h k = k
 
+lines-said : (outcome : Outcome) (s : State) (m : HostModel) (t : Then Bool) → is_told (ran outcome s m) ≡ true → is_told (lines_told outcome s t) ≡ true
+lines-said outcome s m (true, n) h = h
+lines-said outcome s m (false, n) h = refl
+
+taken-told : (states : List State) (r : Ran) → is_told r ≡ true → is_told (taken_back states r) ≡ true
+taken-told states (ran_wild m) h = h
+taken-told states (ran outcome s m) h =
+    either-ran (takes_back outcome) _ _ (lines-said outcome (reached s states) m (lines_put (state_lines states) m) h) h
+
 order-told : (kind : MachineKind) (o : Order) (s : State) (m : HostModel) → is_told (order_ran kind o s m) ≡ true
 order-told kind o s m =
-    either-ran o.interactive _ _ (played-told o.steps (session kind o.steps s no_flags m) (sessions-told kind o.steps s no_flags m)) (machines-told kind o.steps s m)
+    either-ran o.interactive _ _ (played-told o.steps (session kind o.steps s no_flags m) (sessions-told kind o.steps s no_flags m))
+    (taken-told (states_back o.last o.steps s m) (machine_ran kind o.steps s m) (machines-told kind o.steps s m))
 
 begun-told : (pc : ℕ) (s : Option State) → ReadTold (begun_at pc s)
 begun-told pc None = refl

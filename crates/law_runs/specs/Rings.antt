@@ -25,6 +25,7 @@ pub record DifferInRing (words others : List Word) (o p : Order) : Type 0 where
   pub interactive : o.interactive ≡ p.interactive
   pub dump : o.dump ≡ p.dump
   pub blocks : o.number ≡ p.number
+  pub last : o.last ≡ p.last
 
 -- the words of `gen`, without `--ring` and with it
 abbrev pub gen_words : Word → List Word

@@ -3,11 +3,13 @@
 use std::process::ExitCode;
 
 /// What `--help` prints.
-pub const HELP: &str = "\
+pub static HELP: &str = "\
 An assembler for MMIXAL and a simulator for MMIX.
 
-usage: mmixware run [--ring R] [--steps N] [-i] [--dump] [--report] SRC [ARG ...]
-       mmixware sim [--ring R] [--steps N] [-i] [--dump] [--report] OBJ [ARG ...]
+usage: mmixware run [--ring R] [--steps N] [-i] [--dump] [--report] [--last J]
+                    SRC [ARG ...]
+       mmixware sim [--ring R] [--steps N] [-i] [--dump] [--report] [--last J]
+                    OBJ [ARG ...]
        mmixware asm SRC OBJ
        mmixware gen [--ring R] N
        mmixware type OBJ
@@ -30,6 +32,9 @@ usage: mmixware run [--ring R] [--steps N] [-i] [--dump] [--report] SRC [ARG ...
   --report     writes to standard error at the end how often each instruction
                ran, at how many addresses, and the first 100 writes to the data
                segment; not with -i
+  --last J     takes back up to J of the last steps (1 to 1024) where the program
+               was stopped or all steps were made, and writes a line for each
+               state that comes back; not with -i or --report
 
 Options stand before the file and may repeat; the last one counts.
 

@@ -1,3 +1,4 @@
 pub mod Histories
 pub mod Rows
 pub mod KeptSteps
+pub mod KeptLists

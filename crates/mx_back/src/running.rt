@@ -7,6 +7,7 @@ ghost use Rattle.mx_run.specs.Clauses.{EndsAs, EndsAsList};
 ghost use Rattle.mx_run.specs.Runs.{IsLater, no_flags, run};
 ghost use Rattle.mx_run.specs.WildRuns.{HasWindow, list_machine, run_by};
 ghost use Rattle.mx_back.specs.History.{AreNotesOf};
+ghost use Rattle.mx_back.specs.KeptLists.{KeepsAsList};
 ghost use Rattle.mx_back.specs.KeptRuns as spec;
 ghost use Rattle.mx_back.specs.KeptRuns.{CarriesOutKept, KeepsRun, KeepsTurn, StepsKept};
 
@@ -42,6 +43,8 @@ pub fn run_kept<H: Host>(
     ensures keeps { Keeps (H.told host.old) (H.told host.new) (H.faults host.old) (H.faults host.new) }
     ensures fits { AreNotesOf back.new (state_of machine.new) }
     ensures kept { KeepsRun (H.told host.old) (state_of machine.old) (state_of machine.new) n result back.old back.new }
+    ensures kept_listed { KeepsAsList (H.told host.old) (state_of machine.old) (state_of machine.new) n result back.old
+        back.new }
 {
     keep_steps(alloc, machine, host, n, back)
 }
@@ -64,6 +67,8 @@ fn keep_steps<H: Host>(
     ensures keeps { Keeps (H.told host.old) (H.told host.new) (H.faults host.old) (H.faults host.new) }
     ensures fits { AreNotesOf back.new (state_of machine.new) }
     ensures kept { KeepsRun (H.told host.old) (state_of machine.old) (state_of machine.new) n result back.old back.new }
+    ensures kept_listed { KeepsAsList (H.told host.old) (state_of machine.old) (state_of machine.new) n result back.old
+        back.new }
 {
     for _made in 0..n {
         match keep_step(alloc, machine, host, back) {

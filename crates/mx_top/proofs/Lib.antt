@@ -18,6 +18,8 @@ pub mod TurnsTold
 pub mod WorkPlans
 pub mod PlainEnds
 pub mod MachinePlans
+pub mod LastStates
+pub mod TakenBack
 pub mod WorkParts
 pub mod ProductEnds
 pub mod ProgramHeld

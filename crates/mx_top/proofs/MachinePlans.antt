@@ -1,5 +1,5 @@
 -- Machines that run, and what follows them, as plans.
-use Rattle.std.proofs.Common.{◌≡◌, ◌≢◌, ◌⊎◌, inl, inr, ℕ, List, false, refl, sym, ◌∙◌, ap, subst}
+use Rattle.std.proofs.Common.{◌≡◌, ◌≢◌, ◌⊎◌, inl, inr, ℕ, List, [], false, refl, sym, ◌∙◌, ap, subst}
 use Rattle.mx_host.specs.HostModel.{HostModel}
 use Rattle.mx_plan.specs.Calls.{host, HostPlan}
 use Rattle.mx_plan.specs.Plan.{bind, end_of, Stops, Comes}
@@ -8,6 +8,8 @@ use Rattle.mx_run.specs.RunPlans.{RunWorld, running, run_plan}
 use Rattle.mx_run.specs.Runs.{FlagsOf, no_flags}
 use Rattle.mx_run.specs.declared.end.End.{End}
 use Rattle.mx_run.specs.declared.end.End.TheVariants as ending
+use Rattle.mx_back.specs.History.{states_kept}
+use Rattle.mx_back.specs.KeptRuns.{AfterSteps as AfterNotes, ComesKept, turns_of}
 use Rattle.mx_watch.specs.WatchedRuns.{AfterSteps, ComesWatched}
 use Rattle.mx_con.specs.SessionPlans.{SessionWorld, conversing, session_plan}
 use Rattle.mx_con.specs.declared.end.SessionEnd.{SessionEnd}
@@ -19,7 +21,7 @@ use Rattle.mx_multi.specs.declared.end.MultiEnd.{MultiEnd}
 use Rattle.mx_multi.specs.declared.end.MultiEnd.TheVariants as turning
 use Rattle.mx_files.specs.declared.outcome.Outcome.{Outcome}
 use Rattle.mx_files.specs.declared.outcome.Outcome.TheVariants.{OutOfMemory}
-use Rattle.mx_top.specs.ProgramCalls.{program, on_host, steps_plan, reported_plan, sitting_plan, turns_made, RunStops, BehindStep}
+use Rattle.mx_top.specs.ProgramCalls.{program, on_host, steps_plan, reported_plan, keeping_plan, sitting_plan, turns_made, RunStops, BehindStep}
 use Rattle.mx_top.specs.Runs.{outcome_of, session_outcome}
 use Rattle.mx_top.proofs.PlainEnds.{ended-well}
 use Rattle.mx_top.proofs.WorkPlans.{host-comes}
@@ -88,6 +90,34 @@ watched-follows n s t m k v end outcome r follow eo c lacked follows = by (wanti
         record {
           ending = λ no. next.ending no ∙ ap (λ (x : End × RunWorld). end_of program (on_host (follow (outcome_of n x.0) x.1.0)) x.1.1) is;
           stopping = λ o. inr (subst (λ (x : End × RunWorld). Stops program v (on_host (follow (outcome_of n x.0) x.1.0)) x.1.1) is (next.stopping o));
+        }
+
+-- one whose last states are kept
+pub kept-follows : (n : ℕ) (s t : State) (kept : List State) (m k v : HostModel) (end : End) (outcome r : Outcome) (follow : Outcome → State → List State → HostPlan Outcome) → outcome ≡ outcome_of n end → ComesKept n (s, m) (t, k) end →
+    (end ≢ ending.OutOfMemory → kept ≡ states_kept (turns_of n s m) []) → (outcome ≡ OutOfMemory → (r ≡ OutOfMemory) × (v ≡ k)) →
+    (outcome ≢ OutOfMemory → Comes host k v OutOfMemory r (follow outcome t kept)) → Comes program m v OutOfMemory r (bind (λ x. on_host (follow (outcome_of n x.0) x.1.0 x.1.1)) (keeping_plan n s))
+unfolding keeping_plan bind end_of Stops program
+kept-follows n s t kept m k v end outcome r follow eo c kept-so lacked follows = by (wanting end)
+  where
+    stopped : Stops running (t, k) (run_plan n no_flags false) (s, m) ⊎ AfterNotes n (s, m) (t, k) → RunStops n s m k ⊎ BehindStep n s m k
+    stopped (inl h) = inl (record { state = t; stops = h })
+    stopped (inr a) = inr (record { state = t; after = record { made = a.made; few = a.few; steps = a.steps } })
+
+    by : (end ≡ ending.OutOfMemory) ⊎ (end ≢ ending.OutOfMemory) → Comes program m v OutOfMemory r (bind (λ (x : End × (State × List State)). on_host (follow (outcome_of n x.0) x.1.0 x.1.1)) (keeping_plan n s))
+    by (inl e) =
+        let none = lacked (eo ∙ ap (outcome_of n) e) in
+        record {
+          ending = λ ne. absurd (ne none.0);
+          stopping = λ o. inl (subst (λ (h : HostModel). RunStops n s m h ⊎ BehindStep n s m h) (sym none.1) (stopped (c.stopping e)));
+        }
+    by (inr ne) =
+        let is = c.ending ne in
+        let well : outcome ≢ OutOfMemory = λ o. ended-well n (s, m) (t, k) end is ne (sym eo ∙ o) in
+        let here = subst (λ ks. Comes program k v OutOfMemory r (on_host (follow outcome t ks))) (kept-so ne) (host-comes (follow outcome t kept) k v OutOfMemory r (follows well)) in
+        let next = subst (λ (o : Outcome). Comes program k v OutOfMemory r (on_host (follow o t (states_kept (turns_of n s m) [])))) eo here in
+        record {
+          ending = λ no. next.ending no ∙ ap (λ (x : End × RunWorld). end_of program (on_host (follow (outcome_of n x.0) x.1.0 (states_kept (turns_of n s m) []))) x.1.1) is;
+          stopping = λ o. inr (subst (λ (x : End × RunWorld). Stops program v (on_host (follow (outcome_of n x.0) x.1.0 (states_kept (turns_of n s m) []))) x.1.1) is (next.stopping o));
         }
 
 -- ---- a session

@@ -1,6 +1,7 @@
 -- What the program does is the end of its plan.
-use Rattle.std.proofs.Common.{◌≡◌, ℕ, List, [], ◌∷◌, length, Bool, true, false, cond, Ok, Err, refl, sym, ◌∙◌, ap, codes, ◌&&◌}
-use Rattle.std.specs.Prelude.{Result}
+use Rattle.std.proofs.Common.{◌≡◌, ℕ, List, [], ◌∷◌, length, Bool, true, false, cond, Ok, Err, take, arith, refl, sym, ◌∙◌, ap, codes, ◌&&◌}
+use Rattle.std.specs.Prelude.{◌==◌, not, Result}
+use Rattle.std.proofs.lemmas.Bool.Decides.{nat_tests}
 use Rattle.mx_host.specs.HostModel.{HostModel}
 use Rattle.mx_host.specs.HostAnswer.{Then}
 use Rattle.mx_plan.specs.Calls.{host, HostPlan, need, write_plan}
@@ -15,6 +16,8 @@ use Rattle.mx_run.specs.WildRuns.{RunEnd, window_machine}
 use Rattle.mx_run.specs.declared.end.End.{End}
 use Rattle.mx_run.proofs.BothMachines.{window-ends}
 use Rattle.mx_run.proofs.PlanEnds.{run-end}
+use Rattle.mx_back.specs.History.{states_kept}
+use Rattle.mx_back.specs.KeptRuns.{turns_of}
 use Rattle.mx_con.specs.Session.{SessionRun}
 use Rattle.mx_con.proofs.SessionJoins.{session-end}
 use Rattle.mx_multi.specs.Joint.{Joint}
@@ -45,9 +48,10 @@ use Rattle.mx_top.specs.Dump.{dump_lines}
 use Rattle.mx_top.specs.Processors.{processors_named, turns_told, joint_run, image_turns}
 use Rattle.mx_top.specs.Product.{after_image, after_source, after_loading, after_object, generator_steps, summed, summed_from, generated_run, source_generated, loaded_turns, object_turns, after_schedule, ordered, carried_out, message_told}
 use Rattle.mx_top.specs.ProductPlan as plans
-use Rattle.mx_top.specs.ProgramCalls.{program, ProgramPlan, on_host, steps_plan, reported_plan, sitting_plan, turns_made}
+use Rattle.mx_top.specs.ProgramCalls.{program, ProgramPlan, on_host, steps_plan, reported_plan, keeping_plan, sitting_plan, turns_made}
 use Rattle.mx_top.specs.Reports.{report_put, reports_put}
-use Rattle.mx_top.specs.Runs.{ran, dumped, ran_to, machine_ran, session_ran, played, outcome_of, run_from, image_run, started, stack_at_start}
+use Rattle.mx_top.specs.Runs.{ran, dumped, ran_to, machine_ran, session_ran, played, outcome_of, takes_back, state_lines, reached, lines_told, taken_back, run_back, run_from, image_run, started, stack_at_start}
+use Rattle.mx_top.proofs.TakenBack.{faulted, no-last}
 use Rattle.mx_top.proofs.WorkPlans.{end_on_host}
 
 -- ---- parts
@@ -111,6 +115,30 @@ watched-end : (o : Order) (s : State) (m : HostModel) → plainly (end_of progra
 unfolding plans.watched_plan reported_plan bind end_of program
 watched-end o s m = run-answer o.steps s m (plans.dumped_plan o.dump) (λ x t k. dumped o.dump (ran x t k)) (dumped-end o.dump) ∙ ran-dumped o s m
 
+-- the lines of states that come back, and the dump behind them
+back-by : (dump : Bool) (outcome : Outcome) (s : State) (t : Then Bool) → plainly (end_after host (plans.then_dumped dump outcome s) (part_of t)) ≡ dumped dump (lines_told outcome s t)
+back-by dump outcome s (true, m) = dumped-end dump outcome s m
+back-by dump outcome s (false, m) = ap plainly (end_returns host HostFault m) ∙ faulted dump s m
+
+back-end : (dump : Bool) (states : List State) (outcome : Outcome) (s : State) (m : HostModel) → plainly (end_of host (plans.back_plan dump outcome states s) m) ≡ dumped dump (taken_back states (ran outcome s m))
+unfolding plans.back_plan
+back-end dump states outcome s m = by (takes_back outcome)
+  where
+    by : (b : Bool) → plainly (end_of host (cond b (bind (plans.then_dumped dump outcome (reached s states)) (lines_plan (state_lines states))) (plans.dumped_plan dump outcome s)) m)
+        ≡ dumped dump (cond b (lines_told outcome (reached s states) (lines_put (state_lines states) m)) (ran outcome s m))
+    by true =
+        ap plainly (end_bind host (plans.then_dumped dump outcome (reached s states)) (lines_plan (state_lines states)) m
+        ∙ ap (end_after host (plans.then_dumped dump outcome (reached s states))) (lines-end (state_lines states) m)) ∙ back-by dump outcome (reached s states) (lines_put (state_lines states) m)
+    by false = dumped-end dump outcome s m
+
+kept-end : (o : Order) (s : State) (m : HostModel) → plainly (end_of program (plans.kept_plan o s) m) ≡ dumped o.dump (run_back window_machine o.last o.steps s m)
+unfolding plans.kept_plan keeping_plan bind end_of program
+kept-end o s m =
+    let states = take o.last (states_kept (turns_of o.steps s m) []) in
+    ap plainly (taking-end (bind (plans.after_kept o) (keeping_plan o.steps s)) m)
+    ∙ run-answer o.steps s m (λ x t. plans.back_plan o.dump x states t) (λ x t k. dumped o.dump (taken_back states (ran x t k))) (back-end o.dump states)
+    ∙ ap (λ (r : RunEnd). dumped o.dump (taken_back states (ran_to o.steps r))) (sym (window-ends o.steps no_flags false s m))
+
 session-answer : (o : Order) (s : State) (m : HostModel) → plainly (end_of program (plans.session_played o s) m) ≡ dumped o.dump (session_ran window_machine o.steps s m)
 unfolding plans.session_played sitting_plan bind end_of program
 session-answer o s m =
@@ -118,12 +146,17 @@ session-answer o s m =
 
 machine-end : (o : Order) (s : State) (m : HostModel) → plainly (end_of program (plans.machine_plan o s) m) ≡ run_from window_machine o (Ok s) m
 unfolding plans.machine_plan
-machine-end o s m = by o.interactive o.report
+machine-end o s m = by o.interactive o.report (o.last == 0) refl
   where
-    by : (b c : Bool) → plainly (end_of program (cond b (plans.session_played o s) (cond c (plans.watched_plan o s) (plans.stepped_plan o s))) m) ≡ dumped o.dump (cond b (session_ran window_machine o.steps s m) (machine_ran window_machine o.steps s m))
-    by true c = session-answer o s m
-    by false true = watched-end o s m
-    by false false = stepped-end o s m
+    forward : (o.last == 0) ≡ true → dumped o.dump (machine_ran window_machine o.steps s m) ≡ dumped o.dump (run_back window_machine o.last o.steps s m)
+    forward e = ap (dumped o.dump) (sym (no-last window_machine o.last o.steps s m (grind (arith, nat_tests))))
+
+    by : (b c d : Bool) → (o.last == 0) ≡ d → plainly (end_of program (cond b (plans.session_played o s) (cond (not d) (plans.kept_plan o s) (cond c (plans.watched_plan o s) (plans.stepped_plan o s)))) m)
+        ≡ dumped o.dump (cond b (session_ran window_machine o.steps s m) (run_back window_machine o.last o.steps s m))
+    by true c d e = session-answer o s m
+    by false c false e = kept-end o s m
+    by false true true e = watched-end o s m ∙ forward e
+    by false false true e = stepped-end o s m ∙ forward e
 
 start-end : (o : Order) (r : Result State Outcome) (m : HostModel) → plainly (end_of program (plans.from_start o r) m) ≡ run_from window_machine o r m
 start-end o (Err outcome) m = ap plainly (end_returns program outcome m)

@@ -19,7 +19,7 @@ use Rattle.mx_con.proofs.HeldSessions.{session-held}
 use Rattle.mx_multi.specs.JointTurns.{JointWorld}
 use Rattle.mx_multi.specs.MultiPlans.{multi, turns_plan}
 use Rattle.mx_multi.proofs.HeldTurns.{multi-held}
-use Rattle.mx_top.specs.ProgramCalls.{ProgramCall, of_host, stepping, reporting, sitting, turning, program, ProgramPlan}
+use Rattle.mx_top.specs.ProgramCalls.{ProgramCall, of_host, stepping, reporting, keeping, sitting, turning, program, ProgramPlan}
 
 abbrev OverRuns : RunWorld → RunWorld → Type 0
 OverRuns v w = KeepsStreams v.1 w.1
@@ -65,6 +65,7 @@ program-held = record {
     acts (of_host o) m = streams-held.acting o m
     acts (stepping n s) m = held-end running OverRuns runs-held (run_plan n no_flags false) (s, m)
     acts (reporting n s) m = held-end running OverRuns runs-held (run_plan n no_flags false) (s, m)
+    acts (keeping n s) m = held-end running OverRuns runs-held (run_plan n no_flags false) (s, m)
     acts (sitting n s) m = held-end conversing OverSessions sessions-held (session_plan n) ((s, m), no_flags)
     acts (turning n schedule j) m = held-end multi OverTurns turns-held (turns_plan schedule n schedule) (j, m)
 
@@ -73,6 +74,8 @@ program-held = record {
     lacks (stepping n s) m v l = held-stop running OverRuns runs-held (run_plan n no_flags false) (l.state, v) (s, m) l.stops
     lacks (reporting n s) m v (inl l) = held-stop running OverRuns runs-held (run_plan n no_flags false) (l.state, v) (s, m) l.stops
     lacks (reporting n s) m v (inr l) = steps-kept n s l.state m v l.after
+    lacks (keeping n s) m v (inl l) = held-stop running OverRuns runs-held (run_plan n no_flags false) (l.state, v) (s, m) l.stops
+    lacks (keeping n s) m v (inr l) = steps-kept n s l.state m v l.after
     lacks (sitting n s) m v l = subst (KeepsStreams m) l.host (held-stop conversing OverSessions sessions-held (session_plan n) l.left ((s, m), no_flags) l.stops)
     lacks (turning n schedule j) m v l = held-stop multi OverTurns turns-held (turns_plan schedule n schedule) (l.processors, v) (j, m) l.stops
 
@@ -81,6 +84,8 @@ program-held = record {
     between (stepping n s) m v l = held-on running OverRuns runs-held (run_plan n no_flags false) (l.state, v) (s, m) l.stops
     between (reporting n s) m v (inl l) = held-on running OverRuns runs-held (run_plan n no_flags false) (l.state, v) (s, m) l.stops
     between (reporting n s) m v (inr l) = steps-on n s l.state m v l.after
+    between (keeping n s) m v (inl l) = held-on running OverRuns runs-held (run_plan n no_flags false) (l.state, v) (s, m) l.stops
+    between (keeping n s) m v (inr l) = steps-on n s l.state m v l.after
     between (sitting n s) m v l =
         subst (λ (h : HostModel). KeepsStreams h (end_of conversing (session_plan n) ((s, m), no_flags)).1.0.1) l.host (held-on conversing OverSessions sessions-held (session_plan n) l.left ((s, m), no_flags) l.stops)
     between (turning n schedule j) m v l = held-on multi OverTurns turns-held (turns_plan schedule n schedule) (l.processors, v) (j, m) l.stops

@@ -1,6 +1,6 @@
 -- The parts of which the work of the program is made.
 use Rattle.std.proofs.Common.{◌≡◌, ◌≢◌, ◌⊎◌, inl, inr, ℕ, List, length, Bool, true, false, cond, Ok, Err, refl, sym, ◌∙◌, ap, subst, codes, []}
-use Rattle.std.specs.Prelude.{Option, Result, ◌∷◌}
+use Rattle.std.specs.Prelude.{◌==◌, not, Option, Result, ◌∷◌}
 use Rattle.mx_host.specs.HostModel.{HostModel, tells}
 use Rattle.mx_plan.specs.Clauses.{CarriesOut}
 use Rattle.mx_plan.specs.Plan.{returns}
@@ -9,6 +9,7 @@ use Rattle.mx_load.specs.Objects.{object_loaded}
 use Rattle.mx_core.specs.State.{State}
 use Rattle.mx_multi.specs.Joint.{Joint, started as joint_started}
 use Rattle.mx_run.specs.WildRuns.{window_machine, list_machine}
+use Rattle.mx_word.proofs.Comparisons.{other-test}
 use Rattle.mx_word.specs.declared.symbols.Symbol.{Symbol}
 use Rattle.mx_words.specs.declared.order.Command.{Command}
 use Rattle.mx_words.specs.declared.order.Command.TheVariants.{Run, Asm, Sim, Gen, Show, Multi}
@@ -196,19 +197,32 @@ listed-start o schedule image count m j result n c e goes =
 
 -- ---- what is ordered
 
+-- without the console, and where no step is taken back
+abbrev plain-plan : Order → State → ProgramPlan Outcome
+plain-plan o s = cond o.report (plans.watched_plan o s) (plans.stepped_plan o s)
+
+abbrev run-plan : Order → State → ProgramPlan Outcome
+run-plan o s = cond (not (o.last == 0)) (plans.kept_plan o s) (plain-plan o s)
+
 pub session-chosen : (a b : Option HostModel) (r : Outcome) (o : Order) (s : State) → o.interactive ≡ true → CarriesOutWork a b r (plans.session_played o s) → CarriesOutWork a b r (plans.machine_plan o s)
 unfolding plans.machine_plan
-session-chosen a b r o s e h = subst (λ (x : Bool). CarriesOutWork a b r (cond x (plans.session_played o s) (cond o.report (plans.watched_plan o s) (plans.stepped_plan o s)))) (sym e) h
+session-chosen a b r o s e h = subst (λ (x : Bool). CarriesOutWork a b r (cond x (plans.session_played o s) (run-plan o s))) (sym e) h
 
-uninteractive : (a b : Option HostModel) (r : Outcome) (o : Order) (s : State) → o.interactive ≡ false → CarriesOutWork a b r (cond o.report (plans.watched_plan o s) (plans.stepped_plan o s)) → CarriesOutWork a b r (plans.machine_plan o s)
+uninteractive : (a b : Option HostModel) (r : Outcome) (o : Order) (s : State) → o.interactive ≡ false → CarriesOutWork a b r (run-plan o s) → CarriesOutWork a b r (plans.machine_plan o s)
 unfolding plans.machine_plan
-uninteractive a b r o s e h = subst (λ (x : Bool). CarriesOutWork a b r (cond x (plans.session_played o s) (cond o.report (plans.watched_plan o s) (plans.stepped_plan o s)))) (sym e) h
+uninteractive a b r o s e h = subst (λ (x : Bool). CarriesOutWork a b r (cond x (plans.session_played o s) (run-plan o s))) (sym e) h
 
-pub watchers-chosen : (a b : Option HostModel) (r : Outcome) (o : Order) (s : State) → o.interactive ≡ false → o.report ≡ true → CarriesOutWork a b r (plans.watched_plan o s) → CarriesOutWork a b r (plans.machine_plan o s)
-watchers-chosen a b r o s i e h = uninteractive a b r o s i (subst (λ (x : Bool). CarriesOutWork a b r (cond x (plans.watched_plan o s) (plans.stepped_plan o s))) (sym e) h)
+pub back-chosen : (a b : Option HostModel) (r : Outcome) (o : Order) (s : State) → o.interactive ≡ false → o.last ≢ 0 → CarriesOutWork a b r (plans.kept_plan o s) → CarriesOutWork a b r (plans.machine_plan o s)
+back-chosen a b r o s i some h = uninteractive a b r o s i (subst (λ (x : Bool). CarriesOutWork a b r (cond (not x) (plans.kept_plan o s) (plain-plan o s))) (sym (other-test o.last 0 some)) h)
 
-pub steps-chosen : (a b : Option HostModel) (r : Outcome) (o : Order) (s : State) → o.interactive ≡ false → o.report ≡ false → CarriesOutWork a b r (plans.stepped_plan o s) → CarriesOutWork a b r (plans.machine_plan o s)
-steps-chosen a b r o s i e h = uninteractive a b r o s i (subst (λ (x : Bool). CarriesOutWork a b r (cond x (plans.watched_plan o s) (plans.stepped_plan o s))) (sym e) h)
+forward : (a b : Option HostModel) (r : Outcome) (o : Order) (s : State) → o.interactive ≡ false → o.last ≡ 0 → CarriesOutWork a b r (plain-plan o s) → CarriesOutWork a b r (plans.machine_plan o s)
+forward a b r o s i none h = uninteractive a b r o s i (subst (λ (n : ℕ). CarriesOutWork a b r (cond (not (n == 0)) (plans.kept_plan o s) (plain-plan o s))) (sym none) h)
+
+pub watchers-chosen : (a b : Option HostModel) (r : Outcome) (o : Order) (s : State) → o.interactive ≡ false → o.last ≡ 0 → o.report ≡ true → CarriesOutWork a b r (plans.watched_plan o s) → CarriesOutWork a b r (plans.machine_plan o s)
+watchers-chosen a b r o s i none e h = forward a b r o s i none (subst (λ (x : Bool). CarriesOutWork a b r (cond x (plans.watched_plan o s) (plans.stepped_plan o s))) (sym e) h)
+
+pub steps-chosen : (a b : Option HostModel) (r : Outcome) (o : Order) (s : State) → o.interactive ≡ false → o.last ≡ 0 → o.report ≡ false → CarriesOutWork a b r (plans.stepped_plan o s) → CarriesOutWork a b r (plans.machine_plan o s)
+steps-chosen a b r o s i none e h = forward a b r o s i none (subst (λ (x : Bool). CarriesOutWork a b r (cond x (plans.watched_plan o s) (plans.stepped_plan o s))) (sym e) h)
 
 pub generated-named : (a b : Option HostModel) (r : Outcome) (o : Order) (source text : List ℕ) → text ≡ source → CarriesOutWork a b r (plans.generated_plan o text) → CarriesOutWork a b r (plans.taking (plans.generated_plan o source))
 generated-named a b r o source text e h = work-taking a b r (plans.generated_plan o source) (subst (λ (x : List ℕ). CarriesOutWork a b r (plans.generated_plan o x)) e h)

@@ -1,5 +1,5 @@
 -- What the program does, as a plan: the calls that it makes of the host, with its runs among them, up to its outcome.
-use Rattle.std.specs.Prelude.{ℕ, ◌&&◌, Bool, true, false, if◌then◌else◌, List, [], ◌∷◌, length, Result, Ok, Err, codes}
+use Rattle.std.specs.Prelude.{ℕ, ◌==◌, ◌&&◌, not, Bool, true, false, if◌then◌else◌, List, [], ◌∷◌, length, take, Result, Ok, Err, codes}
 use Rattle.mx_host.specs.declared.faults.HostFault.{HostFault}
 use Rattle.mx_plan.specs.Plan.{returns, bind}
 use Rattle.mx_plan.specs.Calls.{HostPlan, need, write_plan}
@@ -34,8 +34,8 @@ use Rattle.mx_top.specs.Arguments.{Word, word_at, arguments}
 use Rattle.mx_top.specs.Dump.{Line, dump_lines}
 use Rattle.mx_top.specs.Processors.{multi_lines, multi_outcome, processors_named}
 use Rattle.mx_top.specs.Product.{generator_steps}
-use Rattle.mx_top.specs.ProgramCalls.{ProgramPlan, on_host, steps_plan, reported_plan, sitting_plan, turns_made}
-use Rattle.mx_top.specs.Runs.{outcome_of, session_outcome, started, stack_at_start}
+use Rattle.mx_top.specs.ProgramCalls.{ProgramPlan, on_host, steps_plan, reported_plan, keeping_plan, sitting_plan, turns_made}
+use Rattle.mx_top.specs.Runs.{outcome_of, session_outcome, takes_back, state_lines, reached, started, stack_at_start}
 
 -- ---- PARTS
 
@@ -71,6 +71,22 @@ stepped_plan o s = bind (after_steps o) (steps_plan o.steps s)
 unfoldable pub watched_plan : Order → State → ProgramPlan Outcome
 watched_plan o s = bind (after_steps o) (reported_plan o.steps s)
 
+-- the last steps are taken back: the states that come back have their lines, and the dump is that of the last of them
+abbrev pub then_dumped : Bool → Outcome → State → Result (Unit {0}) Outcome → HostPlan Outcome
+then_dumped dump outcome s (Ok u) = dumped_plan dump outcome s
+then_dumped dump outcome s (Err other) = returns other
+
+unfoldable pub back_plan : Bool → Outcome → List State → State → HostPlan Outcome
+back_plan dump outcome states s =
+    if takes_back outcome then bind (then_dumped dump outcome (reached s states)) (lines_plan (state_lines states)) else dumped_plan dump outcome s
+
+abbrev pub after_kept : Order → End × (State × List State) → ProgramPlan Outcome
+after_kept o r = on_host (back_plan o.dump (outcome_of o.steps r.0) (take o.last r.1.1) r.1.0)
+
+-- the room for what is kept takes memory
+unfoldable pub kept_plan : Order → State → ProgramPlan Outcome
+kept_plan o s = taking (bind (after_kept o) (keeping_plan o.steps s))
+
 -- the user leads the machine through a session
 abbrev pub after_session : Order → SessionEnd × State → ProgramPlan Outcome
 after_session o r = on_host (dumped_plan o.dump (session_outcome o.steps r.0) r.1)
@@ -79,7 +95,11 @@ unfoldable pub session_played : Order → State → ProgramPlan Outcome
 session_played o s = bind (after_session o) (sitting_plan o.steps s)
 
 unfoldable pub machine_plan : Order → State → ProgramPlan Outcome
-machine_plan o s = if o.interactive then session_played o s else if o.report then watched_plan o s else stepped_plan o s
+machine_plan o s =
+    if o.interactive then session_played o s
+    else if not (o.last == 0) then kept_plan o s
+    else if o.report then watched_plan o s
+    else stepped_plan o s
 
 -- a machine that was started runs, or was none
 abbrev pub from_start : Order → Result State Outcome → ProgramPlan Outcome

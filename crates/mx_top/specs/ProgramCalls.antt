@@ -1,14 +1,16 @@
 -- The calls of the program, over the host alone: a machine is made and dropped within. A run, a session, and turns by a
--- schedule are each one call: it answers how they ended with the machines as they then stand, and leaves the host at their
--- end; it lacks memory where they may stop.
-use Rattle.std.specs.Prelude.{ℕ, ◌≡◌, ◌⊎◌, false, List}
+-- schedule are each one call: it answers how they ended with the machines as they then stand, and with the states that are
+-- kept, where some are; it leaves the host at their end, and lacks memory where they may stop.
+use Rattle.std.specs.Prelude.{ℕ, ◌≡◌, ◌⊎◌, false, List, []}
 use Rattle.mx_host.specs.HostModel.{HostModel}
 use Rattle.mx_plan.specs.Plan.{Plan, returns, calls, Acts, Stops, end_of}
 use Rattle.mx_plan.specs.Calls.{HostCall, HostSays, HostPlan, host}
 use Rattle.mx_core.specs.State.{State}
-use Rattle.mx_run.specs.RunPlans.{running, run_plan}
+use Rattle.mx_run.specs.RunPlans.{RunWorld, running, run_plan}
 use Rattle.mx_run.specs.Runs.{no_flags}
 use Rattle.mx_run.specs.declared.end.End.{End}
+use Rattle.mx_back.specs.History.{states_kept}
+use Rattle.mx_back.specs.KeptRuns.{turns_of}
 use Rattle.mx_watch.specs.WatchedRuns.{AfterSteps}
 use Rattle.mx_con.specs.SessionPlans.{SessionWorld, conversing, session_plan}
 use Rattle.mx_con.specs.declared.end.SessionEnd.{SessionEnd}
@@ -16,12 +18,13 @@ use Rattle.mx_multi.specs.Joint.{Joint}
 use Rattle.mx_multi.specs.MultiPlans.{multi, turns_plan}
 use Rattle.mx_multi.specs.declared.end.MultiEnd.{MultiEnd}
 
--- A call of the host; at most so many steps of a machine, without flags, in one run, or in one that watchers are told of, or in
--- a session of the console; or at most so many of several processors by a schedule.
+-- A call of the host; at most so many steps of a machine, without flags, in one run, in one that watchers are told of, in one
+-- whose last states are kept, or in a session of the console; or at most so many of several processors by a schedule.
 pub data ProgramCall : Type 0 where
   of_host : HostCall → ProgramCall
   stepping : ℕ → State → ProgramCall
   reporting : ℕ → State → ProgramCall
+  keeping : ℕ → State → ProgramCall
   sitting : ℕ → State → ProgramCall
   turning : ℕ → List ℕ → Joint → ProgramCall
 
@@ -29,12 +32,16 @@ abbrev pub ProgramSays : ProgramCall → Type 0
 ProgramSays (of_host o) = HostSays o
 ProgramSays (stepping n s) = End × State
 ProgramSays (reporting n s) = End × State
+ProgramSays (keeping n s) = End × (State × List State)
 ProgramSays (sitting n s) = SessionEnd × State
 ProgramSays (turning n schedule j) = MultiEnd × Joint
 
 -- an end, with what stands then, beside the host
 abbrev pub beside_end : {A S : Type 0} → A × (S × HostModel) → (A × S) × HostModel
 beside_end t = ((t.0, t.1.0), t.1.1)
+
+abbrev pub beside_kept : List State → End × RunWorld → (End × (State × List State)) × HostModel
+beside_kept kept t = ((t.0, (t.1.0, kept)), t.1.1)
 
 abbrev pub beside_session : SessionEnd × SessionWorld → (SessionEnd × State) × HostModel
 beside_session t = ((t.0, t.1.0.0), t.1.0.1)
@@ -43,6 +50,7 @@ abbrev pub program_act : (o : ProgramCall) → HostModel → ProgramSays o × Ho
 program_act (of_host o) m = host.act o m
 program_act (stepping n s) m = beside_end (end_of running (run_plan n no_flags false) (s, m))
 program_act (reporting n s) m = beside_end (end_of running (run_plan n no_flags false) (s, m))
+program_act (keeping n s) m = beside_kept (states_kept (turns_of n s m) []) (end_of running (run_plan n no_flags false) (s, m))
 program_act (sitting n s) m = beside_session (end_of conversing (session_plan n) ((s, m), no_flags))
 program_act (turning n schedule j) m = beside_end (end_of multi (turns_plan schedule n schedule) (j, m))
 
@@ -51,7 +59,8 @@ pub record RunStops (n : ℕ) (s : State) (m v : HostModel) : Type 0 where
   pub state : State
   pub stops : Stops running (state, v) (run_plan n no_flags false) (s, m)
 
--- one that watchers are told of may also stop behind a step, where a watcher or a report lacks memory
+-- one that watchers are told of, or whose states are kept, may also stop behind a step, where a watcher, a report or what is
+-- kept lacks memory
 pub record BehindStep (n : ℕ) (s : State) (m v : HostModel) : Type 0 where
   pub state : State
   pub after : AfterSteps n (s, m) (state, v)
@@ -69,6 +78,7 @@ abbrev pub ProgramLacks : ProgramCall → HostModel → HostModel → Type 0
 ProgramLacks (of_host o) m v = host.Lacks o m v
 ProgramLacks (stepping n s) m v = RunStops n s m v
 ProgramLacks (reporting n s) m v = RunStops n s m v ⊎ BehindStep n s m v
+ProgramLacks (keeping n s) m v = RunStops n s m v ⊎ BehindStep n s m v
 ProgramLacks (sitting n s) m v = SessionStops n s m v
 ProgramLacks (turning n schedule j) m v = TurnsStop n schedule j m v
 
@@ -88,6 +98,9 @@ steps_plan n s = calls (stepping n s) (λ r. returns r)
 
 unfoldable pub reported_plan : ℕ → State → ProgramPlan (End × State)
 reported_plan n s = calls (reporting n s) (λ r. returns r)
+
+unfoldable pub keeping_plan : ℕ → State → ProgramPlan (End × (State × List State))
+keeping_plan n s = calls (keeping n s) (λ r. returns r)
 
 unfoldable pub sitting_plan : ℕ → State → ProgramPlan (SessionEnd × State)
 sitting_plan n s = calls (sitting n s) (λ r. returns r)

@@ -1,5 +1,5 @@
 -- The reports of watchers: the traces that those are told in a call of the program, and what is written of it.
-use Rattle.std.specs.Prelude.{ℕ, ◌≡◌, ◌≢◌, IsTrue, if◌then◌else◌, List, [], ◌∷◌, Option, Result, Ok, Err}
+use Rattle.std.specs.Prelude.{ℕ, ◌≡◌, ◌≢◌, ◌==◌, not, IsTrue, if◌then◌else◌, List, [], ◌∷◌, Option, Result, Ok, Err}
 use Rattle.std.specs.List.{range_with_len}
 use Rattle.mx_host.specs.HostModel.{HostModel, tells, contents}
 use Rattle.mx_host.specs.HostAnswer.{Then, write_answer}
@@ -29,10 +29,11 @@ use Rattle.mx_top.specs.Arguments.{Word, word_at, arguments}
 use Rattle.mx_top.specs.Product.{product}
 use Rattle.mx_top.specs.Runs.{started}
 
--- ---- the traces that watchers are told: those of the steps of the run, where the order asks for reports. A session has none.
+-- ---- the traces that watchers are told: those of the steps of the run, where the order asks for reports. A session has none, nor
+-- has a run whose steps are taken back.
 
 abbrev pub order_traces : MachineKind → Order → State → HostModel → List Trace
-order_traces kind o s m = if o.interactive then [] else if o.report then traces kind o.steps s m else []
+order_traces kind o s m = if o.interactive then [] else if not (o.last == 0) then [] else if o.report then traces kind o.steps s m else []
 
 abbrev pub traces_from : MachineKind → Order → Result State Outcome → HostModel → List Trace
 traces_from kind o (Err outcome) m = []

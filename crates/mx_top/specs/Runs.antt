@@ -1,7 +1,8 @@
--- How an image is run: the machine starts, makes its steps, all in one run or at the console, and is told at the end where
--- a dump is asked for.
-use Rattle.std.specs.Prelude.{ℕ, ◌*◌, ◌/◌, ◌&&◌, Bool, false, if◌then◌else◌, List, Option, None, Some, Result, Ok, Err}
+-- How an image is run: the machine starts, makes its steps, all in one run or at the console, takes its last ones back where
+-- that is asked for, and is told at the end where a dump is.
+use Rattle.std.specs.Prelude.{ℕ, ◌*◌, ◌/◌, ◌&&◌, Bool, true, false, if◌then◌else◌, List, [], ◌∷◌, map, take, Option, None, Some, Result, Ok, Err}
 use Rattle.mx_host.specs.HostModel.{HostModel}
+use Rattle.mx_host.specs.HostAnswer.{Then}
 use Rattle.mx_mmo.specs.Image.{Image}
 use Rattle.mx_ring.specs.RegisterList.{list_at_start}
 use Rattle.mx_ring.specs.Stack.{Stack, listed, windowed}
@@ -12,12 +13,15 @@ use Rattle.mx_run.specs.Runs.{no_flags}
 use Rattle.mx_run.specs.WildRuns.{MachineKind, window_machine, list_machine, RunEnd, run_ended, run_wild, run_by}
 use Rattle.mx_run.specs.declared.end.End.{End}
 use Rattle.mx_run.specs.declared.end.End.TheVariants as ending
+use Rattle.mx_back.specs.History.{states_kept}
+use Rattle.mx_back.specs.KeptRuns.{turns_of}
+use Rattle.mx_con.specs.ConsoleTexts.{ended, state_text}
 use Rattle.mx_con.specs.Session.{SessionRun, session_ended, session_wild, session}
 use Rattle.mx_con.specs.declared.end.SessionEnd.{SessionEnd}
 use Rattle.mx_con.specs.declared.end.SessionEnd.TheVariants as sitting
 use Rattle.mx_words.specs.declared.order.Order.{Order}
 use Rattle.mx_files.specs.Answers.{Answer, answered, wild, leaves_machine, after_lines}
-use Rattle.mx_top.specs.Dump.{dump_lines}
+use Rattle.mx_top.specs.Dump.{Line, dump_lines}
 use Rattle.mx_files.specs.Lines.{lines_put}
 use Rattle.mx_files.specs.declared.outcome.Outcome.{Outcome}
 use Rattle.mx_files.specs.declared.outcome.Outcome.TheVariants.{Done, HostFault, Stopped, StepsSpent, Quit, ConsoleLimit, OutOfMemory}
@@ -65,9 +69,41 @@ played steps (session_wild m) = ran_wild m
 abbrev pub session_ran : MachineKind → ℕ → State → HostModel → Ran
 session_ran kind steps s m = played steps (session kind steps s no_flags m)
 
--- what an order makes of a machine: a session of the console, or a run
+-- steps are taken back where the machine stopped, or all its steps were made
+abbrev pub takes_back : Outcome → Bool
+takes_back (Stopped pc reason) = true
+takes_back (StepsSpent steps) = true
+takes_back outcome = false
+
+-- the states before the last steps of a run, the newest first: at most so many of those that the run keeps
+abbrev pub states_back : ℕ → ℕ → State → HostModel → List State
+states_back last steps s m = take last (states_kept (turns_of steps s m) [])
+
+-- each has the line that the console shows of a state
+unfoldable pub state_lines : List State → List Line
+state_lines states = map (λ s. ended (state_text s)) states
+
+-- where the machine comes to: to the last of them, if there is one
+unfoldable pub reached : State → List State → State
+reached s [] = s
+reached s (t ∷ states) = reached t states
+
+-- their lines are written; one that is not written is the outcome
+abbrev pub lines_told : Outcome → State → Then Bool → Ran
+lines_told outcome s (written, m) = ran (if written then outcome else HostFault) s m
+
+abbrev pub taken_back : List State → Ran → Ran
+taken_back states (ran_wild m) = ran_wild m
+taken_back states (ran outcome s m) =
+    if takes_back outcome then lines_told outcome (reached s states) (lines_put (state_lines states) m) else ran outcome s m
+
+-- a run, behind which at most so many steps are taken back
+abbrev pub run_back : MachineKind → ℕ → ℕ → State → HostModel → Ran
+run_back kind last steps s m = taken_back (states_back last steps s m) (machine_ran kind steps s m)
+
+-- what an order makes of a machine: a session of the console, or a run, whose last steps are taken back
 abbrev pub order_ran : MachineKind → Order → State → HostModel → Ran
-order_ran kind o s m = if o.interactive then session_ran kind o.steps s m else machine_ran kind o.steps s m
+order_ran kind o s m = if o.interactive then session_ran kind o.steps s m else run_back kind o.last o.steps s m
 
 -- the dump is written line by line
 abbrev pub dumped : Bool → Ran → Answer

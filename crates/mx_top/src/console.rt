@@ -3,7 +3,7 @@
 ghost use Rattle.std.specs.Prelude.{◌≡◌, ◌≢◌, false};
 ghost use Rattle.mx_core.specs.Bounds.{as_list_state};
 ghost use Rattle.mx_core.specs.Kept.{state_of};
-ghost use Rattle.mx_host.specs.Keeping.{ComesByFault, Keeps};
+ghost use Rattle.mx_host.specs.Keeping.{ComesByFault, OnlyByFailure, Keeps};
 ghost use Rattle.mx_run.specs.WildRuns.{window_machine, list_machine};
 ghost use Rattle.mx_files.specs.Answers.{AnswersAs, AnswersAsList, is_usage};
 ghost use Rattle.mx_top.specs.Runs as spec;
@@ -46,7 +46,7 @@ pub fn run_session<H: Host>(alloc: Global, host: &mut H, order: &Order, machine:
     ensures listed { AnswersAsList (H.told host.old) (H.told host.new) result
         (λ m. spec.dumped order.now.dump
         (spec.session_ran list_machine order.now.steps (as_list_state (state_of machine)) m)) }
-    ensures rose { ComesByFault (H.told host.old) Outcome.HostFault result (H.faults host.old) (H.faults host.new) }
+    ensures rose { OnlyByFailure (H.told host.old) Outcome.HostFault result (H.faults host.old) (H.faults host.new) }
     ensures no_file { ComesByFault (H.told host.old) Outcome.NoFile result (H.faults host.old) (H.faults host.new) }
     ensures words { is_usage result ≡ false }
     ensures keeps { Keeps (H.told host.old) (H.told host.new) (H.faults host.old) (H.faults host.new) }

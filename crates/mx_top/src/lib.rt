@@ -7,6 +7,7 @@ mod dump;
 mod ending;
 mod generation;
 mod generator;
+mod last;
 mod laws;
 mod objects;
 mod processors;

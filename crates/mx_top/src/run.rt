@@ -4,7 +4,7 @@ ghost use Rattle.std.specs.Prelude.{◌≡◌, ◌≢◌, ◌≤◌, ◌+◌, �
 ghost use Rattle.mx_core.specs.Bounds.{as_list_state};
 ghost use Rattle.mx_core.specs.Kept.{state_of};
 ghost use Rattle.mx_core.specs.Start.{pool, pool_octas};
-ghost use Rattle.mx_host.specs.Keeping.{ComesByFault, Keeps};
+ghost use Rattle.mx_host.specs.Keeping.{ComesByFault, OnlyByFailure, Keeps};
 ghost use Rattle.mx_load.specs.Kept.{image_of};
 ghost use Rattle.mx_ring.specs.Stack.{stack_address};
 ghost use Rattle.mx_run.specs.WildRuns.{window_machine, list_machine};
@@ -22,6 +22,7 @@ ghost use Rattle.mx_top.specs.WorkClauses.{CarriesOutWork};
 
 use crate::console::run_session;
 use crate::ending::tell_end;
+use crate::last::run_back;
 use mx_core::{Machine, StartFault};
 use mx_files::{Outcome, SOURCE_PIECES, SourceFault, load_source, read_file};
 use mx_host::Host;
@@ -84,13 +85,13 @@ fn run_steps<H: Host>(alloc: Global, host: &mut H, order: &Order, machine: Machi
     ensures listed { AnswersAsList (H.told host.old) (H.told host.new) result
         (λ m. spec.dumped order.now.dump
         (spec.machine_ran list_machine order.now.steps (as_list_state (state_of machine)) m)) }
-    ensures rose { ComesByFault (H.told host.old) Outcome.HostFault result (H.faults host.old) (H.faults host.new) }
+    ensures rose { OnlyByFailure (H.told host.old) Outcome.HostFault result (H.faults host.old) (H.faults host.new) }
     ensures no_file { ComesByFault (H.told host.old) Outcome.NoFile result (H.faults host.old) (H.faults host.new) }
     ensures words { is_usage result ≡ false }
     ensures keeps { Keeps (H.told host.old) (H.told host.new) (H.faults host.old) (H.faults host.new) }
 {
     let mut runner = Runner::new(alloc, machine);
-    let end = runner.go(alloc, host, order.steps, false);
+    let end = runner.go(host, order.steps, false);
     tell_end(
         alloc,
         host,
@@ -123,7 +124,7 @@ fn run_told<H: Host>(
         (λ m. spec.dumped order.now.dump
         (spec.machine_ran list_machine order.now.steps (as_list_state (state_of machine)) m))
         (λ m. traces list_machine order.now.steps (as_list_state (state_of machine)) m) }
-    ensures rose { ComesByFault (H.told host.old) Outcome.HostFault result (H.faults host.old) (H.faults host.new) }
+    ensures rose { OnlyByFailure (H.told host.old) Outcome.HostFault result (H.faults host.old) (H.faults host.new) }
     ensures no_file { ComesByFault (H.told host.old) Outcome.NoFile result (H.faults host.old) (H.faults host.new) }
     ensures words { is_usage result ≡ false }
     ensures keeps { Keeps (H.told host.old) (H.told host.new) (H.faults host.old) (H.faults host.new) }
@@ -139,7 +140,8 @@ fn run_told<H: Host>(
     )
 }
 
-/// Runs a machine that was started. Watchers are told of a run whose reports are asked for.
+/// Runs a machine that was started. The last steps of a run are taken back where that is asked for, and else watchers are
+/// told of a run whose reports are.
 #[tactic(auto, using(crate::proofs::Heard::silence))]
 fn run_machine<H: Host>(
     alloc: Global,
@@ -161,13 +163,15 @@ fn run_machine<H: Host>(
         (map meaning watchers.new.items) kept.old kept.new
         (λ m. spec.run_from list_machine order.now (Ok (as_list_state (state_of machine))) m)
         (λ m. reports.order_traces list_machine order.now (as_list_state (state_of machine)) m) }
-    ensures rose { ComesByFault (H.told host.old) Outcome.HostFault result (H.faults host.old) (H.faults host.new) }
+    ensures rose { OnlyByFailure (H.told host.old) Outcome.HostFault result (H.faults host.old) (H.faults host.new) }
     ensures no_file { ComesByFault (H.told host.old) Outcome.NoFile result (H.faults host.old) (H.faults host.new) }
     ensures words { is_usage result ≡ false }
     ensures keeps { Keeps (H.told host.old) (H.told host.new) (H.faults host.old) (H.faults host.new) }
 {
     if order.interactive {
         run_session(alloc, host, order, machine)
+    } else if order.last != 0 {
+        run_back(alloc, host, order, machine)
     } else if order.report {
         run_told(alloc, host, order, machine, watchers, kept)
     } else {
@@ -199,7 +203,7 @@ pub fn run_image<H: Host>(
         (map meaning watchers.new.items) kept.old kept.new
         (λ m. spec.image_run list_machine order.now arguments.now (image_of image) m)
         (λ m. reports.image_traces list_machine order.now arguments.now (image_of image) m) }
-    ensures rose { ComesByFault (H.told host.old) Outcome.HostFault result (H.faults host.old) (H.faults host.new) }
+    ensures rose { OnlyByFailure (H.told host.old) Outcome.HostFault result (H.faults host.old) (H.faults host.new) }
     ensures no_file { ComesByFault (H.told host.old) Outcome.NoFile result (H.faults host.old) (H.faults host.new) }
     ensures words { is_usage result ≡ false }
     ensures keeps { Keeps (H.told host.old) (H.told host.new) (H.faults host.old) (H.faults host.new) }
@@ -234,7 +238,7 @@ fn run_source<H: Host>(
         (map meaning watchers.new.items) kept.old kept.new
         (λ m. product.after_image list_machine order.now arguments.now (source_meaning text.now) m)
         (λ m. reports.meaning_traces list_machine order.now arguments.now (source_meaning text.now) m) }
-    ensures rose { ComesByFault (H.told host.old) Outcome.HostFault result (H.faults host.old) (H.faults host.new) }
+    ensures rose { OnlyByFailure (H.told host.old) Outcome.HostFault result (H.faults host.old) (H.faults host.new) }
     ensures no_file { ComesByFault (H.told host.old) Outcome.NoFile result (H.faults host.old) (H.faults host.new) }
     ensures words { is_usage result ≡ false }
     ensures keeps { Keeps (H.told host.old) (H.told host.new) (H.faults host.old) (H.faults host.new) }
@@ -270,7 +274,7 @@ pub fn run_file<H: Host>(
         (map meaning watchers.new.items) kept.old kept.new
         (λ m. product.after_source list_machine order.now arguments.now (file_bytes 1025 name.now m))
         (λ m. reports.source_traces list_machine order.now arguments.now (file_bytes 1025 name.now m)) }
-    ensures rose { ComesByFault (H.told host.old) Outcome.HostFault result (H.faults host.old) (H.faults host.new) }
+    ensures rose { OnlyByFailure (H.told host.old) Outcome.HostFault result (H.faults host.old) (H.faults host.new) }
     ensures no_file { ComesByFault (H.told host.old) Outcome.NoFile result (H.faults host.old) (H.faults host.new) }
     ensures words { is_usage result ≡ false }
     ensures keeps { Keeps (H.told host.old) (H.told host.new) (H.faults host.old) (H.faults host.new) }

@@ -1,7 +1,7 @@
 //! An object that several processors run by a schedule.
 
 ghost use Rattle.std.specs.Prelude.{◌≡◌, ◌≢◌, ◌≤◌, ◌<◌, false};
-ghost use Rattle.mx_host.specs.Keeping.{ComesByFault, Keeps};
+ghost use Rattle.mx_host.specs.Keeping.{ComesByFault, OnlyByFailure, Keeps};
 ghost use Rattle.mx_load.specs.Kept.{image_of};
 ghost use Rattle.mx_load.specs.Objects.{object_loaded};
 ghost use Rattle.mx_multi.specs.Joint.{NoneTouched, as_list_joint, joint_of, processor_count};
@@ -84,7 +84,7 @@ fn tell_turns<H: Host>(
         (spec.multi_lines order.now.dump end (joint_of multi.now))) }
     ensures list { AnswersAs (H.told host.old) (H.told host.new) result
         (λ m. spec.turns_told order.now.dump order.now.steps (turns_ended end (as_list_joint (joint_of multi.now)) m)) }
-    ensures rose { ComesByFault (H.told host.old) Outcome.HostFault result (H.faults host.old) (H.faults host.new) }
+    ensures rose { OnlyByFailure (H.told host.old) Outcome.HostFault result (H.faults host.old) (H.faults host.new) }
     ensures no_file { ComesByFault (H.told host.old) Outcome.NoFile result (H.faults host.old) (H.faults host.new) }
     ensures words { is_usage result ≡ false }
     ensures keeps { Keeps (H.told host.old) (H.told host.new) (H.faults host.old) (H.faults host.new) }
@@ -114,7 +114,7 @@ fn run_started<H: Host>(
         (plans.joint_plan order.now schedule.now (joint_of multi)) }
     ensures listed { AnswersAsList (H.told host.old) (H.told host.new) result
         (λ m. spec.joint_run list_machine order.now schedule.now (as_list_joint (joint_of multi)) m) }
-    ensures rose { ComesByFault (H.told host.old) Outcome.HostFault result (H.faults host.old) (H.faults host.new) }
+    ensures rose { OnlyByFailure (H.told host.old) Outcome.HostFault result (H.faults host.old) (H.faults host.new) }
     ensures no_file { ComesByFault (H.told host.old) Outcome.NoFile result (H.faults host.old) (H.faults host.new) }
     ensures words { is_usage result ≡ false }
     ensures keeps { Keeps (H.told host.old) (H.told host.new) (H.faults host.old) (H.faults host.new) }
@@ -137,7 +137,7 @@ fn run_image<H: Host>(
         (plans.image_turns_plan order.now schedule.now (image_of image)) }
     ensures listed { AnswersAsList (H.told host.old) (H.told host.new) result
         (λ m. spec.image_turns list_machine order.now schedule.now (image_of image) m) }
-    ensures rose { ComesByFault (H.told host.old) Outcome.HostFault result (H.faults host.old) (H.faults host.new) }
+    ensures rose { OnlyByFailure (H.told host.old) Outcome.HostFault result (H.faults host.old) (H.faults host.new) }
     ensures no_file { ComesByFault (H.told host.old) Outcome.NoFile result (H.faults host.old) (H.faults host.new) }
     ensures words { is_usage result ≡ false }
     ensures keeps { Keeps (H.told host.old) (H.told host.new) (H.faults host.old) (H.faults host.new) }
@@ -162,7 +162,7 @@ fn run_object<H: Host>(
         (plans.object_turns_plan order.now schedule.now bytes.now) }
     ensures listed { AnswersAsList (H.told host.old) (H.told host.new) result
         (λ m. product.loaded_turns list_machine order.now schedule.now (object_loaded bytes.now) m) }
-    ensures rose { ComesByFault (H.told host.old) Outcome.HostFault result (H.faults host.old) (H.faults host.new) }
+    ensures rose { OnlyByFailure (H.told host.old) Outcome.HostFault result (H.faults host.old) (H.faults host.new) }
     ensures no_file { ComesByFault (H.told host.old) Outcome.NoFile result (H.faults host.old) (H.faults host.new) }
     ensures words { is_usage result ≡ false }
     ensures keeps { Keeps (H.told host.old) (H.told host.new) (H.faults host.old) (H.faults host.new) }
@@ -187,7 +187,7 @@ fn object_file<H: Host>(
         (plans.turns_file_plan order.now name.now schedule.now) }
     ensures listed { AnswersAsList (H.told host.old) (H.told host.new) result
         (λ m. product.object_turns list_machine order.now schedule.now (file_bytes 16385 name.now m)) }
-    ensures rose { ComesByFault (H.told host.old) Outcome.HostFault result (H.faults host.old) (H.faults host.new) }
+    ensures rose { OnlyByFailure (H.told host.old) Outcome.HostFault result (H.faults host.old) (H.faults host.new) }
     ensures no_file { ComesByFault (H.told host.old) Outcome.NoFile result (H.faults host.old) (H.faults host.new) }
     ensures words { is_usage result ≡ false }
     ensures keeps { Keeps (H.told host.old) (H.told host.new) (H.faults host.old) (H.faults host.new) }
@@ -210,7 +210,7 @@ pub fn multi_file<H: Host>(
         (plans.multi_plan order.now schedule.now object.now) }
     ensures listed { AnswersAsList (H.told host.old) (H.told host.new) result
         (λ m. product.after_schedule list_machine order.now object.now (schedule_bytes schedule.now m)) }
-    ensures rose { ComesByFault (H.told host.old) Outcome.HostFault result (H.faults host.old) (H.faults host.new) }
+    ensures rose { OnlyByFailure (H.told host.old) Outcome.HostFault result (H.faults host.old) (H.faults host.new) }
     ensures no_file { ComesByFault (H.told host.old) Outcome.NoFile result (H.faults host.old) (H.faults host.new) }
     ensures words { is_usage result ≡ false }
     ensures keeps { Keeps (H.told host.old) (H.told host.new) (H.faults host.old) (H.faults host.new) }

@@ -2,7 +2,7 @@
 
 ghost use Rattle.std.specs.Prelude.{◌≡◌, ◌≢◌, ◌≤◌, ◌<◌, [], Err, false, length, map, string_bytes};
 ghost use Rattle.mx_host.specs.HostModel.{contents, slot_at, to_errors};
-ghost use Rattle.mx_host.specs.Keeping.{ComesByFault, Keeps, KeepsOutput};
+ghost use Rattle.mx_host.specs.Keeping.{ComesByFault, OnlyByFailure, Keeps, KeepsOutput};
 ghost use Rattle.mx_run.specs.WildRuns.{window_machine, list_machine};
 ghost use Rattle.mx_words.specs.Orders.{order_of};
 ghost use Rattle.mx_words.specs.declared.order.WordsFault.{WordsFault};
@@ -58,7 +58,7 @@ fn run_ordered<H: Host>(
         (map meaning watchers.new.items) kept.old kept.new
         (λ m. spec.run_ordered list_machine (map string_bytes words.now) order.now m)
         (λ m. reports.run_traces list_machine (map string_bytes words.now) order.now m) }
-    ensures rose { ComesByFault (H.told host.old) Outcome.HostFault result (H.faults host.old) (H.faults host.new) }
+    ensures rose { OnlyByFailure (H.told host.old) Outcome.HostFault result (H.faults host.old) (H.faults host.new) }
     ensures no_file { ComesByFault (H.told host.old) Outcome.NoFile result (H.faults host.old) (H.faults host.new) }
     ensures words { is_usage result ≡ false }
     ensures keeps { Keeps (H.told host.old) (H.told host.new) (H.faults host.old) (H.faults host.new) }
@@ -100,7 +100,7 @@ fn sim_ordered<H: Host>(
         (map meaning watchers.new.items) kept.old kept.new
         (λ m. spec.sim_ordered list_machine (map string_bytes words.now) order.now m)
         (λ m. reports.sim_traces list_machine (map string_bytes words.now) order.now m) }
-    ensures rose { ComesByFault (H.told host.old) Outcome.HostFault result (H.faults host.old) (H.faults host.new) }
+    ensures rose { OnlyByFailure (H.told host.old) Outcome.HostFault result (H.faults host.old) (H.faults host.new) }
     ensures no_file { ComesByFault (H.told host.old) Outcome.NoFile result (H.faults host.old) (H.faults host.new) }
     ensures words { is_usage result ≡ false }
     ensures keeps { Keeps (H.told host.old) (H.told host.new) (H.faults host.old) (H.faults host.new) }
@@ -145,7 +145,7 @@ fn carry_order<H: Host>(
         (map meaning watchers.new.items) kept.old kept.new
         (λ m. spec.ordered list_machine (map string_bytes words.now) order.now order.now.command m)
         (λ m. reports.ordered_traces list_machine (map string_bytes words.now) order.now order.now.command m) }
-    ensures rose { ComesByFault (H.told host.old) Outcome.HostFault result (H.faults host.old) (H.faults host.new) }
+    ensures rose { OnlyByFailure (H.told host.old) Outcome.HostFault result (H.faults host.old) (H.faults host.new) }
     ensures no_file { ComesByFault (H.told host.old) Outcome.NoFile result (H.faults host.old) (H.faults host.new) }
     ensures words { is_usage result ≡ false }
     ensures keeps { Keeps (H.told host.old) (H.told host.new) (H.faults host.old) (H.faults host.new) }
@@ -196,7 +196,7 @@ fn carry_out<H: Host>(
         (map meaning watchers.new.items) kept.old kept.new
         (λ m. spec.carried_out list_machine (map string_bytes words.now) (order_of (map string_bytes words.now)) m)
         (λ m. reports.carried_traces list_machine (map string_bytes words.now) (order_of (map string_bytes words.now)) m) }
-    ensures rose { ComesByFault (H.told host.old) Outcome.HostFault result (H.faults host.old) (H.faults host.new) }
+    ensures rose { OnlyByFailure (H.told host.old) Outcome.HostFault result (H.faults host.old) (H.faults host.new) }
     ensures no_file { ComesByFault (H.told host.old) Outcome.NoFile result (H.faults host.old) (H.faults host.new) }
     ensures keeps { Keeps (H.told host.old) (H.told host.new) (H.faults host.old) (H.faults host.new) }
 {
@@ -286,9 +286,10 @@ pub fn mmixware_watched<H: Host>(
     ensures only_usage { (fault : WordsFault) → result ≡ Outcome.Usage fault →
         order_of (map string_bytes words.now) ≡ Err fault }
 
-    // Over a host that tells nothing, a file is missing or fails only where a call failed.
-    ensures host_fault { ComesByFault (H.told host.old) Outcome.HostFault result (H.faults host.old) (H.faults
-        host.new) }
+    // Where slots 258 and 259 lead to the tool's streams, a host fails only where a call failed; over one that tells nothing a
+    // file is missing only so, too.
+    ensures host_fault { OnlyByFailure (H.told host.old) Outcome.HostFault result (H.faults host.old)
+        (H.faults host.new) }
     ensures no_file { ComesByFault (H.told host.old) Outcome.NoFile result (H.faults host.old) (H.faults host.new) }
     ensures keeps { Keeps (H.told host.old) (H.told host.new) (H.faults host.old) (H.faults host.new) }
 {
@@ -333,9 +334,10 @@ pub fn mmixware<H: Host>(alloc: Global, words: &[String], host: &mut H) -> Outco
     ensures only_usage { (fault : WordsFault) → result ≡ Outcome.Usage fault →
         order_of (map string_bytes words.now) ≡ Err fault }
 
-    // Over a host that tells nothing, a file is missing or fails only where a call failed.
-    ensures host_fault { ComesByFault (H.told host.old) Outcome.HostFault result (H.faults host.old) (H.faults
-        host.new) }
+    // Where slots 258 and 259 lead to the tool's streams, a host fails only where a call failed; over one that tells nothing a
+    // file is missing only so, too.
+    ensures host_fault { OnlyByFailure (H.told host.old) Outcome.HostFault result (H.faults host.old)
+        (H.faults host.new) }
     ensures no_file { ComesByFault (H.told host.old) Outcome.NoFile result (H.faults host.old) (H.faults host.new) }
     ensures keeps { Keeps (H.told host.old) (H.told host.new) (H.faults host.old) (H.faults host.new) }
 {

@@ -1,9 +1,9 @@
 -- Options from the left: what follows an option.
 use Rattle.std.proofs.Common.{◌≡◌, ℕ, ◌+◌, Bool, true, false, cond, List, [], ◌∷◌, drop, refl, sym, ◌∙◌, ap, Result, Ok, Err, arith}
 use Rattle.std.proofs.lemmas.List.{drop-drop}
-use Rattle.mx_words.specs.Values.{Word, is_option, ring_value, steps_value}
-use Rattle.mx_words.specs.Orders.{Ordered, fault, unless, is_console, is_report, is_dump, is_ring, is_steps, with_console, with_report, with_ring, with_steps, valued, options_from, file_at}
-use Rattle.mx_words.specs.OneOption.{Read, set, set_unless, option_read}
+use Rattle.mx_words.specs.Values.{Word, is_option, ring_value, steps_value, last_value}
+use Rattle.mx_words.specs.Orders.{Ordered, fault, unless, is_console, is_report, is_last, is_dump, is_ring, is_steps, with_console, with_report, with_last, with_ring, with_steps, console_clashes, report_clashes, last_clashes, valued, options_from, file_at}
+use Rattle.mx_words.specs.OneOption.{Read, set, set_unless, last_read, option_read}
 use Rattle.mx_words.specs.declared.order.Command.{Command}
 use Rattle.mx_words.specs.declared.settings.Settings.{Settings}
 
@@ -24,16 +24,17 @@ unless-followed : (c : Command) (all : List Word) (clashes : Bool) (place : ℕ)
 unless-followed c all true place s more is = refl
 unless-followed c all false place s more is = is
 
--- the choice among the options, with a word behind
-chosen : (c : Command) (all : List Word) (i w d r t : Bool) (played told dumped ringed stepped unknown : Read) (g h a b e f : Ordered) →
-    g ≡ followed c all played → h ≡ followed c all told → a ≡ followed c all dumped → b ≡ followed c all ringed → e ≡ followed c all stepped → f ≡ followed c all unknown →
-    cond i g (cond w h (cond d a (cond r b (cond t e f)))) ≡ followed c all (cond i played (cond w told (cond d dumped (cond r ringed (cond t stepped unknown)))))
-chosen c all true w d r t played told dumped ringed stepped unknown g h a b e f hg hh ha hb he hf = hg
-chosen c all false true d r t played told dumped ringed stepped unknown g h a b e f hg hh ha hb he hf = hh
-chosen c all false false true r t played told dumped ringed stepped unknown g h a b e f hg hh ha hb he hf = ha
-chosen c all false false false true t played told dumped ringed stepped unknown g h a b e f hg hh ha hb he hf = hb
-chosen c all false false false false true played told dumped ringed stepped unknown g h a b e f hg hh ha hb he hf = he
-chosen c all false false false false false played told dumped ringed stepped unknown g h a b e f hg hh ha hb he hf = hf
+-- one with a value that may clash
+valued-unless : (c : Command) (all : List Word) (clashes : Bool) (place : ℕ) (more : Ordered) (read : Read) → more ≡ followed c all read →
+    unless clashes place more ≡ followed c all (cond clashes (Err (fault 10 place)) read)
+valued-unless c all true place more read is = refl
+valued-unless c all false place more read is = is
+
+-- one option, and the others: each with what follows it
+either : (c : Command) (all : List Word) (b : Bool) (one others : Read) (g h : Ordered) → g ≡ followed c all one → h ≡ followed c all others →
+    cond b g h ≡ followed c all (cond b one others)
+either c all true one others g h hg hh = hg
+either c all false one others g h hg hh = hh
 
 -- the words behind a word
 pub behind-word : (all : List Word) (p : ℕ) (word : Word) (words : List Word) → drop p all ≡ word ∷ words → drop (p + 1) all ≡ words
@@ -46,17 +47,20 @@ pub option-followed : (c : Command) (all : List Word) (s : Settings) (p : ℕ) (
 unfolding options_from
 option-followed c all s p word [] rest dash =
     let none : drop (p + 1) all ≡ [] = behind-word all p word [] rest in
-    rw dash (chosen c all (is_console c word) (is_report c word) (is_dump c word) (is_ring c word) (is_steps c word) _ _ _ _ _ _ _ _ _ _ _ _
-    (unless-followed c all s.report p (with_console s) _ (rw none refl))
-    (unless-followed c all s.interactive p (with_report s) _ (rw none refl)) (rw none refl) refl refl refl)
+    rw dash (either c all (is_console c word) _ _ _ _ (unless-followed c all (console_clashes s) p (with_console s) _ (rw none refl))
+    (either c all (is_report c word) _ _ _ _ (unless-followed c all (report_clashes s) p (with_report s) _ (rw none refl))
+    (either c all (is_last c word) _ _ _ _ (valued-unless c all (last_clashes s) p _ (last_read s (p + 1) []) refl)
+    (either c all (is_dump c word) _ _ _ _ (rw none refl) (either c all (is_ring c word) _ _ _ _ refl (either c all (is_steps c word) _ _ _ _ refl refl))))))
 option-followed c all s p word (value ∷ words) rest dash =
     let more : drop (p + 1) all ≡ value ∷ words = behind-word all p word (value ∷ words) rest in
     let others : drop (p + 1 + 1) all ≡ words = behind-word all (p + 1) value words more in
-    rw dash (chosen c all (is_console c word) (is_report c word) (is_dump c word) (is_ring c word) (is_steps c word) _ _ _ _ _ _ _ _ _ _ _ _
-    (unless-followed c all s.report p (with_console s) _ (rw more refl))
-    (unless-followed c all s.interactive p (with_report s) _ (rw more refl)) (rw more refl)
-    (value-followed c all (ring_value value) (p + 1) (p + 2) (with_ring s) words (omega arith) others)
-    (value-followed c all (steps_value value) (p + 1) (p + 2) (with_steps s) words (omega arith) others) refl)
+    rw dash (either c all (is_console c word) _ _ _ _ (unless-followed c all (console_clashes s) p (with_console s) _ (rw more refl))
+    (either c all (is_report c word) _ _ _ _ (unless-followed c all (report_clashes s) p (with_report s) _ (rw more refl))
+    (either c all (is_last c word) _ _ _ _
+    (valued-unless c all (last_clashes s) p _ (last_read s (p + 1) (value ∷ words)) (value-followed c all (last_value value) (p + 1) (p + 2) (with_last s) words (omega arith) others))
+    (either c all (is_dump c word) _ _ _ _ (rw more refl)
+    (either c all (is_ring c word) _ _ _ _ (value-followed c all (ring_value value) (p + 1) (p + 2) (with_ring s) words (omega arith) others)
+    (either c all (is_steps c word) _ _ _ _ (value-followed c all (steps_value value) (p + 1) (p + 2) (with_steps s) words (omega arith) others) refl))))))
 
 -- a word that is no option
 pub not-option : (c : Command) (s : Settings) (p : ℕ) (word : Word) (words : List Word) → is_option word ≡ false →

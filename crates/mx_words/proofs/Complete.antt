@@ -1,8 +1,9 @@
 -- The words of the grammar are read as their order.
 use Rattle.std.proofs.Common.{◌≡◌, ℕ, ◌+◌, Bool, true, false, List, [], ◌∷◌, ◌++◌, length, refl, ◌∙◌, ap, arith, Ok, codes}
-use Rattle.mx_words.specs.Values.{Word, ring_value, steps_value}
-use Rattle.mx_words.specs.Orders.{Ordered, runs_file, takes_ring, takes_steps, defaults, with_console, with_report, with_dump, with_ring, with_steps, unless, valued, options_from, order_of, blocks_at}
-use Rattle.mx_words.specs.Usage.{Options, Orders, none, console, report, dump, ring, steps, run, sim, asm, gen, list, multi}
+use Rattle.mx_words.specs.Values.{Word, ring_value, steps_value, last_value}
+use Rattle.mx_words.specs.Orders.{Ordered, runs_file, takes_ring, takes_steps, defaults, with_console, with_report, with_last, with_dump, with_ring, with_steps, console_clashes, report_clashes, last_clashes, unless, valued, options_from, order_of, blocks_at}
+use Rattle.std.specs.Prelude.{◌==◌, ◌||◌, not}
+use Rattle.mx_words.specs.Usage.{Options, Orders, none, console, report, last, dump, ring, steps, run, sim, asm, gen, list, multi}
 use Rattle.mx_words.specs.declared.order.Command.{Command}
 use Rattle.mx_words.specs.declared.order.Command.TheVariants.{Run, Sim, Asm, Gen, Show, Multi}
 use Rattle.mx_words.specs.declared.order.Order.{Order}
@@ -13,8 +14,14 @@ no-clash : (clashes : Bool) (p : ℕ) (more : Ordered) → clashes ≡ false →
 no-clash true p more is = absurd (cc is)
 no-clash false p more is = refl
 
+no-option : (clashes : Bool) (n : ℕ) → clashes ≡ false → n ≡ 0 → (clashes || not (n == 0)) ≡ false
+no-option clashes n is unset = rw (is, unset) refl
+
+neither : (a b : Bool) → a ≡ false → b ≡ false → (a || b) ≡ false
+neither a b is unset = rw (is, unset) refl
+
 console-step : (c : Command) (s : Settings) (p : ℕ) (word : Word) (words : List Word) → runs_file c ≡ true →
-    options_from c s p (codes "-i" ∷ word ∷ words) ≡ unless s.report p (options_from c (with_console s) (p + 1) (word ∷ words))
+    options_from c s p (codes "-i" ∷ word ∷ words) ≡ unless (console_clashes s) p (options_from c (with_console s) (p + 1) (word ∷ words))
 unfolding options_from
 console-step Run s p word words is = refl
 console-step Sim s p word words is = refl
@@ -24,7 +31,7 @@ console-step Show s p word words is = cc is
 console-step Multi s p word words is = cc is
 
 report-step : (c : Command) (s : Settings) (p : ℕ) (word : Word) (words : List Word) → runs_file c ≡ true →
-    options_from c s p (codes "--report" ∷ word ∷ words) ≡ unless s.interactive p (options_from c (with_report s) (p + 1) (word ∷ words))
+    options_from c s p (codes "--report" ∷ word ∷ words) ≡ unless (report_clashes s) p (options_from c (with_report s) (p + 1) (word ∷ words))
 unfolding options_from
 report-step Run s p word words is = refl
 report-step Sim s p word words is = refl
@@ -32,6 +39,16 @@ report-step Asm s p word words is = cc is
 report-step Gen s p word words is = cc is
 report-step Show s p word words is = cc is
 report-step Multi s p word words is = cc is
+
+last-step : (c : Command) (s : Settings) (p : ℕ) (value : Word) (words : List Word) → runs_file c ≡ true →
+    options_from c s p (codes "--last" ∷ value ∷ words) ≡ unless (last_clashes s) p (valued (last_value value) (p + 1) (λ n. options_from c (with_last s n) (p + 2) words))
+unfolding options_from
+last-step Run s p value words is = refl
+last-step Sim s p value words is = refl
+last-step Asm s p value words is = cc is
+last-step Gen s p value words is = cc is
+last-step Show s p value words is = cc is
+last-step Multi s p value words is = cc is
 
 dump-step : (c : Command) (s : Settings) (p : ℕ) (word : Word) (words : List Word) → takes_steps c ≡ true →
     options_from c s p (codes "--dump" ∷ word ∷ words) ≡ options_from c (with_dump s) (p + 1) (word ∷ words)
@@ -64,15 +81,15 @@ steps-step Show s p value words is = cc is
 steps-step Multi s p value words is = refl
 
 -- options in front of a file
-played : (c : Command) (s : Settings) (p : ℕ) (words : List Word) (file : Word) (behind : List Word) → runs_file c ≡ true → s.report ≡ false →
+played : (c : Command) (s : Settings) (p : ℕ) (words : List Word) (file : Word) (behind : List Word) → runs_file c ≡ true → s.report ≡ false → s.last ≡ 0 →
     options_from c s p (codes "-i" ∷ (words ++ file ∷ behind)) ≡ options_from c (with_console s) (p + 1) (words ++ file ∷ behind)
-played c s p [] file behind is alone = console-step c s p file behind is ∙ no-clash s.report p _ alone
-played c s p (w ∷ words) file behind is alone = console-step c s p w (words ++ file ∷ behind) is ∙ no-clash s.report p _ alone
+played c s p [] file behind is alone unset = console-step c s p file behind is ∙ no-clash (console_clashes s) p _ (no-option s.report s.last alone unset)
+played c s p (w ∷ words) file behind is alone unset = console-step c s p w (words ++ file ∷ behind) is ∙ no-clash (console_clashes s) p _ (no-option s.report s.last alone unset)
 
-told : (c : Command) (s : Settings) (p : ℕ) (words : List Word) (file : Word) (behind : List Word) → runs_file c ≡ true → s.interactive ≡ false →
+told : (c : Command) (s : Settings) (p : ℕ) (words : List Word) (file : Word) (behind : List Word) → runs_file c ≡ true → s.interactive ≡ false → s.last ≡ 0 →
     options_from c s p (codes "--report" ∷ (words ++ file ∷ behind)) ≡ options_from c (with_report s) (p + 1) (words ++ file ∷ behind)
-told c s p [] file behind is alone = report-step c s p file behind is ∙ no-clash s.interactive p _ alone
-told c s p (w ∷ words) file behind is alone = report-step c s p w (words ++ file ∷ behind) is ∙ no-clash s.interactive p _ alone
+told c s p [] file behind is alone unset = report-step c s p file behind is ∙ no-clash (report_clashes s) p _ (no-option s.interactive s.last alone unset)
+told c s p (w ∷ words) file behind is alone unset = report-step c s p w (words ++ file ∷ behind) is ∙ no-clash (report_clashes s) p _ (no-option s.interactive s.last alone unset)
 
 dumped : (c : Command) (s : Settings) (p : ℕ) (words : List Word) (file : Word) (behind : List Word) → takes_steps c ≡ true →
     options_from c s p (codes "--dump" ∷ (words ++ file ∷ behind)) ≡ options_from c (with_dump s) (p + 1) (words ++ file ∷ behind)
@@ -85,13 +102,19 @@ moved c t p q words is = rw is refl
 pub options-read : (c : Command) (s t : Settings) (words : List Word) → Options c s words t → (p : ℕ) (file : Word) (behind : List Word) →
     options_from c s p (words ++ file ∷ behind) ≡ options_from c t (p + length words) (file ∷ behind)
 options-read _ _ _ _ (none c s) p file behind = moved c s p (p + 0) (file ∷ behind) (omega arith)
-options-read _ _ _ _ (console c s t words takes alone rest) p file behind =
-    played c s p words file behind takes alone
+options-read _ _ _ _ (console c s t words takes alone back rest) p file behind =
+    played c s p words file behind takes alone back
     ∙ options-read c (with_console s) t words rest (p + 1) file behind
     ∙ moved c t _ _ (file ∷ behind) (omega arith)
-options-read _ _ _ _ (report c s t words takes alone rest) p file behind =
-    told c s p words file behind takes alone
+options-read _ _ _ _ (report c s t words takes alone back rest) p file behind =
+    told c s p words file behind takes alone back
     ∙ options-read c (with_report s) t words rest (p + 1) file behind
+    ∙ moved c t _ _ (file ∷ behind) (omega arith)
+options-read _ _ _ _ (last c s t value n words takes alone told_none is rest) p file behind =
+    last-step c s p value (words ++ file ∷ behind) takes
+    ∙ no-clash (last_clashes s) p _ (neither s.interactive s.report alone told_none)
+    ∙ ap (λ v. valued v (p + 1) (λ m. options_from c (with_last s m) (p + 2) (words ++ file ∷ behind))) is
+    ∙ options-read c (with_last s n) t words rest (p + 2) file behind
     ∙ moved c t _ _ (file ∷ behind) (omega arith)
 options-read _ _ _ _ (dump c s t words takes rest) p file behind =
     dumped c s p words file behind takes

@@ -2,9 +2,11 @@
 use Rattle.std.proofs.Common.{◌≡◌, ℕ, ◌+◌, Bool, true, false, cond, List, [], ◌∷◌, ◌++◌, length, refl, sym, ◌∙◌, ap, arith, Result, Ok, Err, Some, None, codes, bytes_eq}
 use Rattle.std.proofs.lemmas.Slice.Eq.{bytes_eq-Decides}
 use Rattle.std.proofs.lemmas.Bool.{and_parts}
-use Rattle.mx_words.specs.Values.{Word, is_option, ring_value, steps_value, blocks_value}
-use Rattle.mx_words.specs.Orders.{Ordered, fault, runs_file, takes_ring, takes_steps, is_console, is_report, is_dump, is_ring, is_steps, defaults, with_console, with_report, with_dump, with_ring, with_steps, unless, valued, options_from, file_at, commanded, order_of, run_order, object_behind, processors_behind, none_behind, blocks_at}
-use Rattle.mx_words.specs.Usage.{Options, Orders, none, console, report, dump, ring, steps, run, sim, asm, gen, list, multi}
+use Rattle.std.proofs.lemmas.Bool.Decides.{nat_tests}
+use Rattle.std.specs.Prelude.{◌==◌, ◌||◌, not}
+use Rattle.mx_words.specs.Values.{Word, is_option, ring_value, steps_value, last_value, blocks_value}
+use Rattle.mx_words.specs.Orders.{Ordered, fault, runs_file, takes_ring, takes_steps, is_console, is_report, is_last, is_dump, is_ring, is_steps, defaults, with_console, with_report, with_last, with_dump, with_ring, with_steps, console_clashes, report_clashes, last_clashes, unless, valued, options_from, file_at, commanded, order_of, run_order, object_behind, processors_behind, none_behind, blocks_at}
+use Rattle.mx_words.specs.Usage.{Options, Orders, none, console, report, last, dump, ring, steps, run, sim, asm, gen, list, multi}
 use Rattle.mx_words.specs.declared.order.Command.{Command}
 use Rattle.mx_words.specs.declared.order.Command.TheVariants.{Run, Sim, Asm, Gen, Show, Multi}
 use Rattle.mx_words.specs.declared.order.Order.{Order}
@@ -44,7 +46,16 @@ not-clashing : (clashes : Bool) (p : ℕ) (more : Ordered) (o : Order) → unles
 not-clashing true p more o is = refused _ o is
 not-clashing false p more o is = (refl, is)
 
-with-played : (c : Command) (s : Settings) (p : ℕ) (word : Word) (words : List Word) (o : Order) → is_console c word ≡ true → s.report ≡ false →
+-- it is behind neither of two
+neither : (a b : Bool) → (a || b) ≡ false → (a ≡ false) × (b ≡ false)
+neither true b is = absurd (cc is)
+neither false b is = (refl, is)
+
+no-option : (clashes : Bool) (n : ℕ) → (clashes || not (n == 0)) ≡ false → (clashes ≡ false) × (n ≡ 0)
+no-option true n is = absurd (cc is)
+no-option false n is = (refl, grind (arith, nat_tests))
+
+with-played : (c : Command) (s : Settings) (p : ℕ) (word : Word) (words : List Word) (o : Order) → is_console c word ≡ true → (s.report ≡ false) × (s.last ≡ 0) →
     Parted c (with_console s) (p + 1) words o → Parted c s p (word ∷ words) o
 with-played c s p word words o is alone rest =
     let parts : (runs_file c ≡ true) × (bytes_eq word (codes "-i") ≡ true) = and_parts (runs_file c) (bytes_eq word (codes "-i")) is in
@@ -55,12 +66,12 @@ with-played c s p word words o is alone rest =
       file = rest.file;
       behind = rest.behind;
       whole = cc (named, rest.whole);
-      set = console c s rest.after rest.options parts.0 alone rest.set;
+      set = console c s rest.after rest.options parts.0 alone.0 alone.1 rest.set;
       no_dash = rest.no_dash;
       ordered = file_at-same c rest.after _ _ rest.file rest.behind (omega arith) ∙ rest.ordered;
     }
 
-with-reported : (c : Command) (s : Settings) (p : ℕ) (word : Word) (words : List Word) (o : Order) → is_report c word ≡ true → s.interactive ≡ false →
+with-reported : (c : Command) (s : Settings) (p : ℕ) (word : Word) (words : List Word) (o : Order) → is_report c word ≡ true → (s.interactive ≡ false) × (s.last ≡ 0) →
     Parted c (with_report s) (p + 1) words o → Parted c s p (word ∷ words) o
 with-reported c s p word words o is alone rest =
     let parts : (runs_file c ≡ true) × (bytes_eq word (codes "--report") ≡ true) = and_parts (runs_file c) (bytes_eq word (codes "--report")) is in
@@ -71,7 +82,23 @@ with-reported c s p word words o is alone rest =
       file = rest.file;
       behind = rest.behind;
       whole = cc (named, rest.whole);
-      set = report c s rest.after rest.options parts.0 alone rest.set;
+      set = report c s rest.after rest.options parts.0 alone.0 alone.1 rest.set;
+      no_dash = rest.no_dash;
+      ordered = file_at-same c rest.after _ _ rest.file rest.behind (omega arith) ∙ rest.ordered;
+    }
+
+with-backed : (c : Command) (s : Settings) (p : ℕ) (word value : Word) (n : ℕ) (words : List Word) (o : Order) → is_last c word ≡ true → (s.interactive ≡ false) × (s.report ≡ false) → last_value value ≡ Ok n →
+    Parted c (with_last s n) (p + 2) words o → Parted c s p (word ∷ value ∷ words) o
+with-backed c s p word value n words o is alone good rest =
+    let parts : (runs_file c ≡ true) × (bytes_eq word (codes "--last") ≡ true) = and_parts (runs_file c) (bytes_eq word (codes "--last")) is in
+    let named : word ≡ codes "--last" = (bytes_eq-Decides word (codes "--last")).0 parts.1 in
+    record {
+      options = codes "--last" ∷ value ∷ rest.options;
+      after = rest.after;
+      file = rest.file;
+      behind = rest.behind;
+      whole = cc (named, rest.whole);
+      set = last c s rest.after value n rest.options parts.0 alone.0 alone.1 good rest.set;
       no_dash = rest.no_dash;
       ordered = file_at-same c rest.after _ _ rest.file rest.behind (omega arith) ∙ rest.ordered;
     }
@@ -125,17 +152,19 @@ with-stepped c s p word value n words o is good rest =
     }
 
 -- one word, which has to be the file
-one-word : (c : Command) (s : Settings) (p : ℕ) (word : Word) (o : Order) (dash i w d r t : Bool) → is_option word ≡ dash →
-    cond dash (cond i (unless s.report p (Err (fault 7 (p + 1)))) (cond w (unless s.interactive p (Err (fault 7 (p + 1))))
-    (cond d (Err (fault 7 (p + 1))) (cond r (Err (fault 4 (p + 1))) (cond t (Err (fault 4 (p + 1))) (Err (fault 3 p))))))) (file_at c s p word []) ≡ Ok o →
+one-word : (c : Command) (s : Settings) (p : ℕ) (word : Word) (o : Order) (dash i w l d r t : Bool) → is_option word ≡ dash →
+    cond dash (cond i (unless (console_clashes s) p (Err (fault 7 (p + 1)))) (cond w (unless (report_clashes s) p (Err (fault 7 (p + 1))))
+    (cond l (unless (last_clashes s) p (Err (fault 4 (p + 1))))
+    (cond d (Err (fault 7 (p + 1))) (cond r (Err (fault 4 (p + 1))) (cond t (Err (fault 4 (p + 1))) (Err (fault 3 p)))))))) (file_at c s p word []) ≡ Ok o →
     Parted c s p (word ∷ []) o
-one-word c s p word o true true w d r t h is = refused _ o (not-clashing s.report p _ o is).1
-one-word c s p word o true false true d r t h is = refused _ o (not-clashing s.interactive p _ o is).1
-one-word c s p word o true false false true r t h is = refused _ o is
-one-word c s p word o true false false false true t h is = refused _ o is
-one-word c s p word o true false false false false true h is = refused _ o is
-one-word c s p word o true false false false false false h is = refused _ o is
-one-word c s p word o false i w d r t h is = no-options c s p word [] o h is
+one-word c s p word o true true w l d r t h is = refused _ o (not-clashing (console_clashes s) p _ o is).1
+one-word c s p word o true false true l d r t h is = refused _ o (not-clashing (report_clashes s) p _ o is).1
+one-word c s p word o true false false true d r t h is = refused _ o (not-clashing (last_clashes s) p _ o is).1
+one-word c s p word o true false false false true r t h is = refused _ o is
+one-word c s p word o true false false false false true t h is = refused _ o is
+one-word c s p word o true false false false false false true h is = refused _ o is
+one-word c s p word o true false false false false false false h is = refused _ o is
+one-word c s p word o false i w l d r t h is = no-options c s p word [] o h is
 
 -- a value, if what follows was read
 value-good : {A : Type 0} (v : Result ℕ ℕ) (place : ℕ) (go : ℕ → Ordered) (o : Order) → valued v place go ≡ Ok o → ((n : ℕ) → v ≡ Ok n → go n ≡ Ok o → A) → A
@@ -143,43 +172,50 @@ value-good (Err kind) place go o is then = refused _ o is
 value-good (Ok n) place go o is then = then n refl is
 
 -- two words and more, with the recursion as arguments
-more-words : (c : Command) (s : Settings) (p : ℕ) (word value : Word) (words : List Word) (o : Order) (dash i w d r t : Bool) →
-    is_option word ≡ dash → is_console c word ≡ i → is_report c word ≡ w → is_dump c word ≡ d → is_ring c word ≡ r → is_steps c word ≡ t →
+more-words : (c : Command) (s : Settings) (p : ℕ) (word value : Word) (words : List Word) (o : Order) (dash i w l d r t : Bool) →
+    is_option word ≡ dash → is_console c word ≡ i → is_report c word ≡ w → is_last c word ≡ l → is_dump c word ≡ d → is_ring c word ≡ r → is_steps c word ≡ t →
     (options_from c (with_console s) (p + 1) (value ∷ words) ≡ Ok o → Parted c (with_console s) (p + 1) (value ∷ words) o) →
     (options_from c (with_report s) (p + 1) (value ∷ words) ≡ Ok o → Parted c (with_report s) (p + 1) (value ∷ words) o) →
+    ((n : ℕ) → options_from c (with_last s n) (p + 2) words ≡ Ok o → Parted c (with_last s n) (p + 2) words o) →
     (options_from c (with_dump s) (p + 1) (value ∷ words) ≡ Ok o → Parted c (with_dump s) (p + 1) (value ∷ words) o) →
     ((n : ℕ) → options_from c (with_ring s n) (p + 2) words ≡ Ok o → Parted c (with_ring s n) (p + 2) words o) →
     ((n : ℕ) → options_from c (with_steps s n) (p + 2) words ≡ Ok o → Parted c (with_steps s n) (p + 2) words o) →
     cond dash
-    (cond i (unless s.report p (options_from c (with_console s) (p + 1) (value ∷ words)))
-    (cond w (unless s.interactive p (options_from c (with_report s) (p + 1) (value ∷ words)))
+    (cond i (unless (console_clashes s) p (options_from c (with_console s) (p + 1) (value ∷ words)))
+    (cond w (unless (report_clashes s) p (options_from c (with_report s) (p + 1) (value ∷ words)))
+    (cond l (unless (last_clashes s) p (valued (last_value value) (p + 1) (λ n. options_from c (with_last s n) (p + 2) words)))
     (cond d (options_from c (with_dump s) (p + 1) (value ∷ words))
     (cond r (valued (ring_value value) (p + 1) (λ n. options_from c (with_ring s n) (p + 2) words))
-    (cond t (valued (steps_value value) (p + 1) (λ n. options_from c (with_steps s n) (p + 2) words)) (Err (fault 3 p)))))))
+    (cond t (valued (steps_value value) (p + 1) (λ n. options_from c (with_steps s n) (p + 2) words)) (Err (fault 3 p))))))))
     (file_at c s p word (value ∷ words)) ≡ Ok o →
     Parted c s p (word ∷ value ∷ words) o
-more-words c s p word value words o true true w d r t hh hi hw hd hr ht gi gw gd gr gt is =
-    let alone = not-clashing s.report p (options_from c (with_console s) (p + 1) (value ∷ words)) o is in
-    with-played c s p word (value ∷ words) o hi alone.0 (gi alone.1)
-more-words c s p word value words o true false true d r t hh hi hw hd hr ht gi gw gd gr gt is =
-    let alone = not-clashing s.interactive p (options_from c (with_report s) (p + 1) (value ∷ words)) o is in
-    with-reported c s p word (value ∷ words) o hw alone.0 (gw alone.1)
-more-words c s p word value words o true false false true r t hh hi hw hd hr ht gi gw gd gr gt is = with-dumped c s p word (value ∷ words) o hd (gd is)
-more-words c s p word value words o true false false false true t hh hi hw hd hr ht gi gw gd gr gt is =
+more-words c s p word value words o true true w l d r t hh hi hw hl hd hr ht gi gw gl gd gr gt is =
+    let alone = not-clashing (console_clashes s) p (options_from c (with_console s) (p + 1) (value ∷ words)) o is in
+    with-played c s p word (value ∷ words) o hi (no-option s.report s.last alone.0) (gi alone.1)
+more-words c s p word value words o true false true l d r t hh hi hw hl hd hr ht gi gw gl gd gr gt is =
+    let alone = not-clashing (report_clashes s) p (options_from c (with_report s) (p + 1) (value ∷ words)) o is in
+    with-reported c s p word (value ∷ words) o hw (no-option s.interactive s.last alone.0) (gw alone.1)
+more-words c s p word value words o true false false true d r t hh hi hw hl hd hr ht gi gw gl gd gr gt is =
+    let alone = not-clashing (last_clashes s) p (valued (last_value value) (p + 1) (λ n. options_from c (with_last s n) (p + 2) words)) o is in
+    value-good (last_value value) (p + 1) _ o alone.1 (λ n good then. with-backed c s p word value n words o hl (neither s.interactive s.report alone.0) good (gl n then))
+more-words c s p word value words o true false false false true r t hh hi hw hl hd hr ht gi gw gl gd gr gt is = with-dumped c s p word (value ∷ words) o hd (gd is)
+more-words c s p word value words o true false false false false true t hh hi hw hl hd hr ht gi gw gl gd gr gt is =
     value-good (ring_value value) (p + 1) _ o is (λ n good then. with-ringed c s p word value n words o hr good (gr n then))
-more-words c s p word value words o true false false false false true hh hi hw hd hr ht gi gw gd gr gt is =
+more-words c s p word value words o true false false false false false true hh hi hw hl hd hr ht gi gw gl gd gr gt is =
     value-good (steps_value value) (p + 1) _ o is (λ n good then. with-stepped c s p word value n words o ht good (gt n then))
-more-words c s p word value words o true false false false false false hh hi hw hd hr ht gi gw gd gr gt is = refused _ o is
-more-words c s p word value words o false i w d r t hh hi hw hd hr ht gi gw gd gr gt is = no-options c s p word (value ∷ words) o hh is
+more-words c s p word value words o true false false false false false false hh hi hw hl hd hr ht gi gw gl gd gr gt is = refused _ o is
+more-words c s p word value words o false i w l d r t hh hi hw hl hd hr ht gi gw gl gd gr gt is = no-options c s p word (value ∷ words) o hh is
 
 parted : (c : Command) (s : Settings) (p : ℕ) (words : List Word) (o : Order) → options_from c s p words ≡ Ok o → Parted c s p words o
 unfolding options_from
 parted c s p [] o is = refused _ o is
-parted c s p (word ∷ []) o is = one-word c s p word o (is_option word) (is_console c word) (is_report c word) (is_dump c word) (is_ring c word) (is_steps c word) refl is
+parted c s p (word ∷ []) o is =
+    one-word c s p word o (is_option word) (is_console c word) (is_report c word) (is_last c word) (is_dump c word) (is_ring c word) (is_steps c word) refl is
 parted c s p (word ∷ value ∷ words) o is =
-    more-words c s p word value words o (is_option word) (is_console c word) (is_report c word) (is_dump c word) (is_ring c word) (is_steps c word) refl refl refl refl refl refl
+    more-words c s p word value words o (is_option word) (is_console c word) (is_report c word) (is_last c word) (is_dump c word) (is_ring c word) (is_steps c word) refl refl refl refl refl refl refl
     (parted c (with_console s) (p + 1) (value ∷ words) o)
     (parted c (with_report s) (p + 1) (value ∷ words) o)
+    (λ n. parted c (with_last s n) (p + 2) words o)
     (parted c (with_dump s) (p + 1) (value ∷ words) o)
     (λ n. parted c (with_ring s n) (p + 2) words o)
     (λ n. parted c (with_steps s n) (p + 2) words o)
@@ -188,8 +224,9 @@ parted c s p (word ∷ value ∷ words) o is =
 -- `asm` and `type` have no options
 bare : (c : Command) (s t : Settings) (options : List Word) → runs_file c ≡ false → takes_ring c ≡ false → takes_steps c ≡ false → Options c s options t → (options ≡ []) × (s ≡ t)
 bare _ _ _ _ file on makes (none c s) = (refl, refl)
-bare _ _ _ _ file on makes (console c s t words takes alone rest) = absurd (cc (file, takes))
-bare _ _ _ _ file on makes (report c s t words takes alone rest) = absurd (cc (file, takes))
+bare _ _ _ _ file on makes (console c s t words takes alone unset rest) = absurd (cc (file, takes))
+bare _ _ _ _ file on makes (report c s t words takes alone unset rest) = absurd (cc (file, takes))
+bare _ _ _ _ file on makes (last c s t value n words takes alone unset is rest) = absurd (cc (file, takes))
 bare _ _ _ _ file on makes (dump c s t words takes rest) = absurd (cc (makes, takes))
 bare _ _ _ _ file on makes (ring c s t value n words takes is rest) = absurd (cc (on, takes))
 bare _ _ _ _ file on makes (steps c s t value n words takes is rest) = absurd (cc (makes, takes))

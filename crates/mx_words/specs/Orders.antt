@@ -1,9 +1,9 @@
 -- What the words of the command line order. A fault has its kind, and the place of the word that is at fault, or the
 -- number of words where one is missing. The words are read from the left, and the first fault counts.
 -- A rule of this program.
-use Rattle.std.specs.Prelude.{ℕ, ◌+◌, ◌^◌, Bool, true, false, ◌&&◌, List, [], ◌∷◌, Option, None, Some, Result, Ok, Err, if◌then◌else◌, codes}
+use Rattle.std.specs.Prelude.{ℕ, ◌+◌, ◌^◌, ◌==◌, ◌&&◌, ◌||◌, not, Bool, true, false, List, [], ◌∷◌, Option, None, Some, Result, Ok, Err, if◌then◌else◌, codes}
 use Rattle.std.specs.Str.{bytes_eq}
-use Rattle.mx_words.specs.Values.{Word, is_option, ring_value, steps_value, blocks_value}
+use Rattle.mx_words.specs.Values.{Word, is_option, ring_value, steps_value, last_value, blocks_value}
 use Rattle.mx_words.specs.declared.order.Command.{Command}
 use Rattle.mx_words.specs.declared.order.Command.TheVariants.{Run, Asm, Sim, Gen, Show, Multi}
 use Rattle.mx_words.specs.declared.order.Order.{Order}
@@ -61,6 +61,9 @@ is_console c word = runs_file c && bytes_eq word (codes "-i")
 abbrev pub is_report : Command → Word → Bool
 is_report c word = runs_file c && bytes_eq word (codes "--report")
 
+abbrev pub is_last : Command → Word → Bool
+is_last c word = runs_file c && bytes_eq word (codes "--last")
+
 abbrev pub is_dump : Command → Word → Bool
 is_dump c word = takes_steps c && bytes_eq word (codes "--dump")
 
@@ -70,15 +73,18 @@ is_steps c word = takes_steps c && bytes_eq word (codes "--steps")
 abbrev pub is_ring : Command → Word → Bool
 is_ring c word = takes_ring c && bytes_eq word (codes "--ring")
 
--- without options: a ring of 256 registers, 10^9 steps, no console, no dump and no reports
+-- without options: a ring of 256 registers, 10^9 steps, no console, no dump, no reports, and no step is taken back
 abbrev pub defaults : Settings
-defaults = record { ring = 256; steps = 10 ^ 9; interactive = false; dump = false; report = false }
+defaults = record { ring = 256; steps = 10 ^ 9; interactive = false; dump = false; report = false; last = 0 }
 
 abbrev pub with_console : Settings → Settings
 with_console s = record s { interactive = true }
 
 abbrev pub with_report : Settings → Settings
 with_report s = record s { report = true }
+
+abbrev pub with_last : Settings → ℕ → Settings
+with_last s n = record s { last = n }
 
 abbrev pub with_dump : Settings → Settings
 with_dump s = record s { dump = true }
@@ -92,22 +98,22 @@ with_ring s n = record s { ring = n }
 -- an order to run or to list the file at a place, with the arguments behind it
 abbrev pub run_order : Command → Settings → ℕ → Order
 run_order c s place =
-    record { command = c; ring = s.ring; steps = s.steps; interactive = s.interactive; dump = s.dump; file = place; rest = place + 1; number = 0; report = s.report; schedule = 0 }
+    record { command = c; ring = s.ring; steps = s.steps; interactive = s.interactive; dump = s.dump; file = place; rest = place + 1; number = 0; report = s.report; last = s.last; schedule = 0 }
 
 -- an order to assemble the file at a place into the one that the next word names
 abbrev pub asm_order : Settings → ℕ → Order
 asm_order s place =
-    record { command = Asm; ring = s.ring; steps = s.steps; interactive = s.interactive; dump = s.dump; file = place; rest = place + 1; number = 0; report = s.report; schedule = 0 }
+    record { command = Asm; ring = s.ring; steps = s.steps; interactive = s.interactive; dump = s.dump; file = place; rest = place + 1; number = 0; report = s.report; last = s.last; schedule = 0 }
 
 -- an order to run the object behind the schedule at a place on several processors
 abbrev pub multi_order : Settings → ℕ → Order
 multi_order s place =
-    record { command = Multi; ring = s.ring; steps = s.steps; interactive = s.interactive; dump = s.dump; file = place + 1; rest = place + 2; number = 0; report = s.report; schedule = place }
+    record { command = Multi; ring = s.ring; steps = s.steps; interactive = s.interactive; dump = s.dump; file = place + 1; rest = place + 2; number = 0; report = s.report; last = s.last; schedule = place }
 
 -- an order to generate and run n blocks
 abbrev pub gen_order : Settings → ℕ → Order
 gen_order s n =
-    record { command = Gen; ring = s.ring; steps = s.steps; interactive = s.interactive; dump = s.dump; file = 0; rest = 0; number = n; report = s.report; schedule = 0 }
+    record { command = Gen; ring = s.ring; steps = s.steps; interactive = s.interactive; dump = s.dump; file = 0; rest = 0; number = n; report = s.report; last = s.last; schedule = 0 }
 
 -- the words behind the source of `asm`: one object, and no other word
 abbrev pub object_behind : Settings → ℕ → List Word → Ordered
@@ -145,18 +151,32 @@ abbrev pub valued : Result ℕ ℕ → ℕ → (ℕ → Ordered) → Ordered
 valued (Err kind) place go = Err (fault kind place)
 valued (Ok n) place go = go n
 
+-- which options before it an option clashes with: `-i`, `--report` and `--last` do not stand together
+abbrev pub takes_back : Settings → Bool
+takes_back s = not (s.last == 0)
+
+abbrev pub console_clashes : Settings → Bool
+console_clashes s = s.report || takes_back s
+
+abbrev pub report_clashes : Settings → Bool
+report_clashes s = s.interactive || takes_back s
+
+abbrev pub last_clashes : Settings → Bool
+last_clashes s = s.interactive || s.report
+
 -- an option at a place that clashes with one before it, or what follows
 abbrev pub unless : Bool → ℕ → Ordered → Ordered
 unless clashes place more = if clashes then Err (fault 10 place) else more
 
 -- The words behind a command, the first of them at a place, with what the options before it set. Options stand before
--- the file, and the last one counts; `-i` and `--report` do not stand together.
+-- the file, and the last one counts; `-i`, `--report` and `--last` do not stand together.
 unfoldable pub options_from : Command → Settings → ℕ → List Word → Ordered
 options_from c s place [] = Err (fault 7 place)
 options_from c s place (word ∷ []) =
     if is_option word
-    then (if is_console c word then unless s.report place (Err (fault 7 (place + 1)))
-    else if is_report c word then unless s.interactive place (Err (fault 7 (place + 1)))
+    then (if is_console c word then unless (console_clashes s) place (Err (fault 7 (place + 1)))
+    else if is_report c word then unless (report_clashes s) place (Err (fault 7 (place + 1)))
+    else if is_last c word then unless (last_clashes s) place (Err (fault 4 (place + 1)))
     else if is_dump c word then Err (fault 7 (place + 1))
     else if is_ring c word then Err (fault 4 (place + 1))
     else if is_steps c word then Err (fault 4 (place + 1))
@@ -164,8 +184,9 @@ options_from c s place (word ∷ []) =
     else file_at c s place word []
 options_from c s place (word ∷ value ∷ words) =
     if is_option word
-    then (if is_console c word then unless s.report place (options_from c (with_console s) (place + 1) (value ∷ words))
-    else if is_report c word then unless s.interactive place (options_from c (with_report s) (place + 1) (value ∷ words))
+    then (if is_console c word then unless (console_clashes s) place (options_from c (with_console s) (place + 1) (value ∷ words))
+    else if is_report c word then unless (report_clashes s) place (options_from c (with_report s) (place + 1) (value ∷ words))
+    else if is_last c word then unless (last_clashes s) place (valued (last_value value) (place + 1) (λ n. options_from c (with_last s n) (place + 2) words))
     else if is_dump c word then options_from c (with_dump s) (place + 1) (value ∷ words)
     else if is_ring c word then valued (ring_value value) (place + 1) (λ n. options_from c (with_ring s n) (place + 2) words)
     else if is_steps c word then valued (steps_value value) (place + 1) (λ n. options_from c (with_steps s n) (place + 2) words)

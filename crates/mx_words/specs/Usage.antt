@@ -1,15 +1,15 @@
 -- The words that are an order, as a grammar:
---   run [--ring R] [--steps N] [-i] [--dump] [--report] SRC [ARG ..]
---   sim [--ring R] [--steps N] [-i] [--dump] [--report] OBJ [ARG ..]
+--   run [--ring R] [--steps N] [-i] [--dump] [--report] [--last J] SRC [ARG ..]
+--   sim [--ring R] [--steps N] [-i] [--dump] [--report] [--last J] OBJ [ARG ..]
 --   asm SRC OBJ
 --   gen [--ring R] N
 --   type OBJ
 --   multi [--ring R] [--steps N] [--dump] SCHED OBJ
--- where `-i` and `--report` do not stand together.
+-- where `-i`, `--report` and `--last` do not stand together.
 -- A rule of this program.
 use Rattle.std.specs.Prelude.{◌≡◌, ℕ, ◌+◌, true, false, List, [], ◌∷◌, ◌++◌, length, Ok, codes}
-use Rattle.mx_words.specs.Values.{Word, is_option, ring_value, steps_value, blocks_value}
-use Rattle.mx_words.specs.Orders.{runs_file, takes_ring, takes_steps, defaults, with_console, with_report, with_dump, with_ring, with_steps, run_order, asm_order, gen_order, multi_order}
+use Rattle.mx_words.specs.Values.{Word, is_option, ring_value, steps_value, last_value, blocks_value}
+use Rattle.mx_words.specs.Orders.{runs_file, takes_ring, takes_steps, defaults, with_console, with_report, with_last, with_dump, with_ring, with_steps, run_order, asm_order, gen_order, multi_order}
 use Rattle.mx_words.specs.declared.order.Command.{Command}
 use Rattle.mx_words.specs.declared.order.Command.TheVariants.{Run, Sim, Gen, Show, Multi}
 use Rattle.mx_words.specs.declared.order.Order.{Order}
@@ -18,10 +18,12 @@ use Rattle.mx_words.specs.declared.settings.Settings.{Settings}
 -- The options of a command: the settings before them, their words, and the settings after them.
 pub data Options : Command → Settings → List Word → Settings → Type 0 where
   none : (c : Command) (s : Settings) → Options c s [] s
-  console : (c : Command) (s t : Settings) (words : List Word) → runs_file c ≡ true → s.report ≡ false →
+  console : (c : Command) (s t : Settings) (words : List Word) → runs_file c ≡ true → s.report ≡ false → s.last ≡ 0 →
       Options c (with_console s) words t → Options c s (codes "-i" ∷ words) t
-  report : (c : Command) (s t : Settings) (words : List Word) → runs_file c ≡ true → s.interactive ≡ false →
+  report : (c : Command) (s t : Settings) (words : List Word) → runs_file c ≡ true → s.interactive ≡ false → s.last ≡ 0 →
       Options c (with_report s) words t → Options c s (codes "--report" ∷ words) t
+  last : (c : Command) (s t : Settings) (value : Word) (n : ℕ) (words : List Word) → runs_file c ≡ true → s.interactive ≡ false → s.report ≡ false → last_value value ≡ Ok n →
+      Options c (with_last s n) words t → Options c s (codes "--last" ∷ value ∷ words) t
   dump : (c : Command) (s t : Settings) (words : List Word) → takes_steps c ≡ true →
       Options c (with_dump s) words t → Options c s (codes "--dump" ∷ words) t
   ring : (c : Command) (s t : Settings) (value : Word) (n : ℕ) (words : List Word) → takes_ring c ≡ true → ring_value value ≡ Ok n →

@@ -45,6 +45,10 @@ ring_value word = ring_size (number_of word)
 abbrev pub steps_value : Word → Result ℕ ℕ
 steps_value word = up_to (10 ^ 12) (number_of word)
 
+-- the value of `--last`, up to 1,024
+abbrev pub last_value : Word → Result ℕ ℕ
+last_value word = up_to 1024 (number_of word)
+
 -- the N of `gen`, up to 10,000
 abbrev pub blocks_value : Word → Result ℕ ℕ
 blocks_value word = up_to 10000 (number_of word)

@@ -6,7 +6,7 @@ ghost use Rattle.mx_words.specs.Orders as orders;
 
 use crate::order::{Command, WordsFault};
 use crate::settings::Settings;
-use crate::values::{ring_value, steps_value};
+use crate::values::{last_value, ring_value, steps_value};
 
 /// Whether a command runs a file that the words name.
 fn runs_file(command: Command) -> bool
@@ -46,6 +46,13 @@ fn is_report(command: Command, word: &String) -> bool
     runs_file(command) && word.as_str() == "--report"
 }
 
+/// Whether a word is `--last`, where the command takes it.
+fn is_last(command: Command, word: &String) -> bool
+    ensures { result ≡ orders.is_last command (string_bytes word.now) }
+{
+    runs_file(command) && word.as_str() == "--last"
+}
+
 /// Whether a word is `--dump`, where the command takes it.
 fn is_dump(command: Command, word: &String) -> bool
     ensures { result ≡ orders.is_dump command (string_bytes word.now) }
@@ -67,13 +74,13 @@ fn is_ring(command: Command, word: &String) -> bool
     takes_ring(command) && word.as_str() == "--ring"
 }
 
-/// `-i` at a place: not behind `--report`.
+/// `-i` at a place: not behind `--report` or `--last`.
 fn with_console(settings: Settings, at: usize) -> Result<(Settings, usize), WordsFault>
     requires { at + 1 < 2 ^ 64 }
     ensures value { result ≡ spec.console_read settings at }
     ensures onward { IfOk result (λ next. at < next.1) }
 {
-    if settings.report {
+    if settings.report || settings.last != 0 {
         return Err(WordsFault { kind: 10, word: at });
     }
     Ok((
@@ -85,13 +92,13 @@ fn with_console(settings: Settings, at: usize) -> Result<(Settings, usize), Word
     ))
 }
 
-/// `--report` at a place: not behind `-i`.
+/// `--report` at a place: not behind `-i` or `--last`.
 fn with_report(settings: Settings, at: usize) -> Result<(Settings, usize), WordsFault>
     requires { at + 1 < 2 ^ 64 }
     ensures value { result ≡ spec.report_read settings at }
     ensures onward { IfOk result (λ next. at < next.1) }
 {
-    if settings.interactive {
+    if settings.interactive || settings.last != 0 {
         return Err(WordsFault { kind: 10, word: at });
     }
     Ok((
@@ -122,6 +129,9 @@ pub(crate) fn option(
     if is_report(command, word) {
         return with_report(settings, at);
     }
+    if is_last(command, word) {
+        return with_last(settings, words, at);
+    }
     if is_dump(command, word) {
         return Ok((
             Settings {
@@ -138,6 +148,43 @@ pub(crate) fn option(
         return with_steps(settings, words, at + 1);
     }
     Err(WordsFault { kind: 3, word: at })
+}
+
+/// `--last` at a place: not behind `-i` or `--report`.
+#[tactic(auto, using(crate::proofs::Places::places))]
+fn with_last(
+    settings: Settings,
+    words: &[String],
+    at: usize,
+) -> Result<(Settings, usize), WordsFault>
+    requires { at < length words.now }
+    ensures value { result ≡ spec.back_read settings at (drop (at + 1) (map string_bytes words.now)) }
+    ensures onward { IfOk result (λ next. at < next.1) }
+{
+    if settings.interactive || settings.report {
+        return Err(WordsFault { kind: 10, word: at });
+    }
+    with_back(settings, words, at + 1)
+}
+
+/// The value of `--last` at a place.
+#[tactic(auto, using(crate::proofs::Places::places))]
+fn with_back(
+    settings: Settings,
+    words: &[String],
+    at: usize,
+) -> Result<(Settings, usize), WordsFault>
+    requires { at ≤ length words.now }
+    ensures value { result ≡ spec.last_read settings at (drop at (map string_bytes words.now)) }
+    ensures onward { IfOk result (λ next. at < next.1) }
+{
+    if at == words.len() {
+        return Err(WordsFault { kind: 4, word: at });
+    }
+    match last_value(&words[at]) {
+        Ok(last) => Ok((Settings { last, ..settings }, at + 1)),
+        Err(kind) => Err(WordsFault { kind, word: at }),
+    }
 }
 
 /// The value of `--ring` at a place.

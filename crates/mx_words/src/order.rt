@@ -41,6 +41,9 @@ pub struct Order {
     pub number: u64,
     /// Whether the reports of watchers are written at the end; not in an order that wants the console.
     pub report: bool,
+    /// How many steps are taken back at the end at most: 1 to 1,024, or 0 where none is; 0 in an order that wants the
+    /// console or reports.
+    pub last: u64,
     /// The place of the schedule of `multi` among the words.
     pub schedule: usize,
 }
@@ -49,7 +52,7 @@ pub struct Order {
 #[derive(Clone, Copy, Debug, PartialEq, Eq)]
 pub struct WordsFault {
     /// 1 no command, 2 unknown command, 3 unknown option, 4 missing value, 5 bad number, 6 bad ring,
-    /// 7 missing file or number, 8 too many words, 10 `--report` and `-i` together.
+    /// 7 missing file or number, 8 too many words, 10 two of `-i`, `--report` and `--last` together.
     pub kind: u16,
     /// The place of the word from 0, or the number of words where one is missing.
     pub word: usize,

@@ -15,4 +15,6 @@ pub(crate) struct Settings {
     pub(crate) dump: bool,
     /// Whether the reports of watchers are written at the end.
     pub(crate) report: bool,
+    /// How many steps are taken back at the end at most, or 0.
+    pub(crate) last: u64,
 }

@@ -71,6 +71,13 @@ pub(crate) fn steps_value(word: &String) -> Result<u64, u16>
     up_to(1_000_000_000_000, word)
 }
 
+/// The value of `--last`; otherwise the kind of the fault.
+pub(crate) fn last_value(word: &String) -> Result<u64, u16>
+    ensures { result ≡ spec.last_value (string_bytes word.now) }
+{
+    up_to(1024, word)
+}
+
 /// The N of `gen`; otherwise the kind of the fault.
 pub(crate) fn blocks_value(word: &String) -> Result<u64, u16>
     ensures value { result ≡ spec.blocks_value (string_bytes word.now) }

@@ -15,15 +15,17 @@ use mx_ring::RingSize;
 ///
 /// The words are `run` or `sim`, options, a file and its arguments; `asm`, a source and an object;
 /// `gen`, options and a number; `type` and an object; or `multi`, options, a schedule and an object. Options
-/// are `--ring R`, for `run`, `sim` and `multi` also `--steps N` and `--dump`, and for `run` and `sim` `-i`
-/// and `--report`; they may repeat, and the last one counts. `-i` and `--report` do not stand in one order.
-#[tactic(auto, using(crate::proofs::Places::places))]
+/// are `--ring R`, for `run`, `sim` and `multi` also `--steps N` and `--dump`, and for `run` and `sim` `-i`,
+/// `--report` and `--last J`; they may repeat, and the last one counts. No two of `-i`, `--report` and `--last`
+/// stand in one order.
+#[tactic(auto, using(crate::proofs::Places::places, crate::proofs::OrderedBlocks::orders))]
 pub fn read(words: &[String]) -> Result<Order, WordsFault>
     ensures value { result ≡ spec.order_of (map string_bytes words.now) }
     ensures places { IfOk result (λ o. (o.file < length words.now) × (o.rest ≤ length words.now)) }
     ensures schedule { IfOk result (λ o. o.schedule < length words.now) }
     ensures object { IfOk result (λ o. o.command ≡ Command.Asm → o.rest < length words.now) }
     ensures blocks { IfOk result (λ o. o.number ≤ 10000) }
+    ensures last { IfOk result (λ o. o.last ≤ 1024) }
 {
     if words.is_empty() {
         return Err(WordsFault { kind: 1, word: 0 });
@@ -59,7 +61,8 @@ fn command_of(word: &String) -> Option<Command>
     None
 }
 
-/// What is set without options: a ring of 256 registers, 10^9 steps, no console, no dump and no reports.
+/// What is set without options: a ring of 256 registers, 10^9 steps, no console, no dump, no reports, and no step
+/// is taken back.
 fn defaults() -> Settings
     ensures { result ≡ spec.defaults }
 {
@@ -69,6 +72,7 @@ fn defaults() -> Settings
         interactive: false,
         dump: false,
         report: false,
+        last: 0,
     }
 }
 
@@ -137,6 +141,7 @@ fn run_order(command: Command, settings: Settings, at: usize) -> Order
         rest: at + 1,
         number: 0,
         report: settings.report,
+        last: settings.last,
         schedule: 0,
     }
 }
@@ -193,6 +198,7 @@ fn asm_order(settings: Settings, words: &[String], at: usize) -> Result<Order, W
         rest: at + 1,
         number: 0,
         report: settings.report,
+        last: settings.last,
         schedule: 0,
     })
 }
@@ -229,6 +235,7 @@ fn multi_order(settings: Settings, words: &[String], at: usize) -> Result<Order,
         rest: at + 2,
         number: 0,
         report: settings.report,
+        last: settings.last,
         schedule: at,
     })
 }
@@ -263,6 +270,7 @@ fn gen_order(settings: Settings, words: &[String], at: usize) -> Result<Order, W
         rest: 0,
         number,
         report: settings.report,
+        last: settings.last,
         schedule: 0,
     })
 }

@@ -15,4 +15,6 @@ mod processors;
 #[cfg(test)]
 mod stack;
 #[cfg(test)]
+mod taken_back;
+#[cfg(test)]
 mod trips;

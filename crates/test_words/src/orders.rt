@@ -1,89 +1,10 @@
-//! The words, row by row.
+//! Words that are orders, row by row.
 
 use mx_words::{Command, Order, read};
 use std::alloc::{AllocError, Global};
 
-/// Words with one blank between two of them, and their fault.
-static FAULTS: [(&str, u16, usize); 66] = [
-    // no word
-    ("", 1, 0),
-    // the command
-    ("go", 2, 0),
-    ("RUN a.mms", 2, 0),
-    ("--dump run a.mms", 2, 0),
-    // a file or a number is missing
-    ("run", 7, 1),
-    ("run --dump", 7, 2),
-    ("sim -i", 7, 2),
-    ("sim --ring 512", 7, 3),
-    ("asm", 7, 1),
-    ("asm a.mms", 7, 2),
-    ("gen", 7, 1),
-    ("gen --ring 256", 7, 3),
-    ("type", 7, 1),
-    ("multi", 7, 1),
-    ("multi s", 7, 2),
-    ("multi --dump s", 7, 3),
-    // options that the command does not have
-    ("run -x a.mms", 3, 1),
-    ("run - a.mms", 3, 1),
-    ("run -I a.mms", 3, 1),
-    ("run --dumps a.mms", 3, 1),
-    ("run --dump -x a.mms", 3, 2),
-    ("sim --ring 512 --reports a.mmo", 3, 3),
-    ("asm --report a.mms a.mmo", 3, 1),
-    ("gen --report 1", 3, 1),
-    ("type --report a.mmo", 3, 1),
-    ("asm --ring 256 a.mms a.mmo", 3, 1),
-    ("asm -x", 3, 1),
-    ("gen --steps 5 5", 3, 1),
-    ("gen --dump 5", 3, 1),
-    ("gen -i 5", 3, 1),
-    ("asm -i a.mms a.mmo", 3, 1),
-    ("gen -5", 3, 1),
-    ("type --ring 256 a.mmo", 3, 1),
-    ("type -i a.mmo", 3, 1),
-    ("type -", 3, 1),
-    ("multi -i a b", 3, 1),
-    ("multi --report a b", 3, 1),
-    ("multi --dump -x a", 3, 2),
-    // a value is missing
-    ("run --steps", 4, 2),
-    ("run --dump --ring", 4, 3),
-    ("gen --ring", 4, 2),
-    ("multi --steps", 4, 2),
-    // no number, or out of its range
-    ("run --steps 0 a.mms", 5, 2),
-    ("run --steps 1000000000001 a.mms", 5, 2),
-    ("run --steps 00000000000001 a.mms", 5, 2),
-    ("run --steps +5 a.mms", 5, 2),
-    ("run --steps -5 a.mms", 5, 2),
-    ("run --steps  a.mms", 5, 2),
-    ("run --ring 25x a.mms", 5, 2),
-    ("gen 0", 5, 1),
-    ("gen 10001", 5, 1),
-    ("gen x 5", 5, 1),
-    ("multi --steps 0 s a.mmo", 5, 2),
-    // no size of a ring; the first fault counts
-    ("run --ring 300 a.mms", 6, 2),
-    ("run --ring 131072 a.mms", 6, 2),
-    ("gen --ring 4294967552 --dump", 6, 2),
-    ("multi --ring 300 s a.mmo", 6, 2),
-    // too many words
-    ("asm a b c", 8, 3),
-    ("gen 5 6", 8, 2),
-    ("type a.mmo b.mmo", 8, 2),
-    ("type a.mmo -x", 8, 2),
-    ("multi a b c", 8, 3),
-    ("multi --dump a -b c", 8, 4),
-    // the console and reports in one order: the later word
-    ("run -i --report x", 10, 2),
-    ("run --report --dump -i x", 10, 3),
-    ("sim --report -i", 10, 2),
-];
-
-/// An order by its command, ring, steps, interactive, dump, file, rest, number, report and schedule.
-type Fields = (
+/// An order by its command, ring, steps, interactive, dump, file, rest, number, report, last and schedule.
+pub type Fields = (
     Command,
     u32,
     u64,
@@ -93,11 +14,12 @@ type Fields = (
     usize,
     u64,
     bool,
+    u64,
     usize,
 );
 
 /// Words with one blank between two of them, and their order.
-static ORDERS: [(&str, Fields); 23] = [
+static ORDERS: [(&str, Fields); 25] = [
     (
         "run a.mms",
         (
@@ -110,6 +32,7 @@ static ORDERS: [(&str, Fields); 23] = [
             2,
             0,
             false,
+            0,
             0,
         ),
     ),
@@ -126,6 +49,7 @@ static ORDERS: [(&str, Fields); 23] = [
             0,
             false,
             0,
+            0,
         ),
     ),
     (
@@ -140,6 +64,7 @@ static ORDERS: [(&str, Fields); 23] = [
             2,
             0,
             false,
+            0,
             0,
         ),
     ),
@@ -156,6 +81,7 @@ static ORDERS: [(&str, Fields); 23] = [
             0,
             false,
             0,
+            0,
         ),
     ),
     (
@@ -171,11 +97,12 @@ static ORDERS: [(&str, Fields); 23] = [
             0,
             false,
             0,
+            0,
         ),
     ),
     (
         "sim --steps 1 --ring 65536 --dump a.mmo",
-        (Command::Sim, 65_536, 1, false, true, 6, 7, 0, false, 0),
+        (Command::Sim, 65_536, 1, false, true, 6, 7, 0, false, 0, 0),
     ),
     (
         "run --steps 1000000000000 a.mms",
@@ -190,11 +117,12 @@ static ORDERS: [(&str, Fields); 23] = [
             0,
             false,
             0,
+            0,
         ),
     ),
     (
         "run --steps 0000000000010 a.mms",
-        (Command::Run, 256, 10, false, false, 3, 4, 0, false, 0),
+        (Command::Run, 256, 10, false, false, 3, 4, 0, false, 0, 0),
     ),
     // the console, once or more often
     (
@@ -210,11 +138,12 @@ static ORDERS: [(&str, Fields); 23] = [
             0,
             false,
             0,
+            0,
         ),
     ),
     (
         "sim -i --dump -i --steps 9 a.mmo -i",
-        (Command::Sim, 256, 9, true, true, 6, 7, 0, false, 0),
+        (Command::Sim, 256, 9, true, true, 6, 7, 0, false, 0, 0),
     ),
     (
         "run a.mms -i",
@@ -228,6 +157,7 @@ static ORDERS: [(&str, Fields); 23] = [
             2,
             0,
             false,
+            0,
             0,
         ),
     ),
@@ -245,6 +175,7 @@ static ORDERS: [(&str, Fields); 23] = [
             0,
             true,
             0,
+            0,
         ),
     ),
     (
@@ -259,6 +190,7 @@ static ORDERS: [(&str, Fields); 23] = [
             5,
             0,
             true,
+            0,
             0,
         ),
     ),
@@ -275,12 +207,13 @@ static ORDERS: [(&str, Fields); 23] = [
             0,
             false,
             0,
+            0,
         ),
     ),
     // the last option counts
     (
         "run --ring 512 --steps 7 --ring 1024 --steps 8 a",
-        (Command::Run, 1024, 8, false, false, 9, 10, 0, false, 0),
+        (Command::Run, 1024, 8, false, false, 9, 10, 0, false, 0, 0),
     ),
     (
         "asm a.mms a.mmo",
@@ -294,6 +227,7 @@ static ORDERS: [(&str, Fields); 23] = [
             2,
             0,
             false,
+            0,
             0,
         ),
     ),
@@ -310,6 +244,7 @@ static ORDERS: [(&str, Fields); 23] = [
             0,
             false,
             0,
+            0,
         ),
     ),
     (
@@ -324,6 +259,7 @@ static ORDERS: [(&str, Fields); 23] = [
             0,
             1,
             false,
+            0,
             0,
         ),
     ),
@@ -340,6 +276,7 @@ static ORDERS: [(&str, Fields); 23] = [
             10_000,
             false,
             0,
+            0,
         ),
     ),
     (
@@ -354,6 +291,7 @@ static ORDERS: [(&str, Fields); 23] = [
             0,
             10,
             false,
+            0,
             0,
         ),
     ),
@@ -371,6 +309,7 @@ static ORDERS: [(&str, Fields); 23] = [
             0,
             false,
             0,
+            0,
         ),
     ),
     // the object behind the schedule may begin with a dash
@@ -386,12 +325,46 @@ static ORDERS: [(&str, Fields); 23] = [
             3,
             0,
             false,
+            0,
             1,
         ),
     ),
     (
         "multi --ring 512 --steps 5 --dump s a.mmo",
-        (Command::Multi, 512, 5, false, true, 7, 8, 0, false, 6),
+        (Command::Multi, 512, 5, false, true, 7, 8, 0, false, 0, 6),
+    ),
+    // the last one counts, and it goes with the dump
+    (
+        "run --last 3 --last 1 a.mms",
+        (
+            Command::Run,
+            256,
+            1_000_000_000,
+            false,
+            false,
+            5,
+            6,
+            0,
+            false,
+            1,
+            0,
+        ),
+    ),
+    (
+        "sim --last 1024 --dump a.mmo",
+        (
+            Command::Sim,
+            256,
+            1_000_000_000,
+            false,
+            true,
+            4,
+            5,
+            0,
+            false,
+            1024,
+            0,
+        ),
     ),
 ];
 
@@ -419,25 +392,19 @@ fn fields(order: &Order) -> Fields {
         order.rest,
         order.number,
         order.report,
+        order.last,
         order.schedule,
     )
 }
 
 /// What the words of a line order, or the kind and the word of their fault; 0 where there is no memory.
-fn told(alloc: Global, line: &str) -> Result<Fields, (u16, usize)> {
+pub fn told(alloc: Global, line: &str) -> Result<Fields, (u16, usize)> {
     let Ok(words) = words(alloc, line) else {
         return Err((0, 0));
     };
     match read(words.as_slice()) {
         Ok(order) => Ok(fields(&order)),
         Err(fault) => Err((fault.kind, fault.word)),
-    }
-}
-
-#[test]
-fn faults(rt: HostRuntime) {
-    for (line, kind, word) in &FAULTS {
-        assert_eq!(rt; told(rt.alloc(), line), Err((*kind, *word)), "{line}");
     }
 }
 

@@ -6,6 +6,7 @@ use Rattle.mx_run.specs.Runs.{no_flags}
 use Rattle.mx_run.proofs.Later.{begun-later, turned-later, last-later}
 use Rattle.mx_run.proofs.ListSteps.{list-begun, list-spent}
 use Rattle.mx_run.proofs.PlanEnds.{rest-begun}
+use Rattle.mx_back.proofs.KeptLists.{begun-beside, went-kept-beside, ended-kept-beside, spent-kept-beside}
 use Rattle.mx_back.proofs.KeptSteps.{went-listed, ended-listed, begun-kept, went-kept-on, ended-kept-so, spent-kept-so, begun-made, went-rest, went-made, ended-kept, spent-kept}
 use Rattle.mx_back.proofs.running.keep_steps.Goals as goal
 
@@ -18,6 +19,7 @@ loop-made-init g c = record {
   keeps = keeps-all (g.H.Host.told c.args.host.now) (g.H.Host.faults c.args.host.now);
   fits = c.requires;
   kept = λ t. begun-kept _ _ _ _;
+  kept_listed = λ t u a. begun-beside _ _ _ _ _ a;
 }
 
 pub keep_step-requires : goal.keep_step-requires
@@ -34,6 +36,9 @@ loop-made-preserved g c =
       keeps = keeps-then _ _ _ _ _ _ was.keeps c.in-Ok.ensures.keeps;
       fits = c.in-Ok.ensures.fits;
       kept = λ t. went-kept-on _ _ _ _ _ _ _ _ _ _ c.loop-made-test.true (c.in-Ok.ensures.told (subst IsTrue (sym was.keeps.telling) t)) (c.in-Ok.ensures.kept (subst IsTrue (sym was.keeps.telling) t) (λ e. absurd (cc))) (was.kept t);
+      kept_listed = λ t u a.
+          let now = subst IsTrue (sym was.keeps.telling) t in
+          went-kept-beside _ _ _ _ _ _ _ _ _ _ _ c.loop-made-test.true c.in-Ok.ensures.over (c.in-Ok.ensures.told now) (c.in-Ok.ensures.kept now (λ e. absurd (cc))) (was.listed t u) (was.kept_listed t u a);
     }
 
 pub returns-in-Err-clause-plan : goal.returns-in-Err-clause-plan
@@ -75,3 +80,12 @@ returns-in-Err-clause-listed g c = λ t ne u.
 
 pub returns-clause-listed : goal.returns-clause-listed
 returns-clause-listed g c = λ t ne u. list-spent _ _ _ _ _ _ _ c.loop-made-test.false (c.loop-made.invariant.listed t u)
+
+pub returns-in-Err-clause-kept_listed : goal.returns-in-Err-clause-kept_listed
+returns-in-Err-clause-kept_listed g c = λ t ne u a.
+    let was = c.loop-made.invariant in
+    let now = subst IsTrue (sym was.keeps.telling) t in
+    ended-kept-beside _ _ _ _ _ _ _ _ _ _ _ c.loop-made-test.true c.in-Err.ensures.over ne (c.in-Err.ensures.told now) (c.in-Err.ensures.kept now (λ e. ne (cc))) (was.listed t u) (was.kept_listed t u a)
+
+pub returns-clause-kept_listed : goal.returns-clause-kept_listed
+returns-clause-kept_listed g c = λ t ne u a. spent-kept-beside _ _ _ _ _ _ _ c.loop-made-test.false (c.loop-made.invariant.kept_listed t u a)

@@ -7,7 +7,9 @@ use Rattle.mx_run.specs.Runs.{IsLater, no_flags}
 use Rattle.mx_run.specs.WildRuns.{run_by, list_machine}
 use Rattle.mx_run.proofs.ListSteps.{Beside}
 use Rattle.mx_back.specs.History.{AreNotesOf, states_before, states_kept}
+use Rattle.mx_back.specs.KeptLists.{AreUntouched, list_run, list_kept}
 use Rattle.mx_back.specs.KeptRuns.{turns_of}
+use Rattle.mx_back.proofs.KeptLists.{KeptSoFar}
 use Rattle.mx_back.proofs.KeptSteps.{Rest, Made}
 use Rattle.mx_back.proofs.running.keep_steps.Given as goal
 
@@ -27,4 +29,7 @@ invariant-loop-made g l = record {
   kept : IsTrue (tells (g.H.Host.told l.fn.host)) →
       states_kept (turns_of (l.n - l._made) (state_of l.machine) (contents (g.H.Host.told l.host))) (states_before l.back (state_of l.machine))
       ≡ states_kept (turns_of l.n (state_of l.fn.machine) (contents (g.H.Host.told l.fn.host))) (states_before l.fn.back (state_of l.fn.machine));
+  kept_listed : IsTrue (tells (g.H.Host.told l.fn.host)) → (state_of l.fn.machine).touched ≡ false → AreUntouched (states_before l.fn.back (state_of l.fn.machine)) →
+      KeptSoFar (list_run (g.H.Host.told l.fn.host) (state_of l.fn.machine) l.n) (l.n - l._made) (state_of l.machine) (contents (g.H.Host.told l.host)) (states_before l.back (state_of l.machine))
+      (list_kept (g.H.Host.told l.fn.host) (state_of l.fn.machine) l.n (states_before l.fn.back (state_of l.fn.machine)));
 }

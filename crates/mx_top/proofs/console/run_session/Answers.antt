@@ -12,6 +12,7 @@ use Rattle.mx_top.proofs.SessionRuns.{dumped-fault, list-played}
 use Rattle.mx_top.specs.ProductPlan.{session_played, dumped_plan}
 use Rattle.mx_top.proofs.MachinePlans.{session-follows}
 use Rattle.mx_top.proofs.Dumped.{undumped-fault}
+use Rattle.mx_plan.proofs.Standing.{only-behind, stands-kept}
 use Rattle.mx_top.proofs.console.run_session.Goals as goal
 
 pub returns-in-HostFault-clause-listed : goal.returns-in-HostFault-clause-listed
@@ -52,3 +53,6 @@ returns-clause-plan g c = λ t.
     session-follows c.args.order.now.steps _ _ (state_of c.args.machine) (state_of c.session.new.runner.machine) _ _ _ c.session.result c.session_outcome.result c.tell_end.result
     (dumped_plan c.args.order.now.dump) c.new-runner.ensures.flags outcome (rw c.new-runner.ensures.machine at (c.session.ensures.plan t))
     (λ e. let none = c.tell_end.ensures.memory e in (none.0, ap (λ h. contents (g.H.Host.told h)) none.1)) (λ ne. rw c.machine.ensures at (c.tell_end.ensures.plan ne there))
+
+pub returns-clause-rose : goal.returns-clause-rose
+returns-clause-rose g c = only-behind _ _ _ _ _ _ _ (stands-kept _ _ _ _ c.session.ensures.keeps) c.tell_end.ensures.rose

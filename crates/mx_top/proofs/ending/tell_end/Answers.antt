@@ -1,6 +1,7 @@
-use Rattle.std.proofs.Common.{refl, sym, ◌∙◌}
+use Rattle.std.proofs.Common.{Err, refl, sym, ◌∙◌, ap}
 use Rattle.mx_files.proofs.FileClauses.{part-keeps}
 use Rattle.mx_top.proofs.Dumped.{undumped-plan, undumped-list, dumped-plan, dumped-list}
+use Rattle.mx_files.proofs.Serving.{only-lines}
 use Rattle.mx_top.proofs.ending.tell_end.Goals as goal
 
 pub returns-then-not-is_dumped-clause-plan : goal.returns-then-not-is_dumped-clause-plan
@@ -26,3 +27,6 @@ returns-in-Err-clause-list g c = λ u t ne. dumped-list _ _ _ _ _ _ _ _ _ (sym c
 
 pub returns-in-Err-clause-keeps : goal.returns-in-Err-clause-keeps
 returns-in-Err-clause-keeps g c = part-keeps _ _ _ _ _ _ c.in-Err.ensures
+
+pub returns-in-Err-clause-rose : goal.returns-in-Err-clause-rose
+returns-in-Err-clause-rose g c = λ had e. only-lines _ _ _ _ _ _ c.in-Err.ensures had (ap Err e)

@@ -1,4 +1,4 @@
-use Rattle.std.proofs.Common.{[], ◌∷◌, refl}
+use Rattle.std.proofs.Common.{[], ◌∷◌, Err, refl, ap}
 use Rattle.mx_core.specs.Kept.{state_of}
 use Rattle.mx_ring.specs.Stack.{register}
 use Rattle.law_gen.specs.Generator.{summary}
@@ -6,6 +6,7 @@ use Rattle.mx_files.specs.declared.outcome.Outcome.TheVariants.{Done}
 use Rattle.mx_files.proofs.FileClauses.{part-keeps}
 use Rattle.mx_files.proofs.WrittenLines.{writes-line, writes-lacking}
 use Rattle.mx_top.proofs.Dumped.{written-plan, written-answer}
+use Rattle.mx_files.proofs.Serving.{only-lines}
 use Rattle.mx_top.proofs.generation.put_summary.Goals as goal
 
 pub returns-in-Err-clause-plan : goal.returns-in-Err-clause-plan
@@ -34,3 +35,6 @@ returns-clause-told g c =
 
 pub returns-clause-keeps : goal.returns-clause-keeps
 returns-clause-keeps g c = part-keeps _ _ _ _ _ _ c.in-Err-write_line.ensures
+
+pub returns-clause-rose : goal.returns-clause-rose
+returns-clause-rose g c = λ had e. only-lines _ _ _ _ _ _ (writes-line _ _ _ _ _ _ _ refl c.in-Err-write_line.ensures) had (ap Err e)

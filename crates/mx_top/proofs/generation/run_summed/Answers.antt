@@ -8,6 +8,7 @@ use Rattle.mx_top.specs.Product.{summed, generator_steps}
 use Rattle.mx_top.proofs.MachineRuns.{list-goes}
 use Rattle.mx_top.specs.ProductPlan.{summed_run, summed_plan}
 use Rattle.mx_top.proofs.MachinePlans.{run-follows}
+use Rattle.mx_plan.proofs.Standing.{only-behind, stands-kept}
 use Rattle.mx_top.proofs.generation.run_summed.Goals as goal
 
 pub returns-clause-listed : goal.returns-clause-listed
@@ -29,3 +30,6 @@ returns-clause-plan g c = λ t.
     run-follows generator_steps _ (state_of c.args.machine) (state_of c.go-end.new.self.machine) _ _ _ c.go-end.result c.outcome_of.result c.sum_up.result
     (summed_plan c.args.blocks c.args.size) c.new-runner.ensures.flags c.outcome_of.ensures.value (rw c.new-runner.ensures.machine at (c.go-end.ensures.plan t))
     (λ e. let none = c.sum_up.ensures.memory e in (none.0, ap (λ h. contents (g.H.Host.told h)) none.1)) (λ ne. rw c.machine.ensures at (c.sum_up.ensures.plan ne there))
+
+pub returns-clause-rose : goal.returns-clause-rose
+returns-clause-rose g c = only-behind _ _ _ _ _ _ _ (stands-kept _ _ _ _ c.go-end.ensures.keeps) c.sum_up.ensures.rose

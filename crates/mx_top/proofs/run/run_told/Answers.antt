@@ -12,6 +12,7 @@ use Rattle.mx_top.proofs.MachineRuns.{list-goes}
 use Rattle.mx_top.proofs.Heard.{run-told}
 use Rattle.mx_top.specs.ProductPlan.{watched_plan, dumped_plan}
 use Rattle.mx_top.proofs.MachinePlans.{watched-follows}
+use Rattle.mx_plan.proofs.Standing.{only-behind, stands-kept}
 use Rattle.mx_top.proofs.run.run_told.Goals as goal
 
 pub returns-clause-listed : goal.returns-clause-listed
@@ -42,3 +43,6 @@ returns-clause-plan g c = λ t.
     watched-follows c.args.order.now.steps (state_of c.args.machine) (state_of c.watched_run-end.new.machine) _ _ _ c.watched_run-end.result c.outcome_of.result c.tell_end.result
     (dumped_plan c.args.order.now.dump) c.outcome_of.ensures.value (c.watched_run-end.ensures.plan t)
     (λ e. let none = c.tell_end.ensures.memory e in (none.0, ap (λ h. contents (g.H.Host.told h)) none.1)) (λ ne. c.tell_end.ensures.plan ne there)
+
+pub returns-clause-rose : goal.returns-clause-rose
+returns-clause-rose g c = only-behind _ _ _ _ _ _ _ (stands-kept _ _ _ _ c.watched_run-end.ensures.keeps) c.tell_end.ensures.rose

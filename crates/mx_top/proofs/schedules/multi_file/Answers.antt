@@ -1,4 +1,5 @@
 use Rattle.mx_top.proofs.WorkParts.{schedule-turns, schedule-unread}
+use Rattle.mx_plan.proofs.Standing.{only-behind, stands-kept}
 use Rattle.mx_top.proofs.schedules.multi_file.Goals as goal
 
 pub returns-in-Ok-clause-plan : goal.returns-in-Ok-clause-plan
@@ -6,3 +7,6 @@ returns-in-Ok-clause-plan g c = schedule-turns _ _ _ _ _ _ _ _ _ c.in-Ok.ensures
 
 pub returns-in-Err-clause-plan : goal.returns-in-Err-clause-plan
 returns-in-Err-clause-plan g c = schedule-unread _ _ _ _ _ _ c.in-Err.ensures.works.told
+
+pub returns-in-Ok-clause-rose : goal.returns-in-Ok-clause-rose
+returns-in-Ok-clause-rose g c = only-behind _ _ _ _ _ _ _ (stands-kept _ _ _ _ c.in-Ok.ensures.keeps) c.object_file.ensures.rose

@@ -7,6 +7,7 @@ use Rattle.mx_top.specs.ProductPlan.{joint_plan, telling}
 use Rattle.mx_top.specs.Processors.{multi_lines, multi_outcome}
 use Rattle.mx_top.proofs.MachinePlans.{turns-follow}
 use Rattle.mx_top.proofs.TurnsTold.{lists-told}
+use Rattle.mx_plan.proofs.Standing.{only-behind, stands-kept}
 use Rattle.mx_top.proofs.schedules.run_started.Goals as goal
 
 pub returns-clause-listed : goal.returns-clause-listed
@@ -25,3 +26,6 @@ returns-clause-plan g c = λ t.
     turns-follow c.args.order.now.steps c.args.schedule.now _ _ _ _ _ c.run_turns-end.result c.tell_turns.result
     (λ x. telling (multi_outcome c.args.order.now.steps x.0) (multi_lines c.args.order.now.dump x.0 x.1)) (c.run_turns-end.ensures.plan t)
     (λ e. let none = c.tell_turns.ensures.memory e in (none.0, ap (λ h. contents (g.H.Host.told h)) none.1)) (λ ne. c.tell_turns.ensures.plan ne there)
+
+pub returns-clause-rose : goal.returns-clause-rose
+returns-clause-rose g c = only-behind _ _ _ _ _ _ _ (stands-kept _ _ _ _ c.run_turns-end.ensures.keeps) c.tell_turns.ensures.rose

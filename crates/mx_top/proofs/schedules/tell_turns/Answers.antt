@@ -1,10 +1,11 @@
-use Rattle.std.proofs.Common.{refl, sym, ◌∙◌}
+use Rattle.std.proofs.Common.{Err, refl, sym, ◌∙◌, ap}
 use Rattle.mx_host.specs.HostModel.{contents}
 use Rattle.mx_multi.specs.Joint.{joint_of}
 use Rattle.mx_top.specs.Processors.{multi_outcome, multi_lines}
 use Rattle.mx_files.proofs.FileClauses.{part-keeps}
 use Rattle.mx_top.proofs.Dumped.{written-plan, written-answer}
 use Rattle.mx_top.proofs.TurnsTold.{told-listed, turned-well}
+use Rattle.mx_files.proofs.Serving.{only-lines}
 use Rattle.mx_top.proofs.schedules.tell_turns.Goals as goal
 
 pub returns-in-Ok-clause-plan : goal.returns-in-Ok-clause-plan
@@ -28,3 +29,6 @@ returns-in-Err-clause-list g c = λ t ne.
 
 pub returns-in-Err-clause-keeps : goal.returns-in-Err-clause-keeps
 returns-in-Err-clause-keeps g c = part-keeps _ _ _ _ _ _ c.in-Err.ensures
+
+pub returns-in-Err-clause-rose : goal.returns-in-Err-clause-rose
+returns-in-Err-clause-rose g c = λ had e. only-lines _ _ _ _ _ _ c.in-Err.ensures had (ap Err e)

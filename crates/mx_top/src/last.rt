@@ -1,0 +1,165 @@
+//! The last steps of a run, taken back.
+
+ghost use Rattle.std.specs.Prelude.{◌≡◌, ◌≢◌, ◌≤◌, ◌∷◌, [], false, IfOk, length, min, take};
+ghost use Rattle.mx_back.specs.History.{AreNotesOf, states_before};
+ghost use Rattle.mx_back.specs.KeptLists.{AreUntouched, as_lists};
+ghost use Rattle.mx_core.specs.Bounds.{as_list_state};
+ghost use Rattle.mx_core.specs.Kept.{state_of};
+ghost use Rattle.mx_files.specs.Answers.{AnswersAs, AnswersAsList, is_usage};
+ghost use Rattle.mx_files.specs.Clauses.{Works};
+ghost use Rattle.mx_files.specs.FilePlans.{lines_plan};
+ghost use Rattle.mx_host.specs.Keeping.{ComesByFault, Keeps, OnlyByFailure};
+ghost use Rattle.mx_plan.specs.Clauses.{CarriesOut};
+ghost use Rattle.mx_run.specs.WildRuns.{list_machine};
+ghost use Rattle.mx_top.specs.ProductPlan as plans;
+ghost use Rattle.mx_top.specs.Runs as spec;
+ghost use Rattle.mx_top.specs.WorkClauses.{CarriesOutWork};
+
+use crate::ending::tell_end;
+use crate::run::outcome_of;
+use mx_back::{Back, BackFault, run_kept};
+use mx_con::state_line;
+use mx_core::Machine;
+use mx_files::{Outcome, write_line};
+use mx_host::Host;
+use mx_words::Order;
+use std::alloc::Global;
+
+/// Whether steps are taken back: where the machine stopped, or all its steps were made.
+fn takes_back(outcome: Outcome) -> bool
+    ensures { result ≡ spec.takes_back outcome }
+{
+    match outcome {
+        Outcome::Stopped { .. } => true,
+        Outcome::StepsSpent { .. } => true,
+        _ => false,
+    }
+}
+
+/// How many steps are taken back, where so many are wanted and so many are kept.
+fn least(wanted: u64, kept: usize) -> usize
+    ensures { result ≡ min wanted kept }
+{
+    if wanted < kept as u64 {
+        return wanted as usize;
+    }
+    kept
+}
+
+/// Takes a step back, of which one is kept.
+fn step_back(machine: &mut Machine, back: &mut Back)
+    requires some { 1 ≤ length back.old }
+    requires noted { AreNotesOf back.old (state_of machine.old) }
+    ensures first { states_before back.old (state_of machine.old)
+        ≡ state_of machine.new ∷ states_before back.new (state_of machine.new) }
+    ensures fits { AreNotesOf back.new (state_of machine.new) }
+{
+    match back.back(machine) {
+        Ok(()) => {}
+        Err(BackFault::NothingKept) => {}
+    }
+}
+
+/// Writes the line of a machine's state.
+fn put_state<H: Host>(alloc: Global, host: &mut H, machine: &Machine) -> Result<(), Outcome>
+    ensures { Works (H.told host.old) (H.told host.new) (H.faults host.old) (H.faults host.new) result
+        (lines_plan (spec.state_lines (state_of machine.now ∷ []))) }
+{
+    match state_line(alloc, machine) {
+        Ok(line) => write_line(host, line.as_slice()),
+        Err(_) => Err(Outcome::OutOfMemory),
+    }
+}
+
+/// Takes so many steps back, of which that many are kept, and writes the line of each state that comes back.
+fn put_states<H: Host>(
+    alloc: Global,
+    host: &mut H,
+    machine: &mut Machine,
+    back: &mut Back,
+    count: usize,
+) -> Result<(), Outcome>
+    requires few { count ≤ length back.old }
+    requires noted { AreNotesOf back.old (state_of machine.old) }
+    ensures written { Works (H.told host.old) (H.told host.new) (H.faults host.old) (H.faults host.new) result
+        (lines_plan (spec.state_lines (take count (states_before back.old (state_of machine.old))))) }
+    ensures reached { IfOk result (λ done. state_of machine.new
+        ≡ spec.reached (state_of machine.old) (take count (states_before back.old (state_of machine.old)))) }
+{
+    for _taken in 0..count {
+        step_back(machine, back);
+        match put_state(alloc, host, machine) {
+            Ok(()) => {}
+            Err(outcome) => return Err(outcome),
+        }
+    }
+    Ok(())
+}
+
+/// What follows a run whose last steps are kept: at most so many of them are taken back, and then the dump, where it is
+/// asked for.
+fn tell_back<H: Host>(
+    alloc: Global,
+    host: &mut H,
+    order: &Order,
+    machine: &mut Machine,
+    back: &mut Back,
+    outcome: Outcome,
+) -> Outcome
+    requires noted { AreNotesOf back.old (state_of machine.old) }
+    requires well { outcome ≢ Outcome.HostFault }
+    requires present { outcome ≢ Outcome.NoFile }
+    requires words { is_usage outcome ≡ false }
+    ensures memory { outcome ≡ Outcome.OutOfMemory → (result ≡ Outcome.OutOfMemory) × (host.new ≡ host.old) }
+    ensures plan { outcome ≢ Outcome.OutOfMemory →
+        CarriesOut (H.told host.old) (H.told host.new) Outcome.OutOfMemory result
+        (plans.back_plan order.now.dump outcome (take order.now.last (states_before back.old (state_of machine.old)))
+        (state_of machine.old)) }
+    ensures list { (state_of machine.old).touched ≡ false →
+        AreUntouched (states_before back.old (state_of machine.old)) →
+        AnswersAs (H.told host.old) (H.told host.new) result (λ m. spec.dumped order.now.dump
+        (spec.taken_back (take order.now.last (as_lists (states_before back.old (state_of machine.old))))
+        (spec.ran outcome (as_list_state (state_of machine.old)) m))) }
+    ensures rose { OnlyByFailure (H.told host.old) Outcome.HostFault result (H.faults host.old) (H.faults host.new) }
+    ensures no_file { ComesByFault (H.told host.old) Outcome.NoFile result (H.faults host.old) (H.faults host.new) }
+    ensures words { is_usage result ≡ false }
+    ensures keeps { Keeps (H.told host.old) (H.told host.new) (H.faults host.old) (H.faults host.new) }
+{
+    if !takes_back(outcome) {
+        return tell_end(alloc, host, order.dump, machine, outcome);
+    }
+    let count = least(order.last, back.kept());
+    match put_states(alloc, host, machine, back, count) {
+        Ok(()) => tell_end(alloc, host, order.dump, machine, outcome),
+        Err(other) => other,
+    }
+}
+
+/// Makes the steps of a machine that was started, in one run whose last steps are kept, and takes some of them back.
+pub fn run_back<H: Host>(alloc: Global, host: &mut H, order: &Order, machine: Machine) -> Outcome
+    requires { (state_of machine).touched ≡ false }
+    ensures plan { CarriesOutWork (H.told host.old) (H.told host.new) result
+        (plans.kept_plan order.now (state_of machine)) }
+    ensures listed { AnswersAsList (H.told host.old) (H.told host.new) result
+        (λ m. spec.dumped order.now.dump (spec.run_back list_machine order.now.last order.now.steps
+        (as_list_state (state_of machine)) m)) }
+    ensures rose { OnlyByFailure (H.told host.old) Outcome.HostFault result (H.faults host.old) (H.faults host.new) }
+    ensures no_file { ComesByFault (H.told host.old) Outcome.NoFile result (H.faults host.old) (H.faults host.new) }
+    ensures words { is_usage result ≡ false }
+    ensures keeps { Keeps (H.told host.old) (H.told host.new) (H.faults host.old) (H.faults host.new) }
+{
+    let mut machine = machine;
+    let mut back = match Back::new(alloc) {
+        Ok(back) => back,
+        Err(_) => return Outcome::OutOfMemory,
+    };
+    let end = run_kept(alloc, &mut machine, host, order.steps, &mut back);
+    tell_back(
+        alloc,
+        host,
+        order,
+        &mut machine,
+        &mut back,
+        outcome_of(order.steps, end),
+    )
+}
