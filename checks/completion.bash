@@ -5,6 +5,7 @@ room=$(mktemp -d) || exit 1
 trap 'rm -rf "$room"' EXIT
 cd "$room" && mkdir programs && touch a.mms 'b c.mms' d.mmo notes || exit 1
 . "$here/completion/mmixware.bash"
+. "$here/completion/mmixview.bash"
 bad=0
 
 # offers WANTED WORDS...: what the last one of the words can become, in order
@@ -13,7 +14,7 @@ offers() {
   shift
   COMP_WORDS=("$@")
   COMP_CWORD=$(($# - 1))
-  _mmixware
+  "_$1"
   got=$(printf '%s\n' "${COMPREPLY[@]}" | LC_ALL=C sort | paste -sd '|')
   if [ "$got" != "$wanted" ]; then
     printf 'checks/completion.bash: %s\noffers %s\nand has to offer %s\n' "$*" "$got" "$wanted" >&2
@@ -25,7 +26,7 @@ offers '--help|--version|asm|gen|multi|run|sim|type' mmixware ''
 offers run mmixware r
 offers 'a.mms|b c.mms|programs' mmixware run ''
 offers 'b c.mms' mmixware run b
-offers '--dump|--report|--ring|--steps|-i' mmixware run -
+offers '--dump|--last|--report|--ring|--steps|-i' mmixware run -
 offers '1024|16384' mmixware sim --ring 1
 offers a.mms mmixware run --ring 256 --steps 9 -i a
 offers 'a.mms|b c.mms|d.mmo|notes|programs' mmixware run a.mms ''
@@ -43,5 +44,21 @@ offers 'a.mms|b c.mms|d.mmo|notes|programs' mmixware multi ''
 offers 'd.mmo|programs' mmixware multi --dump notes ''
 offers '' mmixware multi notes d.mmo ''
 offers '' mmixware run --steps ''
+offers '' mmixware sim --last ''
+offers a.mms mmixware run --last 5 a
 offers '' mmixware other ''
+
+offers '--help|--version|check|count|help|list|where' mmixview ''
+offers 'check|count' mmixview c
+offers 'a.mms|b c.mms|programs' mmixview list ''
+offers '' mmixview list a.mms ''
+offers a.mms mmixview check a
+offers '' mmixview where ''
+offers 'a.mms|b c.mms|programs' mmixview where '#100' ''
+offers '--ring|--steps' mmixview count -
+offers '1024|16384' mmixview count --ring 1
+offers '' mmixview count --steps ''
+offers a.mms mmixview count --ring 256 --steps 9 a
+offers 'a.mms|b c.mms|d.mmo|notes|programs' mmixview count a.mms ''
+offers 'check|count|list|where' mmixview help ''
 exit $bad

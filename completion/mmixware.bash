@@ -15,7 +15,7 @@ _mmixware_given() {
   local at=2 given=0
   while [ "$at" -lt "$COMP_CWORD" ]; do
     case $given/${COMP_WORDS[at]} in
-      0/--ring | 0/--steps) at=$((at + 1)) ;;
+      0/--ring | 0/--steps | 0/--last) at=$((at + 1)) ;;
       0/-*) ;;
       *) given=$((given + 1)) ;;
     esac
@@ -31,9 +31,9 @@ _mmixware() {
   case $COMP_CWORD/$command/$given/$before in
     1/*) words='run sim asm gen type multi --help --version' ;;
     */run/0/--ring | */sim/0/--ring | */gen/0/--ring | */multi/0/--ring) words='256 512 1024 2048 4096 8192 16384 32768 65536' ;;
-    */run/0/--steps | */sim/0/--steps | */multi/0/--steps) ;;
-    */run/0/*) words='--ring --steps -i --dump --report' files=.mms ;;
-    */sim/0/*) words='--ring --steps -i --dump --report' files=.mmo ;;
+    */run/0/--steps | */sim/0/--steps | */multi/0/--steps | */run/0/--last | */sim/0/--last) ;;
+    */run/0/*) words='--ring --steps -i --dump --report --last' files=.mms ;;
+    */sim/0/*) words='--ring --steps -i --dump --report --last' files=.mmo ;;
     */run/* | */sim/*) files='' ;;
     */asm/0/*) files=.mms ;;
     */asm/1/*) files=.mmo ;;

@@ -1,8 +1,10 @@
-//! Views of a source: its listing, its faults, and the lines of an address.
+//! Views of a source: its listing, its faults, the lines of an address, and how often each line runs.
 #![tactic(auto)]
 
+mod counting;
 mod words;
 
+use crate::counting::{count, is_count};
 use crate::words::command;
 use clap::error::ErrorKind;
 use clap::{ArgMatches, Error};
@@ -21,7 +23,7 @@ const FAULTY_WORDS: u8 = 64;
 
 const REFUSED: u8 = 65;
 
-const OUT_OF_MEMORY: u8 = 71;
+pub(crate) const OUT_OF_MEMORY: u8 = 71;
 
 /// The slot of standard error.
 const ERRORS: u16 = 260;
@@ -60,7 +62,7 @@ fn show(
 }
 
 /// Tells an outcome on standard error, and gives its status.
-fn told(alloc: Global, host: &mut RealHost, outcome: Outcome) -> u8 {
+pub(crate) fn told(alloc: Global, host: &mut RealHost, outcome: Outcome) -> u8 {
     if let Ok(text) = message(alloc, outcome) {
         let _ = host.write_slot(ERRORS, text.as_slice());
     }
@@ -123,6 +125,9 @@ fn main(rt: HostRuntime) -> ExitCode {
     let Ok(all) = args.collect::<Vec<String>>(alloc) else {
         return ExitCode::from(OUT_OF_MEMORY);
     };
+    if is_count(all.as_slice()) {
+        return ExitCode::from(count(rt, alloc, all.as_slice()));
+    }
     let Ok(command) = command(alloc) else {
         return ExitCode::from(OUT_OF_MEMORY);
     };

@@ -31,6 +31,30 @@ fn where_command<'a>(alloc: Global) -> Result<Command<'a>, Error> {
     Ok(command.arg(address)?.arg(source(alloc))?)
 }
 
+/// The command that runs a source and counts. What stands behind it is read as `mmixware run` reads it: this tells the
+/// words alone.
+fn count_command<'a>(alloc: Global) -> Result<Command<'a>, Error> {
+    let ring = Arg::new(alloc, "R").long("ring").help(
+        "the ring has R registers, a power of two from 256 to 65536",
+    );
+    let steps = Arg::new(alloc, "N")
+        .long("steps")
+        .help("at most N steps are made, 1 to 1000000000000");
+    let arguments = Arg::new(alloc, "ARG")
+        .num_args(0..)
+        .help("what the program is handed");
+    let command = Command::new(alloc, "count").about(
+        "runs a source, and tells how often each line was carried out and what that costs",
+    );
+    Ok(
+        command
+            .arg(ring)?
+            .arg(steps)?
+            .arg(source(alloc))?
+            .arg(arguments)?,
+    )
+}
+
 /// The words that the program takes.
 pub fn command<'a>(alloc: Global) -> Result<Command<'a>, Error> {
     let list = on_source(
@@ -45,10 +69,11 @@ pub fn command<'a>(alloc: Global) -> Result<Command<'a>, Error> {
     )?;
     let command = Command::new(alloc, "mmixview")
         .version("0.3.0")
-        .about("Views of a source in MMIXAL.")
+        .about("Views of a source in MMIXAL, and of a run of it.")
         .subcommand_required(true)
         .subcommand(list)?
         .subcommand(check)?
-        .subcommand(where_command(alloc)?)?;
+        .subcommand(where_command(alloc)?)?
+        .subcommand(count_command(alloc)?)?;
     Ok(command)
 }

@@ -6,3 +6,4 @@ pub mod FaultTurns
 pub mod EveryCell
 pub mod WorkedRows
 pub mod TwoPassViews
+pub mod LineLoads

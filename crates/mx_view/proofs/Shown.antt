@@ -33,10 +33,10 @@ pub added-is : (before : List Line) (line : Line) (a : Standing) → HasTaken be
 added-is before line a h =
     ap (drop (length (lines_items before))) (grown before line a h) ∙ drop_at (lines_items before) (items_at a line) _ refl
 
-lambda-is : (before : List Line) (line : Line) (a : Standing) → HasTaken before a → lambda_of (lines_items (before ++ line ∷ [])) ≡ lambda_behind (lambda_of (lines_items before)) (items_at a line)
+pub lambda-is : (before : List Line) (line : Line) (a : Standing) → HasTaken before a → lambda_of (lines_items (before ++ line ∷ [])) ≡ lambda_behind (lambda_of (lines_items before)) (items_at a line)
 lambda-is before line a h = ap lambda_of (grown before line a h) ∙ lambda-append 0 (lines_items before) (items_at a line)
 
-cells-are : (w : Wanted) (before : List Line) (line : Line) (a : Standing) → HasTaken before a → line_cells w before line ≡ cells_of w (lambda_of (lines_items before)) (items_at a line)
+pub cells-are : (w : Wanted) (before : List Line) (line : Line) (a : Standing) → HasTaken before a → line_cells w before line ≡ cells_of w (lambda_of (lines_items before)) (items_at a line)
 cells-are w before line a h = ap (cells_of w (lambda_of (lines_items before))) (added-is before line a h)
 
 -- where no line before it is refused, and where one is

@@ -3,3 +3,4 @@ pub mod Rows
 pub mod Listing
 pub mod InTurn
 pub mod Refusals
+pub mod Loads

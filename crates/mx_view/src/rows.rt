@@ -52,7 +52,12 @@ fn add_padded(alloc: Global, text: &mut Bytes, number: u32) -> Result<(), NoMemo
 }
 
 /// Adds the number and the text of a line.
-fn add_numbered(alloc: Global, text: &mut Bytes, number: u32, line: &[u8]) -> Result<(), NoMemory>
+pub fn add_numbered(
+    alloc: Global,
+    text: &mut Bytes,
+    number: u32,
+    line: &[u8],
+) -> Result<(), NoMemory>
     ensures { OnOk result (text.new ≡ text.old ++ spec.numbered number line.now) }
 {
     add_padded(alloc, text, number)?;

@@ -1,0 +1,9 @@
+pub mod TallyLaws
+pub mod KeptTallies
+pub mod Summing
+pub mod SheetRows
+pub mod ToldCounts
+pub mod Alone
+pub mod CountedRuns
+pub mod ArgumentWords
+pub mod TraceCounts

@@ -1,0 +1,6 @@
+pub mod Costs
+pub mod Tallies
+pub mod Sheets
+pub mod Counting
+pub mod InTurn
+pub mod Runs

@@ -1,0 +1,113 @@
+-- What a source comes to that is run and counted: the outcome, the host as it then stands, and the sheet where a machine ran.
+use Rattle.std.specs.Prelude.{ℕ, ◌≡◌, ◌≢◌, ◌-◌, ◌*◌, ◌/◌, ◌||◌, IsTrue, false, if◌then◌else◌, List, [], ◌∷◌, length, take, drop, codes, Option, None, Some, Result, Ok, Err, slice_get, unwrap_or}
+use Rattle.std.specs.Str.{bytes_eq}
+use Rattle.mx_host.specs.HostModel.{HostModel, tells, contents}
+use Rattle.mx_host.specs.HostAnswer.{Then}
+use Rattle.mx_mmo.specs.Image.{Image}
+use Rattle.mx_ring.specs.Stack.{windowed}
+use Rattle.mx_ring.specs.Window.{window_at_start}
+use Rattle.mx_core.specs.Start.{start}
+use Rattle.mx_core.specs.State.{State}
+use Rattle.mx_run.specs.Runs.{Ended, ended, no_flags, run}
+use Rattle.mx_run.specs.WildRuns.{window_machine}
+use Rattle.mx_run.specs.declared.end.End.{End}
+use Rattle.mx_run.specs.declared.end.End.TheVariants as ending
+use Rattle.mx_watch.specs.Traces.{traces}
+use Rattle.mx_watch.specs.Watching.{Watching}
+use Rattle.mx_words.specs.declared.order.Order.{Order}
+use Rattle.mx_word.specs.declared.no_memory.NoMemory.{NoMemory}
+use Rattle.mx_files.specs.Assembling.{refused_with}
+use Rattle.mx_files.specs.Source.{file_bytes, source_pieces}
+use Rattle.mx_files.specs.Sources.{source_meaning}
+use Rattle.mx_files.specs.declared.refusal.Refusal.{Refusal}
+use Rattle.mx_files.specs.declared.outcome.Outcome.{Outcome}
+use Rattle.mx_files.specs.declared.outcome.Outcome.TheVariants.{Done, Stopped, StepsSpent, OutOfMemory}
+use Rattle.mx_count.specs.Sheets.{sheet_of}
+use Rattle.mx_count.specs.declared.count.Counted.{Counted}
+
+-- ---- a machine: as the program runs it
+
+-- the outcome of a run of at most so many steps; without flags a run does not break
+abbrev pub outcome_of : ℕ → End → Outcome
+outcome_of steps (ending.Halted status) = Done status
+outcome_of steps (ending.Stopped pc reason) = Stopped pc reason
+outcome_of steps (ending.Broke kind at traced) = OutOfMemory
+outcome_of steps (ending.Traced trace) = OutOfMemory
+outcome_of steps ending.Spent = StepsSpent steps
+outcome_of steps ending.OutOfMemory = OutOfMemory
+
+-- a machine that starts with its program at this address, or the stop of one whose pages are full
+abbrev pub pages_full : ℕ
+pages_full = 118
+
+abbrev pub begun_at : ℕ → Option State → Result State Outcome
+begun_at pc None = Err (Stopped pc pages_full)
+begun_at pc (Some s) = Ok s
+
+abbrev pub started : ℕ → Image → List (List ℕ) → Result State Outcome
+started ring image arguments = begun_at (image.global 255 / 4 * 4) (start image arguments (windowed (window_at_start ring)))
+
+-- ---- what is counted
+
+-- an outcome without a sheet
+abbrev pub uncounted : Outcome → HostModel → Then Counted
+uncounted outcome m = (record { outcome = outcome; sheet = None }, m)
+
+-- the sheet has the traces of the run
+abbrev pub counted_as : ℕ → List ℕ → Ended → Then Counted
+counted_as steps sheet e = (record { outcome = outcome_of steps e.end; sheet = Some sheet }, e.host)
+
+abbrev pub machine_counted : ℕ → List ℕ → State → HostModel → Then Counted
+machine_counted steps source s m = counted_as steps (sheet_of source (traces window_machine steps s m)) (run steps no_flags false s m)
+
+abbrev pub start_counted : ℕ → List ℕ → Result State Outcome → HostModel → Then Counted
+start_counted steps source (Err outcome) m = uncounted outcome m
+start_counted steps source (Ok s) m = machine_counted steps source s m
+
+-- a source is refused, or its image is run
+abbrev pub meaning_counted : Order → List (List ℕ) → List ℕ → Result Image Refusal → HostModel → Then Counted
+meaning_counted o arguments source (Err refusal) m = uncounted (refused_with refusal) m
+meaning_counted o arguments source (Ok image) m = start_counted o.steps source (started o.ring image arguments) m
+
+abbrev pub source_counted : Order → List (List ℕ) → Then (Result (List ℕ) Outcome) → Then Counted
+source_counted o arguments (Err outcome, m) = uncounted outcome m
+source_counted o arguments (Ok source, m) = meaning_counted o arguments source (source_meaning source) m
+
+-- the source in the file of this name is run and counted, with the ring and the steps of an order
+abbrev pub file_counted : Order → List ℕ → List (List ℕ) → HostModel → Then Counted
+file_counted o name arguments m = source_counted o arguments (file_bytes source_pieces name m)
+
+-- ---- the words of clauses: `old` and `new` are what the host told before and after
+
+-- over a host that tells its contents, what is counted and what the host then holds are those of f, unless out of memory
+abbrev pub CountsAs : Option HostModel → Option HostModel → Counted → (HostModel → Then Counted) → Type 0
+CountsAs old new result f = IsTrue (tells old) → result.outcome ≢ OutOfMemory → (result, contents new) ≡ f (contents old)
+
+-- over a host that tells its contents, a run of at most n steps ends so, and a watcher has this report on its traces
+abbrev pub EndsReported : Option HostModel → Option HostModel → State → State → ℕ → Watching → Result (End × List ℕ) NoMemory → Type 0
+EndsReported old new before after n w (Err e) = Unit {0}
+EndsReported old new before after n w (Ok (end, text)) =
+    IsTrue (tells old) → (ended end after (contents new) ≡ run n no_flags false before (contents old))
+    × (text ≡ w.text (traces window_machine n before (contents old)))
+
+-- ---- the arguments, from the words of the command line
+
+abbrev pub Word : Type 0
+Word = List ℕ
+
+-- the word at a place
+abbrev pub word_at : List Word → ℕ → Word
+word_at words place = unwrap_or (slice_get words place) []
+
+-- the last four bytes of a word
+abbrev pub suffix : Word → List ℕ
+suffix word = drop (length word - 4) word
+
+-- argument 0: the word that names the file, without a last `.mms` or `.mmo`
+abbrev pub program_name : Word → Word
+program_name word =
+    if bytes_eq (suffix word) (codes ".mms") || bytes_eq (suffix word) (codes ".mmo") then take (length word - 4) word else word
+
+-- argument 0, and the words behind the file
+abbrev pub arguments : List Word → Order → List Word
+arguments words o = program_name (word_at words o.file) ∷ drop o.rest words

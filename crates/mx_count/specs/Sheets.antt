@@ -1,0 +1,77 @@
+-- The sheet of a run: each line of the source with what is counted of the steps at the tetras that it loads, then the sum of all
+-- steps. The form of the rows is this program's own.
+use Rattle.std.specs.Prelude.{ℕ, ◌+◌, ◌-◌, ◌==◌, ◌||◌, Bool, true, false, if◌then◌else◌, List, [], ◌∷◌, ◌++◌, length, take, drop, codes, decimal}
+use Rattle.mx_core.specs.declared.trace.Trace.{Trace}
+use Rattle.mx_line.specs.Lines.{lines_of}
+use Rattle.mx_view.specs.Loads.{loads_of}
+use Rattle.mx_view.specs.Rows.{numbered}
+use Rattle.mx_view.specs.declared.cells.Cell.{Cell}
+use Rattle.mx_count.specs.Tallies.{tally_in}
+use Rattle.mx_count.specs.declared.tally.Tally.{Tally}
+
+-- what is counted of a run: the tally of the steps whose address passes a test
+abbrev pub Counts : Type 0
+Counts = (ℕ → Bool) → Tally
+
+-- whether an address is that of one of these tetras
+unfoldable pub is_among : List Cell → ℕ → Bool
+is_among [] a = false
+is_among (c ∷ cells) a = c.address == a || is_among cells a
+
+-- ---- rows
+
+-- a number, filled up with blanks on the left to eleven places
+abbrev pub column : ℕ → List ℕ
+column n = take (11 - length (decimal n)) (codes "           ") ++ decimal n
+
+abbrev pub figures : Tally → List ℕ
+figures y = column y.times ++ column y.away ++ column y.oops ++ column y.mems
+
+-- a line that loads nothing, and one whose tetras were never carried out
+abbrev pub no_figures : List ℕ
+no_figures = codes "                                            "
+
+abbrev pub never : List ℕ
+never = codes "          -                                 "
+
+abbrev pub line_figures : List Cell → Tally → List ℕ
+line_figures [] y = no_figures
+line_figures (c ∷ cells) y = if y.times == 0 then never else figures y
+
+-- the tally of a line, by the tetras that it loads
+abbrev pub LineTally : Type 0
+LineTally = List Cell → Tally
+
+abbrev pub line_tally : Counts → LineTally
+line_tally counts cells = counts (is_among cells)
+
+-- the row of a line with this number, which loads these tetras
+abbrev pub sheet_row : LineTally → ℕ → List ℕ → List Cell → List ℕ
+sheet_row tally number line cells = line_figures cells (tally cells) ++ numbered number line
+
+-- the tetras of the first line, where they are told line by line
+abbrev pub first_load : List (List Cell) → List Cell
+first_load [] = []
+first_load (cells ∷ loads) = cells
+
+-- the rows of lines, which are counted from a number
+unfoldable pub sheet_rows : LineTally → ℕ → List (List ℕ) → List (List Cell) → List ℕ
+sheet_rows tally number [] loads = []
+sheet_rows tally number (line ∷ lines) loads =
+    sheet_row tally number line (first_load loads) ++ sheet_rows tally (number + 1) lines (drop 1 loads)
+
+-- ---- the whole
+
+abbrev pub heading : List ℕ
+heading = codes "\n--------------------------------------------------------\n      times       away       oops       mems\n"
+
+abbrev pub last_row : Tally → List ℕ
+last_row y = figures y ++ codes "  all steps\n"
+
+unfoldable pub sheet_text : List ℕ → List (List Cell) → Counts → List ℕ
+sheet_text source loads counts =
+    heading ++ sheet_rows (line_tally counts) 1 (lines_of source) loads ++ last_row (counts (λ a. true))
+
+-- the sheet of a source and of the traces of a run of it
+abbrev pub sheet_of : List ℕ → List Trace → List ℕ
+sheet_of source h = sheet_text source (loads_of source) (λ test. tally_in test h)

@@ -1,0 +1,20 @@
+//! Counts of a run: how often each line of a source was carried out, and what that costs.
+#![tactic(auto)]
+
+mod costs;
+mod count;
+mod counts;
+mod laws;
+mod sheet;
+mod sums;
+mod table;
+mod tally;
+mod watched;
+mod words;
+
+pub use count::{Counted, count_file};
+pub use counts::Counts;
+pub use laws::{lines_are_sums_over_their_tetras, tallies_count_traces};
+pub use table::Entry;
+pub use tally::Tally;
+pub use words::arguments;

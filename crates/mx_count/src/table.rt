@@ -1,0 +1,199 @@
+//! What is counted at each address.
+
+ghost use Rattle.std.specs.Prelude.{◌≡◌, ◌<◌, ◌++◌, ◌∷◌, [], ℕ, Bool, IfOk, IfSome, IsTrue, OnOk, OnErr, length, slice_index_or, slice_set, if◌then◌else◌};
+ghost use Rattle.mx_count.specs.Counting.{IsAt, kept_tally};
+ghost use Rattle.mx_count.specs.Tallies as tallies;
+
+use crate::tally::{Tally, added, nothing, step_tally};
+use mx_core::Trace;
+use mx_word::NoMemory;
+use std::alloc::Global;
+use std::collections::BTreeMap;
+use std::marker::Model;
+
+/// What is counted of the steps at an address.
+#[derive(Clone, Copy, Debug, PartialEq, Eq)]
+pub struct Entry {
+    pub address: u64,
+    pub tally: Tally,
+}
+
+/// What is counted at each address of a step.
+#[derive(Drop)]
+pub(crate) struct Table {
+    entries: Vec<Entry>,
+    /// The place of the entry of an address.
+    places: BTreeMap<u64, usize>,
+    /// The same for the addresses that came last: a loop does not look them up in the map again.
+    remembered: [usize; 1024],
+}
+
+impl Model for Table {
+    ghost use Rattle.std.specs.Prelude.{List};
+    ghost use Rattle.mx_count.specs.declared.table.Entry.{Entry};
+
+    ghost Value = { List Entry };
+
+    ghost view = { λ t. t.entries.items };
+}
+
+impl Table {
+    /// No steps are counted.
+    pub(crate) fn new(alloc: Global) -> Table
+        ensures { result ≡ [] }
+    {
+        Table {
+            entries: Vec::new(alloc),
+            places: BTreeMap::new(alloc),
+            remembered: [0; 1024],
+        }
+    }
+
+    /// The entries.
+    pub(crate) fn as_slice(&self) -> &[Entry]
+        ensures { result.now ≡ self.now }
+    {
+        self.entries.as_slice()
+    }
+
+    /// Counts a step.
+    ///
+    /// Errors: out of memory; then nothing is counted.
+    #[tactic(auto, using(crate::proofs::KeptTallies::counted))]
+    pub(crate) fn count(&mut self, t: &Trace) -> Result<(), NoMemory>
+        ensures ok { (test : ℕ → Bool) → OnOk result (kept_tally test self.new
+            ≡ tallies.added (kept_tally test self.old) (tallies.tally_if test t.now)) }
+        ensures err { (test : ℕ → Bool) → OnErr result (kept_tally test self.new ≡ kept_tally test self.old) }
+    {
+        let tally = step_tally(t);
+        match find_or_add(
+            &mut self.entries,
+            &mut self.places,
+            &mut self.remembered,
+            t.pc,
+        ) {
+            Ok(place) => add_at(&mut self.entries, place, t.pc, tally),
+            Err(_) => Err(NoMemory),
+        }
+    }
+}
+
+/// Whether the entry of an address stands at a place.
+fn is_at(entries: &Vec<Entry>, place: usize, address: u64) -> bool
+    ensures { IsTrue result → IsAt entries.now.items place address }
+{
+    if place >= entries.len() {
+        return false;
+    }
+    entries[place].address == address
+}
+
+/// Where the place of an address is remembered.
+fn slot_of(address: u64) -> usize
+    ensures { result < 1024 }
+{
+    (address / 4 % 1024) as usize
+}
+
+/// The place of the entry of an address, by the map.
+fn look_up(entries: &Vec<Entry>, places: &BTreeMap<u64, usize>, address: u64) -> Option<usize>
+    ensures { IfSome result (λ place. IsAt entries.now.items place address) }
+{
+    let place = match places.get(&address) {
+        Some(place) => *place,
+        None => return None,
+    };
+    if is_at(entries, place, address) {
+        Some(place)
+    } else {
+        None
+    }
+}
+
+/// Adds an entry for an address, at which nothing is counted yet, and gives its place.
+fn add_entry(
+    entries: &mut Vec<Entry>,
+    places: &mut BTreeMap<u64, usize>,
+    address: u64,
+) -> Result<usize, NoMemory>
+    ensures ok { OnOk result (entries.new.items
+        ≡ entries.old.items ++ record { address = address; tally = tallies.nothing } ∷ []) }
+    ensures place { IfOk result (λ place. place ≡ length entries.old.items) }
+    ensures err { OnErr result (entries.new.items ≡ entries.old.items) }
+{
+    let place = entries.len();
+    let entry = Entry {
+        address,
+        tally: nothing(),
+    };
+    match places.insert(address, place) {
+        Ok(_) => {}
+        Err(_) => return Err(NoMemory),
+    }
+    match entries.push(entry) {
+        Ok(()) => Ok(place),
+        Err(_) => Err(NoMemory),
+    }
+}
+
+/// The place of the entry of an address, which is added where there is none.
+#[tactic(auto, using(crate::proofs::KeptTallies::found))]
+fn find_or_add(
+    entries: &mut Vec<Entry>,
+    places: &mut BTreeMap<u64, usize>,
+    remembered: &mut [usize; 1024],
+    address: u64,
+) -> Result<usize, NoMemory>
+    ensures same { (test : ℕ → Bool) → kept_tally test entries.new.items ≡ kept_tally test entries.old.items }
+    ensures place { IfOk result (λ place. IsAt entries.new.items place address) }
+{
+    let slot = slot_of(address);
+    let guess = remembered[slot];
+    if is_at(entries, guess, address) {
+        return Ok(guess);
+    }
+    match look_up(entries, places, address) {
+        Some(place) => {
+            remembered[slot] = place;
+            Ok(place)
+        }
+        None => add_entry(entries, places, address),
+    }
+}
+
+/// Adds to the tally of the entry of an address.
+#[tactic(auto, using(crate::proofs::KeptTallies::adding))]
+fn add_at(
+    entries: &mut Vec<Entry>,
+    place: usize,
+    address: u64,
+    tally: Tally,
+) -> Result<(), NoMemory>
+    requires { IsAt entries.now.items place address }
+    ensures ok { (test : ℕ → Bool) → OnOk result (kept_tally test entries.new.items ≡ tallies.added
+        (kept_tally test entries.old.items) (if test address then tally else tallies.nothing)) }
+    ensures err { OnErr result (entries.new.items ≡ entries.old.items) }
+{
+    match added(entries[place].tally, tally) {
+        Ok(sum) => {
+            set_at(
+                entries,
+                place,
+                Entry {
+                    address,
+                    tally: sum,
+                },
+            );
+            Ok(())
+        }
+        Err(_) => Err(NoMemory),
+    }
+}
+
+/// Sets the entry at a place.
+fn set_at(entries: &mut Vec<Entry>, place: usize, entry: Entry)
+    requires { place < length entries.now.items }
+    ensures { entries.new.items ≡ slice_set entries.old.items place entry }
+{
+    entries[place] = entry;
+}

@@ -1,0 +1,100 @@
+//! A run of a machine that is told to a watcher which is never full.
+
+ghost use Rattle.std.specs.Prelude.{◌≡◌, ◌≢◌, ◌∷◌, [], ℕ, List, IfOk, false, map};
+ghost use Rattle.mx_core.specs.Kept.{state_of};
+ghost use Rattle.mx_core.specs.declared.trace.Trace.{Trace as Step};
+ghost use Rattle.mx_host.specs.Keeping.{Keeps};
+ghost use Rattle.mx_watch.specs.Watching.{Watching};
+ghost use Rattle.mx_count.specs.Counting.{counting};
+ghost use Rattle.mx_count.specs.Runs.{EndsReported};
+
+use crate::Counts;
+use mx_core::Machine;
+use mx_host::Host;
+use mx_run::End;
+use mx_watch::{Reports, Watcher, watched_run};
+use mx_word::{Bytes, NoMemory};
+use std::alloc::Global;
+
+/// A list of one watcher.
+fn only(alloc: Global, watcher: Box<dyn Watcher>) -> Result<Vec<Box<dyn Watcher>>, NoMemory>
+    ensures { IfOk result (λ watchers. map meaning watchers.items ≡ meaning watcher ∷ []) }
+{
+    let mut watchers = Vec::new(alloc);
+    match watchers.push(watcher) {
+        Ok(()) => Ok(watchers),
+        Err(_) => Err(NoMemory),
+    }
+}
+
+/// The report of a watcher.
+fn report_of(watcher: &Box<dyn Watcher>) -> Result<Bytes, NoMemory>
+    ensures { IfOk result (λ text. text ≡ (meaning watcher.now).text []) }
+{
+    watcher.summary()
+}
+
+/// The report of the only watcher.
+fn only_report(watchers: &Vec<Box<dyn Watcher>>) -> Result<Bytes, NoMemory>
+    ensures { (w : Watching) → map meaning watchers.now.items ≡ w ∷ [] → IfOk result (λ text. text ≡ w.text []) }
+{
+    if watchers.is_empty() {
+        return Err(NoMemory);
+    }
+    report_of(&watchers[0])
+}
+
+/// Whether a run ended for want of memory.
+fn is_lacking(end: End) -> bool
+    ensures { result ≡ false → end ≢ End.OutOfMemory }
+{
+    matches!(end, End::OutOfMemory)
+}
+
+/// Makes at most n steps of a machine that a list of one watcher is told of. The end, and the report.
+fn run_told<H: Host>(
+    alloc: Global,
+    host: &mut H,
+    machine: &mut Machine,
+    n: u64,
+    watchers: Vec<Box<dyn Watcher>>,
+) -> Result<(End, Bytes), NoMemory>
+    ensures told { (w : Watching) → map meaning watchers.items ≡ w ∷ [] → ((h : List Step) → w.full h ≡ false) →
+        EndsReported (H.told host.old) (H.told host.new) (state_of machine.old) (state_of machine.new) n w result }
+    ensures keeps { Keeps (H.told host.old) (H.told host.new) (H.faults host.old) (H.faults host.new) }
+{
+    let mut watchers = watchers;
+    let mut kept = Reports::new(alloc);
+    let end = watched_run(alloc, machine, host, n, &mut watchers, &mut kept);
+    if is_lacking(end) {
+        return Err(NoMemory);
+    }
+    match only_report(&watchers) {
+        Ok(text) => Ok((end, text)),
+        Err(_) => Err(NoMemory),
+    }
+}
+
+/// Makes at most n steps of a machine, and counts them. The end, and the sheet.
+///
+/// Errors: out of memory.
+pub(crate) fn run_counted<H: Host>(
+    alloc: Global,
+    host: &mut H,
+    machine: &mut Machine,
+    n: u64,
+    counts: Counts,
+) -> Result<(End, Bytes), NoMemory>
+    ensures told { EndsReported (H.told host.old) (H.told host.new) (state_of machine.old) (state_of machine.new) n
+        (⟦<Counts as Watcher>⟧.meaning counts) result }
+    ensures keeps { Keeps (H.told host.old) (H.told host.new) (H.faults host.old) (H.faults host.new) }
+{
+    let watcher: Box<dyn Watcher> = match Box::new(alloc, counts) {
+        Ok(watcher) => watcher,
+        Err(_) => return Err(NoMemory),
+    };
+    match only(alloc, watcher) {
+        Ok(watchers) => run_told(alloc, host, machine, n, watchers),
+        Err(_) => Err(NoMemory),
+    }
+}

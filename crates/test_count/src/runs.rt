@@ -1,0 +1,97 @@
+//! Runs that are counted, over the host in memory: what stands on standard output, the outcome, and the sheet.
+
+use mx_count::{Counted, arguments, count_file};
+use mx_files::Outcome;
+use mx_host::MemHost;
+use mx_words::read;
+use std::alloc::Global;
+
+/// The source prints a text and halts: LDA, TRAP and SET have steps, and Halt has none.
+static PRINTS: &str = " LOC Data_Segment
+ GREG @
+Text BYTE \"hi\",#a,0
+ LOC #100
+Main LDA $255,Text
+ TRAP 0,Fputs,StdOut
+ SET $255,3
+ TRAP 0,Halt,0
+";
+
+/// What a source comes to that is run and counted.
+fn counted(alloc: Global, host: &mut MemHost, words: &[&str]) -> Option<Counted> {
+    let mut all = Vec::new(alloc);
+    for word in words {
+        all.push(String::from_str(alloc, word).ok()?).ok()?;
+    }
+    let order = read(all.as_slice()).ok()?;
+    let given = arguments(alloc, all.as_slice(), &order).ok()?;
+    Some(count_file(
+        alloc,
+        host,
+        &order,
+        all[order.file].as_bytes(),
+        given.as_slice(),
+    ))
+}
+
+/// A host with a source.
+fn host(alloc: Global, source: &str) -> Option<MemHost> {
+    let mut host = MemHost::new(alloc, Vec::new(alloc), Vec::new(alloc)).ok()?;
+    host.put_file(b"a.mms", Vec::from_slice(alloc, source.as_bytes()).ok()?)
+        .ok()?;
+    Some(host)
+}
+
+/// The outcome, whether the output is this, and whether the sheet ends so; nothing is due where there is none.
+fn comes_to(
+    alloc: Global,
+    source: &str,
+    words: &[&str],
+    output: &str,
+    last: &str,
+) -> Option<(Outcome, bool, bool)> {
+    let mut host = host(alloc, source)?;
+    let counted = counted(alloc, &mut host, words)?;
+    let ends = match &counted.sheet {
+        Some(sheet) => !last.is_empty() && sheet.as_slice().ends_with(last.as_bytes()),
+        None => last.is_empty(),
+    };
+    Some((counted.outcome, host.output() == output.as_bytes(), ends))
+}
+
+#[test]
+fn a_run_that_halts(rt: HostRuntime) {
+    let last = "          3          0          7          0  all steps\n";
+    let got = comes_to(rt.alloc(), PRINTS, &["run", "a.mms"], "hi\n", last);
+    assert_eq!(rt; got, Some((Outcome::Done(3), true, true)));
+}
+
+#[test]
+fn a_run_whose_steps_are_spent(rt: HostRuntime) {
+    let last = "          1          0          1          0  all steps\n";
+    let got = comes_to(
+        rt.alloc(),
+        PRINTS,
+        &["run", "--steps", "1", "a.mms"],
+        "",
+        last,
+    );
+    assert_eq!(rt; got, Some((Outcome::StepsSpent { steps: 1 }, true, true)));
+}
+
+#[test]
+fn a_refused_source(rt: HostRuntime) {
+    let got = comes_to(rt.alloc(), "x FOO\n", &["run", "a.mms"], "", "");
+    let refused = Outcome::Refused {
+        line: 1,
+        fault: 39,
+        from_line: 0,
+    };
+    assert_eq!(rt; got, Some((refused, true, true)));
+}
+
+#[test]
+fn no_file(rt: HostRuntime) {
+    let got = comes_to(rt.alloc(), PRINTS, &["run", "b.mms"], "", "");
+    assert_eq!(rt; got, Some((Outcome::NoFile, true, true)));
+}

@@ -1,0 +1,100 @@
+//! Sheets of traces made by hand. The sums are worked out by hand.
+
+use mx_core::Trace;
+use mx_count::Counts;
+use mx_watch::Watcher;
+use mx_word::Bytes;
+use std::alloc::Global;
+
+/// A trace: the address and the tetra of its instruction, and the address that follows.
+type Row = (u64, u32, u64);
+
+/// A loop of three turns, a line that is not reached, and two lines in one tetra, which is then carried out.
+static SOURCE: &str = " LOC #100
+Main SETL $0,3
+Loop SUB $0,$0,1
+ PBNZ $0,Loop
+ SWYM 0
+ BYTE #fd; BYTE 0
+ WYDE 0
+";
+
+static TURNS: [Row; 8] = [
+    (0x100, 0xe300_0003, 0x104),
+    (0x104, 0x2500_0001, 0x108),
+    (0x108, 0x5b00_ffff, 0x104),
+    (0x104, 0x2500_0001, 0x108),
+    (0x108, 0x5b00_ffff, 0x104),
+    (0x104, 0x2500_0001, 0x108),
+    (0x108, 0x5b00_ffff, 0x110),
+    (0x110, 0xfd00_0000, 0x114),
+];
+
+static COUNTED: &str = "
+--------------------------------------------------------
+      times       away       oops       mems
+                                                1:  LOC #100
+          1          0          1          0    2: Main SETL $0,3
+          3          0          3          0    3: Loop SUB $0,$0,1
+          3          3          3          0    4:  PBNZ $0,Loop
+          -                                     5:  SWYM 0
+          1          0          1          0    6:  BYTE #fd; BYTE 0
+          1          0          1          0    7:  WYDE 0
+          8          3          8          0  all steps
+";
+
+/// Addresses that no line loads, and many of them, so that the places that are remembered are taken again.
+static FAR: [Row; 4] = [
+    (0x100, 0xe300_0003, 0x1100),
+    (0x1100, 0x8d00_0000, 0x104),
+    (0x1100, 0x8d00_0000, 0x100),
+    (0x100, 0xe300_0003, 0x104),
+];
+
+static FAR_COUNTED: &str = "
+--------------------------------------------------------
+      times       away       oops       mems
+                                                1:  LOC #100
+          2          1          2          0    2: Main SETL $0,3
+          4          3          4          2  all steps
+";
+
+/// The sheet of a source and traces.
+fn sheet_of(alloc: Global, source: &str, rows: &[Row]) -> Option<Bytes> {
+    let mut counts = Counts::new(alloc, source.as_bytes()).ok()?;
+    for row in rows {
+        let trace = Trace {
+            pc: row.0,
+            word: row.1,
+            dest: None,
+            reads: None,
+            writes: None,
+            next: row.2,
+        };
+        counts.tell(&trace).ok()?;
+    }
+    counts.summary().ok()
+}
+
+/// Whether this is the sheet.
+fn is_sheet(sheet: Option<Bytes>, text: &str) -> bool {
+    match sheet {
+        Some(sheet) => sheet.as_slice() == text.as_bytes(),
+        None => false,
+    }
+}
+
+#[test]
+fn lines_have_the_steps_of_their_tetras(rt: HostRuntime) {
+    assert!(rt; is_sheet(sheet_of(rt.alloc(), SOURCE, &TURNS), COUNTED));
+}
+
+#[test]
+fn steps_elsewhere_are_in_the_sum(rt: HostRuntime) {
+    assert!(rt;
+        is_sheet(
+            sheet_of(rt.alloc(), " LOC #100\nMain SETL $0,3\n", &FAR),
+            FAR_COUNTED
+        )
+    );
+}
