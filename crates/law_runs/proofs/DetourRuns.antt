@@ -288,7 +288,7 @@ image-unrefused kind o args image m = by (start image args (stack_at_start kind 
     by None = refl
     by (Some s) = dump-unrefused o.dump (order_ran kind o s m)
         (cond_both o.interactive _ _ IsRanUnrefused (λ _. session-unrefused o.steps _)
-         (λ _. back-unrefused (states_back o.last o.steps s m) (machine_ran kind o.steps s m) (run-unrefused o.steps (run_by kind o.steps no_flags false s m))))
+        (λ _. back-unrefused (states_back o.last o.steps s m) (machine_ran kind o.steps s m) (run-unrefused o.steps (run_by kind o.steps no_flags false s m))))
 
 -- the message changes no outcome
 message-comes : (outcome : Outcome) (text : List ℕ) (m : HostModel) → HasOutcome (message_told outcome text m) outcome
