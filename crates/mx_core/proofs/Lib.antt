@@ -19,10 +19,6 @@ pub mod Foretold
 pub mod Marks
 pub mod StepCounts
 pub mod Spaces
-pub mod Pools
-pub mod Starts
-pub mod StartedMachines
-pub mod StartRegisters
 pub mod SpaceStates
 pub mod WholeSpaces
 pub mod Searches
@@ -48,9 +44,7 @@ pub mod OctaStacks
 pub mod OctaStages
 pub mod OctaEffects
 pub mod OctaSteps
-pub mod Started
 pub mod SavedFrames
-pub mod MemoryAtStart
 pub mod UsualSteps
 mod Walks
 pub mod BareStarts

@@ -1,7 +1,6 @@
 -- Machines over some window that hold octas, as every machine of the code does.
 use Rattle.std.specs.Prelude.{ℕ, ◌<◌, ◌≤◌, ◌^◌, slice_index}
 use Rattle.mx_word.specs.Ranges.{AreOctas}
-use Rattle.mx_mmo.specs.Image.{Image}
 use Rattle.mx_ring.specs.Window.{Window}
 use Rattle.mx_spec.specs.SpecialRegisters.{rA}
 use Rattle.mx_core.specs.Bounds.{IsMachine}
@@ -22,11 +21,3 @@ pub record IsOverWindow (s : State) : Type 0 where
   pub window : Window
   pub machine : IsMachine s window
   pub octas : HoldsOctas s window
-
--- an image that an object can set up: octas, a G from 32 to 255, and no page too many
-pub record IsImage (image : Image) : Type 0 where
-  pub least_global : 32 ≤ image.g
-  pub one_is_global : image.g ≤ 255
-  pub globals : (k : ℕ) → image.global k < 2 ^ 64
-  pub memory : (a : ℕ) → image.memory a < 2 ^ 64
-  pub pages : image.page_count ≤ 65536

@@ -1,23 +1,18 @@
 //! A machine that has no memory of its own, at the start of a program; and the exchange of memory.
 
-ghost use Rattle.std.specs.Prelude.{◌≡◌, ◌≤◌, ◌+◌, [], ◌∷◌, ℕ, IfOk, List, length};
-ghost use Rattle.mx_mmo.specs.Image.{Image};
+ghost use Rattle.std.specs.Prelude.{◌≡◌, ◌≤◌, ◌+◌, [], ◌∷◌, ℕ, IfOk, List, false, length, slice_index};
 ghost use Rattle.mx_ring.specs.RegisterList.{list_at_start};
-ghost use Rattle.mx_ring.specs.Stack.{Stack, listed, windowed};
+ghost use Rattle.mx_ring.specs.Stack.{listed, set_overfills, windowed, with_register};
 ghost use Rattle.mx_ring.specs.Window.{window_at_start};
+ghost use Rattle.mx_spec.specs.SpecialRegisters.{rA};
 ghost use Rattle.mx_core.specs.Bare as spec;
-ghost use Rattle.mx_core.specs.Bare.{bare_registers, globals_of, shared_at_start, shared_in, shared_of, with_shared};
+ghost use Rattle.mx_core.specs.Bare.{bare_registers, shared_in, shared_of, window_with, with_shared};
 ghost use Rattle.mx_core.specs.Bounds.{as_list_state};
 ghost use Rattle.mx_core.specs.Kept.{state_of};
-ghost use Rattle.mx_core.specs.Start.{loaded, pool};
-ghost use Rattle.mx_core.specs.Started.{window_with};
 
 use crate::Machine;
 use crate::bounds::know_bounds;
-use crate::registers::set_surely;
-use crate::start::special_at_start;
 use mx_mem::Memory;
-use mx_mmo::Octas;
 use mx_ring::{Ring, RingSize};
 use mx_word::NoMemory;
 use std::alloc::Global;
@@ -31,7 +26,7 @@ impl Machine {
     pub fn bare(
         alloc: Global,
         g: u8,
-        globals: &Octas,
+        globals: &[u64],
         first: u64,
         second: u64,
         r: RingSize,
@@ -41,10 +36,9 @@ impl Machine {
         ensures { IfOk result (λ m.
             state_of m ≡ spec.bare g globals.now first second (windowed (window_at_start r))) }
     {
-        let values = globals.as_slice();
-        match bare_ring(alloc, g, values, first, second, r) {
+        match bare_ring(alloc, g, globals, first, second, r) {
             Ok(ring) => Ok(Machine {
-                pc: values[255 - usize::from(g)] / 4 * 4,
+                pc: globals[255 - usize::from(g)] / 4 * 4,
                 ring,
                 memory: Memory::new(alloc),
                 special: special_at_start(),
@@ -122,14 +116,37 @@ fn set_pair(ring: &mut Ring, first: u64, second: u64)
     set_surely(ring, 1, second);
 }
 
-/// A machine that starts with arguments, before these stand in the pool, is the one with no memory that has their number in
-/// $0 and the address of their pointers in $1, with the memory of the image. Over the list that the window at the start
-/// stands for, the machine with no memory starts as that list.
+/// A register gets a value, where there is room for it.
+#[inline(always)]
+fn set_surely(ring: &mut Ring, k: u8, x: u64)
+    requires { set_overfills (windowed ring.old) k ≡ false }
+    ensures { windowed ring.new ≡ with_register (windowed ring.old) k x }
+{
+    match ring.set(k, x) {
+        Ok(()) => {}
+        Err(_) => {}
+    }
+}
+
+/// The special registers by their codes: rN, rT, rTT, rK and rV have values.
+#[tactic(auto, unfolding(crate::specs::Bare::special_at_start))]
+fn special_at_start() -> [u64; 32]
+    ensures value { result ≡ spec.special_at_start }
+    ensures status { slice_index result rA ≡ 0 }
+{
+    let mut special = [0; 32];
+    special[9] = 0x0100_0000_0000_0000;
+    special[13] = 0x8000_0005_0000_0000;
+    special[14] = 0x8000_0006_0000_0000;
+    special[15] = u64::MAX;
+    special[18] = 0x369c_2004_0000_0000;
+    special
+}
+
+/// Over the list that the window at the start stands for, the machine with no memory starts as that list.
 #[tactic(auto, using(crate::proofs::BareStarts::starting))]
-pub fn bare_machines_start_as_others()
-    ensures loaded { (image : Image) (count : ℕ) (stack : Stack) → image.g ≤ 255 → loaded image count stack
-        ≡ with_shared (shared_at_start image) (spec.bare image.g (globals_of image) count (pool + 8) stack) }
-    ensures listed { (g first second size : ℕ) (globals : List ℕ)
+pub fn bare_machines_start_as_lists()
+    ensures { (g first second size : ℕ) (globals : List ℕ)
         → spec.bare g globals first second (listed list_at_start)
         ≡ as_list_state (spec.bare g globals first second (windowed (window_at_start size))) }
 {}

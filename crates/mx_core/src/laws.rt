@@ -2,24 +2,20 @@
 //! list that its register stack stands for go the same way: what a program sees does not depend on
 //! what was spilled, as long as nothing looks at rS or at the memory of the register stack.
 
-ghost use Rattle.std.specs.Prelude.{◌≡◌, ◌<◌, ◌≤◌, ◌+◌, ◌*◌, ◌^◌, ◌||◌, ◌==◌, ℕ, false, Ok, List, length};
-ghost use Rattle.std.specs.Option.{option_map};
+ghost use Rattle.std.specs.Prelude.{◌≡◌, ◌<◌, ◌≤◌, ◌^◌, ◌||◌, ◌==◌, ℕ, false, Ok};
 ghost use Rattle.mx_core.specs.Bounds.{IsMachine, as_list_state, as_list_step};
 ghost use Rattle.mx_core.specs.Effects.{specials_saved};
 ghost use Rattle.mx_core.specs.Machines.{IsOverWindow};
 ghost use Rattle.mx_core.specs.Changes.{register_changed, special_changed, octa_changed, at_address};
-ghost use Rattle.mx_core.specs.Start.{pool, pool_octas, start};
 ghost use Rattle.mx_core.specs.State.{State, global_start, special_register, octa};
 ghost use Rattle.mx_core.specs.Step.{went, calls, step};
 ghost use Rattle.mx_core.specs.Traps.{trapped, halted, with_touch};
 ghost use Rattle.mx_core.specs.Wild.{IsQuiet, is_wild};
 ghost use Rattle.mx_core.specs.declared.trace.Trace.{Trace};
-ghost use Rattle.mx_mmo.specs.Image.{Image};
 ghost use Rattle.mx_ring.specs.Laws.{SaveIsUndone};
-ghost use Rattle.mx_ring.specs.RegisterList.{list_at_start};
-ghost use Rattle.mx_ring.specs.Stack.{listed, windowed, visible, register, hidden_count, in_stack_area, stack_address};
+ghost use Rattle.mx_ring.specs.Stack.{visible, register, hidden_count, in_stack_area, stack_address};
 ghost use Rattle.mx_ring.specs.Stack.{save_overfills, saved, frame_top};
-ghost use Rattle.mx_ring.specs.Window.{Window, window_at_start};
+ghost use Rattle.mx_ring.specs.Window.{Window};
 ghost use Rattle.mx_spec.specs.SpecialRegisters.{rS};
 ghost use Rattle.mx_trip.specs.declared.call.TrapCall.{TrapCall};
 ghost use Rattle.mx_word.specs.Results.{map_ok};
@@ -33,15 +29,6 @@ pub fn lists_read_the_same()
         → special_register (as_list_state s) code ≡ special_register s code }
     ensures octa { (s : State) (a : ℕ) → in_stack_area a ≡ false → octa (as_list_state s) a ≡ octa s a }
     ensures hidden { (s : State) → hidden_count (as_list_state s).stack ≡ hidden_count s.stack }
-{}
-
-/// A program starts over the list that the window at the start stands for; its arguments end below the
-/// stack area.
-pub fn starts_go_as_lists()
-    ensures { (image : Image) (arguments : List (List ℕ)) (size : ℕ)
-        → pool + 8 * length (pool_octas arguments) ≤ stack_address 0
-        → start image arguments (listed list_at_start)
-        ≡ option_map as_list_state (start image arguments (windowed (window_at_start size))) }
 {}
 
 /// A step that is not wild, where nothing was touched, has the same answer and the same trace, and

@@ -23,18 +23,14 @@ mod operands;
 mod operation;
 mod part;
 mod perform;
-mod pool;
 mod puts;
 mod reason;
-mod registers;
 mod resume;
 mod search;
 mod sight;
 mod space;
 mod space_laws;
 mod specials;
-mod start;
-mod start_laws;
 mod step;
 mod stop;
 mod store;
@@ -49,21 +45,18 @@ mod usual_was;
 mod values;
 mod works;
 
-pub use bare::bare_machines_start_as_others;
+pub use bare::bare_machines_start_as_lists;
 pub use bounds::machines_keep_the_invariant;
 pub use changes::SetFault;
 pub use laws::{
     changes_go_as_lists, changes_keep_machines, frames_come_back, lists_read_the_same,
-    starts_go_as_lists, steps_go_as_lists, steps_keep_machines, traps_go_as_lists,
-    traps_keep_machines,
+    steps_go_as_lists, steps_keep_machines, traps_go_as_lists, traps_keep_machines,
 };
 pub use machine::Machine;
 pub use noting::{Note, Noted};
 pub use octa_laws::machines_hold_octas;
 pub use reason::Reason;
 pub use space_laws::{contents_tell_the_state, machines_are_whole};
-pub use start::StartFault;
-pub use start_laws::{arguments_stand_in_the_pool, starts_are_machines};
 pub use step::{Advance, Advanced, Step};
 pub use trace::{Touch, Trace};
 pub use undoing::{machines_are_paged, steps_are_taken_back};

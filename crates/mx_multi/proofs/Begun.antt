@@ -3,24 +3,10 @@ use Rattle.std.proofs.Common.{◌≡◌, ◌≤◌, ℕ, zero, suc, ◌+◌, ◌
 use Rattle.std.specs.List.{range_with_len}
 use Rattle.std.proofs.lemmas.List.{map-append, length-map, length-replicate, replicate-append-replicate}
 use Rattle.std.proofs.lemmas.List.FromFn.{map-range_with_len_more, length-map-range_with_len}
-use Rattle.mx_mmo.specs.Image.{Image}
-use Rattle.mx_core.specs.Bare.{globals_of, nothing_shared, shared_of}
+use Rattle.mx_core.specs.Bare.{nothing_shared, shared_of}
 use Rattle.mx_core.specs.Kept.{Kept, state_of}
 use Rattle.mx_core.specs.State.{State}
 use Rattle.mx_multi.specs.Joint.{AllAlone}
-
--- values of a function, from a number on
-pub built-none : (f : ℕ → ℕ) (g k : ℕ) → k ≡ g → [] ≡ map f (range_with_len g (k - g))
-built-none f g k e = let none : k - g ≡ 0 = omega (arith, e) in rw none refl
-
-pub built-more : (f : ℕ → ℕ) (g k x : ℕ) (xs : List ℕ) → xs ≡ map f (range_with_len g (k - g)) → g ≤ k → x ≡ f k → xs ++ x ∷ [] ≡ map f (range_with_len g (k + 1 - g))
-built-more f g k x xs e l v =
-    let next : k + 1 - g ≡ (k - g) + 1 = omega (arith, l) in
-    let last : g + (k - g) ≡ k = omega (arith, l) in
-    ap (λ ys. ys ++ x ∷ []) e ∙ ap (λ y. map f (range_with_len g (k - g)) ++ y ∷ []) v ∙ sym (map-range_with_len_more f g (k - g) k last) ∙ ap (λ n. map f (range_with_len g n)) (sym next)
-
-pub built-all : (f : ℕ → ℕ) (g k : ℕ) (xs : List ℕ) → xs ≡ map f (range_with_len g (k - g)) → 256 ≤ k → k ≤ 256 → xs ≡ map f (range_with_len g (256 - g))
-built-all f g k xs e l m = let all : k ≡ 256 = omega (arith, l, m) in e ∙ ap (λ j. map f (range_with_len g (j - g))) all
 
 -- machines
 pub machines-more : (f : ℕ → State) (n : ℕ) (ks : List Kept) (k : Kept) → map state_of ks ≡ map f (range_with_len 0 n) → state_of k ≡ f n → map state_of (ks ++ k ∷ []) ≡ map f (range_with_len 0 (n + 1))
@@ -32,12 +18,9 @@ machines-more f n ks k e v =
 pub flags-more : (n : ℕ) (bs : List Bool) → bs ≡ replicate n false → bs ++ false ∷ [] ≡ replicate (n + 1) false
 flags-more n bs e = ap (λ xs. xs ++ false ∷ []) e ∙ replicate-append-replicate n 1 false
 
-pub ruleset growing = (built-none, built-more, built-all, machines-more, flags-more)
+pub ruleset growing = (machines-more, flags-more)
 
 -- WHAT HOLDS
-
-pub globals-count : (image : Image) → image.g ≤ 255 → length (globals_of image) + image.g ≡ 256
-globals-count image l = omega (arith, length-map-range_with_len image.global image.g (256 - image.g), l)
 
 alone-from : (f : ℕ → State) (a n : ℕ) → ((k : ℕ) → shared_of (f k) ≡ nothing_shared) → AllAlone (map f (range_with_len a n))
 alone-from f a zero h = tt

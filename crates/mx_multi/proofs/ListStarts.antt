@@ -5,7 +5,8 @@ use Rattle.mx_mmo.specs.Image.{Image}
 use Rattle.mx_ring.specs.RegisterList.{list_at_start}
 use Rattle.mx_ring.specs.Stack.{Stack, listed, windowed}
 use Rattle.mx_ring.specs.Window.{window_at_start}
-use Rattle.mx_core.specs.Bare.{bare, globals_of, shared_at_start}
+use Rattle.mx_core.specs.Bare.{bare}
+use Rattle.mx_start.specs.Images.{globals_of, shared_at_start}
 use Rattle.mx_core.specs.Bounds.{as_list_state}
 use Rattle.mx_core.proofs.BareStarts.{bare-listed}
 use Rattle.mx_multi.specs.Joint.{NoneTouched, as_list_joint, started}

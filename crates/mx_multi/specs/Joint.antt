@@ -5,10 +5,11 @@ use Rattle.mx_mem.specs.Memory.{Stored}
 use Rattle.mx_mmo.specs.Image.{Image}
 use Rattle.mx_ring.specs.RegisterList.{list_at_start}
 use Rattle.mx_ring.specs.Stack.{Stack, listed}
-use Rattle.mx_core.specs.Bare.{Shared, nothing_shared, shared_at_start, shared_in, shared_of, with_shared, globals_of, bare}
+use Rattle.mx_core.specs.Bare.{Shared, nothing_shared, shared_in, shared_of, with_shared, bare}
 use Rattle.mx_core.specs.Bounds.{as_list_state}
 use Rattle.mx_core.specs.Kept.{Kept, state_of}
 use Rattle.mx_core.specs.State.{State}
+use Rattle.mx_start.specs.Images.{globals_of, shared_at_start}
 
 -- the states of the processors, which have no memory of their own; of each whether it has halted; and the one memory
 pub record Joint : Type 0 where

@@ -6,7 +6,7 @@ ghost use Rattle.mx_load.specs.Kept.{image_of};
 ghost use Rattle.mx_mem.specs.Memory.{IsNextNonzero};
 ghost use Rattle.mx_ring.specs.Stack.{windowed};
 ghost use Rattle.mx_ring.specs.Window.{window_at_start};
-ghost use Rattle.mx_core.specs.Bare.{bare, globals_of};
+ghost use Rattle.mx_core.specs.Bare.{bare};
 ghost use Rattle.mx_core.specs.Kept.{state_of};
 ghost use Rattle.mx_multi.specs.Joint as spec;
 ghost use Rattle.mx_multi.specs.Joint.{has_halted, joint_of, processor_count, started};
@@ -14,8 +14,8 @@ ghost use Rattle.mx_multi.specs.Joint.{has_halted, joint_of, processor_count, st
 use mx_core::Machine;
 use mx_load::Image;
 use mx_mem::Memory;
-use mx_mmo::Octas;
 use mx_ring::RingSize;
+use mx_start::globals_in;
 use mx_word::NoMemory;
 use std::alloc::Global;
 use std::marker::Model;
@@ -55,7 +55,7 @@ impl Multi {
         ensures count { IfOk result (λ p. processor_count p ≡ count) }
     {
         let globals = globals_in(alloc, &image)?;
-        let processors = bare_machines(alloc, image.g(), &globals, count, r)?;
+        let processors = bare_machines(alloc, image.g(), globals.as_slice(), count, r)?;
         let halted = none_halted(alloc, count)?;
         Ok(Multi {
             alloc,
@@ -99,24 +99,12 @@ impl Multi {
     }
 }
 
-/// The values of the global registers of an image.
-#[tactic(auto, using(crate::proofs::Begun::growing))]
-fn globals_in(alloc: Global, image: &Image) -> Result<Octas, NoMemory>
-    ensures { IfOk result (λ octas. octas ≡ globals_of (image_of image.now)) }
-{
-    let mut globals = Octas::new(alloc);
-    for k in usize::from(image.g())..256 {
-        globals.push(image.global(k as u8))?;
-    }
-    Ok(globals)
-}
-
 /// So many machines with no memory of their own: each has their number in $0 and its own in $1.
 #[tactic(auto, using(crate::proofs::Begun::growing))]
 fn bare_machines(
     alloc: Global,
     g: u8,
-    globals: &Octas,
+    globals: &[u64],
     count: u8,
     r: RingSize,
 ) -> Result<Vec<Machine>, NoMemory>

@@ -10,6 +10,7 @@ use mx_core::{Machine, SetFault, Step};
 use mx_load::Loader;
 use mx_mmo::Octas;
 use mx_ring::RingSize;
+use mx_start::start;
 use mx_word::{Bytes, Symbols};
 use std::alloc::Global;
 use std::test::Fail;
@@ -24,7 +25,7 @@ fn started(alloc: Global) -> Result<Machine, Fail> {
     };
     let image = Loader::new(alloc).finish(Symbols::new(alloc))?;
     let args = [Bytes::copy(alloc, b"p")?];
-    Ok(Machine::start(alloc, image, &args, size)?)
+    Ok(start(alloc, image, &args, size)?)
 }
 
 /// A machine with a program.

@@ -6,6 +6,7 @@ use mx_host::MemHost;
 use mx_load::Loader;
 use mx_ring::RingSize;
 use mx_run::{BreakKind, End, Flags, Runner};
+use mx_start::start;
 use mx_word::{Bytes, Symbols};
 use std::alloc::Global;
 use std::process::Abort;
@@ -105,7 +106,7 @@ fn bare(rt: &impl Abort, alloc: Global) -> Machine {
         .expect(rt, "an image");
     let size = RingSize::of(256).expect(rt, "a power of two");
     let args = [Bytes::copy(alloc, b"p").expect(rt, "memory")];
-    Machine::start(alloc, image, &args, size).expect(rt, "a machine")
+    start(alloc, image, &args, size).expect(rt, "a machine")
 }
 
 /// A machine with the program, about to begin.

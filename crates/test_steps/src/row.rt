@@ -6,6 +6,7 @@
 use mx_core::{Machine, Reason, SetFault, Step, Touch, Trace};
 use mx_load::Loader;
 use mx_ring::RingSize;
+use mx_start::start;
 use mx_word::{Bytes, Symbols};
 use std::alloc::Global;
 use std::test::Fail;
@@ -154,7 +155,7 @@ pub fn started_with(alloc: Global, registers: u32, args: &[Bytes]) -> Result<Mac
         return Err(Fail::new("no argument"));
     }
     let image = Loader::new(alloc).finish(Symbols::new(alloc))?;
-    Ok(Machine::start(alloc, image, args, size)?)
+    Ok(start(alloc, image, args, size)?)
 }
 
 /// The same with the argument `p`.

@@ -1,7 +1,8 @@
 //! A program that starts with the arguments `p` and `ab`, by the rules of the simulator.
 
 use crate::row::{has_octa, has_special, started_with};
-use mx_core::{Machine, StartFault};
+use mx_core::Machine;
+use mx_start::StartFault;
 use mx_word::Bytes;
 use std::alloc::Global;
 use std::test::Fail;

@@ -7,6 +7,7 @@ use mx_host::MemHost;
 use mx_load::Loader;
 use mx_ring::RingSize;
 use mx_run::End;
+use mx_start::start;
 use mx_watch::{Cover, Profile, Reports, Watcher, Writes, watched_run};
 use mx_word::{Bytes, Symbols};
 use std::alloc::Global;
@@ -64,7 +65,7 @@ fn machine(rt: &impl Abort, alloc: Global, program: &Program) -> Machine {
         .expect(rt, "an image");
     let size = RingSize::of(256).expect(rt, "a power of two");
     let args = [Bytes::copy(alloc, b"p").expect(rt, "memory")];
-    let mut machine = Machine::start(alloc, image, &args, size).expect(rt, "a machine");
+    let mut machine = start(alloc, image, &args, size).expect(rt, "a machine");
     machine.set_octa(0x100, program.0[0]).expect(rt, "memory");
     machine.set_octa(0x108, program.0[1]).expect(rt, "memory");
     machine.set_pc(program.1);

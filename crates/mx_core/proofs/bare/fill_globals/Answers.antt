@@ -1,6 +1,5 @@
 use Rattle.std.proofs.Common.{◌-◌, get_or, arith, refl, ap}
-use Rattle.mx_core.proofs.BareStarts.{value_among, all-filled}
-use Rattle.mx_core.proofs.StartRegisters.{globals-begun, globals-fit, globals-next}
+use Rattle.mx_core.proofs.BareStarts.{value_among, all-filled, globals-begun, globals-fit, globals-next}
 use Rattle.mx_core.proofs.bare.fill_globals.Goals as goal
 
 pub loop-k-init : goal.loop-k-init

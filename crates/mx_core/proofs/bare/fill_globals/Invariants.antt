@@ -1,5 +1,4 @@
-use Rattle.mx_core.proofs.BareStarts.{value_among}
-use Rattle.mx_core.proofs.StartRegisters.{Filled}
+use Rattle.mx_core.proofs.BareStarts.{value_among, Filled}
 use Rattle.mx_core.proofs.bare.fill_globals.Given as goal
 
 -- the globals below $k have their values

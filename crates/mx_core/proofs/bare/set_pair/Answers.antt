@@ -1,4 +1,4 @@
-use Rattle.mx_core.proofs.StartRegisters.{none-fits, first-is, one-fits, second-is}
+use Rattle.mx_core.proofs.BareStarts.{none-fits, first-is, one-fits, second-is}
 use Rattle.mx_core.proofs.bare.set_pair.Goals as goal
 
 pub set_surely-requires : goal.set_surely-requires
