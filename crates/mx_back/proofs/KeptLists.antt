@@ -7,7 +7,7 @@ use Rattle.mx_core.specs.Bounds.{as_list_state, as_list_step}
 use Rattle.mx_core.specs.State.{State}
 use Rattle.mx_core.specs.Step.{Stepped, went, calls, stopped, step}
 use Rattle.mx_core.specs.Wild.{is_wild}
-use Rattle.mx_core.proofs.SameSteps.{step-listed}
+use Rattle.mx_core.proofs.Same.Steps.{step-listed}
 use Rattle.mx_run.specs.Runs.{no_flags}
 use Rattle.mx_run.specs.Turns.{Answered, Turn, went_on, halts, stops, turn, turn_answer}
 use Rattle.mx_run.specs.WildRuns.{RunEnd, run_ended, run_wild, HasWindow, list_machine, run_by, turn_is_wild, trap_touches, as_list_turn}

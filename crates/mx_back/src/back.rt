@@ -6,7 +6,7 @@ ghost use Rattle.mx_back.specs.History.{AreNotesOf, states_before};
 ghost use Rattle.mx_core.specs.Kept.{state_of};
 ghost use Rattle.mx_core.specs.State.{State};
 ghost use Rattle.mx_core.specs.Step.{step};
-ghost use Rattle.mx_core.specs.Stepping.{advanced, step_answer};
+ghost use Rattle.mx_core.specs.Way.Stepping.{advanced, step_answer};
 
 use crate::BackFault;
 use circular_buffer::HeapCircularBuffer;

@@ -14,7 +14,7 @@ use Rattle.mx_core.specs.Instructions.{Instruction, instruction, operation_in, x
 use Rattle.mx_core.specs.Stops.{has_destination}
 use Rattle.mx_core.specs.State.{State, special_register, locals, global_start, with_special, with_octa, is_negative}
 use Rattle.mx_core.specs.Step.{Stepped, went, calls, stopped, fetched, completed, made, step}
-use Rattle.mx_core.specs.Stepping.{advanced}
+use Rattle.mx_core.specs.Way.Stepping.{advanced}
 use Rattle.mx_core.specs.declared.operation.Operation.{Operation}
 use Rattle.mx_core.specs.declared.operation.Operation.TheVariants as op
 use Rattle.mx_core.specs.declared.reason.Reason.{Reason}

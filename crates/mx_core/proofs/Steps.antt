@@ -1,12 +1,12 @@
 -- One step, by what its instruction comes to.
 use Rattle.std.proofs.Common.{◌≡◌, ◌≢◌, ◌<◌, ◌≤◌, ℕ, ◌^◌, ◌||◌, Bool, true, false, Option, None, Some, Ok, Err, refl, sym, subst, ap, ◌∙◌, arith}
 use Rattle.std.proofs.lemmas.Bool.Decides.{nat_tests}
-use Rattle.mx_core.specs.Calls.{Left, left, with_touch_where}
+use Rattle.mx_core.specs.Way.Calls.{Left, left, with_touch_where}
 use Rattle.mx_core.specs.Deeds.{deed_for, deed_at, Deed, deed_of, outcome, state_done, unless_refused}
 use Rattle.mx_core.specs.Instructions.{Instruction, operation_in}
 use Rattle.mx_core.specs.State.{State, is_negative, is_in_stack_segment}
 use Rattle.mx_core.specs.Step.{went, stopped, calls, fetched, after, trace_of, completed, carried_out, made, call_of, step}
-use Rattle.mx_core.specs.Stepping.{sight_of, Foretells, write_told}
+use Rattle.mx_core.specs.Way.Stepping.{sight_of, Foretells, write_told}
 use Rattle.mx_core.specs.declared.sight.Sight.{Sight}
 use Rattle.mx_core.specs.declared.trace.Touch.{Touch}
 use Rattle.mx_core.specs.declared.trace.Trace.{Trace}

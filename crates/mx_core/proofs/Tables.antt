@@ -10,7 +10,7 @@ use Rattle.mx_alu.specs.Alu.{is_alu}
 use Rattle.mx_alu.specs.Names.{wyde_of}
 use Rattle.mx_alu.proofs.Named.{wyde-at}
 use Rattle.mx_core.specs.Operations.{load_names, store_names, operation_names, operation_of, has_condition}
-use Rattle.mx_core.specs.Groups.{operation_by}
+use Rattle.mx_core.specs.Way.Groups.{operation_by}
 use Rattle.mx_core.specs.declared.codes.TheConstants.{OPERATIONS, IMMEDIATE, BACKWARD}
 use Rattle.mx_core.specs.declared.groups.TheConstants.{GROUPS}
 use Rattle.mx_core.specs.declared.groups.Group.{Group}

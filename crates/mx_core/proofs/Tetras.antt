@@ -6,7 +6,7 @@ use Rattle.std.proofs.lemmas.Bool.{cases_lt}
 use Rattle.mx_mem.specs.Memory.{tetra_of}
 use Rattle.mx_mem.specs.Parts.{part_of, with_part, bits_below}
 use Rattle.mx_mem.specs.declared.part.Part.TheVariants.{Tetra}
-use Rattle.mx_core.specs.Calls.{store_outcome, unless}
+use Rattle.mx_core.specs.Way.Calls.{store_outcome, unless}
 use Rattle.mx_core.specs.State.{State, octa, with_octa, is_page_refused, is_in_stack_segment}
 use Rattle.mx_core.specs.declared.reason.Reason.TheVariants.{PagesFull}
 

@@ -2,7 +2,7 @@
 use Rattle.std.proofs.Common.{◌≡◌, ◌+◌, ℕ, zero, suc, ap, sym, subst, refl, arith}
 use Rattle.mx_core.specs.State.{State}
 use Rattle.mx_core.specs.Step.{step}
-use Rattle.mx_core.specs.Stepping.{advanced}
+use Rattle.mx_core.specs.Way.Stepping.{advanced}
 use Rattle.mx_core.specs.Walks.{Goes, GoesOn, IsWindowed, next_state}
 use Rattle.mx_core.specs.declared.step.Advance.TheVariants as advance
 

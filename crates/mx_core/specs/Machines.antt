@@ -1,5 +1,5 @@
 -- Machines over some window that hold octas, as every machine of the code does.
-use Rattle.std.specs.Prelude.{ℕ, ◌<◌, ◌≤◌, ◌^◌, slice_index}
+use Rattle.std.specs.Prelude.{ℕ, ◌<◌, ◌^◌, slice_index}
 use Rattle.mx_word.specs.Ranges.{AreOctas}
 use Rattle.mx_ring.specs.Window.{Window}
 use Rattle.mx_spec.specs.SpecialRegisters.{rA}

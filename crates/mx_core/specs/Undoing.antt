@@ -12,10 +12,10 @@ use Rattle.mx_spec.specs.SpecialRegisters.{rJ}
 use Rattle.mx_core.specs.Deeds.{Deed}
 use Rattle.mx_core.specs.Effects.{Store, Move, stays, pushes, pops, saves, unsaves, cuts, moves_globals}
 use Rattle.mx_core.specs.State.{State, with_value_in, with_special}
-pub use Rattle.mx_core.specs.declared.octa_was.OctaWas.{OctaWas}
-pub use Rattle.mx_core.specs.declared.usual_was.UsualWas.{UsualWas}
-use Rattle.mx_core.specs.declared.usual_was.Overwritten.{Overwritten}
-use Rattle.mx_core.specs.declared.usual_was.Overwritten.TheVariants as was
+pub use Rattle.mx_core.specs.declared.overwritten.OctaWas.{OctaWas}
+pub use Rattle.mx_core.specs.declared.overwritten.UsualWas.{UsualWas}
+use Rattle.mx_core.specs.declared.overwritten.Overwritten.{Overwritten}
+use Rattle.mx_core.specs.declared.overwritten.Overwritten.TheVariants as was
 
 -- NOTES
 

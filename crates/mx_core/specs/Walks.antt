@@ -4,7 +4,7 @@ use Rattle.mx_ring.specs.Window.{Window}
 use Rattle.mx_core.specs.Bounds.{IsMachine}
 use Rattle.mx_core.specs.State.{State}
 use Rattle.mx_core.specs.Step.{step}
-use Rattle.mx_core.specs.Stepping.{advanced}
+use Rattle.mx_core.specs.Way.Stepping.{advanced}
 use Rattle.mx_core.specs.declared.step.Advance.TheVariants as advance
 
 -- whether a step goes on, and the state after it

@@ -1,12 +1,12 @@
 //! Usual instructions that do more than give a value or go elsewhere. Each is given with its code as a literal.
 
 ghost use Rattle.std.specs.Prelude.{◌≡◌, ◌<◌, ◌/◌, ◌%◌, ◌^◌, IsTrue, false, true};
-ghost use Rattle.mx_core.specs.Calls.{KeepsWhereNot, MakesWhereTold, settled, store_outcome};
+ghost use Rattle.mx_core.specs.Way.Calls.{KeepsWhereNot, MakesWhereTold, settled, store_outcome};
 ghost use Rattle.mx_core.specs.Deeds.{deed_at, deed_of, outcome};
 ghost use Rattle.mx_core.specs.Effects.{data_address};
 ghost use Rattle.mx_core.specs.Instructions.{next_of, operation_in, x_of};
 ghost use Rattle.mx_core.specs.Kept.{state_of};
-ghost use Rattle.mx_core.specs.Noting.{PutsLink, StoresBelow};
+ghost use Rattle.mx_core.specs.Way.Noting.{PutsLink, StoresBelow};
 
 use crate::Machine;
 use crate::instruction::Instruction;
@@ -123,7 +123,7 @@ impl Machine {
     }
 
     /// PUT of rJ, which stands in each subroutine that calls others.
-    #[tactic(auto, using(crate::proofs::PutValues::put_link))]
+    #[tactic(auto, using(crate::proofs::Results::Puts::put_link))]
     #[inline(always)]
     pub(crate) fn put_link_if_usual(&mut self, i: &Instruction) -> bool
         requires { operation_in i.now ≡ Operation.Put }
@@ -140,7 +140,7 @@ impl Machine {
     }
 
     /// $X gets a value, and the machine goes on at an address, if there is room for the register.
-    #[tactic(auto, unfolding(crate::specs::Calls::set_outcome, crate::specs::Calls::settled))]
+    #[tactic(auto, unfolding(crate::specs::Way::Calls::set_outcome, crate::specs::Way::Calls::settled))]
     #[inline(always)]
     pub(crate) fn settle_if_room(&mut self, i: &Instruction, x: u64) -> bool
         requires aligned { i.now.at % 4 ≡ 0 }
@@ -159,7 +159,7 @@ impl Machine {
 
     /// The low bytes of `x` are stored in the part that holds an address, if that is below Stack_Segment and its
     /// page is near.
-    #[tactic(auto, unfolding(crate::specs::Kept::state_of, crate::specs::State::octa, crate::specs::State::with_octa, crate::specs::Calls::store_outcome))]
+    #[tactic(auto, unfolding(crate::specs::Kept::state_of, crate::specs::State::octa, crate::specs::State::with_octa, crate::specs::Way::Calls::store_outcome))]
     #[inline(always)]
     fn store_if_near(&mut self, a: u64, part: Part, x: u64) -> bool
         ensures made { MakesWhereTold (λ s. store_outcome s a part x) result self.old self.new }
@@ -178,7 +178,7 @@ impl Machine {
 
     /// A tetra is stored in place of the one that holds an address, if that is below Stack_Segment and its page is
     /// near.
-    #[tactic(auto, unfolding(crate::specs::Kept::state_of, crate::specs::State::octa, crate::specs::State::with_octa, crate::specs::Calls::store_outcome))]
+    #[tactic(auto, unfolding(crate::specs::Kept::state_of, crate::specs::State::octa, crate::specs::State::with_octa, crate::specs::Way::Calls::store_outcome))]
     #[inline(always)]
     fn store_tetra_if_near(&mut self, a: u64, t: u32) -> bool
         ensures made { MakesWhereTold (λ s. store_outcome s a Part.Tetra t) result self.old self.new }

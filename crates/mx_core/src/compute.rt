@@ -1,12 +1,12 @@
 //! Instructions that give $X a value and do nothing else.
 
 ghost use Rattle.std.specs.Prelude.{◌≡◌, true, IsTrue};
-ghost use Rattle.mx_core.specs.Calls.{CarriesOut, Makes, answer_outcome};
+ghost use Rattle.mx_core.specs.Way.Calls.{CarriesOut, Makes, answer_outcome};
 ghost use Rattle.mx_core.specs.Effects as spec;
 ghost use Rattle.mx_core.specs.Instructions.{code_of, instruction, operation_in};
 ghost use Rattle.mx_core.specs.Kept.{state_of};
 ghost use Rattle.mx_core.specs.Operations.{has_condition};
-ghost use Rattle.mx_core.specs.Told.{answer_in};
+ghost use Rattle.mx_core.specs.Way.Told.{answer_in};
 ghost use Rattle.mx_alu.specs.Alu.{is_alu};
 ghost use Rattle.mx_alu.specs.Truth as conditions;
 
@@ -18,7 +18,7 @@ use mx_alu::{Extra, alu, lone_result, truth, wyde};
 
 impl Machine {
     /// MUL to SRU and OR to MXOR, but for NEG and NEGU. Mostly the result is all that they give.
-    #[tactic(auto, using(crate::proofs::Events::compute_outcome, crate::proofs::Events::compute_alone, crate::proofs::Plain::answer_plain, crate::proofs::Tables::computes, crate::proofs::Tables::computes_low))]
+    #[tactic(auto, using(crate::proofs::Results::Events::compute_outcome, crate::proofs::Results::Events::compute_alone, crate::proofs::Results::Plain::answer_plain, crate::proofs::Tables::computes, crate::proofs::Tables::computes_low))]
     #[inline(always)]
     pub(crate) fn compute(&mut self, i: &Instruction) -> Result<(), Stop>
         requires { operation_in i.now ≡ Operation.Compute }
@@ -45,7 +45,7 @@ impl Machine {
     }
 
     /// NEG and NEGU. Mostly the result is all that they give.
-    #[tactic(auto, using(crate::proofs::Events::negate_outcome, crate::proofs::Events::negate_alone, crate::proofs::Plain::answer_plain, crate::proofs::Tables::negates, crate::proofs::Tables::negates_low))]
+    #[tactic(auto, using(crate::proofs::Results::Events::negate_outcome, crate::proofs::Results::Events::negate_alone, crate::proofs::Results::Plain::answer_plain, crate::proofs::Tables::negates, crate::proofs::Tables::negates_low))]
     #[inline(always)]
     pub(crate) fn negate(&mut self, i: &Instruction) -> Result<(), Stop>
         requires { operation_in i.now ≡ Operation.Negate }
@@ -71,7 +71,7 @@ impl Machine {
     }
 
     /// SETH to ANDNL.
-    #[tactic(auto, using(crate::proofs::Outcomes::wyde_outcome, crate::proofs::Tables::wyde_low, crate::proofs::Tables::wyde_high))]
+    #[tactic(auto, using(crate::proofs::Results::Outcomes::wyde_outcome, crate::proofs::Tables::wyde_low, crate::proofs::Tables::wyde_high))]
     #[inline(always)]
     pub(crate) fn set_wyde(&mut self, i: &Instruction) -> Result<(), Stop>
         requires { operation_in i.now ≡ Operation.Wyde }
@@ -85,7 +85,7 @@ impl Machine {
     }
 
     /// CSN to CSEV.
-    #[tactic(auto, using(crate::proofs::Outcomes::conditional_outcome), unfolding(crate::specs::Operations::has_condition))]
+    #[tactic(auto, using(crate::proofs::Results::Outcomes::conditional_outcome), unfolding(crate::specs::Operations::has_condition))]
     #[inline(always)]
     pub(crate) fn conditional_set(&mut self, i: &Instruction) -> Result<(), Stop>
         requires { operation_in i.now ≡ Operation.ConditionalSet }
@@ -100,7 +100,7 @@ impl Machine {
     }
 
     /// ZSN to ZSEV.
-    #[tactic(auto, using(crate::proofs::Outcomes::zero_outcome), unfolding(crate::specs::Operations::has_condition))]
+    #[tactic(auto, using(crate::proofs::Results::Outcomes::zero_outcome), unfolding(crate::specs::Operations::has_condition))]
     #[inline(always)]
     pub(crate) fn zero_or_set(&mut self, i: &Instruction) -> Result<(), Stop>
         requires { operation_in i.now ≡ Operation.ZeroOrSet }
@@ -115,7 +115,7 @@ impl Machine {
     }
 
     /// GETA.
-    #[tactic(auto, using(crate::proofs::Outcomes::address_outcome))]
+    #[tactic(auto, using(crate::proofs::Results::Outcomes::address_outcome))]
     #[inline(always)]
     pub(crate) fn get_address(&mut self, i: &Instruction) -> Result<(), Stop>
         ensures { CarriesOut Operation.Address i.now result self.old self.new }
@@ -124,7 +124,7 @@ impl Machine {
     }
 
     /// GO.
-    #[tactic(auto, using(crate::proofs::Outcomes::go_outcome))]
+    #[tactic(auto, using(crate::proofs::Results::Outcomes::go_outcome))]
     #[inline(always)]
     pub(crate) fn go(&mut self, i: &Instruction) -> Result<(), Stop>
         ensures { CarriesOut Operation.Go i.now result self.old self.new }

@@ -1,7 +1,7 @@
 //! What a step tells apart first, as a table by the code.
 
 ghost use Rattle.std.specs.Prelude.{◌≡◌};
-ghost use Rattle.mx_core.specs.Groups as spec;
+ghost use Rattle.mx_core.specs.Way.Groups as spec;
 ghost use Rattle.mx_core.specs.Operations.{operation_of};
 
 use crate::operation::Operation;

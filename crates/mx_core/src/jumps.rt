@@ -1,8 +1,8 @@
 //! Instructions that go elsewhere: branches, jumps, calls and returns.
 
 ghost use Rattle.std.specs.Prelude.{◌≡◌};
-ghost use Rattle.mx_core.specs.Calls as spec;
-ghost use Rattle.mx_core.specs.Calls.{CarriesOut, Makes};
+ghost use Rattle.mx_core.specs.Way.Calls as spec;
+ghost use Rattle.mx_core.specs.Way.Calls.{CarriesOut, Makes};
 ghost use Rattle.mx_core.specs.Instructions.{operation_in};
 ghost use Rattle.mx_core.specs.Kept.{state_of};
 
@@ -16,7 +16,7 @@ use crate::{Machine, Reason};
 
 impl Machine {
     /// BN to PBEV.
-    #[tactic(auto, using(crate::proofs::Others::branch_outcome), unfolding(crate::specs::Operations::has_condition))]
+    #[tactic(auto, using(crate::proofs::Results::Others::branch_outcome), unfolding(crate::specs::Operations::has_condition))]
     #[inline(always)]
     pub(crate) fn branch(&mut self, i: &Instruction) -> Result<(), Stop>
         requires { operation_in i.now ≡ Operation.Branch }
@@ -32,7 +32,7 @@ impl Machine {
     }
 
     /// JMP.
-    #[tactic(auto, using(crate::proofs::Others::jump_outcome))]
+    #[tactic(auto, using(crate::proofs::Results::Others::jump_outcome))]
     #[inline(always)]
     pub(crate) fn jump(&mut self, i: &Instruction) -> Result<(), Stop>
         ensures { CarriesOut Operation.Jump i.now result self.old self.new }
@@ -42,7 +42,7 @@ impl Machine {
     }
 
     /// PUSHJ.
-    #[tactic(auto, using(crate::proofs::Others::push_jump_outcome))]
+    #[tactic(auto, using(crate::proofs::Results::Others::push_jump_outcome))]
     #[inline(always)]
     pub(crate) fn push_jump(&mut self, i: &Instruction) -> Result<(), Stop>
         ensures { CarriesOut Operation.PushJump i.now result self.old self.new }
@@ -51,7 +51,7 @@ impl Machine {
     }
 
     /// PUSHGO.
-    #[tactic(auto, using(crate::proofs::Others::push_go_outcome))]
+    #[tactic(auto, using(crate::proofs::Results::Others::push_go_outcome))]
     #[inline(always)]
     pub(crate) fn push_go(&mut self, i: &Instruction) -> Result<(), Stop>
         ensures { CarriesOut Operation.PushGo i.now result self.old self.new }
@@ -87,7 +87,7 @@ impl Machine {
     }
 
     /// POP.
-    #[tactic(auto, using(crate::proofs::Others::pop_outcome_is))]
+    #[tactic(auto, using(crate::proofs::Results::Others::pop_outcome_is))]
     #[inline(always)]
     pub(crate) fn pop(&mut self, i: &Instruction) -> Result<(), Stop>
         ensures { CarriesOut Operation.Pop i.now result self.old self.new }
@@ -103,7 +103,7 @@ impl Machine {
     }
 
     /// The register stack's part of POP.
-    #[tactic(auto, using(crate::proofs::Marks::pop_marks), unfolding(crate::specs::Kept::state_of))]
+    #[tactic(auto, using(crate::proofs::Kept::Marks::pop_marks), unfolding(crate::specs::Kept::state_of))]
     #[inline(always)]
     fn pop_registers(&mut self, x: u8) -> Result<(), Stop>
         ensures { Makes (λ s. spec.registers_popped s x) result self.old self.new }

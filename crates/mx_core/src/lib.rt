@@ -17,10 +17,9 @@ mod laws;
 mod load;
 mod machine;
 mod noting;
-mod octa_laws;
-mod octa_was;
 mod operands;
 mod operation;
+mod overwritten;
 mod part;
 mod perform;
 mod puts;
@@ -29,7 +28,6 @@ mod resume;
 mod search;
 mod sight;
 mod space;
-mod space_laws;
 mod specials;
 mod step;
 mod stop;
@@ -41,12 +39,13 @@ mod trips;
 mod undoing;
 mod usual;
 mod usual_noting;
-mod usual_was;
 mod values;
 mod works;
 
 pub use bare::bare_machines_start_as_lists;
-pub use bounds::machines_keep_the_invariant;
+pub use bounds::{
+    contents_tell_the_state, machines_are_whole, machines_hold_octas, machines_keep_the_invariant,
+};
 pub use changes::SetFault;
 pub use laws::{
     changes_go_as_lists, changes_keep_machines, frames_come_back, lists_read_the_same,
@@ -54,9 +53,7 @@ pub use laws::{
 };
 pub use machine::Machine;
 pub use noting::{Note, Noted};
-pub use octa_laws::machines_hold_octas;
 pub use reason::Reason;
-pub use space_laws::{contents_tell_the_state, machines_are_whole};
 pub use step::{Advance, Advanced, Step};
 pub use trace::{Touch, Trace};
 pub use undoing::{machines_are_paged, steps_are_taken_back};

@@ -2,11 +2,11 @@
 
 ghost use Rattle.std.specs.Prelude.{◌≡◌, ◌<◌, ◌≤◌, ◌+◌, ◌%◌, ◌^◌, true};
 ghost use Rattle.mx_ring.specs.Stack.{in_stack_area};
-ghost use Rattle.mx_core.specs.Calls.{CarriesOut};
+ghost use Rattle.mx_core.specs.Way.Calls.{CarriesOut};
 ghost use Rattle.mx_core.specs.Effects.{data_address};
 ghost use Rattle.mx_core.specs.Instructions.{operands_given};
 ghost use Rattle.mx_core.specs.Kept.{state_of};
-ghost use Rattle.mx_core.specs.Told.{answer_in};
+ghost use Rattle.mx_core.specs.Way.Told.{answer_in};
 
 use crate::instruction::Instruction;
 use crate::machine::{SEGMENT, is_in_stack_area};
@@ -17,7 +17,7 @@ use crate::{Machine, Reason};
 
 impl Machine {
     /// LDB to LDUNC.
-    #[tactic(auto, using(crate::proofs::Loads::load_below))]
+    #[tactic(auto, using(crate::proofs::Results::Loads::load_below))]
     #[inline(always)]
     pub(crate) fn load(&mut self, how: Loading, i: &Instruction) -> Result<(), Stop>
         ensures { CarriesOut (Operation.Load how) i.now result self.old self.new }
@@ -43,7 +43,7 @@ impl Machine {
     }
 
     /// A load from Stack_Segment on.
-    #[tactic(auto, using(crate::proofs::Loads::load_negative, crate::proofs::Loads::load_outside), unfolding(crate::specs::Calls::settled))]
+    #[tactic(auto, using(crate::proofs::Results::Loads::load_negative, crate::proofs::Results::Loads::load_outside), unfolding(crate::specs::Way::Calls::settled))]
     fn load_above(&mut self, how: Loading, i: &Instruction, a: u64) -> Result<(), Stop>
         requires address { a ≡ data_address (state_of self.old) i.now }
         requires least { 0x6000_0000_0000_0000 ≤ a }
@@ -65,7 +65,7 @@ impl Machine {
     }
 
     /// A load from the stack area, once the destination is local.
-    #[tactic(auto, using(crate::proofs::Loads::load_inside, crate::proofs::Loads::local_settles), unfolding(crate::specs::Calls::set_outcome))]
+    #[tactic(auto, using(crate::proofs::Results::Loads::load_inside, crate::proofs::Results::Loads::local_settles), unfolding(crate::specs::Way::Calls::set_outcome))]
     fn load_spilled(&mut self, how: Loading, i: &Instruction, a: u64) -> Result<(), Stop>
         requires address { a ≡ data_address (state_of self.old) i.now }
         requires least { 0x6000_0000_0000_0000 ≤ a }

@@ -6,7 +6,7 @@ ghost use Rattle.mx_ring.specs.Bounds.{IsRing};
 ghost use Rattle.mx_ring.specs.Stack as stacks;
 ghost use Rattle.mx_ring.specs.Stack.{set_overfills};
 ghost use Rattle.mx_spec.specs.SpecialRegisters.{rA};
-ghost use Rattle.mx_core.specs.Calls.{KeepsOnErr, Makes, MakesWithMemory, set_outcome, store_outcome};
+ghost use Rattle.mx_core.specs.Way.Calls.{KeepsOnErr, Makes, MakesWithMemory, set_outcome, store_outcome};
 ghost use Rattle.mx_core.specs.Deeds as deeds;
 ghost use Rattle.mx_core.specs.Kept.{state_of};
 ghost use Rattle.mx_core.specs.State as spec;
@@ -41,7 +41,7 @@ impl Model for Machine {
 
     ghost Value = { Kept };
 
-    ghost use Rattle.mx_core.specs.Parts.{kept, Holds};
+    ghost use Rattle.mx_core.specs.Way.Parts.{kept, Holds};
 
     ghost view = { kept };
 
@@ -153,7 +153,7 @@ impl Machine {
 }
 
 /// What is written.
-#[tactic(auto, unfolding(crate::specs::Kept::state_of, crate::specs::Calls::set_outcome))]
+#[tactic(auto, unfolding(crate::specs::Kept::state_of, crate::specs::Way::Calls::set_outcome))]
 impl Machine {
     /// The machine goes on at an address, one step later.
     #[inline(always)]
@@ -222,7 +222,7 @@ impl Machine {
 }
 
 /// What is stored.
-#[tactic(auto, unfolding(crate::specs::Kept::state_of, crate::specs::State::octa, crate::specs::State::with_octa, crate::specs::Calls::store_outcome))]
+#[tactic(auto, unfolding(crate::specs::Kept::state_of, crate::specs::State::octa, crate::specs::State::with_octa, crate::specs::Way::Calls::store_outcome))]
 impl Machine {
     /// The low bytes of `x` are stored in the part that holds an address below 2^63. It takes memory
     /// only where that begins a page.

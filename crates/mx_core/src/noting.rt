@@ -5,21 +5,20 @@ ghost use Rattle.mx_ring.specs.Notes.{WorkNeeds};
 ghost use Rattle.mx_core.specs.Deeds.{deed_at};
 ghost use Rattle.mx_core.specs.Instructions.{operation_in};
 ghost use Rattle.mx_core.specs.Kept.{state_of};
-ghost use Rattle.mx_core.specs.Noting as spec;
-ghost use Rattle.mx_core.specs.Noting.{IfWent, TellsDeed, step_of};
+ghost use Rattle.mx_core.specs.Way.Noting as spec;
+ghost use Rattle.mx_core.specs.Way.Noting.{IfWent, TellsDeed, step_of};
 ghost use Rattle.mx_core.specs.Step.{fetched, step};
-ghost use Rattle.mx_core.specs.Stepping.{step_answer};
+ghost use Rattle.mx_core.specs.Way.Stepping.{step_answer};
 ghost use Rattle.mx_core.specs.Undoing as undoing;
 ghost use Rattle.mx_core.specs.Undoing.{TakesBack};
 
+use crate::bounds::machines_hold_octas;
 use crate::instruction::Instruction;
 use crate::machine::{SEGMENT, is_in_stack_area};
-use crate::octa_laws::machines_hold_octas;
-use crate::octa_was::OctaWas;
 use crate::operation::Operation;
+use crate::overwritten::{OctaWas, UsualWas};
 use crate::sight::Sight;
 use crate::undoing::machines_are_paged;
-use crate::usual_was::UsualWas;
 use crate::{Machine, Reason, Step, Touch, Trace};
 use mx_ring::{RingFault, RingNote, RingWork};
 use mx_trip::TrapCall;
@@ -37,7 +36,7 @@ impl Model for Note {
 
     ghost Value = { StateWas };
 
-    ghost use Rattle.mx_core.specs.NoteParts.{note_in};
+    ghost use Rattle.mx_core.specs.Way.NoteParts.{note_in};
 
     ghost view = { note_in };
 }
@@ -66,7 +65,7 @@ impl Model for WholeNote {
 
     ghost Value = { WholeWas };
 
-    ghost use Rattle.mx_core.specs.NoteParts.{whole_in, NoteHolds};
+    ghost use Rattle.mx_core.specs.Way.NoteParts.{whole_in, NoteHolds};
 
     ghost view = { whole_in };
 
@@ -138,7 +137,7 @@ impl Machine {
     }
 
     /// What an instruction may overwrite, or nothing where memory is lacking.
-    #[tactic(auto, using(crate::proofs::Notings::tells))]
+    #[tactic(auto, using(crate::proofs::Undone::Notes::tells))]
     fn note(&mut self, alloc: Global, i: &Instruction) -> Option<Note>
         ensures note { IfSome result (λ n.
             TellsDeed n self.old.ring (state_of self.old) (deed_at (state_of self.old) i.now)) }

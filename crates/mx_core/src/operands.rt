@@ -1,7 +1,7 @@
 //! The operands of instructions, and what they give their destination.
 
 ghost use Rattle.std.specs.Prelude.{◌≡◌, ◌<◌, ◌≤◌};
-ghost use Rattle.mx_core.specs.Calls.{Makes, settled};
+ghost use Rattle.mx_core.specs.Way.Calls.{Makes, settled};
 ghost use Rattle.mx_core.specs.Effects as spec;
 ghost use Rattle.mx_core.specs.Instructions.{x_of};
 ghost use Rattle.mx_core.specs.Kept.{state_of};
@@ -52,7 +52,7 @@ impl Machine {
     }
 
     /// $X gets a value, and the machine goes on at an address.
-    #[tactic(auto, unfolding(crate::specs::Calls::set_outcome, crate::specs::Calls::settled))]
+    #[tactic(auto, unfolding(crate::specs::Way::Calls::set_outcome, crate::specs::Way::Calls::settled))]
     #[inline(always)]
     pub(crate) fn settle(&mut self, i: &Instruction, x: u64, next: u64) -> Result<(), Stop>
         ensures { Makes (λ s. settled s (x_of i.now) x next) result self.old self.new }

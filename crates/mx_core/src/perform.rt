@@ -1,11 +1,11 @@
 //! One instruction, by its operation.
 
 ghost use Rattle.std.specs.Prelude.{◌≡◌};
-ghost use Rattle.mx_core.specs.Calls.{CarriesOutWithMemory, KeepsOnErr, LacksMemoryOnlyWhere};
+ghost use Rattle.mx_core.specs.Way.Calls.{CarriesOutWithMemory, KeepsOnErr, LacksMemoryOnlyWhere};
 ghost use Rattle.mx_core.specs.Deeds.{deed_of};
 ghost use Rattle.mx_core.specs.Instructions.{operation_in};
 ghost use Rattle.mx_core.specs.Kept.{state_of};
-ghost use Rattle.mx_core.specs.Stepping.{needs_page};
+ghost use Rattle.mx_core.specs.Way.Stepping.{needs_page};
 
 use crate::instruction::Instruction;
 use crate::operation::Operation;
@@ -16,7 +16,7 @@ impl Machine {
     /// Carries an instruction out. It takes memory only for a store that begins a page.
     ///
     /// Errors: the stops of the instruction, and out of memory; then nothing changed.
-    #[tactic(auto, using(crate::proofs::Unchanged::unchanged, crate::proofs::Others::stops))]
+    #[tactic(auto, using(crate::proofs::Results::Unchanged::unchanged, crate::proofs::Results::Others::stops))]
     #[inline(always)]
     pub(crate) fn perform(&mut self, i: &Instruction) -> Result<(), Stop>
         ensures answer { CarriesOutWithMemory (operation_in i.now) i.now result self.old self.new }

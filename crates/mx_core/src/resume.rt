@@ -1,12 +1,12 @@
 //! RESUME.
 
 ghost use Rattle.std.specs.Prelude.{◌≡◌, false};
-ghost use Rattle.mx_core.specs.Calls.{KeepsOnErr, LacksMemoryOnlyWhere, Makes, MakesWithMemory, sets_marginal};
+ghost use Rattle.mx_core.specs.Way.Calls.{KeepsOnErr, LacksMemoryOnlyWhere, Makes, MakesWithMemory, sets_marginal};
 ghost use Rattle.mx_core.specs.Deeds as deeds;
 ghost use Rattle.mx_core.specs.Deeds.{outcome, resumed};
 ghost use Rattle.mx_core.specs.Instructions as spec;
 ghost use Rattle.mx_core.specs.Kept.{state_of};
-ghost use Rattle.mx_core.specs.Stepping.{needs_page};
+ghost use Rattle.mx_core.specs.Way.Stepping.{needs_page};
 ghost use Rattle.mx_trip.specs.declared.insertion.Kind.TheVariants as kinds;
 
 use crate::instruction::Instruction;
@@ -59,7 +59,7 @@ impl Machine {
     }
 
     /// The register X of an inserted instruction gets rZ.
-    #[tactic(auto, using(crate::proofs::Resumes::set_done, crate::proofs::Resumes::shown_fits), unfolding(crate::specs::Calls::settled))]
+    #[tactic(auto, using(crate::proofs::Results::Resumes::set_done, crate::proofs::Results::Resumes::shown_fits), unfolding(crate::specs::Way::Calls::settled))]
     fn set_inserted(&mut self, at: u64, word: u32) -> Result<(), Stop>
         requires { sets_marginal (state_of self.old) (spec.instruction at word) ≡ false }
         ensures { Makes (λ s. outcome s (deeds.performed kinds.Set s at word)) result self.old self.new }

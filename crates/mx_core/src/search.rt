@@ -4,7 +4,7 @@ ghost use Rattle.std.specs.Prelude.{◌≡◌, ◌≤◌, ◌<◌, ◌^◌, max}
 ghost use Rattle.mx_mem.specs.Memory.{IsNextNonzero};
 ghost use Rattle.mx_ring.specs.Stack.{windowed, stack_address, stack_octa};
 ghost use Rattle.mx_core.specs.Kept.{state_of};
-ghost use Rattle.mx_core.specs.Search.{IsNextIndex, IsNextBetween, first_index};
+ghost use Rattle.mx_core.specs.Way.Search.{IsNextIndex, IsNextBetween, first_index};
 ghost use Rattle.mx_core.specs.State.{octa};
 
 use crate::Machine;

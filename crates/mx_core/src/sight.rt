@@ -4,8 +4,8 @@ ghost use Rattle.std.specs.Prelude.{◌≡◌, true, false};
 ghost use Rattle.mx_core.specs.Deeds.{deed_at, deed_of};
 ghost use Rattle.mx_core.specs.Instructions.{Instruction, operation_in};
 ghost use Rattle.mx_core.specs.Kept.{state_of};
-ghost use Rattle.mx_core.specs.Stepping as spec;
-ghost use Rattle.mx_core.specs.Stepping.{Foretells, is_exchange, is_swap, sight_of};
+ghost use Rattle.mx_core.specs.Way.Stepping as spec;
+ghost use Rattle.mx_core.specs.Way.Stepping.{Foretells, is_exchange, is_swap, sight_of};
 ghost use Rattle.mx_core.specs.Deeds as deeds;
 
 use crate::instruction::Instruction;
@@ -34,7 +34,7 @@ impl Machine {
     }
 
     /// The same by its operation.
-    #[tactic(auto, using(crate::proofs::Sights::load_sight, crate::proofs::Sights::store_sight, crate::proofs::Sights::quiet_sight))]
+    #[tactic(auto, using(crate::proofs::Results::Sights::load_sight, crate::proofs::Results::Sights::store_sight, crate::proofs::Results::Sights::quiet_sight))]
     fn sight_by_operation(&self, i: &Instruction) -> Sight
         ensures value { is_swap (operation_in i.now) ≡ false →
             result ≡ sight_of (deed_of (operation_in i.now) (state_of self.now) i.now) }
@@ -90,7 +90,7 @@ impl Machine {
     }
 
     /// What an inserted instruction does.
-    #[tactic(auto, using(crate::proofs::Foretold::set_foretold))]
+    #[tactic(auto, using(crate::proofs::Results::Foretold::set_foretold))]
     fn inserted_sight(&self, kind: Kind, at: u64, word: u32) -> Sight
         ensures { Foretells (state_of self.now) (deeds.performed kind (state_of self.now) at word) result }
     {

@@ -2,8 +2,8 @@
 
 ghost use Rattle.std.specs.Prelude.{◌≡◌, ◌≤◌, ◌<◌, ◌^◌, ◌==◌, ◌||◌, IfOk, nat_lt, not};
 ghost use Rattle.mx_ring.specs.Stack.{stack_index, unsave_refused};
-ghost use Rattle.mx_core.specs.Calls as spec;
-ghost use Rattle.mx_core.specs.Calls.{CarriesOut, Makes, unless};
+ghost use Rattle.mx_core.specs.Way.Calls as spec;
+ghost use Rattle.mx_core.specs.Way.Calls.{CarriesOut, Makes, unless};
 ghost use Rattle.mx_core.specs.Effects.{specials_back, specials_saved};
 ghost use Rattle.mx_core.specs.Deeds.{with_specials};
 ghost use Rattle.mx_core.specs.Instructions.{x_of, y_of};
@@ -47,7 +47,7 @@ impl Machine {
     }
 
     /// GET.
-    #[tactic(auto, using(crate::proofs::Others::get_outcome_is))]
+    #[tactic(auto, using(crate::proofs::Results::Others::get_outcome_is))]
     #[inline(always)]
     pub(crate) fn get_special(&mut self, i: &Instruction) -> Result<(), Stop>
         ensures { CarriesOut Operation.Get i.now result self.old self.new }
@@ -66,7 +66,7 @@ impl Machine {
     }
 
     /// PUT.
-    #[tactic(auto, using(crate::proofs::PutValues::put_outcome_is))]
+    #[tactic(auto, using(crate::proofs::Results::Puts::put_outcome_is))]
     pub(crate) fn put_special(&mut self, i: &Instruction) -> Result<(), Stop>
         ensures { CarriesOut Operation.Put i.now result self.old self.new }
     {
@@ -86,7 +86,7 @@ impl Machine {
     }
 
     /// SYNC.
-    #[tactic(auto, using(crate::proofs::Others::sync_outcome_is))]
+    #[tactic(auto, using(crate::proofs::Results::Others::sync_outcome_is))]
     pub(crate) fn synchronize(&mut self, i: &Instruction) -> Result<(), Stop>
         ensures { CarriesOut Operation.Synchronize i.now result self.old self.new }
     {
@@ -102,7 +102,7 @@ impl Machine {
     }
 
     /// PRELD to SYNCID, and SWYM.
-    #[tactic(auto, using(crate::proofs::Others::nothing_outcome))]
+    #[tactic(auto, using(crate::proofs::Results::Others::nothing_outcome))]
     #[inline(always)]
     pub(crate) fn do_nothing(&mut self, i: &Instruction) -> Result<(), Stop>
         ensures { CarriesOut Operation.Nothing i.now result self.old self.new }
@@ -112,7 +112,7 @@ impl Machine {
     }
 
     /// TRIP.
-    #[tactic(auto, using(crate::proofs::Others::trip_outcome_is))]
+    #[tactic(auto, using(crate::proofs::Results::Others::trip_outcome_is))]
     pub(crate) fn trip_at_once(&mut self, i: &Instruction) -> Result<(), Stop>
         ensures { CarriesOut Operation.Trip i.now result self.old self.new }
     {
@@ -125,7 +125,7 @@ impl Machine {
     }
 
     /// SAVE.
-    #[tactic(auto, using(crate::proofs::Others::save_outcome_is))]
+    #[tactic(auto, using(crate::proofs::Results::Others::save_outcome_is))]
     pub(crate) fn save(&mut self, i: &Instruction) -> Result<(), Stop>
         ensures { CarriesOut Operation.Save i.now result self.old self.new }
     {
@@ -142,7 +142,7 @@ impl Machine {
     }
 
     /// The register stack's part of SAVE.
-    #[tactic(auto, using(crate::proofs::Marks::save_marks), unfolding(crate::specs::Kept::state_of))]
+    #[tactic(auto, using(crate::proofs::Kept::Marks::save_marks), unfolding(crate::specs::Kept::state_of))]
     fn save_registers(&mut self, x: u8) -> Result<(), Stop>
         requires { global_start (state_of self.old) ≤ x }
         ensures { Makes (λ s. spec.registers_saved s x) result self.old self.new }
@@ -181,7 +181,7 @@ impl Machine {
     }
 
     /// UNSAVE.
-    #[tactic(auto, using(crate::proofs::Others::unsave_outcome_is))]
+    #[tactic(auto, using(crate::proofs::Results::Others::unsave_outcome_is))]
     pub(crate) fn unsave(&mut self, i: &Instruction) -> Result<(), Stop>
         ensures { CarriesOut Operation.Unsave i.now result self.old self.new }
     {

@@ -1,15 +1,15 @@
 //! One step.
 
 ghost use Rattle.std.specs.Prelude.{◌≡◌, ◌≢◌, ◌<◌, ◌≤◌, ◌-◌, ◌^◌, IsTrue};
-ghost use Rattle.mx_core.specs.Calls.{KeepsOnErr, LacksMemoryOnlyWhere, MakesWithMemory};
+ghost use Rattle.mx_core.specs.Way.Calls.{KeepsOnErr, LacksMemoryOnlyWhere, MakesWithMemory};
 ghost use Rattle.mx_core.specs.Deeds.{deed_at, outcome};
 ghost use Rattle.mx_core.specs.Instructions.{code_of, instruction, operation_in};
 ghost use Rattle.mx_core.specs.Kept.{state_of};
-ghost use Rattle.mx_core.specs.Groups.{operation_by};
+ghost use Rattle.mx_core.specs.Way.Groups.{operation_by};
 ghost use Rattle.mx_core.specs.Step as spec;
-ghost use Rattle.mx_core.specs.Told.{answer_in};
+ghost use Rattle.mx_core.specs.Way.Told.{answer_in};
 ghost use Rattle.mx_core.specs.Walks.{Goes};
-ghost use Rattle.mx_core.specs.Stepping.{advanced, needs_page, step_answer, step_needs_page};
+ghost use Rattle.mx_core.specs.Way.Stepping.{advanced, needs_page, step_answer, step_needs_page};
 
 use crate::bounds::machines_keep_the_invariant;
 use crate::groups::{Group, group_of};
@@ -249,7 +249,7 @@ impl Machine {
 
     /// Carries an instruction of a program out, which is no TRAP. The frequent operations are told
     /// apart here, where each call can be inlined into the loop over steps.
-    #[tactic(auto, using(crate::proofs::Unchanged::unchanged))]
+    #[tactic(auto, using(crate::proofs::Results::Unchanged::unchanged))]
     #[inline(always)]
     fn carry_out_by(&mut self, group: Group, i: &Instruction) -> Result<(), Stop>
         requires plain { i.now ≡ instruction i.now.at i.now.word }
@@ -280,7 +280,7 @@ impl Machine {
     }
 
     /// Carries a load or a store out.
-    #[tactic(auto, using(crate::proofs::Unchanged::unchanged))]
+    #[tactic(auto, using(crate::proofs::Results::Unchanged::unchanged))]
     #[inline(always)]
     fn carry_out_move(&mut self, i: &Instruction) -> Result<(), Stop>
         requires { i.now ≡ instruction i.now.at i.now.word }
@@ -297,7 +297,7 @@ impl Machine {
     }
 
     /// Carries a PUT out. That of rJ stands in each subroutine that calls others.
-    #[tactic(auto, using(crate::proofs::Unchanged::unchanged, crate::proofs::PutValues::put_link))]
+    #[tactic(auto, using(crate::proofs::Results::Unchanged::unchanged, crate::proofs::Results::Puts::put_link))]
     #[inline(always)]
     pub(crate) fn carry_out_put(&mut self, i: &Instruction) -> Result<(), Stop>
         requires plain { i.now ≡ instruction i.now.at i.now.word }
@@ -317,7 +317,7 @@ impl Machine {
 
     /// Carries an instruction of a program out, which is no TRAP. It is given words and no reference, so
     /// that a frequent instruction need not stand in memory.
-    #[tactic(auto, using(crate::proofs::Unchanged::unchanged))]
+    #[tactic(auto, using(crate::proofs::Results::Unchanged::unchanged))]
     #[inline(never)]
     fn carry_out(&mut self, at: u64, word: u32) -> Told
         ensures answer { MakesWithMemory (λ s. outcome s (deed_at s (instruction at word)))

@@ -1,7 +1,7 @@
 //! Why an instruction is not carried out.
 
 ghost use Rattle.std.specs.Prelude.{◌≡◌};
-ghost use Rattle.mx_core.specs.Told.{answer_in};
+ghost use Rattle.mx_core.specs.Way.Told.{answer_in};
 
 use crate::Reason;
 

@@ -1,16 +1,16 @@
 //! Stores, and the exchange of an octa.
 
 ghost use Rattle.std.specs.Prelude.{◌≡◌, ◌≢◌, ◌<◌, ◌≤◌, ◌^◌, Err, Some, false, true};
-ghost use Rattle.mx_core.specs.Calls.{KeepsOnErr, LacksMemoryOnlyWhere, MakesWithMemory, CarriesOutWithMemory};
-ghost use Rattle.mx_core.specs.Calls as spec;
+ghost use Rattle.mx_core.specs.Way.Calls.{KeepsOnErr, LacksMemoryOnlyWhere, MakesWithMemory, CarriesOutWithMemory};
+ghost use Rattle.mx_core.specs.Way.Calls as spec;
 ghost use Rattle.mx_core.specs.Effects.{stored_event};
 ghost use Rattle.mx_trip.specs.declared.decision.Trip.TheVariants as trips;
 ghost use Rattle.mx_alu.specs.declared.answer.Event.TheVariants as event;
 ghost use Rattle.mx_core.specs.Deeds.{deed_of};
 ghost use Rattle.mx_core.specs.Instructions.{instruction};
 ghost use Rattle.mx_core.specs.Kept.{state_of};
-ghost use Rattle.mx_core.specs.Stepping.{needs_page};
-ghost use Rattle.mx_core.specs.Told.{answer_in};
+ghost use Rattle.mx_core.specs.Way.Stepping.{needs_page};
+ghost use Rattle.mx_core.specs.Way.Told.{answer_in};
 
 use crate::instruction::Instruction;
 use crate::operation::{Operation, Storing};
@@ -24,7 +24,7 @@ impl Machine {
     /// STB to STCO. It takes memory only where it begins a page.
     ///
     /// Errors: the stops of a store, and out of memory; then nothing changed.
-    #[tactic(auto, using(crate::proofs::Stores::store_outcome_is, crate::proofs::Plain::store_as_plain))]
+    #[tactic(auto, using(crate::proofs::Results::Stores::store_outcome_is, crate::proofs::Results::Plain::store_as_plain))]
     #[inline(always)]
     pub(crate) fn store_register(&mut self, how: Storing, i: &Instruction) -> Result<(), Stop>
         ensures answer { CarriesOutWithMemory (Operation.Store how) i.now result self.old self.new }
@@ -87,7 +87,7 @@ impl Machine {
     }
 
     /// The same where the event is noted in rA.
-    #[tactic(auto, unfolding(crate::specs::Calls::store_outcome))]
+    #[tactic(auto, unfolding(crate::specs::Way::Calls::store_outcome))]
     fn store_noted(
         &mut self,
         how: Storing,
@@ -115,7 +115,7 @@ impl Machine {
     }
 
     /// The same where the event trips.
-    #[tactic(auto, unfolding(crate::specs::Calls::store_outcome))]
+    #[tactic(auto, unfolding(crate::specs::Way::Calls::store_outcome))]
     fn store_tripped(
         &mut self,
         how: Storing,

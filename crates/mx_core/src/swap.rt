@@ -2,13 +2,13 @@
 
 ghost use Rattle.std.specs.Prelude.{◌≡◌, ◌≤◌, ◌<◌, ◌^◌, false, true};
 ghost use Rattle.mx_ring.specs.Stack.{in_stack_area};
-ghost use Rattle.mx_core.specs.Calls as spec;
-ghost use Rattle.mx_core.specs.Calls.{CarriesOutWithMemory, KeepsOnErr, LacksMemoryOnlyWhere, Makes, MakesWithMemory};
+ghost use Rattle.mx_core.specs.Way.Calls as spec;
+ghost use Rattle.mx_core.specs.Way.Calls.{CarriesOutWithMemory, KeepsOnErr, LacksMemoryOnlyWhere, Makes, MakesWithMemory};
 ghost use Rattle.mx_core.specs.Deeds.{deed_of};
 ghost use Rattle.mx_core.specs.Effects.{data_address};
 ghost use Rattle.mx_core.specs.Kept.{state_of};
 ghost use Rattle.mx_core.specs.State.{octa};
-ghost use Rattle.mx_core.specs.Stepping.{needs_page};
+ghost use Rattle.mx_core.specs.Way.Stepping.{needs_page};
 
 use crate::instruction::Instruction;
 use crate::machine::{SEGMENT, is_in_stack_area};
@@ -22,7 +22,7 @@ impl Machine {
     /// CSWAP. It takes memory only where it writes and begins a page.
     ///
     /// Errors: the stops of CSWAP, and out of memory; then nothing changed.
-    #[tactic(auto, using(crate::proofs::Swaps::swap_negative, crate::proofs::Swaps::swap_outside))]
+    #[tactic(auto, using(crate::proofs::Results::Swaps::swap_negative, crate::proofs::Results::Swaps::swap_outside))]
     pub(crate) fn swap(&mut self, i: &Instruction) -> Result<(), Stop>
         ensures answer { CarriesOutWithMemory Operation.CompareAndSwap i.now result self.old self.new }
         ensures err { KeepsOnErr result self.old self.new }
@@ -45,7 +45,7 @@ impl Machine {
     }
 
     /// Memory outside the stack area gets $X, and $X becomes 1.
-    #[tactic(auto, unfolding(crate::specs::Calls::store_outcome))]
+    #[tactic(auto, unfolding(crate::specs::Way::Calls::store_outcome))]
     fn exchange(&mut self, i: &Instruction, a: u64) -> Result<(), Stop>
         requires address { a < 2 ^ 63 }
         requires outside { in_stack_area a ≡ false }
@@ -65,7 +65,7 @@ impl Machine {
     }
 
     /// rP gets what memory has, and $X becomes 0.
-    #[tactic(auto, unfolding(crate::specs::Calls::set_outcome))]
+    #[tactic(auto, unfolding(crate::specs::Way::Calls::set_outcome))]
     fn leave(&mut self, i: &Instruction, a: u64, found: u64) -> Result<(), Stop>
         ensures { Makes (λ s. spec.left_alone s i.now a found) result self.old self.new }
     {
@@ -110,7 +110,7 @@ impl Machine {
     }
 
     /// Memory in the stack area gets $X, and $X becomes 1.
-    #[tactic(auto, unfolding(crate::specs::Calls::set_outcome, crate::specs::Calls::store_outcome))]
+    #[tactic(auto, unfolding(crate::specs::Way::Calls::set_outcome, crate::specs::Way::Calls::store_outcome))]
     fn exchange_local(&mut self, i: &Instruction, a: u64) -> Result<(), Stop>
         requires inside { in_stack_area a ≡ true }
         requires below { a < 2 ^ 63 }

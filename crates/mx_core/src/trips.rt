@@ -3,8 +3,8 @@
 ghost use Rattle.std.specs.Prelude.{◌≡◌, ◌≢◌, ◌<◌, ◌+◌, ◌^◌, ◌++◌, ◌∷◌, [], Some};
 ghost use Rattle.mx_ring.specs.Stack.{set_overfills};
 ghost use Rattle.mx_spec.specs.SpecialRegisters.{rA};
-ghost use Rattle.mx_core.specs.Calls as spec;
-ghost use Rattle.mx_core.specs.Calls.{Makes, told_specials};
+ghost use Rattle.mx_core.specs.Way.Calls as spec;
+ghost use Rattle.mx_core.specs.Way.Calls.{Makes, told_specials};
 ghost use Rattle.mx_core.specs.Deeds.{onward, tripped, with_specials};
 ghost use Rattle.mx_core.specs.Effects.{tripping, if_told};
 ghost use Rattle.mx_core.specs.Instructions.{next_of, x_of};
@@ -91,7 +91,7 @@ impl Machine {
     }
 
     /// $X, rH and rR get what an answer tells, and the machine goes on.
-    #[tactic(auto, using(crate::proofs::Outcomes::specials_append), unfolding(crate::specs::Calls::set_outcome))]
+    #[tactic(auto, using(crate::proofs::Results::Outcomes::specials_append), unfolding(crate::specs::Way::Calls::set_outcome))]
     #[inline(always)]
     pub(crate) fn give(&mut self, i: &Instruction, a: &Answer) -> Result<(), Stop>
         ensures { Makes (λ s. spec.settled_with s (x_of i.now) a.now.x (told_specials a.now) (next_of i.now)) result
@@ -129,7 +129,7 @@ impl Machine {
     }
 
     /// The same with an event that is noted in rA.
-    #[tactic(auto, using(crate::proofs::Outcomes::specials_append), unfolding(crate::specs::Calls::set_outcome))]
+    #[tactic(auto, using(crate::proofs::Results::Outcomes::specials_append), unfolding(crate::specs::Way::Calls::set_outcome))]
     fn give_noted(&mut self, i: &Instruction, a: &Answer, status: u64) -> Result<(), Stop>
         requires { status < 2 ^ 18 }
         ensures { Makes (λ s. spec.settled_with s (x_of i.now) a.now.x (told_specials a.now ++ (rA, status) ∷ [])
@@ -148,7 +148,7 @@ impl Machine {
     }
 
     /// The same with a trip.
-    #[tactic(auto, using(crate::proofs::Outcomes::specials_append), unfolding(crate::specs::Calls::set_outcome))]
+    #[tactic(auto, using(crate::proofs::Results::Outcomes::specials_append), unfolding(crate::specs::Way::Calls::set_outcome))]
     fn give_tripped(
         &mut self,
         i: &Instruction,
@@ -179,7 +179,7 @@ impl Machine {
     }
 
     /// What an instruction on whole numbers gives, for its operands.
-    #[tactic(auto, unfolding(crate::specs::Calls::answer_outcome))]
+    #[tactic(auto, unfolding(crate::specs::Way::Calls::answer_outcome))]
     #[inline(always)]
     pub(crate) fn answer(&mut self, i: &Instruction, y: u64, z: u64, a: &Answer) -> Result<(), Stop>
         ensures { Makes (λ s. spec.answer_outcome s i.now y z a.now) result self.old self.new }

@@ -15,8 +15,8 @@ ghost use Rattle.mx_core.specs.Wild.{deed};
 ghost use Rattle.mx_core.specs.declared.trace.Trace.{Trace};
 
 use crate::noting::{Was, WholeNote};
+use crate::overwritten::{Overwritten, UsualWas};
 use crate::trips::RJ;
-use crate::usual_was::{Overwritten, UsualWas};
 use crate::{Machine, Note};
 use mx_mem::Memory;
 
@@ -114,7 +114,7 @@ fn put_octa_back(memory: &mut Memory, at: u64, octa: u64)
 }
 
 /// Each machine's memory is one octa for each eight addresses, and 0 where its page is not there.
-#[tactic(auto, using(crate::proofs::Notings::paged))]
+#[tactic(auto, using(crate::proofs::Undone::Notes::paged))]
 #[inline(always)]
 pub fn machines_are_paged(machine: &Machine)
     ensures { IsPaged (state_of machine.now) }

@@ -2,15 +2,15 @@
 //! changes nothing, and is made as any other step.
 
 ghost use Rattle.std.specs.Prelude.{◌≡◌, ◌<◌, ◌%◌, IfSome, IsTrue};
-ghost use Rattle.mx_core.specs.Calls.{KeepsWhereNot, MakesWhereTold};
+ghost use Rattle.mx_core.specs.Way.Calls.{KeepsWhereNot, MakesWhereTold};
 ghost use Rattle.mx_core.specs.Deeds.{deed_at, outcome};
 ghost use Rattle.mx_core.specs.Effects.{loaded_value};
 ghost use Rattle.mx_core.specs.Instructions.{code_of, instruction};
 ghost use Rattle.mx_core.specs.Kept.{state_of};
 ghost use Rattle.mx_core.specs.State as states;
-ghost use Rattle.mx_core.specs.UsualDeeds.{IsUsual};
+ghost use Rattle.mx_core.specs.Way.UsualDeeds.{IsUsual};
 ghost use Rattle.mx_core.specs.Step as spec;
-ghost use Rattle.mx_core.specs.Stepping.{advanced};
+ghost use Rattle.mx_core.specs.Way.Stepping.{advanced};
 ghost use Rattle.mx_core.specs.declared.step.Advance.TheVariants as advance;
 
 use crate::Machine;

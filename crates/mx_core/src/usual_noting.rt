@@ -3,24 +3,24 @@
 ghost use Rattle.std.specs.Prelude.{◌≡◌, ◌≢◌, ◌<◌, ◌+◌, ◌%◌, length, true, false, IfSome, None};
 ghost use Rattle.mx_ring.specs.Registers as registers;
 ghost use Rattle.mx_ring.specs.Stack.{visible};
-ghost use Rattle.mx_core.specs.Calls.{MakesState, settled};
+ghost use Rattle.mx_core.specs.Way.Calls.{MakesState, settled};
 ghost use Rattle.mx_core.specs.Deeds.{deed_at, deed_of, onward, outcome};
 ghost use Rattle.mx_core.specs.Instructions.{instruction, next_of, operation_in, x_of};
 ghost use Rattle.mx_core.specs.Kept.{state_of};
 ghost use Rattle.mx_core.specs.Step.{step};
-ghost use Rattle.mx_core.specs.Stepping.{advanced};
+ghost use Rattle.mx_core.specs.Way.Stepping.{advanced};
 ghost use Rattle.mx_core.specs.Undoing as undoing;
 ghost use Rattle.mx_core.specs.Undoing.{IsPaged, TakesBack};
-ghost use Rattle.mx_core.specs.UsualDeeds.{IsUsual};
+ghost use Rattle.mx_core.specs.Way.UsualDeeds.{IsUsual};
 ghost use Rattle.mx_core.specs.declared.step.Advance.TheVariants as advance;
 
 use crate::instruction::Instruction;
 use crate::noting::Was;
 use crate::operation::{Operation, Storing};
+use crate::overwritten::{Overwritten, UsualWas};
 use crate::trips::RJ;
 use crate::undoing::machines_are_paged;
 use crate::usual::Usual;
-use crate::usual_was::{Overwritten, UsualWas};
 use crate::{Machine, Note};
 
 impl Machine {

@@ -1,11 +1,11 @@
 //! What usual instructions give, and where they go. Each is given with its code as a literal.
 
 ghost use Rattle.std.specs.Prelude.{◌≡◌, IfSome, Ok};
-ghost use Rattle.mx_core.specs.Calls.{settled};
+ghost use Rattle.mx_core.specs.Way.Calls.{settled};
 ghost use Rattle.mx_core.specs.Deeds.{deed_of, onward, outcome};
 ghost use Rattle.mx_core.specs.Instructions.{next_of, operation_in, x_of};
 ghost use Rattle.mx_core.specs.Kept.{state_of};
-ghost use Rattle.mx_core.specs.UsualDeeds.{IsUsual};
+ghost use Rattle.mx_core.specs.Way.UsualDeeds.{IsUsual};
 
 use crate::Machine;
 use crate::compute::{holds, wyde_value};
@@ -16,7 +16,7 @@ use mx_alu::{lone_result, wyde};
 
 impl Machine {
     /// What MUL to SRU and OR to MXOR give $X, where it is all that they give.
-    #[tactic(auto, using(crate::proofs::Events::compute_alone, crate::proofs::Tables::computes, crate::proofs::Tables::computes_low))]
+    #[tactic(auto, using(crate::proofs::Results::Events::compute_alone, crate::proofs::Tables::computes, crate::proofs::Tables::computes_low))]
     #[inline(always)]
     fn computed_value(&self, i: &Instruction) -> Option<u64>
         requires { operation_in i.now ≡ Operation.Compute }
@@ -41,7 +41,7 @@ impl Machine {
     }
 
     /// What NEG and NEGU give $X, where it is all that they give.
-    #[tactic(auto, using(crate::proofs::Events::negate_alone, crate::proofs::Tables::negates, crate::proofs::Tables::negates_low))]
+    #[tactic(auto, using(crate::proofs::Results::Events::negate_alone, crate::proofs::Tables::negates, crate::proofs::Tables::negates_low))]
     #[inline(always)]
     fn negated_value(&self, i: &Instruction) -> Option<u64>
         requires { operation_in i.now ≡ Operation.Negate }
@@ -66,7 +66,7 @@ impl Machine {
     }
 
     /// What SETH to ANDNL give $X.
-    #[tactic(auto, using(crate::proofs::Outcomes::wyde_outcome, crate::proofs::Tables::wyde_low, crate::proofs::Tables::wyde_high))]
+    #[tactic(auto, using(crate::proofs::Results::Outcomes::wyde_outcome, crate::proofs::Tables::wyde_low, crate::proofs::Tables::wyde_high))]
     #[inline(always)]
     fn with_wyde_value(&self, i: &Instruction) -> Option<u64>
         requires { operation_in i.now ≡ Operation.Wyde }
@@ -94,7 +94,7 @@ impl Machine {
     }
 
     /// What CSN to CSEV give $X.
-    #[tactic(auto, using(crate::proofs::Outcomes::conditional_outcome), unfolding(crate::specs::Operations::has_condition))]
+    #[tactic(auto, using(crate::proofs::Results::Outcomes::conditional_outcome), unfolding(crate::specs::Operations::has_condition))]
     #[inline(always)]
     fn chosen_value(&self, i: &Instruction) -> Option<u64>
         requires { operation_in i.now ≡ Operation.ConditionalSet }
@@ -123,7 +123,7 @@ impl Machine {
     }
 
     /// What LDB to LDUNC give $X below Stack_Segment, where the page is near.
-    #[tactic(auto, using(crate::proofs::Loads::load_below))]
+    #[tactic(auto, using(crate::proofs::Results::Loads::load_below))]
     #[inline(always)]
     fn loaded_here(&self, how: Loading, i: &Instruction) -> Option<u64>
         ensures { IfSome result (λ x. outcome (state_of self.now) (deed_of (Operation.Load how) (state_of self.now) i.now)
@@ -147,7 +147,7 @@ impl Machine {
     }
 
     /// What GETA gives $X.
-    #[tactic(auto, using(crate::proofs::Outcomes::address_outcome))]
+    #[tactic(auto, using(crate::proofs::Results::Outcomes::address_outcome))]
     #[inline(always)]
     pub(crate) fn near_one(&self, i: &Instruction) -> Usual
         ensures { IsUsual result (state_of self.now) i.now }
@@ -159,7 +159,7 @@ impl Machine {
     }
 
     /// What GET gives $X, of rB to rBB, which have the codes below 8: rH, rJ and rR are the frequent ones.
-    #[tactic(auto, using(crate::proofs::Gets::get_alone), unfolding(crate::specs::Kept::state_of))]
+    #[tactic(auto, using(crate::proofs::Results::Gets::get_alone), unfolding(crate::specs::Kept::state_of))]
     #[inline(always)]
     fn got_value(&self, i: &Instruction) -> Option<u64>
         ensures { IfSome result (λ x. outcome (state_of self.now) (deed_of Operation.Get (state_of self.now) i.now)
@@ -186,7 +186,7 @@ impl Machine {
     }
 
     /// Where BN to PBEV go.
-    #[tactic(auto, using(crate::proofs::Others::branch_outcome), unfolding(crate::specs::Operations::has_condition))]
+    #[tactic(auto, using(crate::proofs::Results::Others::branch_outcome), unfolding(crate::specs::Operations::has_condition))]
     #[inline(always)]
     fn branched_address(&self, i: &Instruction) -> u64
         requires { operation_in i.now ≡ Operation.Branch }
@@ -212,7 +212,7 @@ impl Machine {
     }
 
     /// Where JMP goes.
-    #[tactic(auto, using(crate::proofs::Others::jump_outcome))]
+    #[tactic(auto, using(crate::proofs::Results::Others::jump_outcome))]
     #[inline(always)]
     fn jumped_address(&self, i: &Instruction) -> u64
         requires { operation_in i.now ≡ Operation.Jump }

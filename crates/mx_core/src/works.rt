@@ -6,8 +6,8 @@ ghost use Rattle.mx_core.specs.Deeds as deeds;
 ghost use Rattle.mx_core.specs.Deeds.{deed_at, deed_of};
 ghost use Rattle.mx_core.specs.Instructions.{Instruction, operation_in};
 ghost use Rattle.mx_core.specs.Kept.{state_of};
-ghost use Rattle.mx_core.specs.Noting as spec;
-ghost use Rattle.mx_core.specs.Noting.{TellsWork};
+ghost use Rattle.mx_core.specs.Way.Noting as spec;
+ghost use Rattle.mx_core.specs.Way.Noting.{TellsWork};
 
 use crate::Machine;
 use crate::instruction::Instruction;

@@ -10,7 +10,7 @@ use Rattle.mx_core.specs.Bare.{Shared, nothing_shared, shared_of, with_shared}
 use Rattle.mx_core.specs.Bounds.{as_list_state}
 use Rattle.mx_core.specs.State.{State}
 use Rattle.mx_core.specs.Step.{step}
-use Rattle.mx_core.specs.Stepping.{advanced}
+use Rattle.mx_core.specs.Way.Stepping.{advanced}
 use Rattle.mx_core.specs.Walks.{Goes, IsWindowed, next_state}
 use Rattle.mx_core.specs.Walks as walk
 use Rattle.mx_core.specs.declared.step.Advance.{Advance}

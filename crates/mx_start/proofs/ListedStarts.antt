@@ -9,7 +9,7 @@ use Rattle.mx_ring.specs.Window.{as_list, window_at_start}
 use Rattle.mx_core.specs.Bounds.{as_list_state}
 use Rattle.mx_start.specs.Start.{pool, pool_octas, with_octas, loaded, start}
 use Rattle.mx_core.specs.State.{State, with_octa, is_negative, is_page_refused}
-use Rattle.mx_core.proofs.Applied.{octa-listed}
+use Rattle.mx_core.proofs.Kept.Applied.{octa-listed}
 
 below-area : (a n : ℕ) → a + 8 * (n + 1) ≤ stack_address 0 → in_stack_area a ≡ false
 below-area a n f = grind (arith, nat_tests)

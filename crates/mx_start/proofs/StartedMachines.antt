@@ -16,7 +16,7 @@ use Rattle.mx_core.specs.Changes.{allowed_unless}
 use Rattle.mx_start.specs.Images.{IsImage}
 use Rattle.mx_start.specs.Start.{pool, pool_octas, with_octas, loaded, start, registers_of, text_size, text_octas, texts_end, text_addresses, first_text}
 use Rattle.mx_core.specs.State.{State, with_octa, is_negative, is_page_refused}
-use Rattle.mx_core.proofs.OctaSteps.{octa-over}
+use Rattle.mx_core.proofs.Octas.Steps.{octa-over}
 use Rattle.mx_start.proofs.StoredOctas.{addresses-length, pool-count}
 
 -- ---- octas in lists

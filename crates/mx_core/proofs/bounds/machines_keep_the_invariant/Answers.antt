@@ -1,8 +1,8 @@
 use Rattle.std.proofs.Common.{subst, ◌≤◌}
 use Rattle.mx_core.specs.Bounds.{IsMachine}
 use Rattle.mx_core.specs.Kept.{Kept, state_of}
-use Rattle.mx_core.specs.Parts.{kept}
-use Rattle.mx_core.proofs.Marks.{machine_kept}
+use Rattle.mx_core.specs.Way.Parts.{kept}
+use Rattle.mx_core.proofs.Kept.Marks.{machine_kept}
 use Rattle.mx_core.proofs.bounds.machines_keep_the_invariant.Goals as goal
 
 pub returns : goal.returns

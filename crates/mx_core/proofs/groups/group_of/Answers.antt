@@ -1,5 +1,5 @@
 use Rattle.std.proofs.Common.{get_or, sym, ◌∙◌, ap}
-use Rattle.mx_core.specs.Groups.{operation_by}
+use Rattle.mx_core.specs.Way.Groups.{operation_by}
 use Rattle.mx_core.specs.declared.groups.TheConstants.{GROUPS}
 use Rattle.mx_core.specs.declared.groups.Group.TheVariants as group
 use Rattle.mx_core.proofs.Tables.{group-at, trap-at}

@@ -1,5 +1,5 @@
 use Rattle.std.proofs.Common.{refl}
-use Rattle.mx_core.proofs.Changed.{register-listed, special-listed, octa-changed-listed}
+use Rattle.mx_core.proofs.Kept.Changed.{register-listed, special-listed, octa-changed-listed}
 use Rattle.mx_core.proofs.laws.changes_go_as_lists.Goals as goal
 
 pub returns : goal.returns

@@ -1,4 +1,4 @@
-use Rattle.mx_core.proofs.OctaSteps.{register-over, special-over, octa-over, address-over}
+use Rattle.mx_core.proofs.Octas.Steps.{register-over, special-over, octa-over, address-over}
 use Rattle.mx_core.proofs.laws.changes_keep_machines.Goals as goal
 
 pub returns : goal.returns

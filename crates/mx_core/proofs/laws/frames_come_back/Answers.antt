@@ -1,5 +1,5 @@
 use Rattle.mx_core.specs.Effects.{specials_saved}
-use Rattle.mx_core.proofs.SavedFrames.{frame-address, frame-kept}
+use Rattle.mx_core.proofs.Kept.Frames.{frame-address, frame-kept}
 use Rattle.mx_core.proofs.laws.frames_come_back.Goals as goal
 
 pub returns : goal.returns

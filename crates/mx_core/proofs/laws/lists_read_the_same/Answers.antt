@@ -1,5 +1,5 @@
-use Rattle.mx_core.proofs.Applied.{hidden-listed}
-use Rattle.mx_core.proofs.Seen.{same-visible, same-register, same-special, same-octa}
+use Rattle.mx_core.proofs.Kept.Applied.{hidden-listed}
+use Rattle.mx_core.proofs.Same.Seen.{same-visible, same-register, same-special, same-octa}
 use Rattle.mx_core.proofs.laws.lists_read_the_same.Goals as goal
 
 pub returns : goal.returns

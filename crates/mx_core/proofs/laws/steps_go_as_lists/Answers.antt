@@ -1,5 +1,5 @@
-use Rattle.mx_core.proofs.SameSteps.{step-listed, step-unread}
-use Rattle.mx_core.proofs.SameWild.{same-wild}
+use Rattle.mx_core.proofs.Same.Steps.{step-listed, step-unread}
+use Rattle.mx_core.proofs.Same.Wild.{same-wild}
 use Rattle.mx_core.proofs.laws.steps_go_as_lists.Goals as goal
 
 pub returns : goal.returns

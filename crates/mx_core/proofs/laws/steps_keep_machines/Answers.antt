@@ -1,5 +1,5 @@
-use Rattle.mx_core.proofs.KeptMachines.{step-touches}
-use Rattle.mx_core.proofs.OctaSteps.{step-over, call-tetra}
+use Rattle.mx_core.proofs.Kept.Machines.{step-touches}
+use Rattle.mx_core.proofs.Octas.Steps.{step-over, call-tetra}
 use Rattle.mx_core.proofs.laws.steps_keep_machines.Goals as goal
 
 pub returns : goal.returns

@@ -1,5 +1,5 @@
 use Rattle.std.proofs.Common.{refl}
-use Rattle.mx_core.proofs.Changed.{trapped-listed}
+use Rattle.mx_core.proofs.Kept.Changed.{trapped-listed}
 use Rattle.mx_core.proofs.laws.traps_go_as_lists.Goals as goal
 
 pub returns : goal.returns

@@ -1,4 +1,4 @@
-use Rattle.mx_core.proofs.OctaSteps.{trapped-over, halted-over, touch-over}
+use Rattle.mx_core.proofs.Octas.Steps.{trapped-over, halted-over, touch-over}
 use Rattle.mx_core.proofs.laws.traps_keep_machines.Goals as goal
 
 pub returns : goal.returns

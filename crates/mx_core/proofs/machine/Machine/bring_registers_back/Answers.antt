@@ -1,4 +1,4 @@
-use Rattle.mx_core.proofs.Marks.{unsave_marks, frame_inside}
+use Rattle.mx_core.proofs.Kept.Marks.{unsave_marks, frame_inside}
 use Rattle.mx_core.proofs.machine.Machine.bring_registers_back.Goals as goal
 
 pub invariant_of-self : goal.invariant_of-self

@@ -1,13 +1,13 @@
 use Rattle.std.proofs.Common.{◌≡◌, false, Err, sym, ap, ◌∙◌}
 use Rattle.mx_mem.specs.declared.part.Part.TheVariants.{Octa}
 use Rattle.mx_ring.specs.Stack.{set_overfills}
-use Rattle.mx_core.specs.Calls.{left, exchanged}
+use Rattle.mx_core.specs.Way.Calls.{left, exchanged}
 use Rattle.mx_core.specs.Instructions.{x_of}
 use Rattle.mx_core.specs.Kept.{state_of}
-use Rattle.mx_core.proofs.Pages.{lacks_exchange}
-use Rattle.mx_core.proofs.Stores.{stored-ok}
-use Rattle.mx_core.proofs.Swaps.{exchange_settles}
-use Rattle.mx_core.proofs.Unchanged.{keeps, lasts}
+use Rattle.mx_core.proofs.Results.Pages.{lacks_exchange}
+use Rattle.mx_core.proofs.Results.Stores.{stored-ok}
+use Rattle.mx_core.proofs.Results.Swaps.{exchange_settles}
+use Rattle.mx_core.proofs.Results.Unchanged.{keeps, lasts}
 use Rattle.mx_core.proofs.machine.Machine.exchange.Goals as goal
 
 made : (c : goal.After-settle) → (c.settle.result, state_of c.settle.new.self) ≡ left (state_of c.args.self.now) (exchanged (state_of c.args.self.now) c.args.i.now c.args.a)

@@ -2,7 +2,7 @@ use Rattle.std.proofs.Common.{◌≡◌, sym, ap, ◌∙◌}
 use Rattle.mx_core.specs.Kept.{state_of}
 use Rattle.mx_core.specs.State.{State}
 use Rattle.mx_core.specs.Step.{step}
-use Rattle.mx_core.specs.Stepping.{step_answer}
+use Rattle.mx_core.specs.Way.Stepping.{step_answer}
 use Rattle.mx_core.specs.declared.step.Step.TheVariants as answer
 use Rattle.mx_core.specs.declared.trace.Trace.{Trace}
 use Rattle.mx_core.proofs.Steps.{went_as, stopped_as, trace_told}

@@ -1,4 +1,4 @@
-use Rattle.mx_core.proofs.Notings.{went-on}
+use Rattle.mx_core.proofs.Undone.Notes.{went-on}
 use Rattle.mx_core.proofs.machine.Machine.follow_noted.Goals as goal
 
 pub returns-in-Went-clause-back : goal.returns-in-Went-clause-back

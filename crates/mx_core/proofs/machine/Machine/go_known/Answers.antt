@@ -1,5 +1,5 @@
 use Rattle.mx_core.specs.Kept.{state_of}
-use Rattle.mx_core.proofs.Unchanged.{err_keeps}
+use Rattle.mx_core.proofs.Results.Unchanged.{err_keeps}
 use Rattle.mx_core.proofs.machine.Machine.go_known.Goals as goal
 
 pub returns-in-Err-clause-kept : goal.returns-in-Err-clause-kept

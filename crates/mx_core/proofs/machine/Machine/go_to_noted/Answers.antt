@@ -1,5 +1,5 @@
 use Rattle.mx_core.specs.Kept.{state_of}
-use Rattle.mx_core.proofs.UndoneUsual.{address-back}
+use Rattle.mx_core.proofs.Undone.Usual.{address-back}
 use Rattle.mx_core.proofs.machine.Machine.go_to_noted.Goals as goal
 
 pub returns-clause-back : goal.returns-clause-back

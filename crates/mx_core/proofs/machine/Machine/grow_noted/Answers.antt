@@ -1,5 +1,4 @@
-use Rattle.std.proofs.Common.{sym, ◌∙◌}
-use Rattle.mx_core.proofs.UndoneUsual.{growth-back}
+use Rattle.mx_core.proofs.Undone.Usual.{growth-back}
 use Rattle.mx_core.proofs.machine.Machine.grow_noted.Goals as goal
 
 pub returns-then-settle_if_room-clause-back : goal.returns-then-settle_if_room-clause-back

@@ -1,8 +1,8 @@
 use Rattle.std.proofs.Common.{Result, sym, ap, ◌∙◌}
-use Rattle.mx_core.specs.Calls.{left}
+use Rattle.mx_core.specs.Way.Calls.{left}
 use Rattle.mx_core.specs.Kept.{state_of}
 use Rattle.mx_core.specs.declared.stop.Stop.{Stop}
-use Rattle.mx_core.proofs.Plain.{load_given}
+use Rattle.mx_core.proofs.Results.Plain.{load_given}
 use Rattle.mx_core.proofs.machine.Machine.load.Goals as goal
 
 pub returns-then-a-ge-SEGMENT : goal.returns-then-a-ge-SEGMENT

@@ -5,8 +5,8 @@ use Rattle.mx_core.specs.Effects.{loaded_value}
 use Rattle.mx_core.specs.Instructions.{x_of, next_of}
 use Rattle.mx_core.specs.State.{octa, with_value_in}
 use Rattle.mx_core.specs.Traps.{with_touch}
-use Rattle.mx_core.proofs.Answered.{settle-ok, settle-err, refused-as, made-as}
-use Rattle.mx_core.proofs.Loads.{load_outside}
+use Rattle.mx_core.proofs.Results.Answered.{settle-ok, settle-err, refused-as, made-as}
+use Rattle.mx_core.proofs.Results.Loads.{load_outside}
 use Rattle.mx_core.proofs.machine.Machine.load_above.Goals as goal
 
 pub returns-in-Ok : goal.returns-in-Ok

@@ -5,8 +5,8 @@ use Rattle.mx_core.specs.Instructions.{x_of, next_of}
 use Rattle.mx_core.specs.Kept.{state_of}
 use Rattle.mx_core.specs.State.{State, octa, with_local}
 use Rattle.mx_core.specs.Traps.{with_touch}
-use Rattle.mx_core.proofs.Answered.{set-ok, set-err, refused-as, after-local}
-use Rattle.mx_core.proofs.Loads.{load_inside}
+use Rattle.mx_core.proofs.Results.Answered.{set-ok, set-err, refused-as, after-local}
+use Rattle.mx_core.proofs.Results.Loads.{load_inside}
 use Rattle.mx_core.proofs.machine.Machine.load_spilled.Goals as goal
 
 pub returns-in-Ok : goal.returns-in-Ok

@@ -1,4 +1,4 @@
-use Rattle.mx_core.proofs.UndoneUsual.{resident-few}
+use Rattle.mx_core.proofs.Undone.Usual.{resident-few}
 use Rattle.mx_core.proofs.machine.Machine.may_spill.Goals as goal
 
 pub returns : goal.returns

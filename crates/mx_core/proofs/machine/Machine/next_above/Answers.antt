@@ -1,5 +1,5 @@
-use Rattle.mx_core.specs.Parts.{kept}
-use Rattle.mx_core.proofs.Searches.{above-is}
+use Rattle.mx_core.specs.Way.Parts.{kept}
+use Rattle.mx_core.proofs.Spaces.Searches.{above-is}
 use Rattle.mx_core.proofs.machine.Machine.next_above.Goals as goal
 
 pub returns : goal.returns

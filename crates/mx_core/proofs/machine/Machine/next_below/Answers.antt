@@ -1,5 +1,5 @@
-use Rattle.mx_core.specs.Parts.{kept}
-use Rattle.mx_core.proofs.Searches.{below-some, below-past, below-none}
+use Rattle.mx_core.specs.Way.Parts.{kept}
+use Rattle.mx_core.proofs.Spaces.Searches.{below-some, below-past, below-none}
 use Rattle.mx_core.proofs.machine.Machine.next_below.Goals as goal
 
 pub returns-then-a-lt-SEGMENT : goal.returns-then-a-lt-SEGMENT

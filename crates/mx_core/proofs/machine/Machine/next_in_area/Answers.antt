@@ -1,8 +1,8 @@
 use Rattle.std.proofs.Common.{Some, None, subst}
 use Rattle.mx_ring.specs.Stack.{windowed, stack_octa}
-use Rattle.mx_core.specs.Parts.{kept}
-use Rattle.mx_core.specs.Search.{IsNextIndex}
-use Rattle.mx_core.proofs.Searches.{area-some, area-none}
+use Rattle.mx_core.specs.Way.Parts.{kept}
+use Rattle.mx_core.specs.Way.Search.{IsNextIndex}
+use Rattle.mx_core.proofs.Spaces.Searches.{area-some, area-none}
 use Rattle.mx_core.proofs.machine.Machine.next_in_area.Goals as goal
 
 pub returns-in-Some : goal.returns-in-Some

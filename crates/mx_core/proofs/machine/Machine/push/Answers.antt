@@ -1,4 +1,4 @@
-use Rattle.mx_core.proofs.Marks.{push_keeps}
+use Rattle.mx_core.proofs.Kept.Marks.{push_keeps}
 use Rattle.mx_core.proofs.machine.Machine.push.Goals as goal
 
 pub invariant_of-self : goal.invariant_of-self

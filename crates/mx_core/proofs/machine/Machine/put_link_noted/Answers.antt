@@ -1,5 +1,5 @@
 use Rattle.mx_core.specs.Kept.{state_of}
-use Rattle.mx_core.proofs.UndoneUsual.{link-back}
+use Rattle.mx_core.proofs.Undone.Usual.{link-back}
 use Rattle.mx_core.proofs.machine.Machine.put_link_noted.Goals as goal
 
 pub returns-then-put_link_if_usual-clause-back : goal.returns-then-put_link_if_usual-clause-back

@@ -1,5 +1,5 @@
 use Rattle.mx_core.specs.Kept.{state_of}
-use Rattle.mx_core.proofs.UndoneUsual.{set-back}
+use Rattle.mx_core.proofs.Undone.Usual.{set-back}
 use Rattle.mx_core.proofs.machine.Machine.put_register_back.Goals as goal
 
 pub returns : goal.returns

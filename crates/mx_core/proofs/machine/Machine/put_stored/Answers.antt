@@ -1,4 +1,4 @@
-use Rattle.mx_core.proofs.Marks.{cut_marks, globals_marks}
+use Rattle.mx_core.proofs.Kept.Marks.{cut_marks, globals_marks}
 use Rattle.mx_core.proofs.machine.Machine.put_stored.Goals as goal
 
 pub invariant_of-self : goal.invariant_of-self

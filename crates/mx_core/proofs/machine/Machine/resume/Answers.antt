@@ -1,9 +1,9 @@
 use Rattle.std.proofs.Common.{◌≡◌, Ok, refl, sym, ap, ◌∙◌}
 use Rattle.mx_trip.specs.declared.insertion.Insert.TheVariants as insert
-use Rattle.mx_core.specs.Calls.{left}
+use Rattle.mx_core.specs.Way.Calls.{left}
 use Rattle.mx_core.specs.Kept.{state_of}
 use Rattle.mx_core.specs.State.{State}
-use Rattle.mx_core.proofs.Resumes.{insertion_in, resume_as, back_done}
+use Rattle.mx_core.proofs.Results.Resumes.{insertion_in, resume_as, back_done}
 use Rattle.mx_core.proofs.machine.Machine.resume.Goals as goal
 
 pub returns-in-Back-clause-answer : goal.returns-in-Back-clause-answer

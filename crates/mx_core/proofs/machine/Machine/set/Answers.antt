@@ -1,4 +1,4 @@
-use Rattle.mx_core.proofs.Marks.{set_keeps}
+use Rattle.mx_core.proofs.Kept.Marks.{set_keeps}
 use Rattle.mx_core.proofs.machine.Machine.set.Goals as goal
 
 pub invariant_of-self : goal.invariant_of-self

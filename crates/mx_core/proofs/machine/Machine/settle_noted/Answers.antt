@@ -1,6 +1,6 @@
 use Rattle.std.proofs.Common.{sym, ◌∙◌}
 use Rattle.mx_core.specs.Kept.{state_of}
-use Rattle.mx_core.proofs.UndoneUsual.{register-back}
+use Rattle.mx_core.proofs.Undone.Usual.{register-back}
 use Rattle.mx_core.proofs.machine.Machine.settle_noted.Goals as goal
 
 pub returns-then-settle_if_room-clause-back : goal.returns-then-settle_if_room-clause-back

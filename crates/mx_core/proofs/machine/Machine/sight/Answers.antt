@@ -1,6 +1,6 @@
 use Rattle.mx_core.specs.Instructions.{operation_in}
 use Rattle.mx_core.specs.Kept.{state_of}
-use Rattle.mx_core.proofs.Foretold.{foretold, ring_bounds}
+use Rattle.mx_core.proofs.Results.Foretold.{foretold, ring_bounds}
 use Rattle.mx_core.proofs.machine.Machine.sight.Goals as goal
 
 pub returns : goal.returns

@@ -3,7 +3,7 @@ use Rattle.mx_trip.specs.declared.call.TrapCall.{TrapCall}
 use Rattle.mx_core.specs.Instructions.{operation_in}
 use Rattle.mx_core.specs.Kept.{state_of}
 use Rattle.mx_core.specs.Step.{fetched}
-use Rattle.mx_core.specs.Stepping.{step_answer}
+use Rattle.mx_core.specs.Way.Stepping.{step_answer}
 use Rattle.mx_core.specs.declared.operation.Operation.TheVariants as op
 use Rattle.mx_core.specs.declared.step.Step.TheVariants as answer
 use Rattle.mx_core.proofs.Steps.{step_negative, step_traps}

@@ -1,6 +1,6 @@
 use Rattle.std.proofs.Common.{sym, subst}
 use Rattle.mx_core.specs.Kept.{state_of}
-use Rattle.mx_core.specs.Noting.{IfWent}
+use Rattle.mx_core.specs.Way.Noting.{IfWent}
 use Rattle.mx_core.specs.Undoing.{TakesBack}
 use Rattle.mx_core.proofs.machine.Machine.step_noted.Goals as goal
 

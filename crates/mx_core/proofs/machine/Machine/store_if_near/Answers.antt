@@ -1,6 +1,6 @@
 use Rattle.std.proofs.Common.{◌∙◌, ap}
 use Rattle.mx_mem.specs.declared.part.Part.TheVariants.{Tetra}
-use Rattle.mx_core.specs.Calls.{left, store_outcome}
+use Rattle.mx_core.specs.Way.Calls.{left, store_outcome}
 use Rattle.mx_core.specs.Kept.{state_of}
 use Rattle.mx_core.proofs.Tetras.{store-tetra}
 use Rattle.mx_core.proofs.machine.Machine.store_if_near.Goals as goal

@@ -1,13 +1,13 @@
 use Rattle.std.proofs.Common.{◌≡◌, ◌<◌, ◌^◌, ap, ◌∙◌, refl, subst, None, arith}
-use Rattle.mx_core.specs.Calls.{store_seen}
+use Rattle.mx_core.specs.Way.Calls.{store_seen}
 use Rattle.mx_core.specs.Deeds.{onward}
 use Rattle.mx_core.specs.Effects.{stored_part, stored_value, stored_event}
 use Rattle.mx_core.specs.Instructions.{x_of, next_of}
 use Rattle.mx_core.specs.Kept.{state_of}
-use Rattle.mx_core.specs.Noting.{StoresBelow}
+use Rattle.mx_core.specs.Way.Noting.{StoresBelow}
 use Rattle.mx_core.specs.State.{State}
-use Rattle.mx_core.proofs.Answered.{made-as}
-use Rattle.mx_core.proofs.Stores.{store_plain, stored-ok}
+use Rattle.mx_core.proofs.Results.Answered.{made-as}
+use Rattle.mx_core.proofs.Results.Stores.{store_plain, stored-ok}
 use Rattle.mx_core.proofs.machine.Machine.store_if_usual.Goals as goal
 
 pub returns-then-store_if_near-clause-made : goal.returns-then-store_if_near-clause-made

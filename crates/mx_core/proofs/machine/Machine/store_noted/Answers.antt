@@ -1,6 +1,6 @@
 use Rattle.std.proofs.Common.{Err}
 use Rattle.mx_core.specs.Kept.{state_of}
-use Rattle.mx_core.proofs.Pages.{lacks_noted}
+use Rattle.mx_core.proofs.Results.Pages.{lacks_noted}
 use Rattle.mx_core.proofs.machine.Machine.store_noted.Goals as goal
 
 pub returns-in-Err-clause-there : goal.returns-in-Err-clause-there

@@ -1,4 +1,4 @@
-use Rattle.mx_core.proofs.Marks.{octa_marks}
+use Rattle.mx_core.proofs.Kept.Marks.{octa_marks}
 use Rattle.mx_core.proofs.machine.Machine.store_octa.Goals as goal
 
 pub invariant_of-self : goal.invariant_of-self

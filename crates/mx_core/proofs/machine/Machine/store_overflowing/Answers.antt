@@ -1,10 +1,10 @@
 use Rattle.std.proofs.Common.{sym, ap, ◌∙◌}
 use Rattle.mx_alu.specs.declared.answer.Event.TheVariants.{Overflow}
 use Rattle.mx_trip.specs.Trips.{decided}
-use Rattle.mx_core.specs.Calls.{left, makes_page}
+use Rattle.mx_core.specs.Way.Calls.{left, makes_page}
 use Rattle.mx_core.specs.Kept.{state_of}
-use Rattle.mx_core.proofs.Stores.{store_overflow}
-use Rattle.mx_core.proofs.Unchanged.{lacks_as}
+use Rattle.mx_core.proofs.Results.Stores.{store_overflow}
+use Rattle.mx_core.proofs.Results.Unchanged.{lacks_as}
 use Rattle.mx_core.proofs.machine.Machine.store_overflowing.Goals as goal
 
 pub store_noted-requires-clause-bits : goal.store_noted-requires-clause-bits

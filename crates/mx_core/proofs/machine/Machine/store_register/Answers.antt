@@ -1,17 +1,17 @@
 use Rattle.std.proofs.Common.{◌≡◌, ap, ◌∙◌, refl, sym, Err, None}
-use Rattle.mx_core.specs.Calls.{store_seen, store_settled, makes_page}
+use Rattle.mx_core.specs.Way.Calls.{store_seen, store_settled, makes_page}
 use Rattle.mx_core.specs.Deeds.{onward, outcome, deed_of}
 use Rattle.mx_core.specs.Effects.{data_address, x_register, stored_part, stored_value, stored_event}
 use Rattle.mx_core.specs.Instructions.{instruction, x_of, next_of}
 use Rattle.mx_core.specs.Kept.{state_of}
 use Rattle.mx_core.specs.State.{State}
-use Rattle.mx_core.specs.Told.{answer_in}
+use Rattle.mx_core.specs.Way.Told.{answer_in}
 use Rattle.mx_core.specs.declared.operation.Operation.TheVariants as op
-use Rattle.mx_core.proofs.Answered.{refused-as, made-as}
-use Rattle.mx_core.proofs.Pages.{lacks_plain}
-use Rattle.mx_core.proofs.Plain.{store_as_plain}
-use Rattle.mx_core.proofs.Stores.{store_negative, store_outcome_is, store_page, store_plain, stored-ok, stored-err}
-use Rattle.mx_core.proofs.Unchanged.{lacks_as}
+use Rattle.mx_core.proofs.Results.Answered.{refused-as, made-as}
+use Rattle.mx_core.proofs.Results.Pages.{lacks_plain}
+use Rattle.mx_core.proofs.Results.Plain.{store_as_plain}
+use Rattle.mx_core.proofs.Results.Stores.{store_negative, store_outcome_is, store_page, store_plain, stored-ok, stored-err}
+use Rattle.mx_core.proofs.Results.Unchanged.{lacks_as}
 use Rattle.mx_core.proofs.machine.Machine.store_register.Goals as goal
 
 pub returns-then-a-clause-answer : goal.returns-then-a-clause-answer

@@ -1,5 +1,5 @@
 use Rattle.mx_core.specs.Kept.{state_of}
-use Rattle.mx_core.proofs.UndoneUsual.{octa-back}
+use Rattle.mx_core.proofs.Undone.Usual.{octa-back}
 use Rattle.mx_core.proofs.machine.Machine.store_usual.Goals as goal
 
 pub returns-then-store_if_usual-clause-back : goal.returns-then-store_if_usual-clause-back

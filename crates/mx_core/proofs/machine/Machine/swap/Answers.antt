@@ -1,10 +1,10 @@
 use Rattle.std.proofs.Common.{◌≡◌, ◌==◌, true, false, refl, sym, ap, ◌∙◌}
 use Rattle.mx_spec.specs.SpecialRegisters.{rP}
-use Rattle.mx_core.specs.Calls.{left, left_alone}
+use Rattle.mx_core.specs.Way.Calls.{left, left_alone}
 use Rattle.mx_core.specs.Kept.{state_of}
 use Rattle.mx_core.specs.State.{octa, special_register}
-use Rattle.mx_core.proofs.Swaps.{swap_needs, swap_outside, found-same, found-other}
-use Rattle.mx_core.proofs.Unchanged.{lacks_as}
+use Rattle.mx_core.proofs.Results.Swaps.{swap_needs, swap_outside, found-same, found-other}
+use Rattle.mx_core.proofs.Results.Unchanged.{lacks_as}
 use Rattle.mx_core.proofs.machine.Machine.swap.Goals as goal
 
 pub returns-then-found-special-clause-answer : goal.returns-then-found-special-clause-answer

@@ -3,9 +3,9 @@ use Rattle.mx_ring.specs.Stack.{set_overfills}
 use Rattle.mx_core.specs.Instructions.{x_of}
 use Rattle.mx_core.specs.Kept.{state_of}
 use Rattle.mx_core.specs.State.{with_local}
-use Rattle.mx_core.proofs.Answered.{set-ok, set-err}
-use Rattle.mx_core.proofs.Swaps.{swap_inside, swap_full}
-use Rattle.mx_core.proofs.Unchanged.{keeps}
+use Rattle.mx_core.proofs.Results.Answered.{set-ok, set-err}
+use Rattle.mx_core.proofs.Results.Swaps.{swap_inside, swap_full}
+use Rattle.mx_core.proofs.Results.Unchanged.{keeps}
 use Rattle.mx_core.proofs.machine.Machine.swap_spilled.Goals as goal
 
 pub returns-in-Ok-clause-answer : goal.returns-in-Ok-clause-answer

@@ -2,8 +2,8 @@ use Rattle.std.proofs.Common.{◌≡◌, ◌==◌, false, sym, arith}
 use Rattle.std.proofs.lemmas.Bool.Decides.{nat_tests}
 use Rattle.mx_core.specs.Kept.{state_of}
 use Rattle.mx_core.specs.State.{tetra}
-use Rattle.mx_core.proofs.Answered.{made-as}
-use Rattle.mx_core.proofs.Others.{trip_outcome_is}
+use Rattle.mx_core.proofs.Results.Answered.{made-as}
+use Rattle.mx_core.proofs.Results.Others.{trip_outcome_is}
 use Rattle.mx_core.proofs.machine.Machine.trip_at_once.Goals as goal
 
 pub returns : goal.returns

@@ -1,6 +1,6 @@
 use Rattle.std.proofs.Common.{arith, ap, ◌∙◌}
 use Rattle.mx_ring.specs.Window.{Window}
-use Rattle.mx_core.proofs.Notings.{undone_spilled}
+use Rattle.mx_core.proofs.Undone.Notes.{undone_spilled}
 use Rattle.mx_core.proofs.machine.Machine.undo_whole.Goals as goal
 
 pub invariant_of-self : goal.invariant_of-self

@@ -1,7 +1,7 @@
 use Rattle.std.proofs.Common.{arith, ap, ◌∙◌}
 use Rattle.mx_ring.specs.Notes.{RingWas}
 use Rattle.mx_core.specs.Kept.{Kept}
-use Rattle.mx_core.proofs.Notings.{noted_spilled}
+use Rattle.mx_core.proofs.Undone.Notes.{noted_spilled}
 use Rattle.mx_core.proofs.machine.Machine.whole_note.Goals as goal
 
 pub invariant_of-result : goal.invariant_of-result

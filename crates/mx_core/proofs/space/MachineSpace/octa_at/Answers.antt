@@ -1,5 +1,5 @@
 use Rattle.std.proofs.Common.{sym, ◌∙◌}
-use Rattle.mx_core.proofs.Spaces.{octa-is-answer}
+use Rattle.mx_core.proofs.Spaces.Bytes.{octa-is-answer}
 use Rattle.mx_core.proofs.space.MachineSpace.octa_at.Goals as goal
 
 pub returns : goal.returns

@@ -3,7 +3,7 @@ use Rattle.mx_mem.specs.Parts.{with_part}
 use Rattle.mx_mem.specs.declared.part.Part.TheVariants.{Byte}
 use Rattle.mx_core.specs.Kept.{state_of}
 use Rattle.mx_core.specs.State.{octa}
-use Rattle.mx_core.proofs.Spaces.{stored-is-put}
+use Rattle.mx_core.proofs.Spaces.Bytes.{stored-is-put}
 use Rattle.mx_core.proofs.space.MachineSpace.put_byte.Goals as goal
 
 pub returns-in-Ok-clause-answer : goal.returns-in-Ok-clause-answer
