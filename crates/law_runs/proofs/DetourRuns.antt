@@ -18,7 +18,7 @@ use Rattle.mx_mmo.specs.Image.{Image}
 use Rattle.mx_load.specs.Objects.{object_loaded}
 use Rattle.mx_plan.specs.Counts.{NoneFailed}
 use Rattle.mx_plan.proofs.Spared.{sooner}
-use Rattle.mx_core.specs.Start.{start}
+use Rattle.mx_start.specs.Start.{start}
 use Rattle.mx_core.specs.State.{State}
 use Rattle.mx_run.specs.Runs.{no_flags}
 use Rattle.mx_run.specs.WildRuns.{MachineKind, RunEnd, run_by}

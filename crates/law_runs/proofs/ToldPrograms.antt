@@ -18,7 +18,7 @@ use Rattle.mx_mmo.specs.declared.items.Tail.{Tail}
 use Rattle.mx_stab.specs.Reading.{trie_answer}
 use Rattle.mx_stab.specs.declared.faults.StabFault.{StabFault}
 use Rattle.mx_load.specs.Objects.{object_loaded}
-use Rattle.mx_core.specs.Start.{start}
+use Rattle.mx_start.specs.Start.{start}
 use Rattle.mx_core.specs.State.{State}
 use Rattle.mx_ring.specs.Stack.{register}
 use Rattle.mx_run.specs.Runs.{no_flags}

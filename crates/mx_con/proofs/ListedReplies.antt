@@ -18,8 +18,8 @@ use Rattle.mx_core.specs.Bounds.{IsMachine, as_list_state}
 use Rattle.mx_core.specs.Changes.{allowed_unless, put_changed, special_changed, register_changed}
 use Rattle.mx_core.specs.State.{State, global_start, locals, with_value_in, with_octa, is_page_refused, is_in_stack_segment}
 use Rattle.mx_core.specs.declared.changes.SetFault.{SetFault}
-use Rattle.mx_core.proofs.Changed.{register-listed, special-listed, octa-changed-listed}
-use Rattle.mx_core.proofs.Seen.{same-visible}
+use Rattle.mx_core.proofs.Kept.Changed.{register-listed, special-listed, octa-changed-listed}
+use Rattle.mx_core.proofs.Same.Seen.{same-visible}
 use Rattle.mx_run.specs.Runs.{FlagsOf}
 use Rattle.mx_run.specs.WildRuns.{window_machine, list_machine}
 use Rattle.mx_word.specs.Lists.{IsFront}

@@ -18,7 +18,7 @@ use Rattle.mx_trap.specs.Moves.{Leaves}
 use Rattle.mx_trap.specs.Touches.{touches}
 use Rattle.mx_trap.specs.declared.answer.TrapAnswer.{TrapAnswer}
 use Rattle.mx_trap.specs.declared.answer.TrapAnswer.TheVariants as trap
-use Rattle.mx_core.specs.Calls.{left}
+use Rattle.mx_core.specs.Way.Calls.{left}
 use Rattle.mx_core.specs.Deeds.{Deed, state_done, unless_refused, deed_of, given_instruction, inserted, resumed, plain_deed, with_destination, looks_at_stack, loads_in_segment, stores_in_segment, is_absent}
 use Rattle.mx_core.specs.Effects.{Effect, Store, effect_of, touch, going_to}
 use Rattle.mx_core.specs.Instructions.{instruction, operation_in, xyz_of}
@@ -31,7 +31,7 @@ use Rattle.mx_core.specs.declared.reason.Reason.{Reason}
 use Rattle.mx_core.specs.declared.reason.Reason.TheVariants.{Illegal}
 use Rattle.mx_core.specs.declared.trace.Touch.{Touch}
 use Rattle.mx_core.specs.declared.trace.Trace.{Trace}
-use Rattle.mx_core.proofs.QuietDeeds.{free}
+use Rattle.mx_core.proofs.Same.Quiet.{free}
 use Rattle.mx_core.proofs.Steps.{other_deed, step_went, step_stopped, step_traps, step_negative}
 use Rattle.mx_run.specs.Runs.{FlagsOf, ended, break_of, after_trace, after_turn, breaks_before}
 use Rattle.mx_run.specs.Turns.{Turn, went_on, halts, stops, area_size, turn_with, trap_turn, turn_of, turn}

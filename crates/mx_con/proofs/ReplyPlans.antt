@@ -6,7 +6,7 @@ use Rattle.mx_plan.specs.Plan.{returns, bind, end_of, end_after, Stops, Comes}
 use Rattle.mx_plan.specs.Calls.{host}
 use Rattle.mx_text.specs.declared.numbers.Form.{Form}
 use Rattle.mx_text.specs.declared.numbers.Form.TheVariants.{Hex}
-use Rattle.mx_core.specs.Changed.{left_changed}
+use Rattle.mx_core.specs.Way.Changed.{left_changed}
 use Rattle.mx_core.specs.Changes.{at_address}
 use Rattle.mx_core.specs.State.{State, octa, special_register, is_in_stack_segment}
 use Rattle.mx_core.specs.declared.changes.SetFault.{SetFault}

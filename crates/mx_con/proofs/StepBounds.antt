@@ -6,7 +6,7 @@ use Rattle.mx_spec.specs.Puts.{put_of}
 use Rattle.mx_spec.specs.SpecialRegisters.{rG, rL}
 use Rattle.mx_spec.specs.declared.put.Put.{Put}
 use Rattle.mx_spec.specs.declared.put.Put.TheVariants as put
-use Rattle.mx_core.specs.Changed.{left_changed}
+use Rattle.mx_core.specs.Way.Changed.{left_changed}
 use Rattle.mx_core.specs.Changes.{allowed_unless, at_address, put_changed}
 use Rattle.mx_core.specs.State.{State, global_start, is_page_refused, locals, with_octa, with_value_in}
 use Rattle.mx_core.specs.declared.changes.SetFault.{SetFault}

@@ -1,7 +1,7 @@
 //! What lines show and change.
 
 ghost use Rattle.std.specs.Prelude.{◌≡◌, ◌≢◌, ◌++◌, ◌<◌, Err, IfOk, OnOk, OnErr};
-ghost use Rattle.mx_core.specs.Changed.{Changes};
+ghost use Rattle.mx_core.specs.Way.Changed.{Changes};
 ghost use Rattle.mx_core.specs.Kept.{state_of};
 ghost use Rattle.mx_con.specs.Subjects as spec;
 

@@ -6,7 +6,7 @@ use Rattle.mx_host.specs.HostAnswer.{Then}
 use Rattle.mx_mmo.specs.Image.{Image}
 use Rattle.mx_ring.specs.Stack.{windowed}
 use Rattle.mx_ring.specs.Window.{window_at_start}
-use Rattle.mx_core.specs.Start.{start}
+use Rattle.mx_start.specs.Start.{start}
 use Rattle.mx_core.specs.State.{State}
 use Rattle.mx_run.specs.Runs.{Ended, ended, no_flags, run}
 use Rattle.mx_run.specs.WildRuns.{window_machine}

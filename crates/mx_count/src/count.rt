@@ -11,12 +11,13 @@ ghost use Rattle.mx_count.specs.Runs.{CountsAs};
 
 use crate::Counts;
 use crate::watched::run_counted;
-use mx_core::{Machine, StartFault};
+use mx_core::Machine;
 use mx_files::{Outcome, SOURCE_PIECES, SourceFault, load_source, read_file};
 use mx_host::Host;
 use mx_load::Image;
 use mx_ring::RingSize;
 use mx_run::End;
+use mx_start::StartFault;
 use mx_word::Bytes;
 use mx_words::Order;
 use std::alloc::Global;
@@ -67,7 +68,7 @@ fn start(
     ensures present { result ≢ Err Outcome.NoFile }
 {
     let pc = image.global(255) / 4 * 4;
-    match Machine::start(alloc, image, arguments, ring) {
+    match mx_start::start(alloc, image, arguments, ring) {
         Ok(machine) => Ok(machine),
         Err(StartFault::PagesFull) => Err(Outcome::Stopped { pc, reason: 118 }),
         Err(StartFault::OutOfMemory) => Err(Outcome::OutOfMemory),

@@ -15,7 +15,7 @@ use Rattle.mx_trap.specs.Touches.{is_in_segment}
 use Rattle.mx_core.specs.Bounds.{IsMachine, as_list_state}
 use Rattle.mx_core.specs.MachineSpace.{IsWholeSpace, area_in}
 use Rattle.mx_core.specs.State.{State, octa}
-use Rattle.mx_core.proofs.Seen.{same-octa}
+use Rattle.mx_core.proofs.Same.Seen.{same-octa}
 use Rattle.mx_run.specs.WildRuns.{HasWindow}
 
 -- OCTAS OF BYTES

@@ -6,7 +6,7 @@ use Rattle.mx_plan.specs.Plan.{Comes, Stops, bind}
 use Rattle.mx_core.specs.Reasons.{number_of}
 use Rattle.mx_core.specs.State.{State}
 use Rattle.mx_core.specs.Step.{Stepped, went, calls, stopped, step}
-use Rattle.mx_core.specs.Stepping.{advanced, step_needs_page}
+use Rattle.mx_core.specs.Way.Stepping.{advanced, step_needs_page}
 use Rattle.mx_core.specs.declared.reason.Reason.{Reason}
 use Rattle.mx_core.specs.declared.step.Advance.TheVariants as advance
 use Rattle.mx_core.specs.declared.trace.Touch.{Touch}

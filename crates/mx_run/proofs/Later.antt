@@ -4,7 +4,7 @@ use Rattle.mx_trip.specs.declared.call.TrapCall.{TrapCall}
 use Rattle.mx_core.specs.MachineSpace.{rest_of}
 use Rattle.mx_core.specs.State.{State}
 use Rattle.mx_core.specs.Step.{Stepped, went, calls, stopped, step}
-use Rattle.mx_core.specs.Stepping.{advanced, step_answer}
+use Rattle.mx_core.specs.Way.Stepping.{advanced, step_answer}
 use Rattle.mx_core.specs.Traps.{trapped, halted}
 use Rattle.mx_core.specs.declared.step.Advance.{Advance}
 use Rattle.mx_core.specs.declared.step.Step.{Step}

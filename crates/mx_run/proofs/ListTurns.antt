@@ -23,11 +23,11 @@ use Rattle.mx_core.specs.State.{State, octa}
 use Rattle.mx_core.specs.Step.{Stepped, went, calls, stopped, step}
 use Rattle.mx_core.specs.Traps.{trapped, trap_trace, halted}
 use Rattle.mx_core.specs.Wild.{is_wild}
-use Rattle.mx_core.proofs.Changed.{trapped-listed}
-use Rattle.mx_core.proofs.KeptMachines.{step-touches}
-use Rattle.mx_core.proofs.SameSteps.{step-listed}
-use Rattle.mx_core.proofs.SameWild.{same-wild}
-use Rattle.mx_core.proofs.Seen.{same-octa, same-register}
+use Rattle.mx_core.proofs.Kept.Changed.{trapped-listed}
+use Rattle.mx_core.proofs.Kept.Machines.{step-touches}
+use Rattle.mx_core.proofs.Same.Steps.{step-listed}
+use Rattle.mx_core.proofs.Same.Wild.{same-wild}
+use Rattle.mx_core.proofs.Same.Seen.{same-octa, same-register}
 use Rattle.mx_run.specs.Turns.{Turn, went_on, halts, area_size, with_touch_if, turn_with, trap_turn, turn_of, turn}
 use Rattle.mx_run.specs.WildRuns.{trap_touches, turn_is_wild, as_list_turn, state_after}
 use Rattle.mx_run.proofs.Areas.{own-bytes, same-area, beside-octa}

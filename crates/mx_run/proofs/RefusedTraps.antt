@@ -11,7 +11,7 @@ use Rattle.mx_trap.specs.declared.answer.TrapStop.{TrapStop}
 use Rattle.mx_trap.specs.declared.answer.TrapStop.TheVariants.{Negative, WideTrap, TransferTooLarge, TrapPagesFull, UnknownTrap}
 use Rattle.mx_core.specs.MachineSpace.{machine_contents, IsWholeSpace, state_in}
 use Rattle.mx_core.specs.State.{State}
-use Rattle.mx_core.proofs.SpaceStates.{told}
+use Rattle.mx_core.proofs.Spaces.States.{told}
 use Rattle.mx_run.specs.Turns.{area_size, moves_before, moves_bytes, may_change}
 use Rattle.mx_run.specs.declared.turn_answer.TurnAnswer.TheVariants as answer
 

@@ -5,7 +5,7 @@ use Rattle.mx_plan.specs.Plan.{Comes, IsRest}
 use Rattle.mx_core.specs.Bounds.{as_list_state}
 use Rattle.mx_core.specs.State.{State}
 use Rattle.mx_core.specs.Step.{step}
-use Rattle.mx_core.specs.Stepping.{advanced}
+use Rattle.mx_core.specs.Way.Stepping.{advanced}
 use Rattle.mx_core.specs.Walks.{Goes, GoesOn, IsWindowed, next_state}
 use Rattle.mx_core.specs.declared.step.Advance.{Advance}
 use Rattle.mx_core.specs.declared.step.Advance.TheVariants as advance

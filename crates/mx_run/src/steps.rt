@@ -4,7 +4,7 @@ ghost use Rattle.std.specs.Prelude.{◌≡◌, ◌≢◌, ◌/◌, ◌&&◌, not
 ghost use Rattle.mx_plan.specs.Clauses.{Stands};
 ghost use Rattle.mx_core.specs.Kept.{state_of};
 ghost use Rattle.mx_core.specs.Step.{step};
-ghost use Rattle.mx_core.specs.Stepping.{advanced, step_needs_page};
+ghost use Rattle.mx_core.specs.Way.Stepping.{advanced, step_needs_page};
 ghost use Rattle.mx_run.specs.Clauses.{CarriesOutRun};
 ghost use Rattle.mx_run.specs.FlagMaps.{flags_at};
 ghost use Rattle.mx_run.specs.RunPlans.{ended_turn, step_plan, SparesMemory, SparesStep};

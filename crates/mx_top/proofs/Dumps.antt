@@ -3,7 +3,7 @@ use Rattle.std.proofs.Common.{◌≡◌, ◌≢◌, ◌≤◌, ◌<◌, ◌⊎�
 use Rattle.std.proofs.lemmas.Bool.{cases_lt}
 use Rattle.std.proofs.lemmas.Bool.Decides.{nat_tests}
 use Rattle.mx_word.proofs.Comparisons.{other-test}
-use Rattle.mx_core.specs.Search.{AreZero, IsNextBetween}
+use Rattle.mx_core.specs.Way.Search.{AreZero, IsNextBetween}
 use Rattle.mx_core.specs.State.{State, octa}
 use Rattle.mx_ring.specs.Stack.{in_stack_area, stack_address}
 use Rattle.mx_text.specs.Numbers.{hex_digits}

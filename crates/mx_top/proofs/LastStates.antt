@@ -11,7 +11,7 @@ use Rattle.mx_con.specs.ConsoleTexts.{state_text}
 use Rattle.mx_core.specs.Bounds.{as_list_state}
 use Rattle.mx_core.specs.State.{State}
 use Rattle.mx_core.specs.Undoing.{StateWas}
-use Rattle.mx_core.proofs.Seen.{same-visible}
+use Rattle.mx_core.proofs.Same.Seen.{same-visible}
 use Rattle.mx_ring.specs.Registers.{Registers}
 use Rattle.mx_text.specs.Numbers.{hex_text}
 use Rattle.mx_files.specs.declared.outcome.Outcome.{Outcome}

@@ -10,7 +10,7 @@ use Rattle.std.specs.Option.{option_map}
 use Rattle.std.proofs.lemmas.List.{drop-map}
 use Rattle.std.proofs.lemmas.List.{take_all}
 use Rattle.mx_top.specs.Arguments.{program_name}
-use Rattle.mx_core.specs.Start.{pool, text_size, text_octas, text_addresses, first_text, pool_octas}
+use Rattle.mx_start.specs.Start.{pool, text_size, text_octas, text_addresses, first_text, pool_octas}
 use Rattle.mx_mmo.specs.Reading.{octas_of}
 use Rattle.mx_ring.specs.Stack.{stack_address}
 

@@ -5,9 +5,9 @@ use Rattle.std.proofs.lemmas.List.{length-map}
 use Rattle.std.proofs.Math.ListN.{get_or-map}
 use Rattle.mx_core.specs.Bare.{Shared}
 use Rattle.mx_core.specs.Bounds.{as_list_state}
-use Rattle.mx_core.specs.Search.{AreZero, IsNextBetween}
+use Rattle.mx_core.specs.Way.Search.{AreZero, IsNextBetween}
 use Rattle.mx_core.specs.State.{State, octa}
-use Rattle.mx_core.proofs.Seen.{same-register}
+use Rattle.mx_core.proofs.Same.Seen.{same-register}
 use Rattle.mx_host.specs.HostModel.{HostModel}
 use Rattle.mx_multi.specs.Joint.{Joint, as_list_joint, has_halted, no_processor, processor}
 use Rattle.mx_multi.specs.declared.end.MultiEnd.{MultiEnd}

@@ -4,13 +4,13 @@ use Rattle.std.specs.Prelude.{Option, Result}
 use Rattle.mx_mmo.specs.Image.{Image}
 use Rattle.mx_ring.specs.Stack.{Stack, windowed, stack_address, in_stack_area}
 use Rattle.mx_ring.specs.Window.{window_at_start}
-use Rattle.mx_core.proofs.Started.{start-listed}
+use Rattle.mx_start.proofs.ListedStarts.{start-listed}
 use Rattle.mx_core.specs.Bounds.{as_list_state}
-use Rattle.mx_core.specs.Start.{pool, pool_octas, with_octas, loaded, start}
-use Rattle.mx_core.specs.Started.{begun}
+use Rattle.mx_start.specs.Start.{pool, pool_octas, with_octas, loaded, start}
+use Rattle.mx_start.specs.Started.{begun}
 use Rattle.mx_core.specs.State.{State, with_octa, is_negative, is_page_refused}
-use Rattle.mx_core.specs.declared.start.StartFault.{StartFault}
-use Rattle.mx_core.specs.declared.start.StartFault.TheVariants.{PagesFull}
+use Rattle.mx_start.specs.declared.fault.StartFault.{StartFault}
+use Rattle.mx_start.specs.declared.fault.StartFault.TheVariants.{PagesFull}
 use Rattle.mx_run.specs.WildRuns.{window_machine, list_machine}
 use Rattle.mx_top.specs.Runs.{main_address, pages_full, started}
 use Rattle.mx_files.specs.declared.outcome.Outcome.{Outcome}

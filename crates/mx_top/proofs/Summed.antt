@@ -11,7 +11,7 @@ use Rattle.mx_top.specs.ProductPlan.{is_done, summed_plan}
 use Rattle.mx_host.specs.HostModel.{HostModel}
 use Rattle.mx_core.specs.Bounds.{as_list_state}
 use Rattle.mx_core.specs.State.{State}
-use Rattle.mx_core.proofs.Seen.{same-register}
+use Rattle.mx_core.proofs.Same.Seen.{same-register}
 use Rattle.mx_top.specs.Product.{summary_put, summed}
 use Rattle.mx_top.specs.Runs.{ran}
 use Rattle.mx_files.specs.declared.outcome.Outcome.{Outcome}

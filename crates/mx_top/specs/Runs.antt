@@ -7,7 +7,7 @@ use Rattle.mx_mmo.specs.Image.{Image}
 use Rattle.mx_ring.specs.RegisterList.{list_at_start}
 use Rattle.mx_ring.specs.Stack.{Stack, listed, windowed}
 use Rattle.mx_ring.specs.Window.{window_at_start}
-use Rattle.mx_core.specs.Start.{start}
+use Rattle.mx_start.specs.Start.{start}
 use Rattle.mx_core.specs.State.{State}
 use Rattle.mx_run.specs.Runs.{no_flags}
 use Rattle.mx_run.specs.WildRuns.{MachineKind, window_machine, list_machine, RunEnd, run_ended, run_wild, run_by}

@@ -2,7 +2,7 @@
 
 ghost use Rattle.std.specs.Prelude.{◌≡◌, ◌≤◌, ◌<◌, ◌+◌, ◌*◌, ◌^◌, ◌++◌, ◌∷◌, IfOk, OnOk, drop, length, map};
 ghost use Rattle.std.specs.Prelude.{string_bytes, true};
-ghost use Rattle.mx_core.specs.Start.{pool, pool_octas};
+ghost use Rattle.mx_start.specs.Start.{pool, pool_octas};
 ghost use Rattle.mx_ring.specs.Stack.{stack_address};
 ghost use Rattle.mx_top.specs.Arguments as spec;
 

@@ -2,7 +2,7 @@
 
 ghost use Rattle.std.specs.Prelude.{◌≡◌, ◌<◌, ◌^◌, ◌∷◌, [], IfOk};
 ghost use Rattle.mx_core.specs.Kept.{state_of};
-ghost use Rattle.mx_core.specs.Search.{IsNextBetween};
+ghost use Rattle.mx_core.specs.Way.Search.{IsNextBetween};
 ghost use Rattle.mx_core.specs.State.{octa};
 ghost use Rattle.mx_files.specs.Clauses.{Works};
 ghost use Rattle.mx_files.specs.FilePlans.{lines_plan};

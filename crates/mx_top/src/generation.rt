@@ -3,7 +3,7 @@
 ghost use Rattle.std.specs.Prelude.{◌≡◌, ◌≢◌, ◌≤◌, ◌+◌, ◌*◌, ◌∷◌, [], Ok, IfOk, false, codes, length};
 ghost use Rattle.mx_core.specs.Bounds.{as_list_state};
 ghost use Rattle.mx_core.specs.Kept.{state_of};
-ghost use Rattle.mx_core.specs.Start.{pool, pool_octas};
+ghost use Rattle.mx_start.specs.Start.{pool, pool_octas};
 ghost use Rattle.mx_host.specs.Keeping.{ComesByFault, OnlyByFailure, Keeps};
 ghost use Rattle.mx_load.specs.Kept.{image_of};
 ghost use Rattle.mx_ring.specs.Stack.{stack_address};

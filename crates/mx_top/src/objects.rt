@@ -1,7 +1,7 @@
 //! An object that is loaded and run.
 
 ghost use Rattle.std.specs.Prelude.{◌≡◌, ◌≢◌, ◌≤◌, ◌+◌, ◌*◌, false, length, map};
-ghost use Rattle.mx_core.specs.Start.{pool, pool_octas};
+ghost use Rattle.mx_start.specs.Start.{pool, pool_octas};
 ghost use Rattle.mx_host.specs.Keeping.{ComesByFault, OnlyByFailure, Keeps};
 ghost use Rattle.mx_load.specs.Objects.{object_loaded};
 ghost use Rattle.mx_ring.specs.Stack.{stack_address};

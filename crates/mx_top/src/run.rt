@@ -3,7 +3,7 @@
 ghost use Rattle.std.specs.Prelude.{◌≡◌, ◌≢◌, ◌≤◌, ◌+◌, ◌*◌, Err, IfOk, IfErr, false, length, map};
 ghost use Rattle.mx_core.specs.Bounds.{as_list_state};
 ghost use Rattle.mx_core.specs.Kept.{state_of};
-ghost use Rattle.mx_core.specs.Start.{pool, pool_octas};
+ghost use Rattle.mx_start.specs.Start.{pool, pool_octas};
 ghost use Rattle.mx_host.specs.Keeping.{ComesByFault, OnlyByFailure, Keeps};
 ghost use Rattle.mx_load.specs.Kept.{image_of};
 ghost use Rattle.mx_ring.specs.Stack.{stack_address};
@@ -23,12 +23,13 @@ ghost use Rattle.mx_top.specs.WorkClauses.{CarriesOutWork};
 use crate::console::run_session;
 use crate::ending::tell_end;
 use crate::last::run_back;
-use mx_core::{Machine, StartFault};
+use mx_core::Machine;
 use mx_files::{Outcome, SOURCE_PIECES, SourceFault, load_source, read_file};
 use mx_host::Host;
 use mx_load::Image;
 use mx_ring::RingSize;
 use mx_run::{End, Runner};
+use mx_start::StartFault;
 use mx_watch::{Reports, Watcher, watched_run};
 use mx_word::Bytes;
 use mx_words::Order;
@@ -70,7 +71,7 @@ pub fn start(
     ensures words { IfErr result (λ outcome. is_usage outcome ≡ false) }
 {
     let pc = image.global(255) / 4 * 4;
-    match Machine::start(alloc, image, arguments, ring) {
+    match mx_start::start(alloc, image, arguments, ring) {
         Ok(machine) => Ok(machine),
         Err(StartFault::PagesFull) => Err(Outcome::Stopped { pc, reason: 118 }),
         Err(StartFault::OutOfMemory) => Err(Outcome::OutOfMemory),
