@@ -113,12 +113,14 @@ def check_architecture():
         for name in names:
             crate = name if name in listed else crate
             folder = f"crates/{crate}" if crate and line.startswith("|") else "crates/*"
-            if name[0].isupper() and not glob.glob(f"{folder}/specs/{name}.antt") + glob.glob(f"{folder}/proofs/{name}.antt"):
+            places = [f"{folder}/{part}/{inner}{name}.antt" for part in ("specs", "proofs") for inner in ("", "*/")]
+            if name[0].isupper() and not any(glob.glob(it) for it in places):
                 wrong(where, f"{folder} has no module {name}")
 
 
 def defines(crate, module, name):
-    return declares(f"crates/{crate}/specs/{module}.antt", name)
+    places = glob.glob(f"crates/{crate}/specs/{module}.antt") + glob.glob(f"crates/{crate}/specs/*/{module}.antt")
+    return any(declares(it, name) for it in places)
 
 
 def declares(path, name):
