@@ -1,6 +1,6 @@
 -- Each byte that the statements of a source place lies in a tetra that their items load.
-use Rattle.std.proofs.Common.{◌≡◌, ℕ, ◌+◌, ◌/◌, ◌^◌, ◌<◌, ◌≤◌, List, [], ◌∷◌, ◌++◌, length, Bool, true, false, cond, arith, refl, sym, ap, subst, ◌∙◌, bit_xor, Option, None, Some, Result, Ok, Err, ◌==◌, ◌||◌, rules}
-use Rattle.std.proofs.lemmas.Bool.{eqb-false, eqb-true}
+use Rattle.std.proofs.Common.{◌≡◌, ℕ, ◌+◌, ◌<◌, ◌≤◌, List, [], ◌∷◌, ◌++◌, length, Bool, true, false, cond, arith, refl, sym, ap, ◌∙◌, bit_xor, None, Result, Ok, Err, ◌==◌, ◌||◌}
+use Rattle.std.proofs.lemmas.Bool.{eqb-true}
 use Rattle.std.proofs.lemmas.Bool.Decides.{nat_tests}
 use Rattle.std.specs.List.{AllByRecursion}
 use Rattle.std.specs.Result.{result_unwrap_or}
@@ -9,7 +9,6 @@ use Rattle.mx_mmo.specs.declared.items.Item.{Item}
 unfoldable use Rattle.mx_type.specs.Lambda.{lambda_behind}
 use Rattle.mx_stmt.specs.declared.placed.Placed.{Placed}
 use Rattle.mx_stmt.specs.Placements.{from_place, placed}
-use Rattle.mx_stmt.specs.Steps.{Answer}
 use Rattle.mx_asm.specs.declared.head.Head.{Head}
 use Rattle.mx_asm.specs.declared.refused.Refused.{Refused}
 use Rattle.mx_asm.specs.Emission.{byte_items, fix_items, head_at_fixes, sight_head, sight_items, statement_head, statement_items, with_bytes}
@@ -17,7 +16,7 @@ unfoldable use Rattle.mx_asm.specs.Emission.{items_from}
 use Rattle.mx_asm.specs.Fixes.{awaited_value, waiting_at}
 unfoldable use Rattle.mx_asm.specs.Fixes.{fixes}
 unfoldable use Rattle.mx_asm.specs.Image.{placements}
-use Rattle.mx_asm.specs.TwoPass.{Sight, outline, piece_with, targets}
+use Rattle.mx_asm.specs.TwoPass.{Sight, piece_with, targets}
 unfoldable use Rattle.mx_asm.specs.TwoPass.{pieces_of}
 unfoldable use Rattle.mx_asm.specs.Refusal.{first_fault}
 use Rattle.mx_asm.specs.Refusal.{refusal_of, statement_fault}
@@ -25,7 +24,7 @@ use Rattle.mx_asm.proofs.Words.{NameTable, placed-append}
 use Rattle.mx_asm.proofs.EndWaits.{both-none}
 use Rattle.mx_asm.proofs.MeaningFronts.{IsSteady, faultless, laid}
 use Rattle.mx_asm.proofs.MeaningPlaces.{fixed-to}
-use Rattle.mx_view.proofs.LoadedTetras.{IsStill, behind-still, leads-still, bytes-at, bytes-behind, fix-items-still, loads-append, loads_at, has}
+use Rattle.mx_view.proofs.LoadedTetras.{IsStill, behind-still, leads-still, bytes-at, bytes-behind, fix-items-still, loads-append, loads_at}
 unfoldable use Rattle.mx_view.specs.Cells.{cells_of}
 
 -- ---- bytes lie nowhere else

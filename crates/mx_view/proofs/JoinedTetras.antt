@@ -1,5 +1,5 @@
 -- The tetras of a listing, joined, are the image of the two passes.
-use Rattle.std.proofs.Common.{◌≡◌, ℕ, ◌+◌, ◌*◌, ◌/◌, ◌%◌, ◌^◌, ◌<◌, List, [], ◌∷◌, ◌++◌, Bool, true, false, cond, arith, refl, sym, ap, subst, ◌∙◌, Option, None, Some, Result, Ok, Err, nat_lt, ◌==◌, ◌||◌, rules}
+use Rattle.std.proofs.Common.{◌≡◌, ℕ, ◌+◌, ◌*◌, ◌/◌, ◌%◌, ◌^◌, ◌<◌, List, [], ◌∷◌, ◌++◌, Bool, true, false, cond, arith, refl, sym, ap, subst, ◌∙◌, Option, None, Ok, Err, nat_lt, ◌==◌, ◌||◌}
 use Rattle.std.proofs.lemmas.Bool.{eqb-true}
 use Rattle.std.proofs.lemmas.Bool.Decides.{nat_tests}
 use Rattle.mx_word.specs.Ranges.{AreBytes}
@@ -10,7 +10,7 @@ use Rattle.mx_stmt.specs.Encoding.{encoding}
 use Rattle.mx_stmt.specs.Placements.{from_place, placed}
 use Rattle.mx_stmt.specs.Steps.{Answer}
 use Rattle.mx_asm.specs.declared.refused.Refused.{Refused}
-use Rattle.mx_asm.specs.Emission.{first_head, opening}
+use Rattle.mx_asm.specs.Emission.{first_head}
 use Rattle.mx_asm.specs.Entries.{source_entries, statements_in}
 unfoldable use Rattle.mx_asm.specs.Emission.{items_from}
 use Rattle.mx_asm.specs.Image.{image, octa_from, octa_in}

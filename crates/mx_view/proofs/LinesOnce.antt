@@ -1,10 +1,9 @@
 -- Each line of a source stands in its listing once, in order.
-use Rattle.std.proofs.Common.{◌≡◌, ℕ, ◌+◌, List, [], ◌∷◌, ◌++◌, length, append-nil, append_assoc, refl, sym, ap, ◌∙◌, Option, None, Some, Result, Ok, Err}
-use Rattle.std.specs.Result.{result_err}
+use Rattle.std.proofs.Common.{◌≡◌, ℕ, ◌+◌, List, [], ◌∷◌, ◌++◌, length, append-nil, append_assoc, refl, sym, ap, ◌∙◌, Option, None, Some, Ok, Err}
 use Rattle.mx_line.specs.Lines.{lines_of}
 use Rattle.mx_asm.specs.OnePass.{Standing}
 use Rattle.mx_asm.specs.Refusal.{refusal}
-use Rattle.mx_asm.specs.Whole.{Line, lines_entries, lines_refusal, lines_taken}
+use Rattle.mx_asm.specs.Whole.{Line, lines_refusal, lines_taken}
 use Rattle.mx_asm.specs.declared.refused.Refused.{Refused}
 use Rattle.mx_asm.proofs.EndWaits.{both-none}
 use Rattle.mx_asm.proofs.InTurn.{stands-at, refusal-lasts}

@@ -1,6 +1,6 @@
 -- The tetras that the items of a statement load.
-use Rattle.std.proofs.Common.{◌≡◌, ℕ, ◌+◌, ◌-◌, ◌*◌, ◌/◌, ◌%◌, ◌^◌, ◌<◌, ◌≤◌, List, [], ◌∷◌, ◌++◌, length, map, Bool, true, false, cond, arith, refl, sym, ap, subst, ◌∙◌, Option, None, Some, Result, Ok, Err, ◌==◌, ◌||◌, rules}
-use Rattle.std.proofs.lemmas.Bool.{cond_both, eqb-true}
+use Rattle.std.proofs.Common.{◌≡◌, ℕ, ◌+◌, ◌*◌, ◌/◌, ◌%◌, ◌^◌, ◌<◌, ◌≤◌, List, [], ◌∷◌, ◌++◌, length, map, Bool, true, false, cond, arith, refl, ap, subst, ◌∙◌, Result, Ok, Err, ◌==◌, ◌||◌}
+use Rattle.std.proofs.lemmas.Bool.{eqb-true}
 use Rattle.std.proofs.lemmas.Bool.Decides.{nat_tests}
 use Rattle.mx_word.specs.declared.symbols.Value.{Value}
 use Rattle.mx_word.specs.declared.symbols.Value.TheVariants.{Pure, Reg}
@@ -8,7 +8,6 @@ use Rattle.mx_word.specs.declared.waits.Wait.{Wait}
 use Rattle.mx_mmo.specs.declared.items.Item.{Item}
 use Rattle.mx_mmo.specs.declared.items.Item.TheVariants.{Line, Load, Loc}
 unfoldable use Rattle.mx_type.specs.Lambda.{lambda_behind}
-use Rattle.mx_type.specs.Lambda.{lambda_after}
 use Rattle.mx_type.specs.Lines.{tetra_address}
 use Rattle.mx_asm.specs.Emission.{covering, fix_items, lined, located, lowered, moved, onto, byte_items, head_at_bytes, head_at_fixes, told_line}
 unfoldable use Rattle.mx_asm.specs.Fixes.{fixes}
@@ -20,7 +19,6 @@ use Rattle.mx_asm.proofs.MeaningPieces.{covering-length}
 use Rattle.mx_view.specs.declared.cells.Cell.{Cell}
 use Rattle.mx_view.specs.declared.cells.Wanted.TheVariants.{All}
 unfoldable use Rattle.mx_view.specs.Cells.{cells_of}
-use Rattle.mx_view.specs.Cells.{cell_of}
 use Rattle.mx_view.proofs.EveryCell.{cells-append}
 use Rattle.mx_view.proofs.Shown.{lambda-append}
 
