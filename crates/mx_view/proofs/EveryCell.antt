@@ -9,7 +9,7 @@ use Rattle.mx_view.specs.Cells.{cell_of, cells_of}
 use Rattle.mx_view.specs.Listing.{added_items, line_cells, cells_behind}
 use Rattle.mx_view.proofs.Shown.{grown, added-is}
 
-cells-append : (w : Wanted) (lambda : ℕ) (items more : List Item) → cells_of w lambda (items ++ more) ≡ cells_of w lambda items ++ cells_of w (lambda_behind lambda items) more
+pub cells-append : (w : Wanted) (lambda : ℕ) (items more : List Item) → cells_of w lambda (items ++ more) ≡ cells_of w lambda items ++ cells_of w (lambda_behind lambda items) more
 unfolding cells_of lambda_behind
 cells-append w lambda [] more = refl
 cells-append w lambda (item ∷ items) more =

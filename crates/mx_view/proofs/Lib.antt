@@ -4,6 +4,10 @@ pub mod Shown
 pub mod BlankTurns
 pub mod FaultTurns
 pub mod EveryCell
+pub mod LoadedTetras
+pub mod CoveredBytes
+pub mod JoinedTetras
+pub mod LinesOnce
 pub mod WorkedRows
 pub mod TwoPassViews
 pub mod LineLoads

@@ -17,7 +17,7 @@ use Rattle.mx_view.specs.Listing.{added_items, line_cells, line_rows, rows_unles
 use Rattle.mx_view.specs.InTurn.{items_at, standing_at, rows_at, rows_in_turn, standing_behind, shown_in_turn}
 use Rattle.mx_view.proofs.LineTurns.{rows-behind}
 
-lambda-append : (lambda : ℕ) (items more : List Item) → lambda_behind lambda (items ++ more) ≡ lambda_behind (lambda_behind lambda items) more
+pub lambda-append : (lambda : ℕ) (items more : List Item) → lambda_behind lambda (items ++ more) ≡ lambda_behind (lambda_behind lambda items) more
 unfolding lambda_behind
 lambda-append lambda [] more = refl
 lambda-append lambda (item ∷ items) more = lambda-append (lambda_after lambda item) items more

@@ -8,6 +8,7 @@ use Rattle.mx_asm.specs.Whole.{Line, assembled_source}
 use Rattle.mx_asm.specs.declared.faults.AsmFault.{AsmFault}
 use Rattle.mx_asm.specs.declared.faults.AsmFault.TheVariants.{MainUndefined, MainRegister, SymbolsTooMany, LocalAboveGlobals, SourceTooLong}
 use Rattle.mx_asm.specs.declared.refused.Refused.{Refused}
+use Rattle.mx_view.specs.Carets.{caret_text}
 use Rattle.mx_view.specs.Listing.{refusal_text}
 
 -- ---- a source with a blank line
@@ -45,10 +46,13 @@ is_of_whole LocalAboveGlobals = true
 is_of_whole SourceTooLong = true
 is_of_whole fault = false
 
+-- the text of a line, and the caret below it
+abbrev pub with_caret : AsmFault → Line → List ℕ
+with_caret fault line = codes "    " ++ line ++ codes "\n" ++ caret_text fault line
+
 -- the line that a refusal names; a fault of the source as a whole names none
 abbrev pub named_line : List ℕ → Refused → List ℕ
-named_line source r =
-    if is_of_whole r.fault then [] else codes "    " ++ line_text r.line (lines_of source) ++ codes "\n"
+named_line source r = if is_of_whole r.fault then [] else with_caret r.fault (line_text r.line (lines_of source))
 
 -- a refusal, and the line that it names
 abbrev pub fault_text : List ℕ → Option Refused → List ℕ

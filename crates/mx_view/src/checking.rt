@@ -8,6 +8,7 @@ ghost use Rattle.mx_view.specs.InTurn.{standing_behind};
 ghost use Rattle.mx_view.specs.Refusals as spec;
 
 use crate::blanks::{line_text, with_blank};
+use crate::carets::add_caret;
 use crate::turns::take_line;
 use crate::view::{Sheet, end, refusal_text};
 use mx_asm::{AsmFault, Assembler, Refused};
@@ -68,6 +69,16 @@ fn is_of_whole(fault: AsmFault) -> bool
     )
 }
 
+/// Adds the text of a faulty line, and the caret below it.
+fn add_with_caret(text: &mut Bytes, fault: AsmFault, line: &[u8]) -> Result<(), NoMemory>
+    ensures { OnOk result (text.new ≡ text.old ++ spec.with_caret fault line.now) }
+{
+    text.extend(b"    ")?;
+    text.extend(line)?;
+    text.extend(b"\n")?;
+    add_caret(text, fault, line)
+}
+
 /// Adds the line that a refusal names, if it names one.
 fn add_line(text: &mut Bytes, source: &[u8], refused: Refused) -> Result<(), NoMemory>
     ensures { OnOk result (text.new ≡ text.old ++ spec.named_line source.now refused) }
@@ -75,9 +86,7 @@ fn add_line(text: &mut Bytes, source: &[u8], refused: Refused) -> Result<(), NoM
     if is_of_whole(refused.fault) {
         return Ok(());
     }
-    text.extend(b"    ")?;
-    text.extend(line_text(refused.line, source))?;
-    text.extend(b"\n")
+    add_with_caret(text, refused.fault, line_text(refused.line, source))
 }
 
 /// Adds a refusal and the line that it names.
@@ -130,9 +139,10 @@ fn first_faults(alloc: Global, source: &[u8]) -> Result<Bytes, NoMemory>
     Ok(text)
 }
 
-/// All faults of a source, up to 100: each is told with the line that it names. The first is the refusal of the
-/// source; each further one is the refusal of the source in which the lines that were refused so far are blank. A
-/// fault of the source as a whole, as where Main is not defined, is the last.
+/// All faults of a source, up to 100: each is told with the line that it names, and a caret under the field that it is
+/// about, where it is known which statement of the line is meant. The first is the refusal of the source; each further
+/// one is the refusal of the source in which the lines that were refused so far are blank. A fault of the source as a
+/// whole, as where Main is not defined, is the last.
 pub fn faults(alloc: Global, source: &[u8]) -> Result<Sheet, NoMemory>
     ensures text { IfOk result (λ sheet. sheet.text ≡ spec.faults_of source.now) }
     ensures accepted { IfOk result (λ sheet. sheet.accepted ≡ is_ok (assembled_source source.now).1) }

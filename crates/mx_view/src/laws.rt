@@ -1,17 +1,20 @@
 //! What holds of every listing.
 
-ghost use Rattle.std.specs.Prelude.{◌≡◌, ◌<◌, ◌^◌, ◌++◌, ◌∷◌, [], ℕ, List, None, Ok};
+ghost use Rattle.std.specs.Prelude.{◌≡◌, ◌<◌, ◌^◌, ◌++◌, ◌∷◌, [], ℕ, List, None, Ok, Some};
 ghost use Rattle.mx_word.specs.Ranges.{AreBytes};
+ghost use Rattle.mx_line.specs.Lines.{lines_of};
 ghost use Rattle.mx_mem.specs.Memory.{tetra_of};
 ghost use Rattle.mx_asm.specs.Entries.{source_entries, statements_in};
 ghost use Rattle.mx_asm.specs.Image.{image, symbols_of};
 ghost use Rattle.mx_asm.specs.Pages.{run_refusal};
 ghost use Rattle.mx_asm.specs.Refusal.{refusal};
-ghost use Rattle.mx_asm.specs.Whole.{Line, assembled_source, lines_items};
+ghost use Rattle.mx_asm.specs.Whole.{Line, assembled_source, lines_items, lines_refusal};
+ghost use Rattle.mx_asm.specs.declared.refused.Refused.{Refused};
 ghost use Rattle.mx_files.specs.Sources.{source_meaning};
 ghost use Rattle.mx_view.specs.Cells.{cells_of};
-ghost use Rattle.mx_view.specs.Listing.{added_items, cells_behind, end_text, symbols_text};
-ghost use Rattle.mx_view.specs.Rows.{shown};
+ghost use Rattle.mx_view.specs.Joined.{lines_once, listed_tetra};
+ghost use Rattle.mx_view.specs.Listing.{added_items, cells_behind, end_text, rows_behind, symbols_text};
+ghost use Rattle.mx_view.specs.Rows.{Meaning, shown};
 ghost use Rattle.mx_view.specs.declared.cells.Cell.{Cell};
 ghost use Rattle.mx_view.specs.declared.cells.Wanted.TheVariants.{All};
 
@@ -36,4 +39,25 @@ pub fn the_image_and_the_symbols_are_shown()
     ensures symbols { (source : List ℕ) → AreBytes source → refusal source ≡ None →
         end_text All (assembled_source source).1
         ≡ symbols_text All (Ok (symbols_of (statements_in (source_entries source)))) }
+{}
+
+/// The tetras of a listing, joined, are the image: of a source that is not refused when it is run, the image of the
+/// two passes has at each address the tetra that the listing shows there, and 0 where the listing shows none.
+#[tactic(auto, using(crate::proofs::JoinedTetras::joining))]
+pub fn the_listing_is_the_image()
+    ensures { (source : List ℕ) (a : ℕ) → AreBytes source → run_refusal source ≡ None → a < 2 ^ 63 →
+        tetra_of ((image (statements_in (source_entries source))).memory a) a
+        ≡ listed_tetra (source_meaning source) (cells_behind All [] (lines_of source)) a }
+{}
+
+/// Each line of a source that is not refused stands in its listing once, in order: its one row with its number and
+/// its text, then a row for each further tetra. Of a source that is refused at a line, so do all lines up to this
+/// one, and no later line.
+#[tactic(auto, using(crate::proofs::LinesOnce::once))]
+pub fn each_line_is_listed_once_in_order()
+    ensures accepted { (source : List ℕ) (m : Meaning) → refusal source ≡ None →
+        rows_behind m All [] (lines_of source) ≡ lines_once m [] (lines_of source) }
+    ensures refused { (m : Meaning) (before later : List Line) (line : Line) (r : Refused) →
+        lines_refusal before ≡ None → lines_refusal (before ++ line ∷ []) ≡ Some r →
+        rows_behind m All [] (before ++ line ∷ later) ≡ lines_once m [] (before ++ line ∷ []) }
 {}

@@ -2,6 +2,7 @@
 #![tactic(auto)]
 
 mod blanks;
+mod carets;
 mod cells;
 mod checking;
 mod laws;
@@ -12,7 +13,10 @@ mod view;
 
 pub use cells::{Cell, Wanted};
 pub use checking::faults;
-pub use laws::{every_loaded_tetra_is_listed, the_image_and_the_symbols_are_shown};
+pub use laws::{
+    each_line_is_listed_once_in_order, every_loaded_tetra_is_listed,
+    the_image_and_the_symbols_are_shown, the_listing_is_the_image,
+};
 pub use loads::{LineCells, cells_by_line};
 pub use rows::add_numbered;
 pub use view::{Sheet, lines_holding, listing};

@@ -49,9 +49,41 @@ line 1: 39 UnknownOpcode
 
 static FAULTY_TOLD: &str = "line 1: 39 UnknownOpcode
     x FOO
+      ^
 line 2: 39 UnknownOpcode
     y BAR
+      ^
 line 3: 82 MainUndefined
+";
+
+/// Faults of operands, behind blanks and behind a tab; one of the second statement of a line; a label without an
+/// operation; a label that is defined twice; and a reference to no label.
+static PLACED: &str = "Main  SET $0,70000
+\tADD $0,$0
+x SET $0,1; SET $0,70000
+Main SWYM 0;SET $0,5
+Main SWYM 0
+ JMP nowhere
+Main SWYM 0
+";
+
+static PLACED_TOLD: &str = "line 1: 43 Fit
+    Main  SET $0,70000
+              ^
+line 2: 40 Operands
+    \tADD $0,$0
+    \t    ^
+line 3: 43 Fit
+    x SET $0,1; SET $0,70000
+line 4: 7 NoOpcode
+    Main SWYM 0;SET $0,5
+                ^
+line 7: 30 Twice
+    Main SWYM 0
+    ^
+line 6: 80 UndefinedSymbol
+     JMP nowhere
+         ^
 ";
 
 /// Whether this is what is shown.
@@ -102,6 +134,11 @@ fn no_line_of_an_address(rt: HostRuntime) {
 #[test]
 fn all_faults(rt: HostRuntime) {
     assert!(rt; is_shown(faults(rt.alloc(), FAULTY.as_bytes()), FAULTY_TOLD, false));
+}
+
+#[test]
+fn faults_with_places(rt: HostRuntime) {
+    assert!(rt; is_shown(faults(rt.alloc(), PLACED.as_bytes()), PLACED_TOLD, false));
 }
 
 #[test]

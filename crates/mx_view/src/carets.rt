@@ -1,0 +1,171 @@
+//! Carets below faulty lines.
+
+ghost use Rattle.std.specs.Prelude.{◌≡◌, ◌≤◌, ◌++◌, IfSome, OnOk, length, map};
+ghost use Rattle.mx_line.specs.Bytes as bytes;
+ghost use Rattle.mx_line.specs.Cutting.{cuts_from};
+ghost use Rattle.mx_view.specs.Carets as spec;
+
+use mx_asm::AsmFault;
+use mx_line::{LineFault, next_statement};
+use mx_stmt::StmtFault;
+use mx_word::{Bytes, NoMemory, is_name_byte};
+
+/// A field of a statement.
+#[derive(Clone, Copy, Debug, PartialEq, Eq)]
+pub(crate) enum Field {
+    Label,
+    Operation,
+    Operands,
+}
+
+/// The field that a fault of a line is about.
+fn line_field(why: LineFault) -> Option<Field>
+    ensures { result ≡ spec.line_field why }
+{
+    match why {
+        LineFault::TooLong => None,
+        LineFault::BadLabel | LineFault::BadLocal | LineFault::NoOpcode => Some(Field::Label),
+        LineFault::BadOpcode => Some(Field::Operation),
+        _ => Some(Field::Operands),
+    }
+}
+
+/// The field that a fault of a statement is about.
+fn statement_field(why: StmtFault) -> Field
+    ensures { result ≡ spec.statement_field why }
+{
+    match why {
+        StmtFault::LabelNotAllowed => Field::Label,
+        StmtFault::UnknownOpcode | StmtFault::TooManyGregs | StmtFault::BadPlace => {
+            Field::Operation
+        }
+        _ => Field::Operands,
+    }
+}
+
+/// The field that a fault is about.
+fn field_of(why: AsmFault) -> Option<Field>
+    ensures { result ≡ spec.field_of why }
+{
+    match why {
+        AsmFault::Line(why) => line_field(why),
+        AsmFault::Stmt(why) => Some(statement_field(why)),
+        AsmFault::Name(_)
+        | AsmFault::FutureRegister
+        | AsmFault::FutureTooFar
+        | AsmFault::FutureNotMultiple => Some(Field::Label),
+        AsmFault::UndefinedSymbol | AsmFault::UndefinedLocal => Some(Field::Operands),
+        _ => None,
+    }
+}
+
+/// The place behind the statements that are cut from a line.
+fn behind_cuts(line: &[u8]) -> usize
+    ensures place { result ≡ spec.behind_cuts 0 (cuts_from line.now 0) }
+    ensures within { result ≤ length line.now }
+{
+    let mut place = 0;
+    while let Ok(Some(cut)) = next_statement(line, place) {
+        place = cut.next;
+    }
+    place
+}
+
+/// The front of a line, if it has one statement and no more.
+fn only_front(line: &[u8]) -> Option<usize>
+    ensures { result ≡ spec.only_front (cuts_from line.now 0) }
+{
+    match next_statement(line, 0) {
+        Ok(Some(cut)) => match next_statement(line, cut.next) {
+            Ok(None) => Some(0),
+            _ => None,
+        },
+        _ => None,
+    }
+}
+
+/// Where the faulty statement of a line begins.
+fn statement_place(why: AsmFault, line: &[u8]) -> Option<usize>
+    ensures place { result ≡ spec.statement_place why line.now }
+    ensures within { IfSome result (λ place. place ≤ length line.now) }
+{
+    match why {
+        AsmFault::Line(_) => Some(behind_cuts(line)),
+        _ => only_front(line),
+    }
+}
+
+/// Whether a byte is a blank.
+fn is_blank(b: u8) -> bool
+    ensures { result ≡ bytes.is_blank b }
+{
+    b == b'\t' || b == 11 || b == 12 || b == b'\r' || b == b' '
+}
+
+/// How many letters and digits stand at the front of a text.
+fn word_length(text: &[u8]) -> usize
+    ensures { result ≡ length (bytes.run bytes.is_name_byte text.now) }
+{
+    text.iter().take_while(|b| is_name_byte(**b)).count()
+}
+
+/// How many blanks stand at the front of a text.
+fn blank_length(text: &[u8]) -> usize
+    ensures { result ≡ length (bytes.run bytes.is_blank text.now) }
+{
+    text.iter().take_while(|b| is_blank(**b)).count()
+}
+
+/// What stands behind the letters and digits at the front of a text, and the blanks behind these.
+fn behind_word(text: &[u8]) -> &[u8]
+    ensures { result.now ≡ spec.behind_word text.now }
+{
+    let rest = &text[word_length(text)..];
+    &rest[blank_length(rest)..]
+}
+
+/// A statement from one of its fields on.
+fn from_field(field: Field, text: &[u8]) -> &[u8]
+    ensures { result.now ≡ spec.from_field field text.now }
+{
+    match field {
+        Field::Label => text,
+        Field::Operation => behind_word(text),
+        Field::Operands => behind_word(behind_word(text)),
+    }
+}
+
+/// What stands under a byte in front of the caret.
+fn under(b: u8) -> u8
+    ensures { result ≡ spec.under b }
+{
+    if b == b'\t' { b'\t' } else { b' ' }
+}
+
+/// Adds what stands under the front of a line.
+fn add_under(text: &mut Bytes, front: &[u8]) -> Result<(), NoMemory>
+    ensures { OnOk result (text.new ≡ text.old ++ map spec.under front.now) }
+{
+    for b in front {
+        text.push(under(*b))?;
+    }
+    Ok(())
+}
+
+/// Adds the caret below a line under this fault, if it has a place.
+#[tactic(auto, unfolding(crate::specs::Carets::caret_text))]
+pub(crate) fn add_caret(text: &mut Bytes, why: AsmFault, line: &[u8]) -> Result<(), NoMemory>
+    ensures { OnOk result (text.new ≡ text.old ++ spec.caret_text why line.now) }
+{
+    let Some(field) = field_of(why) else {
+        return Ok(());
+    };
+    let Some(place) = statement_place(why, line) else {
+        return Ok(());
+    };
+    let rest = from_field(field, &line[place..]);
+    let front = line.len().saturating_sub(rest.len());
+    text.extend(b"    ")?;
+    add_under(text, &line[..front])?;
+    text.extend(b"^\n")
+}
