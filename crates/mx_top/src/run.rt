@@ -4,12 +4,11 @@ ghost use Rattle.std.specs.Prelude.{◌≡◌, ◌≢◌, ◌≤◌, ◌+◌, �
 ghost use Rattle.mx_core.specs.Bounds.{as_list_state};
 ghost use Rattle.mx_core.specs.Kept.{state_of};
 ghost use Rattle.mx_core.specs.Start.{pool, pool_octas};
-ghost use Rattle.mx_host.specs.Keeping.{ComesByFault, OnlyByFailure, Keeps};
 ghost use Rattle.mx_load.specs.Kept.{image_of};
 ghost use Rattle.mx_ring.specs.Stack.{stack_address};
 ghost use Rattle.mx_run.specs.WildRuns.{window_machine, list_machine};
 ghost use Rattle.mx_word.specs.Results.{map_ok};
-ghost use Rattle.mx_files.specs.Answers.{AnswersAs, AnswersAsList, is_usage};
+ghost use Rattle.mx_files.specs.Answers.{AnswersAsList, is_usage};
 ghost use Rattle.mx_top.specs.Product as product;
 ghost use Rattle.mx_top.specs.Reports as reports;
 ghost use Rattle.mx_top.specs.Reports.{HearsAs, HearsAsList};
@@ -17,6 +16,7 @@ ghost use Rattle.mx_top.specs.Runs as spec;
 ghost use Rattle.mx_watch.specs.Traces.{traces};
 ghost use Rattle.mx_files.specs.Source.{file_bytes};
 ghost use Rattle.mx_files.specs.Sources.{source_meaning};
+ghost use Rattle.mx_top.specs.Causes.{FailsOnlyBy};
 ghost use Rattle.mx_top.specs.ProductPlan as plans;
 ghost use Rattle.mx_top.specs.WorkClauses.{CarriesOutWork};
 
@@ -85,10 +85,7 @@ fn run_steps<H: Host>(alloc: Global, host: &mut H, order: &Order, machine: Machi
     ensures listed { AnswersAsList (H.told host.old) (H.told host.new) result
         (λ m. spec.dumped order.now.dump
         (spec.machine_ran list_machine order.now.steps (as_list_state (state_of machine)) m)) }
-    ensures rose { OnlyByFailure (H.told host.old) Outcome.HostFault result (H.faults host.old) (H.faults host.new) }
-    ensures no_file { ComesByFault (H.told host.old) Outcome.NoFile result (H.faults host.old) (H.faults host.new) }
-    ensures words { is_usage result ≡ false }
-    ensures keeps { Keeps (H.told host.old) (H.told host.new) (H.faults host.old) (H.faults host.new) }
+    ensures causes { FailsOnlyBy H.told H.faults host.old host.new result }
 {
     let mut runner = Runner::new(alloc, machine);
     let end = runner.go(host, order.steps, false);
@@ -124,10 +121,7 @@ fn run_told<H: Host>(
         (λ m. spec.dumped order.now.dump
         (spec.machine_ran list_machine order.now.steps (as_list_state (state_of machine)) m))
         (λ m. traces list_machine order.now.steps (as_list_state (state_of machine)) m) }
-    ensures rose { OnlyByFailure (H.told host.old) Outcome.HostFault result (H.faults host.old) (H.faults host.new) }
-    ensures no_file { ComesByFault (H.told host.old) Outcome.NoFile result (H.faults host.old) (H.faults host.new) }
-    ensures words { is_usage result ≡ false }
-    ensures keeps { Keeps (H.told host.old) (H.told host.new) (H.faults host.old) (H.faults host.new) }
+    ensures causes { FailsOnlyBy H.told H.faults host.old host.new result }
 {
     let mut machine = machine;
     let end = watched_run(alloc, &mut machine, host, order.steps, watchers, kept);
@@ -163,10 +157,7 @@ fn run_machine<H: Host>(
         (map meaning watchers.new.items) kept.old kept.new
         (λ m. spec.run_from list_machine order.now (Ok (as_list_state (state_of machine))) m)
         (λ m. reports.order_traces list_machine order.now (as_list_state (state_of machine)) m) }
-    ensures rose { OnlyByFailure (H.told host.old) Outcome.HostFault result (H.faults host.old) (H.faults host.new) }
-    ensures no_file { ComesByFault (H.told host.old) Outcome.NoFile result (H.faults host.old) (H.faults host.new) }
-    ensures words { is_usage result ≡ false }
-    ensures keeps { Keeps (H.told host.old) (H.told host.new) (H.faults host.old) (H.faults host.new) }
+    ensures causes { FailsOnlyBy H.told H.faults host.old host.new result }
 {
     if order.interactive {
         run_session(alloc, host, order, machine)
@@ -203,10 +194,7 @@ pub fn run_image<H: Host>(
         (map meaning watchers.new.items) kept.old kept.new
         (λ m. spec.image_run list_machine order.now arguments.now (image_of image) m)
         (λ m. reports.image_traces list_machine order.now arguments.now (image_of image) m) }
-    ensures rose { OnlyByFailure (H.told host.old) Outcome.HostFault result (H.faults host.old) (H.faults host.new) }
-    ensures no_file { ComesByFault (H.told host.old) Outcome.NoFile result (H.faults host.old) (H.faults host.new) }
-    ensures words { is_usage result ≡ false }
-    ensures keeps { Keeps (H.told host.old) (H.told host.new) (H.faults host.old) (H.faults host.new) }
+    ensures causes { FailsOnlyBy H.told H.faults host.old host.new result }
 {
     match start(alloc, image, arguments, order.ring) {
         Ok(machine) => run_machine(alloc, host, order, machine, watchers, kept),
@@ -238,10 +226,7 @@ fn run_source<H: Host>(
         (map meaning watchers.new.items) kept.old kept.new
         (λ m. product.after_image list_machine order.now arguments.now (source_meaning text.now) m)
         (λ m. reports.meaning_traces list_machine order.now arguments.now (source_meaning text.now) m) }
-    ensures rose { OnlyByFailure (H.told host.old) Outcome.HostFault result (H.faults host.old) (H.faults host.new) }
-    ensures no_file { ComesByFault (H.told host.old) Outcome.NoFile result (H.faults host.old) (H.faults host.new) }
-    ensures words { is_usage result ≡ false }
-    ensures keeps { Keeps (H.told host.old) (H.told host.new) (H.faults host.old) (H.faults host.new) }
+    ensures causes { FailsOnlyBy H.told H.faults host.old host.new result }
 {
     match load_source(alloc, text) {
         Ok(image) => run_image(alloc, host, order, image, arguments, watchers, kept),
@@ -274,10 +259,7 @@ pub fn run_file<H: Host>(
         (map meaning watchers.new.items) kept.old kept.new
         (λ m. product.after_source list_machine order.now arguments.now (file_bytes 1025 name.now m))
         (λ m. reports.source_traces list_machine order.now arguments.now (file_bytes 1025 name.now m)) }
-    ensures rose { OnlyByFailure (H.told host.old) Outcome.HostFault result (H.faults host.old) (H.faults host.new) }
-    ensures no_file { ComesByFault (H.told host.old) Outcome.NoFile result (H.faults host.old) (H.faults host.new) }
-    ensures words { is_usage result ≡ false }
-    ensures keeps { Keeps (H.told host.old) (H.told host.new) (H.faults host.old) (H.faults host.new) }
+    ensures causes { FailsOnlyBy H.told H.faults host.old host.new result }
 {
     match read_file(alloc, host, name, SOURCE_PIECES) {
         Ok(text) => run_source(
