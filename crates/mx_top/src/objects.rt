@@ -1,6 +1,6 @@
 //! An object that is loaded and run.
 
-ghost use Rattle.std.specs.Prelude.{◌≡◌, ◌≢◌, ◌≤◌, ◌+◌, ◌*◌, false, length, map};
+ghost use Rattle.std.specs.Prelude.{◌≤◌, ◌+◌, ◌*◌, length, map};
 ghost use Rattle.mx_core.specs.Start.{pool, pool_octas};
 ghost use Rattle.mx_load.specs.Objects.{object_loaded};
 ghost use Rattle.mx_ring.specs.Stack.{stack_address};
@@ -8,7 +8,7 @@ ghost use Rattle.mx_run.specs.WildRuns.{window_machine, list_machine};
 ghost use Rattle.mx_files.specs.Answers.{AnswersAsList};
 ghost use Rattle.mx_top.specs.Product as product;
 ghost use Rattle.mx_top.specs.Reports as reports;
-ghost use Rattle.mx_top.specs.Reports.{HearsAs, HearsAsList};
+ghost use Rattle.mx_top.specs.Reports.{HearsBoth};
 ghost use Rattle.mx_files.specs.Source.{file_bytes};
 ghost use Rattle.mx_top.specs.Causes.{FailsOnlyBy};
 ghost use Rattle.mx_top.specs.ProductPlan as plans;
@@ -40,11 +40,9 @@ fn run_object<H: Host>(
         (plans.object_plan order.now arguments.now bytes.now) }
     ensures listed { AnswersAsList (H.told host.old) (H.told host.new) result
         (λ m. product.after_loading list_machine order.now arguments.now (object_loaded bytes.now) m) }
-    ensures heard { HearsAs (H.told host.old) result (map meaning watchers.old.items)
+    ensures heard { HearsBoth (H.told host.old) result (map meaning watchers.old.items)
         (map meaning watchers.new.items) kept.old kept.new
-        (λ m. reports.loading_traces window_machine order.now arguments.now (object_loaded bytes.now) m) }
-    ensures list_heard { HearsAsList (H.told host.old) result (map meaning watchers.old.items)
-        (map meaning watchers.new.items) kept.old kept.new
+        (λ m. reports.loading_traces window_machine order.now arguments.now (object_loaded bytes.now) m)
         (λ m. product.after_loading list_machine order.now arguments.now (object_loaded bytes.now) m)
         (λ m. reports.loading_traces list_machine order.now arguments.now (object_loaded bytes.now) m) }
     ensures causes { FailsOnlyBy H.told H.faults host.old host.new result }
@@ -73,11 +71,9 @@ pub fn sim_file<H: Host>(
         (plans.sim_file_plan order.now name.now arguments.now) }
     ensures listed { AnswersAsList (H.told host.old) (H.told host.new) result
         (λ m. product.after_object list_machine order.now arguments.now (file_bytes 16385 name.now m)) }
-    ensures heard { HearsAs (H.told host.old) result (map meaning watchers.old.items)
+    ensures heard { HearsBoth (H.told host.old) result (map meaning watchers.old.items)
         (map meaning watchers.new.items) kept.old kept.new
-        (λ m. reports.object_traces window_machine order.now arguments.now (file_bytes 16385 name.now m)) }
-    ensures list_heard { HearsAsList (H.told host.old) result (map meaning watchers.old.items)
-        (map meaning watchers.new.items) kept.old kept.new
+        (λ m. reports.object_traces window_machine order.now arguments.now (file_bytes 16385 name.now m))
         (λ m. product.after_object list_machine order.now arguments.now (file_bytes 16385 name.now m))
         (λ m. reports.object_traces list_machine order.now arguments.now (file_bytes 16385 name.now m)) }
     ensures causes { FailsOnlyBy H.told H.faults host.old host.new result }

@@ -11,7 +11,7 @@ ghost use Rattle.mx_word.specs.Results.{map_ok};
 ghost use Rattle.mx_files.specs.Answers.{AnswersAsList, is_usage};
 ghost use Rattle.mx_top.specs.Product as product;
 ghost use Rattle.mx_top.specs.Reports as reports;
-ghost use Rattle.mx_top.specs.Reports.{HearsAs, HearsAsList};
+ghost use Rattle.mx_top.specs.Reports.{HearsBoth};
 ghost use Rattle.mx_top.specs.Runs as spec;
 ghost use Rattle.mx_watch.specs.Traces.{traces};
 ghost use Rattle.mx_files.specs.Source.{file_bytes};
@@ -113,11 +113,9 @@ fn run_told<H: Host>(
     ensures listed { AnswersAsList (H.told host.old) (H.told host.new) result
         (λ m. spec.dumped order.now.dump
         (spec.machine_ran list_machine order.now.steps (as_list_state (state_of machine)) m)) }
-    ensures heard { HearsAs (H.told host.old) result (map meaning watchers.old.items)
+    ensures heard { HearsBoth (H.told host.old) result (map meaning watchers.old.items)
         (map meaning watchers.new.items) kept.old kept.new
-        (λ m. traces window_machine order.now.steps (state_of machine) m) }
-    ensures list_heard { HearsAsList (H.told host.old) result (map meaning watchers.old.items)
-        (map meaning watchers.new.items) kept.old kept.new
+        (λ m. traces window_machine order.now.steps (state_of machine) m)
         (λ m. spec.dumped order.now.dump
         (spec.machine_ran list_machine order.now.steps (as_list_state (state_of machine)) m))
         (λ m. traces list_machine order.now.steps (as_list_state (state_of machine)) m) }
@@ -150,11 +148,9 @@ fn run_machine<H: Host>(
         (plans.machine_plan order.now (state_of machine)) }
     ensures listed { AnswersAsList (H.told host.old) (H.told host.new) result
         (λ m. spec.run_from list_machine order.now (Ok (as_list_state (state_of machine))) m) }
-    ensures heard { HearsAs (H.told host.old) result (map meaning watchers.old.items)
+    ensures heard { HearsBoth (H.told host.old) result (map meaning watchers.old.items)
         (map meaning watchers.new.items) kept.old kept.new
-        (λ m. reports.order_traces window_machine order.now (state_of machine) m) }
-    ensures list_heard { HearsAsList (H.told host.old) result (map meaning watchers.old.items)
-        (map meaning watchers.new.items) kept.old kept.new
+        (λ m. reports.order_traces window_machine order.now (state_of machine) m)
         (λ m. spec.run_from list_machine order.now (Ok (as_list_state (state_of machine))) m)
         (λ m. reports.order_traces list_machine order.now (as_list_state (state_of machine)) m) }
     ensures causes { FailsOnlyBy H.told H.faults host.old host.new result }
@@ -187,11 +183,9 @@ pub fn run_image<H: Host>(
         (plans.image_plan order.now arguments.now (image_of image)) }
     ensures listed { AnswersAsList (H.told host.old) (H.told host.new) result
         (λ m. spec.image_run list_machine order.now arguments.now (image_of image) m) }
-    ensures heard { HearsAs (H.told host.old) result (map meaning watchers.old.items)
+    ensures heard { HearsBoth (H.told host.old) result (map meaning watchers.old.items)
         (map meaning watchers.new.items) kept.old kept.new
-        (λ m. reports.image_traces window_machine order.now arguments.now (image_of image) m) }
-    ensures list_heard { HearsAsList (H.told host.old) result (map meaning watchers.old.items)
-        (map meaning watchers.new.items) kept.old kept.new
+        (λ m. reports.image_traces window_machine order.now arguments.now (image_of image) m)
         (λ m. spec.image_run list_machine order.now arguments.now (image_of image) m)
         (λ m. reports.image_traces list_machine order.now arguments.now (image_of image) m) }
     ensures causes { FailsOnlyBy H.told H.faults host.old host.new result }
@@ -219,11 +213,9 @@ fn run_source<H: Host>(
         (plans.source_plan order.now arguments.now text.now) }
     ensures listed { AnswersAsList (H.told host.old) (H.told host.new) result
         (λ m. product.after_image list_machine order.now arguments.now (source_meaning text.now) m) }
-    ensures heard { HearsAs (H.told host.old) result (map meaning watchers.old.items)
+    ensures heard { HearsBoth (H.told host.old) result (map meaning watchers.old.items)
         (map meaning watchers.new.items) kept.old kept.new
-        (λ m. reports.meaning_traces window_machine order.now arguments.now (source_meaning text.now) m) }
-    ensures list_heard { HearsAsList (H.told host.old) result (map meaning watchers.old.items)
-        (map meaning watchers.new.items) kept.old kept.new
+        (λ m. reports.meaning_traces window_machine order.now arguments.now (source_meaning text.now) m)
         (λ m. product.after_image list_machine order.now arguments.now (source_meaning text.now) m)
         (λ m. reports.meaning_traces list_machine order.now arguments.now (source_meaning text.now) m) }
     ensures causes { FailsOnlyBy H.told H.faults host.old host.new result }
@@ -252,11 +244,9 @@ pub fn run_file<H: Host>(
         (plans.run_file_plan order.now name.now arguments.now) }
     ensures listed { AnswersAsList (H.told host.old) (H.told host.new) result
         (λ m. product.after_source list_machine order.now arguments.now (file_bytes 1025 name.now m)) }
-    ensures heard { HearsAs (H.told host.old) result (map meaning watchers.old.items)
+    ensures heard { HearsBoth (H.told host.old) result (map meaning watchers.old.items)
         (map meaning watchers.new.items) kept.old kept.new
-        (λ m. reports.source_traces window_machine order.now arguments.now (file_bytes 1025 name.now m)) }
-    ensures list_heard { HearsAsList (H.told host.old) result (map meaning watchers.old.items)
-        (map meaning watchers.new.items) kept.old kept.new
+        (λ m. reports.source_traces window_machine order.now arguments.now (file_bytes 1025 name.now m))
         (λ m. product.after_source list_machine order.now arguments.now (file_bytes 1025 name.now m))
         (λ m. reports.source_traces list_machine order.now arguments.now (file_bytes 1025 name.now m)) }
     ensures causes { FailsOnlyBy H.told H.faults host.old host.new result }

@@ -9,7 +9,7 @@ ghost use Rattle.mx_files.specs.Answers.{AnswersAsList};
 ghost use Rattle.mx_top.specs.Arguments.{word_at};
 ghost use Rattle.mx_top.specs.Product as spec;
 ghost use Rattle.mx_top.specs.Reports as reports;
-ghost use Rattle.mx_top.specs.Reports.{HearsAs, HearsAsList};
+ghost use Rattle.mx_top.specs.Reports.{HearsBoth};
 ghost use Rattle.mx_top.specs.Causes.{Causes, FailsOnlyBy};
 ghost use Rattle.mx_top.specs.ProgramClauses.{AnswersOverList, AnswersOverListWatched, Produces, ProducesWatched};
 ghost use Rattle.mx_top.specs.ProductPlan as plans;
@@ -52,11 +52,9 @@ fn run_ordered<H: Host>(
         (plans.ordered_plan (map string_bytes words.now) order.now Command.Run) }
     ensures listed { AnswersAsList (H.told host.old) (H.told host.new) result
         (λ m. spec.run_ordered list_machine (map string_bytes words.now) order.now m) }
-    ensures heard { HearsAs (H.told host.old) result (map meaning watchers.old.items)
+    ensures heard { HearsBoth (H.told host.old) result (map meaning watchers.old.items)
         (map meaning watchers.new.items) kept.old kept.new
-        (λ m. reports.run_traces window_machine (map string_bytes words.now) order.now m) }
-    ensures list_heard { HearsAsList (H.told host.old) result (map meaning watchers.old.items)
-        (map meaning watchers.new.items) kept.old kept.new
+        (λ m. reports.run_traces window_machine (map string_bytes words.now) order.now m)
         (λ m. spec.run_ordered list_machine (map string_bytes words.now) order.now m)
         (λ m. reports.run_traces list_machine (map string_bytes words.now) order.now m) }
     ensures causes { FailsOnlyBy H.told H.faults host.old host.new result }
@@ -91,11 +89,9 @@ fn sim_ordered<H: Host>(
         (plans.ordered_plan (map string_bytes words.now) order.now Command.Sim) }
     ensures listed { AnswersAsList (H.told host.old) (H.told host.new) result
         (λ m. spec.sim_ordered list_machine (map string_bytes words.now) order.now m) }
-    ensures heard { HearsAs (H.told host.old) result (map meaning watchers.old.items)
+    ensures heard { HearsBoth (H.told host.old) result (map meaning watchers.old.items)
         (map meaning watchers.new.items) kept.old kept.new
-        (λ m. reports.sim_traces window_machine (map string_bytes words.now) order.now m) }
-    ensures list_heard { HearsAsList (H.told host.old) result (map meaning watchers.old.items)
-        (map meaning watchers.new.items) kept.old kept.new
+        (λ m. reports.sim_traces window_machine (map string_bytes words.now) order.now m)
         (λ m. spec.sim_ordered list_machine (map string_bytes words.now) order.now m)
         (λ m. reports.sim_traces list_machine (map string_bytes words.now) order.now m) }
     ensures causes { FailsOnlyBy H.told H.faults host.old host.new result }
@@ -133,11 +129,9 @@ fn carry_order<H: Host>(
         (plans.ordered_plan (map string_bytes words.now) order.now order.now.command) }
     ensures listed { AnswersAsList (H.told host.old) (H.told host.new) result
         (λ m. spec.ordered list_machine (map string_bytes words.now) order.now order.now.command m) }
-    ensures heard { HearsAs (H.told host.old) result (map meaning watchers.old.items)
+    ensures heard { HearsBoth (H.told host.old) result (map meaning watchers.old.items)
         (map meaning watchers.new.items) kept.old kept.new
-        (λ m. reports.ordered_traces window_machine (map string_bytes words.now) order.now order.now.command m) }
-    ensures list_heard { HearsAsList (H.told host.old) result (map meaning watchers.old.items)
-        (map meaning watchers.new.items) kept.old kept.new
+        (λ m. reports.ordered_traces window_machine (map string_bytes words.now) order.now order.now.command m)
         (λ m. spec.ordered list_machine (map string_bytes words.now) order.now order.now.command m)
         (λ m. reports.ordered_traces list_machine (map string_bytes words.now) order.now order.now.command m) }
     ensures causes { FailsOnlyBy H.told H.faults host.old host.new result }
@@ -176,12 +170,10 @@ fn carry_out<H: Host>(
         (plans.work_plan (map string_bytes words.now) (order_of (map string_bytes words.now))) }
     ensures listed { AnswersAsList (H.told host.old) (H.told host.new) result
         (λ m. spec.carried_out list_machine (map string_bytes words.now) (order_of (map string_bytes words.now)) m) }
-    ensures heard { HearsAs (H.told host.old) result (map meaning watchers.old.items)
+    ensures heard { HearsBoth (H.told host.old) result (map meaning watchers.old.items)
         (map meaning watchers.new.items) kept.old kept.new
         (λ m. reports.carried_traces window_machine (map string_bytes words.now)
-        (order_of (map string_bytes words.now)) m) }
-    ensures list_heard { HearsAsList (H.told host.old) result (map meaning watchers.old.items)
-        (map meaning watchers.new.items) kept.old kept.new
+        (order_of (map string_bytes words.now)) m)
         (λ m. spec.carried_out list_machine (map string_bytes words.now) (order_of (map string_bytes words.now)) m)
         (λ m. reports.carried_traces list_machine (map string_bytes words.now) (order_of (map string_bytes words.now)) m) }
     ensures causes { Causes H.told H.faults host.old host.new result (map string_bytes words.now) }

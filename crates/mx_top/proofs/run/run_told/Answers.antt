@@ -23,14 +23,14 @@ returns-clause-listed g c = λ t ne.
     (λ e. c.tell_end.ensures.list e there ne)
 
 pub returns-clause-heard : goal.returns-clause-heard
-returns-clause-heard g c = λ t ne.
-    hears-by _ _ _ _ _ (c.watched_run-end.ensures.heard t (λ e. ne (c.tell_end.ensures.memory (c.outcome_of.ensures.memory e)).0))
-
-pub returns-clause-list_heard : goal.returns-clause-list_heard
-returns-clause-list_heard g c = λ t ne.
-    run-told c.args.order.now.dump c.args.order.now.steps
-    (run_by list_machine c.args.order.now.steps no_flags false (as_list_state (state_of c.args.machine)) (contents (g.H.Host.told c.args.host.now))) _ _
-    (hears-by _ _ _ _ _) (c.watched_run-end.ensures.list_heard t (λ e. ne (c.tell_end.ensures.memory (c.outcome_of.ensures.memory e)).0) c.requires)
+returns-clause-heard g c = (
+  λ t ne.
+      hears-by _ _ _ _ _ (c.watched_run-end.ensures.heard t (λ e. ne (c.tell_end.ensures.memory (c.outcome_of.ensures.memory e)).0)),
+  λ t ne.
+      run-told c.args.order.now.dump c.args.order.now.steps
+      (run_by list_machine c.args.order.now.steps no_flags false (as_list_state (state_of c.args.machine)) (contents (g.H.Host.told c.args.host.now))) _ _
+      (hears-by _ _ _ _ _) (c.watched_run-end.ensures.list_heard t (λ e. ne (c.tell_end.ensures.memory (c.outcome_of.ensures.memory e)).0) c.requires),
+)
 
 pub returns-clause-plan : goal.returns-clause-plan
 unfolding watched_plan

@@ -33,7 +33,7 @@ returns-in-Ok-clause-product g c = record {
         said = c.carry_out-outcome.result;
         texts = _;
         works = said.plan t;
-        reports = inl (refl, λ ne. c.as_slice.ensures ∙ c.in-Ok.ensures ∙ found-due window_machine (map string_bytes c.args.words.now) _ _ _ (order_of (map string_bytes c.args.words.now)) (contents (g.H.Host.told c.args.host.now)) _ (many ∙ sym (length-map c.args.watchers.now.items _)) (from-none _ _ _ _ c.new-kept.ensures (said.heard t ne)));
+        reports = inl (refl, λ ne. c.as_slice.ensures ∙ c.in-Ok.ensures ∙ found-due window_machine (map string_bytes c.args.words.now) _ _ _ (order_of (map string_bytes c.args.words.now)) (contents (g.H.Host.told c.args.host.now)) _ (many ∙ sym (length-map c.args.watchers.now.items _)) (from-none _ _ _ _ c.new-kept.ensures (said.heard.0 t ne)));
         few = few-found _ _ _ _ _ _ (c.as_slice.ensures ∙ c.in-Ok.ensures) (many ∙ sym (length-map c.args.watchers.now.items _));
         told = c.finish.ensures.plan there;
       };
@@ -42,9 +42,9 @@ returns-in-Ok-clause-product g c = record {
       let there = subst IsTrue (sym said.causes.keeps.telling) t in
       let wanting : c.carry_out-outcome.result ≢ OutOfMemory = λ e. ne (c.finish.ensures.same ne ∙ e) in
       reported c.carry_out-outcome.result c.finish.result _ _ _ _ _ (ap plainly ((said.plan t).ending wanting) ∙ work-end (map string_bytes c.args.words.now) (order_of (map string_bytes c.args.words.now)) (contents (g.H.Host.told c.args.host.now)))
-      (c.as_slice.ensures ∙ c.in-Ok.ensures ∙ found-due window_machine (map string_bytes c.args.words.now) _ _ _ (order_of (map string_bytes c.args.words.now)) (contents (g.H.Host.told c.args.host.now)) _ (c.len-count.ensures ∙ c.args.watchers.now.ok.0 ∙ sym (length-map c.args.watchers.now.items _)) (from-none _ _ _ _ c.new-kept.ensures (said.heard t wanting)))
+      (c.as_slice.ensures ∙ c.in-Ok.ensures ∙ found-due window_machine (map string_bytes c.args.words.now) _ _ _ (order_of (map string_bytes c.args.words.now)) (contents (g.H.Host.told c.args.host.now)) _ (c.len-count.ensures ∙ c.args.watchers.now.ok.0 ∙ sym (length-map c.args.watchers.now.items _)) (from-none _ _ _ _ c.new-kept.ensures (said.heard.0 t wanting)))
       (telling-told _ _ _ _ _ (c.finish.ensures.plan there) ne);
-  left_over = λ t ne. left-of _ _ _ _ _ c.new-kept.ensures (c.carry_out-outcome.ensures.heard t (λ e. ne (c.finish.ensures.same ne ∙ e)));
+  left_over = λ t ne. left-of _ _ _ _ _ c.new-kept.ensures (c.carry_out-outcome.ensures.heard.0 t (λ e. ne (c.finish.ensures.same ne ∙ e)));
   written = λ to_stderr t oom.
       let start = contents (g.H.Host.told c.args.host.now) in
       let here = contents (g.H.Host.told c.carry_out-outcome.new.host) in
@@ -64,7 +64,7 @@ returns-in-Ok-clause-headline g c = λ t ne.
     (said.listed t wanting)
     (unless-by (carried_out list_machine (map string_bytes c.args.words.now) (order_of (map string_bytes c.args.words.now)) (contents (g.H.Host.told c.args.host.now))) _ _
     (λ e. c.as_slice.ensures ∙ c.in-Ok.ensures ∙ found-due list_machine (map string_bytes c.args.words.now) _ _ _ (order_of (map string_bytes c.args.words.now)) (contents (g.H.Host.told c.args.host.now)) _ (c.len-count.ensures ∙ c.args.watchers.now.ok.0 ∙ sym (length-map c.args.watchers.now.items _)) (from-none _ _ _ _ c.new-kept.ensures e))
-    (said.list_heard t wanting))
+    (said.heard.1 t wanting))
     (telling-told _ _ _ _ _ (c.finish.ensures.plan there) ne) (c.finish.ensures.keeps.growing there)
 
 pub returns-in-Ok-clause-causes : goal.returns-in-Ok-clause-causes
