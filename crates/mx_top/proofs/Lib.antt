@@ -25,3 +25,4 @@ pub mod ProductEnds
 pub mod ProgramHeld
 pub mod Saying
 pub mod FewReports
+pub mod Caused

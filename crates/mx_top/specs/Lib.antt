@@ -9,3 +9,5 @@ pub mod Reports
 pub mod ProgramCalls
 pub mod ProductPlan
 pub mod WorkClauses
+pub mod Causes
+pub mod ProgramClauses

@@ -125,6 +125,11 @@ abbrev pub HearsAsList : Option HostModel → Outcome → List Watching → List
 HearsAsList old result watchers left earlier later a f =
     IsTrue (tells old) → result ≢ OutOfMemory → UnlessWild (a (contents old)) ((left, later) ≡ heard_by (f (contents old)) watchers earlier)
 
+-- both: they heard the traces of f, and, unless the answer of a is wild, those of g over the list machine
+abbrev pub HearsBoth : Option HostModel → Outcome → List Watching → List Watching → List Report → List Report → (HostModel → List Trace) → (HostModel → Answer) → (HostModel → List Trace) → Type 0
+HearsBoth old result watchers left earlier later f a g =
+    HearsAs old result watchers left earlier later f × HearsAsList old result watchers left earlier later a g
+
 -- those that are left, over a host that tells its contents and unless out of memory, where f gives what all were told
 abbrev pub LeavesWatchers : Option HostModel → Outcome → List Watching → List Watching → (HostModel → List Trace) → Type 0
 LeavesWatchers old result watchers left f =

@@ -3,10 +3,10 @@
 ghost use Rattle.std.specs.Prelude.{◌≡◌, ◌≢◌, false};
 ghost use Rattle.mx_core.specs.Bounds.{as_list_state};
 ghost use Rattle.mx_core.specs.Kept.{state_of};
-ghost use Rattle.mx_host.specs.Keeping.{ComesByFault, OnlyByFailure, Keeps};
 ghost use Rattle.mx_run.specs.WildRuns.{window_machine, list_machine};
-ghost use Rattle.mx_files.specs.Answers.{AnswersAs, AnswersAsList, is_usage};
+ghost use Rattle.mx_files.specs.Answers.{AnswersAsList, is_usage};
 ghost use Rattle.mx_top.specs.Runs as spec;
+ghost use Rattle.mx_top.specs.Causes.{FailsOnlyBy};
 ghost use Rattle.mx_top.specs.ProductPlan as plans;
 ghost use Rattle.mx_top.specs.WorkClauses.{CarriesOutWork};
 
@@ -46,10 +46,7 @@ pub fn run_session<H: Host>(alloc: Global, host: &mut H, order: &Order, machine:
     ensures listed { AnswersAsList (H.told host.old) (H.told host.new) result
         (λ m. spec.dumped order.now.dump
         (spec.session_ran list_machine order.now.steps (as_list_state (state_of machine)) m)) }
-    ensures rose { OnlyByFailure (H.told host.old) Outcome.HostFault result (H.faults host.old) (H.faults host.new) }
-    ensures no_file { ComesByFault (H.told host.old) Outcome.NoFile result (H.faults host.old) (H.faults host.new) }
-    ensures words { is_usage result ≡ false }
-    ensures keeps { Keeps (H.told host.old) (H.told host.new) (H.faults host.old) (H.faults host.new) }
+    ensures causes { FailsOnlyBy H.told H.faults host.old host.new result }
 {
     let mut runner = Runner::new(alloc, machine);
     match session(alloc, &mut runner, host, order.steps) {

@@ -3,9 +3,9 @@
 ghost use Rattle.std.specs.Prelude.{◌≡◌, ◌≢◌, ◌&&◌, false};
 ghost use Rattle.mx_core.specs.Bounds.{as_list_state};
 ghost use Rattle.mx_core.specs.Kept.{state_of};
-ghost use Rattle.mx_host.specs.Keeping.{ComesByFault, OnlyByFailure, Keeps};
 ghost use Rattle.mx_plan.specs.Clauses.{CarriesOut};
 ghost use Rattle.mx_files.specs.Answers.{AnswersAs, is_usage, leaves_machine};
+ghost use Rattle.mx_top.specs.Causes.{FailsOnlyBy};
 ghost use Rattle.mx_top.specs.ProductPlan as plans;
 ghost use Rattle.mx_top.specs.Runs as spec;
 
@@ -39,10 +39,7 @@ pub fn tell_end<H: Host>(
         (plans.dumped_plan wanted outcome (state_of machine.now)) }
     ensures list { (state_of machine.now).touched ≡ false → AnswersAs (H.told host.old) (H.told host.new) result
         (λ m. spec.dumped wanted (spec.ran outcome (as_list_state (state_of machine.now)) m)) }
-    ensures rose { OnlyByFailure (H.told host.old) Outcome.HostFault result (H.faults host.old) (H.faults host.new) }
-    ensures no_file { ComesByFault (H.told host.old) Outcome.NoFile result (H.faults host.old) (H.faults host.new) }
-    ensures words { is_usage result ≡ false }
-    ensures keeps { Keeps (H.told host.old) (H.told host.new) (H.faults host.old) (H.faults host.new) }
+    ensures causes { FailsOnlyBy H.told H.faults host.old host.new result }
 {
     if !is_dumped(wanted, outcome) {
         return outcome;

@@ -4,7 +4,6 @@ ghost use Rattle.std.specs.Prelude.{◌≡◌, ◌≢◌, ◌≤◌, ◌+◌, �
 ghost use Rattle.mx_core.specs.Bounds.{as_list_state};
 ghost use Rattle.mx_core.specs.Kept.{state_of};
 ghost use Rattle.mx_start.specs.Start.{pool, pool_octas};
-ghost use Rattle.mx_host.specs.Keeping.{ComesByFault, OnlyByFailure, Keeps};
 ghost use Rattle.mx_load.specs.Kept.{image_of};
 ghost use Rattle.mx_ring.specs.Stack.{stack_address};
 ghost use Rattle.mx_run.specs.WildRuns.{window_machine, list_machine};
@@ -12,6 +11,7 @@ ghost use Rattle.mx_files.specs.Answers.{AnswersAs, AnswersAsList, is_usage};
 ghost use Rattle.law_gen.specs.Generator as generator;
 ghost use Rattle.mx_top.specs.Product as spec;
 ghost use Rattle.mx_top.specs.Runs.{ran};
+ghost use Rattle.mx_top.specs.Causes.{FailsOnlyBy};
 ghost use Rattle.mx_top.specs.ProductPlan as plans;
 ghost use Rattle.mx_top.specs.WorkClauses.{CarriesOutWork};
 ghost use Rattle.mx_plan.specs.Clauses.{CarriesOut};
@@ -42,10 +42,7 @@ fn put_summary<H: Host>(
         (plans.summed_plan blocks size (Outcome.Done 0) (state_of machine.now)) }
     ensures told { AnswersAs (H.told host.old) (H.told host.new) result
         (λ m. spec.summary_put blocks size (state_of machine.now) m) }
-    ensures rose { OnlyByFailure (H.told host.old) Outcome.HostFault result (H.faults host.old) (H.faults host.new) }
-    ensures no_file { ComesByFault (H.told host.old) Outcome.NoFile result (H.faults host.old) (H.faults host.new) }
-    ensures words { is_usage result ≡ false }
-    ensures keeps { Keeps (H.told host.old) (H.told host.new) (H.faults host.old) (H.faults host.new) }
+    ensures causes { FailsOnlyBy H.told H.faults host.old host.new result }
 {
     let line = match summary(alloc, blocks, size, machine.steps(), machine.register(255)) {
         Ok(line) => line,
@@ -82,10 +79,7 @@ fn sum_up<H: Host>(
         (plans.summed_plan blocks size outcome (state_of machine.now)) }
     ensures list { (state_of machine.now).touched ≡ false → AnswersAs (H.told host.old) (H.told host.new) result
         (λ m. spec.summed blocks size (ran outcome (as_list_state (state_of machine.now)) m)) }
-    ensures rose { OnlyByFailure (H.told host.old) Outcome.HostFault result (H.faults host.old) (H.faults host.new) }
-    ensures no_file { ComesByFault (H.told host.old) Outcome.NoFile result (H.faults host.old) (H.faults host.new) }
-    ensures words { is_usage result ≡ false }
-    ensures keeps { Keeps (H.told host.old) (H.told host.new) (H.faults host.old) (H.faults host.new) }
+    ensures causes { FailsOnlyBy H.told H.faults host.old host.new result }
 {
     if !is_done(outcome) {
         return outcome;
@@ -106,10 +100,7 @@ fn run_summed<H: Host>(
         (plans.summed_run blocks size (state_of machine)) }
     ensures listed { AnswersAsList (H.told host.old) (H.told host.new) result
         (λ m. spec.summed_from list_machine blocks size (Ok (as_list_state (state_of machine))) m) }
-    ensures rose { OnlyByFailure (H.told host.old) Outcome.HostFault result (H.faults host.old) (H.faults host.new) }
-    ensures no_file { ComesByFault (H.told host.old) Outcome.NoFile result (H.faults host.old) (H.faults host.new) }
-    ensures words { is_usage result ≡ false }
-    ensures keeps { Keeps (H.told host.old) (H.told host.new) (H.faults host.old) (H.faults host.new) }
+    ensures causes { FailsOnlyBy H.told H.faults host.old host.new result }
 {
     let mut runner = Runner::new(alloc, machine);
     let end = runner.go(host, STEP_BOUND, false);
@@ -146,10 +137,7 @@ fn run_generated<H: Host>(
         (plans.generated_meaning order.now size (Ok (image_of image))) }
     ensures listed { AnswersAsList (H.told host.old) (H.told host.new) result
         (λ m. spec.generated_run list_machine order.now size (Ok (image_of image)) m) }
-    ensures rose { OnlyByFailure (H.told host.old) Outcome.HostFault result (H.faults host.old) (H.faults host.new) }
-    ensures no_file { ComesByFault (H.told host.old) Outcome.NoFile result (H.faults host.old) (H.faults host.new) }
-    ensures words { is_usage result ≡ false }
-    ensures keeps { Keeps (H.told host.old) (H.told host.new) (H.faults host.old) (H.faults host.new) }
+    ensures causes { FailsOnlyBy H.told H.faults host.old host.new result }
 {
     let arguments = match generator_arguments(alloc) {
         Ok(arguments) => arguments,
@@ -167,10 +155,7 @@ fn run_text<H: Host>(alloc: Global, host: &mut H, order: &Order, text: &[u8]) ->
         (plans.generated_plan order.now text.now) }
     ensures listed { AnswersAsList (H.told host.old) (H.told host.new) result
         (λ m. spec.source_generated list_machine order.now text.now m) }
-    ensures rose { OnlyByFailure (H.told host.old) Outcome.HostFault result (H.faults host.old) (H.faults host.new) }
-    ensures no_file { ComesByFault (H.told host.old) Outcome.NoFile result (H.faults host.old) (H.faults host.new) }
-    ensures words { is_usage result ≡ false }
-    ensures keeps { Keeps (H.told host.old) (H.told host.new) (H.faults host.old) (H.faults host.new) }
+    ensures causes { FailsOnlyBy H.told H.faults host.old host.new result }
 {
     match load_source(alloc, text) {
         Ok(image) => run_generated(alloc, host, order, text.len() as u64, image),
@@ -186,10 +171,7 @@ pub fn generate<H: Host>(alloc: Global, host: &mut H, order: &Order) -> Outcome
         (plans.taking (plans.generated_plan order.now (generator.generated order.now.number))) }
     ensures listed { AnswersAsList (H.told host.old) (H.told host.new) result
         (λ m. spec.source_generated list_machine order.now (generator.generated order.now.number) m) }
-    ensures rose { OnlyByFailure (H.told host.old) Outcome.HostFault result (H.faults host.old) (H.faults host.new) }
-    ensures no_file { ComesByFault (H.told host.old) Outcome.NoFile result (H.faults host.old) (H.faults host.new) }
-    ensures words { is_usage result ≡ false }
-    ensures keeps { Keeps (H.told host.old) (H.told host.new) (H.faults host.old) (H.faults host.new) }
+    ensures causes { FailsOnlyBy H.told H.faults host.old host.new result }
 {
     match generated(alloc, order.number) {
         Ok(text) => run_text(alloc, host, order, text.as_slice()),

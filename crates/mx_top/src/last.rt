@@ -8,9 +8,9 @@ ghost use Rattle.mx_core.specs.Kept.{state_of};
 ghost use Rattle.mx_files.specs.Answers.{AnswersAs, AnswersAsList, is_usage};
 ghost use Rattle.mx_files.specs.Clauses.{Works};
 ghost use Rattle.mx_files.specs.FilePlans.{lines_plan};
-ghost use Rattle.mx_host.specs.Keeping.{ComesByFault, Keeps, OnlyByFailure};
 ghost use Rattle.mx_plan.specs.Clauses.{CarriesOut};
 ghost use Rattle.mx_run.specs.WildRuns.{list_machine};
+ghost use Rattle.mx_top.specs.Causes.{FailsOnlyBy};
 ghost use Rattle.mx_top.specs.ProductPlan as plans;
 ghost use Rattle.mx_top.specs.Runs as spec;
 ghost use Rattle.mx_top.specs.WorkClauses.{CarriesOutWork};
@@ -120,10 +120,7 @@ fn tell_back<H: Host>(
         AnswersAs (H.told host.old) (H.told host.new) result (λ m. spec.dumped order.now.dump
         (spec.taken_back (take order.now.last (as_lists (states_before back.old (state_of machine.old))))
         (spec.ran outcome (as_list_state (state_of machine.old)) m))) }
-    ensures rose { OnlyByFailure (H.told host.old) Outcome.HostFault result (H.faults host.old) (H.faults host.new) }
-    ensures no_file { ComesByFault (H.told host.old) Outcome.NoFile result (H.faults host.old) (H.faults host.new) }
-    ensures words { is_usage result ≡ false }
-    ensures keeps { Keeps (H.told host.old) (H.told host.new) (H.faults host.old) (H.faults host.new) }
+    ensures causes { FailsOnlyBy H.told H.faults host.old host.new result }
 {
     if !takes_back(outcome) {
         return tell_end(alloc, host, order.dump, machine, outcome);
@@ -143,10 +140,7 @@ pub fn run_back<H: Host>(alloc: Global, host: &mut H, order: &Order, machine: Ma
     ensures listed { AnswersAsList (H.told host.old) (H.told host.new) result
         (λ m. spec.dumped order.now.dump (spec.run_back list_machine order.now.last order.now.steps
         (as_list_state (state_of machine)) m)) }
-    ensures rose { OnlyByFailure (H.told host.old) Outcome.HostFault result (H.faults host.old) (H.faults host.new) }
-    ensures no_file { ComesByFault (H.told host.old) Outcome.NoFile result (H.faults host.old) (H.faults host.new) }
-    ensures words { is_usage result ≡ false }
-    ensures keeps { Keeps (H.told host.old) (H.told host.new) (H.faults host.old) (H.faults host.new) }
+    ensures causes { FailsOnlyBy H.told H.faults host.old host.new result }
 {
     let mut machine = machine;
     let mut back = match Back::new(alloc) {

@@ -1,16 +1,16 @@
 //! An object that is loaded and run.
 
-ghost use Rattle.std.specs.Prelude.{◌≡◌, ◌≢◌, ◌≤◌, ◌+◌, ◌*◌, false, length, map};
+ghost use Rattle.std.specs.Prelude.{◌≤◌, ◌+◌, ◌*◌, length, map};
 ghost use Rattle.mx_start.specs.Start.{pool, pool_octas};
-ghost use Rattle.mx_host.specs.Keeping.{ComesByFault, OnlyByFailure, Keeps};
 ghost use Rattle.mx_load.specs.Objects.{object_loaded};
 ghost use Rattle.mx_ring.specs.Stack.{stack_address};
 ghost use Rattle.mx_run.specs.WildRuns.{window_machine, list_machine};
-ghost use Rattle.mx_files.specs.Answers.{AnswersAs, AnswersAsList, is_usage};
+ghost use Rattle.mx_files.specs.Answers.{AnswersAsList};
 ghost use Rattle.mx_top.specs.Product as product;
 ghost use Rattle.mx_top.specs.Reports as reports;
-ghost use Rattle.mx_top.specs.Reports.{HearsAs, HearsAsList};
+ghost use Rattle.mx_top.specs.Reports.{HearsBoth};
 ghost use Rattle.mx_files.specs.Source.{file_bytes};
+ghost use Rattle.mx_top.specs.Causes.{FailsOnlyBy};
 ghost use Rattle.mx_top.specs.ProductPlan as plans;
 ghost use Rattle.mx_top.specs.WorkClauses.{CarriesOutWork};
 
@@ -40,17 +40,12 @@ fn run_object<H: Host>(
         (plans.object_plan order.now arguments.now bytes.now) }
     ensures listed { AnswersAsList (H.told host.old) (H.told host.new) result
         (λ m. product.after_loading list_machine order.now arguments.now (object_loaded bytes.now) m) }
-    ensures heard { HearsAs (H.told host.old) result (map meaning watchers.old.items)
+    ensures heard { HearsBoth (H.told host.old) result (map meaning watchers.old.items)
         (map meaning watchers.new.items) kept.old kept.new
-        (λ m. reports.loading_traces window_machine order.now arguments.now (object_loaded bytes.now) m) }
-    ensures list_heard { HearsAsList (H.told host.old) result (map meaning watchers.old.items)
-        (map meaning watchers.new.items) kept.old kept.new
+        (λ m. reports.loading_traces window_machine order.now arguments.now (object_loaded bytes.now) m)
         (λ m. product.after_loading list_machine order.now arguments.now (object_loaded bytes.now) m)
         (λ m. reports.loading_traces list_machine order.now arguments.now (object_loaded bytes.now) m) }
-    ensures rose { OnlyByFailure (H.told host.old) Outcome.HostFault result (H.faults host.old) (H.faults host.new) }
-    ensures no_file { ComesByFault (H.told host.old) Outcome.NoFile result (H.faults host.old) (H.faults host.new) }
-    ensures words { is_usage result ≡ false }
-    ensures keeps { Keeps (H.told host.old) (H.told host.new) (H.faults host.old) (H.faults host.new) }
+    ensures causes { FailsOnlyBy H.told H.faults host.old host.new result }
 {
     match load_object(alloc, bytes) {
         Ok(image) => run_image(alloc, host, order, image, arguments, watchers, kept),
@@ -76,17 +71,12 @@ pub fn sim_file<H: Host>(
         (plans.sim_file_plan order.now name.now arguments.now) }
     ensures listed { AnswersAsList (H.told host.old) (H.told host.new) result
         (λ m. product.after_object list_machine order.now arguments.now (file_bytes 16385 name.now m)) }
-    ensures heard { HearsAs (H.told host.old) result (map meaning watchers.old.items)
+    ensures heard { HearsBoth (H.told host.old) result (map meaning watchers.old.items)
         (map meaning watchers.new.items) kept.old kept.new
-        (λ m. reports.object_traces window_machine order.now arguments.now (file_bytes 16385 name.now m)) }
-    ensures list_heard { HearsAsList (H.told host.old) result (map meaning watchers.old.items)
-        (map meaning watchers.new.items) kept.old kept.new
+        (λ m. reports.object_traces window_machine order.now arguments.now (file_bytes 16385 name.now m))
         (λ m. product.after_object list_machine order.now arguments.now (file_bytes 16385 name.now m))
         (λ m. reports.object_traces list_machine order.now arguments.now (file_bytes 16385 name.now m)) }
-    ensures rose { OnlyByFailure (H.told host.old) Outcome.HostFault result (H.faults host.old) (H.faults host.new) }
-    ensures no_file { ComesByFault (H.told host.old) Outcome.NoFile result (H.faults host.old) (H.faults host.new) }
-    ensures words { is_usage result ≡ false }
-    ensures keeps { Keeps (H.told host.old) (H.told host.new) (H.faults host.old) (H.faults host.new) }
+    ensures causes { FailsOnlyBy H.told H.faults host.old host.new result }
 {
     match read_file(alloc, host, name, OBJECT_PIECES) {
         Ok(bytes) => run_object(

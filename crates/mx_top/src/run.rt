@@ -4,19 +4,19 @@ ghost use Rattle.std.specs.Prelude.{◌≡◌, ◌≢◌, ◌≤◌, ◌+◌, �
 ghost use Rattle.mx_core.specs.Bounds.{as_list_state};
 ghost use Rattle.mx_core.specs.Kept.{state_of};
 ghost use Rattle.mx_start.specs.Start.{pool, pool_octas};
-ghost use Rattle.mx_host.specs.Keeping.{ComesByFault, OnlyByFailure, Keeps};
 ghost use Rattle.mx_load.specs.Kept.{image_of};
 ghost use Rattle.mx_ring.specs.Stack.{stack_address};
 ghost use Rattle.mx_run.specs.WildRuns.{window_machine, list_machine};
 ghost use Rattle.mx_word.specs.Results.{map_ok};
-ghost use Rattle.mx_files.specs.Answers.{AnswersAs, AnswersAsList, is_usage};
+ghost use Rattle.mx_files.specs.Answers.{AnswersAsList, is_usage};
 ghost use Rattle.mx_top.specs.Product as product;
 ghost use Rattle.mx_top.specs.Reports as reports;
-ghost use Rattle.mx_top.specs.Reports.{HearsAs, HearsAsList};
+ghost use Rattle.mx_top.specs.Reports.{HearsBoth};
 ghost use Rattle.mx_top.specs.Runs as spec;
 ghost use Rattle.mx_watch.specs.Traces.{traces};
 ghost use Rattle.mx_files.specs.Source.{file_bytes};
 ghost use Rattle.mx_files.specs.Sources.{source_meaning};
+ghost use Rattle.mx_top.specs.Causes.{FailsOnlyBy};
 ghost use Rattle.mx_top.specs.ProductPlan as plans;
 ghost use Rattle.mx_top.specs.WorkClauses.{CarriesOutWork};
 
@@ -86,10 +86,7 @@ fn run_steps<H: Host>(alloc: Global, host: &mut H, order: &Order, machine: Machi
     ensures listed { AnswersAsList (H.told host.old) (H.told host.new) result
         (λ m. spec.dumped order.now.dump
         (spec.machine_ran list_machine order.now.steps (as_list_state (state_of machine)) m)) }
-    ensures rose { OnlyByFailure (H.told host.old) Outcome.HostFault result (H.faults host.old) (H.faults host.new) }
-    ensures no_file { ComesByFault (H.told host.old) Outcome.NoFile result (H.faults host.old) (H.faults host.new) }
-    ensures words { is_usage result ≡ false }
-    ensures keeps { Keeps (H.told host.old) (H.told host.new) (H.faults host.old) (H.faults host.new) }
+    ensures causes { FailsOnlyBy H.told H.faults host.old host.new result }
 {
     let mut runner = Runner::new(alloc, machine);
     let end = runner.go(host, order.steps, false);
@@ -117,18 +114,13 @@ fn run_told<H: Host>(
     ensures listed { AnswersAsList (H.told host.old) (H.told host.new) result
         (λ m. spec.dumped order.now.dump
         (spec.machine_ran list_machine order.now.steps (as_list_state (state_of machine)) m)) }
-    ensures heard { HearsAs (H.told host.old) result (map meaning watchers.old.items)
+    ensures heard { HearsBoth (H.told host.old) result (map meaning watchers.old.items)
         (map meaning watchers.new.items) kept.old kept.new
-        (λ m. traces window_machine order.now.steps (state_of machine) m) }
-    ensures list_heard { HearsAsList (H.told host.old) result (map meaning watchers.old.items)
-        (map meaning watchers.new.items) kept.old kept.new
+        (λ m. traces window_machine order.now.steps (state_of machine) m)
         (λ m. spec.dumped order.now.dump
         (spec.machine_ran list_machine order.now.steps (as_list_state (state_of machine)) m))
         (λ m. traces list_machine order.now.steps (as_list_state (state_of machine)) m) }
-    ensures rose { OnlyByFailure (H.told host.old) Outcome.HostFault result (H.faults host.old) (H.faults host.new) }
-    ensures no_file { ComesByFault (H.told host.old) Outcome.NoFile result (H.faults host.old) (H.faults host.new) }
-    ensures words { is_usage result ≡ false }
-    ensures keeps { Keeps (H.told host.old) (H.told host.new) (H.faults host.old) (H.faults host.new) }
+    ensures causes { FailsOnlyBy H.told H.faults host.old host.new result }
 {
     let mut machine = machine;
     let end = watched_run(alloc, &mut machine, host, order.steps, watchers, kept);
@@ -157,17 +149,12 @@ fn run_machine<H: Host>(
         (plans.machine_plan order.now (state_of machine)) }
     ensures listed { AnswersAsList (H.told host.old) (H.told host.new) result
         (λ m. spec.run_from list_machine order.now (Ok (as_list_state (state_of machine))) m) }
-    ensures heard { HearsAs (H.told host.old) result (map meaning watchers.old.items)
+    ensures heard { HearsBoth (H.told host.old) result (map meaning watchers.old.items)
         (map meaning watchers.new.items) kept.old kept.new
-        (λ m. reports.order_traces window_machine order.now (state_of machine) m) }
-    ensures list_heard { HearsAsList (H.told host.old) result (map meaning watchers.old.items)
-        (map meaning watchers.new.items) kept.old kept.new
+        (λ m. reports.order_traces window_machine order.now (state_of machine) m)
         (λ m. spec.run_from list_machine order.now (Ok (as_list_state (state_of machine))) m)
         (λ m. reports.order_traces list_machine order.now (as_list_state (state_of machine)) m) }
-    ensures rose { OnlyByFailure (H.told host.old) Outcome.HostFault result (H.faults host.old) (H.faults host.new) }
-    ensures no_file { ComesByFault (H.told host.old) Outcome.NoFile result (H.faults host.old) (H.faults host.new) }
-    ensures words { is_usage result ≡ false }
-    ensures keeps { Keeps (H.told host.old) (H.told host.new) (H.faults host.old) (H.faults host.new) }
+    ensures causes { FailsOnlyBy H.told H.faults host.old host.new result }
 {
     if order.interactive {
         run_session(alloc, host, order, machine)
@@ -197,17 +184,12 @@ pub fn run_image<H: Host>(
         (plans.image_plan order.now arguments.now (image_of image)) }
     ensures listed { AnswersAsList (H.told host.old) (H.told host.new) result
         (λ m. spec.image_run list_machine order.now arguments.now (image_of image) m) }
-    ensures heard { HearsAs (H.told host.old) result (map meaning watchers.old.items)
+    ensures heard { HearsBoth (H.told host.old) result (map meaning watchers.old.items)
         (map meaning watchers.new.items) kept.old kept.new
-        (λ m. reports.image_traces window_machine order.now arguments.now (image_of image) m) }
-    ensures list_heard { HearsAsList (H.told host.old) result (map meaning watchers.old.items)
-        (map meaning watchers.new.items) kept.old kept.new
+        (λ m. reports.image_traces window_machine order.now arguments.now (image_of image) m)
         (λ m. spec.image_run list_machine order.now arguments.now (image_of image) m)
         (λ m. reports.image_traces list_machine order.now arguments.now (image_of image) m) }
-    ensures rose { OnlyByFailure (H.told host.old) Outcome.HostFault result (H.faults host.old) (H.faults host.new) }
-    ensures no_file { ComesByFault (H.told host.old) Outcome.NoFile result (H.faults host.old) (H.faults host.new) }
-    ensures words { is_usage result ≡ false }
-    ensures keeps { Keeps (H.told host.old) (H.told host.new) (H.faults host.old) (H.faults host.new) }
+    ensures causes { FailsOnlyBy H.told H.faults host.old host.new result }
 {
     match start(alloc, image, arguments, order.ring) {
         Ok(machine) => run_machine(alloc, host, order, machine, watchers, kept),
@@ -232,17 +214,12 @@ fn run_source<H: Host>(
         (plans.source_plan order.now arguments.now text.now) }
     ensures listed { AnswersAsList (H.told host.old) (H.told host.new) result
         (λ m. product.after_image list_machine order.now arguments.now (source_meaning text.now) m) }
-    ensures heard { HearsAs (H.told host.old) result (map meaning watchers.old.items)
+    ensures heard { HearsBoth (H.told host.old) result (map meaning watchers.old.items)
         (map meaning watchers.new.items) kept.old kept.new
-        (λ m. reports.meaning_traces window_machine order.now arguments.now (source_meaning text.now) m) }
-    ensures list_heard { HearsAsList (H.told host.old) result (map meaning watchers.old.items)
-        (map meaning watchers.new.items) kept.old kept.new
+        (λ m. reports.meaning_traces window_machine order.now arguments.now (source_meaning text.now) m)
         (λ m. product.after_image list_machine order.now arguments.now (source_meaning text.now) m)
         (λ m. reports.meaning_traces list_machine order.now arguments.now (source_meaning text.now) m) }
-    ensures rose { OnlyByFailure (H.told host.old) Outcome.HostFault result (H.faults host.old) (H.faults host.new) }
-    ensures no_file { ComesByFault (H.told host.old) Outcome.NoFile result (H.faults host.old) (H.faults host.new) }
-    ensures words { is_usage result ≡ false }
-    ensures keeps { Keeps (H.told host.old) (H.told host.new) (H.faults host.old) (H.faults host.new) }
+    ensures causes { FailsOnlyBy H.told H.faults host.old host.new result }
 {
     match load_source(alloc, text) {
         Ok(image) => run_image(alloc, host, order, image, arguments, watchers, kept),
@@ -268,17 +245,12 @@ pub fn run_file<H: Host>(
         (plans.run_file_plan order.now name.now arguments.now) }
     ensures listed { AnswersAsList (H.told host.old) (H.told host.new) result
         (λ m. product.after_source list_machine order.now arguments.now (file_bytes 1025 name.now m)) }
-    ensures heard { HearsAs (H.told host.old) result (map meaning watchers.old.items)
+    ensures heard { HearsBoth (H.told host.old) result (map meaning watchers.old.items)
         (map meaning watchers.new.items) kept.old kept.new
-        (λ m. reports.source_traces window_machine order.now arguments.now (file_bytes 1025 name.now m)) }
-    ensures list_heard { HearsAsList (H.told host.old) result (map meaning watchers.old.items)
-        (map meaning watchers.new.items) kept.old kept.new
+        (λ m. reports.source_traces window_machine order.now arguments.now (file_bytes 1025 name.now m))
         (λ m. product.after_source list_machine order.now arguments.now (file_bytes 1025 name.now m))
         (λ m. reports.source_traces list_machine order.now arguments.now (file_bytes 1025 name.now m)) }
-    ensures rose { OnlyByFailure (H.told host.old) Outcome.HostFault result (H.faults host.old) (H.faults host.new) }
-    ensures no_file { ComesByFault (H.told host.old) Outcome.NoFile result (H.faults host.old) (H.faults host.new) }
-    ensures words { is_usage result ≡ false }
-    ensures keeps { Keeps (H.told host.old) (H.told host.new) (H.faults host.old) (H.faults host.new) }
+    ensures causes { FailsOnlyBy H.told H.faults host.old host.new result }
 {
     match read_file(alloc, host, name, SOURCE_PIECES) {
         Ok(text) => run_source(

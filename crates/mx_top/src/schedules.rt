@@ -1,7 +1,6 @@
 //! An object that several processors run by a schedule.
 
 ghost use Rattle.std.specs.Prelude.{◌≡◌, ◌≢◌, ◌≤◌, ◌<◌, false};
-ghost use Rattle.mx_host.specs.Keeping.{ComesByFault, OnlyByFailure, Keeps};
 ghost use Rattle.mx_load.specs.Kept.{image_of};
 ghost use Rattle.mx_load.specs.Objects.{object_loaded};
 ghost use Rattle.mx_multi.specs.Joint.{NoneTouched, as_list_joint, joint_of, processor_count};
@@ -12,6 +11,7 @@ ghost use Rattle.mx_files.specs.Schedules.{AreEight, schedule_bytes};
 ghost use Rattle.mx_files.specs.Source.{file_bytes};
 ghost use Rattle.mx_top.specs.Processors as spec;
 ghost use Rattle.mx_top.specs.Product as product;
+ghost use Rattle.mx_top.specs.Causes.{FailsOnlyBy};
 ghost use Rattle.mx_top.specs.ProductPlan as plans;
 ghost use Rattle.mx_top.specs.WorkClauses.{CarriesOutWork};
 ghost use Rattle.mx_plan.specs.Clauses.{CarriesOut};
@@ -84,10 +84,7 @@ fn tell_turns<H: Host>(
         (spec.multi_lines order.now.dump end (joint_of multi.now))) }
     ensures list { AnswersAs (H.told host.old) (H.told host.new) result
         (λ m. spec.turns_told order.now.dump order.now.steps (turns_ended end (as_list_joint (joint_of multi.now)) m)) }
-    ensures rose { OnlyByFailure (H.told host.old) Outcome.HostFault result (H.faults host.old) (H.faults host.new) }
-    ensures no_file { ComesByFault (H.told host.old) Outcome.NoFile result (H.faults host.old) (H.faults host.new) }
-    ensures words { is_usage result ≡ false }
-    ensures keeps { Keeps (H.told host.old) (H.told host.new) (H.faults host.old) (H.faults host.new) }
+    ensures causes { FailsOnlyBy H.told H.faults host.old host.new result }
 {
     if end == MultiEnd::OutOfMemory {
         return Outcome::OutOfMemory;
@@ -114,10 +111,7 @@ fn run_started<H: Host>(
         (plans.joint_plan order.now schedule.now (joint_of multi)) }
     ensures listed { AnswersAsList (H.told host.old) (H.told host.new) result
         (λ m. spec.joint_run list_machine order.now schedule.now (as_list_joint (joint_of multi)) m) }
-    ensures rose { OnlyByFailure (H.told host.old) Outcome.HostFault result (H.faults host.old) (H.faults host.new) }
-    ensures no_file { ComesByFault (H.told host.old) Outcome.NoFile result (H.faults host.old) (H.faults host.new) }
-    ensures words { is_usage result ≡ false }
-    ensures keeps { Keeps (H.told host.old) (H.told host.new) (H.faults host.old) (H.faults host.new) }
+    ensures causes { FailsOnlyBy H.told H.faults host.old host.new result }
 {
     let mut multi = multi;
     let end = run_turns(&mut multi, host, schedule, order.steps);
@@ -137,10 +131,7 @@ fn run_image<H: Host>(
         (plans.image_turns_plan order.now schedule.now (image_of image)) }
     ensures listed { AnswersAsList (H.told host.old) (H.told host.new) result
         (λ m. spec.image_turns list_machine order.now schedule.now (image_of image) m) }
-    ensures rose { OnlyByFailure (H.told host.old) Outcome.HostFault result (H.faults host.old) (H.faults host.new) }
-    ensures no_file { ComesByFault (H.told host.old) Outcome.NoFile result (H.faults host.old) (H.faults host.new) }
-    ensures words { is_usage result ≡ false }
-    ensures keeps { Keeps (H.told host.old) (H.told host.new) (H.faults host.old) (H.faults host.new) }
+    ensures causes { FailsOnlyBy H.told H.faults host.old host.new result }
 {
     let count = processors_named(schedule);
     match Multi::start(alloc, image, count, order.ring) {
@@ -162,10 +153,7 @@ fn run_object<H: Host>(
         (plans.object_turns_plan order.now schedule.now bytes.now) }
     ensures listed { AnswersAsList (H.told host.old) (H.told host.new) result
         (λ m. product.loaded_turns list_machine order.now schedule.now (object_loaded bytes.now) m) }
-    ensures rose { OnlyByFailure (H.told host.old) Outcome.HostFault result (H.faults host.old) (H.faults host.new) }
-    ensures no_file { ComesByFault (H.told host.old) Outcome.NoFile result (H.faults host.old) (H.faults host.new) }
-    ensures words { is_usage result ≡ false }
-    ensures keeps { Keeps (H.told host.old) (H.told host.new) (H.faults host.old) (H.faults host.new) }
+    ensures causes { FailsOnlyBy H.told H.faults host.old host.new result }
 {
     match load_object(alloc, bytes) {
         Ok(image) => run_image(alloc, host, order, schedule, image),
@@ -187,10 +175,7 @@ fn object_file<H: Host>(
         (plans.turns_file_plan order.now name.now schedule.now) }
     ensures listed { AnswersAsList (H.told host.old) (H.told host.new) result
         (λ m. product.object_turns list_machine order.now schedule.now (file_bytes 16385 name.now m)) }
-    ensures rose { OnlyByFailure (H.told host.old) Outcome.HostFault result (H.faults host.old) (H.faults host.new) }
-    ensures no_file { ComesByFault (H.told host.old) Outcome.NoFile result (H.faults host.old) (H.faults host.new) }
-    ensures words { is_usage result ≡ false }
-    ensures keeps { Keeps (H.told host.old) (H.told host.new) (H.faults host.old) (H.faults host.new) }
+    ensures causes { FailsOnlyBy H.told H.faults host.old host.new result }
 {
     match read_file(alloc, host, name, OBJECT_PIECES) {
         Ok(bytes) => run_object(alloc, host, order, schedule, bytes.as_slice()),
@@ -210,10 +195,7 @@ pub fn multi_file<H: Host>(
         (plans.multi_plan order.now schedule.now object.now) }
     ensures listed { AnswersAsList (H.told host.old) (H.told host.new) result
         (λ m. product.after_schedule list_machine order.now object.now (schedule_bytes schedule.now m)) }
-    ensures rose { OnlyByFailure (H.told host.old) Outcome.HostFault result (H.faults host.old) (H.faults host.new) }
-    ensures no_file { ComesByFault (H.told host.old) Outcome.NoFile result (H.faults host.old) (H.faults host.new) }
-    ensures words { is_usage result ≡ false }
-    ensures keeps { Keeps (H.told host.old) (H.told host.new) (H.faults host.old) (H.faults host.new) }
+    ensures causes { FailsOnlyBy H.told H.faults host.old host.new result }
 {
     match read_schedule(alloc, host, schedule) {
         Ok(bytes) => object_file(alloc, host, order, bytes.as_slice(), object),

@@ -1,18 +1,19 @@
 //! The top call.
 
-ghost use Rattle.std.specs.Prelude.{◌≡◌, ◌≢◌, ◌≤◌, ◌<◌, [], Err, false, length, map, string_bytes};
+ghost use Rattle.std.specs.Prelude.{◌≡◌, ◌≢◌, ◌≤◌, ◌<◌, length, map, string_bytes};
 ghost use Rattle.mx_host.specs.HostModel.{contents, slot_at, to_errors};
-ghost use Rattle.mx_host.specs.Keeping.{ComesByFault, OnlyByFailure, Keeps, KeepsOutput};
+ghost use Rattle.mx_host.specs.Keeping.{Keeps, KeepsOutput};
 ghost use Rattle.mx_run.specs.WildRuns.{window_machine, list_machine};
 ghost use Rattle.mx_words.specs.Orders.{order_of};
-ghost use Rattle.mx_words.specs.declared.order.WordsFault.{WordsFault};
-ghost use Rattle.mx_files.specs.Answers.{AnswersAs, AnswersAsList, WritesFrontOf, is_usage};
+ghost use Rattle.mx_files.specs.Answers.{AnswersAsList};
 ghost use Rattle.mx_top.specs.Arguments.{word_at};
 ghost use Rattle.mx_top.specs.Product as spec;
 ghost use Rattle.mx_top.specs.Reports as reports;
-ghost use Rattle.mx_top.specs.Reports.{HearsAs, HearsAsList, LeavesWatchers};
+ghost use Rattle.mx_top.specs.Reports.{HearsBoth};
+ghost use Rattle.mx_top.specs.Causes.{Causes, FailsOnlyBy};
+ghost use Rattle.mx_top.specs.ProgramClauses.{AnswersOverList, AnswersOverListWatched, Produces, ProducesWatched};
 ghost use Rattle.mx_top.specs.ProductPlan as plans;
-ghost use Rattle.mx_top.specs.WorkClauses.{CarriesOutWork, Does, TellsAll, TellsBy};
+ghost use Rattle.mx_top.specs.WorkClauses.{CarriesOutWork, TellsAll, TellsBy};
 
 use crate::arguments::arguments;
 use crate::generation::generate;
@@ -51,17 +52,12 @@ fn run_ordered<H: Host>(
         (plans.ordered_plan (map string_bytes words.now) order.now Command.Run) }
     ensures listed { AnswersAsList (H.told host.old) (H.told host.new) result
         (λ m. spec.run_ordered list_machine (map string_bytes words.now) order.now m) }
-    ensures heard { HearsAs (H.told host.old) result (map meaning watchers.old.items)
+    ensures heard { HearsBoth (H.told host.old) result (map meaning watchers.old.items)
         (map meaning watchers.new.items) kept.old kept.new
-        (λ m. reports.run_traces window_machine (map string_bytes words.now) order.now m) }
-    ensures list_heard { HearsAsList (H.told host.old) result (map meaning watchers.old.items)
-        (map meaning watchers.new.items) kept.old kept.new
+        (λ m. reports.run_traces window_machine (map string_bytes words.now) order.now m)
         (λ m. spec.run_ordered list_machine (map string_bytes words.now) order.now m)
         (λ m. reports.run_traces list_machine (map string_bytes words.now) order.now m) }
-    ensures rose { OnlyByFailure (H.told host.old) Outcome.HostFault result (H.faults host.old) (H.faults host.new) }
-    ensures no_file { ComesByFault (H.told host.old) Outcome.NoFile result (H.faults host.old) (H.faults host.new) }
-    ensures words { is_usage result ≡ false }
-    ensures keeps { Keeps (H.told host.old) (H.told host.new) (H.faults host.old) (H.faults host.new) }
+    ensures causes { FailsOnlyBy H.told H.faults host.old host.new result }
 {
     match arguments(alloc, words, order) {
         Ok(arguments) => run_file(
@@ -93,17 +89,12 @@ fn sim_ordered<H: Host>(
         (plans.ordered_plan (map string_bytes words.now) order.now Command.Sim) }
     ensures listed { AnswersAsList (H.told host.old) (H.told host.new) result
         (λ m. spec.sim_ordered list_machine (map string_bytes words.now) order.now m) }
-    ensures heard { HearsAs (H.told host.old) result (map meaning watchers.old.items)
+    ensures heard { HearsBoth (H.told host.old) result (map meaning watchers.old.items)
         (map meaning watchers.new.items) kept.old kept.new
-        (λ m. reports.sim_traces window_machine (map string_bytes words.now) order.now m) }
-    ensures list_heard { HearsAsList (H.told host.old) result (map meaning watchers.old.items)
-        (map meaning watchers.new.items) kept.old kept.new
+        (λ m. reports.sim_traces window_machine (map string_bytes words.now) order.now m)
         (λ m. spec.sim_ordered list_machine (map string_bytes words.now) order.now m)
         (λ m. reports.sim_traces list_machine (map string_bytes words.now) order.now m) }
-    ensures rose { OnlyByFailure (H.told host.old) Outcome.HostFault result (H.faults host.old) (H.faults host.new) }
-    ensures no_file { ComesByFault (H.told host.old) Outcome.NoFile result (H.faults host.old) (H.faults host.new) }
-    ensures words { is_usage result ≡ false }
-    ensures keeps { Keeps (H.told host.old) (H.told host.new) (H.faults host.old) (H.faults host.new) }
+    ensures causes { FailsOnlyBy H.told H.faults host.old host.new result }
 {
     match arguments(alloc, words, order) {
         Ok(arguments) => sim_file(
@@ -138,17 +129,12 @@ fn carry_order<H: Host>(
         (plans.ordered_plan (map string_bytes words.now) order.now order.now.command) }
     ensures listed { AnswersAsList (H.told host.old) (H.told host.new) result
         (λ m. spec.ordered list_machine (map string_bytes words.now) order.now order.now.command m) }
-    ensures heard { HearsAs (H.told host.old) result (map meaning watchers.old.items)
+    ensures heard { HearsBoth (H.told host.old) result (map meaning watchers.old.items)
         (map meaning watchers.new.items) kept.old kept.new
-        (λ m. reports.ordered_traces window_machine (map string_bytes words.now) order.now order.now.command m) }
-    ensures list_heard { HearsAsList (H.told host.old) result (map meaning watchers.old.items)
-        (map meaning watchers.new.items) kept.old kept.new
+        (λ m. reports.ordered_traces window_machine (map string_bytes words.now) order.now order.now.command m)
         (λ m. spec.ordered list_machine (map string_bytes words.now) order.now order.now.command m)
         (λ m. reports.ordered_traces list_machine (map string_bytes words.now) order.now order.now.command m) }
-    ensures rose { OnlyByFailure (H.told host.old) Outcome.HostFault result (H.faults host.old) (H.faults host.new) }
-    ensures no_file { ComesByFault (H.told host.old) Outcome.NoFile result (H.faults host.old) (H.faults host.new) }
-    ensures words { is_usage result ≡ false }
-    ensures keeps { Keeps (H.told host.old) (H.told host.new) (H.faults host.old) (H.faults host.new) }
+    ensures causes { FailsOnlyBy H.told H.faults host.old host.new result }
 {
     match order.command {
         Command::Run => run_ordered(alloc, words, order, host, watchers, kept),
@@ -184,21 +170,13 @@ fn carry_out<H: Host>(
         (plans.work_plan (map string_bytes words.now) (order_of (map string_bytes words.now))) }
     ensures listed { AnswersAsList (H.told host.old) (H.told host.new) result
         (λ m. spec.carried_out list_machine (map string_bytes words.now) (order_of (map string_bytes words.now)) m) }
-    ensures usage { (fault : WordsFault) → order_of (map string_bytes words.now) ≡ Err fault →
-        result ≡ Outcome.Usage fault }
-    ensures only_usage { (fault : WordsFault) → result ≡ Outcome.Usage fault →
-        order_of (map string_bytes words.now) ≡ Err fault }
-    ensures heard { HearsAs (H.told host.old) result (map meaning watchers.old.items)
+    ensures heard { HearsBoth (H.told host.old) result (map meaning watchers.old.items)
         (map meaning watchers.new.items) kept.old kept.new
         (λ m. reports.carried_traces window_machine (map string_bytes words.now)
-        (order_of (map string_bytes words.now)) m) }
-    ensures list_heard { HearsAsList (H.told host.old) result (map meaning watchers.old.items)
-        (map meaning watchers.new.items) kept.old kept.new
+        (order_of (map string_bytes words.now)) m)
         (λ m. spec.carried_out list_machine (map string_bytes words.now) (order_of (map string_bytes words.now)) m)
         (λ m. reports.carried_traces list_machine (map string_bytes words.now) (order_of (map string_bytes words.now)) m) }
-    ensures rose { OnlyByFailure (H.told host.old) Outcome.HostFault result (H.faults host.old) (H.faults host.new) }
-    ensures no_file { ComesByFault (H.told host.old) Outcome.NoFile result (H.faults host.old) (H.faults host.new) }
-    ensures keeps { Keeps (H.told host.old) (H.told host.new) (H.faults host.old) (H.faults host.new) }
+    ensures causes { Causes H.told H.faults host.old host.new result (map string_bytes words.now) }
 {
     match read(words) {
         Ok(order) => carry_order(alloc, words, &order, host, watchers, kept),
@@ -265,33 +243,11 @@ pub fn mmixware_watched<H: Host>(
     host: &mut H,
     watchers: &mut Vec<Box<dyn Watcher>>,
 ) -> Outcome
-    ensures plan { Does (H.told host.old) (H.told host.new) result
-        (plans.work_plan (map string_bytes words.now) (order_of (map string_bytes words.now))) (length watchers.old.items)
-        (λ m. reports.due_reports window_machine (map string_bytes words.now) (map meaning watchers.old.items)
-        (order_of (map string_bytes words.now)) m) }
-    ensures product { AnswersAs (H.told host.old) (H.told host.new) result
-        (λ m. reports.watched_product window_machine (map string_bytes words.now) (map meaning watchers.old.items) m) }
-    ensures headline { AnswersAsList (H.told host.old) (H.told host.new) result
-        (λ m. reports.watched_product list_machine (map string_bytes words.now) (map meaning watchers.old.items) m) }
-    ensures left { LeavesWatchers (H.told host.old) result (map meaning watchers.old.items)
-        (map meaning watchers.new.items) (λ m. reports.carried_traces window_machine (map string_bytes words.now)
-        (order_of (map string_bytes words.now)) m) }
-    ensures written { slot_at (contents (H.told host.old)) 260 ≡ to_errors →
-        WritesFrontOf (H.told host.old) (H.told host.new) result
-        (λ m. spec.product window_machine (map string_bytes words.now) m) }
-
-    // Words that are no order are told apart for every host, and only they are told so.
-    ensures usage { (fault : WordsFault) → order_of (map string_bytes words.now) ≡ Err fault →
-        result ≢ Outcome.OutOfMemory → result ≡ Outcome.Usage fault }
-    ensures only_usage { (fault : WordsFault) → result ≡ Outcome.Usage fault →
-        order_of (map string_bytes words.now) ≡ Err fault }
-
-    // Where slots 258 and 259 lead to the tool's streams, a host fails only where a call failed; over one that tells nothing a
-    // file is missing only so, too.
-    ensures host_fault { OnlyByFailure (H.told host.old) Outcome.HostFault result (H.faults host.old)
-        (H.faults host.new) }
-    ensures no_file { ComesByFault (H.told host.old) Outcome.NoFile result (H.faults host.old) (H.faults host.new) }
-    ensures keeps { Keeps (H.told host.old) (H.told host.new) (H.faults host.old) (H.faults host.new) }
+    ensures product { ProducesWatched (H.told host.old) (H.told host.new) result (map string_bytes words.now)
+        (map meaning watchers.old.items) (map meaning watchers.new.items) }
+    ensures headline { AnswersOverListWatched (H.told host.old) (H.told host.new) result (map string_bytes words.now)
+        (map meaning watchers.old.items) }
+    ensures causes { Causes H.told H.faults host.old host.new result (map string_bytes words.now) }
 {
     let count = watchers.len();
     let mut kept = Reports::new(alloc);
@@ -315,31 +271,11 @@ pub fn mmixware_watched<H: Host>(
 /// `product`, over a register window; and over an unbounded list of registers, as long as a program
 /// does not look at rS or at the memory of the register stack, where standard output begins as that of
 /// the list. Where memory runs out, the calls, steps and turns that were completed stay and nothing else
-/// changed (`plan`), but for the message; standard output has been given a front of what `product` gives.
+/// changed (`plan` of `Produces`), but for the message; standard output has been given a front of what `product` gives.
 pub fn mmixware<H: Host>(alloc: Global, words: &[String], host: &mut H) -> Outcome
-    ensures plan { Does (H.told host.old) (H.told host.new) result
-        (plans.work_plan (map string_bytes words.now) (order_of (map string_bytes words.now))) 0
-        (λ m. []) }
-    ensures product { AnswersAs (H.told host.old) (H.told host.new) result
-        (λ m. spec.product window_machine (map string_bytes words.now) m) }
-    ensures headline { AnswersAsList (H.told host.old) (H.told host.new) result
-        (λ m. spec.product list_machine (map string_bytes words.now) m) }
-    ensures written { slot_at (contents (H.told host.old)) 260 ≡ to_errors →
-        WritesFrontOf (H.told host.old) (H.told host.new) result
-        (λ m. spec.product window_machine (map string_bytes words.now) m) }
-
-    // Words that are no order are told apart for every host, and only they are told so.
-    ensures usage { (fault : WordsFault) → order_of (map string_bytes words.now) ≡ Err fault →
-        result ≢ Outcome.OutOfMemory → result ≡ Outcome.Usage fault }
-    ensures only_usage { (fault : WordsFault) → result ≡ Outcome.Usage fault →
-        order_of (map string_bytes words.now) ≡ Err fault }
-
-    // Where slots 258 and 259 lead to the tool's streams, a host fails only where a call failed; over one that tells nothing a
-    // file is missing only so, too.
-    ensures host_fault { OnlyByFailure (H.told host.old) Outcome.HostFault result (H.faults host.old)
-        (H.faults host.new) }
-    ensures no_file { ComesByFault (H.told host.old) Outcome.NoFile result (H.faults host.old) (H.faults host.new) }
-    ensures keeps { Keeps (H.told host.old) (H.told host.new) (H.faults host.old) (H.faults host.new) }
+    ensures product { Produces (H.told host.old) (H.told host.new) result (map string_bytes words.now) }
+    ensures headline { AnswersOverList (H.told host.old) (H.told host.new) result (map string_bytes words.now) }
+    ensures causes { Causes H.told H.faults host.old host.new result (map string_bytes words.now) }
 {
     let mut nobody = Vec::new(alloc);
     mmixware_watched(alloc, words, host, &mut nobody)

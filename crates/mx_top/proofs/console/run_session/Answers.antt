@@ -1,6 +1,5 @@
 use Rattle.std.proofs.Common.{◌≡◌, false, refl, subst, sym, ap}
 use Rattle.std.specs.Prelude.{IsTrue}
-use Rattle.mx_host.proofs.Keeping.{keeps-then}
 use Rattle.mx_host.specs.HostModel.{contents}
 use Rattle.mx_con.specs.declared.end.SessionEnd.TheVariants as sitting
 use Rattle.mx_core.specs.Bounds.{as_list_state}
@@ -12,7 +11,7 @@ use Rattle.mx_top.proofs.SessionRuns.{dumped-fault, list-played}
 use Rattle.mx_top.specs.ProductPlan.{session_played, dumped_plan}
 use Rattle.mx_top.proofs.MachinePlans.{session-follows}
 use Rattle.mx_top.proofs.Dumped.{undumped-fault}
-use Rattle.mx_plan.proofs.Standing.{only-behind, stands-kept}
+use Rattle.mx_top.proofs.Caused.{fails-behind}
 use Rattle.mx_top.proofs.console.run_session.Goals as goal
 
 pub returns-in-HostFault-clause-listed : goal.returns-in-HostFault-clause-listed
@@ -31,11 +30,8 @@ returns-clause-listed g c = λ t ne.
     let untouched = subst (λ (k : Kept). (state_of k).touched ≡ false) (sym c.new-runner.ensures.machine) c.requires in
     let went = rw c.new-runner.ensures.machine at (c.session.ensures.listed t (λ e. ne (c.tell_end.ensures.memory (c.session_outcome.ensures.memory (cc (e, c.in_default.end-is)))).0) untouched) in
     list-played c.args.order.now.steps _ _ (as_list_state (state_of c.args.machine)) (state_of c.session.new.runner.machine) c.session.result _ _ _ c.session_outcome.result c.tell_end.result
-    (dumped c.args.order.now.dump) c.new-runner.ensures.flags outcome (λ m. refl) went (c.tell_end.ensures.keeps.growing there)
+    (dumped c.args.order.now.dump) c.new-runner.ensures.flags outcome (λ m. refl) went (c.tell_end.ensures.causes.3.growing there)
     (λ e. rw c.machine.ensures at (c.tell_end.ensures.list (subst (λ (k : Kept). (state_of k).touched ≡ false) (sym c.machine.ensures) e) there ne))
-
-pub returns-clause-keeps : goal.returns-clause-keeps
-returns-clause-keeps g c = keeps-then _ _ _ _ _ _ c.session.ensures.keeps c.tell_end.ensures.keeps
 
 pub returns-in-HostFault-clause-plan : goal.returns-in-HostFault-clause-plan
 unfolding session_played
@@ -54,5 +50,8 @@ returns-clause-plan g c = λ t.
     (dumped_plan c.args.order.now.dump) c.new-runner.ensures.flags outcome (rw c.new-runner.ensures.machine at (c.session.ensures.plan t))
     (λ e. let none = c.tell_end.ensures.memory e in (none.0, ap (λ h. contents (g.H.Host.told h)) none.1)) (λ ne. rw c.machine.ensures at (c.tell_end.ensures.plan ne there))
 
-pub returns-clause-rose : goal.returns-clause-rose
-returns-clause-rose g c = only-behind _ _ _ _ _ _ _ (stands-kept _ _ _ _ c.session.ensures.keeps) c.tell_end.ensures.rose
+pub returns-clause-causes : goal.returns-clause-causes
+returns-clause-causes g c = fails-behind g.H.Host.told g.H.Host.faults _ _ _ _ c.session.ensures.keeps c.tell_end.ensures.causes
+
+pub returns-in-HostFault-clause-causes : goal.returns-in-HostFault-clause-causes
+returns-in-HostFault-clause-causes g c = (λ had e. c.in-HostFault.ensures.cause had refl, λ n e. absurd (cc), refl, c.in-HostFault.ensures.keeps)

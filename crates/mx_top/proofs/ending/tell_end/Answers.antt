@@ -1,7 +1,6 @@
-use Rattle.std.proofs.Common.{Err, refl, sym, ◌∙◌, ap}
-use Rattle.mx_files.proofs.FileClauses.{part-keeps}
+use Rattle.std.proofs.Common.{refl, sym, ◌∙◌}
 use Rattle.mx_top.proofs.Dumped.{undumped-plan, undumped-list, dumped-plan, dumped-list}
-use Rattle.mx_files.proofs.Serving.{only-lines}
+use Rattle.mx_top.proofs.Caused.{fails-lines, fails-nowhere, fails-written}
 use Rattle.mx_top.proofs.ending.tell_end.Goals as goal
 
 pub returns-then-not-is_dumped-clause-plan : goal.returns-then-not-is_dumped-clause-plan
@@ -16,17 +15,17 @@ returns-in-Ok-clause-plan g c = λ ne. dumped-plan _ _ _ _ _ _ _ _ _ (sym c.is_d
 pub returns-in-Ok-clause-list : goal.returns-in-Ok-clause-list
 returns-in-Ok-clause-list g c = λ u t ne. dumped-list _ _ _ _ _ _ _ _ _ (sym c.is_dumped.ensures ∙ c.if-not-is_dumped.false) u refl c.in-Ok.ensures t ne
 
-pub returns-in-Ok-clause-keeps : goal.returns-in-Ok-clause-keeps
-returns-in-Ok-clause-keeps g c = part-keeps _ _ _ _ _ _ c.in-Ok.ensures
-
 pub returns-in-Err-clause-plan : goal.returns-in-Err-clause-plan
 returns-in-Err-clause-plan g c = λ ne. dumped-plan _ _ _ _ _ _ _ _ _ (sym c.is_dumped.ensures ∙ c.if-not-is_dumped.false) ne refl c.in-Err.ensures
 
 pub returns-in-Err-clause-list : goal.returns-in-Err-clause-list
 returns-in-Err-clause-list g c = λ u t ne. dumped-list _ _ _ _ _ _ _ _ _ (sym c.is_dumped.ensures ∙ c.if-not-is_dumped.false) u refl c.in-Err.ensures t ne
 
-pub returns-in-Err-clause-keeps : goal.returns-in-Err-clause-keeps
-returns-in-Err-clause-keeps g c = part-keeps _ _ _ _ _ _ c.in-Err.ensures
+pub returns-then-not-is_dumped-clause-causes : goal.returns-then-not-is_dumped-clause-causes
+returns-then-not-is_dumped-clause-causes g c = fails-nowhere g.H.Host.told g.H.Host.faults _ _ c.requires.well c.requires.present c.requires.words
 
-pub returns-in-Err-clause-rose : goal.returns-in-Err-clause-rose
-returns-in-Err-clause-rose g c = λ had e. only-lines _ _ _ _ _ _ c.in-Err.ensures had (ap Err e)
+pub returns-in-Ok-clause-causes : goal.returns-in-Ok-clause-causes
+returns-in-Ok-clause-causes g c = fails-written g.H.Host.told g.H.Host.faults _ _ _ _ c.requires.well c.requires.present c.requires.words c.in-Ok.ensures
+
+pub returns-in-Err-clause-causes : goal.returns-in-Err-clause-causes
+returns-in-Err-clause-causes g c = fails-lines g.H.Host.told g.H.Host.faults _ _ _ _ c.in-Err.ensures

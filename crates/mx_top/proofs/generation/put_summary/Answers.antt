@@ -1,12 +1,11 @@
-use Rattle.std.proofs.Common.{[], ◌∷◌, Err, refl, ap}
+use Rattle.std.proofs.Common.{[], ◌∷◌, refl}
 use Rattle.mx_core.specs.Kept.{state_of}
 use Rattle.mx_ring.specs.Stack.{register}
 use Rattle.law_gen.specs.Generator.{summary}
 use Rattle.mx_files.specs.declared.outcome.Outcome.TheVariants.{Done}
-use Rattle.mx_files.proofs.FileClauses.{part-keeps}
 use Rattle.mx_files.proofs.WrittenLines.{writes-line, writes-lacking}
 use Rattle.mx_top.proofs.Dumped.{written-plan, written-answer}
-use Rattle.mx_files.proofs.Serving.{only-lines}
+use Rattle.mx_top.proofs.Caused.{fails-lines, fails-written}
 use Rattle.mx_top.proofs.generation.put_summary.Goals as goal
 
 pub returns-in-Err-clause-plan : goal.returns-in-Err-clause-plan
@@ -21,9 +20,6 @@ returns-in-Ok-write_line-clause-told g c =
     written-answer _ _ _ _ (Done 0) _ (summary c.args.blocks c.args.size (state_of c.args.machine.now).steps (register (state_of c.args.machine.now).stack 255) ∷ []) _ refl
     (writes-line _ _ _ _ _ _ _ (cc (c.as_slice.ensures, c.in-Ok.ensures, c.steps.ensures, c.register.ensures)) c.in-Ok-write_line.ensures)
 
-pub returns-in-Ok-write_line-clause-keeps : goal.returns-in-Ok-write_line-clause-keeps
-returns-in-Ok-write_line-clause-keeps g c = part-keeps _ _ _ _ _ _ c.in-Ok-write_line.ensures
-
 pub returns-clause-plan : goal.returns-clause-plan
 returns-clause-plan g c =
     written-plan _ _ _ _ (Done 0) _ _ _ (λ e. cc) refl (writes-line _ _ _ _ _ _ _ (cc (c.as_slice.ensures, c.in-Ok.ensures, c.steps.ensures, c.register.ensures)) c.in-Err-write_line.ensures)
@@ -33,8 +29,8 @@ returns-clause-told g c =
     written-answer _ _ _ _ (Done 0) _ (summary c.args.blocks c.args.size (state_of c.args.machine.now).steps (register (state_of c.args.machine.now).stack 255) ∷ []) _ refl
     (writes-line _ _ _ _ _ _ _ (cc (c.as_slice.ensures, c.in-Ok.ensures, c.steps.ensures, c.register.ensures)) c.in-Err-write_line.ensures)
 
-pub returns-clause-keeps : goal.returns-clause-keeps
-returns-clause-keeps g c = part-keeps _ _ _ _ _ _ c.in-Err-write_line.ensures
+pub returns-in-Ok-write_line-clause-causes : goal.returns-in-Ok-write_line-clause-causes
+returns-in-Ok-write_line-clause-causes g c = fails-written g.H.Host.told g.H.Host.faults _ _ (Done 0) _ (λ e. cc) (λ e. cc) refl (writes-line _ _ _ _ _ _ _ refl c.in-Ok-write_line.ensures)
 
-pub returns-clause-rose : goal.returns-clause-rose
-returns-clause-rose g c = λ had e. only-lines _ _ _ _ _ _ (writes-line _ _ _ _ _ _ _ refl c.in-Err-write_line.ensures) had (ap Err e)
+pub returns-clause-causes : goal.returns-clause-causes
+returns-clause-causes g c = fails-lines g.H.Host.told g.H.Host.faults _ _ _ _ (writes-line _ _ _ _ _ _ _ refl c.in-Err-write_line.ensures)

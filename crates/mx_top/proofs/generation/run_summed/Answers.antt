@@ -1,6 +1,5 @@
 use Rattle.std.proofs.Common.{◌≡◌, false, refl, subst, sym, ap}
 use Rattle.std.specs.Prelude.{IsTrue}
-use Rattle.mx_host.proofs.Keeping.{keeps-then}
 use Rattle.mx_host.specs.HostModel.{contents}
 use Rattle.mx_core.specs.Bounds.{as_list_state}
 use Rattle.mx_core.specs.Kept.{Kept, state_of}
@@ -8,7 +7,7 @@ use Rattle.mx_top.specs.Product.{summed, generator_steps}
 use Rattle.mx_top.proofs.MachineRuns.{list-goes}
 use Rattle.mx_top.specs.ProductPlan.{summed_run, summed_plan}
 use Rattle.mx_top.proofs.MachinePlans.{run-follows}
-use Rattle.mx_plan.proofs.Standing.{only-behind, stands-kept}
+use Rattle.mx_top.proofs.Caused.{fails-behind}
 use Rattle.mx_top.proofs.generation.run_summed.Goals as goal
 
 pub returns-clause-listed : goal.returns-clause-listed
@@ -17,11 +16,8 @@ returns-clause-listed g c = λ t ne.
     let untouched = subst (λ (k : Kept). (state_of k).touched ≡ false) (sym c.new-runner.ensures.machine) c.requires in
     let went = rw c.new-runner.ensures.machine at (c.go-end.ensures.listed t (λ e. ne (c.sum_up.ensures.memory (c.outcome_of.ensures.memory e)).0) untouched) in
     list-goes generator_steps _ (as_list_state (state_of c.args.machine)) (state_of c.go-end.new.self.machine) c.go-end.result _ _ _ c.outcome_of.result c.sum_up.result
-    (summed c.args.blocks c.args.size) c.new-runner.ensures.flags c.outcome_of.ensures.value (λ m. refl) went (c.sum_up.ensures.keeps.growing there)
+    (summed c.args.blocks c.args.size) c.new-runner.ensures.flags c.outcome_of.ensures.value (λ m. refl) went (c.sum_up.ensures.causes.3.growing there)
     (λ e. rw c.machine.ensures at (c.sum_up.ensures.list (subst (λ (k : Kept). (state_of k).touched ≡ false) (sym c.machine.ensures) e) there ne))
-
-pub returns-clause-keeps : goal.returns-clause-keeps
-returns-clause-keeps g c = keeps-then _ _ _ _ _ _ c.go-end.ensures.keeps c.sum_up.ensures.keeps
 
 pub returns-clause-plan : goal.returns-clause-plan
 unfolding summed_run
@@ -31,5 +27,5 @@ returns-clause-plan g c = λ t.
     (summed_plan c.args.blocks c.args.size) c.new-runner.ensures.flags c.outcome_of.ensures.value (rw c.new-runner.ensures.machine at (c.go-end.ensures.plan t))
     (λ e. let none = c.sum_up.ensures.memory e in (none.0, ap (λ h. contents (g.H.Host.told h)) none.1)) (λ ne. rw c.machine.ensures at (c.sum_up.ensures.plan ne there))
 
-pub returns-clause-rose : goal.returns-clause-rose
-returns-clause-rose g c = only-behind _ _ _ _ _ _ _ (stands-kept _ _ _ _ c.go-end.ensures.keeps) c.sum_up.ensures.rose
+pub returns-clause-causes : goal.returns-clause-causes
+returns-clause-causes g c = fails-behind g.H.Host.told g.H.Host.faults _ _ _ _ c.go-end.ensures.keeps c.sum_up.ensures.causes

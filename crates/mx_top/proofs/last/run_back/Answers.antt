@@ -1,6 +1,5 @@
 use Rattle.std.proofs.Common.{subst, sym, ap, take}
 use Rattle.std.specs.Prelude.{IsTrue}
-use Rattle.mx_host.proofs.Keeping.{keeps-then}
 use Rattle.mx_host.specs.HostModel.{contents}
 use Rattle.mx_core.specs.Bounds.{as_list_state}
 use Rattle.mx_core.specs.Kept.{state_of}
@@ -8,7 +7,7 @@ use Rattle.mx_top.specs.ProductPlan.{kept_plan, back_plan}
 use Rattle.mx_top.proofs.MachinePlans.{kept-follows}
 use Rattle.mx_top.proofs.TakenBack.{nothing-kept, nothing-beside, back-goes}
 use Rattle.mx_top.proofs.WorkPlans.{work-lacks, work-taking}
-use Rattle.mx_plan.proofs.Standing.{only-behind, stands-kept}
+use Rattle.mx_top.proofs.Caused.{fails-behind}
 use Rattle.mx_top.proofs.last.run_back.Goals as goal
 
 pub returns-in-Err-clause-plan : goal.returns-in-Err-clause-plan
@@ -28,11 +27,8 @@ pub returns-clause-listed : goal.returns-clause-listed
 returns-clause-listed g c = λ t ne.
     let there = subst IsTrue (sym c.run_kept-end.ensures.keeps.telling) t in
     back-goes c.args.order.now.last c.args.order.now.steps c.args.order.now.dump (as_list_state (state_of c.args.machine)) (state_of c.run_kept-end.new.machine) c.run_kept-end.result _ _ _ _ c.outcome_of.result c.tell_back.result
-    c.outcome_of.ensures.value (c.run_kept-end.ensures.listed t (λ e. ne (c.tell_back.ensures.memory (c.outcome_of.ensures.memory e)).0) c.requires) (nothing-beside _ _ _ _ _ _ c.in-Ok.ensures.none (c.run_kept-end.ensures.kept_listed t (λ e. ne (c.tell_back.ensures.memory (c.outcome_of.ensures.memory e)).0) c.requires)) (c.tell_back.ensures.keeps.growing there)
+    c.outcome_of.ensures.value (c.run_kept-end.ensures.listed t (λ e. ne (c.tell_back.ensures.memory (c.outcome_of.ensures.memory e)).0) c.requires) (nothing-beside _ _ _ _ _ _ c.in-Ok.ensures.none (c.run_kept-end.ensures.kept_listed t (λ e. ne (c.tell_back.ensures.memory (c.outcome_of.ensures.memory e)).0) c.requires)) (c.tell_back.ensures.causes.3.growing there)
     (λ u a. c.tell_back.ensures.list u a there ne)
 
-pub returns-clause-keeps : goal.returns-clause-keeps
-returns-clause-keeps g c = keeps-then _ _ _ _ _ _ c.run_kept-end.ensures.keeps c.tell_back.ensures.keeps
-
-pub returns-clause-rose : goal.returns-clause-rose
-returns-clause-rose g c = only-behind _ _ _ _ _ _ _ (stands-kept _ _ _ _ c.run_kept-end.ensures.keeps) c.tell_back.ensures.rose
+pub returns-clause-causes : goal.returns-clause-causes
+returns-clause-causes g c = fails-behind g.H.Host.told g.H.Host.faults _ _ _ _ c.run_kept-end.ensures.keeps c.tell_back.ensures.causes

@@ -1,14 +1,12 @@
-use Rattle.std.proofs.Common.{Err, sym, subst, ◌∙◌, ap, ◌≡◌, false}
+use Rattle.std.proofs.Common.{sym, subst, ◌∙◌, ap, ◌≡◌, false}
 use Rattle.std.specs.Prelude.{IsTrue}
 use Rattle.mx_core.specs.Kept.{state_of}
 use Rattle.mx_core.specs.State.{State}
-use Rattle.mx_host.proofs.Keeping.{keeps-then}
 use Rattle.mx_files.proofs.FileClauses.{part-keeps}
 use Rattle.mx_top.specs.Runs.{reached}
 use Rattle.mx_top.proofs.LastStates.{count-taken, reached-untouched, take-untouched, works-taken}
 use Rattle.mx_top.proofs.TakenBack.{unbacked-plan, backed-plan, broken-plan, unbacked-list, backed-list, broken-list}
-use Rattle.mx_plan.proofs.Standing.{only-behind, stands-kept}
-use Rattle.mx_files.proofs.Serving.{only-lines}
+use Rattle.mx_top.proofs.Caused.{fails-behind, fails-lines}
 use Rattle.mx_top.proofs.last.tell_back.Goals as goal
 
 pub returns-then-not-takes_back-clause-plan : goal.returns-then-not-takes_back-clause-plan
@@ -40,14 +38,8 @@ returns-in-Err-clause-list g c = λ u a t ne.
     let all = count-taken c.args.order.now.last c.least-count.result c.kept.result c.args.back.now (state_of c.args.machine.now) c.least-count.ensures c.kept.ensures.count in
     broken-list _ _ _ _ _ _ _ _ _ _ (sym c.takes_back.ensures ∙ c.if-not-takes_back.false) (works-taken _ _ _ _ _ _ _ all c.in-Err.ensures.written) t ne
 
-pub returns-in-Ok-clause-keeps : goal.returns-in-Ok-clause-keeps
-returns-in-Ok-clause-keeps g c = keeps-then _ _ _ _ _ _ (part-keeps _ _ _ _ _ _ c.in-Ok.ensures.written) c.tell_end-in-Ok.ensures.keeps
+pub returns-in-Ok-clause-causes : goal.returns-in-Ok-clause-causes
+returns-in-Ok-clause-causes g c = fails-behind g.H.Host.told g.H.Host.faults _ _ _ _ (part-keeps _ _ _ _ _ _ c.in-Ok.ensures.written) c.tell_end-in-Ok.ensures.causes
 
-pub returns-in-Err-clause-keeps : goal.returns-in-Err-clause-keeps
-returns-in-Err-clause-keeps g c = part-keeps _ _ _ _ _ _ c.in-Err.ensures.written
-
-pub returns-in-Ok-clause-rose : goal.returns-in-Ok-clause-rose
-returns-in-Ok-clause-rose g c = only-behind _ _ _ _ _ _ _ (stands-kept _ _ _ _ (part-keeps _ _ _ _ _ _ c.in-Ok.ensures.written)) c.tell_end-in-Ok.ensures.rose
-
-pub returns-in-Err-clause-rose : goal.returns-in-Err-clause-rose
-returns-in-Err-clause-rose g c = λ had e. only-lines _ _ _ _ _ _ c.in-Err.ensures.written had (ap Err e)
+pub returns-in-Err-clause-causes : goal.returns-in-Err-clause-causes
+returns-in-Err-clause-causes g c = fails-lines g.H.Host.told g.H.Host.faults _ _ _ _ c.in-Err.ensures.written

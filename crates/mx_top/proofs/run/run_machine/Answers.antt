@@ -20,10 +20,10 @@ pub returns-then-order-2-clause-listed : goal.returns-then-order-2-clause-listed
 returns-then-order-2-clause-listed g c = forward-listed _ _ _ c.args.order.now (as_list_state (state_of c.args.machine)) c.if-order.false c.if-order-ne0.false c.run_told.ensures.listed
 
 pub returns-then-order-2-clause-heard : goal.returns-then-order-2-clause-heard
-returns-then-order-2-clause-heard g c = heard-so _ _ _ _ _ _ c.args.order.now (state_of c.args.machine) c.if-order.false c.if-order-ne0.false c.if-order-2.true c.run_told.ensures.heard
-
-pub returns-then-order-2-clause-list_heard : goal.returns-then-order-2-clause-list_heard
-returns-then-order-2-clause-list_heard g c = list-heard-so _ _ _ _ _ _ c.args.order.now (as_list_state (state_of c.args.machine)) c.if-order.false c.if-order-ne0.false c.if-order-2.true c.run_told.ensures.list_heard
+returns-then-order-2-clause-heard g c = (
+  heard-so _ _ _ _ _ _ c.args.order.now (state_of c.args.machine) c.if-order.false c.if-order-ne0.false c.if-order-2.true c.run_told.ensures.heard.0,
+  list-heard-so _ _ _ _ _ _ c.args.order.now (as_list_state (state_of c.args.machine)) c.if-order.false c.if-order-ne0.false c.if-order-2.true c.run_told.ensures.heard.1,
+)
 
 pub returns-else-order-2-clause-plan : goal.returns-else-order-2-clause-plan
 returns-else-order-2-clause-plan g c = steps-chosen _ _ _ _ _ c.if-order.false c.if-order-ne0.false c.if-order-2.false c.run_steps.ensures.plan

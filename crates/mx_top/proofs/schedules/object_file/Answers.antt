@@ -1,5 +1,6 @@
+use Rattle.std.proofs.Common.{Err, ap}
 use Rattle.mx_top.proofs.WorkParts.{turns-file, turns-unread}
-use Rattle.mx_plan.proofs.Standing.{only-behind, stands-kept}
+use Rattle.mx_top.proofs.Caused.{fails-behind}
 use Rattle.mx_top.proofs.schedules.object_file.Goals as goal
 
 pub returns-in-Ok-clause-plan : goal.returns-in-Ok-clause-plan
@@ -8,5 +9,8 @@ returns-in-Ok-clause-plan g c = turns-file _ _ _ _ _ _ _ _ _ c.in-Ok.ensures.kee
 pub returns-in-Err-clause-plan : goal.returns-in-Err-clause-plan
 returns-in-Err-clause-plan g c = turns-unread _ _ _ _ _ _ c.in-Err.ensures.works.told
 
-pub returns-in-Ok-clause-rose : goal.returns-in-Ok-clause-rose
-returns-in-Ok-clause-rose g c = only-behind _ _ _ _ _ _ _ (stands-kept _ _ _ _ c.in-Ok.ensures.keeps) c.run_object.ensures.rose
+pub returns-in-Ok-clause-causes : goal.returns-in-Ok-clause-causes
+returns-in-Ok-clause-causes g c = fails-behind g.H.Host.told g.H.Host.faults _ _ _ _ c.in-Ok.ensures.keeps c.run_object.ensures.causes
+
+pub returns-in-Err-clause-causes : goal.returns-in-Err-clause-causes
+returns-in-Err-clause-causes g c = (λ had e. c.in-Err.ensures.rose had (ap Err e), λ n e. c.in-Err.ensures.no_file n (ap Err e), c.in-Err.ensures.words, c.in-Err.ensures.keeps)

@@ -1,11 +1,10 @@
-use Rattle.std.proofs.Common.{Err, refl, sym, ◌∙◌, ap}
+use Rattle.std.proofs.Common.{refl, sym, ◌∙◌}
 use Rattle.mx_host.specs.HostModel.{contents}
 use Rattle.mx_multi.specs.Joint.{joint_of}
 use Rattle.mx_top.specs.Processors.{multi_outcome, multi_lines}
-use Rattle.mx_files.proofs.FileClauses.{part-keeps}
 use Rattle.mx_top.proofs.Dumped.{written-plan, written-answer}
 use Rattle.mx_top.proofs.TurnsTold.{told-listed, turned-well}
-use Rattle.mx_files.proofs.Serving.{only-lines}
+use Rattle.mx_top.proofs.Caused.{fails-lines, fails-written}
 use Rattle.mx_top.proofs.schedules.tell_turns.Goals as goal
 
 pub returns-in-Ok-clause-plan : goal.returns-in-Ok-clause-plan
@@ -16,9 +15,6 @@ returns-in-Ok-clause-list g c = λ t ne.
     written-answer _ _ _ _ (multi_outcome c.args.order.now.steps c.args.end) _ (multi_lines c.args.order.now.dump c.args.end (joint_of c.args.multi.now)) _ c.multi_outcome.ensures.value c.in-Ok.ensures t ne
     ∙ sym (told-listed c.args.order.now.dump c.args.order.now.steps c.args.end (joint_of c.args.multi.now) (contents (g.H.Host.told c.args.host.now)))
 
-pub returns-in-Ok-clause-keeps : goal.returns-in-Ok-clause-keeps
-returns-in-Ok-clause-keeps g c = part-keeps _ _ _ _ _ _ c.in-Ok.ensures
-
 pub returns-in-Err-clause-plan : goal.returns-in-Err-clause-plan
 returns-in-Err-clause-plan g c = λ ne. written-plan _ _ _ _ _ _ _ _ (turned-well c.args.order.now.steps c.args.end ne) refl c.in-Err.ensures
 
@@ -27,8 +23,8 @@ returns-in-Err-clause-list g c = λ t ne.
     written-answer _ _ _ _ (multi_outcome c.args.order.now.steps c.args.end) _ (multi_lines c.args.order.now.dump c.args.end (joint_of c.args.multi.now)) _ refl c.in-Err.ensures t ne
     ∙ sym (told-listed c.args.order.now.dump c.args.order.now.steps c.args.end (joint_of c.args.multi.now) (contents (g.H.Host.told c.args.host.now)))
 
-pub returns-in-Err-clause-keeps : goal.returns-in-Err-clause-keeps
-returns-in-Err-clause-keeps g c = part-keeps _ _ _ _ _ _ c.in-Err.ensures
+pub returns-in-Ok-clause-causes : goal.returns-in-Ok-clause-causes
+returns-in-Ok-clause-causes g c = fails-written g.H.Host.told g.H.Host.faults _ _ _ _ c.multi_outcome.ensures.well c.multi_outcome.ensures.present c.multi_outcome.ensures.words c.in-Ok.ensures
 
-pub returns-in-Err-clause-rose : goal.returns-in-Err-clause-rose
-returns-in-Err-clause-rose g c = λ had e. only-lines _ _ _ _ _ _ c.in-Err.ensures had (ap Err e)
+pub returns-in-Err-clause-causes : goal.returns-in-Err-clause-causes
+returns-in-Err-clause-causes g c = fails-lines g.H.Host.told g.H.Host.faults _ _ _ _ c.in-Err.ensures

@@ -12,3 +12,9 @@ returns-in-Show-clause-plan g c = show-ordered _ _ _ _ _ _ c.in-Show.is c.word-i
 
 pub returns-in-Multi-clause-plan : goal.returns-in-Multi-clause-plan
 returns-in-Multi-clause-plan g c = multi-ordered _ _ _ _ _ _ _ c.in-Multi.is c.word-in-Multi.ensures c.word-in-Multi-2.ensures c.multi_file.ensures.plan
+
+pub returns-in-Asm-clause-causes : goal.returns-in-Asm-clause-causes
+returns-in-Asm-clause-causes g c = (c.assemble_file.ensures.rose, c.assemble_file.ensures.no_file, c.assemble_file.ensures.words, c.assemble_file.ensures.keeps)
+
+pub returns-in-Show-clause-causes : goal.returns-in-Show-clause-causes
+returns-in-Show-clause-causes g c = (c.list_file.ensures.rose, c.list_file.ensures.no_file, c.list_file.ensures.words, c.list_file.ensures.keeps)

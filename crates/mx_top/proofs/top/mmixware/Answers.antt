@@ -10,17 +10,21 @@ use Rattle.mx_top.proofs.FewReports.{unwatched-doing}
 use Rattle.mx_top.proofs.top.mmixware.Goals as goal
 
 pub returns-clause-product : goal.returns-clause-product
-returns-clause-product g c = λ t ne.
-    c.mmixware_watched.ensures.product t ne ∙ unwatched window_machine (map string_bytes c.args.words.now) _ (contents (g.H.Host.told c.args.host.now)) (none-mean _ _ c.new-nobody.ensures.items)
+returns-clause-product g c = record {
+  plan = λ t.
+      let words = map string_bytes c.args.words.now in
+      let start = contents (g.H.Host.told c.args.host.now) in
+      unwatched-doing _ _ _ _ _ _ (none-mean _ _ c.new-nobody.ensures.items)
+      (ap (λ ws. due_reports window_machine words ws (order_of words) start) (none-mean _ _ c.new-nobody.ensures.items) ∙ none-due window_machine words (order_of words) start) (c.mmixware_watched.ensures.product.plan t);
+  answer = λ t ne.
+      c.mmixware_watched.ensures.product.answer t ne ∙ unwatched window_machine (map string_bytes c.args.words.now) _ (contents (g.H.Host.told c.args.host.now)) (none-mean _ _ c.new-nobody.ensures.items);
+  written = c.mmixware_watched.ensures.product.written;
+}
 
 pub returns-clause-headline : goal.returns-clause-headline
 returns-clause-headline g c = λ t ne.
     subst (λ (a : Answer). GoesAs a c.mmixware_watched.result (contents (g.H.Host.told c.mmixware_watched.new.host)))
     (unwatched list_machine (map string_bytes c.args.words.now) _ (contents (g.H.Host.told c.args.host.now)) (none-mean _ _ c.new-nobody.ensures.items)) (c.mmixware_watched.ensures.headline t ne)
 
-pub returns-clause-plan : goal.returns-clause-plan
-returns-clause-plan g c = λ t.
-    let words = map string_bytes c.args.words.now in
-    let start = contents (g.H.Host.told c.args.host.now) in
-    unwatched-doing _ _ _ _ _ _ c.new-nobody.ensures.items
-    (ap (λ ws. due_reports window_machine words ws (order_of words) start) (none-mean _ _ c.new-nobody.ensures.items) ∙ none-due window_machine words (order_of words) start) (c.mmixware_watched.ensures.plan t)
+pub returns-clause-causes : goal.returns-clause-causes
+returns-clause-causes g c = c.mmixware_watched.ensures.causes

@@ -17,80 +17,88 @@ use Rattle.mx_top.proofs.ProductEnds.{work-end}
 use Rattle.mx_top.proofs.ProgramHeld.{work-front}
 use Rattle.mx_top.proofs.Saying.{telling-told, alone}
 use Rattle.mx_top.proofs.FewReports.{few-found}
+use Rattle.mx_top.proofs.Caused.{causes-told}
 use Rattle.mx_top.proofs.top.mmixware_watched.Goals as goal
 
+-- the message and the reports go to standard error, so what was written before them is still a front
 pub returns-in-Ok-clause-product : goal.returns-in-Ok-clause-product
-returns-in-Ok-clause-product g c = λ t ne.
-    let said = c.carry_out-outcome.ensures in
-    let there = subst IsTrue (sym said.keeps.telling) t in
-    let wanting : c.carry_out-outcome.result ≢ OutOfMemory = λ e. ne (c.finish.ensures.same ne ∙ e) in
-    reported c.carry_out-outcome.result c.finish.result _ _ _ _ _ (ap plainly ((said.plan t).ending wanting) ∙ work-end (map string_bytes c.args.words.now) (order_of (map string_bytes c.args.words.now)) (contents (g.H.Host.told c.args.host.now)))
-    (c.as_slice.ensures ∙ c.in-Ok.ensures ∙ found-due window_machine (map string_bytes c.args.words.now) _ _ _ (order_of (map string_bytes c.args.words.now)) (contents (g.H.Host.told c.args.host.now)) _ (c.len-count.ensures ∙ c.args.watchers.now.ok.0 ∙ sym (length-map c.args.watchers.now.items _)) (from-none _ _ _ _ c.new-kept.ensures (said.heard t wanting)))
-    (telling-told _ _ _ _ _ (c.finish.ensures.plan there) ne)
+returns-in-Ok-clause-product g c = record {
+  plan = λ t.
+      let said = c.carry_out-outcome.ensures in
+      let there = subst IsTrue (sym said.causes.keeps.telling) t in
+      let many = c.len-count.ensures ∙ c.args.watchers.now.ok.0 in
+      record {
+        left = contents (g.H.Host.told c.carry_out-outcome.new.host);
+        outcome = c.carry_out-outcome.result;
+        said = c.carry_out-outcome.result;
+        texts = _;
+        works = said.plan t;
+        reports = inl (refl, λ ne. c.as_slice.ensures ∙ c.in-Ok.ensures ∙ found-due window_machine (map string_bytes c.args.words.now) _ _ _ (order_of (map string_bytes c.args.words.now)) (contents (g.H.Host.told c.args.host.now)) _ (many ∙ sym (length-map c.args.watchers.now.items _)) (from-none _ _ _ _ c.new-kept.ensures (said.heard.0 t ne)));
+        few = few-found _ _ _ _ _ _ (c.as_slice.ensures ∙ c.in-Ok.ensures) (many ∙ sym (length-map c.args.watchers.now.items _));
+        told = c.finish.ensures.plan there;
+      };
+  answer = λ t ne.
+      let said = c.carry_out-outcome.ensures in
+      let there = subst IsTrue (sym said.causes.keeps.telling) t in
+      let wanting : c.carry_out-outcome.result ≢ OutOfMemory = λ e. ne (c.finish.ensures.same ne ∙ e) in
+      reported c.carry_out-outcome.result c.finish.result _ _ _ _ _ (ap plainly ((said.plan t).ending wanting) ∙ work-end (map string_bytes c.args.words.now) (order_of (map string_bytes c.args.words.now)) (contents (g.H.Host.told c.args.host.now)))
+      (c.as_slice.ensures ∙ c.in-Ok.ensures ∙ found-due window_machine (map string_bytes c.args.words.now) _ _ _ (order_of (map string_bytes c.args.words.now)) (contents (g.H.Host.told c.args.host.now)) _ (c.len-count.ensures ∙ c.args.watchers.now.ok.0 ∙ sym (length-map c.args.watchers.now.items _)) (from-none _ _ _ _ c.new-kept.ensures (said.heard.0 t wanting)))
+      (telling-told _ _ _ _ _ (c.finish.ensures.plan there) ne);
+  left_over = λ t ne. left-of _ _ _ _ _ c.new-kept.ensures (c.carry_out-outcome.ensures.heard.0 t (λ e. ne (c.finish.ensures.same ne ∙ e)));
+  written = λ to_stderr t oom.
+      let start = contents (g.H.Host.told c.args.host.now) in
+      let here = contents (g.H.Host.told c.carry_out-outcome.new.host) in
+      let said = c.carry_out-outcome.ensures in
+      front-of here.output _ _ _ (c.finish.ensures.output (said.causes.keeps.errors t to_stderr) (subst IsTrue (sym said.causes.keeps.telling) t)) refl
+      (spoken-front c.carry_out-outcome.result here (carried_out window_machine (map string_bytes c.args.words.now) (order_of (map string_bytes c.args.words.now)) start) (λ ne. ap plainly ((said.plan t).ending ne) ∙ work-end (map string_bytes c.args.words.now) (order_of (map string_bytes c.args.words.now)) start)
+      (λ e. subst (λ (a : Answer). IsFront here.output (output_of a)) (work-end (map string_bytes c.args.words.now) (order_of (map string_bytes c.args.words.now)) start)
+      (work-front (work_plan (map string_bytes c.args.words.now) (order_of (map string_bytes c.args.words.now))) here start ((said.plan t).stopping e))));
+}
 
 pub returns-in-Ok-clause-headline : goal.returns-in-Ok-clause-headline
 returns-in-Ok-clause-headline g c = λ t ne.
     let said = c.carry_out-outcome.ensures in
-    let there = subst IsTrue (sym said.keeps.telling) t in
+    let there = subst IsTrue (sym said.causes.keeps.telling) t in
     let wanting : c.carry_out-outcome.result ≢ OutOfMemory = λ e. ne (c.finish.ensures.same ne ∙ e) in
     reported-goes c.carry_out-outcome.result c.finish.result _ _ (carried_out list_machine (map string_bytes c.args.words.now) (order_of (map string_bytes c.args.words.now)) (contents (g.H.Host.told c.args.host.now))) _ _
     (said.listed t wanting)
     (unless-by (carried_out list_machine (map string_bytes c.args.words.now) (order_of (map string_bytes c.args.words.now)) (contents (g.H.Host.told c.args.host.now))) _ _
     (λ e. c.as_slice.ensures ∙ c.in-Ok.ensures ∙ found-due list_machine (map string_bytes c.args.words.now) _ _ _ (order_of (map string_bytes c.args.words.now)) (contents (g.H.Host.told c.args.host.now)) _ (c.len-count.ensures ∙ c.args.watchers.now.ok.0 ∙ sym (length-map c.args.watchers.now.items _)) (from-none _ _ _ _ c.new-kept.ensures e))
-    (said.list_heard t wanting))
+    (said.heard.1 t wanting))
     (telling-told _ _ _ _ _ (c.finish.ensures.plan there) ne) (c.finish.ensures.keeps.growing there)
 
-pub returns-in-Ok-clause-left : goal.returns-in-Ok-clause-left
-returns-in-Ok-clause-left g c = λ t ne. left-of _ _ _ _ _ c.new-kept.ensures (c.carry_out-outcome.ensures.heard t (λ e. ne (c.finish.ensures.same ne ∙ e)))
+pub returns-in-Ok-clause-causes : goal.returns-in-Ok-clause-causes
+returns-in-Ok-clause-causes g c = causes-told g.H.Host.told g.H.Host.faults _ _ _ c.carry_out-outcome.result _ _ c.finish.ensures.same c.finish.ensures.keeps c.carry_out-outcome.ensures.causes
 
--- the message and the reports go to standard error, so what was written before them is still a front
-pub returns-in-Ok-clause-written : goal.returns-in-Ok-clause-written
-returns-in-Ok-clause-written g c = λ to_stderr t oom.
-    let start = contents (g.H.Host.told c.args.host.now) in
-    let here = contents (g.H.Host.told c.carry_out-outcome.new.host) in
-    let said = c.carry_out-outcome.ensures in
-    front-of here.output _ _ _ (c.finish.ensures.output (said.keeps.errors t to_stderr) (subst IsTrue (sym said.keeps.telling) t)) refl
-    (spoken-front c.carry_out-outcome.result here (carried_out window_machine (map string_bytes c.args.words.now) (order_of (map string_bytes c.args.words.now)) start) (λ ne. ap plainly ((said.plan t).ending ne) ∙ work-end (map string_bytes c.args.words.now) (order_of (map string_bytes c.args.words.now)) start)
-    (λ e. subst (λ (a : Answer). IsFront here.output (output_of a)) (work-end (map string_bytes c.args.words.now) (order_of (map string_bytes c.args.words.now)) start)
-    (work-front (work_plan (map string_bytes c.args.words.now) (order_of (map string_bytes c.args.words.now))) here start ((said.plan t).stopping e))))
+pub returns-clause-product : goal.returns-clause-product
+returns-clause-product g c = record {
+  plan = λ t.
+      let said = c.carry_out-outcome.ensures in
+      let there = subst IsTrue (sym said.causes.keeps.telling) t in
+      record {
+        left = contents (g.H.Host.told c.carry_out-outcome.new.host);
+        outcome = c.carry_out-outcome.result;
+        said = OutOfMemory;
+        texts = [];
+        works = said.plan t;
+        reports = inr (refl, refl);
+        few = omega arith;
+        told = record { between = _; spoken = c.tell.result; message = c.tell.ensures.plan there; behind = inl (alone _ _) };
+      };
+  answer = λ t ne. absurd (ne (c.tell.ensures.same ne));
+  left_over = λ t ne. absurd (ne (c.tell.ensures.same ne));
+  written = λ to_stderr t oom.
+      let start = contents (g.H.Host.told c.args.host.now) in
+      let here = contents (g.H.Host.told c.carry_out-outcome.new.host) in
+      let said = c.carry_out-outcome.ensures in
+      front-of here.output _ _ _ (c.tell.ensures.output (said.causes.keeps.errors t to_stderr) (subst IsTrue (sym said.causes.keeps.telling) t)) refl
+      (spoken-front c.carry_out-outcome.result here (carried_out window_machine (map string_bytes c.args.words.now) (order_of (map string_bytes c.args.words.now)) start) (λ ne. ap plainly ((said.plan t).ending ne) ∙ work-end (map string_bytes c.args.words.now) (order_of (map string_bytes c.args.words.now)) start)
+      (λ e. subst (λ (a : Answer). IsFront here.output (output_of a)) (work-end (map string_bytes c.args.words.now) (order_of (map string_bytes c.args.words.now)) start)
+      (work-front (work_plan (map string_bytes c.args.words.now) (order_of (map string_bytes c.args.words.now))) here start ((said.plan t).stopping e))));
+}
 
-pub returns-clause-written : goal.returns-clause-written
-returns-clause-written g c = λ to_stderr t oom.
-    let start = contents (g.H.Host.told c.args.host.now) in
-    let here = contents (g.H.Host.told c.carry_out-outcome.new.host) in
-    let said = c.carry_out-outcome.ensures in
-    front-of here.output _ _ _ (c.tell.ensures.output (said.keeps.errors t to_stderr) (subst IsTrue (sym said.keeps.telling) t)) refl
-    (spoken-front c.carry_out-outcome.result here (carried_out window_machine (map string_bytes c.args.words.now) (order_of (map string_bytes c.args.words.now)) start) (λ ne. ap plainly ((said.plan t).ending ne) ∙ work-end (map string_bytes c.args.words.now) (order_of (map string_bytes c.args.words.now)) start)
-    (λ e. subst (λ (a : Answer). IsFront here.output (output_of a)) (work-end (map string_bytes c.args.words.now) (order_of (map string_bytes c.args.words.now)) start)
-    (work-front (work_plan (map string_bytes c.args.words.now) (order_of (map string_bytes c.args.words.now))) here start ((said.plan t).stopping e))))
+pub returns-clause-headline : goal.returns-clause-headline
+returns-clause-headline g c = λ t ne. absurd (ne (c.tell.ensures.same ne))
 
-pub returns-in-Ok-clause-plan : goal.returns-in-Ok-clause-plan
-returns-in-Ok-clause-plan g c = λ t.
-    let said = c.carry_out-outcome.ensures in
-    let there = subst IsTrue (sym said.keeps.telling) t in
-    let many = c.len-count.ensures ∙ c.args.watchers.now.ok.0 in
-    record {
-      left = contents (g.H.Host.told c.carry_out-outcome.new.host);
-      outcome = c.carry_out-outcome.result;
-      said = c.carry_out-outcome.result;
-      texts = _;
-      works = said.plan t;
-      reports = inl (refl, λ ne. c.as_slice.ensures ∙ c.in-Ok.ensures ∙ found-due window_machine (map string_bytes c.args.words.now) _ _ _ (order_of (map string_bytes c.args.words.now)) (contents (g.H.Host.told c.args.host.now)) _ (many ∙ sym (length-map c.args.watchers.now.items _)) (from-none _ _ _ _ c.new-kept.ensures (said.heard t ne)));
-      few = few-found _ _ _ _ _ _ (c.as_slice.ensures ∙ c.in-Ok.ensures) many;
-      told = c.finish.ensures.plan there;
-    }
-
-pub returns-clause-plan : goal.returns-clause-plan
-returns-clause-plan g c = λ t.
-    let said = c.carry_out-outcome.ensures in
-    let there = subst IsTrue (sym said.keeps.telling) t in
-    record {
-      left = contents (g.H.Host.told c.carry_out-outcome.new.host);
-      outcome = c.carry_out-outcome.result;
-      said = OutOfMemory;
-      texts = [];
-      works = said.plan t;
-      reports = inr (refl, refl);
-      few = omega arith;
-      told = record { between = _; spoken = c.tell.result; message = c.tell.ensures.plan there; behind = inl (alone _ _) };
-    }
+pub returns-clause-causes : goal.returns-clause-causes
+returns-clause-causes g c = causes-told g.H.Host.told g.H.Host.faults _ _ _ c.carry_out-outcome.result _ _ (λ ne. absurd (ne (c.tell.ensures.same ne))) c.tell.ensures.keeps c.carry_out-outcome.ensures.causes

@@ -1,0 +1,83 @@
+-- How a part of the work fails, over every host.
+use Rattle.std.proofs.Common.{◌≡◌, ◌≢◌, ◌≤◌, ◌<◌, ◌⊎◌, inl, inr, ℕ, false, true, IsTrue, List, Ok, Err, refl, sym, ◌∙◌, ap, subst, arith}
+use Rattle.std.proofs.lemmas.Bool.{cases_lt}
+use Rattle.std.specs.Prelude.{Option, Result}
+use Rattle.mx_host.specs.HostModel.{HostModel, Rose}
+use Rattle.mx_host.specs.Keeping.{Keeps}
+use Rattle.mx_host.proofs.Keeping.{keeps-then, keeps-all}
+use Rattle.mx_plan.proofs.Standing.{only-behind, rose-on, stands-kept}
+use Rattle.mx_words.specs.declared.order.Order.{Order}
+use Rattle.mx_words.specs.declared.order.WordsFault.{WordsFault}
+use Rattle.mx_files.specs.Answers.{is_usage}
+use Rattle.mx_files.specs.Clauses.{Works, is_end}
+use Rattle.mx_files.specs.FilePlans.{lines_plan}
+use Rattle.mx_files.specs.declared.outcome.Outcome.{Outcome}
+use Rattle.mx_files.specs.declared.outcome.Outcome.TheVariants.{HostFault, NoFile, OutOfMemory, Usage}
+use Rattle.mx_files.proofs.FileClauses.{part-keeps}
+use Rattle.mx_files.proofs.Serving.{only-lines}
+use Rattle.mx_top.specs.Arguments.{Word}
+use Rattle.mx_top.specs.Causes.{Causes, FailsOnlyBy}
+
+-- no call, and an outcome that tells no fault of the host
+pub fails-nowhere : {H : Type 0} (told : H → Option HostModel) (faults : H → ℕ) (h : H) (r : Outcome) → r ≢ HostFault → r ≢ NoFile → is_usage r ≡ false → FailsOnlyBy told faults h h r
+fails-nowhere told faults h r well present words = (λ had e. absurd (well e), λ n e. absurd (present e), words, keeps-all (told h) (faults h))
+
+-- behind a part that keeps what every function does
+pub fails-behind : {H : Type 0} (told : H → Option HostModel) (faults : H → ℕ) (a b c : H) (r : Outcome) → Keeps (told a) (told b) (faults a) (faults b) → FailsOnlyBy told faults b c r → FailsOnlyBy told faults a c r
+fails-behind told faults a b c r kept rest = (
+  only-behind (told a) (told b) (faults a) (faults b) (faults c) HostFault r (stands-kept (told a) (told b) (faults a) (faults b) kept) rest.0,
+  λ n e. rose-on (faults a) (faults b) (faults c) kept.counting (rest.1 (λ t. n (subst IsTrue kept.telling t)) e),
+  rest.2,
+  keeps-then (told a) (told b) (told c) (faults a) (faults b) (faults c) kept rest.3,
+)
+
+end-unused : (r : Outcome) → is_end r ≡ true → is_usage r ≡ false
+end-unused (Usage fault) i = absurd (cc)
+end-unused outcome i = refl
+
+-- lines that were not written
+pub fails-lines : {H : Type 0} (told : H → Option HostModel) (faults : H → ℕ) (a b : H) (r : Outcome) (lines : List (List ℕ)) → Works (told a) (told b) (faults a) (faults b) (Err r) (lines_plan lines) → FailsOnlyBy told faults a b r
+fails-lines told faults a b r lines w = (
+  λ had e. only-lines (told a) (told b) (faults a) (faults b) (Err r) lines w had (ap Err e),
+  λ n e. w.absent n (ap Err e),
+  end-unused r w.ends,
+  part-keeps (told a) (told b) (faults a) (faults b) (Err r) (lines_plan lines) w,
+)
+
+-- lines that were written, with an outcome that tells no fault of the host
+pub fails-written : {H : Type 0} (told : H → Option HostModel) (faults : H → ℕ) (a b : H) (r : Outcome) (lines : List (List ℕ)) → r ≢ HostFault → r ≢ NoFile → is_usage r ≡ false →
+    Works (told a) (told b) (faults a) (faults b) (Ok tt) (lines_plan lines) → FailsOnlyBy told faults a b r
+fails-written told faults a b r lines well present words w =
+    (λ had e. absurd (well e), λ n e. absurd (present e), words, part-keeps (told a) (told b) (faults a) (faults b) (Ok tt) (lines_plan lines) w)
+
+-- a part of the work that tells of no words
+pub not-usage : (r : Outcome) (fault : WordsFault) → is_usage r ≡ false → r ≢ Usage fault
+not-usage (Usage fault) other plain = λ e. absurd (cc)
+not-usage outcome other plain = λ e. absurd (cc)
+
+-- one fault of the words is the other
+pub same-words : (x : Result Order WordsFault) (a b : WordsFault) → x ≡ Err a → x ≡ Err b → a ≡ b
+same-words x a b e f = cc
+
+pub same-usage : (a b : WordsFault) → Usage a ≡ Usage b → a ≡ b
+same-usage a b e = cc
+
+-- a count that rose stays so
+rose-later : (k m n : ℕ) → k ≤ m → m ≤ n → Rose k m → Rose k n
+rose-later k m n a b (inl h) = inl (omega (arith, h, b))
+rose-later k m n a b (inr e) = by (cases_lt k n)
+  where
+    by : (k < n) ⊎ (n ≤ k) → Rose k n
+    by (inl h) = inl h
+    by (inr h) = let same : n ≡ m = omega (arith, a, b, h) in inr (same ∙ e)
+
+-- the causes are those of what was done, where the outcome that is told is its, or want of memory
+pub causes-told : {H : Type 0} (told : H → Option HostModel) (faults : H → ℕ) (a b c : H) (spoken result : Outcome) (words : List Word) → (result ≢ OutOfMemory → result ≡ spoken) →
+    Keeps (told b) (told c) (faults b) (faults c) → Causes told faults a b spoken words → Causes told faults a c result words
+causes-told told faults a b c spoken result words same kept was = record {
+  usage = λ fault e ne. same ne ∙ was.usage fault e (λ x. ne (same ne ∙ x));
+  only_usage = λ fault e. was.only_usage fault (sym (same (λ x. absurd (cc (x, e)))) ∙ e);
+  host_fault = λ had e. rose-later (faults a) (faults b) (faults c) was.keeps.counting kept.counting (was.host_fault had (sym (same (λ x. absurd (cc (x, e)))) ∙ e));
+  no_file = λ n e. rose-later (faults a) (faults b) (faults c) was.keeps.counting kept.counting (was.no_file n (sym (same (λ x. absurd (cc (x, e)))) ∙ e));
+  keeps = keeps-then (told a) (told b) (told c) (faults a) (faults b) (faults c) was.keeps kept;
+}
