@@ -40,13 +40,7 @@ module _ {K : Type 0} (bytes : K → List ℕ) where
 
   -- the symbols after one is put in
   pub table-put : (es more : List (K × Definition)) (prefix : List ℕ) (backs : List Value) (waiting : List Wait) (k : K) (full : List ℕ) (value : Value) (serial : ℕ) (table : Naming) → tabled prefix backs waiting (symbols_of es) ≡ table → bytes k ≡ full → serial ≡ length es + 1 → value_in full table.names.symbols ≡ None → more ≡ insert_entry (λ x y. slice_cmp nat_cmp (bytes x) (bytes y)) es k (record { value = value; serial = serial }) → tabled prefix backs waiting (symbols_of more) ≡ naming_with table full value
-  table-put es more prefix backs waiting k full value serial table is named counted absent grown =
-      let out : value_in (bytes k) (symbols_of es) ≡ None = ap (λ n. value_in n (symbols_of es)) named ∙ ap (λ (t : Naming). value_in full t.names.symbols) is ∙ absent in
-      let grew : symbols_of more ≡ symbols_with (symbol_of (bytes k) (record { value = value; serial = serial })) (symbols_of es) = ap symbols_of grown ∙ put-in k (record { value = value; serial = serial }) es out in
-      ap (tabled prefix backs waiting) grew
-      ∙ ap (λ n. tabled prefix backs waiting (symbols_with (numbered n value serial) (symbols_of es))) named
-      ∙ ap (λ n. tabled prefix backs waiting (symbols_with (numbered full value n) (symbols_of es))) (counted ∙ ap (λ n. n + 1) (sym (length-map es (λ e. symbol_of (bytes e.0) e.1))))
-      ∙ ap (λ t. naming_with t full value) is
+  table-put es more prefix backs waiting k full value serial table is named counted absent grown = grind (arith, put-in, length-map)
 
   -- the names in the order of the keys
   all-named : (name : List ℕ) (es : List (K × Definition)) → AllByRecursion (λ k. slice_cmp nat_cmp name (bytes k) ≡ Less) (keys_of es) → AllByRecursion (λ n. slice_cmp nat_cmp name n ≡ Less) (map (λ (s : Symbol). s.name) (symbols_of es))
