@@ -1,5 +1,5 @@
 -- The digits that are shown are constants that are read as the same numbers.
-use Rattle.std.proofs.Common.{◌≡◌, ℕ, ◌+◌, ◌*◌, ◌^◌, ◌<◌, true, List, [], ◌∷◌, fold, refl, ap, ◌∙◌, arith, subst}
+use Rattle.std.proofs.Common.{◌≡◌, ℕ, ◌+◌, ◌*◌, ◌^◌, ◌<◌, true, List, [], ◌∷◌, fold, refl, ◌∙◌, arith, subst}
 use Rattle.law_texts.proofs.Words.{decimal, digit_value, list_all, AllDigits, digits_value_after, nat_tests, decimal_is_IsNumeral, is_digit, is_hexadecimal, Constant, hex_digits, hex_text, hex-numeral, hex-value}
 use Rattle.mx_expr.specs.Bytes as expr
 use Rattle.mx_expr.specs.Spelling.Constant.{decimal as decimal_digits, hexadecimal as hexadecimal_digits}
@@ -24,9 +24,7 @@ are-hexadecimal (d ∷ ds) all = rw (hexadecimal-digit d all.0, are-hexadecimal 
 -- the value of digits behind those of n
 same-after : (radix n : ℕ) (ds : List ℕ) → radix < 17 → AllDigits radix ds → fold (λ v d. v * radix + expr.digit_value d) n ds ≡ digits_value_after radix n ds
 same-after radix n [] le all = refl
-same-after radix n (d ∷ ds) le all =
-    ap (λ v. fold (λ v d. v * radix + expr.digit_value d) (n * radix + v) ds) (same-digit d (omega (arith, le, all.0)))
-    ∙ same-after radix (n * radix + digit_value d) ds le all.1
+same-after radix n (d ∷ ds) le all = grind (arith, same-digit, same-after radix (n * radix + digit_value d) ds le all.1)
 
 -- a number in decimal digits
 pub decimal-constant : (n : ℕ) → n < 2 ^ 64 → Constant (decimal n) n

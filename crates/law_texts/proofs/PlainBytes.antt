@@ -1,5 +1,5 @@
 -- The bytes of shown operands are those of an operand field with no string, and they are few.
-use Rattle.std.proofs.Common.{◌≡◌, ℕ, ◌*◌, ◌^◌, ◌<◌, ◌≤◌, true, List, [], ◌∷◌, length, map, refl, ◌∙◌, arith, length-append}
+use Rattle.std.proofs.Common.{◌≡◌, ℕ, ◌*◌, ◌^◌, ◌<◌, ◌≤◌, true, List, [], ◌∷◌, length, map, refl, arith, length-append}
 use Rattle.law_texts.proofs.Words.{decimal, digit_value, join_with_byte, list_all, AllDigits, nat_tests, decimal_is_IsNumeral, length-decimal-le, Tree, number, Shape, is_other, hex_digits, hex_text, field_code, operand_text, operands, operands_text, shape, shown_operands, hex-numeral}
 use Rattle.std.proofs.lemmas.List.Folds.{list_all-append}
 use Rattle.law_texts.proofs.OperandLists.{Each}
@@ -37,8 +37,7 @@ address-plain n lt =
 joined-other : (ts : List (List ℕ)) (es : List Tree) → Each IsPlain ts es → list_all is_other (join_with_byte 44 ts) ≡ true
 joined-other [] [] are = refl
 joined-other (t ∷ []) (e ∷ es) are = are.0.0
-joined-other (t ∷ u ∷ ts) (e ∷ es) are =
-    list_all-append is_other t (44 ∷ join_with_byte 44 (u ∷ ts)) ∙ rw (are.0.0, joined-other (u ∷ ts) es are.1) refl
+joined-other (t ∷ u ∷ ts) (e ∷ es) are = grind (arith, list_all-append, joined-other (u ∷ ts) es are.1)
 joined-other ts es are = absurd are
 
 joined-length : (ts : List (List ℕ)) (es : List Tree) → Each IsPlain ts es → length (join_with_byte 44 ts) ≤ 22 * length es
