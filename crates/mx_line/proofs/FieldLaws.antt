@@ -9,9 +9,6 @@ use Rattle.mx_word.proofs.Comparisons.{same-number as is-eq}
 not-at : (n b : ℕ) (test : ℕ → Bool) → test n ≡ false → test b ≡ true → (b == n) ≡ false
 not-at n b test h k = elim (eqb_tells b n) [ inl (t, e) ↦ (let same = ap test e in absurd (cc)) | inr (f, e) ↦ f ]
 
-zero-more : (r : Result ℕ LineFault) → more 0 r ≡ r
-zero-more r = search rules
-
 passed : {X : Type 0} (t : Bool) (x y : X) → not t ≡ true → cond t x y ≡ y
 passed t x y h = search rules
 
@@ -29,23 +26,19 @@ unquoted (b ∷ bs) h = let both = and_parts (is_no_quote b) (list_all is_no_quo
 none-of : (x y z : Bool) → not (x || y || z) ≡ true → (x ≡ false) × (y ≡ false) × (z ≡ false)
 none-of x y z h = search rules
 
-other-byte : (b : ℕ) (rest : List ℕ) → is_other b ≡ true → field_length (b ∷ rest) ≡ more 1 (field_length rest)
-unfolding field_from
-other-byte b rest h = let none = none-of (b == 34) (b == 39) (ends_field b) h in rw (none.0, none.1, none.2) refl
-
 one-more : (n : ℕ) (r : Result ℕ LineFault) → more 1 (more n r) ≡ more (suc n) r
 one-more n r = let e : 1 + n ≡ suc n = omega arith in more-more 1 n r ∙ ap (λ m. more m r) e
 
 pub measured : (front : List ℕ) → IsField front → (rest : List ℕ) → field_length (front ++ rest) ≡ more (length front) (field_length rest)
 unfolding field_from
-measured [] empty rest = sym (zero-more (field_length rest))
+measured [] empty rest = search rules
 measured _ (string_first inner after h f) rest =
     let lengths : suc (length inner + 1 + length after) ≡ suc (length (inner ++ 34 ∷ after)) = omega (arith, length-append inner (34 ∷ after)) in
     ap (λ t. more 1 (field_from string t)) (append_assoc inner (34 ∷ after) rest) ∙ ap (more 1) (quoted inner (after ++ rest) h)
     ∙ ap (λ r. more 1 (more (length inner + 1) r)) (measured after f rest) ∙ ap (more 1) (more-more (length inner + 1) (length after) (field_length rest))
     ∙ one-more (length inner + 1 + length after) (field_length rest) ∙ ap (λ n. more n (field_length rest)) lengths
 measured _ (constant_first b after f) rest = simp (one-more, measured after f rest)
-measured _ (byte_first b after h f) rest = other-byte b (after ++ rest) h ∙ ap (more 1) (measured after f rest) ∙ one-more (length after) (field_length rest)
+measured _ (byte_first b after h f) rest = search (rules, one-more, measured after f rest)
 
 pub ended : (rest : List ℕ) → ends_here rest ≡ true → field_length rest ≡ Ok 0
 unfolding field_from

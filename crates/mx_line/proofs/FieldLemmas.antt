@@ -35,14 +35,10 @@ string-first xs n e l =
     let same : more (1 + (n + 1)) (field_from nothing (drop (n + 1) xs)) ≡ more (n + 2) (field_length (drop (n + 2) (34 ∷ xs))) = rw (f, g) refl in
     ap (more 1) closed ∙ more-more 1 (n + 1) (field_from nothing (drop (n + 1) xs)) ∙ same ∙ after-some (34 ∷ xs) (n + 2) (omega arith)
 
-string-open-step : (t : Bool) (b n : ℕ) (bs : List ℕ) → (n ≡ length bs → field_from string bs ≡ Err OpenString) → cond (not t) (1 + n) 0 ≡ 1 + length bs →
-    cond t (more 1 (field_from nothing bs)) (more 1 (field_from string bs)) ≡ Err OpenString
-string-open-step t b n bs h l = search rules
-
 string-open : (xs : List ℕ) → position_or_len (λ x. x == 34) xs ≡ length xs → field_from string xs ≡ Err OpenString
 unfolding field_from
 string-open [] h = refl
-string-open (b ∷ bs) h = string-open-step (b == 34) b (position_or_len (λ x. x == 34) bs) bs (λ e. string-open bs e) (omega arith)
+string-open (b ∷ bs) h = search (rules, string-open bs)
 
 pub string-none : (xs : List ℕ) (n : ℕ) → n ≡ position_or_len (λ x. x == 34) xs → n ≤ length xs → length xs ≤ n → field_length (34 ∷ xs) ≡ Err OpenString
 unfolding field_from
@@ -61,13 +57,9 @@ pub constant-open : (xs : List ℕ) → 2 ≤ length xs → get_or xs 1 0 ≢ 39
 unfolding field_from
 constant-open xs h e = search rules
 
--- another byte
-other-step : (s t u : Bool) (r q p : Result ℕ LineFault) → s ≡ false → t ≡ false → cond s r (cond t q (cond u (Ok 0) p)) ≡ cond u (Ok 0) p
-other-step s t u r q p e f = rw (e, f) refl
-
 other : (b : ℕ) (xs : List ℕ) → b ≢ 34 → b ≢ 39 → field_length (b ∷ xs) ≡ cond (ends_field b) (Ok 0) (more 1 (field_length xs))
 unfolding field_from
-other b xs h k = other-step (b == 34) (b == 39) (ends_field b) _ _ _ (grind (arith, nat_tests)) (grind (arith, nat_tests))
+other b xs h k = search rules
 
 pub field-ends : (b : ℕ) (xs : List ℕ) → b ≢ 34 → b ≢ 39 → ends_field b ≡ true → field_length (b ∷ xs) ≡ Ok 0
 field-ends b xs h k e = other b xs h k ∙ ap (λ t. cond t (Ok 0) (more 1 (field_length xs))) e

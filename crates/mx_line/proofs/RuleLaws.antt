@@ -129,30 +129,22 @@ operation-only label place text _ (only_blanks gap rest r h e) =
 operation-only label place text _ (only_label gap rest before r h e) =
     operation-after-gap label place text gap rest [] rest r (empty-run is_name_byte rest h) ∙ ap no_opcode e
 
--- a text that begins with a label
-word-first : (text label rest : List ℕ) → Run is_name_byte text label rest → 0 < length label → begins is_name_byte text ≡ true
-word-first text [] rest r l = absurd (omega arith)
-word-first text (b ∷ bs) rest r l = ap (begins is_name_byte) r.spelled ∙ (and_parts (is_name_byte b) _ r.all).0
-
 at-label : (place : ℕ) (text : List ℕ) → begins is_name_byte text ≡ true → statement_at place text ≡ labelled_at place (run is_name_byte text) (past is_name_byte text)
 at-label place text h = search rules
 
 statement-after-label : (place : ℕ) (text label rest : List ℕ) → Run is_name_byte text label rest → 0 < length label → statement_at place text ≡ labelled_at place label rest
-statement-after-label place text label rest r l = grind (arith, at-label, word-first, run-only, past-only)
+statement-after-label place text label rest r l = search (rules, at-label, run-only, past-only, and_parts)
 
 label-chosen : (place : ℕ) (label rest : List ℕ) (s t : Bool) → is_bad_local label ≡ s → ends_label rest ≡ t →
     labelled_at place label rest ≡ cond s (Err BadLocal) (cond t (operation_at (Some (span place label)) (place + length label) rest) (Err BadLabel))
 label-chosen place label rest s t e f = rw (e, f) refl
-
-no-label : (place : ℕ) (text : List ℕ) → begins is_name_byte text ≡ false → begins is_blank text ≡ true → statement_at place text ≡ operation_at None place text
-no-label place text w k = search rules
 
 no-statement : (place : ℕ) (text : List ℕ) → begins is_name_byte text ≡ false → begins is_blank text ≡ false → statement_at place text ≡ Ok None
 no-statement place text w k = search rules
 
 statement-only : (place : ℕ) (text : List ℕ) (found : Found) → Statement place text found → statement_at place text ≡ found
 statement-only place text _ (comment w k) = no-statement place text w k
-statement-only place text found (unlabelled _ w k h) = no-label place text w k ∙ operation-only None place text _ h
+statement-only place text found (unlabelled _ w k h) = search (rules, operation-only)
 statement-only place text found (labelled label rest _ r l b e h) =
     statement-after-label place text label rest r l ∙ label-chosen place label rest false true b e ∙ operation-only (Some (span place label)) (place + length label) rest _ h
 statement-only place text _ (bad_local label rest r l b) = statement-after-label place text label rest r l ∙ label-chosen place label rest true (ends_label rest) b refl

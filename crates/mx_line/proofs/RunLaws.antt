@@ -28,11 +28,8 @@ run-is kind text = record {
   ends = ap (λ n. begins kind (drop n text)) (run-length kind text) ∙ ends-run kind text;
 }
 
-prefix-rest : (kind : ℕ → Bool) (rest : List ℕ) → begins kind rest ≡ false → prefix_len kind rest ≡ 0
-prefix-rest kind rest h = search rules
-
 prefix-front : (kind : ℕ → Bool) (front rest : List ℕ) → list_all kind front ≡ true → begins kind rest ≡ false → prefix_len kind (front ++ rest) ≡ length front
-prefix-front kind [] rest h k = prefix-rest kind rest k
+prefix-front kind [] rest h k = search rules
 prefix-front kind (b ∷ bs) rest h k = grind (arith, and_parts, prefix-front kind bs rest)
 
 length-front : (kind : ℕ → Bool) (text front rest : List ℕ) → Run kind text front rest → length (run kind text) ≡ length front

@@ -1,25 +1,18 @@
 -- The statements of a line, one after another.
 use Rattle.std.proofs.Common.{◌≡◌, ℕ, suc, ◌+◌, ◌-◌, ◌<◌, ◌≤◌, List, [], ◌∷◌, length, Bool, true, Option, Some, None, Result, IfOk, arith, length-drop, rules}
-use Rattle.mx_line.proofs.Words.{cond_both, Span, LineFault, Cut, is_blank, is_name_byte, run, past, next_from, with_field, operands_at, no_opcode, opcode_at, operation_at, ends_label, labelled_at, statement_at, statement_of, list_with, cuts_within, cuts_from, LabelBefore, CutInOrder}
+use Rattle.mx_line.proofs.Words.{cond_both, Span, LineFault, Cut, is_blank, is_name_byte, run, past, with_field, no_opcode, opcode_at, operation_at, ends_label, labelled_at, statement_at, statement_of, list_with, cuts_within, cuts_from, LabelBefore, CutInOrder}
 use Rattle.mx_line.proofs.KindLemmas.{run-whole, run-length}
 use Rattle.mx_line.proofs.FieldLemmas.{field_length-few}
 
-next-few : (place : ℕ) (gap rest : List ℕ) → (place ≤ next_from place gap rest) × (next_from place gap rest ≤ place + length gap + length rest)
-next-few place gap rest = search rules
-
 with-order : (start end place : ℕ) (label : Option Span) (op : Span) (text : List ℕ) → LabelBefore start label op.from → op.from < op.to → op.to ≤ place → place + length text ≡ end →
     (r : Result ℕ LineFault) → IfOk r (λ n. n ≤ length text) → CutInOrder start end (with_field label op place text r)
-with-order start end place label op text l o g e r h = grind (arith, next-few, run-whole, length-drop)
-
-operands-order : (start end place : ℕ) (label : Option Span) (op : Span) (text : List ℕ) → LabelBefore start label op.from → op.from < op.to → op.to ≤ place → place + length text ≡ end →
-    CutInOrder start end (operands_at label op place text)
-operands-order start end place label op text l o g e = grind (arith, with-order, run-whole, field_length-few)
+with-order start end place label op text l o g e r h = search (rules, run-whole, length-drop)
 
 none-order : (start end : ℕ) (label : Option Span) → CutInOrder start end (no_opcode label)
 none-order start end label = search rules
 
 opcode-order : (start end place : ℕ) (label : Option Span) (op rest : List ℕ) → LabelBefore start label place → place + length op + length rest ≡ end → CutInOrder start end (opcode_at label place op rest)
-opcode-order start end place label op rest l e = grind (arith, none-order, cond_both, operands-order)
+opcode-order start end place label op rest l e = search (rules, none-order, cond_both, with-order, run-whole, field_length-few)
 
 operation-order : (start end place : ℕ) (label : Option Span) (text : List ℕ) → ((n : ℕ) → n ≡ place + length (run is_blank text) → LabelBefore start label n) → place + length text ≡ end →
     CutInOrder start end (operation_at label place text)

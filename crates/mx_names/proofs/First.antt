@@ -7,12 +7,9 @@ first-group [] l rising = refl
 first-group (x ∷ []) l rising = grind arith
 first-group (x ∷ y ∷ xs) l rising = grind (arith, nat_tests, first-group (y ∷ xs) l rising.1)
 
-earlier-parts : (a b c : Option Numbered) → earlier_of_two (earlier_of_two a b) c ≡ earlier_of_two a (earlier_of_two b c)
-earlier-parts a b c = grind arith
-
 -- one group more
 pub first-more : {K : Type 0} (first found : Option Numbered) (e : K × List Numbered) (es : List (K × List Numbered)) → AreRising e.1 → found ≡ earlier_of_two first (first_of e.1) → earlier_of_two found (first_of (all_in_order es)) ≡ earlier_of_two first (first_of (all_in_order (e ∷ es)))
-first-more first found e es rising is = search (rules, earlier-parts, first-group)
+first-more first found e es rising is = search (rules, first-group)
 
 abbrev pub EachRising : {K : Type 0} → List (K × List Numbered) → Type 0
 EachRising {K} es = AllByRecursion (λ (e : K × List Numbered). AreRising e.1) es

@@ -95,9 +95,6 @@ group-later key made group is = record { rising = is.rising; below = all-weaker 
 group-push : (key : List ℕ) (made : ℕ) (group : List Numbered) (w : Wait) → IsGroup key made group → key_of w.who ≡ key → IsGroup key (made + 1) (group ++ (made, w) ∷ [])
 group-push key made group w is keyed = search (rules, rising-push, all-push, all-weaker)
 
-group-one : (key : List ℕ) (made : ℕ) (w : Wait) → key_of w.who ≡ key → IsGroup key (made + 1) ((made, w) ∷ [])
-group-one key made w keyed = record { rising = (tt, tt); below = (omega arith, tt); keyed = (keyed, tt) }
-
 pub groups-later : {K : Type 0} (bytes : K → List ℕ) (made : ℕ) (es : List (K × List Numbered)) → AreGroups bytes made es → AreGroups bytes (made + 1) es
 groups-later bytes made [] groups = tt
 groups-later bytes made (e ∷ es) groups = (group-later (bytes e.0) made e.1 groups.0, groups-later bytes made es groups.1)
@@ -108,7 +105,7 @@ groups-grown {K} bytes made test (e ∷ es) group w keyed found groups = grind (
 
 pub groups-new : {K : Type 0} (bytes : K → List ℕ) (made : ℕ) (cmp : K → K → Ordering) (es : List (K × List Numbered)) (k : K) (w : Wait) → key_of w.who ≡ bytes k → lookup (is_at (cmp k)) es ≡ None → AreGroups bytes made es → AreGroups bytes (made + 1) (insert_entry cmp es k ((made, w) ∷ []))
 groups-new bytes made cmp [] k w keyed absent groups = grind arith
-groups-new bytes made cmp (e ∷ es) k w keyed absent groups = grind (arith, group-one, group-later, groups-later, groups-new bytes made cmp es k w keyed)
+groups-new bytes made cmp (e ∷ es) k w keyed absent groups = search (rules, group-later, groups-later, groups-new bytes made cmp es k w keyed)
 
 -- keys that compare as equal are equal
 pub key-tells : (q key : List ℕ) → is_eq (slice_cmp nat_cmp q key) ≡ true → q ≡ key

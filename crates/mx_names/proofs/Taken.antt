@@ -2,7 +2,6 @@
 use Rattle.std.proofs.Common.{◌≡◌, ◌<◌, ◌≤◌, ℕ, Bool, true, false, not, nat_lt, cond, List, [], ◌∷◌, Option, None, Some, filter, refl, sym, ap, ◌∙◌, arith, nat_cmp, bytes_eq, rules}
 use Rattle.std.specs.Bool.{MatchBool}
 use Rattle.mx_names.proofs.Words.{AllByRecursion, lookup, remove_entry, slice_cmp, cond_both, lt-ltb, ltb-true, ltb-false, is_eq, is_eq-slice_cmp, Wait, Numbered, with_one, with_group, all_in_order, waits_of, waits_for, waits_for_others, key_of, AreRising, AreGroups}
-use Rattle.std.proofs.lemmas.Bool.Decides.{nat_tests}
 use Rattle.mx_word.specs.declared.waits.Awaited.{Awaited}
 use Rattle.mx_word.specs.Waits.{same_awaited}
 use Rattle.mx_names.proofs.Groups.{one-all, all-weaker}
@@ -105,11 +104,6 @@ module _ (f : Numbered → Bool) where
         by true here gone rest = group-no e.1 (all_in_order es) here ∙ others-pass es other.1 gone
         by false here gone rest = group-yes e.1 (all_in_order es) here (all-sorted es) ∙ ap (with_group e.1) (rest (none-rest (test e.0) e.1 _ gone))
 
-bytes-swap : (a b : List ℕ) → bytes_eq a b ≡ bytes_eq b a
-bytes-swap [] [] = refl
-bytes-swap (x ∷ xs) (y ∷ ys) = grind (arith, nat_tests, bytes-swap xs ys)
-bytes-swap a b = refl
-
 same-key : (a b : Awaited) → same_awaited a b ≡ bytes_eq (key_of a) (key_of b)
 same-key a b = grind arith
 
@@ -121,7 +115,7 @@ module _ {K : Type 0} (bytes : K → List ℕ) (made : ℕ) (who : Awaited) (key
   test = test_for bytes key
 
   tells : (k : K) (x : Numbered) → key_of x.1.who ≡ bytes k → same_awaited x.1.who who ≡ test k
-  tells k x is = same-key x.1.who who ∙ bytes-swap (key_of x.1.who) (key_of who) ∙ ap (λ l. bytes_eq l (key_of x.1.who)) (sym keyed) ∙ ap (bytes_eq key) is ∙ sym (is_eq-slice_cmp key (bytes k))
+  tells k x is = search (rules, same-key, is_eq-slice_cmp)
 
   parted-group : (b : Bool) (k : K) (xs : List Numbered) → test k ≡ b → AllByRecursion (λ (x : Numbered). key_of x.1.who ≡ bytes k) xs → MatchBool b (Yes (λ x. same_awaited x.1.who who) xs) (No (λ x. same_awaited x.1.who who) xs)
   parted-group true k xs is each = all-weaker _ _ xs (λ x h. tells k x h ∙ is) each
