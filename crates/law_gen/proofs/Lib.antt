@@ -1,5 +1,4 @@
 pub mod Lines
-pub mod Cuts
 pub mod Operands
 pub mod Texts
 pub mod SourceRead

@@ -1,11 +1,10 @@
 -- A text of lines, each with one statement, comes to the entries of these statements.
-use Rattle.std.proofs.Common.{◌≡◌, ℕ, ◌+◌, ◌*◌, ◌^◌, ◌≤◌, Bool, true, false, not, cond, List, [], ◌∷◌, ◌++◌, length, map, sum_by, Option, None, Some, Ok, refl, sym, ap, ◌∙◌, arith, append_assoc, length-append, ◌==◌}
-use Rattle.law_gen.proofs.Words.{list_all, AllByRecursion, and_parts, le-ltb, Cut, cuts_from, lines_of, is_too_far, size_up_to, is_other, StatementTree, Fields, fields_of, Entry, entry_with, entry_of, entries_of, statement_in, source_entries, statements_in, refusal_in}
+use Rattle.std.proofs.Common.{◌≡◌, ℕ, ◌+◌, ◌*◌, ◌^◌, ◌≤◌, Bool, true, false, not, cond, List, [], ◌∷◌, ◌++◌, length, map, sum_by, None, Ok, refl, sym, ap, ◌∙◌, arith, append_assoc, length-append, ◌==◌, rules}
+use Rattle.law_gen.proofs.Words.{list_all, AllByRecursion, and_parts, le-ltb, Cut, cuts_from, lines_of, is_too_far, is_other, StatementTree, Fields, fields_of, entry_with, entries_of, statement_in, source_entries, statements_in, refusal_in}
 use Rattle.std.proofs.lemmas.List.{length_push}
 use Rattle.std.proofs.lemmas.List.Sums.{sum_by-append}
-use Rattle.mx_line.specs.declared.spans.Span.{Span}
 use Rattle.mx_line.specs.Pieces.{split}
-use Rattle.mx_line.specs.Source.{Item, too_far, item_of, before as in_front, items_of, items_from}
+use Rattle.mx_line.specs.Source.{Item, too_far, before as in_front, items_of, items_from}
 use Rattle.mx_line.proofs.LineLemmas.{no-lines, first-line, size-next}
 
 -- lines, each with a newline behind it
@@ -21,15 +20,12 @@ abbrev pub IsClean : List ℕ → Type 0
 IsClean ops = (list_all is_other ops ≡ true) × (list_all no_newline ops ≡ true)
 
 not-false : (t : Bool) → not t ≡ true → t ≡ false
-not-false true h = absurd (cc)
-not-false false h = refl
+not-false t h = search rules
 
 cut-first : (l rest : List ℕ) → list_all no_newline l ≡ true → split 10 (l ++ 10 ∷ rest) ≡ l ∷ split 10 rest
 unfolding split
 cut-first [] rest all = refl
-cut-first (b ∷ bs) rest all =
-    let p = and_parts (no_newline b) (list_all no_newline bs) all in
-    rw (not-false (b == 10) p.0, cut-first bs rest p.1) refl
+cut-first (b ∷ bs) rest all = grind (arith, and_parts, not-false, cut-first bs rest)
 
 pub lines-are : (ls : List (List ℕ)) → AllByRecursion (λ l. list_all no_newline l ≡ true) ls → lines_of (text_of ls) ≡ ls
 lines-are [] h = no-lines
@@ -61,31 +57,12 @@ plain-lines number [] [] h = tt
 plain-lines number (l ∷ ls) (s ∷ ss) h = (h.0.line_is.plain, plain-lines (number + 1) ls ss h.1)
 plain-lines number ls ss h = absurd h
 
--- the item of a cut is read as its fields are
-cut-read : (number : ℕ) (line : List ℕ) (label : Option Span) (op operands : Span) (next : ℕ) →
-    entry_of (item_of number line (Ok (record { label = label; op = op; operands = operands; next = next })))
-    ≡ entry_with number (statement_in (fields_of line (record { label = label; op = op; operands = operands; next = next })) number)
-cut-read number line None op operands next = refl
-cut-read number line (Some span) op operands next = refl
-
-line-read : (line : List ℕ) (s : StatementTree) (h : IsLine line s) → entry_of (item_of s.line line (Ok h.cut)) ≡ Ok s
-line-read line s h =
-    cut-read s.line line h.cut.label h.cut.op h.cut.operands h.cut.next ∙ ap (λ f. entry_with s.line (statement_in f s.line)) h.said ∙ h.read
-
 one-entry : (number : ℕ) (line : List ℕ) (s : StatementTree) (later : List Item) → IsNumbered number line s → entries_of (in_front (items_of number line) later) ≡ Ok s ∷ entries_of later
-one-entry number line s later h =
-    let is = h.line_is in
-    ap (λ n. entries_of (in_front (items_of n line) later)) (sym h.number_is)
-    ∙ ap (λ cs. entries_of (in_front (map (item_of s.line line) cs) later)) is.cuts
-    ∙ ap (λ (e : Entry). e ∷ entries_of later) (line-read line s is)
+one-entry number line s later h = search rules
 
 near : (all before : List (List ℕ)) (line : List ℕ) (after : List (List ℕ)) (number : ℕ) → number ≡ length before + 1 → all ≡ before ++ line ∷ after →
     sum_by length before ≤ 40 * length before → length line ≤ 40 → 41 * length all ≤ 2 ^ 22 → is_too_far all number ≡ false
-near all before line after number is e few short most =
-    let count : length all ≡ length before + length (line ∷ after) = ap length e ∙ length-append before (line ∷ after) in
-    let size : size_up_to number all ≡ sum_by length before + length before + length line =
-    ap (λ n. size_up_to n all) is ∙ ap (size_up_to (length before + 1)) e ∙ size-next before line after in
-    le-ltb (2 ^ 22) (size_up_to number all) (omega (arith, count, size, few, short, most))
+near all before line after number is e few short most = grind (arith, length-append, size-next, le-ltb)
 
 pub entries-from : (all before lines : List (List ℕ)) (number : ℕ) (ss : List StatementTree) → number ≡ length before + 1 → all ≡ before ++ lines →
     sum_by length before ≤ 40 * length before → 41 * length all ≤ 2 ^ 22 → AreLines number lines ss → entries_of (items_from all number lines) ≡ map Ok ss

@@ -1,5 +1,5 @@
 -- A source that is generated is not refused.
-use Rattle.std.proofs.Common.{◌≡◌, ℕ, ◌/◌, ◌≤◌, Bool, true, false, cond, List, [], length, map, Option, None, Some, Ok, refl, ap, ◌∙◌, arith, nat_lt, is_some}
+use Rattle.std.proofs.Common.{◌≡◌, ℕ, ◌/◌, ◌≤◌, Bool, true, false, cond, List, [], length, map, Option, None, Some, Ok, ap, ◌∙◌, arith, nat_lt, is_some, rules}
 use Rattle.law_gen.proofs.Words.{le-ltb, Value, Pure, lines_of, predefined_value, value_in, pure_of, first_value, Known, Entry, source_entries, statements_in, refusal_in, nothing_known, final_known, sights_of, main_name, padded_trie, first_of, first_fault, locals, trie_limit, last_fault, end_fault, at_line, last_line, end_refusal, entries_refusal, refusal, accepted, page_refusal, accepted_in, run_refusal_with, run_refusal, generated, program}
 use Rattle.mx_asm.specs.declared.faults.AsmFault.{AsmFault}
 use Rattle.mx_asm.specs.declared.faults.AsmFault.TheVariants.{SymbolsTooMany}
@@ -12,8 +12,7 @@ use Rattle.law_gen.proofs.Names.{block_full, procedure_full}
 use Rattle.law_gen.proofs.Walk.{AreFinal, program-known, program-good}
 
 there-first : (o p : Option Value) → is_some o ≡ true → is_some (first_value o p) ≡ true
-there-first None p h = absurd (cc)
-there-first (Some v) p h = refl
+there-first o p h = search rules
 
 abbrev too_many : Bool → Option AsmFault
 too_many b = cond b (Some SymbolsTooMany) None
@@ -61,11 +60,7 @@ module _ (n : ℕ) (few : n ≤ 10000) where
 
   -- a source with these entries is not refused
   none-by : (last : ℕ) (es : List Entry) → es ≡ entries → first_of (entries_refusal es) (end_refusal last (statements_in es)) ≡ None
-  none-by last es is =
-      ap (λ t. first_of (entries_refusal t) (end_refusal last (statements_in t))) is
-      ∙ ap (λ r. first_of r (end_refusal last (statements_in entries))) no-entries-refusal
-      ∙ ap (end_refusal last) (statements-are (program n))
-      ∙ no-end-refusal last
+  none-by last es is = grind (arith, no-entries-refusal, statements-are, no-end-refusal)
 
   pub not-refused : refusal (generated n) ≡ None
   not-refused = none-by (last_line (lines_of (generated n))) (source_entries (generated n)) (generated-read n few)

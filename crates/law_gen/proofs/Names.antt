@@ -1,6 +1,6 @@
 -- The names of the program, and the symbols that are defined behind so many blocks.
-use Rattle.std.proofs.Common.{◌≡◌, ℕ, ◌+◌, ◌^◌, ◌<◌, ◌≤◌, Bool, true, false, cond, List, [], ◌∷◌, length, drop, codes, Option, None, Some, Result, Ok, Err, bytes_eq, refl, ap, ◌∙◌, arith, ◌==◌, is_some}
-use Rattle.law_gen.proofs.Words.{decimal, digit_value, AllByRecursion, AllDigits, le-ltb, nat_tests, decimal_is_IsNumeral, decimal_injective, Symbol, Value, Pure, special_registers, predefined_names, predefined_value, NameTable, value_in, pure_of, first_value, value_of_name, symbols_with, Name, symbol_form, name_fault, name_refusal, label_fault, block_name}
+use Rattle.std.proofs.Common.{◌≡◌, ℕ, ◌+◌, ◌^◌, ◌<◌, ◌≤◌, Bool, true, false, cond, List, [], ◌∷◌, length, codes, None, Some, Result, Ok, Err, bytes_eq, refl, ap, ◌∙◌, arith, is_some, rules}
+use Rattle.law_gen.proofs.Words.{decimal, AllByRecursion, AllDigits, le-ltb, nat_tests, decimal_is_IsNumeral, decimal_injective, Symbol, Value, Pure, special_registers, predefined_names, predefined_value, NameTable, value_in, pure_of, first_value, value_of_name, symbols_with, Name, symbol_form, label_fault, block_name}
 use Rattle.std.proofs.lemmas.Slice.Eq.{bytes_eq-Decides}
 use Rattle.mx_names.specs.declared.fault.NameFault.{NameFault}
 use Rattle.mx_names.specs.declared.fault.NameFault.TheVariants.{Twice, Predefined, NameTooLong}
@@ -8,7 +8,7 @@ use Rattle.mx_names.proofs.Entries.{value-inserted, length-inserted}
 use Rattle.mx_names.proofs.Known.{all-inserted}
 use Rattle.law_gen.proofs.Operands.{short-digits}
 use Rattle.law_gen.proofs.Placings.{known}
-use Rattle.law_gen.proofs.Tries.{IsLight, light}
+use Rattle.law_gen.proofs.Tries.{IsLight}
 
 -- ---- names
 
@@ -27,13 +27,9 @@ link_full = codes ":rJ"
 abbrev pub halt_full : List ℕ
 halt_full = codes ":Halt"
 
-no-letter : (d : ℕ) → digit_value d < 10 → (105 == d) ≡ false
-no-letter d lt = grind (arith, nat_tests)
-
 digits-free : (ds : List ℕ) → 0 < length ds → AllDigits 10 ds → predefined_value (58 ∷ 66 ∷ ds) ≡ None
 unfolding predefined_value predefined_names special_registers
-digits-free [] some all = absurd (omega (arith, some))
-digits-free (d ∷ ds) some all = rw (no-letter d all.0) refl
+digits-free ds some all = grind (arith, nat_tests)
 
 pub block-free : (b : ℕ) → b < 2 ^ 16 → predefined_value (block_full b) ≡ None
 block-free b low = let p = decimal_is_IsNumeral b (omega (arith, low)) in digits-free (decimal b) p.0.0 p.0.1
@@ -56,11 +52,7 @@ halt-predefined = refl
 
 -- two blocks have two names
 blocks-apart : (j b : ℕ) → j < 2 ^ 16 → b < 2 ^ 16 → (j ≡ b → ⊥) → bytes_eq (block_full j) (block_full b) ≡ false
-blocks-apart j b lj lb other = by (bytes_eq (block_full j) (block_full b)) refl
-  where
-    by : (t : Bool) → bytes_eq (block_full j) (block_full b) ≡ t → t ≡ false
-    by false e = refl
-    by true e = absurd (other (decimal_injective j b (omega (arith, lj)) (omega (arith, lb)) (ap (drop 2) ((bytes_eq-Decides (block_full j) (block_full b)).0 e))))
+blocks-apart j b lj lb other = grind (arith, decimal_injective, bytes_eq-Decides)
 
 -- ---- values of names
 
@@ -87,17 +79,11 @@ module _ (symbols : List Symbol) (backs : List Value) (at : ℕ) where
   value-predefined full n none some = ap (λ o. first_value o (pure_of (predefined_value full))) none ∙ ap pure_of some
 
   pub block-form : (b : ℕ) → b < 2 ^ 16 → symbol_form names (block_name b) ≡ Ok (block_full b)
-  block-form b low =
-      let short = short-digits b low in
-      let few : length (block_full b) ≤ 1024 = omega (arith, short) in
-      ap (form_unless (block_full b)) (le-ltb 1024 (length (block_full b)) few)
+  block-form b low = grind (arith, short-digits, le-ltb)
 
   -- a label that is new
   pub label-new : (text full : List ℕ) → symbol_form names text ≡ Ok full → predefined_value full ≡ None → value_in full symbols ≡ None → label_fault names (Some (Name text)) ≡ None
-  label-new text full form free none =
-      ap (name_fault names) form
-      ∙ ap (λ (o : Option ℕ). name_refusal (answer_unless (is_some o) (is_some (value_in full symbols)))) free
-      ∙ ap (λ (o : Option Value). name_refusal (defined_unless (is_some o))) none
+  label-new text full form free none = cc
 
 -- ---- symbols with one more
 
@@ -115,16 +101,10 @@ module _ (symbols : List Symbol) (full : List ℕ) (at : ℕ) (new : value_in fu
   own-value = one-more full ∙ ap (λ b. cond b (Some (Pure at)) (value_in full symbols)) ((bytes_eq-Decides full full).1 refl)
 
   pub still-there : (x : List ℕ) → is_some (value_in x symbols) ≡ true → is_some (value_in x (with_one symbols full at)) ≡ true
-  still-there x there = ap is_some (one-more x) ∙ by (bytes_eq x full)
-    where
-      by : (b : Bool) → is_some (cond b (Some (Pure at)) (value_in x symbols)) ≡ true
-      by true = refl
-      by false = there
+  still-there x there = grind (arith, one-more)
 
   pub one-light : length full ≤ 8 → at < 2 ^ 18 → length symbols < 10100 → AllByRecursion IsLight symbols → AllByRecursion IsLight (with_one symbols full at)
-  one-light short low few are =
-      all-inserted IsLight (record { name = full; value = Pure at; serial = length symbols + 1 }) symbols
-      (light full at (length symbols + 1) short (omega (arith, low)) (omega (arith, few))) are
+  one-light short low few are = grind (arith, all-inserted)
 
   pub one-count : length (with_one symbols full at) ≡ length symbols + 1
   one-count = length-inserted (record { name = full; value = Pure at; serial = length symbols + 1 }) symbols
@@ -140,32 +120,11 @@ pub record Stands (b : ℕ) (symbols : List Symbol) : Type 0 where
   pub light : AllByRecursion IsLight symbols
 
 pub stands-next : (b c : ℕ) (symbols : List Symbol) (at : ℕ) → c ≡ b + 1 → c ≤ 10001 → at < 2 ^ 18 → Stands b symbols → Stands c (with_one symbols (block_full c) at)
-stands-next b c symbols at is few low h =
-    let new = h.next c (omega (arith, is)) (omega (arith, few)) in
-    let count = h.count in
-    let more = one-count symbols (block_full c) at new in
-    let short = short-digits c (omega (arith, few)) in
-    record {
-      count = omega (arith, count, more, is);
-      main = other-value symbols (block_full c) at new main_full refl ∙ h.main;
-      procedure = other-value symbols (block_full c) at new procedure_full refl ∙ h.procedure;
-      link = other-value symbols (block_full c) at new link_full refl ∙ h.link;
-      halt = other-value symbols (block_full c) at new halt_full refl ∙ h.halt;
-      next = λ j above lj. other-value symbols (block_full c) at new (block_full j) (blocks-apart j c lj (omega (arith, few)) (λ e. omega (arith, e, above))) ∙ h.next j (omega (arith, above, is)) lj;
-      light = one-light symbols (block_full c) at new (omega (arith, short)) low (omega (arith, count, is, few)) h.light;
-    }
+stands-next b c symbols at is few low h = grind (arith, one-count, short-digits, other-value, blocks-apart, one-light)
 
 -- behind the second line
 abbrev pub first_symbols : List Symbol
 first_symbols = with_one [] main_full 0x100
 
 pub stands-first : Stands 0 first_symbols
-stands-first = record {
-  count = refl;
-  main = refl;
-  procedure = refl;
-  link = refl;
-  halt = refl;
-  next = λ j above lj. refl;
-  light = (light main_full 0x100 1 (omega arith) (omega arith) (omega arith), tt);
-}
+stands-first = search rules

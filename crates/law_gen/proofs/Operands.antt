@@ -1,6 +1,6 @@
 -- The operand fields of the source are read as their trees.
 use Rattle.std.proofs.Common.{◌≡◌, ℕ, ◌^◌, ◌<◌, ◌≤◌, Bool, true, List, [], ◌∷◌, ◌++◌, length, codes, Ok, refl, ap, ◌∙◌, arith, append_assoc, append-nil, sym}
-use Rattle.law_gen.proofs.Words.{decimal, digit_value, list_all, AllDigits, and_parts, nat_tests, decimal_is_IsNumeral, length-decimal-le, is_other, Tree, number, name, ahead, sign, step, steps, reg, block_name, procedure_name}
+use Rattle.law_gen.proofs.Words.{decimal, digit_value, list_all, AllDigits, and_parts, nat_tests, decimal_is_IsNumeral, length-decimal-le, is_other, Tree, number, name, ahead, sign, steps, reg, block_name, procedure_name}
 use Rattle.mx_expr.specs.declared.tree.UnOp.TheVariants.{Register}
 use Rattle.mx_expr.specs.Bytes.{is_name_byte}
 use Rattle.mx_expr.specs.Reading as reading
@@ -38,12 +38,7 @@ short-digits n low = length-decimal-le 5 n (omega arith) (omega (arith, low)) (o
 
 in-name : (text bs : List ℕ) (done : List Tree) → list_all is_name_byte bs ≡ true → steps (st (reading.symbol text) [] 0 done) bs ≡ Ok (st (reading.symbol (text ++ bs)) [] 0 done)
 in-name text [] done all = steps-none _ ∙ ap (λ t. Ok (st (reading.symbol t) [] 0 done)) (sym (append-nil text))
-in-name text (b ∷ bs) done all =
-    let p = and_parts (is_name_byte b) (list_all is_name_byte bs) all in
-    let one : step (st (reading.symbol text) [] 0 done) b ≡ Ok (st (reading.symbol (text ++ b ∷ [])) [] 0 done) = rw p.0 refl in
-    steps-first _ _ b bs one
-    ∙ in-name (text ++ b ∷ []) bs done p.1
-    ∙ ap (λ t. Ok (st (reading.symbol t) [] 0 done)) (append_assoc text (b ∷ []) bs)
+in-name text (b ∷ bs) done all = grind (arith, and_parts, steps-first, append_assoc, in-name (text ++ b ∷ []) bs done)
 
 -- the name of a block is an operand
 block-taken : (k : ℕ) → k < 2 ^ 64 → IsTaken (66 ∷ decimal k) (name (66 ∷ decimal k))

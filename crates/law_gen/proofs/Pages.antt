@@ -1,9 +1,8 @@
 -- Bytes that are placed below 2^18 touch few pages.
-use Rattle.std.proofs.Common.{◌≡◌, ℕ, zero, suc, ◌+◌, ◌/◌, ◌^◌, ◌<◌, ◌≤◌, Bool, true, false, cond, List, [], ◌∷◌, ◌++◌, length, Option, None, Some, refl, sym, ap, ◌∙◌, arith, subst, ⊎_elim, ◌==◌, nat_le}
-use Rattle.law_gen.proofs.Words.{AllByRecursion, cases_lt, le-leb, nat_tests, Sight, Piece, piece_with, outline, outlined, page_refusal_from, statement_fault, accepted, accepted_with}
+use Rattle.std.proofs.Common.{◌≡◌, ℕ, zero, suc, ◌+◌, ◌/◌, ◌^◌, ◌<◌, ◌≤◌, Bool, true, false, cond, List, [], ◌∷◌, ◌++◌, length, None, refl, arith, ◌==◌, nat_le, rules}
+use Rattle.law_gen.proofs.Words.{AllByRecursion, cases_lt, le-leb, nat_tests, Sight, Piece, piece_with, outline, outlined, page_refusal_from, accepted}
 use Rattle.mx_stmt.specs.Placements.{from_place}
 use Rattle.mx_asm.specs.Image.{placements, pages_of, pages_below}
-use Rattle.mx_asm.specs.declared.refused.Refused.{Refused}
 use Rattle.law_gen.proofs.Refusals.{all-append, IsFine}
 
 -- ---- addresses that are low
@@ -17,9 +16,7 @@ low-from start (b ∷ bytes) h = (omega (arith, h), low-from (start + 1) bytes (
 
 low-piece : (s : Sight) → IsFine s → AllByRecursion IsLowPlace (placements (piece_with s.statement.line (outline s)))
 unfolding placements
-low-piece s h =
-    subst (λ r. AllByRecursion IsLowPlace (placements (piece_with s.statement.line r))) (sym h.outlined)
-    (all-append IsLowPlace (from_place h.placed.start h.placed.bytes) [] (low-from h.placed.start h.placed.bytes h.room) tt)
+low-piece s h = grind (arith, all-append, low-from)
 
 behind-front : (front old new : List (ℕ × ℕ)) → (AllByRecursion IsLowPlace old → AllByRecursion IsLowPlace new) → AllByRecursion IsLowPlace (front ++ old) → AllByRecursion IsLowPlace (front ++ new)
 behind-front [] old new f h = f h
@@ -45,12 +42,10 @@ no-page [] page h high = refl
 no-page (p ∷ ps) page h high = rw (not-on p.0 page h.0 high, no-page ps page h.1 high) refl
 
 one-most : (b : Bool) → cond b 1 0 ≤ 1
-one-most true = omega arith
-one-most false = omega arith
+one-most b = search rules
 
 none-more : (b : Bool) → b ≡ false → cond b 1 0 ≤ 0
-none-more true h = absurd (cc)
-none-more false h = omega arith
+none-more b h = search rules
 
 few-below : (n : ℕ) (pages : ℕ → Bool) → pages_below n pages ≤ n
 unfolding pages_below
@@ -61,30 +56,17 @@ few-below (suc n) pages = omega (arith, one-most (pages n), few-below n pages)
 few-pages : (n : ℕ) (pages : ℕ → Bool) → ((page : ℕ) → 64 ≤ page → pages page ≡ false) → pages_below n pages ≤ 64
 unfolding pages_below
 few-pages zero pages h = omega arith
-few-pages (suc n) pages h =
-    ⊎_elim
-    (λ less. let below = few-below n pages in omega (arith, one-most (pages n), below, less))
-    (λ most. omega (arith, none-more (pages n) (h n most), few-pages n pages h))
-    (cases_lt n 64)
+few-pages (suc n) pages h = grind (arith, few-below, one-most, none-more, cases_lt, few-pages n pages h)
 
 room-there : (n : ℕ) (sights : List Sight) → AllByRecursion IsFine sights → nat_le (pages_below n (pages_of (placements (outlined sights)))) 65536 ≡ true
-room-there n sights h =
-    let few = few-pages n (pages_of (placements (outlined sights))) (λ page high. no-page (placements (outlined sights)) page (low-outlined sights h) high) in
-    le-leb (pages_below n (pages_of (placements (outlined sights)))) 65536 (omega (arith, few))
+room-there n sights h = grind (arith, few-pages, no-page, low-outlined, le-leb)
 
 pub no-page-refused : (earlier later : List Sight) → AllByRecursion IsFine earlier → AllByRecursion IsFine later → page_refusal_from earlier later ≡ None
 unfolding page_refusal_from
 no-page-refused earlier [] h g = refl
-no-page-refused earlier (s ∷ later) h g =
-    let both : AllByRecursion IsFine (earlier ++ s ∷ []) = all-append IsFine earlier (s ∷ []) h (g.0, tt) in
-    ap (λ b. cond b (page_refusal_from (earlier ++ s ∷ []) later) (Some s.statement.line)) (room-there (2 ^ 51) (earlier ++ s ∷ []) both)
-    ∙ no-page-refused (earlier ++ s ∷ []) later both g.1
+no-page-refused earlier (s ∷ later) h g = grind (arith, all-append, room-there, no-page-refused (earlier ++ s ∷ []) later)
 
 pub fine-accepted : (earlier later : List Sight) → AllByRecursion IsFine later → AllByRecursion IsFine (accepted earlier later)
 unfolding accepted
 fine-accepted earlier [] h = tt
-fine-accepted earlier (s ∷ later) h = by (statement_fault earlier s) (fine-accepted (earlier ++ s ∷ []) later h.1)
-  where
-    by : (r : Option Refused) → AllByRecursion IsFine (accepted (earlier ++ s ∷ []) later) → AllByRecursion IsFine (accepted_with r s (accepted (earlier ++ s ∷ []) later))
-    by (Some refused) rest = tt
-    by None rest = (h.0, rest)
+fine-accepted earlier (s ∷ later) h = grind (arith, fine-accepted (earlier ++ s ∷ []) later h.1)

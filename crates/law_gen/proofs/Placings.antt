@@ -1,6 +1,6 @@
 -- What each statement of the program comes to, by what is known at it.
-use Rattle.std.proofs.Common.{◌≡◌, ℕ, ◌+◌, ◌%◌, ◌^◌, ◌<◌, ◌≤◌, false, List, [], ◌∷◌, Option, None, Some, Ok, refl, ap, ◌∙◌, arith, nat_lt}
-use Rattle.law_gen.proofs.Words.{lt-ltb, le-ltb, Symbol, Value, Pure, Awaited, Near, Tree, number, name, ahead, Code, Set, value_of_name, Label, Placed, Known, no_targets, symbol_form, answer_of, operand_value, pure_number, field_number, register_or_byte, pure_at, reference_of, name_unless_known, awaited_name, known_target, target_by, tetra_xyz, tetra_wyde, plain_tetra, last_form, near_reach, relative_form, free_byte, free_at, form_by, place_at, label_value, tetra_waits, with_tetra, op_form, encoding, stated, reg}
+use Rattle.std.proofs.Common.{◌≡◌, ℕ, ◌+◌, ◌%◌, ◌^◌, ◌<◌, ◌≤◌, List, [], ◌∷◌, Option, None, Some, Ok, refl, ap, ◌∙◌, arith, rules}
+use Rattle.law_gen.proofs.Words.{lt-ltb, Symbol, Value, Pure, Awaited, Near, Tree, number, name, ahead, Code, Set, value_of_name, Label, Placed, Known, no_targets, symbol_form, answer_of, operand_value, pure_number, field_number, pure_at, reference_of, name_unless_known, awaited_name, known_target, target_by, tetra_xyz, tetra_wyde, plain_tetra, last_form, near_reach, relative_form, form_by, place_at, label_value, tetra_waits, with_tetra, encoding, stated, reg}
 use Rattle.mx_word.specs.Words.{tetra_to_bytes}
 use Rattle.mx_word.specs.declared.waits.Awaited.TheVariants as awaited
 use Rattle.mx_word.specs.declared.waits.WaitKind.{WaitKind}
@@ -32,31 +32,20 @@ pub record IsPlace (at : ℕ) : Type 0 where
   pub low : at + 4 ≤ 2 ^ 18
 
 same-place : (at : ℕ) → IsPlace at → place_at 4 at ≡ at
-same-place at h =
-    let whole = h.whole in
-    let low = h.low in
-    omega (arith, whole, low)
+same-place at h = search rules
 
 tetra-placed : (symbols : List Symbol) (backs : List Value) (at line : ℕ) (label : Option Label) (word : ℕ) (wait : Option (Awaited × WaitKind)) → IsPlace at →
     with_tetra (known symbols backs at) line label (Ok (record { word = word; wait = wait })) ≡ Ok (placing line at label word wait)
-tetra-placed symbols backs at line label word wait h =
-    let low = h.low in
-    let under : nat_lt 0x6000_0000_0000_0000 (at + 4) ≡ false = le-ltb 0x6000_0000_0000_0000 (at + 4) (omega (arith, low)) in
-    rw under refl
+tetra-placed symbols backs at line label word wait h = search rules
 
 module _ (symbols : List Symbol) (backs : List Value) (at : ℕ) (place : IsPlace at) where
   pub code-placed : (line : ℕ) (label : Option Label) (code : ℕ) (operands : List Tree) (word : ℕ) (wait : Option (Awaited × WaitKind)) →
       form_by no_targets (known symbols backs at) (shapes_of code) code operands ≡ Ok (record { word = word; wait = wait }) →
       encoding no_targets (known symbols backs at) (stated line label (Code code) operands) ≡ Ok (placing line at label word wait)
-  code-placed line label code operands word wait e =
-      ap (λ q. op_form no_targets (known symbols backs q) line label (Code code) operands) (same-place at place)
-      ∙ ap (with_tetra (known symbols backs at) line label) e
-      ∙ tetra-placed symbols backs at line label word wait place
+  code-placed line label code operands word wait e = grind (arith, same-place, tetra-placed)
 
   pub set-placed : (line : ℕ) (label : Option Label) → encoding no_targets (known symbols backs at) (stated line label Set (reg 255 ∷ reg 0 ∷ [])) ≡ Ok (placing line at label (tetra_xyz 0xc1 255 0 0) None)
-  set-placed line label =
-      ap (λ q. op_form no_targets (known symbols backs q) line label Set (reg 255 ∷ reg 0 ∷ [])) (same-place at place)
-      ∙ tetra-placed symbols backs at line label (tetra_xyz 0xc1 255 0 0) None place
+  set-placed line label = search rules
 
 -- ---- the tetras
 
@@ -91,13 +80,11 @@ module _ (k : Known) where
 
   pub call-tetra : (text full : List ℕ) → symbol_form k.names text ≡ Ok full → value_of_name k.names full ≡ None → Tetras k 0xf2 (reg 1 ∷ name text ∷ []) (tetra_wyde 0xf2 1 0) (Some (awaited.Name full, Near))
   unfolding shapes_of shape_spans
-  call-tetra text full form none =
-      ap (λ who. and_then (target_by who (pure_at k (name text))) (relative_form no_targets (tetra_wyde 0xf2 1 0) near_reach k.at Near)) (future text full form none)
+  call-tetra text full form none = cc
 
   pub bod-tetra : (text full : List ℕ) → symbol_form k.names text ≡ Ok full → value_of_name k.names full ≡ None → Tetras k 0x46 (reg 0 ∷ name text ∷ []) (tetra_wyde 0x46 0 0) (Some (awaited.Name full, Near))
   unfolding shapes_of shape_spans
-  bod-tetra text full form none =
-      ap (λ who. and_then (target_by who (pure_at k (name text))) (relative_form no_targets (tetra_wyde 0x46 0 0) near_reach k.at Near)) (future text full form none)
+  bod-tetra text full form none = cc
 
   -- a symbol that has a value
   named-value : (text full : List ℕ) (v : Value) → symbol_form k.names text ≡ Ok full → value_of_name k.names full ≡ Some v → operand_value k (name text) ≡ Ok v
@@ -113,8 +100,7 @@ module _ (k : Known) where
 
   pub trap-tetra : (text full : List ℕ) → symbol_form k.names text ≡ Ok full → value_of_name k.names full ≡ Some (Pure 0) → Tetras k 0 (number 0 ∷ name text ∷ number 0 ∷ []) (tetra_xyz 0 0 0 0) None
   unfolding shapes_of shape_spans
-  trap-tetra text full form some =
-      ap (λ v. and_then (and_then (and_then v register_or_byte) free_byte) (λ y. and_then (free_at k (number 0)) (λ z. plain_tetra (tetra_xyz 0 0 y z)))) (named-value text full (Pure 0) form some)
+  trap-tetra text full form some = cc
 
   -- a symbol whose value is an address is no reference
   past : (text full : List ℕ) (r : ℕ) → symbol_form k.names text ≡ Ok full → value_of_name k.names full ≡ Some (Pure r) → reference_of k (name text) ≡ None

@@ -1,11 +1,9 @@
 -- Statements that place few bytes low in memory, and whose references are near, are not refused.
 use Rattle.std.proofs.Common.{◌≡◌, ℕ, ◌+◌, ◌-◌, ◌/◌, ◌%◌, ◌^◌, ◌<◌, ◌≤◌, Bool, false, cond, List, [], ◌∷◌, ◌++◌, length, fold, filter, Option, None, Some, Ok, refl, sym, ap, ◌∙◌, arith, subst, ⊎_elim, nat_le}
-use Rattle.law_gen.proofs.Words.{AllByRecursion, list_any, cond_both, cases_lt, le-leb, lt-ltb, nat_tests, Value, Pure, Reg, Wait, Near, NameTable, complete_form, Label, Name, Local, Placed, near_reach, forward_word, backward_word, relative_word, Known, no_targets, StatementTree, encoding, Sight, known_behind, known_with, known_after, sights_from, outline, waits_in, references, is_local, label_fault, refusal_of, fault_behind, fault_with, statement_fault, first_of, first_fault, unreferenced, first_undefined, local_of, local_in, locals}
-use Rattle.mx_word.specs.declared.waits.Awaited.TheVariants as awaited
-use Rattle.mx_word.specs.Waits.{same_awaited}
+use Rattle.law_gen.proofs.Words.{AllByRecursion, list_any, cond_both, cases_lt, le-leb, lt-ltb, nat_tests, Value, Pure, Reg, Wait, Near, NameTable, Label, Placed, near_reach, forward_word, backward_word, relative_word, Known, no_targets, StatementTree, encoding, Sight, known_behind, known_with, known_after, sights_from, outline, waits_in, references, is_local, label_fault, refusal_of, statement_fault, first_of, first_fault, unreferenced, first_undefined, locals}
 use Rattle.mx_mmo.specs.declared.items.Item.{Item}
 use Rattle.mx_stmt.specs.declared.placed.Effect.TheVariants as effect
-use Rattle.mx_asm.specs.Fixes.{from_last, waiting_for, waiting_at, relative_fix, word_fix, pure_fix, fix_of, with_fix, fixes, awaited_value}
+use Rattle.mx_asm.specs.Fixes.{from_last, waiting_for, relative_fix, word_fix, pure_fix, fix_of, with_fix, fixes, awaited_value}
 
 -- ---- relative addresses
 
@@ -84,12 +82,7 @@ near-from-last d [] h = tt
 near-from-last d (s ∷ later) h = cond_both (list_any (λ (t : Sight). is_local d t.statement.label) later) _ _ (AllByRecursion HasNear) (λ _. near-from-last d later h.1) (λ _. h)
 
 near-waiting : (earlier : List Sight) (s : Sight) (label : Option Label) → AllByRecursion HasNear earlier → HasNear s → AreNear (waiting_for earlier s label)
-near-waiting earlier s None h g = tt
-near-waiting earlier s (Some (Name text)) h g =
-    all-filter IsNear (λ (w : Wait). same_awaited w.who (awaited.Name (complete_form s.known.names.prefix text))) (references (earlier ++ s ∷ []))
-    (near-references (earlier ++ s ∷ []) (all-append HasNear earlier (s ∷ []) h (g, tt)))
-near-waiting earlier s (Some (Local d)) h g =
-    all-filter IsNear (λ (w : Wait). same_awaited w.who (awaited.Local d)) (references (from_last d earlier)) (near-references (from_last d earlier) (near-from-last d earlier h))
+near-waiting earlier s label h g = grind (arith, all-filter, near-references, all-append, near-from-last)
 
 -- a label's value that is a low address
 abbrev pub IsLow : Option Value → Type 0
@@ -116,25 +109,17 @@ pub fine-near : (s : Sight) → IsFine s → HasNear s
 fine-near s h = subst (λ r. AreNear (waits_in r)) (sym h.outlined) h.waits
 
 fine-faultless : (earlier : List Sight) (s : Sight) → AllByRecursion HasNear earlier → IsFine s → statement_fault earlier s ≡ None
-fine-faultless earlier s h is =
-    ap (fault_with earlier s) is.outlined
-    ∙ ap (fault_behind earlier s is.placed) is.label
-    ∙ fixes-none s.statement.line is.placed.label (waiting_at earlier s) is.value (near-waiting earlier s s.statement.label h (fine-near s is))
+fine-faultless earlier s h is = grind (arith, fixes-none, near-waiting, fine-near)
 
 pub faultless : (earlier later : List Sight) → AllByRecursion HasNear earlier → AllByRecursion IsFine later → first_fault earlier later ≡ None
 unfolding first_fault
 faultless earlier [] h g = refl
-faultless earlier (s ∷ later) h g =
-    ap (λ r. first_of r (first_fault (earlier ++ s ∷ []) later)) (fine-faultless earlier s h g.0)
-    ∙ faultless (earlier ++ s ∷ []) later (all-append HasNear earlier (s ∷ []) h (fine-near s g.0, tt)) g.1
+faultless earlier (s ∷ later) h g = grind (arith, fine-faultless, all-append, fine-near, faultless (earlier ++ s ∷ []) later (all-append HasNear earlier (s ∷ []) h (fine-near s g.0, tt)) g.1)
 
 pub no-locals : (sights : List Sight) → AllByRecursion IsFine sights → locals sights ≡ []
 unfolding locals
 no-locals [] h = refl
-no-locals (s ∷ later) h =
-    ap (λ r. local_in r ++ locals later) h.0.outlined
-    ∙ ap (λ e. local_of e ++ locals later) h.0.effect
-    ∙ no-locals later h.1
+no-locals (s ∷ later) h = grind (arith, no-locals later h.1)
 
 -- ---- what is referred to is defined
 
@@ -189,12 +174,4 @@ pub record IsPlacedWell (final : NameTable) (k : Known) (s : StatementTree) (p :
 
 pub good-then : (final : NameTable) (k : Known) (s : StatementTree) (p : Placed) (k' : Known) (later : List StatementTree) → Leads k s p k' →
     IsPlacedWell final k s p (sights_from k' later) → AreGood final k' later → AreGood final k (s ∷ later)
-good-then final k s p k' later h w rest =
-    let here : Sight = record { known = k; statement = s } in
-    let fine : IsFine here = record { placed = p; outlined = h.placed; label = w.label; waits = w.waits; value = w.value; effect = w.effect; room = w.room } in
-    let met : unreferenced final (sights_from k' later) (waits_in (outline here)) ≡ None = ap (λ r. unreferenced final (sights_from k' later) (waits_in r)) h.placed ∙ w.met in
-    let same = sights-then k s p k' later h in
-    record {
-      fine = subst (AllByRecursion IsFine) (sym same) (fine, rest.fine);
-      met = subst (AreMet final) (sym same) (met, rest.met);
-    }
+good-then final k s p k' later h w rest = grind (arith, sights-then)

@@ -1,11 +1,9 @@
 -- The lines of the source are read as the statements of the program.
-use Rattle.std.proofs.Common.{◌≡◌, ℕ, zero, suc, ◌+◌, ◌*◌, ◌^◌, ◌<◌, ◌≤◌, Bool, true, false, List, [], ◌∷◌, ◌++◌, length, codes, map, Option, None, Some, Ok, refl, sym, ap, ◌∙◌, arith, subst, length-append}
-use Rattle.law_gen.proofs.Words.{decimal, list_all, and_parts, nat_tests, is_name_byte, is_bad_local, Tree, number, name, ahead, reading, Op, Pseudo, Code, Set, Loc, Label, Name, Local, StatementTree, label_of, operation_with, entry_with, with_operation, with_operands, source_entries, line-cut, depth, increment, random, generated, stated, reg, block_name, procedure_name, procedure_at, closing_at, blocks_at, program}
-use Rattle.std.proofs.Math.Nat.{mod-lt}
+use Rattle.std.proofs.Common.{◌≡◌, ℕ, zero, suc, ◌+◌, ◌*◌, ◌^◌, ◌<◌, ◌≤◌, Bool, true, false, List, [], ◌∷◌, ◌++◌, length, codes, map, Option, None, Some, Ok, refl, sym, ap, ◌∙◌, arith, subst, length-append, rules}
+use Rattle.law_gen.proofs.Words.{decimal, list_all, and_parts, nat_tests, is_name_byte, is_bad_local, Tree, number, name, ahead, reading, Op, Pseudo, Code, Set, Loc, Label, Name, Local, StatementTree, label_of, operation_with, entry_with, with_operation, source_entries, labelled-cut, line-cut, depth, increment, random, generated, stated, reg, block_name, procedure_name, procedure_at, closing_at, blocks_at, program}
 use Rattle.std.proofs.lemmas.List.Folds.{list_all-append}
 use Rattle.mx_ops.specs.Opcodes.{opcode_rows, opcode_names, pseudo_operations, chosen_operations, operations, operation_of}
 use Rattle.law_gen.proofs.Lines.{no_newline, IsClean, IsLine, IsNumbered, AreLines, text-entries}
-use Rattle.law_gen.proofs.Cuts.{labelled-cut}
 use Rattle.law_gen.proofs.Operands.{decimal-names, decimal-clean, short-digits, setl-read, incl-read, bod-read, loc-read, main-read, call-read, sum-read, set-read, trap-read, skip-read, get-read, less-read, again-read, more-read, put-read, pop-read}
 use Rattle.law_gen.proofs.Texts.{line_with, procedure_lines, closing_lines, rest_lines, all_lines, generated-text}
 
@@ -19,49 +17,25 @@ all-plain P of [] all = refl
 all-plain P of (b ∷ bs) all = let p = and_parts (P b) (list_all P bs) all in rw (of b p.0, all-plain P of bs p.1) refl
 
 rest-plain : (op ops : List ℕ) → list_all is_name_byte op ≡ true → list_all no_newline ops ≡ true → list_all no_newline (32 ∷ (op ++ 32 ∷ ops)) ≡ true
-rest-plain op ops names clean =
-    list_all-append no_newline op (32 ∷ ops) ∙ rw (all-plain is_name_byte name-plain op names, clean) refl
+rest-plain op ops names clean = grind (arith, list_all-append, all-plain, name-plain)
 
 line-plain : (label op ops : List ℕ) → list_all is_name_byte label ≡ true → list_all is_name_byte op ≡ true → list_all no_newline ops ≡ true → list_all no_newline (line_with label op ops) ≡ true
-line-plain label op ops labels names clean =
-    list_all-append no_newline label (32 ∷ (op ++ 32 ∷ ops)) ∙ rw (all-plain is_name_byte name-plain label labels, rest-plain op ops names clean) refl
+line-plain label op ops labels names clean = grind (arith, list_all-append, all-plain, name-plain, rest-plain)
 
 said-read : (line : ℕ) (label : Option Label) (op_name ops : List ℕ) (op : Op) (trees : List Tree) (labelled : Bool) → operation_with labelled (operation_of op_name) ≡ Ok op → reading ops ≡ Ok trees →
     entry_with line (with_operation (record { label = label; op = op_name; operands = ops }) line (operation_with labelled (operation_of op_name))) ≡ Ok (stated line label op trees)
-said-read line label op_name ops op trees labelled is read =
-    ap (λ r. entry_with line (with_operation (record { label = label; op = op_name; operands = ops }) line r)) is
-    ∙ ap (λ r. entry_with line (with_operands (record { label = label; op = op_name; operands = ops }) line op r)) read
+said-read line label op_name ops op trees labelled is read = cc
 
 -- a line without a label
 unlabelled : (line : ℕ) (op_name ops : List ℕ) (op : Op) (trees : List Tree) → list_all is_name_byte op_name ≡ true → 0 < length op_name → IsClean ops →
     length op_name + length ops ≤ 38 → operation_with false (operation_of op_name) ≡ Ok op → reading ops ≡ Ok trees → IsLine (line_with [] op_name ops) (stated line None op trees)
-unlabelled line op_name ops op trees names some others few is read =
-    let c = line-cut op_name ops names some others.0 (omega (arith, few)) in
-    record {
-      plain = rest-plain op_name ops names others.1;
-      short = omega (arith, few, length-append op_name (32 ∷ ops));
-      cut = c.0;
-      fields = record { label = None; op = op_name; operands = ops };
-      cuts = c.1;
-      said = c.2;
-      read = said-read line None op_name ops op trees false is read;
-    }
+unlabelled line op_name ops op trees names some others few is read = grind (arith, line-cut, rest-plain, length-append, said-read)
 
 -- a line with a label
 labelled : (line : ℕ) (label op_name ops : List ℕ) (as_label : Label) (op : Op) (trees : List Tree) → list_all is_name_byte label ≡ true → 0 < length label → is_bad_local label ≡ false → label_of label ≡ as_label →
     list_all is_name_byte op_name ≡ true → 0 < length op_name → IsClean ops →
     length label + length op_name + length ops ≤ 38 → operation_with true (operation_of op_name) ≡ Ok op → reading ops ≡ Ok trees → IsLine (line_with label op_name ops) (stated line (Some as_label) op trees)
-labelled line label op_name ops as_label op trees labels by good label_is names some others few is read =
-    let c = labelled-cut label op_name ops labels by good names some others.0 (omega (arith, few)) in
-    record {
-      plain = line-plain label op_name ops labels names others.1;
-      short = omega (arith, few, length-append label (32 ∷ (op_name ++ 32 ∷ ops)), length-append op_name (32 ∷ ops));
-      cut = c.0;
-      fields = record { label = Some as_label; op = op_name; operands = ops };
-      cuts = c.1;
-      said = c.2 ∙ ap (λ (l : Label). record { label = Some l; op = op_name; operands = ops }) label_is;
-      read = said-read line (Some as_label) op_name ops op trees true is read;
-    }
+labelled line label op_name ops as_label op trees labels by good label_is names some others few is read = grind (arith, labelled-cut, line-plain, length-append, said-read)
 
 -- ---- the operations
 
@@ -158,16 +132,7 @@ module _ (line : ℕ) where
 -- ---- all lines
 
 procedure-lines : (line n : ℕ) → line ≡ n → AreLines n procedure_lines (procedure_at line)
-procedure-lines line n is =
-    let skip = numbered n _ _ is (skip-line line) in
-    let get = numbered (n + 1) _ _ (omega (arith, is)) (get-line (line + 1)) in
-    let less = numbered (n + 1 + 1) _ _ (omega (arith, is)) (less-line (line + 2)) in
-    let again = numbered (n + 1 + 1 + 1) _ _ (omega (arith, is)) (again-line (line + 3)) in
-    let more = numbered (n + 1 + 1 + 1 + 1) _ _ (omega (arith, is)) (more-line (line + 4)) in
-    let put = numbered (n + 1 + 1 + 1 + 1 + 1) _ _ (omega (arith, is)) (put-line (line + 5)) in
-    let pop = numbered (n + 1 + 1 + 1 + 1 + 1 + 1) _ _ (omega (arith, is)) (pop-line (line + 6)) in
-    let last = numbered (n + 1 + 1 + 1 + 1 + 1 + 1 + 1) _ _ (omega (arith, is)) (last-line (line + 7)) in
-    (skip, (get, (less, (again, (more, (put, (pop, (last, tt))))))))
+procedure-lines line n is = grind (arith, skip-line, get-line, less-line, again-line, more-line, put-line, pop-line, last-line)
 
 closing-lines : (line b : ℕ) → b < 2 ^ 16 → AreLines line (closing_lines b) (closing_at line b)
 closing-lines line b few =
@@ -177,8 +142,7 @@ closing-lines line b few =
 -- the numbers that seem random
 pub random-low : (i : ℕ) → random i < 2 ^ 64
 unfolding random
-random-low zero = omega arith
-random-low (suc i) = mod-lt (6364136223846793005 * random i + 1442695040888963407) (omega arith)
+random-low i = search rules
 
 pub depth-low : (x : ℕ) → x < 2 ^ 64 → depth x < 2 ^ 16
 depth-low x lt = omega (arith, lt)

@@ -1,5 +1,5 @@
 -- One statement of the program after another.
-use Rattle.std.proofs.Common.{◌≡◌, ℕ, true, false, cond, List, [], ◌∷◌, Option, None, Some, refl, ap, ◌∙◌, arith, is_some}
+use Rattle.std.proofs.Common.{◌≡◌, ℕ, true, false, cond, List, [], ◌∷◌, Option, None, Some, refl, ap, ◌∙◌, arith, is_some, rules}
 use Rattle.law_gen.proofs.Words.{Symbol, Value, Pure, Awaited, Wait, Near, Tree, Op, NameTable, Label, Placed, Known, StatementTree, label_value, sights_from, is_local, outline, next_local, referent, label_fault, undefined, unreferenced, stated}
 use Rattle.mx_asm.specs.TwoPass.{value_in as label_value_in}
 use Rattle.mx_asm.specs.Faults.{refused}
@@ -12,8 +12,7 @@ unfolding sights_from
 good-end final k = record { fine = tt; met = tt }
 
 low-label : (label : Option Label) (at : ℕ) → IsPlace at → IsLow (label_value label (Pure at))
-low-label None at h = tt
-low-label (Some label) at h = let low = h.low in (h.whole, omega (arith, low))
+low-label label at h = search rules
 
 module _ (final : NameTable) (symbols : List Symbol) (backs : List Value) (at : ℕ) (place : IsPlace at) where
   -- a statement with no reference
@@ -21,9 +20,7 @@ module _ (final : NameTable) (symbols : List Symbol) (backs : List Value) (at : 
       label_fault (known symbols backs at).names label ≡ None → Leads (known symbols backs at) (stated line label op operands) (placing line at label word None) k' →
       AreGood final k' later → AreGood final (known symbols backs at) (stated line label op operands ∷ later)
   unfolding unreferenced
-  plain-good line label op operands word k' later new h rest =
-      good-then final (known symbols backs at) (stated line label op operands) (placing line at label word None) k' later h
-      (record { label = new; waits = tt; value = low-label label at place; effect = refl; room = place.low; met = refl }) rest
+  plain-good line label op operands word k' later new h rest = search (rules, good-then, low-label)
 
   -- a reference that is met
   abbrev pub reference : ℕ → Awaited → Wait
@@ -51,10 +48,7 @@ module _ (final : NameTable) (symbols : List Symbol) (backs : List Value) (at : 
 pub local-later : (k : Known) (s : StatementTree) (p : Placed) (k' : Known) (later : List StatementTree) → Leads k s p k' → is_local 1 s.label ≡ false →
     is_some (next_local 1 (sights_from k' later)) ≡ true → is_some (next_local 1 (sights_from k (s ∷ later))) ≡ true
 unfolding next_local
-local-later k s p k' later h other rest =
-    ap (λ ls. is_some (next_local 1 ls)) (sights-then k s p k' later h)
-    ∙ ap (λ b. is_some (cond b (label_value_in (outline (record { known = k; statement = s }))) (next_local 1 (sights_from k' later)))) other
-    ∙ rest
+local-later k s p k' later h other rest = grind (arith, sights-then)
 
 pub local-here : (k : Known) (s : StatementTree) (p : Placed) (k' : Known) (later : List StatementTree) → Leads k s p k' → is_local 1 s.label ≡ true →
     is_some p.label ≡ true → is_some (next_local 1 (sights_from k (s ∷ later))) ≡ true

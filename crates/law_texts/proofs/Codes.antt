@@ -1,8 +1,7 @@
 -- The shapes and kinds of the codes, by computing.
-use Rattle.std.proofs.Common.{◌≡◌, ℕ, ◌+◌, ◌<◌, ◌≤◌, length, List, Bool, true, false, not, ◌&&◌, ◌||◌, cond, [], ◌∷◌, map, refl, ◌⊎◌, inl, inr, nat_lt, nat_le}
-use Rattle.law_texts.proofs.Words.{list_all, range_with_len, and_parts, opcode_rows, opcode_names, opcode_name, opcode_kinds, opcode_kind, is_immediate, is_backward, shape_spans, shapes_of, Shape, Three, Regs, Round, Neg, Rel, Mem, MemPure, Wyde, Jump, Put, Get, Pop, One, Save, Unsave, Free, takes_byte, shape, lowest_code}
+use Rattle.std.proofs.Common.{◌≡◌, ℕ, ◌+◌, ◌<◌, ◌≤◌, length, List, Bool, true, false, not, ◌&&◌, ◌||◌, cond, [], ◌∷◌, map, refl, ◌⊎◌, nat_lt, nat_le, rules}
+use Rattle.law_texts.proofs.Words.{list_all, range_with_len, opcode_rows, opcode_names, opcode_name, opcode_kinds, opcode_kind, is_immediate, is_backward, shape_spans, shapes_of, Shape, Three, Regs, Round, Neg, Rel, Mem, MemPure, Wyde, Jump, Put, Get, Pop, One, Save, Unsave, Free, takes_byte, shape, lowest_code}
 use Rattle.mx_word.specs.Kinds.{is_name_byte}
-use Rattle.mx_word.proofs.Comparisons.{is-less, is-least}
 use Rattle.mx_text.proofs.SecondCodes.{each}
 
 -- whether a shape may be that of a code of this name: an immediate one, or one for a backward address
@@ -31,9 +30,7 @@ is_relative Jump = true
 is_relative shape = false
 
 pub by-relative : (s : Shape) → (is_relative s ≡ false) ⊎ ((s ≡ Rel) ⊎ (s ≡ Jump))
-by-relative Rel = inr (inl refl)
-by-relative Jump = inr (inr refl)
-by-relative s = inl refl
+by-relative s = search rules
 
 -- whether the rounding mode of the lowest code goes before a byte, where the code is immediate
 abbrev pub rounds_byte : Shape → Bool → ℕ → Bool
@@ -70,10 +67,7 @@ pub record IsName (name : List ℕ) : Type 0 where
   pub few : length name ≤ 10
 
 by-tests : (name : List ℕ) → is_name name ≡ true → IsName name
-by-tests name is =
-    let p = and_parts (list_all is_name_byte name && nat_lt 0 (length name)) (nat_le (length name) 10) is in
-    let q = and_parts (list_all is_name_byte name) (nat_lt 0 (length name)) p.0 in
-    record { bytes = q.0; some = is-less 0 (length name) q.1; few = is-least (length name) 10 p.1 }
+by-tests name is = search rules
 
 pub code-named : (code : ℕ) → code < 256 → IsName (opcode_name code)
 code-named code below = by-tests (opcode_name code) (each true (λ code. is_name (opcode_name code)) (λ code. true) all-named code below)

@@ -1,32 +1,21 @@
 -- The digits that are shown are constants that are read as the same numbers.
-use Rattle.std.proofs.Common.{◌≡◌, ℕ, ◌+◌, ◌*◌, ◌^◌, ◌<◌, true, List, [], ◌∷◌, fold, refl, ap, ◌∙◌, arith, subst}
-use Rattle.law_texts.proofs.Words.{decimal, digit_value, list_all, AllDigits, digits_value_after, nat_tests, decimal_is_IsNumeral, is_digit, is_hexadecimal, Constant, hex_digits, hex_text, hex-numeral, hex-value}
+use Rattle.std.proofs.Common.{◌≡◌, ℕ, ◌+◌, ◌*◌, ◌^◌, ◌<◌, true, List, [], ◌∷◌, fold, refl, ◌∙◌, arith, subst, rules}
+use Rattle.law_texts.proofs.Words.{decimal, digit_value, list_all, AllDigits, digits_value_after, decimal_is_IsNumeral, is_digit, is_hexadecimal, Constant, hex_digits, hex_text, hex-numeral, hex-value}
 use Rattle.mx_expr.specs.Bytes as expr
 use Rattle.mx_expr.specs.Spelling.Constant.{decimal as decimal_digits, hexadecimal as hexadecimal_digits}
 
-decimal-digit : (b : ℕ) → digit_value b < 10 → is_digit b ≡ true
-decimal-digit b lt = grind (arith, nat_tests)
-
-hexadecimal-digit : (b : ℕ) → digit_value b < 16 → is_hexadecimal b ≡ true
-hexadecimal-digit b lt = grind (arith, nat_tests)
-
-same-digit : (b : ℕ) → digit_value b < 16 → expr.digit_value b ≡ digit_value b
-same-digit b lt = grind (arith, nat_tests)
-
 are-decimal : (ds : List ℕ) → AllDigits 10 ds → list_all is_digit ds ≡ true
 are-decimal [] all = refl
-are-decimal (d ∷ ds) all = rw (decimal-digit d all.0, are-decimal ds all.1) refl
+are-decimal (d ∷ ds) all = search (rules, are-decimal ds all.1)
 
 are-hexadecimal : (ds : List ℕ) → AllDigits 16 ds → list_all is_hexadecimal ds ≡ true
 are-hexadecimal [] all = refl
-are-hexadecimal (d ∷ ds) all = rw (hexadecimal-digit d all.0, are-hexadecimal ds all.1) refl
+are-hexadecimal (d ∷ ds) all = search (rules, are-hexadecimal ds all.1)
 
 -- the value of digits behind those of n
 same-after : (radix n : ℕ) (ds : List ℕ) → radix < 17 → AllDigits radix ds → fold (λ v d. v * radix + expr.digit_value d) n ds ≡ digits_value_after radix n ds
 same-after radix n [] le all = refl
-same-after radix n (d ∷ ds) le all =
-    ap (λ v. fold (λ v d. v * radix + expr.digit_value d) (n * radix + v) ds) (same-digit d (omega (arith, le, all.0)))
-    ∙ same-after radix (n * radix + digit_value d) ds le all.1
+same-after radix n (d ∷ ds) le all = search (rules, same-after radix (n * radix + digit_value d) ds le all.1)
 
 -- a number in decimal digits
 pub decimal-constant : (n : ℕ) → n < 2 ^ 64 → Constant (decimal n) n

@@ -1,11 +1,10 @@
 -- The operands that are shown, as trees.
-use Rattle.std.proofs.Common.{◌≡◌, ℕ, ◌<◌, ◌≤◌, ◌^◌, Bool, cond, List, [], ◌∷◌, length, map, Ok, refl, rules}
+use Rattle.std.proofs.Common.{◌≡◌, ℕ, ◌<◌, ◌≤◌, ◌^◌, Bool, cond, List, [], ◌∷◌, length, map, Ok, rules}
 use Rattle.law_texts.proofs.Words.{decimal, opcode_kind, is_immediate, Shape, Three, Regs, Round, Neg, Rel, Mem, MemPure, Wyde, Jump, Put, Get, Pop, One, Save, Unsave, Free, Register, Tree, number, unary, reading, Spells, Faultless, hex_text, field_code, field_x, field_y, field_z, field_yz, field_xyz, shape, target, last, operand_text, operands, operands_text, shown_operands}
 use Rattle.mx_expr.proofs.Exact.{reading-ok}
 use Rattle.mx_expr.proofs.Fields.{one-list}
 use Rattle.law_texts.proofs.Numerals.{decimal-constant, hexadecimal-constant}
 use Rattle.law_texts.proofs.OperandLists.{IsTaken, Each, constant-taken, register-taken, list-read}
-use Rattle.law_texts.proofs.Parts.{z-below}
 
 -- `$` and a number
 abbrev pub register : ℕ → Tree
@@ -38,11 +37,8 @@ trees Free word pc = number (field_x word) ∷ number (field_y word) ∷ number 
 
 -- What holds of each number, register and address below 2^64 holds of each operand that is shown.
 module _ (R : List ℕ → Tree → Type 0) (of-number : (n : ℕ) → n < 2 ^ 64 → R (decimal n) (number n)) (of-register : (n : ℕ) → n < 2 ^ 64 → R (36 ∷ decimal n) (register n)) (of-address : (n : ℕ) → n < 2 ^ 64 → R (hex_text n) (number n)) (word pc : ℕ) where
-  of-last : (code n : ℕ) (immediate : Bool) → is_immediate (opcode_kind code) ≡ immediate → n < 256 → R (operand_text (last code n)) (last_tree code n)
-  of-last code n immediate h1 h2 = search rules
-
   z : R (operand_text (last (field_code word) (field_z word))) (last_tree (field_code word) (field_z word))
-  z = of-last (field_code word) (field_z word) _ refl (z-below word)
+  z = search rules
 
   pub each-shown : (s : Shape) → Each R (map operand_text (operands s word pc)) (trees s word pc)
   each-shown s = search rules

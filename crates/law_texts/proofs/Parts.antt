@@ -1,12 +1,9 @@
 -- The parts of a tetra, and the tetra of its parts.
-use Rattle.std.proofs.Common.{◌≡◌, ℕ, ◌-◌, ◌*◌, ◌^◌, ◌<◌, arith}
-use Rattle.law_texts.proofs.Words.{tetra_xyz, tetra_wyde, tetra_whole, field_code, field_x, field_y, field_z, field_yz, field_xyz}
+use Rattle.std.proofs.Common.{◌≡◌, ℕ, ◌^◌, ◌<◌, arith}
+use Rattle.law_texts.proofs.Words.{tetra_whole, field_code, field_y, field_z, field_yz, field_xyz}
 
 pub code-below : (word : ℕ) → word < 2 ^ 32 → field_code word < 256
 code-below word lt = omega arith
-
-pub x-below : (word : ℕ) → field_x word < 256
-x-below word = omega arith
 
 pub y-below : (word : ℕ) → field_y word < 256
 y-below word = omega arith
@@ -20,14 +17,5 @@ yz-below word = omega arith
 pub xyz-below : (word : ℕ) → field_xyz word < 2 ^ 24
 xyz-below word = omega arith
 
-pub three-bytes : (word : ℕ) → tetra_xyz (field_code word) (field_x word) (field_y word) (field_z word) ≡ word
-three-bytes word = omega arith
-
-pub byte-and-wyde : (word : ℕ) → tetra_wyde (field_code word) (field_x word) (field_yz word) ≡ word
-byte-and-wyde word = omega arith
-
 pub one-number : (word : ℕ) → tetra_whole (field_code word) (field_xyz word) ≡ word
 one-number word = omega arith
-
-pub no-y : (word : ℕ) → tetra_xyz (field_code word) (field_x word) 0 (field_z word) ≡ word - 2 ^ 8 * field_y word
-no-y word = omega arith

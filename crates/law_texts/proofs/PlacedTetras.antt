@@ -1,6 +1,6 @@
 -- The tetra of a statement at its place.
-use Rattle.std.proofs.Common.{◌≡◌, ℕ, ◌+◌, ◌≤◌, Bool, true, false, cond, [], Option, Ok, Err, refl, sym, ap}
-use Rattle.law_texts.proofs.Words.{ltb-false, Placed, Label, Known, plain_tetra, with_tetra}
+use Rattle.std.proofs.Common.{◌≡◌, ℕ, ◌+◌, ◌≤◌, Bool, false, cond, [], Option, Ok, Err, rules}
+use Rattle.law_texts.proofs.Words.{Placed, Label, Known, plain_tetra, with_tetra}
 use Rattle.mx_word.specs.Words.{tetra_to_bytes}
 use Rattle.mx_stmt.specs.declared.faults.StmtFault.{StmtFault}
 use Rattle.law_texts.proofs.RelativeForms.{highest}
@@ -13,15 +13,7 @@ pub record IsTetra (k : Known) (word : ℕ) (placed : Placed) : Type 0 where
   pub room : k.at + 4 ≤ highest
 
 by-test : {A : Type 0} (b : Bool) (fault : StmtFault) (x y : A) → cond b (Err fault) (Ok x) ≡ Ok y → (b ≡ false) × (x ≡ y)
-by-test true fault x y is = absurd (cc)
-by-test false fault x y is = (refl, cc)
+by-test b fault x y is = search rules
 
 pub word-placed : (k : Known) (line : ℕ) (label : Option Label) (word : ℕ) (placed : Placed) → with_tetra k line label (plain_tetra word) ≡ Ok placed → IsTetra k word placed
-word-placed k line label word placed is =
-    let t = by-test _ _ _ placed is in
-    record {
-      start = ap (λ (p : Placed). p.start) (sym t.1);
-      bytes = ap (λ (p : Placed). p.bytes) (sym t.1);
-      waits = ap (λ (p : Placed). p.waits) (sym t.1);
-      room = ltb-false highest (k.at + 4) t.0;
-    }
+word-placed k line label word placed is = search rules

@@ -1,6 +1,6 @@
 -- The bytes of shown operands are those of an operand field with no string, and they are few.
-use Rattle.std.proofs.Common.{◌≡◌, ℕ, ◌*◌, ◌^◌, ◌<◌, ◌≤◌, true, List, [], ◌∷◌, length, map, refl, ◌∙◌, arith, length-append}
-use Rattle.law_texts.proofs.Words.{decimal, digit_value, join_with_byte, list_all, AllDigits, nat_tests, decimal_is_IsNumeral, length-decimal-le, Tree, number, Shape, is_other, hex_digits, hex_text, field_code, operand_text, operands, operands_text, shape, shown_operands, hex-numeral}
+use Rattle.std.proofs.Common.{◌≡◌, ℕ, ◌*◌, ◌^◌, ◌<◌, ◌≤◌, true, List, [], ◌∷◌, length, map, refl, arith, length-append, rules}
+use Rattle.law_texts.proofs.Words.{decimal, digit_value, join_with_byte, list_all, AllDigits, nat_tests, decimal_is_IsNumeral, length-decimal-le, Tree, number, Shape, is_other, hex_digits, field_code, operand_text, operands, operands_text, shape, shown_operands, hex-numeral}
 use Rattle.std.proofs.lemmas.List.Folds.{list_all-append}
 use Rattle.law_texts.proofs.OperandLists.{Each}
 use Rattle.law_texts.proofs.OperandTrees.{register, trees, each-shown, few}
@@ -29,16 +29,10 @@ hex-length : (x : ℕ) → length (hex_digits 16 x) ≡ 16
 unfolding hex_digits
 hex-length x = refl
 
-address-plain : (n : ℕ) → n < 2 ^ 64 → IsPlain (hex_text n) (number n)
-address-plain n lt =
-    let d : list_all is_other (hex_digits 16 n) ≡ true = digits-other 16 (hex_digits 16 n) (omega arith) (hex-numeral n lt).1 in
-    (rw d refl, omega (arith, hex-length n))
-
 joined-other : (ts : List (List ℕ)) (es : List Tree) → Each IsPlain ts es → list_all is_other (join_with_byte 44 ts) ≡ true
 joined-other [] [] are = refl
 joined-other (t ∷ []) (e ∷ es) are = are.0.0
-joined-other (t ∷ u ∷ ts) (e ∷ es) are =
-    list_all-append is_other t (44 ∷ join_with_byte 44 (u ∷ ts)) ∙ rw (are.0.0, joined-other (u ∷ ts) es are.1) refl
+joined-other (t ∷ u ∷ ts) (e ∷ es) are = grind (arith, list_all-append, joined-other (u ∷ ts) es are.1)
 joined-other ts es are = absurd are
 
 joined-length : (ts : List (List ℕ)) (es : List Tree) → Each IsPlain ts es → length (join_with_byte 44 ts) ≤ 22 * length es
@@ -49,7 +43,7 @@ joined-length ts es are = absurd are
 
 module _ (word pc : ℕ) where
   each-plain : (s : Shape) → Each IsPlain (map operand_text (operands s word pc)) (trees s word pc)
-  each-plain = each-shown IsPlain number-plain register-plain address-plain word pc
+  each-plain = search (rules, each-shown, number-plain, register-plain, digits-other, hex-numeral, hex-length)
 
   pub operands-other : list_all is_other (operands_text (shown_operands word pc)) ≡ true
   unfolding operands_text shown_operands

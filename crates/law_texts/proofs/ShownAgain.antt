@@ -1,6 +1,6 @@
 -- A text of an instruction is assembled to the tetra that it shows.
-use Rattle.std.proofs.Common.{◌≡◌, ◌↔◌, ℕ, ◌+◌, ◌%◌, ◌^◌, ◌<◌, ◌≤◌, Bool, true, false, not, Option, None, Some, Ok, refl, sym, ap, ◌∙◌, arith, subst, ⊎_elim, rules}
-use Rattle.law_texts.proofs.Words.{IsOk, opcode_kind, is_backward, is_immediate, operation_of, opcode_name, Code, Shape, Rel, Jump, Placed, Label, Answer, Known, no_targets, plain_tetra, relative_word, form, tetra_wyde, tetra_whole, StatementTree, known_at_place, with_tetra, encoding, IsRead, operation_with, field_code, field_x, field_yz, field_xyz, shape, target, lowest_code, shown_fields, IsShownPart, TargetStays, IsPlaceable}
+use Rattle.std.proofs.Common.{◌≡◌, ◌↔◌, ℕ, ◌+◌, ◌%◌, ◌^◌, ◌<◌, ◌≤◌, Bool, true, false, not, Option, None, Some, Ok, refl, sym, ap, ◌∙◌, arith, subst, rules}
+use Rattle.law_texts.proofs.Words.{IsOk, opcode_kind, is_backward, is_immediate, Code, Shape, Rel, Jump, Placed, Label, Answer, Known, no_targets, plain_tetra, relative_word, form, tetra_wyde, tetra_whole, StatementTree, known_at_place, with_tetra, encoding, IsRead, operation_with, field_code, field_x, field_yz, field_xyz, shape, target, lowest_code, shown_fields, IsShownPart, TargetStays, IsPlaceable}
 use Rattle.mx_ops.specs.declared.op.Op.{Op}
 use Rattle.mx_text.proofs.LowestCodes.{name-found}
 use Rattle.law_texts.proofs.Parts.{code-below}
@@ -45,20 +45,10 @@ module _ (k : Known) (line : ℕ) (label : Option Label) (word low : ℕ) where
       placed_as s ≡ with_tetra k line label (plain_tetra (word_by s word))
   plain-placed s plain fit round is = ap (with_tetra k line label) (plain-form k word k.at low s plain fit round is)
 
-  plain-again : (s : Shape) (placed : Placed) → is_relative s ≡ false → fits s immediate backward ≡ true → rounds_byte s immediate low ≡ true → code_by immediate backward low ≡ field_code word →
-      placed_as s ≡ Ok placed → Comes s placed
-  plain-again s placed h1 h2 h3 h4 h5 = search (rules, word-placed, word_by, plain-placed, no-target)
-
   -- each shape
   shape-again : (s : Shape) (placed : Placed) → fits s immediate backward ≡ true → rounds_byte s immediate low ≡ true → code_by immediate backward low ≡ field_code word →
       placed_as s ≡ Ok placed → Comes s placed
-  shape-again s placed fit round is ok =
-      ⊎_elim
-      (λ plain. plain-again s placed plain fit round is ok)
-      (⊎_elim
-      (λ same. subst (λ s. fits s immediate backward ≡ true → placed_as s ≡ Ok placed → Comes s placed) (sym same) (λ fit ok. branch-again placed fit is ok) fit ok)
-      (λ same. subst (λ s. fits s immediate backward ≡ true → placed_as s ≡ Ok placed → Comes s placed) (sym same) (λ fit ok. jump-again placed fit is ok) fit ok))
-      (by-relative s)
+  shape-again s placed fit round is ok = search (rules, branch-again, jump-again, by-relative, word-placed, plain-placed, no-target)
 
   shape-taken : (s : Shape) → fits s immediate backward ≡ true → rounds_byte s immediate low ≡ true → code_by immediate backward low ≡ field_code word →
       k.at + 4 ≤ highest → TargetStays s word k.at → IsOk (placed_as s)
@@ -74,15 +64,12 @@ module _ (word pc line : ℕ) (s : StatementTree) (k : Known) (lt : word < 2 ^ 3
   abbrev here : Known
   here = known_at_place 4 k
 
-  op-shown : s.op ≡ Code (lowest_code code)
-  op-shown = named (operation_of (opcode_name code)) (Code (lowest_code code)) s.op (name-found code (code-below word lt)) read.op_is
-
   at-here : here.at ≡ pc
   at-here = omega (arith, at, four, below)
 
   -- the statement is one of these operands at this place
   encoded : encoding no_targets k s ≡ with_tetra here s.line s.label (form no_targets here (shape code) (lowest_code code) (trees (shape code) word here.at))
-  encoded = search (rules, op-shown, one-shape, code-below, trees-shown, at-here)
+  encoded = search (rules, one-shape, code-below, trees-shown, at-here, name-found)
 
   comes : (placed : Placed) → encoding no_targets k s ≡ Ok placed → Comes here s.line s.label word (lowest_code code) (shape code) placed
   comes placed ok =

@@ -14,8 +14,8 @@ unfoldable pub use Rattle.mx_expr.specs.Reading.{steps}
 pub use Rattle.mx_expr.specs.Spelling.{Constant, Faultless, Spells, digits_value}
 pub use Rattle.mx_expr.specs.Tree.{Tree, number, unary}
 pub use Rattle.mx_expr.specs.declared.tree.UnOp.TheVariants.{Register}
-pub use Rattle.mx_line.specs.Cutting.{cuts_from}
-pub use Rattle.mx_line.specs.Statements.{IsField, Operands, Statement, StatementOf, begins, is_other}
+pub use Rattle.mx_line.specs.Cutting.{cuts_from, is_bad_local}
+pub use Rattle.mx_line.specs.Statements.{IsField, Operands, Operation, Statement, StatementOf, begins, is_other}
 pub use Rattle.mx_line.specs.declared.cutter.Cut.{Cut}
 pub use Rattle.mx_ops.specs.Opcodes.{is_backward, is_immediate, operation_of}
 unfoldable pub use Rattle.mx_ops.specs.Opcodes.{opcode_kind, opcode_kinds, opcode_name, opcode_names, opcode_rows}
@@ -26,7 +26,7 @@ pub use Rattle.mx_ops.specs.declared.op.Shape.TheVariants.{Free, Get, Jump, Mem,
 pub use Rattle.mx_stmt.specs.Encoding.{StatementTree, alignment, encoding, known_at_place, op_form, with_tetra}
 pub use Rattle.mx_stmt.specs.Forms.{backward_word, byte_form, form, form_by, forward_word, free_at, free_form, last_form, last_register, last_two, last_word, plain_tetra, relative_word, takes_byte, tetra_whole, tetra_wyde, tetra_xyz, whole_form, wyde_form}
 pub use Rattle.mx_stmt.specs.Operands.{Known, field_at, no_targets, register_at, register_or_byte, register_or_byte_at}
-pub use Rattle.mx_stmt.specs.Reading.{Fields, IsRead, fields_of, operation_with}
+pub use Rattle.mx_stmt.specs.Reading.{Fields, IsRead, fields_of, label_in, label_of, operation_with}
 pub use Rattle.mx_stmt.specs.Steps.{Answer, and_then}
 pub use Rattle.mx_stmt.specs.declared.placed.Placed.{Placed}
 pub use Rattle.mx_stmt.specs.declared.statement.Label.{Label}

@@ -1,5 +1,5 @@
 -- What was read of an operand, by what waits.
-use Rattle.std.proofs.Common.{◌≡◌, ℕ, ◌+◌, List, [], ◌∷◌, ◌++◌, refl, sym, ap, ◌∙◌, append_assoc, append-nil, subst}
+use Rattle.std.proofs.Common.{◌≡◌, ℕ, ◌+◌, List, [], ◌∷◌, ◌++◌, refl, sym, ap, ◌∙◌, append_assoc, append-nil, subst, rules, arith}
 use Rattle.mx_expr.proofs.Words.{UnOp, BinOp, Tree, unary, binary, with_strong, with_weak, Waiting, sign, strong, weak, parenthesis, Sign, StrongOperator, WeakOperator, Primary, Product, Sum, Operands, Before, enclosed, signed, primary, times, product, first}
 use Rattle.mx_expr.specs.Spelling.Sum.{plus as sum_plus}
 use Rattle.mx_expr.specs.Spelling.Before.{sign as before_sign, parenthesis as before_parenthesis, strong as before_strong, weak as before_weak}
@@ -126,14 +126,10 @@ weak-piece k op l part e (a_product p h) = h
 weak-piece k op l part e (a_sum v h) = absurd v
 
 strong-piece : (k : List Waiting) (op : BinOp) (l : Tree) (part : List ℕ) (e : Tree) → Piece (strong op l ∷ k) part e → Primary part e
-strong-piece k op l part e (a_primary h) = h
-strong-piece k op l part e (a_product p h) = absurd p
-strong-piece k op l part e (a_sum v h) = absurd v
+strong-piece k op l part e h = search rules
 
 sign-piece : (k : List Waiting) (op : UnOp) (part : List ℕ) (e : Tree) → Piece (sign op ∷ k) part e → Primary part e
-sign-piece k op part e (a_primary h) = h
-sign-piece k op part e (a_product p h) = absurd p
-sign-piece k op part e (a_sum v h) = absurd v
+sign-piece k op part e h = search rules
 
 pub closes : (k : List Waiting) (d : ℕ) (front part : List ℕ) (e : Tree) → Partial k d front → Piece k part e → Closed (front ++ part)
 closes [] d front part e h g =
@@ -175,10 +171,8 @@ partial-before text es o [] d part h =
     subst (λ n. Before n (text ++ part)) (sym h.0) (subst (Before 0) (sym (ap (λ t. text ++ t) h.1 ∙ append-nil text)) (first text es o))
 partial-before text es o (sign op ∷ k) d part h =
     subst (Before d) (append_assoc text h.front (h.b ∷ []) ∙ ap (λ t. text ++ t) (sym h.spelled)) (before_sign d (text ++ h.front) h.b op (partial-before text es o k d h.front h.before) h.operator)
-partial-before text es o (strong op l ∷ k) d part h =
-    subst (Before d) (append_assoc text h.front (h.part ++ h.word) ∙ ap (λ t. text ++ t) (sym h.spelled)) (before-product d (text ++ h.front) h.whole (partial-before text es o k d h.front h.before) h.word op h.operator)
-partial-before text es o (weak op l ∷ k) d part h =
-    subst (Before d) (append_assoc text h.front (h.part ++ h.b ∷ []) ∙ ap (λ t. text ++ t) (sym h.spelled)) (before-sum d (text ++ h.front) h.whole (partial-before text es o k d h.front h.before) h.b op h.operator)
+partial-before text es o (strong op l ∷ k) d part h = grind (arith, append_assoc, before-product, partial-before text es o k d h.front h.before)
+partial-before text es o (weak op l ∷ k) d part h = grind (arith, append_assoc, before-sum, partial-before text es o k d h.front h.before)
 partial-before text es o (parenthesis ∷ k) d part h =
     subst (λ n. Before n (text ++ part)) (sym h.deeper)
     (subst (Before (h.below + 1)) (append_assoc text h.front (40 ∷ []) ∙ ap (λ t. text ++ t) (sym h.spelled)) (before_parenthesis h.below (text ++ h.front) (partial-before text es o k h.below h.front h.before)))

@@ -1,5 +1,5 @@
 -- What was read up to a state, with one more byte.
-use Rattle.std.proofs.Common.{◌≡◌, ℕ, ◌+◌, ◌-◌, ◌*◌, List, [], ◌∷◌, ◌++◌, map, Bool, true, false, Ok, refl, sym, ap, ◌∙◌, arith, append_assoc, append-nil, subst, ◌==◌, ◌&&◌, rules}
+use Rattle.std.proofs.Common.{◌≡◌, ℕ, ◌+◌, ◌-◌, ◌*◌, List, [], ◌∷◌, ◌++◌, map, Bool, true, false, Ok, refl, sym, ap, ◌∙◌, arith, append_assoc, append-nil, subst, ◌==◌, rules}
 use Rattle.mx_expr.proofs.Words.{cond_both, list_all, BinOp, Div, Fraction, Left, Right, Tree, number, name, back, ahead, is_digit, is_hexadecimal, is_name_byte, is_no_quote, digit_value, Waiting, strong, Mode, operand, whole, digit, decimal, hash, hexadecimal, quote, character, symbol, slash, less, greater, string, closed, State, Read, primary_start, next_reading, in_string, start, and_then, digits_value, StrongOperator, Primary, Operand, div, fraction, left, right, constant, last_label, next_label, nat_tests, common_steps}
 use Rattle.mx_expr.specs.Spelling.Constant.{decimal as decimal_digits, hexadecimal as hexadecimal_digits}
 use Rattle.mx_expr.specs.Spelling.Primary.{character as spelled_character, symbol as spelled_symbol}
@@ -92,20 +92,7 @@ map-longer [] b = refl
 map-longer (x ∷ xs) b = ap (λ t. number x ∷ t) (map-longer xs b)
 
 string-good : (front text part : List ℕ) (es done : List Tree) (k : List Waiting) (d b : ℕ) (fresh : Bool) → Place front text (part ++ b ∷ []) es → At (string fresh) k d done es part → Good (in_string b k d done) front
-string-good front text part es done k d b fresh p h =
-    let P : Read → Type 0 = λ r. Good r front in
-    cond_both (b == 34) _ _ P
-    (λ t. holds front text (part ++ 34 ∷ []) es done closed k d (at-byte front text part es b 34 t p)
-    (record { nothing = h.nothing; shallow = h.shallow; bytes = h.bytes; all = h.all; listed = h.listed; shape = ap (λ x. x ++ 34 ∷ []) h.shape.0 }))
-    (λ f. holds front text (part ++ b ∷ []) es (done ++ number b ∷ []) (string false) k d p
-    (record {
-      nothing = h.nothing;
-      shallow = h.shallow;
-      bytes = h.bytes ++ b ∷ [];
-      all = all-longer is_no_quote h.bytes b h.all (no-quote b f);
-      listed = ap (λ x. x ++ number b ∷ []) h.listed ∙ append_assoc es (map number h.bytes) (number b ∷ []) ∙ ap (λ x. es ++ x) (sym (map-longer h.bytes b));
-      shape = (ap (λ x. x ++ b ∷ []) h.shape.0, not-empty h.bytes b);
-    }))
+string-good front text part es done k d b fresh p h = grind (arith, cond_both, at-byte, all-longer, no-quote, append_assoc, map-longer, not-empty)
 
 closed-good : (front text part : List ℕ) (es done : List Tree) (k : List Waiting) (d : ℕ) → Place front text (part ++ 44 ∷ []) es → At closed k d done es part → Holds (st operand k d done) front
 closed-good front text part es done k d p h =

@@ -1,5 +1,5 @@
 -- Where reading stops.
-use Rattle.std.proofs.Common.{◌≡◌, ℕ, ◌+◌, ◌-◌, ◌*◌, ◌^◌, ◌<◌, ◌≤◌, List, [], ◌∷◌, ◌++◌, true, false, Option, Some, None, Ok, Err, refl, sym, ap, ◌∙◌, arith, ⊎_elim, nat_le, fold, ◌⊎◌}
+use Rattle.std.proofs.Common.{◌≡◌, ℕ, ◌+◌, ◌*◌, ◌^◌, ◌<◌, ◌≤◌, List, [], ◌∷◌, ◌++◌, true, false, Option, Some, None, Ok, Err, refl, sym, ap, ◌∙◌, arith, ⊎_elim, nat_le, fold, ◌⊎◌}
 use Rattle.mx_expr.proofs.Words.{list_all, and_parts, le-leb, cases_lt, nat_tests, ExprFault, TooWide, Tree, is_digit, is_hexadecimal, digit_value, Waiting, decimal, hexadecimal, State, Read, step, steps, within, and_then}
 use Rattle.mx_expr.proofs.Moves.{st, move, moves, and-then-then, and-then-same}
 

@@ -1,5 +1,5 @@
 -- Operand fields: what the rules spell is what is measured, and what is measured is spelled so.
-use Rattle.std.proofs.Common.{◌≡◌, ℕ, suc, ◌+◌, List, [], ◌∷◌, ◌++◌, length, Bool, true, false, cond, not, Result, Ok, Err, refl, sym, ap, ◌∙◌, arith, subst, append_assoc, length-append, inl, inr, ◌==◌, ◌||◌}
+use Rattle.std.proofs.Common.{◌≡◌, ℕ, suc, ◌+◌, List, [], ◌∷◌, ◌++◌, length, Bool, true, false, cond, not, Result, Ok, Err, refl, sym, ap, ◌∙◌, arith, subst, append_assoc, length-append, inl, inr, ◌==◌, ◌||◌, rules}
 use Rattle.mx_line.proofs.Words.{cond_both, and_parts, list_all, eqb_tells, LineFault, TooLong, BadLabel, BadLocal, BadOpcode, OpenString, OpenChar, NoOpcode, Within, field_from, field_length, more, ends_field, ends_here, nothing, string, constant, closing, begins, is_no_quote, is_other, IsField, closes}
 use Rattle.mx_line.specs.Statements.IsField.{empty, string_first, constant_first, byte_first}
 use Rattle.mx_line.proofs.FieldLemmas.{more-more}
@@ -9,22 +9,14 @@ use Rattle.mx_word.proofs.Comparisons.{same-number as is-eq}
 not-at : (n b : ℕ) (test : ℕ → Bool) → test n ≡ false → test b ≡ true → (b == n) ≡ false
 not-at n b test h k = elim (eqb_tells b n) [ inl (t, e) ↦ (let same = ap test e in absurd (cc)) | inr (f, e) ↦ f ]
 
-zero-more : (r : Result ℕ LineFault) → more 0 r ≡ r
-zero-more (Ok n) = let e : 0 + n ≡ n = omega arith in ap (λ m. Ok m) e
-zero-more (Err f) = refl
-
 passed : {X : Type 0} (t : Bool) (x y : X) → not t ≡ true → cond t x y ≡ y
-passed true x y h = absurd (cc)
-passed false x y h = refl
+passed t x y h = search rules
 
 -- What the rules spell is measured, whatever follows it.
 quoted : (inner rest : List ℕ) → list_all is_no_quote inner ≡ true → field_from string (inner ++ 34 ∷ rest) ≡ more (length inner + 1) (field_from nothing rest)
 unfolding field_from
 quoted [] rest h = refl
-quoted (b ∷ bs) rest h =
-    let both = and_parts (is_no_quote b) (list_all is_no_quote bs) h in
-    let e : 1 + (length bs + 1) ≡ suc (length bs) + 1 = omega arith in
-    passed (b == 34) _ _ both.0 ∙ ap (more 1) (quoted bs rest both.1) ∙ more-more 1 (length bs + 1) (field_from nothing rest) ∙ ap (λ n. more n (field_from nothing rest)) e
+quoted (b ∷ bs) rest h = grind (arith, and_parts, more-more, quoted bs rest)
 
 unquoted : (inner : List ℕ) → list_all is_no_quote inner ≡ true → field_from string inner ≡ Err OpenString
 unfolding field_from
@@ -32,33 +24,25 @@ unquoted [] h = refl
 unquoted (b ∷ bs) h = let both = and_parts (is_no_quote b) (list_all is_no_quote bs) h in passed (b == 34) _ _ both.0 ∙ ap (more 1) (unquoted bs both.1)
 
 none-of : (x y z : Bool) → not (x || y || z) ≡ true → (x ≡ false) × (y ≡ false) × (z ≡ false)
-none-of false false false h = (refl, refl, refl)
-none-of x y z h = absurd (cc)
-
-other-byte : (b : ℕ) (rest : List ℕ) → is_other b ≡ true → field_length (b ∷ rest) ≡ more 1 (field_length rest)
-unfolding field_from
-other-byte b rest h = let none = none-of (b == 34) (b == 39) (ends_field b) h in rw (none.0, none.1, none.2) refl
+none-of x y z h = search rules
 
 one-more : (n : ℕ) (r : Result ℕ LineFault) → more 1 (more n r) ≡ more (suc n) r
 one-more n r = let e : 1 + n ≡ suc n = omega arith in more-more 1 n r ∙ ap (λ m. more m r) e
 
 pub measured : (front : List ℕ) → IsField front → (rest : List ℕ) → field_length (front ++ rest) ≡ more (length front) (field_length rest)
 unfolding field_from
-measured [] empty rest = sym (zero-more (field_length rest))
+measured [] empty rest = search rules
 measured _ (string_first inner after h f) rest =
     let lengths : suc (length inner + 1 + length after) ≡ suc (length (inner ++ 34 ∷ after)) = omega (arith, length-append inner (34 ∷ after)) in
     ap (λ t. more 1 (field_from string t)) (append_assoc inner (34 ∷ after) rest) ∙ ap (more 1) (quoted inner (after ++ rest) h)
     ∙ ap (λ r. more 1 (more (length inner + 1) r)) (measured after f rest) ∙ ap (more 1) (more-more (length inner + 1) (length after) (field_length rest))
     ∙ one-more (length inner + 1 + length after) (field_length rest) ∙ ap (λ n. more n (field_length rest)) lengths
-measured _ (constant_first b after f) rest =
-    ap (λ r. more 1 (more 1 (more 1 r))) (measured after f rest) ∙ ap (λ r. more 1 (more 1 r)) (one-more (length after) (field_length rest))
-    ∙ ap (more 1) (one-more (suc (length after)) (field_length rest)) ∙ one-more (suc (suc (length after))) (field_length rest)
-measured _ (byte_first b after h f) rest = other-byte b (after ++ rest) h ∙ ap (more 1) (measured after f rest) ∙ one-more (length after) (field_length rest)
+measured _ (constant_first b after f) rest = simp (one-more, measured after f rest)
+measured _ (byte_first b after h f) rest = search (rules, one-more, measured after f rest)
 
 pub ended : (rest : List ℕ) → ends_here rest ≡ true → field_length rest ≡ Ok 0
 unfolding field_from
-ended [] h = refl
-ended (b ∷ bs) h = rw ((not-at 34 b ends_field refl h), (not-at 39 b ends_field refl h), h) refl
+ended rest h = search rules
 
 pub whole-field : (front rest : List ℕ) → IsField front → ends_here rest ≡ true → field_length (front ++ rest) ≡ Ok (length front)
 whole-field front rest f h =
@@ -71,8 +55,7 @@ open-string front inner f h = measured front f (34 ∷ inner) ∙ ap (λ r. more
 
 unclosed : (after : List ℕ) → closes after ≡ false → field_from constant after ≡ Err OpenChar
 unfolding field_from
-unclosed (b ∷ c ∷ bs) h = ap (λ t. more 1 (cond t (more 1 (field_from nothing bs)) (Err OpenChar))) h
-unclosed after h = refl
+unclosed after h = search rules
 
 pub open-char : (front after : List ℕ) → IsField front → closes after ≡ false → field_length (front ++ 39 ∷ after) ≡ Err OpenChar
 unfolding field_from
@@ -169,8 +152,7 @@ string-goes b bs n h =
     (λ e f. inside refl (free-more b bs n f)) (λ e f. absurd (cc)) (λ e f. absurd (cc)) (field_from string bs) h
 
 unclosed-byte : (b : ℕ) (bs : List ℕ) → begins (λ c. c == 39) bs ≡ false → closes (b ∷ bs) ≡ false
-unclosed-byte b [] h = refl
-unclosed-byte b (c ∷ cs) h = h
+unclosed-byte b bs h = cc
 
 constant-goes : (b : ℕ) (bs : List ℕ) → Spelled closing bs (field_from closing bs) → Spelled constant (b ∷ bs) (more 1 (field_from closing bs))
 constant-goes b bs h =
@@ -193,12 +175,6 @@ spelled-is nothing (b ∷ bs) =
     cond_both (b == 39) _ _ P (λ f. subst (λ c. Spelled nothing (c ∷ bs) (more 1 (field_from constant bs))) (sym (is-eq b 39 f)) (from-apostrophe bs (spelled-is constant bs))) (λ f.
     cond_both (ends_field b) _ _ P (λ g. record { bytes = []; after = b ∷ bs; spelled = refl; counted = refl; left = empty; ends = g })
     (λ g. from-byte b bs (rw (e, f, g) refl) (spelled-is nothing bs))))
-spelled-is string (b ∷ bs) =
-    let P : Result ℕ LineFault → Type 0 = Spelled string (b ∷ bs) in
-    cond_both (b == 34) _ _ P (λ e. subst (λ c. Spelled string (c ∷ bs) (more 1 (field_from nothing bs))) (sym (is-eq b 34 e)) (string-ends bs (spelled-is nothing bs)))
-    (λ e. string-goes b bs e (spelled-is string bs))
+spelled-is string (b ∷ bs) = grind (arith, cond_both, is-eq, string-ends, string-goes, spelled-is nothing bs, spelled-is string bs)
 spelled-is constant (b ∷ bs) = constant-goes b bs (spelled-is closing bs)
-spelled-is closing (b ∷ bs) =
-    let P : Result ℕ LineFault → Type 0 = Spelled closing (b ∷ bs) in
-    cond_both (b == 39) _ _ P (λ e. subst (λ c. Spelled closing (c ∷ bs) (more 1 (field_from nothing bs))) (sym (is-eq b 39 e)) (constant-ends bs (spelled-is nothing bs)))
-    (λ e. at_close refl e)
+spelled-is closing (b ∷ bs) = grind (arith, cond_both, is-eq, constant-ends, spelled-is nothing bs)

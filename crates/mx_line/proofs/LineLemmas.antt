@@ -1,26 +1,16 @@
 -- The lines of a source, line by line.
-use Rattle.std.proofs.Common.{◌≡◌, ℕ, ◌+◌, ◌<◌, List, [], ◌∷◌, length, Bool, true, false, cond, refl, ap, ◌∙◌, arith, ◌++◌, take, take_at, append_assoc, sum_by, ◌==◌}
-use Rattle.mx_line.proofs.Words.{length_push, lines_of, without_empty_last, size_up_to, onto_first, slice_split, split}
+use Rattle.std.proofs.Common.{◌≡◌, ℕ, ◌+◌, ◌<◌, List, [], ◌∷◌, length, refl, ap, ◌∙◌, arith, ◌++◌, take, take_at, append_assoc, sum_by, rules}
+use Rattle.mx_line.proofs.Words.{length_push, lines_of, without_empty_last, size_up_to, split}
 use Rattle.std.proofs.lemmas.List.Sums.{sum_by-append}
 
 pub no-lines : lines_of [] ≡ []
 unfolding lines_of split
 no-lines = refl
 
-onto-before : (line : List ℕ) (b : ℕ) (pieces : List (List ℕ)) → without_empty_last (line ∷ onto_first b pieces) ≡ line ∷ without_empty_last (onto_first b pieces)
-onto-before [] b [] = refl
-onto-before [] b (p ∷ ps) = refl
-onto-before (x ∷ xs) b [] = refl
-onto-before (x ∷ xs) b (p ∷ ps) = refl
-
-more-before : (t : Bool) (line : List ℕ) (b : ℕ) (pieces : List (List ℕ)) → without_empty_last (line ∷ cond t ([] ∷ pieces) (onto_first b pieces)) ≡ line ∷ without_empty_last (cond t ([] ∷ pieces) (onto_first b pieces))
-more-before false line b pieces = onto-before line b pieces
-more-before true line b pieces = refl
-
 -- a line before another piece
 before : (line rest : List ℕ) → without_empty_last (line ∷ split 10 rest) ≡ line ∷ without_empty_last (split 10 rest)
 unfolding split
-before line (b ∷ bs) = more-before (b == 10) line b (slice_split (λ x. x == 10) bs)
+before line (b ∷ bs) = search rules
 before line [] = refl
 
 pub first-line : (text line rest : List ℕ) → split 10 text ≡ line ∷ split 10 rest → lines_of text ≡ line ∷ lines_of rest
@@ -28,8 +18,7 @@ unfolding lines_of
 first-line text line rest h = rw h (before line rest)
 
 last : (line : List ℕ) → 0 < length line → without_empty_last (line ∷ []) ≡ line ∷ []
-last [] h = absurd (omega arith)
-last (b ∷ bs) h = refl
+last line h = search rules
 
 pub last-line : (text line : List ℕ) → split 10 text ≡ line ∷ [] → 0 < length line → lines_of text ≡ line ∷ lines_of []
 unfolding lines_of split

@@ -1,6 +1,6 @@
 -- The statements of a line are one list.
 use Rattle.std.proofs.Common.{◌≡◌, ℕ, zero, suc, ◌+◌, ◌-◌, ◌<◌, ◌≤◌, List, ◌∷◌, length, Some, None, Result, Ok, Err, sym, ap, ◌∙◌, arith, subst}
-use Rattle.mx_line.proofs.Words.{LineFault, Cut, statement_of, list_with, cuts_within, cuts_from, CutInOrder, Found, StatementOf, Statements}
+use Rattle.mx_line.proofs.Words.{LineFault, Cut, list_with, cuts_within, cuts_from, CutInOrder, Found, StatementOf, Statements}
 use Rattle.mx_line.specs.Statements.Statements.{none, fault, next}
 use Rattle.mx_line.proofs.StatementLemmas.{past-label, statement-order, list-is}
 use Rattle.mx_line.proofs.RuleLaws.{statement_of-is, statement_of-only}
@@ -14,8 +14,7 @@ listed-is line place f h (Ok (Some cut)) s o = let after = past-label place cut.
 within-is : (most : ℕ) (line : List ℕ) (place : ℕ) → length line < most + place → place ≤ length line → Statements line place (cuts_within most line place)
 unfolding cuts_within
 within-is zero line place h l = absurd (omega arith)
-within-is (suc most) line place h l =
-    listed-is line place (cuts_within most line) (λ p a b. within-is most line p (omega arith) b) (statement_of line place) (statement_of-is line place) (statement-order line place l)
+within-is (suc most) line place h l = grind (arith, listed-is, statement_of-is, statement-order, within-is most line)
 
 -- the list that is made is by the rules
 pub list-by-rules : (line : List ℕ) (place : ℕ) → place ≤ length line → Statements line place (cuts_from line place)

@@ -1,5 +1,5 @@
 -- A text cut at the first byte of a kind.
-use Rattle.std.proofs.Common.{◌≡◌, ℕ, ◌+◌, ◌-◌, ◌<◌, List, [], ◌∷◌, length, take, drop, Bool, true, false, cond, arith, refl, sym, ap, None, not, ◌==◌}
+use Rattle.std.proofs.Common.{◌≡◌, ℕ, ◌+◌, ◌-◌, ◌<◌, List, [], ◌∷◌, length, take, drop, Bool, cond, arith, refl, sym, None, not, ◌==◌, rules}
 use Rattle.mx_line.proofs.Words.{position, position_or_len, onto_first, slice_split, length-prefix_len, split}
 use Rattle.std.proofs.lemmas.List.Splits.{slice_split_first}
 use Rattle.std.proofs.lemmas.Grind.{common_steps}
@@ -20,8 +20,7 @@ first-cut at xs n e l =
 
 last-step : (t : Bool) (at b n : ℕ) (bs : List ℕ) → (n ≡ length bs → slice_split (λ x. x == at) bs ≡ bs ∷ []) → 1 + length bs ≡ cond (not t) (1 + n) 0 →
     cond t ([] ∷ slice_split (λ x. x == at) bs) (onto_first b (slice_split (λ x. x == at) bs)) ≡ (b ∷ bs) ∷ []
-last-step true at b n bs h l = absurd (omega arith)
-last-step false at b n bs h l = ap (onto_first b) (h (omega arith))
+last-step t at b n bs h l = search rules
 
 -- a text with no such byte is its only piece
 pub only-piece : (at : ℕ) (xs : List ℕ) → length xs ≡ position_or_len (λ x. x == at) xs → split at xs ≡ xs ∷ []

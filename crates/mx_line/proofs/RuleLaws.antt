@@ -1,5 +1,5 @@
 -- What stands at a place by the rules of statements is what is cut there, and nothing else is.
-use Rattle.std.proofs.Common.{◌≡◌, ℕ, zero, suc, ◌+◌, ◌<◌, List, [], ◌∷◌, ◌++◌, length, drop, Bool, true, false, cond, Option, Some, None, Result, Ok, Err, refl, sym, ap, ◌∙◌, arith, subst, length-append, drop_at, ◌==◌, ◌&&◌, nat_lt}
+use Rattle.std.proofs.Common.{◌≡◌, ℕ, zero, suc, ◌+◌, ◌<◌, List, [], ◌∷◌, ◌++◌, length, drop, Bool, true, false, cond, Option, Some, None, Result, Ok, Err, refl, sym, ap, ◌∙◌, arith, subst, length-append, drop_at, ◌==◌, ◌&&◌, nat_lt, rules}
 use Rattle.mx_line.proofs.Words.{cond_both, and_parts, eqb-true, eq-eqb, nat_tests, Span, LineFault, TooLong, BadLabel, BadLocal, BadOpcode, OpenString, OpenChar, is_blank, is_name_byte, run, past, field_length, ends_here, nothing, span, next_from, next_after, with_field, operands_at, no_opcode, opcode_at, operation_at, ends_label, is_bad_local, labelled_at, statement_at, is_too_long, statement_of, Found, begins, Run, Next, Operands, Operation, Statement, StatementOf}
 use Rattle.mx_line.proofs.RunLaws.{run-is, run-only, past-only}
 use Rattle.mx_line.proofs.StatementLemmas.{some-run}
@@ -70,10 +70,7 @@ statement-is place (b ∷ bs) =
     cond_both (is_blank b) _ _ (Statement place (b ∷ bs)) (λ k. unlabelled _ w k (operation-is None place (b ∷ bs))) (λ k. comment w k))
 
 long-true : (line : List ℕ) (place : ℕ) → is_too_long line place ≡ true → (place ≡ 0) × (4096 < length line)
-long-true line place h = let both = and_parts (place == 0) (nat_lt 4096 (length line)) h in (eqb-true place 0 both.0, long both.1)
-  where
-    long : nat_lt 4096 (length line) ≡ true → 4096 < length line
-    long t = grind (arith, nat_tests)
+long-true line place h = search rules
 
 -- at the front of a line, and further on
 placed : (line : List ℕ) (place : ℕ) → is_too_long line place ≡ false → StatementOf line place (statement_at place (drop place line))
@@ -87,23 +84,17 @@ statement_of-is line place =
 
 -- Nothing else is cut.
 next-after-gap : (place : ℕ) (text gap rest : List ℕ) → Run is_blank text gap rest → next_after place text ≡ next_from place gap rest
-next-after-gap place text gap rest r =
-    ap (λ g. next_from place g (past is_blank text)) (run-only is_blank text gap rest r) ∙ ap (next_from place gap) (past-only is_blank text gap rest r)
+next-after-gap place text gap rest r = grind (arith, run-only, past-only)
 
 next-none : (place : ℕ) (text gap rest : List ℕ) → text ≡ gap ++ rest → begins (λ b. b == 59) rest ≡ false → next_from place gap rest ≡ place + length text
-next-none place text gap [] e h = omega (arith, ap length e, length-append gap [])
-next-none place text gap (b ∷ bs) e h =
-    let same : place + length gap + length (b ∷ bs) ≡ place + length text = omega (arith, ap length e, length-append gap (b ∷ bs)) in
-    ap (λ t. cond t (place + length gap + 1) (place + length gap + length (b ∷ bs))) h ∙ same
+next-none place text gap rest e h = grind (arith, length-append)
 
 next-only : (place : ℕ) (text : List ℕ) (next : ℕ) → Next place text next → next_after place text ≡ next
 next-only place text _ (another gap rest r) = next-after-gap place text gap (59 ∷ rest) r
 next-only place text _ (nothing_more gap rest r h) = next-after-gap place text gap rest r ∙ next-none place text gap rest r.spelled h
 
 operands-after-gap : (label : Option Span) (op : Span) (place : ℕ) (text gap rest : List ℕ) → Run is_blank text gap rest → operands_at label op place text ≡ with_field label op (place + length gap) rest (field_length rest)
-operands-after-gap label op place text gap rest r =
-    ap (λ g. with_field label op (place + length g) (past is_blank text) (field_length (past is_blank text))) (run-only is_blank text gap rest r)
-    ∙ ap (λ t. with_field label op (place + length gap) t (field_length t)) (past-only is_blank text gap rest r)
+operands-after-gap label op place text gap rest r = grind (arith, run-only, past-only)
 
 operands-only : (label : Option Span) (op : Span) (place : ℕ) (text : List ℕ) (found : Found) → Operands label op place text found → operands_at label op place text ≡ found
 operands-only label op place text _ (field gap rest operands after next r e f h n) =
@@ -118,11 +109,7 @@ operands-only label op place text _ (open_char gap rest front after r e f h) =
     operands-after-gap label op place text gap rest r ∙ ap (with_field label op (place + length gap) rest) (ap field_length e ∙ open-char front after f h)
 
 operation-after-gap : (label : Option Span) (place : ℕ) (text gap rest op after : List ℕ) → Run is_blank text gap rest → Run is_name_byte rest op after → operation_at label place text ≡ opcode_at label (place + length gap) op after
-operation-after-gap label place text gap rest op after r q =
-    ap (λ g. opcode_at label (place + length g) (run is_name_byte (past is_blank text)) (past is_name_byte (past is_blank text))) (run-only is_blank text gap rest r)
-    ∙ ap (λ t. opcode_at label (place + length gap) (run is_name_byte t) (past is_name_byte t)) (past-only is_blank text gap rest r)
-    ∙ ap (λ o. opcode_at label (place + length gap) o (past is_name_byte rest)) (run-only is_name_byte rest op after q)
-    ∙ ap (opcode_at label (place + length gap) op) (past-only is_name_byte rest op after q)
+operation-after-gap label place text gap rest op after r q = grind (arith, run-only, past-only)
 
 -- without a letter or digit there is an empty opcode
 empty-run : (kind : ℕ → Bool) (text : List ℕ) → begins kind text ≡ false → Run kind text [] text
@@ -130,8 +117,7 @@ empty-run kind text h = record { spelled = refl; all = refl; ends = h }
 
 opcode-chosen : (label : Option Span) (place : ℕ) (op after : List ℕ) (t : Bool) → 0 < length op → ends_here after ≡ t →
     opcode_at label place op after ≡ cond t (operands_at label (span place op) (place + length op) after) (Err BadOpcode)
-opcode-chosen label place [] after t l e = absurd (omega arith)
-opcode-chosen label place (b ∷ bs) after t l e = ap (λ t. cond t (operands_at label (span place (b ∷ bs)) (place + length (b ∷ bs)) after) (Err BadOpcode)) e
+opcode-chosen label place op after t l e = search rules
 
 operation-only : (label : Option Span) (place : ℕ) (text : List ℕ) (found : Found) → Operation label place text found → operation_at label place text ≡ found
 operation-only label place text found (named gap rest op after _ r q l e h) =
@@ -143,34 +129,22 @@ operation-only label place text _ (only_blanks gap rest r h e) =
 operation-only label place text _ (only_label gap rest before r h e) =
     operation-after-gap label place text gap rest [] rest r (empty-run is_name_byte rest h) ∙ ap no_opcode e
 
--- a text that begins with a label
-word-first : (text label rest : List ℕ) → Run is_name_byte text label rest → 0 < length label → begins is_name_byte text ≡ true
-word-first text [] rest r l = absurd (omega arith)
-word-first text (b ∷ bs) rest r l = ap (begins is_name_byte) r.spelled ∙ (and_parts (is_name_byte b) _ r.all).0
-
 at-label : (place : ℕ) (text : List ℕ) → begins is_name_byte text ≡ true → statement_at place text ≡ labelled_at place (run is_name_byte text) (past is_name_byte text)
-at-label place [] h = absurd (cc)
-at-label place (b ∷ bs) h = rw h refl
+at-label place text h = search rules
 
 statement-after-label : (place : ℕ) (text label rest : List ℕ) → Run is_name_byte text label rest → 0 < length label → statement_at place text ≡ labelled_at place label rest
-statement-after-label place text label rest r l =
-    at-label place text (word-first text label rest r l) ∙ ap (λ w. labelled_at place w (past is_name_byte text)) (run-only is_name_byte text label rest r) ∙ ap (labelled_at place label) (past-only is_name_byte text label rest r)
+statement-after-label place text label rest r l = search (rules, at-label, run-only, past-only, and_parts)
 
 label-chosen : (place : ℕ) (label rest : List ℕ) (s t : Bool) → is_bad_local label ≡ s → ends_label rest ≡ t →
     labelled_at place label rest ≡ cond s (Err BadLocal) (cond t (operation_at (Some (span place label)) (place + length label) rest) (Err BadLabel))
 label-chosen place label rest s t e f = rw (e, f) refl
 
-no-label : (place : ℕ) (text : List ℕ) → begins is_name_byte text ≡ false → begins is_blank text ≡ true → statement_at place text ≡ operation_at None place text
-no-label place [] w k = absurd (cc)
-no-label place (b ∷ bs) w k = rw (w, k) refl
-
 no-statement : (place : ℕ) (text : List ℕ) → begins is_name_byte text ≡ false → begins is_blank text ≡ false → statement_at place text ≡ Ok None
-no-statement place [] w k = refl
-no-statement place (b ∷ bs) w k = rw (w, k) refl
+no-statement place text w k = search rules
 
 statement-only : (place : ℕ) (text : List ℕ) (found : Found) → Statement place text found → statement_at place text ≡ found
 statement-only place text _ (comment w k) = no-statement place text w k
-statement-only place text found (unlabelled _ w k h) = no-label place text w k ∙ operation-only None place text _ h
+statement-only place text found (unlabelled _ w k h) = search (rules, operation-only)
 statement-only place text found (labelled label rest _ r l b e h) =
     statement-after-label place text label rest r l ∙ label-chosen place label rest false true b e ∙ operation-only (Some (span place label)) (place + length label) rest _ h
 statement-only place text _ (bad_local label rest r l b) = statement-after-label place text label rest r l ∙ label-chosen place label rest true (ends_label rest) b refl

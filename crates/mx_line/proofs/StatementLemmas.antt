@@ -1,40 +1,22 @@
 -- The statements of a line, one after another.
-use Rattle.std.proofs.Common.{◌≡◌, ℕ, suc, ◌+◌, ◌-◌, ◌<◌, ◌≤◌, List, [], ◌∷◌, length, drop, Bool, true, Option, Some, None, Result, Ok, Err, IfOk, arith, refl, ap, length-drop, ◌==◌}
-use Rattle.mx_line.proofs.Words.{cond_both, Span, LineFault, Cut, is_blank, is_name_byte, run, past, ends_here, field_length, span, next_from, with_field, operands_at, no_opcode, opcode_at, operation_at, ends_label, is_bad_local, labelled_at, statement_at, is_too_long, statement_of, list_with, cuts_within, cuts_from, LabelBefore, CutInOrder}
+use Rattle.std.proofs.Common.{◌≡◌, ℕ, suc, ◌+◌, ◌-◌, ◌<◌, ◌≤◌, List, [], ◌∷◌, length, Bool, true, Option, Some, None, Result, IfOk, arith, length-drop, rules}
+use Rattle.mx_line.proofs.Words.{cond_both, Span, LineFault, Cut, is_blank, is_name_byte, run, past, with_field, no_opcode, opcode_at, operation_at, ends_label, labelled_at, statement_at, statement_of, list_with, cuts_within, cuts_from, LabelBefore, CutInOrder}
 use Rattle.mx_line.proofs.KindLemmas.{run-whole, run-length}
 use Rattle.mx_line.proofs.FieldLemmas.{field_length-few}
 
-next-few : (place : ℕ) (gap rest : List ℕ) → (place ≤ next_from place gap rest) × (next_from place gap rest ≤ place + length gap + length rest)
-next-few place gap [] = (omega arith, omega arith)
-next-few place gap (b ∷ bs) =
-    cond_both (b == 59) _ _ (λ n. (place ≤ n) × (n ≤ place + length gap + length (b ∷ bs))) (λ _. (omega arith, omega arith)) (λ _. (omega arith, omega arith))
-
 with-order : (start end place : ℕ) (label : Option Span) (op : Span) (text : List ℕ) → LabelBefore start label op.from → op.from < op.to → op.to ≤ place → place + length text ≡ end →
     (r : Result ℕ LineFault) → IfOk r (λ n. n ≤ length text) → CutInOrder start end (with_field label op place text r)
-with-order start end place label op text l o g e (Err f) h = tt
-with-order start end place label op text l o g e (Ok n) h =
-    let few = next-few (place + n) (run is_blank (drop n text)) (past is_blank (drop n text)) in
-    record { label = l; op = o; gap = g; operands = omega arith; next = few.0; within = omega (arith, few.1, run-whole is_blank (drop n text), length-drop n text) }
-
-operands-order : (start end place : ℕ) (label : Option Span) (op : Span) (text : List ℕ) → LabelBefore start label op.from → op.from < op.to → op.to ≤ place → place + length text ≡ end →
-    CutInOrder start end (operands_at label op place text)
-operands-order start end place label op text l o g e =
-    with-order start end (place + length (run is_blank text)) label op (past is_blank text) l o (omega arith) (omega (arith, run-whole is_blank text)) (field_length (past is_blank text)) (field_length-few (past is_blank text))
+with-order start end place label op text l o g e r h = search (rules, run-whole, length-drop)
 
 none-order : (start end : ℕ) (label : Option Span) → CutInOrder start end (no_opcode label)
-none-order start end None = tt
-none-order start end (Some s) = tt
+none-order start end label = search rules
 
 opcode-order : (start end place : ℕ) (label : Option Span) (op rest : List ℕ) → LabelBefore start label place → place + length op + length rest ≡ end → CutInOrder start end (opcode_at label place op rest)
-opcode-order start end place label [] rest l e = none-order start end label
-opcode-order start end place label (b ∷ bs) rest l e =
-    cond_both (ends_here rest) _ _ (CutInOrder start end) (λ _. operands-order start end (place + length (b ∷ bs)) label (span place (b ∷ bs)) rest l (omega arith) (omega arith) (omega arith)) (λ _. tt)
+opcode-order start end place label op rest l e = search (rules, none-order, cond_both, with-order, run-whole, field_length-few)
 
 operation-order : (start end place : ℕ) (label : Option Span) (text : List ℕ) → ((n : ℕ) → n ≡ place + length (run is_blank text) → LabelBefore start label n) → place + length text ≡ end →
     CutInOrder start end (operation_at label place text)
-operation-order start end place label text l e =
-    opcode-order start end (place + length (run is_blank text)) label (run is_name_byte (past is_blank text)) (past is_name_byte (past is_blank text)) (l _ refl)
-    (omega (arith, run-whole is_blank text, run-whole is_name_byte (past is_blank text)))
+operation-order start end place label text l e = grind (arith, opcode-order, run-whole)
 
 -- a text that begins with a byte of a kind has a run of it
 pub some-run : (kind : ℕ → Bool) (b : ℕ) (bs : List ℕ) → kind b ≡ true → 0 < length (run kind (b ∷ bs))
@@ -46,9 +28,7 @@ after-order start end place label [] f o t e h = tt
 after-order start end place label (b ∷ bs) f o t e h = let some = some-run is_blank b bs h in operation-order start end place (Some label) (b ∷ bs) (λ n k. (f, o, omega arith)) e
 
 labelled-order : (start end : ℕ) (label rest : List ℕ) → 0 < length label → start + length label + length rest ≡ end → CutInOrder start end (labelled_at start label rest)
-labelled-order start end label rest s e =
-    cond_both (is_bad_local label) _ _ (CutInOrder start end) (λ _. tt) (λ _.
-    cond_both (ends_label rest) _ _ (CutInOrder start end) (λ h. after-order start end (start + length label) (span start label) rest refl (omega arith) refl e h) (λ _. tt))
+labelled-order start end label rest s e = grind (arith, cond_both, after-order)
 
 statement_at-order : (start end : ℕ) (text : List ℕ) → start + length text ≡ end → CutInOrder start end (statement_at start text)
 statement_at-order start end [] e = tt
@@ -58,17 +38,14 @@ statement_at-order start end (b ∷ bs) e =
 
 pub statement-order : (line : List ℕ) (place : ℕ) → place ≤ length line → CutInOrder place (length line) (statement_of line place)
 unfolding statement_of
-statement-order line place h =
-    cond_both (is_too_long line place) _ _ (CutInOrder place (length line)) (λ _. tt) (λ _. statement_at-order place (length line) (drop place line) (omega (arith, length-drop place line)))
+statement-order line place h = grind (arith, cond_both, statement_at-order, length-drop)
 
 pub past-label : (place : ℕ) (label : Option Span) (op : ℕ) → LabelBefore place label op → place < op
-past-label place None op h = h
-past-label place (Some s) op (a, b, d) = omega arith
+past-label place label op h = search rules
 
 -- what is listed rests on what stands later
 same-later : (place end : ℕ) (f g : ℕ → List (Result Cut LineFault)) → ((p : ℕ) → place < p → p ≤ end → f p ≡ g p) → (r : Result (Option Cut) LineFault) → CutInOrder place end r → list_with f r ≡ list_with g r
-same-later place end f g h (Ok (Some cut)) o = let after = past-label place cut.label cut.op.from o.label in ap (λ l. Ok cut ∷ l) (h cut.next (omega arith) o.within)
-same-later place end f g h r o = refl
+same-later place end f g h r o = search rules
 
 -- More turns than the line has bytes left change nothing.
 same-list : (line : List ℕ) (m n place : ℕ) → length line < m + place → length line < n + place → place ≤ length line → cuts_within m line place ≡ cuts_within n line place

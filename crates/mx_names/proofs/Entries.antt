@@ -1,13 +1,9 @@
 -- What the entries of the map say as a list of symbols.
 use Rattle.std.proofs.Common.{ℕ, ◌+◌, ◌≡◌, Bool, true, false, cond, List, [], ◌∷◌, map, length, Option, Some, None, is_some, Ordering, refl, sym, ◌∙◌, ap, arith, bytes_eq, rules}
-use Rattle.mx_names.proofs.Words.{option_map, lookup, keys_of, is_at, insert_entry, nat_cmp, is_lt, is_eq, match_ordering, Less, Equal, Greater, slice_cmp, AllByRecursion, is_eq-slice_cmp, bytes_eq-Decides, InByteOrder, IsNamed, Value, Symbol, Wait, IsFullName, value_in, symbols_with, first_value, value_of_name, with_symbol, NameTable, Naming, symbol_of, IsInRange}
+use Rattle.mx_names.proofs.Words.{option_map, lookup, keys_of, is_at, insert_entry, nat_cmp, is_lt, is_eq, match_ordering, Less, Equal, Greater, slice_cmp, AllByRecursion, is_eq-slice_cmp, bytes_eq-Decides, InByteOrder, IsNamed, Value, Symbol, Wait, IsFullName, value_in, symbols_with, value_of_name, with_symbol, NameTable, Naming, symbol_of, IsInRange}
 use Rattle.std.specs.List.Sorted.{IsStrictlySortedBy}
 use Rattle.std.proofs.Math.ListN.{length-map}
 use Rattle.mx_names.specs.declared.names.Definition.{Definition}
-
--- a look-up in the symbols is one in the map
-found-step : (b c : Bool) (v : Value) (d : Definition) (rest : Option Value) (more : Option Definition) → c ≡ b → v ≡ d.value → rest ≡ option_map (λ (d : Definition). d.value) more → cond b (Some v) rest ≡ option_map (λ (d : Definition). d.value) (cond c (Some d) more)
-found-step b c v d rest more h1 h2 h3 = grind arith
 
 abbrev tabled : List ℕ → List Value → List Wait → List Symbol → Naming
 tabled prefix backs waiting symbols = record { names = record { symbols = symbols; prefix = prefix; backs = backs }; waiting = waiting }
@@ -24,7 +20,7 @@ module _ {K : Type 0} (bytes : K → List ℕ) where
 
   pub found : (name : List ℕ) (es : List (K × Definition)) → value_in name (symbols_of es) ≡ option_map (λ d. d.value) (lookup (is_at (λ k. slice_cmp nat_cmp name (bytes k))) es)
   found name [] = refl
-  found name (e ∷ es) = found-step (bytes_eq name (bytes e.0)) (is_eq (slice_cmp nat_cmp name (bytes e.0))) e.1.value e.1 _ _ (is_eq-slice_cmp name (bytes e.0)) refl (found name es)
+  found name (e ∷ es) = search (rules, is_eq-slice_cmp, found name es)
 
   -- an entry in its place is a symbol in its place, where the name is new
   pub put-in : (k : K) (d : Definition) (es : List (K × Definition)) → value_in (bytes k) (symbols_of es) ≡ None → symbols_of (insert_entry (λ x y. slice_cmp nat_cmp (bytes x) (bytes y)) es k d) ≡ symbols_with (symbol_of (bytes k) d) (symbols_of es)
@@ -40,13 +36,7 @@ module _ {K : Type 0} (bytes : K → List ℕ) where
 
   -- the symbols after one is put in
   pub table-put : (es more : List (K × Definition)) (prefix : List ℕ) (backs : List Value) (waiting : List Wait) (k : K) (full : List ℕ) (value : Value) (serial : ℕ) (table : Naming) → tabled prefix backs waiting (symbols_of es) ≡ table → bytes k ≡ full → serial ≡ length es + 1 → value_in full table.names.symbols ≡ None → more ≡ insert_entry (λ x y. slice_cmp nat_cmp (bytes x) (bytes y)) es k (record { value = value; serial = serial }) → tabled prefix backs waiting (symbols_of more) ≡ naming_with table full value
-  table-put es more prefix backs waiting k full value serial table is named counted absent grown =
-      let out : value_in (bytes k) (symbols_of es) ≡ None = ap (λ n. value_in n (symbols_of es)) named ∙ ap (λ (t : Naming). value_in full t.names.symbols) is ∙ absent in
-      let grew : symbols_of more ≡ symbols_with (symbol_of (bytes k) (record { value = value; serial = serial })) (symbols_of es) = ap symbols_of grown ∙ put-in k (record { value = value; serial = serial }) es out in
-      ap (tabled prefix backs waiting) grew
-      ∙ ap (λ n. tabled prefix backs waiting (symbols_with (numbered n value serial) (symbols_of es))) named
-      ∙ ap (λ n. tabled prefix backs waiting (symbols_with (numbered full value n) (symbols_of es))) (counted ∙ ap (λ n. n + 1) (sym (length-map es (λ e. symbol_of (bytes e.0) e.1))))
-      ∙ ap (λ t. naming_with t full value) is
+  table-put es more prefix backs waiting k full value serial table is named counted absent grown = grind (arith, put-in, length-map)
 
   -- the names in the order of the keys
   all-named : (name : List ℕ) (es : List (K × Definition)) → AllByRecursion (λ k. slice_cmp nat_cmp name (bytes k) ≡ Less) (keys_of es) → AllByRecursion (λ n. slice_cmp nat_cmp name n ≡ Less) (map (λ (s : Symbol). s.name) (symbols_of es))
@@ -84,12 +74,9 @@ value-inserted new (s ∷ ss) name absent = by (is_lt (slice_cmp nat_cmp new.nam
     by true rest = refl
     by false rest = ap (λ r. cond (bytes_eq name s.name) (Some s.value) r) rest ∙ swapped _ _ _ _ _ apart
 
-first-cond : (b : Bool) (v : Value) (a c : Option Value) → first_value (cond b (Some v) a) c ≡ cond b (Some v) (first_value a c)
-first-cond b v a c = grind arith
-
 -- the value of each name after a definition
 pub value-defined : (table : NameTable) (full : List ℕ) (value : Value) (name : List ℕ) → value_in full table.symbols ≡ None → value_of_name (with_symbol table full value) name ≡ cond (bytes_eq name full) (Some value) (value_of_name table name)
-value-defined table full value name absent = simp (value-inserted, first-cond)
+value-defined table full value name absent = search (rules, value-inserted)
 
 pub not-some : {A : Type 0} (o : Option A) → is_some o ≡ false → o ≡ None
 not-some o h = grind arith

@@ -1,5 +1,5 @@
 -- The earliest of all references.
-use Rattle.std.proofs.Common.{◌≡◌, ◌<◌, ◌≤◌, ℕ, List, [], ◌∷◌, Option, option_map, refl, ◌∙◌, arith, rules}
+use Rattle.std.proofs.Common.{◌≡◌, ℕ, List, [], ◌∷◌, Option, option_map, refl, arith, rules}
 use Rattle.mx_names.proofs.Words.{AllByRecursion, Wait, Numbered, with_group, all_in_order, waits_of, first_of, earlier_of_two, AreRising, AreGroups, nat_tests}
 
 first-group : (xs l : List Numbered) → AreRising xs → first_of (with_group xs l) ≡ earlier_of_two (first_of xs) (first_of l)
@@ -7,15 +7,9 @@ first-group [] l rising = refl
 first-group (x ∷ []) l rising = grind arith
 first-group (x ∷ y ∷ xs) l rising = grind (arith, nat_tests, first-group (y ∷ xs) l rising.1)
 
-earlier-parts : (a b c : Option Numbered) → earlier_of_two (earlier_of_two a b) c ≡ earlier_of_two a (earlier_of_two b c)
-earlier-parts a b c = grind arith
-
 -- one group more
 pub first-more : {K : Type 0} (first found : Option Numbered) (e : K × List Numbered) (es : List (K × List Numbered)) → AreRising e.1 → found ≡ earlier_of_two first (first_of e.1) → earlier_of_two found (first_of (all_in_order es)) ≡ earlier_of_two first (first_of (all_in_order (e ∷ es)))
-first-more first found e es rising is = search (rules, earlier-parts, first-group)
-
-pub first-wait : (l : List Numbered) → first_of (waits_of l) ≡ option_map (λ (x : Numbered). x.1) (first_of l)
-first-wait l = grind arith
+first-more first found e es rising is = search (rules, first-group)
 
 abbrev pub EachRising : {K : Type 0} → List (K × List Numbered) → Type 0
 EachRising {K} es = AllByRecursion (λ (e : K × List Numbered). AreRising e.1) es

@@ -1,5 +1,5 @@
 -- Groups of references, and all of them in the order of their numbers.
-use Rattle.std.proofs.Common.{◌≡◌, ◌<◌, ℕ, ◌+◌, Bool, true, false, nat_lt, cond, List, [], ◌∷◌, ◌++◌, length, None, Some, refl, sym, ap, subst, ◌∙◌, arith, rules}
+use Rattle.std.proofs.Common.{◌≡◌, ◌<◌, ℕ, ◌+◌, Bool, true, false, nat_lt, cond, List, [], ◌∷◌, ◌++◌, length, None, Some, refl, sym, ap, ◌∙◌, arith, rules}
 use Rattle.mx_names.proofs.Words.{zip, AllByRecursion, lookup, set_value, is_at, insert_entry, nat_cmp, is_eq, match_ordering, slice_cmp, is_eq-slice_cmp, bytes_eq-Decides, Less, Equal, Greater, cond_both, lt-ltb, Wait, Numbered, with_one, with_group, all_in_order, waits_of, key_of, AreRising, IsGroup, AreGroups, nat_tests}
 use Rattle.std.specs.declared.cmp.Ordering.{Ordering}
 
@@ -95,22 +95,17 @@ group-later key made group is = record { rising = is.rising; below = all-weaker 
 group-push : (key : List ℕ) (made : ℕ) (group : List Numbered) (w : Wait) → IsGroup key made group → key_of w.who ≡ key → IsGroup key (made + 1) (group ++ (made, w) ∷ [])
 group-push key made group w is keyed = search (rules, rising-push, all-push, all-weaker)
 
-group-one : (key : List ℕ) (made : ℕ) (w : Wait) → key_of w.who ≡ key → IsGroup key (made + 1) ((made, w) ∷ [])
-group-one key made w keyed = record { rising = (tt, tt); below = (omega arith, tt); keyed = (keyed, tt) }
-
 pub groups-later : {K : Type 0} (bytes : K → List ℕ) (made : ℕ) (es : List (K × List Numbered)) → AreGroups bytes made es → AreGroups bytes (made + 1) es
 groups-later bytes made [] groups = tt
 groups-later bytes made (e ∷ es) groups = (group-later (bytes e.0) made e.1 groups.0, groups-later bytes made es groups.1)
 
 pub groups-grown : {K : Type 0} (bytes : K → List ℕ) (made : ℕ) (test : K → Bool) (es : List (K × List Numbered)) (group : List Numbered) (w : Wait) → ((k : K) → test k ≡ true → key_of w.who ≡ bytes k) → lookup test es ≡ Some group → AreGroups bytes made es → AreGroups bytes (made + 1) (set_value test es (group ++ (made, w) ∷ []))
 groups-grown bytes made test [] group w keyed found groups = tt
-groups-grown {K} bytes made test (e ∷ es) group w keyed found groups =
-    search (rules, group-push, groups-later, group-later, groups-grown bytes made test es group w keyed)
+groups-grown {K} bytes made test (e ∷ es) group w keyed found groups = grind (arith, group-push, groups-later, group-later, groups-grown bytes made test es group w keyed)
 
 pub groups-new : {K : Type 0} (bytes : K → List ℕ) (made : ℕ) (cmp : K → K → Ordering) (es : List (K × List Numbered)) (k : K) (w : Wait) → key_of w.who ≡ bytes k → lookup (is_at (cmp k)) es ≡ None → AreGroups bytes made es → AreGroups bytes (made + 1) (insert_entry cmp es k ((made, w) ∷ []))
 groups-new bytes made cmp [] k w keyed absent groups = grind arith
-groups-new bytes made cmp (e ∷ es) k w keyed absent groups =
-    search (rules, group-one, group-later, groups-later, groups-new bytes made cmp es k w keyed)
+groups-new bytes made cmp (e ∷ es) k w keyed absent groups = search (rules, group-later, groups-later, groups-new bytes made cmp es k w keyed)
 
 -- keys that compare as equal are equal
 pub key-tells : (q key : List ℕ) → is_eq (slice_cmp nat_cmp q key) ≡ true → q ≡ key
@@ -119,17 +114,13 @@ key-tells q key same = (bytes_eq-Decides q key).0 (sym (is_eq-slice_cmp q key) �
 -- what a write through the map's group, and an insertion, come to
 module _ {K : Type 0} (bytes : K → List ℕ) (es more : List (K × List Numbered)) (made : ℕ) (w : Wait) (groups : AreGroups bytes made es) where
   pub grown-order : (test : K → Bool) (group new : List Numbered) → more ≡ set_value test es new → Some group ≡ lookup test es → new ≡ group ++ (made, w) ∷ [] → all_in_order more ≡ all_in_order es ++ (made, w) ∷ []
-  grown-order test group new is found same =
-      ap all_in_order is ∙ ap (λ g. all_in_order (set_value test es g)) same ∙ grown-group test es group (made, w) (groups-below bytes made es groups) (sym found)
+  grown-order test group new is found same = grind (arith, grown-group, groups-below)
 
   pub grown-groups : (test : K → Bool) (group new : List Numbered) → more ≡ set_value test es new → Some group ≡ lookup test es → ((k : K) → test k ≡ true → key_of w.who ≡ bytes k) → new ≡ group ++ (made, w) ∷ [] → AreGroups bytes (made + 1) more
-  grown-groups test group new is found keyed same =
-      subst (AreGroups bytes (made + 1)) (sym (is ∙ ap (set_value test es) same)) (groups-grown bytes made test es group w keyed (sym found) groups)
+  grown-groups test group new is found keyed same = grind (arith, groups-grown)
 
   pub new-order : (cmp : K → K → Ordering) (k : K) (new : List Numbered) → more ≡ insert_entry cmp es k new → lookup (is_at (cmp k)) es ≡ None → new ≡ (made, w) ∷ [] → all_in_order more ≡ all_in_order es ++ (made, w) ∷ []
-  new-order cmp k new is absent same =
-      ap all_in_order is ∙ ap (λ g. all_in_order (insert_entry cmp es k g)) same ∙ new-group cmp es k (made, w) (groups-below bytes made es groups) absent
+  new-order cmp k new is absent same = grind (arith, new-group, groups-below)
 
   pub new-groups : (cmp : K → K → Ordering) (k : K) (new : List Numbered) → more ≡ insert_entry cmp es k new → lookup (is_at (cmp k)) es ≡ None → key_of w.who ≡ bytes k → new ≡ (made, w) ∷ [] → AreGroups bytes (made + 1) more
-  new-groups cmp k new is absent keyed same =
-      subst (AreGroups bytes (made + 1)) (sym (is ∙ ap (insert_entry cmp es k) same)) (groups-new bytes made cmp es k w keyed absent groups)
+  new-groups cmp k new is absent keyed same = grind (arith, groups-new)

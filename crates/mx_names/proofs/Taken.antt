@@ -1,8 +1,7 @@
 -- What is taken of all references when a group is, and what is left.
-use Rattle.std.proofs.Common.{◌≡◌, ◌<◌, ◌≤◌, ℕ, Bool, true, false, not, ◌==◌, nat_lt, cond, List, [], ◌∷◌, Option, None, Some, filter, refl, sym, ap, ◌∙◌, arith, nat_cmp, bytes_eq, rules}
+use Rattle.std.proofs.Common.{◌≡◌, ◌<◌, ◌≤◌, ℕ, Bool, true, false, not, nat_lt, cond, List, [], ◌∷◌, Option, None, Some, filter, refl, sym, ap, ◌∙◌, arith, nat_cmp, bytes_eq, rules}
 use Rattle.std.specs.Bool.{MatchBool}
 use Rattle.mx_names.proofs.Words.{AllByRecursion, lookup, remove_entry, slice_cmp, cond_both, lt-ltb, ltb-true, ltb-false, is_eq, is_eq-slice_cmp, Wait, Numbered, with_one, with_group, all_in_order, waits_of, waits_for, waits_for_others, key_of, AreRising, AreGroups}
-use Rattle.std.proofs.lemmas.Bool.Decides.{nat_tests}
 use Rattle.mx_word.specs.declared.waits.Awaited.{Awaited}
 use Rattle.mx_word.specs.Waits.{same_awaited}
 use Rattle.mx_names.proofs.Groups.{one-all, all-weaker}
@@ -47,26 +46,13 @@ module _ (f : Numbered → Bool) where
   filter-all P [] each = tt
   filter-all P (x ∷ xs) each = cond_both (f x) _ _ (AllByRecursion P) (λ _. (each.0, (filter-all P xs each.1))) (λ _. filter-all P xs each.1)
 
-  filter-yes : (xs : List Numbered) → Yes xs → filter f xs ≡ xs
-  filter-yes [] passes = refl
-  filter-yes (x ∷ xs) passes = rw passes.0 (ap (λ l. x ∷ l) (filter-yes xs passes.1))
-
   one-no : (x : Numbered) (l : List Numbered) → f x ≡ false → filter f (with_one x l) ≡ filter f l
   one-no x [] fails = rw fails refl
   one-no x (y ∷ ys) fails = cond_both (nat_lt x.0 y.0) _ _ (λ x. filter f x ≡ filter f (y ∷ ys)) (λ _. rw fails refl) (λ _. ap (λ l. cond (f y) (y ∷ l) l) (one-no x ys fails))
 
   one-yes : (x : Numbered) (l : List Numbered) → f x ≡ true → AreSorted l → filter f (with_one x l) ≡ with_one x (filter f l)
   one-yes x [] passes sorted = rw passes refl
-  one-yes x (y ∷ ys) passes sorted = by (nat_lt x.0 y.0) refl (one-yes x ys passes sorted.1)
-    where
-      kept : (b c : Bool) → nat_lt x.0 y.0 ≡ false → cond c (y ∷ with_one x (filter f ys)) (with_one x (filter f ys)) ≡ with_one x (cond c (y ∷ filter f ys) (filter f ys))
-      kept b true above = rw above refl
-      kept b false above = refl
-
-      by : (b : Bool) → nat_lt x.0 y.0 ≡ b → filter f (with_one x ys) ≡ with_one x (filter f ys) → filter f (cond b (x ∷ y ∷ ys) (y ∷ with_one x ys)) ≡ with_one x (filter f (y ∷ ys))
-      by true is rest =
-          rw passes (sym (one-first x (filter f (y ∷ ys)) (filter-all _ (y ∷ ys) (ltb-true x.0 y.0 is, all-weaker _ _ ys (λ z above. omega (arith, ltb-true x.0 y.0 is)) sorted.0))))
-      by false is rest = ap (λ l. cond (f y) (y ∷ l) l) rest ∙ kept true (f y) is
+  one-yes x (y ∷ ys) passes sorted = grind (arith, one-first, filter-all, ltb-true, all-weaker, one-yes x ys passes sorted.1)
 
   group-no : (xs l : List Numbered) → No xs → filter f (with_group xs l) ≡ filter f l
   group-no [] l fails = refl
@@ -118,11 +104,6 @@ module _ (f : Numbered → Bool) where
         by true here gone rest = group-no e.1 (all_in_order es) here ∙ others-pass es other.1 gone
         by false here gone rest = group-yes e.1 (all_in_order es) here (all-sorted es) ∙ ap (with_group e.1) (rest (none-rest (test e.0) e.1 _ gone))
 
-bytes-swap : (a b : List ℕ) → bytes_eq a b ≡ bytes_eq b a
-bytes-swap [] [] = refl
-bytes-swap (x ∷ xs) (y ∷ ys) = grind (arith, nat_tests, bytes-swap xs ys)
-bytes-swap a b = refl
-
 same-key : (a b : Awaited) → same_awaited a b ≡ bytes_eq (key_of a) (key_of b)
 same-key a b = grind arith
 
@@ -134,7 +115,7 @@ module _ {K : Type 0} (bytes : K → List ℕ) (made : ℕ) (who : Awaited) (key
   test = test_for bytes key
 
   tells : (k : K) (x : Numbered) → key_of x.1.who ≡ bytes k → same_awaited x.1.who who ≡ test k
-  tells k x is = same-key x.1.who who ∙ bytes-swap (key_of x.1.who) (key_of who) ∙ ap (λ l. bytes_eq l (key_of x.1.who)) (sym keyed) ∙ ap (bytes_eq key) is ∙ sym (is_eq-slice_cmp key (bytes k))
+  tells k x is = search (rules, same-key, is_eq-slice_cmp)
 
   parted-group : (b : Bool) (k : K) (xs : List Numbered) → test k ≡ b → AllByRecursion (λ (x : Numbered). key_of x.1.who ≡ bytes k) xs → MatchBool b (Yes (λ x. same_awaited x.1.who who) xs) (No (λ x. same_awaited x.1.who who) xs)
   parted-group true k xs is each = all-weaker _ _ xs (λ x h. tells k x h ∙ is) each
@@ -158,11 +139,7 @@ module _ {K : Type 0} (bytes : K → List ℕ) (made : ℕ) (who : Awaited) (key
 
   filter-waits : (p : Wait → Bool) (l : List Numbered) → filter p (waits_of l) ≡ waits_of (filter (λ (x : Numbered). p x.1) l)
   filter-waits p [] = refl
-  filter-waits p (x ∷ xs) = by (p x.1) (filter-waits p xs)
-    where
-      by : (b : Bool) → filter p (waits_of xs) ≡ waits_of (filter (λ (x : Numbered). p x.1) xs) → cond b (x.1 ∷ filter p (waits_of xs)) (filter p (waits_of xs)) ≡ waits_of (cond b (x ∷ filter (λ (x : Numbered). p x.1) xs) (filter (λ (x : Numbered). p x.1) xs))
-      by true rest = ap (λ l. x.1 ∷ l) rest
-      by false rest = rest
+  filter-waits p (x ∷ xs) = grind (arith, filter-waits p xs)
 
   -- the groups after one is taken
   pub groups-less : (es : List (K × List Numbered)) → AreGroups bytes made es → AreGroups bytes made (remove_entry test es)

@@ -1,6 +1,6 @@
 -- A statement waits only for names that are not known at it, and for local labels.
-use Rattle.std.proofs.Common.{◌≡◌, ℕ, ◌+◌, ◌%◌, ◌^◌, ◌==◌, nat_lt, List, [], ◌∷◌, length, Option, None, Some, Result, Ok, Err, refl, sym, ap, ◌∙◌, subst}
-use Rattle.mx_stmt.proofs.Words.{AllByRecursion, cond_both, Value, Awaited, Wait, WaitKind, Near, Far, Tree, name, ahead, NameFault, NameTable, value_of_name, Shape, Data, Tetra, Target, Label, Placed, BadPlace, Answer, and_then, Known, Targets, symbol_form, register_at, pure_at, name_unless_known, awaited_name, reference_of, known_target, target_by, target_at, plain_tetra, near_reach, far_reach, relative_word, relative_form, form_by, tetra_wyde, tetra_whole, data_number, data_target, datum, with_rest, data_of, data_form, StatementTree, with_bytes, tetra_waits, tetra_data, with_tetra, with_data, encoding}
+use Rattle.std.proofs.Common.{◌≡◌, ℕ, ◌+◌, ◌%◌, ◌^◌, ◌==◌, nat_lt, List, [], ◌∷◌, length, Option, None, Some, Ok, Err, rules, arith}
+use Rattle.mx_stmt.proofs.Words.{AllByRecursion, cond_both, Awaited, Wait, WaitKind, Near, Far, Tree, NameTable, value_of_name, Shape, Data, Tetra, Target, Label, Placed, BadPlace, Answer, and_then, Known, Targets, register_at, pure_at, reference_of, known_target, target_by, target_at, near_reach, far_reach, relative_form, form_by, tetra_wyde, tetra_whole, data_number, data_target, datum, with_rest, data_of, data_form, StatementTree, with_bytes, with_tetra, with_data, encoding}
 use Rattle.mx_word.specs.declared.waits.Awaited.TheVariants as awaited
 use Rattle.mx_stmt.specs.declared.operands.Target.TheVariants as target
 use Rattle.mx_stmt.proofs.LaidBytes.{all-append}
@@ -20,40 +20,23 @@ Gives P (Err fault) = Unit {0}
 Gives P (Ok x) = P x
 
 pub then-gives : {A B : Type 0} (P : B → Type 0) (a : Answer A) (next : A → Answer B) → ((x : A) → Gives P (next x)) → Gives P (and_then a next)
-then-gives P (Err fault) next h = tt
-then-gives P (Ok x) next h = h x
+then-gives P a next h = search rules
 
 pub after-gives : {A B : Type 0} (Q : A → Type 0) (P : B → Type 0) (a : Answer A) (next : A → Answer B) → Gives Q a → ((x : A) → Q x → Gives P (next x)) → Gives P (and_then a next)
-after-gives Q P (Err fault) next q h = tt
-after-gives Q P (Ok x) next q h = h x q
+after-gives Q P a next q h = search rules
 
 -- ---- operands
 
 module _ (names : NameTable) where
-  unknown-by : (full : List ℕ) (value : Option Value) (who : Awaited) → value_of_name names full ≡ value → name_unless_known full value ≡ Some who → IsUnknown names who
-  unknown-by full None who is h = λ other same.
-      let one : awaited.Name full ≡ awaited.Name other = cc in
-      let equal : full ≡ other = cc in
-      ap (value_of_name names) (sym equal) ∙ is
-  unknown-by full (Some value) who is h = absurd (cc)
-
-  unknown-form : (r : Result (List ℕ) NameFault) (who : Awaited) → awaited_name names r ≡ Some who → IsUnknown names who
-  unknown-form (Err fault) who h = absurd (cc)
-  unknown-form (Ok full) who h = unknown-by full (value_of_name names full) who refl h
-
   abbrev IfFuture : Target → Type 0
   IfFuture (target.Known n) = Unit {0}
   IfFuture (target.Future who) = IsUnknown names who
 
   target-by : (reference : Option Awaited) (n : Answer ℕ) → ((who : Awaited) → reference ≡ Some who → IsUnknown names who) → Gives IfFuture (target_by reference n)
-  target-by (Some who) n h = h who refl
-  target-by None (Err fault) h = tt
-  target-by None (Ok n) h = tt
+  target-by reference n h = search rules
 
 reference-unknown : (k : Known) (e : Tree) (who : Awaited) → reference_of k e ≡ Some who → IsUnknown k.names who
-reference-unknown k (name text) who h = unknown-form k.names (symbol_form k.names text) who h
-reference-unknown k (ahead d) who h = λ full same. absurd (let differ : awaited.Local d ≡ awaited.Name full = cc in cc)
-reference-unknown k e who h = absurd (cc)
+reference-unknown k e who h = search rules
 
 target-unknown : (k : Known) (e : Tree) → Gives (IfFuture k.names) (target_at k e)
 target-unknown k e = target-by k.names (reference_of k e) (pure_at k e) (reference-unknown k e)
@@ -71,18 +54,12 @@ module _ (k : Known) where
   waits-then : {A : Type 0} (a : Answer A) (next : A → Answer Tetra) → ((x : A) → Waits (next x)) → Waits (and_then a next)
   waits-then a next h = then-gives (λ (tetra : Tetra). IfWait tetra.wait) a next h
 
-  relative-waits : (t : Targets) (head reach place : ℕ) (kind : WaitKind) (target : Target) → IfFuture k.names target → Waits (relative_form t head reach place kind target)
-  relative-waits t head reach place kind (target.Known n) h = waits-then (relative_word head reach place n) plain_tetra (λ word. tt)
-  relative-waits t head reach place kind (target.Future who) h = h
-
   target-waits : (t : Targets) (head reach place : ℕ) (kind : WaitKind) (e : Tree) → Waits (and_then (target_at k e) (relative_form t head reach place kind))
-  target-waits t head reach place kind e =
-      after-gives (IfFuture k.names) (λ (tetra : Tetra). IfWait tetra.wait) (target_at k e) (relative_form t head reach place kind) (target-unknown k e) (relative-waits t head reach place kind)
+  target-waits t head reach place kind e = search rules
 
   plain-waits : (a : Answer Tetra) → HasNoWait a → Waits a
   unfolding HasNoWait
-  plain-waits (Err fault) none = tt
-  plain-waits (Ok tetra) none = subst IfWait (sym none) tt
+  plain-waits a none = search rules
 
   coded-waits : (t : Targets) (code : ℕ) (shapes : List Shape) (l : List Tree) → Waits (form_by t k shapes code l)
   coded-waits t code shapes l = every-code k code (λ f. Waits (f t)) plain-waits shapes
@@ -94,19 +71,16 @@ module _ (k : Known) where
   DataWaits a = Gives (λ (d : Data). AreUnknown k.names d.waits) a
 
   known-is : (n : Answer ℕ) → Gives (IfFuture k.names) (known_target n)
-  known-is (Err fault) = tt
-  known-is (Ok n) = tt
+  known-is n = search rules
 
   data-target : (size : ℕ) (e : Tree) → Gives (IfFuture k.names) (data_target k size e)
   data-target size e = cond_both (size == 8) (target_at k e) (known_target (and_then (pure_at k e) (data_number size))) (Gives (IfFuture k.names)) (λ eight. target-unknown k e) (λ other. known-is _)
 
   datum-waits : (t : Targets) (line size place : ℕ) (target : Target) → IfFuture k.names target → AreUnknown k.names (datum t line size place target).waits
-  datum-waits t line size place (target.Known n) h = tt
-  datum-waits t line size place (target.Future who) h = (h, tt)
+  datum-waits t line size place target h = search rules
 
   rest-waits : (first : Data) (rest : Answer Data) → AreUnknown k.names first.waits → DataWaits rest → DataWaits (with_rest first rest)
-  rest-waits first (Err fault) h g = tt
-  rest-waits first (Ok rest) h g = all-append (λ (w : Wait). IsUnknown k.names w.who) first.waits rest.waits h g
+  rest-waits first rest h g = grind (arith, all-append)
 
   data-waits : (t : Targets) (line size place : ℕ) (es : List Tree) → DataWaits (data_of t k line size place es)
   unfolding data_of
@@ -132,23 +106,15 @@ module _ (k : Known) where
   data-wait : (label : Option Label) (a : Answer Data) → DataWaits a → StatementWaits (with_data k label a)
   data-wait label a h = after-gives (λ (d : Data). AreUnknown k.names d.waits) (λ (p : Placed). AreUnknown k.names p.waits) a (with_bytes k label) h (bytes-wait label)
 
-  one-wait : (line place : ℕ) (wait : Option (Awaited × WaitKind)) → IfWait wait → AreUnknown k.names (tetra_waits line place wait)
-  one-wait line place None h = tt
-  one-wait line place (Some reference) h = (h, tt)
-
   tetra-wait : (line : ℕ) (label : Option Label) (a : Answer Tetra) → Waits a → StatementWaits (with_tetra k line label a)
-  tetra-wait line label a h =
-      after-gives (λ (tetra : Tetra). IfWait tetra.wait) (λ (p : Placed). AreUnknown k.names p.waits) a (λ tetra. with_bytes k label (tetra_data line k.at tetra)) h
-      (λ tetra g. bytes-wait label (tetra_data line k.at tetra) (one-wait line k.at tetra.wait g))
+  tetra-wait line label a h = search rules
 
   silent-waits : (a : Answer Placed) → AreSilent k a → StatementWaits a
   unfolding AreSilent
-  silent-waits (Err fault) h = tt
-  silent-waits (Ok p) h = subst (AreUnknown k.names) (sym h.waits) tt
+  silent-waits a h = search rules
 
 pub gives-value : {A : Type 0} (P : A → Type 0) (a : Answer A) (x : A) → Gives P a → a ≡ Ok x → P x
-gives-value P (Err fault) x h is = absurd (cc)
-gives-value P (Ok y) x h is = let same : y ≡ x = cc in subst P same h
+gives-value P a x h is = search rules
 
 pub encoding-awaits : (t : Targets) (k : Known) (s : StatementTree) (p : Placed) → encoding t k s ≡ Ok p → AreUnknown k.names p.waits
 encoding-awaits t k s p is =

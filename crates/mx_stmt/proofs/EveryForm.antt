@@ -1,6 +1,6 @@
 -- What holds of tetras without a reference and of relative addresses holds of the forms of all instructions.
-use Rattle.std.proofs.Common.{◌≡◌, ℕ, ◌^◌, true, List, [], ◌∷◌, None, Ok, Err, refl, rules}
-use Rattle.mx_stmt.proofs.Words.{cond_both, Value, Pure, Reg, Tree, Shape, Three, Regs, Round, Neg, Rel, Mem, MemPure, Wyde, Jump, Put, Pop, One, Unsave, Free, Tetra, StmtFault, Operands, Answer, and_then, base_for, Known, Targets, operand_value, register_at, field_at, register_or_byte_at, plain_tetra, last_word, last_form, last_register, last_two, takes_byte, rounded_last, address_word, address_of, address_form, branch_form, jump_form, wyde_form, whole_form, byte_form, free_at, free_form, with_register, with_byte, form, form_by, set_to, set_form, tetra_xyz, tetra_wyde, tetra_whole}
+use Rattle.std.proofs.Common.{◌≡◌, ℕ, ◌^◌, true, List, [], ◌∷◌, None, Ok, Err, refl, rules, arith}
+use Rattle.mx_stmt.proofs.Words.{cond_both, Value, Tree, Shape, Three, Regs, Round, Neg, Rel, Mem, MemPure, Wyde, Jump, Put, Pop, One, Unsave, Free, Tetra, StmtFault, Operands, Answer, and_then, Known, Targets, operand_value, register_at, field_at, register_or_byte_at, plain_tetra, last_word, last_form, last_register, last_two, takes_byte, rounded_last, address_of, address_form, branch_form, jump_form, wyde_form, whole_form, byte_form, free_at, free_form, with_register, with_byte, form, form_by, set_to, set_form, tetra_xyz, tetra_wyde, tetra_whole}
 use Rattle.mx_stmt.proofs.CodesOfTargets.{has_address}
 
 -- an answer without a reference
@@ -18,8 +18,7 @@ none-fault fault = tt
 
 pub none-then : {A : Type 0} (a : Answer A) (next : A → Answer Tetra) → ((x : A) → HasNoWait (next x)) → HasNoWait (and_then a next)
 unfolding HasNoWait
-none-then (Err fault) next h = tt
-none-then (Ok x) next h = h x
+none-then a next h = search rules
 
 module _ (k : Known) (code : ℕ) where
   none-last : (x y : ℕ) (z : Tree) → HasNoWait (last_form k code x y z)
@@ -35,8 +34,7 @@ module _ (k : Known) (code : ℕ) where
   none-rounded x y z = cond_both (takes_byte code) _ _ HasNoWait (λ b. none-last x y z) (λ b. none-register x y z)
 
   none-address-of : (x : ℕ) (a : Value) → HasNoWait (address_of k code x a)
-  none-address-of x (Reg y) = none-plain _
-  none-address-of x (Pure a) = none-then (base_for k.gregs a) (λ base. plain_tetra (address_word code x base)) (λ base. none-plain _)
+  none-address-of x a = grind (arith, none-plain, none-then)
 
   none-address : (x : ℕ) (a : Tree) → HasNoWait (address_form k code x a)
   none-address x a = none-then (operand_value k a) (address_of k code x) (none-address-of x)
@@ -51,8 +49,7 @@ module _ (k : Known) (code : ℕ) where
   none-byte x z = none-then (field_at 256 k z) (λ z. plain_tetra (tetra_xyz code x 0 z)) (λ z. none-plain _)
 
   none-free : (x y z : Tree) → HasNoWait (free_form k code x y z)
-  none-free x y z =
-      none-then (free_at k x) _ (λ x. none-then (free_at k y) _ (λ y. none-then (free_at k z) (λ z. plain_tetra (tetra_xyz code x y z)) (λ z. none-plain _)))
+  none-free x y z = search (rules, none-then, none-plain)
 
 -- a property of lists of operands by their number
 by-number : (P : List Tree → Type 0) → P [] → ((x : Tree) → P (x ∷ [])) → ((x y : Tree) → P (x ∷ y ∷ [])) → ((x y z : Tree) → P (x ∷ y ∷ z ∷ [])) → ((x y z w : Tree) (more : List Tree) → P (x ∷ y ∷ z ∷ w ∷ more)) → (l : List Tree) → P l

@@ -1,14 +1,13 @@
 -- What the fields of a statement say is one thing.
-use Rattle.std.proofs.Common.{◌≡◌, ℕ, ◌&&◌, not, cond, Bool, true, false, List, Option, None, Some, is_some, Result, Ok, Err, refl, ap, ◌∙◌, rules}
+use Rattle.std.proofs.Common.{◌≡◌, ℕ, Bool, List, Option, is_some, Result, Ok, Err, refl, ap, rules}
 use Rattle.mx_line.specs.declared.spans.Span.{Span}
 use Rattle.mx_line.specs.declared.cutter.Cut.{Cut}
 use Rattle.mx_line.specs.Spans.{part}
-use Rattle.mx_stmt.proofs.Words.{ExprFault, IsFirst, Op, operation_of, StmtFault, LabelNotAllowed, OutOfMemory, fault_of, Answer, StatementTree, Fields, IsFault, IsRead, fields_of, label_in, takes_label, operation_for, operation_with, IsOperation, operation, operand_list}
+use Rattle.mx_stmt.proofs.Words.{ExprFault, IsFirst, Op, operation_of, StmtFault, OutOfMemory, fault_of, Answer, StatementTree, Fields, IsFault, IsRead, fields_of, label_in, operation_for, operation_with, IsOperation}
 use Rattle.mx_expr.specs.declared.faults.ExprFault.TheVariants as expr
 
 some-label : (text : List ℕ) (span : Option Span) → is_some (label_in text span) ≡ is_some span
-some-label text None = refl
-some-label text (Some span) = refl
+some-label text span = search rules
 
 -- the operation of the fields, by the cut
 pub operation-is : (text : List ℕ) (cut : Cut) (labelled : Bool) (name : List ℕ) (answer : Answer Op) → labelled ≡ is_some cut.label → name ≡ part text cut.op → answer ≡ operation_for labelled name → operation_for (is_some (fields_of text cut).label) (fields_of text cut).op ≡ answer
@@ -16,8 +15,7 @@ operation-is text cut labelled name answer some named is = search (rules, some-l
 
 -- a fault of the operation is the only one
 pub operation-only : (fields : Fields) (first fault : StmtFault) → operation_for (is_some fields.label) fields.op ≡ Err first → IsFault fields fault → first ≡ fault
-operation-only fields first fault is (operation other h) = cc
-operation-only fields first fault is (operand_list op other h least) = cc
+operation-only fields first fault is h = search rules
 
 -- where the operation has none, a fault is the first one of the operand list
 pub record OfOperands (fields : Fields) (fault : StmtFault) : Type 0 where
@@ -26,8 +24,7 @@ pub record OfOperands (fields : Fields) (fault : StmtFault) : Type 0 where
   pub is : fault ≡ fault_of list_fault
 
 pub of-operands : (fields : Fields) (op : Op) (fault : StmtFault) → operation_for (is_some fields.label) fields.op ≡ Ok op → IsFault fields fault → OfOperands fields fault
-of-operands fields op fault is (operation other h) = cc
-of-operands fields op fault is (operand_list other list_fault h least) = record { list_fault = list_fault; first = least; is = refl }
+of-operands fields op fault is h = search rules
 
 pub same-parsed : (a b : StatementTree) → a.line ≡ b.line → a.label ≡ b.label → a.op ≡ b.op → a.operands ≡ b.operands → a ≡ b
 same-parsed a b line label op operands = λ i. record { line = line i; label = label i; op = op i; operands = operands i }
@@ -41,12 +38,7 @@ same-first first other answer is there = let same : first ≡ other = cc in ap f
 
 -- the operation of a name
 pub operation-named : (labelled : Bool) (name : List ℕ) (found : Option Op) (op : Op) → operation_of name ≡ found → operation_with labelled found ≡ Ok op → IsOperation op
-operation-named labelled name None op is with = cc
-operation-named labelled name (Some other) op is with = by (labelled && not (takes_label other)) with
-  where
-    by : (b : Bool) → cond b (Err LabelNotAllowed) (Ok other) ≡ Ok op → IsOperation op
-    by true with = cc
-    by false with = let same : other ≡ op = cc in (name, is ∙ ap (λ o. Some o) same)
+operation-named labelled name found op is with = search rules
 
 pub read-named : (fields : Fields) (line : ℕ) (s : StatementTree) → IsRead fields line s → IsOperation s.op
 read-named fields line s read = operation-named (is_some fields.label) fields.op (operation_of fields.op) s.op refl read.op_is

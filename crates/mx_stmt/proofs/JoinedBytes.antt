@@ -6,10 +6,7 @@ use Rattle.std.proofs.Math.Nat.{pow-suc}
 
 -- two pairs that are joined in another order
 pub xor-pairs : (a b c d : ℕ) → bit_xor (bit_xor a b) (bit_xor c d) ≡ bit_xor (bit_xor a c) (bit_xor b d)
-xor-pairs a b c d =
-    xor_assoc a b (bit_xor c d)
-    ∙ ap (bit_xor a) (sym (xor_assoc b c d) ∙ ap (λ n. bit_xor n d) (xor_comm b c) ∙ xor_assoc c b d)
-    ∙ sym (xor_assoc a c (bit_xor b d))
+xor-pairs a b c d = grind (arith, xor_assoc, xor_comm)
 
 pub placed-append : (xs ys : List (ℕ × ℕ)) (a : ℕ) → placed (xs ++ ys) a ≡ bit_xor (placed xs a) (placed ys a)
 placed-append [] ys a = sym (xor_zero_l (placed ys a))

@@ -1,5 +1,5 @@
 -- What data operands place, with their targets known and with none.
-use Rattle.std.proofs.Common.{◌≡◌, ◌<◌, ◌≤◌, ℕ, ◌+◌, ◌-◌, ◌%◌, ◌^◌, ◌==◌, List, [], ◌∷◌, ◌++◌, length, Ok, Err, bit_xor, refl, sym, ap, ◌∙◌, arith, rules}
+use Rattle.std.proofs.Common.{◌≡◌, ◌<◌, ◌≤◌, ℕ, ◌+◌, ◌%◌, ◌^◌, List, [], ◌∷◌, ◌++◌, length, Ok, Err, bit_xor, refl, sym, ap, ◌∙◌, arith, rules}
 use Rattle.mx_stmt.proofs.Words.{length-append, Wait, Tree, Target, Data, Answer, AreAlike, Known, Targets, no_targets, data_target, datum, joined_data, with_rest, no_data, data_of, data_form, from_place, placed, fix_placements, common_steps, nat_tests}
 use Rattle.mx_stmt.specs.declared.operands.Target.TheVariants as target
 use Rattle.mx_stmt.proofs.Alike.{alike-fault, alike-values, alike-then}

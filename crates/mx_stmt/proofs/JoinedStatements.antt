@@ -1,5 +1,5 @@
 -- What a statement places, with its targets known and with none.
-use Rattle.std.proofs.Common.{◌≡◌, ◌≤◌, ℕ, ◌+◌, ◌++◌, Option, refl, ap, ◌∙◌, arith, append-nil, rules}
+use Rattle.std.proofs.Common.{ℕ, Option, refl, ap, arith, append-nil, rules}
 use Rattle.mx_stmt.proofs.Words.{Data, Tetra, Label, Placed, Answer, AreAlike, Known, Targets, no_targets, StatementTree, with_bytes, tetra_waits, tetra_data, with_tetra, with_data, encoding, IsFixed, IsOperation, IsSound}
 use Rattle.mx_stmt.proofs.Alike.{alike-fault, alike-values, alike-after}
 use Rattle.mx_stmt.proofs.JoinedTetras.{IsJoined, alike-none, coded-joined}

@@ -1,6 +1,6 @@
 -- The tetra of an instruction, with its target known and with none.
-use Rattle.std.proofs.Common.{◌≡◌, ℕ, ◌%◌, true, List, [], ◌++◌, Option, bit_xor, refl, sym, ap, ◌∙◌, append-nil, rules}
-use Rattle.mx_stmt.proofs.Words.{tetra_to_bytes, WaitKind, Near, Far, Tree, Shape, Target, Tetra, Answer, AreAlike, Known, Targets, no_targets, register_at, target_at, near_reach, far_reach, future_word, relative_form, branch_form, jump_form, with_register, form_by, tetra_wyde, tetra_whole, tetra_waits, from_place, placed, fix_bytes, fix_placements, IsSound}
+use Rattle.std.proofs.Common.{◌≡◌, ℕ, ◌%◌, true, List, [], ◌++◌, Option, bit_xor, refl, sym, ap, ◌∙◌, append-nil, rules, arith}
+use Rattle.mx_stmt.proofs.Words.{tetra_to_bytes, WaitKind, Tree, Shape, Target, Tetra, Answer, AreAlike, Known, Targets, no_targets, future_word, relative_form, branch_form, jump_form, with_register, form_by, tetra_waits, from_place, placed, fix_bytes, fix_placements, IsSound}
 use Rattle.mx_stmt.specs.declared.operands.Target.TheVariants as target
 use Rattle.mx_stmt.proofs.Alike.{alike-fault, alike-values, alike-then}
 use Rattle.mx_stmt.proofs.JoinedBytes.{placed-append, placed-joined}
@@ -35,15 +35,10 @@ module _ (t : Targets) (k : Known) (line code : ℕ) where
   Joined = AreAlike (IsJoined t line k.at)
 
   branch-joined : (x a : Tree) → IsSound k → code % 2 ≡ 0 → Joined (with_register k x (λ x. branch_form no_targets k code x a)) (with_register k x (λ x. branch_form t k code x a))
-  branch-joined x a sound even =
-      alike-then _ (register_at k x) (λ x. branch_form no_targets k code x a) (λ x. branch_form t k code x a) (λ r is.
-      alike-then _ (target_at k a) (relative_form no_targets (tetra_wyde code r 0) near_reach k.at Near) (relative_form t (tetra_wyde code r 0) near_reach k.at Near) (λ target found.
-      relative-alike t line k.at (tetra_wyde code r 0) near_reach Near target (branch-head code r even (register-fits k x r sound is)) (λ target. refl)))
+  branch-joined x a sound even = search (rules, alike-then, relative-alike, branch-head, register-fits)
 
   jump-joined : (a : Tree) → code % 2 ≡ 0 → Joined (jump_form no_targets k code a) (jump_form t k code a)
-  jump-joined a even =
-      alike-then _ (target_at k a) (relative_form no_targets (tetra_whole code 0) far_reach k.at Far) (relative_form t (tetra_whole code 0) far_reach k.at Far) (λ target found.
-      relative-alike t line k.at (tetra_whole code 0) far_reach Far target (jump-head code even) (λ target. refl))
+  jump-joined a even = grind (arith, alike-then, relative-alike, jump-head)
 
   pub coded-joined : (shapes : List Shape) (l : List Tree) → IsSound k → (has_address shapes ≡ true → code % 2 ≡ 0) → Joined (form_by no_targets k shapes code l) (form_by t k shapes code l)
   coded-joined shapes l sound even =

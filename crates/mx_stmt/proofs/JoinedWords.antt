@@ -1,7 +1,7 @@
 -- A relative address is joined to its instruction by exclusive or.
-use Rattle.std.proofs.Common.{◌≡◌, ◌<◌, ◌≤◌, ℕ, ◌+◌, ◌-◌, ◌*◌, ◌/◌, ◌%◌, ◌^◌, ◌==◌, not, nat_le, nat_lt, Bool, true, false, cond, Option, None, Some, Ok, Err, bit_xor, refl, sym, ap, ◌∙◌, arith, rules}
+use Rattle.std.proofs.Common.{◌≡◌, ◌<◌, ℕ, ◌+◌, ◌*◌, ◌%◌, ◌^◌, Option, bit_xor, ap, ◌∙◌, arith, rules}
 use Rattle.std.specs.Result.{result_unwrap_or}
-use Rattle.mx_stmt.proofs.Words.{xor_zero_l, xor_zero_r, xor_block, eqb-true, leb-true, leb-false, ltb-true, NotMultiple, TooFar, forward_word, backward_word, future_word, tetra_wyde, tetra_whole, near_reach, far_reach, common_steps, nat_tests}
+use Rattle.mx_stmt.proofs.Words.{xor_zero_l, xor_zero_r, xor_block, eqb-true, leb-true, leb-false, ltb-true, forward_word, backward_word, future_word, tetra_wyde, tetra_whole, near_reach, far_reach, common_steps, nat_tests}
 
 -- A head takes a number below the reach, and the second code with it.
 pub record IsHead (head reach : ℕ) : Type 0 where
@@ -10,30 +10,13 @@ pub record IsHead (head reach : ℕ) : Type 0 where
 
 module _ (head reach : ℕ) (is : IsHead head reach) where
   ahead : (distance : ℕ) → result_unwrap_or (forward_word head reach distance) head ≡ bit_xor head (result_unwrap_or (forward_word 0 reach distance) 0)
-  ahead distance = by (distance % 4 == 0) (nat_lt (distance / 4) reach) (ltb-true (distance / 4) reach)
-    where
-      by : (b c : Bool) → (c ≡ true → distance / 4 < reach) → result_unwrap_or (cond (not b) (Err NotMultiple) (cond c (Ok (head + distance / 4)) (Err TooFar))) head ≡ bit_xor head (result_unwrap_or (cond (not b) (Err NotMultiple) (cond c (Ok (0 + distance / 4)) (Err TooFar))) 0)
-      by true true near = is.forward_fix (distance / 4) (near refl) ∙ ap (bit_xor head) (omega arith)
-      by true false near = sym (xor_zero_r head)
-      by false true near = sym (xor_zero_r head)
-      by false false near = sym (xor_zero_r head)
+  ahead distance = grind (arith, ltb-true, xor_zero_r)
 
   behind : (distance : ℕ) → 0 < distance → result_unwrap_or (backward_word head reach distance) head ≡ bit_xor head (result_unwrap_or (backward_word 0 reach distance) 0)
-  behind distance some = by (distance % 4 == 0) (nat_le (distance / 4) reach) (eqb-true (distance % 4) 0) (leb-true (distance / 4) reach)
-    where
-      by : (b c : Bool) → (b ≡ true → distance % 4 ≡ 0) → (c ≡ true → distance / 4 ≤ reach) → result_unwrap_or (cond (not b) (Err NotMultiple) (cond c (Ok (head + 2 ^ 24 + (reach - distance / 4))) (Err TooFar))) head ≡ bit_xor head (result_unwrap_or (cond (not b) (Err NotMultiple) (cond c (Ok (2 ^ 24 + (reach - distance / 4))) (Err TooFar))) 0)
-      by true true whole near = is.backward_fix (reach - distance / 4) (omega (arith, whole refl, near refl))
-      by true false whole near = sym (xor_zero_r head)
-      by false true whole near = sym (xor_zero_r head)
-      by false false whole near = sym (xor_zero_r head)
+  behind distance some = grind (arith, eqb-true, leb-true, xor_zero_r)
 
   pub word-joined : (place : ℕ) (target : Option ℕ) → future_word head reach place target ≡ bit_xor head (future_word 0 reach place target)
-  word-joined place None = sym (xor_zero_r head)
-  word-joined place (Some target) = by (nat_le place target) (leb-false place target)
-    where
-      by : (b : Bool) → (b ≡ false → target < place) → result_unwrap_or (cond b (forward_word head reach (target - place)) (backward_word head reach (place - target))) head ≡ bit_xor head (result_unwrap_or (cond b (forward_word 0 reach (target - place)) (backward_word 0 reach (place - target))) 0)
-      by true less = ahead (target - place)
-      by false less = behind (place - target) (omega (arith, less refl))
+  word-joined place target = grind (arith, xor_zero_r, leb-false)
 
 -- a number whose low bits are zero, with one that has more bits
 block-joined : (k a b d : ℕ) → 0 < 2 ^ k → d < 2 ^ k → bit_xor (a * 2 ^ k) (b * 2 ^ k + d) ≡ bit_xor a b * 2 ^ k + d

@@ -1,5 +1,5 @@
 -- The nearest base, register by register.
-use Rattle.std.proofs.Common.{◌≡◌, ◌≢◌, ◌<◌, ◌≤◌, ℕ, zero, suc, ◌+◌, ◌-◌, ◌==◌, List, [], ◌∷◌, length, drop, Option, None, Some, slice_index, arith, add-one, refl, ap, subst, ◌∙◌, rules}
+use Rattle.std.proofs.Common.{◌≡◌, ◌≢◌, ◌<◌, ◌≤◌, ℕ, zero, suc, ◌+◌, ◌-◌, List, [], ◌∷◌, length, drop, Option, None, Some, slice_index, arith, add-one, refl, ap, subst, ◌∙◌, rules}
 use Rattle.mx_stmt.proofs.Words.{drop_more, eqb-true, eqb-false, leb-true, leb-false, difference, IsNearest, greg_value, lowest_of, nearest_base, nearest_from, nearer_base}
 use Rattle.std.proofs.Math.Seq.{drop-length}
 use Rattle.mx_stmt.specs.declared.gregs.Base.{Base}

@@ -1,6 +1,6 @@
 -- Each fault of a statement that is read or encoded has a number above 0: none is want of memory.
-use Rattle.std.proofs.Common.{◌≡◌, ◌<◌, ℕ, ◌+◌, ◌%◌, ◌^◌, ◌==◌, List, [], ◌∷◌, Option, None, Bool, Result, Ok, Err, sym, subst, arith, rules}
-use Rattle.std.specs.Prelude.{IfErr, is_some}
+use Rattle.std.proofs.Common.{◌≡◌, ◌<◌, ℕ, ◌+◌, ◌%◌, ◌^◌, ◌==◌, List, [], ◌∷◌, Option, None, Ok, Err, arith, rules}
+use Rattle.std.specs.Prelude.{IfErr}
 use Rattle.mx_expr.specs.Faults as expressions
 use Rattle.mx_ops.specs.declared.op.Op.TheVariants.{Pseudo as PseudoOp}
 use Rattle.mx_expr.specs.Spelling.{FaultAt}
@@ -9,9 +9,8 @@ use Rattle.mx_stmt.specs.Data.{data_number}
 use Rattle.mx_stmt.specs.Encoding.{prefix_form}
 use Rattle.mx_stmt.specs.Gregs.{near_base}
 use Rattle.mx_stmt.specs.Operands.{field_number, pure_number, register_or_byte}
-use Rattle.mx_stmt.specs.declared.operands.RegisterOrByte.{RegisterOrByte}
 use Rattle.mx_stmt.specs.declared.gregs.Base.{Base}
-use Rattle.mx_stmt.proofs.Words.{cond_both, nat_tests, Value, Awaited, Tree, name, unary, binary, Valued, value_of, ExprFault, IsFirst, Op, Code, Lda, Set, shapes_of, Pseudo, Shape, Three, Regs, Round, Neg, Mem, MemPure, Free, last_form, last_two, rounded_last, free_form, WaitKind, Data, Tetra, Target, Label, Placed, StmtFault, Answer, and_then, Known, Targets, knowledge_of, answer_of, operand_value, register_number, register_at, pure_at, field_at, register_or_byte_at, reference_of, known_target, target_by, target_at, base_for, register_for, relative_word, relative_form, branch_form, jump_form, address_of, address_form, free_at, set_to, form, form_by, set_form, data_target, datum, with_rest, data_of, data_form, tetra_data, with_bytes, with_tetra, with_data, complete_symbol, one_form, one_operand, pseudo_form, op_form, StatementTree, encoding, Fields, IsFault, operation_for, operation_of, operation_with, operation, operand_list, fault_of}
+use Rattle.mx_stmt.proofs.Words.{cond_both, nat_tests, Value, Awaited, Tree, unary, binary, Valued, value_of, ExprFault, Op, Code, Lda, Set, shapes_of, Pseudo, Shape, Three, Regs, Round, Neg, Mem, MemPure, Free, last_form, last_two, rounded_last, free_form, WaitKind, Data, Tetra, Target, Label, StmtFault, Answer, and_then, Known, Targets, knowledge_of, answer_of, operand_value, register_number, register_at, pure_at, field_at, register_or_byte_at, reference_of, target_by, target_at, register_for, relative_word, relative_form, address_of, free_at, form, form_by, set_form, data_target, with_rest, data_of, tetra_data, with_bytes, with_tetra, complete_symbol, one_form, one_operand, pseudo_form, op_form, StatementTree, encoding, Fields, IsFault, fault_of}
 
 -- a fault of an answer has a number above 0
 unfoldable HasNumber : {A : Type 0} → Answer A → Type 0
@@ -20,8 +19,7 @@ HasNumber (Ok x) = Unit {0}
 
 number-then : {A B : Type 0} (a : Answer A) (next : A → Answer B) → HasNumber a → ((x : A) → HasNumber (next x)) → HasNumber (and_then a next)
 unfolding HasNumber
-number-then (Err fault) next h g = h
-number-then (Ok x) next h g = g x
+number-then a next h g = search rules
 
 number-ok : {A : Type 0} (x : A) → HasNumber {A = A} (Ok x)
 unfolding HasNumber
@@ -131,8 +129,7 @@ number-form t k shape code (x ∷ y ∷ z ∷ []) = search (rules, number-fault)
 number-form t k shape code (x ∷ y ∷ z ∷ w ∷ more) = search (rules, number-fault)
 
 number-by : (t : Targets) (k : Known) (shapes : List Shape) (code : ℕ) (l : List Tree) → HasNumber (form_by t k shapes code l)
-number-by t k [] code l = number-fault _ _ (omega arith)
-number-by t k (shape ∷ shapes) code l = number-form t k shape code l
+number-by t k shapes code l = grind (arith, number-fault, number-form)
 
 number-set : (k : Known) (l : List Tree) → HasNumber (set_form k l)
 number-set k l = search (rules, number-then, number-register, number-operand, number-ok, number-fault)
@@ -153,8 +150,7 @@ datum-number k size e = cond_both (size == 8) _ _ HasNumber (λ _. number-target
 number-data : (t : Targets) (k : Known) (line size place : ℕ) (es : List Tree) → HasNumber (data_of t k line size place es)
 unfolding data_of
 number-data t k line size place [] = number-ok _
-number-data t k line size place (e ∷ es) =
-    number-then (data_target k size e) _ (datum-number k size e) (λ target. rest-number (datum t line size place target) _ (number-data t k line size ((place + size) % 2 ^ 64) es))
+number-data t k line size place (e ∷ es) = grind (arith, number-then, datum-number, rest-number, number-data t k line size ((place + size) % 2 ^ 64) es)
 
 -- ---- statements
 
@@ -190,23 +186,17 @@ number-op t k line label Set operands = number-tetra k line label _ (number-set 
 
 fault-number : {A : Type 0} (a : Answer A) (fault : StmtFault) → HasNumber a → a ≡ Err fault → 0 < fault_number fault
 unfolding HasNumber
-fault-number (Err other) fault h is = let same : other ≡ fault = cc in subst (λ f. 0 < fault_number f) same h
-fault-number (Ok x) fault h is = absurd (cc)
+fault-number a fault h is = search rules
 
 pub encoding-number : (t : Targets) (k : Known) (s : StatementTree) (fault : StmtFault) → encoding t k s ≡ Err fault → 0 < fault_number fault
 encoding-number t k s fault is = fault-number (encoding t k s) fault (number-op t _ s.line s.label s.op s.operands) is
 
 -- ---- reading
 
-number-read : (labelled : Bool) (found : Option Op) → HasNumber (operation_with labelled found)
-unfolding HasNumber
-number-read labelled found = grind arith
-
 first-number : (field : List ℕ) (fault : ExprFault) (place : ℕ) → FaultAt field fault place → 0 < fault_number (fault_of fault)
 first-number field fault place h = search rules
 
 pub read-number : (fields : Fields) (fault : StmtFault) → IsFault fields fault → 0 < fault_number fault
-read-number fields fault (operation other is) = fault-number (operation_for (is_some fields.label) fields.op) other (number-read (is_some fields.label) (operation_of fields.op)) is
-read-number fields fault (operand_list op first is least) = first-number fields.operands first least.place least.stands
+read-number fields fault h = search rules
 
 pub ruleset numbered = (encoding-number, read-number)

@@ -1,5 +1,5 @@
 -- A code with a second one is not one of the last two.
-use Rattle.std.proofs.Common.{◌≡◌, ◌≢◌, ◌<◌, ℕ, ◌^◌, false, [], ◌∷◌, IsTrue, arith, refl, ◌∙◌, rules}
+use Rattle.std.proofs.Common.{◌≡◌, ◌≢◌, ◌<◌, ℕ, ◌^◌, false, [], ◌∷◌, IsTrue, arith, refl, rules}
 use Rattle.mx_stmt.proofs.Words.{Shape, Get, Free, shapes_of, shape_spans, has_second}
 
 last-code : shapes_of 255 ≡ Free ∷ []

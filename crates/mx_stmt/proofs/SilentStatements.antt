@@ -1,7 +1,6 @@
 -- Statements that place no bytes: where what is known is sound, so are their labels and the registers of GREGs.
-use Rattle.std.proofs.Common.{◌≡◌, ◌<◌, ◌≤◌, ℕ, ◌+◌, ◌-◌, ◌==◌, List, [], ◌∷◌, Option, Ok, Err, refl, arith, rules}
+use Rattle.std.proofs.Common.{◌≡◌, ◌≤◌, ℕ, List, [], Option, Ok, Err, refl, arith, rules}
 use Rattle.mx_stmt.proofs.Words.{IfSome, Value, Tree, Pseudo, Label, Placed, StmtFault, Answer, and_then, IsAllocable, lowest_of, register_for, Known, IsPossible, label_value, without_bytes, prefix_form, one_form, one_operand, HasRegisterNumber, IsSound}
-use Rattle.mx_ops.specs.declared.op.Pseudo.TheVariants as pseudo
 use Rattle.mx_stmt.specs.declared.placed.Effect.{Effect}
 use Rattle.mx_stmt.proofs.RegisterNumbers.{operand-fits}
 

@@ -1,5 +1,5 @@
 -- What is known stays sound when a label is defined or a register is given.
-use Rattle.std.proofs.Common.{◌≡◌, ◌≤◌, ℕ, ◌-◌, List, [], ◌∷◌, slice_set, None, arith, rules}
+use Rattle.std.proofs.Common.{◌≡◌, ℕ, List, [], slice_set, None, arith, rules}
 use Rattle.mx_stmt.proofs.Words.{Value, start, with_symbol, IsAllocable, with_greg, Known, HasRegisterNumber, IsSound, common_steps, nat_tests}
 use Rattle.mx_names.specs.Names.{value_in}
 use Rattle.mx_names.proofs.Entries.{value-defined}

@@ -1,5 +1,5 @@
 -- The value of a label and the register of a GREG are sound where what is known is.
-use Rattle.std.proofs.Common.{◌≡◌, ℕ, ◌+◌, nat_lt, List, length, Option, Ok, Err, refl, subst}
+use Rattle.std.proofs.Common.{◌≡◌, ℕ, ◌+◌, nat_lt, List, length, Option, Ok, Err, rules}
 use Rattle.mx_stmt.proofs.Words.{cond_both, Pure, Data, Label, Placed, BadPlace, Answer, and_then, Known, Targets, form_by, data_form, StatementTree, with_bytes, tetra_data, encoding, IsSound}
 use Rattle.mx_stmt.proofs.EveryStatement.{at_place, every-statement}
 use Rattle.mx_stmt.proofs.SilentStatements.{AreSilent, IsFine, label-fits}
@@ -10,8 +10,7 @@ AllFine gregs (Ok p) = IsFine gregs p
 
 fine-then : (gregs : List ℕ) {A : Type 0} (a : Answer A) (next : A → Answer Placed) → ((x : A) → a ≡ Ok x → AllFine gregs (next x)) → AllFine gregs (and_then a next)
 unfolding AllFine
-fine-then gregs (Err fault) next h = tt
-fine-then gregs (Ok x) next h = h x refl
+fine-then gregs a next h = search rules
 
 fine-bytes : (k : Known) (label : Option Label) (d : Data) → AllFine k.gregs (with_bytes k label d)
 unfolding AllFine
@@ -19,13 +18,11 @@ fine-bytes k label d = cond_both (nat_lt 0x6000_0000_0000_0000 (k.at + length d.
 
 fine-silent : (k : Known) (a : Answer Placed) → IsSound k → AreSilent k a → AllFine k.gregs a
 unfolding AllFine AreSilent
-fine-silent k (Err fault) sound h = tt
-fine-silent k (Ok p) sound h = h.fine sound
+fine-silent k a sound h = search rules
 
 fine-value : (gregs : List ℕ) (a : Answer Placed) (p : Placed) → AllFine gregs a → a ≡ Ok p → IsFine gregs p
 unfolding AllFine
-fine-value gregs (Err fault) p fine is = cc
-fine-value gregs (Ok q) p fine is = let same : q ≡ p = cc in subst (IsFine gregs) same fine
+fine-value gregs a p fine is = search rules
 
 pub encoding-fine : (t : Targets) (k : Known) (s : StatementTree) (p : Placed) → IsSound k → encoding t k s ≡ Ok p → IsFine k.gregs p
 encoding-fine t k s p sound is =
