@@ -1,6 +1,6 @@
 -- What dB stands for: the value of the last label dH before the statement, and pure 0 where there is none.
-use Rattle.std.proofs.Common.{◌≡◌, ℕ, zero, suc, ◌<◌, ◌≤◌, List, [], ◌∷◌, ◌++◌, length, length-set, fold, replicate, slice_set, slice_index_or, false, Option, Some, Ok, Err, refl, ap, ◌∙◌, arith, rules}
-use Rattle.mx_asm.proofs.Words.{fold-append, Value, Pure, back, value_of, NameTable, back_of, Label, Local, Effect, Placed, Answer, Known, no_targets, knowledge_of, StatementTree, encoding, with_label, with_effect, known_with, known_after, nothing_known, final_known, is_local, nat_tests, common_steps}
+use Rattle.std.proofs.Common.{◌≡◌, ℕ, zero, suc, ◌<◌, ◌≤◌, List, [], ◌∷◌, ◌++◌, length, fold, replicate, slice_set, slice_index_or, false, Some, Ok, refl, ap, ◌∙◌, arith, rules}
+use Rattle.mx_asm.proofs.Words.{fold-append, Value, Pure, back, value_of, back_of, Local, Placed, Answer, Known, no_targets, knowledge_of, StatementTree, encoding, with_label, known_with, known_after, nothing_known, final_known, is_local}
 use Rattle.mx_asm.specs.Locals.{HasNoLocal}
 use Rattle.mx_asm.specs.TwoPass.{value_in}
 
@@ -9,34 +9,15 @@ set-here [] d v l = absurd (omega (arith, l))
 set-here (x ∷ xs) zero v l = refl
 set-here (x ∷ xs) (suc d) v l = set-here xs d v (omega (arith, l))
 
-effect-backs : (k : Known) (e : Effect) → (with_effect k e).names.backs ≡ k.names.backs
-effect-backs k e = grind (arith, nat_tests)
-
-label-backs : (names : NameTable) (label : Option Label) (value : Option Value) (d : ℕ) → is_local d label ≡ false → back_of (with_label names label value) d ≡ back_of names d
-label-backs names label value d h = grind (arith, common_steps, nat_tests)
-
-label-length : (names : NameTable) (label : Option Label) (value : Option Value) → length (with_label names label value).backs ≡ length names.backs
-label-length names label value = search (rules, length-set)
-
 module _ (k : Known) (s : StatementTree) where
   abbrev labelled : Placed → Known
   labelled p = record { names = with_label k.names s.label p.label; at = p.after; gregs = k.gregs }
 
   kept-with : (r : Answer Placed) (d : ℕ) → is_local d s.label ≡ false → back_of (known_with k s r).names d ≡ back_of k.names d
-  kept-with (Err fault) d other = refl
-  kept-with (Ok p) d other = ap (λ backs. slice_index_or backs d (Pure 0)) (effect-backs (labelled p) p.effect) ∙ label-backs k.names s.label p.label d other
+  kept-with r d other = search rules
 
   length-with : (r : Answer Placed) → length (known_with k s r).names.backs ≡ length k.names.backs
-  length-with (Err fault) = refl
-  length-with (Ok p) = ap length (effect-backs (labelled p) p.effect) ∙ label-length k.names s.label p.label
-
-  last-with : (r : Answer Placed) (d : ℕ) (value : Value) → d < length k.names.backs → s.label ≡ Some (Local d) → value_in r ≡ Some value → back_of (known_with k s r).names d ≡ value
-  last-with (Err fault) d value l label is = absurd (cc)
-  last-with (Ok p) d value l label is =
-      ap (λ backs. slice_index_or backs d (Pure 0)) (effect-backs (labelled p) p.effect)
-      ∙ ap (λ label. back_of (with_label k.names label p.label) d) label
-      ∙ ap (λ v. back_of (with_label k.names (Some (Local d)) v) d) is
-      ∙ set-here k.names.backs d value l
+  length-with r = search rules
 
 all-kept : (statements : List StatementTree) (k : Known) (d : ℕ) → HasNoLocal d statements → back_of (fold known_after k statements).names d ≡ back_of k.names d
 unfolding known_after

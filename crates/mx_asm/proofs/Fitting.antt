@@ -1,6 +1,6 @@
 -- Lists of items that fit.
-use Rattle.std.proofs.Common.{◌≢◌, ◌<◌, ◌≤◌, ℕ, ◌^◌, List, [], ◌∷◌, ◌++◌, length, ◌-◌, Some, refl, sym, ap, subst, ◌∙◌, arith, append_assoc, append-nil, codes}
-use Rattle.mx_asm.proofs.Words.{append_cancel_left, all-front, all-both, AreOctas, Item, File, Pre, Post, Fits, AreFit, GrowsFit, IsFront, GrowsAlike, nat_tests, common_steps}
+use Rattle.std.proofs.Common.{◌≢◌, ◌<◌, ◌≤◌, ℕ, ◌^◌, List, [], ◌∷◌, ◌++◌, length, ◌-◌, Some, refl, sym, subst, arith, append_assoc, append-nil, codes}
+use Rattle.mx_asm.proofs.Words.{append_cancel_left, all-both, AreOctas, Item, File, Pre, Post, Fits, AreFit, GrowsFit, IsFront, GrowsAlike, nat_tests, common_steps}
 
 pub fit-none : AreFit []
 unfolding AreFit
@@ -16,10 +16,6 @@ fit-both xs ys h g = all-both Fits xs ys h g
 
 pub fit-push : (xs : List Item) (i : Item) → AreFit xs → Fits i → AreFit (xs ++ i ∷ [])
 fit-push xs i h g = fit-both xs (i ∷ []) h (fit-one i g)
-
-pub fit-front : (xs ys : List Item) → AreFit (xs ++ ys) → AreFit xs
-unfolding AreFit
-fit-front xs ys h = all-front Fits xs ys h
 
 pub octas-push : (xs : List ℕ) (x : ℕ) → AreOctas xs → x < 2 ^ 64 → AreOctas (xs ++ x ∷ [])
 octas-push xs x h g = all-both (λ x. x < 2 ^ 64) xs (x ∷ []) h (g, tt)
@@ -50,11 +46,7 @@ pub grows-none : (xs : List Item) → GrowsFit xs xs
 grows-none xs = record { items = []; added = sym (append-nil xs); fit = fit-none }
 
 pub grows-on : (xs ys zs : List Item) → GrowsFit xs ys → GrowsFit ys zs → GrowsFit xs zs
-grows-on xs ys zs h g = record {
-  items = h.items ++ g.items;
-  added = g.added ∙ ap (λ l. l ++ g.items) h.added ∙ append_assoc xs h.items g.items;
-  fit = fit-both h.items g.items h.fit g.fit;
-}
+grows-on xs ys zs h g = grind (arith, append_assoc, fit-both)
 
 pub grows-one : (xs : List Item) (i : Item) → Fits i → GrowsFit xs (xs ++ i ∷ [])
 grows-one xs i h = grows-by xs (i ∷ []) (fit-one i h)
@@ -78,8 +70,7 @@ grows-front xs ys h = (h.items, h.added)
 
 -- what is added fits, so the whole does where its front does
 pub grows-whole : (front whole old new : List Item) → GrowsAlike front whole old new → GrowsFit old new → AreFit front → AreFit whole
-grows-whole front whole old new g h fit =
-    subst AreFit (sym g.due) (fit-both front g.items fit (subst AreFit (append_cancel_left old h.items g.items (sym h.added ∙ g.added)) h.fit))
+grows-whole front whole old new g h fit = grind (arith, fit-both, append_cancel_left)
 
 pub ruleset fitting = (fit-none, fit-one, fit-both, fit-push, fit-time, fit-file, octas-push)
 

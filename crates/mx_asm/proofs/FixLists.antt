@@ -1,18 +1,14 @@
 -- The records of references, one after another.
-use Rattle.std.proofs.Common.{◌≡◌, ◌<◌, ◌≤◌, ℕ, ◌+◌, List, [], ◌∷◌, ◌++◌, length, drop, get_or, Result, Ok, Err, refl, ap, sym, ◌∙◌, append_assoc, append-nil}
+use Rattle.std.proofs.Common.{◌≡◌, ◌<◌, ◌≤◌, ℕ, ◌+◌, List, [], ◌∷◌, ◌++◌, length, drop, get_or, Result, Ok, Err, ap, sym, ◌∙◌, append_assoc, append-nil, arith}
 use Rattle.mx_asm.proofs.Words.{drop_more, drop_all, Value, Wait, Item, AsmFault, Refused, refused_from, fix_of, with_fix, fixes, onto}
 
 onto-both : (front : List Item) (fix : Item) (line from : ℕ) (later : Result (List Item) Refused) → onto front (with_fix line from (Ok fix) later) ≡ onto (front ++ fix ∷ []) later
-onto-both front fix line from (Err r) = refl
-onto-both front fix line from (Ok fixes) = ap (λ items. Ok items) (sym (append_assoc front (fix ∷ []) fixes))
+onto-both front fix line from later = grind (arith, append_assoc)
 
 module _ (line : ℕ) (value : Value) where
   fixes-here : (i : ℕ) (waits : List Wait) (w : Wait) → i < length waits → fixes line value (drop i waits) ≡ with_fix line (get_or waits i w).line (fix_of value (get_or waits i w)) (fixes line value (drop (i + 1) waits))
   unfolding fixes
   fixes-here i waits w within = ap (fixes line value) (drop_more waits i w within)
-
-  pub fixes-begin : (front : List Item) (waits : List Wait) → onto front (fixes line value (drop 0 waits)) ≡ onto front (fixes line value waits)
-  fixes-begin front waits = refl
 
   pub fixes-failed : (front : List Item) (i : ℕ) (waits : List Wait) (w : Wait) (fault : AsmFault) → i < length waits → w ≡ get_or waits i w → Err fault ≡ fix_of value w →
       onto front (fixes line value (drop i waits)) ≡ Err (refused_from line fault w.line)

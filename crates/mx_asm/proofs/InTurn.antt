@@ -1,9 +1,11 @@
--- Lines that an assembler has taken, and one line more.
-use Rattle.std.proofs.Common.{◌≡◌, ℕ, Bool, true, false, cond, List, [], ◌∷◌, ◌++◌, fold, Option, None, Some, Ok, Err, refl, ap, sym, ◌∙◌, append_assoc, append-nil, rules}
-use Rattle.mx_asm.proofs.Words.{result_err, fold-append, Item, Refused, Wait, AsmFault, Entry, statements_in, source_entries, Sight, final_known, opening, emission, padded_trie, statement_fault, first_fault, refusal, Assembly, Standing, Taken, Progress, Ended, beginning, behind_entry, and_entries, entries_taken, line_unless, with_opening, line_behind, ended_main, ended_waits, ended, end_behind, GrowsAlike, Line, accepted, accepted_with, entries_items, assembled_with, assembled_lines, assembled_source, line_after, lines_items, lines_taken, HasTaken}
+-- Lines that an assembler has taken, one line more, and the items of all of them.
+use Rattle.std.proofs.Common.{◌≡◌, ℕ, Bool, cond, List, [], ◌∷◌, ◌++◌, fold, Option, None, Some, Ok, Err, refl, ap, sym, ◌∙◌, append_assoc, append-nil, rules, map, arith}
+use Rattle.mx_asm.proofs.Words.{result_err, fold-append, Item, Refused, Wait, AsmFault, Entry, statements_in, source_entries, Sight, final_known, opening, emission, padded_trie, first_fault, refusal, Assembly, Standing, Taken, Progress, Ended, beginning, behind_entry, and_entries, entries_taken, line_unless, with_opening, line_behind, ended_main, ended_waits, ended, end_behind, GrowsAlike, Line, accepted, accepted_with, entries_items, assembled_with, assembled_lines, assembled_source, line_after, lines_items, lines_taken, HasTaken, Known, StatementTree, refusal_in, nothing_known, known_after, sights_from, sights_of, first_head, items_from, front, lines_entries, lines_refusal}
 use Rattle.mx_asm.proofs.OnePassLaw.{items-are, refusal-is}
-use Rattle.mx_asm.proofs.EndWaits.{both-none}
-use Rattle.mx_asm.proofs.EndLaw.{whole-is}
+use Rattle.mx_asm.proofs.EndLaw.{both-none, whole-is}
+use Rattle.mx_asm.specs.Whole.{accepted_in}
+
+-- ---- lines that an assembler has taken, and one line more
 
 -- ---- what was added before makes no difference
 
@@ -11,13 +13,11 @@ abbrev pub behind_items : {X : Type 0} → List Item → List Item × X → List
 behind_items out p = (out ++ p.0, p.1)
 
 entry-behind : (out front : List Item) (t : Taken) → behind_entry (out ++ front) t ≡ behind_items out (behind_entry front t)
-entry-behind out front (Err refused) = refl
-entry-behind out front (Ok (items, a)) = ap (λ l. (l, Ok a)) (append_assoc out front items)
+entry-behind out front t = grind (arith, append_assoc)
 
 and-behind : (more : List Item → Assembly → Progress) (out : List Item) → ((front : List Item) (a : Assembly) → more (out ++ front) a ≡ behind_items out (more front a)) →
     (p : Progress) → and_entries more (behind_items out p) ≡ behind_items out (and_entries more p)
-and-behind more out h (front, Err refused) = refl
-and-behind more out h (front, Ok a) = h front a
+and-behind more out h p = search rules
 
 entries-behind : (entries : List Entry) (out front : List Item) (a : Assembly) → entries_taken entries (out ++ front) a ≡ behind_items out (entries_taken entries front a)
 unfolding entries_taken
@@ -35,8 +35,7 @@ line-behind out a text = search (rules, append-nil, opening-behind, unless-behin
 
 trie-behind : (long : Bool) (out front more : List Item) (r : Refused) (trie : List ℕ) →
     cond {A = Ended} long (out ++ front, Err r) (out ++ front ++ more, Ok trie) ≡ behind_items out (cond {A = Ended} long (front, Err r) (front ++ more, Ok trie))
-trie-behind true out front more r trie = refl
-trie-behind false out front more r trie = ap (λ l. (l, Ok trie)) (append_assoc out front more)
+trie-behind long out front more r trie = grind (arith, append_assoc)
 
 main-behind : (f : Option AsmFault) (out front : List Item) (a : Assembly) → ended_main (out ++ front) a f ≡ behind_items out (ended_main front a f)
 main-behind f out front a = search (rules, trie-behind)
@@ -108,9 +107,7 @@ taken-grows lines out a h = end-grows lines out a (end_behind out a) refl h
 pub all-accepted : (later before : List Sight) → first_fault before later ≡ None → accepted before later ≡ later
 unfolding accepted first_fault
 all-accepted [] before none = refl
-all-accepted (s ∷ later) before none =
-    let parts = both-none (statement_fault before s) (first_fault (before ++ s ∷ []) later) none in
-    (λ i. accepted_with (parts.0 i) s (accepted (before ++ s ∷ []) later)) ∙ ap (λ ss. s ∷ ss) (all-accepted later (before ++ s ∷ []) parts.1)
+all-accepted (s ∷ later) before none = grind (arith, both-none, all-accepted later (before ++ s ∷ []))
 
 pub source-accepted : (source : List ℕ) → refusal source ≡ None →
     assembled_source source ≡ (emission (statements_in (source_entries source)), Ok (padded_trie (final_known (statements_in (source_entries source))).names))
@@ -120,3 +117,37 @@ pub source-refused : (source : List ℕ) (r : Refused) → refusal source ≡ So
 source-refused source r is = ap (assembled_with (statements_in (source_entries source)) (entries_items (source_entries source))) is
 
 pub ruleset turns = (none-taken, one-more-taken)
+
+-- ---- the items of lines are the front of an object of the statements before the first refusal
+
+abbrev statement_of : Sight → StatementTree
+statement_of s = s.statement
+
+with-sights : (fault : Option Refused) (k : Known) (st : StatementTree) (next : List Sight) → sights_from (known_after k st) (map statement_of next) ≡ next →
+    sights_from k (map statement_of (accepted_with fault (record { known = k; statement = st }) next)) ≡ accepted_with fault (record { known = k; statement = st }) next
+unfolding sights_from
+with-sights fault k st next h = search rules
+
+accepted-sights : (statements : List StatementTree) (k : Known) (before : List Sight) → sights_from k (map statement_of (accepted before (sights_from k statements))) ≡ accepted before (sights_from k statements)
+unfolding sights_from accepted
+accepted-sights [] k before = refl
+accepted-sights (st ∷ statements) k before = simp (with-sights, accepted-sights statements (known_after k st))
+
+statements-of : (statements : List StatementTree) (k : Known) → map statement_of (sights_from k statements) ≡ statements
+unfolding sights_from
+statements-of [] k = refl
+statements-of (st ∷ statements) k = ap (λ ss. st ∷ ss) (statements-of statements (known_after k st))
+
+pub items-are-front : (line : Line) (lines : List Line) → lines_items (line ∷ lines) ≡ front (accepted_in (lines_entries (line ∷ lines)))
+items-are-front line lines = ap (λ ss. opening ++ items_from first_head [] ss) (sym (accepted-sights (statements_in (lines_entries (line ∷ lines))) nothing_known []))
+
+pub all-statements : (lines : List Line) → lines_refusal lines ≡ None → accepted_in (lines_entries lines) ≡ statements_in (lines_entries lines)
+all-statements lines none =
+    let statements = statements_in (lines_entries lines) in
+    ap (map statement_of) (all-accepted (sights_of statements) [] (both-none (first_fault [] (sights_of statements)) (refusal_in (lines_entries lines)) none).0)
+    ∙ statements-of statements nothing_known
+
+pub source-front : (source : List ℕ) (r : Refused) → refusal source ≡ Some r → assembled_source source ≡ (front (accepted_in (source_entries source)), Err r)
+source-front source r is = search (rules, source-refused, accepted-sights)
+
+pub ruleset front_laws = (items-are, refusal-is, items-are-front, all-statements)

@@ -1,8 +1,7 @@
 -- A fix record joins what its reference adds to the bytes at its place.
-use Rattle.std.proofs.Common.{◌≡◌, ℕ, ◌+◌, ◌-◌, ◌*◌, ◌/◌, ◌%◌, ◌^◌, ◌<◌, ◌≤◌, List, [], ◌∷◌, ◌++◌, Bool, true, false, not, cond, arith, refl, sym, ◌∙◌, ap, Some, Result, Ok, Err, ◌⊎◌, inl, inr, append_assoc, ◌&&◌, nat_le, nat_lt, rules}
-use Rattle.mx_asm.proofs.Words.{nat_tests, octa_to_bytes, tetra_to_bytes, AreBytes, tetra-back, Pure, Wait, WaitKind, Octa, Near, Far, BadPlace, is_below, join, then_join, join_octa, tetras_before, tetras_behind, far_place, with_image, take_item, take_items, Item, FixNear, FixFar, relative_word, future_word, near_reach, far_reach, fix_bytes, kind_size, from_place, placed, from-append, AsmFault, pages_of, pages_below, word_fix, relative_fix, pure_fix, fix_of}
-use Rattle.mx_asm.proofs.MeaningMemory.{HaveBytes}
-use Rattle.mx_asm.proofs.MeaningPages.{more-count, append-more, unless_full}
+use Rattle.std.proofs.Common.{◌≡◌, ℕ, ◌+◌, ◌-◌, ◌*◌, ◌/◌, ◌%◌, ◌^◌, ◌<◌, ◌≤◌, List, [], ◌∷◌, ◌++◌, false, not, cond, arith, refl, sym, ◌∙◌, ap, Some, Result, Ok, Err, ◌⊎◌, append_assoc, ◌&&◌, nat_le, rules}
+use Rattle.mx_asm.proofs.Words.{nat_tests, octa_to_bytes, tetra_to_bytes, AreBytes, tetra-back, Pure, Wait, WaitKind, Octa, Near, Far, BadPlace, is_below, join, then_join, join_octa, tetras_before, tetras_behind, with_image, take_item, take_items, Item, relative_word, future_word, near_reach, far_reach, fix_bytes, kind_size, from_place, placed, from-append, AsmFault, pages_of, pages_below, word_fix, relative_fix, pure_fix, fix_of}
+use Rattle.mx_asm.proofs.MeaningMemory.{HaveBytes, more-count, append-more, unless_full}
 use Rattle.mx_asm.proofs.MeaningStates.{State, image_at, stands, count_of, limited, Takes, take-none, takes-few, tetra-joined, more-bytes}
 
 pub word-bytes : (t : ℕ) → AreBytes (tetra_to_bytes t)
@@ -88,45 +87,15 @@ module _ (n : ℕ) (big : 2 ^ 51 ≤ n) (s : State) (have : HaveBytes (placed s.
 
   at-place : (place word from : ℕ) → from ≡ place → place % 4 ≡ 0 → place + 4 ≤ 0x6000_0000_0000_0000 → word < 2 ^ 32 →
       with_image (stands n s) (join (image_at n s.placements s.lines) from word) ≡ limited n (with_placed place (tetra_to_bytes word))
-  at-place place word from e m l fits =
-      ap (λ a. with_image (stands n s) (join (image_at n s.placements s.lines) a word)) e
-      ∙ ap (with_image (stands n s)) (word-joined n place word s.placements s.lines big m (omega (arith, l)) fits have few)
-      ∙ with-unless n s (s.placements ++ from_place place (tetra_to_bytes word))
+  at-place place word from e m l fits = grind (arith, word-joined, with-unless)
 
   word-fixed : (place bits reach word : ℕ) → reach ≡ 2 ^ bits → reach ≤ 2 ^ 24 → place % 4 ≡ 0 → place + 4 ≤ 0x6000_0000_0000_0000 →
       IsAhead place s.lambda reach word ⊎ IsBehind place s.lambda reach word → take_item (stands n s) (word_fix bits word) ≡ limited n (with_placed place (tetra_to_bytes word))
-  word-fixed place bits reach word power small m l (inl h) = on (nat_lt word (2 ^ 16)) refl
-    where
-      before : tetras_before word s.lambda ≡ place
-      before = before-is place s.lambda word h.ahead (omega (arith, l))
-
-      on : (b : Bool) → nat_lt word (2 ^ 16) ≡ b → take_item (stands n s) (cond b (FixNear word) (FixFar bits word)) ≡ limited n (with_placed place (tetra_to_bytes word))
-      on true e = at-place place word (tetras_before word s.lambda) before m l (let near = h.near in omega (arith, near, small))
-      on false e =
-          let near = h.near in
-          let short : nat_le (2 ^ 24) word ≡ false = grind (arith, nat_tests) in
-          at-place place word (far_place s.lambda bits word) (ap (λ b. cond b (tetras_behind (2 ^ bits) (tetras_before (word % 2 ^ 24) s.lambda)) (tetras_before word s.lambda)) short ∙ before) m l (omega (arith, near, small))
-  word-fixed place bits reach word power small m l (inr h) =
-      let word_is = h.word_is in
-      let some = h.some in
-      let near = h.near in
-      let long : nat_lt word (2 ^ 16) ≡ false = grind (arith, nat_tests) in
-      let second : nat_le (2 ^ 24) word ≡ true = grind (arith, nat_tests) in
-      ap (λ b. take_item (stands n s) (cond b (FixNear word) (FixFar bits word))) long
-      ∙ at-place place word (far_place s.lambda bits word)
-      (ap (λ b. cond b (tetras_behind (2 ^ bits) (tetras_before (word % 2 ^ 24) s.lambda)) (tetras_before word s.lambda)) second
-      ∙ ap (λ r. tetras_behind r (tetras_before (word % 2 ^ 24) s.lambda)) (sym power)
-      ∙ ap (λ k. tetras_behind reach (tetras_before k s.lambda)) (low-bits reach h.back word word_is some small)
-      ∙ behind-place place s.lambda reach h.back h.behind some near small (omega (arith, l)))
-      m l (omega (arith, word_is, small))
+  word-fixed place bits reach word power small m l h = grind (arith, before-is, at-place, low-bits, behind-place)
 
   relative-fixed : (place bits reach : ℕ) (item : Item) → reach ≡ 2 ^ bits → reach ≤ 2 ^ 24 → place % 4 ≡ 0 → place + 4 ≤ 0x6000_0000_0000_0000 → relative_fix bits (relative_word 0 reach place s.lambda) ≡ Ok item →
       take_item (stands n s) item ≡ limited n (with_placed place (tetra_to_bytes (future_word 0 reach place (Some s.lambda))))
-  relative-fixed place bits reach item power small m l h =
-      let is = relative-is place s.lambda bits reach item h in
-      ap (take_item (stands n s)) is.item_is
-      ∙ word-fixed place bits reach is.word power small m l is.from
-      ∙ ap (λ w. limited n (with_placed place (tetra_to_bytes w))) (sym is.added)
+  relative-fixed place bits reach item power small m l h = search (rules, relative-is, word-fixed)
 
 -- ---- one record
 

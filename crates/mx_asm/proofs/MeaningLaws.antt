@@ -1,11 +1,11 @@
 -- The items of statements mean their image, and the items of lines are loaded unless there are too many pages.
-use Rattle.std.proofs.Common.{◌≡◌, ℕ, ◌^◌, ◌≤◌, List, [], ◌∷◌, ◌++◌, Bool, true, false, not, cond, lit≤, refl, sym, ◌∙◌, ap, is_some, Some, None, Ok, Err, append_assoc, append-nil, nat_le, ◌||◌, rules}
+use Rattle.std.proofs.Common.{◌≡◌, ℕ, ◌^◌, ◌≤◌, List, [], ◌∷◌, ◌++◌, Bool, true, false, not, cond, lit≤, refl, sym, ◌∙◌, ap, is_some, Some, None, Ok, Err, append_assoc, append-nil, nat_le, ◌||◌, rules, arith}
 use Rattle.mx_asm.proofs.Words.{result_err, AllByRecursion, PagesFull, nothing, take_items, meaning, Placed, StatementTree, from_place, NameTable, statements_in, Sight, Piece, outline, references, targets, nothing_known, sights_from, piece_with, pieces_of, placements, pages_of, pages_below, opening, first_head, items_from, emission, statement_fault, first_fault, IsStatement, Line, accepted, lines_entries, lines_items, AreAccepted, outlined, has_room, loaded_image, page_fault, page_refusal_from, page_refusal, accepted_in}
 use Rattle.mx_line.specs.Source.{items_from as line_items}
-use Rattle.mx_asm.proofs.EndWaits.{both-none}
-use Rattle.mx_asm.proofs.MeaningPages.{same-pages, more-count, append-pages, append-more}
+use Rattle.mx_asm.proofs.EndLaw.{both-none}
+use Rattle.mx_asm.proofs.MeaningMemory.{same-pages, more-count, append-pages, append-more}
 use Rattle.mx_asm.proofs.MeaningStates.{stands, count_of, limited, take-append}
-use Rattle.mx_asm.proofs.MeaningFronts.{IsSteady, faultless, after_sights, takes-sights, first_state, first-have, opened, no-pages}
+use Rattle.mx_asm.proofs.MeaningStatements.{IsSteady, faultless, after_sights, takes-sights, first_state, first-have, opened, no-pages}
 use Rattle.mx_asm.proofs.MeaningPlaces.{fixed-to, fixed-pages, pages-of-sights}
 use Rattle.mx_asm.proofs.MeaningWhole.{emission-means}
 use Rattle.mx_asm.proofs.MeaningSteady.{steady-begun, steady-all, accepted-faultless}
@@ -83,13 +83,7 @@ no-room n xs ys h = search (rules, more-count, append-more, outlined-append, pla
 refusal-from : (later earlier : List Sight) → has_room (outlined earlier) ≡ true → is_some (page_refusal_from earlier later) ≡ not (has_room (outlined (earlier ++ later)))
 unfolding page_refusal_from
 refusal-from [] earlier room = sym (ap (λ ss. not (has_room (outlined ss))) (append-nil earlier) ∙ ap not room)
-refusal-from (s ∷ later) earlier room =
-    on (has_room (outlined (earlier ++ s ∷ []))) refl (refusal-from later (earlier ++ s ∷ [])) ∙ ap (λ ss. not (has_room (outlined ss))) (append_assoc earlier (s ∷ []) later)
-  where
-    on : (b : Bool) → has_room (outlined (earlier ++ s ∷ [])) ≡ b → (has_room (outlined (earlier ++ s ∷ [])) ≡ true → is_some (page_refusal_from (earlier ++ s ∷ []) later) ≡ not (has_room (outlined ((earlier ++ s ∷ []) ++ later)))) →
-        is_some (cond b (page_refusal_from (earlier ++ s ∷ []) later) (Some s.statement.line)) ≡ not (has_room (outlined ((earlier ++ s ∷ []) ++ later)))
-    on true e rest = rest e
-    on false e rest = sym (ap not (no-room (2 ^ 51) (earlier ++ s ∷ []) later e))
+refusal-from (s ∷ later) earlier room = grind (arith, append_assoc, no-room, refusal-from later (earlier ++ s ∷ []))
 
 pub nothing-has-room : has_room (outlined []) ≡ true
 unfolding outlined placements

@@ -1,6 +1,6 @@
 -- Where pages are full, line by line.
 use Rattle.std.proofs.Common.{◌≡◌, ℕ, ◌+◌, ◌-◌, ◌^◌, ◌≤◌, List, [], ◌∷◌, ◌++◌, length, map, Bool, true, false, cond, nat_lt, arith, refl, sym, ◌∙◌, ap, subst, Option, Some, None, Result, Ok, Err, append_assoc, append-nil, sum_by, rules}
-use Rattle.mx_asm.proofs.Words.{cond_both, AllByRecursion, take-append-le, LineFault, Cut, is_too_far, cuts_from, statement, faulty, too_far, item_of, before, items_of, Meaningless, PagesFull, Known, StatementTree, Refused, Entry, entry_of, entries_of, statements_in, Sight, nothing_known, known_after, sights_from, sights_of, statement_fault, Line, accepted, accepted_with, lines_entries, outlined, has_room, page_fault, page_refusal_from, page_refusal, accepted_in, nat_tests}
+use Rattle.mx_asm.proofs.Words.{cond_both, AllByRecursion, take-append-le, LineFault, Cut, is_too_far, cuts_from, statement, faulty, too_far, item_of, before, items_of, Meaningless, PagesFull, Known, StatementTree, Refused, Entry, entry_of, entries_of, statements_in, Sight, known_after, sights_from, statement_fault, Line, accepted, accepted_with, lines_entries, outlined, has_room, page_fault, page_refusal_from, page_refusal, accepted_in, nat_tests}
 use Rattle.mx_line.specs.Source.{Item, items_from}
 use Rattle.mx_asm.proofs.MeaningLaws.{no-room}
 use Rattle.mx_stab.proofs.Orders.{all-both as all-append}
@@ -23,8 +23,7 @@ far-same xs ys i l = ap (λ t. nat_lt (2 ^ 22) (sum_by length t + (i - 1))) (tak
 items-same : (xs ys : List Line) (n : ℕ) (us : List Line) → n + length us ≤ length xs + 1 → items_from (xs ++ ys) n us ≡ items_from xs n us
 unfolding items_from
 items-same xs ys n [] l = refl
-items-same xs ys n (u ∷ us) l =
-    (λ i. cond (far-same xs ys n (omega (arith, l)) i) (too_far n ∷ []) (before (items_of n u) (items-same xs ys (n + 1) us (omega (arith, l)) i)))
+items-same xs ys n (u ∷ us) l = grind (arith, far-same, items-same xs ys (n + 1) us (omega (arith, l)))
 
 -- ---- the statements of lines
 
@@ -46,23 +45,14 @@ statements-split a b = refl
 module _ (P : StatementTree → Type 0) where
   continued-all : (a : List Item) (more : List StatementTree) → AllByRecursion P more → AllByRecursion P (continued a more)
   continued-all [] more h = h
-  continued-all (statement line label op operands ∷ items) more h = by (entry_of (statement line label op operands)) (continued-all items more h)
-    where
-      by : (e : Entry) → AllByRecursion P (continued items more) → AllByRecursion P (behind e (continued items more))
-      by (Err refused) rest = tt
-      by (Ok s) rest = rest
+  continued-all (statement line label op operands ∷ items) more h = grind (arith, continued-all items more h)
   continued-all a more h = tt
 
   -- the statements of these that are accepted
   accepted-holds : (statements : List StatementTree) (k : Known) (earlier : List Sight) → AllByRecursion P statements → AllByRecursion (λ (s : Sight). P s.statement) (accepted earlier (sights_from k statements))
   unfolding sights_from accepted
   accepted-holds [] k earlier h = tt
-  accepted-holds (st ∷ statements) k earlier h = by (statement_fault earlier (record { known = k; statement = st })) (accepted-holds statements (known_after k st) (earlier ++ record { known = k; statement = st } ∷ []) h.1)
-    where
-      by : (r : Option Refused) → AllByRecursion (λ (s : Sight). P s.statement) (accepted (earlier ++ record { known = k; statement = st } ∷ []) (sights_from (known_after k st) statements)) →
-          AllByRecursion (λ (s : Sight). P s.statement) (accepted_with r (record { known = k; statement = st }) (accepted (earlier ++ record { known = k; statement = st } ∷ []) (sights_from (known_after k st) statements)))
-      by (Some refused) rest = tt
-      by None rest = (h.0, rest)
+  accepted-holds (st ∷ statements) k earlier h = grind (arith, accepted-holds statements (known_after k st) (earlier ++ record { known = k; statement = st } ∷ []) h.1)
 
   -- the accepted ones of more statements are those of the first, and others behind them
   record IsLonger (front whole : List Sight) : Type 0 where
@@ -84,15 +74,7 @@ module _ (P : StatementTree → Type 0) where
       by None rest = record { tail = rest.tail; more = ap (λ ss. t ∷ ss) rest.more; hold = rest.hold }
 
   lines-longer : (us vs : List Line) → AllByRecursion P (statements_in (entries_of (items_from (us ++ vs) (1 + length us) vs))) → IsLonger (accepted_in (lines_entries us)) (accepted_in (lines_entries (us ++ vs)))
-  lines-longer us vs h =
-      let first : List Item = items_from us 1 us in
-      let later : List Item = items_from (us ++ vs) (1 + length us) vs in
-      let tail : List StatementTree = continued first (statements_in (entries_of later)) in
-      let split : statements_in (lines_entries (us ++ vs)) ≡ statements_in (lines_entries us) ++ tail =
-      ap (λ is. statements_in (entries_of is)) (items-split (us ++ vs) 1 us vs ∙ ap (λ is. before is later) (items-same us vs 1 us (omega arith)))
-      ∙ statements-split first later in
-      let longer = accepted-longer (statements_in (lines_entries us)) tail nothing_known [] (continued-all first (statements_in (entries_of later)) h) in
-      record { tail = longer.tail; more = ap (λ ss. accepted [] (sights_of ss)) split ∙ longer.more; hold = longer.hold }
+  lines-longer us vs h = grind (arith, items-split, items-same, statements-split, accepted-longer, continued-all)
 
 -- ---- the lines of statements
 
@@ -119,23 +101,13 @@ room-before xs ys h = search (rules, no-room)
 refusal-behind : (front earlier later : List Sight) → has_room (outlined (earlier ++ front)) ≡ true → page_refusal_from earlier (front ++ later) ≡ page_refusal_from (earlier ++ front) later
 unfolding page_refusal_from
 refusal-behind [] earlier later room = ap (λ ss. page_refusal_from ss later) (sym (append-nil earlier))
-refusal-behind (s ∷ front) earlier later room =
-    let whole : has_room (outlined ((earlier ++ s ∷ []) ++ front)) ≡ true = ap (λ ss. has_room (outlined ss)) (append_assoc earlier (s ∷ []) front) ∙ room in
-    ap (λ b. cond b (page_refusal_from (earlier ++ s ∷ []) (front ++ later)) (Some s.statement.line)) (room-before (earlier ++ s ∷ []) front whole)
-    ∙ refusal-behind front (earlier ++ s ∷ []) later whole
-    ∙ ap (λ ss. page_refusal_from ss later) (append_assoc earlier (s ∷ []) front)
+refusal-behind (s ∷ front) earlier later room = grind (arith, append_assoc, room-before, refusal-behind front (earlier ++ s ∷ []) later)
 
 refusal-at : (n : ℕ) (front earlier later : List Sight) → AllByRecursion (λ (s : Sight). s.statement.line ≡ n) front → has_room (outlined earlier) ≡ true → has_room (outlined (earlier ++ front)) ≡ false →
     page_refusal_from earlier (front ++ later) ≡ Some n
 unfolding page_refusal_from
 refusal-at n [] earlier later at room none = let wrong : true ≡ false = sym room ∙ ap (λ ss. has_room (outlined ss)) (sym (append-nil earlier)) ∙ none in absurd (cc)
-refusal-at n (s ∷ front) earlier later at room none =
-    by (has_room (outlined (earlier ++ s ∷ []))) refl (λ more. refusal-at n front (earlier ++ s ∷ []) later at.1 more (ap (λ ss. has_room (outlined ss)) (append_assoc earlier (s ∷ []) front) ∙ none))
-  where
-    by : (b : Bool) → has_room (outlined (earlier ++ s ∷ [])) ≡ b → (has_room (outlined (earlier ++ s ∷ [])) ≡ true → page_refusal_from (earlier ++ s ∷ []) (front ++ later) ≡ Some n) →
-        cond b (page_refusal_from (earlier ++ s ∷ []) (front ++ later)) (Some s.statement.line) ≡ Some n
-    by true e rest = rest e
-    by false e rest = ap Some at.0
+refusal-at n (s ∷ front) earlier later at room none = grind (arith, append_assoc, refusal-at n front (earlier ++ s ∷ []) later at.1)
 
 room-by : (b : Bool) → ◌≡◌ {A = Option Meaningless} (cond b None (Some PagesFull)) None → b ≡ true
 room-by b h = grind (arith, nat_tests)

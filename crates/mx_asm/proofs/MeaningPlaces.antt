@@ -3,13 +3,12 @@ use Rattle.std.proofs.Common.{◌≡◌, ℕ, ◌+◌, ◌-◌, ◌/◌, ◌≤�
 use Rattle.mx_asm.proofs.Words.{AllByRecursion, list_any, nat_tests, Value, Wait, same_awaited, NameTable, complete_form, Label, Name, Local, Placed, Answer, AreAlike, Targets, encoding, fix_placements, IsFixed, kind_size, IsInside, from_place, all-into, all-append, Sight, outline, waits_in, references, is_local, targets, piece_with, pieces_of, from_last, waiting_for, waiting_at, placements, pages_of, with_lines, statement_fault, first_fault}
 use Rattle.mx_word.specs.declared.waits.Awaited.TheVariants as awaited
 use Rattle.mx_stmt.proofs.JoinedStatements.{encoding-joined}
-use Rattle.mx_asm.proofs.WaitsFor.{references-append, references-one as one-reference}
-use Rattle.mx_asm.proofs.EndWaits.{both-none}
-use Rattle.mx_asm.proofs.MeaningPages.{AreMore, append-pages, append-more, pages-run}
-use Rattle.mx_asm.proofs.MeaningStates.{State, same-numbers}
+use Rattle.mx_asm.proofs.OpenWaits.{references-append, references-one as one-reference}
+use Rattle.mx_asm.proofs.EndLaw.{both-none}
+use Rattle.mx_asm.proofs.MeaningMemory.{AreMore, append-pages, append-more, pages-run, same-numbers}
+use Rattle.mx_asm.proofs.MeaningStates.{State}
 use Rattle.mx_asm.proofs.MeaningBytes.{piece_at, behind_bytes}
-use Rattle.mx_asm.proofs.MeaningStatements.{all-filter, behind_fixes, behind_placed}
-use Rattle.mx_asm.proofs.MeaningFronts.{IsSteady, faultless, laid, behind_sight, after_sights}
+use Rattle.mx_asm.proofs.MeaningStatements.{all-filter, behind_fixes, behind_placed, IsSteady, faultless, laid, behind_sight, after_sights}
 use Rattle.std.proofs.lemmas.Bool.{or_right as or-right}
 
 -- ---- a statement with its targets known

@@ -1,11 +1,13 @@
--- The items of one statement, and those of statements one after another.
-use Rattle.std.proofs.Common.{◌≡◌, ℕ, ◌+◌, ◌%◌, ◌^◌, ◌<◌, ◌≤◌, List, [], ◌∷◌, ◌++◌, length, Bool, arith, refl, sym, ◌∙◌, ap, subst, Option, Some, Result, Ok, Err, append_assoc, append-nil, ◌==◌, rules}
-use Rattle.mx_asm.proofs.Words.{AllByRecursion, filter, cond_both, eqb-true, AreBytes, Value, Pure, Reg, Wait, WaitKind, take_items, Item, Label, Placed, Answer, Targets, no_targets, encoding, fix_bytes, fix_placements, kind_size, IsInside, IsLaid, from_place, placed, encoding-laid, all-into, all-append, Refused, Sight, outline, waits_in, references, fix_of, fixes, awaited_value, waiting_for, waiting_at, moved, onto, fix_items, head_at_fixes, byte_items, head_at_bytes, with_bytes, statement_items, statement_head, nat_tests}
+-- The items of statements one after another, and the states that they lead to.
+use Rattle.std.proofs.Common.{◌≡◌, ℕ, ◌+◌, ◌%◌, ◌^◌, ◌<◌, ◌≤◌, List, [], ◌∷◌, ◌++◌, length, Bool, arith, refl, sym, ◌∙◌, ap, subst, Option, Some, Result, Ok, Err, append_assoc, append-nil, rules, zero, suc, false, None}
+use Rattle.mx_asm.proofs.Words.{AllByRecursion, filter, cond_both, AreBytes, Value, Pure, Reg, Wait, WaitKind, take_items, Item, Label, Placed, Answer, Targets, no_targets, encoding, fix_bytes, fix_placements, kind_size, IsInside, IsLaid, from_place, placed, encoding-laid, all-into, all-append, Refused, Sight, outline, waits_in, references, fix_of, fixes, awaited_value, waiting_for, waiting_at, moved, onto, fix_items, head_at_fixes, byte_items, head_at_bytes, with_bytes, statement_items, statement_head, nat_tests, result_unwrap_or, nothing, IsOperation, IsSound, AsmFault, Head, pages_below, opening, sight_items, sight_head, items_from, refusal_of, label_fault, fault_behind, fault_with, statement_fault, first_fault}
 use Rattle.mx_asm.proofs.MeaningMemory.{HaveBytes}
-use Rattle.mx_asm.proofs.MeaningStates.{State, limited, Takes, take-none, takes-both, more-bytes}
-use Rattle.mx_asm.proofs.MeaningPieces.{takes-still, at_lambda}
-use Rattle.mx_asm.proofs.MeaningBytes.{head_of, behind_bytes, takes-bytes}
+use Rattle.mx_asm.proofs.MeaningStates.{State, limited, Takes, take-none, takes-both, more-bytes, takes-none}
+use Rattle.mx_asm.proofs.MeaningBytes.{at_lambda, head_of, behind_bytes, takes-bytes}
 use Rattle.mx_asm.proofs.MeaningFixes.{behind_fix, takes-fix}
+use Rattle.mx_asm.proofs.EndLaw.{both-none}
+
+-- ---- the items of one statement, and those of statements one after another
 
 -- ---- references lie low
 
@@ -86,8 +88,7 @@ fixes-nil value line items h = let same : [] ≡ items = cc in sym same
 module _ (n : ℕ) (big : 2 ^ 51 ≤ n) where
   takes-fixes : (line value : ℕ) (waits : List Wait) (items : List Item) (s : State) → HaveBytes (placed s.placements) → s.lambda ≡ value → value < 2 ^ 64 → AllByRecursion IsLow waits →
       fixes line (Pure value) waits ≡ Ok items → Takes n items s (with_fixes s value waits)
-  takes-fixes line value [] items s have at fits low h =
-      record { taken = ap (λ is. take_items is (limited n s)) (fixes-nil (Pure value) line items h) ∙ take-none (limited n s) ∙ ap (λ ps. limited n (record s { placements = ps })) (sym (append-nil s.placements)) }
+  takes-fixes line value [] items s have at fits low h = grind (arith, fixes-nil, take-none, append-nil)
   takes-fixes line value (w ∷ waits) items s have at fits low h =
       let is = fixes-split (Pure value) line w waits items h in
       let t : State = behind_fix s w value in
@@ -101,9 +102,7 @@ module _ (n : ℕ) (big : 2 ^ 51 ≤ n) where
       }
 
   takes-moved : (value : ℕ) (s : State) → Takes n (moved s.lambda (Pure value)) s (at_lambda s value)
-  takes-moved value s = cond_both (s.lambda == value) _ _ (λ x. Takes n x s (at_lambda s value))
-      (λ e. record { taken = take-none (limited n s) ∙ ap (λ a. limited n (at_lambda s a)) (eqb-true s.lambda value e) })
-      (λ _. takes-still n _ s (at_lambda s value) refl refl refl)
+  takes-moved value s = search rules
 
   -- ---- a statement
 
@@ -125,10 +124,7 @@ module _ (n : ℕ) (big : 2 ^ 51 ≤ n) where
 
   takes-fix-items : (line : ℕ) (value : Value) (waits : List Wait) (items : List Item) (s : State) → HaveBytes (placed s.placements) → IsWord value → AllByRecursion IsLow waits →
       fix_items s.lambda line value waits ≡ Ok items → Takes n items s (behind_fixes s value waits)
-  takes-fix-items line value [] items s have word low h =
-      let none : [] ≡ items = cc in
-      record { taken = ap (λ is. take_items is (limited n s)) (sym none) ∙ take-none (limited n s) }
-  takes-fix-items line value (w ∷ waits) items s have word low h = takes-onto line value w waits items s (fixes line value (w ∷ waits)) have word low refl h
+  takes-fix-items line value waits items s have word low h = grind (arith, take-none, takes-onto)
 
 pub fixed-have : (s : State) (value : Value) (waits : List Wait) → HaveBytes (placed s.placements) → HaveBytes (placed (behind_fixes s value waits).placements)
 fixed-have s value [] have = have
@@ -173,3 +169,94 @@ takes-placed n line p waits items s big have word low laid some h = on (fix_item
               ∙ ap (λ h. take_items (fixed ++ byte_items h line p.start p.bytes) (limited n s)) (sym (fixed-head s (awaited_value p.label) waits))
               ∙ both.taken;
         }
+
+-- ---- the items of statements without a fault lead from the state before them to the state behind them
+
+-- what holds of a statement and of what is known at it
+pub record IsSteady (s : Sight) : Type 0 where
+  pub line : 0 < s.statement.line
+  pub operation : IsOperation s.statement.op
+  pub sound : IsSound s.known
+  pub word : (p : Placed) → outline s ≡ Ok p → IsWord (awaited_value p.label)
+
+-- ---- one statement
+
+-- what stands behind a statement that comes to this
+abbrev pub behind_sight : State → List Sight → Sight → Answer Placed → State
+behind_sight s earlier t (Err fault) = s
+behind_sight s earlier t (Ok p) = behind_placed s t.statement.line p (waiting_at earlier t)
+
+-- what a statement without a fault comes to
+pub record IsFaultless (earlier : List Sight) (t : Sight) : Type 0 where
+  pub placed_as : Placed
+  pub outlined : outline t ≡ Ok placed_as
+  pub label : label_fault t.known.names t.statement.label ≡ None
+  pub fixed : refusal_of (fixes t.statement.line (awaited_value placed_as.label) (waiting_at earlier t)) ≡ None
+
+pub faultless : (earlier : List Sight) (t : Sight) → statement_fault earlier t ≡ None → IsFaultless earlier t
+faultless earlier t h = on (outline t) refl h
+  where
+    behind : (p : Placed) (f : Option AsmFault) → outline t ≡ Ok p → label_fault t.known.names t.statement.label ≡ f → fault_behind earlier t p f ≡ None → IsFaultless earlier t
+    behind p (Some fault) e f h = absurd (cc)
+    behind p None e f h = record { placed_as = p; outlined = e; label = f; fixed = h }
+
+    on : (r : Answer Placed) → outline t ≡ r → fault_with earlier t r ≡ None → IsFaultless earlier t
+    on (Err fault) e h = absurd (cc)
+    on (Ok p) e h = behind p (label_fault t.known.names t.statement.label) e refl h
+
+items-given : (h : Head) (line : ℕ) (p : Placed) (waits : List Wait) → refusal_of (fixes line (awaited_value p.label) waits) ≡ None → statement_items h line p waits ≡ Ok (result_unwrap_or (statement_items h line p waits) [])
+items-given h line p waits h1 = grind (arith, nat_tests)
+
+-- the laying of a statement
+pub laid : (t : Sight) (p : Placed) → outline t ≡ Ok p → IsLaid p
+laid t p e = encoding-laid no_targets t.known t.statement p e
+
+sight-have : (s : State) (earlier : List Sight) (t : Sight) (p : Placed) → outline t ≡ Ok p → HaveBytes (placed s.placements) → HaveBytes (placed (behind_placed s t.statement.line p (waiting_at earlier t)).placements)
+sight-have s earlier t p e have =
+    let lay = laid t p e in
+    bytes-have (behind_fixes s (awaited_value p.label) (waiting_at earlier t)) t.statement.line p.start p.bytes (fixed-have s (awaited_value p.label) (waiting_at earlier t) have) lay.bytes
+
+-- ---- statements one after another
+
+unfoldable pub after_sights : State → List Sight → List Sight → State
+after_sights s earlier [] = s
+after_sights s earlier (t ∷ later) = after_sights (behind_sight s earlier t (outline t)) (earlier ++ t ∷ []) later
+
+pub takes-sights : (n : ℕ) (later earlier : List Sight) (s : State) → 2 ^ 51 ≤ n → first_fault earlier later ≡ None → AllByRecursion IsSteady later → HaveBytes (placed s.placements) →
+    Takes n (items_from (head_of s) earlier later) s (after_sights s earlier later)
+unfolding first_fault items_from after_sights
+takes-sights n [] earlier s big none steady have = takes-none n s
+takes-sights n (t ∷ later) earlier s big none steady have =
+    let parts = both-none (statement_fault earlier t) (first_fault (earlier ++ t ∷ []) later) none in
+    let is = faultless earlier t parts.0 in
+    let p : Placed = is.placed_as in
+    let line : ℕ = t.statement.line in
+    let waits : List Wait = waiting_at earlier t in
+    let given = items-given (head_of s) line p waits is.fixed in
+    let first = takes-placed n line p waits (result_unwrap_or (statement_items (head_of s) line p waits) []) s big have (steady.0.word p is.outlined) (waiting-low earlier t) (laid t p is.outlined) steady.0.line given in
+    let u : State = behind_placed s line p waits in
+    let rest = takes-sights n later (earlier ++ t ∷ []) u big parts.1 steady.1 (sight-have s earlier t p is.outlined have) in
+    let both = takes-both n (result_unwrap_or (statement_items (head_of s) line p waits) []) (items_from (head_of u) (earlier ++ t ∷ []) later) s u (after_sights u (earlier ++ t ∷ []) later) first rest in
+    record {
+      taken =
+          ap (λ r. take_items (sight_items (head_of s) earlier t r ++ items_from (sight_head (head_of s) earlier t r) (earlier ++ t ∷ []) later) (limited n s)) is.outlined
+          ∙ ap (λ h. take_items (result_unwrap_or (statement_items (head_of s) line p waits) [] ++ items_from h (earlier ++ t ∷ []) later) (limited n s)) (sym (placed-head s line p waits))
+          ∙ both.taken
+          ∙ ap (λ r. limited n (after_sights (behind_sight s earlier t r) (earlier ++ t ∷ []) later)) (sym is.outlined);
+    }
+
+-- ---- the opening
+
+pub no-pages : (n : ℕ) → pages_below n (λ p. false) ≡ 0
+unfolding pages_below
+no-pages zero = refl
+no-pages (suc n) = ap (λ k. 0 + k) (no-pages n)
+
+abbrev pub first_state : State
+first_state = record { placements = []; lines = λ a. 0; lambda = 0; line = 0 }
+
+pub first-have : HaveBytes (placed first_state.placements)
+first-have q = omega arith
+
+pub opened : (n : ℕ) → take_items opening (Ok nothing) ≡ limited n first_state
+opened n = cc (no-pages n)

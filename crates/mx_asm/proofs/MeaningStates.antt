@@ -3,9 +3,7 @@ use Rattle.std.proofs.Common.{◌≡◌, ℕ, zero, suc, ◌+◌, ◌*◌, ◌/�
 use Rattle.mx_asm.proofs.Words.{cond_both, xor_of_8, nat_tests, tetra_from_bytes, with_tetra, AreBytes, four-fit, Image, tetras_of, Loading, Meaningless, BadPlace, paged, image_with_tetra, join, next_line, after_load, with_name, take_item, take_items, Item, Load, from_place, placed, placed-append, from-append, octa_in, pages_of, pages_below, common_steps}
 use Rattle.mx_word.specs.Octas.{with_page}
 use Rattle.mx_mmo.specs.Meaning.{lined}
-use Rattle.mx_asm.proofs.MeaningTetras.{four, tetra-placed}
-use Rattle.mx_asm.proofs.MeaningMemory.{HaveBytes, octas-joined}
-use Rattle.mx_asm.proofs.MeaningPages.{AreMore, more-count, append-more, unless_full, paged-is}
+use Rattle.mx_asm.proofs.MeaningMemory.{four, tetra-placed, HaveBytes, octas-joined, AreMore, more-count, append-more, unless_full, paged-is, same-numbers}
 
 -- ---- states
 
@@ -67,9 +65,6 @@ takes-few n items s t more h = grind (arith, nat_tests, more-count)
 
 -- ---- one tetra
 
-pub same-numbers : (f g : ℕ → ℕ) → ((q : ℕ) → f q ≡ g q) → f ≡ g
-same-numbers f g h = λ i q. h q i
-
 with-tetra-unless : (a t count : ℕ) (m : Image) → image_with_tetra a t (unless_full count m) ≡ unless_full count (record m { memory = with_tetra m.memory a t })
 with-tetra-unless a t count m = grind (arith, nat_tests)
 
@@ -120,9 +115,7 @@ takes-tetra n b c d e s big m l are have =
 
 placed-byte : (a : ℕ) (bytes : List ℕ) (q : ℕ) → AreBytes bytes → placed (from_place a bytes) q < 2 ^ 8
 placed-byte a [] q h = omega arith
-placed-byte a (b ∷ bytes) q h = cond_both (q == a) _ _ (λ x. x < 2 ^ 8)
-    (λ _. xor_of_8 b (placed (from_place (a + 1) bytes) q) h.0 (placed-byte (a + 1) bytes q h.1))
-    (λ _. placed-byte (a + 1) bytes q h.1)
+placed-byte a (b ∷ bytes) q h = grind (arith, cond_both, xor_of_8, placed-byte (a + 1) bytes q h.1)
 
 pub more-bytes : (ps : List (ℕ × ℕ)) (a : ℕ) (bytes : List ℕ) → HaveBytes (placed ps) → AreBytes bytes → HaveBytes (placed (ps ++ from_place a bytes))
 more-bytes ps a bytes have are = λ q. subst (λ n. n < 2 ^ 8) (sym (placed-append ps (from_place a bytes) q)) (xor_of_8 (placed ps q) (placed (from_place a bytes) q) (have q) (placed-byte a bytes q are))

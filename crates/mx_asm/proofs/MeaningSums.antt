@@ -1,17 +1,15 @@
 -- The bytes that are placed and then joined by fix records are those that are placed with all targets known.
-use Rattle.std.proofs.Common.{◌≡◌, ℕ, List, [], ◌∷◌, ◌++◌, fold, Bool, true, false, not, cond, refl, sym, ◌∙◌, ap, subst, bit_xor, Option, Some, None, Ok, append_assoc, ◌==◌, rules}
+use Rattle.std.proofs.Common.{◌≡◌, ℕ, List, [], ◌∷◌, ◌++◌, fold, Bool, true, false, not, cond, refl, sym, ◌∙◌, ap, subst, bit_xor, Option, Some, None, Ok, append_assoc, ◌==◌, rules, arith}
 use Rattle.mx_asm.proofs.Words.{cond_both, AllByRecursion, filter, xor_assoc, xor_zero_l, xor_zero_r, xor_comm, Decides-eqb, bytes_eq-Decides, Value, Pure, Reg, Awaited, Wait, same_awaited, NameTable, complete_form, value_of_name, with_symbol, waits_for, waits_for_others, value-inserted, not-some, Label, Name, Local, Placed, Known, Targets, no_targets, StatementTree, encoding, fix_bytes, fix_placements, from_place, placed, placed-append, Sight, outline, waits_in, is_local, next_local, pure_number, targets, with_label, known_after, sights_from, fixes, awaited_value, waiting_for, waiting_at, refusal_of, label_fault, statement_fault, first_fault}
 use Rattle.mx_word.specs.declared.waits.Awaited.TheVariants as awaited
 use Rattle.mx_names.specs.Names.{value_in as symbol_in}
 use Rattle.mx_asm.specs.TwoPass.{value_in}
-use Rattle.mx_asm.proofs.OpenWaits.{any_settles, open_waits, open-unlabelled, open-named, open-local}
-use Rattle.mx_asm.proofs.WaitsFor.{same-is, named-waits, local-waits}
+use Rattle.mx_asm.proofs.OpenWaits.{any_settles, open_waits, open-unlabelled, open-named, open-local, same-is, named-waits, local-waits}
 use Rattle.mx_asm.proofs.OneStatement.{name-new, effect-symbols}
-use Rattle.mx_asm.proofs.EndWaits.{both-none}
+use Rattle.mx_asm.proofs.EndLaw.{both-none}
 use Rattle.mx_asm.proofs.MeaningStates.{State}
 use Rattle.mx_asm.proofs.MeaningBytes.{behind_bytes}
-use Rattle.mx_asm.proofs.MeaningStatements.{behind_fixes}
-use Rattle.mx_asm.proofs.MeaningFronts.{faultless}
+use Rattle.mx_asm.proofs.MeaningStatements.{behind_fixes, faultless}
 
 -- ---- what references add
 
@@ -92,8 +90,7 @@ fixes-placed s line (Reg r) (w ∷ waits) t q none h = absurd (cc)
 fixes-placed s line (Pure v) (w ∷ waits) t q none h = search (rules, placed-append, added-same)
 
 pub bytes-placed : (s : State) (line start : ℕ) (bytes : List ℕ) (q : ℕ) → placed (behind_bytes s line start bytes).placements q ≡ bit_xor (placed s.placements q) (placed (from_place start bytes) q)
-bytes-placed s line start [] q = sym (xor_zero_r (placed s.placements q))
-bytes-placed s line start (b ∷ bytes) q = placed-append s.placements (from_place start (b ∷ bytes)) q
+bytes-placed s line start bytes q = grind (arith, xor_zero_r, placed-append)
 
 -- what a statement settles, by the kind of its label: the references that waited for it had its value, and all others keep
 -- theirs
@@ -113,9 +110,7 @@ module _ (final : NameTable) (earlier later : List Sight) (t : Sight) (p : Place
   -- a statement without a local label leaves the targets
   targets-same : (label : Option Label) → t.statement.label ≡ label → ((d : ℕ) → is_local d label ≡ false) → (who : Awaited) → late who ≡ early who
   unfolding next_local
-  targets-same label e none (awaited.Name full) = refl
-  targets-same label e none (awaited.Local d) =
-      sym (ap (λ b. pure_number (cond b (value_in (outline t)) (next_local d later))) (ap (is_local d) e ∙ none d))
+  targets-same label e none who = search rules
 
   all-late : (label : Option Label) → t.statement.label ≡ label → ((d : ℕ) → is_local d label ≡ false) → (waits : List Wait) → added late waits q ≡ added early waits q
   all-late label e none waits = added-same late early waits q (every (λ (w : Wait). late w.who ≡ early w.who) waits (λ w. targets-same label e none w.who))

@@ -1,17 +1,16 @@
 -- The items of statements mean their image.
-use Rattle.std.proofs.Common.{◌≡◌, ℕ, ◌^◌, ◌≤◌, List, [], ◌∷◌, ◌++◌, fold, Bool, true, false, cond, lit≤, refl, sym, ◌∙◌, ap, bit_xor, Option, Some, None, Ok, Err, append_assoc, append-nil, bytes_eq, is_some, nat_le}
-use Rattle.mx_asm.proofs.Words.{AllByRecursion, xor_assoc, xor_zero_l, xor_zero_r, bytes_eq-Decides, Value, Wait, PagesFull, nothing, value_at, with_globals, take_items, image_in, meaning, Post, Stab, NameTable, complete_form, first_value, pure_of, value-inserted, not-some, predefined_value, Label, Name, Local, Placed, lowest_of, Known, Targets, no_targets, symbol_form, StatementTree, encoding, from_place, placed, placed-append, xor-pairs, fix_placements, Sight, outline, references, targets, with_label, nothing_known, known_after, sights_from, sights_of, final_known, piece_with, pieces_of, pieces, awaited_value, waiting_at, octa_in, placements, pages_of, pages_below, page_count, image_with, image, opening, first_head, items_from, front, main_of, closing, emission, label_fault, statement_fault, first_fault, first_undefined}
+use Rattle.std.proofs.Common.{◌≡◌, ℕ, ◌^◌, ◌≤◌, List, [], ◌∷◌, ◌++◌, fold, true, false, cond, lit≤, refl, sym, ◌∙◌, ap, bit_xor, Option, Some, None, Ok, append_assoc, append-nil, bytes_eq, is_some, rules, arith}
+use Rattle.mx_asm.proofs.Words.{AllByRecursion, xor_assoc, xor_zero_l, xor_zero_r, bytes_eq-Decides, Value, Wait, nothing, with_globals, take_items, image_in, meaning, Post, Stab, NameTable, complete_form, first_value, pure_of, value-inserted, not-some, predefined_value, Label, Name, Local, Placed, Known, Targets, no_targets, symbol_form, StatementTree, encoding, from_place, placed, placed-append, xor-pairs, fix_placements, Sight, outline, references, targets, with_label, nothing_known, known_after, sights_from, sights_of, final_known, piece_with, pieces_of, pieces, awaited_value, waiting_at, placements, pages_of, pages_below, page_count, image_with, image, opening, first_head, items_from, front, emission, label_fault, statement_fault, first_fault, first_undefined, nat_tests}
 use Rattle.mx_names.specs.Names.{value_in as symbol_in}
 use Rattle.mx_names.specs.Waiting.{first_of as earliest}
-use Rattle.mx_asm.proofs.LabelValues.{HasLabel, encoding-label}
+use Rattle.mx_asm.proofs.StatementForms.{HasLabel, encoding-label}
 use Rattle.mx_asm.proofs.OpenWaits.{open_waits}
 use Rattle.mx_asm.proofs.OneStatement.{AreLabels, labels-kept, name-new}
 use Rattle.mx_asm.proofs.OnePassLaw.{no-labels}
-use Rattle.mx_asm.proofs.EndWaits.{wait_refusal, both-none, labels-at-end, first-open}
-use Rattle.mx_asm.proofs.MeaningPages.{same-pages, unless_full}
-use Rattle.mx_asm.proofs.MeaningStates.{State, image_at, stands, count_of, limited, take-append, same-numbers}
-use Rattle.mx_asm.proofs.MeaningStatements.{behind_fixes, behind_placed}
-use Rattle.mx_asm.proofs.MeaningFronts.{IsSteady, faultless, behind_sight, after_sights, takes-sights, first_state, first-have, opened}
+use Rattle.mx_asm.proofs.EndLaw.{wait_refusal, both-none, labels-at-end, first-open}
+use Rattle.mx_asm.proofs.MeaningMemory.{same-pages, unless_full, same-numbers}
+use Rattle.mx_asm.proofs.MeaningStates.{State, image_at, count_of, limited, take-append}
+use Rattle.mx_asm.proofs.MeaningStatements.{behind_fixes, behind_placed, IsSteady, faultless, behind_sight, after_sights, takes-sights, first_state, first-have, opened}
 use Rattle.mx_asm.proofs.MeaningPlaces.{fixed-to, lines-of-sights, pages-of-sights}
 use Rattle.mx_asm.proofs.MeaningSums.{added, sight_at, symbol-at-end, after-is, fixes-placed, bytes-placed, Settles, unlabelled-settles, named-settles, local-settles}
 
@@ -49,9 +48,7 @@ module _ (final : NameTable) (k : Known) (st : StatementTree) (statements : List
 
 -- two pairs of numbers in four places
 four-places : (a x b y e w r : ℕ) → bit_xor x y ≡ bit_xor e w → bit_xor (bit_xor (bit_xor (bit_xor a x) b) y) r ≡ bit_xor (bit_xor a e) (bit_xor (bit_xor b w) r)
-four-places a x b y e w r h =
-    ap (λ n. bit_xor n r) (xor_assoc (bit_xor a x) b y ∙ xor-pairs a x b y ∙ ap (bit_xor (bit_xor a b)) h ∙ xor-pairs a b e w)
-    ∙ xor_assoc (bit_xor a e) (bit_xor b w) r
+four-places a x b y e w r h = grind (arith, xor_assoc, xor-pairs)
 
 nothing-open : (t : Targets) (waits : List Wait) (q : ℕ) → waits ≡ [] → added t waits q ≡ 0
 nothing-open t waits q e = ap (λ ws. added t ws q) e
@@ -61,9 +58,7 @@ pub bytes-of-sights : (final : NameTable) (statements : List StatementTree) (k :
     placed (after_sights s earlier (sights_from k statements)).placements q
     ≡ bit_xor (bit_xor (placed s.placements q) (added (targets final (sights_from k statements)) (open_waits earlier) q)) (placed (placements (pieces_of final (sights_from k statements))) q)
 unfolding sights_from first_fault after_sights pieces_of placements
-bytes-of-sights final [] k earlier s q labels none steady open_none ends =
-    let gone : open_waits earlier ≡ [] = ap open_waits (sym (append-nil earlier)) ∙ open_none in
-    sym (xor_zero_r _ ∙ ap (bit_xor (placed s.placements q)) (nothing-open (targets final []) (open_waits earlier) q gone) ∙ xor_zero_r (placed s.placements q))
+bytes-of-sights final [] k earlier s q labels none steady open_none ends = grind (arith, append-nil, xor_zero_r, nothing-open)
 bytes-of-sights final (st ∷ statements) k earlier s q labels none steady open_none ends =
     let t : Sight = sight_at k st in
     let later : List Sight = sights_from (known_after k st) statements in
@@ -104,11 +99,7 @@ none-wait = refl
 
 -- the globals, unless there are too many pages
 ended : (n g : ℕ) (values : List ℕ) (s : State) → image_in (take_items (Post g values ∷ Stab ∷ []) (limited n s)) ≡ unless_full (count_of n s) (with_globals (image_at n s.placements s.lines) g values)
-ended n g values s = on (nat_le (count_of n s) 65536)
-  where
-    on : (b : Bool) → image_in (take_items (Post g values ∷ Stab ∷ []) (cond b (Ok (stands n s)) (Err PagesFull))) ≡ cond b (Ok (with_globals (image_at n s.placements s.lines) g values)) (Err PagesFull)
-    on true = refl
-    on false = refl
+ended n g values s = search rules
 
 module _ (n : ℕ) (big : 2 ^ 51 ≤ n) (statements : List StatementTree) (none : first_fault [] (sights_of statements) ≡ None) (steady : AllByRecursion IsSteady (sights_of statements)) where
   abbrev final : Known
@@ -139,19 +130,7 @@ module _ (n : ℕ) (big : 2 ^ 51 ≤ n) (statements : List StatementTree) (none 
 
   pub items-mean : first_undefined final.names (sights_of statements) ≡ None →
       meaning (emission statements) ≡ unless_full (pages_below n (pages_of ps)) (record (image_with (pieces statements) final) { page_count = pages_below n (pages_of ps) })
-  items-mean defined =
-      let pages = pages-are in
-      let bytes = bytes-are defined in
-      ap image_in (take-append (front statements) (closing final.names final.gregs) (Ok nothing) ∙ ap (take_items (closing final.names final.gregs)) front-taken)
-      ∙ ended n (lowest_of final.gregs) (final.gregs ++ main_of final.names ∷ []) end
-      ∙ (λ i. unless_full (pages_below n (pages i)) (record {
-        memory = octa_in (bytes i);
-        pages = pages i;
-        page_count = pages_below n (pages i);
-        line_of = (lines-of-sights final.names (sights_of statements) [] first_state none steady) i;
-        g = lowest_of final.gregs;
-        global = value_at (lowest_of final.gregs) (final.gregs ++ main_of final.names ∷ []);
-      }))
+  items-mean defined = grind (arith, nat_tests, pages-are, bytes-are, take-append, front-taken, lines-of-sights)
 
 pub emission-means : (statements : List StatementTree) → first_fault [] (sights_of statements) ≡ None → AllByRecursion IsSteady (sights_of statements) → first_undefined (final_known statements).names (sights_of statements) ≡ None →
     meaning (emission statements) ≡ unless_full (page_count (pages_of (placements (pieces statements)))) (image statements)

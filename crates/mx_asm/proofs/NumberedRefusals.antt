@@ -1,18 +1,17 @@
 -- A refusal has a fault with a number above 0: by the definitions none is for want of memory.
-use Rattle.std.proofs.Common.{◌≡◌, ◌≢◌, ◌<◌, ℕ, zero, suc, ◌+◌, List, [], ◌∷◌, ◌++◌, fold, Option, None, Some, Result, Ok, Err, refl, ap, sym, subst, ◌∙◌, arith, inl, inr, IfErr}
+use Rattle.std.proofs.Common.{◌≡◌, ◌≢◌, ◌<◌, ℕ, ◌+◌, List, [], ◌∷◌, fold, Option, None, Some, Result, Ok, Err, refl, ap, sym, ◌∙◌, arith, IfErr, rules}
 use Rattle.mx_line.specs.Source.{Item as Listed, items_of}
 use Rattle.mx_asm.specs.Faults.{IsTold, fault_number, no_memory}
 use Rattle.mx_asm.specs.OnePass.{standing_after}
-use Rattle.mx_asm.specs.declared.faults.AsmFault.TheVariants.{OutOfMemory}
 use Rattle.mx_line.specs.Lines.{lines_of}
 use Rattle.mx_stmt.specs.Faults as statements
 use Rattle.mx_stmt.specs.declared.faults.StmtFault.{StmtFault}
-use Rattle.mx_stmt.proofs.NumberedFaults.{encoding-number, read-number}
+use Rattle.mx_stmt.proofs.NumberedFaults.{encoding-number}
 use Rattle.mx_asm.proofs.ReadEntries.{Says, said}
 use Rattle.mx_asm.proofs.InTurn.{source-refused}
 use Rattle.mx_asm.proofs.EndLaw.{whole-is}
 use Rattle.mx_asm.proofs.OnePassLaw.{refusal-is}
-use Rattle.mx_asm.proofs.Words.{result_err, Value, Wait, Item, Naming, Label, Placed, Answer, StatementTree, encoding, no_targets, AsmFault, Refused, Head, statement_items, fixes, Entry, Fields, statement_in, entry_with, entry_of, entries_of, line_entries, Assembly, Standing, Progress, Ended, Labelled, Taken, beginning, labelled, naming_of, taken_label, taken_with, statement_taken, entry_taken, behind_entry, and_entries, entries_taken, count_fault, counted, line_unless, line_behind, with_opening, opened, end_behind, refusal, Line, lines_refusal, line_after, lines_taken, one_pass, nat_tests}
+use Rattle.mx_asm.proofs.Words.{result_err, Value, Wait, Item, Naming, Label, Placed, Answer, StatementTree, encoding, no_targets, AsmFault, Refused, Head, statement_items, fixes, Entry, Fields, statement_in, entry_with, entry_of, entries_of, line_entries, Assembly, Standing, Progress, Ended, Labelled, Taken, beginning, labelled, taken_label, taken_with, statement_taken, entry_taken, behind_entry, and_entries, entries_taken, count_fault, counted, line_unless, line_behind, end_behind, refusal, Line, lines_refusal, line_after, lines_taken, one_pass, nat_tests}
 
 -- a refusal has a number above 0
 unfoldable HasNumber : {A : Type 0} → Result A Refused → Type 0
@@ -36,8 +35,7 @@ FaultHasNumber (Err fault) = 0 < fault_number fault
 
 said-number : (fields : Fields) (line : ℕ) (a : Answer StatementTree) → Says fields line a → HasNumber (entry_with line a)
 unfolding HasNumber
-said-number fields line (Ok s) h = tt
-said-number fields line (Err fault) h = read-number fields fault h
+said-number fields line a h = search rules
 
 statement-number : (fields : Fields) (line : ℕ) → HasNumber (entry_with line (statement_in fields line))
 statement-number fields line = said-number fields line (statement_in fields line) (said fields line)
@@ -61,12 +59,10 @@ label-number n label value waits = grind (arith, nat_tests)
 
 labelled-number : (a : Assembly) (line : ℕ) (p : Placed) (l : Labelled) → FaultHasNumber l → HasNumber (taken_label a line p l)
 unfolding HasNumber FaultHasNumber
-labelled-number a line p (Err fault) h = h
-labelled-number a line p (Ok (n, waits)) h = grind (arith, nat_tests, items-number a.head line p waits)
+labelled-number a line p l h = grind (arith, items-number)
 
 placed-number : (a : Assembly) (line : ℕ) (label : Option Label) (answer : Answer Placed) → ((fault : StmtFault) → answer ≡ Err fault → 0 < statements.fault_number fault) → HasNumber (taken_with a line label answer)
-placed-number a line label (Err fault) h = err-has _ _ (h fault refl)
-placed-number a line label (Ok p) h = labelled-number a line p (labelled (naming_of a) label p.label p.waits) (label-number (naming_of a) label p.label p.waits)
+placed-number a line label answer h = grind (arith, err-has, labelled-number, label-number)
 
 taken-number : (a : Assembly) (s : StatementTree) → HasNumber (statement_taken a s)
 taken-number a s = placed-number a s.line s.label (encoding no_targets a.known s) (encoding-number no_targets a.known s)
@@ -75,13 +71,11 @@ taken-number a s = placed-number a s.line s.label (encoding no_targets a.known s
 
 after-number : (more : List Item → Assembly → Progress) → ((out : List Item) (a : Assembly) → HasNumber (more out a).1) → (out : List Item) (t : Taken) → HasNumber t → HasNumber (and_entries more (behind_entry out t)).1
 unfolding HasNumber
-after-number more f out (Err r) h = h
-after-number more f out (Ok (items, b)) h = f (out ++ items) b
+after-number more f out t h = search rules
 
 one-number : (a : Assembly) (e : Entry) → HasNumber e → HasNumber (entry_taken a e)
 unfolding HasNumber
-one-number a (Err r) h = h
-one-number a (Ok s) h = taken-number a s
+one-number a e h = grind (arith, taken-number)
 
 entries-number : (items : List Listed) (out : List Item) (a : Assembly) → HasNumber (entries_taken (entries_of items) out a).1
 unfolding entries_taken
@@ -96,8 +90,7 @@ unless-number (Some r) out a text h = err-has Assembly r (h r refl)
 unless-number None out a text h = entries-number (items_of (a.lines + 1) text) out (counted a text)
 
 behind-number : (out : List Item) (s : Standing) (text : List ℕ) → HasNumber s → HasNumber (line_behind out s text).1
-behind-number out (Err r) text h = h
-behind-number out (Ok a) text h = unless-number (count_fault (opened a) text) (with_opening a.opened out) (opened a) text (count-number (opened a) text)
+behind-number out s text h = grind (arith, unless-number, count-number)
 
 lines-number : (lines : List Line) (p : Progress) → HasNumber p.1 → HasNumber (fold line_after p lines).1
 lines-number [] p h = h
@@ -113,8 +106,7 @@ end-number out s h = grind (arith, nat_tests)
 
 err-number : {A : Type 0} (x : Result A Refused) (r : Refused) → HasNumber x → x ≡ Err r → 0 < fault_number r.fault
 unfolding HasNumber
-err-number (Ok x) r h is = absurd (cc)
-err-number (Err other) r h is = let same : other ≡ r = cc in subst (λ (r : Refused). 0 < fault_number r.fault) same h
+err-number x r h is = search rules
 
 all-number : (lines : List Line) → HasNumber (lines_taken lines).1
 all-number lines = lines-number lines ([], Ok beginning) (ok-number beginning)
@@ -134,10 +126,7 @@ source-numbered source r is =
 
 -- a refusal that has a number where it is not want of memory
 told-by : (line from : ℕ) (fault : AsmFault) → (record { line = line; fault = fault; from_line = from } ≢ no_memory → 0 < fault_number fault) → IsTold (record { line = line; fault = fault; from_line = from })
-told-by zero zero OutOfMemory h = inr refl
-told-by (suc line) from OutOfMemory h = absurd (omega (arith, h (λ e. let no : suc line ≡ 0 = ap (λ (r : Refused). r.line) e in omega (arith, no))))
-told-by zero (suc from) OutOfMemory h = absurd (omega (arith, h (λ e. let no : suc from ≡ 0 = ap (λ (r : Refused). r.from_line) e in omega (arith, no))))
-told-by line from fault h = inl (h (λ e. let same : fault ≡ OutOfMemory = ap (λ (r : Refused). r.fault) e in cc))
+told-by line from fault h = search rules
 
 told : (r : Refused) → (r ≢ no_memory → 0 < fault_number r.fault) → IsTold r
 told r h = told-by r.line r.from_line r.fault h

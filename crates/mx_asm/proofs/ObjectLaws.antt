@@ -1,20 +1,19 @@
 -- An object can be written of what a source is assembled into, and its trie tells its symbols.
-use Rattle.std.proofs.Common.{◌≡◌, ◌<◌, ◌≤◌, ℕ, ◌-◌, ◌/◌, ◌%◌, ◌^◌, List, [], ◌∷◌, ◌++◌, length, Option, None, Some, Result, Ok, Err, refl, sym, ap, ◌∙◌, subst, arith, codes}
-use Rattle.mx_asm.proofs.Words.{IfSome, AreBytes, Value, Item, File, Pre, Post, Stab, lines_of, value_of_name, lowest_of, Known, StatementTree, AsmFault, Refused, statements_in, source_entries, sights_of, final_known, zeros_after, opening, first_head, items_from, main_name, pure_or_zero, main_of, closing, emission, padded_trie, symbols_of, last_fault, end_fault, at_line, first_undefined, locals, entries_refusal, end_refusal, last_line, refusal, AreFit, IsPadded, AreWritable, Ended, assembled_source, written, ending, nat_tests, common_steps}
+use Rattle.std.proofs.Common.{◌≡◌, ◌<◌, ◌≤◌, ℕ, ◌-◌, ◌/◌, ◌%◌, ◌^◌, List, [], ◌∷◌, ◌++◌, length, Option, None, Some, Ok, sym, ap, ◌∙◌, subst, arith, codes}
+use Rattle.mx_asm.proofs.Words.{IfSome, AreBytes, Value, Item, File, Pre, Post, Stab, lines_of, value_of_name, lowest_of, Known, StatementTree, AsmFault, statements_in, source_entries, sights_of, final_known, zeros_after, opening, first_head, items_from, main_name, pure_or_zero, main_of, closing, emission, padded_trie, symbols_of, last_fault, end_fault, at_line, first_undefined, locals, entries_refusal, end_refusal, last_line, refusal, AreFit, IsPadded, AreWritable, assembled_source, written, ending, nat_tests, common_steps}
 use Rattle.mx_stab.specs.Reading.{trie_answer}
 use Rattle.mx_stab.specs.Trie.{trie_of}
 use Rattle.mx_stab.proofs.Law.{written-is-trie}
 use Rattle.mx_stab.proofs.Whole.{trie-read}
-use Rattle.mx_asm.proofs.EndWaits.{both-none}
+use Rattle.mx_asm.proofs.EndLaw.{both-none}
 use Rattle.mx_asm.proofs.Fitting.{fit-one, fit-both, fit-registers, fit-time, fit-file}
 use Rattle.mx_asm.proofs.InTurn.{source-accepted, source-refused}
 use Rattle.mx_asm.proofs.MeaningStatements.{IsWord}
 use Rattle.mx_asm.proofs.MeaningSteady.{steady-all}
-use Rattle.mx_asm.proofs.MeaningRead.{lines-of-bytes}
+use Rattle.mx_asm.proofs.ByteStatements.{lines-of-bytes}
 use Rattle.mx_asm.proofs.MeaningSources.{source-bytes, source-are-accepted}
-use Rattle.mx_asm.proofs.Validity.{assembled-valid}
-use Rattle.mx_asm.proofs.ObjectItems.{items-fit}
-use Rattle.mx_asm.proofs.ObjectShort.{object-short}
+use Rattle.mx_asm.proofs.ObjectItems.{assembled-valid, items-fit}
+use Rattle.mx_asm.proofs.ObjectLengths.{object-short}
 use Rattle.mx_asm.proofs.ObjectNames.{IsTellable, few-registers, tellable-end}
 use Rattle.mx_asm.proofs.StatementCounts.{few-statements}
 
@@ -86,17 +85,7 @@ module _ (source : List ℕ) (bytes : AreBytes source) where
     trie_is : trie ≡ padded_trie end.names
 
   assembled : (items : List Item) (trie : List ℕ) → assembled_source source ≡ (items, Ok trie) → IsAssembled items trie
-  assembled items trie is = by (refusal source) refl
-    where
-      by : (r : Option Refused) → refusal source ≡ r → IsAssembled items trie
-      by None none =
-          let same : ◌≡◌ {A = Ended} (items, Ok trie) (emission statements, Ok (padded_trie end.names)) = sym is ∙ source-accepted source none in
-          let tries : ◌≡◌ {A = Result (List ℕ) Refused} (Ok trie) (Ok (padded_trie end.names)) = ap (λ (e : Ended). e.1) same in
-          record { none = none; items_are = ap (λ (e : Ended). e.0) same; trie_is = cc }
-      by (Some r) e =
-          let same = sym is ∙ source-refused source r e in
-          let no : ◌≡◌ {A = Result (List ℕ) Refused} (Ok trie) (Err r) = ap (λ (e : Ended). e.1) same in
-          absurd (cc)
+  assembled items trie is = grind (arith, source-accepted, source-refused)
 
   pub source-writable : (items : List Item) (trie : List ℕ) → assembled_source source ≡ (items, Ok trie) → AreWritable items trie
   source-writable items trie is =

@@ -1,17 +1,19 @@
--- The object of statements that are accepted has at most the sum of their weights, and what its front and its end take.
-use Rattle.std.proofs.Common.{◌≡◌, ◌<◌, ◌≤◌, ℕ, ◌+◌, ◌*◌, ◌/◌, ◌^◌, false, not, List, [], ◌∷◌, ◌++◌, length, Option, None, Some, Result, Ok, Err, arith, refl, ap, length-append, rules}
-use Rattle.mx_asm.proofs.Words.{result_unwrap_or, sum_by-cons, Value, Awaited, Wait, same_awaited, Item, written, ending, NameTable, complete_form, waits_for, waits_for_others, Label, Name, Local, Placed, Answer, Known, StatementTree, Head, Refused, fixes, waiting_for, waiting_at, Sight, outline, waits_in, nothing_known, known_after, sights_from, sights_of, final_known, label_fault, fault_with, statement_fault, first_fault, moved, onto, fix_items, covered, byte_items, with_bytes, opening, first_head, sight_items, sight_head, items_from, closing, padded_trie, nat_tests, common_steps}
+-- The object of a source that is accepted is not too long.
+use Rattle.std.proofs.Common.{◌≡◌, ◌<◌, ◌≤◌, ℕ, ◌+◌, ◌*◌, ◌/◌, ◌^◌, false, not, List, [], ◌∷◌, ◌++◌, length, Option, None, Some, Result, Ok, Err, arith, refl, ap, length-append, rules, fold}
+use Rattle.mx_asm.proofs.Words.{result_unwrap_or, sum_by-cons, Value, Awaited, Wait, same_awaited, Item, written, ending, NameTable, complete_form, waits_for, waits_for_others, Label, Name, Local, Placed, Answer, Known, StatementTree, Head, Refused, fixes, waiting_for, waiting_at, Sight, outline, waits_in, nothing_known, known_after, sights_from, sights_of, final_known, label_fault, fault_with, statement_fault, first_fault, moved, onto, fix_items, covered, byte_items, with_bytes, opening, first_head, sight_items, sight_head, items_from, closing, padded_trie, nat_tests, common_steps, IsSound, no_targets, encoding, sound-start, statements_in, source_entries, end_refusal, refusal, emission, AreBytes}
 use Rattle.std.proofs.lemmas.List.Filters.{length-filter_both}
 use Rattle.mx_word.specs.declared.waits.Awaited.TheVariants as awaited
 use Rattle.mx_asm.proofs.Weights.{weight, weights}
-use Rattle.mx_asm.proofs.OpenWaits.{any_settles, open_waits, open-unlabelled, open-named, open-local}
-use Rattle.mx_asm.proofs.WaitsFor.{named-waits, local-waits}
+use Rattle.mx_asm.proofs.OpenWaits.{any_settles, open_waits, open-unlabelled, open-named, open-local, named-waits, local-waits}
 use Rattle.mx_asm.proofs.OneStatement.{AreLabels, name-new, no-label-fault, labels-kept}
 use Rattle.mx_asm.proofs.OnePassLaw.{no-labels}
-use Rattle.mx_asm.proofs.EndWaits.{both-none}
-use Rattle.mx_asm.proofs.WrittenLengths.{written-append, written-cons, load_length}
-use Rattle.mx_asm.proofs.StatementLengths.{encoding-fits}
+use Rattle.mx_asm.proofs.EndLaw.{both-none}
+use Rattle.mx_asm.proofs.StatementLengths.{written-append, written-cons, load_length, encoding-fits}
 use Rattle.mx_mmo.proofs.Spelt.{octas-length}
+use Rattle.mx_asm.proofs.MeaningSteady.{sound-kept}
+use Rattle.mx_asm.proofs.SourceWeights.{source-weights, source-short}
+
+-- ---- the object of statements that are accepted has at most the sum of their weights, and what its front and its end take
 
 -- the bytes that items are written as
 abbrev pub size : List Item → ℕ
@@ -129,3 +131,36 @@ pub object-length : (statements : List StatementTree) → first_fault [] (sights
     length (final_known statements).gregs ≤ 223 → length (padded_trie (final_known statements).names) / 4 < 2 ^ 16 →
     length (written (opening ++ items_from first_head [] (sights_of statements) ++ closing (final_known statements).names (final_known statements).gregs) ++ ending (padded_trie (final_known statements).names)) ≤ weights statements + 2 ^ 20
 object-length statements none few short = search (rules, length-append, written-append, opening-length, items-length, closing-length)
+
+-- ---- the object of a source that is accepted has at most the weights of its statements and 2^20 bytes
+
+-- ---- what is known at the end
+
+sound-step : (k : Known) (before : List Sight) (st : StatementTree) (r : Answer Placed) → encoding no_targets k st ≡ r → fault_with before (record { known = k; statement = st }) r ≡ None → IsSound k → IsSound (known_after k st)
+sound-step k before st r h1 h2 h3 = search (rules, sound-kept, no-label-fault)
+
+sound-end : (statements : List StatementTree) (k : Known) (before : List Sight) → first_fault before (sights_from k statements) ≡ None → IsSound k → IsSound (fold known_after k statements)
+unfolding sights_from first_fault
+sound-end [] k before none sound = sound
+sound-end (st ∷ statements) k before none sound = grind (arith, both-none, sound-step, sound-end statements (known_after k st))
+
+pub gregs-few : (statements : List StatementTree) → first_fault [] (sights_of statements) ≡ None → length (final_known statements).gregs ≤ 223
+gregs-few statements none = let low = (sound-end statements nothing_known [] none (sound-start 0)).gregs in omega (arith, low)
+
+-- ---- the symbols
+
+pub trie-short : (last : ℕ) (statements : List StatementTree) → end_refusal last statements ≡ None → length (padded_trie (final_known statements).names) / 4 < 2 ^ 16
+trie-short last statements none = grind (arith, nat_tests)
+
+-- ---- a source
+
+pub accepted-length : (source : List ℕ) → refusal source ≡ None →
+    length (written (emission (statements_in (source_entries source))) ++ ending (padded_trie (final_known (statements_in (source_entries source))).names))
+    ≤ weights (statements_in (source_entries source)) + 2 ^ 20
+accepted-length source none = search (rules, both-none, object-length, gregs-few, trie-short)
+
+-- ---- the object of a source is not too long
+
+pub object-short : (source : List ℕ) → AreBytes source → refusal source ≡ None →
+    length (written (emission (statements_in (source_entries source))) ++ ending (padded_trie (final_known (statements_in (source_entries source))).names)) ≤ 2 ^ 26
+object-short source bytes none = search (rules, accepted-length, source-weights, source-short)

@@ -1,17 +1,69 @@
 -- What is known behind statements of bytes: symbols that a trie can tell, and registers whose values are octas.
-use Rattle.std.proofs.Common.{◌≡◌, ◌<◌, ◌≤◌, ℕ, suc, ◌+◌, ◌^◌, List, [], ◌∷◌, ◌++◌, length, fold, Option, None, Some, Result, Ok, sym, subst, arith, rules}
-use Rattle.mx_asm.proofs.Words.{AllByRecursion, IfSome, AreBytes, AreOctas, InByteOrder, IsValue, IsNamed, Value, NameFault, NameTable, IsFullName, complete_form, value_in, with_symbol, not-some, length-inserted, Label, Name, Local, Effect, Placed, HasRegisterNumber, IsSound, lowest_of, Known, no_targets, symbol_form, StatementTree, encoding, sound-start, encoding-fine, IsEffect, Sight, with_label, with_effect, known_with, known_after, nothing_known, sights_from, name_fault, label_fault, statement_fault, first_fault, all-inserted, nat_tests, common_steps}
+use Rattle.std.proofs.Common.{◌≡◌, ℕ, Bool, true, false, cond, List, [], ◌∷◌, Option, None, Some, Ordering, bytes_eq, refl, sym, ◌∙◌, ap, ◌<◌, ◌^◌, Ok, rules, ◌≤◌, suc, ◌+◌, ◌++◌, length, fold, Result, subst, arith}
+use Rattle.mx_asm.proofs.Words.{AllByRecursion, Symbol, Value, InByteOrder, Below, AreInOrder, in-order, in-byte-order, value_in, symbols_with, all-inserted, cond_both, AreBytes, bytes-append, Tree, is_complete, complete_form, Label, Effect, Placed, Known, Targets, StatementTree, encoding, IfSome, AreOctas, IsValue, IsNamed, NameFault, NameTable, IsFullName, with_symbol, not-some, length-inserted, Name, Local, HasRegisterNumber, IsSound, lowest_of, no_targets, symbol_form, sound-start, encoding-fine, IsEffect, Sight, with_label, with_effect, known_with, known_after, nothing_known, sights_from, name_fault, label_fault, statement_fault, first_fault, nat_tests, common_steps}
+use Rattle.std.specs.Ordering.{nat_cmp, is_lt, is_eq, ordering_reverse}
+use Rattle.std.specs.declared.cmp.Ordering.TheVariants.{Less, Equal, Greater}
+use Rattle.std.specs.Cmp.Lexicographic.{slice_cmp}
+use Rattle.std.proofs.lemmas.Cmp.{nat_list_cmp_total}
+use Rattle.std.proofs.lemmas.Map.Text.{is_eq-slice_cmp}
+use Rattle.mx_stmt.specs.declared.placed.Effect.TheVariants as effect
+use Rattle.mx_asm.proofs.StatementForms.{answer-full, Comes, at_place, encoding-comes, encoding-prefixed}
+use Rattle.mx_asm.proofs.OneStatement.{form-is, name-new}
+use Rattle.mx_asm.proofs.ByteStatements.{HasBytes, IsOfBytes, all-octas, IfLabelOfBytes}
+use Rattle.mx_asm.proofs.MeaningSteady.{KnowsWords, pure-low, one-word, words-there, words-start, encoding-words, words-kept, sound-kept}
 use Rattle.std.specs.List.Sorted.{IsStrictlySortedBy}
-use Rattle.mx_asm.proofs.Encodings.{encoding-prefixed}
-use Rattle.mx_asm.proofs.OneStatement.{name-new}
-use Rattle.mx_asm.proofs.EndWaits.{both-none}
-use Rattle.mx_asm.proofs.ByteStatements.{IfLabelOfBytes, IsOfBytes}
-use Rattle.mx_asm.proofs.MeaningStatements.{IsWord}
-use Rattle.mx_asm.proofs.MeaningWords.{KnowsWords, words-start, encoding-words, words-kept}
-use Rattle.mx_asm.proofs.MeaningSteady.{sound-kept}
-use Rattle.mx_asm.proofs.MeaningFronts.{faultless}
-use Rattle.mx_asm.proofs.ObjectSymbols.{byte-order-inserted}
-use Rattle.mx_asm.proofs.ObjectEffects.{IsEffectOfBytes, form-bytes, encoding-effect}
+use Rattle.mx_asm.proofs.EndLaw.{both-none}
+use Rattle.mx_asm.proofs.MeaningStatements.{IsWord, faultless}
+
+-- ---- symbols with one more: they stay in byte order, and what holds of each stays
+
+-- what is below a name is below all that stand behind it
+below-all : (a b : List ℕ) (more : List Symbol) → Below a b → AllByRecursion (λ (t : Symbol). Below b t.name) more → AllByRecursion (λ (t : Symbol). Below a t.name) more
+below-all a b [] less h = tt
+below-all a b (t ∷ more) less h = (nat_list_cmp_total.trans a b t.name less h.0, below-all a b more less h.1)
+
+absent-rest : (b : Bool) (v : Value) (rest : Option Value) → cond b (Some v) rest ≡ None → (b ≡ false) × (rest ≡ None)
+absent-rest b v rest h = search rules
+
+order-inserted : (new : Symbol) (symbols : List Symbol) → value_in new.name symbols ≡ None → AreInOrder symbols → AreInOrder (symbols_with new symbols)
+order-inserted new [] absent h = (tt, tt)
+order-inserted new (s ∷ ss) absent h = by (slice_cmp nat_cmp new.name s.name) refl (order-inserted new ss other.1 h.1)
+  where
+    other : (bytes_eq new.name s.name ≡ false) × (value_in new.name ss ≡ None)
+    other = absent-rest (bytes_eq new.name s.name) s.value (value_in new.name ss) absent
+
+    by : (o : Ordering) → slice_cmp nat_cmp new.name s.name ≡ o → AreInOrder (symbols_with new ss) → AreInOrder (cond (is_lt o) (new ∷ s ∷ ss) (s ∷ symbols_with new ss))
+    by Less e rest = ((e, below-all new.name s.name ss e h.0), h)
+    by Equal e rest = absurd (let same : true ≡ false = sym (ap is_eq e) ∙ is_eq-slice_cmp new.name s.name ∙ other.0 in cc)
+    by Greater e rest =
+        let above : Below s.name new.name = nat_list_cmp_total.antisymm s.name new.name ∙ ap ordering_reverse e in
+        (all-inserted (λ (t : Symbol). Below s.name t.name) new ss above h.0, rest)
+
+pub byte-order-inserted : (new : Symbol) (symbols : List Symbol) → value_in new.name symbols ≡ None → InByteOrder symbols → InByteOrder (symbols_with new symbols)
+byte-order-inserted new symbols absent h = in-byte-order (symbols_with new symbols) (order-inserted new symbols absent (in-order symbols h))
+
+-- ---- the effects of statements of bytes: a prefix is bytes, and the value of a register is an octa
+
+abbrev pub IsEffectOfBytes : Effect → Type 0
+IsEffectOfBytes effect.Plain = Unit {0}
+IsEffectOfBytes (effect.Prefix full) = AreBytes full
+IsEffectOfBytes (effect.Greg reg value) = value < 2 ^ 64
+IsEffectOfBytes (effect.Local reg) = Unit {0}
+
+-- ---- complete names
+
+pub form-bytes : (prefix text : List ℕ) → AreBytes prefix → AreBytes text → AreBytes (complete_form prefix text)
+form-bytes prefix text h g = cond_both (is_complete text) _ _ AreBytes (λ _. g) (λ _. bytes-append prefix text h g)
+
+-- ---- each operation
+
+effect-of : (k : Known) (label : Option Label) (operands : List Tree) (p : Placed) → KnowsWords k → AreBytes k.names.prefix → AllByRecursion HasBytes operands → Comes k label operands p → IsEffectOfBytes p.effect
+effect-of k label operands p h1 h2 h3 h4 = search (rules, form-is, answer-full, form-bytes, pure-low, one-word, all-octas)
+
+pub encoding-effect : (t : Targets) (k : Known) (s : StatementTree) (p : Placed) → KnowsWords k → AreBytes k.names.prefix → IsOfBytes s → encoding t k s ≡ Ok p → IsEffectOfBytes p.effect
+encoding-effect t k s p words prefix of is = effect-of (at_place k s) s.label s.operands p (words-there k s words) prefix of.operands (encoding-comes t k s p is)
+
+-- ---- what is known behind statements of bytes: symbols that a trie can tell, and registers whose values are octas
 
 -- ---- names
 
@@ -39,8 +91,7 @@ symbol-tellable left names full v is are value new h = search (rules, length-ins
 label-tellable : (left : ℕ) (names : NameTable) (label : Option Label) (value : Option Value) → label_fault names label ≡ None → IfLabelOfBytes label → IfSome value IsWord → IfSome value HasRegisterNumber →
     AreTellable (suc left) names → AreTellable left (with_label names label value)
 label-tellable left names (Some (Local d)) (Some v) none bytes word number h = grind (arith, nat_tests)
-label-tellable left names (Some (Name text)) (Some v) none bytes word number h =
-    search (rules, symbol-tellable, label-full, form-bytes, value-is, not-some, name-new)
+label-tellable left names (Some (Name text)) (Some v) none bytes word number h = search (rules, symbol-tellable, label-full, form-bytes, value-is, not-some, name-new)
 label-tellable left names label value none bytes word number h = one-statement-less left names h
 
 effect-tellable : (left : ℕ) (k : Known) (gregs : List ℕ) (e : Effect) → IsEffect gregs e → IsEffectOfBytes e → AreTellable left k.names → AreTellable left (with_effect k e).names

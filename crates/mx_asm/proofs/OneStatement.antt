@@ -1,12 +1,11 @@
--- One statement in one pass, as the two passes have it.
-use Rattle.std.proofs.Common.{◌≡◌, ℕ, Bool, true, false, cond, nat_lt, List, [], ◌∷◌, ◌++◌, length, Option, None, Some, is_some, Result, Ok, Err, refl, ap, sym, ◌∙◌, slice_set, ◌||◌, bytes_eq, rules}
-use Rattle.mx_asm.proofs.Words.{result_unwrap_or, list_any-append, Value, Wait, Item, predefined_value, NameFault, Twice, Predefined, NameTooLong, NameTable, Naming, complete_form, value_in, define_answer, with_symbol, waits_for, waits_for_others, value-inserted, not-some, Label, Name, Local, Effect, Placed, Answer, Known, no_targets, symbol_form, StatementTree, encoding, AsmFault, Refused, Head, Sight, outline, waits_in, with_label, with_effect, known_behind, known_with, known_after, fixes, awaited_value, waiting_for, waiting_at, onto, moved, byte_items, head_at_fixes, with_bytes, statement_items, statement_head, sight_items, sight_head, refusal_of, name_refusal, name_fault, label_fault, fault_behind, fault_with, statement_fault, Assembly, Taken, naming_of, labelled, symbol_label, symbol_defined, with_local, taken_items, taken_label, taken_with, statement_taken}
+-- One statement in one pass, and entries one after another, as the two passes have them.
+use Rattle.std.proofs.Common.{◌≡◌, ℕ, Bool, true, false, cond, nat_lt, List, [], ◌∷◌, ◌++◌, length, Option, None, Some, is_some, Result, Ok, Err, refl, ap, sym, ◌∙◌, slice_set, ◌||◌, bytes_eq, rules, fold, append_assoc, append-nil, arith}
+use Rattle.mx_asm.proofs.Words.{result_unwrap_or, list_any-append, Value, Wait, Item, predefined_value, NameFault, Twice, Predefined, NameTooLong, NameTable, Naming, complete_form, value_in, define_answer, with_symbol, waits_for, waits_for_others, value-inserted, not-some, Label, Name, Local, Effect, Placed, Answer, Known, no_targets, symbol_form, StatementTree, encoding, AsmFault, Refused, Head, Sight, outline, waits_in, with_label, with_effect, known_behind, known_with, known_after, fixes, awaited_value, waiting_for, waiting_at, statement_items, statement_head, sight_items, sight_head, refusal_of, name_refusal, name_fault, label_fault, fault_behind, fault_with, statement_fault, Assembly, Taken, naming_of, labelled, symbol_label, symbol_defined, with_local, taken_items, taken_label, taken_with, statement_taken, Entry, statements_in, refusal_in, sights_from, items_from, first_fault, first_of, Progress, behind_entry, and_entries, entries_taken, accepted}
 use Rattle.mx_word.specs.declared.waits.Awaited.TheVariants as awaited
-use Rattle.mx_stmt.specs.declared.placed.Effect.TheVariants as effect
-use Rattle.mx_asm.proofs.Filters.{or-false}
-use Rattle.mx_asm.proofs.LabelValues.{HasLabel, encoding-label}
-use Rattle.mx_asm.proofs.OpenWaits.{settled_by, settles, any_settles, open_waits, open-unlabelled, open-named, open-local}
-use Rattle.mx_asm.proofs.WaitsFor.{named-waits, local-waits}
+use Rattle.mx_asm.proofs.OpenWaits.{or-false, settled_by, any_settles, open_waits, open-unlabelled, open-named, open-local, named-waits, local-waits}
+use Rattle.mx_asm.proofs.StatementForms.{HasLabel, encoding-label}
+
+-- ---- one statement in one pass, as the two passes have it
 
 -- what the assembler carries behind these statements
 abbrev pub standing_at : Known → Head → List Sight → ℕ → Assembly
@@ -30,25 +29,18 @@ stepped None items a = Ok (items, a)
 items-by : (h : Head) (line : ℕ) (p : Placed) (waits : List Wait) (a : Assembly) →
     taken_items a (statement_items h line p waits) ≡ stepped (refusal_of (fixes line (awaited_value p.label) waits)) (result_unwrap_or (statement_items h line p waits) []) a
 unfolding fixes
-items-by h line p [] a = refl
-items-by h line p (w ∷ waits) a = by (moved h.lambda (awaited_value p.label)) (byte_items (head_at_fixes h (awaited_value p.label) (w ∷ waits)) line p.start p.bytes) (fixes line (awaited_value p.label) (w ∷ waits))
-  where
-    by : (front items : List Item) (r : Result (List Item) Refused) → taken_items a (with_bytes (onto front r) items) ≡ stepped (refusal_of r) (result_unwrap_or (with_bytes (onto front r) items) []) a
-    by front items (Err refused) = refl
-    by front items (Ok fixes) = refl
+items-by h line p waits a = search rules
 
 -- ---- names
 
 fitting-is : (long : Bool) (form full : List ℕ) → ◌≡◌ {A = Result (List ℕ) NameFault} (cond long (Err NameTooLong) (Ok form)) (Ok full) → full ≡ form
-fitting-is true form full h = absurd (cc)
-fitting-is false form full h = cc
+fitting-is long form full h = search rules
 
 pub form-is : (names : NameTable) (text full : List ℕ) → symbol_form names text ≡ Ok full → full ≡ complete_form names.prefix text
 form-is names text full h = fitting-is (nat_lt 1024 (length (complete_form names.prefix text))) (complete_form names.prefix text) full h
 
 absent-by : (predefined defined : Bool) (u : Unit {0}) → ◌≡◌ {A = Result (Unit {0}) NameFault} (cond predefined (Err Predefined) (cond defined (Err Twice) (Ok tt))) (Ok u) → defined ≡ false
-absent-by false false u h = refl
-absent-by predefined defined u h = absurd (cc)
+absent-by predefined defined u h = search rules
 
 absent : (names : NameTable) (full : List ℕ) (u : Unit {0}) → define_answer names full ≡ Ok u → is_some (value_in full names.symbols) ≡ false
 absent names full u h = absent-by (is_some (predefined_value full)) (is_some (value_in full names.symbols)) u h
@@ -68,10 +60,7 @@ module _ (k : Known) (h : Head) (before : List Sight) (l : ℕ) (st : StatementT
       taken_label (standing_at k h before l) st.line p (Ok (n, waits)) ≡ stepped (fault_behind before here p None)
       (result_unwrap_or (statement_items h st.line p (waiting_at before here)) [])
       (standing_at (known_behind k st p) (statement_head h st.line p (waiting_at before here)) after (with_local l p.effect))
-  settled p n waits ws ns =
-      ap (λ w. taken_label (standing_at k h before l) st.line p (Ok (n, w))) ws
-      ∙ ap (λ n. taken_label (standing_at k h before l) st.line p (Ok (n, waiting_at before here))) ns
-      ∙ items-by h st.line p (waiting_at before here) (standing_at (known_behind k st p) (statement_head h st.line p (waiting_at before here)) after (with_local l p.effect))
+  settled p n waits ws ns = grind (arith, items-by)
 
   -- what a statement with this fault of its label comes to
   abbrev Comes : Placed → Option Label → Option Value → List Wait → Type 0
@@ -138,15 +127,13 @@ module _ (k : Known) (h : Head) (before : List Sight) (l : ℕ) (st : StatementT
   step-with : (r : Answer Placed) → outline here ≡ r → AreLabels k.names before →
       taken_with (standing_at k h before l) st.line st.label r
       ≡ stepped (fault_with before here r) (sight_items h before here r) (standing_at (known_with k st r) (sight_head h before here r) after (sight_local l r))
-  step-with (Err fault) is labels = refl
-  step-with (Ok p) is labels = placed-comes p st.label p.label (encoding-label no_targets k st p is) refl refl is labels
+  step-with r is labels = grind (arith, placed-comes, encoding-label)
 
   pub one-statement : AreLabels k.names before →
       statement_taken (standing_at k h before l) st
       ≡ stepped (statement_fault before here) (sight_items h before here (outline here)) (standing_at (known_after k st) (sight_head h before here (outline here)) after (sight_local l (outline here)))
   unfolding known_after
-  one-statement labels =
-      step-with (outline here) refl labels
+  one-statement labels = simp (step-with)
 
 -- ---- the symbols are the labels
 
@@ -168,25 +155,84 @@ label-more : (names : NameTable) (label : Option Label) (value : Option Value) (
 label-more names label value full h1 h2 = search (rules, symbol-more, name-new, or-false)
 
 pub effect-symbols : (k : Known) (e : Effect) → (with_effect k e).names.symbols ≡ k.names.symbols
-effect-symbols k effect.Plain = refl
-effect-symbols k e = refl
+effect-symbols k e = search rules
 
 pub no-label-fault : (before : List Sight) (s : Sight) (p : Placed) (f : Option AsmFault) → fault_behind before s p f ≡ None → f ≡ None
-no-label-fault before s p None h = refl
-no-label-fault before s p (Some fault) h = absurd (cc)
+no-label-fault before s p f h = search rules
 
 module _ (k : Known) (before : List Sight) (st : StatementTree) where
   labels-with : (r : Answer Placed) → encoding no_targets k st ≡ r → fault_with before (record { known = k; statement = st }) r ≡ None → AreLabels k.names before →
       AreLabels (known_with k st r).names (before ++ record { known = k; statement = st } ∷ [])
-  labels-with (Err fault) is none labels full = absurd (cc)
-  labels-with (Ok p) is none labels full =
-      list_any-append (λ (t : Sight). settles t (awaited.Name full)) before (record { known = k; statement = st } ∷ [])
-      ∙ ap (λ b. any_settles before (awaited.Name full) || b) (or-false (settled_by k.names st.label (awaited.Name full)))
-      ∙ ap (λ b. b || settled_by k.names st.label (awaited.Name full)) (labels full)
-      ∙ sym (label-more k.names st.label p.label full (encoding-label no_targets k st p is) (no-label-fault before (record { known = k; statement = st }) p (label_fault k.names st.label) none))
-      ∙ ap (λ symbols. is_some (value_in full symbols)) (sym (effect-symbols (record { names = with_label k.names st.label p.label; at = p.after; gregs = k.gregs }) p.effect))
+  labels-with r is none labels full = grind (arith, list_any-append, or-false, label-more, encoding-label, no-label-fault, effect-symbols)
 
   pub labels-kept : statement_fault before (record { known = k; statement = st }) ≡ None → AreLabels k.names before →
       AreLabels (known_after k st).names (before ++ record { known = k; statement = st } ∷ [])
   unfolding known_after
   labels-kept none labels = labels-with (encoding no_targets k st) refl none labels
+
+-- ---- entries that are taken one after another, as the two passes have them
+
+-- the head and the greatest register of LOCAL behind statements
+unfoldable pub head_from : Head → List Sight → List Sight → Head
+head_from h before [] = h
+head_from h before (s ∷ later) = head_from (sight_head h before s (outline s)) (before ++ s ∷ []) later
+
+unfoldable pub locals_from : ℕ → List Sight → ℕ
+locals_from l [] = l
+locals_from l (s ∷ later) = locals_from (sight_local l (outline s)) later
+
+-- a refusal, or what stands
+abbrev pub outcome : List Item → Option Refused → Assembly → Progress
+outcome out (Some refused) a = (out, Err refused)
+outcome out None a = (out, Ok a)
+
+-- what entries come to, behind statements
+abbrev pub entries_outcome : Known → Head → List Sight → ℕ → List Item → List StatementTree → Option Refused → Progress
+entries_outcome k h before l out statements refusal =
+    let sights = sights_from k statements in
+    outcome (out ++ items_from h before (accepted before sights)) (first_of (first_fault before sights) refusal)
+    (standing_at (fold known_after k statements) (head_from h before sights) (before ++ sights) (locals_from l sights))
+
+nothing-more : (k : Known) (h : Head) (before : List Sight) (l : ℕ) (out : List Item) → (out, Ok (standing_at k h before l)) ≡ entries_outcome k h before l out [] None
+unfolding sights_from items_from accepted first_fault head_from locals_from
+nothing-more k h before l out = λ i. (sym (append-nil out) i, Ok (standing_at k h (sym (append-nil before) i) l))
+
+refused-here : (k : Known) (h : Head) (before : List Sight) (l : ℕ) (out : List Item) (r : Refused) → (out, Err r) ≡ entries_outcome k h before l out [] (Some r)
+unfolding sights_from items_from accepted first_fault
+refused-here k h before l out r = ap (λ items. (items, Err r)) (sym (append-nil out))
+
+module _ (k : Known) (h : Head) (before : List Sight) (l : ℕ) (out : List Item) (st : StatementTree) (statements : List StatementTree) (refusal : Option Refused) where
+  abbrev s : Sight
+  s = record { known = k; statement = st }
+
+  abbrev rest : Progress
+  rest = entries_outcome (known_after k st) (sight_head h before s (outline s)) (before ++ s ∷ []) (sight_local l (outline s)) (out ++ sight_items h before s (outline s)) statements refusal
+
+  refused-first : (r : Refused) → statement_fault before s ≡ Some r → (out, Err r) ≡ entries_outcome k h before l out (st ∷ statements) refusal
+  unfolding sights_from items_from accepted first_fault
+  refused-first r is = search rules
+
+  more-first : statement_fault before s ≡ None → rest ≡ entries_outcome k h before l out (st ∷ statements) refusal
+  unfolding sights_from items_from accepted first_fault head_from locals_from
+  more-first is = grind (arith, append_assoc)
+
+step-outcome : (k : Known) (h : Head) (before : List Sight) (l : ℕ) (out : List Item) (st : StatementTree) (entries : List Entry) (fault : Option Refused) →
+    statement_fault before (record { known = k; statement = st }) ≡ fault →
+    (statement_fault before (record { known = k; statement = st }) ≡ None →
+    entries_taken entries (out ++ sight_items h before (s k h before l out st [] None) (outline (s k h before l out st [] None))) (standing_at (known_after k st) (sight_head h before (s k h before l out st [] None) (outline (s k h before l out st [] None))) (before ++ s k h before l out st [] None ∷ []) (sight_local l (outline (s k h before l out st [] None))))
+    ≡ rest k h before l out st (statements_in entries) (refusal_in entries)) →
+    and_entries (entries_taken entries) (behind_entry out (stepped fault (sight_items h before (s k h before l out st [] None) (outline (s k h before l out st [] None))) (standing_at (known_after k st) (sight_head h before (s k h before l out st [] None) (outline (s k h before l out st [] None))) (before ++ s k h before l out st [] None ∷ []) (sight_local l (outline (s k h before l out st [] None))))))
+    ≡ entries_outcome k h before l out (st ∷ statements_in entries) (refusal_in entries)
+step-outcome k h before l out st entries fault is more = grind (arith, refused-first, more-first)
+
+pub entries-are : (entries : List Entry) (k : Known) (h : Head) (before : List Sight) (l : ℕ) (out : List Item) → AreLabels k.names before →
+    entries_taken entries out (standing_at k h before l) ≡ entries_outcome k h before l out (statements_in entries) (refusal_in entries)
+unfolding entries_taken
+entries-are [] k h before l out labels = nothing-more k h before l out
+entries-are (Err r ∷ entries) k h before l out labels = refused-here k h before l out r
+entries-are (Ok st ∷ entries) k h before l out labels =
+    ap (λ taken. and_entries (entries_taken entries) (behind_entry out taken)) (one-statement k h before l st labels)
+    ∙ step-outcome k h before l out st entries (statement_fault before (record { known = k; statement = st })) refl
+    (λ none. entries-are entries (known_after k st) (sight_head h before (record { known = k; statement = st }) (outline (record { known = k; statement = st }))) (before ++ record { known = k; statement = st } ∷ [])
+    (sight_local l (outline (record { known = k; statement = st }))) (out ++ sight_items h before (record { known = k; statement = st }) (outline (record { known = k; statement = st })))
+    (labels-kept k before st none labels))

@@ -1,6 +1,6 @@
 -- A statement that is read is the one that is listed.
-use Rattle.std.proofs.Common.{◌≡◌, ℕ, List, Option, None, Some, Result, Ok, Err, refl, ap, subst, sym, ◌∙◌, inl, inr, ◌⊎◌, ◌↔◌, is_some, option_map, rules}
-use Rattle.mx_asm.proofs.Words.{Span, Cut, part, item_of, ExprFault, Tree, reading, reading-ok, reading-err, list-read, fault-read, Op, StatementTree, Answer, Fields, IsRead, IsFault, label_of, label_in, fields_of, operation_for, AsmFault, Stmt, Refused, refused, with_operands, with_operation, statement_in, entry_with, entry_of}
+use Rattle.std.proofs.Common.{◌≡◌, ℕ, List, Option, Result, Ok, Err, refl, ap, sym, ◌∙◌, ◌⊎◌, ◌↔◌, is_some, option_map, rules}
+use Rattle.mx_asm.proofs.Words.{Span, Cut, part, item_of, ExprFault, Tree, reading, reading-ok, reading-err, list-read, fault-read, Op, StatementTree, Answer, Fields, IsRead, IsFault, label_of, label_in, fields_of, operation_for, Stmt, refused, with_operands, with_operation, statement_in, entry_with, entry_of}
 use Rattle.mx_stmt.specs.declared.faults.StmtFault.{StmtFault}
 use Rattle.mx_stmt.specs.Reading.IsFault.{operation, operand_list}
 use Rattle.mx_stmt.proofs.FieldsRead.{same-parsed as same-statement}
@@ -33,8 +33,7 @@ said fields line = operation-says fields line (operation_for (is_some fields.lab
 
 -- the fields of a cut
 label-is : (text : List ℕ) (span : Option Span) → option_map label_of (option_map (part text) span) ≡ label_in text span
-label-is text None = refl
-label-is text (Some span) = refl
+label-is text span = search rules
 
 entry-fields : (line : ℕ) (text : List ℕ) (cut : Cut) → entry_of (item_of line text (Ok cut)) ≡ entry_with line (statement_in (fields_of text cut) line)
 entry-fields line text cut = ap (λ label. entry_with line (statement_in (record { label = label; op = part text cut.op; operands = part text cut.operands }) line)) (label-is text cut.label)
@@ -47,16 +46,10 @@ entry-faulty line text cut fault h = sym (entry-fields line text cut ∙ ap (ent
 
 -- ... and the other way
 read-back : (fields : Fields) (line : ℕ) (s : StatementTree) (a : Answer StatementTree) → Says fields line a → entry_with line a ≡ Ok s → IsRead fields line s
-read-back fields line s (Ok t) h e = let same : t ≡ s = cc in subst (IsRead fields line) same h
-read-back fields line s (Err fault) h e = absurd (cc)
+read-back fields line s a h e = search rules
 
 faulty-back : (fields : Fields) (line : ℕ) (fault : StmtFault) (a : Answer StatementTree) → Says fields line a → entry_with line a ≡ Err (refused line (Stmt fault)) → IsFault fields fault
-faulty-back fields line fault (Ok t) h e = absurd (cc)
-faulty-back fields line fault (Err other) h e =
-    let refusal : refused line (Stmt other) ≡ refused line (Stmt fault) = cc in
-    let told : ◌≡◌ {A = AsmFault} (Stmt other) (Stmt fault) = ap (λ (r : Refused). r.fault) refusal in
-    let same : other ≡ fault = cc in
-    subst (IsFault fields) same h
+faulty-back fields line fault a h e = search rules
 
 pub statement-listed : (line : ℕ) (text : List ℕ) (cut : Cut) (s : StatementTree) → (entry_of (item_of line text (Ok cut)) ≡ Ok s) ↔ IsRead (fields_of text cut) line s
 statement-listed line text cut s = (
@@ -71,8 +64,7 @@ fault-listed line text cut fault = (
 )
 
 one-of : (fields : Fields) (line : ℕ) (a : Answer StatementTree) → Says fields line a → ((s : StatementTree) × IsRead fields line s) ⊎ ((fault : StmtFault) × IsFault fields fault)
-one-of fields line (Ok s) h = inl (s, h)
-one-of fields line (Err fault) h = inr (fault, h)
+one-of fields line a h = search rules
 
 pub read-or-faulty : (fields : Fields) (line : ℕ) → ((s : StatementTree) × IsRead fields line s) ⊎ ((fault : StmtFault) × IsFault fields fault)
 read-or-faulty fields line = one-of fields line (statement_in fields line) (said fields line)

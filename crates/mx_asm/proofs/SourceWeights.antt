@@ -1,18 +1,65 @@
 -- What the statements of a source ask for is bounded by the bytes of the source.
-use Rattle.std.proofs.Common.{◌≡◌, ℕ, ◌+◌, ◌-◌, ◌*◌, ◌^◌, ◌<◌, ◌≤◌, List, [], ◌∷◌, map, length, take, drop, sum_by, bytes_eq, Bool, true, false, cond, nat_lt, Option, Some, None, Result, Ok, Err, arith, refl, ap, subst, ◌==◌, option_map, rules}
-use Rattle.mx_asm.proofs.Words.{AllByRecursion, list_all, slice_split, take-length, cond_both, and_parts, ltb-true, ltb-false, length-take, sum_by-cons, bytes_eq-Decides, AreBytes, Span, LineFault, Cut, lines_of, without_empty_last, size_up_to, is_too_far, split, part, cuts_from, InOrder, CutInOrder, statement, too_far, item_of, before, items_of, Statements, Op, opcode_rows, opcode_names, pseudo_operations, chosen_operations, operations, operation_of, Answer, StatementTree, Fields, operation_with, Entry, with_operation, entry_with, entry_of, entries_of, line_entries, source_entries, statements_in, refusal_in, first_fault, entries_refusal, end_refusal, last_line, refusal, sights_of, Line, lines_entries, nat_tests, common_steps}
+use Rattle.std.proofs.Common.{◌≡◌, ℕ, ◌+◌, ◌<◌, ◌≤◌, List, ◌++◌, length, drop, true, ◌⊎◌, inl, inr, Option, IfOk, IfSome, arith, ap, length-append, length-drop, rules, ◌-◌, ◌*◌, ◌^◌, [], ◌∷◌, map, take, sum_by, Bool, false, cond, nat_lt, Some, None, Result, Ok, Err, refl, subst, ◌==◌, option_map}
+use Rattle.mx_asm.proofs.Words.{Span, Cut, Found, IsField, Next, Operation, Statement, StatementOf, nat_tests, common_steps, AllByRecursion, list_all, slice_split, take-length, cond_both, and_parts, ltb-true, ltb-false, length-take, sum_by-cons, bytes_eq-Decides, AreBytes, LineFault, lines_of, without_empty_last, size_up_to, is_too_far, split, part, cuts_from, InOrder, CutInOrder, statement, too_far, item_of, before, items_of, Statements, Op, opcode_rows, opcode_names, pseudo_operations, chosen_operations, operations, operation_of, Answer, StatementTree, Fields, operation_with, Entry, with_operation, entry_with, entry_of, entries_of, line_entries, source_entries, statements_in, refusal_in, first_fault, entries_refusal, end_refusal, last_line, refusal, sights_of, Line, lines_entries}
+use Rattle.mx_line.specs.Fields.{ends_here}
+use Rattle.mx_line.specs.Statements.{Operands}
+use Rattle.mx_line.specs.Statements.Operands.{field, open_string, open_char}
+use Rattle.mx_line.specs.Statements.StatementOf.{too_long, later, first}
 use Rattle.mx_line.specs.Source.{Item, items_from}
 use Rattle.mx_line.specs.Statements.Statements.{next as one_more}
 use Rattle.mx_line.proofs.StatementLemmas.{statement-order}
 use Rattle.mx_line.proofs.RuleLaws.{statement_of-only}
 use Rattle.mx_line.proofs.ListLaws.{list-by-rules}
 use Rattle.mx_ops.specs.Tables.{first_of}
-use Rattle.mx_asm.proofs.Weights.{weight, weights}
-use Rattle.mx_asm.proofs.EndWaits.{both-none}
-use Rattle.mx_asm.proofs.MeaningRead.{part-bytes}
+use Rattle.mx_asm.proofs.Weights.{weight, weights, field_most, field-weighs}
+use Rattle.mx_asm.proofs.EndLaw.{both-none}
+use Rattle.mx_asm.proofs.ByteStatements.{part-bytes}
 use Rattle.mx_asm.proofs.MeaningSources.{source-bytes}
-use Rattle.mx_asm.proofs.OperandWeights.{field_most, field-weighs}
-use Rattle.mx_asm.proofs.StatementRooms.{HasRoom, room-of}
+
+-- ---- how many bytes of a line a statement takes at least
+
+-- An operand field that is not empty stands behind a blank, and behind the field there is a `;` or nothing more.
+pub record HasRoom (end : ℕ) (cut : Cut) : Type 0 where
+  pub gap : (cut.operands.to ≡ cut.operands.from) ⊎ (cut.op.to < cut.operands.from)
+  pub last : (cut.operands.to < cut.next) ⊎ (cut.next ≡ end)
+
+abbrev pub FoundRoom : ℕ → Found → Type 0
+FoundRoom end found = IfOk found (λ o. IfSome o (HasRoom end))
+
+-- a `;` or nothing more
+next-last : (place end : ℕ) (text : List ℕ) (next : ℕ) → place + length text ≡ end → Next place text next → (place < next) ⊎ (next ≡ end)
+next-last place end text next h1 h2 = grind (arith, nat_tests)
+
+gap-first : (place : ℕ) (text gap rest operands after : List ℕ) → ends_here text ≡ true → text ≡ gap ++ rest → rest ≡ operands ++ after → IsField operands →
+    (place + length gap + length operands ≡ place + length gap) ⊎ (place < place + length gap)
+gap-first place text gap rest operands after h1 h2 h3 h4 = grind (arith, common_steps, nat_tests)
+
+operands-room : (end : ℕ) (label : Option Span) (op : Span) (place : ℕ) (text : List ℕ) (found : Found) → ends_here text ≡ true → op.to ≡ place → place + length text ≡ end →
+    Operands label op place text found → FoundRoom end found
+operands-room end label op place text _ h o l (field gap rest operands after next r e f c n) = record {
+  gap = by (gap-first place text gap rest operands after h r.spelled e f);
+  last = next-last (place + length gap + length operands) end after next
+      (omega (arith, l, ap length r.spelled, length-append gap rest, ap length e, length-append operands after)) n;
+}
+  where
+    by : (place + length gap + length operands ≡ place + length gap) ⊎ (place < place + length gap) → (place + length gap + length operands ≡ place + length gap) ⊎ (op.to < place + length gap)
+    by (inl same) = inl same
+    by (inr less) = inr (omega (arith, less, o))
+operands-room end label op place text _ h o l (open_string gap rest front inner r e f n) = tt
+operands-room end label op place text _ h o l (open_char gap rest front after r e f n) = tt
+
+operation-room : (end : ℕ) (label : Option Span) (place : ℕ) (text : List ℕ) (found : Found) → place + length text ≡ end → Operation label place text found → FoundRoom end found
+operation-room end label place text found h1 h2 = search (rules, operands-room, length-append)
+
+statement-room : (end place : ℕ) (text : List ℕ) (found : Found) → place + length text ≡ end → Statement place text found → FoundRoom end found
+statement-room end place text found h1 h2 = search (rules, operation-room, length-append)
+
+pub room-of : (line : List ℕ) (place : ℕ) (found : Found) → place ≤ length line → StatementOf line place found → FoundRoom (length line) found
+room-of line place _ l (too_long e s) = tt
+room-of line place found l (later _ s h) = statement-room (length line) place (drop place line) found (omega (arith, l, length-drop place line)) h
+room-of line place found l (first _ e s h) = statement-room (length line) place line found (omega (arith, e)) h
+
+-- ---- what the statements of a source ask for is bounded by the bytes of the source
 
 -- ---- the names of operations have at least two bytes
 
@@ -25,13 +72,7 @@ all-long = refl
 
 long-found : (table : List (List ℕ × Op)) (name : List ℕ) (op : Op) → list_all is_long table ≡ true → first_of name table ≡ Some op → 1 < length name
 long-found [] name op h e = absurd (cc)
-long-found (entry ∷ table) name op h e =
-    let both = and_parts (is_long entry) (list_all is_long table) h in
-    by (bytes_eq entry.0 name) (bytes_eq-Decides entry.0 name).0 (ltb-true 1 (length entry.0) both.0) (long-found table name op both.1) e
-  where
-    by : (b : Bool) → (b ≡ true → entry.0 ≡ name) → 1 < length entry.0 → (first_of name table ≡ Some op → 1 < length name) → ◌≡◌ {A = Option Op} (cond b (Some entry.1) (first_of name table)) (Some op) → 1 < length name
-    by true same l rest e = subst (λ (n : List ℕ). 1 < length n) (same refl) l
-    by false same l rest e = rest e
+long-found (entry ∷ table) name op h e = grind (arith, and_parts, bytes_eq-Decides, ltb-true, long-found table name op)
 
 name-long : (name : List ℕ) (op : Op) → operation_of name ≡ Some op → 1 < length name
 unfolding operation_of
@@ -70,13 +111,13 @@ next-fits line place cut op operands entry rest h1 h2 h3 h4 h5 h6 entries h7 = g
 
 cuts-fit : (n : ℕ) (line : List ℕ) (place : ℕ) (cuts : List (Result Cut LineFault)) → AreBytes line → place ≤ length line → Statements line place cuts →
     Fits line place (weights (statements_in (entries_of (map (item_of n line) cuts))))
-cuts-fit n line place _ h l (one_more _ cut cuts s later) =
+cuts-fit n line place _ h l (one_more _ cut cuts s after) =
     let order : InOrder place (length line) cut = subst (CutInOrder place (length line)) (statement_of-only line place (Ok (Some cut)) s) (statement-order line place l) in
     let entries : List Entry = entries_of (map (item_of n line) cuts) in
     next-fits line place cut (part line cut.op) (part line cut.operands) (entry_of (item_of n line (Ok cut))) (statements_in entries) order (room-of line place (Ok (Some cut)) l s)
     (part-few line cut.op (omega (arith, order.op))) (part-few line cut.operands order.operands)
     (entry-most n (option_map (part line) cut.label) (part line cut.op) (part line cut.operands) (part-bytes line cut.operands h))
-    (cuts-fit n line cut.next cuts h order.within later) entries refl
+    (cuts-fit n line cut.next cuts h order.within after) entries refl
 cuts-fit n line place _ h l _ = record { bounded = omega (arith, l); none = λ k. refl }
 
 line-weight : (n : ℕ) (line : List ℕ) → AreBytes line → weights (statements_in (line_entries n line)) ≤ 15 * (length line + 1)
@@ -148,9 +189,7 @@ near-by n b items h = grind (arith, nat_tests)
 items-near : (all : List Line) (n k : ℕ) (line : Line) (lines : List Line) → n + length lines ≡ k → refusal_in (entries_of (items_from all n (line ∷ lines))) ≡ None → is_too_far all k ≡ false
 unfolding items_from
 items-near all n k line [] e h = grind (arith, nat_tests)
-items-near all n k line (next ∷ lines) e h =
-    items-near all (n + 1) k next lines (omega (arith, e))
-    (later-none (items_of n line) (items_from all (n + 1) (next ∷ lines)) (near-by n (is_too_far all n) (before (items_of n line) (items_from all (n + 1) (next ∷ lines))) h).1)
+items-near all n k line (next ∷ lines) e h = grind (arith, later-none, near-by, items-near all (n + 1) k next lines (omega (arith, e)))
 
 room-is : (lines : List (List ℕ)) → room lines ≡ sum_by length lines + length lines
 room-is [] = omega arith

@@ -1,10 +1,11 @@
--- What a statement that is placed comes to, by its operation: bytes at the place, or a label and an effect.
-use Rattle.std.proofs.Common.{◌≡◌, ◌≤◌, ℕ, ◌+◌, cond, nat_lt, List, [], ◌∷◌, length, Option, Ok, Err, refl, subst}
-use Rattle.mx_asm.proofs.Words.{cond_both, ltb-false, Value, Pure, Reg, Wait, tetra_to_bytes, Tree, name, Op, Code, Lda, Set, Pseudo, Mem, shapes_of, Label, Effect, Placed, Answer, and_then, register_for, Known, Targets, operand_value, pure_at, register_at, form, form_by, set_form, data_form, StatementTree, alignment, known_at_place, label_value, tetra_waits, complete_symbol, one_form, one_operand, pseudo_form, op_form, encoding, IfPlaced}
-use Rattle.mx_ops.specs.declared.op.Op.TheVariants.{Pseudo as PseudoOp}
+-- What a statement that is placed comes to, by its operation, and what always holds of it.
+use Rattle.std.proofs.Common.{◌≡◌, ◌≤◌, ℕ, ◌+◌, cond, nat_lt, List, [], ◌∷◌, length, Option, Ok, Err, None, Some, rules, Result, arith}
+use Rattle.mx_asm.proofs.Words.{cond_both, ltb-false, Value, Pure, Reg, Wait, Tree, name, Op, Pseudo, Label, Effect, Placed, Answer, and_then, register_for, Known, Targets, operand_value, pure_at, register_at, StatementTree, alignment, known_at_place, label_value, complete_symbol, one_form, one_operand, pseudo_form, op_form, encoding, IfPlaced, nat_tests, NameFault, AreNames, IsFullName, symbol_answer, IsPlaced, common_steps}
 use Rattle.mx_ops.specs.declared.op.Pseudo.TheVariants as pseudo
 use Rattle.mx_stmt.specs.declared.placed.Effect.TheVariants as effect
 use Rattle.mx_stmt.specs.declared.faults.StmtFault.TheVariants.{BadPlace}
+
+-- ---- what a statement that is placed comes to, by its operation: bytes at the place, or a label and an effect
 
 abbrev pub laid : Known → Option Label → List ℕ → List Wait → Placed
 laid k label bytes waits = record { start = k.at; bytes = bytes; waits = waits; label = label_value label (Pure k.at); effect = effect.Plain; after = k.at + length bytes }
@@ -25,8 +26,7 @@ module _ (k : Known) (label : Option Label) (operands : List Tree) where
   Come r = IfPlaced (Comes k label operands) r
 
   then-comes : {A : Type 0} (r : Answer A) (next : A → Answer Placed) → ((x : A) → r ≡ Ok x → Come (next x)) → Come (and_then r next)
-  then-comes (Err fault) next h = tt
-  then-comes (Ok x) next h = h x refl
+  then-comes r next h = search rules
 
   bytes-come : (bytes : List ℕ) (waits : List Wait) → Come (cond (nat_lt 0x6000_0000_0000_0000 (k.at + length bytes)) (Err BadPlace) (Ok (laid k label bytes waits)))
   bytes-come bytes waits = cond_both (nat_lt 0x6000_0000_0000_0000 (k.at + length bytes)) _ _ Come (λ _. tt) (λ e. placed bytes waits (ltb-false _ _ e))
@@ -40,25 +40,16 @@ module _ (k : Known) (label : Option Label) (operands : List Tree) where
   one-comes p e o = tt
 
   operand-comes : (p : Pseudo) (l : List Tree) → operands ≡ l → Come (one_operand k label p l)
-  operand-comes p (e ∷ []) o = one-comes p e o
-  operand-comes p l o = tt
+  operand-comes p l o = grind (arith, one-comes)
 
   pseudo-comes : (t : Targets) (line : ℕ) (p : Pseudo) → Come (pseudo_form t k line label p operands)
-  pseudo-comes t line pseudo.Byte = then-comes (data_form t k line 1 operands) _ (λ d is. bytes-come d.bytes d.waits)
-  pseudo-comes t line pseudo.Wyde = then-comes (data_form t k line 2 operands) _ (λ d is. bytes-come d.bytes d.waits)
-  pseudo-comes t line pseudo.Tetra = then-comes (data_form t k line 4 operands) _ (λ d is. bytes-come d.bytes d.waits)
-  pseudo-comes t line pseudo.Octa = then-comes (data_form t k line 8 operands) _ (λ d is. bytes-come d.bytes d.waits)
-  pseudo-comes t line p = operand-comes p operands refl
+  pseudo-comes t line p = grind (arith, then-comes, bytes-come, operand-comes)
 
   op-comes : (t : Targets) (line : ℕ) (op : Op) → Come (op_form t k line label op operands)
-  op-comes t line (PseudoOp p) = pseudo-comes t line p
-  op-comes t line (Code code) = then-comes (form_by t k (shapes_of code) code operands) _ (λ d is. bytes-come (tetra_to_bytes d.word) (tetra_waits line k.at d.wait))
-  op-comes t line Lda = then-comes (form t k Mem 0x22 operands) _ (λ d is. bytes-come (tetra_to_bytes d.word) (tetra_waits line k.at d.wait))
-  op-comes t line Set = then-comes (set_form k operands) _ (λ d is. bytes-come (tetra_to_bytes d.word) (tetra_waits line k.at d.wait))
+  op-comes t line op = grind (arith, pseudo-comes, then-comes, bytes-come)
 
 pub if-placed : (P : Placed → Type 0) (r : Answer Placed) (p : Placed) → IfPlaced P r → r ≡ Ok p → P p
-if-placed P (Err fault) p h is = absurd (cc)
-if-placed P (Ok q) p h is = let same : q ≡ p = cc in subst P same h
+if-placed P r p h is = search rules
 
 -- what is known where a statement lies
 abbrev pub at_place : Known → StatementTree → Known
@@ -66,3 +57,42 @@ at_place k s = known_at_place (alignment s.op) k
 
 pub encoding-comes : (t : Targets) (k : Known) (s : StatementTree) (p : Placed) → encoding t k s ≡ Ok p → Comes (at_place k s) s.label s.operands p
 encoding-comes t k s p is = if-placed (Comes (at_place k s) s.label s.operands) (encoding t k s) p (op-comes (at_place k s) s.label s.operands t s.line s.op) is
+
+-- ---- a statement that is placed has a value for its label exactly where it has a label
+
+abbrev pub HasLabel : Option Label → Option Value → Type 0
+HasLabel None None = Unit {0}
+HasLabel None (Some value) = ⊥
+HasLabel (Some label) None = ⊥
+HasLabel (Some label) (Some value) = Unit {0}
+
+has-value : (label : Option Label) (value : Value) → HasLabel label (label_value label value)
+has-value label value = search rules
+
+has-label : (k : Known) (label : Option Label) (operands : List Tree) (p : Placed) → Comes k label operands p → HasLabel label p.label
+has-label k label operands p h = search (rules, has-value)
+
+pub encoding-label : (t : Targets) (k : Known) (s : StatementTree) (p : Placed) → encoding t k s ≡ Ok p → HasLabel s.label p.label
+encoding-label t k s p is = has-label _ s.label s.operands p (encoding-comes t k s p is)
+
+-- ---- what always holds of a statement that is placed
+
+-- ---- PREFIX
+
+pub answer-full : (r : Result (List ℕ) NameFault) (full : List ℕ) → symbol_answer r ≡ Ok full → r ≡ Ok full
+answer-full r full h = grind (arith, nat_tests)
+
+-- ---- each operation
+
+placed-well : (k : Known) (label : Option Label) (operands : List Tree) (p : Placed) → IsFullName k.names.prefix → length k.gregs ≤ 223 → Comes k label operands p → IsPlaced k.gregs p
+placed-well k label operands _ prefix few (placed bytes waits low) = record { effect = tt; low = λ some. omega (arith, low) }
+placed-well k label operands _ prefix few (by_prefix text full o is) = grind (arith, common_steps, nat_tests)
+placed-well k label operands _ prefix few (by_greg e value reg o is found) = grind (arith, nat_tests)
+placed-well k label operands _ prefix few c = record { effect = tt; low = λ some. absurd (omega (arith, some)) }
+
+-- only the prefix of the names counts
+pub encoding-prefixed : (t : Targets) (k : Known) (s : StatementTree) (p : Placed) → IsFullName k.names.prefix → length k.gregs ≤ 223 → encoding t k s ≡ Ok p → IsPlaced k.gregs p
+encoding-prefixed t k s p prefix few is = placed-well (at_place k s) s.label s.operands p prefix few (encoding-comes t k s p is)
+
+pub encoding-placed : (t : Targets) (k : Known) (s : StatementTree) (p : Placed) → AreNames k.names → length k.gregs ≤ 223 → encoding t k s ≡ Ok p → IsPlaced k.gregs p
+encoding-placed t k s p names few is = encoding-prefixed t k s p names.prefix few is

@@ -1,12 +1,44 @@
--- The tetras of a statement and the records of its references have at most the weights of its operands and 12 bytes.
-use Rattle.std.proofs.Common.{◌≡◌, ◌≤◌, ℕ, ◌+◌, ◌-◌, ◌*◌, ◌%◌, ◌^◌, Bool, false, cond, List, [], ◌∷◌, ◌++◌, length, Option, None, Some, Ok, Err, unwrap_or, arith, refl, ap, sym, subst, length-append, length-drop, ◌==◌, nat_lt, sum_by, rules}
-use Rattle.mx_asm.proofs.Words.{cond_both, nat_tests, sum_by-cons, Awaited, Octa, Wait, octa_to_bytes, Tree, number, name, ahead, unary, Op, Code, Lda, Set, Pseudo, Three, Mem, shapes_of, Label, Placed, Answer, and_then, Known, Targets, pure_at, known_target, target_by, target_at, reference_of, no_targets, form, form_by, set_form, data_number, low_bytes, datum, with_rest, data_of, data_form, StatementTree, alignment, place_at, known_at_place, with_data, one_operand, pseudo_form, op_form, encoding, AreSilent, silent-operand, nothing_known, covered, after-gives, gives-value, Gives, common_steps}
+-- How many bytes items are written as, and those of a statement.
+use Rattle.std.proofs.Common.{◌≡◌, ◌≤◌, ℕ, ◌+◌, ◌*◌, ◌/◌, ◌^◌, List, [], ◌∷◌, ◌++◌, length, map, arith, ap, ◌∙◌, length-append, ◌==◌, ◌-◌, ◌%◌, Bool, false, cond, Option, None, Some, Ok, Err, refl, sym, subst, length-drop, nat_lt, sum_by, rules}
+use Rattle.mx_asm.proofs.Words.{cond_both, flat_map-append, tetra_from_bytes, tetras_of, Item, Load, loaded, bytes_of, written, covered, nat_tests, sum_by-cons, Awaited, Wait, octa_to_bytes, Tree, number, name, ahead, unary, Op, Code, Lda, Set, Pseudo, Mem, shapes_of, Label, Placed, Answer, and_then, Known, Targets, pure_at, known_target, target_by, target_at, reference_of, no_targets, form, form_by, set_form, data_number, low_bytes, datum, with_rest, data_of, data_form, StatementTree, alignment, place_at, known_at_place, with_data, one_operand, pseudo_form, op_form, encoding, AreSilent, silent-operand, nothing_known, after-gives, gives-value, Gives, common_steps}
+use Rattle.std.proofs.lemmas.List.Concat.{flat_map-cons}
+use Rattle.mx_asm.proofs.MeaningBytes.{covered-length}
 use Rattle.mx_ops.specs.declared.op.Op.TheVariants.{Pseudo as PseudoOp}
 use Rattle.mx_ops.specs.declared.op.Pseudo.TheVariants as pseudo
 use Rattle.mx_ops.specs.declared.op.Shape.{Shape}
 use Rattle.mx_stmt.specs.Encoding.{with_bytes, with_tetra}
 use Rattle.mx_asm.proofs.Weights.{operand_weight}
-use Rattle.mx_asm.proofs.WrittenLengths.{load_length, load-most, covered-most}
+
+-- ---- how many bytes items are written as
+
+pub written-append : (xs ys : List Item) → length (written (xs ++ ys)) ≡ length (written xs) + length (written ys)
+written-append xs ys = ap length (flat_map-append bytes_of xs ys) ∙ length-append (written xs) (written ys)
+
+pub written-cons : (i : Item) (items : List Item) → length (written (i ∷ items)) ≡ length (bytes_of i) + length (written items)
+written-cons i items = ap length (flat_map-cons bytes_of i items) ∙ length-append (bytes_of i) (written items)
+
+-- ---- tetras that are loaded
+
+pub loaded-most : (t : ℕ) → length (loaded t) ≤ 8
+loaded-most t = cond_both (t / 2 ^ 24 == 0x98) _ _ (λ x. length x ≤ 8) (λ _. omega arith) (λ _. omega arith)
+
+-- the bytes that the tetras of these bytes are written as
+abbrev pub load_length : List ℕ → ℕ
+load_length bytes = length (written (map Load (tetras_of bytes)))
+
+pub load-tetra : (a b c d : ℕ) (more : List ℕ) → load_length (a ∷ b ∷ c ∷ d ∷ more) ≡ length (loaded (tetra_from_bytes (a ∷ b ∷ c ∷ d ∷ []))) + load_length more
+load-tetra a b c d more = written-cons (Load (tetra_from_bytes (a ∷ b ∷ c ∷ d ∷ []))) (map Load (tetras_of more))
+
+pub load-most : (bytes : List ℕ) → load_length bytes ≤ 2 * length bytes
+load-most (a ∷ b ∷ c ∷ d ∷ more) = omega (arith, load-tetra a b c d more, loaded-most (tetra_from_bytes (a ∷ b ∷ c ∷ d ∷ [])), load-most more)
+load-most bytes = omega arith
+
+-- ---- the tetras that cover bytes
+
+pub covered-most : (start : ℕ) (bytes : List ℕ) → length (covered start bytes) ≤ length bytes + 6
+covered-most start bytes = let whole = covered-length start bytes in omega (arith, whole)
+
+-- ---- the tetras of a statement and the records of its references have at most the weights of its operands and 12 bytes
 
 -- What an answer holds: data, which are bytes and references, and the tetra of an instruction have no name outside their
 -- crate.
@@ -62,8 +94,7 @@ module _ (t : Targets) (k : Known) (line size : ℕ) (small : size ≤ 4) where
       (small-step place e es (value_at e) rest (small-fits ((place + size) % 2 ^ 64) es))
 
   small-form : (es : List Tree) → AreSmall es (data_form t k line size es)
-  small-form [] = tt
-  small-form (e ∷ es) = small-fits k.at (e ∷ es)
+  small-form es = grind (arith, small-fits)
 
 -- ---- octas
 
@@ -101,12 +132,8 @@ module _ (t : Targets) (k : Known) (line : ℕ) where
 
   heavy-step : (place : ℕ) (e : Tree) (es : List Tree) (reference : Option Awaited) (n : Answer ℕ) (rest : Answer Placing) → IsHeavy e → AreOctas es rest →
       AreOctas (e ∷ es) (octa_then place reference n rest)
-  heavy-step place e es (Some who) n (Ok rest) heavy h =
-      let target = unwrap_or (t who) 0 in
-      let waits = record { who = who; at = place; line = line; kind = Octa } ∷ [] in
-      joined-octas e es (low_bytes 8 target) rest.bytes waits rest.waits refl (heavy-paid e target waits heavy (omega arith)) h
-  heavy-step place e es None (Ok n) (Ok rest) heavy h =
-      joined-octas e es (low_bytes 8 n) rest.bytes [] rest.waits refl (heavy-paid e n [] heavy (omega arith)) h
+  heavy-step place e es (Some who) n (Ok rest) heavy h = search (rules, joined-octas, heavy-paid)
+  heavy-step place e es None (Ok n) (Ok rest) heavy h = search (rules, joined-octas, heavy-paid)
   heavy-step place e es reference n rest heavy h = tt
 
   number-step : (place n : ℕ) (es : List Tree) (rest : Answer Placing) → AreOctas es rest → AreOctas (number n ∷ es) (octa_then place None (Ok n) rest)
@@ -126,8 +153,7 @@ module _ (t : Targets) (k : Known) (line : ℕ) where
   octas-fit place (e ∷ es) = octa-step place e es (data_of t k line 8 ((place + 8) % 2 ^ 64) es) (octas-fit ((place + 8) % 2 ^ 64) es)
 
   octa-form : (es : List Tree) → AreOctas es (data_form t k line 8 es)
-  octa-form [] = tt
-  octa-form (e ∷ es) = octas-fit k.at (e ∷ es)
+  octa-form es = grind (arith, octas-fit)
 
 -- ---- statements
 
@@ -147,9 +173,7 @@ whole-fit k label operands d place whole h = grind (arith, common_steps, nat_tes
 
 module _ (k : Known) (label : Option Label) (operands : List Tree) where
   small-data : (a : Answer Placing) → AreSmall operands a → Fits operands (with_data k label a)
-  small-data a h =
-      after-gives (λ (d : Placing). FitsSmall operands d.bytes d.waits) (FitsOperands operands) a (with_bytes k label) h
-      (λ d few. bytes-fit k label operands d (omega (arith, few, load-most (covered k.at d.bytes), covered-most k.at d.bytes)))
+  small-data a h = grind (arith, after-gives, bytes-fit, load-most, covered-most)
 
   octa-data : (a : Answer Placing) → k.at % 4 ≡ 0 → AreOctas operands a → Fits operands (with_data k label a)
   octa-data a place h =
@@ -167,25 +191,15 @@ silent-fits k operands a h = search (rules, load-most, covered-most)
 abbrev HasOperand : List Tree → Answer Instruction → Type 0
 HasOperand operands a = Gives (λ (tetra : Instruction). 8 ≤ asked operands) a
 
-with-operand : (e : Tree) (es : List Tree) (a : Answer Instruction) → HasOperand (e ∷ es) a
-with-operand e es a = grind (arith, common_steps, nat_tests)
-
 module _ (t : Targets) (k : Known) where
-  form-none : (shape : Shape) (code : ℕ) → HasOperand [] (form t k shape code [])
-  form-none Three code = tt
-  form-none shape code = tt
-
   form-operands : (shape : Shape) (code : ℕ) (operands : List Tree) → HasOperand operands (form t k shape code operands)
-  form-operands shape code [] = form-none shape code
-  form-operands shape code (e ∷ es) = with-operand e es (form t k shape code (e ∷ es))
+  form-operands shape code operands = search rules
 
   coded-operands : (shapes : List Shape) (code : ℕ) (operands : List Tree) → HasOperand operands (form_by t k shapes code operands)
-  coded-operands [] code operands = tt
-  coded-operands (shape ∷ shapes) code operands = form-operands shape code operands
+  coded-operands shapes code operands = search rules
 
   set-operands : (operands : List Tree) → HasOperand operands (set_form k operands)
-  set-operands [] = tt
-  set-operands (e ∷ es) = with-operand e es (set_form k (e ∷ es))
+  set-operands operands = search rules
 
 tetra-fits : (k : Known) (line : ℕ) (label : Option Label) (operands : List Tree) (a : Answer Instruction) → k.at % 4 ≡ 0 → HasOperand operands a → Fits operands (with_tetra k line label a)
 tetra-fits k line label operands a place h = grind (arith, nat_tests)

@@ -31,7 +31,7 @@ ghost use Rattle.mx_asm.specs.declared.refused.Refused.{Refused};
 /// all statements before the first refusal, each with zero for its references, and with a record
 /// for a reference where its label stands. The refusal is the first one of the two passes. Without
 /// one these are all statements of the lines.
-#[tactic(auto, using(crate::proofs::FrontLaw::front_laws))]
+#[tactic(auto, using(crate::proofs::InTurn::front_laws))]
 pub fn lines_give_the_front()
     ensures items { (lines : List (List ℕ)) → (lines_taken lines).0 ≡ lines_items lines }
     ensures front { (line : List ℕ) (lines : List (List ℕ)) →

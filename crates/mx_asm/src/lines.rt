@@ -71,7 +71,7 @@ fn take_cut(
 }
 
 /// Takes the statements of a line with this number.
-#[tactic(auto, using(crate::proofs::LineEntries::entering, crate::proofs::Fitting::growing))]
+#[tactic(auto, using(crate::proofs::Fronts::entering, crate::proofs::Fitting::growing))]
 pub(crate) fn take_statements(
     alloc: Global,
     assembly: &mut Assembly,

@@ -1,5 +1,4 @@
-use Rattle.mx_asm.proofs.FrontLaw.{source-front}
-use Rattle.mx_asm.proofs.InTurn.{source-accepted}
+use Rattle.mx_asm.proofs.InTurn.{source-front, source-accepted}
 use Rattle.mx_asm.proofs.laws.sources_are_emitted_or_refused.Goals as goal
 
 pub returns-clause-emitted : goal.returns-clause-emitted

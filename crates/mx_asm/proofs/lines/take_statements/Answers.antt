@@ -1,10 +1,9 @@
 use Rattle.std.proofs.Common.{sym, ◌∙◌, ap, Err, subst}
 use Rattle.std.proofs.lemmas.Result.{err_from_is_err_and}
-use Rattle.mx_asm.proofs.LineEntries.{taken-none, taken-fault, taken-failed, taken-next, taken-front, within-line}
-use Rattle.mx_asm.proofs.Sparing.{no-statement}
+use Rattle.mx_asm.proofs.Fronts.{taken-none, taken-fault, taken-failed, taken-next, taken-front, within-line, front-same, front-trans}
+use Rattle.mx_asm.proofs.OnePassLaw.{no-statement}
 use Rattle.mx_asm.specs.Fronts.{IsFront}
 use Rattle.mx_asm.proofs.Fitting.{grows-on}
-use Rattle.mx_asm.proofs.Fronts.{front-same, front-trans}
 use Rattle.mx_asm.proofs.lines.take_statements.Goals as goal
 
 pub returns-in-Ok-None-clause-taken : goal.returns-in-Ok-None-clause-taken

@@ -1,5 +1,5 @@
 use Rattle.std.proofs.Common.{◌≡◌, ◌≤◌, ◌-◌, false, length}
-use Rattle.mx_asm.proofs.LineEntries.{taken_from}
+use Rattle.mx_asm.proofs.Fronts.{taken_from}
 use Rattle.mx_asm.proofs.Words.{line_entries, holds_statement, GrowsFit, entries_taken}
 use Rattle.mx_asm.proofs.lines.take_statements.Given as goal
 

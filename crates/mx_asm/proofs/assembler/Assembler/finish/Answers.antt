@@ -1,7 +1,7 @@
 use Rattle.std.proofs.Common.{rules, Ok, Err}
 use Rattle.mx_asm.proofs.Words.{Ended, assembled_lines}
 use Rattle.mx_asm.proofs.Fitting.{grows-whole}
-use Rattle.mx_asm.proofs.Validity.{assembled-valid}
+use Rattle.mx_asm.proofs.ObjectItems.{assembled-valid}
 use Rattle.mx_asm.proofs.InTurn.{end-taken, end-grows}
 use Rattle.mx_asm.proofs.assembler.Assembler.finish.Goals as goal
 

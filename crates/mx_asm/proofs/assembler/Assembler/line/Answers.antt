@@ -1,7 +1,7 @@
 use Rattle.std.proofs.Common.{rules, Err}
 use Rattle.mx_asm.specs.OnePass.{standing}
 use Rattle.mx_asm.proofs.InTurn.{line-taken, line-grows}
-use Rattle.mx_asm.proofs.Sparing.{line-open}
+use Rattle.mx_asm.proofs.OnePassLaw.{line-open}
 use Rattle.mx_asm.proofs.assembler.Assembler.line.Goals as goal
 
 pub returns-in-Some-clause-lines : goal.returns-in-Some-clause-lines

@@ -1,6 +1,6 @@
 use Rattle.std.proofs.Common.{sym}
 use Rattle.mx_asm.proofs.Words.{no_targets, statement_tree}
-use Rattle.mx_asm.proofs.Encodings.{encoding-placed}
+use Rattle.mx_asm.proofs.StatementForms.{encoding-placed}
 use Rattle.mx_asm.proofs.assembly.Assembly.take.Goals as goal
 
 pub settle-requires-clause-placed : goal.settle-requires-clause-placed
