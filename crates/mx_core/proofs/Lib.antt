@@ -7,6 +7,7 @@ pub mod Spaces
 pub mod Tables
 pub mod Steps
 pub mod StepCounts
+pub mod StepMarks
 pub mod Choices
 pub mod UsualSteps
 mod Walks

@@ -1,6 +1,6 @@
 -- What instructions do, a line for each operation (MMIXware, the part on MMIX; TAOCP 1, Fascicle 1, section 1.3.1').
 -- An effect is told in the state where the destination is local already; `Deeds` carries it out.
-use Rattle.std.specs.Prelude.{ℕ, ◌+◌, ◌-◌, ◌*◌, ◌/◌, ◌%◌, ◌^◌, ◌==◌, ◌||◌, nat_le, nat_lt, Bool, if◌then◌else◌, List, [], ◌∷◌, ◌++◌, Option, None, Some}
+use Rattle.std.specs.Prelude.{ℕ, ◌+◌, ◌-◌, ◌*◌, ◌/◌, ◌%◌, ◌^◌, ◌==◌, ◌||◌, nat_le, nat_lt, Bool, true, false, if◌then◌else◌, List, [], ◌∷◌, ◌++◌, Option, None, Some}
 use Rattle.mx_alu.specs.Alu.{alu}
 use Rattle.mx_alu.specs.Names.{wyde_of}
 use Rattle.mx_alu.specs.Truth.{truth}
@@ -41,6 +41,13 @@ pub data Move : Type 0 where
   unsaves : ℕ → Move  -- UNSAVE of the frame whose last octa has this index
   cuts : ℕ → Move  -- L falls to this number
   moves_globals : ℕ → Move  -- G becomes this number
+
+-- whether frames are among what moves: POP may go below one that was saved, SAVE and UNSAVE end at one
+abbrev pub moves_frames : Move → Bool
+moves_frames (pops x) = true
+moves_frames (saves x specials) = true
+moves_frames (unsaves i) = true
+moves_frames other = false
 
 -- what is stored: the low bytes of a value, in the part that holds an address
 pub record Store : Type 0 where

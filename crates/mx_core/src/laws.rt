@@ -4,13 +4,16 @@
 
 ghost use Rattle.std.specs.Prelude.{◌≡◌, ◌<◌, ◌≤◌, ◌^◌, ◌||◌, ◌==◌, ℕ, false, Ok};
 ghost use Rattle.mx_core.specs.Bounds.{IsMachine, as_list_state, as_list_step};
-ghost use Rattle.mx_core.specs.Effects.{specials_saved};
+ghost use Rattle.mx_core.specs.Deeds.{applied, with_destination};
+ghost use Rattle.mx_core.specs.Effects.{Effect, moves_frames, specials_saved};
+ghost use Rattle.mx_core.specs.Instructions.{Instruction};
 ghost use Rattle.mx_core.specs.Machines.{IsOverWindow};
 ghost use Rattle.mx_core.specs.Changes.{register_changed, special_changed, octa_changed, at_address};
 ghost use Rattle.mx_core.specs.State.{State, global_start, special_register, octa};
 ghost use Rattle.mx_core.specs.Step.{went, calls, step};
 ghost use Rattle.mx_core.specs.Traps.{trapped, halted, with_touch};
 ghost use Rattle.mx_core.specs.Wild.{IsQuiet, is_wild};
+ghost use Rattle.mx_core.specs.declared.operation.Operation.{Operation};
 ghost use Rattle.mx_core.specs.declared.trace.Trace.{Trace};
 ghost use Rattle.mx_ring.specs.Laws.{SaveIsUndone};
 ghost use Rattle.mx_ring.specs.Stack.{visible, register, hidden_count, in_stack_area, stack_address};
@@ -48,6 +51,15 @@ pub fn steps_keep_machines()
     ensures machine { (s t : State) (trace : Trace) → IsOverWindow s → step s ≡ went t trace → IsOverWindow t }
     ensures call { (s : State) (call : TrapCall) → IsOverWindow s → step s ≡ calls call → call.word < 2 ^ 32 }
     ensures touched { (s t : State) (trace : Trace) → step s ≡ went t trace → t.touched ≡ (s.touched || is_wild s) }
+{}
+
+/// The mark, below which the saved frames lie, is moved by POP, SAVE and UNSAVE alone: PUSH, values that registers,
+/// memory and special registers get, and trips leave it.
+pub fn marks_move_with_frames()
+    ensures left { (s : State) (i : Instruction) (k : ℕ) (e : Effect) → moves_frames e.move ≡ false
+        → (applied s i k e).mark ≡ s.mark }
+    ensures destination { (operation : Operation) (s : State) (i : Instruction)
+        → (with_destination operation s i).mark ≡ s.mark }
 {}
 
 /// What SAVE X,0 keeps of a machine comes back: $X has the address of the frame's last octa, UNSAVE

@@ -49,7 +49,8 @@ pub use bounds::{
 pub use changes::SetFault;
 pub use laws::{
     changes_go_as_lists, changes_keep_machines, frames_come_back, lists_read_the_same,
-    steps_go_as_lists, steps_keep_machines, traps_go_as_lists, traps_keep_machines,
+    marks_move_with_frames, steps_go_as_lists, steps_keep_machines, traps_go_as_lists,
+    traps_keep_machines,
 };
 pub use machine::Machine;
 pub use noting::{Note, Noted};
