@@ -19,13 +19,10 @@ no_newline b = not (b == 10)
 abbrev pub IsClean : List ℕ → Type 0
 IsClean ops = (list_all is_other ops ≡ true) × (list_all no_newline ops ≡ true)
 
-not-false : (t : Bool) → not t ≡ true → t ≡ false
-not-false t h = search rules
-
 cut-first : (l rest : List ℕ) → list_all no_newline l ≡ true → split 10 (l ++ 10 ∷ rest) ≡ l ∷ split 10 rest
 unfolding split
 cut-first [] rest all = refl
-cut-first (b ∷ bs) rest all = grind (arith, and_parts, not-false, cut-first bs rest)
+cut-first (b ∷ bs) rest all = search (rules, and_parts, cut-first bs rest)
 
 pub lines-are : (ls : List (List ℕ)) → AllByRecursion (λ l. list_all no_newline l ≡ true) ls → lines_of (text_of ls) ≡ ls
 lines-are [] h = no-lines

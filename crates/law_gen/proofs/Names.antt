@@ -50,10 +50,6 @@ pub halt-predefined : predefined_value halt_full ≡ Some 0
 unfolding predefined_value predefined_names special_registers
 halt-predefined = refl
 
--- two blocks have two names
-blocks-apart : (j b : ℕ) → j < 2 ^ 16 → b < 2 ^ 16 → (j ≡ b → ⊥) → bytes_eq (block_full j) (block_full b) ≡ false
-blocks-apart j b lj lb other = grind (arith, decimal_injective, bytes_eq-Decides)
-
 -- ---- values of names
 
 abbrev form_unless : List ℕ → Bool → Result (List ℕ) NameFault
@@ -120,7 +116,7 @@ pub record Stands (b : ℕ) (symbols : List Symbol) : Type 0 where
   pub light : AllByRecursion IsLight symbols
 
 pub stands-next : (b c : ℕ) (symbols : List Symbol) (at : ℕ) → c ≡ b + 1 → c ≤ 10001 → at < 2 ^ 18 → Stands b symbols → Stands c (with_one symbols (block_full c) at)
-stands-next b c symbols at is few low h = grind (arith, one-count, short-digits, other-value, blocks-apart, one-light)
+stands-next b c symbols at is few low h = search (rules, one-count, short-digits, other-value, one-light, decimal_injective, bytes_eq-Decides)
 
 -- behind the second line
 abbrev pub first_symbols : List Symbol

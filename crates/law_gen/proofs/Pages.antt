@@ -1,6 +1,6 @@
 -- Bytes that are placed below 2^18 touch few pages.
-use Rattle.std.proofs.Common.{◌≡◌, ℕ, zero, suc, ◌+◌, ◌/◌, ◌^◌, ◌<◌, ◌≤◌, Bool, true, false, cond, List, [], ◌∷◌, ◌++◌, length, None, refl, arith, ◌==◌, nat_le, rules}
-use Rattle.law_gen.proofs.Words.{AllByRecursion, cases_lt, le-leb, nat_tests, Sight, Piece, piece_with, outline, outlined, page_refusal_from, accepted}
+use Rattle.std.proofs.Common.{◌≡◌, ℕ, zero, suc, ◌+◌, ◌^◌, ◌<◌, ◌≤◌, Bool, false, cond, List, [], ◌∷◌, ◌++◌, length, None, refl, arith, rules}
+use Rattle.law_gen.proofs.Words.{AllByRecursion, cases_lt, le-leb, Sight, Piece, outlined, page_refusal_from, accepted}
 use Rattle.mx_stmt.specs.Placements.{from_place}
 use Rattle.mx_asm.specs.Image.{placements, pages_of, pages_below}
 use Rattle.law_gen.proofs.Refusals.{all-append, IsFine}
@@ -14,10 +14,6 @@ low-from : (start : ℕ) (bytes : List ℕ) → start + length bytes ≤ 2 ^ 18 
 low-from start [] h = tt
 low-from start (b ∷ bytes) h = (omega (arith, h), low-from (start + 1) bytes (omega (arith, h)))
 
-low-piece : (s : Sight) → IsFine s → AllByRecursion IsLowPlace (placements (piece_with s.statement.line (outline s)))
-unfolding placements
-low-piece s h = grind (arith, all-append, low-from)
-
 behind-front : (front old new : List (ℕ × ℕ)) → (AllByRecursion IsLowPlace old → AllByRecursion IsLowPlace new) → AllByRecursion IsLowPlace (front ++ old) → AllByRecursion IsLowPlace (front ++ new)
 behind-front [] old new f h = f h
 behind-front (x ∷ xs) old new f h = (h.0, behind-front xs old new f h.1)
@@ -30,16 +26,13 @@ placements-append (p ∷ ps) qs h g = behind-front (from_place p.start p.bytes) 
 low-outlined : (sights : List Sight) → AllByRecursion IsFine sights → AllByRecursion IsLowPlace (placements (outlined sights))
 unfolding outlined placements
 low-outlined [] h = tt
-low-outlined (s ∷ later) h = placements-append (piece_with s.statement.line (outline s)) (outlined later) (low-piece s h.0) (low-outlined later h.1)
+low-outlined (s ∷ later) h = search (rules, placements-append, low-outlined later h.1, all-append, low-from)
 
 -- ---- pages
 
-not-on : (a page : ℕ) → a < 2 ^ 18 → 64 ≤ page → (a / 4096 == page) ≡ false
-not-on a page low high = let below : a / 4096 < 64 = omega (arith, low) in grind (arith, nat_tests)
-
 no-page : (ps : List (ℕ × ℕ)) (page : ℕ) → AllByRecursion IsLowPlace ps → 64 ≤ page → pages_of ps page ≡ false
 no-page [] page h high = refl
-no-page (p ∷ ps) page h high = rw (not-on p.0 page h.0 high, no-page ps page h.1 high) refl
+no-page (p ∷ ps) page h high = search (rules, no-page ps page h.1 high)
 
 one-most : (b : Bool) → cond b 1 0 ≤ 1
 one-most b = search rules
@@ -58,13 +51,10 @@ unfolding pages_below
 few-pages zero pages h = omega arith
 few-pages (suc n) pages h = grind (arith, few-below, one-most, none-more, cases_lt, few-pages n pages h)
 
-room-there : (n : ℕ) (sights : List Sight) → AllByRecursion IsFine sights → nat_le (pages_below n (pages_of (placements (outlined sights)))) 65536 ≡ true
-room-there n sights h = grind (arith, few-pages, no-page, low-outlined, le-leb)
-
 pub no-page-refused : (earlier later : List Sight) → AllByRecursion IsFine earlier → AllByRecursion IsFine later → page_refusal_from earlier later ≡ None
 unfolding page_refusal_from
 no-page-refused earlier [] h g = refl
-no-page-refused earlier (s ∷ later) h g = grind (arith, all-append, room-there, no-page-refused (earlier ++ s ∷ []) later)
+no-page-refused earlier (s ∷ later) h g = search (rules, all-append, no-page-refused (earlier ++ s ∷ []) later, few-pages, no-page, low-outlined, le-leb)
 
 pub fine-accepted : (earlier later : List Sight) → AllByRecursion IsFine later → AllByRecursion IsFine (accepted earlier later)
 unfolding accepted

@@ -1,9 +1,9 @@
 -- Statements that place few bytes low in memory, and whose references are near, are not refused.
-use Rattle.std.proofs.Common.{◌≡◌, ℕ, ◌+◌, ◌-◌, ◌/◌, ◌%◌, ◌^◌, ◌<◌, ◌≤◌, Bool, false, cond, List, [], ◌∷◌, ◌++◌, length, fold, filter, Option, None, Some, Ok, refl, sym, ap, ◌∙◌, arith, subst, ⊎_elim, nat_le}
-use Rattle.law_gen.proofs.Words.{AllByRecursion, list_any, cond_both, cases_lt, le-leb, lt-ltb, nat_tests, Value, Pure, Reg, Wait, Near, NameTable, Label, Placed, near_reach, forward_word, backward_word, relative_word, Known, no_targets, StatementTree, encoding, Sight, known_behind, known_with, known_after, sights_from, outline, waits_in, references, is_local, label_fault, refusal_of, statement_fault, first_of, first_fault, unreferenced, first_undefined, locals}
+use Rattle.std.proofs.Common.{◌≡◌, ℕ, ◌+◌, ◌-◌, ◌/◌, ◌%◌, ◌^◌, ◌<◌, ◌≤◌, Bool, false, cond, List, [], ◌∷◌, ◌++◌, length, fold, filter, Option, None, Some, Ok, refl, sym, ap, ◌∙◌, arith, subst, ⊎_elim, nat_le, rules}
+use Rattle.law_gen.proofs.Words.{AllByRecursion, list_any, cond_both, cases_lt, le-leb, lt-ltb, nat_tests, Value, Pure, Reg, Wait, Near, NameTable, Placed, near_reach, forward_word, backward_word, relative_word, Known, no_targets, StatementTree, encoding, Sight, known_behind, known_with, known_after, sights_from, outline, waits_in, references, is_local, label_fault, refusal_of, statement_fault, first_of, first_fault, unreferenced, first_undefined, locals}
 use Rattle.mx_mmo.specs.declared.items.Item.{Item}
 use Rattle.mx_stmt.specs.declared.placed.Effect.TheVariants as effect
-use Rattle.mx_asm.specs.Fixes.{from_last, waiting_for, relative_fix, word_fix, pure_fix, fix_of, with_fix, fixes, awaited_value}
+use Rattle.mx_asm.specs.Fixes.{from_last, relative_fix, word_fix, pure_fix, fix_of, with_fix, fixes, awaited_value}
 
 -- ---- relative addresses
 
@@ -81,9 +81,6 @@ unfolding from_last
 near-from-last d [] h = tt
 near-from-last d (s ∷ later) h = cond_both (list_any (λ (t : Sight). is_local d t.statement.label) later) _ _ (AllByRecursion HasNear) (λ _. near-from-last d later h.1) (λ _. h)
 
-near-waiting : (earlier : List Sight) (s : Sight) (label : Option Label) → AllByRecursion HasNear earlier → HasNear s → AreNear (waiting_for earlier s label)
-near-waiting earlier s label h g = grind (arith, all-filter, near-references, all-append, near-from-last)
-
 -- a label's value that is a low address
 abbrev pub IsLow : Option Value → Type 0
 IsLow None = Unit {0}
@@ -109,7 +106,7 @@ pub fine-near : (s : Sight) → IsFine s → HasNear s
 fine-near s h = subst (λ r. AreNear (waits_in r)) (sym h.outlined) h.waits
 
 fine-faultless : (earlier : List Sight) (s : Sight) → AllByRecursion HasNear earlier → IsFine s → statement_fault earlier s ≡ None
-fine-faultless earlier s h is = grind (arith, fixes-none, near-waiting, fine-near)
+fine-faultless earlier s h is = search (rules, fixes-none, fine-near, all-filter, near-references, all-append, near-from-last)
 
 pub faultless : (earlier later : List Sight) → AllByRecursion HasNear earlier → AllByRecursion IsFine later → first_fault earlier later ≡ None
 unfolding first_fault

@@ -1,11 +1,11 @@
 -- The lines of the source are read as the statements of the program.
 use Rattle.std.proofs.Common.{◌≡◌, ℕ, zero, suc, ◌+◌, ◌*◌, ◌^◌, ◌<◌, ◌≤◌, Bool, true, false, List, [], ◌∷◌, ◌++◌, length, codes, map, Option, None, Some, Ok, refl, sym, ap, ◌∙◌, arith, subst, length-append, rules}
-use Rattle.law_gen.proofs.Words.{decimal, list_all, and_parts, nat_tests, is_name_byte, is_bad_local, Tree, number, name, ahead, reading, Op, Pseudo, Code, Set, Loc, Label, Name, Local, StatementTree, label_of, operation_with, entry_with, with_operation, source_entries, labelled-cut, line-cut, depth, increment, random, generated, stated, reg, block_name, procedure_name, procedure_at, closing_at, blocks_at, program}
+use Rattle.law_gen.proofs.Words.{decimal, list_all, and_parts, nat_tests, is_name_byte, is_bad_local, Tree, number, name, ahead, reading, Op, Pseudo, Code, Set, Loc, Label, Name, Local, StatementTree, label_of, operation_with, entry_with, with_operation, source_entries, labelled-cut, line-cut, depth, increment, random, generated, stated, reg, block_name, procedure_name, closing_at, blocks_at, program}
 use Rattle.std.proofs.lemmas.List.Folds.{list_all-append}
 use Rattle.mx_ops.specs.Opcodes.{opcode_rows, opcode_names, pseudo_operations, chosen_operations, operations, operation_of}
 use Rattle.law_gen.proofs.Lines.{no_newline, IsClean, IsLine, IsNumbered, AreLines, text-entries}
 use Rattle.law_gen.proofs.Operands.{decimal-names, decimal-clean, short-digits, setl-read, incl-read, bod-read, loc-read, main-read, call-read, sum-read, set-read, trap-read, skip-read, get-read, less-read, again-read, more-read, put-read, pop-read}
-use Rattle.law_gen.proofs.Texts.{line_with, procedure_lines, closing_lines, rest_lines, all_lines, generated-text}
+use Rattle.law_gen.proofs.Texts.{line_with, closing_lines, rest_lines, all_lines, generated-text}
 
 -- ---- one line
 
@@ -18,9 +18,6 @@ all-plain P of (b ∷ bs) all = let p = and_parts (P b) (list_all P bs) all in r
 
 rest-plain : (op ops : List ℕ) → list_all is_name_byte op ≡ true → list_all no_newline ops ≡ true → list_all no_newline (32 ∷ (op ++ 32 ∷ ops)) ≡ true
 rest-plain op ops names clean = grind (arith, list_all-append, all-plain, name-plain)
-
-line-plain : (label op ops : List ℕ) → list_all is_name_byte label ≡ true → list_all is_name_byte op ≡ true → list_all no_newline ops ≡ true → list_all no_newline (line_with label op ops) ≡ true
-line-plain label op ops labels names clean = grind (arith, list_all-append, all-plain, name-plain, rest-plain)
 
 said-read : (line : ℕ) (label : Option Label) (op_name ops : List ℕ) (op : Op) (trees : List Tree) (labelled : Bool) → operation_with labelled (operation_of op_name) ≡ Ok op → reading ops ≡ Ok trees →
     entry_with line (with_operation (record { label = label; op = op_name; operands = ops }) line (operation_with labelled (operation_of op_name))) ≡ Ok (stated line label op trees)
@@ -35,7 +32,7 @@ unlabelled line op_name ops op trees names some others few is read = grind (arit
 labelled : (line : ℕ) (label op_name ops : List ℕ) (as_label : Label) (op : Op) (trees : List Tree) → list_all is_name_byte label ≡ true → 0 < length label → is_bad_local label ≡ false → label_of label ≡ as_label →
     list_all is_name_byte op_name ≡ true → 0 < length op_name → IsClean ops →
     length label + length op_name + length ops ≤ 38 → operation_with true (operation_of op_name) ≡ Ok op → reading ops ≡ Ok trees → IsLine (line_with label op_name ops) (stated line (Some as_label) op trees)
-labelled line label op_name ops as_label op trees labels by good label_is names some others few is read = grind (arith, labelled-cut, line-plain, length-append, said-read)
+labelled line label op_name ops as_label op trees labels by good label_is names some others few is read = search (rules, labelled-cut, length-append, said-read, list_all-append, all-plain, name-plain, rest-plain)
 
 -- ---- the operations
 
@@ -131,13 +128,8 @@ module _ (line : ℕ) where
 
 -- ---- all lines
 
-procedure-lines : (line n : ℕ) → line ≡ n → AreLines n procedure_lines (procedure_at line)
-procedure-lines line n is = grind (arith, skip-line, get-line, less-line, again-line, more-line, put-line, pop-line, last-line)
-
 closing-lines : (line b : ℕ) → b < 2 ^ 16 → AreLines line (closing_lines b) (closing_at line b)
-closing-lines line b few =
-    let trap = numbered (line + 1) _ _ refl (trap-line (line + 1)) in
-    (numbered line _ _ refl (set-line line b few), (trap, procedure-lines (line + 2) (line + 1 + 1) (omega arith)))
+closing-lines line b few = search (rules, trap-line, set-line, skip-line, get-line, less-line, again-line, more-line, put-line, pop-line, last-line)
 
 -- the numbers that seem random
 pub random-low : (i : ℕ) → random i < 2 ^ 64

@@ -1,5 +1,5 @@
 -- The source as lines.
-use Rattle.std.proofs.Common.{◌≡◌, ℕ, zero, suc, ◌+◌, List, [], ◌∷◌, ◌++◌, codes, sym, ap, ◌∙◌, arith, append_assoc}
+use Rattle.std.proofs.Common.{◌≡◌, ℕ, zero, suc, ◌+◌, List, [], ◌∷◌, ◌++◌, codes, sym, ap, ◌∙◌, arith, append_assoc, rules}
 use Rattle.law_gen.proofs.Words.{decimal, depth, increment, random, opening, blocks, closing, generated, block_name}
 use Rattle.law_gen.proofs.Lines.{text_of}
 
@@ -38,18 +38,10 @@ rest_lines b (suc more) = block_lines (suc b) (depth (random (suc b))) (incremen
 abbrev pub all_lines : ℕ → List (List ℕ)
 all_lines n = line_with [] (codes "LOC") (codes "#100") ∷ line_with (codes "Main") (codes "SETL") (codes "$0,0") ∷ rest_lines 0 n
 
-block-text-of : (x y z w t : List ℕ) →
-    (codes "B" ++ x ++ codes " SETL $2," ++ y ++ codes "\n PUSHJ $1,Rec\n ADDU $0,$0,$1\n BOD $0,B" ++ z ++ codes "\n INCL $0," ++ w ++ codes "\n") ++ t
-    ≡ line_with (codes "B" ++ x) (codes "SETL") (codes "$2," ++ y) ++ 10 ∷ (codes " PUSHJ $1,Rec\n ADDU $0,$0,$1\n" ++ (line_with [] (codes "BOD") (codes "$0,B" ++ z) ++ 10 ∷ (line_with [] (codes "INCL") (codes "$0," ++ w) ++ 10 ∷ t)))
-block-text-of x y z w t = grind (arith, append_assoc)
-
-closing-text-of : (x : List ℕ) (t : List ℕ) → codes "B" ++ x ++ codes " SET $255,$0\n TRAP 0,Halt,0\n" ++ t ≡ line_with (codes "B" ++ x) (codes "SET") (codes "$255,$0") ++ 10 ∷ (codes " TRAP 0,Halt,0\n" ++ t)
-closing-text-of x t = simp (append_assoc)
-
 blocks-text : (b more n : ℕ) → n ≡ b + more → blocks b ++ text_of (rest_lines b more) ≡ blocks n ++ closing n
 unfolding blocks rest_lines
-blocks-text b zero n is = grind (arith, closing-text-of)
-blocks-text b (suc more) n is = grind (arith, block-text-of, append_assoc, blocks-text (suc b) more n (omega (arith, is)))
+blocks-text b zero n is = search (rules, append_assoc)
+blocks-text b (suc more) n is = search (rules, append_assoc, blocks-text (suc b) more n (omega (arith, is)))
 
 pub generated-text : (n : ℕ) → text_of (all_lines n) ≡ generated n
 unfolding generated blocks

@@ -1,8 +1,8 @@
 -- The trie of symbols of which each tells few bytes is short.
-use Rattle.std.proofs.Common.{◌≡◌, ℕ, zero, suc, ◌+◌, ◌-◌, ◌*◌, ◌/◌, ◌%◌, ◌^◌, ◌<◌, ◌≤◌, Bool, cond, List, [], ◌∷◌, ◌++◌, length, refl, ap, ◌∙◌, arith, length-append, ◌==◌, rules}
+use Rattle.std.proofs.Common.{◌≡◌, ℕ, zero, suc, ◌+◌, ◌-◌, ◌*◌, ◌/◌, ◌%◌, ◌^◌, ◌<◌, ◌≤◌, Bool, cond, List, [], ◌∷◌, ◌++◌, length, refl, ap, arith, length-append, ◌==◌, rules}
 use Rattle.law_gen.proofs.Words.{AllByRecursion, common_steps, Symbol, Pure, NameTable, zeros_after, padded_trie}
 use Rattle.mx_stab.specs.Numbers.{fewest_digits, octa_digits, value_bytes, serial_bytes}
-use Rattle.mx_stab.specs.Trie.{next_byte, is_last_byte, groups_with, groups_of, symbols_below, node_front, nodes, trie}
+use Rattle.mx_stab.specs.Trie.{next_byte, groups_of, symbols_below, node_front, nodes, trie}
 
 -- ---- what a symbol tells
 
@@ -12,19 +12,13 @@ no-front d e more is = ap (λ x. cond (x == 0) (fewest_digits (e ∷ more)) (x �
 octa-short : (x : ℕ) → x < 2 ^ 24 → length (octa_digits x) ≤ 3
 octa-short x low = search rules
 
-value-short : (x : ℕ) → x < 2 ^ 24 → length (value_bytes (Pure x)) ≤ 3
-value-short x low = search rules
-
-serial-short : (x : ℕ) → x < 2 ^ 14 → length (serial_bytes x) ≤ 2
-serial-short x low = search rules
-
 -- A symbol of at most 8 bytes, with a low value and a low serial number.
 pub record IsLight (s : Symbol) : Type 0 where
   pub name : length s.name ≤ 8
   pub told : length (value_bytes s.value) + length (serial_bytes s.serial) ≤ 5
 
 pub light : (name : List ℕ) (value serial : ℕ) → length name ≤ 8 → value < 2 ^ 24 → serial < 2 ^ 14 → IsLight (record { name = name; value = Pure value; serial = serial })
-light name value serial short low few = record { name = short; told = omega (arith, value-short value low, serial-short serial few) }
+light name value serial short low few = grind arith
 
 -- ---- what the nodes of symbols take
 
@@ -46,29 +40,18 @@ AreLight symbols = AllByRecursion IsLight symbols
 abbrev GroupsAreLight : List (List Symbol) → Type 0
 GroupsAreLight groups = AllByRecursion AreLight groups
 
-with-costs : (at : ℕ) (s : Symbol) (groups : List (List Symbol)) → group_costs at (groups_with at s groups) ≡ cost at s + group_costs at groups
-with-costs at s groups = search rules
-
 grouped-costs : (at : ℕ) (symbols : List Symbol) → group_costs at (groups_of at symbols) ≡ costs at symbols
 grouped-costs at [] = refl
-grouped-costs at (s ∷ more) = with-costs at s (groups_of at more) ∙ ap (λ n. cost at s + n) (grouped-costs at more)
-
-with-light : (at : ℕ) (s : Symbol) (groups : List (List Symbol)) → IsLight s → GroupsAreLight groups → GroupsAreLight (groups_with at s groups)
-with-light at s groups is are = search rules
+grouped-costs at (s ∷ more) = search (rules, grouped-costs at more)
 
 grouped-light : (at : ℕ) (symbols : List Symbol) → AreLight symbols → GroupsAreLight (groups_of at symbols)
 grouped-light at [] are = tt
-grouped-light at (s ∷ more) are = with-light at s (groups_of at more) are.0 (grouped-light at more are.1)
+grouped-light at (s ∷ more) are = search (rules, grouped-light at more are.1)
 
 -- deeper in their names symbols take no more
 costs-less : (at : ℕ) (symbols : List Symbol) → costs (at + 1) symbols ≤ costs at symbols
 costs-less at [] = omega arith
 costs-less at (s ∷ more) = omega (arith, costs-less at more)
-
--- the front of a node and the symbols below it
-front-by : (at : ℕ) (s : Symbol) (more : List Symbol) (goes others is_last : Bool) → is_last_byte at s ≡ is_last → IsLight s →
-    length (cond is_last (0 ∷ next_byte at s ∷ value_bytes s.value ++ serial_bytes s.serial) (0 ∷ next_byte at s ∷ [])) + costs (at + 1) (cond is_last more (s ∷ more)) ≤ costs at (s ∷ more)
-front-by at s more goes others is_last is light = search (rules, length-append, costs-less)
 
 same-length : (at : ℕ) (s : Symbol) (goes others is_last : Bool) (m n : ℕ) →
     length (cond is_last (m ∷ next_byte at s ∷ value_bytes s.value ++ serial_bytes s.serial) (n ∷ next_byte at s ∷ []))
@@ -76,15 +59,12 @@ same-length : (at : ℕ) (s : Symbol) (goes others is_last : Bool) (m n : ℕ) �
 same-length at s goes others is_last m n = search rules
 
 node-costs : (at : ℕ) (group : List Symbol) (others : Bool) → AreLight group → length (node_front at group others) + costs (at + 1) (symbols_below at group) ≤ costs at group
-node-costs at group others are = grind (arith, same-length, front-by)
-
-below-light : (at : ℕ) (group : List Symbol) → AreLight group → AreLight (symbols_below at group)
-below-light at group are = search rules
+node-costs at group others are = search (rules, same-length, length-append, costs-less)
 
 nodes-costs : (middle : List Symbol → List ℕ) (at : ℕ) (groups : List (List Symbol)) → ((symbols : List Symbol) → AreLight symbols → length (middle symbols) ≤ costs (at + 1) symbols) → GroupsAreLight groups →
     length (nodes middle at groups) ≤ group_costs at groups
 nodes-costs middle at [] of are = omega arith
-nodes-costs middle at (group ∷ groups) of are = grind (arith, node-costs, below-light, length-append, nodes-costs middle at groups of are.1)
+nodes-costs middle at (group ∷ groups) of are = search (rules, node-costs, length-append, nodes-costs middle at groups of are.1)
 
 trie-costs : (deep at : ℕ) (symbols : List Symbol) → AreLight symbols → length (trie deep at symbols) ≤ costs at symbols
 unfolding trie

@@ -1,6 +1,6 @@
 -- A statement waits only for names that are not known at it, and for local labels.
 use Rattle.std.proofs.Common.{◌≡◌, ℕ, ◌+◌, ◌%◌, ◌^◌, ◌==◌, nat_lt, List, [], ◌∷◌, length, Option, None, Some, Ok, Err, rules, arith}
-use Rattle.mx_stmt.proofs.Words.{AllByRecursion, cond_both, Awaited, Wait, WaitKind, Near, Far, Tree, NameTable, value_of_name, Shape, Data, Tetra, Target, Label, Placed, BadPlace, Answer, and_then, Known, Targets, register_at, pure_at, reference_of, known_target, target_by, target_at, near_reach, far_reach, relative_form, form_by, tetra_wyde, tetra_whole, data_number, data_target, datum, with_rest, data_of, data_form, StatementTree, with_bytes, with_tetra, with_data, encoding}
+use Rattle.mx_stmt.proofs.Words.{AllByRecursion, cond_both, Awaited, Wait, WaitKind, Near, Far, Tree, NameTable, value_of_name, Shape, Data, Tetra, Target, Label, Placed, BadPlace, Answer, and_then, Known, Targets, register_at, pure_at, known_target, target_at, near_reach, far_reach, relative_form, form_by, tetra_wyde, tetra_whole, data_number, data_target, datum, with_rest, data_of, data_form, StatementTree, with_bytes, with_tetra, with_data, encoding}
 use Rattle.mx_word.specs.declared.waits.Awaited.TheVariants as awaited
 use Rattle.mx_stmt.specs.declared.operands.Target.TheVariants as target
 use Rattle.mx_stmt.proofs.LaidBytes.{all-append}
@@ -19,9 +19,6 @@ abbrev pub Gives : {A : Type 0} → (A → Type 0) → Answer A → Type 0
 Gives P (Err fault) = Unit {0}
 Gives P (Ok x) = P x
 
-pub then-gives : {A B : Type 0} (P : B → Type 0) (a : Answer A) (next : A → Answer B) → ((x : A) → Gives P (next x)) → Gives P (and_then a next)
-then-gives P a next h = search rules
-
 pub after-gives : {A B : Type 0} (Q : A → Type 0) (P : B → Type 0) (a : Answer A) (next : A → Answer B) → Gives Q a → ((x : A) → Q x → Gives P (next x)) → Gives P (and_then a next)
 after-gives Q P a next q h = search rules
 
@@ -32,14 +29,8 @@ module _ (names : NameTable) where
   IfFuture (target.Known n) = Unit {0}
   IfFuture (target.Future who) = IsUnknown names who
 
-  target-by : (reference : Option Awaited) (n : Answer ℕ) → ((who : Awaited) → reference ≡ Some who → IsUnknown names who) → Gives IfFuture (target_by reference n)
-  target-by reference n h = search rules
-
-reference-unknown : (k : Known) (e : Tree) (who : Awaited) → reference_of k e ≡ Some who → IsUnknown k.names who
-reference-unknown k e who h = search rules
-
 target-unknown : (k : Known) (e : Tree) → Gives (IfFuture k.names) (target_at k e)
-target-unknown k e = target-by k.names (reference_of k e) (pure_at k e) (reference-unknown k e)
+target-unknown k e = search rules
 
 -- ---- instructions
 
@@ -52,7 +43,7 @@ module _ (k : Known) where
   Waits a = Gives (λ (tetra : Tetra). IfWait tetra.wait) a
 
   waits-then : {A : Type 0} (a : Answer A) (next : A → Answer Tetra) → ((x : A) → Waits (next x)) → Waits (and_then a next)
-  waits-then a next h = then-gives (λ (tetra : Tetra). IfWait tetra.wait) a next h
+  waits-then a next h = search rules
 
   target-waits : (t : Targets) (head reach place : ℕ) (kind : WaitKind) (e : Tree) → Waits (and_then (target_at k e) (relative_form t head reach place kind))
   target-waits t head reach place kind e = search rules

@@ -1,6 +1,6 @@
 -- What holds of tetras without a reference and of relative addresses holds of the forms of all instructions.
-use Rattle.std.proofs.Common.{◌≡◌, ℕ, ◌^◌, true, List, [], ◌∷◌, None, Ok, Err, refl, rules, arith}
-use Rattle.mx_stmt.proofs.Words.{cond_both, Value, Tree, Shape, Three, Regs, Round, Neg, Rel, Mem, MemPure, Wyde, Jump, Put, Pop, One, Unsave, Free, Tetra, StmtFault, Operands, Answer, and_then, Known, Targets, operand_value, register_at, field_at, register_or_byte_at, plain_tetra, last_word, last_form, last_register, last_two, takes_byte, rounded_last, address_of, address_form, branch_form, jump_form, wyde_form, whole_form, byte_form, free_at, free_form, with_register, with_byte, form, form_by, set_to, set_form, tetra_xyz, tetra_wyde, tetra_whole}
+use Rattle.std.proofs.Common.{◌≡◌, ℕ, ◌^◌, true, List, [], ◌∷◌, None, Ok, Err, refl, rules}
+use Rattle.mx_stmt.proofs.Words.{cond_both, Tree, Shape, Three, Regs, Round, Neg, Rel, Mem, MemPure, Wyde, Jump, Put, Pop, One, Unsave, Free, Tetra, StmtFault, Operands, Answer, and_then, Known, Targets, register_at, field_at, register_or_byte_at, plain_tetra, last_word, last_form, last_register, last_two, takes_byte, rounded_last, address_form, branch_form, jump_form, wyde_form, whole_form, byte_form, free_at, free_form, with_register, with_byte, form, form_by, set_form, tetra_xyz, tetra_wyde, tetra_whole}
 use Rattle.mx_stmt.proofs.CodesOfTargets.{has_address}
 
 -- an answer without a reference
@@ -33,11 +33,8 @@ module _ (k : Known) (code : ℕ) where
   none-rounded : (x y : ℕ) (z : Tree) → HasNoWait (rounded_last k code x y z)
   none-rounded x y z = cond_both (takes_byte code) _ _ HasNoWait (λ b. none-last x y z) (λ b. none-register x y z)
 
-  none-address-of : (x : ℕ) (a : Value) → HasNoWait (address_of k code x a)
-  none-address-of x a = grind (arith, none-plain, none-then)
-
   none-address : (x : ℕ) (a : Tree) → HasNoWait (address_form k code x a)
-  none-address x a = none-then (operand_value k a) (address_of k code x) (none-address-of x)
+  none-address x a = search (rules, none-then, none-plain)
 
   none-wyde : (x : ℕ) (n : Tree) → HasNoWait (wyde_form k code x n)
   none-wyde x n = none-then (field_at (2 ^ 16) k n) (λ n. plain_tetra (tetra_wyde code x n)) (λ n. none-plain _)
@@ -101,9 +98,5 @@ module _ (k : Known) (code : ℕ) (P : (Targets → Answer Tetra) → Type 0) (p
       by Jump h = refl
       by shape h = absurd (cc)
 
--- SET has no reference
-none-set : (x : ℕ) (y : Value) → HasNoWait (set_to x y)
-none-set x y = search (rules, none-plain, none-then)
-
 pub set-plain : (k : Known) (l : List Tree) → HasNoWait (set_form k l)
-set-plain k l = search (rules, by-number, none-fault, none-then, none-set)
+set-plain k l = search (rules, by-number, none-fault, none-then, none-plain)

@@ -1,17 +1,13 @@
 -- What the fields of a statement say is one thing.
 use Rattle.std.proofs.Common.{◌≡◌, ℕ, Bool, List, Option, is_some, Result, Ok, Err, refl, ap, rules}
-use Rattle.mx_line.specs.declared.spans.Span.{Span}
 use Rattle.mx_line.specs.declared.cutter.Cut.{Cut}
 use Rattle.mx_line.specs.Spans.{part}
-use Rattle.mx_stmt.proofs.Words.{ExprFault, IsFirst, Op, operation_of, StmtFault, OutOfMemory, fault_of, Answer, StatementTree, Fields, IsFault, IsRead, fields_of, label_in, operation_for, operation_with, IsOperation}
+use Rattle.mx_stmt.proofs.Words.{ExprFault, IsFirst, Op, operation_of, StmtFault, OutOfMemory, fault_of, Answer, StatementTree, Fields, IsFault, IsRead, fields_of, operation_for, operation_with, IsOperation}
 use Rattle.mx_expr.specs.declared.faults.ExprFault.TheVariants as expr
-
-some-label : (text : List ℕ) (span : Option Span) → is_some (label_in text span) ≡ is_some span
-some-label text span = search rules
 
 -- the operation of the fields, by the cut
 pub operation-is : (text : List ℕ) (cut : Cut) (labelled : Bool) (name : List ℕ) (answer : Answer Op) → labelled ≡ is_some cut.label → name ≡ part text cut.op → answer ≡ operation_for labelled name → operation_for (is_some (fields_of text cut).label) (fields_of text cut).op ≡ answer
-operation-is text cut labelled name answer some named is = search (rules, some-label)
+operation-is text cut labelled name answer some named is = search rules
 
 -- a fault of the operation is the only one
 pub operation-only : (fields : Fields) (first fault : StmtFault) → operation_for (is_some fields.label) fields.op ≡ Err first → IsFault fields fault → first ≡ fault

@@ -78,11 +78,8 @@ pub all-into : (P Q : Wait → Type 0) (xs : List Wait) → ((w : Wait) → P w 
 all-into P Q [] f h = tt
 all-into P Q (x ∷ xs) f h = (f x h.0, all-into P Q xs f h.1)
 
-inside-more : (a b m n : ℕ) (w : Wait) → b ≤ a → a + m ≤ b + n → IsInside a m w → IsInside b n w
-inside-more a b m n w l u h = let first = h.first in let last = h.last in record { first = omega (arith, l, first); last = omega (arith, u, last); fours = h.fours }
-
 rest-laid : (size place : ℕ) (first rest : Data) → IsDatum size place first → IsData ((place + size) % 2 ^ 64) rest → IsData place (joined_data first rest)
-rest-laid size place first rest one more = search (rules, length-append, bytes-append, all-append, all-into, inside-more)
+rest-laid size place first rest one more = search (rules, length-append, bytes-append, all-append, all-into)
 
 with-rest-laid : (size place : ℕ) (first : Data) (rest : Answer Data) → IsDatum size place first → HasData ((place + size) % 2 ^ 64) rest → HasData place (with_rest first rest)
 unfolding HasData

@@ -45,9 +45,6 @@ found-zero address first value values (Some base) none found = record {
       [ zero ↦ λ h some. absurd (some none) | suc i ↦ λ h some. found.least i (omega (arith, h)) some ];
 }
 
-found-first : (address first value : ℕ) (values : List ℕ) → value ≢ 0 → ((i : ℕ) → i < length values → slice_index values i ≢ 0 → difference address value ≤ difference address (slice_index values i)) → NearestIn address first (value ∷ values) (base_at address first value)
-found-first address first value values some least = grind arith
-
 found-later : (address first value : ℕ) (values : List ℕ) (other : Base) → other.above ≤ difference address value → NearestIn address (first + 1) values other → NearestIn address first (value ∷ values) other
 found-later address first value values other closer found = record {
   place = found.place + 1;
@@ -60,15 +57,12 @@ found-later address first value values other closer found = record {
 }
 
 found-nearer : (address first value : ℕ) (values : List ℕ) (others : Option Base) → value ≢ 0 → Found address (first + 1) values others → Found address first (value ∷ values) (Some (nearer_base (base_at address first value) others))
-found-nearer address first value values others h1 h2 = search (rules, found-first, leb-true, leb-false, found-later)
-
-found-more : (address first value : ℕ) (values : List ℕ) (others : Option Base) → Found address (first + 1) values others → Found address first (value ∷ values) (with_register address first value others)
-found-more address first value values others found = search (rules, found-zero, eqb-true, found-nearer, eqb-false)
+found-nearer address first value values others h1 h2 = grind (arith, leb-true, leb-false, found-later)
 
 nearest-found : (address first : ℕ) (values : List ℕ) → Found address first values (nearest_from address first values)
 unfolding nearest_from
 nearest-found address first [] = λ i h. absurd (omega (arith, h))
-nearest-found address first (value ∷ values) = found-more address first value values _ (nearest-found address (first + 1) values)
+nearest-found address first (value ∷ values) = search (rules, nearest-found address (first + 1) values, found-zero, eqb-true, found-nearer, eqb-false)
 
 pub nearest-is : (gregs : List ℕ) (address : ℕ) (base : Base) → length gregs ≤ 255 → nearest_base gregs address ≡ Some base → IsNearest gregs address base
 nearest-is gregs address base bound is = search (rules, nearest-found)

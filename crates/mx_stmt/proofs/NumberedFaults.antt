@@ -10,7 +10,7 @@ use Rattle.mx_stmt.specs.Encoding.{prefix_form}
 use Rattle.mx_stmt.specs.Gregs.{near_base}
 use Rattle.mx_stmt.specs.Operands.{field_number, pure_number, register_or_byte}
 use Rattle.mx_stmt.specs.declared.gregs.Base.{Base}
-use Rattle.mx_stmt.proofs.Words.{cond_both, nat_tests, Value, Awaited, Tree, unary, binary, Valued, value_of, ExprFault, Op, Code, Lda, Set, shapes_of, Pseudo, Shape, Three, Regs, Round, Neg, Mem, MemPure, Free, last_form, last_two, rounded_last, free_form, WaitKind, Data, Tetra, Target, Label, StmtFault, Answer, and_then, Known, Targets, knowledge_of, answer_of, operand_value, register_number, register_at, pure_at, field_at, register_or_byte_at, reference_of, target_by, target_at, register_for, relative_word, relative_form, address_of, free_at, form, form_by, set_form, data_target, with_rest, data_of, tetra_data, with_bytes, with_tetra, complete_symbol, one_form, one_operand, pseudo_form, op_form, StatementTree, encoding, Fields, IsFault, fault_of}
+use Rattle.mx_stmt.proofs.Words.{cond_both, nat_tests, Value, Awaited, Tree, unary, binary, Valued, value_of, ExprFault, Op, Code, Lda, Set, Pseudo, Shape, Three, Regs, Round, Neg, Mem, MemPure, Free, last_form, last_two, rounded_last, WaitKind, Data, Tetra, Target, Label, StmtFault, Answer, and_then, Known, Targets, knowledge_of, answer_of, operand_value, register_number, register_at, pure_at, field_at, register_or_byte_at, reference_of, target_by, target_at, relative_word, relative_form, address_of, free_at, form, data_target, with_rest, data_of, tetra_data, with_bytes, with_tetra, one_form, one_operand, pseudo_form, op_form, StatementTree, encoding, Fields, IsFault, fault_of}
 
 -- a fault of an answer has a number above 0
 unfoldable HasNumber : {A : Type 0} → Answer A → Type 0
@@ -86,10 +86,6 @@ number-base : (b : Option Base) → HasNumber (near_base b)
 unfolding HasNumber
 number-base b = grind arith
 
-number-greg : (gregs : List ℕ) (value : ℕ) → HasNumber (register_for gregs value)
-unfolding HasNumber
-number-greg gregs value = grind arith
-
 number-relative : (head reach place target : ℕ) → HasNumber (relative_word head reach place target)
 unfolding HasNumber
 number-relative head reach place target = grind arith
@@ -108,9 +104,6 @@ number-last k code x y z = search (rules, number-then, number-either, number-ok)
 number-rounded : (k : Known) (code x y : ℕ) (z : Tree) → HasNumber (rounded_last k code x y z)
 number-rounded k code x y z = search (rules, number-then, number-register, number-either, number-ok)
 
-number-free-form : (k : Known) (code : ℕ) (x y z : Tree) → HasNumber (free_form k code x y z)
-number-free-form k code x y z = search (rules, number-then, number-free, number-ok)
-
 number-three : (k : Known) (code x : ℕ) (y z : Tree) → HasNumber (last_two k code x y z)
 number-three k code x y z = search (rules, number-then, number-register, number-last)
 
@@ -124,15 +117,9 @@ number-form t k Round code (x ∷ y ∷ z ∷ []) = search (rules, number-then, 
 number-form t k Neg code (x ∷ y ∷ z ∷ []) = search (rules, number-then, number-register, number-field, number-last)
 number-form t k Mem code (x ∷ y ∷ z ∷ []) = number-then (register_at k x) _ (number-register k x) (λ x. number-three k code x y z)
 number-form t k MemPure code (x ∷ y ∷ z ∷ []) = number-then (field_at 256 k x) _ (number-field k x 256) (λ x. number-three k code x y z)
-number-form t k Free code (x ∷ y ∷ z ∷ []) = number-free-form k code x y z
+number-form t k Free code (x ∷ y ∷ z ∷ []) = search (rules, number-then, number-free, number-ok)
 number-form t k shape code (x ∷ y ∷ z ∷ []) = search (rules, number-fault)
 number-form t k shape code (x ∷ y ∷ z ∷ w ∷ more) = search (rules, number-fault)
-
-number-by : (t : Targets) (k : Known) (shapes : List Shape) (code : ℕ) (l : List Tree) → HasNumber (form_by t k shapes code l)
-number-by t k shapes code l = grind (arith, number-fault, number-form)
-
-number-set : (k : Known) (l : List Tree) → HasNumber (set_form k l)
-number-set k l = search (rules, number-then, number-register, number-operand, number-ok, number-fault)
 
 -- ---- data
 
@@ -158,15 +145,11 @@ number-bytes : (k : Known) (label : Option Label) (d : Data) → HasNumber (with
 unfolding HasNumber
 number-bytes k label d = grind arith
 
-number-symbol : (k : Known) (text : List ℕ) → HasNumber (complete_symbol k text)
-unfolding HasNumber
-number-symbol k text = grind arith
-
 number-prefix : (k : Known) (label : Option Label) (e : Tree) → HasNumber (prefix_form k label e)
-number-prefix k label e = search (rules, number-then, number-symbol, number-ok, number-fault)
+number-prefix k label e = search (rules, number-then, number-ok, number-fault)
 
 number-one : (k : Known) (label : Option Label) (p : Pseudo) (e : Tree) → HasNumber (one_form k label p e)
-number-one k label p e = search (rules, number-then, number-operand, number-pure, number-register, number-greg, number-prefix, number-ok, number-fault)
+number-one k label p e = search (rules, number-then, number-operand, number-pure, number-register, number-prefix, number-ok, number-fault)
 
 number-listed : (k : Known) (label : Option Label) (p : Pseudo) (operands : List Tree) → HasNumber (one_operand k label p operands)
 number-listed k label p operands = search (rules, number-one, number-fault)
@@ -180,9 +163,9 @@ number-tetra k line label a h = number-then a _ h (λ tetra. number-bytes k labe
 
 number-op : (t : Targets) (k : Known) (line : ℕ) (label : Option Label) (op : Op) (operands : List Tree) → HasNumber (op_form t k line label op operands)
 number-op t k line label (PseudoOp p) operands = number-pseudo t k line label p operands
-number-op t k line label (Code code) operands = number-tetra k line label _ (number-by t k (shapes_of code) code operands)
+number-op t k line label (Code code) operands = search (rules, number-tetra, number-fault, number-form)
 number-op t k line label Lda operands = number-tetra k line label _ (number-form t k Mem 0x22 operands)
-number-op t k line label Set operands = number-tetra k line label _ (number-set k operands)
+number-op t k line label Set operands = search (rules, number-tetra, number-then, number-register, number-operand, number-ok, number-fault)
 
 fault-number : {A : Type 0} (a : Answer A) (fault : StmtFault) → HasNumber a → a ≡ Err fault → 0 < fault_number fault
 unfolding HasNumber
