@@ -1,6 +1,5 @@
 -- A caret stands where the field begins that is cut from the line.
-use Rattle.std.proofs.Common.{◌≡◌, ℕ, ◌+◌, ◌-◌, ◌≤◌, List, [], ◌∷◌, length, drop, Bool, true, false, not, cond, arith, refl, sym, subst, ap, ◌∙◌, Option, None, Some, Result, Ok, Err, nat_lt, ◌==◌, ◌&&◌, rules}
-use Rattle.std.proofs.lemmas.Bool.{cond_both}
+use Rattle.std.proofs.Common.{◌≡◌, ℕ, ◌+◌, ◌-◌, ◌≤◌, [], ◌∷◌, length, drop, Bool, true, false, cond, arith, refl, sym, subst, Option, None, Some, Result, Ok, Err}
 use Rattle.std.proofs.lemmas.Bool.Decides.{nat_tests}
 use Rattle.std.proofs.lemmas.List.{length-drop}
 use Rattle.mx_line.specs.Bytes.{is_blank, is_name_byte, past, run}
