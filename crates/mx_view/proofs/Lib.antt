@@ -11,3 +11,4 @@ pub mod LinesOnce
 pub mod WorkedRows
 pub mod TwoPassViews
 pub mod LineLoads
+pub mod CutFields

@@ -1,8 +1,10 @@
 //! What holds of every listing.
 
-ghost use Rattle.std.specs.Prelude.{◌≡◌, ◌<◌, ◌^◌, ◌++◌, ◌∷◌, [], ℕ, List, None, Ok, Some};
+ghost use Rattle.std.specs.Prelude.{◌≡◌, ◌<◌, ◌≤◌, ◌-◌, ◌^◌, ◌++◌, ◌∷◌, [], ℕ, List, None, Ok, Some, drop, length};
 ghost use Rattle.mx_word.specs.Ranges.{AreBytes};
+ghost use Rattle.mx_line.specs.Cutting.{statement_of};
 ghost use Rattle.mx_line.specs.Lines.{lines_of};
+ghost use Rattle.mx_line.specs.declared.cutter.Cut.{Cut};
 ghost use Rattle.mx_mem.specs.Memory.{tetra_of};
 ghost use Rattle.mx_asm.specs.Entries.{source_entries, statements_in};
 ghost use Rattle.mx_asm.specs.Image.{image, symbols_of};
@@ -11,7 +13,9 @@ ghost use Rattle.mx_asm.specs.Refusal.{refusal};
 ghost use Rattle.mx_asm.specs.Whole.{Line, assembled_source, lines_items, lines_refusal};
 ghost use Rattle.mx_asm.specs.declared.refused.Refused.{Refused};
 ghost use Rattle.mx_files.specs.Sources.{source_meaning};
+ghost use Rattle.mx_view.specs.Carets.{from_field};
 ghost use Rattle.mx_view.specs.Cells.{cells_of};
+ghost use Rattle.mx_view.specs.declared.carets.Field.TheVariants.{Operands, Operation};
 ghost use Rattle.mx_view.specs.Joined.{lines_once, listed_tetra};
 ghost use Rattle.mx_view.specs.Listing.{added_items, cells_behind, end_text, rows_behind, symbols_text};
 ghost use Rattle.mx_view.specs.Rows.{Meaning, shown};
@@ -60,4 +64,16 @@ pub fn each_line_is_listed_once_in_order()
     ensures refused { (m : Meaning) (before later : List Line) (line : Line) (r : Refused) →
         lines_refusal before ≡ None → lines_refusal (before ++ line ∷ []) ≡ Some r →
         rows_behind m All [] (before ++ line ∷ later) ≡ lines_once m [] (before ++ line ∷ []) }
+{}
+
+/// In a statement that is cut from a line, a caret under the operation or under the operands stands where this field
+/// begins by the cut.
+#[tactic(auto, using(crate::proofs::CutFields::marked))]
+pub fn carets_stand_under_their_fields()
+    ensures operation { (line : Line) (place : ℕ) (cut : Cut) → place ≤ length line →
+        statement_of line place ≡ Ok (Some cut) →
+        length line - length (from_field Operation (drop place line)) ≡ cut.op.from }
+    ensures operands { (line : Line) (place : ℕ) (cut : Cut) → place ≤ length line →
+        statement_of line place ≡ Ok (Some cut) →
+        length line - length (from_field Operands (drop place line)) ≡ cut.operands.from }
 {}

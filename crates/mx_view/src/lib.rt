@@ -14,8 +14,8 @@ mod view;
 pub use cells::{Cell, Wanted};
 pub use checking::faults;
 pub use laws::{
-    each_line_is_listed_once_in_order, every_loaded_tetra_is_listed,
-    the_image_and_the_symbols_are_shown, the_listing_is_the_image,
+    carets_stand_under_their_fields, each_line_is_listed_once_in_order,
+    every_loaded_tetra_is_listed, the_image_and_the_symbols_are_shown, the_listing_is_the_image,
 };
 pub use loads::{LineCells, cells_by_line};
 pub use rows::add_numbered;
