@@ -34,21 +34,13 @@ done
 # grow, and its reason in docs/DECISIONS.md
 most_lines() {
   case $1 in
-    mx_core) echo 5173 ;;
-    mx_top) echo 2171 ;;
+    mx_core) echo 5185 ;;
+    mx_top) echo 2021 ;;
     mx_ring) echo 2106 ;;
     mx_stmt) echo 1768 ;;
     mx_files) echo 1641 ;;
     mx_con) echo 1630 ;;
     *) echo 1500 ;;
-  esac
-}
-
-# no folder of sources, definitions or proofs has more than 40 files, in the same way
-most_files() {
-  case $1 in
-    crates/mx_asm/proofs) echo 60 ;;
-    *) echo 40 ;;
   esac
 }
 
@@ -58,11 +50,12 @@ for folder in crates/*/src; do
   lines=$(cat "$folder"/*.rt | wc -l)
   [ "$lines" -le "$(most_lines "$crate")" ] || wrong "$crate has $lines lines of src, and may have $(most_lines "$crate")"
 done
-# each row is a number of files and their folder
+
+# no folder of sources, definitions or proofs has more than 40 files; each row is a number of files and their folder
 for row in $(find crates -name out -prune -o \( -name '*.rt' -o -name '*.antt' \) -print | sed 's|/[^/]*$||' | sort | uniq -c |
   awk '{ print $1 ":" $2 }'); do
   files=${row%%:*} folder=${row#*:}
-  [ "$files" -le "$(most_files "$folder")" ] || wrong "$folder has $files files, and may have $(most_files "$folder")"
+  [ "$files" -le 40 ] || wrong "$folder has $files files, and may have 40"
 done
 
 # the manual pages are in order
