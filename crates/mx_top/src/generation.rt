@@ -115,7 +115,7 @@ fn run_summed<H: Host>(
 }
 
 /// The one argument of a generated program.
-#[tactic(auto, unfolding(mx_core::specs::Start::pool_octas))]
+#[tactic(auto, unfolding(mx_start::specs::Start::pool_octas))]
 fn generator_arguments(alloc: Global) -> Result<Vec<Bytes>, NoMemory>
     ensures value { IfOk result (λ arguments. arguments.items ≡ codes "gen" ∷ []) }
     ensures fits { IfOk result (λ arguments. pool + 8 * length (pool_octas arguments.items) ≤ stack_address 0) }

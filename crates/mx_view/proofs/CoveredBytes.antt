@@ -21,8 +21,8 @@ unfoldable use Rattle.mx_asm.specs.TwoPass.{pieces_of}
 unfoldable use Rattle.mx_asm.specs.Refusal.{first_fault}
 use Rattle.mx_asm.specs.Refusal.{refusal_of, statement_fault}
 use Rattle.mx_asm.proofs.Words.{NameTable, placed-append}
-use Rattle.mx_asm.proofs.EndWaits.{both-none}
-use Rattle.mx_asm.proofs.MeaningFronts.{IsSteady, faultless, laid}
+use Rattle.mx_asm.proofs.EndLaw.{both-none}
+use Rattle.mx_asm.proofs.MeaningStatements.{IsSteady, faultless, laid}
 use Rattle.mx_asm.proofs.MeaningPlaces.{fixed-to}
 use Rattle.mx_view.proofs.LoadedTetras.{IsStill, behind-still, leads-still, bytes-at, bytes-behind, fix-items-still, loads-append, loads_at}
 unfoldable use Rattle.mx_view.specs.Cells.{cells_of}

@@ -25,9 +25,10 @@ use Rattle.mx_line.specs.Source.{items_from as line_items}
 use Rattle.mx_asm.proofs.Words.{NameTable, encoding-laid, placed-append, xor_of_8}
 use Rattle.mx_asm.proofs.MeaningMemory.{HaveBytes}
 use Rattle.mx_asm.proofs.MeaningStates.{more-bytes}
-use Rattle.mx_asm.proofs.MeaningFronts.{first-have}
+use Rattle.mx_asm.proofs.MeaningStatements.{first-have}
 use Rattle.mx_asm.proofs.MeaningSources.{source-are-accepted}
-use Rattle.mx_asm.proofs.MeaningSteady.{accepted-all, steady-all}
+use Rattle.mx_asm.proofs.InTurn.{all-accepted}
+use Rattle.mx_asm.proofs.MeaningSteady.{steady-all}
 use Rattle.mx_files.specs.Sources.{source_meaning}
 use Rattle.mx_view.specs.declared.cells.Cell.{Cell}
 use Rattle.mx_view.specs.declared.cells.Wanted.TheVariants.{All}
@@ -122,7 +123,7 @@ unlisted-is-zero source a bytes none out =
     let statements = statements_in (source_entries source) in
     let are = source-are-accepted source bytes none in
     let final : NameTable = (final_known statements).names in
-    let all = accepted-all (sights_of statements) [] are.faultless in
+    let all = all-accepted (sights_of statements) [] are.faultless in
     let loads : has (cells_of All 0 (items_from first_head [] (sights_of statements))) a ≡ false =
     ap (λ ss. has (cells_of All 0 (items_from first_head [] ss)) a) (sym all) ∙ lines-load (lines_of source) a ∙ ap (λ cells. has cells a) (sym (every-cell All (lines_of source))) ∙ out in
     tetra-zero (placed (placements (pieces statements))) a (pieces-have final (sights_of statements))

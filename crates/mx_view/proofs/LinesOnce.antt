@@ -5,7 +5,7 @@ use Rattle.mx_asm.specs.OnePass.{Standing}
 use Rattle.mx_asm.specs.Refusal.{refusal}
 use Rattle.mx_asm.specs.Whole.{Line, lines_refusal, lines_taken}
 use Rattle.mx_asm.specs.declared.refused.Refused.{Refused}
-use Rattle.mx_asm.proofs.EndWaits.{both-none}
+use Rattle.mx_asm.proofs.EndLaw.{both-none}
 use Rattle.mx_asm.proofs.InTurn.{stands-at, refusal-lasts}
 use Rattle.mx_view.specs.declared.cells.Cell.{Cell}
 use Rattle.mx_view.specs.declared.cells.Wanted.TheVariants.{All}

@@ -15,7 +15,7 @@ use Rattle.mx_asm.specs.Fixes.{fix_of, with_fix}
 use Rattle.mx_asm.specs.declared.faults.AsmFault.{AsmFault}
 use Rattle.mx_asm.specs.declared.head.Head.{Head}
 use Rattle.mx_asm.specs.declared.refused.Refused.{Refused}
-use Rattle.mx_asm.proofs.MeaningPieces.{covering-length}
+use Rattle.mx_asm.proofs.MeaningBytes.{covering-length}
 use Rattle.mx_view.specs.declared.cells.Cell.{Cell}
 use Rattle.mx_view.specs.declared.cells.Wanted.TheVariants.{All}
 unfoldable use Rattle.mx_view.specs.Cells.{cells_of}
