@@ -33,8 +33,8 @@ use Rattle.mx_top.specs.Product.{after_image, after_source, after_loading, after
 use Rattle.mx_top.specs.Runs.{ran, machine_ran, session_ran, states_back, taken_back, run_back, order_ran, dumped, run_from, image_run}
 use Rattle.mx_files.specs.Sources.{source_meaning, meaning_unless}
 use Rattle.mx_files.specs.declared.refusal.Refusal.{Refusal}
-use Rattle.mx_files.specs.declared.outcome.Outcome.{Outcome}
-use Rattle.mx_files.specs.declared.outcome.Outcome.TheVariants.{Done}
+use Rattle.mx_outcome.specs.declared.outcome.Outcome.{Outcome}
+use Rattle.mx_outcome.specs.declared.outcome.Outcome.TheVariants.{Done}
 
 -- ---- the words, and what they name
 

@@ -32,8 +32,8 @@ use Rattle.mx_files.specs.Assembling.{after_opening, after_reading, assembled_ou
 use Rattle.mx_top.specs.Product.{generator_steps, with_message, product}
 use Rattle.mx_top.specs.Runs.{ran, ran_to, machine_ran, dumped, image_run}
 use Rattle.mx_files.specs.Source.{file_bytes}
-use Rattle.mx_files.specs.declared.outcome.Outcome.{Outcome}
-use Rattle.mx_files.specs.declared.outcome.Outcome.TheVariants.{Done}
+use Rattle.mx_outcome.specs.declared.outcome.Outcome.{Outcome}
+use Rattle.mx_outcome.specs.declared.outcome.Outcome.TheVariants.{Done}
 use Rattle.law_runs.proofs.Completed.{order-is, source-run, object-run, halted-run, plain-told, accepted-object, generated-told}
 use Rattle.law_runs.proofs.DetourRuns.{put-of}
 use Rattle.law_runs.proofs.IdleFiles.{idle, file-idle, open-object}

@@ -34,7 +34,7 @@ use Rattle.mx_files.specs.Sources.{meaning_unless, source_meaning}
 use Rattle.mx_files.specs.Objects.{Assembled, source_object}
 use Rattle.mx_files.specs.Objects as assembling
 use Rattle.mx_files.specs.Assembling.{assembled_outcome}
-use Rattle.mx_files.specs.declared.outcome.Outcome.TheVariants.{Done}
+use Rattle.mx_outcome.specs.declared.outcome.Outcome.TheVariants.{Done}
 use Rattle.mx_asm.proofs.MeaningSources.{pages-mean}
 use Rattle.mx_files.proofs.SourceImages.{items-mean-image}
 

@@ -28,7 +28,8 @@ use Rattle.mx_words.specs.Values.{is_option}
 use Rattle.mx_words.specs.declared.order.Command.TheVariants.{Run, Sim}
 use Rattle.mx_words.specs.declared.order.Order.{Order}
 use Rattle.mx_words.specs.declared.order.WordsFault.{WordsFault}
-use Rattle.mx_files.specs.Answers.{Answer, answered, wild, plainly, leaves_machine, after_lines}
+use Rattle.mx_files.specs.Answers.{Answer, answered, wild, plainly, after_lines}
+use Rattle.mx_outcome.specs.Kinds.{leaves_machine}
 use Rattle.mx_files.specs.Lines.{lines_put}
 use Rattle.mx_top.specs.Arguments.{Word, word_at, arguments, program_name}
 use Rattle.law_runs.specs.Detour.{host_of, answer_uncounted, HasOutcome, asm_words, run_words, sim_words, AreOrdered, IsAssembled}
@@ -39,15 +40,15 @@ use Rattle.mx_asm.specs.Image.{image as image_of}
 use Rattle.mx_asm.specs.Pages.{RunRefusal, run_refusal}
 use Rattle.mx_asm.specs.Refusal.{refusal}
 use Rattle.mx_files.specs.Sources.{meaning_unless, source_meaning}
-use Rattle.mx_files.specs.Messages.{message_of}
+use Rattle.mx_outcome.specs.Messages.{message_of}
 use Rattle.mx_files.specs.Objects.{Assembled, source_object}
 use Rattle.mx_files.specs.Assembling.{assembled_outcome, object_put, after_opening, after_reading}
 use Rattle.mx_top.specs.Product.{after_image, after_source, after_loading, after_object, carried_out, message_told, with_message, product}
 use Rattle.mx_top.specs.Dump.{dump_lines}
 use Rattle.mx_top.specs.Runs.{Ran, ran, ran_wild, ran_to, machine_ran, takes_back, states_back, state_lines, reached, lines_told, taken_back, played, order_ran, dumped, main_address, begun_at, stack_at_start, run_from, image_run}
 use Rattle.mx_files.specs.Source.{file_bytes}
-use Rattle.mx_files.specs.declared.outcome.Outcome.{Outcome}
-use Rattle.mx_files.specs.declared.outcome.Outcome.TheVariants.{Done, Usage, NoFile, Refused, BadObject}
+use Rattle.mx_outcome.specs.declared.outcome.Outcome.{Outcome}
+use Rattle.mx_outcome.specs.declared.outcome.Outcome.TheVariants.{Done, Usage, NoFile, Refused, BadObject}
 use Rattle.law_runs.proofs.IdleFiles.{idle, file-idle, file-absent, writing, open-object, put-idle}
 use Rattle.law_runs.proofs.SteadyFiles.{file-steady}
 use Rattle.law_runs.proofs.SteadyProduct.{answer_still, reading-later, product-steady, answers-same}

@@ -18,8 +18,8 @@ use Rattle.mx_word.specs.Lists.{with_written}
 use Rattle.mx_files.specs.Pieces.{piece_put, pieces_after, put_pieces}
 use Rattle.mx_files.specs.Assembling.{assembled_outcome, closed_object, written_object, object_put}
 use Rattle.mx_files.specs.Source.{pieces, piece_read, next_piece, closed_with, closed_after, read_after, file_bytes}
-use Rattle.mx_files.specs.declared.outcome.Outcome.{Outcome}
-use Rattle.mx_files.specs.declared.outcome.Outcome.TheVariants.{NoFile}
+use Rattle.mx_outcome.specs.declared.outcome.Outcome.{Outcome}
+use Rattle.mx_outcome.specs.declared.outcome.Outcome.TheVariants.{NoFile}
 use Rattle.mx_files.specs.declared.refusal.Refusal.{Refusal}
 use Rattle.mx_host.proofs.NamedFiles.{home, Lies, at-home, put-put, overwritten-end}
 

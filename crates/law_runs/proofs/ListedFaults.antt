@@ -19,7 +19,7 @@ use Rattle.mx_load.proofs.Apart.{object-holds, loaded-means, fault-of-reading, f
 use Rattle.mx_stab.specs.Reading.{trie_answer}
 use Rattle.mx_stab.specs.declared.faults.StabFault.{StabFault}
 use Rattle.mx_files.specs.Typed.{Typed, trie_typed, typed}
-use Rattle.mx_files.specs.declared.outcome.Outcome.TheVariants.{Done, BadObject}
+use Rattle.mx_outcome.specs.declared.outcome.Outcome.TheVariants.{Done, BadObject}
 use Rattle.law_runs.proofs.ListedObjects.{object-typed, fault-typed, trie-fault, long-outcome}
 
 -- what is loaded is listed

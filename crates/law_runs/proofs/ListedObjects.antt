@@ -38,12 +38,12 @@ use Rattle.mx_words.specs.declared.order.Command.TheVariants.{Show}
 use Rattle.mx_words.specs.declared.order.Order.{Order}
 use Rattle.mx_files.specs.Answers.{Answer, answered, after_lines}
 use Rattle.mx_top.specs.Arguments.{Word, word_at}
-use Rattle.mx_files.specs.Messages.{message_of}
+use Rattle.mx_outcome.specs.Messages.{message_of}
 use Rattle.mx_top.specs.Product.{message_told, with_message, product}
 use Rattle.mx_files.specs.Source.{object_pieces}
 use Rattle.mx_files.specs.Typed.{Typed, shown, item_lines, tail_lines, trie_typed, tail_typed, unread, unread_trie, behind, walk_typed, typed, after_typing}
-use Rattle.mx_files.specs.declared.outcome.Outcome.{Outcome}
-use Rattle.mx_files.specs.declared.outcome.Outcome.TheVariants.{Done, OutOfMemory}
+use Rattle.mx_outcome.specs.declared.outcome.Outcome.{Outcome}
+use Rattle.mx_outcome.specs.declared.outcome.Outcome.TheVariants.{Done, OutOfMemory}
 use Rattle.law_runs.specs.Called.{IsCalled, NoCallFails}
 use Rattle.law_runs.specs.Complete.{IsOrdered, IsThere, with_output}
 use Rattle.law_runs.specs.Detour.{answer_uncounted, answer_unscheduled}

@@ -25,7 +25,7 @@ use Rattle.mx_top.specs.Runs.{image_run, run_from, stack_at_start, started}
 use Rattle.mx_top.specs.Processors.{image_turns}
 use Rattle.mx_files.specs.Schedules.{schedule_bytes}
 use Rattle.mx_files.specs.Source.{file_bytes, source_pieces, object_pieces}
-use Rattle.mx_files.specs.declared.outcome.Outcome.{Outcome}
+use Rattle.mx_outcome.specs.declared.outcome.Outcome.{Outcome}
 use Rattle.mx_files.specs.declared.refusal.Refusal.{Refusal}
 
 -- ---- what is done, where the machines start alike

@@ -18,21 +18,22 @@ use Rattle.mx_con.specs.Session.{SessionRun, session_ended, session_wild, sessio
 use Rattle.mx_con.proofs.SteadySessions.{session_host, session-steady}
 use Rattle.mx_words.specs.declared.order.Command.TheVariants.{Asm}
 use Rattle.mx_words.specs.declared.order.Order.{Order}
-use Rattle.mx_files.specs.Answers.{Answer, answered, wild, leaves_machine, after_lines}
+use Rattle.mx_files.specs.Answers.{Answer, answered, wild, after_lines}
+use Rattle.mx_outcome.specs.Kinds.{leaves_machine}
 use Rattle.mx_top.specs.Arguments.{Word, word_at, arguments}
 use Rattle.law_runs.specs.Called.{NoCallFails, IsCalled}
 use Rattle.law_runs.specs.Complete.{IsOrdered, IsStarted, IsThere, SourceIsThere, ObjectIsThere, IsHalted, IsPlayed, IsGenerated, with_output}
 use Rattle.law_runs.specs.Detour.{answer_uncounted, answer_unscheduled}
 use Rattle.mx_top.specs.Dump.{dump_lines}
 use Rattle.mx_files.specs.Lines.{lines_put}
-use Rattle.mx_files.specs.Messages.{message_of}
+use Rattle.mx_outcome.specs.Messages.{message_of}
 use Rattle.mx_files.specs.Objects.{source_object}
 use Rattle.mx_files.specs.Assembling.{assembled_outcome}
 use Rattle.mx_top.specs.Product.{message_told, with_message, product}
 use Rattle.mx_top.specs.Runs.{Ran, ran, played, session_ran, dumped, image_run}
 use Rattle.mx_files.specs.Source.{source_pieces, object_pieces}
-use Rattle.mx_files.specs.declared.outcome.Outcome.{Outcome}
-use Rattle.mx_files.specs.declared.outcome.Outcome.TheVariants.{Done, OutOfMemory}
+use Rattle.mx_outcome.specs.declared.outcome.Outcome.{Outcome}
+use Rattle.mx_outcome.specs.declared.outcome.Outcome.TheVariants.{Done, OutOfMemory}
 use Rattle.law_runs.proofs.Completed.{sat-image}
 use Rattle.law_runs.proofs.CompletedFiles.{IsReady, LinesWritten, lines-written, source-there, object-there, run-plain, run-dumped, generated-there, object-told, assembled-there, file-left}
 use Rattle.law_runs.proofs.KeptSessions.{session_shows, session-kept}

@@ -13,7 +13,7 @@ use Rattle.mx_plan.proofs.Spared.{Spared, uncalled, then, open-spared, read-spar
 use Rattle.mx_files.specs.Lines.{lines_put}
 use Rattle.mx_files.specs.Pieces.{put_piece, piece_put, pieces_after, put_pieces, put_text}
 use Rattle.mx_files.specs.Source.{pieces, one_piece, piece_read, next_piece, closed_with, closed_after, read_after, file_bytes}
-use Rattle.mx_files.specs.declared.outcome.Outcome.{Outcome}
+use Rattle.mx_outcome.specs.declared.outcome.Outcome.{Outcome}
 
 -- ---- texts and lines that are written
 

@@ -36,7 +36,8 @@ use Rattle.mx_words.specs.declared.order.Command.{Command}
 use Rattle.mx_words.specs.declared.order.Command.TheVariants.{Run, Asm, Sim, Gen, Show, Multi}
 use Rattle.mx_words.specs.declared.order.Order.{Order}
 use Rattle.mx_words.specs.declared.order.WordsFault.{WordsFault}
-use Rattle.mx_files.specs.Answers.{Answer, answered, wild, plainly, leaves_machine, after_lines}
+use Rattle.mx_files.specs.Answers.{Answer, answered, wild, plainly, after_lines}
+use Rattle.mx_outcome.specs.Kinds.{leaves_machine}
 use Rattle.mx_top.specs.Arguments.{Word, word_at, arguments}
 use Rattle.law_runs.specs.Detour.{host_of, answer_uncounted, answer_unscheduled}
 use Rattle.mx_top.specs.Dump.{dump_lines}
@@ -44,7 +45,7 @@ use Rattle.law_gen.specs.Generator.{generated, summary}
 use Rattle.mx_files.specs.Lines.{lines_put}
 use Rattle.mx_files.specs.Typed.{typed, after_typing}
 use Rattle.mx_files.specs.Sources.{source_meaning}
-use Rattle.mx_files.specs.Messages.{message_of}
+use Rattle.mx_outcome.specs.Messages.{message_of}
 use Rattle.mx_files.specs.Objects.{Assembled, source_object}
 use Rattle.mx_files.specs.Pieces.{put_text}
 use Rattle.mx_files.specs.Assembling.{closed_object, written_object, assembled_outcome, object_put, after_opening, after_reading}
@@ -58,8 +59,8 @@ use Rattle.mx_multi.specs.Turns.{TurnsEnd, turns_ended, turns_wild, turns}
 use Rattle.law_runs.proofs.SteadyTurns.{turns_host, turns_still, turns-steady}
 use Rattle.mx_files.specs.Source.{file_bytes, source_pieces, object_pieces}
 use Rattle.mx_files.specs.declared.refusal.Refusal.{Refusal}
-use Rattle.mx_files.specs.declared.outcome.Outcome.{Outcome}
-use Rattle.mx_files.specs.declared.outcome.Outcome.TheVariants.{Done, Usage, NoFile, HostFault, Refused, BadObject, BadSchedule, Stopped, StepsSpent, Quit, ConsoleLimit, OutOfMemory}
+use Rattle.mx_outcome.specs.declared.outcome.Outcome.{Outcome}
+use Rattle.mx_outcome.specs.declared.outcome.Outcome.TheVariants.{Done, Usage, NoFile, HostFault, Refused, BadObject, BadSchedule, Stopped, StepsSpent, Quit, ConsoleLimit, OutOfMemory}
 use Rattle.law_runs.proofs.SteadyFiles.{text-steady, lines-steady, file-steady}
 
 -- ---- answers

@@ -6,8 +6,8 @@ use Rattle.std.specs.Prelude.{Result}
 use Rattle.mx_host.proofs.Start.{start_slots-length}
 use Rattle.mx_plan.specs.Counts.{NoneFailed}
 use Rattle.mx_files.specs.Source.{file_bytes}
-use Rattle.mx_files.specs.declared.outcome.Outcome.{Outcome}
-use Rattle.mx_files.specs.declared.outcome.Outcome.TheVariants.{NoFile}
+use Rattle.mx_outcome.specs.declared.outcome.Outcome.{Outcome}
+use Rattle.mx_outcome.specs.declared.outcome.Outcome.TheVariants.{NoFile}
 use Rattle.law_runs.proofs.SteadyFiles.{file-steady}
 use Rattle.law_runs.proofs.IdleFiles.{idle, file-idle, file-absent}
 

@@ -9,7 +9,7 @@ use Rattle.law_runs.specs.Detour.{host_of}
 use Rattle.mx_top.specs.Product.{product}
 use Rattle.mx_top.specs.Reports.{watched_product}
 use Rattle.mx_watch.specs.Watching.{Watching}
-use Rattle.mx_files.specs.declared.outcome.Outcome.{Outcome}
+use Rattle.mx_outcome.specs.declared.outcome.Outcome.{Outcome}
 
 -- None of the calls of the host that the program makes by these words fails: the list has none of their numbers.
 abbrev pub NoCallFails : MachineKind → List Word → HostModel → Type 0

@@ -24,8 +24,8 @@ use Rattle.mx_top.specs.Product.{generator_steps}
 use Rattle.mx_top.specs.Runs.{ran, machine_ran, session_ran, started}
 use Rattle.mx_files.specs.Source.{file_bytes, source_pieces, object_pieces}
 use Rattle.mx_files.specs.Sources.{source_meaning}
-use Rattle.mx_files.specs.declared.outcome.Outcome.{Outcome}
-use Rattle.mx_files.specs.declared.outcome.Outcome.TheVariants.{Done}
+use Rattle.mx_outcome.specs.declared.outcome.Outcome.{Outcome}
+use Rattle.mx_outcome.specs.declared.outcome.Outcome.TheVariants.{Done}
 
 -- The words order this, with this command.
 pub record IsOrdered (words : List Word) (o : Order) (wanted : Command) : Type 0 where

@@ -12,8 +12,8 @@ use Rattle.mx_files.specs.Answers.{Answer, answered, wild}
 use Rattle.mx_top.specs.Arguments.{Word, program_name}
 use Rattle.mx_top.specs.Product.{product}
 use Rattle.mx_files.specs.Source.{file_bytes, source_pieces}
-use Rattle.mx_files.specs.declared.outcome.Outcome.{Outcome}
-use Rattle.mx_files.specs.declared.outcome.Outcome.TheVariants.{Done}
+use Rattle.mx_outcome.specs.declared.outcome.Outcome.{Outcome}
+use Rattle.mx_outcome.specs.declared.outcome.Outcome.TheVariants.{Done}
 
 -- the host as an answer leaves it
 abbrev pub host_of : Answer → HostModel

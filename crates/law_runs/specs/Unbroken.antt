@@ -2,8 +2,8 @@
 use Rattle.std.specs.Prelude.{Bool, true, false}
 use Rattle.mx_files.specs.Answers.{Answer, answered, wild}
 use Rattle.mx_top.specs.Runs.{Ran, ran, ran_wild}
-use Rattle.mx_files.specs.declared.outcome.Outcome.{Outcome}
-use Rattle.mx_files.specs.declared.outcome.Outcome.TheVariants.{OutOfMemory}
+use Rattle.mx_outcome.specs.declared.outcome.Outcome.{Outcome}
+use Rattle.mx_outcome.specs.declared.outcome.Outcome.TheVariants.{OutOfMemory}
 
 -- whether an outcome is another than that of no memory, which stands for a break too
 abbrev pub is_outcome_told : Outcome → Bool

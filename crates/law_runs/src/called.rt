@@ -16,7 +16,7 @@ ghost use Rattle.law_runs.specs.Complete.{IsGenerated, IsHalted, IsOrdered, IsPl
 ghost use Rattle.law_runs.specs.Complete.{SourceIsThere};
 ghost use Rattle.mx_top.specs.Runs.{machine_ran, ran};
 ghost use Rattle.mx_files.specs.Source.{source_pieces};
-ghost use Rattle.mx_files.specs.declared.outcome.Outcome.{Outcome};
+ghost use Rattle.mx_outcome.specs.declared.outcome.Outcome.{Outcome};
 
 /// A program that halts does so with the low byte of its register $255.
 #[tactic(auto, using(crate::proofs::LowBytes::lowered))]

@@ -31,7 +31,7 @@ ghost use Rattle.mx_top.specs.Product.{product, with_message};
 ghost use Rattle.mx_top.specs.Runs.{dumped, image_run, session_ran};
 ghost use Rattle.mx_files.specs.Source.{file_bytes, source_pieces};
 ghost use Rattle.mx_files.specs.Sources.{source_meaning};
-ghost use Rattle.mx_files.specs.declared.outcome.Outcome.{Outcome};
+ghost use Rattle.mx_outcome.specs.declared.outcome.Outcome.{Outcome};
 ghost use Rattle.mx_files.specs.declared.refusal.Refusal.{Refusal};
 
 /// A source that is read, that means an image, and whose machine starts and halts within the steps of

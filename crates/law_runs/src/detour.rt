@@ -18,7 +18,7 @@ ghost use Rattle.law_runs.specs.Detour.{HasOutcome, answer_uncounted, answer_uns
 ghost use Rattle.mx_files.specs.Objects.{source_object};
 ghost use Rattle.mx_top.specs.Product.{product};
 ghost use Rattle.mx_files.specs.Sources.{source_meaning};
-ghost use Rattle.mx_files.specs.declared.outcome.Outcome.TheVariants.{BadObject, Refused};
+ghost use Rattle.mx_outcome.specs.declared.outcome.Outcome.TheVariants.{BadObject, Refused};
 
 /// Where no call that the program makes fails, it does and answers the same whatever number of calls was made
 /// before, and whatever other calls are listed as failing; only that number and that list differ in what it

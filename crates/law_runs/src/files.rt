@@ -7,7 +7,7 @@ ghost use Rattle.mx_plan.specs.Counts.{NoneFailed};
 ghost use Rattle.mx_trap.specs.Laws.{SameButCalls};
 ghost use Rattle.mx_files.specs.Pieces.{put_piece, put_text};
 ghost use Rattle.mx_files.specs.Source.{file_bytes};
-ghost use Rattle.mx_files.specs.declared.outcome.Outcome.{Outcome};
+ghost use Rattle.mx_outcome.specs.declared.outcome.Outcome.{Outcome};
 
 /// Where no call that this makes fails, a file that is there is read whole, as far as so many pieces of
 /// 4,096 bytes reach, and one that is not there is said to be missing.

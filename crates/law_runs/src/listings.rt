@@ -24,7 +24,7 @@ ghost use Rattle.mx_top.specs.Arguments.{Word, word_at};
 ghost use Rattle.mx_top.specs.Product.{product, with_message};
 ghost use Rattle.mx_files.specs.Source.{object_pieces};
 ghost use Rattle.mx_files.specs.Typed.{typed, unread, unread_trie};
-ghost use Rattle.mx_files.specs.declared.outcome.Outcome.{Outcome};
+ghost use Rattle.mx_outcome.specs.declared.outcome.Outcome.{Outcome};
 ghost use Rattle.law_runs.specs.Called.{IsCalled, NoCallFails};
 ghost use Rattle.law_runs.specs.Complete.{IsOrdered, IsThere, with_output};
 ghost use Rattle.law_runs.specs.Detour.{answer_unscheduled};

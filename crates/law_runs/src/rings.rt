@@ -6,7 +6,7 @@ ghost use Rattle.mx_host.specs.HostModel.{HostModel, contents};
 ghost use Rattle.mx_run.specs.WildRuns.{MachineKind, window_machine, list_machine};
 ghost use Rattle.mx_watch.specs.Watching.{Watching};
 ghost use Rattle.mx_files.specs.Answers.{answered};
-ghost use Rattle.mx_files.specs.declared.outcome.Outcome.{Outcome};
+ghost use Rattle.mx_outcome.specs.declared.outcome.Outcome.{Outcome};
 ghost use Rattle.mx_words.specs.Orders.{order_of};
 ghost use Rattle.mx_words.specs.Values.{blocks_value, ring_value};
 ghost use Rattle.mx_words.specs.declared.order.Order.{Order};

@@ -2,7 +2,8 @@
 
 use crate::{OUT_OF_MEMORY, told};
 use mx_count::{Counted, arguments, count_file};
-use mx_files::{Outcome, write_line};
+use mx_files::write_line;
+use mx_outcome::Outcome;
 use mx_real::RealHost;
 use mx_word::NoMemory;
 use mx_words::{Order, WordsFault, read};

@@ -8,7 +8,7 @@ use Rattle.mx_run.specs.WildRuns.{window_machine}
 use Rattle.mx_run.specs.declared.end.End.{End}
 use Rattle.mx_watch.specs.Traces.{traces}
 use Rattle.mx_watch.specs.Watching.{Watching}
-use Rattle.mx_files.specs.declared.outcome.Outcome.{Outcome}
+use Rattle.mx_outcome.specs.declared.outcome.Outcome.{Outcome}
 use Rattle.mx_view.specs.Loads.{loads_of}
 use Rattle.mx_count.specs.Counting.{counting, kept_tally}
 use Rattle.mx_count.specs.Runs.{machine_counted, outcome_of}

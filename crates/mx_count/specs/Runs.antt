@@ -20,8 +20,8 @@ use Rattle.mx_files.specs.Assembling.{refused_with}
 use Rattle.mx_files.specs.Source.{file_bytes, source_pieces}
 use Rattle.mx_files.specs.Sources.{source_meaning}
 use Rattle.mx_files.specs.declared.refusal.Refusal.{Refusal}
-use Rattle.mx_files.specs.declared.outcome.Outcome.{Outcome}
-use Rattle.mx_files.specs.declared.outcome.Outcome.TheVariants.{Done, Stopped, StepsSpent, OutOfMemory}
+use Rattle.mx_outcome.specs.declared.outcome.Outcome.{Outcome}
+use Rattle.mx_outcome.specs.declared.outcome.Outcome.TheVariants.{Done, Stopped, StepsSpent, OutOfMemory}
 use Rattle.mx_count.specs.Sheets.{sheet_of}
 use Rattle.mx_count.specs.declared.count.Counted.{Counted}
 

@@ -9,7 +9,7 @@ ghost use Rattle.mx_count.specs.Sheets as spec;
 use crate::sums::{Sums, line_tally, sums_of, total};
 use crate::table::Entry;
 use crate::tally::Tally;
-use mx_files::add_decimal;
+use mx_text::add_decimal;
 use mx_line::cut_line;
 use mx_view::{Cell, add_numbered};
 use mx_word::{Bytes, NoMemory, Sequence};

@@ -24,7 +24,7 @@ use Rattle.mx_plan.proofs.Plans.{end_bind, end_returns}
 use Rattle.mx_files.specs.Clauses.{Serves, gives, takes, can_read, can_write, is_open, Works}
 use Rattle.mx_files.specs.FilePlans.{Part, carried, piece_added, read_piece, write_piece, close_file}
 use Rattle.mx_files.specs.ObjectPlans.{open_object}
-use Rattle.mx_files.specs.declared.outcome.Outcome.TheVariants.{HostFault as Broken}
+use Rattle.mx_outcome.specs.declared.outcome.Outcome.TheVariants.{HostFault as Broken}
 use Rattle.mx_files.proofs.Parts.{makes-first}
 
 abbrev IsServed : {A : Type 0} → Then (Result A HostFault) → Type 0

@@ -9,15 +9,16 @@ use Rattle.mx_plan.specs.Held.{Makes}
 use Rattle.mx_plan.specs.Plan.{returns, end_of, end_after, Comes}
 use Rattle.mx_plan.proofs.Plans.{end_bind, end_returns, stops_first}
 use Rattle.mx_word.specs.Lists.{IsFront}
-use Rattle.mx_files.specs.Answers.{answered, output_of, is_usage, GoesAs, plainly}
+use Rattle.mx_files.specs.Answers.{answered, output_of, GoesAs, plainly}
+use Rattle.mx_outcome.specs.Kinds.{is_usage}
 use Rattle.mx_files.specs.Assembling.{after_reading}
 use Rattle.mx_files.specs.Clauses.{ComesByFailing, HasToolSlots, Serves, Works, is_end}
 use Rattle.mx_files.specs.FilePlans.{Part, file_plan}
 use Rattle.mx_files.specs.ObjectPlans.{outcome_of, whole_plan, assemble_plan, list_plan}
 use Rattle.mx_files.specs.Source.{file_bytes}
 use Rattle.mx_files.specs.Typed.{after_typing}
-use Rattle.mx_files.specs.declared.outcome.Outcome.{Outcome}
-use Rattle.mx_files.specs.declared.outcome.Outcome.TheVariants.{NoFile, HostFault, OutOfMemory, Usage}
+use Rattle.mx_outcome.specs.declared.outcome.Outcome.{Outcome}
+use Rattle.mx_outcome.specs.declared.outcome.Outcome.TheVariants.{NoFile, HostFault, OutOfMemory, Usage}
 use Rattle.mx_files.proofs.FileEnds.{file-end, assemble-end, list-end}
 use Rattle.mx_files.proofs.QuietFiles.{file-stops-quiet, file-ends-quiet}
 use Rattle.mx_files.proofs.Rests.{stop-front, comes-keeps}

@@ -9,8 +9,8 @@ use Rattle.mx_files.specs.FilePlans.{close_file, read_pieces, then_closed, read_
 use Rattle.mx_files.specs.ObjectPlans.{assembled, close_object, put_object, put_source, put_into, open_object, assemble_part, list_part, typed_plan, shown_plan, item_plan}
 use Rattle.mx_files.specs.Objects.{source_object}
 use Rattle.mx_files.specs.Typed.{typed}
-use Rattle.mx_files.specs.declared.outcome.Outcome.{Outcome}
-use Rattle.mx_files.specs.declared.outcome.Outcome.TheVariants.{OutOfMemory}
+use Rattle.mx_outcome.specs.declared.outcome.Outcome.{Outcome}
+use Rattle.mx_outcome.specs.declared.outcome.Outcome.TheVariants.{OutOfMemory}
 use Rattle.mx_files.specs.declared.refusal.Refusal.{Refusal}
 use Rattle.mx_files.proofs.Parts.{works-then, works-ends, works-done, works-refused, works-lacking, works-taking}
 

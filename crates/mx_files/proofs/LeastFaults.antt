@@ -12,8 +12,8 @@ use Rattle.mx_plan.proofs.Plans.{end_bind}
 use Rattle.mx_files.specs.FilePlans.{on_ok, file_plan}
 use Rattle.mx_files.specs.Source.{file_bytes}
 use Rattle.mx_files.specs.Schedules.{AreEight, IsAtFault, empty, long, unnamed, IsLeastFault, IsFaultless, longest, is_unnamed, length_fault, least_fault, judged, schedule_in, schedule_fault, schedule_from, schedule_bytes, schedule_plan}
-use Rattle.mx_files.specs.declared.outcome.Outcome.{Outcome}
-use Rattle.mx_files.specs.declared.outcome.Outcome.TheVariants.{BadSchedule}
+use Rattle.mx_outcome.specs.declared.outcome.Outcome.{Outcome}
+use Rattle.mx_outcome.specs.declared.outcome.Outcome.TheVariants.{BadSchedule}
 use Rattle.mx_files.proofs.FileEnds.{file-end}
 use Rattle.mx_files.proofs.ReadSchedules.{none-named}
 

@@ -10,8 +10,8 @@ use Rattle.mx_plan.specs.Plan.{Plan, returns, calls, bind, Acts, end_of, end_aft
 use Rattle.mx_plan.proofs.Plans.{end_bind, end_returns, stops_first, stops_after, rest_after}
 use Rattle.mx_files.specs.Clauses.{Serves, is_end, Works, Leaves}
 use Rattle.mx_files.specs.FilePlans.{Part, on_ok}
-use Rattle.mx_files.specs.declared.outcome.Outcome.{Outcome}
-use Rattle.mx_files.specs.declared.outcome.Outcome.TheVariants.{NoFile, HostFault, OutOfMemory}
+use Rattle.mx_outcome.specs.declared.outcome.Outcome.{Outcome}
+use Rattle.mx_outcome.specs.declared.outcome.Outcome.TheVariants.{NoFile, HostFault, OutOfMemory}
 use Rattle.mx_files.proofs.Rests.{rest-through, rest-comes}
 
 -- ---- the calls of plans that follow each other

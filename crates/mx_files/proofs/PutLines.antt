@@ -12,7 +12,7 @@ use Rattle.mx_files.specs.Answers.{output_of, after_lines}
 use Rattle.mx_files.specs.Clauses.{part_of}
 use Rattle.mx_files.specs.FilePlans.{lines_plan}
 use Rattle.mx_files.specs.Lines.{lines_put}
-use Rattle.mx_files.specs.declared.outcome.Outcome.{Outcome}
+use Rattle.mx_outcome.specs.declared.outcome.Outcome.{Outcome}
 use Rattle.mx_files.proofs.FileEnds.{lines-end}
 
 part-world : (t : Then Bool) → (part_of t).1 ≡ t.1

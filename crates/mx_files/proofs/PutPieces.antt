@@ -5,7 +5,7 @@ use Rattle.mx_host.specs.HostModel.{HostModel}
 use Rattle.mx_plan.specs.Plan.{bind}
 use Rattle.mx_files.specs.Clauses.{Works, Leaves}
 use Rattle.mx_files.specs.FilePlans.{Part, on_ok, write_piece, write_pieces, text_plan}
-use Rattle.mx_files.specs.declared.outcome.Outcome.{Outcome}
+use Rattle.mx_outcome.specs.declared.outcome.Outcome.{Outcome}
 use Rattle.mx_files.proofs.Parts.{works-on, works-ends, leaves-all, leaves-on, leaves-next}
 
 -- one piece more than of what follows the first

@@ -13,7 +13,7 @@ use Rattle.mx_plan.specs.Calls.{HostCall, HostSays, opening, closing, reading, w
 use Rattle.mx_plan.specs.Plan.{returns, calls, bind, end_of, Stops}
 use Rattle.mx_files.specs.FilePlans.{Part, on_ok, close_file, piece_added, read_piece, read_next, read_pieces, then_closed, read_open, open_input, file_plan}
 use Rattle.mx_files.specs.Source.{file_bytes}
-use Rattle.mx_files.specs.declared.outcome.Outcome.{Outcome}
+use Rattle.mx_outcome.specs.declared.outcome.Outcome.{Outcome}
 use Rattle.mx_files.proofs.FileEnds.{file-end}
 
 -- an answer leaves standard output as it was

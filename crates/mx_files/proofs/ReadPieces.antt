@@ -5,7 +5,7 @@ use Rattle.mx_host.specs.HostModel.{HostModel}
 use Rattle.mx_plan.specs.Plan.{returns, bind}
 use Rattle.mx_files.specs.Clauses.{Works, Leaves}
 use Rattle.mx_files.specs.FilePlans.{Part, on_ok, read_piece, read_next, read_pieces}
-use Rattle.mx_files.specs.declared.outcome.Outcome.{Outcome}
+use Rattle.mx_outcome.specs.declared.outcome.Outcome.{Outcome}
 use Rattle.mx_files.proofs.Counting.{left-after}
 use Rattle.mx_files.proofs.Parts.{works-on, works-ends, works-done, leaves-all, leaves-on, leaves-next}
 

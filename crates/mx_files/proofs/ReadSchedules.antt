@@ -8,8 +8,8 @@ use Rattle.mx_plan.specs.Plan.{returns}
 use Rattle.mx_files.specs.Clauses.{Works}
 use Rattle.mx_files.specs.FilePlans.{file_plan}
 use Rattle.mx_files.specs.Schedules.{AreEight, is_unnamed, judged, schedule_in, schedule_fault, schedule_plan}
-use Rattle.mx_files.specs.declared.outcome.Outcome.{Outcome}
-use Rattle.mx_files.specs.declared.outcome.Outcome.TheVariants.{BadSchedule}
+use Rattle.mx_outcome.specs.declared.outcome.Outcome.{Outcome}
+use Rattle.mx_outcome.specs.declared.outcome.Outcome.TheVariants.{BadSchedule}
 use Rattle.mx_files.proofs.Parts.{works-then, works-ends, works-done, works-refused}
 
 -- ---- where no byte is found that names none of eight, each names one

@@ -28,8 +28,8 @@ use Rattle.mx_files.specs.FilePlans.{Part, on_ok, close_file, piece_added, read_
 use Rattle.mx_files.specs.ObjectPlans.{assembled, object_opened, open_object, close_object, put_object, put_source, put_into, assemble_part, typed_end, typed_plan, list_part}
 use Rattle.mx_files.specs.Objects.{Assembled, source_object}
 use Rattle.mx_files.specs.Typed.{Typed, typed}
-use Rattle.mx_files.specs.declared.outcome.Outcome.{Outcome}
-use Rattle.mx_files.specs.declared.outcome.Outcome.TheVariants.{Done, HostFault as Broken}
+use Rattle.mx_outcome.specs.declared.outcome.Outcome.{Outcome}
+use Rattle.mx_outcome.specs.declared.outcome.Outcome.TheVariants.{Done, HostFault as Broken}
 use Rattle.mx_files.proofs.Parts.{makes-bind, MakesAfter}
 
 -- ---- plans that are served and leave what holds

@@ -10,7 +10,7 @@ use Rattle.mx_plan.proofs.Taking.{spares-bind, spares-returns, need-spares, open
 use Rattle.mx_files.specs.FilePlans.{Part, on_ok, carried, close_file, input_opened, open_input, piece_added, read_piece, read_next, read_pieces, then_closed, read_open, file_plan}
 use Rattle.mx_files.specs.Pieces.{piece_size}
 use Rattle.mx_files.specs.Source.{input_slot}
-use Rattle.mx_files.specs.declared.outcome.Outcome.{Outcome}
+use Rattle.mx_outcome.specs.declared.outcome.Outcome.{Outcome}
 
 -- a part is done, or it ends the work, which takes nothing more
 on-done : {A B : Type 0} (f : A → Part B) (r : Result A Outcome) (m : ℕ) → ((a : A) → TakesAtMost input_slot m (f a)) → TakesAtMost input_slot m (on_ok f r)

@@ -25,8 +25,8 @@ use Rattle.mx_files.specs.Clauses.{Serves, Works, Leaves, is_end}
 use Rattle.mx_files.specs.FilePlans.{Part, line_plan, made_plan, lines_plan}
 use Rattle.mx_files.specs.ObjectPlans.{typed_end, typed_plan, shown_plan, item_plan}
 use Rattle.mx_files.specs.Typed.{Typed, shown, item_lines, tail_lines, trie_typed, behind, end_typed, unread, tail_typed, walk_typed, still_typed, typed}
-use Rattle.mx_files.specs.declared.outcome.Outcome.{Outcome}
-use Rattle.mx_files.specs.declared.outcome.Outcome.TheVariants.{Done, Usage, NoFile, HostFault, Refused, BadObject, BadSchedule, Stopped, StepsSpent, Quit, ConsoleLimit, OutOfMemory}
+use Rattle.mx_outcome.specs.declared.outcome.Outcome.{Outcome}
+use Rattle.mx_outcome.specs.declared.outcome.Outcome.TheVariants.{Done, Usage, NoFile, HostFault, Refused, BadObject, BadSchedule, Stopped, StepsSpent, Quit, ConsoleLimit, OutOfMemory}
 use Rattle.mx_files.proofs.FileParts.{lines-end}
 use Rattle.mx_plan.proofs.Standing.{stands-all}
 use Rattle.mx_files.proofs.Parts.{works-on, works-then, works-ends, works-done, leaves-all, leaves-on, leaves-next, leaves-bind}

@@ -10,8 +10,8 @@ use Rattle.mx_host.specs.HostModel.{HostModel}
 use Rattle.mx_plan.specs.Plan.{Plan, returns, calls, bind}
 use Rattle.mx_files.specs.Clauses.{Works}
 use Rattle.mx_files.specs.FilePlans.{Part, on_ok, line_plan, made_plan, lines_plan}
-use Rattle.mx_files.specs.declared.outcome.Outcome.{Outcome}
-use Rattle.mx_files.specs.declared.outcome.Outcome.TheVariants.{OutOfMemory}
+use Rattle.mx_outcome.specs.declared.outcome.Outcome.{Outcome}
+use Rattle.mx_outcome.specs.declared.outcome.Outcome.TheVariants.{OutOfMemory}
 use Rattle.mx_files.proofs.FileParts.{line-made, line-lacks}
 use Rattle.mx_files.proofs.Parts.{works-then, works-ends, works-done}
 

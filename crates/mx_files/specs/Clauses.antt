@@ -13,8 +13,8 @@ use Rattle.mx_plan.specs.Clauses.{CarriesOut, Stands}
 use Rattle.mx_plan.specs.Held.{Makes}
 use Rattle.mx_plan.specs.Plan.{IsRest}
 use Rattle.mx_files.specs.FilePlans.{Part}
-use Rattle.mx_files.specs.declared.outcome.Outcome.{Outcome}
-use Rattle.mx_files.specs.declared.outcome.Outcome.TheVariants.{NoFile, HostFault, Refused, BadObject, BadSchedule, OutOfMemory}
+use Rattle.mx_outcome.specs.declared.outcome.Outcome.{Outcome}
+use Rattle.mx_outcome.specs.declared.outcome.Outcome.TheVariants.{NoFile, HostFault, Refused, BadObject, BadSchedule, OutOfMemory}
 
 -- ---- CAUSES of a fault
 

@@ -9,8 +9,8 @@ use Rattle.mx_plan.specs.Calls.{HostPlan, open_plan, close_plan, read_plan, writ
 use Rattle.mx_files.specs.Lines.{output_slot}
 use Rattle.mx_files.specs.Pieces.{piece_size}
 use Rattle.mx_files.specs.Source.{input_slot}
-use Rattle.mx_files.specs.declared.outcome.Outcome.{Outcome}
-use Rattle.mx_files.specs.declared.outcome.Outcome.TheVariants.{NoFile, HostFault as Broken, OutOfMemory}
+use Rattle.mx_outcome.specs.declared.outcome.Outcome.{Outcome}
+use Rattle.mx_outcome.specs.declared.outcome.Outcome.TheVariants.{NoFile, HostFault as Broken, OutOfMemory}
 
 -- a part of the work: it is done with a value, or it ends the work with an outcome
 abbrev pub Part : Type 0 → Type 0

@@ -1,7 +1,4 @@
 pub use Rattle.mx_word.specs.Results
-pub mod Status
-pub mod Names
-pub mod Messages
 pub mod Answers
 pub mod Pieces
 pub mod Lines

@@ -10,8 +10,8 @@ use Rattle.mx_files.specs.FilePlans.{Part, on_ok, close_file, file_plan, text_pl
 use Rattle.mx_files.specs.Objects.{Assembled, source_object}
 use Rattle.mx_files.specs.Source.{source_pieces, object_pieces}
 use Rattle.mx_files.specs.Typed.{Typed, typed}
-use Rattle.mx_files.specs.declared.outcome.Outcome.{Outcome}
-use Rattle.mx_files.specs.declared.outcome.Outcome.TheVariants.{Done, HostFault, OutOfMemory}
+use Rattle.mx_outcome.specs.declared.outcome.Outcome.{Outcome}
+use Rattle.mx_outcome.specs.declared.outcome.Outcome.TheVariants.{Done, HostFault, OutOfMemory}
 use Rattle.mx_files.specs.declared.refusal.Refusal.{Refusal}
 
 -- the outcome of all of the work

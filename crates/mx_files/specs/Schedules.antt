@@ -6,8 +6,8 @@ use Rattle.mx_host.specs.HostAnswer.{Then}
 use Rattle.mx_plan.specs.Plan.{returns, bind}
 use Rattle.mx_files.specs.FilePlans.{Part, on_ok, file_plan}
 use Rattle.mx_files.specs.Source.{source_pieces, file_bytes}
-use Rattle.mx_files.specs.declared.outcome.Outcome.{Outcome}
-use Rattle.mx_files.specs.declared.outcome.Outcome.TheVariants.{BadSchedule}
+use Rattle.mx_outcome.specs.declared.outcome.Outcome.{Outcome}
+use Rattle.mx_outcome.specs.declared.outcome.Outcome.TheVariants.{BadSchedule}
 
 abbrev pub longest : ℕ
 longest = 2 ^ 22

@@ -19,8 +19,8 @@ use Rattle.mx_type.specs.Texts.{item_text}
 use Rattle.mx_word.specs.declared.symbols.Symbol.{Symbol}
 use Rattle.mx_files.specs.Answers.{Answer, answered, after_lines}
 use Rattle.mx_files.specs.Lines.{lines_put}
-use Rattle.mx_files.specs.declared.outcome.Outcome.{Outcome}
-use Rattle.mx_files.specs.declared.outcome.Outcome.TheVariants.{Done, BadObject}
+use Rattle.mx_outcome.specs.declared.outcome.Outcome.{Outcome}
+use Rattle.mx_outcome.specs.declared.outcome.Outcome.TheVariants.{Done, BadObject}
 
 -- lines, and the outcome where all of them are written
 abbrev pub Typed : Type 0

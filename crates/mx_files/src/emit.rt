@@ -8,14 +8,14 @@ ghost use Rattle.mx_host.specs.Keeping.{Answers, ComesByFault, OnlyByFailure, Ke
 ghost use Rattle.mx_line.specs.Lines.{lines_of};
 ghost use Rattle.mx_mmo.specs.Spelling.{written};
 ghost use Rattle.mx_plan.specs.Clauses.{CarriesOut};
-ghost use Rattle.mx_files.specs.Answers.{is_usage};
+ghost use Rattle.mx_outcome.specs.Kinds.{is_usage};
 ghost use Rattle.mx_files.specs.Assembling as spec;
 ghost use Rattle.mx_files.specs.Clauses.{ComesByFailing, Works};
 ghost use Rattle.mx_files.specs.ObjectPlans as plans;
 ghost use Rattle.mx_files.specs.Objects as objects;
 ghost use Rattle.mx_files.specs.Source.{file_bytes};
 
-use crate::outcome::Outcome;
+use mx_outcome::Outcome;
 use crate::pieces::{close_file, put_text, whole_outcome};
 use crate::refusal::{Refusal, is_out_of_memory, refusal_of};
 use crate::source::{SOURCE_PIECES, read_file};

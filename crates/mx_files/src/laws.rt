@@ -15,7 +15,7 @@ ghost use Rattle.mx_files.specs.ObjectPlans.{assemble_part, assemble_plan, list_
 ghost use Rattle.mx_files.specs.Pieces.{put_text};
 ghost use Rattle.mx_files.specs.Source.{file_bytes, input_slot};
 ghost use Rattle.mx_files.specs.Typed.{after_typing};
-ghost use Rattle.mx_files.specs.declared.outcome.Outcome.{Outcome};
+ghost use Rattle.mx_outcome.specs.declared.outcome.Outcome.{Outcome};
 
 /// What is read, written, assembled and listed is what its plan comes to.
 #[tactic(auto, using(crate::proofs::FileEnds::ends))]

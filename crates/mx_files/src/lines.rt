@@ -3,7 +3,7 @@
 ghost use Rattle.mx_files.specs.Clauses.{Works};
 ghost use Rattle.mx_files.specs.FilePlans as plans;
 
-use crate::outcome::Outcome;
+use mx_outcome::Outcome;
 use crate::pieces::put_piece;
 use mx_host::Host;
 

@@ -4,7 +4,7 @@ ghost use Rattle.std.specs.Prelude.{◌≡◌};
 ghost use Rattle.mx_files.specs.Loading as spec;
 ghost use Rattle.mx_files.specs.Assembling.{refused_with};
 
-use crate::outcome::Outcome;
+use mx_outcome::Outcome;
 use mx_asm::{AsmFault, Refused};
 
 /// The refusal of a source: the line from 1, the number of the fault, and the line of the reference that

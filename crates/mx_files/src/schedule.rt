@@ -3,11 +3,11 @@
 ghost use Rattle.std.specs.Prelude.{◌≡◌, ◌≢◌, Err, IfOk, IfErr, false};
 ghost use Rattle.std.specs.List.{position};
 ghost use Rattle.mx_host.specs.Keeping.{Answers, ComesByFault, OnlyByFailure, Keeps, KeepsOutput};
-ghost use Rattle.mx_files.specs.Answers.{is_usage};
+ghost use Rattle.mx_outcome.specs.Kinds.{is_usage};
 ghost use Rattle.mx_files.specs.Clauses.{Works};
 ghost use Rattle.mx_files.specs.Schedules as spec;
 
-use crate::outcome::Outcome;
+use mx_outcome::Outcome;
 use crate::source::{SOURCE_PIECES, read_file};
 use mx_host::Host;
 use mx_word::Bytes;

@@ -5,7 +5,7 @@ ghost use Rattle.mx_host.specs.HostModel.{HostModel};
 ghost use Rattle.mx_plan.specs.Calls.{host};
 ghost use Rattle.mx_plan.specs.Plan.{end_of};
 ghost use Rattle.mx_files.specs.Schedules.{IsFaultless, IsLeastFault, schedule_bytes, schedule_in, schedule_plan};
-ghost use Rattle.mx_files.specs.declared.outcome.Outcome.TheVariants.{BadSchedule};
+ghost use Rattle.mx_outcome.specs.declared.outcome.Outcome.TheVariants.{BadSchedule};
 
 /// A schedule is refused exactly where it is at fault, at the least place of a fault; and what is read of a file is what its
 /// plan comes to.

@@ -3,12 +3,12 @@
 ghost use Rattle.std.specs.Prelude.{◌≡◌, [], Err, IfErr, false, length};
 ghost use Rattle.mx_host.specs.Keeping.{Answers, ComesByFault, OnlyByFailure, Keeps, KeepsOutput};
 ghost use Rattle.mx_word.specs.Results.{map_ok};
-ghost use Rattle.mx_files.specs.Answers.{is_usage};
+ghost use Rattle.mx_outcome.specs.Kinds.{is_usage};
 ghost use Rattle.mx_files.specs.Clauses.{Works};
 ghost use Rattle.mx_files.specs.FilePlans as plans;
 ghost use Rattle.mx_files.specs.Source as spec;
 
-use crate::outcome::Outcome;
+use mx_outcome::Outcome;
 use crate::pieces::close_file;
 use mx_host::{Host, HostFault, Mode, OpenFault};
 use mx_plan::{open, read};

@@ -9,7 +9,8 @@ ghost use Rattle.mx_stab.specs.Faults as tries;
 ghost use Rattle.mx_type.specs.Lambda.{lambda_after};
 ghost use Rattle.mx_type.specs.Lines.{ended, stab_line, symbol_line};
 ghost use Rattle.mx_type.specs.Texts.{item_text};
-ghost use Rattle.mx_files.specs.Answers.{AnswersAs, AnswersAsList, WritesFrontOf, is_usage};
+ghost use Rattle.mx_files.specs.Answers.{AnswersAs, AnswersAsList, WritesFrontOf};
+ghost use Rattle.mx_outcome.specs.Kinds.{is_usage};
 ghost use Rattle.mx_files.specs.Clauses.{ComesByFailing, Leaves, Works, is_end};
 ghost use Rattle.mx_files.specs.FilePlans as lines;
 ghost use Rattle.mx_files.specs.ObjectPlans as plans;
@@ -17,7 +18,7 @@ ghost use Rattle.mx_files.specs.Source.{file_bytes};
 ghost use Rattle.mx_files.specs.Typed as spec;
 
 use crate::lines::write_line;
-use crate::outcome::Outcome;
+use mx_outcome::Outcome;
 use crate::pieces::whole_outcome;
 use crate::source::{OBJECT_PIECES, read_file};
 use mx_host::Host;

@@ -88,8 +88,9 @@ pub fn octa_hex(x: u64) -> [u8; 17]
     [b'#', a, b, c, d, e, f, g, h, i, j, k, l, m, n, o, p]
 }
 
-/// Adds a number in decimal digits, and nothing where there is no memory.
-pub fn add_decimal(text: &mut Bytes, n: u32) -> Result<(), NoMemory>
+/// Adds a number below 1000 in decimal digits.
+fn add_short(text: &mut Bytes, n: u32) -> Result<(), NoMemory>
+    requires { n < 1000 }
     ensures ok { OnOk result (text.new ≡ text.old ++ decimal n) }
     ensures err { OnErr result (text.new ≡ text.old) }
 {
@@ -99,8 +100,16 @@ pub fn add_decimal(text: &mut Bytes, n: u32) -> Result<(), NoMemory>
     if n < 100 {
         return text.extend(&two_digits(n));
     }
+    text.extend(&three_digits(n))
+}
+
+/// Adds a number in decimal digits, and nothing where there is no memory.
+pub fn add_decimal(text: &mut Bytes, n: u64) -> Result<(), NoMemory>
+    ensures ok { OnOk result (text.new ≡ text.old ++ decimal n) }
+    ensures err { OnErr result (text.new ≡ text.old) }
+{
     if n < 1000 {
-        return text.extend(&three_digits(n));
+        return add_short(text, n as u32);
     }
     let mut buffer = Buffer::new();
     text.extend(buffer.format(n).as_bytes())

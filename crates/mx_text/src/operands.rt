@@ -54,7 +54,7 @@ pub(crate) fn add_operand(text: &mut Bytes, operand: Operand) -> Result<(), NoMe
 {
     match operand {
         Operand::Register(k) => add_register(text, k),
-        Operand::Number(n) => add_decimal(text, n),
+        Operand::Number(n) => add_decimal(text, u64::from(n)),
         Operand::Address(a) => text.extend(&octa_hex(a)),
     }
 }

@@ -8,11 +8,11 @@ use Rattle.mx_host.proofs.Keeping.{keeps-then, keeps-all}
 use Rattle.mx_plan.proofs.Standing.{only-behind, rose-on, stands-kept}
 use Rattle.mx_words.specs.declared.order.Order.{Order}
 use Rattle.mx_words.specs.declared.order.WordsFault.{WordsFault}
-use Rattle.mx_files.specs.Answers.{is_usage}
+use Rattle.mx_outcome.specs.Kinds.{is_usage}
 use Rattle.mx_files.specs.Clauses.{Works, is_end}
 use Rattle.mx_files.specs.FilePlans.{lines_plan}
-use Rattle.mx_files.specs.declared.outcome.Outcome.{Outcome}
-use Rattle.mx_files.specs.declared.outcome.Outcome.TheVariants.{HostFault, NoFile, OutOfMemory, Usage}
+use Rattle.mx_outcome.specs.declared.outcome.Outcome.{Outcome}
+use Rattle.mx_outcome.specs.declared.outcome.Outcome.TheVariants.{HostFault, NoFile, OutOfMemory, Usage}
 use Rattle.mx_files.proofs.FileClauses.{part-keeps}
 use Rattle.mx_files.proofs.Serving.{only-lines}
 use Rattle.mx_top.specs.Arguments.{Word}

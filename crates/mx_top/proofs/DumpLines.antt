@@ -5,7 +5,7 @@ use Rattle.std.specs.Prelude.{Result}
 use Rattle.mx_host.specs.HostModel.{HostModel}
 use Rattle.mx_core.specs.State.{State}
 use Rattle.mx_top.specs.Dump.{Line, special_line, special_lines, register_line, register_lines, octa_line, octa_lines, dump_lines, octa_count}
-use Rattle.mx_files.specs.declared.outcome.Outcome.{Outcome}
+use Rattle.mx_outcome.specs.declared.outcome.Outcome.{Outcome}
 use Rattle.mx_top.specs.Shown.{AreHidden, IsNextShown, shown_octa}
 use Rattle.mx_files.proofs.WrittenLines.{Writes, writes-none, writes-then, writes-ended}
 

@@ -9,12 +9,13 @@ use Rattle.mx_plan.specs.Plan.{returns, end_after}
 use Rattle.mx_plan.proofs.Plans.{end_bind, end_returns, stops_first}
 use Rattle.mx_core.specs.Bounds.{as_list_state}
 use Rattle.mx_core.specs.State.{State}
-use Rattle.mx_files.specs.Answers.{answered, after_lines, leaves_machine}
+use Rattle.mx_files.specs.Answers.{answered, after_lines}
+use Rattle.mx_outcome.specs.Kinds.{leaves_machine}
 use Rattle.mx_files.specs.Clauses.{Works, part_of}
 use Rattle.mx_files.specs.FilePlans.{lines_plan}
 use Rattle.mx_files.specs.Lines.{lines_put}
-use Rattle.mx_files.specs.declared.outcome.Outcome.{Outcome}
-use Rattle.mx_files.specs.declared.outcome.Outcome.TheVariants.{HostFault, OutOfMemory}
+use Rattle.mx_outcome.specs.declared.outcome.Outcome.{Outcome}
+use Rattle.mx_outcome.specs.declared.outcome.Outcome.TheVariants.{HostFault, OutOfMemory}
 use Rattle.mx_files.proofs.FileEnds.{lines-end}
 use Rattle.mx_top.specs.Dump.{dump_lines}
 use Rattle.mx_top.specs.ProductPlan.{written_with, telling, dumped_plan}

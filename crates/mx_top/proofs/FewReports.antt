@@ -9,7 +9,7 @@ use Rattle.mx_watch.specs.Watching.{Watching}
 use Rattle.mx_watch.specs.declared.telling.Report.{Report}
 use Rattle.mx_words.specs.declared.order.Order.{Order}
 use Rattle.mx_words.specs.declared.order.WordsFault.{WordsFault}
-use Rattle.mx_files.specs.declared.outcome.Outcome.{Outcome}
+use Rattle.mx_outcome.specs.declared.outcome.Outcome.{Outcome}
 use Rattle.mx_top.specs.ProgramCalls.{ProgramPlan}
 use Rattle.mx_top.specs.Reports.{found_reports}
 use Rattle.mx_top.specs.WorkClauses.{Doing}

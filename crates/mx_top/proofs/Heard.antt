@@ -16,9 +16,10 @@ use Rattle.mx_watch.proofs.AllReported.{all-reported}
 use Rattle.mx_watch.proofs.HeardBy.{by-hears, nothing-heard}
 use Rattle.mx_words.specs.declared.order.Order.{Order}
 use Rattle.mx_words.specs.declared.order.WordsFault.{WordsFault}
-use Rattle.mx_files.specs.Answers.{Answer, answered, wild, after_lines, leaves_machine}
+use Rattle.mx_files.specs.Answers.{Answer, answered, wild, after_lines}
+use Rattle.mx_outcome.specs.Kinds.{leaves_machine}
 use Rattle.mx_files.specs.Lines.{lines_put}
-use Rattle.mx_files.specs.declared.outcome.Outcome.{Outcome}
+use Rattle.mx_outcome.specs.declared.outcome.Outcome.{Outcome}
 use Rattle.mx_top.specs.Arguments.{Word}
 use Rattle.mx_top.specs.Dump.{dump_lines}
 use Rattle.mx_top.specs.Reports.{UnlessWild, carried_traces, due_reports, found_reports}

@@ -19,8 +19,8 @@ use Rattle.mx_multi.specs.JointTurns.{JointWorld}
 use Rattle.mx_multi.specs.MultiPlans.{multi, turns_plan}
 use Rattle.mx_multi.specs.declared.end.MultiEnd.{MultiEnd}
 use Rattle.mx_multi.specs.declared.end.MultiEnd.TheVariants as turning
-use Rattle.mx_files.specs.declared.outcome.Outcome.{Outcome}
-use Rattle.mx_files.specs.declared.outcome.Outcome.TheVariants.{OutOfMemory}
+use Rattle.mx_outcome.specs.declared.outcome.Outcome.{Outcome}
+use Rattle.mx_outcome.specs.declared.outcome.Outcome.TheVariants.{OutOfMemory}
 use Rattle.mx_top.specs.ProgramCalls.{program, on_host, steps_plan, reported_plan, keeping_plan, sitting_plan, turns_made, RunStops, BehindStep}
 use Rattle.mx_top.specs.Runs.{outcome_of, session_outcome}
 use Rattle.mx_top.proofs.PlainEnds.{ended-well}

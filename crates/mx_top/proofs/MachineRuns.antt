@@ -11,7 +11,7 @@ use Rattle.mx_word.specs.Lists.{IsFront}
 use Rattle.mx_word.proofs.Fronts.{front-through}
 use Rattle.mx_files.specs.Answers.{Answer, answered, wild, GoesAs}
 use Rattle.mx_top.specs.Runs.{Ran, ran, ran_wild, ran_to, machine_ran, outcome_of}
-use Rattle.mx_files.specs.declared.outcome.Outcome.{Outcome}
+use Rattle.mx_outcome.specs.declared.outcome.Outcome.{Outcome}
 
 -- what an answer is goes as it
 pub goes-as : (a : Answer) (result : Outcome) (new : HostModel) → answered result new ≡ a → GoesAs a result new

@@ -3,7 +3,7 @@ use Rattle.std.proofs.Common.{◌≡◌, ap}
 use Rattle.mx_host.specs.HostModel.{HostModel}
 use Rattle.mx_host.specs.HostAnswer.{Then}
 use Rattle.mx_files.specs.Answers.{answered, plainly, GoesAs}
-use Rattle.mx_files.specs.declared.outcome.Outcome.{Outcome}
+use Rattle.mx_outcome.specs.declared.outcome.Outcome.{Outcome}
 
 pub plain-answer : (result : Outcome) (new : HostModel) (t : Then Outcome) → (result, new) ≡ t → answered result new ≡ plainly t
 plain-answer result new t e = ap plainly e

@@ -30,18 +30,19 @@ use Rattle.mx_words.specs.declared.order.Command.TheVariants.{Run, Asm, Sim, Gen
 use Rattle.mx_words.specs.declared.order.Order.{Order}
 use Rattle.mx_words.specs.declared.order.WordsFault.{WordsFault}
 use Rattle.law_gen.specs.Generator.{generated}
-use Rattle.mx_files.specs.Answers.{Answer, answered, plainly, after_lines, leaves_machine}
+use Rattle.mx_files.specs.Answers.{Answer, answered, plainly, after_lines}
+use Rattle.mx_outcome.specs.Kinds.{leaves_machine}
 use Rattle.mx_files.specs.Clauses.{part_of}
 use Rattle.mx_files.specs.FilePlans.{Part, file_plan, lines_plan, on_ok}
 use Rattle.mx_files.specs.Lines.{lines_put}
-use Rattle.mx_files.specs.Messages.{message_of}
+use Rattle.mx_outcome.specs.Messages.{message_of}
 use Rattle.mx_files.specs.ObjectPlans.{assemble_plan, list_plan}
 use Rattle.mx_files.specs.Schedules.{schedule_in, schedule_from, schedule_bytes, schedule_plan}
 use Rattle.mx_files.specs.Source.{file_bytes}
 use Rattle.mx_files.specs.Sources.{source_meaning}
 use Rattle.mx_files.specs.declared.refusal.Refusal.{Refusal}
-use Rattle.mx_files.specs.declared.outcome.Outcome.{Outcome}
-use Rattle.mx_files.specs.declared.outcome.Outcome.TheVariants.{Done, Usage, NoFile, HostFault, Refused, BadObject, BadSchedule, Stopped, StepsSpent, Quit, ConsoleLimit, OutOfMemory}
+use Rattle.mx_outcome.specs.declared.outcome.Outcome.{Outcome}
+use Rattle.mx_outcome.specs.declared.outcome.Outcome.TheVariants.{Done, Usage, NoFile, HostFault, Refused, BadObject, BadSchedule, Stopped, StepsSpent, Quit, ConsoleLimit, OutOfMemory}
 use Rattle.mx_files.proofs.FileEnds.{file-end, lines-end, assemble-end, list-end}
 use Rattle.mx_top.specs.Arguments.{Word, word_at, arguments}
 use Rattle.mx_top.specs.Dump.{dump_lines}

@@ -10,9 +10,9 @@ use Rattle.mx_plan.specs.Calls.{host, HostPlan, need, write_plan}
 use Rattle.mx_plan.specs.Clauses.{CarriesOut}
 use Rattle.mx_plan.specs.Plan.{returns, bind, end_of, end_after, Stops, IsRest}
 use Rattle.mx_plan.proofs.Plans.{end_bind, end_returns, stops_first, rest_after}
-use Rattle.mx_files.specs.Messages.{message_of}
-use Rattle.mx_files.specs.declared.outcome.Outcome.{Outcome}
-use Rattle.mx_files.specs.declared.outcome.Outcome.TheVariants.{OutOfMemory}
+use Rattle.mx_outcome.specs.Messages.{message_of}
+use Rattle.mx_outcome.specs.declared.outcome.Outcome.{Outcome}
+use Rattle.mx_outcome.specs.declared.outcome.Outcome.TheVariants.{OutOfMemory}
 use Rattle.mx_files.specs.Answers.{answered, plainly}
 use Rattle.mx_top.specs.Product.{message_told}
 use Rattle.mx_top.specs.ProductPlan.{said_plan, message_if, message_plan, report_plan, reports_plan}

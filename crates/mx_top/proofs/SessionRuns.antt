@@ -13,8 +13,8 @@ use Rattle.mx_word.specs.Lists.{IsFront}
 use Rattle.mx_word.proofs.Fronts.{front-through}
 use Rattle.mx_files.specs.Answers.{Answer, answered, wild, GoesAs}
 use Rattle.mx_top.specs.Runs.{Ran, ran, ran_wild, played, session_ran, session_outcome, dumped}
-use Rattle.mx_files.specs.declared.outcome.Outcome.{Outcome}
-use Rattle.mx_files.specs.declared.outcome.Outcome.TheVariants.{HostFault}
+use Rattle.mx_outcome.specs.declared.outcome.Outcome.{Outcome}
+use Rattle.mx_outcome.specs.declared.outcome.Outcome.TheVariants.{HostFault}
 use Rattle.mx_top.proofs.MachineRuns.{goes-as}
 
 -- whether there was memory

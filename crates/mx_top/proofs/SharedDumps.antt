@@ -13,7 +13,7 @@ use Rattle.mx_multi.specs.Joint.{Joint, as_list_joint, has_halted, no_processor,
 use Rattle.mx_multi.specs.declared.end.MultiEnd.{MultiEnd}
 use Rattle.mx_ring.specs.Stack.{in_stack_area, register, stack_address}
 use Rattle.std.specs.Prelude.{Result}
-use Rattle.mx_files.specs.declared.outcome.Outcome.{Outcome}
+use Rattle.mx_outcome.specs.declared.outcome.Outcome.{Outcome}
 use Rattle.mx_files.proofs.WrittenLines.{Writes, writes-none, writes-then, writes-ended}
 use Rattle.mx_top.specs.Dump.{Line, is_address_shown, octa_line}
 use Rattle.mx_top.specs.Processors.{stop_text, processor_line, processor_lines, memory_alone, memory_lines, memory_if, multi_lines}

@@ -13,8 +13,8 @@ use Rattle.mx_start.specs.declared.fault.StartFault.{StartFault}
 use Rattle.mx_start.specs.declared.fault.StartFault.TheVariants.{PagesFull}
 use Rattle.mx_run.specs.WildRuns.{window_machine, list_machine}
 use Rattle.mx_top.specs.Runs.{main_address, pages_full, started}
-use Rattle.mx_files.specs.declared.outcome.Outcome.{Outcome}
-use Rattle.mx_files.specs.declared.outcome.Outcome.TheVariants.{Stopped}
+use Rattle.mx_outcome.specs.declared.outcome.Outcome.{Outcome}
+use Rattle.mx_outcome.specs.declared.outcome.Outcome.TheVariants.{Stopped}
 
 -- NOTHING IS TOUCHED
 

@@ -14,8 +14,8 @@ use Rattle.mx_core.specs.State.{State}
 use Rattle.mx_core.proofs.Same.Seen.{same-register}
 use Rattle.mx_top.specs.Product.{summary_put, summed}
 use Rattle.mx_top.specs.Runs.{ran}
-use Rattle.mx_files.specs.declared.outcome.Outcome.{Outcome}
-use Rattle.mx_files.specs.declared.outcome.Outcome.TheVariants.{Done, Usage, NoFile, HostFault, Refused, BadObject, BadSchedule, Stopped, StepsSpent, Quit, ConsoleLimit, OutOfMemory}
+use Rattle.mx_outcome.specs.declared.outcome.Outcome.{Outcome}
+use Rattle.mx_outcome.specs.declared.outcome.Outcome.TheVariants.{Done, Usage, NoFile, HostFault, Refused, BadObject, BadSchedule, Stopped, StepsSpent, Quit, ConsoleLimit, OutOfMemory}
 
 -- that of the list is the same
 pub summed-listed : (blocks size : ℕ) (outcome : Outcome) (s : State) (m : HostModel) → summed blocks size (ran outcome (as_list_state s) m) ≡ summed blocks size (ran outcome s m)

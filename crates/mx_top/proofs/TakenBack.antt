@@ -29,8 +29,8 @@ use Rattle.mx_files.specs.Answers.{Answer, answered, AnswersAsList, GoesAs, afte
 use Rattle.mx_files.specs.Clauses.{Works, part_of}
 use Rattle.mx_files.specs.FilePlans.{lines_plan}
 use Rattle.mx_files.specs.Lines.{lines_put}
-use Rattle.mx_files.specs.declared.outcome.Outcome.{Outcome}
-use Rattle.mx_files.specs.declared.outcome.Outcome.TheVariants.{HostFault, OutOfMemory}
+use Rattle.mx_outcome.specs.declared.outcome.Outcome.{Outcome}
+use Rattle.mx_outcome.specs.declared.outcome.Outcome.TheVariants.{HostFault, OutOfMemory}
 use Rattle.mx_files.proofs.FileEnds.{lines-end}
 use Rattle.mx_top.specs.Dump.{dump_lines}
 use Rattle.mx_top.specs.ProductPlan.{then_dumped, dumped_plan, back_plan}

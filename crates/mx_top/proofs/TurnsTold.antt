@@ -10,8 +10,8 @@ use Rattle.mx_word.specs.Lists.{IsFront}
 use Rattle.mx_word.proofs.Fronts.{front-through}
 use Rattle.mx_files.specs.Answers.{answered, GoesAs, after_lines}
 use Rattle.mx_files.specs.Lines.{lines_put}
-use Rattle.mx_files.specs.declared.outcome.Outcome.{Outcome}
-use Rattle.mx_files.specs.declared.outcome.Outcome.TheVariants.{OutOfMemory}
+use Rattle.mx_outcome.specs.declared.outcome.Outcome.{Outcome}
+use Rattle.mx_outcome.specs.declared.outcome.Outcome.TheVariants.{OutOfMemory}
 use Rattle.mx_top.specs.Processors.{multi_outcome, turns_told}
 use Rattle.mx_top.proofs.MachineRuns.{goes-as}
 use Rattle.mx_top.proofs.SharedDumps.{same-lines}

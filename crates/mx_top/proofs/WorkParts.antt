@@ -23,8 +23,8 @@ use Rattle.mx_files.specs.ObjectPlans.{assemble_plan, list_plan}
 use Rattle.mx_files.specs.Schedules.{schedule_plan}
 use Rattle.mx_files.specs.Sources.{source_meaning}
 use Rattle.mx_files.specs.declared.refusal.Refusal.{Refusal}
-use Rattle.mx_files.specs.declared.outcome.Outcome.{Outcome}
-use Rattle.mx_files.specs.declared.outcome.Outcome.TheVariants.{Usage, BadObject, OutOfMemory}
+use Rattle.mx_outcome.specs.declared.outcome.Outcome.{Outcome}
+use Rattle.mx_outcome.specs.declared.outcome.Outcome.TheVariants.{Usage, BadObject, OutOfMemory}
 use Rattle.mx_top.specs.Arguments.{Word, word_at, arguments}
 use Rattle.mx_top.specs.Processors.{processors_named, joint_run, image_turns}
 use Rattle.mx_top.specs.ProgramCalls.{ProgramPlan}

@@ -7,8 +7,8 @@ use Rattle.mx_plan.specs.Clauses.{CarriesOut}
 use Rattle.mx_plan.specs.Plan.{returns, calls, bind, end_of, end_after, Stops, StopsAfter, Comes}
 use Rattle.mx_plan.proofs.Plans.{end_bind, end_returns, stops_first, stops_after}
 use Rattle.mx_files.specs.FilePlans.{Part}
-use Rattle.mx_files.specs.declared.outcome.Outcome.{Outcome}
-use Rattle.mx_files.specs.declared.outcome.Outcome.TheVariants.{OutOfMemory}
+use Rattle.mx_outcome.specs.declared.outcome.Outcome.{Outcome}
+use Rattle.mx_outcome.specs.declared.outcome.Outcome.TheVariants.{OutOfMemory}
 use Rattle.mx_top.specs.ProgramCalls.{program, ProgramPlan, on_host}
 use Rattle.mx_top.specs.ProductPlan.{taking, on_part}
 use Rattle.mx_top.specs.WorkClauses.{CarriesOutWork}

@@ -5,9 +5,9 @@ use Rattle.mx_host.specs.HostModel.{HostModel}
 use Rattle.mx_host.specs.Keeping.{ComesByFault, Keeps, OnlyByFailure}
 use Rattle.mx_words.specs.Orders.{order_of}
 use Rattle.mx_words.specs.declared.order.WordsFault.{WordsFault}
-use Rattle.mx_files.specs.Answers.{is_usage}
-use Rattle.mx_files.specs.declared.outcome.Outcome.{Outcome}
-use Rattle.mx_files.specs.declared.outcome.Outcome.TheVariants.{HostFault, NoFile, OutOfMemory, Usage}
+use Rattle.mx_outcome.specs.Kinds.{is_usage}
+use Rattle.mx_outcome.specs.declared.outcome.Outcome.{Outcome}
+use Rattle.mx_outcome.specs.declared.outcome.Outcome.TheVariants.{HostFault, NoFile, OutOfMemory, Usage}
 use Rattle.mx_top.specs.Arguments.{Word}
 
 -- A part of the work fails only so: where slots 258 and 259 lead to the tool's streams, the host is at fault only where a call

@@ -18,7 +18,7 @@ use Rattle.mx_files.specs.Answers.{Answer, answered, wild, plainly, and_then, af
 use Rattle.mx_top.specs.Arguments.{Word, word_at, arguments}
 use Rattle.law_gen.specs.Generator.{generated, summary}
 use Rattle.mx_files.specs.Lines.{lines_put}
-use Rattle.mx_files.specs.Messages.{message_of}
+use Rattle.mx_outcome.specs.Messages.{message_of}
 use Rattle.mx_files.specs.Assembling.{refused_with, after_reading}
 use Rattle.mx_top.specs.Runs.{Ran, ran, ran_wild, machine_ran, started, image_run}
 use Rattle.mx_top.specs.Processors.{image_turns}
@@ -27,8 +27,8 @@ use Rattle.mx_files.specs.Source.{file_bytes, source_pieces, object_pieces}
 use Rattle.mx_files.specs.Sources.{source_meaning}
 use Rattle.mx_files.specs.Typed.{after_typing}
 use Rattle.mx_files.specs.declared.refusal.Refusal.{Refusal}
-use Rattle.mx_files.specs.declared.outcome.Outcome.{Outcome}
-use Rattle.mx_files.specs.declared.outcome.Outcome.TheVariants.{Done, Usage, BadObject}
+use Rattle.mx_outcome.specs.declared.outcome.Outcome.{Outcome}
+use Rattle.mx_outcome.specs.declared.outcome.Outcome.TheVariants.{Done, Usage, BadObject}
 
 -- ---- `run` and `sim`
 

@@ -22,8 +22,8 @@ use Rattle.mx_words.specs.declared.order.WordsFault.{WordsFault}
 use Rattle.mx_files.specs.Answers.{Answer, answered, wild, and_then}
 use Rattle.mx_files.specs.Source.{file_bytes, source_pieces, object_pieces}
 use Rattle.mx_files.specs.Sources.{source_meaning}
-use Rattle.mx_files.specs.declared.outcome.Outcome.{Outcome}
-use Rattle.mx_files.specs.declared.outcome.Outcome.TheVariants.{OutOfMemory}
+use Rattle.mx_outcome.specs.declared.outcome.Outcome.{Outcome}
+use Rattle.mx_outcome.specs.declared.outcome.Outcome.TheVariants.{OutOfMemory}
 use Rattle.mx_files.specs.declared.refusal.Refusal.{Refusal}
 use Rattle.mx_top.specs.Arguments.{Word, word_at, arguments}
 use Rattle.mx_top.specs.Product.{product}

@@ -20,11 +20,12 @@ use Rattle.mx_con.specs.Session.{SessionRun, session_ended, session_wild, sessio
 use Rattle.mx_con.specs.declared.end.SessionEnd.{SessionEnd}
 use Rattle.mx_con.specs.declared.end.SessionEnd.TheVariants as sitting
 use Rattle.mx_words.specs.declared.order.Order.{Order}
-use Rattle.mx_files.specs.Answers.{Answer, answered, wild, leaves_machine, after_lines}
+use Rattle.mx_files.specs.Answers.{Answer, answered, wild, after_lines}
+use Rattle.mx_outcome.specs.Kinds.{leaves_machine}
 use Rattle.mx_top.specs.Dump.{Line, dump_lines}
 use Rattle.mx_files.specs.Lines.{lines_put}
-use Rattle.mx_files.specs.declared.outcome.Outcome.{Outcome}
-use Rattle.mx_files.specs.declared.outcome.Outcome.TheVariants.{Done, HostFault, Stopped, StepsSpent, Quit, ConsoleLimit, OutOfMemory}
+use Rattle.mx_outcome.specs.declared.outcome.Outcome.{Outcome}
+use Rattle.mx_outcome.specs.declared.outcome.Outcome.TheVariants.{Done, HostFault, Stopped, StepsSpent, Quit, ConsoleLimit, OutOfMemory}
 
 -- the register stack at the start: a ring of so many registers, or a list
 abbrev pub stack_at_start : MachineKind → ℕ → Stack

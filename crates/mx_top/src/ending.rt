@@ -4,14 +4,15 @@ ghost use Rattle.std.specs.Prelude.{◌≡◌, ◌≢◌, ◌&&◌, false};
 ghost use Rattle.mx_core.specs.Bounds.{as_list_state};
 ghost use Rattle.mx_core.specs.Kept.{state_of};
 ghost use Rattle.mx_plan.specs.Clauses.{CarriesOut};
-ghost use Rattle.mx_files.specs.Answers.{AnswersAs, is_usage, leaves_machine};
+ghost use Rattle.mx_files.specs.Answers.{AnswersAs};
+ghost use Rattle.mx_outcome.specs.Kinds.{is_usage, leaves_machine};
 ghost use Rattle.mx_top.specs.Causes.{FailsOnlyBy};
 ghost use Rattle.mx_top.specs.ProductPlan as plans;
 ghost use Rattle.mx_top.specs.Runs as spec;
 
 use crate::dump::dump;
 use mx_core::Machine;
-use mx_files::Outcome;
+use mx_outcome::Outcome;
 use mx_host::Host;
 use std::alloc::Global;
 

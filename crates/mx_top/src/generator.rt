@@ -3,7 +3,7 @@
 ghost use Rattle.std.specs.Prelude.{◌≡◌, ◌≤◌, ◌<◌, ◌+◌, ◌++◌, ◌^◌, OnOk, IfOk, codes, decimal};
 ghost use Rattle.law_gen.specs.Generator as spec;
 
-use mx_files::add_decimal;
+use mx_text::add_decimal;
 use mx_word::{Bytes, NoMemory};
 use std::alloc::Global;
 

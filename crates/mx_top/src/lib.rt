@@ -17,5 +17,5 @@ mod schedules;
 mod top;
 
 pub use laws::work_is_its_plan;
-pub use mx_files::{Outcome, fault_name, usage_name};
+pub use mx_outcome::{Outcome, fault_name, usage_name};
 pub use top::{mmixware, mmixware_watched};

@@ -15,7 +15,8 @@ ghost use Rattle.mx_top.specs.ProductPlan as plans;
 ghost use Rattle.mx_top.specs.WorkClauses.{CarriesOutWork};
 
 use crate::run::run_image;
-use mx_files::{OBJECT_PIECES, Outcome, read_file};
+use mx_files::{OBJECT_PIECES, read_file};
+use mx_outcome::Outcome;
 use mx_host::Host;
 use mx_load::{ObjectFault, load_object};
 use mx_watch::{Reports, Watcher};

@@ -13,7 +13,7 @@ pub(crate) fn add_counted(text: &mut Bytes, word: &[u8], n: u16) -> Result<(), N
     ensures { OnOk result (text.new ≡ text.old ++ spec.ended (word.now ++ decimal n)) }
 {
     text.extend(word)?;
-    add_decimal(text, u32::from(n))?;
+    add_decimal(text, u64::from(n))?;
     text.push(b'\n')
 }
 

@@ -75,7 +75,7 @@ fn add_far(text: &mut Bytes, bits: u8, word: u32) -> Result<(), NoMemory>
     ensures { OnOk result (text.new ≡ text.old ++ spec.item_text 0 (Item.FixFar bits word)) }
 {
     text.extend(b"fixrx ")?;
-    add_decimal(text, u32::from(bits))?;
+    add_decimal(text, u64::from(bits))?;
     add_tetra(text, word)?;
     text.push(b'\n')
 }
@@ -85,7 +85,7 @@ fn add_file(text: &mut Bytes, number: u8, name: &Option<Bytes>) -> Result<(), No
     ensures { OnOk result (text.new ≡ text.old ++ spec.item_text 0 (Item.File number name.now)) }
 {
     text.extend(b"file ")?;
-    add_decimal(text, u32::from(number))?;
+    add_decimal(text, u64::from(number))?;
     add_name(text, name)?;
     text.push(b'\n')
 }
@@ -115,7 +115,7 @@ fn add_post(text: &mut Bytes, g: u8, values: &[u64]) -> Result<(), NoMemory>
     ensures { OnOk result (text.new ≡ text.old ++ spec.item_text 0 (Item.Post g values.now)) }
 {
     text.extend(b"post ")?;
-    add_decimal(text, u32::from(g))?;
+    add_decimal(text, u64::from(g))?;
     add_octas(text, values)?;
     text.push(b'\n')
 }

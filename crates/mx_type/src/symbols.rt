@@ -49,7 +49,7 @@ pub(crate) fn add_symbol(text: &mut Bytes, symbol: &Symbol) -> Result<(), NoMemo
     text.push(b' ')?;
     add_value(text, symbol.value)?;
     text.push(b' ')?;
-    add_decimal(text, symbol.serial)?;
+    add_decimal(text, u64::from(symbol.serial))?;
     text.push(b'\n')
 }
 
@@ -78,7 +78,7 @@ fn add_value(text: &mut Bytes, value: Value) -> Result<(), NoMemory>
         Value::Pure(x) => text.extend(&octa_hex(x)),
         Value::Reg(k) => {
             text.push(b'$')?;
-            add_decimal(text, u32::from(k))
+            add_decimal(text, u64::from(k))
         }
     }
 }

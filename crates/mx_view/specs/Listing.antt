@@ -12,7 +12,7 @@ use Rattle.mx_type.specs.Lines.{ended, symbol_line}
 use Rattle.mx_asm.specs.Faults.{fault_number}
 use Rattle.mx_asm.specs.Whole.{Line, lines_items, lines_refusal, assembled_source}
 use Rattle.mx_asm.specs.declared.refused.Refused.{Refused}
-use Rattle.mx_files.specs.Messages.{refused_text}
+use Rattle.mx_outcome.specs.Messages.{refused_text}
 use Rattle.mx_files.specs.Sources.{source_meaning}
 use Rattle.mx_view.specs.declared.cells.Cell.{Cell}
 use Rattle.mx_view.specs.declared.cells.Wanted.{Wanted}

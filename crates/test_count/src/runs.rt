@@ -1,7 +1,7 @@
 //! Runs that are counted, over the host in memory: what stands on standard output, the outcome, and the sheet.
 
 use mx_count::{Counted, arguments, count_file};
-use mx_files::Outcome;
+use mx_outcome::Outcome;
 use mx_host::MemHost;
 use mx_words::read;
 use std::alloc::Global;

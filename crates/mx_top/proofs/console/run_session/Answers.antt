@@ -5,7 +5,7 @@ use Rattle.mx_con.specs.declared.end.SessionEnd.TheVariants as sitting
 use Rattle.mx_core.specs.Bounds.{as_list_state}
 use Rattle.mx_core.specs.Kept.{Kept, state_of}
 use Rattle.mx_top.specs.Runs.{dumped, session_outcome}
-use Rattle.mx_files.specs.declared.outcome.Outcome.TheVariants.{HostFault}
+use Rattle.mx_outcome.specs.declared.outcome.Outcome.TheVariants.{HostFault}
 use Rattle.mx_word.proofs.Fronts.{front-self}
 use Rattle.mx_top.proofs.SessionRuns.{dumped-fault, list-played}
 use Rattle.mx_top.specs.ProductPlan.{session_played, dumped_plan}

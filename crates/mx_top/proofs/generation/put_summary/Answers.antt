@@ -2,7 +2,7 @@ use Rattle.std.proofs.Common.{[], ◌∷◌, refl}
 use Rattle.mx_core.specs.Kept.{state_of}
 use Rattle.mx_ring.specs.Stack.{register}
 use Rattle.law_gen.specs.Generator.{summary}
-use Rattle.mx_files.specs.declared.outcome.Outcome.TheVariants.{Done}
+use Rattle.mx_outcome.specs.declared.outcome.Outcome.TheVariants.{Done}
 use Rattle.mx_files.proofs.WrittenLines.{writes-line, writes-lacking}
 use Rattle.mx_top.proofs.Dumped.{written-plan, written-answer}
 use Rattle.mx_top.proofs.Caused.{fails-lines, fails-written}

@@ -1,6 +1,6 @@
 use Rattle.std.proofs.Common.{Err, ap, sym, ◌∙◌}
 use Rattle.mx_host.proofs.Keeping.{keeps-all}
-use Rattle.mx_files.specs.declared.outcome.Outcome.TheVariants.{Usage}
+use Rattle.mx_outcome.specs.declared.outcome.Outcome.TheVariants.{Usage}
 use Rattle.mx_top.proofs.WorkParts.{usage-plan}
 use Rattle.mx_top.proofs.Caused.{not-usage, same-words, same-usage}
 use Rattle.mx_top.proofs.top.carry_out.Goals as goal

@@ -4,7 +4,7 @@ use Rattle.std.proofs.lemmas.List.{length-map}
 use Rattle.mx_host.specs.HostModel.{contents}
 use Rattle.mx_run.specs.WildRuns.{window_machine, list_machine}
 use Rattle.mx_words.specs.Orders.{order_of}
-use Rattle.mx_files.specs.declared.outcome.Outcome.TheVariants.{OutOfMemory}
+use Rattle.mx_outcome.specs.declared.outcome.Outcome.TheVariants.{OutOfMemory}
 use Rattle.mx_top.specs.Product.{carried_out}
 use Rattle.mx_top.proofs.Heard.{found-due, from-none, left-of, unless-by}
 use Rattle.mx_top.proofs.Reported.{reported, reported-goes}

@@ -1,7 +1,7 @@
 //! The names of faults, of the reasons of a stop, and of the kinds of faulty words.
 
 ghost use Rattle.std.specs.Prelude.{◌≡◌};
-ghost use Rattle.mx_files.specs.Names as spec;
+ghost use Rattle.mx_outcome.specs.Names as spec;
 
 /// The name of a fault or of the reason of a stop, by its number; other numbers have the empty text.
 pub fn fault_name(number: u16) -> &'static str

@@ -1,6 +1,6 @@
 use Rattle.std.proofs.Common.{◌≡◌, ◌≢◌, ℕ, List, [], ◌∷◌, ◌++◌, OnErr, Ok, Err, codes, decimal}
 use Rattle.std.specs.Prelude.{Result}
-use Rattle.mx_files.proofs.messages.message.Goals as goal
+use Rattle.mx_outcome.proofs.messages.message.Goals as goal
 
 never-empty : (xs : List ℕ) (y : ℕ) (ys : List ℕ) → xs ++ (y ∷ ys) ≢ []
 never-empty [] y ys = λ e. absurd (cc)

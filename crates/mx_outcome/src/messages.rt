@@ -1,23 +1,14 @@
 //! The line that tells an outcome.
 
 ghost use Rattle.std.specs.Prelude.{IsTrue, ◌≡◌, ◌≢◌, ◌≤◌, ◌++◌, ◌<◌, OnOk, IfOk, OnErr, [], codes, decimal};
-ghost use Rattle.mx_files.specs.Messages as spec;
+ghost use Rattle.mx_outcome.specs.Messages as spec;
 
 use crate::names::{fault_name, usage_name};
 use crate::outcome::Outcome;
-use itoa::Buffer;
-use mx_text::octa_hex;
+use mx_text::{add_decimal, octa_hex};
 use mx_word::{Bytes, NoMemory};
 use mx_words::WordsFault;
 use std::alloc::Global;
-
-/// Adds a number in decimal digits.
-pub fn add_decimal(text: &mut Bytes, n: u64) -> Result<(), NoMemory>
-    ensures { OnOk result (text.new ≡ text.old ++ decimal n) }
-{
-    let mut buffer = Buffer::new();
-    text.extend(buffer.format(n).as_bytes())
-}
 
 /// Adds the number and the name of a fault.
 fn add_fault(text: &mut Bytes, number: u16) -> Result<(), NoMemory>

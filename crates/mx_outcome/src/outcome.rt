@@ -1,8 +1,8 @@
 //! What a run of the program comes to.
 
 ghost use Rattle.std.specs.Prelude.{◌≡◌};
-ghost use Rattle.mx_files.specs.Answers.{leaves_machine};
-ghost use Rattle.mx_files.specs.Status.{status_of};
+ghost use Rattle.mx_outcome.specs.Kinds.{leaves_machine};
+ghost use Rattle.mx_outcome.specs.Status.{status_of};
 
 use mx_words::WordsFault;
 

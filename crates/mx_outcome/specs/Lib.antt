@@ -1,0 +1,4 @@
+pub mod Kinds
+pub mod Status
+pub mod Names
+pub mod Messages

@@ -1,0 +1,10 @@
+//! What a run of the program comes to: outcomes, their statuses, and the line that tells each.
+#![tactic(auto)]
+
+mod messages;
+mod names;
+mod outcome;
+
+pub use messages::message;
+pub use names::{fault_name, usage_name};
+pub use outcome::Outcome;
