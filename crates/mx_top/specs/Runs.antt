@@ -15,7 +15,7 @@ use Rattle.mx_run.specs.declared.end.End.{End}
 use Rattle.mx_run.specs.declared.end.End.TheVariants as ending
 use Rattle.mx_back.specs.History.{states_kept}
 use Rattle.mx_back.specs.KeptRuns.{turns_of}
-use Rattle.mx_con.specs.ConsoleTexts.{ended, state_text}
+use Rattle.mx_show.specs.Texts.{ended, state_text}
 use Rattle.mx_con.specs.Session.{SessionRun, session_ended, session_wild, session}
 use Rattle.mx_con.specs.declared.end.SessionEnd.{SessionEnd}
 use Rattle.mx_con.specs.declared.end.SessionEnd.TheVariants as sitting

@@ -13,10 +13,9 @@ ghost use Rattle.mx_top.specs.Shown.{IsNextShown, shown_octa};
 use mx_cmd::special_name;
 use mx_core::Machine;
 use mx_files::write_line;
-use mx_outcome::Outcome;
-use mx_text::add_decimal;
 use mx_host::Host;
-use mx_text::octa_hex;
+use mx_outcome::Outcome;
+use mx_text::{add_decimal, octa_hex};
 use mx_word::{Bytes, NoMemory};
 use std::alloc::Global;
 

@@ -16,9 +16,9 @@ ghost use Rattle.mx_top.specs.WorkClauses.{CarriesOutWork};
 
 use crate::run::run_image;
 use mx_files::{OBJECT_PIECES, read_file};
-use mx_outcome::Outcome;
 use mx_host::Host;
 use mx_load::{ObjectFault, load_object};
+use mx_outcome::Outcome;
 use mx_watch::{Reports, Watcher};
 use mx_word::Bytes;
 use mx_words::Order;

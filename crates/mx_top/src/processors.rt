@@ -10,10 +10,10 @@ ghost use Rattle.mx_top.specs.Shown.{IsNextShown};
 
 use crate::dump::{is_in_stack_area, put_octa};
 use mx_files::write_line;
-use mx_outcome::Outcome;
-use mx_text::add_decimal;
 use mx_host::Host;
 use mx_multi::{Multi, MultiEnd};
+use mx_outcome::Outcome;
+use mx_text::add_decimal;
 use mx_word::{Bytes, NoMemory};
 use std::alloc::Global;
 

@@ -19,10 +19,10 @@ ghost use Rattle.mx_plan.specs.Clauses.{CarriesOut};
 
 use crate::processors::put_all;
 use mx_files::{OBJECT_PIECES, read_file, read_schedule};
-use mx_outcome::Outcome;
 use mx_host::Host;
 use mx_load::{Image, ObjectFault, load_object};
 use mx_multi::{Multi, MultiEnd, run_turns};
+use mx_outcome::Outcome;
 use mx_words::Order;
 use std::alloc::Global;
 

@@ -7,9 +7,8 @@ ghost use Rattle.mx_view.specs.Rows as spec;
 
 use crate::cells::{Cell, Wanted};
 use mx_files::SourceFault;
-use mx_text::add_decimal;
 use mx_load::Image;
-use mx_text::{octa_hex, tetra_hex};
+use mx_text::{add_decimal, octa_hex, tetra_hex};
 use mx_word::{Bytes, NoMemory};
 use std::alloc::Global;
 

@@ -3,18 +3,18 @@
 ghost use Rattle.std.specs.Prelude.{◌≡◌, ◌≢◌, ◌++◌, ◌<◌, Err, IfOk, OnOk, OnErr};
 ghost use Rattle.mx_core.specs.Way.Changed.{Changes};
 ghost use Rattle.mx_core.specs.Kept.{state_of};
-ghost use Rattle.mx_con.specs.Subjects as spec;
+ghost use Rattle.mx_show.specs.Subjects as spec;
 
-use crate::texts::{add_decimal, add_hex, octa_at};
+use crate::texts::{add_hex, octa_at};
 use mx_cmd::{Subject, special_name};
 use mx_core::{Machine, SetFault};
-use mx_text::{Form, shown};
+use mx_text::{Form, add_decimal, shown};
 use mx_word::{Bytes, NoMemory};
 use std::alloc::Global;
 
 /// The line that shows a subject.
 #[tactic(auto, unfolding(crate::specs::Subjects::shown_line))]
-pub(crate) fn shown_line(
+pub fn shown_line(
     alloc: Global,
     machine: &Machine,
     subject: Subject,
@@ -68,11 +68,7 @@ fn subject_value(machine: &Machine, subject: Subject) -> u64
 ///
 /// Errors: `NotAllowed` where that is refused, and out of memory; then nothing changed.
 #[tactic(auto, unfolding(crate::specs::Subjects::subject_changed))]
-pub(crate) fn set_subject(
-    machine: &mut Machine,
-    subject: Subject,
-    value: u64,
-) -> Result<(), SetFault>
+pub fn set_subject(machine: &mut Machine, subject: Subject, value: u64) -> Result<(), SetFault>
     requires { spec.IsSound subject }
     ensures ok { result ≢ Err SetFault.OutOfMemory →
         Changes (λ s. spec.subject_changed s subject value) result machine.old machine.new }
