@@ -18,7 +18,8 @@ ghost use Rattle.mx_top.specs.WorkClauses.{CarriesOutWork};
 ghost use Rattle.mx_plan.specs.Clauses.{CarriesOut};
 
 use crate::generator::{generated, summary};
-use crate::run::{outcome_of, start};
+use crate::run::outcome_of;
+use mx_begin::start;
 use mx_core::Machine;
 use mx_files::{SourceFault, load_source, write_line};
 use mx_host::Host;

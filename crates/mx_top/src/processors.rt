@@ -6,9 +6,9 @@ ghost use Rattle.mx_files.specs.Clauses.{Works};
 ghost use Rattle.mx_files.specs.FilePlans.{lines_plan};
 ghost use Rattle.mx_multi.specs.Joint.{joint_of, processor_count};
 ghost use Rattle.mx_top.specs.Processors as spec;
-ghost use Rattle.mx_top.specs.Shown.{IsNextShown};
+ghost use Rattle.mx_dump.specs.Shown.{IsNextShown};
 
-use crate::dump::{is_in_stack_area, put_octa};
+use mx_dump::{is_in_stack_area, put_octa};
 use mx_files::write_line;
 use mx_host::Host;
 use mx_multi::{Multi, MultiEnd};
