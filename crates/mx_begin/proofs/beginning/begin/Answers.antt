@@ -5,7 +5,7 @@ use Rattle.mx_run.specs.WildRuns.{window_machine, list_machine}
 use Rattle.mx_host.proofs.Keeping.{keeps-all}
 use Rattle.mx_word.specs.Results.{map_ok}
 use Rattle.mx_begin.proofs.Beginnings.{begun-carried, begun-uncarried, begun-lacks, begun-told, begun-untold}
-use Rattle.mx_begin.proofs.begin.begin.Goals as goal
+use Rattle.mx_begin.proofs.beginning.begin.Goals as goal
 
 -- ---- no memory for the arguments
 
