@@ -1,4 +1,4 @@
-use Rattle.std.proofs.Common.{Err, ap}
+use Rattle.std.proofs.Common.{ap}
 use Rattle.mx_load.specs.Kept.{image_of}
 use Rattle.mx_word.specs.Results.{map_ok}
 use Rattle.mx_begin.proofs.Beginnings.{image-carried, image-uncarried, image-told, image-untold}
