@@ -1,35 +1,30 @@
 -- A machine that begins, and what has begun: the same as a source, or an object, that is read and run.
-use Rattle.std.proofs.Common.{IsTrue, ◌≡◌, ◌≢◌, ℕ, List, Ok, Err, refl, sym, subst, ◌∙◌, ap}
-use Rattle.std.specs.Prelude.{Option, Result}
+use Rattle.std.proofs.Common.{◌≡◌, ℕ, List, Ok, Err, refl, subst}
+use Rattle.std.specs.Prelude.{Result}
 use Rattle.mx_host.specs.HostAnswer.{Then}
-use Rattle.mx_host.specs.HostModel.{HostModel, tells, contents}
-use Rattle.mx_host.specs.Keeping.{Answers}
+use Rattle.mx_host.specs.HostModel.{HostModel}
 use Rattle.mx_mmo.specs.Image.{Image}
 use Rattle.mx_load.specs.Objects.{object_loaded}
-use Rattle.mx_core.specs.State.{State}
-use Rattle.mx_run.specs.WildRuns.{MachineKind, window_machine, list_machine}
+use Rattle.mx_core.specs.declared.trace.Trace.{Trace}
+use Rattle.mx_run.specs.WildRuns.{MachineKind}
 use Rattle.mx_watch.specs.Hearing.{heard_by}
 use Rattle.mx_watch.specs.Watching.{Watching}
 use Rattle.mx_watch.specs.declared.telling.Report.{Report}
 use Rattle.mx_word.specs.declared.symbols.Symbol.{Symbol}
-use Rattle.mx_words.specs.declared.order.Command.{Command}
 use Rattle.mx_words.specs.declared.order.Command.TheVariants.{Run, Sim}
 use Rattle.mx_words.specs.declared.order.Order.{Order}
-use Rattle.mx_files.specs.Answers.{Answer, answered, GoesAs, AnswersAsList}
+use Rattle.mx_files.specs.Answers.{Answer, answered}
 use Rattle.mx_files.specs.Source.{file_bytes}
 use Rattle.mx_files.specs.Sources.{source_meaning}
 use Rattle.mx_files.specs.declared.refusal.Refusal.{Refusal}
 use Rattle.mx_outcome.specs.declared.outcome.Outcome.{Outcome}
-use Rattle.mx_outcome.specs.declared.outcome.Outcome.TheVariants.{OutOfMemory}
 use Rattle.mx_begin.specs.Arguments.{Word, word_at, arguments}
-use Rattle.mx_begin.specs.Begun.{assembled, loaded, image_after, image_read, started_after, begun}
-use Rattle.mx_begin.specs.declared.images.Form.{Form}
+use Rattle.mx_begin.specs.Begun.{assembled, loaded, image_after, started_after, begun}
 use Rattle.mx_begin.specs.declared.images.Form.TheVariants.{Source, Object}
 use Rattle.mx_top.specs.Halves.{begun_run, begun_traces}
 use Rattle.mx_top.specs.Processors.{image_turns}
 use Rattle.mx_top.specs.Product.{after_image, after_source, after_loading, after_object, loaded_turns, object_turns, ordered}
-use Rattle.mx_top.specs.Reports.{HearsAs, HearsAsList, HearsBoth, UnlessWild, meaning_traces, source_traces, loading_traces, object_traces, ordered_traces}
-use Rattle.mx_top.specs.Runs.{image_run}
+use Rattle.mx_top.specs.Reports.{UnlessWild, meaning_traces, source_traces, loading_traces, object_traces, ordered_traces}
 
 module _ (kind : MachineKind) (o : Order) (args : List Word) where
   source-run : (t : Then (Result (List ℕ) Outcome)) → begun_run kind o (started_after kind o.ring args (image_after Source t)) ≡ after_source kind o args t
@@ -78,7 +73,7 @@ pub sim-heard : (kind : MachineKind) (words : List Word) (o : Order) (m : HostMo
 sim-heard kind words o m = object-heard kind o (arguments words o) (file_bytes 16385 (word_at words o.file) m)
 
 -- an object that several processors run
-pub turned : MachineKind → Order → List ℕ → Then (Result Image Outcome) → Answer
+abbrev pub turned : MachineKind → Order → List ℕ → Then (Result Image Outcome) → Answer
 turned kind o schedule (Err outcome, m) = answered outcome m
 turned kind o schedule (Ok image, m) = image_turns kind o schedule image m
 
@@ -90,74 +85,11 @@ turned-same kind o schedule (Ok object, m) = by (object_loaded object)
     by (Err (place, fault)) = refl
     by (Ok (image, symbols)) = refl
 
--- ---- the clauses of what is done with a machine that has begun
+-- what is heard beside an answer, of another name for both
+pub joined : (a b : Answer) (h k : List Trace) (ws left : List Watching) (earlier later : List Report) → a ≡ b → h ≡ k → UnlessWild a ((left, later) ≡ heard_by h ws earlier) → UnlessWild b ((left, later) ≡ heard_by k ws earlier)
+joined a b h k ws left earlier later e f p =
+    subst (λ (x : Answer). UnlessWild x ((left, later) ≡ heard_by k ws earlier)) e (subst (λ (l : List Trace). UnlessWild a ((left, later) ≡ heard_by l ws earlier)) f p)
 
-module _ (a b c : Option HostModel) (result : Outcome) (words : List Word) (o : Order) (form : Form) where
-  pub begun-goes : (s : State) → tells b ≡ tells a → Answers a b (Err OutOfMemory) (Ok s) (λ m. begun list_machine words o form m) → AnswersAsList b c result (λ m. begun_run list_machine o (Ok s, m)) →
-      AnswersAsList a c result (λ m. begun_run list_machine o (begun list_machine words o form m))
-  begun-goes s e first second = λ t ne.
-      subst (λ (x : Then (Result State Outcome)). GoesAs (begun_run list_machine o x) result (contents c)) (first t (λ f. absurd (cc))) (second (subst IsTrue (sym e) t) ne)
+pub ruleset joins = (run-joins, sim-joins, run-heard, sim-heard)
 
-  pub begun-ends : Answers a c (Err OutOfMemory) (Err result) (λ m. begun list_machine words o form m) → AnswersAsList a c result (λ m. begun_run list_machine o (begun list_machine words o form m))
-  begun-ends first = λ t ne.
-      subst (λ (x : Then (Result State Outcome)). GoesAs (begun_run list_machine o x) result (contents c)) (first t (λ f. ne (cc))) (refl, refl)
-
-module _ (a b : Option HostModel) (result : Outcome) (ws left : List Watching) (earlier later : List Report) (words : List Word) (o : Order) (form : Form) where
-  pub begun-hears : (kind : MachineKind) (s : State) → tells b ≡ tells a → Answers a b (Err OutOfMemory) (Ok s) (λ m. begun kind words o form m) → HearsAs b result ws left earlier later (λ m. begun_traces kind o (Ok s, m)) →
-      HearsAs a result ws left earlier later (λ m. begun_traces kind o (begun kind words o form m))
-  begun-hears kind s e first second = λ t ne.
-      subst (λ (x : Then (Result State Outcome)). (left, later) ≡ heard_by (begun_traces kind o x) ws earlier) (first t (λ f. absurd (cc))) (second (subst IsTrue (sym e) t) ne)
-
-  pub begun-hears-list : (s : State) → tells b ≡ tells a → Answers a b (Err OutOfMemory) (Ok s) (λ m. begun list_machine words o form m) →
-      HearsAsList b result ws left earlier later (λ m. begun_run list_machine o (Ok s, m)) (λ m. begun_traces list_machine o (Ok s, m)) →
-      HearsAsList a result ws left earlier later (λ m. begun_run list_machine o (begun list_machine words o form m)) (λ m. begun_traces list_machine o (begun list_machine words o form m))
-  begun-hears-list s e first second = λ t ne.
-      subst (λ (x : Then (Result State Outcome)). UnlessWild (begun_run list_machine o x) ((left, later) ≡ heard_by (begun_traces list_machine o x) ws earlier)) (first t (λ f. absurd (cc))) (second (subst IsTrue (sym e) t) ne)
-
--- ---- and of turns by a schedule
-
-module _ (a b c : Option HostModel) (result : Outcome) (o : Order) (schedule : List ℕ) (name : Word) where
-  pub turns-go : (image : Image) → tells b ≡ tells a → Answers a b (Err OutOfMemory) (Ok image) (λ m. image_read Object name m) → AnswersAsList b c result (λ m. image_turns list_machine o schedule image m) →
-      AnswersAsList a c result (λ m. object_turns list_machine o schedule (file_bytes 16385 name m))
-  turns-go image e first second = λ t ne.
-      subst (λ (x : Answer). GoesAs x result (contents c)) (ap (turned list_machine o schedule) (first t (λ f. absurd (cc))) ∙ turned-same list_machine o schedule (file_bytes 16385 name (contents a)))
-      (second (subst IsTrue (sym e) t) ne)
-
-  pub turns-end : Answers a c (Err OutOfMemory) (Err result) (λ m. image_read Object name m) → AnswersAsList a c result (λ m. object_turns list_machine o schedule (file_bytes 16385 name m))
-  turns-end first = λ t ne.
-      subst (λ (x : Answer). GoesAs x result (contents c)) (ap (turned list_machine o schedule) (first t (λ f. ne (cc))) ∙ turned-same list_machine o schedule (file_bytes 16385 name (contents a))) (refl, refl)
-
--- ---- what is ordered
-
-module _ (a b : Option HostModel) (result : Outcome) (words : List Word) (o : Order) where
-  pub run-goes : o.command ≡ Run → AnswersAsList a b result (λ m. begun_run list_machine o (begun list_machine words o Source m)) → AnswersAsList a b result (λ m. ordered list_machine words o o.command m)
-  run-goes is h = λ t ne.
-      subst (λ (x : Command). GoesAs (ordered list_machine words o x (contents a)) result (contents b)) (sym is)
-      (subst (λ (x : Answer). GoesAs x result (contents b)) (run-joins list_machine words o (contents a)) (h t ne))
-
-  pub sim-goes : o.command ≡ Sim → AnswersAsList a b result (λ m. begun_run list_machine o (begun list_machine words o Object m)) → AnswersAsList a b result (λ m. ordered list_machine words o o.command m)
-  sim-goes is h = λ t ne.
-      subst (λ (x : Command). GoesAs (ordered list_machine words o x (contents a)) result (contents b)) (sym is)
-      (subst (λ (x : Answer). GoesAs x result (contents b)) (sim-joins list_machine words o (contents a)) (h t ne))
-
-module _ (a : Option HostModel) (result : Outcome) (ws left : List Watching) (earlier later : List Report) (words : List Word) (o : Order) where
-  abbrev HearsOrdered : Command → Type 0
-  HearsOrdered c =
-      HearsBoth a result ws left earlier later (λ m. ordered_traces window_machine words o c m) (λ m. ordered list_machine words o c m) (λ m. ordered_traces list_machine words o c m)
-
-  abbrev HearsBegun : Form → Type 0
-  HearsBegun form =
-      HearsBoth a result ws left earlier later (λ m. begun_traces window_machine o (begun window_machine words o form m))
-      (λ m. begun_run list_machine o (begun list_machine words o form m)) (λ m. begun_traces list_machine o (begun list_machine words o form m))
-
-  pub run-hears : o.command ≡ Run → HearsBegun Source → HearsOrdered o.command
-  run-hears is h = subst HearsOrdered (sym is) (
-    λ t ne. h.0 t ne ∙ ap (λ x. heard_by x ws earlier) (run-heard window_machine words o (contents a)),
-    λ t ne. rw (sym (run-joins list_machine words o (contents a)), sym (run-heard list_machine words o (contents a))) (h.1 t ne),
-  )
-
-  pub sim-hears : o.command ≡ Sim → HearsBegun Object → HearsOrdered o.command
-  sim-hears is h = subst HearsOrdered (sym is) (
-    λ t ne. h.0 t ne ∙ ap (λ x. heard_by x ws earlier) (sim-heard window_machine words o (contents a)),
-    λ t ne. rw (sym (sim-joins list_machine words o (contents a)), sym (sim-heard list_machine words o (contents a))) (h.1 t ne),
-  )
+pub ruleset turns = (turned-same)

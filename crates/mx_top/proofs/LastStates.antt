@@ -1,5 +1,5 @@
 -- States that come back, and their lines.
-use Rattle.std.proofs.Common.{◌≡◌, ◌≤◌, ◌<◌, ℕ, ◌+◌, ◌-◌, false, List, [], ◌∷◌, ◌++◌, length, take, drop, get_or, min, zero, suc, Ok, Err, arith, codes, decimal, refl, sym, ◌∙◌, ap, subst}
+use Rattle.std.proofs.Common.{◌≡◌, ◌≤◌, ◌<◌, ℕ, ◌+◌, false, List, [], ◌∷◌, ◌++◌, length, take, drop, get_or, min, zero, suc, Ok, Err, arith, codes, decimal, refl, sym, ◌∙◌, ap, subst}
 use Rattle.std.specs.Prelude.{Option, Result}
 use Rattle.std.proofs.lemmas.List.{drop_more, length-drop, map-append, take_min, take_more, take-append-drop}
 use Rattle.std.proofs.lemmas.Grind.{common_steps}

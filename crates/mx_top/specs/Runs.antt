@@ -1,16 +1,13 @@
 -- How an image is run: the machine starts, makes its steps, all in one run or at the console, takes its last ones back where
 -- that is asked for, and is told at the end where a dump is.
-use Rattle.std.specs.Prelude.{ℕ, ◌*◌, ◌/◌, ◌&&◌, Bool, true, false, if◌then◌else◌, List, [], ◌∷◌, map, take, Option, None, Some, Result, Ok, Err}
+use Rattle.std.specs.Prelude.{ℕ, ◌&&◌, Bool, true, false, if◌then◌else◌, List, [], ◌∷◌, map, take, Result, Ok, Err}
 use Rattle.mx_host.specs.HostModel.{HostModel}
 use Rattle.mx_host.specs.HostAnswer.{Then}
 use Rattle.mx_mmo.specs.Image.{Image}
-use Rattle.mx_ring.specs.RegisterList.{list_at_start}
-use Rattle.mx_ring.specs.Stack.{Stack, listed, windowed}
-use Rattle.mx_ring.specs.Window.{window_at_start}
-use Rattle.mx_start.specs.Start.{start}
+use Rattle.mx_begin.specs.Begun.{started}
 use Rattle.mx_core.specs.State.{State}
 use Rattle.mx_run.specs.Runs.{no_flags}
-use Rattle.mx_run.specs.WildRuns.{MachineKind, window_machine, list_machine, RunEnd, run_ended, run_wild, run_by}
+use Rattle.mx_run.specs.WildRuns.{MachineKind, RunEnd, run_ended, run_wild, run_by}
 use Rattle.mx_run.specs.declared.end.End.{End}
 use Rattle.mx_run.specs.declared.end.End.TheVariants as ending
 use Rattle.mx_back.specs.History.{states_kept}

@@ -63,7 +63,7 @@ fn run_ordered<H: Host>(
 }
 
 /// Does what the words order.
-#[tactic(auto, using(crate::proofs::PlainAnswers::plain, crate::proofs::Heard::silence))]
+#[tactic(auto, using(crate::proofs::PlainAnswers::plain, crate::proofs::Heard::silence, crate::proofs::Halves::joins))]
 fn carry_order<H: Host>(
     alloc: Global,
     words: &[String],
