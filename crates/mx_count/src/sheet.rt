@@ -9,8 +9,8 @@ ghost use Rattle.mx_count.specs.Sheets as spec;
 use crate::sums::{Sums, line_tally, sums_of, total};
 use crate::table::Entry;
 use crate::tally::Tally;
-use mx_text::add_decimal;
 use mx_line::cut_line;
+use mx_text::add_decimal;
 use mx_view::{Cell, add_numbered};
 use mx_word::{Bytes, NoMemory, Sequence};
 use std::alloc::Global;
@@ -85,7 +85,7 @@ fn add_row(
 }
 
 /// The tetras of the first line, and those of the others.
-fn next_load(loads: &[Sequence<Cell>]) -> (&[Cell], &[Sequence<Cell>])
+pub(crate) fn next_load(loads: &[Sequence<Cell>]) -> (&[Cell], &[Sequence<Cell>])
     ensures first { result.0.now ≡ spec.first_load loads.now }
     ensures others { result.1.now ≡ drop 1 loads.now }
 {
