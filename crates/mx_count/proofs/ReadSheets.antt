@@ -9,7 +9,7 @@ use Rattle.mx_view.specs.Loads.{loads_of}
 use Rattle.mx_view.specs.declared.cells.Cell.{Cell}
 use Rattle.mx_count.specs.Counting.{kept_tally}
 use Rattle.mx_count.specs.InTurn.{no_sums, sum_at, tally_by, with_entries}
-use Rattle.mx_count.specs.Reports.{AreOctas, behind_tally, data_read, first_tally, lines_read, report_data, report_of, sheet_bytes, tally_bytes}
+use Rattle.mx_count.specs.Reports.{HasOctas, behind_tally, data_read, first_tally, lines_read, report_data, report_of, sheet_bytes, tally_bytes}
 use Rattle.mx_count.specs.Sheets.{Counts, LineTally, counted_lines, first_load, is_among, line_tally, line_with, sheet_data}
 use Rattle.mx_count.specs.Tallies.{added, nothing, step_tally, tally_in}
 use Rattle.mx_count.specs.declared.counts.Form.TheVariants.{Octas}
@@ -46,11 +46,11 @@ pub ruleset lines = (read-next, read-none)
 
 -- ---- read again
 
-tally-back : (y : Tally) (more : List ℕ) → AreOctas y → octas_of (tally_bytes y ++ more) ≡ y.times ∷ y.away ∷ y.oops ∷ y.mems ∷ octas_of more
+tally-back : (y : Tally) (more : List ℕ) → HasOctas y → octas_of (tally_bytes y ++ more) ≡ y.times ∷ y.away ∷ y.oops ∷ y.mems ∷ octas_of more
 tally-back y more h =
     λ i. octa-back y.times h.times i ∷ octa-back y.away h.away i ∷ octa-back y.oops h.oops i ∷ octa-back y.mems h.mems i ∷ octas_of more
 
-lines-back : (tally : LineTally) (lines : List (List ℕ)) (loads : List (List Cell)) (n : ℕ) → ((cells : List Cell) → AreOctas (tally cells)) →
+lines-back : (tally : LineTally) (lines : List (List ℕ)) (loads : List (List Cell)) (n : ℕ) → ((cells : List Cell) → HasOctas (tally cells)) →
     lines_read n lines loads (octas_of (flat_map (λ cells. tally_bytes (tally cells)) loads)) ≡ counted_lines tally n lines loads
 unfolding lines_read counted_lines
 lines-back tally [] loads n fit = refl
@@ -60,7 +60,7 @@ lines-back tally (line ∷ lines) (cells ∷ loads) n fit =
       (tally-back (tally cells) (flat_map (λ cs. tally_bytes (tally cs)) loads) (fit cells))
     ∙ ap (λ more. line_with n line cells (tally cells) ∷ more) (lines-back tally lines loads (n + 1) fit)
 
-data-back : (source : List ℕ) (loads : List (List Cell)) (counts : Counts) → ((test : ℕ → Bool) → AreOctas (counts test)) →
+data-back : (source : List ℕ) (loads : List (List Cell)) (counts : Counts) → ((test : ℕ → Bool) → HasOctas (counts test)) →
     data_read source loads (octas_of (sheet_bytes loads counts)) ≡ sheet_data source loads counts
 unfolding sheet_bytes
 data-back source loads counts fit =
@@ -84,12 +84,12 @@ unfolding tally_in
 all-below test [] = record { times = omega arith; away = omega arith; oops = omega arith; mems = omega arith }
 all-below test (t ∷ ts) = one-below (test t.pc) (step_tally t) (tally_in test ts) (tally_in (λ a. true) ts) (all-below test ts)
 
-all-fit : (test : ℕ → Bool) (h : List Trace) → AreOctas (tally_in (λ a. true) h) → AreOctas (tally_in test h)
+all-fit : (test : ℕ → Bool) (h : List Trace) → HasOctas (tally_in (λ a. true) h) → HasOctas (tally_in test h)
 all-fit test h fit =
     let b = all-below test h in
     record { times = omega (arith, b.times, fit.times); away = omega (arith, b.away, fit.away); oops = omega (arith, b.oops, fit.oops); mems = omega (arith, b.mems, fit.mems) }
 
-pub read-back : (source : List ℕ) (h : List Trace) → AreOctas (tally_in (λ a. true) h) →
+pub read-back : (source : List ℕ) (h : List Trace) → HasOctas (tally_in (λ a. true) h) →
     report_data source (report_of Octas source h) ≡ sheet_data source (loads_of source) (λ test. tally_in test h)
 read-back source h fit = data-back source (loads_of source) (λ test. tally_in test h) (λ test. all-fit test h fit)
 

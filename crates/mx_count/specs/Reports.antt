@@ -59,7 +59,7 @@ abbrev pub report_data : List ℕ → List ℕ → LineSheet
 report_data source report = data_read source (loads_of source) (octas_of report)
 
 -- each number of a tally is below 2^64
-pub record AreOctas (y : Tally) : Type 0 where
+pub record HasOctas (y : Tally) : Type 0 where
   pub times : y.times < 2 ^ 64
   pub away : y.away < 2 ^ 64
   pub oops : y.oops < 2 ^ 64

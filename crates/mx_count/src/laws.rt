@@ -6,7 +6,7 @@ ghost use Rattle.mx_core.specs.declared.trace.Trace.{Trace};
 ghost use Rattle.mx_view.specs.declared.cells.Cell.{Cell};
 ghost use Rattle.mx_count.specs.Costs.{mems, oops};
 ghost use Rattle.mx_view.specs.Loads.{loads_of};
-ghost use Rattle.mx_count.specs.Reports.{AreOctas, report_data, report_of};
+ghost use Rattle.mx_count.specs.Reports.{HasOctas, report_data, report_of};
 ghost use Rattle.mx_count.specs.Sheets.{is_among, sheet_data};
 ghost use Rattle.mx_count.specs.declared.counts.Form.TheVariants.{Octas};
 ghost use Rattle.mx_count.specs.Tallies.{added, code_in, goes_away, nothing, tally_in};
@@ -38,7 +38,7 @@ pub fn lines_are_sums_over_their_tetras()
 /// the tally of the tetras that it loads, and the tally of all traces. That one is to have octas alone.
 #[tactic(auto, using(crate::proofs::ReadSheets::back))]
 pub fn sheets_are_read_back()
-    ensures { (source : List ℕ) (h : List Trace) → AreOctas (tally_in (λ a. true) h) →
+    ensures { (source : List ℕ) (h : List Trace) → HasOctas (tally_in (λ a. true) h) →
         report_data source (report_of Octas source h)
         ≡ sheet_data source (loads_of source) (λ test. tally_in test h) }
 {}
