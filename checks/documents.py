@@ -179,7 +179,7 @@ def check_file_tables():
 
 
 def check_messages():
-    names = text_of("crates/mx_files/specs/Names.antt")
+    names = text_of("crates/mx_outcome/specs/Names.antt")
     fault_names = set(re.findall(r'n == (\d+) then codes "(\w+)"', names))
     for where, line in lines_of("docs/MESSAGES.md"):
         row = re.match(r"\| (\d+) \| (\w+) \|", line)

@@ -35,11 +35,8 @@ done
 most_lines() {
   case $1 in
     mx_core) echo 5185 ;;
-    mx_top) echo 2021 ;;
     mx_ring) echo 2106 ;;
     mx_stmt) echo 1768 ;;
-    mx_files) echo 1641 ;;
-    mx_con) echo 1630 ;;
     *) echo 1500 ;;
   esac
 }

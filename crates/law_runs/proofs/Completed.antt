@@ -17,9 +17,9 @@ use Rattle.mx_asm.specs.Refusal.{refusal}
 use Rattle.mx_asm.specs.declared.refused.Refused.{Refused}
 use Rattle.mx_asm.proofs.InTurn.{source-accepted}
 use Rattle.mx_files.specs.Answers.{answered, plainly, after_lines}
-use Rattle.mx_top.specs.Arguments.{Word, word_at, arguments}
+use Rattle.mx_begin.specs.Arguments.{Word, word_at, arguments}
 use Rattle.law_runs.specs.Complete.{IsOrdered, HasSource, HasObject, IsStarted, IsHalted, IsPlayed, IsWritten, IsGenerated}
-use Rattle.mx_top.specs.Dump.{dump_lines}
+use Rattle.mx_dump.specs.Dump.{dump_lines}
 use Rattle.law_gen.specs.Generator.{generated}
 use Rattle.law_gen.specs.Program.{generated_image}
 use Rattle.law_gen.proofs.Meaning.{not-refused-run, statements-of}

@@ -21,10 +21,10 @@ use Rattle.mx_run.proofs.SteadyRuns.{run-steady}
 use Rattle.mx_words.specs.declared.order.Command.TheVariants.{Asm}
 use Rattle.mx_words.specs.declared.order.Order.{Order}
 use Rattle.mx_files.specs.Answers.{Answer, answered, plainly, after_lines}
-use Rattle.mx_top.specs.Arguments.{Word, word_at, arguments}
+use Rattle.mx_begin.specs.Arguments.{Word, word_at, arguments}
 use Rattle.law_runs.specs.Complete.{IsOrdered, IsThere, SourceIsThere, ObjectIsThere, IsHalted, IsGenerated, with_output}
 use Rattle.law_runs.specs.Detour.{answer_uncounted}
-use Rattle.mx_top.specs.Dump.{dump_lines}
+use Rattle.mx_dump.specs.Dump.{dump_lines}
 use Rattle.mx_files.specs.Lines.{lines_put}
 use Rattle.mx_files.specs.Objects.{source_object}
 use Rattle.mx_files.specs.Pieces.{piece_put, pieces_after}

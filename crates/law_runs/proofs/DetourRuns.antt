@@ -31,7 +31,7 @@ use Rattle.mx_words.specs.declared.order.WordsFault.{WordsFault}
 use Rattle.mx_files.specs.Answers.{Answer, answered, wild, plainly, after_lines}
 use Rattle.mx_outcome.specs.Kinds.{leaves_machine}
 use Rattle.mx_files.specs.Lines.{lines_put}
-use Rattle.mx_top.specs.Arguments.{Word, word_at, arguments, program_name}
+use Rattle.mx_begin.specs.Arguments.{Word, word_at, arguments, program_name}
 use Rattle.law_runs.specs.Detour.{host_of, answer_uncounted, HasOutcome, asm_words, run_words, sim_words, AreOrdered, IsAssembled}
 use Rattle.law_runs.proofs.DetourImages.{source-loads, source-short, accepted-run, assembled-none, pages-refused}
 use Rattle.mx_word.specs.Ranges.{AreBytes}
@@ -44,8 +44,9 @@ use Rattle.mx_outcome.specs.Messages.{message_of}
 use Rattle.mx_files.specs.Objects.{Assembled, source_object}
 use Rattle.mx_files.specs.Assembling.{assembled_outcome, object_put, after_opening, after_reading}
 use Rattle.mx_top.specs.Product.{after_image, after_source, after_loading, after_object, carried_out, message_told, with_message, product}
-use Rattle.mx_top.specs.Dump.{dump_lines}
-use Rattle.mx_top.specs.Runs.{Ran, ran, ran_wild, ran_to, machine_ran, takes_back, states_back, state_lines, reached, lines_told, taken_back, played, order_ran, dumped, main_address, begun_at, stack_at_start, run_from, image_run}
+use Rattle.mx_dump.specs.Dump.{dump_lines}
+use Rattle.mx_top.specs.Runs.{Ran, ran, ran_wild, ran_to, machine_ran, takes_back, states_back, state_lines, reached, lines_told, taken_back, played, order_ran, dumped, run_from, image_run}
+use Rattle.mx_begin.specs.Begun.{main_address, begun_at, stack_at_start}
 use Rattle.mx_files.specs.Source.{file_bytes}
 use Rattle.mx_outcome.specs.declared.outcome.Outcome.{Outcome}
 use Rattle.mx_outcome.specs.declared.outcome.Outcome.TheVariants.{Done, Usage, NoFile, Refused, BadObject}

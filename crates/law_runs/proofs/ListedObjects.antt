@@ -37,7 +37,7 @@ use Rattle.mx_type.proofs.Once.{items-once, trie-once}
 use Rattle.mx_words.specs.declared.order.Command.TheVariants.{Show}
 use Rattle.mx_words.specs.declared.order.Order.{Order}
 use Rattle.mx_files.specs.Answers.{Answer, answered, after_lines}
-use Rattle.mx_top.specs.Arguments.{Word, word_at}
+use Rattle.mx_begin.specs.Arguments.{Word, word_at}
 use Rattle.mx_outcome.specs.Messages.{message_of}
 use Rattle.mx_top.specs.Product.{message_told, with_message, product}
 use Rattle.mx_files.specs.Source.{object_pieces}

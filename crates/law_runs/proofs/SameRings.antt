@@ -16,12 +16,13 @@ use Rattle.mx_words.specs.Values.{blocks_value, is_number, is_option, ring_value
 use Rattle.mx_words.specs.declared.order.Command.{Command}
 use Rattle.mx_words.specs.declared.order.Command.TheVariants.{Run, Asm, Sim, Gen, Show, Multi}
 use Rattle.mx_words.specs.declared.order.Order.{Order}
-use Rattle.mx_top.specs.Arguments.{Word, word_at, arguments}
+use Rattle.mx_begin.specs.Arguments.{Word, word_at, arguments}
 use Rattle.law_gen.specs.Generator.{generated}
 use Rattle.mx_top.specs.Product.{after_image, after_source, after_loading, after_object, loaded_turns, object_turns, after_schedule, generated_run, source_generated, summed_from, ordered, carried_out, with_message, product}
 use Rattle.law_runs.specs.Rings.{DifferInRing, HandsArguments, gen_ring_words, gen_words}
 use Rattle.mx_top.specs.Reports.{traces_from, image_traces, meaning_traces, source_traces, loading_traces, object_traces, ordered_traces, carried_traces, due_reports, with_reports, watched_product}
-use Rattle.mx_top.specs.Runs.{image_run, run_from, stack_at_start, started}
+use Rattle.mx_top.specs.Runs.{image_run, run_from}
+use Rattle.mx_begin.specs.Begun.{stack_at_start, started}
 use Rattle.mx_top.specs.Processors.{image_turns}
 use Rattle.mx_files.specs.Schedules.{schedule_bytes}
 use Rattle.mx_files.specs.Source.{file_bytes, source_pieces, object_pieces}

@@ -35,8 +35,8 @@ use Rattle.mx_words.specs.declared.order.Order.{Order}
 use Rattle.mx_words.specs.declared.order.WordsFault.{WordsFault}
 use Rattle.mx_files.specs.Answers.{Answer, answered, wild, plainly, after_lines}
 use Rattle.mx_outcome.specs.Kinds.{leaves_machine}
-use Rattle.mx_top.specs.Arguments.{Word, word_at, arguments}
-use Rattle.mx_top.specs.Dump.{dump_lines}
+use Rattle.mx_begin.specs.Arguments.{Word, word_at, arguments}
+use Rattle.mx_dump.specs.Dump.{dump_lines}
 use Rattle.law_gen.specs.Generator.{generated, summary}
 use Rattle.mx_files.specs.Lines.{lines_put}
 use Rattle.mx_files.specs.Typed.{Typed, trie_typed, tail_typed, end_typed, typed, after_typing}
@@ -45,7 +45,8 @@ use Rattle.mx_files.specs.Objects.{Assembled, source_object}
 use Rattle.mx_files.specs.Pieces.{put_text}
 use Rattle.mx_files.specs.Assembling.{object_slot, closed_object, written_object, assembled_outcome, object_put, after_opening, after_reading}
 use Rattle.mx_top.specs.Product.{after_image, after_source, after_loading, after_object, loaded_turns, object_turns, after_schedule, generator_steps, summed, summed_from, generated_run, ordered, carried_out, message_told, with_message, product}
-use Rattle.mx_top.specs.Runs.{Ran, ran, ran_wild, machine_ran, session_outcome, played, takes_back, states_back, state_lines, reached, lines_told, taken_back, order_ran, dumped, main_address, begun_at, stack_at_start, started, run_from, image_run}
+use Rattle.mx_top.specs.Runs.{Ran, ran, ran_wild, machine_ran, session_outcome, played, takes_back, states_back, state_lines, reached, lines_told, taken_back, order_ran, dumped, run_from, image_run}
+use Rattle.mx_begin.specs.Begun.{main_address, begun_at, stack_at_start, started}
 use Rattle.mx_files.specs.Source.{input_slot, piece_read, one_piece, next_piece, pieces, closed_with, closed_after, read_after, file_bytes}
 use Rattle.mx_files.specs.Sources.{source_meaning}
 use Rattle.mx_top.specs.Processors.{processors_named, multi_lines, multi_outcome, turns_told, image_turns}

@@ -7,7 +7,7 @@ use Rattle.mx_watch.specs.Watching.{Watching}
 use Rattle.mx_words.specs.Orders.{order_of}
 use Rattle.mx_files.specs.Answers.{Answer, answered, wild}
 use Rattle.mx_outcome.specs.declared.outcome.Outcome.{Outcome}
-use Rattle.mx_top.specs.Arguments.{Word}
+use Rattle.mx_begin.specs.Arguments.{Word}
 use Rattle.mx_top.specs.Product.{product}
 use Rattle.mx_top.specs.Reports.{due_reports, reports_put, watched_product, with_reports}
 use Rattle.law_runs.specs.Called.{IsCalled, IsWatched}

@@ -4,7 +4,7 @@ use Rattle.mx_host.specs.HostModel.{HostModel, tells}
 use Rattle.mx_plan.specs.Counts.{NoneFailed}
 use Rattle.mx_run.specs.WildRuns.{MachineKind, window_machine}
 use Rattle.mx_files.specs.Answers.{AnswersAs}
-use Rattle.mx_top.specs.Arguments.{Word}
+use Rattle.mx_begin.specs.Arguments.{Word}
 use Rattle.law_runs.specs.Detour.{host_of}
 use Rattle.mx_top.specs.Product.{product}
 use Rattle.mx_top.specs.Reports.{watched_product}

@@ -14,14 +14,15 @@ use Rattle.mx_words.specs.Orders.{order_of}
 use Rattle.mx_words.specs.declared.order.Command.{Command}
 use Rattle.mx_words.specs.declared.order.Command.TheVariants.{Run, Asm, Sim, Gen}
 use Rattle.mx_words.specs.declared.order.Order.{Order}
-use Rattle.mx_top.specs.Arguments.{Word, word_at, arguments}
+use Rattle.mx_begin.specs.Arguments.{Word, word_at, arguments}
 use Rattle.law_gen.specs.Generator.{generated, summary}
 use Rattle.law_gen.specs.Program.{generated_image}
 use Rattle.mx_files.specs.Objects.{source_object}
 use Rattle.mx_files.specs.Pieces.{put_text}
 use Rattle.mx_files.specs.Assembling.{object_slot}
 use Rattle.mx_top.specs.Product.{generator_steps}
-use Rattle.mx_top.specs.Runs.{ran, machine_ran, session_ran, started}
+use Rattle.mx_top.specs.Runs.{ran, machine_ran, session_ran}
+use Rattle.mx_begin.specs.Begun.{started}
 use Rattle.mx_files.specs.Source.{file_bytes, source_pieces, object_pieces}
 use Rattle.mx_files.specs.Sources.{source_meaning}
 use Rattle.mx_outcome.specs.declared.outcome.Outcome.{Outcome}

@@ -9,7 +9,7 @@ use Rattle.mx_words.specs.Orders.{order_of}
 use Rattle.mx_words.specs.declared.order.Command.TheVariants.{Run, Sim}
 use Rattle.mx_words.specs.declared.order.Order.{Order}
 use Rattle.mx_files.specs.Answers.{Answer, answered, wild}
-use Rattle.mx_top.specs.Arguments.{Word, program_name}
+use Rattle.mx_begin.specs.Arguments.{Word, program_name}
 use Rattle.mx_top.specs.Product.{product}
 use Rattle.mx_files.specs.Source.{file_bytes, source_pieces}
 use Rattle.mx_outcome.specs.declared.outcome.Outcome.{Outcome}

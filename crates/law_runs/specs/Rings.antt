@@ -3,7 +3,7 @@ use Rattle.std.specs.Prelude.{◌≡◌, List, [], ◌∷◌, codes}
 use Rattle.mx_words.specs.declared.order.Command.{Command}
 use Rattle.mx_words.specs.declared.order.Command.TheVariants.{Run, Asm, Sim, Gen, Show, Multi}
 use Rattle.mx_words.specs.declared.order.Order.{Order}
-use Rattle.mx_top.specs.Arguments.{Word, word_at, arguments}
+use Rattle.mx_begin.specs.Arguments.{Word, word_at, arguments}
 
 -- the commands that hand arguments to a program
 abbrev pub HandsArguments : Command → Type 0

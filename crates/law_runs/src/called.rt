@@ -10,7 +10,7 @@ ghost use Rattle.mx_plan.specs.Counts.{unscheduled};
 ghost use Rattle.mx_run.specs.WildRuns.{MachineKind, window_machine};
 ghost use Rattle.mx_words.specs.declared.order.Command.{Command};
 ghost use Rattle.mx_words.specs.declared.order.Order.{Order};
-ghost use Rattle.mx_top.specs.Arguments.{Word, word_at};
+ghost use Rattle.mx_begin.specs.Arguments.{Word, word_at};
 ghost use Rattle.law_runs.specs.Called.{IsCalled, NoCallFails};
 ghost use Rattle.law_runs.specs.Complete.{IsGenerated, IsHalted, IsOrdered, IsPlayed, IsThere, ObjectIsThere};
 ghost use Rattle.law_runs.specs.Complete.{SourceIsThere};

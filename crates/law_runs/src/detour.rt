@@ -11,7 +11,7 @@ ghost use Rattle.mx_asm.specs.Pages.{RunRefusal, run_refusal};
 ghost use Rattle.mx_asm.specs.Refusal.{refusal};
 ghost use Rattle.mx_run.specs.WildRuns.{MachineKind};
 ghost use Rattle.mx_plan.specs.Counts.{unscheduled};
-ghost use Rattle.mx_top.specs.Arguments.{Word};
+ghost use Rattle.mx_begin.specs.Arguments.{Word};
 ghost use Rattle.law_runs.specs.Called.{NoCallFails};
 ghost use Rattle.law_runs.specs.Detour.{AreOrdered, IsAssembled, run_words, sim_words};
 ghost use Rattle.law_runs.specs.Detour.{HasOutcome, answer_uncounted, answer_unscheduled, host_of};

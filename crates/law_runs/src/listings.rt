@@ -20,7 +20,7 @@ ghost use Rattle.mx_type.specs.Listing.{IsListing};
 ghost use Rattle.mx_words.specs.declared.order.Command.{Command};
 ghost use Rattle.mx_words.specs.declared.order.Order.{Order};
 ghost use Rattle.mx_files.specs.Answers.{answered};
-ghost use Rattle.mx_top.specs.Arguments.{Word, word_at};
+ghost use Rattle.mx_begin.specs.Arguments.{Word, word_at};
 ghost use Rattle.mx_top.specs.Product.{product, with_message};
 ghost use Rattle.mx_files.specs.Source.{object_pieces};
 ghost use Rattle.mx_files.specs.Typed.{typed, unread, unread_trie};

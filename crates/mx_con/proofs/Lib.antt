@@ -1,5 +1,4 @@
 pub mod SoundSubjects
-pub mod LowDigits
 pub mod Rests
 pub mod LineEnds
 pub mod LineReads

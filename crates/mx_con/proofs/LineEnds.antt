@@ -5,7 +5,7 @@ use Rattle.mx_host.specs.HostModel.{HostModel}
 use Rattle.mx_plan.specs.Plan.{bind, end_of, end_after, Stops, Comes}
 use Rattle.mx_plan.specs.Calls.{host, need}
 use Rattle.mx_plan.proofs.Plans.{end_bind, stops_first}
-use Rattle.mx_con.specs.ConsoleTexts.{ended}
+use Rattle.mx_show.specs.Texts.{ended}
 use Rattle.mx_con.specs.LinePlans.{on_ok, text_plan, line_plan, lines_plan}
 use Rattle.mx_con.specs.declared.end.SessionEnd.{SessionEnd}
 use Rattle.mx_con.specs.declared.end.SessionEnd.TheVariants.{OutOfMemory}

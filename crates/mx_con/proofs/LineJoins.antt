@@ -6,7 +6,7 @@ use Rattle.mx_host.specs.declared.faults.HostFault.{HostFault}
 use Rattle.mx_plan.specs.Plan.{returns, bind, end_of, end_after}
 use Rattle.mx_plan.specs.Calls.{host, need, read_plan, write_plan}
 use Rattle.mx_plan.proofs.Plans.{end_bind}
-use Rattle.mx_con.specs.ConsoleTexts.{ended}
+use Rattle.mx_show.specs.Texts.{ended}
 use Rattle.mx_con.specs.HostLines.{Written, text_write, line_write, after_write, lines_write, byte_read, Reading, with_byte, grown, line_read, input_slot, output_slot}
 use Rattle.mx_con.specs.HostLines as old
 use Rattle.mx_con.specs.LinePlans.{on_ok, text_plan, line_plan, lines_plan, byte_plan, grown_plan, LineRead, reading_plan}

@@ -10,7 +10,7 @@ use Rattle.mx_run.specs.declared.flags.Flags.{Flags}
 use Rattle.mx_con.specs.ConsoleTexts.{flag_text}
 use Rattle.mx_con.specs.LinePlans.{on_ok, line_plan, lines_plan}
 use Rattle.mx_con.specs.Replies.{octas_after, flag_lines, tetra_count}
-use Rattle.mx_con.specs.Subjects.{shown_line}
+use Rattle.mx_show.specs.Subjects.{shown_line}
 use Rattle.mx_cmd.specs.declared.command.Subject.TheVariants.{Memory}
 use Rattle.mx_con.specs.declared.end.SessionEnd.{SessionEnd}
 use Rattle.mx_con.specs.declared.end.SessionEnd.TheVariants.{OutOfMemory}

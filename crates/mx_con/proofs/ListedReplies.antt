@@ -28,7 +28,7 @@ use Rattle.mx_con.specs.HostLines.{lines_write}
 use Rattle.mx_con.specs.Judgement.{bad_text, bad_if, first_bad, is_outside, subject_bad, past_memory, command_bad, command_wild}
 use Rattle.mx_con.specs.Replies.{Reply, reply, reply_in, reply_to, with_note, with_subject, changed_reply, octas_after, shown_after}
 use Rattle.mx_con.specs.Session.{Console, Done, wild, with_reply, replied, carried_out, judged, answered}
-use Rattle.mx_con.specs.Subjects.{subject_changed, subject_wild, shown_line}
+use Rattle.mx_show.specs.Subjects.{subject_changed, subject_wild, shown_line}
 use Rattle.mx_cmd.specs.declared.command.Command.{Command}
 use Rattle.mx_cmd.specs.declared.command.Command.TheVariants as command
 use Rattle.mx_cmd.specs.declared.command.Subject.{Subject}

@@ -15,7 +15,8 @@ use Rattle.mx_run.specs.declared.end.End.TheVariants as ending
 use Rattle.mx_run.proofs.ListTurns.{turn-listed, wild-listed, turn-untouched}
 use Rattle.mx_run.proofs.BothMachines.{window-ends}
 use Rattle.mx_con.specs.Clauses.{output_of, as_list_console, as_list_progress, IsUntouched, PartGoesAsList}
-use Rattle.mx_con.specs.ConsoleTexts.{trace_text, break_text}
+use Rattle.mx_con.specs.ConsoleTexts.{break_text}
+use Rattle.mx_show.specs.Texts.{trace_text}
 use Rattle.mx_con.specs.HostLines.{line_write, lines_write}
 use Rattle.mx_con.specs.Session.{Console, Progress, Done, on, over, wild, and_then, with_run, with_host, steps_left, line_done, after_turn, stepped, goes, end_answer, end_done, after_run, one_run, run_on, runs}
 use Rattle.mx_con.specs.declared.end.SessionEnd.{SessionEnd}

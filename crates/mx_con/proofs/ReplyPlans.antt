@@ -17,12 +17,12 @@ use Rattle.mx_cmd.specs.declared.command.Command.{Command}
 use Rattle.mx_cmd.specs.declared.command.Command.TheVariants as command
 use Rattle.mx_cmd.specs.declared.command.Subject.{Subject}
 use Rattle.mx_cmd.specs.declared.command.Subject.TheVariants.{Register, Global, Special, Memory}
-use Rattle.mx_con.specs.ConsoleTexts.{state_text}
+use Rattle.mx_show.specs.Texts.{state_text}
 use Rattle.mx_con.specs.Judgement.{bad_text, subject_bad, more_bad, go_to_bad, flag_bad, command_bad, command_wild}
 use Rattle.mx_con.specs.LinePlans.{on_ok, line_plan, lines_plan}
 use Rattle.mx_con.specs.Replies.{reply, reply_to, noted_if, shown_after, octas_after, flag_lines, tetra_count, with_breaks, with_trace}
 use Rattle.mx_con.specs.SessionPlans.{SessionWorld, Part, conversing, beside_machine, on_host, reply_plan, judge_plan, showing, replied, judged, answered_plan}
-use Rattle.mx_con.specs.Subjects.{subject_wild, subject_changed, shown_line, octa_shown}
+use Rattle.mx_show.specs.Subjects.{subject_wild, subject_changed, shown_line, octa_shown}
 use Rattle.mx_con.specs.declared.end.SessionEnd.{SessionEnd}
 use Rattle.mx_con.specs.declared.end.SessionEnd.TheVariants.{OutOfMemory}
 use Rattle.mx_con.specs.declared.judgement.Bad.{Bad}

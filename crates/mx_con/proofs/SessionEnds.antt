@@ -8,7 +8,7 @@ use Rattle.mx_core.specs.declared.trace.Trace.{Trace}
 use Rattle.mx_run.specs.RunPlans.{RunWorld, RunPlan, running}
 use Rattle.mx_run.specs.Runs.{FlagsOf}
 use Rattle.mx_cmd.specs.declared.command.Command.{Command}
-use Rattle.mx_con.specs.ConsoleTexts.{trace_text}
+use Rattle.mx_show.specs.Texts.{trace_text}
 use Rattle.mx_con.specs.Judgement.{command_bad}
 use Rattle.mx_con.specs.Replies.{reply_to}
 use Rattle.mx_con.specs.SessionPlans.{SessionWorld, conversing, beside_machine, beside_flags, answered_reply, on_host, on_run, reply_plan, count_plan, flags_plan, trace_plan, judge_plan}

@@ -22,7 +22,8 @@ use Rattle.mx_run.proofs.PlanEnds.{run-end}
 use Rattle.mx_cmd.specs.Commands.{command_of}
 use Rattle.mx_cmd.specs.declared.command.Command.{Command}
 use Rattle.mx_cmd.specs.declared.command.Command.TheVariants as command
-use Rattle.mx_con.specs.ConsoleTexts.{trace_text, break_text, ended}
+use Rattle.mx_con.specs.ConsoleTexts.{break_text}
+use Rattle.mx_show.specs.Texts.{trace_text, ended}
 use Rattle.mx_con.specs.HostLines.{Written, text_write, line_write, after_write, lines_write, byte_read, Reading, with_byte, grown, line_read, without_return, input_slot, output_slot}
 use Rattle.mx_con.specs.HostLines as old
 use Rattle.mx_con.specs.Judgement.{command_bad, bad_text}

@@ -10,7 +10,7 @@ use Rattle.mx_run.specs.Runs.{FlagsOf}
 use Rattle.mx_cmd.specs.Commands.{command_of}
 use Rattle.mx_cmd.specs.declared.command.Command.{Command}
 use Rattle.mx_cmd.specs.declared.command.Command.TheVariants as command
-use Rattle.mx_con.specs.ConsoleTexts.{state_text}
+use Rattle.mx_show.specs.Texts.{state_text}
 use Rattle.mx_con.specs.HostLines.{without_return}
 use Rattle.mx_con.specs.Judgement.{bad_text}
 use Rattle.mx_con.specs.LinePlans.{on_ok, text_plan, line_plan, lines_plan, LineRead, reading_plan, asking_plan}

@@ -5,7 +5,7 @@ use Rattle.mx_core.specs.State.{State}
 use Rattle.mx_cmd.specs.declared.command.Subject.{Subject}
 use Rattle.mx_cmd.specs.declared.command.Subject.TheVariants.{Register, Global, Special, Memory}
 use Rattle.mx_con.specs.Judgement.{number_bad, register_bad, address_bad}
-use Rattle.mx_con.specs.Subjects.{IsSound}
+use Rattle.mx_show.specs.Subjects.{IsSound}
 
 pub sound-subject : (s : State) (subject : Subject) → number_bad subject ≡ false → register_bad s subject ≡ false →
     address_bad subject ≡ false → IsSound subject

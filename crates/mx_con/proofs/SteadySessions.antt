@@ -15,7 +15,7 @@ use Rattle.mx_run.specs.WildRuns.{MachineKind, RunEnd, run_ended, run_wild, ends
 use Rattle.mx_run.specs.declared.end.End.{End}
 use Rattle.mx_run.specs.declared.end.End.TheVariants as ending
 use Rattle.mx_cmd.specs.Commands.{command_of}
-use Rattle.mx_con.specs.ConsoleTexts.{trace_text}
+use Rattle.mx_show.specs.Texts.{trace_text}
 use Rattle.mx_con.specs.HostLines.{Written, written, text_write, line_write, after_write, lines_write, byte_of, byte_read, Growing, with_byte, grown, Reading, after_byte, line_read, without_return}
 use Rattle.mx_con.specs.Judgement.{bad_text, command_bad}
 use Rattle.mx_con.specs.Replies.{reply_to}

@@ -16,7 +16,7 @@ use Rattle.mx_cmd.specs.declared.command.Subject.TheVariants.{Register, Global, 
 use Rattle.mx_run.specs.Runs.{IsLater}
 use Rattle.mx_con.specs.Clauses.{StepsWithin}
 use Rattle.mx_con.specs.Replies.{noted_if}
-use Rattle.mx_con.specs.Subjects.{subject_changed}
+use Rattle.mx_show.specs.Subjects.{subject_changed}
 
 -- BOUNDS
 

@@ -14,7 +14,8 @@ use Rattle.mx_run.specs.declared.end.End.{End}
 use Rattle.mx_run.specs.declared.end.End.TheVariants as ending
 use Rattle.mx_run.specs.declared.turn_answer.TurnAnswer.{TurnAnswer}
 use Rattle.mx_run.specs.declared.turn_answer.TurnAnswer.TheVariants as answer
-use Rattle.mx_con.specs.ConsoleTexts.{trace_text, break_text}
+use Rattle.mx_con.specs.ConsoleTexts.{break_text}
+use Rattle.mx_show.specs.Texts.{trace_text}
 use Rattle.mx_con.specs.LinePlans.{on_ok, line_plan}
 use Rattle.mx_con.specs.SessionPlans.{SessionWorld, SessionPlan, Part, conversing, beside_machine, beside_flags, on_host, on_run, trace_plan, count_plan, flags_plan, traced_plan, after_turn, turn_at, turned_plan, stepped_plan, step_if, broke_plan, break_plan, after_end, run_from, one_run_plan, runs_plan, run_on, continued_plan}
 use Rattle.mx_con.specs.declared.end.SessionEnd.{SessionEnd}

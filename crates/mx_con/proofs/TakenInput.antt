@@ -17,7 +17,8 @@ use Rattle.mx_run.specs.declared.turn_answer.TurnAnswer.TheVariants as answer
 use Rattle.mx_cmd.specs.Commands.{command_of}
 use Rattle.mx_cmd.specs.declared.command.Command.{Command}
 use Rattle.mx_cmd.specs.declared.command.Command.TheVariants.{Step, Continue, Quit as QuitCommand}
-use Rattle.mx_con.specs.ConsoleTexts.{ended, break_text}
+use Rattle.mx_con.specs.ConsoleTexts.{break_text}
+use Rattle.mx_show.specs.Texts.{ended}
 use Rattle.mx_con.specs.HostLines.{without_return}
 use Rattle.mx_con.specs.Judgement.{bad_text}
 use Rattle.mx_con.specs.LinePlans.{on_ok, written, text_plan, line_plan, lines_plan, byte_of, byte_plan, Growing, last_line, with_byte, after_byte, grown_plan, LineRead, after_growing, reading_plan, asking_plan}

@@ -21,7 +21,7 @@ use Rattle.mx_run.specs.declared.end.End.TheVariants as ending
 use Rattle.mx_cmd.specs.Commands.{command_of}
 use Rattle.mx_cmd.specs.declared.command.Command.{Command}
 use Rattle.mx_cmd.specs.declared.command.Command.TheVariants as command
-use Rattle.mx_con.specs.ConsoleTexts.{trace_text}
+use Rattle.mx_show.specs.Texts.{trace_text}
 use Rattle.mx_con.specs.HostLines.{Written, written, text_write, line_write, after_write, lines_write, input_slot, output_slot}
 use Rattle.mx_con.specs.HostLines.{byte_of, byte_read, Growing, last_line, byte_added, with_byte, grown, Reading, after_byte, line_read, without_return}
 use Rattle.mx_con.specs.Judgement.{bad_text, command_bad}

@@ -5,7 +5,7 @@ use Rattle.mx_host.specs.HostModel.{HostModel}
 use Rattle.mx_host.specs.declared.faults.HostFault.{HostFault}
 use Rattle.mx_host.specs.declared.faults.HostFault.TheVariants.{Failed, Misused}
 use Rattle.mx_host.specs.declared.faults.HostFault.TheVariants as fault
-use Rattle.mx_con.specs.ConsoleTexts.{ended}
+use Rattle.mx_show.specs.Texts.{ended}
 use Rattle.mx_con.specs.declared.end.SessionEnd.{SessionEnd}
 use Rattle.mx_con.specs.declared.end.SessionEnd.TheVariants.{Quit, Limit, HostFault as BadHost, OutOfMemory}
 

@@ -7,7 +7,7 @@ use Rattle.mx_cmd.specs.declared.command.Subject.{Subject}
 use Rattle.mx_cmd.specs.declared.command.Subject.TheVariants.{Register, Global, Special, Memory}
 use Rattle.mx_con.specs.declared.judgement.Bad.{Bad}
 use Rattle.mx_con.specs.declared.judgement.Bad.TheVariants.{UnknownCommand, BadNumber, NoSuchRegister, BadAddress, NoMemoryShown, CannotChange}
-use Rattle.mx_con.specs.Subjects.{subject_changed, subject_wild}
+use Rattle.mx_show.specs.Subjects.{subject_changed, subject_wild}
 
 abbrev pub bad_text : Bad → List ℕ
 bad_text UnknownCommand = codes "? unknown command"

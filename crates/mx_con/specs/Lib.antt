@@ -1,4 +1,3 @@
-pub mod Subjects
 pub mod Judgement
 pub mod ConsoleTexts
 pub mod Replies

@@ -3,7 +3,7 @@ use Rattle.std.specs.Prelude.{ℕ, zero, suc, ◌+◌, ◌==◌, Bool, true, fal
 use Rattle.mx_host.specs.declared.faults.HostFault.{HostFault}
 use Rattle.mx_plan.specs.Plan.{Plan, returns, bind}
 use Rattle.mx_plan.specs.Calls.{HostPlan, read_plan, write_plan, need}
-use Rattle.mx_con.specs.ConsoleTexts.{ended}
+use Rattle.mx_show.specs.Texts.{ended}
 use Rattle.mx_con.specs.HostLines.{input_slot, output_slot, end_of}
 use Rattle.mx_con.specs.Session.{prompt}
 use Rattle.mx_con.specs.declared.end.SessionEnd.{SessionEnd}

@@ -15,9 +15,10 @@ use Rattle.mx_cmd.specs.declared.command.Command.{Command}
 use Rattle.mx_cmd.specs.declared.command.Command.TheVariants as command
 use Rattle.mx_cmd.specs.declared.command.Subject.{Subject}
 use Rattle.mx_cmd.specs.declared.command.Subject.TheVariants.{Register, Global, Special, Memory}
-use Rattle.mx_con.specs.ConsoleTexts.{state_text, flag_text}
+use Rattle.mx_con.specs.ConsoleTexts.{flag_text}
+use Rattle.mx_show.specs.Texts.{state_text}
 use Rattle.mx_con.specs.Judgement.{command_wild}
-use Rattle.mx_con.specs.Subjects.{octa_start, shown_line, subject_changed}
+use Rattle.mx_show.specs.Subjects.{octa_start, shown_line, subject_changed}
 
 -- the machine, the flags, the address of the octa that was shown last, and the lines to write
 pub record Reply : Type 0 where

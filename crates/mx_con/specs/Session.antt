@@ -19,7 +19,8 @@ use Rattle.mx_con.specs.declared.end.SessionEnd.TheVariants.{Halted, Stopped, Sp
 use Rattle.mx_con.specs.declared.judgement.Bad.{Bad}
 use Rattle.mx_con.specs.declared.judgement.Bad.TheVariants.{UnknownCommand}
 use Rattle.mx_cmd.specs.Commands.{command_of}
-use Rattle.mx_con.specs.ConsoleTexts.{trace_text, break_text}
+use Rattle.mx_con.specs.ConsoleTexts.{break_text}
+use Rattle.mx_show.specs.Texts.{trace_text}
 use Rattle.mx_con.specs.HostLines.{Written, text_write, line_write, lines_write, Reading, line_read, without_return}
 use Rattle.mx_con.specs.Judgement.{bad_text, command_bad, command_wild}
 use Rattle.mx_con.specs.Replies.{Reply, reply_to}

@@ -18,7 +18,8 @@ use Rattle.mx_run.specs.declared.turn_answer.TurnAnswer.TheVariants as answer
 use Rattle.mx_cmd.specs.Commands.{command_of}
 use Rattle.mx_cmd.specs.declared.command.Command.{Command}
 use Rattle.mx_cmd.specs.declared.command.Command.TheVariants.{Step, Continue, Quit as QuitCommand}
-use Rattle.mx_con.specs.ConsoleTexts.{trace_text, break_text}
+use Rattle.mx_con.specs.ConsoleTexts.{break_text}
+use Rattle.mx_show.specs.Texts.{trace_text}
 use Rattle.mx_con.specs.HostLines.{without_return}
 use Rattle.mx_con.specs.Judgement.{bad_text, command_bad}
 use Rattle.mx_con.specs.LinePlans.{on_ok, line_plan, lines_plan, asking_plan}

@@ -6,12 +6,12 @@ ghost use Rattle.mx_core.specs.Changes.{at_address};
 ghost use Rattle.mx_core.specs.Kept.{state_of};
 ghost use Rattle.mx_run.specs.FlagMaps.{flags_at, with_flags};
 ghost use Rattle.mx_con.specs.Replies as spec;
-ghost use Rattle.mx_con.specs.Subjects.{IsSound, subject_changed};
+ghost use Rattle.mx_show.specs.Subjects.{IsSound, subject_changed};
 
-use crate::subjects::set_subject;
 use mx_cmd::{Breaks, Subject};
 use mx_core::SetFault;
 use mx_run::{Flags, Runner};
+use mx_show::set_subject;
 use mx_word::NoMemory;
 
 /// Gives a subject another value.

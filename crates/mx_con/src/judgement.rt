@@ -3,7 +3,7 @@
 ghost use Rattle.std.specs.Prelude.{◌≡◌, ◌≤◌, IfNone, Some};
 ghost use Rattle.mx_core.specs.Kept.{state_of};
 ghost use Rattle.mx_con.specs.Judgement as spec;
-ghost use Rattle.mx_con.specs.Subjects.{IsSound};
+ghost use Rattle.mx_show.specs.Subjects.{IsSound};
 
 use mx_cmd::Subject;
 use mx_core::Machine;

@@ -14,7 +14,6 @@ mod listings;
 mod replies;
 mod sessions;
 mod steps;
-mod subjects;
 mod texts;
 mod windows;
 
@@ -22,4 +21,3 @@ pub use end::SessionEnd;
 pub use judgement::Bad;
 pub use laws::{sessions_are_their_plans, sessions_end_by_themselves, sessions_take_at_most};
 pub use sessions::session;
-pub use texts::{state_line, trace_line};

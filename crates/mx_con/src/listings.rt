@@ -7,17 +7,17 @@ ghost use Rattle.mx_core.specs.Kept.{state_of};
 ghost use Rattle.mx_run.specs.FlagMaps.{flags_at};
 ghost use Rattle.mx_con.specs.LinePlans.{line_plan, lines_plan};
 ghost use Rattle.mx_con.specs.ConsoleTexts.{flag_text};
-ghost use Rattle.mx_con.specs.Subjects as subjects;
+ghost use Rattle.mx_show.specs.Subjects as subjects;
 ghost use Rattle.mx_con.specs.Replies as spec;
 
 use crate::SessionEnd;
 use crate::host_lines::write_line;
-use crate::subjects::shown_line;
 use crate::texts::flag_line;
 use mx_cmd::Subject;
 use mx_core::Machine;
 use mx_host::Host;
 use mx_run::{Flags, Runner};
+use mx_show::shown_line;
 use mx_text::Form;
 use std::alloc::Global;
 

@@ -5,7 +5,8 @@ ghost use Rattle.mx_host.specs.Keeping.{OnlyByFailure};
 ghost use Rattle.mx_plan.specs.Clauses.{CarriesOut, Stands};
 ghost use Rattle.mx_core.specs.Kept.{state_of};
 ghost use Rattle.mx_con.specs.Clauses.{CarriesOutSession, PartsAsList, StepsWithin};
-ghost use Rattle.mx_con.specs.ConsoleTexts.{trace_text, break_text};
+ghost use Rattle.mx_con.specs.ConsoleTexts.{break_text};
+ghost use Rattle.mx_show.specs.Texts.{trace_text};
 ghost use Rattle.mx_con.specs.LinePlans.{line_plan};
 ghost use Rattle.mx_con.specs.Session as spec;
 ghost use Rattle.mx_con.specs.SessionPlans as plans;
@@ -13,11 +14,12 @@ ghost use Rattle.mx_con.specs.declared.dialog.Dialog.{Dialog};
 
 use crate::SessionEnd;
 use crate::host_lines::{write_line, write_text};
-use crate::texts::{break_line, trace_line};
+use crate::texts::break_line;
 use crate::windows::know_count;
 use mx_core::{Machine, Trace};
 use mx_host::Host;
 use mx_run::{BreakKind, End, Runner, TurnAnswer};
+use mx_show::trace_line;
 use std::alloc::Global;
 
 /// How many steps may still be made, of so many in all.

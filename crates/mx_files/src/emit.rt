@@ -15,7 +15,6 @@ ghost use Rattle.mx_files.specs.ObjectPlans as plans;
 ghost use Rattle.mx_files.specs.Objects as objects;
 ghost use Rattle.mx_files.specs.Source.{file_bytes};
 
-use mx_outcome::Outcome;
 use crate::pieces::{close_file, put_text, whole_outcome};
 use crate::refusal::{Refusal, is_out_of_memory, refusal_of};
 use crate::source::{SOURCE_PIECES, read_file};
@@ -23,6 +22,7 @@ use mx_asm::{Assembler, Refused};
 use mx_host::{Host, Mode, OpenFault};
 use mx_line::cut_line;
 use mx_mmo::{Item, Items, Writer};
+use mx_outcome::Outcome;
 use mx_plan::open;
 use mx_word::{Bytes, NoMemory};
 use std::alloc::Global;

@@ -3,9 +3,9 @@
 ghost use Rattle.mx_files.specs.Clauses.{Works};
 ghost use Rattle.mx_files.specs.FilePlans as plans;
 
-use mx_outcome::Outcome;
 use crate::pieces::put_piece;
 use mx_host::Host;
+use mx_outcome::Outcome;
 
 /// The slot of the tool's standard output.
 const OUTPUT_SLOT: u16 = 259;

@@ -5,8 +5,8 @@ ghost use Rattle.mx_files.specs.Clauses.{Works};
 ghost use Rattle.mx_files.specs.FilePlans as spec;
 ghost use Rattle.mx_files.specs.ObjectPlans.{outcome_of};
 
-use mx_outcome::Outcome;
 use mx_host::{Host, HostFault};
+use mx_outcome::Outcome;
 use mx_plan::{close, write};
 
 /// Writes one piece.

@@ -4,8 +4,8 @@ ghost use Rattle.std.specs.Prelude.{◌≡◌};
 ghost use Rattle.mx_files.specs.Loading as spec;
 ghost use Rattle.mx_files.specs.Assembling.{refused_with};
 
-use mx_outcome::Outcome;
 use mx_asm::{AsmFault, Refused};
+use mx_outcome::Outcome;
 
 /// The refusal of a source: the line from 1, the number of the fault, and the line of the reference that
 /// waited for the label of that line, or 0 where the fault is not about one.

@@ -7,9 +7,9 @@ ghost use Rattle.mx_outcome.specs.Kinds.{is_usage};
 ghost use Rattle.mx_files.specs.Clauses.{Works};
 ghost use Rattle.mx_files.specs.Schedules as spec;
 
-use mx_outcome::Outcome;
 use crate::source::{SOURCE_PIECES, read_file};
 use mx_host::Host;
+use mx_outcome::Outcome;
 use mx_word::Bytes;
 use std::alloc::Global;
 

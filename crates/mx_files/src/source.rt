@@ -8,9 +8,9 @@ ghost use Rattle.mx_files.specs.Clauses.{Works};
 ghost use Rattle.mx_files.specs.FilePlans as plans;
 ghost use Rattle.mx_files.specs.Source as spec;
 
-use mx_outcome::Outcome;
 use crate::pieces::close_file;
 use mx_host::{Host, HostFault, Mode, OpenFault};
+use mx_outcome::Outcome;
 use mx_plan::{open, read};
 use mx_word::Bytes;
 use std::alloc::Global;

@@ -18,11 +18,11 @@ ghost use Rattle.mx_files.specs.Source.{file_bytes};
 ghost use Rattle.mx_files.specs.Typed as spec;
 
 use crate::lines::write_line;
-use mx_outcome::Outcome;
 use crate::pieces::whole_outcome;
 use crate::source::{OBJECT_PIECES, read_file};
 use mx_host::Host;
 use mx_mmo::{Item, MmoFault, Reader, Tail};
+use mx_outcome::Outcome;
 use mx_stab::StabFault;
 use mx_type::Lister;
 use mx_word::{Bytes, Symbol};

@@ -15,7 +15,7 @@ use Rattle.mx_outcome.specs.declared.outcome.Outcome.{Outcome}
 use Rattle.mx_outcome.specs.declared.outcome.Outcome.TheVariants.{HostFault, NoFile, OutOfMemory, Usage}
 use Rattle.mx_files.proofs.FileClauses.{part-keeps}
 use Rattle.mx_files.proofs.Serving.{only-lines}
-use Rattle.mx_top.specs.Arguments.{Word}
+use Rattle.mx_begin.specs.Arguments.{Word}
 use Rattle.mx_top.specs.Causes.{Causes, FailsOnlyBy}
 
 -- no call, and an outcome that tells no fault of the host

@@ -17,7 +17,7 @@ use Rattle.mx_files.specs.Lines.{lines_put}
 use Rattle.mx_outcome.specs.declared.outcome.Outcome.{Outcome}
 use Rattle.mx_outcome.specs.declared.outcome.Outcome.TheVariants.{HostFault, OutOfMemory}
 use Rattle.mx_files.proofs.FileEnds.{lines-end}
-use Rattle.mx_top.specs.Dump.{dump_lines}
+use Rattle.mx_dump.specs.Dump.{dump_lines}
 use Rattle.mx_top.specs.ProductPlan.{written_with, telling, dumped_plan}
 use Rattle.mx_top.specs.Runs.{ran, dumped}
 use Rattle.mx_top.proofs.SameDumps.{same-dump}

@@ -20,8 +20,8 @@ use Rattle.mx_files.specs.Answers.{Answer, answered, wild, after_lines}
 use Rattle.mx_outcome.specs.Kinds.{leaves_machine}
 use Rattle.mx_files.specs.Lines.{lines_put}
 use Rattle.mx_outcome.specs.declared.outcome.Outcome.{Outcome}
-use Rattle.mx_top.specs.Arguments.{Word}
-use Rattle.mx_top.specs.Dump.{dump_lines}
+use Rattle.mx_begin.specs.Arguments.{Word}
+use Rattle.mx_dump.specs.Dump.{dump_lines}
 use Rattle.mx_top.specs.Reports.{UnlessWild, carried_traces, due_reports, found_reports}
 use Rattle.mx_top.specs.Runs.{ran, ran_to, dumped, outcome_of}
 

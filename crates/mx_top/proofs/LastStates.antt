@@ -7,7 +7,7 @@ use Rattle.mx_host.specs.HostModel.{HostModel}
 use Rattle.mx_back.specs.History.{states_before}
 use Rattle.mx_back.specs.KeptLists.{AreUntouched, as_lists}
 use Rattle.mx_back.proofs.Histories.{length-states}
-use Rattle.mx_con.specs.ConsoleTexts.{state_text}
+use Rattle.mx_show.specs.Texts.{state_text}
 use Rattle.mx_core.specs.Bounds.{as_list_state}
 use Rattle.mx_core.specs.State.{State}
 use Rattle.mx_core.specs.Undoing.{StateWas}

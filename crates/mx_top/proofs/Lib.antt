@@ -1,13 +1,9 @@
 pub mod Dumped
-pub mod DumpLines
 pub mod Generated
-pub mod Dumps
 pub mod MachineRuns
 pub mod PlainAnswers
-pub mod Pools
 pub mod SameDumps
 pub mod SessionRuns
-pub mod StartedMachines
 pub mod Summed
 pub mod Told
 pub mod Heard
@@ -21,6 +17,7 @@ pub mod MachinePlans
 pub mod LastStates
 pub mod TakenBack
 pub mod WorkParts
+pub mod Halves
 pub mod ProductEnds
 pub mod ProgramHeld
 pub mod Saying

@@ -8,7 +8,6 @@ use Rattle.mx_plan.specs.Calls.{host, HostPlan, need, write_plan}
 use Rattle.mx_plan.specs.Plan.{returns, bind, end_of, end_after}
 use Rattle.mx_plan.proofs.Plans.{end_bind, end_returns}
 use Rattle.mx_mmo.specs.Image.{Image}
-use Rattle.mx_load.specs.Objects.{object_loaded}
 use Rattle.mx_core.specs.State.{State}
 use Rattle.mx_run.specs.RunPlans.{RunWorld, running, run_plan}
 use Rattle.mx_run.specs.Runs.{no_flags, run}
@@ -24,7 +23,6 @@ use Rattle.mx_multi.specs.Joint.{Joint}
 use Rattle.mx_multi.specs.Joint as joint
 use Rattle.mx_multi.specs.Turns.{TurnsEnd}
 use Rattle.mx_multi.proofs.TurnPlans.{plan-end}
-use Rattle.mx_word.specs.declared.symbols.Symbol.{Symbol}
 use Rattle.mx_words.specs.declared.order.Command.{Command}
 use Rattle.mx_words.specs.declared.order.Command.TheVariants.{Run, Asm, Sim, Gen, Show, Multi}
 use Rattle.mx_words.specs.declared.order.Order.{Order}
@@ -44,14 +42,21 @@ use Rattle.mx_files.specs.declared.refusal.Refusal.{Refusal}
 use Rattle.mx_outcome.specs.declared.outcome.Outcome.{Outcome}
 use Rattle.mx_outcome.specs.declared.outcome.Outcome.TheVariants.{Done, Usage, NoFile, HostFault, Refused, BadObject, BadSchedule, Stopped, StepsSpent, Quit, ConsoleLimit, OutOfMemory}
 use Rattle.mx_files.proofs.FileEnds.{file-end, lines-end, assemble-end, list-end}
-use Rattle.mx_top.specs.Arguments.{Word, word_at, arguments}
-use Rattle.mx_top.specs.Dump.{dump_lines}
+use Rattle.mx_begin.specs.Arguments.{Word, word_at}
+use Rattle.mx_begin.specs.BeginPlans.{begin_plan, image_file_plan}
+use Rattle.mx_begin.specs.declared.images.Form.{Form}
+use Rattle.mx_begin.specs.declared.images.Form.TheVariants.{Source, Object}
+use Rattle.mx_begin.proofs.Beginnings.{image-end, begin-end}
+use Rattle.mx_dump.specs.Dump.{dump_lines}
 use Rattle.mx_top.specs.Processors.{processors_named, turns_told, joint_run, image_turns}
-use Rattle.mx_top.specs.Product.{after_image, after_source, after_loading, after_object, generator_steps, summed, summed_from, generated_run, source_generated, loaded_turns, object_turns, after_schedule, ordered, carried_out, message_told}
+use Rattle.mx_top.specs.Product.{generator_steps, summed, summed_from, generated_run, source_generated, object_turns, after_schedule, ordered, carried_out, message_told}
 use Rattle.mx_top.specs.ProductPlan as plans
 use Rattle.mx_top.specs.ProgramCalls.{program, ProgramPlan, on_host, steps_plan, reported_plan, keeping_plan, sitting_plan, turns_made}
 use Rattle.mx_top.specs.Reports.{report_put, reports_put}
-use Rattle.mx_top.specs.Runs.{ran, dumped, ran_to, machine_ran, session_ran, played, outcome_of, takes_back, state_lines, reached, lines_told, taken_back, run_back, run_from, image_run, started, stack_at_start}
+use Rattle.mx_top.specs.Runs.{ran, dumped, ran_to, machine_ran, session_ran, played, outcome_of, takes_back, state_lines, reached, lines_told, taken_back, run_back, run_from}
+use Rattle.mx_begin.specs.Begun.{started, stack_at_start, image_read, begun}
+use Rattle.mx_top.specs.Halves.{begun_run}
+use Rattle.mx_top.proofs.Halves.{run-joins, sim-joins, turned, turned-same}
 use Rattle.mx_top.proofs.TakenBack.{faulted, no-last}
 use Rattle.mx_top.proofs.WorkPlans.{end_on_host}
 
@@ -159,39 +164,11 @@ machine-end o s m = by o.interactive o.report (o.last == 0) refl
     by false true true e = watched-end o s m ∙ forward e
     by false false true e = stepped-end o s m ∙ forward e
 
-start-end : (o : Order) (r : Result State Outcome) (m : HostModel) → plainly (end_of program (plans.from_start o r) m) ≡ run_from window_machine o r m
-start-end o (Err outcome) m = ap plainly (end_returns program outcome m)
-start-end o (Ok s) m = machine-end o s m
-
-image-end : (o : Order) (words : List Word) (image : Image) (m : HostModel) → plainly (end_of program (plans.image_plan o words image) m) ≡ image_run window_machine o words image m
-unfolding plans.image_plan
-image-end o words image m = ap plainly (taking-end (plans.from_start o (started window_machine o.ring image words)) m) ∙ start-end o (started window_machine o.ring image words) m
-
 -- ---- `run` and `sim`
 
-source-end : (o : Order) (words : List Word) (source : List ℕ) (m : HostModel) → plainly (end_of program (plans.source_plan o words source) m) ≡ after_image window_machine o words (source_meaning source) m
-unfolding plans.source_plan
-source-end o words source m = ap plainly (taking-end (plans.meaning_plan o words (source_meaning source)) m) ∙ by (source_meaning source)
-  where
-    by : (r : Result Image Refusal) → plainly (end_of program (plans.meaning_plan o words r) m) ≡ after_image window_machine o words r m
-    by (Err refusal) = ap plainly (end_returns program _ m)
-    by (Ok image) = image-end o words image m
-
-object-end : (o : Order) (words : List Word) (object : List ℕ) (m : HostModel) → plainly (end_of program (plans.object_plan o words object) m) ≡ after_loading window_machine o words (object_loaded object) m
-unfolding plans.object_plan
-object-end o words object m = ap plainly (taking-end (plans.loading_plan o words (object_loaded object)) m) ∙ by (object_loaded object)
-  where
-    by : (r : Result (Image × List Symbol) (ℕ × ℕ)) → plainly (end_of program (plans.loading_plan o words r) m) ≡ after_loading window_machine o words r m
-    by (Err (place, fault)) = ap plainly (end_returns program _ m)
-    by (Ok (image, symbols)) = image-end o words image m
-
-run-file-end : (o : Order) (name : Word) (words : List Word) (m : HostModel) → plainly (end_of program (plans.run_file_plan o name words) m) ≡ after_source window_machine o words (file_bytes 1025 name m)
-unfolding plans.run_file_plan
-run-file-end o name words m = part-end (plans.source_plan o words) (after_source window_machine o words) (file_plan 1025 name) m (file_bytes 1025 name m) (file-end 1025 name m) (λ x n. refl) (λ x n. source-end o words x n)
-
-sim-file-end : (o : Order) (name : Word) (words : List Word) (m : HostModel) → plainly (end_of program (plans.sim_file_plan o name words) m) ≡ after_object window_machine o words (file_bytes 16385 name m)
-unfolding plans.sim_file_plan
-sim-file-end o name words m = part-end (plans.object_plan o words) (after_object window_machine o words) (file_plan 16385 name) m (file_bytes 16385 name m) (file-end 16385 name m) (λ x n. refl) (λ x n. object-end o words x n)
+begun-end : (words : List Word) (o : Order) (form : Form) (m : HostModel) → plainly (end_of program (plans.begun_plan words o form) m) ≡ begun_run window_machine o (begun window_machine words o form m)
+unfolding plans.begun_plan
+begun-end words o form m = part-end (plans.machine_plan o) (begun_run window_machine o) (begin_plan words o form) m (begun window_machine words o form m) (begin-end words o form m) (λ x n. refl) (λ s n. machine-end o s n)
 
 -- ---- `gen`
 
@@ -239,17 +216,11 @@ image-turns-end o schedule image m =
     let j = joint.started image (processors_named schedule) (stack_at_start window_machine o.ring) in
     ap plainly (taking-end (plans.joint_plan o schedule j) m) ∙ joint-end o schedule j m
 
-object-turns-end : (o : Order) (schedule object : List ℕ) (m : HostModel) → plainly (end_of program (plans.object_turns_plan o schedule object) m) ≡ loaded_turns window_machine o schedule (object_loaded object) m
-unfolding plans.object_turns_plan
-object-turns-end o schedule object m = ap plainly (taking-end (plans.loaded_turns_plan o schedule (object_loaded object)) m) ∙ by (object_loaded object)
-  where
-    by : (r : Result (Image × List Symbol) (ℕ × ℕ)) → plainly (end_of program (plans.loaded_turns_plan o schedule r) m) ≡ loaded_turns window_machine o schedule r m
-    by (Err (place, fault)) = ap plainly (end_returns program _ m)
-    by (Ok (image, symbols)) = image-turns-end o schedule image m
-
 turns-file-end : (o : Order) (name : Word) (schedule : List ℕ) (m : HostModel) → plainly (end_of program (plans.turns_file_plan o name schedule) m) ≡ object_turns window_machine o schedule (file_bytes 16385 name m)
 unfolding plans.turns_file_plan
-turns-file-end o name schedule m = part-end (plans.object_turns_plan o schedule) (object_turns window_machine o schedule) (file_plan 16385 name) m (file_bytes 16385 name m) (file-end 16385 name m) (λ x n. refl) (λ x n. object-turns-end o schedule x n)
+turns-file-end o name schedule m =
+    part-end (plans.image_turns_plan o schedule) (turned window_machine o schedule) (image_file_plan Object name) m (image_read Object name m) (image-end Object name m) (λ x n. refl) (λ x n. image-turns-end o schedule x n)
+    ∙ turned-same window_machine o schedule (file_bytes 16385 name m)
 
 judged-end : (t : Then (Result (List ℕ) Outcome)) → end_after host (on_ok (λ bytes. returns (schedule_in bytes))) t ≡ schedule_from t
 unfolding end_of
@@ -270,8 +241,8 @@ multi-end o schedule object m = part-end (plans.turns_file_plan o object) (after
 
 ordered-end : (words : List Word) (o : Order) (command : Command) (m : HostModel) → plainly (end_of program (plans.ordered_plan words o command) m) ≡ ordered window_machine words o command m
 unfolding plans.ordered_plan
-ordered-end words o Run m = ap plainly (taking-end (plans.run_file_plan o (word_at words o.file) (arguments words o)) m) ∙ run-file-end o (word_at words o.file) (arguments words o) m
-ordered-end words o Sim m = ap plainly (taking-end (plans.sim_file_plan o (word_at words o.file) (arguments words o)) m) ∙ sim-file-end o (word_at words o.file) (arguments words o) m
+ordered-end words o Run m = begun-end words o Source m ∙ run-joins window_machine words o m
+ordered-end words o Sim m = begun-end words o Object m ∙ sim-joins window_machine words o m
 ordered-end words o Asm m = host-answer (assemble_plan (word_at words o.file) (word_at words o.rest)) m ∙ ap plainly (assemble-end (word_at words o.file) (word_at words o.rest) m)
 ordered-end words o Gen m = ap plainly (taking-end (plans.generated_plan o (generated o.number)) m) ∙ generated-end o (generated o.number) m
 ordered-end words o Show m = host-answer (list_plan (word_at words o.file)) m ∙ list-end (word_at words o.file) m

@@ -13,7 +13,7 @@ use Rattle.mx_words.specs.declared.order.WordsFault.{WordsFault}
 use Rattle.mx_files.specs.Answers.{Answer, answered, wild, GoesAs}
 use Rattle.mx_outcome.specs.Messages.{message_of}
 use Rattle.mx_outcome.specs.declared.outcome.Outcome.{Outcome}
-use Rattle.mx_top.specs.Arguments.{Word}
+use Rattle.mx_begin.specs.Arguments.{Word}
 use Rattle.mx_top.specs.Product.{message_told, with_message, product}
 use Rattle.mx_top.specs.Reports.{UnlessWild, due_reports, reports_put, with_reports, watched_product}
 use Rattle.mx_top.proofs.MachineRuns.{goes-as}

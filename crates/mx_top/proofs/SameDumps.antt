@@ -10,8 +10,8 @@ use Rattle.mx_ring.specs.Stack.{as_listed, register, in_stack_area}
 use Rattle.mx_spec.specs.SpecialRegisters.{rS}
 use Rattle.mx_text.specs.Numbers.{hex_text}
 use Rattle.mx_cmd.specs.Specials.{special_name}
-use Rattle.mx_top.specs.Dump.{Line, named_octa, special_line, special_lines, register_line, register_lines, is_register_shown, is_address_shown, octa_line, octa_lines, octa_count, dump_lines}
-use Rattle.mx_top.proofs.Dumps.{address-hidden}
+use Rattle.mx_dump.specs.Dump.{Line, named_octa, special_line, special_lines, register_line, register_lines, is_register_shown, is_address_shown, octa_line, octa_lines, octa_count, dump_lines}
+use Rattle.mx_dump.proofs.Dumps.{address-hidden}
 
 pub same-each : (f g : ℕ → List Line) → ((k : ℕ) → f k ≡ g k) → (xs : List ℕ) → flat_map f xs ≡ flat_map g xs
 same-each f g h [] = refl

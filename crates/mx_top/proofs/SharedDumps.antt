@@ -15,10 +15,10 @@ use Rattle.mx_ring.specs.Stack.{in_stack_area, register, stack_address}
 use Rattle.std.specs.Prelude.{Result}
 use Rattle.mx_outcome.specs.declared.outcome.Outcome.{Outcome}
 use Rattle.mx_files.proofs.WrittenLines.{Writes, writes-none, writes-then, writes-ended}
-use Rattle.mx_top.specs.Dump.{Line, is_address_shown, octa_line}
+use Rattle.mx_dump.specs.Dump.{Line, is_address_shown, octa_line}
 use Rattle.mx_top.specs.Processors.{stop_text, processor_line, processor_lines, memory_alone, memory_lines, memory_if, multi_lines}
-use Rattle.mx_top.specs.Shown.{AreHidden, IsNextShown}
-use Rattle.mx_top.proofs.Dumps.{zero-hidden, address-hidden, octa-shown, hidden-through, outside, inside, area-below}
+use Rattle.mx_dump.specs.Shown.{AreHidden, IsNextShown}
+use Rattle.mx_dump.proofs.Dumps.{zero-hidden, address-hidden, octa-shown, hidden-through, outside, inside, area-below}
 use Rattle.mx_top.proofs.SameDumps.{same-each}
 
 -- ---- octas

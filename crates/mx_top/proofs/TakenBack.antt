@@ -32,7 +32,7 @@ use Rattle.mx_files.specs.Lines.{lines_put}
 use Rattle.mx_outcome.specs.declared.outcome.Outcome.{Outcome}
 use Rattle.mx_outcome.specs.declared.outcome.Outcome.TheVariants.{HostFault, OutOfMemory}
 use Rattle.mx_files.proofs.FileEnds.{lines-end}
-use Rattle.mx_top.specs.Dump.{dump_lines}
+use Rattle.mx_dump.specs.Dump.{dump_lines}
 use Rattle.mx_top.specs.ProductPlan.{then_dumped, dumped_plan, back_plan}
 use Rattle.mx_top.specs.Reports.{UnlessWild, HearsAs, HearsAsList, order_traces}
 use Rattle.mx_top.specs.Runs.{Ran, ran, ran_wild, ran_to, outcome_of, machine_ran, session_ran, run_from, dumped, takes_back, state_lines, reached, lines_told, taken_back, run_back}

@@ -5,12 +5,10 @@ use Rattle.mx_host.specs.HostModel.{HostModel, tells}
 use Rattle.mx_plan.specs.Clauses.{CarriesOut}
 use Rattle.mx_plan.specs.Plan.{returns}
 use Rattle.mx_mmo.specs.Image.{Image}
-use Rattle.mx_load.specs.Objects.{object_loaded}
 use Rattle.mx_core.specs.State.{State}
 use Rattle.mx_multi.specs.Joint.{Joint, started as joint_started}
 use Rattle.mx_run.specs.WildRuns.{window_machine, list_machine}
 use Rattle.mx_word.proofs.Comparisons.{other-test}
-use Rattle.mx_word.specs.declared.symbols.Symbol.{Symbol}
 use Rattle.mx_words.specs.declared.order.Command.{Command}
 use Rattle.mx_words.specs.declared.order.Command.TheVariants.{Run, Asm, Sim, Gen, Show, Multi}
 use Rattle.mx_words.specs.declared.order.Order.{Order}
@@ -18,29 +16,25 @@ use Rattle.mx_words.specs.declared.order.WordsFault.{WordsFault}
 use Rattle.law_gen.specs.Generator.{generated}
 use Rattle.mx_files.specs.Answers.{GoesAs}
 use Rattle.mx_files.specs.Assembling.{refused_with}
-use Rattle.mx_files.specs.FilePlans.{file_plan}
 use Rattle.mx_files.specs.ObjectPlans.{assemble_plan, list_plan}
 use Rattle.mx_files.specs.Schedules.{schedule_plan}
 use Rattle.mx_files.specs.Sources.{source_meaning}
 use Rattle.mx_files.specs.declared.refusal.Refusal.{Refusal}
 use Rattle.mx_outcome.specs.declared.outcome.Outcome.{Outcome}
-use Rattle.mx_outcome.specs.declared.outcome.Outcome.TheVariants.{Usage, BadObject, OutOfMemory}
-use Rattle.mx_top.specs.Arguments.{Word, word_at, arguments}
+use Rattle.mx_outcome.specs.declared.outcome.Outcome.TheVariants.{Usage, OutOfMemory}
+use Rattle.mx_begin.specs.Arguments.{Word, word_at}
+use Rattle.mx_begin.specs.BeginPlans.{begin_plan, image_file_plan}
+use Rattle.mx_begin.specs.declared.images.Form.{Form}
+use Rattle.mx_begin.specs.declared.images.Form.TheVariants.{Source, Object}
 use Rattle.mx_top.specs.Processors.{processors_named, joint_run, image_turns}
 use Rattle.mx_top.specs.ProgramCalls.{ProgramPlan}
 use Rattle.mx_top.specs.ProductPlan as plans
-use Rattle.mx_top.specs.Runs.{started, stack_at_start}
+use Rattle.mx_begin.specs.Begun.{started, stack_at_start}
 use Rattle.mx_top.specs.WorkClauses.{CarriesOutWork}
 use Rattle.mx_top.proofs.Told.{wanting}
 use Rattle.mx_top.proofs.WorkPlans.{work-host, work-returns, work-lacks, work-taking, work-then, work-ends}
 
--- ---- an image that is run
-
-pub started-plan : (a b : Option HostModel) (r : Outcome) (o : Order) (arguments : List Word) (image : Image) (s : State) → Ok s ≡ started window_machine o.ring image arguments →
-    CarriesOutWork a b r (plans.machine_plan o s) → CarriesOutWork a b r (plans.image_plan o arguments image)
-unfolding plans.image_plan
-started-plan a b r o arguments image s e h =
-    work-taking a b r (plans.from_start o (started window_machine o.ring image arguments)) (subst (λ (x : Result State Outcome). CarriesOutWork a b r (plans.from_start o x)) e h)
+-- ---- `run` and `sim`
 
 unstarted : (a : Option HostModel) (r : Outcome) (start : Result State Outcome) (more : Result State Outcome → ProgramPlan Outcome) → ((e : Outcome) → more (Err e) ≡ returns e) → (r ≢ OutOfMemory → Err r ≡ start) →
     (r ≡ OutOfMemory) ⊎ (r ≢ OutOfMemory) → CarriesOutWork a a r (plans.taking (more start))
@@ -48,67 +42,15 @@ unstarted a r start more ends is (inl e) = rw e (work-lacks a (more start))
 unstarted a r start more ends is (inr ne) =
     work-taking a a r (more start) (subst (λ (x : Result State Outcome). CarriesOutWork a a r (more x)) (is ne) (subst (λ (p : ProgramPlan Outcome). CarriesOutWork a a r p) (sym (ends r)) (work-returns a r ne)))
 
-pub unstarted-plan : (a : Option HostModel) (r : Outcome) (o : Order) (arguments : List Word) (image : Image) → (r ≢ OutOfMemory → Err r ≡ started window_machine o.ring image arguments) →
-    CarriesOutWork a a r (plans.image_plan o arguments image)
-unfolding plans.image_plan
-unstarted-plan a r o arguments image is = unstarted a r (started window_machine o.ring image arguments) (plans.from_start o) (λ e. refl) is (wanting r)
+-- a machine that has begun, or has not
+pub begun-work : (a b c : Option HostModel) (r : Outcome) (words : List Word) (o : Order) (form : Form) (s : State) → tells b ≡ tells a → CarriesOut a b (Err OutOfMemory) (Ok s) (begin_plan words o form) →
+    CarriesOutWork b c r (plans.machine_plan o s) → CarriesOutWork a c r (plans.begun_plan words o form)
+unfolding plans.begun_plan
+begun-work a b c r words o form s e first second = work-then a b c s r (plans.machine_plan o) (begin_plan words o form) e first second
 
--- ---- a source, and an object
-
-pub source-run : (a b : Option HostModel) (r : Outcome) (o : Order) (arguments : List Word) (source : List ℕ) (image : Image) → Ok image ≡ source_meaning source →
-    CarriesOutWork a b r (plans.image_plan o arguments image) → CarriesOutWork a b r (plans.source_plan o arguments source)
-unfolding plans.source_plan
-source-run a b r o arguments source image e h =
-    work-taking a b r (plans.meaning_plan o arguments (source_meaning source)) (subst (λ (x : Result Image Refusal). CarriesOutWork a b r (plans.meaning_plan o arguments x)) e h)
-
-pub source-refused : (a : Option HostModel) (r : Outcome) (o : Order) (arguments : List Word) (source : List ℕ) (refusal : Refusal) → Err refusal ≡ source_meaning source → r ≡ refused_with refusal →
-    CarriesOutWork a a r (plans.source_plan o arguments source)
-unfolding plans.source_plan
-source-refused a r o arguments source refusal e is =
-    work-taking a a r (plans.meaning_plan o arguments (source_meaning source))
-    (subst (λ (x : Result Image Refusal). CarriesOutWork a a r (plans.meaning_plan o arguments x)) e (rw is (work-returns a (refused_with refusal) (λ n. absurd (cc)))))
-
-pub source-lacks : (a : Option HostModel) (o : Order) (arguments : List Word) (source : List ℕ) → CarriesOutWork a a OutOfMemory (plans.source_plan o arguments source)
-unfolding plans.source_plan
-source-lacks a o arguments source = work-lacks a (plans.meaning_plan o arguments (source_meaning source))
-
-pub object-run : (a b : Option HostModel) (r : Outcome) (o : Order) (arguments : List Word) (object : List ℕ) (image : Image) (symbols : List Symbol) → Ok (image, symbols) ≡ object_loaded object →
-    CarriesOutWork a b r (plans.image_plan o arguments image) → CarriesOutWork a b r (plans.object_plan o arguments object)
-unfolding plans.object_plan
-object-run a b r o arguments object image symbols e h =
-    work-taking a b r (plans.loading_plan o arguments (object_loaded object)) (subst (λ (x : Result (Image × List Symbol) (ℕ × ℕ)). CarriesOutWork a b r (plans.loading_plan o arguments x)) e h)
-
-pub object-refused : (a : Option HostModel) (o : Order) (arguments : List Word) (object : List ℕ) (place fault : ℕ) → Err (place, fault) ≡ object_loaded object → CarriesOutWork a a (BadObject place fault) (plans.object_plan o arguments object)
-unfolding plans.object_plan
-object-refused a o arguments object place fault e =
-    work-taking a a (BadObject place fault) (plans.loading_plan o arguments (object_loaded object))
-    (subst (λ (x : Result (Image × List Symbol) (ℕ × ℕ)). CarriesOutWork a a (BadObject place fault) (plans.loading_plan o arguments x)) e (work-returns a (BadObject place fault) (λ n. absurd (cc))))
-
-pub object-lacks : (a : Option HostModel) (o : Order) (arguments : List Word) (object : List ℕ) → CarriesOutWork a a OutOfMemory (plans.object_plan o arguments object)
-unfolding plans.object_plan
-object-lacks a o arguments object = work-lacks a (plans.loading_plan o arguments (object_loaded object))
-
--- ---- files
-
-pub file-run : (a b c : Option HostModel) (bytes text : List ℕ) (r : Outcome) (o : Order) (name : Word) (arguments : List Word) → tells b ≡ tells a → text ≡ bytes → CarriesOut a b (Err OutOfMemory) (Ok bytes) (file_plan 1025 name) →
-    CarriesOutWork b c r (plans.source_plan o arguments text) → CarriesOutWork a c r (plans.run_file_plan o name arguments)
-unfolding plans.run_file_plan
-file-run a b c bytes text r o name arguments e is first second =
-    work-then a b c bytes r (plans.source_plan o arguments) (file_plan 1025 name) e first (subst (λ (x : List ℕ). CarriesOutWork b c r (plans.source_plan o arguments x)) is second)
-
-pub file-unread : (a b : Option HostModel) (r : Outcome) (o : Order) (name : Word) (arguments : List Word) → CarriesOut a b (Err OutOfMemory) (Err r) (file_plan 1025 name) → CarriesOutWork a b r (plans.run_file_plan o name arguments)
-unfolding plans.run_file_plan
-file-unread a b r o name arguments h = work-ends a b r (plans.source_plan o arguments) (file_plan 1025 name) h
-
-pub file-loaded : (a b c : Option HostModel) (bytes text : List ℕ) (r : Outcome) (o : Order) (name : Word) (arguments : List Word) → tells b ≡ tells a → text ≡ bytes → CarriesOut a b (Err OutOfMemory) (Ok bytes) (file_plan 16385 name) →
-    CarriesOutWork b c r (plans.object_plan o arguments text) → CarriesOutWork a c r (plans.sim_file_plan o name arguments)
-unfolding plans.sim_file_plan
-file-loaded a b c bytes text r o name arguments e is first second =
-    work-then a b c bytes r (plans.object_plan o arguments) (file_plan 16385 name) e first (subst (λ (x : List ℕ). CarriesOutWork b c r (plans.object_plan o arguments x)) is second)
-
-pub file-unloaded : (a b : Option HostModel) (r : Outcome) (o : Order) (name : Word) (arguments : List Word) → CarriesOut a b (Err OutOfMemory) (Err r) (file_plan 16385 name) → CarriesOutWork a b r (plans.sim_file_plan o name arguments)
-unfolding plans.sim_file_plan
-file-unloaded a b r o name arguments h = work-ends a b r (plans.object_plan o arguments) (file_plan 16385 name) h
+pub unbegun-work : (a b : Option HostModel) (r : Outcome) (words : List Word) (o : Order) (form : Form) → CarriesOut a b (Err OutOfMemory) (Err r) (begin_plan words o form) → CarriesOutWork a b r (plans.begun_plan words o form)
+unfolding plans.begun_plan
+unbegun-work a b r words o form h = work-ends a b r (plans.machine_plan o) (begin_plan words o form) h
 
 -- ---- `gen`
 
@@ -153,31 +95,14 @@ pub turns-lack : (a : Option HostModel) (o : Order) (schedule : List ℕ) (image
 unfolding plans.image_turns_plan
 turns-lack a o schedule image = work-lacks a (plans.joint_plan o schedule (joint_started image (processors_named schedule) (stack_at_start window_machine o.ring)))
 
-pub turns-loaded : (a b : Option HostModel) (r : Outcome) (o : Order) (schedule object : List ℕ) (image : Image) (symbols : List Symbol) → Ok (image, symbols) ≡ object_loaded object →
-    CarriesOutWork a b r (plans.image_turns_plan o schedule image) → CarriesOutWork a b r (plans.object_turns_plan o schedule object)
-unfolding plans.object_turns_plan
-turns-loaded a b r o schedule object image symbols e h =
-    work-taking a b r (plans.loaded_turns_plan o schedule (object_loaded object)) (subst (λ (x : Result (Image × List Symbol) (ℕ × ℕ)). CarriesOutWork a b r (plans.loaded_turns_plan o schedule x)) e h)
-
-pub turns-refused : (a : Option HostModel) (o : Order) (schedule object : List ℕ) (place fault : ℕ) → Err (place, fault) ≡ object_loaded object → CarriesOutWork a a (BadObject place fault) (plans.object_turns_plan o schedule object)
-unfolding plans.object_turns_plan
-turns-refused a o schedule object place fault e =
-    work-taking a a (BadObject place fault) (plans.loaded_turns_plan o schedule (object_loaded object))
-    (subst (λ (x : Result (Image × List Symbol) (ℕ × ℕ)). CarriesOutWork a a (BadObject place fault) (plans.loaded_turns_plan o schedule x)) e (work-returns a (BadObject place fault) (λ n. absurd (cc))))
-
-pub turns-unloaded : (a : Option HostModel) (o : Order) (schedule object : List ℕ) → CarriesOutWork a a OutOfMemory (plans.object_turns_plan o schedule object)
-unfolding plans.object_turns_plan
-turns-unloaded a o schedule object = work-lacks a (plans.loaded_turns_plan o schedule (object_loaded object))
-
-pub turns-file : (a b c : Option HostModel) (bytes text : List ℕ) (r : Outcome) (o : Order) (name : Word) (schedule : List ℕ) → tells b ≡ tells a → text ≡ bytes → CarriesOut a b (Err OutOfMemory) (Ok bytes) (file_plan 16385 name) →
-    CarriesOutWork b c r (plans.object_turns_plan o schedule text) → CarriesOutWork a c r (plans.turns_file_plan o name schedule)
+pub turns-file : (a b c : Option HostModel) (image : Image) (r : Outcome) (o : Order) (name : Word) (schedule : List ℕ) → tells b ≡ tells a → CarriesOut a b (Err OutOfMemory) (Ok image) (image_file_plan Object name) →
+    CarriesOutWork b c r (plans.image_turns_plan o schedule image) → CarriesOutWork a c r (plans.turns_file_plan o name schedule)
 unfolding plans.turns_file_plan
-turns-file a b c bytes text r o name schedule e is first second =
-    work-then a b c bytes r (plans.object_turns_plan o schedule) (file_plan 16385 name) e first (subst (λ (x : List ℕ). CarriesOutWork b c r (plans.object_turns_plan o schedule x)) is second)
+turns-file a b c image r o name schedule e first second = work-then a b c image r (plans.image_turns_plan o schedule) (image_file_plan Object name) e first second
 
-pub turns-unread : (a b : Option HostModel) (r : Outcome) (o : Order) (name : Word) (schedule : List ℕ) → CarriesOut a b (Err OutOfMemory) (Err r) (file_plan 16385 name) → CarriesOutWork a b r (plans.turns_file_plan o name schedule)
+pub turns-unread : (a b : Option HostModel) (r : Outcome) (o : Order) (name : Word) (schedule : List ℕ) → CarriesOut a b (Err OutOfMemory) (Err r) (image_file_plan Object name) → CarriesOutWork a b r (plans.turns_file_plan o name schedule)
 unfolding plans.turns_file_plan
-turns-unread a b r o name schedule h = work-ends a b r (plans.object_turns_plan o schedule) (file_plan 16385 name) h
+turns-unread a b r o name schedule h = work-ends a b r (plans.image_turns_plan o schedule) (image_file_plan Object name) h
 
 pub schedule-turns : (a b c : Option HostModel) (bytes text : List ℕ) (r : Outcome) (o : Order) (schedule object : Word) → tells b ≡ tells a → text ≡ bytes → CarriesOut a b (Err OutOfMemory) (Ok bytes) (schedule_plan schedule) →
     CarriesOutWork b c r (plans.turns_file_plan o object text) → CarriesOutWork a c r (plans.multi_plan o schedule object)
@@ -227,27 +152,13 @@ steps-chosen a b r o s i none e h = forward a b r o s i none (subst (λ (x : Boo
 pub generated-named : (a b : Option HostModel) (r : Outcome) (o : Order) (source text : List ℕ) → text ≡ source → CarriesOutWork a b r (plans.generated_plan o text) → CarriesOutWork a b r (plans.taking (plans.generated_plan o source))
 generated-named a b r o source text e h = work-taking a b r (plans.generated_plan o source) (subst (λ (x : List ℕ). CarriesOutWork a b r (plans.generated_plan o x)) e h)
 
-pub run-ordered : (a b : Option HostModel) (r : Outcome) (words : List Word) (o : Order) (name : Word) (args : List Word) → name ≡ word_at words o.file → args ≡ arguments words o → CarriesOutWork a b r (plans.run_file_plan o name args) →
-    CarriesOutWork a b r (plans.ordered_plan words o Run)
+pub run-ordered : (a b : Option HostModel) (r : Outcome) (words : List Word) (o : Order) → o.command ≡ Run → CarriesOutWork a b r (plans.begun_plan words o Source) → CarriesOutWork a b r (plans.ordered_plan words o o.command)
 unfolding plans.ordered_plan
-run-ordered a b r words o name args e f h =
-    work-taking a b r (plans.run_file_plan o (word_at words o.file) (arguments words o))
-    (subst (λ (x : Word). CarriesOutWork a b r (plans.run_file_plan o x (arguments words o))) e (subst (λ (x : List Word). CarriesOutWork a b r (plans.run_file_plan o name x)) f h))
+run-ordered a b r words o c h = subst (λ (x : Command). CarriesOutWork a b r (plans.ordered_plan words o x)) (sym c) h
 
-pub run-unordered : (a : Option HostModel) (words : List Word) (o : Order) → CarriesOutWork a a OutOfMemory (plans.ordered_plan words o Run)
+pub sim-ordered : (a b : Option HostModel) (r : Outcome) (words : List Word) (o : Order) → o.command ≡ Sim → CarriesOutWork a b r (plans.begun_plan words o Object) → CarriesOutWork a b r (plans.ordered_plan words o o.command)
 unfolding plans.ordered_plan
-run-unordered a words o = work-lacks a (plans.run_file_plan o (word_at words o.file) (arguments words o))
-
-pub sim-ordered : (a b : Option HostModel) (r : Outcome) (words : List Word) (o : Order) (name : Word) (args : List Word) → name ≡ word_at words o.file → args ≡ arguments words o → CarriesOutWork a b r (plans.sim_file_plan o name args) →
-    CarriesOutWork a b r (plans.ordered_plan words o Sim)
-unfolding plans.ordered_plan
-sim-ordered a b r words o name args e f h =
-    work-taking a b r (plans.sim_file_plan o (word_at words o.file) (arguments words o))
-    (subst (λ (x : Word). CarriesOutWork a b r (plans.sim_file_plan o x (arguments words o))) e (subst (λ (x : List Word). CarriesOutWork a b r (plans.sim_file_plan o name x)) f h))
-
-pub sim-unordered : (a : Option HostModel) (words : List Word) (o : Order) → CarriesOutWork a a OutOfMemory (plans.ordered_plan words o Sim)
-unfolding plans.ordered_plan
-sim-unordered a words o = work-lacks a (plans.sim_file_plan o (word_at words o.file) (arguments words o))
+sim-ordered a b r words o c h = subst (λ (x : Command). CarriesOutWork a b r (plans.ordered_plan words o x)) (sym c) h
 
 pub asm-ordered : (a b : Option HostModel) (r : Outcome) (words : List Word) (o : Order) (source object : Word) → o.command ≡ Asm → source ≡ word_at words o.file → object ≡ word_at words o.rest → CarriesOut a b OutOfMemory r (assemble_plan source object) →
     CarriesOutWork a b r (plans.ordered_plan words o o.command)

@@ -8,7 +8,7 @@ use Rattle.mx_words.specs.declared.order.WordsFault.{WordsFault}
 use Rattle.mx_outcome.specs.Kinds.{is_usage}
 use Rattle.mx_outcome.specs.declared.outcome.Outcome.{Outcome}
 use Rattle.mx_outcome.specs.declared.outcome.Outcome.TheVariants.{HostFault, NoFile, OutOfMemory, Usage}
-use Rattle.mx_top.specs.Arguments.{Word}
+use Rattle.mx_begin.specs.Arguments.{Word}
 
 -- A part of the work fails only so: where slots 258 and 259 lead to the tool's streams, the host is at fault only where a call
 -- failed; over a host that tells nothing a file is missing only so, too; the words are not at fault; and what every function

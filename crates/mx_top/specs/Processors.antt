@@ -17,8 +17,8 @@ use Rattle.mx_files.specs.Answers.{Answer, wild, after_lines}
 use Rattle.mx_files.specs.Lines.{lines_put}
 use Rattle.mx_outcome.specs.declared.outcome.Outcome.{Outcome}
 use Rattle.mx_outcome.specs.declared.outcome.Outcome.TheVariants.{Done, Stopped, StepsSpent, OutOfMemory}
-use Rattle.mx_top.specs.Dump.{Line, octa_lines, octa_count}
-use Rattle.mx_top.specs.Runs.{stack_at_start}
+use Rattle.mx_dump.specs.Dump.{Line, octa_lines, octa_count}
+use Rattle.mx_begin.specs.Begun.{stack_at_start}
 
 -- as many processors as the greatest byte of a schedule and one
 abbrev pub with_named : ℕ → ℕ → ℕ

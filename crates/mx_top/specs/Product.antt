@@ -15,12 +15,13 @@ use Rattle.mx_words.specs.declared.order.Command.TheVariants.{Run, Asm, Sim, Gen
 use Rattle.mx_words.specs.declared.order.Order.{Order}
 use Rattle.mx_words.specs.declared.order.WordsFault.{WordsFault}
 use Rattle.mx_files.specs.Answers.{Answer, answered, wild, plainly, and_then, after_lines}
-use Rattle.mx_top.specs.Arguments.{Word, word_at, arguments}
+use Rattle.mx_begin.specs.Arguments.{Word, word_at, arguments}
 use Rattle.law_gen.specs.Generator.{generated, summary}
 use Rattle.mx_files.specs.Lines.{lines_put}
 use Rattle.mx_outcome.specs.Messages.{message_of}
 use Rattle.mx_files.specs.Assembling.{refused_with, after_reading}
-use Rattle.mx_top.specs.Runs.{Ran, ran, ran_wild, machine_ran, started, image_run}
+use Rattle.mx_top.specs.Runs.{Ran, ran, ran_wild, machine_ran, image_run}
+use Rattle.mx_begin.specs.Begun.{started}
 use Rattle.mx_top.specs.Processors.{image_turns}
 use Rattle.mx_files.specs.Schedules.{schedule_bytes}
 use Rattle.mx_files.specs.Source.{file_bytes, source_pieces, object_pieces}

@@ -4,7 +4,6 @@ use Rattle.mx_host.specs.declared.faults.HostFault.{HostFault}
 use Rattle.mx_plan.specs.Plan.{returns, bind}
 use Rattle.mx_plan.specs.Calls.{HostPlan, need, write_plan}
 use Rattle.mx_mmo.specs.Image.{Image}
-use Rattle.mx_load.specs.Objects.{object_loaded}
 use Rattle.mx_core.specs.State.{State}
 use Rattle.mx_ring.specs.Stack.{register}
 use Rattle.mx_run.specs.WildRuns.{window_machine}
@@ -13,7 +12,6 @@ use Rattle.mx_con.specs.declared.end.SessionEnd.{SessionEnd}
 use Rattle.mx_multi.specs.Joint.{Joint}
 use Rattle.mx_multi.specs.Joint as joint
 use Rattle.mx_multi.specs.declared.end.MultiEnd.{MultiEnd}
-use Rattle.mx_word.specs.declared.symbols.Symbol.{Symbol}
 use Rattle.mx_words.specs.declared.order.Command.{Command}
 use Rattle.mx_words.specs.declared.order.Command.TheVariants.{Run, Asm, Sim, Gen, Show, Multi}
 use Rattle.mx_words.specs.declared.order.Order.{Order}
@@ -21,21 +19,24 @@ use Rattle.mx_words.specs.declared.order.WordsFault.{WordsFault}
 use Rattle.law_gen.specs.Generator.{generated, summary}
 use Rattle.mx_outcome.specs.Kinds.{leaves_machine}
 use Rattle.mx_files.specs.Assembling.{refused_with}
-use Rattle.mx_files.specs.FilePlans.{file_plan, lines_plan}
+use Rattle.mx_files.specs.FilePlans.{lines_plan}
 use Rattle.mx_outcome.specs.Messages.{message_of}
 use Rattle.mx_files.specs.ObjectPlans.{assemble_plan, list_plan}
 use Rattle.mx_files.specs.Schedules.{schedule_plan}
-use Rattle.mx_files.specs.Source.{source_pieces, object_pieces}
 use Rattle.mx_files.specs.Sources.{source_meaning}
 use Rattle.mx_outcome.specs.declared.outcome.Outcome.{Outcome}
-use Rattle.mx_outcome.specs.declared.outcome.Outcome.TheVariants.{Done, Usage, BadObject}
+use Rattle.mx_outcome.specs.declared.outcome.Outcome.TheVariants.{Done, Usage}
 use Rattle.mx_files.specs.declared.refusal.Refusal.{Refusal}
-use Rattle.mx_top.specs.Arguments.{Word, word_at, arguments}
-use Rattle.mx_top.specs.Dump.{Line, dump_lines}
+use Rattle.mx_begin.specs.Arguments.{Word, word_at}
+use Rattle.mx_begin.specs.BeginPlans.{begin_plan, image_file_plan}
+use Rattle.mx_begin.specs.declared.images.Form.{Form}
+use Rattle.mx_begin.specs.declared.images.Form.TheVariants.{Source, Object}
+use Rattle.mx_dump.specs.Dump.{Line, dump_lines}
 use Rattle.mx_top.specs.Processors.{multi_lines, multi_outcome, processors_named}
 use Rattle.mx_top.specs.Product.{generator_steps}
 use Rattle.mx_top.specs.ProgramCalls.{ProgramPlan, on_host, steps_plan, reported_plan, keeping_plan, sitting_plan, turns_made}
-use Rattle.mx_top.specs.Runs.{outcome_of, session_outcome, takes_back, state_lines, reached, started, stack_at_start}
+use Rattle.mx_top.specs.Runs.{outcome_of, session_outcome, takes_back, state_lines, reached}
+use Rattle.mx_begin.specs.Begun.{started, stack_at_start}
 
 -- ---- PARTS
 
@@ -101,38 +102,11 @@ machine_plan o s =
     else if o.report then watched_plan o s
     else stepped_plan o s
 
--- a machine that was started runs, or was none
-abbrev pub from_start : Order → Result State Outcome → ProgramPlan Outcome
-from_start o (Err outcome) = returns outcome
-from_start o (Ok s) = machine_plan o s
-
--- a machine takes memory to start
-unfoldable pub image_plan : Order → List Word → Image → ProgramPlan Outcome
-image_plan o arguments image = taking (from_start o (started window_machine o.ring image arguments))
-
 -- ---- `run` AND `sim`
 
-abbrev pub meaning_plan : Order → List Word → Result Image Refusal → ProgramPlan Outcome
-meaning_plan o arguments (Err refusal) = returns (refused_with refusal)
-meaning_plan o arguments (Ok image) = image_plan o arguments image
-
--- a source takes memory to assemble
-unfoldable pub source_plan : Order → List Word → List ℕ → ProgramPlan Outcome
-source_plan o arguments source = taking (meaning_plan o arguments (source_meaning source))
-
-abbrev pub loading_plan : Order → List Word → Result (Image × List Symbol) (ℕ × ℕ) → ProgramPlan Outcome
-loading_plan o arguments (Err (place, fault)) = returns (BadObject place fault)
-loading_plan o arguments (Ok (image, symbols)) = image_plan o arguments image
-
--- so does an object to load
-unfoldable pub object_plan : Order → List Word → List ℕ → ProgramPlan Outcome
-object_plan o arguments object = taking (loading_plan o arguments (object_loaded object))
-
-unfoldable pub run_file_plan : Order → Word → List Word → ProgramPlan Outcome
-run_file_plan o name arguments = bind (on_part (source_plan o arguments)) (on_host (file_plan source_pieces name))
-
-unfoldable pub sim_file_plan : Order → Word → List Word → ProgramPlan Outcome
-sim_file_plan o name arguments = bind (on_part (object_plan o arguments)) (on_host (file_plan object_pieces name))
+-- a machine begins, and what has begun runs
+unfoldable pub begun_plan : List Word → Order → Form → ProgramPlan Outcome
+begun_plan words o form = bind (on_part (machine_plan o)) (on_host (begin_plan words o form))
 
 -- ---- `gen`
 
@@ -177,26 +151,19 @@ joint_plan o schedule j = bind (after_turns o) (turns_made o.steps schedule j)
 unfoldable pub image_turns_plan : Order → List ℕ → Image → ProgramPlan Outcome
 image_turns_plan o schedule image = taking (joint_plan o schedule (joint.started image (processors_named schedule) (stack_at_start window_machine o.ring)))
 
-abbrev pub loaded_turns_plan : Order → List ℕ → Result (Image × List Symbol) (ℕ × ℕ) → ProgramPlan Outcome
-loaded_turns_plan o schedule (Err (place, fault)) = returns (BadObject place fault)
-loaded_turns_plan o schedule (Ok (image, symbols)) = image_turns_plan o schedule image
-
-unfoldable pub object_turns_plan : Order → List ℕ → List ℕ → ProgramPlan Outcome
-object_turns_plan o schedule object = taking (loaded_turns_plan o schedule (object_loaded object))
-
 -- the object is read where the schedule is in order
 unfoldable pub turns_file_plan : Order → Word → List ℕ → ProgramPlan Outcome
-turns_file_plan o name schedule = bind (on_part (object_turns_plan o schedule)) (on_host (file_plan object_pieces name))
+turns_file_plan o name schedule = bind (on_part (image_turns_plan o schedule)) (on_host (image_file_plan Object name))
 
 unfoldable pub multi_plan : Order → Word → Word → ProgramPlan Outcome
 multi_plan o schedule object = bind (on_part (turns_file_plan o object)) (on_host (schedule_plan schedule))
 
 -- ---- THE WORDS
 
--- the arguments of a program take memory, and so does a source that is made
+-- a source that is made takes memory
 unfoldable pub ordered_plan : List Word → Order → Command → ProgramPlan Outcome
-ordered_plan words o Run = taking (run_file_plan o (word_at words o.file) (arguments words o))
-ordered_plan words o Sim = taking (sim_file_plan o (word_at words o.file) (arguments words o))
+ordered_plan words o Run = begun_plan words o Source
+ordered_plan words o Sim = begun_plan words o Object
 ordered_plan words o Asm = on_host (assemble_plan (word_at words o.file) (word_at words o.rest))
 ordered_plan words o Gen = taking (generated_plan o (generated o.number))
 ordered_plan words o Show = on_host (list_plan (word_at words o.file))

@@ -6,7 +6,7 @@ use Rattle.mx_watch.specs.Watching.{Watching}
 use Rattle.mx_words.specs.Orders.{order_of}
 use Rattle.mx_files.specs.Answers.{AnswersAs, AnswersAsList, WritesFrontOf}
 use Rattle.mx_outcome.specs.declared.outcome.Outcome.{Outcome}
-use Rattle.mx_top.specs.Arguments.{Word}
+use Rattle.mx_begin.specs.Arguments.{Word}
 use Rattle.mx_top.specs.Product as spec
 use Rattle.mx_top.specs.ProductPlan.{work_plan}
 use Rattle.mx_top.specs.Reports.{LeavesWatchers, carried_traces, due_reports, watched_product}

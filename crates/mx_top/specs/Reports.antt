@@ -25,9 +25,9 @@ use Rattle.mx_files.specs.Sources.{source_meaning}
 use Rattle.mx_outcome.specs.declared.outcome.Outcome.{Outcome}
 use Rattle.mx_outcome.specs.declared.outcome.Outcome.TheVariants.{OutOfMemory}
 use Rattle.mx_files.specs.declared.refusal.Refusal.{Refusal}
-use Rattle.mx_top.specs.Arguments.{Word, word_at, arguments}
+use Rattle.mx_begin.specs.Arguments.{Word, word_at, arguments}
 use Rattle.mx_top.specs.Product.{product}
-use Rattle.mx_top.specs.Runs.{started}
+use Rattle.mx_begin.specs.Begun.{started}
 
 -- ---- the traces that watchers are told: those of the steps of the run, where the order asks for reports. A session has none, nor
 -- has a run whose steps are taken back.

@@ -15,22 +15,17 @@ use Rattle.mx_run.specs.declared.end.End.{End}
 use Rattle.mx_run.specs.declared.end.End.TheVariants as ending
 use Rattle.mx_back.specs.History.{states_kept}
 use Rattle.mx_back.specs.KeptRuns.{turns_of}
-use Rattle.mx_con.specs.ConsoleTexts.{ended, state_text}
+use Rattle.mx_show.specs.Texts.{ended, state_text}
 use Rattle.mx_con.specs.Session.{SessionRun, session_ended, session_wild, session}
 use Rattle.mx_con.specs.declared.end.SessionEnd.{SessionEnd}
 use Rattle.mx_con.specs.declared.end.SessionEnd.TheVariants as sitting
 use Rattle.mx_words.specs.declared.order.Order.{Order}
 use Rattle.mx_files.specs.Answers.{Answer, answered, wild, after_lines}
 use Rattle.mx_outcome.specs.Kinds.{leaves_machine}
-use Rattle.mx_top.specs.Dump.{Line, dump_lines}
+use Rattle.mx_dump.specs.Dump.{Line, dump_lines}
 use Rattle.mx_files.specs.Lines.{lines_put}
 use Rattle.mx_outcome.specs.declared.outcome.Outcome.{Outcome}
 use Rattle.mx_outcome.specs.declared.outcome.Outcome.TheVariants.{Done, HostFault, Stopped, StepsSpent, Quit, ConsoleLimit, OutOfMemory}
-
--- the register stack at the start: a ring of so many registers, or a list
-abbrev pub stack_at_start : MachineKind → ℕ → Stack
-stack_at_start window_machine ring = windowed (window_at_start ring)
-stack_at_start list_machine ring = listed list_at_start
 
 -- what a run comes to: an outcome with the machine and the host as they then stand
 pub data Ran : Type 0 where
@@ -111,22 +106,6 @@ abbrev pub dumped : Bool → Ran → Answer
 dumped dump (ran_wild m) = wild m
 dumped dump (ran outcome s m) =
     if dump && leaves_machine outcome then after_lines outcome (lines_put (dump_lines s) m) else answered outcome m
-
--- where a program begins
-abbrev pub main_address : Image → ℕ
-main_address image = image.global 255 / 4 * 4
-
--- a machine that starts with its program at this address, or the stop of one whose pages are full
-abbrev pub pages_full : ℕ
-pages_full = 118
-
-abbrev pub begun_at : ℕ → Option State → Result State Outcome
-begun_at pc None = Err (Stopped pc pages_full)
-begun_at pc (Some s) = Ok s
-
--- the machine of an image with these arguments, at its start
-abbrev pub started : MachineKind → ℕ → Image → List (List ℕ) → Result State Outcome
-started kind ring image arguments = begun_at (main_address image) (start image arguments (stack_at_start kind ring))
 
 -- an image is run with these arguments
 abbrev pub run_from : MachineKind → Order → Result State Outcome → HostModel → Answer

@@ -10,10 +10,10 @@ ghost use Rattle.mx_top.specs.Causes.{FailsOnlyBy};
 ghost use Rattle.mx_top.specs.ProductPlan as plans;
 ghost use Rattle.mx_top.specs.Runs as spec;
 
-use crate::dump::dump;
 use mx_core::Machine;
-use mx_outcome::Outcome;
+use mx_dump::dump;
 use mx_host::Host;
+use mx_outcome::Outcome;
 use std::alloc::Global;
 
 /// Whether a dump is written: where it is wanted, and a machine is left with something to tell.

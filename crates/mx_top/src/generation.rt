@@ -18,12 +18,13 @@ ghost use Rattle.mx_top.specs.WorkClauses.{CarriesOutWork};
 ghost use Rattle.mx_plan.specs.Clauses.{CarriesOut};
 
 use crate::generator::{generated, summary};
-use crate::run::{outcome_of, start};
+use crate::run::outcome_of;
+use mx_begin::start;
 use mx_core::Machine;
 use mx_files::{SourceFault, load_source, write_line};
-use mx_outcome::Outcome;
 use mx_host::Host;
 use mx_load::Image;
+use mx_outcome::Outcome;
 use mx_run::Runner;
 use mx_word::{Bytes, NoMemory};
 use mx_words::Order;

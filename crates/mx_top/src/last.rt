@@ -19,11 +19,11 @@ ghost use Rattle.mx_top.specs.WorkClauses.{CarriesOutWork};
 use crate::ending::tell_end;
 use crate::run::outcome_of;
 use mx_back::{Back, BackFault, run_kept};
-use mx_con::state_line;
 use mx_core::Machine;
 use mx_files::write_line;
-use mx_outcome::Outcome;
 use mx_host::Host;
+use mx_outcome::Outcome;
+use mx_show::state_line;
 use mx_words::Order;
 use std::alloc::Global;
 

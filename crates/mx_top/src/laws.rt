@@ -9,7 +9,7 @@ ghost use Rattle.mx_words.specs.declared.order.Order.{Order};
 ghost use Rattle.mx_words.specs.declared.order.WordsFault.{WordsFault};
 ghost use Rattle.mx_files.specs.Answers.{plainly};
 ghost use Rattle.mx_outcome.specs.declared.outcome.Outcome.{Outcome};
-ghost use Rattle.mx_top.specs.Arguments.{Word};
+ghost use Rattle.mx_begin.specs.Arguments.{Word};
 ghost use Rattle.mx_top.specs.Product.{carried_out};
 ghost use Rattle.mx_top.specs.ProductPlan.{work_plan};
 ghost use Rattle.mx_top.specs.ProgramCalls.{ProgramPlan, program};

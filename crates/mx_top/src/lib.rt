@@ -1,15 +1,12 @@
 //! The program: what it does with the words of its command line.
 #![tactic(auto)]
 
-mod arguments;
 mod console;
-mod dump;
 mod ending;
 mod generation;
 mod generator;
 mod last;
 mod laws;
-mod objects;
 mod processors;
 mod reports;
 mod run;

@@ -6,14 +6,14 @@ ghost use Rattle.mx_files.specs.Clauses.{Works};
 ghost use Rattle.mx_files.specs.FilePlans.{lines_plan};
 ghost use Rattle.mx_multi.specs.Joint.{joint_of, processor_count};
 ghost use Rattle.mx_top.specs.Processors as spec;
-ghost use Rattle.mx_top.specs.Shown.{IsNextShown};
+ghost use Rattle.mx_dump.specs.Shown.{IsNextShown};
 
-use crate::dump::{is_in_stack_area, put_octa};
+use mx_dump::{is_in_stack_area, put_octa};
 use mx_files::write_line;
-use mx_outcome::Outcome;
-use mx_text::add_decimal;
 use mx_host::Host;
 use mx_multi::{Multi, MultiEnd};
+use mx_outcome::Outcome;
+use mx_text::add_decimal;
 use mx_word::{Bytes, NoMemory};
 use std::alloc::Global;
 

@@ -11,8 +11,8 @@ ghost use Rattle.mx_top.specs.Reports as spec;
 ghost use Rattle.mx_top.specs.WorkClauses.{TellsBy};
 ghost use Rattle.mx_top.specs.WorkClauses.{is_lacking as lacks_memory};
 
-use mx_outcome::Outcome;
 use mx_host::{Host, HostFault};
+use mx_outcome::Outcome;
 use mx_watch::{Reports, Texts, Watcher, all_reports};
 use mx_word::{Bytes, NoMemory};
 use mx_words::read;

@@ -2,7 +2,6 @@
 
 ghost use Rattle.std.specs.Prelude.{◌≡◌, ◌≢◌, ◌≤◌, ◌<◌, false};
 ghost use Rattle.mx_load.specs.Kept.{image_of};
-ghost use Rattle.mx_load.specs.Objects.{object_loaded};
 ghost use Rattle.mx_multi.specs.Joint.{NoneTouched, as_list_joint, joint_of, processor_count};
 ghost use Rattle.mx_multi.specs.Turns.{AreNames, turns_ended};
 ghost use Rattle.mx_run.specs.WildRuns.{window_machine, list_machine};
@@ -18,11 +17,12 @@ ghost use Rattle.mx_top.specs.WorkClauses.{CarriesOutWork};
 ghost use Rattle.mx_plan.specs.Clauses.{CarriesOut};
 
 use crate::processors::put_all;
-use mx_files::{OBJECT_PIECES, read_file, read_schedule};
-use mx_outcome::Outcome;
+use mx_begin::{Form, read_image};
+use mx_files::read_schedule;
 use mx_host::Host;
-use mx_load::{Image, ObjectFault, load_object};
+use mx_load::Image;
 use mx_multi::{Multi, MultiEnd, run_turns};
+use mx_outcome::Outcome;
 use mx_words::Order;
 use std::alloc::Global;
 
@@ -142,28 +142,6 @@ fn run_image<H: Host>(
     }
 }
 
-/// Runs an object on as many processors as a schedule needs, or says why it is refused.
-fn run_object<H: Host>(
-    alloc: Global,
-    host: &mut H,
-    order: &Order,
-    schedule: &[u8],
-    bytes: &[u8],
-) -> Outcome
-    requires { AreEight schedule.now }
-    ensures plan { CarriesOutWork (H.told host.old) (H.told host.new) result
-        (plans.object_turns_plan order.now schedule.now bytes.now) }
-    ensures listed { AnswersAsList (H.told host.old) (H.told host.new) result
-        (λ m. product.loaded_turns list_machine order.now schedule.now (object_loaded bytes.now) m) }
-    ensures causes { FailsOnlyBy H.told H.faults host.old host.new result }
-{
-    match load_object(alloc, bytes) {
-        Ok(image) => run_image(alloc, host, order, schedule, image),
-        Err(ObjectFault::Bad { place, fault }) => Outcome::BadObject { place, fault },
-        Err(ObjectFault::OutOfMemory) => Outcome::OutOfMemory,
-    }
-}
-
 /// Runs the object in the file of this name by a schedule.
 fn object_file<H: Host>(
     alloc: Global,
@@ -179,8 +157,8 @@ fn object_file<H: Host>(
         (λ m. product.object_turns list_machine order.now schedule.now (file_bytes 16385 name.now m)) }
     ensures causes { FailsOnlyBy H.told H.faults host.old host.new result }
 {
-    match read_file(alloc, host, name, OBJECT_PIECES) {
-        Ok(bytes) => run_object(alloc, host, order, schedule, bytes.as_slice()),
+    match read_image(alloc, host, Form::Object, name) {
+        Ok(image) => run_image(alloc, host, order, schedule, image),
         Err(outcome) => outcome,
     }
 }

@@ -6,7 +6,8 @@ ghost use Rattle.mx_host.specs.Keeping.{Keeps, KeepsOutput};
 ghost use Rattle.mx_run.specs.WildRuns.{window_machine, list_machine};
 ghost use Rattle.mx_words.specs.Orders.{order_of};
 ghost use Rattle.mx_files.specs.Answers.{AnswersAsList};
-ghost use Rattle.mx_top.specs.Arguments.{word_at};
+ghost use Rattle.mx_begin.specs.Begun.{begun};
+ghost use Rattle.mx_top.specs.Halves as halves;
 ghost use Rattle.mx_top.specs.Product as spec;
 ghost use Rattle.mx_top.specs.Reports as reports;
 ghost use Rattle.mx_top.specs.Reports.{HearsBoth};
@@ -15,34 +16,27 @@ ghost use Rattle.mx_top.specs.ProgramClauses.{AnswersOverList, AnswersOverListWa
 ghost use Rattle.mx_top.specs.ProductPlan as plans;
 ghost use Rattle.mx_top.specs.WorkClauses.{CarriesOutWork, TellsAll, TellsBy};
 
-use crate::arguments::arguments;
 use crate::generation::generate;
-use crate::objects::sim_file;
 use crate::reports::{found_reports, is_lacking, put_reports, write_error};
-use crate::run::run_file;
+use crate::run::run_machine;
 use crate::schedules::multi_file;
+use mx_begin::{Form, begin, word};
 use mx_files::{assemble_file, list_file};
-use mx_outcome::{Outcome, message};
 use mx_host::Host;
+use mx_outcome::{Outcome, message};
 use mx_watch::{Reports, Watcher};
 use mx_word::Bytes;
 use mx_words::{Command, Order, read};
 use std::alloc::Global;
 
-/// The bytes of the word at a place.
-fn word(words: &[String], place: usize) -> &[u8]
-    requires { place < length words.now }
-    ensures { result.now ≡ word_at (map string_bytes words.now) place }
-{
-    words[place].as_bytes()
-}
-
-/// Runs the source or the object that the words name, with the arguments behind it.
+/// Runs the source or the object that the words name, with the arguments behind it: a machine begins, and what has begun
+/// runs.
 #[tactic(auto, using(crate::proofs::Heard::silence))]
 fn run_ordered<H: Host>(
     alloc: Global,
     words: &[String],
     order: &Order,
+    form: Form,
     host: &mut H,
     watchers: &mut Vec<Box<dyn Watcher>>,
     kept: &mut Reports,
@@ -50,64 +44,21 @@ fn run_ordered<H: Host>(
     requires file { order.now.file < length words.now }
     requires rest { order.now.rest ≤ length words.now }
     ensures plan { CarriesOutWork (H.told host.old) (H.told host.new) result
-        (plans.ordered_plan (map string_bytes words.now) order.now Command.Run) }
+        (plans.begun_plan (map string_bytes words.now) order.now form) }
     ensures listed { AnswersAsList (H.told host.old) (H.told host.new) result
-        (λ m. spec.run_ordered list_machine (map string_bytes words.now) order.now m) }
+        (λ m. halves.begun_run list_machine order.now (begun list_machine (map string_bytes words.now) order.now form m)) }
     ensures heard { HearsBoth (H.told host.old) result (map meaning watchers.old.items)
         (map meaning watchers.new.items) kept.old kept.new
-        (λ m. reports.run_traces window_machine (map string_bytes words.now) order.now m)
-        (λ m. spec.run_ordered list_machine (map string_bytes words.now) order.now m)
-        (λ m. reports.run_traces list_machine (map string_bytes words.now) order.now m) }
+        (λ m. halves.begun_traces window_machine order.now
+        (begun window_machine (map string_bytes words.now) order.now form m))
+        (λ m. halves.begun_run list_machine order.now (begun list_machine (map string_bytes words.now) order.now form m))
+        (λ m. halves.begun_traces list_machine order.now
+        (begun list_machine (map string_bytes words.now) order.now form m)) }
     ensures causes { FailsOnlyBy H.told H.faults host.old host.new result }
 {
-    match arguments(alloc, words, order) {
-        Ok(arguments) => run_file(
-            alloc,
-            host,
-            order,
-            word(words, order.file),
-            arguments.as_slice(),
-            watchers,
-            kept,
-        ),
-        Err(_) => Outcome::OutOfMemory,
-    }
-}
-
-/// Runs the object that the words name, with the arguments behind it.
-#[tactic(auto, using(crate::proofs::Heard::silence))]
-fn sim_ordered<H: Host>(
-    alloc: Global,
-    words: &[String],
-    order: &Order,
-    host: &mut H,
-    watchers: &mut Vec<Box<dyn Watcher>>,
-    kept: &mut Reports,
-) -> Outcome
-    requires file { order.now.file < length words.now }
-    requires rest { order.now.rest ≤ length words.now }
-    ensures plan { CarriesOutWork (H.told host.old) (H.told host.new) result
-        (plans.ordered_plan (map string_bytes words.now) order.now Command.Sim) }
-    ensures listed { AnswersAsList (H.told host.old) (H.told host.new) result
-        (λ m. spec.sim_ordered list_machine (map string_bytes words.now) order.now m) }
-    ensures heard { HearsBoth (H.told host.old) result (map meaning watchers.old.items)
-        (map meaning watchers.new.items) kept.old kept.new
-        (λ m. reports.sim_traces window_machine (map string_bytes words.now) order.now m)
-        (λ m. spec.sim_ordered list_machine (map string_bytes words.now) order.now m)
-        (λ m. reports.sim_traces list_machine (map string_bytes words.now) order.now m) }
-    ensures causes { FailsOnlyBy H.told H.faults host.old host.new result }
-{
-    match arguments(alloc, words, order) {
-        Ok(arguments) => sim_file(
-            alloc,
-            host,
-            order,
-            word(words, order.file),
-            arguments.as_slice(),
-            watchers,
-            kept,
-        ),
-        Err(_) => Outcome::OutOfMemory,
+    match begin(alloc, host, words, order, form) {
+        Ok(machine) => run_machine(alloc, host, order, machine, watchers, kept),
+        Err(outcome) => outcome,
     }
 }
 
@@ -138,8 +89,8 @@ fn carry_order<H: Host>(
     ensures causes { FailsOnlyBy H.told H.faults host.old host.new result }
 {
     match order.command {
-        Command::Run => run_ordered(alloc, words, order, host, watchers, kept),
-        Command::Sim => sim_ordered(alloc, words, order, host, watchers, kept),
+        Command::Run => run_ordered(alloc, words, order, Form::Source, host, watchers, kept),
+        Command::Sim => run_ordered(alloc, words, order, Form::Object, host, watchers, kept),
         Command::Asm => assemble_file(
             alloc,
             host,

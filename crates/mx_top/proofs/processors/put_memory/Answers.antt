@@ -1,8 +1,8 @@
 use Rattle.std.proofs.Common.{Some, arith}
 use Rattle.mx_multi.specs.Joint.{joint_of}
 use Rattle.mx_top.specs.Processors.{memory_alone}
-use Rattle.mx_top.specs.Shown.{IsNextShown}
-use Rattle.mx_top.proofs.DumpLines.{writes-no-octa, writes-octa, writes-octas-ended, writes-octas}
+use Rattle.mx_dump.specs.Shown.{IsNextShown}
+use Rattle.mx_dump.proofs.DumpLines.{writes-no-octa, writes-octa, writes-octas-ended, writes-octas}
 use Rattle.mx_top.proofs.processors.put_memory.Goals as goal
 
 pub loop-a-init : goal.loop-a-init

@@ -1,7 +1,7 @@
 use Rattle.std.proofs.Common.{◌≡◌, ◌≤◌, ◌-◌, ◌/◌, ◌%◌, ◌^◌, Ok}
 use Rattle.mx_multi.specs.Joint.{joint_of}
 use Rattle.mx_top.specs.Processors.{memory_alone}
-use Rattle.mx_top.specs.Dump.{octa_lines}
+use Rattle.mx_dump.specs.Dump.{octa_lines}
 use Rattle.mx_files.proofs.WrittenLines.{Writes}
 use Rattle.mx_top.proofs.processors.put_memory.Given as goal
 

@@ -1,4 +1,5 @@
-use Rattle.mx_top.proofs.WorkParts.{asm-ordered, gen-ordered, show-ordered, multi-ordered}
+use Rattle.mx_top.proofs.Halves.{run-goes, sim-goes, run-hears, sim-hears}
+use Rattle.mx_top.proofs.WorkParts.{run-ordered, sim-ordered, asm-ordered, gen-ordered, show-ordered, multi-ordered}
 use Rattle.mx_top.proofs.top.carry_order.Goals as goal
 
 pub returns-in-Asm-clause-plan : goal.returns-in-Asm-clause-plan
@@ -18,3 +19,21 @@ returns-in-Asm-clause-causes g c = (c.assemble_file.ensures.rose, c.assemble_fil
 
 pub returns-in-Show-clause-causes : goal.returns-in-Show-clause-causes
 returns-in-Show-clause-causes g c = (c.list_file.ensures.rose, c.list_file.ensures.no_file, c.list_file.ensures.words, c.list_file.ensures.keeps)
+
+pub returns-in-Run-clause-plan : goal.returns-in-Run-clause-plan
+returns-in-Run-clause-plan g c = run-ordered _ _ _ _ _ c.in-Run.is c.run_ordered.ensures.plan
+
+pub returns-in-Sim-clause-plan : goal.returns-in-Sim-clause-plan
+returns-in-Sim-clause-plan g c = sim-ordered _ _ _ _ _ c.in-Sim.is c.run_ordered-in-Sim.ensures.plan
+
+pub returns-in-Run-clause-listed : goal.returns-in-Run-clause-listed
+returns-in-Run-clause-listed g c = run-goes _ _ _ _ _ c.in-Run.is c.run_ordered.ensures.listed
+
+pub returns-in-Sim-clause-listed : goal.returns-in-Sim-clause-listed
+returns-in-Sim-clause-listed g c = sim-goes _ _ _ _ _ c.in-Sim.is c.run_ordered-in-Sim.ensures.listed
+
+pub returns-in-Run-clause-heard : goal.returns-in-Run-clause-heard
+returns-in-Run-clause-heard g c = run-hears _ _ _ _ _ _ _ _ c.in-Run.is c.run_ordered.ensures.heard
+
+pub returns-in-Sim-clause-heard : goal.returns-in-Sim-clause-heard
+returns-in-Sim-clause-heard g c = sim-hears _ _ _ _ _ _ _ _ c.in-Sim.is c.run_ordered-in-Sim.ensures.heard

@@ -1,0 +1,4 @@
+pub mod Pools
+pub mod StartedMachines
+pub mod Parts
+pub mod Beginnings

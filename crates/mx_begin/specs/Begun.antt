@@ -1,0 +1,84 @@
+-- How a machine begins: the file that the words name is read, the source in it is assembled or the object is loaded, and the
+-- machine starts with the arguments.
+use Rattle.std.specs.Prelude.{ℕ, ◌*◌, ◌/◌, List, Option, None, Some, Result, Ok, Err}
+use Rattle.mx_host.specs.HostModel.{HostModel}
+use Rattle.mx_host.specs.HostAnswer.{Then}
+use Rattle.mx_mmo.specs.Image.{Image}
+use Rattle.mx_load.specs.Objects.{object_loaded}
+use Rattle.mx_core.specs.State.{State}
+use Rattle.mx_ring.specs.RegisterList.{list_at_start}
+use Rattle.mx_ring.specs.Stack.{Stack, listed, windowed}
+use Rattle.mx_ring.specs.Window.{window_at_start}
+use Rattle.mx_run.specs.WildRuns.{MachineKind, window_machine, list_machine}
+use Rattle.mx_start.specs.Start.{start}
+use Rattle.mx_word.specs.declared.symbols.Symbol.{Symbol}
+use Rattle.mx_words.specs.declared.order.Order.{Order}
+use Rattle.mx_files.specs.Assembling.{refused_with}
+use Rattle.mx_files.specs.Source.{file_bytes, source_pieces, object_pieces}
+use Rattle.mx_files.specs.Sources.{source_meaning}
+use Rattle.mx_files.specs.declared.refusal.Refusal.{Refusal}
+use Rattle.mx_outcome.specs.declared.outcome.Outcome.{Outcome}
+use Rattle.mx_outcome.specs.declared.outcome.Outcome.TheVariants.{BadObject, Stopped}
+use Rattle.mx_begin.specs.Arguments.{Word, word_at, arguments}
+use Rattle.mx_begin.specs.declared.images.Form.{Form}
+use Rattle.mx_begin.specs.declared.images.Form.TheVariants.{Source, Object}
+
+-- ---- an image
+
+-- a source is refused, or means an image
+abbrev pub assembled : Result Image Refusal → Result Image Outcome
+assembled (Err refusal) = Err (refused_with refusal)
+assembled (Ok image) = Ok image
+
+-- an object is refused, or sets up an image
+abbrev pub loaded : Result (Image × List Symbol) (ℕ × ℕ) → Result Image Outcome
+loaded (Err (place, fault)) = Err (BadObject place fault)
+loaded (Ok (image, symbols)) = Ok image
+
+abbrev pub image_in : Form → List ℕ → Result Image Outcome
+image_in Source bytes = assembled (source_meaning bytes)
+image_in Object bytes = loaded (object_loaded bytes)
+
+-- a file is read in at most so many pieces
+abbrev pub most_pieces : Form → ℕ
+most_pieces Source = source_pieces
+most_pieces Object = object_pieces
+
+abbrev pub image_after : Form → Then (Result (List ℕ) Outcome) → Then (Result Image Outcome)
+image_after form (Err outcome, m) = (Err outcome, m)
+image_after form (Ok bytes, m) = (image_in form bytes, m)
+
+-- the image in the file of this name, or the outcome where there is none
+abbrev pub image_read : Form → Word → HostModel → Then (Result Image Outcome)
+image_read form name m = image_after form (file_bytes (most_pieces form) name m)
+
+-- ---- a machine at its start
+
+-- the register stack at the start: a ring of so many registers, or a list
+abbrev pub stack_at_start : MachineKind → ℕ → Stack
+stack_at_start window_machine ring = windowed (window_at_start ring)
+stack_at_start list_machine ring = listed list_at_start
+
+-- where a program begins
+abbrev pub main_address : Image → ℕ
+main_address image = image.global 255 / 4 * 4
+
+-- a machine that starts with its program at this address, or the stop of one whose pages are full
+abbrev pub pages_full : ℕ
+pages_full = 118
+
+abbrev pub begun_at : ℕ → Option State → Result State Outcome
+begun_at pc None = Err (Stopped pc pages_full)
+begun_at pc (Some s) = Ok s
+
+-- the machine of an image with these arguments, at its start
+abbrev pub started : MachineKind → ℕ → Image → List (List ℕ) → Result State Outcome
+started kind ring image arguments = begun_at (main_address image) (start image arguments (stack_at_start kind ring))
+
+abbrev pub started_after : MachineKind → ℕ → List Word → Then (Result Image Outcome) → Then (Result State Outcome)
+started_after kind ring arguments (Err outcome, m) = (Err outcome, m)
+started_after kind ring arguments (Ok image, m) = (started kind ring image arguments, m)
+
+-- the machine that an order on words begins with, or the outcome where there is none
+abbrev pub begun : MachineKind → List Word → Order → Form → HostModel → Then (Result State Outcome)
+begun kind words o form m = started_after kind o.ring (arguments words o) (image_read form (word_at words o.file) m)

@@ -1,0 +1,89 @@
+//! A machine at its start.
+
+ghost use Rattle.std.specs.Prelude.{◌≡◌, ◌≢◌, ◌≤◌, ◌<◌, ◌+◌, ◌*◌, Err, IfOk, IfErr, false, length, map, string_bytes};
+ghost use Rattle.mx_begin.specs.BeginPlans as plans;
+ghost use Rattle.mx_begin.specs.Begun as spec;
+ghost use Rattle.mx_begin.specs.Failing.{PartFailsOnlyBy};
+ghost use Rattle.mx_core.specs.Bounds.{as_list_state};
+ghost use Rattle.mx_core.specs.Kept.{state_of};
+ghost use Rattle.mx_host.specs.Keeping.{Answers};
+ghost use Rattle.mx_load.specs.Kept.{image_of};
+ghost use Rattle.mx_outcome.specs.Kinds.{is_usage};
+ghost use Rattle.mx_plan.specs.Clauses.{CarriesOut};
+ghost use Rattle.mx_ring.specs.Stack.{stack_address};
+ghost use Rattle.mx_run.specs.WildRuns.{window_machine, list_machine};
+ghost use Rattle.mx_start.specs.Start.{pool, pool_octas};
+ghost use Rattle.mx_word.specs.Results.{map_ok};
+
+use crate::arguments::{arguments, word};
+use crate::images::{Form, read_image};
+use mx_core::Machine;
+use mx_host::Host;
+use mx_load::Image;
+use mx_outcome::Outcome;
+use mx_ring::RingSize;
+use mx_start::StartFault;
+use mx_word::Bytes;
+use mx_words::Order;
+use std::alloc::Global;
+
+/// The machine of an image with these arguments at its start, or the outcome where the pages are full.
+#[tactic(auto, using(crate::proofs::StartedMachines::starting))]
+pub fn start(
+    alloc: Global,
+    image: Image,
+    arguments: &[Bytes],
+    ring: RingSize,
+) -> Result<Machine, Outcome>
+    requires some { 1 ≤ length arguments.now }
+    requires fits { pool + 8 * length (pool_octas arguments.now) ≤ stack_address 0 }
+    ensures window { result ≢ Err Outcome.OutOfMemory → map_ok state_of result
+        ≡ spec.started window_machine ring (image_of image) arguments.now }
+    ensures list { result ≢ Err Outcome.OutOfMemory → map_ok (λ m. as_list_state (state_of m)) result
+        ≡ spec.started list_machine ring (image_of image) arguments.now }
+    ensures untouched { IfOk result (λ m. (state_of m).touched ≡ false) }
+    ensures well { result ≢ Err Outcome.HostFault }
+    ensures present { result ≢ Err Outcome.NoFile }
+    ensures words { IfErr result (λ outcome. is_usage outcome ≡ false) }
+{
+    let pc = image.global(255) / 4 * 4;
+    match mx_start::start(alloc, image, arguments, ring) {
+        Ok(machine) => Ok(machine),
+        Err(StartFault::PagesFull) => Err(Outcome::Stopped { pc, reason: 118 }),
+        Err(StartFault::OutOfMemory) => Err(Outcome::OutOfMemory),
+    }
+}
+
+/// The machine that an order on these words begins with: that of the source, or of the object, in the file that they name,
+/// at its start with the arguments behind it.
+///
+/// Errors: the outcome where there is no such file, where it cannot be read or is refused, where the pages of the machine
+/// are full, and out of memory.
+pub fn begin<H: Host>(
+    alloc: Global,
+    host: &mut H,
+    words: &[String],
+    order: &Order,
+    form: Form,
+) -> Result<Machine, Outcome>
+    requires file { order.now.file < length words.now }
+    requires rest { order.now.rest ≤ length words.now }
+    ensures plan { CarriesOut (H.told host.old) (H.told host.new) (Err Outcome.OutOfMemory) (map_ok state_of result)
+        (plans.begin_plan (map string_bytes words.now) order.now form) }
+    ensures told { Answers (H.told host.old) (H.told host.new) (Err Outcome.OutOfMemory) (map_ok state_of result)
+        (λ m. spec.begun window_machine (map string_bytes words.now) order.now form m) }
+    ensures listed { Answers (H.told host.old) (H.told host.new) (Err Outcome.OutOfMemory)
+        (map_ok (λ machine. as_list_state (state_of machine)) result)
+        (λ m. spec.begun list_machine (map string_bytes words.now) order.now form m) }
+    ensures untouched { IfOk result (λ machine. (state_of machine).touched ≡ false) }
+    ensures causes { PartFailsOnlyBy H.told H.faults host.old host.new result }
+{
+    let arguments = match arguments(alloc, words, order) {
+        Ok(arguments) => arguments,
+        Err(_) => return Err(Outcome::OutOfMemory),
+    };
+    match read_image(alloc, host, form, word(words, order.file)) {
+        Ok(image) => start(alloc, image, arguments.as_slice(), order.ring),
+        Err(outcome) => Err(outcome),
+    }
+}

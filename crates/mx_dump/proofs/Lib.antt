@@ -1,0 +1,2 @@
+pub mod DumpLines
+pub mod Dumps

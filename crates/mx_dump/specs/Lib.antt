@@ -1,0 +1,3 @@
+pub use Rattle.mx_word.specs.Results
+pub mod Dump
+pub mod Shown

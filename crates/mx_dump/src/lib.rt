@@ -1,0 +1,6 @@
+//! The dump of a machine: its special registers, its registers and its memory, line by line.
+#![tactic(auto)]
+
+mod dump;
+
+pub use dump::{dump, is_in_stack_area, put_octa};
