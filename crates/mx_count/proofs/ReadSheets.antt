@@ -57,7 +57,7 @@ lines-back tally [] loads n fit = refl
 lines-back tally (line ∷ lines) [] n fit = ap (λ more. line_with n line [] (tally []) ∷ more) (lines-back tally lines [] (n + 1) fit)
 lines-back tally (line ∷ lines) (cells ∷ loads) n fit =
     ap (λ octas. line_with n line cells (first_tally octas) ∷ lines_read (n + 1) lines loads (behind_tally octas))
-      (tally-back (tally cells) (flat_map (λ cs. tally_bytes (tally cs)) loads) (fit cells))
+    (tally-back (tally cells) (flat_map (λ cs. tally_bytes (tally cs)) loads) (fit cells))
     ∙ ap (λ more. line_with n line cells (tally cells) ∷ more) (lines-back tally lines loads (n + 1) fit)
 
 data-back : (source : List ℕ) (loads : List (List Cell)) (counts : Counts) → ((test : ℕ → Bool) → HasOctas (counts test)) →
