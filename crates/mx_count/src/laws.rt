@@ -35,7 +35,7 @@ pub fn lines_are_sums_over_their_tetras()
 {}
 
 /// What is read from the octas that are reported of traces is their sheet as data: each line with its number, its text and
-/// the tally of the tetras that it loads, and the tally of all traces. That one is to have octas alone.
+/// the tally of the tetras that it loads, and the tally of all traces. The numbers of this last one are to be below 2^64.
 #[tactic(auto, using(crate::proofs::ReadSheets::back))]
 pub fn sheets_are_read_back()
     ensures { (source : List ℕ) (h : List Trace) → HasOctas (tally_in (λ a. true) h) →
