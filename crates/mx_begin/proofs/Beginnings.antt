@@ -1,12 +1,12 @@
 -- How an image is read, and a machine begins.
-use Rattle.std.proofs.Common.{◌≡◌, ◌≢◌, ℕ, List, length, Ok, Err, refl, sym, ◌∙◌, ap, subst}
+use Rattle.std.proofs.Common.{◌≡◌, ◌≢◌, ℕ, List, Ok, Err, refl, ◌∙◌, ap, subst}
 use Rattle.std.specs.Prelude.{Option, Result}
 use Rattle.mx_host.specs.HostAnswer.{Then}
 use Rattle.mx_host.specs.HostModel.{HostModel, tells, contents}
 use Rattle.mx_host.specs.Keeping.{Answers}
 use Rattle.mx_plan.specs.Calls.{host, need}
 use Rattle.mx_plan.specs.Clauses.{CarriesOut}
-use Rattle.mx_plan.specs.Plan.{returns, bind, end_of, end_after}
+use Rattle.mx_plan.specs.Plan.{bind, end_of, end_after}
 use Rattle.mx_plan.proofs.Plans.{end_bind}
 use Rattle.mx_mmo.specs.Image.{Image}
 use Rattle.mx_core.specs.State.{State}

@@ -1,5 +1,5 @@
 -- How a machine begins, as a plan: the calls of the host up to its start, and where memory runs out between them.
-use Rattle.std.specs.Prelude.{ℕ, List, Result}
+use Rattle.std.specs.Prelude.{ℕ, List}
 use Rattle.mx_plan.specs.Plan.{returns, bind}
 use Rattle.mx_plan.specs.Calls.{need}
 use Rattle.mx_mmo.specs.Image.{Image}
@@ -7,7 +7,6 @@ use Rattle.mx_core.specs.State.{State}
 use Rattle.mx_run.specs.WildRuns.{window_machine}
 use Rattle.mx_words.specs.declared.order.Order.{Order}
 use Rattle.mx_files.specs.FilePlans.{Part, on_ok, file_plan}
-use Rattle.mx_outcome.specs.declared.outcome.Outcome.{Outcome}
 use Rattle.mx_begin.specs.Arguments.{Word, word_at, arguments}
 use Rattle.mx_begin.specs.Begun.{image_in, most_pieces, started}
 use Rattle.mx_begin.specs.declared.images.Form.{Form}

@@ -2,10 +2,10 @@
 //! starts with the arguments.
 #![tactic(auto)]
 
-mod arguments;
-mod begin;
+mod argument;
+mod beginning;
 mod images;
 
-pub use arguments::{arguments, word};
-pub use begin::{begin, start};
+pub use argument::{arguments, word};
+pub use beginning::{begin, start};
 pub use images::{Form, read_image};

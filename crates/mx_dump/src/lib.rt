@@ -1,6 +1,6 @@
 //! The dump of a machine: its special registers, its registers and its memory, line by line.
 #![tactic(auto)]
 
-mod dump;
+mod lines;
 
-pub use dump::{dump, is_in_stack_area, put_octa};
+pub use lines::{dump, is_in_stack_area, put_octa};

@@ -2,7 +2,7 @@ use Rattle.std.proofs.Common.{Ok}
 use Rattle.mx_core.specs.Kept.{state_of}
 use Rattle.mx_dump.specs.Dump.{register_line}
 use Rattle.mx_files.proofs.WrittenLines.{Writes, lines-below}
-use Rattle.mx_dump.proofs.dump.put_registers.Given as goal
+use Rattle.mx_dump.proofs.lines.put_registers.Given as goal
 
 -- the lines so far were written
 abbrev pub invariant-loop-k : goal.invariant-loop-k

@@ -3,7 +3,7 @@ use Rattle.mx_core.specs.Kept.{state_of}
 use Rattle.mx_dump.specs.Dump.{register_line}
 use Rattle.mx_dump.proofs.DumpLines.{register-lines}
 use Rattle.mx_files.proofs.WrittenLines.{writes-none, writes-next, writes-last, writes-all}
-use Rattle.mx_dump.proofs.dump.put_registers.Goals as goal
+use Rattle.mx_dump.proofs.lines.put_registers.Goals as goal
 
 pub loop-k-init : goal.loop-k-init
 loop-k-init g c = writes-none _ _

@@ -1,6 +1,6 @@
 use Rattle.mx_core.specs.Kept.{state_of}
 use Rattle.mx_dump.proofs.DumpLines.{writes-specials, writes-registers, writes-memory}
-use Rattle.mx_dump.proofs.dump.dump.Goals as goal
+use Rattle.mx_dump.proofs.lines.dump.Goals as goal
 
 pub returns-in-Err : goal.returns-in-Err
 returns-in-Err g c = writes-specials (state_of c.args.machine.now) _ _ _ _ _ c.in-Err.ensures

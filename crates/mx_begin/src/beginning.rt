@@ -15,7 +15,7 @@ ghost use Rattle.mx_run.specs.WildRuns.{window_machine, list_machine};
 ghost use Rattle.mx_start.specs.Start.{pool, pool_octas};
 ghost use Rattle.mx_word.specs.Results.{map_ok};
 
-use crate::arguments::{arguments, word};
+use crate::argument::{arguments, word};
 use crate::images::{Form, read_image};
 use mx_core::Machine;
 use mx_host::Host;

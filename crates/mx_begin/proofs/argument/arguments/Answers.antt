@@ -2,7 +2,7 @@ use Rattle.std.proofs.Common.{◌∷◌, ◌-◌, ◌∙◌, ap, map, take, drop
 use Rattle.std.proofs.lemmas.List.{take_all}
 use Rattle.mx_begin.specs.Arguments.{program_name}
 use Rattle.mx_begin.proofs.Pools.{arguments-there}
-use Rattle.mx_begin.proofs.arguments.arguments.Goals as goal
+use Rattle.mx_begin.proofs.argument.arguments.Goals as goal
 
 pub returns-clause-value : goal.returns-clause-value
 returns-clause-value c =

@@ -2,7 +2,7 @@ use Rattle.std.proofs.Common.{Some, arith}
 use Rattle.mx_core.specs.Kept.{state_of}
 use Rattle.mx_dump.specs.Shown.{IsNextShown}
 use Rattle.mx_dump.proofs.DumpLines.{writes-no-octa, writes-octa, writes-octas-ended, writes-octas}
-use Rattle.mx_dump.proofs.dump.put_octas.Goals as goal
+use Rattle.mx_dump.proofs.lines.put_octas.Goals as goal
 
 pub loop-a-init : goal.loop-a-init
 loop-a-init g c = record { most = omega arith; octas = omega arith; written = writes-no-octa (state_of c.args.machine.now) _ _ }

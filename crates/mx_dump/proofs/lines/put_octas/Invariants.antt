@@ -2,7 +2,7 @@ use Rattle.std.proofs.Common.{◌≡◌, ◌≤◌, ◌-◌, ◌/◌, ◌%◌, �
 use Rattle.mx_core.specs.Kept.{state_of}
 use Rattle.mx_dump.specs.Dump.{octa_lines}
 use Rattle.mx_files.proofs.WrittenLines.{Writes}
-use Rattle.mx_dump.proofs.dump.put_octas.Given as goal
+use Rattle.mx_dump.proofs.lines.put_octas.Given as goal
 
 -- the lines of the octas so far were written
 abbrev pub invariant-loop-a : goal.invariant-loop-a

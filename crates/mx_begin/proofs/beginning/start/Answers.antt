@@ -1,7 +1,7 @@
 use Rattle.mx_load.specs.Kept.{image_of}
 use Rattle.mx_core.specs.Kept.{state_of}
 use Rattle.mx_begin.proofs.StartedMachines.{started-untouched}
-use Rattle.mx_begin.proofs.begin.start.Goals as goal
+use Rattle.mx_begin.proofs.beginning.start.Goals as goal
 
 pub returns-in-Ok-clause-untouched : goal.returns-in-Ok-clause-untouched
 returns-in-Ok-clause-untouched c =

@@ -2,7 +2,7 @@ use Rattle.std.proofs.Common.{◌∙◌, sym}
 use Rattle.mx_core.specs.Kept.{state_of}
 use Rattle.mx_dump.specs.Dump as spec
 use Rattle.mx_files.proofs.WrittenLines.{writes-hidden, writes-shown, writes-line, writes-lacking}
-use Rattle.mx_dump.proofs.dump.put_special.Goals as goal
+use Rattle.mx_dump.proofs.lines.put_special.Goals as goal
 
 pub returns-then-not-is_special_shown : goal.returns-then-not-is_special_shown
 returns-then-not-is_special_shown g c = writes-hidden _ _ (spec.is_special_shown (state_of c.args.machine.now) c.args.code) _ (sym c.is_special_shown.ensures ∙ c.if-not-is_special_shown.true)

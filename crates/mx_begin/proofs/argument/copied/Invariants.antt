@@ -1,5 +1,5 @@
 use Rattle.std.proofs.Common.{◌≡◌, ◌∷◌, map, take, string_bytes}
-use Rattle.mx_begin.proofs.arguments.copied.Given as goal
+use Rattle.mx_begin.proofs.argument.copied.Given as goal
 
 -- the first argument, and the words so far
 abbrev pub invariant-loop-word : goal.invariant-loop-word

@@ -3,7 +3,7 @@ use Rattle.mx_core.specs.Kept.{state_of}
 use Rattle.mx_dump.specs.Dump.{special_line}
 use Rattle.mx_dump.proofs.DumpLines.{special-lines}
 use Rattle.mx_files.proofs.WrittenLines.{writes-none, writes-next, writes-last, writes-all}
-use Rattle.mx_dump.proofs.dump.put_specials.Goals as goal
+use Rattle.mx_dump.proofs.lines.put_specials.Goals as goal
 
 pub loop-code-init : goal.loop-code-init
 loop-code-init g c = writes-none _ _

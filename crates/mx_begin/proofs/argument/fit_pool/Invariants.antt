@@ -1,7 +1,7 @@
 use Rattle.std.proofs.Common.{◌≤◌, ◌<◌, ◌+◌, ◌^◌, take}
 use Rattle.std.specs.List.{sum_by}
 use Rattle.mx_begin.proofs.Pools.{room}
-use Rattle.mx_begin.proofs.arguments.fit_pool.Given as goal
+use Rattle.mx_begin.proofs.argument.fit_pool.Given as goal
 
 -- the sum so far, if it is below the limit
 abbrev pub invariant-loop-argument : goal.invariant-loop-argument
