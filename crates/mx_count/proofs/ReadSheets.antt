@@ -9,7 +9,7 @@ use Rattle.mx_view.specs.Loads.{loads_of}
 use Rattle.mx_view.specs.declared.cells.Cell.{Cell}
 use Rattle.mx_count.specs.Counting.{kept_tally}
 use Rattle.mx_count.specs.InTurn.{no_sums, sum_at, tally_by, with_entries}
-use Rattle.mx_count.specs.Reports.{HasOctas, behind_tally, data_read, first_tally, lines_read, report_data, report_of, sheet_bytes, tally_bytes}
+use Rattle.mx_count.specs.Reports.{HasOctas, behind_tally, data_read, first_tally, lines_read, number_bytes, report_data, report_of, sheet_bytes, tally_bytes}
 use Rattle.mx_count.specs.Sheets.{Counts, LineTally, counted_lines, first_load, is_among, line_tally, line_with, sheet_data}
 use Rattle.mx_count.specs.Tallies.{added, nothing, step_tally, tally_in}
 use Rattle.mx_count.specs.declared.counts.Form.TheVariants.{Octas}
@@ -47,6 +47,7 @@ pub ruleset lines = (read-next, read-none)
 -- ---- read again
 
 tally-back : (y : Tally) (more : List ℕ) → HasOctas y → octas_of (tally_bytes y ++ more) ≡ y.times ∷ y.away ∷ y.oops ∷ y.mems ∷ octas_of more
+unfolding number_bytes tally_bytes
 tally-back y more h =
     λ i. octa-back y.times h.times i ∷ octa-back y.away h.away i ∷ octa-back y.oops h.oops i ∷ octa-back y.mems h.mems i ∷ octas_of more
 

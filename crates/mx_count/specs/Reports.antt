@@ -17,8 +17,11 @@ use Rattle.mx_count.specs.declared.tally.Tally.{Tally}
 
 -- ---- as octas: the tally of all steps, and then that of each line
 
-abbrev pub tally_bytes : Tally → List ℕ
-tally_bytes y = octa_to_bytes y.times ++ octa_to_bytes y.away ++ octa_to_bytes y.oops ++ octa_to_bytes y.mems
+unfoldable pub number_bytes : ℕ → List ℕ
+number_bytes n = octa_to_bytes n
+
+unfoldable pub tally_bytes : Tally → List ℕ
+tally_bytes y = number_bytes y.times ++ number_bytes y.away ++ number_bytes y.oops ++ number_bytes y.mems
 
 unfoldable pub sheet_bytes : List (List Cell) → Counts → List ℕ
 sheet_bytes loads counts =

@@ -62,11 +62,8 @@ fn count_source_lines<H: Host>(
     with_lines(alloc, source, counted)
 }
 
-/// Runs the source in the file of this name, as `count_file` does, and counts its steps line by line.
-///
-/// Over a host that tells its contents, the outcome and all that the host then holds are those of the run, as
-/// `mmixware run` makes it; and the sheet is read from the tallies of the traces of this run, which a watcher reports as
-/// octas: that of all steps, and that of each line.
+/// Runs the source in the file of this name, as `count_file` does, and counts its steps line by line: the sheet is read
+/// from the tallies of the traces of the run, which a watcher reports as octas.
 pub fn count_lines<H: Host>(
     alloc: Global,
     host: &mut H,

@@ -24,15 +24,14 @@ pub struct CountedLine {
     pub tally: Option<Tally>,
 }
 
-/// The sheet of a run: the lines of its source, and the tally of all steps.
+/// The lines of a source, and the tally of all steps.
 #[derive(Drop)]
 pub struct LineSheet {
     pub lines: Sequence<CountedLine>,
     pub total: Tally,
 }
 
-/// What comes of a source that is run and counted: the outcome of the run, and its sheet as data. There is no sheet
-/// where no machine ran, or memory ran out.
+/// The outcome of a run, and its sheet as data: none where no machine ran, or memory ran out.
 #[derive(Drop)]
 pub struct CountedLines {
     pub outcome: Outcome,
