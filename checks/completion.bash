@@ -53,9 +53,14 @@ offers 'check|count' mmixview c
 offers 'a.mms|b c.mms|programs' mmixview list ''
 offers '' mmixview list a.mms ''
 offers a.mms mmixview check a
-offers '' mmixview where ''
+offers --json mmixview list -
+offers a.mms mmixview list --json a
+offers --json mmixview where ''
 offers 'a.mms|b c.mms|programs' mmixview where '#100' ''
-offers '--ring|--steps' mmixview count -
+offers 'a.mms|b c.mms|programs' mmixview where --json '#100' ''
+offers '--json|--ring|--steps' mmixview count -
+offers '--json|--ring|--steps' mmixview count --json -
+offers '--ring|--steps' mmixview count --json --steps 9 -
 offers '1024|16384' mmixview count --ring 1
 offers '' mmixview count --steps ''
 offers a.mms mmixview count --ring 256 --steps 9 a

@@ -1,13 +1,22 @@
 //! A source that is run and counted.
 
+use crate::sheet::sheet;
+use crate::showing::json_line;
 use crate::{OUT_OF_MEMORY, told};
-use mx_count::{Counted, arguments, count_file};
+use mx_count::{CountedLines, LineSheet, arguments, count_file, count_lines};
 use mx_files::write_line;
 use mx_outcome::Outcome;
 use mx_real::RealHost;
-use mx_word::NoMemory;
+use mx_word::{Bytes, NoMemory};
 use mx_words::{Order, WordsFault, read};
 use std::alloc::Global;
+
+/// What is written behind the output of a program, and the outcome.
+#[derive(Drop)]
+struct Report {
+    outcome: Outcome,
+    sheet: Option<Bytes>,
+}
 
 /// Whether the words of the command line, with the program's name, order to count, and do not ask for help.
 pub fn is_count(all: &[String]) -> bool {
@@ -20,11 +29,19 @@ pub fn is_count(all: &[String]) -> bool {
     }
 }
 
-/// The words with which `mmixware run` does the same run.
-fn run_words(alloc: Global, all: &[String]) -> Result<Vec<String>, NoMemory> {
+/// How many words behind the command are `--json`, in front of all others.
+fn json_words(all: &[String]) -> usize {
+    all.iter()
+        .skip(2)
+        .take_while(|word| word.as_str() == "--json")
+        .count()
+}
+
+/// The words with which `mmixware run` does the same run: so many words behind the command are left out.
+fn run_words(alloc: Global, all: &[String], left_out: usize) -> Result<Vec<String>, NoMemory> {
     let mut words = Vec::new(alloc);
     words.push(String::from_str(alloc, "run")?)?;
-    for word in all.iter().skip(2) {
+    for word in all.iter().skip(2).skip(left_out) {
         words.push(String::from_str(alloc, word.as_str())?)?;
     }
     Ok(words)
@@ -41,31 +58,84 @@ fn other_option(words: &[String], order: &Order) -> Option<usize> {
 }
 
 /// An outcome without a sheet.
-fn uncounted(outcome: Outcome) -> Counted {
-    Counted {
+fn unreported(outcome: Outcome) -> Report {
+    Report {
         outcome,
         sheet: None,
     }
 }
 
-/// Runs and counts what the words order.
-fn counted(alloc: Global, host: &mut RealHost, words: &[String]) -> Counted {
+/// Faulty words, where so many words were left out.
+fn misordered(fault: WordsFault, left_out: usize) -> Report {
+    unreported(Outcome::Usage(WordsFault {
+        kind: fault.kind,
+        word: fault.word.saturating_add(left_out),
+    }))
+}
+
+/// The sheet as a line of JSON, at the beginning of a line.
+fn sheet_line(alloc: Global, counted: &LineSheet) -> Result<Bytes, NoMemory> {
+    let line = json_line(alloc, sheet(alloc, counted))?;
+    let mut text = Bytes::copy(alloc, b"\n")?;
+    text.extend(line.as_slice())?;
+    Ok(text)
+}
+
+/// The report of what was counted, as JSON.
+fn as_json(alloc: Global, counted: CountedLines) -> Report {
+    let Some(lines) = &counted.sheet else {
+        return unreported(counted.outcome);
+    };
+    match sheet_line(alloc, lines) {
+        Ok(text) => Report {
+            outcome: counted.outcome,
+            sheet: Some(text),
+        },
+        Err(_) => unreported(Outcome::OutOfMemory),
+    }
+}
+
+/// Runs and counts the source that an order names.
+fn run_report(
+    alloc: Global,
+    host: &mut RealHost,
+    is_json: bool,
+    order: &Order,
+    name: &[u8],
+    given: &[Bytes],
+) -> Report {
+    if given.is_empty() {
+        return unreported(Outcome::OutOfMemory);
+    }
+    if is_json {
+        return as_json(alloc, count_lines(alloc, host, order, name, given));
+    }
+    let counted = count_file(alloc, host, order, name, given);
+    Report {
+        outcome: counted.outcome,
+        sheet: counted.sheet,
+    }
+}
+
+/// Runs and counts what the words order, where so many words were left out: then as JSON.
+fn counted(alloc: Global, host: &mut RealHost, words: &[String], left_out: usize) -> Report {
     let order = match read(words) {
         Ok(order) => order,
-        Err(fault) => return uncounted(Outcome::Usage(fault)),
+        Err(fault) => return misordered(fault, left_out),
     };
     if let Some(word) = other_option(words, &order) {
-        return uncounted(Outcome::Usage(WordsFault { kind: 3, word }));
+        return misordered(WordsFault { kind: 3, word }, left_out);
     }
     match arguments(alloc, words, &order) {
-        Ok(arguments) => count_file(
+        Ok(given) => run_report(
             alloc,
             host,
+            left_out > 0,
             &order,
             words[order.file].as_bytes(),
-            arguments.as_slice(),
+            given.as_slice(),
         ),
-        Err(_) => uncounted(Outcome::OutOfMemory),
+        Err(_) => unreported(Outcome::OutOfMemory),
     }
 }
 
@@ -74,14 +144,15 @@ pub fn count(rt: HostRuntime, alloc: Global, all: &[String]) -> u8 {
     let Some(mut host) = RealHost::new(rt) else {
         return OUT_OF_MEMORY;
     };
-    let Ok(words) = run_words(alloc, all) else {
+    let left_out = json_words(all);
+    let Ok(words) = run_words(alloc, all, left_out) else {
         return OUT_OF_MEMORY;
     };
-    let counted = counted(alloc, &mut host, words.as_slice());
-    if let Some(sheet) = &counted.sheet {
+    let report = counted(alloc, &mut host, words.as_slice(), left_out);
+    if let Some(sheet) = &report.sheet {
         if let Err(outcome) = write_line(&mut host, sheet.as_slice()) {
             return told(alloc, &mut host, outcome);
         }
     }
-    told(alloc, &mut host, counted.outcome)
+    told(alloc, &mut host, report.outcome)
 }

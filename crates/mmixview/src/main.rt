@@ -2,18 +2,19 @@
 #![tactic(auto)]
 
 mod counting;
+mod json;
+mod sheet;
+mod showing;
 mod words;
 
 use crate::counting::{count, is_count};
+use crate::showing::{View, show};
 use crate::words::command;
 use clap::error::ErrorKind;
 use clap::{ArgMatches, Error};
-use mx_files::{SOURCE_PIECES, read_file, write_line};
-use mx_outcome::{Outcome, message};
 use mx_host::Host;
+use mx_outcome::{Outcome, message};
 use mx_real::{RealHost, StandIns};
-use mx_view::{Sheet, faults, lines_holding, listing};
-use mx_word::NoMemory;
 use std::alloc::Global;
 use std::env;
 use std::io::ErrorKind as Fault;
@@ -35,31 +36,6 @@ fn address(text: &str) -> Option<u64> {
         Some(digits) => u64::from_str_radix(digits, 16).ok(),
         None => text.parse::<u64>().ok(),
     }
-}
-
-/// What one of the commands shows of a source.
-fn sheet(alloc: Global, name: &str, place: u64, source: &[u8]) -> Result<Sheet, NoMemory> {
-    match name {
-        "list" => listing(alloc, source),
-        "check" => faults(alloc, source),
-        _ => lines_holding(alloc, place, source),
-    }
-}
-
-/// Reads a source, and writes what is shown of it. Whether the source is accepted.
-fn show(
-    alloc: Global,
-    host: &mut RealHost,
-    name: &str,
-    place: u64,
-    file: &str,
-) -> Result<bool, Outcome> {
-    let source = read_file(alloc, host, file.as_bytes(), SOURCE_PIECES)?;
-    let Ok(sheet) = sheet(alloc, name, place, source.as_slice()) else {
-        return Err(Outcome::OutOfMemory);
-    };
-    write_line(host, sheet.text.as_slice())?;
-    Ok(sheet.accepted)
 }
 
 /// Tells an outcome on standard error, and gives its status.
@@ -108,7 +84,8 @@ fn carry_out(rt: HostRuntime, alloc: Global, matches: &ArgMatches) -> u8 {
         );
         return FAULTY_WORDS;
     };
-    match show(alloc, &mut host, name, place, file) {
+    let view = View::of(name, place);
+    match show(alloc, &mut host, view, given.get_flag("JSON"), file) {
         Ok(true) => 0,
         Ok(false) => REFUSED,
         Err(outcome) => told(alloc, &mut host, outcome),

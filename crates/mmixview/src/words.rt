@@ -1,6 +1,6 @@
 //! The words of the command line.
 
-use clap::{Arg, Command, Error};
+use clap::{Arg, ArgAction, Command, Error};
 use std::alloc::Global;
 
 /// The file of a source.
@@ -10,6 +10,14 @@ fn source<'a>(alloc: Global) -> Arg<'a> {
         .help("the file of the source, in MMIXAL")
 }
 
+/// The option for other programs.
+fn json<'a>(alloc: Global) -> Arg<'a> {
+    Arg::new(alloc, "JSON")
+        .long("json")
+        .action(ArgAction::SetTrue)
+        .help("writes one line of JSON in place of the text")
+}
+
 /// A command on a source.
 fn on_source<'a>(
     alloc: Global,
@@ -17,7 +25,7 @@ fn on_source<'a>(
     about: &'static str,
 ) -> Result<Command<'a>, Error> {
     let command = Command::new(alloc, name).about(about);
-    Ok(command.arg(source(alloc))?)
+    Ok(command.arg(json(alloc))?.arg(source(alloc))?)
 }
 
 /// The command that tells the lines of an address.
@@ -28,12 +36,16 @@ fn where_command<'a>(alloc: Global) -> Result<Command<'a>, Error> {
     let command = Command::new(alloc, "where").about(
         "tells which lines load the tetra that holds an address, and this tetra",
     );
-    Ok(command.arg(address)?.arg(source(alloc))?)
+    Ok(command.arg(json(alloc))?.arg(address)?.arg(source(alloc))?)
 }
 
-/// The command that runs a source and counts. What stands behind it is read as `mmixware run` reads it: this tells the
-/// words alone.
+/// The command that runs a source and counts. What stands behind it is read as `mmixware run` reads it, behind `--json`
+/// in front of all else: this tells the words alone.
 fn count_command<'a>(alloc: Global) -> Result<Command<'a>, Error> {
+    let json = Arg::new(alloc, "JSON")
+        .long("json")
+        .action(ArgAction::SetTrue)
+        .help("in front of the other options: one line of JSON follows in place of the table");
     let ring = Arg::new(alloc, "R").long("ring").help(
         "the ring has R registers, a power of two from 256 to 65536",
     );
@@ -48,6 +60,7 @@ fn count_command<'a>(alloc: Global) -> Result<Command<'a>, Error> {
     );
     Ok(
         command
+            .arg(json)?
             .arg(ring)?
             .arg(steps)?
             .arg(source(alloc))?

@@ -7,3 +7,4 @@ pub mod Alone
 pub mod CountedRuns
 pub mod ArgumentWords
 pub mod TraceCounts
+pub mod ReadSheets

@@ -1,4 +1,5 @@
--- What a source comes to that is run and counted: the outcome, the host as it then stands, and the sheet where a machine ran.
+-- What a source comes to that is run and counted: the outcome, the host as it then stands, and the sheet where a machine ran, as a text or
+-- as data.
 use Rattle.std.specs.Prelude.{ℕ, ◌≡◌, ◌≢◌, ◌-◌, ◌*◌, ◌/◌, ◌||◌, IsTrue, false, if◌then◌else◌, List, [], ◌∷◌, length, take, drop, codes, Option, None, Some, Result, Ok, Err, slice_get, unwrap_or}
 use Rattle.std.specs.Str.{bytes_eq}
 use Rattle.mx_host.specs.HostModel.{HostModel, tells, contents}
@@ -22,8 +23,12 @@ use Rattle.mx_files.specs.Sources.{source_meaning}
 use Rattle.mx_files.specs.declared.refusal.Refusal.{Refusal}
 use Rattle.mx_outcome.specs.declared.outcome.Outcome.{Outcome}
 use Rattle.mx_outcome.specs.declared.outcome.Outcome.TheVariants.{Done, Stopped, StepsSpent, OutOfMemory}
-use Rattle.mx_count.specs.Sheets.{sheet_of}
+use Rattle.mx_count.specs.Reports.{report_data, report_of}
 use Rattle.mx_count.specs.declared.count.Counted.{Counted}
+use Rattle.mx_count.specs.declared.counts.Form.{Form}
+use Rattle.mx_count.specs.declared.counts.Form.TheVariants.{Octas, Text}
+use Rattle.mx_count.specs.declared.lines.CountedLines.{CountedLines}
+use Rattle.mx_count.specs.declared.lines.LineSheet.{LineSheet}
 
 -- ---- a machine: as the program runs it
 
@@ -53,35 +58,59 @@ started ring image arguments = begun_at (image.global 255 / 4 * 4) (start image 
 abbrev pub uncounted : Outcome → HostModel → Then Counted
 uncounted outcome m = (record { outcome = outcome; sheet = None }, m)
 
--- the sheet has the traces of the run
+-- the report has the traces of the run
 abbrev pub counted_as : ℕ → List ℕ → Ended → Then Counted
 counted_as steps sheet e = (record { outcome = outcome_of steps e.end; sheet = Some sheet }, e.host)
 
-abbrev pub machine_counted : ℕ → List ℕ → State → HostModel → Then Counted
-machine_counted steps source s m = counted_as steps (sheet_of source (traces window_machine steps s m)) (run steps no_flags false s m)
+abbrev pub machine_counted : Form → ℕ → List ℕ → State → HostModel → Then Counted
+machine_counted form steps source s m =
+    counted_as steps (report_of form source (traces window_machine steps s m)) (run steps no_flags false s m)
 
-abbrev pub start_counted : ℕ → List ℕ → Result State Outcome → HostModel → Then Counted
-start_counted steps source (Err outcome) m = uncounted outcome m
-start_counted steps source (Ok s) m = machine_counted steps source s m
+abbrev pub start_counted : Form → ℕ → List ℕ → Result State Outcome → HostModel → Then Counted
+start_counted form steps source (Err outcome) m = uncounted outcome m
+start_counted form steps source (Ok s) m = machine_counted form steps source s m
 
 -- a source is refused, or its image is run
-abbrev pub meaning_counted : Order → List (List ℕ) → List ℕ → Result Image Refusal → HostModel → Then Counted
-meaning_counted o arguments source (Err refusal) m = uncounted (refused_with refusal) m
-meaning_counted o arguments source (Ok image) m = start_counted o.steps source (started o.ring image arguments) m
+abbrev pub meaning_counted : Form → Order → List (List ℕ) → List ℕ → Result Image Refusal → HostModel → Then Counted
+meaning_counted form o arguments source (Err refusal) m = uncounted (refused_with refusal) m
+meaning_counted form o arguments source (Ok image) m = start_counted form o.steps source (started o.ring image arguments) m
 
 abbrev pub source_counted : Order → List (List ℕ) → Then (Result (List ℕ) Outcome) → Then Counted
 source_counted o arguments (Err outcome, m) = uncounted outcome m
-source_counted o arguments (Ok source, m) = meaning_counted o arguments source (source_meaning source) m
+source_counted o arguments (Ok source, m) = meaning_counted Text o arguments source (source_meaning source) m
 
 -- the source in the file of this name is run and counted, with the ring and the steps of an order
 abbrev pub file_counted : Order → List ℕ → List (List ℕ) → HostModel → Then Counted
 file_counted o name arguments m = source_counted o arguments (file_bytes source_pieces name m)
+
+-- ---- the same as data
+
+abbrev pub data_in : List ℕ → Option (List ℕ) → Option LineSheet
+data_in source None = None
+data_in source (Some report) = Some (report_data source report)
+
+-- what was counted of a source, whose report has octas
+abbrev pub data_of : List ℕ → Counted → CountedLines
+data_of source counted = record { outcome = counted.outcome; sheet = data_in source counted.sheet }
+
+abbrev pub as_data : List ℕ → Then Counted → Then CountedLines
+as_data source counted = (data_of source counted.0, counted.1)
+
+abbrev pub source_lines : Order → List (List ℕ) → Then (Result (List ℕ) Outcome) → Then CountedLines
+source_lines o arguments (Err outcome, m) = (record { outcome = outcome; sheet = None }, m)
+source_lines o arguments (Ok source, m) = as_data source (meaning_counted Octas o arguments source (source_meaning source) m)
+
+abbrev pub lines_counted : Order → List ℕ → List (List ℕ) → HostModel → Then CountedLines
+lines_counted o name arguments m = source_lines o arguments (file_bytes source_pieces name m)
 
 -- ---- the words of clauses: `old` and `new` are what the host told before and after
 
 -- over a host that tells its contents, what is counted and what the host then holds are those of f, unless out of memory
 abbrev pub CountsAs : Option HostModel → Option HostModel → Counted → (HostModel → Then Counted) → Type 0
 CountsAs old new result f = IsTrue (tells old) → result.outcome ≢ OutOfMemory → (result, contents new) ≡ f (contents old)
+
+abbrev pub LinesCountAs : Option HostModel → Option HostModel → CountedLines → (HostModel → Then CountedLines) → Type 0
+LinesCountAs old new result f = IsTrue (tells old) → result.outcome ≢ OutOfMemory → (result, contents new) ≡ f (contents old)
 
 -- over a host that tells its contents, a run of at most n steps ends so, and a watcher has this report on its traces
 abbrev pub EndsReported : Option HostModel → Option HostModel → State → State → ℕ → Watching → Result (End × List ℕ) NoMemory → Type 0

@@ -1,12 +1,14 @@
 -- The sheet of a run: each line of the source with what is counted of the steps at the tetras that it loads, then the sum of all
 -- steps. The form of the rows is this program's own.
-use Rattle.std.specs.Prelude.{ℕ, ◌+◌, ◌-◌, ◌==◌, ◌||◌, Bool, true, false, if◌then◌else◌, List, [], ◌∷◌, ◌++◌, length, take, drop, codes, decimal}
+use Rattle.std.specs.Prelude.{ℕ, ◌+◌, ◌-◌, ◌==◌, ◌||◌, Bool, true, false, if◌then◌else◌, List, [], ◌∷◌, ◌++◌, length, take, drop, Option, None, Some, codes, decimal}
 use Rattle.mx_core.specs.declared.trace.Trace.{Trace}
 use Rattle.mx_line.specs.Lines.{lines_of}
 use Rattle.mx_view.specs.Loads.{loads_of}
 use Rattle.mx_view.specs.Rows.{numbered}
 use Rattle.mx_view.specs.declared.cells.Cell.{Cell}
 use Rattle.mx_count.specs.Tallies.{tally_in}
+use Rattle.mx_count.specs.declared.lines.CountedLine.{CountedLine}
+use Rattle.mx_count.specs.declared.lines.LineSheet.{LineSheet}
 use Rattle.mx_count.specs.declared.tally.Tally.{Tally}
 
 -- what is counted of a run: the tally of the steps whose address passes a test
@@ -75,3 +77,25 @@ sheet_text source loads counts =
 -- the sheet of a source and of the traces of a run of it
 abbrev pub sheet_of : List ℕ → List Trace → List ℕ
 sheet_of source h = sheet_text source (loads_of source) (λ test. tally_in test h)
+
+-- ---- as data
+
+-- the tally of a line, if it loads anything
+abbrev pub tally_of_line : List Cell → Tally → Option Tally
+tally_of_line [] y = None
+tally_of_line (c ∷ cells) y = Some y
+
+abbrev pub line_with : ℕ → List ℕ → List Cell → Tally → CountedLine
+line_with number line cells y = record { number = number; text = line; tally = tally_of_line cells y }
+
+-- the lines, which are counted from a number
+unfoldable pub counted_lines : LineTally → ℕ → List (List ℕ) → List (List Cell) → List CountedLine
+counted_lines tally number [] loads = []
+counted_lines tally number (line ∷ lines) loads =
+    line_with number line (first_load loads) (tally (first_load loads)) ∷ counted_lines tally (number + 1) lines (drop 1 loads)
+
+abbrev pub sheet_data : List ℕ → List (List Cell) → Counts → LineSheet
+sheet_data source loads counts = record {
+  lines = counted_lines (line_tally counts) 1 (lines_of source) loads;
+  total = counts (λ a. true);
+}

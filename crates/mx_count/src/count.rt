@@ -9,7 +9,7 @@ ghost use Rattle.mx_files.specs.Sources.{source_meaning};
 ghost use Rattle.mx_count.specs.Runs as spec;
 ghost use Rattle.mx_count.specs.Runs.{CountsAs};
 
-use crate::Counts;
+use crate::counts::{Counts, Form};
 use crate::watched::run_counted;
 use mx_core::Machine;
 use mx_files::{SOURCE_PIECES, SourceFault, load_source, read_file};
@@ -80,18 +80,19 @@ fn start(
 fn count_machine<H: Host>(
     alloc: Global,
     host: &mut H,
+    form: Form,
     steps: u64,
     machine: Machine,
     source: &[u8],
 ) -> Counted
     ensures told { CountsAs (H.told host.old) (H.told host.new) result
-        (λ m. spec.machine_counted steps source.now (state_of machine) m) }
+        (λ m. spec.machine_counted form steps source.now (state_of machine) m) }
     ensures well { result.outcome ≢ Outcome.HostFault }
     ensures present { result.outcome ≢ Outcome.NoFile }
     ensures keeps { Keeps (H.told host.old) (H.told host.new) (H.faults host.old) (H.faults host.new) }
 {
     let mut machine = machine;
-    let counts = match Counts::new(alloc, source) {
+    let counts = match Counts::with_form(alloc, form, source) {
         Ok(counts) => counts,
         Err(_) => return uncounted(Outcome::OutOfMemory),
     };
@@ -108,41 +109,43 @@ fn count_machine<H: Host>(
 fn count_image<H: Host>(
     alloc: Global,
     host: &mut H,
+    form: Form,
     order: &Order,
     image: Image,
     source: &[u8],
     arguments: &[Bytes],
 ) -> Counted
     requires { 1 ≤ length arguments.now }
-    ensures told { CountsAs (H.told host.old) (H.told host.new) result (λ m. spec.start_counted order.now.steps
+    ensures told { CountsAs (H.told host.old) (H.told host.new) result (λ m. spec.start_counted form order.now.steps
         source.now (spec.started order.now.ring (image_of image) arguments.now) m) }
     ensures well { result.outcome ≢ Outcome.HostFault }
     ensures present { result.outcome ≢ Outcome.NoFile }
     ensures keeps { Keeps (H.told host.old) (H.told host.new) (H.faults host.old) (H.faults host.new) }
 {
     match start(alloc, image, arguments, order.ring) {
-        Ok(machine) => count_machine(alloc, host, order.steps, machine, source),
+        Ok(machine) => count_machine(alloc, host, form, order.steps, machine, source),
         Err(outcome) => uncounted(outcome),
     }
 }
 
 /// Runs a source and counts its steps, or says why it is refused.
-fn count_source<H: Host>(
+pub(crate) fn count_source<H: Host>(
     alloc: Global,
     host: &mut H,
+    form: Form,
     order: &Order,
     source: &[u8],
     arguments: &[Bytes],
 ) -> Counted
     requires { 1 ≤ length arguments.now }
     ensures told { CountsAs (H.told host.old) (H.told host.new) result
-        (λ m. spec.meaning_counted order.now arguments.now source.now (source_meaning source.now) m) }
+        (λ m. spec.meaning_counted form order.now arguments.now source.now (source_meaning source.now) m) }
     ensures well { result.outcome ≢ Outcome.HostFault }
     ensures present { result.outcome ≢ Outcome.NoFile }
     ensures keeps { Keeps (H.told host.old) (H.told host.new) (H.faults host.old) (H.faults host.new) }
 {
     match load_source(alloc, source) {
-        Ok(image) => count_image(alloc, host, order, image, source, arguments),
+        Ok(image) => count_image(alloc, host, form, order, image, source, arguments),
         Err(SourceFault::Refused(refusal)) => uncounted(refusal.outcome()),
         Err(SourceFault::OutOfMemory) => uncounted(Outcome::OutOfMemory),
     }
@@ -171,7 +174,7 @@ pub fn count_file<H: Host>(
     ensures keeps { Keeps (H.told host.old) (H.told host.new) (H.faults host.old) (H.faults host.new) }
 {
     match read_file(alloc, host, name, SOURCE_PIECES) {
-        Ok(source) => count_source(alloc, host, order, source.as_slice(), arguments),
+        Ok(source) => count_source(alloc, host, Form::Text, order, source.as_slice(), arguments),
         Err(outcome) => uncounted(outcome),
     }
 }

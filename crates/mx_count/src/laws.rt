@@ -1,11 +1,14 @@
 //! What counts come to, in words of the traces alone.
 
-ghost use Rattle.std.specs.Prelude.{◌≡◌, ◌==◌, ◌&&◌, [], ◌∷◌, ℕ, Bool, List, false, length};
+ghost use Rattle.std.specs.Prelude.{◌≡◌, ◌==◌, ◌&&◌, [], ◌∷◌, ℕ, Bool, List, false, true, length};
 ghost use Rattle.std.specs.List.{filter, sum_by};
 ghost use Rattle.mx_core.specs.declared.trace.Trace.{Trace};
 ghost use Rattle.mx_view.specs.declared.cells.Cell.{Cell};
 ghost use Rattle.mx_count.specs.Costs.{mems, oops};
-ghost use Rattle.mx_count.specs.Sheets.{is_among};
+ghost use Rattle.mx_view.specs.Loads.{loads_of};
+ghost use Rattle.mx_count.specs.Reports.{HasOctas, report_data, report_of};
+ghost use Rattle.mx_count.specs.Sheets.{is_among, sheet_data};
+ghost use Rattle.mx_count.specs.declared.counts.Form.TheVariants.{Octas};
 ghost use Rattle.mx_count.specs.Tallies.{added, code_in, goes_away, nothing, tally_in};
 
 /// The tally of addresses has the number of the traces there, how many of them have another next address than the one
@@ -29,4 +32,13 @@ pub fn lines_are_sums_over_their_tetras()
     ensures none { (h : List Trace) → tally_in (is_among []) h ≡ nothing }
     ensures more { (c : Cell) (cells : List Cell) (h : List Trace) → is_among cells c.address ≡ false →
         tally_in (is_among (c ∷ cells)) h ≡ added (tally_in (λ a. a == c.address) h) (tally_in (is_among cells) h) }
+{}
+
+/// What is read from the octas that are reported of traces is their sheet as data: each line with its number, its text and
+/// the tally of the tetras that it loads, and the tally of all traces. The numbers of this last one are to be below 2^64.
+#[tactic(auto, using(crate::proofs::ReadSheets::back))]
+pub fn sheets_are_read_back()
+    ensures { (source : List ℕ) (h : List Trace) → HasOctas (tally_in (λ a. true) h) →
+        report_data source (report_of Octas source h)
+        ≡ sheet_data source (loads_of source) (λ test. tally_in test h) }
 {}

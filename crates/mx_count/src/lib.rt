@@ -3,8 +3,11 @@
 
 mod costs;
 mod count;
+mod counted;
 mod counts;
 mod laws;
+mod lines;
+mod octas;
 mod sheet;
 mod sums;
 mod table;
@@ -13,8 +16,10 @@ mod watched;
 mod words;
 
 pub use count::{Counted, count_file};
+pub use counted::count_lines;
 pub use counts::Counts;
-pub use laws::{lines_are_sums_over_their_tetras, tallies_count_traces};
+pub use laws::{lines_are_sums_over_their_tetras, sheets_are_read_back, tallies_count_traces};
+pub use lines::{CountedLine, CountedLines, LineSheet};
 pub use table::Entry;
 pub use tally::Tally;
 pub use words::arguments;

@@ -85,7 +85,7 @@ fn add_row(
 }
 
 /// The tetras of the first line, and those of the others.
-fn next_load(loads: &[Sequence<Cell>]) -> (&[Cell], &[Sequence<Cell>])
+pub(crate) fn next_load(loads: &[Sequence<Cell>]) -> (&[Cell], &[Sequence<Cell>])
     ensures first { result.0.now ≡ spec.first_load loads.now }
     ensures others { result.1.now ≡ drop 1 loads.now }
 {

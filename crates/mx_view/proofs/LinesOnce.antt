@@ -9,9 +9,9 @@ use Rattle.mx_asm.proofs.EndLaw.{both-none}
 use Rattle.mx_asm.proofs.InTurn.{stands-at, refusal-lasts}
 use Rattle.mx_view.specs.declared.cells.Cell.{Cell}
 use Rattle.mx_view.specs.declared.cells.Wanted.TheVariants.{All}
-use Rattle.mx_view.specs.Joined.{lines_once, rows_of_line}
-use Rattle.mx_view.specs.Listing.{line_cells, line_rows, rows_behind, rows_unless}
-use Rattle.mx_view.specs.Rows.{Meaning, rows_of}
+use Rattle.mx_view.specs.Joined.{lines_once}
+use Rattle.mx_view.specs.Listing.{line_cells, line_listed, listed_behind, listed_unless}
+use Rattle.mx_view.specs.Rows.{Meaning, listed, listed_line}
 
 -- no front of lines that are not refused is refused
 lasting : (front later : List Line) (r : Refused) → lines_refusal front ≡ Some r → lines_refusal (front ++ later) ≡ Some r
@@ -33,58 +33,58 @@ open-front front later none = by (lines_refusal front) refl
     by None e = refl
     by (Some r) e = let h = lasting front later r e in absurd (cc)
 
-rows-of-line : (m : Meaning) (number : ℕ) (line : Line) (cells : List Cell) → rows_of m All number line cells ≡ rows_of_line m number line cells
-rows-of-line m number line [] = sym (append-nil _)
-rows-of-line m number line (c ∷ cells) = refl
+listed-of : (m : Meaning) (number : ℕ) (line : Line) (cells : List Cell) → listed m All number line cells ≡ listed_line m number line cells ∷ []
+listed-of m number line [] = refl
+listed-of m number line (c ∷ cells) = refl
 
 -- a line behind lines that are not refused
-open-line : (m : Meaning) (before : List Line) (line : Line) → lines_refusal before ≡ None → line_rows m All before line ≡ rows_of_line m (length before + 1) line (line_cells All before line)
+open-line : (m : Meaning) (before : List Line) (line : Line) → lines_refusal before ≡ None → line_listed m All before line ≡ listed_line m (length before + 1) line (line_cells All before line) ∷ []
 open-line m before line none =
-    ap (λ r. rows_unless r (rows_of m All (length before + 1) line (line_cells All before line))) none
-    ∙ rows-of-line m (length before + 1) line (line_cells All before line)
+    ap (λ r. listed_unless r (listed m All (length before + 1) line (line_cells All before line))) none
+    ∙ listed-of m (length before + 1) line (line_cells All before line)
 
 -- lines behind others, where none but the last may be refused
-pub once-behind : (m : Meaning) (before later : List Line) (line : Line) → lines_refusal (before ++ later) ≡ None → rows_behind m All before (later ++ line ∷ []) ≡ lines_once m before (later ++ line ∷ [])
-unfolding rows_behind lines_once
+pub once-behind : (m : Meaning) (before later : List Line) (line : Line) → lines_refusal (before ++ later) ≡ None → listed_behind m All before (later ++ line ∷ []) ≡ lines_once m before (later ++ line ∷ [])
+unfolding listed_behind lines_once
 once-behind m before [] line none =
-    ap (λ rows. rows ++ []) (open-line m before line (ap lines_refusal (sym (append-nil before)) ∙ none))
+    ap (λ lines. lines ++ []) (open-line m before line (ap lines_refusal (sym (append-nil before)) ∙ none))
 once-behind m before (next ∷ later) line none =
     let open_still : lines_refusal ((before ++ next ∷ []) ++ later) ≡ None = ap lines_refusal (append_assoc before (next ∷ []) later) ∙ none in
     (λ i. open-line m before next (open-front before (next ∷ later) none) i ++ once-behind m (before ++ next ∷ []) later line open_still i)
 
 -- nothing stands behind a refused line
-closed-rows : (m : Meaning) (before later : List Line) (r : Refused) → lines_refusal before ≡ Some r → rows_behind m All before later ≡ []
-unfolding rows_behind
-closed-rows m before [] r e = refl
-closed-rows m before (line ∷ later) r e =
-    (λ i. rows_unless (e i) (rows_of m All (length before + 1) line (line_cells All before line)) ++ closed-rows m (before ++ line ∷ []) later r (lasting before (line ∷ []) r e) i)
+closed-lines : (m : Meaning) (before later : List Line) (r : Refused) → lines_refusal before ≡ Some r → listed_behind m All before later ≡ []
+unfolding listed_behind
+closed-lines m before [] r e = refl
+closed-lines m before (line ∷ later) r e =
+    (λ i. listed_unless (e i) (listed m All (length before + 1) line (line_cells All before line)) ++ closed-lines m (before ++ line ∷ []) later r (lasting before (line ∷ []) r e) i)
 
-rows-append : (m : Meaning) (before lines later : List Line) → rows_behind m All before (lines ++ later) ≡ rows_behind m All before lines ++ rows_behind m All (before ++ lines) later
-unfolding rows_behind
-rows-append m before [] later = ap (λ l. rows_behind m All l later) (sym (append-nil before))
-rows-append m before (line ∷ lines) later =
-    ap (λ rows. line_rows m All before line ++ rows) (rows-append m (before ++ line ∷ []) lines later)
-    ∙ sym (append_assoc (line_rows m All before line) (rows_behind m All (before ++ line ∷ []) lines) (rows_behind m All ((before ++ line ∷ []) ++ lines) later))
-    ∙ ap (λ l. (line_rows m All before line ++ rows_behind m All (before ++ line ∷ []) lines) ++ rows_behind m All l later) (append_assoc before (line ∷ []) lines)
+lines-append : (m : Meaning) (before lines later : List Line) → listed_behind m All before (lines ++ later) ≡ listed_behind m All before lines ++ listed_behind m All (before ++ lines) later
+unfolding listed_behind
+lines-append m before [] later = ap (λ l. listed_behind m All l later) (sym (append-nil before))
+lines-append m before (line ∷ lines) later =
+    ap (λ more. line_listed m All before line ++ more) (lines-append m (before ++ line ∷ []) lines later)
+    ∙ sym (append_assoc (line_listed m All before line) (listed_behind m All (before ++ line ∷ []) lines) (listed_behind m All ((before ++ line ∷ []) ++ lines) later))
+    ∙ ap (λ l. (line_listed m All before line ++ listed_behind m All (before ++ line ∷ []) lines) ++ listed_behind m All l later) (append_assoc before (line ∷ []) lines)
 
 pub once-refused : (m : Meaning) (before later : List Line) (line : Line) (r : Refused) → lines_refusal before ≡ None → lines_refusal (before ++ line ∷ []) ≡ Some r →
-    rows_behind m All [] (before ++ line ∷ later) ≡ lines_once m [] (before ++ line ∷ [])
+    listed_behind m All [] (before ++ line ∷ later) ≡ lines_once m [] (before ++ line ∷ [])
 once-refused m before later line r none refused =
-    ap (rows_behind m All []) (sym (append_assoc before (line ∷ []) later))
-    ∙ rows-append m [] (before ++ line ∷ []) later
-    ∙ ap (λ rows. rows_behind m All [] (before ++ line ∷ []) ++ rows) (closed-rows m (before ++ line ∷ []) later r refused)
-    ∙ append-nil (rows_behind m All [] (before ++ line ∷ []))
+    ap (listed_behind m All []) (sym (append_assoc before (line ∷ []) later))
+    ∙ lines-append m [] (before ++ line ∷ []) later
+    ∙ ap (λ more. listed_behind m All [] (before ++ line ∷ []) ++ more) (closed-lines m (before ++ line ∷ []) later r refused)
+    ∙ append-nil (listed_behind m All [] (before ++ line ∷ []))
     ∙ once-behind m [] before line none
 
 -- all lines, where none is refused
-all-once : (m : Meaning) (before later : List Line) → lines_refusal (before ++ later) ≡ None → rows_behind m All before later ≡ lines_once m before later
-unfolding rows_behind lines_once
+all-once : (m : Meaning) (before later : List Line) → lines_refusal (before ++ later) ≡ None → listed_behind m All before later ≡ lines_once m before later
+unfolding listed_behind lines_once
 all-once m before [] none = refl
 all-once m before (line ∷ later) none =
     let open_still : lines_refusal ((before ++ line ∷ []) ++ later) ≡ None = ap lines_refusal (append_assoc before (line ∷ []) later) ∙ none in
     (λ i. open-line m before line (open-front before (line ∷ later) none) i ++ all-once m (before ++ line ∷ []) later open_still i)
 
-pub once-accepted : (source : List ℕ) (m : Meaning) → refusal source ≡ None → rows_behind m All [] (lines_of source) ≡ lines_once m [] (lines_of source)
+pub once-accepted : (source : List ℕ) (m : Meaning) → refusal source ≡ None → listed_behind m All [] (lines_of source) ≡ lines_once m [] (lines_of source)
 once-accepted source m none = all-once m [] (lines_of source) (both-none (lines_refusal (lines_of source)) _ none).0
 
 pub ruleset once = (once-accepted, once-refused)

@@ -1,4 +1,4 @@
--- What is shown of a source is what is shown line by line.
+-- What is listed of a source is what is listed line by line.
 use Rattle.std.proofs.Common.{◌≡◌, ℕ, ◌+◌, List, [], ◌∷◌, ◌++◌, length, drop, append-nil, append_assoc, length-append, refl, sym, ap, subst, ◌∙◌, None, Some, Ok, Err}
 use Rattle.std.proofs.lemmas.List.{drop_at}
 use Rattle.mx_line.specs.Lines.{lines_of}
@@ -12,10 +12,10 @@ use Rattle.mx_asm.proofs.InTurn.{none-taken, one-more-taken, one-more-grows, tak
 use Rattle.mx_files.specs.Sources.{source_meaning}
 use Rattle.mx_view.specs.declared.cells.Wanted.{Wanted}
 use Rattle.mx_view.specs.Cells.{cells_of}
-use Rattle.mx_view.specs.Rows.{Meaning, rows_of}
-use Rattle.mx_view.specs.Listing.{added_items, line_cells, line_rows, rows_unless, rows_behind, end_text, shown_source}
-use Rattle.mx_view.specs.InTurn.{items_at, standing_at, rows_at, rows_in_turn, standing_behind, shown_in_turn}
-use Rattle.mx_view.proofs.LineTurns.{rows-behind}
+use Rattle.mx_view.specs.Rows.{Meaning, listed}
+use Rattle.mx_view.specs.Listing.{added_items, line_cells, line_listed, listed_unless, listed_behind, lines_listed}
+use Rattle.mx_view.specs.InTurn.{items_at, standing_at, listed_at, listed_in_turn, standing_behind, all_listed, end_of}
+use Rattle.mx_view.proofs.LineTurns.{listed-behind}
 
 pub lambda-append : (lambda : ℕ) (items more : List Item) → lambda_behind lambda (items ++ more) ≡ lambda_behind (lambda_behind lambda items) more
 unfolding lambda_behind
@@ -40,29 +40,29 @@ pub cells-are : (w : Wanted) (before : List Line) (line : Line) (a : Standing) �
 cells-are w before line a h = ap (cells_of w (lambda_of (lines_items before))) (added-is before line a h)
 
 -- where no line before it is refused, and where one is
-open-rows : (m : Meaning) (w : Wanted) (before : List Line) (line : Line) (a : Standing) → HasTaken before a → lines_refusal before ≡ None →
-    line_rows m w before line ≡ rows_at m w (length before + 1) (lambda_of (lines_items before)) a line
-open-rows m w before line a h e =
-    ap (λ r. rows_unless r (rows_of m w (length before + 1) line (line_cells w before line))) e
-    ∙ ap (rows_of m w (length before + 1) line) (cells-are w before line a h)
+open-line : (m : Meaning) (w : Wanted) (before : List Line) (line : Line) (a : Standing) → HasTaken before a → lines_refusal before ≡ None →
+    line_listed m w before line ≡ listed_at m w (length before + 1) (lambda_of (lines_items before)) a line
+open-line m w before line a h e =
+    ap (λ r. listed_unless r (listed m w (length before + 1) line (line_cells w before line))) e
+    ∙ ap (listed m w (length before + 1) line) (cells-are w before line a h)
 
-closed-rows : (m : Meaning) (w : Wanted) (before : List Line) (line : Line) (r : Refused) → lines_refusal before ≡ Some r → line_rows m w before line ≡ []
-closed-rows m w before line r e = ap (λ q. rows_unless q (rows_of m w (length before + 1) line (line_cells w before line))) e
+closed-line : (m : Meaning) (w : Wanted) (before : List Line) (line : Line) (r : Refused) → lines_refusal before ≡ Some r → line_listed m w before line ≡ []
+closed-line m w before line r e = ap (λ q. listed_unless q (listed m w (length before + 1) line (line_cells w before line))) e
 
 more-length : (before : List Line) (line : Line) → length (before ++ line ∷ []) ≡ length before + 1
 more-length before line = length-append before (line ∷ [])
 
-rows-are : (m : Meaning) (w : Wanted) (later before : List Line) (a : Standing) → HasTaken before a →
-    rows_behind m w before later ≡ rows_in_turn m w (length before + 1) (lambda_of (lines_items before)) a later
-unfolding rows_behind rows_in_turn
-rows-are m w [] before a h = refl
-rows-are m w (line ∷ later) before (Ok a) h =
-    (λ i. open-rows m w before line (Ok a) h (sym h.refusal) i
-    ++ (rows-are m w later (before ++ line ∷ []) (standing_at (Ok a) line) (one-more-taken before line [] (Ok a) h)
-    ∙ (λ j. rows_in_turn m w (more-length before line j + 1) (lambda-is before line (Ok a) h j) (standing_at (Ok a) line) later)) i)
-rows-are m w (line ∷ later) before (Err r) h =
-    (λ i. closed-rows m w before line r (sym h.refusal) i
-    ++ (rows-are m w later (before ++ line ∷ []) (Err r) (one-more-taken before line [] (Err r) h) ∙ rows-behind m w _ _ (Err r) later refl) i)
+lines-are : (m : Meaning) (w : Wanted) (later before : List Line) (a : Standing) → HasTaken before a →
+    listed_behind m w before later ≡ listed_in_turn m w (length before + 1) (lambda_of (lines_items before)) a later
+unfolding listed_behind listed_in_turn
+lines-are m w [] before a h = refl
+lines-are m w (line ∷ later) before (Ok a) h =
+    (λ i. open-line m w before line (Ok a) h (sym h.refusal) i
+    ++ (lines-are m w later (before ++ line ∷ []) (standing_at (Ok a) line) (one-more-taken before line [] (Ok a) h)
+    ∙ (λ j. listed_in_turn m w (more-length before line j + 1) (lambda-is before line (Ok a) h j) (standing_at (Ok a) line) later)) i)
+lines-are m w (line ∷ later) before (Err r) h =
+    (λ i. closed-line m w before line r (sym h.refusal) i
+    ++ (lines-are m w later (before ++ line ∷ []) (Err r) (one-more-taken before line [] (Err r) h) ∙ listed-behind m w _ _ (Err r) later refl) i)
 
 all-taken : (later before : List Line) (a : Standing) → HasTaken before a → HasTaken (before ++ later) (standing_behind a later)
 unfolding standing_behind
@@ -74,13 +74,13 @@ all-taken (line ∷ later) before a h =
 ends-are : (lines : List Line) → (end_behind [] (standing_behind (Ok beginning) lines)).1 ≡ (assembled_lines lines).1
 ends-are lines = taken-ends lines [] (standing_behind (Ok beginning) lines) (all-taken lines [] (Ok beginning) none-taken)
 
-pub shown-is : (m : Meaning) (w : Wanted) (source : List ℕ) → m ≡ source_meaning source → shown_in_turn m w (lines_of source) ≡ shown_source w source
+pub lines-shown : (m : Meaning) (w : Wanted) (source : List ℕ) → m ≡ source_meaning source → all_listed m w (lines_of source) ≡ lines_listed w source
 unfolding lines_of lambda_behind
-shown-is m w source e =
-    (λ i. rows_in_turn (e i) w 1 0 (Ok beginning) (lines_of source) ++ end_text w (ends-are (lines_of source) i))
-    ∙ ap (λ rows. rows ++ end_text w (assembled_source source).1) (sym (rows-are (source_meaning source) w (lines_of source) [] (Ok beginning) none-taken))
+lines-shown m w source e =
+    (λ i. listed_in_turn (e i) w 1 0 (Ok beginning) (lines_of source))
+    ∙ sym (lines-are (source_meaning source) w (lines_of source) [] (Ok beginning) none-taken)
 
-pub accepted-is : (source : List ℕ) → (end_behind [] (standing_behind (Ok beginning) (lines_of source))).1 ≡ (assembled_source source).1
-accepted-is source = ends-are (lines_of source)
+pub end-is : (source : List ℕ) → end_of (lines_of source) ≡ (assembled_source source).1
+end-is source = ends-are (lines_of source)
 
-pub ruleset shown = (shown-is, accepted-is)
+pub ruleset shown = (lines-shown, end-is)

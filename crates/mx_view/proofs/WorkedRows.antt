@@ -1,5 +1,5 @@
 -- The definitions on worked rows.
-use Rattle.std.proofs.Common.{◌≡◌, [], ◌∷◌, refl, codes}
+use Rattle.std.proofs.Common.{◌≡◌, [], ◌∷◌, None, Some, refl, codes}
 use Rattle.mx_mmo.specs.declared.items.Item.TheVariants.{Load, Loc, Line}
 use Rattle.mx_line.specs.declared.faults.LineFault.TheVariants.{NoOpcode}
 use Rattle.mx_stmt.specs.declared.faults.StmtFault.TheVariants.{Fit}
@@ -7,7 +7,7 @@ use Rattle.mx_asm.specs.declared.faults.AsmFault.TheVariants as fault
 unfoldable use Rattle.mx_line.specs.Cutting.{cuts_within, statement_of}
 unfoldable use Rattle.mx_line.specs.Fields.{field_from}
 use Rattle.mx_view.specs.declared.cells.Wanted.TheVariants.{All, Holding}
-use Rattle.mx_view.specs.Carets.{caret_text}
+use Rattle.mx_view.specs.Carets.{caret_place, caret_text}
 use Rattle.mx_view.specs.Cells.{cells_of}
 use Rattle.mx_view.specs.Rows.{padded}
 use Rattle.mx_view.specs.Refusals.{with_blank, line_text}
@@ -37,14 +37,14 @@ unfolding line_text
 second-line = refl
 
 -- under the operands, behind a tab; under the label of the second statement; and under no field of one of two statements
-operands-marked : caret_text (fault.Stmt Fit) (codes "\tSET $0,70000") ≡ codes "    \t    ^\n"
-unfolding caret_text cuts_within statement_of field_from
+operands-marked : caret_text (codes "\tSET $0,70000") (caret_place (fault.Stmt Fit) (codes "\tSET $0,70000")) ≡ codes "    \t    ^\n"
+unfolding caret_place cuts_within statement_of field_from
 operands-marked = refl
 
-second-marked : caret_text (fault.Line NoOpcode) (codes "A SWYM 0;SET $0") ≡ codes "             ^\n"
-unfolding caret_text cuts_within statement_of field_from
+second-marked : caret_place (fault.Line NoOpcode) (codes "A SWYM 0;SET $0") ≡ Some 9
+unfolding caret_place cuts_within statement_of field_from
 second-marked = refl
 
-none-marked : caret_text (fault.Stmt Fit) (codes "A SWYM 0; SET $0,70000") ≡ []
-unfolding caret_text cuts_within statement_of field_from
+none-marked : caret_place (fault.Stmt Fit) (codes "A SWYM 0; SET $0,70000") ≡ None
+unfolding caret_place cuts_within statement_of field_from
 none-marked = refl

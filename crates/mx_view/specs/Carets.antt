@@ -73,16 +73,19 @@ from_field Operands text = behind_word (behind_word text)
 
 -- ---- the caret
 
+-- how many bytes of the line stand in front of it
+abbrev pub place_with : Line → Option Field → Option ℕ → Option ℕ
+place_with line (Some field) (Some place) = Some (length line - length (from_field field (drop place line)))
+place_with line field place = None
+
+unfoldable pub caret_place : AsmFault → Line → Option ℕ
+caret_place why line = place_with line (field_of why) (statement_place why line)
+
 -- a tab stands under a tab, and a blank under each other byte
 abbrev pub under : ℕ → ℕ
 under b = if b == 9 then 9 else 32
 
-abbrev pub caret_under : Line → ℕ → List ℕ
-caret_under line place = codes "    " ++ map under (take place line) ++ codes "^\n"
-
-abbrev pub caret_with : Line → Option Field → Option ℕ → List ℕ
-caret_with line (Some field) (Some place) = caret_under line (length line - length (from_field field (drop place line)))
-caret_with line field place = []
-
-unfoldable pub caret_text : AsmFault → Line → List ℕ
-caret_text why line = caret_with line (field_of why) (statement_place why line)
+-- below a line, behind so many of its bytes
+abbrev pub caret_text : Line → Option ℕ → List ℕ
+caret_text line (Some place) = codes "    " ++ map under (take place line) ++ codes "^\n"
+caret_text line None = []

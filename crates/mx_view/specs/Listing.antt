@@ -1,5 +1,5 @@
--- The listing of a source. Each line has its rows, in order, up to the first line that is refused. Behind them stand the
--- symbols, or why the source is refused. (MMIXware, MMIXAL, the option -l.)
+-- The listing of a source: its lines, in order, up to the first one that is refused, and its symbols or why it is refused. As a text, each
+-- line has its rows, and behind them stand the symbols or the refusal. (MMIXware, MMIXAL, the option -l.)
 use Rattle.std.specs.Prelude.{ℕ, ◌+◌, List, [], ◌∷◌, ◌++◌, length, drop, Option, None, Some, Result, Ok, Err, codes}
 use Rattle.std.specs.List.{flat_map}
 use Rattle.mx_word.specs.declared.symbols.Symbol.{Symbol}
@@ -18,9 +18,10 @@ use Rattle.mx_view.specs.declared.cells.Cell.{Cell}
 use Rattle.mx_view.specs.declared.cells.Wanted.{Wanted}
 use Rattle.mx_view.specs.declared.cells.Wanted.TheVariants.{All, Holding}
 use Rattle.mx_view.specs.Cells.{cells_of}
-use Rattle.mx_view.specs.Rows.{Meaning, rows_of}
+use Rattle.mx_view.specs.declared.lines.ListedLine.{ListedLine}
+use Rattle.mx_view.specs.Rows.{Meaning, listed, rows_of}
 
--- ---- the rows of a line
+-- ---- the lines
 
 -- the items that a line adds to those of the lines before it
 abbrev pub added_items : List Line → Line → List Item
@@ -30,19 +31,20 @@ added_items before line = drop (length (lines_items before)) (lines_items (befor
 abbrev pub line_cells : Wanted → List Line → Line → List Cell
 line_cells wanted before line = cells_of wanted (lambda_of (lines_items before)) (added_items before line)
 
--- the rows of a line, unless a line before it is refused
-abbrev pub rows_unless : Option Refused → List ℕ → List ℕ
-rows_unless None rows = rows
-rows_unless (Some refused) rows = []
+-- a line behind others, if it is listed: no line before it is refused then
+abbrev pub listed_unless : Option Refused → List ListedLine → List ListedLine
+listed_unless None lines = lines
+listed_unless (Some refused) lines = []
 
-abbrev pub line_rows : Meaning → Wanted → List Line → Line → List ℕ
-line_rows m wanted before line =
-    rows_unless (lines_refusal before) (rows_of m wanted (length before + 1) line (line_cells wanted before line))
+abbrev pub line_listed : Meaning → Wanted → List Line → Line → List ListedLine
+line_listed m wanted before line =
+    listed_unless (lines_refusal before) (listed m wanted (length before + 1) line (line_cells wanted before line))
 
--- the rows of lines that stand behind others
-unfoldable pub rows_behind : Meaning → Wanted → List Line → List Line → List ℕ
-rows_behind m wanted before [] = []
-rows_behind m wanted before (line ∷ later) = line_rows m wanted before line ++ rows_behind m wanted (before ++ line ∷ []) later
+-- those of lines behind others that are listed
+unfoldable pub listed_behind : Meaning → Wanted → List Line → List Line → List ListedLine
+listed_behind m wanted before [] = []
+listed_behind m wanted before (line ∷ later) =
+    line_listed m wanted before line ++ listed_behind m wanted (before ++ line ∷ []) later
 
 -- the tetras of lines that stand behind others, one after another
 unfoldable pub cells_behind : Wanted → List Line → List Line → List Cell
@@ -54,7 +56,17 @@ cells_behind wanted before (line ∷ later) = line_cells wanted before line ++ c
 unfoldable pub refusal_text : Refused → List ℕ
 refusal_text r = refused_text r.line (fault_number r.fault) r.from_line
 
--- the symbols in the order of their names, behind an empty line
+-- the symbols of a trie, in the order of their names
+abbrev pub symbols_told : Result (List Symbol) StabFault → List Symbol
+symbols_told (Ok symbols) = symbols
+symbols_told (Err fault) = []
+
+-- those of a source, by the trie that it is assembled into; one that is refused has none
+abbrev pub symbols_at_end : Result (List ℕ) Refused → List Symbol
+symbols_at_end (Ok trie) = symbols_told (trie_answer trie)
+symbols_at_end (Err refused) = []
+
+-- as a text, behind an empty line
 abbrev pub symbols_text : Wanted → Result (List Symbol) StabFault → List ℕ
 symbols_text All (Ok symbols) = codes "\n" ++ flat_map (λ s. ended (symbol_line s)) symbols
 symbols_text wanted answer = []
@@ -66,10 +78,16 @@ end_text wanted (Err refused) = refusal_text refused
 
 -- ---- the whole
 
--- what is shown of a source: all lines and tetras, or those of an address
+-- the lines of a source that are listed: all lines and tetras, or those of an address
+abbrev pub lines_listed : Wanted → List ℕ → List ListedLine
+lines_listed wanted source = listed_behind (source_meaning source) wanted [] (lines_of source)
+
+abbrev pub symbols_listed : List ℕ → List Symbol
+symbols_listed source = symbols_at_end (assembled_source source).1
+
+-- as a text
 abbrev pub shown_source : Wanted → List ℕ → List ℕ
-shown_source wanted source =
-    rows_behind (source_meaning source) wanted [] (lines_of source) ++ end_text wanted (assembled_source source).1
+shown_source wanted source = flat_map rows_of (lines_listed wanted source) ++ end_text wanted (assembled_source source).1
 
 abbrev pub listing_of : List ℕ → List ℕ
 listing_of source = shown_source All source

@@ -1,7 +1,7 @@
--- The rows of a listing: the address and the bytes of a tetra, then the number and the text of the line that it came from;
--- each further tetra of a line has a row of its own.
+-- The lines of a listing, and their rows: the address and the bytes of a tetra, then the number and the text of the line that it came
+-- from; each further tetra of a line has a row of its own.
 -- The form of the rows is this program's own.
-use Rattle.std.specs.Prelude.{ℕ, ◌-◌, ◌^◌, nat_lt, List, [], ◌∷◌, ◌++◌, length, take, Result, Ok, Err, if◌then◌else◌, codes, decimal}
+use Rattle.std.specs.Prelude.{ℕ, ◌-◌, ◌^◌, nat_lt, List, [], ◌∷◌, ◌++◌, length, map, take, drop, Result, Ok, Err, if◌then◌else◌, codes, decimal}
 use Rattle.std.specs.List.{flat_map}
 use Rattle.mx_text.specs.Numbers.{hex_digits, hex_text}
 use Rattle.mx_mem.specs.Memory.{tetra_of}
@@ -10,6 +10,7 @@ use Rattle.mx_files.specs.declared.refusal.Refusal.{Refusal}
 use Rattle.mx_view.specs.declared.cells.Cell.{Cell}
 use Rattle.mx_view.specs.declared.cells.Wanted.{Wanted}
 use Rattle.mx_view.specs.declared.cells.Wanted.TheVariants.{All, Holding}
+use Rattle.mx_view.specs.declared.lines.ListedLine.{ListedLine}
 
 -- the image of a source, or its refusal
 abbrev pub Meaning : Type 0
@@ -20,12 +21,38 @@ abbrev pub shown : Meaning → Cell → ℕ
 shown (Err refusal) c = c.tetra
 shown (Ok image) c = if nat_lt c.address (2 ^ 63) then tetra_of (image.memory c.address) c.address else c.tetra
 
-abbrev pub cell_text : Meaning → Cell → List ℕ
-cell_text m c = hex_text c.address ++ codes ": " ++ hex_digits 8 (shown m c)
+-- ---- lines
+
+abbrev pub shown_cell : Meaning → Cell → Cell
+shown_cell m c = record { address = c.address; tetra = shown m c }
+
+-- the line with this number and this text, which loads these tetras
+abbrev pub listed_line : Meaning → ℕ → List ℕ → List Cell → ListedLine
+listed_line m number line cells = record { number = number; text = line; cells = map (shown_cell m) cells }
+
+-- a line with no tetra is listed, unless tetras of an address are wanted
+abbrev pub bare_line : Wanted → ℕ → List ℕ → List ListedLine
+bare_line All number line = record { number = number; text = line; cells = [] } ∷ []
+bare_line (Holding a) number line = []
+
+-- a line, if it is listed
+abbrev pub listed : Meaning → Wanted → ℕ → List ℕ → List Cell → List ListedLine
+listed m wanted number line [] = bare_line wanted number line
+listed m wanted number line (c ∷ more) = listed_line m number line (c ∷ more) ∷ []
+
+-- ---- rows
+
+abbrev pub cell_text : Cell → List ℕ
+cell_text c = hex_text c.address ++ codes ": " ++ hex_digits 8 c.tetra
 
 -- as many blanks as a cell has bytes
 abbrev pub no_cell : List ℕ
 no_cell = codes "                           "
+
+-- the first tetra of a line, or blanks in its place
+abbrev pub first_cell : List Cell → List ℕ
+first_cell [] = no_cell
+first_cell (c ∷ more) = cell_text c
 
 -- the number of a line, which is filled up with blanks on the left to five places
 abbrev pub padded : List ℕ → List ℕ
@@ -35,16 +62,9 @@ padded digits = take (5 - length digits) (codes "     ") ++ digits
 abbrev pub numbered : ℕ → List ℕ → List ℕ
 numbered number line = padded (decimal number) ++ codes ": " ++ line ++ codes "\n"
 
-abbrev pub further_row : Meaning → Cell → List ℕ
-further_row m c = cell_text m c ++ codes "\n"
+abbrev pub further_row : Cell → List ℕ
+further_row c = cell_text c ++ codes "\n"
 
--- a line with no tetra has a row, unless tetras of an address are wanted
-abbrev pub bare_row : Wanted → ℕ → List ℕ → List ℕ
-bare_row All number line = no_cell ++ codes "  " ++ numbered number line
-bare_row (Holding a) number line = []
-
--- the rows of a line
-abbrev pub rows_of : Meaning → Wanted → ℕ → List ℕ → List Cell → List ℕ
-rows_of m wanted number line [] = bare_row wanted number line
-rows_of m wanted number line (c ∷ more) =
-    cell_text m c ++ codes "  " ++ numbered number line ++ flat_map (further_row m) more
+-- the rows of a line: the one with its number and its text, and then one for each further tetra
+abbrev pub rows_of : ListedLine → List ℕ
+rows_of l = first_cell l.cells ++ codes "  " ++ numbered l.number l.text ++ flat_map further_row (drop 1 l.cells)

@@ -1,6 +1,6 @@
 //! Carets below faulty lines.
 
-ghost use Rattle.std.specs.Prelude.{◌≡◌, ◌≤◌, ◌++◌, IfSome, OnOk, length, map};
+ghost use Rattle.std.specs.Prelude.{◌≡◌, ◌≤◌, ◌++◌, IfSome, OnOk, length, map, take};
 ghost use Rattle.mx_line.specs.Bytes as bytes;
 ghost use Rattle.mx_line.specs.Cutting.{cuts_from};
 ghost use Rattle.mx_view.specs.Carets as spec;
@@ -135,6 +135,21 @@ fn from_field(field: Field, text: &[u8]) -> &[u8]
     }
 }
 
+/// How many bytes of a line stand in front of its caret under this fault, if it has one.
+#[tactic(auto, unfolding(crate::specs::Carets::caret_place))]
+pub(crate) fn caret_place(why: AsmFault, line: &[u8]) -> Option<usize>
+    ensures { result ≡ spec.caret_place why line.now }
+{
+    let Some(field) = field_of(why) else {
+        return None;
+    };
+    let Some(place) = statement_place(why, line) else {
+        return None;
+    };
+    let rest = from_field(field, &line[place..]);
+    Some(line.len().saturating_sub(rest.len()))
+}
+
 /// What stands under a byte in front of the caret.
 fn under(b: u8) -> u8
     ensures { result ≡ spec.under b }
@@ -152,20 +167,26 @@ fn add_under(text: &mut Bytes, front: &[u8]) -> Result<(), NoMemory>
     Ok(())
 }
 
-/// Adds the caret below a line under this fault, if it has a place.
-#[tactic(auto, unfolding(crate::specs::Carets::caret_text))]
-pub(crate) fn add_caret(text: &mut Bytes, why: AsmFault, line: &[u8]) -> Result<(), NoMemory>
-    ensures { OnOk result (text.new ≡ text.old ++ spec.caret_text why line.now) }
+/// The first bytes of a line: so many, or all.
+#[tactic(auto, using(crate::proofs::FaultTurns::fronts))]
+fn front_of(line: &[u8], place: usize) -> &[u8]
+    ensures { result.now ≡ take place line.now }
 {
-    let Some(field) = field_of(why) else {
+    if place < line.len() {
+        &line[..place]
+    } else {
+        line
+    }
+}
+
+/// Adds the caret below a line, if it has one, behind so many bytes of the line.
+pub(crate) fn add_caret(text: &mut Bytes, line: &[u8], caret: Option<usize>) -> Result<(), NoMemory>
+    ensures { OnOk result (text.new ≡ text.old ++ spec.caret_text line.now caret) }
+{
+    let Some(place) = caret else {
         return Ok(());
     };
-    let Some(place) = statement_place(why, line) else {
-        return Ok(());
-    };
-    let rest = from_field(field, &line[place..]);
-    let front = line.len().saturating_sub(rest.len());
     text.extend(b"    ")?;
-    add_under(text, &line[..front])?;
+    add_under(text, front_of(line, place))?;
     text.extend(b"^\n")
 }

@@ -17,7 +17,7 @@ ghost use Rattle.mx_view.specs.Carets.{from_field};
 ghost use Rattle.mx_view.specs.Cells.{cells_of};
 ghost use Rattle.mx_view.specs.declared.carets.Field.TheVariants.{Operands, Operation};
 ghost use Rattle.mx_view.specs.Joined.{lines_once, listed_tetra};
-ghost use Rattle.mx_view.specs.Listing.{added_items, cells_behind, end_text, rows_behind, symbols_text};
+ghost use Rattle.mx_view.specs.Listing.{added_items, cells_behind, end_text, listed_behind, symbols_text};
 ghost use Rattle.mx_view.specs.Rows.{Meaning, shown};
 ghost use Rattle.mx_view.specs.declared.cells.Cell.{Cell};
 ghost use Rattle.mx_view.specs.declared.cells.Wanted.TheVariants.{All};
@@ -54,16 +54,15 @@ pub fn the_listing_is_the_image()
         ≡ listed_tetra (source_meaning source) (cells_behind All [] (lines_of source)) a }
 {}
 
-/// Each line of a source that is not refused stands in its listing once, in order: its one row with its number and
-/// its text, then a row for each further tetra. Of a source that is refused at a line, so do all lines up to this
-/// one, and no later line.
+/// Each line of a source that is not refused is listed once, in order, with its number, its text and its tetras. Of a
+/// source that is refused at a line, so are all lines up to this one, and no later line.
 #[tactic(auto, using(crate::proofs::LinesOnce::once))]
 pub fn each_line_is_listed_once_in_order()
     ensures accepted { (source : List ℕ) (m : Meaning) → refusal source ≡ None →
-        rows_behind m All [] (lines_of source) ≡ lines_once m [] (lines_of source) }
+        listed_behind m All [] (lines_of source) ≡ lines_once m [] (lines_of source) }
     ensures refused { (m : Meaning) (before later : List Line) (line : Line) (r : Refused) →
         lines_refusal before ≡ None → lines_refusal (before ++ line ∷ []) ≡ Some r →
-        rows_behind m All [] (before ++ line ∷ later) ≡ lines_once m [] (before ++ line ∷ []) }
+        listed_behind m All [] (before ++ line ∷ later) ≡ lines_once m [] (before ++ line ∷ []) }
 {}
 
 /// In a statement that is cut from a line, a caret under the operation or under the operands stands where this field

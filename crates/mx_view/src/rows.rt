@@ -1,43 +1,35 @@
 //! The rows of a listing.
 
-ghost use Rattle.std.specs.Prelude.{◌≡◌, ◌++◌, ◌∷◌, [], IfOk, OnOk, codes, decimal, take, length, ◌-◌};
+ghost use Rattle.std.specs.Prelude.{◌≡◌, ◌++◌, ◌∷◌, [], OnOk, codes, decimal, take, drop, length, ◌-◌};
 ghost use Rattle.std.specs.List.{flat_map};
-ghost use Rattle.mx_files.specs.Loading.{image_from};
 ghost use Rattle.mx_view.specs.Rows as spec;
 
-use crate::cells::{Cell, Wanted};
-use mx_files::SourceFault;
-use mx_load::Image;
+use crate::cells::Cell;
+use crate::lines::ListedLine;
 use mx_text::{add_decimal, octa_hex, tetra_hex};
 use mx_word::{Bytes, NoMemory};
 use std::alloc::Global;
 
-/// The image of a source, or why there is none.
-pub(crate) type Meaning = Result<Image, SourceFault>;
+/// As many blanks as a cell has bytes.
+static NO_CELL: [u8; 27] = *b"                           ";
 
-/// The first address that no memory has.
-const MEMORY_END: u64 = 1 << 63;
-
-/// As many blanks as a cell has bytes, and two more.
-static NO_CELL: [u8; 29] = *b"                             ";
-
-/// The tetra that is shown.
-fn shown(meaning: &Meaning, cell: Cell) -> u32
-    ensures { result ≡ spec.shown (image_from meaning.now) cell }
-{
-    match meaning {
-        Ok(image) if cell.address < MEMORY_END => image.memory().tetra(cell.address),
-        _ => cell.tetra,
-    }
-}
-
-/// Adds an address and the tetra that is shown there.
-fn add_cell(text: &mut Bytes, meaning: &Meaning, cell: Cell) -> Result<(), NoMemory>
-    ensures { OnOk result (text.new ≡ text.old ++ spec.cell_text (image_from meaning.now) cell) }
+/// Adds an address and the tetra there.
+fn add_cell(text: &mut Bytes, cell: Cell) -> Result<(), NoMemory>
+    ensures { OnOk result (text.new ≡ text.old ++ spec.cell_text cell) }
 {
     text.extend(&octa_hex(cell.address))?;
     text.extend(b": ")?;
-    text.extend(&tetra_hex(shown(meaning, cell)))
+    text.extend(&tetra_hex(cell.tetra))
+}
+
+/// Adds the first tetra of a line, or blanks in its place.
+fn add_first(text: &mut Bytes, cells: &[Cell]) -> Result<(), NoMemory>
+    ensures { OnOk result (text.new ≡ text.old ++ spec.first_cell cells.now) }
+{
+    match cells {
+        [] => text.extend(&NO_CELL),
+        [cell, ..] => add_cell(text, *cell),
+    }
 }
 
 /// Adds a number, filled up with blanks on the left to five places.
@@ -67,61 +59,53 @@ pub fn add_numbered(
 }
 
 /// Adds the row of a further tetra of a line.
-fn add_further(text: &mut Bytes, meaning: &Meaning, cell: Cell) -> Result<(), NoMemory>
-    ensures { OnOk result (text.new ≡ text.old ++ spec.further_row (image_from meaning.now) cell) }
+fn add_further(text: &mut Bytes, cell: Cell) -> Result<(), NoMemory>
+    ensures { OnOk result (text.new ≡ text.old ++ spec.further_row cell) }
 {
-    add_cell(text, meaning, cell)?;
+    add_cell(text, cell)?;
     text.extend(b"\n")
 }
 
-/// Adds the rows of the further tetras of a line.
-fn add_rest(text: &mut Bytes, meaning: &Meaning, cells: &[Cell]) -> Result<(), NoMemory>
-    ensures { OnOk result (
-        text.new ≡ text.old ++ flat_map (spec.further_row (image_from meaning.now)) cells.now) }
+/// Adds the rows of further tetras of a line.
+fn add_rest(text: &mut Bytes, cells: &[Cell]) -> Result<(), NoMemory>
+    ensures { OnOk result (text.new ≡ text.old ++ flat_map spec.further_row cells.now) }
 {
     for cell in cells {
-        add_further(text, meaning, *cell)?;
+        add_further(text, *cell)?;
     }
     Ok(())
 }
 
-/// Adds the row of a line that has no tetra, unless only a tetra is wanted.
-fn add_bare(
-    alloc: Global,
-    text: &mut Bytes,
-    wanted: Wanted,
-    number: u32,
-    line: &[u8],
-) -> Result<(), NoMemory>
-    ensures { OnOk result (text.new ≡ text.old ++ spec.bare_row wanted number line.now) }
+/// The tetras behind the first one.
+fn behind_first(cells: &[Cell]) -> &[Cell]
+    ensures { result.now ≡ drop 1 cells.now }
 {
-    match wanted {
-        Wanted::Holding(_) => Ok(()),
-        Wanted::All => {
-            text.extend(&NO_CELL)?;
-            add_numbered(alloc, text, number, line)
-        }
+    match cells {
+        [] => &[],
+        [_, more @ ..] => more,
     }
 }
 
 /// Adds the rows of a line.
-pub(crate) fn add_rows(
+fn add_rows(alloc: Global, text: &mut Bytes, line: &ListedLine) -> Result<(), NoMemory>
+    ensures { OnOk result (text.new ≡ text.old ++ spec.rows_of line.now) }
+{
+    add_first(text, line.cells.as_slice())?;
+    text.extend(b"  ")?;
+    add_numbered(alloc, text, line.number, line.text.as_slice())?;
+    add_rest(text, behind_first(line.cells.as_slice()))
+}
+
+/// Adds the rows of lines.
+pub(crate) fn add_all_rows(
     alloc: Global,
     text: &mut Bytes,
-    meaning: &Meaning,
-    wanted: Wanted,
-    number: u32,
-    line: &[u8],
-    cells: &[Cell],
+    lines: &[ListedLine],
 ) -> Result<(), NoMemory>
-    ensures { OnOk result (text.new ≡ text.old
-        ++ spec.rows_of (image_from meaning.now) wanted number line.now cells.now) }
+    ensures { OnOk result (text.new ≡ text.old ++ flat_map spec.rows_of lines.now) }
 {
-    let [cell, more @ ..] = cells else {
-        return add_bare(alloc, text, wanted, number, line);
-    };
-    add_cell(text, meaning, *cell)?;
-    text.extend(b"  ")?;
-    add_numbered(alloc, text, number, line)?;
-    add_rest(text, meaning, more)
+    for line in lines {
+        add_rows(alloc, text, line)?;
+    }
+    Ok(())
 }

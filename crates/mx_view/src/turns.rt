@@ -10,11 +10,11 @@ ghost use Rattle.mx_type.specs.Lambda as lambdas;
 ghost use Rattle.mx_view.specs.InTurn as spec;
 
 use crate::cells::{Wanted, cells_of, lambda_behind};
-use crate::rows::{Meaning, add_rows};
+use crate::lines::{ListedLines, Meaning, add_listed};
 use mx_asm::{AsmFault, Assembler, Refused};
 use mx_line::cut_line;
 use mx_mmo::Items;
-use mx_word::{Bytes, NoMemory};
+use mx_word::NoMemory;
 use std::alloc::Global;
 
 /// A refusal, unless there was no memory.
@@ -46,19 +46,19 @@ pub(crate) fn take_line(
     }
 }
 
-/// Takes a line with this number, adds its rows, and moves lambda. Whether it was taken and not refused.
+/// Takes a line with this number, adds it if it is listed, and moves lambda. Whether it was taken and not refused.
 fn add_line(
     alloc: Global,
     assembler: &mut Assembler,
-    text: &mut Bytes,
+    lines: &mut ListedLines,
     meaning: &Meaning,
     wanted: Wanted,
     number: u32,
     lambda: &mut u64,
     line: &[u8],
 ) -> Result<bool, NoMemory>
-    ensures rows { OnOk result (text.new ≡ text.old
-        ++ spec.rows_at (image_from meaning.now) wanted number lambda.old assembler.old line.now) }
+    ensures listed { OnOk result (lines.new ≡ lines.old
+        ++ spec.listed_at (image_from meaning.now) wanted number lambda.old assembler.old line.now) }
     ensures lambda { OnOk result (
         lambda.new ≡ lambdas.lambda_behind lambda.old (spec.items_at assembler.old line.now)) }
     ensures standing { OnOk result (assembler.new ≡ spec.standing_at assembler.old line.now) }
@@ -68,7 +68,15 @@ fn add_line(
     match take_line(assembler, &mut items, line) {
         Ok(open) => {
             let cells = cells_of(alloc, wanted, *lambda, items.as_slice())?;
-            add_rows(alloc, text, meaning, wanted, number, line, cells.as_slice())?;
+            add_listed(
+                alloc,
+                lines,
+                meaning,
+                wanted,
+                number,
+                line,
+                cells.as_slice(),
+            )?;
             *lambda = lambda_behind(*lambda, items.as_slice());
             Ok(open)
         }
@@ -76,19 +84,19 @@ fn add_line(
     }
 }
 
-/// Takes the lines of a source up to one that is refused, and adds their rows.
+/// Takes the lines of a source up to one that is refused, and adds those that are listed.
 #[tactic(auto, using(crate::proofs::LineTurns::turns))]
 pub(crate) fn add_lines(
     alloc: Global,
     assembler: &mut Assembler,
-    text: &mut Bytes,
+    lines: &mut ListedLines,
     meaning: &Meaning,
     wanted: Wanted,
     source: &[u8],
 ) -> Result<(), NoMemory>
     requires open { is_ok assembler.old ≡ true }
-    ensures rows { OnOk result (text.new ≡ text.old
-        ++ spec.rows_in_turn (image_from meaning.now) wanted 1 0 assembler.old (lines_of source.now)) }
+    ensures listed { OnOk result (lines.new ≡ lines.old
+        ++ spec.listed_in_turn (image_from meaning.now) wanted 1 0 assembler.old (lines_of source.now)) }
     ensures standing { OnOk result (
         assembler.new ≡ spec.standing_behind assembler.old (lines_of source.now)) }
 {
@@ -100,7 +108,7 @@ pub(crate) fn add_lines(
         match add_line(
             alloc,
             assembler,
-            text,
+            lines,
             meaning,
             wanted,
             number,

@@ -2,8 +2,8 @@
 
 ghost use Rattle.std.specs.Prelude.{◌≡◌, ◌≢◌, ◌++◌, [], Ok, Err, IfOk, OnOk, map};
 ghost use Rattle.std.specs.List.{flat_map};
-ghost use Rattle.std.specs.Result.{is_ok};
-ghost use Rattle.mx_asm.specs.OnePass.{beginning, end_behind};
+ghost use Rattle.std.specs.Result.{is_ok, result_err};
+ghost use Rattle.mx_asm.specs.OnePass.{end_behind};
 ghost use Rattle.mx_asm.specs.Whole.{assembled_source};
 ghost use Rattle.mx_files.specs.Loading.{image_from};
 ghost use Rattle.mx_files.specs.Sources.{source_meaning};
@@ -12,9 +12,11 @@ ghost use Rattle.mx_stab.specs.Reading.{trie_answer};
 ghost use Rattle.mx_type.specs.Lines as lines;
 ghost use Rattle.mx_view.specs.InTurn as turns;
 ghost use Rattle.mx_view.specs.Listing as spec;
+ghost use Rattle.mx_view.specs.Refusals.{refusal_in};
 
 use crate::cells::Wanted;
-use crate::rows::Meaning;
+use crate::lines::{ListedLines, Meaning};
+use crate::rows::add_all_rows;
 use crate::turns::{add_lines, told};
 use mx_asm::{Assembler, Refused};
 use mx_files::{SourceFault, load_source};
@@ -22,7 +24,7 @@ use mx_mmo::Items;
 use mx_outcome::{Outcome, message};
 use mx_stab::StabFault;
 use mx_type::Lister;
-use mx_word::{Bytes, NoMemory, Symbol};
+use mx_word::{Bytes, NoMemory, Symbol, Symbols};
 use std::alloc::Global;
 
 /// The line that tells a refusal.
@@ -116,25 +118,31 @@ fn add_end(
     }
 }
 
-/// Adds what is shown of a source that means this. Whether the source is accepted.
-fn add_shown(
+/// The lines of a source that are listed, and its trie or its refusal.
+#[derive(Drop)]
+struct Walked {
+    lines: ListedLines,
+    ended: Result<Bytes, Refused>,
+}
+
+/// Takes the lines of a source that means this.
+fn walk_with(
     alloc: Global,
-    text: &mut Bytes,
     meaning: &Meaning,
     wanted: Wanted,
     source: &[u8],
-) -> Result<bool, NoMemory>
-    ensures text { OnOk result (text.new ≡ text.old
-        ++ turns.shown_in_turn (image_from meaning.now) wanted (lines_of source.now)) }
-    ensures accepted { IfOk result (λ is. is ≡ is_ok
-        (end_behind [] (turns.standing_behind (Ok beginning) (lines_of source.now))).1) }
+) -> Result<Walked, NoMemory>
+    ensures lines { IfOk result (λ walk. walk.lines
+        ≡ turns.all_listed (image_from meaning.now) wanted (lines_of source.now)) }
+    ensures ended { IfOk result (λ walk. walk.ended ≡ turns.end_of (lines_of source.now)) }
 {
     let Ok(mut assembler) = Assembler::new(alloc) else {
         return Err(NoMemory);
     };
-    add_lines(alloc, &mut assembler, text, meaning, wanted, source)?;
+    let mut lines = ListedLines::new(alloc);
+    add_lines(alloc, &mut assembler, &mut lines, meaning, wanted, source)?;
     let ended = end(alloc, &mut assembler)?;
-    add_end(alloc, text, wanted, &ended)
+    Ok(Walked { lines, ended })
 }
 
 /// The image of a source, or its refusal.
@@ -148,6 +156,16 @@ fn meaning_of(alloc: Global, source: &[u8]) -> Result<Meaning, NoMemory>
     }
 }
 
+/// Takes the lines of a source.
+#[tactic(auto, using(crate::proofs::Shown::shown))]
+fn walk(alloc: Global, wanted: Wanted, source: &[u8]) -> Result<Walked, NoMemory>
+    ensures lines { IfOk result (λ walk. walk.lines ≡ spec.lines_listed wanted source.now) }
+    ensures ended { IfOk result (λ walk. walk.ended ≡ (assembled_source source.now).1) }
+{
+    let meaning = meaning_of(alloc, source)?;
+    walk_with(alloc, &meaning, wanted, source)
+}
+
 /// What is shown of a source, and whether it can be assembled into an object.
 #[derive(Drop)]
 pub struct Sheet {
@@ -156,14 +174,14 @@ pub struct Sheet {
 }
 
 /// What is shown of a source.
-#[tactic(auto, using(crate::proofs::Shown::shown))]
 fn shown(alloc: Global, wanted: Wanted, source: &[u8]) -> Result<Sheet, NoMemory>
     ensures text { IfOk result (λ shown. shown.text ≡ spec.shown_source wanted source.now) }
     ensures accepted { IfOk result (λ shown. shown.accepted ≡ is_ok (assembled_source source.now).1) }
 {
-    let meaning = meaning_of(alloc, source)?;
+    let walked = walk(alloc, wanted, source)?;
     let mut text = Bytes::new(alloc);
-    let accepted = add_shown(alloc, &mut text, &meaning, wanted, source)?;
+    add_all_rows(alloc, &mut text, walked.lines.as_slice())?;
+    let accepted = add_end(alloc, &mut text, wanted, &walked.ended)?;
     Ok(Sheet { text, accepted })
 }
 
@@ -184,4 +202,63 @@ pub fn lines_holding(alloc: Global, address: u64, source: &[u8]) -> Result<Sheet
     ensures accepted { IfOk result (λ shown. shown.accepted ≡ is_ok (assembled_source source.now).1) }
 {
     shown(alloc, Wanted::Holding(address), source)
+}
+
+/// The symbols of a trie.
+fn symbols_of(alloc: Global, trie: &[u8]) -> Result<Symbols, NoMemory>
+    ensures { IfOk result (λ symbols. symbols ≡ spec.symbols_told (trie_answer trie.now)) }
+{
+    match mx_stab::read(alloc, trie) {
+        Ok(symbols) => Ok(symbols),
+        Err(StabFault::OutOfMemory) => Err(NoMemory),
+        Err(_) => Ok(Symbols::new(alloc)),
+    }
+}
+
+/// The symbols of a source, by its trie or its refusal.
+fn symbols_at_end(alloc: Global, ended: &Result<Bytes, Refused>) -> Result<Symbols, NoMemory>
+    ensures { IfOk result (λ symbols. symbols ≡ spec.symbols_at_end ended.now) }
+{
+    match ended {
+        Ok(trie) => symbols_of(alloc, trie.as_slice()),
+        Err(_) => Ok(Symbols::new(alloc)),
+    }
+}
+
+/// The refusal, if there is one.
+fn refusal_at_end(ended: &Result<Bytes, Refused>) -> Option<Refused>
+    ensures { result ≡ result_err ended.now }
+{
+    match ended {
+        Ok(_) => None,
+        Err(refused) => Some(*refused),
+    }
+}
+
+/// What is listed of a source, as data: its lines, its symbols in the order of their names, and its refusal, if it is
+/// refused. A source that is refused has no symbols.
+#[derive(Drop)]
+pub struct Listed {
+    pub lines: ListedLines,
+    pub symbols: Symbols,
+    pub refused: Option<Refused>,
+}
+
+/// What is listed of a source, or of the tetra that holds an address. The text of the listing and of the lines of an
+/// address has the rows of these lines.
+///
+/// Errors: out of memory.
+pub fn list_source(alloc: Global, wanted: Wanted, source: &[u8]) -> Result<Listed, NoMemory>
+    ensures lines { IfOk result (λ told. told.lines ≡ spec.lines_listed wanted source.now) }
+    ensures symbols { IfOk result (λ told. told.symbols ≡ spec.symbols_listed source.now) }
+    ensures refused { IfOk result (λ told. told.refused ≡ refusal_in source.now) }
+{
+    let walked = walk(alloc, wanted, source)?;
+    let symbols = symbols_at_end(alloc, &walked.ended)?;
+    let refused = refusal_at_end(&walked.ended);
+    Ok(Listed {
+        lines: walked.lines,
+        symbols,
+        refused,
+    })
 }

@@ -1,8 +1,8 @@
 //! Runs that are counted, over the host in memory: what stands on standard output, the outcome, and the sheet.
 
-use mx_count::{Counted, arguments, count_file};
-use mx_outcome::Outcome;
+use mx_count::{Counted, CountedLines, LineSheet, Tally, arguments, count_file, count_lines};
 use mx_host::MemHost;
+use mx_outcome::Outcome;
 use mx_words::read;
 use std::alloc::Global;
 
@@ -94,4 +94,54 @@ fn a_refused_source(rt: HostRuntime) {
 fn no_file(rt: HostRuntime) {
     let got = comes_to(rt.alloc(), PRINTS, &["run", "b.mms"], "", "");
     assert_eq!(rt; got, Some((Outcome::NoFile, true, true)));
+}
+
+/// What the source comes to that is run and counted line by line.
+fn counted_lines(alloc: Global, host: &mut MemHost) -> Option<CountedLines> {
+    let mut all = Vec::new(alloc);
+    all.push(String::from_str(alloc, "run").ok()?).ok()?;
+    all.push(String::from_str(alloc, "a.mms").ok()?).ok()?;
+    let order = read(all.as_slice()).ok()?;
+    let given = arguments(alloc, all.as_slice(), &order).ok()?;
+    Some(count_lines(
+        alloc,
+        host,
+        &order,
+        all[order.file].as_bytes(),
+        given.as_slice(),
+    ))
+}
+
+/// The tallies of line 1, of line 5 and of all steps.
+fn tallies(sheet: &LineSheet) -> Option<(Option<Tally>, Option<Tally>, Tally)> {
+    let lines = sheet.lines.as_slice();
+    Some((lines.first()?.tally, lines.get(4)?.tally, sheet.total))
+}
+
+/// The outcome, and these tallies.
+fn comes_to_lines(alloc: Global) -> Option<(Outcome, Option<Tally>, Option<Tally>, Tally)> {
+    let mut host = host(alloc, PRINTS)?;
+    let counted = counted_lines(alloc, &mut host)?;
+    let (first, fifth, total) = tallies(counted.sheet.as_ref()?)?;
+    Some((counted.outcome, first, fifth, total))
+}
+
+#[test]
+fn lines_as_data(rt: HostRuntime) {
+    let once = Tally {
+        times: 1,
+        away: 0,
+        oops: 1,
+        mems: 0,
+    };
+    let all = Tally {
+        times: 3,
+        away: 0,
+        oops: 7,
+        mems: 0,
+    };
+    assert_eq!(rt;
+        comes_to_lines(rt.alloc()),
+        Some((Outcome::Done(3), None, Some(once), all))
+    );
 }

@@ -1,8 +1,7 @@
 use Rattle.std.proofs.Common.{◌≡◌, ◌++◌, take}
 use Rattle.std.specs.List.{flat_map}
-use Rattle.mx_files.specs.Loading.{image_from}
 use Rattle.mx_view.specs.Rows.{further_row}
 use Rattle.mx_view.proofs.rows.add_rest.Given as goal
 
 abbrev pub invariant-loop-cell : goal.invariant-loop-cell
-invariant-loop-cell l = l.text ≡ l.fn.text ++ flat_map (further_row (image_from l.meaning)) (take l.cell-index l.cells)
+invariant-loop-cell l = l.text ≡ l.fn.text ++ flat_map further_row (take l.cell-index l.cells)
