@@ -4,7 +4,7 @@ use Rattle.std.specs.Prelude.{codes, decimal, unwrap_or}
 use Rattle.std.proofs.lemmas.Bool.Decides.{nat_tests}
 use Rattle.mx_text.specs.Numbers.{hex_text, shown_text}
 use Rattle.mx_text.specs.declared.numbers.Form.{Form}
-use Rattle.mx_ring.specs.Registers.{Registers}
+use Rattle.mx_registers.specs.Registers.{Registers}
 use Rattle.mx_ring.specs.Stack.{in_stack_area}
 use Rattle.mx_core.specs.Bounds.{as_list_state}
 use Rattle.mx_core.specs.State.{State, is_negative, is_in_stack_segment}

@@ -3,9 +3,9 @@ use Rattle.std.proofs.Common.{◌≡◌, ◌≤◌, ◌<◌, ℕ, ◌+◌, ◌-�
 use Rattle.std.proofs.lemmas.Bool.{cases_eq}
 use Rattle.std.proofs.lemmas.Bool.Decides.{nat_tests}
 use Rattle.std.proofs.lemmas.List.{length-replicate, length-set, get_or-set_same, get_or-set_other, ext_get_or}
-use Rattle.mx_ring.specs.HiddenPart.{with_room}
+use Rattle.mx_registers.specs.HiddenPart.{with_room}
 use Rattle.mx_ring.specs.RegisterList.{list_at_start}
-use Rattle.mx_ring.specs.Registers.{Registers, is_marginal, with_value}
+use Rattle.mx_registers.specs.Registers.{Registers, is_marginal, with_value}
 use Rattle.mx_ring.specs.Stack.{listed, windowed, set_overfills, with_register, with_global_start}
 use Rattle.mx_ring.specs.Window.{Window, as_list, window_at_start}
 use Rattle.mx_core.specs.Bare.{bare, window_with}

@@ -1,7 +1,7 @@
 -- A machine that has no memory of its own, at the start of a program; and memory by itself, which machines may exchange.
 use Rattle.std.specs.Prelude.{ℕ, ◌-◌, ◌*◌, ◌/◌, Bool, false, List, [], ◌∷◌, get_or}
 use Rattle.mx_mem.specs.Memory.{Stored, octa_at, has_page, page_count}
-use Rattle.mx_ring.specs.Registers.{Registers}
+use Rattle.mx_registers.specs.Registers.{Registers}
 use Rattle.mx_ring.specs.Stack.{Stack, with_visible}
 use Rattle.mx_ring.specs.Window.{Window, window_at_start}
 use Rattle.mx_core.specs.State.{State}

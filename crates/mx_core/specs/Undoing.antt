@@ -4,7 +4,7 @@ use Rattle.std.specs.Option.{unwrap_or}
 use Rattle.mx_mem.specs.Dropping.{without_page, pages_without}
 use Rattle.mx_mem.specs.Memory.{stored_at}
 use Rattle.mx_ring.specs.Notes.{RingWas, FitsRing, ring_undone, ring_noted, ring_noted_stored}
-use Rattle.mx_ring.specs.Registers.{is_marginal}
+use Rattle.mx_registers.specs.Registers.{is_marginal}
 use Rattle.mx_ring.specs.Stack.{Stack, listed, windowed, visible, local_count, cut_to, in_stack_area, stack_index, stack_address}
 use Rattle.mx_ring.specs.Window.{Window}
 use Rattle.mx_ring.specs.declared.notes.RingWork.TheVariants as work

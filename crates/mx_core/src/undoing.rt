@@ -2,7 +2,7 @@
 
 ghost use Rattle.std.specs.Prelude.{◌≡◌, ◌<◌, ◌^◌, ◌/◌, ℕ, Option, true, false};
 ghost use Rattle.mx_mem.specs.Memory.{octa_at, has_page, page_count, stored_at};
-ghost use Rattle.mx_ring.specs.Registers.{is_marginal};
+ghost use Rattle.mx_registers.specs.Registers.{is_marginal};
 ghost use Rattle.mx_ring.specs.Stack.{visible, windowed};
 ghost use Rattle.mx_ring.specs.Window.{Window};
 ghost use Rattle.mx_core.specs.Kept.{state_of};

@@ -1,7 +1,7 @@
 //! Usual steps that are noted: the note has but the little that such a step overwrites.
 
 ghost use Rattle.std.specs.Prelude.{◌≡◌, ◌≢◌, ◌<◌, ◌+◌, ◌%◌, length, true, false, IfSome, None};
-ghost use Rattle.mx_ring.specs.Registers as registers;
+ghost use Rattle.mx_registers.specs.Registers as registers;
 ghost use Rattle.mx_ring.specs.Stack.{visible};
 ghost use Rattle.mx_core.specs.Way.Calls.{MakesState, settled};
 ghost use Rattle.mx_core.specs.Deeds.{deed_at, deed_of, onward, outcome};

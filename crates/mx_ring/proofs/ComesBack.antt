@@ -4,16 +4,17 @@ use Rattle.std.proofs.lemmas.Bool.Decides.{nat_tests}
 use Rattle.std.proofs.lemmas.List.{append_assoc, append-nil, length-append, take_at, take_all, take-take}
 use Rattle.mx_ring.proofs.Frames.{IsFrame, frame-read}
 use Rattle.mx_ring.proofs.Lists.{room-left, save-room}
-use Rattle.mx_ring.proofs.Octas.{length-octas, spilled-below}
+use Rattle.mx_registers.proofs.Octas.{length-octas, spilled-below}
 use Rattle.mx_ring.proofs.Rings.{fits-of, length-frame}
-use Rattle.mx_ring.proofs.Spilled.{take-with_part}
+use Rattle.mx_registers.proofs.Spilled.{take-with_part}
 use Rattle.mx_word.specs.Lists.{with_part}
-use Rattle.mx_ring.specs.Bounds.{AreInBounds, IsRing}
+use Rattle.mx_registers.specs.Bounds.{AreInBounds}
+use Rattle.mx_ring.specs.Bounds.{IsRing}
 use Rattle.mx_ring.specs.Frames.{frame, frame_length, frame_registers, is_bad_frame}
-use Rattle.mx_ring.specs.HiddenPart.{octas_of, with_spilled}
+use Rattle.mx_registers.specs.HiddenPart.{octas_of, with_spilled}
 use Rattle.mx_ring.specs.Kept.{KeepsFrame}
 use Rattle.mx_ring.specs.RegisterList.{RegisterList}
-use Rattle.mx_ring.specs.Registers.{Registers}
+use Rattle.mx_registers.specs.Registers.{Registers}
 use Rattle.mx_ring.specs.Stack.{Stack, listed, windowed, as_listed, visible, hidden_octas, save_overfills, saved, frame_top, stack_address, stack_index, in_stack_area, octas_to, with_read_back, unsave_refused, unsaved_specials, unsaved}
 use Rattle.mx_ring.specs.Window.{Window, as_list}
 use Rattle.mx_ring.specs.declared.saved.Saved.{Saved}

@@ -2,9 +2,9 @@
 use Rattle.std.proofs.Common.{◌≡◌, ℕ, ◌+◌, ◌-◌, ◌*◌, ◌%◌, ◌^◌, ◌<◌, true, false, List, [], ◌∷◌, ◌++◌, length, take, drop, get_or, arith, refl, sym, ap, ◌∙◌}
 use Rattle.std.proofs.lemmas.Bool.Decides.{nat_tests}
 use Rattle.std.proofs.lemmas.List.{append_assoc, length-append, get_or_at, get_or-take, get_or-append-add, take_at, take_all, drop_at}
-use Rattle.mx_ring.specs.Bounds.{AreInBounds}
+use Rattle.mx_registers.specs.Bounds.{AreInBounds}
 use Rattle.mx_ring.specs.Frames.{frame, saved_specials, frame_global, frame_middle, frame_locals, frame_bottom, frame_specials, frame_registers, is_bad_frame}
-use Rattle.mx_ring.specs.Registers.{Registers}
+use Rattle.mx_registers.specs.Registers.{Registers}
 use Rattle.mx_ring.specs.declared.saved.Saved.{Saved}
 
 -- an octa that is 0 ends no frame

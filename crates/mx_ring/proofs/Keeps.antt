@@ -4,12 +4,13 @@ use Rattle.std.proofs.lemmas.Bool.{cases_Bool}
 use Rattle.std.proofs.lemmas.Bool.Decides.{nat_tests}
 use Rattle.std.proofs.lemmas.List.{append-nil, length-append, length-set, length-take, length-take-le, length-drop, length_push, get_or-take, take-take, take-append-le}
 use Rattle.mx_ring.proofs.Lists.{set-room, push-room, save-room, register-grown, register-kept}
-use Rattle.mx_ring.proofs.Octas.{Fits, length-octas, spilled-below, spilled-octas, first-octas, hidden-fits, room-spills}
+use Rattle.mx_registers.proofs.Octas.{Fits, length-octas, spilled-below, spilled-octas, first-octas, hidden-fits, room-spills}
 use Rattle.mx_ring.proofs.Rings.{fits-of, ring-of, set-ring, grow-ring, cut-ring, globals-ring, push-ring, pop-ring, save-ring, length-below, length-frame}
-use Rattle.mx_ring.specs.Bounds.{AreInBounds, IsRing}
+use Rattle.mx_registers.specs.Bounds.{AreInBounds}
+use Rattle.mx_ring.specs.Bounds.{IsRing}
 use Rattle.mx_ring.specs.Frames.{frame, frame_length, frame_global, frame_locals, frame_middle, frame_bottom, frame_registers, is_bad_frame}
-use Rattle.mx_ring.specs.HiddenPart.{HiddenPart, octas_of, with_hidden, with_spilled, with_first, with_stack_first, with_octa}
-use Rattle.mx_ring.specs.Registers.{is_marginal, with_value, push_number, registers_below, registers_from}
+use Rattle.mx_registers.specs.HiddenPart.{HiddenPart, octas_of, with_hidden, with_spilled, with_first, with_stack_first, with_octa}
+use Rattle.mx_registers.specs.Registers.{is_marginal, with_value, push_number, registers_below, registers_from}
 use Rattle.mx_ring.specs.Stack.{windowed, set_overfills, with_register, cut_to, with_global_start, push_overfills, pushed, hole_in, pop_underflows, popped, save_overfills, saved, frame_top, stack_address, octas_to, unsaved, stack_octa, with_stack_octa, hidden_count, spilled_count}
 use Rattle.mx_ring.specs.Window.{Window, as_list}
 use Rattle.mx_ring.specs.declared.saved.Saved.{Saved}

@@ -3,17 +3,18 @@ use Rattle.std.proofs.Common.{◌≡◌, ℕ, ◌+◌, ◌-◌, ◌^◌, ◌≤�
 use Rattle.std.proofs.lemmas.Bool.{cases_Bool}
 use Rattle.std.proofs.lemmas.Bool.Decides.{nat_tests}
 use Rattle.std.proofs.lemmas.List.{append-nil, length-take-le, take-take, take-append-le, length_push}
-use Rattle.mx_ring.proofs.Octas.{Fits, spilled-below, room-octas, spilled-octas, first-octas, hidden-octas, hidden-fits}
+use Rattle.mx_registers.proofs.Octas.{Fits, spilled-below, room-octas, spilled-octas, first-octas, hidden-octas, hidden-fits}
 use Rattle.mx_ring.proofs.Rings.{fits-of, grown-count, length-below, length-frame}
-use Rattle.mx_ring.proofs.Values.{with_value-bounds, from-bounds}
-use Rattle.mx_ring.specs.Bounds.{AreInBounds, IsRing}
+use Rattle.mx_registers.proofs.Values.{with_value-bounds, from-bounds}
+use Rattle.mx_registers.specs.Bounds.{AreInBounds}
+use Rattle.mx_ring.specs.Bounds.{IsRing}
 use Rattle.mx_ring.specs.Calls.{frame_answer}
 use Rattle.mx_ring.specs.Frames.{frame, frame_length, frame_bottom, frame_registers, frame_specials, is_bad_frame}
-use Rattle.mx_ring.specs.HiddenPart.{HiddenPart, octas_of, with_hidden, with_room}
-use Rattle.mx_ring.specs.Registers.{Registers, is_marginal, with_value, with_locals_cut, push_number, registers_below, registers_from, with_returned}
+use Rattle.mx_registers.specs.HiddenPart.{HiddenPart, octas_of, with_hidden, with_room}
+use Rattle.mx_registers.specs.Registers.{Registers, is_marginal, with_value, with_locals_cut, push_number, registers_below, registers_from, with_returned}
 use Rattle.mx_ring.specs.Stack.{Stack, listed, windowed, as_listed, visible, with_visible, after_growth, is_too_many, register, pop_underflows, set_overfills, with_register, cut_to, with_global_start, push_overfills, pushed, hole_in, popped, save_overfills, saved, frame_top, stack_address, stack_index, in_stack_area, octas_to, with_read_back, unsave_refused, unsaved_specials, unsaved, list_of, hidden_octas}
 use Rattle.mx_ring.specs.Window.{Window, as_list}
-use Rattle.mx_ring.specs.declared.fault.RingFault.TheVariants.{BadFrame}
+use Rattle.mx_registers.specs.declared.fault.RingFault.TheVariants.{BadFrame}
 use Rattle.mx_ring.specs.declared.saved.Saved.{Saved}
 
 -- ROOM

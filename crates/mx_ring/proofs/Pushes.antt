@@ -2,10 +2,10 @@
 use Rattle.std.proofs.Common.{◌≡◌, ℕ, ◌+◌, ◌-◌, ◌≤◌, ◌<◌, true, List, [], ◌∷◌, ◌++◌, length, take, drop, replicate, arith, refl, ◌∙◌, ap}
 use Rattle.std.proofs.lemmas.Bool.Decides.{nat_tests}
 use Rattle.std.proofs.lemmas.List.{append-nil, take_all, drop_all}
-use Rattle.mx_ring.specs.Bounds.{AreInBounds}
+use Rattle.mx_registers.specs.Bounds.{AreInBounds}
 use Rattle.mx_ring.specs.Laws.{HidesLocals}
 use Rattle.mx_ring.specs.RegisterList.{RegisterList}
-use Rattle.mx_ring.specs.Registers.{Registers, is_marginal, push_number, registers_below, registers_from}
+use Rattle.mx_registers.specs.Registers.{Registers, is_marginal, push_number, registers_below, registers_from}
 use Rattle.mx_ring.specs.Stack.{listed, pushed}
 
 number-below : (v : Registers) (x : ℕ) → x < v.first_global → push_number v x ≡ x

@@ -2,12 +2,13 @@
 use Rattle.std.proofs.Common.{◌≡◌, ℕ, ◌+◌, ◌-◌, ◌*◌, ◌^◌, ◌≤◌, ◌<◌, List, [], ◌∷◌, ◌++◌, length, take, drop, min, true, false, arith, refl, ◌∙◌, ap}
 use Rattle.std.proofs.lemmas.Bool.Decides.{nat_tests}
 use Rattle.std.proofs.lemmas.List.{append_assoc, append-nil, length-take, length-take-le, length-drop, length-append, length-replicate, take_all}
-use Rattle.mx_ring.proofs.Octas.{Fits, length-octas, length-spilled, room-fits, room-octas, room-shorter, spilled-fits, spilled-octas, first-octas, first-fits, first-resident, hidden-octas, hidden-fits}
-use Rattle.mx_ring.proofs.Values.{with_value-bounds, locals-kept, locals-grown, locals-bounds, cut-bounds, from-bounds, globals-bounds}
-use Rattle.mx_ring.specs.Bounds.{AreInBounds, IsRing}
+use Rattle.mx_registers.proofs.Octas.{Fits, length-octas, length-spilled, room-fits, room-octas, room-shorter, spilled-fits, spilled-octas, first-octas, first-fits, first-resident, hidden-octas, hidden-fits}
+use Rattle.mx_registers.proofs.Values.{with_value-bounds, locals-kept, locals-grown, locals-bounds, cut-bounds, from-bounds, globals-bounds}
+use Rattle.mx_registers.specs.Bounds.{AreInBounds}
+use Rattle.mx_ring.specs.Bounds.{IsRing}
 use Rattle.mx_ring.specs.Frames.{frame, frame_length, saved_specials}
-use Rattle.mx_ring.specs.HiddenPart.{HiddenPart, octas_of, with_spilled, with_room, with_first, with_hidden}
-use Rattle.mx_ring.specs.Registers.{Registers, is_marginal, with_value, with_locals_cut, with_globals_from, registers_below, registers_from, results, with_returned}
+use Rattle.mx_registers.specs.HiddenPart.{HiddenPart, octas_of, with_spilled, with_room, with_first, with_hidden}
+use Rattle.mx_registers.specs.Registers.{Registers, is_marginal, with_value, with_locals_cut, with_globals_from, registers_below, registers_from, results, with_returned}
 use Rattle.mx_ring.specs.Window.{Window}
 use Rattle.mx_ring.specs.declared.saved.Saved.{Saved}
 

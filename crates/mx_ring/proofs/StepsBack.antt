@@ -4,15 +4,16 @@ use Rattle.std.proofs.lemmas.Bool.{cases_Bool}
 use Rattle.std.proofs.lemmas.Bool.Decides.{nat_tests}
 use Rattle.std.proofs.lemmas.List.{set-set, set-get_or}
 use Rattle.mx_ring.proofs.Lists.{register-grown, register-kept}
-use Rattle.mx_ring.proofs.Octas.{length-octas}
+use Rattle.mx_registers.proofs.Octas.{length-octas}
 use Rattle.mx_ring.proofs.Rings.{fits-of, grown-count}
 use Rattle.mx_ring.proofs.TakenBack.{undone-is, takes, moved, over-fits, octa-is, value-grows, trip-back}
 use Rattle.mx_ring.proofs.Undone.{set-undone, last-undone, room-spilled, nothing-spilled, stored-back}
-use Rattle.mx_ring.proofs.Values.{locals-kept, with_value-bounds}
-use Rattle.mx_ring.specs.Bounds.{AreInBounds, IsRing}
-use Rattle.mx_ring.specs.HiddenPart.{HiddenPart, octas_of, with_spilled, with_room, with_octa}
-use Rattle.mx_ring.specs.Notes.{TakesBack, ring_noted, ring_noted_stored, spilled_by, registers_noted, above_room, put_back, hidden_undone}
-use Rattle.mx_ring.specs.Registers.{Registers, value_of, is_marginal, with_value}
+use Rattle.mx_registers.proofs.Values.{locals-kept, with_value-bounds}
+use Rattle.mx_registers.specs.Bounds.{AreInBounds}
+use Rattle.mx_ring.specs.Bounds.{IsRing}
+use Rattle.mx_registers.specs.HiddenPart.{HiddenPart, octas_of, with_spilled, with_room, with_octa, put_back}
+use Rattle.mx_ring.specs.Notes.{TakesBack, ring_noted, ring_noted_stored, spilled_by, registers_noted, above_room, hidden_undone}
+use Rattle.mx_registers.specs.Registers.{Registers, value_of, is_marginal, with_value}
 use Rattle.mx_ring.specs.Stack.{windowed, with_register, with_stack_octa}
 use Rattle.mx_ring.specs.Window.{Window}
 use Rattle.mx_ring.specs.declared.notes.RingWork.TheVariants.{Set}

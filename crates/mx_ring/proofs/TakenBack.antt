@@ -5,19 +5,20 @@ use Rattle.std.proofs.lemmas.Bool.Decides.{nat_tests}
 use Rattle.std.proofs.lemmas.List.{append-nil, length-append, length-take, length-drop, length_push}
 use Rattle.mx_ring.proofs.Keeps.{window-is, hole-below}
 use Rattle.mx_ring.proofs.Lists.{push-room, save-room, register-grown, register-kept}
-use Rattle.mx_ring.proofs.Octas.{Fits, length-octas, spilled-below, hidden-fits, room-spills}
+use Rattle.mx_registers.proofs.Octas.{Fits, length-octas, spilled-below, hidden-fits, room-spills}
 use Rattle.mx_ring.proofs.Rings.{fits-of, grown-count, length-below, length-frame}
 use Rattle.mx_ring.proofs.Undone.{set-undone, none-undone, last-undone, hidden-kept, grown-back, room-spilled, first-back, read-back, octa-back, nothing-spilled, stored-back}
-use Rattle.mx_ring.proofs.Values.{locals-kept, with_value-bounds}
-use Rattle.mx_ring.specs.Bounds.{AreInBounds, IsRing}
+use Rattle.mx_registers.proofs.Values.{locals-kept, with_value-bounds}
+use Rattle.mx_registers.specs.Bounds.{AreInBounds}
+use Rattle.mx_ring.specs.Bounds.{IsRing}
 use Rattle.mx_ring.specs.Calls.{refused_where}
 use Rattle.mx_ring.specs.Frames.{frame, frame_length, frame_bottom, frame_registers}
-use Rattle.mx_ring.specs.HiddenPart.{HiddenPart, octas_of, with_hidden, with_spilled, with_room, with_first, with_octa, with_stack_first}
-use Rattle.mx_ring.specs.Notes.{some, RingWas, all, LocalsFit, OctaFits, TakesBack, IsGiven, WorkNeeds, worked, work_answer, plain_answer, ring_noted, ring_noted_stored, spilled_by, push_spills as spilled_by_push, staying, registers_noted, octa_noted, above_room, registers_undone, put_back, hidden_undone, ring_undone}
-use Rattle.mx_ring.specs.Registers.{Registers, value_of, is_marginal, with_value, with_locals_cut, with_globals_from, push_number, registers_below, registers_from, with_returned}
+use Rattle.mx_registers.specs.HiddenPart.{HiddenPart, octas_of, with_hidden, with_spilled, with_room, with_first, with_octa, with_stack_first, put_back}
+use Rattle.mx_ring.specs.Notes.{some, RingWas, all, LocalsFit, OctaFits, TakesBack, IsGiven, WorkNeeds, worked, work_answer, plain_answer, ring_noted, ring_noted_stored, spilled_by, push_spills as spilled_by_push, staying, registers_noted, octa_noted, above_room, registers_undone, hidden_undone, ring_undone}
+use Rattle.mx_registers.specs.Registers.{Registers, value_of, is_marginal, with_value, with_locals_cut, with_globals_from, push_number, registers_below, registers_from, with_returned}
 use Rattle.mx_ring.specs.Stack.{windowed, visible, with_register, pushed, push_overfills, popped, pop_underflows, popped_octas, hole_in, saved, saved_registers, save_overfills, unsaved, octas_to, stack_index, cut_to, with_global_start, with_stack_octa}
 use Rattle.mx_ring.specs.Window.{Window}
-use Rattle.mx_ring.specs.declared.fault.RingFault.{RingFault}
+use Rattle.mx_registers.specs.declared.fault.RingFault.{RingFault}
 use Rattle.mx_ring.specs.declared.notes.RingWork.{RingWork}
 use Rattle.mx_ring.specs.declared.notes.RingWork.TheVariants.{Set, Push, Pop, Save, Unsave, CutLocals, SetGlobalStart, SetOcta}
 use Rattle.mx_ring.specs.declared.saved.Saved.{Saved}

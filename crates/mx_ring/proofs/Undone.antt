@@ -5,12 +5,12 @@ use Rattle.std.proofs.lemmas.Bool.Decides.{nat_tests}
 use Rattle.std.proofs.lemmas.List.{append_assoc, append-nil, length-append, length-take-le, length-drop, length-set, take_at, drop_at, take-take, take-append-drop, take-append-le, take_all, set-set, set_comm, set-get_or, ext_get_or, get_or-set_same, get_or-set_other, get_or-take, get_or-drop, get_or_append_left, get_or-append_right}
 use Rattle.std.proofs.Math.Seq.{take-add}
 use Rattle.mx_word.specs.Lists.{with_part}
-use Rattle.mx_ring.proofs.Octas.{Fits, length-octas, spilled-below, spilled-octas, room-is, room-none}
-use Rattle.mx_ring.proofs.Spilled.{length-with_part}
-use Rattle.mx_ring.proofs.Values.{with_value-global, with_value-local, with_value-marginal}
-use Rattle.mx_ring.specs.HiddenPart.{HiddenPart, octas_of, with_hidden, with_spilled, with_room, with_first, with_octa, with_stack_first}
-use Rattle.mx_ring.specs.Notes.{some, given_back, registers_undone, put_back, above_room}
-use Rattle.mx_ring.specs.Registers.{Registers, is_marginal, value_of, with_value, with_locals_cut}
+use Rattle.mx_registers.proofs.Octas.{Fits, length-octas, spilled-below, spilled-octas, room-is, room-none}
+use Rattle.mx_registers.proofs.Spilled.{length-with_part}
+use Rattle.mx_registers.proofs.Values.{with_value-global, with_value-local, with_value-marginal}
+use Rattle.mx_registers.specs.HiddenPart.{HiddenPart, octas_of, with_hidden, with_spilled, with_room, with_first, with_octa, with_stack_first, put_back}
+use Rattle.mx_ring.specs.Notes.{some, given_back, registers_undone, above_room}
+use Rattle.mx_registers.specs.Registers.{Registers, is_marginal, value_of, with_value, with_locals_cut}
 
 -- LISTS
 

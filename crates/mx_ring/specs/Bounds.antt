@@ -1,15 +1,8 @@
--- What holds of the registers and of a ring at all times.
+-- What holds of a ring at all times.
 use Rattle.std.specs.Prelude.{◌+◌, ◌^◌, ◌≡◌, ◌≤◌, ◌<◌, length}
-use Rattle.mx_ring.specs.HiddenPart.{octas_of}
-use Rattle.mx_ring.specs.Registers.{Registers}
+use Rattle.mx_registers.specs.Bounds.{AreInBounds}
+use Rattle.mx_registers.specs.HiddenPart.{octas_of}
 use Rattle.mx_ring.specs.Window.{Window}
-
--- L is at most G, which is from 32 to 255.
-pub record AreInBounds (v : Registers) : Type 0 where
-  pub locals_below_globals : length v.locals ≤ v.first_global
-  pub least_global : 32 ≤ v.first_global
-  pub one_is_global : v.first_global ≤ 255
-  pub all_globals : v.first_global + length v.globals ≡ 256
 
 -- The ring's part of what the machine keeps: what is spilled is hidden, hidden and local registers in the ring are
 -- fewer than its size, and all hidden and local registers together are at most 2^20.

@@ -2,8 +2,8 @@
 use Rattle.std.specs.Prelude.{ℕ, Bool, Result, Ok, Err, if◌then◌else◌}
 use Rattle.mx_ring.specs.Frames.{is_bad_frame}
 use Rattle.mx_ring.specs.Stack.{Stack, set_overfills, push_overfills, pop_underflows, save_overfills, unsave_refused, octas_to, unsaved_specials, stack_index}
-use Rattle.mx_ring.specs.declared.fault.RingFault.{RingFault}
-use Rattle.mx_ring.specs.declared.fault.RingFault.TheVariants.{StackFull, Underflow, BadFrame}
+use Rattle.mx_registers.specs.declared.fault.RingFault.{RingFault}
+use Rattle.mx_registers.specs.declared.fault.RingFault.TheVariants.{StackFull, Underflow, BadFrame}
 use Rattle.mx_ring.specs.declared.saved.Saved.{Saved}
 
 abbrev pub refused_where : Bool → RingFault → Result (Unit {0}) RingFault

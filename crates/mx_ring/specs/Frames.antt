@@ -1,6 +1,6 @@
 -- Frames: what SAVE hides and UNSAVE reads back (MMIXware, the part on MMIX, SAVE and UNSAVE).
 use Rattle.std.specs.Prelude.{ℕ, ◌+◌, ◌-◌, ◌*◌, ◌/◌, ◌%◌, ◌^◌, ◌||◌, Bool, nat_lt, List, [], ◌∷◌, ◌++◌, length, take, drop, slice_index}
-use Rattle.mx_ring.specs.Registers.{Registers}
+use Rattle.mx_registers.specs.Registers.{Registers}
 use Rattle.mx_ring.specs.declared.saved.Saved.{Saved}
 
 -- how many octas a frame has: L locals, the number L, $G to $255, twelve special registers, and one with G and rA

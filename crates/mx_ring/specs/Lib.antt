@@ -1,17 +1,12 @@
 pub mod Bounds
 pub mod Calls
 pub mod Frames
-pub mod HiddenPart
 pub mod Kept
 pub mod Laws
 pub mod Notes
 pub mod NoteParts
-pub mod Parts
 pub mod RegisterList
-pub mod Registers
-pub mod RingFaults
 pub mod RingParts
 pub mod RingSizes
 pub mod Stack
-pub mod StackArea
 pub mod Window

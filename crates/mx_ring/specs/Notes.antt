@@ -1,14 +1,14 @@
 -- Notes: what a work of the register stack overwrites, kept so that the stack before it can be told from the one after it.
-use Rattle.std.specs.Prelude.{ℕ, ◌+◌, ◌-◌, ◌^◌, ◌≡◌, ◌≤◌, ◌<◌, nat_lt, if◌then◌else◌, Option, None, Some, Result, Ok, Err, List, ◌++◌, length, take, drop, slice_index}
-use Rattle.mx_word.specs.Lists.{with_part}
-use Rattle.mx_ring.specs.Bounds.{AreInBounds, IsRing}
+use Rattle.std.specs.Prelude.{ℕ, ◌+◌, ◌-◌, ◌^◌, ◌≡◌, ◌≤◌, ◌<◌, nat_lt, if◌then◌else◌, Option, None, Some, Result, Ok, Err, List, length, take, drop, slice_index}
+use Rattle.mx_registers.specs.Bounds.{AreInBounds}
+use Rattle.mx_ring.specs.Bounds.{IsRing}
 use Rattle.mx_ring.specs.Calls.{set_answer, push_answer, pop_answer, save_answer, unsave_answer}
 use Rattle.mx_ring.specs.Frames.{frame_length}
-use Rattle.mx_ring.specs.HiddenPart.{HiddenPart, octas_of, with_octa}
-use Rattle.mx_ring.specs.Registers.{Registers, is_marginal, value_of, with_value, with_locals_cut, push_number}
+use Rattle.mx_registers.specs.HiddenPart.{HiddenPart, octas_of, with_octa, put_back}
+use Rattle.mx_registers.specs.Registers.{Registers, is_marginal, value_of, with_value, with_locals_cut, push_number}
 use Rattle.mx_ring.specs.Stack.{Stack, with_register, pushed, popped, hole_in, saved, unsaved, stack_index, cut_to, with_global_start, with_stack_octa}
 use Rattle.mx_ring.specs.Window.{Window}
-use Rattle.mx_ring.specs.declared.fault.RingFault.{RingFault}
+use Rattle.mx_registers.specs.declared.fault.RingFault.{RingFault}
 use Rattle.mx_ring.specs.declared.notes.RingWork.{RingWork}
 use Rattle.mx_ring.specs.declared.notes.RingWork.TheVariants.{Set, Push, Pop, Save, Unsave, CutLocals, SetGlobalStart, SetOcta}
 use Rattle.mx_ring.specs.declared.saved.Saved.{Saved}
@@ -91,17 +91,6 @@ registers_undone (all r) v = r
 abbrev pub octa_undone : Option (ℕ × ℕ) → HiddenPart → HiddenPart
 octa_undone None h = h
 octa_undone (Some o) h = with_octa h o.0 o.1
-
--- so many octas are spilled, and these stand behind them; of the hidden octas in the ring so many stay, and these follow
-abbrev pub rewound : HiddenPart → ℕ → ℕ → HiddenPart
-rewound h spilled stays = record h { spilled = spilled; resident = take stays (drop spilled (octas_of h)) }
-
-unfoldable pub put_back : HiddenPart → ℕ → List ℕ → ℕ → List ℕ → HiddenPart
-put_back h spilled over stays gone = record {
-  stack = with_part h.stack spilled over;
-  spilled = spilled;
-  resident = take stays (drop spilled (octas_of h)) ++ gone;
-}
 
 unfoldable pub hidden_undone : RingWas → HiddenPart → HiddenPart
 hidden_undone n h = put_back (octa_undone n.octa h) n.spilled n.over n.stays n.gone

@@ -3,9 +3,9 @@
 -- (MMIXware, the part on MMIX, "The register stack"; TAOCP 1, Fascicle 1, section 1.4.1'.)
 use Rattle.std.specs.Prelude.{ℕ, ◌+◌, ◌-◌, ◌*◌, ◌/◌, ◌%◌, ◌^◌, ◌||◌, ◌&&◌, Bool, not, max, nat_lt, nat_le, if◌then◌else◌, List, [], ◌∷◌, ◌++◌, length, take, drop, slice_index}
 use Rattle.mx_ring.specs.Frames.{frame_length, frame, frame_bottom, is_bad_frame, frame_specials, frame_registers}
-use Rattle.mx_ring.specs.HiddenPart.{octas_of, with_hidden, with_spilled, with_room, with_first, with_stack_first, with_octa}
+use Rattle.mx_registers.specs.HiddenPart.{octas_of, with_hidden, with_spilled, with_room, with_first, with_stack_first, with_octa}
 use Rattle.mx_ring.specs.RegisterList.{RegisterList}
-use Rattle.mx_ring.specs.Registers.{Registers, is_marginal, value_of, with_value, with_locals_cut, with_globals_from, push_number, registers_below, registers_from, with_returned}
+use Rattle.mx_registers.specs.Registers.{Registers, is_marginal, value_of, with_value, with_locals_cut, with_globals_from, push_number, registers_below, registers_from, with_returned}
 use Rattle.mx_ring.specs.Window.{Window, as_list}
 use Rattle.mx_ring.specs.declared.saved.Saved.{Saved}
 

@@ -1,9 +1,9 @@
 -- The register stack as a window: a ring of so many registers, and a stack area in memory (MMIXware, the part on MMIX,
 -- rO and rS).
 use Rattle.std.specs.Prelude.{ℕ}
-use Rattle.mx_ring.specs.HiddenPart.{HiddenPart, octas_of, nothing_hidden}
+use Rattle.mx_registers.specs.HiddenPart.{HiddenPart, octas_of, nothing_hidden}
 use Rattle.mx_ring.specs.RegisterList.{RegisterList}
-use Rattle.mx_ring.specs.Registers.{Registers, registers_at_start}
+use Rattle.mx_registers.specs.Registers.{Registers, registers_at_start}
 
 pub record Window : Type 0 where
   -- how many registers the ring has; hidden and local ones in it are always fewer

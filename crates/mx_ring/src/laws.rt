@@ -3,12 +3,13 @@
 
 ghost use Rattle.std.specs.Prelude.{◌≡◌, ◌≤◌, ◌<◌, ◌^◌, ℕ, ◌+◌, ◌-◌, true, false, min, List, [], ◌∷◌, ◌++◌, length};
 ghost use Rattle.std.specs.Prelude.{take, drop, replicate};
-ghost use Rattle.mx_ring.specs.Bounds.{AreInBounds, IsRing};
+ghost use Rattle.mx_registers.specs.Bounds.{AreInBounds};
+ghost use Rattle.mx_ring.specs.Bounds.{IsRing};
 ghost use Rattle.mx_ring.specs.Frames.{is_bad_frame};
 ghost use Rattle.mx_ring.specs.Laws.{GoesAsList, BecomesRing, IsOutsideOrSpilled, IsAllSpilled, SaveIsUndone};
 ghost use Rattle.mx_ring.specs.Laws.{HidesLocals};
 ghost use Rattle.mx_ring.specs.RegisterList.{RegisterList};
-ghost use Rattle.mx_ring.specs.Registers.{is_marginal};
+ghost use Rattle.mx_registers.specs.Registers.{is_marginal};
 ghost use Rattle.mx_ring.specs.Stack.{listed, windowed, list_of, visible, hidden_octas, hidden_count, local_count};
 ghost use Rattle.mx_ring.specs.Stack.{spilled_count, register, set_overfills, with_register, cut_to, with_global_start};
 ghost use Rattle.mx_ring.specs.Stack.{push_overfills, pushed, pop_underflows, popped, stack_octa, with_stack_octa};

@@ -4,26 +4,19 @@
 //! TAOCP 1, Fascicle 1, section 1.4.1'.
 #![tactic(auto)]
 
-mod area;
-mod fault;
 mod frame;
-mod hidden;
-mod knowing;
 mod laws;
 mod notes;
-mod results;
 mod ring;
 mod saved;
 mod size;
-mod slices;
-mod visible;
 
-pub use fault::RingFault;
 pub use laws::{
     calls_go_as_lists, calls_keep_rings, frames_come_back, frames_go_as_lists, frames_keep_rings,
     lists_show_the_same, pushes_go_by_place, refusals_are_those_of_lists,
     spilled_octas_are_counted, spilled_octas_are_hidden, writes_go_as_lists, writes_keep_rings,
 };
+pub use mx_registers::RingFault;
 pub use notes::{
     RingNote, RingWork, notes_take_back, notes_take_steps_back, notes_take_stores_back,
     notes_take_trips_back,

@@ -5,15 +5,14 @@ ghost use Rattle.mx_ring.specs.Bounds.{IsRing};
 ghost use Rattle.mx_ring.specs.NoteParts.{before_in};
 ghost use Rattle.mx_ring.specs.Notes.{worked, WorkNeeds, work_answer, ring_noted, ring_noted_stored, registers_noted};
 ghost use Rattle.mx_ring.specs.Notes.{TakesBack, IsGiven, LocalsFit, FitsHidden, registers_undone, hidden_undone, given_back, some, all};
-ghost use Rattle.mx_ring.specs.Registers.{value_of};
+ghost use Rattle.mx_registers.specs.Registers.{value_of};
 ghost use Rattle.mx_ring.specs.Stack.{windowed, with_register, with_stack_octa};
 ghost use Rattle.mx_ring.specs.Window.{Window};
 ghost use Rattle.mx_ring.specs.declared.notes.RingWork.{RingWork};
 ghost use Rattle.mx_ring.specs.declared.notes.RingWork.TheVariants.{Set};
 
-use crate::hidden::Hidden;
-use crate::visible::Visible;
 use crate::{RingFault, Saved};
+use mx_registers::{Hidden, Visible};
 use std::alloc::Global;
 use std::marker::Model;
 

@@ -2,13 +2,14 @@
 
 ghost use Rattle.std.specs.Prelude.{◌≡◌, ◌≤◌, ◌<◌, ◌+◌, ◌-◌, ◌^◌, ◌∷◌, [], ◌++◌, if◌then◌else◌, None, Some, Ok, Err};
 ghost use Rattle.std.specs.Prelude.{IfOk, OnOk, OnErr, true, false, ℕ, length, slice_index, nat_le};
-ghost use Rattle.mx_ring.specs.Bounds.{AreInBounds, IsRing};
+ghost use Rattle.mx_registers.specs.Bounds.{AreInBounds};
+ghost use Rattle.mx_ring.specs.Bounds.{IsRing};
 ghost use Rattle.mx_ring.specs.Calls.{set_answer, push_answer, pop_answer, save_answer, frame_answer, unsave_answer};
 ghost use Rattle.mx_ring.specs.Frames.{frame, frame_length, is_bad_frame};
-ghost use Rattle.mx_ring.specs.HiddenPart.{octas_of, with_hidden};
+ghost use Rattle.mx_registers.specs.HiddenPart.{octas_of, with_hidden};
 ghost use Rattle.mx_ring.specs.Kept.{KeepsFrame};
 ghost use Rattle.mx_ring.specs.Laws.{IsOutsideOrSpilled};
-ghost use Rattle.mx_ring.specs.Registers.{is_marginal, registers_below};
+ghost use Rattle.mx_registers.specs.Registers.{is_marginal, registers_below};
 ghost use Rattle.mx_ring.specs.Stack.{windowed, list_of, hidden_count, local_count, spilled_count, register};
 ghost use Rattle.mx_ring.specs.Stack.{set_overfills, with_register, cut_to, with_global_start, push_overfills, pushed};
 ghost use Rattle.mx_ring.specs.Stack.{with_pushed, hole_in, pop_underflows, popped, with_popped, stack_address};
@@ -20,9 +21,8 @@ ghost use Rattle.mx_word.specs.Ranges.{AreOctas};
 mod back;
 
 use crate::frame::{frame_at, specials_at, upper_octas};
-use crate::hidden::{Hidden, ROOM};
-use crate::visible::{FEW, Visible};
 use crate::{RingFault, RingSize, Saved};
+use mx_registers::{FEW, Hidden, ROOM, Visible};
 use std::alloc::Global;
 use std::marker::Model;
 

@@ -7,7 +7,7 @@ use Rattle.mx_word.specs.Ranges.{AreBytes, AreOctas}
 use Rattle.mx_word.specs.Words.{octa_from_bytes}
 use Rattle.mx_mmo.specs.Image.{Image}
 use Rattle.mx_mmo.specs.Reading.{octas_of}
-use Rattle.mx_ring.specs.HiddenPart.{zeros}
+use Rattle.mx_registers.specs.HiddenPart.{zeros}
 use Rattle.mx_ring.specs.Stack.{windowed, stack_address}
 use Rattle.mx_ring.specs.Window.{window_at_start}
 use Rattle.mx_core.specs.Machines.{IsOverWindow}

@@ -4,7 +4,7 @@ use Rattle.std.specs.Prelude.{ℕ, ◌+◌, ◌-◌, ◌*◌, ◌/◌, ◌||◌,
 use Rattle.std.specs.List.{flat_map, range_with_len}
 use Rattle.mx_mmo.specs.Image.{Image}
 use Rattle.mx_mmo.specs.Reading.{octas_of}
-use Rattle.mx_ring.specs.Registers.{Registers}
+use Rattle.mx_registers.specs.Registers.{Registers}
 use Rattle.mx_ring.specs.Stack.{Stack, with_visible}
 use Rattle.mx_core.specs.Bare.{special_at_start}
 use Rattle.mx_core.specs.State.{State, with_octa, is_negative, is_page_refused}

@@ -12,7 +12,7 @@ use Rattle.mx_core.specs.Bounds.{as_list_state}
 use Rattle.mx_core.specs.State.{State}
 use Rattle.mx_core.specs.Undoing.{StateWas}
 use Rattle.mx_core.proofs.Same.Seen.{same-visible}
-use Rattle.mx_ring.specs.Registers.{Registers}
+use Rattle.mx_registers.specs.Registers.{Registers}
 use Rattle.mx_text.specs.Numbers.{hex_text}
 use Rattle.mx_outcome.specs.declared.outcome.Outcome.{Outcome}
 use Rattle.mx_files.proofs.WrittenLines.{Writes, writes-then, writes-ended}

@@ -5,7 +5,7 @@ use Rattle.std.proofs.lemmas.List.Concat.{flat_map-cons}
 use Rattle.mx_core.specs.Bounds.{as_list_state}
 use Rattle.mx_core.specs.State.{State}
 use Rattle.mx_core.proofs.Same.Seen.{same-visible, same-register, same-special, same-octa}
-use Rattle.mx_ring.specs.Registers.{Registers}
+use Rattle.mx_registers.specs.Registers.{Registers}
 use Rattle.mx_ring.specs.Stack.{as_listed, register, in_stack_area}
 use Rattle.mx_spec.specs.SpecialRegisters.{rS}
 use Rattle.mx_text.specs.Numbers.{hex_text}

@@ -3,7 +3,7 @@ use Rattle.std.proofs.Common.{◌≡◌, ℕ, ◌+◌, ◌/◌, ◌%◌, ◌^◌
 use Rattle.std.proofs.lemmas.Bool.Decides.{nat_tests}
 use Rattle.std.proofs.lemmas.List.{length-set}
 use Rattle.mx_word.specs.Results.{map_ok}
-use Rattle.mx_ring.specs.Registers.{Registers}
+use Rattle.mx_registers.specs.Registers.{Registers}
 use Rattle.mx_ring.specs.Stack.{Stack, as_listed, in_stack_area, set_overfills, cut_to, with_global_start, register}
 use Rattle.mx_ring.specs.Window.{Window}
 use Rattle.mx_spec.specs.Puts.{put_of, is_global_threshold}

@@ -3,10 +3,11 @@ use Rattle.std.proofs.Common.{◌≡◌, ℕ, ◌-◌, ◌^◌, ◌≤◌, ◌<�
 use Rattle.std.proofs.lemmas.Bool.Decides.{nat_tests}
 use Rattle.std.proofs.lemmas.List.{get_or-set_same}
 use Rattle.mx_ring.proofs.ComesBack.{window-kept}
-use Rattle.mx_ring.proofs.Values.{with_value-global}
-use Rattle.mx_ring.specs.Bounds.{AreInBounds, IsRing}
+use Rattle.mx_registers.proofs.Values.{with_value-global}
+use Rattle.mx_registers.specs.Bounds.{AreInBounds}
+use Rattle.mx_ring.specs.Bounds.{IsRing}
 use Rattle.mx_ring.specs.Laws.{SaveIsUndone}
-use Rattle.mx_ring.specs.Registers.{Registers, value_of, with_value, with_locals_cut}
+use Rattle.mx_registers.specs.Registers.{Registers, value_of, with_value, with_locals_cut}
 use Rattle.mx_ring.specs.Stack.{Stack, windowed, visible, register, save_overfills, saved, frame_top, stack_address}
 use Rattle.mx_ring.specs.Window.{Window}
 use Rattle.mx_ring.specs.declared.saved.Saved.{Saved}

@@ -10,7 +10,7 @@ use Rattle.mx_ring.specs.Calls.{unsave_answer}
 use Rattle.mx_ring.specs.Frames.{is_bad_frame}
 use Rattle.mx_ring.specs.Stack.{Stack, windowed, hidden_count, spilled_count, with_register, cut_to, with_global_start, pushed, popped, save_overfills, saved, in_stack_area, stack_index, octas_to, unsave_refused, unsaved_specials, unsaved, with_stack_octa}
 use Rattle.mx_ring.specs.Window.{Window}
-use Rattle.mx_ring.specs.declared.fault.RingFault.TheVariants.{BadFrame}
+use Rattle.mx_registers.specs.declared.fault.RingFault.TheVariants.{BadFrame}
 use Rattle.mx_ring.specs.declared.saved.Saved.{Saved}
 use Rattle.mx_core.specs.Bounds.{IsMachine}
 use Rattle.mx_core.specs.Kept.{Kept, state_of}

@@ -4,10 +4,10 @@ use Rattle.std.proofs.lemmas.Bool.{cases_lt}
 use Rattle.std.proofs.lemmas.Bool.Decides.{nat_tests}
 use Rattle.mx_ring.proofs.Keeps.{set-keeps, cut-keeps, globals-keeps, push-keeps, pop-keeps, save-keeps, octa-keeps, unsave-keeps, set-spills, push-spills, pop-spills, save-spills, unsave-spills}
 use Rattle.mx_ring.proofs.Lists.{register-list, cut-list, globals-list, pushed-list, popped-list, refused-list, specials-list, saved-list, unsaved-list}
-use Rattle.mx_ring.proofs.Values.{locals-kept, locals-grown}
+use Rattle.mx_registers.proofs.Values.{locals-kept, locals-grown}
 use Rattle.mx_ring.specs.Bounds.{IsRing}
 use Rattle.mx_ring.specs.Frames.{is_bad_frame}
-use Rattle.mx_ring.specs.Registers.{Registers, is_marginal, with_value}
+use Rattle.mx_registers.specs.Registers.{Registers, is_marginal, with_value}
 use Rattle.mx_ring.specs.Stack.{Stack, listed, windowed, as_listed, visible, local_count, hidden_count, spilled_count, is_too_many, set_overfills, with_register, cut_to, with_global_start, push_overfills, pushed, pop_underflows, popped, save_overfills, saved, octas_to, unsaved, stack_octa, with_stack_octa, in_stack_area, stack_index, unsave_refused, unsaved_specials}
 use Rattle.mx_ring.specs.Window.{Window}
 use Rattle.mx_ring.specs.declared.saved.Saved.{Saved}

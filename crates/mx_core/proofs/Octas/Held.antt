@@ -2,7 +2,7 @@
 use Rattle.std.proofs.Common.{ℕ, ◌<◌, ◌^◌}
 use Rattle.std.specs.Prelude.{slice_index}
 use Rattle.mx_mem.specs.Memory.{octa_at}
-use Rattle.mx_ring.proofs.OctaLists.{EachIsOcta, are-octas}
+use Rattle.mx_registers.proofs.OctaLists.{EachIsOcta, are-octas}
 use Rattle.mx_ring.specs.Window.{Window}
 use Rattle.mx_word.specs.Ranges.{AreOctas}
 use Rattle.mx_spec.specs.SpecialRegisters.{rA}

@@ -2,8 +2,8 @@
 use Rattle.std.proofs.Common.{◌≡◌, ℕ, ◌+◌, ◌-◌, ◌*◌, ◌^◌, ◌≤◌, ◌<◌, ◌==◌, nat_le, nat_lt, false, List, [], ◌∷◌, ◌++◌, length, take, drop, replicate, arith}
 use Rattle.mx_word.specs.Ranges.{AreOctas}
 use Rattle.mx_ring.specs.Frames.{frame, saved_specials, frame_length, frame_specials, frame_global, frame_locals, frame_middle}
-use Rattle.mx_ring.specs.HiddenPart.{HiddenPart, octas_of, with_hidden, with_spilled, with_room, with_first}
-use Rattle.mx_ring.specs.Registers.{Registers, is_marginal, value_of, with_value, with_locals_cut, push_number, registers_below, registers_from, results}
+use Rattle.mx_registers.specs.HiddenPart.{HiddenPart, octas_of, with_hidden, with_spilled, with_room, with_first}
+use Rattle.mx_registers.specs.Registers.{Registers, is_marginal, value_of, with_value, with_locals_cut, push_number, registers_below, registers_from, results}
 use Rattle.mx_ring.specs.Stack.{Stack, listed, windowed, register, with_register, cut_to, with_global_start, pushed, pushed_octas, hole_in, popped, popped_octas, save_overfills, saved, frame_top, stack_address, octas_to, unsaved, unsaved_specials, stack_octa, with_stack_octa}
 use Rattle.mx_ring.specs.Window.{Window}
 use Rattle.mx_ring.specs.declared.saved.Saved.{Saved}

@@ -3,9 +3,10 @@ use Rattle.std.proofs.Common.{◌≡◌, ◌<◌, ℕ, ◌==◌, ◌&&◌, Bool,
 use Rattle.std.specs.Option.{option_map, is_some}
 use Rattle.mx_mem.specs.Parts.{with_part}
 use Rattle.mx_mem.specs.declared.part.Part.TheVariants.{Octa}
-use Rattle.mx_ring.specs.Bounds.{AreInBounds, IsRing}
+use Rattle.mx_registers.specs.Bounds.{AreInBounds}
+use Rattle.mx_ring.specs.Bounds.{IsRing}
 use Rattle.mx_ring.specs.Stack.{Stack, listed, windowed, visible, register, with_register, with_stack_octa, in_stack_area, stack_index}
-use Rattle.mx_ring.proofs.Values.{with_value-bounds}
+use Rattle.mx_registers.proofs.Values.{with_value-bounds}
 use Rattle.mx_spec.specs.SpecialRegisters.{rP}
 use Rattle.mx_trip.specs.declared.insertion.Kind.TheVariants.{Set}
 use Rattle.mx_core.specs.Deeds.{Deed, deed_of, performed, applied, state_done}

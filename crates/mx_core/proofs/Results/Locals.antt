@@ -3,8 +3,8 @@ use Rattle.std.proofs.Common.{◌≡◌, ◌<◌, ◌≤◌, ℕ, ◌+◌, ◌-�
 use Rattle.std.proofs.lemmas.Bool.{cases_lt}
 use Rattle.std.proofs.lemmas.Bool.Decides.{nat_tests}
 use Rattle.std.proofs.lemmas.List.{set-set, set-get_or, length-set, length-replicate, set-append_right, get_or-append_right, get_or_append_left, get_or-replicate, get_or-set_same, replicate-append-replicate}
-use Rattle.mx_ring.specs.Bounds.{AreInBounds}
-use Rattle.mx_ring.specs.Registers.{Registers, is_marginal, value_of, with_value}
+use Rattle.mx_registers.specs.Bounds.{AreInBounds}
+use Rattle.mx_registers.specs.Registers.{Registers, is_marginal, value_of, with_value}
 use Rattle.mx_ring.specs.Stack.{Stack, listed, windowed, visible, with_visible, after_growth, register, with_register, set_overfills}
 
 -- THE THREE CASES

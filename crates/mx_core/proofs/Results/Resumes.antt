@@ -2,7 +2,7 @@
 use Rattle.std.proofs.Common.{◌≡◌, ℕ, ◌==◌, false, not, Ok, refl, ap, length, arith}
 use Rattle.std.proofs.lemmas.Bool.Decides.{nat_tests}
 use Rattle.mx_ring.specs.Stack.{Stack, visible, set_overfills}
-use Rattle.mx_ring.specs.Registers as registers
+use Rattle.mx_registers.specs.Registers as registers
 use Rattle.mx_spec.specs.SpecialRegisters.{rW, rX, rZ}
 use Rattle.mx_trip.specs.Insertions.{insertion, is_marginal}
 use Rattle.mx_trip.specs.declared.insertion.Insert.{Insert}

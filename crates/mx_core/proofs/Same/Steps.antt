@@ -2,7 +2,7 @@
 use Rattle.std.proofs.Common.{◌≡◌, ℕ, ◌==◌, ◌&&◌, ◌||◌, nat_le, nat_lt, not, Bool, true, false, cond, Option, None, Some, length, refl, sym, subst, ◌∙◌, ap}
 use Rattle.std.specs.Option.{unwrap_or, option_map}
 use Rattle.mx_mem.specs.Memory.{tetra_of}
-use Rattle.mx_ring.specs.Registers.{Registers}
+use Rattle.mx_registers.specs.Registers.{Registers}
 use Rattle.mx_ring.specs.Stack.{as_listed, register, set_overfills}
 use Rattle.mx_ring.specs.Window.{Window}
 use Rattle.mx_spec.specs.SpecialRegisters.{rW, rX, rY, rZ}

@@ -8,7 +8,8 @@ use Rattle.mx_mem.specs.declared.part.Part.{Part}
 use Rattle.mx_mem.specs.declared.part.Part.TheVariants.{Byte, Wyde, Tetra, Octa}
 use Rattle.mx_ring.proofs.Keeps.{window-is}
 use Rattle.mx_ring.specs.Bounds.{IsRing}
-use Rattle.mx_ring.specs.Notes.{RingWas, ring_noted, ring_noted_stored, ring_undone, hidden_undone, put_back}
+use Rattle.mx_registers.specs.HiddenPart.{put_back}
+use Rattle.mx_ring.specs.Notes.{RingWas, ring_noted, ring_noted_stored, ring_undone, hidden_undone}
 use Rattle.mx_ring.specs.Stack.{Stack, windowed, register, in_stack_area}
 use Rattle.mx_ring.specs.Window.{Window}
 use Rattle.mx_ring.specs.declared.notes.RingWork.{RingWork}

@@ -8,10 +8,11 @@ use Rattle.mx_ring.proofs.Lists.{register-kept}
 use Rattle.mx_ring.proofs.StepsBack.{set-steps, octa-steps}
 use Rattle.mx_ring.proofs.TakenBack.{push-back, pop-back, save-back, unsave-back, work-back}
 use Rattle.mx_ring.proofs.Undone.{same-given}
-use Rattle.mx_ring.proofs.Values.{with_value-bounds}
-use Rattle.mx_ring.specs.Bounds.{AreInBounds, IsRing}
+use Rattle.mx_registers.proofs.Values.{with_value-bounds}
+use Rattle.mx_registers.specs.Bounds.{AreInBounds}
+use Rattle.mx_ring.specs.Bounds.{IsRing}
 use Rattle.mx_ring.specs.Notes.{TakesBack, WorkNeeds, work_answer, worked, ring_noted, ring_noted_stored, registers_noted, spilled_by, staying, octa_noted}
-use Rattle.mx_ring.specs.Registers.{Registers, is_marginal, value_of, with_value}
+use Rattle.mx_registers.specs.Registers.{Registers, is_marginal, value_of, with_value}
 use Rattle.mx_ring.specs.Stack.{Stack, listed, windowed, visible, with_visible, with_register, stack_octa, with_stack_octa, in_stack_area, stack_index, stack_address, pushed, popped, saved, unsaved, cut_to, with_global_start}
 use Rattle.mx_ring.specs.Window.{Window}
 use Rattle.mx_ring.specs.declared.notes.RingWork.TheVariants as work

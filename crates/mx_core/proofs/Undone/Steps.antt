@@ -3,7 +3,8 @@ use Rattle.std.proofs.Common.{◌≡◌, ℕ, ◌==◌, not, Bool, true, false, 
 use Rattle.std.specs.Option.{unwrap_or}
 use Rattle.mx_word.specs.Ranges.{AreOctas}
 use Rattle.mx_ring.proofs.Keeps.{window-is}
-use Rattle.mx_ring.specs.Bounds.{AreInBounds, IsRing}
+use Rattle.mx_registers.specs.Bounds.{AreInBounds}
+use Rattle.mx_ring.specs.Bounds.{IsRing}
 use Rattle.mx_ring.specs.Notes as rings
 use Rattle.mx_ring.specs.Stack.{Stack, windowed, visible, register}
 use Rattle.mx_ring.specs.Window.{Window}

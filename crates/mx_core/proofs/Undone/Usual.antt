@@ -5,13 +5,13 @@ use Rattle.std.proofs.lemmas.List.{append_assoc, set-set, set-get_or, take_at}
 use Rattle.mx_mem.specs.Parts.{with_part}
 use Rattle.mx_mem.specs.declared.part.Part.{Part}
 use Rattle.mx_ring.proofs.Lists.{register-grown}
-use Rattle.mx_ring.proofs.Octas.{length-octas, room-none}
+use Rattle.mx_registers.proofs.Octas.{length-octas, room-none}
 use Rattle.mx_ring.proofs.Rings.{fits-of, grown-count}
 use Rattle.mx_ring.proofs.TakenBack.{value-grows}
-use Rattle.mx_ring.proofs.Values.{with_value-marginal}
+use Rattle.mx_registers.proofs.Values.{with_value-marginal}
 use Rattle.mx_ring.specs.Bounds.{IsRing}
-use Rattle.mx_ring.specs.HiddenPart.{octas_of, with_room}
-use Rattle.mx_ring.specs.Registers.{Registers, is_marginal, with_value, with_locals_cut}
+use Rattle.mx_registers.specs.HiddenPart.{octas_of, with_room}
+use Rattle.mx_registers.specs.Registers.{Registers, is_marginal, with_value, with_locals_cut}
 use Rattle.mx_ring.specs.Stack.{windowed, visible, with_visible, local_count, hidden_count, spilled_count, cut_to, register, with_register, set_overfills, in_stack_area, stack_octa, stack_index}
 use Rattle.mx_ring.specs.Window.{Window}
 use Rattle.mx_spec.specs.SpecialRegisters.{rJ}

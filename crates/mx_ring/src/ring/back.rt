@@ -5,7 +5,7 @@ ghost use Rattle.mx_ring.specs.Bounds.{IsRing};
 ghost use Rattle.mx_ring.specs.Notes.{worked, work_answer, WorkNeeds, ring_noted, ring_noted_stored, ring_undone};
 ghost use Rattle.mx_ring.specs.Notes.{octa_noted, spilled_by, push_spills, above_room, staying, plain_answer};
 ghost use Rattle.mx_ring.specs.Notes.{specials_answer, FitsRing, TakesBack};
-ghost use Rattle.mx_ring.specs.HiddenPart.{octas_of};
+ghost use Rattle.mx_registers.specs.HiddenPart.{octas_of};
 ghost use Rattle.mx_ring.specs.Stack.{windowed, hole_in};
 ghost use Rattle.mx_word.specs.Results.{map_ok};
 

@@ -1,5 +1,5 @@
 use Rattle.std.proofs.Common.{arith, refl}
-use Rattle.mx_ring.proofs.Few.{first_below}
+use Rattle.mx_registers.proofs.Few.{first_below}
 use Rattle.mx_ring.proofs.ring.hide_few_below.Goals as goal
 
 pub returns : goal.returns

@@ -1,7 +1,7 @@
 use Rattle.std.proofs.Common.{◌<◌, length, arith}
 use Rattle.std.proofs.lemmas.List.{length-take}
 use Rattle.mx_ring.proofs.Rings.{pop-ring}
-use Rattle.mx_ring.specs.HiddenPart.{octas_of}
+use Rattle.mx_registers.specs.HiddenPart.{octas_of}
 use Rattle.mx_ring.specs.RingParts.{window_in}
 use Rattle.mx_ring.proofs.ring.Ring.bring_back.Goals as goal
 

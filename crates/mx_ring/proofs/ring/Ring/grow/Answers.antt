@@ -1,8 +1,8 @@
 use Rattle.std.proofs.Common.{◌≡◌, ◌≤◌, ◌+◌, ◌^◌, length, true, arith, ap, ◌∙◌}
 use Rattle.mx_ring.proofs.Lists.{grown-is, register-list}
 use Rattle.mx_ring.proofs.Rings.{grow-ring, grown-count}
-use Rattle.mx_ring.specs.HiddenPart.{octas_of}
-use Rattle.mx_ring.specs.Registers.{is_marginal, with_value}
+use Rattle.mx_registers.specs.HiddenPart.{octas_of}
+use Rattle.mx_registers.specs.Registers.{is_marginal, with_value}
 use Rattle.mx_ring.specs.RingParts.{window_in}
 use Rattle.mx_ring.specs.Stack.{as_listed}
 use Rattle.mx_ring.proofs.ring.Ring.grow.Goals as goal

@@ -1,8 +1,8 @@
 use Rattle.std.proofs.Common.{arith, ◌≡◌, ◌≤◌, ◌+◌, ◌^◌, ◌∷◌, [], ◌++◌, length, ◌∙◌, ap}
 use Rattle.std.proofs.lemmas.List.{length_push}
 use Rattle.mx_ring.proofs.Rings.{push-ring, length-below}
-use Rattle.mx_ring.specs.HiddenPart.{octas_of}
-use Rattle.mx_ring.specs.Registers.{registers_below}
+use Rattle.mx_registers.specs.HiddenPart.{octas_of}
+use Rattle.mx_registers.specs.Registers.{registers_below}
 use Rattle.mx_ring.specs.RingParts.{window_in}
 use Rattle.mx_ring.proofs.ring.Ring.hide_few.Goals as goal
 

@@ -1,7 +1,7 @@
 use Rattle.std.proofs.Common.{◌≡◌, ◌≤◌, ◌+◌, ◌-◌, length, arith, refl}
 use Rattle.mx_ring.proofs.Rings.{save-ring, length-frame}
 use Rattle.mx_ring.specs.Frames.{frame, frame_length}
-use Rattle.mx_ring.specs.HiddenPart.{octas_of}
+use Rattle.mx_registers.specs.HiddenPart.{octas_of}
 use Rattle.mx_ring.specs.RingParts.{window_in}
 use Rattle.mx_ring.specs.Stack.{windowed, saved, frame_top}
 use Rattle.mx_ring.proofs.ring.Ring.hide_frame.Goals as goal

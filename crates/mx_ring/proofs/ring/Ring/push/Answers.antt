@@ -1,7 +1,7 @@
 use Rattle.std.proofs.Common.{◌≡◌, ◌<◌, ℕ, nat_lt, true, false, arith, ap, sym, ◌∙◌, refl}
 use Rattle.std.proofs.lemmas.Bool.Decides.{nat_tests}
 use Rattle.mx_ring.proofs.Lists.{pushed-list}
-use Rattle.mx_ring.specs.Registers.{Registers, push_number}
+use Rattle.mx_registers.specs.Registers.{Registers, push_number}
 use Rattle.mx_ring.specs.RingParts.{window_in}
 use Rattle.mx_ring.specs.Stack.{windowed, as_listed, push_overfills, pushed, with_pushed}
 use Rattle.mx_ring.proofs.ring.Ring.push.Goals as goal

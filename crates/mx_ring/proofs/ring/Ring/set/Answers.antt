@@ -1,6 +1,6 @@
 use Rattle.std.proofs.Common.{◌≡◌, false, sym, ◌∙◌}
 use Rattle.mx_ring.proofs.Rings.{set-ring}
-use Rattle.mx_ring.specs.Registers.{is_marginal}
+use Rattle.mx_registers.specs.Registers.{is_marginal}
 use Rattle.mx_ring.specs.RingParts.{window_in}
 use Rattle.mx_ring.proofs.ring.Ring.set.Goals as goal
 

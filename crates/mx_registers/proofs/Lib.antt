@@ -1,0 +1,7 @@
+pub mod Areas
+pub mod Few
+pub mod OctaLists
+pub mod Octas
+pub mod Returned
+pub mod Spilled
+pub mod Values

@@ -1,0 +1,13 @@
+use Rattle.std.proofs.Common.{◌≡◌, ◌++◌, take, drop, refl, sym, ◌∙◌, ap}
+use Rattle.std.proofs.lemmas.List.{take-append-drop, drop-take}
+use Rattle.mx_registers.specs.HiddenPart.{octas_of}
+use Rattle.mx_registers.specs.Parts.{part_in}
+use Rattle.mx_registers.proofs.hidden.Hidden.unspill.Goals as goal
+
+pub returns : goal.returns
+returns c =
+    let i = c.self.inside in
+    let whole : octas_of (part_in i) ≡ i.octas.items = ap (λ xs. xs ++ drop i.spilled i.octas.items) (sym c.self.invariant.same_spilled) ∙ take-append-drop i.spilled i.octas.items in
+    let left : drop c.args.spilled c.truncate.new.self.items ≡ take c.args.stays (drop c.args.spilled (octas_of (part_in i))) =
+    ap (drop c.args.spilled) c.truncate.ensures.items ∙ drop-take c.args.spilled c.args.stays i.octas.items ∙ ap (λ xs. take c.args.stays (drop c.args.spilled xs)) (sym whole) in
+    rw (← c.self.view_is, left) refl

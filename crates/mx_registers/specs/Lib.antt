@@ -1,0 +1,6 @@
+pub mod Bounds
+pub mod HiddenPart
+pub mod Parts
+pub mod Registers
+pub mod RingFaults
+pub mod StackArea

@@ -1,0 +1,67 @@
+//! What POP leaves in the registers below G.
+
+ghost use Rattle.std.specs.Prelude.{◌≡◌, ◌≤◌, ◌<◌, ◌+◌, ◌-◌, ◌∷◌, ◌++◌, min, length, take, drop};
+ghost use Rattle.mx_word.specs.Lists.{with_part, with_zeros};
+ghost use Rattle.mx_registers.specs.Registers.{results};
+
+use crate::slices::{clear, copy, put};
+
+/// Among the registers below G, of which `l` are local and the others 0, these octas come back, and
+/// the results of POP with `x` follow, as far as there is room. Gives the new number of locals.
+pub(crate) fn bring_back(front: &mut [u64], l: usize, octas: &[u64], x: usize) -> usize
+    requires locals { l ≤ length front.old }
+    requires zeros { front.old ≡ with_zeros (take l front.old) (length front.old) }
+    ensures count { result ≡ length (take (length front.old) (octas.now ++ results (take l front.old) x)) }
+    ensures front { front.new
+        ≡ with_zeros (take (length front.old) (octas.now ++ results (take l front.old) x)) (length front.old) }
+{
+    let room = front.len();
+    if octas.len() >= room {
+        put(front, 0, &octas[..room]);
+        return room;
+    }
+    let top = octas.len() + put_results(front, l, x, octas.len());
+    put(front, 0, octas);
+    if top < l {
+        clear(front, top, l);
+    }
+    top
+}
+
+/// Puts the results of POP with `x`, of `l` locals, from the place `hole` on, as far as there is room.
+/// Gives the number of results that are there.
+fn put_results(front: &mut [u64], l: usize, x: usize, hole: usize) -> usize
+    requires locals { l ≤ length front.old }
+    requires inside { hole < length front.old }
+    ensures count { result ≡ length (take (length front.old - hole) (results (take l front.old) x)) }
+    ensures placed { front.new
+        ≡ with_part front.old hole (take (length front.old - hole) (results (take l front.old) x)) }
+{
+    if x == 0 {
+        return 0;
+    }
+    if x <= l {
+        let main = front[x - 1];
+        return put_first(front, main, x - 1, hole);
+    }
+    put_first(front, 0, l, hole)
+}
+
+/// Puts `main` at the place `hole`, and behind it the first `count` registers, as far as there is room.
+/// Gives how many there are.
+fn put_first(front: &mut [u64], main: u64, count: usize, hole: usize) -> usize
+    requires among { count ≤ length front.old }
+    requires inside { hole < length front.old }
+    ensures count { result ≡ length (take (length front.old - hole) (main ∷ take count front.old)) }
+    ensures placed { front.new
+        ≡ with_part front.old hole (take (length front.old - hole) (main ∷ take count front.old)) }
+{
+    if count == 0 {
+        front[hole] = main;
+        return 1;
+    }
+    let others = count.min(front.len() - hole - 1);
+    copy(front, 0, others, hole + 1);
+    front[hole] = main;
+    others + 1
+}
