@@ -3,4 +3,5 @@ pub mod HiddenPart
 pub mod Parts
 pub mod Registers
 pub mod RingFaults
+pub mod RingSizes
 pub mod StackArea

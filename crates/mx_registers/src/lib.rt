@@ -9,9 +9,11 @@ mod fault;
 mod hidden;
 mod knowing;
 mod results;
+mod size;
 mod slices;
 mod visible;
 
 pub use fault::RingFault;
 pub use hidden::{Hidden, ROOM};
+pub use size::RingSize;
 pub use visible::{FEW, Visible};

@@ -7,6 +7,5 @@ pub mod Notes
 pub mod NoteParts
 pub mod RegisterList
 pub mod RingParts
-pub mod RingSizes
 pub mod Stack
 pub mod Window

@@ -9,18 +9,16 @@ mod laws;
 mod notes;
 mod ring;
 mod saved;
-mod size;
 
 pub use laws::{
     calls_go_as_lists, calls_keep_rings, frames_come_back, frames_go_as_lists, frames_keep_rings,
     lists_show_the_same, pushes_go_by_place, refusals_are_those_of_lists,
     spilled_octas_are_counted, spilled_octas_are_hidden, writes_go_as_lists, writes_keep_rings,
 };
-pub use mx_registers::RingFault;
+pub use mx_registers::{RingFault, RingSize};
 pub use notes::{
     RingNote, RingWork, notes_take_back, notes_take_steps_back, notes_take_stores_back,
     notes_take_trips_back,
 };
 pub use ring::Ring;
 pub use saved::Saved;
-pub use size::RingSize;

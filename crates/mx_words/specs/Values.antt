@@ -4,7 +4,7 @@ use Rattle.std.specs.Prelude.{ℕ, ◌^◌, Bool, false, ◌==◌, ◌&&◌, nat
 use Rattle.std.specs.List.{list_all}
 use Rattle.std.specs.Str.Parse.{digits_value}
 use Rattle.mx_word.specs.Kinds.{is_digit}
-use Rattle.mx_ring.specs.RingSizes.{ring_size_of}
+use Rattle.mx_registers.specs.RingSizes.{ring_size_of}
 
 -- a word is the list of its bytes
 abbrev pub Word : Type 0

@@ -1,6 +1,6 @@
 //! What the words order.
 
-use mx_ring::RingSize;
+use mx_registers::RingSize;
 
 /// What the first word of the command line asks for.
 #[derive(Clone, Copy, Debug, PartialEq, Eq)]

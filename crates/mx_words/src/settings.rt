@@ -1,6 +1,6 @@
 //! What the options set.
 
-use mx_ring::RingSize;
+use mx_registers::RingSize;
 
 /// What the options set.
 #[derive(Clone, Copy)]

@@ -5,7 +5,7 @@ ghost use Rattle.std.specs.List.{list_all};
 ghost use Rattle.mx_word.specs.Kinds.{is_digit};
 ghost use Rattle.mx_words.specs.Values as spec;
 
-use mx_ring::RingSize;
+use mx_registers::RingSize;
 use mx_word::is_digit;
 
 /// Whether a word begins with a dash.

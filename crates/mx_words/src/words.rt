@@ -8,7 +8,7 @@ use crate::options::option;
 use crate::order::{Command, Order, WordsFault};
 use crate::settings::Settings;
 use crate::values::{blocks_value, is_option};
-use mx_ring::RingSize;
+use mx_registers::RingSize;
 
 /// What the words order, without the name of the program, or the first fault from the left. It takes
 /// no memory.

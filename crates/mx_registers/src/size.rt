@@ -1,7 +1,7 @@
 //! How many registers the machine keeps outside its memory.
 
 ghost use Rattle.std.specs.Prelude.{◌≡◌};
-ghost use Rattle.mx_ring.specs.RingSizes.{ring_size_of};
+ghost use Rattle.mx_registers.specs.RingSizes.{ring_size_of};
 
 use std::marker::Model;
 
@@ -13,7 +13,7 @@ pub struct RingSize {
 
 impl Model for RingSize {
     ghost use Rattle.std.specs.Prelude.{ℕ, IsTrue};
-    ghost use Rattle.mx_ring.specs.RingSizes.{is_ring_size};
+    ghost use Rattle.mx_registers.specs.RingSizes.{is_ring_size};
 
     ghost Value = { ℕ };
 
