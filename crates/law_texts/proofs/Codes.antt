@@ -2,7 +2,7 @@
 use Rattle.std.proofs.Common.{◌≡◌, ℕ, ◌+◌, ◌<◌, ◌≤◌, length, List, Bool, true, false, not, ◌&&◌, ◌||◌, cond, [], ◌∷◌, map, refl, ◌⊎◌, nat_lt, nat_le, rules}
 use Rattle.law_texts.proofs.Words.{list_all, range_with_len, opcode_rows, opcode_names, opcode_name, opcode_kinds, opcode_kind, is_immediate, is_backward, shape_spans, shapes_of, Shape, Three, Regs, Round, Neg, Rel, Mem, MemPure, Wyde, Jump, Put, Get, Pop, One, Save, Unsave, Free, takes_byte, shape, lowest_code}
 use Rattle.mx_word.specs.Kinds.{is_name_byte}
-use Rattle.mx_text.proofs.SecondCodes.{each}
+use Rattle.mx_ops.proofs.SecondCodes.{each}
 
 -- whether a shape may be that of a code of this name: an immediate one, or one for a backward address
 abbrev pub fits : Shape → Bool → Bool → Bool

@@ -4,14 +4,14 @@ use Rattle.std.proofs.lemmas.Bool.Decides.{nat_tests}
 use Rattle.std.specs.List.{range_with_len}
 use Rattle.std.proofs.lemmas.List.FromFn.{get_or-map-range_with_len}
 use Rattle.std.proofs.lemmas.Bool.{and_parts}
-use Rattle.mx_ops.specs.Opcodes.{opcode_rows, opcode_names, opcode_name, opcode_kinds, opcode_kind, is_immediate, is_backward}
+use Rattle.mx_ops.specs.Opcodes.{opcode_rows, opcode_names, opcode_name}
 use Rattle.std.proofs.Math.Nat.{mod-eq_of_lt}
 use Rattle.mx_alu.specs.Alu.{is_alu}
 use Rattle.mx_alu.specs.Names.{wyde_of}
 use Rattle.mx_alu.proofs.Named.{wyde-at}
 use Rattle.mx_core.specs.Operations.{load_names, store_names, operation_names, operation_of, has_condition}
 use Rattle.mx_core.specs.Way.Groups.{operation_by}
-use Rattle.mx_core.specs.declared.codes.TheConstants.{OPERATIONS, IMMEDIATE, BACKWARD}
+use Rattle.mx_core.specs.declared.codes.TheConstants.{OPERATIONS}
 use Rattle.mx_core.specs.declared.groups.TheConstants.{GROUPS}
 use Rattle.mx_core.specs.declared.groups.Group.{Group}
 use Rattle.mx_core.specs.declared.groups.Group.TheVariants as group
@@ -51,14 +51,6 @@ trap-by g e = absurd (cc)
 
 pub trap-at : (code : ℕ) → code < 256 → operation_of code ≡ op.Trap → get_or GROUPS code group.Compute ≡ group.Trap
 trap-at code below e = trap-by (get_or GROUPS code group.Compute) (sym (ap (λ o. tells_trap o (get_or GROUPS code group.Compute)) e) ∙ trap-told code below)
-
-pub immediate-at : (code : ℕ) → code < 256 → get_or IMMEDIATE code false ≡ is_immediate (opcode_kind code)
-unfolding opcode_rows opcode_kinds opcode_kind
-immediate-at code below = agree (λ k. get_or IMMEDIATE k false) (λ k. is_immediate (opcode_kind k)) 256 code refl below
-
-pub backward-at : (code : ℕ) → code < 256 → get_or BACKWARD code false ≡ is_backward (opcode_kind code)
-unfolding opcode_rows opcode_kinds opcode_kind
-backward-at code below = agree (λ k. get_or BACKWARD k false) (λ k. is_backward (opcode_kind k)) 256 code refl below
 
 -- the codes that an operation may have
 is_among : Operation → ℕ → Bool

@@ -1,8 +1,6 @@
 //! What each code does, as tables by the code.
 
 ghost use Rattle.std.specs.Prelude.{◌≡◌};
-ghost use Rattle.mx_ops.specs.Opcodes.{opcode_kind};
-ghost use Rattle.mx_ops.specs.Opcodes as kinds;
 ghost use Rattle.mx_core.specs.Operations as spec;
 
 use crate::operation::{Loading, Operation, Storing};
@@ -114,61 +112,10 @@ static OPERATIONS: [Operation; 256] = [
     JMP, PUSHJ, PUSHJ, GETA, GETA, PUT, PUT, POP, RESUME, SAVE, UNSAVE, SYNC, NOTHING, GET, TRIP,
 ];
 
-const YES: bool = true;
-
-const NO: bool = false;
-
-/// At which codes Z is an immediate byte.
-static IMMEDIATE: [bool; 256] = [
-    NO, NO, NO, NO, NO, NO, NO, NO, NO, YES, NO, YES, NO, YES, NO, YES, NO, NO, NO, NO, NO, NO, NO,
-    NO, NO, YES, NO, YES, NO, YES, NO, YES, NO, YES, NO, YES, NO, YES, NO, YES, NO, YES, NO, YES,
-    NO, YES, NO, YES, NO, YES, NO, YES, NO, YES, NO, YES, NO, YES, NO, YES, NO, YES, NO, YES, NO,
-    NO, NO, NO, NO, NO, NO, NO, NO, NO, NO, NO, NO, NO, NO, NO, NO, NO, NO, NO, NO, NO, NO, NO, NO,
-    NO, NO, NO, NO, NO, NO, NO, NO, YES, NO, YES, NO, YES, NO, YES, NO, YES, NO, YES, NO, YES, NO,
-    YES, NO, YES, NO, YES, NO, YES, NO, YES, NO, YES, NO, YES, NO, YES, NO, YES, NO, YES, NO, YES,
-    NO, YES, NO, YES, NO, YES, NO, YES, NO, YES, NO, YES, NO, YES, NO, YES, NO, YES, NO, YES, NO,
-    YES, NO, YES, NO, YES, NO, YES, NO, YES, NO, YES, NO, YES, NO, YES, NO, YES, NO, YES, NO, YES,
-    NO, YES, NO, YES, NO, YES, NO, YES, NO, YES, NO, YES, NO, YES, NO, YES, NO, YES, NO, YES, NO,
-    YES, NO, YES, NO, YES, NO, YES, NO, YES, NO, YES, NO, YES, NO, YES, NO, YES, NO, YES, NO, YES,
-    NO, YES, NO, YES, NO, YES, NO, YES, NO, NO, NO, NO, NO, NO, NO, NO, NO, NO, NO, NO, NO, NO, NO,
-    NO, NO, NO, NO, NO, NO, NO, NO, YES, NO, NO, NO, NO, NO, NO, NO, NO,
-];
-
-/// Which codes are for a backward address.
-static BACKWARD: [bool; 256] = [
-    NO, NO, NO, NO, NO, NO, NO, NO, NO, NO, NO, NO, NO, NO, NO, NO, NO, NO, NO, NO, NO, NO, NO, NO,
-    NO, NO, NO, NO, NO, NO, NO, NO, NO, NO, NO, NO, NO, NO, NO, NO, NO, NO, NO, NO, NO, NO, NO, NO,
-    NO, NO, NO, NO, NO, NO, NO, NO, NO, NO, NO, NO, NO, NO, NO, NO, NO, YES, NO, YES, NO, YES, NO,
-    YES, NO, YES, NO, YES, NO, YES, NO, YES, NO, YES, NO, YES, NO, YES, NO, YES, NO, YES, NO, YES,
-    NO, YES, NO, YES, NO, NO, NO, NO, NO, NO, NO, NO, NO, NO, NO, NO, NO, NO, NO, NO, NO, NO, NO,
-    NO, NO, NO, NO, NO, NO, NO, NO, NO, NO, NO, NO, NO, NO, NO, NO, NO, NO, NO, NO, NO, NO, NO, NO,
-    NO, NO, NO, NO, NO, NO, NO, NO, NO, NO, NO, NO, NO, NO, NO, NO, NO, NO, NO, NO, NO, NO, NO, NO,
-    NO, NO, NO, NO, NO, NO, NO, NO, NO, NO, NO, NO, NO, NO, NO, NO, NO, NO, NO, NO, NO, NO, NO, NO,
-    NO, NO, NO, NO, NO, NO, NO, NO, NO, NO, NO, NO, NO, NO, NO, NO, NO, NO, NO, NO, NO, NO, NO, NO,
-    NO, NO, NO, NO, NO, NO, NO, NO, NO, NO, NO, NO, NO, NO, NO, NO, NO, NO, NO, NO, NO, NO, NO, NO,
-    NO, NO, NO, NO, NO, NO, YES, NO, YES, NO, YES, NO, NO, NO, NO, NO, NO, NO, NO, NO, NO,
-];
-
 /// What the machine does for a code.
 #[inline(always)]
 pub(crate) fn operation_of(code: u8) -> Operation
     ensures { result ≡ spec.operation_of code }
 {
     OPERATIONS[usize::from(code)]
-}
-
-/// Whether Z is an immediate byte at a code.
-#[inline(always)]
-pub(crate) fn is_immediate(code: u8) -> bool
-    ensures { result ≡ kinds.is_immediate (opcode_kind code) }
-{
-    IMMEDIATE[usize::from(code)]
-}
-
-/// Whether a code is for a backward address.
-#[inline(always)]
-pub(crate) fn is_backward(code: u8) -> bool
-    ensures { result ≡ kinds.is_backward (opcode_kind code) }
-{
-    BACKWARD[usize::from(code)]
 }

@@ -3,8 +3,9 @@
 ghost use Rattle.std.specs.Prelude.{◌≡◌, ◌<◌, ◌^◌};
 ghost use Rattle.mx_core.specs.Instructions as spec;
 
-use crate::codes::{is_backward, operation_of};
+use crate::codes::operation_of;
 use crate::operation::Operation;
+use mx_ops::is_backward;
 
 /// How far a backward address of 16 and of 24 bits begins behind its instruction, modulo 2^64.
 const NEAR_BACK: u64 = 0xffff_ffff_fffc_0000;

@@ -7,9 +7,9 @@ ghost use Rattle.mx_core.specs.Instructions.{x_of};
 ghost use Rattle.mx_core.specs.Kept.{state_of};
 
 use crate::Machine;
-use crate::codes::is_immediate;
 use crate::instruction::Instruction;
 use crate::stop::Stop;
+use mx_ops::is_immediate;
 
 impl Machine {
     /// What $X has.

@@ -5,3 +5,4 @@ pub mod Computed
 pub mod Operations
 pub mod Rows
 pub mod Words
+pub mod SecondCodes

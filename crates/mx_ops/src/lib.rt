@@ -1,12 +1,14 @@
 //! The tables of the assembly language: operations, operand shapes, predefined symbols.
 #![tactic(auto)]
 
+mod kinds;
 mod laws;
 mod lookup;
 mod op;
 mod symbols;
 mod table;
 
+pub use kinds::{is_backward, is_immediate};
 pub use laws::each_name_has_its_codes;
 pub use lookup::{find, name, predefined, shape_of};
 pub use op::{Op, Pseudo, Shape};

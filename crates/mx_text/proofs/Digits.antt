@@ -1,7 +1,7 @@
 -- Digits are written from the high end.
 use Rattle.std.proofs.Common.{◌≡◌, ℕ, zero, suc, ◌+◌, ◌*◌, ◌/◌, ◌%◌, ◌^◌, ◌<◌, ◌≤◌, List, [], ◌∷◌, ◌++◌, map, get_or, slice_index_or, arith, sym, ap, refl, ◌∙◌}
 use Rattle.std.proofs.lemmas.Fmt.{decimal_digit, decimal_step}
-use Rattle.mx_text.proofs.SecondCodes.{each}
+use Rattle.mx_ops.proofs.SecondCodes.{each}
 use Rattle.mx_word.specs.Words.{octa_to_bytes}
 use Rattle.mx_text.proofs.Words.{decimal, pow-add, pow-succ', range_with_len, hex_digits}
 use Rattle.mx_text.specs.declared.numbers.TheConstants.{DECIMALS, PAIRS}

@@ -1,4 +1,3 @@
-pub mod SecondCodes
 pub mod Digits
 pub mod Rows
 pub mod Joined

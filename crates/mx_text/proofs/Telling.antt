@@ -1,7 +1,7 @@
 -- The text of an instruction tells the instruction.
 use Rattle.std.proofs.Common.{◌≡◌, ℕ, ◌<◌, ◌+◌, ◌-◌, ◌*◌, ◌%◌, ◌^◌, Bool, true, false, not, ◌||◌, nat_le, cond, List, [], ◌∷◌, ◌++◌, map, refl, sym, ◌∙◌, ap, arith, Some, slice_index_or, append_assoc, length}
 use Rattle.mx_text.proofs.Words.{range_with_len, mod-lt, nat_tests, opcode_rows, opcode_kinds, opcode_kind, opcode_names, opcode_name, operation_of, is_immediate, is_backward, shape_spans, shapes_of, Code, Shape, Regs, Rel, Wyde, Jump, Put, Get, Pop, One, Save, Unsave, Free, field_code, field_x, field_y, field_z, shape, operands, shown_operands, operand_text, operands_text, instruction_text, lowest_code, hides_y, shown_part, Operand, Register, Number}
-use Rattle.mx_text.proofs.SecondCodes.{each}
+use Rattle.mx_ops.proofs.SecondCodes.{each}
 use Rattle.mx_text.proofs.LowestCodes.{name-found}
 use Rattle.mx_text.proofs.Parts.{lacks, cut-first, same-parts}
 use Rattle.mx_text.proofs.OperandTexts.{IsShown, AreShown, texts-lack, same-operands}

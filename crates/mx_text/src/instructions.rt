@@ -3,11 +3,10 @@
 ghost use Rattle.std.specs.Prelude.{◌≡◌, ◌++◌, ◌^◌, ◌*◌, ◌≤◌, IfOk, OnOk};
 ghost use Rattle.mx_text.specs.Instructions as spec;
 
-use crate::codes::{is_backward, is_immediate};
 use crate::fields::{code, x, xyz, y, yz, z};
 use crate::operands::Operand::{Address, Number, Register};
 use crate::operands::{Operand, add_operand, add_three, add_two};
-use mx_ops::{Shape, name, shape_of};
+use mx_ops::{Shape, is_backward, is_immediate, name, shape_of};
 use mx_word::{Bytes, NoMemory};
 use std::alloc::Global;
 

@@ -1,7 +1,6 @@
 //! The texts of octas and of instructions, as the console, a trace and a dump show them.
 #![tactic(auto)]
 
-mod codes;
 mod fields;
 mod instructions;
 mod laws;

@@ -1,7 +1,8 @@
 -- The kinds of the codes, by computing.
 use Rattle.std.proofs.Common.{◌≡◌, ℕ, ◌%◌, ◌<◌, Bool, false, get_or, ◌&&◌, ◌||◌, nat_le, eqb, map, refl, sym, ◌∙◌, ap, arith}
 use Rattle.std.proofs.lemmas.List.FromFn.{get_or-map-range_with_len}
-use Rattle.mx_text.proofs.Words.{range_with_len, opcode_rows, opcode_kinds, opcode_kind, is_immediate, is_backward}
+use Rattle.std.specs.List.{range_with_len}
+use Rattle.mx_ops.specs.Opcodes.{opcode_rows, opcode_kinds, opcode_kind, is_immediate, is_backward}
 
 abbrev pub in_immediate_rows : ℕ → Bool
 in_immediate_rows code = (nat_le 0x08 code && nat_le code 0x0f) || (nat_le 0x18 code && nat_le code 0x3f) || (nat_le 0x60 code && nat_le code 0xdf) || (nat_le 0xf6 code && nat_le code 0xf7)
