@@ -18,6 +18,8 @@ use Rattle.mx_asm.specs.declared.refused.Refused.{Refused}
 use Rattle.mx_asm.proofs.InTurn.{source-accepted}
 use Rattle.mx_files.specs.Answers.{answered, plainly, after_lines}
 use Rattle.mx_begin.specs.Arguments.{Word, word_at, arguments}
+use Rattle.mx_begin.specs.Begun.{assembled, loaded, image_after, started_after}
+use Rattle.mx_begin.specs.declared.images.Form.TheVariants.{Source, Object}
 use Rattle.law_runs.specs.Complete.{IsOrdered, HasSource, HasObject, IsStarted, IsHalted, IsPlayed, IsWritten, IsGenerated}
 use Rattle.mx_dump.specs.Dump.{dump_lines}
 use Rattle.law_gen.specs.Generator.{generated}
@@ -29,7 +31,7 @@ use Rattle.mx_files.specs.Objects.{Assembled, source_object}
 use Rattle.mx_files.specs.Objects as assembling
 use Rattle.mx_files.specs.Pieces.{put_text}
 use Rattle.mx_files.specs.Assembling.{refused_with, closed_object, written_object, assembled_outcome, object_put, after_opening, after_reading}
-use Rattle.mx_top.specs.Product.{after_image, after_source, after_loading, after_object, summed, summed_from, generated_run, ordered, carried_out, with_message, product}
+use Rattle.mx_top.specs.Product.{begun_run, summed, summed_from, generated_run, ordered, carried_out, with_message, product}
 use Rattle.mx_top.specs.Runs.{ran, machine_ran, session_ran, states_back, taken_back, run_back, order_ran, dumped, run_from, image_run}
 use Rattle.mx_files.specs.Sources.{source_meaning, meaning_unless}
 use Rattle.mx_files.specs.declared.refusal.Refusal.{Refusal}
@@ -47,15 +49,15 @@ pub source-run : (kind : MachineKind) (words : List Word) (o : Order) (image : I
     product kind words m ≡ with_message (image_run kind o (arguments words o) image begun)
 source-run kind words o image m begun h =
     order-is kind words o Run m h.ordered
-    ∙ ap (λ t. with_message (after_source kind o (arguments words o) t)) h.read
-    ∙ ap (λ r. with_message (after_image kind o (arguments words o) r begun)) h.means
+    ∙ ap (λ t. with_message (begun_run kind o (started_after kind o.ring (arguments words o) (image_after Source t)))) h.read
+    ∙ ap (λ r. with_message (begun_run kind o (started_after kind o.ring (arguments words o) (assembled r, begun)))) h.means
 
 pub object-run : (kind : MachineKind) (words : List Word) (o : Order) (image : Image) (m begun : HostModel) → HasObject words o image m begun →
     product kind words m ≡ with_message (image_run kind o (arguments words o) image begun)
 object-run kind words o image m begun h =
     order-is kind words o Sim m h.ordered
-    ∙ ap (λ t. with_message (after_object kind o (arguments words o) t)) h.read
-    ∙ ap (λ r. with_message (after_loading kind o (arguments words o) r begun)) h.loads
+    ∙ ap (λ t. with_message (begun_run kind o (started_after kind o.ring (arguments words o) (image_after Object t)))) h.read
+    ∙ ap (λ r. with_message (begun_run kind o (started_after kind o.ring (arguments words o) (loaded r, begun)))) h.loads
 
 -- ---- the machine
 

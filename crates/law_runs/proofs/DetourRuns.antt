@@ -43,16 +43,26 @@ use Rattle.mx_files.specs.Sources.{meaning_unless, source_meaning}
 use Rattle.mx_outcome.specs.Messages.{message_of}
 use Rattle.mx_files.specs.Objects.{Assembled, source_object}
 use Rattle.mx_files.specs.Assembling.{assembled_outcome, object_put, after_opening, after_reading}
-use Rattle.mx_top.specs.Product.{after_image, after_source, after_loading, after_object, carried_out, message_told, with_message, product}
+use Rattle.mx_top.specs.Product.{begun_run, carried_out, message_told, with_message, product}
 use Rattle.mx_dump.specs.Dump.{dump_lines}
 use Rattle.mx_top.specs.Runs.{Ran, ran, ran_wild, ran_to, machine_ran, takes_back, states_back, state_lines, reached, lines_told, taken_back, played, order_ran, dumped, run_from, image_run}
-use Rattle.mx_begin.specs.Begun.{main_address, begun_at, stack_at_start}
+use Rattle.mx_begin.specs.Begun.{assembled, loaded, image_after, main_address, begun_at, stack_at_start, started_after}
+use Rattle.mx_begin.specs.declared.images.Form.{Form}
+use Rattle.mx_begin.specs.declared.images.Form.TheVariants.{Source, Object}
 use Rattle.mx_files.specs.Source.{file_bytes}
 use Rattle.mx_outcome.specs.declared.outcome.Outcome.{Outcome}
 use Rattle.mx_outcome.specs.declared.outcome.Outcome.TheVariants.{Done, Usage, NoFile, Refused, BadObject}
 use Rattle.law_runs.proofs.IdleFiles.{idle, file-idle, file-absent, writing, open-object, put-idle}
 use Rattle.law_runs.proofs.SteadyFiles.{file-steady}
 use Rattle.law_runs.proofs.SteadyProduct.{answer_still, reading-later, product-steady, answers-same}
+
+-- ---- a file that was read, or an image of it, is run
+
+abbrev image_ran : MachineKind → Order → List Word → Result Image Outcome → HostModel → Answer
+image_ran kind o args r m = begun_run kind o (started_after kind o.ring args (r, m))
+
+abbrev file_ran : MachineKind → Order → List Word → Form → Then (Result (List ℕ) Outcome) → Answer
+file_ran kind o args form t = begun_run kind o (started_after kind o.ring args (image_after form t))
 
 -- ---- words
 
@@ -73,23 +83,23 @@ rest-behind command options file rest place e =
 -- what the order to run, and that to run an object, come to
 run-is : (kind : MachineKind) (options : List Word) (source : Word) (rest : List Word) (o : Order) (m : HostModel) → order_of (run_words options source rest) ≡ Ok (record o { command = Run }) →
     o.file ≡ length options + 1 → o.rest ≡ length options + 2 →
-    product kind (run_words options source rest) m ≡ with_message (after_source kind (record o { command = Run }) (program_name source ∷ rest) (file_bytes 1025 source m))
+    product kind (run_words options source rest) m ≡ with_message (file_ran kind (record o { command = Run }) (program_name source ∷ rest) Source (file_bytes 1025 source m))
 run-is kind options source rest o m e f r =
     let words : List Word = run_words options source rest in
     let order : Order = record o { command = Run } in
     ap (λ t. with_message (carried_out kind words t m)) e
-    ∙ ap (λ (w : Word). with_message (after_source kind order (program_name w ∷ drop o.rest words) (file_bytes 1025 w m))) (file-behind (codes "run") options source rest o.file f)
-    ∙ ap (λ (ws : List Word). with_message (after_source kind order (program_name source ∷ ws) (file_bytes 1025 source m))) (rest-behind (codes "run") options source rest o.rest r)
+    ∙ ap (λ (w : Word). with_message (file_ran kind order (program_name w ∷ drop o.rest words) Source (file_bytes 1025 w m))) (file-behind (codes "run") options source rest o.file f)
+    ∙ ap (λ (ws : List Word). with_message (file_ran kind order (program_name source ∷ ws) Source (file_bytes 1025 source m))) (rest-behind (codes "run") options source rest o.rest r)
 
 sim-is : (kind : MachineKind) (options : List Word) (object : Word) (rest : List Word) (o : Order) (m : HostModel) → order_of (sim_words options object rest) ≡ Ok (record o { command = Sim }) →
     o.file ≡ length options + 1 → o.rest ≡ length options + 2 →
-    product kind (sim_words options object rest) m ≡ with_message (after_object kind (record o { command = Sim }) (program_name object ∷ rest) (file_bytes 16385 object m))
+    product kind (sim_words options object rest) m ≡ with_message (file_ran kind (record o { command = Sim }) (program_name object ∷ rest) Object (file_bytes 16385 object m))
 sim-is kind options object rest o m e f r =
     let words : List Word = sim_words options object rest in
     let order : Order = record o { command = Sim } in
     ap (λ t. with_message (carried_out kind words t m)) e
-    ∙ ap (λ (w : Word). with_message (after_object kind order (program_name w ∷ drop o.rest words) (file_bytes 16385 w m))) (file-behind (codes "sim") options object rest o.file f)
-    ∙ ap (λ (ws : List Word). with_message (after_object kind order (program_name object ∷ ws) (file_bytes 16385 object m))) (rest-behind (codes "sim") options object rest o.rest r)
+    ∙ ap (λ (w : Word). with_message (file_ran kind order (program_name w ∷ drop o.rest words) Object (file_bytes 16385 w m))) (file-behind (codes "sim") options object rest o.file f)
+    ∙ ap (λ (ws : List Word). with_message (file_ran kind order (program_name object ∷ ws) Object (file_bytes 16385 object m))) (rest-behind (codes "sim") options object rest o.rest r)
 
 -- ---- messages
 
@@ -181,33 +191,33 @@ module _ (files : List StoredFile) (slots : List Slot) (m : HostModel) (source o
 
   -- the source is read as before
   source-left : (kind : MachineKind) (o : Order) (args : List Word) → bytes_eq source object ≡ false →
-      after_source kind o args (file_bytes 1025 source a) ≡ after_image kind o args (source_meaning text) behind
+      file_ran kind o args Source (file_bytes 1025 source a) ≡ image_ran kind o args (assembled (source_meaning text)) behind
   source-left kind o args apart =
       let differ : bytes_eq object source ≡ false = nat_list_eq_equiv.symm object source ∙ apart in
       let same : bytes_at others known.at ≡ bytes_at files known.at = bytes-other files object bytes source known.at place differ known.there refl in
       let there : place_of others source ≡ Some known.at = place-other files object bytes source place differ (lies files object) ∙ known.there in
-      ap (λ n. after_source kind o args (file_bytes 1025 source n)) known.left
-      ∙ ap (after_source kind o args) (file-idle 1025 others last m source known.at long there)
-      ∙ ap (λ xs. after_image kind o args (source_meaning xs) behind) (ap (take (4096 * 1025)) same ∙ known.read)
+      ap (λ n. file_ran kind o args Source (file_bytes 1025 source n)) known.left
+      ∙ ap (file_ran kind o args Source) (file-idle 1025 others last m source known.at long there)
+      ∙ ap (λ xs. image_ran kind o args (assembled (source_meaning xs)) behind) (ap (take (4096 * 1025)) same ∙ known.read)
 
   -- and the object as it was written
   object-left : (kind : MachineKind) (o : Order) (args : List Word) → length bytes ≤ 2 ^ 26 →
-      after_object kind o args (file_bytes 16385 object a) ≡ after_loading kind o args (object_loaded bytes) behind
+      file_ran kind o args Object (file_bytes 16385 object a) ≡ image_ran kind o args (loaded (object_loaded bytes)) behind
   object-left kind o args short =
       let held : bytes_at others (home files place) ≡ bytes = at-home files object bytes place (lies files object) in
-      ap (λ n. after_object kind o args (file_bytes 16385 object n)) known.left
-      ∙ ap (after_object kind o args) (file-idle 16385 others last m object (home files place) long (place-home files object bytes place refl (lies files object)))
-      ∙ ap (λ xs. after_loading kind o args (object_loaded xs) behind) (ap (take (4096 * 16385)) held ∙ take_all (4096 * 16385) bytes (omega arith))
+      ap (λ n. file_ran kind o args Object (file_bytes 16385 object n)) known.left
+      ∙ ap (file_ran kind o args Object) (file-idle 16385 others last m object (home files place) long (place-home files object bytes place refl (lies files object)))
+      ∙ ap (λ xs. image_ran kind o args (loaded (object_loaded xs)) behind) (ap (take (4096 * 16385)) held ∙ take_all (4096 * 16385) bytes (omega arith))
 
   -- both files are read, and then the same image is run
   runs-left : (kind : MachineKind) (o : Order) (rest : List Word) → bytes_eq source object ≡ false → program_name source ≡ program_name object → (image : Image) → AreBytes text → source_meaning text ≡ Ok image →
-      after_source kind (record o { command = Run }) (program_name source ∷ rest) (file_bytes 1025 source a)
-      ≡ after_object kind (record o { command = Sim }) (program_name object ∷ rest) (file_bytes 16385 object a)
+      file_ran kind (record o { command = Run }) (program_name source ∷ rest) Source (file_bytes 1025 source a)
+      ≡ file_ran kind (record o { command = Sim }) (program_name object ∷ rest) Object (file_bytes 16385 object a)
   runs-left kind o rest apart alike image each means =
       source-left kind (record o { command = Run }) (program_name source ∷ rest) apart
-      ∙ ap (λ r. after_image kind (record o { command = Run }) (program_name source ∷ rest) r behind) means
+      ∙ ap (λ r. image_ran kind (record o { command = Run }) (program_name source ∷ rest) (assembled r) behind) means
       ∙ ap (λ (w : Word). image_run kind (record o { command = Run }) (w ∷ rest) image behind) alike
-      ∙ ap (λ r. after_loading kind (record o { command = Sim }) (program_name object ∷ rest) r behind) (sym (source-loads text image each means))
+      ∙ ap (λ r. image_ran kind (record o { command = Sim }) (program_name object ∷ rest) (loaded r) behind) (sym (source-loads text image each means))
       ∙ sym (object-left kind (record o { command = Sim }) (program_name object ∷ rest) (source-short text each (accepted-run text image means)))
 
 -- no call that reads the source fails, where none that assembles it does
@@ -319,11 +329,11 @@ comes-still (wild m) o h = h
 
 -- a source that is refused when it is run
 refused-run : (kind : MachineKind) (o : Order) (args : List Word) (text : List ℕ) (m : HostModel) (line fault from : ℕ) →
-    HasOutcome (after_image kind o args (source_meaning text) m) (Refused line fault from) → (r : RunRefusal) × (run_refusal text ≡ Some r) × (r.number ≡ fault)
+    HasOutcome (image_ran kind o args (assembled (source_meaning text)) m) (Refused line fault from) → (r : RunRefusal) × (run_refusal text ≡ Some r) × (r.number ≡ fault)
 unfolding source_meaning
 refused-run kind o args text m line fault from = by (run_refusal text) refl
   where
-    by : (r : Option RunRefusal) → run_refusal text ≡ r → HasOutcome (after_image kind o args (meaning_unless r (image_of (statements_in (source_entries text)))) m) (Refused line fault from) →
+    by : (r : Option RunRefusal) → run_refusal text ≡ r → HasOutcome (image_ran kind o args (assembled (meaning_unless r (image_of (statements_in (source_entries text))))) m) (Refused line fault from) →
         (r : RunRefusal) × (run_refusal text ≡ Some r) × (r.number ≡ fault)
     by None is h = absurd (never-refused (image_run kind o args (image_of (statements_in (source_entries text))) m) line fault from (image-unrefused kind o args _ m) h)
     by (Some r) is h = (r, is, (cc))
@@ -341,17 +351,17 @@ refused-detour kind options source object arguments text m after line fault from
     let sim = product-steady kind (sim_words options object arguments) after in
     let order : Order = record words.order { command = Run } in
     let back : HostModel = behind m.files m.slots m source object text (still after) (omega arith) known in
-    let ran-as : product kind (run_words options source arguments) (still after) ≡ with_message (after_image kind order (program_name source ∷ arguments) (source_meaning text) back) =
+    let ran-as : product kind (run_words options source arguments) (still after) ≡ with_message (image_ran kind order (program_name source ∷ arguments) (assembled (source_meaning text)) back) =
     run-is kind options source arguments words.order (still after) words.run words.file words.rest
     ∙ ap with_message (source-left m.files m.slots m source object text (still after) (omega arith) known kind order (program_name source ∷ arguments) a.apart) in
-    let came : HasOutcome (with_message (after_image kind order (program_name source ∷ arguments) (source_meaning text) back)) (Refused line fault from) =
+    let came : HasOutcome (with_message (image_ran kind order (program_name source ∷ arguments) (assembled (source_meaning text)) back)) (Refused line fault from) =
     subst (λ t. HasOutcome t (Refused line fault from)) (run.same runs ∙ ran-as) (still-comes (product kind (run_words options source arguments) after) (Refused line fault from) told) in
     let found = refused-run kind order (program_name source ∷ arguments) text back line fault from (message-came _ _ came) in
     let pages = pages-refused text found.0 a.bytes none found.1 in
     let simmed : product kind (sim_words options object arguments) (still after) ≡ with_message (answered (BadObject pages.1 90) back) =
     sim-is kind options object arguments words.order (still after) words.sim words.file words.rest
     ∙ ap with_message (object-left m.files m.slots m source object text (still after) (omega arith) known kind (record words.order { command = Sim }) (program_name object ∷ arguments) (source-short text a.bytes none))
-    ∙ ap (λ r. with_message (after_loading kind (record words.order { command = Sim }) (program_name object ∷ arguments) r back)) pages.2 in (
+    ∙ ap (λ r. with_message (image_ran kind (record words.order { command = Sim }) (program_name object ∷ arguments) (loaded r) back)) pages.2 in (
       sym found.2 ∙ pages.0,
       pages.1,
       comes-still (product kind (sim_words options object arguments) after) (BadObject pages.1 90)

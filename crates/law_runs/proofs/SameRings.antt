@@ -10,7 +10,6 @@ use Rattle.mx_core.specs.declared.trace.Trace.{Trace}
 use Rattle.mx_run.specs.WildRuns.{MachineKind, list_machine}
 use Rattle.mx_watch.specs.Reporting.{reports_on}
 use Rattle.mx_watch.specs.Watching.{Watching}
-use Rattle.mx_word.specs.declared.symbols.Symbol.{Symbol}
 use Rattle.mx_words.specs.Orders.{order_of, options_from, blocks_at, valued, gen_order, with_ring, defaults}
 use Rattle.mx_words.specs.Values.{blocks_value, is_number, is_option, ring_value}
 use Rattle.mx_words.specs.declared.order.Command.{Command}
@@ -18,14 +17,14 @@ use Rattle.mx_words.specs.declared.order.Command.TheVariants.{Run, Asm, Sim, Gen
 use Rattle.mx_words.specs.declared.order.Order.{Order}
 use Rattle.mx_begin.specs.Arguments.{Word, word_at, arguments}
 use Rattle.law_gen.specs.Generator.{generated}
-use Rattle.mx_top.specs.Product.{after_image, after_source, after_loading, after_object, loaded_turns, object_turns, after_schedule, generated_run, source_generated, summed_from, ordered, carried_out, with_message, product}
+use Rattle.mx_top.specs.Product.{begun_run, image_turned, after_schedule, generated_run, source_generated, summed_from, ordered, carried_out, with_message, product}
 use Rattle.law_runs.specs.Rings.{DifferInRing, HandsArguments, gen_ring_words, gen_words}
-use Rattle.mx_top.specs.Reports.{traces_from, image_traces, meaning_traces, source_traces, loading_traces, object_traces, ordered_traces, carried_traces, due_reports, with_reports, watched_product}
+use Rattle.mx_top.specs.Reports.{traces_from, begun_traces, ordered_traces, carried_traces, due_reports, with_reports, watched_product}
 use Rattle.mx_top.specs.Runs.{image_run, run_from}
-use Rattle.mx_begin.specs.Begun.{stack_at_start, started}
+use Rattle.mx_begin.specs.Begun.{image_read, stack_at_start, started, started_after}
+use Rattle.mx_begin.specs.declared.images.Form.TheVariants.{Source, Object}
 use Rattle.mx_top.specs.Processors.{image_turns}
 use Rattle.mx_files.specs.Schedules.{schedule_bytes}
-use Rattle.mx_files.specs.Source.{file_bytes, source_pieces, object_pieces}
 use Rattle.mx_outcome.specs.declared.outcome.Outcome.{Outcome}
 use Rattle.mx_files.specs.declared.refusal.Refusal.{Refusal}
 
@@ -41,21 +40,9 @@ module _ (kind : MachineKind) (words others : List Word) (o p : Order) (e : Diff
   same-run : (args : List Word) (image : Image) (m : HostModel) → image_run kind o args image m ≡ image_run kind p args image m
   same-run args image m = same-from (started kind o.ring image args) m ∙ ap (λ r. run_from kind p r m) (start image args)
 
-  same-image : (args : List Word) (r : Result Image Refusal) (m : HostModel) → after_image kind o args r m ≡ after_image kind p args r m
-  same-image args (Err refusal) m = refl
-  same-image args (Ok image) m = same-run args image m
-
-  same-source : (args : List Word) (t : Then (Result (List ℕ) Outcome)) → after_source kind o args t ≡ after_source kind p args t
-  same-source args (Err outcome, m) = refl
-  same-source args (Ok source, m) = same-image args _ m
-
-  same-loading : (args : List Word) (r : Result (Image × List Symbol) (ℕ × ℕ)) (m : HostModel) → after_loading kind o args r m ≡ after_loading kind p args r m
-  same-loading args (Err fault) m = refl
-  same-loading args (Ok loaded) m = same-run args loaded.0 m
-
-  same-object : (args : List Word) (t : Then (Result (List ℕ) Outcome)) → after_object kind o args t ≡ after_object kind p args t
-  same-object args (Err outcome, m) = refl
-  same-object args (Ok object, m) = same-loading args _ m
+  same-begun : (args : List Word) (t : Then (Result Image Outcome)) → begun_run kind o (started_after kind o.ring args t) ≡ begun_run kind p (started_after kind p.ring args t)
+  same-begun args (Err outcome, m) = refl
+  same-begun args (Ok image, m) = same-run args image m
 
   same-generated : (size : ℕ) (r : Result Image Refusal) (m : HostModel) → generated_run kind o size r m ≡ generated_run kind p size r m
   same-generated size (Err refusal) m = refl
@@ -65,21 +52,17 @@ module _ (kind : MachineKind) (words others : List Word) (o p : Order) (e : Diff
   same-image-turns : (schedule : List ℕ) (image : Image) (m : HostModel) → image_turns kind o schedule image m ≡ image_turns kind p schedule image m
   same-image-turns schedule image m = rw (e.dump, e.steps, stacks) refl
 
-  same-loaded-turns : (schedule : List ℕ) (r : Result (Image × List Symbol) (ℕ × ℕ)) (m : HostModel) → loaded_turns kind o schedule r m ≡ loaded_turns kind p schedule r m
-  same-loaded-turns schedule (Err fault) m = refl
-  same-loaded-turns schedule (Ok loaded) m = same-image-turns schedule loaded.0 m
-
-  same-object-turns : (schedule : List ℕ) (t : Then (Result (List ℕ) Outcome)) → object_turns kind o schedule t ≡ object_turns kind p schedule t
-  same-object-turns schedule (Err outcome, m) = refl
-  same-object-turns schedule (Ok object, m) = same-loaded-turns schedule _ m
+  same-turned : (schedule : List ℕ) (t : Then (Result Image Outcome)) → image_turned kind o schedule t ≡ image_turned kind p schedule t
+  same-turned schedule (Err outcome, m) = refl
+  same-turned schedule (Ok image, m) = same-image-turns schedule image m
 
   same-schedule : (name : Word) (t : Then (Result (List ℕ) Outcome)) → after_schedule kind o name t ≡ after_schedule kind p name t
   same-schedule name (Err outcome, m) = refl
-  same-schedule name (Ok schedule, m) = same-object-turns schedule (file_bytes object_pieces name m)
+  same-schedule name (Ok schedule, m) = same-turned schedule (image_read Object name m)
 
   same-ordered : (c : Command) (m : HostModel) → (HandsArguments c → arguments words o ≡ arguments others p) → (c ≡ Multi → word_at words o.schedule ≡ word_at others p.schedule) → ordered kind words o c m ≡ ordered kind others p c m
-  same-ordered Run m h k = rw (h tt, e.file) (same-source (arguments others p) (file_bytes source_pieces (word_at others p.file) m))
-  same-ordered Sim m h k = rw (h tt, e.file) (same-object (arguments others p) (file_bytes object_pieces (word_at others p.file) m))
+  same-ordered Run m h k = rw (h tt, e.file) (same-begun (arguments others p) (image_read Source (word_at others p.file) m))
+  same-ordered Sim m h k = rw (h tt, e.file) (same-begun (arguments others p) (image_read Object (word_at others p.file) m))
   same-ordered Asm m h k = rw (e.object, e.file) refl
   same-ordered Gen m h k = same-generated _ _ m ∙ ap (λ n. source_generated kind p (generated n) m) e.blocks
   same-ordered Show m h k = rw e.file refl
@@ -98,28 +81,13 @@ module _ (kind : MachineKind) (words others : List Word) (o p : Order) (e : Diff
     traced-from (Err outcome) m = refl
     traced-from (Ok s) m = rw (e.interactive, e.last, asks, e.steps) refl
 
-    traced-run : (args : List Word) (image : Image) (m : HostModel) → image_traces kind o args image m ≡ image_traces kind p args image m
-    traced-run args image m = traced-from (started kind o.ring image args) m ∙ ap (λ r. traces_from kind p r m) (start image args)
-
-    traced-meaning : (args : List Word) (r : Result Image Refusal) (m : HostModel) → meaning_traces kind o args r m ≡ meaning_traces kind p args r m
-    traced-meaning args (Err refusal) m = refl
-    traced-meaning args (Ok image) m = traced-run args image m
-
-    traced-source : (args : List Word) (t : Then (Result (List ℕ) Outcome)) → source_traces kind o args t ≡ source_traces kind p args t
-    traced-source args (Err outcome, m) = refl
-    traced-source args (Ok source, m) = traced-meaning args _ m
-
-    traced-loading : (args : List Word) (r : Result (Image × List Symbol) (ℕ × ℕ)) (m : HostModel) → loading_traces kind o args r m ≡ loading_traces kind p args r m
-    traced-loading args (Err fault) m = refl
-    traced-loading args (Ok loaded) m = traced-run args loaded.0 m
-
-    traced-object : (args : List Word) (t : Then (Result (List ℕ) Outcome)) → object_traces kind o args t ≡ object_traces kind p args t
-    traced-object args (Err outcome, m) = refl
-    traced-object args (Ok object, m) = traced-loading args _ m
+    traced-begun : (args : List Word) (t : Then (Result Image Outcome)) → begun_traces kind o (started_after kind o.ring args t) ≡ begun_traces kind p (started_after kind p.ring args t)
+    traced-begun args (Err outcome, m) = refl
+    traced-begun args (Ok image, m) = traced-from (started kind o.ring image args) m ∙ ap (λ r. traces_from kind p r m) (start image args)
 
     traced-ordered : (c : Command) (m : HostModel) → (HandsArguments c → arguments words o ≡ arguments others p) → ordered_traces kind words o c m ≡ ordered_traces kind others p c m
-    traced-ordered Run m h = rw (h tt, e.file) (traced-source (arguments others p) (file_bytes source_pieces (word_at others p.file) m))
-    traced-ordered Sim m h = rw (h tt, e.file) (traced-object (arguments others p) (file_bytes object_pieces (word_at others p.file) m))
+    traced-ordered Run m h = rw (h tt, e.file) (traced-begun (arguments others p) (image_read Source (word_at others p.file) m))
+    traced-ordered Sim m h = rw (h tt, e.file) (traced-begun (arguments others p) (image_read Object (word_at others p.file) m))
     traced-ordered Asm m h = refl
     traced-ordered Gen m h = refl
     traced-ordered Show m h = refl

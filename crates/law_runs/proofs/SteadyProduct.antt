@@ -49,9 +49,11 @@ use Rattle.mx_outcome.specs.Messages.{message_of}
 use Rattle.mx_files.specs.Objects.{Assembled, source_object}
 use Rattle.mx_files.specs.Pieces.{put_text}
 use Rattle.mx_files.specs.Assembling.{closed_object, written_object, assembled_outcome, object_put, after_opening, after_reading}
-use Rattle.mx_top.specs.Product.{after_image, after_source, after_loading, after_object, generator_steps, summed, summed_from, generated_run, run_ordered, sim_ordered, loaded_turns, object_turns, after_schedule, multi_ordered, ordered, carried_out, message_told, with_message, product}
+use Rattle.mx_top.specs.Product.{begun_run, generator_steps, summed, summed_from, generated_run, image_turned, after_schedule, multi_ordered, ordered, carried_out, message_told, with_message, product}
 use Rattle.mx_top.specs.Runs.{ran, ran_to, outcome_of, takes_back, state_lines, reached, lines_told, taken_back, run_back, played, session_outcome, session_ran, dumped, run_from, image_run}
-use Rattle.mx_begin.specs.Begun.{stack_at_start, started}
+use Rattle.mx_begin.specs.Begun.{image_in, most_pieces, image_after, stack_at_start, started, started_after, begun}
+use Rattle.mx_begin.specs.declared.images.Form.{Form}
+use Rattle.mx_begin.specs.declared.images.Form.TheVariants.{Source, Object}
 use Rattle.mx_top.specs.Processors.{processors_named, multi_lines, multi_outcome, turns_told, joint_run}
 use Rattle.mx_files.specs.Schedules.{schedule_from, schedule_bytes}
 use Rattle.mx_multi.specs.Joint.{Joint}
@@ -188,31 +190,21 @@ image-steady kind o words image m = from-steady kind o (started kind o.ring imag
 
 -- ---- `run` and `sim`
 
-after_image-steady : (kind : MachineKind) (o : Order) (words : List Word) (r : Result Image Refusal) (m : HostModel) → SparedAnswers m (after_image kind o words r m) (after_image kind o words r (still m))
-after_image-steady kind o words (Err refusal) m = uncalled
-after_image-steady kind o words (Ok image) m = image-steady kind o words image m
+image-case : (kind : MachineKind) (o : Order) (words : List Word) (r : Result Image Outcome) (m : HostModel) →
+    SparedAnswers m (begun_run kind o (started_after kind o.ring words (r, m))) (begun_run kind o (started_after kind o.ring words (r, still m)))
+image-case kind o words (Err outcome) m = uncalled
+image-case kind o words (Ok image) m = image-steady kind o words image m
 
-source-case : (kind : MachineKind) (o : Order) (words : List Word) (r : Result (List ℕ) Outcome) (m : HostModel) → SparedAnswers m (after_source kind o words (r, m)) (after_source kind o words (r, still m))
-source-case kind o words (Err outcome) m = uncalled
-source-case kind o words (Ok source) m = after_image-steady kind o words (source_meaning source) m
+file-case : (kind : MachineKind) (o : Order) (words : List Word) (form : Form) (r : Result (List ℕ) Outcome) (m : HostModel) →
+    SparedAnswers m (begun_run kind o (started_after kind o.ring words (image_after form (r, m)))) (begun_run kind o (started_after kind o.ring words (image_after form (r, still m))))
+file-case kind o words form (Err outcome) m = uncalled
+file-case kind o words form (Ok bytes) m = image-case kind o words (image_in form bytes) m
 
-loading-steady : (kind : MachineKind) (o : Order) (words : List Word) (r : Result (Image × List Symbol) (ℕ × ℕ)) (m : HostModel) → SparedAnswers m (after_loading kind o words r m) (after_loading kind o words r (still m))
-loading-steady kind o words (Err (place, fault)) m = uncalled
-loading-steady kind o words (Ok (image, symbols)) m = image-steady kind o words image m
-
-object-case : (kind : MachineKind) (o : Order) (words : List Word) (r : Result (List ℕ) Outcome) (m : HostModel) → SparedAnswers m (after_object kind o words (r, m)) (after_object kind o words (r, still m))
-object-case kind o words (Err outcome) m = uncalled
-object-case kind o words (Ok object) m = loading-steady kind o words (object_loaded object) m
-
-run-order : (kind : MachineKind) (words : List Word) (o : Order) (m : HostModel) → SparedAnswers m (run_ordered kind words o m) (run_ordered kind words o (still m))
-run-order kind words o m =
-    behind (after_source kind o (arguments words o)) (file_bytes source_pieces (word_at words o.file) m) (file_bytes source_pieces (word_at words o.file) (still m))
-    (source-case kind o (arguments words o)) (file-steady source_pieces (word_at words o.file) m)
-
-sim-order : (kind : MachineKind) (words : List Word) (o : Order) (m : HostModel) → SparedAnswers m (sim_ordered kind words o m) (sim_ordered kind words o (still m))
-sim-order kind words o m =
-    behind (after_object kind o (arguments words o)) (file_bytes object_pieces (word_at words o.file) m) (file_bytes object_pieces (word_at words o.file) (still m))
-    (object-case kind o (arguments words o)) (file-steady object_pieces (word_at words o.file) m)
+begun-steady : (kind : MachineKind) (words : List Word) (o : Order) (form : Form) (m : HostModel) →
+    SparedAnswers m (begun_run kind o (begun kind words o form m)) (begun_run kind o (begun kind words o form (still m)))
+begun-steady kind words o form m =
+    behind (λ t. begun_run kind o (started_after kind o.ring (arguments words o) (image_after form t))) (file_bytes (most_pieces form) (word_at words o.file) m) (file_bytes (most_pieces form) (word_at words o.file) (still m))
+    (file-case kind o (arguments words o) form) (file-steady (most_pieces form) (word_at words o.file) m)
 
 -- ---- `asm`
 
@@ -299,18 +291,19 @@ joint-steady : (kind : MachineKind) (o : Order) (schedule : List ℕ) (j : Joint
 joint-steady kind o schedule j m =
     after (turns_told o.dump o.steps) (turns-steady kind schedule o.steps schedule j m) (turns-case o.dump o.steps (turns kind schedule o.steps schedule j m))
 
-loaded-turns : (kind : MachineKind) (o : Order) (schedule : List ℕ) (r : Result (Image × List Symbol) (ℕ × ℕ)) (m : HostModel) → SparedAnswers m (loaded_turns kind o schedule r m) (loaded_turns kind o schedule r (still m))
-loaded-turns kind o schedule (Err (place, fault)) m = uncalled
-loaded-turns kind o schedule (Ok (image, symbols)) m = joint-steady kind o schedule (joint.started image (processors_named schedule) (stack_at_start kind o.ring)) m
+turned-case : (kind : MachineKind) (o : Order) (schedule : List ℕ) (r : Result Image Outcome) (m : HostModel) → SparedAnswers m (image_turned kind o schedule (r, m)) (image_turned kind o schedule (r, still m))
+turned-case kind o schedule (Err outcome) m = uncalled
+turned-case kind o schedule (Ok image) m = joint-steady kind o schedule (joint.started image (processors_named schedule) (stack_at_start kind o.ring)) m
 
-object-turns : (kind : MachineKind) (o : Order) (schedule : List ℕ) (r : Result (List ℕ) Outcome) (m : HostModel) → SparedAnswers m (object_turns kind o schedule (r, m)) (object_turns kind o schedule (r, still m))
+object-turns : (kind : MachineKind) (o : Order) (schedule : List ℕ) (r : Result (List ℕ) Outcome) (m : HostModel) →
+    SparedAnswers m (image_turned kind o schedule (image_after Object (r, m))) (image_turned kind o schedule (image_after Object (r, still m)))
 object-turns kind o schedule (Err outcome) m = uncalled
-object-turns kind o schedule (Ok object) m = loaded-turns kind o schedule (object_loaded object) m
+object-turns kind o schedule (Ok object) m = turned-case kind o schedule (image_in Object object) m
 
 schedule-case : (kind : MachineKind) (o : Order) (name : Word) (r : Result (List ℕ) Outcome) (m : HostModel) → SparedAnswers m (after_schedule kind o name (r, m)) (after_schedule kind o name (r, still m))
 schedule-case kind o name (Err outcome) m = uncalled
 schedule-case kind o name (Ok schedule) m =
-    behind (object_turns kind o schedule) (file_bytes object_pieces name m) (file_bytes object_pieces name (still m)) (object-turns kind o schedule) (file-steady object_pieces name m)
+    behind (λ t. image_turned kind o schedule (image_after Object t)) (file_bytes object_pieces name m) (file_bytes object_pieces name (still m)) (object-turns kind o schedule) (file-steady object_pieces name m)
 
 judged-case : (r : Result (List ℕ) Outcome) (m : HostModel) → Spared m (schedule_from (r, m)) (schedule_from (r, still m))
 judged-case (Err outcome) m = uncalled
@@ -327,8 +320,8 @@ multi-order kind words o m =
 -- ---- the words, and the message
 
 ordered-steady : (kind : MachineKind) (words : List Word) (o : Order) (c : Command) (m : HostModel) → SparedAnswers m (ordered kind words o c m) (ordered kind words o c (still m))
-ordered-steady kind words o Run m = run-order kind words o m
-ordered-steady kind words o Sim m = sim-order kind words o m
+ordered-steady kind words o Run m = begun-steady kind words o Source m
+ordered-steady kind words o Sim m = begun-steady kind words o Object m
 ordered-steady kind words o Asm m = asm-order (word_at words o.file) (word_at words o.rest) m
 ordered-steady kind words o Gen m = generated-steady kind o (length (generated o.number)) (source_meaning (generated o.number)) m
 ordered-steady kind words o Show m = show-order (word_at words o.file) m

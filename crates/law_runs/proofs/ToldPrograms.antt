@@ -44,9 +44,11 @@ use Rattle.mx_outcome.specs.Messages.{message_of}
 use Rattle.mx_files.specs.Objects.{Assembled, source_object}
 use Rattle.mx_files.specs.Pieces.{put_text}
 use Rattle.mx_files.specs.Assembling.{object_slot, closed_object, written_object, assembled_outcome, object_put, after_opening, after_reading}
-use Rattle.mx_top.specs.Product.{after_image, after_source, after_loading, after_object, loaded_turns, object_turns, after_schedule, generator_steps, summed, summed_from, generated_run, ordered, carried_out, message_told, with_message, product}
+use Rattle.mx_top.specs.Product.{begun_run, image_turned, after_schedule, generator_steps, summed, summed_from, generated_run, ordered, carried_out, message_told, with_message, product}
 use Rattle.mx_top.specs.Runs.{Ran, ran, ran_wild, machine_ran, session_outcome, played, takes_back, states_back, state_lines, reached, lines_told, taken_back, order_ran, dumped, run_from, image_run}
-use Rattle.mx_begin.specs.Begun.{main_address, begun_at, stack_at_start, started}
+use Rattle.mx_begin.specs.Begun.{assembled, loaded, image_in, most_pieces, image_after, image_read, main_address, begun_at, stack_at_start, started, started_after}
+use Rattle.mx_begin.specs.declared.images.Form.{Form}
+use Rattle.mx_begin.specs.declared.images.Form.TheVariants.{Source, Object}
 use Rattle.mx_files.specs.Source.{input_slot, piece_read, one_piece, next_piece, pieces, closed_with, closed_after, read_after, file_bytes}
 use Rattle.mx_files.specs.Sources.{source_meaning}
 use Rattle.mx_top.specs.Processors.{processors_named, multi_lines, multi_outcome, turns_told, image_turns}
@@ -188,21 +190,28 @@ image-told kind o words image m =
 
 -- ---- the commands
 
-meant-told : (kind : MachineKind) (o : Order) (words : List Word) (r : Result Image Refusal) (m : HostModel) → AnswerTold (after_image kind o words r m)
-meant-told kind o words (Ok image) m = image-told kind o words image m
-meant-told kind o words (Err refusal) m = refl
+assembles-told : (r : Result Image Refusal) → ReadTold (assembled r)
+assembles-told (Ok image) = tt
+assembles-told (Err refusal) = refl
 
-source-told : (kind : MachineKind) (o : Order) (words : List Word) (t : Then (Result (List ℕ) Outcome)) → ReadTold t.0 → AnswerTold (after_source kind o words t)
-source-told kind o words (Ok source, m) h = meant-told kind o words (source_meaning source) m
-source-told kind o words (Err outcome, m) h = h
+loads-told : (r : Result (Image × List Symbol) (ℕ × ℕ)) → ReadTold (loaded r)
+loads-told (Ok (image, symbols)) = tt
+loads-told (Err (place, fault)) = refl
 
-loaded-told : (kind : MachineKind) (o : Order) (words : List Word) (r : Result (Image × List Symbol) (ℕ × ℕ)) (m : HostModel) → AnswerTold (after_loading kind o words r m)
-loaded-told kind o words (Ok (image, symbols)) m = image-told kind o words image m
-loaded-told kind o words (Err (place, fault)) m = refl
+image_in-told : (form : Form) (bytes : List ℕ) → ReadTold (image_in form bytes)
+image_in-told Source bytes = assembles-told (source_meaning bytes)
+image_in-told Object bytes = loads-told (object_loaded bytes)
 
-object-told : (kind : MachineKind) (o : Order) (words : List Word) (t : Then (Result (List ℕ) Outcome)) → ReadTold t.0 → AnswerTold (after_object kind o words t)
-object-told kind o words (Ok object, m) h = loaded-told kind o words (object_loaded object) m
-object-told kind o words (Err outcome, m) h = h
+image_after-told : (form : Form) (t : Then (Result (List ℕ) Outcome)) → ReadTold t.0 → ReadTold (image_after form t).0
+image_after-told form (Ok bytes, m) h = image_in-told form bytes
+image_after-told form (Err outcome, m) h = h
+
+image_read-told : (form : Form) (name : Word) (m : HostModel) → ReadTold (image_read form name m).0
+image_read-told form name m = image_after-told form (file_bytes (most_pieces form) name m) (file-told (most_pieces form) name m)
+
+begun_run-told : (kind : MachineKind) (o : Order) (words : List Word) (t : Then (Result Image Outcome)) → ReadTold t.0 → AnswerTold (begun_run kind o (started_after kind o.ring words t))
+begun_run-told kind o words (Ok image, m) h = image-told kind o words image m
+begun_run-told kind o words (Err outcome, m) h = h
 
 assembled-told : (r : Result (Unit {0}) Refusal) → OutcomeTold (assembled_outcome r)
 assembled-told (Ok u) = refl
@@ -293,16 +302,12 @@ image_turns-told kind o schedule image m =
     let j = joint.started image (processors_named schedule) (stack_at_start kind o.ring) in
     multi-told o.dump o.steps (turns kind schedule o.steps schedule j m) (turns-told kind schedule o.steps schedule j m)
 
-loaded_turns-told : (kind : MachineKind) (o : Order) (schedule : List ℕ) (r : Result (Image × List Symbol) (ℕ × ℕ)) (m : HostModel) → AnswerTold (loaded_turns kind o schedule r m)
-loaded_turns-told kind o schedule (Ok (image, symbols)) m = image_turns-told kind o schedule image m
-loaded_turns-told kind o schedule (Err (place, fault)) m = refl
-
-object_turns-told : (kind : MachineKind) (o : Order) (schedule : List ℕ) (t : Then (Result (List ℕ) Outcome)) → ReadTold t.0 → AnswerTold (object_turns kind o schedule t)
-object_turns-told kind o schedule (Ok object, m) h = loaded_turns-told kind o schedule (object_loaded object) m
-object_turns-told kind o schedule (Err outcome, m) h = h
+image_turned-told : (kind : MachineKind) (o : Order) (schedule : List ℕ) (t : Then (Result Image Outcome)) → ReadTold t.0 → AnswerTold (image_turned kind o schedule t)
+image_turned-told kind o schedule (Ok image, m) h = image_turns-told kind o schedule image m
+image_turned-told kind o schedule (Err outcome, m) h = h
 
 schedule-told : (kind : MachineKind) (o : Order) (name : Word) (t : Then (Result (List ℕ) Outcome)) → ReadTold t.0 → AnswerTold (after_schedule kind o name t)
-schedule-told kind o name (Ok schedule, m) h = object_turns-told kind o schedule (file_bytes 16385 name m) (file-told 16385 name m)
+schedule-told kind o name (Ok schedule, m) h = image_turned-told kind o schedule (image_read Object name m) (image_read-told Object name m)
 schedule-told kind o name (Err outcome, m) h = h
 
 judged-told : (fault : Option ℕ) (bytes : List ℕ) → ReadTold (judged fault bytes)
@@ -315,8 +320,8 @@ from_schedule-told (Ok bytes, m) h = judged-told (schedule_fault bytes) bytes
 from_schedule-told (Err outcome, m) h = h
 
 ordered-told : (kind : MachineKind) (words : List Word) (o : Order) (c : Command) (m : HostModel) → AnswerTold (ordered kind words o c m)
-ordered-told kind words o Run m = source-told kind o (arguments words o) (file_bytes 1025 (word_at words o.file) m) (file-told 1025 (word_at words o.file) m)
-ordered-told kind words o Sim m = object-told kind o (arguments words o) (file_bytes 16385 (word_at words o.file) m) (file-told 16385 (word_at words o.file) m)
+ordered-told kind words o Run m = begun_run-told kind o (arguments words o) (image_read Source (word_at words o.file) m) (image_read-told Source (word_at words o.file) m)
+ordered-told kind words o Sim m = begun_run-told kind o (arguments words o) (image_read Object (word_at words o.file) m) (image_read-told Object (word_at words o.file) m)
 ordered-told kind words o Asm m =
     plainly-told (after_reading (word_at words o.rest) (file_bytes 1025 (word_at words o.file) m))
     (reading-told (word_at words o.rest) (file_bytes 1025 (word_at words o.file) m) (file-told 1025 (word_at words o.file) m))

@@ -3,7 +3,8 @@
 use crate::sheet::sheet;
 use crate::showing::json_line;
 use crate::{OUT_OF_MEMORY, told};
-use mx_count::{CountedLines, LineSheet, arguments, count_file, count_lines};
+use mx_begin::arguments;
+use mx_count::{CountedLines, LineSheet, count_file, count_lines};
 use mx_files::write_line;
 use mx_outcome::Outcome;
 use mx_real::RealHost;

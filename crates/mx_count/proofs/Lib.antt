@@ -5,6 +5,6 @@ pub mod SheetRows
 pub mod ToldCounts
 pub mod Alone
 pub mod CountedRuns
-pub mod ArgumentWords
 pub mod TraceCounts
 pub mod ReadSheets
+pub mod TracedLines

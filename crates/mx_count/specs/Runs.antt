@@ -1,13 +1,9 @@
 -- What a source comes to that is run and counted: the outcome, the host as it then stands, and the sheet where a machine ran, as a text or
 -- as data.
-use Rattle.std.specs.Prelude.{ℕ, ◌≡◌, ◌≢◌, ◌-◌, ◌*◌, ◌/◌, ◌||◌, IsTrue, false, if◌then◌else◌, List, [], ◌∷◌, length, take, drop, codes, Option, None, Some, Result, Ok, Err, slice_get, unwrap_or}
-use Rattle.std.specs.Str.{bytes_eq}
+use Rattle.std.specs.Prelude.{ℕ, ◌≡◌, ◌≢◌, IsTrue, false, List, Option, None, Some, Result, Ok, Err}
 use Rattle.mx_host.specs.HostModel.{HostModel, tells, contents}
 use Rattle.mx_host.specs.HostAnswer.{Then}
 use Rattle.mx_mmo.specs.Image.{Image}
-use Rattle.mx_ring.specs.Stack.{windowed}
-use Rattle.mx_ring.specs.Window.{window_at_start}
-use Rattle.mx_start.specs.Start.{start}
 use Rattle.mx_core.specs.State.{State}
 use Rattle.mx_run.specs.Runs.{Ended, ended, no_flags, run}
 use Rattle.mx_run.specs.WildRuns.{window_machine}
@@ -17,13 +13,17 @@ use Rattle.mx_watch.specs.Traces.{traces}
 use Rattle.mx_watch.specs.Watching.{Watching}
 use Rattle.mx_words.specs.declared.order.Order.{Order}
 use Rattle.mx_word.specs.declared.no_memory.NoMemory.{NoMemory}
+use Rattle.mx_begin.specs.Begun.{started}
 use Rattle.mx_files.specs.Assembling.{refused_with}
 use Rattle.mx_files.specs.Source.{file_bytes, source_pieces}
 use Rattle.mx_files.specs.Sources.{source_meaning}
 use Rattle.mx_files.specs.declared.refusal.Refusal.{Refusal}
 use Rattle.mx_outcome.specs.declared.outcome.Outcome.{Outcome}
 use Rattle.mx_outcome.specs.declared.outcome.Outcome.TheVariants.{Done, Stopped, StepsSpent, OutOfMemory}
+use Rattle.mx_view.specs.Loads.{loads_of}
 use Rattle.mx_count.specs.Reports.{report_data, report_of}
+use Rattle.mx_count.specs.Sheets.{sheet_data}
+use Rattle.mx_count.specs.Tallies.{tally_in}
 use Rattle.mx_count.specs.declared.count.Counted.{Counted}
 use Rattle.mx_count.specs.declared.counts.Form.{Form}
 use Rattle.mx_count.specs.declared.counts.Form.TheVariants.{Octas, Text}
@@ -40,17 +40,6 @@ outcome_of steps (ending.Broke kind at traced) = OutOfMemory
 outcome_of steps (ending.Traced trace) = OutOfMemory
 outcome_of steps ending.Spent = StepsSpent steps
 outcome_of steps ending.OutOfMemory = OutOfMemory
-
--- a machine that starts with its program at this address, or the stop of one whose pages are full
-abbrev pub pages_full : ℕ
-pages_full = 118
-
-abbrev pub begun_at : ℕ → Option State → Result State Outcome
-begun_at pc None = Err (Stopped pc pages_full)
-begun_at pc (Some s) = Ok s
-
-abbrev pub started : ℕ → Image → List (List ℕ) → Result State Outcome
-started ring image arguments = begun_at (image.global 255 / 4 * 4) (start image arguments (windowed (window_at_start ring)))
 
 -- ---- what is counted
 
@@ -73,7 +62,7 @@ start_counted form steps source (Ok s) m = machine_counted form steps source s m
 -- a source is refused, or its image is run
 abbrev pub meaning_counted : Form → Order → List (List ℕ) → List ℕ → Result Image Refusal → HostModel → Then Counted
 meaning_counted form o arguments source (Err refusal) m = uncounted (refused_with refusal) m
-meaning_counted form o arguments source (Ok image) m = start_counted form o.steps source (started o.ring image arguments) m
+meaning_counted form o arguments source (Ok image) m = start_counted form o.steps source (started window_machine o.ring image arguments) m
 
 abbrev pub source_counted : Order → List (List ℕ) → Then (Result (List ℕ) Outcome) → Then Counted
 source_counted o arguments (Err outcome, m) = uncounted outcome m
@@ -103,6 +92,35 @@ source_lines o arguments (Ok source, m) = as_data source (meaning_counted Octas 
 abbrev pub lines_counted : Order → List ℕ → List (List ℕ) → HostModel → Then CountedLines
 lines_counted o name arguments m = source_lines o arguments (file_bytes source_pieces name m)
 
+-- ---- the same data, in words of the traces alone
+
+-- an outcome without a sheet
+abbrev pub untraced : Outcome → HostModel → Then CountedLines
+untraced outcome m = (record { outcome = outcome; sheet = None }, m)
+
+abbrev pub lines_as : ℕ → LineSheet → Ended → Then CountedLines
+lines_as steps sheet e = (record { outcome = outcome_of steps e.end; sheet = Some sheet }, e.host)
+
+-- each line has the tally of the traces at the tetras that it loads
+abbrev pub machine_traced : ℕ → List ℕ → State → HostModel → Then CountedLines
+machine_traced steps source s m =
+    lines_as steps (sheet_data source (loads_of source) (λ test. tally_in test (traces window_machine steps s m))) (run steps no_flags false s m)
+
+abbrev pub start_traced : ℕ → List ℕ → Result State Outcome → HostModel → Then CountedLines
+start_traced steps source (Err outcome) m = untraced outcome m
+start_traced steps source (Ok s) m = machine_traced steps source s m
+
+abbrev pub meaning_traced : Order → List (List ℕ) → List ℕ → Result Image Refusal → HostModel → Then CountedLines
+meaning_traced o arguments source (Err refusal) m = untraced (refused_with refusal) m
+meaning_traced o arguments source (Ok image) m = start_traced o.steps source (started window_machine o.ring image arguments) m
+
+abbrev pub source_traced : Order → List (List ℕ) → Then (Result (List ℕ) Outcome) → Then CountedLines
+source_traced o arguments (Err outcome, m) = untraced outcome m
+source_traced o arguments (Ok source, m) = meaning_traced o arguments source (source_meaning source) m
+
+abbrev pub lines_traced : Order → List ℕ → List (List ℕ) → HostModel → Then CountedLines
+lines_traced o name arguments m = source_traced o arguments (file_bytes source_pieces name m)
+
 -- ---- the words of clauses: `old` and `new` are what the host told before and after
 
 -- over a host that tells its contents, what is counted and what the host then holds are those of f, unless out of memory
@@ -118,25 +136,3 @@ EndsReported old new before after n w (Err e) = Unit {0}
 EndsReported old new before after n w (Ok (end, text)) =
     IsTrue (tells old) → (ended end after (contents new) ≡ run n no_flags false before (contents old))
     × (text ≡ w.text (traces window_machine n before (contents old)))
-
--- ---- the arguments, from the words of the command line
-
-abbrev pub Word : Type 0
-Word = List ℕ
-
--- the word at a place
-abbrev pub word_at : List Word → ℕ → Word
-word_at words place = unwrap_or (slice_get words place) []
-
--- the last four bytes of a word
-abbrev pub suffix : Word → List ℕ
-suffix word = drop (length word - 4) word
-
--- argument 0: the word that names the file, without a last `.mms` or `.mmo`
-abbrev pub program_name : Word → Word
-program_name word =
-    if bytes_eq (suffix word) (codes ".mms") || bytes_eq (suffix word) (codes ".mmo") then take (length word - 4) word else word
-
--- argument 0, and the words behind the file
-abbrev pub arguments : List Word → Order → List Word
-arguments words o = program_name (word_at words o.file) ∷ drop o.rest words

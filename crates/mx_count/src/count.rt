@@ -5,7 +5,9 @@ ghost use Rattle.mx_core.specs.Kept.{state_of};
 ghost use Rattle.mx_host.specs.Keeping.{ComesByFault, Keeps, OnlyByFailure};
 ghost use Rattle.mx_load.specs.Kept.{image_of};
 ghost use Rattle.mx_word.specs.Results.{map_ok};
+ghost use Rattle.mx_begin.specs.Begun.{started};
 ghost use Rattle.mx_files.specs.Sources.{source_meaning};
+ghost use Rattle.mx_run.specs.WildRuns.{window_machine};
 ghost use Rattle.mx_count.specs.Runs as spec;
 ghost use Rattle.mx_count.specs.Runs.{CountsAs};
 
@@ -64,7 +66,7 @@ fn start(
 ) -> Result<Machine, Outcome>
     requires { 1 ≤ length arguments.now }
     ensures window { result ≢ Err Outcome.OutOfMemory → map_ok state_of result
-        ≡ spec.started ring (image_of image) arguments.now }
+        ≡ started window_machine ring (image_of image) arguments.now }
     ensures well { result ≢ Err Outcome.HostFault }
     ensures present { result ≢ Err Outcome.NoFile }
 {
@@ -117,7 +119,7 @@ fn count_image<H: Host>(
 ) -> Counted
     requires { 1 ≤ length arguments.now }
     ensures told { CountsAs (H.told host.old) (H.told host.new) result (λ m. spec.start_counted form order.now.steps
-        source.now (spec.started order.now.ring (image_of image) arguments.now) m) }
+        source.now (started window_machine order.now.ring (image_of image) arguments.now) m) }
     ensures well { result.outcome ≢ Outcome.HostFault }
     ensures present { result.outcome ≢ Outcome.NoFile }
     ensures keeps { Keeps (H.told host.old) (H.told host.new) (H.faults host.old) (H.faults host.new) }

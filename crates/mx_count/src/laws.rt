@@ -1,14 +1,17 @@
 //! What counts come to, in words of the traces alone.
 
-ghost use Rattle.std.specs.Prelude.{◌≡◌, ◌==◌, ◌&&◌, [], ◌∷◌, ℕ, Bool, List, false, true, length};
+ghost use Rattle.std.specs.Prelude.{◌≡◌, ◌≤◌, ◌^◌, ◌==◌, ◌&&◌, [], ◌∷◌, ℕ, Bool, List, false, true, length};
 ghost use Rattle.std.specs.List.{filter, sum_by};
 ghost use Rattle.mx_core.specs.declared.trace.Trace.{Trace};
+ghost use Rattle.mx_host.specs.HostModel.{HostModel};
 ghost use Rattle.mx_view.specs.declared.cells.Cell.{Cell};
 ghost use Rattle.mx_count.specs.Costs.{mems, oops};
 ghost use Rattle.mx_view.specs.Loads.{loads_of};
 ghost use Rattle.mx_count.specs.Reports.{HasOctas, report_data, report_of};
+ghost use Rattle.mx_count.specs.Runs.{lines_counted, lines_traced};
 ghost use Rattle.mx_count.specs.Sheets.{is_among, sheet_data};
 ghost use Rattle.mx_count.specs.declared.counts.Form.TheVariants.{Octas};
+ghost use Rattle.mx_words.specs.declared.order.Order.{Order};
 ghost use Rattle.mx_count.specs.Tallies.{added, code_in, goes_away, nothing, tally_in};
 
 /// The tally of addresses has the number of the traces there, how many of them have another next address than the one
@@ -41,4 +44,12 @@ pub fn sheets_are_read_back()
     ensures { (source : List ℕ) (h : List Trace) → HasOctas (tally_in (λ a. true) h) →
         report_data source (report_of Octas source h)
         ≡ sheet_data source (loads_of source) (λ test. tally_in test h) }
+{}
+
+/// `count_lines` gives the sheet of the traces: in a run of at most 10^12 steps, which is the most that the words of the
+/// command line allow, each line has the tally of the steps at the tetras that it loads.
+#[tactic(auto, using(crate::proofs::TracedLines::traced))]
+pub fn counted_lines_are_those_of_the_traces()
+    ensures { (o : Order) (name : List ℕ) (arguments : List (List ℕ)) (m : HostModel) → o.steps ≤ 10 ^ 12 →
+        lines_counted o name arguments m ≡ lines_traced o name arguments m }
 {}

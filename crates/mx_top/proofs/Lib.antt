@@ -17,7 +17,6 @@ pub mod MachinePlans
 pub mod LastStates
 pub mod TakenBack
 pub mod WorkParts
-pub mod Halves
 pub mod ProductEnds
 pub mod ProgramHeld
 pub mod Saying

@@ -49,14 +49,12 @@ use Rattle.mx_begin.specs.declared.images.Form.TheVariants.{Source, Object}
 use Rattle.mx_begin.proofs.Beginnings.{image-end, begin-end}
 use Rattle.mx_dump.specs.Dump.{dump_lines}
 use Rattle.mx_top.specs.Processors.{processors_named, turns_told, joint_run, image_turns}
-use Rattle.mx_top.specs.Product.{generator_steps, summed, summed_from, generated_run, source_generated, object_turns, after_schedule, ordered, carried_out, message_told}
+use Rattle.mx_top.specs.Product.{generator_steps, summed, summed_from, generated_run, source_generated, begun_run, image_turned, after_schedule, ordered, carried_out, message_told}
 use Rattle.mx_top.specs.ProductPlan as plans
 use Rattle.mx_top.specs.ProgramCalls.{program, ProgramPlan, on_host, steps_plan, reported_plan, keeping_plan, sitting_plan, turns_made}
 use Rattle.mx_top.specs.Reports.{report_put, reports_put}
 use Rattle.mx_top.specs.Runs.{ran, dumped, ran_to, machine_ran, session_ran, played, outcome_of, takes_back, state_lines, reached, lines_told, taken_back, run_back, run_from}
 use Rattle.mx_begin.specs.Begun.{started, stack_at_start, image_read, begun}
-use Rattle.mx_top.specs.Halves.{begun_run}
-use Rattle.mx_top.proofs.Halves.{run-joins, sim-joins, turned, turned-same}
 use Rattle.mx_top.proofs.TakenBack.{faulted, no-last}
 use Rattle.mx_top.proofs.WorkPlans.{end_on_host}
 
@@ -216,11 +214,10 @@ image-turns-end o schedule image m =
     let j = joint.started image (processors_named schedule) (stack_at_start window_machine o.ring) in
     ap plainly (taking-end (plans.joint_plan o schedule j) m) ∙ joint-end o schedule j m
 
-turns-file-end : (o : Order) (name : Word) (schedule : List ℕ) (m : HostModel) → plainly (end_of program (plans.turns_file_plan o name schedule) m) ≡ object_turns window_machine o schedule (file_bytes 16385 name m)
+turns-file-end : (o : Order) (name : Word) (schedule : List ℕ) (m : HostModel) → plainly (end_of program (plans.turns_file_plan o name schedule) m) ≡ image_turned window_machine o schedule (image_read Object name m)
 unfolding plans.turns_file_plan
 turns-file-end o name schedule m =
-    part-end (plans.image_turns_plan o schedule) (turned window_machine o schedule) (image_file_plan Object name) m (image_read Object name m) (image-end Object name m) (λ x n. refl) (λ x n. image-turns-end o schedule x n)
-    ∙ turned-same window_machine o schedule (file_bytes 16385 name m)
+    part-end (plans.image_turns_plan o schedule) (image_turned window_machine o schedule) (image_file_plan Object name) m (image_read Object name m) (image-end Object name m) (λ x n. refl) (λ x n. image-turns-end o schedule x n)
 
 judged-end : (t : Then (Result (List ℕ) Outcome)) → end_after host (on_ok (λ bytes. returns (schedule_in bytes))) t ≡ schedule_from t
 unfolding end_of
@@ -241,8 +238,8 @@ multi-end o schedule object m = part-end (plans.turns_file_plan o object) (after
 
 ordered-end : (words : List Word) (o : Order) (command : Command) (m : HostModel) → plainly (end_of program (plans.ordered_plan words o command) m) ≡ ordered window_machine words o command m
 unfolding plans.ordered_plan
-ordered-end words o Run m = begun-end words o Source m ∙ run-joins window_machine words o m
-ordered-end words o Sim m = begun-end words o Object m ∙ sim-joins window_machine words o m
+ordered-end words o Run m = begun-end words o Source m
+ordered-end words o Sim m = begun-end words o Object m
 ordered-end words o Asm m = host-answer (assemble_plan (word_at words o.file) (word_at words o.rest)) m ∙ ap plainly (assemble-end (word_at words o.file) (word_at words o.rest) m)
 ordered-end words o Gen m = ap plainly (taking-end (plans.generated_plan o (generated o.number)) m) ∙ generated-end o (generated o.number) m
 ordered-end words o Show m = host-answer (list_plan (word_at words o.file)) m ∙ list-end (word_at words o.file) m

@@ -3,7 +3,6 @@ pub mod Runs
 pub mod Processors
 pub mod Product
 pub mod Reports
-pub mod Halves
 pub mod ProgramCalls
 pub mod ProductPlan
 pub mod WorkClauses

@@ -4,24 +4,23 @@ use Rattle.std.specs.Prelude.{ℕ, ◌^◌, List, [], ◌∷◌, length, Result,
 use Rattle.mx_host.specs.HostModel.{HostModel}
 use Rattle.mx_host.specs.HostAnswer.{Then, write_answer}
 use Rattle.mx_mmo.specs.Image.{Image}
-use Rattle.mx_load.specs.Objects.{object_loaded}
 use Rattle.mx_core.specs.State.{State}
 use Rattle.mx_ring.specs.Stack.{register}
 use Rattle.mx_run.specs.WildRuns.{MachineKind}
-use Rattle.mx_word.specs.declared.symbols.Symbol.{Symbol}
 use Rattle.mx_words.specs.Orders.{order_of}
 use Rattle.mx_words.specs.declared.order.Command.{Command}
 use Rattle.mx_words.specs.declared.order.Command.TheVariants.{Run, Asm, Sim, Gen, Show, Multi}
 use Rattle.mx_words.specs.declared.order.Order.{Order}
 use Rattle.mx_words.specs.declared.order.WordsFault.{WordsFault}
 use Rattle.mx_files.specs.Answers.{Answer, answered, wild, plainly, and_then, after_lines}
-use Rattle.mx_begin.specs.Arguments.{Word, word_at, arguments}
+use Rattle.mx_begin.specs.Arguments.{Word, word_at}
 use Rattle.law_gen.specs.Generator.{generated, summary}
 use Rattle.mx_files.specs.Lines.{lines_put}
 use Rattle.mx_outcome.specs.Messages.{message_of}
 use Rattle.mx_files.specs.Assembling.{refused_with, after_reading}
-use Rattle.mx_top.specs.Runs.{Ran, ran, ran_wild, machine_ran, image_run}
-use Rattle.mx_begin.specs.Begun.{started}
+use Rattle.mx_top.specs.Runs.{Ran, ran, ran_wild, machine_ran, run_from}
+use Rattle.mx_begin.specs.Begun.{image_read, started, begun}
+use Rattle.mx_begin.specs.declared.images.Form.TheVariants.{Source, Object}
 use Rattle.mx_top.specs.Processors.{image_turns}
 use Rattle.mx_files.specs.Schedules.{schedule_bytes}
 use Rattle.mx_files.specs.Source.{file_bytes, source_pieces, object_pieces}
@@ -29,27 +28,12 @@ use Rattle.mx_files.specs.Sources.{source_meaning}
 use Rattle.mx_files.specs.Typed.{after_typing}
 use Rattle.mx_files.specs.declared.refusal.Refusal.{Refusal}
 use Rattle.mx_outcome.specs.declared.outcome.Outcome.{Outcome}
-use Rattle.mx_outcome.specs.declared.outcome.Outcome.TheVariants.{Done, Usage, BadObject}
+use Rattle.mx_outcome.specs.declared.outcome.Outcome.TheVariants.{Done, Usage}
 
--- ---- `run` and `sim`
+-- ---- `run` and `sim`: a machine begins, and what has begun runs; or the outcome stands where none begins
 
--- a source is refused, or its image is run
-abbrev pub after_image : MachineKind → Order → List Word → Result Image Refusal → HostModel → Answer
-after_image kind o arguments (Err refusal) m = answered (refused_with refusal) m
-after_image kind o arguments (Ok image) m = image_run kind o arguments image m
-
-abbrev pub after_source : MachineKind → Order → List Word → Then (Result (List ℕ) Outcome) → Answer
-after_source kind o arguments (Err outcome, m) = answered outcome m
-after_source kind o arguments (Ok source, m) = after_image kind o arguments (source_meaning source) m
-
--- an object is refused, or its image is run
-abbrev pub after_loading : MachineKind → Order → List Word → Result (Image × List Symbol) (ℕ × ℕ) → HostModel → Answer
-after_loading kind o arguments (Err (place, fault)) m = answered (BadObject place fault) m
-after_loading kind o arguments (Ok (image, symbols)) m = image_run kind o arguments image m
-
-abbrev pub after_object : MachineKind → Order → List Word → Then (Result (List ℕ) Outcome) → Answer
-after_object kind o arguments (Err outcome, m) = answered outcome m
-after_object kind o arguments (Ok object, m) = after_loading kind o arguments (object_loaded object) m
+abbrev pub begun_run : MachineKind → Order → Then (Result State Outcome) → Answer
+begun_run kind o (begun, m) = run_from kind o begun m
 
 -- ---- `gen`
 
@@ -78,35 +62,25 @@ generated_run kind o size (Ok image) m = summed_from kind o.number size (started
 abbrev pub source_generated : MachineKind → Order → List ℕ → HostModel → Answer
 source_generated kind o source m = generated_run kind o (length source) (source_meaning source) m
 
--- ---- `multi`
+-- ---- `multi`: an image is run by several processors
 
-abbrev pub loaded_turns : MachineKind → Order → List ℕ → Result (Image × List Symbol) (ℕ × ℕ) → HostModel → Answer
-loaded_turns kind o schedule (Err (place, fault)) m = answered (BadObject place fault) m
-loaded_turns kind o schedule (Ok (image, symbols)) m = image_turns kind o schedule image m
-
-abbrev pub object_turns : MachineKind → Order → List ℕ → Then (Result (List ℕ) Outcome) → Answer
-object_turns kind o schedule (Err outcome, m) = answered outcome m
-object_turns kind o schedule (Ok object, m) = loaded_turns kind o schedule (object_loaded object) m
+abbrev pub image_turned : MachineKind → Order → List ℕ → Then (Result Image Outcome) → Answer
+image_turned kind o schedule (Err outcome, m) = answered outcome m
+image_turned kind o schedule (Ok image, m) = image_turns kind o schedule image m
 
 -- the object is read where the schedule is in order
 abbrev pub after_schedule : MachineKind → Order → Word → Then (Result (List ℕ) Outcome) → Answer
 after_schedule kind o name (Err outcome, m) = answered outcome m
-after_schedule kind o name (Ok schedule, m) = object_turns kind o schedule (file_bytes object_pieces name m)
+after_schedule kind o name (Ok schedule, m) = image_turned kind o schedule (image_read Object name m)
 
 -- ---- the words, and the message
-
-abbrev pub run_ordered : MachineKind → List Word → Order → HostModel → Answer
-run_ordered kind words o m = after_source kind o (arguments words o) (file_bytes source_pieces (word_at words o.file) m)
-
-abbrev pub sim_ordered : MachineKind → List Word → Order → HostModel → Answer
-sim_ordered kind words o m = after_object kind o (arguments words o) (file_bytes object_pieces (word_at words o.file) m)
 
 abbrev pub multi_ordered : MachineKind → List Word → Order → HostModel → Answer
 multi_ordered kind words o m = after_schedule kind o (word_at words o.file) (schedule_bytes (word_at words o.schedule) m)
 
 abbrev pub ordered : MachineKind → List Word → Order → Command → HostModel → Answer
-ordered kind words o Run m = run_ordered kind words o m
-ordered kind words o Sim m = sim_ordered kind words o m
+ordered kind words o Run m = begun_run kind o (begun kind words o Source m)
+ordered kind words o Sim m = begun_run kind o (begun kind words o Object m)
 ordered kind words o Asm m = plainly (after_reading (word_at words o.rest) (file_bytes source_pieces (word_at words o.file) m))
 ordered kind words o Gen m = source_generated kind o (generated o.number) m
 ordered kind words o Show m = after_typing (file_bytes object_pieces (word_at words o.file) m)

@@ -3,31 +3,26 @@ use Rattle.std.specs.Prelude.{ℕ, ◌≡◌, ◌≢◌, ◌==◌, not, IsTrue, 
 use Rattle.std.specs.List.{range_with_len}
 use Rattle.mx_host.specs.HostModel.{HostModel, tells, contents}
 use Rattle.mx_host.specs.HostAnswer.{Then, write_answer}
-use Rattle.mx_mmo.specs.Image.{Image}
 use Rattle.mx_core.specs.State.{State}
 use Rattle.mx_core.specs.declared.trace.Trace.{Trace}
-use Rattle.mx_load.specs.Objects.{object_loaded}
-use Rattle.mx_run.specs.WildRuns.{MachineKind}
+use Rattle.mx_run.specs.WildRuns.{MachineKind, window_machine, list_machine}
 use Rattle.mx_watch.specs.Hearing.{heard_by}
 use Rattle.mx_watch.specs.Reporting.{in_places, reports_on, texts_now}
 use Rattle.mx_watch.specs.Traces.{traces}
 use Rattle.mx_watch.specs.Watching.{Watching}
 use Rattle.mx_watch.specs.declared.telling.Report.{Report}
-use Rattle.mx_word.specs.declared.symbols.Symbol.{Symbol}
 use Rattle.mx_words.specs.Orders.{order_of}
 use Rattle.mx_words.specs.declared.order.Command.{Command}
 use Rattle.mx_words.specs.declared.order.Command.TheVariants.{Run, Asm, Sim, Gen, Show, Multi}
 use Rattle.mx_words.specs.declared.order.Order.{Order}
 use Rattle.mx_words.specs.declared.order.WordsFault.{WordsFault}
 use Rattle.mx_files.specs.Answers.{Answer, answered, wild, and_then}
-use Rattle.mx_files.specs.Source.{file_bytes, source_pieces, object_pieces}
-use Rattle.mx_files.specs.Sources.{source_meaning}
 use Rattle.mx_outcome.specs.declared.outcome.Outcome.{Outcome}
 use Rattle.mx_outcome.specs.declared.outcome.Outcome.TheVariants.{OutOfMemory}
-use Rattle.mx_files.specs.declared.refusal.Refusal.{Refusal}
-use Rattle.mx_begin.specs.Arguments.{Word, word_at, arguments}
+use Rattle.mx_begin.specs.Arguments.{Word}
 use Rattle.mx_top.specs.Product.{product}
-use Rattle.mx_begin.specs.Begun.{started}
+use Rattle.mx_begin.specs.Begun.{begun}
+use Rattle.mx_begin.specs.declared.images.Form.TheVariants.{Source, Object}
 
 -- ---- the traces that watchers are told: those of the steps of the run, where the order asks for reports. A session has none, nor
 -- has a run whose steps are taken back.
@@ -39,37 +34,12 @@ abbrev pub traces_from : MachineKind → Order → Result State Outcome → Host
 traces_from kind o (Err outcome) m = []
 traces_from kind o (Ok s) m = order_traces kind o s m
 
-abbrev pub image_traces : MachineKind → Order → List Word → Image → HostModel → List Trace
-image_traces kind o arguments image m = traces_from kind o (started kind o.ring image arguments) m
-
--- of a source
-abbrev pub meaning_traces : MachineKind → Order → List Word → Result Image Refusal → HostModel → List Trace
-meaning_traces kind o arguments (Err refusal) m = []
-meaning_traces kind o arguments (Ok image) m = image_traces kind o arguments image m
-
-abbrev pub source_traces : MachineKind → Order → List Word → Then (Result (List ℕ) Outcome) → List Trace
-source_traces kind o arguments (Err outcome, m) = []
-source_traces kind o arguments (Ok source, m) = meaning_traces kind o arguments (source_meaning source) m
-
--- of an object
-abbrev pub loading_traces : MachineKind → Order → List Word → Result (Image × List Symbol) (ℕ × ℕ) → HostModel → List Trace
-loading_traces kind o arguments (Err (place, fault)) m = []
-loading_traces kind o arguments (Ok (image, symbols)) m = image_traces kind o arguments image m
-
-abbrev pub object_traces : MachineKind → Order → List Word → Then (Result (List ℕ) Outcome) → List Trace
-object_traces kind o arguments (Err outcome, m) = []
-object_traces kind o arguments (Ok object, m) = loading_traces kind o arguments (object_loaded object) m
-
--- of the words
-abbrev pub run_traces : MachineKind → List Word → Order → HostModel → List Trace
-run_traces kind words o m = source_traces kind o (arguments words o) (file_bytes source_pieces (word_at words o.file) m)
-
-abbrev pub sim_traces : MachineKind → List Word → Order → HostModel → List Trace
-sim_traces kind words o m = object_traces kind o (arguments words o) (file_bytes object_pieces (word_at words o.file) m)
+abbrev pub begun_traces : MachineKind → Order → Then (Result State Outcome) → List Trace
+begun_traces kind o (begun, m) = traces_from kind o begun m
 
 abbrev pub ordered_traces : MachineKind → List Word → Order → Command → HostModel → List Trace
-ordered_traces kind words o Run m = run_traces kind words o m
-ordered_traces kind words o Sim m = sim_traces kind words o m
+ordered_traces kind words o Run m = begun_traces kind o (begun kind words o Source m)
+ordered_traces kind words o Sim m = begun_traces kind o (begun kind words o Object m)
 ordered_traces kind words o Asm m = []
 ordered_traces kind words o Gen m = []
 ordered_traces kind words o Show m = []
@@ -129,6 +99,10 @@ HearsAsList old result watchers left earlier later a f =
 abbrev pub HearsBoth : Option HostModel → Outcome → List Watching → List Watching → List Report → List Report → (HostModel → List Trace) → (HostModel → Answer) → (HostModel → List Trace) → Type 0
 HearsBoth old result watchers left earlier later f a g =
     HearsAs old result watchers left earlier later f × HearsAsList old result watchers left earlier later a g
+
+-- the same, where an answer and its traces are told by the kind of machine
+abbrev pub HearsByKind : Option HostModel → Outcome → List Watching → List Watching → List Report → List Report → (MachineKind → HostModel → Answer) → (MachineKind → HostModel → List Trace) → Type 0
+HearsByKind old result watchers left earlier later a f = HearsBoth old result watchers left earlier later (f window_machine) (a list_machine) (f list_machine)
 
 -- those that are left, over a host that tells its contents and unless out of memory, where f gives what all were told
 abbrev pub LeavesWatchers : Option HostModel → Outcome → List Watching → List Watching → (HostModel → List Trace) → Type 0

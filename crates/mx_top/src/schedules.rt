@@ -8,7 +8,7 @@ ghost use Rattle.mx_run.specs.WildRuns.{window_machine, list_machine};
 ghost use Rattle.mx_files.specs.Answers.{AnswersAs, AnswersAsList};
 ghost use Rattle.mx_outcome.specs.Kinds.{is_usage};
 ghost use Rattle.mx_files.specs.Schedules.{AreEight, schedule_bytes};
-ghost use Rattle.mx_files.specs.Source.{file_bytes};
+ghost use Rattle.mx_begin.specs.Begun.{image_read};
 ghost use Rattle.mx_top.specs.Processors as spec;
 ghost use Rattle.mx_top.specs.Product as product;
 ghost use Rattle.mx_top.specs.Causes.{FailsOnlyBy};
@@ -154,7 +154,7 @@ fn object_file<H: Host>(
     ensures plan { CarriesOutWork (H.told host.old) (H.told host.new) result
         (plans.turns_file_plan order.now name.now schedule.now) }
     ensures listed { AnswersAsList (H.told host.old) (H.told host.new) result
-        (λ m. product.object_turns list_machine order.now schedule.now (file_bytes 16385 name.now m)) }
+        (λ m. product.image_turned list_machine order.now schedule.now (image_read Form.Object name.now m)) }
     ensures causes { FailsOnlyBy H.told H.faults host.old host.new result }
 {
     match read_image(alloc, host, Form::Object, name) {

@@ -3,14 +3,13 @@
 ghost use Rattle.std.specs.Prelude.{◌≡◌, ◌≢◌, ◌≤◌, ◌<◌, length, map, string_bytes};
 ghost use Rattle.mx_host.specs.HostModel.{contents, slot_at, to_errors};
 ghost use Rattle.mx_host.specs.Keeping.{Keeps, KeepsOutput};
-ghost use Rattle.mx_run.specs.WildRuns.{window_machine, list_machine};
+ghost use Rattle.mx_run.specs.WildRuns.{list_machine};
 ghost use Rattle.mx_words.specs.Orders.{order_of};
 ghost use Rattle.mx_files.specs.Answers.{AnswersAsList};
 ghost use Rattle.mx_begin.specs.Begun.{begun};
-ghost use Rattle.mx_top.specs.Halves as halves;
 ghost use Rattle.mx_top.specs.Product as spec;
 ghost use Rattle.mx_top.specs.Reports as reports;
-ghost use Rattle.mx_top.specs.Reports.{HearsBoth};
+ghost use Rattle.mx_top.specs.Reports.{HearsByKind};
 ghost use Rattle.mx_top.specs.Causes.{Causes, FailsOnlyBy};
 ghost use Rattle.mx_top.specs.ProgramClauses.{AnswersOverList, AnswersOverListWatched, Produces, ProducesWatched};
 ghost use Rattle.mx_top.specs.ProductPlan as plans;
@@ -45,15 +44,12 @@ fn run_ordered<H: Host>(
     requires rest { order.now.rest ≤ length words.now }
     ensures plan { CarriesOutWork (H.told host.old) (H.told host.new) result
         (plans.begun_plan (map string_bytes words.now) order.now form) }
-    ensures listed { AnswersAsList (H.told host.old) (H.told host.new) result
-        (λ m. halves.begun_run list_machine order.now (begun list_machine (map string_bytes words.now) order.now form m)) }
-    ensures heard { HearsBoth (H.told host.old) result (map meaning watchers.old.items)
+    ensures listed { AnswersAsList (H.told host.old) (H.told host.new) result (λ m.
+        spec.begun_run list_machine order.now (begun list_machine (map string_bytes words.now) order.now form m)) }
+    ensures heard { HearsByKind (H.told host.old) result (map meaning watchers.old.items)
         (map meaning watchers.new.items) kept.old kept.new
-        (λ m. halves.begun_traces window_machine order.now
-        (begun window_machine (map string_bytes words.now) order.now form m))
-        (λ m. halves.begun_run list_machine order.now (begun list_machine (map string_bytes words.now) order.now form m))
-        (λ m. halves.begun_traces list_machine order.now
-        (begun list_machine (map string_bytes words.now) order.now form m)) }
+        (λ kind m. spec.begun_run kind order.now (begun kind (map string_bytes words.now) order.now form m))
+        (λ kind m. reports.begun_traces kind order.now (begun kind (map string_bytes words.now) order.now form m)) }
     ensures causes { FailsOnlyBy H.told H.faults host.old host.new result }
 {
     match begin(alloc, host, words, order, form) {
@@ -63,7 +59,7 @@ fn run_ordered<H: Host>(
 }
 
 /// Does what the words order.
-#[tactic(auto, using(crate::proofs::PlainAnswers::plain, crate::proofs::Heard::silence, crate::proofs::Halves::joins))]
+#[tactic(auto, using(crate::proofs::PlainAnswers::plain, crate::proofs::Heard::silence))]
 fn carry_order<H: Host>(
     alloc: Global,
     words: &[String],
@@ -81,11 +77,10 @@ fn carry_order<H: Host>(
         (plans.ordered_plan (map string_bytes words.now) order.now order.now.command) }
     ensures listed { AnswersAsList (H.told host.old) (H.told host.new) result
         (λ m. spec.ordered list_machine (map string_bytes words.now) order.now order.now.command m) }
-    ensures heard { HearsBoth (H.told host.old) result (map meaning watchers.old.items)
+    ensures heard { HearsByKind (H.told host.old) result (map meaning watchers.old.items)
         (map meaning watchers.new.items) kept.old kept.new
-        (λ m. reports.ordered_traces window_machine (map string_bytes words.now) order.now order.now.command m)
-        (λ m. spec.ordered list_machine (map string_bytes words.now) order.now order.now.command m)
-        (λ m. reports.ordered_traces list_machine (map string_bytes words.now) order.now order.now.command m) }
+        (λ kind m. spec.ordered kind (map string_bytes words.now) order.now order.now.command m)
+        (λ kind m. reports.ordered_traces kind (map string_bytes words.now) order.now order.now.command m) }
     ensures causes { FailsOnlyBy H.told H.faults host.old host.new result }
 {
     match order.command {
@@ -122,12 +117,11 @@ fn carry_out<H: Host>(
         (plans.work_plan (map string_bytes words.now) (order_of (map string_bytes words.now))) }
     ensures listed { AnswersAsList (H.told host.old) (H.told host.new) result
         (λ m. spec.carried_out list_machine (map string_bytes words.now) (order_of (map string_bytes words.now)) m) }
-    ensures heard { HearsBoth (H.told host.old) result (map meaning watchers.old.items)
+    ensures heard { HearsByKind (H.told host.old) result (map meaning watchers.old.items)
         (map meaning watchers.new.items) kept.old kept.new
-        (λ m. reports.carried_traces window_machine (map string_bytes words.now)
-        (order_of (map string_bytes words.now)) m)
-        (λ m. spec.carried_out list_machine (map string_bytes words.now) (order_of (map string_bytes words.now)) m)
-        (λ m. reports.carried_traces list_machine (map string_bytes words.now) (order_of (map string_bytes words.now)) m) }
+        (λ kind m. spec.carried_out kind (map string_bytes words.now) (order_of (map string_bytes words.now)) m)
+        (λ kind m. reports.carried_traces kind (map string_bytes words.now)
+        (order_of (map string_bytes words.now)) m) }
     ensures causes { Causes H.told H.faults host.old host.new result (map string_bytes words.now) }
 {
     match read(words) {

@@ -1,6 +1,7 @@
 //! Runs that are counted, over the host in memory: what stands on standard output, the outcome, and the sheet.
 
-use mx_count::{Counted, CountedLines, LineSheet, Tally, arguments, count_file, count_lines};
+use mx_begin::arguments;
+use mx_count::{Counted, CountedLines, LineSheet, Tally, count_file, count_lines};
 use mx_host::MemHost;
 use mx_outcome::Outcome;
 use mx_words::read;
