@@ -9,8 +9,9 @@ ghost use Rattle.mx_ring.specs.Bounds.{IsRing};
 
 use crate::Machine;
 use crate::bounds::know_bounds;
-use crate::machine::{SEGMENT, is_in_stack_area};
+use crate::machine::is_in_stack_area;
 use mx_mem::MemFault;
+use mx_ring::STACK_SEGMENT;
 use mx_spec::{Put, may_put};
 
 /// Why a change is refused: it is not allowed, or out of memory.
@@ -89,7 +90,7 @@ impl Machine {
     {
         know_bounds(&self.ring);
         if is_in_stack_area(a) {
-            self.ring.set_stack_octa(((a - SEGMENT) / 8) as u32, x);
+            self.ring.set_stack_octa(((a - STACK_SEGMENT) / 8) as u32, x);
             Ok(())
         } else {
             self.memory.store(a, x)

@@ -52,7 +52,7 @@ pub use laws::{
     marks_move_with_frames, steps_go_as_lists, steps_keep_machines, traps_go_as_lists,
     traps_keep_machines,
 };
-pub use machine::Machine;
+pub use machine::{Machine, is_in_segment, is_in_stack_area};
 pub use noting::{Note, Noted};
 pub use reason::Reason;
 pub use step::{Advance, Advanced, Step};

@@ -9,11 +9,12 @@ ghost use Rattle.mx_core.specs.Kept.{state_of};
 ghost use Rattle.mx_core.specs.Way.Told.{answer_in};
 
 use crate::instruction::Instruction;
-use crate::machine::{SEGMENT, is_in_stack_area};
+use crate::machine::is_in_stack_area;
 use crate::operation::{Loading, Operation};
 use crate::part::loaded_value;
 use crate::stop::{Stop, Told};
 use crate::{Machine, Reason};
+use mx_ring::STACK_SEGMENT;
 
 impl Machine {
     /// LDB to LDUNC.
@@ -24,7 +25,7 @@ impl Machine {
     {
         let (y, z) = (self.y_operand(i), self.z_operand(i));
         let a = y.wrapping_add(z);
-        if a >= SEGMENT {
+        if a >= STACK_SEGMENT {
             return self.load_apart(how, i.at, i.word, y, z).answer();
         }
         self.settle(i, loaded_value(how, self.octa(a), a), i.next())

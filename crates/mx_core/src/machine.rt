@@ -16,13 +16,8 @@ use crate::Reason;
 use crate::bounds::know_bounds;
 use crate::stop::Stop;
 use mx_mem::{MemFault, Memory, Part, with_part};
-use mx_ring::{Ring, RingFault};
+use mx_ring::{AREA_END, Ring, RingFault, STACK_SEGMENT};
 use std::marker::Model;
-
-/// The first address of Stack_Segment and of the stack area, and that behind the stack area.
-pub(crate) const SEGMENT: u64 = 0x6000_0000_0000_0000;
-
-const AREA_END: u64 = 0x6000_0000_0080_0000;
 
 /// The machine between two instructions.
 #[derive(Drop)]
@@ -132,7 +127,7 @@ impl Machine {
         ensures { result ≡ spec.octa (state_of self.now) a }
     {
         if is_in_stack_area(a) {
-            self.ring.stack_octa(((a - SEGMENT) / 8) as u32)
+            self.ring.stack_octa(((a - STACK_SEGMENT) / 8) as u32)
         } else {
             self.memory.load(a)
         }
@@ -145,7 +140,7 @@ impl Machine {
         ensures { result ≡ spec.tetra (state_of self.now) a }
     {
         if is_in_stack_area(a) {
-            half(self.ring.stack_octa(((a - SEGMENT) / 8) as u32), a)
+            half(self.ring.stack_octa(((a - STACK_SEGMENT) / 8) as u32), a)
         } else {
             self.memory.tetra(a)
         }
@@ -237,7 +232,7 @@ impl Machine {
         ensures there { spec.begins_page (state_of self.old) a ≡ false → result ≢ Err Stop.OutOfMemory }
         ensures room { spec.is_page_refused (state_of self.old) a ≡ true → result ≢ Err Stop.OutOfMemory }
     {
-        if a >= SEGMENT {
+        if a >= STACK_SEGMENT {
             return self.store_above(a, part, x);
         }
         match self.memory.store_part(a, part, x) {
@@ -258,7 +253,7 @@ impl Machine {
         ensures room { spec.is_page_refused (state_of self.old) a ≡ true → result ≢ Err Stop.OutOfMemory }
     {
         if is_in_stack_area(a) {
-            let i = ((a - SEGMENT) / 8) as u32;
+            let i = ((a - STACK_SEGMENT) / 8) as u32;
             self.ring
                 .set_stack_octa(i, with_part(part, self.ring.stack_octa(i), a, x));
             self.touched = true;
@@ -277,18 +272,18 @@ impl Machine {
 
 /// Whether an address lies in the stack area.
 #[inline(always)]
-pub(crate) fn is_in_stack_area(a: u64) -> bool
+pub fn is_in_stack_area(a: u64) -> bool
     ensures { result ≡ stacks.in_stack_area a }
 {
-    SEGMENT <= a && a < AREA_END
+    STACK_SEGMENT <= a && a < AREA_END
 }
 
 /// Whether an address lies in Stack_Segment.
 #[inline(always)]
-pub(crate) fn is_in_segment(a: u64) -> bool
+pub fn is_in_segment(a: u64) -> bool
     ensures { result ≡ spec.is_in_stack_segment a }
 {
-    SEGMENT <= a && a < 1 << 63
+    STACK_SEGMENT <= a && a < 1 << 63
 }
 
 /// The tetra in the half of an octa where an address lies.

@@ -14,13 +14,13 @@ ghost use Rattle.mx_core.specs.Undoing.{TakesBack};
 
 use crate::bounds::machines_hold_octas;
 use crate::instruction::Instruction;
-use crate::machine::{SEGMENT, is_in_stack_area};
+use crate::machine::is_in_stack_area;
 use crate::operation::Operation;
 use crate::overwritten::{OctaWas, UsualWas};
 use crate::sight::Sight;
 use crate::undoing::machines_are_paged;
 use crate::{Machine, Reason, Step, Touch, Trace};
-use mx_ring::{RingFault, RingNote, RingWork};
+use mx_ring::{RingFault, RingNote, RingWork, STACK_SEGMENT};
 use mx_trip::TrapCall;
 use std::alloc::Global;
 use std::marker::Model;
@@ -234,7 +234,7 @@ impl Machine {
         match place {
             Some(a) => {
                 if is_in_stack_area(a) {
-                    self.ring.note_store(alloc, ((a - SEGMENT) / 8) as u32, k)
+                    self.ring.note_store(alloc, ((a - STACK_SEGMENT) / 8) as u32, k)
                 } else {
                     self.ring.note(alloc, RingWork::Set(k, 0))
                 }

@@ -8,13 +8,10 @@ ghost use Rattle.mx_core.specs.Way.Search.{IsNextIndex, IsNextBetween, first_ind
 ghost use Rattle.mx_core.specs.State.{octa};
 
 use crate::Machine;
-use crate::machine::SEGMENT;
-use mx_ring::Ring;
+use mx_ring::{AREA_END, Ring, STACK_SEGMENT};
 
-/// How many octas the stack area has, and the address behind it.
+/// How many octas the stack area has.
 const AREA: u64 = 0x10_0000;
-
-const AREA_END: u64 = 0x6000_0000_0080_0000;
 
 impl Machine {
     /// The least octa other than 0 whose own address is at or above `from`, which is below 2^63: its
@@ -38,7 +35,7 @@ impl Machine {
         ensures { IsNextBetween (octa (state_of self.now)) from (stack_address 0) result }
     {
         match self.memory.next_nonzero(from) {
-            Some((a, x)) => { if a < SEGMENT { Some((a, x)) } else { None } }
+            Some((a, x)) => { if a < STACK_SEGMENT { Some((a, x)) } else { None } }
             None => None,
         }
     }
@@ -49,7 +46,7 @@ impl Machine {
             (max from (stack_address 0)) (stack_address (2 ^ 20)) result }
     {
         match next_index(&self.ring, first_index(from)) {
-            Some((i, x)) => Some((SEGMENT + 8 * i, x)),
+            Some((i, x)) => Some((STACK_SEGMENT + 8 * i, x)),
             None => None,
         }
     }
@@ -67,7 +64,7 @@ impl Machine {
 fn first_index(from: u64) -> u64
     ensures { result ≡ first_index from }
 {
-    (from.max(SEGMENT) - SEGMENT).div_ceil(8)
+    (from.max(STACK_SEGMENT) - STACK_SEGMENT).div_ceil(8)
 }
 
 /// The first octa of the stack area other than 0 from an index on: its index and its value.

@@ -15,12 +15,12 @@ ghost use Rattle.mx_core.specs.declared.reason.Reason.TheVariants as reasons;
 
 use crate::bounds::know_bounds;
 use crate::instruction::Instruction;
-use crate::machine::{SEGMENT, is_in_stack_area};
+use crate::machine::is_in_stack_area;
 use crate::operation::Operation;
 use crate::stop::Stop;
 use crate::trips::{RB, RH, RJ, RR, RW, RX, RY, RZ};
 use crate::{Machine, Reason};
-use mx_ring::Saved;
+use mx_ring::{STACK_SEGMENT, Saved};
 use mx_spec::{Put, may_put, stored_values_are_in_bounds};
 
 /// More codes of special registers.
@@ -205,7 +205,7 @@ impl Machine {
     fn looks_unsaved(&self, a: u64) -> bool
         ensures { result ≡ spec.looks_unsaved (state_of self.now) a }
     {
-        is_in_stack_area(a) && u64::from(self.mark) <= (a - SEGMENT) / 8
+        is_in_stack_area(a) && u64::from(self.mark) <= (a - STACK_SEGMENT) / 8
     }
 
     /// The frame whose last octa holds an address is brought back.

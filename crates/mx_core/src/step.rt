@@ -14,11 +14,12 @@ ghost use Rattle.mx_core.specs.Way.Stepping.{advanced, needs_page, step_answer, 
 use crate::bounds::machines_keep_the_invariant;
 use crate::groups::{Group, group_of};
 use crate::instruction::Instruction;
-use crate::machine::{SEGMENT, is_in_segment};
+use crate::machine::is_in_segment;
 use crate::operation::Operation;
 use crate::stop::{Stop, Told};
 use crate::trips::RJ;
 use crate::{Machine, Reason, Trace};
+use mx_ring::STACK_SEGMENT;
 use mx_trip::TrapCall;
 
 /// What a step comes to: the machine went on, with a trace; it calls a file trap, and is to be told its
@@ -118,7 +119,7 @@ impl Machine {
         ensures there { result ≡ Advance.OutOfMemory → IsTrue (step_needs_page (state_of self.old)) }
     {
         let at = self.pc();
-        if at >= SEGMENT {
+        if at >= STACK_SEGMENT {
             return self.advance_anyhow();
         }
         let i = self.fetched(at);

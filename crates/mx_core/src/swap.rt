@@ -11,7 +11,7 @@ ghost use Rattle.mx_core.specs.State.{octa};
 ghost use Rattle.mx_core.specs.Way.Stepping.{needs_page};
 
 use crate::instruction::Instruction;
-use crate::machine::{SEGMENT, is_in_stack_area};
+use crate::machine::{is_in_segment, is_in_stack_area};
 use crate::operation::Operation;
 use crate::specials::RP;
 use crate::stop::Stop;
@@ -72,7 +72,7 @@ impl Machine {
         match self.set(i.x(), 0) {
             Ok(()) => {
                 self.put(RP, found);
-                self.note_where(SEGMENT <= a && a < 1 << 63);
+                self.note_where(is_in_segment(a));
                 self.go_to(i.next());
                 Ok(())
             }

@@ -3,4 +3,4 @@
 
 mod lines;
 
-pub use lines::{dump, is_in_stack_area, put_octa};
+pub use lines::{dump, put_octa};

@@ -6,15 +6,15 @@ ghost use Rattle.mx_core.specs.Way.Search.{IsNextBetween};
 ghost use Rattle.mx_core.specs.State.{octa};
 ghost use Rattle.mx_files.specs.Clauses.{Works};
 ghost use Rattle.mx_files.specs.FilePlans.{lines_plan};
-ghost use Rattle.mx_ring.specs.Stack.{in_stack_area};
 ghost use Rattle.mx_dump.specs.Dump as spec;
 ghost use Rattle.mx_dump.specs.Shown.{IsNextShown, shown_octa};
 
 use mx_cmd::special_name;
-use mx_core::Machine;
+use mx_core::{Machine, is_in_stack_area};
 use mx_files::write_line;
 use mx_host::Host;
 use mx_outcome::Outcome;
+use mx_ring::AREA_END;
 use mx_text::{add_decimal, octa_hex};
 use mx_word::{Bytes, NoMemory};
 use std::alloc::Global;
@@ -22,11 +22,7 @@ use std::alloc::Global;
 /// The code of rS.
 const RS: u8 = 11;
 
-/// The stack area, and the first address that no octa has.
-const AREA: u64 = 0x6000_0000_0000_0000;
-
-const AREA_END: u64 = 0x6000_0000_0080_0000;
-
+/// The first address that no octa has.
 const END: u64 = 1 << 63;
 
 /// A name and an octa as a line.
@@ -157,13 +153,6 @@ pub fn put_octa<H: Host>(alloc: Global, host: &mut H, a: u64, x: u64) -> Result<
         Ok(line) => write_line(host, line.as_slice()),
         Err(_) => Err(Outcome::OutOfMemory),
     }
-}
-
-/// Whether an address lies in the stack area.
-pub fn is_in_stack_area(a: u64) -> bool
-    ensures { result ≡ in_stack_area a }
-{
-    AREA <= a && a < AREA_END
 }
 
 /// Whether an octa at an address is shown, if it is not 0.

@@ -26,11 +26,11 @@ use mx_registers::{FEW, Hidden, ROOM, Visible};
 use std::alloc::Global;
 use std::marker::Model;
 
-/// The address of the first octa of the stack area: the start of Stack_Segment.
-const BASE: u64 = 0x6000_0000_0000_0000;
+/// The address of Stack_Segment, where the stack area begins.
+pub const STACK_SEGMENT: u64 = 0x6000_0000_0000_0000;
 
 /// The address behind the stack area.
-const END: u64 = 0x6000_0000_0080_0000;
+pub const AREA_END: u64 = 0x6000_0000_0080_0000;
 
 /// The 256 registers, the hidden ones and the stack area. Contracts see it as a window.
 #[derive(Drop)]
@@ -108,14 +108,14 @@ impl Ring {
         ensures value { result ≡ stack_address (hidden_count (windowed self.now)) }
         ensures list { result ≡ stack_address (hidden_count (list_of self.now)) }
     {
-        BASE + 8 * self.hidden.len() as u64
+        STACK_SEGMENT + 8 * self.hidden.len() as u64
     }
 
     /// rS: the address where the next spilled register goes.
     pub fn rs(&self) -> u64
         ensures { result ≡ stack_address (spilled_count (windowed self.now)) }
     {
-        BASE + 8 * self.hidden.spilled() as u64
+        STACK_SEGMENT + 8 * self.hidden.spilled() as u64
     }
 
     /// Tells that the stack area has 2^20 octas, each below 2^64. It does nothing.
@@ -364,7 +364,7 @@ impl Ring {
         hide_registers(&mut self.hidden, &self.visible, s);
         self.hidden.spill_all();
         self.visible.cut(0);
-        self.visible.set(x, BASE + 8 * last as u64);
+        self.visible.set(x, STACK_SEGMENT + 8 * last as u64);
     }
 
     /// UNSAVE: brings the registers of the frame back whose last octa holds an address, and gives
@@ -381,10 +381,10 @@ impl Ring {
             → OnOk result (list_of self.new ≡ unsaved (list_of self.old) (stack_index a)) }
         ensures err { OnErr result (self.new ≡ self.old) }
     {
-        if a < BASE || a >= END {
+        if a < STACK_SEGMENT || a >= AREA_END {
             return Err(RingFault::BadFrame);
         }
-        self.unsave_at(((a - BASE) / 8) as usize)
+        self.unsave_at(((a - STACK_SEGMENT) / 8) as usize)
     }
 
     /// Brings the registers of the frame back whose last octa is at an index of the stack area, below 2^20.

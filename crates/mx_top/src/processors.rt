@@ -8,18 +8,18 @@ ghost use Rattle.mx_multi.specs.Joint.{joint_of, processor_count};
 ghost use Rattle.mx_top.specs.Processors as spec;
 ghost use Rattle.mx_dump.specs.Shown.{IsNextShown};
 
-use mx_dump::{is_in_stack_area, put_octa};
+use mx_core::is_in_stack_area;
+use mx_dump::put_octa;
 use mx_files::write_line;
 use mx_host::Host;
 use mx_multi::{Multi, MultiEnd};
 use mx_outcome::Outcome;
+use mx_ring::AREA_END;
 use mx_text::add_decimal;
 use mx_word::{Bytes, NoMemory};
 use std::alloc::Global;
 
-/// The end of the stack area, and the first address that no octa has.
-const AREA_END: u64 = 0x6000_0000_0080_0000;
-
+/// The first address that no octa has.
 const END: u64 = 1 << 63;
 
 /// Adds what became of a processor that has not halted.
