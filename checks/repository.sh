@@ -36,7 +36,6 @@ most_lines() {
   case $1 in
     mx_core) echo 5185 ;;
     mx_ring) echo 2106 ;;
-    mx_stmt) echo 1768 ;;
     *) echo 1500 ;;
   esac
 }
