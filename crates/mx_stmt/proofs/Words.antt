@@ -1,7 +1,7 @@
 -- The words that the proofs of this crate cite, passed on from one place. Declares nothing.
 pub use Rattle.std.proofs.lemmas.Bool.Decides.{nat_tests}
 pub use Rattle.std.proofs.lemmas.Grind.{common_steps}
-pub use Rattle.std.proofs.lemmas.Bool.{and_parts, cond_both, eqb-false, eqb-true, false≢true, leb-false, leb-true, ltb-false, ltb-true}
+pub use Rattle.std.proofs.lemmas.Bool.{and_parts, cond_both, eqb-true, false≢true, leb-false, leb-true, ltb-false, ltb-true}
 pub use Rattle.std.proofs.lemmas.List.{drop_all, drop_more, length-append, length-drop, length-set}
 pub use Rattle.std.proofs.lemmas.Nat.{pow-add, xor_block, xor_comm, xor_mod, xor_shr}
 pub use Rattle.std.proofs.lemmas.Result.{err_from_is_err_and}
@@ -10,9 +10,9 @@ pub use Rattle.std.specs.List.{AllByRecursion, position, range_with_len}
 pub use Rattle.std.specs.Option.{IfSome}
 pub use Rattle.mx_expr.specs.Spelling.{Faultless, IsFirst, Spells}
 pub use Rattle.mx_expr.specs.Tree.{Tree, ahead, back, binary, here, name, number, tree_of, trees_of, unary}
-pub use Rattle.mx_expr.specs.Value.{Valued, after_both, after_operand, binary_value, difference, of_symbol, register, unary_value, value_of}
+pub use Rattle.mx_expr.specs.Value.{Valued, after_both, after_operand, binary_value, of_symbol, register, unary_value, value_of}
 pub use Rattle.mx_expr.specs.declared.faults.ExprFault.{ExprFault}
-pub use Rattle.mx_greg.specs.Gregs.{IsAllocable, base_for, lowest_of, next_register, register_for, register_of_value, register_or_next, with_greg}
+pub use Rattle.mx_greg.specs.Gregs.{IsAllocable, lowest_of, with_greg}
 pub use Rattle.mx_names.specs.Names.{NameTable, pure_of, start, value_of_name, with_symbol}
 pub use Rattle.mx_names.specs.declared.fault.NameFault.{NameFault}
 unfoldable pub use Rattle.mx_ops.specs.Opcodes.{chosen_operations, opcode_name, opcode_names, opcode_rows, operation_of, operations, pseudo_operations}
@@ -43,7 +43,7 @@ pub use Rattle.mx_stmt.specs.Steps.{Answer, and_then}
 unfoldable pub use Rattle.mx_stmt.specs.Steps.{AreAlike}
 pub use Rattle.mx_stmt.specs.declared.data.Data.{Data}
 pub use Rattle.mx_stmt.specs.declared.faults.StmtFault.{StmtFault}
-pub use Rattle.mx_stmt.specs.declared.faults.StmtFault.TheVariants.{BadPlace, LabelNotAllowed, NotMultiple, Operands, OutOfMemory, TooFar, TooManyGregs}
+pub use Rattle.mx_stmt.specs.declared.faults.StmtFault.TheVariants.{BadPlace, LabelNotAllowed, NotMultiple, Operands, OutOfMemory, TooFar}
 pub use Rattle.mx_stmt.specs.declared.forms.Tetra.{Tetra}
 pub use Rattle.mx_stmt.specs.declared.operands.Target.{Target}
 pub use Rattle.mx_stmt.specs.declared.placed.Effect.TheVariants.{Greg, Local, Plain, Prefix}
