@@ -35,7 +35,6 @@ done
 most_lines() {
   case $1 in
     mx_core) echo 5185 ;;
-    mx_stmt) echo 1768 ;;
     *) echo 1500 ;;
   esac
 }
