@@ -4,4 +4,4 @@ pub mod Stacks
 pub mod Steps
 pub mod Usual
 pub mod Notes
-pub mod WorksBetween
+pub mod Works

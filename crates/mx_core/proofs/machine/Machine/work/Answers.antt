@@ -4,7 +4,7 @@ use Rattle.mx_ring.specs.declared.notes.RingWork.TheVariants.{Push}
 use Rattle.mx_core.specs.Deeds.{deed_of}
 use Rattle.mx_core.specs.Way.Noting.{TellsWork}
 use Rattle.mx_core.specs.Kept.{state_of}
-use Rattle.mx_core.proofs.Undone.WorksBetween.{moves_stack, push_told, pop_told, save_told, unsave_told, put_told, still_told, still-others}
+use Rattle.mx_core.proofs.Undone.Works.{moves_stack, push_told, pop_told, save_told, unsave_told, put_told, still_told, still-others}
 use Rattle.mx_core.proofs.machine.Machine.work.Goals as goal
 
 pub returns-in-PushJump-clause-tells : goal.returns-in-PushJump-clause-tells
