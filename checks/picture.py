@@ -16,7 +16,7 @@ PICTURE = HERE + "/docs/crates.svg"
 AREAS = [
     ("language", "mx_line mx_expr mx_ops mx_names mx_greg mx_stmt mx_asm"),
     ("objects", "mx_mmo mx_stab mx_load mx_type"),
-    ("machine", "mx_mem mx_alu mx_registers mx_ring mx_trip mx_spec mx_core mx_start"),
+    ("machine", "mx_mem mx_alu mx_registers mx_ring mx_trip mx_spec mx_code mx_core mx_start"),
     ("host and runs", "mx_host mx_plan mx_trap mx_run mx_back mx_watch mx_multi mx_real"),
     ("console", "mx_text mx_cmd mx_show mx_con"),
     ("program", "mx_words mx_outcome mx_files mx_begin mx_dump mx_top mx_view mx_count mmixware mmixview"),

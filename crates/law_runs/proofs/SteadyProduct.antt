@@ -21,7 +21,7 @@ use Rattle.mx_run.specs.Counts.{end_host}
 use Rattle.mx_back.specs.History.{kept_turn, states_kept}
 use Rattle.mx_back.specs.KeptRuns.{turn_kind, turns_after, turns_of}
 use Rattle.mx_core.specs.Step.{step}
-use Rattle.mx_core.specs.declared.trace.Trace.{Trace}
+use Rattle.mx_code.specs.declared.trace.Trace.{Trace}
 use Rattle.mx_run.specs.Runs.{Ended, ended, no_flags, after_trace, after_turn}
 use Rattle.mx_run.specs.Turns.{Turn, went_on, halts, stops, turn, turn_answer}
 use Rattle.mx_run.specs.declared.end.End.TheVariants.{Halted, Stopped as Stop, Spent}

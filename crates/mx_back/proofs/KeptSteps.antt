@@ -4,16 +4,16 @@ use Rattle.std.specs.Prelude.{Result, ◌⊎◌}
 use Rattle.mx_host.specs.HostModel.{HostModel}
 use Rattle.mx_plan.specs.Plan.{Comes, IsRest, Stops}
 use Rattle.mx_trip.specs.declared.call.TrapCall.{TrapCall}
-use Rattle.mx_core.specs.Reasons.{number_of}
+use Rattle.mx_code.specs.Reasons.{number_of}
 use Rattle.mx_core.specs.State.{State}
 use Rattle.mx_core.specs.Step.{Stepped, went, calls, stopped, step}
 use Rattle.mx_core.specs.Way.Stepping.{advanced, step_answer}
 use Rattle.mx_core.specs.Undoing.{StateWas}
-use Rattle.mx_core.specs.declared.reason.Reason.{Reason}
+use Rattle.mx_code.specs.declared.reason.Reason.{Reason}
 use Rattle.mx_core.specs.declared.step.Advance.{Advance}
 use Rattle.mx_core.specs.declared.step.Advance.TheVariants as advance
 use Rattle.mx_core.specs.declared.step.Step.TheVariants as made
-use Rattle.mx_core.specs.declared.trace.Trace.{Trace}
+use Rattle.mx_code.specs.declared.trace.Trace.{Trace}
 use Rattle.mx_run.specs.RunPlans.{RunWorld, running, beside_world, turn_plan, step_plan, run_plan}
 use Rattle.mx_run.specs.Runs.{IsLater, ended, no_flags, run}
 use Rattle.mx_run.specs.Turns.{Answered, Turn, went_on, halts, stops, turn, turn_answer, may_change}

@@ -20,17 +20,18 @@ use Rattle.mx_trap.specs.declared.answer.TrapAnswer.{TrapAnswer}
 use Rattle.mx_trap.specs.declared.answer.TrapAnswer.TheVariants as trap
 use Rattle.mx_core.specs.Way.Calls.{left}
 use Rattle.mx_core.specs.Deeds.{Deed, state_done, unless_refused, deed_of, given_instruction, inserted, resumed, plain_deed, with_destination, looks_at_stack, loads_in_segment, stores_in_segment, is_absent}
-use Rattle.mx_core.specs.Effects.{Effect, Store, effect_of, touch, going_to}
-use Rattle.mx_core.specs.Instructions.{instruction, operation_in, xyz_of}
+use Rattle.mx_code.specs.LoadsAndStores.{touch}
+use Rattle.mx_core.specs.Effects.{Effect, Store, effect_of, going_to}
+use Rattle.mx_code.specs.Instructions.{instruction, operation_in, xyz_of}
 use Rattle.mx_core.specs.MachineSpace.{machine_contents, state_in}
 use Rattle.mx_core.specs.State.{State, special_register, locals, global_start, is_negative, is_in_stack_segment}
 use Rattle.mx_core.specs.Step.{Stepped, went, calls, stopped, fetched, store_touch, step}
 use Rattle.mx_core.specs.Deeds.{deed_for, deed_at}
 use Rattle.mx_core.specs.Wild.{deed, is_wild}
-use Rattle.mx_core.specs.declared.reason.Reason.{Reason}
-use Rattle.mx_core.specs.declared.reason.Reason.TheVariants.{Illegal}
-use Rattle.mx_core.specs.declared.trace.Touch.{Touch}
-use Rattle.mx_core.specs.declared.trace.Trace.{Trace}
+use Rattle.mx_code.specs.declared.reason.Reason.{Reason}
+use Rattle.mx_code.specs.declared.reason.Reason.TheVariants.{Illegal}
+use Rattle.mx_code.specs.declared.trace.Touch.{Touch}
+use Rattle.mx_code.specs.declared.trace.Trace.{Trace}
 use Rattle.mx_core.proofs.Same.Quiet.{free}
 use Rattle.mx_core.proofs.Steps.{other_deed, step_went, step_stopped, step_traps, step_negative}
 use Rattle.mx_run.specs.Runs.{FlagsOf, ended, break_of, after_trace, after_turn, breaks_before}

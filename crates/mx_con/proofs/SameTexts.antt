@@ -8,8 +8,8 @@ use Rattle.mx_registers.specs.Registers.{Registers}
 use Rattle.mx_ring.specs.Stack.{in_stack_area}
 use Rattle.mx_core.specs.Bounds.{as_list_state}
 use Rattle.mx_core.specs.State.{State, is_negative, is_in_stack_segment}
-use Rattle.mx_core.specs.declared.trace.Touch.{Touch}
-use Rattle.mx_core.specs.declared.trace.Trace.{Trace}
+use Rattle.mx_code.specs.declared.trace.Touch.{Touch}
+use Rattle.mx_code.specs.declared.trace.Trace.{Trace}
 use Rattle.mx_core.proofs.Same.Seen.{same-visible, same-register, same-special, same-octa}
 use Rattle.mx_show.specs.Texts.{destination_text, write_text, trap_text, next_text, step_text, trace_text, state_text}
 use Rattle.mx_show.specs.Subjects.{octa_shown, octa_start, subject_text, subject_value, shown_line, subject_wild}

@@ -4,7 +4,7 @@ use Rattle.mx_host.specs.HostModel.{HostModel}
 use Rattle.mx_plan.specs.Plan.{returns, calls, end_of, Stops}
 use Rattle.mx_plan.specs.Calls.{host, HostPlan}
 use Rattle.mx_core.specs.State.{State}
-use Rattle.mx_core.specs.declared.trace.Trace.{Trace}
+use Rattle.mx_code.specs.declared.trace.Trace.{Trace}
 use Rattle.mx_run.specs.RunPlans.{RunWorld, RunPlan, running}
 use Rattle.mx_run.specs.Runs.{FlagsOf}
 use Rattle.mx_cmd.specs.declared.command.Command.{Command}

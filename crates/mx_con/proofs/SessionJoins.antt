@@ -7,7 +7,7 @@ use Rattle.mx_plan.specs.Plan.{returns, bind, end_of, end_after}
 use Rattle.mx_plan.specs.Calls.{host, need, read_plan, write_plan}
 use Rattle.mx_plan.proofs.Plans.{end_bind}
 use Rattle.mx_core.specs.State.{State}
-use Rattle.mx_core.specs.declared.trace.Trace.{Trace}
+use Rattle.mx_code.specs.declared.trace.Trace.{Trace}
 use Rattle.mx_run.specs.RunPlans.{running, beside_world, ended_world, look, turn_plan, run_plan}
 use Rattle.mx_run.specs.Runs.{FlagsOf, Ended, run}
 use Rattle.mx_run.specs.Turns.{Answered, turn_answer, turn}

@@ -6,7 +6,7 @@ use Rattle.mx_plan.specs.Plan.{returns, bind, end_of, end_after, Stops, StopsAft
 use Rattle.mx_plan.specs.Calls.{host, HostPlan}
 use Rattle.mx_plan.proofs.Plans.{end_bind, stops_first, stops_after, end_returns, rest_after}
 use Rattle.mx_core.specs.State.{State}
-use Rattle.mx_core.specs.declared.trace.Trace.{Trace}
+use Rattle.mx_code.specs.declared.trace.Trace.{Trace}
 use Rattle.mx_run.specs.RunPlans.{RunWorld, running, look, turn_plan, run_plan}
 use Rattle.mx_run.specs.Runs.{FlagsOf}
 use Rattle.mx_run.specs.declared.end.BreakKind.{BreakKind}

@@ -6,7 +6,7 @@ use Rattle.mx_host.specs.declared.faults.HostFault.{HostFault}
 use Rattle.mx_plan.specs.Calls.{HostCall, HostSays, HostPlan, reading, read_plan, write_plan, need}
 use Rattle.mx_plan.specs.Taking.{CanSay, taken, Spares}
 use Rattle.mx_plan.proofs.Taking.{spares-bind, spares-returns, need-spares, write-spares}
-use Rattle.mx_core.specs.declared.trace.Trace.{Trace}
+use Rattle.mx_code.specs.declared.trace.Trace.{Trace}
 use Rattle.mx_run.specs.RunPlans.{RunPlan, turn_plan, look, run_plan}
 use Rattle.mx_run.specs.Runs.{FlagsOf}
 use Rattle.mx_run.specs.declared.end.BreakKind.{BreakKind}

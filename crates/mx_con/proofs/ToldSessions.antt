@@ -10,7 +10,7 @@ use Rattle.mx_host.specs.declared.slots.Mode.{Mode}
 use Rattle.mx_host.specs.declared.slots.Lead.{Lead}
 use Rattle.mx_host.specs.declared.slots.Lead.TheVariants.{Input, Output, Errors, File}
 use Rattle.mx_core.specs.State.{State}
-use Rattle.mx_core.specs.declared.trace.Trace.{Trace}
+use Rattle.mx_code.specs.declared.trace.Trace.{Trace}
 use Rattle.mx_run.specs.Runs.{FlagsOf, break_of, breaks_before, after_trace}
 use Rattle.mx_run.specs.Runs.{after_turn as run_after_turn}
 use Rattle.mx_run.specs.Turns.{Turn, went_on, halts, stops, turn, turn_answer}

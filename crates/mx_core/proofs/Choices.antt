@@ -4,9 +4,9 @@ use Rattle.mx_spec.specs.declared.put.Put.{Put}
 use Rattle.mx_spec.specs.declared.put.Put.TheVariants as put
 use Rattle.mx_spec.specs.SpecialRegisters.{rG, rL}
 use Rattle.mx_core.specs.Effects.{Effect, putting}
-use Rattle.mx_core.specs.Instructions.{Instruction}
+use Rattle.mx_code.specs.declared.instruction.Instruction.{Instruction}
 use Rattle.mx_core.specs.Stops.{reason_where, first_reason}
-use Rattle.mx_core.specs.declared.reason.Reason.{Reason}
+use Rattle.mx_code.specs.declared.reason.Reason.{Reason}
 
 pub chosen : {A : Type 0} (P : A → Type 0) (b : Bool) (x y : A) → P x → P y → P (cond b x y)
 chosen P true x y p q = p

@@ -4,7 +4,6 @@ pub mod Same
 pub mod Kept
 pub mod Results
 pub mod Spaces
-pub mod Tables
 pub mod Steps
 pub mod StepCounts
 pub mod StepMarks

@@ -10,16 +10,17 @@ use Rattle.mx_trip.specs.declared.insertion.Insert.TheVariants as insert
 use Rattle.mx_trip.specs.declared.insertion.Kind.TheVariants.{Again, Continue, Set}
 use Rattle.mx_core.specs.Deeds.{Deed, with_result, with_store, with_specials, moved, tripped, trip_specials, applied, with_destination, deed_of, given_instruction, plain_deed, inserted, resumed}
 use Rattle.mx_core.specs.Effects.{going_to, Effect, Store, Move, Tripping, stays, pushes, pops, saves, unsaves, cuts, moves_globals}
-use Rattle.mx_core.specs.Instructions.{Instruction, instruction, operation_in, xyz_of}
-use Rattle.mx_core.specs.Stops.{has_destination}
+use Rattle.mx_code.specs.Instructions.{instruction, operation_in, xyz_of}
+use Rattle.mx_code.specs.declared.instruction.Instruction.{Instruction}
+use Rattle.mx_code.specs.Operations.{has_destination}
 use Rattle.mx_core.specs.State.{State, special_register, locals, global_start, with_special, with_octa, is_negative}
 use Rattle.mx_core.specs.Step.{Stepped, went, calls, stopped, fetched, completed, made, step}
 use Rattle.mx_core.specs.Way.Stepping.{advanced}
-use Rattle.mx_core.specs.declared.operation.Operation.{Operation}
-use Rattle.mx_core.specs.declared.operation.Operation.TheVariants as op
-use Rattle.mx_core.specs.declared.reason.Reason.{Reason}
+use Rattle.mx_code.specs.declared.operation.Operation.{Operation}
+use Rattle.mx_code.specs.declared.operation.Operation.TheVariants as op
+use Rattle.mx_code.specs.declared.reason.Reason.{Reason}
 use Rattle.mx_core.specs.declared.step.Advance.TheVariants as advance
-use Rattle.mx_core.specs.declared.reason.Reason.TheVariants.{Negative, Illegal}
+use Rattle.mx_code.specs.declared.reason.Reason.TheVariants.{Negative, Illegal}
 
 -- AN EFFECT
 

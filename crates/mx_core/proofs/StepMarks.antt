@@ -3,10 +3,10 @@ use Rattle.std.proofs.Common.{◌≡◌, ℕ, Bool, true, false, cond, List, [],
 use Rattle.mx_ring.specs.Stack.{in_stack_area}
 use Rattle.mx_core.specs.Deeds.{with_result, with_store, with_specials, moved, tripped, trip_specials, applied, with_destination}
 use Rattle.mx_core.specs.Effects.{Effect, Store, Move, Tripping, stays, pushes, pops, saves, unsaves, cuts, moves_globals, moves_frames}
-use Rattle.mx_core.specs.Instructions.{Instruction}
-use Rattle.mx_core.specs.Stops.{has_destination}
+use Rattle.mx_code.specs.declared.instruction.Instruction.{Instruction}
+use Rattle.mx_code.specs.Operations.{has_destination}
 use Rattle.mx_core.specs.State.{State, with_special, with_octa}
-use Rattle.mx_core.specs.declared.operation.Operation.{Operation}
+use Rattle.mx_code.specs.declared.operation.Operation.{Operation}
 
 chosen : (b : Bool) (s t : State) (n : ℕ) → s.mark ≡ n → t.mark ≡ n → (cond b s t).mark ≡ n
 chosen true s t n h k = h

@@ -3,18 +3,19 @@ use Rattle.std.proofs.Common.{◌≡◌, ◌≢◌, ◌<◌, ◌≤◌, ℕ, ◌
 use Rattle.std.proofs.lemmas.Bool.Decides.{nat_tests}
 use Rattle.mx_core.specs.Way.Calls.{Left, left, with_touch_where}
 use Rattle.mx_core.specs.Deeds.{deed_for, deed_at, Deed, deed_of, outcome, state_done, unless_refused}
-use Rattle.mx_core.specs.Instructions.{Instruction, operation_in}
+use Rattle.mx_code.specs.Instructions.{operation_in}
+use Rattle.mx_code.specs.declared.instruction.Instruction.{Instruction}
 use Rattle.mx_core.specs.State.{State, is_negative, is_in_stack_segment}
 use Rattle.mx_core.specs.Step.{went, stopped, calls, fetched, after, trace_of, completed, carried_out, made, call_of, step}
 use Rattle.mx_core.specs.Way.Stepping.{sight_of, Foretells, write_told}
 use Rattle.mx_core.specs.declared.sight.Sight.{Sight}
-use Rattle.mx_core.specs.declared.trace.Touch.{Touch}
-use Rattle.mx_core.specs.declared.trace.Trace.{Trace}
-use Rattle.mx_core.specs.declared.operation.Operation.{Operation}
-use Rattle.mx_core.specs.declared.operation.Operation.TheVariants as op
-use Rattle.mx_core.specs.declared.reason.Reason.{Reason}
-use Rattle.mx_core.specs.declared.reason.Reason.TheVariants.{Negative}
-use Rattle.mx_core.specs.declared.stop.Stop.TheVariants.{Stopped}
+use Rattle.mx_code.specs.declared.trace.Touch.{Touch}
+use Rattle.mx_code.specs.declared.trace.Trace.{Trace}
+use Rattle.mx_code.specs.declared.operation.Operation.{Operation}
+use Rattle.mx_code.specs.declared.operation.Operation.TheVariants as op
+use Rattle.mx_code.specs.declared.reason.Reason.{Reason}
+use Rattle.mx_code.specs.declared.reason.Reason.TheVariants.{Negative}
+use Rattle.mx_code.specs.declared.stop.Stop.TheVariants.{Stopped}
 
 pub other_deed : (o : Operation) (s : State) (i : Instruction) → o ≢ op.Resume → deed_for o s i ≡ deed_of o s i
 other_deed op.Resume s i n = absurd (n refl)

@@ -3,13 +3,14 @@ use Rattle.std.proofs.Common.{◌≡◌, ◌≢◌, ◌<◌, ◌^◌, false, Ok,
 use Rattle.std.proofs.lemmas.Bool.Decides.{nat_tests}
 use Rattle.mx_core.specs.Way.Calls.{Left, left, with_touch_where}
 use Rattle.mx_core.specs.Deeds.{deed_at, deed_for, deed_of, outcome}
-use Rattle.mx_core.specs.Instructions.{Instruction, operation_in}
+use Rattle.mx_code.specs.Instructions.{operation_in}
+use Rattle.mx_code.specs.declared.instruction.Instruction.{Instruction}
 use Rattle.mx_core.specs.State.{State, is_in_stack_segment}
 use Rattle.mx_core.specs.Step.{fetched, step}
 use Rattle.mx_core.specs.Way.Stepping.{advanced}
 use Rattle.mx_core.specs.Stops.{form_fault}
-use Rattle.mx_core.specs.declared.operation.Operation.{Operation}
-use Rattle.mx_core.specs.declared.operation.Operation.TheVariants as op
+use Rattle.mx_code.specs.declared.operation.Operation.{Operation}
+use Rattle.mx_code.specs.declared.operation.Operation.TheVariants as op
 use Rattle.mx_core.specs.declared.step.Advance.TheVariants as advance
 use Rattle.mx_core.proofs.Results.Outcomes.{or-false}
 use Rattle.mx_core.proofs.Steps.{step_went}

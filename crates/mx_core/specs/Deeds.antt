@@ -10,14 +10,16 @@ use Rattle.mx_trip.specs.declared.insertion.Insert.TheVariants as insert
 use Rattle.mx_trip.specs.declared.insertion.Kind.{Kind}
 use Rattle.mx_trip.specs.declared.insertion.Kind.TheVariants.{Again, Continue, Set}
 use Rattle.mx_core.specs.Effects.{Effect, Store, Tripping, Move, stays, pushes, pops, saves, unsaves, cuts, moves_globals, effect_of, giving, going_to, z_operand}
-use Rattle.mx_core.specs.Instructions.{Instruction, instruction, x_of, z_of, xyz_of, next_of, operation_in}
+use Rattle.mx_code.specs.Instructions.{instruction, x_of, z_of, xyz_of, next_of, operation_in, destination_of}
+use Rattle.mx_code.specs.declared.instruction.Instruction.{Instruction}
 use Rattle.mx_core.specs.State.{State, global_start, locals, special_register, with_special, with_value_in, with_local, with_stored, is_in_stack_segment}
-use Rattle.mx_core.specs.Stops.{refusal, form_fault, has_destination}
-use Rattle.mx_core.specs.declared.operation.Operation.{Operation}
-use Rattle.mx_core.specs.declared.operation.Operation.TheVariants as op
-use Rattle.mx_core.specs.declared.reason.Reason.{Reason}
-use Rattle.mx_core.specs.declared.reason.Reason.TheVariants.{Illegal, ResumeInsert}
-use Rattle.mx_core.specs.declared.trace.Touch.{Touch}
+use Rattle.mx_code.specs.Operations.{has_destination}
+use Rattle.mx_core.specs.Stops.{refusal, form_fault}
+use Rattle.mx_code.specs.declared.operation.Operation.{Operation}
+use Rattle.mx_code.specs.declared.operation.Operation.TheVariants as op
+use Rattle.mx_code.specs.declared.reason.Reason.{Reason}
+use Rattle.mx_code.specs.declared.reason.Reason.TheVariants.{Illegal, ResumeInsert}
+use Rattle.mx_code.specs.declared.trace.Touch.{Touch}
 
 -- CARRYING AN EFFECT OUT
 
@@ -108,9 +110,6 @@ abbrev pub wild_effect : Operation → State → Instruction → Effect → Bool
 wild_effect operation s i e =
     is_absent (form_fault operation s i)
     && (looks_at_stack operation s i || loads_in_segment e.load || stores_in_segment e.store)
-
-abbrev pub destination_of : Operation → Instruction → Option ℕ
-destination_of operation i = if has_destination operation then Some (x_of i) else None
 
 abbrev pub with_destination : Operation → State → Instruction → State
 with_destination operation s i = if has_destination operation then with_local s (x_of i) else s

@@ -1,17 +1,15 @@
 -- What instructions do, a line for each operation (MMIXware, the part on MMIX; TAOCP 1, Fascicle 1, section 1.3.1').
 -- An effect is told in the state where the destination is local already; `Deeds` carries it out.
-use Rattle.std.specs.Prelude.{ℕ, ◌+◌, ◌-◌, ◌*◌, ◌/◌, ◌%◌, ◌^◌, ◌==◌, ◌||◌, nat_le, nat_lt, Bool, true, false, if◌then◌else◌, List, [], ◌∷◌, ◌++◌, Option, None, Some}
+use Rattle.std.specs.Prelude.{ℕ, ◌+◌, ◌*◌, ◌%◌, ◌^◌, ◌==◌, Bool, true, false, if◌then◌else◌, List, [], ◌∷◌, ◌++◌, Option, None, Some}
 use Rattle.mx_alu.specs.Alu.{alu}
 use Rattle.mx_alu.specs.Names.{wyde_of}
 use Rattle.mx_alu.specs.Truth.{truth}
 use Rattle.mx_alu.specs.Wydes.{wyde}
 use Rattle.mx_alu.specs.declared.answer.Answer.{Answer}
 use Rattle.mx_alu.specs.declared.answer.Event.{Event}
-use Rattle.mx_alu.specs.declared.answer.Event.TheVariants.{Overflow}
 use Rattle.mx_alu.specs.declared.answer.Extra.{Extra}
-use Rattle.mx_mem.specs.Parts.{size_of, part_of}
 use Rattle.mx_mem.specs.declared.part.Part.{Part}
-use Rattle.mx_mem.specs.declared.part.Part.TheVariants.{Tetra, Octa}
+use Rattle.mx_mem.specs.declared.part.Part.TheVariants.{Octa}
 use Rattle.mx_ops.specs.Opcodes.{opcode_kind, is_immediate}
 use Rattle.mx_ring.specs.Stack.{register, stack_index, unsaved_specials}
 use Rattle.mx_ring.specs.declared.saved.Saved.{Saved}
@@ -22,15 +20,14 @@ use Rattle.mx_spec.specs.declared.put.Put.TheVariants as put
 use Rattle.mx_trip.specs.Trips.{decided}
 use Rattle.mx_trip.specs.declared.decision.Trip.{Trip}
 use Rattle.mx_trip.specs.declared.decision.Trip.TheVariants.{Taken, Noted}
-use Rattle.mx_core.specs.Instructions.{Instruction, code_of, x_of, y_of, z_of, yz_of, next_of, near_address, far_address}
+use Rattle.mx_code.specs.Instructions.{code_of, x_of, y_of, z_of, yz_of, next_of, near_address, far_address, wyde_value}
+use Rattle.mx_code.specs.declared.instruction.Instruction.{Instruction}
+use Rattle.mx_code.specs.LoadsAndStores.{touch, loaded_part, loaded_value, stored_part, stored_value, stored_event}
 use Rattle.mx_core.specs.State.{State, special_register, octa, global_start, locals}
-use Rattle.mx_core.specs.declared.operation.Loading.{Loading}
-use Rattle.mx_core.specs.declared.operation.Loading.TheVariants as loading
-use Rattle.mx_core.specs.declared.operation.Storing.{Storing}
-use Rattle.mx_core.specs.declared.operation.Storing.TheVariants as storing
-use Rattle.mx_core.specs.declared.operation.Operation.{Operation}
-use Rattle.mx_core.specs.declared.operation.Operation.TheVariants as op
-use Rattle.mx_core.specs.declared.trace.Touch.{Touch}
+use Rattle.mx_code.specs.declared.operation.Storing.{Storing}
+use Rattle.mx_code.specs.declared.operation.Operation.{Operation}
+use Rattle.mx_code.specs.declared.operation.Operation.TheVariants as op
+use Rattle.mx_code.specs.declared.trace.Touch.{Touch}
 
 -- what becomes of the register stack, beside a result
 pub data Move : Type 0 where
@@ -150,57 +147,11 @@ alu_answer s i y z = alu (code_of i) y z (extra_of s)
 abbrev pub computed : State → Instruction → ℕ → ℕ → Effect
 computed s i y z = answered s i y z (alu_answer s i y z)
 
--- the immediate wyde at its place
-abbrev pub wyde_value : Instruction → ℕ
-wyde_value i = yz_of i * 2 ^ (wyde_of (code_of i)).1
-
 -- LOADS AND STORES
-
--- the touch of the part that holds an address: its own address and size
-abbrev pub touch : ℕ → Part → Touch
-touch a part = record { at = a / size_of part * size_of part; size = size_of part }
-
--- a part as a signed number, in an octa
-abbrev pub sign_extended : Part → ℕ → ℕ
-sign_extended part v = if nat_lt v (2 ^ (8 * size_of part - 1)) then v else v + (2 ^ 64 - 2 ^ (8 * size_of part))
-
--- the part that is loaded, and the value that it gives
-abbrev pub loaded_part : Loading → Part
-loaded_part (loading.Signed part) = part
-loaded_part (loading.Unsigned part) = part
-loaded_part loading.HighTetra = Tetra
-
-abbrev pub loaded_value : Loading → ℕ → ℕ → ℕ
-loaded_value (loading.Signed part) x a = sign_extended part (part_of part x a)
-loaded_value (loading.Unsigned part) x a = part_of part x a
-loaded_value loading.HighTetra x a = part_of Tetra x a * 2 ^ 32
 
 -- memory at an address is read, and the destination gets a value
 abbrev pub loading_from : Instruction → ℕ → Part → ℕ → Effect
 loading_from i a part value = record (giving i value) { load = Some (touch a part) }
-
--- the part that is stored, of $X or the byte X
-abbrev pub stored_part : Storing → Part
-stored_part (storing.Signed part) = part
-stored_part (storing.Unsigned part) = part
-stored_part storing.HighTetra = Tetra
-stored_part storing.Constant = Octa
-
-abbrev pub stored_value : Storing → ℕ → ℕ → ℕ
-stored_value (storing.Signed part) x byte = x
-stored_value (storing.Unsigned part) x byte = x
-stored_value storing.HighTetra x byte = x / 2 ^ 32
-stored_value storing.Constant x byte = byte
-
--- a value whose sign is lost in its part overflows
-abbrev pub fits_signed : Part → ℕ → Bool
-fits_signed part x = nat_lt x (2 ^ (8 * size_of part - 1)) || nat_le (2 ^ 64 - 2 ^ (8 * size_of part - 1)) x
-
-abbrev pub stored_event : Storing → ℕ → Option Event
-stored_event (storing.Signed part) x = if fits_signed part x then None else Some Overflow
-stored_event (storing.Unsigned part) x = None
-stored_event storing.HighTetra x = None
-stored_event storing.Constant x = None
 
 abbrev pub stored_in : ℕ → Part → ℕ → Store
 stored_in a part value = record { at = a; part = part; value = value }

@@ -1,6 +1,3 @@
-pub mod Reasons
-pub mod Operations
-pub mod Instructions
 pub mod State
 pub mod Effects
 pub mod Stops

@@ -4,15 +4,17 @@ use Rattle.std.specs.Option.{option_map}
 use Rattle.mx_ring.specs.Stack.{register}
 use Rattle.mx_trip.specs.declared.call.TrapCall.{TrapCall}
 use Rattle.mx_core.specs.Deeds.{Deed, deed_of, resumed, state_done}
-use Rattle.mx_core.specs.Effects.{Store, touch}
-use Rattle.mx_core.specs.Instructions.{Instruction, instruction, operation_in}
+use Rattle.mx_code.specs.LoadsAndStores.{touch}
+use Rattle.mx_core.specs.Effects.{Store}
+use Rattle.mx_code.specs.Instructions.{instruction, operation_in}
+use Rattle.mx_code.specs.declared.instruction.Instruction.{Instruction}
 use Rattle.mx_core.specs.State.{State, tetra, is_negative, is_in_stack_segment}
-use Rattle.mx_core.specs.declared.operation.Operation.{Operation}
-use Rattle.mx_core.specs.declared.operation.Operation.TheVariants as op
-use Rattle.mx_core.specs.declared.reason.Reason.{Reason}
-use Rattle.mx_core.specs.declared.reason.Reason.TheVariants.{Negative}
-use Rattle.mx_core.specs.declared.trace.Touch.{Touch}
-use Rattle.mx_core.specs.declared.trace.Trace.{Trace}
+use Rattle.mx_code.specs.declared.operation.Operation.{Operation}
+use Rattle.mx_code.specs.declared.operation.Operation.TheVariants as op
+use Rattle.mx_code.specs.declared.reason.Reason.{Reason}
+use Rattle.mx_code.specs.declared.reason.Reason.TheVariants.{Negative}
+use Rattle.mx_code.specs.declared.trace.Touch.{Touch}
+use Rattle.mx_code.specs.declared.trace.Trace.{Trace}
 
 pub data Stepped : Type 0 where
   went : State → Trace → Stepped

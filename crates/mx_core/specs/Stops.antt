@@ -7,13 +7,15 @@ use Rattle.mx_spec.specs.Puts.{put_of}
 use Rattle.mx_spec.specs.declared.put.Put.{Put}
 use Rattle.mx_spec.specs.declared.put.Put.TheVariants as put
 use Rattle.mx_core.specs.Effects.{Effect, Store, Tripping, z_operand}
-use Rattle.mx_core.specs.Instructions.{Instruction, x_of, y_of, z_of, yz_of, xyz_of}
+use Rattle.mx_code.specs.Instructions.{x_of, y_of, z_of, yz_of, xyz_of}
+use Rattle.mx_code.specs.declared.instruction.Instruction.{Instruction}
+use Rattle.mx_code.specs.Operations.{has_destination}
 use Rattle.mx_core.specs.State.{State, global_start, locals, tetra, is_page_refused, is_negative}
-use Rattle.mx_core.specs.declared.operation.Operation.{Operation}
-use Rattle.mx_core.specs.declared.operation.Operation.TheVariants as op
-use Rattle.mx_core.specs.declared.reason.Reason.{Reason}
-use Rattle.mx_core.specs.declared.reason.Reason.TheVariants.{Float, Illegal, Privileged, Negative, StackFull, Underflow, BadFrame, UnhandledTrip, PagesFull, ResumeInsert}
-use Rattle.mx_core.specs.declared.trace.Touch.{Touch}
+use Rattle.mx_code.specs.declared.operation.Operation.{Operation}
+use Rattle.mx_code.specs.declared.operation.Operation.TheVariants as op
+use Rattle.mx_code.specs.declared.reason.Reason.{Reason}
+use Rattle.mx_code.specs.declared.reason.Reason.TheVariants.{Float, Illegal, Privileged, Negative, StackFull, Underflow, BadFrame, UnhandledTrip, PagesFull, ResumeInsert}
+use Rattle.mx_code.specs.declared.trace.Touch.{Touch}
 
 -- a reason where something holds
 abbrev pub reason_where : Bool → Reason → Option Reason
@@ -55,20 +57,6 @@ load_fault (Some t) = reason_where (is_negative t.at) Negative
 abbrev pub store_fault : Option Store → Option Reason
 store_fault None = None
 store_fault (Some store) = reason_where (is_negative store.at) Negative
-
--- whether an operation has a destination, the register $X
-abbrev pub has_destination : Operation → Bool
-has_destination op.Compute = true
-has_destination op.Negate = true
-has_destination op.Wyde = true
-has_destination op.ConditionalSet = true
-has_destination op.ZeroOrSet = true
-has_destination (op.Load how) = true
-has_destination op.CompareAndSwap = true
-has_destination op.Address = true
-has_destination op.Go = true
-has_destination op.Get = true
-has_destination operation = false
 
 -- what the register stack refuses
 unfoldable pub stack_fault : Operation → State → Instruction → Option Reason

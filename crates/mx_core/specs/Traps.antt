@@ -5,7 +5,7 @@ use Rattle.mx_spec.specs.SpecialRegisters.{rBB, rWW, rXX, rYY, rZZ}
 use Rattle.mx_trip.specs.declared.call.TrapCall.{TrapCall}
 use Rattle.mx_core.specs.Deeds.{with_specials, onward}
 use Rattle.mx_core.specs.State.{State, with_value_in}
-use Rattle.mx_core.specs.declared.trace.Trace.{Trace}
+use Rattle.mx_code.specs.declared.trace.Trace.{Trace}
 
 -- rWW, rXX, rYY and rZZ tell the instruction, and rBB the result
 abbrev pub trap_specials : State → TrapCall → ℕ → List (ℕ × ℕ)

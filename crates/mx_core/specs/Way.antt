@@ -1,6 +1,4 @@
 -- The code's way: in which order and by which steps of its own it does what the definitions say.
-pub mod Told
-pub mod Groups
 pub mod Calls
 pub mod Parts
 pub mod Stepping

@@ -4,15 +4,13 @@ ghost use Rattle.std.specs.Prelude.{◌≡◌, ◌<◌, ◌/◌, ◌%◌, ◌^�
 ghost use Rattle.mx_core.specs.Way.Calls.{KeepsWhereNot, MakesWhereTold, settled, store_outcome};
 ghost use Rattle.mx_core.specs.Deeds.{deed_at, deed_of, outcome};
 ghost use Rattle.mx_core.specs.Effects.{data_address};
-ghost use Rattle.mx_core.specs.Instructions.{next_of, operation_in, x_of};
+ghost use Rattle.mx_code.specs.Instructions.{next_of, operation_in, x_of};
 ghost use Rattle.mx_core.specs.Kept.{state_of};
 ghost use Rattle.mx_core.specs.Way.Noting.{PutsLink, StoresBelow};
 
 use crate::Machine;
-use crate::instruction::Instruction;
-use crate::operation::{Operation, Storing};
-use crate::part::{overflows, stored_part, stored_value};
 use crate::trips::RJ;
+use mx_code::{Instruction, Operation, Storing, overflows, stored_part, stored_value};
 use mx_mem::{Part, with_part};
 
 impl Machine {

@@ -1,24 +1,20 @@
 //! Instructions that give $X a value and do nothing else.
 
-ghost use Rattle.std.specs.Prelude.{◌≡◌, true, IsTrue};
+ghost use Rattle.std.specs.Prelude.{◌≡◌, IsTrue};
 ghost use Rattle.mx_core.specs.Way.Calls.{CarriesOut, Makes, answer_outcome};
 ghost use Rattle.mx_core.specs.Effects as spec;
-ghost use Rattle.mx_core.specs.Instructions.{code_of, instruction, operation_in};
+ghost use Rattle.mx_code.specs.Instructions.{code_of, instruction, operation_in};
 ghost use Rattle.mx_core.specs.Kept.{state_of};
-ghost use Rattle.mx_core.specs.Operations.{has_condition};
-ghost use Rattle.mx_core.specs.Way.Told.{answer_in};
+ghost use Rattle.mx_code.specs.Told.{answer_in};
 ghost use Rattle.mx_alu.specs.Alu.{is_alu};
-ghost use Rattle.mx_alu.specs.Truth as conditions;
 
 use crate::Machine;
-use crate::instruction::Instruction;
-use crate::operation::Operation;
-use crate::stop::{Stop, Told};
-use mx_alu::{Extra, alu, lone_result, truth, wyde};
+use mx_alu::{Extra, alu, lone_result, wyde};
+use mx_code::{Instruction, Operation, Stop, Told, holds, wyde_value};
 
 impl Machine {
     /// MUL to SRU and OR to MXOR, but for NEG and NEGU. Mostly the result is all that they give.
-    #[tactic(auto, using(crate::proofs::Results::Events::compute_outcome, crate::proofs::Results::Events::compute_alone, crate::proofs::Results::Plain::answer_plain, crate::proofs::Tables::computes, crate::proofs::Tables::computes_low))]
+    #[tactic(auto, using(crate::proofs::Results::Events::compute_outcome, crate::proofs::Results::Events::compute_alone, crate::proofs::Results::Plain::answer_plain, mx_code::proofs::Tables::computes, mx_code::proofs::Tables::computes_low))]
     #[inline(always)]
     pub(crate) fn compute(&mut self, i: &Instruction) -> Result<(), Stop>
         requires { operation_in i.now ≡ Operation.Compute }
@@ -45,7 +41,7 @@ impl Machine {
     }
 
     /// NEG and NEGU. Mostly the result is all that they give.
-    #[tactic(auto, using(crate::proofs::Results::Events::negate_outcome, crate::proofs::Results::Events::negate_alone, crate::proofs::Results::Plain::answer_plain, crate::proofs::Tables::negates, crate::proofs::Tables::negates_low))]
+    #[tactic(auto, using(crate::proofs::Results::Events::negate_outcome, crate::proofs::Results::Events::negate_alone, crate::proofs::Results::Plain::answer_plain, mx_code::proofs::Tables::negates, mx_code::proofs::Tables::negates_low))]
     #[inline(always)]
     pub(crate) fn negate(&mut self, i: &Instruction) -> Result<(), Stop>
         requires { operation_in i.now ≡ Operation.Negate }
@@ -71,7 +67,7 @@ impl Machine {
     }
 
     /// SETH to ANDNL.
-    #[tactic(auto, using(crate::proofs::Results::Outcomes::wyde_outcome, crate::proofs::Tables::wyde_low, crate::proofs::Tables::wyde_high))]
+    #[tactic(auto, using(crate::proofs::Results::Outcomes::wyde_outcome, mx_code::proofs::Tables::wyde_low, mx_code::proofs::Tables::wyde_high))]
     #[inline(always)]
     pub(crate) fn set_wyde(&mut self, i: &Instruction) -> Result<(), Stop>
         requires { operation_in i.now ≡ Operation.Wyde }
@@ -85,7 +81,7 @@ impl Machine {
     }
 
     /// CSN to CSEV.
-    #[tactic(auto, using(crate::proofs::Results::Outcomes::conditional_outcome), unfolding(crate::specs::Operations::has_condition))]
+    #[tactic(auto, using(crate::proofs::Results::Outcomes::conditional_outcome), unfolding(mx_code::specs::Operations::has_condition))]
     #[inline(always)]
     pub(crate) fn conditional_set(&mut self, i: &Instruction) -> Result<(), Stop>
         requires { operation_in i.now ≡ Operation.ConditionalSet }
@@ -100,7 +96,7 @@ impl Machine {
     }
 
     /// ZSN to ZSEV.
-    #[tactic(auto, using(crate::proofs::Results::Outcomes::zero_outcome), unfolding(crate::specs::Operations::has_condition))]
+    #[tactic(auto, using(crate::proofs::Results::Outcomes::zero_outcome), unfolding(mx_code::specs::Operations::has_condition))]
     #[inline(always)]
     pub(crate) fn zero_or_set(&mut self, i: &Instruction) -> Result<(), Stop>
         requires { operation_in i.now ≡ Operation.ZeroOrSet }
@@ -131,24 +127,4 @@ impl Machine {
     {
         self.settle(i, i.next(), self.data_address(i))
     }
-}
-
-/// The immediate wyde of an instruction at its place.
-#[tactic(auto, using(crate::proofs::Tables::wyde_low, crate::proofs::Tables::wyde_high))]
-#[inline(always)]
-pub(crate) fn wyde_value(i: &Instruction) -> u64
-    requires { operation_in i.now ≡ Operation.Wyde }
-    ensures { result ≡ spec.wyde_value i.now }
-{
-    i.yz() << (48 - 16 * (u32::from(i.code()) % 4))
-}
-
-/// Whether the condition of an instruction holds of an octa.
-#[tactic(auto, using(crate::proofs::Tables::condition_low, crate::proofs::Tables::condition_high))]
-#[inline(always)]
-pub(crate) fn holds(i: &Instruction, x: u64) -> bool
-    requires { has_condition (operation_in i.now) ≡ true }
-    ensures { result ≡ conditions.truth (code_of i.now) x }
-{
-    truth(i.code(), x)
 }

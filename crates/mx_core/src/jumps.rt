@@ -3,20 +3,17 @@
 ghost use Rattle.std.specs.Prelude.{◌≡◌};
 ghost use Rattle.mx_core.specs.Way.Calls as spec;
 ghost use Rattle.mx_core.specs.Way.Calls.{CarriesOut, Makes};
-ghost use Rattle.mx_core.specs.Instructions.{operation_in};
+ghost use Rattle.mx_code.specs.Instructions.{operation_in};
 ghost use Rattle.mx_core.specs.Kept.{state_of};
 
 use crate::bounds::know_bounds;
-use crate::compute::holds;
-use crate::instruction::Instruction;
-use crate::operation::Operation;
-use crate::stop::Stop;
 use crate::trips::RJ;
 use crate::{Machine, Reason};
+use mx_code::{Instruction, Operation, Stop, holds};
 
 impl Machine {
     /// BN to PBEV.
-    #[tactic(auto, using(crate::proofs::Results::Others::branch_outcome), unfolding(crate::specs::Operations::has_condition))]
+    #[tactic(auto, using(crate::proofs::Results::Others::branch_outcome), unfolding(mx_code::specs::Operations::has_condition))]
     #[inline(always)]
     pub(crate) fn branch(&mut self, i: &Instruction) -> Result<(), Stop>
         requires { operation_in i.now ≡ Operation.Branch }

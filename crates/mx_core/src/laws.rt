@@ -6,15 +6,15 @@ ghost use Rattle.std.specs.Prelude.{◌≡◌, ◌<◌, ◌≤◌, ◌^◌, ◌|
 ghost use Rattle.mx_core.specs.Bounds.{IsMachine, as_list_state, as_list_step};
 ghost use Rattle.mx_core.specs.Deeds.{applied, with_destination};
 ghost use Rattle.mx_core.specs.Effects.{Effect, moves_frames, specials_saved};
-ghost use Rattle.mx_core.specs.Instructions.{Instruction};
+ghost use Rattle.mx_code.specs.declared.instruction.Instruction.{Instruction};
 ghost use Rattle.mx_core.specs.Machines.{IsOverWindow};
 ghost use Rattle.mx_core.specs.Changes.{register_changed, special_changed, octa_changed, at_address};
 ghost use Rattle.mx_core.specs.State.{State, global_start, special_register, octa};
 ghost use Rattle.mx_core.specs.Step.{went, calls, step};
 ghost use Rattle.mx_core.specs.Traps.{trapped, halted, with_touch};
 ghost use Rattle.mx_core.specs.Wild.{IsQuiet, is_wild};
-ghost use Rattle.mx_core.specs.declared.operation.Operation.{Operation};
-ghost use Rattle.mx_core.specs.declared.trace.Trace.{Trace};
+ghost use Rattle.mx_code.specs.declared.operation.Operation.{Operation};
+ghost use Rattle.mx_code.specs.declared.trace.Trace.{Trace};
 ghost use Rattle.mx_ring.specs.Laws.{SaveIsUndone};
 ghost use Rattle.mx_ring.specs.Stack.{visible, register, hidden_count, in_stack_area, stack_address};
 ghost use Rattle.mx_ring.specs.Stack.{save_overfills, saved, frame_top};

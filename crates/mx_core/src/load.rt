@@ -4,16 +4,13 @@ ghost use Rattle.std.specs.Prelude.{◌≡◌, ◌<◌, ◌≤◌, ◌+◌, ◌%
 ghost use Rattle.mx_ring.specs.Stack.{in_stack_area};
 ghost use Rattle.mx_core.specs.Way.Calls.{CarriesOut};
 ghost use Rattle.mx_core.specs.Effects.{data_address};
-ghost use Rattle.mx_core.specs.Instructions.{operands_given};
+ghost use Rattle.mx_code.specs.Instructions.{operands_given};
 ghost use Rattle.mx_core.specs.Kept.{state_of};
-ghost use Rattle.mx_core.specs.Way.Told.{answer_in};
+ghost use Rattle.mx_code.specs.Told.{answer_in};
 
-use crate::instruction::Instruction;
 use crate::machine::is_in_stack_area;
-use crate::operation::{Loading, Operation};
-use crate::part::loaded_value;
-use crate::stop::{Stop, Told};
 use crate::{Machine, Reason};
+use mx_code::{Instruction, Loading, Operation, Stop, Told, loaded_value};
 use mx_ring::STACK_SEGMENT;
 
 impl Machine {

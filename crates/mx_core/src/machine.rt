@@ -14,7 +14,7 @@ ghost use Rattle.mx_core.specs.Traps.{with_touch};
 
 use crate::Reason;
 use crate::bounds::know_bounds;
-use crate::stop::Stop;
+use mx_code::Stop;
 use mx_mem::{MemFault, Memory, Part, with_part};
 use mx_ring::{AREA_END, Ring, RingFault, STACK_SEGMENT};
 use std::marker::Model;

@@ -3,7 +3,7 @@
 ghost use Rattle.std.specs.Prelude.{◌≡◌, ◌≢◌, ◌<◌, ◌^◌, IfOk, IfSome};
 ghost use Rattle.mx_ring.specs.Notes.{WorkNeeds};
 ghost use Rattle.mx_core.specs.Deeds.{deed_at};
-ghost use Rattle.mx_core.specs.Instructions.{operation_in};
+ghost use Rattle.mx_code.specs.Instructions.{operation_in};
 ghost use Rattle.mx_core.specs.Kept.{state_of};
 ghost use Rattle.mx_core.specs.Way.Noting as spec;
 ghost use Rattle.mx_core.specs.Way.Noting.{IfWent, TellsDeed, step_of};
@@ -13,13 +13,12 @@ ghost use Rattle.mx_core.specs.Undoing as undoing;
 ghost use Rattle.mx_core.specs.Undoing.{TakesBack};
 
 use crate::bounds::machines_hold_octas;
-use crate::instruction::Instruction;
 use crate::machine::is_in_stack_area;
-use crate::operation::Operation;
 use crate::overwritten::{OctaWas, UsualWas};
 use crate::sight::Sight;
 use crate::undoing::machines_are_paged;
 use crate::{Machine, Reason, Step, Touch, Trace};
+use mx_code::{Instruction, Operation};
 use mx_ring::{RingFault, RingNote, RingWork, STACK_SEGMENT};
 use mx_trip::TrapCall;
 use std::alloc::Global;

@@ -3,12 +3,11 @@
 ghost use Rattle.std.specs.Prelude.{◌≡◌, ◌<◌, ◌≤◌};
 ghost use Rattle.mx_core.specs.Way.Calls.{Makes, settled};
 ghost use Rattle.mx_core.specs.Effects as spec;
-ghost use Rattle.mx_core.specs.Instructions.{x_of};
+ghost use Rattle.mx_code.specs.Instructions.{x_of};
 ghost use Rattle.mx_core.specs.Kept.{state_of};
 
 use crate::Machine;
-use crate::instruction::Instruction;
-use crate::stop::Stop;
+use mx_code::{Instruction, Stop};
 use mx_ops::is_immediate;
 
 impl Machine {

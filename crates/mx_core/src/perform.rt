@@ -3,14 +3,12 @@
 ghost use Rattle.std.specs.Prelude.{◌≡◌};
 ghost use Rattle.mx_core.specs.Way.Calls.{CarriesOutWithMemory, KeepsOnErr, LacksMemoryOnlyWhere};
 ghost use Rattle.mx_core.specs.Deeds.{deed_of};
-ghost use Rattle.mx_core.specs.Instructions.{operation_in};
+ghost use Rattle.mx_code.specs.Instructions.{operation_in};
 ghost use Rattle.mx_core.specs.Kept.{state_of};
 ghost use Rattle.mx_core.specs.Way.Stepping.{needs_page};
 
-use crate::instruction::Instruction;
-use crate::operation::Operation;
-use crate::stop::Stop;
 use crate::{Machine, Reason};
+use mx_code::{Instruction, Operation, Stop};
 
 impl Machine {
     /// Carries an instruction out. It takes memory only for a store that begins a page.

@@ -4,15 +4,14 @@ ghost use Rattle.std.specs.Prelude.{◌≡◌, false};
 ghost use Rattle.mx_core.specs.Way.Calls.{KeepsOnErr, LacksMemoryOnlyWhere, Makes, MakesWithMemory, sets_marginal};
 ghost use Rattle.mx_core.specs.Deeds as deeds;
 ghost use Rattle.mx_core.specs.Deeds.{outcome, resumed};
-ghost use Rattle.mx_core.specs.Instructions as spec;
+ghost use Rattle.mx_code.specs.Instructions as spec;
 ghost use Rattle.mx_core.specs.Kept.{state_of};
 ghost use Rattle.mx_core.specs.Way.Stepping.{needs_page};
 ghost use Rattle.mx_trip.specs.declared.insertion.Kind.TheVariants as kinds;
 
-use crate::instruction::Instruction;
-use crate::stop::Stop;
 use crate::trips::{RW, RX, RY, RZ};
 use crate::{Machine, Reason};
+use mx_code::{Instruction, Stop};
 use mx_trip::{Insert, Kind, inserted};
 
 impl Machine {

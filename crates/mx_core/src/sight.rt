@@ -2,17 +2,16 @@
 
 ghost use Rattle.std.specs.Prelude.{◌≡◌, true, false};
 ghost use Rattle.mx_core.specs.Deeds.{deed_at, deed_of};
-ghost use Rattle.mx_core.specs.Instructions.{Instruction, operation_in};
+ghost use Rattle.mx_code.specs.Instructions.{operation_in};
+ghost use Rattle.mx_code.specs.declared.instruction.Instruction.{Instruction};
 ghost use Rattle.mx_core.specs.Kept.{state_of};
 ghost use Rattle.mx_core.specs.Way.Stepping as spec;
 ghost use Rattle.mx_core.specs.Way.Stepping.{Foretells, is_exchange, is_swap, sight_of};
 ghost use Rattle.mx_core.specs.Deeds as deeds;
 
-use crate::instruction::Instruction;
-use crate::operation::Operation;
-use crate::part::{loaded_part, stored_part, touch};
 use crate::trips::{RW, RX, RY, RZ};
 use crate::{Machine, Touch};
+use mx_code::{Instruction, Operation, destination, loaded_part, stored_part, touch};
 use mx_mem::Part;
 use mx_trip::{Insert, Kind, inserted};
 
@@ -132,24 +131,5 @@ impl Machine {
             }
             _ => sight.writes,
         }
-    }
-}
-
-/// The register that an operation sets, where it has a destination.
-fn destination(operation: Operation, i: &Instruction) -> Option<u8>
-    ensures { result ≡ deeds.destination_of operation i.now }
-{
-    match operation {
-        Operation::Compute
-        | Operation::Negate
-        | Operation::Wyde
-        | Operation::ConditionalSet
-        | Operation::ZeroOrSet
-        | Operation::Load(_)
-        | Operation::CompareAndSwap
-        | Operation::Address
-        | Operation::Go
-        | Operation::Get => Some(i.x()),
-        _ => None,
     }
 }

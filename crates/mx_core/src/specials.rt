@@ -6,20 +6,18 @@ ghost use Rattle.mx_core.specs.Way.Calls as spec;
 ghost use Rattle.mx_core.specs.Way.Calls.{CarriesOut, Makes, unless};
 ghost use Rattle.mx_core.specs.Effects.{specials_back, specials_saved};
 ghost use Rattle.mx_core.specs.Deeds.{with_specials};
-ghost use Rattle.mx_core.specs.Instructions.{x_of, y_of};
+ghost use Rattle.mx_code.specs.Instructions.{x_of, y_of};
 ghost use Rattle.mx_core.specs.Changes.{with_put};
 ghost use Rattle.mx_spec.specs.SpecialRegisters.{rA, rG, rL};
 ghost use Rattle.mx_core.specs.Kept.{state_of};
 ghost use Rattle.mx_core.specs.State.{global_start, locals};
-ghost use Rattle.mx_core.specs.declared.reason.Reason.TheVariants as reasons;
+ghost use Rattle.mx_code.specs.declared.reason.Reason.TheVariants as reasons;
 
 use crate::bounds::know_bounds;
-use crate::instruction::Instruction;
 use crate::machine::is_in_stack_area;
-use crate::operation::Operation;
-use crate::stop::Stop;
 use crate::trips::{RB, RH, RJ, RR, RW, RX, RY, RZ};
 use crate::{Machine, Reason};
+use mx_code::{Instruction, Operation, Stop};
 use mx_ring::{STACK_SEGMENT, Saved};
 use mx_spec::{Put, may_put, stored_values_are_in_bounds};
 

@@ -3,22 +3,19 @@
 ghost use Rattle.std.specs.Prelude.{◌≡◌, ◌≢◌, ◌<◌, ◌≤◌, ◌-◌, ◌^◌, IsTrue};
 ghost use Rattle.mx_core.specs.Way.Calls.{KeepsOnErr, LacksMemoryOnlyWhere, MakesWithMemory};
 ghost use Rattle.mx_core.specs.Deeds.{deed_at, outcome};
-ghost use Rattle.mx_core.specs.Instructions.{code_of, instruction, operation_in};
+ghost use Rattle.mx_code.specs.Instructions.{code_of, instruction, operation_in};
 ghost use Rattle.mx_core.specs.Kept.{state_of};
-ghost use Rattle.mx_core.specs.Way.Groups.{operation_by};
+ghost use Rattle.mx_code.specs.Groups.{operation_by};
 ghost use Rattle.mx_core.specs.Step as spec;
-ghost use Rattle.mx_core.specs.Way.Told.{answer_in};
+ghost use Rattle.mx_code.specs.Told.{answer_in};
 ghost use Rattle.mx_core.specs.Walks.{Goes};
 ghost use Rattle.mx_core.specs.Way.Stepping.{advanced, needs_page, step_answer, step_needs_page};
 
 use crate::bounds::machines_keep_the_invariant;
-use crate::groups::{Group, group_of};
-use crate::instruction::Instruction;
 use crate::machine::is_in_segment;
-use crate::operation::Operation;
-use crate::stop::{Stop, Told};
 use crate::trips::RJ;
 use crate::{Machine, Reason, Trace};
+use mx_code::{Group, Instruction, Operation, Stop, Told, group_of};
 use mx_ring::STACK_SEGMENT;
 use mx_trip::TrapCall;
 

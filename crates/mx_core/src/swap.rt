@@ -10,12 +10,10 @@ ghost use Rattle.mx_core.specs.Kept.{state_of};
 ghost use Rattle.mx_core.specs.State.{octa};
 ghost use Rattle.mx_core.specs.Way.Stepping.{needs_page};
 
-use crate::instruction::Instruction;
 use crate::machine::{is_in_segment, is_in_stack_area};
-use crate::operation::Operation;
 use crate::specials::RP;
-use crate::stop::Stop;
 use crate::{Machine, Reason};
+use mx_code::{Instruction, Operation, Stop};
 use mx_mem::Part;
 
 impl Machine {

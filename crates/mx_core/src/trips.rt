@@ -7,14 +7,13 @@ ghost use Rattle.mx_core.specs.Way.Calls as spec;
 ghost use Rattle.mx_core.specs.Way.Calls.{Makes, told_specials};
 ghost use Rattle.mx_core.specs.Deeds.{onward, tripped, with_specials};
 ghost use Rattle.mx_core.specs.Effects.{tripping, if_told};
-ghost use Rattle.mx_core.specs.Instructions.{next_of, x_of};
+ghost use Rattle.mx_code.specs.Instructions.{next_of, x_of};
 ghost use Rattle.mx_core.specs.Kept.{state_of};
 ghost use Rattle.mx_core.specs.State.{special_register, with_value_in};
 
-use crate::instruction::Instruction;
-use crate::stop::Stop;
 use crate::{Machine, Reason};
 use mx_alu::{Answer, Event};
+use mx_code::{Instruction, Stop};
 use mx_trip::{Trip, decide, noted_events_stay_in_18_bits};
 
 /// The codes of special registers.

@@ -12,7 +12,7 @@ ghost use Rattle.mx_core.specs.Step.{went, step};
 ghost use Rattle.mx_core.specs.Undoing.{FitsState, FitsUsual, FitsWhole, IsPaged, MayStore, OverwrittenFits, TakesBack};
 ghost use Rattle.mx_core.specs.Undoing.{noted, overwritten_undone, state_undone, usual_undone, whole_undone};
 ghost use Rattle.mx_core.specs.Wild.{deed};
-ghost use Rattle.mx_core.specs.declared.trace.Trace.{Trace};
+ghost use Rattle.mx_code.specs.declared.trace.Trace.{Trace};
 
 use crate::noting::{Was, WholeNote};
 use crate::overwritten::{Overwritten, UsualWas};

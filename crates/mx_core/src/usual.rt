@@ -4,8 +4,8 @@
 ghost use Rattle.std.specs.Prelude.{◌≡◌, ◌<◌, ◌%◌, IfSome, IsTrue};
 ghost use Rattle.mx_core.specs.Way.Calls.{KeepsWhereNot, MakesWhereTold};
 ghost use Rattle.mx_core.specs.Deeds.{deed_at, outcome};
-ghost use Rattle.mx_core.specs.Effects.{loaded_value};
-ghost use Rattle.mx_core.specs.Instructions.{code_of, instruction};
+ghost use Rattle.mx_code.specs.LoadsAndStores.{loaded_value};
+ghost use Rattle.mx_code.specs.Instructions.{code_of, instruction};
 ghost use Rattle.mx_core.specs.Kept.{state_of};
 ghost use Rattle.mx_core.specs.State as states;
 ghost use Rattle.mx_core.specs.Way.UsualDeeds.{IsUsual};
@@ -14,9 +14,7 @@ ghost use Rattle.mx_core.specs.Way.Stepping.{advanced};
 ghost use Rattle.mx_core.specs.declared.step.Advance.TheVariants as advance;
 
 use crate::Machine;
-use crate::instruction::Instruction;
-use crate::operation::Loading;
-use crate::part::{loaded_part, loaded_tetra, loaded_value};
+use mx_code::{Instruction, Loading, loaded_part, loaded_tetra, loaded_value};
 use mx_mem::Part;
 
 /// What a usual instruction does: $X gets a value, and the machine goes on; the machine goes to an address; what

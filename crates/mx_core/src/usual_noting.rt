@@ -5,7 +5,7 @@ ghost use Rattle.mx_registers.specs.Registers as registers;
 ghost use Rattle.mx_ring.specs.Stack.{visible};
 ghost use Rattle.mx_core.specs.Way.Calls.{MakesState, settled};
 ghost use Rattle.mx_core.specs.Deeds.{deed_at, deed_of, onward, outcome};
-ghost use Rattle.mx_core.specs.Instructions.{instruction, next_of, operation_in, x_of};
+ghost use Rattle.mx_code.specs.Instructions.{instruction, next_of, operation_in, x_of};
 ghost use Rattle.mx_core.specs.Kept.{state_of};
 ghost use Rattle.mx_core.specs.Step.{step};
 ghost use Rattle.mx_core.specs.Way.Stepping.{advanced};
@@ -14,14 +14,13 @@ ghost use Rattle.mx_core.specs.Undoing.{IsPaged, TakesBack};
 ghost use Rattle.mx_core.specs.Way.UsualDeeds.{IsUsual};
 ghost use Rattle.mx_core.specs.declared.step.Advance.TheVariants as advance;
 
-use crate::instruction::Instruction;
 use crate::noting::Was;
-use crate::operation::{Operation, Storing};
 use crate::overwritten::{Overwritten, UsualWas};
 use crate::trips::RJ;
 use crate::undoing::machines_are_paged;
 use crate::usual::Usual;
 use crate::{Machine, Note};
+use mx_code::{Instruction, Operation, Storing};
 
 impl Machine {
     /// One step without its trace, where its instruction is a frequent one that gives a register a value, stores or goes

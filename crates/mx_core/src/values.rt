@@ -3,20 +3,18 @@
 ghost use Rattle.std.specs.Prelude.{◌≡◌, IfSome, Ok};
 ghost use Rattle.mx_core.specs.Way.Calls.{settled};
 ghost use Rattle.mx_core.specs.Deeds.{deed_of, onward, outcome};
-ghost use Rattle.mx_core.specs.Instructions.{next_of, operation_in, x_of};
+ghost use Rattle.mx_code.specs.Instructions.{next_of, operation_in, x_of};
 ghost use Rattle.mx_core.specs.Kept.{state_of};
 ghost use Rattle.mx_core.specs.Way.UsualDeeds.{IsUsual};
 
 use crate::Machine;
-use crate::compute::{holds, wyde_value};
-use crate::instruction::Instruction;
-use crate::operation::{Loading, Operation};
 use crate::usual::Usual;
 use mx_alu::{lone_result, wyde};
+use mx_code::{Instruction, Loading, Operation, holds, wyde_value};
 
 impl Machine {
     /// What MUL to SRU and OR to MXOR give $X, where it is all that they give.
-    #[tactic(auto, using(crate::proofs::Results::Events::compute_alone, crate::proofs::Tables::computes, crate::proofs::Tables::computes_low))]
+    #[tactic(auto, using(crate::proofs::Results::Events::compute_alone, mx_code::proofs::Tables::computes, mx_code::proofs::Tables::computes_low))]
     #[inline(always)]
     fn computed_value(&self, i: &Instruction) -> Option<u64>
         requires { operation_in i.now ≡ Operation.Compute }
@@ -41,7 +39,7 @@ impl Machine {
     }
 
     /// What NEG and NEGU give $X, where it is all that they give.
-    #[tactic(auto, using(crate::proofs::Results::Events::negate_alone, crate::proofs::Tables::negates, crate::proofs::Tables::negates_low))]
+    #[tactic(auto, using(crate::proofs::Results::Events::negate_alone, mx_code::proofs::Tables::negates, mx_code::proofs::Tables::negates_low))]
     #[inline(always)]
     fn negated_value(&self, i: &Instruction) -> Option<u64>
         requires { operation_in i.now ≡ Operation.Negate }
@@ -66,7 +64,7 @@ impl Machine {
     }
 
     /// What SETH to ANDNL give $X.
-    #[tactic(auto, using(crate::proofs::Results::Outcomes::wyde_outcome, crate::proofs::Tables::wyde_low, crate::proofs::Tables::wyde_high))]
+    #[tactic(auto, using(crate::proofs::Results::Outcomes::wyde_outcome, mx_code::proofs::Tables::wyde_low, mx_code::proofs::Tables::wyde_high))]
     #[inline(always)]
     fn with_wyde_value(&self, i: &Instruction) -> Option<u64>
         requires { operation_in i.now ≡ Operation.Wyde }
@@ -94,7 +92,7 @@ impl Machine {
     }
 
     /// What CSN to CSEV give $X.
-    #[tactic(auto, using(crate::proofs::Results::Outcomes::conditional_outcome), unfolding(crate::specs::Operations::has_condition))]
+    #[tactic(auto, using(crate::proofs::Results::Outcomes::conditional_outcome), unfolding(mx_code::specs::Operations::has_condition))]
     #[inline(always)]
     fn chosen_value(&self, i: &Instruction) -> Option<u64>
         requires { operation_in i.now ≡ Operation.ConditionalSet }
@@ -186,7 +184,7 @@ impl Machine {
     }
 
     /// Where BN to PBEV go.
-    #[tactic(auto, using(crate::proofs::Results::Others::branch_outcome), unfolding(crate::specs::Operations::has_condition))]
+    #[tactic(auto, using(crate::proofs::Results::Others::branch_outcome), unfolding(mx_code::specs::Operations::has_condition))]
     #[inline(always)]
     fn branched_address(&self, i: &Instruction) -> u64
         requires { operation_in i.now ≡ Operation.Branch }

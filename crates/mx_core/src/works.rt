@@ -4,15 +4,15 @@ ghost use Rattle.std.specs.Prelude.{◌≡◌, IfSome, None, Some};
 ghost use Rattle.mx_ring.specs.Notes.{WorkNeeds};
 ghost use Rattle.mx_core.specs.Deeds as deeds;
 ghost use Rattle.mx_core.specs.Deeds.{deed_at, deed_of};
-ghost use Rattle.mx_core.specs.Instructions.{Instruction, operation_in};
+ghost use Rattle.mx_code.specs.Instructions.{operation_in};
+ghost use Rattle.mx_code.specs.declared.instruction.Instruction.{Instruction};
 ghost use Rattle.mx_core.specs.Kept.{state_of};
 ghost use Rattle.mx_core.specs.Way.Noting as spec;
 ghost use Rattle.mx_core.specs.Way.Noting.{TellsWork};
 
 use crate::Machine;
-use crate::instruction::Instruction;
-use crate::operation::Operation;
 use crate::trips::{RW, RX, RY, RZ};
+use mx_code::{Instruction, Operation};
 use mx_ring::RingWork;
 use mx_trip::{Insert, Kind, inserted};
 

@@ -1,6 +1,6 @@
 -- The watcher that counts, told a trace, and its report.
 use Rattle.std.proofs.Common.{◌≡◌, ℕ, Bool, false, List, [], ◌∷◌, refl, sym, ap, ◌∙◌}
-use Rattle.mx_core.specs.declared.trace.Trace.{Trace}
+use Rattle.mx_code.specs.declared.trace.Trace.{Trace}
 use Rattle.mx_view.specs.declared.cells.Cell.{Cell}
 use Rattle.mx_watch.specs.Watching.{Watching, later}
 use Rattle.mx_count.specs.Counting.{counting_as, kept_tally}

@@ -4,7 +4,7 @@ use Rattle.mx_host.specs.HostAnswer.{Then}
 use Rattle.mx_host.specs.HostModel.{HostModel}
 use Rattle.mx_mmo.specs.Image.{Image}
 use Rattle.mx_core.specs.State.{State}
-use Rattle.mx_core.specs.declared.trace.Trace.{Trace}
+use Rattle.mx_code.specs.declared.trace.Trace.{Trace}
 use Rattle.mx_run.specs.Runs.{no_flags, run}
 use Rattle.mx_run.specs.Turns.{Turn, went_on, halts, stops, turn}
 use Rattle.mx_run.specs.WildRuns.{MachineKind, window_machine, ends_wild}

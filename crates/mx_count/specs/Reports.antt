@@ -2,7 +2,7 @@
 use Rattle.std.specs.Prelude.{ℕ, ◌+◌, ◌<◌, ◌^◌, true, List, [], ◌∷◌, ◌++◌, drop}
 use Rattle.std.specs.List.{flat_map}
 use Rattle.mx_word.specs.Words.{octa_to_bytes}
-use Rattle.mx_core.specs.declared.trace.Trace.{Trace}
+use Rattle.mx_code.specs.declared.trace.Trace.{Trace}
 use Rattle.mx_line.specs.Lines.{lines_of}
 use Rattle.mx_mmo.specs.Reading.{octas_of}
 use Rattle.mx_view.specs.Loads.{loads_of}

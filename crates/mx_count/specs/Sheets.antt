@@ -1,7 +1,7 @@
 -- The sheet of a run: each line of the source with what is counted of the steps at the tetras that it loads, then the sum of all
 -- steps. The form of the rows is this program's own.
 use Rattle.std.specs.Prelude.{ℕ, ◌+◌, ◌-◌, ◌==◌, ◌||◌, Bool, true, false, if◌then◌else◌, List, [], ◌∷◌, ◌++◌, length, take, drop, Option, None, Some, codes, decimal}
-use Rattle.mx_core.specs.declared.trace.Trace.{Trace}
+use Rattle.mx_code.specs.declared.trace.Trace.{Trace}
 use Rattle.mx_line.specs.Lines.{lines_of}
 use Rattle.mx_view.specs.Loads.{loads_of}
 use Rattle.mx_view.specs.Rows.{numbered}

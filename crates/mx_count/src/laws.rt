@@ -2,7 +2,7 @@
 
 ghost use Rattle.std.specs.Prelude.{◌≡◌, ◌≤◌, ◌^◌, ◌==◌, ◌&&◌, [], ◌∷◌, ℕ, Bool, List, false, true, length};
 ghost use Rattle.std.specs.List.{filter, sum_by};
-ghost use Rattle.mx_core.specs.declared.trace.Trace.{Trace};
+ghost use Rattle.mx_code.specs.declared.trace.Trace.{Trace};
 ghost use Rattle.mx_host.specs.HostModel.{HostModel};
 ghost use Rattle.mx_view.specs.declared.cells.Cell.{Cell};
 ghost use Rattle.mx_count.specs.Costs.{mems, oops};

@@ -2,7 +2,7 @@
 
 ghost use Rattle.std.specs.Prelude.{◌≡◌, ◌≢◌, ◌∷◌, [], ℕ, List, IfOk, false, map};
 ghost use Rattle.mx_core.specs.Kept.{state_of};
-ghost use Rattle.mx_core.specs.declared.trace.Trace.{Trace as Step};
+ghost use Rattle.mx_code.specs.declared.trace.Trace.{Trace as Step};
 ghost use Rattle.mx_host.specs.Keeping.{Keeps};
 ghost use Rattle.mx_watch.specs.Watching.{Watching};
 ghost use Rattle.mx_count.specs.Counting.{counting};

@@ -2,11 +2,11 @@
 use Rattle.std.proofs.Common.{◌≡◌, IsTrue, refl, sym, subst, ap, ◌∙◌}
 use Rattle.std.specs.Prelude.{Option}
 use Rattle.mx_host.specs.HostModel.{HostModel, contents}
-use Rattle.mx_core.specs.Reasons.{number_of}
+use Rattle.mx_code.specs.Reasons.{number_of}
 use Rattle.mx_core.specs.State.{State}
 use Rattle.mx_core.specs.Step.{Stepped, went, calls, stopped, step}
 use Rattle.mx_core.specs.Way.Stepping.{advanced, step_answer, step_needs_page}
-use Rattle.mx_core.specs.declared.reason.Reason.{Reason}
+use Rattle.mx_code.specs.declared.reason.Reason.{Reason}
 use Rattle.mx_core.specs.declared.step.Advance.{Advance}
 use Rattle.mx_core.specs.declared.step.Advance.TheVariants as advance
 use Rattle.mx_core.specs.declared.step.Step.TheVariants as made

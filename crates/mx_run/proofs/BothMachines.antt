@@ -2,7 +2,7 @@
 use Rattle.std.proofs.Common.{◌≡◌, ℕ, zero, suc, ◌/◌, Bool, true, false, cond, Option, None, Some, refl}
 use Rattle.mx_host.specs.HostModel.{HostModel}
 use Rattle.mx_core.specs.State.{State}
-use Rattle.mx_core.specs.declared.trace.Trace.{Trace}
+use Rattle.mx_code.specs.declared.trace.Trace.{Trace}
 use Rattle.mx_run.specs.Runs.{FlagsOf, Ended, ended, break_of, as_ended, after_trace, after_turn, breaks_before, run}
 use Rattle.mx_run.specs.Turns.{Turn, went_on, halts, stops, turn}
 use Rattle.mx_run.specs.WildRuns.{window_machine, RunEnd, run_ended, run_by}

@@ -3,14 +3,14 @@ use Rattle.std.proofs.Common.{◌≡◌, ℕ, suc, ◌+◌, ◌/◌, Bool, true,
 use Rattle.std.specs.Prelude.{◌&&◌, nat_lt, Result}
 use Rattle.mx_host.specs.HostModel.{HostModel}
 use Rattle.mx_plan.specs.Plan.{Comes, Stops, bind}
-use Rattle.mx_core.specs.Reasons.{number_of}
+use Rattle.mx_code.specs.Reasons.{number_of}
 use Rattle.mx_core.specs.State.{State}
 use Rattle.mx_core.specs.Step.{Stepped, went, calls, stopped, step}
 use Rattle.mx_core.specs.Way.Stepping.{advanced, step_needs_page}
-use Rattle.mx_core.specs.declared.reason.Reason.{Reason}
+use Rattle.mx_code.specs.declared.reason.Reason.{Reason}
 use Rattle.mx_core.specs.declared.step.Advance.TheVariants as advance
-use Rattle.mx_core.specs.declared.trace.Touch.{Touch}
-use Rattle.mx_core.specs.declared.trace.Trace.{Trace}
+use Rattle.mx_code.specs.declared.trace.Touch.{Touch}
+use Rattle.mx_code.specs.declared.trace.Trace.{Trace}
 use Rattle.mx_run.specs.FlagMaps.{flags_at}
 use Rattle.mx_run.specs.RunPlans.{RunWorld, running, beside_world, look, turn_plan, ended_turn, step_plan, SparesOn, SparesMemory, SparesAfter, SparesStep}
 use Rattle.mx_run.specs.RunPlans.{end_of_trace, end_of_turn}

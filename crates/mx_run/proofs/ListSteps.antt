@@ -6,7 +6,7 @@ use Rattle.mx_word.proofs.Fronts.{front-through}
 use Rattle.mx_host.specs.HostModel.{HostModel}
 use Rattle.mx_core.specs.Bounds.{as_list_state}
 use Rattle.mx_core.specs.State.{State}
-use Rattle.mx_core.specs.declared.trace.Trace.{Trace}
+use Rattle.mx_code.specs.declared.trace.Trace.{Trace}
 use Rattle.mx_run.specs.Clauses.{GoesAsList, as_list_answer, TurnGoesAsList}
 use Rattle.mx_run.specs.FlagMaps.{flags_at}
 use Rattle.mx_run.specs.RunPlans.{end_of_trace}

@@ -5,7 +5,7 @@ use Rattle.mx_host.specs.HostModel.{HostModel}
 use Rattle.mx_plan.specs.Plan.{returns, bind, Comes, IsRest, Stops, end_of, end_after}
 use Rattle.mx_plan.proofs.Plans.{end_bind, stops_first, end_returns, rest_after}
 use Rattle.mx_core.specs.State.{State}
-use Rattle.mx_core.specs.declared.trace.Trace.{Trace}
+use Rattle.mx_code.specs.declared.trace.Trace.{Trace}
 use Rattle.mx_run.specs.FlagMaps.{flags_at}
 use Rattle.mx_run.specs.RunPlans.{RunPlan, RunWorld, running, beside_world, ended_world, turn_plan, look, ended_turn, step_plan, run_next, run_plan, end_of_trace, end_of_turn}
 use Rattle.mx_run.specs.Runs.{FlagsOf, Ended, ended, break_of, as_ended, after_trace, after_turn, breaks_before, run}

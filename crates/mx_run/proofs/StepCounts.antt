@@ -14,7 +14,7 @@ use Rattle.mx_core.specs.MachineSpace.{machine_contents, state_in}
 use Rattle.mx_core.specs.State.{State}
 use Rattle.mx_core.specs.Step.{Stepped, went, calls, stopped, step}
 use Rattle.mx_core.specs.Traps.{trapped, halted}
-use Rattle.mx_core.specs.declared.trace.Trace.{Trace}
+use Rattle.mx_code.specs.declared.trace.Trace.{Trace}
 use Rattle.mx_core.proofs.StepCounts.{CountsOne, step-count}
 use Rattle.mx_run.specs.Runs.{FlagsOf, Ended, ended, break_of, as_ended, after_trace, after_turn, run, IsLater}
 use Rattle.mx_run.specs.Turns.{Turn, went_on, halts, stops, area_size, with_touch_if, moves_before, turn_with, turn_of, turn}

@@ -11,14 +11,14 @@ use Rattle.mx_trap.specs.declared.answer.TrapAnswer.{TrapAnswer}
 use Rattle.mx_trap.specs.declared.answer.TrapAnswer.TheVariants as trap
 use Rattle.mx_trap.proofs.KeptTraps.{trap-told}
 use Rattle.mx_core.specs.MachineSpace.{machine_contents, IsWholeSpace}
-use Rattle.mx_core.specs.Reasons.{number_of}
+use Rattle.mx_code.specs.Reasons.{number_of}
 use Rattle.mx_core.specs.State.{State}
 use Rattle.mx_core.specs.Step.{Stepped, went, calls, stopped, step}
 use Rattle.mx_core.specs.Way.Stepping.{step_answer, step_needs_page}
 use Rattle.mx_core.specs.Traps.{with_touch}
-use Rattle.mx_core.specs.declared.reason.Reason.{Reason}
+use Rattle.mx_code.specs.declared.reason.Reason.{Reason}
 use Rattle.mx_core.specs.declared.step.Step.TheVariants as made
-use Rattle.mx_core.specs.declared.trace.Trace.{Trace}
+use Rattle.mx_code.specs.declared.trace.Trace.{Trace}
 use Rattle.mx_core.proofs.Spaces.States.{told}
 use Rattle.mx_run.specs.RunPlans.{running, beside_world, turn_plan, SparesOn, SparesMemory}
 use Rattle.mx_run.specs.Turns.{turn_answer, with_touch_if, turn_with, trap_turn, turn_of, turn}

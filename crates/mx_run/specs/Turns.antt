@@ -12,11 +12,11 @@ use Rattle.mx_trap.specs.declared.answer.TrapAnswer.TheVariants as trap
 use Rattle.mx_trap.specs.declared.answer.TrapStop.{TrapStop}
 use Rattle.mx_trap.specs.declared.answer.TrapStop.TheVariants as stop
 use Rattle.mx_core.specs.MachineSpace.{machine_contents, state_in}
-use Rattle.mx_core.specs.Reasons.{number_of}
+use Rattle.mx_code.specs.Reasons.{number_of}
 use Rattle.mx_core.specs.State.{State}
 use Rattle.mx_core.specs.Step.{Stepped, went, calls, stopped, step}
 use Rattle.mx_core.specs.Traps.{trapped, trap_trace, halted}
-use Rattle.mx_core.specs.declared.trace.Trace.{Trace}
+use Rattle.mx_code.specs.declared.trace.Trace.{Trace}
 use Rattle.mx_run.specs.declared.turn_answer.TurnAnswer.{TurnAnswer}
 use Rattle.mx_run.specs.declared.turn_answer.TurnAnswer.TheVariants as answer
 

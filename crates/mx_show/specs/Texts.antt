@@ -4,8 +4,8 @@ use Rattle.mx_ring.specs.Stack.{register}
 use Rattle.mx_text.specs.Instructions.{instruction_text}
 use Rattle.mx_text.specs.Numbers.{hex_text, hex_digits}
 use Rattle.mx_core.specs.State.{State, global_start, locals}
-use Rattle.mx_core.specs.declared.trace.Touch.{Touch}
-use Rattle.mx_core.specs.declared.trace.Trace.{Trace}
+use Rattle.mx_code.specs.declared.trace.Touch.{Touch}
+use Rattle.mx_code.specs.declared.trace.Trace.{Trace}
 use Rattle.mx_show.specs.Subjects.{octa_shown, octa_start}
 
 -- a line with the newline that ends it

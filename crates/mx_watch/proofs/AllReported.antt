@@ -4,7 +4,7 @@ use Rattle.std.specs.List.{flat_map, range_with_len}
 use Rattle.std.proofs.lemmas.List.{append_assoc, append-nil, drop_more, take_more, take_all, drop-drop, length-map}
 use Rattle.std.proofs.Math.ListN.{get_or-map}
 use Rattle.std.proofs.lemmas.Grind.{common_steps}
-use Rattle.mx_core.specs.declared.trace.Trace.{Trace}
+use Rattle.mx_code.specs.declared.trace.Trace.{Trace}
 use Rattle.mx_watch.specs.Watching.{Watching, later}
 use Rattle.mx_watch.specs.Listening.{Listening, watched}
 use Rattle.mx_watch.specs.Hearing.{Hears, heard, remains, reported, reports_in_turn}

@@ -3,7 +3,7 @@ use Rattle.std.proofs.Common.{◌≡◌, ◌<◌, ◌≤◌, ◌+◌, ◌-◌, �
 use Rattle.std.proofs.lemmas.Bool.Decides.{nat_tests}
 use Rattle.std.proofs.lemmas.Grind.{common_steps}
 use Rattle.std.proofs.lemmas.List.{get_or-replicate, length-replicate}
-use Rattle.mx_core.specs.declared.trace.Trace.{Trace}
+use Rattle.mx_code.specs.declared.trace.Trace.{Trace}
 use Rattle.mx_watch.specs.Profiles.{code_in, one_more, counts_after, occurrences}
 
 more_at : (counts : List ℕ) (c code : ℕ) → code < length counts → slice_index (one_more counts c) code ≡ cond (c == code) (min (slice_index counts code + 1) (2 ^ 64 - 1)) (slice_index counts code)

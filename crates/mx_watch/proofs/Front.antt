@@ -3,7 +3,7 @@ use Rattle.std.proofs.Common.{◌≡◌, refl, ◌<◌, ◌≤◌, ◌+◌, ℕ,
 use Rattle.std.proofs.Math.Seq.{take-add}
 use Rattle.std.proofs.lemmas.Grind.{flat_map-append}
 use Rattle.std.proofs.lemmas.List.{append_assoc, append-nil, take_at, drop_at, drop-drop, take_all, drop_all, length-append, length-drop, length-map}
-use Rattle.mx_core.specs.declared.trace.Trace.{Trace}
+use Rattle.mx_code.specs.declared.trace.Trace.{Trace}
 use Rattle.mx_watch.specs.Watching.{Watching}
 use Rattle.mx_watch.specs.Listening.{Listening, listening, told, told_at, stays, leaves, still_listening, reports_at}
 use Rattle.mx_watch.specs.declared.telling.Report.{Report}

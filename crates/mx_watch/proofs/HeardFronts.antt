@@ -1,6 +1,6 @@
 -- What a watcher hears of traces.
 use Rattle.std.proofs.Common.{◌≡◌, refl, ◌<◌, ℕ, zero, suc, Bool, true, false, cond, not, ◌&&◌, List, [], ◌∷◌, take, length, arith, ap, ◌∙◌, sym}
-use Rattle.mx_core.specs.declared.trace.Trace.{Trace}
+use Rattle.mx_code.specs.declared.trace.Trace.{Trace}
 use Rattle.mx_watch.specs.Watching.{Watching}
 use Rattle.mx_watch.specs.Hearing.{never_full, heard, reported, reported_heard}
 use Rattle.mx_watch.specs.declared.telling.Report.{Report}

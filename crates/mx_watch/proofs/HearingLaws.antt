@@ -3,7 +3,7 @@ use Rattle.std.proofs.Common.{◌≡◌, refl, ◌+◌, ℕ, zero, suc, Bool, tr
 use Rattle.std.specs.List.{flat_map, list_all, range_with_len}
 use Rattle.std.proofs.lemmas.Grind.{flat_map-append}
 use Rattle.std.proofs.lemmas.List.{append_assoc, append-nil}
-use Rattle.mx_core.specs.declared.trace.Trace.{Trace}
+use Rattle.mx_code.specs.declared.trace.Trace.{Trace}
 use Rattle.mx_watch.specs.Watching.{Watching, later}
 use Rattle.mx_watch.specs.Listening.{Listening, told, watched, stays, still_listening, reports_at}
 use Rattle.mx_watch.specs.Hearing.{never_full, after, remains, reported, reports_in_turn}

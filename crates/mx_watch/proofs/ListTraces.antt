@@ -5,7 +5,7 @@ use Rattle.mx_host.specs.HostModel.{HostModel}
 use Rattle.mx_plan.specs.Plan.{Comes}
 use Rattle.mx_core.specs.Bounds.{as_list_state}
 use Rattle.mx_core.specs.State.{State}
-use Rattle.mx_core.specs.declared.trace.Trace.{Trace}
+use Rattle.mx_code.specs.declared.trace.Trace.{Trace}
 use Rattle.mx_run.specs.RunPlans.{running, step_plan, end_of_turn}
 use Rattle.mx_run.specs.Runs.{no_flags}
 use Rattle.mx_run.specs.Turns.{Answered, turn_answer, Turn, went_on, halts, stops, turn}

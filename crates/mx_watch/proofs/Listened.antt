@@ -6,7 +6,7 @@ use Rattle.mx_host.specs.HostModel.{HostModel}
 use Rattle.mx_plan.specs.Plan.{Comes, IsRest}
 use Rattle.mx_core.specs.Bounds.{as_list_state}
 use Rattle.mx_core.specs.State.{State}
-use Rattle.mx_core.specs.declared.trace.Trace.{Trace}
+use Rattle.mx_code.specs.declared.trace.Trace.{Trace}
 use Rattle.mx_run.specs.Clauses.{GoesAsList}
 use Rattle.mx_run.specs.RunPlans.{RunWorld, running, beside_world, step_plan, run_plan, end_of_turn}
 use Rattle.mx_run.specs.Runs.{ended, no_flags, run}

@@ -1,6 +1,6 @@
 -- Writes that were told a trace.
 use Rattle.std.proofs.Common.{◌≡◌, ℕ, List, [], ◌∷◌, ◌++◌, length, nat_le, ap}
-use Rattle.mx_core.specs.declared.trace.Trace.{Trace}
+use Rattle.mx_code.specs.declared.trace.Trace.{Trace}
 use Rattle.mx_watch.specs.Watching.{later}
 use Rattle.mx_watch.specs.Writings.{write_of, writes_after, noting}
 use Rattle.mx_watch.specs.declared.writes.Write.{Write}

@@ -2,7 +2,7 @@
 use Rattle.std.proofs.Common.{◌≡◌, ◌<◌, ℕ, suc, List, ◌++◌, map, take, drop, length, get_or, set, remove, ap, ◌∙◌, sym}
 use Rattle.std.proofs.Math.Seq.{map-set_same}
 use Rattle.std.proofs.lemmas.List.{map-set, map-append, take-map, drop-map, get_or-map}
-use Rattle.mx_core.specs.declared.trace.Trace.{Trace}
+use Rattle.mx_code.specs.declared.trace.Trace.{Trace}
 use Rattle.mx_watch.specs.Watching.{Watching, later}
 
 pub map-removed : {A : Type 0} (f : A → Watching) (xs ys : List A) (i : ℕ) → ys ≡ remove xs i → map f ys ≡ remove (map f xs) i

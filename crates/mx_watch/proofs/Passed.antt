@@ -1,7 +1,7 @@
 -- The watcher at an index is told a trace: it stays, or it leaves with its place.
 use Rattle.std.proofs.Common.{◌≡◌, refl, ◌<◌, ◌+◌, ℕ, zero, suc, Bool, true, false, List, [], ◌∷◌, ◌++◌, take, drop, length, get_or, set, map, remove, zip, arith, ap, ◌∙◌, sym}
 use Rattle.std.proofs.lemmas.List.{append_assoc, append-nil, take-set, drop-set-lt, get_or-set_same, length-map}
-use Rattle.mx_core.specs.declared.trace.Trace.{Trace}
+use Rattle.mx_code.specs.declared.trace.Trace.{Trace}
 use Rattle.mx_watch.specs.Watching.{Watching, later, wish_if}
 use Rattle.mx_watch.specs.Listening.{told_at, still_listening, reports_at}
 use Rattle.mx_watch.specs.declared.telling.Report.{Report}

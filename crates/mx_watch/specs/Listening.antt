@@ -1,7 +1,7 @@
 -- Watchers that listen, and the reports of those that were full.
 use Rattle.std.specs.Prelude.{ℕ, ◌+◌, if◌then◌else◌, List, [], ◌∷◌, ◌++◌, take, drop, length, map}
 use Rattle.std.specs.List.{flat_map, range_with_len, zip}
-use Rattle.mx_core.specs.declared.trace.Trace.{Trace}
+use Rattle.mx_code.specs.declared.trace.Trace.{Trace}
 use Rattle.mx_watch.specs.Watching.{Watching, later}
 use Rattle.mx_watch.specs.declared.telling.Report.{Report}
 

@@ -1,7 +1,7 @@
 -- How often each instruction was carried out.
 use Rattle.std.specs.Prelude.{ℕ, ◌+◌, ◌-◌, ◌/◌, ◌^◌, ◌==◌, min, false, if◌then◌else◌, List, [], ◌∷◌, ◌++◌, codes, decimal, slice_index, slice_set}
 use Rattle.std.specs.List.{flat_map, range_with_len}
-use Rattle.mx_core.specs.declared.trace.Trace.{Trace}
+use Rattle.mx_code.specs.declared.trace.Trace.{Trace}
 use Rattle.mx_ops.specs.Opcodes.{opcode_name}
 use Rattle.mx_text.specs.Numbers.{hex_digits}
 use Rattle.mx_watch.specs.Watching.{Watching}

@@ -5,7 +5,7 @@ use Rattle.mx_host.specs.HostModel.{HostModel, tells, contents}
 use Rattle.mx_plan.specs.Plan.{Comes, Stops, end_of}
 use Rattle.mx_core.specs.Bounds.{as_list_state}
 use Rattle.mx_core.specs.State.{State}
-use Rattle.mx_core.specs.declared.trace.Trace.{Trace}
+use Rattle.mx_code.specs.declared.trace.Trace.{Trace}
 use Rattle.mx_run.specs.RunPlans.{RunWorld, running, run_plan, step_plan}
 use Rattle.mx_run.specs.Runs.{ended, no_flags, run}
 use Rattle.mx_run.specs.Turns.{went_on, turn}

@@ -1,6 +1,6 @@
 -- What a watcher is to come to, over the traces that it will still be told.
 use Rattle.std.specs.Prelude.{ℕ, Bool, List, ◌∷◌, if◌then◌else◌}
-use Rattle.mx_core.specs.declared.trace.Trace.{Trace}
+use Rattle.mx_code.specs.declared.trace.Trace.{Trace}
 use Rattle.mx_watch.specs.declared.watcher.Wish.{Wish}
 use Rattle.mx_watch.specs.declared.watcher.Wish.TheVariants.{More, Full}
 

@@ -1,8 +1,8 @@
 -- What was written to a part of memory.
 use Rattle.std.specs.Prelude.{ℕ, ◌&&◌, nat_le, nat_lt, if◌then◌else◌, List, [], ◌∷◌, ◌++◌, codes, decimal, length, Option, None, Some}
 use Rattle.std.specs.List.{flat_map}
-use Rattle.mx_core.specs.declared.trace.Touch.{Touch}
-use Rattle.mx_core.specs.declared.trace.Trace.{Trace}
+use Rattle.mx_code.specs.declared.trace.Touch.{Touch}
+use Rattle.mx_code.specs.declared.trace.Trace.{Trace}
 use Rattle.mx_text.specs.Numbers.{hex_text}
 use Rattle.mx_watch.specs.Watching.{Watching}
 use Rattle.mx_watch.specs.declared.writes.Write.{Write}

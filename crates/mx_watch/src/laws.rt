@@ -4,7 +4,7 @@ ghost use Rattle.std.specs.Prelude.{◌≡◌, ◌<◌, ◌-◌, ◌^◌, ◌↔
 ghost use Rattle.std.specs.List.{Contains, flat_map, range_with_len};
 ghost use Rattle.std.specs.List.Sorted.{IsStrictlySortedBy};
 ghost use Rattle.std.specs.Ordering.{nat_cmp};
-ghost use Rattle.mx_core.specs.declared.trace.Trace.{Trace};
+ghost use Rattle.mx_code.specs.declared.trace.Trace.{Trace};
 ghost use Rattle.mx_watch.specs.Covers.{addresses_after, addresses_of};
 ghost use Rattle.mx_watch.specs.Hearing.{Hears, heard, never_full, remains, reported, reported_heard, reports_in_turn};
 ghost use Rattle.mx_watch.specs.Listening.{Listening, watched};

@@ -1,6 +1,6 @@
 -- A watcher that is full after a trace.
 use Rattle.std.specs.Prelude.{ℕ, Bool, true, List, [], ◌∷◌, ◌++◌, codes}
-use Rattle.mx_core.specs.declared.trace.Trace.{Trace}
+use Rattle.mx_code.specs.declared.trace.Trace.{Trace}
 use Rattle.mx_text.specs.Numbers.{hex_text}
 use Rattle.mx_watch.specs.Watching.{Watching}
 

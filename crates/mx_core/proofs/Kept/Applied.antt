@@ -6,7 +6,8 @@ use Rattle.mx_spec.specs.SpecialRegisters.{rJ, rW, rX, rY, rZ, rB}
 use Rattle.mx_core.specs.Bounds.{as_list_state}
 use Rattle.mx_core.specs.Deeds.{with_result, with_store, with_specials, moved, tripped, trip_specials, onward, applied, address_after}
 use Rattle.mx_core.specs.Effects.{Effect, Store, Tripping, Move, stays, pushes, pops, saves, unsaves, cuts, moves_globals}
-use Rattle.mx_core.specs.Instructions.{Instruction, next_of}
+use Rattle.mx_code.specs.Instructions.{next_of}
+use Rattle.mx_code.specs.declared.instruction.Instruction.{Instruction}
 use Rattle.mx_core.specs.State.{State, with_octa, with_special, with_value_in, special_register}
 use Rattle.mx_core.specs.Stops.{page_fault}
 use Rattle.mx_core.proofs.Kept.Rings.{IsRinged, set-listed, cut-listed, globals-listed, push-listed, pop-listed, save-listed, unsave-listed}

@@ -3,15 +3,17 @@ use Rattle.std.proofs.Common.{◌≡◌, ℕ, ◌&&◌, Bool, true, false, cond,
 use Rattle.std.specs.Option.{unwrap_or}
 use Rattle.mx_ring.specs.Stack.{Stack, set_overfills, with_register, register}
 use Rattle.mx_core.specs.Bounds.{as_list_state}
-use Rattle.mx_core.specs.Deeds.{with_destination, destination_of}
+use Rattle.mx_code.specs.Instructions.{x_of, destination_of}
+use Rattle.mx_code.specs.declared.instruction.Instruction.{Instruction}
+use Rattle.mx_core.specs.Deeds.{with_destination}
 use Rattle.mx_core.specs.Effects.{effect_of, z_operand}
-use Rattle.mx_core.specs.Instructions.{Instruction, x_of}
 use Rattle.mx_core.specs.State.{State, with_local, with_value_in, global_start, locals}
-use Rattle.mx_core.specs.Stops.{stack_fault, has_destination, page_fault}
+use Rattle.mx_code.specs.Operations.{has_destination}
+use Rattle.mx_core.specs.Stops.{stack_fault, page_fault}
 use Rattle.mx_core.specs.Effects.{Store}
-use Rattle.mx_core.specs.declared.operation.Operation.{Operation}
-use Rattle.mx_core.specs.declared.operation.Operation.TheVariants as op
-use Rattle.mx_core.specs.declared.reason.Reason.TheVariants.{StackFull}
+use Rattle.mx_code.specs.declared.operation.Operation.{Operation}
+use Rattle.mx_code.specs.declared.operation.Operation.TheVariants as op
+use Rattle.mx_code.specs.declared.reason.Reason.TheVariants.{StackFull}
 use Rattle.mx_spec.specs.Puts.{put_of}
 use Rattle.mx_core.proofs.Kept.Applied.{ResultFits, value-listed}
 use Rattle.mx_core.proofs.Choices.{no-reason, putting-bare}

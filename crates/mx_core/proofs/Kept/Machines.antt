@@ -12,17 +12,18 @@ use Rattle.mx_trip.specs.declared.insertion.Insert.{Insert}
 use Rattle.mx_trip.specs.declared.insertion.Insert.TheVariants as insert
 use Rattle.mx_trip.specs.declared.insertion.Kind.TheVariants.{Again, Continue, Set}
 use Rattle.mx_core.specs.Bounds.{IsMachine}
-use Rattle.mx_core.specs.Deeds.{deed_for, Deed, deed_of, plain_deed, given_instruction, inserted, resumed, applied, with_destination, destination_of}
+use Rattle.mx_code.specs.Instructions.{instruction, operation_in, x_of, xyz_of, destination_of}
+use Rattle.mx_code.specs.declared.instruction.Instruction.{Instruction}
+use Rattle.mx_core.specs.Deeds.{deed_for, Deed, deed_of, plain_deed, given_instruction, inserted, resumed, applied, with_destination}
 use Rattle.mx_core.specs.Effects.{Effect, Move, stays, effect_of, giving, going_to, putting, z_operand}
-use Rattle.mx_core.specs.Instructions.{Instruction, instruction, operation_in, x_of, xyz_of}
 use Rattle.mx_core.specs.State.{State, special_register, global_start, locals, is_negative, is_in_stack_segment}
 use Rattle.mx_core.specs.Step.{Stepped, went, calls, stopped, fetched, after, completed, made, step}
 use Rattle.mx_core.specs.Wild.{deed, is_wild}
-use Rattle.mx_core.specs.declared.operation.Operation.{Operation}
-use Rattle.mx_core.specs.declared.operation.Operation.TheVariants as op
-use Rattle.mx_core.specs.declared.reason.Reason.{Reason}
-use Rattle.mx_core.specs.declared.reason.Reason.TheVariants.{Illegal, ResumeInsert, Negative}
-use Rattle.mx_core.specs.declared.trace.Trace.{Trace}
+use Rattle.mx_code.specs.declared.operation.Operation.{Operation}
+use Rattle.mx_code.specs.declared.operation.Operation.TheVariants as op
+use Rattle.mx_code.specs.declared.reason.Reason.{Reason}
+use Rattle.mx_code.specs.declared.reason.Reason.TheVariants.{Illegal, ResumeInsert, Negative}
+use Rattle.mx_code.specs.declared.trace.Trace.{Trace}
 use Rattle.mx_core.proofs.Kept.Applied.{plain, applied-sound}
 use Rattle.mx_core.proofs.Choices.{chosen}
 use Rattle.mx_core.proofs.Kept.Destinations.{destination-sound, destination-pages, result-fits}

@@ -12,12 +12,13 @@ use Rattle.mx_trip.specs.declared.decision.Trip.{Trip}
 use Rattle.mx_trip.specs.declared.decision.Trip.TheVariants.{Taken, Noted}
 use Rattle.mx_core.specs.Deeds.{with_destination}
 use Rattle.mx_core.specs.Effects.{Effect, stays, unsaves, effect_of, with_decision, with_event, z_operand, putting, putting_value}
-use Rattle.mx_core.specs.Instructions.{Instruction, x_of, yz_of}
+use Rattle.mx_code.specs.Instructions.{x_of, yz_of}
+use Rattle.mx_code.specs.declared.instruction.Instruction.{Instruction}
 use Rattle.mx_core.specs.State.{State, global_start, locals}
 use Rattle.mx_core.specs.Stops.{form_fault, stack_fault}
-use Rattle.mx_core.specs.declared.operation.Operation.{Operation}
-use Rattle.mx_core.specs.declared.operation.Operation.TheVariants as op
-use Rattle.mx_core.specs.declared.reason.Reason.TheVariants.{StackFull, Underflow, BadFrame, Illegal}
+use Rattle.mx_code.specs.declared.operation.Operation.{Operation}
+use Rattle.mx_code.specs.declared.operation.Operation.TheVariants as op
+use Rattle.mx_code.specs.declared.reason.Reason.TheVariants.{StackFull, Underflow, BadFrame, Illegal}
 use Rattle.mx_core.proofs.Kept.Applied.{Shape, plain, moving, MovesSpilled}
 use Rattle.mx_core.proofs.Choices.{chosen, chosen-by, no-reason, IsBare, putting-bare}
 use Rattle.mx_core.proofs.Kept.Stages.{MoveFits}

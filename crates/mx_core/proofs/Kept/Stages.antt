@@ -10,10 +10,10 @@ use Rattle.mx_ring.specs.Frames.{is_bad_frame}
 use Rattle.mx_ring.specs.Stack.{Stack, visible, local_count, spilled_count, in_stack_area, stack_index, set_overfills, with_register, cut_to, with_global_start, push_overfills, pushed, pop_underflows, popped, save_overfills, saved, octas_to, unsaved, stack_octa, with_stack_octa}
 use Rattle.mx_core.specs.Deeds.{with_result, with_store, with_specials, moved, tripped, trip_specials, onward}
 use Rattle.mx_core.specs.Effects.{Store, Tripping, Move, stays, pushes, pops, saves, unsaves, cuts, moves_globals}
-use Rattle.mx_core.specs.Instructions.{Instruction}
+use Rattle.mx_code.specs.declared.instruction.Instruction.{Instruction}
 use Rattle.mx_core.specs.State.{State, octa, with_octa, with_special, with_value_in, is_page_refused}
 use Rattle.mx_core.specs.Stops.{page_fault}
-use Rattle.mx_core.specs.declared.reason.Reason.TheVariants.{PagesFull}
+use Rattle.mx_code.specs.declared.reason.Reason.TheVariants.{PagesFull}
 use Rattle.mx_core.proofs.Choices.{no-reason}
 use Rattle.mx_core.proofs.Kept.Rings.{IsRinged, set-ringed, cut-ringed, globals-ringed, push-ringed, pop-ringed, save-ringed, unsave-ringed, octa-ringed, set-spilled, push-spilled, pop-spilled, save-spilled, unsave-spilled, cut-spilled, globals-spilled, octa-spilled, room-global}
 

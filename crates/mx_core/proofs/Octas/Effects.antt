@@ -18,13 +18,15 @@ use Rattle.mx_spec.specs.SpecialRegisters.{rB, rD, rE, rH, rJ, rM, rR, rG, rL, r
 use Rattle.mx_spec.specs.declared.put.Put.{Put}
 use Rattle.mx_trip.specs.Trips.{handler, is_enabled, event_bit}
 use Rattle.mx_trip.specs.declared.decision.Trip.TheVariants.{Taken, Noted}
-use Rattle.mx_core.specs.Effects.{Effect, effect_of, giving, going_to, given_y, given_z, x_register, y_operand, z_operand, data_address, with_decision, with_event, if_told, computed, extra_of, wyde_value, sign_extended, loaded_value, stored_event, swapped, specials_saved, specials_back, putting}
-use Rattle.mx_core.specs.Instructions.{Instruction, code_of, x_of, y_of, z_of, next_of, near_address}
+use Rattle.mx_code.specs.Instructions.{code_of, x_of, y_of, z_of, next_of, near_address, wyde_value}
+use Rattle.mx_code.specs.declared.instruction.Instruction.{Instruction}
+use Rattle.mx_code.specs.LoadsAndStores.{sign_extended, loaded_value, stored_event}
+use Rattle.mx_core.specs.Effects.{Effect, effect_of, giving, going_to, given_y, given_z, x_register, y_operand, z_operand, data_address, with_decision, with_event, if_told, computed, extra_of, swapped, specials_saved, specials_back, putting}
 use Rattle.mx_core.specs.State.{State, octa, special_register, global_start, locals}
-use Rattle.mx_core.specs.declared.operation.Loading.{Loading}
-use Rattle.mx_core.specs.declared.operation.Loading.TheVariants as loading
-use Rattle.mx_core.specs.declared.operation.Operation.{Operation}
-use Rattle.mx_core.specs.declared.operation.Operation.TheVariants as op
+use Rattle.mx_code.specs.declared.operation.Loading.{Loading}
+use Rattle.mx_code.specs.declared.operation.Loading.TheVariants as loading
+use Rattle.mx_code.specs.declared.operation.Operation.{Operation}
+use Rattle.mx_code.specs.declared.operation.Operation.TheVariants as op
 use Rattle.mx_core.proofs.Choices.{chosen}
 use Rattle.mx_core.proofs.Octas.Answered.{IsOctaIf, GivesOctas, alu-octas, wyde-octas}
 use Rattle.mx_core.proofs.Octas.Stacks.{OctaSaved, octa-register, unsaved-octas}

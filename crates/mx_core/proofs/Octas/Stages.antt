@@ -13,7 +13,8 @@ use Rattle.mx_ring.specs.Stack.{Stack, listed, windowed, visible, local_count, h
 use Rattle.mx_spec.specs.SpecialRegisters.{rA, rC, rO, rS, rG, rL, rB, rJ, rW, rX, rY, rZ}
 use Rattle.mx_core.specs.Deeds.{with_result, with_store, with_specials, moved, tripped, trip_specials, onward}
 use Rattle.mx_core.specs.Effects.{Effect, Store, Tripping, Move, stays, pushes, pops, saves, unsaves, cuts, moves_globals}
-use Rattle.mx_core.specs.Instructions.{Instruction, next_of}
+use Rattle.mx_code.specs.Instructions.{next_of}
+use Rattle.mx_code.specs.declared.instruction.Instruction.{Instruction}
 use Rattle.mx_core.specs.State.{State, octa, with_octa, with_special, with_value_in, special_register, global_start, locals}
 use Rattle.mx_core.proofs.Choices.{chosen}
 use Rattle.mx_core.proofs.Octas.Answered.{IsOctaIf}

@@ -13,20 +13,22 @@ use Rattle.mx_trip.specs.declared.insertion.Kind.{Kind}
 use Rattle.mx_trip.specs.declared.insertion.Kind.TheVariants.{Again, Continue, Set}
 use Rattle.mx_core.specs.Bounds.{IsMachine}
 use Rattle.mx_core.specs.Changes.{register_changed, with_put, put_changed, special_changed, octa_changed, at_address}
-use Rattle.mx_core.specs.Deeds.{deed_for, Deed, deed_of, plain_deed, given_instruction, inserted, resumed, applied, address_after, with_destination, destination_of, with_specials, moved}
+use Rattle.mx_code.specs.Instructions.{instruction, operation_in, x_of, xyz_of, destination_of}
+use Rattle.mx_code.specs.declared.instruction.Instruction.{Instruction}
+use Rattle.mx_core.specs.Deeds.{deed_for, Deed, deed_of, plain_deed, given_instruction, inserted, resumed, applied, address_after, with_destination, with_specials, moved}
 use Rattle.mx_core.specs.Effects.{Effect, effect_of, giving, going_to}
-use Rattle.mx_core.specs.Instructions.{Instruction, instruction, operation_in, x_of, xyz_of}
 use Rattle.mx_core.specs.Machines.{HoldsOctas, IsOverWindow}
 use Rattle.mx_core.specs.State.{is_negative, State, octa, special_register, global_start, locals, with_value_in, with_octa, is_page_refused}
 use Rattle.mx_core.specs.Step.{Stepped, went, calls, stopped, fetched, after, completed, call_of, made, step}
-use Rattle.mx_core.specs.Stops.{stack_fault, page_fault, has_destination}
+use Rattle.mx_code.specs.Operations.{has_destination}
+use Rattle.mx_core.specs.Stops.{stack_fault, page_fault}
 use Rattle.mx_core.specs.Traps.{trap_specials, trapped, halted, with_touch}
 use Rattle.mx_core.specs.Wild.{deed}
-use Rattle.mx_core.specs.declared.operation.Operation.{Operation}
-use Rattle.mx_core.specs.declared.operation.Operation.TheVariants as op
-use Rattle.mx_core.specs.declared.reason.Reason.{Reason}
-use Rattle.mx_core.specs.declared.reason.Reason.TheVariants.{Illegal, Negative, ResumeInsert, StackFull}
-use Rattle.mx_core.specs.declared.trace.Trace.{Trace}
+use Rattle.mx_code.specs.declared.operation.Operation.{Operation}
+use Rattle.mx_code.specs.declared.operation.Operation.TheVariants as op
+use Rattle.mx_code.specs.declared.reason.Reason.{Reason}
+use Rattle.mx_code.specs.declared.reason.Reason.TheVariants.{Illegal, Negative, ResumeInsert, StackFull}
+use Rattle.mx_code.specs.declared.trace.Trace.{Trace}
 use Rattle.mx_core.proofs.Kept.Applied.{Shape, plain, moving, ResultFits, before, before-stack, before-sound, fits-before, reads-before}
 use Rattle.mx_core.proofs.Kept.Changed.{OfOk, ok-is, allowed-ok, register-keeps, special-keeps, octa-changed-keeps, address-keeps, trapped-keeps, halted-keeps, touch-keeps}
 use Rattle.mx_core.proofs.Choices.{chosen, no-reason}

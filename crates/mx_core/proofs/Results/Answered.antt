@@ -5,10 +5,10 @@ use Rattle.mx_core.specs.Way.Calls.{Left, left, unless, set_outcome, settled}
 use Rattle.mx_core.specs.Deeds.{onward}
 use Rattle.mx_core.specs.State.{State, with_value_in, with_local}
 use Rattle.mx_core.specs.Traps.{with_touch}
-use Rattle.mx_core.specs.declared.reason.Reason.{Reason}
-use Rattle.mx_core.specs.declared.reason.Reason.TheVariants.{StackFull}
-use Rattle.mx_core.specs.declared.stop.Stop.{Stop}
-use Rattle.mx_core.specs.declared.stop.Stop.TheVariants.{Stopped}
+use Rattle.mx_code.specs.declared.reason.Reason.{Reason}
+use Rattle.mx_code.specs.declared.reason.Reason.TheVariants.{StackFull}
+use Rattle.mx_code.specs.declared.stop.Stop.{Stop}
+use Rattle.mx_code.specs.declared.stop.Stop.TheVariants.{Stopped}
 use Rattle.mx_core.proofs.Results.Loads.{local_settles}
 use Rattle.mx_core.proofs.Results.Locals.{stack-fits}
 

@@ -11,12 +11,13 @@ use Rattle.mx_trip.specs.declared.decision.Trip.TheVariants.{Taken, Noted}
 use Rattle.mx_core.specs.Way.Calls.{trip_taken, event_settled, raised, told_specials, answer_outcome, settled}
 use Rattle.mx_core.specs.Deeds.{applied, onward, tripped, with_specials, outcome, deed_of, unless_refused, loads_in_segment, stores_in_segment}
 use Rattle.mx_core.specs.Effects.{Effect, Tripping, giving, with_event, with_decision, effect_of, y_operand, z_operand, answered, alu_answer, if_told}
-use Rattle.mx_core.specs.Instructions.{Instruction, x_of, y_of, next_of}
+use Rattle.mx_code.specs.Instructions.{x_of, y_of, next_of}
+use Rattle.mx_code.specs.declared.instruction.Instruction.{Instruction}
 use Rattle.mx_core.specs.State.{State, with_value_in, with_local, special_register, tetra}
 use Rattle.mx_core.specs.Stops.{reason_where, first_reason, form_fault, stack_fault, load_fault, store_fault, trip_fault, page_fault}
-use Rattle.mx_core.specs.declared.operation.Operation.TheVariants as op
-use Rattle.mx_core.specs.declared.reason.Reason.{Reason}
-use Rattle.mx_core.specs.declared.reason.Reason.TheVariants.{StackFull, UnhandledTrip}
+use Rattle.mx_code.specs.declared.operation.Operation.TheVariants as op
+use Rattle.mx_code.specs.declared.reason.Reason.{Reason}
+use Rattle.mx_code.specs.declared.reason.Reason.TheVariants.{StackFull, UnhandledTrip}
 use Rattle.mx_core.proofs.Results.Outcomes.{or-false, specials-touched, same-touched, result-twice, settled-is, y_kept, z_kept}
 
 -- what an effect comes to, of an operation whose form is right and whose destination is $k

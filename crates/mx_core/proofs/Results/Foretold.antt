@@ -10,16 +10,18 @@ use Rattle.mx_registers.proofs.Values.{with_value-bounds}
 use Rattle.mx_spec.specs.SpecialRegisters.{rP}
 use Rattle.mx_trip.specs.declared.insertion.Kind.TheVariants.{Set}
 use Rattle.mx_core.specs.Deeds.{Deed, deed_of, performed, applied, state_done}
-use Rattle.mx_core.specs.Effects.{effect_of, data_address, x_register, touch}
-use Rattle.mx_core.specs.Instructions.{Instruction, instruction, x_of}
+use Rattle.mx_code.specs.LoadsAndStores.{touch}
+use Rattle.mx_core.specs.Effects.{effect_of, data_address, x_register}
+use Rattle.mx_code.specs.Instructions.{instruction, x_of}
+use Rattle.mx_code.specs.declared.instruction.Instruction.{Instruction}
 use Rattle.mx_core.specs.Kept.{Kept, state_of}
 use Rattle.mx_core.specs.State.{State, octa, with_octa, with_local, with_value_in, special_register}
 use Rattle.mx_core.specs.Step.{store_touch}
 use Rattle.mx_core.specs.Way.Stepping.{Foretells, exchange_sight, is_exchange, is_swap, sight_of, told_write}
-use Rattle.mx_core.specs.declared.operation.Operation.{Operation}
-use Rattle.mx_core.specs.declared.operation.Operation.TheVariants as op
+use Rattle.mx_code.specs.declared.operation.Operation.{Operation}
+use Rattle.mx_code.specs.declared.operation.Operation.TheVariants as op
 use Rattle.mx_core.specs.declared.sight.Sight.{Sight}
-use Rattle.mx_core.specs.declared.trace.Touch.{Touch}
+use Rattle.mx_code.specs.declared.trace.Touch.{Touch}
 use Rattle.mx_core.proofs.Choices.{chosen}
 use Rattle.mx_core.proofs.Results.Locals.{own-register, shown-set}
 use Rattle.mx_core.proofs.Results.Outcomes.{address_kept}

@@ -5,10 +5,11 @@ use Rattle.mx_ring.specs.Stack.{register, set_overfills}
 use Rattle.mx_spec.specs.SpecialRegisters.{rC, rO, rS, rG, rL}
 use Rattle.mx_core.specs.Way.Calls.{unless, settled, get_done}
 use Rattle.mx_core.specs.Deeds.{onward, outcome, deed_of}
-use Rattle.mx_core.specs.Instructions.{Instruction, x_of, y_of, z_of, next_of}
+use Rattle.mx_code.specs.Instructions.{x_of, y_of, z_of, next_of}
+use Rattle.mx_code.specs.declared.instruction.Instruction.{Instruction}
 use Rattle.mx_core.specs.State.{State, special_register, with_local, with_value_in}
-use Rattle.mx_core.specs.declared.operation.Operation.TheVariants as op
-use Rattle.mx_core.specs.declared.reason.Reason.TheVariants.{StackFull}
+use Rattle.mx_code.specs.declared.operation.Operation.TheVariants as op
+use Rattle.mx_code.specs.declared.reason.Reason.TheVariants.{StackFull}
 use Rattle.mx_core.proofs.Results.Others.{get_outcome_is}
 use Rattle.mx_core.proofs.Results.Outcomes.{or-false, same-touched, result-twice}
 

@@ -7,14 +7,16 @@ use Rattle.mx_mem.specs.declared.part.Part.TheVariants.{Byte, Wyde, Tetra, Octa}
 use Rattle.mx_ring.specs.Stack.{register, set_overfills, in_stack_area}
 use Rattle.mx_core.specs.Way.Calls.{unless, settled}
 use Rattle.mx_core.specs.Deeds.{applied, onward, outcome, deed_of, unless_refused}
-use Rattle.mx_core.specs.Effects.{effect_of, data_address, loaded_part, loaded_value, touch, loading_from}
-use Rattle.mx_core.specs.Instructions.{Instruction, x_of, next_of}
+use Rattle.mx_code.specs.LoadsAndStores.{loaded_part, loaded_value, touch}
+use Rattle.mx_core.specs.Effects.{effect_of, data_address, loading_from}
+use Rattle.mx_code.specs.Instructions.{x_of, next_of}
+use Rattle.mx_code.specs.declared.instruction.Instruction.{Instruction}
 use Rattle.mx_core.specs.State.{State, octa, with_value_in, with_local, is_negative, is_in_stack_segment}
 use Rattle.mx_core.specs.Stops.{reason_where, first_reason, form_fault, stack_fault}
-use Rattle.mx_core.specs.declared.operation.Loading.{Loading}
-use Rattle.mx_core.specs.declared.operation.Operation.TheVariants as op
-use Rattle.mx_core.specs.declared.reason.Reason.{Reason}
-use Rattle.mx_core.specs.declared.reason.Reason.TheVariants.{StackFull, Negative}
+use Rattle.mx_code.specs.declared.operation.Loading.{Loading}
+use Rattle.mx_code.specs.declared.operation.Operation.TheVariants as op
+use Rattle.mx_code.specs.declared.reason.Reason.{Reason}
+use Rattle.mx_code.specs.declared.reason.Reason.TheVariants.{StackFull, Negative}
 use Rattle.mx_core.proofs.Results.Events.{from_effect}
 use Rattle.mx_core.specs.Traps.{with_touch}
 use Rattle.mx_core.proofs.Results.Locals.{stack-fits}

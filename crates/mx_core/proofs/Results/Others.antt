@@ -6,12 +6,13 @@ use Rattle.mx_spec.specs.SpecialRegisters.{rJ, rS}
 use Rattle.mx_core.specs.Way.Calls.{unless, push_outcome, pop_outcome, save_outcome, unsave_outcome, get_outcome, sync_outcome, trip_outcome, with_new_mark, frame_back, looks_unsaved, get_done}
 use Rattle.mx_core.specs.Deeds.{applied, onward, tripped, outcome, deed_of, unless_refused, is_absent, with_stack, with_stack_marked}
 use Rattle.mx_core.specs.Effects.{effect_of, y_operand, z_operand, x_register, data_address, specials_saved}
-use Rattle.mx_core.specs.Instructions.{Instruction, code_of, x_of, y_of, z_of, yz_of, xyz_of, next_of, near_address, far_address}
+use Rattle.mx_code.specs.Instructions.{code_of, x_of, y_of, z_of, yz_of, xyz_of, next_of, near_address, far_address}
+use Rattle.mx_code.specs.declared.instruction.Instruction.{Instruction}
 use Rattle.mx_core.specs.State.{State, special_register, with_special, with_local, global_start, tetra}
 use Rattle.mx_core.specs.Stops.{reason_where, first_reason, form_fault, stack_fault}
-use Rattle.mx_core.specs.declared.operation.Operation.TheVariants as op
-use Rattle.mx_core.specs.declared.reason.Reason.{Reason}
-use Rattle.mx_core.specs.declared.reason.Reason.TheVariants.{Float, Illegal, Privileged, StackFull, Underflow, BadFrame, UnhandledTrip, ResumeInsert}
+use Rattle.mx_code.specs.declared.operation.Operation.TheVariants as op
+use Rattle.mx_code.specs.declared.reason.Reason.{Reason}
+use Rattle.mx_code.specs.declared.reason.Reason.TheVariants.{Float, Illegal, Privileged, StackFull, Underflow, BadFrame, UnhandledTrip, ResumeInsert}
 use Rattle.mx_core.proofs.Results.Outcomes.{or-false, same-touched}
 
 unless-any : (b : Bool) (r : Reason) (done to : State) → done ≡ to → unless_refused (first_reason (reason_where b r) None) done ≡ unless b r to

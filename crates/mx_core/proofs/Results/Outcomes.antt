@@ -7,13 +7,14 @@ use Rattle.mx_ops.specs.Opcodes.{opcode_kind, is_immediate}
 use Rattle.mx_ring.specs.Stack.{Stack, register, set_overfills}
 use Rattle.mx_core.specs.Way.Calls.{unless, settled, settled_with}
 use Rattle.mx_core.specs.Deeds.{applied, onward, with_specials, outcome, deed_of, unless_refused}
-use Rattle.mx_core.specs.Effects.{Effect, stays, effect_of, y_operand, z_operand, x_register, given_y, given_z, wyde_value, data_address}
-use Rattle.mx_core.specs.Instructions.{Instruction, code_of, x_of, y_of, z_of, next_of, near_address}
+use Rattle.mx_code.specs.Instructions.{code_of, x_of, y_of, z_of, next_of, near_address, wyde_value}
+use Rattle.mx_code.specs.declared.instruction.Instruction.{Instruction}
+use Rattle.mx_core.specs.Effects.{Effect, stays, effect_of, y_operand, z_operand, x_register, given_y, given_z, data_address}
 use Rattle.mx_core.specs.State.{State, with_special, with_value_in, with_local}
 use Rattle.mx_core.specs.Stops.{reason_where, first_reason, form_fault, stack_fault}
-use Rattle.mx_core.specs.declared.operation.Operation.TheVariants as op
-use Rattle.mx_core.specs.declared.reason.Reason.TheVariants.{StackFull}
-use Rattle.mx_core.specs.declared.trace.Touch.{Touch}
+use Rattle.mx_code.specs.declared.operation.Operation.TheVariants as op
+use Rattle.mx_code.specs.declared.reason.Reason.TheVariants.{StackFull}
+use Rattle.mx_code.specs.declared.trace.Touch.{Touch}
 use Rattle.mx_core.proofs.Results.Locals.{stack-twice, stack-kept}
 
 pub or-false : (b : Bool) → (b || false) ≡ b

@@ -4,13 +4,14 @@ use Rattle.std.proofs.lemmas.Bool.Decides.{nat_tests}
 use Rattle.mx_trip.specs.declared.decision.Trip.TheVariants.{Taken, Noted}
 use Rattle.mx_core.specs.Way.Calls.{LacksMemoryOnlyWhere, unless, is_made, makes_page, overflow_decided, exchanged}
 use Rattle.mx_core.specs.Deeds.{is_absent, unless_refused}
-use Rattle.mx_core.specs.Instructions.{Instruction, x_of}
+use Rattle.mx_code.specs.Instructions.{x_of}
+use Rattle.mx_code.specs.declared.instruction.Instruction.{Instruction}
 use Rattle.mx_core.specs.State.{State, begins_page, is_negative, is_page_refused, tetra}
-use Rattle.mx_core.specs.declared.operation.Storing.{Storing}
-use Rattle.mx_core.specs.declared.reason.Reason.{Reason}
-use Rattle.mx_core.specs.declared.reason.Reason.TheVariants.{Negative, UnhandledTrip, PagesFull, StackFull}
-use Rattle.mx_core.specs.declared.stop.Stop.{Stop}
-use Rattle.mx_core.specs.declared.stop.Stop.TheVariants.{Stopped, OutOfMemory}
+use Rattle.mx_code.specs.declared.operation.Storing.{Storing}
+use Rattle.mx_code.specs.declared.reason.Reason.{Reason}
+use Rattle.mx_code.specs.declared.reason.Reason.TheVariants.{Negative, UnhandledTrip, PagesFull, StackFull}
+use Rattle.mx_code.specs.declared.stop.Stop.{Stop}
+use Rattle.mx_code.specs.declared.stop.Stop.TheVariants.{Stopped, OutOfMemory}
 use Rattle.mx_ring.specs.Stack.{set_overfills}
 
 -- a deed that is not refused is made

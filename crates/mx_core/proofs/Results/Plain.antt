@@ -3,11 +3,12 @@ use Rattle.std.proofs.Common.{◌≡◌, ℕ, refl, sym, ◌∙◌}
 use Rattle.mx_core.specs.Way.Calls.{answer_outcome, store_settled}
 use Rattle.mx_core.specs.Deeds.{outcome, deed_of}
 use Rattle.mx_core.specs.Effects.{alu_answer, y_operand, z_operand}
-use Rattle.mx_core.specs.Instructions.{Instruction, instruction, operands_given}
+use Rattle.mx_code.specs.Instructions.{instruction, operands_given}
+use Rattle.mx_code.specs.declared.instruction.Instruction.{Instruction}
 use Rattle.mx_core.specs.State.{State}
-use Rattle.mx_core.specs.declared.operation.Loading.{Loading}
-use Rattle.mx_core.specs.declared.operation.Storing.{Storing}
-use Rattle.mx_core.specs.declared.operation.Operation.TheVariants as op
+use Rattle.mx_code.specs.declared.operation.Loading.{Loading}
+use Rattle.mx_code.specs.declared.operation.Storing.{Storing}
+use Rattle.mx_code.specs.declared.operation.Operation.TheVariants as op
 use Rattle.mx_core.proofs.Results.Loads.{load_outcome}
 
 pub answer_plain : (s : State) (i : Instruction) (y z : ℕ) →

@@ -9,12 +9,13 @@ use Rattle.mx_core.specs.Way.Calls.{put_outcome, put_done}
 use Rattle.mx_core.specs.Changes.{with_put}
 use Rattle.mx_core.specs.Deeds.{applied, onward, outcome, deed_of, unless_refused, is_absent, loads_in_segment, stores_in_segment}
 use Rattle.mx_core.specs.Effects.{Effect, effect_of, z_operand, putting}
-use Rattle.mx_core.specs.Instructions.{Instruction, x_of, y_of, next_of}
+use Rattle.mx_code.specs.Instructions.{x_of, y_of, next_of}
+use Rattle.mx_code.specs.declared.instruction.Instruction.{Instruction}
 use Rattle.mx_core.specs.State.{State, global_start, locals, with_special}
 use Rattle.mx_core.specs.Stops.{first_reason, form_fault, stack_fault, load_fault, store_fault, trip_fault, page_fault, put_fault}
-use Rattle.mx_core.specs.declared.operation.Operation.TheVariants as op
-use Rattle.mx_core.specs.declared.reason.Reason.{Reason}
-use Rattle.mx_core.specs.declared.reason.Reason.TheVariants.{Illegal}
+use Rattle.mx_code.specs.declared.operation.Operation.TheVariants as op
+use Rattle.mx_code.specs.declared.reason.Reason.{Reason}
+use Rattle.mx_code.specs.declared.reason.Reason.TheVariants.{Illegal}
 use Rattle.mx_core.proofs.Results.Others.{unseen}
 
 -- what an effect comes to, of an operation without a destination that looks at nothing

@@ -9,7 +9,8 @@ use Rattle.mx_trip.specs.declared.insertion.Insert.{Insert}
 use Rattle.mx_trip.specs.declared.insertion.Insert.TheVariants as insert
 use Rattle.mx_trip.specs.declared.insertion.Kind.TheVariants.{Set}
 use Rattle.mx_core.specs.Deeds.{applied, onward, outcome, resumed, inserted, performed}
-use Rattle.mx_core.specs.Instructions.{Instruction, instruction, x_of, xyz_of, next_of}
+use Rattle.mx_code.specs.Instructions.{instruction, x_of, xyz_of, next_of}
+use Rattle.mx_code.specs.declared.instruction.Instruction.{Instruction}
 use Rattle.mx_core.specs.State.{State, special_register, with_value_in, global_start, locals}
 use Rattle.mx_core.proofs.Results.Others.{unseen}
 

@@ -9,18 +9,20 @@ use Rattle.mx_spec.specs.declared.put.Put.TheVariants as put
 use Rattle.mx_trip.specs.Trips.{decided}
 use Rattle.mx_trip.specs.declared.decision.Trip.{Trip}
 use Rattle.mx_trip.specs.declared.decision.Trip.TheVariants.{Taken, Noted}
-use Rattle.mx_core.specs.Deeds.{deed_of, destination_of, with_destination}
-use Rattle.mx_core.specs.Effects.{Effect, Store, effect_of, with_event, with_decision, putting, z_operand, data_address, loaded_part, stored_part, touch}
-use Rattle.mx_core.specs.Instructions.{Instruction, x_of}
+use Rattle.mx_code.specs.Instructions.{x_of, destination_of}
+use Rattle.mx_code.specs.declared.instruction.Instruction.{Instruction}
+use Rattle.mx_core.specs.Deeds.{deed_of, with_destination}
+use Rattle.mx_code.specs.LoadsAndStores.{loaded_part, stored_part, touch}
+use Rattle.mx_core.specs.Effects.{Effect, Store, effect_of, with_event, with_decision, putting, z_operand, data_address}
 use Rattle.mx_core.specs.State.{State, special_register, global_start, locals}
 use Rattle.mx_core.specs.Step.{store_touch}
 use Rattle.mx_core.specs.Way.Stepping.{sight_of, moves_memory}
-use Rattle.mx_core.specs.declared.operation.Loading.{Loading}
-use Rattle.mx_core.specs.declared.operation.Storing.{Storing}
-use Rattle.mx_core.specs.declared.operation.Operation.{Operation}
-use Rattle.mx_core.specs.declared.operation.Operation.TheVariants as op
+use Rattle.mx_code.specs.declared.operation.Loading.{Loading}
+use Rattle.mx_code.specs.declared.operation.Storing.{Storing}
+use Rattle.mx_code.specs.declared.operation.Operation.{Operation}
+use Rattle.mx_code.specs.declared.operation.Operation.TheVariants as op
 use Rattle.mx_core.specs.declared.sight.Sight.{Sight}
-use Rattle.mx_core.specs.declared.trace.Touch.{Touch}
+use Rattle.mx_code.specs.declared.trace.Touch.{Touch}
 use Rattle.mx_core.proofs.Results.Outcomes.{address_kept}
 
 -- the same loads and stores

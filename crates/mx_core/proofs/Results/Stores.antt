@@ -8,22 +8,24 @@ use Rattle.mx_trip.specs.declared.decision.Trip.{Trip}
 use Rattle.mx_trip.specs.declared.decision.Trip.TheVariants.{Taken, Noted}
 use Rattle.std.proofs.lemmas.Bool.Decides.{nat_tests}
 use Rattle.mx_alu.specs.declared.answer.Event.TheVariants.{Overflow}
-use Rattle.mx_core.specs.declared.stop.Stop.{Stop}
-use Rattle.mx_core.specs.declared.stop.Stop.TheVariants.{Stopped}
+use Rattle.mx_code.specs.declared.stop.Stop.{Stop}
+use Rattle.mx_code.specs.declared.stop.Stop.TheVariants.{Stopped}
 use Rattle.mx_core.proofs.Results.Answered.{unless-ok, unless-err}
 use Rattle.mx_core.proofs.Results.Pages.{absent-made}
 use Rattle.mx_core.specs.Way.Calls.{is_made, makes_page, left, store_outcome, unless, store_seen, store_raised, store_decided, store_settled}
 use Rattle.mx_core.specs.Deeds.{applied, onward, outcome, state_done, deed_of, unless_refused, loads_in_segment, stores_in_segment}
-use Rattle.mx_core.specs.Effects.{Effect, Store, effect_of, data_address, x_register, going_on, stored_in, stored_part, stored_value, stored_event, with_event, with_decision}
-use Rattle.mx_core.specs.Instructions.{Instruction, x_of, next_of}
+use Rattle.mx_code.specs.LoadsAndStores.{stored_part, stored_value, stored_event}
+use Rattle.mx_core.specs.Effects.{Effect, Store, effect_of, data_address, x_register, going_on, stored_in, with_event, with_decision}
+use Rattle.mx_code.specs.Instructions.{x_of, next_of}
+use Rattle.mx_code.specs.declared.instruction.Instruction.{Instruction}
 use Rattle.mx_core.specs.State.{State, begins_page, special_register, is_negative, is_in_stack_segment, is_page_refused, tetra}
 use Rattle.mx_core.specs.Way.Stepping.{begins_page_at, needs_page}
 use Rattle.mx_core.specs.Stops.{reason_where, first_reason, form_fault, stack_fault, load_fault, store_fault, trip_fault, page_fault}
-use Rattle.mx_core.specs.declared.operation.Storing.{Storing}
-use Rattle.mx_core.specs.declared.operation.Operation.TheVariants as op
-use Rattle.mx_core.specs.declared.trace.Touch.{Touch}
-use Rattle.mx_core.specs.declared.reason.Reason.{Reason}
-use Rattle.mx_core.specs.declared.reason.Reason.TheVariants.{Negative, UnhandledTrip, PagesFull}
+use Rattle.mx_code.specs.declared.operation.Storing.{Storing}
+use Rattle.mx_code.specs.declared.operation.Operation.TheVariants as op
+use Rattle.mx_code.specs.declared.trace.Touch.{Touch}
+use Rattle.mx_code.specs.declared.reason.Reason.{Reason}
+use Rattle.mx_code.specs.declared.reason.Reason.TheVariants.{Negative, UnhandledTrip, PagesFull}
 
 -- the address decides first, then the trip, then the page
 store-cases : (neg unhandled full : Bool) (done to : State) → done ≡ to →

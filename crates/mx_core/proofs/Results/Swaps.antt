@@ -4,19 +4,21 @@ use Rattle.std.proofs.lemmas.Bool.Decides.{nat_tests}
 use Rattle.mx_mem.specs.declared.part.Part.TheVariants.{Octa}
 use Rattle.mx_ring.specs.Stack.{register, set_overfills, in_stack_area}
 use Rattle.mx_spec.specs.SpecialRegisters.{rP}
-use Rattle.mx_core.specs.declared.stop.Stop.{Stop}
+use Rattle.mx_code.specs.declared.stop.Stop.{Stop}
 use Rattle.mx_core.proofs.Results.Locals.{stack-fits}
 use Rattle.mx_core.specs.Way.Calls.{left, unless, is_made, makes_page, exchange_done, exchanged, left_alone, swap_made, swap_settled, store_seen, settled}
 use Rattle.mx_core.specs.Deeds.{applied, onward, outcome, state_done, deed_of, unless_refused}
-use Rattle.mx_core.specs.Effects.{Effect, effect_of, data_address, x_register, touch, loading_from, stored_in}
-use Rattle.mx_core.specs.Instructions.{Instruction, x_of, next_of}
+use Rattle.mx_code.specs.LoadsAndStores.{touch}
+use Rattle.mx_core.specs.Effects.{Effect, effect_of, data_address, x_register, loading_from, stored_in}
+use Rattle.mx_code.specs.Instructions.{x_of, next_of}
+use Rattle.mx_code.specs.declared.instruction.Instruction.{Instruction}
 use Rattle.mx_core.specs.State.{State, begins_page, octa, with_octa, with_stored, with_special, with_value_in, with_local, special_register, is_negative, is_in_stack_segment, is_page_refused}
 use Rattle.mx_core.specs.Way.Stepping.{begins_page_at, needs_page}
 use Rattle.mx_core.proofs.Results.Pages.{absent-made}
 use Rattle.mx_core.specs.Stops.{reason_where, first_reason, form_fault, stack_fault}
-use Rattle.mx_core.specs.declared.operation.Operation.TheVariants as op
-use Rattle.mx_core.specs.declared.reason.Reason.{Reason}
-use Rattle.mx_core.specs.declared.reason.Reason.TheVariants.{StackFull, Negative, PagesFull}
+use Rattle.mx_code.specs.declared.operation.Operation.TheVariants as op
+use Rattle.mx_code.specs.declared.reason.Reason.{Reason}
+use Rattle.mx_code.specs.declared.reason.Reason.TheVariants.{StackFull, Negative, PagesFull}
 use Rattle.mx_core.proofs.Results.Events.{from_effect}
 use Rattle.mx_core.proofs.Results.Loads.{negative-part, segment-part, outside-kept}
 use Rattle.mx_core.proofs.Results.Outcomes.{or-false, result-twice, x_kept, address_kept}

@@ -3,9 +3,9 @@ use Rattle.std.proofs.Common.{◌≡◌, ◌≢◌, Bool, true, false, Result, O
 use Rattle.std.specs.Result.{OnErr}
 use Rattle.mx_core.specs.Way.Calls.{Left, left, LacksMemoryOnlyWhere}
 use Rattle.mx_core.specs.State.{State}
-use Rattle.mx_core.specs.declared.reason.Reason.{Reason}
-use Rattle.mx_core.specs.declared.stop.Stop.{Stop}
-use Rattle.mx_core.specs.declared.stop.Stop.TheVariants.{Stopped, OutOfMemory}
+use Rattle.mx_code.specs.declared.reason.Reason.{Reason}
+use Rattle.mx_code.specs.declared.stop.Stop.{Stop}
+use Rattle.mx_code.specs.declared.stop.Stop.TheVariants.{Stopped, OutOfMemory}
 
 pub keeps : (s t : State) (whole : Result State Reason) (r : Result (Unit {0}) Stop) → (r, t) ≡ left s whole → OnErr r (t ≡ s)
 keeps s t whole (Ok x) e = tt

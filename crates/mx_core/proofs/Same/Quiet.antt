@@ -6,15 +6,16 @@ use Rattle.mx_ring.specs.Window.{as_list}
 use Rattle.mx_ring.specs.Stack.{Stack, listed, windowed, register, as_listed, spilled_count, in_stack_area, stack_index}
 use Rattle.mx_spec.specs.Puts.{put_of}
 use Rattle.mx_core.specs.Bounds.{as_list_state}
-use Rattle.mx_core.specs.Deeds.{Deed, deed_of, with_destination, destination_of, applied, looks_at_stack, loads_in_segment, stores_in_segment, wild_effect, is_absent}
+use Rattle.mx_code.specs.Instructions.{x_of, destination_of}
+use Rattle.mx_code.specs.declared.instruction.Instruction.{Instruction}
+use Rattle.mx_core.specs.Deeds.{Deed, deed_of, with_destination, applied, looks_at_stack, loads_in_segment, stores_in_segment, wild_effect, is_absent}
 use Rattle.mx_core.specs.Effects.{Effect, Store, Move, stays, effect_of, z_operand}
-use Rattle.mx_core.specs.Instructions.{Instruction, x_of}
 use Rattle.mx_core.specs.State.{State, global_start, locals}
 use Rattle.mx_core.specs.Stops.{refusal, form_fault, stack_fault, page_fault, first_reason}
-use Rattle.mx_core.specs.declared.operation.Operation.{Operation}
-use Rattle.mx_core.specs.declared.operation.Operation.TheVariants as op
-use Rattle.mx_core.specs.declared.reason.Reason.{Reason}
-use Rattle.mx_core.specs.declared.reason.Reason.TheVariants.{BadFrame}
+use Rattle.mx_code.specs.declared.operation.Operation.{Operation}
+use Rattle.mx_code.specs.declared.operation.Operation.TheVariants as op
+use Rattle.mx_code.specs.declared.reason.Reason.{Reason}
+use Rattle.mx_code.specs.declared.reason.Reason.TheVariants.{BadFrame}
 use Rattle.mx_core.proofs.Kept.Applied.{StoresOutside, MovesSpilled, applied-listed}
 use Rattle.mx_core.proofs.Choices.{chosen, no-reason, no-first}
 use Rattle.mx_core.proofs.Kept.Destinations.{destination-sound, destination-listed, destination-pages, result-fits}

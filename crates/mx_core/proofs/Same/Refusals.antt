@@ -10,12 +10,13 @@ use Rattle.mx_spec.specs.SpecialRegisters.{rP}
 use Rattle.mx_trip.specs.Trips.{handler}
 use Rattle.mx_trip.specs.declared.decision.Trip.TheVariants.{Taken, Noted}
 use Rattle.mx_core.specs.Effects.{Effect, Store, Tripping, effect_of, with_decision, with_event, z_operand, swapped}
-use Rattle.mx_core.specs.Instructions.{Instruction, x_of}
+use Rattle.mx_code.specs.Instructions.{x_of}
+use Rattle.mx_code.specs.declared.instruction.Instruction.{Instruction}
 use Rattle.mx_core.specs.State.{State, special_register, global_start, locals}
 use Rattle.mx_core.specs.Stops.{refusal, form_fault, stack_fault, trip_fault, reason_where, page_fault}
-use Rattle.mx_core.specs.declared.operation.Operation.{Operation}
-use Rattle.mx_core.specs.declared.operation.Operation.TheVariants as op
-use Rattle.mx_core.specs.declared.reason.Reason.TheVariants.{BadFrame, UnhandledTrip}
+use Rattle.mx_code.specs.declared.operation.Operation.{Operation}
+use Rattle.mx_code.specs.declared.operation.Operation.TheVariants as op
+use Rattle.mx_code.specs.declared.reason.Reason.TheVariants.{BadFrame, UnhandledTrip}
 use Rattle.mx_core.proofs.Choices.{chosen, not-true, putting-bare}
 use Rattle.mx_core.proofs.Same.Seen.{over, same-octa}
 

@@ -14,15 +14,16 @@ use Rattle.mx_trip.specs.declared.insertion.Kind.TheVariants.{Again, Continue, S
 use Rattle.mx_core.specs.Bounds.{IsMachine, as_list_state, as_list_step}
 use Rattle.mx_core.specs.Deeds.{deed_for, Deed, deed_of, plain_deed, given_instruction, inserted, resumed, applied}
 use Rattle.mx_core.specs.Effects.{Effect, giving, going_to}
-use Rattle.mx_core.specs.Instructions.{Instruction, instruction, operation_in, x_of, xyz_of}
+use Rattle.mx_code.specs.Instructions.{instruction, operation_in, x_of, xyz_of}
+use Rattle.mx_code.specs.declared.instruction.Instruction.{Instruction}
 use Rattle.mx_core.specs.State.{State, special_register, global_start, locals, is_negative, is_in_stack_segment}
 use Rattle.mx_core.specs.Step.{Stepped, went, calls, stopped, fetched, after, store_touch, trace_of, completed, carried_out, call_of, made, step}
 use Rattle.mx_core.specs.Wild.{deed, IsQuiet}
-use Rattle.mx_core.specs.declared.operation.Operation.{Operation}
-use Rattle.mx_core.specs.declared.operation.Operation.TheVariants as op
-use Rattle.mx_core.specs.declared.reason.Reason.{Reason}
-use Rattle.mx_core.specs.declared.reason.Reason.TheVariants.{Illegal, ResumeInsert, Negative}
-use Rattle.mx_core.specs.declared.trace.Trace.{Trace}
+use Rattle.mx_code.specs.declared.operation.Operation.{Operation}
+use Rattle.mx_code.specs.declared.operation.Operation.TheVariants as op
+use Rattle.mx_code.specs.declared.reason.Reason.{Reason}
+use Rattle.mx_code.specs.declared.reason.Reason.TheVariants.{Illegal, ResumeInsert, Negative}
+use Rattle.mx_code.specs.declared.trace.Trace.{Trace}
 use Rattle.mx_core.proofs.Kept.Applied.{plain, applied-listed}
 use Rattle.mx_core.proofs.Kept.Insertions.{insertion-sets}
 use Rattle.mx_core.proofs.Same.Quiet.{SameDone, SameDeed, same-deed}

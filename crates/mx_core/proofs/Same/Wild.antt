@@ -8,15 +8,16 @@ use Rattle.mx_trip.specs.declared.insertion.Kind.TheVariants.{Again, Continue, S
 use Rattle.mx_core.specs.Bounds.{IsMachine, as_list_state}
 use Rattle.mx_core.specs.Deeds.{deed_for, deed_of, given_instruction, inserted, resumed, with_destination, looks_at_stack, loads_in_segment, stores_in_segment, is_absent}
 use Rattle.mx_core.specs.Effects.{Effect, Store, effect_of, data_address}
-use Rattle.mx_core.specs.Instructions.{Instruction, instruction, operation_in, xyz_of}
+use Rattle.mx_code.specs.Instructions.{instruction, operation_in, xyz_of}
+use Rattle.mx_code.specs.declared.instruction.Instruction.{Instruction}
 use Rattle.mx_core.specs.State.{State, special_register, octa, is_negative, is_in_stack_segment}
 use Rattle.mx_core.specs.Step.{fetched}
 use Rattle.mx_core.specs.Stops.{form_fault}
 use Rattle.mx_core.specs.Wild.{deed, is_wild}
-use Rattle.mx_core.specs.declared.operation.Operation.{Operation}
-use Rattle.mx_core.specs.declared.operation.Operation.TheVariants as op
-use Rattle.mx_core.specs.declared.reason.Reason.{Reason}
-use Rattle.mx_core.specs.declared.trace.Touch.{Touch}
+use Rattle.mx_code.specs.declared.operation.Operation.{Operation}
+use Rattle.mx_code.specs.declared.operation.Operation.TheVariants as op
+use Rattle.mx_code.specs.declared.reason.Reason.{Reason}
+use Rattle.mx_code.specs.declared.trace.Touch.{Touch}
 use Rattle.mx_core.proofs.Kept.Destinations.{destination-listed}
 use Rattle.mx_core.proofs.Same.Quiet.{effect-here, looks-listed}
 use Rattle.mx_core.proofs.Kept.Rings.{IsRinged}

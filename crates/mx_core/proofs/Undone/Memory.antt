@@ -9,7 +9,7 @@ use Rattle.mx_word.specs.Octas.{with_page}
 use Rattle.mx_ring.specs.Stack.{in_stack_area}
 use Rattle.mx_core.specs.Deeds.{with_result, with_store, with_specials, moved, tripped, trip_specials, onward, address_after, applied}
 use Rattle.mx_core.specs.Effects.{Effect, Store, Tripping, Move, stays, pushes, pops, saves, unsaves, cuts, moves_globals}
-use Rattle.mx_core.specs.Instructions.{Instruction}
+use Rattle.mx_code.specs.declared.instruction.Instruction.{Instruction}
 use Rattle.mx_core.specs.State.{State, octa, with_special}
 use Rattle.mx_core.specs.Undoing.{OctaWas, MayStore, MemoryFits, IsPaged, memory_undone, memory_noted}
 use Rattle.mx_core.proofs.Choices.{chosen-by}

@@ -15,7 +15,7 @@ use Rattle.mx_ring.specs.Window.{Window}
 use Rattle.mx_ring.specs.declared.notes.RingWork.{RingWork}
 use Rattle.mx_core.specs.Deeds.{Deed, deed_at, state_done}
 use Rattle.mx_core.specs.Effects.{Store}
-use Rattle.mx_core.specs.Instructions.{Instruction}
+use Rattle.mx_code.specs.declared.instruction.Instruction.{Instruction}
 use Rattle.mx_core.specs.Kept.{Kept, state_of}
 use Rattle.mx_core.specs.Machines.{IsOverWindow}
 use Rattle.mx_core.specs.Way.Noting.{place_of, work_noted, TellsWork, note_told, TellsDeed}
@@ -25,12 +25,12 @@ use Rattle.mx_core.specs.Way.Stepping.{Foretells, told_write, step_answer}
 use Rattle.mx_core.specs.Stops.{store_fault}
 use Rattle.mx_core.specs.Undoing.{StateWas, whole, MayStore, TakesBack, IsPaged, noted, value_noted, move_noted, memory_noted}
 use Rattle.mx_core.specs.Wild.{deed}
-use Rattle.mx_core.specs.declared.reason.Reason.TheVariants.{Negative}
+use Rattle.mx_code.specs.declared.reason.Reason.TheVariants.{Negative}
 use Rattle.mx_core.specs.declared.sight.Sight.{Sight}
 use Rattle.mx_core.specs.declared.step.Step.{Step}
 use Rattle.mx_core.specs.declared.step.Step.TheVariants as answer
-use Rattle.mx_core.specs.declared.trace.Touch.{Touch}
-use Rattle.mx_core.specs.declared.trace.Trace.{Trace}
+use Rattle.mx_code.specs.declared.trace.Touch.{Touch}
+use Rattle.mx_code.specs.declared.trace.Trace.{Trace}
 use Rattle.mx_core.proofs.Choices.{chosen, no-reason}
 use Rattle.mx_core.proofs.Undone.Steps.{step-notes, deed-back}
 use Rattle.mx_core.proofs.Spaces.Whole.{octawise}

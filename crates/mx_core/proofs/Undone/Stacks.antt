@@ -18,7 +18,7 @@ use Rattle.mx_ring.specs.Window.{Window}
 use Rattle.mx_ring.specs.declared.notes.RingWork.TheVariants as work
 use Rattle.mx_core.specs.Deeds.{with_result, with_store, moved, tripped, trip_specials, applied}
 use Rattle.mx_core.specs.Effects.{Effect, Store, Tripping, Move, stays, pushes, pops, saves, unsaves, cuts, moves_globals}
-use Rattle.mx_core.specs.Instructions.{Instruction}
+use Rattle.mx_code.specs.declared.instruction.Instruction.{Instruction}
 use Rattle.mx_core.specs.State.{State, octa, special_register}
 use Rattle.mx_spec.specs.SpecialRegisters.{rJ}
 use Rattle.mx_core.specs.Undoing.{MayStore, value_noted, move_noted}

@@ -15,18 +15,20 @@ use Rattle.mx_trip.specs.declared.insertion.Kind.TheVariants.{Again, Continue, S
 use Rattle.mx_core.specs.Bounds.{IsMachine}
 use Rattle.mx_core.specs.Deeds.{deed_for, Deed, deed_of, plain_deed, given_instruction, inserted, with_destination, with_result}
 use Rattle.mx_core.specs.Effects.{Effect, stays, effect_of, giving, going_to}
-use Rattle.mx_core.specs.Instructions.{Instruction, instruction, operation_in, x_of, xyz_of}
+use Rattle.mx_code.specs.Instructions.{instruction, operation_in, x_of, xyz_of}
+use Rattle.mx_code.specs.declared.instruction.Instruction.{Instruction}
 use Rattle.mx_core.specs.Machines.{IsOverWindow}
 use Rattle.mx_core.specs.State.{State, special_register, with_local}
 use Rattle.mx_core.specs.Step.{went, fetched, after, step}
-use Rattle.mx_core.specs.Stops.{has_destination, refusal, store_fault}
+use Rattle.mx_code.specs.Operations.{has_destination}
+use Rattle.mx_core.specs.Stops.{refusal, store_fault}
 use Rattle.mx_core.specs.Undoing.{MayStore, StackFits, TakesBack, IsPaged, noted, state_undone, stack_undone, memory_noted, move_noted}
 use Rattle.mx_core.specs.Wild.{deed}
-use Rattle.mx_core.specs.declared.operation.Operation.{Operation}
-use Rattle.mx_core.specs.declared.operation.Operation.TheVariants as op
-use Rattle.mx_core.specs.declared.reason.Reason.{Reason}
-use Rattle.mx_core.specs.declared.reason.Reason.TheVariants.{Illegal, ResumeInsert}
-use Rattle.mx_core.specs.declared.trace.Trace.{Trace}
+use Rattle.mx_code.specs.declared.operation.Operation.{Operation}
+use Rattle.mx_code.specs.declared.operation.Operation.TheVariants as op
+use Rattle.mx_code.specs.declared.reason.Reason.{Reason}
+use Rattle.mx_code.specs.declared.reason.Reason.TheVariants.{Illegal, ResumeInsert}
+use Rattle.mx_code.specs.declared.trace.Trace.{Trace}
 use Rattle.mx_core.proofs.Kept.Applied.{Shape, plain}
 use Rattle.mx_core.proofs.Choices.{chosen, no-first}
 use Rattle.mx_core.proofs.Kept.Destinations.{local-if, no-result}

@@ -21,8 +21,8 @@ use Rattle.mx_core.specs.Kept.{Kept, state_of}
 use Rattle.mx_core.specs.Way.Noting.{PutsLink, StoresBelow}
 use Rattle.mx_core.specs.State.{State, octa, special_register, with_special, with_value_in, is_in_stack_segment}
 use Rattle.mx_core.specs.Undoing.{StateWas, usual, TakesBack, IsPaged, state_undone}
-use Rattle.mx_core.specs.declared.reason.Reason.TheVariants.{StackFull}
-use Rattle.mx_core.specs.declared.stop.Stop.{Stop}
+use Rattle.mx_code.specs.declared.reason.Reason.TheVariants.{StackFull}
+use Rattle.mx_code.specs.declared.stop.Stop.{Stop}
 use Rattle.mx_core.specs.declared.overwritten.Overwritten.TheVariants as was
 use Rattle.mx_core.proofs.Results.Answered.{settle-ok}
 use Rattle.mx_core.proofs.Results.Locals.{shown-set, stack-twice, no-longer-marginal}

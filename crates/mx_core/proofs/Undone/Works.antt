@@ -11,14 +11,15 @@ use Rattle.mx_spec.specs.declared.put.Put.{Put}
 use Rattle.mx_spec.specs.declared.put.Put.TheVariants as put
 use Rattle.mx_core.specs.Deeds.{deed_of}
 use Rattle.mx_core.specs.Effects.{Effect, Move, stays, cuts, moves_globals, going_on, effect_of, putting, z_operand}
-use Rattle.mx_core.specs.Instructions.{Instruction, x_of, y_of}
+use Rattle.mx_code.specs.Instructions.{x_of, y_of}
+use Rattle.mx_code.specs.declared.instruction.Instruction.{Instruction}
 use Rattle.mx_core.specs.Way.Noting.{TellsWork, put_work, work_noted}
 use Rattle.mx_core.specs.State.{State, global_start, locals}
 use Rattle.mx_core.specs.Stops.{form_fault, put_fault}
 use Rattle.mx_core.specs.Undoing.{move_noted}
-use Rattle.mx_core.specs.declared.operation.Operation.{Operation}
-use Rattle.mx_core.specs.declared.operation.Operation.TheVariants as op
-use Rattle.mx_core.specs.declared.reason.Reason.TheVariants.{Illegal}
+use Rattle.mx_code.specs.declared.operation.Operation.{Operation}
+use Rattle.mx_code.specs.declared.operation.Operation.TheVariants as op
+use Rattle.mx_code.specs.declared.reason.Reason.TheVariants.{Illegal}
 use Rattle.mx_core.proofs.Choices.{chosen, no-first}
 use Rattle.mx_core.proofs.Kept.Shapes.{event-like}
 

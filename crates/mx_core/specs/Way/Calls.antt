@@ -14,19 +14,21 @@ use Rattle.mx_trip.specs.declared.decision.Trip.TheVariants.{Taken, Noted}
 use Rattle.mx_ring.specs.declared.saved.Saved.{Saved}
 use Rattle.mx_ring.specs.Stack.{Stack, hidden_count, set_overfills, push_overfills, pushed, pop_underflows, popped, save_overfills, saved, unsave_refused, unsaved, unsaved_specials, in_stack_area, stack_index}
 use Rattle.mx_core.specs.Deeds.{onward, with_specials, with_stack, with_stack_marked, tripped, outcome, deed_of}
-use Rattle.mx_core.specs.Effects.{x_register, y_operand, z_operand, specials_saved, specials_back, Tripping, if_told, stored_part, stored_value, stored_event}
-use Rattle.mx_core.specs.Instructions.{Instruction, x_of, y_of, z_of, yz_of, xyz_of, next_of}
+use Rattle.mx_code.specs.LoadsAndStores.{stored_part, stored_value, stored_event}
+use Rattle.mx_core.specs.Effects.{x_register, y_operand, z_operand, specials_saved, specials_back, Tripping, if_told}
+use Rattle.mx_code.specs.Instructions.{x_of, y_of, z_of, yz_of, xyz_of, next_of}
+use Rattle.mx_code.specs.declared.instruction.Instruction.{Instruction}
 use Rattle.mx_core.specs.Kept.{Kept, state_of}
 use Rattle.mx_core.specs.State.{State, begins_page, with_local, global_start, locals, with_value_in, with_stored, is_page_refused, is_in_stack_segment, is_negative, with_special, tetra, special_register}
 use Rattle.mx_mem.specs.declared.part.Part.{Part}
 use Rattle.mx_mem.specs.declared.part.Part.TheVariants.{Octa}
-use Rattle.mx_core.specs.declared.operation.Operation.{Operation}
-use Rattle.mx_core.specs.declared.operation.Storing.{Storing}
-use Rattle.mx_core.specs.declared.reason.Reason.{Reason}
-use Rattle.mx_core.specs.declared.reason.Reason.TheVariants.{StackFull, Illegal, Privileged, Underflow, BadFrame, PagesFull, UnhandledTrip, Negative}
+use Rattle.mx_code.specs.declared.operation.Operation.{Operation}
+use Rattle.mx_code.specs.declared.operation.Storing.{Storing}
+use Rattle.mx_code.specs.declared.reason.Reason.{Reason}
+use Rattle.mx_code.specs.declared.reason.Reason.TheVariants.{StackFull, Illegal, Privileged, Underflow, BadFrame, PagesFull, UnhandledTrip, Negative}
 use Rattle.mx_core.specs.declared.changes.SetFault.{SetFault}
-use Rattle.mx_core.specs.declared.stop.Stop.{Stop}
-use Rattle.mx_core.specs.declared.stop.Stop.TheVariants.{Stopped, OutOfMemory}
+use Rattle.mx_code.specs.declared.stop.Stop.{Stop}
+use Rattle.mx_code.specs.declared.stop.Stop.TheVariants.{Stopped, OutOfMemory}
 
 -- an answer and the state that a call leaves
 abbrev pub Left : Type 0

@@ -13,7 +13,7 @@ use Rattle.mx_core.specs.State.{State, with_special}
 use Rattle.mx_core.specs.Way.Stepping.{Foretells}
 use Rattle.mx_core.specs.Undoing.{WholeWas, StateWas, whole, value_noted, move_noted, memory_noted}
 use Rattle.mx_core.specs.declared.sight.Sight.{Sight}
-use Rattle.mx_core.specs.declared.trace.Touch.{Touch}
+use Rattle.mx_code.specs.declared.trace.Touch.{Touch}
 use Rattle.mx_core.specs.declared.step.Step.{Step}
 use Rattle.mx_core.specs.declared.step.Step.TheVariants as answer
 use Rattle.mx_core.specs.declared.noting.Noted.{Noted}

@@ -4,13 +4,15 @@ use Rattle.std.specs.Option.{option_map, is_some}
 use Rattle.mx_mem.specs.declared.part.Part.TheVariants.{Octa}
 use Rattle.mx_ring.specs.Stack.{Stack, register}
 use Rattle.mx_core.specs.Deeds.{Deed, deed_at, state_done, is_absent}
-use Rattle.mx_core.specs.Effects.{Store, data_address, touch}
-use Rattle.mx_core.specs.Instructions.{Instruction, x_of}
+use Rattle.mx_code.specs.LoadsAndStores.{touch}
+use Rattle.mx_core.specs.Effects.{Store, data_address}
+use Rattle.mx_code.specs.Instructions.{x_of}
+use Rattle.mx_code.specs.declared.instruction.Instruction.{Instruction}
 use Rattle.mx_core.specs.State.{State, begins_page, is_negative}
 use Rattle.mx_core.specs.Step.{Stepped, went, calls, stopped, fetched, store_touch}
-use Rattle.mx_core.specs.declared.trace.Touch.{Touch}
-use Rattle.mx_core.specs.declared.operation.Operation.{Operation}
-use Rattle.mx_core.specs.declared.operation.Operation.TheVariants as op
+use Rattle.mx_code.specs.declared.trace.Touch.{Touch}
+use Rattle.mx_code.specs.declared.operation.Operation.{Operation}
+use Rattle.mx_code.specs.declared.operation.Operation.TheVariants as op
 use Rattle.mx_core.specs.declared.sight.Sight.{Sight}
 use Rattle.mx_core.specs.declared.step.Advance.{Advance}
 use Rattle.mx_core.specs.declared.step.Advance.TheVariants as advance

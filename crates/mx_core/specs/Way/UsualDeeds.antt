@@ -2,7 +2,8 @@
 use Rattle.std.specs.Prelude.{◌≡◌, Ok}
 use Rattle.mx_core.specs.Way.Calls.{settled}
 use Rattle.mx_core.specs.Deeds.{deed_at, onward, outcome}
-use Rattle.mx_core.specs.Instructions.{Instruction, code_of, next_of, x_of}
+use Rattle.mx_code.specs.Instructions.{code_of, next_of, x_of}
+use Rattle.mx_code.specs.declared.instruction.Instruction.{Instruction}
 use Rattle.mx_core.specs.State.{State}
 use Rattle.mx_core.specs.declared.usual.Usual.{Usual}
 use Rattle.mx_core.specs.declared.usual.Usual.TheVariants as usual

@@ -1,11 +1,11 @@
 use Rattle.std.proofs.Common.{◌≡◌, ◌<◌, ◌^◌, sym, ap, ◌∙◌, arith}
-use Rattle.mx_core.specs.Instructions.{operation_in}
-use Rattle.mx_core.specs.Way.Groups.{operation_by}
+use Rattle.mx_code.specs.Instructions.{operation_in}
+use Rattle.mx_code.specs.Groups.{operation_by}
 use Rattle.mx_core.specs.Kept.{state_of}
-use Rattle.mx_core.specs.Operations.{operation_of}
+use Rattle.mx_code.specs.Operations.{operation_of}
 use Rattle.mx_core.specs.Step.{fetched}
 use Rattle.mx_core.specs.Way.Stepping.{advanced}
-use Rattle.mx_core.specs.declared.operation.Operation.TheVariants as op
+use Rattle.mx_code.specs.declared.operation.Operation.TheVariants as op
 use Rattle.mx_core.proofs.Steps.{step_traps}
 use Rattle.mx_core.proofs.machine.Machine.advance.Goals as goal
 

@@ -1,5 +1,5 @@
 use Rattle.std.proofs.Common.{◌≡◌, ◌<◌, refl}
-use Rattle.mx_core.specs.Instructions.{instruction}
+use Rattle.mx_code.specs.Instructions.{instruction}
 use Rattle.mx_core.specs.Kept.{state_of}
 use Rattle.mx_core.specs.Step.{fetched}
 use Rattle.mx_core.proofs.UsualSteps.{went_usual}

@@ -2,7 +2,7 @@ use Rattle.std.proofs.Common.{◌≡◌, false, Err, sym, ap, ◌∙◌}
 use Rattle.mx_mem.specs.declared.part.Part.TheVariants.{Octa}
 use Rattle.mx_ring.specs.Stack.{set_overfills}
 use Rattle.mx_core.specs.Way.Calls.{left, exchanged}
-use Rattle.mx_core.specs.Instructions.{x_of}
+use Rattle.mx_code.specs.Instructions.{x_of}
 use Rattle.mx_core.specs.Kept.{state_of}
 use Rattle.mx_core.proofs.Results.Pages.{lacks_exchange}
 use Rattle.mx_core.proofs.Results.Stores.{stored-ok}

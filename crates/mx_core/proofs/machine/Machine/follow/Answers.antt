@@ -4,7 +4,7 @@ use Rattle.mx_core.specs.State.{State}
 use Rattle.mx_core.specs.Step.{step}
 use Rattle.mx_core.specs.Way.Stepping.{step_answer}
 use Rattle.mx_core.specs.declared.step.Step.TheVariants as answer
-use Rattle.mx_core.specs.declared.trace.Trace.{Trace}
+use Rattle.mx_code.specs.declared.trace.Trace.{Trace}
 use Rattle.mx_core.proofs.Steps.{went_as, stopped_as, trace_told}
 use Rattle.mx_core.proofs.machine.Machine.follow.Goals as goal
 

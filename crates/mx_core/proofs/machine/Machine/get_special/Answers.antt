@@ -4,11 +4,12 @@ use Rattle.mx_ring.specs.Stack.{set_overfills}
 use Rattle.mx_spec.specs.SpecialRegisters.{rS}
 use Rattle.mx_core.specs.Way.Calls.{unless, get_done}
 use Rattle.mx_core.specs.Deeds.{outcome, deed_of}
-use Rattle.mx_core.specs.Instructions.{Instruction, x_of, y_of, z_of, next_of}
+use Rattle.mx_code.specs.Instructions.{x_of, y_of, z_of, next_of}
+use Rattle.mx_code.specs.declared.instruction.Instruction.{Instruction}
 use Rattle.mx_core.specs.Kept.{state_of}
 use Rattle.mx_core.specs.State.{State, special_register, with_local}
-use Rattle.mx_core.specs.declared.operation.Operation.TheVariants as op
-use Rattle.mx_core.specs.declared.reason.Reason.TheVariants.{StackFull}
+use Rattle.mx_code.specs.declared.operation.Operation.TheVariants as op
+use Rattle.mx_code.specs.declared.reason.Reason.TheVariants.{StackFull}
 use Rattle.mx_core.proofs.Results.Answered.{set-ok, set-err, refused-as, after-local-seen}
 use Rattle.mx_core.proofs.Results.Others.{get_outcome_is}
 use Rattle.mx_core.proofs.machine.Machine.get_special.Goals as goal

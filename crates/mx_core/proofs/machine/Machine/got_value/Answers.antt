@@ -1,6 +1,6 @@
 use Rattle.std.proofs.Common.{◌≡◌, ◌≤◌, slice_index, slice_index_or, refl, ap, ◌∙◌, arith}
 use Rattle.mx_core.specs.Way.Calls.{settled}
-use Rattle.mx_core.specs.Instructions.{x_of, y_of, z_of, next_of}
+use Rattle.mx_code.specs.Instructions.{x_of, y_of, z_of, next_of}
 use Rattle.mx_core.specs.Kept.{state_of}
 use Rattle.mx_core.proofs.Results.Gets.{get_alone}
 use Rattle.mx_core.proofs.machine.Machine.got_value.Goals as goal

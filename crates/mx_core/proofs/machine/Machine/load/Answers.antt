@@ -1,7 +1,7 @@
 use Rattle.std.proofs.Common.{Result, sym, ap, ◌∙◌}
 use Rattle.mx_core.specs.Way.Calls.{left}
 use Rattle.mx_core.specs.Kept.{state_of}
-use Rattle.mx_core.specs.declared.stop.Stop.{Stop}
+use Rattle.mx_code.specs.declared.stop.Stop.{Stop}
 use Rattle.mx_core.proofs.Results.Plain.{load_given}
 use Rattle.mx_core.proofs.machine.Machine.load.Goals as goal
 

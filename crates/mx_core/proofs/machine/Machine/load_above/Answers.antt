@@ -1,8 +1,8 @@
 use Rattle.std.proofs.Common.{◌≡◌, refl, sym, ap, ◌∙◌}
 use Rattle.mx_core.specs.Kept.{state_of}
 use Rattle.mx_core.specs.Deeds.{onward}
-use Rattle.mx_core.specs.Effects.{loaded_value}
-use Rattle.mx_core.specs.Instructions.{x_of, next_of}
+use Rattle.mx_code.specs.LoadsAndStores.{loaded_value}
+use Rattle.mx_code.specs.Instructions.{x_of, next_of}
 use Rattle.mx_core.specs.State.{octa, with_value_in}
 use Rattle.mx_core.specs.Traps.{with_touch}
 use Rattle.mx_core.proofs.Results.Answered.{settle-ok, settle-err, refused-as, made-as}

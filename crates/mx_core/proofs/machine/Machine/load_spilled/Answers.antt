@@ -1,7 +1,7 @@
 use Rattle.std.proofs.Common.{◌≡◌, refl, sym, ap, ◌∙◌}
 use Rattle.mx_ring.specs.Stack.{set_overfills}
-use Rattle.mx_core.specs.Effects.{loaded_value}
-use Rattle.mx_core.specs.Instructions.{x_of, next_of}
+use Rattle.mx_code.specs.LoadsAndStores.{loaded_value}
+use Rattle.mx_code.specs.Instructions.{x_of, next_of}
 use Rattle.mx_core.specs.Kept.{state_of}
 use Rattle.mx_core.specs.State.{State, octa, with_local}
 use Rattle.mx_core.specs.Traps.{with_touch}

@@ -1,12 +1,13 @@
 use Rattle.std.proofs.Common.{◌≡◌, ◌≢◌, sym, ap, ◌∙◌}
 use Rattle.mx_core.specs.Way.Calls.{left, with_touch_where}
 use Rattle.mx_core.specs.Deeds.{deed_at, outcome}
-use Rattle.mx_core.specs.Instructions.{Instruction, operation_in}
+use Rattle.mx_code.specs.Instructions.{operation_in}
+use Rattle.mx_code.specs.declared.instruction.Instruction.{Instruction}
 use Rattle.mx_core.specs.Kept.{state_of}
 use Rattle.mx_core.specs.State.{State, is_in_stack_segment}
 use Rattle.mx_core.specs.Step.{fetched}
 use Rattle.mx_core.specs.Way.Stepping.{advanced}
-use Rattle.mx_core.specs.declared.operation.Operation.TheVariants as op
+use Rattle.mx_code.specs.declared.operation.Operation.TheVariants as op
 use Rattle.mx_core.specs.declared.step.Advance.{Advance}
 use Rattle.mx_core.specs.declared.step.Advance.TheVariants as advance
 use Rattle.mx_core.proofs.Steps.{step_went, step_stopped}

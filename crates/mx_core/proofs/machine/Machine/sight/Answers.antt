@@ -1,4 +1,4 @@
-use Rattle.mx_core.specs.Instructions.{operation_in}
+use Rattle.mx_code.specs.Instructions.{operation_in}
 use Rattle.mx_core.specs.Kept.{state_of}
 use Rattle.mx_core.proofs.Results.Foretold.{foretold, ring_bounds}
 use Rattle.mx_core.proofs.machine.Machine.sight.Goals as goal

@@ -1,10 +1,10 @@
 use Rattle.std.proofs.Common.{◌≡◌, ◌≤◌, ◌<◌, ◌^◌, sym, ap, ◌∙◌, arith}
 use Rattle.mx_trip.specs.declared.call.TrapCall.{TrapCall}
-use Rattle.mx_core.specs.Instructions.{operation_in}
+use Rattle.mx_code.specs.Instructions.{operation_in}
 use Rattle.mx_core.specs.Kept.{state_of}
 use Rattle.mx_core.specs.Step.{fetched}
 use Rattle.mx_core.specs.Way.Stepping.{step_answer}
-use Rattle.mx_core.specs.declared.operation.Operation.TheVariants as op
+use Rattle.mx_code.specs.declared.operation.Operation.TheVariants as op
 use Rattle.mx_core.specs.declared.step.Step.TheVariants as answer
 use Rattle.mx_core.proofs.Steps.{step_negative, step_traps}
 use Rattle.mx_core.proofs.machine.Machine.step.Goals as goal

@@ -1,8 +1,8 @@
 use Rattle.std.proofs.Common.{◌≡◌, ◌<◌, ◌^◌, ap, ◌∙◌, refl, subst, None, arith}
 use Rattle.mx_core.specs.Way.Calls.{store_seen}
 use Rattle.mx_core.specs.Deeds.{onward}
-use Rattle.mx_core.specs.Effects.{stored_part, stored_value, stored_event}
-use Rattle.mx_core.specs.Instructions.{x_of, next_of}
+use Rattle.mx_code.specs.LoadsAndStores.{stored_part, stored_value, stored_event}
+use Rattle.mx_code.specs.Instructions.{x_of, next_of}
 use Rattle.mx_core.specs.Kept.{state_of}
 use Rattle.mx_core.specs.Way.Noting.{StoresBelow}
 use Rattle.mx_core.specs.State.{State}

@@ -1,12 +1,13 @@
 use Rattle.std.proofs.Common.{◌≡◌, ap, ◌∙◌, refl, sym, Err, None}
 use Rattle.mx_core.specs.Way.Calls.{store_seen, store_settled, makes_page}
 use Rattle.mx_core.specs.Deeds.{onward, outcome, deed_of}
-use Rattle.mx_core.specs.Effects.{data_address, x_register, stored_part, stored_value, stored_event}
-use Rattle.mx_core.specs.Instructions.{instruction, x_of, next_of}
+use Rattle.mx_code.specs.LoadsAndStores.{stored_part, stored_value, stored_event}
+use Rattle.mx_core.specs.Effects.{data_address, x_register}
+use Rattle.mx_code.specs.Instructions.{instruction, x_of, next_of}
 use Rattle.mx_core.specs.Kept.{state_of}
 use Rattle.mx_core.specs.State.{State}
-use Rattle.mx_core.specs.Way.Told.{answer_in}
-use Rattle.mx_core.specs.declared.operation.Operation.TheVariants as op
+use Rattle.mx_code.specs.Told.{answer_in}
+use Rattle.mx_code.specs.declared.operation.Operation.TheVariants as op
 use Rattle.mx_core.proofs.Results.Answered.{refused-as, made-as}
 use Rattle.mx_core.proofs.Results.Pages.{lacks_plain}
 use Rattle.mx_core.proofs.Results.Plain.{store_as_plain}

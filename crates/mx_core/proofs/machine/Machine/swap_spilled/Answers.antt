@@ -1,6 +1,6 @@
 use Rattle.std.proofs.Common.{◌≡◌, refl, sym, ap, ◌∙◌}
 use Rattle.mx_ring.specs.Stack.{set_overfills}
-use Rattle.mx_core.specs.Instructions.{x_of}
+use Rattle.mx_code.specs.Instructions.{x_of}
 use Rattle.mx_core.specs.Kept.{state_of}
 use Rattle.mx_core.specs.State.{with_local}
 use Rattle.mx_core.proofs.Results.Answered.{set-ok, set-err}

@@ -1,6 +1,6 @@
 use Rattle.std.proofs.Common.{◌≡◌, true, false, nat_lt, refl, arith}
 use Rattle.std.proofs.lemmas.Bool.Decides.{nat_tests}
-use Rattle.mx_core.specs.Instructions.{xyz_of}
+use Rattle.mx_code.specs.Instructions.{xyz_of}
 use Rattle.mx_core.specs.Kept.{state_of}
 use Rattle.mx_core.proofs.Results.Others.{sync_outcome_is}
 use Rattle.mx_core.proofs.machine.Machine.synchronize.Goals as goal

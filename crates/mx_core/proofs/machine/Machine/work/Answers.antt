@@ -1,5 +1,5 @@
 use Rattle.std.proofs.Common.{Some, subst, sym, ◌∙◌, ap}
-use Rattle.mx_core.specs.Instructions.{operation_in}
+use Rattle.mx_code.specs.Instructions.{operation_in}
 use Rattle.mx_ring.specs.declared.notes.RingWork.TheVariants.{Push}
 use Rattle.mx_core.specs.Deeds.{deed_of}
 use Rattle.mx_core.specs.Way.Noting.{TellsWork}

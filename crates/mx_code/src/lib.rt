@@ -1,0 +1,32 @@
+//! Instructions as the machine reads them: what each code does, the fields of a tetra, and how a load or a store takes its
+//! part of an octa.
+//!
+//! The rules are those of MMIXware (LNCS 1750; the part on MMIX) and of TAOCP 1, Fascicle 1, section
+//! 1.3.1'.
+#![tactic(auto)]
+
+mod codes;
+mod condition;
+mod destinations;
+mod groups;
+mod immediate;
+mod instruction;
+mod operation;
+mod part;
+mod reason;
+mod stop;
+mod trace;
+
+pub use codes::operation_of;
+pub use condition::holds;
+pub use destinations::destination;
+pub use groups::{Group, group_of};
+pub use immediate::wyde_value;
+pub use instruction::Instruction;
+pub use operation::{Loading, Operation, Storing};
+pub use part::{
+    loaded_part, loaded_tetra, loaded_value, overflows, stored_part, stored_value, touch,
+};
+pub use reason::Reason;
+pub use stop::{Stop, Told};
+pub use trace::{Touch, Trace};
