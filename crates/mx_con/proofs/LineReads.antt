@@ -1,16 +1,18 @@
 -- A line is read byte by byte.
 use Rattle.std.proofs.Common.{◌≡◌, ◌≢◌, ℕ, zero, suc, [], ◌∷◌, length, take, slice_index_or, ◌++◌, ◌==◌, Bool, cond, ap, inl, Some, ◌+◌, ◌-◌, ◌<◌, ◌≤◌, true, false, List, arith, refl, subst, Ok, Err}
-use Rattle.mx_host.specs.HostModel.{HostModel}
+use Rattle.mx_host.specs.HostModel.{HostModel, contents}
 use Rattle.mx_plan.specs.Plan.{returns, bind, end_of, Stops, Comes, IsRest}
 use Rattle.mx_plan.specs.Calls.{host, HostPlan, need}
 use Rattle.mx_plan.proofs.Plans.{rest_after}
-use Rattle.std.specs.Prelude.{Result}
+use Rattle.std.specs.Prelude.{Option, Result}
 use Rattle.mx_word.specs.Results.{map_ok}
+use Rattle.mx_con.specs.Clauses.{Talks}
 use Rattle.mx_con.specs.HostLines.{byte_added}
 use Rattle.mx_con.specs.LinePlans as lines
 use Rattle.mx_con.specs.LinePlans.{on_ok, byte_plan, after_byte, grown_plan, LineRead, after_growing, reading_plan}
 use Rattle.mx_con.specs.declared.end.SessionEnd.{SessionEnd}
 use Rattle.mx_con.specs.declared.end.SessionEnd.TheVariants.{Limit, OutOfMemory}
+use Rattle.mx_con.proofs.Parts.{Leaves, left-next}
 use Rattle.mx_con.proofs.Rests.{bind-comes, rest-ended, rest-done}
 
 one-more : (n : ℕ) → 0 < n → n ≡ suc (n - 1)
@@ -27,12 +29,12 @@ as-bound : (n : ℕ) (got : List ℕ) (v start : HostModel) (whole : HostPlan Li
     IsRest host (bind (on_ok (after_growing (reading_plan (n - 1)))) (grown_plan (n - 1) got)) v whole start
 as-bound n got v start whole l r = subst (λ p. IsRest host p v whole start) (reading-more n got l) r
 
-pub line-more : (n k : ℕ) (got next : List ℕ) (v w start : HostModel) (whole : HostPlan LineRead) → 0 < n → IsRest host (reading_plan n got) v whole start →
-    (Ok (true, next, k), w) ≡ end_of host (grown_plan (n - 1) got) v → k + 1 ≡ n → IsRest host (reading_plan k next) w whole start
-line-more n k got next v w start whole l r e h =
-    let same : n - 1 ≡ k = omega (arith, h) in
-    subst (λ i. IsRest host (reading_plan i next) w whole start) same
-    (rest_after host (on_ok (after_growing (reading_plan (n - 1)))) (grown_plan (n - 1) got) (Ok (true, next, k)) w v start whole e (as-bound n got v start whole l r))
+pub line-more : {Host : Type 0} (says : Host → Option HostModel) (faults : Host → ℕ) (a b c : Host) (n k : ℕ) (got next : List ℕ) (whole : HostPlan LineRead) → 0 < n →
+    Leaves host says faults a b (contents (says a)) (contents (says b)) (reading_plan n got) whole → Talks says faults b c (Ok (true, next, k)) (grown_plan (n - 1) got) → k + 1 ≡ n →
+    Leaves host says faults a c (contents (says a)) (contents (says c)) (reading_plan k next) whole
+line-more says faults a b c n k got next whole l h w e =
+    let same : n - 1 ≡ k = omega (arith, e) in
+    rw (← same) (left-next host says faults a b c _ _ _ (true, next, k) (after_growing (reading_plan (n - 1))) (grown_plan (n - 1) got) whole (rw (← reading-more n got l) h) w)
 
 pub line-whole : (n k : ℕ) (got next : List ℕ) (v w start : HostModel) (whole : HostPlan LineRead) → 0 < n → IsRest host (reading_plan n got) v whole start →
     (Ok (false, next, k), w) ≡ end_of host (grown_plan (n - 1) got) v → Comes host start w (Err OutOfMemory) (Ok (next, k)) whole
@@ -81,7 +83,7 @@ grown-byte got next left b m n r c h k =
     bind-comes host (after_byte left got) byte_plan (Ok (Some b)) m n n (Err OutOfMemory) (map_ok (λ (more : Bool). (more, next, left)) r) (c.ending (λ e. absurd (cc)))
     (with-byte (b == 10) got next left b n r h k)
 
-pub ruleset reading = (line-more, line-whole, line-ended, line-limit)
+pub ruleset reading = (line-whole, line-ended, line-limit)
 
 -- ---- a buffer of one byte
 
