@@ -1,12 +1,12 @@
 -- Parts of a session, one behind another: what was carried out of each, and what is left of a whole.
-use Rattle.std.proofs.Common.{◌≡◌, ◌≢◌, ℕ, Ok, Err, refl, sym, ◌∙◌, ap, subst, IsTrue}
+use Rattle.std.proofs.Common.{◌≡◌, ◌≢◌, ℕ, Ok, Err, sym, subst, IsTrue}
 use Rattle.std.specs.Prelude.{Option, Result}
-use Rattle.mx_host.specs.HostModel.{HostModel, tells, contents}
+use Rattle.mx_host.specs.HostModel.{HostModel, tells}
 use Rattle.mx_word.specs.Results.{map_ok}
-use Rattle.mx_plan.proofs.Plans.{end_bind, end_returns, stops_first, rest_after}
+use Rattle.mx_plan.proofs.Plans.{rest_after}
 use Rattle.mx_plan.proofs.Standing.{only-behind, stands-all, stands-then}
 use Rattle.mx_plan.specs.Clauses.{Stands}
-use Rattle.mx_plan.specs.Plan.{Plan, returns, bind, Acts, end_of, Comes, IsRest}
+use Rattle.mx_plan.specs.Plan.{Plan, returns, bind, Acts, Comes, IsRest}
 use Rattle.mx_con.specs.Clauses.{Proceeds}
 use Rattle.mx_con.specs.LinePlans.{on_ok}
 use Rattle.mx_con.specs.declared.end.SessionEnd.{SessionEnd}

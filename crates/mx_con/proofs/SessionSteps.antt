@@ -1,5 +1,5 @@
 -- Lines of a session as plans: each is asked for, and carried out.
-use Rattle.std.proofs.Common.{◌≡◌, ◌≢◌, inr, ℕ, suc, ◌+◌, ◌-◌, ◌<◌, ◌≤◌, List, [], Option, None, Some, Result, Ok, Err, arith, refl, sym, ◌∙◌, ap, subst}
+use Rattle.std.proofs.Common.{◌≡◌, ℕ, suc, ◌+◌, ◌-◌, ◌<◌, ◌≤◌, List, [], Option, None, Some, Result, Ok, Err, arith, refl, sym, ◌∙◌, ap, subst}
 use Rattle.mx_word.specs.Results.{map_ok}
 use Rattle.mx_host.specs.HostModel.{HostModel}
 use Rattle.mx_plan.specs.Plan.{returns, bind, end_after, Comes}
@@ -16,7 +16,7 @@ use Rattle.mx_con.specs.Judgement.{bad_text}
 use Rattle.mx_con.specs.LinePlans.{on_ok, text_plan, line_plan, lines_plan, LineRead, reading_plan, asking_plan}
 use Rattle.mx_con.specs.Replies.{flag_lines, tetra_count}
 use Rattle.mx_con.specs.Session.{prompt, most_input}
-use Rattle.mx_con.specs.SessionPlans.{SessionWorld, Part, conversing, on_host, showing, stepped_plan, continued_plan, answered_plan, command_plan, with_left, line_done, one_line_plan, lines_of_session, end_of_session, session_plan}
+use Rattle.mx_con.specs.SessionPlans.{SessionWorld, Part, conversing, on_host, stepped_plan, continued_plan, answered_plan, command_plan, with_left, line_done, one_line_plan, lines_of_session, end_of_session, session_plan}
 use Rattle.mx_con.specs.declared.dialog.Dialog.{Dialog}
 use Rattle.mx_con.specs.declared.end.SessionEnd.{SessionEnd}
 use Rattle.mx_con.specs.declared.end.SessionEnd.TheVariants.{Quit, Limit, OutOfMemory}
@@ -125,8 +125,6 @@ pub line-over : (steps left : ℕ) (shown : Option ℕ) (end : SessionEnd) (s : 
 unfolding one_line_plan
 line-over steps left shown end s m n f c =
     part-ends conversing (line_done steps shown) (on_host (asking_plan left)) end ((s, m), f) ((s, n), f) (host-comes (asking_plan left) s m n f (Err OutOfMemory) (Err end) c)
-
-pub ruleset single_lines = (line-carried, line-over)
 
 -- ---- all lines
 

@@ -19,7 +19,7 @@ use Rattle.mx_run.specs.declared.turn_answer.TurnAnswer.TheVariants as answer
 use Rattle.mx_con.specs.ConsoleTexts.{break_text}
 use Rattle.mx_show.specs.Texts.{trace_text}
 use Rattle.mx_con.specs.LinePlans.{on_ok, line_plan}
-use Rattle.mx_con.specs.SessionPlans.{SessionWorld, SessionPlan, Part, conversing, beside_machine, beside_flags, on_host, on_run, trace_plan, count_plan, flags_plan, traced_plan, after_turn, turn_at, turned_plan, stepped_plan, step_if, broke_plan, break_plan, after_end, run_from, one_run_plan, runs_plan, run_on, continued_plan}
+use Rattle.mx_con.specs.SessionPlans.{SessionWorld, Part, conversing, beside_machine, beside_flags, on_host, on_run, trace_plan, count_plan, flags_plan, traced_plan, after_turn, turn_at, turned_plan, stepped_plan, broke_plan, break_plan, after_end, one_run_plan, runs_plan, run_on, continued_plan}
 use Rattle.mx_con.specs.declared.end.SessionEnd.{SessionEnd}
 use Rattle.mx_con.specs.declared.end.SessionEnd.TheVariants.{Halted, Stopped, Spent, OutOfMemory}
 use Rattle.mx_con.specs.Clauses.{Proceeds, Talks}
@@ -60,8 +60,6 @@ pub untraced-broke : (kind : BreakKind) (at : ℕ) (trace : Trace) (s : State) (
     Comes host m n (Err OutOfMemory) (Err end) (line_plan (trace_text trace s)) → Comes conversing ((s, m), f) ((s, n), f) (Err OutOfMemory) (Err end) (break_plan kind at (Some trace))
 untraced-broke kind at trace s m n f end c =
     part-ends conversing (λ (v : Unit {0}). broke_plan kind at) (traced_plan trace) end ((s, m), f) ((s, n), f) (traced-comes trace s m n f (Err end) c)
-
-pub ruleset breaking = (broke-comes, traced-broke, untraced-broke)
 
 -- ---- the end of a run
 

@@ -55,9 +55,9 @@ Converses says faults old new r s result plan =
     Proceeds conversing says faults old new (world_of r (says old)) (world_of s (says new)) result plan
 
 -- the reply to a command that makes no step; `shown` and `after` are the address of the octa that was shown last, before and after
-abbrev pub Replies : {Host : Type 0} → (Host → Option HostModel) → (Host → ℕ) → Host → Host → Running → Running → Option ℕ → Option ℕ →
+abbrev pub Responds : {Host : Type 0} → (Host → Option HostModel) → (Host → ℕ) → Host → Host → Running → Running → Option ℕ → Option ℕ →
     Result (Unit {0}) SessionEnd → Command → Type 0
-Replies says faults old new r s shown after result command =
+Responds says faults old new r s shown after result command =
     Converses says faults old new r s (map_ok (λ u. after) result) (answered_plan shown command)
 
 -- what stands between two lines

@@ -3,7 +3,7 @@
 ghost use Rattle.std.specs.Prelude.{◌≡◌, ℕ, Option, None, Some};
 ghost use Rattle.mx_core.specs.Kept.{state_of};
 ghost use Rattle.mx_core.specs.State.{is_in_stack_segment};
-ghost use Rattle.mx_con.specs.Clauses.{Replies, Talks};
+ghost use Rattle.mx_con.specs.Clauses.{Responds, Talks};
 ghost use Rattle.mx_show.specs.Texts.{state_text};
 ghost use Rattle.mx_con.specs.Judgement as judgement;
 ghost use Rattle.mx_con.specs.LinePlans.{line_plan};
@@ -45,7 +45,7 @@ pub(crate) fn show_state<H: Host>(
 }
 
 /// Shows a subject.
-#[tactic(auto, using(crate::proofs::ReplyPlans::replying, crate::proofs::StepBounds::noting))]
+#[tactic(auto, using(crate::proofs::StepBounds::noting))]
 pub(crate) fn show<H: Host>(
     alloc: Global,
     runner: &mut Runner,
@@ -54,7 +54,7 @@ pub(crate) fn show<H: Host>(
     subject: Subject,
     form: Form,
 ) -> Result<(), SessionEnd>
-    ensures part { Replies H.told H.faults host.old host.new runner.old runner.new shown.old shown.new result
+    ensures part { Responds H.told H.faults host.old host.new runner.old runner.new shown.old shown.new result
         (Command.Show subject form) }
     ensures still { (state_of runner.new.machine).steps ≡ (state_of runner.old.machine).steps }
 {
@@ -115,7 +115,6 @@ fn note_shown(shown: &mut Option<u64>, subject: Subject)
 }
 
 /// Gives a subject another value, and shows it.
-#[tactic(auto, using(crate::proofs::ReplyPlans::replying))]
 pub(crate) fn change_subject<H: Host>(
     alloc: Global,
     runner: &mut Runner,
@@ -124,7 +123,7 @@ pub(crate) fn change_subject<H: Host>(
     subject: Subject,
     value: Option<u64>,
 ) -> Result<(), SessionEnd>
-    ensures part { Replies H.told H.faults host.old host.new runner.old runner.new shown.old shown.new result
+    ensures part { Responds H.told H.faults host.old host.new runner.old runner.new shown.old shown.new result
         (Command.Change subject value) }
     ensures still { (state_of runner.new.machine).steps ≡ (state_of runner.old.machine).steps }
 {
@@ -149,7 +148,7 @@ fn change_sound<H: Host>(
 ) -> Result<(), SessionEnd>
     requires sound { subjects.IsSound subject }
     requires good { judgement.subject_bad (state_of runner.old.machine) subject ≡ None }
-    ensures part { Replies H.told H.faults host.old host.new runner.old runner.new shown.old shown.new result
+    ensures part { Responds H.told H.faults host.old host.new runner.old runner.new shown.old shown.new result
         (Command.Change subject (Some value)) }
     ensures still { (state_of runner.new.machine).steps ≡ (state_of runner.old.machine).steps }
 {
@@ -161,7 +160,6 @@ fn change_sound<H: Host>(
 }
 
 /// Shows the octas after the one that was shown last.
-#[tactic(auto, using(crate::proofs::ReplyPlans::replying))]
 pub(crate) fn show_more<H: Host>(
     alloc: Global,
     runner: &mut Runner,
@@ -170,7 +168,7 @@ pub(crate) fn show_more<H: Host>(
     n: Option<u64>,
     form: Form,
 ) -> Result<(), SessionEnd>
-    ensures part { Replies H.told H.faults host.old host.new runner.old runner.new shown.old shown.new result
+    ensures part { Responds H.told H.faults host.old host.new runner.old runner.new shown.old shown.new result
         (Command.ShowMore n form) }
     ensures still { (state_of runner.new.machine).steps ≡ (state_of runner.old.machine).steps }
 {
@@ -184,7 +182,7 @@ pub(crate) fn show_more<H: Host>(
 }
 
 /// The same where it is not bad.
-#[tactic(auto, using(crate::proofs::ReplyPlans::replying, crate::proofs::StepBounds::noting))]
+#[tactic(auto, using(crate::proofs::StepBounds::noting))]
 fn show_octas<H: Host>(
     alloc: Global,
     runner: &mut Runner,
@@ -194,7 +192,7 @@ fn show_octas<H: Host>(
     form: Form,
 ) -> Result<(), SessionEnd>
     requires { judgement.more_bad shown.old (Some n) ≡ None }
-    ensures part { Replies H.told H.faults host.old host.new runner.old runner.new shown.old shown.new result
+    ensures part { Responds H.told H.faults host.old host.new runner.old runner.new shown.old shown.new result
         (Command.ShowMore (Some n) form) }
     ensures still { (state_of runner.new.machine).steps ≡ (state_of runner.old.machine).steps }
 {
@@ -215,7 +213,7 @@ pub(crate) fn go_to<H: Host>(
     host: &mut H,
     a: u64,
 ) -> Result<(), SessionEnd>
-    ensures part { (shown : Option ℕ) → Replies H.told H.faults host.old host.new runner.old runner.new
+    ensures part { (shown : Option ℕ) → Responds H.told H.faults host.old host.new runner.old runner.new
         shown shown result (Command.GoTo a) }
     ensures still { (state_of runner.new.machine).steps ≡ (state_of runner.old.machine).steps }
 {
@@ -236,7 +234,7 @@ pub(crate) fn set_tetra_breaks<H: Host>(
     breaks: Breaks,
     a: u64,
 ) -> Result<(), SessionEnd>
-    ensures part { (shown : Option ℕ) → Replies H.told H.faults host.old host.new runner.old runner.new
+    ensures part { (shown : Option ℕ) → Responds H.told H.faults host.old host.new runner.old runner.new
         shown shown result (Command.Break breaks a) }
     ensures still { (state_of runner.new.machine).steps ≡ (state_of runner.old.machine).steps }
 {
@@ -255,7 +253,7 @@ pub(crate) fn trace_tetra<H: Host>(
     host: &mut H,
     a: u64,
 ) -> Result<(), SessionEnd>
-    ensures part { (shown : Option ℕ) → Replies H.told H.faults host.old host.new runner.old runner.new
+    ensures part { (shown : Option ℕ) → Responds H.told H.faults host.old host.new runner.old runner.new
         shown shown result (Command.Trace a) }
     ensures still { (state_of runner.new.machine).steps ≡ (state_of runner.old.machine).steps }
 {
@@ -274,7 +272,7 @@ pub(crate) fn untrace_tetra<H: Host>(
     host: &mut H,
     a: u64,
 ) -> Result<(), SessionEnd>
-    ensures part { (shown : Option ℕ) → Replies H.told H.faults host.old host.new runner.old runner.new
+    ensures part { (shown : Option ℕ) → Responds H.told H.faults host.old host.new runner.old runner.new
         shown shown result (Command.Untrace a) }
     ensures still { (state_of runner.new.machine).steps ≡ (state_of runner.old.machine).steps }
 {

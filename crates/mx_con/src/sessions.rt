@@ -5,8 +5,8 @@ ghost use Rattle.mx_host.specs.Keeping.{OnlyByFailure, Keeps};
 ghost use Rattle.mx_word.specs.Results.{map_ok};
 ghost use Rattle.mx_core.specs.Kept.{state_of};
 ghost use Rattle.mx_run.specs.WildRuns.{window_machine, list_machine};
-ghost use Rattle.mx_con.specs.Clauses.{CarriesOutSession, Converses, EndsAsListSession, EndsAsSession, EndsFront, PartsAsList};
-ghost use Rattle.mx_con.specs.Clauses.{StepsWithin, Talks};
+ghost use Rattle.mx_con.specs.Clauses.{CarriesOutSession, EndsAsListSession, EndsAsSession, EndsFront, PartsAsList};
+ghost use Rattle.mx_con.specs.Clauses.{Converses, StepsWithin, Talks};
 ghost use Rattle.mx_con.specs.LinePlans.{asking_plan};
 ghost use Rattle.mx_con.specs.Session as spec;
 ghost use Rattle.mx_con.specs.SessionPlans as plans;
@@ -88,7 +88,7 @@ fn all_lines<H: Host>(
 }
 
 /// Asks for a line, and carries it out.
-#[tactic(auto, using(crate::proofs::SessionSteps::single_lines, crate::proofs::StepBounds::going))]
+#[tactic(auto, using(crate::proofs::StepBounds::going))]
 fn one_line<H: Host>(
     alloc: Global,
     runner: &mut Runner,

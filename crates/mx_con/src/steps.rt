@@ -147,7 +147,6 @@ fn end_run<H: Host>(
 }
 
 /// Writes the line of a break, and before it that of a traced step that came to it.
-#[tactic(auto, using(crate::proofs::StepPlans::breaking))]
 fn write_break<H: Host>(
     alloc: Global,
     runner: &Runner,
@@ -166,7 +165,6 @@ fn write_break<H: Host>(
 }
 
 /// Writes the line of a traced step, and that of the break that it came to.
-#[tactic(auto, using(crate::proofs::StepPlans::breaking))]
 fn write_traced_break<H: Host>(
     alloc: Global,
     runner: &Runner,

@@ -1,6 +1,5 @@
 use Rattle.std.proofs.Common.{◌≡◌, ◌∙◌, sym, ap, subst, IsTrue}
-use Rattle.mx_con.specs.Clauses.{console_of, world_of}
-use Rattle.mx_con.specs.Session.{command_done}
+use Rattle.mx_con.specs.Clauses.{console_of}
 use Rattle.mx_cmd.specs.Commands.{command_of}
 use Rattle.mx_con.specs.HostLines.{without_return}
 use Rattle.mx_plan.proofs.Standing.{stands-all}

@@ -1,8 +1,3 @@
-use Rattle.std.proofs.Common.{sym}
-use Rattle.std.specs.Prelude.{IsTrue}
-use Rattle.mx_core.specs.Kept.{state_of}
-use Rattle.mx_host.specs.HostModel.{contents}
-use Rattle.mx_run.specs.FlagMaps.{flags_at}
 use Rattle.mx_con.proofs.ListedSessions.{session-listed}
 use Rattle.mx_con.proofs.SessionClauses.{session-told, session-begun, session-keeps}
 use Rattle.mx_con.proofs.SessionSteps.{session-over, session-limit}

@@ -1,4 +1,4 @@
-use Rattle.std.proofs.Common.{◌∙◌, ◌≡◌, ◌-◌, ℕ, true, ap, sym, subst, refl, arith}
+use Rattle.std.proofs.Common.{◌∙◌, true, sym, subst}
 use Rattle.std.specs.Prelude.{IsTrue}
 use Rattle.mx_con.specs.Clauses.{console_of, world_of}
 use Rattle.mx_con.proofs.ListedRuns as listed
