@@ -1,19 +1,16 @@
 -- A line is read byte by byte.
-use Rattle.std.proofs.Common.{◌≡◌, ◌≢◌, ℕ, zero, suc, [], ◌∷◌, length, take, slice_index_or, ◌++◌, ◌==◌, Bool, cond, ap, inl, Some, ◌+◌, ◌-◌, ◌<◌, ◌≤◌, true, false, List, arith, refl, subst, Ok, Err}
+use Rattle.std.proofs.Common.{◌≡◌, ◌≢◌, ℕ, zero, suc, [], ◌∷◌, length, take, slice_index_or, ◌+◌, ◌-◌, ◌<◌, ◌≤◌, true, false, List, arith, refl, subst, Ok, Err}
 use Rattle.mx_host.specs.HostModel.{HostModel, contents}
-use Rattle.mx_plan.specs.Plan.{returns, bind, end_of, Stops, Comes, IsRest}
-use Rattle.mx_plan.specs.Calls.{host, HostPlan, need}
+use Rattle.mx_plan.specs.Plan.{bind, end_of, Comes, IsRest}
+use Rattle.mx_plan.specs.Calls.{host, HostPlan}
 use Rattle.mx_plan.proofs.Plans.{rest_after}
-use Rattle.std.specs.Prelude.{Option, Result}
-use Rattle.mx_word.specs.Results.{map_ok}
+use Rattle.std.specs.Prelude.{Option}
 use Rattle.mx_con.specs.Clauses.{Talks}
-use Rattle.mx_con.specs.HostLines.{byte_added}
-use Rattle.mx_con.specs.LinePlans as lines
-use Rattle.mx_con.specs.LinePlans.{on_ok, byte_plan, after_byte, grown_plan, LineRead, after_growing, reading_plan}
+use Rattle.mx_con.specs.LinePlans.{on_ok, grown_plan, LineRead, after_growing, reading_plan}
 use Rattle.mx_con.specs.declared.end.SessionEnd.{SessionEnd}
 use Rattle.mx_con.specs.declared.end.SessionEnd.TheVariants.{Limit, OutOfMemory}
 use Rattle.mx_con.proofs.Parts.{Leaves, left-next}
-use Rattle.mx_con.proofs.Rests.{bind-comes, rest-ended, rest-done}
+use Rattle.mx_con.proofs.Rests.{rest-ended, rest-done}
 
 one-more : (n : ℕ) → 0 < n → n ≡ suc (n - 1)
 one-more n l = omega arith
@@ -52,36 +49,6 @@ pub line-limit : (n : ℕ) (got : List ℕ) (w start : HostModel) (whole : HostP
 unfolding reading_plan
 line-limit n got w start whole e r =
     rest-done host (Err Limit) w start whole (λ o. absurd (cc)) (subst (λ i. IsRest host (reading_plan i got) w whole start) e r)
-
--- ---- a byte more of a line
-
-lacked-of : {A B : Type 0} (f : A → B) (r : Result A SessionEnd) (end : SessionEnd) → map_ok f r ≡ Err end → r ≡ Err end
-lacked-of f (Ok x) end e = absurd (cc)
-lacked-of f (Err other) end e = cc
-
-abbrev added : Bool → List ℕ → ℕ → Result Bool SessionEnd × List ℕ
-added ends got b = cond ends (Ok false, got) (Ok true, got ++ b ∷ [])
-
-with-byte : (ends : Bool) (got next : List ℕ) (left b : ℕ) (n : HostModel) (r : Result Bool SessionEnd) → (r ≢ Err OutOfMemory → (r, next) ≡ added ends got b) →
-    (r ≡ Err OutOfMemory → ends ≡ false) →
-    Comes {A = lines.Growing} host n n (Err OutOfMemory) (map_ok (λ (more : Bool). (more, next, left)) r) (cond ends (returns (Ok (false, got, left))) (bind (λ u. returns (Ok (true, got ++ b ∷ [], left))) need))
-unfolding bind need end_of Stops host
-with-byte true got next left b n r h k = record {
-  ending = λ ne. ap (λ (p : Result Bool SessionEnd × List ℕ). (map_ok (λ (more : Bool). (more, p.1, left)) p.0, n)) (h (λ e. ne (ap (map_ok (λ (more : Bool). (more, next, left))) e)));
-  stopping = λ e. let wrong : true ≡ false = k (lacked-of (λ (more : Bool). (more, next, left)) r OutOfMemory e) in absurd (cc);
-}
-with-byte false got next left b n r h k = record {
-  ending = λ ne. ap (λ (p : Result Bool SessionEnd × List ℕ). (map_ok (λ (more : Bool). (more, p.1, left)) p.0, n)) (h (λ e. ne (ap (map_ok (λ (more : Bool). (more, next, left))) e)));
-  stopping = λ e. inl refl;
-}
-
-pub grown-byte : (got next : List ℕ) (left b : ℕ) (m n : HostModel) (r : Result Bool SessionEnd) → Comes host m n (Err OutOfMemory) (Ok (Some b)) byte_plan →
-    (r ≢ Err OutOfMemory → (r, next) ≡ byte_added got b) → (r ≡ Err OutOfMemory → (b == 10) ≡ false) →
-    Comes host m n (Err OutOfMemory) (map_ok (λ (more : Bool). (more, next, left)) r) (grown_plan left got)
-unfolding grown_plan
-grown-byte got next left b m n r c h k =
-    bind-comes host (after_byte left got) byte_plan (Ok (Some b)) m n n (Err OutOfMemory) (map_ok (λ (more : Bool). (more, next, left)) r) (c.ending (λ e. absurd (cc)))
-    (with-byte (b == 10) got next left b n r h k)
 
 pub ruleset reading = (line-whole, line-ended, line-limit)
 

@@ -23,10 +23,6 @@ use Rattle.mx_con.proofs.Parts.{Leaves, left-all, left-next, left-over, left-ans
 abbrev pub octas_from : State → Form → ℕ → ℕ → ℕ → List (List ℕ)
 octas_from s form a i n = map (λ k. shown_line s (Memory (a + 8 * k)) form) (range_with_len i n)
 
-pub octas-start : (s : State) (form : Form) (a n : ℕ) → octas_after s form a n ≡ octas_from s form a 1 n
-unfolding octas_after
-octas-start s form a n = refl
-
 octas-next : (s : State) (form : Form) (a n i : ℕ) → i < n →
     octas_from s form a (i + 1) (n - i) ≡ shown_line s (Memory (a + 8 * (i + 1))) form ∷ octas_from s form a (i + 1 + 1) (n - (i + 1))
 octas-next s form a n i l = let e : n - i ≡ suc (n - (i + 1)) = omega arith in rw e refl
