@@ -1,5 +1,5 @@
 -- What every call of a host keeps, every session over it keeps.
-use Rattle.std.proofs.Common.{◌≡◌, ◌≢◌, ◌≤◌, ℕ, Option, refl, ap, subst, sym, IsTrue}
+use Rattle.std.proofs.Common.{◌≢◌, ℕ, Option, refl, ap, IsTrue}
 use Rattle.mx_host.specs.HostModel.{HostModel, tells, contents}
 use Rattle.mx_host.specs.Keeping.{Keeps}
 use Rattle.mx_plan.specs.Clauses.{Stands}

@@ -1,5 +1,6 @@
 pub mod SoundSubjects
 pub mod Rests
+pub mod Parts
 pub mod LineEnds
 pub mod LineReads
 pub mod ListedLines

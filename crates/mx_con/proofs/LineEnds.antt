@@ -1,5 +1,5 @@
 -- Lines that find no memory before they are written, and lists of lines.
-use Rattle.std.proofs.Common.{◌≡◌, ◌≢◌, ℕ, inl, inr, subst, List, [], ◌∷◌, Ok, Err, refl, sym, ◌∙◌, ap}
+use Rattle.std.proofs.Common.{◌≡◌, ℕ, inl, inr, subst, List, [], ◌∷◌, Ok, Err, refl, sym, ◌∙◌, ap}
 use Rattle.std.specs.Prelude.{Result}
 use Rattle.mx_host.specs.HostModel.{HostModel}
 use Rattle.mx_plan.specs.Plan.{bind, end_of, end_after, Stops, Comes}

@@ -1,17 +1,16 @@
 -- A line is read byte by byte.
-use Rattle.std.proofs.Common.{◌≡◌, ◌≢◌, ℕ, zero, suc, [], ◌∷◌, length, take, slice_index_or, ◌++◌, ◌==◌, Bool, cond, ap, inl, Some, ◌+◌, ◌-◌, ◌<◌, ◌≤◌, true, false, List, arith, refl, subst, Ok, Err}
-use Rattle.mx_host.specs.HostModel.{HostModel}
-use Rattle.mx_plan.specs.Plan.{returns, bind, end_of, Stops, Comes, IsRest}
-use Rattle.mx_plan.specs.Calls.{host, HostPlan, need}
+use Rattle.std.proofs.Common.{◌≡◌, ◌≢◌, ℕ, zero, suc, [], ◌∷◌, length, take, slice_index_or, ◌+◌, ◌-◌, ◌<◌, ◌≤◌, true, false, List, arith, refl, subst, Ok, Err}
+use Rattle.mx_host.specs.HostModel.{HostModel, contents}
+use Rattle.mx_plan.specs.Plan.{bind, end_of, Comes, IsRest}
+use Rattle.mx_plan.specs.Calls.{host, HostPlan}
 use Rattle.mx_plan.proofs.Plans.{rest_after}
-use Rattle.std.specs.Prelude.{Result}
-use Rattle.mx_word.specs.Results.{map_ok}
-use Rattle.mx_con.specs.HostLines.{byte_added}
-use Rattle.mx_con.specs.LinePlans as lines
-use Rattle.mx_con.specs.LinePlans.{on_ok, byte_plan, after_byte, grown_plan, LineRead, after_growing, reading_plan}
+use Rattle.std.specs.Prelude.{Option}
+use Rattle.mx_con.specs.Clauses.{Talks}
+use Rattle.mx_con.specs.LinePlans.{on_ok, grown_plan, LineRead, after_growing, reading_plan}
 use Rattle.mx_con.specs.declared.end.SessionEnd.{SessionEnd}
 use Rattle.mx_con.specs.declared.end.SessionEnd.TheVariants.{Limit, OutOfMemory}
-use Rattle.mx_con.proofs.Rests.{bind-comes, rest-ended, rest-done}
+use Rattle.mx_con.proofs.Parts.{Leaves, left-next}
+use Rattle.mx_con.proofs.Rests.{rest-ended, rest-done}
 
 one-more : (n : ℕ) → 0 < n → n ≡ suc (n - 1)
 one-more n l = omega arith
@@ -27,12 +26,12 @@ as-bound : (n : ℕ) (got : List ℕ) (v start : HostModel) (whole : HostPlan Li
     IsRest host (bind (on_ok (after_growing (reading_plan (n - 1)))) (grown_plan (n - 1) got)) v whole start
 as-bound n got v start whole l r = subst (λ p. IsRest host p v whole start) (reading-more n got l) r
 
-pub line-more : (n k : ℕ) (got next : List ℕ) (v w start : HostModel) (whole : HostPlan LineRead) → 0 < n → IsRest host (reading_plan n got) v whole start →
-    (Ok (true, next, k), w) ≡ end_of host (grown_plan (n - 1) got) v → k + 1 ≡ n → IsRest host (reading_plan k next) w whole start
-line-more n k got next v w start whole l r e h =
-    let same : n - 1 ≡ k = omega (arith, h) in
-    subst (λ i. IsRest host (reading_plan i next) w whole start) same
-    (rest_after host (on_ok (after_growing (reading_plan (n - 1)))) (grown_plan (n - 1) got) (Ok (true, next, k)) w v start whole e (as-bound n got v start whole l r))
+pub line-more : {Host : Type 0} (says : Host → Option HostModel) (faults : Host → ℕ) (a b c : Host) (n k : ℕ) (got next : List ℕ) (whole : HostPlan LineRead) → 0 < n →
+    Leaves host says faults a b (contents (says a)) (contents (says b)) (reading_plan n got) whole → Talks says faults b c (Ok (true, next, k)) (grown_plan (n - 1) got) → k + 1 ≡ n →
+    Leaves host says faults a c (contents (says a)) (contents (says c)) (reading_plan k next) whole
+line-more says faults a b c n k got next whole l h w e =
+    let same : n - 1 ≡ k = omega (arith, e) in
+    rw (← same) (left-next host says faults a b c _ _ _ (true, next, k) (after_growing (reading_plan (n - 1))) (grown_plan (n - 1) got) whole (rw (← reading-more n got l) h) w)
 
 pub line-whole : (n k : ℕ) (got next : List ℕ) (v w start : HostModel) (whole : HostPlan LineRead) → 0 < n → IsRest host (reading_plan n got) v whole start →
     (Ok (false, next, k), w) ≡ end_of host (grown_plan (n - 1) got) v → Comes host start w (Err OutOfMemory) (Ok (next, k)) whole
@@ -51,37 +50,7 @@ unfolding reading_plan
 line-limit n got w start whole e r =
     rest-done host (Err Limit) w start whole (λ o. absurd (cc)) (subst (λ i. IsRest host (reading_plan i got) w whole start) e r)
 
--- ---- a byte more of a line
-
-lacked-of : {A B : Type 0} (f : A → B) (r : Result A SessionEnd) (end : SessionEnd) → map_ok f r ≡ Err end → r ≡ Err end
-lacked-of f (Ok x) end e = absurd (cc)
-lacked-of f (Err other) end e = cc
-
-abbrev added : Bool → List ℕ → ℕ → Result Bool SessionEnd × List ℕ
-added ends got b = cond ends (Ok false, got) (Ok true, got ++ b ∷ [])
-
-with-byte : (ends : Bool) (got next : List ℕ) (left b : ℕ) (n : HostModel) (r : Result Bool SessionEnd) → (r ≢ Err OutOfMemory → (r, next) ≡ added ends got b) →
-    (r ≡ Err OutOfMemory → ends ≡ false) →
-    Comes {A = lines.Growing} host n n (Err OutOfMemory) (map_ok (λ (more : Bool). (more, next, left)) r) (cond ends (returns (Ok (false, got, left))) (bind (λ u. returns (Ok (true, got ++ b ∷ [], left))) need))
-unfolding bind need end_of Stops host
-with-byte true got next left b n r h k = record {
-  ending = λ ne. ap (λ (p : Result Bool SessionEnd × List ℕ). (map_ok (λ (more : Bool). (more, p.1, left)) p.0, n)) (h (λ e. ne (ap (map_ok (λ (more : Bool). (more, next, left))) e)));
-  stopping = λ e. let wrong : true ≡ false = k (lacked-of (λ (more : Bool). (more, next, left)) r OutOfMemory e) in absurd (cc);
-}
-with-byte false got next left b n r h k = record {
-  ending = λ ne. ap (λ (p : Result Bool SessionEnd × List ℕ). (map_ok (λ (more : Bool). (more, p.1, left)) p.0, n)) (h (λ e. ne (ap (map_ok (λ (more : Bool). (more, next, left))) e)));
-  stopping = λ e. inl refl;
-}
-
-pub grown-byte : (got next : List ℕ) (left b : ℕ) (m n : HostModel) (r : Result Bool SessionEnd) → Comes host m n (Err OutOfMemory) (Ok (Some b)) byte_plan →
-    (r ≢ Err OutOfMemory → (r, next) ≡ byte_added got b) → (r ≡ Err OutOfMemory → (b == 10) ≡ false) →
-    Comes host m n (Err OutOfMemory) (map_ok (λ (more : Bool). (more, next, left)) r) (grown_plan left got)
-unfolding grown_plan
-grown-byte got next left b m n r c h k =
-    bind-comes host (after_byte left got) byte_plan (Ok (Some b)) m n n (Err OutOfMemory) (map_ok (λ (more : Bool). (more, next, left)) r) (c.ending (λ e. absurd (cc)))
-    (with-byte (b == 10) got next left b n r h k)
-
-pub ruleset reading = (line-more, line-whole, line-ended, line-limit)
+pub ruleset reading = (line-whole, line-ended, line-limit)
 
 -- ---- a buffer of one byte
 

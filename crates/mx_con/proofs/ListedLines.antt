@@ -1,70 +1,75 @@
 -- Lists of lines are written line by line.
 use Rattle.std.proofs.Common.{◌≡◌, ℕ, zero, suc, ◌+◌, ◌-◌, ◌*◌, ◌/◌, ◌^◌, ◌<◌, ◌≤◌, List, [], ◌∷◌, true, false, None, Some, Ok, Err, refl, ◌∙◌, ap, subst, arith, map}
 use Rattle.std.specs.List.{range_with_len}
-use Rattle.mx_host.specs.HostModel.{HostModel}
+use Rattle.mx_host.specs.HostModel.{HostModel, contents}
 use Rattle.mx_text.specs.declared.numbers.Form.{Form}
 use Rattle.mx_core.specs.State.{State}
 use Rattle.mx_run.specs.FlagMaps.{has_flag, IsNextFlagged}
 use Rattle.mx_run.specs.Runs.{FlagsOf}
 use Rattle.mx_run.specs.declared.flags.Flags.{Flags}
 use Rattle.mx_con.specs.ConsoleTexts.{flag_text}
-use Rattle.mx_con.specs.LinePlans.{on_ok, line_plan, lines_plan}
+use Rattle.mx_con.specs.Clauses.{Talks}
+use Rattle.mx_con.specs.LinePlans.{line_plan, lines_plan}
 use Rattle.mx_con.specs.Replies.{octas_after, flag_lines, tetra_count}
 use Rattle.mx_show.specs.Subjects.{shown_line}
 use Rattle.mx_cmd.specs.declared.command.Subject.TheVariants.{Memory}
 use Rattle.mx_con.specs.declared.end.SessionEnd.{SessionEnd}
-use Rattle.mx_con.specs.declared.end.SessionEnd.TheVariants.{OutOfMemory}
-use Rattle.mx_plan.specs.Plan.{bind, end_of, Comes, IsRest}
 use Rattle.mx_plan.specs.Calls.{host, HostPlan}
-use Rattle.mx_plan.proofs.Plans.{rest_after}
-use Rattle.std.specs.Prelude.{Result}
-use Rattle.mx_con.proofs.Rests.{rest-all, rest-ended, rest-done}
+use Rattle.std.specs.Prelude.{Option, Result}
+use Rattle.mx_con.proofs.Parts.{Leaves, left-all, left-next, left-over, left-answer}
 
 -- ---- octas: the lines from one on
 
 abbrev pub octas_from : State → Form → ℕ → ℕ → ℕ → List (List ℕ)
 octas_from s form a i n = map (λ k. shown_line s (Memory (a + 8 * k)) form) (range_with_len i n)
 
-pub octas-start : (s : State) (form : Form) (a n : ℕ) → octas_after s form a n ≡ octas_from s form a 1 n
-unfolding octas_after
-octas-start s form a n = refl
-
 octas-next : (s : State) (form : Form) (a n i : ℕ) → i < n →
     octas_from s form a (i + 1) (n - i) ≡ shown_line s (Memory (a + 8 * (i + 1))) form ∷ octas_from s form a (i + 1 + 1) (n - (i + 1))
 octas-next s form a n i l = let e : n - i ≡ suc (n - (i + 1)) = omega arith in rw e refl
 
-octas-left : (s : State) (form : Form) (a n i : ℕ) (v start : HostModel) (whole : HostPlan (Result (Unit {0}) SessionEnd)) → i < n →
-    IsRest host (lines_plan (octas_from s form a (i + 1) (n - i))) v whole start →
-    IsRest host (bind (on_ok (λ u. lines_plan (octas_from s form a (i + 1 + 1) (n - (i + 1))))) (line_plan (shown_line s (Memory (a + 8 * (i + 1))) form))) v whole start
+abbrev pub LinesLeft : {Host : Type 0} → (Host → Option HostModel) → (Host → ℕ) → Host → Host → List (List ℕ) → HostPlan (Result (Unit {0}) SessionEnd) → Type 0
+LinesLeft says faults a b lines whole = Leaves host says faults a b (contents (says a)) (contents (says b)) (lines_plan lines) whole
+
+-- a line is written, and those behind it are left; or it ends the session; or none is left
+next-line : {Host : Type 0} (says : Host → Option HostModel) (faults : Host → ℕ) (a b c : Host) (lines behind : List (List ℕ)) (line : List ℕ) (whole : HostPlan (Result (Unit {0}) SessionEnd)) →
+    lines ≡ line ∷ behind → LinesLeft says faults a b lines whole → Talks says faults b c (Ok tt) (line_plan line) → LinesLeft says faults a c behind whole
 unfolding lines_plan
-octas-left s form a n i v start whole l r = subst (λ ls. IsRest host (lines_plan ls) v whole start) (octas-next s form a n i l) r
+next-line says faults a b c lines behind line whole e h w =
+    left-next host says faults a b c _ _ _ tt (λ u. lines_plan behind) (line_plan line) whole (subst (λ ls. LinesLeft says faults a b ls whole) e h) w
 
-pub octas-more : (s : State) (form : Form) (a n i : ℕ) (v w start : HostModel) (whole : HostPlan (Result (Unit {0}) SessionEnd)) → i < n →
-    IsRest host (lines_plan (octas_from s form a (i + 1) (n - i))) v whole start → (Ok tt, w) ≡ end_of host (line_plan (shown_line s (Memory (a + 8 * (i + 1))) form)) v →
-    IsRest host (lines_plan (octas_from s form a (i + 1 + 1) (n - (i + 1)))) w whole start
-octas-more s form a n i v w start whole l r e =
-    rest_after host (on_ok (λ u. lines_plan (octas_from s form a (i + 1 + 1) (n - (i + 1))))) (line_plan (shown_line s (Memory (a + 8 * (i + 1))) form)) (Ok tt) w v start whole e
-    (octas-left s form a n i v start whole l r)
-
-pub octas-ended : (s : State) (form : Form) (a n i : ℕ) (end : SessionEnd) (v w start : HostModel) (whole : HostPlan (Result (Unit {0}) SessionEnd)) → i < n →
-    IsRest host (lines_plan (octas_from s form a (i + 1) (n - i))) v whole start → Comes host v w (Err OutOfMemory) (Err end) (line_plan (shown_line s (Memory (a + 8 * (i + 1))) form)) →
-    Comes host start w (Err OutOfMemory) (Err end) whole
-octas-ended s form a n i end v w start whole l r c =
-    rest-ended host (λ (u : Unit {0}). lines_plan (octas_from s form a (i + 1 + 1) (n - (i + 1)))) (line_plan (shown_line s (Memory (a + 8 * (i + 1))) form)) end v w start whole
-    (octas-left s form a n i v start whole l r) c
-
-pub octas-done : (s : State) (form : Form) (a n i : ℕ) (w start : HostModel) (whole : HostPlan (Result (Unit {0}) SessionEnd)) → n ≤ i →
-    IsRest host (lines_plan (octas_from s form a (i + 1) (n - i))) w whole start → Comes host start w (Err OutOfMemory) (Ok tt) whole
+line-over : {Host : Type 0} (says : Host → Option HostModel) (faults : Host → ℕ) (a b c : Host) (end : SessionEnd) (lines behind : List (List ℕ)) (line : List ℕ) (whole : HostPlan (Result (Unit {0}) SessionEnd)) →
+    lines ≡ line ∷ behind → LinesLeft says faults a b lines whole → Talks says faults b c (Err end) (line_plan line) → Talks says faults a c (Err end) whole
 unfolding lines_plan
-octas-done s form a n i w start whole l r =
-    let e : n - i ≡ 0 = omega arith in
-    rest-done host (Ok tt) w start whole (λ o. absurd (cc)) (subst (λ k. IsRest host (lines_plan (octas_from s form a (i + 1) k)) w whole start) e r)
+line-over says faults a b c end lines behind line whole e h w =
+    left-over host says faults a b c _ _ _ end (λ (u : Unit {0}). lines_plan behind) (line_plan line) whole (subst (λ ls. LinesLeft says faults a b ls whole) e h) w
 
-pub octas-begin : (s : State) (form : Form) (a n : ℕ) (m : HostModel) → IsRest host (lines_plan (octas_from s form a (0 + 1) (n - 0))) m (lines_plan (octas_after s form a n)) m
+no-lines : {Host : Type 0} (says : Host → Option HostModel) (faults : Host → ℕ) (a b : Host) (lines : List (List ℕ)) (whole : HostPlan (Result (Unit {0}) SessionEnd)) →
+    lines ≡ [] → LinesLeft says faults a b lines whole → Talks says faults a b (Ok tt) whole
+unfolding lines_plan
+no-lines says faults a b lines whole e h =
+    left-answer host says faults a b _ _ (Ok tt) whole (λ o. absurd (cc)) (λ o. absurd (cc)) (subst (λ ls. LinesLeft says faults a b ls whole) e h)
+
+pub octas-begin : {Host : Type 0} (says : Host → Option HostModel) (faults : Host → ℕ) (a : Host) (s : State) (form : Form) (at n : ℕ) →
+    LinesLeft says faults a a (octas_from s form at (0 + 1) (n - 0)) (lines_plan (octas_after s form at n))
 unfolding octas_after
-octas-begin s form a n m = let e : n - 0 ≡ n = omega arith in rw e (rest-all host (lines_plan (octas_from s form a 1 n)) m)
+octas-begin says faults a s form at n = let e : n - 0 ≡ n = omega arith in rw e (left-all host says faults a _ (lines_plan (octas_from s form at 1 n)))
 
-pub ruleset octas = (octas-more, octas-ended, octas-done)
+pub octas-more : {Host : Type 0} (says : Host → Option HostModel) (faults : Host → ℕ) (a b c : Host) (s : State) (form : Form) (at n i : ℕ) (whole : HostPlan (Result (Unit {0}) SessionEnd)) → i < n →
+    LinesLeft says faults a b (octas_from s form at (i + 1) (n - i)) whole → Talks says faults b c (Ok tt) (line_plan (shown_line s (Memory (at + 8 * (i + 1))) form)) →
+    LinesLeft says faults a c (octas_from s form at (i + 1 + 1) (n - (i + 1))) whole
+octas-more says faults a b c s form at n i whole l h w = next-line says faults a b c _ _ _ whole (octas-next s form at n i l) h w
+
+pub octas-ended : {Host : Type 0} (says : Host → Option HostModel) (faults : Host → ℕ) (a b c : Host) (s : State) (form : Form) (at n i : ℕ) (end : SessionEnd) (whole : HostPlan (Result (Unit {0}) SessionEnd)) → i < n →
+    LinesLeft says faults a b (octas_from s form at (i + 1) (n - i)) whole → Talks says faults b c (Err end) (line_plan (shown_line s (Memory (at + 8 * (i + 1))) form)) →
+    Talks says faults a c (Err end) whole
+octas-ended says faults a b c s form at n i end whole l h w = line-over says faults a b c end _ _ _ whole (octas-next s form at n i l) h w
+
+no-octas : (s : State) (form : Form) (at i n : ℕ) → n ≡ 0 → octas_from s form at i n ≡ []
+no-octas s form at i n e = rw e refl
+
+pub octas-done : {Host : Type 0} (says : Host → Option HostModel) (faults : Host → ℕ) (a b : Host) (s : State) (form : Form) (at n i : ℕ) (whole : HostPlan (Result (Unit {0}) SessionEnd)) → n ≤ i →
+    LinesLeft says faults a b (octas_from s form at (i + 1) (n - i)) whole → Talks says faults a b (Ok tt) whole
+octas-done says faults a b s form at n i whole l h = no-lines says faults a b _ whole (no-octas s form at (i + 1) (n - i) (omega arith)) h
 
 -- ---- flags: tetras without flags have no line
 
@@ -99,37 +104,24 @@ flags-next f t a fl h most =
     ∙ here f q (tetra_count - (q + 1)) (ap has_flag h.2 ∙ h.3)
     ∙ ap (λ line. line ∷ flag_lines f (q + 1) (tetra_count - (q + 1))) (ap (λ p. flag_text p (f q)) same ∙ ap (flag_text a) h.2)
 
-pub flags-more : (f : FlagsOf) (t a : ℕ) (fl : Flags) (v w start : HostModel) (whole : HostPlan (Result (Unit {0}) SessionEnd)) → IsNextFlagged f (4 * t) (Some (a, fl)) → a < 2 ^ 64 →
-    IsRest host (lines_plan (flag_lines f t (tetra_count - t))) v whole start → (Ok tt, w) ≡ end_of host (line_plan (flag_text a fl)) v →
-    IsRest host (lines_plan (flag_lines f (a / 4 + 1) (tetra_count - (a / 4 + 1)))) w whole start
-unfolding lines_plan
-flags-more f t a fl v w start whole h most r e =
-    rest_after host (on_ok (λ u. lines_plan (flag_lines f (a / 4 + 1) (tetra_count - (a / 4 + 1))))) (line_plan (flag_text a fl)) (Ok tt) w v start whole e
-    (subst (λ ls. IsRest host (lines_plan ls) v whole start) (flags-next f t a fl h most) r)
+pub flags-more : {Host : Type 0} (says : Host → Option HostModel) (faults : Host → ℕ) (x y z : Host) (f : FlagsOf) (t a : ℕ) (fl : Flags) (whole : HostPlan (Result (Unit {0}) SessionEnd)) →
+    IsNextFlagged f (4 * t) (Some (a, fl)) → a < 2 ^ 64 → LinesLeft says faults x y (flag_lines f t (tetra_count - t)) whole → Talks says faults y z (Ok tt) (line_plan (flag_text a fl)) →
+    LinesLeft says faults x z (flag_lines f (a / 4 + 1) (tetra_count - (a / 4 + 1))) whole
+flags-more says faults x y z f t a fl whole h most r w = next-line says faults x y z _ _ _ whole (flags-next f t a fl h most) r w
 
-pub flags-ended : (f : FlagsOf) (t a : ℕ) (fl : Flags) (end : SessionEnd) (v w start : HostModel) (whole : HostPlan (Result (Unit {0}) SessionEnd)) → IsNextFlagged f (4 * t) (Some (a, fl)) → a < 2 ^ 64 →
-    IsRest host (lines_plan (flag_lines f t (tetra_count - t))) v whole start → Comes host v w (Err OutOfMemory) (Err end) (line_plan (flag_text a fl)) →
-    Comes host start w (Err OutOfMemory) (Err end) whole
-unfolding lines_plan
-flags-ended f t a fl end v w start whole h most r c =
-    rest-ended host (λ (u : Unit {0}). lines_plan (flag_lines f (a / 4 + 1) (tetra_count - (a / 4 + 1)))) (line_plan (flag_text a fl)) end v w start whole
-    (subst (λ ls. IsRest host (lines_plan ls) v whole start) (flags-next f t a fl h most) r) c
+pub flags-ended : {Host : Type 0} (says : Host → Option HostModel) (faults : Host → ℕ) (x y z : Host) (f : FlagsOf) (t a : ℕ) (fl : Flags) (end : SessionEnd) (whole : HostPlan (Result (Unit {0}) SessionEnd)) →
+    IsNextFlagged f (4 * t) (Some (a, fl)) → a < 2 ^ 64 → LinesLeft says faults x y (flag_lines f t (tetra_count - t)) whole → Talks says faults y z (Err end) (line_plan (flag_text a fl)) →
+    Talks says faults x z (Err end) whole
+flags-ended says faults x y z f t a fl end whole h most r w = line-over says faults x y z end _ _ _ whole (flags-next f t a fl h most) r w
 
-none-left : (ls : List (List ℕ)) (w start : HostModel) (whole : HostPlan (Result (Unit {0}) SessionEnd)) → ls ≡ [] → IsRest host (lines_plan ls) w whole start →
-    Comes host start w (Err OutOfMemory) (Ok tt) whole
-unfolding lines_plan
-none-left ls w start whole e r = rest-done host (Ok tt) w start whole (λ o. absurd (cc)) (subst (λ xs. IsRest host (lines_plan xs) w whole start) e r)
-
-pub flags-none : (f : FlagsOf) (t n : ℕ) (w start : HostModel) (whole : HostPlan (Result (Unit {0}) SessionEnd)) → IsNextFlagged f (4 * t) None →
-    IsRest host (lines_plan (flag_lines f t n)) w whole start → Comes host start w (Err OutOfMemory) (Ok tt) whole
-flags-none f t n w start whole h r = none-left (flag_lines f t n) w start whole (all-bare f t n (λ q l. h q (omega arith))) r
+pub flags-none : {Host : Type 0} (says : Host → Option HostModel) (faults : Host → ℕ) (x y : Host) (f : FlagsOf) (t n : ℕ) (whole : HostPlan (Result (Unit {0}) SessionEnd)) →
+    IsNextFlagged f (4 * t) None → LinesLeft says faults x y (flag_lines f t n) whole → Talks says faults x y (Ok tt) whole
+flags-none says faults x y f t n whole h r = no-lines says faults x y _ whole (all-bare f t n (λ q l. h q (omega arith))) r
 
 no-flags : (f : FlagsOf) (t n : ℕ) → n ≡ 0 → flag_lines f t n ≡ []
 unfolding flag_lines
 no-flags f t n e = rw e refl
 
-pub flags-done : (f : FlagsOf) (t : ℕ) (w start : HostModel) (whole : HostPlan (Result (Unit {0}) SessionEnd)) → tetra_count ≤ t →
-    IsRest host (lines_plan (flag_lines f t (tetra_count - t))) w whole start → Comes host start w (Err OutOfMemory) (Ok tt) whole
-flags-done f t w start whole l r = none-left (flag_lines f t (tetra_count - t)) w start whole (no-flags f t (tetra_count - t) (omega arith)) r
-
-pub ruleset flags = (flags-more, flags-ended, flags-none, flags-done)
+pub flags-done : {Host : Type 0} (says : Host → Option HostModel) (faults : Host → ℕ) (x y : Host) (f : FlagsOf) (t : ℕ) (whole : HostPlan (Result (Unit {0}) SessionEnd)) →
+    tetra_count ≤ t → LinesLeft says faults x y (flag_lines f t (tetra_count - t)) whole → Talks says faults x y (Ok tt) whole
+flags-done says faults x y f t whole l r = no-lines says faults x y _ whole (no-flags f t (tetra_count - t) (omega arith)) r

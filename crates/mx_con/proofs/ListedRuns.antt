@@ -18,7 +18,7 @@ use Rattle.mx_con.specs.Clauses.{output_of, as_list_console, as_list_progress, I
 use Rattle.mx_con.specs.ConsoleTexts.{break_text}
 use Rattle.mx_show.specs.Texts.{trace_text}
 use Rattle.mx_con.specs.HostLines.{line_write, lines_write}
-use Rattle.mx_con.specs.Session.{Console, Progress, Done, on, over, wild, and_then, with_run, with_host, steps_left, line_done, after_turn, stepped, goes, end_answer, end_done, after_run, one_run, run_on, runs}
+use Rattle.mx_con.specs.Session.{Console, Progress, Done, over, wild, and_then, with_run, steps_left, line_done, after_turn, stepped, goes, end_answer, end_done, after_run, one_run, run_on, runs}
 use Rattle.mx_con.specs.declared.end.SessionEnd.{SessionEnd}
 use Rattle.mx_con.specs.declared.end.SessionEnd.TheVariants.{Spent}
 use Rattle.mx_plan.specs.Plan.{end_of}

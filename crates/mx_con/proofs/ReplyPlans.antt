@@ -1,8 +1,8 @@
 -- What the plan of a command comes to that makes no step.
-use Rattle.std.proofs.Common.{◌≡◌, ◌≢◌, inl, inr, ℕ, ◌+◌, ◌*◌, ◌/◌, List, [], ◌∷◌, Bool, true, false, Option, None, Some, Result, Ok, Err, refl, sym, ◌∙◌, ap, subst}
+use Rattle.std.proofs.Common.{◌≡◌, inl, inr, ℕ, ◌+◌, ◌*◌, ◌/◌, List, [], ◌∷◌, Bool, true, false, Option, None, Some, Result, Ok, Err, refl, sym, ◌∙◌, ap, subst}
 use Rattle.mx_word.specs.Results.{map_ok}
 use Rattle.mx_host.specs.HostModel.{HostModel}
-use Rattle.mx_plan.specs.Plan.{returns, bind, end_of, end_after, Stops, Comes}
+use Rattle.mx_plan.specs.Plan.{returns, bind, end_of, Stops, Comes}
 use Rattle.mx_plan.specs.Calls.{host}
 use Rattle.mx_text.specs.declared.numbers.Form.{Form}
 use Rattle.mx_text.specs.declared.numbers.Form.TheVariants.{Hex}
@@ -21,7 +21,7 @@ use Rattle.mx_show.specs.Texts.{state_text}
 use Rattle.mx_con.specs.Judgement.{bad_text, subject_bad, more_bad, go_to_bad, flag_bad, command_bad, command_wild}
 use Rattle.mx_con.specs.LinePlans.{on_ok, line_plan, lines_plan}
 use Rattle.mx_con.specs.Replies.{reply, reply_to, noted_if, shown_after, octas_after, flag_lines, tetra_count, with_breaks, with_trace}
-use Rattle.mx_con.specs.SessionPlans.{SessionWorld, Part, conversing, beside_machine, on_host, reply_plan, judge_plan, showing, replied, judged, answered_plan}
+use Rattle.mx_con.specs.SessionPlans.{SessionWorld, Part, conversing, on_host, reply_plan, judge_plan, showing, judged, answered_plan}
 use Rattle.mx_show.specs.Subjects.{subject_wild, subject_changed, shown_line, octa_shown}
 use Rattle.mx_con.specs.declared.end.SessionEnd.{SessionEnd}
 use Rattle.mx_con.specs.declared.end.SessionEnd.TheVariants.{OutOfMemory}
@@ -223,25 +223,4 @@ pub untrace-comes : (shown : Option ℕ) (a : ℕ) (s : State) (m : HostModel) (
 unfolding command_bad reply_to command_wild
 untrace-comes shown a s m f g e i = rw i (replied-comes shown shown (command.Untrace a) [] s s m m f (with_flags f (a / 4) (with_trace (f (a / 4)) false)) (Ok tt) e refl (no-lines-come m))
 
-pub ruleset replying = (
-  lacked-comes,
-  state-comes,
-  flags-comes,
-  show-refused,
-  show-comes,
-  change-unread,
-  change-refused,
-  change-not_allowed,
-  change-comes,
-  more-unread,
-  more-refused,
-  more-comes,
-  go-refused,
-  go-comes,
-  break-refused,
-  break-comes,
-  trace-refused,
-  trace-comes,
-  untrace-refused,
-  untrace-comes,
-)
+pub ruleset replying = (lacked-comes, go-comes, break-comes, trace-comes, untrace-comes)

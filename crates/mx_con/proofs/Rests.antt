@@ -1,9 +1,7 @@
 -- What is left of a plan where a part of it was done, where that ended the session, and where nothing is left.
-use Rattle.std.proofs.Common.{◌≡◌, ◌≢◌, Ok, Err, subst, ap, sym, ◌∙◌, refl, ◌≤◌, ℕ, le_refl, arith}
-use Rattle.std.specs.Prelude.{Result, Option}
-use Rattle.mx_host.specs.HostModel.{HostModel}
-use Rattle.mx_plan.specs.Clauses.{Stands}
-use Rattle.mx_plan.specs.Plan.{Plan, returns, bind, Acts, end_of, end_after, Stops, StopsAfter, Comes, IsRest}
+use Rattle.std.proofs.Common.{◌≡◌, ◌≢◌, Ok, Err, subst, ap, sym, ◌∙◌, refl}
+use Rattle.std.specs.Prelude.{Result}
+use Rattle.mx_plan.specs.Plan.{Plan, returns, bind, Acts, end_of, end_after, StopsAfter, Comes, IsRest}
 use Rattle.mx_plan.proofs.Plans.{end_bind, end_returns, stops_first, stops_after}
 use Rattle.mx_con.specs.LinePlans.{on_ok}
 use Rattle.mx_con.specs.declared.end.SessionEnd.{SessionEnd}

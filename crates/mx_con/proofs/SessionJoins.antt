@@ -1,17 +1,16 @@
 -- A session's plan comes to what the session comes to over what stands between two lines, part by part.
-use Rattle.std.proofs.Common.{◌≡◌, ℕ, zero, suc, ◌+◌, ◌-◌, ◌==◌, List, [], ◌∷◌, ◌++◌, Bool, true, false, cond, Option, None, Some, Result, Ok, Err, refl, sym, ◌∙◌, ap, subst}
-use Rattle.mx_host.specs.HostAnswer.{Then, read_answer, write_answer}
+use Rattle.std.proofs.Common.{◌≡◌, ℕ, zero, suc, ◌+◌, ◌==◌, List, [], ◌∷◌, Bool, true, false, cond, Option, None, Some, Result, Ok, Err, refl, sym, ◌∙◌, ap, subst}
+use Rattle.mx_host.specs.HostAnswer.{Then}
 use Rattle.mx_host.specs.HostModel.{HostModel}
-use Rattle.mx_host.specs.declared.faults.HostFault.{HostFault}
 use Rattle.mx_plan.specs.Plan.{returns, bind, end_of, end_after}
-use Rattle.mx_plan.specs.Calls.{host, need, read_plan, write_plan}
+use Rattle.mx_plan.specs.Calls.{host}
 use Rattle.mx_plan.proofs.Plans.{end_bind}
 use Rattle.mx_core.specs.State.{State}
 use Rattle.mx_code.specs.declared.trace.Trace.{Trace}
 use Rattle.mx_run.specs.RunPlans.{running, beside_world, ended_world, look, turn_plan, run_plan}
 use Rattle.mx_run.specs.Runs.{FlagsOf, Ended, run}
 use Rattle.mx_run.specs.Turns.{Answered, turn_answer, turn}
-use Rattle.mx_run.specs.WildRuns.{window_machine, run_by, run_ended}
+use Rattle.mx_run.specs.WildRuns.{window_machine, run_by}
 use Rattle.mx_run.specs.declared.end.BreakKind.{BreakKind}
 use Rattle.mx_run.specs.declared.end.End.{End}
 use Rattle.mx_run.specs.declared.end.End.TheVariants as ending
@@ -23,12 +22,10 @@ use Rattle.mx_cmd.specs.Commands.{command_of}
 use Rattle.mx_cmd.specs.declared.command.Command.{Command}
 use Rattle.mx_cmd.specs.declared.command.Command.TheVariants as command
 use Rattle.mx_con.specs.ConsoleTexts.{break_text}
-use Rattle.mx_show.specs.Texts.{trace_text, ended}
-use Rattle.mx_con.specs.HostLines.{Written, text_write, line_write, after_write, lines_write, byte_read, Reading, with_byte, grown, line_read, without_return, input_slot, output_slot}
-use Rattle.mx_con.specs.HostLines as old
+use Rattle.mx_show.specs.Texts.{trace_text}
+use Rattle.mx_con.specs.HostLines.{Written, text_write, line_write, after_write, lines_write, Reading, line_read, without_return}
 use Rattle.mx_con.specs.Judgement.{command_bad, bad_text}
-use Rattle.mx_con.specs.LinePlans.{on_ok, text_plan, line_plan, lines_plan, byte_plan, grown_plan, LineRead, reading_plan, asking_plan}
-use Rattle.mx_con.specs.LinePlans as lines
+use Rattle.mx_con.specs.LinePlans.{on_ok, text_plan, line_plan, lines_plan, LineRead, reading_plan, asking_plan}
 use Rattle.mx_con.specs.Replies.{Reply, reply_to}
 use Rattle.mx_con.specs.Session.{Console, Progress, Done, on, over, wild, and_then, with_host, write_done, line_done, with_run, steps_left, stepped, goes, break_lines, end_answer, end_done, one_run, runs, with_reply, answered, command_done, with_reading, reading_done, line_of, prompt, asked, one_line, session_lines, most_input, at_start, SessionRun, session_ended, run_of, session}
 use Rattle.mx_con.specs.Session as old_session
@@ -36,7 +33,7 @@ use Rattle.mx_con.specs.SessionPlans.{SessionWorld, conversing, beside_machine, 
 use Rattle.mx_con.specs.SessionPlans as plans
 use Rattle.mx_con.specs.declared.dialog.Dialog.{Dialog}
 use Rattle.mx_con.specs.declared.end.SessionEnd.{SessionEnd}
-use Rattle.mx_con.specs.declared.end.SessionEnd.TheVariants.{Spent, Limit}
+use Rattle.mx_con.specs.declared.end.SessionEnd.TheVariants.{Spent}
 use Rattle.mx_con.specs.declared.judgement.Bad.{Bad}
 use Rattle.mx_con.specs.declared.judgement.Bad.TheVariants.{UnknownCommand}
 use Rattle.mx_word.specs.Lists.{IsFront}

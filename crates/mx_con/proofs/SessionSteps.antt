@@ -1,10 +1,10 @@
 -- Lines of a session as plans: each is asked for, and carried out.
-use Rattle.std.proofs.Common.{◌≡◌, ◌≢◌, inr, ℕ, suc, ◌+◌, ◌-◌, ◌<◌, ◌≤◌, List, [], Option, None, Some, Result, Ok, Err, arith, refl, sym, ◌∙◌, ap, subst}
+use Rattle.std.proofs.Common.{◌≡◌, ℕ, suc, ◌+◌, ◌-◌, ◌<◌, ◌≤◌, List, [], Option, None, Some, Result, Ok, Err, arith, refl, sym, ◌∙◌, ap, subst}
 use Rattle.mx_word.specs.Results.{map_ok}
 use Rattle.mx_host.specs.HostModel.{HostModel}
-use Rattle.mx_plan.specs.Plan.{returns, bind, end_of, end_after, Stops, Comes, IsRest}
+use Rattle.mx_plan.specs.Plan.{returns, bind, end_after, Comes}
 use Rattle.mx_plan.specs.Calls.{host}
-use Rattle.mx_plan.proofs.Plans.{end_bind, end_returns, stops_first, rest_after}
+use Rattle.mx_plan.proofs.Plans.{end_bind, end_returns, stops_first}
 use Rattle.mx_core.specs.State.{State}
 use Rattle.mx_run.specs.Runs.{FlagsOf}
 use Rattle.mx_cmd.specs.Commands.{command_of}
@@ -16,12 +16,14 @@ use Rattle.mx_con.specs.Judgement.{bad_text}
 use Rattle.mx_con.specs.LinePlans.{on_ok, text_plan, line_plan, lines_plan, LineRead, reading_plan, asking_plan}
 use Rattle.mx_con.specs.Replies.{flag_lines, tetra_count}
 use Rattle.mx_con.specs.Session.{prompt, most_input}
-use Rattle.mx_con.specs.SessionPlans.{SessionWorld, Part, conversing, on_host, showing, stepped_plan, continued_plan, answered_plan, command_plan, with_left, line_done, one_line_plan, lines_of_session, end_of_session, session_plan}
+use Rattle.mx_con.specs.SessionPlans.{SessionWorld, Part, conversing, on_host, stepped_plan, continued_plan, answered_plan, command_plan, with_left, line_done, one_line_plan, lines_of_session, end_of_session, session_plan}
 use Rattle.mx_con.specs.declared.dialog.Dialog.{Dialog}
 use Rattle.mx_con.specs.declared.end.SessionEnd.{SessionEnd}
 use Rattle.mx_con.specs.declared.end.SessionEnd.TheVariants.{Quit, Limit, OutOfMemory}
 use Rattle.mx_con.specs.declared.judgement.Bad.TheVariants.{UnknownCommand}
-use Rattle.mx_con.proofs.Rests.{bind-comes, then-comes, part-ends, returned, rest-ended, rest-done}
+use Rattle.mx_con.specs.Clauses.{Proceeds}
+use Rattle.mx_con.proofs.Parts.{Leaves, part-so, left-all, left-next, left-over, left-answer}
+use Rattle.mx_con.proofs.Rests.{then-comes, part-ends, returned}
 use Rattle.mx_con.proofs.ReplyPlans.{shows, state-comes, flags-comes}
 use Rattle.mx_con.proofs.StepPlans.{host-comes}
 
@@ -93,7 +95,11 @@ answered-comes steps shown v w r (command.Trace a) i c = c
 answered-comes steps shown v w r (command.Untrace a) i c = c
 answered-comes steps shown v w r command.Flags i c = c
 
-pub ruleset carrying = (unknown-comes, step-comes, continue-comes, quit-comes, shown-state, shown-flags, answered-comes)
+pub answered-part : {Host : Type 0} {says : Host → Option HostModel} {faults : Host → ℕ} {a b : Host} {v w : SessionWorld} {r : Result (Option ℕ) SessionEnd} (steps : ℕ) (shown : Option ℕ) (command : Command) → IsAnswered command →
+    Proceeds conversing says faults a b v w r (answered_plan shown command) → Proceeds conversing says faults a b v w r (command_plan steps shown (Some command))
+answered-part {v = v} {w = w} {r = r} steps shown command i h = part-so h (λ c. answered-comes steps shown v w r command i c)
+
+pub ruleset carrying = (quit-comes)
 
 -- ---- one line
 
@@ -120,42 +126,42 @@ unfolding one_line_plan
 line-over steps left shown end s m n f c =
     part-ends conversing (line_done steps shown) (on_host (asking_plan left)) end ((s, m), f) ((s, n), f) (host-comes (asking_plan left) s m n f (Err OutOfMemory) (Err end) c)
 
-pub ruleset single_lines = (line-carried, line-over)
-
 -- ---- all lines
 
 left-after : (k i : ℕ) → i < k → k - i ≡ suc (k - (i + 1))
 left-after k i l = omega arith
 
-pub lines-begun : (k steps : ℕ) (d : Dialog) (w : SessionWorld) → IsRest conversing (lines_of_session (k - 0) steps d) w (lines_of_session k steps d) w
-lines-begun k steps d w = let all : k - 0 ≡ k = omega arith in rw all (record { ending = refl; stopping = λ v h. h })
+-- lines from this one on are left
+abbrev pub LinesLeft : {Host : Type 0} → (Host → Option HostModel) → (Host → ℕ) → Host → Host → SessionWorld → SessionWorld → ℕ → ℕ → ℕ → Dialog → Part Dialog → Type 0
+LinesLeft says faults a b start now k i steps d whole = Leaves conversing says faults a b start now (lines_of_session (k - i) steps d) whole
 
-abbrev pub LinesLeft : ℕ → ℕ → ℕ → Dialog → SessionWorld → Part Dialog → SessionWorld → Type 0
-LinesLeft k i steps d v whole start = IsRest conversing (lines_of_session (k - i) steps d) v whole start
+pub lines-begun : {Host : Type 0} (says : Host → Option HostModel) (faults : Host → ℕ) (a : Host) (w : SessionWorld) (k steps : ℕ) (d : Dialog) → LinesLeft says faults a a w w k 0 steps d (lines_of_session k steps d)
+lines-begun says faults a w k steps d = let all : k - 0 ≡ k = omega arith in rw all (left-all conversing says faults a w (lines_of_session k steps d))
 
 lines-more : (k i steps : ℕ) (d : Dialog) → i < k → lines_of_session (k - i) steps d ≡ bind (on_ok (lines_of_session (k - (i + 1)) steps)) (one_line_plan steps d)
 unfolding lines_of_session
 lines-more k i steps d l = rw (left-after k i l) refl
 
-one-and-more : (k i steps : ℕ) (d : Dialog) (v start : SessionWorld) (whole : Part Dialog) → i < k → LinesLeft k i steps d v whole start →
-    IsRest conversing (bind (on_ok (lines_of_session (k - (i + 1)) steps)) (one_line_plan steps d)) v whole start
-one-and-more k i steps d v start whole l r = subst (λ p. IsRest conversing p v whole start) (lines-more k i steps d l) r
+one-and-more : {Host : Type 0} (says : Host → Option HostModel) (faults : Host → ℕ) (a b : Host) (start v : SessionWorld) (k i steps : ℕ) (d : Dialog) (whole : Part Dialog) → i < k →
+    LinesLeft says faults a b start v k i steps d whole → Leaves conversing says faults a b start v (bind (on_ok (lines_of_session (k - (i + 1)) steps)) (one_line_plan steps d)) whole
+one-and-more says faults a b start v k i steps d whole l h = subst (λ p. Leaves conversing says faults a b start v p whole) (lines-more k i steps d l) h
 
-pub lines-went : (k i steps : ℕ) (d e : Dialog) (v w start : SessionWorld) (whole : Part Dialog) → i < k → LinesLeft k i steps d v whole start → (Ok e, w) ≡ end_of conversing (one_line_plan steps d) v →
-    LinesLeft k (i + 1) steps e w whole start
-lines-went k i steps d e v w start whole l r h =
-    rest_after conversing (on_ok (lines_of_session (k - (i + 1)) steps)) (one_line_plan steps d) (Ok e) w v start whole h (one-and-more k i steps d v start whole l r)
+pub lines-went : {Host : Type 0} (says : Host → Option HostModel) (faults : Host → ℕ) (a b c : Host) (start v w : SessionWorld) (k i steps : ℕ) (d e : Dialog) (whole : Part Dialog) → i < k →
+    LinesLeft says faults a b start v k i steps d whole → Proceeds conversing says faults b c v w (Ok e) (one_line_plan steps d) → LinesLeft says faults a c start w k (i + 1) steps e whole
+lines-went says faults a b c start v w k i steps d e whole l h n =
+    left-next conversing says faults a b c start v w e (lines_of_session (k - (i + 1)) steps) (one_line_plan steps d) whole (one-and-more says faults a b start v k i steps d whole l h) n
 
-pub lines-over : (k i steps : ℕ) (d : Dialog) (end : SessionEnd) (v w start : SessionWorld) (whole : Part Dialog) → i < k → LinesLeft k i steps d v whole start →
-    Comes conversing v w (Err OutOfMemory) (Err end) (one_line_plan steps d) → Comes conversing start w (Err OutOfMemory) (Err end) whole
-lines-over k i steps d end v w start whole l r c =
-    rest-ended conversing (lines_of_session (k - (i + 1)) steps) (one_line_plan steps d) end v w start whole (one-and-more k i steps d v start whole l r) c
+pub lines-over : {Host : Type 0} (says : Host → Option HostModel) (faults : Host → ℕ) (a b c : Host) (start v w : SessionWorld) (k i steps : ℕ) (d : Dialog) (end : SessionEnd) (whole : Part Dialog) → i < k →
+    LinesLeft says faults a b start v k i steps d whole → Proceeds conversing says faults b c v w (Err end) (one_line_plan steps d) → Proceeds conversing says faults a c start w (Err end) whole
+lines-over says faults a b c start v w k i steps d end whole l h n =
+    left-over conversing says faults a b c start v w end (lines_of_session (k - (i + 1)) steps) (one_line_plan steps d) whole (one-and-more says faults a b start v k i steps d whole l h) n
 
-pub lines-limit : (k i steps : ℕ) (d : Dialog) (w start : SessionWorld) (whole : Part Dialog) → k ≤ i → LinesLeft k i steps d w whole start → Comes conversing start w (Err OutOfMemory) (Err Limit) whole
+pub lines-limit : {Host : Type 0} (says : Host → Option HostModel) (faults : Host → ℕ) (a b : Host) (start w : SessionWorld) (k i steps : ℕ) (d : Dialog) (whole : Part Dialog) → k ≤ i →
+    LinesLeft says faults a b start w k i steps d whole → Proceeds conversing says faults a b start w (Err Limit) whole
 unfolding lines_of_session
-lines-limit k i steps d w start whole l r =
+lines-limit says faults a b start w k i steps d whole l h =
     let none : k - i ≡ 0 = omega arith in
-    rest-done conversing (Err Limit) w start whole (λ o. absurd (cc)) (subst (λ n. IsRest conversing (lines_of_session n steps d) w whole start) none r)
+    left-answer conversing says faults a b start w (Err Limit) whole (λ o. absurd (cc)) (λ o. absurd (cc)) (subst (λ n. Leaves conversing says faults a b start w (lines_of_session n steps d) whole) none h)
 
 -- ---- a session
 

@@ -1,10 +1,12 @@
 -- Steps and runs as plans.
-use Rattle.std.proofs.Common.{◌≡◌, ◌≢◌, ◌⊎◌, inl, inr, ℕ, suc, ◌+◌, ◌-◌, ◌<◌, ◌≤◌, ◌==◌, Bool, true, false, cond, Option, None, Some, Result, Ok, Err, arith, refl, sym, ◌∙◌, ap, subst}
+use Rattle.std.proofs.Common.{◌≡◌, ◌≢◌, ◌⊎◌, inl, inr, ℕ, suc, ◌+◌, ◌-◌, ◌<◌, ◌≤◌, ◌==◌, Bool, true, false, cond, Option, None, Some, Result, Ok, Err, arith, refl, sym, ◌∙◌, ap, subst, IsTrue}
 use Rattle.std.proofs.lemmas.Bool.Decides.{nat_tests}
-use Rattle.mx_host.specs.HostModel.{HostModel}
-use Rattle.mx_plan.specs.Plan.{returns, bind, end_of, end_after, Stops, StopsAfter, Comes, IsRest}
+use Rattle.mx_host.specs.HostModel.{HostModel, tells, contents}
+use Rattle.mx_plan.specs.Plan.{returns, bind, end_of, Stops, Comes, IsRest}
 use Rattle.mx_plan.specs.Calls.{host, HostPlan}
-use Rattle.mx_plan.proofs.Plans.{end_bind, stops_first, stops_after, end_returns, rest_after}
+use Rattle.mx_plan.proofs.Plans.{stops_first}
+use Rattle.mx_plan.proofs.Standing.{stands-all}
+use Rattle.mx_plan.specs.Clauses.{Stands}
 use Rattle.mx_core.specs.State.{State}
 use Rattle.mx_code.specs.declared.trace.Trace.{Trace}
 use Rattle.mx_run.specs.RunPlans.{RunWorld, running, look, turn_plan, run_plan}
@@ -17,10 +19,12 @@ use Rattle.mx_run.specs.declared.turn_answer.TurnAnswer.TheVariants as answer
 use Rattle.mx_con.specs.ConsoleTexts.{break_text}
 use Rattle.mx_show.specs.Texts.{trace_text}
 use Rattle.mx_con.specs.LinePlans.{on_ok, line_plan}
-use Rattle.mx_con.specs.SessionPlans.{SessionWorld, SessionPlan, Part, conversing, beside_machine, beside_flags, on_host, on_run, trace_plan, count_plan, flags_plan, traced_plan, after_turn, turn_at, turned_plan, stepped_plan, step_if, broke_plan, break_plan, after_end, run_from, one_run_plan, runs_plan, run_on, continued_plan}
+use Rattle.mx_con.specs.SessionPlans.{SessionWorld, Part, conversing, beside_machine, beside_flags, on_host, on_run, trace_plan, count_plan, flags_plan, traced_plan, after_turn, turn_at, turned_plan, stepped_plan, broke_plan, break_plan, after_end, one_run_plan, runs_plan, run_on, continued_plan}
 use Rattle.mx_con.specs.declared.end.SessionEnd.{SessionEnd}
 use Rattle.mx_con.specs.declared.end.SessionEnd.TheVariants.{Halted, Stopped, Spent, OutOfMemory}
-use Rattle.mx_con.proofs.Rests.{bind-comes, then-comes, part-ends, returned, rest-ended, rest-done}
+use Rattle.mx_con.specs.Clauses.{Proceeds, Talks}
+use Rattle.mx_con.proofs.Parts.{Leaves, part-then, part-over, part-done, part-so, part-alone, part-behind, left-next, left-over, left-answer}
+use Rattle.mx_con.proofs.Rests.{bind-comes, then-comes, part-ends, returned}
 use Rattle.mx_con.proofs.SessionEnds.{end_on_host, stops_on_host, end_on_run, stops_on_run}
 
 -- ---- over the host alone
@@ -57,29 +61,32 @@ pub untraced-broke : (kind : BreakKind) (at : ℕ) (trace : Trace) (s : State) (
 untraced-broke kind at trace s m n f end c =
     part-ends conversing (λ (v : Unit {0}). broke_plan kind at) (traced_plan trace) end ((s, m), f) ((s, n), f) (traced-comes trace s m n f (Err end) c)
 
-pub ruleset breaking = (broke-comes, traced-broke, untraced-broke)
-
 -- ---- the end of a run
 
-pub broke-ended : (kind : BreakKind) (at : ℕ) (traced : Option Trace) (v w : SessionWorld) (u : Unit {0}) → Comes conversing v w (Err OutOfMemory) (Ok u) (break_plan kind at traced) →
-    Comes conversing v w (Err OutOfMemory) (Ok false) (after_end (ending.Broke kind at traced))
-broke-ended kind at traced v w u c =
-    then-comes conversing (λ (x : Unit {0}). returns (Ok false)) (break_plan kind at traced) u v w w (Ok false) (c.ending (λ e. absurd (cc))) (returned conversing (Ok false) w (λ e. absurd (cc)))
+pub broke-ended : {Host : Type 0} {says : Host → Option HostModel} {faults : Host → ℕ} {a b : Host} (kind : BreakKind) (at : ℕ) (traced : Option Trace) (v w : SessionWorld) →
+    Proceeds conversing says faults a b v w (Ok tt) (break_plan kind at traced) → Proceeds conversing says faults a b v w (Ok false) (after_end (ending.Broke kind at traced))
+broke-ended {says = says} {faults = faults} {a = a} {b = b} kind at traced v w h =
+    part-then conversing says faults a b b v w w tt (Ok false) (λ u. returns (Ok false)) (break_plan kind at traced) h (part-done conversing says faults b w (Ok false) (λ e. absurd (cc)) (λ e. absurd (cc)))
 
-pub broke-over : (kind : BreakKind) (at : ℕ) (traced : Option Trace) (v w : SessionWorld) (end : SessionEnd) → Comes conversing v w (Err OutOfMemory) (Err end) (break_plan kind at traced) →
-    Comes conversing v w (Err OutOfMemory) (Err end) (after_end (ending.Broke kind at traced))
-broke-over kind at traced v w end c = part-ends conversing (λ (x : Unit {0}). returns (Ok false)) (break_plan kind at traced) end v w c
+pub broke-over : {Host : Type 0} {says : Host → Option HostModel} {faults : Host → ℕ} {a b : Host} (kind : BreakKind) (at : ℕ) (traced : Option Trace) (v w : SessionWorld) (end : SessionEnd) →
+    Proceeds conversing says faults a b v w (Err end) (break_plan kind at traced) → Proceeds conversing says faults a b v w (Err end) (after_end (ending.Broke kind at traced))
+broke-over {says = says} {faults = faults} {a = a} {b = b} kind at traced v w end h = part-over conversing says faults a b v w end (λ u. returns (Ok false)) (break_plan kind at traced) h
 
-pub traced-ended : (trace : Trace) (s : State) (m n : HostModel) (f : FlagsOf) (u : Unit {0}) → Comes host m n (Err OutOfMemory) (Ok u) (line_plan (trace_text trace s)) →
-    Comes conversing ((s, m), f) ((s, n), f) (Err OutOfMemory) (Ok true) (after_end (ending.Traced trace))
-traced-ended trace s m n f u c =
-    then-comes conversing (λ (x : Unit {0}). returns (Ok true)) (traced_plan trace) u ((s, m), f) ((s, n), f) ((s, n), f) (Ok true)
-    ((traced-comes trace s m n f (Ok u) c).ending (λ e. absurd (cc))) (returned conversing (Ok true) ((s, n), f) (λ e. absurd (cc)))
+-- the line of a step, as a part of a session
+traced-part : {Host : Type 0} (says : Host → Option HostModel) (faults : Host → ℕ) (a b : Host) (trace : Trace) (s : State) (f : FlagsOf) (r : Result (Unit {0}) SessionEnd) →
+    Talks says faults a b r (line_plan (trace_text trace s)) → Proceeds conversing says faults a b ((s, contents (says a)), f) ((s, contents (says b)), f) r (traced_plan trace)
+traced-part says faults a b trace s f r h = part-so h (λ c. traced-comes trace s (contents (says a)) (contents (says b)) f r c)
 
-pub traced-over : (trace : Trace) (s : State) (m n : HostModel) (f : FlagsOf) (end : SessionEnd) → Comes host m n (Err OutOfMemory) (Err end) (line_plan (trace_text trace s)) →
-    Comes conversing ((s, m), f) ((s, n), f) (Err OutOfMemory) (Err end) (after_end (ending.Traced trace))
-traced-over trace s m n f end c =
-    part-ends conversing (λ (x : Unit {0}). returns (Ok true)) (traced_plan trace) end ((s, m), f) ((s, n), f) (traced-comes trace s m n f (Err end) c)
+pub traced-ended : {Host : Type 0} {says : Host → Option HostModel} {faults : Host → ℕ} {a b : Host} (trace : Trace) (s : State) (f : FlagsOf) → Talks says faults a b (Ok tt) (line_plan (trace_text trace s)) →
+    Proceeds conversing says faults a b ((s, contents (says a)), f) ((s, contents (says b)), f) (Ok true) (after_end (ending.Traced trace))
+traced-ended {says = says} {faults = faults} {a = a} {b = b} trace s f h =
+    part-then conversing says faults a b b _ _ _ tt (Ok true) (λ u. returns (Ok true)) (traced_plan trace) (traced-part says faults a b trace s f (Ok tt) h)
+    (part-done conversing says faults b _ (Ok true) (λ e. absurd (cc)) (λ e. absurd (cc)))
+
+pub traced-over : {Host : Type 0} {says : Host → Option HostModel} {faults : Host → ℕ} {a b : Host} (trace : Trace) (s : State) (f : FlagsOf) (end : SessionEnd) → Talks says faults a b (Err end) (line_plan (trace_text trace s)) →
+    Proceeds conversing says faults a b ((s, contents (says a)), f) ((s, contents (says b)), f) (Err end) (after_end (ending.Traced trace))
+traced-over {says = says} {faults = faults} {a = a} {b = b} trace s f end h =
+    part-over conversing says faults a b _ _ end (λ u. returns (Ok true)) (traced_plan trace) (traced-part says faults a b trace s f (Err end) h)
 
 pub halted-ended : (status : ℕ) (w : SessionWorld) → Comes conversing w w (Err OutOfMemory) (Err (Halted status)) (after_end (ending.Halted status))
 halted-ended status w = returned conversing (Err (Halted status)) w (λ e. absurd (cc))
@@ -90,7 +97,7 @@ stopped-ended pc reason w = returned conversing (Err (Stopped pc reason)) w (λ 
 pub spent-ended : (w : SessionWorld) → Comes conversing w w (Err OutOfMemory) (Err Spent) (after_end ending.Spent)
 spent-ended w = returned conversing (Err Spent) w (λ e. absurd (cc))
 
-pub ruleset ended_runs = (broke-ended, broke-over, traced-ended, traced-over, halted-ended, stopped-ended, spent-ended)
+pub ruleset ended_runs = (halted-ended, stopped-ended, spent-ended)
 
 -- ---- one run
 
@@ -130,9 +137,22 @@ pub one-run-made : (steps n : ℕ) (pass : Bool) (f g : FlagsOf) (end : End) (s 
     Comes conversing ((s, m), f) ((t, u), g) (Err OutOfMemory) r (one_run_plan steps pass)
 one-run-made steps n pass f g end s t m k u r e fl h c lacked same = rw fl (one-run-comes steps n pass f end s t m k u r e h (subst (λ x. Finishes end t k u x r) fl c) lacked same)
 
--- a run that is carried out ended with memory
-pub ended-memory : (end : End) (v w : SessionWorld) (r : Result Bool SessionEnd) → (end ≡ ending.OutOfMemory → r ≡ Err OutOfMemory) → r ≢ Err OutOfMemory → end ≢ ending.OutOfMemory
-ended-memory end v w r h ne e = ne (h e)
+-- where a run lacked memory, no call of the host follows it
+pub one-run-part : {Host : Type 0} (says : Host → Option HostModel) (faults : Host → ℕ) (a b c : Host) (steps n : ℕ) (pass : Bool) (f g : FlagsOf) (end : End) (s t : State) (r : Result Bool SessionEnd) → n ≡ steps - s.steps →
+    g ≡ f → Stands (says a) (says b) (faults a) (faults b) → (IsTrue (tells (says a)) → Comes running (s, contents (says a)) (t, contents (says b)) ending.OutOfMemory end (run_plan n f pass)) →
+    (end ≢ ending.OutOfMemory → Proceeds conversing says faults b c ((t, contents (says b)), g) ((t, contents (says c)), g) r (after_end end)) →
+    (end ≡ ending.OutOfMemory → r ≡ Err OutOfMemory) → (end ≡ ending.OutOfMemory → c ≡ b) →
+    Proceeds conversing says faults a c ((s, contents (says a)), f) ((t, contents (says c)), g) r (one_run_plan steps pass)
+one-run-part {Host} says faults a b c steps n pass f g end s t r e fl h run k lacked same = by (wanting end)
+  where
+    made : IsTrue (tells (says a)) → Comes conversing ((s, contents (says a)), f) ((t, contents (says c)), g) (Err OutOfMemory) r (one_run_plan steps pass)
+    made v =
+        one-run-made steps n pass f g end s t (contents (says a)) (contents (says b)) (contents (says c)) r e fl (run v)
+        (λ ne. (k ne).told (subst IsTrue (sym h.0) v)) lacked (λ o. ap (λ (x : Host). contents (says x)) (same o))
+
+    by : (end ≡ ending.OutOfMemory) ⊎ (end ≢ ending.OutOfMemory) → Proceeds conversing says faults a c ((s, contents (says a)), f) ((t, contents (says c)), g) r (one_run_plan steps pass)
+    by (inl o) = part-alone (subst (λ (x : Host). Stands (says a) (says x) (faults a) (faults x)) (sym (same o)) h) (λ x. let lost = lacked o in absurd (cc)) made
+    by (inr ne) = part-behind h (k ne) (λ x. x) (λ v x. made v)
 
 -- ---- one step
 
@@ -220,43 +240,49 @@ pub ruleset stepping = (step-spent)
 left-after : (k i : ℕ) → i < k → k - i ≡ suc (k - (i + 1))
 left-after k i l = omega arith
 
-pub runs-begun : (steps most : ℕ) (s : State) (m : HostModel) (f : FlagsOf) → most ≡ steps - s.steps →
+-- runs from this one on are left
+abbrev pub RunsLeft : {Host : Type 0} → (Host → Option HostModel) → (Host → ℕ) → Host → Host → SessionWorld → SessionWorld → ℕ → ℕ → ℕ → Bool → Part (Unit {0}) → Type 0
+RunsLeft says faults a b start now n i steps pass whole = Leaves conversing says faults a b start now (runs_plan (n - i) steps pass) whole
+
+begun : (steps most : ℕ) (s : State) (m : HostModel) (f : FlagsOf) → most ≡ steps - s.steps →
     IsRest conversing (runs_plan (most - 0) steps true) ((s, m), f) (continued_plan steps) ((s, m), f)
 unfolding continued_plan count_plan bind end_of Stops conversing
-runs-begun steps most s m f e =
+begun steps most s m f e =
     let all : most - 0 ≡ steps - s.steps = omega (arith, e) in
     rw all (record { ending = refl; stopping = λ v h. inr h })
+
+pub runs-begun : {Host : Type 0} (says : Host → Option HostModel) (faults : Host → ℕ) (a : Host) (steps most : ℕ) (s : State) (f : FlagsOf) → most ≡ steps - s.steps →
+    RunsLeft says faults a a ((s, contents (says a)), f) ((s, contents (says a)), f) most 0 steps true (continued_plan steps)
+runs-begun says faults a steps most s f e = record { told = λ t. begun steps most s (contents (says a)) f e; stands = stands-all (says a) (faults a) }
 
 runs-more : (n i steps : ℕ) (pass : Bool) → i < n → runs_plan (n - i) steps pass ≡ bind (on_ok (run_on (runs_plan (n - (i + 1)) steps false))) (one_run_plan steps pass)
 unfolding runs_plan
 runs-more n i steps pass l = rw (left-after n i l) refl
 
-abbrev pub RunsLeft : ℕ → ℕ → ℕ → Bool → SessionWorld → Part (Unit {0}) → SessionWorld → Type 0
-RunsLeft n i steps pass v whole start = IsRest conversing (runs_plan (n - i) steps pass) v whole start
+one-and-more : {Host : Type 0} (says : Host → Option HostModel) (faults : Host → ℕ) (a b : Host) (start v : SessionWorld) (n i steps : ℕ) (pass : Bool) (whole : Part (Unit {0})) → i < n →
+    RunsLeft says faults a b start v n i steps pass whole →
+    Leaves conversing says faults a b start v (bind (on_ok (run_on (runs_plan (n - (i + 1)) steps false))) (one_run_plan steps pass)) whole
+one-and-more says faults a b start v n i steps pass whole l h = subst (λ p. Leaves conversing says faults a b start v p whole) (runs-more n i steps pass l) h
 
-one-and-more : (n i steps : ℕ) (pass : Bool) (v start : SessionWorld) (whole : Part (Unit {0})) → i < n → RunsLeft n i steps pass v whole start →
-    IsRest conversing (bind (on_ok (run_on (runs_plan (n - (i + 1)) steps false))) (one_run_plan steps pass)) v whole start
-one-and-more n i steps pass v start whole l r = subst (λ p. IsRest conversing p v whole start) (runs-more n i steps pass l) r
+pub runs-went : {Host : Type 0} (says : Host → Option HostModel) (faults : Host → ℕ) (a b c : Host) (start v w : SessionWorld) (n i steps : ℕ) (pass : Bool) (whole : Part (Unit {0})) → i < n →
+    RunsLeft says faults a b start v n i steps pass whole → Proceeds conversing says faults b c v w (Ok true) (one_run_plan steps pass) → RunsLeft says faults a c start w n (i + 1) steps false whole
+runs-went says faults a b c start v w n i steps pass whole l h k =
+    left-next conversing says faults a b c start v w true (run_on (runs_plan (n - (i + 1)) steps false)) (one_run_plan steps pass) whole (one-and-more says faults a b start v n i steps pass whole l h) k
 
-pub runs-went : (n i steps : ℕ) (pass : Bool) (v w start : SessionWorld) (whole : Part (Unit {0})) → i < n → RunsLeft n i steps pass v whole start →
-    (Ok true, w) ≡ end_of conversing (one_run_plan steps pass) v → RunsLeft n (i + 1) steps false w whole start
-runs-went n i steps pass v w start whole l r e =
-    rest_after conversing (on_ok (run_on (runs_plan (n - (i + 1)) steps false))) (one_run_plan steps pass) (Ok true) w v start whole e (one-and-more n i steps pass v start whole l r)
+pub runs-paused : {Host : Type 0} (says : Host → Option HostModel) (faults : Host → ℕ) (a b c : Host) (start v w : SessionWorld) (n i steps : ℕ) (pass : Bool) (whole : Part (Unit {0})) → i < n →
+    RunsLeft says faults a b start v n i steps pass whole → Proceeds conversing says faults b c v w (Ok false) (one_run_plan steps pass) → Proceeds conversing says faults a c start w (Ok tt) whole
+runs-paused says faults a b c start v w n i steps pass whole l h k =
+    left-answer conversing says faults a c start w (Ok tt) whole (λ o. absurd (cc)) (λ o. absurd (cc))
+    (left-next conversing says faults a b c start v w false (run_on (runs_plan (n - (i + 1)) steps false)) (one_run_plan steps pass) whole (one-and-more says faults a b start v n i steps pass whole l h) k)
 
-pub runs-paused : (n i steps : ℕ) (pass : Bool) (v w start : SessionWorld) (whole : Part (Unit {0})) → i < n → RunsLeft n i steps pass v whole start →
-    (Ok false, w) ≡ end_of conversing (one_run_plan steps pass) v → Comes conversing start w (Err OutOfMemory) (Ok tt) whole
-runs-paused n i steps pass v w start whole l r e =
-    rest-done conversing (Ok tt) w start whole (λ o. absurd (cc))
-    (rest_after conversing (on_ok (run_on (runs_plan (n - (i + 1)) steps false))) (one_run_plan steps pass) (Ok false) w v start whole e (one-and-more n i steps pass v start whole l r))
+pub runs-over : {Host : Type 0} (says : Host → Option HostModel) (faults : Host → ℕ) (a b c : Host) (start v w : SessionWorld) (n i steps : ℕ) (pass : Bool) (end : SessionEnd) (whole : Part (Unit {0})) → i < n →
+    RunsLeft says faults a b start v n i steps pass whole → Proceeds conversing says faults b c v w (Err end) (one_run_plan steps pass) → Proceeds conversing says faults a c start w (Err end) whole
+runs-over says faults a b c start v w n i steps pass end whole l h k =
+    left-over conversing says faults a b c start v w end (run_on (runs_plan (n - (i + 1)) steps false)) (one_run_plan steps pass) whole (one-and-more says faults a b start v n i steps pass whole l h) k
 
-pub runs-over : (n i steps : ℕ) (pass : Bool) (end : SessionEnd) (v w start : SessionWorld) (whole : Part (Unit {0})) → i < n → RunsLeft n i steps pass v whole start →
-    Comes conversing v w (Err OutOfMemory) (Err end) (one_run_plan steps pass) → Comes conversing start w (Err OutOfMemory) (Err end) whole
-runs-over n i steps pass end v w start whole l r c =
-    rest-ended conversing (run_on (runs_plan (n - (i + 1)) steps false)) (one_run_plan steps pass) end v w start whole (one-and-more n i steps pass v start whole l r) c
-
-pub runs-spent : (n i steps : ℕ) (pass : Bool) (w start : SessionWorld) (whole : Part (Unit {0})) → n ≤ i → RunsLeft n i steps pass w whole start →
-    Comes conversing start w (Err OutOfMemory) (Err Spent) whole
+pub runs-spent : {Host : Type 0} (says : Host → Option HostModel) (faults : Host → ℕ) (a b : Host) (start w : SessionWorld) (n i steps : ℕ) (pass : Bool) (whole : Part (Unit {0})) → n ≤ i →
+    RunsLeft says faults a b start w n i steps pass whole → Proceeds conversing says faults a b start w (Err Spent) whole
 unfolding runs_plan
-runs-spent n i steps pass w start whole l r =
+runs-spent says faults a b start w n i steps pass whole l h =
     let none : n - i ≡ 0 = omega arith in
-    rest-done conversing (Err Spent) w start whole (λ o. absurd (cc)) (subst (λ k. IsRest conversing (runs_plan k steps pass) w whole start) none r)
+    left-answer conversing says faults a b start w (Err Spent) whole (λ o. absurd (cc)) (λ o. absurd (cc)) (subst (λ k. Leaves conversing says faults a b start w (runs_plan k steps pass) whole) none h)

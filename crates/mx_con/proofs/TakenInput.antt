@@ -1,14 +1,13 @@
 -- A session takes at most so many bytes of the console's input.
-use Rattle.std.proofs.Common.{◌≡◌, ℕ, zero, suc, ◌≤◌, ◌+◌, ◌-◌, ◌==◌, List, [], ◌∷◌, ◌++◌, length, Bool, true, false, cond, Ok, Err, None, Some, le_refl, arith}
+use Rattle.std.proofs.Common.{ℕ, zero, suc, ◌≤◌, ◌+◌, ◌-◌, ◌==◌, List, [], ◌∷◌, ◌++◌, length, Bool, true, false, cond, Ok, Err, None, Some, le_refl, arith}
 use Rattle.std.specs.Prelude.{Option, Result}
-use Rattle.mx_plan.specs.Plan.{Plan, returns, calls, bind}
+use Rattle.mx_plan.specs.Plan.{returns, calls, bind}
 use Rattle.mx_host.specs.declared.faults.HostFault.{HostFault}
-use Rattle.mx_plan.specs.Calls.{HostCall, HostSays, HostPlan, reading, read_plan, write_plan, need}
+use Rattle.mx_plan.specs.Calls.{HostPlan, reading, read_plan, write_plan, need}
 use Rattle.mx_plan.specs.Taking.{CanSay, taken, Spares}
 use Rattle.mx_plan.proofs.Taking.{spares-bind, spares-returns, need-spares, write-spares}
 use Rattle.mx_code.specs.declared.trace.Trace.{Trace}
 use Rattle.mx_run.specs.RunPlans.{RunPlan, turn_plan, look, run_plan}
-use Rattle.mx_run.specs.Runs.{FlagsOf}
 use Rattle.mx_run.specs.declared.end.BreakKind.{BreakKind}
 use Rattle.mx_run.specs.declared.end.End.{End}
 use Rattle.mx_run.specs.declared.end.End.TheVariants as ending
@@ -21,13 +20,13 @@ use Rattle.mx_con.specs.ConsoleTexts.{break_text}
 use Rattle.mx_show.specs.Texts.{ended}
 use Rattle.mx_con.specs.HostLines.{without_return}
 use Rattle.mx_con.specs.Judgement.{bad_text}
-use Rattle.mx_con.specs.LinePlans.{on_ok, written, text_plan, line_plan, lines_plan, byte_of, byte_plan, Growing, last_line, with_byte, after_byte, grown_plan, LineRead, after_growing, reading_plan, asking_plan}
+use Rattle.mx_con.specs.LinePlans.{on_ok, written, text_plan, line_plan, lines_plan, byte_of, byte_plan, Growing, last_line, after_byte, grown_plan, LineRead, after_growing, reading_plan, asking_plan}
 use Rattle.mx_con.specs.Session.{most_input, prompt}
-use Rattle.mx_con.specs.SessionPlans.{SessionCall, SessionSays, SessionPlan, of_host, of_run, replying, counting, flagging, tracing, judging, Part, on_host, on_run, reply_plan, count_plan, flags_plan, trace_plan, judge_plan, traced_plan, after_turn, turn_at, turned_plan, step_if, stepped_plan, going, broke_plan, break_plan, after_end, run_from, one_run_plan, run_on, runs_plan, continued_plan, showing, refused, replied, judged, answered_plan, command_plan, with_left, line_done, one_line_plan, lines_of_session, end_of_session, session_plan}
+use Rattle.mx_con.specs.SessionPlans.{SessionPlan, of_host, of_run, replying, counting, flagging, tracing, judging, Part, on_host, on_run, reply_plan, count_plan, flags_plan, trace_plan, judge_plan, traced_plan, after_turn, turn_at, turned_plan, step_if, stepped_plan, going, broke_plan, break_plan, after_end, run_from, one_run_plan, run_on, runs_plan, continued_plan, showing, replied, judged, answered_plan, command_plan, with_left, line_done, one_line_plan, lines_of_session, end_of_session, session_plan}
 use Rattle.mx_con.specs.Taking.{Takes, TakesAtMost}
 use Rattle.mx_con.specs.declared.dialog.Dialog.{Dialog}
 use Rattle.mx_con.specs.declared.end.SessionEnd.{SessionEnd}
-use Rattle.mx_con.specs.declared.end.SessionEnd.TheVariants.{Halted, Stopped, Spent, Quit, Limit, OutOfMemory}
+use Rattle.mx_con.specs.declared.end.SessionEnd.TheVariants.{Spent, Limit}
 use Rattle.mx_con.specs.declared.judgement.Bad.{Bad}
 use Rattle.mx_con.specs.declared.judgement.Bad.TheVariants.{UnknownCommand}
 

@@ -1,9 +1,15 @@
 -- The words of clauses over a runner, a session and a host: `old` and `new` are what the host told before and after, r
--- and s the runners, d and e what the session remembers.
+-- and s the runners, d and e what the session remembers. The words of parts take the host itself before and after, with what
+-- it tells (`says`) and its count of faults as functions.
 use Rattle.std.specs.Prelude.{ℕ, ◌≡◌, ◌≢◌, ◌≤◌, ◌+◌, ◌-◌, IsTrue, false, List, Option, Result, Err}
 use Rattle.mx_word.specs.Lists.{IsFront}
+use Rattle.mx_word.specs.Results.{map_ok}
 use Rattle.mx_host.specs.HostModel.{HostModel, tells, contents}
-use Rattle.mx_plan.specs.Plan.{Comes}
+use Rattle.mx_host.specs.Keeping.{OnlyByFailure}
+use Rattle.mx_plan.specs.Calls.{host, HostPlan}
+use Rattle.mx_plan.specs.Clauses.{Stands}
+use Rattle.mx_plan.specs.Plan.{Plan, Acts, Comes}
+use Rattle.mx_cmd.specs.declared.command.Command.{Command}
 use Rattle.mx_core.specs.Bounds.{as_list_state}
 use Rattle.mx_core.specs.Kept.{state_of}
 use Rattle.mx_run.specs.FlagMaps.{flags_at}
@@ -12,10 +18,10 @@ use Rattle.mx_core.specs.State.{State}
 use Rattle.mx_run.specs.Runs.{FlagsOf}
 use Rattle.mx_run.specs.WildRuns.{MachineKind, window_machine, list_machine}
 use Rattle.mx_con.specs.Session.{Console, Progress, on, over, wild, SessionEnded, SessionRun, session_ended, session_wild}
-use Rattle.mx_con.specs.SessionPlans.{SessionWorld, SessionPlan, conversing}
+use Rattle.mx_con.specs.SessionPlans.{SessionWorld, SessionPlan, Part, conversing, answered_plan}
 use Rattle.mx_con.specs.declared.dialog.Dialog.{Dialog}
 use Rattle.mx_con.specs.declared.end.SessionEnd.{SessionEnd}
-use Rattle.mx_con.specs.declared.end.SessionEnd.TheVariants.{OutOfMemory}
+use Rattle.mx_con.specs.declared.end.SessionEnd.TheVariants.{HostFault, OutOfMemory}
 
 -- the machine, the host and the flags
 abbrev pub world_of : Running → Option HostModel → SessionWorld
@@ -27,6 +33,32 @@ world_of r told = ((state_of r.machine, contents told), flags_at r.flags)
 abbrev pub CarriesOutSession : {A : Type 0} → Option HostModel → Option HostModel → Running → Running → A → A → SessionPlan A → Type 0
 CarriesOutSession old new r s none result plan =
     IsTrue (tells old) → Comes conversing (world_of r old) (world_of s new) none result plan
+
+-- ---- PARTS of a session
+
+-- A part proceeds. Over a host that tells its contents its plan is carried out, from the world `first` to `last`, as `CarriesOut`
+-- says it. Over every host, as long as the slots of the console lead to the streams, it ends the session with a fault of the host
+-- only by a call that failed; and what stands of a host stands.
+pub record Proceeds {O : Type 0} {R : O → Type 0} {W Host A : Type 0} (d : Acts O R W) (says : Host → Option HostModel) (faults : Host → ℕ)
+    (old new : Host) (first last : W) (result : Result A SessionEnd) (plan : Plan O R (Result A SessionEnd)) : Type 0 where
+  pub told : IsTrue (tells (says old)) → Comes d first last (Err OutOfMemory) result plan
+  pub cause : OnlyByFailure (says old) (Err HostFault) result (faults old) (faults new)
+  pub stands : Stands (says old) (says new) (faults old) (faults new)
+
+-- over the host alone
+abbrev pub Talks : {Host A : Type 0} → (Host → Option HostModel) → (Host → ℕ) → Host → Host → Result A SessionEnd → HostPlan (Result A SessionEnd) → Type 0
+Talks says faults old new result plan = Proceeds host says faults old new (contents (says old)) (contents (says new)) result plan
+
+-- over the machine, the flags and the host
+abbrev pub Converses : {Host A : Type 0} → (Host → Option HostModel) → (Host → ℕ) → Host → Host → Running → Running → Result A SessionEnd → Part A → Type 0
+Converses says faults old new r s result plan =
+    Proceeds conversing says faults old new (world_of r (says old)) (world_of s (says new)) result plan
+
+-- the reply to a command that makes no step; `shown` and `after` are the address of the octa that was shown last, before and after
+abbrev pub Responds : {Host : Type 0} → (Host → Option HostModel) → (Host → ℕ) → Host → Host → Running → Running → Option ℕ → Option ℕ →
+    Result (Unit {0}) SessionEnd → Command → Type 0
+Responds says faults old new r s shown after result command =
+    Converses says faults old new r s (map_ok (λ u. after) result) (answered_plan shown command)
 
 -- what stands between two lines
 abbrev pub console_of : Running → Dialog → Option HostModel → Console

@@ -6,7 +6,6 @@ use Rattle.std.specs.Prelude.{ℕ, zero, suc, ◌+◌, ◌-◌, ◌==◌, ◌≡
 use Rattle.mx_host.specs.HostModel.{HostModel}
 use Rattle.mx_plan.specs.Plan.{Plan, returns, calls, bind, Acts}
 use Rattle.mx_plan.specs.Calls.{HostCall, HostSays, HostPlan, host}
-use Rattle.mx_core.specs.State.{State}
 use Rattle.mx_code.specs.declared.trace.Trace.{Trace}
 use Rattle.mx_run.specs.RunPlans.{RunCall, RunSays, RunWorld, RunPlan, running, turn_plan, look, run_plan}
 use Rattle.mx_run.specs.Runs.{FlagsOf}

@@ -4,7 +4,7 @@ use Rattle.mx_plan.specs.Plan.{returns, calls}
 use Rattle.mx_plan.specs.Calls.{HostSays}
 use Rattle.mx_plan.specs.Taking.{CanSay, taken}
 use Rattle.mx_con.specs.HostLines.{input_slot}
-use Rattle.mx_con.specs.SessionPlans.{SessionCall, SessionSays, SessionPlan, of_host, of_run, replying, counting, flagging, tracing, judging}
+use Rattle.mx_con.specs.SessionPlans.{SessionSays, SessionPlan, of_host, of_run, replying, counting, flagging, tracing, judging}
 
 -- A part of a session takes at most n bytes of the console's input, whatever its calls answer; where it returns a, it has left
 -- `spare a` of the n. Only its own calls of the host take such bytes.

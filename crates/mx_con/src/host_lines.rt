@@ -1,9 +1,8 @@
 //! Lines over the host: each is written by one call, and read byte by byte.
 
 ghost use Rattle.std.specs.Prelude.{◌≡◌, ◌≢◌, [], ◌<◌, ◌+◌, ◌-◌, ◌==◌, Err, Ok, true, false};
-ghost use Rattle.mx_host.specs.Keeping.{OnlyByFailure};
-ghost use Rattle.mx_plan.specs.Clauses.{CarriesOut, Stands};
 ghost use Rattle.mx_word.specs.Results.{map_ok};
+ghost use Rattle.mx_con.specs.Clauses.{Talks};
 ghost use Rattle.mx_con.specs.HostLines as spec;
 ghost use Rattle.mx_con.specs.LinePlans as plans;
 
@@ -31,11 +30,7 @@ fn end_of(fault: HostFault) -> SessionEnd
 /// Writes a text by one call.
 #[tactic(auto, using(mx_plan::proofs::Plans::plans), unfolding(crate::specs::LinePlans::text_plan))]
 pub(crate) fn write_text<H: Host>(host: &mut H, text: &[u8]) -> Result<(), SessionEnd>
-    ensures told { CarriesOut (H.told host.old) (H.told host.new) (Err SessionEnd.OutOfMemory) result
-        (plans.text_plan text.now) }
-    ensures cause { OnlyByFailure (H.told host.old) (Err SessionEnd.HostFault) result
-        (H.faults host.old) (H.faults host.new) }
-    ensures stands { Stands (H.told host.old) (H.told host.new) (H.faults host.old) (H.faults host.new) }
+    ensures { Talks H.told H.faults host.old host.new result (plans.text_plan text.now) }
 {
     match write(host, OUTPUT, text) {
         Ok(()) => Ok(()),
@@ -46,11 +41,7 @@ pub(crate) fn write_text<H: Host>(host: &mut H, text: &[u8]) -> Result<(), Sessi
 /// Writes a line and its newline by one call.
 #[tactic(auto, using(mx_plan::proofs::Plans::plans, mx_plan::proofs::Plans::needs), unfolding(crate::specs::LinePlans::line_plan))]
 pub(crate) fn write_line<H: Host>(host: &mut H, line: Bytes) -> Result<(), SessionEnd>
-    ensures told { CarriesOut (H.told host.old) (H.told host.new) (Err SessionEnd.OutOfMemory) result
-        (plans.line_plan line) }
-    ensures cause { OnlyByFailure (H.told host.old) (Err SessionEnd.HostFault) result
-        (H.faults host.old) (H.faults host.new) }
-    ensures stands { Stands (H.told host.old) (H.told host.new) (H.faults host.old) (H.faults host.new) }
+    ensures { Talks H.told H.faults host.old host.new result (plans.line_plan line) }
 {
     let mut line = line;
     match line.push(b'\n') {
@@ -62,10 +53,7 @@ pub(crate) fn write_line<H: Host>(host: &mut H, line: Bytes) -> Result<(), Sessi
 /// The next byte of the console's input; None at its end.
 #[tactic(auto, using(crate::proofs::LineReads::bytes, mx_plan::proofs::Plans::plans), unfolding(crate::specs::LinePlans::byte_plan))]
 fn read_byte<H: Host>(host: &mut H) -> Result<Option<u8>, SessionEnd>
-    ensures told { CarriesOut (H.told host.old) (H.told host.new) (Err SessionEnd.OutOfMemory) result plans.byte_plan }
-    ensures cause { OnlyByFailure (H.told host.old) (Err SessionEnd.HostFault) result
-        (H.faults host.old) (H.faults host.new) }
-    ensures stands { Stands (H.told host.old) (H.told host.new) (H.faults host.old) (H.faults host.new) }
+    ensures { Talks H.told H.faults host.old host.new result plans.byte_plan }
 {
     let mut byte = [0u8; 1];
     match read(host, INPUT, &mut byte) {
@@ -79,11 +67,8 @@ fn read_byte<H: Host>(host: &mut H) -> Result<Option<u8>, SessionEnd>
 #[tactic(auto, using(mx_plan::proofs::Plans::plans, mx_plan::proofs::Plans::needs), unfolding(crate::specs::LinePlans::grown_plan))]
 fn grow<H: Host>(host: &mut H, line: &mut Bytes, left: &mut u64) -> Result<bool, SessionEnd>
     requires { 0 < left.old }
-    ensures told { CarriesOut (H.told host.old) (H.told host.new) (Err SessionEnd.OutOfMemory)
-        (map_ok (λ more. (more, line.new, left.new)) result) (plans.grown_plan (left.old - 1) line.old) }
-    ensures cause { OnlyByFailure (H.told host.old) (Err SessionEnd.HostFault) result
-        (H.faults host.old) (H.faults host.new) }
-    ensures stands { Stands (H.told host.old) (H.told host.new) (H.faults host.old) (H.faults host.new) }
+    ensures part { Talks H.told H.faults host.old host.new (map_ok (λ more. (more, line.new, left.new)) result)
+        (plans.grown_plan (left.old - 1) line.old) }
     ensures fewer { result ≡ Ok true → left.new + 1 ≡ left.old }
 {
     match read_byte(host) {
@@ -129,11 +114,8 @@ pub(crate) fn read_line<H: Host>(
     host: &mut H,
     left: &mut u64,
 ) -> Result<Bytes, SessionEnd>
-    ensures told { CarriesOut (H.told host.old) (H.told host.new) (Err SessionEnd.OutOfMemory)
-        (map_ok (λ text. (text, left.new)) result) (plans.reading_plan left.old []) }
-    ensures cause { OnlyByFailure (H.told host.old) (Err SessionEnd.HostFault) result
-        (H.faults host.old) (H.faults host.new) }
-    ensures stands { Stands (H.told host.old) (H.told host.new) (H.faults host.old) (H.faults host.new) }
+    ensures { Talks H.told H.faults host.old host.new (map_ok (λ text. (text, left.new)) result)
+        (plans.reading_plan left.old []) }
 {
     let mut line = Bytes::new(alloc);
     while *left > 0 {

@@ -1,10 +1,9 @@
 //! Lines on several octas and tetras.
 
-ghost use Rattle.std.specs.Prelude.{◌<◌, ◌+◌, ◌*◌, ◌^◌, Err};
-ghost use Rattle.mx_host.specs.Keeping.{OnlyByFailure};
-ghost use Rattle.mx_plan.specs.Clauses.{CarriesOut, Stands};
+ghost use Rattle.std.specs.Prelude.{◌<◌, ◌+◌, ◌*◌, ◌^◌};
 ghost use Rattle.mx_core.specs.Kept.{state_of};
 ghost use Rattle.mx_run.specs.FlagMaps.{flags_at};
+ghost use Rattle.mx_con.specs.Clauses.{Talks};
 ghost use Rattle.mx_con.specs.LinePlans.{line_plan, lines_plan};
 ghost use Rattle.mx_con.specs.ConsoleTexts.{flag_text};
 ghost use Rattle.mx_show.specs.Subjects as subjects;
@@ -22,7 +21,6 @@ use mx_text::Form;
 use std::alloc::Global;
 
 /// Writes the n octas after one, whose addresses are all below 2^63.
-#[tactic(auto, using(crate::proofs::ListedLines::octas))]
 pub(crate) fn write_octas<H: Host>(
     alloc: Global,
     machine: &Machine,
@@ -32,11 +30,8 @@ pub(crate) fn write_octas<H: Host>(
     n: u64,
 ) -> Result<(), SessionEnd>
     requires { a + 8 * n < 2 ^ 63 }
-    ensures told { CarriesOut (H.told host.old) (H.told host.new) (Err SessionEnd.OutOfMemory) result
+    ensures { Talks H.told H.faults host.old host.new result
         (lines_plan (spec.octas_after (state_of machine.now) form a n)) }
-    ensures cause { OnlyByFailure (H.told host.old) (Err SessionEnd.HostFault) result
-        (H.faults host.old) (H.faults host.new) }
-    ensures stands { Stands (H.told host.old) (H.told host.new) (H.faults host.old) (H.faults host.new) }
 {
     for turn in 0..n {
         match write_octa(alloc, machine, host, form, a + 8 * (turn + 1)) {
@@ -57,27 +52,20 @@ fn write_octa<H: Host>(
     a: u64,
 ) -> Result<(), SessionEnd>
     requires { a < 2 ^ 63 }
-    ensures told { CarriesOut (H.told host.old) (H.told host.new) (Err SessionEnd.OutOfMemory) result
+    ensures { Talks H.told H.faults host.old host.new result
         (line_plan (subjects.shown_line (state_of machine.now) (Subject.Memory a) form)) }
-    ensures cause { OnlyByFailure (H.told host.old) (Err SessionEnd.HostFault) result
-        (H.faults host.old) (H.faults host.new) }
-    ensures stands { Stands (H.told host.old) (H.told host.new) (H.faults host.old) (H.faults host.new) }
 {
     write_line(host, shown_line(alloc, machine, Subject::Memory(a), form)?)
 }
 
 /// Writes the lines of all tetras with flags.
-#[tactic(auto, using(crate::proofs::ListedLines::flags))]
 pub(crate) fn write_flags<H: Host>(
     alloc: Global,
     runner: &Runner,
     host: &mut H,
 ) -> Result<(), SessionEnd>
-    ensures told { CarriesOut (H.told host.old) (H.told host.new) (Err SessionEnd.OutOfMemory) result
+    ensures { Talks H.told H.faults host.old host.new result
         (lines_plan (spec.flag_lines (flags_at runner.now.flags) 0 spec.tetra_count)) }
-    ensures cause { OnlyByFailure (H.told host.old) (Err SessionEnd.HostFault) result
-        (H.faults host.old) (H.faults host.new) }
-    ensures stands { Stands (H.told host.old) (H.told host.new) (H.faults host.old) (H.faults host.new) }
 {
     let mut tetra: u64 = 0;
     while tetra < 1 << 62 {
@@ -95,12 +83,8 @@ pub(crate) fn write_flags<H: Host>(
 /// Writes the line of a tetra with flags.
 #[tactic(auto, using(crate::proofs::LineEnds::lacking))]
 fn write_flag<H: Host>(alloc: Global, host: &mut H, a: u64, flags: Flags) -> Result<(), SessionEnd>
-    ensures told { CarriesOut (H.told host.old) (H.told host.new) (Err SessionEnd.OutOfMemory) result
-        (line_plan (flag_text a flags)) }
+    ensures part { Talks H.told H.faults host.old host.new result (line_plan (flag_text a flags)) }
     ensures address { a < 2 ^ 64 }
-    ensures cause { OnlyByFailure (H.told host.old) (Err SessionEnd.HostFault) result
-        (H.faults host.old) (H.faults host.new) }
-    ensures stands { Stands (H.told host.old) (H.told host.new) (H.faults host.old) (H.faults host.new) }
 {
     write_line(host, flag_line(alloc, a, flags)?)
 }

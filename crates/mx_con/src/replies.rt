@@ -1,17 +1,13 @@
 //! Commands that make no step.
 
-ghost use Rattle.std.specs.Prelude.{◌≡◌, ℕ, Option, Err, None, Some};
-ghost use Rattle.mx_host.specs.Keeping.{OnlyByFailure};
-ghost use Rattle.mx_plan.specs.Clauses.{CarriesOut, Stands};
-ghost use Rattle.mx_word.specs.Results.{map_ok};
+ghost use Rattle.std.specs.Prelude.{◌≡◌, ℕ, Option, None, Some};
 ghost use Rattle.mx_core.specs.Kept.{state_of};
 ghost use Rattle.mx_core.specs.State.{is_in_stack_segment};
-ghost use Rattle.mx_con.specs.Clauses.{CarriesOutSession};
+ghost use Rattle.mx_con.specs.Clauses.{Responds, Talks};
 ghost use Rattle.mx_show.specs.Texts.{state_text};
 ghost use Rattle.mx_con.specs.Judgement as judgement;
 ghost use Rattle.mx_con.specs.LinePlans.{line_plan};
 ghost use Rattle.mx_con.specs.Replies as replies;
-ghost use Rattle.mx_con.specs.SessionPlans.{answered_plan};
 ghost use Rattle.mx_show.specs.Subjects as subjects;
 
 use crate::SessionEnd;
@@ -31,11 +27,7 @@ use std::alloc::Global;
 /// Writes why a line is bad.
 #[tactic(auto, using(crate::proofs::LineEnds::lacking))]
 pub(crate) fn refuse<H: Host>(alloc: Global, host: &mut H, bad: Bad) -> Result<(), SessionEnd>
-    ensures told { CarriesOut (H.told host.old) (H.told host.new) (Err SessionEnd.OutOfMemory) result
-        (line_plan (judgement.bad_text bad)) }
-    ensures cause { OnlyByFailure (H.told host.old) (Err SessionEnd.HostFault) result
-        (H.faults host.old) (H.faults host.new) }
-    ensures stands { Stands (H.told host.old) (H.told host.new) (H.faults host.old) (H.faults host.new) }
+    ensures { Talks H.told H.faults host.old host.new result (line_plan (judgement.bad_text bad)) }
 {
     write_line(host, Bytes::copy(alloc, bad.text().as_bytes())?)
 }
@@ -47,17 +39,13 @@ pub(crate) fn show_state<H: Host>(
     machine: &Machine,
     host: &mut H,
 ) -> Result<(), SessionEnd>
-    ensures told { CarriesOut (H.told host.old) (H.told host.new) (Err SessionEnd.OutOfMemory) result
-        (line_plan (state_text (state_of machine.now))) }
-    ensures cause { OnlyByFailure (H.told host.old) (Err SessionEnd.HostFault) result
-        (H.faults host.old) (H.faults host.new) }
-    ensures stands { Stands (H.told host.old) (H.told host.new) (H.faults host.old) (H.faults host.new) }
+    ensures { Talks H.told H.faults host.old host.new result (line_plan (state_text (state_of machine.now))) }
 {
     write_text(host, state_line(alloc, machine)?.as_slice())
 }
 
 /// Shows a subject.
-#[tactic(auto, using(crate::proofs::ReplyPlans::replying, crate::proofs::StepBounds::noting))]
+#[tactic(auto, using(crate::proofs::StepBounds::noting))]
 pub(crate) fn show<H: Host>(
     alloc: Global,
     runner: &mut Runner,
@@ -66,13 +54,9 @@ pub(crate) fn show<H: Host>(
     subject: Subject,
     form: Form,
 ) -> Result<(), SessionEnd>
-    ensures told { CarriesOutSession (H.told host.old) (H.told host.new) runner.old runner.new
-        (Err SessionEnd.OutOfMemory) (map_ok (λ u. shown.new) result)
-        (answered_plan shown.old (Command.Show subject form)) }
+    ensures part { Responds H.told H.faults host.old host.new runner.old runner.new shown.old shown.new result
+        (Command.Show subject form) }
     ensures still { (state_of runner.new.machine).steps ≡ (state_of runner.old.machine).steps }
-    ensures cause { OnlyByFailure (H.told host.old) (Err SessionEnd.HostFault) result
-        (H.faults host.old) (H.faults host.new) }
-    ensures stands { Stands (H.told host.old) (H.told host.new) (H.faults host.old) (H.faults host.new) }
 {
     match subject_bad(runner.machine(), subject) {
         Some(bad) => refuse(alloc, host, bad),
@@ -92,15 +76,12 @@ fn show_sound<H: Host>(
     form: Form,
 ) -> Result<(), SessionEnd>
     requires { subjects.IsSound subject }
-    ensures told { CarriesOut (H.told host.old) (H.told host.new) (Err SessionEnd.OutOfMemory) result
+    ensures part { Talks H.told H.faults host.old host.new result
         (line_plan (subjects.shown_line (state_of runner.new.machine) subject form)) }
     ensures noted { state_of runner.new.machine
         ≡ replies.noted_if (subjects.subject_wild subject) (state_of runner.old.machine) }
     ensures flags { runner.new.flags ≡ runner.old.flags }
     ensures shown { shown.new ≡ replies.shown_after subject shown.old }
-    ensures cause { OnlyByFailure (H.told host.old) (Err SessionEnd.HostFault) result
-        (H.faults host.old) (H.faults host.new) }
-    ensures stands { Stands (H.told host.old) (H.told host.new) (H.faults host.old) (H.faults host.new) }
 {
     note_if(runner, is_wild(subject));
     note_shown(shown, subject);
@@ -134,7 +115,6 @@ fn note_shown(shown: &mut Option<u64>, subject: Subject)
 }
 
 /// Gives a subject another value, and shows it.
-#[tactic(auto, using(crate::proofs::ReplyPlans::replying))]
 pub(crate) fn change_subject<H: Host>(
     alloc: Global,
     runner: &mut Runner,
@@ -143,13 +123,9 @@ pub(crate) fn change_subject<H: Host>(
     subject: Subject,
     value: Option<u64>,
 ) -> Result<(), SessionEnd>
-    ensures told { CarriesOutSession (H.told host.old) (H.told host.new) runner.old runner.new
-        (Err SessionEnd.OutOfMemory) (map_ok (λ u. shown.new) result)
-        (answered_plan shown.old (Command.Change subject value)) }
+    ensures part { Responds H.told H.faults host.old host.new runner.old runner.new shown.old shown.new result
+        (Command.Change subject value) }
     ensures still { (state_of runner.new.machine).steps ≡ (state_of runner.old.machine).steps }
-    ensures cause { OnlyByFailure (H.told host.old) (Err SessionEnd.HostFault) result
-        (H.faults host.old) (H.faults host.new) }
-    ensures stands { Stands (H.told host.old) (H.told host.new) (H.faults host.old) (H.faults host.new) }
 {
     let Some(value) = value else {
         return refuse(alloc, host, Bad::BadNumber);
@@ -172,13 +148,9 @@ fn change_sound<H: Host>(
 ) -> Result<(), SessionEnd>
     requires sound { subjects.IsSound subject }
     requires good { judgement.subject_bad (state_of runner.old.machine) subject ≡ None }
-    ensures told { CarriesOutSession (H.told host.old) (H.told host.new) runner.old runner.new
-        (Err SessionEnd.OutOfMemory) (map_ok (λ u. shown.new) result)
-        (answered_plan shown.old (Command.Change subject (Some value))) }
+    ensures part { Responds H.told H.faults host.old host.new runner.old runner.new shown.old shown.new result
+        (Command.Change subject (Some value)) }
     ensures still { (state_of runner.new.machine).steps ≡ (state_of runner.old.machine).steps }
-    ensures cause { OnlyByFailure (H.told host.old) (Err SessionEnd.HostFault) result
-        (H.faults host.old) (H.faults host.new) }
-    ensures stands { Stands (H.told host.old) (H.told host.new) (H.faults host.old) (H.faults host.new) }
 {
     match change(runner, subject, value) {
         Ok(()) => show_sound(alloc, runner, host, shown, subject, Form::Hex),
@@ -188,7 +160,6 @@ fn change_sound<H: Host>(
 }
 
 /// Shows the octas after the one that was shown last.
-#[tactic(auto, using(crate::proofs::ReplyPlans::replying))]
 pub(crate) fn show_more<H: Host>(
     alloc: Global,
     runner: &mut Runner,
@@ -197,13 +168,9 @@ pub(crate) fn show_more<H: Host>(
     n: Option<u64>,
     form: Form,
 ) -> Result<(), SessionEnd>
-    ensures told { CarriesOutSession (H.told host.old) (H.told host.new) runner.old runner.new
-        (Err SessionEnd.OutOfMemory) (map_ok (λ u. shown.new) result)
-        (answered_plan shown.old (Command.ShowMore n form)) }
+    ensures part { Responds H.told H.faults host.old host.new runner.old runner.new shown.old shown.new result
+        (Command.ShowMore n form) }
     ensures still { (state_of runner.new.machine).steps ≡ (state_of runner.old.machine).steps }
-    ensures cause { OnlyByFailure (H.told host.old) (Err SessionEnd.HostFault) result
-        (H.faults host.old) (H.faults host.new) }
-    ensures stands { Stands (H.told host.old) (H.told host.new) (H.faults host.old) (H.faults host.new) }
 {
     let Some(n) = n else {
         return refuse(alloc, host, Bad::BadNumber);
@@ -215,7 +182,7 @@ pub(crate) fn show_more<H: Host>(
 }
 
 /// The same where it is not bad.
-#[tactic(auto, using(crate::proofs::ReplyPlans::replying, crate::proofs::StepBounds::noting))]
+#[tactic(auto, using(crate::proofs::StepBounds::noting))]
 fn show_octas<H: Host>(
     alloc: Global,
     runner: &mut Runner,
@@ -225,13 +192,9 @@ fn show_octas<H: Host>(
     form: Form,
 ) -> Result<(), SessionEnd>
     requires { judgement.more_bad shown.old (Some n) ≡ None }
-    ensures told { CarriesOutSession (H.told host.old) (H.told host.new) runner.old runner.new
-        (Err SessionEnd.OutOfMemory) (map_ok (λ u. shown.new) result)
-        (answered_plan shown.old (Command.ShowMore (Some n) form)) }
+    ensures part { Responds H.told H.faults host.old host.new runner.old runner.new shown.old shown.new result
+        (Command.ShowMore (Some n) form) }
     ensures still { (state_of runner.new.machine).steps ≡ (state_of runner.old.machine).steps }
-    ensures cause { OnlyByFailure (H.told host.old) (Err SessionEnd.HostFault) result
-        (H.faults host.old) (H.faults host.new) }
-    ensures stands { Stands (H.told host.old) (H.told host.new) (H.faults host.old) (H.faults host.new) }
 {
     let Some(a) = *shown else {
         return Ok(());
@@ -250,13 +213,9 @@ pub(crate) fn go_to<H: Host>(
     host: &mut H,
     a: u64,
 ) -> Result<(), SessionEnd>
-    ensures told { (shown : Option ℕ) → CarriesOutSession (H.told host.old) (H.told host.new) runner.old
-        runner.new (Err SessionEnd.OutOfMemory) (map_ok (λ u. shown) result)
-        (answered_plan shown (Command.GoTo a)) }
+    ensures part { (shown : Option ℕ) → Responds H.told H.faults host.old host.new runner.old runner.new
+        shown shown result (Command.GoTo a) }
     ensures still { (state_of runner.new.machine).steps ≡ (state_of runner.old.machine).steps }
-    ensures cause { OnlyByFailure (H.told host.old) (Err SessionEnd.HostFault) result
-        (H.faults host.old) (H.faults host.new) }
-    ensures stands { Stands (H.told host.old) (H.told host.new) (H.faults host.old) (H.faults host.new) }
 {
     if let Some(bad) = go_to_bad(a) {
         return refuse(alloc, host, bad);
@@ -275,13 +234,9 @@ pub(crate) fn set_tetra_breaks<H: Host>(
     breaks: Breaks,
     a: u64,
 ) -> Result<(), SessionEnd>
-    ensures told { (shown : Option ℕ) → CarriesOutSession (H.told host.old) (H.told host.new) runner.old
-        runner.new (Err SessionEnd.OutOfMemory) (map_ok (λ u. shown) result)
-        (answered_plan shown (Command.Break breaks a)) }
+    ensures part { (shown : Option ℕ) → Responds H.told H.faults host.old host.new runner.old runner.new
+        shown shown result (Command.Break breaks a) }
     ensures still { (state_of runner.new.machine).steps ≡ (state_of runner.old.machine).steps }
-    ensures cause { OnlyByFailure (H.told host.old) (Err SessionEnd.HostFault) result
-        (H.faults host.old) (H.faults host.new) }
-    ensures stands { Stands (H.told host.old) (H.told host.new) (H.faults host.old) (H.faults host.new) }
 {
     if let Some(bad) = flag_bad(a) {
         return refuse(alloc, host, bad);
@@ -298,13 +253,9 @@ pub(crate) fn trace_tetra<H: Host>(
     host: &mut H,
     a: u64,
 ) -> Result<(), SessionEnd>
-    ensures told { (shown : Option ℕ) → CarriesOutSession (H.told host.old) (H.told host.new) runner.old
-        runner.new (Err SessionEnd.OutOfMemory) (map_ok (λ u. shown) result)
-        (answered_plan shown (Command.Trace a)) }
+    ensures part { (shown : Option ℕ) → Responds H.told H.faults host.old host.new runner.old runner.new
+        shown shown result (Command.Trace a) }
     ensures still { (state_of runner.new.machine).steps ≡ (state_of runner.old.machine).steps }
-    ensures cause { OnlyByFailure (H.told host.old) (Err SessionEnd.HostFault) result
-        (H.faults host.old) (H.faults host.new) }
-    ensures stands { Stands (H.told host.old) (H.told host.new) (H.faults host.old) (H.faults host.new) }
 {
     if let Some(bad) = flag_bad(a) {
         return refuse(alloc, host, bad);
@@ -321,13 +272,9 @@ pub(crate) fn untrace_tetra<H: Host>(
     host: &mut H,
     a: u64,
 ) -> Result<(), SessionEnd>
-    ensures told { (shown : Option ℕ) → CarriesOutSession (H.told host.old) (H.told host.new) runner.old
-        runner.new (Err SessionEnd.OutOfMemory) (map_ok (λ u. shown) result)
-        (answered_plan shown (Command.Untrace a)) }
+    ensures part { (shown : Option ℕ) → Responds H.told H.faults host.old host.new runner.old runner.new
+        shown shown result (Command.Untrace a) }
     ensures still { (state_of runner.new.machine).steps ≡ (state_of runner.old.machine).steps }
-    ensures cause { OnlyByFailure (H.told host.old) (Err SessionEnd.HostFault) result
-        (H.faults host.old) (H.faults host.new) }
-    ensures stands { Stands (H.told host.old) (H.told host.new) (H.faults host.old) (H.faults host.new) }
 {
     if let Some(bad) = flag_bad(a) {
         return refuse(alloc, host, bad);

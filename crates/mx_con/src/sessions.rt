@@ -1,13 +1,12 @@
 //! Sessions.
 
-ghost use Rattle.std.specs.Prelude.{◌≡◌, ◌+◌, Err, Some, true};
+ghost use Rattle.std.specs.Prelude.{◌≡◌, ◌+◌, Some, true};
 ghost use Rattle.mx_host.specs.Keeping.{OnlyByFailure, Keeps};
-ghost use Rattle.mx_plan.specs.Clauses.{CarriesOut, Stands};
 ghost use Rattle.mx_word.specs.Results.{map_ok};
 ghost use Rattle.mx_core.specs.Kept.{state_of};
 ghost use Rattle.mx_run.specs.WildRuns.{window_machine, list_machine};
 ghost use Rattle.mx_con.specs.Clauses.{CarriesOutSession, EndsAsListSession, EndsAsSession, EndsFront, PartsAsList};
-ghost use Rattle.mx_con.specs.Clauses.{StepsWithin};
+ghost use Rattle.mx_con.specs.Clauses.{Converses, StepsWithin, Talks};
 ghost use Rattle.mx_con.specs.LinePlans.{asking_plan};
 ghost use Rattle.mx_con.specs.Session as spec;
 ghost use Rattle.mx_con.specs.SessionPlans as plans;
@@ -73,15 +72,11 @@ fn all_lines<H: Host>(
     dialog: &mut Dialog,
     steps: u64,
 ) -> Result<(), SessionEnd>
-    ensures told { CarriesOutSession (H.told host.old) (H.told host.new) runner.old runner.new
-        (Err SessionEnd.OutOfMemory) (map_ok (λ u. dialog.new) result)
+    ensures part { Converses H.told H.faults host.old host.new runner.old runner.new (map_ok (λ u. dialog.new) result)
         (plans.lines_of_session (spec.most_input + 1) steps dialog.old) }
     ensures listed { PartsAsList (H.told host.old) runner.old dialog.old result
         (λ kind c. spec.session_lines (spec.most_input + 1) kind steps c) }
     ensures bound { StepsWithin steps (state_of runner.old.machine) (state_of runner.new.machine) }
-    ensures cause { OnlyByFailure (H.told host.old) (Err SessionEnd.HostFault) result
-        (H.faults host.old) (H.faults host.new) }
-    ensures stands { Stands (H.told host.old) (H.told host.new) (H.faults host.old) (H.faults host.new) }
 {
     for turn in 0..MOST_INPUT + 1 {
         match one_line(alloc, runner, host, dialog, steps) {
@@ -93,7 +88,7 @@ fn all_lines<H: Host>(
 }
 
 /// Asks for a line, and carries it out.
-#[tactic(auto, using(crate::proofs::SessionSteps::single_lines, crate::proofs::StepBounds::going))]
+#[tactic(auto, using(crate::proofs::StepBounds::going))]
 fn one_line<H: Host>(
     alloc: Global,
     runner: &mut Runner,
@@ -101,14 +96,11 @@ fn one_line<H: Host>(
     dialog: &mut Dialog,
     steps: u64,
 ) -> Result<(), SessionEnd>
-    ensures told { CarriesOutSession (H.told host.old) (H.told host.new) runner.old runner.new
-        (Err SessionEnd.OutOfMemory) (map_ok (λ u. dialog.new) result) (plans.one_line_plan steps dialog.old) }
+    ensures part { Converses H.told H.faults host.old host.new runner.old runner.new (map_ok (λ u. dialog.new) result)
+        (plans.one_line_plan steps dialog.old) }
     ensures listed { PartsAsList (H.told host.old) runner.old dialog.old result
         (λ kind c. spec.one_line kind steps c) }
     ensures bound { StepsWithin steps (state_of runner.old.machine) (state_of runner.new.machine) }
-    ensures cause { OnlyByFailure (H.told host.old) (Err SessionEnd.HostFault) result
-        (H.faults host.old) (H.faults host.new) }
-    ensures stands { Stands (H.told host.old) (H.told host.new) (H.faults host.old) (H.faults host.new) }
 {
     match ask(alloc, host, &mut dialog.left) {
         Ok(line) => {
@@ -123,11 +115,8 @@ fn one_line<H: Host>(
 /// Writes the prompt and reads a line.
 #[tactic(auto, using(crate::proofs::SessionSteps::asking))]
 fn ask<H: Host>(alloc: Global, host: &mut H, left: &mut u64) -> Result<Bytes, SessionEnd>
-    ensures told { CarriesOut (H.told host.old) (H.told host.new) (Err SessionEnd.OutOfMemory)
-        (map_ok (λ text. (text, left.new)) result) (asking_plan left.old) }
-    ensures cause { OnlyByFailure (H.told host.old) (Err SessionEnd.HostFault) result
-        (H.faults host.old) (H.faults host.new) }
-    ensures stands { Stands (H.told host.old) (H.told host.new) (H.faults host.old) (H.faults host.new) }
+    ensures { Talks H.told H.faults host.old host.new (map_ok (λ text. (text, left.new)) result)
+        (asking_plan left.old) }
 {
     match write_text(host, b"mmix> ") {
         Ok(()) => read_line(alloc, host, left),
@@ -145,15 +134,12 @@ fn carry_out<H: Host>(
     steps: u64,
     command: Option<Command>,
 ) -> Result<(), SessionEnd>
-    ensures told { CarriesOutSession (H.told host.old) (H.told host.new) runner.old runner.new
-        (Err SessionEnd.OutOfMemory) (map_ok (λ u. shown.new) result) (plans.command_plan steps shown.old command) }
+    ensures part { Converses H.told H.faults host.old host.new runner.old runner.new (map_ok (λ u. shown.new) result)
+        (plans.command_plan steps shown.old command) }
     ensures runs { command ≡ Some Command.Continue → (d : remembered.Dialog) →
         PartsAsList (H.told host.old) runner.old d result
         (λ kind c. spec.runs kind (spec.steps_left steps c.state) steps true c) }
     ensures bound { StepsWithin steps (state_of runner.old.machine) (state_of runner.new.machine) }
-    ensures cause { OnlyByFailure (H.told host.old) (Err SessionEnd.HostFault) result
-        (H.faults host.old) (H.faults host.new) }
-    ensures stands { Stands (H.told host.old) (H.told host.new) (H.faults host.old) (H.faults host.new) }
 {
     let Some(command) = command else {
         return refuse(alloc, host, Bad::UnknownCommand);

@@ -1,10 +1,8 @@
 //! Steps and runs that the console asks for.
 
 ghost use Rattle.std.specs.Prelude.{◌≡◌, ◌≢◌, Err, Some, true};
-ghost use Rattle.mx_host.specs.Keeping.{OnlyByFailure};
-ghost use Rattle.mx_plan.specs.Clauses.{CarriesOut, Stands};
 ghost use Rattle.mx_core.specs.Kept.{state_of};
-ghost use Rattle.mx_con.specs.Clauses.{CarriesOutSession, PartsAsList, StepsWithin};
+ghost use Rattle.mx_con.specs.Clauses.{Converses, PartsAsList, StepsWithin, Talks};
 ghost use Rattle.mx_con.specs.ConsoleTexts.{break_text};
 ghost use Rattle.mx_show.specs.Texts.{trace_text};
 ghost use Rattle.mx_con.specs.LinePlans.{line_plan};
@@ -37,12 +35,9 @@ pub(crate) fn step_once<H: Host>(
     host: &mut H,
     steps: u64,
 ) -> Result<(), SessionEnd>
-    ensures told { CarriesOutSession (H.told host.old) (H.told host.new) runner.old runner.new
-        (Err SessionEnd.OutOfMemory) result (plans.stepped_plan steps) }
+    ensures part { Converses H.told H.faults host.old host.new runner.old runner.new result
+        (plans.stepped_plan steps) }
     ensures bound { StepsWithin steps (state_of runner.old.machine) (state_of runner.new.machine) }
-    ensures cause { OnlyByFailure (H.told host.old) (Err SessionEnd.HostFault) result
-        (H.faults host.old) (H.faults host.new) }
-    ensures stands { Stands (H.told host.old) (H.told host.new) (H.faults host.old) (H.faults host.new) }
 {
     if steps_left(steps, runner) == 0 {
         return Err(SessionEnd::Spent);
@@ -67,11 +62,8 @@ fn write_trace<H: Host>(
     host: &mut H,
     trace: &Trace,
 ) -> Result<(), SessionEnd>
-    ensures told { CarriesOut (H.told host.old) (H.told host.new) (Err SessionEnd.OutOfMemory) result
+    ensures { Talks H.told H.faults host.old host.new result
         (line_plan (trace_text trace.now (state_of machine.now))) }
-    ensures cause { OnlyByFailure (H.told host.old) (Err SessionEnd.HostFault) result
-        (H.faults host.old) (H.faults host.new) }
-    ensures stands { Stands (H.told host.old) (H.told host.new) (H.faults host.old) (H.faults host.new) }
 {
     write_text(host, trace_line(alloc, trace, machine)?.as_slice())
 }
@@ -84,14 +76,11 @@ pub(crate) fn go_on<H: Host>(
     host: &mut H,
     steps: u64,
 ) -> Result<(), SessionEnd>
-    ensures told { CarriesOutSession (H.told host.old) (H.told host.new) runner.old runner.new
-        (Err SessionEnd.OutOfMemory) result (plans.continued_plan steps) }
+    ensures part { Converses H.told H.faults host.old host.new runner.old runner.new result
+        (plans.continued_plan steps) }
     ensures listed { (d : Dialog) → PartsAsList (H.told host.old) runner.old d result
         (λ kind c. spec.runs kind (spec.steps_left steps c.state) steps true c) }
     ensures bound { StepsWithin steps (state_of runner.old.machine) (state_of runner.new.machine) }
-    ensures cause { OnlyByFailure (H.told host.old) (Err SessionEnd.HostFault) result
-        (H.faults host.old) (H.faults host.new) }
-    ensures stands { Stands (H.told host.old) (H.told host.new) (H.faults host.old) (H.faults host.new) }
 {
     let most = steps_left(steps, runner);
     let mut pass = true;
@@ -114,14 +103,11 @@ fn run_once<H: Host>(
     steps: u64,
     pass: bool,
 ) -> Result<bool, SessionEnd>
-    ensures told { CarriesOutSession (H.told host.old) (H.told host.new) runner.old runner.new
-        (Err SessionEnd.OutOfMemory) result (plans.one_run_plan steps pass) }
+    ensures part { Converses H.told H.faults host.old host.new runner.old runner.new result
+        (plans.one_run_plan steps pass) }
     ensures listed { (d : Dialog) → PartsAsList (H.told host.old) runner.old d result
         (λ kind c. spec.one_run kind steps pass c) }
     ensures bound { StepsWithin steps (state_of runner.old.machine) (state_of runner.new.machine) }
-    ensures cause { OnlyByFailure (H.told host.old) (Err SessionEnd.HostFault) result
-        (H.faults host.old) (H.faults host.new) }
-    ensures stands { Stands (H.told host.old) (H.told host.new) (H.faults host.old) (H.faults host.new) }
 {
     know_count(runner);
     let end = runner.go(host, steps_left(steps, runner), pass);
@@ -137,13 +123,10 @@ fn end_run<H: Host>(
     host: &mut H,
     end: End,
 ) -> Result<bool, SessionEnd>
-    ensures told { end ≢ End.OutOfMemory → CarriesOutSession (H.told host.old) (H.told host.new) runner.now runner.now
-        (Err SessionEnd.OutOfMemory) result (plans.after_end end) }
+    ensures part { end ≢ End.OutOfMemory →
+        Converses H.told H.faults host.old host.new runner.now runner.now result (plans.after_end end) }
     ensures lacked { end ≡ End.OutOfMemory → result ≡ Err SessionEnd.OutOfMemory }
-    ensures unwritten { end ≡ End.OutOfMemory → H.told host.new ≡ H.told host.old }
-    ensures cause { OnlyByFailure (H.told host.old) (Err SessionEnd.HostFault) result
-        (H.faults host.old) (H.faults host.new) }
-    ensures stands { Stands (H.told host.old) (H.told host.new) (H.faults host.old) (H.faults host.new) }
+    ensures uncalled { end ≡ End.OutOfMemory → host.new ≡ host.old }
 {
     match end {
         End::Halted(status) => Err(SessionEnd::Halted(status)),
@@ -164,7 +147,6 @@ fn end_run<H: Host>(
 }
 
 /// Writes the line of a break, and before it that of a traced step that came to it.
-#[tactic(auto, using(crate::proofs::StepPlans::breaking))]
 fn write_break<H: Host>(
     alloc: Global,
     runner: &Runner,
@@ -173,11 +155,8 @@ fn write_break<H: Host>(
     at: u64,
     traced: Option<Trace>,
 ) -> Result<(), SessionEnd>
-    ensures told { CarriesOutSession (H.told host.old) (H.told host.new) runner.now runner.now
-        (Err SessionEnd.OutOfMemory) result (plans.break_plan kind at traced) }
-    ensures cause { OnlyByFailure (H.told host.old) (Err SessionEnd.HostFault) result
-        (H.faults host.old) (H.faults host.new) }
-    ensures stands { Stands (H.told host.old) (H.told host.new) (H.faults host.old) (H.faults host.new) }
+    ensures { Converses H.told H.faults host.old host.new runner.now runner.now result
+        (plans.break_plan kind at traced) }
 {
     match traced {
         Some(trace) => write_traced_break(alloc, runner, host, kind, at, trace),
@@ -186,7 +165,6 @@ fn write_break<H: Host>(
 }
 
 /// Writes the line of a traced step, and that of the break that it came to.
-#[tactic(auto, using(crate::proofs::StepPlans::breaking))]
 fn write_traced_break<H: Host>(
     alloc: Global,
     runner: &Runner,
@@ -195,11 +173,8 @@ fn write_traced_break<H: Host>(
     at: u64,
     trace: Trace,
 ) -> Result<(), SessionEnd>
-    ensures told { CarriesOutSession (H.told host.old) (H.told host.new) runner.now runner.now
-        (Err SessionEnd.OutOfMemory) result (plans.break_plan kind at (Some trace)) }
-    ensures cause { OnlyByFailure (H.told host.old) (Err SessionEnd.HostFault) result
-        (H.faults host.old) (H.faults host.new) }
-    ensures stands { Stands (H.told host.old) (H.told host.new) (H.faults host.old) (H.faults host.new) }
+    ensures { Converses H.told H.faults host.old host.new runner.now runner.now result
+        (plans.break_plan kind at (Some trace)) }
 {
     match write_trace(alloc, runner.machine(), host, &trace) {
         Ok(()) => write_break_line(alloc, host, kind, at),
@@ -214,11 +189,7 @@ fn write_break_line<H: Host>(
     kind: BreakKind,
     at: u64,
 ) -> Result<(), SessionEnd>
-    ensures told { CarriesOut (H.told host.old) (H.told host.new) (Err SessionEnd.OutOfMemory) result
-        (line_plan (break_text kind at)) }
-    ensures cause { OnlyByFailure (H.told host.old) (Err SessionEnd.HostFault) result
-        (H.faults host.old) (H.faults host.new) }
-    ensures stands { Stands (H.told host.old) (H.told host.new) (H.faults host.old) (H.faults host.new) }
+    ensures { Talks H.told H.faults host.old host.new result (line_plan (break_text kind at)) }
 {
     write_line(host, break_line(alloc, kind, at)?)
 }

@@ -1,23 +1,24 @@
 use Rattle.std.proofs.Common.{◌≡◌, ◌∙◌, sym, ap, subst, IsTrue}
-use Rattle.mx_con.specs.Clauses.{console_of, world_of}
-use Rattle.mx_con.specs.Session.{command_done}
+use Rattle.mx_con.specs.Clauses.{console_of}
 use Rattle.mx_cmd.specs.Commands.{command_of}
 use Rattle.mx_con.specs.HostLines.{without_return}
+use Rattle.mx_plan.proofs.Standing.{stands-all}
+use Rattle.mx_con.proofs.Parts.{part-behind, mapped-again}
 use Rattle.mx_con.proofs.ListedSessions.{line-goes, line-ends, continue-goes}
 use Rattle.mx_con.proofs.SessionSteps.{line-carried, line-over}
 use Rattle.mx_con.proofs.sessions.one_line.Goals as goal
 
-pub returns-in-Ok-clause-told : goal.returns-in-Ok-clause-told
-returns-in-Ok-clause-told g c = λ t.
-    let here = subst IsTrue (sym c.in-Ok.ensures.stands.0) t in
+pub returns-in-Ok-clause-part : goal.returns-in-Ok-clause-part
+returns-in-Ok-clause-part g c =
     let read = c.as_slice.ensures in
     let view = c.line.view_is in
     let seen : c.as_slice.result.now ≡ c.in-Ok.line = cc in
-    line-carried c.args.steps _ _ _ _ _ c.command_of-command.result _ _ _ _ _ c.carry_out.result (c.in-Ok.ensures.told t)
-    (c.command_of-command.ensures ∙ ap command_of (c.without_return.ensures ∙ ap without_return seen)) (c.carry_out.ensures.told here)
+    part-behind c.in-Ok.ensures.stands c.carry_out.ensures.part (mapped-again _ _ c.carry_out.result)
+    (λ t h. line-carried c.args.steps _ _ _ _ _ c.command_of-command.result _ _ _ _ _ c.carry_out.result (c.in-Ok.ensures.told t)
+    (c.command_of-command.ensures ∙ ap command_of (c.without_return.ensures ∙ ap without_return seen)) h)
 
-pub returns-in-Err-clause-told : goal.returns-in-Err-clause-told
-returns-in-Err-clause-told g c = λ t. line-over c.args.steps _ _ c.in-Err.end _ _ _ _ (c.in-Err.ensures.told t)
+pub returns-in-Err-clause-part : goal.returns-in-Err-clause-part
+returns-in-Err-clause-part g c = part-behind (stands-all _ _) c.in-Err.ensures (λ e. cc) (λ t h. line-over c.args.steps _ _ c.in-Err.end _ _ _ _ h)
 
 pub returns-in-Ok-clause-listed : goal.returns-in-Ok-clause-listed
 returns-in-Ok-clause-listed g c = λ t ne u.
