@@ -4,8 +4,8 @@
 usage: checks/picture.py          writes the picture
        checks/picture.py --check  says whether the picture is that of crates.txt, and no chain is too long
 A crate stands in the column of its area and in a layer above all that it stands on; a line leads from a crate to
-each one that it stands on and that no other line leads to. To mx_word, on which all stand but mx_ops,
-no line is drawn; crates of tests (test_...) and of laws alone (law_...) have none. No chain may have more than eight
+each one that it stands on and that no other line leads to. To mx_word, on which all stand but mx_ops
+and mx_greg, no line is drawn; crates of tests (test_...) and of laws alone (law_...) have none. No chain may have more than eight
 crates, those of tests aside.
 """
 import os
@@ -14,7 +14,7 @@ import sys
 HERE = os.path.dirname(os.path.dirname(os.path.abspath(__file__)))
 PICTURE = HERE + "/docs/crates.svg"
 AREAS = [
-    ("language", "mx_line mx_expr mx_ops mx_names mx_stmt mx_asm"),
+    ("language", "mx_line mx_expr mx_ops mx_names mx_greg mx_stmt mx_asm"),
     ("objects", "mx_mmo mx_stab mx_load mx_type"),
     ("machine", "mx_mem mx_alu mx_registers mx_ring mx_trip mx_spec mx_code mx_core mx_start"),
     ("host and runs", "mx_host mx_plan mx_trap mx_run mx_back mx_watch mx_multi mx_real"),

@@ -1,6 +1,6 @@
 -- What a statement that is placed comes to, by its operation, and what always holds of it.
 use Rattle.std.proofs.Common.{◌≡◌, ◌≤◌, ℕ, ◌+◌, cond, nat_lt, List, [], ◌∷◌, length, Option, Ok, Err, None, Some, rules, Result, arith}
-use Rattle.mx_asm.proofs.Words.{cond_both, ltb-false, Value, Pure, Reg, Wait, Tree, name, Op, Pseudo, Label, Effect, Placed, Answer, and_then, register_for, Known, Targets, operand_value, pure_at, register_at, StatementTree, alignment, known_at_place, label_value, complete_symbol, one_form, one_operand, pseudo_form, op_form, encoding, IfPlaced, nat_tests, NameFault, AreNames, IsFullName, symbol_answer, IsPlaced, common_steps}
+use Rattle.mx_asm.proofs.Words.{cond_both, ltb-false, Value, Pure, Reg, Wait, Tree, name, Op, Pseudo, Label, Effect, Placed, Answer, and_then, greg_register, Known, Targets, operand_value, pure_at, register_at, StatementTree, alignment, known_at_place, label_value, complete_symbol, one_form, one_operand, pseudo_form, op_form, encoding, IfPlaced, nat_tests, NameFault, AreNames, IsFullName, symbol_answer, IsPlaced, common_steps}
 use Rattle.mx_ops.specs.declared.op.Pseudo.TheVariants as pseudo
 use Rattle.mx_stmt.specs.declared.placed.Effect.TheVariants as effect
 use Rattle.mx_stmt.specs.declared.faults.StmtFault.TheVariants.{BadPlace}
@@ -18,7 +18,7 @@ pub data Comes (k : Known) (label : Option Label) (operands : List Tree) : Place
   by_is : (e : Tree) (value : Value) → operands ≡ e ∷ [] → operand_value k e ≡ Ok value → Comes k label operands (silent k label value effect.Plain k.at)
   by_loc : (e : Tree) (next : ℕ) → operands ≡ e ∷ [] → pure_at k e ≡ Ok next → Comes k label operands (silent k label (Pure k.at) effect.Plain next)
   by_prefix : (text full : List ℕ) → operands ≡ name text ∷ [] → complete_symbol k text ≡ Ok full → Comes k label operands (silent k label (Pure k.at) (effect.Prefix full) k.at)
-  by_greg : (e : Tree) (value reg : ℕ) → operands ≡ e ∷ [] → pure_at k e ≡ Ok value → register_for k.gregs value ≡ Ok reg → Comes k label operands (silent k label (Reg reg) (effect.Greg reg value) k.at)
+  by_greg : (e : Tree) (value reg : ℕ) → operands ≡ e ∷ [] → pure_at k e ≡ Ok value → greg_register k value ≡ Ok reg → Comes k label operands (silent k label (Reg reg) (effect.Greg reg value) k.at)
   by_local : (e : Tree) (reg : ℕ) → operands ≡ e ∷ [] → register_at k e ≡ Ok reg → Comes k label operands (silent k label (Pure k.at) (effect.Local reg) k.at)
 
 module _ (k : Known) (label : Option Label) (operands : List Tree) where
@@ -35,7 +35,7 @@ module _ (k : Known) (label : Option Label) (operands : List Tree) where
   one-comes pseudo.Is e o = then-comes (operand_value k e) _ (λ value is. by_is e value o is)
   one-comes pseudo.Loc e o = then-comes (pure_at k e) _ (λ next is. by_loc e next o is)
   one-comes pseudo.Prefix (name text) o = then-comes (complete_symbol k text) _ (λ full is. by_prefix text full o is)
-  one-comes pseudo.Greg e o = then-comes (pure_at k e) _ (λ value is. then-comes (register_for k.gregs value) _ (λ reg found. by_greg e value reg o is found))
+  one-comes pseudo.Greg e o = then-comes (pure_at k e) _ (λ value is. then-comes (greg_register k value) _ (λ reg found. by_greg e value reg o is found))
   one-comes pseudo.Local e o = then-comes (register_at k e) _ (λ reg is. by_local e reg o is)
   one-comes p e o = tt
 

@@ -35,6 +35,7 @@ pub use Rattle.mx_line.specs.Statements.{Found, IsField, Next, Operation, Statem
 pub use Rattle.mx_line.specs.declared.cutter.Cut.{Cut}
 pub use Rattle.mx_line.specs.declared.faults.LineFault.{LineFault}
 pub use Rattle.mx_line.specs.declared.spans.Span.{Span}
+pub use Rattle.mx_greg.specs.Gregs.{lowest_of, with_greg}
 pub use Rattle.mx_mmo.specs.Image.{Image}
 pub use Rattle.mx_mmo.specs.Meaning.{BadPlace, Loading, Meaningless, PagesFull, after_load, far_place, image_in, image_with_tetra, is_below, join, join_octa, meaning, next_line, noted, nothing, paged, take_item, take_items, tetras_before, tetras_behind, then_join, value_at, with_globals, with_image, with_name, with_page}
 pub use Rattle.mx_mmo.specs.Reading.{tetras_of}
@@ -60,16 +61,15 @@ pub use Rattle.mx_stab.proofs.Orders.{AreInOrder, Below, all-both, all-front, in
 pub use Rattle.mx_stmt.proofs.AwaitedNames.{AreUnknown, Gives, IsUnknown, after-gives, encoding-awaits, gives-value}
 pub use Rattle.mx_stmt.proofs.JoinedBytes.{from-append, placed-append, placed-zeros, xor-pairs}
 pub use Rattle.mx_stmt.proofs.LaidBytes.{all-append, all-into, encoding-laid}
-pub use Rattle.mx_stmt.proofs.SilentStatements.{allocable, silent-operand}
+pub use Rattle.mx_stmt.proofs.SilentStatements.{silent-operand}
 unfoldable pub use Rattle.mx_stmt.proofs.SilentStatements.{AreSilent}
 pub use Rattle.mx_stmt.proofs.SoundKnowledge.{sound-greg, sound-local, sound-start, sound-symbol}
 pub use Rattle.mx_stmt.proofs.SoundLabels.{encoding-fine}
 pub use Rattle.mx_stmt.specs.Data.{data_form, data_number, data_target, datum, low_bytes, with_rest}
 unfoldable pub use Rattle.mx_stmt.specs.Data.{data_of}
-pub use Rattle.mx_stmt.specs.Encoding.{IsPossible, StatementTree, alignment, complete_symbol, encoding, known_at_place, label_value, one_form, one_operand, op_form, place_at, pseudo_form, statement_tree, symbol_answer, tetra_data, tetra_waits, with_data}
+pub use Rattle.mx_stmt.specs.Encoding.{IsPossible, StatementTree, alignment, complete_symbol, encoding, greg_register, known_at_place, label_value, one_form, one_operand, op_form, place_at, pseudo_form, statement_tree, symbol_answer, tetra_data, tetra_waits, with_data}
 pub use Rattle.mx_stmt.specs.Fixes.{HasRegisterNumber, IsFixed, IsOperation, IsSound, fix_bytes, fix_placements}
 pub use Rattle.mx_stmt.specs.Forms.{backward_word, far_reach, form, form_by, forward_word, future_word, near_reach, relative_word, set_form}
-pub use Rattle.mx_stmt.specs.Gregs.{lowest_of, register_for, with_greg}
 pub use Rattle.mx_stmt.specs.Laid.{IsInside, IsLaid, kind_size}
 pub use Rattle.mx_stmt.specs.Operands.{Known, Targets, answer_of, knowledge_of, known_target, no_targets, operand_value, pure_at, reference_of, register_at, symbol_form, target_at, target_by}
 pub use Rattle.mx_stmt.specs.Placements.{from_place, placed}

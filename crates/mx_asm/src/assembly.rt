@@ -19,9 +19,10 @@ use crate::ending::{close, main_fault, padded_trie, undefined};
 use crate::fixes::fix_items;
 use crate::head::Head;
 use crate::{AsmFault, Refused, labels};
+use mx_greg::Gregs;
 use mx_mmo::{Item, Items, Words};
 use mx_names::Names;
-use mx_stmt::{Effect, Env, Gregs, Label, Placed, Statement, StmtFault, encode};
+use mx_stmt::{Effect, Env, Label, Placed, Statement, StmtFault, encode};
 use mx_word::{Bytes, NoMemory, Value, Wait, Waits};
 use std::alloc::Global;
 use std::marker::Model;
@@ -247,11 +248,12 @@ impl Assembly {
         ensures fits { IfOk result AreFit }
     {
         let env = Env {
+            alloc: self.alloc,
             names: &self.names,
             at: self.at,
             gregs: &self.gregs,
         };
-        match encode(self.alloc, s, &env) {
+        match encode(s, &env) {
             Ok(placed) => self.settle(s.line, &s.label, placed),
             Err(StmtFault::OutOfMemory) => Err(Refused::no_memory()),
             Err(fault) => Err(Refused::at(s.line, AsmFault::Stmt(fault))),

@@ -90,7 +90,8 @@ impl Machine {
     {
         know_bounds(&self.ring);
         if is_in_stack_area(a) {
-            self.ring.set_stack_octa(((a - STACK_SEGMENT) / 8) as u32, x);
+            self.ring
+                .set_stack_octa(((a - STACK_SEGMENT) / 8) as u32, x);
             Ok(())
         } else {
             self.memory.store(a, x)

@@ -233,7 +233,8 @@ impl Machine {
         match place {
             Some(a) => {
                 if is_in_stack_area(a) {
-                    self.ring.note_store(alloc, ((a - STACK_SEGMENT) / 8) as u32, k)
+                    self.ring
+                        .note_store(alloc, ((a - STACK_SEGMENT) / 8) as u32, k)
                 } else {
                     self.ring.note(alloc, RingWork::Set(k, 0))
                 }

@@ -35,7 +35,13 @@ impl Machine {
         ensures { IsNextBetween (octa (state_of self.now)) from (stack_address 0) result }
     {
         match self.memory.next_nonzero(from) {
-            Some((a, x)) => { if a < STACK_SEGMENT { Some((a, x)) } else { None } }
+            Some((a, x)) => {
+                if a < STACK_SEGMENT {
+                    Some((a, x))
+                } else {
+                    None
+                }
+            }
             None => None,
         }
     }

@@ -60,7 +60,7 @@ fn put_special<H: Host>(
     code: u8,
 ) -> Result<(), Outcome>
     requires { code < 32 }
-    ensures { Works (H.told host.old) (H.told host.new) (H.faults host.old) (H.faults host.new) result
+    ensures { Works H.told H.faults host.old host.new result
         (lines_plan (spec.special_line (state_of machine.now) code)) }
 {
     if !is_special_shown(machine, code) {
@@ -74,7 +74,7 @@ fn put_special<H: Host>(
 
 /// Writes the lines of the special registers.
 fn put_specials<H: Host>(alloc: Global, host: &mut H, machine: &Machine) -> Result<(), Outcome>
-    ensures { Works (H.told host.old) (H.told host.new) (H.faults host.old) (H.faults host.new) result
+    ensures { Works H.told H.faults host.old host.new result
         (lines_plan (spec.special_lines (state_of machine.now))) }
 {
     for code in 0..32u8 {
@@ -109,7 +109,7 @@ fn put_register<H: Host>(
     machine: &Machine,
     k: u8,
 ) -> Result<(), Outcome>
-    ensures { Works (H.told host.old) (H.told host.new) (H.faults host.old) (H.faults host.new) result
+    ensures { Works H.told H.faults host.old host.new result
         (lines_plan (spec.register_line (state_of machine.now) k)) }
 {
     if !is_register_shown(machine, k) {
@@ -123,7 +123,7 @@ fn put_register<H: Host>(
 
 /// Writes the lines of the registers.
 fn put_registers<H: Host>(alloc: Global, host: &mut H, machine: &Machine) -> Result<(), Outcome>
-    ensures { Works (H.told host.old) (H.told host.new) (H.faults host.old) (H.faults host.new) result
+    ensures { Works H.told H.faults host.old host.new result
         (lines_plan (spec.register_lines (state_of machine.now))) }
 {
     for k in 0..256u16 {
@@ -146,8 +146,7 @@ fn octa_text(alloc: Global, a: u64, x: u64) -> Result<Bytes, NoMemory>
 
 /// Writes the line of an octa.
 pub fn put_octa<H: Host>(alloc: Global, host: &mut H, a: u64, x: u64) -> Result<(), Outcome>
-    ensures { Works (H.told host.old) (H.told host.new) (H.faults host.old) (H.faults host.new) result
-        (lines_plan (shown_octa a x ∷ [])) }
+    ensures { Works H.told H.faults host.old host.new result (lines_plan (shown_octa a x ∷ [])) }
 {
     match octa_text(alloc, a, x) {
         Ok(line) => write_line(host, line.as_slice()),
@@ -194,7 +193,7 @@ fn next_shown(machine: &Machine, from: u64) -> Option<(u64, u64)>
 
 /// Writes the lines of the octas that are shown.
 fn put_octas<H: Host>(alloc: Global, host: &mut H, machine: &Machine) -> Result<(), Outcome>
-    ensures { Works (H.told host.old) (H.told host.new) (H.faults host.old) (H.faults host.new) result
+    ensures { Works H.told H.faults host.old host.new result
         (lines_plan (spec.octa_lines (state_of machine.now) spec.octa_count)) }
 {
     let mut from = 0u64;
@@ -211,7 +210,7 @@ fn put_octas<H: Host>(alloc: Global, host: &mut H, machine: &Machine) -> Result<
 /// Writes the dump of a machine to the tool's standard output, up to a line that is not written: the special registers,
 /// the registers and memory.
 pub fn dump<H: Host>(alloc: Global, host: &mut H, machine: &Machine) -> Result<(), Outcome>
-    ensures { Works (H.told host.old) (H.told host.new) (H.faults host.old) (H.faults host.new) result
+    ensures { Works H.told H.faults host.old host.new result
         (lines_plan (spec.dump_lines (state_of machine.now))) }
 {
     match put_specials(alloc, host, machine) {

@@ -12,7 +12,7 @@ use Rattle.mx_word.specs.Lists.{IsFront}
 use Rattle.mx_files.specs.Answers.{answered, output_of, GoesAs, plainly}
 use Rattle.mx_outcome.specs.Kinds.{is_usage}
 use Rattle.mx_files.specs.Assembling.{after_reading}
-use Rattle.mx_files.specs.Clauses.{ComesByFailing, HasToolSlots, Serves, Works, is_end}
+use Rattle.mx_files.specs.Clauses.{ComesByFailing, HasToolSlots, Serves, WorksBetween, is_end}
 use Rattle.mx_files.specs.FilePlans.{Part, file_plan}
 use Rattle.mx_files.specs.ObjectPlans.{outcome_of, whole_plan, assemble_plan, list_plan}
 use Rattle.mx_files.specs.Source.{file_bytes}
@@ -45,7 +45,7 @@ file-output most name m n r c = by (decided-part r)
     by (inl e) = file-stops-quiet most name m n (c.stopping e)
     by (inr ne) = ap (λ (t : Result (List ℕ) Outcome × HostModel). t.1.output) (c.ending ne) ∙ file-ends-quiet most name m
 
-pub part-keeps : {A : Type 0} (a b : Option HostModel) (k m : ℕ) (r : Result A Outcome) (p : Part A) → Works a b k m r p → Keeps a b k m
+pub part-keeps : {A : Type 0} (a b : Option HostModel) (k m : ℕ) (r : Result A Outcome) (p : Part A) → WorksBetween a b k m r p → Keeps a b k m
 part-keeps a b k m r p w = comes-keeps a b k m (Err OutOfMemory) r p (decided-part r) w.told w.stands
 
 end-words : (r : Outcome) → is_end r ≡ true → is_usage r ≡ false
@@ -65,21 +65,21 @@ whole-told a b o r p e told t = rw e (record {
   stopping = λ lacks. stops_first host (λ s. returns (outcome_of s)) p (contents b) (contents a) ((told t).stopping (outcome-failed r OutOfMemory (λ x. absurd (cc)) lacks));
 })
 
-pub whole-cause : (a b : Option HostModel) (k m : ℕ) (o : Outcome) (r : Result (Unit {0}) Outcome) (p : Part (Unit {0})) → o ≡ outcome_of r → Works a b k m r p → ComesByFailing a HostFault o k m p
+pub whole-cause : (a b : Option HostModel) (k m : ℕ) (o : Outcome) (r : Result (Unit {0}) Outcome) (p : Part (Unit {0})) → o ≡ outcome_of r → WorksBetween a b k m r p → ComesByFailing a HostFault o k m p
 whole-cause a b k m o r p e w = λ serves fault. w.cause serves (outcome-failed r HostFault (λ x. absurd (cc)) (sym e ∙ fault))
 
 pub whole-rose : (a b : Option HostModel) (k m : ℕ) (o : Outcome) (r : Result (Unit {0}) Outcome) (p : Part (Unit {0})) → o ≡ outcome_of r →
-    ((n : HostModel) → HasToolSlots n → Makes host Serves p n) → Works a b k m r p → OnlyByFailure a HostFault o k m
+    ((n : HostModel) → HasToolSlots n → Makes host Serves p n) → WorksBetween a b k m r p → OnlyByFailure a HostFault o k m
 whole-rose a b k m o r p e served w = λ has fault. only-failed a b k m r p served w has (outcome-failed r HostFault (λ x. absurd (cc)) (sym e ∙ fault))
 
-pub whole-absent : (a b : Option HostModel) (k m : ℕ) (o : Outcome) (r : Result (Unit {0}) Outcome) (p : Part (Unit {0})) → o ≡ outcome_of r → Works a b k m r p → ComesByFault a NoFile o k m
+pub whole-absent : (a b : Option HostModel) (k m : ℕ) (o : Outcome) (r : Result (Unit {0}) Outcome) (p : Part (Unit {0})) → o ≡ outcome_of r → WorksBetween a b k m r p → ComesByFault a NoFile o k m
 whole-absent a b k m o r p e w = λ silent none. w.absent silent (outcome-failed r NoFile (λ x. absurd (cc)) (sym e ∙ none))
 
 outcome-words : (r : Result (Unit {0}) Outcome) → IfErr r (λ outcome. is_end outcome ≡ true) → is_usage (outcome_of r) ≡ false
 outcome-words (Ok u) i = refl
 outcome-words (Err outcome) i = end-words outcome i
 
-pub whole-words : (a b : Option HostModel) (k m : ℕ) (o : Outcome) (r : Result (Unit {0}) Outcome) (p : Part (Unit {0})) → o ≡ outcome_of r → Works a b k m r p → is_usage o ≡ false
+pub whole-words : (a b : Option HostModel) (k m : ℕ) (o : Outcome) (r : Result (Unit {0}) Outcome) (p : Part (Unit {0})) → o ≡ outcome_of r → WorksBetween a b k m r p → is_usage o ≡ false
 whole-words a b k m o r p e w = rw e (outcome-words r w.ends)
 
 -- ---- an object that is assembled, and one that is listed

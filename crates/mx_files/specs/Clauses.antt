@@ -74,12 +74,16 @@ is_end outcome = false
 
 -- A part is carried out. Over every host it ends the work only so; with a fault of the host only by a call that failed; over a host
 -- that tells nothing a file is missing only where the count of faults rose; and that count does not fall.
-pub record Works {A : Type 0} (old new : Option HostModel) (earlier later : ℕ) (result : Result A Outcome) (part : Part A) : Type 0 where
+pub record WorksBetween {A : Type 0} (old new : Option HostModel) (earlier later : ℕ) (result : Result A Outcome) (part : Part A) : Type 0 where
   pub told : CarriesOut old new (Err OutOfMemory) result part
   pub cause : ComesByFailing old (Err HostFault) result earlier later part
   pub absent : ComesByFault old (Err NoFile) result earlier later
   pub ends : IfErr result (λ outcome. is_end outcome ≡ true)
   pub stands : Stands old new earlier later
+
+-- the same of a host: `told` is what it tells, `faults` its count of faults, `old` and `new` are the host before and after
+abbrev pub Works : {H A : Type 0} → (H → Option HostModel) → (H → ℕ) → H → H → Result A Outcome → Part A → Type 0
+Works told faults old new result part = WorksBetween (told old) (told new) (faults old) (faults new) result part
 
 -- of a whole, this is what is left to do
 pub record Leaves {A : Type 0} (old new : Option HostModel) (earlier later : ℕ) (rest whole : Part A) : Type 0 where

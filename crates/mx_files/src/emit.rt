@@ -143,8 +143,7 @@ fn assembled_answer(answer: Result<(), Refusal>) -> Result<(), Outcome>
 
 /// Closes the object file, also that of a source that is refused.
 fn close_object<H: Host>(host: &mut H, answer: Result<(), Refusal>) -> Result<(), Outcome>
-    ensures { Works (H.told host.old) (H.told host.new) (H.faults host.old) (H.faults host.new) result
-        (plans.close_object answer) }
+    ensures { Works H.told H.faults host.old host.new result (plans.close_object answer) }
 {
     match close_file(host, OBJECT_SLOT) {
         Ok(()) => assembled_answer(answer),
@@ -158,8 +157,7 @@ fn put_object<H: Host>(
     bytes: &[u8],
     answer: Result<(), Refusal>,
 ) -> Result<(), Outcome>
-    ensures { Works (H.told host.old) (H.told host.new) (H.faults host.old) (H.faults host.new) result
-        (plans.put_object (bytes.now, answer)) }
+    ensures { Works H.told H.faults host.old host.new result (plans.put_object (bytes.now, answer)) }
 {
     match put_text(host, OBJECT_SLOT, bytes) {
         Ok(()) => close_object(host, answer),
@@ -170,8 +168,7 @@ fn put_object<H: Host>(
 /// Assembles a source into the object file, which is open. The file of a source that is refused has the
 /// items of the statements before the faulty one.
 fn put_source<H: Host>(alloc: Global, host: &mut H, text: &[u8]) -> Result<(), Outcome>
-    ensures { Works (H.told host.old) (H.told host.new) (H.faults host.old) (H.faults host.new) result
-        (plans.put_source text.now) }
+    ensures { Works H.told H.faults host.old host.new result (plans.put_source text.now) }
 {
     match source_object(alloc, text) {
         Ok((bytes, answer)) => put_object(host, bytes.as_slice(), answer),
@@ -182,8 +179,7 @@ fn put_source<H: Host>(alloc: Global, host: &mut H, text: &[u8]) -> Result<(), O
 /// Opens the file of this name as the object file.
 #[tactic(auto, using(mx_plan::proofs::Plans::plans), unfolding(crate::specs::ObjectPlans::open_object))]
 fn open_object<H: Host>(host: &mut H, name: &[u8]) -> Result<(), Outcome>
-    ensures { Works (H.told host.old) (H.told host.new) (H.faults host.old) (H.faults host.new) result
-        (plans.open_object name.now) }
+    ensures { Works H.told H.faults host.old host.new result (plans.open_object name.now) }
 {
     match open(host, OBJECT_SLOT, name, Mode::BinaryWrite) {
         Ok(()) => Ok(()),
@@ -195,8 +191,7 @@ fn open_object<H: Host>(host: &mut H, name: &[u8]) -> Result<(), Outcome>
 
 /// Assembles a source into the file of this name.
 fn put_into<H: Host>(alloc: Global, host: &mut H, object: &[u8], text: &[u8]) -> Result<(), Outcome>
-    ensures { Works (H.told host.old) (H.told host.new) (H.faults host.old) (H.faults host.new) result
-        (plans.put_into object.now text.now) }
+    ensures { Works H.told H.faults host.old host.new result (plans.put_into object.now text.now) }
 {
     match open_object(host, object) {
         Ok(()) => put_source(alloc, host, text),
@@ -211,8 +206,7 @@ fn assemble<H: Host>(
     source: &[u8],
     object: &[u8],
 ) -> Result<(), Outcome>
-    ensures { Works (H.told host.old) (H.told host.new) (H.faults host.old) (H.faults host.new) result
-        (plans.assemble_part source.now object.now) }
+    ensures { Works H.told H.faults host.old host.new result (plans.assemble_part source.now object.now) }
 {
     match read_file(alloc, host, source, SOURCE_PIECES) {
         Ok(text) => put_into(alloc, host, object, text.as_slice()),

@@ -12,8 +12,7 @@ const OUTPUT_SLOT: u16 = 259;
 
 /// Writes a line by one write, which ends the work if it is not done.
 pub fn write_line<H: Host>(host: &mut H, line: &[u8]) -> Result<(), Outcome>
-    ensures { Works (H.told host.old) (H.told host.new) (H.faults host.old) (H.faults host.new) result
-        (plans.line_plan line.now) }
+    ensures { Works H.told H.faults host.old host.new result (plans.line_plan line.now) }
 {
     put_piece(host, OUTPUT_SLOT, line)
 }

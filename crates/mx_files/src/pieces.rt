@@ -13,8 +13,7 @@ use mx_plan::{close, write};
 #[tactic(auto, using(mx_plan::proofs::Plans::plans), unfolding(crate::specs::FilePlans::write_piece))]
 pub fn put_piece<H: Host>(host: &mut H, slot: u16, piece: &[u8]) -> Result<(), Outcome>
     requires { slot ≤ 259 }
-    ensures { Works (H.told host.old) (H.told host.new) (H.faults host.old) (H.faults host.new) result
-        (spec.write_piece slot piece.now) }
+    ensures { Works H.told H.faults host.old host.new result (spec.write_piece slot piece.now) }
 {
     match write(host, slot, piece) {
         Ok(()) => Ok(()),
@@ -27,8 +26,7 @@ pub fn put_piece<H: Host>(host: &mut H, slot: u16, piece: &[u8]) -> Result<(), O
 /// Writes a text in pieces, up to one that is not written.
 pub fn put_text<H: Host>(host: &mut H, slot: u16, text: &[u8]) -> Result<(), Outcome>
     requires { slot ≤ 259 }
-    ensures { Works (H.told host.old) (H.told host.new) (H.faults host.old) (H.faults host.new) result
-        (spec.text_plan slot text.now) }
+    ensures { Works H.told H.faults host.old host.new result (spec.text_plan slot text.now) }
 {
     let mut rest = text;
     while rest.len() > 4096 {
@@ -46,8 +44,7 @@ pub fn put_text<H: Host>(host: &mut H, slot: u16, text: &[u8]) -> Result<(), Out
 #[tactic(auto, using(mx_plan::proofs::Plans::plans), unfolding(crate::specs::FilePlans::close_file))]
 pub fn close_file<H: Host>(host: &mut H, slot: u16) -> Result<(), Outcome>
     requires { slot ≤ 257 }
-    ensures { Works (H.told host.old) (H.told host.new) (H.faults host.old) (H.faults host.new) result
-        (spec.close_file slot) }
+    ensures { Works H.told H.faults host.old host.new result (spec.close_file slot) }
 {
     match close(host, slot) {
         Ok(()) => Ok(()),

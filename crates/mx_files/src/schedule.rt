@@ -66,8 +66,7 @@ fn judged(bytes: Bytes) -> Result<Bytes, Outcome>
 /// Reads the schedule in the file of this name: 1 to 2^22 bytes of which each names one of eight processors. Where it is
 /// none, the first place of its fault is told when the file was closed.
 pub fn read_schedule<H: Host>(alloc: Global, host: &mut H, name: &[u8]) -> Result<Bytes, Outcome>
-    ensures works { Works (H.told host.old) (H.told host.new) (H.faults host.old) (H.faults host.new) result
-        (spec.schedule_plan name.now) }
+    ensures works { Works H.told H.faults host.old host.new result (spec.schedule_plan name.now) }
     ensures told { Answers (H.told host.old) (H.told host.new) (Err Outcome.OutOfMemory) result
         (λ m. spec.schedule_bytes name.now m) }
     ensures names { IfOk result spec.AreEight }

@@ -28,7 +28,7 @@ pub const OBJECT_PIECES: u32 = 16385;
 #[tactic(auto, using(mx_plan::proofs::Plans::plans, mx_plan::proofs::Plans::needs), unfolding(crate::specs::FilePlans::read_piece))]
 fn one_piece<H: Host>(host: &mut H, got: &mut Bytes, piece: &mut [u8]) -> Result<bool, Outcome>
     requires { length piece.old ≡ 4096 }
-    ensures { Works (H.told host.old) (H.told host.new) (H.faults host.old) (H.faults host.new)
+    ensures { Works H.told H.faults host.old host.new
         (map_ok (λ whole. (got.new, whole)) result) (plans.read_piece got.old) }
 {
     match read(host, INPUT_SLOT, piece) {
@@ -44,8 +44,7 @@ fn one_piece<H: Host>(host: &mut H, got: &mut Bytes, piece: &mut [u8]) -> Result
 
 /// Reads the input file in pieces up to a shorter one, at most so many.
 fn pieces<H: Host>(alloc: Global, host: &mut H, most: u32) -> Result<Bytes, Outcome>
-    ensures { Works (H.told host.old) (H.told host.new) (H.faults host.old) (H.faults host.new) result
-        (plans.read_pieces most []) }
+    ensures { Works H.told H.faults host.old host.new result (plans.read_pieces most []) }
 {
     let mut got = Bytes::new(alloc);
     let mut piece = [0u8; 4096];
@@ -61,8 +60,7 @@ fn pieces<H: Host>(alloc: Global, host: &mut H, most: u32) -> Result<Bytes, Outc
 
 /// Reads the input file, which is open, and closes it.
 fn read_open<H: Host>(alloc: Global, host: &mut H, most: u32) -> Result<Bytes, Outcome>
-    ensures { Works (H.told host.old) (H.told host.new) (H.faults host.old) (H.faults host.new) result
-        (plans.read_open most) }
+    ensures { Works H.told H.faults host.old host.new result (plans.read_open most) }
 {
     match pieces(alloc, host, most) {
         Ok(bytes) => match close_file(host, INPUT_SLOT) {
@@ -76,8 +74,7 @@ fn read_open<H: Host>(alloc: Global, host: &mut H, most: u32) -> Result<Bytes, O
 /// Opens the file of this name as the input file.
 #[tactic(auto, using(mx_plan::proofs::Plans::plans), unfolding(crate::specs::FilePlans::open_input))]
 fn open_input<H: Host>(host: &mut H, name: &[u8]) -> Result<(), Outcome>
-    ensures { Works (H.told host.old) (H.told host.new) (H.faults host.old) (H.faults host.new) result
-        (plans.open_input name.now) }
+    ensures { Works H.told H.faults host.old host.new result (plans.open_input name.now) }
 {
     match open(host, INPUT_SLOT, name, Mode::BinaryRead) {
         Ok(()) => Ok(()),
@@ -94,8 +91,7 @@ fn whole_file<H: Host>(
     name: &[u8],
     most: u32,
 ) -> Result<Bytes, Outcome>
-    ensures { Works (H.told host.old) (H.told host.new) (H.faults host.old) (H.faults host.new) result
-        (plans.file_plan most name.now) }
+    ensures { Works H.told H.faults host.old host.new result (plans.file_plan most name.now) }
 {
     match open_input(host, name) {
         Ok(()) => read_open(alloc, host, most),
@@ -111,8 +107,7 @@ pub fn read_file<H: Host>(
     name: &[u8],
     most: u32,
 ) -> Result<Bytes, Outcome>
-    ensures works { Works (H.told host.old) (H.told host.new) (H.faults host.old) (H.faults host.new) result
-        (plans.file_plan most name.now) }
+    ensures works { Works H.told H.faults host.old host.new result (plans.file_plan most name.now) }
     ensures told { Answers (H.told host.old) (H.told host.new) (Err Outcome.OutOfMemory) result
         (λ m. spec.file_bytes most name.now m) }
     ensures words { IfErr result (λ e. is_usage e ≡ false) }

@@ -66,8 +66,7 @@ fn unread_trie(place: u64, fault: StabFault) -> Outcome
 
 /// Writes a text as a line, if it has bytes.
 fn put_shown<H: Host>(host: &mut H, text: &[u8]) -> Result<(), Outcome>
-    ensures { Works (H.told host.old) (H.told host.new) (H.faults host.old) (H.faults host.new) result
-        (plans.shown_plan text.now) }
+    ensures { Works H.told H.faults host.old host.new result (plans.shown_plan text.now) }
 {
     if text.is_empty() {
         return Ok(());
@@ -82,7 +81,7 @@ fn put_item<H: Host>(
     line: &mut Bytes,
     item: &Item,
 ) -> Result<(), Outcome>
-    ensures put { Works (H.told host.old) (H.told host.new) (H.faults host.old) (H.faults host.new) result
+    ensures put { Works H.told H.faults host.old host.new result
         (plans.item_plan (item_text lister.old item.now)) }
     ensures lambda { OnOk result (lister.new ≡ lambda_after lister.old item.now) }
 {
@@ -111,7 +110,7 @@ fn list_next<H: Host>(
     ensures less { result ≡ Ok true → length reader.new.rest < length reader.old.rest }
     ensures read { OnOk result (reader.new.fault ≡ None) }
     ensures ends { IfErr result (λ outcome.
-        Works (H.told host.old) (H.told host.new) (H.faults host.old) (H.faults host.new) (Err outcome)
+        Works H.told H.faults host.old host.new (Err outcome)
         (plans.typed_plan (spec.still_typed lister.old reader.old))) }
 {
     match reader.next() {
@@ -138,7 +137,7 @@ fn list_items<H: Host>(
         (plans.typed_plan (spec.still_typed lister.old reader.old))) }
     ensures read { OnOk result (reader.new.fault ≡ None) }
     ensures ends { IfErr result (λ outcome.
-        Works (H.told host.old) (H.told host.new) (H.faults host.old) (H.faults host.new) (Err outcome)
+        Works H.told H.faults host.old host.new (Err outcome)
         (plans.typed_plan (spec.still_typed lister.old reader.old))) }
 {
     loop {
@@ -152,7 +151,7 @@ fn list_items<H: Host>(
 
 /// Writes the line of a symbol.
 fn put_symbol<H: Host>(host: &mut H, lister: &Lister, symbol: &Symbol) -> Result<(), Outcome>
-    ensures { Works (H.told host.old) (H.told host.new) (H.faults host.old) (H.faults host.new) result
+    ensures { Works H.told H.faults host.old host.new result
         (lines.made_plan (ended (symbol_line symbol.now))) }
 {
     match lister.symbol_line(symbol) {
@@ -163,7 +162,7 @@ fn put_symbol<H: Host>(host: &mut H, lister: &Lister, symbol: &Symbol) -> Result
 
 /// Writes the lines of symbols.
 fn put_symbols<H: Host>(host: &mut H, lister: &Lister, symbols: &[Symbol]) -> Result<(), Outcome>
-    ensures { Works (H.told host.old) (H.told host.new) (H.faults host.old) (H.faults host.new) result
+    ensures { Works H.told H.faults host.old host.new result
         (lines.lines_plan (map (λ s. ended (symbol_line s)) symbols.now)) }
 {
     for symbol in symbols {
@@ -177,8 +176,7 @@ fn put_symbols<H: Host>(host: &mut H, lister: &Lister, symbols: &[Symbol]) -> Re
 
 /// Writes the line of a trie.
 fn put_trie<H: Host>(host: &mut H, lister: &Lister, trie: &[u8]) -> Result<(), Outcome>
-    ensures { Works (H.told host.old) (H.told host.new) (H.faults host.old) (H.faults host.new) result
-        (lines.made_plan (ended (stab_line trie.now))) }
+    ensures { Works H.told H.faults host.old host.new result (lines.made_plan (ended (stab_line trie.now))) }
 {
     match lister.trie_line(trie) {
         Ok(line) => write_line(host, line.as_slice()),
@@ -193,7 +191,7 @@ fn put_tail<H: Host>(
     trie: &[u8],
     symbols: &[Symbol],
 ) -> Result<(), Outcome>
-    ensures { Works (H.told host.old) (H.told host.new) (H.faults host.old) (H.faults host.new) result
+    ensures { Works H.told H.faults host.old host.new result
         (lines.lines_plan (spec.tail_lines trie.now symbols.now)) }
 {
     match put_trie(host, lister, trie) {
@@ -211,7 +209,7 @@ fn list_tail<H: Host>(
     tail: &Tail,
 ) -> Result<(), Outcome>
     requires { tail.now.place ≤ 2 ^ 26 }
-    ensures { Works (H.told host.old) (H.told host.new) (H.faults host.old) (H.faults host.new) result
+    ensures { Works H.told H.faults host.old host.new result
         (plans.typed_plan (spec.tail_typed (Ok tail.now))) }
 {
     match mx_stab::read(alloc, tail.trie.as_slice()) {
@@ -228,7 +226,7 @@ fn list_end<H: Host>(
     reader: &mut Reader,
 ) -> Result<(), Outcome>
     requires { reader.old.fault ≡ None }
-    ensures { Works (H.told host.old) (H.told host.new) (H.faults host.old) (H.faults host.new) result
+    ensures { Works H.told H.faults host.old host.new result
         (plans.typed_plan (spec.end_typed (Ok (left_of reader.old)))) }
 {
     match reader.finish() {
@@ -240,7 +238,7 @@ fn list_end<H: Host>(
 /// Lists the object that a reader was fed.
 fn list_fed<H: Host>(alloc: Global, host: &mut H, reader: &mut Reader) -> Result<(), Outcome>
     requires { reader.old.fault ≡ None }
-    ensures { Works (H.told host.old) (H.told host.new) (H.faults host.old) (H.faults host.new) result
+    ensures { Works H.told H.faults host.old host.new result
         (plans.typed_plan (spec.still_typed 0 reader.old)) }
 {
     let mut lister = Lister::new(alloc);
@@ -253,8 +251,7 @@ fn list_fed<H: Host>(alloc: Global, host: &mut H, reader: &mut Reader) -> Result
 
 /// Lists an object, or the items before its first fault.
 fn list_object<H: Host>(alloc: Global, host: &mut H, bytes: &[u8]) -> Result<(), Outcome>
-    ensures { Works (H.told host.old) (H.told host.new) (H.faults host.old) (H.faults host.new) result
-        (plans.typed_plan (spec.typed bytes.now)) }
+    ensures { Works H.told H.faults host.old host.new result (plans.typed_plan (spec.typed bytes.now)) }
 {
     let mut reader = Reader::new(alloc);
     match reader.feed(bytes) {
@@ -265,8 +262,7 @@ fn list_object<H: Host>(alloc: Global, host: &mut H, bytes: &[u8]) -> Result<(),
 
 /// Reads an object, and lists it.
 fn list_whole<H: Host>(alloc: Global, host: &mut H, name: &[u8]) -> Result<(), Outcome>
-    ensures { Works (H.told host.old) (H.told host.new) (H.faults host.old) (H.faults host.new) result
-        (plans.list_part name.now) }
+    ensures { Works H.told H.faults host.old host.new result (plans.list_part name.now) }
 {
     match read_file(alloc, host, name, OBJECT_PIECES) {
         Ok(bytes) => list_object(alloc, host, bytes.as_slice()),

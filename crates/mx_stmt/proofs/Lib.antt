@@ -1,6 +1,5 @@
 pub mod DataLists
 pub mod FieldsRead
-pub mod Nearest
 pub mod OperandLists
 pub mod SecondCodes
 pub mod CodesOfTargets

@@ -1,5 +1,5 @@
 -- Each fault of a statement that is read or encoded has a number above 0: none is want of memory.
-use Rattle.std.proofs.Common.{◌≡◌, ◌<◌, ℕ, ◌+◌, ◌%◌, ◌^◌, ◌==◌, List, [], ◌∷◌, Option, None, Ok, Err, arith, rules}
+use Rattle.std.proofs.Common.{◌≡◌, ◌<◌, ℕ, ◌+◌, ◌%◌, ◌^◌, ◌==◌, List, [], ◌∷◌, Option, None, ok_or, Ok, Err, arith, rules}
 use Rattle.std.specs.Prelude.{IfErr}
 use Rattle.mx_expr.specs.Faults as expressions
 use Rattle.mx_ops.specs.declared.op.Op.TheVariants.{Pseudo as PseudoOp}
@@ -7,9 +7,7 @@ use Rattle.mx_expr.specs.Spelling.{FaultAt}
 use Rattle.mx_stmt.specs.Faults.{fault_number}
 use Rattle.mx_stmt.specs.Data.{data_number}
 use Rattle.mx_stmt.specs.Encoding.{prefix_form}
-use Rattle.mx_stmt.specs.Gregs.{near_base}
 use Rattle.mx_stmt.specs.Operands.{field_number, pure_number, register_or_byte}
-use Rattle.mx_stmt.specs.declared.gregs.Base.{Base}
 use Rattle.mx_stmt.proofs.Words.{cond_both, nat_tests, Value, Awaited, Tree, unary, binary, Valued, value_of, ExprFault, Op, Code, Lda, Set, Pseudo, Shape, Three, Regs, Round, Neg, Mem, MemPure, Free, last_form, last_two, rounded_last, WaitKind, Data, Tetra, Target, Label, StmtFault, Answer, and_then, Known, Targets, knowledge_of, answer_of, operand_value, register_number, register_at, pure_at, field_at, register_or_byte_at, reference_of, target_by, target_at, relative_word, relative_form, address_of, free_at, form, data_target, with_rest, data_of, tetra_data, with_bytes, with_tetra, one_form, one_operand, pseudo_form, op_form, StatementTree, encoding, Fields, IsFault, fault_of}
 
 -- a fault of an answer has a number above 0
@@ -28,6 +26,10 @@ number-ok x = tt
 number-fault : (A : Type 0) (fault : StmtFault) → 0 < fault_number fault → HasNumber {A = A} (Err fault)
 unfolding HasNumber
 number-fault A fault h = h
+
+number-unless : {A : Type 0} (x : Option A) (fault : StmtFault) → 0 < fault_number fault → HasNumber (ok_or x fault)
+unfolding HasNumber
+number-unless x fault h = grind arith
 
 -- ---- operands
 
@@ -82,10 +84,6 @@ target-number who n h = grind arith
 number-target : (k : Known) (e : Tree) → HasNumber (target_at k e)
 number-target k e = target-number (reference_of k e) (pure_at k e) (number-pure k e)
 
-number-base : (b : Option Base) → HasNumber (near_base b)
-unfolding HasNumber
-number-base b = grind arith
-
 number-relative : (head reach place target : ℕ) → HasNumber (relative_word head reach place target)
 unfolding HasNumber
 number-relative head reach place target = grind arith
@@ -96,7 +94,7 @@ number-reference : (t : Targets) (head reach place : ℕ) (kind : WaitKind) (tar
 number-reference t head reach place kind target = search (rules, number-then, number-relative, number-ok)
 
 number-address : (k : Known) (code x : ℕ) (a : Value) → HasNumber (address_of k code x a)
-number-address k code x a = search (rules, number-then, number-base, number-ok)
+number-address k code x a = search (rules, number-then, number-unless, number-ok)
 
 number-last : (k : Known) (code x y : ℕ) (z : Tree) → HasNumber (last_form k code x y z)
 number-last k code x y z = search (rules, number-then, number-either, number-ok)
@@ -149,7 +147,7 @@ number-prefix : (k : Known) (label : Option Label) (e : Tree) → HasNumber (pre
 number-prefix k label e = search (rules, number-then, number-ok, number-fault)
 
 number-one : (k : Known) (label : Option Label) (p : Pseudo) (e : Tree) → HasNumber (one_form k label p e)
-number-one k label p e = search (rules, number-then, number-operand, number-pure, number-register, number-prefix, number-ok, number-fault)
+number-one k label p e = search (rules, number-then, number-operand, number-pure, number-register, number-prefix, number-unless, number-ok, number-fault)
 
 number-listed : (k : Known) (label : Option Label) (p : Pseudo) (operands : List Tree) → HasNumber (one_operand k label p operands)
 number-listed k label p operands = search (rules, number-one, number-fault)

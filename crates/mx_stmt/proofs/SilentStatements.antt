@@ -1,13 +1,13 @@
 -- Statements that place no bytes: where what is known is sound, so are their labels and the registers of GREGs.
 use Rattle.std.proofs.Common.{◌≡◌, ◌≤◌, ℕ, List, [], Option, Ok, Err, refl, arith, rules}
-use Rattle.mx_stmt.proofs.Words.{IfSome, Value, Tree, Pseudo, Label, Placed, StmtFault, Answer, and_then, IsAllocable, lowest_of, register_for, Known, IsPossible, label_value, without_bytes, prefix_form, one_form, one_operand, HasRegisterNumber, IsSound}
+use Rattle.mx_stmt.proofs.Words.{IfSome, Value, Tree, Pseudo, Label, Placed, StmtFault, Answer, and_then, IsAllocable, lowest_of, Known, IsPossible, greg_register, label_value, without_bytes, prefix_form, one_form, one_operand, HasRegisterNumber, IsSound}
 use Rattle.mx_stmt.specs.declared.placed.Effect.{Effect}
 use Rattle.mx_stmt.proofs.RegisterNumbers.{operand-fits}
 
 -- the register of a GREG
 
-pub allocable : (gregs : List ℕ) (value reg : ℕ) → 32 ≤ lowest_of gregs → register_for gregs value ≡ Ok reg → IsAllocable gregs reg
-allocable gregs value reg low is = grind arith
+allocable : (k : Known) (value reg : ℕ) → 32 ≤ lowest_of k.gregs → greg_register k value ≡ Ok reg → IsAllocable k.gregs reg
+allocable k value reg low is = grind arith
 
 -- a label and an effect that are sound
 pub record IsFine (gregs : List ℕ) (p : Placed) : Type 0 where

@@ -1,7 +1,7 @@
 -- The bytes of one statement: what it places, its label's value, its effect and the next place, or its first fault.
 -- Each future reference has its target's value, or zero where there is no target (MMIXware, MMIXAL; TAOCP 1, Fascicle
 -- 1, section 1.3.2').
-use Rattle.std.specs.Prelude.{ℕ, ◌+◌, ◌-◌, ◌*◌, ◌/◌, ◌%◌, ◌^◌, nat_lt, if◌then◌else◌, List, [], ◌∷◌, length, Option, None, Some, Result, Ok, Err}
+use Rattle.std.specs.Prelude.{ℕ, ◌+◌, ◌-◌, ◌*◌, ◌/◌, ◌%◌, ◌^◌, nat_lt, if◌then◌else◌, List, [], ◌∷◌, length, Option, None, Some, ok_or, Result, Ok, Err}
 use Rattle.mx_word.specs.declared.symbols.Value.{Value}
 use Rattle.mx_word.specs.declared.symbols.Value.TheVariants.{Pure, Reg}
 use Rattle.mx_word.specs.declared.waits.Awaited.{Awaited}
@@ -17,6 +17,7 @@ use Rattle.mx_ops.specs.declared.op.Pseudo.{Pseudo}
 use Rattle.mx_ops.specs.declared.op.Pseudo.TheVariants as pseudo
 use Rattle.mx_ops.specs.declared.op.Shape.TheVariants.{Mem}
 use Rattle.mx_ops.specs.Shapes.{shapes_of}
+use Rattle.mx_greg.specs.Gregs.{IsAllocable, register_for}
 use Rattle.mx_stmt.specs.declared.data.Data.{Data}
 use Rattle.mx_stmt.specs.declared.forms.Tetra.{Tetra}
 use Rattle.mx_stmt.specs.declared.statement.Label.{Label}
@@ -24,9 +25,8 @@ use Rattle.mx_stmt.specs.declared.statement.Statement.{Statement}
 use Rattle.mx_stmt.specs.declared.placed.Effect.{Effect}
 use Rattle.mx_stmt.specs.declared.placed.Effect.TheVariants.{Plain, Prefix, Greg, Local}
 use Rattle.mx_stmt.specs.declared.placed.Placed.{Placed}
-use Rattle.mx_stmt.specs.declared.faults.StmtFault.TheVariants.{Expr, Operands, BadPlace}
+use Rattle.mx_stmt.specs.declared.faults.StmtFault.TheVariants.{Expr, Operands, TooManyGregs, BadPlace}
 use Rattle.mx_stmt.specs.Steps.{Answer, and_then}
-use Rattle.mx_stmt.specs.Gregs.{IsAllocable, register_for}
 use Rattle.mx_stmt.specs.Operands.{Known, Targets, symbol_form, operand_value, register_at, pure_at}
 use Rattle.mx_stmt.specs.Forms.{form, form_by, set_form}
 use Rattle.mx_stmt.specs.Data.{data_form}
@@ -114,10 +114,13 @@ abbrev pub prefix_form : Known → Option Label → Tree → Answer Placed
 prefix_form k label (name text) = and_then (complete_symbol k text) (λ full. without_bytes k label (Pure k.at) (Prefix full) k.at)
 prefix_form k label e = Err Operands
 
--- GREG: the label gets the register.
+-- GREG: the label gets the register of the value.
+abbrev pub greg_register : Known → ℕ → Answer ℕ
+greg_register k value = ok_or (register_for k.gregs value) TooManyGregs
+
 abbrev pub greg_form : Known → Option Label → Tree → Answer Placed
 greg_form k label e =
-    and_then (pure_at k e) (λ value. and_then (register_for k.gregs value) (λ reg. without_bytes k label (Reg reg) (Greg reg value) k.at))
+    and_then (pure_at k e) (λ value. and_then (greg_register k value) (λ reg. without_bytes k label (Reg reg) (Greg reg value) k.at))
 
 -- LOCAL: the register has to stay below the final G.
 abbrev pub local_form : Known → Option Label → Tree → Answer Placed

@@ -1,6 +1,6 @@
 -- The forms of the operands of instructions, and the tetras that they give (MMIXware, "MMIX instructions"
 -- and "MMIXAL"; TAOCP 1, Fascicle 1, section 1.3.1').
-use Rattle.std.specs.Prelude.{ℕ, ◌+◌, ◌-◌, ◌*◌, ◌/◌, ◌%◌, ◌^◌, ◌==◌, not, ◌&&◌, nat_le, nat_lt, Bool, true, false, if◌then◌else◌, List, [], ◌∷◌, Option, None, Some, Ok, Err}
+use Rattle.std.specs.Prelude.{ℕ, ◌+◌, ◌-◌, ◌*◌, ◌/◌, ◌%◌, ◌^◌, ◌==◌, not, ◌&&◌, nat_le, nat_lt, Bool, true, false, if◌then◌else◌, List, [], ◌∷◌, Option, None, Some, ok_or, Ok, Err}
 use Rattle.std.specs.Result.{result_unwrap_or}
 use Rattle.mx_word.specs.declared.symbols.Value.{Value}
 use Rattle.mx_word.specs.declared.symbols.Value.TheVariants.{Pure, Reg}
@@ -9,15 +9,15 @@ use Rattle.mx_word.specs.declared.waits.WaitKind.TheVariants.{Near, Far}
 use Rattle.mx_expr.specs.Tree.{Tree}
 use Rattle.mx_ops.specs.declared.op.Shape.{Shape}
 use Rattle.mx_ops.specs.declared.op.Shape.TheVariants.{Three, Regs, Round, Neg, Rel, Mem, MemPure, Wyde, Jump, Put, Get, Pop, One, Save, Unsave, Free}
+use Rattle.mx_greg.specs.declared.gregs.Base.{Base}
+use Rattle.mx_greg.specs.Gregs.{base_for}
 use Rattle.mx_stmt.specs.declared.operands.RegisterOrByte.{RegisterOrByte}
 use Rattle.mx_stmt.specs.declared.operands.RegisterOrByte.TheVariants.{Register, Byte}
 use Rattle.mx_stmt.specs.declared.operands.Target.{Target}
 use Rattle.mx_stmt.specs.declared.operands.Target.TheVariants as target
 use Rattle.mx_stmt.specs.declared.forms.Tetra.{Tetra}
-use Rattle.mx_stmt.specs.declared.faults.StmtFault.TheVariants.{Operands, NotMultiple, TooFar}
+use Rattle.mx_stmt.specs.declared.faults.StmtFault.TheVariants.{Operands, NoBase, NotMultiple, TooFar}
 use Rattle.mx_stmt.specs.Steps.{Answer, and_then}
-use Rattle.mx_stmt.specs.declared.gregs.Base.{Base}
-use Rattle.mx_stmt.specs.Gregs.{base_for}
 use Rattle.mx_stmt.specs.Operands.{Known, Targets, operand_value, register_at, field_at, register_or_byte_at, number_below, target_at}
 
 -- The tetra of a code with three bytes, with a byte and a wyde, or with 24 bits.
@@ -63,7 +63,7 @@ address_word code x base = tetra_xyz (code + 1) x base.reg base.above
 
 abbrev pub address_of : Known → ℕ → ℕ → Value → Answer Tetra
 address_of k code x (Reg y) = plain_tetra (tetra_xyz (code + 1) x y 0)
-address_of k code x (Pure a) = and_then (base_for k.gregs a) (λ base. plain_tetra (address_word code x base))
+address_of k code x (Pure a) = and_then (ok_or (base_for k.gregs a) NoBase) (λ base. plain_tetra (address_word code x base))
 
 abbrev pub address_form : Known → ℕ → ℕ → Tree → Answer Tetra
 address_form k code x a = and_then (operand_value k a) (address_of k code x)

@@ -1,6 +1,5 @@
 pub mod Faults
 pub mod Steps
-pub mod Gregs
 pub mod Operands
 pub mod Forms
 pub mod Data

@@ -88,14 +88,14 @@ impl Data {
 }
 
 /// An operand of this size; that of OCTA may be a future reference.
-fn data_target(alloc: Global, env: &Env, size: Size, e: &Expr) -> Result<Target, StmtFault>
+fn data_target(env: &Env, size: Size, e: &Expr) -> Result<Target, StmtFault>
     requires { HasDigits (tree_of e.now) }
     ensures { Answers result (spec.data_target (known_of env.now) (spec.size_bytes size) (tree_of e.now)) }
 {
     match size {
-        Size::Octa => target_at(alloc, env, e),
+        Size::Octa => target_at(env, e),
         _ => {
-            let n = pure_at(alloc, env, e)?;
+            let n = pure_at(env, e)?;
             let n = size.number(n)?;
             Ok(Target::Known(n))
         }
@@ -104,7 +104,6 @@ fn data_target(alloc: Global, env: &Env, size: Size, e: &Expr) -> Result<Target,
 
 /// The bytes and the references of operands of this size.
 pub(crate) fn data_form(
-    alloc: Global,
     env: &Env,
     line: u32,
     size: Size,
@@ -117,10 +116,10 @@ pub(crate) fn data_form(
     if operands.is_empty() {
         return Err(StmtFault::Operands);
     }
-    let mut data = Data::new(alloc);
+    let mut data = Data::new(env.alloc);
     let mut place = env.at;
     for e in operands {
-        let target = data_target(alloc, env, size, e)?;
+        let target = data_target(env, size, e)?;
         data.push(line, size, place, target)?;
         place = place.wrapping_add(size.bytes() as u64);
     }

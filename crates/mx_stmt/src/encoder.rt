@@ -16,22 +16,16 @@ use crate::{Env, Label, Placed, Statement, StmtFault};
 use mx_expr::Expr;
 use mx_ops::{Op, Pseudo, Shape};
 use mx_word::{Awaited, Bytes, NoMemory, Wait, WaitKind, Waits, tetra_bytes};
-use std::alloc::Global;
 
 /// The reference of an instruction as a list.
-fn tetra_waits(
-    alloc: Global,
-    line: u32,
-    place: u64,
-    wait: Option<(Awaited, WaitKind)>,
-) -> Result<Waits, NoMemory>
-    ensures { IfOk result (λ waits. waits ≡ spec.tetra_waits line place wait) }
+fn tetra_waits(env: &Env, line: u32, wait: Option<(Awaited, WaitKind)>) -> Result<Waits, NoMemory>
+    ensures { IfOk result (λ waits. waits ≡ spec.tetra_waits line env.now.at wait) }
 {
-    let mut waits = Waits::new(alloc);
+    let mut waits = Waits::new(env.alloc);
     if let Some((who, kind)) = wait {
         waits.push(Wait {
             who,
-            at: place,
+            at: env.at,
             line,
             kind,
         })?;
@@ -40,17 +34,16 @@ fn tetra_waits(
 }
 
 /// An instruction as bytes and references.
-fn tetra_data(alloc: Global, line: u32, place: u64, tetra: Tetra) -> Result<Data, NoMemory>
-    ensures { IfOk result (λ content. content ≡ spec.tetra_data line place tetra) }
+fn tetra_data(env: &Env, line: u32, tetra: Tetra) -> Result<Data, NoMemory>
+    ensures { IfOk result (λ content. content ≡ spec.tetra_data line env.now.at tetra) }
 {
-    let bytes = Bytes::copy(alloc, &tetra_bytes(tetra.word))?;
-    let waits = tetra_waits(alloc, line, place, tetra.wait)?;
+    let bytes = Bytes::copy(env.alloc, &tetra_bytes(tetra.word))?;
+    let waits = tetra_waits(env, line, tetra.wait)?;
     Ok(Data { bytes, waits })
 }
 
 /// The tetra of an instruction at the place.
 fn with_tetra(
-    alloc: Global,
     env: &Env,
     line: u32,
     label: &Option<Label>,
@@ -59,13 +52,12 @@ fn with_tetra(
     ensures placed { Answers result (spec.with_tetra (known_of env.now) line label.now (Ok tetra)) }
     ensures effect { IfOk result (λ placed. spec.IsPossible env.now.gregs.now placed.effect) }
 {
-    let data = tetra_data(alloc, line, env.at, tetra)?;
+    let data = tetra_data(env, line, tetra)?;
     with_bytes(env, label, data)
 }
 
 /// Data of a size at the place.
 fn with_data(
-    alloc: Global,
     env: &Env,
     line: u32,
     label: &Option<Label>,
@@ -78,13 +70,12 @@ fn with_data(
         (data_form no_targets (known_of env.now) line (size_bytes size) (trees_of operands.now))) }
     ensures effect { IfOk result (λ placed. spec.IsPossible env.now.gregs.now placed.effect) }
 {
-    let data = data_form(alloc, env, line, size, operands)?;
+    let data = data_form(env, line, size, operands)?;
     with_bytes(env, label, data)
 }
 
 /// A pseudo-operation.
 fn pseudo_form(
-    alloc: Global,
     env: &Env,
     line: u32,
     label: &Option<Label>,
@@ -97,17 +88,16 @@ fn pseudo_form(
     ensures effect { IfOk result (λ placed. spec.IsPossible env.now.gregs.now placed.effect) }
 {
     match pseudo {
-        Pseudo::Byte => with_data(alloc, env, line, label, Size::Byte, operands),
-        Pseudo::Wyde => with_data(alloc, env, line, label, Size::Wyde, operands),
-        Pseudo::Tetra => with_data(alloc, env, line, label, Size::Tetra, operands),
-        Pseudo::Octa => with_data(alloc, env, line, label, Size::Octa, operands),
-        _ => one_operand(alloc, env, label, pseudo, operands),
+        Pseudo::Byte => with_data(env, line, label, Size::Byte, operands),
+        Pseudo::Wyde => with_data(env, line, label, Size::Wyde, operands),
+        Pseudo::Tetra => with_data(env, line, label, Size::Tetra, operands),
+        Pseudo::Octa => with_data(env, line, label, Size::Octa, operands),
+        _ => one_operand(env, label, pseudo, operands),
     }
 }
 
 /// An instruction, LDA or SET as a tetra, or a pseudo-operation.
 fn op_form(
-    alloc: Global,
     env: &Env,
     line: u32,
     label: &Option<Label>,
@@ -120,12 +110,12 @@ fn op_form(
     ensures effect { IfOk result (λ placed. spec.IsPossible env.now.gregs.now placed.effect) }
 {
     let tetra = match op {
-        Op::Pseudo(pseudo) => return pseudo_form(alloc, env, line, label, pseudo, operands),
-        Op::Code(code) => coded(alloc, env, code, operands)?,
-        Op::Lda => instruction(alloc, env, Shape::Mem, 0x22, operands)?,
-        Op::Set => set_form(alloc, env, operands)?,
+        Op::Pseudo(pseudo) => return pseudo_form(env, line, label, pseudo, operands),
+        Op::Code(code) => coded(env, code, operands)?,
+        Op::Lda => instruction(env, Shape::Mem, 0x22, operands)?,
+        Op::Set => set_form(env, operands)?,
     };
-    with_tetra(alloc, env, line, label, tetra)
+    with_tetra(env, line, label, tetra)
 }
 
 /// The multiple to which the place is raised before a statement.
@@ -158,15 +148,14 @@ fn place_at(multiple: u64, at: u64) -> u64
 ///
 /// It is refused with the first fault of the operands, one after another, and then with the first of
 /// NotMultiple, TooFar, NoBase, TooManyGregs and BadPlace.
-pub fn encode(alloc: Global, s: &Statement, env: &Env) -> Result<Placed, StmtFault>
+pub fn encode(s: &Statement, env: &Env) -> Result<Placed, StmtFault>
     requires { OperandsHaveDigits s.now.operands }
     ensures placed { Answers result (spec.encoding no_targets (known_of env.now) (spec.statement_tree s.now)) }
     ensures effect { IfOk result (λ placed. spec.IsPossible env.now.gregs.now placed.effect) }
 {
     let env = Env {
-        names: env.names,
         at: place_at(alignment(s.op), env.at),
-        gregs: env.gregs,
+        ..*env
     };
-    op_form(alloc, &env, s.line, &s.label, s.op, s.operands.as_slice())
+    op_form(&env, s.line, &s.label, s.op, s.operands.as_slice())
 }

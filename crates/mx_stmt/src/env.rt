@@ -3,14 +3,17 @@
 ghost use Rattle.mx_stmt.specs.Operands.{symbol_value};
 ghost use Rattle.mx_names.specs.Names.{back_of};
 
-use crate::Gregs;
 use mx_expr::{ExprFault, Known};
+use mx_greg::Gregs;
 use mx_names::{NameFault, Names};
 use mx_word::Value;
+use std::alloc::Global;
 
-/// The names, the place that `@` stands for, and the global registers that are allocated.
+/// The names, the place that `@` stands for, the global registers that are allocated, and the
+/// allocator.
 #[derive(Clone, Copy)]
 pub struct Env<'a> {
+    pub alloc: Global,
     pub names: &'a Names,
     pub at: u64,
     pub gregs: &'a Gregs,

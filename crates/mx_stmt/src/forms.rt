@@ -7,7 +7,6 @@ ghost use Rattle.mx_stmt.specs.Operands.{known_of, no_targets};
 ghost use Rattle.mx_stmt.specs.Reading.{OperandsHaveDigits};
 ghost use Rattle.mx_stmt.specs.Steps.{Answers};
 
-use crate::gregs::Base;
 use crate::operands::{
     RegisterOrByte, Target, byte_at, operand_value, register_at, register_or_byte_at, target_at,
     whole_at, wyde_at, wyde_number,
@@ -15,9 +14,9 @@ use crate::operands::{
 use crate::relative::relative_word;
 use crate::{Env, StmtFault};
 use mx_expr::Expr;
+use mx_greg::Base;
 use mx_ops::Shape;
 use mx_word::{Awaited, Value, WaitKind};
-use std::alloc::Global;
 
 /// The tetra of an instruction, and the reference that its relative address waits for.
 #[derive(Drop)]
@@ -56,94 +55,60 @@ fn plain_tetra(word: u32) -> Result<Tetra, StmtFault>
 }
 
 /// `$Z|n`: a register, or a byte with the second code.
-pub(crate) fn last_form(
-    alloc: Global,
-    env: &Env,
-    code: u8,
-    x: u8,
-    y: u8,
-    z: &Expr,
-) -> Result<Tetra, StmtFault>
+pub(crate) fn last_form(env: &Env, code: u8, x: u8, y: u8, z: &Expr) -> Result<Tetra, StmtFault>
     requires digits { HasDigits (tree_of z.now) }
     requires second { code < 255 }
     ensures { Answers result (spec.last_form (known_of env.now) code x y (tree_of z.now)) }
 {
-    match register_or_byte_at(alloc, env, z)? {
+    match register_or_byte_at(env, z)? {
         RegisterOrByte::Register(z) => plain_tetra(tetra_xyz(code, x, y, z)),
         RegisterOrByte::Byte(n) => plain_tetra(tetra_xyz(code + 1, x, y, n)),
     }
 }
 
 /// `$Z`.
-pub(crate) fn last_register(
-    alloc: Global,
-    env: &Env,
-    code: u8,
-    x: u8,
-    y: u8,
-    z: &Expr,
-) -> Result<Tetra, StmtFault>
+pub(crate) fn last_register(env: &Env, code: u8, x: u8, y: u8, z: &Expr) -> Result<Tetra, StmtFault>
     requires { HasDigits (tree_of z.now) }
     ensures { Answers result (spec.last_register (known_of env.now) code x y (tree_of z.now)) }
 {
-    let z = register_at(alloc, env, z)?;
+    let z = register_at(env, z)?;
     plain_tetra(tetra_xyz(code, x, y, z))
 }
 
 /// `$Y,$Z|n`.
-pub(crate) fn last_two(
-    alloc: Global,
-    env: &Env,
-    code: u8,
-    x: u8,
-    y: &Expr,
-    z: &Expr,
-) -> Result<Tetra, StmtFault>
+pub(crate) fn last_two(env: &Env, code: u8, x: u8, y: &Expr, z: &Expr) -> Result<Tetra, StmtFault>
     requires y { HasDigits (tree_of y.now) }
     requires z { HasDigits (tree_of z.now) }
     requires second { code < 255 }
     ensures { Answers result (spec.last_two (known_of env.now) code x (tree_of y.now) (tree_of z.now)) }
 {
-    let y = register_at(alloc, env, y)?;
-    last_form(alloc, env, code, x, y, z)
+    let y = register_at(env, y)?;
+    last_form(env, code, x, y, z)
 }
 
 /// The last operand after a rounding mode: `$Z|n` of FLOT and its like, `$Z` of FIX and its like.
-pub(crate) fn rounded_last(
-    alloc: Global,
-    env: &Env,
-    code: u8,
-    x: u8,
-    y: u8,
-    z: &Expr,
-) -> Result<Tetra, StmtFault>
+pub(crate) fn rounded_last(env: &Env, code: u8, x: u8, y: u8, z: &Expr) -> Result<Tetra, StmtFault>
     requires { HasDigits (tree_of z.now) }
     ensures { Answers result (spec.rounded_last (known_of env.now) code x y (tree_of z.now)) }
 {
     if 0x08 <= code && code <= 0x0f {
-        last_form(alloc, env, code, x, y, z)
+        last_form(env, code, x, y, z)
     } else {
-        last_register(alloc, env, code, x, y, z)
+        last_register(env, code, x, y, z)
     }
 }
 
 /// `$Y`, which stands for `$Y,0`, or a pure address, which stands for a base and the difference from
 /// it.
-pub(crate) fn address_form(
-    alloc: Global,
-    env: &Env,
-    code: u8,
-    x: u8,
-    a: &Expr,
-) -> Result<Tetra, StmtFault>
+pub(crate) fn address_form(env: &Env, code: u8, x: u8, a: &Expr) -> Result<Tetra, StmtFault>
     requires digits { HasDigits (tree_of a.now) }
     requires second { code < 255 }
     ensures { Answers result (spec.address_form (known_of env.now) code x (tree_of a.now)) }
 {
-    match operand_value(alloc, env, a)? {
+    match operand_value(env, a)? {
         Value::Reg(y) => plain_tetra(tetra_xyz(code + 1, x, y, 0)),
         Value::Pure(a) => {
-            let Base { reg, above } = env.gregs.base_for(a)?;
+            let Base { reg, above } = env.gregs.base_for(a).ok_or(StmtFault::NoBase)?;
             plain_tetra(tetra_xyz(code + 1, x, reg, above as u8))
         }
     }
@@ -173,18 +138,12 @@ fn relative_form(
 }
 
 /// `a` after `$X`.
-pub(crate) fn branch_form(
-    alloc: Global,
-    env: &Env,
-    code: u8,
-    x: u8,
-    a: &Expr,
-) -> Result<Tetra, StmtFault>
+pub(crate) fn branch_form(env: &Env, code: u8, x: u8, a: &Expr) -> Result<Tetra, StmtFault>
     requires digits { HasDigits (tree_of a.now) }
     requires second { code < 254 }
     ensures { Answers result (spec.branch_form no_targets (known_of env.now) code x (tree_of a.now)) }
 {
-    let target = target_at(alloc, env, a)?;
+    let target = target_at(env, a)?;
     relative_form(
         tetra_wyde(code, x, 0),
         0x1_0000,
@@ -195,12 +154,12 @@ pub(crate) fn branch_form(
 }
 
 /// `a` alone.
-pub(crate) fn jump_form(alloc: Global, env: &Env, code: u8, a: &Expr) -> Result<Tetra, StmtFault>
+pub(crate) fn jump_form(env: &Env, code: u8, a: &Expr) -> Result<Tetra, StmtFault>
     requires digits { HasDigits (tree_of a.now) }
     requires second { code < 254 }
     ensures { Answers result (spec.jump_form no_targets (known_of env.now) code (tree_of a.now)) }
 {
-    let target = target_at(alloc, env, a)?;
+    let target = target_at(env, a)?;
     relative_form(
         tetra_whole(code, 0),
         0x100_0000,
@@ -211,50 +170,38 @@ pub(crate) fn jump_form(alloc: Global, env: &Env, code: u8, a: &Expr) -> Result<
 }
 
 /// `n` of 16 bits after X.
-pub(crate) fn wyde_form(
-    alloc: Global,
-    env: &Env,
-    code: u8,
-    x: u8,
-    n: &Expr,
-) -> Result<Tetra, StmtFault>
+pub(crate) fn wyde_form(env: &Env, code: u8, x: u8, n: &Expr) -> Result<Tetra, StmtFault>
     requires { HasDigits (tree_of n.now) }
     ensures { Answers result (spec.wyde_form (known_of env.now) code x (tree_of n.now)) }
 {
-    let n = wyde_at(alloc, env, n)?;
+    let n = wyde_at(env, n)?;
     plain_tetra(tetra_wyde(code, x, n))
 }
 
 /// `n` of 24 bits alone.
-pub(crate) fn whole_form(alloc: Global, env: &Env, code: u8, n: &Expr) -> Result<Tetra, StmtFault>
+pub(crate) fn whole_form(env: &Env, code: u8, n: &Expr) -> Result<Tetra, StmtFault>
     requires { HasDigits (tree_of n.now) }
     ensures { Answers result (spec.whole_form (known_of env.now) code (tree_of n.now)) }
 {
-    let n = whole_at(alloc, env, n)?;
+    let n = whole_at(env, n)?;
     plain_tetra(tetra_whole(code, n))
 }
 
 /// `n` of 8 bits as Z.
-pub(crate) fn byte_form(
-    alloc: Global,
-    env: &Env,
-    code: u8,
-    x: u8,
-    z: &Expr,
-) -> Result<Tetra, StmtFault>
+pub(crate) fn byte_form(env: &Env, code: u8, x: u8, z: &Expr) -> Result<Tetra, StmtFault>
     requires { HasDigits (tree_of z.now) }
     ensures { Answers result (spec.byte_form (known_of env.now) code x (tree_of z.now)) }
 {
-    let z = byte_at(alloc, env, z)?;
+    let z = byte_at(env, z)?;
     plain_tetra(tetra_xyz(code, x, 0, z))
 }
 
 /// A byte that may be the number of a register.
-pub(crate) fn free_at(alloc: Global, env: &Env, e: &Expr) -> Result<u8, StmtFault>
+pub(crate) fn free_at(env: &Env, e: &Expr) -> Result<u8, StmtFault>
     requires { HasDigits (tree_of e.now) }
     ensures { Answers result (spec.free_at (known_of env.now) (tree_of e.now)) }
 {
-    match register_or_byte_at(alloc, env, e)? {
+    match register_or_byte_at(env, e)? {
         RegisterOrByte::Register(r) => Ok(r),
         RegisterOrByte::Byte(n) => Ok(n),
     }
@@ -262,7 +209,6 @@ pub(crate) fn free_at(alloc: Global, env: &Env, e: &Expr) -> Result<u8, StmtFaul
 
 /// Three bytes, each of which may be a register.
 pub(crate) fn free_form(
-    alloc: Global,
     env: &Env,
     code: u8,
     x: &Expr,
@@ -274,18 +220,18 @@ pub(crate) fn free_form(
     requires z { HasDigits (tree_of z.now) }
     ensures { Answers result (spec.free_form (known_of env.now) code (tree_of x.now) (tree_of y.now) (tree_of z.now)) }
 {
-    let x = free_at(alloc, env, x)?;
-    let y = free_at(alloc, env, y)?;
-    let z = free_at(alloc, env, z)?;
+    let x = free_at(env, x)?;
+    let y = free_at(env, y)?;
+    let z = free_at(env, z)?;
     plain_tetra(tetra_xyz(code, x, y, z))
 }
 
 /// SET of a register is ORI with 0, SET of a number of 16 bits is SETL.
-pub(crate) fn set_to(alloc: Global, env: &Env, x: u8, y: &Expr) -> Result<Tetra, StmtFault>
+pub(crate) fn set_to(env: &Env, x: u8, y: &Expr) -> Result<Tetra, StmtFault>
     requires { HasDigits (tree_of y.now) }
     ensures { Answers result (spec.set_to_operand (known_of env.now) x (tree_of y.now)) }
 {
-    match operand_value(alloc, env, y)? {
+    match operand_value(env, y)? {
         Value::Reg(y) => plain_tetra(tetra_xyz(0xc1, x, y, 0)),
         Value::Pure(n) => {
             let n = wyde_number(n)?;

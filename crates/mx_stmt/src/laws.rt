@@ -1,31 +1,21 @@
 //! What holds of the definitions alone.
 
-ghost use Rattle.std.specs.Prelude.{◌≡◌, ◌↔◌, ◌<◌, ◌≤◌, ℕ, List, [], length, slice_set, Some, None, Ok, Err, IfSome};
+ghost use Rattle.std.specs.Prelude.{◌≡◌, ◌<◌, ℕ, List, [], slice_set, Some, None, Ok, Err, IfSome};
 ghost use Rattle.std.specs.List.{AllByRecursion};
 ghost use Rattle.mx_names.specs.Names.{start, value_in, value_of_name, with_symbol};
 ghost use Rattle.mx_word.specs.declared.symbols.Value.{Value};
 ghost use Rattle.mx_word.specs.declared.waits.Awaited.TheVariants as awaited;
 ghost use Rattle.mx_word.specs.declared.waits.Wait.{Wait};
-ghost use Rattle.mx_stmt.specs.declared.gregs.Base.{Base};
+ghost use Rattle.mx_greg.specs.Gregs.{IsAllocable, with_greg};
 ghost use Rattle.mx_stmt.specs.declared.placed.Placed.{Placed};
 ghost use Rattle.mx_stmt.specs.Encoding.{StatementTree, IsPossible, encoding};
 ghost use Rattle.mx_stmt.specs.Faults.{fault_number};
 ghost use Rattle.mx_stmt.specs.declared.faults.StmtFault.{StmtFault};
 ghost use Rattle.mx_stmt.specs.Fixes.{IsFixed, IsOperation, IsSound, HasRegisterNumber};
 ghost use Rattle.mx_stmt.specs.Laid.{IsLaid};
-ghost use Rattle.mx_stmt.specs.Gregs.{IsAllocable, IsNearest, greg_value, lowest_of, nearest_base, with_greg};
 ghost use Rattle.mx_stmt.specs.Operands.{Known, Targets, no_targets};
 ghost use Rattle.mx_stmt.specs.Reading.{Fields, IsFault, IsRead};
 ghost use Rattle.mx_stmt.specs.Steps.{AreAlike};
-
-/// The nearest base is an allocated register with a value that is not 0 and the least address - value
-/// modulo 2^64. There is none exactly where no allocated register has such a value.
-pub fn nearest_base_is_least()
-    ensures base { (gregs : List ℕ) (address : ℕ) (base : Base) → length gregs ≤ 255 →
-        nearest_base gregs address ≡ Some base → IsNearest gregs address base }
-    ensures none { (gregs : List ℕ) (address : ℕ) → length gregs ≤ 255 → (nearest_base gregs address ≡ None) ↔
-        ((reg : ℕ) → lowest_of gregs ≤ reg → reg < 255 → greg_value gregs reg ≡ 0) }
-{}
 
 /// The operation of a statement that was read is that of a name.
 pub fn operations_have_names()

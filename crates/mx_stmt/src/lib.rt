@@ -6,7 +6,6 @@ mod encoder;
 mod env;
 mod faults;
 mod forms;
-mod gregs;
 mod laws;
 mod operands;
 mod placed;
@@ -19,11 +18,9 @@ mod statement;
 pub use encoder::encode;
 pub use env::Env;
 pub use faults::StmtFault;
-pub use gregs::Gregs;
 pub use laws::{
-    awaited_names_are_unknown, faults_have_numbers, knowledge_stays_sound, nearest_base_is_least,
-    operations_have_names, references_stand_in_their_bytes, registers_are_bytes,
-    targets_join_their_bytes,
+    awaited_names_are_unknown, faults_have_numbers, knowledge_stays_sound, operations_have_names,
+    references_stand_in_their_bytes, registers_are_bytes, targets_join_their_bytes,
 };
 pub use placed::{Effect, Placed};
 pub use reader::read_statement;

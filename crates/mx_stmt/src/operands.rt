@@ -10,7 +10,6 @@ use crate::{Env, StmtFault};
 use mx_expr::{Expr, value};
 use mx_names::NameFault;
 use mx_word::{Awaited, Value};
-use std::alloc::Global;
 
 /// An operand that is a pure number, or a future reference.
 #[derive(Drop)]
@@ -27,33 +26,33 @@ pub(crate) enum RegisterOrByte {
 }
 
 /// The value of an operand.
-pub(crate) fn operand_value(alloc: Global, env: &Env, e: &Expr) -> Result<Value, StmtFault>
+pub(crate) fn operand_value(env: &Env, e: &Expr) -> Result<Value, StmtFault>
     requires { HasDigits (tree_of e.now) }
     ensures { Answers result (spec.operand_value (known_of env.now) (tree_of e.now)) }
 {
-    match value(alloc, e, env) {
+    match value(env.alloc, e, env) {
         Ok(value) => Ok(value),
         Err(fault) => Err(StmtFault::of(fault)),
     }
 }
 
 /// The number of a register that is an operand.
-pub(crate) fn register_at(alloc: Global, env: &Env, e: &Expr) -> Result<u8, StmtFault>
+pub(crate) fn register_at(env: &Env, e: &Expr) -> Result<u8, StmtFault>
     requires { HasDigits (tree_of e.now) }
     ensures { Answers result (spec.register_at (known_of env.now) (tree_of e.now)) }
 {
-    match operand_value(alloc, env, e)? {
+    match operand_value(env, e)? {
         Value::Reg(r) => Ok(r),
         Value::Pure(_) => Err(StmtFault::NotRegister),
     }
 }
 
 /// A pure operand.
-pub(crate) fn pure_at(alloc: Global, env: &Env, e: &Expr) -> Result<u64, StmtFault>
+pub(crate) fn pure_at(env: &Env, e: &Expr) -> Result<u64, StmtFault>
     requires { HasDigits (tree_of e.now) }
     ensures { Answers result (spec.pure_at (known_of env.now) (tree_of e.now)) }
 {
-    match operand_value(alloc, env, e)? {
+    match operand_value(env, e)? {
         Value::Pure(n) => Ok(n),
         Value::Reg(_) => Err(StmtFault::NotPure),
     }
@@ -71,11 +70,11 @@ pub(crate) fn wyde_number(n: u64) -> Result<u16, StmtFault>
 }
 
 /// A pure operand of 8 bits.
-pub(crate) fn byte_at(alloc: Global, env: &Env, e: &Expr) -> Result<u8, StmtFault>
+pub(crate) fn byte_at(env: &Env, e: &Expr) -> Result<u8, StmtFault>
     requires { HasDigits (tree_of e.now) }
     ensures { Answers result (spec.field_at 256 (known_of env.now) (tree_of e.now)) }
 {
-    let n = pure_at(alloc, env, e)?;
+    let n = pure_at(env, e)?;
     if n < 256 {
         Ok(n as u8)
     } else {
@@ -84,20 +83,20 @@ pub(crate) fn byte_at(alloc: Global, env: &Env, e: &Expr) -> Result<u8, StmtFaul
 }
 
 /// A pure operand of 16 bits.
-pub(crate) fn wyde_at(alloc: Global, env: &Env, e: &Expr) -> Result<u16, StmtFault>
+pub(crate) fn wyde_at(env: &Env, e: &Expr) -> Result<u16, StmtFault>
     requires { HasDigits (tree_of e.now) }
     ensures { Answers result (spec.field_at (2 ^ 16) (known_of env.now) (tree_of e.now)) }
 {
-    let n = pure_at(alloc, env, e)?;
+    let n = pure_at(env, e)?;
     wyde_number(n)
 }
 
 /// A pure operand of 24 bits.
-pub(crate) fn whole_at(alloc: Global, env: &Env, e: &Expr) -> Result<u32, StmtFault>
+pub(crate) fn whole_at(env: &Env, e: &Expr) -> Result<u32, StmtFault>
     requires { HasDigits (tree_of e.now) }
     ensures { Answers result (spec.field_at (2 ^ 24) (known_of env.now) (tree_of e.now)) }
 {
-    let n = pure_at(alloc, env, e)?;
+    let n = pure_at(env, e)?;
     if n < 0x100_0000 {
         Ok(n as u32)
     } else {
@@ -106,15 +105,11 @@ pub(crate) fn whole_at(alloc: Global, env: &Env, e: &Expr) -> Result<u32, StmtFa
 }
 
 /// An operand that is a register, or pure and of 8 bits.
-pub(crate) fn register_or_byte_at(
-    alloc: Global,
-    env: &Env,
-    e: &Expr,
-) -> Result<RegisterOrByte, StmtFault>
+pub(crate) fn register_or_byte_at(env: &Env, e: &Expr) -> Result<RegisterOrByte, StmtFault>
     requires { HasDigits (tree_of e.now) }
     ensures { Answers result (spec.register_or_byte_at (known_of env.now) (tree_of e.now)) }
 {
-    match operand_value(alloc, env, e)? {
+    match operand_value(env, e)? {
         Value::Reg(r) => Ok(RegisterOrByte::Register(r)),
         Value::Pure(n) if n < 256 => Ok(RegisterOrByte::Byte(n as u8)),
         Value::Pure(_) => Err(StmtFault::Fit),
@@ -147,13 +142,13 @@ fn awaited_name(env: &Env, text: &[u8]) -> Result<Option<Awaited>, StmtFault>
 }
 
 /// An operand that is pure, or a future reference.
-pub(crate) fn target_at(alloc: Global, env: &Env, e: &Expr) -> Result<Target, StmtFault>
+pub(crate) fn target_at(env: &Env, e: &Expr) -> Result<Target, StmtFault>
     requires { HasDigits (tree_of e.now) }
     ensures { Answers result (spec.target_at (known_of env.now) (tree_of e.now)) }
 {
     if let Some(who) = reference_of(env, e)? {
         return Ok(Target::Future(who));
     }
-    let n = pure_at(alloc, env, e)?;
+    let n = pure_at(env, e)?;
     Ok(Target::Known(n))
 }

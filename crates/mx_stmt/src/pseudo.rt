@@ -14,7 +14,6 @@ use mx_expr::{Expr, ExprFault};
 use mx_names::NameFault;
 use mx_ops::Pseudo;
 use mx_word::{Bytes, Value, Waits};
-use std::alloc::Global;
 
 /// The lowest address that takes no byte, the start of the stack segment.
 const STACK_SEGMENT: u64 = 0x6000_0000_0000_0000;
@@ -31,7 +30,6 @@ fn label_value(label: &Option<Label>, value: Value) -> Option<Value>
 
 /// A statement that places no bytes.
 fn without_bytes(
-    alloc: Global,
     env: &Env,
     label: &Option<Label>,
     value: Value,
@@ -42,8 +40,8 @@ fn without_bytes(
 {
     Ok(Placed {
         start: env.at,
-        bytes: Bytes::new(alloc),
-        waits: Waits::new(alloc),
+        bytes: Bytes::new(env.alloc),
+        waits: Waits::new(env.alloc),
         label: label_value(label, value),
         effect,
         after: next,
@@ -74,23 +72,23 @@ pub(crate) fn with_bytes(
 }
 
 /// IS: the label gets the value of the operand.
-fn is_form(alloc: Global, env: &Env, label: &Option<Label>, e: &Expr) -> Result<Placed, StmtFault>
+fn is_form(env: &Env, label: &Option<Label>, e: &Expr) -> Result<Placed, StmtFault>
     requires { HasDigits (tree_of e.now) }
     ensures placed { Answers result (spec.is_form (known_of env.now) label.now (tree_of e.now)) }
     ensures effect { IfOk result (λ placed. spec.IsPossible env.now.gregs.now placed.effect) }
 {
-    let value = operand_value(alloc, env, e)?;
-    without_bytes(alloc, env, label, value, Effect::Plain, env.at)
+    let value = operand_value(env, e)?;
+    without_bytes(env, label, value, Effect::Plain, env.at)
 }
 
 /// LOC: the place becomes the operand; the label gets what it was before.
-fn loc_form(alloc: Global, env: &Env, label: &Option<Label>, e: &Expr) -> Result<Placed, StmtFault>
+fn loc_form(env: &Env, label: &Option<Label>, e: &Expr) -> Result<Placed, StmtFault>
     requires { HasDigits (tree_of e.now) }
     ensures placed { Answers result (spec.loc_form (known_of env.now) label.now (tree_of e.now)) }
     ensures effect { IfOk result (λ placed. spec.IsPossible env.now.gregs.now placed.effect) }
 {
-    let next = pure_at(alloc, env, e)?;
-    without_bytes(alloc, env, label, Value::Pure(env.at), Effect::Plain, next)
+    let next = pure_at(env, e)?;
+    without_bytes(env, label, Value::Pure(env.at), Effect::Plain, next)
 }
 
 /// The complete form of a symbol as it is written.
@@ -105,12 +103,7 @@ fn complete_form(env: &Env, text: &[u8]) -> Result<Bytes, StmtFault>
 }
 
 /// PREFIX: the complete form of the operand, which is a symbol, becomes the prefix.
-fn prefix_form(
-    alloc: Global,
-    env: &Env,
-    label: &Option<Label>,
-    e: &Expr,
-) -> Result<Placed, StmtFault>
+fn prefix_form(env: &Env, label: &Option<Label>, e: &Expr) -> Result<Placed, StmtFault>
     ensures placed { Answers result (spec.prefix_form (known_of env.now) label.now (tree_of e.now)) }
     ensures effect { IfOk result (λ placed. spec.IsPossible env.now.gregs.now placed.effect) }
 {
@@ -118,7 +111,6 @@ fn prefix_form(
         Expr::Name(text) => {
             let full = complete_form(env, text.as_slice())?;
             without_bytes(
-                alloc,
                 env,
                 label,
                 Value::Pure(env.at),
@@ -131,15 +123,17 @@ fn prefix_form(
 }
 
 /// GREG: the label gets the register of the operand's value.
-fn greg_form(alloc: Global, env: &Env, label: &Option<Label>, e: &Expr) -> Result<Placed, StmtFault>
+fn greg_form(env: &Env, label: &Option<Label>, e: &Expr) -> Result<Placed, StmtFault>
     requires { HasDigits (tree_of e.now) }
     ensures placed { Answers result (spec.greg_form (known_of env.now) label.now (tree_of e.now)) }
     ensures effect { IfOk result (λ placed. spec.IsPossible env.now.gregs.now placed.effect) }
 {
-    let value = pure_at(alloc, env, e)?;
-    let reg = env.gregs.register_for(value)?;
+    let value = pure_at(env, e)?;
+    let reg = env
+        .gregs
+        .register_for(value)
+        .ok_or(StmtFault::TooManyGregs)?;
     without_bytes(
-        alloc,
         env,
         label,
         Value::Reg(reg),
@@ -149,52 +143,33 @@ fn greg_form(alloc: Global, env: &Env, label: &Option<Label>, e: &Expr) -> Resul
 }
 
 /// LOCAL: the operand is a register that has to stay below the global ones.
-fn local_form(
-    alloc: Global,
-    env: &Env,
-    label: &Option<Label>,
-    e: &Expr,
-) -> Result<Placed, StmtFault>
+fn local_form(env: &Env, label: &Option<Label>, e: &Expr) -> Result<Placed, StmtFault>
     requires { HasDigits (tree_of e.now) }
     ensures placed { Answers result (spec.local_form (known_of env.now) label.now (tree_of e.now)) }
     ensures effect { IfOk result (λ placed. spec.IsPossible env.now.gregs.now placed.effect) }
 {
-    let reg = register_at(alloc, env, e)?;
-    without_bytes(
-        alloc,
-        env,
-        label,
-        Value::Pure(env.at),
-        Effect::Local(reg),
-        env.at,
-    )
+    let reg = register_at(env, e)?;
+    without_bytes(env, label, Value::Pure(env.at), Effect::Local(reg), env.at)
 }
 
 /// A pseudo-operation that takes one operand.
-fn one_form(
-    alloc: Global,
-    env: &Env,
-    label: &Option<Label>,
-    pseudo: Pseudo,
-    e: &Expr,
-) -> Result<Placed, StmtFault>
+fn one_form(env: &Env, label: &Option<Label>, pseudo: Pseudo, e: &Expr) -> Result<Placed, StmtFault>
     requires { HasDigits (tree_of e.now) }
     ensures placed { Answers result (spec.one_form (known_of env.now) label.now pseudo (tree_of e.now)) }
     ensures effect { IfOk result (λ placed. spec.IsPossible env.now.gregs.now placed.effect) }
 {
     match pseudo {
-        Pseudo::Is => is_form(alloc, env, label, e),
-        Pseudo::Loc => loc_form(alloc, env, label, e),
-        Pseudo::Prefix => prefix_form(alloc, env, label, e),
-        Pseudo::Greg => greg_form(alloc, env, label, e),
-        Pseudo::Local => local_form(alloc, env, label, e),
+        Pseudo::Is => is_form(env, label, e),
+        Pseudo::Loc => loc_form(env, label, e),
+        Pseudo::Prefix => prefix_form(env, label, e),
+        Pseudo::Greg => greg_form(env, label, e),
+        Pseudo::Local => local_form(env, label, e),
         _ => Err(StmtFault::Operands),
     }
 }
 
 /// A pseudo-operation that takes one operand, by its list of operands.
 pub(crate) fn one_operand(
-    alloc: Global,
     env: &Env,
     label: &Option<Label>,
     pseudo: Pseudo,
@@ -205,7 +180,7 @@ pub(crate) fn one_operand(
     ensures effect { IfOk result (λ placed. spec.IsPossible env.now.gregs.now placed.effect) }
 {
     match operands {
-        [e] => one_form(alloc, env, label, pseudo, e),
+        [e] => one_form(env, label, pseudo, e),
         _ => Err(StmtFault::Operands),
     }
 }

@@ -16,32 +16,24 @@ use crate::operands::{byte_at, register_at};
 use crate::{Env, StmtFault};
 use mx_expr::Expr;
 use mx_ops::{Shape, shape_of};
-use std::alloc::Global;
 
 /// An instruction with one operand.
-fn one_operand(
-    alloc: Global,
-    env: &Env,
-    shape: Shape,
-    code: u8,
-    n: &Expr,
-) -> Result<Tetra, StmtFault>
+fn one_operand(env: &Env, shape: Shape, code: u8, n: &Expr) -> Result<Tetra, StmtFault>
     requires digits { HasDigits (tree_of n.now) }
     requires second { IsTrue (spec.has_second shape) → code < 254 }
     ensures { Answers result (
         spec.form no_targets (known_of env.now) shape code (tree_of n.now ∷ [])) }
 {
     match shape {
-        Shape::Jump => jump_form(alloc, env, code, n),
-        Shape::Pop | Shape::One | Shape::Free => whole_form(alloc, env, code, n),
-        Shape::Unsave => last_register(alloc, env, code, 0, 0, n),
+        Shape::Jump => jump_form(env, code, n),
+        Shape::Pop | Shape::One | Shape::Free => whole_form(env, code, n),
+        Shape::Unsave => last_register(env, code, 0, 0, n),
         _ => Err(StmtFault::Operands),
     }
 }
 
 /// An instruction with two operands.
 fn two_operands(
-    alloc: Global,
     env: &Env,
     shape: Shape,
     code: u8,
@@ -56,48 +48,48 @@ fn two_operands(
 {
     match shape {
         Shape::Round => {
-            let x = register_at(alloc, env, first)?;
-            rounded_last(alloc, env, code, x, 0, last)
+            let x = register_at(env, first)?;
+            rounded_last(env, code, x, 0, last)
         }
         Shape::Neg => {
-            let x = register_at(alloc, env, first)?;
-            last_form(alloc, env, code, x, 0, last)
+            let x = register_at(env, first)?;
+            last_form(env, code, x, 0, last)
         }
         Shape::Rel => {
-            let x = register_at(alloc, env, first)?;
-            branch_form(alloc, env, code, x, last)
+            let x = register_at(env, first)?;
+            branch_form(env, code, x, last)
         }
         Shape::Mem => {
-            let x = register_at(alloc, env, first)?;
-            address_form(alloc, env, code, x, last)
+            let x = register_at(env, first)?;
+            address_form(env, code, x, last)
         }
         Shape::MemPure => {
-            let x = byte_at(alloc, env, first)?;
-            address_form(alloc, env, code, x, last)
+            let x = byte_at(env, first)?;
+            address_form(env, code, x, last)
         }
         Shape::Wyde => {
-            let x = register_at(alloc, env, first)?;
-            wyde_form(alloc, env, code, x, last)
+            let x = register_at(env, first)?;
+            wyde_form(env, code, x, last)
         }
         Shape::Put => {
-            let x = byte_at(alloc, env, first)?;
-            last_form(alloc, env, code, x, 0, last)
+            let x = byte_at(env, first)?;
+            last_form(env, code, x, 0, last)
         }
         Shape::Get | Shape::Save => {
-            let x = register_at(alloc, env, first)?;
-            byte_form(alloc, env, code, x, last)
+            let x = register_at(env, first)?;
+            byte_form(env, code, x, last)
         }
         Shape::Pop => {
-            let x = byte_at(alloc, env, first)?;
-            wyde_form(alloc, env, code, x, last)
+            let x = byte_at(env, first)?;
+            wyde_form(env, code, x, last)
         }
         Shape::Unsave => {
-            let x = byte_at(alloc, env, first)?;
-            last_register(alloc, env, code, x, 0, last)
+            let x = byte_at(env, first)?;
+            last_register(env, code, x, 0, last)
         }
         Shape::Free => {
-            let x = free_at(alloc, env, first)?;
-            wyde_form(alloc, env, code, x, last)
+            let x = free_at(env, first)?;
+            wyde_form(env, code, x, last)
         }
         _ => Err(StmtFault::Operands),
     }
@@ -105,7 +97,6 @@ fn two_operands(
 
 /// An instruction with three operands.
 fn three_operands(
-    alloc: Global,
     env: &Env,
     shape: Shape,
     code: u8,
@@ -122,36 +113,35 @@ fn three_operands(
 {
     match shape {
         Shape::Three | Shape::Mem => {
-            let x = register_at(alloc, env, x)?;
-            last_two(alloc, env, code, x, y, z)
+            let x = register_at(env, x)?;
+            last_two(env, code, x, y, z)
         }
         Shape::MemPure => {
-            let x = byte_at(alloc, env, x)?;
-            last_two(alloc, env, code, x, y, z)
+            let x = byte_at(env, x)?;
+            last_two(env, code, x, y, z)
         }
         Shape::Regs => {
-            let x = register_at(alloc, env, x)?;
-            let y = register_at(alloc, env, y)?;
-            last_register(alloc, env, code, x, y, z)
+            let x = register_at(env, x)?;
+            let y = register_at(env, y)?;
+            last_register(env, code, x, y, z)
         }
         Shape::Round => {
-            let x = register_at(alloc, env, x)?;
-            let y = byte_at(alloc, env, y)?;
-            rounded_last(alloc, env, code, x, y, z)
+            let x = register_at(env, x)?;
+            let y = byte_at(env, y)?;
+            rounded_last(env, code, x, y, z)
         }
         Shape::Neg => {
-            let x = register_at(alloc, env, x)?;
-            let y = byte_at(alloc, env, y)?;
-            last_form(alloc, env, code, x, y, z)
+            let x = register_at(env, x)?;
+            let y = byte_at(env, y)?;
+            last_form(env, code, x, y, z)
         }
-        Shape::Free => free_form(alloc, env, code, x, y, z),
+        Shape::Free => free_form(env, code, x, y, z),
         _ => Err(StmtFault::Operands),
     }
 }
 
 /// An instruction by the shape of its operands.
 pub(crate) fn instruction(
-    alloc: Global,
     env: &Env,
     shape: Shape,
     code: u8,
@@ -163,36 +153,31 @@ pub(crate) fn instruction(
         spec.form no_targets (known_of env.now) shape code (trees_of operands.now)) }
 {
     match operands {
-        [n] => one_operand(alloc, env, shape, code, n),
-        [first, last] => two_operands(alloc, env, shape, code, first, last),
-        [x, y, z] => three_operands(alloc, env, shape, code, x, y, z),
+        [n] => one_operand(env, shape, code, n),
+        [first, last] => two_operands(env, shape, code, first, last),
+        [x, y, z] => three_operands(env, shape, code, x, y, z),
         _ => Err(StmtFault::Operands),
     }
 }
 
 /// An instruction by its code.
-pub(crate) fn coded(
-    alloc: Global,
-    env: &Env,
-    code: u8,
-    operands: &[Expr],
-) -> Result<Tetra, StmtFault>
+pub(crate) fn coded(env: &Env, code: u8, operands: &[Expr]) -> Result<Tetra, StmtFault>
     requires { OperandsHaveDigits operands.now }
     ensures { Answers result (
         spec.form_by no_targets (known_of env.now) (shapes_of code) code (trees_of operands.now)) }
 {
-    instruction(alloc, env, shape_of(code), code, operands)
+    instruction(env, shape_of(code), code, operands)
 }
 
 /// SET.
-pub(crate) fn set_form(alloc: Global, env: &Env, operands: &[Expr]) -> Result<Tetra, StmtFault>
+pub(crate) fn set_form(env: &Env, operands: &[Expr]) -> Result<Tetra, StmtFault>
     requires { OperandsHaveDigits operands.now }
     ensures { Answers result (spec.set_form (known_of env.now) (trees_of operands.now)) }
 {
     match operands {
         [x, y] => {
-            let x = register_at(alloc, env, x)?;
-            set_to(alloc, env, x, y)
+            let x = register_at(env, x)?;
+            set_to(env, x, y)
         }
         _ => Err(StmtFault::Operands),
     }

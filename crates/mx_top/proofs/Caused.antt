@@ -9,7 +9,7 @@ use Rattle.mx_plan.proofs.Standing.{only-behind, rose-on, stands-kept}
 use Rattle.mx_words.specs.declared.order.Order.{Order}
 use Rattle.mx_words.specs.declared.order.WordsFault.{WordsFault}
 use Rattle.mx_outcome.specs.Kinds.{is_usage}
-use Rattle.mx_files.specs.Clauses.{Works, is_end}
+use Rattle.mx_files.specs.Clauses.{WorksBetween, is_end}
 use Rattle.mx_files.specs.FilePlans.{lines_plan}
 use Rattle.mx_outcome.specs.declared.outcome.Outcome.{Outcome}
 use Rattle.mx_outcome.specs.declared.outcome.Outcome.TheVariants.{HostFault, NoFile, OutOfMemory, Usage}
@@ -36,7 +36,7 @@ end-unused (Usage fault) i = absurd (cc)
 end-unused outcome i = refl
 
 -- lines that were not written
-pub fails-lines : {H : Type 0} (told : H → Option HostModel) (faults : H → ℕ) (a b : H) (r : Outcome) (lines : List (List ℕ)) → Works (told a) (told b) (faults a) (faults b) (Err r) (lines_plan lines) → FailsOnlyBy told faults a b r
+pub fails-lines : {H : Type 0} (told : H → Option HostModel) (faults : H → ℕ) (a b : H) (r : Outcome) (lines : List (List ℕ)) → WorksBetween (told a) (told b) (faults a) (faults b) (Err r) (lines_plan lines) → FailsOnlyBy told faults a b r
 fails-lines told faults a b r lines w = (
   λ had e. only-lines (told a) (told b) (faults a) (faults b) (Err r) lines w had (ap Err e),
   λ n e. w.absent n (ap Err e),
@@ -46,7 +46,7 @@ fails-lines told faults a b r lines w = (
 
 -- lines that were written, with an outcome that tells no fault of the host
 pub fails-written : {H : Type 0} (told : H → Option HostModel) (faults : H → ℕ) (a b : H) (r : Outcome) (lines : List (List ℕ)) → r ≢ HostFault → r ≢ NoFile → is_usage r ≡ false →
-    Works (told a) (told b) (faults a) (faults b) (Ok tt) (lines_plan lines) → FailsOnlyBy told faults a b r
+    WorksBetween (told a) (told b) (faults a) (faults b) (Ok tt) (lines_plan lines) → FailsOnlyBy told faults a b r
 fails-written told faults a b r lines well present words w =
     (λ had e. absurd (well e), λ n e. absurd (present e), words, part-keeps (told a) (told b) (faults a) (faults b) (Ok tt) (lines_plan lines) w)
 

@@ -11,7 +11,7 @@ use Rattle.mx_core.specs.Bounds.{as_list_state}
 use Rattle.mx_core.specs.State.{State}
 use Rattle.mx_files.specs.Answers.{answered, after_lines}
 use Rattle.mx_outcome.specs.Kinds.{leaves_machine}
-use Rattle.mx_files.specs.Clauses.{Works, part_of}
+use Rattle.mx_files.specs.Clauses.{WorksBetween, part_of}
 use Rattle.mx_files.specs.FilePlans.{lines_plan}
 use Rattle.mx_files.specs.Lines.{lines_put}
 use Rattle.mx_outcome.specs.declared.outcome.Outcome.{Outcome}
@@ -29,7 +29,7 @@ lacked outcome (Ok u) ne e = absurd (ne e)
 lacked outcome (Err other) ne e = ap Err e
 
 pub written-plan : (a b : Option HostModel) (k m : ℕ) (outcome other : Outcome) (lines : List (List ℕ)) (r : Result (Unit {0}) Outcome) → outcome ≢ OutOfMemory → other ≡ written_with outcome r →
-    Works a b k m r (lines_plan lines) → CarriesOut a b OutOfMemory other (telling outcome lines)
+    WorksBetween a b k m r (lines_plan lines) → CarriesOut a b OutOfMemory other (telling outcome lines)
 unfolding telling
 written-plan a b k m outcome other lines r well is w = λ t. record {
   ending = λ ne.
@@ -43,7 +43,7 @@ answer-of : (outcome : Outcome) (t : Then Bool) → answered (written_with outco
 answer-of outcome (true, m) = refl
 answer-of outcome (false, m) = refl
 
-pub written-answer : (a b : Option HostModel) (k m : ℕ) (outcome other : Outcome) (lines : List (List ℕ)) (r : Result (Unit {0}) Outcome) → other ≡ written_with outcome r → Works a b k m r (lines_plan lines) →
+pub written-answer : (a b : Option HostModel) (k m : ℕ) (outcome other : Outcome) (lines : List (List ℕ)) (r : Result (Unit {0}) Outcome) → other ≡ written_with outcome r → WorksBetween a b k m r (lines_plan lines) →
     IsTrue (tells a) → other ≢ OutOfMemory → answered other (contents b) ≡ after_lines outcome (lines_put lines (contents a))
 written-answer a b k m outcome other lines r is w t ne =
     let e = (w.told t).ending (λ o. ne (is ∙ ap (written_with outcome) o)) ∙ lines-end lines (contents a) in
@@ -60,7 +60,7 @@ unfolding dumped_plan
 undumped-plan a wanted outcome s e ne = undumped-by a outcome (telling outcome (dump_lines s)) (wanted && leaves_machine outcome) e ne
 
 pub dumped-plan : (a b : Option HostModel) (k m : ℕ) (wanted : Bool) (outcome other : Outcome) (s : State) (r : Result (Unit {0}) Outcome) → (wanted && leaves_machine outcome) ≡ true → outcome ≢ OutOfMemory →
-    other ≡ written_with outcome r → Works a b k m r (lines_plan (dump_lines s)) → CarriesOut a b OutOfMemory other (dumped_plan wanted outcome s)
+    other ≡ written_with outcome r → WorksBetween a b k m r (lines_plan (dump_lines s)) → CarriesOut a b OutOfMemory other (dumped_plan wanted outcome s)
 unfolding dumped_plan
 dumped-plan a b k m wanted outcome other s r e ne is w =
     subst (λ (x : Bool). CarriesOut a b OutOfMemory other (cond x (telling outcome (dump_lines s)) (returns outcome))) (sym e) (written-plan a b k m outcome other (dump_lines s) r ne is w)
@@ -74,7 +74,7 @@ pub undumped-list : (wanted : Bool) (outcome : Outcome) (s : State) (m : HostMod
 undumped-list wanted outcome s m e = ap (λ (x : Bool). cond x (after_lines outcome (lines_put (dump_lines (as_list_state s)) m)) (answered outcome m)) (sym e)
 
 pub dumped-list : (a b : Option HostModel) (k m : ℕ) (wanted : Bool) (outcome other : Outcome) (s : State) (r : Result (Unit {0}) Outcome) → (wanted && leaves_machine outcome) ≡ true → s.touched ≡ false →
-    other ≡ written_with outcome r → Works a b k m r (lines_plan (dump_lines s)) → IsTrue (tells a) → other ≢ OutOfMemory → answered other (contents b) ≡ dumped wanted (ran outcome (as_list_state s) (contents a))
+    other ≡ written_with outcome r → WorksBetween a b k m r (lines_plan (dump_lines s)) → IsTrue (tells a) → other ≢ OutOfMemory → answered other (contents b) ≡ dumped wanted (ran outcome (as_list_state s) (contents a))
 dumped-list a b k m wanted outcome other s r e untouched is w t ne =
     written-answer a b k m outcome other (dump_lines s) r is w t ne
     ∙ ap (λ (x : Bool). cond x (after_lines outcome (lines_put (dump_lines s) (contents a))) (answered outcome (contents a))) (sym e)

@@ -26,7 +26,7 @@ use Rattle.mx_run.specs.declared.end.End.{End}
 use Rattle.mx_word.specs.Lists.{IsFront}
 use Rattle.mx_word.proofs.Fronts.{front-through}
 use Rattle.mx_files.specs.Answers.{Answer, answered, AnswersAsList, GoesAs, after_lines}
-use Rattle.mx_files.specs.Clauses.{Works, part_of}
+use Rattle.mx_files.specs.Clauses.{WorksBetween, part_of}
 use Rattle.mx_files.specs.FilePlans.{lines_plan}
 use Rattle.mx_files.specs.Lines.{lines_put}
 use Rattle.mx_outcome.specs.declared.outcome.Outcome.{Outcome}
@@ -51,7 +51,7 @@ unfolding back_plan
 unbacked-plan a b dump outcome r states s e h =
     subst (λ (x : Bool). CarriesOut a b OutOfMemory r (cond x (bind (then_dumped dump outcome (reached s states)) (lines_plan (state_lines states))) (dumped_plan dump outcome s))) (sym e) h
 
-pub backed-plan : (a b c : Option HostModel) (k m : ℕ) (dump : Bool) (outcome r : Outcome) (states : List State) (s t : State) → takes_back outcome ≡ true → t ≡ reached s states → Works a b k m (Ok tt) (lines_plan (state_lines states)) →
+pub backed-plan : (a b c : Option HostModel) (k m : ℕ) (dump : Bool) (outcome r : Outcome) (states : List State) (s t : State) → takes_back outcome ≡ true → t ≡ reached s states → WorksBetween a b k m (Ok tt) (lines_plan (state_lines states)) →
     CarriesOut b c OutOfMemory r (dumped_plan dump outcome t) → CarriesOut a c OutOfMemory r (back_plan dump outcome states s)
 unfolding back_plan
 backed-plan a b c k m dump outcome r states s t e is w h =
@@ -64,7 +64,7 @@ backed-plan a b c k m dump outcome r states s t e is w h =
       stopping = λ o. stops_after host follow (lines_plan (state_lines states)) (contents c) (contents a) (subst (StopsAfter host (contents c) follow) first (second.stopping o));
     })
 
-pub broken-plan : (a b : Option HostModel) (k m : ℕ) (dump : Bool) (outcome other : Outcome) (states : List State) (s : State) → takes_back outcome ≡ true → Works a b k m (Err other) (lines_plan (state_lines states)) →
+pub broken-plan : (a b : Option HostModel) (k m : ℕ) (dump : Bool) (outcome other : Outcome) (states : List State) (s : State) → takes_back outcome ≡ true → WorksBetween a b k m (Err other) (lines_plan (state_lines states)) →
     CarriesOut a b OutOfMemory other (back_plan dump outcome states s)
 unfolding back_plan
 broken-plan a b k m dump outcome other states s e w =
@@ -106,7 +106,7 @@ taken-first : (last : ℕ) (kept : List State) (outcome : Outcome) (s : State) (
 taken-first last kept outcome s m dump = ap (λ states. dumped dump (taken_back states (ran outcome s m))) (take-map as_list_state last kept)
 
 pub backed-list : (a b : Option HostModel) (k m last : ℕ) (dump : Bool) (outcome r : Outcome) (new : HostModel) (kept : List State) (s t : State) → takes_back outcome ≡ true → t ≡ reached s (take last kept) →
-    Works a b k m (Ok tt) (lines_plan (state_lines (take last kept))) → IsTrue (tells a) → answered r new ≡ dumped dump (ran outcome (as_list_state t) (contents b)) →
+    WorksBetween a b k m (Ok tt) (lines_plan (state_lines (take last kept))) → IsTrue (tells a) → answered r new ≡ dumped dump (ran outcome (as_list_state t) (contents b)) →
     answered r new ≡ dumped dump (taken_back (take last (as_lists kept)) (ran outcome (as_list_state s) (contents a)))
 backed-list a b k m last dump outcome r new kept s t e is w told said =
     let put = put-all (contents b) _ ((w.told told).ending (λ o. absurd (cc)) ∙ lines-end (state_lines (take last kept)) (contents a)) in
@@ -121,7 +121,7 @@ pub faulted : (dump : Bool) (s : State) (m : HostModel) → answered HostFault m
 faulted dump s m = ap (λ (x : Bool). cond x (after_lines HostFault (lines_put (dump_lines s) m)) (answered HostFault m)) (sym (no-dump dump))
 
 pub broken-list : (a b : Option HostModel) (k m last : ℕ) (dump : Bool) (outcome other : Outcome) (kept : List State) (s : State) → takes_back outcome ≡ true →
-    Works a b k m (Err other) (lines_plan (state_lines (take last kept))) → IsTrue (tells a) → other ≢ OutOfMemory →
+    WorksBetween a b k m (Err other) (lines_plan (state_lines (take last kept))) → IsTrue (tells a) → other ≢ OutOfMemory →
     answered other (contents b) ≡ dumped dump (taken_back (take last (as_lists kept)) (ran outcome (as_list_state s) (contents a)))
 broken-list a b k m last dump outcome other kept s e w told ne =
     let put = put-some other (contents b) _ ((w.told told).ending (λ o. ne (cc)) ∙ lines-end (state_lines (take last kept)) (contents a)) in

@@ -64,7 +64,7 @@ fn step_back(machine: &mut Machine, back: &mut Back)
 
 /// Writes the line of a machine's state.
 fn put_state<H: Host>(alloc: Global, host: &mut H, machine: &Machine) -> Result<(), Outcome>
-    ensures { Works (H.told host.old) (H.told host.new) (H.faults host.old) (H.faults host.new) result
+    ensures { Works H.told H.faults host.old host.new result
         (lines_plan (spec.state_lines (state_of machine.now ∷ []))) }
 {
     match state_line(alloc, machine) {
@@ -83,7 +83,7 @@ fn put_states<H: Host>(
 ) -> Result<(), Outcome>
     requires few { count ≤ length back.old }
     requires noted { AreNotesOf back.old (state_of machine.old) }
-    ensures written { Works (H.told host.old) (H.told host.new) (H.faults host.old) (H.faults host.new) result
+    ensures written { Works H.told H.faults host.old host.new result
         (lines_plan (spec.state_lines (take count (states_before back.old (state_of machine.old))))) }
     ensures reached { IfOk result (λ done. state_of machine.new
         ≡ spec.reached (state_of machine.old) (take count (states_before back.old (state_of machine.old)))) }

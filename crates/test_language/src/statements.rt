@@ -3,12 +3,13 @@
 mod rows;
 
 ghost use Rattle.std.specs.Prelude.{◌≡◌, ◌≤◌};
-ghost use Rattle.mx_stmt.specs.Gregs.{lowest_of};
+ghost use Rattle.mx_greg.specs.Gregs.{lowest_of};
 
+use mx_greg::Gregs;
 use mx_line::next_statement;
 use mx_names::{NameFault, Names};
 use mx_ops::{Op, Shape, find, shape_of};
-use mx_stmt::{Effect, Env, Gregs, Label, Placed, StmtFault, encode, read_statement};
+use mx_stmt::{Effect, Env, Label, Placed, StmtFault, encode, read_statement};
 use mx_word::{Awaited, Value, Wait, WaitKind, tetra_of};
 use rows::{
     EFFECTS, ENDS, FAULTY, FORMS, NEAREST, Outline, PREFIXED, PSEUDO_OPERATIONS, REFERENCES,
@@ -35,7 +36,13 @@ fn placed(
         Ok(statement) => statement,
         Err(fault) => return Err(fault.number()),
     };
-    match encode(alloc, &statement, &Env { names, at, gregs }) {
+    let env = Env {
+        alloc,
+        names,
+        at,
+        gregs,
+    };
+    match encode(&statement, &env) {
         Ok(placed) => Ok(placed),
         Err(fault) => Err(fault.number()),
     }

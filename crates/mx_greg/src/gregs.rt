@@ -1,10 +1,9 @@
 //! The allocated global registers.
 
-ghost use Rattle.std.specs.Prelude.{◌≡◌, ◌+◌, ◌<◌, ◌≤◌, ◌==◌, ℕ, List, [], length, min, position, IfOk};
+ghost use Rattle.std.specs.Prelude.{◌≡◌, ◌+◌, ◌<◌, ◌≤◌, ◌==◌, ℕ, List, [], length, min, position};
 ghost use Rattle.std.specs.Option.{IfSome};
-ghost use Rattle.mx_stmt.specs.Gregs as spec;
+ghost use Rattle.mx_greg.specs.Gregs as spec;
 
-use crate::StmtFault;
 use std::marker::Model;
 
 /// The values of the allocated global registers $G to $254, which contracts see as their list.
@@ -26,9 +25,9 @@ impl Model for Gregs {
 
 /// A base register, and how far an address lies above its value, modulo 2^64.
 #[derive(Clone, Copy)]
-pub(crate) struct Base {
-    pub(crate) reg: u8,
-    pub(crate) above: u64,
+pub struct Base {
+    pub reg: u8,
+    pub above: u64,
 }
 
 impl Gregs {
@@ -70,16 +69,16 @@ impl Gregs {
     }
 
     /// The register of a GREG with this value: the one that has it, if it is not 0, or the next one
-    /// downwards.
-    pub(crate) fn register_for(&self, value: u64) -> Result<u8, StmtFault>
+    /// downwards. There is none where one more is wanted after $32.
+    pub fn register_for(&self, value: u64) -> Option<u8>
         ensures register { result ≡ spec.register_for self.now value }
-        ensures allocable { IfOk result (λ reg. spec.IsAllocable self.now reg) }
+        ensures allocable { IfSome result (λ reg. spec.IsAllocable self.now reg) }
     {
         if value == 0 {
             return self.next_register();
         }
         match self.register_of(value) {
-            Some(reg) => Ok(reg),
+            Some(reg) => Some(reg),
             None => self.next_register(),
         }
     }
@@ -95,31 +94,25 @@ impl Gregs {
         }
     }
 
-    /// The next register downwards.
-    fn next_register(&self) -> Result<u8, StmtFault>
+    /// The next register downwards, if there is one.
+    fn next_register(&self) -> Option<u8>
         ensures register { result ≡ spec.next_register self.now }
-        ensures allocable { IfOk result (λ reg. spec.IsAllocable self.now reg) }
+        ensures allocable { IfSome result (λ reg. spec.IsAllocable self.now reg) }
     {
         if self.lowest <= 32 {
-            Err(StmtFault::TooManyGregs)
+            None
         } else {
-            Ok(self.lowest - 1)
+            Some(self.lowest - 1)
         }
     }
 
-    /// The base of an address that lies at most 255 above its value.
-    pub(crate) fn base_for(&self, address: u64) -> Result<Base, StmtFault>
+    /// The base of an address, if it lies at most 255 above the nearest one.
+    pub fn base_for(&self, address: u64) -> Option<Base>
         ensures { result ≡ spec.base_for self.now address }
     {
         match self.nearest(address) {
-            None => Err(StmtFault::NoBase),
-            Some(base) => {
-                if base.above < 256 {
-                    Ok(base)
-                } else {
-                    Err(StmtFault::NoBase)
-                }
-            }
+            Some(base) if base.above < 256 => Some(base),
+            _ => None,
         }
     }
 

@@ -1,6 +1,6 @@
 use Rattle.std.proofs.Common.{sym, ◌∙◌}
-use Rattle.mx_stmt.proofs.Nearest.{nearest-none, nearest-before}
-use Rattle.mx_stmt.proofs.gregs.nearest_from.Goals as goal
+use Rattle.mx_greg.proofs.Nearest.{nearest-none, nearest-before}
+use Rattle.mx_greg.proofs.gregs.nearest_from.Goals as goal
 
 pub loop-place-init : goal.loop-place-init
 loop-place-init c = sym (nearest-none _ _ c.args.values.now)

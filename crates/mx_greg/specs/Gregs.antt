@@ -1,10 +1,7 @@
 -- The allocated global registers, as the list of the values of $G to $254 (MMIXware, MMIXAL, GREG and base addresses;
 -- TAOCP 1, Fascicle 1, section 1.3.2').
-use Rattle.std.specs.Prelude.{◌≡◌, ◌≢◌, ◌<◌, ◌≤◌, ℕ, ◌+◌, ◌-◌, ◌==◌, nat_lt, nat_le, if◌then◌else◌, List, [], ◌∷◌, length, position, slice_index, slice_set, Option, None, Some, option_map, Ok, Err}
-use Rattle.mx_expr.specs.Value.{difference}
-use Rattle.mx_stmt.specs.declared.gregs.Base.{Base}
-use Rattle.mx_stmt.specs.declared.faults.StmtFault.TheVariants.{NoBase, TooManyGregs}
-use Rattle.mx_stmt.specs.Steps.{Answer}
+use Rattle.std.specs.Prelude.{◌≡◌, ◌≢◌, ◌<◌, ◌≤◌, ℕ, ◌+◌, ◌-◌, ◌%◌, ◌^◌, ◌==◌, nat_lt, nat_le, if◌then◌else◌, List, [], ◌∷◌, length, position, slice_index, slice_set, Option, None, Some, option_map}
+use Rattle.mx_greg.specs.declared.gregs.Base.{Base}
 
 -- G: the lowest allocated register, or 255
 abbrev pub lowest_of : List ℕ → ℕ
@@ -28,17 +25,21 @@ with_greg gregs reg value = if nat_lt reg (lowest_of gregs) then value ∷ gregs
 abbrev pub register_of_value : List ℕ → ℕ → Option ℕ
 register_of_value gregs value = option_map (λ place. lowest_of gregs + place) (position (λ v. v == value) gregs)
 
--- the next register downwards from $254, to $32 at the lowest
-abbrev pub next_register : List ℕ → Answer ℕ
-next_register gregs = if nat_le (lowest_of gregs) 32 then Err TooManyGregs else Ok (lowest_of gregs - 1)
+-- the next register downwards from $254, to $32 at the lowest; there is none after $32
+abbrev pub next_register : List ℕ → Option ℕ
+next_register gregs = if nat_le (lowest_of gregs) 32 then None else Some (lowest_of gregs - 1)
 
-abbrev pub register_or_next : List ℕ → Option ℕ → Answer ℕ
+abbrev pub register_or_next : List ℕ → Option ℕ → Option ℕ
 register_or_next gregs None = next_register gregs
-register_or_next gregs (Some reg) = Ok reg
+register_or_next gregs (Some reg) = Some reg
 
 -- The register of a GREG: the one that an earlier GREG has given this value, if that is not 0; else the next one.
-abbrev pub register_for : List ℕ → ℕ → Answer ℕ
+abbrev pub register_for : List ℕ → ℕ → Option ℕ
 register_for gregs value = if value == 0 then next_register gregs else register_or_next gregs (register_of_value gregs value)
+
+-- a difference modulo 2^64
+abbrev pub difference : ℕ → ℕ → ℕ
+difference x y = (x + (2 ^ 64 - y)) % 2 ^ 64
 
 -- A base is a register for an address, and how far the address lies above its value, modulo 2^64.
 -- the nearer of a base and perhaps another one
@@ -68,9 +69,9 @@ pub record IsNearest (gregs : List ℕ) (address : ℕ) (base : Base) : Type 0 w
   pub least : (other : ℕ) → lowest_of gregs ≤ other → other < 255 → greg_value gregs other ≢ 0 → base.above ≤ difference address (greg_value gregs other)
 
 -- A base lies within 255 below the address.
-abbrev pub near_base : Option Base → Answer Base
-near_base None = Err NoBase
-near_base (Some base) = if nat_lt base.above 256 then Ok base else Err NoBase
+abbrev pub near_base : Option Base → Option Base
+near_base None = None
+near_base (Some base) = if nat_lt base.above 256 then Some base else None
 
-abbrev pub base_for : List ℕ → ℕ → Answer Base
+abbrev pub base_for : List ℕ → ℕ → Option Base
 base_for gregs address = near_base (nearest_base gregs address)

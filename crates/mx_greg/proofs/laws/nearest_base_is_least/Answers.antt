@@ -1,5 +1,5 @@
-use Rattle.mx_stmt.proofs.Nearest.{nearest-is, nearest-is-none, nearest-none-is}
-use Rattle.mx_stmt.proofs.laws.nearest_base_is_least.Goals as goal
+use Rattle.mx_greg.proofs.Nearest.{nearest-is, nearest-is-none, nearest-none-is}
+use Rattle.mx_greg.proofs.laws.nearest_base_is_least.Goals as goal
 
 pub returns-clause-base : goal.returns-clause-base
 returns-clause-base c = nearest-is

@@ -1,9 +1,10 @@
 -- The nearest base, register by register.
 use Rattle.std.proofs.Common.{◌≡◌, ◌≢◌, ◌<◌, ◌≤◌, ℕ, zero, suc, ◌+◌, ◌-◌, List, [], ◌∷◌, length, drop, Option, None, Some, slice_index, arith, add-one, refl, ap, subst, ◌∙◌, rules}
-use Rattle.mx_stmt.proofs.Words.{drop_more, eqb-true, eqb-false, leb-true, leb-false, difference, IsNearest, greg_value, lowest_of, nearest_base, nearest_from, nearer_base}
+use Rattle.std.proofs.lemmas.Bool.{eqb-true, eqb-false, leb-true, leb-false}
+use Rattle.std.proofs.lemmas.List.{drop_more}
 use Rattle.std.proofs.Math.Seq.{drop-length}
-use Rattle.mx_stmt.specs.declared.gregs.Base.{Base}
-use Rattle.mx_stmt.specs.Gregs.{with_register}
+use Rattle.mx_greg.specs.declared.gregs.Base.{Base}
+use Rattle.mx_greg.specs.Gregs.{difference, IsNearest, greg_value, lowest_of, nearest_base, nearest_from, nearer_base, with_register}
 
 pub nearest-none : (address first : ℕ) (values : List ℕ) → nearest_from address first (drop (length values) values) ≡ None
 unfolding nearest_from
