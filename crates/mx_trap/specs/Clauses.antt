@@ -1,5 +1,8 @@
 -- The words of clauses over file traps.
-use Rattle.std.specs.Prelude.{◌≡◌, Result, Ok, Err}
+use Rattle.std.specs.Prelude.{ℕ, ◌≡◌, Option, Result, Ok, Err}
+use Rattle.mx_host.specs.HostModel.{HostModel}
+use Rattle.mx_plan.specs.Calls.{HostPlan}
+use Rattle.mx_plan.specs.Clauses.{CarriesOut, Stands}
 use Rattle.mx_trap.specs.declared.answer.TrapAnswer.{TrapAnswer}
 use Rattle.mx_trap.specs.declared.answer.TrapAnswer.TheVariants.{Value, Halt, Stopped, OutOfMemory}
 use Rattle.mx_trap.specs.declared.answer.TrapStop.{TrapStop}
@@ -18,3 +21,10 @@ StopsByPages OutOfMemory = Unit {0}
 abbrev pub IsStopped : Result Request TrapStop → TrapAnswer → Type 0 → Type 0
 IsStopped (Err stop) answer Unchanged = (answer ≡ Stopped stop) × Unchanged
 IsStopped (Ok request) answer Unchanged = StopsByPages answer
+
+-- A service is done over a host, where `says` is what that tells and `faults` its count of faults. Over one that tells its contents, the plan
+-- is carried out; if the trap stops here, then for one page too many; and what stands of a host stands.
+pub record Fulfils {Host : Type 0} (says : Host → Option HostModel) (faults : Host → ℕ) (old new : Host) (result : TrapAnswer) (plan : HostPlan TrapAnswer) : Type 0 where
+  pub told : CarriesOut (says old) (says new) OutOfMemory result plan
+  pub stops : StopsByPages result
+  pub stands : Stands (says old) (says new) (faults old) (faults new)

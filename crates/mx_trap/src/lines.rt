@@ -28,8 +28,8 @@ pub fn fgets<M: Space, H: Host>(
     requires bounds { AreInBounds at size }
     ensures told { CarriesOutBoth (H.told host.old) (H.told host.new) (M.contents memory.old) (M.contents memory.new)
         TrapAnswer.OutOfMemory result (spec.fgets slot at size) }
-    ensures rest { (M.contents memory.new).rest ≡ (M.contents memory.old).rest }
     ensures stops { StopsByPages result }
+    ensures rest { (M.contents memory.new).rest ≡ (M.contents memory.old).rest }
     ensures stands { Stands (H.told host.old) (H.told host.new) (H.faults host.old) (H.faults host.new) }
 {
     if size == 0 {

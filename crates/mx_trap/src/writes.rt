@@ -2,7 +2,7 @@
 
 ghost use Rattle.std.specs.Prelude.{◌≡◌, ◌≢◌, ◌≤◌, ◌<◌, ◌+◌, ◌^◌, length, Ok, Err};
 ghost use Rattle.mx_plan.specs.Clauses.{CarriesOut, Stands};
-ghost use Rattle.mx_trap.specs.Clauses.{StopsByPages};
+ghost use Rattle.mx_trap.specs.Clauses.{Fulfils};
 ghost use Rattle.mx_trap.specs.Moves as spec;
 ghost use Rattle.mx_trap.specs.Requests.{bytes_from, AreInBounds};
 
@@ -35,10 +35,8 @@ pub fn fwrite<M: Space, H: Host>(
 ) -> TrapAnswer
     requires slot { slot ≤ 255 }
     requires bounds { AreInBounds at size }
-    ensures told { CarriesOut (H.told host.old) (H.told host.new) TrapAnswer.OutOfMemory result
+    ensures { Fulfils H.told H.faults host.old host.new result
         (spec.fwrite slot (bytes_from (M.contents memory.now).bytes at size)) }
-    ensures stops { StopsByPages result }
-    ensures stands { Stands (H.told host.old) (H.told host.new) (H.faults host.old) (H.faults host.new) }
 {
     match write_pieces(memory, host, slot, at, size) {
         Written::Whole => TrapAnswer::Value(0),
@@ -58,10 +56,8 @@ pub fn fputs<M: Space, H: Host>(
 ) -> TrapAnswer
     requires slot { slot ≤ 255 }
     requires bounds { AreInBounds at size }
-    ensures told { CarriesOut (H.told host.old) (H.told host.new) TrapAnswer.OutOfMemory result
+    ensures { Fulfils H.told H.faults host.old host.new result
         (spec.fputs slot (bytes_from (M.contents memory.now).bytes at size)) }
-    ensures stops { StopsByPages result }
-    ensures stands { Stands (H.told host.old) (H.told host.new) (H.faults host.old) (H.faults host.new) }
 {
     match write_pieces(memory, host, slot, at, size) {
         Written::Whole => TrapAnswer::Value(size),
