@@ -112,7 +112,7 @@ static OPERATIONS: [Operation; 256] = [
     JMP, PUSHJ, PUSHJ, GETA, GETA, PUT, PUT, POP, RESUME, SAVE, UNSAVE, SYNC, NOTHING, GET, TRIP,
 ];
 
-/// What the machine does for a code.
+/// What the machine does for a code, from 0 to 255.
 #[inline(always)]
 pub fn operation_of(code: u8) -> Operation
     ensures { result ≡ spec.operation_of code }

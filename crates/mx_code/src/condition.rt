@@ -8,7 +8,7 @@ ghost use Rattle.mx_alu.specs.Truth as conditions;
 use crate::instruction::Instruction;
 use mx_alu::truth;
 
-/// Whether the condition of an instruction holds of an octa.
+/// Whether the condition of an instruction that tests one (BN to PBEV, CSN to CSEV, ZSN to ZSEV) holds of an octa.
 #[tactic(auto, using(crate::proofs::Tables::condition_low, crate::proofs::Tables::condition_high))]
 #[inline(always)]
 pub fn holds(i: &Instruction, x: u64) -> bool

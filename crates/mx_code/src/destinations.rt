@@ -6,7 +6,7 @@ ghost use Rattle.mx_code.specs.Instructions as spec;
 use crate::instruction::Instruction;
 use crate::operation::Operation;
 
-/// The register that an operation sets, where it has a destination.
+/// The register that an instruction with this operation sets, which is X, where it has a destination.
 #[inline]
 pub fn destination(operation: Operation, i: &Instruction) -> Option<u8>
     ensures { result ≡ spec.destination_of operation i.now }

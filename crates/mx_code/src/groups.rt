@@ -90,7 +90,7 @@ static GROUPS: [Group; 256] = [
     PUTS, POPS, OTHERS, OTHERS, OTHERS, OTHERS, NOTHINGS, GETS, OTHERS,
 ];
 
-/// The group of a code.
+/// The group of a code, from 0 to 255. It tells the operation, but for `Group::Move` and `Group::Other`.
 #[inline(always)]
 pub fn group_of(code: u8) -> Group
     ensures operation { operation_of code ≡ spec.operation_by result code }

@@ -7,7 +7,7 @@ ghost use Rattle.mx_code.specs.Instructions.{operation_in};
 use crate::instruction::Instruction;
 use crate::operation::Operation;
 
-/// The immediate wyde of an instruction at its place.
+/// The immediate wyde of SETH to ANDNL, in an octa at its place: YZ times 2^48, 2^32, 2^16 or 1.
 #[tactic(auto, using(crate::proofs::Tables::wyde_low, crate::proofs::Tables::wyde_high))]
 #[inline(always)]
 pub fn wyde_value(i: &Instruction) -> u64

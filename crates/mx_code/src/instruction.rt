@@ -22,7 +22,7 @@ pub struct Instruction {
 }
 
 impl Instruction {
-    /// An instruction of a program.
+    /// An instruction of a program: any tetra, at any address.
     #[inline(always)]
     pub fn new(at: u64, word: u32) -> Instruction
         ensures { result ≡ spec.instruction at word }

@@ -26,7 +26,7 @@ fn size(part: Part) -> u64
     }
 }
 
-/// The touch of the part that holds an address: its own address and size.
+/// The touch of the part that holds an address: its own address, a multiple of its size, and its size, from 1 to 8.
 #[inline(always)]
 pub fn touch(a: u64, part: Part) -> Touch
     ensures { result ≡ spec.touch a part }
@@ -84,7 +84,7 @@ pub fn loaded_part(how: Loading) -> Part
     }
 }
 
-/// The value that is loaded of an octa.
+/// The value that is loaded of the octa that holds an address.
 #[inline(always)]
 pub fn loaded_value(how: Loading, octa: u64, a: u64) -> u64
     ensures { result ≡ spec.loaded_value how octa a }
@@ -96,7 +96,7 @@ pub fn loaded_value(how: Loading, octa: u64, a: u64) -> u64
     }
 }
 
-/// The value that is loaded of a tetra.
+/// The value that a load of a tetra (LDT, LDTU, LDHT) takes of the tetra that holds the address.
 #[tactic(auto, using(crate::proofs::Tetras::tetras))]
 #[inline(always)]
 pub fn loaded_tetra(how: Loading, t: u32) -> u64
@@ -110,7 +110,7 @@ pub fn loaded_tetra(how: Loading, t: u32) -> u64
     }
 }
 
-/// The part that is stored.
+/// The part that is stored into.
 #[inline(always)]
 pub fn stored_part(how: Storing) -> Part
     ensures { result ≡ spec.stored_part how }

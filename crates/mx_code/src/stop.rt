@@ -5,7 +5,7 @@ ghost use Rattle.mx_code.specs.Told.{answer_in};
 
 use crate::reason::Reason;
 
-/// The instruction stops the machine, or there is no memory for the page that it begins.
+/// Why an instruction is not carried out: it stops the machine, or there is no memory for it.
 #[derive(Clone, Copy, Debug, PartialEq, Eq)]
 pub enum Stop {
     /// The machine stops, in the state before the instruction.

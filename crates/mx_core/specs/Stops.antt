@@ -1,7 +1,7 @@
 -- Why an instruction stops the machine, in the state before it.
 -- (What is illegal or privileged: MMIXware, the part on MMIX. Which reason is the first, and what is left out: a rule
 -- of this program.)
-use Rattle.std.specs.Prelude.{◌==◌, ◌&&◌, ◌||◌, not, nat_lt, Bool, true, false, if◌then◌else◌, Option, None, Some}
+use Rattle.std.specs.Prelude.{◌==◌, ◌&&◌, ◌||◌, not, nat_lt, Bool, if◌then◌else◌, Option, None, Some}
 use Rattle.mx_ring.specs.Stack.{set_overfills, push_overfills, pop_underflows, save_overfills, unsave_refused}
 use Rattle.mx_spec.specs.Puts.{put_of}
 use Rattle.mx_spec.specs.declared.put.Put.{Put}
