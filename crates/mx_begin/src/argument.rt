@@ -1,6 +1,6 @@
 //! The arguments of a program.
 
-ghost use Rattle.std.specs.Prelude.{◌≡◌, ◌≤◌, ◌<◌, ◌+◌, ◌*◌, ◌^◌, ◌++◌, ◌∷◌, IfOk, OnOk, drop, length, map};
+ghost use Rattle.std.specs.Prelude.{◌≡◌, ◌≤◌, ◌<◌, ◌+◌, ◌*◌, ◌∷◌, IfOk, length, map};
 ghost use Rattle.std.specs.Prelude.{string_bytes, true};
 ghost use Rattle.mx_start.specs.Start.{pool, pool_octas};
 ghost use Rattle.mx_ring.specs.Stack.{stack_address};

@@ -27,9 +27,9 @@ use Rattle.mx_con.specs.HostLines.{Written, text_write, line_write, after_write,
 use Rattle.mx_con.specs.Judgement.{command_bad, bad_text}
 use Rattle.mx_con.specs.LinePlans.{on_ok, text_plan, line_plan, lines_plan, LineRead, reading_plan, asking_plan}
 use Rattle.mx_con.specs.Replies.{Reply, reply_to}
-use Rattle.mx_con.specs.Session.{Console, Progress, Done, on, over, wild, and_then, with_host, write_done, line_done, with_run, steps_left, stepped, goes, break_lines, end_answer, end_done, one_run, runs, with_reply, answered, command_done, with_reading, reading_done, line_of, prompt, asked, one_line, session_lines, most_input, at_start, SessionRun, session_ended, run_of, session}
+use Rattle.mx_con.specs.Session.{Console, Progress, Done, on, over, wild, and_then, with_host, write_done, line_done, with_run, steps_left, stepped, goes, break_lines, end_answer, end_done, one_run, runs, with_reply, answered, command_done, with_reading, reading_done, line_of, prompt, asked, one_line, session_lines, most_input, at_start, session_ended, run_of, session}
 use Rattle.mx_con.specs.Session as old_session
-use Rattle.mx_con.specs.SessionPlans.{SessionWorld, conversing, beside_machine, beside_flags, Part, on_host, on_run, reply_plan, count_plan, flags_plan, trace_plan, judge_plan, traced_plan, turn_at, turned_plan, stepped_plan, broke_plan, break_plan, after_end, one_run_plan, run_from, runs_plan, continued_plan, showing, refused, answered_plan, command_plan, with_left, one_line_plan, lines_of_session, end_of_session, session_plan, ended_session}
+use Rattle.mx_con.specs.SessionPlans.{SessionWorld, conversing, beside_machine, beside_flags, Part, on_host, on_run, reply_plan, count_plan, flags_plan, trace_plan, judge_plan, traced_plan, turn_at, turned_plan, stepped_plan, broke_plan, break_plan, after_end, one_run_plan, runs_plan, continued_plan, showing, refused, answered_plan, command_plan, with_left, one_line_plan, lines_of_session, end_of_session, session_plan, ended_session}
 use Rattle.mx_con.specs.SessionPlans as plans
 use Rattle.mx_con.specs.declared.dialog.Dialog.{Dialog}
 use Rattle.mx_con.specs.declared.end.SessionEnd.{SessionEnd}

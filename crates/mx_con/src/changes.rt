@@ -1,6 +1,6 @@
 //! What a line changes of a runner.
 
-ghost use Rattle.std.specs.Prelude.{◌≡◌, ◌≢◌, ◌/◌, Err, OnErr, OnOk, true};
+ghost use Rattle.std.specs.Prelude.{◌≡◌, ◌≢◌, ◌/◌, Err, OnErr, OnOk};
 ghost use Rattle.mx_core.specs.Way.Changed.{Changes};
 ghost use Rattle.mx_core.specs.Changes.{at_address};
 ghost use Rattle.mx_core.specs.Kept.{state_of};

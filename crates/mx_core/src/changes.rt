@@ -1,6 +1,6 @@
 //! What a user changes: a register, a special register, an octa of memory, the next address.
 
-ghost use Rattle.std.specs.Prelude.{◌≡◌, ◌≢◌, ◌<◌, ◌≤◌, ◌^◌, Err, OnErr, IsTrue, not};
+ghost use Rattle.std.specs.Prelude.{◌≡◌, ◌≢◌, ◌<◌, ◌^◌, Err, OnErr, IsTrue, not};
 ghost use Rattle.mx_core.specs.Way.Changed.{Changes, Stores};
 ghost use Rattle.mx_core.specs.Changes as spec;
 ghost use Rattle.mx_core.specs.Kept.{state_of};

@@ -1,7 +1,6 @@
 //! Loads.
 
-ghost use Rattle.std.specs.Prelude.{◌≡◌, ◌<◌, ◌≤◌, ◌+◌, ◌%◌, ◌^◌, true};
-ghost use Rattle.mx_ring.specs.Stack.{in_stack_area};
+ghost use Rattle.std.specs.Prelude.{◌≡◌, ◌<◌, ◌≤◌, ◌+◌, ◌%◌, ◌^◌};
 ghost use Rattle.mx_core.specs.Way.Calls.{CarriesOut};
 ghost use Rattle.mx_core.specs.Effects.{data_address};
 ghost use Rattle.mx_code.specs.Instructions.{operands_given};

@@ -1,6 +1,6 @@
 //! The operands of instructions, and what they give their destination.
 
-ghost use Rattle.std.specs.Prelude.{◌≡◌, ◌<◌, ◌≤◌};
+ghost use Rattle.std.specs.Prelude.{◌≡◌, ◌<◌};
 ghost use Rattle.mx_core.specs.Way.Calls.{Makes, settled};
 ghost use Rattle.mx_core.specs.Effects as spec;
 ghost use Rattle.mx_code.specs.Instructions.{x_of};

@@ -1,6 +1,4 @@
 //! One instruction, by its operation.
-
-ghost use Rattle.std.specs.Prelude.{◌≡◌};
 ghost use Rattle.mx_core.specs.Way.Calls.{CarriesOutWithMemory, KeepsOnErr, LacksMemoryOnlyWhere};
 ghost use Rattle.mx_core.specs.Deeds.{deed_of};
 ghost use Rattle.mx_code.specs.Instructions.{operation_in};

@@ -1,6 +1,6 @@
 //! What PUT stores in special registers.
 
-ghost use Rattle.std.specs.Prelude.{◌≡◌, ◌<◌, ◌≤◌};
+ghost use Rattle.std.specs.Prelude.{◌≡◌, ◌<◌};
 ghost use Rattle.mx_core.specs.Changes.{with_put, IsPuttable};
 ghost use Rattle.mx_core.specs.Kept.{state_of};
 

@@ -1,6 +1,6 @@
 //! The octas of memory and of the stack area that are not 0.
 
-ghost use Rattle.std.specs.Prelude.{◌≡◌, ◌≤◌, ◌<◌, ◌^◌, max};
+ghost use Rattle.std.specs.Prelude.{◌≡◌, ◌<◌, ◌^◌, max};
 ghost use Rattle.mx_mem.specs.Memory.{IsNextNonzero};
 ghost use Rattle.mx_ring.specs.Stack.{windowed, stack_address, stack_octa};
 ghost use Rattle.mx_core.specs.Kept.{state_of};

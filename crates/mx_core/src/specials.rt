@@ -7,10 +7,8 @@ ghost use Rattle.mx_core.specs.Way.Calls.{CarriesOut, Makes, unless};
 ghost use Rattle.mx_core.specs.Effects.{specials_back, specials_saved};
 ghost use Rattle.mx_core.specs.Deeds.{with_specials};
 ghost use Rattle.mx_code.specs.Instructions.{x_of, y_of};
-ghost use Rattle.mx_core.specs.Changes.{with_put};
-ghost use Rattle.mx_spec.specs.SpecialRegisters.{rA, rG, rL};
 ghost use Rattle.mx_core.specs.Kept.{state_of};
-ghost use Rattle.mx_core.specs.State.{global_start, locals};
+ghost use Rattle.mx_core.specs.State.{global_start};
 ghost use Rattle.mx_code.specs.declared.reason.Reason.TheVariants as reasons;
 
 use crate::bounds::know_bounds;

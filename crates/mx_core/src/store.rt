@@ -1,6 +1,6 @@
 //! Stores, and the exchange of an octa.
 
-ghost use Rattle.std.specs.Prelude.{◌≡◌, ◌≢◌, ◌<◌, ◌≤◌, ◌^◌, Err, Some, false, true};
+ghost use Rattle.std.specs.Prelude.{◌≡◌, ◌<◌, ◌^◌, Err, Some};
 ghost use Rattle.mx_core.specs.Way.Calls.{KeepsOnErr, LacksMemoryOnlyWhere, MakesWithMemory, CarriesOutWithMemory};
 ghost use Rattle.mx_core.specs.Way.Calls as spec;
 ghost use Rattle.mx_code.specs.LoadsAndStores.{stored_event};

@@ -1,6 +1,6 @@
 //! The exchange of an octa: CSWAP.
 
-ghost use Rattle.std.specs.Prelude.{◌≡◌, ◌≤◌, ◌<◌, ◌^◌, false, true};
+ghost use Rattle.std.specs.Prelude.{◌≡◌, ◌<◌, ◌^◌, false, true};
 ghost use Rattle.mx_ring.specs.Stack.{in_stack_area};
 ghost use Rattle.mx_core.specs.Way.Calls as spec;
 ghost use Rattle.mx_core.specs.Way.Calls.{CarriesOutWithMemory, KeepsOnErr, LacksMemoryOnlyWhere, Makes, MakesWithMemory};

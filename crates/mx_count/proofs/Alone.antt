@@ -1,5 +1,5 @@
 -- A watcher that is never full, alone in its list.
-use Rattle.std.proofs.Common.{◌≡◌, ℕ, Bool, true, false, not, List, [], ◌∷◌, ◌++◌, append-nil, cond, length, map, refl, sym, ap, ◌∙◌}
+use Rattle.std.proofs.Common.{◌≡◌, ℕ, Bool, true, false, not, List, [], ◌∷◌, ◌++◌, append-nil, cond, length, map, refl, ap, ◌∙◌}
 use Rattle.std.specs.List.{flat_map, list_all, range_with_len}
 use Rattle.mx_code.specs.declared.trace.Trace.{Trace}
 use Rattle.mx_watch.specs.Hearing.{Hears, after, never_full, placed, remains}

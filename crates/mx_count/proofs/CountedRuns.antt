@@ -1,5 +1,5 @@
 -- A run that is counted from no steps on.
-use Rattle.std.proofs.Common.{◌≡◌, ◌≢◌, ℕ, Bool, false, List, [], ◌∷◌, sym, ap, ◌∙◌, Some}
+use Rattle.std.proofs.Common.{◌≡◌, ◌≢◌, ℕ, Bool, false, List, [], ap, ◌∙◌, Some}
 use Rattle.mx_host.specs.HostModel.{HostModel}
 use Rattle.mx_core.specs.State.{State}
 use Rattle.mx_code.specs.declared.trace.Trace.{Trace}

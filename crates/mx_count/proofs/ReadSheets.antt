@@ -1,5 +1,5 @@
 -- Sheets as octas, and read again.
-use Rattle.std.proofs.Common.{◌≡◌, ℕ, ◌+◌, ◌<◌, ◌≤◌, ◌^◌, Bool, true, false, cond, List, [], ◌∷◌, ◌++◌, length, drop, flat_map, append-nil, append_assoc, arith, refl, sym, ap, ◌∙◌}
+use Rattle.std.proofs.Common.{◌≡◌, ℕ, ◌+◌, ◌≤◌, Bool, true, false, cond, List, [], ◌∷◌, ◌++◌, length, drop, flat_map, append-nil, append_assoc, arith, refl, sym, ap, ◌∙◌}
 use Rattle.mx_word.proofs.Tetras.{octa-back}
 use Rattle.mx_code.specs.declared.trace.Trace.{Trace}
 use Rattle.mx_line.specs.Lines.{lines_of}

@@ -1,5 +1,5 @@
 -- The rows of a sheet, one after another.
-use Rattle.std.proofs.Common.{◌≡◌, ℕ, ◌+◌, true, List, [], ◌∷◌, ◌++◌, length, drop, append-nil, append_assoc, refl, sym, ap, ◌∙◌}
+use Rattle.std.proofs.Common.{◌≡◌, ℕ, ◌+◌, true, List, ◌∷◌, ◌++◌, length, drop, append-nil, append_assoc, sym, ap, ◌∙◌}
 use Rattle.mx_line.specs.Lines.{lines_of}
 use Rattle.mx_view.proofs.LineTurns.{no-lines}
 use Rattle.mx_view.specs.declared.cells.Cell.{Cell}

@@ -1,5 +1,5 @@
 -- Sums of tallies.
-use Rattle.std.proofs.Common.{◌≡◌, ◌+◌, ℕ, Bool, true, false, cond, arith, refl}
+use Rattle.std.proofs.Common.{◌≡◌, arith}
 use Rattle.mx_count.specs.Tallies.{nothing, added}
 use Rattle.mx_count.specs.declared.tally.Tally.{Tally}
 

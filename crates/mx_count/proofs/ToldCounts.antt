@@ -1,8 +1,8 @@
 -- The watcher that counts, told a trace, and its report.
-use Rattle.std.proofs.Common.{◌≡◌, ℕ, Bool, false, List, [], ◌∷◌, refl, sym, ap, ◌∙◌}
+use Rattle.std.proofs.Common.{◌≡◌, ℕ, Bool, false, List, [], ◌∷◌, sym, ap, ◌∙◌}
 use Rattle.mx_code.specs.declared.trace.Trace.{Trace}
 use Rattle.mx_view.specs.declared.cells.Cell.{Cell}
-use Rattle.mx_watch.specs.Watching.{Watching, later}
+use Rattle.mx_watch.specs.Watching.{later}
 use Rattle.mx_count.specs.Counting.{counting_as, kept_tally}
 use Rattle.mx_count.specs.Reports.{report_text}
 use Rattle.mx_count.specs.declared.counts.Form.{Form}

@@ -1,6 +1,5 @@
 -- The watcher that counts, and what it keeps.
 use Rattle.std.specs.Prelude.{ℕ, ◌≡◌, ◌<◌, Bool, false, if◌then◌else◌, List, [], ◌∷◌, length, slice_index_or}
-use Rattle.mx_code.specs.declared.trace.Trace.{Trace}
 use Rattle.mx_view.specs.declared.cells.Cell.{Cell}
 use Rattle.mx_watch.specs.Watching.{Watching}
 use Rattle.mx_count.specs.Reports.{report_text}

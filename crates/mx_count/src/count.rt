@@ -1,6 +1,6 @@
 //! A source that is run and counted.
 
-ghost use Rattle.std.specs.Prelude.{◌≡◌, ◌≢◌, ◌≤◌, Err, IfErr, length};
+ghost use Rattle.std.specs.Prelude.{◌≡◌, ◌≢◌, ◌≤◌, Err, length};
 ghost use Rattle.mx_core.specs.Kept.{state_of};
 ghost use Rattle.mx_host.specs.Keeping.{ComesByFault, Keeps, OnlyByFailure};
 ghost use Rattle.mx_load.specs.Kept.{image_of};

@@ -1,6 +1,6 @@
 //! What is counted at each address.
 
-ghost use Rattle.std.specs.Prelude.{◌≡◌, ◌<◌, ◌++◌, ◌∷◌, [], ℕ, Bool, IfOk, IfSome, IsTrue, OnOk, OnErr, length, slice_index_or, slice_set, if◌then◌else◌};
+ghost use Rattle.std.specs.Prelude.{◌≡◌, ◌<◌, ◌++◌, ◌∷◌, [], ℕ, Bool, IfOk, IfSome, IsTrue, OnOk, OnErr, length, slice_set, if◌then◌else◌};
 ghost use Rattle.mx_count.specs.Counting.{IsAt, kept_tally};
 ghost use Rattle.mx_count.specs.Tallies as tallies;
 

@@ -1,11 +1,10 @@
 //! A run of a machine that is told to a watcher which is never full.
 
-ghost use Rattle.std.specs.Prelude.{◌≡◌, ◌≢◌, ◌∷◌, [], ℕ, List, IfOk, false, map};
+ghost use Rattle.std.specs.Prelude.{◌≡◌, ◌≢◌, ◌∷◌, [], List, IfOk, false, map};
 ghost use Rattle.mx_core.specs.Kept.{state_of};
 ghost use Rattle.mx_code.specs.declared.trace.Trace.{Trace as Step};
 ghost use Rattle.mx_host.specs.Keeping.{Keeps};
 ghost use Rattle.mx_watch.specs.Watching.{Watching};
-ghost use Rattle.mx_count.specs.Counting.{counting};
 ghost use Rattle.mx_count.specs.Runs.{EndsReported};
 
 use crate::Counts;

@@ -1,10 +1,9 @@
 -- Parts of the work, one behind another.
-use Rattle.std.proofs.Common.{IsTrue, ◌≡◌, ◌≢◌, ◌⊎◌, inl, inr, ℕ, ◌≤◌, true, Ok, Err, refl, sym, ◌∙◌, ap, subst, le_refl, arith}
+use Rattle.std.proofs.Common.{IsTrue, ◌≡◌, ◌≢◌, ◌⊎◌, inl, inr, ℕ, true, Ok, Err, refl, sym, ◌∙◌, ap, subst}
 use Rattle.std.specs.Prelude.{Option, Result}
-use Rattle.mx_host.specs.HostModel.{HostModel, tells, contents, Rose}
+use Rattle.mx_host.specs.HostModel.{HostModel, tells, contents}
 use Rattle.mx_plan.proofs.Standing.{rose-on, stands-all, stands-then}
 use Rattle.mx_plan.specs.Calls.{host, need}
-use Rattle.mx_plan.specs.Clauses.{Stands}
 use Rattle.mx_plan.specs.Held.{Makes}
 use Rattle.mx_plan.specs.Plan.{Plan, returns, calls, bind, Acts, end_of, end_after, Stops, StopsAfter, IsRest}
 use Rattle.mx_plan.proofs.Plans.{end_bind, end_returns, stops_first, stops_after, rest_after}

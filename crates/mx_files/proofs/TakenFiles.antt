@@ -1,9 +1,9 @@
 -- A file is read to at most so many pieces.
-use Rattle.std.proofs.Common.{◌≡◌, ℕ, zero, suc, ◌≤◌, ◌+◌, ◌-◌, ◌*◌, ◌==◌, List, [], ◌++◌, length, Bool, true, false, Ok, Err, arith}
+use Rattle.std.proofs.Common.{ℕ, zero, suc, ◌≤◌, ◌+◌, ◌-◌, ◌*◌, ◌==◌, List, [], ◌++◌, length, Bool, true, false, Ok, Err, arith}
 use Rattle.std.specs.Prelude.{Result}
 use Rattle.mx_host.specs.declared.faults.HostFault.{HostFault}
 use Rattle.mx_host.specs.declared.slots.Mode.TheVariants.{BinaryRead}
-use Rattle.mx_plan.specs.Plan.{returns, bind}
+use Rattle.mx_plan.specs.Plan.{returns}
 use Rattle.mx_plan.specs.Calls.{reading, open_plan, close_plan, read_plan, need}
 use Rattle.mx_plan.specs.Taking.{CanSay, taken, Spares, TakesAtMost}
 use Rattle.mx_plan.proofs.Taking.{spares-bind, spares-returns, need-spares, open-spares, close-spares}

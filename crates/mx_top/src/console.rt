@@ -3,7 +3,7 @@
 ghost use Rattle.std.specs.Prelude.{◌≡◌, ◌≢◌, false};
 ghost use Rattle.mx_core.specs.Bounds.{as_list_state};
 ghost use Rattle.mx_core.specs.Kept.{state_of};
-ghost use Rattle.mx_run.specs.WildRuns.{window_machine, list_machine};
+ghost use Rattle.mx_run.specs.WildRuns.{list_machine};
 ghost use Rattle.mx_files.specs.Answers.{AnswersAsList};
 ghost use Rattle.mx_outcome.specs.Kinds.{is_usage};
 ghost use Rattle.mx_top.specs.Runs as spec;

@@ -6,7 +6,7 @@ ghost use Rattle.mx_core.specs.Kept.{state_of};
 ghost use Rattle.mx_start.specs.Start.{pool, pool_octas};
 ghost use Rattle.mx_load.specs.Kept.{image_of};
 ghost use Rattle.mx_ring.specs.Stack.{stack_address};
-ghost use Rattle.mx_run.specs.WildRuns.{window_machine, list_machine};
+ghost use Rattle.mx_run.specs.WildRuns.{list_machine};
 ghost use Rattle.mx_files.specs.Answers.{AnswersAs, AnswersAsList};
 ghost use Rattle.mx_outcome.specs.Kinds.{is_usage};
 ghost use Rattle.law_gen.specs.Generator as generator;

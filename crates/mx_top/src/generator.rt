@@ -1,6 +1,6 @@
 //! The source that `gen` makes, and the line that tells what came of it.
 
-ghost use Rattle.std.specs.Prelude.{◌≡◌, ◌≤◌, ◌<◌, ◌+◌, ◌++◌, ◌^◌, OnOk, IfOk, codes, decimal};
+ghost use Rattle.std.specs.Prelude.{◌≡◌, ◌≤◌, ◌<◌, ◌+◌, ◌++◌, ◌^◌, OnOk, IfOk};
 ghost use Rattle.law_gen.specs.Generator as spec;
 
 use mx_text::add_decimal;

@@ -1,6 +1,6 @@
 //! What became of several processors, line by line.
 
-ghost use Rattle.std.specs.Prelude.{◌≡◌, ◌<◌, ◌++◌, ◌∷◌, ◌^◌, [], IfOk, OnOk, length};
+ghost use Rattle.std.specs.Prelude.{◌≡◌, ◌<◌, ◌++◌, ◌^◌, IfOk, OnOk};
 ghost use Rattle.mx_core.specs.Way.Search.{IsNextBetween};
 ghost use Rattle.mx_files.specs.Clauses.{Works};
 ghost use Rattle.mx_files.specs.FilePlans.{lines_plan};

@@ -4,7 +4,7 @@ ghost use Rattle.std.specs.Prelude.{◌≡◌, ◌≢◌, ◌≤◌, ◌<◌, fa
 ghost use Rattle.mx_load.specs.Kept.{image_of};
 ghost use Rattle.mx_multi.specs.Joint.{NoneTouched, as_list_joint, joint_of, processor_count};
 ghost use Rattle.mx_multi.specs.Turns.{AreNames, turns_ended};
-ghost use Rattle.mx_run.specs.WildRuns.{window_machine, list_machine};
+ghost use Rattle.mx_run.specs.WildRuns.{list_machine};
 ghost use Rattle.mx_files.specs.Answers.{AnswersAs, AnswersAsList};
 ghost use Rattle.mx_outcome.specs.Kinds.{is_usage};
 ghost use Rattle.mx_files.specs.Schedules.{AreEight, schedule_bytes};

@@ -1,4 +1,3 @@
-use Rattle.std.proofs.Common.{rules}
 use Rattle.mx_count.proofs.SheetRows.{sheet-is}
 use Rattle.mx_count.proofs.sheet.sheet.Goals as goal
 

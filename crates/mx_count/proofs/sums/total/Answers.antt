@@ -1,4 +1,4 @@
-use Rattle.std.proofs.Common.{◌≡◌, sym, ap, ◌∙◌}
+use Rattle.std.proofs.Common.{sym, ap, ◌∙◌}
 use Rattle.mx_count.specs.InTurn.{summed}
 use Rattle.mx_count.proofs.Summing.{all-summed, summed-all, summed-next}
 use Rattle.mx_count.proofs.sums.total.Goals as goal

@@ -1,4 +1,4 @@
-use Rattle.std.proofs.Common.{inl, refl, ◌≡◌, ◌∷◌, [], ap, ◌∙◌}
+use Rattle.std.proofs.Common.{inl, refl, ◌∷◌, [], ap, ◌∙◌}
 use denote.Param.Object.{read_made}
 use Rattle.mx_watch.specs.Watching.{Watching}
 use Rattle.mx_count.specs.contracts.watched.only.{dyn-1-ghosts}

@@ -1,4 +1,4 @@
-use Rattle.std.proofs.Common.{rules, ◌≡◌, sym, ◌∙◌}
+use Rattle.std.proofs.Common.{rules}
 use Rattle.mx_count.proofs.ToldCounts.{report-now}
 use Rattle.mx_count.proofs.counts.CountsWatcher.summary.Goals as goal
 
