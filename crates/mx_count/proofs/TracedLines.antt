@@ -111,5 +111,3 @@ module _ (o : Order) (arguments : List (List ℕ)) (few : o.steps ≤ 10 ^ 12) w
 
 pub lines-same : (o : Order) (name : List ℕ) (arguments : List (List ℕ)) (m : HostModel) → o.steps ≤ 10 ^ 12 → lines_counted o name arguments m ≡ lines_traced o name arguments m
 lines-same o name arguments m few = source-same o arguments few (file_bytes source_pieces name m)
-
-pub ruleset traced = (lines-same)

@@ -48,7 +48,6 @@ pub fn sheets_are_read_back()
 
 /// `count_lines` gives the sheet of the traces: in a run of at most 10^12 steps, which is the most that the words of the
 /// command line allow, each line has the tally of the steps at the tetras that it loads.
-#[tactic(auto, using(crate::proofs::TracedLines::traced))]
 pub fn counted_lines_are_those_of_the_traces()
     ensures { (o : Order) (name : List ℕ) (arguments : List (List ℕ)) (m : HostModel) → o.steps ≤ 10 ^ 12 →
         lines_counted o name arguments m ≡ lines_traced o name arguments m }
