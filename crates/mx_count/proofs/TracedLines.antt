@@ -1,5 +1,5 @@
 -- A run of few steps has tallies that its octas hold.
-use Rattle.std.proofs.Common.{◌≡◌, ℕ, zero, suc, ◌*◌, ◌≤◌, ◌^◌, Bool, true, false, cond, List, [], ◌∷◌, length, Result, Ok, Err, arith, refl, ap}
+use Rattle.std.proofs.Common.{◌≡◌, ℕ, zero, suc, ◌*◌, ◌≤◌, ◌^◌, ◌==◌, ◌||◌, Bool, true, false, cond, List, [], ◌∷◌, length, Result, Ok, Err, arith, refl, ap}
 use Rattle.mx_host.specs.HostAnswer.{Then}
 use Rattle.mx_host.specs.HostModel.{HostModel}
 use Rattle.mx_mmo.specs.Image.{Image}
@@ -15,10 +15,10 @@ use Rattle.mx_files.specs.Sources.{source_meaning}
 use Rattle.mx_files.specs.declared.refusal.Refusal.{Refusal}
 use Rattle.mx_outcome.specs.declared.outcome.Outcome.{Outcome}
 use Rattle.mx_begin.specs.Begun.{started}
-use Rattle.mx_count.specs.Costs.{oops, mems}
+use Rattle.mx_count.specs.Costs.{is_within, oops, mems}
 use Rattle.mx_count.specs.Reports.{HasOctas}
 use Rattle.mx_count.specs.Runs.{as_data, lines_as, lines_counted, lines_traced, machine_counted, machine_traced, meaning_counted, meaning_traced, source_lines, source_traced, start_counted, start_traced}
-use Rattle.mx_count.specs.Tallies.{added, code_in, goes_away, tally_in}
+use Rattle.mx_count.specs.Tallies.{added, code_in, goes_away, nothing, tally_in}
 use Rattle.mx_count.specs.declared.counts.Form.TheVariants.{Octas}
 use Rattle.mx_count.specs.declared.tally.Tally.{Tally}
 use Rattle.mx_count.proofs.ReadSheets.{read-back}
@@ -32,15 +32,24 @@ either-most false x y n h k = k
 oops-most : (code : ℕ) (away : Bool) → oops code away ≤ 60
 unfolding oops
 oops-most code away =
-    either-most _ _ _ 60 (either-most away 3 1 60 (omega arith) (omega arith))
-    (either-most _ _ _ 60 (either-most away 1 3 60 (omega arith) (omega arith))
-    (either-most _ 10 _ 60 (omega arith) (either-most _ 60 _ 60 (omega arith) (either-most _ 2 _ 60 (omega arith)
-    (either-most _ 3 _ 60 (omega arith) (either-most _ 3 _ 60 (omega arith) (either-most _ 3 _ 60 (omega arith) (either-most _ 5 1 60 (omega arith) (omega arith)))))))))
+    either-most (is_within 0x40 0x4f code) _ _ 60 (either-most away 3 1 60 (omega arith) (omega arith))
+    (either-most (is_within 0x50 0x5f code) _ _ 60 (either-most away 1 3 60 (omega arith) (omega arith))
+    (either-most (is_within 0x18 0x1b code) 10 _ 60 (omega arith)
+    (either-most (is_within 0x1c 0x1f code) 60 _ 60 (omega arith)
+    (either-most (is_within 0x94 0x95 code) 2 _ 60 (omega arith)
+    (either-most (is_within 0x9e 0x9f code) 3 _ 60 (omega arith)
+    (either-most (is_within 0xbe 0xbf code) 3 _ 60 (omega arith)
+    (either-most (code == 0xf8) 3 _ 60 (omega arith)
+    (either-most (code == 0xf9 || code == 0x00 || code == 0xff) 5 1 60 (omega arith) (omega arith)))))))))
 
 mems-most : (code : ℕ) → mems code ≤ 20
 unfolding mems
 mems-most code =
-    either-most _ 1 _ 20 (omega arith) (either-most _ 2 _ 20 (omega arith) (either-most _ 1 _ 20 (omega arith) (either-most _ 1 _ 20 (omega arith) (either-most _ 20 0 20 (omega arith) (omega arith)))))
+    either-most (is_within 0x80 0x93 code) 1 _ 20 (omega arith)
+    (either-most (is_within 0x94 0x95 code) 2 _ 20 (omega arith)
+    (either-most (is_within 0x96 0x97 code) 1 _ 20 (omega arith)
+    (either-most (is_within 0xa0 0xb7 code) 1 _ 20 (omega arith)
+    (either-most (is_within 0xfa 0xfb code) 20 0 20 (omega arith) (omega arith)))))
 
 -- ---- and so many steps so often as much
 
@@ -51,7 +60,7 @@ record IsFew (n : ℕ) (y : Tally) : Type 0 where
   mems : y.mems ≤ 20 * n
 
 all-few : (h : List Trace) → IsFew (length h) (tally_in (λ a. true) h)
-unfolding tally_in added
+unfolding tally_in added nothing
 all-few [] = record { times = omega arith; away = omega arith; oops = omega arith; mems = omega arith }
 all-few (t ∷ ts) =
     let rest = all-few ts in
