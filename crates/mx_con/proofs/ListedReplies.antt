@@ -16,7 +16,8 @@ use Rattle.mx_spec.specs.declared.put.Put.{Put}
 use Rattle.mx_spec.specs.declared.put.Put.TheVariants as put
 use Rattle.mx_core.specs.Bounds.{IsMachine, as_list_state}
 use Rattle.mx_core.specs.Changes.{allowed_unless, put_changed, special_changed, register_changed}
-use Rattle.mx_core.specs.State.{State, global_start, locals, with_value_in, with_octa, is_page_refused, is_in_stack_segment}
+use Rattle.mx_word.specs.Segments.{is_in_stack_segment}
+use Rattle.mx_core.specs.State.{State, global_start, locals, with_value_in, with_octa, is_page_refused}
 use Rattle.mx_core.specs.declared.changes.SetFault.{SetFault}
 use Rattle.mx_core.proofs.Kept.Changed.{register-listed, special-listed, octa-changed-listed}
 use Rattle.mx_core.proofs.Same.Seen.{same-visible}

@@ -24,7 +24,8 @@ use Rattle.mx_code.specs.LoadsAndStores.{touch}
 use Rattle.mx_core.specs.Effects.{Effect, Store, effect_of, going_to}
 use Rattle.mx_code.specs.Instructions.{instruction, operation_in, xyz_of}
 use Rattle.mx_core.specs.MachineSpace.{machine_contents, state_in}
-use Rattle.mx_core.specs.State.{State, special_register, locals, global_start, is_negative, is_in_stack_segment}
+use Rattle.mx_word.specs.Segments.{is_in_stack_segment}
+use Rattle.mx_core.specs.State.{State, special_register, locals, global_start, is_negative}
 use Rattle.mx_core.specs.Step.{Stepped, went, calls, stopped, fetched, store_touch, step}
 use Rattle.mx_core.specs.Deeds.{deed_for, deed_at}
 use Rattle.mx_core.specs.Wild.{deed, is_wild}

@@ -8,7 +8,8 @@ use Rattle.mx_text.specs.declared.numbers.Form.{Form}
 use Rattle.mx_text.specs.declared.numbers.Form.TheVariants.{Hex}
 use Rattle.mx_core.specs.Way.Changed.{left_changed}
 use Rattle.mx_core.specs.Changes.{at_address}
-use Rattle.mx_core.specs.State.{State, octa, special_register, is_in_stack_segment}
+use Rattle.mx_word.specs.Segments.{is_in_stack_segment}
+use Rattle.mx_core.specs.State.{State, octa, special_register}
 use Rattle.mx_core.specs.declared.changes.SetFault.{SetFault}
 use Rattle.mx_run.specs.FlagMaps.{with_flags}
 use Rattle.mx_run.specs.Runs.{FlagsOf}

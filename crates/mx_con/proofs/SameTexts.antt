@@ -7,7 +7,8 @@ use Rattle.mx_text.specs.declared.numbers.Form.{Form}
 use Rattle.mx_registers.specs.Registers.{Registers}
 use Rattle.mx_ring.specs.Stack.{in_stack_area}
 use Rattle.mx_core.specs.Bounds.{as_list_state}
-use Rattle.mx_core.specs.State.{State, is_negative, is_in_stack_segment}
+use Rattle.mx_word.specs.Segments.{is_in_stack_segment}
+use Rattle.mx_core.specs.State.{State, is_negative}
 use Rattle.mx_code.specs.declared.trace.Touch.{Touch}
 use Rattle.mx_code.specs.declared.trace.Trace.{Trace}
 use Rattle.mx_core.proofs.Same.Seen.{same-visible, same-register, same-special, same-octa}

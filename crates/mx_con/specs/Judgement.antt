@@ -1,6 +1,7 @@
 -- Which commands are bad, and why: the first that applies of the reasons in their order.
 use Rattle.std.specs.Prelude.{ℕ, ◌+◌, ◌-◌, ◌*◌, ◌^◌, ◌==◌, ◌||◌, nat_le, nat_lt, Bool, true, false, if◌then◌else◌, List, codes, is_none, is_err, Option, None, Some}
-use Rattle.mx_core.specs.State.{State, global_start, is_in_stack_segment}
+use Rattle.mx_word.specs.Segments.{is_in_stack_segment}
+use Rattle.mx_core.specs.State.{State, global_start}
 use Rattle.mx_cmd.specs.declared.command.Command.{Command}
 use Rattle.mx_cmd.specs.declared.command.Command.TheVariants as command
 use Rattle.mx_cmd.specs.declared.command.Subject.{Subject}

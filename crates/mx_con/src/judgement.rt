@@ -7,6 +7,7 @@ ghost use Rattle.mx_show.specs.Subjects.{IsSound};
 
 use mx_cmd::Subject;
 use mx_core::Machine;
+use mx_word::STACK_SEGMENT;
 
 /// Why a line is bad: it is no command; a number is out of range; there is no such register; an address
 /// is out of range; no octa was shown, or the last address is passed; or the change is refused.
@@ -133,7 +134,7 @@ pub(crate) fn go_to_bad(a: u64) -> Option<Bad>
 pub(crate) fn flag_bad(a: u64) -> Option<Bad>
     ensures { result ≡ spec.flag_bad a }
 {
-    if 0x6000_0000_0000_0000 <= a {
+    if STACK_SEGMENT <= a {
         Some(Bad::BadAddress)
     } else {
         None

@@ -2,7 +2,7 @@
 
 ghost use Rattle.std.specs.Prelude.{◌≡◌, ℕ, Option, None, Some};
 ghost use Rattle.mx_core.specs.Kept.{state_of};
-ghost use Rattle.mx_core.specs.State.{is_in_stack_segment};
+ghost use Rattle.mx_word.specs.Segments.{is_in_stack_segment};
 ghost use Rattle.mx_con.specs.Clauses.{Responds, Talks};
 ghost use Rattle.mx_show.specs.Texts.{state_text};
 ghost use Rattle.mx_con.specs.Judgement as judgement;
@@ -21,7 +21,7 @@ use mx_host::Host;
 use mx_run::Runner;
 use mx_show::{shown_line, state_line};
 use mx_text::Form;
-use mx_word::Bytes;
+use mx_word::{Bytes, is_in_stack_segment};
 use std::alloc::Global;
 
 /// Writes why a line is bad.
@@ -95,14 +95,8 @@ fn is_wild(subject: Subject) -> bool
     match subject {
         Subject::Register(_) | Subject::Global(_) => false,
         Subject::Special(code) => code == Some(11),
-        Subject::Memory(a) => is_in_segment(a),
+        Subject::Memory(a) => is_in_stack_segment(a),
     }
-}
-
-fn is_in_segment(a: u64) -> bool
-    ensures { result ≡ is_in_stack_segment a }
-{
-    0x6000_0000_0000_0000 <= a && a < 1 << 63
 }
 
 /// An octa counts as shown.
@@ -201,7 +195,7 @@ fn show_octas<H: Host>(
     };
     let last = a + 8 * n;
     *shown = Some(last);
-    note_if(runner, is_in_segment(last));
+    note_if(runner, is_in_stack_segment(last));
     write_octas(alloc, runner.machine(), host, form, a, n)
 }
 
@@ -221,7 +215,7 @@ pub(crate) fn go_to<H: Host>(
         return refuse(alloc, host, bad);
     }
     go_on_at(runner, a);
-    note_if(runner, is_in_segment(a));
+    note_if(runner, is_in_stack_segment(a));
     Ok(())
 }
 

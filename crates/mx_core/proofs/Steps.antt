@@ -5,7 +5,8 @@ use Rattle.mx_core.specs.Way.Calls.{Left, left, with_touch_where}
 use Rattle.mx_core.specs.Deeds.{deed_for, deed_at, Deed, deed_of, outcome, state_done, unless_refused}
 use Rattle.mx_code.specs.Instructions.{operation_in}
 use Rattle.mx_code.specs.declared.instruction.Instruction.{Instruction}
-use Rattle.mx_core.specs.State.{State, is_negative, is_in_stack_segment}
+use Rattle.mx_word.specs.Segments.{is_in_stack_segment}
+use Rattle.mx_core.specs.State.{State, is_negative}
 use Rattle.mx_core.specs.Step.{went, stopped, calls, fetched, after, trace_of, completed, carried_out, made, call_of, step}
 use Rattle.mx_core.specs.Way.Stepping.{sight_of, Foretells, write_told}
 use Rattle.mx_core.specs.declared.sight.Sight.{Sight}

@@ -5,7 +5,8 @@ use Rattle.mx_core.specs.Way.Calls.{Left, left, with_touch_where}
 use Rattle.mx_core.specs.Deeds.{deed_at, deed_for, deed_of, outcome}
 use Rattle.mx_code.specs.Instructions.{operation_in}
 use Rattle.mx_code.specs.declared.instruction.Instruction.{Instruction}
-use Rattle.mx_core.specs.State.{State, is_in_stack_segment}
+use Rattle.mx_word.specs.Segments.{is_in_stack_segment}
+use Rattle.mx_core.specs.State.{State}
 use Rattle.mx_core.specs.Step.{fetched, step}
 use Rattle.mx_core.specs.Way.Stepping.{advanced}
 use Rattle.mx_core.specs.Stops.{form_fault}

@@ -12,7 +12,8 @@ use Rattle.mx_trip.specs.declared.insertion.Kind.TheVariants.{Again, Continue, S
 use Rattle.mx_core.specs.Effects.{Effect, Store, Tripping, Move, stays, pushes, pops, saves, unsaves, cuts, moves_globals, effect_of, giving, going_to, z_operand}
 use Rattle.mx_code.specs.Instructions.{instruction, x_of, z_of, xyz_of, next_of, operation_in, destination_of}
 use Rattle.mx_code.specs.declared.instruction.Instruction.{Instruction}
-use Rattle.mx_core.specs.State.{State, global_start, locals, special_register, with_special, with_value_in, with_local, with_stored, is_in_stack_segment}
+use Rattle.mx_word.specs.Segments.{is_in_stack_segment}
+use Rattle.mx_core.specs.State.{State, global_start, locals, special_register, with_special, with_value_in, with_local, with_stored}
 use Rattle.mx_code.specs.Operations.{has_destination}
 use Rattle.mx_core.specs.Stops.{refusal, form_fault}
 use Rattle.mx_code.specs.declared.operation.Operation.{Operation}

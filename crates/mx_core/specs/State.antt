@@ -88,10 +88,6 @@ with_octa s a x =
 abbrev pub with_stored : State → ℕ → Part → ℕ → State
 with_stored s a part x = with_octa s a (with_part part (octa s a) a x)
 
--- the addresses of Stack_Segment
-abbrev pub is_in_stack_segment : ℕ → Bool
-is_in_stack_segment a = nat_le 0x6000_0000_0000_0000 a && nat_lt a (2 ^ 63)
-
 -- no octa has an address of 2^63 or more
 abbrev pub is_negative : ℕ → Bool
 is_negative a = nat_le (2 ^ 63) a

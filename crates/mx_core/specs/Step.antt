@@ -8,7 +8,8 @@ use Rattle.mx_code.specs.LoadsAndStores.{touch}
 use Rattle.mx_core.specs.Effects.{Store}
 use Rattle.mx_code.specs.Instructions.{instruction, operation_in}
 use Rattle.mx_code.specs.declared.instruction.Instruction.{Instruction}
-use Rattle.mx_core.specs.State.{State, tetra, is_negative, is_in_stack_segment}
+use Rattle.mx_word.specs.Segments.{is_in_stack_segment}
+use Rattle.mx_core.specs.State.{State, tetra, is_negative}
 use Rattle.mx_code.specs.declared.operation.Operation.{Operation}
 use Rattle.mx_code.specs.declared.operation.Operation.TheVariants as op
 use Rattle.mx_code.specs.declared.reason.Reason.{Reason}

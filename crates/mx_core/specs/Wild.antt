@@ -1,7 +1,8 @@
 -- Which steps look at rS or at the memory of the register stack; all others do not show where hidden octas lie.
 use Rattle.std.specs.Prelude.{◌≡◌, ◌&&◌, ◌||◌, not, false, Bool}
 use Rattle.mx_core.specs.Deeds.{Deed, deed_at}
-use Rattle.mx_core.specs.State.{State, is_negative, is_in_stack_segment}
+use Rattle.mx_word.specs.Segments.{is_in_stack_segment}
+use Rattle.mx_core.specs.State.{State, is_negative}
 use Rattle.mx_core.specs.Step.{fetched}
 
 -- what the next step carries out

@@ -11,8 +11,8 @@ use crate::Machine;
 use crate::bounds::know_bounds;
 use crate::machine::is_in_stack_area;
 use mx_mem::MemFault;
-use mx_ring::STACK_SEGMENT;
 use mx_spec::{Put, may_put};
+use mx_word::STACK_SEGMENT;
 
 /// Why a change is refused: it is not allowed, or out of memory.
 #[derive(Clone, Copy, Debug, PartialEq, Eq)]

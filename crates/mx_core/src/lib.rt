@@ -44,7 +44,7 @@ pub use laws::{
     marks_move_with_frames, steps_go_as_lists, steps_keep_machines, traps_go_as_lists,
     traps_keep_machines,
 };
-pub use machine::{Machine, is_in_segment, is_in_stack_area};
+pub use machine::{Machine, is_in_stack_area};
 pub use mx_code::{Reason, Touch, Trace};
 pub use noting::{Note, Noted};
 pub use step::{Advance, Advanced, Step};

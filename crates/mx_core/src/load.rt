@@ -10,7 +10,7 @@ ghost use Rattle.mx_code.specs.Told.{answer_in};
 use crate::machine::is_in_stack_area;
 use crate::{Machine, Reason};
 use mx_code::{Instruction, Loading, Operation, Stop, Told, loaded_value};
-use mx_ring::STACK_SEGMENT;
+use mx_word::STACK_SEGMENT;
 
 impl Machine {
     /// LDB to LDUNC.

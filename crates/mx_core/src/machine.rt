@@ -15,7 +15,8 @@ use crate::Reason;
 use crate::bounds::know_bounds;
 use mx_code::Stop;
 use mx_mem::{MemFault, Memory, Part, with_part};
-use mx_ring::{AREA_END, Ring, RingFault, STACK_SEGMENT};
+use mx_ring::{AREA_END, Ring, RingFault};
+use mx_word::STACK_SEGMENT;
 use std::marker::Model;
 
 /// The machine between two instructions.
@@ -275,14 +276,6 @@ pub fn is_in_stack_area(a: u64) -> bool
     ensures { result ≡ stacks.in_stack_area a }
 {
     STACK_SEGMENT <= a && a < AREA_END
-}
-
-/// Whether an address lies in Stack_Segment.
-#[inline(always)]
-pub fn is_in_segment(a: u64) -> bool
-    ensures { result ≡ spec.is_in_stack_segment a }
-{
-    STACK_SEGMENT <= a && a < 1 << 63
 }
 
 /// The tetra in the half of an octa where an address lies.

@@ -19,8 +19,9 @@ use crate::sight::Sight;
 use crate::undoing::machines_are_paged;
 use crate::{Machine, Reason, Step, Touch, Trace};
 use mx_code::{Instruction, Operation};
-use mx_ring::{RingFault, RingNote, RingWork, STACK_SEGMENT};
+use mx_ring::{RingFault, RingNote, RingWork};
 use mx_trip::TrapCall;
+use mx_word::STACK_SEGMENT;
 use std::alloc::Global;
 use std::marker::Model;
 

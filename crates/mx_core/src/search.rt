@@ -8,7 +8,8 @@ ghost use Rattle.mx_core.specs.Way.Search.{IsNextIndex, IsNextBetween, first_ind
 ghost use Rattle.mx_core.specs.State.{octa};
 
 use crate::Machine;
-use mx_ring::{AREA_END, Ring, STACK_SEGMENT};
+use mx_ring::{AREA_END, Ring};
+use mx_word::STACK_SEGMENT;
 
 /// How many octas the stack area has.
 const AREA: u64 = 0x10_0000;

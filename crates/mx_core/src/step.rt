@@ -12,12 +12,11 @@ ghost use Rattle.mx_core.specs.Walks.{Goes};
 ghost use Rattle.mx_core.specs.Way.Stepping.{advanced, needs_page, step_answer, step_needs_page};
 
 use crate::bounds::machines_keep_the_invariant;
-use crate::machine::is_in_segment;
 use crate::trips::RJ;
 use crate::{Machine, Reason, Trace};
 use mx_code::{Group, Instruction, Operation, Stop, Told, group_of};
-use mx_ring::STACK_SEGMENT;
 use mx_trip::TrapCall;
+use mx_word::{STACK_SEGMENT, is_in_stack_segment};
 
 /// What a step comes to: the machine went on, with a trace; it calls a file trap, and is to be told its
 /// result; it stopped; or it is out of memory. But for the first the machine is as it was.
@@ -92,7 +91,7 @@ impl Machine {
         let sight = self.sight_at(i);
         match self.carry_out_by(Group::Other, i) {
             Ok(()) => {
-                self.note_where(is_in_segment(i.at));
+                self.note_where(is_in_stack_segment(i.at));
                 Step::Went(Trace {
                     pc: i.at,
                     word: i.word,
@@ -227,7 +226,7 @@ impl Machine {
     {
         match self.carry_out_by(group, i) {
             Ok(()) => {
-                self.note_where(is_in_segment(i.at));
+                self.note_where(is_in_stack_segment(i.at));
                 Advance::Went
             }
             Err(Stop::Stopped(reason)) => stopped_for(reason),

@@ -10,11 +10,12 @@ ghost use Rattle.mx_core.specs.Kept.{state_of};
 ghost use Rattle.mx_core.specs.State.{octa};
 ghost use Rattle.mx_core.specs.Way.Stepping.{needs_page};
 
-use crate::machine::{is_in_segment, is_in_stack_area};
+use crate::machine::is_in_stack_area;
 use crate::specials::RP;
 use crate::{Machine, Reason};
 use mx_code::{Instruction, Operation, Stop};
 use mx_mem::Part;
+use mx_word::is_in_stack_segment;
 
 impl Machine {
     /// CSWAP. It takes memory only where it writes and begins a page.
@@ -70,7 +71,7 @@ impl Machine {
         match self.set(i.x(), 0) {
             Ok(()) => {
                 self.put(RP, found);
-                self.note_where(is_in_segment(a));
+                self.note_where(is_in_stack_segment(a));
                 self.go_to(i.next());
                 Ok(())
             }

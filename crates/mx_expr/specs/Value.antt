@@ -1,5 +1,6 @@
 -- The value of an expression, by whole numbers modulo 2^64. (MMIXware, "MMIXAL", expressions.)
 use Rattle.std.specs.Prelude.{ℕ, ◌+◌, ◌-◌, ◌*◌, ◌/◌, ◌%◌, ◌^◌, ◌==◌, nat_lt, nat_le, if◌then◌else◌, List, Option, None, Some, Result, Ok, Err, bit_and, bit_or, bit_xor}
+use Rattle.mx_word.specs.Words.{difference}
 use Rattle.mx_word.specs.declared.symbols.Value.{Value}
 use Rattle.mx_word.specs.declared.symbols.Value.TheVariants.{Pure, Reg}
 use Rattle.mx_expr.specs.declared.faults.ExprFault.{ExprFault}
@@ -25,10 +26,6 @@ knowledge symbols backs at = record { symbols = symbols; backs = backs; at = at 
 -- A register has a number of 0 to 255.
 abbrev pub register : ℕ → Valued
 register n = if nat_le n 255 then Ok (Reg n) else Err RegisterNumber
-
--- a difference modulo 2^64
-abbrev pub difference : ℕ → ℕ → ℕ
-difference x y = (x + (2 ^ 64 - y)) % 2 ^ 64
 
 -- A shift by 64 or more gives 0.
 abbrev pub left_shift : ℕ → ℕ → ℕ

@@ -2,6 +2,7 @@
 
 ghost use Rattle.std.specs.Prelude.{◌≡◌, ◌+◌, ◌-◌, ◌*◌, ◌/◌, ◌%◌, ◌^◌};
 ghost use Rattle.mx_expr.specs.Value as spec;
+ghost use Rattle.mx_word.specs.Words.{difference as difference_of};
 
 use crate::{BinOp, ExprFault, UnOp};
 use mx_word::{Value, quotient};
@@ -72,7 +73,7 @@ fn subtract(x: Value, y: Value) -> Result<Value, ExprFault>
 
 /// A difference modulo 2^64.
 fn difference(x: u64, y: u64) -> u64
-    ensures { result ≡ spec.difference x y }
+    ensures { result ≡ difference_of x y }
 {
     x.wrapping_sub(y)
 }

@@ -3,8 +3,9 @@ use Rattle.std.proofs.Common.{◌≡◌, ◌≢◌, ◌<◌, ◌≤◌, ℕ, zer
 use Rattle.std.proofs.lemmas.Bool.{eqb-true, eqb-false, leb-true, leb-false}
 use Rattle.std.proofs.lemmas.List.{drop_more}
 use Rattle.std.proofs.Math.Seq.{drop-length}
+use Rattle.mx_word.specs.Words.{difference}
 use Rattle.mx_greg.specs.declared.gregs.Base.{Base}
-use Rattle.mx_greg.specs.Gregs.{difference, IsNearest, greg_value, lowest_of, nearest_base, nearest_from, nearer_base, with_register}
+use Rattle.mx_greg.specs.Gregs.{IsNearest, greg_value, lowest_of, nearest_base, nearest_from, nearer_base, with_register}
 
 pub nearest-none : (address first : ℕ) (values : List ℕ) → nearest_from address first (drop (length values) values) ≡ None
 unfolding nearest_from

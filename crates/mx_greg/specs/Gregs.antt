@@ -1,6 +1,7 @@
 -- The allocated global registers, as the list of the values of $G to $254 (MMIXware, MMIXAL, GREG and base addresses;
 -- TAOCP 1, Fascicle 1, section 1.3.2').
 use Rattle.std.specs.Prelude.{◌≡◌, ◌≢◌, ◌<◌, ◌≤◌, ℕ, ◌+◌, ◌-◌, ◌%◌, ◌^◌, ◌==◌, nat_lt, nat_le, if◌then◌else◌, List, [], ◌∷◌, length, position, slice_index, slice_set, Option, None, Some, option_map}
+use Rattle.mx_word.specs.Words.{difference}
 use Rattle.mx_greg.specs.declared.gregs.Base.{Base}
 
 -- G: the lowest allocated register, or 255
@@ -36,10 +37,6 @@ register_or_next gregs (Some reg) = Some reg
 -- The register of a GREG: the one that an earlier GREG has given this value, if that is not 0; else the next one.
 abbrev pub register_for : List ℕ → ℕ → Option ℕ
 register_for gregs value = if value == 0 then next_register gregs else register_or_next gregs (register_of_value gregs value)
-
--- a difference modulo 2^64
-abbrev pub difference : ℕ → ℕ → ℕ
-difference x y = (x + (2 ^ 64 - y)) % 2 ^ 64
 
 -- A base is a register for an address, and how far the address lies above its value, modulo 2^64.
 -- the nearer of a base and perhaps another one

@@ -9,13 +9,10 @@ ghost use Rattle.mx_load.specs.Kept.{image_of, line_at};
 
 use crate::LoadFault;
 use mx_mem::{MemFault, Memory};
-use mx_word::Symbols;
+use mx_word::{STACK_SEGMENT, Symbols};
 use std::alloc::Global;
 use std::collections::BTreeMap;
 use std::marker::Model;
-
-/// Where the stack segment begins.
-const STACK: u64 = 0x6000_0000_0000_0000;
 
 /// What the items of an object set up before a program runs: memory, the lines of its tetras, the global registers
 /// and the symbols. Memory has at most 65,536 pages.
@@ -120,7 +117,7 @@ impl Image {
         ensures { result ≢ Err LoadFault.OutOfMemory →
             given result (image_of self.new) ≡ told (spec.join (image_of self.old) a t) }
     {
-        if a >= STACK {
+        if a >= STACK_SEGMENT {
             return Err(LoadFault::BadPlace);
         }
         match self.memory.xor_tetra(a, t) {
@@ -137,7 +134,7 @@ impl Image {
     {
         let high = 4 * (a / 4);
         let low = high.wrapping_add(4);
-        if high >= STACK || low >= STACK {
+        if high >= STACK_SEGMENT || low >= STACK_SEGMENT {
             return Err(LoadFault::BadPlace);
         }
         match self.join(high, (x >> 32) as u32) {

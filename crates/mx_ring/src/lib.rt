@@ -20,5 +20,5 @@ pub use notes::{
     RingNote, RingWork, notes_take_back, notes_take_steps_back, notes_take_stores_back,
     notes_take_trips_back,
 };
-pub use ring::{AREA_END, Ring, STACK_SEGMENT};
+pub use ring::{AREA_END, Ring};
 pub use saved::Saved;

@@ -23,13 +23,11 @@ mod back;
 use crate::frame::{frame_at, specials_at, upper_octas};
 use crate::{RingFault, RingSize, Saved};
 use mx_registers::{FEW, Hidden, ROOM, Visible};
+use mx_word::STACK_SEGMENT;
 use std::alloc::Global;
 use std::marker::Model;
 
-/// The address of Stack_Segment, where the stack area begins.
-pub const STACK_SEGMENT: u64 = 0x6000_0000_0000_0000;
-
-/// The address behind the stack area.
+/// The address behind the stack area, which begins where Stack_Segment does.
 pub const AREA_END: u64 = 0x6000_0000_0080_0000;
 
 /// The 256 registers, the hidden ones and the stack area. Contracts see it as a window.

@@ -11,7 +11,7 @@ use Rattle.mx_mem.specs.Space.{octa_of}
 use Rattle.mx_ring.specs.Stack.{Stack, windowed, in_stack_area, stack_address, stack_index, stack_octa}
 use Rattle.mx_ring.specs.Window.{Window}
 use Rattle.mx_trap.specs.Apart.{with_segment}
-use Rattle.mx_trap.specs.Touches.{is_in_segment}
+use Rattle.mx_word.specs.Segments.{is_in_stack_segment}
 use Rattle.mx_core.specs.Bounds.{IsMachine, as_list_state}
 use Rattle.mx_core.specs.MachineSpace.{IsWholeSpace, area_in}
 use Rattle.mx_core.specs.State.{State, octa}
@@ -60,7 +60,7 @@ each-octa (x ∷ xs) (suc i) h = each-octa xs i h.1
 in-area : (i q : ℕ) → i < 2 ^ 20 → q / 8 ≡ stack_address i / 8 → in_stack_area q ≡ true
 in-area i q l e = grind (arith, nat_tests)
 
-area-in-segment : (q : ℕ) → in_stack_area q ≡ true → is_in_segment q ≡ true
+area-in-segment : (q : ℕ) → in_stack_area q ≡ true → is_in_stack_segment q ≡ true
 area-in-segment q e = grind (arith, nat_tests)
 
 index-of : (i q : ℕ) → q / 8 ≡ stack_address i / 8 → stack_index q ≡ i
@@ -103,7 +103,7 @@ same-outside : (b : Bool) (x y g : ℕ) → x ≡ y → cond b x g ≡ cond b y 
 same-outside b x y g e = ap (λ z. cond b z g) e
 
 pub beside-octa : (s : State) (g : ℕ → ℕ) (a : ℕ) → in_stack_area a ≡ false → octa_of (own-bytes (as_list_state s) g) a ≡ octa_of (own-bytes s g) a
-beside-octa s g a h = same-octa-of (own-bytes (as_list_state s) g) (own-bytes s g) a (λ q e. same-outside (is_in_segment q) _ _ (g q) (ap (λ x. byte_of x q) (same-octa s s.stack q (beside-area a q h e))))
+beside-octa s g a h = same-octa-of (own-bytes (as_list_state s) g) (own-bytes s g) a (λ q e. same-outside (is_in_stack_segment q) _ _ (g q) (ap (λ x. byte_of x q) (same-octa s s.stack q (beside-area a q h e))))
 
 -- THE MACHINE'S OCTAS
 

@@ -12,7 +12,8 @@ use Rattle.mx_trip.specs.declared.call.TrapCall.{TrapCall}
 use Rattle.mx_trap.specs.Apart.{apart, leaves_apart, with_segment}
 use Rattle.mx_trap.specs.FileTraps.{trap_answer}
 use Rattle.mx_trap.specs.Moves.{Leaves}
-use Rattle.mx_trap.specs.Touches.{touches, is_in_segment}
+use Rattle.mx_word.specs.Segments.{is_in_stack_segment}
+use Rattle.mx_trap.specs.Touches.{touches}
 use Rattle.mx_trap.specs.declared.answer.TrapAnswer.{TrapAnswer}
 use Rattle.mx_trap.specs.declared.answer.TrapAnswer.TheVariants as trap
 use Rattle.mx_trap.proofs.ApartCalls.{trap-apart, untouched-apart}
@@ -41,22 +42,22 @@ own s d = apart (byte_in (octa s)) (rest_of s) d
 abbrev with-bytes : Contents State → (ℕ → ℕ) → Contents State
 with-bytes c f = record c { bytes = f }
 
-outside-area : (q : ℕ) → is_in_segment q ≡ false → in_stack_area q ≡ false
+outside-area : (q : ℕ) → is_in_stack_segment q ≡ false → in_stack_area q ≡ false
 outside-area q e = grind (arith, nat_tests)
 
-list-byte : (s : State) (q : ℕ) (b : Bool) → is_in_segment q ≡ b → byte_in (octa (as_list_state s)) q ≡ cond b (byte_in (octa (as_list_state s)) q) (byte_in (octa s) q)
+list-byte : (s : State) (q : ℕ) (b : Bool) → is_in_stack_segment q ≡ b → byte_in (octa (as_list_state s)) q ≡ cond b (byte_in (octa (as_list_state s)) q) (byte_in (octa s) q)
 list-byte s q true e = refl
 list-byte s q false e = ap (λ x. byte_in (λ a. x) q) (same-octa s s.stack q (outside-area q e))
 
 list-bytes : (s : State) → byte_in (octa (as_list_state s)) ≡ with_segment (byte_in (octa (as_list_state s))) (byte_in (octa s))
-list-bytes s = λ i q. list-byte s q (is_in_segment q) refl i
+list-bytes s = λ i q. list-byte s q (is_in_stack_segment q) refl i
 
-window-byte : (s : State) (q : ℕ) (b : Bool) → is_in_segment q ≡ b → byte_in (octa s) q ≡ cond b (byte_in (octa s) q) (byte_in (octa (as_list_state s)) q)
+window-byte : (s : State) (q : ℕ) (b : Bool) → is_in_stack_segment q ≡ b → byte_in (octa s) q ≡ cond b (byte_in (octa s) q) (byte_in (octa (as_list_state s)) q)
 window-byte s q true e = refl
 window-byte s q false e = sym (ap (λ x. byte_in (λ a. x) q) (same-octa s s.stack q (outside-area q e)))
 
 window-bytes : (s : State) → byte_in (octa s) ≡ with_segment (byte_in (octa s)) (byte_in (octa (as_list_state s)))
-window-bytes s = λ i q. window-byte s q (is_in_segment q) refl i
+window-bytes s = λ i q. window-byte s q (is_in_stack_segment q) refl i
 
 list-contents : (s : State) → machine_contents (as_list_state s) ≡ own (as_list_state s) (machine_contents s)
 list-contents s = ap (with-bytes (machine_contents (as_list_state s))) (list-bytes s)
@@ -66,7 +67,7 @@ same-segment true x = refl
 same-segment false x = refl
 
 own-contents : (s : State) → machine_contents s ≡ own s (machine_contents s)
-own-contents s = ap (with-bytes (machine_contents s)) (λ i q. same-segment (is_in_segment q) (byte_in (octa s) q) i)
+own-contents s = ap (with-bytes (machine_contents s)) (λ i q. same-segment (is_in_stack_segment q) (byte_in (octa s) q) i)
 
 -- THE STATE THAT A TRAP LEAVES
 

@@ -13,10 +13,7 @@ use crate::{Effect, Env, Label, Placed, StmtFault};
 use mx_expr::{Expr, ExprFault};
 use mx_names::NameFault;
 use mx_ops::Pseudo;
-use mx_word::{Bytes, Value, Waits};
-
-/// The lowest address that takes no byte, the start of the stack segment.
-const STACK_SEGMENT: u64 = 0x6000_0000_0000_0000;
+use mx_word::{Bytes, STACK_SEGMENT, Value, Waits};
 
 /// The value of a label, where there is one.
 fn label_value(label: &Option<Label>, value: Value) -> Option<Value>

@@ -8,25 +8,26 @@ use Rattle.mx_word.specs.Results.{map_ok}
 use Rattle.mx_mem.specs.Space.{is_negative, octa_of}
 use Rattle.mx_trap.specs.Apart.{with_segment, IsClear}
 use Rattle.mx_trap.specs.Requests.{bytes_from, last_byte, next_byte, text_length, arguments}
-use Rattle.mx_trap.specs.Touches.{is_in_segment, meets_segment, text_touches, text_reach}
+use Rattle.mx_word.specs.Segments.{is_in_stack_segment}
+use Rattle.mx_trap.specs.Touches.{meets_segment, text_touches, text_reach}
 use Rattle.mx_trap.specs.declared.answer.TrapStop.{TrapStop}
 use Rattle.mx_trap.specs.declared.answer.TrapStop.TheVariants.{Negative, WideTrap, TransferTooLarge, TrapPagesFull, UnknownTrap}
 use Rattle.mx_trap.proofs.Segments.{Short, text-short}
 
-pub same-byte : (others f : ℕ → ℕ) (a : ℕ) → is_in_segment a ≡ false → with_segment others f a ≡ f a
+pub same-byte : (others f : ℕ → ℕ) (a : ℕ) → is_in_stack_segment a ≡ false → with_segment others f a ≡ f a
 same-byte others f a e = rw e refl
 
 -- OCTAS
 
-near : (a q : ℕ) → is_in_segment a ≡ false → q / 8 ≡ a / 8 → is_in_segment q ≡ false
+near : (a q : ℕ) → is_in_stack_segment a ≡ false → q / 8 ≡ a / 8 → is_in_stack_segment q ≡ false
 near a q e h = grind (arith, nat_tests)
 
-same-near : (others f : ℕ → ℕ) (a k : ℕ) → is_in_segment a ≡ false → k < 8 → with_segment others f (8 * (a / 8) + k) ≡ f (8 * (a / 8) + k)
+same-near : (others f : ℕ → ℕ) (a k : ℕ) → is_in_stack_segment a ≡ false → k < 8 → with_segment others f (8 * (a / 8) + k) ≡ f (8 * (a / 8) + k)
 same-near others f a k e l = same-byte others f (8 * (a / 8) + k) (near a (8 * (a / 8) + k) e (omega (arith, l)))
 
-pub same-octa : (others f : ℕ → ℕ) (a : ℕ) → is_in_segment a ≡ false → octa_of (with_segment others f) a ≡ octa_of f a
+pub same-octa : (others f : ℕ → ℕ) (a : ℕ) → is_in_stack_segment a ≡ false → octa_of (with_segment others f) a ≡ octa_of f a
 same-octa others f a e =
-    let s : (k : ℕ) → is_in_segment a ≡ false → k < 8 → with_segment others f (8 * (a / 8) + k) ≡ f (8 * (a / 8) + k) = same-near others f a in
+    let s : (k : ℕ) → is_in_stack_segment a ≡ false → k < 8 → with_segment others f (8 * (a / 8) + k) ≡ f (8 * (a / 8) + k) = same-near others f a in
     eight (s 0 e (omega arith)) (s 1 e (omega arith)) (s 2 e (omega arith)) (s 3 e (omega arith)) (s 4 e (omega arith)) (s 5 e (omega arith)) (s 6 e (omega arith)) (s 7 e (omega arith))
   where
     eight : {b c d e f g h i j k l m n o p q : ℕ} → b ≡ j → c ≡ k → d ≡ l → e ≡ m → f ≡ n → g ≡ o → h ≡ p → i ≡ q → octa_from_bytes (b ∷ c ∷ d ∷ e ∷ f ∷ g ∷ h ∷ i ∷ []) ≡ octa_from_bytes (j ∷ k ∷ l ∷ m ∷ n ∷ o ∷ p ∷ q ∷ [])
@@ -127,11 +128,11 @@ second-octa b false e = (let l : b + 8 < 2 ^ 63 = grind (arith, nat_tests) in om
 abbrev arguments-if : Bool → ℕ → ℕ → Result (ℕ × ℕ) TrapStop
 arguments-if n p q = cond n (Err Negative) (Ok (p, q))
 
-pub same-arguments : (others f : ℕ → ℕ) (b : ℕ) → is_in_segment b ≡ false → is_in_segment ((b + 8) % 2 ^ 64) ≡ false → arguments (with_segment others f) b ≡ arguments f b
+pub same-arguments : (others f : ℕ → ℕ) (b : ℕ) → is_in_stack_segment b ≡ false → is_in_stack_segment ((b + 8) % 2 ^ 64) ≡ false → arguments (with_segment others f) b ≡ arguments f b
 same-arguments others f b h k = at (is_negative b || is_negative (b + 8)) refl
   where
     at : (n : Bool) → (is_negative b || is_negative (b + 8)) ≡ n → arguments-if n (octa_of (with_segment others f) b) (octa_of (with_segment others f) (b + 8)) ≡ arguments-if n (octa_of f b) (octa_of f (b + 8))
     at true e = refl
     at false e =
-        let on : is_in_segment (b + 8) ≡ false = ap is_in_segment (sym (second-octa b (is_negative b) e)) ∙ k in
+        let on : is_in_stack_segment (b + 8) ≡ false = ap is_in_stack_segment (sym (second-octa b (is_negative b) e)) ∙ k in
         rw (same-octa others f b h, same-octa others f (b + 8) on) refl

@@ -14,7 +14,8 @@ use Rattle.mx_trap.specs.declared.answer.TrapAnswer.{TrapAnswer}
 use Rattle.mx_trap.proofs.Walks.{carried_out, answer_to, beside, trap-same}
 use Rattle.mx_trap.specs.Requests.{request_of, request_by, request_after, opening_with, good_buffer, buffer, arguments, text_length}
 use Rattle.mx_trap.specs.Services.{z_of, service_of}
-use Rattle.mx_trap.specs.Touches.{is_in_segment, meets_segment, text_touches, text_reach, arguments_touch, follows, service_touches, touches_by, is_wild, touches}
+use Rattle.mx_word.specs.Segments.{is_in_stack_segment}
+use Rattle.mx_trap.specs.Touches.{meets_segment, text_touches, text_reach, arguments_touch, follows, service_touches, touches_by, is_wild, touches}
 use Rattle.mx_trap.specs.declared.answer.TrapStop.{TrapStop}
 use Rattle.mx_trap.specs.declared.answer.TrapStop.TheVariants.{Negative, TransferTooLarge}
 use Rattle.mx_trap.specs.declared.service.Service.{Service}
@@ -48,7 +49,7 @@ opening-apart others rest s m slot (Ok (p, q)) h =
 fopen-apart : {A B : Type 0} (others : ℕ → ℕ) (rest : B) (s : Contents A) (m : HostModel) (slot b : ℕ) → service_touches s.bytes b Fopen ≡ false →
     answer_to slot (apart others rest s) m (request_by (with_segment others s.bytes) b Fopen) ≡ leaves_apart others rest (answer_to slot s m (request_by s.bytes b Fopen))
 fopen-apart others rest s m slot b h =
-    let parts : (is_in_segment b ≡ false) × (is_in_segment ((b + 8) % 2 ^ 64) ≡ false) × (follows (λ p q. text_touches s.bytes p) (arguments s.bytes b) ≡ false) = touch-parts _ _ _ h in
+    let parts : (is_in_stack_segment b ≡ false) × (is_in_stack_segment ((b + 8) % 2 ^ 64) ≡ false) × (follows (λ p q. text_touches s.bytes p) (arguments s.bytes b) ≡ false) = touch-parts _ _ _ h in
     ap (λ r. answer_to slot (apart others rest s) m (opening_with (with_segment others s.bytes) r)) (same-arguments others s.bytes b parts.0 parts.1)
     ∙ opening-apart others rest s m slot (arguments s.bytes b) parts.2
 
@@ -68,7 +69,7 @@ buffer-apart : {A B : Type 0} (others : ℕ → ℕ) (rest : B) (s : Contents A)
     ((p q : ℕ) → IsClear p (p + q) → carried_out slot (apart others rest s) m (make (p, q)) ≡ leaves_apart others rest (carried_out slot s m (make (p, q)))) →
     answer_to slot (apart others rest s) m (map_ok make (buffer (with_segment others s.bytes) b)) ≡ leaves_apart others rest (answer_to slot s m (map_ok make (buffer s.bytes b)))
 buffer-apart others rest s m slot b make h f =
-    let parts : (is_in_segment b ≡ false) × (is_in_segment ((b + 8) % 2 ^ 64) ≡ false) × (follows meets_segment (arguments s.bytes b) ≡ false) = touch-parts _ _ _ h in
+    let parts : (is_in_stack_segment b ≡ false) × (is_in_stack_segment ((b + 8) % 2 ^ 64) ≡ false) × (follows meets_segment (arguments s.bytes b) ≡ false) = touch-parts _ _ _ h in
     ap (λ r. answer_to slot (apart others rest s) m (map_ok make (good_buffer r))) (same-arguments others s.bytes b parts.0 parts.1)
     ∙ good-apart others rest s m slot make (arguments s.bytes b) parts.2 f
 
@@ -124,7 +125,7 @@ follows-untouched more more' (Ok (p, q)) f h = f p q h
 
 arguments-untouched : (others f : ℕ → ℕ) (more more' : ℕ → ℕ → Bool) (b : ℕ) → ((p q : ℕ) → more p q ≡ false → more' p q ≡ false) → arguments_touch more f b ≡ false → arguments_touch more' (with_segment others f) b ≡ false
 arguments-untouched others f more more' b g h =
-    let parts : (is_in_segment b ≡ false) × (is_in_segment ((b + 8) % 2 ^ 64) ≡ false) × (follows more (arguments f b) ≡ false) = touch-parts _ _ _ h in
+    let parts : (is_in_stack_segment b ≡ false) × (is_in_stack_segment ((b + 8) % 2 ^ 64) ≡ false) × (follows more (arguments f b) ≡ false) = touch-parts _ _ _ h in
     rw (parts.0, parts.1, same-arguments others f b parts.0 parts.1) (follows-untouched more more' (arguments f b) g parts.2)
 
 service-untouched : (others f : ℕ → ℕ) (b : ℕ) (service : Service) → service_touches f b service ≡ false → service_touches (with_segment others f) b service ≡ false
@@ -145,7 +146,7 @@ by-untouched others f b (Ok service) h = service-untouched others f b service h
 pub untouched-apart : (others f : ℕ → ℕ) (call : TrapCall) → touches f call ≡ false → touches (with_segment others f) call ≡ false
 unfolding touches is_wild
 untouched-apart others f call h =
-    let parts : (is_in_segment call.pc ≡ false) × (touches_by f call.arg (service_of call.word) ≡ false) = both-false _ _ h in
+    let parts : (is_in_stack_segment call.pc ≡ false) × (touches_by f call.arg (service_of call.word) ≡ false) = both-false _ _ h in
     rw (parts.0) (by-untouched others f call.arg (service_of call.word) parts.1)
 
 pub ruleset laws = (trap-apart, untouched-apart)

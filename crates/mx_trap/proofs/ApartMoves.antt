@@ -18,7 +18,7 @@ use Rattle.mx_host.specs.declared.slots.Lead.TheVariants.{Input, Output, Errors,
 use Rattle.mx_trap.specs.Apart.{apart, leaves_apart, with_segment, IsClear}
 use Rattle.mx_trap.specs.Moves.{Leaves, minus_one, octa_minus, whole_pieces}
 use Rattle.mx_trap.proofs.Walks.{stored, byte_stored, stored_next, bytes_stored, piece_stored, piece_got, read_piece, read_last, read_next, read_pieces, fread, line_ended, line_end, byte_put, byte_got, line_byte, line_next, line_bytes, fgets}
-use Rattle.mx_trap.specs.Touches.{is_in_segment}
+use Rattle.mx_word.specs.Segments.{is_in_stack_segment}
 use Rattle.mx_trap.specs.declared.answer.TrapAnswer.{TrapAnswer}
 use Rattle.mx_trap.specs.declared.answer.TrapAnswer.TheVariants.{Value}
 use Rattle.mx_trap.proofs.ApartBytes.{clear-within}
@@ -40,22 +40,22 @@ swapped true false x y z h = refl
 swapped false true x y z h = refl
 swapped false false x y z h = refl
 
-outside-at : (a q : ℕ) → is_in_segment a ≡ false → (q == a) ≡ true → is_in_segment q ≡ false
+outside-at : (a q : ℕ) → is_in_stack_segment a ≡ false → (q == a) ≡ true → is_in_stack_segment q ≡ false
 outside-at a q h e = grind (arith, nat_tests)
 
-byte-apart : (others f : ℕ → ℕ) (a b : ℕ) → is_in_segment a ≡ false → (λ q. cond (q == a) b (with_segment others f q)) ≡ with_segment others (λ q. cond (q == a) b (f q))
-byte-apart others f a b h = λ i q. swapped (q == a) (is_in_segment q) b (others q) (f q) (outside-at a q h) i
+byte-apart : (others f : ℕ → ℕ) (a b : ℕ) → is_in_stack_segment a ≡ false → (λ q. cond (q == a) b (with_segment others f q)) ≡ with_segment others (λ q. cond (q == a) b (f q))
+byte-apart others f a b h = λ i q. swapped (q == a) (is_in_stack_segment q) b (others q) (f q) (outside-at a q h) i
 
 abbrev with-bytes : {A : Type 0} → Contents A → (ℕ → ℕ) → Contents A
 with-bytes s f = record s { bytes = f }
 
-with-apart : {A B : Type 0} (others : ℕ → ℕ) (rest : B) (s : Contents A) (a b : ℕ) → is_in_segment a ≡ false → with_byte (apart others rest s) a b ≡ apart others rest (with_byte s a b)
+with-apart : {A B : Type 0} (others : ℕ → ℕ) (rest : B) (s : Contents A) (a b : ℕ) → is_in_stack_segment a ≡ false → with_byte (apart others rest s) a b ≡ apart others rest (with_byte s a b)
 with-apart others rest s a b h = ap (with-bytes (apart others rest s)) (byte-apart others s.bytes a b h)
 
-page-apart : {A B : Type 0} (others : ℕ → ℕ) (rest : B) (s : Contents A) (a b : ℕ) → is_in_segment a ≡ false → with_byte_page (apart others rest s) a b ≡ apart others rest (with_byte_page s a b)
+page-apart : {A B : Type 0} (others : ℕ → ℕ) (rest : B) (s : Contents A) (a b : ℕ) → is_in_stack_segment a ≡ false → with_byte_page (apart others rest s) a b ≡ apart others rest (with_byte_page s a b)
 page-apart others rest s a b h = ap (with-bytes (with_byte_page (apart others rest s) a b)) (byte-apart others s.bytes a b h)
 
-put-apart : {A B : Type 0} (others : ℕ → ℕ) (rest : B) (s : Contents A) (a b : ℕ) → is_in_segment a ≡ false → put_answer (apart others rest s) a b ≡ pair-apart others rest (put_answer s a b)
+put-apart : {A B : Type 0} (others : ℕ → ℕ) (rest : B) (s : Contents A) (a b : ℕ) → is_in_stack_segment a ≡ false → put_answer (apart others rest s) a b ≡ pair-apart others rest (put_answer s a b)
 put-apart {A} {B} others rest s a b h =
     let old : Result (Unit {0}) SpaceFault × Contents B = (Err space.Negative, apart others rest s) in
     let full : Result (Unit {0}) SpaceFault × Contents B = (Err space.PagesFull, apart others rest s) in
@@ -67,7 +67,7 @@ stored-after : {A B : Type 0} (others : ℕ → ℕ) (rest : B) (t : Result (Uni
 stored-after others rest (Ok u, s) = refl
 stored-after others rest (Err e, s) = refl
 
-byte-stored : {A B : Type 0} (others : ℕ → ℕ) (rest : B) (s : Contents A) (a b : ℕ) → is_in_segment a ≡ false → byte_stored a b (apart others rest s) ≡ pair-apart others rest (byte_stored a b s)
+byte-stored : {A B : Type 0} (others : ℕ → ℕ) (rest : B) (s : Contents A) (a b : ℕ) → is_in_stack_segment a ≡ false → byte_stored a b (apart others rest s) ≡ pair-apart others rest (byte_stored a b s)
 byte-stored others rest s a b h = ap stored (put-apart others rest s a b h) ∙ stored-after others rest (put_answer s a b)
 
 next-stored : {A B : Type 0} (others : ℕ → ℕ) (rest : B) (more : Contents A → Result (Unit {0}) TrapAnswer × Contents A) (more' : Contents B → Result (Unit {0}) TrapAnswer × Contents B) (t : Result (Unit {0}) TrapAnswer × Contents A) →
@@ -156,20 +156,20 @@ ended-apart : {A B : Type 0} (others : ℕ → ℕ) (rest : B) (count : ℕ) (m 
 ended-apart others rest count m (Ok u, s) = refl
 ended-apart others rest count m (Err e, s) = refl
 
-end-apart : {A B : Type 0} (others : ℕ → ℕ) (rest : B) (p count : ℕ) (s : Contents A) (m : HostModel) → is_in_segment (p + count) ≡ false → line_end p count (apart others rest s) m ≡ leaves_apart others rest (line_end p count s m)
+end-apart : {A B : Type 0} (others : ℕ → ℕ) (rest : B) (p count : ℕ) (s : Contents A) (m : HostModel) → is_in_stack_segment (p + count) ≡ false → line_end p count (apart others rest s) m ≡ leaves_apart others rest (line_end p count s m)
 end-apart others rest p count s m h = ap (line_ended count m) (byte-stored others rest s (p + count) 0 h) ∙ ended-apart others rest count m (byte_stored (p + count) 0 s)
 
 put-after : {A B : Type 0} (others : ℕ → ℕ) (rest : B) (b : ℕ) (m : HostModel) (t : Result (Unit {0}) TrapAnswer × Contents A) → byte_put b m (pair-apart others rest t) ≡ leaves_apart others rest (byte_put b m t)
 put-after others rest b m (Ok u, s) = refl
 put-after others rest b m (Err e, s) = refl
 
-byte-got : {A B : Type 0} (others : ℕ → ℕ) (rest : B) (a : ℕ) (s : Contents A) (t : Then (Result (List ℕ) HostFault)) → is_in_segment a ≡ false → byte_got a (apart others rest s) t ≡ leaves_apart others rest (byte_got a s t)
+byte-got : {A B : Type 0} (others : ℕ → ℕ) (rest : B) (a : ℕ) (s : Contents A) (t : Then (Result (List ℕ) HostFault)) → is_in_stack_segment a ≡ false → byte_got a (apart others rest s) t ≡ leaves_apart others rest (byte_got a s t)
 byte-got others rest a s (Ok [], m) h = refl
 byte-got others rest a s (Ok (b ∷ bs), m) h = ap (byte_put b m) (byte-stored others rest s a b h) ∙ put-after others rest b m (byte_stored a b s)
 byte-got others rest a s (Err e, m) h = refl
 
 next-line : {A B : Type 0} (others : ℕ → ℕ) (rest : B) (p count : ℕ) (more : Contents A → HostModel → Leaves TrapAnswer A) (more' : Contents B → HostModel → Leaves TrapAnswer B) (t : Leaves (Result Bool TrapAnswer) A) →
-    GoesApart others rest more more' → is_in_segment (p + (count + 1)) ≡ false → line_next more' p count (leaves_apart others rest t) ≡ leaves_apart others rest (line_next more p count t)
+    GoesApart others rest more more' → is_in_stack_segment (p + (count + 1)) ≡ false → line_next more' p count (leaves_apart others rest t) ≡ leaves_apart others rest (line_next more p count t)
 next-line others rest p count more more' (Ok newline, s, m) h k = either-apart others rest newline (line_end p (count + 1) s m) (more s m) _ _ (end-apart others rest p (count + 1) s m k) (h s m)
 next-line others rest p count more more' (Err e, s, m) h k = refl
 

@@ -6,7 +6,8 @@ use Rattle.mx_word.proofs.Comparisons.{both-true, is-less, is-least, not-less}
 use Rattle.mx_word.specs.Results.{map_ok}
 use Rattle.mx_mem.specs.Space.{is_negative}
 use Rattle.mx_trap.specs.Requests.{text_length, next_byte, last_byte}
-use Rattle.mx_trap.specs.Touches.{text_touches, text_reach, meets_segment, is_in_segment, segment_start}
+use Rattle.mx_word.specs.Segments.{is_in_stack_segment, stack_segment}
+use Rattle.mx_trap.specs.Touches.{text_touches, text_reach, meets_segment}
 use Rattle.mx_trap.specs.declared.answer.TrapStop.{TrapStop}
 use Rattle.mx_trap.specs.declared.answer.TrapStop.TheVariants.{Negative, WideTrap, TransferTooLarge, TrapPagesFull, UnknownTrap}
 
@@ -70,50 +71,50 @@ less-is m n h = grind (arith, nat_tests)
 both : (b c : Bool) → b ≡ true → c ≡ true → (b && c) ≡ true
 both b c e f = rw (e, f) refl
 
-met-below : (a n : ℕ) → a < 2 ^ 63 → 0 < n → 0x6000_0000_0000_0000 < a + n → (k : ℕ) × (k < n) × (is_in_segment ((a + k) % 2 ^ 64) ≡ true)
+met-below : (a n : ℕ) → a < 2 ^ 63 → 0 < n → 0x6000_0000_0000_0000 < a + n → (k : ℕ) × (k < n) × (is_in_stack_segment ((a + k) % 2 ^ 64) ≡ true)
 met-below a n l p h = on (nat_lt a 0x6000_0000_0000_0000) refl
   where
-    on : (b : Bool) → nat_lt a 0x6000_0000_0000_0000 ≡ b → (k : ℕ) × (k < n) × (is_in_segment ((a + k) % 2 ^ 64) ≡ true)
+    on : (b : Bool) → nat_lt a 0x6000_0000_0000_0000 ≡ b → (k : ℕ) × (k < n) × (is_in_stack_segment ((a + k) % 2 ^ 64) ≡ true)
     on true e =
         let under : a < 0x6000_0000_0000_0000 = grind (arith, nat_tests) in
         let at : (a + (0x6000_0000_0000_0000 - a)) % 2 ^ 64 ≡ 0x6000_0000_0000_0000 = omega (arith, under) in
-        (0x6000_0000_0000_0000 - a, omega (arith, under, h), ap is_in_segment at)
+        (0x6000_0000_0000_0000 - a, omega (arith, under, h), ap is_in_stack_segment at)
     on false e =
         let over : 0x6000_0000_0000_0000 ≤ a = grind (arith, nat_tests) in
         let at : (a + 0) % 2 ^ 64 ≡ a = omega (arith, l) in
-        let inside : is_in_segment a ≡ true = grind (arith, nat_tests) in
-        (0, p, ap is_in_segment at ∙ inside)
+        let inside : is_in_stack_segment a ≡ true = grind (arith, nat_tests) in
+        (0, p, ap is_in_stack_segment at ∙ inside)
 
-met-around : (a n : ℕ) → 2 ^ 63 ≤ a → a < 2 ^ 64 → 2 ^ 64 + 0x6000_0000_0000_0000 < a + n → (k : ℕ) × (k < n) × (is_in_segment ((a + k) % 2 ^ 64) ≡ true)
+met-around : (a n : ℕ) → 2 ^ 63 ≤ a → a < 2 ^ 64 → 2 ^ 64 + 0x6000_0000_0000_0000 < a + n → (k : ℕ) × (k < n) × (is_in_stack_segment ((a + k) % 2 ^ 64) ≡ true)
 met-around a n l f h =
     let at : (a + (2 ^ 64 + 0x6000_0000_0000_0000 - a)) % 2 ^ 64 ≡ 0x6000_0000_0000_0000 = omega (arith, l, f) in
-    (2 ^ 64 + 0x6000_0000_0000_0000 - a, omega (arith, f, h), ap is_in_segment at)
+    (2 ^ 64 + 0x6000_0000_0000_0000 - a, omega (arith, f, h), ap is_in_stack_segment at)
 
-pub segment-met : (a n : ℕ) → a < 2 ^ 64 → meets_segment a n ≡ true → (k : ℕ) × (k < n) × (is_in_segment ((a + k) % 2 ^ 64) ≡ true)
+pub segment-met : (a n : ℕ) → a < 2 ^ 64 → meets_segment a n ≡ true → (k : ℕ) × (k < n) × (is_in_stack_segment ((a + k) % 2 ^ 64) ≡ true)
 segment-met a n f h = on (nat_lt a (2 ^ 63)) refl h
   where
-    on : (b : Bool) → nat_lt a (2 ^ 63) ≡ b → cond b (nat_lt 0 n && nat_lt segment_start (a + n)) (nat_lt (2 ^ 64 + segment_start) (a + n)) ≡ true → (k : ℕ) × (k < n) × (is_in_segment ((a + k) % 2 ^ 64) ≡ true)
+    on : (b : Bool) → nat_lt a (2 ^ 63) ≡ b → cond b (nat_lt 0 n && nat_lt stack_segment (a + n)) (nat_lt (2 ^ 64 + stack_segment) (a + n)) ≡ true → (k : ℕ) × (k < n) × (is_in_stack_segment ((a + k) % 2 ^ 64) ≡ true)
     on true e g =
-        let parts = both-true (nat_lt 0 n) (nat_lt segment_start (a + n)) g in
-        met-below a n (is-less a (2 ^ 63) e) (is-less 0 n parts.0) (is-less segment_start (a + n) parts.1)
-    on false e g = met-around a n (not-less a (2 ^ 63) e) f (is-less (2 ^ 64 + segment_start) (a + n) g)
+        let parts = both-true (nat_lt 0 n) (nat_lt stack_segment (a + n)) g in
+        met-below a n (is-less a (2 ^ 63) e) (is-less 0 n parts.0) (is-less stack_segment (a + n) parts.1)
+    on false e g = met-around a n (not-less a (2 ^ 63) e) f (is-less (2 ^ 64 + stack_segment) (a + n) g)
 
-pub segment-only : (a n k : ℕ) → a < 2 ^ 64 → k < n → n < 2 ^ 64 → is_in_segment ((a + k) % 2 ^ 64) ≡ true → meets_segment a n ≡ true
+pub segment-only : (a n k : ℕ) → a < 2 ^ 64 → k < n → n < 2 ^ 64 → is_in_stack_segment ((a + k) % 2 ^ 64) ≡ true → meets_segment a n ≡ true
 segment-only a n k f l s h =
-    let parts = both-true (nat_le segment_start ((a + k) % 2 ^ 64)) (nat_lt ((a + k) % 2 ^ 64) (2 ^ 63)) h in
-    let over = is-least segment_start ((a + k) % 2 ^ 64) parts.0 in
+    let parts = both-true (nat_le stack_segment ((a + k) % 2 ^ 64)) (nat_lt ((a + k) % 2 ^ 64) (2 ^ 63)) h in
+    let over = is-least stack_segment ((a + k) % 2 ^ 64) parts.0 in
     let under = is-less ((a + k) % 2 ^ 64) (2 ^ 63) parts.1 in
     on (nat_lt a (2 ^ 63)) refl over under
   where
-    on : (b : Bool) → nat_lt a (2 ^ 63) ≡ b → segment_start ≤ (a + k) % 2 ^ 64 → (a + k) % 2 ^ 64 < 2 ^ 63 →
-        cond b (nat_lt 0 n && nat_lt segment_start (a + n)) (nat_lt (2 ^ 64 + segment_start) (a + n)) ≡ true
+    on : (b : Bool) → nat_lt a (2 ^ 63) ≡ b → stack_segment ≤ (a + k) % 2 ^ 64 → (a + k) % 2 ^ 64 < 2 ^ 63 →
+        cond b (nat_lt 0 n && nat_lt stack_segment (a + n)) (nat_lt (2 ^ 64 + stack_segment) (a + n)) ≡ true
     on true e over under =
         let p : 0 < n = omega (arith, l) in
         let below : a < 2 ^ 63 = is-less a (2 ^ 63) e in
-        let q : segment_start < a + n = omega (arith, l, over, below) in
-        both (nat_lt 0 n) (nat_lt segment_start (a + n)) (less-is 0 n p) (less-is segment_start (a + n) q)
+        let q : stack_segment < a + n = omega (arith, l, over, below) in
+        both (nat_lt 0 n) (nat_lt stack_segment (a + n)) (less-is 0 n p) (less-is stack_segment (a + n) q)
     on false e over under =
         let above : 2 ^ 63 ≤ a = not-less a (2 ^ 63) e in
-        less-is (2 ^ 64 + segment_start) (a + n) (omega (arith, l, f, above, over, under))
+        less-is (2 ^ 64 + stack_segment) (a + n) (omega (arith, l, f, above, over, under))
 
 pub ruleset meeting = (segment-met, segment-only)

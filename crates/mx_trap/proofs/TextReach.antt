@@ -4,17 +4,18 @@ use Rattle.std.specs.Prelude.{Result, nat_le, nat_lt}
 use Rattle.mx_word.proofs.Comparisons.{both-true, is-less, not-less}
 use Rattle.mx_trap.specs.Laws.{IsText, LooksAt}
 use Rattle.mx_trap.specs.Requests.{text_length, most_bytes}
-use Rattle.mx_trap.specs.Touches.{text_touches, text_reach, meets_segment, is_in_segment, segment_start}
+use Rattle.mx_word.specs.Segments.{is_in_stack_segment, stack_segment}
+use Rattle.mx_trap.specs.Touches.{text_touches, text_reach, meets_segment}
 use Rattle.mx_trap.specs.declared.answer.TrapStop.{TrapStop}
 use Rattle.mx_trap.specs.declared.answer.TrapStop.TheVariants.{Negative, WideTrap, TransferTooLarge, TrapPagesFull, UnknownTrap}
 use Rattle.mx_trap.proofs.Segments.{Short, text-short, segment-met, segment-only}
 use Rattle.mx_trap.proofs.TextEnds.{text-found, text-negative, text-large}
 
 abbrev Found : (ℕ → ℕ) → ℕ → Type 0
-Found bytes a = (i : ℕ) × LooksAt most_bytes bytes a i × (is_in_segment (a + i) ≡ true)
+Found bytes a = (i : ℕ) × LooksAt most_bytes bytes a i × (is_in_stack_segment (a + i) ≡ true)
 
-here : (a k : ℕ) → a + k < 2 ^ 63 → is_in_segment ((a + k) % 2 ^ 64) ≡ true → is_in_segment (a + k) ≡ true
-here a k l s = let same : a + k ≡ (a + k) % 2 ^ 64 = omega (arith, l) in ap is_in_segment same ∙ s
+here : (a k : ℕ) → a + k < 2 ^ 63 → is_in_stack_segment ((a + k) % 2 ^ 64) ≡ true → is_in_stack_segment (a + k) ≡ true
+here a k l s = let same : a + k ≡ (a + k) % 2 ^ 64 = omega (arith, l) in ap is_in_stack_segment same ∙ s
 
 none : (bytes : ℕ → ℕ) (a : ℕ) → a < 2 ^ 64 → meets_segment a 0 ≡ true → Found bytes a
 none bytes a f h = let t = segment-met a 0 f h in absurd (omega (arith, t.1))
@@ -50,14 +51,14 @@ reach-found bytes a (Err UnknownTrap) e f h = none bytes a f h
 pub touch-found : (bytes : ℕ → ℕ) (a : ℕ) → a < 2 ^ 64 → text_touches bytes a ≡ true → Found bytes a
 touch-found bytes a f h = reach-found bytes a (text_length most_bytes bytes a) refl f h
 
-below : (a i : ℕ) → is_in_segment (a + i) ≡ true → a + i < 2 ^ 63
-below a i s = let parts = both-true (nat_le segment_start (a + i)) (nat_lt (a + i) (2 ^ 63)) s in is-less (a + i) (2 ^ 63) parts.1
+below : (a i : ℕ) → is_in_stack_segment (a + i) ≡ true → a + i < 2 ^ 63
+below a i s = let parts = both-true (nat_le stack_segment (a + i)) (nat_lt (a + i) (2 ^ 63)) s in is-less (a + i) (2 ^ 63) parts.1
 
-there : (a n i : ℕ) → a < 2 ^ 64 → i < n → n < 2 ^ 64 → is_in_segment (a + i) ≡ true → meets_segment a n ≡ true
+there : (a n i : ℕ) → a < 2 ^ 64 → i < n → n < 2 ^ 64 → is_in_stack_segment (a + i) ≡ true → meets_segment a n ≡ true
 there a n i f l m s =
     let low : a + i < 2 ^ 63 = below a i s in
     let same : (a + i) % 2 ^ 64 ≡ a + i = omega (arith, low) in
-    segment-only a n i f l m (ap is_in_segment same ∙ s)
+    segment-only a n i f l m (ap is_in_stack_segment same ∙ s)
 
 no-later : (bytes : ℕ → ℕ) (a n i : ℕ) → IsText most_bytes bytes a n → LooksAt most_bytes bytes a i → i ≤ n
 no-later bytes a n i text look = on (nat_lt n i) refl
@@ -66,7 +67,7 @@ no-later bytes a n i text look = on (nat_lt n i) refl
     on true e = absurd (look.nonzero n (is-less n i e) text.end)
     on false e = not-less n i e
 
-reach-only : (bytes : ℕ → ℕ) (a i : ℕ) (r : Result ℕ TrapStop) → text_length most_bytes bytes a ≡ r → Short (2 ^ 24) a r → a < 2 ^ 64 → LooksAt most_bytes bytes a i → is_in_segment (a + i) ≡ true →
+reach-only : (bytes : ℕ → ℕ) (a i : ℕ) (r : Result ℕ TrapStop) → text_length most_bytes bytes a ≡ r → Short (2 ^ 24) a r → a < 2 ^ 64 → LooksAt most_bytes bytes a i → is_in_stack_segment (a + i) ≡ true →
     meets_segment a (text_reach a r) ≡ true
 reach-only bytes a i (Ok n) e short f look s =
     let text = text-found bytes a n e in
@@ -80,7 +81,7 @@ reach-only bytes a i (Err WideTrap) e short f look s = absurd short
 reach-only bytes a i (Err TrapPagesFull) e short f look s = absurd short
 reach-only bytes a i (Err UnknownTrap) e short f look s = absurd short
 
-pub touch-only : (bytes : ℕ → ℕ) (a i : ℕ) → a < 2 ^ 64 → LooksAt most_bytes bytes a i → is_in_segment (a + i) ≡ true → text_touches bytes a ≡ true
+pub touch-only : (bytes : ℕ → ℕ) (a i : ℕ) → a < 2 ^ 64 → LooksAt most_bytes bytes a i → is_in_stack_segment (a + i) ≡ true → text_touches bytes a ≡ true
 touch-only bytes a i f look s = reach-only bytes a i (text_length most_bytes bytes a) refl (text-short (2 ^ 24) bytes a) f look s
 
 pub ruleset looking = (touch-found, touch-only)

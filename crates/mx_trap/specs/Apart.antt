@@ -3,11 +3,11 @@ use Rattle.std.specs.Prelude.{ℕ, ◌≡◌, ◌≤◌, ◌<◌, false, if◌th
 use Rattle.mx_mem.specs.Space.{Contents}
 use Rattle.mx_plan.specs.Counts.{unscheduled}
 use Rattle.mx_trap.specs.Moves.{Leaves}
-use Rattle.mx_trap.specs.Touches.{is_in_segment}
+use Rattle.mx_word.specs.Segments.{is_in_stack_segment}
 
 -- the bytes, with others in Stack_Segment
 abbrev pub with_segment : (ℕ → ℕ) → (ℕ → ℕ) → ℕ → ℕ
-with_segment others bytes a = if is_in_segment a then others a else bytes a
+with_segment others bytes a = if is_in_stack_segment a then others a else bytes a
 
 -- the contents, with other bytes in Stack_Segment and other things beside them
 abbrev pub apart : {A B : Type 0} → (ℕ → ℕ) → B → Contents A → Contents B
@@ -25,7 +25,7 @@ leaves_apart others rest t = (t.0, apart others rest t.1, t.2)
 
 -- none of the addresses from a up to below e lies in Stack_Segment
 abbrev pub IsClear : ℕ → ℕ → Type 0
-IsClear a e = (q : ℕ) → a ≤ q → q < e → is_in_segment q ≡ false
+IsClear a e = (q : ℕ) → a ≤ q → q < e → is_in_stack_segment q ≡ false
 
 -- what a call answers and leaves, but for the number of calls and the list of those that fail
 abbrev pub leaves_unscheduled : {A Rest : Type 0} → Leaves A Rest → Leaves A Rest

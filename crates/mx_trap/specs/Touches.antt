@@ -1,5 +1,6 @@
 -- Which calls touch Stack_Segment, the addresses from #6000000000000000 up to below 2^63.
 use Rattle.std.specs.Prelude.{ℕ, ◌+◌, ◌-◌, ◌^◌, ◌%◌, Bool, true, false, ◌&&◌, ◌||◌, nat_le, nat_lt, Result, Ok, Err, if◌then◌else◌}
+use Rattle.mx_word.specs.Segments.{stack_segment, is_in_stack_segment}
 use Rattle.mx_trip.specs.declared.call.TrapCall.{TrapCall}
 use Rattle.mx_trap.specs.Services.{service_of}
 use Rattle.mx_trap.specs.Requests.{arguments, text_length, most_bytes}
@@ -8,17 +9,10 @@ use Rattle.mx_trap.specs.declared.answer.TrapStop.TheVariants.{Negative, WideTra
 use Rattle.mx_trap.specs.declared.service.Service.{Service}
 use Rattle.mx_trap.specs.declared.service.Service.TheVariants.{Halt, Fopen, Fclose, Fread, Fgets, Fwrite, Fputs, Fseek, Ftell}
 
-abbrev pub segment_start : ℕ
-segment_start = 0x6000_0000_0000_0000
-
--- whether an address lies there
-abbrev pub is_in_segment : ℕ → Bool
-is_in_segment a = nat_le segment_start a && nat_lt a (2 ^ 63)
-
 -- whether one of the n addresses a, a + 1 and so on lies there; they are sums modulo 2^64
 abbrev pub meets_segment : ℕ → ℕ → Bool
 meets_segment a n =
-    if nat_lt a (2 ^ 63) then nat_lt 0 n && nat_lt segment_start (a + n) else nat_lt (2 ^ 64 + segment_start) (a + n)
+    if nat_lt a (2 ^ 63) then nat_lt 0 n && nat_lt stack_segment (a + n) else nat_lt (2 ^ 64 + stack_segment) (a + n)
 
 -- how many bytes of the text at a are looked at below 2^63, by its length or by the stop that it meets
 abbrev pub stop_reach : ℕ → TrapStop → ℕ
@@ -43,7 +37,7 @@ follows more (Ok (p, q)) = more p q
 
 abbrev pub arguments_touch : (ℕ → ℕ → Bool) → (ℕ → ℕ) → ℕ → Bool
 arguments_touch more bytes b =
-    if is_in_segment b || is_in_segment ((b + 8) % 2 ^ 64) then true else follows more (arguments bytes b)
+    if is_in_stack_segment b || is_in_stack_segment ((b + 8) % 2 ^ 64) then true else follows more (arguments bytes b)
 
 -- whether a service looks at a byte there, where $255 is b
 abbrev pub service_touches : (ℕ → ℕ) → ℕ → Service → Bool
@@ -67,4 +61,4 @@ is_wild bytes call = touches_by bytes call.arg (service_of call.word)
 
 -- whether the TRAP itself lies there or its call is wild
 unfoldable pub touches : (ℕ → ℕ) → TrapCall → Bool
-touches bytes call = is_in_segment call.pc || is_wild bytes call
+touches bytes call = is_in_stack_segment call.pc || is_wild bytes call

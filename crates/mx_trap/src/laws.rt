@@ -12,7 +12,8 @@ ghost use Rattle.mx_plan.specs.Calls.{both, host, space};
 ghost use Rattle.mx_plan.specs.Plan.{end_of};
 ghost use Rattle.mx_trap.specs.Moves.{leaving, minus_one, bytes_stored, fgets, fread, octa_minus, written, write_piece};
 ghost use Rattle.mx_trap.specs.Requests.{good_buffer, text_length, most_bytes};
-ghost use Rattle.mx_trap.specs.Touches.{is_in_segment, meets_segment, text_touches};
+ghost use Rattle.mx_word.specs.Segments.{is_in_stack_segment};
+ghost use Rattle.mx_trap.specs.Touches.{meets_segment, text_touches};
 ghost use Rattle.mx_trap.specs.declared.answer.TrapStop.{TrapStop};
 ghost use Rattle.mx_trap.specs.declared.answer.TrapAnswer.{TrapAnswer};
 ghost use Rattle.mx_trip.specs.declared.call.TrapCall.{TrapCall};
@@ -94,8 +95,8 @@ pub fn texts_end_at_the_first_zero()
 #[tactic(auto, using(crate::proofs::Segments::meeting))]
 pub fn intervals_meet_the_segment()
     ensures found { (a n : ℕ) → a < 2 ^ 64 → meets_segment a n ≡ true →
-        (k : ℕ) × (k < n) × (is_in_segment ((a + k) % 2 ^ 64) ≡ true) }
-    ensures only { (a n k : ℕ) → a < 2 ^ 64 → k < n → n < 2 ^ 64 → is_in_segment ((a + k) % 2 ^ 64) ≡ true →
+        (k : ℕ) × (k < n) × (is_in_stack_segment ((a + k) % 2 ^ 64) ≡ true) }
+    ensures only { (a n k : ℕ) → a < 2 ^ 64 → k < n → n < 2 ^ 64 → is_in_stack_segment ((a + k) % 2 ^ 64) ≡ true →
         meets_segment a n ≡ true }
 {}
 
@@ -103,9 +104,9 @@ pub fn intervals_meet_the_segment()
 #[tactic(auto, using(crate::proofs::TextReach::looking))]
 pub fn texts_touch_where_they_are_read()
     ensures found { (bytes : ℕ → ℕ) (a : ℕ) → a < 2 ^ 64 → text_touches bytes a ≡ true →
-        (i : ℕ) × LooksAt most_bytes bytes a i × (is_in_segment (a + i) ≡ true) }
+        (i : ℕ) × LooksAt most_bytes bytes a i × (is_in_stack_segment (a + i) ≡ true) }
     ensures only { (bytes : ℕ → ℕ) (a i : ℕ) → a < 2 ^ 64 → LooksAt most_bytes bytes a i →
-        is_in_segment (a + i) ≡ true → text_touches bytes a ≡ true }
+        is_in_stack_segment (a + i) ≡ true → text_touches bytes a ≡ true }
 {}
 
 /// A buffer is good exactly where it has at most 2^24 bytes and each of them lies below 2^63. One of more bytes is

@@ -8,9 +8,7 @@ use crate::requests::{arguments, text_length};
 use crate::service::{Service, service_of};
 use mx_mem::Space;
 use mx_trip::TrapCall;
-
-/// Where Stack_Segment starts; it goes up to below 2^63.
-const SEGMENT_START: u64 = 0x6000_0000_0000_0000;
+use mx_word::{STACK_SEGMENT, is_in_stack_segment};
 
 /// Whether the TRAP lies in Stack_Segment, or an argument octa, a byte of the text that the call
 /// reads, or one of the bytes of its buffer, whatever its size, lies there. A call that names no
@@ -19,7 +17,7 @@ const SEGMENT_START: u64 = 0x6000_0000_0000_0000;
 pub fn touches<M: Space>(memory: &M, call: &TrapCall) -> bool
     ensures { result ≡ spec.touches (M.contents memory.now).bytes call.now }
 {
-    if is_in_segment(call.pc) {
+    if is_in_stack_segment(call.pc) {
         return true;
     }
     match service_of(call.word) {
@@ -44,7 +42,7 @@ fn service_touches<M: Space>(memory: &M, service: Service, b: u64) -> bool
 fn buffer_touches<M: Space>(memory: &M, b: u64) -> bool
     ensures { result ≡ spec.arguments_touch spec.meets_segment (M.contents memory.now).bytes b }
 {
-    if is_in_segment(b) || is_in_segment(b.wrapping_add(8)) {
+    if is_in_stack_segment(b) || is_in_stack_segment(b.wrapping_add(8)) {
         return true;
     }
     match arguments(memory, b) {
@@ -58,7 +56,7 @@ fn name_touches<M: Space>(memory: &M, b: u64) -> bool
     ensures { result ≡ spec.arguments_touch (λ p _. spec.text_touches (M.contents memory.now).bytes p)
         (M.contents memory.now).bytes b }
 {
-    if is_in_segment(b) || is_in_segment(b.wrapping_add(8)) {
+    if is_in_stack_segment(b) || is_in_stack_segment(b.wrapping_add(8)) {
         return true;
     }
     match arguments(memory, b) {
@@ -73,7 +71,7 @@ fn name_touches<M: Space>(memory: &M, b: u64) -> bool
 fn text_touches<M: Space>(memory: &M, a: u64) -> bool
     ensures { result ≡ spec.text_touches (M.contents memory.now).bytes a }
 {
-    if a < SEGMENT_START - (1 << 24) {
+    if a < STACK_SEGMENT - (1 << 24) {
         return false;
     }
     match text_length(memory, a) {
@@ -93,21 +91,14 @@ fn stop_reach(a: u64, stop: TrapStop) -> u64
     }
 }
 
-/// Whether an address lies there.
-fn is_in_segment(a: u64) -> bool
-    ensures { result ≡ spec.is_in_segment a }
-{
-    a >= SEGMENT_START && a < 1 << 63
-}
-
 /// Whether one of n addresses from a on lies there.
 fn meets_segment(a: u64, n: u64) -> bool
     ensures { result ≡ spec.meets_segment a n }
 {
     let end = u128::from(a) + u128::from(n);
     if a < 1 << 63 {
-        n > 0 && end > u128::from(SEGMENT_START)
+        n > 0 && end > u128::from(STACK_SEGMENT)
     } else {
-        end > (1 << 64) + u128::from(SEGMENT_START)
+        end > (1 << 64) + u128::from(STACK_SEGMENT)
     }
 }

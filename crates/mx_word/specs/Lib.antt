@@ -3,6 +3,7 @@ pub mod Lists
 pub mod Octas
 pub mod Ranges
 pub mod Results
+pub mod Segments
 pub mod Symbols
 pub mod Waits
 pub mod Words

@@ -15,6 +15,10 @@ product_halves x y = (x * y / 2 ^ 64, x * y % 2 ^ 64)
 abbrev pub quotient_of : ℕ → ℕ → ℕ → Option (ℕ × ℕ)
 quotient_of d y z = if nat_le z d then None else Some ((2 ^ 64 * d + y) / z, (2 ^ 64 * d + y) % z)
 
+-- a difference modulo 2^64
+abbrev pub difference : ℕ → ℕ → ℕ
+difference x y = (x + (2 ^ 64 - y)) % 2 ^ 64
+
 -- the bytes of an octa and of a tetra
 abbrev pub octa_to_bytes : ℕ → List ℕ
 octa_to_bytes x = to_be_bytes w64 x

@@ -7,6 +7,7 @@
 mod bytes;
 mod kinds;
 mod no_memory;
+mod segments;
 mod sequence;
 mod symbols;
 mod waits;
@@ -15,6 +16,7 @@ mod words;
 pub use bytes::Bytes;
 pub use kinds::{is_digit, is_hexadecimal, is_letter, is_name_byte};
 pub use no_memory::NoMemory;
+pub use segments::{STACK_SEGMENT, is_in_stack_segment};
 pub use sequence::Sequence;
 pub use symbols::{Symbol, Symbols, Value};
 pub use waits::{Awaited, Wait, WaitKind, Waits};

@@ -16,7 +16,8 @@ use Rattle.mx_code.specs.Instructions.{instruction, operation_in, x_of, xyz_of, 
 use Rattle.mx_code.specs.declared.instruction.Instruction.{Instruction}
 use Rattle.mx_core.specs.Deeds.{deed_for, Deed, deed_of, plain_deed, given_instruction, inserted, resumed, applied, with_destination}
 use Rattle.mx_core.specs.Effects.{Effect, Move, stays, effect_of, giving, going_to, putting, z_operand}
-use Rattle.mx_core.specs.State.{State, special_register, global_start, locals, is_negative, is_in_stack_segment}
+use Rattle.mx_word.specs.Segments.{is_in_stack_segment}
+use Rattle.mx_core.specs.State.{State, special_register, global_start, locals, is_negative}
 use Rattle.mx_core.specs.Step.{Stepped, went, calls, stopped, fetched, after, completed, made, step}
 use Rattle.mx_core.specs.Wild.{deed, is_wild}
 use Rattle.mx_code.specs.declared.operation.Operation.{Operation}

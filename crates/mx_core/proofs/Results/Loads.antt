@@ -11,7 +11,8 @@ use Rattle.mx_code.specs.LoadsAndStores.{loaded_part, loaded_value, touch}
 use Rattle.mx_core.specs.Effects.{effect_of, data_address, loading_from}
 use Rattle.mx_code.specs.Instructions.{x_of, next_of}
 use Rattle.mx_code.specs.declared.instruction.Instruction.{Instruction}
-use Rattle.mx_core.specs.State.{State, octa, with_value_in, with_local, is_negative, is_in_stack_segment}
+use Rattle.mx_word.specs.Segments.{is_in_stack_segment}
+use Rattle.mx_core.specs.State.{State, octa, with_value_in, with_local, is_negative}
 use Rattle.mx_core.specs.Stops.{reason_where, first_reason, form_fault, stack_fault}
 use Rattle.mx_code.specs.declared.operation.Loading.{Loading}
 use Rattle.mx_code.specs.declared.operation.Operation.TheVariants as op

@@ -18,7 +18,8 @@ use Rattle.mx_code.specs.LoadsAndStores.{stored_part, stored_value, stored_event
 use Rattle.mx_core.specs.Effects.{Effect, Store, effect_of, data_address, x_register, going_on, stored_in, with_event, with_decision}
 use Rattle.mx_code.specs.Instructions.{x_of, next_of}
 use Rattle.mx_code.specs.declared.instruction.Instruction.{Instruction}
-use Rattle.mx_core.specs.State.{State, begins_page, special_register, is_negative, is_in_stack_segment, is_page_refused, tetra}
+use Rattle.mx_word.specs.Segments.{is_in_stack_segment}
+use Rattle.mx_core.specs.State.{State, begins_page, special_register, is_negative, is_page_refused, tetra}
 use Rattle.mx_core.specs.Way.Stepping.{begins_page_at, needs_page}
 use Rattle.mx_core.specs.Stops.{reason_where, first_reason, form_fault, stack_fault, load_fault, store_fault, trip_fault, page_fault}
 use Rattle.mx_code.specs.declared.operation.Storing.{Storing}

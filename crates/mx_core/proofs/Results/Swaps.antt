@@ -12,7 +12,8 @@ use Rattle.mx_code.specs.LoadsAndStores.{touch}
 use Rattle.mx_core.specs.Effects.{Effect, effect_of, data_address, x_register, loading_from, stored_in}
 use Rattle.mx_code.specs.Instructions.{x_of, next_of}
 use Rattle.mx_code.specs.declared.instruction.Instruction.{Instruction}
-use Rattle.mx_core.specs.State.{State, begins_page, octa, with_octa, with_stored, with_special, with_value_in, with_local, special_register, is_negative, is_in_stack_segment, is_page_refused}
+use Rattle.mx_word.specs.Segments.{is_in_stack_segment}
+use Rattle.mx_core.specs.State.{State, begins_page, octa, with_octa, with_stored, with_special, with_value_in, with_local, special_register, is_negative, is_page_refused}
 use Rattle.mx_core.specs.Way.Stepping.{begins_page_at, needs_page}
 use Rattle.mx_core.proofs.Results.Pages.{absent-made}
 use Rattle.mx_core.specs.Stops.{reason_where, first_reason, form_fault, stack_fault}

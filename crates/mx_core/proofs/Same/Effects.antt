@@ -13,7 +13,8 @@ use Rattle.mx_code.specs.LoadsAndStores.{loaded_part, loaded_value, touch}
 use Rattle.mx_core.specs.Effects.{Effect, effect_of, giving, loading_from, swapped, data_address, z_operand, stored_in, x_register, going_on, specials_back, unsaves}
 use Rattle.mx_code.specs.Instructions.{z_of}
 use Rattle.mx_code.specs.declared.instruction.Instruction.{Instruction}
-use Rattle.mx_core.specs.State.{State, special_register, octa, is_in_stack_segment}
+use Rattle.mx_word.specs.Segments.{is_in_stack_segment}
+use Rattle.mx_core.specs.State.{State, special_register, octa}
 use Rattle.mx_code.specs.declared.operation.Operation.{Operation}
 use Rattle.mx_code.specs.declared.operation.Operation.TheVariants as op
 use Rattle.mx_core.proofs.Same.Seen.{over, same-special, same-octa}

@@ -16,7 +16,8 @@ use Rattle.mx_core.specs.Deeds.{deed_for, Deed, deed_of, plain_deed, given_instr
 use Rattle.mx_core.specs.Effects.{Effect, giving, going_to}
 use Rattle.mx_code.specs.Instructions.{instruction, operation_in, x_of, xyz_of}
 use Rattle.mx_code.specs.declared.instruction.Instruction.{Instruction}
-use Rattle.mx_core.specs.State.{State, special_register, global_start, locals, is_negative, is_in_stack_segment}
+use Rattle.mx_word.specs.Segments.{is_in_stack_segment}
+use Rattle.mx_core.specs.State.{State, special_register, global_start, locals, is_negative}
 use Rattle.mx_core.specs.Step.{Stepped, went, calls, stopped, fetched, after, store_touch, trace_of, completed, carried_out, call_of, made, step}
 use Rattle.mx_core.specs.Wild.{deed, IsQuiet}
 use Rattle.mx_code.specs.declared.operation.Operation.{Operation}

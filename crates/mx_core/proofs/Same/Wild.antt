@@ -10,7 +10,8 @@ use Rattle.mx_core.specs.Deeds.{deed_for, deed_of, given_instruction, inserted, 
 use Rattle.mx_core.specs.Effects.{Effect, Store, effect_of, data_address}
 use Rattle.mx_code.specs.Instructions.{instruction, operation_in, xyz_of}
 use Rattle.mx_code.specs.declared.instruction.Instruction.{Instruction}
-use Rattle.mx_core.specs.State.{State, special_register, octa, is_negative, is_in_stack_segment}
+use Rattle.mx_word.specs.Segments.{is_in_stack_segment}
+use Rattle.mx_core.specs.State.{State, special_register, octa, is_negative}
 use Rattle.mx_core.specs.Step.{fetched}
 use Rattle.mx_core.specs.Stops.{form_fault}
 use Rattle.mx_core.specs.Wild.{deed, is_wild}

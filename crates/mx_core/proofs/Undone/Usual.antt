@@ -19,7 +19,8 @@ use Rattle.mx_core.specs.Way.Calls.{Left, left, unless, set_outcome, settled, st
 use Rattle.mx_core.specs.Deeds.{onward}
 use Rattle.mx_core.specs.Kept.{Kept, state_of}
 use Rattle.mx_core.specs.Way.Noting.{PutsLink, StoresBelow}
-use Rattle.mx_core.specs.State.{State, octa, special_register, with_special, with_value_in, is_in_stack_segment}
+use Rattle.mx_word.specs.Segments.{is_in_stack_segment}
+use Rattle.mx_core.specs.State.{State, octa, special_register, with_special, with_value_in}
 use Rattle.mx_core.specs.Undoing.{StateWas, usual, TakesBack, IsPaged, state_undone}
 use Rattle.mx_code.specs.declared.reason.Reason.TheVariants.{StackFull}
 use Rattle.mx_code.specs.declared.stop.Stop.{Stop}

@@ -19,7 +19,8 @@ use Rattle.mx_core.specs.Effects.{x_register, y_operand, z_operand, specials_sav
 use Rattle.mx_code.specs.Instructions.{x_of, y_of, z_of, yz_of, xyz_of, next_of}
 use Rattle.mx_code.specs.declared.instruction.Instruction.{Instruction}
 use Rattle.mx_core.specs.Kept.{Kept, state_of}
-use Rattle.mx_core.specs.State.{State, begins_page, with_local, global_start, locals, with_value_in, with_stored, is_page_refused, is_in_stack_segment, is_negative, with_special, tetra, special_register}
+use Rattle.mx_word.specs.Segments.{is_in_stack_segment}
+use Rattle.mx_core.specs.State.{State, begins_page, with_local, global_start, locals, with_value_in, with_stored, is_page_refused, is_negative, with_special, tetra, special_register}
 use Rattle.mx_mem.specs.declared.part.Part.{Part}
 use Rattle.mx_mem.specs.declared.part.Part.TheVariants.{Octa}
 use Rattle.mx_code.specs.declared.operation.Operation.{Operation}

@@ -13,8 +13,8 @@ returns-in-Ok-clause-answer c = λ m.
     let s = state_of c.args.self.now in
     let t = state_of c.carry_out_by.new.self in
     let u = state_of c.note_where.new.self in
-    let w = went_as s t u c.args.i.now c.is_in_segment.result c.requires.fetched c.requires.range c.requires.other (c.in-Ok.ensures.answer (λ e. cc)) c.is_in_segment.ensures c.note_where.ensures in
-    let trace = trace_told s t u c.args.i.now c.sight_at-sight.result c.is_in_segment.result c.written.result c.pc.result c.requires.fetched (c.in-Ok.ensures.answer (λ e. cc)) c.is_in_segment.ensures c.note_where.ensures
+    let w = went_as s t u c.args.i.now c.is_in_stack_segment.result c.requires.fetched c.requires.range c.requires.other (c.in-Ok.ensures.answer (λ e. cc)) c.is_in_stack_segment.ensures c.note_where.ensures in
+    let trace = trace_told s t u c.args.i.now c.sight_at-sight.result c.is_in_stack_segment.result c.written.result c.pc.result c.requires.fetched (c.in-Ok.ensures.answer (λ e. cc)) c.is_in_stack_segment.ensures c.note_where.ensures
     c.sight_at-sight.ensures c.written.ensures c.pc.ensures.value in
     ap (λ (t : Trace). (answer.Went t, u)) trace ∙ ap (step_answer s) (sym w)
 

@@ -4,7 +4,8 @@ use Rattle.mx_core.specs.Deeds.{deed_at, outcome}
 use Rattle.mx_code.specs.Instructions.{operation_in}
 use Rattle.mx_code.specs.declared.instruction.Instruction.{Instruction}
 use Rattle.mx_core.specs.Kept.{state_of}
-use Rattle.mx_core.specs.State.{State, is_in_stack_segment}
+use Rattle.mx_word.specs.Segments.{is_in_stack_segment}
+use Rattle.mx_core.specs.State.{State}
 use Rattle.mx_core.specs.Step.{fetched}
 use Rattle.mx_core.specs.Way.Stepping.{advanced}
 use Rattle.mx_code.specs.declared.operation.Operation.TheVariants as op
@@ -20,7 +21,7 @@ returns-in-Ok-clause-answer c = λ m.
     let n : operation_in (fetched s) ≢ op.Trap = λ x. c.requires.other (ap operation_in c.requires.fetched ∙ x) in
     let e = c.in-Ok.ensures.answer (λ e. cc) ∙ ap (λ (j : Instruction). left s (outcome s (deed_at s j))) c.requires.fetched in
     let looks : state_of c.note_where.new.self ≡ with_touch_where t (is_in_stack_segment s.pc) =
-    c.note_where.ensures ∙ ap (with_touch_where t) (c.is_in_segment.ensures ∙ ap (λ (j : Instruction). is_in_stack_segment j.at) c.requires.fetched) in
+    c.note_where.ensures ∙ ap (with_touch_where t) (c.is_in_stack_segment.ensures ∙ ap (λ (j : Instruction). is_in_stack_segment j.at) c.requires.fetched) in
     ap (λ (u : State). (advance.Went, u)) looks ∙ ap (advanced s) (sym (step_went s t c.requires.range n e))
 
 pub returns-in-Err-Stopped-clause-answer : goal.returns-in-Err-Stopped-clause-answer
