@@ -21,7 +21,7 @@ pub use Rattle.mx_expr.specs.Spelling.Operand.{expression, string}
 pub use Rattle.mx_expr.specs.Spelling.Operands.{more, none}
 pub use Rattle.mx_expr.specs.Spelling.Spells.{empty, operands}
 pub use Rattle.mx_expr.specs.Tree.{Tree, ahead, back, binary, here, name, number, unary}
-pub use Rattle.mx_expr.specs.Value.{Valued, after_both, after_operand, binary_value, difference, of_symbol, pure_value, register, unary_value, value_of}
+pub use Rattle.mx_expr.specs.Value.{Valued, after_both, after_operand, binary_value, of_symbol, pure_value, register, unary_value, value_of}
 pub use Rattle.mx_expr.specs.declared.faults.ExprFault.{ExprFault}
 pub use Rattle.mx_expr.specs.declared.faults.ExprFault.TheVariants.{DivZero, FractionTooBig, RegisterNumber, TooWide}
 pub use Rattle.mx_line.specs.Cutting.{CutInOrder, InOrder, LabelBefore, cuts_from, list_with, statement_of}

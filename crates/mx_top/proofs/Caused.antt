@@ -9,18 +9,31 @@ use Rattle.mx_plan.proofs.Standing.{only-behind, rose-on, stands-kept}
 use Rattle.mx_words.specs.declared.order.Order.{Order}
 use Rattle.mx_words.specs.declared.order.WordsFault.{WordsFault}
 use Rattle.mx_outcome.specs.Kinds.{is_usage}
+use Rattle.mx_files.specs.Assembling.{refused_with}
 use Rattle.mx_files.specs.Clauses.{WorksBetween, is_end}
+use Rattle.mx_files.specs.declared.refusal.Refusal.{Refusal}
 use Rattle.mx_files.specs.FilePlans.{lines_plan}
 use Rattle.mx_outcome.specs.declared.outcome.Outcome.{Outcome}
 use Rattle.mx_outcome.specs.declared.outcome.Outcome.TheVariants.{HostFault, NoFile, OutOfMemory, Usage}
 use Rattle.mx_files.proofs.FileClauses.{part-keeps}
 use Rattle.mx_files.proofs.Serving.{only-lines}
 use Rattle.mx_begin.specs.Arguments.{Word}
-use Rattle.mx_top.specs.Causes.{Causes, FailsOnlyBy}
+use Rattle.mx_top.specs.Causes.{Causes, FailsOnlyBy, IsOfMachine}
 
 -- no call, and an outcome that tells no fault of the host
-pub fails-nowhere : {H : Type 0} (told : H → Option HostModel) (faults : H → ℕ) (h : H) (r : Outcome) → r ≢ HostFault → r ≢ NoFile → is_usage r ≡ false → FailsOnlyBy told faults h h r
-fails-nowhere told faults h r well present words = (λ had e. absurd (well e), λ n e. absurd (present e), words, keeps-all (told h) (faults h))
+pub fails-nowhere : {H : Type 0} (told : H → Option HostModel) (faults : H → ℕ) (h : H) (r : Outcome) → IsOfMachine r → FailsOnlyBy told faults h h r
+fails-nowhere told faults h r of = (λ had e. absurd (of.0 e), λ n e. absurd (of.1 e), of.2, keeps-all (told h) (faults h))
+
+-- nor where there was no memory
+pub fails-lacking : {H : Type 0} (told : H → Option HostModel) (faults : H → ℕ) (h : H) → FailsOnlyBy told faults h h OutOfMemory
+fails-lacking told faults h = fails-nowhere told faults h OutOfMemory (λ e. cc, λ e. cc, refl)
+
+-- nor where no machine starts, or a source is refused
+pub fails-unstarted : {A H : Type 0} (told : H → Option HostModel) (faults : H → ℕ) (h : H) (r : Outcome) → ◌≢◌ {A = Result A Outcome} (Err r) (Err HostFault) → ◌≢◌ {A = Result A Outcome} (Err r) (Err NoFile) → is_usage r ≡ false → FailsOnlyBy told faults h h r
+fails-unstarted told faults h r well present words = fails-nowhere told faults h r (λ e. well (ap Err e), λ e. present (ap Err e), words)
+
+pub fails-refused : {H : Type 0} (told : H → Option HostModel) (faults : H → ℕ) (h : H) (r : Outcome) (refusal : Refusal) → r ≡ refused_with refusal → FailsOnlyBy told faults h h r
+fails-refused told faults h r refusal e = fails-nowhere told faults h r (λ x. absurd (cc (e, x)), λ x. absurd (cc (e, x)), ap is_usage e)
 
 -- behind a part that keeps what every function does
 pub fails-behind : {H : Type 0} (told : H → Option HostModel) (faults : H → ℕ) (a b c : H) (r : Outcome) → Keeps (told a) (told b) (faults a) (faults b) → FailsOnlyBy told faults b c r → FailsOnlyBy told faults a c r
@@ -45,10 +58,9 @@ fails-lines told faults a b r lines w = (
 )
 
 -- lines that were written, with an outcome that tells no fault of the host
-pub fails-written : {H : Type 0} (told : H → Option HostModel) (faults : H → ℕ) (a b : H) (r : Outcome) (lines : List (List ℕ)) → r ≢ HostFault → r ≢ NoFile → is_usage r ≡ false →
-    WorksBetween (told a) (told b) (faults a) (faults b) (Ok tt) (lines_plan lines) → FailsOnlyBy told faults a b r
-fails-written told faults a b r lines well present words w =
-    (λ had e. absurd (well e), λ n e. absurd (present e), words, part-keeps (told a) (told b) (faults a) (faults b) (Ok tt) (lines_plan lines) w)
+pub fails-written : {H : Type 0} (told : H → Option HostModel) (faults : H → ℕ) (a b : H) (r : Outcome) (lines : List (List ℕ)) → IsOfMachine r → WorksBetween (told a) (told b) (faults a) (faults b) (Ok tt) (lines_plan lines) →
+    FailsOnlyBy told faults a b r
+fails-written told faults a b r lines of w = (λ had e. absurd (of.0 e), λ n e. absurd (of.1 e), of.2, part-keeps (told a) (told b) (faults a) (faults b) (Ok tt) (lines_plan lines) w)
 
 -- a part of the work that tells of no words
 pub not-usage : (r : Outcome) (fault : WordsFault) → is_usage r ≡ false → r ≢ Usage fault

@@ -1,25 +1,20 @@
 -- What follows a run: lines behind an outcome, and the dump.
-use Rattle.std.proofs.Common.{IsTrue, ◌≡◌, ◌≢◌, ℕ, List, Bool, true, false, cond, Ok, Err, refl, sym, ◌∙◌, ap, subst, ◌&&◌}
+use Rattle.std.proofs.Common.{◌≡◌, ◌≢◌, ℕ, List, Bool, true, false, cond, Ok, Err, refl, sym, ◌∙◌, ap, subst, ◌&&◌}
 use Rattle.std.specs.Prelude.{Option, Result}
-use Rattle.mx_host.specs.HostModel.{HostModel, tells, contents}
-use Rattle.mx_host.specs.HostAnswer.{Then}
+use Rattle.mx_host.specs.HostModel.{HostModel, contents}
 use Rattle.mx_plan.specs.Calls.{host, HostPlan}
 use Rattle.mx_plan.specs.Clauses.{CarriesOut}
 use Rattle.mx_plan.specs.Plan.{returns, end_after}
 use Rattle.mx_plan.proofs.Plans.{end_bind, end_returns, stops_first}
 use Rattle.mx_core.specs.Bounds.{as_list_state}
 use Rattle.mx_core.specs.State.{State}
-use Rattle.mx_files.specs.Answers.{answered, after_lines}
 use Rattle.mx_outcome.specs.Kinds.{leaves_machine}
-use Rattle.mx_files.specs.Clauses.{WorksBetween, part_of}
+use Rattle.mx_files.specs.Clauses.{WorksBetween}
 use Rattle.mx_files.specs.FilePlans.{lines_plan}
-use Rattle.mx_files.specs.Lines.{lines_put}
 use Rattle.mx_outcome.specs.declared.outcome.Outcome.{Outcome}
 use Rattle.mx_outcome.specs.declared.outcome.Outcome.TheVariants.{HostFault, OutOfMemory}
-use Rattle.mx_files.proofs.FileEnds.{lines-end}
 use Rattle.mx_dump.specs.Dump.{dump_lines}
 use Rattle.mx_top.specs.ProductPlan.{written_with, telling, dumped_plan}
-use Rattle.mx_top.specs.Runs.{ran, dumped}
 use Rattle.mx_top.proofs.SameDumps.{same-dump}
 
 -- ---- lines behind an outcome
@@ -39,16 +34,6 @@ written-plan a b k m outcome other lines r well is w = λ t. record {
   stopping = λ o. stops_first host (λ (x : Result (Unit {0}) Outcome). returns (written_with outcome x)) (lines_plan lines) (contents b) (contents a) ((w.told t).stopping (lacked outcome r well (sym is ∙ o)));
 }
 
-answer-of : (outcome : Outcome) (t : Then Bool) → answered (written_with outcome (part_of t).0) (part_of t).1 ≡ after_lines outcome t
-answer-of outcome (true, m) = refl
-answer-of outcome (false, m) = refl
-
-pub written-answer : (a b : Option HostModel) (k m : ℕ) (outcome other : Outcome) (lines : List (List ℕ)) (r : Result (Unit {0}) Outcome) → other ≡ written_with outcome r → WorksBetween a b k m r (lines_plan lines) →
-    IsTrue (tells a) → other ≢ OutOfMemory → answered other (contents b) ≡ after_lines outcome (lines_put lines (contents a))
-written-answer a b k m outcome other lines r is w t ne =
-    let e = (w.told t).ending (λ o. ne (is ∙ ap (written_with outcome) o)) ∙ lines-end lines (contents a) in
-    ap (λ (o : Outcome). answered o (contents b)) is ∙ ap (λ (p : Result (Unit {0}) Outcome × HostModel). answered (written_with outcome p.0) p.1) e ∙ answer-of outcome (lines_put lines (contents a))
-
 -- ---- the dump
 
 undumped-by : (a : Option HostModel) (outcome : Outcome) (p : HostPlan Outcome) (b : Bool) → b ≡ false → outcome ≢ OutOfMemory → CarriesOut a a OutOfMemory outcome (cond b p (returns outcome))
@@ -66,19 +51,9 @@ dumped-plan a b k m wanted outcome other s r e ne is w =
     subst (λ (x : Bool). CarriesOut a b OutOfMemory other (cond x (telling outcome (dump_lines s)) (returns outcome))) (sym e) (written-plan a b k m outcome other (dump_lines s) r ne is w)
 
 -- that of the list is the same, where nothing was touched
-pub dumped-listed : (wanted : Bool) (outcome : Outcome) (s : State) (m : HostModel) → s.touched ≡ false →
-    dumped wanted (ran outcome (as_list_state s) m) ≡ dumped wanted (ran outcome s m)
-dumped-listed wanted outcome s m e = rw (same-dump s e) refl
-
-pub undumped-list : (wanted : Bool) (outcome : Outcome) (s : State) (m : HostModel) → (wanted && leaves_machine outcome) ≡ false → answered outcome m ≡ dumped wanted (ran outcome (as_list_state s) m)
-undumped-list wanted outcome s m e = ap (λ (x : Bool). cond x (after_lines outcome (lines_put (dump_lines (as_list_state s)) m)) (answered outcome m)) (sym e)
-
-pub dumped-list : (a b : Option HostModel) (k m : ℕ) (wanted : Bool) (outcome other : Outcome) (s : State) (r : Result (Unit {0}) Outcome) → (wanted && leaves_machine outcome) ≡ true → s.touched ≡ false →
-    other ≡ written_with outcome r → WorksBetween a b k m r (lines_plan (dump_lines s)) → IsTrue (tells a) → other ≢ OutOfMemory → answered other (contents b) ≡ dumped wanted (ran outcome (as_list_state s) (contents a))
-dumped-list a b k m wanted outcome other s r e untouched is w t ne =
-    written-answer a b k m outcome other (dump_lines s) r is w t ne
-    ∙ ap (λ (x : Bool). cond x (after_lines outcome (lines_put (dump_lines s) (contents a))) (answered outcome (contents a))) (sym e)
-    ∙ sym (dumped-listed wanted outcome s (contents a) untouched)
+pub same-dumped : (wanted : Bool) (outcome : Outcome) (s : State) → s.touched ≡ false → dumped_plan wanted outcome (as_list_state s) ≡ dumped_plan wanted outcome s
+unfolding dumped_plan
+same-dumped wanted outcome s e = ap (λ lines. cond (wanted && leaves_machine outcome) (telling outcome lines) (returns outcome)) (same-dump s e)
 
 -- where the host failed no machine is told
 no-dump : (b : Bool) → (b && false) ≡ false
@@ -87,3 +62,7 @@ no-dump false = refl
 
 pub undumped-fault : (wanted : Bool) (s : State) (a : Option HostModel) → CarriesOut a a OutOfMemory HostFault (dumped_plan wanted HostFault s)
 undumped-fault wanted s a = undumped-plan a wanted HostFault s (no-dump wanted) (λ e. absurd (cc))
+
+-- nor where there was no memory
+pub undumped-lacking : (wanted : Bool) (outcome : Outcome) → outcome ≡ OutOfMemory → (wanted && leaves_machine outcome) ≡ true → ⊥
+undumped-lacking wanted outcome e t = absurd (cc (sym (no-dump wanted), ap (λ o. wanted && leaves_machine o) e, t))

@@ -1,9 +1,8 @@
+pub mod Answering
+pub mod SameDumps
 pub mod Dumped
 pub mod Generated
-pub mod MachineRuns
 pub mod PlainAnswers
-pub mod SameDumps
-pub mod SessionRuns
 pub mod Summed
 pub mod Told
 pub mod Heard
@@ -14,10 +13,12 @@ pub mod TurnsTold
 pub mod WorkPlans
 pub mod PlainEnds
 pub mod MachinePlans
+pub mod ListedPlans
 pub mod LastStates
 pub mod TakenBack
 pub mod WorkParts
 pub mod ProductEnds
+pub mod ListedWork
 pub mod ProgramHeld
 pub mod Saying
 pub mod FewReports

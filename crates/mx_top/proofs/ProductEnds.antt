@@ -1,34 +1,43 @@
--- What the program does is the end of its plan.
-use Rattle.std.proofs.Common.{◌≡◌, ℕ, List, [], ◌∷◌, length, Bool, true, false, cond, Ok, Err, take, arith, refl, sym, ◌∙◌, ap, codes, ◌&&◌}
-use Rattle.std.specs.Prelude.{◌==◌, not, Result}
+-- What the program does is the end of its plan; and so by the kind of its machines.
+use Rattle.std.proofs.Common.{◌≡◌, ◌≤◌, ℕ, ◌+◌, ◌*◌, List, [], ◌∷◌, length, Bool, true, false, cond, Ok, Err, take, arith, refl, sym, ◌∙◌, ap, codes, ◌&&◌}
+use Rattle.std.specs.Prelude.{◌==◌, not, Option, None, Some, Result}
+use Rattle.std.specs.Option.{option_map}
 use Rattle.std.proofs.lemmas.Bool.Decides.{nat_tests}
 use Rattle.mx_host.specs.HostModel.{HostModel}
 use Rattle.mx_host.specs.HostAnswer.{Then}
 use Rattle.mx_plan.specs.Calls.{host, HostPlan, need, write_plan}
-use Rattle.mx_plan.specs.Plan.{returns, bind, end_of, end_after}
+use Rattle.mx_plan.specs.Plan.{returns, calls, bind, end_of, end_after}
 use Rattle.mx_plan.proofs.Plans.{end_bind, end_returns}
 use Rattle.mx_mmo.specs.Image.{Image}
+use Rattle.mx_core.specs.Bounds.{as_list_state}
 use Rattle.mx_core.specs.State.{State}
-use Rattle.mx_run.specs.RunPlans.{RunWorld, running, run_plan}
-use Rattle.mx_run.specs.Runs.{no_flags, run}
-use Rattle.mx_run.specs.WildRuns.{RunEnd, window_machine}
+use Rattle.mx_start.specs.Start.{pool, pool_octas, start}
+use Rattle.mx_start.proofs.ListedStarts.{start-listed}
+use Rattle.mx_ring.specs.Stack.{stack_address, windowed}
+use Rattle.mx_ring.specs.Window.{window_at_start}
+use Rattle.mx_run.specs.RunPlans.{RunWorld}
+use Rattle.mx_run.specs.Runs.{no_flags}
+use Rattle.mx_run.specs.WildRuns.{MachineKind, window_machine, list_machine, RunEnd, run_ended, run_wild, run_by}
 use Rattle.mx_run.specs.declared.end.End.{End}
 use Rattle.mx_run.proofs.BothMachines.{window-ends}
 use Rattle.mx_run.proofs.PlanEnds.{run-end}
 use Rattle.mx_back.specs.History.{states_kept}
 use Rattle.mx_back.specs.KeptRuns.{turns_of}
-use Rattle.mx_con.specs.Session.{SessionRun}
+use Rattle.mx_con.specs.Session.{SessionRun, session_ended, session_wild, session}
+use Rattle.mx_con.specs.declared.end.SessionEnd.{SessionEnd}
 use Rattle.mx_con.proofs.SessionJoins.{session-end}
 use Rattle.mx_multi.specs.Joint.{Joint}
 use Rattle.mx_multi.specs.Joint as joint
-use Rattle.mx_multi.specs.Turns.{TurnsEnd}
+use Rattle.mx_multi.specs.Turns.{TurnsEnd, turns_ended, turns_wild, turns}
+use Rattle.mx_multi.specs.declared.end.MultiEnd.{MultiEnd}
+use Rattle.mx_multi.proofs.ListStarts.{start-listed as joint-listed}
 use Rattle.mx_multi.proofs.TurnPlans.{plan-end}
 use Rattle.mx_words.specs.declared.order.Command.{Command}
 use Rattle.mx_words.specs.declared.order.Command.TheVariants.{Run, Asm, Sim, Gen, Show, Multi}
 use Rattle.mx_words.specs.declared.order.Order.{Order}
 use Rattle.mx_words.specs.declared.order.WordsFault.{WordsFault}
 use Rattle.law_gen.specs.Generator.{generated}
-use Rattle.mx_files.specs.Answers.{Answer, answered, plainly, after_lines}
+use Rattle.mx_files.specs.Answers.{Answer, answered, wild, plainly, after_lines}
 use Rattle.mx_outcome.specs.Kinds.{leaves_machine}
 use Rattle.mx_files.specs.Clauses.{part_of}
 use Rattle.mx_files.specs.FilePlans.{Part, file_plan, lines_plan, on_ok}
@@ -48,34 +57,45 @@ use Rattle.mx_begin.specs.declared.images.Form.{Form}
 use Rattle.mx_begin.specs.declared.images.Form.TheVariants.{Source, Object}
 use Rattle.mx_begin.proofs.Beginnings.{image-end, begin-end}
 use Rattle.mx_dump.specs.Dump.{dump_lines}
-use Rattle.mx_top.specs.Processors.{processors_named, turns_told, joint_run, image_turns}
+use Rattle.mx_top.specs.Processors.{multi_lines, multi_outcome, processors_named, turns_told, joint_run, image_turns}
 use Rattle.mx_top.specs.Product.{generator_steps, summed, summed_from, generated_run, source_generated, begun_run, image_turned, after_schedule, ordered, carried_out, message_told}
 use Rattle.mx_top.specs.ProductPlan as plans
-use Rattle.mx_top.specs.ProgramCalls.{program, ProgramPlan, on_host, steps_plan, reported_plan, keeping_plan, sitting_plan, turns_made}
+use Rattle.mx_top.specs.ProgramCalls.{ProgramCall, of_host, stepping, reporting, keeping, sitting, turning, beside_end, beside_kept, program, ProgramPlan, on_host, steps_plan, reported_plan, keeping_plan, sitting_plan, turns_made}
 use Rattle.mx_top.specs.Reports.{report_put, reports_put}
-use Rattle.mx_top.specs.Runs.{ran, dumped, ran_to, machine_ran, session_ran, played, outcome_of, takes_back, state_lines, reached, lines_told, taken_back, run_back, run_from}
-use Rattle.mx_begin.specs.Begun.{started, stack_at_start, image_read, begun}
+use Rattle.mx_top.specs.Runs.{Ran, ran, ran_wild, dumped, ran_to, machine_ran, session_ran, session_outcome, played, outcome_of, takes_back, state_lines, reached, lines_told, taken_back, run_back, run_from}
+use Rattle.mx_begin.specs.Begun.{begun_at, main_address, started, stack_at_start, image_read, begun}
+use Rattle.mx_top.specs.WorkKinds.{machine_by, joint_by, host_course, run_course, kept_course, session_course, turns_course, call_by, on_course, answer_by}
 use Rattle.mx_top.proofs.TakenBack.{faulted, no-last}
-use Rattle.mx_top.proofs.WorkPlans.{end_on_host}
+use Rattle.mx_top.proofs.WorkPlans.{host-by, taking-by, part-by}
+
+-- ---- over a window of registers, what a plan comes to is its end
+
+window-call : (o : ProgramCall) (m : HostModel) → call_by window_machine o m ≡ host_course (program.act o m)
+unfolding program
+window-call (of_host o) m = refl
+window-call (stepping n s) m = ap run_course (window-ends n no_flags false s m) ∙ sym (ap (λ (t : End × RunWorld). host_course (beside_end t)) (run-end n no_flags false s m))
+window-call (reporting n s) m = ap run_course (window-ends n no_flags false s m) ∙ sym (ap (λ (t : End × RunWorld). host_course (beside_end t)) (run-end n no_flags false s m))
+window-call (keeping n s) m =
+    let kept = states_kept (turns_of n s m) [] in
+    ap (kept_course kept) (window-ends n no_flags false s m) ∙ sym (ap (λ (t : End × RunWorld). host_course (beside_kept kept t)) (run-end n no_flags false s m))
+window-call (sitting n s) m = sym (ap session_course (session-end n s no_flags m))
+window-call (turning n schedule j) m = sym (ap turns_course (plan-end schedule n schedule (j, m)))
+
+window-answer : (p : ProgramPlan Outcome) (m : HostModel) → answer_by window_machine p m ≡ plainly (end_of program p m)
+unfolding answer_by end_of
+window-answer (returns outcome) m = refl
+window-answer (calls o k) m = ap (on_course (λ r n. answer_by window_machine (k r) n)) (window-call o m) ∙ window-answer (k (program.act o m).0) (program.act o m).1
 
 -- ---- parts
 
-taking-end : (p : ProgramPlan Outcome) (m : HostModel) → end_of program (plans.taking p) m ≡ end_of program p m
-unfolding bind on_host need end_of program host
-taking-end p m = refl
-
--- a plan of the host, as an answer
-host-answer : (p : HostPlan Outcome) (m : HostModel) → plainly (end_of program (on_host p) m) ≡ plainly (end_of host p m)
-host-answer p m = ap plainly (end_on_host p m)
-
-part-end : {A : Type 0} (f : A → ProgramPlan Outcome) (g : Then (Result A Outcome) → Answer) (p : Part A) (m : HostModel) (t : Then (Result A Outcome)) → end_of host p m ≡ t → ((o : Outcome) (n : HostModel) → answered o n ≡ g (Err o, n)) →
-    ((x : A) (n : HostModel) → plainly (end_of program (f x) n) ≡ g (Ok x, n)) → plainly (end_of program (bind (plans.on_part f) (on_host p)) m) ≡ g t
-part-end {A} f g p m t e none some =
-    ap plainly (end_bind program (plans.on_part f) (on_host p) m ∙ ap (end_after program (plans.on_part f)) (end_on_host p m ∙ e)) ∙ by t
+part-end : {A : Type 0} (kind : MachineKind) (f : A → ProgramPlan Outcome) (g : Then (Result A Outcome) → Answer) (p : Part A) (m : HostModel) (t : Then (Result A Outcome)) → end_of host p m ≡ t → ((o : Outcome) (n : HostModel) → answered o n ≡ g (Err o, n)) →
+    ((x : A) (n : HostModel) → answer_by kind (f x) n ≡ g (Ok x, n)) → answer_by kind (bind (plans.on_part f) (on_host p)) m ≡ g t
+unfolding answer_by
+part-end {A} kind f g p m t e none some = part-by kind f p m t (sym e) ∙ by t
   where
-    by : (t : Then (Result A Outcome)) → plainly (end_after program (plans.on_part f) t) ≡ g t
+    by : (t : Then (Result A Outcome)) → answer_by kind (plans.on_part f t.0) t.1 ≡ g t
     by (Ok x, n) = some x n
-    by (Err o, n) = ap plainly (end_returns program o n) ∙ none o n
+    by (Err o, n) = none o n
 
 -- ---- lines behind an outcome
 
@@ -100,24 +120,18 @@ dumped-end dump outcome s m = by (dump && leaves_machine outcome)
 
 -- ---- machines that run
 
-run-answer : (n : ℕ) (s : State) (m : HostModel) (follow : Outcome → State → HostPlan Outcome) (g : Outcome → State → HostModel → Answer) → ((o : Outcome) (t : State) (k : HostModel) → plainly (end_of host (follow o t) k) ≡ g o t k) →
-    plainly (end_of program (on_host (follow (outcome_of n (end_of running (run_plan n no_flags false) (s, m)).0) (end_of running (run_plan n no_flags false) (s, m)).1.0)) (end_of running (run_plan n no_flags false) (s, m)).1.1)
-    ≡ g (outcome_of n (run n no_flags false s m).end) (run n no_flags false s m).state (run n no_flags false s m).host
-run-answer n s m follow g h =
-    ap (λ (t : End × RunWorld). plainly (end_of program (on_host (follow (outcome_of n t.0) t.1.0)) t.1.1)) (run-end n no_flags false s m)
-    ∙ host-answer (follow (outcome_of n (run n no_flags false s m).end) (run n no_flags false s m).state) (run n no_flags false s m).host
-    ∙ h (outcome_of n (run n no_flags false s m).end) (run n no_flags false s m).state (run n no_flags false s m).host
+run-after : (kind : MachineKind) (n : ℕ) (x : RunEnd) (follow : Outcome → State → HostPlan Outcome) (g : Ran → Answer) → ((m : HostModel) → g (ran_wild m) ≡ wild m) → ((o : Outcome) (t : State) (k : HostModel) → plainly (end_of host (follow o t) k) ≡ g (ran o t k)) →
+    on_course (λ (y : End × State) (h : HostModel). answer_by kind (on_host (follow (outcome_of n y.0) y.1)) h) (run_course x) ≡ g (ran_to n x)
+run-after kind n (run_ended e) follow g stays h = host-by kind (follow (outcome_of n e.end) e.state) e.host ∙ h (outcome_of n e.end) e.state e.host
+run-after kind n (run_wild m) follow g stays h = sym (stays m)
 
-ran-dumped : (o : Order) (s : State) (m : HostModel) → dumped o.dump (ran (outcome_of o.steps (run o.steps no_flags false s m).end) (run o.steps no_flags false s m).state (run o.steps no_flags false s m).host) ≡ dumped o.dump (machine_ran window_machine o.steps s m)
-ran-dumped o s m = ap (λ (r : RunEnd). dumped o.dump (ran_to o.steps r)) (sym (window-ends o.steps no_flags false s m))
+stepped-end : (kind : MachineKind) (o : Order) (s : State) (m : HostModel) → answer_by kind (plans.stepped_plan o s) m ≡ dumped o.dump (machine_ran kind o.steps (machine_by kind s) m)
+unfolding plans.stepped_plan steps_plan bind answer_by
+stepped-end kind o s m = run-after kind o.steps (run_by kind o.steps no_flags false (machine_by kind s) m) (plans.dumped_plan o.dump) (dumped o.dump) (λ k. refl) (dumped-end o.dump)
 
-stepped-end : (o : Order) (s : State) (m : HostModel) → plainly (end_of program (plans.stepped_plan o s) m) ≡ dumped o.dump (machine_ran window_machine o.steps s m)
-unfolding plans.stepped_plan steps_plan bind end_of program
-stepped-end o s m = run-answer o.steps s m (plans.dumped_plan o.dump) (λ x t k. dumped o.dump (ran x t k)) (dumped-end o.dump) ∙ ran-dumped o s m
-
-watched-end : (o : Order) (s : State) (m : HostModel) → plainly (end_of program (plans.watched_plan o s) m) ≡ dumped o.dump (machine_ran window_machine o.steps s m)
-unfolding plans.watched_plan reported_plan bind end_of program
-watched-end o s m = run-answer o.steps s m (plans.dumped_plan o.dump) (λ x t k. dumped o.dump (ran x t k)) (dumped-end o.dump) ∙ ran-dumped o s m
+watched-end : (kind : MachineKind) (o : Order) (s : State) (m : HostModel) → answer_by kind (plans.watched_plan o s) m ≡ dumped o.dump (machine_ran kind o.steps (machine_by kind s) m)
+unfolding plans.watched_plan reported_plan bind answer_by
+watched-end kind o s m = run-after kind o.steps (run_by kind o.steps no_flags false (machine_by kind s) m) (plans.dumped_plan o.dump) (dumped o.dump) (λ k. refl) (dumped-end o.dump)
 
 -- the lines of states that come back, and the dump behind them
 back-by : (dump : Bool) (outcome : Outcome) (s : State) (t : Then Bool) → plainly (end_after host (plans.then_dumped dump outcome s) (part_of t)) ≡ dumped dump (lines_told outcome s t)
@@ -135,38 +149,51 @@ back-end dump states outcome s m = by (takes_back outcome)
         ∙ ap (end_after host (plans.then_dumped dump outcome (reached s states))) (lines-end (state_lines states) m)) ∙ back-by dump outcome (reached s states) (lines_put (state_lines states) m)
     by false = dumped-end dump outcome s m
 
-kept-end : (o : Order) (s : State) (m : HostModel) → plainly (end_of program (plans.kept_plan o s) m) ≡ dumped o.dump (run_back window_machine o.last o.steps s m)
-unfolding plans.kept_plan keeping_plan bind end_of program
-kept-end o s m =
-    let states = take o.last (states_kept (turns_of o.steps s m) []) in
-    ap plainly (taking-end (bind (plans.after_kept o) (keeping_plan o.steps s)) m)
-    ∙ run-answer o.steps s m (λ x t. plans.back_plan o.dump x states t) (λ x t k. dumped o.dump (taken_back states (ran x t k))) (back-end o.dump states)
-    ∙ ap (λ (r : RunEnd). dumped o.dump (taken_back states (ran_to o.steps r))) (sym (window-ends o.steps no_flags false s m))
+kept-after : (kind : MachineKind) (n : ℕ) (x : RunEnd) (kept : List State) (follow : Outcome → State → List State → HostPlan Outcome) (g : Ran → Answer) → ((m : HostModel) → g (ran_wild m) ≡ wild m) →
+    ((o : Outcome) (t : State) (k : HostModel) → plainly (end_of host (follow o t kept) k) ≡ g (ran o t k)) →
+    on_course (λ (y : End × (State × List State)) (h : HostModel). answer_by kind (on_host (follow (outcome_of n y.0) y.1.0 y.1.1)) h) (kept_course kept x) ≡ g (ran_to n x)
+kept-after kind n (run_ended e) kept follow g stays h = host-by kind (follow (outcome_of n e.end) e.state kept) e.host ∙ h (outcome_of n e.end) e.state e.host
+kept-after kind n (run_wild m) kept follow g stays h = sym (stays m)
 
-session-answer : (o : Order) (s : State) (m : HostModel) → plainly (end_of program (plans.session_played o s) m) ≡ dumped o.dump (session_ran window_machine o.steps s m)
-unfolding plans.session_played sitting_plan bind end_of program
-session-answer o s m =
-    host-answer _ _ ∙ dumped-end o.dump _ _ _ ∙ ap (λ (x : SessionRun). dumped o.dump (played o.steps x)) (session-end o.steps s no_flags m)
+kept-end : (kind : MachineKind) (o : Order) (s : State) (m : HostModel) → answer_by kind (plans.kept_plan o s) m ≡ dumped o.dump (run_back kind o.last o.steps (machine_by kind s) m)
+unfolding plans.kept_plan keeping_plan bind answer_by
+kept-end kind o s m =
+    let kept = states_kept (turns_of o.steps (machine_by kind s) m) [] in
+    taking-by kind (bind (plans.after_kept o) (keeping_plan o.steps s)) m
+    ∙ kept-after kind o.steps (run_by kind o.steps no_flags false (machine_by kind s) m) kept (λ x t states. plans.back_plan o.dump x (take o.last states) t) (λ r. dumped o.dump (taken_back (take o.last kept) r)) (λ k. refl)
+    (back-end o.dump (take o.last kept))
 
-machine-end : (o : Order) (s : State) (m : HostModel) → plainly (end_of program (plans.machine_plan o s) m) ≡ run_from window_machine o (Ok s) m
+session-after : (kind : MachineKind) (o : Order) (x : SessionRun) →
+    on_course (λ (y : SessionEnd × State) (h : HostModel). answer_by kind (on_host (plans.dumped_plan o.dump (session_outcome o.steps y.0) y.1)) h) (session_course x) ≡ dumped o.dump (played o.steps x)
+session-after kind o (session_ended e) = host-by kind (plans.dumped_plan o.dump (session_outcome o.steps e.end) e.state) e.host ∙ dumped-end o.dump (session_outcome o.steps e.end) e.state e.host
+session-after kind o (session_wild m) = refl
+
+session-answer : (kind : MachineKind) (o : Order) (s : State) (m : HostModel) → answer_by kind (plans.session_played o s) m ≡ dumped o.dump (session_ran kind o.steps (machine_by kind s) m)
+unfolding plans.session_played sitting_plan bind answer_by
+session-answer kind o s m = session-after kind o (session kind o.steps (machine_by kind s) no_flags m)
+
+pub machine-end : (kind : MachineKind) (o : Order) (s : State) (m : HostModel) → answer_by kind (plans.machine_plan o s) m ≡ run_from kind o (Ok (machine_by kind s)) m
 unfolding plans.machine_plan
-machine-end o s m = by o.interactive o.report (o.last == 0) refl
+machine-end kind o s m = by o.interactive o.report (o.last == 0) refl
   where
-    forward : (o.last == 0) ≡ true → dumped o.dump (machine_ran window_machine o.steps s m) ≡ dumped o.dump (run_back window_machine o.last o.steps s m)
-    forward e = ap (dumped o.dump) (sym (no-last window_machine o.last o.steps s m (grind (arith, nat_tests))))
+    t : State
+    t = machine_by kind s
 
-    by : (b c d : Bool) → (o.last == 0) ≡ d → plainly (end_of program (cond b (plans.session_played o s) (cond (not d) (plans.kept_plan o s) (cond c (plans.watched_plan o s) (plans.stepped_plan o s)))) m)
-        ≡ dumped o.dump (cond b (session_ran window_machine o.steps s m) (run_back window_machine o.last o.steps s m))
-    by true c d e = session-answer o s m
-    by false c false e = kept-end o s m
-    by false true true e = watched-end o s m ∙ forward e
-    by false false true e = stepped-end o s m ∙ forward e
+    forward : (o.last == 0) ≡ true → dumped o.dump (machine_ran kind o.steps t m) ≡ dumped o.dump (run_back kind o.last o.steps t m)
+    forward e = ap (dumped o.dump) (sym (no-last kind o.last o.steps t m (grind (arith, nat_tests))))
+
+    by : (b c d : Bool) → (o.last == 0) ≡ d → answer_by kind (cond b (plans.session_played o s) (cond (not d) (plans.kept_plan o s) (cond c (plans.watched_plan o s) (plans.stepped_plan o s)))) m
+        ≡ dumped o.dump (cond b (session_ran kind o.steps t m) (run_back kind o.last o.steps t m))
+    by true c d e = session-answer kind o s m
+    by false c false e = kept-end kind o s m
+    by false true true e = watched-end kind o s m ∙ forward e
+    by false false true e = stepped-end kind o s m ∙ forward e
 
 -- ---- `run` and `sim`
 
-begun-end : (words : List Word) (o : Order) (form : Form) (m : HostModel) → plainly (end_of program (plans.begun_plan words o form) m) ≡ begun_run window_machine o (begun window_machine words o form m)
+begun-end : (words : List Word) (o : Order) (form : Form) (m : HostModel) → answer_by window_machine (plans.begun_plan words o form) m ≡ begun_run window_machine o (begun window_machine words o form m)
 unfolding plans.begun_plan
-begun-end words o form m = part-end (plans.machine_plan o) (begun_run window_machine o) (begin_plan words o form) m (begun window_machine words o form m) (begin-end words o form m) (λ x n. refl) (λ s n. machine-end o s n)
+begun-end words o form m = part-end window_machine (plans.machine_plan o) (begun_run window_machine o) (begin_plan words o form) m (begun window_machine words o form m) (begin-end words o form m) (λ x n. refl) (machine-end window_machine o)
 
 -- ---- `gen`
 
@@ -184,40 +211,71 @@ summed-end blocks size Quit s m = ap plainly (end_returns host _ m)
 summed-end blocks size ConsoleLimit s m = ap plainly (end_returns host _ m)
 summed-end blocks size OutOfMemory s m = ap plainly (end_returns host _ m)
 
-summed-run-end : (blocks size : ℕ) (s : State) (m : HostModel) → plainly (end_of program (plans.summed_run blocks size s) m) ≡ summed blocks size (machine_ran window_machine generator_steps s m)
-unfolding plans.summed_run steps_plan bind end_of program
-summed-run-end blocks size s m =
-    run-answer generator_steps s m (plans.summed_plan blocks size) (λ x t k. summed blocks size (ran x t k)) (summed-end blocks size)
-    ∙ ap (λ (r : RunEnd). summed blocks size (ran_to generator_steps r)) (sym (window-ends generator_steps no_flags false s m))
+summed-run-end : (kind : MachineKind) (blocks size : ℕ) (s : State) (m : HostModel) → answer_by kind (plans.summed_run blocks size s) m ≡ summed blocks size (machine_ran kind generator_steps (machine_by kind s) m)
+unfolding plans.summed_run steps_plan bind answer_by
+summed-run-end kind blocks size s m =
+    run-after kind generator_steps (run_by kind generator_steps no_flags false (machine_by kind s) m) (plans.summed_plan blocks size) (summed blocks size) (λ k. refl) (summed-end blocks size)
 
-generated-end : (o : Order) (source : List ℕ) (m : HostModel) → plainly (end_of program (plans.generated_plan o source) m) ≡ source_generated window_machine o source m
-unfolding plans.generated_plan
-generated-end o source m = ap plainly (taking-end (plans.generated_meaning o (length source) (source_meaning source)) m) ∙ by (source_meaning source)
+-- the start of the machine of a kind
+abbrev result_by : MachineKind → Result State Outcome → Result State Outcome
+result_by kind (Err outcome) = Err outcome
+result_by kind (Ok s) = Ok (machine_by kind s)
+
+same-result : (r : Result State Outcome) → r ≡ result_by window_machine r
+same-result (Err outcome) = refl
+same-result (Ok s) = refl
+
+list-begun : (pc : ℕ) (o : Option State) → begun_at pc (option_map as_list_state o) ≡ result_by list_machine (begun_at pc o)
+list-begun pc None = refl
+list-begun pc (Some s) = refl
+
+generator-fits : pool + 8 * length (pool_octas (codes "gen" ∷ [])) ≤ stack_address 0
+unfolding pool_octas
+generator-fits = omega arith
+
+generator-started : (kind : MachineKind) (ring : ℕ) (image : Image) → started kind ring image (codes "gen" ∷ []) ≡ result_by kind (started window_machine ring image (codes "gen" ∷ []))
+generator-started window_machine ring image = same-result (started window_machine ring image (codes "gen" ∷ []))
+generator-started list_machine ring image =
+    ap (begun_at (main_address image)) (start-listed image (codes "gen" ∷ []) ring generator-fits) ∙ list-begun (main_address image) (start image (codes "gen" ∷ []) (windowed (window_at_start ring)))
+
+pub generated-end : (kind : MachineKind) (o : Order) (source : List ℕ) (m : HostModel) → answer_by kind (plans.generated_plan o source) m ≡ source_generated kind o source m
+unfolding plans.generated_plan answer_by
+generated-end kind o source m = taking-by kind (plans.generated_meaning o (length source) (source_meaning source)) m ∙ by (source_meaning source)
   where
-    from : (r : Result State Outcome) → plainly (end_of program (plans.summed_start o.number (length source) r) m) ≡ summed_from window_machine o.number (length source) r m
-    from (Err outcome) = ap plainly (end_returns program outcome m)
-    from (Ok s) = summed-run-end o.number (length source) s m
+    from : (r : Result State Outcome) → answer_by kind (plans.summed_start o.number (length source) r) m ≡ summed_from kind o.number (length source) (result_by kind r) m
+    from (Err outcome) = refl
+    from (Ok s) = summed-run-end kind o.number (length source) s m
 
-    by : (r : Result Image Refusal) → plainly (end_of program (plans.generated_meaning o (length source) r) m) ≡ generated_run window_machine o (length source) r m
-    by (Err refusal) = ap plainly (end_returns program _ m)
-    by (Ok image) = ap plainly (taking-end (plans.summed_start o.number (length source) (started window_machine o.ring image (codes "gen" ∷ []))) m) ∙ from (started window_machine o.ring image (codes "gen" ∷ []))
+    by : (r : Result Image Refusal) → answer_by kind (plans.generated_meaning o (length source) r) m ≡ generated_run kind o (length source) r m
+    by (Err refusal) = refl
+    by (Ok image) =
+        taking-by kind (plans.summed_start o.number (length source) (started window_machine o.ring image (codes "gen" ∷ []))) m ∙ from (started window_machine o.ring image (codes "gen" ∷ []))
+        ∙ ap (λ (r : Result State Outcome). summed_from kind o.number (length source) r m) (sym (generator-started kind o.ring image))
 
 -- ---- `multi`
 
-joint-end : (o : Order) (schedule : List ℕ) (j : Joint) (m : HostModel) → plainly (end_of program (plans.joint_plan o schedule j) m) ≡ joint_run window_machine o schedule j m
-unfolding plans.joint_plan turns_made bind end_of program
-joint-end o schedule j m = host-answer _ _ ∙ telling-end _ _ _ ∙ ap (λ (t : TurnsEnd). turns_told o.dump o.steps t) (plan-end schedule o.steps schedule (j, m))
+turns-after : (kind : MachineKind) (o : Order) (x : TurnsEnd) → on_course (λ (y : MultiEnd × Joint) (h : HostModel). answer_by kind (on_host (plans.telling (multi_outcome o.steps y.0) (multi_lines o.dump y.0 y.1))) h) (turns_course x) ≡ turns_told o.dump o.steps x
+turns-after kind o (turns_ended end j m) = host-by kind (plans.telling (multi_outcome o.steps end) (multi_lines o.dump end j)) m ∙ telling-end (multi_outcome o.steps end) (multi_lines o.dump end j) m
+turns-after kind o (turns_wild m) = refl
 
-image-turns-end : (o : Order) (schedule : List ℕ) (image : Image) (m : HostModel) → plainly (end_of program (plans.image_turns_plan o schedule image) m) ≡ image_turns window_machine o schedule image m
+joint-end : (kind : MachineKind) (o : Order) (schedule : List ℕ) (j : Joint) (m : HostModel) → answer_by kind (plans.joint_plan o schedule j) m ≡ joint_run kind o schedule (joint_by kind j) m
+unfolding plans.joint_plan turns_made bind answer_by
+joint-end kind o schedule j m = turns-after kind o (turns kind schedule o.steps schedule (joint_by kind j) m)
+
+joint-started : (kind : MachineKind) (ring count : ℕ) (image : Image) → joint_by kind (joint.started image count (stack_at_start window_machine ring)) ≡ joint.started image count (stack_at_start kind ring)
+joint-started window_machine ring count image = refl
+joint-started list_machine ring count image = sym (joint-listed image count ring)
+
+image-turns-end : (kind : MachineKind) (o : Order) (schedule : List ℕ) (image : Image) (m : HostModel) → answer_by kind (plans.image_turns_plan o schedule image) m ≡ image_turns kind o schedule image m
 unfolding plans.image_turns_plan
-image-turns-end o schedule image m =
+image-turns-end kind o schedule image m =
     let j = joint.started image (processors_named schedule) (stack_at_start window_machine o.ring) in
-    ap plainly (taking-end (plans.joint_plan o schedule j) m) ∙ joint-end o schedule j m
+    taking-by kind (plans.joint_plan o schedule j) m ∙ joint-end kind o schedule j m ∙ ap (λ (i : Joint). joint_run kind o schedule i m) (joint-started kind o.ring (processors_named schedule) image)
 
-turns-file-end : (o : Order) (name : Word) (schedule : List ℕ) (m : HostModel) → plainly (end_of program (plans.turns_file_plan o name schedule) m) ≡ image_turned window_machine o schedule (image_read Object name m)
+turns-file-end : (kind : MachineKind) (o : Order) (name : Word) (schedule : List ℕ) (m : HostModel) → answer_by kind (plans.turns_file_plan o name schedule) m ≡ image_turned kind o schedule (image_read Object name m)
 unfolding plans.turns_file_plan
-turns-file-end o name schedule m =
-    part-end (plans.image_turns_plan o schedule) (image_turned window_machine o schedule) (image_file_plan Object name) m (image_read Object name m) (image-end Object name m) (λ x n. refl) (λ x n. image-turns-end o schedule x n)
+turns-file-end kind o name schedule m =
+    part-end kind (plans.image_turns_plan o schedule) (image_turned kind o schedule) (image_file_plan Object name) m (image_read Object name m) (image-end Object name m) (λ x n. refl) (image-turns-end kind o schedule)
 
 judged-end : (t : Then (Result (List ℕ) Outcome)) → end_after host (on_ok (λ bytes. returns (schedule_in bytes))) t ≡ schedule_from t
 unfolding end_of
@@ -230,24 +288,25 @@ schedule-end name m =
     end_bind host (on_ok (λ (bytes : List ℕ). returns (schedule_in bytes))) (file_plan 1025 name) m
     ∙ ap (end_after host (on_ok (λ (bytes : List ℕ). returns (schedule_in bytes)))) (file-end 1025 name m) ∙ judged-end (file_bytes 1025 name m)
 
-multi-end : (o : Order) (schedule object : Word) (m : HostModel) → plainly (end_of program (plans.multi_plan o schedule object) m) ≡ after_schedule window_machine o object (schedule_bytes schedule m)
+pub multi-end : (kind : MachineKind) (o : Order) (schedule object : Word) (m : HostModel) → answer_by kind (plans.multi_plan o schedule object) m ≡ after_schedule kind o object (schedule_bytes schedule m)
 unfolding plans.multi_plan
-multi-end o schedule object m = part-end (plans.turns_file_plan o object) (after_schedule window_machine o object) (schedule_plan schedule) m (schedule_bytes schedule m) (schedule-end schedule m) (λ x n. refl) (λ x n. turns-file-end o object x n)
+multi-end kind o schedule object m =
+    part-end kind (plans.turns_file_plan o object) (after_schedule kind o object) (schedule_plan schedule) m (schedule_bytes schedule m) (schedule-end schedule m) (λ x n. refl) (turns-file-end kind o object)
 
 -- ---- the words
 
-ordered-end : (words : List Word) (o : Order) (command : Command) (m : HostModel) → plainly (end_of program (plans.ordered_plan words o command) m) ≡ ordered window_machine words o command m
+ordered-end : (words : List Word) (o : Order) (command : Command) (m : HostModel) → answer_by window_machine (plans.ordered_plan words o command) m ≡ ordered window_machine words o command m
 unfolding plans.ordered_plan
 ordered-end words o Run m = begun-end words o Source m
 ordered-end words o Sim m = begun-end words o Object m
-ordered-end words o Asm m = host-answer (assemble_plan (word_at words o.file) (word_at words o.rest)) m ∙ ap plainly (assemble-end (word_at words o.file) (word_at words o.rest) m)
-ordered-end words o Gen m = ap plainly (taking-end (plans.generated_plan o (generated o.number)) m) ∙ generated-end o (generated o.number) m
-ordered-end words o Show m = host-answer (list_plan (word_at words o.file)) m ∙ list-end (word_at words o.file) m
-ordered-end words o Multi m = multi-end o (word_at words o.schedule) (word_at words o.file) m
+ordered-end words o Asm m = host-by window_machine (assemble_plan (word_at words o.file) (word_at words o.rest)) m ∙ ap plainly (assemble-end (word_at words o.file) (word_at words o.rest) m)
+ordered-end words o Gen m = taking-by window_machine (plans.generated_plan o (generated o.number)) m ∙ generated-end window_machine o (generated o.number) m
+ordered-end words o Show m = host-by window_machine (list_plan (word_at words o.file)) m ∙ list-end (word_at words o.file) m
+ordered-end words o Multi m = multi-end window_machine o (word_at words o.schedule) (word_at words o.file) m
 
 pub work-end : (words : List Word) (r : Result Order WordsFault) (m : HostModel) → plainly (end_of program (plans.work_plan words r) m) ≡ carried_out window_machine words r m
 work-end words (Err fault) m = ap plainly (end_returns program (Usage fault) m)
-work-end words (Ok o) m = ordered-end words o o.command m
+work-end words (Ok o) m = sym (window-answer (plans.ordered_plan words o o.command) m) ∙ ordered-end words o o.command m
 
 -- ---- the message, and reports behind it
 

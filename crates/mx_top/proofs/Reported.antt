@@ -1,8 +1,8 @@
 -- The reports that are written behind the message.
 use Rattle.std.proofs.Common.{◌≡◌, ℕ, Bool, true, false, cond, List, [], map, refl, sym, ◌∙◌, ap, subst, Ok, Err}
 use Rattle.std.specs.Prelude.{IsTrue, Option, Result}
-use Rattle.mx_host.specs.HostModel.{HostModel, contents, slot_at, to_errors}
-use Rattle.mx_host.specs.Keeping.{Keeps, KeepsOutput}
+use Rattle.mx_host.specs.HostModel.{HostModel}
+use Rattle.mx_host.proofs.Keeping.{keeps-then}
 use Rattle.mx_run.specs.WildRuns.{MachineKind}
 use Rattle.mx_watch.specs.Watching.{Watching}
 use Rattle.mx_word.specs.Lists.{IsFront}
@@ -16,13 +16,17 @@ use Rattle.mx_outcome.specs.declared.outcome.Outcome.{Outcome}
 use Rattle.mx_begin.specs.Arguments.{Word}
 use Rattle.mx_top.specs.Product.{message_told, with_message, product}
 use Rattle.mx_top.specs.Reports.{UnlessWild, due_reports, reports_put, with_reports, watched_product}
-use Rattle.mx_top.proofs.MachineRuns.{goes-as}
+use Rattle.mx_top.specs.WorkClauses.{KeepsSaying}
+use Rattle.mx_top.proofs.Answering.{goes-as}
 
 -- ---- the writes
 
-pub kept-on : (a b c : Option HostModel) (k l : ℕ) → Keeps a b k l → (slot_at (contents a) 260 ≡ to_errors → KeepsOutput a b) → (slot_at (contents b) 260 ≡ to_errors → KeepsOutput b c) →
-    slot_at (contents a) 260 ≡ to_errors → KeepsOutput a c
-kept-on a b c k l keeps was put e = λ t. put (keeps.errors t e) (subst IsTrue (sym keeps.telling) t) ∙ was e t
+-- one behind another
+pub saying-then : {H : Type 0} (told : H → Option HostModel) (faults : H → ℕ) (a b c : H) → KeepsSaying told faults a b → KeepsSaying told faults b c → KeepsSaying told faults a c
+saying-then told faults a b c first second = record {
+  output = λ e t. second.output (first.keeps.errors t e) (subst IsTrue (sym first.keeps.telling) t) ∙ first.output e t;
+  keeps = keeps-then (told a) (told b) (told c) (faults a) (faults b) (faults c) first.keeps second.keeps;
+}
 
 -- ---- behind the message
 

@@ -20,6 +20,10 @@ FailsOnlyBy told faults old new result =
     × (is_usage result ≡ false)
     × Keeps (told old) (told new) (faults old) (faults new)
 
+-- an outcome that a machine comes to: neither a fault of the host, nor a file that is missing, nor a fault of the words
+abbrev pub IsOfMachine : Outcome → Type 0
+IsOfMachine outcome = (outcome ≢ HostFault) × (outcome ≢ NoFile) × (is_usage outcome ≡ false)
+
 -- Of all that the program does by these words: they are told to be no order exactly where they are none, or out of memory; and
 -- the rest as above.
 pub record Causes {H : Type 0} (told : H → Option HostModel) (faults : H → ℕ) (old new : H) (result : Outcome) (words : List Word) : Type 0 where

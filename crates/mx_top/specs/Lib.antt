@@ -5,6 +5,7 @@ pub mod Product
 pub mod Reports
 pub mod ProgramCalls
 pub mod ProductPlan
-pub mod WorkClauses
+pub mod WorkKinds
 pub mod Causes
+pub mod WorkClauses
 pub mod ProgramClauses

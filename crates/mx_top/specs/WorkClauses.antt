@@ -1,13 +1,19 @@
 -- The words of clauses over the work of the program. `old` and `new` are what the host told before and after.
 use Rattle.std.specs.Prelude.{ℕ, ◌≡◌, ◌≢◌, ◌≤◌, ◌⊎◌, IsTrue, Bool, true, false, List, [], length, Option, Result, Err}
-use Rattle.mx_host.specs.HostModel.{HostModel, tells, contents}
+use Rattle.mx_host.specs.HostModel.{HostModel, tells, contents, slot_at, to_errors}
+use Rattle.mx_host.specs.Keeping.{Keeps, KeepsOutput}
 use Rattle.mx_host.specs.declared.faults.HostFault.{HostFault}
 use Rattle.mx_host.specs.declared.faults.HostFault.TheVariants as slot
 use Rattle.mx_plan.specs.Plan.{Comes, Stops, end_of}
 use Rattle.mx_plan.specs.Calls.{host, HostPlan}
+use Rattle.mx_plan.specs.Clauses.{CarriesOut}
+use Rattle.mx_run.specs.WildRuns.{list_machine}
+use Rattle.mx_files.specs.Answers.{AnswersAsList}
 use Rattle.mx_outcome.specs.declared.outcome.Outcome.{Outcome}
 use Rattle.mx_outcome.specs.declared.outcome.Outcome.TheVariants.{OutOfMemory}
+use Rattle.mx_top.specs.Causes.{FailsOnlyBy}
 use Rattle.mx_top.specs.ProgramCalls.{program, ProgramPlan}
+use Rattle.mx_top.specs.WorkKinds.{answer_by}
 use Rattle.mx_top.specs.ProductPlan.{message_plan, reports_plan}
 
 -- Over a host that tells its contents, the plan is carried out: unless there was no memory, the outcome and the contents are its
@@ -16,6 +22,22 @@ use Rattle.mx_top.specs.ProductPlan.{message_plan, reports_plan}
 abbrev pub CarriesOutWork : Option HostModel → Option HostModel → Outcome → ProgramPlan Outcome → Type 0
 CarriesOutWork old new result plan = IsTrue (tells old) → Comes program (contents old) (contents new) OutOfMemory result plan
 
+-- So it is over a window of registers; and over the unbounded list that this stands for, up to what is wild.
+pub record CarriesOutBoth (old new : Option HostModel) (result : Outcome) (plan : ProgramPlan Outcome) : Type 0 where
+  pub window : CarriesOutWork old new result plan
+  pub list : AnswersAsList old new result (λ m. answer_by list_machine plan m)
+
+-- A part of the work, of the host before and after: its plan is carried out over both, and it fails only so.
+pub record Performs {H : Type 0} (told : H → Option HostModel) (faults : H → ℕ) (old new : H) (result : Outcome) (plan : ProgramPlan Outcome) : Type 0 where
+  pub both : CarriesOutBoth (told old) (told new) result plan
+  pub causes : FailsOnlyBy told faults old new result
+
+-- What follows an outcome: nothing, where that is that there was no memory, and else a plan of the host.
+pub record Follows {H : Type 0} (told : H → Option HostModel) (faults : H → ℕ) (old new : H) (outcome result : Outcome) (work : HostPlan Outcome) : Type 0 where
+  pub lacked : outcome ≡ OutOfMemory → (result ≡ OutOfMemory) × (new ≡ old)
+  pub plan : outcome ≢ OutOfMemory → CarriesOut (told old) (told new) OutOfMemory result work
+  pub causes : FailsOnlyBy told faults old new result
+
 -- Over such a host an outcome is told: the plan comes to its end, or memory runs out in it, which is then the outcome. Its own
 -- end may be that too: that there was no memory is told as any other outcome.
 abbrev pub Tells : HostModel → HostModel → Outcome → HostPlan Outcome → Type 0
@@ -23,6 +45,12 @@ Tells old new result plan = ((result, new) ≡ end_of host plan old) ⊎ ((resul
 
 abbrev pub TellsBy : Option HostModel → Option HostModel → Outcome → HostPlan Outcome → Type 0
 TellsBy old new result plan = IsTrue (tells old) → Tells (contents old) (contents new) result plan
+
+-- What is written to the tool's standard error, of the host before and after, over every host: where slot 260 leads there, standard
+-- output is what it was; and what every function keeps is kept.
+pub record KeepsSaying {H : Type 0} (told : H → Option HostModel) (faults : H → ℕ) (old new : H) : Type 0 where
+  pub output : slot_at (contents (told old)) 260 ≡ to_errors → KeepsOutput (told old) (told new)
+  pub keeps : Keeps (told old) (told new) (faults old) (faults new)
 
 -- whether a write lacked memory
 abbrev pub is_lacking : Result (Unit {0}) HostFault → Bool

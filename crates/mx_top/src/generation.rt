@@ -1,20 +1,14 @@
 //! A source that is generated, and run.
 
 ghost use Rattle.std.specs.Prelude.{◌≡◌, ◌≢◌, ◌≤◌, ◌+◌, ◌*◌, ◌∷◌, [], Ok, IfOk, false, codes, length};
-ghost use Rattle.mx_core.specs.Bounds.{as_list_state};
 ghost use Rattle.mx_core.specs.Kept.{state_of};
 ghost use Rattle.mx_start.specs.Start.{pool, pool_octas};
 ghost use Rattle.mx_load.specs.Kept.{image_of};
 ghost use Rattle.mx_ring.specs.Stack.{stack_address};
-ghost use Rattle.mx_run.specs.WildRuns.{list_machine};
-ghost use Rattle.mx_files.specs.Answers.{AnswersAs, AnswersAsList};
-ghost use Rattle.mx_outcome.specs.Kinds.{is_usage};
 ghost use Rattle.law_gen.specs.Generator as generator;
-ghost use Rattle.mx_top.specs.Product as spec;
-ghost use Rattle.mx_top.specs.Runs.{ran};
-ghost use Rattle.mx_top.specs.Causes.{FailsOnlyBy};
+ghost use Rattle.mx_top.specs.Causes.{FailsOnlyBy, IsOfMachine};
 ghost use Rattle.mx_top.specs.ProductPlan as plans;
-ghost use Rattle.mx_top.specs.WorkClauses.{CarriesOutWork};
+ghost use Rattle.mx_top.specs.WorkClauses.{Follows, Performs};
 ghost use Rattle.mx_plan.specs.Clauses.{CarriesOut};
 
 use crate::generator::{generated, summary};
@@ -43,8 +37,6 @@ fn put_summary<H: Host>(
 ) -> Outcome
     ensures plan { CarriesOut (H.told host.old) (H.told host.new) Outcome.OutOfMemory result
         (plans.summed_plan blocks size (Outcome.Done 0) (state_of machine.now)) }
-    ensures told { AnswersAs (H.told host.old) (H.told host.new) result
-        (λ m. spec.summary_put blocks size (state_of machine.now) m) }
     ensures causes { FailsOnlyBy H.told H.faults host.old host.new result }
 {
     let line = match summary(alloc, blocks, size, machine.steps(), machine.register(255)) {
@@ -73,16 +65,9 @@ fn sum_up<H: Host>(
     machine: &Machine,
     outcome: Outcome,
 ) -> Outcome
-    requires well { outcome ≢ Outcome.HostFault }
-    requires present { outcome ≢ Outcome.NoFile }
-    requires words { is_usage outcome ≡ false }
-    ensures memory { outcome ≡ Outcome.OutOfMemory → (result ≡ Outcome.OutOfMemory) × (host.new ≡ host.old) }
-    ensures plan { outcome ≢ Outcome.OutOfMemory →
-        CarriesOut (H.told host.old) (H.told host.new) Outcome.OutOfMemory result
+    requires { IsOfMachine outcome }
+    ensures { Follows H.told H.faults host.old host.new outcome result
         (plans.summed_plan blocks size outcome (state_of machine.now)) }
-    ensures list { (state_of machine.now).touched ≡ false → AnswersAs (H.told host.old) (H.told host.new) result
-        (λ m. spec.summed blocks size (ran outcome (as_list_state (state_of machine.now)) m)) }
-    ensures causes { FailsOnlyBy H.told H.faults host.old host.new result }
 {
     if !is_done(outcome) {
         return outcome;
@@ -99,11 +84,8 @@ fn run_summed<H: Host>(
     machine: Machine,
 ) -> Outcome
     requires { (state_of machine).touched ≡ false }
-    ensures plan { CarriesOutWork (H.told host.old) (H.told host.new) result
+    ensures { Performs H.told H.faults host.old host.new result
         (plans.summed_run blocks size (state_of machine)) }
-    ensures listed { AnswersAsList (H.told host.old) (H.told host.new) result
-        (λ m. spec.summed_from list_machine blocks size (Ok (as_list_state (state_of machine))) m) }
-    ensures causes { FailsOnlyBy H.told H.faults host.old host.new result }
 {
     let mut runner = Runner::new(alloc, machine);
     let end = runner.go(host, STEP_BOUND, false);
@@ -136,11 +118,8 @@ fn run_generated<H: Host>(
     size: u64,
     image: Image,
 ) -> Outcome
-    ensures plan { CarriesOutWork (H.told host.old) (H.told host.new) result
+    ensures { Performs H.told H.faults host.old host.new result
         (plans.generated_meaning order.now size (Ok (image_of image))) }
-    ensures listed { AnswersAsList (H.told host.old) (H.told host.new) result
-        (λ m. spec.generated_run list_machine order.now size (Ok (image_of image)) m) }
-    ensures causes { FailsOnlyBy H.told H.faults host.old host.new result }
 {
     let arguments = match generator_arguments(alloc) {
         Ok(arguments) => arguments,
@@ -154,11 +133,7 @@ fn run_generated<H: Host>(
 
 /// Runs a source that was generated.
 fn run_text<H: Host>(alloc: Global, host: &mut H, order: &Order, text: &[u8]) -> Outcome
-    ensures plan { CarriesOutWork (H.told host.old) (H.told host.new) result
-        (plans.generated_plan order.now text.now) }
-    ensures listed { AnswersAsList (H.told host.old) (H.told host.new) result
-        (λ m. spec.source_generated list_machine order.now text.now m) }
-    ensures causes { FailsOnlyBy H.told H.faults host.old host.new result }
+    ensures { Performs H.told H.faults host.old host.new result (plans.generated_plan order.now text.now) }
 {
     match load_source(alloc, text) {
         Ok(image) => run_generated(alloc, host, order, text.len() as u64, image),
@@ -170,11 +145,8 @@ fn run_text<H: Host>(alloc: Global, host: &mut H, order: &Order, text: &[u8]) ->
 /// Generates a source with as many blocks as are ordered, runs it, and writes what came of it.
 pub fn generate<H: Host>(alloc: Global, host: &mut H, order: &Order) -> Outcome
     requires { order.now.number ≤ 10000 }
-    ensures plan { CarriesOutWork (H.told host.old) (H.told host.new) result
+    ensures { Performs H.told H.faults host.old host.new result
         (plans.taking (plans.generated_plan order.now (generator.generated order.now.number))) }
-    ensures listed { AnswersAsList (H.told host.old) (H.told host.new) result
-        (λ m. spec.source_generated list_machine order.now (generator.generated order.now.number) m) }
-    ensures causes { FailsOnlyBy H.told H.faults host.old host.new result }
 {
     match generated(alloc, order.number) {
         Ok(text) => run_text(alloc, host, order, text.as_slice()),

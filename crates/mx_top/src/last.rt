@@ -1,20 +1,14 @@
 //! The last steps of a run, taken back.
 
-ghost use Rattle.std.specs.Prelude.{◌≡◌, ◌≢◌, ◌≤◌, ◌∷◌, [], false, IfOk, length, min, take};
+ghost use Rattle.std.specs.Prelude.{◌≡◌, ◌≤◌, ◌∷◌, [], false, IfOk, length, min, take};
 ghost use Rattle.mx_back.specs.History.{AreNotesOf, states_before};
-ghost use Rattle.mx_back.specs.KeptLists.{AreUntouched, as_lists};
-ghost use Rattle.mx_core.specs.Bounds.{as_list_state};
 ghost use Rattle.mx_core.specs.Kept.{state_of};
-ghost use Rattle.mx_files.specs.Answers.{AnswersAs, AnswersAsList};
-ghost use Rattle.mx_outcome.specs.Kinds.{is_usage};
 ghost use Rattle.mx_files.specs.Clauses.{Works};
 ghost use Rattle.mx_files.specs.FilePlans.{lines_plan};
-ghost use Rattle.mx_plan.specs.Clauses.{CarriesOut};
-ghost use Rattle.mx_run.specs.WildRuns.{list_machine};
-ghost use Rattle.mx_top.specs.Causes.{FailsOnlyBy};
+ghost use Rattle.mx_top.specs.Causes.{IsOfMachine};
 ghost use Rattle.mx_top.specs.ProductPlan as plans;
 ghost use Rattle.mx_top.specs.Runs as spec;
-ghost use Rattle.mx_top.specs.WorkClauses.{CarriesOutWork};
+ghost use Rattle.mx_top.specs.WorkClauses.{Follows, Performs};
 
 use crate::ending::tell_end;
 use crate::run::outcome_of;
@@ -109,20 +103,10 @@ fn tell_back<H: Host>(
     outcome: Outcome,
 ) -> Outcome
     requires noted { AreNotesOf back.old (state_of machine.old) }
-    requires well { outcome ≢ Outcome.HostFault }
-    requires present { outcome ≢ Outcome.NoFile }
-    requires words { is_usage outcome ≡ false }
-    ensures memory { outcome ≡ Outcome.OutOfMemory → (result ≡ Outcome.OutOfMemory) × (host.new ≡ host.old) }
-    ensures plan { outcome ≢ Outcome.OutOfMemory →
-        CarriesOut (H.told host.old) (H.told host.new) Outcome.OutOfMemory result
+    requires machine { IsOfMachine outcome }
+    ensures { Follows H.told H.faults host.old host.new outcome result
         (plans.back_plan order.now.dump outcome (take order.now.last (states_before back.old (state_of machine.old)))
         (state_of machine.old)) }
-    ensures list { (state_of machine.old).touched ≡ false →
-        AreUntouched (states_before back.old (state_of machine.old)) →
-        AnswersAs (H.told host.old) (H.told host.new) result (λ m. spec.dumped order.now.dump
-        (spec.taken_back (take order.now.last (as_lists (states_before back.old (state_of machine.old))))
-        (spec.ran outcome (as_list_state (state_of machine.old)) m))) }
-    ensures causes { FailsOnlyBy H.told H.faults host.old host.new result }
 {
     if !takes_back(outcome) {
         return tell_end(alloc, host, order.dump, machine, outcome);
@@ -137,12 +121,7 @@ fn tell_back<H: Host>(
 /// Makes the steps of a machine that was started, in one run whose last steps are kept, and takes some of them back.
 pub fn run_back<H: Host>(alloc: Global, host: &mut H, order: &Order, machine: Machine) -> Outcome
     requires { (state_of machine).touched ≡ false }
-    ensures plan { CarriesOutWork (H.told host.old) (H.told host.new) result
-        (plans.kept_plan order.now (state_of machine)) }
-    ensures listed { AnswersAsList (H.told host.old) (H.told host.new) result
-        (λ m. spec.dumped order.now.dump (spec.run_back list_machine order.now.last order.now.steps
-        (as_list_state (state_of machine)) m)) }
-    ensures causes { FailsOnlyBy H.told H.faults host.old host.new result }
+    ensures { Performs H.told H.faults host.old host.new result (plans.kept_plan order.now (state_of machine)) }
 {
     let mut machine = machine;
     let mut back = match Back::new(alloc) {

@@ -1,14 +1,12 @@
 //! The reports of watchers, behind the message.
 
 ghost use Rattle.std.specs.Prelude.{◌≡◌, ◌≢◌, Err, IfOk, map, string_bytes};
-ghost use Rattle.mx_host.specs.HostModel.{contents, slot_at, to_errors};
-ghost use Rattle.mx_host.specs.Keeping.{Keeps, KeepsOutput};
 ghost use Rattle.mx_words.specs.Orders.{order_of};
 ghost use Rattle.mx_plan.specs.Calls.{write_plan};
 ghost use Rattle.mx_plan.specs.Clauses.{CarriesOut};
 ghost use Rattle.mx_top.specs.ProductPlan as plans;
 ghost use Rattle.mx_top.specs.Reports as spec;
-ghost use Rattle.mx_top.specs.WorkClauses.{TellsBy};
+ghost use Rattle.mx_top.specs.WorkClauses.{KeepsSaying, TellsBy};
 ghost use Rattle.mx_top.specs.WorkClauses.{is_lacking as lacks_memory};
 
 use mx_host::{Host, HostFault};
@@ -50,9 +48,7 @@ pub fn found_reports(
 pub fn write_error<H: Host>(host: &mut H, text: &[u8]) -> Result<(), HostFault>
     ensures plan { CarriesOut (H.told host.old) (H.told host.new) (Err HostFault.OutOfMemory) result
         (write_plan 260 text.now) }
-    ensures output { slot_at (contents (H.told host.old)) 260 ≡ to_errors →
-        KeepsOutput (H.told host.old) (H.told host.new) }
-    ensures keeps { Keeps (H.told host.old) (H.told host.new) (H.faults host.old) (H.faults host.new) }
+    ensures keeps { KeepsSaying H.told H.faults host.old host.new }
 {
     host.write_slot(260, text)
 }
@@ -63,9 +59,7 @@ pub fn write_error<H: Host>(host: &mut H, text: &[u8]) -> Result<(), HostFault>
 fn put_report<H: Host>(host: &mut H, text: &[u8]) -> Result<(), HostFault>
     ensures plan { CarriesOut (H.told host.old) (H.told host.new) (Err HostFault.OutOfMemory) result
         (plans.report_plan text.now) }
-    ensures output { slot_at (contents (H.told host.old)) 260 ≡ to_errors →
-        KeepsOutput (H.told host.old) (H.told host.new) }
-    ensures keeps { Keeps (H.told host.old) (H.told host.new) (H.faults host.old) (H.faults host.new) }
+    ensures keeps { KeepsSaying H.told H.faults host.old host.new }
 {
     if text.is_empty() {
         return Ok(());
@@ -89,9 +83,7 @@ pub fn is_lacking(written: Result<(), HostFault>) -> bool
 pub fn put_reports<H: Host>(host: &mut H, texts: &[Bytes], outcome: Outcome) -> Outcome
     ensures plan { TellsBy (H.told host.old) (H.told host.new) result (plans.reports_plan outcome texts.now) }
     ensures same { result ≢ Outcome.OutOfMemory → result ≡ outcome }
-    ensures output { slot_at (contents (H.told host.old)) 260 ≡ to_errors →
-        KeepsOutput (H.told host.old) (H.told host.new) }
-    ensures keeps { Keeps (H.told host.old) (H.told host.new) (H.faults host.old) (H.faults host.new) }
+    ensures keeps { KeepsSaying H.told H.faults host.old host.new }
 {
     for text in texts {
         if is_lacking(put_report(host, text.as_slice())) {

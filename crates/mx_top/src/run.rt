@@ -1,18 +1,16 @@
 //! A machine that was started, and runs.
 
-ghost use Rattle.std.specs.Prelude.{◌≡◌, ◌≢◌, Ok, false, map};
+ghost use Rattle.std.specs.Prelude.{◌≡◌, Ok, false, map};
 ghost use Rattle.mx_core.specs.Bounds.{as_list_state};
 ghost use Rattle.mx_core.specs.Kept.{state_of};
 ghost use Rattle.mx_run.specs.WildRuns.{window_machine, list_machine};
-ghost use Rattle.mx_files.specs.Answers.{AnswersAsList};
-ghost use Rattle.mx_outcome.specs.Kinds.{is_usage};
 ghost use Rattle.mx_top.specs.Reports as reports;
 ghost use Rattle.mx_top.specs.Reports.{HearsBoth};
 ghost use Rattle.mx_top.specs.Runs as spec;
 ghost use Rattle.mx_watch.specs.Traces.{traces};
-ghost use Rattle.mx_top.specs.Causes.{FailsOnlyBy};
+ghost use Rattle.mx_top.specs.Causes.{IsOfMachine};
 ghost use Rattle.mx_top.specs.ProductPlan as plans;
-ghost use Rattle.mx_top.specs.WorkClauses.{CarriesOutWork};
+ghost use Rattle.mx_top.specs.WorkClauses.{Performs};
 
 use crate::console::run_session;
 use crate::ending::tell_end;
@@ -29,9 +27,7 @@ use std::alloc::Global;
 pub fn outcome_of(steps: u64, end: End) -> Outcome
     ensures value { result ≡ spec.outcome_of steps end }
     ensures memory { end ≡ End.OutOfMemory → result ≡ Outcome.OutOfMemory }
-    ensures well { result ≢ Outcome.HostFault }
-    ensures present { result ≢ Outcome.NoFile }
-    ensures words { is_usage result ≡ false }
+    ensures machine { IsOfMachine result }
 {
     match end {
         End::Halted(status) => Outcome::Done(status),
@@ -44,12 +40,8 @@ pub fn outcome_of(steps: u64, end: End) -> Outcome
 /// Makes the steps of a machine that was started, in one run.
 fn run_steps<H: Host>(alloc: Global, host: &mut H, order: &Order, machine: Machine) -> Outcome
     requires { (state_of machine).touched ≡ false }
-    ensures plan { CarriesOutWork (H.told host.old) (H.told host.new) result
+    ensures { Performs H.told H.faults host.old host.new result
         (plans.stepped_plan order.now (state_of machine)) }
-    ensures listed { AnswersAsList (H.told host.old) (H.told host.new) result
-        (λ m. spec.dumped order.now.dump
-        (spec.machine_ran list_machine order.now.steps (as_list_state (state_of machine)) m)) }
-    ensures causes { FailsOnlyBy H.told H.faults host.old host.new result }
 {
     let mut runner = Runner::new(alloc, machine);
     let end = runner.go(host, order.steps, false);
@@ -72,18 +64,14 @@ fn run_told<H: Host>(
     kept: &mut Reports,
 ) -> Outcome
     requires { (state_of machine).touched ≡ false }
-    ensures plan { CarriesOutWork (H.told host.old) (H.told host.new) result
+    ensures part { Performs H.told H.faults host.old host.new result
         (plans.watched_plan order.now (state_of machine)) }
-    ensures listed { AnswersAsList (H.told host.old) (H.told host.new) result
-        (λ m. spec.dumped order.now.dump
-        (spec.machine_ran list_machine order.now.steps (as_list_state (state_of machine)) m)) }
     ensures heard { HearsBoth (H.told host.old) result (map meaning watchers.old.items)
         (map meaning watchers.new.items) kept.old kept.new
         (λ m. traces window_machine order.now.steps (state_of machine) m)
         (λ m. spec.dumped order.now.dump
         (spec.machine_ran list_machine order.now.steps (as_list_state (state_of machine)) m))
         (λ m. traces list_machine order.now.steps (as_list_state (state_of machine)) m) }
-    ensures causes { FailsOnlyBy H.told H.faults host.old host.new result }
 {
     let mut machine = machine;
     let end = watched_run(alloc, &mut machine, host, order.steps, watchers, kept);
@@ -108,16 +96,13 @@ pub fn run_machine<H: Host>(
     kept: &mut Reports,
 ) -> Outcome
     requires { (state_of machine).touched ≡ false }
-    ensures plan { CarriesOutWork (H.told host.old) (H.told host.new) result
+    ensures part { Performs H.told H.faults host.old host.new result
         (plans.machine_plan order.now (state_of machine)) }
-    ensures listed { AnswersAsList (H.told host.old) (H.told host.new) result
-        (λ m. spec.run_from list_machine order.now (Ok (as_list_state (state_of machine))) m) }
     ensures heard { HearsBoth (H.told host.old) result (map meaning watchers.old.items)
         (map meaning watchers.new.items) kept.old kept.new
         (λ m. reports.order_traces window_machine order.now (state_of machine) m)
         (λ m. spec.run_from list_machine order.now (Ok (as_list_state (state_of machine))) m)
         (λ m. reports.order_traces list_machine order.now (as_list_state (state_of machine)) m) }
-    ensures causes { FailsOnlyBy H.told H.faults host.old host.new result }
 {
     if order.interactive {
         run_session(alloc, host, order, machine)

@@ -1,20 +1,14 @@
 //! An object that several processors run by a schedule.
 
-ghost use Rattle.std.specs.Prelude.{◌≡◌, ◌≢◌, ◌≤◌, ◌<◌, false};
+ghost use Rattle.std.specs.Prelude.{◌≡◌, ◌≤◌, ◌<◌};
 ghost use Rattle.mx_load.specs.Kept.{image_of};
-ghost use Rattle.mx_multi.specs.Joint.{NoneTouched, as_list_joint, joint_of, processor_count};
-ghost use Rattle.mx_multi.specs.Turns.{AreNames, turns_ended};
-ghost use Rattle.mx_run.specs.WildRuns.{list_machine};
-ghost use Rattle.mx_files.specs.Answers.{AnswersAs, AnswersAsList};
-ghost use Rattle.mx_outcome.specs.Kinds.{is_usage};
-ghost use Rattle.mx_files.specs.Schedules.{AreEight, schedule_bytes};
-ghost use Rattle.mx_begin.specs.Begun.{image_read};
+ghost use Rattle.mx_multi.specs.Joint.{NoneTouched, joint_of, processor_count};
+ghost use Rattle.mx_multi.specs.Turns.{AreNames};
+ghost use Rattle.mx_files.specs.Schedules.{AreEight};
 ghost use Rattle.mx_top.specs.Processors as spec;
-ghost use Rattle.mx_top.specs.Product as product;
-ghost use Rattle.mx_top.specs.Causes.{FailsOnlyBy};
+ghost use Rattle.mx_top.specs.Causes.{IsOfMachine};
 ghost use Rattle.mx_top.specs.ProductPlan as plans;
-ghost use Rattle.mx_top.specs.WorkClauses.{CarriesOutWork};
-ghost use Rattle.mx_plan.specs.Clauses.{CarriesOut};
+ghost use Rattle.mx_top.specs.WorkClauses.{Follows, Performs};
 
 use crate::processors::put_all;
 use mx_begin::{Form, read_image};
@@ -57,9 +51,7 @@ fn processors_named(schedule: &[u8]) -> u8
 fn multi_outcome(steps: u64, end: MultiEnd) -> Outcome
     ensures value { result ≡ spec.multi_outcome steps end }
     ensures memory { result ≡ Outcome.OutOfMemory → end ≡ MultiEnd.OutOfMemory }
-    ensures well { result ≢ Outcome.HostFault }
-    ensures present { result ≢ Outcome.NoFile }
-    ensures words { is_usage result ≡ false }
+    ensures machine { IsOfMachine result }
 {
     match end {
         MultiEnd::AllHalted => Outcome::Done(0),
@@ -79,16 +71,11 @@ fn tell_turns<H: Host>(
     count: u8,
 ) -> Outcome
     requires { processor_count multi.now ≡ count }
-    ensures memory { end ≡ MultiEnd.OutOfMemory → (result ≡ Outcome.OutOfMemory) × (host.new ≡ host.old) }
-    ensures plan { end ≢ MultiEnd.OutOfMemory →
-        CarriesOut (H.told host.old) (H.told host.new) Outcome.OutOfMemory result
+    ensures { Follows H.told H.faults host.old host.new (spec.multi_outcome order.now.steps end) result
         (plans.telling (spec.multi_outcome order.now.steps end)
         (spec.multi_lines order.now.dump end (joint_of multi.now))) }
-    ensures list { AnswersAs (H.told host.old) (H.told host.new) result
-        (λ m. spec.turns_told order.now.dump order.now.steps (turns_ended end (as_list_joint (joint_of multi.now)) m)) }
-    ensures causes { FailsOnlyBy H.told H.faults host.old host.new result }
 {
-    if end == MultiEnd::OutOfMemory {
+    if let MultiEnd::OutOfMemory = end {
         return Outcome::OutOfMemory;
     }
     match put_all(alloc, host, multi, end, count, order.dump) {
@@ -109,11 +96,8 @@ fn run_started<H: Host>(
     requires count { processor_count multi ≡ count }
     requires names { AreNames count schedule.now }
     requires untouched { NoneTouched (joint_of multi).processors }
-    ensures plan { CarriesOutWork (H.told host.old) (H.told host.new) result
+    ensures { Performs H.told H.faults host.old host.new result
         (plans.joint_plan order.now schedule.now (joint_of multi)) }
-    ensures listed { AnswersAsList (H.told host.old) (H.told host.new) result
-        (λ m. spec.joint_run list_machine order.now schedule.now (as_list_joint (joint_of multi)) m) }
-    ensures causes { FailsOnlyBy H.told H.faults host.old host.new result }
 {
     let mut multi = multi;
     let end = run_turns(&mut multi, host, schedule, order.steps);
@@ -129,11 +113,8 @@ fn run_image<H: Host>(
     image: Image,
 ) -> Outcome
     requires { AreEight schedule.now }
-    ensures plan { CarriesOutWork (H.told host.old) (H.told host.new) result
+    ensures { Performs H.told H.faults host.old host.new result
         (plans.image_turns_plan order.now schedule.now (image_of image)) }
-    ensures listed { AnswersAsList (H.told host.old) (H.told host.new) result
-        (λ m. spec.image_turns list_machine order.now schedule.now (image_of image) m) }
-    ensures causes { FailsOnlyBy H.told H.faults host.old host.new result }
 {
     let count = processors_named(schedule);
     match Multi::start(alloc, image, count, order.ring) {
@@ -151,11 +132,8 @@ fn object_file<H: Host>(
     name: &[u8],
 ) -> Outcome
     requires { AreEight schedule.now }
-    ensures plan { CarriesOutWork (H.told host.old) (H.told host.new) result
+    ensures { Performs H.told H.faults host.old host.new result
         (plans.turns_file_plan order.now name.now schedule.now) }
-    ensures listed { AnswersAsList (H.told host.old) (H.told host.new) result
-        (λ m. product.image_turned list_machine order.now schedule.now (image_read Form.Object name.now m)) }
-    ensures causes { FailsOnlyBy H.told H.faults host.old host.new result }
 {
     match read_image(alloc, host, Form::Object, name) {
         Ok(image) => run_image(alloc, host, order, schedule, image),
@@ -171,11 +149,8 @@ pub fn multi_file<H: Host>(
     schedule: &[u8],
     object: &[u8],
 ) -> Outcome
-    ensures plan { CarriesOutWork (H.told host.old) (H.told host.new) result
+    ensures { Performs H.told H.faults host.old host.new result
         (plans.multi_plan order.now schedule.now object.now) }
-    ensures listed { AnswersAsList (H.told host.old) (H.told host.new) result
-        (λ m. product.after_schedule list_machine order.now object.now (schedule_bytes schedule.now m)) }
-    ensures causes { FailsOnlyBy H.told H.faults host.old host.new result }
 {
     match read_schedule(alloc, host, schedule) {
         Ok(bytes) => object_file(alloc, host, order, bytes.as_slice(), object),

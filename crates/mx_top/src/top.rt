@@ -1,8 +1,6 @@
 //! The top call.
 
 ghost use Rattle.std.specs.Prelude.{◌≡◌, ◌≢◌, ◌≤◌, ◌<◌, length, map, string_bytes};
-ghost use Rattle.mx_host.specs.HostModel.{contents, slot_at, to_errors};
-ghost use Rattle.mx_host.specs.Keeping.{Keeps, KeepsOutput};
 ghost use Rattle.mx_run.specs.WildRuns.{list_machine};
 ghost use Rattle.mx_words.specs.Orders.{order_of};
 ghost use Rattle.mx_files.specs.Answers.{AnswersAsList};
@@ -13,7 +11,7 @@ ghost use Rattle.mx_top.specs.Reports.{HearsByKind};
 ghost use Rattle.mx_top.specs.Causes.{Causes, FailsOnlyBy};
 ghost use Rattle.mx_top.specs.ProgramClauses.{AnswersOverList, AnswersOverListWatched, Produces, ProducesWatched};
 ghost use Rattle.mx_top.specs.ProductPlan as plans;
-ghost use Rattle.mx_top.specs.WorkClauses.{CarriesOutWork, TellsAll, TellsBy};
+ghost use Rattle.mx_top.specs.WorkClauses.{CarriesOutWork, KeepsSaying, TellsAll, TellsBy};
 
 use crate::generation::generate;
 use crate::reports::{found_reports, is_lacking, put_reports, write_error};
@@ -135,9 +133,7 @@ fn carry_out<H: Host>(
 fn tell<H: Host>(alloc: Global, host: &mut H, outcome: Outcome) -> Outcome
     ensures plan { TellsBy (H.told host.old) (H.told host.new) result (plans.message_plan outcome) }
     ensures same { result ≢ Outcome.OutOfMemory → result ≡ outcome }
-    ensures output { slot_at (contents (H.told host.old)) 260 ≡ to_errors →
-        KeepsOutput (H.told host.old) (H.told host.new) }
-    ensures keeps { Keeps (H.told host.old) (H.told host.new) (H.faults host.old) (H.faults host.new) }
+    ensures keeps { KeepsSaying H.told H.faults host.old host.new }
 {
     match message(alloc, outcome) {
         Ok(text) => say(host, outcome, text.as_slice()),
@@ -149,9 +145,7 @@ fn tell<H: Host>(alloc: Global, host: &mut H, outcome: Outcome) -> Outcome
 fn say<H: Host>(host: &mut H, outcome: Outcome, text: &[u8]) -> Outcome
     ensures plan { TellsBy (H.told host.old) (H.told host.new) result (plans.said_plan outcome text.now) }
     ensures same { result ≢ Outcome.OutOfMemory → result ≡ outcome }
-    ensures output { slot_at (contents (H.told host.old)) 260 ≡ to_errors →
-        KeepsOutput (H.told host.old) (H.told host.new) }
-    ensures keeps { Keeps (H.told host.old) (H.told host.new) (H.faults host.old) (H.faults host.new) }
+    ensures keeps { KeepsSaying H.told H.faults host.old host.new }
 {
     if text.is_empty() {
         return outcome;
@@ -167,9 +161,7 @@ fn say<H: Host>(host: &mut H, outcome: Outcome, text: &[u8]) -> Outcome
 fn finish<H: Host>(alloc: Global, host: &mut H, outcome: Outcome, texts: &[Bytes]) -> Outcome
     ensures plan { TellsAll (H.told host.old) (H.told host.new) result outcome texts.now }
     ensures same { result ≢ Outcome.OutOfMemory → result ≡ outcome }
-    ensures output { slot_at (contents (H.told host.old)) 260 ≡ to_errors →
-        KeepsOutput (H.told host.old) (H.told host.new) }
-    ensures keeps { Keeps (H.told host.old) (H.told host.new) (H.faults host.old) (H.faults host.new) }
+    ensures keeps { KeepsSaying H.told H.faults host.old host.new }
 {
     let told = tell(alloc, host, outcome);
     put_reports(host, texts, told)

@@ -1,10 +1,7 @@
-use Rattle.std.proofs.Common.{[], ◌∷◌, refl}
-use Rattle.mx_core.specs.Kept.{state_of}
-use Rattle.mx_ring.specs.Stack.{register}
-use Rattle.law_gen.specs.Generator.{summary}
+use Rattle.std.proofs.Common.{refl}
 use Rattle.mx_outcome.specs.declared.outcome.Outcome.TheVariants.{Done}
 use Rattle.mx_files.proofs.WrittenLines.{writes-line, writes-lacking}
-use Rattle.mx_top.proofs.Dumped.{written-plan, written-answer}
+use Rattle.mx_top.proofs.Dumped.{written-plan}
 use Rattle.mx_top.proofs.Caused.{fails-lines, fails-written}
 use Rattle.mx_top.proofs.generation.put_summary.Goals as goal
 
@@ -15,22 +12,12 @@ pub returns-in-Ok-write_line-clause-plan : goal.returns-in-Ok-write_line-clause-
 returns-in-Ok-write_line-clause-plan g c =
     written-plan _ _ _ _ (Done 0) _ _ _ (λ e. cc) refl (writes-line _ _ _ _ _ _ _ (cc (c.as_slice.ensures, c.in-Ok.ensures, c.steps.ensures, c.register.ensures)) c.in-Ok-write_line.ensures)
 
-pub returns-in-Ok-write_line-clause-told : goal.returns-in-Ok-write_line-clause-told
-returns-in-Ok-write_line-clause-told g c =
-    written-answer _ _ _ _ (Done 0) _ (summary c.args.blocks c.args.size (state_of c.args.machine.now).steps (register (state_of c.args.machine.now).stack 255) ∷ []) _ refl
-    (writes-line _ _ _ _ _ _ _ (cc (c.as_slice.ensures, c.in-Ok.ensures, c.steps.ensures, c.register.ensures)) c.in-Ok-write_line.ensures)
-
 pub returns-clause-plan : goal.returns-clause-plan
 returns-clause-plan g c =
     written-plan _ _ _ _ (Done 0) _ _ _ (λ e. cc) refl (writes-line _ _ _ _ _ _ _ (cc (c.as_slice.ensures, c.in-Ok.ensures, c.steps.ensures, c.register.ensures)) c.in-Err-write_line.ensures)
 
-pub returns-clause-told : goal.returns-clause-told
-returns-clause-told g c =
-    written-answer _ _ _ _ (Done 0) _ (summary c.args.blocks c.args.size (state_of c.args.machine.now).steps (register (state_of c.args.machine.now).stack 255) ∷ []) _ refl
-    (writes-line _ _ _ _ _ _ _ (cc (c.as_slice.ensures, c.in-Ok.ensures, c.steps.ensures, c.register.ensures)) c.in-Err-write_line.ensures)
-
 pub returns-in-Ok-write_line-clause-causes : goal.returns-in-Ok-write_line-clause-causes
-returns-in-Ok-write_line-clause-causes g c = fails-written g.H.Host.told g.H.Host.faults _ _ (Done 0) _ (λ e. cc) (λ e. cc) refl (writes-line _ _ _ _ _ _ _ refl c.in-Ok-write_line.ensures)
+returns-in-Ok-write_line-clause-causes g c = fails-written g.H.Host.told g.H.Host.faults _ _ (Done 0) _ (λ e. cc, λ e. cc, refl) (writes-line _ _ _ _ _ _ _ refl c.in-Ok-write_line.ensures)
 
 pub returns-clause-causes : goal.returns-clause-causes
 returns-clause-causes g c = fails-lines g.H.Host.told g.H.Host.faults _ _ _ _ (writes-line _ _ _ _ _ _ _ refl c.in-Err-write_line.ensures)

@@ -6,3 +6,6 @@ returns-then-is_empty-clause-plan g c = report-none _ _ (empty-text _ c.if-is_em
 
 pub returns-clause-plan : goal.returns-clause-plan
 returns-clause-plan g c = report-written _ _ _ _ (filled-text _ c.if-is_empty.ensures) c.write_error.ensures.plan
+
+pub returns-clause-keeps : goal.returns-clause-keeps
+returns-clause-keeps g c = c.write_error.ensures.keeps

@@ -1,31 +1,35 @@
-use Rattle.std.proofs.Common.{◌≡◌, false, refl, subst, sym, ap}
+use Rattle.std.proofs.Common.{◌≡◌, ◌≢◌, false, subst, sym, ap}
 use Rattle.std.specs.Prelude.{IsTrue}
 use Rattle.mx_host.specs.HostModel.{contents}
-use Rattle.mx_core.specs.Bounds.{as_list_state}
 use Rattle.mx_core.specs.Kept.{Kept, state_of}
-use Rattle.mx_top.specs.Runs.{dumped}
-use Rattle.mx_top.proofs.MachineRuns.{list-goes}
+use Rattle.mx_outcome.specs.declared.outcome.Outcome.TheVariants.{OutOfMemory}
 use Rattle.mx_top.specs.ProductPlan.{stepped_plan, dumped_plan}
-use Rattle.mx_top.proofs.MachinePlans.{run-follows}
 use Rattle.mx_top.proofs.Caused.{fails-behind}
+use Rattle.mx_top.proofs.Dumped.{same-dumped}
+use Rattle.mx_top.proofs.ListedPlans.{run-listed}
+use Rattle.mx_top.proofs.MachinePlans.{run-follows}
 use Rattle.mx_top.proofs.run.run_steps.Goals as goal
 
-pub returns-clause-listed : goal.returns-clause-listed
-returns-clause-listed g c = λ t ne.
-    let there = subst IsTrue (sym c.go-end.ensures.keeps.telling) t in
-    let untouched = subst (λ (k : Kept). (state_of k).touched ≡ false) (sym c.new-runner.ensures.machine) c.requires in
-    let went = rw c.new-runner.ensures.machine at (c.go-end.ensures.listed t (λ e. ne (c.tell_end.ensures.memory (c.outcome_of.ensures.memory e)).0) untouched) in
-    list-goes c.args.order.now.steps _ (as_list_state (state_of c.args.machine)) (state_of c.go-end.new.self.machine) c.go-end.result _ _ _ c.outcome_of.result c.tell_end.result
-    (dumped c.args.order.now.dump) c.new-runner.ensures.flags c.outcome_of.ensures.value (λ m. refl) went (c.tell_end.ensures.causes.3.growing there)
-    (λ e. rw c.machine.ensures at (c.tell_end.ensures.list (subst (λ (k : Kept). (state_of k).touched ≡ false) (sym c.machine.ensures) e) there ne))
-
-pub returns-clause-plan : goal.returns-clause-plan
+pub returns : goal.returns
 unfolding stepped_plan
-returns-clause-plan g c = λ t.
-    let there = subst IsTrue (sym c.go-end.ensures.keeps.telling) t in
-    run-follows c.args.order.now.steps _ (state_of c.args.machine) (state_of c.go-end.new.self.machine) _ _ _ c.go-end.result c.outcome_of.result c.tell_end.result
-    (dumped_plan c.args.order.now.dump) c.new-runner.ensures.flags c.outcome_of.ensures.value (rw c.new-runner.ensures.machine at (c.go-end.ensures.plan t))
-    (λ e. let none = c.tell_end.ensures.memory e in (none.0, ap (λ h. contents (g.H.Host.told h)) none.1)) (λ ne. rw c.machine.ensures at (c.tell_end.ensures.plan ne there))
-
-pub returns-clause-causes : goal.returns-clause-causes
-returns-clause-causes g c = fails-behind g.H.Host.told g.H.Host.faults _ _ _ _ c.go-end.ensures.keeps c.tell_end.ensures.causes
+returns g c =
+    let after = state_of c.go-end.new.self.machine in
+    let told = c.tell_end.ensures in
+    let some : c.tell_end.result ≢ OutOfMemory → c.outcome_of.result ≢ OutOfMemory = λ ne e. ne (told.lacked e).0 in
+    record {
+      both = record {
+        window = λ t.
+            run-follows c.args.order.now.steps _ (state_of c.args.machine) after _ _ _ c.go-end.result c.outcome_of.result c.tell_end.result
+            (dumped_plan c.args.order.now.dump) c.new-runner.ensures.flags c.outcome_of.ensures.value (rw c.new-runner.ensures.machine at (c.go-end.ensures.plan t))
+            (λ e. let none = told.lacked e in (none.0, ap (λ h. contents (g.H.Host.told h)) none.1))
+            (λ ne. rw c.machine.ensures at (told.plan ne (subst IsTrue (sym c.go-end.ensures.keeps.telling) t)));
+        list = λ t ne.
+            let there = subst IsTrue (sym c.go-end.ensures.keeps.telling) t in
+            let untouched = subst (λ (k : Kept). (state_of k).touched ≡ false) (sym c.new-runner.ensures.machine) c.requires in
+            run-listed c.args.order.now.steps _ (state_of c.args.machine) after _ _ _ c.go-end.result c.outcome_of.result c.tell_end.result
+            (dumped_plan c.args.order.now.dump) c.new-runner.ensures.flags c.outcome_of.ensures.value
+            (rw c.new-runner.ensures.machine at (c.go-end.ensures.listed t (λ e. some ne (c.outcome_of.ensures.memory e)) untouched)) (told.causes.3.growing there)
+            (same-dumped c.args.order.now.dump c.outcome_of.result after) ((rw c.machine.ensures at (told.plan (some ne) there)).ending ne);
+      };
+      causes = fails-behind g.H.Host.told g.H.Host.faults _ _ _ _ c.go-end.ensures.keeps told.causes;
+    }

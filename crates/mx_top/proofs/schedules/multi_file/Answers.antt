@@ -3,14 +3,14 @@ use Rattle.mx_top.proofs.WorkParts.{schedule-turns, schedule-unread}
 use Rattle.mx_top.proofs.Caused.{fails-behind}
 use Rattle.mx_top.proofs.schedules.multi_file.Goals as goal
 
-pub returns-in-Ok-clause-plan : goal.returns-in-Ok-clause-plan
-returns-in-Ok-clause-plan g c = schedule-turns _ _ _ _ _ _ _ _ _ c.in-Ok.ensures.keeps.telling c.as_slice.ensures c.in-Ok.ensures.works.told c.object_file.ensures.plan
+pub returns-in-Ok : goal.returns-in-Ok
+returns-in-Ok g c = record {
+  both = schedule-turns _ _ _ _ _ _ _ _ _ c.in-Ok.ensures.keeps.telling c.as_slice.ensures c.in-Ok.ensures.works.told c.object_file.ensures.both;
+  causes = fails-behind g.H.Host.told g.H.Host.faults _ _ _ _ c.in-Ok.ensures.keeps c.object_file.ensures.causes;
+}
 
-pub returns-in-Err-clause-plan : goal.returns-in-Err-clause-plan
-returns-in-Err-clause-plan g c = schedule-unread _ _ _ _ _ _ c.in-Err.ensures.works.told
-
-pub returns-in-Ok-clause-causes : goal.returns-in-Ok-clause-causes
-returns-in-Ok-clause-causes g c = fails-behind g.H.Host.told g.H.Host.faults _ _ _ _ c.in-Ok.ensures.keeps c.object_file.ensures.causes
-
-pub returns-in-Err-clause-causes : goal.returns-in-Err-clause-causes
-returns-in-Err-clause-causes g c = (λ had e. c.in-Err.ensures.rose had (ap Err e), λ n e. c.in-Err.ensures.no_file n (ap Err e), c.in-Err.ensures.words, c.in-Err.ensures.keeps)
+pub returns-in-Err : goal.returns-in-Err
+returns-in-Err g c = record {
+  both = schedule-unread _ _ _ _ _ _ c.in-Err.ensures.works.told;
+  causes = (λ had e. c.in-Err.ensures.rose had (ap Err e), λ n e. c.in-Err.ensures.no_file n (ap Err e), c.in-Err.ensures.words, c.in-Err.ensures.keeps);
+}

@@ -49,7 +49,7 @@ returns-in-Ok-clause-product g c = record {
       let start = contents (g.H.Host.told c.args.host.now) in
       let here = contents (g.H.Host.told c.carry_out-outcome.new.host) in
       let said = c.carry_out-outcome.ensures in
-      front-of here.output _ _ _ (c.finish.ensures.output (said.causes.keeps.errors t to_stderr) (subst IsTrue (sym said.causes.keeps.telling) t)) refl
+      front-of here.output _ _ _ (c.finish.ensures.keeps.output (said.causes.keeps.errors t to_stderr) (subst IsTrue (sym said.causes.keeps.telling) t)) refl
       (spoken-front c.carry_out-outcome.result here (carried_out window_machine (map string_bytes c.args.words.now) (order_of (map string_bytes c.args.words.now)) start) (λ ne. ap plainly ((said.plan t).ending ne) ∙ work-end (map string_bytes c.args.words.now) (order_of (map string_bytes c.args.words.now)) start)
       (λ e. subst (λ (a : Answer). IsFront here.output (output_of a)) (work-end (map string_bytes c.args.words.now) (order_of (map string_bytes c.args.words.now)) start)
       (work-front (work_plan (map string_bytes c.args.words.now) (order_of (map string_bytes c.args.words.now))) here start ((said.plan t).stopping e))));
@@ -65,10 +65,10 @@ returns-in-Ok-clause-headline g c = λ t ne.
     (unless-by (carried_out list_machine (map string_bytes c.args.words.now) (order_of (map string_bytes c.args.words.now)) (contents (g.H.Host.told c.args.host.now))) _ _
     (λ e. c.as_slice.ensures ∙ c.in-Ok.ensures ∙ found-due list_machine (map string_bytes c.args.words.now) _ _ _ (order_of (map string_bytes c.args.words.now)) (contents (g.H.Host.told c.args.host.now)) _ (c.len-count.ensures ∙ c.args.watchers.now.ok.0 ∙ sym (length-map c.args.watchers.now.items _)) (from-none _ _ _ _ c.new-kept.ensures e))
     (said.heard.1 t wanting))
-    (telling-told _ _ _ _ _ (c.finish.ensures.plan there) ne) (c.finish.ensures.keeps.growing there)
+    (telling-told _ _ _ _ _ (c.finish.ensures.plan there) ne) (c.finish.ensures.keeps.keeps.growing there)
 
 pub returns-in-Ok-clause-causes : goal.returns-in-Ok-clause-causes
-returns-in-Ok-clause-causes g c = causes-told g.H.Host.told g.H.Host.faults _ _ _ c.carry_out-outcome.result _ _ c.finish.ensures.same c.finish.ensures.keeps c.carry_out-outcome.ensures.causes
+returns-in-Ok-clause-causes g c = causes-told g.H.Host.told g.H.Host.faults _ _ _ c.carry_out-outcome.result _ _ c.finish.ensures.same c.finish.ensures.keeps.keeps c.carry_out-outcome.ensures.causes
 
 pub returns-clause-product : goal.returns-clause-product
 returns-clause-product g c = record {
@@ -91,7 +91,7 @@ returns-clause-product g c = record {
       let start = contents (g.H.Host.told c.args.host.now) in
       let here = contents (g.H.Host.told c.carry_out-outcome.new.host) in
       let said = c.carry_out-outcome.ensures in
-      front-of here.output _ _ _ (c.tell.ensures.output (said.causes.keeps.errors t to_stderr) (subst IsTrue (sym said.causes.keeps.telling) t)) refl
+      front-of here.output _ _ _ (c.tell.ensures.keeps.output (said.causes.keeps.errors t to_stderr) (subst IsTrue (sym said.causes.keeps.telling) t)) refl
       (spoken-front c.carry_out-outcome.result here (carried_out window_machine (map string_bytes c.args.words.now) (order_of (map string_bytes c.args.words.now)) start) (λ ne. ap plainly ((said.plan t).ending ne) ∙ work-end (map string_bytes c.args.words.now) (order_of (map string_bytes c.args.words.now)) start)
       (λ e. subst (λ (a : Answer). IsFront here.output (output_of a)) (work-end (map string_bytes c.args.words.now) (order_of (map string_bytes c.args.words.now)) start)
       (work-front (work_plan (map string_bytes c.args.words.now) (order_of (map string_bytes c.args.words.now))) here start ((said.plan t).stopping e))));
@@ -101,4 +101,4 @@ pub returns-clause-headline : goal.returns-clause-headline
 returns-clause-headline g c = λ t ne. absurd (ne (c.tell.ensures.same ne))
 
 pub returns-clause-causes : goal.returns-clause-causes
-returns-clause-causes g c = causes-told g.H.Host.told g.H.Host.faults _ _ _ c.carry_out-outcome.result _ _ (λ ne. absurd (ne (c.tell.ensures.same ne))) c.tell.ensures.keeps c.carry_out-outcome.ensures.causes
+returns-clause-causes g c = causes-told g.H.Host.told g.H.Host.faults _ _ _ c.carry_out-outcome.result _ _ (λ ne. absurd (ne (c.tell.ensures.same ne))) c.tell.ensures.keeps.keeps c.carry_out-outcome.ensures.causes

@@ -6,3 +6,6 @@ returns-in-Ok-clause-plan g c = message-made _ _ _ _ _ _ c.as_slice.ensures c.in
 
 pub returns-in-Err-clause-plan : goal.returns-in-Err-clause-plan
 returns-in-Err-clause-plan g c = message-lacks _ _ c.in-Err.ensures.memory
+
+pub returns-in-Ok-clause-keeps : goal.returns-in-Ok-clause-keeps
+returns-in-Ok-clause-keeps g c = c.say.ensures.keeps
