@@ -49,7 +49,7 @@ pub fn run_kept<H: Host>(
     keep_steps(alloc, machine, host, n, back)
 }
 
-/// As `run_kept`.
+/// Makes at most so many steps, one after another, and keeps each.
 #[tactic(auto, using(mx_run::proofs::Later::running))]
 fn keep_steps<H: Host>(
     alloc: Global,
@@ -104,7 +104,7 @@ fn keep_step<H: Host>(
     }
 }
 
-/// The same of any step.
+/// A step of any kind in such a run, or a file trap, or its end.
 #[inline(never)]
 #[tactic(auto, using(mx_run::proofs::Areas::windows))]
 fn keep_any_step<H: Host>(

@@ -130,7 +130,7 @@ pub(crate) fn change_subject<H: Host>(
     }
 }
 
-/// The same with a subject that is not bad.
+/// Gives a subject that is not bad another value, and shows it.
 #[tactic(auto, using(crate::proofs::ReplyPlans::replying, crate::proofs::StepBounds::noting))]
 fn change_sound<H: Host>(
     alloc: Global,
@@ -175,7 +175,7 @@ pub(crate) fn show_more<H: Host>(
     }
 }
 
-/// The same where it is not bad.
+/// Shows so many octas after the one that was shown last, where there are as many.
 #[tactic(auto, using(crate::proofs::StepBounds::noting))]
 fn show_octas<H: Host>(
     alloc: Global,

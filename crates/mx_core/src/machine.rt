@@ -242,7 +242,7 @@ impl Machine {
         }
     }
 
-    /// The same in Stack_Segment.
+    /// The low bytes of `x` are stored in the part that holds an address of Stack_Segment.
     #[inline(never)]
     fn store_above(&mut self, a: u64, part: Part, x: u64) -> Result<(), Stop>
         requires least { 0x6000_0000_0000_0000 ≤ a }

@@ -95,7 +95,7 @@ impl Machine {
         noted
     }
 
-    /// The same. The page of its instruction is not kept.
+    /// One step and its note. The page of its instruction is not kept.
     fn step_with_note(&mut self, alloc: Global) -> Noted
         ensures answer { step_of result ≢ Step.OutOfMemory →
             (step_of result, state_of self.new) ≡ step_answer (state_of self.old) (step (state_of self.old)) }

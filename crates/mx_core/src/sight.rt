@@ -32,7 +32,7 @@ impl Machine {
         self.sight_by_operation(i)
     }
 
-    /// The same by its operation.
+    /// What an instruction does, told by its operation.
     #[tactic(auto, using(crate::proofs::Results::Sights::load_sight, crate::proofs::Results::Sights::store_sight, crate::proofs::Results::Sights::quiet_sight))]
     fn sight_by_operation(&self, i: &Instruction) -> Sight
         ensures value { is_swap (operation_in i.now) ≡ false →

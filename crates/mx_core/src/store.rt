@@ -83,7 +83,7 @@ impl Machine {
         }
     }
 
-    /// The same where the event is noted in rA.
+    /// A store that loses the sign, where that is noted in rA.
     #[tactic(auto, unfolding(crate::specs::Way::Calls::store_outcome))]
     fn store_noted(
         &mut self,
@@ -111,7 +111,7 @@ impl Machine {
         }
     }
 
-    /// The same where the event trips.
+    /// A store that loses the sign, where that trips.
     #[tactic(auto, unfolding(crate::specs::Way::Calls::store_outcome))]
     fn store_tripped(
         &mut self,

@@ -79,7 +79,7 @@ impl Machine {
         }
     }
 
-    /// The same in the stack area, once the destination is local.
+    /// CSWAP of an octa in the stack area: its destination becomes local first.
     fn swap_spilled(&mut self, i: &Instruction, a: u64) -> Result<(), Stop>
         requires address { a ≡ data_address (state_of self.old) i.now }
         requires inside { in_stack_area a ≡ true }
@@ -94,7 +94,7 @@ impl Machine {
         }
     }
 
-    /// The same where the destination is local.
+    /// CSWAP of an octa in the stack area, where its destination is local.
     fn swap_local(&mut self, i: &Instruction, a: u64) -> Result<(), Stop>
         requires inside { in_stack_area a ≡ true }
         requires below { a < 2 ^ 63 }

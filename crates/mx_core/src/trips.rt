@@ -107,7 +107,7 @@ impl Machine {
         }
     }
 
-    /// The same with an event, whose trip has two operands.
+    /// $X, rH and rR get what an answer tells, and its event is noted, or trips with two operands.
     #[inline(never)]
     fn raise(
         &mut self,
@@ -127,7 +127,7 @@ impl Machine {
         }
     }
 
-    /// The same with an event that is noted in rA.
+    /// $X, rH and rR get what an answer tells, its event is noted in rA, and the machine goes on.
     #[tactic(auto, using(crate::proofs::Results::Outcomes::specials_append), unfolding(crate::specs::Way::Calls::set_outcome))]
     fn give_noted(&mut self, i: &Instruction, a: &Answer, status: u64) -> Result<(), Stop>
         requires { status < 2 ^ 18 }
@@ -146,7 +146,7 @@ impl Machine {
         }
     }
 
-    /// The same with a trip.
+    /// $X, rH and rR get what an answer tells, and the machine trips.
     #[tactic(auto, using(crate::proofs::Results::Outcomes::specials_append), unfolding(crate::specs::Way::Calls::set_outcome))]
     fn give_tripped(
         &mut self,

@@ -24,7 +24,7 @@ impl Machine {
         lone_result(i.code(), self.y_operand(i), self.z_operand(i), self.extra())
     }
 
-    /// The same, once the code is known.
+    /// The frequent step of MUL to SRU and OR to MXOR, where the code is one of theirs.
     #[inline(always)]
     pub(crate) fn computed(&self, i: &Instruction) -> Usual
         ensures { IsUsual result (state_of self.now) i.now }
@@ -49,7 +49,7 @@ impl Machine {
         lone_result(i.code(), u64::from(i.y()), self.z_operand(i), self.extra())
     }
 
-    /// The same, once the code is known.
+    /// The frequent step of NEG and NEGU, where the code is one of theirs.
     #[inline(always)]
     pub(crate) fn negated(&self, i: &Instruction) -> Usual
         ensures { IsUsual result (state_of self.now) i.now }
@@ -77,7 +77,7 @@ impl Machine {
         }
     }
 
-    /// The same, once the code is known.
+    /// The frequent step of SETH to ANDNL, where the code is one of theirs.
     #[inline(always)]
     pub(crate) fn with_wyde(&self, i: &Instruction) -> Usual
         ensures { IsUsual result (state_of self.now) i.now }
@@ -106,7 +106,7 @@ impl Machine {
         }
     }
 
-    /// The same, once the code is known.
+    /// The frequent step of CSN to CSEV, where the code is one of theirs.
     #[inline(always)]
     pub(crate) fn chosen(&self, i: &Instruction) -> Usual
         ensures { IsUsual result (state_of self.now) i.now }
@@ -130,7 +130,7 @@ impl Machine {
         self.loaded_near(how, self.data_address(i))
     }
 
-    /// The same, once the code is known.
+    /// The frequent step of LDB to LDUNC, where the code is one of theirs.
     #[inline(always)]
     pub(crate) fn brought(&self, i: &Instruction) -> Usual
         ensures { IsUsual result (state_of self.now) i.now }
@@ -169,7 +169,7 @@ impl Machine {
         Some(self.special[usize::from(i.z())])
     }
 
-    /// The same, once the code is known.
+    /// The frequent step of GET, where the code is one of theirs.
     #[inline(always)]
     pub(crate) fn got(&self, i: &Instruction) -> Usual
         ensures { IsUsual result (state_of self.now) i.now }
@@ -198,7 +198,7 @@ impl Machine {
         }
     }
 
-    /// The same, once the code is known.
+    /// The frequent step of BN to PBEV, where the code is one of theirs.
     #[inline(always)]
     pub(crate) fn branched(&self, i: &Instruction) -> Usual
         ensures { IsUsual result (state_of self.now) i.now }
@@ -220,7 +220,7 @@ impl Machine {
         i.far_address()
     }
 
-    /// The same, once the code is known.
+    /// The frequent step of JMP, where the code is one of theirs.
     #[inline(always)]
     pub(crate) fn jumped(&self, i: &Instruction) -> Usual
         ensures { IsUsual result (state_of self.now) i.now }

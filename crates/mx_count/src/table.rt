@@ -24,7 +24,7 @@ pub(crate) struct Table {
     entries: Vec<Entry>,
     /// The place of the entry of an address.
     places: BTreeMap<u64, usize>,
-    /// The same for the addresses that came last: a loop does not look them up in the map again.
+    /// The places of the entries of addresses that came last: a loop does not look them up in the map again.
     remembered: [usize; 1024],
 }
 

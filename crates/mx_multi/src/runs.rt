@@ -130,7 +130,7 @@ fn next_place(multi: &Multi, schedule: &[u8], at: usize) -> Option<usize>
     }
 }
 
-/// The same from a place on alone.
+/// The place of the next turn that is not one of a processor that has halted, from a place of the schedule on.
 fn place_from(multi: &Multi, schedule: &[u8], at: usize) -> Option<usize>
     requires { AreNames (processor_count multi.now) schedule.now }
     ensures next { option_map (turn_from schedule.now) result ≡ spec.next_in multi.now.halted (drop at schedule.now) }

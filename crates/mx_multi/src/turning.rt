@@ -81,7 +81,7 @@ fn walk_on(machine: &mut Machine, memory: &mut Memory, most: u64) -> u64
     walk.made
 }
 
-/// The same of the machine at a place.
+/// Steps of the machine at a place on a memory that is not its own, up to so many: how many.
 fn walk_at(machines: &mut Vec<Machine>, memory: &mut Memory, at: usize, most: u64) -> u64
     requires inside { at < length machines.now.items }
     requires apart { AllAlone (map state_of machines.now.items) }

@@ -179,7 +179,7 @@ impl Visible {
         }
     }
 
-    /// The same where few locals stay: that many registers are moved at once.
+    /// The first `n` locals are gone, where few stay: that many registers are moved at once.
     #[inline(always)]
     pub(crate) fn keep_few(&mut self, n: usize, count: usize)
         requires count { count ≡ length self.old.locals - n }
@@ -191,7 +191,7 @@ impl Visible {
         self.local_count = count;
     }
 
-    /// The same where at most 8 registers were local, and `n` is at most G less 8; `count` locals stay. Nothing
+    /// The first `n` locals are gone, where at most 8 were local, `n` is at most G less 8, and `count` stay. Nothing
     /// behind them is to be cleared.
     #[inline(always)]
     pub fn keep_fewer(&mut self, n: usize, count: usize)
@@ -204,7 +204,7 @@ impl Visible {
         self.local_count = count;
     }
 
-    /// The same for any number of locals.
+    /// The first `n` locals are gone, however many stay.
     #[inline(never)]
     fn keep_all(&mut self, n: usize, count: usize)
         requires { count ≡ length self.old.locals - n }

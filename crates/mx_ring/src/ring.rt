@@ -398,7 +398,7 @@ impl Ring {
         self.read_frame(i)
     }
 
-    /// The same for the window alone.
+    /// Brings the registers of such a frame back, as the window alone has it.
     fn read_frame(&mut self, i: usize) -> Result<Saved, RingFault>
         requires { i < 2 ^ 20 }
         ensures bounds { IsRing self.old }
@@ -456,7 +456,7 @@ fn hide_below(hidden: &mut Hidden, visible: &Visible, count: usize)
     hide_all_below(hidden, visible, count);
 }
 
-/// The same where they are few.
+/// Hides the first `count` registers and that number, where they are few.
 #[inline(always)]
 fn hide_few_below(hidden: &mut Hidden, visible: &Visible, count: usize)
     requires bounds { AreInBounds visible.now }
@@ -467,7 +467,7 @@ fn hide_few_below(hidden: &mut Hidden, visible: &Visible, count: usize)
     hidden.append_counted(visible.below(FEW), count);
 }
 
-/// The same for any number of registers.
+/// Hides the first `count` registers and that number, however many they are.
 #[inline(never)]
 fn hide_all_below(hidden: &mut Hidden, visible: &Visible, count: usize)
     requires below { count ≤ visible.now.first_global }

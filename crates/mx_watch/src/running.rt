@@ -54,7 +54,7 @@ pub fn watched_run<H: Host>(
     run_watched(alloc, machine, host, n, watchers, kept)
 }
 
-/// As `watched_run`.
+/// Makes the steps of a run that watchers are told of; where there is none, they are made as at any time.
 fn run_watched<H: Host>(
     alloc: Global,
     machine: &mut Machine,

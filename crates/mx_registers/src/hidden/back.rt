@@ -67,7 +67,7 @@ impl Hidden {
         self.take_stack(spilled);
     }
 
-    /// The same where no more octas were spilled before.
+    /// So many octas are spilled, no more than before, and of the hidden octas in the ring so many stay.
     fn unspill(&mut self, spilled: usize, stays: usize)
         requires fewer { spilled ≤ self.old.spilled }
         requires stays { stays ≤ 2 ^ 20 }
