@@ -3,7 +3,7 @@
 ghost use Rattle.std.specs.Prelude.{◌≡◌, ◌≢◌, ◌≤◌, ◌<◌, ◌+◌, ◌*◌, Err, IfOk, IfErr, false, length, map, string_bytes};
 ghost use Rattle.mx_begin.specs.BeginPlans as plans;
 ghost use Rattle.mx_begin.specs.Begun as spec;
-ghost use Rattle.mx_begin.specs.Failing.{PartFailsOnlyBy};
+ghost use Rattle.mx_files.specs.Failing.{PartFailsOnlyBy};
 ghost use Rattle.mx_core.specs.Bounds.{as_list_state};
 ghost use Rattle.mx_core.specs.Kept.{state_of};
 ghost use Rattle.mx_host.specs.Keeping.{Answers};

@@ -3,7 +3,7 @@
 ghost use Rattle.std.specs.Prelude.{◌≡◌, ◌≢◌, Err, IfErr, false};
 ghost use Rattle.mx_begin.specs.BeginPlans as plans;
 ghost use Rattle.mx_begin.specs.Begun as spec;
-ghost use Rattle.mx_begin.specs.Failing.{PartFailsOnlyBy};
+ghost use Rattle.mx_files.specs.Failing.{PartFailsOnlyBy};
 ghost use Rattle.mx_host.specs.Keeping.{Answers};
 ghost use Rattle.mx_load.specs.Kept.{image_of};
 ghost use Rattle.mx_outcome.specs.Kinds.{is_usage};

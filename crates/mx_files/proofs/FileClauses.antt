@@ -75,6 +75,10 @@ whole-rose a b k m o r p e served w = λ has fault. only-failed a b k m r p serv
 pub whole-absent : (a b : Option HostModel) (k m : ℕ) (o : Outcome) (r : Result (Unit {0}) Outcome) (p : Part (Unit {0})) → o ≡ outcome_of r → WorksBetween a b k m r p → ComesByFault a NoFile o k m
 whole-absent a b k m o r p e w = λ silent none. w.absent silent (outcome-failed r NoFile (λ x. absurd (cc)) (sym e ∙ none))
 
+pub ended-unused : {A : Type 0} (r : Result A Outcome) → IfErr r (λ outcome. is_end outcome ≡ true) → IfErr r (λ outcome. is_usage outcome ≡ false)
+ended-unused (Ok x) h = tt
+ended-unused (Err outcome) h = end-words outcome h
+
 outcome-words : (r : Result (Unit {0}) Outcome) → IfErr r (λ outcome. is_end outcome ≡ true) → is_usage (outcome_of r) ≡ false
 outcome-words (Ok u) i = refl
 outcome-words (Err outcome) i = end-words outcome i

@@ -1,5 +1,6 @@
 pub use Rattle.mx_word.specs.Results
 pub mod Answers
+pub mod Failing
 pub mod Pieces
 pub mod Lines
 pub mod Source

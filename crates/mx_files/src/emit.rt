@@ -4,11 +4,11 @@ ghost use Rattle.std.specs.Prelude.{◌≡◌, ◌≢◌, Err, IfOk, OnOk, false
 ghost use Rattle.mx_asm.specs.Faults.{no_memory};
 ghost use Rattle.mx_asm.specs.Fitting.{AreFit, IsPadded};
 ghost use Rattle.mx_asm.specs.Whole.{assembled_lines, line_after};
-ghost use Rattle.mx_host.specs.Keeping.{Answers, ComesByFault, OnlyByFailure, Keeps, WritesFront};
+ghost use Rattle.mx_host.specs.Keeping.{Answers, WritesFront};
 ghost use Rattle.mx_line.specs.Lines.{lines_of};
 ghost use Rattle.mx_mmo.specs.Spelling.{written};
 ghost use Rattle.mx_plan.specs.Clauses.{CarriesOut};
-ghost use Rattle.mx_outcome.specs.Kinds.{is_usage};
+ghost use Rattle.mx_files.specs.Failing.{FailsOnlyBy};
 ghost use Rattle.mx_files.specs.Assembling as spec;
 ghost use Rattle.mx_files.specs.Clauses.{ComesByFailing, Works};
 ghost use Rattle.mx_files.specs.ObjectPlans as plans;
@@ -225,10 +225,7 @@ pub fn assemble_file<H: Host>(alloc: Global, host: &mut H, source: &[u8], object
         (λ m. spec.after_reading object.now (file_bytes 1025 source.now m)) }
     ensures written { WritesFront (H.told host.old) (H.told host.new) Outcome.OutOfMemory result
         (λ m. spec.after_reading object.now (file_bytes 1025 source.now m)) }
-    ensures rose { OnlyByFailure (H.told host.old) Outcome.HostFault result (H.faults host.old) (H.faults host.new) }
-    ensures no_file { ComesByFault (H.told host.old) Outcome.NoFile result (H.faults host.old) (H.faults host.new) }
-    ensures words { is_usage result ≡ false }
-    ensures keeps { Keeps (H.told host.old) (H.told host.new) (H.faults host.old) (H.faults host.new) }
+    ensures causes { FailsOnlyBy H.told H.faults host.old host.new result }
 {
     whole_outcome(assemble(alloc, host, source, object))
 }

@@ -2,8 +2,9 @@
 
 ghost use Rattle.std.specs.Prelude.{◌≡◌, ◌≢◌, Err, IfOk, IfErr, false};
 ghost use Rattle.std.specs.List.{position};
-ghost use Rattle.mx_host.specs.Keeping.{Answers, ComesByFault, OnlyByFailure, Keeps, KeepsOutput};
+ghost use Rattle.mx_host.specs.Keeping.{Answers, KeepsOutput};
 ghost use Rattle.mx_outcome.specs.Kinds.{is_usage};
+ghost use Rattle.mx_files.specs.Failing.{PartFailsOnlyBy};
 ghost use Rattle.mx_files.specs.Clauses.{Works};
 ghost use Rattle.mx_files.specs.Schedules as spec;
 
@@ -70,13 +71,8 @@ pub fn read_schedule<H: Host>(alloc: Global, host: &mut H, name: &[u8]) -> Resul
     ensures told { Answers (H.told host.old) (H.told host.new) (Err Outcome.OutOfMemory) result
         (λ m. spec.schedule_bytes name.now m) }
     ensures names { IfOk result spec.AreEight }
-    ensures words { IfErr result (λ e. is_usage e ≡ false) }
     ensures output { KeepsOutput (H.told host.old) (H.told host.new) }
-    ensures rose { OnlyByFailure (H.told host.old) (Err Outcome.HostFault) result (H.faults host.old) (H.faults
-        host.new) }
-    ensures no_file { ComesByFault (H.told host.old) (Err Outcome.NoFile) result (H.faults host.old) (H.faults
-        host.new) }
-    ensures keeps { Keeps (H.told host.old) (H.told host.new) (H.faults host.old) (H.faults host.new) }
+    ensures causes { PartFailsOnlyBy H.told H.faults host.old host.new result }
 {
     match read_file(alloc, host, name, SOURCE_PIECES) {
         Ok(bytes) => judged(bytes),

@@ -1,9 +1,9 @@
 //! The file that holds a source or an object, as it is read.
 
 ghost use Rattle.std.specs.Prelude.{◌≡◌, [], Err, IfErr, false, length};
-ghost use Rattle.mx_host.specs.Keeping.{Answers, ComesByFault, OnlyByFailure, Keeps, KeepsOutput};
+ghost use Rattle.mx_host.specs.Keeping.{Answers, KeepsOutput};
 ghost use Rattle.mx_word.specs.Results.{map_ok};
-ghost use Rattle.mx_outcome.specs.Kinds.{is_usage};
+ghost use Rattle.mx_files.specs.Failing.{PartFailsOnlyBy};
 ghost use Rattle.mx_files.specs.Clauses.{Works};
 ghost use Rattle.mx_files.specs.FilePlans as plans;
 ghost use Rattle.mx_files.specs.Source as spec;
@@ -110,13 +110,8 @@ pub fn read_file<H: Host>(
     ensures works { Works H.told H.faults host.old host.new result (plans.file_plan most name.now) }
     ensures told { Answers (H.told host.old) (H.told host.new) (Err Outcome.OutOfMemory) result
         (λ m. spec.file_bytes most name.now m) }
-    ensures words { IfErr result (λ e. is_usage e ≡ false) }
     ensures output { KeepsOutput (H.told host.old) (H.told host.new) }
-    ensures rose { OnlyByFailure (H.told host.old) (Err Outcome.HostFault) result (H.faults host.old) (H.faults
-        host.new) }
-    ensures no_file { ComesByFault (H.told host.old) (Err Outcome.NoFile) result (H.faults host.old) (H.faults
-        host.new) }
-    ensures keeps { Keeps (H.told host.old) (H.told host.new) (H.faults host.old) (H.faults host.new) }
+    ensures causes { PartFailsOnlyBy H.told H.faults host.old host.new result }
 {
     whole_file(alloc, host, name, most)
 }

@@ -2,15 +2,14 @@
 
 ghost use Rattle.std.specs.Prelude.{◌≡◌, ◌≢◌, ◌<◌, ◌≤◌, ◌^◌, Ok, Err, None, true, false, length, map, OnOk};
 ghost use Rattle.std.specs.Prelude.{IfErr, IfSome};
-ghost use Rattle.mx_host.specs.Keeping.{ComesByFault, OnlyByFailure, Keeps};
 ghost use Rattle.mx_mmo.specs.Whole.{left_of};
 ghost use Rattle.mx_plan.specs.Clauses.{CarriesOut};
 ghost use Rattle.mx_stab.specs.Faults as tries;
 ghost use Rattle.mx_type.specs.Lambda.{lambda_after};
 ghost use Rattle.mx_type.specs.Lines.{ended, stab_line, symbol_line};
 ghost use Rattle.mx_type.specs.Texts.{item_text};
+ghost use Rattle.mx_files.specs.Failing.{FailsOnlyBy};
 ghost use Rattle.mx_files.specs.Answers.{AnswersAs, AnswersAsList, WritesFrontOf};
-ghost use Rattle.mx_outcome.specs.Kinds.{is_usage};
 ghost use Rattle.mx_files.specs.Clauses.{ComesByFailing, Leaves, Works, is_end};
 ghost use Rattle.mx_files.specs.FilePlans as lines;
 ghost use Rattle.mx_files.specs.ObjectPlans as plans;
@@ -283,10 +282,7 @@ pub fn list_file<H: Host>(alloc: Global, host: &mut H, name: &[u8]) -> Outcome
         (λ m. spec.after_typing (file_bytes 16385 name.now m)) }
     ensures front { WritesFrontOf (H.told host.old) (H.told host.new) result
         (λ m. spec.after_typing (file_bytes 16385 name.now m)) }
-    ensures rose { OnlyByFailure (H.told host.old) Outcome.HostFault result (H.faults host.old) (H.faults host.new) }
-    ensures no_file { ComesByFault (H.told host.old) Outcome.NoFile result (H.faults host.old) (H.faults host.new) }
-    ensures words { is_usage result ≡ false }
-    ensures keeps { Keeps (H.told host.old) (H.told host.new) (H.faults host.old) (H.faults host.new) }
+    ensures causes { FailsOnlyBy H.told H.faults host.old host.new result }
 {
     whole_outcome(list_whole(alloc, host, name))
 }

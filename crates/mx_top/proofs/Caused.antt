@@ -18,7 +18,8 @@ use Rattle.mx_outcome.specs.declared.outcome.Outcome.TheVariants.{HostFault, NoF
 use Rattle.mx_files.proofs.FileClauses.{part-keeps}
 use Rattle.mx_files.proofs.Serving.{only-lines}
 use Rattle.mx_begin.specs.Arguments.{Word}
-use Rattle.mx_top.specs.Causes.{Causes, FailsOnlyBy, IsOfMachine}
+use Rattle.mx_files.specs.Failing.{FailsOnlyBy}
+use Rattle.mx_top.specs.Causes.{Causes, IsOfMachine}
 
 -- no call, and an outcome that tells no fault of the host
 pub fails-nowhere : {H : Type 0} (told : H → Option HostModel) (faults : H → ℕ) (h : H) (r : Outcome) → IsOfMachine r → FailsOnlyBy told faults h h r

@@ -10,16 +10,6 @@ use Rattle.mx_outcome.specs.declared.outcome.Outcome.{Outcome}
 use Rattle.mx_outcome.specs.declared.outcome.Outcome.TheVariants.{HostFault, NoFile, OutOfMemory, Usage}
 use Rattle.mx_begin.specs.Arguments.{Word}
 
--- A part of the work fails only so: where slots 258 and 259 lead to the tool's streams, the host is at fault only where a call
--- failed; over a host that tells nothing a file is missing only so, too; the words are not at fault; and what every function
--- keeps is kept.
-abbrev pub FailsOnlyBy : {H : Type 0} → (H → Option HostModel) → (H → ℕ) → H → H → Outcome → Type 0
-FailsOnlyBy told faults old new result =
-    OnlyByFailure (told old) HostFault result (faults old) (faults new)
-    × ComesByFault (told old) NoFile result (faults old) (faults new)
-    × (is_usage result ≡ false)
-    × Keeps (told old) (told new) (faults old) (faults new)
-
 -- an outcome that a machine comes to: neither a fault of the host, nor a file that is missing, nor a fault of the words
 abbrev pub IsOfMachine : Outcome → Type 0
 IsOfMachine outcome = (outcome ≢ HostFault) × (outcome ≢ NoFile) × (is_usage outcome ≡ false)

@@ -11,7 +11,7 @@ use Rattle.mx_run.specs.WildRuns.{list_machine}
 use Rattle.mx_files.specs.Answers.{AnswersAsList}
 use Rattle.mx_outcome.specs.declared.outcome.Outcome.{Outcome}
 use Rattle.mx_outcome.specs.declared.outcome.Outcome.TheVariants.{OutOfMemory}
-use Rattle.mx_top.specs.Causes.{FailsOnlyBy}
+use Rattle.mx_files.specs.Failing.{FailsOnlyBy}
 use Rattle.mx_top.specs.ProgramCalls.{program, ProgramPlan}
 use Rattle.mx_top.specs.WorkKinds.{answer_by}
 use Rattle.mx_top.specs.ProductPlan.{message_plan, reports_plan}

@@ -6,3 +6,9 @@ returns-in-Ok-clause-works g c = schedule-read _ _ _ _ _ _ _ c.judged.ensures.va
 
 pub returns-in-Err-clause-works : goal.returns-in-Err-clause-works
 returns-in-Err-clause-works g c = schedule-unread _ _ _ _ _ _ c.in-Err.ensures.works
+
+pub returns-in-Ok-clause-causes : goal.returns-in-Ok-clause-causes
+returns-in-Ok-clause-causes g c = (λ had e. absurd (c.judged.ensures.well e), λ n e. absurd (c.judged.ensures.present e), c.judged.ensures.words, c.in-Ok.ensures.causes.3)
+
+pub returns-in-Err-clause-causes : goal.returns-in-Err-clause-causes
+returns-in-Err-clause-causes g c = (λ had e. c.in-Err.ensures.causes.0 had (cc e), λ n e. c.in-Err.ensures.causes.1 n (cc e), c.in-Err.ensures.causes.2, c.in-Err.ensures.causes.3)

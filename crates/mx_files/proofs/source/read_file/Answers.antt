@@ -1,4 +1,4 @@
-use Rattle.mx_files.proofs.FileClauses.{file-told, file-output, part-keeps}
+use Rattle.mx_files.proofs.FileClauses.{ended-unused, file-told, file-output, part-keeps}
 use Rattle.mx_files.proofs.Serving.{only-failed, read-served-there}
 use Rattle.mx_files.proofs.source.read_file.Goals as goal
 
@@ -8,8 +8,10 @@ returns-clause-told g c = λ t. file-told _ _ _ _ _ (c.whole_file.ensures.told t
 pub returns-clause-output : goal.returns-clause-output
 returns-clause-output g c = λ t. file-output _ _ _ _ _ (c.whole_file.ensures.told t)
 
-pub returns-clause-keeps : goal.returns-clause-keeps
-returns-clause-keeps g c = part-keeps _ _ _ _ _ _ c.whole_file.ensures
-
-pub returns-clause-rose : goal.returns-clause-rose
-returns-clause-rose g c = only-failed _ _ _ _ _ _ (read-served-there _ _) c.whole_file.ensures
+pub returns-clause-causes : goal.returns-clause-causes
+returns-clause-causes g c = (
+  only-failed _ _ _ _ _ _ (read-served-there _ _) c.whole_file.ensures,
+  c.whole_file.ensures.absent,
+  ended-unused _ c.whole_file.ensures.ends,
+  part-keeps _ _ _ _ _ _ c.whole_file.ensures,
+)

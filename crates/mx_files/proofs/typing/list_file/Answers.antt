@@ -17,14 +17,10 @@ returns-clause-listed g c = λ t. listed-goes _ _ _ _ (whole-told _ _ _ _ _ c.wh
 pub returns-clause-front : goal.returns-clause-front
 returns-clause-front g c = λ t. listed-front _ _ _ _ (whole-told _ _ _ _ _ c.whole_outcome.ensures c.list_whole.ensures.told t)
 
-pub returns-clause-rose : goal.returns-clause-rose
-returns-clause-rose g c = whole-rose _ _ _ _ _ _ _ c.whole_outcome.ensures (list-served _) c.list_whole.ensures
-
-pub returns-clause-no_file : goal.returns-clause-no_file
-returns-clause-no_file g c = whole-absent _ _ _ _ _ _ _ c.whole_outcome.ensures c.list_whole.ensures
-
-pub returns-clause-words : goal.returns-clause-words
-returns-clause-words g c = whole-words _ _ _ _ _ _ _ c.whole_outcome.ensures c.list_whole.ensures
-
-pub returns-clause-keeps : goal.returns-clause-keeps
-returns-clause-keeps g c = whole-keeps _ _ _ _ _ _ (whole-told _ _ _ _ _ c.whole_outcome.ensures c.list_whole.ensures.told) c.list_whole.ensures.stands
+pub returns-clause-causes : goal.returns-clause-causes
+returns-clause-causes g c = (
+  whole-rose _ _ _ _ _ _ _ c.whole_outcome.ensures (list-served _) c.list_whole.ensures,
+  whole-absent _ _ _ _ _ _ _ c.whole_outcome.ensures c.list_whole.ensures,
+  whole-words _ _ _ _ _ _ _ c.whole_outcome.ensures c.list_whole.ensures,
+  whole-keeps _ _ _ _ _ _ (whole-told _ _ _ _ _ c.whole_outcome.ensures c.list_whole.ensures.told) c.list_whole.ensures.stands,
+)

@@ -5,12 +5,12 @@ use Rattle.mx_top.proofs.schedules.multi_file.Goals as goal
 
 pub returns-in-Ok : goal.returns-in-Ok
 returns-in-Ok g c = record {
-  both = schedule-turns _ _ _ _ _ _ _ _ _ c.in-Ok.ensures.keeps.telling c.as_slice.ensures c.in-Ok.ensures.works.told c.object_file.ensures.both;
-  causes = fails-behind g.H.Host.told g.H.Host.faults _ _ _ _ c.in-Ok.ensures.keeps c.object_file.ensures.causes;
+  both = schedule-turns _ _ _ _ _ _ _ _ _ c.in-Ok.ensures.causes.3.telling c.as_slice.ensures c.in-Ok.ensures.works.told c.object_file.ensures.both;
+  causes = fails-behind g.H.Host.told g.H.Host.faults _ _ _ _ c.in-Ok.ensures.causes.3 c.object_file.ensures.causes;
 }
 
 pub returns-in-Err : goal.returns-in-Err
 returns-in-Err g c = record {
   both = schedule-unread _ _ _ _ _ _ c.in-Err.ensures.works.told;
-  causes = (λ had e. c.in-Err.ensures.rose had (ap Err e), λ n e. c.in-Err.ensures.no_file n (ap Err e), c.in-Err.ensures.words, c.in-Err.ensures.keeps);
+  causes = (λ had e. c.in-Err.ensures.causes.0 had (ap Err e), λ n e. c.in-Err.ensures.causes.1 n (ap Err e), c.in-Err.ensures.causes.2, c.in-Err.ensures.causes.3);
 }

@@ -21,10 +21,10 @@ pub returns-in-Multi-clause-listed : goal.returns-in-Multi-clause-listed
 returns-in-Multi-clause-listed g c = multi-listed _ _ _ _ _ _ _ c.in-Multi.is c.word-in-Multi.ensures c.word-in-Multi-2.ensures c.multi_file.ensures.both
 
 pub returns-in-Asm-clause-causes : goal.returns-in-Asm-clause-causes
-returns-in-Asm-clause-causes g c = (c.assemble_file.ensures.rose, c.assemble_file.ensures.no_file, c.assemble_file.ensures.words, c.assemble_file.ensures.keeps)
+returns-in-Asm-clause-causes g c = c.assemble_file.ensures.causes
 
 pub returns-in-Show-clause-causes : goal.returns-in-Show-clause-causes
-returns-in-Show-clause-causes g c = (c.list_file.ensures.rose, c.list_file.ensures.no_file, c.list_file.ensures.words, c.list_file.ensures.keeps)
+returns-in-Show-clause-causes g c = c.list_file.ensures.causes
 
 pub returns-in-Run-clause-plan : goal.returns-in-Run-clause-plan
 returns-in-Run-clause-plan g c = run-ordered _ _ _ _ _ c.in-Run.is c.run_ordered.ensures.plan

@@ -1,4 +1,4 @@
--- How a part of the work fails, over every host. `told` is what a host tells, `faults` its count of faults, `old` and `new` are the
+-- How the work on files fails, over every host. `told` is what a host tells, `faults` its count of faults, `old` and `new` are the
 -- host before and after.
 use Rattle.std.specs.Prelude.{ℕ, ◌≡◌, false, Option, Result, Err, IfErr}
 use Rattle.mx_host.specs.HostModel.{HostModel}
@@ -9,6 +9,14 @@ use Rattle.mx_outcome.specs.declared.outcome.Outcome.TheVariants.{HostFault, NoF
 
 -- Where slots 258 and 259 lead to the tool's streams, the host is at fault only where a call failed; over a host that tells nothing
 -- a file is missing only so, too; the words are not at fault; and what every function keeps is kept.
+abbrev pub FailsOnlyBy : {H : Type 0} → (H → Option HostModel) → (H → ℕ) → H → H → Outcome → Type 0
+FailsOnlyBy told faults old new result =
+    OnlyByFailure (told old) HostFault result (faults old) (faults new)
+    × ComesByFault (told old) NoFile result (faults old) (faults new)
+    × (is_usage result ≡ false)
+    × Keeps (told old) (told new) (faults old) (faults new)
+
+-- so it is of a part, which gives something or ends with an outcome
 abbrev pub PartFailsOnlyBy : {H A : Type 0} → (H → Option HostModel) → (H → ℕ) → H → H → Result A Outcome → Type 0
 PartFailsOnlyBy told faults old new result =
     OnlyByFailure (told old) (Err HostFault) result (faults old) (faults new)
